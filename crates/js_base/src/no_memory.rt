@@ -1,0 +1,26 @@
+//! Want of memory.
+
+use std::alloc::{AllocError, AllocFailed};
+use std::fmt;
+
+/// Memory was refused.
+#[derive(Debug, Drop)]
+pub struct NoMemory;
+
+impl fmt::Display for NoMemory {
+    fn fmt<W: fmt::Write>(&self, f: &mut fmt::Formatter<W>) -> fmt::Result {
+        write!(f, "memory was refused")
+    }
+}
+
+impl From<AllocError> for NoMemory {
+    fn from(_e: AllocError) -> NoMemory {
+        NoMemory
+    }
+}
+
+impl<T: Drop> From<AllocFailed<T>> for NoMemory {
+    fn from(_e: AllocFailed<T>) -> NoMemory {
+        NoMemory
+    }
+}

@@ -1,0 +1,50 @@
+//! How a text is to be read.
+
+ghost use Rattle.std.specs.Prelude.{◌≡◌, IsTrue, ◌↔◌};
+ghost use Rattle.js_base.specs.Sources.{is_goal};
+ghost use Rattle.js_base.specs.declared.source_type.Goal.TheVariants.{Script, Module, CommonJs, Unambiguous};
+
+#[derive(Debug, Clone, Copy, PartialEq, Eq)]
+enum Goal {
+    Script,
+    Module,
+    CommonJs,
+    Unambiguous,
+}
+
+/// The goal symbol by which a text is read (ECMA-262, chapter 16); a CommonJS text is the body of a function,
+/// and an unambiguous one is a script or a module, as it turns out.
+#[derive(Debug, Clone, Copy, PartialEq, Eq)]
+pub struct SourceType {
+    goal: Goal,
+}
+
+impl SourceType {
+    /// A script.
+    pub fn script() -> SourceType
+        ensures { is_goal result ≡ Script }
+    {
+        SourceType { goal: Goal::Script }
+    }
+
+    /// A module.
+    pub fn module() -> SourceType
+        ensures { is_goal result ≡ Module }
+    {
+        SourceType { goal: Goal::Module }
+    }
+
+    /// The body of a CommonJS function.
+    pub fn commonjs() -> SourceType
+        ensures { is_goal result ≡ CommonJs }
+    {
+        SourceType { goal: Goal::CommonJs }
+    }
+
+    /// A script, or where that can't be a module.
+    pub fn unambiguous() -> SourceType
+        ensures { is_goal result ≡ Unambiguous }
+    {
+        SourceType { goal: Goal::Unambiguous }
+    }
+}

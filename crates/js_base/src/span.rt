@@ -1,0 +1,52 @@
+//! Spans of a text.
+
+ghost use Rattle.std.specs.Prelude.{◌≡◌, ◌+◌, ◌^◌, ◌<◌, ◌≤◌, min, max};
+
+/// Byte places in a text: from `start` up to but not including `end`, with `start` at most `end`.
+#[derive(Debug, Clone, Copy, PartialEq, Eq)]
+pub struct Span {
+    pub start: u32,
+    pub end: u32,
+}
+
+impl Span {
+    /// The span from one byte place to another.
+    pub fn new(start: u32, end: u32) -> Span
+        requires { start ≤ end }
+        ensures start { result.start ≡ start }
+        ensures end { result.end ≡ end }
+    {
+        Span { start, end }
+    }
+
+    /// The span of `size` bytes from a place on.
+    pub fn sized(start: u32, size: u32) -> Span
+        requires { start + size < 2 ^ 32 }
+        ensures start { result.start ≡ start }
+        ensures end { result.end ≡ start + size }
+    {
+        Span {
+            start,
+            end: start + size,
+        }
+    }
+
+    /// The span of no byte at a place.
+    pub fn empty(at: u32) -> Span
+        ensures start { result.start ≡ at }
+        ensures end { result.end ≡ at }
+    {
+        Span { start: at, end: at }
+    }
+
+    /// The least span that holds both.
+    pub fn merge(self, other: Span) -> Span
+        ensures start { result.start ≡ min self.start other.start }
+        ensures end { result.end ≡ max self.end other.end }
+    {
+        Span {
+            start: self.start.min(other.start),
+            end: self.end.max(other.end),
+        }
+    }
+}

@@ -1,0 +1,84 @@
+//! Placed lexemes.
+
+ghost use Rattle.std.specs.Prelude.{◌≡◌, ◌≤◌};
+
+use crate::kind::Kind;
+use crate::span::Span;
+
+/// A placed lexeme.
+#[derive(Debug, Clone, Copy, PartialEq, Eq)]
+pub struct Token {
+    kind: Kind,
+    span: Span,
+    is_on_new_line: bool,
+    escaped: bool,
+    has_separator: bool,
+}
+
+impl Token {
+    /// The token of these fields.
+    pub fn new(kind: Kind, span: Span, is_on_new_line: bool, escaped: bool, has_separator: bool) -> Token
+        ensures kind { result.kind ≡ kind }
+        ensures span { result.span ≡ span }
+        ensures is_on_new_line { result.is_on_new_line ≡ is_on_new_line }
+        ensures escaped { result.escaped ≡ escaped }
+        ensures has_separator { result.has_separator ≡ has_separator }
+    {
+        Token {
+            kind,
+            span,
+            is_on_new_line,
+            escaped,
+            has_separator,
+        }
+    }
+
+    /// What it is.
+    pub fn kind(&self) -> Kind
+        ensures { result ≡ self.now.kind }
+    {
+        self.kind
+    }
+
+    /// The byte place at which it begins.
+    pub fn start(&self) -> u32
+        ensures { result ≡ self.now.span.start }
+    {
+        self.span.start
+    }
+
+    /// The byte place behind it.
+    pub fn end(&self) -> u32
+        ensures { result ≡ self.now.span.end }
+    {
+        self.span.end
+    }
+
+    /// Where it stands.
+    pub fn span(&self) -> Span
+        ensures { result ≡ self.now.span }
+    {
+        self.span
+    }
+
+    /// Whether a line terminator stands between it and the lexeme before.
+    pub fn is_on_new_line(&self) -> bool
+        ensures { result ≡ self.now.is_on_new_line }
+    {
+        self.is_on_new_line
+    }
+
+    /// Whether it is a word with an escape.
+    pub fn escaped(&self) -> bool
+        ensures { result ≡ self.now.escaped }
+    {
+        self.escaped
+    }
+
+    /// Whether it is a number with a separator.
+    pub fn has_separator(&self) -> bool
+        ensures { result ≡ self.now.has_separator }
+    {
+        self.has_separator
+    }
+}

@@ -1,0 +1,5 @@
+pub mod Trees
+pub mod Grammar
+pub mod Lines
+pub mod Settings
+pub mod Readings

@@ -1,0 +1,34 @@
+-- What it is that a tree is a reading of a text, and what the program answers for a text.
+use Rattle.std.specs.Prelude.{ℕ, ◌≡◌, ◌≤◌, Bool, true, false, List, [], length, All}
+use Rattle.js_base.specs.declared.diagnostic.Diagnostic.{Diagnostic}
+use Rattle.js_grammar.specs.Trees.{Tree}
+use Rattle.js_grammar.specs.Lines.{tree_text, diagnostic_text}
+
+-- The tree is a reading of the text.
+pub record IsReading (text : List ℕ) (t : Tree) : Type 0 where
+  pub placeholder : Unit {0}
+
+-- a diagnostic's span lies in a text of so many bytes
+pub record IsInside (len : ℕ) (d : Diagnostic) : Type 0 where
+  pub ordered : d.span.start ≤ d.span.end
+  pub within : d.span.end ≤ len
+
+-- The text has a reading, and no other; its tree's lines are the output.
+pub record Accepts (text out : List ℕ) : Type 0 where
+  pub tree : Tree
+  pub reading : IsReading text tree
+  pub only : (t : Tree) → IsReading text t → t ≡ tree
+  pub lines : out ≡ tree_text tree
+
+-- The text has no reading; the output is the lines of diagnostics, one at least, each inside the text.
+pub record Refuses (text out : List ℕ) : Type 0 where
+  pub found : List Diagnostic
+  pub some : found ≡ [] → ⊥
+  pub inside : All (IsInside (length text)) found
+  pub lines : out ≡ diagnostic_text found
+  pub none : (t : Tree) → IsReading text t → ⊥
+
+-- what is put out for a text: true, where it is refused
+abbrev pub Gives : List ℕ → Bool → List ℕ → Type 0
+Gives text false out = Accepts text out
+Gives text true out = Refuses text out

@@ -1,0 +1,6 @@
+//! The program `jsparse`: a JavaScript parser whose answers are proved.
+#![tactic(auto)]
+
+mod tree;
+
+fn main() {}
