@@ -1,3 +1,5 @@
 pub mod Looks
 pub mod First
 pub mod Calculus
+pub mod Towers
+pub mod Loops
