@@ -3,3 +3,5 @@ pub mod First
 pub mod Calculus
 pub mod Towers
 pub mod Loops
+pub mod Operators
+pub mod Lexemes

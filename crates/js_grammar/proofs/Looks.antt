@@ -1,8 +1,8 @@
 -- Tests of lexemes, and which of them covers which.
-use Rattle.std.proofs.Common.{List, [], ◌∷◌, ◌≡◌, Bool, true, false, not, ◌&&◌, ◌||◌, refl}
-use Rattle.std.proofs.lemmas.Bool.{and_parts, or_left, or_right, false≢true}
+use Rattle.std.proofs.Common.{List, [], ◌∷◌, ◌≡◌, Bool, true, false, not, ◌&&◌, ◌||◌, refl, sym, ◌∙◌, subst, nat_eq}
+use Rattle.std.proofs.lemmas.Bool.{and_parts, or_left, or_right, false≢true, eq-eqb}
 use Rattle.js_base.specs.declared.kind.Kind.{Kind}
-use Rattle.js_base.specs.Kinds.{kinds, same_kind, one_of_kinds}
+use Rattle.js_base.specs.Kinds.{code, kinds, same_kind, one_of_kinds}
 use Rattle.js_base.proofs.KindLemmas.{all_of, at_each, kind_of_same}
 use Rattle.js_grammar.specs.Grammar.{Look}
 
@@ -61,3 +61,10 @@ some_at g true true h = or_left _ _ h
 some_at g true false h = or_right (g true true) _ (or_left _ _ h)
 some_at g false true h = or_right (g true true) _ (or_right (g true false) _ (or_left _ _ h))
 some_at g false false h = or_right (g true true) _ (or_right (g true false) _ (or_right (g false true) _ h))
+
+pub same_self : (k : Kind) → same_kind k k ≡ true
+same_self k = eq-eqb (code k) (code k) refl
+
+-- kinds are told apart by their codes
+pub differ : (a b : Kind) → same_kind a b ≡ false → a ≡ b → ⊥
+differ a b f e = false≢true (sym f ∙ subst (λ v. same_kind a v ≡ true) e (same_self a))

@@ -79,12 +79,15 @@ pub record IsPunctuator (k : Kind) (text : List ℕ) (i j : ℕ) : Type 0 where
   pub longest : is_longest k (drop i text) ≡ true
   pub ends : j ≡ i + length (text_of k)
 
+abbrev pub lexeme_of : Kind → ℕ → ℕ → Bool → List ℕ → Lexeme
+lexeme_of k i j w us = record { kind = k; from = i; to = j; newline = w; escaped = false; units = us }
+
 -- The lexeme behind the place s.
 pub data Lex (text : List ℕ) (s : ℕ) : Lexeme → Type 0 where
-  a_name : {i j : ℕ} {w : Bool} → Gap text s i w → IsName text i j → Lex text s (record { kind = Ident; from = i; to = j; newline = w; escaped = false; units = slice_range text i j })
-  a_number : {i j : ℕ} {w : Bool} → Gap text s i w → IsNumber text i j → Lex text s (record { kind = Decimal; from = i; to = j; newline = w; escaped = false; units = [] })
-  a_punctuator : {k : Kind} {i j : ℕ} {w : Bool} → Gap text s i w → IsPunctuator k text i j → Lex text s (record { kind = k; from = i; to = j; newline = w; escaped = false; units = [] })
-  the_end : {i : ℕ} {w : Bool} → Gap text s i w → i ≡ length text → Lex text s (record { kind = Eof; from = i; to = i; newline = w; escaped = false; units = [] })
+  a_name : {i j : ℕ} {w : Bool} → Gap text s i w → IsName text i j → Lex text s (lexeme_of Ident i j w (slice_range text i j))
+  a_number : {i j : ℕ} {w : Bool} → Gap text s i w → IsNumber text i j → Lex text s (lexeme_of Decimal i j w [])
+  a_punctuator : {k : Kind} {i j : ℕ} {w : Bool} → Gap text s i w → IsPunctuator k text i j → Lex text s (lexeme_of k i j w [])
+  the_end : {i : ℕ} {w : Bool} → Gap text s i w → i ≡ length text → Lex text s (lexeme_of Eof i i w [])
 
 -- Lexemes one behind the other, from a place on. The last may be any, so that a fault further on changes nothing.
 abbrev pub Lexes : (ℕ → Lexeme → Type 0) → ℕ → Lexemes → Type 0
