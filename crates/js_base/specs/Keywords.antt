@@ -1,19 +1,18 @@
--- The kind of a word (ECMA-262, 12.7.2).
-use Rattle.std.specs.Prelude.{ℕ, Bool, true, false, List, [], ◌∷◌, nat_eq, ◌&&◌, cond}
-use Rattle.js_base.specs.declared.kind.Kind.{Kind}
-use Rattle.js_base.specs.declared.kind.Kind.TheVariants.{Ident}
+-- The kind of a word: reserved words and the words that may be names too (ECMA-262, 12.7.2).
+use Rattle.std.specs.Prelude.{ℕ, Bool, List, [], ◌∷◌, ◌==◌, if◌then◌else◌, slice_index}
+use Rattle.std.specs.Str.{bytes_eq}
+use Rattle.js_base.specs.Kinds.{Kind, Ident}
 use Rattle.js_base.specs.Texts.{text_of, words}
 
-abbrev pub same_text : List ℕ → List ℕ → Bool
-same_text [] [] = true
-same_text [] (y ∷ ys) = false
-same_text (x ∷ xs) [] = false
-same_text (x ∷ xs) (y ∷ ys) = nat_eq x y && same_text xs ys
+-- the first kind of a list whose text is the word, else `Ident`
+abbrev pub first_with_text : List Kind → List ℕ → Kind
+first_with_text [] word = Ident
+first_with_text (k ∷ ks) word = if bytes_eq (text_of k) word then k else first_with_text ks word
 
-abbrev pub word_among : List Kind → List ℕ → Kind
-word_among [] w = Ident
-word_among (k ∷ ks) w = cond (same_text (text_of k) w) k (word_among ks w)
-
+-- the kind of a word: the one of the keyword table with this text, else `Ident`
 unfoldable pub keyword_of : List ℕ → Kind
-unfolding words
-keyword_of w = word_among words w
+keyword_of word = first_with_text words word
+
+-- whether the text of a kind begins with a byte
+abbrev pub begins_with : ℕ → Kind → Bool
+begins_with first k = slice_index (text_of k) 0 == first
