@@ -1,11 +1,12 @@
 -- What one more node changes, and how held numbers are widened and put together.
-use Rattle.std.proofs.Common.{◌≡◌, ℕ, ◌<◌, ◌≤◌, List, [], ◌∷◌, ◌++◌, length, Option, Some, None, sym, ◌∙◌, arith, length-append}
+use Rattle.std.proofs.Common.{refl, ◌≡◌, ℕ, ◌<◌, ◌≤◌, List, [], ◌∷◌, ◌++◌, length, Option, Some, None, sym, ◌∙◌, arith, length-append, slice_get, set, length-set, get_or-set_other, ◌≢◌}
 use Rattle.std.proofs.Math.ListN.{get_or-append}
 use Rattle.std.proofs.Math.Seq.{get_or-append_seam}
 use Rattle.jsparse.specs.declared.tree.Node.{Node}
 use Rattle.jsparse.specs.declared.tree.NodeId.{NodeId}
+use Rattle.jsparse.specs.declared.tree.NodeKind.TheVariants.{Program}
 use Rattle.js_grammar.specs.Trees.{Label, Slots, end, hole, tree, append}
-use Rattle.jsparse.specs.Holding.{label_of, Holds, HoldsAll, holds, no_ids, next_id, next_hole, Keeps, Made}
+use Rattle.jsparse.specs.Holding.{label_of, Holds, HoldsAll, holds, no_ids, next_id, next_hole, Keeps, Made, IsProgram}
 
 -- a push keeps what is held
 mutual
@@ -80,3 +81,25 @@ HoldsAll-snoc id a h = HoldsAll-append a (HoldsAll-one id h)
 -- one empty slot more
 pub HoldsAll-hole : {ns : List Node} {lo hi : ℕ} {ids : List (Option NodeId)} {us : Slots} → HoldsAll ns lo hi ids us → HoldsAll ns lo hi (ids ++ None ∷ []) (append us (hole end))
 HoldsAll-hole a = HoldsAll-append a (next_hole (no_ids (omega arith)))
+
+-- A write at number 0 keeps what is held from 1 on.
+mutual
+  pub holds_write : {ns : List Node} {lo hi id : ℕ} {l : Label} {cs : Slots} (m : Node) → 1 ≤ lo → Holds ns lo hi id l cs → Holds (set ns 0 m) lo hi id l cs
+  holds_write {ns} {lo} {hi} {id} m p (holds n w x q a) = holds n w (let e = length-set ns 0 m in omega arith) (let b = HoldsAll-order a in let other : id ≢ 0 = omega arith in q ∙ sym (get_or-set_other ns 0 id m n other)) (all_write m p a)
+
+  pub all_write : {ns : List Node} {lo hi : ℕ} {ids : List (Option NodeId)} {us : Slots} (m : Node) → 1 ≤ lo → HoldsAll ns lo hi ids us → HoldsAll (set ns 0 m) lo hi ids us
+  all_write m p (no_ids w) = no_ids w
+  all_write m p (next_id {mid = mid} h a) = let q = Holds-order h in next_id (holds_write m p h) (all_write m (omega arith) a)
+  all_write m p (next_hole a) = next_hole (all_write m p a)
+
+get_first : (ns : List Node) (m : Node) → 0 < length ns → slice_get (set ns 0 m) 0 ≡ Some m
+get_first [] m p = absurd (omega arith)
+get_first (n ∷ ns) m p = refl
+
+-- the program's node, written over the first
+pub program_written : (ns : List Node) (m : Node) (cs : Slots) → m.kind ≡ Program → m.op ≡ None → HoldsAll ns 1 (length ns) m.children.items cs → IsProgram (set ns 0 m) (label_of Program None m.span) cs
+program_written ns m cs k o h = record { program = m; first = get_first ns m (let p = HoldsAll-order h in omega arith); kind = k; op = o; label = refl; children = rw (length-set ns 0 m) (all_write m (omega arith) h) }
+
+-- with no node nothing is held from 1 on
+pub none_held : {ns : List Node} {ids : List (Option NodeId)} {cs : Slots} → length ns ≡ 0 → HoldsAll ns 1 (length ns) ids cs → ⊥
+none_held e h = let p = HoldsAll-order h in omega arith
