@@ -1,14 +1,14 @@
 -- The walk over the nodes: it ends, and what it has written and what is still to be written make up the lines of the tree.
-use Rattle.std.proofs.Common.{◌≡◌, ℕ, zero, suc, ◌+◌, ◌<◌, ◌≤◌, Bool, true, false, cond, List, [], ◌∷◌, ◌++◌, length, Option, Some, None, get_or, drop, take, slice_get, nat_lt, refl, ap, sym, ◌∙◌, subst, arith, append_assoc, append-nil, add-zero, add-suc, ◌-◌, ltb-true, lt-ltb, length-append, add-one, codes}
+use Rattle.std.proofs.Common.{◌≡◌, ℕ, zero, suc, ◌+◌, ◌<◌, ◌≤◌, Bool, true, false, cond, List, [], ◌∷◌, ◌++◌, length, Option, Some, None, take, slice_get, nat_lt, refl, ap, sym, ◌∙◌, subst, arith, append_assoc, append-nil, add-zero, add-suc, ◌-◌, ltb-true, lt-ltb, add-one}
 use Rattle.std.proofs.lemmas.Option.{slice_get-get_or}
-use Rattle.js_grammar.specs.Trees.{Label, Slots, end, hole, tree}
-use Rattle.js_grammar.specs.Lines.{label_text, indent, slots_text, tree_text, diagnostic_line, diagnostic_text}
+use Rattle.js_grammar.specs.Trees.{Label, Slots, end, tree}
+use Rattle.js_grammar.specs.Lines.{label_text, indent, slots_text, diagnostic_line, diagnostic_text}
 use Rattle.js_base.specs.declared.diagnostic.Diagnostic.{Diagnostic}
 use Rattle.jsparse.specs.declared.lines.PendingSlot.{PendingSlot}
 use Rattle.jsparse.specs.declared.tree.Node.{Node}
 use Rattle.jsparse.specs.declared.tree.NodeId.{NodeId}
 use Rattle.jsparse.specs.Holding.{label_of, Holds, HoldsAll, holds, no_ids, next_id, next_hole, IsProgram}
-use Rattle.jsparse.specs.Walking.{hole_line, node_line, is_slot_below, pending, found_line, found_within, slot_line, slot_within, line_at, within}
+use Rattle.jsparse.specs.Walking.{hole_line, node_line, pending, found_within, slot_line, slot_within, line_at, within}
 use Rattle.jsparse.proofs.Nodes.{Holds-below, HoldsAll-order}
 
 -- how many slots stand under a number, where each number's children lie below it: `k` bounds the recursion
@@ -164,7 +164,13 @@ Walked-start {ns} l cs n h e =
     let own : l ≡ label_of h.program.kind h.program.op h.program.span = rw (h.kind, h.op) h.label in
     subst (λ (k : Node). Walked ns (pending 1 (length ns) k.children.items) (node_line 0 k) (slots_text 0 (tree l cs end))) m (started ns l cs h.program own h.children)
 
--- the lines of diagnostics in two parts
-pub diagnostic_text-append : (ds es : List Diagnostic) → diagnostic_text (ds ++ es) ≡ diagnostic_text ds ++ diagnostic_text es
-diagnostic_text-append [] es = refl
-diagnostic_text-append (d ∷ ds) es = ap (λ w. diagnostic_line d ++ w) (diagnostic_text-append ds es) ∙ sym (append_assoc (diagnostic_line d) (diagnostic_text ds) (diagnostic_text es))
+-- the lines of one diagnostic more
+pub diagnostics_more : (ds : List Diagnostic) (i : ℕ) (d : Diagnostic) → slice_get ds i ≡ Some d → diagnostic_text (take (suc i) ds) ≡ diagnostic_text (take i ds) ++ diagnostic_line d
+diagnostics_more [] i d e = cc
+diagnostics_more (x ∷ ds) zero d e = let m : x ≡ d = cc in append-nil (diagnostic_line x) ∙ ap diagnostic_line m
+diagnostics_more (x ∷ ds) (suc i) d e = ap (λ w. diagnostic_line x ++ w) (diagnostics_more ds i d e) ∙ sym (append_assoc (diagnostic_line x) (diagnostic_text (take i ds)) (diagnostic_line d))
+
+pub diagnostics_within : (ds : List Diagnostic) (i : ℕ) → i < length ds → slice_get ds i ≡ None → ⊥
+diagnostics_within [] i h e = omega arith
+diagnostics_within (x ∷ ds) zero h e = cc
+diagnostics_within (x ∷ ds) (suc i) h e = diagnostics_within ds i (omega arith) e

@@ -1,4 +1,4 @@
-use Rattle.std.proofs.Common.{◌≡◌, length, set, arith, refl, None}
+use Rattle.std.proofs.Common.{◌≡◌, length, arith, refl, None}
 use Rattle.jsparse.specs.declared.tree.NodeKind.TheVariants.{Program}
 use Rattle.jsparse.proofs.Nodes.{program_written, none_held}
 use Rattle.jsparse.proofs.tree.ParserAstBuilder.finish.Goals as goal

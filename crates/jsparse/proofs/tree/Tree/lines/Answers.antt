@@ -1,4 +1,4 @@
-use Rattle.std.proofs.Common.{◌≡◌, length, sym, arith}
+use Rattle.std.proofs.Common.{sym, arith}
 use Rattle.jsparse.proofs.Walks.{within_lighter, Walked-start, Walked-step, Walked-end}
 use Rattle.jsparse.proofs.tree.Tree.lines.Goals as goal
 
