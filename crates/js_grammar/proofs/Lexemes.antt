@@ -184,11 +184,17 @@ not_le n m h = is_false (nat_le n m) (λ e. let f = leb-true n m e in omega arit
 inside : (text : List ℕ) (i : ℕ) (k : Kind) → i < length text → cond (is_name_start (slice_index text i)) Ident (cond (is_digit (slice_index text i)) Decimal (punctuator_at text i)) ≡ k → kind_at text i ≡ k
 inside text i k h e = rw (not_le (length text) i h) e
 
+pub name_start_kind : (text : List ℕ) (i : ℕ) → i < length text → is_name_start (slice_index text i) ≡ true → kind_at text i ≡ Ident
+name_start_kind text i h e = inside text i Ident h (rw e refl)
+
+pub digit_kind : (text : List ℕ) (i : ℕ) → i < length text → is_digit (slice_index text i) ≡ true → kind_at text i ≡ Decimal
+digit_kind text i h e = inside text i Decimal h (rw (digit_no_start (slice_index text i) e, e) refl)
+
 pub name_kind : (text : List ℕ) (i j : ℕ) → IsName text i j → kind_at text i ≡ Ident
-name_kind text i j n = inside text i Ident (let a = n.some in let b = n.run.within in omega arith) (rw n.start refl)
+name_kind text i j n = name_start_kind text i (let a = n.some in let b = n.run.within in omega arith) n.start
 
 pub number_kind : (text : List ℕ) (i j : ℕ) → IsNumber text i j → kind_at text i ≡ Decimal
-number_kind text i j n = let e = n.run.passes i (omega arith) n.some in inside text i Decimal (let a = n.some in let b = n.run.within in omega arith) (rw (digit_no_start (slice_index text i) e, e) refl)
+number_kind text i j n = digit_kind text i (let a = n.some in let b = n.run.within in omega arith) (n.run.passes i (omega arith) n.some)
 
 pub end_kind : (text : List ℕ) (i : ℕ) → i ≡ length text → kind_at text i ≡ Eof
 end_kind text i e = rw (le-leb (length text) i (omega arith)) refl
@@ -204,7 +210,7 @@ neither_class true y k h = absurd (cc)
 neither_class false true k h = absurd (cc)
 neither_class false false k h = refl
 
-not_undetermined : (k : Kind) → one_of_kinds first_punctuators k ≡ true → k ≡ Undetermined → ⊥
+pub not_undetermined : (k : Kind) → one_of_kinds first_punctuators k ≡ true → k ≡ Undetermined → ⊥
 not_undetermined k h e = false≢true (subst (λ v. one_of_kinds first_punctuators v ≡ true) e h)
 
 in_text : (text : List ℕ) (i : ℕ) → 0 < length (drop i text) → i < length text
@@ -225,7 +231,7 @@ single_byte k h = six (λ v. length (text_of v) ≡ 1) k h refl refl refl refl r
 pub a_punctuator_here : (text : List ℕ) (i : ℕ) (k : Kind) → punctuator_at text i ≡ k → (k ≡ Undetermined → ⊥) → IsPunctuator k text i (i + 1)
 a_punctuator_here text i k e n = let s = stands (drop i text) k (in_drop text i ∙ e) n in record { one_of = s.one_of; longest = s.longest; ends = ap (λ v. i + v) (sym s.single) }
 
-no_six : (k a : Kind) → one_of_kinds first_punctuators k ≡ true → one_of_kinds first_punctuators a ≡ false → k ≡ a → ⊥
+pub no_six : (k a : Kind) → one_of_kinds first_punctuators k ≡ true → one_of_kinds first_punctuators a ≡ false → k ≡ a → ⊥
 no_six k a h n e = false≢true (sym n ∙ subst (λ v. one_of_kinds first_punctuators v ≡ true) e h)
 
 same_name : (text : List ℕ) {i j i' j' : ℕ} {v w : Bool} → i ≡ i' → j ≡ j' → v ≡ w → lexeme_of Ident i j v (slice_range text i j) ≡ lexeme_of Ident i' j' w (slice_range text i' j')

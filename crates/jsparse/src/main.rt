@@ -2,6 +2,7 @@
 #![tactic(auto)]
 
 mod kind_text;
+mod lexer;
 mod lines;
 mod tree;
 
