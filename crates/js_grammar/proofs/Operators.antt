@@ -5,29 +5,10 @@ use Rattle.js_base.specs.declared.kind.Kind.TheVariants.{Plus, Minus, Star, LPar
 use Rattle.js_base.specs.Kinds.{same_kind}
 use Rattle.js_grammar.specs.Trees.{Slots, Label, end, tree, binary_expression, call_expression}
 use Rattle.js_grammar.specs.Grammar.{Lexeme, Lexemes, here, seen, is, seq, alt, such, node, never, Takes, is_lexeme, is_seq, is_left, is_right, is_such, is_node, ◌▸◌, ◌◇◌}
+use Rattle.js_grammar.specs.Levels.{level_at, operators_at, strength}
 use Rattle.js_grammar.specs.Table.{Flags, Symbol, G, rule, rule_of, at, always, sym as symbol, branches, args, mk, tok, Expression, Additive, Multiply, Unary, Member, Call}
-use Rattle.js_grammar.proofs.Calculus.{T}
+use Rattle.js_grammar.specs.Parsing.{T}
 use Rattle.js_grammar.proofs.Towers.{Same, same_as, unroll, Link, Links, one, Tower, level_tower, chain, operation, operation_link, OneOf, head, later}
-
--- the levels, from the loosest on; the last one has no operators
-abbrev pub level_at : Flags → ℕ → Symbol
-level_at f zero = at Expression f
-level_at f (suc zero) = at Additive f
-level_at f (suc (suc zero)) = at Multiply f
-level_at f _ = at Unary f
-
-abbrev pub operators_at : ℕ → List Kind
-operators_at zero = []
-operators_at (suc zero) = Plus ∷ Minus ∷ []
-operators_at (suc (suc zero)) = Star ∷ []
-operators_at _ = []
-
--- how tight an operator binds: its level, or 0
-abbrev pub strength : Kind → ℕ
-strength Plus = 1
-strength Minus = 1
-strength Star = 2
-strength _ = 0
 
 passes_on : (f : Flags) → Same (rule (at Expression f)) (alt (symbol Additive f) never)
 unfolding rule rule_of

@@ -3,6 +3,8 @@ pub mod Grammar
 pub mod Insertion
 pub mod Table
 pub mod Lexing
+pub mod Levels
+pub mod Parsing
 pub mod Lines
 pub mod Settings
 pub mod Readings
