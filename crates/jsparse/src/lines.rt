@@ -213,3 +213,81 @@ pub fn diagnostic_lines(found: &Diagnostics, alloc: Global) -> Result<Vec<u8>, N
     }
     Ok(out)
 }
+
+#[cfg(test)]
+mod tests {
+    use super::*;
+    use crate::tree::ParserAstBuilder;
+    use js_base::DiagnosticKind;
+    use std::test::Fail;
+
+    // The tree of `a`, a line end and `+ b`.
+    #[test]
+    fn prints_a_sum(rt: HostRuntime) -> Result<(), Fail> {
+        let alloc = rt.alloc();
+        let mut builder = ParserAstBuilder::new(alloc)?;
+        let name = NodeKind::IdentifierReference;
+        let left = builder.node(name, Span { start: 0, end: 1 }, None, Vec::new(alloc))?;
+        let right = builder.node(name, Span { start: 4, end: 5 }, None, Vec::new(alloc))?;
+        let both = vec![in alloc; Some(left), Some(right)]?;
+        let whole = Span { start: 0, end: 5 };
+        let sum = builder.node(NodeKind::BinaryExpression, whole, Some(Kind::Plus), both)?;
+        let one = vec![in alloc; Some(sum)]?;
+        let statement = builder.node(NodeKind::ExpressionStatement, whole, None, one)?;
+        let tree = builder.finish(whole, vec![in alloc; Some(statement)]?)?;
+        let lines = tree.lines(alloc)?;
+        let wanted =
+            "Program 0..5\n  ExpressionStatement 0..5\n    BinaryExpression 0..5 +\n      IdentifierReference 0..1\n      IdentifierReference 4..5\n";
+        assert_eq!(rt; lines.as_slice(), wanted.as_bytes());
+        Ok(())
+    }
+
+    // Empty slots before and behind a node, and a place of ten digits.
+    #[test]
+    fn prints_empty_slots(rt: HostRuntime) -> Result<(), Fail> {
+        let alloc = rt.alloc();
+        let mut builder = ParserAstBuilder::new(alloc)?;
+        let far = Span {
+            start: 907,
+            end: 4_294_967_039,
+        };
+        let number = builder.node(
+            NodeKind::NumericLiteral,
+            far,
+            Some(Kind::Hex),
+            Vec::new(alloc),
+        )?;
+        let slots = vec![in alloc; None, Some(number), None]?;
+        let call = builder.node(NodeKind::CallExpression, far, None, slots)?;
+        let tree = builder.finish(far, vec![in alloc; Some(call)]?)?;
+        let lines = tree.lines(alloc)?;
+        let wanted =
+            "Program 907..4294967039\n  CallExpression 907..4294967039\n    -\n    NumericLiteral 907..4294967039 Hex\n    -\n";
+        assert_eq!(rt; lines.as_slice(), wanted.as_bytes());
+        Ok(())
+    }
+
+    #[test]
+    fn prints_diagnostics(rt: HostRuntime) -> Result<(), Fail> {
+        let alloc = rt.alloc();
+        let kind = DiagnosticKind::UnexpectedToken;
+        let span = Span { start: 2, end: 3 };
+        let first = Some(Span { start: 10, end: 20 });
+        let second = Some(Span { start: 0, end: 100 });
+        let mut found = Diagnostics::new(alloc);
+        assert_eq!(rt; diagnostic_lines(&found, alloc)?.len(), 0);
+        for (first, second) in [(None, None), (first, None), (first, second)] {
+            found.push(Diagnostic {
+                kind,
+                span,
+                first,
+                second,
+            })?;
+        }
+        let lines = diagnostic_lines(&found, alloc)?;
+        let wanted =
+            "2..3 unexpected_token\n2..3 unexpected_token 10..20\n2..3 unexpected_token 10..20 0..100\n";
+        assert_eq!(rt; lines.as_slice(), wanted.as_bytes());
+        Ok(())
+    }
+}
