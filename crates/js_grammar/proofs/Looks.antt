@@ -5,9 +5,7 @@ use Rattle.js_base.specs.declared.kind.Kind.{Kind}
 use Rattle.js_base.specs.Kinds.{code, kinds, same_kind, one_of_kinds}
 use Rattle.js_base.proofs.KindLemmas.{all_of, at_each, kind_of_same}
 use Rattle.js_grammar.specs.Grammar.{Look}
-
-abbrev pub full : Look
-full k w e = true
+pub use Rattle.js_grammar.specs.Levels.{full}
 
 abbrev pub none : Look
 none k w e = false

@@ -15,8 +15,7 @@ use Rattle.js_grammar.proofs.Calculus.{reaches_less, here_at}
 use Rattle.js_grammar.proofs.Towers.{Link, link, linked_label, Among, of_left, of_right, Links, one, two, guarded, none_at_all, Tower, Tail, tail_none, tail_more, an_link, under, reslot, unroll, roll, Same, chain, level_tower, operation, operation_link, of_operations, to_operations, same_label, same_slots, OneOf, head, later}
 
 -- Of the symbol of the level m, read from s on, where F stands behind it, a node of the level c has been read, up to s'; what remains is the parts behind it. The symbol's first lexeme begins at `from`.
-pub record Around (Lex : ℕ → Lexeme → Type 0) (F : Look) (w : Tower rule) (m s from c : ℕ) (l : Label) (cs : Slots) (s' : ℕ) : Type 0 where
-  pub reach : ℕ
+pub record Around (Lex : ℕ → Lexeme → Type 0) (F : Look) (w : Tower rule) (m s from c : ℕ) (l : Label) (cs : Slots) (s' : ℕ) (reach : ℕ) : Type 0 where
   pub sound : (m' : Label) (ds : Slots) (k : ℕ) (ls' rest : Lexemes) → Lexes Lex s' ls' → Reaches reach s' ls' → Tail w m from c l cs s' ls' m' ds k rest → (ls : Lexemes) × Lexes Lex s ls × Extends s ls s' ls' × T (w.operand m) end (tree m' ds end) s ls end k rest
   pub only : (m' : Label) (ds : Slots) (k : ℕ) (ls rest : Lexemes) → Lexes Lex s ls → T (w.operand m) end (tree m' ds end) s ls end k rest → IsTrue (seen F (here rest)) → (ls' : Lexemes) × Lexes Lex s' ls' × Tail w m from c l cs s' ls' m' ds k rest
   pub begins : (y : Lexeme) → Lex s y → y.from ≡ from
@@ -58,9 +57,8 @@ rekept us (is_such d c) = is_such d refl
 
 module _ {Lex : ℕ → Lexeme → Type 0} {w : Tower rule} {m : ℕ} {F : Look} where
   -- the topmost operand was read
-  pub start : {F' : Look} {s from s' : ℕ} {l : Label} {cs : Slots} → m ≤ w.top + 1 → Reads Lex F' end (w.operand (w.top + 1)) s s' (tree l cs) → Follows w m (w.top + 1) F F' → ((y : Lexeme) → Lex s y → y.from ≡ from) → Around Lex F w m s from (w.top + 1) l cs s'
-  start {F'} {s} {from} {s'} {l} {cs} h r f b = record {
-    reach = r.reach;
+  pub start : {F' : Look} {s from s' rn : ℕ} {l : Label} {cs : Slots} → m ≤ w.top + 1 → Reads Lex F' end (w.operand (w.top + 1)) s s' (tree l cs) rn → Follows w m (w.top + 1) F F' → ((y : Lexeme) → Lex s y → y.from ≡ from) → Around Lex F w m s from (w.top + 1) l cs s' rn
+  start {F'} {s} {from} {s'} {rn} {l} {cs} h r f b = record {
     sound = λ m' ds k ls' rest i n t. let x = r.sound end end s' ls' ls' i n is_nothing in (x.0, x.1, x.2, roll w x.3 h (omega arith) (renamed (sym (b (here x.0) (here_at Lex x.0 x.1))) refl refl t));
     only = λ m' ds k ls rest i d e. let y = unroll w m' ds m s k ls rest h d in let x = r.only (tree y.0 y.1 end) end y.2 ls y.3 i y.4 (starting_tail y.5 e f) in
         (x.1, x.3, renamed (b (here ls) (here_at Lex ls i)) (same_label x.2) (same_slots x.2) (moved x.4 y.5));
@@ -71,22 +69,21 @@ module _ {Lex : ℕ → Lexeme → Type 0} {w : Tower rule} {m : ℕ} {F : Look}
   start_fails {n} {F'} {ks} {s} o h r f = record { no = λ ts vs k ls rest i d e. let z = as_tree d in let y = unroll w z.0 z.1 m s k ls rest h (subst (λ v. T v end (tree z.0 z.1 end) s ls end k rest) (sym o) z.3) in r.no (tree y.0 y.1 end) end y.2 ls y.3 i y.4 (starting_tail y.5 e f) }
 
   -- no part can stand here
-  pub finish : {n : Symbol} {ks : Slots} {s from c s' : ℕ} {l : Label} {cs : Slots} → w.operand m ≡ such n always → Around Lex F w m s from c l cs s' → ((q : ℕ) (x : Link Symbol) → Step w m c q x → (y : Lexeme) → Lex s' y → IsTrue (seen (starts x.part full) y) → ⊥) → Reads Lex F ks (such n always) s s' (tree l cs)
-  finish {n} {ks} {s} {from} {c} {s'} {l} {cs} o a none_here = record {
-    reach = a.reach;
+  pub finish : {n : Symbol} {ks : Slots} {s from c s' rn : ℕ} {l : Label} {cs : Slots} → w.operand m ≡ such n always → Around Lex F w m s from c l cs s' rn → ((q : ℕ) (x : Link Symbol) → Step w m c q x → (y : Lexeme) → Lex s' y → IsTrue (seen (starts x.part full) y) → ⊥) → Reads Lex F ks (such n always) s s' (tree l cs) rn
+  finish {n} {ks} {s} {from} {c} {s'} {rn} {l} {cs} o a none_here = record {
     sound = λ us vs k ls' rest i h d. go_sound us vs k ls' rest i h d;
     only = λ ts vs k ls rest i d e. let z = as_tree d in let y = a.only z.0 z.1 k ls rest i (subst (λ v. T v end (tree z.0 z.1 end) s ls end k rest) (sym o) z.3) e in go_only ts vs k rest y.0 z.0 z.1 z.2 y.1 y.2;
   }
     where
-      go_sound : (us vs : Slots) (k : ℕ) (ls' rest : Lexemes) → Lexes Lex s' ls' → Reaches a.reach s' ls' → T nothing ks us s' ls' vs k rest → (ls : Lexemes) × Lexes Lex s ls × Extends s ls s' ls' × T (such n always) ks (tree l cs us) s ls vs k rest
+      go_sound : (us vs : Slots) (k : ℕ) (ls' rest : Lexemes) → Lexes Lex s' ls' → Reaches rn s' ls' → T nothing ks us s' ls' vs k rest → (ls : Lexemes) × Lexes Lex s ls × Extends s ls s' ls' × T (such n always) ks (tree l cs us) s ls vs k rest
       go_sound us vs k ls' rest i h is_nothing = let x = a.sound l cs s' ls' ls' i h tail_none in (x.0, x.1, x.2, rekept us (subst (λ v. T v end (tree l cs end) s x.0 end s' ls') o x.3))
 
       go_only : (ts vs : Slots) (k : ℕ) (rest ls' : Lexemes) (m' : Label) (ds : Slots) → ts ≡ tree m' ds vs → Lexes Lex s' ls' → Tail w m from c l cs s' ls' m' ds k rest → (us : Slots) × (ls' : Lexemes) × (ts ≡ tree l cs us) × Lexes Lex s' ls' × T nothing ks us s' ls' vs k rest
       go_only ts vs k rest ls' m' ds q i tail_none = (vs, ls', q, i, is_nothing)
       go_only ts vs k rest ls' m' ds q i (tail_more {q = p} {x = x} a' b t y d more) = absurd (none_here p x (a', b, t, y) (here ls') (here_at Lex ls' i) (starting full d refl))
 
-  pub recap : {s from c c' s' : ℕ} {l : Label} {cs : Slots} → Around Lex F w m s from c l cs s' → w.top ≤ c → w.top ≤ c' → Around Lex F w m s from c' l cs s'
-  recap a h h' = record { reach = a.reach; sound = λ m' ds k ls' rest i n t. a.sound m' ds k ls' rest i n (raised h t); only = λ m' ds k ls rest i d e. let y = a.only m' ds k ls rest i d e in (y.0, y.1, raised h' y.2); begins = a.begins }
+  pub recap : {s from c c' s' rn : ℕ} {l : Label} {cs : Slots} → Around Lex F w m s from c l cs s' rn → w.top ≤ c → w.top ≤ c' → Around Lex F w m s from c' l cs s' rn
+  recap a h h' = record { sound = λ m' ds k ls' rest i n t. a.sound m' ds k ls' rest i n (raised h t); only = λ m' ds k ls rest i d e. let y = a.only m' ds k ls rest i d e in (y.0, y.1, raised h' y.2); begins = a.begins }
 
 -- One link alone can go around the node here, and the symbol can't end here.
 pub record Alone (Lex : ℕ → Lexeme → Type 0) (F : Look) (w : Tower rule) (m c s' q : ℕ) (x : Link Symbol) : Type 0 where
@@ -94,7 +91,7 @@ pub record Alone (Lex : ℕ → Lexeme → Type 0) (F : Look) (w : Tower rule) (
   pub other : (q' : ℕ) (x' : Link Symbol) → Step w m c q' x' → (y : Lexeme) → Lex s' y → IsTrue (seen (starts x'.part full) y) → (q' ≡ q) × (x' ≡ x)
   pub goes_on : (y : Lexeme) → Lex s' y → IsTrue (seen F y) → ⊥
 
-module _ {Lex : ℕ → Lexeme → Type 0} {F : Look} {w : Tower rule} {m s from c s' : ℕ} {l : Label} {cs : Slots} {q : ℕ} {x : Link Symbol} (a : Around Lex F w m s from c l cs s') (y : Alone Lex F w m c s' q x) where
+module _ {Lex : ℕ → Lexeme → Type 0} {F : Look} {w : Tower rule} {m s from c s' rn : ℕ} {l : Label} {cs : Slots} {q : ℕ} {x : Link Symbol} (a : Around Lex F w m s from c l cs s' rn) (y : Alone Lex F w m c s' q x) where
   part_here : (m' : Label) (ds : Slots) (k : ℕ) (ls rest : Lexemes) → Lexes Lex s' ls → Tail w m from c l cs s' ls m' ds k rest → IsTrue (seen F (here rest))
       → (es : Slots) × (j : ℕ) × (mid : Lexemes) × T x.part end es s' ls end j mid × Tail w m from q (linked_label x from j) (tree l cs es) j mid m' ds k rest
   part_here m' ds k ls rest i tail_none e = absurd (y.goes_on (here ls) (here_at Lex ls i) e)
@@ -103,11 +100,10 @@ module _ {Lex : ℕ → Lexeme → Type 0} {F : Look} {w : Tower rule} {m s from
       (es, j, mid, subst (λ v. T v.part end es s' ls end j mid) same.1 d, subst (λ v. Tail w m from v (linked_label x from j) (tree l cs es) j mid m' ds k rest) same.0 (subst (λ v. Tail w m from q' (linked_label v from j) (tree l cs es) j mid m' ds k rest) same.1 more))
 
   -- a part stands here, and the node goes around it
-  pub step : {F' : Look} {s'' : ℕ} {f : Slots → Slots} → Reads Lex F' end x.part s' s'' f → Follows w m q F F' → Around Lex F w m s from q (linked_label x from s'') (tree l cs (f end)) s''
-  step {F'} {s''} {f} r g = record {
-    reach = max a.reach r.reach;
-    sound = λ m' ds k ls' rest i n t. let z = r.sound end end s'' ls' ls' i (reaches_less r.reach (max a.reach r.reach) (omega arith) _ ls' n) is_nothing in
-        let u = a.sound m' ds k z.0 rest z.1 (z.2 a.reach (reaches_less a.reach (max a.reach r.reach) (omega arith) _ ls' n)) (tail_more y.step.0 y.step.1 y.step.2 y.step.3 z.3 t) in
+  pub step : {F' : Look} {s'' rm : ℕ} {f : Slots → Slots} → Reads Lex F' end x.part s' s'' f rm → Follows w m q F F' → Around Lex F w m s from q (linked_label x from s'') (tree l cs (f end)) s'' (max rn rm)
+  step {F'} {s''} {rm} {f} r g = record {
+    sound = λ m' ds k ls' rest i n t. let z = r.sound end end s'' ls' ls' i (reaches_less rm (max rn rm) (omega arith) _ ls' n) is_nothing in
+        let u = a.sound m' ds k z.0 rest z.1 (z.2 rn (reaches_less rn (max rn rm) (omega arith) _ ls' n)) (tail_more y.step.0 y.step.1 y.step.2 y.step.3 z.3 t) in
         (u.0, u.1, (λ e h. u.2 e (z.2 e h)), u.3);
     only = λ m' ds k ls rest i d e. let u = a.only m' ds k ls rest i d e in let v = part_here m' ds k u.0 rest u.1 u.2 e in let z = r.only v.0 end v.1 u.0 v.2 u.1 v.3 (starting_tail v.4 e g) in
         (z.1, z.3, grown x f z.4 z.2 v.4);
@@ -145,7 +141,7 @@ module _ (level : ℕ → Symbol) (top : ℕ) (kind : NodeKind) (ops : ℕ → L
   }
 
   -- no operator of the levels between may stand here
-  pub operators_end : {Lex : ℕ → Lexeme → Type 0} {F : Look} {ks : Slots} {m c s from s' : ℕ} {l : Label} {cs : Slots} → Around Lex F (level_tower level top kind ops climbs) m s from c l cs s' → ((q : ℕ) → m ≤ q → q ≤ c → (y : Lexeme) → Lex s' y → OneOf y.kind (ops q) → ⊥) → Reads Lex F ks (such (level m) always) s s' (tree l cs)
+  pub operators_end : {Lex : ℕ → Lexeme → Type 0} {F : Look} {ks : Slots} {m c s from s' rn : ℕ} {l : Label} {cs : Slots} → Around Lex F (level_tower level top kind ops climbs) m s from c l cs s' rn → ((q : ℕ) → m ≤ q → q ≤ c → (y : Lexeme) → Lex s' y → OneOf y.kind (ops q) → ⊥) → Reads Lex F ks (such (level m) always) s s' (tree l cs) rn
   operators_end {m = m} {c = c} a n = finish refl a (λ q x st y l t. let r = part_at m c q x st y.kind y.newline y.escaped t in n q st.0 st.1 y l r.0)
 
 -- Chains: the checks compute over the choices.
@@ -211,8 +207,8 @@ in_starts none_at_all x i k w e h = elim i [ ]
 
 -- The rules of a chain: a symbol n that is base, or a link behind itself.
 module _ {n : Symbol} {base g : G} (e : Same (rule n) (alt base g)) (lk : Links n g) where
-  abbrev pub Chained : (ℕ → Lexeme → Type 0) → Look → ℕ → ℕ → Label → Slots → ℕ → Type 0
-  Chained Lex F s from l cs s' = Around Lex F (chain n base g e lk) 0 s from 1 l cs s'
+  abbrev pub Chained : (ℕ → Lexeme → Type 0) → Look → ℕ → ℕ → Label → Slots → ℕ → ℕ → Type 0
+  Chained Lex F s from l cs s' reach = Around Lex F (chain n base g e lk) 0 s from 1 l cs s' reach
 
   of_step : (c q : ℕ) (x : Link Symbol) → Step (chain n base g e lk) 0 c q x → (q ≡ 0) × Among n g x
   of_step c q x a = (zero_only a.2, a.3)
@@ -220,7 +216,7 @@ module _ {n : Symbol} {base g : G} (e : Same (rule n) (alt base g)) (lk : Links 
   follows : {c : ℕ} {F F' : Look} → covers F F' ≡ true → all_links lk (λ x. covers (starts x.part full) F') ≡ true → Follows (chain n base g e lk) 0 c F F'
   follows {c} {F} {F'} h i = record { ends = covered F F' h; goes = λ q x a. covered (starts x.part full) F' (each_link lk (λ x. covers (starts x.part full) F') i x (of_step c q x a).1) }
 
-  pub chain_start : {Lex : ℕ → Lexeme → Type 0} {F F' : Look} {s from s' : ℕ} {l : Label} {cs : Slots} → Reads Lex F' end base s s' (tree l cs) → covers F F' ≡ true → all_links lk (λ x. covers (starts x.part full) F') ≡ true → ((y : Lexeme) → Lex s y → y.from ≡ from) → Chained Lex F s from l cs s'
+  pub chain_start : {Lex : ℕ → Lexeme → Type 0} {F F' : Look} {s from s' rn : ℕ} {l : Label} {cs : Slots} → Reads Lex F' end base s s' (tree l cs) rn → covers F F' ≡ true → all_links lk (λ x. covers (starts x.part full) F') ≡ true → ((y : Lexeme) → Lex s y → y.from ≡ from) → Chained Lex F s from l cs s' rn
   chain_start {Lex} {F} {F'} r h i b = start {Lex = Lex} {w = chain n base g e lk} {m = 0} {F = F} {F' = F'} (omega arith) r (follows h i) b
 
   pub chain_start_fails : {Lex : ℕ → Lexeme → Type 0} {F F' : Look} {ks : Slots} {s : ℕ} → Fails Lex F' end base s → covers F F' ≡ true → all_links lk (λ x. covers (starts x.part full) F') ≡ true → Fails Lex F ks (such n always) s
@@ -234,21 +230,21 @@ module _ {n : Symbol} {base g : G} (e : Same (rule n) (alt base g)) (lk : Links 
   }
 
   -- the lexeme k begins the part of the link x alone
-  pub chain_step : {Lex : ℕ → Lexeme → Type 0} {F F' : Look} {s from s' s'' : ℕ} {l : Label} {cs : Slots} {x : Link Symbol} {f : Slots → Slots} (k : Kind) → Chained Lex F s from l cs s' → ((y : Lexeme) → Lex s' y → y.kind ≡ k) → Among n g x → beginning lk k ≡ x ∷ [] → some_of (F k) ≡ false
-      → Reads Lex F' end x.part s' s'' f → covers F F' ≡ true → all_links lk (λ x. covers (starts x.part full) F') ≡ true → Chained Lex F s from (linked_label x from s'') (tree l cs (f end)) s''
+  pub chain_step : {Lex : ℕ → Lexeme → Type 0} {F F' : Look} {s from s' s'' rn rm : ℕ} {l : Label} {cs : Slots} {x : Link Symbol} {f : Slots → Slots} (k : Kind) → Chained Lex F s from l cs s' rn → ((y : Lexeme) → Lex s' y → y.kind ≡ k) → Among n g x → beginning lk k ≡ x ∷ [] → some_of (F k) ≡ false
+      → Reads Lex F' end x.part s' s'' f rm → covers F F' ≡ true → all_links lk (λ x. covers (starts x.part full) F') ≡ true → Chained Lex F s from (linked_label x from s'') (tree l cs (f end)) s'' (max rn rm)
   chain_step k a h i b t r c d = recap (step a (alone k h i b t) r (follows c d)) (omega arith) (omega arith)
 
-  pub chain_step_fails : {Lex : ℕ → Lexeme → Type 0} {F F' : Look} {ks : Slots} {s from s' : ℕ} {l : Label} {cs : Slots} {x : Link Symbol} (k : Kind) → Chained Lex F s from l cs s' → ((y : Lexeme) → Lex s' y → y.kind ≡ k) → Among n g x → beginning lk k ≡ x ∷ [] → some_of (F k) ≡ false
+  pub chain_step_fails : {Lex : ℕ → Lexeme → Type 0} {F F' : Look} {ks : Slots} {s from s' rn : ℕ} {l : Label} {cs : Slots} {x : Link Symbol} (k : Kind) → Chained Lex F s from l cs s' rn → ((y : Lexeme) → Lex s' y → y.kind ≡ k) → Among n g x → beginning lk k ≡ x ∷ [] → some_of (F k) ≡ false
       → Fails Lex F' end x.part s' → covers F F' ≡ true → all_links lk (λ x. covers (starts x.part full) F') ≡ true → Fails Lex F ks (such n always) s
   chain_step_fails k a h i b t r c d = step_fails a (alone k h i b t) refl r (follows c d)
 
   -- no part begins here
-  pub chain_end : {Lex : ℕ → Lexeme → Type 0} {F : Look} {ks : Slots} {s from s' : ℕ} {l : Label} {cs : Slots} → Chained Lex F s from l cs s' → ((y : Lexeme) → Lex s' y → IsTrue (seen (linked_starts lk) y) → ⊥) → Reads Lex F ks (such n always) s s' (tree l cs)
+  pub chain_end : {Lex : ℕ → Lexeme → Type 0} {F : Look} {ks : Slots} {s from s' rn : ℕ} {l : Label} {cs : Slots} → Chained Lex F s from l cs s' rn → ((y : Lexeme) → Lex s' y → IsTrue (seen (linked_starts lk) y) → ⊥) → Reads Lex F ks (such n always) s s' (tree l cs) rn
   chain_end a h = finish refl a (λ q x st y l t. h y l (in_starts lk x (of_step 1 q x st).1 y.kind y.newline y.escaped t))
 
 -- What is read up to a lexeme that may not follow can't be read: for a choice that begins as another one does, as a member before a call's arguments.
-pub unfollowed : {Lex : ℕ → Lexeme → Type 0} {F F' : Look} {ks : Slots} {g : G} {s s' : ℕ} {f : Slots → Slots} → Reads Lex F' ks g s s' f → covers F F' ≡ true → ((y : Lexeme) → Lex s' y → IsTrue (seen F y) → ⊥) → Fails Lex F ks g s
-unfollowed {Lex} {F} {F'} {ks} {g} {s} {s'} {f} r c n = record { no = λ ts vs k ls rest i d e. let x = r.only ts vs k ls rest i d (covered F F' c _ _ _ e) in at_rest x.0 vs k x.1 rest x.3 x.4 e }
+pub unfollowed : {Lex : ℕ → Lexeme → Type 0} {F F' : Look} {ks : Slots} {g : G} {s s' rn : ℕ} {f : Slots → Slots} → Reads Lex F' ks g s s' f rn → covers F F' ≡ true → ((y : Lexeme) → Lex s' y → IsTrue (seen F y) → ⊥) → Fails Lex F ks g s
+unfollowed {Lex} {F} {F'} {ks} {g} {s} {s'} {rn} {f} r c n = record { no = λ ts vs k ls rest i d e. let x = r.only ts vs k ls rest i d (covered F F' c _ _ _ e) in at_rest x.0 vs k x.1 rest x.3 x.4 e }
   where
     at_rest : (us vs : Slots) (k : ℕ) (ls' rest : Lexemes) → Lexes Lex s' ls' → T nothing ks us s' ls' vs k rest → IsTrue (seen F (here rest)) → ⊥
     at_rest us vs k ls' rest i is_nothing e = n (here ls') (here_at Lex ls' i) e

@@ -38,6 +38,10 @@ tight _ = 0
 abbrev pub looser : ℕ → Look
 looser p k w e = e || nat_lt (tight k) p
 
+-- anything
+abbrev pub full : Look
+full k w e = true
+
 -- What stands behind a nonterminal where a parser has read as much of it as it can.
 abbrev pub follow : Name → Look
 follow Program k w e = same_kind Eof k
