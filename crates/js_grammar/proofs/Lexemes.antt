@@ -281,3 +281,10 @@ placed {text} (a_punctuator {k = k} {i = i} {j = j} g p) =
     let w = (punctuator_kind text i j k p).2 in let one = single_byte k p.one_of in let e = p.ends in
     record { behind = g.run.ordered; ordered = omega arith; within = omega arith; further = λ h. omega arith; at_end = λ e. absurd (false≢true (subst (λ v. one_of_kinds first_punctuators v ≡ true) e p.one_of)) }
 placed (the_end g e) = record { behind = g.run.ordered; ordered = omega arith; within = omega arith; further = λ h. absurd (h refl); at_end = λ z. (e, e) }
+
+-- no word of the first language has an escape
+pub unescaped : {text : List ℕ} {s : ℕ} {y : Lexeme} → Lex text s y → y.escaped ≡ false
+unescaped (a_name g n) = refl
+unescaped (a_number g n) = refl
+unescaped (a_punctuator g p) = refl
+unescaped (the_end g e) = refl

@@ -35,15 +35,16 @@ abbrev pub Expects : Kind → List ℕ → Cursor → Cursor → Result (Unit {0
 Expects k text old new (Ok x) = (old.token.kind ≡ k) × Passed text old new
 Expects k text old new (Err e) = Stops text new e (old.token.kind ≡ k → ⊥)
 
--- As much of the symbol as can be is read, from the current lexeme of the old state up to that of the new one. Whatever is derived from there, over any lexemes, and stops where it may, is this.
+-- As much of the symbol as can be is read, from the current lexeme of the old state up to that of the new one. Whatever is derived from there, over any lexemes, and stops where it may, is this; and it is derived over any lexemes that go on at least to the current one.
 pub record Answer (text : List ℕ) (n : Symbol) (old new : Cursor) : Type 0 where
   pub at : At text new
   pub further : old.prev_token_end < new.prev_token_end
   pub stops : (y : Lexeme) → Lex text new.prev_token_end y → IsTrue (seen (follow n.name) y)
   pub label : Label
   pub slots : Slots
-  pub reads : Reads (Lex text) (follow n.name) no_slots (such n always) old.prev_token_end new.prev_token_end (tree label slots)
-  pub near : reads.reach ≤ new.prev_token_end
+  pub reach : ℕ
+  pub near : reach ≤ new.prev_token_end
+  pub reads : Reads (Lex text) (follow n.name) no_slots (such n always) old.prev_token_end new.prev_token_end (tree label slots) reach
 
 -- And a node made in the call stands for it; the nodes from before keep their trees.
 pub record Numbered (text : List ℕ) (n : Symbol) (old new : Cursor) (ns ms : List Node) (id : NodeId) : Type 0 where
@@ -60,8 +61,9 @@ pub record Part (text : List ℕ) (F : Look) (g : G) (old new : Cursor) : Type 0
   pub at : At text new
   pub further : old.prev_token_end < new.prev_token_end
   pub slots : Slots → Slots
-  pub reads : Reads (Lex text) F no_slots g old.prev_token_end new.prev_token_end slots
-  pub near : reads.reach ≤ new.prev_token_end
+  pub reach : ℕ
+  pub near : reach ≤ new.prev_token_end
+  pub reads : Reads (Lex text) F no_slots g old.prev_token_end new.prev_token_end slots reach
 
 pub record NumberedPart (text : List ℕ) (F : Look) (g : G) (old new : Cursor) (ns ms : List Node) (before after : List (Option NodeId)) : Type 0 where
   pub part : Part text F g old new
