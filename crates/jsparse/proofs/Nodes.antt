@@ -4,6 +4,9 @@ use Rattle.std.proofs.Math.ListN.{get_or-append}
 use Rattle.std.proofs.Math.Seq.{get_or-append_seam}
 use Rattle.jsparse.specs.declared.tree.Node.{Node}
 use Rattle.jsparse.specs.declared.tree.NodeId.{NodeId}
+use Rattle.js_base.specs.declared.kind.Kind.{Kind}
+use Rattle.js_base.specs.declared.span.Span.{Span}
+use Rattle.jsparse.specs.declared.tree.NodeKind.{NodeKind}
 use Rattle.jsparse.specs.declared.tree.NodeKind.TheVariants.{Program}
 use Rattle.js_grammar.specs.Trees.{Label, Slots, end, hole, tree, append}
 use Rattle.jsparse.specs.Holding.{label_of, Holds, HoldsAll, holds, no_ids, next_id, next_hole, Keeps, Made, IsProgram}
@@ -103,3 +106,29 @@ program_written ns m cs k o h = record { program = m; first = get_first ns m (le
 -- with no node nothing is held from 1 on
 pub none_held : {ns : List Node} {ids : List (Option NodeId)} {cs : Slots} → length ns ≡ 0 → HoldsAll ns 1 (length ns) ids cs → ⊥
 none_held e h = let p = HoldsAll-order h in omega arith
+
+-- what was held stays held in a longer list, up to its end
+pub Holds-kept : {ns ms : List Node} {lo hi id : ℕ} {l : Label} {cs : Slots} → Keeps ns ms → Holds ns lo hi id l cs → Holds ms lo (length ms) id l cs
+Holds-kept {ns} {ms} {lo} {hi} {id} {l} {cs} k h = let a = k.longer in let b = Holds-bound h in Holds-wider lo (length ms) (omega arith) (omega arith) (omega arith) (k.one lo hi id l cs h)
+
+pub HoldsAll-kept : {ns ms : List Node} {lo hi : ℕ} {ids : List (Option NodeId)} {us : Slots} → Keeps ns ms → hi ≤ length ns → HoldsAll ns lo hi ids us → HoldsAll ms lo (length ms) ids us
+HoldsAll-kept {ns} {ms} {lo} {hi} {ids} {us} k b h = let a = k.longer in HoldsAll-wider lo (length ms) (omega arith) (omega arith) (k.all lo hi ids us h)
+
+-- one number more, made since
+pub HoldsAll-next : {ns ms : List Node} {lo : ℕ} {ids : List (Option NodeId)} {us : Slots} (id : NodeId) {l : Label} {cs : Slots} → Keeps ns ms → HoldsAll ns lo (length ns) ids us → Holds ms (length ns) (length ms) id.0 l cs → HoldsAll ms lo (length ms) (ids ++ Some id ∷ []) (append us (tree l cs end))
+HoldsAll-next {ns} {ms} {lo} {ids} {us} id k a h = HoldsAll-snoc id (k.all lo (length ns) ids us a) h
+
+-- two numbers, the second made since
+pub HoldsAll-two : {ns ms : List Node} {lo : ℕ} (a b : NodeId) {l m : Label} {cs ds : Slots} → Keeps ns ms → Holds ns lo (length ns) a.0 l cs → Holds ms (length ns) (length ms) b.0 m ds → HoldsAll ms lo (length ms) (Some a ∷ Some b ∷ []) (tree l cs (tree m ds end))
+HoldsAll-two {ns} {ms} {lo} a b {l} {m} {cs} {ds} k h g = next_id (k.one lo (length ns) a.0 l cs h) (HoldsAll-one b g)
+
+-- no number holds no slot
+pub HoldsAll-none : (ns : List Node) → HoldsAll ns (length ns) (length ns) [] end
+HoldsAll-none ns = no_ids (omega arith)
+
+-- a new node without children, and one with a single child
+pub Made-leaf : {k : NodeKind} {s : Span} {o : Option Kind} {ns ms : List Node} {id : NodeId} → Made k s o [] ns ms id → Holds ms (length ns) (length ms) id.0 (label_of k o s) end
+Made-leaf {ns = ns} m = m.made (length ns) end (HoldsAll-none ns)
+
+pub Made-one : {k : NodeKind} {s : Span} {o : Option Kind} {ns ms : List Node} {id : NodeId} {lo : ℕ} (child : NodeId) {l : Label} {cs : Slots} → Made k s o (Some child ∷ []) ns ms id → Holds ns lo (length ns) child.0 l cs → Holds ms lo (length ms) id.0 (label_of k o s) (tree l cs end)
+Made-one {lo = lo} child {l} {cs} m h = m.made lo (tree l cs end) (HoldsAll-one child h)
