@@ -1,5 +1,5 @@
 -- Operators and their operands: the start, a step, the end, and failures of the loop over binding power.
-use Rattle.std.proofs.Common.{ℕ, zero, suc, ◌≡◌, ◌<◌, ◌≤◌, ◌+◌, max, List, [], ◌∷◌, length, Bool, true, false, ◌||◌, IsTrue, refl, sym, ap, subst, arith, ◌∙◌, nat_lt}
+use Rattle.std.proofs.Common.{ℕ, zero, suc, ◌≡◌, ◌<◌, ◌≤◌, ◌+◌, max, List, [], ◌∷◌, length, Option, Some, Bool, true, false, ◌||◌, IsTrue, refl, sym, ap, subst, arith, ◌∙◌, nat_lt}
 use Rattle.std.proofs.lemmas.Bool.{false≢true, ltb-true, lt-ltb, or_right}
 use Rattle.js_base.specs.declared.kind.Kind.{Kind}
 use Rattle.js_base.specs.declared.kind.Kind.TheVariants.{Plus, Minus, Star, LParen, Undetermined}
@@ -18,6 +18,10 @@ use Rattle.js_grammar.proofs.Operators.{levels, climbs, operates}
 use Rattle.jsparse.specs.declared.cursor.Cursor.{Cursor}
 use Rattle.jsparse.specs.declared.tree.Node.{Node}
 use Rattle.jsparse.specs.declared.tree.NodeId.{NodeId}
+use Rattle.js_base.specs.declared.span.Span.{Span}
+use Rattle.jsparse.specs.declared.tree.NodeKind.TheVariants.{BinaryExpression}
+use Rattle.jsparse.specs.Holding.{Made}
+use Rattle.jsparse.proofs.NodeLemmas.{pair_held, label_same}
 use Rattle.jsparse.specs.Answers.{At, Passed, Answer, Numbered}
 use Rattle.jsparse.proofs.Paths.{skips, kind_here, begins_here, label_here}
 use Rattle.jsparse.proofs.States.{Behind, Held, Operand}
@@ -117,11 +121,11 @@ operand_step {text} {p} {q} {r} {t} {ns} {ms} {os} {left} {id} {m} a b s c d x h
   stops_first = λ y l. let i = strength_low k in let j = step_stops y l in omega arith;
   behind = record {
     at = x.at;
-    further = let i = s.behind.further in let j = d.further in let n = x.further in omega arith;
+    further = let i = s.behind.further in let j = d.further in let n = x.further in let g = s.behind.at.behind in let e = d.at.behind in omega arith;
     label = _;
     slots = _;
     reach = max s.behind.reach (max 0 x.reach);
-    near = let i = s.behind.near in let j = d.further in let n = x.further in let u = x.near in omega arith;
+    near = let i = s.behind.near in let j = d.further in let n = x.further in let u = x.near in let g = s.behind.at.behind in let e = d.at.behind in omega arith;
     around = step s.behind.around (operator_alone m s.cap s.behind.at a b c (within_cap s.behind.at (omega arith) s.stops)) (skips s.behind.at k refl (not_undetermined k (omega arith)) d ▹ x.reads) (operand_follow m (strength k) a b c (strength_low k));
   };
   held = h;
@@ -150,3 +154,19 @@ operand_answers {text} {p} {q} {ns} {ms} {id} {m} a b s c = record {
   holds = s.held.holds;
   keeps = s.held.keeps;
 }
+
+pub operand_steps : {text : List ℕ} {p q r w : Cursor} {ns ms ks os : List Node} {before right id : NodeId} {m : ℕ} {ids : List (Option NodeId)} {sp : Span} (k : Kind) (t : ℕ) → k ≡ q.token.kind → t ≡ strength k → 1 ≤ m → m ≤ 3 → Operand text m p q ns ms before → m ≤ t → Passed text q r
+    → Numbered text (level_at script_flags (t + 1)) r w ms ks right → Made BinaryExpression sp (Some k) ids ks os id → ids ≡ Some before ∷ Some right ∷ [] → sp.start ≡ p.token.span.start → sp.end ≡ w.prev_token_end → Operand text m p w ns os id
+operand_steps {text} {p} {q} {r} {w} {ns} {ms} {ks} {os} {before} {right} {id} {m} {ids} {sp} k t e f a b s c d x h j i l =
+    let z : t ≡ strength q.token.kind = f ∙ ap strength e in
+    let y : Numbered text (level_at script_flags (strength q.token.kind + 1)) r w ms ks right = subst (λ v. Numbered text (level_at script_flags (v + 1)) r w ms ks right) z x in
+    operand_step a b s (omega arith) d y.answer (pair_held s.held (record { holds = y.holds; keeps = y.keeps }) h j (label_same BinaryExpression (Some k) sp p w i l ∙ ap (λ v. label_here binary_expression (of v) p w) e))
+
+pub operand_steps_fail : {text : List ℕ} {p q r : Cursor} {ns ms : List Node} {before : NodeId} {m : ℕ} (k : Kind) (t : ℕ) → k ≡ q.token.kind → t ≡ strength k → 1 ≤ m → m ≤ 3 → Operand text m p q ns ms before → m ≤ t → Passed text q r
+    → Fails (Lex text) (follow (level_at script_flags (t + 1)).name) end (such (level_at script_flags (t + 1)) always) r.prev_token_end → Fails (Lex text) (follow (level_at script_flags m).name) end (such (level_at script_flags m) always) p.prev_token_end
+operand_steps_fail {text} {p} {q} {r} {m = m} k t e f a b s c d x =
+    let z : t ≡ strength q.token.kind = f ∙ ap strength e in
+    operand_step_fails a b s (omega arith) d (subst (λ v. Fails (Lex text) (follow (level_at script_flags (v + 1)).name) end (such (level_at script_flags (v + 1)) always) r.prev_token_end) z x)
+
+pub operands_answer : {text : List ℕ} {p q : Cursor} {ns ms : List Node} {id : NodeId} {m : ℕ} (k : Kind) (t : ℕ) → k ≡ q.token.kind → t ≡ strength k → 1 ≤ m → m ≤ 3 → Operand text m p q ns ms id → t < m → Numbered text (level_at script_flags m) p q ns ms id
+operands_answer k t e f a b s c = operand_answers a b s (let z = f ∙ ap strength e in omega arith)

@@ -77,7 +77,7 @@ module _ {text : List ℕ} {p : Cursor} (a : At text p) where
 
 pub record Path (text : List ℕ) (F : Look) (g : G) (p : Cursor) (g' : G) (q : Cursor) (f : Slots → Slots) : Type 0 where
   pub at : At text q
-  pub further : p.prev_token_end < q.prev_token_end
+  pub further : p.token.span.start < q.prev_token_end
   pub reach : ℕ
   pub near : reach ≤ q.prev_token_end
   pub goes : Goes (Lex text) F end g p.prev_token_end g' q.prev_token_end f reach
@@ -86,7 +86,7 @@ module _ {text : List ℕ} {F : Look} where
   -- one stretch and another
   infixr 18 ◌⟶◌
   pub ◌⟶◌ : {g g' g'' : G} {p q r : Cursor} {f h : Slots → Slots} → Path text F g p g' q f → Path text F g' q g'' r h → Path text F g p g'' r (λ us. f (h us))
-  a ⟶ b = record { at = b.at; further = let i = a.further in let j = b.further in omega arith; reach = max a.reach b.reach; near = let i = a.near in let j = b.near in let k = b.further in omega arith; goes = a.goes ▹ b.goes }
+  a ⟶ b = record { at = b.at; further = let i = a.further in let j = b.further in let h = a.at.behind in omega arith; reach = max a.reach b.reach; near = let i = a.near in let j = b.near in let k = b.further in let h = a.at.behind in omega arith; goes = a.goes ▹ b.goes }
 
   -- a choice, and a stretch
   infixr 18 ◌⟼◌

@@ -10,7 +10,7 @@ use Rattle.js_grammar.specs.Trees.{Slots, end, hole, tree, append, Label, Op, no
 use Rattle.js_grammar.specs.Grammar.{Lexeme, Lexemes, here, Look, seen, is, such, seq, alt, nothing, is_nothing, ◌▸◌, ◌◇◌}
 use Rattle.js_grammar.specs.Table.{G, Symbol, rule, rule_of, at, always, script_flags, sym as symbol, tok, args, opt, mk, parens, Expression, Unary, LeftHandSide, Member, Call, Primary, IdentifierReference}
 use Rattle.js_grammar.specs.Lexing.{Lex, Lexes}
-use Rattle.js_grammar.specs.Levels.{full, tight, looser, follow}
+use Rattle.js_grammar.specs.Levels.{full, level_at, tight, looser, follow}
 use Rattle.js_grammar.specs.Parsing.{T, Goes, Reads, Fails}
 use Rattle.js_grammar.proofs.Looks.{covers, differ}
 use Rattle.js_grammar.proofs.Lexemes.{first_or}
@@ -24,7 +24,7 @@ use Rattle.jsparse.specs.declared.cursor.Stop.{Stop}
 use Rattle.jsparse.specs.declared.cursor.Stop.TheVariants.{Fatal, NoMemory}
 use Rattle.jsparse.specs.declared.tree.Node.{Node}
 use Rattle.jsparse.specs.declared.tree.NodeId.{NodeId}
-use Rattle.jsparse.specs.Answers.{At, Passed, Stops, Answer, Numbered, Part, NumberedPart}
+use Rattle.jsparse.specs.Answers.{At, Passed, Stops, Answer, Answers, Numbered, Part, NumberedPart}
 use Rattle.js_base.specs.declared.span.Span.{Span}
 use Rattle.jsparse.specs.declared.tree.NodeKind.{NodeKind}
 use Rattle.jsparse.specs.Holding.{HoldsAll, Keeps, Made, label_of}
@@ -183,7 +183,7 @@ pub calling_at : {text : List ℕ} {p q : Cursor} {ns ms : List Node} {id : Node
 calling_at (a_member x) = x.answer.at
 calling_at (a_call x k b h) = b.at
 
-pub calling_further : {text : List ℕ} {p q : Cursor} {ns ms : List Node} {id : NodeId} → Calling text p q ns ms id → p.prev_token_end < q.prev_token_end
+pub calling_further : {text : List ℕ} {p q : Cursor} {ns ms : List Node} {id : NodeId} → Calling text p q ns ms id → p.token.span.start < q.prev_token_end
 calling_further (a_member x) = x.answer.further
 calling_further (a_call x k b h) = b.further
 
@@ -214,7 +214,7 @@ module _ {text : List ℕ} where
 
   pub call_step : {p o q r : Cursor} {ns os : List Node} {id : NodeId} → (x : Answer text (at Primary script_flags) p o) → o.token.kind ≡ LParen → (b : Behind text (follow LeftHandSide) (calls script_flags) 0 1 p q) → q.token.kind ≡ LParen → (y : Part text full (args script_flags) q r) → Held (label_here call_expression no_op p r) (tree b.label b.slots (y.slots end)) ns os id → Calling text p r ns os id
   unfolding covers
-  call_step {p} {o} {q} {r} x z b k y h = a_call x z (record { at = y.at; further = let i = b.further in let j = y.further in omega arith; label = label_here call_expression no_op p r; slots = tree b.label b.slots (y.slots end); reach = max b.reach y.reach; near = let i = b.near in let j = y.near in let n = y.further in omega arith;
+  call_step {p} {o} {q} {r} x z b k y h = a_call x z (record { at = y.at; further = let i = b.further in let j = y.further in let g = b.at.behind in omega arith; label = label_here call_expression no_op p r; slots = tree b.label b.slots (y.slots end); reach = max b.reach y.reach; near = let i = b.near in let j = y.near in let n = y.further in let g = b.at.behind in omega arith;
     around = chain_step (call_climbs script_flags) (call_links script_flags) {F' = full} LParen b.around (kind_here b.at k) this refl refl y.reads refl refl }) h
 
   pub calling_step : {p q r : Cursor} {ns ms os ps : List Node} {left id : NodeId} {ids js : List (Option NodeId)} {k : NodeKind} {sp : Span} {o : Option Kind} → At text p → Calling text p q ns ms left → q.token.kind ≡ LParen → ids ≡ Some left ∷ [] → (y : NumberedPart text full (args script_flags) q r ms os ids js) → Made k sp o js os ps id → label_of k o sp ≡ label_here call_expression no_op p r → Calling text p r ns ps id
@@ -258,3 +258,8 @@ module _ {text : List ℕ} where
   unfolding rule rule_of covers
   calling_answers (a_member x) n = by_path (left (no_call x.answer n) ⟼ narrow (member_path x.answer)) (call_ends x.answer.at n) (held_by x)
   calling_answers (a_call x z b h) n = by_path (right (member_fails x z) ⟼ record { at = b.at; further = b.further; reach = b.reach; near = b.near; goes = chain_end (call_climbs script_flags) (call_links script_flags) b.around (λ y l t. n (sym (b.at.is y l).kind ∙ sym (kind_of_same LParen y.kind (and_parts _ _ t).0))) }) (call_ends b.at n) h
+
+pub expression_answers : (text : List ℕ) (p q : Cursor) (ns ms : List Node) (r : Result NodeId Stop) → Answers text (level_at script_flags 1) p q ns ms r → Answers text (at Expression script_flags) p q ns ms r
+unfolding rule rule_of covers
+expression_answers text p q ns ms (Ok id) x = by_path (last_called x.answer refl) x.answer.stops (held_by x)
+expression_answers text p q ns ms (Err e) x = stopped text q e (λ y. fails_rule y) x
