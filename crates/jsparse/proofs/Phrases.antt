@@ -263,3 +263,7 @@ pub expression_answers : (text : List ℕ) (p q : Cursor) (ns ms : List Node) (r
 unfolding rule rule_of covers
 expression_answers text p q ns ms (Ok id) x = by_path (last_called x.answer refl) x.answer.stops (held_by x)
 expression_answers text p q ns ms (Err e) x = stopped text q e (λ y. fails_rule y) x
+
+pub unsigned_result : (text : List ℕ) (p q : Cursor) (ns ms : List Node) (r : Result NodeId Stop) → At text p → (p.token.kind ≡ Plus → ⊥) → (p.token.kind ≡ Minus → ⊥) → Answers text (at LeftHandSide script_flags) p q ns ms r → Answers text (at Unary script_flags) p q ns ms r
+unsigned_result text p q ns ms (Ok id) a m n x = unsigned_answers a m n x
+unsigned_result text p q ns ms (Err e) a m n x = stopped text q e (unsigned_fails a m n) x
