@@ -6,6 +6,7 @@ mod expression;
 mod kind_text;
 mod lexer;
 mod lines;
+mod statement;
 mod tree;
 
 fn main() {}
