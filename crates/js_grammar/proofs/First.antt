@@ -7,36 +7,8 @@ use Rattle.js_base.specs.Kinds.{same_kind, one_of_kinds}
 use Rattle.js_grammar.specs.Trees.{Slots, Tree}
 use Rattle.js_grammar.specs.Grammar.{Lexemes, here, Look, seen, Grammar, nothing, never, lexeme, look, text, ahead, empty_slot, seq, alt, when, many, commas, such, marked, node, ended, keep, kept, Takes, Derives, is_nothing, is_lexeme, is_look, is_text, is_ahead, is_empty_slot, is_seq, is_left, is_right, is_when, is_many, is_commas, is_such, is_marked, is_node, is_ended, is_keep, is_kept}
 use Rattle.js_grammar.specs.Table.{Flags, Name, Symbol, rule, rule_of, Program, Item, Empty, ExprStmt, Expression, Additive, Multiply, Unary, LeftHandSide, Member, Call, Primary, IdentifierReference}
+pub use Rattle.js_grammar.specs.FirstSets.{first_of, first}
 use Rattle.js_grammar.proofs.Looks.{full, none, either, covers, covered}
-
-abbrev primary : Kind → Bool
-primary k = one_of_kinds (Ident ∷ Decimal ∷ LParen ∷ []) k
-
-abbrev unary : Kind → Bool
-unary k = primary k || one_of_kinds (Plus ∷ Minus ∷ []) k
-
-abbrev pub first_of : Name → Kind → Bool
-first_of Program k = true
-first_of Item k = unary k || same_kind Semicolon k
-first_of Empty k = same_kind Semicolon k
-first_of ExprStmt k = unary k
-first_of Expression k = unary k
-first_of Additive k = unary k
-first_of Multiply k = unary k
-first_of Unary k = unary k
-first_of LeftHandSide k = primary k
-first_of Member k = primary k
-first_of Call k = primary k
-first_of Primary k = primary k
-first_of IdentifierReference k = same_kind Ident k
-
--- whether a name with an escape may stand first
-abbrev escape_may : Kind → Name → Bool
-escape_may k Program = true
-escape_may k _ = same_kind Ident k
-
-abbrev pub first : Symbol → Look
-first s k w e = first_of s.name k && (not e || escape_may k s.name)
 
 -- what may stand first, where F stands after: a condition on flags is let go
 abbrev pub starts : Grammar Symbol → Look → Look
