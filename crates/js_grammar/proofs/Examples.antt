@@ -1,24 +1,23 @@
 -- The worked examples: readings that the checkers find, and a tree that is none.
-use Rattle.std.proofs.Common.{ℕ, ◌≡◌, ◌<◌, ◌≤◌, Bool, true, false, not, ◌&&◌, IsTrue, List, [], refl, ap, sym, ◌∙◌, subst, arith}
+use Rattle.std.proofs.Common.{ℕ, ◌≡◌, ◌<◌, ◌≤◌, Bool, true, false, not, IsTrue, List, [], refl, ap, ◌∙◌, subst, arith}
 use Rattle.std.specs.Prelude.{codes}
 use Rattle.std.proofs.lemmas.Bool.{and_parts, false≢true}
-use Rattle.js_base.specs.declared.kind.Kind.{Kind}
 use Rattle.js_base.specs.declared.kind.Kind.TheVariants.{LParen, RParen, Semicolon, Plus, Minus, Star, Ident, Eof}
 use Rattle.js_base.specs.Kinds.{same_kind}
 use Rattle.js_base.proofs.KindLemmas.{kind_of_same}
 use Rattle.js_base.specs.Texts.{punctuators, words}
 use Rattle.js_base.specs.Keywords.{keyword_of}
-use Rattle.js_grammar.specs.Trees.{Label, Slots, Tree}
-use Rattle.js_grammar.specs.Grammar.{Lexeme, Lexemes, last, next, here, seen, may_omit, Derives}
+use Rattle.js_grammar.specs.Trees.{Label, Tree}
+use Rattle.js_grammar.specs.Grammar.{Lexemes, last, next, here, seen, may_omit, Derives}
 use Rattle.js_grammar.specs.Table.{rule, rule_of, at, Program, script_flags}
 use Rattle.js_grammar.specs.Insertion.{continues}
 use Rattle.js_grammar.specs.Lexing.{lexeme_of, Lex, Lexes, is_longest}
 use Rattle.js_grammar.specs.Readings.{IsReading}
-use Rattle.js_grammar.specs.Examples.{sum_text, sum_tree, call_text, call_tree, two_statements, semicolon_text, semicolon_tree, product_text, product_tree}
+use Rattle.js_grammar.specs.Examples.{sum_text, sum_tree, call_text, call_tree, call_lexemes, two_statements, semicolon_text, semicolon_tree, product_text, product_tree}
 use Rattle.js_grammar.proofs.Looks.{differ}
 use Rattle.js_grammar.proofs.Calculus.{here_at}
 use Rattle.js_grammar.proofs.Lexemes.{one_lexeme, placed}
-use Rattle.js_grammar.proofs.Statements.{EndsAt, by_semicolon, by_none, Ending, first_ends}
+use Rattle.js_grammar.proofs.Statements.{by_semicolon, by_none, Ending, first_ends}
 use Rattle.js_grammar.proofs.Check.{check, checked}
 use Rattle.js_grammar.proofs.LexChecks.{name_here, punctuator_here, end_here}
 
@@ -54,9 +53,6 @@ unfolding rule rule_of
 sum_reads = reads sum_text sum_tree sum_lexemes sum_lexed refl
 
 -- The text `a`, LF, `(b)`.
-abbrev call_lexemes : Lexemes
-call_lexemes = next (lexeme_of Ident 0 1 false (codes "a")) (next (lexeme_of LParen 2 3 true []) (next (lexeme_of Ident 3 4 false (codes "b")) (next (lexeme_of RParen 4 5 false []) (last (lexeme_of Eof 5 5 false [])))))
-
 call_lexed : Lexes (Lex call_text) 0 call_lexemes
 unfolding keyword_of words is_longest punctuators
 call_lexed = (name_here call_text 0 0 1 refl, (punctuator_here call_text 1 1 LParen refl, (name_here call_text 3 0 1 refl, (punctuator_here call_text 4 0 RParen refl, end_here call_text 5 0 refl))))
@@ -77,15 +73,20 @@ pub semicolon_reads : IsReading semicolon_text semicolon_tree
 unfolding rule rule_of
 semicolon_reads = reads semicolon_text semicolon_tree semicolon_lexemes semicolon_lexed refl
 
--- The text `f(a) * -(b)`.
+-- The text `f(a) * -(b)`, and from its `-` on.
+abbrev negated_lexemes : Lexemes
+negated_lexemes = next (lexeme_of Minus 7 8 false []) (next (lexeme_of LParen 8 9 false []) (next (lexeme_of Ident 9 10 false (codes "b")) (next (lexeme_of RParen 10 11 false []) (last (lexeme_of Eof 11 11 false [])))))
+
 abbrev product_lexemes : Lexemes
-product_lexemes = next (lexeme_of Ident 0 1 false (codes "f")) (next (lexeme_of LParen 1 2 false []) (next (lexeme_of Ident 2 3 false (codes "a")) (next (lexeme_of RParen 3 4 false [])
-    (next (lexeme_of Star 5 6 false []) (next (lexeme_of Minus 7 8 false []) (next (lexeme_of LParen 8 9 false []) (next (lexeme_of Ident 9 10 false (codes "b")) (next (lexeme_of RParen 10 11 false []) (last (lexeme_of Eof 11 11 false []))))))))))
+product_lexemes = next (lexeme_of Ident 0 1 false (codes "f")) (next (lexeme_of LParen 1 2 false []) (next (lexeme_of Ident 2 3 false (codes "a")) (next (lexeme_of RParen 3 4 false []) (next (lexeme_of Star 5 6 false []) negated_lexemes))))
+
+negated_lexed : Lexes (Lex product_text) 6 negated_lexemes
+unfolding keyword_of words is_longest punctuators
+negated_lexed = (punctuator_here product_text 6 1 Minus refl, (punctuator_here product_text 8 0 LParen refl, (name_here product_text 9 0 1 refl, (punctuator_here product_text 10 0 RParen refl, end_here product_text 11 0 refl))))
 
 product_lexed : Lexes (Lex product_text) 0 product_lexemes
 unfolding keyword_of words is_longest punctuators
-product_lexed = (name_here product_text 0 0 1 refl, (punctuator_here product_text 1 0 LParen refl, (name_here product_text 2 0 1 refl, (punctuator_here product_text 3 0 RParen refl, (punctuator_here product_text 4 1 Star refl, (punctuator_here product_text 6 1 Minus refl,
-    (punctuator_here product_text 8 0 LParen refl, (name_here product_text 9 0 1 refl, (punctuator_here product_text 10 0 RParen refl, end_here product_text 11 0 refl)))))))))
+product_lexed = (name_here product_text 0 0 1 refl, (punctuator_here product_text 1 0 LParen refl, (name_here product_text 2 0 1 refl, (punctuator_here product_text 3 0 RParen refl, (punctuator_here product_text 4 1 Star refl, negated_lexed)))))
 
 pub product_reads : IsReading product_text product_tree
 unfolding rule rule_of
@@ -111,3 +112,6 @@ no_two ls rest j l d = no_place (first_ends (Lex call_text) script_flags d refl 
 
 pub call_is_one_statement : IsReading call_text two_statements → ⊥
 call_is_one_statement r = no_two r.lexemes _ r.end r.lexed r.derived
+
+pub no_two_derived : (j : ℕ) (rest : Lexemes) → Derives rule (at Program script_flags) two_statements 0 call_lexemes j rest → ⊥
+no_two_derived j rest d = no_two call_lexemes rest j call_lexed d

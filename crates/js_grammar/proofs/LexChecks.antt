@@ -1,15 +1,14 @@
 -- Lexemes of a given text, by computing.
-use Rattle.std.proofs.Common.{ℕ, zero, suc, ◌≡◌, ◌+◌, ◌-◌, ◌<◌, ◌≤◌, ◌⊎◌, inl, inr, Bool, true, false, not, ◌&&◌, ◌||◌, List, [], length, drop, refl, sym, ◌∙◌, subst, nat_eq, nat_le, arith, eqb-true}
-use Rattle.std.specs.Prelude.{slice_index, slice_range, nat_lt}
+use Rattle.std.proofs.Common.{ℕ, zero, suc, ◌≡◌, ◌+◌, ◌<◌, ◌≤◌, ◌⊎◌, inl, inr, Bool, true, false, not, ◌&&◌, ◌||◌, List, [], length, drop, refl, sym, subst, nat_eq, nat_le, arith, eqb-true}
+use Rattle.std.specs.Prelude.{slice_index, slice_range}
 use Rattle.std.proofs.lemmas.Bool.{and_parts, false≢true, leb-true, cases_order}
 use Rattle.js_base.specs.declared.kind.Kind.{Kind}
-use Rattle.js_base.specs.declared.kind.Kind.TheVariants.{Ident, Decimal, Eof}
+use Rattle.js_base.specs.declared.kind.Kind.TheVariants.{Ident, Eof}
 use Rattle.js_base.specs.Kinds.{same_kind, one_of_kinds}
 use Rattle.js_base.proofs.KindLemmas.{kind_of_same}
 use Rattle.js_base.specs.Texts.{text_of}
 use Rattle.js_base.specs.Keywords.{keyword_of}
-use Rattle.js_grammar.specs.Grammar.{Lexeme}
-use Rattle.js_grammar.specs.Lexing.{lexeme_of, is_newline, is_trivia, is_name_start, is_name_part, Run, Gap, IsName, is_longest, first_punctuators, IsPunctuator, Lex, a_name, a_punctuator, the_end}
+use Rattle.js_grammar.specs.Lexing.{lexeme_of, is_newline, is_trivia, is_name_start, is_name_part, Run, Gap, is_longest, first_punctuators, Lex, a_name, a_punctuator, the_end}
 
 -- the n bytes from i on pass the test
 abbrev pub passes_from : (ℕ → Bool) → List ℕ → ℕ → ℕ → Bool

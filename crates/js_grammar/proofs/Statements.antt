@@ -1,9 +1,9 @@
 -- What a derivation of Program says of its first statement.
-use Rattle.std.proofs.Common.{ℕ, ◌≡◌, false, IsTrue, refl, ap, ◌∙◌, subst, arith}
+use Rattle.std.proofs.Common.{ℕ, ◌≡◌, false, IsTrue, ap}
 use Rattle.js_base.specs.declared.kind.Kind.TheVariants.{Semicolon}
-use Rattle.js_grammar.specs.Trees.{expression_statement, empty_statement, Label, Slots, end, hole, tree}
-use Rattle.js_grammar.specs.Grammar.{Lexeme, Lexemes, last, next, here, seen, is, may_omit, Grammar, many, Takes, is_nothing, is_lexeme, is_look, is_text, is_ahead, is_empty_slot, is_seq, is_left, is_right, is_when, is_many, is_commas, is_such, is_marked, is_node, is_ended, is_keep, is_kept}
-use Rattle.js_grammar.specs.Table.{Flags, Symbol, rule, rule_of, Program, Item, Empty, ExprStmt, sym}
+use Rattle.js_grammar.specs.Trees.{expression_statement, empty_statement, Label, Slots, end, tree}
+use Rattle.js_grammar.specs.Grammar.{Lexeme, Lexemes, next, here, seen, is, may_omit, Grammar, many, Takes, is_nothing, is_lexeme, is_look, is_text, is_ahead, is_empty_slot, is_seq, is_left, is_right, is_when, is_many, is_commas, is_such, is_marked, is_node, is_ended, is_keep, is_kept}
+use Rattle.js_grammar.specs.Table.{Flags, rule, rule_of, Program, Item, Empty, ExprStmt, sym}
 use Rattle.js_grammar.specs.Insertion.{continues}
 use Rattle.js_grammar.specs.Lexing.{Lexes}
 use Rattle.js_grammar.proofs.Calculus.{label_is, slots_are}

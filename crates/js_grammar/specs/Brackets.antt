@@ -16,6 +16,7 @@ unfoldable pub pop : ℕ → List ℕ → Option (List ℕ)
 pop b [] = None
 pop b (c ∷ s) = cond (nat_eq b c) (Some s) None
 
+-- which bracket a kind is
 unfoldable pub bracket : Kind → Bracket
 bracket k = cond (same_kind LParen k) (opens 1) (cond (same_kind LBrack k) (opens 2) (cond (same_kind LCurly k) (opens 3) (cond (same_kind RParen k) (closes 1) (cond (same_kind RBrack k) (closes 2) (cond (same_kind RCurly k) (closes 3) plain)))))
 

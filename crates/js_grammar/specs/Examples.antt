@@ -1,8 +1,9 @@
 -- Worked examples: short texts, and their trees. Places are bytes.
-use Rattle.std.specs.Prelude.{ℕ, ◌≡◌, List, codes}
-use Rattle.js_base.specs.declared.kind.Kind.TheVariants.{Plus, Minus, Star}
+use Rattle.std.specs.Prelude.{ℕ, true, false, List, [], codes}
+use Rattle.js_base.specs.declared.kind.Kind.TheVariants.{LParen, RParen, Plus, Minus, Star, Ident, Eof}
 use Rattle.js_grammar.specs.Trees.{NodeKind, program, expression_statement, binary_expression, unary_expression, call_expression, parenthesized_expression, identifier_reference, Op, no_op, of, Label, Slots, end, tree, Tree}
-use Rattle.js_grammar.specs.Readings.{IsReading}
+use Rattle.js_grammar.specs.Grammar.{Lexemes, last, next}
+use Rattle.js_grammar.specs.Lexing.{lexeme_of}
 
 abbrev pub label : NodeKind → Op → ℕ → ℕ → Label
 label k o a b = record { kind = k; op = o; flags = 0; span = record { from = a; to = b } }
@@ -32,6 +33,10 @@ call_text = codes "a\n(b)"
 
 abbrev pub call_tree : Tree
 call_tree = whole 5 (statement 0 5 (tree (label call_expression no_op 0 5) (name 0 1 (name 3 4 end)) end) end)
+
+-- its lexemes
+abbrev pub call_lexemes : Lexemes
+call_lexemes = next (lexeme_of Ident 0 1 false (codes "a")) (next (lexeme_of LParen 2 3 true []) (next (lexeme_of Ident 3 4 false (codes "b")) (next (lexeme_of RParen 4 5 false []) (last (lexeme_of Eof 5 5 false [])))))
 
 -- and what it is not: two statements, `a` and `(b)`
 abbrev pub two_statements : Tree

@@ -1,16 +1,16 @@
 -- Laws about the definitions of this crate: each is the contract of a function of the module `laws`.
-use Rattle.std.specs.Prelude.{ℕ, ◌≡◌, false, List, [], ◌∷◌, IsTrue}
+use Rattle.std.specs.Prelude.{ℕ, ◌≡◌, ◌⊎◌, false, List, [], ◌∷◌, IsTrue}
 use Rattle.js_base.specs.declared.kind.Kind.TheVariants.{RCurly, Plus2, Minus2}
 use Rattle.js_base.specs.Kinds.{same_kind, one_of_kinds}
 use Rattle.js_grammar.specs.Trees.{Slots, Tree}
 use Rattle.js_grammar.specs.Grammar.{Lexeme, Lexemes, here, seen, may_omit, Derives}
-use Rattle.js_grammar.specs.Table.{Symbol, rule}
+use Rattle.js_grammar.specs.Table.{Flags, Symbol, rule, at, Program, Item, script_flags}
 use Rattle.js_grammar.specs.Insertion.{after_expression, permitted_core}
 use Rattle.js_grammar.specs.Lexing.{Lex}
 use Rattle.js_grammar.specs.Readings.{IsReading}
 use Rattle.js_grammar.specs.Brackets.{Runs}
 use Rattle.js_grammar.specs.FirstSets.{first}
-use Rattle.js_grammar.specs.Examples.{sum_text, sum_tree, call_text, call_tree, two_statements, semicolon_text, semicolon_tree, product_text, product_tree}
+use Rattle.js_grammar.specs.Examples.{sum_text, sum_tree, call_text, call_tree, call_lexemes, two_statements, semicolon_text, semicolon_tree, product_text, product_tree}
 
 -- One lexeme at the most stands behind a place of a text (ECMA-262, chapter 12).
 abbrev pub OneLexeme : Type 0
@@ -23,6 +23,10 @@ BracketsMatch = (n : Symbol) (t : Tree) (i j : ℕ) (ls rest : Lexemes) → Deri
 -- Each derivation of a nonterminal begins with a lexeme of its first set.
 abbrev pub BeginsWithFirst : Type 0
 BeginsWithFirst = (n : Symbol) (t : Tree) (i j : ℕ) (ls rest : Lexemes) → Derives rule n t i ls j rest → IsTrue (seen (first n) (here ls))
+
+-- A derivation of Program takes no lexeme, or begins with one that begins a statement.
+abbrev pub ProgramBegins : Type 0
+ProgramBegins = (f : Flags) (t : Tree) (i j : ℕ) (ls rest : Lexemes) → Derives rule (at Program f) t i ls j rest → (ls ≡ rest) ⊎ IsTrue (seen (first (at Item f)) (here ls))
 
 -- Behind a lexeme that is no `++` or `--` and before one that is no `}`, the table lets a semicolon be left out (12.10) exactly where the rule by these two lexemes does.
 abbrev pub OmissionAgrees : Type 0
@@ -40,6 +44,10 @@ CallGoesOn = IsReading call_text call_tree
 -- and not two statements.
 abbrev pub CallIsOneStatement : Type 0
 CallIsOneStatement = IsReading call_text two_statements → ⊥
+
+-- Nor has any derivation from its lexemes these two statements, wherever it ends.
+abbrev pub CallLexemesAreOneStatement : Type 0
+CallLexemesAreOneStatement = (j : ℕ) (rest : Lexemes) → Derives rule (at Program script_flags) two_statements 0 call_lexemes j rest → ⊥
 
 -- The text `a`, LF, `;` is one statement that ends with its semicolon, not one with an empty statement behind it.
 abbrev pub SemicolonEnds : Type 0
