@@ -1,5 +1,5 @@
 -- The worked examples: readings that the checkers find, and a tree that is none.
-use Rattle.std.proofs.Common.{ℕ, ◌≡◌, ◌<◌, ◌≤◌, Bool, true, false, not, IsTrue, List, [], refl, ap, ◌∙◌, subst, arith}
+use Rattle.std.proofs.Common.{ℕ, ◌≡◌, ◌<◌, ◌≤◌, ◌⊎◌, inl, inr, Bool, true, false, not, List, [], refl, ap, sym, ◌∙◌, subst, arith}
 use Rattle.std.specs.Prelude.{codes}
 use Rattle.std.proofs.lemmas.Bool.{and_parts, false≢true}
 use Rattle.js_base.specs.declared.kind.Kind.TheVariants.{LParen, RParen, Semicolon, Plus, Minus, Star, Ident, Eof}
@@ -7,8 +7,8 @@ use Rattle.js_base.specs.Kinds.{same_kind}
 use Rattle.js_base.proofs.KindLemmas.{kind_of_same}
 use Rattle.js_base.specs.Texts.{punctuators, words}
 use Rattle.js_base.specs.Keywords.{keyword_of}
-use Rattle.js_grammar.specs.Trees.{Label, Tree}
-use Rattle.js_grammar.specs.Grammar.{Lexemes, last, next, here, seen, may_omit, Derives}
+use Rattle.js_grammar.specs.Trees.{expression_statement, Label, Slots, tree, Tree}
+use Rattle.js_grammar.specs.Grammar.{Lexeme, Lexemes, last, next, here, seen, may_omit, Derives}
 use Rattle.js_grammar.specs.Table.{rule, rule_of, at, Program, script_flags}
 use Rattle.js_grammar.specs.Insertion.{continues}
 use Rattle.js_grammar.specs.Lexing.{lexeme_of, Lex, Lexes, is_longest}
@@ -92,26 +92,35 @@ pub product_reads : IsReading product_text product_tree
 unfolding rule rule_of
 product_reads = reads product_text product_tree product_lexemes product_lexed refl
 
--- In the text `a`, LF, `(b)` no expression statement ends behind `a`: there a `(` stands on a new line, which goes on.
-no_place : Ending (Lex call_text) script_flags 1 → ⊥
-no_place (j, next x ls, l, by_semicolon p e) =
-    let k : Semicolon ≡ x.kind = kind_of_same Semicolon x.kind (and_parts (same_kind Semicolon x.kind) (not x.escaped) p).0 in
-    let y = placed l.0 in
-    let b : j ≤ x.from = y.behind in
-    let w : x.from < x.to = y.further (λ q. differ Semicolon Eof refl (k ∙ q)) in
-    let z : j ≡ 0 = omega arith in
-    let q : x ≡ lexeme_of Ident 0 1 false (codes "a") = one_lexeme (subst (λ v. Lex call_text v x) z l.0) call_lexed.0 in
-    differ Semicolon Ident refl (k ∙ ap (λ v. v.kind) q)
-no_place (j, ls, l, by_none p e) =
-    let q : here ls ≡ lexeme_of LParen 2 3 true [] = one_lexeme (subst (λ v. Lex call_text v (here ls)) e (here_at (Lex call_text) ls l)) call_lexed.1.0 in
-    false≢true (subst (λ v. IsTrue (seen (may_omit (continues false)) v)) q p)
+-- Where a text begins with the name `a` and behind it there stands what no semicolon may be left out before, no expression statement ends behind `a`.
+module _ (text : List ℕ) (y : Lexeme) (one : Lex text 0 (lexeme_of Ident 0 1 false (codes "a"))) (two : Lex text 1 y) (goes_on : seen (may_omit (continues false)) y ≡ false) where
+  no_place : Ending (Lex text) script_flags 1 → ⊥
+  no_place (j, next x ls, l, by_semicolon p e) =
+      let k : Semicolon ≡ x.kind = kind_of_same Semicolon x.kind (and_parts (same_kind Semicolon x.kind) (not x.escaped) p).0 in
+      let y = placed l.0 in
+      let b : j ≤ x.from = y.behind in
+      let w : x.from < x.to = y.further (λ q. differ Semicolon Eof refl (k ∙ q)) in
+      let z : j ≡ 0 = omega arith in
+      let q : x ≡ lexeme_of Ident 0 1 false (codes "a") = one_lexeme (subst (λ v. Lex text v x) z l.0) one in
+      differ Semicolon Ident refl (k ∙ ap (λ v. v.kind) q)
+  no_place (j, ls, l, by_none p e) =
+      let q : here ls ≡ y = one_lexeme (subst (λ v. Lex text v (here ls)) e (here_at (Lex text) ls l)) two in
+      false≢true (sym goes_on ∙ subst (λ v. seen (may_omit (continues false)) v ≡ true) q p)
 
--- So none of its derivations has the two statements `a` and `(b)`.
-no_two : (ls rest : Lexemes) (j : ℕ) → Lexes (Lex call_text) 0 ls → Derives rule (at Program script_flags) two_statements 0 ls j rest → ⊥
-no_two ls rest j l d = no_place (first_ends (Lex call_text) script_flags d refl refl l)
+  none_early : (ls rest : Lexemes) (j : ℕ) (l m : Label) (slots more : Slots) → Lexes (Lex text) 0 ls → Derives rule (at Program script_flags) (record { label = l; slots = tree m slots more }) 0 ls j rest → m.kind ≡ expression_statement → m.span.to ≡ 1 → ⊥
+  none_early ls rest j l m slots more lx d k e = no_place (subst (Ending (Lex text) script_flags) e (first_ends (Lex text) script_flags d refl k lx))
 
+  none_read : (l m : Label) (slots more : Slots) → IsReading text (record { label = l; slots = tree m slots more }) → m.kind ≡ expression_statement → m.span.to ≡ 1 → ⊥
+  none_read l m slots more r k e = none_early r.lexemes _ r.end l m slots more r.lexed r.derived k e
+
+pub none_ends_early : (text : List ℕ) → (text ≡ sum_text) ⊎ ((text ≡ call_text) ⊎ (text ≡ semicolon_text)) → (l m : Label) (slots more : Slots) → IsReading text (record { label = l; slots = tree m slots more }) → m.kind ≡ expression_statement → m.span.to ≡ 1 → ⊥
+none_ends_early text (inl q) l m slots more r = none_read sum_text _ sum_lexed.0 sum_lexed.1.0 refl l m slots more (subst (λ v. IsReading v (record { label = l; slots = tree m slots more })) q r)
+none_ends_early text (inr (inl q)) l m slots more r = none_read call_text _ call_lexed.0 call_lexed.1.0 refl l m slots more (subst (λ v. IsReading v (record { label = l; slots = tree m slots more })) q r)
+none_ends_early text (inr (inr q)) l m slots more r = none_read semicolon_text _ semicolon_lexed.0 semicolon_lexed.1.0 refl l m slots more (subst (λ v. IsReading v (record { label = l; slots = tree m slots more })) q r)
+
+-- So the text `a`, LF, `(b)` isn't the two statements `a` and `(b)`.
 pub call_is_one_statement : IsReading call_text two_statements → ⊥
-call_is_one_statement r = no_two r.lexemes _ r.end r.lexed r.derived
+call_is_one_statement r = none_ends_early call_text (inr (inl refl)) _ _ _ _ r refl refl
 
 pub no_two_derived : (j : ℕ) (rest : Lexemes) → Derives rule (at Program script_flags) two_statements 0 call_lexemes j rest → ⊥
-no_two_derived j rest d = no_two call_lexemes rest j call_lexed d
+no_two_derived j rest d = none_early call_text _ call_lexed.0 call_lexed.1.0 refl call_lexemes rest j _ _ _ _ call_lexed d refl refl

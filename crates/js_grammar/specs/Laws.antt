@@ -2,7 +2,7 @@
 use Rattle.std.specs.Prelude.{ℕ, ◌≡◌, ◌⊎◌, false, List, [], ◌∷◌, IsTrue}
 use Rattle.js_base.specs.declared.kind.Kind.TheVariants.{RCurly, Plus2, Minus2}
 use Rattle.js_base.specs.Kinds.{same_kind, one_of_kinds}
-use Rattle.js_grammar.specs.Trees.{Slots, Tree}
+use Rattle.js_grammar.specs.Trees.{expression_statement, Label, Slots, tree, Tree}
 use Rattle.js_grammar.specs.Grammar.{Lexeme, Lexemes, here, seen, may_omit, Derives}
 use Rattle.js_grammar.specs.Table.{Flags, Symbol, rule, at, Program, Item, script_flags}
 use Rattle.js_grammar.specs.Insertion.{after_expression, permitted_core}
@@ -20,7 +20,7 @@ OneLexeme = (text : List ℕ) (place : ℕ) (x y : Lexeme) → Lex text place x 
 abbrev pub BracketsMatch : Type 0
 BracketsMatch = (n : Symbol) (t : Tree) (i j : ℕ) (ls rest : Lexemes) → Derives rule n t i ls j rest → (open_ones : List ℕ) → Runs open_ones ls open_ones rest
 
--- Each derivation of a nonterminal begins with a lexeme of its first set.
+-- Each derivation of a nonterminal begins with a lexeme of its first set. (Program may have no lexeme, and what stands behind it may be any; the next law says more of it.)
 abbrev pub BeginsWithFirst : Type 0
 BeginsWithFirst = (n : Symbol) (t : Tree) (i j : ℕ) (ls rest : Lexemes) → Derives rule n t i ls j rest → IsTrue (seen (first n) (here ls))
 
@@ -49,10 +49,14 @@ CallIsOneStatement = IsReading call_text two_statements → ⊥
 abbrev pub CallLexemesAreOneStatement : Type 0
 CallLexemesAreOneStatement = (j : ℕ) (rest : Lexemes) → Derives rule (at Program script_flags) two_statements 0 call_lexemes j rest → ⊥
 
--- The text `a`, LF, `;` is one statement that ends with its semicolon, not one with an empty statement behind it.
+-- The text `a`, LF, `;` is one statement, which ends with its semicolon.
 abbrev pub SemicolonEnds : Type 0
 SemicolonEnds = IsReading semicolon_text semicolon_tree
 
 -- The text `f(a) * -(b)` is the product of a call and a negated expression in parentheses.
 abbrev pub ProductReads : Type 0
 ProductReads = IsReading product_text product_tree
+
+-- In none of these texts of two lines does a statement end behind the `a` that they begin with: no reading has a first statement that is an expression statement and ends at byte 1.
+abbrev pub NoneEndsEarly : Type 0
+NoneEndsEarly = (text : List ℕ) → (text ≡ sum_text) ⊎ ((text ≡ call_text) ⊎ (text ≡ semicolon_text)) → (l m : Label) (slots more : Slots) → IsReading text (record { label = l; slots = tree m slots more }) → m.kind ≡ expression_statement → m.span.to ≡ 1 → ⊥

@@ -1,6 +1,6 @@
 //! Laws about the definitions in `specs/`: each function's contract is one, and its call computes nothing.
 
-ghost use Rattle.js_grammar.specs.Laws.{OneLexeme, BracketsMatch, BeginsWithFirst, ProgramBegins, OmissionAgrees, SumGoesOn, CallGoesOn, CallIsOneStatement, CallLexemesAreOneStatement, SemicolonEnds, ProductReads};
+ghost use Rattle.js_grammar.specs.Laws.{OneLexeme, BracketsMatch, BeginsWithFirst, ProgramBegins, OmissionAgrees, SumGoesOn, CallGoesOn, CallIsOneStatement, CallLexemesAreOneStatement, SemicolonEnds, ProductReads, NoneEndsEarly};
 
 /// At most one lexeme stands behind a place of a text.
 pub fn law_one_lexeme()
@@ -55,4 +55,9 @@ pub fn law_semicolon_ends()
 /// `f(a) * -(b)` is a product.
 pub fn law_product_reads()
     ensures { ProductReads }
+{}
+
+/// In `a`, LF, and `+ b`, `(b)` or `;` no statement ends behind `a`.
+pub fn law_none_ends_early()
+    ensures { NoneEndsEarly }
 {}
