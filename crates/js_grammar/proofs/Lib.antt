@@ -5,3 +5,10 @@ pub mod Towers
 pub mod Loops
 pub mod Operators
 pub mod Lexemes
+pub mod Same
+pub mod Check
+pub mod Matched
+pub mod LexChecks
+pub mod Statements
+pub mod Examples
+pub mod Omission

@@ -8,3 +8,7 @@ pub mod Parsing
 pub mod Lines
 pub mod Settings
 pub mod Readings
+pub mod FirstSets
+pub mod Brackets
+pub mod Examples
+pub mod Laws
