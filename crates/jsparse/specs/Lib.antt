@@ -1,1 +1,5 @@
 pub mod Holding
+pub mod Ends
+pub mod Statuses
+pub mod Words
+pub mod Runs

@@ -1,0 +1,151 @@
+-- What a run answers, and why. A source or a sink tells its bytes or not; where it doesn't, nothing is said of them.
+use Rattle.std.specs.Prelude.{ℕ, Bool,  ◌≡◌, ◌+◌, ◌<◌, ◌≤◌, ◌⊎◌, List, [], ◌++◌, length, Option, Some}
+use Rattle.std.specs.Str.{IsUtf8}
+use Rattle.std.specs.Io.KnownBytes.{Consumes, Appends, IsAtEnd}
+use Rattle.jsparse.specs.declared.status.Status.{Status}
+use Rattle.jsparse.specs.declared.status.Status.TheVariants.{Ok, Refused, Usage, ReadFault, WriteFault, NoMemory, NotUtf8, TooLong}
+use Rattle.jsparse.specs.Ends.{IsFault}
+use Rattle.jsparse.specs.Words.{NoneAdmitted}
+use Rattle.js_grammar.specs.Settings.{Settings, Admitted}
+use Rattle.js_grammar.specs.Readings.{Accepts, Refuses, Gives}
+
+-- the greatest number of bytes of a text
+abbrev pub limit : ℕ
+limit = 67108864
+
+-- The source gave these bytes, and has no more.
+pub record Gave (given left : Option (List ℕ)) (text : List ℕ) : Type 0 where
+  pub read : Consumes given left text
+  pub ended : IsAtEnd left
+
+-- The bytes are a text that is short enough.
+pub record IsText (text : List ℕ) : Type 0 where
+  pub short : length text ≤ limit
+  pub utf8 : IsUtf8 text
+
+-- The source gave a text, and all that is put out for it was written.
+pub record Answered (Puts : List ℕ → List ℕ → Type 0) (given left before after : Option (List ℕ)) : Type 0 where
+  pub text : List ℕ
+  pub out : List ℕ
+  pub gave : Gave given left text
+  pub is_text : IsText text
+  pub puts : Puts text out
+  pub written : Appends before after out
+
+-- The source gave a text, and the sink failed after a front of what is put out for it.
+pub record BrokeOff (given left before after : Option (List ℕ)) (faults faults_after : ℕ) : Type 0 where
+  pub text : List ℕ
+  pub front : List ℕ
+  pub rest : List ℕ
+  pub gave : Gave given left text
+  pub is_text : IsText text
+  pub puts : Accepts text (front ++ rest) ⊎ Refuses text (front ++ rest)
+  pub written : Appends before after front
+  pub fault : IsFault faults faults_after
+
+-- The source gave bytes that are not UTF-8, and not too many.
+pub record IsNoText (given left : Option (List ℕ)) : Type 0 where
+  pub bytes : List ℕ
+  pub gave : Gave given left bytes
+  pub short : length bytes ≤ limit
+  pub not_utf8 : IsUtf8 bytes → ⊥
+
+-- The source gave one byte more than a text may have, and was asked no further.
+pub record IsLong (given left : Option (List ℕ)) : Type 0 where
+  pub bytes : List ℕ
+  pub read : Consumes given left bytes
+  pub long : length bytes ≡ limit + 1
+
+-- Why a run ended before a text was made, or why not: the bytes of the source at first and in the end, and its faults.
+abbrev pub StopCause : Status → Option (List ℕ) → Option (List ℕ) → ℕ → ℕ → Type 0
+StopCause ReadFault given left faults faults_after = IsFault faults faults_after
+StopCause NoMemory given left faults faults_after = Unit {0}
+StopCause NotUtf8 given left faults faults_after = IsNoText given left
+StopCause TooLong given left faults faults_after = IsLong given left
+StopCause _ given left faults faults_after = ⊥
+
+-- One read put its bytes behind those that were there: n of them, and none only at the end.
+pub record ReadPiece (given left : Option (List ℕ)) (old new : List ℕ) (n : ℕ) : Type 0 where
+  pub piece : List ℕ
+  pub read : Consumes given left piece
+  pub put : new ≡ old ++ piece
+  pub count : length piece ≡ n
+  pub few : length new ≤ limit + 1
+  pub end : n ≡ 0 → IsAtEnd left
+
+-- A text was read, and this is what is put out for it.
+pub record Made (given left : Option (List ℕ)) (refused : Bool) (out : List ℕ) : Type 0 where
+  pub text : List ℕ
+  pub gave : Gave given left text
+  pub is_text : IsText text
+  pub gives : Gives text refused out
+
+-- The sink took a front of these bytes, and failed.
+pub record TookFront (before after : Option (List ℕ)) (out : List ℕ) : Type 0 where
+  pub front : List ℕ
+  pub rest : List ℕ
+  pub parts : out ≡ front ++ rest
+  pub took : Appends before after front
+
+-- what a source tells before and after, and what a sink does
+pub record Told : Type 0 where
+  pub given : Option (List ℕ)
+  pub left : Option (List ℕ)
+  pub read_faults : ℕ
+  pub read_faults_after : ℕ
+  pub before : Option (List ℕ)
+  pub after : Option (List ℕ)
+  pub write_faults : ℕ
+  pub write_faults_after : ℕ
+
+-- Each status has its cause.
+abbrev pub HasCause : Status → Told → Type 0
+HasCause Ok t = Answered Accepts t.given t.left t.before t.after
+HasCause Refused t = Answered Refuses t.given t.left t.before t.after
+HasCause Usage t = Unit {0}
+HasCause ReadFault t = IsFault t.read_faults t.read_faults_after
+HasCause WriteFault t = BrokeOff t.given t.left t.before t.after t.write_faults t.write_faults_after
+HasCause NoMemory t = Unit {0}
+HasCause NotUtf8 t = IsNoText t.given t.left
+HasCause TooLong t = IsLong t.given t.left
+
+-- `Usage` comes exactly where no settings are admitted.
+abbrev pub FitsWords : Status → List (List ℕ) → Type 0
+FitsWords Usage words = NoneAdmitted words
+FitsWords _ words = (s : Settings) × Admitted words s
+
+-- A status that tells of a refusal before the output leaves the sink as it was.
+abbrev pub LeavesSink : {K : Type 0} → Status → K → K → Type 0
+LeavesSink Ok old new = Unit {0}
+LeavesSink Refused old new = Unit {0}
+LeavesSink WriteFault old new = Unit {0}
+LeavesSink _ old new = new ≡ old
+
+-- `Usage` leaves the source as it was.
+abbrev pub LeavesSource : {S : Type 0} → Status → S → S → Type 0
+LeavesSource Usage old new = new ≡ old
+LeavesSource _ old new = Unit {0}
+
+-- No byte after the first that is too many is read.
+pub record ReadsUpTo (most : ℕ) (given left : Option (List ℕ)) : Type 0 where
+  pub bytes : List ℕ
+  pub read : Consumes given left bytes
+  pub few : length bytes ≤ most
+
+-- Refusals that may come before the text is known: of the words, of the source, of memory.
+abbrev pub ComesBefore : Status → Type 0
+ComesBefore Usage = Unit {0}
+ComesBefore ReadFault = Unit {0}
+ComesBefore NoMemory = Unit {0}
+ComesBefore _ = ⊥
+
+-- what a run puts out where the source gives this text and some settings are admitted
+abbrev pub Writes : Status → List ℕ → Told → Type 0
+Writes Ok text t = (out : List ℕ) × Accepts text out × Appends t.before t.after out × (t.left ≡ Some [])
+Writes Refused text t = (out : List ℕ) × Refuses text out × Appends t.before t.after out × (t.left ≡ Some [])
+Writes Usage text t = ⊥
+Writes ReadFault text t = IsFault t.read_faults t.read_faults_after
+Writes WriteFault text t = (front : List ℕ) × (rest : List ℕ) × (Accepts text (front ++ rest) ⊎ Refuses text (front ++ rest)) × Appends t.before t.after front × IsFault t.write_faults t.write_faults_after
+Writes NoMemory text t = Unit {0}
+Writes NotUtf8 text t = ⊥
+Writes TooLong text t = ⊥
