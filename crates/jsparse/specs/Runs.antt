@@ -56,6 +56,12 @@ pub record IsLong (given left : Option (List ℕ)) : Type 0 where
   pub read : Consumes given left bytes
   pub long : length bytes ≡ limit + 1
 
+-- why a read ended the reading: the faults of the source before it and after it
+abbrev pub ReadCause : Status → ℕ → ℕ → Type 0
+ReadCause ReadFault faults faults_after = IsFault faults faults_after
+ReadCause NoMemory faults faults_after = Unit {0}
+ReadCause _ faults faults_after = ⊥
+
 -- Why a run ended before a text was made, or why not: the bytes of the source at first and in the end, and its faults.
 abbrev pub StopCause : Status → Option (List ℕ) → Option (List ℕ) → ℕ → ℕ → Type 0
 StopCause ReadFault given left faults faults_after = IsFault faults faults_after

@@ -5,13 +5,13 @@ ghost use Rattle.std.specs.Str.{IsUtf8};
 ghost use Rattle.std.specs.Io.KnownBytes.{Consumes, Appends, IsAtEnd};
 ghost use Rattle.js_grammar.specs.Settings.{Settings, Admitted};
 ghost use Rattle.jsparse.specs.Ends.{IsFault};
-ghost use Rattle.jsparse.specs.Runs.{limit, ReadPiece, StopCause, ReadsUpTo, Gave, Made, TookFront, Told, HasCause, FitsWords, LeavesSink, LeavesSource, ComesBefore, Writes};
+ghost use Rattle.jsparse.specs.Runs.{limit, ReadPiece, ReadCause, StopCause, ReadsUpTo, Gave, Made, TookFront, Told, HasCause, FitsWords, LeavesSink, LeavesSource, ComesBefore, Writes};
 
 use crate::answer::{Answer, answer_to};
 use crate::ends::{Failed, Sink, Source};
 use crate::status::Status;
 use crate::words::{WordsError, read_words};
-use std::alloc::Global;
+use std::alloc::{AllocError, Global};
 
 /// The greatest number of bytes of a text.
 const LIMIT: usize = 67_108_864;
@@ -19,12 +19,19 @@ const LIMIT: usize = 67_108_864;
 /// The greatest number of bytes that a read asks for.
 const PIECE: usize = 65_536;
 
+/// So many zeros.
+fn zeros(alloc: Global, len: usize) -> Result<Vec<u8>, AllocError>
+    ensures { IfOk result (λ v. vec_len v ≡ len) }
+{
+    vec![in alloc; 0u8; len]
+}
+
 /// Reads once, and puts what was read behind `bytes`. At most one byte more than the limit is read.
 fn read_piece<S: Source>(source: &mut S, buffer: &mut [u8], bytes: &mut Vec<u8>) -> Result<usize, Status>
     requires room { vec_len bytes.old ≤ limit }
     requires buffer { length buffer.old ≡ 65536 }
     ensures ok { IfOk result (λ n. ReadPiece (S.remaining source.old) (S.remaining source.new) bytes.old.items bytes.new.items n) }
-    ensures stopped { IfErr result (λ status. StopCause status (S.remaining source.old) (S.remaining source.new) (S.faults source.old) (S.faults source.new)) }
+    ensures stopped { IfErr result (λ status. ReadCause status (S.faults source.old) (S.faults source.new)) }
     ensures reads { ReadsUpTo (limit + 1 - vec_len bytes.old) (S.remaining source.old) (S.remaining source.new) }
     ensures counts { S.faults source.old ≤ S.faults source.new }
 {
@@ -45,13 +52,15 @@ fn read_all<S: Source>(alloc: Global, source: &mut S) -> Result<Vec<u8>, Status>
     ensures reads { ReadsUpTo (limit + 1) (S.remaining source.old) (S.remaining source.new) }
     ensures counts { S.faults source.old ≤ S.faults source.new }
 {
-    let Ok(mut buffer) = vec![in alloc; 0u8; PIECE] else {
+    let Ok(mut buffer) = zeros(alloc, PIECE) else {
         return Err(Status::NoMemory);
     };
     let mut bytes = Vec::new(alloc);
     while bytes.len() <= LIMIT {
-        if read_piece(source, &mut buffer, &mut bytes)? == 0 {
-            return Ok(bytes);
+        match read_piece(source, &mut buffer, &mut bytes) {
+            Ok(0) => return Ok(bytes),
+            Ok(_) => {}
+            Err(status) => return Err(status),
         }
     }
     Err(Status::TooLong)
@@ -83,7 +92,10 @@ fn write_all<K: Sink>(sink: &mut K, out: &[u8]) -> Result<(), Failed>
 {
     let mut done = 0;
     while done < out.len() {
-        done += sink.write(&out[done..])?;
+        match sink.write(&out[done..]) {
+            Ok(n) => done += n,
+            Err(failed) => return Err(failed),
+        }
     }
     Ok(())
 }

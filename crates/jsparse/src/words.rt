@@ -40,7 +40,12 @@ pub enum WordsError {
 fn is_script(words: &Vec<String>) -> bool
     ensures { IsTrue result ↔ (map string_bytes words.now.items ≡ codes "--goal" ∷ codes "script" ∷ []) }
 {
-    words.len() == 2 && words[0].as_str() == "--goal" && words[1].as_str() == "script"
+    if words.len() != 2 {
+        return false;
+    }
+    let option = words[0].as_str();
+    let value = words[1].as_str();
+    option == "--goal" && value == "script"
 }
 
 /// Reads the words after the program's name.
