@@ -1,5 +1,5 @@
 -- What a run answers, and why. A source or a sink tells its bytes or not; where it doesn't, nothing is said of them.
-use Rattle.std.specs.Prelude.{ℕ, Bool,  ◌≡◌, ◌+◌, ◌<◌, ◌≤◌, ◌⊎◌, List, [], ◌++◌, length, Option, Some}
+use Rattle.std.specs.Prelude.{ℕ, Bool, true, false,  ◌≡◌, ◌+◌, ◌<◌, ◌≤◌, ◌⊎◌, List, [], ◌++◌, length, Option, Some}
 use Rattle.std.specs.Str.{IsUtf8}
 use Rattle.std.specs.Io.KnownBytes.{Consumes, Appends, IsAtEnd}
 use Rattle.jsparse.specs.declared.status.Status.{Status}
@@ -93,7 +93,14 @@ pub record TookFront (before after : Option (List ℕ)) (out : List ℕ) : Type 
   pub parts : out ≡ front ++ rest
   pub took : Appends before after front
 
--- what a source tells before and after, and what a sink does
+-- how the writing of an output ended, which tells of a text that is refused or not
+abbrev pub PutCause : Status → Bool → List ℕ → Option (List ℕ) → Option (List ℕ) → ℕ → ℕ → Type 0
+PutCause Ok refused out before after faults faults_after = (refused ≡ false) × Appends before after out
+PutCause Refused refused out before after faults faults_after = (refused ≡ true) × Appends before after out
+PutCause WriteFault refused out before after faults faults_after = TookFront before after out × IsFault faults faults_after
+PutCause _ refused out before after faults faults_after = ⊥
+
+-- What the ends of a run tell: the source's bytes and faults at first and in the end, the sink's bytes and faults at first and in the end.
 pub record Told : Type 0 where
   pub given : Option (List ℕ)
   pub left : Option (List ℕ)
@@ -103,6 +110,9 @@ pub record Told : Type 0 where
   pub after : Option (List ℕ)
   pub write_faults : ℕ
   pub write_faults_after : ℕ
+
+abbrev pub told : {S K : Type 0} → (S → Option (List ℕ)) → (S → ℕ) → (K → Option (List ℕ)) → (K → ℕ) → S → S → K → K → Told
+told remaining read_faults taken write_faults source source_after sink sink_after = record { given = remaining source; left = remaining source_after; read_faults = read_faults source; read_faults_after = read_faults source_after; before = taken sink; after = taken sink_after; write_faults = write_faults sink; write_faults_after = write_faults sink_after }
 
 -- Each status has its cause.
 abbrev pub HasCause : Status → Told → Type 0
@@ -138,20 +148,20 @@ pub record ReadsUpTo (most : ℕ) (given left : Option (List ℕ)) : Type 0 wher
   pub read : Consumes given left bytes
   pub few : length bytes ≤ most
 
--- Refusals that may come before the text is known: of the words, of the source, of memory.
+-- refusals that may come before the text is known: of the words, of the source, of memory
 abbrev pub ComesBefore : Status → Type 0
 ComesBefore Usage = Unit {0}
 ComesBefore ReadFault = Unit {0}
 ComesBefore NoMemory = Unit {0}
 ComesBefore _ = ⊥
 
--- what a run puts out where the source gives this text and some settings are admitted
-abbrev pub Writes : Status → List ℕ → Told → Type 0
-Writes Ok text t = (out : List ℕ) × Accepts text out × Appends t.before t.after out × (t.left ≡ Some [])
-Writes Refused text t = (out : List ℕ) × Refuses text out × Appends t.before t.after out × (t.left ≡ Some [])
-Writes Usage text t = ⊥
-Writes ReadFault text t = IsFault t.read_faults t.read_faults_after
-Writes WriteFault text t = (front : List ℕ) × (rest : List ℕ) × (Accepts text (front ++ rest) ⊎ Refuses text (front ++ rest)) × Appends t.before t.after front × IsFault t.write_faults t.write_faults_after
-Writes NoMemory text t = Unit {0}
-Writes NotUtf8 text t = ⊥
-Writes TooLong text t = ⊥
+-- What a run answers where some settings are admitted and the source tells this text: 0 with the lines of its one reading, 1 with diagnostics where it has none, 3 or 4 at a fault of the source or of the sink, 5 where memory is refused, and nothing else.
+abbrev pub IsAnswerTo : List ℕ → Told → Status → Type 0
+IsAnswerTo text t Ok = (out : List ℕ) × Accepts text out × Appends t.before t.after out × (t.left ≡ Some [])
+IsAnswerTo text t Refused = (out : List ℕ) × Refuses text out × Appends t.before t.after out × (t.left ≡ Some [])
+IsAnswerTo text t Usage = ⊥
+IsAnswerTo text t ReadFault = IsFault t.read_faults t.read_faults_after
+IsAnswerTo text t WriteFault = (front : List ℕ) × (rest : List ℕ) × (Accepts text (front ++ rest) ⊎ Refuses text (front ++ rest)) × Appends t.before t.after front × IsFault t.write_faults t.write_faults_after
+IsAnswerTo text t NoMemory = Unit {0}
+IsAnswerTo text t NotUtf8 = ⊥
+IsAnswerTo text t TooLong = ⊥

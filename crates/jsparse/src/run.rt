@@ -5,7 +5,7 @@ ghost use Rattle.std.specs.Str.{IsUtf8};
 ghost use Rattle.std.specs.Io.KnownBytes.{Consumes, Appends, IsAtEnd};
 ghost use Rattle.js_grammar.specs.Settings.{Settings, Admitted};
 ghost use Rattle.jsparse.specs.Ends.{IsFault};
-ghost use Rattle.jsparse.specs.Runs.{limit, ReadPiece, ReadCause, StopCause, ReadsUpTo, Gave, Made, TookFront, Told, HasCause, FitsWords, LeavesSink, LeavesSource, ComesBefore, Writes};
+ghost use Rattle.jsparse.specs.Runs.{limit, ReadPiece, ReadCause, StopCause, ReadsUpTo, Gave, Made, TookFront, PutCause, told, HasCause, FitsWords, LeavesSink, LeavesSource, ComesBefore, IsAnswerTo, IsText};
 
 use crate::answer::{Answer, answer_to};
 use crate::ends::{Failed, Sink, Source};
@@ -100,14 +100,30 @@ fn write_all<K: Sink>(sink: &mut K, out: &[u8]) -> Result<(), Failed>
     Ok(())
 }
 
-/// Runs the program: reads the words, reads the source's text, and writes what is put out for it.
-pub fn run<S: Source, K: Sink>(
+/// Writes what is put out for a text.
+fn put<K: Sink>(sink: &mut K, made: &Answer) -> Status
+    ensures cause { PutCause result made.now.refused made.now.output.items (K.taken sink.old) (K.taken sink.new) (K.faults sink.old) (K.faults sink.new) }
+    ensures counts { K.faults sink.old ≤ K.faults sink.new }
+{
+    if write_all(sink, &made.output).is_err() {
+        return Status::WriteFault;
+    }
+    if made.refused {
+        Status::Refused
+    } else {
+        Status::Ok
+    }
+}
+
+/// The steps of a run, in order.
+fn steps<S: Source, K: Sink>(
     alloc: Global,
     words: &Vec<String>,
     source: &mut S,
     sink: &mut K,
 ) -> Status
     ensures words { FitsWords result (map string_bytes words.now.items) }
+    ensures cause { HasCause result (told S.remaining S.faults K.taken K.faults source.old source.new sink.old sink.new) }
     ensures leaves_source { LeavesSource result source.old source.new }
     ensures leaves_sink { LeavesSink result sink.old sink.new }
     ensures reads { ReadsUpTo (limit + 1) (S.remaining source.old) (S.remaining source.new) }
@@ -119,16 +135,42 @@ pub fn run<S: Source, K: Sink>(
         Err(WordsError::Usage) => return Status::Usage,
         Err(WordsError::NoMemory) => return Status::NoMemory,
     }
-    let made = match make(alloc, source) {
-        Ok(made) => made,
-        Err(status) => return status,
-    };
-    if write_all(sink, &made.output).is_err() {
-        return Status::WriteFault;
+    match make(alloc, source) {
+        Ok(made) => put(sink, &made),
+        Err(status) => status,
     }
-    if made.refused {
-        Status::Refused
-    } else {
-        Status::Ok
-    }
+}
+
+/// Runs the program: reads the words, reads the source's text, and writes what is put out for it.
+pub fn run<S: Source, K: Sink>(
+    alloc: Global,
+    words: &Vec<String>,
+    source: &mut S,
+    sink: &mut K,
+) -> Status
+    // Where the words are admitted and the source tells its bytes, and these are a text: its reading is written
+    // and 0 answered, or it has none, diagnostics are written and 1 answered; faults and want of memory aside.
+    ensures headline { IfSome (S.remaining source.old) (λ text. IsText text → (s : Settings) → Admitted (map string_bytes words.now.items) s →
+        IsAnswerTo text (told S.remaining S.faults K.taken K.faults source.old source.new sink.old sink.new) result) }
+
+    // Each status has its cause.
+    ensures cause { HasCause result (told S.remaining S.faults K.taken K.faults source.old source.new sink.old sink.new) }
+
+    // `Usage` comes exactly where no settings are admitted, and leaves the source as it was.
+    ensures words { FitsWords result (map string_bytes words.now.items) }
+    ensures leaves_source { LeavesSource result source.old source.new }
+
+    // `Usage`, `ReadFault`, `NoMemory`, `NotUtf8` and `TooLong` leave the sink as it was.
+    ensures leaves_sink { LeavesSink result sink.old sink.new }
+
+    // Bytes that are too many, and bytes that are not UTF-8, are answered so, where no refusal came before.
+    ensures too_long { IfSome (S.remaining source.old) (λ bytes. limit < length bytes → (result ≡ Status.TooLong) ⊎ ComesBefore result) }
+    ensures not_utf8 { IfSome (S.remaining source.old) (λ bytes. length bytes ≤ limit → (IsUtf8 bytes → ⊥) → (result ≡ Status.NotUtf8) ⊎ ComesBefore result) }
+
+    // At most one byte more than a text may have is read, and no count of faults falls.
+    ensures reads { ReadsUpTo (limit + 1) (S.remaining source.old) (S.remaining source.new) }
+    ensures read_counts { S.faults source.old ≤ S.faults source.new }
+    ensures write_counts { K.faults sink.old ≤ K.faults sink.new }
+{
+    steps(alloc, words, source, sink)
 }
