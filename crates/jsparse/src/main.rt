@@ -4,11 +4,14 @@
 mod answer;
 mod ends;
 mod failing;
+mod laws;
 mod room;
 mod run;
 mod standard;
 mod status;
 mod steady;
+#[cfg(test)]
+mod tests;
 mod tree;
 mod words;
 
