@@ -4,7 +4,7 @@ use Rattle.std.proofs.lemmas.Bool.{cases_lt}
 use Rattle.std.proofs.lemmas.List.{take-append-drop}
 use Rattle.std.proofs.Math.Seq.{take-add}
 use Rattle.std.specs.Io.KnownBytes.{Consumes, Appends, Keeps, IsAtEnd}
-use Rattle.std.proofs.KnownBytes.{Appends-trans, Appends-kept, Consumes-trans}
+use Rattle.std.proofs.KnownBytes.{Appends-trans, Appends-kept, Consumes-trans, Consumes-kept}
 use Rattle.jsparse.specs.declared.status.Status.{Status}
 use Rattle.jsparse.specs.declared.status.Status.TheVariants.{Ok, Refused, Usage, ReadFault, WriteFault, NoMemory, NotUtf8, TooLong}
 use Rattle.jsparse.specs.Ends.{IsFault}
@@ -29,15 +29,18 @@ reads_on a b c old new n p r = subst (Consumes a c) (sym r.put) (Consumes-trans 
 pub reads_within : (a b c : Option (List ℕ)) (old : List ℕ) (most k : ℕ) → k ≡ length old → Consumes a b old → k ≤ most → ReadsUpTo (most - k) b c → ReadsUpTo most a c
 reads_within a b c old most k e p few r = let sum : length (old ++ r.bytes) ≡ length old + length r.bytes = length-append old r.bytes in record { bytes = old ++ r.bytes; read = Consumes-trans a b c old r.bytes p r.read; few = omega arith }
 
-pub cause_later : (status : Status) (given left : Option (List ℕ)) (a b c : ℕ) → a ≤ b → b ≤ c → ReadCause status b c → StopCause status given left a c
-cause_later Ok given left a b c p q r = r
-cause_later Refused given left a b c p q r = r
-cause_later Usage given left a b c p q r = r
-cause_later ReadFault given left a b c p q r = let z : c ≤ c = omega arith in fault_later a b c c p q z r
-cause_later WriteFault given left a b c p q r = r
-cause_later NoMemory given left a b c p q r = r
-cause_later NotUtf8 given left a b c p q r = absurd r
-cause_later TooLong given left a b c p q r = absurd r
+pub cause_later : (status : Status) (given mid left : Option (List ℕ)) (old : List ℕ) (k a b c : ℕ) → k ≡ length old → k ≤ limit → Consumes given mid old → a ≤ b → b ≤ c → ReadCause status mid left b c → StopCause status given left a c
+cause_later Ok given mid left old k a b c e few read p q r = r
+cause_later Refused given mid left old k a b c e few read p q r = r
+cause_later Usage given mid left old k a b c e few read p q r = r
+cause_later ReadFault given mid left old k a b c e few read p q r =
+    let z : c ≤ c = omega arith in
+    let short : length old ≤ limit = omega arith in
+    record { fault = fault_later a b c c p q z r.0; reads = record { bytes = old; read = Consumes-kept given mid left old read r.1; few = short } }
+cause_later WriteFault given mid left old k a b c e few read p q r = r
+cause_later NoMemory given mid left old k a b c e few read p q r = r
+cause_later NotUtf8 given mid left old k a b c e few read p q r = absurd r
+cause_later TooLong given mid left old k a b c e few read p q r = absurd r
 
 -- ---- from the steps of a run to its clauses
 
@@ -81,7 +84,7 @@ answer_to_text : (status : Status) (words : List (List ℕ)) (t : Told) (text : 
 answer_to_text Ok words t text s e is a f h = let g = gave_all _ _ text h.text e h.gave in (h.out, subst (λ (x : List ℕ). Accepts x h.out) g.0 h.puts, h.written, g.1)
 answer_to_text Refused words t text s e is a f h = let g = gave_all _ _ text h.text e h.gave in (h.out, subst (λ (x : List ℕ). Refuses x h.out) g.0 h.puts, h.written, g.1)
 answer_to_text Usage words t text s e is a f h = f s a
-answer_to_text ReadFault words t text s e is a f h = h
+answer_to_text ReadFault words t text s e is a f h = h.fault
 answer_to_text WriteFault words t text s e is a f h = let g = gave_all _ _ text h.text e h.gave in (h.front, h.rest, subst (λ (x : List ℕ). Accepts x (h.front ++ h.rest) ⊎ Refuses x (h.front ++ h.rest)) g.0 h.puts, h.written, h.fault)
 answer_to_text NoMemory words t text s e is a f h = tt
 answer_to_text NotUtf8 words t text s e is a f h = let g = gave_all _ _ text h.bytes e h.gave in h.not_utf8 (subst IsUtf8 (sym g.0) is.utf8)

@@ -1,7 +1,7 @@
 -- What a run answers, and why. A source or a sink tells its bytes or not; where it doesn't, nothing is said of them.
 use Rattle.std.specs.Prelude.{ℕ, Bool, true, false,  ◌≡◌, ◌+◌, ◌<◌, ◌≤◌, ◌⊎◌, List, [], ◌++◌, length, Option, Some}
 use Rattle.std.specs.Str.{IsUtf8}
-use Rattle.std.specs.Io.KnownBytes.{Consumes, Appends, IsAtEnd}
+use Rattle.std.specs.Io.KnownBytes.{Consumes, Appends, Keeps, IsAtEnd}
 use Rattle.jsparse.specs.declared.status.Status.{Status}
 use Rattle.jsparse.specs.declared.status.Status.TheVariants.{Ok, Refused, Usage, ReadFault, WriteFault, NoMemory, NotUtf8, TooLong}
 use Rattle.jsparse.specs.Ends.{IsFault}
@@ -56,15 +56,26 @@ pub record IsLong (given left : Option (List ℕ)) : Type 0 where
   pub read : Consumes given left bytes
   pub long : length bytes ≡ limit + 1
 
--- why a read ended the reading: the faults of the source before it and after it
-abbrev pub ReadCause : Status → ℕ → ℕ → Type 0
-ReadCause ReadFault faults faults_after = IsFault faults faults_after
-ReadCause NoMemory faults faults_after = Unit {0}
-ReadCause _ faults faults_after = ⊥
+-- No more than so many bytes were read.
+pub record ReadsUpTo (most : ℕ) (given left : Option (List ℕ)) : Type 0 where
+  pub bytes : List ℕ
+  pub read : Consumes given left bytes
+  pub few : length bytes ≤ most
+
+-- The source failed before it gave a byte more than a text may have.
+pub record ReadFailed (given left : Option (List ℕ)) (faults faults_after : ℕ) : Type 0 where
+  pub fault : IsFault faults faults_after
+  pub reads : ReadsUpTo limit given left
+
+-- why a read ended the reading: the bytes of the source before it and after it, and its faults
+abbrev pub ReadCause : Status → Option (List ℕ) → Option (List ℕ) → ℕ → ℕ → Type 0
+ReadCause ReadFault given left faults faults_after = IsFault faults faults_after × Keeps given left
+ReadCause NoMemory given left faults faults_after = Unit {0}
+ReadCause _ given left faults faults_after = ⊥
 
 -- Why a run ended before a text was made, or why not: the bytes of the source at first and in the end, and its faults.
 abbrev pub StopCause : Status → Option (List ℕ) → Option (List ℕ) → ℕ → ℕ → Type 0
-StopCause ReadFault given left faults faults_after = IsFault faults faults_after
+StopCause ReadFault given left faults faults_after = ReadFailed given left faults faults_after
 StopCause NoMemory given left faults faults_after = Unit {0}
 StopCause NotUtf8 given left faults faults_after = IsNoText given left
 StopCause TooLong given left faults faults_after = IsLong given left
@@ -119,7 +130,7 @@ abbrev pub HasCause : Status → Told → Type 0
 HasCause Ok t = Answered Accepts t.given t.left t.before t.after
 HasCause Refused t = Answered Refuses t.given t.left t.before t.after
 HasCause Usage t = Unit {0}
-HasCause ReadFault t = IsFault t.read_faults t.read_faults_after
+HasCause ReadFault t = ReadFailed t.given t.left t.read_faults t.read_faults_after
 HasCause WriteFault t = BrokeOff t.given t.left t.before t.after t.write_faults t.write_faults_after
 HasCause NoMemory t = Unit {0}
 HasCause NotUtf8 t = IsNoText t.given t.left
@@ -141,12 +152,6 @@ LeavesSink _ old new = new ≡ old
 abbrev pub LeavesSource : {S : Type 0} → Status → S → S → Type 0
 LeavesSource Usage old new = new ≡ old
 LeavesSource _ old new = Unit {0}
-
--- No byte after the first that is too many is read.
-pub record ReadsUpTo (most : ℕ) (given left : Option (List ℕ)) : Type 0 where
-  pub bytes : List ℕ
-  pub read : Consumes given left bytes
-  pub few : length bytes ≤ most
 
 -- refusals that may come before the text is known: of the words, of the source, of memory
 abbrev pub ComesBefore : Status → Type 0

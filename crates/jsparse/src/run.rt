@@ -31,7 +31,7 @@ fn read_piece<S: Source>(source: &mut S, buffer: &mut [u8], bytes: &mut Vec<u8>)
     requires room { vec_len bytes.old ≤ limit }
     requires buffer { length buffer.old ≡ 65536 }
     ensures ok { IfOk result (λ n. ReadPiece (S.remaining source.old) (S.remaining source.new) bytes.old.items bytes.new.items n) }
-    ensures stopped { IfErr result (λ status. ReadCause status (S.faults source.old) (S.faults source.new)) }
+    ensures stopped { IfErr result (λ status. ReadCause status (S.remaining source.old) (S.remaining source.new) (S.faults source.old) (S.faults source.new)) }
     ensures reads { ReadsUpTo (limit + 1 - vec_len bytes.old) (S.remaining source.old) (S.remaining source.new) }
     ensures counts { S.faults source.old ≤ S.faults source.new }
 {
