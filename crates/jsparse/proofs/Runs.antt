@@ -1,5 +1,5 @@
 -- Steps of a run.
-use Rattle.std.proofs.Common.{ℕ, ◌≡◌, ◌+◌, ◌-◌, ◌<◌, ◌≤◌, List, [], ◌++◌, Bool, true, false, Some, None, IfSome, refl, ap, ◌∙◌, append-nil, ◌⊎◌, length, take, drop, Option, sym, subst, inl, inr, arith, length-append}
+use Rattle.std.proofs.Common.{ℕ, ◌≡◌, ◌+◌, ◌-◌, ◌≤◌, List, [], ◌++◌, Bool, true, false, Some, None, IfSome, ap, ◌∙◌, append-nil, ◌⊎◌, length, take, drop, Option, sym, subst, inl, inr, arith, length-append}
 use Rattle.std.proofs.lemmas.Bool.{cases_lt}
 use Rattle.std.proofs.lemmas.List.{take-append-drop}
 use Rattle.std.proofs.Math.Seq.{take-add}
@@ -11,7 +11,8 @@ use Rattle.jsparse.specs.Ends.{IsFault}
 use Rattle.std.specs.Str.{IsUtf8}
 use Rattle.js_grammar.specs.Readings.{Accepts, Refuses, Gives}
 use Rattle.js_grammar.specs.Settings.{Settings, Admitted}
-use Rattle.jsparse.specs.Runs.{limit, Gave, IsText, Answered, BrokeOff, Made, ReadPiece, ReadsUpTo, ReadCause, StopCause, TookFront, PutCause, Told, HasCause, FitsWords, LeavesSink, ComesBefore, IsAnswerTo}
+use Rattle.jsparse.specs.Runs.{limit, Gave, IsText, ReadsUpTo, Told, HasCause, FitsWords, IsAnswerTo}
+use Rattle.jsparse.specs.Steps.{Made, ReadPiece, ReadCause, StopCause, TookFront, PutCause}
 
 -- A fault of a part of a time is one of the whole.
 pub fault_later : (a b c d : ℕ) → a ≤ b → b ≤ c → c ≤ d → IsFault b c → IsFault a d
@@ -75,7 +76,6 @@ pub gave_all : (given left : Option (List ℕ)) (all text : List ℕ) → given 
 gave_all given left all text e g =
     let read : Consumes (Some all) left text = subst (λ (o : Option (List ℕ)). Consumes o left text) e g.read in gave_some left all text read g.ended
 
-
 no_more : (left : Option (List ℕ)) (all bytes : List ℕ) → Consumes (Some all) left bytes → length bytes ≤ length all
 no_more None all bytes r = absurd r
 no_more (Some ys) all bytes r = let sum : length (bytes ++ ys) ≡ length bytes + length ys = length-append bytes ys in let same : length all ≡ length (bytes ++ ys) = ap length r in omega arith
@@ -85,7 +85,7 @@ answer_to_text Ok words t text s e is a f h = let g = gave_all _ _ text h.text e
 answer_to_text Refused words t text s e is a f h = let g = gave_all _ _ text h.text e h.gave in (h.out, subst (λ (x : List ℕ). Refuses x h.out) g.0 h.puts, h.written, g.1)
 answer_to_text Usage words t text s e is a f h = f s a
 answer_to_text ReadFault words t text s e is a f h = h.fault
-answer_to_text WriteFault words t text s e is a f h = let g = gave_all _ _ text h.text e h.gave in (h.front, h.rest, subst (λ (x : List ℕ). Accepts x (h.front ++ h.rest) ⊎ Refuses x (h.front ++ h.rest)) g.0 h.puts, h.written, h.fault)
+answer_to_text WriteFault words t text s e is a f h = let g = gave_all _ _ text h.text e h.gave in (h.front, h.rest, subst (λ (x : List ℕ). Accepts x (h.front ++ h.rest) ⊎ Refuses x (h.front ++ h.rest)) g.0 h.puts, h.written, g.1, h.fault)
 answer_to_text NoMemory words t text s e is a f h = tt
 answer_to_text NotUtf8 words t text s e is a f h = let g = gave_all _ _ text h.bytes e h.gave in h.not_utf8 (subst IsUtf8 (sym g.0) is.utf8)
 answer_to_text TooLong words t text s e is a f h =

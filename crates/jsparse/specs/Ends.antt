@@ -1,5 +1,5 @@
 -- What is said of the two ends of a run.
-use Rattle.std.specs.Prelude.{ℕ, ◌≡◌, ◌+◌, ◌-◌, ◌^◌, ◌<◌, ◌≤◌, ◌⊎◌, ◌↔◌, List, [], ◌++◌, length, take, min, Result, Ok, Err, IsErr}
+use Rattle.std.specs.Prelude.{ℕ, ◌≡◌, ◌+◌, ◌-◌, ◌^◌, ◌<◌, ◌⊎◌, ◌↔◌, List, ◌++◌, length, take, min, Result, Ok, Err, IsErr}
 use Rattle.std.specs.List.{Contains}
 use Rattle.jsparse.specs.declared.ends.Failed.{Failed}
 

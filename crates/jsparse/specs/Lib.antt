@@ -3,3 +3,4 @@ pub mod Ends
 pub mod Statuses
 pub mod Words
 pub mod Runs
+pub mod Steps

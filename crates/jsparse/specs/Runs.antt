@@ -1,13 +1,13 @@
 -- What a run answers, and why. A source or a sink tells its bytes or not; where it doesn't, nothing is said of them.
-use Rattle.std.specs.Prelude.{ℕ, Bool, true, false,  ◌≡◌, ◌+◌, ◌<◌, ◌≤◌, ◌⊎◌, List, [], ◌++◌, length, Option, Some}
+use Rattle.std.specs.Prelude.{ℕ, ◌≡◌, ◌+◌, ◌≤◌, ◌⊎◌, List, [], ◌++◌, length, Option, Some}
 use Rattle.std.specs.Str.{IsUtf8}
-use Rattle.std.specs.Io.KnownBytes.{Consumes, Appends, Keeps, IsAtEnd}
+use Rattle.std.specs.Io.KnownBytes.{Consumes, Appends, IsAtEnd}
 use Rattle.jsparse.specs.declared.status.Status.{Status}
 use Rattle.jsparse.specs.declared.status.Status.TheVariants.{Ok, Refused, Usage, ReadFault, WriteFault, NoMemory, NotUtf8, TooLong}
 use Rattle.jsparse.specs.Ends.{IsFault}
 use Rattle.jsparse.specs.Words.{NoneAdmitted}
 use Rattle.js_grammar.specs.Settings.{Settings, Admitted}
-use Rattle.js_grammar.specs.Readings.{Accepts, Refuses, Gives}
+use Rattle.js_grammar.specs.Readings.{Accepts, Refuses}
 
 -- the greatest number of bytes of a text
 abbrev pub limit : ℕ
@@ -67,50 +67,6 @@ pub record ReadFailed (given left : Option (List ℕ)) (faults faults_after : �
   pub fault : IsFault faults faults_after
   pub reads : ReadsUpTo limit given left
 
--- why a read ended the reading: the bytes of the source before it and after it, and its faults
-abbrev pub ReadCause : Status → Option (List ℕ) → Option (List ℕ) → ℕ → ℕ → Type 0
-ReadCause ReadFault given left faults faults_after = IsFault faults faults_after × Keeps given left
-ReadCause NoMemory given left faults faults_after = Unit {0}
-ReadCause _ given left faults faults_after = ⊥
-
--- Why a run ended before a text was made, or why not: the bytes of the source at first and in the end, and its faults.
-abbrev pub StopCause : Status → Option (List ℕ) → Option (List ℕ) → ℕ → ℕ → Type 0
-StopCause ReadFault given left faults faults_after = ReadFailed given left faults faults_after
-StopCause NoMemory given left faults faults_after = Unit {0}
-StopCause NotUtf8 given left faults faults_after = IsNoText given left
-StopCause TooLong given left faults faults_after = IsLong given left
-StopCause _ given left faults faults_after = ⊥
-
--- One read put its bytes behind those that were there: n of them, and none only at the end.
-pub record ReadPiece (given left : Option (List ℕ)) (old new : List ℕ) (n : ℕ) : Type 0 where
-  pub piece : List ℕ
-  pub read : Consumes given left piece
-  pub put : new ≡ old ++ piece
-  pub count : length piece ≡ n
-  pub few : length new ≤ limit + 1
-  pub end : n ≡ 0 → IsAtEnd left
-
--- A text was read, and this is what is put out for it.
-pub record Made (given left : Option (List ℕ)) (refused : Bool) (out : List ℕ) : Type 0 where
-  pub text : List ℕ
-  pub gave : Gave given left text
-  pub is_text : IsText text
-  pub gives : Gives text refused out
-
--- The sink took a front of these bytes, and failed.
-pub record TookFront (before after : Option (List ℕ)) (out : List ℕ) : Type 0 where
-  pub front : List ℕ
-  pub rest : List ℕ
-  pub parts : out ≡ front ++ rest
-  pub took : Appends before after front
-
--- how the writing of an output ended, which tells of a text that is refused or not
-abbrev pub PutCause : Status → Bool → List ℕ → Option (List ℕ) → Option (List ℕ) → ℕ → ℕ → Type 0
-PutCause Ok refused out before after faults faults_after = (refused ≡ false) × Appends before after out
-PutCause Refused refused out before after faults faults_after = (refused ≡ true) × Appends before after out
-PutCause WriteFault refused out before after faults faults_after = TookFront before after out × IsFault faults faults_after
-PutCause _ refused out before after faults faults_after = ⊥
-
 -- What the ends of a run tell: the source's bytes and faults at first and in the end, the sink's bytes and faults at first and in the end.
 pub record Told : Type 0 where
   pub given : Option (List ℕ)
@@ -122,6 +78,7 @@ pub record Told : Type 0 where
   pub write_faults : ℕ
   pub write_faults_after : ℕ
 
+-- what the ends tell, by the members of their types
 abbrev pub told : {S K : Type 0} → (S → Option (List ℕ)) → (S → ℕ) → (K → Option (List ℕ)) → (K → ℕ) → S → S → K → K → Told
 told remaining read_faults taken write_faults source source_after sink sink_after = record { given = remaining source; left = remaining source_after; read_faults = read_faults source; read_faults_after = read_faults source_after; before = taken sink; after = taken sink_after; write_faults = write_faults sink; write_faults_after = write_faults sink_after }
 
@@ -166,7 +123,7 @@ IsAnswerTo text t Ok = (out : List ℕ) × Accepts text out × Appends t.before 
 IsAnswerTo text t Refused = (out : List ℕ) × Refuses text out × Appends t.before t.after out × (t.left ≡ Some [])
 IsAnswerTo text t Usage = ⊥
 IsAnswerTo text t ReadFault = IsFault t.read_faults t.read_faults_after
-IsAnswerTo text t WriteFault = (front : List ℕ) × (rest : List ℕ) × (Accepts text (front ++ rest) ⊎ Refuses text (front ++ rest)) × Appends t.before t.after front × IsFault t.write_faults t.write_faults_after
+IsAnswerTo text t WriteFault = (front : List ℕ) × (rest : List ℕ) × (Accepts text (front ++ rest) ⊎ Refuses text (front ++ rest)) × Appends t.before t.after front × (t.left ≡ Some []) × IsFault t.write_faults t.write_faults_after
 IsAnswerTo text t NoMemory = Unit {0}
 IsAnswerTo text t NotUtf8 = ⊥
 IsAnswerTo text t TooLong = ⊥

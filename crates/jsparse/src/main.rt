@@ -17,10 +17,9 @@ mod words;
 
 use crate::standard::{StdinSource, StdoutSink};
 use crate::status::Status;
-use std::env;
-use std::io;
 use std::process::ExitCode;
 use std::rt::Env;
+use std::{env, io};
 
 /// The words after the program's name.
 fn program_words<R: Env + AllocGlobal>(rt: &R) -> io::Result<Vec<String>> {

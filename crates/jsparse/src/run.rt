@@ -5,7 +5,8 @@ ghost use Rattle.std.specs.Str.{IsUtf8};
 ghost use Rattle.std.specs.Io.KnownBytes.{Consumes, Appends, IsAtEnd};
 ghost use Rattle.js_grammar.specs.Settings.{Settings, Admitted};
 ghost use Rattle.jsparse.specs.Ends.{IsFault};
-ghost use Rattle.jsparse.specs.Runs.{limit, ReadPiece, ReadCause, StopCause, ReadsUpTo, Gave, Made, TookFront, PutCause, told, HasCause, FitsWords, LeavesSink, LeavesSource, ComesBefore, IsAnswerTo, IsText};
+ghost use Rattle.jsparse.specs.Runs.{limit, ReadsUpTo, Gave, told, HasCause, FitsWords, LeavesSink, LeavesSource, ComesBefore, IsAnswerTo, IsText};
+ghost use Rattle.jsparse.specs.Steps.{ReadPiece, ReadCause, StopCause, Made, TookFront, PutCause};
 
 use crate::answer::{Answer, answer_to};
 use crate::ends::{Failed, Sink, Source};
@@ -27,7 +28,11 @@ fn zeros(alloc: Global, len: usize) -> Result<Vec<u8>, AllocError>
 }
 
 /// Reads once, and puts what was read behind `bytes`. At most one byte more than the limit is read.
-fn read_piece<S: Source>(source: &mut S, buffer: &mut [u8], bytes: &mut Vec<u8>) -> Result<usize, Status>
+fn read_piece<S: Source>(
+    source: &mut S,
+    buffer: &mut [u8],
+    bytes: &mut Vec<u8>,
+) -> Result<usize, Status>
     requires room { vec_len bytes.old ≤ limit }
     requires buffer { length buffer.old ≡ 65536 }
     ensures ok { IfOk result (λ n. ReadPiece (S.remaining source.old) (S.remaining source.new) bytes.old.items bytes.new.items n) }

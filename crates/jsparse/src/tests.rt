@@ -1,8 +1,8 @@
 //! Runs that end before there is an output.
 
 use crate::failing::FailingSource;
-use crate::room::RoomSink;
 use crate::laws::run_steady;
+use crate::room::RoomSink;
 use crate::run::run;
 use crate::status::Status;
 use crate::steady::SteadySource;

@@ -1,5 +1,5 @@
-use Rattle.std.proofs.Common.{rules, arith, ℕ, ◌≡◌, ◌≤◌, length, vec_len}
-use Rattle.jsparse.proofs.Runs.{reads_on, reads_within, cause_later}
+use Rattle.std.proofs.Common.{arith, ◌≡◌, ◌≤◌, length, vec_len}
+use Rattle.jsparse.proofs.Runs.{reads_within, cause_later}
 use Rattle.jsparse.proofs.run.read_all.Goals as goal
 
 pub returns-in-Err-clause-reads : goal.returns-in-Err-clause-reads

@@ -1,4 +1,4 @@
-use Rattle.std.proofs.Common.{length, ◌≡◌, ◌+◌, ◌-◌, ◌≤◌, vec_len}
+use Rattle.std.proofs.Common.{◌≡◌, ◌+◌, ◌-◌, ◌≤◌, vec_len}
 use Rattle.std.specs.Io.KnownBytes.{Consumes}
 use Rattle.jsparse.specs.Runs.{limit}
 use Rattle.jsparse.proofs.run.read_all.Given as goal
@@ -8,7 +8,7 @@ invariant-loop-source g l = record {
   read : Consumes (g.S.Source.remaining l.initial.source) (g.S.Source.remaining l.source) l.bytes.items;
   few : vec_len l.bytes ≤ limit + 1;
   room : vec_len l.buffer ≡ 65536;
-  counts : g.S.Source.faults l.initial.source ≤ g.S.Source.faults l.source
+  counts : g.S.Source.faults l.initial.source ≤ g.S.Source.faults l.source;
 }
 
 abbrev pub decreases-loop-source : goal.decreases-loop-source

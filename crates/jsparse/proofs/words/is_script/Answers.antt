@@ -1,4 +1,4 @@
-use Rattle.std.proofs.Common.{◌≡◌, length, codes, map, string_bytes, Global, arith, ap, sym, ◌∙◌}
+use Rattle.std.proofs.Common.{◌≡◌, length, codes, string_bytes, Global, arith, ap, ◌∙◌}
 use Rattle.std.specs.Str.{bytes_eq}
 use Rattle.jsparse.proofs.Two.{map_two, two_are}
 use Rattle.jsparse.proofs.words.is_script.Goals as goal

@@ -1,4 +1,4 @@
-use Rattle.std.proofs.Common.{ℕ, ◌≤◌, length, drop, arith, ap}
+use Rattle.std.proofs.Common.{◌≤◌, length, arith, ap}
 use Rattle.std.proofs.lemmas.Grind.{common_steps}
 use Rattle.jsparse.specs.Ends.{Steady}
 use Rattle.jsparse.proofs.Copies.{copied}
