@@ -1,5 +1,5 @@
 -- Steps of a run.
-use Rattle.std.proofs.Common.{ℕ, ◌≡◌, ◌+◌, ◌-◌, ◌≤◌, List, [], ◌++◌, Bool, true, false, Some, None, IfSome, ap, ◌∙◌, append-nil, ◌⊎◌, length, take, drop, Option, sym, subst, inl, inr, arith, length-append}
+use Rattle.std.proofs.Common.{refl, ◌<◌, ℕ, ◌≡◌, ◌+◌, ◌-◌, ◌≤◌, List, [], ◌++◌, Bool, true, false, Some, None, IfSome, ap, ◌∙◌, append-nil, ◌⊎◌, length, take, drop, Option, sym, subst, inl, inr, arith, length-append}
 use Rattle.std.proofs.lemmas.Bool.{cases_lt}
 use Rattle.std.proofs.lemmas.List.{take-append-drop}
 use Rattle.std.proofs.Math.Seq.{take-add}
@@ -11,7 +11,7 @@ use Rattle.jsparse.specs.Ends.{IsFault}
 use Rattle.std.specs.Str.{IsUtf8}
 use Rattle.js_grammar.specs.Readings.{Accepts, Refuses, Gives}
 use Rattle.js_grammar.specs.Settings.{Settings, Admitted}
-use Rattle.jsparse.specs.Runs.{limit, Gave, IsText, ReadsUpTo, Told, HasCause, FitsWords, IsAnswerTo}
+use Rattle.jsparse.specs.Runs.{limit, Gave, IsText, IsLong, ReadsUpTo, Told, HasCause, FitsWords, LeavesSink, LeavesSource, ComesBefore, IsAnswerTo}
 use Rattle.jsparse.specs.Steps.{Made, ReadPiece, ReadCause, StopCause, TookFront, PutCause}
 
 -- A fault of a part of a time is one of the whole.
@@ -45,7 +45,7 @@ cause_later TooLong given mid left old k a b c e few read p q r = absurd r
 
 -- ---- from the steps of a run to its clauses
 
-stop_has_cause : (status : Status) (t : Told) → StopCause status t.given t.left t.read_faults t.read_faults_after → HasCause status t
+pub stop_has_cause : (status : Status) (t : Told) → StopCause status t.given t.left t.read_faults t.read_faults_after → HasCause status t
 stop_has_cause Ok t h = absurd h
 stop_has_cause Refused t h = absurd h
 stop_has_cause Usage t h = absurd h
@@ -55,7 +55,7 @@ stop_has_cause NoMemory t h = tt
 stop_has_cause NotUtf8 t h = h
 stop_has_cause TooLong t h = h
 
-put_has_cause : (status : Status) (refused : Bool) (out : List ℕ) (t : Told) → Made t.given t.left refused out → PutCause status refused out t.before t.after t.write_faults t.write_faults_after → HasCause status t
+pub put_has_cause : (status : Status) (refused : Bool) (out : List ℕ) (t : Told) → Made t.given t.left refused out → PutCause status refused out t.before t.after t.write_faults t.write_faults_after → HasCause status t
 put_has_cause Ok refused out t m h = record { text = m.text; out = out; gave = m.gave; is_text = m.is_text; puts = subst (λ (r : Bool). Gives m.text r out) h.0 m.gives; written = h.1 }
 put_has_cause Refused refused out t m h = record { text = m.text; out = out; gave = m.gave; is_text = m.is_text; puts = subst (λ (r : Bool). Gives m.text r out) h.0 m.gives; written = h.1 }
 put_has_cause Usage refused out t m h = absurd h
@@ -80,6 +80,13 @@ no_more : (left : Option (List ℕ)) (all bytes : List ℕ) → Consumes (Some a
 no_more None all bytes r = absurd r
 no_more (Some ys) all bytes r = let sum : length (bytes ++ ys) ≡ length bytes + length ys = length-append bytes ys in let same : length all ≡ length (bytes ++ ys) = ap length r in omega arith
 
+not_long : (t : Told) (bytes : List ℕ) → t.given ≡ Some bytes → IsLong t.given t.left → length bytes ≤ limit → ⊥
+not_long t bytes e h short =
+    let read : Consumes (Some bytes) t.left h.bytes = subst (λ (o : Option (List ℕ)). Consumes o t.left h.bytes) e h.read in
+    let more : length h.bytes ≤ length bytes = no_more t.left bytes h.bytes read in
+    let long = h.long in
+    omega arith
+
 answer_to_text : (status : Status) (words : List (List ℕ)) (t : Told) (text : List ℕ) (s : Settings) → t.given ≡ Some text → IsText text → Admitted words s → FitsWords status words → HasCause status t → IsAnswerTo text t status
 answer_to_text Ok words t text s e is a f h = let g = gave_all _ _ text h.text e h.gave in (h.out, subst (λ (x : List ℕ). Accepts x h.out) g.0 h.puts, h.written, g.1)
 answer_to_text Refused words t text s e is a f h = let g = gave_all _ _ text h.text e h.gave in (h.out, subst (λ (x : List ℕ). Refuses x h.out) g.0 h.puts, h.written, g.1)
@@ -88,14 +95,114 @@ answer_to_text ReadFault words t text s e is a f h = h.fault
 answer_to_text WriteFault words t text s e is a f h = let g = gave_all _ _ text h.text e h.gave in (h.front, h.rest, subst (λ (x : List ℕ). Accepts x (h.front ++ h.rest) ⊎ Refuses x (h.front ++ h.rest)) g.0 h.puts, h.written, g.1, h.fault)
 answer_to_text NoMemory words t text s e is a f h = tt
 answer_to_text NotUtf8 words t text s e is a f h = let g = gave_all _ _ text h.bytes e h.gave in h.not_utf8 (subst IsUtf8 (sym g.0) is.utf8)
-answer_to_text TooLong words t text s e is a f h =
-    let read : Consumes (Some text) t.left h.bytes = subst (λ (o : Option (List ℕ)). Consumes o t.left h.bytes) e h.read in
-    let more : length h.bytes ≤ length text = no_more t.left text h.bytes read in
-    let long = h.long in
-    let short : length text ≤ limit = is.short in
-    absurd (omega arith)
+answer_to_text TooLong words t text s e is a f h = not_long t text e h is.short
 
 -- what a run answers to a text that the source tells, or may not tell
 pub answer_if_told : (status : Status) (words : List (List ℕ)) (t : Told) (given : Option (List ℕ)) → t.given ≡ given → FitsWords status words → HasCause status t → IfSome given (λ text. IsText text → (s : Settings) → Admitted words s → IsAnswerTo text t status)
 answer_if_told status words t None e f h = tt
 answer_if_told status words t (Some text) e f h = λ is s a. answer_to_text status words t text s e is a f h
+
+-- ---- what else the steps of a run tell
+
+pub put_fits_words : (status : Status) (words : List (List ℕ)) (refused : Bool) (out : List ℕ) (a b : Option (List ℕ)) (f g : ℕ) → PutCause status refused out a b f g → ((s : Settings) × Admitted words s) → FitsWords status words
+put_fits_words Ok words refused out a b f g h some = some
+put_fits_words Refused words refused out a b f g h some = some
+put_fits_words Usage words refused out a b f g h some = absurd h
+put_fits_words ReadFault words refused out a b f g h some = some
+put_fits_words WriteFault words refused out a b f g h some = some
+put_fits_words NoMemory words refused out a b f g h some = some
+put_fits_words NotUtf8 words refused out a b f g h some = some
+put_fits_words TooLong words refused out a b f g h some = some
+
+pub put_leaves_sink : {K : Type 0} (status : Status) (refused : Bool) (out : List ℕ) (a b : Option (List ℕ)) (f g : ℕ) (old new : K) → PutCause status refused out a b f g → LeavesSink status old new
+put_leaves_sink Ok refused out a b f g old new h = tt
+put_leaves_sink Refused refused out a b f g old new h = tt
+put_leaves_sink Usage refused out a b f g old new h = absurd h
+put_leaves_sink ReadFault refused out a b f g old new h = absurd h
+put_leaves_sink WriteFault refused out a b f g old new h = tt
+put_leaves_sink NoMemory refused out a b f g old new h = absurd h
+put_leaves_sink NotUtf8 refused out a b f g old new h = absurd h
+put_leaves_sink TooLong refused out a b f g old new h = absurd h
+
+pub put_leaves_source : {S : Type 0} (status : Status) (refused : Bool) (out : List ℕ) (a b : Option (List ℕ)) (f g : ℕ) (old new : S) → PutCause status refused out a b f g → LeavesSource status old new
+put_leaves_source Ok refused out a b f g old new h = tt
+put_leaves_source Refused refused out a b f g old new h = tt
+put_leaves_source Usage refused out a b f g old new h = absurd h
+put_leaves_source ReadFault refused out a b f g old new h = tt
+put_leaves_source WriteFault refused out a b f g old new h = tt
+put_leaves_source NoMemory refused out a b f g old new h = tt
+put_leaves_source NotUtf8 refused out a b f g old new h = tt
+put_leaves_source TooLong refused out a b f g old new h = tt
+
+pub stop_fits_words : (status : Status) (words : List (List ℕ)) (a b : Option (List ℕ)) (f g : ℕ) → StopCause status a b f g → ((s : Settings) × Admitted words s) → FitsWords status words
+stop_fits_words Ok words a b f g h some = some
+stop_fits_words Refused words a b f g h some = some
+stop_fits_words Usage words a b f g h some = absurd h
+stop_fits_words ReadFault words a b f g h some = some
+stop_fits_words WriteFault words a b f g h some = some
+stop_fits_words NoMemory words a b f g h some = some
+stop_fits_words NotUtf8 words a b f g h some = some
+stop_fits_words TooLong words a b f g h some = some
+
+pub stop_leaves_sink : {K : Type 0} (status : Status) (x : K) → LeavesSink status x x
+stop_leaves_sink Ok x = tt
+stop_leaves_sink Refused x = tt
+stop_leaves_sink Usage x = refl
+stop_leaves_sink ReadFault x = refl
+stop_leaves_sink WriteFault x = tt
+stop_leaves_sink NoMemory x = refl
+stop_leaves_sink NotUtf8 x = refl
+stop_leaves_sink TooLong x = refl
+
+pub stop_leaves_source : {S : Type 0} (status : Status) (a b : Option (List ℕ)) (f g : ℕ) (old new : S) → StopCause status a b f g → LeavesSource status old new
+stop_leaves_source Ok a b f g old new h = tt
+stop_leaves_source Refused a b f g old new h = tt
+stop_leaves_source Usage a b f g old new h = absurd h
+stop_leaves_source ReadFault a b f g old new h = tt
+stop_leaves_source WriteFault a b f g old new h = tt
+stop_leaves_source NoMemory a b f g old new h = tt
+stop_leaves_source NotUtf8 a b f g old new h = tt
+stop_leaves_source TooLong a b f g old new h = tt
+
+-- ---- bytes that are no text
+
+pub long_or_before : (status : Status) (t : Told) (bytes : List ℕ) → t.given ≡ Some bytes → HasCause status t → limit < length bytes → (status ≡ TooLong) ⊎ ComesBefore status
+long_or_before Ok t bytes e h long = let same : length h.text ≡ length bytes = ap length (gave_all _ _ bytes h.text e h.gave).0 in let short : length h.text ≤ limit = h.is_text.short in absurd (omega arith)
+long_or_before Refused t bytes e h long = let same : length h.text ≡ length bytes = ap length (gave_all _ _ bytes h.text e h.gave).0 in let short : length h.text ≤ limit = h.is_text.short in absurd (omega arith)
+long_or_before Usage t bytes e h long = inr tt
+long_or_before ReadFault t bytes e h long = inr tt
+long_or_before WriteFault t bytes e h long = let same : length h.text ≡ length bytes = ap length (gave_all _ _ bytes h.text e h.gave).0 in let short : length h.text ≤ limit = h.is_text.short in absurd (omega arith)
+long_or_before NoMemory t bytes e h long = inr tt
+long_or_before NotUtf8 t bytes e h long = let same : length h.bytes ≡ length bytes = ap length (gave_all _ _ bytes h.bytes e h.gave).0 in let short : length h.bytes ≤ limit = h.short in absurd (omega arith)
+long_or_before TooLong t bytes e h long = inl refl
+
+pub no_text_or_before : (status : Status) (t : Told) (bytes : List ℕ) → t.given ≡ Some bytes → HasCause status t → length bytes ≤ limit → (IsUtf8 bytes → ⊥) → (status ≡ NotUtf8) ⊎ ComesBefore status
+no_text_or_before Ok t bytes e h short bad = absurd (bad (subst IsUtf8 (gave_all _ _ bytes h.text e h.gave).0 h.is_text.utf8))
+no_text_or_before Refused t bytes e h short bad = absurd (bad (subst IsUtf8 (gave_all _ _ bytes h.text e h.gave).0 h.is_text.utf8))
+no_text_or_before Usage t bytes e h short bad = inr tt
+no_text_or_before ReadFault t bytes e h short bad = inr tt
+no_text_or_before WriteFault t bytes e h short bad = absurd (bad (subst IsUtf8 (gave_all _ _ bytes h.text e h.gave).0 h.is_text.utf8))
+no_text_or_before NoMemory t bytes e h short bad = inr tt
+no_text_or_before NotUtf8 t bytes e h short bad = inl refl
+no_text_or_before TooLong t bytes e h short bad = absurd (not_long t bytes e h short)
+
+pub long_if_told : (status : Status) (t : Told) (given : Option (List ℕ)) → t.given ≡ given → HasCause status t → IfSome given (λ bytes. limit < length bytes → (status ≡ TooLong) ⊎ ComesBefore status)
+long_if_told status t None e h = tt
+long_if_told status t (Some bytes) e h = long_or_before status t bytes e h
+
+pub no_text_if_told : (status : Status) (t : Told) (given : Option (List ℕ)) → t.given ≡ given → HasCause status t → IfSome given (λ bytes. length bytes ≤ limit → (IsUtf8 bytes → ⊥) → (status ≡ NotUtf8) ⊎ ComesBefore status)
+no_text_if_told status t None e h = tt
+no_text_if_told status t (Some bytes) e h = no_text_or_before status t bytes e h
+
+no_fault : (a b : ℕ) → a ≡ 0 → b ≡ 0 → IsFault a b → ⊥
+no_fault a b p q f = elim f [ inl lt ↦ omega arith | inr e ↦ omega arith ]
+
+pub no_read_fault : (status : Status) (t : Told) → t.read_faults ≡ 0 → t.read_faults_after ≡ 0 → HasCause status t → status ≡ ReadFault → ⊥
+no_read_fault Ok t p q h e = cc
+no_read_fault Refused t p q h e = cc
+no_read_fault Usage t p q h e = cc
+no_read_fault ReadFault t p q h e = no_fault t.read_faults t.read_faults_after p q h.fault
+no_read_fault WriteFault t p q h e = cc
+no_read_fault NoMemory t p q h e = cc
+no_read_fault NotUtf8 t p q h e = cc
+no_read_fault TooLong t p q h e = cc
