@@ -1,6 +1,6 @@
 //! A source that fails at calls that are listed.
 
-ghost use Rattle.std.specs.Prelude.{ℕ, ◌≡◌, ◌≤◌, List, Some, length, drop, OnErr};
+ghost use Rattle.std.specs.Prelude.{◌≡◌, ◌≤◌, Some, length, drop, OnErr};
 ghost use Rattle.jsparse.specs.Ends.{Failing, FailingRead, IsFault};
 
 use crate::ends::{Failed, Source};

@@ -1,6 +1,6 @@
 //! A sink with room for so many bytes.
 
-ghost use Rattle.std.specs.Prelude.{ℕ, ◌≡◌, ◌<◌, ◌≤◌, List, [], Some, length, IfOk, OnErr, vec_capacity};
+ghost use Rattle.std.specs.Prelude.{◌≡◌, ◌<◌, ◌≤◌, [], Some, length, IfOk, OnErr, vec_capacity};
 ghost use Rattle.jsparse.specs.Ends.{Room, RoomWrite, IsFault};
 
 use crate::ends::{Failed, Sink};

@@ -1,8 +1,8 @@
 //! A run: from the words and the source's bytes to the sink's bytes and a status.
 
-ghost use Rattle.std.specs.Prelude.{ℕ, ◌≡◌, ◌+◌, ◌-◌, ◌<◌, ◌≤◌, ◌⊎◌, List, ◌++◌, length, map, string_bytes, IfOk, IfErr, OnOk, OnErr, MatchResult, vec_len, true, false, Some, None, IfSome};
+ghost use Rattle.std.specs.Prelude.{◌≡◌, ◌+◌, ◌-◌, ◌<◌, ◌≤◌, ◌⊎◌, length, map, string_bytes, IfOk, IfErr, OnOk, OnErr, IfSome, vec_len};
 ghost use Rattle.std.specs.Str.{IsUtf8};
-ghost use Rattle.std.specs.Io.KnownBytes.{Consumes, Appends, IsAtEnd};
+ghost use Rattle.std.specs.Io.KnownBytes.{Appends};
 ghost use Rattle.js_grammar.specs.Settings.{Settings, Admitted};
 ghost use Rattle.jsparse.specs.Ends.{IsFault};
 ghost use Rattle.jsparse.specs.Runs.{limit, ReadsUpTo, Gave, told, HasCause, FitsWords, LeavesSink, LeavesSource, ComesBefore, IsAnswerTo, IsText};

@@ -1,6 +1,6 @@
 //! A source that never fails.
 
-ghost use Rattle.std.specs.Prelude.{ℕ, ◌≡◌, ◌≤◌, List, Some, length, drop, min, IsOk, IfOk};
+ghost use Rattle.std.specs.Prelude.{◌≡◌, ◌≤◌, Some, length, drop, min, IsOk, IfOk};
 ghost use Rattle.jsparse.specs.Ends.{Steady, GivesNext};
 
 use crate::ends::{Failed, Source};
