@@ -42,13 +42,7 @@ pub struct ParserAstBuilder {
 
 impl ParserAstBuilder {
     /// Makes a node of children made before.
-    pub fn node(
-        &mut self,
-        kind: NodeKind,
-        span: Span,
-        op: Option<Kind>,
-        children: Vec<Option<NodeId>>,
-    ) -> Result<NodeId, NoMemory>
+    pub fn node(&mut self, kind: NodeKind, span: Span, op: Option<Kind>, children: Vec<Option<NodeId>>) -> Result<NodeId, NoMemory>
         ensures { Makes kind span op children.items self.old.nodes.items self.new.nodes.items result }
     {
         let id = NodeId(self.nodes.len());
