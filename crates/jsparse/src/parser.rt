@@ -52,7 +52,7 @@ impl<'a> Parser<'a> {
     /// Reads the text: its only tree, or one diagnostic at a place of the text where it has none.
     pub fn parse(self) -> Result<ParserReturn, NoMemory>
         requires { length self.source_text.now ≤ MAX_LEN }
-        ensures { IfOk result (λ r. Parsed self.source_text.now r.program.tree r.diagnostics) }
+        ensures { IfOk result (λ r. Parsed self.entry.source_text.now r.program.tree r.diagnostics) }
     {
         let text = self.source_text.as_bytes();
         let mut p = Cursor {
