@@ -3,11 +3,16 @@
 #![tactic(auto)]
 
 mod diagnostic;
+mod diagnostic_text;
 mod keyword;
 mod kind;
+mod kind_set;
 mod kind_text;
 mod no_memory;
+mod operator;
+mod operator_map;
 mod options;
+mod precedence;
 mod source_type;
 mod span;
 mod token;
@@ -16,7 +21,15 @@ pub use diagnostic::{Diagnostic, DiagnosticClass, DiagnosticKind, Diagnostics};
 pub use keyword::keyword_kind;
 pub use kind::Kind;
 pub use no_memory::NoMemory;
+pub use operator::{
+    AssignmentOperator, BinaryOperator, LogicalOperator, UnaryOperator, UpdateOperator,
+};
+pub use operator_map::{
+    map_assignment_operator, map_binary_operator, map_logical_operator, map_unary_operator,
+    map_update_operator,
+};
 pub use options::ParseOptions;
+pub use precedence::{Precedence, kind_to_precedence};
 pub use source_type::SourceType;
 pub use span::Span;
 pub use token::Token;
