@@ -1,3 +1,5 @@
 pub mod KindLemmas
 pub mod KindSetLemmas
 pub mod KeywordLemmas
+pub mod ContextLemmas
+pub mod SurrogateLemmas

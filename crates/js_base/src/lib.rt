@@ -2,8 +2,10 @@
 //! diagnostics and want of memory.
 #![tactic(auto)]
 
+mod context;
 mod diagnostic;
 mod diagnostic_text;
+mod function_kind;
 mod keyword;
 mod kind;
 mod kind_set;
@@ -15,9 +17,15 @@ mod options;
 mod precedence;
 mod source_type;
 mod span;
+mod spans;
+mod statement_context;
+mod text;
 mod token;
+mod tokens;
 
+pub use context::Context;
 pub use diagnostic::{Diagnostic, DiagnosticClass, DiagnosticKind, Diagnostics};
+pub use function_kind::{FunctionKind, VariableDeclarationParent};
 pub use keyword::keyword_kind;
 pub use kind::Kind;
 pub use no_memory::NoMemory;
@@ -32,7 +40,11 @@ pub use options::ParseOptions;
 pub use precedence::{Precedence, kind_to_precedence};
 pub use source_type::SourceType;
 pub use span::Span;
+pub use spans::Spans;
+pub use statement_context::{StatementContext, Tristate};
+pub use text::{JsStr, Text};
 pub use token::Token;
+pub use tokens::Tokens;
 
 /// The greatest length of a text in bytes: a place in it fits a `u32`, with room for small sums.
 pub const MAX_LEN: usize = 4_294_967_039;

@@ -1,6 +1,8 @@
 //! Placed lexemes.
 
-ghost use Rattle.std.specs.Prelude.{◌≡◌, ◌≤◌};
+ghost use Rattle.std.specs.Prelude.{◌≡◌, ◌≤◌, false, slice_range};
+ghost use Rattle.js_base.specs.Spans.{LiesIn};
+ghost use Rattle.js_base.specs.declared.kind.Kind.TheVariants.{Eof};
 
 use crate::kind::Kind;
 use crate::span::Span;
@@ -86,5 +88,23 @@ impl Token {
         ensures { result ≡ self.now.has_separator }
     {
         self.has_separator
+    }
+
+    /// The text of the token in the text that it was read from, without copying.
+    pub fn text<'s>(&self, source: &'s str) -> &'s str
+        requires { LiesIn self.now.span source.now }
+        ensures { result.now ≡ slice_range source.now self.now.span.start self.now.span.end }
+    {
+        &source[self.span.start as usize..self.span.end as usize]
+    }
+}
+
+impl Default for Token {
+    ghost is_default = { λ t. (t.kind ≡ Eof) × (t.span.start ≡ 0) × (t.span.end ≡ 0)
+        × (t.is_on_new_line ≡ false) × (t.escaped ≡ false) × (t.has_separator ≡ false) };
+
+    /// The end of an empty text.
+    fn default() -> Token {
+        Token::new(Kind::Eof, Span::empty(0), false, false, false)
     }
 }
