@@ -1,5 +1,5 @@
 -- A kind that is one of some kinds is found among them.
-use Rattle.std.proofs.Common.{ℕ, List, [], ◌∷◌, ◌≡◌, Bool, true, false, ◌||◌, ◌⊎◌, inl, inr, refl, ap, sym}
+use Rattle.std.proofs.Common.{List, [], ◌∷◌, ◌≡◌, Bool, true, false, ◌||◌, ◌⊎◌, inl, inr, refl, ap, sym}
 use Rattle.std.proofs.lemmas.Bool.Decides.{Decides-eqb}
 use Rattle.js_base.specs.Kinds.{Kind, code, same_kind, one_of_kinds}
 

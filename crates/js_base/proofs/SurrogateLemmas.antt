@@ -1,6 +1,6 @@
 -- Surrogates in pairs, read one code unit at a time.
-use Rattle.std.proofs.Common.{ℕ, List, [], ◌∷◌, ◌≡◌, ◌≢◌, ◌<◌, ◌≤◌, Bool, true, false, not, ◌&&◌, ◌||◌, cond, refl, ap, sym, ◌∙◌, arith, rules}
-use Rattle.std.specs.Prelude.{is_some, Some, None, if◌then◌else◌, nat_le, nat_lt, ◌==◌}
+use Rattle.std.proofs.Common.{ℕ, List, [], ◌∷◌, ◌≡◌, Bool, true, false, not, ◌&&◌, ◌||◌, refl, ap, sym, ◌∙◌, arith}
+use Rattle.std.specs.Prelude.{is_some}
 use Rattle.std.specs.List.{list_any}
 use Rattle.std.specs.Char.Utf16.{utf16_chars, has_unpaired_surrogate, is_high_surrogate, is_low_surrogate, lone_unit_char}
 use Rattle.std.proofs.lemmas.Bool.Decides.{nat_tests}
@@ -37,10 +37,10 @@ not-or false b = refl
 
 -- a unit that is not the first of a pair here
 apart : (u : ℕ) (us : List ℕ) (h l n : Bool) → is_high_surrogate u ≡ h → is_low_surrogate u ≡ l → not (has_unpaired_surrogate us) ≡ n
-  → not (list_any (λ o. not (is_some o)) (lone_unit_char u ∷ utf16_chars us)) ≡ ((not h && not l) && n)
+    → not (list_any (λ o. not (is_some o)) (lone_unit_char u ∷ utf16_chars us)) ≡ ((not h && not l) && n)
 apart u us h l n p q r = not-or (is_some (lone_unit_char u)) (has_unpaired_surrogate us)
-  ∙ ap (λ x. x && not (has_unpaired_surrogate us)) (is_some-lone u)
-  ∙ rw (p, q, r) refl
+    ∙ ap (λ x. x && not (has_unpaired_surrogate us)) (is_some-lone u)
+    ∙ rw (p, q, r) refl
 
 turned : (h l : Bool) → ((not h && not l) && true) ≡ (not l && not h)
 turned true true = refl
@@ -53,18 +53,18 @@ unfolding utf16_chars
 one u h l p q = apart u [] h l true p q refl ∙ rw (p, q) (turned h l)
 
 two : (u v : ℕ) (us : List ℕ) (h k l : Bool) → is_high_surrogate u ≡ h → is_low_surrogate u ≡ k → is_low_surrogate v ≡ l
-  → not (has_unpaired_surrogate us) ≡ paired_after false us → not (has_unpaired_surrogate (v ∷ us)) ≡ paired_after false (v ∷ us)
-  → not (has_unpaired_surrogate (u ∷ v ∷ us)) ≡ paired_after false (u ∷ v ∷ us)
+    → not (has_unpaired_surrogate us) ≡ paired_after false us → not (has_unpaired_surrogate (v ∷ us)) ≡ paired_after false (v ∷ us)
+    → not (has_unpaired_surrogate (u ∷ v ∷ us)) ≡ paired_after false (u ∷ v ∷ us)
 unfolding utf16_chars
 two u v us true k true p q r e f = rw (p, r, low-high u p, high-low v r) e
 two u v us true k false p q r e f =
-  let left : not (has_unpaired_surrogate (u ∷ v ∷ us)) ≡ false = rw (p, r) (apart u (v ∷ us) true false _ p (low-high u p) f) in
-  let right : paired_after false (u ∷ v ∷ us) ≡ false = rw (low-high u p, p, r) refl in
-  left ∙ sym right
+    let left : not (has_unpaired_surrogate (u ∷ v ∷ us)) ≡ false = rw (p, r) (apart u (v ∷ us) true false _ p (low-high u p) f) in
+    let right : paired_after false (u ∷ v ∷ us) ≡ false = rw (low-high u p, p, r) refl in
+    left ∙ sym right
 two u v us false k l p q r e f =
-  let left : not (has_unpaired_surrogate (u ∷ v ∷ us)) ≡ ((true && not k) && paired_after false (v ∷ us)) = rw p (apart u (v ∷ us) false k _ p q f) in
-  let right : paired_after false (u ∷ v ∷ us) ≡ (not k && paired_after false (v ∷ us)) = rw (q, p) refl in
-  left ∙ sym right
+    let left : not (has_unpaired_surrogate (u ∷ v ∷ us)) ≡ ((true && not k) && paired_after false (v ∷ us)) = rw p (apart u (v ∷ us) false k _ p q f) in
+    let right : paired_after false (u ∷ v ∷ us) ≡ (not k && paired_after false (v ∷ us)) = rw (q, p) refl in
+    left ∙ sym right
 
 pub paired-unpaired : (us : List ℕ) → not (has_unpaired_surrogate us) ≡ paired_after false us
 unfolding utf16_chars

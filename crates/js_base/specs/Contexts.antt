@@ -10,20 +10,28 @@ bits_of c = c.0
 -- the flag of a number is the bit of this number: In is 1, Yield 2, Await 4 and so on
 abbrev pub in_flag : ℕ
 in_flag = 0
+
 abbrev pub yield_flag : ℕ
 yield_flag = 1
+
 abbrev pub await_flag : ℕ
 await_flag = 2
+
 abbrev pub return_flag : ℕ
 return_flag = 3
+
 abbrev pub decorator_flag : ℕ
 decorator_flag = 4
+
 abbrev pub disallow_conditional_types_flag : ℕ
 disallow_conditional_types_flag = 5
+
 abbrev pub ambient_flag : ℕ
 ambient_flag = 6
+
 abbrev pub top_level_flag : ℕ
 top_level_flag = 7
+
 abbrev pub new_target_flag : ℕ
 new_target_flag = 8
 
