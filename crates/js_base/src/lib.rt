@@ -50,3 +50,6 @@ pub use tokens::Tokens;
 
 /// The greatest length of a text in bytes: a place in it fits a `u32`, with room for small sums.
 pub const MAX_LEN: usize = 4_294_967_039;
+
+#[cfg(test)]
+mod tests;
