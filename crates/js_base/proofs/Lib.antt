@@ -3,3 +3,4 @@ pub mod KindSetLemmas
 pub mod KeywordLemmas
 pub mod ContextLemmas
 pub mod SurrogateLemmas
+pub mod PrecedenceLemmas

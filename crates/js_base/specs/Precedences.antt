@@ -1,7 +1,9 @@
 -- How tightly the operators between two operands bind (ECMA-262, 13.6 to 13.13).
-use Rattle.std.specs.Prelude.{List, [], ◌∷◌}
+use Rattle.std.specs.Prelude.{Bool, ◌||◌, List, [], ◌∷◌, is_some}
 use Rattle.js_base.specs.declared.kind.Kind.{Kind}
 use Rattle.js_base.specs.declared.kind.Kind.TheVariants as kind
+use Rattle.js_base.specs.Kinds.{one_of_kinds}
+use Rattle.js_base.specs.Operators.{binary_operators, logical_operators, row_of}
 use Rattle.js_base.specs.declared.precedence.Precedence.{Precedence}
 use Rattle.js_base.specs.declared.precedence.Precedence.TheVariants.{NullishCoalescing, LogicalOr, LogicalAnd, BitwiseOr, BitwiseXor, BitwiseAnd, Equals, Compare, Shift, Add, Multiply, Exponentiation}
 
@@ -21,3 +23,7 @@ precedences =
     (kind.Star, Multiply) ∷ (kind.Slash, Multiply) ∷ (kind.Percent, Multiply) ∷  -- 13.7
     (kind.Star2, Exponentiation) ∷  -- 13.6
     []
+
+-- whether a kind stands between two operands: as a binary or a logical operator, or as `as` or `satisfies`
+abbrev pub is_infix : Kind → Bool
+is_infix k = is_some (row_of binary_operators k) || (is_some (row_of logical_operators k) || one_of_kinds (kind.As ∷ kind.Satisfies ∷ []) k)

@@ -24,9 +24,9 @@ bitflag_items! {
         const Return = 8;
         /// The expression of a decorator is read.
         const Decorator = 16;
-        /// No conditional type is read. It is never set.
+        /// No conditional type is read; no text of JavaScript sets it.
         const DisallowConditionalTypes = 32;
-        /// A declaration without its implementation is read. It is never set.
+        /// A declaration without its implementation is read; no text of JavaScript sets it.
         const Ambient = 64;
         /// The top level of the text is read, and no function.
         const TopLevel = 128;
@@ -218,5 +218,49 @@ impl Context {
         ensures { result.0 ≡ (if include then bit_or self.0 flags.0 else self.0) }
     {
         if include { self.union(flags) } else { self }
+    }
+}
+
+#[cfg(test)]
+mod tests {
+    ghost use Rattle.std.specs.Prelude.{◌≡◌, ◌↔◌, IsTrue, fold};
+    ghost use Rattle.std.specs.Hash as fed;
+    ghost use Rattle.std.specs.Ordering.{nat_cmp};
+    ghost use Rattle.js_base.specs.Contexts.{bits_of};
+
+    use super::*;
+    use std::cmp::Ordering;
+    use std::hash::{DefaultHasher, Hash, Hasher};
+
+    fn is_same(a: Context, b: Context) -> bool
+        ensures { IsTrue result ↔ (bits_of a ≡ bits_of b) }
+    {
+        a == b
+    }
+
+    fn order_of(a: Context, b: Context) -> Ordering
+        ensures { result ≡ nat_cmp (bits_of a) (bits_of b) }
+    {
+        a.cmp(&b)
+    }
+
+    fn hash_of<H: Hasher>(a: Context, state: &mut H)
+        ensures { state.new ≡ fold H.write state.old (fed.u16 (bits_of a)) }
+    {
+        a.hash(state);
+    }
+
+    #[test]
+    fn comparisons(rt: HostRuntime) {
+        assert!(rt; is_same(Context::In | Context::Await, Context::Await | Context::In));
+        assert!(rt; !is_same(Context::In, Context::Yield));
+        assert_eq!(rt;
+            order_of(Context::In | Context::Yield, Context::Await),
+            Ordering::Less
+        );
+        let (mut one, mut other) = (DefaultHasher::new(), DefaultHasher::new());
+        hash_of(Context::In | Context::Await, &mut one);
+        hash_of(Context::Await | Context::In, &mut other);
+        assert_eq!(rt; one.finish(), other.finish());
     }
 }

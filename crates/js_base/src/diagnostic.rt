@@ -319,7 +319,7 @@ impl Diagnostics {
         self.items.get(i)
     }
 
-    /// One more, at the end.
+    /// One more, at the end. The list stays as it was where memory is refused.
     pub fn push(&mut self, d: Diagnostic) -> Result<(), NoMemory>
         ensures ok { OnOk result (self.new ≡ self.old ++ d ∷ []) }
         ensures err { OnErr result (self.new ≡ self.old) }

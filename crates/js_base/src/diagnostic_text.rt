@@ -444,6 +444,8 @@ impl DiagnosticKind {
 }
 
 impl fmt::Display for Diagnostic {
+    ghost output = { λ diagnostic. fixed_message diagnostic.kind };
+
     /// Writes the message of the kind, without the places.
     fn fmt<W: fmt::Write>(&self, f: &mut fmt::Formatter<W>) -> fmt::Result {
         f.write_str(self.kind.message())

@@ -1,8 +1,8 @@
 //! How tightly operators bind (ECMA-262, sections 13.6 to 13.16).
 
-ghost use Rattle.std.specs.Prelude.{◌≡◌, ◌↔◌, IsTrue};
+ghost use Rattle.std.specs.Prelude.{◌≡◌, ◌↔◌, IsTrue, is_some};
 ghost use Rattle.js_base.specs.Operators.{row_of};
-ghost use Rattle.js_base.specs.Precedences.{precedences};
+ghost use Rattle.js_base.specs.Precedences.{is_infix, precedences};
 ghost use Rattle.js_base.specs.declared.precedence.Precedence.TheVariants.{Exponentiation};
 
 use crate::kind::Kind;
@@ -49,8 +49,10 @@ impl Precedence {
 
 /// The precedence of a kind as an operator between two operands; none exactly where it is none. The words `as` and
 /// `satisfies`, which stand so in TypeScript, have that of `<`.
+#[tactic(auto, using(crate::proofs::PrecedenceLemmas::kind_laws))]
 pub fn kind_to_precedence(kind: Kind) -> Option<Precedence>
-    ensures { result ≡ row_of precedences kind }
+    ensures row { result ≡ row_of precedences kind }
+    ensures operators { is_some result ≡ is_infix kind }
 {
     Some(match kind {
         Kind::Question2 => Precedence::NullishCoalescing,

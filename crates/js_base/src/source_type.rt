@@ -4,6 +4,7 @@ ghost use Rattle.std.specs.Prelude.{◌≡◌, IsTrue, ◌↔◌};
 ghost use Rattle.js_base.specs.Sources.{is_goal};
 ghost use Rattle.js_base.specs.declared.source_type.Goal.TheVariants.{Script, Module, CommonJs, Unambiguous};
 
+/// The four ways to read a text.
 #[derive(Debug, Clone, Copy, PartialEq, Eq)]
 enum Goal {
     Script,

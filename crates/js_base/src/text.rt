@@ -28,7 +28,7 @@ impl Model for Text {
 }
 
 impl Text {
-    /// A text with the same bytes.
+    /// A text with the same bytes; the only error is want of memory.
     pub fn from_str(alloc: Global, text: &str) -> Result<Self, NoMemory>
         ensures { IfOk result (λ t. t ≡ text.now) }
     {

@@ -7,7 +7,7 @@ ghost use Rattle.js_base.specs.declared.kind.Kind.TheVariants.{Eof};
 use crate::kind::Kind;
 use crate::span::Span;
 
-/// A placed lexeme.
+/// A placed lexeme (ECMA-262, chapter 12).
 #[derive(Debug, Clone, Copy, PartialEq, Eq)]
 pub struct Token {
     kind: Kind,
@@ -90,7 +90,8 @@ impl Token {
         self.has_separator
     }
 
-    /// The text of the token in the text that it was read from, without copying.
+    /// The slice of a text at the token's span, without copying. The span has to lie in the text and to split no
+    /// character, as it does in the text that the token was read from.
     pub fn text<'s>(&self, source: &'s str) -> &'s str
         requires { LiesIn self.now.span source.now }
         ensures { result.now ≡ slice_range source.now self.now.span.start self.now.span.end }
