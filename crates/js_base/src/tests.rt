@@ -1,5 +1,9 @@
-//! Tables against which the calls are run: their rows stand in the documents of the parser's surface, and no other crate
-//! repeats them.
+//! Each call on a table of what it has to answer, and each public call once.
+
+ghost use Rattle.std.specs.Prelude.{◌≡◌, ◌↔◌, IsTrue, fold};
+ghost use Rattle.std.specs.Hash as fed;
+ghost use Rattle.std.specs.Ordering.{nat_cmp};
+ghost use Rattle.js_base.specs.Contexts.{bits_of};
 
 use crate::{
     AssignmentOperator, BinaryOperator, Context, Diagnostic, DiagnosticClass, DiagnosticKind,
@@ -9,6 +13,8 @@ use crate::{
     map_logical_operator, map_unary_operator, map_update_operator,
 };
 use std::alloc::Global;
+use std::cmp::Ordering;
+use std::hash::{DefaultHasher, Hash, Hasher};
 
 static KINDS: [(Kind, &str, &str); 142] = [
     (Kind::Break, "break", "Break"),
@@ -449,4 +455,36 @@ fn texts(rt: HostRuntime) {
     assert_eq!(rt; token.text("abc"), "bc");
     let mut steps = Steps::new();
     steps.tick();
+}
+
+fn is_same(a: Context, b: Context) -> bool
+    ensures { IsTrue result ↔ (bits_of a ≡ bits_of b) }
+{
+    a == b
+}
+
+fn order_of(a: Context, b: Context) -> Ordering
+    ensures { result ≡ nat_cmp (bits_of a) (bits_of b) }
+{
+    a.cmp(&b)
+}
+
+fn hash_of<H: Hasher>(a: Context, state: &mut H)
+    ensures { state.new ≡ fold H.write state.old (fed.u16 (bits_of a)) }
+{
+    a.hash(state);
+}
+
+#[test]
+fn comparisons(rt: HostRuntime) {
+    assert!(rt; is_same(Context::In | Context::Await, Context::Await | Context::In));
+    assert!(rt; !is_same(Context::In, Context::Yield));
+    assert_eq!(rt;
+        order_of(Context::In | Context::Yield, Context::Await),
+        Ordering::Less
+    );
+    let (mut one, mut other) = (DefaultHasher::new(), DefaultHasher::new());
+    hash_of(Context::In | Context::Await, &mut one);
+    hash_of(Context::Await | Context::In, &mut other);
+    assert_eq!(rt; one.finish(), other.finish());
 }
