@@ -51,10 +51,9 @@ module _ {Lex : ℕ → Lexeme → Type 0} where
   infixr 20 ◌▹◌
   pub ◌▹◌ : {rn rm : ℕ} {F : Look} {ks : Slots} {g g' g'' : G} {s s' s'' : ℕ} {f h : Slots → Slots} → Goes Lex F ks g s g' s' f rn → Goes Lex F ks g' s' g'' s'' h rm → Goes Lex F ks g s g'' s'' (λ us. f (h us)) (max rn rm)
   ◌▹◌ {rn} {rm} {f = f} {h = h} a b = record {
-      
-      sound = λ us vs k ls' rest l r d. let y = b.sound us vs k ls' rest l (reaches_less rm (max rn rm) (omega arith) _ ls' r) d in let x = a.sound (h us) vs k y.0 rest y.1 (y.2 rn (reaches_less rn (max rn rm) (omega arith) _ ls' r)) y.3 in (x.0, x.1, (λ e q. x.2 e (y.2 e q)), x.3);
-      only = λ ts vs k ls rest l d e. let x = a.only ts vs k ls rest l d e in let y = b.only x.0 vs k x.1 rest x.3 x.4 e in (y.0, y.1, x.2 ∙ ap f y.2, y.3, y.4);
-    }
+    sound = λ us vs k ls' rest l r d. let y = b.sound us vs k ls' rest l (reaches_less rm (max rn rm) (omega arith) _ ls' r) d in let x = a.sound (h us) vs k y.0 rest y.1 (y.2 rn (reaches_less rn (max rn rm) (omega arith) _ ls' r)) y.3 in (x.0, x.1, (λ e q. x.2 e (y.2 e q)), x.3);
+    only = λ ts vs k ls rest l d e. let x = a.only ts vs k ls rest l d e in let y = b.only x.0 vs k x.1 rest x.3 x.4 e in (y.0, y.1, x.2 ∙ ap f y.2, y.3, y.4);
+  }
 
   infixr 20 ◌▹✗◌
   pub ◌▹✗◌ : {rn : ℕ} {F : Look} {ks : Slots} {g g' : G} {s s' : ℕ} {f : Slots → Slots} → Goes Lex F ks g s g' s' f rn → Fails Lex F ks g' s' → Fails Lex F ks g s
@@ -111,6 +110,7 @@ module _ {Lex : ℕ → Lexeme → Type 0} where
       where
         go_sound : (us vs : Slots) (k : ℕ) (ls' rest : Lexemes) → Lexes Lex x.to ls' → Reaches 0 x.to ls' → T nothing ks us x.to ls' vs k rest → (ls : Lexemes) × Lexes Lex s ls × Extends s ls x.to ls' × T (lexeme p) ks us s ls vs k rest
         go_sound us vs k ls' rest l w is_nothing = (next x ls', (lx, l), (λ e q. q), is_lexeme h)
+
         go_only : (ts vs : Slots) (k : ℕ) (ls rest : Lexemes) → Lexes Lex s ls → T (lexeme p) ks ts s ls vs k rest → (us : Slots) × (ls' : Lexemes) × (ts ≡ us) × Lexes Lex x.to ls' × T nothing ks us x.to ls' vs k rest
         go_only ts vs k ls rest l (is_lexeme {x = y} {ls = more} q) = let w = alone y l.0 q in (ts, more, refl, subst (λ v. Lexes Lex v.to more) w l.1, subst (λ v. T nothing ks ts v.to more ts y.to more) w is_nothing)
 
@@ -119,6 +119,7 @@ module _ {Lex : ℕ → Lexeme → Type 0} where
       where
         go_sound : (us vs : Slots) (k : ℕ) (ls' rest : Lexemes) → Lexes Lex s ls' → Reaches 0 s ls' → T nothing ks us s ls' vs k rest → (ls : Lexemes) × Lexes Lex s ls × Extends s ls s ls' × T (look p) ks us s ls vs k rest
         go_sound us vs k ls' rest l w is_nothing = (ls', l, (λ e q. q), is_look (h (here ls') (here_at Lex ls' l)))
+
         go_only : (ts vs : Slots) (k : ℕ) (ls rest : Lexemes) → Lexes Lex s ls → T (look p) ks ts s ls vs k rest → (us : Slots) × (ls' : Lexemes) × (ts ≡ us) × Lexes Lex s ls' × T nothing ks us s ls' vs k rest
         go_only ts vs k ls rest l (is_look q) = (ts, ls, refl, l, is_nothing)
 
@@ -128,6 +129,7 @@ module _ {Lex : ℕ → Lexeme → Type 0} where
       where
         go_sound : (us vs : Slots) (k : ℕ) (ls' rest : Lexemes) → Lexes Lex s ls' → Reaches n s ls' → T nothing ks us s ls' vs k rest → (ls : Lexemes) × Lexes Lex s ls × Extends s ls s ls' × T (ahead a) ks (f us) s ls vs k rest
         go_sound us vs k ls' rest l w is_nothing = let x = there us ls' l w in (ls', l, (λ e q. q), is_ahead x.2)
+
         go_only : (ts vs : Slots) (k : ℕ) (ls rest : Lexemes) → Lexes Lex s ls → T (ahead a) ks ts s ls vs k rest → (us : Slots) × (ls' : Lexemes) × (ts ≡ f us) × Lexes Lex s ls' × T nothing ks us s ls' vs k rest
         go_only ts vs k ls rest l (is_ahead {us = us} {j = j} {rest = past} d) = (vs, ls, alone ts us j ls past l d, l, is_nothing)
 
@@ -139,6 +141,7 @@ module _ {Lex : ℕ → Lexeme → Type 0} where
         there us (last x) l (inl i) = absurd (omega arith)
         there us (last x) l (inr q) = absurd ((h x l).1 q)
         there us (next x ls) l w = (x.to, ls, is_lexeme (h x l.0).0)
+
         alone : (ts us : Slots) (j : ℕ) (ls rest : Lexemes) → Lexes Lex s ls → T (lexeme p) ks ts s ls us j rest → ts ≡ us
         alone ts us j ls rest l (is_lexeme q) = refl
 
@@ -154,6 +157,7 @@ module _ {Lex : ℕ → Lexeme → Type 0} where
       where
         go_sound : (us vs : Slots) (k : ℕ) (ls' rest : Lexemes) → Lexes Lex s ls' → Reaches 0 s ls' → T nothing ks us s ls' vs k rest → (ls : Lexemes) × Lexes Lex s ls × Extends s ls s ls' × T kept ks (append ks us) s ls vs k rest
         go_sound us vs k ls' rest l w is_nothing = (ls', l, (λ e q. q), is_kept refl)
+
         go_only : (ts vs : Slots) (k : ℕ) (ls rest : Lexemes) → Lexes Lex s ls → T kept ks ts s ls vs k rest → (us : Slots) × (ls' : Lexemes) × (ts ≡ append ks us) × Lexes Lex s ls' × T nothing ks us s ls' vs k rest
         go_only ts vs k ls rest l (is_kept q) = (vs, ls, q, l, is_nothing)
 
@@ -162,18 +166,19 @@ module _ {Lex : ℕ → Lexeme → Type 0} where
       where
         go_sound : (us vs : Slots) (k : ℕ) (ls' rest : Lexemes) → Lexes Lex s'' ls' → Reaches (max rn rm) s'' ls' → T nothing ks us s'' ls' vs k rest → (ls : Lexemes) × Lexes Lex s ls × Extends s ls s'' ls' × T (keep a b) ks (h us) s ls vs k rest
         go_sound us vs k ls' rest l w is_nothing =
-          let y = t.sound us us s'' ls' ls' l (reaches_less rm (max rn rm) (omega arith) _ ls' w) is_nothing in
-          let x = r.sound end end s' y.0 y.0 y.1 (y.2 rn (reaches_less rn (max rn rm) (omega arith) _ ls' w)) is_nothing in
-          (x.0, x.1, (λ e q. x.2 e (y.2 e q)), is_keep x.3 y.3)
+            let y = t.sound us us s'' ls' ls' l (reaches_less rm (max rn rm) (omega arith) _ ls' w) is_nothing in
+            let x = r.sound end end s' y.0 y.0 y.1 (y.2 rn (reaches_less rn (max rn rm) (omega arith) _ ls' w)) is_nothing in
+            (x.0, x.1, (λ e q. x.2 e (y.2 e q)), is_keep x.3 y.3)
+
         go_only : (ts vs : Slots) (k : ℕ) (ls rest : Lexemes) → Lexes Lex s ls → T (keep a b) ks ts s ls vs k rest → IsTrue (seen F (here rest)) → (us : Slots) × (ls' : Lexemes) × (ts ≡ h us) × Lexes Lex s'' ls' × T nothing ks us s'' ls' vs k rest
         go_only ts vs k ls rest l (is_keep {cs = cs} {j = j} {mid = mid} d d') e =
-          let x = r.only cs end j ls mid l d (c _ _ _ (starting F d' e)) in
-          let n = ends x.4 in
-          let q : cs ≡ f end = x.2 ∙ ap f n.0 in
-          let at : T b (f end) ts s' mid vs k rest = subst (λ z. T b z ts s' mid vs k rest) q (subst (λ z. T b cs ts z mid vs k rest) (sym n.1) d') in
-          let y = t.only ts vs k mid rest (subst (λ z. Lexes Lex s' z) n.2 x.3) at e in
-          let m = ends y.4 in
-          (vs, y.1, y.2 ∙ ap h m.0, y.3, subst (λ z. T nothing ks vs s'' y.1 vs k z) m.2 (subst (λ z. T nothing ks vs s'' y.1 vs z y.1) m.1 is_nothing))
+            let x = r.only cs end j ls mid l d (c _ _ _ (starting F d' e)) in
+            let n = ends x.4 in
+            let q : cs ≡ f end = x.2 ∙ ap f n.0 in
+            let at : T b (f end) ts s' mid vs k rest = subst (λ z. T b z ts s' mid vs k rest) q (subst (λ z. T b cs ts z mid vs k rest) (sym n.1) d') in
+            let y = t.only ts vs k mid rest (subst (λ z. Lexes Lex s' z) n.2 x.3) at e in
+            let m = ends y.4 in
+            (vs, y.1, y.2 ∙ ap h m.0, y.3, subst (λ z. T nothing ks vs s'' y.1 vs k z) m.2 (subst (λ z. T nothing ks vs s'' y.1 vs z y.1) m.1 is_nothing))
 
     -- nodes: l is its label, whichever lexemes it is read from
     pub makes : {rn : ℕ} {m : Make} {a : G} {s' : ℕ} {f : Slots → Slots} (l : Label) → Reads Lex F ks a s s' f rn → ((ls ls' : Lexemes) → Lexes Lex s ls → Lexes Lex s' ls' → label_of m ls s' ls' ≡ l) → Reads Lex F ks (node m a) s s' (tree l (f end)) rn
@@ -181,10 +186,12 @@ module _ {Lex : ℕ → Lexeme → Type 0} where
       where
         go_sound : (us vs : Slots) (k : ℕ) (ls' rest : Lexemes) → Lexes Lex s' ls' → Reaches rn s' ls' → T nothing ks us s' ls' vs k rest → (ls : Lexemes) × Lexes Lex s ls × Extends s ls s' ls' × T (node m a) ks (tree l (f end) us) s ls vs k rest
         go_sound us vs k ls' rest q w is_nothing =
-          let x = r.sound end end s' ls' ls' q w is_nothing in
-          (x.0, x.1, x.2, subst (λ v. T (node m a) ks (tree v (f end) us) s x.0 us s' ls') (h x.0 ls' x.1 q) (is_node x.3))
+            let x = r.sound end end s' ls' ls' q w is_nothing in
+            (x.0, x.1, x.2, subst (λ v. T (node m a) ks (tree v (f end) us) s x.0 us s' ls') (h x.0 ls' x.1 q) (is_node x.3))
+
         inside : (cs ds vs : Slots) (ls ls' rest : Lexemes) (k : ℕ) → Lexes Lex s ls → cs ≡ f ds → Lexes Lex s' ls' → T nothing ks ds s' ls' end k rest → (us : Slots) × (more : Lexemes) × (tree (label_of m ls k rest) cs vs ≡ tree l (f end) us) × Lexes Lex s' more × T nothing ks us s' more vs k rest
         inside cs ds vs ls ls' rest k q w q' is_nothing = (vs, ls', (λ i. tree (h ls ls' q q' i) (w i) vs), q', is_nothing)
+
         go_only : (ts vs : Slots) (k : ℕ) (ls rest : Lexemes) → Lexes Lex s ls → T (node m a) ks ts s ls vs k rest → IsTrue (seen F (here rest)) → (us : Slots) × (ls' : Lexemes) × (ts ≡ tree l (f end) us) × Lexes Lex s' ls' × T nothing ks us s' ls' vs k rest
         go_only ts vs k ls rest q (is_node {cs = cs} d) e = let x = r.only cs end k ls rest q d e in inside cs x.0 vs ls x.1 rest k q x.2 x.3 x.4
 
@@ -194,6 +201,7 @@ module _ {Lex : ℕ → Lexeme → Type 0} where
       where
         go_sound : (us vs : Slots) (k : ℕ) (ls' rest : Lexemes) → Lexes Lex s' ls' → Reaches rn s' ls' → T nothing ks us s' ls' vs k rest → (ls : Lexemes) × Lexes Lex s ls × Extends s ls s' ls' × T (such n c) ks (tree l cs us) s ls vs k rest
         go_sound us vs k ls' rest q w is_nothing = let x = r.sound end end s' ls' ls' q w is_nothing in (x.0, x.1, x.2, is_such x.3 t)
+
         go_only : (ts vs : Slots) (k : ℕ) (ls rest : Lexemes) → Lexes Lex s ls → T (such n c) ks ts s ls vs k rest → IsTrue (seen F (here rest)) → (us : Slots) × (ls' : Lexemes) × (ts ≡ tree l cs us) × Lexes Lex s' ls' × T nothing ks us s' ls' vs k rest
         go_only ts vs k ls rest q (is_such {l = m} {cs = ds} d t') e = let x = r.only (tree m ds end) end k ls rest q d e in found Lex ks m ds x.0 vs s' k x.1 rest (λ z. z) x.2 x.3 x.4
 
@@ -209,15 +217,16 @@ module _ {Lex : ℕ → Lexeme → Type 0} where
       where
         go : (ts vs : Slots) (k : ℕ) (ls rest : Lexemes) → Lexes Lex s ls → T (such n c) ks ts s ls vs k rest → IsTrue (seen F (here rest)) → ⊥
         go ts vs k ls rest q (is_such {l = m} {cs = ds} d t) e =
-          let x = r.only (tree m ds end) end k ls rest q d e in
-          let w : c (record { label = m; slots = ds }) ≡ c (record { label = l; slots = cs }) = (λ i. c (record { label = label_is x.2 i; slots = slots_are x.2 i })) in
-          false≢true (sym f ∙ (sym w ∙ t))
+            let x = r.only (tree m ds end) end k ls rest q d e in
+            let w : c (record { label = m; slots = ds }) ≡ c (record { label = l; slots = cs }) = (λ i. c (record { label = label_is x.2 i; slots = slots_are x.2 i })) in
+            false≢true (sym f ∙ (sym w ∙ t))
 
     pub by_mark : {rn : ℕ} {h : Label → Label} {n : Symbol} {s' : ℕ} {l : Label} {cs : Slots} → Reads Lex F end (rule n) s s' (tree l cs) rn → Reads Lex F ks (marked h n) s s' (tree (h l) cs) rn
     by_mark {rn} {h} {n} {s'} {l} {cs} r = record { sound = λ us vs k ls' rest q w d. go_sound us vs k ls' rest q w d; only = λ ts vs k ls rest q d e. go_only ts vs k ls rest q d e }
       where
         go_sound : (us vs : Slots) (k : ℕ) (ls' rest : Lexemes) → Lexes Lex s' ls' → Reaches rn s' ls' → T nothing ks us s' ls' vs k rest → (ls : Lexemes) × Lexes Lex s ls × Extends s ls s' ls' × T (marked h n) ks (tree (h l) cs us) s ls vs k rest
         go_sound us vs k ls' rest q w is_nothing = let x = r.sound end end s' ls' ls' q w is_nothing in (x.0, x.1, x.2, is_marked x.3)
+
         go_only : (ts vs : Slots) (k : ℕ) (ls rest : Lexemes) → Lexes Lex s ls → T (marked h n) ks ts s ls vs k rest → IsTrue (seen F (here rest)) → (us : Slots) × (ls' : Lexemes) × (ts ≡ tree (h l) cs us) × Lexes Lex s' ls' × T nothing ks us s' ls' vs k rest
         go_only ts vs k ls rest q (is_marked {l = m} {cs = ds} d) e = let x = r.only (tree m ds end) end k ls rest q d e in found Lex ks m ds x.0 vs s' k x.1 rest h x.2 x.3 x.4
 
@@ -227,11 +236,12 @@ module _ {Lex : ℕ → Lexeme → Type 0} where
       where
         go_sound : (us vs : Slots) (k : ℕ) (ls' rest : Lexemes) → Lexes Lex s' ls' → Reaches rn s' ls' → T b ks us s' ls' vs k rest → (ls : Lexemes) × Lexes Lex s ls × Extends s ls s' ls' × T (seq a b) ks (f us) s ls vs k rest
         go_sound us vs k ls' rest l w d = let x = r.sound us us s' ls' ls' l w is_nothing in (x.0, x.1, x.2, is_seq x.3 d)
+
         go_only : (ts vs : Slots) (k : ℕ) (ls rest : Lexemes) → Lexes Lex s ls → T (seq a b) ks ts s ls vs k rest → IsTrue (seen F (here rest)) → (us : Slots) × (ls' : Lexemes) × (ts ≡ f us) × Lexes Lex s' ls' × T b ks us s' ls' vs k rest
         go_only ts vs k ls rest l (is_seq {us = ws} {j = j} {mid = mid} d d') e =
-          let x = r.only ts ws j ls mid l d (c _ _ _ (starting F d' e)) in
-          let n = ends x.4 in
-          (ws, mid, x.2 ∙ ap f n.0, subst (λ z. Lexes Lex s' z) n.2 x.3, subst (λ z. T b ks ws z mid vs k rest) (sym n.1) d')
+            let x = r.only ts ws j ls mid l d (c _ _ _ (starting F d' e)) in
+            let n = ends x.4 in
+            (ws, mid, x.2 ∙ ap f n.0, subst (λ z. Lexes Lex s' z) n.2 x.3, subst (λ z. T b ks ws z mid vs k rest) (sym n.1) d')
 
     pub then : {rn : ℕ} {F' : Look} {a b : G} {s' : ℕ} {f : Slots → Slots} → Reads Lex F' ks a s s' f rn → covers (starts b F) F' ≡ true → Goes Lex F ks (seq a b) s b s' f rn
     then {F'} {b = b} r c = then_by r (covered (starts b F) F' c)
@@ -250,16 +260,18 @@ module _ {Lex : ℕ → Lexeme → Type 0} where
       where
         go_sound : (us vs : Slots) (k : ℕ) (ls' rest : Lexemes) → Lexes Lex s' ls' → Reaches rn s' ls' → T (semicolon p) ks us s' ls' vs k rest → (ls : Lexemes) × Lexes Lex s ls × Extends s ls s' ls' × T (ended rows a) ks (f us) s ls vs k rest
         go_sound us vs k ls' rest l w d =
-          let x = r.sound end end s' ls' ls' l w is_nothing in
-          (x.0, x.1, x.2, is_ended (fr us) x.3 (subst (λ z. T (semicolon z) ks us s' ls' vs k rest) (sym (h (here x.0) (here_at Lex x.0 x.1))) d))
+            let x = r.sound end end s' ls' ls' l w is_nothing in
+            (x.0, x.1, x.2, is_ended (fr us) x.3 (subst (λ z. T (semicolon z) ks us s' ls' vs k rest) (sym (h (here x.0) (here_at Lex x.0 x.1))) d))
+
         inside : (cs ts us vs ds : Slots) (y : Lexeme) (k j : ℕ) (ls' mid rest : Lexemes) → Lex s y → ts ≡ append cs us → cs ≡ f ds → Lexes Lex s' ls' → T nothing ks ds s' ls' end j mid → T (semicolon (rows y cs)) ks us j mid vs k rest
             → (ws : Slots) × (more : Lexemes) × (ts ≡ f ws) × Lexes Lex s' more × T (semicolon p) ks ws s' more vs k rest
         inside cs ts us vs ds y k j ls' mid rest ly q w l is_nothing d =
-          (us, ls', q ∙ (ap (λ z. append z us) w ∙ sym (fr us)), l, subst (λ z. T (semicolon z) ks us s' ls' vs k rest) (h y ly) (subst (λ z. T (semicolon (rows y z)) ks us s' ls' vs k rest) w d))
+            (us, ls', q ∙ (ap (λ z. append z us) w ∙ sym (fr us)), l, subst (λ z. T (semicolon z) ks us s' ls' vs k rest) (h y ly) (subst (λ z. T (semicolon (rows y z)) ks us s' ls' vs k rest) w d))
+
         go_only : (ts vs : Slots) (k : ℕ) (ls rest : Lexemes) → Lexes Lex s ls → T (ended rows a) ks ts s ls vs k rest → IsTrue (seen F (here rest)) → (us : Slots) × (ls' : Lexemes) × (ts ≡ f us) × Lexes Lex s' ls' × T (semicolon p) ks us s' ls' vs k rest
         go_only ts vs k ls rest l (is_ended {cs = cs} {us = us} {j = j} {mid = mid} q d d') e =
-          let x = r.only cs end j ls mid l d (c cs j ls mid l d (starting F d' e)) in
-          inside cs ts us vs x.0 (here ls) k j x.1 mid rest (here_at Lex ls l) q x.2 x.3 x.4 d'
+            let x = r.only cs end j ls mid l d (c cs j ls mid l d (starting F d' e)) in
+            inside cs ts us vs x.0 (here ls) k j x.1 mid rest (here_at Lex ls l) q x.2 x.3 x.4 d'
 
 -- What remains of a choice where a lexeme of one of these kinds stands.
 abbrev pub can : Look → G → List Kind → Bool
@@ -300,6 +312,7 @@ module _ {Lex : ℕ → Lexeme → Type 0} {F : Look} {ks : Slots} {s : ℕ} whe
         go_sound : (us vs : Slots) (k : ℕ) (ls' rest : Lexemes) → Lexes Lex s ls' → Reaches (max rn rm) s ls' → T (alt a' b') ks us s ls' vs k rest → (ls : Lexemes) × Lexes Lex s ls × Extends s ls s ls' × T (alt a b) ks us s ls vs k rest
         go_sound us vs k ls' rest l w (is_left d) = let x = r.sound us vs k ls' rest l (reaches_less rn (max rn rm) (omega arith) _ ls' w) d in (x.0, x.1, x.2, is_left x.3)
         go_sound us vs k ls' rest l w (is_right d) = let x = t.sound us vs k ls' rest l (reaches_less rm (max rn rm) (omega arith) _ ls' w) d in (x.0, x.1, x.2, is_right x.3)
+
         go_only : (ts vs : Slots) (k : ℕ) (ls rest : Lexemes) → Lexes Lex s ls → T (alt a b) ks ts s ls vs k rest → IsTrue (seen F (here rest)) → (us : Slots) × (ls' : Lexemes) × (ts ≡ us) × Lexes Lex s ls' × T (alt a' b') ks us s ls' vs k rest
         go_only ts vs k ls rest l (is_left d) e = let x = r.only ts vs k ls rest l d e in (x.0, x.1, x.2, x.3, is_left x.4)
         go_only ts vs k ls rest l (is_right d) e = let x = t.only ts vs k ls rest l d e in (x.0, x.1, x.2, x.3, is_right x.4)
@@ -347,6 +360,7 @@ module _ {Lex : ℕ → Lexeme → Type 0} {F : Look} {ks : Slots} {s : ℕ} whe
     where
       go_sound : (us vs : Slots) (k : ℕ) (ls' rest : Lexemes) → Lexes Lex s' ls' → Reaches rn s' ls' → T (seq a' b) ks us s' ls' vs k rest → (ls : Lexemes) × Lexes Lex s ls × Extends s ls s' ls' × T (seq a b) ks (f us) s ls vs k rest
       go_sound us vs k ls' rest l w (is_seq {us = ws} {j = j} {mid = mid} d e) = let x = r.sound us ws j ls' mid l w d in (x.0, x.1, x.2, is_seq x.3 e)
+
       go_only : (ts vs : Slots) (k : ℕ) (ls rest : Lexemes) → Lexes Lex s ls → T (seq a b) ks ts s ls vs k rest → IsTrue (seen F (here rest)) → (us : Slots) × (ls' : Lexemes) × (ts ≡ f us) × Lexes Lex s' ls' × T (seq a' b) ks us s' ls' vs k rest
       go_only ts vs k ls rest l (is_seq {us = ws} {j = j} {mid = mid} d d') e = let x = r.only ts ws j ls mid l d (c _ _ _ (starting F d' e)) in (x.0, x.1, x.2, x.3, is_seq x.4 d')
 

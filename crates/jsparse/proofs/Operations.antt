@@ -106,7 +106,7 @@ not_undetermined k h e = let z : strength k ≡ 0 = ap strength e in absurd (ome
 operator_alone : {text : List ℕ} {p : Cursor} (m c : ℕ) → At text p → 1 ≤ m → m ≤ 3 → m ≤ strength p.token.kind → strength p.token.kind ≤ c → Alone (Lex text) (follow (level_at script_flags m).name) (levels script_flags) m c p.prev_token_end (strength p.token.kind) (operates script_flags (strength p.token.kind) p.token.kind)
 operator_alone {text} {p} m c t a b g h = let k = p.token.kind in
     one_operator (level_at script_flags) 2 binary_expression operators_at (climbs script_flags) k (kind_here t refl) g h (strength_low k) (an_operator k (omega arith)) (λ q i. sym (operator_level q i).1)
-      (λ y l e. let z = unbound m y.kind y.newline y.escaped (sym (follow_level m y.kind y.newline y.escaped a b) ∙ e) in let same : tight y.kind ≡ tight k = ap tight (kind_here t refl y l) in let u : tight k ≡ strength k = (operator_level (strength k) (an_operator k (omega arith))).0 in absurd (omega arith))
+    (λ y l e. let z = unbound m y.kind y.newline y.escaped (sym (follow_level m y.kind y.newline y.escaped a b) ∙ e) in let same : tight y.kind ≡ tight k = ap tight (kind_here t refl y l) in let u : tight k ≡ strength k = (operator_level (strength k) (an_operator k (omega arith))).0 in absurd (omega arith))
 
 -- how tight the operator here binds, by what was read before it
 within_cap : {text : List ℕ} {p : Cursor} {c : ℕ} → At text p → 1 ≤ strength p.token.kind → ((y : Lexeme) → Lex text p.prev_token_end y → tight y.kind < c + 1) → strength p.token.kind ≤ c

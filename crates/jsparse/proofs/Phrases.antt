@@ -214,8 +214,15 @@ module _ {text : List ℕ} where
 
   pub call_step : {p o q r : Cursor} {ns os : List Node} {id : NodeId} → (x : Answer text (at Primary script_flags) p o) → o.token.kind ≡ LParen → (b : Behind text (follow LeftHandSide) (calls script_flags) 0 1 p q) → q.token.kind ≡ LParen → (y : Part text full (args script_flags) q r) → Held (label_here call_expression no_op p r) (tree b.label b.slots (y.slots end)) ns os id → Calling text p r ns os id
   unfolding covers
-  call_step {p} {o} {q} {r} x z b k y h = a_call x z (record { at = y.at; further = let i = b.further in let j = y.further in let g = b.at.behind in omega arith; label = label_here call_expression no_op p r; slots = tree b.label b.slots (y.slots end); reach = max b.reach y.reach; near = let i = b.near in let j = y.near in let n = y.further in let g = b.at.behind in omega arith;
-    around = chain_step (call_climbs script_flags) (call_links script_flags) {F' = full} LParen b.around (kind_here b.at k) this refl refl y.reads refl refl }) h
+  call_step {p} {o} {q} {r} x z b k y h = a_call x z (record {
+    at = y.at;
+    further = let i = b.further in let j = y.further in let g = b.at.behind in omega arith;
+    label = label_here call_expression no_op p r;
+    slots = tree b.label b.slots (y.slots end);
+    reach = max b.reach y.reach;
+    near = let i = b.near in let j = y.near in let n = y.further in let g = b.at.behind in omega arith;
+    around = chain_step (call_climbs script_flags) (call_links script_flags) {F' = full} LParen b.around (kind_here b.at k) this refl refl y.reads refl refl;
+  }) h
 
   pub calling_step : {p q r : Cursor} {ns ms os ps : List Node} {left id : NodeId} {ids js : List (Option NodeId)} {k : NodeKind} {sp : Span} {o : Option Kind} → At text p → Calling text p q ns ms left → q.token.kind ≡ LParen → ids ≡ Some left ∷ [] → (y : NumberedPart text full (args script_flags) q r ms os ids js) → Made k sp o js os ps id → label_of k o sp ≡ label_here call_expression no_op p r → Calling text p r ns ps id
   calling_step {ns = ns} {ms = ms} {left = before} {ids = ids} a (a_member x) k j y d e = member_step {left = before} a k x y.part (node_held (y.holds (length ns) (tree x.answer.label x.answer.slots end) (subst (λ v. HoldsAll ms (length ns) (length ms) v (tree x.answer.label x.answer.slots end)) (sym j) (HoldsAll-one before x.holds))) (Keeps-trans x.keeps y.keeps) d e)

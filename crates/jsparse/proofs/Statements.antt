@@ -196,8 +196,8 @@ module _ {text : List ℕ} {q : Cursor} {ms : List Node} {ids : List (Option Nod
   pub list_end : ProgramRead text ms ids
   list_end = let f = s.at.found (λ z. differ Eof Undetermined refl (sym e ∙ z)) in
       let x = program_reads.sound end end q.prev_token_end (last f.0) (last f.0) f.1 (inr (kind_here s.at e f.0 f.1)) is_nothing in record {
-    slots = s.slots end;
-    holds = s.held;
-    reading = record { lexemes = x.0; lexed = x.1; end = q.prev_token_end; final = f.0; is_end = kind_here s.at e f.0 f.1; derived = x.3 };
-    only = λ t i. same_tree (program_reads.only (tree t.label t.slots end) end i.end i.lexemes (last i.final) i.lexed i.derived (rw i.is_end refl)).2;
-  }
+        slots = s.slots end;
+        holds = s.held;
+        reading = record { lexemes = x.0; lexed = x.1; end = q.prev_token_end; final = f.0; is_end = kind_here s.at e f.0 f.1; derived = x.3 };
+        only = λ t i. same_tree (program_reads.only (tree t.label t.slots end) end i.end i.lexemes (last i.final) i.lexed i.derived (rw i.is_end refl)).2;
+      }

@@ -22,7 +22,11 @@ pub fn one_child(alloc: Global, child: NodeId) -> Result<Vec<Option<NodeId>>, No
 }
 
 /// The list of two children.
-fn two_children(alloc: Global, first: NodeId, second: NodeId) -> Result<Vec<Option<NodeId>>, NoMemory>
+fn two_children(
+    alloc: Global,
+    first: NodeId,
+    second: NodeId,
+) -> Result<Vec<Option<NodeId>>, NoMemory>
     ensures { IfOk result (λ v. v.items ≡ Some first ∷ Some second ∷ []) }
 {
     let mut children = Vec::with_capacity(alloc, 2)?;
@@ -44,7 +48,11 @@ fn strength(kind: Kind) -> u8
 
 /// An Expression.
 #[cycle(expressions)]
-pub fn parse_expression(text: &[u8], p: &mut Cursor, ast: &mut ParserAstBuilder) -> Result<NodeId, Stop>
+pub fn parse_expression(
+    text: &[u8],
+    p: &mut Cursor,
+    ast: &mut ParserAstBuilder,
+) -> Result<NodeId, Stop>
     requires { At text.now p.old }
     ensures { Answers text.now (at Expression script_flags) p.old p.new ast.old.nodes.items ast.new.nodes.items result }
 {
@@ -83,7 +91,11 @@ fn parse_binary_expression(
 
 /// A Unary: signs, and what they stand before.
 #[cycle(expressions)]
-fn parse_unary_expression(text: &[u8], p: &mut Cursor, ast: &mut ParserAstBuilder) -> Result<NodeId, Stop>
+fn parse_unary_expression(
+    text: &[u8],
+    p: &mut Cursor,
+    ast: &mut ParserAstBuilder,
+) -> Result<NodeId, Stop>
     requires { At text.now p.old }
     ensures { Answers text.now (at Unary script_flags) p.old p.new ast.old.nodes.items ast.new.nodes.items result }
 {
@@ -118,7 +130,11 @@ fn parse_signed_expression(
 
 /// A LeftHandSide: a member, and the arguments of calls behind it.
 #[cycle(expressions)]
-fn parse_lhs_expression(text: &[u8], p: &mut Cursor, ast: &mut ParserAstBuilder) -> Result<NodeId, Stop>
+fn parse_lhs_expression(
+    text: &[u8],
+    p: &mut Cursor,
+    ast: &mut ParserAstBuilder,
+) -> Result<NodeId, Stop>
     requires { At text.now p.old }
     ensures { Answers text.now (at LeftHandSide script_flags) p.old p.new ast.old.nodes.items ast.new.nodes.items result }
 {
@@ -159,7 +175,11 @@ fn parse_arguments(
 
 /// A Primary: a name, a number or an expression in parentheses.
 #[cycle(expressions)]
-fn parse_primary_expression(text: &[u8], p: &mut Cursor, ast: &mut ParserAstBuilder) -> Result<NodeId, Stop>
+fn parse_primary_expression(
+    text: &[u8],
+    p: &mut Cursor,
+    ast: &mut ParserAstBuilder,
+) -> Result<NodeId, Stop>
     requires { At text.now p.old }
     ensures { Answers text.now (at Primary script_flags) p.old p.new ast.old.nodes.items ast.new.nodes.items result }
 {
@@ -176,7 +196,12 @@ fn parse_primary_expression(text: &[u8], p: &mut Cursor, ast: &mut ParserAstBuil
             bump(text, p);
             let span = Span::new(start, p.prev_token_end);
             let children = Vec::new(ast.alloc);
-            let node = ast.node(NodeKind::NumericLiteral, span, Some(Kind::Decimal), children)?;
+            let node = ast.node(
+                NodeKind::NumericLiteral,
+                span,
+                Some(Kind::Decimal),
+                children,
+            )?;
             Ok(node)
         }
         Kind::LParen => {

@@ -43,10 +43,7 @@ fn is_digit(byte: u8) -> bool
 fn is_name_start(byte: u8) -> bool
     ensures { result ≡ Rattle.js_grammar.specs.Lexing.is_name_start byte }
 {
-    (b'a' <= byte && byte <= b'z')
-        || (b'A' <= byte && byte <= b'Z')
-        || byte == b'$'
-        || byte == b'_'
+    (b'a' <= byte && byte <= b'z') || (b'A' <= byte && byte <= b'Z') || byte == b'$' || byte == b'_'
 }
 
 fn is_name_part(byte: u8) -> bool

@@ -7,7 +7,6 @@ ghost use Rattle.js_grammar.specs.Trees.{Label, Slots};
 ghost use Rattle.jsparse.specs.Holding.{IsTree, kind_of, op_of, label_of};
 ghost use Rattle.jsparse.specs.Walking.{hole_line, node_line, is_slot_below, pending, line_at, within};
 
-use crate::kind_text::kind_text;
 use crate::tree::{Node, NodeId, NodeKind, Tree};
 use js_base::{Diagnostic, Diagnostics, Kind, NoMemory, Span};
 use std::alloc::Global;
@@ -78,7 +77,7 @@ fn write_op(out: &mut Vec<u8>, op: Option<Kind>) -> Result<(), NoMemory>
 {
     if let Some(kind) = op {
         out.push(b' ')?;
-        out.extend_from_slice(kind_text(kind).as_bytes())?;
+        out.extend_from_slice(kind.to_str().as_bytes())?;
     }
     Ok(())
 }

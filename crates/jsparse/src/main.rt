@@ -6,12 +6,13 @@ mod cursor;
 mod ends;
 mod expression;
 mod failing;
-mod kind_text;
 mod laws;
 mod lexer;
 mod lines;
 mod parser;
 mod room;
+#[cfg(test)]
+mod row_tests;
 mod run;
 mod standard;
 mod statement;

@@ -12,7 +12,11 @@ use crate::tree::{NodeId, NodeKind, ParserAstBuilder};
 use js_base::{Kind, Span};
 
 /// A statement: an expression with its semicolon, or a semicolon alone.
-pub fn parse_statement(text: &[u8], p: &mut Cursor, ast: &mut ParserAstBuilder) -> Result<NodeId, Stop>
+pub fn parse_statement(
+    text: &[u8],
+    p: &mut Cursor,
+    ast: &mut ParserAstBuilder,
+) -> Result<NodeId, Stop>
     requires { At text.now p.old }
     ensures { Answers text.now (at Item script_flags) p.old p.new ast.old.nodes.items ast.new.nodes.items result }
 {
@@ -24,7 +28,11 @@ pub fn parse_statement(text: &[u8], p: &mut Cursor, ast: &mut ParserAstBuilder) 
 }
 
 /// A semicolon alone.
-fn parse_empty_statement(text: &[u8], p: &mut Cursor, ast: &mut ParserAstBuilder) -> Result<NodeId, Stop>
+fn parse_empty_statement(
+    text: &[u8],
+    p: &mut Cursor,
+    ast: &mut ParserAstBuilder,
+) -> Result<NodeId, Stop>
     requires at { At text.now p.old }
     requires here { p.old.token.kind ≡ Semicolon }
     ensures { Answers text.now (at Item script_flags) p.old p.new ast.old.nodes.items ast.new.nodes.items result }
@@ -38,7 +46,11 @@ fn parse_empty_statement(text: &[u8], p: &mut Cursor, ast: &mut ParserAstBuilder
 }
 
 /// An expression and its semicolon, which may be left out where the grammar allows that (12.10).
-fn parse_expression_statement(text: &[u8], p: &mut Cursor, ast: &mut ParserAstBuilder) -> Result<NodeId, Stop>
+fn parse_expression_statement(
+    text: &[u8],
+    p: &mut Cursor,
+    ast: &mut ParserAstBuilder,
+) -> Result<NodeId, Stop>
     requires at { At text.now p.old }
     requires other { p.old.token.kind ≡ Semicolon → ⊥ }
     ensures { Answers text.now (at Item script_flags) p.old p.new ast.old.nodes.items ast.new.nodes.items result }
@@ -53,7 +65,11 @@ fn parse_expression_statement(text: &[u8], p: &mut Cursor, ast: &mut ParserAstBu
 }
 
 /// The statements of a script, up to the end of the text.
-pub fn parse_program(text: &[u8], p: &mut Cursor, ast: &mut ParserAstBuilder) -> Result<Vec<Option<NodeId>>, Stop>
+pub fn parse_program(
+    text: &[u8],
+    p: &mut Cursor,
+    ast: &mut ParserAstBuilder,
+) -> Result<Vec<Option<NodeId>>, Stop>
     requires at { At text.now p.old }
     requires begin { p.old.prev_token_end ≡ 0 }
     requires new { length ast.old.nodes.items ≡ 1 }

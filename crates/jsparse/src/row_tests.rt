@@ -8,7 +8,8 @@ use crate::steady::SteadySource;
 use crate::tests::{repeated, words_of};
 use std::test::Fail;
 
-const SUM: &str = "Program 0..5\n  ExpressionStatement 0..5\n    BinaryExpression 0..5 +\n      IdentifierReference 0..1\n      IdentifierReference 4..5\n";
+const SUM: &str =
+    "Program 0..5\n  ExpressionStatement 0..5\n    BinaryExpression 0..5 +\n      IdentifierReference 0..1\n      IdentifierReference 4..5\n";
 
 #[test]
 fn writes_trees(rt: HostRuntime) -> Result<(), Fail> {
@@ -73,7 +74,8 @@ fn reads_in_pieces(rt: HostRuntime) -> Result<(), Fail> {
     let mut sink = RoomSink::with_room(alloc, 1000, Vec::new(alloc))?;
     let got = run(alloc, &words, &mut source, &mut sink);
     assert_eq!(rt; got, Status::Ok);
-    let want = b"Program 0..200000\n  ExpressionStatement 0..200000\n    IdentifierReference 0..200000\n";
+    let want =
+        b"Program 0..200000\n  ExpressionStatement 0..200000\n    IdentifierReference 0..200000\n";
     assert!(rt; sink.bytes() == want.as_slice());
     Ok(())
 }
