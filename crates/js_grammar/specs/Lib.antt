@@ -3,3 +3,14 @@ pub mod Grammar
 pub mod Lines
 pub mod Settings
 pub mod Readings
+pub mod Characters
+pub mod Longest
+pub mod Trivia
+pub mod Escapes
+pub mod Names
+pub mod Numbers
+pub mod Strings
+pub mod Templates
+pub mod RegularExpressions
+pub mod Lexemes
+pub mod Lexing
