@@ -21,7 +21,6 @@ may_precede k rest = not (same_kind QuestionDot k && begins is_decimal rest) && 
 
 -- Punctuator, DivPunctuator, RightBracePunctuator, and `@`
 abbrev pub punctuator_kind : List ℕ → List ℕ → Option Kind
-unfolding punctuators
 punctuator_kind w rest = find (λ k. bytes_eq (text_of k) w && may_precede k rest) punctuators
 
 -- The input elements of InputElementDiv but trivia, by their first character; a dot begins a number where a digit follows. At the end of the text nothing is the end.
@@ -54,7 +53,6 @@ may_begin _ i = true
 
 -- a name, or a word of the keyword table
 abbrev pub is_word : Kind → Bool
-unfolding words
 is_word k = same_kind Ident k || one_of_kinds words k
 
 -- the mark "escaped", of names and private names

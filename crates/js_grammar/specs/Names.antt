@@ -29,7 +29,6 @@ or_ident (Some k) = k
 
 -- the kind of a word: its own, where it is in the keyword table
 abbrev pub word_kind : List ℕ → Kind
-unfolding words
 word_kind cs = or_ident (find (λ k. bytes_eq (text_of k) cs) words)
 
 -- the kind that characters have as a name, by the word that they spell
