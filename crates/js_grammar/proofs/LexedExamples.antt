@@ -1,6 +1,7 @@
 -- Small texts and their lexemes.
 use Rattle.std.proofs.Common.{◌≡◌, ℕ, Bool, true, false, List, [], ◌∷◌, ◌++◌, refl, arith}
-use Rattle.std.specs.Prelude.{codes, chars}
+use Rattle.std.specs.Prelude.{codes}
+use Rattle.std.specs.Str.{chars}
 use Rattle.js_base.specs.declared.kind.Kind.{Kind}
 use Rattle.js_base.specs.declared.kind.Kind.TheVariants.{Ident, Await, Question, Float, Colon, Str, RegExp, Slash, Hex, Decimal, Eof, HashbangComment, ShiftRight3Eq}
 use Rattle.js_base.specs.Texts.{words, punctuators}

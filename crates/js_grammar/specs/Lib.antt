@@ -14,3 +14,4 @@ pub mod Templates
 pub mod RegularExpressions
 pub mod Lexemes
 pub mod Lexing
+pub mod LexicalLaws

@@ -3,6 +3,8 @@
 //! The definitions stand in `specs/`. No call of this crate runs in the program.
 #![tactic(auto)]
 
+pub mod lexical_laws;
+
 ghost use Rattle.std.specs.Prelude.{◌≡◌, true};
 
 /// A law holds; there is nothing to compute.

@@ -1,0 +1,15 @@
+//! Laws of the lexemes of a text.
+
+ghost use Rattle.js_grammar.specs.LexicalLaws.{Joining, Cutting};
+
+/// A part, and another from its end on, are one part together.
+pub fn law_of_joining()
+    ensures { Joining }
+{
+}
+
+/// A part that is cut behind a lexeme is two parts.
+pub fn law_of_cutting()
+    ensures { Cutting }
+{
+}
