@@ -4,3 +4,4 @@ pub mod Alike
 pub mod LexicalExamples
 pub mod Standing
 pub mod LexedExamples
+pub mod CoreLemmas

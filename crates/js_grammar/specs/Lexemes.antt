@@ -23,11 +23,26 @@ may_precede k rest = not (same_kind QuestionDot k && begins is_decimal rest) && 
 abbrev pub punctuator_kind : List ℕ → List ℕ → Option Kind
 punctuator_kind w rest = find (λ k. bytes_eq (text_of k) w && may_precede k rest) punctuators
 
--- The input elements of InputElementDiv but trivia, by their first character; a dot begins a number where a digit follows. At the end of the text nothing is the end.
+-- what a character begins; `digit`: a digit stands behind it
+pub data Opening : Type 0 where
+  a_name a_number a_string a_template a_private_name a_punctuator : Opening
+
+abbrev pub opening : ℕ → Bool → Opening
+opening c digit = elim (is_identifier_start c || (c == 92)) [ true ↦ a_name | false ↦ elim (is_decimal c || ((c == 46) && digit)) [ true ↦ a_number | false ↦ elim (one_of (34 ∷ 39 ∷ []) c) [ true ↦ a_string | false ↦ elim (c == 96) [ true ↦ a_template | false ↦ elim (c == 35) [ true ↦ a_private_name | false ↦ a_punctuator ] ] ] ] ]
+
+abbrev pub kind_of : Opening → List ℕ → List ℕ → Option Kind
+kind_of a_name w rest = name_kind w
+kind_of a_number w rest = number_kind w
+kind_of a_string w rest = string_kind w
+kind_of a_template w rest = template_kind w
+kind_of a_private_name w rest = private_kind w
+kind_of a_punctuator w rest = punctuator_kind w rest
+
+-- The input elements of InputElementDiv but trivia. At the end of the text, nothing is the end.
 abbrev pub plain_kind : List ℕ → List ℕ → Option Kind
 plain_kind [] [] = Some Eof
 plain_kind [] (c ∷ rest) = None
-plain_kind (c ∷ cs) rest = elim (is_identifier_start c || (c == 92)) [ true ↦ name_kind (c ∷ cs) | false ↦ elim (is_decimal c || ((c == 46) && begins is_decimal cs)) [ true ↦ number_kind (c ∷ cs) | false ↦ elim (one_of (34 ∷ 39 ∷ []) c) [ true ↦ string_kind (c ∷ cs) | false ↦ elim (c == 96) [ true ↦ template_kind (c ∷ cs) | false ↦ elim (c == 35) [ true ↦ private_kind (c ∷ cs) | false ↦ punctuator_kind (c ∷ cs) rest ] ] ] ] ]
+plain_kind (c ∷ cs) rest = kind_of (opening c (begins is_decimal cs)) (c ∷ cs) rest
 
 -- HashbangComment (12.5)
 abbrev pub hashbang_kind : List ℕ → Option Kind

@@ -15,3 +15,4 @@ pub mod RegularExpressions
 pub mod Lexemes
 pub mod Lexing
 pub mod LexicalLaws
+pub mod CoreTexts
