@@ -5,3 +5,7 @@ pub mod LexicalExamples
 pub mod Standing
 pub mod LexedExamples
 pub mod CoreLemmas
+pub mod Finding
+pub mod CoreFirst
+pub mod CorePlain
+pub mod CoreNames
