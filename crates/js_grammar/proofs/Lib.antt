@@ -9,3 +9,5 @@ pub mod Finding
 pub mod CoreFirst
 pub mod CorePlain
 pub mod CoreNames
+pub mod CoreNumbers
+pub mod CorePunctuators
