@@ -11,3 +11,4 @@ pub mod CorePlain
 pub mod CoreNames
 pub mod CoreNumbers
 pub mod CorePunctuators
+pub mod CoreStrings
