@@ -12,3 +12,4 @@ pub mod CoreNames
 pub mod CoreNumbers
 pub mod CorePunctuators
 pub mod CoreStrings
+pub mod CoreTrivia
