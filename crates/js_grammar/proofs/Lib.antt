@@ -13,3 +13,5 @@ pub mod CoreNumbers
 pub mod CorePunctuators
 pub mod CoreStrings
 pub mod CoreTrivia
+pub mod Places
+pub mod CoreLexed

@@ -1,6 +1,6 @@
 //! Laws of the lexemes of a text.
 
-ghost use Rattle.js_grammar.specs.LexicalLaws.{Joining, Cutting};
+ghost use Rattle.js_grammar.specs.LexicalLaws.{Joining, Cutting, CoreText};
 
 /// A part, and another from its end on, are one part together.
 pub fn law_of_joining()
@@ -11,5 +11,11 @@ pub fn law_of_joining()
 /// A part that is cut behind a lexeme is two parts.
 pub fn law_of_cutting()
     ensures { Cutting }
+{
+}
+
+/// A core text has one list of lexemes, the same at every goal.
+pub fn law_of_core_texts()
+    ensures { CoreText }
 {
 }
