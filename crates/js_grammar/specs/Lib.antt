@@ -16,3 +16,4 @@ pub mod Lexemes
 pub mod Lexing
 pub mod LexicalLaws
 pub mod CoreTexts
+pub mod LexicalFaults
