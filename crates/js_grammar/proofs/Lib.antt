@@ -15,3 +15,4 @@ pub mod CoreStrings
 pub mod CoreTrivia
 pub mod Places
 pub mod CoreLexed
+pub mod FaultExamples

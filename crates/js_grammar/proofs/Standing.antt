@@ -19,7 +19,7 @@ lexeme_of s ps word k = record { kind = k; from = s + width (joined ps); to = s 
 abbrev pub passes : Passing → ℕ → List (List ℕ) → LexicalGoal → List ℕ → List ℕ → Kind → Bool
 passes p s ps g word rest k = are_trivia (s == 0) ps (word ++ rest) && (longest (lexemes_in g) word rest && (may_begin g (s + width (joined ps)) && ((not (is_number k) || stops_number rest) && (comments_pass p ps && flags_right p k word))))
 
-pub stand : (p : Passing) (text : List ℕ) (s : ℕ) (ps : List (List ℕ)) (g : LexicalGoal) (word rest : List ℕ) (k : Kind) → s ≤ length text → chars (drop s text) ≡ joined ps ++ (word ++ rest) → kind_in g word rest ≡ Some k → passes p s ps g word rest k ≡ true → Lex p text s (lexeme_of s ps word k)
+unfoldable pub stand : (p : Passing) (text : List ℕ) (s : ℕ) (ps : List (List ℕ)) (g : LexicalGoal) (word rest : List ℕ) (k : Kind) → s ≤ length text → chars (drop s text) ≡ joined ps ++ (word ++ rest) → kind_in g word rest ≡ Some k → passes p s ps g word rest k ≡ true → Lex p text s (lexeme_of s ps word k)
 stand p text s ps g word rest k l e h t =
     let a1 = both-right (are_trivia (s == 0) ps (word ++ rest)) (longest (lexemes_in g) word rest && (may_begin g (s + width (joined ps)) && ((not (is_number k) || stops_number rest) && (comments_pass p ps && flags_right p k word)))) t in
     let a2 = both-right (longest (lexemes_in g) word rest) (may_begin g (s + width (joined ps)) && ((not (is_number k) || stops_number rest) && (comments_pass p ps && flags_right p k word))) a1 in
