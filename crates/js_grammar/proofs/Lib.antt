@@ -16,3 +16,4 @@ pub mod CoreTrivia
 pub mod Places
 pub mod CoreLexed
 pub mod FaultExamples
+pub mod CharacterLemmas

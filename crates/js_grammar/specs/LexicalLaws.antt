@@ -1,7 +1,11 @@
 -- Laws of the lexemes of a text.
-use Rattle.std.specs.Prelude.{ℕ, List, ◌≡◌, IsUtf8}
-use Rattle.js_grammar.specs.Grammar.{Lexemes}
-use Rattle.js_grammar.specs.Lexing.{Passing, Lex, Lexes, Lexed, end_of, join}
+use Rattle.std.specs.Prelude.{ℕ, List, [], ◌∷◌, ◌≡◌, ◌||◌, IsUtf8}
+use Rattle.unicode.specs.Binary.{is_id_start, is_id_continue}
+use Rattle.ucd_category.specs.GeneralCategory.{general_category, general_category_eq}
+use Rattle.ucd_category.specs.declared.GeneralCategory.TheVariants.{SpaceSeparator}
+use Rattle.js_grammar.specs.Characters.{one_of, is_white_space, is_identifier_start, is_identifier_part}
+use Rattle.js_grammar.specs.Grammar.{Lexeme, Lexemes}
+use Rattle.js_grammar.specs.Lexing.{Passing, all_faults, Lex, Lexes, Lexed, end_of, join}
 use Rattle.js_grammar.specs.Settings.{Goal}
 use Rattle.js_grammar.specs.CoreTexts.{CoreSource}
 
@@ -22,3 +26,13 @@ pub record OneList (text : List ℕ) : Type 0 where
 -- a core text has one list of lexemes, the same at every goal
 abbrev pub CoreText : Type 0
 CoreText = (text : List ℕ) → IsUtf8 text → CoreSource text → OneList text
+
+-- the classes of characters in the standard's words, by the tables of Unicode alone
+pub record CharacterClasses : Type 0 where
+  pub white_space : (c : ℕ) → is_white_space c ≡ (one_of (9 ∷ 11 ∷ 12 ∷ 0xFEFF ∷ []) c || general_category_eq (general_category c) SpaceSeparator)
+  pub identifier_start : (c : ℕ) → is_identifier_start c ≡ (is_id_start c || one_of (36 ∷ 95 ∷ []) c)
+  pub identifier_part : (c : ℕ) → is_identifier_part c ≡ (is_id_continue c || one_of (36 ∷ 0x200C ∷ 0x200D ∷ []) c)
+
+-- faults aside, the marks of diagnostics allow what texts allow
+abbrev pub Leniency : Type 0
+Leniency = (passing : Passing) (text : List ℕ) (s : ℕ) (y : Lexeme) → Lex passing text s y → Lex all_faults text s y
