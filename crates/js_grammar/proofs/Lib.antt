@@ -17,3 +17,4 @@ pub mod Places
 pub mod CoreLexed
 pub mod FaultExamples
 pub mod CharacterLemmas
+pub mod CoreExamples

@@ -10,7 +10,7 @@ use Rattle.js_grammar.specs.Longest.{Class}
 use Rattle.js_grammar.specs.Trivia.{after, within_line}
 use Rattle.js_grammar.specs.Escapes.{code_units}
 use Rattle.js_grammar.specs.Names.{name_of, name_kind, private_kind, has_backslash}
-use Rattle.js_grammar.specs.Numbers.{number_kind}
+use Rattle.js_grammar.specs.Numbers.{number_kind, is_number, has_separator}
 use Rattle.js_grammar.specs.Strings.{string_kind, string_inside, string_units}
 use Rattle.js_grammar.specs.Templates.{template_kind, template_tail_kind}
 use Rattle.js_grammar.specs.RegularExpressions.{regular_expression_kind}
@@ -77,3 +77,7 @@ is_escaped k w = (is_word k || same_kind PrivateIdentifier k) && has_backslash w
 -- The code units of what a word, a private name behind its `#`, or a string stands for; of any other lexeme none.
 abbrev pub units_of : Kind → List ℕ → List ℕ
 units_of k w = elim (is_word k) [ true ↦ unwrap_or (option_map code_units (name_of w)) [] | false ↦ elim (same_kind PrivateIdentifier k) [ true ↦ unwrap_or (option_map code_units (name_of (drop 1 w))) [] | false ↦ elim (same_kind Str k) [ true ↦ unwrap_or (string_units (string_inside w)) [] | false ↦ [] ] ] ]
+
+-- the mark "has a separator", of numbers
+abbrev pub is_separated : Kind → List ℕ → Bool
+is_separated k w = is_number k && has_separator w

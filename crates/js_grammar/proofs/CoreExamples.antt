@@ -1,0 +1,42 @@
+-- A core text, and texts that are none.
+use Rattle.std.proofs.Common.{◌≡◌, ℕ, Bool, true, false, List, [], ◌∷◌, ◌++◌, refl, arith}
+use Rattle.std.specs.Prelude.{codes}
+use Rattle.std.specs.Str.{chars}
+use Rattle.js_base.specs.Texts.{words}
+use Rattle.js_grammar.specs.Longest.{longest}
+use Rattle.js_grammar.specs.CoreTexts.{CoreSource, are_core, is_core_piece, core_punctuators}
+
+-- `a >>= [1, 'b']`, with a line end behind
+core : CoreSource (codes "a >>= [1, 'b']" ++ 10 ∷ [])
+unfolding chars words core_punctuators
+core = record {
+    short = omega arith;
+    pieces = codes "a" ∷ codes " " ∷ codes ">>=" ∷ codes " " ∷ codes "[" ∷ codes "1" ∷ codes "," ∷ codes " " ∷ codes "'b'" ∷ codes "]" ∷ (10 ∷ []) ∷ [];
+    splits = refl; core = refl; lacks_open = refl; lacks_close = refl;
+  }
+
+-- `iff` is a core name, and `if` no core word, nor two names
+longer_name : are_core false (codes "iff" ∷ []) ≡ true
+unfolding words core_punctuators
+longer_name = refl
+
+keyword : are_core false (codes "if" ∷ []) ≡ false
+unfolding words core_punctuators
+keyword = refl
+
+two_names : are_core false (codes "i" ∷ codes "f" ∷ []) ≡ false
+unfolding words core_punctuators
+two_names = refl
+
+-- a number beside a dot, and one beside a name
+behind_dots : are_core false (codes "..." ∷ codes "5" ∷ []) ≡ false
+unfolding words core_punctuators
+behind_dots = refl
+
+beside_name : are_core false (codes "5" ∷ codes "a" ∷ []) ≡ false
+unfolding words core_punctuators
+beside_name = refl
+
+beside_operator : are_core false (codes "5" ∷ codes "+" ∷ codes "5" ∷ []) ≡ true
+unfolding words core_punctuators
+beside_operator = refl
