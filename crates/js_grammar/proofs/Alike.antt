@@ -1,13 +1,13 @@
 -- What stands behind a place is settled: its trivia, and the lexeme of each lexical goal.
-use Rattle.std.proofs.Common.{◌≡◌, ℕ, ◌+◌, ◌==◌, Bool, true, false, List, [], ◌∷◌, ◌++◌, refl, sym, ap, subst, ◌∙◌, ◌&&◌, ◌||◌, append_assoc, Option, Some}
+use Rattle.std.proofs.Common.{◌≡◌, ℕ, ◌==◌, Bool, true, false, List, [], ◌∷◌, ◌++◌, refl, sym, subst, ◌∙◌, ◌||◌, append_assoc, Some}
 use Rattle.js_base.specs.declared.kind.Kind.{Kind}
 use Rattle.js_grammar.specs.Grammar.{Lexeme}
-use Rattle.js_grammar.specs.Characters.{has_line_terminator, width}
-use Rattle.js_grammar.specs.Longest.{Class, longest, none_longer, joined}
+use Rattle.js_grammar.specs.Characters.{has_line_terminator}
+use Rattle.js_grammar.specs.Longest.{longest, none_longer, joined}
 use Rattle.js_grammar.specs.Trivia.{is_trivia_piece, are_trivia}
-use Rattle.js_grammar.specs.Lexemes.{LexicalGoal, lexemes_in, kind_in}
-use Rattle.js_grammar.specs.Lexing.{Passing, Lex, Stands, IsLexeme}
-use Rattle.js_grammar.proofs.LongestLemmas.{both-left, both-right, none_longer-at, longest-same, Same}
+use Rattle.js_grammar.specs.Lexemes.{LexicalGoal, lexemes_in}
+use Rattle.js_grammar.specs.Lexing.{Passing, Lex, Stands}
+use Rattle.js_grammar.proofs.LongestLemmas.{both-left, both-right, none_longer-at, longest-same}
 
 no_empty_piece : (first : Bool) (rest : List ℕ) → is_trivia_piece first [] rest ≡ false
 no_empty_piece true rest = refl
@@ -29,15 +29,15 @@ pub trivia-same : (first : Bool) (ps qs : List (List ℕ)) (rest more : List ℕ
 trivia-same first [] [] rest more e h k = record { pieces = refl; back = e }
 trivia-same first [] (q ∷ qs) rest more e h k =
     absurd (no_piece first q rest (joined qs ++ more) h (e ∙ append_assoc q (joined qs) more)
-      (both-left _ _ (both-left (longest (is_trivia_piece first) q (joined qs ++ more)) (are_trivia (first || has_line_terminator q) qs more) k)))
+    (both-left _ _ (both-left (longest (is_trivia_piece first) q (joined qs ++ more)) (are_trivia (first || has_line_terminator q) qs more) k)))
 trivia-same first (p ∷ ps) [] rest more e h k =
     absurd (no_piece first p more (joined ps ++ rest) k (sym e ∙ append_assoc p (joined ps) rest)
-      (both-left _ _ (both-left (longest (is_trivia_piece first) p (joined ps ++ rest)) (are_trivia (first || has_line_terminator p) ps rest) h)))
+    (both-left _ _ (both-left (longest (is_trivia_piece first) p (joined ps ++ rest)) (are_trivia (first || has_line_terminator p) ps rest) h)))
 trivia-same first (p ∷ ps) (q ∷ qs) rest more e h k =
     let f : p ++ (joined ps ++ rest) ≡ q ++ (joined qs ++ more) = sym (append_assoc p (joined ps) rest) ∙ e ∙ append_assoc q (joined qs) more in
     let s = longest-same (is_trivia_piece first) p (joined ps ++ rest) q (joined qs ++ more) f
-        (both-left (longest (is_trivia_piece first) p (joined ps ++ rest)) (are_trivia (first || has_line_terminator p) ps rest) h)
-        (both-left (longest (is_trivia_piece first) q (joined qs ++ more)) (are_trivia (first || has_line_terminator q) qs more) k) in
+    (both-left (longest (is_trivia_piece first) p (joined ps ++ rest)) (are_trivia (first || has_line_terminator p) ps rest) h)
+    (both-left (longest (is_trivia_piece first) q (joined qs ++ more)) (are_trivia (first || has_line_terminator q) qs more) k) in
     let h' = both-right (longest (is_trivia_piece first) p (joined ps ++ rest)) (are_trivia (first || has_line_terminator p) ps rest) h in
     let k' = both-right (longest (is_trivia_piece first) q (joined qs ++ more)) (are_trivia (first || has_line_terminator q) qs more) k in
     let k'' : are_trivia (first || has_line_terminator p) qs more ≡ true = subst (λ (v : List ℕ). are_trivia (first || has_line_terminator v) qs more ≡ true) (sym s.front) k' in
@@ -64,7 +64,7 @@ lex-same {s = s} {y = y} {z = z} h k g =
     let kind : y.kind ≡ z.kind = some-same y.kind z.kind kinds in
     let from : y.from ≡ z.from = (let a = h.from in let b = k.from in let c = t.pieces in cc) in
     lexeme-same y z kind from
-      (let a = h.to in let b = k.to in let c = w.front in cc)
-      (let a = h.newline in let b = k.newline in let c = t.pieces in cc)
-      (let a = h.escaped in let b = k.escaped in let c = w.front in cc)
-      (let a = h.units in let b = k.units in let c = w.front in cc)
+    (let a = h.to in let b = k.to in let c = w.front in cc)
+    (let a = h.newline in let b = k.newline in let c = t.pieces in cc)
+    (let a = h.escaped in let b = k.escaped in let c = w.front in cc)
+    (let a = h.units in let b = k.units in let c = w.front in cc)

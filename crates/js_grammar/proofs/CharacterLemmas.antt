@@ -1,5 +1,5 @@
 -- The classes of characters are those of the standard: among ASCII, the tables of Unicode hold what the definitions say.
-use Rattle.std.proofs.Common.{◌≡◌, ◌<◌, ℕ, Bool, true, false, List, [], ◌∷◌, refl, sym, ap, ◌∙◌, ◌||◌, ◌==◌, arith}
+use Rattle.std.proofs.Common.{◌≡◌, ◌<◌, ℕ, Bool, true, false, [], ◌∷◌, refl, ap, ◌∙◌, ◌||◌, ◌==◌, arith}
 use Rattle.std.proofs.lemmas.Bool.Decides.{nat_tests}
 use Rattle.std.specs.Bool.{beq, nat_lt}
 use Rattle.std.specs.Char.{is_ascii_alphabetic, is_ascii_alphanumeric}
@@ -71,7 +71,7 @@ by_size c A f g = go (nat_lt c 128) refl
 
 pub character_classes : CharacterClasses
 character_classes = record {
-    white_space = λ c. by_size c (is_white_space c ≡ (one_of (9 ∷ 11 ∷ 12 ∷ 0xFEFF ∷ []) c || general_category_eq (general_category c) SpaceSeparator)) (white_ascii c) (white_beyond c);
-    identifier_start = λ c. by_size c (is_identifier_start c ≡ (is_id_start c || one_of (36 ∷ 95 ∷ []) c)) (start_ascii c) (start_beyond c);
-    identifier_part = λ c. by_size c (is_identifier_part c ≡ (is_id_continue c || one_of (36 ∷ 0x200C ∷ 0x200D ∷ []) c)) (part_ascii c) (part_beyond c);
-  }
+  white_space = λ c. by_size c (is_white_space c ≡ (one_of (9 ∷ 11 ∷ 12 ∷ 0xFEFF ∷ []) c || general_category_eq (general_category c) SpaceSeparator)) (white_ascii c) (white_beyond c);
+  identifier_start = λ c. by_size c (is_identifier_start c ≡ (is_id_start c || one_of (36 ∷ 95 ∷ []) c)) (start_ascii c) (start_beyond c);
+  identifier_part = λ c. by_size c (is_identifier_part c ≡ (is_id_continue c || one_of (36 ∷ 0x200C ∷ 0x200D ∷ []) c)) (part_ascii c) (part_beyond c);
+}

@@ -1,19 +1,21 @@
 -- A core text, and texts that are none.
-use Rattle.std.proofs.Common.{◌≡◌, ℕ, Bool, true, false, List, [], ◌∷◌, ◌++◌, refl, arith}
+use Rattle.std.proofs.Common.{◌≡◌, true, false, [], ◌∷◌, ◌++◌, refl, arith}
 use Rattle.std.specs.Prelude.{codes}
 use Rattle.std.specs.Str.{chars}
 use Rattle.js_base.specs.Texts.{words}
-use Rattle.js_grammar.specs.Longest.{longest}
-use Rattle.js_grammar.specs.CoreTexts.{CoreSource, are_core, is_core_piece, core_punctuators}
+use Rattle.js_grammar.specs.CoreTexts.{CoreSource, are_core, core_punctuators}
 
 -- `a >>= [1, 'b']`, with a line end behind
 core : CoreSource (codes "a >>= [1, 'b']" ++ 10 ∷ [])
 unfolding chars words core_punctuators
 core = record {
-    short = omega arith;
-    pieces = codes "a" ∷ codes " " ∷ codes ">>=" ∷ codes " " ∷ codes "[" ∷ codes "1" ∷ codes "," ∷ codes " " ∷ codes "'b'" ∷ codes "]" ∷ (10 ∷ []) ∷ [];
-    splits = refl; core = refl; lacks_open = refl; lacks_close = refl;
-  }
+  short = omega arith;
+  pieces = codes "a" ∷ codes " " ∷ codes ">>=" ∷ codes " " ∷ codes "[" ∷ codes "1" ∷ codes "," ∷ codes " " ∷ codes "'b'" ∷ codes "]" ∷ (10 ∷ []) ∷ [];
+  splits = refl;
+  core = refl;
+  lacks_open = refl;
+  lacks_close = refl;
+}
 
 -- `iff` is a core name, and `if` no core word, nor two names
 longer_name : are_core false (codes "iff" ∷ []) ≡ true

@@ -1,19 +1,19 @@
 -- What a core piece begins with.
-use Rattle.std.proofs.Common.{◌≡◌, ◌<◌, ◌≤◌, ℕ, ◌==◌, Bool, true, false, List, [], ◌∷◌, ◌++◌, refl, sym, ap, subst, ◌∙◌, not, ◌&&◌, ◌||◌, Option, Some, None, ◌⊎◌, inl, inr, nat_lt, arith}
-use Rattle.std.specs.Prelude.{bytes_eq, is_some}
+use Rattle.std.proofs.Common.{◌≡◌, ◌<◌, ℕ, ◌==◌, Bool, true, false, List, [], ◌∷◌, refl, ap, subst, not, ◌&&◌, ◌||◌, Some, inl, inr, nat_lt, arith}
+use Rattle.std.specs.Prelude.{bytes_eq}
 use Rattle.std.specs.List.{list_all, find}
 use Rattle.std.proofs.lemmas.Bool.Decides.{nat_tests}
 use Rattle.std.proofs.lemmas.Slice.Eq.{bytes_eq-Decides}
 use Rattle.js_base.specs.declared.kind.Kind.{Kind}
 use Rattle.js_base.specs.Texts.{text_of}
-use Rattle.js_grammar.specs.Characters.{one_of, is_decimal, is_identifier_start, is_identifier_part, begins}
-use Rattle.js_grammar.specs.Lexemes.{may_precede, Opening, a_name, a_number, a_string, a_template, a_private_name, a_punctuator, opening}
+use Rattle.js_grammar.specs.Characters.{one_of, is_decimal, is_identifier_start, is_identifier_part}
+use Rattle.js_grammar.specs.Lexemes.{may_precede, a_name, a_number, a_string, a_template, a_private_name, a_punctuator, opening}
 use Rattle.js_grammar.specs.Names.{is_plain_name}
 use Rattle.js_grammar.specs.CoreTexts.{is_core_blank, is_ascii_name, is_core_number, is_core_string, is_core_punctuator, is_core_piece, core_punctuators, closes_core_string}
 use Rattle.js_grammar.specs.Strings.{nothing_left}
-use Rattle.js_grammar.proofs.LongestLemmas.{both-left, both-right, both, not-true}
-use Rattle.js_grammar.proofs.CoreLemmas.{below, implies, implied, opens, opens-same}
-use Rattle.js_grammar.proofs.Finding.{either, member, found-test, found-all, found, Found}
+use Rattle.js_grammar.proofs.LongestLemmas.{both-left, both-right}
+use Rattle.js_grammar.proofs.CoreLemmas.{below, implies, implied, opens}
+use Rattle.js_grammar.proofs.Finding.{either, member, found-test, found-all, found}
 
 pub lt-true : (a b : ℕ) → nat_lt a b ≡ true → a < b
 lt-true a b h = grind (arith, nat_tests)
@@ -86,14 +86,18 @@ pub data Sort (c : ℕ) (cs rest : List ℕ) : Type 0 where
 
 pub sort : (c : ℕ) (cs rest : List ℕ) → is_core_piece (c ∷ cs) rest ≡ true → Sort c cs rest
 sort c cs rest h = elim (either (is_core_blank (c ∷ cs)) (is_ascii_name (c ∷ cs) || (is_core_number (c ∷ cs) || (is_core_string (c ∷ cs) || is_core_punctuator (c ∷ cs) rest))) h) [
-    inl a ↦ blank a
+  | inl a ↦ blank a
   | inr b ↦ elim (either (is_ascii_name (c ∷ cs)) (is_core_number (c ∷ cs) || (is_core_string (c ∷ cs) || is_core_punctuator (c ∷ cs) rest)) b) [
-      inl a ↦ name a
+    | inl a ↦ name a
     | inr b ↦ elim (either (is_core_number (c ∷ cs)) (is_core_string (c ∷ cs) || is_core_punctuator (c ∷ cs) rest) b) [
-        inl a ↦ number a
+      | inl a ↦ number a
       | inr b ↦ elim (either (is_core_string (c ∷ cs)) (is_core_punctuator (c ∷ cs) rest) b) [
-          inl a ↦ string a
-        | inr a ↦ punctuator a ] ] ] ]
+        | inl a ↦ string a
+        | inr a ↦ punctuator a
+      ]
+    ]
+  ]
+]
 
 pub sort_first : (c : ℕ) (cs rest : List ℕ) → Sort c cs rest → is_core_first c ≡ true
 sort_first c cs rest (blank h) = blank_first c cs h

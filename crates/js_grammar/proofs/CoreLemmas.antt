@@ -1,12 +1,9 @@
 -- Of core pieces: what they begin with, and that none is longer in the whole language.
-use Rattle.std.proofs.Common.{◌≡◌, ◌≤◌, ◌<◌, ℕ, zero, suc, ◌+◌, ◌==◌, Bool, true, false, List, [], ◌∷◌, ◌++◌, refl, sym, ap, subst, ◌∙◌, not, ◌&&◌, ◌||◌, append_assoc, Option, Some, None, arith, nat_lt, ◌⊎◌, inl, inr}
-use Rattle.std.proofs.lemmas.Bool.Decides.{nat_tests}
-use Rattle.std.specs.List.{list_all}
-use Rattle.js_grammar.specs.Characters.{begins, one_of, is_decimal, is_identifier_start, is_identifier_part}
-use Rattle.js_grammar.specs.Longest.{Class, longest, none_longer, none_begins, joined}
+use Rattle.std.proofs.Common.{◌≡◌, ◌<◌, ℕ, zero, suc, Bool, true, false, List, [], ◌∷◌, ◌++◌, refl, sym, ap, subst, not, ◌&&◌, append_assoc, arith, ◌⊎◌, inl, inr}
+use Rattle.js_grammar.specs.Characters.{begins, is_decimal}
+use Rattle.js_grammar.specs.Longest.{Class, none_longer}
 use Rattle.js_grammar.specs.Lexemes.{plain_kind, Opening, a_name, a_number, a_string, a_template, a_private_name, a_punctuator, opening, kind_of}
-use Rattle.js_grammar.specs.Names.{name_kind}
-use Rattle.js_grammar.proofs.LongestLemmas.{both-left, both-right, both, not-true, append-nil}
+use Rattle.js_grammar.proofs.LongestLemmas.{both-left, both-right, both}
 
 -- a test of every number below another
 abbrev pub all_below : ℕ → (ℕ → Bool) → Bool
@@ -25,7 +22,7 @@ pub none_longer-from : (class : Class) (w cs : List ℕ) → ((c : ℕ) (x more 
 none_longer-from class w [] f = refl
 none_longer-from class w (c ∷ cs) f =
     both (not (class (w ++ c ∷ []) cs)) (none_longer class (w ++ c ∷ []) cs) (rw (f c [] cs refl) refl)
-      (none_longer-from class (w ++ c ∷ []) cs (λ d x more e. subst (λ (v : List ℕ). class v more ≡ false) (sym (append_assoc w (c ∷ []) (d ∷ x))) (f c (d ∷ x) more (ap (λ (v : List ℕ). c ∷ v) e))))
+    (none_longer-from class (w ++ c ∷ []) cs (λ d x more e. subst (λ (v : List ℕ). class v more ≡ false) (sym (append_assoc w (c ∷ []) (d ∷ x))) (f c (d ∷ x) more (ap (λ (v : List ℕ). c ∷ v) e))))
 
 pub plain_of : (o : Opening) (c : ℕ) (cs rest : List ℕ) → opening c (begins is_decimal cs) ≡ o → plain_kind (c ∷ cs) rest ≡ kind_of o (c ∷ cs) rest
 plain_of o c cs rest h = ap (λ (a : Opening). kind_of a (c ∷ cs) rest) h

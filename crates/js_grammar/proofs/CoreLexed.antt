@@ -1,24 +1,23 @@
 -- A core text has one list of lexemes, the same at every goal.
-use Rattle.std.proofs.Common.{◌≡◌, ◌<◌, ◌≤◌, ℕ, zero, suc, ◌+◌, ◌==◌, Bool, true, false, List, [], ◌∷◌, ◌++◌, refl, sym, ap, subst, ◌∙◌, not, ◌&&◌, ◌||◌, Option, Some, None, append_assoc, length, arith, ◌⊎◌}
+use Rattle.std.proofs.Common.{◌≡◌, ◌<◌, ◌≤◌, ℕ, zero, suc, ◌+◌, ◌==◌, Bool, true, false, List, [], ◌∷◌, ◌++◌, refl, sym, ap, subst, ◌∙◌, not, ◌&&◌, ◌||◌, Some, None, length, arith}
 use Rattle.std.specs.Prelude.{chars, codes, IsUtf8}
 use Rattle.js_base.specs.declared.kind.Kind.{Kind}
 use Rattle.js_base.specs.declared.kind.Kind.TheVariants.{Eof, RegExp}
 use Rattle.js_base.specs.Kinds.{code, same_kind}
 use Rattle.js_grammar.specs.Grammar.{Lexeme, Lexemes, last, next}
-use Rattle.js_grammar.specs.Settings.{Goal}
 use Rattle.js_grammar.specs.Characters.{one_of, width}
-use Rattle.js_grammar.specs.Longest.{longest, none_longer, joined}
+use Rattle.js_grammar.specs.Longest.{longest, joined}
 use Rattle.js_grammar.specs.Trivia.{are_trivia, lack_html_comments, after, within_line}
 use Rattle.js_grammar.specs.Numbers.{is_number, stops_number}
 use Rattle.js_grammar.specs.RegularExpressions.{flags, flagged, flags_pass, behind_pattern}
 use Rattle.js_grammar.specs.Templates.{template_tail_kind}
 use Rattle.js_grammar.specs.Lexemes.{LexicalGoal, division, regular_expression, template_tail, hashbang, kind_in, lexemes_in}
-use Rattle.js_grammar.specs.Lexing.{Passing, in_script, in_module, all_faults, passing_of, Lex, Lexes, Lexed, Stands, IsLexeme, comments_pass, flags_right, ends_once}
+use Rattle.js_grammar.specs.Lexing.{Passing, in_script, in_module, all_faults, passing_of, Lex, Lexes, Stands, comments_pass, flags_right, ends_once}
 use Rattle.js_grammar.specs.LexicalLaws.{OneList}
 use Rattle.js_grammar.specs.CoreTexts.{CoreSource, are_core, ends_in_glue, occurs}
 use Rattle.js_grammar.proofs.LongestLemmas.{both-left, both-right, both, not-true}
 use Rattle.js_grammar.proofs.Finding.{neither-left, neither-right}
-use Rattle.js_grammar.proofs.Alike.{stands-same, SameTrivia, lex-same}
+use Rattle.js_grammar.proofs.Alike.{stands-same, lex-same}
 use Rattle.js_grammar.proofs.Standing.{lexeme_of}
 use Rattle.js_grammar.proofs.CoreFirst.{is_core_first}
 use Rattle.js_grammar.proofs.CoreNames.{IsPlain, ascii, core_ascii}
@@ -38,10 +37,20 @@ flags-none all_faults k w h = refl
 -- what stands behind a place, as a lexeme of the division goal
 pub lexeme_stands : (p : Passing) (text : List ℕ) (s : ℕ) (qs : List (List ℕ)) (w rest : List ℕ) (k : Kind) → Stands text s qs w rest → lack_html_comments qs ≡ true → longest (lexemes_in division) w rest ≡ true → kind_in division w rest ≡ Some k → (not (is_number k) || stops_number rest) ≡ true → same_kind RegExp k ≡ false → Lex p text s (lexeme_of s qs w k)
 lexeme_stands p text s qs w rest k st l lg kd a r = record {
-    trivia = qs; goal = division; word = w; rest = rest; stands = st;
-    lexeme = record { longest = lg; kind = kd; begins = refl; apart = a };
-    comments = comments-lack p qs l; flags = flags-none p k w r;
-    from = refl; to = refl; newline = refl; escaped = refl; units = refl }
+  trivia = qs;
+  goal = division;
+  word = w;
+  rest = rest;
+  stands = st;
+  lexeme = record { longest = lg; kind = kd; begins = refl; apart = a };
+  comments = comments-lack p qs l;
+  flags = flags-none p k w r;
+  from = refl;
+  to = refl;
+  newline = refl;
+  escaped = refl;
+  units = refl;
+}
 
 -- the other lexical goals have nothing at the end of the text
 end_is_division : (g : LexicalGoal) (w rest : List ℕ) (k : Kind) → w ++ rest ≡ [] → kind_in g w rest ≡ Some k → g ≡ division
@@ -125,6 +134,7 @@ at_end text s qs st l = record { stands = here; only = only }
   where
     here : (p : Passing) → Lex p text s (lexeme_of s qs [] Eof)
     here p = lexeme_stands p text s qs [] [] Eof st l refl refl refl refl
+
     only : (p : Passing) (y : Lexeme) → Lex p text s y → y ≡ lexeme_of s qs [] Eof
     only p y h =
         let same = stands-same h.stands st in
@@ -136,6 +146,7 @@ at_word text s qs c cs rest st l f i r = record { stands = here; only = only }
   where
     here : (p : Passing) → Lex p text s (lexeme_of s qs (c ∷ cs) i.kind)
     here p = lexeme_stands p text s qs (c ∷ cs) rest i.kind st l i.longest i.is i.apart r
+
     only : (p : Passing) (y : Lexeme) → Lex p text s y → y ≡ lexeme_of s qs (c ∷ cs) i.kind
     only p y h =
         let same = stands-same h.stands st in

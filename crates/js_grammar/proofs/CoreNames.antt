@@ -1,22 +1,21 @@
 -- A core name and a core number are the longest lexeme of the whole language, too.
-use Rattle.std.proofs.Common.{◌≡◌, ◌<◌, ◌≤◌, ℕ, ◌==◌, Bool, true, false, List, [], ◌∷◌, ◌++◌, refl, sym, ap, subst, ◌∙◌, not, ◌&&◌, ◌||◌, Option, Some, None, append_assoc, ◌⊎◌, inl, inr, nat_lt}
+use Rattle.std.proofs.Common.{◌≡◌, ◌<◌, ℕ, ◌==◌, Bool, true, false, List, [], ◌∷◌, ◌++◌, refl, ap, subst, ◌∙◌, not, ◌&&◌, ◌||◌, Option, Some, None, nat_lt}
 use Rattle.std.specs.Prelude.{is_some}
 use Rattle.std.specs.List.{list_all}
 use Rattle.js_base.specs.declared.kind.Kind.{Kind}
 use Rattle.js_base.specs.declared.kind.Kind.TheVariants.{Decimal, Float, Binary, Octal, Hex, PositiveExponential, NegativeExponential, DecimalBigInt, BinaryBigInt, OctalBigInt, HexBigInt, RegExp, Eof}
-use Rattle.js_base.specs.Kinds.{code, same_kind, one_of_kinds}
+use Rattle.js_base.specs.Kinds.{code, one_of_kinds}
 use Rattle.js_grammar.specs.Characters.{one_of, is_decimal, is_identifier_start, is_identifier_part, begins}
-use Rattle.js_grammar.specs.Longest.{Class, longest, none_longer, joined}
-use Rattle.js_grammar.specs.Escapes.{in_name, read_from, outside, before_all, code_points}
-use Rattle.js_grammar.specs.Names.{is_plain_name, named, name_of, word_of, word_kind, name_kind}
-use Rattle.js_grammar.specs.Numbers.{Rest, number_kind, zero_rest, digits, integer_rest, decimal_rest, exponent, is_number, stops_number}
-use Rattle.js_grammar.specs.Lexemes.{plain_kind, lexemes_in, kind_in, division, a_name, a_number, kind_of, opening}
-use Rattle.js_grammar.specs.CoreTexts.{is_core_piece, is_ascii_name, is_core_number, is_core_blank, is_core_string, is_core_punctuator, core_words, is_glue}
-use Rattle.js_grammar.specs.Strings.{nothing_left}
-use Rattle.js_grammar.proofs.LongestLemmas.{both-left, both-right, both, not-true, none_longer-at, append-nil}
-use Rattle.js_grammar.proofs.Finding.{either, neither, neither-left, neither-right, member, kind_member, all-append, all-mono, all-both}
+use Rattle.js_grammar.specs.Longest.{longest, none_longer}
+use Rattle.js_grammar.specs.Escapes.{in_name, read_from, outside, before_all}
+use Rattle.js_grammar.specs.Names.{is_plain_name, named, name_of, word_of, word_kind}
+use Rattle.js_grammar.specs.Numbers.{is_number, stops_number}
+use Rattle.js_grammar.specs.Lexemes.{plain_kind, lexemes_in, kind_in, division, a_name}
+use Rattle.js_grammar.specs.CoreTexts.{is_core_piece, is_ascii_name, is_core_number, is_core_blank, is_core_string, is_core_punctuator, core_words}
+use Rattle.js_grammar.proofs.LongestLemmas.{both-left, both-right, both, none_longer-at}
+use Rattle.js_grammar.proofs.Finding.{neither-left, neither-right, kind_member, all-append, all-both}
 use Rattle.js_grammar.proofs.CoreLemmas.{below, implies, implied, none_longer-from, plain_of, opens, opens-same}
-use Rattle.js_grammar.proofs.CoreFirst.{is_core_first, lt-true, lt-is, name_opens, decimal-ascii}
+use Rattle.js_grammar.proofs.CoreFirst.{is_core_first, lt-true, lt-is, name_opens}
 use Rattle.js_grammar.proofs.CorePlain.{no_backslash, points-append, points-plain, points-one}
 
 -- the first of the characters, where there is one, is one that a core piece may begin with
@@ -58,8 +57,8 @@ name_no_backslash c cs h =
     let a = both-right (is_plain_name (c ∷ cs)) (list_all (λ d. nat_lt d 128) (c ∷ cs)) h in
     let s = both-left (is_identifier_start c) (list_all is_identifier_part cs) (both-left (is_plain_name (c ∷ cs)) (list_all (λ d. nat_lt d 128) (c ∷ cs)) h) in
     both (no_backslash c) (list_all no_backslash cs)
-      (ascii is_identifier_start no_backslash c refl (lt-true c 128 (both-left (nat_lt c 128) (list_all (λ d. nat_lt d 128) cs) a)) s)
-      (all-both is_identifier_part (λ d. nat_lt d 128) no_backslash cs (λ d p l. ascii is_identifier_part no_backslash d refl (lt-true d 128 l) p) (plain_parts c cs h) (both-right (nat_lt c 128) (list_all (λ d. nat_lt d 128) cs) a))
+    (ascii is_identifier_start no_backslash c refl (lt-true c 128 (both-left (nat_lt c 128) (list_all (λ d. nat_lt d 128) cs) a)) s)
+    (all-both is_identifier_part (λ d. nat_lt d 128) no_backslash cs (λ d p l. ascii is_identifier_part no_backslash d refl (lt-true d 128 l) p) (plain_parts c cs h) (both-right (nat_lt c 128) (list_all (λ d. nat_lt d 128) cs) a))
 
 named-plain : (w : List ℕ) → is_plain_name w ≡ true → named (Some w) ≡ Some w
 named-plain w h = ap (λ (b : Bool). elim b [ true ↦ Some w | false ↦ None ]) h
@@ -104,10 +103,10 @@ next_no_part c cs d more h l n = go (is_identifier_part d) refl
     go false e = e
     go true e =
         let a = neither-left (is_ascii_name (c ∷ cs ++ d ∷ [])) (is_core_number (c ∷ cs ++ d ∷ []) || (is_core_string (c ∷ cs ++ d ∷ []) || is_core_punctuator (c ∷ cs ++ d ∷ []) more))
-              (neither-right (is_core_blank (c ∷ cs ++ d ∷ [])) (is_ascii_name (c ∷ cs ++ d ∷ []) || (is_core_number (c ∷ cs ++ d ∷ []) || (is_core_string (c ∷ cs ++ d ∷ []) || is_core_punctuator (c ∷ cs ++ d ∷ []) more))) n) in
+        (neither-right (is_core_blank (c ∷ cs ++ d ∷ [])) (is_ascii_name (c ∷ cs ++ d ∷ []) || (is_core_number (c ∷ cs ++ d ∷ []) || (is_core_string (c ∷ cs ++ d ∷ []) || is_core_punctuator (c ∷ cs ++ d ∷ []) more))) n) in
         let p = both (is_identifier_start c) (list_all is_identifier_part (cs ++ d ∷ []))
-              (both-left (is_identifier_start c) (list_all is_identifier_part cs) (both-left (is_plain_name (c ∷ cs)) (list_all (λ x. nat_lt x 128) (c ∷ cs)) h))
-              (all-append is_identifier_part cs (d ∷ []) (plain_parts c cs h) (both (is_identifier_part d) true e refl)) in
+        (both-left (is_identifier_start c) (list_all is_identifier_part cs) (both-left (is_plain_name (c ∷ cs)) (list_all (λ x. nat_lt x 128) (c ∷ cs)) h))
+        (all-append is_identifier_part cs (d ∷ []) (plain_parts c cs h) (both (is_identifier_part d) true e refl)) in
         let q = all-append (λ x. nat_lt x 128) (c ∷ cs) (d ∷ []) (both-right (is_plain_name (c ∷ cs)) (list_all (λ x. nat_lt x 128) (c ∷ cs)) h) (both (nat_lt d 128) true (lt-is d 128 l) refl) in
         let r = both (is_plain_name (c ∷ cs ++ d ∷ [])) (list_all (λ x. nat_lt x 128) (c ∷ cs ++ d ∷ [])) p q in
         cc
@@ -118,7 +117,7 @@ plain_name c cs rest h n k b =
     record {
       kind = word_kind (c ∷ cs);
       longest = both (lexemes_in division (c ∷ cs) rest) (none_longer (lexemes_in division) (c ∷ cs) rest) (ap is_some kd)
-        (none_longer-from (lexemes_in division) (c ∷ cs) rest (λ d x more e.
+          (none_longer-from (lexemes_in division) (c ∷ cs) rest (λ d x more e.
           let f = b d (x ++ more) e in
           let m : none_longer is_core_piece (c ∷ cs) (d ∷ x ++ more) ≡ true = subst (λ (v : List ℕ). none_longer is_core_piece (c ∷ cs) v ≡ true) e n in
           let m' = none_longer-at is_core_piece (c ∷ cs) d [] (x ++ more) (first_only c cs d x more m) in

@@ -1,17 +1,16 @@
 -- A core number is the longest lexeme of the whole language, too.
-use Rattle.std.proofs.Common.{◌≡◌, ◌<◌, ◌≤◌, ℕ, ◌==◌, Bool, true, false, List, [], ◌∷◌, ◌++◌, refl, sym, ap, subst, ◌∙◌, not, ◌&&◌, ◌||◌, Option, Some, None, ◌⊎◌, inl, inr}
+use Rattle.std.proofs.Common.{◌≡◌, ℕ, ◌==◌, Bool, true, false, List, [], ◌∷◌, ◌++◌, refl, ap, subst, ◌∙◌, not, ◌&&◌, ◌||◌, Some, None}
 use Rattle.std.specs.Prelude.{is_some}
 use Rattle.std.specs.List.{list_all}
 use Rattle.js_base.specs.declared.kind.Kind.{Kind}
 use Rattle.js_base.specs.declared.kind.Kind.TheVariants.{Decimal}
-use Rattle.js_grammar.specs.Characters.{one_of, is_decimal, is_identifier_start, is_identifier_part, begins}
-use Rattle.js_grammar.specs.Longest.{longest, none_longer}
+use Rattle.js_grammar.specs.Characters.{one_of, is_decimal, is_identifier_start, begins}
+use Rattle.js_grammar.specs.Longest.{none_longer}
 use Rattle.js_grammar.specs.Numbers.{Rest, number_kind, zero_rest, digits, integer_rest, decimal_rest, exponent, is_number, stops_number}
-use Rattle.js_grammar.specs.Lexemes.{plain_kind, lexemes_in, division, a_name, a_number, opening}
+use Rattle.js_grammar.specs.Lexemes.{plain_kind, lexemes_in, division, a_number, opening}
 use Rattle.js_grammar.specs.CoreTexts.{is_core_number, is_glue}
 use Rattle.js_grammar.specs.Strings.{nothing_left}
 use Rattle.js_grammar.proofs.LongestLemmas.{both-left, both-right, both, not-true}
-use Rattle.js_grammar.proofs.Finding.{either, neither, neither-left, neither-right}
 use Rattle.js_grammar.proofs.CoreLemmas.{none_longer-from, plain_of, opens, opens-same}
 use Rattle.js_grammar.proofs.CoreFirst.{is_core_first, decimal-ascii}
 use Rattle.js_grammar.proofs.CoreNames.{Before, IsPlain, ascii, core_ascii}
@@ -86,8 +85,10 @@ number-itself c cs h = go (c == 48) refl
   where
     d : is_decimal c ≡ true
     d = both-left (is_decimal c) (list_all is_decimal cs && (not (c == 48) || nothing_left cs)) h
+
     ds : (list_all is_decimal cs && (not (c == 48) || nothing_left cs)) ≡ true
     ds = both-right (is_decimal c) (list_all is_decimal cs && (not (c == 48) || nothing_left cs)) h
+
     go : (z : Bool) → (c == 48) ≡ z → number_kind (c ∷ cs) ≡ Some Decimal
     go true e =
         let n : nothing_left cs ≡ true = subst (λ (b : Bool). (not b || nothing_left cs) ≡ true) e (both-right (list_all is_decimal cs) (not (c == 48) || nothing_left cs) ds) in
@@ -99,8 +100,10 @@ number-longer c cs y ys h s = go (c == 48) refl
   where
     d : is_decimal c ≡ true
     d = both-left (is_decimal c) (list_all is_decimal cs && (not (c == 48) || nothing_left cs)) h
+
     ds : (list_all is_decimal cs && (not (c == 48) || nothing_left cs)) ≡ true
     ds = both-right (is_decimal c) (list_all is_decimal cs && (not (c == 48) || nothing_left cs)) h
+
     go : (z : Bool) → (c == 48) ≡ z → number_kind (c ∷ cs ++ y ∷ ys) ≡ None
     go true e =
         let n : nothing_left cs ≡ true = subst (λ (b : Bool). (not b || nothing_left cs) ≡ true) e (both-right (list_all is_decimal cs) (not (c == 48) || nothing_left cs) ds) in
@@ -125,7 +128,7 @@ plain_number c cs rest h g b =
     record {
       kind = Decimal;
       longest = both (lexemes_in division (c ∷ cs) rest) (none_longer (lexemes_in division) (c ∷ cs) rest) (ap is_some kd)
-        (none_longer-from (lexemes_in division) (c ∷ cs) rest (λ y x more e.
+          (none_longer-from (lexemes_in division) (c ∷ cs) rest (λ y x more e.
           let s : Ends y = ends-of y (b y (x ++ more) e) (subst (λ (v : List ℕ). begins is_glue v ≡ false) e g) in
           ap is_some (plain_of a_number c (cs ++ y ∷ x) more (number-opens c (begins is_decimal (cs ++ y ∷ x)) d) ∙ number-longer c cs y x h s)));
       is = kd;

@@ -1,8 +1,8 @@
 -- Characters without a backslash stand for themselves, in a name and in a string.
 use Rattle.std.proofs.Common.{◌≡◌, ◌<◌, ◌≤◌, ℕ, ◌==◌, Bool, true, false, List, [], ◌∷◌, ◌++◌, refl, sym, ap, subst, ◌∙◌, not, ◌&&◌, ◌||◌, Option, Some, None}
 use Rattle.std.specs.List.{list_all}
-use Rattle.js_grammar.specs.Escapes.{Where, Stage, Step, outside, backslash, go, plainly, step, read_from, before_all, finish, line_feeds, line_feeds_after}
-use Rattle.js_grammar.proofs.LongestLemmas.{both-left, both-right, both, not-true}
+use Rattle.js_grammar.specs.Escapes.{Where, Stage, Step, outside, backslash, go, plainly, step, read_from, before_all, line_feeds, line_feeds_after}
+use Rattle.js_grammar.proofs.LongestLemmas.{both-left, both-right, not-true}
 
 abbrev pub no_backslash : ℕ → Bool
 no_backslash c = not (c == 92)

@@ -1,5 +1,5 @@
 -- A core punctuator is the longest lexeme of the whole language, too.
-use Rattle.std.proofs.Common.{◌≡◌, ◌<◌, ◌≤◌, ℕ, ◌==◌, Bool, true, false, List, [], ◌∷◌, ◌++◌, refl, sym, ap, subst, ◌∙◌, not, ◌&&◌, ◌||◌, Option, Some, None, ◌⊎◌, inl, inr}
+use Rattle.std.proofs.Common.{◌≡◌, ℕ, ◌==◌, Bool, true, false, List, [], ◌∷◌, ◌++◌, refl, sym, ap, subst, ◌∙◌, not, ◌&&◌, ◌||◌, Some}
 use Rattle.std.specs.Prelude.{is_some, bytes_eq, nat_eq}
 use Rattle.std.specs.List.{list_all, find}
 use Rattle.js_base.specs.declared.kind.Kind.{Kind}
@@ -7,15 +7,14 @@ use Rattle.js_base.specs.declared.kind.Kind.TheVariants.{LCurly, RCurly, At, Sla
 use Rattle.js_base.specs.Kinds.{code}
 use Rattle.js_base.specs.Texts.{text_of, punctuators}
 use Rattle.js_grammar.specs.Characters.{one_of, is_decimal, begins}
-use Rattle.js_grammar.specs.Longest.{longest, none_longer}
-use Rattle.js_grammar.specs.Numbers.{is_number, stops_number}
+use Rattle.js_grammar.specs.Longest.{none_longer}
 use Rattle.js_grammar.specs.Lexemes.{plain_kind, lexemes_in, division, a_punctuator, Opening, opening, may_precede, punctuator_kind}
 use Rattle.js_grammar.specs.CoreTexts.{is_core_piece, is_core_blank, is_ascii_name, is_core_number, is_core_string, is_core_punctuator, core_punctuators, ends_in_glue, is_glue}
 use Rattle.js_grammar.proofs.LongestLemmas.{both-left, both-right, both, not-true, none_longer-at}
-use Rattle.js_grammar.proofs.Finding.{either, neither, neither-left, neither-right, found-all}
+use Rattle.js_grammar.proofs.Finding.{neither-left, neither-right, found-all}
 use Rattle.js_grammar.proofs.CoreLemmas.{none_longer-from, plain_of, opens, opens-same}
-use Rattle.js_grammar.proofs.CoreFirst.{is_core_first, is_mark, IsMark, punctuator_mark, first_passes}
-use Rattle.js_grammar.proofs.CoreNames.{Before, IsPlain, ascii, core_ascii, is_number_code, no_number_apart}
+use Rattle.js_grammar.proofs.CoreFirst.{is_core_first, is_mark, IsMark, punctuator_mark}
+use Rattle.js_grammar.proofs.CoreNames.{IsPlain, ascii, core_ascii, is_number_code, no_number_apart}
 
 -- where the five others fail the test, those that are left decide
 core_find : (test : Kind → Bool) → test LCurly ≡ false → test RCurly ≡ false → test At ≡ false → test Slash ≡ false → test SlashEq ≡ false → find test punctuators ≡ find test core_punctuators
@@ -41,7 +40,7 @@ core_kinds c v more h =
     let right : (125 == c) ≡ false = neither-left (125 == c) false (neither-right (123 == c) (one_of (125 ∷ []) c) n4) in
     let fails : (k : Kind) → bytes_eq (text_of k) (c ∷ v) ≡ false → (bytes_eq (text_of k) (c ∷ v) && may_precede k more) ≡ false = λ k e. and-left (bytes_eq (text_of k) (c ∷ v)) (may_precede k more) e in
     core_find (λ k. bytes_eq (text_of k) (c ∷ v) && may_precede k more)
-      (fails LCurly (and-left (123 == c) (bytes_eq [] v) left)) (fails RCurly (and-left (125 == c) (bytes_eq [] v) right)) (fails At (and-left (64 == c) (bytes_eq [] v) at)) (fails Slash (and-left (47 == c) (bytes_eq [] v) slash)) (fails SlashEq (and-left (47 == c) (bytes_eq (61 ∷ []) v) slash))
+    (fails LCurly (and-left (123 == c) (bytes_eq [] v) left)) (fails RCurly (and-left (125 == c) (bytes_eq [] v) right)) (fails At (and-left (64 == c) (bytes_eq [] v) at)) (fails Slash (and-left (47 == c) (bytes_eq [] v) slash)) (fails SlashEq (and-left (47 == c) (bytes_eq (61 ∷ []) v) slash))
 
 abbrev pub opening_of : List ℕ → Opening
 opening_of [] = a_punctuator
@@ -60,6 +59,7 @@ longer_opens c [] d x rest m g = go (is_decimal d) (c == 46) refl refl
   where
     simple : opening c false ≡ a_punctuator
     simple = opens-same _ _ (both-right (is_core_first c) (opens (opening c false) a_punctuator) m.mark)
+
     go : (b z : Bool) → is_decimal d ≡ b → (c == 46) ≡ z → opening c (is_decimal d) ≡ a_punctuator
     go false z e s = ap (λ (b : Bool). opening c b) e ∙ simple
     go true true e s =
@@ -81,7 +81,7 @@ plain_punctuator c cs rest h n g =
     record {
       kind = m.kind;
       longest = both (lexemes_in division (c ∷ cs) rest) (none_longer (lexemes_in division) (c ∷ cs) rest) (ap is_some kd)
-        (none_longer-from (lexemes_in division) (c ∷ cs) rest (λ d x more e.
+          (none_longer-from (lexemes_in division) (c ∷ cs) rest (λ d x more e.
           let o = longer_opens c cs d x rest m (λ k. subst (λ (v : List ℕ). begins is_decimal v ≡ false) e (g k)) in
           let n' : none_longer is_core_piece (c ∷ cs) (d ∷ x ++ more) ≡ true = subst (λ (v : List ℕ). none_longer is_core_piece (c ∷ cs) v ≡ true) e n in
           ap is_some (plain_of a_punctuator c (cs ++ d ∷ x) more o ∙ core_kinds c (cs ++ d ∷ x) more first) ∙ no_core_piece (c ∷ cs ++ d ∷ x) more (none_longer-at is_core_piece (c ∷ cs) d x more n')));

@@ -3,16 +3,15 @@ use Rattle.std.proofs.Common.{◌≡◌, ◌<◌, ◌≤◌, ℕ, zero, suc, ◌
 use Rattle.std.specs.Prelude.{is_some}
 use Rattle.std.specs.List.{list_all}
 use Rattle.std.proofs.lemmas.Bool.{eqb-true}
-use Rattle.js_base.specs.declared.kind.Kind.{Kind}
 use Rattle.js_base.specs.declared.kind.Kind.TheVariants.{Str}
 use Rattle.js_grammar.specs.Characters.{one_of, is_decimal, begins}
-use Rattle.js_grammar.specs.Longest.{longest, none_longer}
-use Rattle.js_grammar.specs.Escapes.{in_string, outside, read_from, code_points, line_feeds, line_feeds_after}
+use Rattle.js_grammar.specs.Longest.{none_longer}
+use Rattle.js_grammar.specs.Escapes.{in_string, code_points, line_feeds, line_feeds_after}
 use Rattle.js_grammar.specs.Strings.{nothing_left, closes_string, string_inside, string_points, string_kind}
 use Rattle.js_grammar.specs.Lexemes.{plain_kind, lexemes_in, division, a_string, opening}
 use Rattle.js_grammar.specs.CoreTexts.{is_core_string, closes_core_string}
 use Rattle.js_grammar.proofs.LongestLemmas.{both-left, both-right, both, not-true, append-nil}
-use Rattle.js_grammar.proofs.Finding.{either, neither, neither-left, neither-right, member, all-mono}
+use Rattle.js_grammar.proofs.Finding.{neither-left, neither-right, member, all-mono}
 use Rattle.js_grammar.proofs.CoreLemmas.{none_longer-from, plain_of, opens, opens-same}
 use Rattle.js_grammar.proofs.CoreNumbers.{nothing-nil}
 use Rattle.js_grammar.proofs.CoreNames.{IsPlain}
@@ -110,8 +109,8 @@ string-itself q body o h =
     let g : line_feeds body ≡ body = ap line_feeds (sym (append-nil body)) ∙ feeds-append body [] (no_cr q body h) ∙ append-nil body in
     let p : string_points (string_inside (q ∷ body ++ q ∷ [])) ≡ Some body = ap string_points (inside-of q body) ∙ ap (λ (v : List ℕ). code_points in_string v) g ∙ points-plain in_string body (no_slash q body h) in
     ap (λ (b : Bool). elim b [ true ↦ Some Str | false ↦ None ])
-      (both (one_of (34 ∷ 39 ∷ []) q) (closes_string q false (line_feeds (body ++ q ∷ [])) && is_some (string_points (string_inside (q ∷ body ++ q ∷ [])))) o
-        (both (closes_string q false (line_feeds (body ++ q ∷ []))) (is_some (string_points (string_inside (q ∷ body ++ q ∷ [])))) c (ap is_some p)))
+    (both (one_of (34 ∷ 39 ∷ []) q) (closes_string q false (line_feeds (body ++ q ∷ [])) && is_some (string_points (string_inside (q ∷ body ++ q ∷ [])))) o
+    (both (closes_string q false (line_feeds (body ++ q ∷ []))) (is_some (string_points (string_inside (q ∷ body ++ q ∷ [])))) c (ap is_some p)))
 
 and-false : (a b : Bool) → b ≡ false → (a && b) ≡ false
 and-false true b e = e
@@ -125,8 +124,8 @@ string-longer q body d ys o h =
     let f : line_feeds (body ++ q ∷ d ∷ ys) ≡ body ++ q ∷ line_feeds (d ∷ ys) = feeds-append body (q ∷ d ∷ ys) (no_cr q body h) ∙ ap (λ (v : List ℕ). body ++ v) (quote-feeds q (d ∷ ys) (quote_no_return q o)) in
     let c : closes_string q false (line_feeds (body ++ q ∷ d ∷ ys)) ≡ false = ap (λ (v : List ℕ). closes_string q false v) f ∙ closes-run q body (line_feeds (d ∷ ys)) h ∙ something_left d ys in
     ap (λ (b : Bool). elim b [ true ↦ Some Str | false ↦ None ])
-      (and-false (one_of (34 ∷ 39 ∷ []) q) (closes_string q false (line_feeds (body ++ q ∷ d ∷ ys)) && is_some (string_points (string_inside (q ∷ body ++ q ∷ d ∷ ys))))
-        (and-left (closes_string q false (line_feeds (body ++ q ∷ d ∷ ys))) (is_some (string_points (string_inside (q ∷ body ++ q ∷ d ∷ ys)))) c))
+    (and-false (one_of (34 ∷ 39 ∷ []) q) (closes_string q false (line_feeds (body ++ q ∷ d ∷ ys)) && is_some (string_points (string_inside (q ∷ body ++ q ∷ d ∷ ys))))
+    (and-left (closes_string q false (line_feeds (body ++ q ∷ d ∷ ys))) (is_some (string_points (string_inside (q ∷ body ++ q ∷ d ∷ ys)))) c))
 
 quote_opens : (q : ℕ) (digit : Bool) → one_of (34 ∷ 39 ∷ []) q ≡ true → opening q digit ≡ a_string
 quote_opens q true h = opens-same _ _ (member (λ c. opens (opening c true) a_string) (34 ∷ 39 ∷ []) q h refl)
@@ -138,9 +137,9 @@ plain_body q body rest o h =
     record {
       kind = Str;
       longest = both (lexemes_in division (q ∷ body ++ q ∷ []) rest) (none_longer (lexemes_in division) (q ∷ body ++ q ∷ []) rest) (ap is_some kd)
-        (none_longer-from (lexemes_in division) (q ∷ body ++ q ∷ []) rest (λ d x more e.
+          (none_longer-from (lexemes_in division) (q ∷ body ++ q ∷ []) rest (λ d x more e.
           subst (λ (v : List ℕ). lexemes_in division (q ∷ v) more ≡ false) (sym (append_assoc body (q ∷ []) (d ∷ x)))
-            (ap is_some (plain_of a_string q (body ++ q ∷ d ∷ x) more (quote_opens q (begins is_decimal (body ++ q ∷ d ∷ x)) o) ∙ string-longer q body d x o h))));
+          (ap is_some (plain_of a_string q (body ++ q ∷ d ∷ x) more (quote_opens q (begins is_decimal (body ++ q ∷ d ∷ x)) o) ∙ string-longer q body d x o h))));
       is = kd;
       apart = refl;
       inside = refl;

@@ -1,18 +1,18 @@
 -- The trivia of a core text, and the lexeme behind it.
-use Rattle.std.proofs.Common.{◌≡◌, ◌<◌, ◌≤◌, ℕ, zero, suc, ◌+◌, ◌==◌, Bool, true, false, List, [], ◌∷◌, ◌++◌, refl, sym, ap, subst, ◌∙◌, not, ◌&&◌, ◌||◌, Option, Some, None, ◌⊎◌, inl, inr, append_assoc, length, arith, nat_lt}
+use Rattle.std.proofs.Common.{◌≡◌, ◌<◌, ℕ, ◌==◌, Bool, true, false, List, [], ◌∷◌, ◌++◌, refl, sym, ap, subst, ◌∙◌, not, ◌&&◌, ◌||◌, length, arith, nat_lt}
 use Rattle.std.specs.Prelude.{codes, bytes_eq}
-use Rattle.std.specs.List.{list_all, find}
+use Rattle.std.specs.List.{list_all}
 use Rattle.js_base.specs.Kinds.{one_of_kinds}
 use Rattle.js_base.specs.Texts.{text_of}
 use Rattle.js_grammar.specs.Characters.{one_of, is_decimal, is_identifier_start, is_white_space, is_line_terminator, has_line_terminator, begins}
 use Rattle.js_grammar.specs.Longest.{longest, none_longer, none_begins, joined}
 use Rattle.js_grammar.specs.Trivia.{after, within_line, closes_comment, is_blank, is_single_line_comment, is_multi_line_comment, is_html_open, is_html_close, is_html_comment, is_trivia_piece, are_trivia, lack_html_comments}
 use Rattle.js_grammar.specs.Names.{is_plain_name, word_kind}
-use Rattle.js_grammar.specs.Lexemes.{may_precede, opening, a_punctuator}
+use Rattle.js_grammar.specs.Lexemes.{may_precede}
 use Rattle.js_grammar.specs.CoreTexts.{is_core_piece, is_core_blank, is_ascii_name, is_core_number, is_core_string, is_core_punctuator, core_punctuators, core_words, is_core_use, are_core, ends_in_glue, is_glue, starts, occurs}
 use Rattle.js_grammar.specs.Strings.{nothing_left}
 use Rattle.js_grammar.proofs.LongestLemmas.{both-left, both-right, both, not-true}
-use Rattle.js_grammar.proofs.Finding.{either, neither, neither-left, neither-right, member, found-all}
+use Rattle.js_grammar.proofs.Finding.{neither, neither-left, neither-right, member, found-all}
 use Rattle.js_grammar.proofs.CoreLemmas.{none_longer-from, opens}
 use Rattle.js_grammar.proofs.CoreFirst.{is_core_first, decimal-ascii, is_mark, IsMark, punctuator_mark, first_passes, Sort, blank, name, number, string, punctuator, sort, sort_first}
 use Rattle.js_grammar.proofs.CoreNames.{Before, IsPlain, ascii, core_ascii, plain_name}
@@ -37,19 +37,19 @@ blank_longer first c d x more h =
     let less : (60 == c) ≡ false = not-true (60 == c) (member (λ a. not (60 == a)) blanks c h refl) in
     let minus : (45 == c) ≡ false = not-true (45 == c) (member (λ a. not (45 == a)) blanks c h refl) in
     neither (is_single_line_comment (c ∷ d ∷ x)) (is_multi_line_comment (c ∷ d ∷ x) || (is_html_open (c ∷ d ∷ x) || (first && is_html_close (c ∷ d ∷ x))))
-      (and-left (47 == c) (after (47 ∷ []) within_line (d ∷ x)) slash)
-      (neither (is_multi_line_comment (c ∷ d ∷ x)) (is_html_open (c ∷ d ∷ x) || (first && is_html_close (c ∷ d ∷ x)))
-        (and-left (47 == c) (after (42 ∷ []) (closes_comment false) (d ∷ x)) slash)
-        (neither (is_html_open (c ∷ d ∷ x)) (first && is_html_close (c ∷ d ∷ x))
-          (and-left (60 == c) (after (codes "!--") within_line (d ∷ x)) less)
-          (and-false first (is_html_close (c ∷ d ∷ x)) (and-left (45 == c) (after (codes "->") within_line (d ∷ x)) minus))))
+    (and-left (47 == c) (after (47 ∷ []) within_line (d ∷ x)) slash)
+    (neither (is_multi_line_comment (c ∷ d ∷ x)) (is_html_open (c ∷ d ∷ x) || (first && is_html_close (c ∷ d ∷ x)))
+    (and-left (47 == c) (after (42 ∷ []) (closes_comment false) (d ∷ x)) slash)
+    (neither (is_html_open (c ∷ d ∷ x)) (first && is_html_close (c ∷ d ∷ x))
+    (and-left (60 == c) (after (codes "!--") within_line (d ∷ x)) less)
+    (and-false first (is_html_close (c ∷ d ∷ x)) (and-left (45 == c) (after (codes "->") within_line (d ∷ x)) minus))))
 
 blank_piece : (first : Bool) (c : ℕ) (rest : List ℕ) → one_of blanks c ≡ true → longest (is_trivia_piece first) (c ∷ []) rest ≡ true
 blank_piece first c rest h =
     let w : (is_white_space c || is_line_terminator c) ≡ true = member (λ a. is_white_space a || is_line_terminator a) blanks c h refl in
     both (is_trivia_piece first (c ∷ []) rest) (none_longer (is_trivia_piece first) (c ∷ []) rest)
-      (ap (λ (b : Bool). b || (is_single_line_comment (c ∷ []) || (is_multi_line_comment (c ∷ []) || (is_html_open (c ∷ []) || (first && is_html_close (c ∷ [])))))) w)
-      (none_longer-from (is_trivia_piece first) (c ∷ []) rest (λ d x more e. blank_longer first c d x more h))
+    (ap (λ (b : Bool). b || (is_single_line_comment (c ∷ []) || (is_multi_line_comment (c ∷ []) || (is_html_open (c ∷ []) || (first && is_html_close (c ∷ [])))))) w)
+    (none_longer-from (is_trivia_piece first) (c ∷ []) rest (λ d x more e. blank_longer first c d x more h))
 
 blank_no_html : (c : ℕ) → one_of blanks c ≡ true → is_html_comment (c ∷ []) ≡ false
 blank_no_html c h =
@@ -82,14 +82,14 @@ no_trivia first c cs h o k = none_longer-from (is_trivia_piece first) [] (c ∷ 
     let f : is_core_first d ≡ true = subst (λ (a : ℕ). is_core_first a ≡ true) same (both-left (is_core_first c) (not (is_white_space c || is_line_terminator c)) h) in
     let slash : (47 == d) ≡ false = not-true (47 == d) (ascii is_core_first (λ a. not (47 == a)) d refl (core_ascii d f) f) in
     neither (is_blank (d ∷ x)) (is_single_line_comment (d ∷ x) || (is_multi_line_comment (d ∷ x) || (is_html_open (d ∷ x) || (first && is_html_close (d ∷ x)))))
-      (blank_of d x w)
-      (neither (is_single_line_comment (d ∷ x)) (is_multi_line_comment (d ∷ x) || (is_html_open (d ∷ x) || (first && is_html_close (d ∷ x))))
-        (and-left (47 == d) (after (47 ∷ []) within_line x) slash)
-        (neither (is_multi_line_comment (d ∷ x)) (is_html_open (d ∷ x) || (first && is_html_close (d ∷ x)))
-          (and-left (47 == d) (after (42 ∷ []) (closes_comment false) x) slash)
-          (neither (is_html_open (d ∷ x)) (first && is_html_close (d ∷ x))
-            (not_after (codes "<!--") (d ∷ x) more (c ∷ cs) within_line e o)
-            (and-false first (is_html_close (d ∷ x)) (not_after (codes "-->") (d ∷ x) more (c ∷ cs) within_line e k))))))
+    (blank_of d x w)
+    (neither (is_single_line_comment (d ∷ x)) (is_multi_line_comment (d ∷ x) || (is_html_open (d ∷ x) || (first && is_html_close (d ∷ x))))
+    (and-left (47 == d) (after (47 ∷ []) within_line x) slash)
+    (neither (is_multi_line_comment (d ∷ x)) (is_html_open (d ∷ x) || (first && is_html_close (d ∷ x)))
+    (and-left (47 == d) (after (42 ∷ []) (closes_comment false) x) slash)
+    (neither (is_html_open (d ∷ x)) (first && is_html_close (d ∷ x))
+    (not_after (codes "<!--") (d ∷ x) more (c ∷ cs) within_line e o)
+    (and-false first (is_html_close (d ∷ x)) (not_after (codes "-->") (d ∷ x) more (c ∷ cs) within_line e k))))))
   where
     blank_of : (d : ℕ) (x : List ℕ) → (is_white_space d || is_line_terminator d) ≡ false → is_blank (d ∷ x) ≡ false
     blank_of d [] w = w
@@ -141,8 +141,8 @@ use_number : (glued : Bool) (c : ℕ) (cs rest : List ℕ) → is_core_number (c
 use_number glued c cs rest n u =
     let d = both-left (is_decimal c) (list_all is_decimal cs && (not (c == 48) || nothing_left cs)) n in
     let e : is_core_use glued (c ∷ cs) rest ≡ (not glued && not (begins is_glue rest)) =
-        ap (λ (b : Bool). elim b [ true ↦ one_of_kinds core_words (word_kind (c ∷ cs)) | false ↦ elim (is_core_number (c ∷ cs)) [ true ↦ not glued && not (begins is_glue rest) | false ↦ true ] ]) (not_name c cs d)
-        ∙ ap (λ (b : Bool). elim b [ true ↦ not glued && not (begins is_glue rest) | false ↦ true ]) n in
+    ap (λ (b : Bool). elim b [ true ↦ one_of_kinds core_words (word_kind (c ∷ cs)) | false ↦ elim (is_core_number (c ∷ cs)) [ true ↦ not glued && not (begins is_glue rest) | false ↦ true ] ]) (not_name c cs d)
+    ∙ ap (λ (b : Bool). elim b [ true ↦ not glued && not (begins is_glue rest) | false ↦ true ]) n in
     sym e ∙ u
 
 use_name : (glued : Bool) (c : ℕ) (cs rest : List ℕ) → is_ascii_name (c ∷ cs) ≡ true → is_core_use glued (c ∷ cs) rest ≡ true → one_of_kinds core_words (word_kind (c ∷ cs)) ≡ true
@@ -175,15 +175,15 @@ behind_blank : (first : Bool) (c : ℕ) (ps : List (List ℕ)) → one_of blanks
 behind_blank first c ps h (ends qs e t l) = ends ((c ∷ []) ∷ qs) (ap (λ (v : List ℕ). c ∷ v) e) (both (longest (is_trivia_piece first) (c ∷ []) (joined qs ++ [])) (are_trivia (first || has_line_terminator (c ∷ [])) qs []) (blank_piece first c (joined qs ++ []) h) t) (both (not (is_html_comment (c ∷ []))) (lack_html_comments qs) (rw (blank_no_html c h) refl) l)
 behind_blank first c ps h (word qs d ds next e t l f p k m) =
     word ((c ∷ []) ∷ qs) d ds next (ap (λ (v : List ℕ). c ∷ v) e)
-      (both (longest (is_trivia_piece first) (c ∷ []) (joined qs ++ (d ∷ ds ++ joined next))) (are_trivia (first || has_line_terminator (c ∷ [])) qs (d ∷ ds ++ joined next)) (blank_piece first c (joined qs ++ (d ∷ ds ++ joined next)) h) t)
-      (both (not (is_html_comment (c ∷ []))) (lack_html_comments qs) (rw (blank_no_html c h) refl) l) f p k (omega arith)
+    (both (longest (is_trivia_piece first) (c ∷ []) (joined qs ++ (d ∷ ds ++ joined next))) (are_trivia (first || has_line_terminator (c ∷ [])) qs (d ∷ ds ++ joined next)) (blank_piece first c (joined qs ++ (d ∷ ds ++ joined next)) h) t)
+    (both (not (is_html_comment (c ∷ []))) (lack_html_comments qs) (rw (blank_no_html c h) refl) l) f p k (omega arith)
 
 at_word : (first : Bool) (c : ℕ) (cs : List ℕ) (ps : List (List ℕ)) → Lacks (c ∷ cs ++ joined ps) → is_lexeme_first c ≡ true → IsPlain (c ∷ cs) (joined ps) → are_core (ends_in_glue (c ∷ cs)) ps ≡ true → Ahead first ((c ∷ cs) ∷ ps)
 at_word first c cs ps l f p k =
     word [] c cs ps refl (no_trivia first c (cs ++ joined ps) f
-        (neither-left (starts (codes "<!--") (c ∷ cs ++ joined ps)) (occurs (codes "<!--") (cs ++ joined ps)) l.open_mark)
-        (neither-left (starts (codes "-->") (c ∷ cs ++ joined ps)) (occurs (codes "-->") (cs ++ joined ps)) l.close_mark))
-      refl (both-left (is_core_first c) (not (is_white_space c || is_line_terminator c)) f) p k (omega arith)
+    (neither-left (starts (codes "<!--") (c ∷ cs ++ joined ps)) (occurs (codes "<!--") (cs ++ joined ps)) l.open_mark)
+    (neither-left (starts (codes "-->") (c ∷ cs ++ joined ps)) (occurs (codes "-->") (cs ++ joined ps)) l.close_mark))
+    refl (both-left (is_core_first c) (not (is_white_space c || is_line_terminator c)) f) p k (omega arith)
 
 pub ahead : (first glued : Bool) (ps : List (List ℕ)) → are_core glued ps ≡ true → Lacks (joined ps) → Ahead first ps
 ahead first glued [] h l = ends [] refl refl refl
@@ -192,12 +192,16 @@ ahead first glued ((c ∷ cs) ∷ ps) h l = go (piece_of glued c cs ps h) (λ f.
   where
     sp : Split glued (c ∷ cs) ps
     sp = split glued (c ∷ cs) ps h
+
     more : none_longer is_core_piece (c ∷ cs) (joined ps) ≡ true
     more = both-right (is_core_piece (c ∷ cs) (joined ps)) (none_longer is_core_piece (c ∷ cs) (joined ps)) sp.0
+
     bf : Before (joined ps)
     bf = before_pieces (ends_in_glue (c ∷ cs)) ps sp.2
+
     first_of : (t : ℕ → Bool) → t c ≡ true → Rattle.js_grammar.proofs.CoreLemmas.all_below 128 (λ a. Rattle.js_grammar.proofs.CoreLemmas.implies (t a) (is_lexeme_first a)) ≡ true → is_core_first c ≡ true → is_lexeme_first c ≡ true
     first_of t x a f = ascii t is_lexeme_first c a (core_ascii c f) x
+
     go : Sort c cs (joined ps) → ((f : Bool) → Ahead f ps) → Ahead first ((c ∷ cs) ∷ ps)
     go (blank b) r =
         let n = nothing-nil cs (both-right (one_of blanks c) (nothing_left cs) b) in

@@ -1,6 +1,6 @@
 -- Small texts with lexical faults.
-use Rattle.std.proofs.Common.{◌≡◌, ◌≤◌, ℕ, ◌+◌, Bool, true, false, List, [], ◌∷◌, ◌++◌, refl, arith, inl, inr}
-use Rattle.std.specs.Prelude.{codes, IsUtf8}
+use Rattle.std.proofs.Common.{◌≡◌, ℕ, true, List, [], ◌∷◌, ◌++◌, refl, arith, inl, inr}
+use Rattle.std.specs.Prelude.{codes}
 use Rattle.std.specs.Str.{chars, is_utf8}
 use Rattle.std.specs.Char.{encode_utf8}
 use Rattle.ucd_table.specs.Rows.{value_in}
@@ -9,14 +9,12 @@ use Rattle.ucd_category.specs.GeneralCategoryRows.{general_category_rows}
 use Rattle.std.proofs.lemmas.Str.{IsCharBoundary-start, IsCharBoundary-end, IsUtf8-from_is_utf8}
 use Rattle.js_base.specs.declared.kind.Kind.TheVariants.{RegExp, Ident}
 use Rattle.js_base.specs.Texts.{words, punctuators}
-use Rattle.js_grammar.specs.Grammar.{Lexeme, last}
+use Rattle.js_grammar.specs.Grammar.{last}
 use Rattle.js_grammar.specs.Settings.{script, module_goal}
-use Rattle.js_grammar.specs.Characters.{width}
-use Rattle.js_grammar.specs.Longest.{joined}
 use Rattle.js_grammar.specs.Trivia.{are_trivia}
 use Rattle.js_grammar.specs.Lexemes.{division, regular_expression}
-use Rattle.js_grammar.specs.Lexing.{Stands, Lex, all_faults}
-use Rattle.js_grammar.specs.LexicalFaults.{LexicalFault, invalid_character, binary_file, unterminated_string, unterminated_template, unterminated_regexp, unterminated_comment, invalid_escape, invalid_number, reg_exp_flag, html_comment_in_module, Due, Condition, Faulty, Reached}
+use Rattle.js_grammar.specs.Lexing.{all_faults}
+use Rattle.js_grammar.specs.LexicalFaults.{invalid_character, binary_file, unterminated_string, unterminated_template, unterminated_regexp, unterminated_comment, invalid_escape, reg_exp_flag, html_comment_in_module, Due, Condition, Faulty}
 use Rattle.js_grammar.proofs.Standing.{stand, lexeme_of}
 
 -- at the start of the text, behind no trivia
@@ -32,11 +30,11 @@ open_string = record { word = codes "'a"; rest = 10 ∷ []; due = due_first (cod
 open_string_faulty : Faulty unterminated_string script (codes "'a") 0 2
 unfolding chars is_utf8 encode_utf8
 open_string_faulty = record {
-    ordered = omega arith;
-    begins_between = IsCharBoundary-start (codes "'a") (IsUtf8-from_is_utf8 (codes "'a") refl);
-    ends_between = IsCharBoundary-end (codes "'a");
-    condition = record { word = codes "'a"; rest = []; due = due_first (codes "'a") (codes "'a") refl refl; opened = refl; never = refl; end = refl };
-  }
+  ordered = omega arith;
+  begins_between = IsCharBoundary-start (codes "'a") (IsUtf8-from_is_utf8 (codes "'a") refl);
+  ends_between = IsCharBoundary-end (codes "'a");
+  condition = record { word = codes "'a"; rest = []; due = due_first (codes "'a") (codes "'a") refl refl; opened = refl; never = refl; end = refl };
+}
 
 open_template : Condition unterminated_template script (codes "`a\\`") 0 4
 unfolding chars
@@ -73,15 +71,34 @@ replaced = record { rest = []; due = due_first (239 ∷ 191 ∷ 189 ∷ []) (0xF
 flag_twice : Condition reg_exp_flag script (codes "/a/gg") 4 5
 unfolding chars words punctuators stand
 flag_twice = record {
-    s = 0; reached = inl refl; lexeme = lexeme_of 0 [] (codes "/a/gg") RegExp;
-    lex = stand all_faults (codes "/a/gg") 0 [] regular_expression (codes "/a/gg") [] RegExp (omega arith) refl refl refl;
-    is = refl; before = codes "g"; flag = 103; behind = []; splits = refl; wrong = refl; end = refl; begin = refl }
+  s = 0;
+  reached = inl refl;
+  lexeme = lexeme_of 0 [] (codes "/a/gg") RegExp;
+  lex = stand all_faults (codes "/a/gg") 0 [] regular_expression (codes "/a/gg") [] RegExp (omega arith) refl refl refl;
+  is = refl;
+  before = codes "g";
+  flag = 103;
+  behind = [];
+  splits = refl;
+  wrong = refl;
+  end = refl;
+  begin = refl;
+}
 
 -- `a<!--b` in a module
 html_like : Condition html_comment_in_module module_goal (codes "a<!--b") 1 5
 unfolding chars words punctuators
-html_like = (refl, record {
+html_like = (
+  refl,
+  record {
     s = 1;
     reached = inr (last (lexeme_of 0 [] (codes "a") Ident), stand all_faults (codes "a<!--b") 0 [] division (codes "a") (codes "<!--b") Ident (omega arith) refl refl refl, refl);
-    before = []; comment = codes "<!--b"; behind = []; rest = [];
-    stands = record { within = omega arith; splits = refl; trivia = refl }; is = refl; begin = refl })
+    before = [];
+    comment = codes "<!--b";
+    behind = [];
+    rest = [];
+    stands = record { within = omega arith; splits = refl; trivia = refl };
+    is = refl;
+    begin = refl;
+  },
+)

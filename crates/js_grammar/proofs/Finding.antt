@@ -1,12 +1,12 @@
 -- Tests on lists: members, and what `find` gives.
-use Rattle.std.proofs.Common.{◌≡◌, ◌<◌, ℕ, ◌==◌, Bool, true, false, List, [], ◌∷◌, ◌++◌, refl, sym, ap, subst, ◌∙◌, not, ◌&&◌, ◌||◌, Option, Some, None, ◌⊎◌, inl, inr}
-use Rattle.std.specs.Prelude.{nat_eq, is_some, cond}
-use Rattle.std.specs.List.{list_all, list_any, find}
-use Rattle.std.proofs.lemmas.Bool.{eqb-true, eq-eqb}
+use Rattle.std.proofs.Common.{◌≡◌, ℕ, ◌==◌, Bool, true, false, List, [], ◌∷◌, ◌++◌, refl, subst, ◌||◌, Option, Some, None, ◌⊎◌, inl, inr}
+use Rattle.std.specs.Prelude.{is_some, cond}
+use Rattle.std.specs.List.{list_all, find}
+use Rattle.std.proofs.lemmas.Bool.{eqb-true}
 use Rattle.js_base.specs.declared.kind.Kind.{Kind}
 use Rattle.js_base.specs.Kinds.{code, same_kind, one_of_kinds}
 use Rattle.js_grammar.specs.Characters.{one_of}
-use Rattle.js_grammar.proofs.LongestLemmas.{both-left, both-right, both, not-true}
+use Rattle.js_grammar.proofs.LongestLemmas.{both-left, both-right, both}
 
 pub either : (a b : Bool) → (a || b) ≡ true → (a ≡ true) ⊎ (b ≡ true)
 either true b h = inl refl
@@ -27,15 +27,17 @@ neither a b h k = rw (h, k) refl
 pub member : (t : ℕ → Bool) (ds : List ℕ) (c : ℕ) → one_of ds c ≡ true → list_all t ds ≡ true → t c ≡ true
 member t [] c h a = cc
 member t (d ∷ ds) c h a = elim (either (d == c) (one_of ds c) h) [
-    inl e ↦ subst (λ (x : ℕ). t x ≡ true) (eqb-true d c e) (both-left (t d) (list_all t ds) a)
-  | inr m ↦ member t ds c m (both-right (t d) (list_all t ds) a) ]
+  | inl e ↦ subst (λ (x : ℕ). t x ≡ true) (eqb-true d c e) (both-left (t d) (list_all t ds) a)
+  | inr m ↦ member t ds c m (both-right (t d) (list_all t ds) a)
+]
 
 -- of a kind, by its number
 pub kind_member : (t : ℕ → Bool) (ks : List Kind) (k : Kind) → one_of_kinds ks k ≡ true → list_all (λ a. t (code a)) ks ≡ true → t (code k) ≡ true
 kind_member t [] k h a = cc
 kind_member t (d ∷ ks) k h a = elim (either (same_kind d k) (one_of_kinds ks k) h) [
-    inl e ↦ subst (λ (x : ℕ). t x ≡ true) (eqb-true (code d) (code k) e) (both-left (t (code d)) (list_all (λ a. t (code a)) ks) a)
-  | inr m ↦ kind_member t ks k m (both-right (t (code d)) (list_all (λ a. t (code a)) ks) a) ]
+  | inl e ↦ subst (λ (x : ℕ). t x ≡ true) (eqb-true (code d) (code k) e) (both-left (t (code d)) (list_all (λ a. t (code a)) ks) a)
+  | inr m ↦ kind_member t ks k m (both-right (t (code d)) (list_all (λ a. t (code a)) ks) a)
+]
 
 -- what is found passes the test, and what all members pass
 pub found-test : (test : Kind → Bool) (ks : List Kind) (k : Kind) → find test ks ≡ Some k → test k ≡ true

@@ -1,18 +1,16 @@
 -- Small texts, by computing: what the classes of lexemes hold of them, and what they don't.
-use Rattle.std.proofs.Common.{◌≡◌, ℕ, Bool, true, false, List, [], ◌∷◌, ◌++◌, refl, Option, Some, None}
+use Rattle.std.proofs.Common.{◌≡◌, true, false, [], ◌∷◌, ◌++◌, refl, Some, None}
 use Rattle.std.specs.Prelude.{codes}
-use Rattle.js_base.specs.declared.kind.Kind.{Kind}
 use Rattle.js_base.specs.Texts.{words, punctuators}
-use Rattle.js_base.specs.declared.kind.Kind.TheVariants.{Ident, Await, If, Hex, Float, Octal, Decimal, DecimalBigInt, HexBigInt, PositiveExponential, NegativeExponential, Str, RegExp, Question, QuestionDot, PrivateIdentifier, TemplateHead, TemplateTail, NoSubstitutionTemplate}
+use Rattle.js_base.specs.declared.kind.Kind.TheVariants.{Ident, Await, If, Hex, Float, Octal, DecimalBigInt, PositiveExponential, NegativeExponential, Str, RegExp, QuestionDot, PrivateIdentifier, TemplateHead, TemplateTail, NoSubstitutionTemplate}
 use Rattle.js_grammar.specs.Longest.{longest, none_begins}
-use Rattle.js_grammar.specs.Trivia.{are_trivia, is_trivia_piece, lack_html_comments}
-use Rattle.js_grammar.specs.Escapes.{code_points, in_name, in_string, in_template}
+use Rattle.js_grammar.specs.Trivia.{are_trivia, is_trivia_piece}
 use Rattle.js_grammar.specs.Names.{name_kind, name_of, private_kind}
 use Rattle.js_grammar.specs.Numbers.{number_kind, stops_number, has_separator}
 use Rattle.js_grammar.specs.Strings.{string_kind, string_units, string_inside}
-use Rattle.js_grammar.specs.Templates.{template_kind, template_tail_kind, template_inside, cooked, raw_text}
-use Rattle.js_grammar.specs.RegularExpressions.{regular_expression_kind, flags, flags_pass, are_flags}
-use Rattle.js_grammar.specs.Lexemes.{punctuator_kind, plain_kind, lexemes_in, division}
+use Rattle.js_grammar.specs.Templates.{template_kind, template_tail_kind, cooked, raw_text}
+use Rattle.js_grammar.specs.RegularExpressions.{regular_expression_kind, flags, are_flags}
+use Rattle.js_grammar.specs.Lexemes.{punctuator_kind, lexemes_in, division}
 
 -- numbers
 hex_separated : number_kind (codes "0x1_f") ≡ Some Hex

@@ -1,6 +1,6 @@
 -- The longest front of a class is one alone.
-use Rattle.std.proofs.Common.{◌≡◌, ℕ, Bool, true, false, List, [], ◌∷◌, ◌++◌, refl, sym, ap, subst, ◌∙◌, not, ◌&&◌, append_assoc, ◌⊎◌, inl, inr}
-use Rattle.js_grammar.specs.Longest.{Class, longest, none_longer, none_begins, joined}
+use Rattle.std.proofs.Common.{◌≡◌, ℕ, Bool, true, false, List, [], ◌∷◌, ◌++◌, refl, sym, ap, subst, not, ◌&&◌, append_assoc, ◌⊎◌, inl, inr}
+use Rattle.js_grammar.specs.Longest.{Class, longest, none_longer}
 
 pub both-left : (a b : Bool) → (a && b) ≡ true → a ≡ true
 both-left true b h = refl
@@ -47,10 +47,10 @@ fronts (c ∷ w) rest (d ∷ v) more e =
     let h : c ≡ d = cc in
     let t : w ++ rest ≡ v ++ more = cc in
     elim (fronts w rest v more t) [
-      inl s ↦ inl (record { front = (let f = s.front in cc); back = s.back })
-    | inr o ↦ inr (elim o [
-        inl g ↦ inl (record { head = g.head; tail = g.tail; longer = (let f = g.longer in cc); left = g.left })
-      | inr g ↦ inr (record { head = g.head; tail = g.tail; longer = (let f = g.longer in cc); left = g.left })
+      | inl s ↦ inl (record { front = (let f = s.front in cc); back = s.back })
+      | inr o ↦ inr (elim o [
+        | inl g ↦ inl (record { head = g.head; tail = g.tail; longer = (let f = g.longer in cc); left = g.left })
+        | inr g ↦ inr (record { head = g.head; tail = g.tail; longer = (let f = g.longer in cc); left = g.left })
       ])
     ]
 
@@ -63,9 +63,9 @@ too_long class w rest v more h g =
 pub longest-same : (class : Class) (w rest v more : List ℕ) → w ++ rest ≡ v ++ more → longest class w rest ≡ true → longest class v more ≡ true → Same w rest v more
 longest-same class w rest v more e h k =
     elim (fronts w rest v more e) [
-      inl s ↦ s
-    | inr o ↦ elim o [
-        inl g ↦ absurd (let a = too_long class w rest v more h g in let b = both-left (class v more) (none_longer class v more) k in cc)
-      | inr g ↦ absurd (let a = too_long class v more w rest k g in let b = both-left (class w rest) (none_longer class w rest) h in cc)
+      | inl s ↦ s
+      | inr o ↦ elim o [
+        | inl g ↦ absurd (let a = too_long class w rest v more h g in let b = both-left (class v more) (none_longer class v more) k in cc)
+        | inr g ↦ absurd (let a = too_long class v more w rest k g in let b = both-left (class w rest) (none_longer class w rest) h in cc)
       ]
     ]

@@ -1,12 +1,12 @@
 -- Places in a text: the characters that stand behind one.
-use Rattle.std.proofs.Common.{◌≡◌, ◌<◌, ◌≤◌, ℕ, zero, suc, ◌+◌, ◌-◌, Bool, true, false, List, [], ◌∷◌, ◌++◌, refl, sym, ap, subst, ◌∙◌, ◌&&◌, length, drop, arith, length-append, length-drop}
+use Rattle.std.proofs.Common.{◌≡◌, ◌≤◌, ℕ, ◌+◌, ◌-◌, true, List, [], ◌∷◌, ◌++◌, refl, sym, ap, ◌∙◌, length, drop, arith, length-append, length-drop}
 use Rattle.std.specs.Prelude.{chars, encode_utf8_all, IsUtf8}
 use Rattle.std.specs.Str.{all_scalars}
 use Rattle.std.specs.Char.{len_utf8}
 use Rattle.std.proofs.lemmas.Str.{chars-encodes, encodes-append, length-encode, encodes-chars, scalars-chars}
 use Rattle.std.proofs.Math.Seq.{drop-append_seam}
 use Rattle.js_grammar.specs.Characters.{width}
-use Rattle.js_grammar.proofs.LongestLemmas.{both-left, both-right}
+use Rattle.js_grammar.proofs.LongestLemmas.{both-right}
 
 pub width-is : (cs : List ℕ) → width cs ≡ length (encode_utf8_all cs)
 width-is [] = refl

@@ -1,6 +1,6 @@
 -- A lexeme that stands behind a place, from its trivia and its characters; and that none stands there.
-use Rattle.std.proofs.Common.{◌≡◌, ◌≤◌, ℕ, ◌+◌, ◌==◌, Bool, true, false, List, [], ◌∷◌, ◌++◌, refl, sym, ap, subst, ◌∙◌, not, ◌&&◌, ◌||◌, append_assoc, Option, Some, length, drop}
-use Rattle.std.specs.Prelude.{chars, IsTrue}
+use Rattle.std.proofs.Common.{◌≡◌, ◌≤◌, ℕ, ◌+◌, ◌==◌, Bool, true, false, List, [], ◌∷◌, ◌++◌, refl, sym, subst, not, ◌&&◌, ◌||◌, Some, length, drop}
+use Rattle.std.specs.Prelude.{chars}
 use Rattle.js_base.specs.declared.kind.Kind.{Kind}
 use Rattle.js_grammar.specs.Grammar.{Lexeme}
 use Rattle.js_grammar.specs.Characters.{has_line_terminator, width}
@@ -8,9 +8,9 @@ use Rattle.js_grammar.specs.Longest.{longest, none_longer, none_begins, joined}
 use Rattle.js_grammar.specs.Trivia.{are_trivia}
 use Rattle.js_grammar.specs.Numbers.{is_number, stops_number}
 use Rattle.js_grammar.specs.Lexemes.{LexicalGoal, division, regular_expression, template_tail, hashbang, lexemes_in, kind_in, may_begin, is_escaped, units_of}
-use Rattle.js_grammar.specs.Lexing.{Passing, Lex, Stands, IsLexeme, comments_pass, flags_right}
-use Rattle.js_grammar.proofs.LongestLemmas.{both-left, both-right, none_longer-at, longest-same, Same}
-use Rattle.js_grammar.proofs.Alike.{stands-same, SameTrivia}
+use Rattle.js_grammar.specs.Lexing.{Passing, Lex, Stands, comments_pass, flags_right}
+use Rattle.js_grammar.proofs.LongestLemmas.{both-left, both-right, none_longer-at, longest-same}
+use Rattle.js_grammar.proofs.Alike.{stands-same}
 
 abbrev pub lexeme_of : ℕ → List (List ℕ) → List ℕ → Kind → Lexeme
 lexeme_of s ps word k = record { kind = k; from = s + width (joined ps); to = s + width (joined ps) + width word; newline = has_line_terminator (joined ps); escaped = is_escaped k word; units = units_of k word }
@@ -26,12 +26,20 @@ stand p text s ps g word rest k l e h t =
     let a3 = both-right (may_begin g (s + width (joined ps))) ((not (is_number k) || stops_number rest) && (comments_pass p ps && flags_right p k word)) a2 in
     let a4 = both-right (not (is_number k) || stops_number rest) (comments_pass p ps && flags_right p k word) a3 in
     record {
-      trivia = ps; goal = g; word = word; rest = rest;
+      trivia = ps;
+      goal = g;
+      word = word;
+      rest = rest;
       stands = record { within = l; splits = e; trivia = both-left (are_trivia (s == 0) ps (word ++ rest)) (longest (lexemes_in g) word rest && (may_begin g (s + width (joined ps)) && ((not (is_number k) || stops_number rest) && (comments_pass p ps && flags_right p k word)))) t };
       lexeme = record { longest = both-left (longest (lexemes_in g) word rest) (may_begin g (s + width (joined ps)) && ((not (is_number k) || stops_number rest) && (comments_pass p ps && flags_right p k word))) a1; kind = h; begins = both-left (may_begin g (s + width (joined ps))) ((not (is_number k) || stops_number rest) && (comments_pass p ps && flags_right p k word)) a2; apart = both-left (not (is_number k) || stops_number rest) (comments_pass p ps && flags_right p k word) a3 };
       comments = both-left (comments_pass p ps) (flags_right p k word) a4;
       flags = both-right (comments_pass p ps) (flags_right p k word) a4;
-      from = refl; to = refl; newline = refl; escaped = refl; units = refl }
+      from = refl;
+      to = refl;
+      newline = refl;
+      escaped = refl;
+      units = refl;
+    }
 
 -- no front of the characters is a lexeme of the three goals beside division
 abbrev pub no_other : List ℕ → Bool
@@ -65,10 +73,11 @@ nothing_stands p text s ps c cs l e t n y h =
     let o = both-right (none_begins (lexemes_in division) (c ∷ cs)) (no_other (c ∷ cs)) n in
     let o' = both-right (none_begins (lexemes_in regular_expression) (c ∷ cs)) (none_begins (lexemes_in template_tail) (c ∷ cs) && none_begins (lexemes_in hashbang) (c ∷ cs)) o in
     let all : (g : LexicalGoal) → none_begins (lexemes_in g) (c ∷ cs) ≡ true = elim [
-        division ↦ both-left (none_begins (lexemes_in division) (c ∷ cs)) (no_other (c ∷ cs)) n
+      | division ↦ both-left (none_begins (lexemes_in division) (c ∷ cs)) (no_other (c ∷ cs)) n
       | regular_expression ↦ both-left (none_begins (lexemes_in regular_expression) (c ∷ cs)) (none_begins (lexemes_in template_tail) (c ∷ cs) && none_begins (lexemes_in hashbang) (c ∷ cs)) o
       | template_tail ↦ both-left (none_begins (lexemes_in template_tail) (c ∷ cs)) (none_begins (lexemes_in hashbang) (c ∷ cs)) o'
-      | hashbang ↦ both-right (none_begins (lexemes_in template_tail) (c ∷ cs)) (none_begins (lexemes_in hashbang) (c ∷ cs)) o' ] in
+      | hashbang ↦ both-right (none_begins (lexemes_in template_tail) (c ∷ cs)) (none_begins (lexemes_in hashbang) (c ∷ cs)) o'
+    ] in
     none_stands h.goal h.word h.rest c cs (all h.goal) same.back (both-left (lexemes_in h.goal h.word h.rest) (none_longer (lexemes_in h.goal) h.word h.rest) h.lexeme.longest)
 
 abbrev pub other_goals : LexicalGoal → Bool

@@ -1,8 +1,8 @@
 -- Escapes, and the code points that the inside of a name, a string or a template part stands for (ECMA-262, 12.7, 12.9.4, 12.9.6).
-use Rattle.std.specs.Prelude.{ℕ, zero, suc, ◌+◌, ◌-◌, ◌*◌, ◌≤◌, Bool, true, false, not, ◌&&◌, ◌||◌, List, [], ◌∷◌, ◌++◌, ◌==◌, nat_le, nat_lt, Option, Some, None, flat_map}
+use Rattle.std.specs.Prelude.{ℕ, ◌+◌, ◌-◌, ◌*◌, Bool, true, false, ◌&&◌, List, [], ◌∷◌, ◌++◌, ◌==◌, nat_le, nat_lt, Option, Some, None, flat_map}
 use Rattle.std.specs.Char.{digit_value}
 use Rattle.std.specs.Char.Escape.{encode_utf16}
-use Rattle.js_grammar.specs.Characters.{one_of, is_line_terminator, is_hex, is_octal, is_decimal}
+use Rattle.js_grammar.specs.Characters.{is_line_terminator, is_hex, is_octal, is_decimal}
 
 -- A LineTerminatorSequence (12.3) of CR and LF is one, and CR counts as LF. `carriage`: a CR stands directly before.
 abbrev pub line_feeds_after : Bool → List ℕ → List ℕ

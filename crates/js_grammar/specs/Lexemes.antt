@@ -1,6 +1,6 @@
 -- Which characters are a lexeme, and of which kind (ECMA-262, 12: the input elements of each lexical goal; 12.8 for the punctuators).
 use Rattle.std.specs.Prelude.{ℕ, Bool, true, false, not, ◌&&◌, ◌||◌, List, [], ◌∷◌, ◌==◌, codes, bytes_eq, Option, Some, None, is_some, option_map, unwrap_or, drop}
-use Rattle.std.specs.List.{find, list_any}
+use Rattle.std.specs.List.{find}
 use Rattle.js_base.specs.declared.kind.Kind.{Kind}
 use Rattle.js_base.specs.declared.kind.Kind.TheVariants.{Ident, PrivateIdentifier, Str, QuestionDot, Slash, HashbangComment, Eof}
 use Rattle.js_base.specs.Kinds.{same_kind, one_of_kinds}

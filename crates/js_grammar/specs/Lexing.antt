@@ -1,10 +1,10 @@
 -- What it is that lexemes are those of a text (ECMA-262, 12). Places are byte places.
-use Rattle.std.specs.Prelude.{ℕ, ◌+◌, ◌≡◌, ◌≤◌, Bool, true, false, not, ◌&&◌, ◌||◌, List, [], ◌++◌, ◌==◌, chars, drop, length, IsTrue, Some}
+use Rattle.std.specs.Prelude.{ℕ, ◌+◌, ◌≡◌, ◌≤◌, Bool, true, not, ◌&&◌, ◌||◌, List, ◌++◌, ◌==◌, chars, drop, length, IsTrue, Some}
 use Rattle.js_base.specs.declared.kind.Kind.{Kind}
 use Rattle.js_base.specs.declared.kind.Kind.TheVariants.{RegExp, Eof}
 use Rattle.js_base.specs.Kinds.{same_kind}
 use Rattle.js_grammar.specs.Grammar.{Lexeme, Lexemes, last, next}
-use Rattle.js_grammar.specs.Settings.{Goal, script, module_goal, commonjs, unambiguous}
+use Rattle.js_grammar.specs.Settings.{Goal, module_goal}
 use Rattle.js_grammar.specs.Characters.{width, has_line_terminator}
 use Rattle.js_grammar.specs.Longest.{longest, joined}
 use Rattle.js_grammar.specs.Trivia.{are_trivia, lack_html_comments}
