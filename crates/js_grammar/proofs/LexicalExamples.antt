@@ -163,3 +163,22 @@ comment_then_lines = refl
 
 block_then_close : are_trivia false ((codes "/*" ++ 10 ∷ codes "*/") ∷ codes "-->" ∷ []) [] ≡ true
 block_then_close = refl
+
+-- each single escape, and a character that stands for itself
+single_escapes_units : string_units (codes "\\b\\t\\n\\v\\f\\r\\q\\x41") ≡ Some (8 ∷ 9 ∷ 10 ∷ 11 ∷ 12 ∷ 13 ∷ 113 ∷ 65 ∷ [])
+single_escapes_units = refl
+
+largest_octal : string_units (codes "\\377\\400") ≡ Some (255 ∷ 32 ∷ 48 ∷ [])
+largest_octal = refl
+
+too_large : string_units (codes "\\u{110000}") ≡ None
+too_large = refl
+
+largest : string_units (codes "\\u{0010FFFF}") ≡ Some (0xDBFF ∷ 0xDFFF ∷ [])
+largest = refl
+
+cooked_lines : cooked (97 ∷ 13 ∷ 10 ∷ 92 ∷ 13 ∷ 10 ∷ 98 ∷ []) ≡ Some (97 ∷ 10 ∷ 98 ∷ [])
+cooked_lines = refl
+
+cooked_zero : cooked (codes "\\0a") ≡ Some (0 ∷ 97 ∷ [])
+cooked_zero = refl

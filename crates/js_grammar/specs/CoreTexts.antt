@@ -60,7 +60,12 @@ ends_in_glue (c ∷ d ∷ cs) = ends_in_glue (d ∷ cs)
 
 -- A word is one of those above, and no name character and no dot stands directly before or behind a number. `glued`: one stands directly before.
 abbrev pub is_core_use : Bool → Class
-is_core_use glued w rest = elim (is_ascii_name w) [ true ↦ one_of_kinds core_words (word_kind w) | false ↦ elim (is_core_number w) [ true ↦ not glued && not (begins is_glue rest) | false ↦ true ] ]
+is_core_use glued w rest =
+    elim (is_ascii_name w) [
+      | true ↦ one_of_kinds core_words (word_kind w)
+      | false ↦
+          elim (is_core_number w) [ true ↦ not glued && not (begins is_glue rest) | false ↦ true ]
+    ]
 
 -- one behind the other, each the longest at its place
 abbrev pub are_core : Bool → List (List ℕ) → Bool

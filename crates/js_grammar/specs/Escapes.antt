@@ -1,5 +1,6 @@
 -- Escapes, and the code points that the inside of a name, a string or a template part stands for (ECMA-262, 12.7, 12.9.4, 12.9.6).
-use Rattle.std.specs.Prelude.{ℕ, ◌+◌, ◌-◌, ◌*◌, Bool, true, false, ◌&&◌, List, [], ◌∷◌, ◌++◌, ◌==◌, nat_le, nat_lt, Option, Some, None, flat_map}
+use Rattle.std.specs.Prelude.{ℕ, ◌+◌, ◌-◌, ◌*◌, Bool, true, false, ◌&&◌, List, [], ◌∷◌, ◌++◌, ◌==◌, nat_le, nat_lt, Option, Some, None, option_map, unwrap_or, flat_map}
+use Rattle.std.specs.List.{find}
 use Rattle.std.specs.Char.{digit_value}
 use Rattle.std.specs.Char.Escape.{encode_utf16}
 use Rattle.js_grammar.specs.Characters.{is_line_terminator, is_hex, is_octal, is_decimal}
@@ -7,7 +8,12 @@ use Rattle.js_grammar.specs.Characters.{is_line_terminator, is_hex, is_octal, is
 -- A LineTerminatorSequence (12.3) of CR and LF is one, and CR counts as LF. `carriage`: a CR stands directly before.
 abbrev pub line_feeds_after : Bool → List ℕ → List ℕ
 line_feeds_after carriage [] = []
-line_feeds_after carriage (c ∷ cs) = elim (c == 13) [ true ↦ 10 ∷ line_feeds_after true cs | false ↦ elim (carriage && (c == 10)) [ true ↦ line_feeds_after false cs | false ↦ c ∷ line_feeds_after false cs ] ]
+line_feeds_after carriage (c ∷ cs) =
+    elim (c == 13) [
+      | true ↦ 10 ∷ line_feeds_after true cs
+      | false ↦
+          elim (carriage && (c == 10)) [ true ↦ line_feeds_after false cs | false ↦ c ∷ line_feeds_after false cs ]
+    ]
 
 abbrev pub line_feeds : List ℕ → List ℕ
 line_feeds = line_feeds_after false
@@ -40,9 +46,13 @@ go s out = Some (record { stage = s; gives = out })
 abbrev pub plainly : ℕ → Option Step
 plainly c = elim (c == 92) [ true ↦ go backslash [] | false ↦ go outside (c ∷ []) ]
 
--- SingleEscapeCharacter: `b` `t` `n` `v` `f` `r`; any other character stands for itself
+-- SingleEscapeCharacter, and what it stands for: `b` `t` `n` `v` `f` `r`
+abbrev pub single_escapes : List (ℕ × ℕ)
+single_escapes = (98, 8) ∷ (116, 9) ∷ (110, 10) ∷ (118, 11) ∷ (102, 12) ∷ (114, 13) ∷ []
+
+-- any other character stands for itself
 abbrev pub single_escape : ℕ → ℕ
-single_escape c = elim (c == 98) [ true ↦ 8 | false ↦ elim (c == 116) [ true ↦ 9 | false ↦ elim (c == 110) [ true ↦ 10 | false ↦ elim (c == 118) [ true ↦ 11 | false ↦ elim (c == 102) [ true ↦ 12 | false ↦ elim (c == 114) [ true ↦ 13 | false ↦ c ] ] ] ] ] ]
+single_escape c = unwrap_or (option_map (λ e. e.1) (find (λ e. e.0 == c) single_escapes)) c
 
 -- `\x` and two digits, `\u`; a backslash before a line terminator gives nothing
 abbrev pub begun_single : ℕ → Option Step
@@ -67,11 +77,31 @@ begun in_template c = elim (is_decimal c) [ true ↦ elim (c == 48) [ true ↦ g
 abbrev pub step : Where → Stage → ℕ → Option Step
 step w outside c = plainly c
 step w backslash c = begun w c
-step w unicode c = elim (c == 123) [ true ↦ go (braced false 0) [] | false ↦ elim (is_hex c) [ true ↦ go (due 3 (digit_value c)) [] | false ↦ None ] ]
-step w nul c = elim (is_decimal c) [ true ↦ None | false ↦ elim (c == 92) [ true ↦ go backslash (0 ∷ []) | false ↦ go outside (0 ∷ c ∷ []) ] ]
+step w unicode c =
+    elim (c == 123) [
+      | true ↦ go (braced false 0) []
+      | false ↦
+          elim (is_hex c) [ true ↦ go (due 3 (digit_value c)) [] | false ↦ None ]
+    ]
+step w nul c =
+    elim (is_decimal c) [
+      | true ↦ None
+      | false ↦
+          elim (c == 92) [ true ↦ go backslash (0 ∷ []) | false ↦ go outside (0 ∷ c ∷ []) ]
+    ]
 step w (due n v) c = elim (is_hex c) [ true ↦ elim (nat_le n 1) [ true ↦ go outside ((v * 16 + digit_value c) ∷ []) | false ↦ go (due (n - 1) (v * 16 + digit_value c)) [] ] | false ↦ None ]
-step w (braced any v) c = elim (is_hex c && nat_le (v * 16 + digit_value c) 0x10_FFFF) [ true ↦ go (braced true (v * 16 + digit_value c)) [] | false ↦ elim (any && (c == 125)) [ true ↦ go outside (v ∷ []) | false ↦ None ] ]
-step w (octal n v) c = elim (is_octal c && nat_lt 0 n) [ true ↦ go (octal (n - 1) (v * 8 + digit_value c)) [] | false ↦ elim (c == 92) [ true ↦ go backslash (v ∷ []) | false ↦ go outside (v ∷ c ∷ []) ] ]
+step w (braced any v) c =
+    elim (is_hex c && nat_le (v * 16 + digit_value c) 0x10_FFFF) [
+      | true ↦ go (braced true (v * 16 + digit_value c)) []
+      | false ↦
+          elim (any && (c == 125)) [ true ↦ go outside (v ∷ []) | false ↦ None ]
+    ]
+step w (octal n v) c =
+    elim (is_octal c && nat_lt 0 n) [
+      | true ↦ go (octal (n - 1) (v * 8 + digit_value c)) []
+      | false ↦
+          elim (c == 92) [ true ↦ go backslash (v ∷ []) | false ↦ go outside (v ∷ c ∷ []) ]
+    ]
 
 -- the code points that the end of the inside completes, or none where it cuts an escape off
 abbrev pub finish : Stage → Option (List ℕ)

@@ -28,7 +28,24 @@ pub data Opening : Type 0 where
   a_name a_number a_string a_template a_private_name a_punctuator : Opening
 
 abbrev pub opening : ℕ → Bool → Opening
-opening c digit = elim (is_identifier_start c || (c == 92)) [ true ↦ a_name | false ↦ elim (is_decimal c || ((c == 46) && digit)) [ true ↦ a_number | false ↦ elim (one_of (34 ∷ 39 ∷ []) c) [ true ↦ a_string | false ↦ elim (c == 96) [ true ↦ a_template | false ↦ elim (c == 35) [ true ↦ a_private_name | false ↦ a_punctuator ] ] ] ] ]
+opening c digit =
+    elim (is_identifier_start c || (c == 92)) [
+      | true ↦ a_name
+      | false ↦
+          elim (is_decimal c || ((c == 46) && digit)) [
+            | true ↦ a_number
+            | false ↦
+                elim (one_of (34 ∷ 39 ∷ []) c) [
+                  | true ↦ a_string
+                  | false ↦
+                      elim (c == 96) [
+                        | true ↦ a_template
+                        | false ↦
+                            elim (c == 35) [ true ↦ a_private_name | false ↦ a_punctuator ]
+                      ]
+                ]
+          ]
+    ]
 
 abbrev pub kind_of : Opening → List ℕ → List ℕ → Option Kind
 kind_of a_name w rest = name_kind w
@@ -76,7 +93,16 @@ is_escaped k w = (is_word k || same_kind PrivateIdentifier k) && has_backslash w
 
 -- The code units of what a word, a private name behind its `#`, or a string stands for; of any other lexeme none.
 abbrev pub units_of : Kind → List ℕ → List ℕ
-units_of k w = elim (is_word k) [ true ↦ unwrap_or (option_map code_units (name_of w)) [] | false ↦ elim (same_kind PrivateIdentifier k) [ true ↦ unwrap_or (option_map code_units (name_of (drop 1 w))) [] | false ↦ elim (same_kind Str k) [ true ↦ unwrap_or (string_units (string_inside w)) [] | false ↦ [] ] ] ]
+units_of k w =
+    elim (is_word k) [
+      | true ↦ unwrap_or (option_map code_units (name_of w)) []
+      | false ↦
+          elim (same_kind PrivateIdentifier k) [
+            | true ↦ unwrap_or (option_map code_units (name_of (drop 1 w))) []
+            | false ↦
+                elim (same_kind Str k) [ true ↦ unwrap_or (string_units (string_inside w)) [] | false ↦ [] ]
+          ]
+    ]
 
 -- the mark "has a separator", of numbers
 abbrev pub is_separated : Kind → List ℕ → Bool

@@ -22,12 +22,22 @@ suffix k big (c ∷ cs) = elim (c == 110) [ true ↦ ends big cs | false ↦ Non
 -- DecimalDigits[+Sep] and its like, and the rest: digits, and between two of them one `_` at most. `digit`: one stands directly before.
 abbrev pub digits : (ℕ → Bool) → Rest → Bool → Rest
 digits d rest digit [] = elim digit [ true ↦ rest [] | false ↦ None ]
-digits d rest digit (c ∷ cs) = elim (d c) [ true ↦ digits d rest true cs | false ↦ elim digit [ true ↦ elim (c == 95) [ true ↦ digits d rest false cs | false ↦ rest (c ∷ cs) ] | false ↦ None ] ]
+digits d rest digit (c ∷ cs) =
+    elim (d c) [
+      | true ↦ digits d rest true cs
+      | false ↦
+          elim digit [ true ↦ elim (c == 95) [ true ↦ digits d rest false cs | false ↦ rest (c ∷ cs) ] | false ↦ None ]
+    ]
 
 -- SignedInteger
 abbrev pub signed : Rest
 signed [] = None
-signed (c ∷ cs) = elim (c == 45) [ true ↦ digits is_decimal (ends NegativeExponential) false cs | false ↦ elim (c == 43) [ true ↦ digits is_decimal (ends PositiveExponential) false cs | false ↦ digits is_decimal (ends PositiveExponential) false (c ∷ cs) ] ]
+signed (c ∷ cs) =
+    elim (c == 45) [
+      | true ↦ digits is_decimal (ends NegativeExponential) false cs
+      | false ↦
+          elim (c == 43) [ true ↦ digits is_decimal (ends PositiveExponential) false cs | false ↦ digits is_decimal (ends PositiveExponential) false (c ∷ cs) ]
+    ]
 
 -- ExponentPart, or nothing
 abbrev pub exponent : Kind → Rest
@@ -52,17 +62,44 @@ integer_rest (c ∷ cs) = elim (c == 110) [ true ↦ ends DecimalBigInt cs | fal
 -- LegacyOctalIntegerLiteral, and NonOctalDecimalIntegerLiteral with its rest: no `_` between their digits. `above`: an 8 or 9 stands before.
 abbrev pub legacy : Bool → Rest
 legacy above [] = elim above [ true ↦ Some Decimal | false ↦ Some Octal ]
-legacy above (c ∷ cs) = elim (is_decimal c) [ true ↦ legacy (above || nat_le 56 c) cs | false ↦ elim above [ true ↦ decimal_rest (c ∷ cs) | false ↦ None ] ]
+legacy above (c ∷ cs) =
+    elim (is_decimal c) [
+      | true ↦ legacy (above || nat_le 56 c) cs
+      | false ↦
+          elim above [ true ↦ decimal_rest (c ∷ cs) | false ↦ None ]
+    ]
 
 -- behind a `0` that begins a number
 abbrev pub zero_rest : Rest
 zero_rest [] = Some Decimal
-zero_rest (c ∷ cs) = elim (is_decimal c) [ true ↦ legacy (nat_le 56 c) cs | false ↦ elim (one_of (88 ∷ 120 ∷ []) c) [ true ↦ digits is_hex (suffix Hex HexBigInt) false cs | false ↦ elim (one_of (79 ∷ 111 ∷ []) c) [ true ↦ digits is_octal (suffix Octal OctalBigInt) false cs | false ↦ elim (one_of (66 ∷ 98 ∷ []) c) [ true ↦ digits is_binary (suffix Binary BinaryBigInt) false cs | false ↦ integer_rest (c ∷ cs) ] ] ] ]
+zero_rest (c ∷ cs) =
+    elim (is_decimal c) [
+      | true ↦ legacy (nat_le 56 c) cs
+      | false ↦
+          elim (one_of (88 ∷ 120 ∷ []) c) [
+            | true ↦ digits is_hex (suffix Hex HexBigInt) false cs
+            | false ↦
+                elim (one_of (79 ∷ 111 ∷ []) c) [
+                  | true ↦ digits is_octal (suffix Octal OctalBigInt) false cs
+                  | false ↦
+                      elim (one_of (66 ∷ 98 ∷ []) c) [ true ↦ digits is_binary (suffix Binary BinaryBigInt) false cs | false ↦ integer_rest (c ∷ cs) ]
+                ]
+          ]
+    ]
 
 -- NumericLiteral: its kind, if the characters are one
 abbrev pub number_kind : Rest
 number_kind [] = None
-number_kind (c ∷ cs) = elim (c == 46) [ true ↦ digits is_decimal (exponent Float) false cs | false ↦ elim (c == 48) [ true ↦ zero_rest cs | false ↦ elim (is_decimal c) [ true ↦ digits is_decimal integer_rest true cs | false ↦ None ] ] ]
+number_kind (c ∷ cs) =
+    elim (c == 46) [
+      | true ↦ digits is_decimal (exponent Float) false cs
+      | false ↦
+          elim (c == 48) [
+            | true ↦ zero_rest cs
+            | false ↦
+                elim (is_decimal c) [ true ↦ digits is_decimal integer_rest true cs | false ↦ None ]
+          ]
+    ]
 
 abbrev pub is_number : Kind → Bool
 is_number = one_of_kinds (Decimal ∷ Float ∷ Binary ∷ Octal ∷ Hex ∷ PositiveExponential ∷ NegativeExponential ∷ DecimalBigInt ∷ BinaryBigInt ∷ OctalBigInt ∷ HexBigInt ∷ [])

@@ -9,7 +9,12 @@ use Rattle.js_grammar.specs.Characters.{one_of, is_line_terminator, is_identifie
 -- `brackets`: the characters stand in brackets; `escaped`: a backslash that is none itself stands directly before.
 abbrev pub behind_pattern : Bool → Bool → List ℕ → Option (List ℕ)
 behind_pattern brackets escaped [] = None
-behind_pattern brackets escaped (c ∷ cs) = elim (is_line_terminator c) [ true ↦ None | false ↦ elim (not escaped && (not brackets && (c == 47))) [ true ↦ Some cs | false ↦ behind_pattern (elim escaped [ true ↦ brackets | false ↦ (brackets && not (c == 93)) || (c == 91) ]) (not escaped && (c == 92)) cs ] ]
+behind_pattern brackets escaped (c ∷ cs) =
+    elim (is_line_terminator c) [
+      | true ↦ None
+      | false ↦
+          elim (not escaped && (not brackets && (c == 47))) [ true ↦ Some cs | false ↦ behind_pattern (elim escaped [ true ↦ brackets | false ↦ (brackets && not (c == 93)) || (c == 91) ]) (not escaped && (c == 92)) cs ]
+    ]
 
 -- the flags, of all characters from the opening slash on; none where they begin a comment or no slash ends the pattern
 abbrev pub flags : List ℕ → Option (List ℕ)

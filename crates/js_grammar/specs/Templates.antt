@@ -10,7 +10,12 @@ use Rattle.js_grammar.specs.Escapes.{in_template, line_feeds, code_points, code_
 -- `escaped`: a backslash that is none itself stands directly before; `dollar`: a `$` does. The answer tells whether `${` ends the part.
 abbrev pub closes_template : Bool → Bool → List ℕ → Option Bool
 closes_template escaped dollar [] = None
-closes_template escaped dollar (c ∷ cs) = elim (not escaped && (c == 96)) [ true ↦ elim (nothing_left cs) [ true ↦ Some false | false ↦ None ] | false ↦ elim (dollar && (c == 123)) [ true ↦ elim (nothing_left cs) [ true ↦ Some true | false ↦ None ] | false ↦ closes_template (not escaped && (c == 92)) (not escaped && (c == 36)) cs ] ]
+closes_template escaped dollar (c ∷ cs) =
+    elim (not escaped && (c == 96)) [
+      | true ↦ elim (nothing_left cs) [ true ↦ Some false | false ↦ None ]
+      | false ↦
+          elim (dollar && (c == 123)) [ true ↦ elim (nothing_left cs) [ true ↦ Some true | false ↦ None ] | false ↦ closes_template (not escaped && (c == 92)) (not escaped && (c == 36)) cs ]
+    ]
 
 abbrev pub part_kind : Kind → Kind → Option Bool → Option Kind
 part_kind closing opening None = None
