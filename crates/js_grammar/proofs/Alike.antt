@@ -6,7 +6,7 @@ use Rattle.js_grammar.specs.Characters.{has_line_terminator}
 use Rattle.js_grammar.specs.Longest.{longest, none_longer, joined}
 use Rattle.js_grammar.specs.Trivia.{is_trivia_piece, are_trivia}
 use Rattle.js_grammar.specs.Lexemes.{LexicalGoal, lexemes_in}
-use Rattle.js_grammar.specs.Lexing.{Passing, Lex, Stands}
+use Rattle.js_grammar.specs.Lexed.{Passing, Lex, Stands}
 use Rattle.js_grammar.proofs.LongestLemmas.{both-left, both-right, none_longer-at, longest-same}
 
 no_empty_piece : (first : Bool) (rest : List ℕ) → is_trivia_piece first [] rest ≡ false

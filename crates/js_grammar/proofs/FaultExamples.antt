@@ -13,7 +13,7 @@ use Rattle.js_grammar.specs.Grammar.{last}
 use Rattle.js_grammar.specs.Settings.{script, module_goal}
 use Rattle.js_grammar.specs.Trivia.{are_trivia}
 use Rattle.js_grammar.specs.Lexemes.{division, regular_expression}
-use Rattle.js_grammar.specs.Lexing.{all_faults}
+use Rattle.js_grammar.specs.Lexed.{all_faults}
 use Rattle.js_grammar.specs.LexicalFaults.{invalid_character, binary_file, unterminated_string, unterminated_template, unterminated_regexp, unterminated_comment, invalid_escape, reg_exp_flag, html_comment_in_module, Due, Condition, Faulty}
 use Rattle.js_grammar.proofs.Standing.{stand, lexeme_of}
 

@@ -7,7 +7,7 @@ use Rattle.js_base.specs.declared.kind.Kind.TheVariants.{Await, Colon, Decimal, 
 use Rattle.js_base.specs.Texts.{words, punctuators}
 use Rattle.js_grammar.specs.Grammar.{Lexeme, last, next}
 use Rattle.js_grammar.specs.Lexemes.{division, regular_expression, template_tail, hashbang}
-use Rattle.js_grammar.specs.Lexing.{Lex, Lexed, Passing, in_script}
+use Rattle.js_grammar.specs.Lexed.{Lex, Lexed, Passing, in_script}
 use Rattle.js_grammar.specs.Settings.{script}
 use Rattle.js_grammar.proofs.Standing.{stand, number_goes_on}
 

@@ -8,7 +8,7 @@ use Rattle.js_grammar.specs.Longest.{longest, none_longer, none_begins, joined}
 use Rattle.js_grammar.specs.Trivia.{are_trivia}
 use Rattle.js_grammar.specs.Numbers.{is_number, stops_number}
 use Rattle.js_grammar.specs.Lexemes.{LexicalGoal, division, regular_expression, template_tail, hashbang, lexemes_in, kind_in, may_begin, is_escaped, units_of}
-use Rattle.js_grammar.specs.Lexing.{Passing, Lex, Stands, comments_pass, flags_right}
+use Rattle.js_grammar.specs.Lexed.{Passing, Lex, Stands, comments_pass, flags_right}
 use Rattle.js_grammar.proofs.LongestLemmas.{both-left, both-right, none_longer-at, longest-same}
 use Rattle.js_grammar.proofs.Alike.{stands-same}
 

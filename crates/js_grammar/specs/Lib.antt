@@ -13,7 +13,7 @@ pub mod Strings
 pub mod Templates
 pub mod RegularExpressions
 pub mod Lexemes
-pub mod Lexing
+pub mod Lexed
 pub mod LexicalLaws
 pub mod CoreTexts
 pub mod LexicalFaults

@@ -1,4 +1,4 @@
-use Rattle.js_grammar.specs.Lexing.{Lex}
+use Rattle.js_grammar.specs.Lexed.{Lex}
 use Rattle.js_grammar.proofs.Parts.{joins}
 use Rattle.js_grammar.proofs.lexical_laws.law_of_joining.Goals as goal
 
