@@ -1,4 +1,5 @@
 pub mod Kinds
 pub mod Texts
+pub mod Keywords
 pub mod Sources
 pub mod Diagnostics

@@ -3,7 +3,9 @@
 #![tactic(auto)]
 
 mod diagnostic;
+mod keyword;
 mod kind;
+mod kind_text;
 mod no_memory;
 mod options;
 mod source_type;
@@ -11,6 +13,7 @@ mod span;
 mod token;
 
 pub use diagnostic::{Diagnostic, DiagnosticClass, DiagnosticKind, Diagnostics};
+pub use keyword::keyword_kind;
 pub use kind::Kind;
 pub use no_memory::NoMemory;
 pub use options::ParseOptions;

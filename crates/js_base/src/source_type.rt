@@ -38,13 +38,17 @@ impl SourceType {
     pub fn commonjs() -> SourceType
         ensures { is_goal result ≡ CommonJs }
     {
-        SourceType { goal: Goal::CommonJs }
+        SourceType {
+            goal: Goal::CommonJs,
+        }
     }
 
     /// A script, or where that can't be a module.
     pub fn unambiguous() -> SourceType
         ensures { is_goal result ≡ Unambiguous }
     {
-        SourceType { goal: Goal::Unambiguous }
+        SourceType {
+            goal: Goal::Unambiguous,
+        }
     }
 }

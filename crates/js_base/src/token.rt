@@ -17,7 +17,13 @@ pub struct Token {
 
 impl Token {
     /// The token of these fields.
-    pub fn new(kind: Kind, span: Span, is_on_new_line: bool, escaped: bool, has_separator: bool) -> Token
+    pub fn new(
+        kind: Kind,
+        span: Span,
+        is_on_new_line: bool,
+        escaped: bool,
+        has_separator: bool,
+    ) -> Token
         ensures kind { result.kind ≡ kind }
         ensures span { result.span ≡ span }
         ensures is_on_new_line { result.is_on_new_line ≡ is_on_new_line }

@@ -18,3 +18,10 @@ pub mod CoreLexed
 pub mod FaultExamples
 pub mod CharacterLemmas
 pub mod CoreExamples
+pub mod Looks
+pub mod First
+pub mod Calculus
+pub mod Towers
+pub mod Loops
+pub mod Operators
+pub mod Lexemes

@@ -1,7 +1,8 @@
 -- Parts of a list of lexemes: they can be joined where they meet, and cut at every lexeme.
 use Rattle.std.proofs.Common.{ℕ, List, refl}
 use Rattle.js_grammar.specs.Grammar.{Lexeme, Lexemes, last, next}
-use Rattle.js_grammar.specs.Lexed.{Next, Lexes, end_of, join, Passing, all_faults, Lex}
+use Rattle.js_grammar.specs.Lexing.{Lexes}
+use Rattle.js_grammar.specs.Lexed.{Next, end_of, join, Passing, all_faults, Lex}
 
 pub joins : (L : Next) (s : ℕ) (ls ms : Lexemes) → Lexes L s ls → Lexes L (end_of ls) ms → Lexes L s (join ls ms)
 joins L s (last x) ms h k = (h, k)

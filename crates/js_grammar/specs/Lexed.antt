@@ -4,6 +4,7 @@ use Rattle.js_base.specs.declared.kind.Kind.{Kind}
 use Rattle.js_base.specs.declared.kind.Kind.TheVariants.{RegExp, Eof}
 use Rattle.js_base.specs.Kinds.{same_kind}
 use Rattle.js_grammar.specs.Grammar.{Lexeme, Lexemes, last, next}
+use Rattle.js_grammar.specs.Lexing.{Lexes}
 use Rattle.js_grammar.specs.Settings.{Goal, module_goal}
 use Rattle.js_grammar.specs.Characters.{width, has_line_terminator}
 use Rattle.js_grammar.specs.Longest.{longest, joined}
@@ -60,11 +61,6 @@ pub record Lex (passing : Passing) (text : List ℕ) (s : ℕ) (y : Lexeme) : Ty
 -- what may be next behind a place
 abbrev pub Next : Type 1
 Next = ℕ → Lexeme → Type 0
-
--- a part: lexemes one behind the other from a place on, up to any one
-abbrev pub Lexes : Next → ℕ → Lexemes → Type 0
-Lexes L s (last x) = L s x
-Lexes L s (next x ls) = L s x × Lexes L x.to ls
 
 -- the end of the last lexeme
 abbrev pub end_of : Lexemes → ℕ

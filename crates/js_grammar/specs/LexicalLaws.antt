@@ -5,7 +5,8 @@ use Rattle.ucd_category.specs.GeneralCategory.{general_category, general_categor
 use Rattle.ucd_category.specs.declared.GeneralCategory.TheVariants.{SpaceSeparator}
 use Rattle.js_grammar.specs.Characters.{one_of, is_white_space, is_identifier_start, is_identifier_part}
 use Rattle.js_grammar.specs.Grammar.{Lexeme, Lexemes}
-use Rattle.js_grammar.specs.Lexed.{Passing, all_faults, Lex, Lexes, Lexed, end_of, join}
+use Rattle.js_grammar.specs.Lexing.{Lexes}
+use Rattle.js_grammar.specs.Lexed.{Passing, all_faults, Lex, Lexed, end_of, join}
 use Rattle.js_grammar.specs.Settings.{Goal}
 use Rattle.js_grammar.specs.CoreTexts.{CoreSource}
 

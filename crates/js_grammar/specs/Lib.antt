@@ -1,5 +1,10 @@
 pub mod Trees
 pub mod Grammar
+pub mod Insertion
+pub mod Table
+pub mod Lexing
+pub mod Levels
+pub mod Parsing
 pub mod Lines
 pub mod Settings
 pub mod Readings

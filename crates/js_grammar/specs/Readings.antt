@@ -1,12 +1,21 @@
 -- What it is that a tree is a reading of a text, and what the program answers for a text.
 use Rattle.std.specs.Prelude.{ℕ, ◌≡◌, ◌≤◌, Bool, true, false, List, [], length, All}
 use Rattle.js_base.specs.declared.diagnostic.Diagnostic.{Diagnostic}
+use Rattle.js_base.specs.declared.kind.Kind.TheVariants.{Eof}
 use Rattle.js_grammar.specs.Trees.{Tree}
+use Rattle.js_grammar.specs.Grammar.{Lexeme, Lexemes, last, Derives}
+use Rattle.js_grammar.specs.Table.{Program, rule, at, script_flags}
+use Rattle.js_grammar.specs.Lexing.{Lex, Lexes}
 use Rattle.js_grammar.specs.Lines.{tree_text, diagnostic_text}
 
--- The tree is a reading of the text.
+-- The tree is a reading of the text: the text has a list of lexemes up to its end, and Program derives the tree from exactly these.
 pub record IsReading (text : List ℕ) (t : Tree) : Type 0 where
-  pub placeholder : Unit {0}
+  pub lexemes : Lexemes
+  pub lexed : Lexes (Lex text) 0 lexemes
+  pub end : ℕ
+  pub final : Lexeme
+  pub is_end : final.kind ≡ Eof
+  pub derived : Derives rule (at Program script_flags) t 0 lexemes end (last final)
 
 -- a diagnostic's span lies in a text of so many bytes
 pub record IsInside (len : ℕ) (d : Diagnostic) : Type 0 where

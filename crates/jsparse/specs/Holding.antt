@@ -1,5 +1,5 @@
 -- Trees, and the nodes that stand for them.
-use Rattle.std.specs.Prelude.{◌≡◌, ℕ, ◌+◌, ◌<◌, ◌≤◌, List, [], ◌∷◌, ◌++◌, length, Option, Some, None, Result, Ok, Err}
+use Rattle.std.specs.Prelude.{◌≡◌, ℕ, ◌+◌, ◌<◌, ◌≤◌, List, [], ◌∷◌, length, Option, Some, None, Result, Ok, Err, slice_get}
 use Rattle.std.proofs.Common.{get_or}
 use Rattle.js_base.specs.declared.kind.Kind.{Kind}
 use Rattle.js_base.specs.declared.no_memory.NoMemory.{NoMemory}
@@ -7,6 +7,7 @@ use Rattle.js_base.specs.declared.span.Span.{Span}
 use Rattle.jsparse.specs.declared.tree.Node.{Node}
 use Rattle.jsparse.specs.declared.tree.NodeId.{NodeId}
 use Rattle.jsparse.specs.declared.tree.NodeKind.{NodeKind}
+use Rattle.jsparse.specs.declared.tree.Tree.{Tree}
 use Rattle.jsparse.specs.declared.tree.NodeKind.TheVariants.{Program, EmptyStatement, ExpressionStatement, BinaryExpression, UnaryExpression, CallExpression, ParenthesizedExpression, IdentifierReference, NumericLiteral}
 use Rattle.js_grammar.specs.Trees.{NodeKind as TreeKind, program, empty_statement, expression_statement, binary_expression, unary_expression, call_expression, parenthesized_expression, identifier_reference, numeric_literal, Op, no_op, of, Label, Slots, end, hole, tree}
 
@@ -54,3 +55,20 @@ pub record Made (k : NodeKind) (s : Span) (o : Option Kind) (ids : List (Option 
 abbrev pub Makes : NodeKind → Span → Option Kind → List (Option NodeId) → List Node → List Node → Result NodeId NoMemory → Type 0
 Makes k s o ids ns ms (Ok id) = Made k s o ids ns ms id
 Makes k s o ids ns ms (Err e) = ms ≡ ns
+
+-- The nodes stand for the tree of a program: node 0 is the program's, and its children have greater numbers.
+pub record IsProgram (ns : List Node) (l : Label) (cs : Slots) : Type 0 where
+  pub program : Node
+  pub first : slice_get ns 0 ≡ Some program
+  pub kind : program.kind ≡ Program
+  pub op : program.op ≡ None
+  pub label : l ≡ label_of Program None program.span
+  pub children : HoldsAll ns 1 (length ns) program.children.items cs
+
+abbrev pub IsTree : Tree → Label → Slots → Type 0
+IsTree t l cs = IsProgram t.nodes.items l cs
+
+-- the program's children are these, where they hold
+abbrev pub Finishes : Span → List (Option NodeId) → List Node → Result Tree NoMemory → Type 0
+Finishes s ids ns (Ok t) = (cs : Slots) → HoldsAll ns 1 (length ns) ids cs → IsTree t (label_of Program None s) cs
+Finishes s ids ns (Err e) = Unit {0}

@@ -1,1 +1,4 @@
 pub mod Holding
+pub mod Walking
+pub mod Tokens
+pub mod Answers

@@ -1,7 +1,8 @@
 //! The nodes of a tree, each with a number.
 
-ghost use Rattle.std.specs.Prelude.{◌≡◌, [], ◌∷◌, ◌++◌, length, IfOk, OnErr, IfErr};
-ghost use Rattle.jsparse.specs.Holding.{Makes};
+ghost use Rattle.std.specs.Prelude.{◌≡◌, length, IfOk, slice_get};
+ghost use Rattle.std.specs.Option.{option_copied};
+ghost use Rattle.jsparse.specs.Holding.{Makes, Finishes};
 
 use js_base::{Kind, NoMemory, Span};
 use std::alloc::Global;
@@ -41,8 +42,28 @@ pub struct ParserAstBuilder {
 }
 
 impl ParserAstBuilder {
+    /// The store with the program's node alone, whose span and children come at the end.
+    pub fn new(alloc: Global) -> Result<Self, NoMemory>
+        ensures { IfOk result (λ b. length b.nodes.items ≡ 1) }
+    {
+        let mut nodes = Vec::new(alloc);
+        nodes.push(Node {
+            kind: NodeKind::Program,
+            op: None,
+            span: Span::empty(0),
+            children: Vec::new(alloc),
+        })?;
+        Ok(ParserAstBuilder { alloc, nodes })
+    }
+
     /// Makes a node of children made before.
-    pub fn node(&mut self, kind: NodeKind, span: Span, op: Option<Kind>, children: Vec<Option<NodeId>>) -> Result<NodeId, NoMemory>
+    pub fn node(
+        &mut self,
+        kind: NodeKind,
+        span: Span,
+        op: Option<Kind>,
+        children: Vec<Option<NodeId>>,
+    ) -> Result<NodeId, NoMemory>
         ensures { Makes kind span op children.items self.old.nodes.items self.new.nodes.items result }
     {
         let id = NodeId(self.nodes.len());
@@ -53,5 +74,46 @@ impl ParserAstBuilder {
             children,
         })?;
         Ok(id)
+    }
+
+    /// The tree of a program of this span and these children, which were made before.
+    pub fn finish(self, span: Span, children: Vec<Option<NodeId>>) -> Result<Tree, NoMemory>
+        ensures { Finishes span children.items self.nodes.items result }
+    {
+        let mut nodes = self.nodes;
+        let program = Node {
+            kind: NodeKind::Program,
+            op: None,
+            span,
+            children,
+        };
+        if nodes.len() == 0 {
+            nodes.push(program)?;
+        } else {
+            nodes[0] = program;
+        }
+        Ok(Tree { nodes })
+    }
+}
+
+/// The nodes of a whole program by number. Number 0 is the program's.
+#[derive(Drop)]
+pub struct Tree {
+    nodes: Vec<Node>,
+}
+
+impl Tree {
+    /// How many nodes there are.
+    pub fn len(&self) -> usize
+        ensures { result ≡ length self.now.nodes.items }
+    {
+        self.nodes.len()
+    }
+
+    /// The node of a number; none exactly where the number isn't below the length.
+    pub fn get(&self, id: NodeId) -> Option<&Node>
+        ensures { option_copied result ≡ slice_get self.now.nodes.items id.0 }
+    {
+        self.nodes.get(id.0)
     }
 }

@@ -1,0 +1,250 @@
+-- Loops that read left-recursive symbols: the start, a step, the end, and failures.
+use Rattle.std.proofs.Common.{ℕ, ◌≡◌, ◌≤◌, ◌+◌, max, Bool, true, false, ◌||◌, ◌&&◌, IsTrue, List, [], ◌∷◌, ◌++◌, cond, nat_eq, refl, ap, sym, ◌∙◌, subst, arith}
+use Rattle.std.proofs.lemmas.Bool.{or_left, or_right, and_parts, false≢true}
+use Rattle.js_base.specs.declared.kind.Kind.{Kind}
+use Rattle.js_base.specs.Kinds.{same_kind, one_of_kinds}
+use Rattle.js_base.proofs.KindLemmas.{kind_of_same}
+use Rattle.js_grammar.specs.Trees.{NodeKind, Slots, end, tree, Label}
+use Rattle.js_grammar.specs.Grammar.{Lexeme, Lexemes, here, Look, seen, nothing, such, alt, is_nothing, is_such}
+use Rattle.js_grammar.specs.Table.{Symbol, G, rule, always, branches}
+use Rattle.js_grammar.specs.Lexing.{Lexes}
+use Rattle.js_grammar.proofs.Looks.{full, none, either, covers, covered, some_of, some_at}
+use Rattle.js_grammar.proofs.First.{starts, starting}
+use Rattle.js_grammar.specs.Parsing.{T, Reaches, Extends, Goes, Reads, Fails}
+use Rattle.js_grammar.proofs.Calculus.{reaches_less, here_at}
+use Rattle.js_grammar.proofs.Towers.{Link, link, linked_label, Among, of_left, of_right, Links, one, two, guarded, none_at_all, Tower, Tail, tail_none, tail_more, an_link, under, reslot, unroll, roll, Same, chain, level_tower, operation, operation_link, of_operations, to_operations, same_label, same_slots, OneOf, head, later}
+
+-- Of the symbol of the level m, read from s on, where F stands behind it, a node of the level c has been read, up to s'; what remains is the parts behind it. The symbol's first lexeme begins at `from`.
+pub record Around (Lex : ℕ → Lexeme → Type 0) (F : Look) (w : Tower rule) (m s from c : ℕ) (l : Label) (cs : Slots) (s' : ℕ) (reach : ℕ) : Type 0 where
+  pub sound : (m' : Label) (ds : Slots) (k : ℕ) (ls' rest : Lexemes) → Lexes Lex s' ls' → Reaches reach s' ls' → Tail w m from c l cs s' ls' m' ds k rest → (ls : Lexemes) × Lexes Lex s ls × Extends s ls s' ls' × T (w.operand m) end (tree m' ds end) s ls end k rest
+  pub only : (m' : Label) (ds : Slots) (k : ℕ) (ls rest : Lexemes) → Lexes Lex s ls → T (w.operand m) end (tree m' ds end) s ls end k rest → IsTrue (seen F (here rest)) → (ls' : Lexemes) × Lexes Lex s' ls' × Tail w m from c l cs s' ls' m' ds k rest
+  pub begins : (y : Lexeme) → Lex s y → y.from ≡ from
+
+-- a link that may go around a node of the level c
+abbrev pub Step : Tower rule → ℕ → ℕ → ℕ → Link Symbol → Type 0
+Step w m c q x = (m ≤ q) × (q ≤ c) × (q ≤ w.top) × Among (w.level q) (w.steps q) x
+
+-- what may follow: the end, or the start of a part
+pub record Follows (w : Tower rule) (m c : ℕ) (F F' : Look) : Type 0 where
+  pub ends : (k : Kind) (n e : Bool) → F k n e ≡ true → F' k n e ≡ true
+  pub goes : (q : ℕ) (x : Link Symbol) → Step w m c q x → (k : Kind) (n e : Bool) → starts x.part full k n e ≡ true → F' k n e ≡ true
+
+module _ {w : Tower rule} {m : ℕ} where
+  starting_tail : {F : Look} {from c : ℕ} {l l' : Label} {cs cs' : Slots} {i k : ℕ} {mid rest : Lexemes} {F' : Look} → Tail w m from c l cs i mid l' cs' k rest → IsTrue (seen F (here rest)) → Follows w m c F F' → IsTrue (seen F' (here mid))
+  starting_tail tail_none e f = f.ends _ _ _ e
+  starting_tail (tail_more {q = q} {x = x} a b t y p d) e f = f.goes q x (a, b, t, y) _ _ _ (starting full p refl)
+
+  renamed : {v v' c : ℕ} {l l' a : Label} {cs cs' bs : Slots} {i k : ℕ} {ls rest : Lexemes} → v ≡ v' → l ≡ l' → cs ≡ cs' → Tail w m v c l cs i ls a bs k rest → Tail w m v' c l' cs' i ls a bs k rest
+  renamed {v} {v'} {c} {l} {l'} {a} {cs} {cs'} {bs} {i} {k} {ls} {rest} p q r t = subst (λ z. Tail w m v' c l' z i ls a bs k rest) r (subst (λ z. Tail w m v' c z cs i ls a bs k rest) q (subst (λ z. Tail w m z c l cs i ls a bs k rest) p t))
+
+  moved : {from c : ℕ} {l a : Label} {cs bs us : Slots} {s' j k : ℕ} {ls' mid rest : Lexemes} → T nothing end us s' ls' end j mid → Tail w m from c l cs j mid a bs k rest → Tail w m from c l cs s' ls' a bs k rest
+  moved is_nothing t = t
+
+  grown : {from c : ℕ} {l a : Label} {cs bs ds us : Slots} {s' j k : ℕ} {ls' mid rest : Lexemes} (x : Link Symbol) (f : Slots → Slots) → T nothing end us s' ls' end j mid → ds ≡ f us → Tail w m from c (linked_label x from j) (tree l cs ds) j mid a bs k rest
+      → Tail w m from c (linked_label x from s') (tree l cs (f end)) s' ls' a bs k rest
+  grown {l = l} {cs = cs} x f is_nothing e t = renamed refl refl (ap (λ z. tree l cs z) e) t
+
+  -- at the topmost level a higher bound says no more
+  raised : {from c c' : ℕ} {l a : Label} {cs bs : Slots} {i k : ℕ} {ls rest : Lexemes} → w.top ≤ c' → Tail w m from c l cs i ls a bs k rest → Tail w m from c' l cs i ls a bs k rest
+  raised h tail_none = tail_none
+  raised h (tail_more a b t y d more) = tail_more a (omega arith) t y d more
+
+as_tree : {n : Symbol} {ks ts us : Slots} {i j : ℕ} {ls rest : Lexemes} → T (such n always) ks ts i ls us j rest → (l : Label) × (cs : Slots) × (ts ≡ tree l cs us) × T (such n always) end (tree l cs end) i ls end j rest
+as_tree (is_such {l = l} {cs = cs} d c) = (l, cs, refl, is_such d c)
+
+pub rekept : {n : Symbol} {ks : Slots} {l : Label} {cs : Slots} (us : Slots) {i j : ℕ} {ls rest : Lexemes} → T (such n always) end (tree l cs end) i ls end j rest → T (such n always) ks (tree l cs us) i ls us j rest
+rekept us (is_such d c) = is_such d refl
+
+module _ {Lex : ℕ → Lexeme → Type 0} {w : Tower rule} {m : ℕ} {F : Look} where
+  -- the topmost operand was read
+  pub start : {F' : Look} {s from s' rn : ℕ} {l : Label} {cs : Slots} → m ≤ w.top + 1 → Reads Lex F' end (w.operand (w.top + 1)) s s' (tree l cs) rn → Follows w m (w.top + 1) F F' → ((y : Lexeme) → Lex s y → y.from ≡ from) → Around Lex F w m s from (w.top + 1) l cs s' rn
+  start {F'} {s} {from} {s'} {rn} {l} {cs} h r f b = record {
+    sound = λ m' ds k ls' rest i n t. let x = r.sound end end s' ls' ls' i n is_nothing in (x.0, x.1, x.2, roll w x.3 h (omega arith) (renamed (sym (b (here x.0) (here_at Lex x.0 x.1))) refl refl t));
+    only = λ m' ds k ls rest i d e. let y = unroll w m' ds m s k ls rest h d in let x = r.only (tree y.0 y.1 end) end y.2 ls y.3 i y.4 (starting_tail y.5 e f) in
+        (x.1, x.3, renamed (b (here ls) (here_at Lex ls i)) (same_label x.2) (same_slots x.2) (moved x.4 y.5));
+    begins = b;
+  }
+
+  pub start_fails : {n : Symbol} {F' : Look} {ks : Slots} {s : ℕ} → w.operand m ≡ such n always → m ≤ w.top + 1 → Fails Lex F' end (w.operand (w.top + 1)) s → Follows w m (w.top + 1) F F' → Fails Lex F ks (such n always) s
+  start_fails {n} {F'} {ks} {s} o h r f = record { no = λ ts vs k ls rest i d e. let z = as_tree d in let y = unroll w z.0 z.1 m s k ls rest h (subst (λ v. T v end (tree z.0 z.1 end) s ls end k rest) (sym o) z.3) in r.no (tree y.0 y.1 end) end y.2 ls y.3 i y.4 (starting_tail y.5 e f) }
+
+  -- no part can stand here
+  pub finish : {n : Symbol} {ks : Slots} {s from c s' rn : ℕ} {l : Label} {cs : Slots} → w.operand m ≡ such n always → Around Lex F w m s from c l cs s' rn → ((q : ℕ) (x : Link Symbol) → Step w m c q x → (y : Lexeme) → Lex s' y → IsTrue (seen (starts x.part full) y) → ⊥) → Reads Lex F ks (such n always) s s' (tree l cs) rn
+  finish {n} {ks} {s} {from} {c} {s'} {rn} {l} {cs} o a none_here = record {
+    sound = λ us vs k ls' rest i h d. go_sound us vs k ls' rest i h d;
+    only = λ ts vs k ls rest i d e. let z = as_tree d in let y = a.only z.0 z.1 k ls rest i (subst (λ v. T v end (tree z.0 z.1 end) s ls end k rest) (sym o) z.3) e in go_only ts vs k rest y.0 z.0 z.1 z.2 y.1 y.2;
+  }
+    where
+      go_sound : (us vs : Slots) (k : ℕ) (ls' rest : Lexemes) → Lexes Lex s' ls' → Reaches rn s' ls' → T nothing ks us s' ls' vs k rest → (ls : Lexemes) × Lexes Lex s ls × Extends s ls s' ls' × T (such n always) ks (tree l cs us) s ls vs k rest
+      go_sound us vs k ls' rest i h is_nothing = let x = a.sound l cs s' ls' ls' i h tail_none in (x.0, x.1, x.2, rekept us (subst (λ v. T v end (tree l cs end) s x.0 end s' ls') o x.3))
+
+      go_only : (ts vs : Slots) (k : ℕ) (rest ls' : Lexemes) (m' : Label) (ds : Slots) → ts ≡ tree m' ds vs → Lexes Lex s' ls' → Tail w m from c l cs s' ls' m' ds k rest → (us : Slots) × (ls' : Lexemes) × (ts ≡ tree l cs us) × Lexes Lex s' ls' × T nothing ks us s' ls' vs k rest
+      go_only ts vs k rest ls' m' ds q i tail_none = (vs, ls', q, i, is_nothing)
+      go_only ts vs k rest ls' m' ds q i (tail_more {q = p} {x = x} a' b t y d more) = absurd (none_here p x (a', b, t, y) (here ls') (here_at Lex ls' i) (starting full d refl))
+
+  pub recap : {s from c c' s' rn : ℕ} {l : Label} {cs : Slots} → Around Lex F w m s from c l cs s' rn → w.top ≤ c → w.top ≤ c' → Around Lex F w m s from c' l cs s' rn
+  recap a h h' = record { sound = λ m' ds k ls' rest i n t. a.sound m' ds k ls' rest i n (raised h t); only = λ m' ds k ls rest i d e. let y = a.only m' ds k ls rest i d e in (y.0, y.1, raised h' y.2); begins = a.begins }
+
+-- One link alone can go around the node here, and the symbol can't end here.
+pub record Alone (Lex : ℕ → Lexeme → Type 0) (F : Look) (w : Tower rule) (m c s' q : ℕ) (x : Link Symbol) : Type 0 where
+  pub step : Step w m c q x
+  pub other : (q' : ℕ) (x' : Link Symbol) → Step w m c q' x' → (y : Lexeme) → Lex s' y → IsTrue (seen (starts x'.part full) y) → (q' ≡ q) × (x' ≡ x)
+  pub goes_on : (y : Lexeme) → Lex s' y → IsTrue (seen F y) → ⊥
+
+module _ {Lex : ℕ → Lexeme → Type 0} {F : Look} {w : Tower rule} {m s from c s' rn : ℕ} {l : Label} {cs : Slots} {q : ℕ} {x : Link Symbol} (a : Around Lex F w m s from c l cs s' rn) (y : Alone Lex F w m c s' q x) where
+  part_here : (m' : Label) (ds : Slots) (k : ℕ) (ls rest : Lexemes) → Lexes Lex s' ls → Tail w m from c l cs s' ls m' ds k rest → IsTrue (seen F (here rest))
+      → (es : Slots) × (j : ℕ) × (mid : Lexemes) × T x.part end es s' ls end j mid × Tail w m from q (linked_label x from j) (tree l cs es) j mid m' ds k rest
+  part_here m' ds k ls rest i tail_none e = absurd (y.goes_on (here ls) (here_at Lex ls i) e)
+  part_here m' ds k ls rest i (tail_more {q = q'} {x = x'} {ds = es} {j = j} {mid = mid} g h t z d more) e =
+      let same = y.other q' x' (g, h, t, z) (here ls) (here_at Lex ls i) (starting full d refl) in
+      (es, j, mid, subst (λ v. T v.part end es s' ls end j mid) same.1 d, subst (λ v. Tail w m from v (linked_label x from j) (tree l cs es) j mid m' ds k rest) same.0 (subst (λ v. Tail w m from q' (linked_label v from j) (tree l cs es) j mid m' ds k rest) same.1 more))
+
+  -- a part stands here, and the node goes around it
+  pub step : {F' : Look} {s'' rm : ℕ} {f : Slots → Slots} → Reads Lex F' end x.part s' s'' f rm → Follows w m q F F' → Around Lex F w m s from q (linked_label x from s'') (tree l cs (f end)) s'' (max rn rm)
+  step {F'} {s''} {rm} {f} r g = record {
+    sound = λ m' ds k ls' rest i n t. let z = r.sound end end s'' ls' ls' i (reaches_less rm (max rn rm) (omega arith) _ ls' n) is_nothing in
+        let u = a.sound m' ds k z.0 rest z.1 (z.2 rn (reaches_less rn (max rn rm) (omega arith) _ ls' n)) (tail_more y.step.0 y.step.1 y.step.2 y.step.3 z.3 t) in
+        (u.0, u.1, (λ e h. u.2 e (z.2 e h)), u.3);
+    only = λ m' ds k ls rest i d e. let u = a.only m' ds k ls rest i d e in let v = part_here m' ds k u.0 rest u.1 u.2 e in let z = r.only v.0 end v.1 u.0 v.2 u.1 v.3 (starting_tail v.4 e g) in
+        (z.1, z.3, grown x f z.4 z.2 v.4);
+    begins = a.begins;
+  }
+
+  pub step_fails : {n : Symbol} {ks : Slots} {F' : Look} → w.operand m ≡ such n always → Fails Lex F' end x.part s' → Follows w m q F F' → Fails Lex F ks (such n always) s
+  step_fails o r g = record { no = λ ts vs k ls rest i d e. let b = as_tree d in let u = a.only b.0 b.1 k ls rest i (subst (λ v. T v end (tree b.0 b.1 end) s ls end k rest) (sym o) b.3) e in let v = part_here b.0 b.1 k u.0 rest u.1 u.2 e in r.no v.0 end v.1 u.0 v.2 u.1 v.3 (starting_tail v.4 e g) }
+
+pub listed : {o : Kind} (os : List Kind) → OneOf o os → ((k : Kind) → same_kind k k ≡ true) → one_of_kinds os o ≡ true
+listed [] i h = elim i [ ]
+listed {o} (a ∷ os) head h = or_left _ _ (h o)
+listed (a ∷ os) (later i) h = or_right _ _ (listed os i h)
+
+-- The rules of operators, for any table of levels, where each operator stands at one level.
+module _ (level : ℕ → Symbol) (top : ℕ) (kind : NodeKind) (ops : ℕ → List Kind)
+    (climbs : (p : ℕ) → p ≤ top → Same (rule (level p)) (alt (such (level (p + 1)) always) (branches (ops p) (operation level kind p)))) where
+  -- the next lexeme tells the part
+  pub part_at : (m c q : ℕ) (x : Link Symbol) → Step (level_tower level top kind ops climbs) m c q x → (k : Kind) (w e : Bool) → starts x.part full k w e ≡ true → OneOf k (ops q) × (x ≡ operation_link level kind q k)
+  part_at m c q x a k w e h =
+      let y = of_operations level kind q (ops q) a.3 in
+      let same : y.0 ≡ k = kind_of_same y.0 k (and_parts _ _ (subst (λ v. starts v.part full k w e ≡ true) y.2 h)).0 in
+      (subst (λ v. OneOf v (ops q)) same y.1, y.2 ∙ ap (λ v. operation_link level kind q v) same)
+
+  pub operators_follow : {m c : ℕ} {F F' : Look} → ((k : Kind) (w e : Bool) → F k w e ≡ true → F' k w e ≡ true) → ((o : Kind) (q : ℕ) (w e : Bool) → OneOf o (ops q) → m ≤ q → q ≤ c → q ≤ top → F' o w e ≡ true) → Follows (level_tower level top kind ops climbs) m c F F'
+  operators_follow {m} {c} h i = record { ends = h; goes = λ q x a k w e t. let z = part_at m c q x a k w e t in i k q w e z.0 a.0 a.1 a.2 }
+
+  -- the operator here stands at one level
+  pub one_operator : {Lex : ℕ → Lexeme → Type 0} {F : Look} {m c s q : ℕ} (k : Kind) → ((y : Lexeme) → Lex s y → y.kind ≡ k) → m ≤ q → q ≤ c → q ≤ top → OneOf k (ops q) → ((q' : ℕ) → OneOf k (ops q') → q' ≡ q) → ((y : Lexeme) → Lex s y → IsTrue (seen F y) → ⊥)
+      → Alone Lex F (level_tower level top kind ops climbs) m c s q (operation_link level kind q k)
+  one_operator {Lex} {F} {m} {c} {s} {q} k z a b d i u g = record {
+    step = (a, b, d, to_operations level kind q (ops q) i);
+    other = λ q' x' st y l t. let r = part_at m c q' x' st y.kind y.newline y.escaped t in let same = z y l in let v = u q' (subst (λ n. OneOf n (ops q')) same r.0) in (v, r.1 ∙ (ap (λ n. operation_link level kind q' n) same ∙ ap (λ n. operation_link level kind n k) v));
+    goes_on = g;
+  }
+
+  -- no operator of the levels between may stand here
+  pub operators_end : {Lex : ℕ → Lexeme → Type 0} {F : Look} {ks : Slots} {m c s from s' rn : ℕ} {l : Label} {cs : Slots} → Around Lex F (level_tower level top kind ops climbs) m s from c l cs s' rn → ((q : ℕ) → m ≤ q → q ≤ c → (y : Lexeme) → Lex s' y → OneOf y.kind (ops q) → ⊥) → Reads Lex F ks (such (level m) always) s s' (tree l cs) rn
+  operators_end {m = m} {c = c} a n = finish refl a (λ q x st y l t. let r = part_at m c q x st y.kind y.newline y.escaped t in n q st.0 st.1 y l r.0)
+
+-- Chains: the checks compute over the choices.
+abbrev pub all_links : {n : Symbol} {g : G} → Links n g → (Link Symbol → Bool) → Bool
+all_links (one {k = k} {o = o} {fl = fl} {a = a}) t = t (link k o fl a)
+all_links (two a b) t = all_links a t && all_links b t
+all_links (guarded a) t = all_links a t
+all_links none_at_all t = true
+
+-- the links that may begin with a lexeme of this kind
+abbrev pub beginning : {n : Symbol} {g : G} → Links n g → Kind → List (Link Symbol)
+beginning (one {k = k} {o = o} {fl = fl} {a = a}) j = cond (some_of (starts a full j)) (link k o fl a ∷ []) []
+beginning (two a b) j = beginning a j ++ beginning b j
+beginning (guarded a) j = beginning a j
+beginning none_at_all j = []
+
+pub each_link : {n : Symbol} {g : G} (lk : Links n g) (t : Link Symbol → Bool) → all_links lk t ≡ true → (x : Link Symbol) → Among n g x → t x ≡ true
+each_link one t h x i = subst (λ v. t v ≡ true) (sym (an_link i)) h
+each_link (two a b) t h x (of_left i) = each_link a t (and_parts (all_links a t) (all_links b t) h).0 x i
+each_link (two a b) t h x (of_right i) = each_link b t (and_parts (all_links a t) (all_links b t) h).1 x i
+each_link (guarded a) t h x i = each_link a t h x (under i).1
+each_link none_at_all t h x i = elim i [ ]
+
+in_left : {A : Type 0} {x : A} {xs : List A} (ys : List A) → OneOf x xs → OneOf x (xs ++ ys)
+in_left ys head = head
+in_left ys (later i) = later (in_left ys i)
+
+in_right : {A : Type 0} {x : A} (xs : List A) {ys : List A} → OneOf x ys → OneOf x (xs ++ ys)
+in_right [] i = i
+in_right (y ∷ xs) i = later (in_right xs i)
+
+begins_so : {A : Type 0} (b : Bool) (x : A) → b ≡ true → OneOf x (cond b (x ∷ []) [])
+begins_so true x h = head
+begins_so false x h = absurd (false≢true h)
+
+pub in_beginning : {n : Symbol} {g : G} (lk : Links n g) (j : Kind) (x : Link Symbol) → Among n g x → some_of (starts x.part full j) ≡ true → OneOf x (beginning lk j)
+in_beginning (one {k = k} {o = o} {fl = fl} {a = a}) j x i h = subst (λ v. OneOf v (cond (some_of (starts a full j)) (link k o fl a ∷ []) [])) (sym (an_link i)) (begins_so (some_of (starts a full j)) (link k o fl a) (subst (λ v. some_of (starts v.part full j) ≡ true) (an_link i) h))
+in_beginning (two a b) j x (of_left i) h = in_left (beginning b j) (in_beginning a j x i h)
+in_beginning (two a b) j x (of_right i) h = in_right (beginning a j) (in_beginning b j x i h)
+in_beginning (guarded a) j x i h = in_beginning a j x (under i).1 h
+in_beginning none_at_all j x i h = elim i [ ]
+
+only_one : {A : Type 0} {x y : A} → OneOf x (y ∷ []) → x ≡ y
+only_one head = refl
+only_one (later i) = elim i [ ]
+
+zero_only : {q : ℕ} → q ≤ 0 → q ≡ 0
+zero_only h = omega arith
+
+-- what the links begin with
+abbrev pub linked_starts : {n : Symbol} {g : G} → Links n g → Look
+linked_starts (one {a = a}) = starts a full
+linked_starts (two a b) = either (linked_starts a) (linked_starts b)
+linked_starts (guarded a) = linked_starts a
+linked_starts none_at_all = none
+
+in_starts : {n : Symbol} {g : G} (lk : Links n g) (x : Link Symbol) → Among n g x → (k : Kind) (w e : Bool) → starts x.part full k w e ≡ true → linked_starts lk k w e ≡ true
+in_starts one x i k w e h = subst (λ v. starts v.part full k w e ≡ true) (an_link i) h
+in_starts (two a b) x (of_left i) k w e h = or_left _ _ (in_starts a x i k w e h)
+in_starts (two a b) x (of_right i) k w e h = or_right _ _ (in_starts b x i k w e h)
+in_starts (guarded a) x i k w e h = in_starts a x (under i).1 k w e h
+in_starts none_at_all x i k w e h = elim i [ ]
+
+-- The rules of a chain: a symbol n that is base, or a link behind itself.
+module _ {n : Symbol} {base g : G} (e : Same (rule n) (alt base g)) (lk : Links n g) where
+  abbrev pub Chained : (ℕ → Lexeme → Type 0) → Look → ℕ → ℕ → Label → Slots → ℕ → ℕ → Type 0
+  Chained Lex F s from l cs s' reach = Around Lex F (chain n base g e lk) 0 s from 1 l cs s' reach
+
+  of_step : (c q : ℕ) (x : Link Symbol) → Step (chain n base g e lk) 0 c q x → (q ≡ 0) × Among n g x
+  of_step c q x a = (zero_only a.2, a.3)
+
+  follows : {c : ℕ} {F F' : Look} → covers F F' ≡ true → all_links lk (λ x. covers (starts x.part full) F') ≡ true → Follows (chain n base g e lk) 0 c F F'
+  follows {c} {F} {F'} h i = record { ends = covered F F' h; goes = λ q x a. covered (starts x.part full) F' (each_link lk (λ x. covers (starts x.part full) F') i x (of_step c q x a).1) }
+
+  pub chain_start : {Lex : ℕ → Lexeme → Type 0} {F F' : Look} {s from s' rn : ℕ} {l : Label} {cs : Slots} → Reads Lex F' end base s s' (tree l cs) rn → covers F F' ≡ true → all_links lk (λ x. covers (starts x.part full) F') ≡ true → ((y : Lexeme) → Lex s y → y.from ≡ from) → Chained Lex F s from l cs s' rn
+  chain_start {Lex} {F} {F'} r h i b = start {Lex = Lex} {w = chain n base g e lk} {m = 0} {F = F} {F' = F'} (omega arith) r (follows h i) b
+
+  pub chain_start_fails : {Lex : ℕ → Lexeme → Type 0} {F F' : Look} {ks : Slots} {s : ℕ} → Fails Lex F' end base s → covers F F' ≡ true → all_links lk (λ x. covers (starts x.part full) F') ≡ true → Fails Lex F ks (such n always) s
+  chain_start_fails {Lex} {F} {F'} r h i = start_fails {Lex = Lex} {w = chain n base g e lk} {m = 0} {F = F} {F' = F'} refl (omega arith) r (follows h i)
+
+  alone : {Lex : ℕ → Lexeme → Type 0} {F : Look} {s' : ℕ} {x : Link Symbol} (k : Kind) → ((y : Lexeme) → Lex s' y → y.kind ≡ k) → Among n g x → beginning lk k ≡ x ∷ [] → some_of (F k) ≡ false → Alone Lex F (chain n base g e lk) 0 1 s' 0 x
+  alone {Lex} {F} {s'} {x} k h a b f = record {
+    step = (omega arith, omega arith, omega arith, a);
+    other = λ q' x' st y l t. let z = of_step 1 q' x' st in (z.0, only_one (subst (λ v. OneOf x' v) b (in_beginning lk k x' z.1 (subst (λ v. some_of (starts x'.part full v) ≡ true) (h y l) (some_at (starts x'.part full y.kind) y.newline y.escaped t)))));
+    goes_on = λ y l t. false≢true (sym f ∙ subst (λ v. some_of (F v) ≡ true) (h y l) (some_at (F y.kind) y.newline y.escaped t));
+  }
+
+  -- the lexeme k begins the part of the link x alone
+  pub chain_step : {Lex : ℕ → Lexeme → Type 0} {F F' : Look} {s from s' s'' rn rm : ℕ} {l : Label} {cs : Slots} {x : Link Symbol} {f : Slots → Slots} (k : Kind) → Chained Lex F s from l cs s' rn → ((y : Lexeme) → Lex s' y → y.kind ≡ k) → Among n g x → beginning lk k ≡ x ∷ [] → some_of (F k) ≡ false
+      → Reads Lex F' end x.part s' s'' f rm → covers F F' ≡ true → all_links lk (λ x. covers (starts x.part full) F') ≡ true → Chained Lex F s from (linked_label x from s'') (tree l cs (f end)) s'' (max rn rm)
+  chain_step k a h i b t r c d = recap (step a (alone k h i b t) r (follows c d)) (omega arith) (omega arith)
+
+  pub chain_step_fails : {Lex : ℕ → Lexeme → Type 0} {F F' : Look} {ks : Slots} {s from s' rn : ℕ} {l : Label} {cs : Slots} {x : Link Symbol} (k : Kind) → Chained Lex F s from l cs s' rn → ((y : Lexeme) → Lex s' y → y.kind ≡ k) → Among n g x → beginning lk k ≡ x ∷ [] → some_of (F k) ≡ false
+      → Fails Lex F' end x.part s' → covers F F' ≡ true → all_links lk (λ x. covers (starts x.part full) F') ≡ true → Fails Lex F ks (such n always) s
+  chain_step_fails k a h i b t r c d = step_fails a (alone k h i b t) refl r (follows c d)
+
+  -- no part begins here
+  pub chain_end : {Lex : ℕ → Lexeme → Type 0} {F : Look} {ks : Slots} {s from s' rn : ℕ} {l : Label} {cs : Slots} → Chained Lex F s from l cs s' rn → ((y : Lexeme) → Lex s' y → IsTrue (seen (linked_starts lk) y) → ⊥) → Reads Lex F ks (such n always) s s' (tree l cs) rn
+  chain_end a h = finish refl a (λ q x st y l t. h y l (in_starts lk x (of_step 1 q x st).1 y.kind y.newline y.escaped t))
+
+-- What is read up to a lexeme that may not follow can't be read: for a choice that begins as another one does, as a member before a call's arguments.
+pub unfollowed : {Lex : ℕ → Lexeme → Type 0} {F F' : Look} {ks : Slots} {g : G} {s s' rn : ℕ} {f : Slots → Slots} → Reads Lex F' ks g s s' f rn → covers F F' ≡ true → ((y : Lexeme) → Lex s' y → IsTrue (seen F y) → ⊥) → Fails Lex F ks g s
+unfollowed {Lex} {F} {F'} {ks} {g} {s} {s'} {rn} {f} r c n = record { no = λ ts vs k ls rest i d e. let x = r.only ts vs k ls rest i d (covered F F' c _ _ _ e) in at_rest x.0 vs k x.1 rest x.3 x.4 e }
+  where
+    at_rest : (us vs : Slots) (k : ℕ) (ls' rest : Lexemes) → Lexes Lex s' ls' → T nothing ks us s' ls' vs k rest → IsTrue (seen F (here rest)) → ⊥
+    at_rest us vs k ls' rest i is_nothing e = n (here ls') (here_at Lex ls' i) e

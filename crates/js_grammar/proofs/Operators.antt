@@ -1,0 +1,72 @@
+-- The left-recursive lines of the table: the levels of operators, and calls.
+use Rattle.std.proofs.Common.{ℕ, zero, suc, ◌≡◌, ◌≤◌, ◌+◌, Bool, true, false, IsTrue, List, [], ◌∷◌, refl, arith}
+use Rattle.js_base.specs.declared.kind.Kind.{Kind}
+use Rattle.js_base.specs.declared.kind.Kind.TheVariants.{Plus, Minus, Star, LParen}
+use Rattle.js_base.specs.Kinds.{same_kind}
+use Rattle.js_grammar.specs.Trees.{Slots, Label, end, tree, binary_expression, call_expression}
+use Rattle.js_grammar.specs.Grammar.{Lexeme, Lexemes, here, seen, is, seq, alt, such, node, never, Takes, is_lexeme, is_seq, is_left, is_right, is_such, is_node, ◌▸◌, ◌◇◌}
+use Rattle.js_grammar.specs.Levels.{level_at, operators_at, strength}
+use Rattle.js_grammar.specs.Table.{Flags, Symbol, G, rule, rule_of, at, always, sym as symbol, branches, args, mk, tok, Expression, Additive, Multiply, Unary, Member, Call}
+use Rattle.js_grammar.specs.Parsing.{T}
+use Rattle.js_grammar.proofs.Towers.{Same, same_as, unroll, Link, Links, one, Tower, level_tower, chain, operation, operation_link, OneOf, head, later}
+
+passes_on : (f : Flags) → Same (rule (at Expression f)) (alt (symbol Additive f) never)
+unfolding rule rule_of
+passes_on f = record { to = λ ts us i j ls rest d. is_left d; back = λ ts us i j ls rest d. go d }
+  where
+    go : {ts us : Slots} {i j : ℕ} {ls rest : Lexemes} → T (alt (symbol Additive f) never) end ts i ls us j rest → T (symbol Additive f) end ts i ls us j rest
+    go (is_left d) = d
+    go (is_right d) = elim d [ ]
+
+additive_level : (f : Flags) → Same (rule (at Additive f)) (alt (symbol Multiply f) (branches (Plus ∷ Minus ∷ []) (operation (level_at f) binary_expression 1)))
+unfolding rule rule_of
+additive_level f = same_as refl
+
+multiply_level : (f : Flags) → Same (rule (at Multiply f)) (alt (symbol Unary f) (branches (Star ∷ []) (operation (level_at f) binary_expression 2)))
+unfolding rule rule_of
+multiply_level f = same_as refl
+
+pub climbs : (f : Flags) (p : ℕ) → p ≤ 2 → Same (rule (level_at f p)) (alt (such (level_at f (p + 1)) always) (branches (operators_at p) (operation (level_at f) binary_expression p)))
+climbs f zero h = passes_on f
+climbs f (suc zero) h = additive_level f
+climbs f (suc (suc zero)) h = multiply_level f
+climbs f (suc (suc (suc n))) h = absurd (omega arith)
+
+abbrev pub levels : Flags → Tower rule
+levels f = level_tower (level_at f) 2 binary_expression operators_at (climbs f)
+
+abbrev pub operates : Flags → ℕ → Kind → Link Symbol
+operates f p o = operation_link (level_at f) binary_expression p o
+
+-- a call: a member with arguments, and arguments behind a call
+abbrev pub first_call : Flags → G
+first_call f = mk call_expression (symbol Member f ▸ args f)
+
+abbrev pub more_call : Flags → G
+more_call f = mk call_expression (symbol Call f ▸ args f)
+
+pub call_climbs : (f : Flags) → Same (rule (at Call f)) (alt (first_call f) (more_call f))
+unfolding rule rule_of
+call_climbs f = record { to = λ ts us i j ls rest d. go d; back = λ ts us i j ls rest d. come d }
+  where
+    go : {ts us : Slots} {i j : ℕ} {ls rest : Lexemes} → T (mk call_expression ((symbol Member f ◇ symbol Call f) ▸ args f)) end ts i ls us j rest → T (alt (first_call f) (more_call f)) end ts i ls us j rest
+    go (is_node (is_seq (is_left d) e)) = is_left (is_node (is_seq d e))
+    go (is_node (is_seq (is_right d) e)) = is_right (is_node (is_seq d e))
+
+    come : {ts us : Slots} {i j : ℕ} {ls rest : Lexemes} → T (alt (first_call f) (more_call f)) end ts i ls us j rest → T (mk call_expression ((symbol Member f ◇ symbol Call f) ▸ args f)) end ts i ls us j rest
+    come (is_left (is_node (is_seq d e))) = is_node (is_seq (is_left d) e)
+    come (is_right (is_node (is_seq d e))) = is_node (is_seq (is_right d) e)
+
+abbrev pub call_links : (f : Flags) → Links (at Call f) (more_call f)
+call_links f = one
+
+abbrev pub calls : Flags → Tower rule
+calls f = chain (at Call f) (first_call f) (more_call f) (call_climbs f) (call_links f)
+
+-- Members and calls, up to the parenthesis that a call has behind its member.
+first_begins : (f : Flags) {ts us : Slots} {i j : ℕ} {ls rest : Lexemes} → T (first_call f) end ts i ls us j rest → (ws : Slots) × (vs : Slots) × (k : ℕ) × (mid : Lexemes) × T (symbol Member f) end ws i ls vs k mid × IsTrue (seen (is LParen) (here mid))
+first_begins f (is_node (is_seq {us = vs} {j = k} d (is_seq (is_lexeme {x = x} p) e))) = (_, vs, k, _, d, p)
+
+-- A call begins with a member and a parenthesis behind it.
+pub call_begins : (f : Flags) {ks ts us : Slots} {i j : ℕ} {ls rest : Lexemes} → T (symbol Call f) ks ts i ls us j rest → (ws : Slots) × (vs : Slots) × (k : ℕ) × (mid : Lexemes) × T (symbol Member f) end ws i ls vs k mid × IsTrue (seen (is LParen) (here mid))
+call_begins f {i = i} {j = j} {ls = ls} {rest = rest} (is_such {l = l} {cs = cs} d c) = first_begins f (unroll (calls f) l cs 0 i j ls rest (omega arith) (is_such d refl)).4

@@ -1,0 +1,242 @@
+-- Left-recursive symbols, one above the other, and the loop that reads them: what a symbol takes is what the topmost operand takes, with parts behind it.
+use Rattle.std.proofs.Common.{ℕ, zero, suc, ◌≡◌, ◌≤◌, ◌+◌, ◌-◌, Bool, IsTrue, List, [], ◌∷◌, refl, ap, sym, subst, arith, ◌↔◌, nat_eq, cond}
+use Rattle.js_base.specs.declared.kind.Kind.{Kind}
+use Rattle.js_grammar.specs.Trees.{NodeKind, Op, of, Label, Slots, end, hole, tree, Tree}
+use Rattle.js_grammar.specs.Grammar.{here, Lexemes, Make, exact, Grammar, never, lexeme, is, seq, alt, when, such, node, Takes, is_seq, is_left, is_right, is_when, is_such, is_node}
+use Rattle.js_grammar.specs.Table.{Symbol, G, rule, always, branches}
+
+-- A link: a node around what stands before it, and the part that follows.
+pub record Link (N : Type 0) : Type 0 where
+  pub kind : NodeKind
+  pub op : Op
+  pub flags : ℕ
+  pub part : Grammar N
+
+abbrev pub link : {N : Type 0} → NodeKind → Op → ℕ → Grammar N → Link N
+link k o n a = record { kind = k; op = o; flags = n; part = a }
+
+abbrev pub make_of : NodeKind → Op → ℕ → Make
+make_of k o n = record { kind = k; op = o; flags = n; extent = exact }
+
+-- the label of a link's node between two places
+abbrev pub linked_label : {N : Type 0} → Link N → ℕ → ℕ → Label
+linked_label x from to = record { kind = x.kind; op = x.op; flags = x.flags; span = record { from = from; to = to } }
+
+-- A choice of the grammar is this link behind the symbol n.
+pub data Among {N : Type 0} (n : N) : Grammar N → Link N → Type 0 where
+  this : {k : NodeKind} {o : Op} {fl : ℕ} {a : Grammar N} → Among n (node (make_of k o fl) (seq (such n always) a)) (link k o fl a)
+  of_left : {a b : Grammar N} {x : Link N} → Among n a x → Among n (alt a b) x
+  of_right : {a b : Grammar N} {x : Link N} → Among n b x → Among n (alt a b) x
+  of_when : {c : Bool} {a : Grammar N} {x : Link N} → IsTrue c → Among n a x → Among n (when c a) x
+
+-- Each choice of the grammar is a link behind the symbol n.
+pub data Links {N : Type 0} (n : N) : Grammar N → Type 0 where
+  one : {k : NodeKind} {o : Op} {fl : ℕ} {a : Grammar N} → Links n (node (make_of k o fl) (seq (such n always) a))
+  two : {a b : Grammar N} → Links n a → Links n b → Links n (alt a b)
+  guarded : {c : Bool} {a : Grammar N} → Links n a → Links n (when c a)
+  none_at_all : Links n never
+
+-- Symbols by levels, each of which takes what the operand of the next level takes, or a link behind itself. Above the last stands any grammar.
+pub record Tower {N : Type 0} (rule : N → Grammar N) : Type 0 where
+  pub level : ℕ → N
+  pub top : ℕ
+  pub steps : ℕ → Grammar N
+  pub operand : ℕ → Grammar N
+  pub symbols : (p : ℕ) → p ≤ top → operand p ≡ such (level p) always
+  pub climbs : (p : ℕ) → p ≤ top → (ts us : Slots) (i j : ℕ) (ls rest : Lexemes) → Takes rule (rule (level p)) end ts i ls us j rest → Takes rule (alt (operand (p + 1)) (steps p)) end ts i ls us j rest
+  pub falls : (p : ℕ) → p ≤ top → (ts us : Slots) (i j : ℕ) (ls rest : Lexemes) → Takes rule (alt (operand (p + 1)) (steps p)) end ts i ls us j rest → Takes rule (rule (level p)) end ts i ls us j rest
+  pub linked : (p : ℕ) → p ≤ top → Links (level p) (steps p)
+
+-- The postfix form: behind a node of the level c stand parts, each of which makes a node around what stands before it, of its own level, m at least; a node of the level m comes of it.
+pub data Tail {N : Type 0} {rule : N → Grammar N} (w : Tower rule) (m from : ℕ) : ℕ → Label → Slots → ℕ → Lexemes → Label → Slots → ℕ → Lexemes → Type 0 where
+  tail_none : {c : ℕ} {l : Label} {cs : Slots} {i : ℕ} {ls : Lexemes} → Tail w m from c l cs i ls l cs i ls
+  tail_more : {c q : ℕ} {x : Link N} {l l' : Label} {cs ds cs' : Slots} {i j k : ℕ} {ls mid rest : Lexemes} → m ≤ q → q ≤ c → q ≤ w.top → Among (w.level q) (w.steps q) x → Takes rule x.part end ds i ls end j mid
+      → Tail w m from q (linked_label x from j) (tree l cs ds) j mid l' cs' k rest → Tail w m from c l cs i ls l' cs' k rest
+
+first_label : Label → Slots → Label
+first_label l end = l
+first_label l (hole us) = l
+first_label l (tree m ds us) = m
+
+first_slots : Slots → Slots
+first_slots end = end
+first_slots (hole us) = end
+first_slots (tree m ds us) = ds
+
+pub same_label : {l m : Label} {cs ds us vs : Slots} → tree l cs us ≡ tree m ds vs → l ≡ m
+unfolding first_label
+same_label {l} q = ap (first_label l) q
+
+pub same_slots : {l m : Label} {cs ds us vs : Slots} → tree l cs us ≡ tree m ds vs → cs ≡ ds
+unfolding first_slots
+same_slots q = ap first_slots q
+
+module _ {N : Type 0} {rule : N → Grammar N} where
+  -- the slots behind a symbol's node are any
+  pub reslot : {n : N} {l : Label} {cs : Slots} (vs : Slots) {i j : ℕ} {ls rest : Lexemes} → Takes rule (such n always) end (tree l cs end) i ls end j rest → Takes rule (such n always) end (tree l cs vs) i ls vs j rest
+  reslot vs (is_such d c) = is_such d refl
+
+  -- what a choice among links takes is a link's node
+  split : {n : N} {g : Grammar N} → Links n g → {ts us : Slots} {i j : ℕ} {ls rest : Lexemes} → Takes rule g end ts i ls us j rest
+      → (x : Link N) × (cs : Slots) × Among n g x × (ts ≡ tree (linked_label x (here ls).from j) cs us) × Takes rule (seq (such n always) x.part) end cs i ls end j rest
+  split one (is_node {cs = cs} d) = (_, cs, this, refl, d)
+  split (two a b) (is_left d) = let y = split a d in (y.0, y.1, of_left y.2, y.3, y.4)
+  split (two a b) (is_right d) = let y = split b d in (y.0, y.1, of_right y.2, y.3, y.4)
+  split (guarded a) (is_when c d) = let y = split a d in (y.0, y.1, of_when c y.2, y.3, y.4)
+  split none_at_all d = elim d [ ]
+
+  join : {n : N} {g : Grammar N} {x : Link N} → Among n g x → {cs us : Slots} {i j : ℕ} {ls rest : Lexemes} → Takes rule (seq (such n always) x.part) end cs i ls end j rest → Takes rule g end (tree (linked_label x (here ls).from j) cs us) i ls us j rest
+  join this d = is_node d
+  join (of_left a) d = is_left (join a d)
+  join (of_right a) d = is_right (join a d)
+  join (of_when c a) d = is_when c (join a d)
+
+  module _ (w : Tower rule) where
+    -- a lower end, and a higher start
+    lower : {m m' from c : ℕ} {l l' : Label} {cs cs' : Slots} {i j : ℕ} {ls rest : Lexemes} → m' ≤ m → Tail w m from c l cs i ls l' cs' j rest → Tail w m' from c l cs i ls l' cs' j rest
+    lower h tail_none = tail_none
+    lower h (tail_more a b t x p d) = tail_more (omega arith) b t x p (lower h d)
+
+    -- one part more, at the end
+    one_more : {m from c : ℕ} {l l' : Label} {cs cs' : Slots} {i j : ℕ} {ls mid : Lexemes} {x : Link N} {ds : Slots} {k : ℕ} {rest : Lexemes} → m ≤ c → m ≤ w.top → Tail w m from c l cs i ls l' cs' j mid → Among (w.level m) (w.steps m) x → Takes rule x.part end ds j mid end k rest
+        → Tail w m from c l cs i ls (linked_label x from k) (tree l' cs' ds) k rest
+    one_more h t tail_none x p = tail_more (omega arith) h t x p tail_none
+    one_more h t (tail_more a b u y q d) x p = tail_more a b u y q (one_more a t d x p)
+
+    -- what a symbol takes, in postfix form
+    abbrev pub Postfix : ℕ → Label → Slots → ℕ → Lexemes → ℕ → Lexemes → Type 0
+    Postfix m l cs i ls j rest = (l' : Label) × (cs' : Slots) × (k : ℕ) × (mid : Lexemes) × Takes rule (w.operand (w.top + 1)) end (tree l' cs' end) i ls end k mid × Tail w m (here ls).from (w.top + 1) l' cs' k mid l cs j rest
+
+    to_symbol : {m : ℕ} → m ≤ w.top → {ts us : Slots} {i j : ℕ} {ls rest : Lexemes} → Takes rule (w.operand m) end ts i ls us j rest → Takes rule (such (w.level m) always) end ts i ls us j rest
+    to_symbol {m} h {ts} {us} {i} {j} {ls} {rest} d = subst (λ v. Takes rule v end ts i ls us j rest) (w.symbols m h) d
+
+    of_symbol : {m : ℕ} → m ≤ w.top → {ts us : Slots} {i j : ℕ} {ls rest : Lexemes} → Takes rule (such (w.level m) always) end ts i ls us j rest → Takes rule (w.operand m) end ts i ls us j rest
+    of_symbol {m} h {ts} {us} {i} {j} {ls} {rest} d = subst (λ v. Takes rule v end ts i ls us j rest) (sym (w.symbols m h)) d
+
+    abbrev pub Claim : Label → Slots → Type 0
+    Claim l cs = (m i j : ℕ) (ls rest : Lexemes) → m ≤ w.top + 1 → Takes rule (w.operand m) end (tree l cs end) i ls end j rest → Postfix m l cs i ls j rest
+
+    abbrev Inner : Slots → Type 0
+    Inner end = Unit {0}
+    Inner (hole us) = Unit {0}
+    Inner (tree l cs us) = Claim l cs
+
+    -- a link behind the symbol itself
+    behind : {m i j : ℕ} {ls rest : Lexemes} (cs : Slots) → Inner cs → m ≤ w.top → {x : Link N} → Among (w.level m) (w.steps m) x → Takes rule (seq (such (w.level m) always) x.part) end cs i ls end j rest → Postfix m (linked_label x (here ls).from j) cs i ls j rest
+    behind {m} {i} {j} {ls} {rest} cs h t x (is_seq (is_such {l = l} {cs = ds} {us = us} d c) p) =
+        let y = h m i _ ls _ (omega arith) (of_symbol t (is_such d refl)) in
+        (y.0, y.1, y.2, y.3, y.4, one_more (omega arith) t y.5 x p)
+
+    by_choice : {m i j : ℕ} {ls rest : Lexemes} (l : Label) (cs : Slots) → Inner cs → m ≤ w.top → (Takes rule (w.operand (m + 1)) end (tree l cs end) i ls end j rest → Postfix (m + 1) l cs i ls j rest)
+        → Takes rule (alt (w.operand (m + 1)) (w.steps m)) end (tree l cs end) i ls end j rest → Postfix m l cs i ls j rest
+    by_choice l cs h t up (is_left d) = let y = up d in (y.0, y.1, y.2, y.3, y.4, lower (omega arith) y.5)
+    by_choice {m} {i} {j} {ls} {rest} l cs h t up (is_right d) =
+        let y = split (w.linked m t) d in
+        let q = sym (same_slots y.3) in
+        subst (λ v. Postfix m v cs i ls j rest) (sym (same_label y.3)) (behind cs h t y.2 (subst (λ v. Takes rule (seq (such (w.level m) always) y.0.part) end v i ls end j rest) q y.4))
+
+    of_such : {n : N} {l : Label} {cs : Slots} {i j : ℕ} {ls rest : Lexemes} → Takes rule (such n always) end (tree l cs end) i ls end j rest → Takes rule (rule n) end (tree l cs end) i ls end j rest
+    of_such (is_such d c) = d
+
+    climb : (l : Label) (cs : Slots) → Inner cs → (f m i j : ℕ) (ls rest : Lexemes) → f + m ≡ w.top + 1 → Takes rule (w.operand m) end (tree l cs end) i ls end j rest → Postfix m l cs i ls j rest
+    climb l cs h zero m i j ls rest e d = let same : m ≡ w.top + 1 = omega arith in (l, cs, j, rest, subst (λ v. Takes rule (w.operand v) end (tree l cs end) i ls end j rest) same d, tail_none)
+    climb l cs h (suc f) m i j ls rest e d =
+        let t : m ≤ w.top = omega arith in
+        by_choice l cs h t (climb l cs h f (m + 1) i j ls rest (omega arith)) (w.climbs m t (tree l cs end) end i j ls rest (of_such (to_symbol t d)))
+
+    -- The left-recursive table takes no more than the postfix form.
+    pub unroll : (l : Label) (cs : Slots) → Claim l cs
+    unroll l end m i j ls rest b d = climb l end tt (w.top + 1 - m) m i j ls rest (omega arith) d
+    unroll l (hole us) m i j ls rest b d = climb l (hole us) tt (w.top + 1 - m) m i j ls rest (omega arith) d
+    unroll l (tree l' cs us) m i j ls rest b d = climb l (tree l' cs us) (unroll l' cs) (w.top + 1 - m) m i j ls rest (omega arith) d
+
+    up_one : {p : ℕ} {l : Label} {cs : Slots} {i j : ℕ} {ls rest : Lexemes} → p ≤ w.top → Takes rule (w.operand (p + 1)) end (tree l cs end) i ls end j rest → Takes rule (w.operand p) end (tree l cs end) i ls end j rest
+    up_one {p} {l} {cs} {i} {j} {ls} {rest} h d = of_symbol h (is_such (w.falls p h (tree l cs end) end i j ls rest (is_left d)) refl)
+
+    down : (f : ℕ) {m c : ℕ} {l : Label} {cs : Slots} {i j : ℕ} {ls rest : Lexemes} → f + m ≡ c → c ≤ w.top + 1 → Takes rule (w.operand c) end (tree l cs end) i ls end j rest → Takes rule (w.operand m) end (tree l cs end) i ls end j rest
+    down zero {m} {c} {l} {cs} {i} {j} {ls} {rest} e b d = let same : c ≡ m = omega arith in subst (λ v. Takes rule (w.operand v) end (tree l cs end) i ls end j rest) same d
+    down (suc f) {m} {c} {l} {cs} {i} {j} {ls} {rest} e b d = up_one {p = m} (omega arith) (down f {m = m + 1} (omega arith) b d)
+
+    -- The postfix form takes no more than the left-recursive table.
+    pub roll : {m s : ℕ} {start : Lexemes} {c : ℕ} {l l' : Label} {cs cs' : Slots} {i j : ℕ} {ls rest : Lexemes} → Takes rule (w.operand c) end (tree l cs end) s start end i ls → m ≤ c → c ≤ w.top + 1 → Tail w m (here start).from c l cs i ls l' cs' j rest
+        → Takes rule (w.operand m) end (tree l' cs' end) s start end j rest
+    roll {m} {s} {start} {c} d a b tail_none = down (c - m) (omega arith) b d
+    roll {m} {s} {start} {c} d a b (tail_more {q = q} {x = x} {l = l} {cs = cs} {ds = ds} {j = j} {mid = mid} mq qc qt y p t) =
+        roll (of_symbol qt (is_such (w.falls q qt (tree (linked_label x (here start).from j) (tree l cs ds) end) end s j start mid (is_right (join y (is_seq (reslot ds (to_symbol qt (down (c - q) (omega arith) b d))) p)))) refl)) mq (omega arith) t
+
+    -- The left-recursive table takes what the postfix form takes.
+    pub is_postfix : {m : ℕ} {l : Label} {cs : Slots} {i j : ℕ} {ls rest : Lexemes} → m ≤ w.top + 1 → Takes rule (w.operand m) end (tree l cs end) i ls end j rest ↔ Postfix m l cs i ls j rest
+    is_postfix {m} {l} {cs} {i} {j} {ls} {rest} h = (λ d. unroll l cs m i j ls rest h d, λ y. roll y.4 h (omega arith) y.5)
+
+-- a member of a list
+pub data OneOf {A : Type 0} (x : A) : List A → Type 0 where
+  head : {xs : List A} → OneOf x (x ∷ xs)
+  later : {y : A} {xs : List A} → OneOf x xs → OneOf x (y ∷ xs)
+
+abbrev Agrees : {N : Type 0} → Grammar N → Link N → Type 0
+Agrees (node m (seq a b)) x = x ≡ link m.kind m.op m.flags b
+Agrees _ x = Unit {0}
+
+agrees : {N : Type 0} {n : N} {g : Grammar N} {x : Link N} → Among n g x → Agrees g x
+agrees this = refl
+agrees (of_left i) = tt
+agrees (of_right i) = tt
+agrees (of_when c i) = tt
+
+pub an_link : {N : Type 0} {n : N} {k : NodeKind} {o : Op} {fl : ℕ} {a : Grammar N} {x : Link N} → Among n (node (make_of k o fl) (seq (such n always) a)) x → x ≡ link k o fl a
+an_link i = agrees i
+
+pub under : {N : Type 0} {n : N} {c : Bool} {a : Grammar N} {x : Link N} → Among n (when c a) x → IsTrue c × Among n a x
+under (of_when c i) = (c, i)
+
+-- Operators of one level: for each a choice, whose left operand is of the level and whose right one is of the next.
+module _ (level : ℕ → Symbol) (kind : NodeKind) (p : ℕ) where
+  abbrev pub operation : Kind → G
+  operation o = node (make_of kind (of o) 0) (seq (such (level p) always) (seq (lexeme (is o)) (such (level (p + 1)) always)))
+
+  abbrev pub operation_link : Kind → Link Symbol
+  operation_link o = link kind (of o) 0 (seq (lexeme (is o)) (such (level (p + 1)) always))
+
+  pub operations_linked : (os : List Kind) → Links (level p) (branches os operation)
+  operations_linked [] = none_at_all
+  operations_linked (o ∷ []) = one
+  operations_linked (o ∷ a ∷ os) = two one (operations_linked (a ∷ os))
+
+  pub of_operations : (os : List Kind) {x : Link Symbol} → Among (level p) (branches os operation) x → (o : Kind) × OneOf o os × (x ≡ operation_link o)
+  of_operations [] a = elim a [ ]
+  of_operations (o ∷ []) a = (o, head, an_link a)
+  of_operations (o ∷ b ∷ os) (of_left a) = (o, head, an_link a)
+  of_operations (o ∷ b ∷ os) (of_right a) = let y = of_operations (b ∷ os) a in (y.0, later y.1, y.2)
+
+  pub to_operations : {o : Kind} (os : List Kind) → OneOf o os → Among (level p) (branches os operation) (operation_link o)
+  to_operations [] i = elim i [ ]
+  to_operations (o ∷ []) head = this
+  to_operations (o ∷ []) (later i) = elim i [ ]
+  to_operations (o ∷ b ∷ os) head = of_left this
+  to_operations (o ∷ b ∷ os) (later i) = of_right (to_operations (b ∷ os) i)
+
+-- two grammars take the same
+pub record Same (a b : G) : Type 0 where
+  pub to : (ts us : Slots) (i j : ℕ) (ls rest : Lexemes) → Takes rule a end ts i ls us j rest → Takes rule b end ts i ls us j rest
+  pub back : (ts us : Slots) (i j : ℕ) (ls rest : Lexemes) → Takes rule b end ts i ls us j rest → Takes rule a end ts i ls us j rest
+
+pub same_as : {a b : G} → a ≡ b → Same a b
+same_as {a} e = record { to = λ ts us i j ls rest d. subst (λ v. Takes rule v end ts i ls us j rest) e d; back = λ ts us i j ls rest d. subst (λ v. Takes rule v end ts i ls us j rest) (sym e) d }
+
+-- Any number of levels of operators.
+abbrev pub level_tower : (level : ℕ → Symbol) (top : ℕ) (kind : NodeKind) (ops : ℕ → List Kind)
+    → ((p : ℕ) → p ≤ top → Same (rule (level p)) (alt (such (level (p + 1)) always) (branches (ops p) (operation level kind p)))) → Tower rule
+level_tower level top kind ops e = record { level = level; top = top; steps = λ p. branches (ops p) (operation level kind p); operand = λ p. such (level p) always; symbols = λ p h. refl; climbs = λ p h. (e p h).to; falls = λ p h. (e p h).back; linked = λ p h. operations_linked level kind p (ops p) }
+
+-- One symbol with links behind it, any number of them, over any grammar.
+abbrev pub chain : (n : Symbol) (base g : G) → Same (rule n) (alt base g) → Links n g → Tower rule
+chain n base g e lk = record {
+  level = λ p. n;
+  top = 0;
+  steps = λ p. g;
+  operand = λ p. cond (nat_eq p 0) (such n always) base;
+  symbols = λ p h. let z : 0 ≡ p = omega arith in subst (λ v. cond (nat_eq v 0) (such n always) base ≡ such n always) z refl;
+  climbs = λ p h ts us i j ls rest d. let z : 0 ≡ p = omega arith in subst (λ v. Takes rule (alt (cond (nat_eq (v + 1) 0) (such n always) base) g) end ts i ls us j rest) z (e.to ts us i j ls rest d);
+  falls = λ p h ts us i j ls rest d. let z : p ≡ 0 = omega arith in e.back ts us i j ls rest (subst (λ v. Takes rule (alt (cond (nat_eq (v + 1) 0) (such n always) base) g) end ts i ls us j rest) z d);
+  linked = λ p h. lk;
+}

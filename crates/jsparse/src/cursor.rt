@@ -1,0 +1,81 @@
+//! The current lexeme of a text, and the moves over it.
+
+ghost use Rattle.std.specs.Prelude.{◌≡◌, ◌≢◌, ◌≤◌, length};
+ghost use Rattle.js_base.specs.declared.kind.Kind.TheVariants.{Eof};
+ghost use Rattle.jsparse.specs.Tokens.{Tells};
+ghost use Rattle.jsparse.specs.Answers.{At, Passed, Expects};
+ghost use Rattle.jsparse.specs.declared.cursor.Stop.TheVariants.{NoMemory as no_memory};
+
+use crate::lexer::token_at;
+use js_base::{Kind, NoMemory, Token};
+use std::alloc::{AllocError, AllocFailed};
+
+/// Why a parse function stops.
+#[derive(Debug, Clone, Copy, PartialEq, Eq)]
+pub enum Stop {
+    /// No production fits at the current lexeme.
+    Fatal,
+    /// Memory was refused.
+    NoMemory,
+}
+
+impl From<NoMemory> for Stop {
+    ghost from_gives = { λ _ e. e ≡ no_memory };
+
+    fn from(_e: NoMemory) -> Stop {
+        Stop::NoMemory
+    }
+}
+
+impl From<AllocError> for Stop {
+    ghost from_gives = { λ _ e. e ≡ no_memory };
+
+    fn from(_e: AllocError) -> Stop {
+        Stop::NoMemory
+    }
+}
+
+impl<T: Drop> From<AllocFailed<T>> for Stop {
+    ghost from_gives = { λ _ e. e ≡ no_memory };
+
+    fn from(_e: AllocFailed<T>) -> Stop {
+        Stop::NoMemory
+    }
+}
+
+/// A place in a text: the current lexeme, and the byte place where the one before it ends.
+#[derive(Debug, Clone, Copy)]
+pub struct Cursor {
+    pub token: Token,
+    pub prev_token_end: u32,
+}
+
+/// Moves one lexeme on.
+pub fn bump(text: &[u8], p: &mut Cursor)
+    requires at { At text.now p.old }
+    requires some { p.old.token.kind ≢ Eof }
+    ensures { Passed text.now p.old p.new }
+{
+    p.prev_token_end = p.token.end();
+    p.token = token_at(text, p.prev_token_end);
+}
+
+/// Whether the current lexeme is of this kind.
+pub fn is_at(p: &Cursor, kind: Kind) -> bool
+    ensures { Tells result (p.now.token.kind ≡ kind) }
+{
+    p.token.kind() == kind
+}
+
+/// Moves on over a lexeme of this kind; `Fatal` exactly where the current one is of another.
+pub fn expect(text: &[u8], p: &mut Cursor, kind: Kind) -> Result<(), Stop>
+    requires at { At text.now p.old }
+    requires some { kind ≢ Eof }
+    ensures { Expects kind text.now p.old p.new result }
+{
+    if !is_at(p, kind) {
+        return Err(Stop::Fatal);
+    }
+    bump(text, p);
+    Ok(())
+}
