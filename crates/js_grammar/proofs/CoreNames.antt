@@ -8,7 +8,8 @@ use Rattle.js_base.specs.Kinds.{code, one_of_kinds}
 use Rattle.js_grammar.specs.Characters.{one_of, is_decimal, is_identifier_start, is_identifier_part, begins}
 use Rattle.js_grammar.specs.Longest.{longest, none_longer}
 use Rattle.js_grammar.specs.Escapes.{in_name, read_from, outside, before_all}
-use Rattle.js_grammar.specs.Names.{is_plain_name, named, name_of, word_of, word_kind}
+use Rattle.js_base.specs.Keywords.{keyword_of}
+use Rattle.js_grammar.specs.Names.{is_plain_name, named, name_of, word_of}
 use Rattle.js_grammar.specs.Numbers.{is_number, stops_number}
 use Rattle.js_grammar.specs.Lexemes.{plain_kind, lexemes_in, kind_in, division, a_name}
 use Rattle.js_grammar.specs.CoreTexts.{is_core_piece, is_ascii_name, is_core_number, is_core_blank, is_core_string, is_core_punctuator, core_words}
@@ -111,11 +112,11 @@ next_no_part c cs d more h l n = go (is_identifier_part d) refl
         let r = both (is_plain_name (c ∷ cs ++ d ∷ [])) (list_all (λ x. nat_lt x 128) (c ∷ cs ++ d ∷ [])) p q in
         cc
 
-pub plain_name : (c : ℕ) (cs rest : List ℕ) → is_ascii_name (c ∷ cs) ≡ true → none_longer is_core_piece (c ∷ cs) rest ≡ true → one_of_kinds core_words (word_kind (c ∷ cs)) ≡ true → Before rest → IsPlain (c ∷ cs) rest
+pub plain_name : (c : ℕ) (cs rest : List ℕ) → is_ascii_name (c ∷ cs) ≡ true → none_longer is_core_piece (c ∷ cs) rest ≡ true → one_of_kinds core_words (keyword_of (c ∷ cs)) ≡ true → Before rest → IsPlain (c ∷ cs) rest
 plain_name c cs rest h n k b =
-    let kd : plain_kind (c ∷ cs) rest ≡ Some (word_kind (c ∷ cs)) = plain_of a_name c cs rest (name_opens c cs (begins is_decimal cs) h) ∙ ap word_of (name-of-plain c cs h) in
+    let kd : plain_kind (c ∷ cs) rest ≡ Some (keyword_of (c ∷ cs)) = plain_of a_name c cs rest (name_opens c cs (begins is_decimal cs) h) ∙ ap word_of (name-of-plain c cs h) in
     record {
-      kind = word_kind (c ∷ cs);
+      kind = keyword_of (c ∷ cs);
       longest = both (lexemes_in division (c ∷ cs) rest) (none_longer (lexemes_in division) (c ∷ cs) rest) (ap is_some kd)
           (none_longer-from (lexemes_in division) (c ∷ cs) rest (λ d x more e.
           let f = b d (x ++ more) e in
@@ -124,8 +125,8 @@ plain_name c cs rest h n k b =
           let p = next_no_part c cs d (x ++ more) h (core_ascii d f) m' in
           ap is_some (plain_of a_name c (cs ++ d ∷ x) more (name_opens c cs (begins is_decimal (cs ++ d ∷ x)) h) ∙ ap word_of (longer_name c cs d x (name_no_backslash c cs h) (core_no_backslash d f) p))));
       is = kd;
-      apart = no_number_apart (word_kind (c ∷ cs)) rest (kind_member (λ i. not (is_number_code i)) core_words (word_kind (c ∷ cs)) k refl);
-      inside = kind_member (λ i. not (one_of (code Eof ∷ code RegExp ∷ []) i)) core_words (word_kind (c ∷ cs)) k refl;
+      apart = no_number_apart (keyword_of (c ∷ cs)) rest (kind_member (λ i. not (is_number_code i)) core_words (keyword_of (c ∷ cs)) k refl);
+      inside = kind_member (λ i. not (one_of (code Eof ∷ code RegExp ∷ []) i)) core_words (keyword_of (c ∷ cs)) k refl;
     }
   where
     first_only : (c : ℕ) (cs : List ℕ) (d : ℕ) (x more : List ℕ) → none_longer is_core_piece (c ∷ cs) (d ∷ x ++ more) ≡ true → none_longer is_core_piece (c ∷ cs) (d ∷ [] ++ (x ++ more)) ≡ true

@@ -7,7 +7,8 @@ use Rattle.js_base.specs.Texts.{text_of}
 use Rattle.js_grammar.specs.Characters.{one_of, is_decimal, is_identifier_start, is_white_space, is_line_terminator, has_line_terminator, begins}
 use Rattle.js_grammar.specs.Longest.{longest, none_longer, none_begins, joined}
 use Rattle.js_grammar.specs.Trivia.{after, within_line, closes_comment, is_blank, is_single_line_comment, is_multi_line_comment, is_html_open, is_html_close, is_html_comment, is_trivia_piece, are_trivia, lack_html_comments}
-use Rattle.js_grammar.specs.Names.{is_plain_name, word_kind}
+use Rattle.js_base.specs.Keywords.{keyword_of}
+use Rattle.js_grammar.specs.Names.{is_plain_name}
 use Rattle.js_grammar.specs.Lexemes.{may_precede}
 use Rattle.js_grammar.specs.CoreTexts.{is_core_piece, is_core_blank, is_ascii_name, is_core_number, is_core_string, is_core_punctuator, core_punctuators, core_words, is_core_use, are_core, ends_in_glue, is_glue, starts, occurs}
 use Rattle.js_grammar.specs.Strings.{nothing_left}
@@ -141,12 +142,12 @@ use_number : (glued : Bool) (c : ℕ) (cs rest : List ℕ) → is_core_number (c
 use_number glued c cs rest n u =
     let d = both-left (is_decimal c) (list_all is_decimal cs && (not (c == 48) || nothing_left cs)) n in
     let e : is_core_use glued (c ∷ cs) rest ≡ (not glued && not (begins is_glue rest)) =
-    ap (λ (b : Bool). elim b [ true ↦ one_of_kinds core_words (word_kind (c ∷ cs)) | false ↦ elim (is_core_number (c ∷ cs)) [ true ↦ not glued && not (begins is_glue rest) | false ↦ true ] ]) (not_name c cs d)
+    ap (λ (b : Bool). elim b [ true ↦ one_of_kinds core_words (keyword_of (c ∷ cs)) | false ↦ elim (is_core_number (c ∷ cs)) [ true ↦ not glued && not (begins is_glue rest) | false ↦ true ] ]) (not_name c cs d)
     ∙ ap (λ (b : Bool). elim b [ true ↦ not glued && not (begins is_glue rest) | false ↦ true ]) n in
     sym e ∙ u
 
-use_name : (glued : Bool) (c : ℕ) (cs rest : List ℕ) → is_ascii_name (c ∷ cs) ≡ true → is_core_use glued (c ∷ cs) rest ≡ true → one_of_kinds core_words (word_kind (c ∷ cs)) ≡ true
-use_name glued c cs rest n u = sym (ap (λ (b : Bool). elim b [ true ↦ one_of_kinds core_words (word_kind (c ∷ cs)) | false ↦ elim (is_core_number (c ∷ cs)) [ true ↦ not glued && not (begins is_glue rest) | false ↦ true ] ]) n) ∙ u
+use_name : (glued : Bool) (c : ℕ) (cs rest : List ℕ) → is_ascii_name (c ∷ cs) ≡ true → is_core_use glued (c ∷ cs) rest ≡ true → one_of_kinds core_words (keyword_of (c ∷ cs)) ≡ true
+use_name glued c cs rest n u = sym (ap (λ (b : Bool). elim b [ true ↦ one_of_kinds core_words (keyword_of (c ∷ cs)) | false ↦ elim (is_core_number (c ∷ cs)) [ true ↦ not glued && not (begins is_glue rest) | false ↦ true ] ]) n) ∙ u
 
 -- behind a dot or a name character no number stands
 next_no_digit : (ps : List (List ℕ)) → are_core true ps ≡ true → begins is_decimal (joined ps) ≡ false

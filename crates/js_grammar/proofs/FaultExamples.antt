@@ -9,6 +9,7 @@ use Rattle.ucd_category.specs.GeneralCategoryRows.{general_category_rows}
 use Rattle.std.proofs.lemmas.Str.{IsCharBoundary-start, IsCharBoundary-end, IsUtf8-from_is_utf8}
 use Rattle.js_base.specs.declared.kind.Kind.TheVariants.{RegExp, Ident}
 use Rattle.js_base.specs.Texts.{words, punctuators}
+use Rattle.js_base.specs.Keywords.{keyword_of}
 use Rattle.js_grammar.specs.Grammar.{last}
 use Rattle.js_grammar.specs.Settings.{script, module_goal}
 use Rattle.js_grammar.specs.Trivia.{are_trivia}
@@ -69,7 +70,7 @@ replaced = record { rest = []; due = due_first (239 ∷ 191 ∷ 189 ∷ []) (0xF
 
 -- `/a/gg`: the second flag
 flag_twice : Condition reg_exp_flag script (codes "/a/gg") 4 5
-unfolding chars words punctuators stand
+unfolding chars words punctuators stand keyword_of
 flag_twice = record {
   s = 0;
   reached = inl refl;
@@ -87,7 +88,7 @@ flag_twice = record {
 
 -- `a<!--b` in a module
 html_like : Condition html_comment_in_module module_goal (codes "a<!--b") 1 5
-unfolding chars words punctuators
+unfolding chars words punctuators keyword_of
 html_like = (
   refl,
   record {

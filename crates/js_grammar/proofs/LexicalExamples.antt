@@ -3,6 +3,7 @@ use Rattle.std.proofs.Common.{◌≡◌, true, false, [], ◌∷◌, ◌++◌, r
 use Rattle.std.specs.Prelude.{codes}
 use Rattle.js_base.specs.Texts.{words, punctuators}
 use Rattle.js_base.specs.declared.kind.Kind.TheVariants.{Ident, Await, If, Hex, Float, Octal, DecimalBigInt, PositiveExponential, NegativeExponential, Str, RegExp, QuestionDot, PrivateIdentifier, TemplateHead, TemplateTail, NoSubstitutionTemplate}
+use Rattle.js_base.specs.Keywords.{keyword_of}
 use Rattle.js_grammar.specs.Longest.{longest, none_begins}
 use Rattle.js_grammar.specs.Trivia.{are_trivia, is_trivia_piece}
 use Rattle.js_grammar.specs.Names.{name_kind, name_of, private_kind}
@@ -60,15 +61,15 @@ escaped_letter : name_of (codes "\\u0061b") ≡ Some (codes "ab")
 escaped_letter = refl
 
 braced_letter : name_kind (codes "\\u{61}wait") ≡ Some Await
-unfolding words
+unfolding words keyword_of
 braced_letter = refl
 
 keyword : name_kind (codes "if") ≡ Some If
-unfolding words
+unfolding words keyword_of
 keyword = refl
 
 longer_than_keyword : name_kind (codes "iff") ≡ Some Ident
-unfolding words
+unfolding words keyword_of
 longer_than_keyword = refl
 
 escaped_digit_first : name_kind (codes "\\u0031a") ≡ None
@@ -133,19 +134,19 @@ flag_twice = refl
 
 -- punctuators
 optional_chain : punctuator_kind (codes "?.") (codes "b") ≡ Some QuestionDot
-unfolding punctuators words
+unfolding punctuators words keyword_of
 optional_chain = refl
 
 no_optional_chain : punctuator_kind (codes "?.") (codes "5") ≡ None
-unfolding punctuators words
+unfolding punctuators words keyword_of
 no_optional_chain = refl
 
 longest_question : longest (lexemes_in division) (codes "?") (codes ".5:b") ≡ true
-unfolding punctuators words
+unfolding punctuators words keyword_of
 longest_question = refl
 
 longest_shift : longest (lexemes_in division) (codes ">>>=") (codes " b") ≡ true
-unfolding punctuators words
+unfolding punctuators words keyword_of
 longest_shift = refl
 
 -- trivia: `<!--` begins a comment anywhere, `-->` where only trivia stands before it on its line

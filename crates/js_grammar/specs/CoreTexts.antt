@@ -8,7 +8,8 @@ use Rattle.js_base.specs.Texts.{text_of}
 use Rattle.js_grammar.specs.Characters.{one_of, is_decimal, is_identifier_part, begins}
 use Rattle.js_grammar.specs.Longest.{Class, longest, joined}
 use Rattle.js_grammar.specs.Trivia.{after}
-use Rattle.js_grammar.specs.Names.{is_plain_name, word_kind}
+use Rattle.js_base.specs.Keywords.{keyword_of}
+use Rattle.js_grammar.specs.Names.{is_plain_name}
 use Rattle.js_grammar.specs.Strings.{nothing_left}
 use Rattle.js_grammar.specs.Lexemes.{may_precede}
 
@@ -62,7 +63,7 @@ ends_in_glue (c ∷ d ∷ cs) = ends_in_glue (d ∷ cs)
 abbrev pub is_core_use : Bool → Class
 is_core_use glued w rest =
     elim (is_ascii_name w) [
-      | true ↦ one_of_kinds core_words (word_kind w)
+      | true ↦ one_of_kinds core_words (keyword_of w)
       | false ↦
           elim (is_core_number w) [ true ↦ not glued && not (begins is_glue rest) | false ↦ true ]
     ]

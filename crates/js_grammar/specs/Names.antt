@@ -1,9 +1,9 @@
 -- Names and keywords (ECMA-262, 12.7).
-use Rattle.std.specs.Prelude.{ℕ, Bool, true, false, ◌&&◌, List, [], ◌∷◌, ◌==◌, bytes_eq, Option, Some, None}
-use Rattle.std.specs.List.{list_all, list_any, find}
+use Rattle.std.specs.Prelude.{ℕ, Bool, true, false, ◌&&◌, List, [], ◌∷◌, ◌==◌, Option, Some, None}
+use Rattle.std.specs.List.{list_all, list_any}
 use Rattle.js_base.specs.declared.kind.Kind.{Kind}
-use Rattle.js_base.specs.declared.kind.Kind.TheVariants.{Ident, PrivateIdentifier}
-use Rattle.js_base.specs.Texts.{text_of, words}
+use Rattle.js_base.specs.declared.kind.Kind.TheVariants.{PrivateIdentifier}
+use Rattle.js_base.specs.Keywords.{keyword_of}
 use Rattle.js_grammar.specs.Characters.{is_identifier_start, is_identifier_part}
 use Rattle.js_grammar.specs.Escapes.{in_name, code_points}
 
@@ -23,18 +23,10 @@ name_of w = named (code_points in_name w)
 abbrev pub has_backslash : List ℕ → Bool
 has_backslash = list_any (λ c. c == 92)
 
-abbrev pub or_ident : Option Kind → Kind
-or_ident None = Ident
-or_ident (Some k) = k
-
--- the kind of a word: its own, where it is in the keyword table
-abbrev pub word_kind : List ℕ → Kind
-word_kind cs = or_ident (find (λ k. bytes_eq (text_of k) cs) words)
-
--- the kind that characters have as a name, by the word that they spell
+-- the kind that characters have as a name: that of the word that they spell, its own in the keyword table
 abbrev pub word_of : Option (List ℕ) → Option Kind
 word_of None = None
-word_of (Some cs) = Some (word_kind cs)
+word_of (Some cs) = Some (keyword_of cs)
 
 abbrev pub name_kind : List ℕ → Option Kind
 name_kind w = word_of (name_of w)
