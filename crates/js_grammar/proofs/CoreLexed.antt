@@ -104,7 +104,7 @@ pub record Single (text : List ℕ) (s : ℕ) (x : Lexeme) : Type 0 where
   pub stands : (p : Passing) → Lex p text s x
   pub only : (p : Passing) (y : Lexeme) → Lex p text s y → y ≡ x
 
-tail_end : (text : List ℕ) (s : ℕ) (x : Lexeme) → Single text s x → same_kind Eof x.kind ≡ true → Tail text s
+pub tail_end : (text : List ℕ) (s : ℕ) (x : Lexeme) → Single text s x → same_kind Eof x.kind ≡ true → Tail text s
 tail_end text s x h e = record { list = last x; lexes = h.stands; once = e; only = go }
   where
     go : (p : Passing) (ms : Lexemes) → Lexes (Lex p text) s ms → ends_once ms ≡ true → ms ≡ last x
@@ -115,7 +115,7 @@ tail_end text s x h e = record { list = last x; lexes = h.stands; once = e; only
         let n = not-true (same_kind Eof y.kind) (both-left (not (same_kind Eof y.kind)) (ends_once ms) o) in
         absurd (let a = k in let b = n in cc)
 
-tail_next : (text : List ℕ) (s : ℕ) (x : Lexeme) → Single text s x → same_kind Eof x.kind ≡ false → Tail text x.to → Tail text s
+pub tail_next : (text : List ℕ) (s : ℕ) (x : Lexeme) → Single text s x → same_kind Eof x.kind ≡ false → Tail text x.to → Tail text s
 tail_next text s x h e t = record { list = next x t.list; lexes = λ p. (h.stands p, t.lexes p); once = both (not (same_kind Eof x.kind)) (ends_once t.list) (rw e refl) t.once; only = go }
   where
     go : (p : Passing) (ms : Lexemes) → Lexes (Lex p text) s ms → ends_once ms ≡ true → ms ≡ next x t.list
@@ -129,7 +129,7 @@ tail_next text s x h e t = record { list = next x t.list; lexes = λ p. (h.stand
         let r = t.only p ms l' (both-right (not (same_kind Eof y.kind)) (ends_once ms) o) in
         cc
 
-at_end : (text : List ℕ) (s : ℕ) (qs : List (List ℕ)) → Stands text s qs [] [] → lack_html_comments qs ≡ true → Single text s (lexeme_of s qs [] Eof)
+pub at_end : (text : List ℕ) (s : ℕ) (qs : List (List ℕ)) → Stands text s qs [] [] → lack_html_comments qs ≡ true → Single text s (lexeme_of s qs [] Eof)
 unfolding lexeme_stands
 at_end text s qs st l = record { stands = here; only = only }
   where
@@ -141,7 +141,7 @@ at_end text s qs st l = record { stands = here; only = only }
         let same = stands-same h.stands st in
         lex-same h (here p) (end_is_division h.goal h.word h.rest y.kind same.back h.lexeme.kind)
 
-at_word : (text : List ℕ) (s : ℕ) (qs : List (List ℕ)) (c : ℕ) (cs rest : List ℕ) → Stands text s qs (c ∷ cs) rest → lack_html_comments qs ≡ true → is_core_first c ≡ true → (i : IsPlain (c ∷ cs) rest) → same_kind RegExp i.kind ≡ false → Single text s (lexeme_of s qs (c ∷ cs) i.kind)
+pub at_word : (text : List ℕ) (s : ℕ) (qs : List (List ℕ)) (c : ℕ) (cs rest : List ℕ) → Stands text s qs (c ∷ cs) rest → lack_html_comments qs ≡ true → is_core_first c ≡ true → (i : IsPlain (c ∷ cs) rest) → same_kind RegExp i.kind ≡ false → Single text s (lexeme_of s qs (c ∷ cs) i.kind)
 unfolding lexeme_stands
 at_word text s qs c cs rest st l f i r = record { stands = here; only = only }
   where

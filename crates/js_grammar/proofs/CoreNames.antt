@@ -53,7 +53,7 @@ no_number_apart k rest g = ap (λ (b : Bool). b || stops_number rest) g
 plain_parts : (c : ℕ) (cs : List ℕ) → is_ascii_name (c ∷ cs) ≡ true → list_all is_identifier_part cs ≡ true
 plain_parts c cs h = both-right (is_identifier_start c) (list_all is_identifier_part cs) (both-left (is_plain_name (c ∷ cs)) (list_all (λ d. nat_lt d 128) (c ∷ cs)) h)
 
-name_no_backslash : (c : ℕ) (cs : List ℕ) → is_ascii_name (c ∷ cs) ≡ true → list_all no_backslash (c ∷ cs) ≡ true
+pub name_no_backslash : (c : ℕ) (cs : List ℕ) → is_ascii_name (c ∷ cs) ≡ true → list_all no_backslash (c ∷ cs) ≡ true
 name_no_backslash c cs h =
     let a = both-right (is_plain_name (c ∷ cs)) (list_all (λ d. nat_lt d 128) (c ∷ cs)) h in
     let s = both-left (is_identifier_start c) (list_all is_identifier_part cs) (both-left (is_plain_name (c ∷ cs)) (list_all (λ d. nat_lt d 128) (c ∷ cs)) h) in
@@ -67,7 +67,7 @@ named-plain w h = ap (λ (b : Bool). elim b [ true ↦ Some w | false ↦ None ]
 named-not : (w : List ℕ) → is_plain_name w ≡ false → named (Some w) ≡ None
 named-not w h = ap (λ (b : Bool). elim b [ true ↦ Some w | false ↦ None ]) h
 
-name-of-plain : (c : ℕ) (cs : List ℕ) → is_ascii_name (c ∷ cs) ≡ true → name_of (c ∷ cs) ≡ Some (c ∷ cs)
+pub name-of-plain : (c : ℕ) (cs : List ℕ) → is_ascii_name (c ∷ cs) ≡ true → name_of (c ∷ cs) ≡ Some (c ∷ cs)
 name-of-plain c cs h = ap named (points-plain in_name (c ∷ cs) (name_no_backslash c cs h)) ∙ named-plain (c ∷ cs) (both-left (is_plain_name (c ∷ cs)) (list_all (λ d. nat_lt d 128) (c ∷ cs)) h)
 
 -- a character that no name goes on with
@@ -112,22 +112,24 @@ next_no_part c cs d more h l n = go (is_identifier_part d) refl
         let r = both (is_plain_name (c ∷ cs ++ d ∷ [])) (list_all (λ x. nat_lt x 128) (c ∷ cs ++ d ∷ [])) p q in
         cc
 
-pub plain_name : (c : ℕ) (cs rest : List ℕ) → is_ascii_name (c ∷ cs) ≡ true → none_longer is_core_piece (c ∷ cs) rest ≡ true → one_of_kinds core_words (keyword_of (c ∷ cs)) ≡ true → Before rest → IsPlain (c ∷ cs) rest
-plain_name c cs rest h n k b =
+-- a name behind which a character stands that no name goes on with, or nothing
+pub plain_word : (c : ℕ) (cs rest : List ℕ) → is_ascii_name (c ∷ cs) ≡ true → one_of_kinds core_words (keyword_of (c ∷ cs)) ≡ true → ((d : ℕ) (r : List ℕ) → rest ≡ d ∷ r → (no_backslash d ≡ true) × (is_identifier_part d ≡ false)) → IsPlain (c ∷ cs) rest
+plain_word c cs rest h k b =
     let kd : plain_kind (c ∷ cs) rest ≡ Some (keyword_of (c ∷ cs)) = plain_of a_name c cs rest (name_opens c cs (begins is_decimal cs) h) ∙ ap word_of (name-of-plain c cs h) in
     record {
       kind = keyword_of (c ∷ cs);
       longest = both (lexemes_in division (c ∷ cs) rest) (none_longer (lexemes_in division) (c ∷ cs) rest) (ap is_some kd)
-          (none_longer-from (lexemes_in division) (c ∷ cs) rest (λ d x more e.
+        (none_longer-from (lexemes_in division) (c ∷ cs) rest (λ d x more e.
           let f = b d (x ++ more) e in
-          let m : none_longer is_core_piece (c ∷ cs) (d ∷ x ++ more) ≡ true = subst (λ (v : List ℕ). none_longer is_core_piece (c ∷ cs) v ≡ true) e n in
-          let m' = none_longer-at is_core_piece (c ∷ cs) d [] (x ++ more) (first_only c cs d x more m) in
-          let p = next_no_part c cs d (x ++ more) h (core_ascii d f) m' in
-          ap is_some (plain_of a_name c (cs ++ d ∷ x) more (name_opens c cs (begins is_decimal (cs ++ d ∷ x)) h) ∙ ap word_of (longer_name c cs d x (name_no_backslash c cs h) (core_no_backslash d f) p))));
+          ap is_some (plain_of a_name c (cs ++ d ∷ x) more (name_opens c cs (begins is_decimal (cs ++ d ∷ x)) h) ∙ ap word_of (longer_name c cs d x (name_no_backslash c cs h) f.0 f.1))));
       is = kd;
       apart = no_number_apart (keyword_of (c ∷ cs)) rest (kind_member (λ i. not (is_number_code i)) core_words (keyword_of (c ∷ cs)) k refl);
       inside = kind_member (λ i. not (one_of (code Eof ∷ code RegExp ∷ []) i)) core_words (keyword_of (c ∷ cs)) k refl;
     }
-  where
-    first_only : (c : ℕ) (cs : List ℕ) (d : ℕ) (x more : List ℕ) → none_longer is_core_piece (c ∷ cs) (d ∷ x ++ more) ≡ true → none_longer is_core_piece (c ∷ cs) (d ∷ [] ++ (x ++ more)) ≡ true
-    first_only c cs d x more g = g
+
+pub plain_name : (c : ℕ) (cs rest : List ℕ) → is_ascii_name (c ∷ cs) ≡ true → none_longer is_core_piece (c ∷ cs) rest ≡ true → one_of_kinds core_words (keyword_of (c ∷ cs)) ≡ true → Before rest → IsPlain (c ∷ cs) rest
+plain_name c cs rest h n k b = plain_word c cs rest h k (λ d r e.
+    let f = b d r e in
+    let m : none_longer is_core_piece (c ∷ cs) (d ∷ r) ≡ true = subst (λ (v : List ℕ). none_longer is_core_piece (c ∷ cs) v ≡ true) e n in
+    let m' = none_longer-at is_core_piece (c ∷ cs) d [] r m in
+    (core_no_backslash d f, next_no_part c cs d r h (core_ascii d f) m'))

@@ -45,14 +45,14 @@ blank_longer first c d x more h =
     (and-left (60 == c) (after (codes "!--") within_line (d ∷ x)) less)
     (and-false first (is_html_close (c ∷ d ∷ x)) (and-left (45 == c) (after (codes "->") within_line (d ∷ x)) minus))))
 
-blank_piece : (first : Bool) (c : ℕ) (rest : List ℕ) → one_of blanks c ≡ true → longest (is_trivia_piece first) (c ∷ []) rest ≡ true
+pub blank_piece : (first : Bool) (c : ℕ) (rest : List ℕ) → one_of blanks c ≡ true → longest (is_trivia_piece first) (c ∷ []) rest ≡ true
 blank_piece first c rest h =
     let w : (is_white_space c || is_line_terminator c) ≡ true = member (λ a. is_white_space a || is_line_terminator a) blanks c h refl in
     both (is_trivia_piece first (c ∷ []) rest) (none_longer (is_trivia_piece first) (c ∷ []) rest)
     (ap (λ (b : Bool). b || (is_single_line_comment (c ∷ []) || (is_multi_line_comment (c ∷ []) || (is_html_open (c ∷ []) || (first && is_html_close (c ∷ [])))))) w)
     (none_longer-from (is_trivia_piece first) (c ∷ []) rest (λ d x more e. blank_longer first c d x more h))
 
-blank_no_html : (c : ℕ) → one_of blanks c ≡ true → is_html_comment (c ∷ []) ≡ false
+pub blank_no_html : (c : ℕ) → one_of blanks c ≡ true → is_html_comment (c ∷ []) ≡ false
 blank_no_html c h =
     let less : (60 == c) ≡ false = not-true (60 == c) (member (λ a. not (60 == a)) blanks c h refl) in
     let minus : (45 == c) ≡ false = not-true (45 == c) (member (λ a. not (45 == a)) blanks c h refl) in
@@ -76,7 +76,7 @@ not_after a w more rest p e n = go (after a p w) refl
     go true f = let s = after-starts a w more p f in let t : starts a (w ++ more) ≡ false = subst (λ (v : List ℕ). starts a v ≡ false) e n in cc
 
 -- where a lexeme begins, and neither `<!--` nor `-->` stands, no trivia begins
-no_trivia : (first : Bool) (c : ℕ) (cs : List ℕ) → is_lexeme_first c ≡ true → starts (codes "<!--") (c ∷ cs) ≡ false → starts (codes "-->") (c ∷ cs) ≡ false → none_begins (is_trivia_piece first) (c ∷ cs) ≡ true
+pub no_trivia : (first : Bool) (c : ℕ) (cs : List ℕ) → is_lexeme_first c ≡ true → starts (codes "<!--") (c ∷ cs) ≡ false → starts (codes "-->") (c ∷ cs) ≡ false → none_begins (is_trivia_piece first) (c ∷ cs) ≡ true
 no_trivia first c cs h o k = none_longer-from (is_trivia_piece first) [] (c ∷ cs) (λ d x more e.
     let same : c ≡ d = cc in
     let w : (is_white_space d || is_line_terminator d) ≡ false = subst (λ (a : ℕ). (is_white_space a || is_line_terminator a) ≡ false) same (not-true (is_white_space c || is_line_terminator c) (both-right (is_core_first c) (not (is_white_space c || is_line_terminator c)) h)) in
