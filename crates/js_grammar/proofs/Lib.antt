@@ -25,3 +25,4 @@ pub mod Towers
 pub mod Loops
 pub mod Operators
 pub mod Lexemes
+pub mod Runs
