@@ -127,6 +127,10 @@ plain_word c cs rest h k b =
       inside = kind_member (λ i. not (one_of (code Eof ∷ code RegExp ∷ []) i)) core_words (keyword_of (c ∷ cs)) k refl;
     }
 
+pub plain_word-kind : (c : ℕ) (cs rest : List ℕ) (h : is_ascii_name (c ∷ cs) ≡ true) (k : one_of_kinds core_words (keyword_of (c ∷ cs)) ≡ true) (b : (d : ℕ) (r : List ℕ) → rest ≡ d ∷ r → (no_backslash d ≡ true) × (is_identifier_part d ≡ false)) → (plain_word c cs rest h k b).kind ≡ keyword_of (c ∷ cs)
+unfolding plain_word
+plain_word-kind c cs rest h k b = refl
+
 pub plain_name : (c : ℕ) (cs rest : List ℕ) → is_ascii_name (c ∷ cs) ≡ true → none_longer is_core_piece (c ∷ cs) rest ≡ true → one_of_kinds core_words (keyword_of (c ∷ cs)) ≡ true → Before rest → IsPlain (c ∷ cs) rest
 plain_name c cs rest h n k b = plain_word c cs rest h k (λ d r e.
     let f = b d r e in

@@ -135,3 +135,7 @@ plain_number c cs rest h g b =
       apart = stops rest b g;
       inside = refl;
     }
+
+pub plain_number-kind : (c : ℕ) (cs rest : List ℕ) (h : is_core_number (c ∷ cs) ≡ true) (g : begins is_glue rest ≡ false) (b : Before rest) → (plain_number c cs rest h g b).kind ≡ Decimal
+unfolding plain_number
+plain_number-kind c cs rest h g b = refl

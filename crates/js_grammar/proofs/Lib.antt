@@ -26,3 +26,4 @@ pub mod Loops
 pub mod Operators
 pub mod Lexemes
 pub mod Runs
+pub mod Instance

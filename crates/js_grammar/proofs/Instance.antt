@@ -1,0 +1,231 @@
+-- The lexemes of the first language are lexemes of the whole one, and the only ones.
+use Rattle.std.proofs.Common.{◌≡◌, ◌<◌, ◌≤◌, ℕ, zero, suc, ◌+◌, ◌-◌, ◌==◌, Bool, true, false, List, [], ◌∷◌, ◌++◌, refl, sym, ap, subst, ◌∙◌, not, ◌&&◌, ◌||◌, Option, Some, None, length, drop, get_or, arith, length-append, append_assoc, ◌⊎◌, inl, inr}
+use Rattle.std.specs.Prelude.{slice_index, slice_range, bytes_eq, nat_eq, nat_le, nat_lt, is_some, codes, chars, option_map, unwrap_or}
+use Rattle.std.specs.List.{list_all, list_any, find}
+use Rattle.std.specs.Char.Escape.{encode_utf16}
+use Rattle.std.proofs.lemmas.Bool.{eqb-true, eq-eqb}
+use Rattle.std.proofs.lemmas.Bool.Decides.{nat_tests}
+use Rattle.std.proofs.lemmas.Slice.Eq.{bytes_eq-Decides}
+use Rattle.js_base.specs.declared.kind.Kind.{Kind}
+use Rattle.js_base.specs.declared.kind.Kind.TheVariants.{LParen, RParen, Semicolon, Plus, Minus, Star, Ident, Decimal, Eof, RegExp}
+use Rattle.js_base.specs.Kinds.{code, same_kind, one_of_kinds}
+use Rattle.js_base.specs.Keywords.{keyword_of}
+use Rattle.js_base.specs.Texts.{text_of, words, punctuators}
+use Rattle.js_grammar.specs.Grammar.{Lexeme, Lexemes, last, next}
+use Rattle.js_grammar.specs.Lexing.{is_newline, is_trivia, is_digit, is_name_start, is_name_part, Run, Gap, IsName, IsNumber, IsPunctuator, begins, none_longer, is_longest, first_punctuators, a_name, a_number, a_punctuator, the_end, Lexes}
+use Rattle.js_grammar.specs.Lexing.{Lex as FirstLex}
+use Rattle.js_grammar.specs.Characters.{one_of, width, is_line_terminator, has_line_terminator, is_decimal, is_identifier_start, is_identifier_part}
+use Rattle.js_grammar.specs.Characters.{begins as begins_with}
+use Rattle.js_grammar.specs.Longest.{longest, joined}
+use Rattle.js_grammar.specs.Longest.{none_longer as no_longer_front}
+use Rattle.js_grammar.specs.Trivia.{are_trivia, lack_html_comments, is_trivia_piece, is_html_comment}
+use Rattle.js_grammar.specs.Escapes.{code_units}
+use Rattle.js_grammar.specs.Lexemes.{plain_kind, lexemes_in, division, a_punctuator, opening, may_precede, punctuator_kind, is_word, is_escaped, units_of, kind_in}
+use Rattle.js_grammar.specs.Names.{has_backslash, name_of}
+use Rattle.js_grammar.specs.CoreTexts.{is_ascii_name, is_core_number, core_words, is_glue, starts}
+use Rattle.js_grammar.specs.Strings.{nothing_left}
+use Rattle.js_grammar.specs.Lexed.{Passing, Lex, Stands, ends_once}
+use Rattle.js_grammar.proofs.LongestLemmas.{both-left, both-right, both, not-true}
+use Rattle.js_grammar.proofs.Finding.{either, neither, neither-left, neither-right, member, kind_member, all-mono, all-both}
+use Rattle.js_grammar.proofs.CoreLemmas.{none_longer-from, plain_of, below, implies, implied, all_below}
+use Rattle.js_grammar.proofs.CoreFirst.{is_core_first, lt-true, lt-is}
+use Rattle.js_grammar.proofs.CoreNames.{Before, IsPlain, ascii, core_ascii, core_no_backslash, plain_word, plain_word-kind, name-of-plain, name_no_backslash, is_number_code, no_number_apart}
+use Rattle.js_grammar.proofs.CorePlain.{no_backslash}
+use Rattle.js_grammar.proofs.CoreNumbers.{plain_number, plain_number-kind}
+use Rattle.js_grammar.proofs.CoreTrivia.{is_lexeme_first, blank_piece, blank_no_html, no_trivia, blanks}
+use Rattle.js_grammar.proofs.CoreLexed.{Tail, Single, at_word, at_end, tail_next, tail_end}
+use Rattle.js_grammar.proofs.Standing.{lexeme_of}
+use Rattle.js_grammar.proofs.Runs.{Piece, collect, piece_of_run, Word, word_of_run, Head, head_of, nothing_behind, ascii_byte, ascii_chars, ascii_width, any-at, none-any, byte_of}
+
+-- each byte of these classes is ASCII
+name_part_ascii : (c : ℕ) → is_name_part c ≡ true → c < 128
+name_part_ascii c h = grind (arith, nat_tests)
+
+trivia_ascii : (c : ℕ) → is_trivia c ≡ true → c < 128
+trivia_ascii c h = grind (arith, nat_tests)
+
+digit_ascii : (c : ℕ) → is_digit c ≡ true → c < 128
+digit_ascii c h = grind (arith, nat_tests)
+
+trivia_blank : (c : ℕ) → is_trivia c ≡ true → one_of blanks c ≡ true
+trivia_blank c h = ascii is_trivia (one_of blanks) c refl (trivia_ascii c h) h
+
+-- blanks as pieces of trivia, one character each
+abbrev pub singles : List ℕ → List (List ℕ)
+singles [] = []
+singles (c ∷ cs) = (c ∷ []) ∷ singles cs
+
+singles-joined : (cs : List ℕ) → joined (singles cs) ≡ cs
+singles-joined [] = refl
+singles-joined (c ∷ cs) = ap (λ (v : List ℕ). c ∷ v) (singles-joined cs)
+
+singles-trivia : (first : Bool) (cs rest : List ℕ) → list_all (one_of blanks) cs ≡ true → ((f : Bool) → are_trivia f [] rest ≡ true) → are_trivia first (singles cs) rest ≡ true
+singles-trivia first [] rest h k = k first
+singles-trivia first (c ∷ cs) rest h k =
+    both (longest (is_trivia_piece first) (c ∷ []) (joined (singles cs) ++ rest)) (are_trivia (first || has_line_terminator (c ∷ [])) (singles cs) rest)
+      (blank_piece first c (joined (singles cs) ++ rest) (both-left (one_of blanks c) (list_all (one_of blanks) cs) h))
+      (singles-trivia (first || has_line_terminator (c ∷ [])) cs rest (both-right (one_of blanks c) (list_all (one_of blanks) cs) h) k)
+
+singles-lack : (cs : List ℕ) → list_all (one_of blanks) cs ≡ true → lack_html_comments (singles cs) ≡ true
+singles-lack [] h = refl
+singles-lack (c ∷ cs) h = both (not (is_html_comment (c ∷ []))) (lack_html_comments (singles cs)) (rw (blank_no_html c (both-left (one_of blanks c) (list_all (one_of blanks) cs) h)) refl) (singles-lack cs (both-right (one_of blanks c) (list_all (one_of blanks) cs) h))
+
+-- a gap: its bytes, and its mark
+pub record Space (text : List ℕ) (s i : ℕ) (w : Bool) : Type 0 where
+  pub bytes : List ℕ
+  pub splits : drop s text ≡ bytes ++ drop i text
+  pub blank : list_all (one_of blanks) bytes ≡ true
+  pub ascii : list_all ascii_byte bytes ≡ true
+  pub size : i ≡ s + length bytes
+  pub newline : w ≡ has_line_terminator bytes
+
+newline_ends : (c : ℕ) → is_newline c ≡ true → is_line_terminator c ≡ true
+newline_ends c h = elim (either (nat_eq 10 c) (nat_eq 13 c) h) [
+    inl e ↦ subst (λ (a : ℕ). is_line_terminator a ≡ true) (eqb-true 10 c e) refl
+  | inr e ↦ subst (λ (a : ℕ). is_line_terminator a ≡ true) (eqb-true 13 c e) refl ]
+
+abbrev within_line : ℕ → Bool
+within_line c = is_trivia c && not (is_newline c)
+
+no_line_end : (c : ℕ) → within_line c ≡ true → is_line_terminator c ≡ false
+no_line_end c h = not-true (is_line_terminator c) (ascii within_line (λ a. not (is_line_terminator a)) c refl (trivia_ascii c (both-left (is_trivia c) (not (is_newline c)) h)) h)
+
+space_of : (text : List ℕ) (s i : ℕ) (w : Bool) → Gap text s i w → Space text s i w
+space_of text s i true g =
+    let q = piece_of_run g.run in
+    let x = g.newline refl in
+    let z = q.size in
+    let a = x.1 in
+    let b = x.2 in
+    let y : slice_index text x.0 ≡ get_or q.word (x.0 - s) 0 = sym (byte_of text q.word s x.0 (drop i text) q.splits a (omega arith)) in
+    let t : is_line_terminator (get_or q.word (x.0 - s) 0) ≡ true = subst (λ (c : ℕ). is_line_terminator c ≡ true) y (newline_ends (slice_index text x.0) x.3) in
+    record {
+      bytes = q.word; splits = q.splits;
+      blank = all-mono is_trivia (one_of blanks) q.word trivia_blank q.passes;
+      ascii = all-mono is_trivia ascii_byte q.word (λ c h. lt-is c 128 (trivia_ascii c h)) q.passes;
+      size = sym q.size;
+      newline = sym (any-at is_line_terminator q.word (x.0 - s) (omega arith) t);
+    }
+space_of text s i false g =
+    let f = g.one_line refl in
+    let o = g.run.ordered in
+    let q : Piece within_line text s i = collect within_line text (i - s) s i (omega arith) g.run.within (λ k a b. both (is_trivia (slice_index text k)) (not (is_newline (slice_index text k))) (g.run.passes k a b) (rw (f k a b) refl)) in
+    record {
+      bytes = q.word; splits = q.splits;
+      blank = all-mono within_line (one_of blanks) q.word (λ c h. trivia_blank c (both-left (is_trivia c) (not (is_newline c)) h)) q.passes;
+      ascii = all-mono within_line ascii_byte q.word (λ c h. lt-is c 128 (trivia_ascii c (both-left (is_trivia c) (not (is_newline c)) h))) q.passes;
+      size = sym q.size;
+      newline = sym (none-any is_line_terminator within_line q.word no_line_end q.passes);
+    }
+
+-- A lexeme of the first language: its bytes, and what they are in the whole one.
+pub record Seen (text : List ℕ) (s : ℕ) (y : Lexeme) : Type 0 where
+  pub w : Bool
+  pub space : Space text s y.from w
+  pub newline : y.newline ≡ w
+  pub first : ℕ
+  pub others : List ℕ
+  pub splits : drop y.from text ≡ first ∷ others ++ drop y.to text
+  pub size : y.to ≡ y.from + length (first ∷ others)
+  pub within : y.to ≤ length text
+  pub ascii : list_all ascii_byte (first ∷ others) ≡ true
+  pub begins : is_lexeme_first first ≡ true
+  pub no_open : starts (codes "<!--") (first ∷ others ++ drop y.to text) ≡ false
+  pub no_close : starts (codes "-->") (first ∷ others ++ drop y.to text) ≡ false
+  pub plain : Before (drop y.to text) → (p : IsPlain (first ∷ others) (drop y.to text)) × (p.kind ≡ y.kind)
+  pub escaped : y.escaped ≡ is_escaped y.kind (first ∷ others)
+  pub units : y.units ≡ units_of y.kind (first ∷ others)
+
+-- names
+part_is_part : (c : ℕ) → is_name_part c ≡ true → (is_identifier_part c && (nat_lt c 128 && no_backslash c)) ≡ true
+part_is_part c h = ascii is_name_part (λ a. is_identifier_part a && (nat_lt a 128 && no_backslash a)) c refl (name_part_ascii c h) h
+
+start_part : (c : ℕ) → is_name_start c ≡ true → is_name_part c ≡ true
+start_part c h = rw h refl
+
+units_plain : (xs : List ℕ) → list_all ascii_byte xs ≡ true → code_units xs ≡ xs
+units_plain [] h = refl
+units_plain (x ∷ xs) h =
+    let l : x < 128 = lt-true x 128 (both-left (ascii_byte x) (list_all ascii_byte xs) h) in
+    let e : nat_lt x 0x1_0000 ≡ true = lt-is x 0x1_0000 (omega arith) in
+    let r = units_plain xs (both-right (ascii_byte x) (list_all ascii_byte xs) h) in
+    rw e (ap (λ (v : List ℕ). x ∷ v) r)
+
+no_backslash_has : (xs : List ℕ) → list_all no_backslash xs ≡ true → has_backslash xs ≡ false
+no_backslash_has xs h = none-any (λ c. c == 92) no_backslash xs (λ c k. not-true (c == 92) k) h
+
+no_start : (a : ℕ) (as' : List ℕ) (c : ℕ) (cs : List ℕ) → (a == c) ≡ false → starts (a ∷ as') (c ∷ cs) ≡ false
+no_start a as' c cs h = rw h refl
+
+seen_name : (text : List ℕ) (s i j : ℕ) (w : Bool) → Gap text s i w → IsName text i j → Seen text s (record { kind = Ident; from = i; to = j; newline = w; escaped = false; units = slice_range text i j })
+seen_name text s i j w g n =
+    let q = word_of_run n.some n.run in
+    let start : is_name_start q.first ≡ true = subst (λ (c : ℕ). is_name_start c ≡ true) q.is_first n.start in
+    let parts : list_all (λ a. is_identifier_part a && (nat_lt a 128 && no_backslash a)) (q.first ∷ q.others) ≡ true = all-mono is_name_part (λ a. is_identifier_part a && (nat_lt a 128 && no_backslash a)) (q.first ∷ q.others) part_is_part q.passes in
+    let asc : list_all ascii_byte (q.first ∷ q.others) ≡ true = all-mono (λ a. is_identifier_part a && (nat_lt a 128 && no_backslash a)) ascii_byte (q.first ∷ q.others) (λ c h. both-left (nat_lt c 128) (no_backslash c) (both-right (is_identifier_part c) (nat_lt c 128 && no_backslash c) h)) parts in
+    let nb : list_all no_backslash (q.first ∷ q.others) ≡ true = all-mono (λ a. is_identifier_part a && (nat_lt a 128 && no_backslash a)) no_backslash (q.first ∷ q.others) (λ c h. both-right (nat_lt c 128) (no_backslash c) (both-right (is_identifier_part c) (nat_lt c 128 && no_backslash c) h)) parts in
+    let ps : list_all is_identifier_part (q.first ∷ q.others) ≡ true = all-mono (λ a. is_identifier_part a && (nat_lt a 128 && no_backslash a)) is_identifier_part (q.first ∷ q.others) (λ c h. both-left (is_identifier_part c) (nat_lt c 128 && no_backslash c) h) parts in
+    let l : q.first < 128 = name_part_ascii q.first (start_part q.first start) in
+    let an : is_ascii_name (q.first ∷ q.others) ≡ true = both (is_identifier_start q.first && list_all is_identifier_part q.others) (list_all (λ d. nat_lt d 128) (q.first ∷ q.others))
+          (both (is_identifier_start q.first) (list_all is_identifier_part q.others) (ascii is_name_start is_identifier_start q.first refl l start) (both-right (is_identifier_part q.first) (list_all is_identifier_part q.others) ps)) asc in
+    let word : keyword_of (q.first ∷ q.others) ≡ Ident = ap keyword_of (sym q.range) ∙ n.no_keyword in
+    record {
+      w = w; space = space_of text s i w g; newline = refl;
+      first = q.first; others = q.others; splits = q.splits; size = sym q.size; within = n.run.within;
+      ascii = asc;
+      begins = ascii is_name_start is_lexeme_first q.first refl l start;
+      no_open = no_start 60 (codes "!--") q.first (q.others ++ drop j text) (not-true (60 == q.first) (ascii is_name_start (λ a. not (60 == a)) q.first refl l start));
+      no_close = no_start 45 (codes "->") q.first (q.others ++ drop j text) (not-true (45 == q.first) (ascii is_name_start (λ a. not (45 == a)) q.first refl l start));
+      plain = λ b.
+        let ok : one_of_kinds core_words (keyword_of (q.first ∷ q.others)) ≡ true = subst (λ (k : Kind). one_of_kinds core_words k ≡ true) (sym word) refl in
+        let next_of : (d : ℕ) (r : List ℕ) → drop j text ≡ d ∷ r → (no_backslash d ≡ true) × (is_identifier_part d ≡ false) = λ d r e. (
+            core_no_backslash d (b d r e),
+            not-true (is_identifier_part d) (ascii (λ a. not (is_name_part a)) (λ a. not (is_identifier_part a)) d refl (core_ascii d (b d r e))
+              (rw (let st : is_name_part d ≡ false = subst (λ (c : ℕ). is_name_part c ≡ false) (head_of text j d r e).is (n.run.stops (head_of text j d r e).within) in st) refl))) in
+        (plain_word q.first q.others (drop j text) an ok next_of, plain_word-kind q.first q.others (drop j text) an ok next_of ∙ word);
+      escaped = sym (no_backslash_has (q.first ∷ q.others) nb);
+      units = q.range ∙ sym (ap (λ (o : Option (List ℕ)). unwrap_or (option_map code_units o) []) (name-of-plain q.first q.others an) ∙ units_plain (q.first ∷ q.others) asc);
+    }
+
+-- numbers
+digit_decimal : (c : ℕ) → is_digit c ≡ true → (is_decimal c && nat_lt c 128) ≡ true
+digit_decimal c h = ascii is_digit (λ a. is_decimal a && nat_lt a 128) c refl (digit_ascii c h) h
+
+seen_number : (text : List ℕ) (s i j : ℕ) (w : Bool) → Gap text s i w → IsNumber text i j → Seen text s (record { kind = Decimal; from = i; to = j; newline = w; escaped = false; units = [] })
+unfolding words
+seen_number text s i j w g n =
+    let q = word_of_run n.some n.run in
+    let ds : list_all (λ a. is_decimal a && nat_lt a 128) (q.first ∷ q.others) ≡ true = all-mono is_digit (λ a. is_decimal a && nat_lt a 128) (q.first ∷ q.others) digit_decimal q.passes in
+    let asc : list_all ascii_byte (q.first ∷ q.others) ≡ true = all-mono (λ a. is_decimal a && nat_lt a 128) ascii_byte (q.first ∷ q.others) (λ c h. both-right (is_decimal c) (nat_lt c 128) h) ds in
+    let dec : list_all is_decimal (q.first ∷ q.others) ≡ true = all-mono (λ a. is_decimal a && nat_lt a 128) is_decimal (q.first ∷ q.others) (λ c h. both-left (is_decimal c) (nat_lt c 128) h) ds in
+    let dig : is_digit q.first ≡ true = both-left (is_digit q.first) (list_all is_digit q.others) q.passes in
+    let l : q.first < 128 = digit_ascii q.first dig in
+    let lead : (not (q.first == 48) || nothing_left q.others) ≡ true = leading (q.first == 48) refl q.others q.size q.is_first in
+    let num : is_core_number (q.first ∷ q.others) ≡ true = both (is_decimal q.first) (list_all is_decimal q.others && (not (q.first == 48) || nothing_left q.others)) (both-left (is_decimal q.first) (list_all is_decimal q.others) dec)
+          (both (list_all is_decimal q.others) (not (q.first == 48) || nothing_left q.others) (both-right (is_decimal q.first) (list_all is_decimal q.others) dec) lead) in
+    record {
+      w = w; space = space_of text s i w g; newline = refl;
+      first = q.first; others = q.others; splits = q.splits; size = sym q.size; within = n.run.within;
+      ascii = asc;
+      begins = ascii is_digit is_lexeme_first q.first refl l dig;
+      no_open = no_start 60 (codes "!--") q.first (q.others ++ drop j text) (not-true (60 == q.first) (ascii is_digit (λ a. not (60 == a)) q.first refl l dig));
+      no_close = no_start 45 (codes "->") q.first (q.others ++ drop j text) (not-true (45 == q.first) (ascii is_digit (λ a. not (45 == a)) q.first refl l dig));
+      plain = λ b. (plain_number q.first q.others (drop j text) num (alone (drop j text) refl b) b, plain_number-kind q.first q.others (drop j text) num (alone (drop j text) refl b) b);
+      escaped = refl;
+      units = refl;
+    }
+  where
+    leading : (b : Bool) → ((word_of_run n.some n.run).first == 48) ≡ b → (os : List ℕ) → i + length ((word_of_run n.some n.run).first ∷ os) ≡ j → slice_index text i ≡ (word_of_run n.some n.run).first → (not b || nothing_left os) ≡ true
+    leading false e os z f = refl
+    leading true e [] z f = refl
+    leading true e (o ∷ os) z f =
+        let c : slice_index text i ≡ 48 = f ∙ eqb-true (word_of_run n.some n.run).first 48 e in
+        let k = n.leading c in
+        absurd (omega arith)
+    alone : (r : List ℕ) → drop j text ≡ r → Before (drop j text) → begins_with is_glue r ≡ false
+    alone [] e b = refl
+    alone (d ∷ r) e b =
+        let f = b d r e in
+        let h = head_of text j d r e in
+        let st : (is_name_part d || nat_eq 46 d) ≡ false = subst (λ (c : ℕ). (is_name_part c || nat_eq 46 c) ≡ false) h.is (n.alone h.within) in
+        not-true (is_glue d) (ascii (λ a. not (is_name_part a || nat_eq 46 a)) (λ a. not (is_glue a)) d refl (core_ascii d f) (rw st refl))
