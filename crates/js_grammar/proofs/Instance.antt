@@ -12,7 +12,9 @@ use Rattle.js_base.specs.Kinds.{code, same_kind, one_of_kinds}
 use Rattle.js_base.specs.Keywords.{keyword_of}
 use Rattle.js_base.specs.Texts.{text_of, words, punctuators}
 use Rattle.js_grammar.specs.Grammar.{Lexeme, Lexemes, last, next}
-use Rattle.js_grammar.specs.Lexing.{is_newline, is_trivia, is_digit, is_name_start, is_name_part, Run, Gap, IsName, IsNumber, IsPunctuator, begins, none_longer, is_longest, first_punctuators, a_name, a_number, a_punctuator, the_end, Lexes}
+use Rattle.js_grammar.specs.Lexing.{is_newline, is_trivia, is_digit, is_name_start, is_name_part, Run, Gap, IsName, IsNumber, IsPunctuator, begins, none_longer, is_longest, first_punctuators, Lexes}
+use Rattle.js_grammar.specs.Lexing.{a_name, a_number, the_end}
+use Rattle.js_grammar.specs.Lexing.{a_punctuator as punctuator_stands}
 use Rattle.js_grammar.specs.Lexing.{Lex as FirstLex}
 use Rattle.js_grammar.specs.Characters.{one_of, width, is_line_terminator, has_line_terminator, is_decimal, is_identifier_start, is_identifier_part}
 use Rattle.js_grammar.specs.Characters.{begins as begins_with}
@@ -35,6 +37,9 @@ use Rattle.js_grammar.proofs.CoreNumbers.{plain_number, plain_number-kind}
 use Rattle.js_grammar.proofs.CoreTrivia.{is_lexeme_first, blank_piece, blank_no_html, no_trivia, blanks}
 use Rattle.js_grammar.proofs.CoreLexed.{Tail, Single, at_word, at_end, tail_next, tail_end}
 use Rattle.js_grammar.proofs.Standing.{lexeme_of}
+use Rattle.js_grammar.proofs.Lexemes.{six}
+use Rattle.std.proofs.Math.Seq.{drop-cons}
+use Rattle.std.specs.Prelude.{cond}
 use Rattle.js_grammar.proofs.Runs.{Piece, collect, piece_of_run, Word, word_of_run, Head, head_of, nothing_behind, ascii_byte, ascii_chars, ascii_width, any-at, none-any, byte_of}
 
 -- each byte of these classes is ASCII
@@ -229,3 +234,145 @@ seen_number text s i j w g n =
         let h = head_of text j d r e in
         let st : (is_name_part d || nat_eq 46 d) ≡ false = subst (λ (c : ℕ). (is_name_part c || nat_eq 46 c) ≡ false) h.is (n.alone h.within) in
         not-true (is_glue d) (ascii (λ a. not (is_name_part a || nat_eq 46 a)) (λ a. not (is_glue a)) d refl (core_ascii d f) (rw st refl))
+
+-- punctuators
+begins-self : (v more : List ℕ) → begins v (v ++ more) ≡ true
+begins-self [] more = refl
+begins-self (c ∷ v) more = both (nat_eq c c) (begins v (v ++ more)) (eq-eqb c c refl) (begins-self v more)
+
+find-none : (ks : List Kind) (v more : List ℕ) → none_longer 1 ks (v ++ more) ≡ true → 2 ≤ length v → find (λ k. bytes_eq (text_of k) v && may_precede k more) ks ≡ None
+find-none [] v more h l = refl
+find-none (k ∷ ks) v more h l = go (bytes_eq (text_of k) v) refl (find-none ks v more (both-right (not (begins (text_of k) (v ++ more)) || nat_le (length (text_of k)) 1) (none_longer 1 ks (v ++ more)) h) l)
+  where
+    go : (b : Bool) → bytes_eq (text_of k) v ≡ b → find (λ k. bytes_eq (text_of k) v && may_precede k more) ks ≡ None → cond (bytes_eq (text_of k) v && may_precede k more) (Some k) (find (λ k. bytes_eq (text_of k) v && may_precede k more) ks) ≡ None
+    go false e r = rw e r
+    go true e r =
+        let t : text_of k ≡ v = (bytes_eq-Decides (text_of k) v).0 e in
+        let a = both-left (not (begins (text_of k) (v ++ more)) || nat_le (length (text_of k)) 1) (none_longer 1 ks (v ++ more)) h in
+        let b : (not (begins v (v ++ more)) || nat_le (length v) 1) ≡ true = subst (λ (u : List ℕ). (not (begins u (v ++ more)) || nat_le (length u) 1) ≡ true) t a in
+        let c : nat_le (length v) 1 ≡ true = subst (λ (x : Bool). (not x || nat_le (length v) 1) ≡ true) (begins-self v more) b in
+        absurd (not_le (length v) c l)
+      where
+        not_le : (n : ℕ) → nat_le n 1 ≡ true → 2 ≤ n → ⊥
+        not_le n c l = grind (arith, nat_tests)
+
+-- what is true of a punctuator of one character
+record Mark (k : Kind) (c : ℕ) : Type 0 where
+  pub text : text_of k ≡ c ∷ []
+  pub opens : opening c false ≡ a_punctuator
+  pub opens_digit : opening c true ≡ a_punctuator
+  pub kind : (rest : List ℕ) → punctuator_kind (c ∷ []) rest ≡ Some k
+  pub begins : is_lexeme_first c ≡ true
+  pub ascii : ascii_byte c ≡ true
+  pub less : (60 == c) ≡ false
+  pub close : (rest : List ℕ) → starts (codes "-->") (c ∷ rest) ≡ true → is_longest k (c ∷ rest) ≡ true → ⊥
+  pub number : not (is_number_code (code k)) ≡ true
+  pub inside : not (one_of (code Eof ∷ code RegExp ∷ []) (code k)) ≡ true
+  pub escaped : false ≡ is_escaped k (c ∷ [])
+  pub units : [] ≡ units_of k (c ∷ [])
+
+no_minus : (c : ℕ) (rest : List ℕ) → (45 == c) ≡ false → starts (codes "-->") (c ∷ rest) ≡ true → ⊥
+no_minus c rest h s = let a = both-left (45 == c) (starts (codes "->") rest) s in cc
+
+minus_close : (rest : List ℕ) → starts (codes "-->") (45 ∷ rest) ≡ true → is_longest Minus (45 ∷ rest) ≡ true → ⊥
+unfolding is_longest punctuators
+minus_close [] s h = cc
+minus_close (d ∷ r) s h =
+    let e : (45 == d) ≡ true = both-left (45 == d) (starts (codes ">") r) s in
+    let t : is_longest Minus (45 ∷ 45 ∷ r) ≡ true = subst (λ (a : ℕ). is_longest Minus (45 ∷ a ∷ r) ≡ true) (sym (eqb-true 45 d e)) h in
+    cc
+
+left_mark : Mark LParen 40
+unfolding punctuators words
+left_mark = record { text = refl; opens = refl; opens_digit = refl; kind = λ r. refl; begins = refl; ascii = refl; less = refl; close = λ r s h. no_minus 40 r refl s; number = refl; inside = refl; escaped = refl; units = refl }
+
+right_mark : Mark RParen 41
+unfolding punctuators words
+right_mark = record { text = refl; opens = refl; opens_digit = refl; kind = λ r. refl; begins = refl; ascii = refl; less = refl; close = λ r s h. no_minus 41 r refl s; number = refl; inside = refl; escaped = refl; units = refl }
+
+semicolon_mark : Mark Semicolon 59
+unfolding punctuators words
+semicolon_mark = record { text = refl; opens = refl; opens_digit = refl; kind = λ r. refl; begins = refl; ascii = refl; less = refl; close = λ r s h. no_minus 59 r refl s; number = refl; inside = refl; escaped = refl; units = refl }
+
+plus_mark : Mark Plus 43
+unfolding punctuators words
+plus_mark = record { text = refl; opens = refl; opens_digit = refl; kind = λ r. refl; begins = refl; ascii = refl; less = refl; close = λ r s h. no_minus 43 r refl s; number = refl; inside = refl; escaped = refl; units = refl }
+
+minus_mark : Mark Minus 45
+unfolding punctuators words
+minus_mark = record { text = refl; opens = refl; opens_digit = refl; kind = λ r. refl; begins = refl; ascii = refl; less = refl; close = minus_close; number = refl; inside = refl; escaped = refl; units = refl }
+
+star_mark : Mark Star 42
+unfolding punctuators words
+star_mark = record { text = refl; opens = refl; opens_digit = refl; kind = λ r. refl; begins = refl; ascii = refl; less = refl; close = λ r s h. no_minus 42 r refl s; number = refl; inside = refl; escaped = refl; units = refl }
+
+-- the text goes on with the punctuator's character
+begun : (c : ℕ) (bs : List ℕ) → begins (c ∷ []) bs ≡ true → (r : List ℕ) × (bs ≡ c ∷ r)
+begun c [] h = cc
+begun c (d ∷ r) h = let e : c ≡ d = eqb-true c d (both-left (nat_eq c d) (begins [] r) h) in (r, ap (λ (a : ℕ). a ∷ r) (sym e))
+
+plain_mark : (k : Kind) (c : ℕ) (rest : List ℕ) → Mark k c → is_longest k (c ∷ rest) ≡ true → IsPlain (c ∷ []) rest
+unfolding is_longest
+plain_mark k c rest m h =
+    let kd : plain_kind (c ∷ []) rest ≡ Some k = plain_of a_punctuator c [] rest m.opens ∙ m.kind rest in
+    let n : none_longer (length (text_of k)) punctuators (c ∷ rest) ≡ true = both-right (begins (text_of k) (c ∷ rest)) (none_longer (length (text_of k)) punctuators (c ∷ rest)) h in
+    let n1 : none_longer 1 punctuators (c ∷ rest) ≡ true = subst (λ (u : List ℕ). none_longer (length u) punctuators (c ∷ rest) ≡ true) m.text n in
+    record {
+      kind = k;
+      longest = both (lexemes_in division (c ∷ []) rest) (no_longer_front (lexemes_in division) (c ∷ []) rest) (ap is_some kd)
+        (none_longer-from (lexemes_in division) (c ∷ []) rest (λ d x more e.
+          let o : opening c (is_decimal d) ≡ a_punctuator = by_digit (is_decimal d) in
+          let f : none_longer 1 punctuators (c ∷ d ∷ x ++ more) ≡ true = subst (λ (u : List ℕ). none_longer 1 punctuators (c ∷ u) ≡ true) e n1 in
+          ap is_some (plain_of a_punctuator c (d ∷ x) more o ∙ find-none punctuators (c ∷ d ∷ x) more f (omega arith))));
+      is = kd;
+      apart = no_number_apart k rest m.number;
+      inside = m.inside;
+    }
+  where
+    by_digit : (b : Bool) → opening c b ≡ a_punctuator
+    by_digit true = m.opens_digit
+    by_digit false = m.opens
+
+plain_mark-kind : (k : Kind) (c : ℕ) (rest : List ℕ) (m : Mark k c) (h : is_longest k (c ∷ rest) ≡ true) → (plain_mark k c rest m h).kind ≡ k
+unfolding plain_mark
+plain_mark-kind k c rest m h = refl
+
+seen_mark : (text : List ℕ) (s i j : ℕ) (w : Bool) (k : Kind) (c : ℕ) → Mark k c → Gap text s i w → is_longest k (drop i text) ≡ true → j ≡ i + length (text_of k) → Seen text s (record { kind = k; from = i; to = j; newline = w; escaped = false; units = [] })
+unfolding is_longest
+seen_mark text s i j w k c m g h e =
+    let b : begins (c ∷ []) (drop i text) ≡ true = subst (λ (u : List ℕ). begins u (drop i text) ≡ true) m.text (both-left (begins (text_of k) (drop i text)) (none_longer (length (text_of k)) punctuators (drop i text)) h) in
+    let q = begun c (drop i text) b in
+    let hd = head_of text i c q.0 q.1 in
+    let len : length (text_of k) ≡ 1 = ap (λ (u : List ℕ). length u) m.text in
+    let d1 : drop i text ≡ slice_index text i ∷ drop (suc i) text = drop-cons text i 0 hd.within in
+    let d2 : drop i text ≡ c ∷ drop j text = d1 ∙ ap (λ (a : ℕ). a ∷ drop (suc i) text) hd.is ∙ ap (λ (a : ℕ). c ∷ drop a text) (let z : suc i ≡ j = omega arith in z) in
+    let h' : is_longest k (c ∷ drop j text) ≡ true = subst (λ (u : List ℕ). is_longest k u ≡ true) d2 h in
+    let l = hd.within in
+    record {
+      w = w; space = space_of text s i w g; newline = refl;
+      first = c; others = []; splits = d2; size = omega arith; within = omega arith;
+      ascii = both (ascii_byte c) true m.ascii refl;
+      begins = m.begins;
+      no_open = no_start 60 (codes "!--") c (drop j text) m.less;
+      no_close = closing (starts (codes "-->") (c ∷ drop j text)) refl h';
+      plain = λ b. (plain_mark k c (drop j text) m h', plain_mark-kind k c (drop j text) m h');
+      escaped = m.escaped;
+      units = m.units;
+    }
+  where
+    closing : (b : Bool) → starts (codes "-->") (c ∷ drop j text) ≡ b → is_longest k (c ∷ drop j text) ≡ true → starts (codes "-->") (c ∷ drop j text) ≡ false
+    closing false e h = e
+    closing true e h = absurd (m.close (drop j text) e h)
+
+seen_punctuator : (text : List ℕ) (s i j : ℕ) (w : Bool) (k : Kind) → Gap text s i w → IsPunctuator k text i j → Seen text s (record { kind = k; from = i; to = j; newline = w; escaped = false; units = [] })
+seen_punctuator text s i j w k g p =
+    six (λ a. is_longest a (drop i text) ≡ true → j ≡ i + length (text_of a) → Seen text s (record { kind = a; from = i; to = j; newline = w; escaped = false; units = [] })) k p.one_of
+      (λ h e. seen_mark text s i j w LParen 40 left_mark g h e) (λ h e. seen_mark text s i j w RParen 41 right_mark g h e) (λ h e. seen_mark text s i j w Semicolon 59 semicolon_mark g h e)
+      (λ h e. seen_mark text s i j w Plus 43 plus_mark g h e) (λ h e. seen_mark text s i j w Minus 45 minus_mark g h e) (λ h e. seen_mark text s i j w Star 42 star_mark g h e)
+      p.longest p.ends
+
+seen : (text : List ℕ) (s : ℕ) (y : Lexeme) → FirstLex text s y → same_kind Eof y.kind ≡ false → Seen text s y
+seen text s y (a_name {i} {j} {w} g n) h = seen_name text s i j w g n
+seen text s y (a_number {i} {j} {w} g n) h = seen_number text s i j w g n
+seen text s y (punctuator_stands {k} {i} {j} {w} g p) h = seen_punctuator text s i j w k g p
+seen text s y (the_end g e) h = cc
