@@ -48,7 +48,7 @@ trivia-same first (p ∷ ps) (q ∷ qs) rest more e h k =
 pub stands-same : {text : List ℕ} {s : ℕ} {ps qs : List (List ℕ)} {w rest v more : List ℕ} → Stands text s ps w rest → Stands text s qs v more → SameTrivia ps qs (w ++ rest) (v ++ more)
 stands-same {s = s} {ps = ps} {qs = qs} {w = w} {rest = rest} {v = v} {more = more} h k = trivia-same (s == 0) ps qs (w ++ rest) (v ++ more) (sym h.splits ∙ k.splits) h.trivia k.trivia
 
-lexeme-same : (y z : Lexeme) → y.kind ≡ z.kind → y.from ≡ z.from → y.to ≡ z.to → y.newline ≡ z.newline → y.escaped ≡ z.escaped → y.units ≡ z.units → y ≡ z
+pub lexeme-same : (y z : Lexeme) → y.kind ≡ z.kind → y.from ≡ z.from → y.to ≡ z.to → y.newline ≡ z.newline → y.escaped ≡ z.escaped → y.units ≡ z.units → y ≡ z
 lexeme-same y z a b c d e f = λ i. record { kind = a i; from = b i; to = c i; newline = d i; escaped = e i; units = f i }
 
 some-same : (a b : Kind) → Some a ≡ Some b → a ≡ b

@@ -129,6 +129,14 @@ tail_next text s x h e t = record { list = next x t.list; lexes = λ p. (h.stand
         let r = t.only p ms l' (both-right (not (same_kind Eof y.kind)) (ends_once ms) o) in
         cc
 
+pub tail_end-list : (text : List ℕ) (s : ℕ) (x : Lexeme) (h : Single text s x) (e : same_kind Eof x.kind ≡ true) → (tail_end text s x h e).list ≡ last x
+unfolding tail_end
+tail_end-list text s x h e = refl
+
+pub tail_next-list : (text : List ℕ) (s : ℕ) (x : Lexeme) (h : Single text s x) (e : same_kind Eof x.kind ≡ false) (t : Tail text x.to) → (tail_next text s x h e t).list ≡ next x t.list
+unfolding tail_next
+tail_next-list text s x h e t = refl
+
 pub at_end : (text : List ℕ) (s : ℕ) (qs : List (List ℕ)) → Stands text s qs [] [] → lack_html_comments qs ≡ true → Single text s (lexeme_of s qs [] Eof)
 unfolding lexeme_stands
 at_end text s qs st l = record { stands = here; only = only }

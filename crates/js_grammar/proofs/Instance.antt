@@ -35,7 +35,10 @@ use Rattle.js_grammar.proofs.CoreNames.{Before, IsPlain, ascii, core_ascii, core
 use Rattle.js_grammar.proofs.CorePlain.{no_backslash}
 use Rattle.js_grammar.proofs.CoreNumbers.{plain_number, plain_number-kind}
 use Rattle.js_grammar.proofs.CoreTrivia.{is_lexeme_first, blank_piece, blank_no_html, no_trivia, blanks}
-use Rattle.js_grammar.proofs.CoreLexed.{Tail, Single, at_word, at_end, tail_next, tail_end}
+use Rattle.js_grammar.proofs.CoreLexed.{Tail, Single, at_word, at_end, tail_next, tail_end, tail_next-list, tail_end-list}
+use Rattle.js_grammar.proofs.Alike.{lexeme-same}
+use Rattle.js_grammar.specs.Settings.{Goal}
+use Rattle.js_grammar.specs.Lexed.{Lexed, passing_of}
 use Rattle.js_grammar.proofs.Standing.{lexeme_of}
 use Rattle.js_grammar.proofs.Lexemes.{six}
 use Rattle.std.proofs.Math.Seq.{drop-cons}
@@ -376,3 +379,134 @@ seen text s y (a_name {i} {j} {w} g n) h = seen_name text s i j w g n
 seen text s y (a_number {i} {j} {w} g n) h = seen_number text s i j w g n
 seen text s y (punctuator_stands {k} {i} {j} {w} g p) h = seen_punctuator text s i j w k g p
 seen text s y (the_end g e) h = cc
+
+esc_end : false ≡ is_escaped Eof []
+unfolding words
+esc_end = refl
+
+units_end : [] ≡ units_of Eof []
+unfolding words
+units_end = refl
+
+-- the end of the text
+record SeenEnd (text : List ℕ) (s : ℕ) (y : Lexeme) : Type 0 where
+  pub w : Bool
+  pub space : Space text s y.from w
+  pub kind : y.kind ≡ Eof
+  pub from : y.from ≡ length text
+  pub to : y.to ≡ y.from
+  pub newline : y.newline ≡ w
+  pub escaped : y.escaped ≡ false
+  pub units : y.units ≡ []
+
+seen_end : (text : List ℕ) (s : ℕ) (y : Lexeme) → FirstLex text s y → same_kind Eof y.kind ≡ true → SeenEnd text s y
+seen_end text s y (a_name {i} {j} {w} g n) h = cc
+seen_end text s y (a_number {i} {j} {w} g n) h = cc
+seen_end text s y (punctuator_stands {k} {i} {j} {w} g p) h = absurd (let a = kind_member (λ c. not (code Eof == c)) first_punctuators k p.one_of refl in let b = h in cc)
+seen_end text s y (the_end {i} {w} g e) h = record { w = w; space = space_of text s i w g; kind = refl; from = e; to = refl; newline = refl; escaped = refl; units = refl }
+
+lexeme_first_core : (c : ℕ) → is_lexeme_first c ≡ true → is_core_first c ≡ true
+lexeme_first_core c h = both-left (is_core_first c) (not (Rattle.js_grammar.specs.Characters.is_white_space c || is_line_terminator c)) h
+
+blank_core : (c : ℕ) → one_of blanks c ≡ true → is_core_first c ≡ true
+blank_core c h = member is_core_first blanks c h refl
+
+-- what stands first
+before_space : (bs rest : List ℕ) → list_all (one_of blanks) bs ≡ true → Before rest → Before (bs ++ rest)
+before_space [] rest h b d r e = b d r e
+before_space (c ∷ bs) rest h b d r e = let s : c ≡ d = cc in subst (λ (a : ℕ). is_core_first a ≡ true) s (blank_core c (both-left (one_of blanks c) (list_all (one_of blanks) bs) h))
+
+before_seen : (text : List ℕ) (s : ℕ) (y : Lexeme) → Seen text s y → Before (drop s text)
+before_seen text s y h =
+    let b : Before (drop y.from text) = λ d r e. (let s' : h.first ≡ d = (let a = h.splits in cc) in subst (λ (c : ℕ). is_core_first c ≡ true) s' (lexeme_first_core h.first h.begins)) in
+    subst (λ (v : List ℕ). Before v) (sym h.space.splits) (before_space h.space.bytes (drop y.from text) h.space.blank b)
+
+before_end : (text : List ℕ) (s : ℕ) (y : Lexeme) → SeenEnd text s y → Before (drop s text)
+before_end text s y h =
+    let n : drop y.from text ≡ [] = ap (λ (m : ℕ). drop m text) h.from ∙ nothing_behind text in
+    let b : Before (drop y.from text) = λ d r e. cc in
+    subst (λ (v : List ℕ). Before v) (sym h.space.splits) (before_space h.space.bytes (drop y.from text) h.space.blank b)
+
+-- all bytes from a place on are ASCII
+all-two : (t : ℕ → Bool) (xs ys : List ℕ) → list_all t xs ≡ true → list_all t ys ≡ true → list_all t (xs ++ ys) ≡ true
+all-two t xs ys h k = Rattle.js_grammar.proofs.Finding.all-append t xs ys h k
+
+-- the list of the whole language, which is the same
+pub record Joined (text : List ℕ) (s : ℕ) (ls : Lexemes) : Type 0 where
+  pub tail : Tail text s
+  pub same : tail.list ≡ ls
+  pub ascii : list_all ascii_byte (drop s text) ≡ true
+  pub before : Before (drop s text)
+
+single_end : (text : List ℕ) (s : ℕ) (y : Lexeme) → SeenEnd text s y → list_all ascii_byte (drop s text) ≡ true → Single text s y
+single_end text s y h a =
+    let qs = singles h.space.bytes in
+    let n : drop y.from text ≡ [] = ap (λ (m : ℕ). drop m text) h.from ∙ nothing_behind text in
+    let z = h.space.size in
+    let f = h.from in
+    let sp : chars (drop s text) ≡ joined qs ++ [] = ascii_chars (drop s text) a ∙ h.space.splits ∙ ap (λ (v : List ℕ). v ++ drop y.from text) (sym (singles-joined h.space.bytes)) ∙ ap (λ (v : List ℕ). joined qs ++ v) n in
+    let st : Stands text s qs [] [] = record { within = omega arith; splits = sp; trivia = singles-trivia (s == 0) h.space.bytes [] h.space.blank (λ first. refl) } in
+    let wd : width (joined qs) ≡ length h.space.bytes = ap width (singles-joined h.space.bytes) ∙ ascii_width h.space.bytes h.space.ascii in
+    let x = lexeme_of s qs [] Eof in
+    let from : y.from ≡ s + width (joined qs) = omega arith in
+    let t = h.to in
+    let to : y.to ≡ s + width (joined qs) + width [] = (let o : width [] ≡ 0 = refl in omega arith) in
+    let same : y ≡ x = lexeme-same y x h.kind from to (h.newline ∙ h.space.newline ∙ ap has_line_terminator (sym (singles-joined h.space.bytes))) (h.escaped ∙ esc) (h.units ∙ uni) in
+    subst (λ (v : Lexeme). Single text s v) (sym same) (at_end text s qs st (singles-lack h.space.bytes h.space.blank))
+  where
+    esc : false ≡ is_escaped Eof []
+    esc = esc_end
+    uni : [] ≡ units_of Eof []
+    uni = units_end
+
+single_word : (text : List ℕ) (s : ℕ) (y : Lexeme) → Seen text s y → Before (drop y.to text) → list_all ascii_byte (drop s text) ≡ true → Single text s y
+single_word text s y h b a =
+    let qs = singles h.space.bytes in
+    let p = h.plain b in
+    let z = h.space.size in
+    let z' = h.size in
+    let wi = h.within in
+    let rest = h.others ++ drop y.to text in
+    let sp : chars (drop s text) ≡ joined qs ++ (h.first ∷ rest) = ascii_chars (drop s text) a ∙ h.space.splits ∙ ap (λ (v : List ℕ). v ++ drop y.from text) (sym (singles-joined h.space.bytes)) ∙ ap (λ (v : List ℕ). joined qs ++ v) h.splits in
+    let st : Stands text s qs (h.first ∷ h.others) (drop y.to text) = record { within = omega arith; splits = sp; trivia = singles-trivia (s == 0) h.space.bytes (h.first ∷ rest) h.space.blank (λ first. no_trivia first h.first rest h.begins h.no_open h.no_close) } in
+    let wd : width (joined qs) ≡ length h.space.bytes = ap width (singles-joined h.space.bytes) ∙ ascii_width h.space.bytes h.space.ascii in
+    let ww : width (h.first ∷ h.others) ≡ length (h.first ∷ h.others) = ascii_width (h.first ∷ h.others) h.ascii in
+    let x = lexeme_of s qs (h.first ∷ h.others) p.0.kind in
+    let from : y.from ≡ s + width (joined qs) = omega arith in
+    let to : y.to ≡ s + width (joined qs) + width (h.first ∷ h.others) = omega arith in
+    let inside = not-true (one_of (code Eof ∷ code RegExp ∷ []) (code p.0.kind)) p.0.inside in
+    let no_regular : same_kind RegExp p.0.kind ≡ false = neither-left (code RegExp == code p.0.kind) false (neither-right (code Eof == code p.0.kind) (one_of (code RegExp ∷ []) (code p.0.kind)) inside) in
+    let same : y ≡ x = lexeme-same y x (sym p.1) from to (h.newline ∙ h.space.newline ∙ ap has_line_terminator (sym (singles-joined h.space.bytes)))
+          (h.escaped ∙ ap (λ (k : Kind). is_escaped k (h.first ∷ h.others)) (sym p.1)) (h.units ∙ ap (λ (k : Kind). units_of k (h.first ∷ h.others)) (sym p.1)) in
+    subst (λ (v : Lexeme). Single text s v) (sym same) (at_word text s qs h.first h.others (drop y.to text) st (singles-lack h.space.bytes h.space.blank) (lexeme_first_core h.first h.begins) p.0 no_regular)
+
+join_end : (text : List ℕ) (s : ℕ) (y : Lexeme) → FirstLex text s y → same_kind Eof y.kind ≡ true → Joined text s (last y)
+join_end text s y l e =
+    let h = seen_end text s y l e in
+    let n : drop y.from text ≡ [] = ap (λ (m : ℕ). drop m text) h.from ∙ nothing_behind text in
+    let a : list_all ascii_byte (drop s text) ≡ true = subst (λ (v : List ℕ). list_all ascii_byte v ≡ true) (sym h.space.splits) (all-two ascii_byte h.space.bytes (drop y.from text) h.space.ascii (subst (λ (v : List ℕ). list_all ascii_byte v ≡ true) (sym n) refl)) in
+    let g = single_end text s y h a in
+    record { tail = tail_end text s y g e; same = tail_end-list text s y g e; ascii = a; before = before_end text s y h }
+
+join_next : (text : List ℕ) (s : ℕ) (y : Lexeme) (ls : Lexemes) → FirstLex text s y → same_kind Eof y.kind ≡ false → Joined text y.to ls → Joined text s (next y ls)
+join_next text s y ls l e r =
+    let h = seen text s y l e in
+    let a0 : list_all ascii_byte (drop y.from text) ≡ true = subst (λ (v : List ℕ). list_all ascii_byte v ≡ true) (sym h.splits) (all-two ascii_byte (h.first ∷ h.others) (drop y.to text) h.ascii r.ascii) in
+    let a : list_all ascii_byte (drop s text) ≡ true = subst (λ (v : List ℕ). list_all ascii_byte v ≡ true) (sym h.space.splits) (all-two ascii_byte h.space.bytes (drop y.from text) h.space.ascii a0) in
+    let g = single_word text s y h r.before a in
+    record { tail = tail_next text s y g e r.tail; same = tail_next-list text s y g e r.tail ∙ ap (λ (v : Lexemes). next y v) r.same; ascii = a; before = before_seen text s y h }
+
+pub join_all : (text : List ℕ) (s : ℕ) (ls : Lexemes) → Lexes (FirstLex text) s ls → ends_once ls ≡ true → Joined text s ls
+join_all text s (last y) l o = join_end text s y l o
+join_all text s (next y ls) l o = join_next text s y ls l.0 (not-true (same_kind Eof y.kind) (both-left (not (same_kind Eof y.kind)) (ends_once ls) o)) (join_all text y.to ls l.1 (both-right (not (same_kind Eof y.kind)) (ends_once ls) o))
+
+-- the lexemes of a text of the first language are its lexemes, at every goal, and no others are
+pub first_lexed : (text : List ℕ) (ls : Lexemes) → Lexes (FirstLex text) 0 ls → ends_once ls ≡ true → (goal : Goal) → Lexed goal text ls
+first_lexed text ls l o goal =
+    let j = join_all text 0 ls l o in
+    subst (λ (v : Lexemes). Lexed goal text v) j.same (record { lexes = j.tail.lexes (passing_of goal); ends = j.tail.once })
+
+pub first_only : (text : List ℕ) (ls ms : Lexemes) → Lexes (FirstLex text) 0 ls → ends_once ls ≡ true → (goal : Goal) → Lexed goal text ms → ms ≡ ls
+first_only text ls ms l o goal h =
+    let j = join_all text 0 ls l o in
+    j.tail.only (passing_of goal) ms h.lexes h.ends ∙ j.same

@@ -1,12 +1,13 @@
 -- Laws of the lexemes of a text.
-use Rattle.std.specs.Prelude.{ℕ, List, [], ◌∷◌, ◌≡◌, ◌||◌, IsUtf8}
+use Rattle.std.specs.Prelude.{ℕ, List, [], ◌∷◌, ◌≡◌, ◌||◌, IsUtf8, IsTrue}
 use Rattle.unicode.specs.Binary.{is_id_start, is_id_continue}
 use Rattle.ucd_category.specs.GeneralCategory.{general_category, general_category_eq}
 use Rattle.ucd_category.specs.declared.GeneralCategory.TheVariants.{SpaceSeparator}
 use Rattle.js_grammar.specs.Characters.{one_of, is_white_space, is_identifier_start, is_identifier_part}
 use Rattle.js_grammar.specs.Grammar.{Lexeme, Lexemes}
 use Rattle.js_grammar.specs.Lexing.{Lexes}
-use Rattle.js_grammar.specs.Lexed.{Passing, all_faults, Lex, Lexed, end_of, join}
+use Rattle.js_grammar.specs.Lexing.{Lex as FirstLex}
+use Rattle.js_grammar.specs.Lexed.{Passing, all_faults, Lex, Lexed, end_of, join, ends_once}
 use Rattle.js_grammar.specs.Settings.{Goal}
 use Rattle.js_grammar.specs.CoreTexts.{CoreSource}
 
@@ -37,3 +38,11 @@ pub record CharacterClasses : Type 0 where
 -- faults aside, the marks of diagnostics allow what texts allow
 abbrev pub Leniency : Type 0
 Leniency = (passing : Passing) (text : List ℕ) (s : ℕ) (y : Lexeme) → Lex passing text s y → Lex all_faults text s y
+
+-- The list of lexemes that a text has in the first language is the one that it has in the whole language, at every goal.
+pub record IsInstance (text : List ℕ) (ls : Lexemes) : Type 0 where
+  pub lexed : (goal : Goal) → Lexed goal text ls
+  pub only : (goal : Goal) (ms : Lexemes) → Lexed goal text ms → ms ≡ ls
+
+abbrev pub FirstLanguage : Type 0
+FirstLanguage = (text : List ℕ) (ls : Lexemes) → Lexes (FirstLex text) 0 ls → IsTrue (ends_once ls) → IsInstance text ls

@@ -1,6 +1,6 @@
 //! Laws of the lexemes of a text.
 
-ghost use Rattle.js_grammar.specs.LexicalLaws.{Joining, Cutting, CoreText, CharacterClasses, Leniency};
+ghost use Rattle.js_grammar.specs.LexicalLaws.{CharacterClasses, CoreText, Cutting, FirstLanguage, Joining, Leniency};
 
 /// A part, and another from its end on, are one part together.
 pub fn law_of_joining()
@@ -26,3 +26,9 @@ pub fn law_of_character_classes()
 pub fn law_of_leniency()
     ensures { Leniency }
 {}
+
+/// The lexemes of a text of the first language are its lexemes in the whole language, and its only ones.
+pub fn law_of_first_language()
+    ensures { FirstLanguage }
+{
+}
