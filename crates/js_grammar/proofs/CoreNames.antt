@@ -119,7 +119,7 @@ plain_word c cs rest h k b =
     record {
       kind = keyword_of (c ∷ cs);
       longest = both (lexemes_in division (c ∷ cs) rest) (none_longer (lexemes_in division) (c ∷ cs) rest) (ap is_some kd)
-        (none_longer-from (lexemes_in division) (c ∷ cs) rest (λ d x more e.
+          (none_longer-from (lexemes_in division) (c ∷ cs) rest (λ d x more e.
           let f = b d (x ++ more) e in
           ap is_some (plain_of a_name c (cs ++ d ∷ x) more (name_opens c cs (begins is_decimal (cs ++ d ∷ x)) h) ∙ ap word_of (longer_name c cs d x (name_no_backslash c cs h) f.0 f.1))));
       is = kd;

@@ -1,8 +1,7 @@
 -- The lexemes of the first language are lexemes of the whole one, and the only ones.
-use Rattle.std.proofs.Common.{◌≡◌, ◌<◌, ◌≤◌, ℕ, zero, suc, ◌+◌, ◌-◌, ◌==◌, Bool, true, false, List, [], ◌∷◌, ◌++◌, refl, sym, ap, subst, ◌∙◌, not, ◌&&◌, ◌||◌, Option, Some, None, length, drop, get_or, arith, length-append, append_assoc, ◌⊎◌, inl, inr}
+use Rattle.std.proofs.Common.{◌≡◌, ◌<◌, ◌≤◌, ℕ, suc, ◌+◌, ◌-◌, ◌==◌, Bool, true, false, List, [], ◌∷◌, ◌++◌, refl, sym, ap, subst, ◌∙◌, not, ◌&&◌, ◌||◌, Option, Some, None, length, drop, get_or, arith, inl, inr}
 use Rattle.std.specs.Prelude.{slice_index, slice_range, bytes_eq, nat_eq, nat_le, nat_lt, is_some, codes, chars, option_map, unwrap_or}
-use Rattle.std.specs.List.{list_all, list_any, find}
-use Rattle.std.specs.Char.Escape.{encode_utf16}
+use Rattle.std.specs.List.{list_all, find}
 use Rattle.std.proofs.lemmas.Bool.{eqb-true, eq-eqb}
 use Rattle.std.proofs.lemmas.Bool.Decides.{nat_tests}
 use Rattle.std.proofs.lemmas.Slice.Eq.{bytes_eq-Decides}
@@ -12,7 +11,7 @@ use Rattle.js_base.specs.Kinds.{code, same_kind, one_of_kinds}
 use Rattle.js_base.specs.Keywords.{keyword_of}
 use Rattle.js_base.specs.Texts.{text_of, words, punctuators}
 use Rattle.js_grammar.specs.Grammar.{Lexeme, Lexemes, last, next}
-use Rattle.js_grammar.specs.Lexing.{is_newline, is_trivia, is_digit, is_name_start, is_name_part, Run, Gap, IsName, IsNumber, IsPunctuator, begins, none_longer, is_longest, first_punctuators, Lexes}
+use Rattle.js_grammar.specs.Lexing.{is_newline, is_trivia, is_digit, is_name_start, is_name_part, Gap, IsName, IsNumber, IsPunctuator, begins, none_longer, is_longest, first_punctuators, Lexes}
 use Rattle.js_grammar.specs.Lexing.{a_name, a_number, the_end}
 use Rattle.js_grammar.specs.Lexing.{a_punctuator as punctuator_stands}
 use Rattle.js_grammar.specs.Lexing.{Lex as FirstLex}
@@ -22,16 +21,16 @@ use Rattle.js_grammar.specs.Longest.{longest, joined}
 use Rattle.js_grammar.specs.Longest.{none_longer as no_longer_front}
 use Rattle.js_grammar.specs.Trivia.{are_trivia, lack_html_comments, is_trivia_piece, is_html_comment}
 use Rattle.js_grammar.specs.Escapes.{code_units}
-use Rattle.js_grammar.specs.Lexemes.{plain_kind, lexemes_in, division, a_punctuator, opening, may_precede, punctuator_kind, is_word, is_escaped, units_of, kind_in}
-use Rattle.js_grammar.specs.Names.{has_backslash, name_of}
+use Rattle.js_grammar.specs.Lexemes.{plain_kind, lexemes_in, division, a_punctuator, opening, may_precede, punctuator_kind, is_escaped, units_of}
+use Rattle.js_grammar.specs.Names.{has_backslash}
 use Rattle.js_grammar.specs.CoreTexts.{is_ascii_name, is_core_number, core_words, is_glue, starts}
 use Rattle.js_grammar.specs.Strings.{nothing_left}
-use Rattle.js_grammar.specs.Lexed.{Passing, Lex, Stands, ends_once}
+use Rattle.js_grammar.specs.Lexed.{Stands, ends_once}
 use Rattle.js_grammar.proofs.LongestLemmas.{both-left, both-right, both, not-true}
 use Rattle.js_grammar.proofs.Finding.{either, neither, neither-left, neither-right, member, kind_member, all-mono, all-both}
-use Rattle.js_grammar.proofs.CoreLemmas.{none_longer-from, plain_of, below, implies, implied, all_below}
+use Rattle.js_grammar.proofs.CoreLemmas.{none_longer-from, plain_of}
 use Rattle.js_grammar.proofs.CoreFirst.{is_core_first, lt-true, lt-is}
-use Rattle.js_grammar.proofs.CoreNames.{Before, IsPlain, ascii, core_ascii, core_no_backslash, plain_word, plain_word-kind, name-of-plain, name_no_backslash, is_number_code, no_number_apart}
+use Rattle.js_grammar.proofs.CoreNames.{Before, IsPlain, ascii, core_ascii, core_no_backslash, plain_word, plain_word-kind, name-of-plain, is_number_code, no_number_apart}
 use Rattle.js_grammar.proofs.CorePlain.{no_backslash}
 use Rattle.js_grammar.proofs.CoreNumbers.{plain_number, plain_number-kind}
 use Rattle.js_grammar.proofs.CoreTrivia.{is_lexeme_first, blank_piece, blank_no_html, no_trivia, blanks}
@@ -43,7 +42,7 @@ use Rattle.js_grammar.proofs.Standing.{lexeme_of}
 use Rattle.js_grammar.proofs.Lexemes.{six}
 use Rattle.std.proofs.Math.Seq.{drop-cons}
 use Rattle.std.specs.Prelude.{cond}
-use Rattle.js_grammar.proofs.Runs.{Piece, collect, piece_of_run, Word, word_of_run, Head, head_of, nothing_behind, ascii_byte, ascii_chars, ascii_width, any-at, none-any, byte_of}
+use Rattle.js_grammar.proofs.Runs.{Piece, collect, piece_of_run, word_of_run, head_of, nothing_behind, ascii_byte, ascii_chars, ascii_width, any-at, none-any, byte_of}
 
 -- each byte of these classes is ASCII
 name_part_ascii : (c : ℕ) → is_name_part c ≡ true → c < 128
@@ -71,8 +70,8 @@ singles-trivia : (first : Bool) (cs rest : List ℕ) → list_all (one_of blanks
 singles-trivia first [] rest h k = k first
 singles-trivia first (c ∷ cs) rest h k =
     both (longest (is_trivia_piece first) (c ∷ []) (joined (singles cs) ++ rest)) (are_trivia (first || has_line_terminator (c ∷ [])) (singles cs) rest)
-      (blank_piece first c (joined (singles cs) ++ rest) (both-left (one_of blanks c) (list_all (one_of blanks) cs) h))
-      (singles-trivia (first || has_line_terminator (c ∷ [])) cs rest (both-right (one_of blanks c) (list_all (one_of blanks) cs) h) k)
+    (blank_piece first c (joined (singles cs) ++ rest) (both-left (one_of blanks c) (list_all (one_of blanks) cs) h))
+    (singles-trivia (first || has_line_terminator (c ∷ [])) cs rest (both-right (one_of blanks c) (list_all (one_of blanks) cs) h) k)
 
 singles-lack : (cs : List ℕ) → list_all (one_of blanks) cs ≡ true → lack_html_comments (singles cs) ≡ true
 singles-lack [] h = refl
@@ -89,8 +88,9 @@ pub record Space (text : List ℕ) (s i : ℕ) (w : Bool) : Type 0 where
 
 newline_ends : (c : ℕ) → is_newline c ≡ true → is_line_terminator c ≡ true
 newline_ends c h = elim (either (nat_eq 10 c) (nat_eq 13 c) h) [
-    inl e ↦ subst (λ (a : ℕ). is_line_terminator a ≡ true) (eqb-true 10 c e) refl
-  | inr e ↦ subst (λ (a : ℕ). is_line_terminator a ≡ true) (eqb-true 13 c e) refl ]
+  | inl e ↦ subst (λ (a : ℕ). is_line_terminator a ≡ true) (eqb-true 10 c e) refl
+  | inr e ↦ subst (λ (a : ℕ). is_line_terminator a ≡ true) (eqb-true 13 c e) refl
+]
 
 abbrev within_line : ℕ → Bool
 within_line c = is_trivia c && not (is_newline c)
@@ -108,7 +108,8 @@ space_of text s i true g =
     let y : slice_index text x.0 ≡ get_or q.word (x.0 - s) 0 = sym (byte_of text q.word s x.0 (drop i text) q.splits a (omega arith)) in
     let t : is_line_terminator (get_or q.word (x.0 - s) 0) ≡ true = subst (λ (c : ℕ). is_line_terminator c ≡ true) y (newline_ends (slice_index text x.0) x.3) in
     record {
-      bytes = q.word; splits = q.splits;
+      bytes = q.word;
+      splits = q.splits;
       blank = all-mono is_trivia (one_of blanks) q.word trivia_blank q.passes;
       ascii = all-mono is_trivia ascii_byte q.word (λ c h. lt-is c 128 (trivia_ascii c h)) q.passes;
       size = sym q.size;
@@ -119,7 +120,8 @@ space_of text s i false g =
     let o = g.run.ordered in
     let q : Piece within_line text s i = collect within_line text (i - s) s i (omega arith) g.run.within (λ k a b. both (is_trivia (slice_index text k)) (not (is_newline (slice_index text k))) (g.run.passes k a b) (rw (f k a b) refl)) in
     record {
-      bytes = q.word; splits = q.splits;
+      bytes = q.word;
+      splits = q.splits;
       blank = all-mono within_line (one_of blanks) q.word (λ c h. trivia_blank c (both-left (is_trivia c) (not (is_newline c)) h)) q.passes;
       ascii = all-mono within_line ascii_byte q.word (λ c h. lt-is c 128 (trivia_ascii c (both-left (is_trivia c) (not (is_newline c)) h))) q.passes;
       size = sym q.size;
@@ -175,22 +177,29 @@ seen_name text s i j w g n =
     let ps : list_all is_identifier_part (q.first ∷ q.others) ≡ true = all-mono (λ a. is_identifier_part a && (nat_lt a 128 && no_backslash a)) is_identifier_part (q.first ∷ q.others) (λ c h. both-left (is_identifier_part c) (nat_lt c 128 && no_backslash c) h) parts in
     let l : q.first < 128 = name_part_ascii q.first (start_part q.first start) in
     let an : is_ascii_name (q.first ∷ q.others) ≡ true = both (is_identifier_start q.first && list_all is_identifier_part q.others) (list_all (λ d. nat_lt d 128) (q.first ∷ q.others))
-          (both (is_identifier_start q.first) (list_all is_identifier_part q.others) (ascii is_name_start is_identifier_start q.first refl l start) (both-right (is_identifier_part q.first) (list_all is_identifier_part q.others) ps)) asc in
+    (both (is_identifier_start q.first) (list_all is_identifier_part q.others) (ascii is_name_start is_identifier_start q.first refl l start) (both-right (is_identifier_part q.first) (list_all is_identifier_part q.others) ps)) asc in
     let word : keyword_of (q.first ∷ q.others) ≡ Ident = ap keyword_of (sym q.range) ∙ n.no_keyword in
     record {
-      w = w; space = space_of text s i w g; newline = refl;
-      first = q.first; others = q.others; splits = q.splits; size = sym q.size; within = n.run.within;
+      w = w;
+      space = space_of text s i w g;
+      newline = refl;
+      first = q.first;
+      others = q.others;
+      splits = q.splits;
+      size = sym q.size;
+      within = n.run.within;
       ascii = asc;
       begins = ascii is_name_start is_lexeme_first q.first refl l start;
       no_open = no_start 60 (codes "!--") q.first (q.others ++ drop j text) (not-true (60 == q.first) (ascii is_name_start (λ a. not (60 == a)) q.first refl l start));
       no_close = no_start 45 (codes "->") q.first (q.others ++ drop j text) (not-true (45 == q.first) (ascii is_name_start (λ a. not (45 == a)) q.first refl l start));
       plain = λ b.
-        let ok : one_of_kinds core_words (keyword_of (q.first ∷ q.others)) ≡ true = subst (λ (k : Kind). one_of_kinds core_words k ≡ true) (sym word) refl in
-        let next_of : (d : ℕ) (r : List ℕ) → drop j text ≡ d ∷ r → (no_backslash d ≡ true) × (is_identifier_part d ≡ false) = λ d r e. (
+          let ok : one_of_kinds core_words (keyword_of (q.first ∷ q.others)) ≡ true = subst (λ (k : Kind). one_of_kinds core_words k ≡ true) (sym word) refl in
+          let next_of : (d : ℕ) (r : List ℕ) → drop j text ≡ d ∷ r → (no_backslash d ≡ true) × (is_identifier_part d ≡ false) = λ d r e. (
             core_no_backslash d (b d r e),
             not-true (is_identifier_part d) (ascii (λ a. not (is_name_part a)) (λ a. not (is_identifier_part a)) d refl (core_ascii d (b d r e))
-              (rw (let st : is_name_part d ≡ false = subst (λ (c : ℕ). is_name_part c ≡ false) (head_of text j d r e).is (n.run.stops (head_of text j d r e).within) in st) refl))) in
-        (plain_word q.first q.others (drop j text) an ok next_of, plain_word-kind q.first q.others (drop j text) an ok next_of ∙ word);
+                (rw (let st : is_name_part d ≡ false = subst (λ (c : ℕ). is_name_part c ≡ false) (head_of text j d r e).is (n.run.stops (head_of text j d r e).within) in st) refl)),
+          ) in
+          (plain_word q.first q.others (drop j text) an ok next_of, plain_word-kind q.first q.others (drop j text) an ok next_of ∙ word);
       escaped = sym (no_backslash_has (q.first ∷ q.others) nb);
       units = q.range ∙ sym (ap (λ (o : Option (List ℕ)). unwrap_or (option_map code_units o) []) (name-of-plain q.first q.others an) ∙ units_plain (q.first ∷ q.others) asc);
     }
@@ -210,10 +219,16 @@ seen_number text s i j w g n =
     let l : q.first < 128 = digit_ascii q.first dig in
     let lead : (not (q.first == 48) || nothing_left q.others) ≡ true = leading (q.first == 48) refl q.others q.size q.is_first in
     let num : is_core_number (q.first ∷ q.others) ≡ true = both (is_decimal q.first) (list_all is_decimal q.others && (not (q.first == 48) || nothing_left q.others)) (both-left (is_decimal q.first) (list_all is_decimal q.others) dec)
-          (both (list_all is_decimal q.others) (not (q.first == 48) || nothing_left q.others) (both-right (is_decimal q.first) (list_all is_decimal q.others) dec) lead) in
+    (both (list_all is_decimal q.others) (not (q.first == 48) || nothing_left q.others) (both-right (is_decimal q.first) (list_all is_decimal q.others) dec) lead) in
     record {
-      w = w; space = space_of text s i w g; newline = refl;
-      first = q.first; others = q.others; splits = q.splits; size = sym q.size; within = n.run.within;
+      w = w;
+      space = space_of text s i w g;
+      newline = refl;
+      first = q.first;
+      others = q.others;
+      splits = q.splits;
+      size = sym q.size;
+      within = n.run.within;
       ascii = asc;
       begins = ascii is_digit is_lexeme_first q.first refl l dig;
       no_open = no_start 60 (codes "!--") q.first (q.others ++ drop j text) (not-true (60 == q.first) (ascii is_digit (λ a. not (60 == a)) q.first refl l dig));
@@ -230,6 +245,7 @@ seen_number text s i j w g n =
         let c : slice_index text i ≡ 48 = f ∙ eqb-true (word_of_run n.some n.run).first 48 e in
         let k = n.leading c in
         absurd (omega arith)
+
     alone : (r : List ℕ) → drop j text ≡ r → Before (drop j text) → begins_with is_glue r ≡ false
     alone [] e b = refl
     alone (d ∷ r) e b =
@@ -323,7 +339,7 @@ plain_mark k c rest m h =
     record {
       kind = k;
       longest = both (lexemes_in division (c ∷ []) rest) (no_longer_front (lexemes_in division) (c ∷ []) rest) (ap is_some kd)
-        (none_longer-from (lexemes_in division) (c ∷ []) rest (λ d x more e.
+          (none_longer-from (lexemes_in division) (c ∷ []) rest (λ d x more e.
           let o : opening c (is_decimal d) ≡ a_punctuator = by_digit (is_decimal d) in
           let f : none_longer 1 punctuators (c ∷ d ∷ x ++ more) ≡ true = subst (λ (u : List ℕ). none_longer 1 punctuators (c ∷ u) ≡ true) e n1 in
           ap is_some (plain_of a_punctuator c (d ∷ x) more o ∙ find-none punctuators (c ∷ d ∷ x) more f (omega arith))));
@@ -352,8 +368,14 @@ seen_mark text s i j w k c m g h e =
     let h' : is_longest k (c ∷ drop j text) ≡ true = subst (λ (u : List ℕ). is_longest k u ≡ true) d2 h in
     let l = hd.within in
     record {
-      w = w; space = space_of text s i w g; newline = refl;
-      first = c; others = []; splits = d2; size = omega arith; within = omega arith;
+      w = w;
+      space = space_of text s i w g;
+      newline = refl;
+      first = c;
+      others = [];
+      splits = d2;
+      size = omega arith;
+      within = omega arith;
       ascii = both (ascii_byte c) true m.ascii refl;
       begins = m.begins;
       no_open = no_start 60 (codes "!--") c (drop j text) m.less;
@@ -370,9 +392,9 @@ seen_mark text s i j w k c m g h e =
 seen_punctuator : (text : List ℕ) (s i j : ℕ) (w : Bool) (k : Kind) → Gap text s i w → IsPunctuator k text i j → Seen text s (record { kind = k; from = i; to = j; newline = w; escaped = false; units = [] })
 seen_punctuator text s i j w k g p =
     six (λ a. is_longest a (drop i text) ≡ true → j ≡ i + length (text_of a) → Seen text s (record { kind = a; from = i; to = j; newline = w; escaped = false; units = [] })) k p.one_of
-      (λ h e. seen_mark text s i j w LParen 40 left_mark g h e) (λ h e. seen_mark text s i j w RParen 41 right_mark g h e) (λ h e. seen_mark text s i j w Semicolon 59 semicolon_mark g h e)
-      (λ h e. seen_mark text s i j w Plus 43 plus_mark g h e) (λ h e. seen_mark text s i j w Minus 45 minus_mark g h e) (λ h e. seen_mark text s i j w Star 42 star_mark g h e)
-      p.longest p.ends
+    (λ h e. seen_mark text s i j w LParen 40 left_mark g h e) (λ h e. seen_mark text s i j w RParen 41 right_mark g h e) (λ h e. seen_mark text s i j w Semicolon 59 semicolon_mark g h e)
+    (λ h e. seen_mark text s i j w Plus 43 plus_mark g h e) (λ h e. seen_mark text s i j w Minus 45 minus_mark g h e) (λ h e. seen_mark text s i j w Star 42 star_mark g h e)
+    p.longest p.ends
 
 seen : (text : List ℕ) (s : ℕ) (y : Lexeme) → FirstLex text s y → same_kind Eof y.kind ≡ false → Seen text s y
 seen text s y (a_name {i} {j} {w} g n) h = seen_name text s i j w g n
@@ -456,6 +478,7 @@ single_end text s y h a =
   where
     esc : false ≡ is_escaped Eof []
     esc = esc_end
+
     uni : [] ≡ units_of Eof []
     uni = units_end
 
@@ -477,7 +500,7 @@ single_word text s y h b a =
     let inside = not-true (one_of (code Eof ∷ code RegExp ∷ []) (code p.0.kind)) p.0.inside in
     let no_regular : same_kind RegExp p.0.kind ≡ false = neither-left (code RegExp == code p.0.kind) false (neither-right (code Eof == code p.0.kind) (one_of (code RegExp ∷ []) (code p.0.kind)) inside) in
     let same : y ≡ x = lexeme-same y x (sym p.1) from to (h.newline ∙ h.space.newline ∙ ap has_line_terminator (sym (singles-joined h.space.bytes)))
-          (h.escaped ∙ ap (λ (k : Kind). is_escaped k (h.first ∷ h.others)) (sym p.1)) (h.units ∙ ap (λ (k : Kind). units_of k (h.first ∷ h.others)) (sym p.1)) in
+    (h.escaped ∙ ap (λ (k : Kind). is_escaped k (h.first ∷ h.others)) (sym p.1)) (h.units ∙ ap (λ (k : Kind). units_of k (h.first ∷ h.others)) (sym p.1)) in
     subst (λ (v : Lexeme). Single text s v) (sym same) (at_word text s qs h.first h.others (drop y.to text) st (singles-lack h.space.bytes h.space.blank) (lexeme_first_core h.first h.begins) p.0 no_regular)
 
 join_end : (text : List ℕ) (s : ℕ) (y : Lexeme) → FirstLex text s y → same_kind Eof y.kind ≡ true → Joined text s (last y)

@@ -2,7 +2,7 @@
 use Rattle.std.proofs.Common.{◌≡◌, ◌<◌, ◌≤◌, ℕ, zero, suc, ◌+◌, ◌-◌, Bool, true, false, List, [], ◌∷◌, ◌++◌, refl, sym, ap, subst, ◌∙◌, ◌&&◌, length, drop, get_or, arith, length-drop, length-append, ◌⊎◌, inl, inr}
 use Rattle.std.specs.Prelude.{slice_index, slice_range, IsAscii, chars}
 use Rattle.std.specs.List.{list_all, list_any}
-use Rattle.std.proofs.Math.Seq.{drop-cons, drop-length, drop-append_seam, take-append_seam}
+use Rattle.std.proofs.Math.Seq.{drop-cons, drop-length, take-append_seam}
 use Rattle.std.proofs.Math.ListN.{get_or-append}
 use Rattle.std.proofs.lemmas.List.{get_or-drop}
 use Rattle.std.proofs.lemmas.Str.{len_utf8_ascii, chars-IsAscii}
@@ -47,10 +47,12 @@ pub record Head (text : List ℕ) (j d : ℕ) : Type 0 where
 
 pub head_of : (text : List ℕ) (j d : ℕ) (r : List ℕ) → drop j text ≡ d ∷ r → Head text j d
 head_of text j d r e = elim (Rattle.std.proofs.lemmas.Bool.cases_order j (length text)) [
-    inl s ↦ absurd (let a = drop-all text j (omega arith) in cc)
+  | inl s ↦ absurd (let a = drop-all text j (omega arith) in cc)
   | inr o ↦ elim o [
-      inl l ↦ record { within = l; is = (let a = drop-cons text j 0 l in cc) }
-    | inr g ↦ absurd (let a = drop-all text j (omega arith) in cc) ] ]
+    | inl l ↦ record { within = l; is = (let a = drop-cons text j 0 l in cc) }
+    | inr g ↦ absurd (let a = drop-all text j (omega arith) in cc)
+  ]
+]
 
 pub nothing_behind : (text : List ℕ) → drop (length text) text ≡ []
 nothing_behind text = drop-length text
@@ -74,10 +76,14 @@ word_of_run {test = test} {text = text} {i = i} {j = j} l r = go (piece_of_run r
         by : (w : List ℕ) → drop i text ≡ w ++ drop j text → list_all test w ≡ true → i + length w ≡ j → Word test text i j
         by [] s a z = absurd (omega arith)
         by (c ∷ cs) s a z = record {
-            first = c; others = cs; splits = s; passes = a; size = z;
-            is_first = (head_of text i c (cs ++ drop j text) s).is;
-            range = (let n : j - i ≡ length (c ∷ cs) = omega arith in ap (λ (m : ℕ). Rattle.std.proofs.Common.take m (drop i text)) n ∙ ap (λ (v : List ℕ). Rattle.std.proofs.Common.take (length (c ∷ cs)) v) s ∙ take-append_seam (c ∷ cs) (drop j text));
-          }
+          first = c;
+          others = cs;
+          splits = s;
+          passes = a;
+          size = z;
+          is_first = (head_of text i c (cs ++ drop j text) s).is;
+          range = (let n : j - i ≡ length (c ∷ cs) = omega arith in ap (λ (m : ℕ). Rattle.std.proofs.Common.take m (drop i text)) n ∙ ap (λ (v : List ℕ). Rattle.std.proofs.Common.take (length (c ∷ cs)) v) s ∙ take-append_seam (c ∷ cs) (drop j text));
+        }
 
 abbrev pub ascii_byte : ℕ → Bool
 ascii_byte c = Rattle.std.specs.Prelude.nat_lt c 128

@@ -30,5 +30,4 @@ pub fn law_of_leniency()
 /// The lexemes of a text of the first language are its lexemes in the whole language, and its only ones.
 pub fn law_of_first_language()
     ensures { FirstLanguage }
-{
-}
+{}
