@@ -40,7 +40,7 @@ punctuator_in [] = Undetermined
 punctuator_in (b ∷ []) = punctuator_of b 0
 punctuator_in (b ∷ c ∷ r) = punctuator_of b c
 
-first_or : (P : Kind → Type 0) (a k : Kind) (b c : Bool) → same_kind a k ≡ b → (b || c) ≡ true → P a → (c ≡ true → P k) → P k
+pub first_or : (P : Kind → Type 0) (a k : Kind) (b c : Bool) → same_kind a k ≡ b → (b || c) ≡ true → P a → (c ≡ true → P k) → P k
 first_or P a k true c e h x y = subst P (kind_of_same a k e) x
 first_or P a k false c e h x y = y h
 

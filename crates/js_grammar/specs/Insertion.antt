@@ -10,12 +10,12 @@ abbrev pub assign_operators : List Kind
 assign_operators = Eq ∷ PlusEq ∷ MinusEq ∷ StarEq ∷ PercentEq ∷ ShiftLeftEq ∷ ShiftRightEq ∷ ShiftRight3Eq ∷ PipeEq ∷ CaretEq ∷ AmpEq ∷ Amp2Eq ∷ Pipe2Eq ∷ Question2Eq ∷ Star2Eq ∷ []
 
 abbrev pub binary_operators : List Kind
-binary_operators = Question2 ∷ Pipe2 ∷ Amp2 ∷ Pipe ∷ Caret ∷ Amp ∷ Eq2 ∷ Neq ∷ Eq3 ∷ Neq2 ∷ LAngle ∷ LtEq ∷ RAngle ∷ GtEq ∷ Instanceof ∷ In ∷ ShiftLeft ∷ ShiftRight ∷ ShiftRight3 ∷ Plus ∷ Minus ∷ Star ∷ Percent ∷ Star2 ∷ []
+binary_operators = Question2 ∷ Pipe2 ∷ Amp2 ∷ Pipe ∷ Caret ∷ Amp ∷ Eq2 ∷ Neq ∷ Eq3 ∷ Neq2 ∷ LAngle ∷ LtEq ∷ RAngle ∷ GtEq ∷ ShiftLeft ∷ ShiftRight ∷ ShiftRight3 ∷ Plus ∷ Minus ∷ Star ∷ Percent ∷ Star2 ∷ []
 
--- What goes on with an expression on a new line. Behind a last `++` or `--` neither a call nor an index does.
+-- What goes on with an expression on a new line; of words `instanceof` and `in`, without an escape. Behind a last `++` or `--` neither a call nor an index does.
 abbrev pub continues : Bool → Look
-continues after_update k w e = not e && (one_of_kinds binary_operators k || (one_of_kinds assign_operators k || (one_of_kinds (Question ∷ Comma ∷ Dot ∷ QuestionDot ∷ Arrow ∷ []) k
-    || (not after_update && one_of_kinds (LParen ∷ LBrack ∷ []) k))))
+continues after_update k w e = one_of_kinds binary_operators k || (one_of_kinds assign_operators k || (one_of_kinds (Question ∷ Comma ∷ Dot ∷ QuestionDot ∷ Arrow ∷ []) k
+    || ((not e && one_of_kinds (Instanceof ∷ In ∷ []) k) || (not after_update && one_of_kinds (LParen ∷ LBrack ∷ []) k))))
 
 -- The rule by the last lexeme of a statement and the next one: the next one is the end, or it is on a new line, is no semicolon, and is `++`, `--` or goes on with nothing.
 abbrev pub permitted_core : Lexeme → Lexeme → Bool

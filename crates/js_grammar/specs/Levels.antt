@@ -1,5 +1,5 @@
 -- The levels of operators by number, as a loop over binding power meets them, and what may stand behind each nonterminal.
-use Rattle.std.specs.Prelude.{ℕ, zero, suc, Bool, true, ◌||◌, List, [], ◌∷◌, nat_lt}
+use Rattle.std.specs.Prelude.{ℕ, zero, suc, Bool, true, List, [], ◌∷◌, nat_lt}
 use Rattle.js_base.specs.declared.kind.Kind.{Kind}
 use Rattle.js_base.specs.declared.kind.Kind.TheVariants.{Plus, Minus, Star, LParen, Eof}
 use Rattle.js_base.specs.Kinds.{same_kind}
@@ -34,9 +34,9 @@ tight Star = 2
 tight LParen = 3
 tight _ = 0
 
--- it binds less than this, or is a word with an escape, which binds nothing
+-- it binds less than this
 abbrev pub looser : ℕ → Look
-looser p k w e = e || nat_lt (tight k) p
+looser p k w e = nat_lt (tight k) p
 
 -- anything
 abbrev pub full : Look

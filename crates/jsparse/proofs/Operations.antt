@@ -1,9 +1,9 @@
 -- Operators and their operands: the start, a step, the end, and failures of the loop over binding power.
-use Rattle.std.proofs.Common.{ℕ, zero, suc, ◌≡◌, ◌<◌, ◌≤◌, ◌+◌, max, List, [], ◌∷◌, length, Bool, true, false, ◌||◌, IsTrue, refl, sym, ap, subst, arith, ◌∙◌, nat_lt}
+use Rattle.std.proofs.Common.{ℕ, zero, suc, ◌≡◌, ◌<◌, ◌≤◌, ◌+◌, max, List, [], ◌∷◌, length, Option, Some, Bool, true, false, ◌||◌, IsTrue, refl, sym, ap, subst, arith, ◌∙◌, nat_lt}
 use Rattle.std.proofs.lemmas.Bool.{false≢true, ltb-true, lt-ltb, or_right}
 use Rattle.js_base.specs.declared.kind.Kind.{Kind}
 use Rattle.js_base.specs.declared.kind.Kind.TheVariants.{Plus, Minus, Star, LParen, Undetermined}
-use Rattle.js_grammar.specs.Trees.{Slots, end, tree, Label, binary_expression}
+use Rattle.js_grammar.specs.Trees.{Slots, end, tree, Label, of, binary_expression}
 use Rattle.js_grammar.specs.Grammar.{Lexeme, Look, seen, such}
 use Rattle.js_grammar.specs.Table.{Symbol, rule, at, always, script_flags, Unary, Flags}
 use Rattle.js_grammar.specs.Lexing.{Lex}
@@ -18,12 +18,13 @@ use Rattle.js_grammar.proofs.Operators.{levels, climbs, operates}
 use Rattle.jsparse.specs.declared.cursor.Cursor.{Cursor}
 use Rattle.jsparse.specs.declared.tree.Node.{Node}
 use Rattle.jsparse.specs.declared.tree.NodeId.{NodeId}
-use Rattle.jsparse.specs.Answers.{At, Passed, Answer}
-use Rattle.jsparse.proofs.Paths.{skips, kind_here, begins_here}
+use Rattle.js_base.specs.declared.span.Span.{Span}
+use Rattle.jsparse.specs.declared.tree.NodeKind.TheVariants.{BinaryExpression}
+use Rattle.jsparse.specs.Holding.{Made}
+use Rattle.jsparse.proofs.NodeLemmas.{pair_held, label_same}
+use Rattle.jsparse.specs.Answers.{At, Passed, Answer, Numbered}
+use Rattle.jsparse.proofs.Paths.{skips, kind_here, begins_here, label_here}
 use Rattle.jsparse.proofs.States.{Behind, Held, Operand}
-
-f : Flags
-f = script_flags
 
 -- where a level stops
 pub follow_level : (m : ℕ) (k : Kind) (w e : Bool) → 1 ≤ m → m ≤ 3 → follow (level_at script_flags m).name k w e ≡ looser m k w e
@@ -34,16 +35,13 @@ follow_level (suc (suc (suc zero))) k w e a b = refl
 follow_level (suc (suc (suc (suc n)))) k w e a b = absurd (omega arith)
 
 looser_than : (m n : ℕ) (k : Kind) (w e : Bool) → m ≤ n → looser m k w e ≡ true → looser n k w e ≡ true
-looser_than m n k w true h i = refl
-looser_than m n k w false h i = let a = ltb-true (tight k) m i in lt-ltb (tight k) n (omega arith)
+looser_than m n k w e h i = let a = ltb-true (tight k) m i in lt-ltb (tight k) n (omega arith)
 
 binds : (n : ℕ) (k : Kind) (w e : Bool) → tight k < n → looser n k w e ≡ true
-binds n k w true h = refl
-binds n k w false h = lt-ltb (tight k) n h
+binds n k w e h = lt-ltb (tight k) n h
 
-unbound : (n : ℕ) (k : Kind) (w e : Bool) → e ≡ false → looser n k w e ≡ true → tight k < n
-unbound n k w true z h = absurd (false≢true (sym z))
-unbound n k w false z h = ltb-true (tight k) n h
+unbound : (n : ℕ) (k : Kind) (w e : Bool) → looser n k w e ≡ true → tight k < n
+unbound n k w e h = ltb-true (tight k) n h
 
 -- an operator of a level binds as tight as the level
 pub operator_level : {o : Kind} (q : ℕ) → OneOf o (operators_at q) → (tight o ≡ q) × (strength o ≡ q) × (1 ≤ q)
@@ -86,7 +84,7 @@ operand_follow m p a b c z = operators_follow (level_at script_flags) 2 binary_e
     (λ o q w e i g d t. let x = (operator_level q i).0 in follow_level (p + 1) o w e (omega arith) (omega arith) ∙ binds (p + 1) o w e (omega arith))
 
 stops_below : {text : List ℕ} {s n : ℕ} → ((y : Lexeme) → Lex text s y → IsTrue (looser n y.kind y.newline y.escaped)) → (y : Lexeme) → Lex text s y → tight y.kind < n
-stops_below {n = n} h y l = unbound n y.kind y.newline y.escaped (unescaped l) (h y l)
+stops_below {n = n} h y l = unbound n y.kind y.newline y.escaped (h y l)
 
 pub operand_init : {text : List ℕ} {p q : Cursor} {ns ms : List Node} {id : NodeId} {m : ℕ} → 1 ≤ m → m ≤ 3 → At text p → (x : Answer text (at Unary script_flags) p q) → Held x.label x.slots ns ms id → Operand text m p q ns ms id
 operand_init {text} {p} {q} {ns} {ms} {id} {m} a b t x h = record {
@@ -108,8 +106,67 @@ not_undetermined k h e = let z : strength k ≡ 0 = ap strength e in absurd (ome
 operator_alone : {text : List ℕ} {p : Cursor} (m c : ℕ) → At text p → 1 ≤ m → m ≤ 3 → m ≤ strength p.token.kind → strength p.token.kind ≤ c → Alone (Lex text) (follow (level_at script_flags m).name) (levels script_flags) m c p.prev_token_end (strength p.token.kind) (operates script_flags (strength p.token.kind) p.token.kind)
 operator_alone {text} {p} m c t a b g h = let k = p.token.kind in
     one_operator (level_at script_flags) 2 binary_expression operators_at (climbs script_flags) k (kind_here t refl) g h (strength_low k) (an_operator k (omega arith)) (λ q i. sym (operator_level q i).1)
-      (λ y l e. let z = unbound m y.kind y.newline y.escaped (unescaped l) (sym (follow_level m y.kind y.newline y.escaped a b) ∙ e) in let same : tight y.kind ≡ tight k = ap tight (kind_here t refl y l) in let u : tight k ≡ strength k = (operator_level (strength k) (an_operator k (omega arith))).0 in absurd (omega arith))
+      (λ y l e. let z = unbound m y.kind y.newline y.escaped (sym (follow_level m y.kind y.newline y.escaped a b) ∙ e) in let same : tight y.kind ≡ tight k = ap tight (kind_here t refl y l) in let u : tight k ≡ strength k = (operator_level (strength k) (an_operator k (omega arith))).0 in absurd (omega arith))
 
 -- how tight the operator here binds, by what was read before it
 within_cap : {text : List ℕ} {p : Cursor} {c : ℕ} → At text p → 1 ≤ strength p.token.kind → ((y : Lexeme) → Lex text p.prev_token_end y → tight y.kind < c + 1) → strength p.token.kind ≤ c
 within_cap {text} {p} {c} t h s = let k = p.token.kind in let y = t.found (not_undetermined k h) in let z = s y.0 y.1 in let same : tight y.0.kind ≡ tight k = ap tight (kind_here t refl y.0 y.1) in let u : tight k ≡ strength k = (operator_level (strength k) (an_operator k (omega arith))).0 in omega arith
+
+pub operand_step : {text : List ℕ} {p q r t : Cursor} {ns ms os : List Node} {left id : NodeId} {m : ℕ} → 1 ≤ m → m ≤ 3 → (s : Operand text m p q ns ms left) → m ≤ strength q.token.kind → Passed text q r → (x : Answer text (level_at script_flags (strength q.token.kind + 1)) r t)
+    → Held (label_here binary_expression (of q.token.kind) p t) (tree s.behind.label s.behind.slots (tree x.label x.slots end)) ns os id → Operand text m p t ns os id
+operand_step {text} {p} {q} {r} {t} {ns} {ms} {os} {left} {id} {m} a b s c d x h = let k = q.token.kind in record {
+  cap = strength k;
+  low = let i = strength_low k in omega arith;
+  stops = step_stops;
+  stops_first = λ y l. let i = strength_low k in let j = step_stops y l in omega arith;
+  behind = record {
+    at = x.at;
+    further = let i = s.behind.further in let j = d.further in let n = x.further in let g = s.behind.at.behind in let e = d.at.behind in omega arith;
+    label = _;
+    slots = _;
+    reach = max s.behind.reach (max 0 x.reach);
+    near = let i = s.behind.near in let j = d.further in let n = x.further in let u = x.near in let g = s.behind.at.behind in let e = d.at.behind in omega arith;
+    around = step s.behind.around (operator_alone m s.cap s.behind.at a b c (within_cap s.behind.at (omega arith) s.stops)) (skips s.behind.at k refl (not_undetermined k (omega arith)) d ▹ x.reads) (operand_follow m (strength k) a b c (strength_low k));
+  };
+  held = h;
+}
+  where
+    step_stops : (y : Lexeme) → Lex text t.prev_token_end y → tight y.kind < strength q.token.kind + 1
+    step_stops = let i = strength_low q.token.kind in stops_below {n = strength q.token.kind + 1} (λ y l. sym (follow_level (strength q.token.kind + 1) y.kind y.newline y.escaped (omega arith) (omega arith)) ∙ x.stops y l)
+
+pub operand_step_fails : {text : List ℕ} {p q r : Cursor} {ns ms : List Node} {left : NodeId} {m : ℕ} → 1 ≤ m → m ≤ 3 → Operand text m p q ns ms left → m ≤ strength q.token.kind → Passed text q r
+    → Fails (Lex text) (follow (level_at script_flags (strength q.token.kind + 1)).name) end (such (level_at script_flags (strength q.token.kind + 1)) always) r.prev_token_end → Fails (Lex text) (follow (level_at script_flags m).name) end (such (level_at script_flags m) always) p.prev_token_end
+operand_step_fails {text} {p} {q} {r} {m = m} a b s c d x = let k = q.token.kind in
+    step_fails s.behind.around (operator_alone m s.cap s.behind.at a b c (within_cap s.behind.at (omega arith) s.stops)) refl (skips s.behind.at k refl (not_undetermined k (omega arith)) d ▹✗ x) (operand_follow m (strength k) a b c (strength_low k))
+
+pub operand_answers : {text : List ℕ} {p q : Cursor} {ns ms : List Node} {id : NodeId} {m : ℕ} → 1 ≤ m → m ≤ 3 → Operand text m p q ns ms id → strength q.token.kind < m → Numbered text (level_at script_flags m) p q ns ms id
+operand_answers {text} {p} {q} {ns} {ms} {id} {m} a b s c = record {
+  answer = record {
+    at = s.behind.at;
+    further = s.behind.further;
+    stops = λ y l. follow_level m y.kind y.newline y.escaped a b ∙ binds m y.kind y.newline y.escaped (let u = tight_is y.kind (s.stops_first y l) in let v : strength y.kind ≡ strength q.token.kind = ap strength (kind_here s.behind.at refl y l) in omega arith);
+    label = s.behind.label;
+    slots = s.behind.slots;
+    reach = s.behind.reach;
+    near = s.behind.near;
+    reads = operators_end (level_at script_flags) 2 binary_expression operators_at (climbs script_flags) s.behind.around (λ n i j y l o. let u = (operator_level n o).1 in let v : strength y.kind ≡ strength q.token.kind = ap strength (kind_here s.behind.at refl y l) in absurd (omega arith));
+  };
+  holds = s.held.holds;
+  keeps = s.held.keeps;
+}
+
+pub operand_steps : {text : List ℕ} {p q r w : Cursor} {ns ms ks os : List Node} {before right id : NodeId} {m : ℕ} {ids : List (Option NodeId)} {sp : Span} (k : Kind) (t : ℕ) → k ≡ q.token.kind → t ≡ strength k → 1 ≤ m → m ≤ 3 → Operand text m p q ns ms before → m ≤ t → Passed text q r
+    → Numbered text (level_at script_flags (t + 1)) r w ms ks right → Made BinaryExpression sp (Some k) ids ks os id → ids ≡ Some before ∷ Some right ∷ [] → sp.start ≡ p.token.span.start → sp.end ≡ w.prev_token_end → Operand text m p w ns os id
+operand_steps {text} {p} {q} {r} {w} {ns} {ms} {ks} {os} {before} {right} {id} {m} {ids} {sp} k t e f a b s c d x h j i l =
+    let z : t ≡ strength q.token.kind = f ∙ ap strength e in
+    let y : Numbered text (level_at script_flags (strength q.token.kind + 1)) r w ms ks right = subst (λ v. Numbered text (level_at script_flags (v + 1)) r w ms ks right) z x in
+    operand_step a b s (omega arith) d y.answer (pair_held s.held (record { holds = y.holds; keeps = y.keeps }) h j (label_same BinaryExpression (Some k) sp p w i l ∙ ap (λ v. label_here binary_expression (of v) p w) e))
+
+pub operand_steps_fail : {text : List ℕ} {p q r : Cursor} {ns ms : List Node} {before : NodeId} {m : ℕ} (k : Kind) (t : ℕ) → k ≡ q.token.kind → t ≡ strength k → 1 ≤ m → m ≤ 3 → Operand text m p q ns ms before → m ≤ t → Passed text q r
+    → Fails (Lex text) (follow (level_at script_flags (t + 1)).name) end (such (level_at script_flags (t + 1)) always) r.prev_token_end → Fails (Lex text) (follow (level_at script_flags m).name) end (such (level_at script_flags m) always) p.prev_token_end
+operand_steps_fail {text} {p} {q} {r} {m = m} k t e f a b s c d x =
+    let z : t ≡ strength q.token.kind = f ∙ ap strength e in
+    operand_step_fails a b s (omega arith) d (subst (λ v. Fails (Lex text) (follow (level_at script_flags (v + 1)).name) end (such (level_at script_flags (v + 1)) always) r.prev_token_end) z x)
+
+pub operands_answer : {text : List ℕ} {p q : Cursor} {ns ms : List Node} {id : NodeId} {m : ℕ} (k : Kind) (t : ℕ) → k ≡ q.token.kind → t ≡ strength k → 1 ≤ m → m ≤ 3 → Operand text m p q ns ms id → t < m → Numbered text (level_at script_flags m) p q ns ms id
+operands_answer k t e f a b s c = operand_answers a b s (let z = f ∙ ap strength e in omega arith)

@@ -59,6 +59,15 @@ module _ {text : List ℕ} {p : Cursor} (a : At text p) where
       let to : x.to ≡ q.prev_token_end = g.end ∙ sym s.moved in
       subst (λ v. Reads (Lex text) F end (tok k) p.prev_token_end v (λ us. us) 0) to (reads_lexeme (is k) f.1 (rw (kind_here a e x f.1, unescaped f.1, same_self k) refl) (λ y l h. one_lexeme l f.1))
 
+  -- a lexeme that passes a test was passed
+  pub passes_test : {F : Look} {q : Cursor} (test : Look) → (p.token.kind ≡ Undetermined → ⊥) → ((y : Lexeme) → Lex text p.prev_token_end y → IsTrue (seen test y)) → Passed text p q → Reads (Lex text) F end (lexeme test) p.prev_token_end q.prev_token_end (λ us. us) 0
+  passes_test {F} {q} test u h s =
+      let f = a.found u in
+      let x = f.0 in
+      let g = a.is x f.1 in
+      let to : x.to ≡ q.prev_token_end = g.end ∙ sym s.moved in
+      subst (λ v. Reads (Lex text) F end (lexeme test) p.prev_token_end v (λ us. us) 0) to (reads_lexeme test f.1 (h x f.1) (λ y l z. one_lexeme l f.1))
+
   pub skips : {F : Look} {b : G} {q : Cursor} (k : Kind) → p.token.kind ≡ k → (k ≡ Undetermined → ⊥) → Passed text p q → Goes (Lex text) F end (seq (tok k) b) p.prev_token_end b q.prev_token_end (λ us. us) 0
   skips k e u s = then_by {F' = full} (passes k e u s) (λ j w e i. refl)
 
@@ -68,7 +77,7 @@ module _ {text : List ℕ} {p : Cursor} (a : At text p) where
 
 pub record Path (text : List ℕ) (F : Look) (g : G) (p : Cursor) (g' : G) (q : Cursor) (f : Slots → Slots) : Type 0 where
   pub at : At text q
-  pub further : p.prev_token_end < q.prev_token_end
+  pub further : p.token.span.start < q.prev_token_end
   pub reach : ℕ
   pub near : reach ≤ q.prev_token_end
   pub goes : Goes (Lex text) F end g p.prev_token_end g' q.prev_token_end f reach
@@ -77,7 +86,7 @@ module _ {text : List ℕ} {F : Look} where
   -- one stretch and another
   infixr 18 ◌⟶◌
   pub ◌⟶◌ : {g g' g'' : G} {p q r : Cursor} {f h : Slots → Slots} → Path text F g p g' q f → Path text F g' q g'' r h → Path text F g p g'' r (λ us. f (h us))
-  a ⟶ b = record { at = b.at; further = let i = a.further in let j = b.further in omega arith; reach = max a.reach b.reach; near = let i = a.near in let j = b.near in let k = b.further in omega arith; goes = a.goes ▹ b.goes }
+  a ⟶ b = record { at = b.at; further = let i = a.further in let j = b.further in let h = a.at.behind in omega arith; reach = max a.reach b.reach; near = let i = a.near in let j = b.near in let k = b.further in let h = a.at.behind in omega arith; goes = a.goes ▹ b.goes }
 
   -- a choice, and a stretch
   infixr 18 ◌⟼◌
@@ -130,3 +139,11 @@ passed_on {text} {n} {m} {p} {q} e c x s = record { at = x.at; further = x.furth
 
 pub fails_on : {text : List ℕ} {n m : Symbol} {s : ℕ} → rule n ≡ such m always → covers (follow n.name) (follow m.name) ≡ true → Fails (Lex text) (follow m.name) end (such m always) s → Fails (Lex text) (follow n.name) end (such n always) s
 fails_on {text} {n} {m} {s} e c x = fails_rule (subst (λ v. Fails (Lex text) (follow n.name) end v s) (sym e) (weaken_fails x c))
+
+-- a symbol, by its rule
+pub by_symbol : {text : List ℕ} {F : Look} {n : Symbol} {p q : Cursor} {l : Label} {cs : Slots} → Path text F (rule n) p nothing q (tree l cs) → Path text F (such n always) p nothing q (tree l cs)
+by_symbol r = record { at = r.at; further = r.further; reach = r.reach; near = r.near; goes = by_rule r.goes refl }
+
+-- read where anything may stand behind it, it is read where less may
+pub narrow : {text : List ℕ} {F : Look} {g g' : G} {p q : Cursor} {f : Slots → Slots} → Path text full g p g' q f → Path text F g p g' q f
+narrow r = record { at = r.at; further = r.further; reach = r.reach; near = r.near; goes = record { sound = r.goes.sound; only = λ ts vs k ls rest l d e. r.goes.only ts vs k ls rest l d refl } }

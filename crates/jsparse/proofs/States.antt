@@ -17,7 +17,7 @@ use Rattle.jsparse.specs.Answers.{At}
 -- A node of the level cap has been read, and what remains is the parts behind it.
 pub record Behind (text : List ℕ) (F : Look) (w : Tower rule) (m cap : ℕ) (old new : Cursor) : Type 0 where
   pub at : At text new
-  pub further : old.prev_token_end < new.prev_token_end
+  pub further : old.token.span.start < new.prev_token_end
   pub label : Label
   pub slots : Slots
   pub reach : ℕ

@@ -24,7 +24,7 @@ At text p = TokenAt text p.prev_token_end p.token
 pub record Passed (text : List ℕ) (old new : Cursor) : Type 0 where
   pub moved : new.prev_token_end ≡ old.token.span.end
   pub at : At text new
-  pub further : old.prev_token_end < new.prev_token_end
+  pub further : old.token.span.start < new.prev_token_end
 
 -- Why a call stops: what is due can't be derived, or memory was refused, of which nothing is said.
 abbrev pub Stops : List ℕ → Cursor → Stop → Type 0 → Type 0
@@ -38,7 +38,7 @@ Expects k text old new (Err e) = Stops text new e (old.token.kind ≡ k → ⊥)
 -- As much of the symbol as can be is read, from the current lexeme of the old state up to that of the new one. Whatever is derived from there, over any lexemes, and stops where it may, is this; and it is derived over any lexemes that go on at least to the current one.
 pub record Answer (text : List ℕ) (n : Symbol) (old new : Cursor) : Type 0 where
   pub at : At text new
-  pub further : old.prev_token_end < new.prev_token_end
+  pub further : old.token.span.start < new.prev_token_end
   pub stops : (y : Lexeme) → Lex text new.prev_token_end y → IsTrue (seen (follow n.name) y)
   pub label : Label
   pub slots : Slots
@@ -59,7 +59,7 @@ Answers text n old new ns ms (Err e) = Stops text new e (Fails (Lex text) (follo
 -- The same of a part that is no symbol, whose nodes are put behind others.
 pub record Part (text : List ℕ) (F : Look) (g : G) (old new : Cursor) : Type 0 where
   pub at : At text new
-  pub further : old.prev_token_end < new.prev_token_end
+  pub further : old.token.span.start < new.prev_token_end
   pub slots : Slots → Slots
   pub reach : ℕ
   pub near : reach ≤ new.prev_token_end
