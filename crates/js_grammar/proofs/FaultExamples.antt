@@ -1,5 +1,5 @@
 -- Small texts with lexical faults.
-use Rattle.std.proofs.Common.{◌≡◌, ℕ, true, List, [], ◌∷◌, ◌++◌, refl, arith, inl, inr}
+use Rattle.std.proofs.Common.{◌≡◌, ℕ, true, List, [], ◌∷◌, ◌++◌, refl, arith, inl, inr, sym, subst}
 use Rattle.std.specs.Prelude.{codes}
 use Rattle.std.specs.Str.{chars, is_utf8}
 use Rattle.std.specs.Char.{encode_utf8}
@@ -15,7 +15,9 @@ use Rattle.js_grammar.specs.Settings.{script, module_goal}
 use Rattle.js_grammar.specs.Trivia.{are_trivia}
 use Rattle.js_grammar.specs.Lexemes.{division, regular_expression}
 use Rattle.js_grammar.specs.Lexed.{all_faults}
-use Rattle.js_grammar.specs.LexicalFaults.{invalid_character, binary_file, unterminated_string, unterminated_template, unterminated_regexp, unterminated_comment, invalid_escape, reg_exp_flag, html_comment_in_module, Due, Condition, Faulty}
+use Rattle.js_grammar.specs.Numbers.{stops_number}
+use Rattle.js_grammar.proofs.LongestLemmas.{longest-same}
+use Rattle.js_grammar.specs.LexicalFaults.{invalid_number, is_number_word, invalid_character, binary_file, unterminated_string, unterminated_template, unterminated_regexp, unterminated_comment, invalid_escape, reg_exp_flag, html_comment_in_module, Due, Condition, Faulty}
 use Rattle.js_grammar.proofs.Standing.{stand, lexeme_of}
 
 -- at the start of the text, behind no trivia
@@ -103,3 +105,14 @@ html_like = (
     begin = refl;
   },
 )
+
+-- `1__0`: the longest number is `1`, and a name could begin behind it
+two_separators : Condition invalid_number script (codes "1__0") 0 4
+unfolding chars
+two_separators = record {
+    first = 49; others = codes "__0"; due = due_first (codes "1__0") (codes "1__0") refl refl; begun = refl;
+    none = λ w rest e l t.
+      let same = longest-same is_number_word (codes "1") (codes "__0") w rest e refl l in
+      let u : stops_number (codes "__0") ≡ true = subst (λ (v : List ℕ). stops_number v ≡ true) (sym same.back) t in
+      cc;
+  }

@@ -27,3 +27,4 @@ pub mod Operators
 pub mod Lexemes
 pub mod Runs
 pub mod Instance
+pub mod Choices

@@ -1,5 +1,5 @@
 -- Laws of the lexemes of a text.
-use Rattle.std.specs.Prelude.{ℕ, List, [], ◌∷◌, ◌≡◌, ◌||◌, IsUtf8, IsTrue}
+use Rattle.std.specs.Prelude.{ℕ, List, [], ◌∷◌, ◌≡◌, ◌||◌, ◌⊎◌, IsUtf8, IsTrue}
 use Rattle.unicode.specs.Binary.{is_id_start, is_id_continue}
 use Rattle.ucd_category.specs.GeneralCategory.{general_category, general_category_eq}
 use Rattle.ucd_category.specs.declared.GeneralCategory.TheVariants.{SpaceSeparator}
@@ -7,7 +7,7 @@ use Rattle.js_grammar.specs.Characters.{one_of, is_white_space, is_identifier_st
 use Rattle.js_grammar.specs.Grammar.{Lexeme, Lexemes}
 use Rattle.js_grammar.specs.Lexing.{Lexes}
 use Rattle.js_grammar.specs.Lexing.{Lex as FirstLex}
-use Rattle.js_grammar.specs.Lexed.{Passing, all_faults, Lex, Lexed, end_of, join, ends_once}
+use Rattle.js_grammar.specs.Lexed.{Passing, all_faults, Lex, Stands, Lexed, end_of, join, ends_once}
 use Rattle.js_grammar.specs.Settings.{Goal}
 use Rattle.js_grammar.specs.CoreTexts.{CoreSource}
 
@@ -46,3 +46,15 @@ pub record IsInstance (text : List ℕ) (ls : Lexemes) : Type 0 where
 
 abbrev pub FirstLanguage : Type 0
 FirstLanguage = (text : List ℕ) (ls : Lexemes) → Lexes (FirstLex text) 0 ls → IsTrue (ends_once ls) → IsInstance text ls
+
+-- behind trivia, a slash or a right brace stands
+pub record AtSlashOrBrace (text : List ℕ) (s : ℕ) : Type 0 where
+  pub pieces : List (List ℕ)
+  pub first : ℕ
+  pub others : List ℕ
+  pub stands : Stands text s pieces [] (first ∷ others)
+  pub is : IsTrue (one_of (47 ∷ 125 ∷ []) first)
+
+-- nothing else is left to choice, whichever faults pass
+abbrev pub Choice : Type 0
+Choice = (p q : Passing) (text : List ℕ) (s : ℕ) (y z : Lexeme) → Lex p text s y → Lex q text s z → (y ≡ z) ⊎ AtSlashOrBrace text s

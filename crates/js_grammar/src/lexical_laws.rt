@@ -1,6 +1,6 @@
 //! Laws of the lexemes of a text.
 
-ghost use Rattle.js_grammar.specs.LexicalLaws.{CharacterClasses, CoreText, Cutting, FirstLanguage, Joining, Leniency};
+ghost use Rattle.js_grammar.specs.LexicalLaws.{CharacterClasses, Choice, CoreText, Cutting, FirstLanguage, Joining, Leniency};
 
 /// A part, and another from its end on, are one part together.
 pub fn law_of_joining()
@@ -31,3 +31,9 @@ pub fn law_of_leniency()
 pub fn law_of_first_language()
     ensures { FirstLanguage }
 {}
+
+/// Behind a place one lexeme stands, but at a slash and at a right brace.
+pub fn law_of_choice()
+    ensures { Choice }
+{
+}
