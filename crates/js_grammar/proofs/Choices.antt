@@ -5,19 +5,18 @@ use Rattle.std.proofs.lemmas.Bool.{eqb-true}
 use Rattle.js_base.specs.declared.kind.Kind.{Kind}
 use Rattle.js_base.specs.declared.kind.Kind.TheVariants.{HashbangComment}
 use Rattle.js_grammar.specs.Grammar.{Lexeme}
-use Rattle.js_grammar.specs.Characters.{one_of, is_decimal, begins}
+use Rattle.js_grammar.specs.Characters.{one_of}
 use Rattle.js_grammar.specs.Trivia.{after, within_line}
 use Rattle.js_grammar.specs.Escapes.{in_name, outside, read_from, before_all}
 use Rattle.js_grammar.specs.Names.{named, name_of, private_of}
 use Rattle.js_grammar.specs.RegularExpressions.{flags, flagged, behind_pattern}
 use Rattle.js_grammar.specs.Templates.{template_tail_kind, part_kind, closes_template}
 use Rattle.js_base.specs.declared.kind.Kind.TheVariants.{TemplateTail, TemplateMiddle}
-use Rattle.js_grammar.specs.Lexemes.{LexicalGoal, division, regular_expression, template_tail, hashbang, kind_in, a_private_name}
+use Rattle.js_grammar.specs.Lexemes.{LexicalGoal, division, regular_expression, template_tail, hashbang, kind_in}
 use Rattle.js_grammar.specs.Lexed.{Passing, Lex, Stands}
 use Rattle.js_grammar.specs.LexicalLaws.{AtSlashOrBrace}
 use Rattle.js_grammar.proofs.LongestLemmas.{both-left, both-right}
 use Rattle.js_grammar.proofs.Alike.{lex-same, stands-same}
-use Rattle.js_grammar.proofs.CoreLemmas.{plain_of}
 use Rattle.js_grammar.proofs.CorePlain.{points-one}
 
 -- the characters begin with a slash or a right brace
@@ -86,19 +85,30 @@ bang w rest k h = go (after (codes "#!") within_line w) refl w refl
 at_of : {text : List ℕ} {s : ℕ} {qs : List (List ℕ)} {w rest : List ℕ} → Stands text s qs w rest → Begins w → AtSlashOrBrace text s
 at_of {s = s} {qs = qs} {w = w} {rest = rest} st b =
     let e : w ++ rest ≡ b.first ∷ (b.others ++ rest) = ap (λ (v : List ℕ). v ++ rest) b.is in
-    record { pieces = qs; first = b.first; others = b.others ++ rest; is = b.passes;
-      stands = record { within = st.within; splits = st.splits ∙ ap (λ (v : List ℕ). Rattle.js_grammar.specs.Longest.joined qs ++ v) e;
-        trivia = subst (λ (v : List ℕ). Rattle.js_grammar.specs.Trivia.are_trivia (s == 0) qs v ≡ true) e st.trivia } }
+    record {
+      pieces = qs;
+      first = b.first;
+      others = b.others ++ rest;
+      is = b.passes;
+      stands = record {
+        within = st.within;
+        splits = st.splits ∙ ap (λ (v : List ℕ). Rattle.js_grammar.specs.Longest.joined qs ++ v) e;
+        trivia = subst (λ (v : List ℕ). Rattle.js_grammar.specs.Trivia.are_trivia (s == 0) qs v ≡ true) e st.trivia;
+      };
+    }
 
 pub choice : (p q : Passing) (text : List ℕ) (s : ℕ) (y z : Lexeme) → Lex p text s y → Lex q text s z → (y ≡ z) ⊎ AtSlashOrBrace text s
 choice p q text s y z h k = go h.goal k.goal refl refl
   where
     back : h.word ++ h.rest ≡ k.word ++ k.rest
     back = (stands-same h.stands k.stands).back
+
     kh : (g : LexicalGoal) → h.goal ≡ g → kind_in g h.word h.rest ≡ Some y.kind
     kh g e = subst (λ (a : LexicalGoal). kind_in a h.word h.rest ≡ Some y.kind) e h.lexeme.kind
+
     kk : (g : LexicalGoal) → k.goal ≡ g → kind_in g k.word k.rest ≡ Some z.kind
     kk g e = subst (λ (a : LexicalGoal). kind_in a k.word k.rest ≡ Some z.kind) e k.lexeme.kind
+
     go : (a b : LexicalGoal) → h.goal ≡ a → k.goal ≡ b → (y ≡ z) ⊎ AtSlashOrBrace text s
     go regular_expression b e f = inr (at_of h.stands (pattern_slash h.word y.kind (kh regular_expression e)))
     go template_tail b e f = inr (at_of h.stands (tail_brace h.word y.kind (kh template_tail e)))

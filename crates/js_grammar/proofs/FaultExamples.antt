@@ -110,9 +110,12 @@ html_like = (
 two_separators : Condition invalid_number script (codes "1__0") 0 4
 unfolding chars
 two_separators = record {
-    first = 49; others = codes "__0"; due = due_first (codes "1__0") (codes "1__0") refl refl; begun = refl;
-    none = λ w rest e l t.
+  first = 49;
+  others = codes "__0";
+  due = due_first (codes "1__0") (codes "1__0") refl refl;
+  begun = refl;
+  none = λ w rest e l t.
       let same = longest-same is_number_word (codes "1") (codes "__0") w rest e refl l in
       let u : stops_number (codes "__0") ≡ true = subst (λ (v : List ℕ). stops_number v ≡ true) (sym same.back) t in
       cc;
-  }
+}

@@ -35,5 +35,4 @@ pub fn law_of_first_language()
 /// Behind a place one lexeme stands, but at a slash and at a right brace.
 pub fn law_of_choice()
     ensures { Choice }
-{
-}
+{}
