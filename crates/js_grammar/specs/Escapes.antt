@@ -18,7 +18,7 @@ line_feeds_after carriage (c ∷ cs) =
 abbrev pub line_feeds : List ℕ → List ℕ
 line_feeds = line_feeds_after false
 
--- in a name `\u` alone begins an escape; in a string a digit begins one by B.1.2; in a template `\0` does where no digit follows
+-- in a name `\u` alone begins an escape; in a string an octal digit does too, as outside strict mode (12.9.4); in a template `\0` does where no digit follows (12.9.6)
 pub data Where : Type 0 where
   in_name in_string in_template : Where
 

@@ -1,4 +1,4 @@
--- Numbers (ECMA-262, 12.9.3; B.1.1 for those that begin with `0` and a digit).
+-- Numbers (ECMA-262, 12.9.3), outside strict mode.
 use Rattle.std.specs.Prelude.{ℕ, Bool, true, false, not, ◌||◌, List, [], ◌∷◌, ◌==◌, nat_le, Option, Some, None}
 use Rattle.std.specs.List.{list_any}
 use Rattle.js_base.specs.declared.kind.Kind.{Kind}

@@ -1,4 +1,4 @@
--- Regular expressions (ECMA-262, 12.9.5; the flags, 22.2.4.1).
+-- Regular expressions (ECMA-262, 12.9.5; the flags, 13.2.7.2).
 use Rattle.std.specs.Prelude.{ℕ, Bool, true, false, not, ◌&&◌, ◌||◌, List, [], ◌∷◌, ◌==◌, codes, Option, Some, None}
 use Rattle.std.specs.List.{list_all}
 use Rattle.js_base.specs.declared.kind.Kind.{Kind}

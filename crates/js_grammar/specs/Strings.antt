@@ -1,4 +1,4 @@
--- String literals (ECMA-262, 12.9.4).
+-- String literals (ECMA-262, 12.9.4), outside strict mode.
 use Rattle.std.specs.Prelude.{ℕ, Bool, true, false, not, ◌&&◌, ◌||◌, List, [], ◌∷◌, ◌==◌, Option, Some, None, is_some, option_map, take, drop, length, ◌-◌}
 use Rattle.std.specs.List.{list_all}
 use Rattle.js_base.specs.declared.kind.Kind.{Kind}
