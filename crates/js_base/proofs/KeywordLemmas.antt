@@ -1,5 +1,5 @@
 -- A word is looked for among the kinds whose texts begin with its first byte.
-use Rattle.std.proofs.Common.{ℕ, zero, suc, List, [], ◌∷◌, length, get_or, ◌≡◌, ◌<◌, Bool, true, false, not, ◌&&◌, ◌||◌, refl, ap, sym, ◌∙◌, nat_eq, eqb-true, arith, subst, cond}
+use Rattle.std.proofs.Common.{ℕ, List, [], ◌∷◌, get_or, ◌≡◌, Bool, true, false, ◌||◌, refl, ap, sym, ◌∙◌, subst}
 use Rattle.std.specs.Prelude.{filter, ◌==◌, Some, None, slice_get}
 use Rattle.std.specs.Str.{bytes_eq}
 use Rattle.std.proofs.lemmas.Slice.Eq.{bytes_eq-Decides}

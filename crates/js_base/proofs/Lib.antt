@@ -1,2 +1,6 @@
 pub mod KindLemmas
+pub mod KindSetLemmas
 pub mod KeywordLemmas
+pub mod ContextLemmas
+pub mod SurrogateLemmas
+pub mod PrecedenceLemmas

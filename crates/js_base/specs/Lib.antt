@@ -1,5 +1,11 @@
 pub mod Kinds
 pub mod Texts
 pub mod Keywords
+pub mod KindSets
+pub mod Operators
+pub mod Precedences
+pub mod Contexts
+pub mod Places
 pub mod Sources
+pub mod Spans
 pub mod Diagnostics

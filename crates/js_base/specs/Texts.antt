@@ -1,5 +1,5 @@
 -- What each kind's lexeme is written as: the keyword table (ECMA-262, 12.7.2) and the punctuators (12.8).
-use Rattle.std.specs.Prelude.{ℕ, List, [], ◌∷◌, codes}
+use Rattle.std.specs.Prelude.{ℕ, List, [], ◌∷◌, ◌++◌, codes}
 use Rattle.js_base.specs.Kinds.{Kind, Break, Case, Catch, Class, Const, Continue, Debugger, Default, Delete, Do, Else, Enum, Export, Extends, False, Finally, For, Function, If, Import, In, Instanceof, New, Null, Return, Super, Switch, This, Throw, True, Try, Typeof, Var, Void, While, With, Let, Static, Implements, Interface, Package, Private, Protected, Public, Yield, Await, Async, Of, Get, Set, As, From, Assert, Accessor, Using, Defer, Source, Meta, Target, Satisfies, Constructor, TypeWord, LParen, RParen, LCurly, RCurly, LBrack, RBrack, Semicolon, Comma, Colon, Dot, Dot3, Arrow, At, Tilde, Bang, Question, QuestionDot, Question2, Question2Eq, Plus, Plus2, PlusEq, Minus, Minus2, MinusEq, Star, Star2, StarEq, Star2Eq, Slash, SlashEq, Percent, PercentEq, Eq, Eq2, Eq3, Neq, Neq2, LAngle, LtEq, RAngle, GtEq, ShiftLeft, ShiftLeftEq, ShiftRight, ShiftRightEq, ShiftRight3, ShiftRight3Eq, Amp, Amp2, AmpEq, Amp2Eq, Pipe, Pipe2, PipeEq, Pipe2Eq, Caret, CaretEq, Ident, PrivateIdentifier, Str, Decimal, Float, Binary, Octal, Hex, PositiveExponential, NegativeExponential, DecimalBigInt, BinaryBigInt, OctalBigInt, HexBigInt, RegExp, NoSubstitutionTemplate, TemplateHead, TemplateMiddle, TemplateTail, HashbangComment, Eof, Undetermined}
 
 -- the name of a kind
@@ -292,10 +292,18 @@ text_of HashbangComment = codes "HashbangComment"
 text_of Eof = codes "Eof"
 text_of Undetermined = codes "Undetermined"
 
+-- the reserved words (12.7.2), but for `await` and `yield`, which are reserved in some places alone
+abbrev pub reserved_words : List Kind
+reserved_words = Break ∷ Case ∷ Catch ∷ Class ∷ Const ∷ Continue ∷ Debugger ∷ Default ∷ Delete ∷ Do ∷ Else ∷ Enum ∷ Export ∷ Extends ∷ False ∷ Finally ∷ For ∷ Function ∷ If ∷ Import ∷ In ∷ Instanceof ∷ New ∷ Null ∷ Return ∷ Super ∷ Switch ∷ This ∷ Throw ∷ True ∷ Try ∷ Typeof ∷ Var ∷ Void ∷ While ∷ With ∷ []
+
+-- the words that have a meaning in some places and may be names too
+abbrev pub contextual_words : List Kind
+contextual_words = Let ∷ Static ∷ Implements ∷ Interface ∷ Package ∷ Private ∷ Protected ∷ Public ∷ Yield ∷ Await ∷ Async ∷ Of ∷ Get ∷ Set ∷ As ∷ From ∷ Assert ∷ Accessor ∷ Using ∷ Defer ∷ Source ∷ Meta ∷ Target ∷ Satisfies ∷ Constructor ∷ TypeWord ∷ []
+
 -- the keyword table: the reserved words, then the words that may be names too
 unfoldable pub words : List Kind
-words = Break ∷ Case ∷ Catch ∷ Class ∷ Const ∷ Continue ∷ Debugger ∷ Default ∷ Delete ∷ Do ∷ Else ∷ Enum ∷ Export ∷ Extends ∷ False ∷ Finally ∷ For ∷ Function ∷ If ∷ Import ∷ In ∷ Instanceof ∷ New ∷ Null ∷ Return ∷ Super ∷ Switch ∷ This ∷ Throw ∷ True ∷ Try ∷ Typeof ∷ Var ∷ Void ∷ While ∷ With ∷ Let ∷ Static ∷ Implements ∷ Interface ∷ Package ∷ Private ∷ Protected ∷ Public ∷ Yield ∷ Await ∷ Async ∷ Of ∷ Get ∷ Set ∷ As ∷ From ∷ Assert ∷ Accessor ∷ Using ∷ Defer ∷ Source ∷ Meta ∷ Target ∷ Satisfies ∷ Constructor ∷ TypeWord ∷ []
+words = reserved_words ++ contextual_words
 
--- the punctuators
+-- the punctuators (12.8)
 unfoldable pub punctuators : List Kind
 punctuators = LParen ∷ RParen ∷ LCurly ∷ RCurly ∷ LBrack ∷ RBrack ∷ Semicolon ∷ Comma ∷ Colon ∷ Dot ∷ Dot3 ∷ Arrow ∷ At ∷ Tilde ∷ Bang ∷ Question ∷ QuestionDot ∷ Question2 ∷ Question2Eq ∷ Plus ∷ Plus2 ∷ PlusEq ∷ Minus ∷ Minus2 ∷ MinusEq ∷ Star ∷ Star2 ∷ StarEq ∷ Star2Eq ∷ Slash ∷ SlashEq ∷ Percent ∷ PercentEq ∷ Eq ∷ Eq2 ∷ Eq3 ∷ Neq ∷ Neq2 ∷ LAngle ∷ LtEq ∷ RAngle ∷ GtEq ∷ ShiftLeft ∷ ShiftLeftEq ∷ ShiftRight ∷ ShiftRightEq ∷ ShiftRight3 ∷ ShiftRight3Eq ∷ Amp ∷ Amp2 ∷ AmpEq ∷ Amp2Eq ∷ Pipe ∷ Pipe2 ∷ PipeEq ∷ Pipe2Eq ∷ Caret ∷ CaretEq ∷ []

@@ -2,24 +2,54 @@
 //! diagnostics and want of memory.
 #![tactic(auto)]
 
+mod context;
 mod diagnostic;
+mod diagnostic_text;
+mod function_kind;
 mod keyword;
 mod kind;
+mod kind_set;
 mod kind_text;
 mod no_memory;
+mod operator;
+mod operator_map;
 mod options;
+mod precedence;
 mod source_type;
 mod span;
+mod spans;
+mod statement_context;
+mod steps;
+mod text;
 mod token;
+mod tokens;
 
+pub use context::Context;
 pub use diagnostic::{Diagnostic, DiagnosticClass, DiagnosticKind, Diagnostics};
+pub use function_kind::{FunctionKind, VariableDeclarationParent};
 pub use keyword::keyword_kind;
 pub use kind::Kind;
 pub use no_memory::NoMemory;
+pub use operator::{
+    AssignmentOperator, BinaryOperator, LogicalOperator, UnaryOperator, UpdateOperator,
+};
+pub use operator_map::{
+    map_assignment_operator, map_binary_operator, map_logical_operator, map_unary_operator,
+    map_update_operator,
+};
 pub use options::ParseOptions;
+pub use precedence::{Precedence, kind_to_precedence};
 pub use source_type::SourceType;
 pub use span::Span;
+pub use spans::Spans;
+pub use statement_context::{StatementContext, Tristate};
+pub use steps::{Ledger, Steps, TickLedger};
+pub use text::{JsStr, Text};
 pub use token::Token;
+pub use tokens::Tokens;
 
 /// The greatest length of a text in bytes: a place in it fits a `u32`, with room for small sums.
 pub const MAX_LEN: usize = 4_294_967_039;
+
+#[cfg(test)]
+mod tests;

@@ -3,7 +3,7 @@
 use std::alloc::{AllocError, AllocFailed};
 use std::fmt;
 
-/// Memory was refused.
+/// The error of a call that takes memory: the allocator refused it.
 #[derive(Debug, Drop)]
 pub struct NoMemory;
 

@@ -5,12 +5,14 @@ ghost use Rattle.std.specs.Prelude.{◌≡◌, ◌+◌, ◌^◌, ◌<◌, ◌≤
 /// Byte places in a text: from `start` up to but not including `end`, with `start` at most `end`.
 #[derive(Debug, Clone, Copy, PartialEq, Eq)]
 pub struct Span {
+    /// The place of the first byte.
     pub start: u32,
+    /// The place behind the last byte.
     pub end: u32,
 }
 
 impl Span {
-    /// The span from one byte place to another.
+    /// The span from one byte place to another, which may not stand before it.
     pub fn new(start: u32, end: u32) -> Span
         requires { start ≤ end }
         ensures start { result.start ≡ start }
@@ -19,7 +21,7 @@ impl Span {
         Span { start, end }
     }
 
-    /// The span of `size` bytes from a place on.
+    /// The span of `size` bytes from a place on; its end has to fit a `u32`.
     pub fn sized(start: u32, size: u32) -> Span
         requires { start + size < 2 ^ 32 }
         ensures start { result.start ≡ start }

@@ -1,11 +1,13 @@
 //! Placed lexemes.
 
-ghost use Rattle.std.specs.Prelude.{◌≡◌, ◌≤◌};
+ghost use Rattle.std.specs.Prelude.{◌≡◌, ◌≤◌, false, slice_range};
+ghost use Rattle.js_base.specs.Spans.{LiesIn};
+ghost use Rattle.js_base.specs.declared.kind.Kind.TheVariants.{Eof};
 
 use crate::kind::Kind;
 use crate::span::Span;
 
-/// A placed lexeme.
+/// A placed lexeme (ECMA-262, chapter 12).
 #[derive(Debug, Clone, Copy, PartialEq, Eq)]
 pub struct Token {
     kind: Kind,
@@ -86,5 +88,24 @@ impl Token {
         ensures { result ≡ self.now.has_separator }
     {
         self.has_separator
+    }
+
+    /// The slice of a text at the token's span, without copying. The span has to lie in the text and to split no
+    /// character, as it does in the text that the token was read from.
+    pub fn text<'s>(&self, source: &'s str) -> &'s str
+        requires { LiesIn self.now.span source.now }
+        ensures { result.now ≡ slice_range source.now self.now.span.start self.now.span.end }
+    {
+        &source[self.span.start as usize..self.span.end as usize]
+    }
+}
+
+impl Default for Token {
+    ghost is_default = { λ t. (t.kind ≡ Eof) × (t.span.start ≡ 0) × (t.span.end ≡ 0)
+        × (t.is_on_new_line ≡ false) × (t.escaped ≡ false) × (t.has_separator ≡ false) };
+
+    /// The end of an empty text.
+    fn default() -> Token {
+        Token::new(Kind::Eof, Span::empty(0), false, false, false)
     }
 }

@@ -1,42 +1,11 @@
 -- What each part of a grammar begins with, and a claim for each nonterminal, whatever its flags.
-use Rattle.std.proofs.Common.{ℕ, [], ◌∷◌, ◌≡◌, Bool, true, false, not, ◌&&◌, ◌||◌, IsTrue, refl}
+use Rattle.std.proofs.Common.{ℕ, ◌≡◌, ◌⊎◌, inl, inr, true, ◌&&◌, IsTrue, refl}
 use Rattle.std.proofs.lemmas.Bool.{or_left, or_right, and_from}
-use Rattle.js_base.specs.declared.kind.Kind.{Kind}
-use Rattle.js_base.specs.declared.kind.Kind.TheVariants.{LParen, Semicolon, Plus, Minus, Ident, Decimal}
-use Rattle.js_base.specs.Kinds.{same_kind, one_of_kinds}
 use Rattle.js_grammar.specs.Trees.{Slots, Tree}
 use Rattle.js_grammar.specs.Grammar.{Lexemes, here, Look, seen, Grammar, nothing, never, lexeme, look, text, ahead, empty_slot, seq, alt, when, many, commas, such, marked, node, ended, keep, kept, Takes, Derives, is_nothing, is_lexeme, is_look, is_text, is_ahead, is_empty_slot, is_seq, is_left, is_right, is_when, is_many, is_commas, is_such, is_marked, is_node, is_ended, is_keep, is_kept}
-use Rattle.js_grammar.specs.Table.{Flags, Name, Symbol, rule, rule_of, Program, Item, Empty, ExprStmt, Expression, Additive, Multiply, Unary, LeftHandSide, Member, Call, Primary, IdentifierReference}
+use Rattle.js_grammar.specs.Table.{Flags, Name, Symbol, rule, rule_of, at, Program, Item, Empty, ExprStmt, Expression, Additive, Multiply, Unary, LeftHandSide, Member, Call, Primary, IdentifierReference}
+pub use Rattle.js_grammar.specs.FirstSets.{first_of, first}
 use Rattle.js_grammar.proofs.Looks.{full, none, either, covers, covered}
-
-abbrev primary : Kind → Bool
-primary k = one_of_kinds (Ident ∷ Decimal ∷ LParen ∷ []) k
-
-abbrev unary : Kind → Bool
-unary k = primary k || one_of_kinds (Plus ∷ Minus ∷ []) k
-
-abbrev pub first_of : Name → Kind → Bool
-first_of Program k = true
-first_of Item k = unary k || same_kind Semicolon k
-first_of Empty k = same_kind Semicolon k
-first_of ExprStmt k = unary k
-first_of Expression k = unary k
-first_of Additive k = unary k
-first_of Multiply k = unary k
-first_of Unary k = unary k
-first_of LeftHandSide k = primary k
-first_of Member k = primary k
-first_of Call k = primary k
-first_of Primary k = primary k
-first_of IdentifierReference k = same_kind Ident k
-
--- whether a name with an escape may stand first
-abbrev escape_may : Kind → Name → Bool
-escape_may k Program = true
-escape_may k _ = same_kind Ident k
-
-abbrev pub first : Symbol → Look
-first s k w e = first_of s.name k && (not e || escape_may k s.name)
 
 -- what may stand first, where F stands after: a condition on flags is let go
 abbrev pub starts : Grammar Symbol → Look → Look
@@ -103,3 +72,9 @@ starting F (is_kept q) h = h
 
 pub begins : (s : Symbol) (t : Tree) {i j : ℕ} {ls rest : Lexemes} → Derives rule s t i ls j rest → IsTrue (seen (first s) (here ls))
 begins s t d = covered (starts (rule s) full) (first s) (claims s) _ _ _ (starting full d refl)
+
+-- A program that takes a lexeme begins with its first item.
+pub program_begins : (f : Flags) {ks ts us : Slots} {i j : ℕ} {ls rest : Lexemes} → Takes rule (rule (at Program f)) ks ts i ls us j rest → (ls ≡ rest) ⊎ IsTrue (seen (first (at Item f)) (here ls))
+unfolding rule rule_of
+program_begins f (is_node (is_many (is_left (is_seq (is_such {l = l} {cs = cs} d c) e)))) = inr (begins (at Item f) (record { label = l; slots = cs }) d)
+program_begins f (is_node (is_many (is_right is_nothing))) = inl refl

@@ -28,3 +28,10 @@ pub mod Lexemes
 pub mod Runs
 pub mod Instance
 pub mod Choices
+pub mod Same
+pub mod Check
+pub mod Matched
+pub mod LexChecks
+pub mod Statements
+pub mod Examples
+pub mod Omission

@@ -22,3 +22,7 @@ pub mod Lexed
 pub mod LexicalLaws
 pub mod CoreTexts
 pub mod LexicalFaults
+pub mod FirstSets
+pub mod Brackets
+pub mod Examples
+pub mod Laws

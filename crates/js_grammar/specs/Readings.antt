@@ -2,7 +2,7 @@
 use Rattle.std.specs.Prelude.{ℕ, ◌≡◌, ◌≤◌, Bool, true, false, List, [], length, All}
 use Rattle.js_base.specs.declared.diagnostic.Diagnostic.{Diagnostic}
 use Rattle.js_base.specs.declared.kind.Kind.TheVariants.{Eof}
-use Rattle.js_grammar.specs.Trees.{Tree}
+use Rattle.js_grammar.specs.Trees.{Slots, Tree, program, no_op}
 use Rattle.js_grammar.specs.Grammar.{Lexeme, Lexemes, last, Derives}
 use Rattle.js_grammar.specs.Table.{Program, rule, at, script_flags}
 use Rattle.js_grammar.specs.Lexing.{Lex, Lexes}
@@ -16,6 +16,13 @@ pub record IsReading (text : List ℕ) (t : Tree) : Type 0 where
   pub final : Lexeme
   pub is_end : final.kind ≡ Eof
   pub derived : Derives rule (at Program script_flags) t 0 lexemes end (last final)
+
+-- the tree of a script that is the whole text
+abbrev pub program_tree : List ℕ → Slots → Tree
+program_tree text cs = record { label = record { kind = program; op = no_op; flags = 0; span = record { from = 0; to = length text } }; slots = cs }
+
+abbrev pub HasNoReading : List ℕ → Type 0
+HasNoReading text = (t : Tree) → IsReading text t → ⊥
 
 -- a diagnostic's span lies in a text of so many bytes
 pub record IsInside (len : ℕ) (d : Diagnostic) : Type 0 where
@@ -35,7 +42,7 @@ pub record Refuses (text out : List ℕ) : Type 0 where
   pub some : found ≡ [] → ⊥
   pub inside : All (IsInside (length text)) found
   pub lines : out ≡ diagnostic_text found
-  pub none : (t : Tree) → IsReading text t → ⊥
+  pub none : HasNoReading text
 
 -- what is put out for a text: true, where it is refused
 abbrev pub Gives : List ℕ → Bool → List ℕ → Type 0

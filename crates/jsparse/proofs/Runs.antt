@@ -1,46 +1,208 @@
--- What the loops over bytes keep.
-use Rattle.std.proofs.Common.{ℕ, ◌≡◌, ◌+◌, ◌<◌, ◌≤◌, ◌⊎◌, inl, inr, Bool, true, false, List, length, refl, sym, ◌∙◌, ap, subst, arith}
-use Rattle.std.specs.Prelude.{slice_index}
-use Rattle.std.proofs.lemmas.Bool.{false≢true, cases_lt}
-use Rattle.js_grammar.specs.Lexing.{is_newline, is_trivia, Run, Gap}
+-- Steps of a run.
+use Rattle.std.proofs.Common.{refl, ◌<◌, ℕ, ◌≡◌, ◌+◌, ◌-◌, ◌≤◌, List, [], ◌++◌, Bool, true, false, Some, None, IfSome, ap, ◌∙◌, append-nil, ◌⊎◌, length, take, drop, Option, sym, subst, inl, inr, arith, length-append}
+use Rattle.std.proofs.lemmas.Bool.{cases_lt}
+use Rattle.std.proofs.lemmas.List.{take-append-drop}
+use Rattle.std.proofs.Math.Seq.{take-add}
+use Rattle.std.specs.Io.KnownBytes.{Consumes, Appends, Keeps, IsAtEnd}
+use Rattle.std.proofs.KnownBytes.{Appends-trans, Appends-kept, Consumes-trans, Consumes-kept}
+use Rattle.jsparse.specs.declared.status.Status.{Status}
+use Rattle.jsparse.specs.declared.status.Status.TheVariants.{Ok, Refused, Usage, ReadFault, WriteFault, NoMemory, NotUtf8, TooLong}
+use Rattle.jsparse.specs.Ends.{IsFault}
+use Rattle.std.specs.Str.{IsUtf8}
+use Rattle.js_grammar.specs.Readings.{Accepts, Refuses, Gives}
+use Rattle.js_grammar.specs.Settings.{Settings, Admitted}
+use Rattle.jsparse.specs.Runs.{limit, Gave, IsText, IsLong, ReadsUpTo, Told, HasCause, FitsWords, LeavesSink, LeavesSource, ComesBefore, IsAnswerTo}
+use Rattle.jsparse.specs.Steps.{Made, ReadPiece, ReadCause, StopCause, TookFront, PutCause}
 
--- all bytes from one place up to another pass the test
-pub record Passes (test : ℕ → Bool) (text : List ℕ) (i j : ℕ) : Type 0 where
-  pub ordered : i ≤ j
-  pub within : j ≤ length text
-  pub each : (k : ℕ) → i ≤ k → k < j → test (slice_index text k) ≡ true
+-- A fault of a part of a time is one of the whole.
+pub fault_later : (a b c d : ℕ) → a ≤ b → b ≤ c → c ≤ d → IsFault b c → IsFault a d
+fault_later a b c d p q r f = elim f [ inl lt ↦ inl (omega arith) | inr e ↦ elim (cases_lt a b) [ inl lt ↦ inl (omega arith) | inr ge ↦ inr (omega arith) ] ]
 
-pub none_yet : (test : ℕ → Bool) (text : List ℕ) (i : ℕ) → i ≤ length text → Passes test text i i
-none_yet test text i h = record { ordered = omega arith; within = h; each = λ k a b. absurd (omega arith) }
+pub takes_on : (a b c : Option (List ℕ)) (done n : ℕ) (out : List ℕ) → Appends a b (take done out) → Appends b c (take n (drop done out)) → Appends a c (take (done + n) out)
+takes_on a b c done n out p q = subst (Appends a c) (sym (take-add done n out)) (Appends-trans a b c _ _ p q)
 
-pub one_more : {test : ℕ → Bool} {text : List ℕ} {i j : ℕ} → Passes test text i j → j < length text → test (slice_index text j) ≡ true → Passes test text i (j + 1)
-one_more {test} {text} {i} {j} p w h = record { ordered = let a = p.ordered in omega arith; within = omega arith; each = λ k a b. more k a b (cases_lt k j) }
-  where
-    more : (k : ℕ) → i ≤ k → k < j + 1 → (k < j) ⊎ (j ≤ k) → test (slice_index text k) ≡ true
-    more k a b (inl c) = p.each k a c
-    more k a b (inr c) = let e : j ≡ k = omega arith in subst (λ v. test (slice_index text v) ≡ true) e h
+pub took_front : (a b c : Option (List ℕ)) (done : ℕ) (out : List ℕ) → Appends a b (take done out) → Keeps b c → TookFront a c out
+took_front a b c done out p q = record { front = take done out; rest = drop done out; parts = sym (take-append-drop done out); took = Appends-kept a b c _ p q }
 
-pub run_of : {test : ℕ → Bool} {text : List ℕ} {i j : ℕ} → Passes test text i j → (j < length text → test (slice_index text j) ≡ false) → Run test text i j
-run_of p s = record { ordered = p.ordered; within = p.within; passes = p.each; stops = s }
+pub reads_on : (a b c : Option (List ℕ)) (old new : List ℕ) (n : ℕ) → Consumes a b old → ReadPiece b c old new n → Consumes a c new
+reads_on a b c old new n p r = subst (Consumes a c) (sym r.put) (Consumes-trans a b c old r.piece p r.read)
 
--- and whether a line terminator is among them
-pub record Marks (text : List ℕ) (i j : ℕ) (marked : Bool) : Type 0 where
-  pub passes : Passes is_trivia text i j
-  pub newline : marked ≡ true → (k : ℕ) × (i ≤ k) × (k < j) × (is_newline (slice_index text k) ≡ true)
-  pub one_line : marked ≡ false → (k : ℕ) → i ≤ k → k < j → is_newline (slice_index text k) ≡ false
+pub reads_within : (a b c : Option (List ℕ)) (old : List ℕ) (most k : ℕ) → k ≡ length old → Consumes a b old → k ≤ most → ReadsUpTo (most - k) b c → ReadsUpTo most a c
+reads_within a b c old most k e p few r = let sum : length (old ++ r.bytes) ≡ length old + length r.bytes = length-append old r.bytes in record { bytes = old ++ r.bytes; read = Consumes-trans a b c old r.bytes p r.read; few = omega arith }
 
-pub no_mark : (text : List ℕ) (i : ℕ) → i ≤ length text → Marks text i i false
-no_mark text i h = record { passes = none_yet is_trivia text i h; newline = λ e. absurd (false≢true e); one_line = λ e k a b. absurd (omega arith) }
+pub cause_later : (status : Status) (given mid left : Option (List ℕ)) (old : List ℕ) (k a b c : ℕ) → k ≡ length old → k ≤ limit → Consumes given mid old → a ≤ b → b ≤ c → ReadCause status mid left b c → StopCause status given left a c
+cause_later Ok given mid left old k a b c e few read p q r = r
+cause_later Refused given mid left old k a b c e few read p q r = r
+cause_later Usage given mid left old k a b c e few read p q r = r
+cause_later ReadFault given mid left old k a b c e few read p q r =
+    let z : c ≤ c = omega arith in
+    let short : length old ≤ limit = omega arith in
+    record { fault = fault_later a b c c p q z r.0; reads = record { bytes = old; read = Consumes-kept given mid left old read r.1; few = short } }
+cause_later WriteFault given mid left old k a b c e few read p q r = r
+cause_later NoMemory given mid left old k a b c e few read p q r = r
+cause_later NotUtf8 given mid left old k a b c e few read p q r = absurd r
+cause_later TooLong given mid left old k a b c e few read p q r = absurd r
 
-pub marked_more : {text : List ℕ} {i j : ℕ} {m : Bool} → Marks text i j m → j < length text → is_trivia (slice_index text j) ≡ true → is_newline (slice_index text j) ≡ true → Marks text i (j + 1) true
-marked_more {text} {i} {j} s w h n = record { passes = one_more s.passes w h; newline = λ e. (j, s.passes.ordered, omega arith, n); one_line = λ e. absurd (false≢true (sym e)) }
+-- ---- from the steps of a run to its clauses
 
-pub plain_more : {text : List ℕ} {i j : ℕ} {m : Bool} → Marks text i j m → j < length text → is_trivia (slice_index text j) ≡ true → is_newline (slice_index text j) ≡ false → Marks text i (j + 1) m
-plain_more {text} {i} {j} {m} s w h n = record { passes = one_more s.passes w h; newline = λ e. let x = s.newline e in (x.0, x.1, (let y = x.2 in omega arith), x.3); one_line = λ e k a b. more e k a b (cases_lt k j) }
-  where
-    more : m ≡ false → (k : ℕ) → i ≤ k → k < j + 1 → (k < j) ⊎ (j ≤ k) → is_newline (slice_index text k) ≡ false
-    more e k a b (inl c) = s.one_line e k a c
-    more e k a b (inr c) = let q : j ≡ k = omega arith in subst (λ v. is_newline (slice_index text v) ≡ false) q n
+pub stop_has_cause : (status : Status) (t : Told) → StopCause status t.given t.left t.read_faults t.read_faults_after → HasCause status t
+stop_has_cause Ok t h = absurd h
+stop_has_cause Refused t h = absurd h
+stop_has_cause Usage t h = absurd h
+stop_has_cause ReadFault t h = h
+stop_has_cause WriteFault t h = absurd h
+stop_has_cause NoMemory t h = tt
+stop_has_cause NotUtf8 t h = h
+stop_has_cause TooLong t h = h
 
-pub gap_of : {text : List ℕ} {i j : ℕ} {m : Bool} → Marks text i j m → (j < length text → is_trivia (slice_index text j) ≡ false) → Gap text i j m
-gap_of s e = record { run = run_of s.passes e; newline = s.newline; one_line = s.one_line }
+pub put_has_cause : (status : Status) (refused : Bool) (out : List ℕ) (t : Told) → Made t.given t.left refused out → PutCause status refused out t.before t.after t.write_faults t.write_faults_after → HasCause status t
+put_has_cause Ok refused out t m h = record { text = m.text; out = out; gave = m.gave; is_text = m.is_text; puts = subst (λ (r : Bool). Gives m.text r out) h.0 m.gives; written = h.1 }
+put_has_cause Refused refused out t m h = record { text = m.text; out = out; gave = m.gave; is_text = m.is_text; puts = subst (λ (r : Bool). Gives m.text r out) h.0 m.gives; written = h.1 }
+put_has_cause Usage refused out t m h = absurd h
+put_has_cause ReadFault refused out t m h = absurd h
+put_has_cause WriteFault refused out t m h =
+    let gives : (r : Bool) → Gives m.text r out → Accepts m.text (h.0.front ++ h.0.rest) ⊎ Refuses m.text (h.0.front ++ h.0.rest) = λ r. elim r as (λ r. Gives m.text r out → Accepts m.text (h.0.front ++ h.0.rest) ⊎ Refuses m.text (h.0.front ++ h.0.rest)) [ true ↦ λ g. inr (subst (Refuses m.text) h.0.parts g) | false ↦ λ g. inl (subst (Accepts m.text) h.0.parts g) ] in
+    record { text = m.text; front = h.0.front; rest = h.0.rest; gave = m.gave; is_text = m.is_text; puts = gives refused m.gives; written = h.0.took; fault = h.1 }
+put_has_cause NoMemory refused out t m h = absurd h
+put_has_cause NotUtf8 refused out t m h = absurd h
+put_has_cause TooLong refused out t m h = absurd h
+
+gave_some : (left : Option (List ℕ)) (all text : List ℕ) → Consumes (Some all) left text → IsAtEnd left → (text ≡ all) × (left ≡ Some [])
+gave_some None all text r e = absurd r
+gave_some (Some ys) all text r e = (sym (r ∙ ap (λ l. text ++ l) e ∙ append-nil text), ap Some e)
+
+-- A source that told its bytes gave just these.
+pub gave_all : (given left : Option (List ℕ)) (all text : List ℕ) → given ≡ Some all → Gave given left text → (text ≡ all) × (left ≡ Some [])
+gave_all given left all text e g =
+    let read : Consumes (Some all) left text = subst (λ (o : Option (List ℕ)). Consumes o left text) e g.read in gave_some left all text read g.ended
+
+no_more : (left : Option (List ℕ)) (all bytes : List ℕ) → Consumes (Some all) left bytes → length bytes ≤ length all
+no_more None all bytes r = absurd r
+no_more (Some ys) all bytes r = let sum : length (bytes ++ ys) ≡ length bytes + length ys = length-append bytes ys in let same : length all ≡ length (bytes ++ ys) = ap length r in omega arith
+
+not_long : (t : Told) (bytes : List ℕ) → t.given ≡ Some bytes → IsLong t.given t.left → length bytes ≤ limit → ⊥
+not_long t bytes e h short =
+    let read : Consumes (Some bytes) t.left h.bytes = subst (λ (o : Option (List ℕ)). Consumes o t.left h.bytes) e h.read in
+    let more : length h.bytes ≤ length bytes = no_more t.left bytes h.bytes read in
+    let long = h.long in
+    omega arith
+
+answer_to_text : (status : Status) (words : List (List ℕ)) (t : Told) (text : List ℕ) (s : Settings) → t.given ≡ Some text → IsText text → Admitted words s → FitsWords status words → HasCause status t → IsAnswerTo text t status
+answer_to_text Ok words t text s e is a f h = let g = gave_all _ _ text h.text e h.gave in (h.out, subst (λ (x : List ℕ). Accepts x h.out) g.0 h.puts, h.written, g.1)
+answer_to_text Refused words t text s e is a f h = let g = gave_all _ _ text h.text e h.gave in (h.out, subst (λ (x : List ℕ). Refuses x h.out) g.0 h.puts, h.written, g.1)
+answer_to_text Usage words t text s e is a f h = f s a
+answer_to_text ReadFault words t text s e is a f h = h.fault
+answer_to_text WriteFault words t text s e is a f h = let g = gave_all _ _ text h.text e h.gave in (h.front, h.rest, subst (λ (x : List ℕ). Accepts x (h.front ++ h.rest) ⊎ Refuses x (h.front ++ h.rest)) g.0 h.puts, h.written, g.1, h.fault)
+answer_to_text NoMemory words t text s e is a f h = tt
+answer_to_text NotUtf8 words t text s e is a f h = let g = gave_all _ _ text h.bytes e h.gave in h.not_utf8 (subst IsUtf8 (sym g.0) is.utf8)
+answer_to_text TooLong words t text s e is a f h = not_long t text e h is.short
+
+-- what a run answers to a text that the source tells, or may not tell
+pub answer_if_told : (status : Status) (words : List (List ℕ)) (t : Told) (given : Option (List ℕ)) → t.given ≡ given → FitsWords status words → HasCause status t → IfSome given (λ text. IsText text → (s : Settings) → Admitted words s → IsAnswerTo text t status)
+answer_if_told status words t None e f h = tt
+answer_if_told status words t (Some text) e f h = λ is s a. answer_to_text status words t text s e is a f h
+
+-- ---- what else the steps of a run tell
+
+pub put_fits_words : (status : Status) (words : List (List ℕ)) (refused : Bool) (out : List ℕ) (a b : Option (List ℕ)) (f g : ℕ) → PutCause status refused out a b f g → ((s : Settings) × Admitted words s) → FitsWords status words
+put_fits_words Ok words refused out a b f g h some = some
+put_fits_words Refused words refused out a b f g h some = some
+put_fits_words Usage words refused out a b f g h some = absurd h
+put_fits_words ReadFault words refused out a b f g h some = some
+put_fits_words WriteFault words refused out a b f g h some = some
+put_fits_words NoMemory words refused out a b f g h some = some
+put_fits_words NotUtf8 words refused out a b f g h some = some
+put_fits_words TooLong words refused out a b f g h some = some
+
+pub put_leaves_sink : {K : Type 0} (status : Status) (refused : Bool) (out : List ℕ) (a b : Option (List ℕ)) (f g : ℕ) (old new : K) → PutCause status refused out a b f g → LeavesSink status old new
+put_leaves_sink Ok refused out a b f g old new h = tt
+put_leaves_sink Refused refused out a b f g old new h = tt
+put_leaves_sink Usage refused out a b f g old new h = absurd h
+put_leaves_sink ReadFault refused out a b f g old new h = absurd h
+put_leaves_sink WriteFault refused out a b f g old new h = tt
+put_leaves_sink NoMemory refused out a b f g old new h = absurd h
+put_leaves_sink NotUtf8 refused out a b f g old new h = absurd h
+put_leaves_sink TooLong refused out a b f g old new h = absurd h
+
+pub put_leaves_source : {S : Type 0} (status : Status) (refused : Bool) (out : List ℕ) (a b : Option (List ℕ)) (f g : ℕ) (old new : S) → PutCause status refused out a b f g → LeavesSource status old new
+put_leaves_source Ok refused out a b f g old new h = tt
+put_leaves_source Refused refused out a b f g old new h = tt
+put_leaves_source Usage refused out a b f g old new h = absurd h
+put_leaves_source ReadFault refused out a b f g old new h = tt
+put_leaves_source WriteFault refused out a b f g old new h = tt
+put_leaves_source NoMemory refused out a b f g old new h = tt
+put_leaves_source NotUtf8 refused out a b f g old new h = tt
+put_leaves_source TooLong refused out a b f g old new h = tt
+
+pub stop_fits_words : (status : Status) (words : List (List ℕ)) (a b : Option (List ℕ)) (f g : ℕ) → StopCause status a b f g → ((s : Settings) × Admitted words s) → FitsWords status words
+stop_fits_words Ok words a b f g h some = some
+stop_fits_words Refused words a b f g h some = some
+stop_fits_words Usage words a b f g h some = absurd h
+stop_fits_words ReadFault words a b f g h some = some
+stop_fits_words WriteFault words a b f g h some = some
+stop_fits_words NoMemory words a b f g h some = some
+stop_fits_words NotUtf8 words a b f g h some = some
+stop_fits_words TooLong words a b f g h some = some
+
+pub stop_leaves_sink : {K : Type 0} (status : Status) (x : K) → LeavesSink status x x
+stop_leaves_sink Ok x = tt
+stop_leaves_sink Refused x = tt
+stop_leaves_sink Usage x = refl
+stop_leaves_sink ReadFault x = refl
+stop_leaves_sink WriteFault x = tt
+stop_leaves_sink NoMemory x = refl
+stop_leaves_sink NotUtf8 x = refl
+stop_leaves_sink TooLong x = refl
+
+pub stop_leaves_source : {S : Type 0} (status : Status) (a b : Option (List ℕ)) (f g : ℕ) (old new : S) → StopCause status a b f g → LeavesSource status old new
+stop_leaves_source Ok a b f g old new h = tt
+stop_leaves_source Refused a b f g old new h = tt
+stop_leaves_source Usage a b f g old new h = absurd h
+stop_leaves_source ReadFault a b f g old new h = tt
+stop_leaves_source WriteFault a b f g old new h = tt
+stop_leaves_source NoMemory a b f g old new h = tt
+stop_leaves_source NotUtf8 a b f g old new h = tt
+stop_leaves_source TooLong a b f g old new h = tt
+
+-- ---- bytes that are no text
+
+pub long_or_before : (status : Status) (t : Told) (bytes : List ℕ) → t.given ≡ Some bytes → HasCause status t → limit < length bytes → (status ≡ TooLong) ⊎ ComesBefore status
+long_or_before Ok t bytes e h long = let same : length h.text ≡ length bytes = ap length (gave_all _ _ bytes h.text e h.gave).0 in let short : length h.text ≤ limit = h.is_text.short in absurd (omega arith)
+long_or_before Refused t bytes e h long = let same : length h.text ≡ length bytes = ap length (gave_all _ _ bytes h.text e h.gave).0 in let short : length h.text ≤ limit = h.is_text.short in absurd (omega arith)
+long_or_before Usage t bytes e h long = inr tt
+long_or_before ReadFault t bytes e h long = inr tt
+long_or_before WriteFault t bytes e h long = let same : length h.text ≡ length bytes = ap length (gave_all _ _ bytes h.text e h.gave).0 in let short : length h.text ≤ limit = h.is_text.short in absurd (omega arith)
+long_or_before NoMemory t bytes e h long = inr tt
+long_or_before NotUtf8 t bytes e h long = let same : length h.bytes ≡ length bytes = ap length (gave_all _ _ bytes h.bytes e h.gave).0 in let short : length h.bytes ≤ limit = h.short in absurd (omega arith)
+long_or_before TooLong t bytes e h long = inl refl
+
+pub no_text_or_before : (status : Status) (t : Told) (bytes : List ℕ) → t.given ≡ Some bytes → HasCause status t → length bytes ≤ limit → (IsUtf8 bytes → ⊥) → (status ≡ NotUtf8) ⊎ ComesBefore status
+no_text_or_before Ok t bytes e h short bad = absurd (bad (subst IsUtf8 (gave_all _ _ bytes h.text e h.gave).0 h.is_text.utf8))
+no_text_or_before Refused t bytes e h short bad = absurd (bad (subst IsUtf8 (gave_all _ _ bytes h.text e h.gave).0 h.is_text.utf8))
+no_text_or_before Usage t bytes e h short bad = inr tt
+no_text_or_before ReadFault t bytes e h short bad = inr tt
+no_text_or_before WriteFault t bytes e h short bad = absurd (bad (subst IsUtf8 (gave_all _ _ bytes h.text e h.gave).0 h.is_text.utf8))
+no_text_or_before NoMemory t bytes e h short bad = inr tt
+no_text_or_before NotUtf8 t bytes e h short bad = inl refl
+no_text_or_before TooLong t bytes e h short bad = absurd (not_long t bytes e h short)
+
+pub long_if_told : (status : Status) (t : Told) (given : Option (List ℕ)) → t.given ≡ given → HasCause status t → IfSome given (λ bytes. limit < length bytes → (status ≡ TooLong) ⊎ ComesBefore status)
+long_if_told status t None e h = tt
+long_if_told status t (Some bytes) e h = long_or_before status t bytes e h
+
+pub no_text_if_told : (status : Status) (t : Told) (given : Option (List ℕ)) → t.given ≡ given → HasCause status t → IfSome given (λ bytes. length bytes ≤ limit → (IsUtf8 bytes → ⊥) → (status ≡ NotUtf8) ⊎ ComesBefore status)
+no_text_if_told status t None e h = tt
+no_text_if_told status t (Some bytes) e h = no_text_or_before status t bytes e h
+
+no_fault : (a b : ℕ) → a ≡ 0 → b ≡ 0 → IsFault a b → ⊥
+no_fault a b p q f = elim f [ inl lt ↦ omega arith | inr e ↦ omega arith ]
+
+pub no_read_fault : (status : Status) (t : Told) → t.read_faults ≡ 0 → t.read_faults_after ≡ 0 → HasCause status t → status ≡ ReadFault → ⊥
+no_read_fault Ok t p q h e = cc
+no_read_fault Refused t p q h e = cc
+no_read_fault Usage t p q h e = cc
+no_read_fault ReadFault t p q h e = no_fault t.read_faults t.read_faults_after p q h.fault
+no_read_fault WriteFault t p q h e = cc
+no_read_fault NoMemory t p q h e = cc
+no_read_fault NotUtf8 t p q h e = cc
+no_read_fault TooLong t p q h e = cc

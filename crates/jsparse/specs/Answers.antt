@@ -1,13 +1,14 @@
 -- What the parse functions answer: which nonterminal was read, by which node; or that nothing is derived.
 use Rattle.std.specs.Prelude.{ℕ, ◌≡◌, ◌<◌, ◌≤◌, Bool, true, false, IsTrue, List, length, Option, Result, Ok, Err}
 use Rattle.js_base.specs.declared.kind.Kind.{Kind}
-use Rattle.js_base.specs.declared.kind.Kind.TheVariants.{Semicolon}
-use Rattle.js_grammar.specs.Trees.{Slots, end as no_slots, tree, Label, append}
+use Rattle.js_base.specs.declared.kind.Kind.TheVariants.{Semicolon, Eof}
+use Rattle.js_grammar.specs.Trees.{Slots, end as no_slots, tree, Label, append, Tree}
 use Rattle.js_grammar.specs.Grammar.{Lexeme, Look, seen, such}
 use Rattle.js_grammar.specs.Table.{G, Symbol, always}
 use Rattle.js_grammar.specs.Lexing.{Lex}
 use Rattle.js_grammar.specs.Levels.{full, follow}
 use Rattle.js_grammar.specs.Parsing.{Reads, Fails}
+use Rattle.js_grammar.specs.Readings.{IsReading, program_tree}
 use Rattle.jsparse.specs.declared.cursor.Cursor.{Cursor}
 use Rattle.jsparse.specs.declared.cursor.Stop.{Stop}
 use Rattle.jsparse.specs.declared.cursor.Stop.TheVariants.{Fatal, NoMemory}
@@ -73,3 +74,22 @@ pub record NumberedPart (text : List ℕ) (F : Look) (g : G) (old new : Cursor) 
 -- the part can't be read
 abbrev pub PartStops : List ℕ → G → Cursor → Cursor → Stop → Type 0
 PartStops text g old new e = Stops text new e (Fails (Lex text) full no_slots g old.prev_token_end)
+
+-- A statement's semicolon stands here, or is left out: before the end, or before a lexeme on a new line.
+pub data Ended (text : List ℕ) (old new : Cursor) : Type 0 where
+  by_semicolon : old.token.kind ≡ Semicolon → Passed text old new → Ended text old new
+  before_the_end : old.token.kind ≡ Eof → new ≡ old → Ended text old new
+  before_a_line : (old.token.kind ≡ Semicolon → ⊥) → old.token.is_on_new_line ≡ true → new ≡ old → Ended text old new
+
+-- It neither stands here nor may be left out.
+pub record NotEnded (old : Cursor) : Type 0 where
+  pub no_semicolon : old.token.kind ≡ Semicolon → ⊥
+  pub no_end : old.token.kind ≡ Eof → ⊥
+  pub no_line : old.token.is_on_new_line ≡ false
+
+-- The whole text was read as a program of these statements, and in no other way.
+pub record ProgramRead (text : List ℕ) (ns : List Node) (ids : List (Option NodeId)) : Type 0 where
+  pub slots : Slots
+  pub holds : HoldsAll ns 1 (length ns) ids slots
+  pub reading : IsReading text (program_tree text slots)
+  pub only : (t : Tree) → IsReading text t → t ≡ program_tree text slots

@@ -1,4 +1,10 @@
-pub mod Holding
-pub mod Walking
-pub mod Tokens
 pub mod Answers
+pub mod Ends
+pub mod Holding
+pub mod Parsed
+pub mod Runs
+pub mod Statuses
+pub mod Steps
+pub mod Tokens
+pub mod Walking
+pub mod Words

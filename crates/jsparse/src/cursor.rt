@@ -1,9 +1,9 @@
 //! The current lexeme of a text, and the moves over it.
 
-ghost use Rattle.std.specs.Prelude.{◌≡◌, ◌≢◌, ◌≤◌, length};
+ghost use Rattle.std.specs.Prelude.{◌≡◌, ◌≢◌, ◌≤◌, length, MatchResult};
 ghost use Rattle.js_base.specs.declared.kind.Kind.TheVariants.{Eof};
 ghost use Rattle.jsparse.specs.Tokens.{Tells};
-ghost use Rattle.jsparse.specs.Answers.{At, Passed, Expects};
+ghost use Rattle.jsparse.specs.Answers.{At, Passed, Expects, Ended, NotEnded, Stops};
 ghost use Rattle.jsparse.specs.declared.cursor.Stop.TheVariants.{NoMemory as no_memory};
 
 use crate::lexer::token_at;
@@ -78,4 +78,23 @@ pub fn expect(text: &[u8], p: &mut Cursor, kind: Kind) -> Result<(), Stop>
     }
     bump(text, p);
     Ok(())
+}
+
+/// Takes a semicolon, or nothing where it may be left out: before the end of the text, or a lexeme on a new line (12.10).
+/// `Fatal` exactly where neither holds.
+pub fn asi(text: &[u8], p: &mut Cursor) -> Result<(), Stop>
+    requires { At text.now p.old }
+    ensures { MatchResult result (λ _. Ended text.now p.old p.new) (λ e. Stops text.now p.new e (NotEnded p.old)) }
+{
+    if is_at(p, Kind::Semicolon) {
+        bump(text, p);
+        return Ok(());
+    }
+    if is_at(p, Kind::Eof) {
+        return Ok(());
+    }
+    if p.token.is_on_new_line() {
+        return Ok(());
+    }
+    Err(Stop::Fatal)
 }

@@ -13,7 +13,7 @@ use js_base::{Kind, NoMemory, Span};
 use std::alloc::Global;
 
 /// The list of one child.
-fn one_child(alloc: Global, child: NodeId) -> Result<Vec<Option<NodeId>>, NoMemory>
+pub fn one_child(alloc: Global, child: NodeId) -> Result<Vec<Option<NodeId>>, NoMemory>
     ensures { IfOk result (λ v. v.items ≡ Some child ∷ []) }
 {
     let mut children = Vec::new(alloc);

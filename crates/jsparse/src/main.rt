@@ -1,11 +1,49 @@
 //! The program `jsparse`: a JavaScript parser whose answers are proved.
 #![tactic(auto)]
 
+mod answer;
 mod cursor;
+mod ends;
 mod expression;
+mod failing;
 mod kind_text;
+mod laws;
 mod lexer;
 mod lines;
+mod parser;
+mod room;
+mod run;
+mod standard;
+mod statement;
+mod status;
+mod steady;
+#[cfg(test)]
+mod tests;
 mod tree;
+mod words;
 
-fn main() {}
+use crate::standard::{StdinSource, StdoutSink};
+use crate::status::Status;
+use std::process::ExitCode;
+use std::rt::Env;
+use std::{env, io};
+
+/// The words after the program's name.
+fn program_words<R: Env + AllocGlobal>(rt: &R) -> io::Result<Vec<String>> {
+    let mut words = env::args(rt)?;
+    let _ = words.next();
+    Ok(words.collect(rt.alloc())?)
+}
+
+fn main(rt: HostRuntime) -> ExitCode {
+    let status = match program_words(&rt) {
+        Ok(words) => {
+            let mut source = StdinSource::new(rt.stdin());
+            let mut sink = StdoutSink::new(rt.stdout());
+            run::run(rt.alloc(), &words, &mut source, &mut sink)
+        }
+        Err(e) if e.kind() == io::ErrorKind::OutOfMemory => Status::NoMemory,
+        Err(_) => Status::Usage,
+    };
+    ExitCode::from(status.code())
+}

@@ -1,4 +1,3 @@
-use Rattle.std.proofs.Common.{◌≡◌, ◌∙◌}
 use Rattle.js_base.proofs.KeywordLemmas.{keyword_of-some, keyword_of-none}
 use Rattle.js_base.proofs.keyword.keyword_kind.Goals as goal
 

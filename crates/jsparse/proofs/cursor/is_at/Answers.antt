@@ -1,6 +1,3 @@
-use Rattle.jsparse.proofs.Operations.{operand_init}
-use Rattle.jsparse.proofs.Phrases.{memory}
-use Rattle.jsparse.proofs.NodeLemmas.{leaf_held}
 use Rattle.jsparse.proofs.SameKind.{told}
 use Rattle.jsparse.proofs.cursor.is_at.Goals as goal
 

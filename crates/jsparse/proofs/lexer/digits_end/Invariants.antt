@@ -1,6 +1,6 @@
 use Rattle.std.proofs.Common.{length, ◌-◌}
 use Rattle.js_grammar.specs.Lexing.{is_digit}
-use Rattle.jsparse.proofs.Runs.{Passes}
+use Rattle.jsparse.proofs.ByteRuns.{Passes}
 use Rattle.jsparse.proofs.lexer.digits_end.Given as goal
 
 abbrev pub invariant-digits : goal.invariant-digits

@@ -1,6 +1,6 @@
 use Rattle.std.proofs.Common.{length, ◌-◌}
 use Rattle.js_grammar.specs.Lexing.{is_name_part}
-use Rattle.jsparse.proofs.Runs.{Passes}
+use Rattle.jsparse.proofs.ByteRuns.{Passes}
 use Rattle.jsparse.proofs.lexer.name_end.Given as goal
 
 abbrev pub invariant-name : goal.invariant-name

@@ -1,5 +1,5 @@
 use Rattle.std.proofs.Common.{length, ◌-◌}
-use Rattle.jsparse.proofs.Runs.{Marks}
+use Rattle.jsparse.proofs.ByteRuns.{Marks}
 use Rattle.jsparse.proofs.lexer.trivia_at.Given as goal
 
 abbrev pub invariant-trivia : goal.invariant-trivia

@@ -1,0 +1,5 @@
+use Rattle.js_grammar.proofs.First.{program_begins}
+use Rattle.js_grammar.proofs.laws.law_program_begins.Goals as goal
+
+pub returns : goal.returns
+returns c = λ f t i j ls rest d. program_begins f d

@@ -1,0 +1,203 @@
+-- Statements and their semicolons, and whole scripts.
+use Rattle.std.proofs.Common.{ℕ, ◌≡◌, ◌<◌, ◌≤◌, ◌+◌, max, ◌⊎◌, inl, inr, List, [], ◌∷◌, ◌++◌, length, Bool, true, false, not, ◌&&◌, ◌||◌, IsTrue, Option, Some, None, refl, sym, ap, subst, arith, ◌∙◌}
+use Rattle.std.specs.Prelude.{Result, Ok, Err}
+use Rattle.std.proofs.lemmas.Bool.{false≢true, and_from, and_parts}
+use Rattle.js_base.specs.declared.kind.Kind.{Kind}
+use Rattle.js_base.specs.declared.kind.Kind.TheVariants.{Ident, Decimal, Semicolon, Eof, Undetermined, LParen, RParen, Plus, Minus, Star}
+use Rattle.js_base.specs.Kinds.{same_kind, one_of_kinds}
+use Rattle.js_base.proofs.KindLemmas.{kind_of_same}
+use Rattle.js_grammar.specs.Trees.{Slots, end, hole, tree, append, Label, Op, no_op, Tree, program, empty_statement, expression_statement}
+use Rattle.js_grammar.specs.Grammar.{Lexeme, Lexemes, last, here, Look, seen, is, may_omit, semicolon, such, seq, alt, many, nothing, look, lexeme, ended, is_nothing, is_such, label_of, Make, whole_text}
+use Rattle.js_grammar.specs.Insertion.{continues, after_expression}
+use Rattle.js_grammar.specs.Table.{G, Symbol, rule, rule_of, at, always, script_flags, sym as symbol, tok, Program, Item, Empty, ExprStmt, Expression}
+use Rattle.js_grammar.specs.Lexing.{Lex, Lexes, first_punctuators, a_name, a_number, a_punctuator, the_end}
+use Rattle.js_grammar.specs.Levels.{full, looser, follow}
+use Rattle.js_grammar.specs.Parsing.{T, Goes, Reads, Fails}
+use Rattle.js_grammar.specs.Readings.{IsReading, program_tree, HasNoReading}
+use Rattle.js_grammar.proofs.Looks.{covers, covered, differ}
+use Rattle.js_grammar.proofs.First.{starts}
+use Rattle.js_grammar.proofs.Lexemes.{six, placed}
+use Rattle.js_grammar.proofs.Calculus.{here_at, ◌▹◌, ◌▹✗◌, stay, left, right, more_of, then, looks, ends_by, fails_ended, fails_alt, fails_here, fails_part, fails_rule, fails_node, makes, label_is, slots_are, ends}
+use Rattle.jsparse.specs.declared.cursor.Cursor.{Cursor}
+use Rattle.jsparse.specs.declared.tree.Node.{Node}
+use Rattle.jsparse.specs.declared.tree.NodeId.{NodeId}
+use Rattle.jsparse.specs.Holding.{HoldsAll, no_ids, Keeps}
+use Rattle.jsparse.specs.Answers.{At, Passed, Answer, Numbered, Ended, by_semicolon, before_the_end, before_a_line, NotEnded, ProgramRead}
+use Rattle.jsparse.proofs.Nodes.{HoldsAll-next}
+use Rattle.jsparse.proofs.Paths.{kind_here, not_here, at_kind, fails_at, passes, Path, ◌⟶◌, ◌⟼◌, ◌⟝◌, last_token, last_called, label_here, noded, by_symbol}
+use Rattle.jsparse.proofs.Phrases.{by_path, held_by}
+use Rattle.jsparse.proofs.States.{Held}
+
+is_semicolon : Semicolon ≡ Undetermined → ⊥
+is_semicolon e = differ Semicolon Undetermined refl e
+
+-- the kinds of the first language
+abbrev small_kinds : List Kind
+small_kinds = Ident ∷ Decimal ∷ Eof ∷ LParen ∷ RParen ∷ Semicolon ∷ Plus ∷ Minus ∷ Star ∷ []
+
+small : {text : List ℕ} {s : ℕ} {y : Lexeme} → Lex text s y → one_of_kinds small_kinds y.kind ≡ true
+small (a_name g n) = refl
+small (a_number g n) = refl
+small (a_punctuator {k = k} g p) = six (λ v. one_of_kinds small_kinds v ≡ true) k p.one_of refl refl refl refl refl refl
+small (the_end g e) = refl
+
+-- a lexeme on a new line that binds nothing, and is no semicolon
+abbrev on_a_line : Look
+on_a_line k w e = one_of_kinds small_kinds k && (looser 1 k w e && (w && not (same_kind Semicolon k)))
+
+abbrev no_omission : Look
+no_omission k w e = one_of_kinds (Eof ∷ []) k || (not (one_of_kinds small_kinds k) || w)
+
+module _ {text : List ℕ} where
+  empty_path : {p q : Cursor} → At text p → p.token.kind ≡ Semicolon → Passed text p q → Path text full (symbol Empty script_flags) p nothing q (tree (label_here empty_statement no_op p q) end)
+  unfolding rule rule_of covers
+  empty_path a e s = by_symbol (noded a (last_token Semicolon a e is_semicolon s))
+
+  pub empty_answers : {p q : Cursor} {ns ms : List Node} {id : NodeId} → At text p → p.token.kind ≡ Semicolon → Passed text p q → Held (label_here empty_statement no_op p q) end ns ms id → Numbered text (at Item script_flags) p q ns ms id
+  unfolding rule rule_of covers
+  empty_answers a e s h = by_path (at_kind a Semicolon e ⟼ empty_path a e s) (λ y l. refl) h
+
+  -- an expression up to its semicolon
+  to_semicolon : {p q : Cursor} → (x : Answer text (at Expression script_flags) p q) → Path text full (ended after_expression (symbol Expression script_flags)) p (semicolon (continues false)) q (tree x.label x.slots)
+  unfolding covers
+  to_semicolon x = record { at = x.at; further = x.further; reach = x.reach; near = x.near; goes = ends_by x.reads (λ us. refl) (λ y l. refl) (λ cs j ls mid l d h. covered (starts (semicolon (continues false)) full) (follow Expression) refl _ _ _ h) }
+
+  -- the rule of the last lexeme and the next one
+  omitted : {q : Cursor} → At text q → ((y : Lexeme) → Lex text q.prev_token_end y → IsTrue (seen (may_omit (continues false)) y)) → Goes (Lex text) full end (look (may_omit (continues false))) q.prev_token_end nothing q.prev_token_end (λ us. us) 0
+  omitted a h = looks (may_omit (continues false)) h
+
+  at_the_end : {q : Cursor} → At text q → q.token.kind ≡ Eof → (y : Lexeme) → Lex text q.prev_token_end y → IsTrue (seen (may_omit (continues false)) y)
+  at_the_end a e y l = subst (λ v. may_omit (continues false) v y.newline y.escaped ≡ true) (sym (kind_here a e y l)) refl
+
+  at_a_line : {q : Cursor} → At text q → ((y : Lexeme) → Lex text q.prev_token_end y → IsTrue (seen (follow Expression) y)) → (q.token.kind ≡ Semicolon → ⊥) → q.token.is_on_new_line ≡ true → (y : Lexeme) → Lex text q.prev_token_end y → IsTrue (seen (may_omit (continues false)) y)
+  unfolding covers
+  at_a_line a f n w y l = covered on_a_line (may_omit (continues false)) refl y.kind y.newline y.escaped (and_from _ _ (small l) (and_from _ _ (f y l) (and_from _ _ ((a.is y l).newline ∙ w) (not_same (same_kind Semicolon y.kind) refl))))
+    where
+      not_same : (b : Bool) → same_kind Semicolon y.kind ≡ b → not b ≡ true
+      not_same true e = absurd (n (sym (kind_of_same Semicolon y.kind e ∙ (a.is y l).kind)))
+      not_same false e = refl
+
+  ended_path : {p q r : Cursor} → (x : Answer text (at Expression script_flags) p q) → Ended text q r → Path text full (ended after_expression (symbol Expression script_flags)) p nothing r (tree x.label x.slots)
+  unfolding covers
+  ended_path x (by_semicolon e s) = to_semicolon x ⟶ (at_kind x.at Semicolon e ⟼ last_token Semicolon x.at e is_semicolon s)
+  ended_path {p} {q} x (before_the_end e z) = subst (λ v. Path text full (ended after_expression (symbol Expression script_flags)) p nothing v (tree x.label x.slots)) (sym z) (to_semicolon x ⟝ (at_kind x.at Eof e ▹ omitted x.at (at_the_end x.at e)))
+  ended_path {p} {q} x (before_a_line n w z) = subst (λ v. Path text full (ended after_expression (symbol Expression script_flags)) p nothing v (tree x.label x.slots)) (sym z) (to_semicolon x ⟝ (right (fails_at x.at (lexeme (is Semicolon)) (Semicolon ∷ []) refl (n, tt)) ▹ omitted x.at (at_a_line x.at x.stops n w)))
+
+  statement_path : {p q r : Cursor} → At text p → (x : Answer text (at Expression script_flags) p q) → Ended text q r → Path text full (symbol ExprStmt script_flags) p nothing r (tree (label_here expression_statement no_op p r) (tree x.label x.slots end))
+  unfolding rule rule_of covers
+  statement_path a x e = by_symbol (noded a (ended_path x e))
+
+  pub statement_answers : {p q r : Cursor} {ns ms os : List Node} {child id : NodeId} → At text p → (p.token.kind ≡ Semicolon → ⊥) → (x : Numbered text (at Expression script_flags) p q ns ms child) → Ended text q r → Held (label_here expression_statement no_op p r) (tree x.answer.label x.answer.slots end) ns os id → Numbered text (at Item script_flags) p r ns os id
+  unfolding rule rule_of covers
+  statement_answers a n x e h = by_path (left (fails_at a (symbol Empty script_flags) (Semicolon ∷ []) refl (n, tt)) ⟼ statement_path a x.answer e) (λ y l. refl) h
+
+  pub statement_fails : {p : Cursor} → At text p → (p.token.kind ≡ Semicolon → ⊥) → Fails (Lex text) (follow Expression) end (symbol Expression script_flags) p.prev_token_end → Fails (Lex text) (follow Item) end (symbol Item script_flags) p.prev_token_end
+  unfolding rule rule_of covers
+  statement_fails a n x = fails_rule (left (fails_at a (symbol Empty script_flags) (Semicolon ∷ []) refl (n, tt)) ▹✗ fails_rule (fails_node (fails_ended x (λ cs j ls mid l d h. covered (starts (semicolon (continues false)) full) (follow Expression) refl _ _ _ h))))
+
+  -- no semicolon stands here, and none may be left out
+  none_here : {q : Cursor} → At text q → NotEnded q → Fails (Lex text) full end (semicolon (continues false)) q.prev_token_end
+  unfolding covers
+  none_here {q} a n = fails_alt (fails_at a (lexeme (is Semicolon)) (Semicolon ∷ []) refl (n.no_semicolon, tt)) (fails_here (λ y l h. not_omitted y l (or_else (one_of_kinds (Eof ∷ []) y.kind) (one_of_kinds small_kinds y.kind) y.newline (covered (may_omit (continues false)) no_omission refl y.kind y.newline y.escaped (and_parts _ _ h).0) (small l))))
+    where
+      or_else : (b c d : Bool) → (b || (not c || d)) ≡ true → c ≡ true → (b ≡ true) ⊎ (d ≡ true)
+      or_else true c d h e = inl refl
+      or_else false true d h e = inr h
+      or_else false false d h e = absurd (false≢true e)
+
+      not_omitted : (y : Lexeme) → Lex text q.prev_token_end y → (one_of_kinds (Eof ∷ []) y.kind ≡ true) ⊎ (y.newline ≡ true) → ⊥
+      not_omitted y l (inl h) = not_here a (Eof ∷ []) (n.no_end, tt) y l h
+      not_omitted y l (inr h) = false≢true (sym n.no_line ∙ (sym (a.is y l).newline ∙ h))
+
+  pub statement_unended : {p q : Cursor} → At text p → (p.token.kind ≡ Semicolon → ⊥) → Answer text (at Expression script_flags) p q → NotEnded q → Fails (Lex text) (follow Item) end (symbol Item script_flags) p.prev_token_end
+  unfolding rule rule_of covers
+  statement_unended a n x m = fails_rule (left (fails_at a (symbol Empty script_flags) (Semicolon ∷ []) refl (n, tt)) ▹✗ fails_rule (fails_node ((to_semicolon x).goes ▹✗ none_here x.at m)))
+
+-- The statements read so far, of a whole text.
+pub record Listed (text : List ℕ) (q : Cursor) (ms : List Node) (ids : List (Option NodeId)) : Type 0 where
+  pub at : At text q
+  pub slots : Slots → Slots
+  pub appends : (us : Slots) → slots us ≡ append (slots end) us
+  pub reach : ℕ
+  pub near : reach ≤ q.prev_token_end
+  pub goes : Goes (Lex text) (follow Program) end (many (symbol Item script_flags)) 0 (many (symbol Item script_flags)) q.prev_token_end slots reach
+  pub held : HoldsAll ms 1 (length ms) ids (slots end)
+  pub some : 1 ≤ length ms
+
+append_tree : (f : Slots → Slots) (l : Label) (cs : Slots) → ((us : Slots) → f us ≡ append (f end) us) → (us : Slots) → f (tree l cs us) ≡ append (f (tree l cs end)) us
+append_tree f l cs h us = h (tree l cs us) ∙ (sym (append_append (f end) (tree l cs end) us) ∙ ap (λ v. append v us) (sym (h (tree l cs end))))
+  where
+    append_append : (as' bs us : Slots) → append (append as' bs) us ≡ append as' (append bs us)
+    append_append end bs us = refl
+    append_append (hole ts) bs us = ap hole (append_append ts bs us)
+    append_append (tree m ds ts) bs us = ap (λ v. tree m ds v) (append_append ts bs us)
+
+module _ {text : List ℕ} where
+  pub list_init : {q : Cursor} {ms : List Node} {ids : List (Option NodeId)} → At text q → q.prev_token_end ≡ 0 → length ms ≡ 1 → ids ≡ [] → Listed text q ms ids
+  list_init {q} {ms} {ids} a z n e = record {
+    at = a;
+    slots = λ us. us;
+    appends = λ us. refl;
+    reach = 0;
+    near = omega arith;
+    goes = subst (λ v. Goes (Lex text) (follow Program) end (many (symbol Item script_flags)) 0 (many (symbol Item script_flags)) v (λ us. us) 0) (sym z) stay;
+    held = subst (λ v. HoldsAll ms 1 (length ms) v end) (sym e) (no_ids (omega arith));
+    some = omega arith;
+  }
+
+  more_items : {q r : Cursor} {ns ms : List Node} {id : NodeId} → At text q → (q.token.kind ≡ Eof → ⊥) → (x : Numbered text (at Item script_flags) q r ns ms id) → Goes (Lex text) (follow Program) end (many (symbol Item script_flags)) q.prev_token_end (many (symbol Item script_flags)) r.prev_token_end (tree x.answer.label x.answer.slots) (max 0 (max 0 x.answer.reach))
+  unfolding covers
+  more_items a n x = more_of ▹ left (fails_at a nothing (Eof ∷ []) refl (n, tt)) ▹ then x.answer.reads refl
+
+  pub list_step : {q r : Cursor} {ns ms : List Node} {ids js : List (Option NodeId)} {id : NodeId} → Listed text q ns ids → (q.token.kind ≡ Eof → ⊥) → Numbered text (at Item script_flags) q r ns ms id → js ≡ ids ++ Some id ∷ [] → Listed text r ms js
+  list_step {q} {r} {ns} {ms} {ids} {js} {id} s n x e = record {
+    at = x.answer.at;
+    slots = λ us. s.slots (tree x.answer.label x.answer.slots us);
+    appends = append_tree s.slots x.answer.label x.answer.slots s.appends;
+    reach = max s.reach (max 0 (max 0 x.answer.reach));
+    near = let i = s.near in let j = x.answer.near in let k = x.answer.further in let h = s.at.behind in omega arith;
+    goes = s.goes ▹ more_items s.at n x;
+    held = subst (λ v. HoldsAll ms 1 (length ms) v (s.slots (tree x.answer.label x.answer.slots end))) (sym e) (subst (λ v. HoldsAll ms 1 (length ms) (ids ++ Some id ∷ []) v) (sym (s.appends (tree x.answer.label x.answer.slots end))) (HoldsAll-next id x.keeps s.held x.holds));
+    some = let i = x.keeps.longer in let j = s.some in omega arith;
+  }
+
+  -- a text that isn't read has no reading
+  no_reading : Fails (Lex text) (follow Program) end (rule (at Program script_flags)) 0 → HasNoReading text
+  no_reading f t r = f.no (tree t.label t.slots end) end r.end r.lexemes (last r.final) r.lexed r.derived (rw r.is_end refl)
+
+  pub list_fails : {q : Cursor} {ms : List Node} {ids : List (Option NodeId)} → Listed text q ms ids → (q.token.kind ≡ Eof → ⊥) → Fails (Lex text) (follow Item) end (symbol Item script_flags) q.prev_token_end → HasNoReading text
+  unfolding rule rule_of covers
+  list_fails s n x = no_reading (fails_node (s.goes ▹✗ more_of ▹✗ left (fails_at s.at nothing (Eof ∷ []) refl (n, tt)) ▹✗ fails_part x refl))
+
+abbrev program_make : Make
+program_make = record { kind = program; op = no_op; flags = 0; extent = whole_text }
+
+abbrev whole_label : ℕ → Label
+whole_label v = record { kind = program; op = no_op; flags = 0; span = record { from = 0; to = v } }
+
+end_place : {text : List ℕ} {q : Cursor} → At text q → q.token.kind ≡ Eof → (y : Lexeme) → Lex text q.prev_token_end y → y.to ≡ length text
+end_place a e y l = ((placed l).at_end (kind_here a e y l)).1
+
+-- the program's label, whichever lexemes it is read from
+program_label : {text : List ℕ} {q : Cursor} → At text q → q.token.kind ≡ Eof → (ls ls' : Lexemes) → Lexes (Lex text) 0 ls → Lexes (Lex text) q.prev_token_end ls' → label_of program_make ls q.prev_token_end ls' ≡ whole_label (length text)
+program_label {text} {q} a e ls ls' l l' = ap (λ v. whole_label v) (end_place a e (here ls') (here_at (Lex text) ls' l'))
+
+abbrev tree_of : Label → Slots → Tree
+tree_of l cs = record { label = l; slots = cs }
+
+same_tree : {l m : Label} {cs ds us : Slots} → tree l cs end ≡ tree m ds us → tree_of l cs ≡ tree_of m ds
+same_tree q = λ k. record { label = label_is q k; slots = slots_are q k }
+
+module _ {text : List ℕ} {q : Cursor} {ms : List Node} {ids : List (Option NodeId)} (s : Listed text q ms ids) (e : q.token.kind ≡ Eof) where
+  program_reads : Reads (Lex text) (follow Program) end (rule (at Program script_flags)) 0 q.prev_token_end (tree (whole_label (length text)) (s.slots end)) (max s.reach (max 0 0))
+  unfolding rule rule_of covers
+  program_reads = makes (whole_label (length text)) (s.goes ▹ more_of ▹ at_kind s.at Eof e) (program_label s.at e)
+
+  pub list_end : ProgramRead text ms ids
+  list_end = let f = s.at.found (λ z. differ Eof Undetermined refl (sym e ∙ z)) in
+      let x = program_reads.sound end end q.prev_token_end (last f.0) (last f.0) f.1 (inr (kind_here s.at e f.0 f.1)) is_nothing in record {
+    slots = s.slots end;
+    holds = s.held;
+    reading = record { lexemes = x.0; lexed = x.1; end = q.prev_token_end; final = f.0; is_end = kind_here s.at e f.0 f.1; derived = x.3 };
+    only = λ t i. same_tree (program_reads.only (tree t.label t.slots end) end i.end i.lexemes (last i.final) i.lexed i.derived (rw i.is_end refl)).2;
+  }

@@ -1,0 +1,129 @@
+-- What a run answers, and why. A source or a sink tells its bytes or not; where it doesn't, nothing is said of them.
+use Rattle.std.specs.Prelude.{ℕ, ◌≡◌, ◌+◌, ◌≤◌, ◌⊎◌, List, [], ◌++◌, length, Option, Some}
+use Rattle.std.specs.Str.{IsUtf8}
+use Rattle.std.specs.Io.KnownBytes.{Consumes, Appends, IsAtEnd}
+use Rattle.jsparse.specs.declared.status.Status.{Status}
+use Rattle.jsparse.specs.declared.status.Status.TheVariants.{Ok, Refused, Usage, ReadFault, WriteFault, NoMemory, NotUtf8, TooLong}
+use Rattle.jsparse.specs.Ends.{IsFault}
+use Rattle.jsparse.specs.Words.{NoneAdmitted}
+use Rattle.js_grammar.specs.Settings.{Settings, Admitted}
+use Rattle.js_grammar.specs.Readings.{Accepts, Refuses}
+
+-- the greatest number of bytes of a text
+abbrev pub limit : ℕ
+limit = 67108864
+
+-- The source gave these bytes, and has no more.
+pub record Gave (given left : Option (List ℕ)) (text : List ℕ) : Type 0 where
+  pub read : Consumes given left text
+  pub ended : IsAtEnd left
+
+-- The bytes are a text that is short enough.
+pub record IsText (text : List ℕ) : Type 0 where
+  pub short : length text ≤ limit
+  pub utf8 : IsUtf8 text
+
+-- The source gave a text, and all that is put out for it was written.
+pub record Answered (Puts : List ℕ → List ℕ → Type 0) (given left before after : Option (List ℕ)) : Type 0 where
+  pub text : List ℕ
+  pub out : List ℕ
+  pub gave : Gave given left text
+  pub is_text : IsText text
+  pub puts : Puts text out
+  pub written : Appends before after out
+
+-- The source gave a text, and the sink failed after a front of what is put out for it.
+pub record BrokeOff (given left before after : Option (List ℕ)) (faults faults_after : ℕ) : Type 0 where
+  pub text : List ℕ
+  pub front : List ℕ
+  pub rest : List ℕ
+  pub gave : Gave given left text
+  pub is_text : IsText text
+  pub puts : Accepts text (front ++ rest) ⊎ Refuses text (front ++ rest)
+  pub written : Appends before after front
+  pub fault : IsFault faults faults_after
+
+-- The source gave bytes that are not UTF-8, and not too many.
+pub record IsNoText (given left : Option (List ℕ)) : Type 0 where
+  pub bytes : List ℕ
+  pub gave : Gave given left bytes
+  pub short : length bytes ≤ limit
+  pub not_utf8 : IsUtf8 bytes → ⊥
+
+-- The source gave one byte more than a text may have, and was asked no further.
+pub record IsLong (given left : Option (List ℕ)) : Type 0 where
+  pub bytes : List ℕ
+  pub read : Consumes given left bytes
+  pub long : length bytes ≡ limit + 1
+
+-- No more than so many bytes were read.
+pub record ReadsUpTo (most : ℕ) (given left : Option (List ℕ)) : Type 0 where
+  pub bytes : List ℕ
+  pub read : Consumes given left bytes
+  pub few : length bytes ≤ most
+
+-- The source failed before it gave a byte more than a text may have.
+pub record ReadFailed (given left : Option (List ℕ)) (faults faults_after : ℕ) : Type 0 where
+  pub fault : IsFault faults faults_after
+  pub reads : ReadsUpTo limit given left
+
+-- What the ends of a run tell: the source's bytes and faults at first and in the end, the sink's bytes and faults at first and in the end.
+pub record Told : Type 0 where
+  pub given : Option (List ℕ)
+  pub left : Option (List ℕ)
+  pub read_faults : ℕ
+  pub read_faults_after : ℕ
+  pub before : Option (List ℕ)
+  pub after : Option (List ℕ)
+  pub write_faults : ℕ
+  pub write_faults_after : ℕ
+
+-- what the ends tell, by the members of their types
+abbrev pub told : {S K : Type 0} → (S → Option (List ℕ)) → (S → ℕ) → (K → Option (List ℕ)) → (K → ℕ) → S → S → K → K → Told
+told remaining read_faults taken write_faults source source_after sink sink_after = record { given = remaining source; left = remaining source_after; read_faults = read_faults source; read_faults_after = read_faults source_after; before = taken sink; after = taken sink_after; write_faults = write_faults sink; write_faults_after = write_faults sink_after }
+
+-- Each status has its cause.
+abbrev pub HasCause : Status → Told → Type 0
+HasCause Ok t = Answered Accepts t.given t.left t.before t.after
+HasCause Refused t = Answered Refuses t.given t.left t.before t.after
+HasCause Usage t = Unit {0}
+HasCause ReadFault t = ReadFailed t.given t.left t.read_faults t.read_faults_after
+HasCause WriteFault t = BrokeOff t.given t.left t.before t.after t.write_faults t.write_faults_after
+HasCause NoMemory t = Unit {0}
+HasCause NotUtf8 t = IsNoText t.given t.left
+HasCause TooLong t = IsLong t.given t.left
+
+-- `Usage` comes exactly where no settings are admitted.
+abbrev pub FitsWords : Status → List (List ℕ) → Type 0
+FitsWords Usage words = NoneAdmitted words
+FitsWords _ words = (s : Settings) × Admitted words s
+
+-- A status that tells of a refusal before the output leaves the sink as it was.
+abbrev pub LeavesSink : {K : Type 0} → Status → K → K → Type 0
+LeavesSink Ok old new = Unit {0}
+LeavesSink Refused old new = Unit {0}
+LeavesSink WriteFault old new = Unit {0}
+LeavesSink _ old new = new ≡ old
+
+-- `Usage` leaves the source as it was.
+abbrev pub LeavesSource : {S : Type 0} → Status → S → S → Type 0
+LeavesSource Usage old new = new ≡ old
+LeavesSource _ old new = Unit {0}
+
+-- refusals that may come before the text is known: of the words, of the source, of memory
+abbrev pub ComesBefore : Status → Type 0
+ComesBefore Usage = Unit {0}
+ComesBefore ReadFault = Unit {0}
+ComesBefore NoMemory = Unit {0}
+ComesBefore _ = ⊥
+
+-- What a run answers where some settings are admitted and the source tells this text: 0 with the lines of its one reading, 1 with diagnostics where it has none, 3 or 4 at a fault of the source or of the sink, 5 where memory is refused, and nothing else.
+abbrev pub IsAnswerTo : List ℕ → Told → Status → Type 0
+IsAnswerTo text t Ok = (out : List ℕ) × Accepts text out × Appends t.before t.after out × (t.left ≡ Some [])
+IsAnswerTo text t Refused = (out : List ℕ) × Refuses text out × Appends t.before t.after out × (t.left ≡ Some [])
+IsAnswerTo text t Usage = ⊥
+IsAnswerTo text t ReadFault = IsFault t.read_faults t.read_faults_after
+IsAnswerTo text t WriteFault = (front : List ℕ) × (rest : List ℕ) × (Accepts text (front ++ rest) ⊎ Refuses text (front ++ rest)) × Appends t.before t.after front × (t.left ≡ Some []) × IsFault t.write_faults t.write_faults_after
+IsAnswerTo text t NoMemory = Unit {0}
+IsAnswerTo text t NotUtf8 = ⊥
+IsAnswerTo text t TooLong = ⊥

@@ -1,0 +1,105 @@
+//! Runs that end before there is an output.
+
+use crate::failing::FailingSource;
+use crate::laws::run_steady;
+use crate::room::RoomSink;
+use crate::run::run;
+use crate::status::Status;
+use crate::steady::SteadySource;
+use std::alloc::{AllocError, Global};
+use std::process::Abort;
+use std::test::Fail;
+
+/// Words, each a text.
+pub fn words_of(alloc: Global, texts: &[&str]) -> Result<Vec<String>, AllocError> {
+    let mut words = Vec::new(alloc);
+    for text in texts {
+        words.push(String::from_str(alloc, text)?)?;
+    }
+    Ok(words)
+}
+
+/// So many bytes, each of them this one.
+pub fn repeated(alloc: Global, byte: u8, len: usize) -> Result<Vec<u8>, AllocError> {
+    vec![in alloc; byte; len]
+}
+
+/// The status of a run over a steady source, which writes nothing.
+fn silent_status(
+    rt: &impl Abort,
+    alloc: Global,
+    words: &[&str],
+    bytes: Vec<u8>,
+) -> Result<Status, Fail> {
+    let words = words_of(alloc, words)?;
+    let mut source = SteadySource::new(bytes);
+    let mut sink = RoomSink::with_room(alloc, 100, Vec::new(alloc))?;
+    let status = run_steady(alloc, &words, &mut source, &mut sink);
+    assert!(rt; sink.bytes().is_empty());
+    Ok(status)
+}
+
+#[test]
+fn refuses_words_and_bytes(rt: HostRuntime) -> Result<(), Fail> {
+    let alloc = rt.alloc();
+    let script: &[&str] = &["--goal", "script"];
+    let rows: [(&[&str], &[u8], Status); 7] = [
+        (&[], b"a", Status::Usage),
+        (&["--goal"], b"a", Status::Usage),
+        (&["--goal", "es6"], b"a", Status::Usage),
+        (&["--goal", "script", "a"], b"a", Status::Usage),
+        (&["--Goal", "script"], b"\xff", Status::Usage),
+        (script, b"\xff", Status::NotUtf8),
+        (script, b"a \xc3", Status::NotUtf8),
+    ];
+    for (words, bytes, want) in rows {
+        let bytes = Vec::from_slice(alloc, bytes)?;
+        let got = silent_status(&rt, alloc, words, bytes)?;
+        assert_eq!(rt; got, want);
+    }
+    Ok(())
+}
+
+#[test]
+fn refuses_a_text_that_is_too_long(rt: HostRuntime) -> Result<(), Fail> {
+    let alloc = rt.alloc();
+    let bytes = repeated(alloc, b' ', 67_108_865)?;
+    let got = silent_status(&rt, alloc, &["--goal", "script"], bytes)?;
+    assert_eq!(rt; got, Status::TooLong);
+    Ok(())
+}
+
+/// Three reads give the bytes, and a fourth meets the end.
+#[test]
+fn fails_where_a_read_fails(rt: HostRuntime) -> Result<(), Fail> {
+    let alloc = rt.alloc();
+    let words = words_of(alloc, &["--goal", "script"])?;
+    for call in 1..5u64 {
+        let bytes = repeated(alloc, b' ', 140_000)?;
+        let mut source = FailingSource::new(bytes, vec![in alloc; call]?);
+        let mut sink = RoomSink::with_room(alloc, 100, Vec::new(alloc))?;
+        let got = run(alloc, &words, &mut source, &mut sink);
+        assert_eq!(rt; got, Status::ReadFault, "at call {call}");
+        assert!(rt; sink.bytes().is_empty(), "at call {call}");
+    }
+    Ok(())
+}
+
+#[test]
+fn gives_each_status_its_code(rt: HostRuntime) {
+    let statuses = [
+        Status::Ok,
+        Status::Refused,
+        Status::Usage,
+        Status::ReadFault,
+        Status::WriteFault,
+        Status::NoMemory,
+        Status::NotUtf8,
+        Status::TooLong,
+    ];
+    let mut code = 0u8;
+    for status in statuses {
+        assert_eq!(rt; status.code(), code);
+        code = code.saturating_add(1);
+    }
+}
