@@ -1,0 +1,194 @@
+-- A core text has one list of lexemes, the same at every goal.
+use Rattle.std.proofs.Common.{◌≡◌, ◌<◌, ◌≤◌, ℕ, zero, suc, ◌+◌, ◌==◌, Bool, true, false, List, [], ◌∷◌, ◌++◌, refl, sym, ap, subst, ◌∙◌, not, ◌&&◌, ◌||◌, Some, None, length, arith}
+use Rattle.std.specs.Prelude.{chars, codes, IsUtf8}
+use Rattle.js_base.specs.declared.kind.Kind.{Kind}
+use Rattle.js_base.specs.declared.kind.Kind.TheVariants.{Eof, RegExp}
+use Rattle.js_base.specs.Kinds.{code, same_kind}
+use Rattle.js_grammar.specs.Grammar.{Lexeme, Lexemes, last, next}
+use Rattle.js_grammar.specs.Characters.{one_of, width}
+use Rattle.js_grammar.specs.Longest.{longest, joined}
+use Rattle.js_grammar.specs.Trivia.{are_trivia, lack_html_comments, after, within_line}
+use Rattle.js_grammar.specs.Numbers.{is_number, stops_number}
+use Rattle.js_grammar.specs.RegularExpressions.{flags, flagged, flags_pass, behind_pattern}
+use Rattle.js_grammar.specs.Templates.{template_tail_kind}
+use Rattle.js_grammar.specs.Lexemes.{LexicalGoal, division, regular_expression, template_tail, hashbang, kind_in, lexemes_in}
+use Rattle.js_grammar.specs.Lexing.{Lexes}
+use Rattle.js_grammar.specs.Lexed.{Passing, in_script, in_module, all_faults, passing_of, Lex, Stands, comments_pass, flags_right, ends_once}
+use Rattle.js_grammar.specs.LexicalLaws.{OneList}
+use Rattle.js_grammar.specs.CoreTexts.{CoreSource, are_core, ends_in_glue, occurs}
+use Rattle.js_grammar.proofs.LongestLemmas.{both-left, both-right, both, not-true}
+use Rattle.js_grammar.proofs.Finding.{neither-left, neither-right}
+use Rattle.js_grammar.proofs.Alike.{stands-same, lex-same}
+use Rattle.js_grammar.proofs.Standing.{lexeme_of}
+use Rattle.js_grammar.proofs.CoreFirst.{is_core_first}
+use Rattle.js_grammar.proofs.CoreNames.{IsPlain, ascii, core_ascii}
+use Rattle.js_grammar.proofs.CoreTrivia.{Ahead, ends, word, ahead, Lacks, lacks-behind}
+use Rattle.js_grammar.proofs.Places.{At, at-chars, at-start, at-behind}
+
+comments-lack : (p : Passing) (qs : List (List ℕ)) → lack_html_comments qs ≡ true → comments_pass p qs ≡ true
+comments-lack in_script qs h = refl
+comments-lack in_module qs h = h
+comments-lack all_faults qs h = refl
+
+flags-none : (p : Passing) (k : Kind) (w : List ℕ) → same_kind RegExp k ≡ false → flags_right p k w ≡ true
+flags-none in_script k w h = ap (λ (b : Bool). not b || flags_pass (flags w)) h
+flags-none in_module k w h = ap (λ (b : Bool). not b || flags_pass (flags w)) h
+flags-none all_faults k w h = refl
+
+-- what stands behind a place, as a lexeme of the division goal
+pub lexeme_stands : (p : Passing) (text : List ℕ) (s : ℕ) (qs : List (List ℕ)) (w rest : List ℕ) (k : Kind) → Stands text s qs w rest → lack_html_comments qs ≡ true → longest (lexemes_in division) w rest ≡ true → kind_in division w rest ≡ Some k → (not (is_number k) || stops_number rest) ≡ true → same_kind RegExp k ≡ false → Lex p text s (lexeme_of s qs w k)
+lexeme_stands p text s qs w rest k st l lg kd a r = record {
+  trivia = qs;
+  goal = division;
+  word = w;
+  rest = rest;
+  stands = st;
+  lexeme = record { longest = lg; kind = kd; begins = refl; apart = a };
+  comments = comments-lack p qs l;
+  flags = flags-none p k w r;
+  from = refl;
+  to = refl;
+  newline = refl;
+  escaped = refl;
+  units = refl;
+}
+
+-- the other lexical goals have nothing at the end of the text
+end_is_division : (g : LexicalGoal) (w rest : List ℕ) (k : Kind) → w ++ rest ≡ [] → kind_in g w rest ≡ Some k → g ≡ division
+end_is_division division w rest k e h = refl
+end_is_division regular_expression [] rest k e h = cc
+end_is_division regular_expression (c ∷ w) rest k e h = cc
+end_is_division template_tail [] rest k e h = cc
+end_is_division template_tail (c ∷ w) rest k e h = cc
+end_is_division hashbang [] rest k e h = cc
+end_is_division hashbang (c ∷ w) rest k e h = cc
+
+no_regular_expression : (c : ℕ) (w : List ℕ) → (c == 47) ≡ false → flagged (flags (c ∷ w)) ≡ None
+no_regular_expression c [] h = refl
+no_regular_expression c (d ∷ w) h = ap (λ (b : Bool). flagged (elim (b && not (one_of (codes "*/") d)) [ true ↦ behind_pattern false false (d ∷ w) | false ↦ None ])) h
+
+no_tail : (c : ℕ) (w : List ℕ) → (c == 125) ≡ false → template_tail_kind (c ∷ w) ≡ None
+no_tail c w h = rw (h, template_tail_kind) refl
+
+no_hashbang : (c : ℕ) (w rest : List ℕ) → (35 == c) ≡ false → kind_in hashbang (c ∷ w) rest ≡ None
+no_hashbang c w rest h = ap (λ (b : Bool). elim (b && after (codes "!") within_line w) [ true ↦ Some Rattle.js_base.specs.declared.kind.Kind.TheVariants.HashbangComment | false ↦ None ]) h
+
+-- nor where a core lexeme begins
+word_is_division : (g : LexicalGoal) (w rest : List ℕ) (c : ℕ) (cs : List ℕ) (k : Kind) → w ++ rest ≡ c ∷ cs → is_core_first c ≡ true → kind_in g w rest ≡ Some k → g ≡ division
+word_is_division division w rest c cs k e f h = refl
+word_is_division regular_expression [] rest c cs k e f h = cc
+word_is_division regular_expression (d ∷ w) rest c cs k e f h =
+    let s : c ≡ d = cc in
+    let n : (c == 47) ≡ false = not-true (c == 47) (ascii is_core_first (λ a. not (a == 47)) c refl (core_ascii c f) f) in
+    let m = no_regular_expression d w (subst (λ (a : ℕ). (a == 47) ≡ false) s n) in cc
+word_is_division template_tail [] rest c cs k e f h = cc
+word_is_division template_tail (d ∷ w) rest c cs k e f h =
+    let s : c ≡ d = cc in
+    let n : (c == 125) ≡ false = not-true (c == 125) (ascii is_core_first (λ a. not (a == 125)) c refl (core_ascii c f) f) in
+    let m = no_tail d w (subst (λ (a : ℕ). (a == 125) ≡ false) s n) in cc
+word_is_division hashbang [] rest c cs k e f h = cc
+word_is_division hashbang (d ∷ w) rest c cs k e f h =
+    let s : c ≡ d = cc in
+    let n : (35 == c) ≡ false = not-true (35 == c) (ascii is_core_first (λ a. not (35 == a)) c refl (core_ascii c f) f) in
+    let m = no_hashbang d w rest (subst (λ (a : ℕ). (35 == a) ≡ false) s n) in cc
+
+-- the lexemes from a place to the end of the text
+pub record Tail (text : List ℕ) (s : ℕ) : Type 0 where
+  pub list : Lexemes
+  pub lexes : (p : Passing) → Lexes (Lex p text) s list
+  pub once : ends_once list ≡ true
+  pub only : (p : Passing) (ms : Lexemes) → Lexes (Lex p text) s ms → ends_once ms ≡ true → ms ≡ list
+
+-- one lexeme stands there, whichever faults pass
+pub record Single (text : List ℕ) (s : ℕ) (x : Lexeme) : Type 0 where
+  pub stands : (p : Passing) → Lex p text s x
+  pub only : (p : Passing) (y : Lexeme) → Lex p text s y → y ≡ x
+
+pub tail_end : (text : List ℕ) (s : ℕ) (x : Lexeme) → Single text s x → same_kind Eof x.kind ≡ true → Tail text s
+tail_end text s x h e = record { list = last x; lexes = h.stands; once = e; only = go }
+  where
+    go : (p : Passing) (ms : Lexemes) → Lexes (Lex p text) s ms → ends_once ms ≡ true → ms ≡ last x
+    go p (last y) l o = ap (λ (a : Lexeme). last a) (h.only p y l)
+    go p (next y ms) l o =
+        let s' = h.only p y l.0 in
+        let k : same_kind Eof y.kind ≡ true = subst (λ (a : Lexeme). same_kind Eof a.kind ≡ true) (sym s') e in
+        let n = not-true (same_kind Eof y.kind) (both-left (not (same_kind Eof y.kind)) (ends_once ms) o) in
+        absurd (let a = k in let b = n in cc)
+
+pub tail_next : (text : List ℕ) (s : ℕ) (x : Lexeme) → Single text s x → same_kind Eof x.kind ≡ false → Tail text x.to → Tail text s
+tail_next text s x h e t = record { list = next x t.list; lexes = λ p. (h.stands p, t.lexes p); once = both (not (same_kind Eof x.kind)) (ends_once t.list) (rw e refl) t.once; only = go }
+  where
+    go : (p : Passing) (ms : Lexemes) → Lexes (Lex p text) s ms → ends_once ms ≡ true → ms ≡ next x t.list
+    go p (last y) l o =
+        let s' = h.only p y l in
+        let k : same_kind Eof y.kind ≡ false = subst (λ (a : Lexeme). same_kind Eof a.kind ≡ false) (sym s') e in
+        absurd (let a = k in let b = o in cc)
+    go p (next y ms) l o =
+        let s' = h.only p y l.0 in
+        let l' : Lexes (Lex p text) x.to ms = subst (λ (a : Lexeme). Lexes (Lex p text) a.to ms) s' l.1 in
+        let r = t.only p ms l' (both-right (not (same_kind Eof y.kind)) (ends_once ms) o) in
+        cc
+
+pub tail_end-list : (text : List ℕ) (s : ℕ) (x : Lexeme) (h : Single text s x) (e : same_kind Eof x.kind ≡ true) → (tail_end text s x h e).list ≡ last x
+unfolding tail_end
+tail_end-list text s x h e = refl
+
+pub tail_next-list : (text : List ℕ) (s : ℕ) (x : Lexeme) (h : Single text s x) (e : same_kind Eof x.kind ≡ false) (t : Tail text x.to) → (tail_next text s x h e t).list ≡ next x t.list
+unfolding tail_next
+tail_next-list text s x h e t = refl
+
+pub at_end : (text : List ℕ) (s : ℕ) (qs : List (List ℕ)) → Stands text s qs [] [] → lack_html_comments qs ≡ true → Single text s (lexeme_of s qs [] Eof)
+unfolding lexeme_stands
+at_end text s qs st l = record { stands = here; only = only }
+  where
+    here : (p : Passing) → Lex p text s (lexeme_of s qs [] Eof)
+    here p = lexeme_stands p text s qs [] [] Eof st l refl refl refl refl
+
+    only : (p : Passing) (y : Lexeme) → Lex p text s y → y ≡ lexeme_of s qs [] Eof
+    only p y h =
+        let same = stands-same h.stands st in
+        lex-same h (here p) (end_is_division h.goal h.word h.rest y.kind same.back h.lexeme.kind)
+
+pub at_word : (text : List ℕ) (s : ℕ) (qs : List (List ℕ)) (c : ℕ) (cs rest : List ℕ) → Stands text s qs (c ∷ cs) rest → lack_html_comments qs ≡ true → is_core_first c ≡ true → (i : IsPlain (c ∷ cs) rest) → same_kind RegExp i.kind ≡ false → Single text s (lexeme_of s qs (c ∷ cs) i.kind)
+unfolding lexeme_stands
+at_word text s qs c cs rest st l f i r = record { stands = here; only = only }
+  where
+    here : (p : Passing) → Lex p text s (lexeme_of s qs (c ∷ cs) i.kind)
+    here p = lexeme_stands p text s qs (c ∷ cs) rest i.kind st l i.longest i.is i.apart r
+
+    only : (p : Passing) (y : Lexeme) → Lex p text s y → y ≡ lexeme_of s qs (c ∷ cs) i.kind
+    only p y h =
+        let same = stands-same h.stands st in
+        lex-same h (here p) (word_is_division h.goal h.word h.rest c (cs ++ rest) y.kind same.back f h.lexeme.kind)
+
+stands_of : {text : List ℕ} {s : ℕ} {cs : List ℕ} (qs : List (List ℕ)) (w rest : List ℕ) → At text s cs → cs ≡ joined qs ++ (w ++ rest) → are_trivia (s == 0) qs (w ++ rest) ≡ true → Stands text s qs w rest
+stands_of qs w rest a e t = record { within = a.within; splits = at-chars a ∙ e; trivia = t }
+
+at_along : {text : List ℕ} {s : ℕ} {cs ds : List ℕ} → cs ≡ ds → At text s cs → At text s ds
+at_along {text = text} {s = s} e a = subst (λ (v : List ℕ). At text s v) e a
+
+finish : (text : List ℕ) (s : ℕ) (ps : List (List ℕ)) → At text s (joined ps) → Lacks (joined ps) → Ahead (s == 0) ps
+    → ((i : ℕ) (glued : Bool) (qs : List (List ℕ)) → length qs < length ps → are_core glued qs ≡ true → Lacks (joined qs) → At text i (joined qs) → Tail text i) → Tail text s
+finish text s ps a l (ends qs e t h) rec = tail_end text s (lexeme_of s qs [] Eof) (at_end text s qs (stands_of qs [] [] a e t) h) refl
+finish text s ps a l (word qs c cs later e t h f i k m) rec =
+    let st = stands_of qs (c ∷ cs) (joined later) a e t in
+    let inside = not-true (one_of (code Eof ∷ code RegExp ∷ []) (code i.kind)) i.inside in
+    let no_end : same_kind Eof i.kind ≡ false = neither-left (code Eof == code i.kind) (one_of (code RegExp ∷ []) (code i.kind)) inside in
+    let no_regular : same_kind RegExp i.kind ≡ false = neither-left (code RegExp == code i.kind) false (neither-right (code Eof == code i.kind) (one_of (code RegExp ∷ []) (code i.kind)) inside) in
+    let a1 : At text s (joined qs ++ (c ∷ cs ++ joined later)) = at_along e a in
+    let a2 : At text (s + width (joined qs)) (c ∷ cs ++ joined later) = at-behind (joined qs) (c ∷ cs ++ joined later) a1 in
+    let a3 : At text (s + width (joined qs) + width (c ∷ cs)) (joined later) = at-behind (c ∷ cs) (joined later) a2 in
+    let l1 : Lacks (joined qs ++ (c ∷ cs ++ joined later)) = subst (λ (v : List ℕ). Lacks v) e l in
+    let l2 = lacks-behind (c ∷ cs) (joined later) (lacks-behind (joined qs) (c ∷ cs ++ joined later) l1) in
+    tail_next text s (lexeme_of s qs (c ∷ cs) i.kind) (at_word text s qs c cs (joined later) st h f i no_regular) no_end (rec (s + width (joined qs) + width (c ∷ cs)) (ends_in_glue (c ∷ cs)) later m k l2 a3)
+
+build : (text : List ℕ) (n s : ℕ) (glued : Bool) (ps : List (List ℕ)) → length ps ≤ n → are_core glued ps ≡ true → Lacks (joined ps) → At text s (joined ps) → Tail text s
+build text zero s glued ps m k l a = finish text s ps a l (ahead (s == 0) glued ps k l) (λ i g qs b _ _ _. absurd (omega arith))
+build text (suc n) s glued ps m k l a = finish text s ps a l (ahead (s == 0) glued ps k l) (λ i g qs b k' l' a'. build text n i g qs (omega arith) k' l' a')
+
+pub core_text : (text : List ℕ) → IsUtf8 text → CoreSource text → OneList text
+core_text text u c =
+    let a : At text 0 (joined c.pieces) = at_along c.splits (at-start text u) in
+    let l : Lacks (joined c.pieces) = subst (λ (v : List ℕ). Lacks v) c.splits (record { open_mark = not-true (occurs (codes "<!--") (chars text)) c.lacks_open; close_mark = not-true (occurs (codes "-->") (chars text)) c.lacks_close }) in
+    let t = build text (length c.pieces) 0 false c.pieces (omega arith) c.core l a in
+    record { lexemes = t.list; lexed = λ g. record { lexes = t.lexes (passing_of g); ends = t.once }; only = λ g ls h. t.only (passing_of g) ls h.lexes h.ends }

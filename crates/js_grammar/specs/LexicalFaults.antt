@@ -1,0 +1,187 @@
+-- Lexical faults: what stands at the span of each. Eight stop the lexemes; a wrong flag and an HTML-like comment in a module don't.
+use Rattle.std.specs.Prelude.{ℕ, ◌+◌, ◌≡◌, ◌≤◌, ◌⊎◌, Bool, true, false, not, ◌&&◌, ◌||◌, List, [], ◌∷◌, ◌++◌, ◌==◌, codes, IsTrue, is_some, Some, IsCharBoundary, bytes_eq}
+use Rattle.js_base.specs.declared.kind.Kind.TheVariants.{RegExp}
+use Rattle.js_grammar.specs.Grammar.{Lexeme, Lexemes}
+use Rattle.js_grammar.specs.Settings.{Goal}
+use Rattle.js_grammar.specs.Characters.{one_of, width, is_decimal, begins}
+use Rattle.js_grammar.specs.Longest.{Class, longest, none_longer, none_begins, joined}
+use Rattle.js_grammar.specs.Trivia.{after, within_line, is_html_comment, is_multi_line_comment}
+use Rattle.js_grammar.specs.Escapes.{line_feeds}
+use Rattle.js_grammar.specs.Names.{name_of}
+use Rattle.js_grammar.specs.Numbers.{number_kind, stops_number}
+use Rattle.js_grammar.specs.Strings.{nothing_left, closes_string, string_points}
+use Rattle.js_grammar.specs.Templates.{template_kind, template_tail_kind}
+use Rattle.js_grammar.specs.RegularExpressions.{flags}
+use Rattle.js_grammar.specs.Lexemes.{lexemes_in, division, regular_expression}
+use Rattle.js_grammar.specs.Lexing.{Lexes}
+use Rattle.js_grammar.specs.Lexed.{Stands, Lex, end_of, all_faults, in_module, passing_of}
+use Rattle.js_grammar.specs.CoreTexts.{starts}
+
+pub data LexicalFault : Type 0 where
+  invalid_character binary_file unterminated_string unterminated_template unterminated_regexp unterminated_comment invalid_escape invalid_number : LexicalFault
+  reg_exp_flag html_comment_in_module : LexicalFault
+
+-- the place is the text's start, or the end of a part that begins there; faults that don't stop pass
+abbrev pub Reached : List ℕ → ℕ → Type 0
+Reached text s = (s ≡ 0) ⊎ ((ls : Lexemes) × Lexes (Lex all_faults text) 0 ls × (end_of ls ≡ s))
+
+-- behind trivia a lexeme is due at the place i, and these characters stand there
+pub record Due (text : List ℕ) (i : ℕ) (cs : List ℕ) : Type 0 where
+  pub s : ℕ
+  pub reached : Reached text s
+  pub pieces : List (List ℕ)
+  pub stands : Stands text s pieces [] cs
+  pub place : i ≡ s + width (joined pieces)
+
+-- no lexeme begins with c, and it is none of those that have a fault of their own: a digit, a quote, a backquote, a slash, a backslash, a right brace, U+FFFD
+abbrev pub begins_nothing : ℕ → List ℕ → Bool
+begins_nothing c cs = none_begins (lexemes_in division) (c ∷ cs) && not (is_decimal c || (one_of (34 ∷ 39 ∷ 96 ∷ 47 ∷ 92 ∷ 125 ∷ 0xFFFD ∷ []) c || ((c == 46) && begins is_decimal cs)))
+
+-- a quote and characters of which none is a line end, but directly behind a backslash
+abbrev pub lacks_line_end : Bool → List ℕ → Bool
+lacks_line_end escaped [] = true
+lacks_line_end escaped (c ∷ cs) = (escaped || not (c == 10)) && lacks_line_end (not escaped && (c == 92)) cs
+
+abbrev pub is_open_string : Class
+is_open_string [] rest = false
+is_open_string (q ∷ cs) rest = one_of (34 ∷ 39 ∷ []) q && lacks_line_end false (line_feeds cs)
+
+-- a quote and characters up to an equal one, whatever their escapes
+abbrev pub is_closed_string : Class
+is_closed_string [] rest = false
+is_closed_string (q ∷ cs) rest = one_of (34 ∷ 39 ∷ []) q && closes_string q false (line_feeds cs)
+
+-- a slash, no star behind it, and characters of one line
+abbrev pub is_open_pattern : List ℕ → Bool
+is_open_pattern cs = within_line cs && not (begins (λ c. c == 42) cs)
+
+abbrev pub is_open_regular_expression : Class
+is_open_regular_expression w rest = after (codes "/") is_open_pattern w
+
+-- a backquote or a right brace, and what stands behind it
+abbrev pub is_open_part : Class
+is_open_part w rest = begins (one_of (96 ∷ 125 ∷ [])) w
+
+abbrev pub is_part : Class
+is_part w rest = is_some (template_kind w) || is_some (template_tail_kind w)
+
+-- `/*`, and what stands behind it
+abbrev pub is_open_comment : Class
+is_open_comment w rest = starts (codes "/*") w
+
+abbrev pub is_comment : Class
+is_comment w rest = is_multi_line_comment w
+
+-- From the place on a form is opened that nothing ends. The span runs as far as the form might: to the end of its line, or of the text.
+pub record Unterminated (opening closing : Class) (text : List ℕ) (from to : ℕ) : Type 0 where
+  pub word : List ℕ
+  pub rest : List ℕ
+  pub due : Due text from (word ++ rest)
+  pub opened : IsTrue (longest opening word rest)
+  pub never : IsTrue (none_begins closing (word ++ rest))
+  pub end : to ≡ from + width word
+
+-- a number, and what stands behind it
+abbrev pub is_number_word : Class
+is_number_word w rest = is_some (number_kind w)
+
+-- a digit, or a dot and a digit, where no number stands that stops (12.9.3)
+pub record InvalidNumber (text : List ℕ) (from : ℕ) : Type 0 where
+  pub first : ℕ
+  pub others : List ℕ
+  pub due : Due text from (first ∷ others)
+  pub begun : IsTrue (is_decimal first || ((first == 46) && begins is_decimal others))
+  pub none : (w rest : List ℕ) → first ∷ others ≡ w ++ rest → longest is_number_word w rest ≡ true → stops_number rest ≡ true → ⊥
+
+-- nothing yet, or a name; the inside of a string, as far as it is right
+abbrev pub is_name_word : Class
+is_name_word w rest = is_some (name_of w)
+
+abbrev pub is_right_inside : Class
+is_right_inside w rest = is_some (string_points w)
+
+-- a backslash in a name, behind `#` or not, with which no name goes on
+pub record InvalidNameEscape (text : List ℕ) (from : ℕ) : Type 0 where
+  pub mark : List ℕ
+  pub name : List ℕ
+  pub rest : List ℕ
+  pub place : ℕ
+  pub due : Due text place (mark ++ (name ++ 92 ∷ rest))
+  pub marked : IsTrue (nothing_left mark || bytes_eq mark (codes "#"))
+  pub named : IsTrue (nothing_left name || is_name_word name [])
+  pub never : IsTrue (none_longer is_name_word name (92 ∷ rest))
+  pub begin : from ≡ place + width mark + width name
+
+-- a backslash in a string, with which no inside goes on
+pub record InvalidStringEscape (text : List ℕ) (from : ℕ) : Type 0 where
+  pub quote : ℕ
+  pub inside : List ℕ
+  pub rest : List ℕ
+  pub place : ℕ
+  pub due : Due text place (quote ∷ inside ++ 92 ∷ rest)
+  pub opened : IsTrue (is_open_string (quote ∷ inside) (92 ∷ rest))
+  pub unclosed : IsTrue (none_begins is_closed_string (quote ∷ inside))
+  pub right : IsTrue (is_right_inside inside [])
+  pub never : IsTrue (none_longer is_right_inside inside (92 ∷ rest))
+  pub begin : from ≡ place + 1 + width inside
+
+-- one character, at which no lexeme begins
+pub record InvalidCharacter (text : List ℕ) (from to : ℕ) : Type 0 where
+  pub character : ℕ
+  pub rest : List ℕ
+  pub due : Due text from (character ∷ rest)
+  pub nothing : IsTrue (begins_nothing character rest)
+  pub end : to ≡ from + width (character ∷ [])
+
+-- U+FFFD, where a lexeme is due
+pub record BinaryFile (text : List ℕ) (from to : ℕ) : Type 0 where
+  pub rest : List ℕ
+  pub due : Due text from (0xFFFD ∷ rest)
+  pub end : to ≡ from + width (0xFFFD ∷ [])
+
+-- a flag of a regular expression that is none of the eight, or that stood before
+pub record WrongFlag (text : List ℕ) (from to : ℕ) : Type 0 where
+  pub s : ℕ
+  pub reached : Reached text s
+  pub lexeme : Lexeme
+  pub lex : Lex all_faults text s lexeme
+  pub is : lexeme.kind ≡ RegExp
+  pub before : List ℕ
+  pub flag : ℕ
+  pub behind : List ℕ
+  pub splits : flags lex.word ≡ Some (before ++ flag ∷ behind)
+  pub wrong : IsTrue (not (one_of (codes "dgimsuvy") flag) || one_of before flag)
+  pub end : lexeme.to ≡ to + width behind
+  pub begin : to ≡ from + width (flag ∷ [])
+
+-- an HTML-like comment in the trivia of a module
+pub record HtmlComment (text : List ℕ) (from : ℕ) : Type 0 where
+  pub s : ℕ
+  pub reached : Reached text s
+  pub before : List (List ℕ)
+  pub comment : List ℕ
+  pub behind : List (List ℕ)
+  pub rest : List ℕ
+  pub stands : Stands text s (before ++ comment ∷ behind) [] rest
+  pub is : IsTrue (is_html_comment comment)
+  pub begin : from ≡ s + width (joined before)
+
+-- what stands at the span of a fault
+abbrev pub Condition : LexicalFault → Goal → List ℕ → ℕ → ℕ → Type 0
+Condition invalid_character goal text from to = InvalidCharacter text from to
+Condition binary_file goal text from to = BinaryFile text from to
+Condition unterminated_string goal text from to = Unterminated is_open_string is_closed_string text from to
+Condition unterminated_template goal text from to = Unterminated is_open_part is_part text from to
+Condition unterminated_regexp goal text from to = Unterminated is_open_regular_expression (lexemes_in regular_expression) text from to
+Condition unterminated_comment goal text from to = Unterminated is_open_comment is_comment text from to
+Condition invalid_escape goal text from to = InvalidNameEscape text from ⊎ InvalidStringEscape text from
+Condition invalid_number goal text from to = InvalidNumber text from
+Condition reg_exp_flag goal text from to = WrongFlag text from to
+Condition html_comment_in_module goal text from to = (passing_of goal ≡ in_module) × HtmlComment text from
+
+-- The fault lies at the span, which begins and ends between characters.
+pub record Faulty (fault : LexicalFault) (goal : Goal) (text : List ℕ) (from to : ℕ) : Type 0 where
+  pub ordered : from ≤ to
+  pub begins_between : IsCharBoundary text from
+  pub ends_between : IsCharBoundary text to
+  pub condition : Condition fault goal text from to

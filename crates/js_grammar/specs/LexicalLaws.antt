@@ -1,0 +1,60 @@
+-- Laws of the lexemes of a text.
+use Rattle.std.specs.Prelude.{ℕ, List, [], ◌∷◌, ◌≡◌, ◌||◌, ◌⊎◌, IsUtf8, IsTrue}
+use Rattle.unicode.specs.Binary.{is_id_start, is_id_continue}
+use Rattle.ucd_category.specs.GeneralCategory.{general_category, general_category_eq}
+use Rattle.ucd_category.specs.declared.GeneralCategory.TheVariants.{SpaceSeparator}
+use Rattle.js_grammar.specs.Characters.{one_of, is_white_space, is_identifier_start, is_identifier_part}
+use Rattle.js_grammar.specs.Grammar.{Lexeme, Lexemes}
+use Rattle.js_grammar.specs.Lexing.{Lexes}
+use Rattle.js_grammar.specs.Lexing.{Lex as FirstLex}
+use Rattle.js_grammar.specs.Lexed.{Passing, all_faults, Lex, Stands, Lexed, end_of, join, ends_once}
+use Rattle.js_grammar.specs.Settings.{Goal}
+use Rattle.js_grammar.specs.CoreTexts.{CoreSource}
+
+-- a part, and another from its end on, are one part together
+abbrev pub Joining : Type 0
+Joining = (passing : Passing) (text : List ℕ) (s : ℕ) (ls ms : Lexemes) → Lexes (Lex passing text) s ls → Lexes (Lex passing text) (end_of ls) ms → Lexes (Lex passing text) s (join ls ms)
+
+-- a part that is cut behind a lexeme is two parts, of which the second begins where the first ends
+abbrev pub Cutting : Type 0
+Cutting = (passing : Passing) (text : List ℕ) (s : ℕ) (ls ms : Lexemes) → Lexes (Lex passing text) s (join ls ms) → Lexes (Lex passing text) s ls × Lexes (Lex passing text) (end_of ls) ms
+
+-- one list of lexemes, and no other, whichever the goal
+pub record OneList (text : List ℕ) : Type 0 where
+  pub lexemes : Lexemes
+  pub lexed : (goal : Goal) → Lexed goal text lexemes
+  pub only : (goal : Goal) (ls : Lexemes) → Lexed goal text ls → ls ≡ lexemes
+
+-- a core text has one list of lexemes, the same at every goal
+abbrev pub CoreText : Type 0
+CoreText = (text : List ℕ) → IsUtf8 text → CoreSource text → OneList text
+
+-- the classes of characters in the standard's words, by the tables of Unicode alone
+pub record CharacterClasses : Type 0 where
+  pub white_space : (c : ℕ) → is_white_space c ≡ (one_of (9 ∷ 11 ∷ 12 ∷ 0xFEFF ∷ []) c || general_category_eq (general_category c) SpaceSeparator)
+  pub identifier_start : (c : ℕ) → is_identifier_start c ≡ (is_id_start c || one_of (36 ∷ 95 ∷ []) c)
+  pub identifier_part : (c : ℕ) → is_identifier_part c ≡ (is_id_continue c || one_of (36 ∷ 0x200C ∷ 0x200D ∷ []) c)
+
+-- faults aside, the marks of diagnostics allow what texts allow
+abbrev pub Leniency : Type 0
+Leniency = (passing : Passing) (text : List ℕ) (s : ℕ) (y : Lexeme) → Lex passing text s y → Lex all_faults text s y
+
+-- The list of lexemes that a text has in the first language is the one that it has in the whole language, at every goal.
+pub record IsInstance (text : List ℕ) (ls : Lexemes) : Type 0 where
+  pub lexed : (goal : Goal) → Lexed goal text ls
+  pub only : (goal : Goal) (ms : Lexemes) → Lexed goal text ms → ms ≡ ls
+
+abbrev pub FirstLanguage : Type 0
+FirstLanguage = (text : List ℕ) (ls : Lexemes) → Lexes (FirstLex text) 0 ls → IsTrue (ends_once ls) → IsInstance text ls
+
+-- behind trivia, a slash or a right brace stands
+pub record AtSlashOrBrace (text : List ℕ) (s : ℕ) : Type 0 where
+  pub pieces : List (List ℕ)
+  pub first : ℕ
+  pub others : List ℕ
+  pub stands : Stands text s pieces [] (first ∷ others)
+  pub is : IsTrue (one_of (47 ∷ 125 ∷ []) first)
+
+-- nothing else is left to choice, whichever faults pass
+abbrev pub Choice : Type 0
+Choice = (p q : Passing) (text : List ℕ) (s : ℕ) (y z : Lexeme) → Lex p text s y → Lex q text s z → (y ≡ z) ⊎ AtSlashOrBrace text s
