@@ -10,7 +10,7 @@ use Rattle.js_base.proofs.KindLemmas.{kind_of_same}
 use Rattle.js_base.specs.Texts.{text_of, punctuators}
 use Rattle.js_grammar.specs.Grammar.{Lexeme}
 use Rattle.js_grammar.proofs.Looks.{differ}
-use Rattle.js_grammar.specs.Lexing.{lexeme_of, is_between, is_newline, is_trivia, is_digit, is_name_start, is_name_part, Run, Gap, IsName, IsNumber, begins, is_longest, first_punctuators, IsPunctuator, Lex, a_name, a_number, a_punctuator, the_end}
+use Rattle.js_grammar.specs.Lexing.{lexeme_of, is_between, is_newline, is_trivia, is_digit, is_name_start, is_name_part, Run, Gap, IsName, IsNumber, begins, is_longest, first_punctuators, signed, punctuator_of, IsPunctuator, Lex, a_name, a_number, a_punctuator, the_end}
 
 pub one_run : {test : ℕ → Bool} {text : List ℕ} {i a b : ℕ} → Run test text i a → Run test text i b → a ≡ b
 one_run {test} {text} {i} {a} {b} r t = elim (cases_order a b) [
@@ -27,13 +27,6 @@ one_mark false true g h = let x = h.newline refl in absurd (false≢true (sym (g
 
 pub same_gap : {text : List ℕ} {s i j : ℕ} {v w : Bool} → Gap text s i v → Gap text s j w → (i ≡ j) × (v ≡ w)
 same_gap {text} {s} {i} {j} {v} {w} g h = let e = one_run g.run h.run in (e, one_mark v w g (subst (λ n. Gap text s n w) (sym e) h))
-
--- The punctuator that begins with a byte, by the next byte (0 past the end): the longest one, where it is of this language.
-abbrev pub signed : Kind → ℕ → ℕ → Kind
-signed k b c = cond (nat_eq b c || nat_eq 61 c) Undetermined k
-
-abbrev pub punctuator_of : ℕ → ℕ → Kind
-punctuator_of b c = cond (nat_eq 40 b) LParen (cond (nat_eq 41 b) RParen (cond (nat_eq 59 b) Semicolon (cond (nat_eq 43 b) (signed Plus 43 c) (cond (nat_eq 45 b) (signed Minus 45 c) (cond (nat_eq 42 b) (signed Star 42 c) Undetermined)))))
 
 abbrev pub punctuator_in : List ℕ → Kind
 punctuator_in [] = Undetermined

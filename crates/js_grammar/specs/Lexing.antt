@@ -1,7 +1,7 @@
 -- The lexemes of a text of names, decimal digits, parentheses, `+`, `-`, `*` and `;` (ECMA-262, chapter 12). Places are bytes.
-use Rattle.std.specs.Prelude.{ℕ, ◌≡◌, ◌+◌, ◌<◌, ◌≤◌, Bool, true, false, not, ◌&&◌, ◌||◌, List, [], ◌∷◌, length, drop, nat_eq, nat_le, slice_index, slice_range}
+use Rattle.std.specs.Prelude.{ℕ, ◌≡◌, ◌+◌, ◌<◌, ◌≤◌, Bool, true, false, not, ◌&&◌, ◌||◌, List, [], ◌∷◌, length, drop, cond, nat_eq, nat_le, slice_index, slice_range}
 use Rattle.js_base.specs.declared.kind.Kind.{Kind}
-use Rattle.js_base.specs.declared.kind.Kind.TheVariants.{LParen, RParen, Semicolon, Plus, Minus, Star, Ident, Decimal, Eof}
+use Rattle.js_base.specs.declared.kind.Kind.TheVariants.{LParen, RParen, Semicolon, Plus, Minus, Star, Ident, Decimal, Eof, Undetermined}
 use Rattle.js_base.specs.Kinds.{one_of_kinds}
 use Rattle.js_base.specs.Texts.{text_of, punctuators}
 use Rattle.js_base.specs.Keywords.{keyword_of}
@@ -73,6 +73,13 @@ is_longest k bs = begins (text_of k) bs && none_longer (length (text_of k)) punc
 
 abbrev pub first_punctuators : List Kind
 first_punctuators = LParen ∷ RParen ∷ Semicolon ∷ Plus ∷ Minus ∷ Star ∷ []
+
+-- The punctuator that begins with a byte, by the next byte (0 past the end): the longest one, where it is of this language.
+abbrev pub signed : Kind → ℕ → ℕ → Kind
+signed k b c = cond (nat_eq b c || nat_eq 61 c) Undetermined k
+
+abbrev pub punctuator_of : ℕ → ℕ → Kind
+punctuator_of b c = cond (nat_eq 40 b) LParen (cond (nat_eq 41 b) RParen (cond (nat_eq 59 b) Semicolon (cond (nat_eq 43 b) (signed Plus 43 c) (cond (nat_eq 45 b) (signed Minus 45 c) (cond (nat_eq 42 b) (signed Star 42 c) Undetermined)))))
 
 pub record IsPunctuator (k : Kind) (text : List ℕ) (i j : ℕ) : Type 0 where
   pub one_of : one_of_kinds first_punctuators k ≡ true

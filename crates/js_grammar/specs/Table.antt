@@ -79,7 +79,7 @@ rule_of Program f = node (record { kind = program; op = no_op; flags = 0; extent
 rule_of Item f = sym ExprStmt f ◇ sym Empty f
 rule_of Empty f = mk empty_statement (tok Semicolon)
 rule_of ExprStmt f = mk expression_statement (ended after_expression (sym Expression f))
--- Expressions (13.2, 13.3, 13.5, 13.7, 13.8)
+-- Expressions (13.1 to 13.3, 13.5, 13.7, 13.8, 13.16)
 rule_of Expression f = sym Additive f
 rule_of Additive f = level Additive Multiply (Plus ∷ Minus ∷ []) binary_expression f
 rule_of Multiply f = level Multiply Unary (Star ∷ []) binary_expression f

@@ -29,7 +29,7 @@ pub record Span : Type 0 where
   pub from : ℕ
   pub to : ℕ
 
--- What a node is, its slots aside. The flags are a sum of the numbers of Marks.
+-- What a node is, its slots aside. The flags are a sum of powers of two, the first for the first flag of `flag_words` in Lines.
 pub record Label : Type 0 where
   pub kind : NodeKind
   pub op : Op

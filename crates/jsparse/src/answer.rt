@@ -29,7 +29,7 @@ pub fn answer_to(alloc: Global, text: &str) -> Result<Answer, NoMemory>
             refused: false,
         })
     } else {
-        let output = diagnostic_lines(&parsed.diagnostics, alloc)?;
+        let output = diagnostic_lines(alloc, &parsed.diagnostics)?;
         Ok(Answer {
             output,
             refused: true,

@@ -2,8 +2,7 @@
 
 ghost use Rattle.std.specs.Prelude.{◌≡◌, ◌+◌, ◌<◌, ◌≤◌, ◌||◌, true, length, slice_index, nat_eq};
 ghost use Rattle.js_base.specs.declared.kind.Kind.TheVariants.{Ident, Decimal, Undetermined};
-ghost use Rattle.js_grammar.specs.Lexing.{Run, Gap};
-ghost use Rattle.js_grammar.proofs.Lexemes.{punctuator_of};
+ghost use Rattle.js_grammar.specs.Lexing.{Run, Gap, punctuator_of, signed};
 ghost use Rattle.jsparse.specs.Tokens.{Begins, Tells, TokenAt, token_of};
 
 use js_base::{Kind, MAX_LEN, Span, Token, keyword_kind};
@@ -192,7 +191,7 @@ fn number_at(text: &[u8], at: usize) -> Beginning
 
 /// A sign alone: no longer punctuator begins with it.
 fn sign_of(sign: u8, kind: Kind, next: u8) -> Kind
-    ensures { result ≡ Rattle.js_grammar.proofs.Lexemes.signed kind sign next }
+    ensures { result ≡ signed kind sign next }
 {
     if sign == next || b'=' == next {
         Kind::Undetermined

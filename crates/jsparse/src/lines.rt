@@ -201,7 +201,7 @@ fn write_diagnostic(out: &mut Vec<u8>, found: &Diagnostic) -> Result<(), NoMemor
 }
 
 /// The lines of diagnostics, in their order.
-pub fn diagnostic_lines(found: &Diagnostics, alloc: Global) -> Result<Vec<u8>, NoMemory>
+pub fn diagnostic_lines(alloc: Global, found: &Diagnostics) -> Result<Vec<u8>, NoMemory>
     ensures { IfOk result (λ bytes. bytes.items ≡ diagnostic_text found.now) }
 {
     let mut out = Vec::new(alloc);
@@ -274,7 +274,7 @@ mod tests {
         let first = Some(Span { start: 10, end: 20 });
         let second = Some(Span { start: 0, end: 100 });
         let mut found = Diagnostics::new(alloc);
-        assert_eq!(rt; diagnostic_lines(&found, alloc)?.len(), 0);
+        assert_eq!(rt; diagnostic_lines(alloc, &found)?.len(), 0);
         for (first, second) in [(None, None), (first, None), (first, second)] {
             found.push(Diagnostic {
                 kind,
@@ -283,7 +283,7 @@ mod tests {
                 second,
             })?;
         }
-        let lines = diagnostic_lines(&found, alloc)?;
+        let lines = diagnostic_lines(alloc, &found)?;
         let wanted =
             "2..3 unexpected_token\n2..3 unexpected_token 10..20\n2..3 unexpected_token 10..20 0..100\n";
         assert_eq!(rt; lines.as_slice(), wanted.as_bytes());

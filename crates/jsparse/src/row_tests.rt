@@ -11,9 +11,14 @@ use std::test::Fail;
 
 const SUM: &str =
     "Program 0..5\n  ExpressionStatement 0..5\n    BinaryExpression 0..5 +\n      IdentifierReference 0..1\n      IdentifierReference 4..5\n";
-const CALL: &str = "Program 0..5\n  ExpressionStatement 0..5\n    CallExpression 0..5\n      IdentifierReference 0..1\n      IdentifierReference 3..4\n";
+
+const CALL: &str =
+    "Program 0..5\n  ExpressionStatement 0..5\n    CallExpression 0..5\n      IdentifierReference 0..1\n      IdentifierReference 3..4\n";
+
 const ENDED: &str = "Program 0..3\n  ExpressionStatement 0..3\n    IdentifierReference 0..1\n";
-const PRODUCT: &str = "Program 0..11\n  ExpressionStatement 0..11\n    BinaryExpression 0..11 *\n      CallExpression 0..4\n        IdentifierReference 0..1\n        IdentifierReference 2..3\n      UnaryExpression 7..11 -\n        ParenthesizedExpression 8..11\n          IdentifierReference 9..10\n";
+
+const PRODUCT: &str =
+    "Program 0..11\n  ExpressionStatement 0..11\n    BinaryExpression 0..11 *\n      CallExpression 0..4\n        IdentifierReference 0..1\n        IdentifierReference 2..3\n      UnaryExpression 7..11 -\n        ParenthesizedExpression 8..11\n          IdentifierReference 9..10\n";
 
 /// Runs over the text, and tells whether it ends with this status and gives this output.
 fn gives(alloc: Global, text: &[u8], status: Status, want: &str) -> Result<bool, Fail> {
@@ -35,7 +40,10 @@ fn writes_trees(rt: HostRuntime) -> Result<(), Fail> {
         ("f(a) * -(b)", PRODUCT),
     ];
     for (text, want) in rows {
-        assert!(rt; gives(alloc, text.as_bytes(), Status::Ok, want)?, "at {text:?}");
+        assert!(rt;
+            gives(alloc, text.as_bytes(), Status::Ok, want)?,
+            "at {text:?}"
+        );
     }
     Ok(())
 }
@@ -50,7 +58,10 @@ fn writes_diagnostics(rt: HostRuntime) -> Result<(), Fail> {
         ("new", "0..1 unexpected_token\n"),
     ];
     for (text, want) in rows {
-        assert!(rt; gives(alloc, text.as_bytes(), Status::Refused, want)?, "at {text:?}");
+        assert!(rt;
+            gives(alloc, text.as_bytes(), Status::Refused, want)?,
+            "at {text:?}"
+        );
     }
     Ok(())
 }
