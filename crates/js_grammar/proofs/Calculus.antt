@@ -1,12 +1,12 @@
 -- Readings of a grammar's parts over any lexing, and the rules that put them together.
-use Rattle.std.proofs.Common.{ℕ, suc, ◌≡◌, ◌≤◌, ◌⊎◌, inl, inr, max, Bool, true, false, ◌||◌, IsTrue, List, [], ◌∷◌, refl, ap, sym, ◌∙◌, subst, cond, arith}
+use Rattle.std.proofs.Common.{ℕ, suc, ◌≡◌, ◌≤◌, inl, inr, max, Bool, true, false, ◌||◌, IsTrue, List, [], ◌∷◌, refl, ap, sym, ◌∙◌, subst, cond, arith}
 use Rattle.std.proofs.lemmas.Bool.{false≢true, or_left, or_right}
 use Rattle.js_base.specs.declared.kind.Kind.{Kind}
 use Rattle.js_base.specs.declared.kind.Kind.TheVariants.{Eof}
 use Rattle.js_base.specs.Kinds.{same_kind, one_of_kinds}
 use Rattle.js_base.proofs.KindLemmas.{kind_of_same}
 use Rattle.js_grammar.specs.Trees.{Label, Slots, end, hole, tree, Tree, append}
-use Rattle.js_grammar.specs.Grammar.{Lexeme, Lexemes, last, next, here, Look, seen, Make, label_of, nothing, never, lexeme, look, text, ahead, empty_slot, seq, alt, when, many, commas, such, marked, node, ended, keep, kept, many_once, commas_once, semicolon, Takes, is_nothing, is_lexeme, is_look, is_ahead, is_empty_slot, is_seq, is_left, is_right, is_when, is_many, is_commas, is_such, is_marked, is_node, is_ended, is_keep, is_kept}
+use Rattle.js_grammar.specs.Grammar.{Lexeme, Lexemes, last, next, here, Look, seen, Make, label_of, nothing, never, lexeme, look, text, ahead, empty_slot, seq, alt, when, many, commas, such, marked, node, ended, keep, kept, many_once, commas_once, semicolon, is_nothing, is_lexeme, is_look, is_ahead, is_seq, is_left, is_right, is_when, is_many, is_commas, is_such, is_marked, is_node, is_ended, is_keep, is_kept}
 use Rattle.js_grammar.specs.Table.{Symbol, G, rule}
 use Rattle.js_grammar.specs.Lexing.{Lexes}
 use Rattle.js_grammar.specs.Parsing.{T, Reaches, Extends, Goes, Reads, Fails}

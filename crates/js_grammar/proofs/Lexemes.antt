@@ -1,7 +1,7 @@
 -- At each place of a text of the first language at most one lexeme stands.
-use Rattle.std.proofs.Common.{ℕ, zero, suc, ◌≡◌, ◌+◌, ◌<◌, ◌≤◌, ◌⊎◌, inl, inr, Bool, true, false, not, ◌&&◌, ◌||◌, List, [], ◌∷◌, length, drop, refl, ap, sym, ◌∙◌, subst, cond, nat_eq, nat_le, arith, eqb-true, length-drop}
+use Rattle.std.proofs.Common.{ℕ, zero, suc, ◌≡◌, ◌+◌, ◌<◌, ◌≤◌, inl, inr, Bool, true, false, ◌||◌, List, [], ◌∷◌, length, drop, refl, ap, sym, ◌∙◌, subst, cond, nat_eq, nat_le, arith, eqb-true, length-drop}
 use Rattle.std.specs.Prelude.{slice_index, slice_range}
-use Rattle.std.proofs.lemmas.Bool.{and_parts, or_left, or_right, false≢true, leb-true, le-leb, cases_order}
+use Rattle.std.proofs.lemmas.Bool.{and_parts, false≢true, leb-true, le-leb, cases_order}
 use Rattle.std.proofs.lemmas.Bool.Decides.{nat_tests}
 use Rattle.js_base.specs.declared.kind.Kind.{Kind}
 use Rattle.js_base.specs.declared.kind.Kind.TheVariants.{LParen, RParen, Semicolon, Plus, Minus, Star, Ident, Decimal, Eof, Undetermined}
@@ -10,7 +10,7 @@ use Rattle.js_base.proofs.KindLemmas.{kind_of_same}
 use Rattle.js_base.specs.Texts.{text_of, punctuators}
 use Rattle.js_grammar.specs.Grammar.{Lexeme}
 use Rattle.js_grammar.proofs.Looks.{differ}
-use Rattle.js_grammar.specs.Lexing.{lexeme_of, is_between, is_newline, is_trivia, is_digit, is_name_start, is_name_part, Run, Gap, IsName, IsNumber, begins, is_longest, first_punctuators, signed, punctuator_of, IsPunctuator, Lex, a_name, a_number, a_punctuator, the_end}
+use Rattle.js_grammar.specs.Lexing.{lexeme_of, is_digit, is_name_start, is_name_part, Run, Gap, IsName, IsNumber, begins, is_longest, first_punctuators, signed, punctuator_of, IsPunctuator, Lex, a_name, a_number, a_punctuator, the_end}
 
 pub one_run : {test : ℕ → Bool} {text : List ℕ} {i a b : ℕ} → Run test text i a → Run test text i b → a ≡ b
 one_run {test} {text} {i} {a} {b} r t = elim (cases_order a b) [

@@ -1,9 +1,9 @@
 -- Tests of lexemes, and which of them covers which.
-use Rattle.std.proofs.Common.{List, [], ◌∷◌, ◌≡◌, Bool, true, false, not, ◌&&◌, ◌||◌, refl, sym, ◌∙◌, subst, nat_eq}
+use Rattle.std.proofs.Common.{◌≡◌, Bool, true, false, not, ◌&&◌, ◌||◌, refl, sym, ◌∙◌, subst}
 use Rattle.std.proofs.lemmas.Bool.{and_parts, or_left, or_right, false≢true, eq-eqb}
 use Rattle.js_base.specs.declared.kind.Kind.{Kind}
-use Rattle.js_base.specs.Kinds.{code, kinds, same_kind, one_of_kinds}
-use Rattle.js_base.proofs.KindLemmas.{all_of, at_each, kind_of_same}
+use Rattle.js_base.specs.Kinds.{code, kinds, same_kind}
+use Rattle.js_base.proofs.KindLemmas.{all_of, at_each}
 use Rattle.js_grammar.specs.Grammar.{Look}
 pub use Rattle.js_grammar.specs.Levels.{full}
 

@@ -1,5 +1,5 @@
 -- Loops that read left-recursive symbols: the start, a step, the end, and failures.
-use Rattle.std.proofs.Common.{ℕ, ◌≡◌, ◌≤◌, ◌+◌, max, Bool, true, false, ◌||◌, ◌&&◌, IsTrue, List, [], ◌∷◌, ◌++◌, cond, nat_eq, refl, ap, sym, ◌∙◌, subst, arith}
+use Rattle.std.proofs.Common.{ℕ, ◌≡◌, ◌≤◌, ◌+◌, max, Bool, true, false, ◌&&◌, IsTrue, List, [], ◌∷◌, ◌++◌, cond, refl, ap, sym, ◌∙◌, subst, arith}
 use Rattle.std.proofs.lemmas.Bool.{or_left, or_right, and_parts, false≢true}
 use Rattle.js_base.specs.declared.kind.Kind.{Kind}
 use Rattle.js_base.specs.Kinds.{same_kind, one_of_kinds}
@@ -10,9 +10,9 @@ use Rattle.js_grammar.specs.Table.{Symbol, G, rule, always, branches}
 use Rattle.js_grammar.specs.Lexing.{Lexes}
 use Rattle.js_grammar.proofs.Looks.{full, none, either, covers, covered, some_of, some_at}
 use Rattle.js_grammar.proofs.First.{starts, starting}
-use Rattle.js_grammar.specs.Parsing.{T, Reaches, Extends, Goes, Reads, Fails}
+use Rattle.js_grammar.specs.Parsing.{T, Reaches, Extends, Reads, Fails}
 use Rattle.js_grammar.proofs.Calculus.{reaches_less, here_at}
-use Rattle.js_grammar.proofs.Towers.{Link, link, linked_label, Among, of_left, of_right, Links, one, two, guarded, none_at_all, Tower, Tail, tail_none, tail_more, an_link, under, reslot, unroll, roll, Same, chain, level_tower, operation, operation_link, of_operations, to_operations, same_label, same_slots, OneOf, head, later}
+use Rattle.js_grammar.proofs.Towers.{Link, link, linked_label, Among, of_left, of_right, Links, one, two, guarded, none_at_all, Tower, Tail, tail_none, tail_more, an_link, under, unroll, roll, Same, chain, level_tower, operation, operation_link, of_operations, to_operations, same_label, same_slots, OneOf, head, later}
 
 -- Of the symbol of the level m, read from s on, where F stands behind it, a node of the level c has been read, up to s'; what remains is the parts behind it. The symbol's first lexeme begins at `from`.
 pub record Around (Lex : ℕ → Lexeme → Type 0) (F : Look) (w : Tower rule) (m s from c : ℕ) (l : Label) (cs : Slots) (s' : ℕ) (reach : ℕ) : Type 0 where

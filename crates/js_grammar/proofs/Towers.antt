@@ -1,7 +1,7 @@
 -- Left-recursive symbols, one above the other, and the loop that reads them: what a symbol takes is what the topmost operand takes, with parts behind it.
 use Rattle.std.proofs.Common.{ℕ, zero, suc, ◌≡◌, ◌≤◌, ◌+◌, ◌-◌, Bool, IsTrue, List, [], ◌∷◌, refl, ap, sym, subst, arith, ◌↔◌, nat_eq, cond}
 use Rattle.js_base.specs.declared.kind.Kind.{Kind}
-use Rattle.js_grammar.specs.Trees.{NodeKind, Op, of, Label, Slots, end, hole, tree, Tree}
+use Rattle.js_grammar.specs.Trees.{NodeKind, Op, of, Label, Slots, end, hole, tree}
 use Rattle.js_grammar.specs.Grammar.{here, Lexemes, Make, exact, Grammar, never, lexeme, is, seq, alt, when, such, node, Takes, is_seq, is_left, is_right, is_when, is_such, is_node}
 use Rattle.js_grammar.specs.Table.{Symbol, G, rule, always, branches}
 

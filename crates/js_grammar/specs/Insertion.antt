@@ -1,5 +1,5 @@
 -- Where a semicolon may be left out (ECMA-262, 12.10), in texts without slashes, braces and templates.
-use Rattle.std.specs.Prelude.{Bool, true, false, not, ◌&&◌, ◌||◌, List, [], ◌∷◌, cond}
+use Rattle.std.specs.Prelude.{Bool, false, not, ◌&&◌, ◌||◌, List, [], ◌∷◌}
 use Rattle.js_base.specs.declared.kind.Kind.{Kind}
 use Rattle.js_base.specs.declared.kind.Kind.TheVariants.{In, Instanceof, LParen, LBrack, Semicolon, Comma, Dot, Arrow, Question, QuestionDot, Question2, Question2Eq, Plus, Plus2, PlusEq, Minus, Minus2, MinusEq, Star, Star2, StarEq, Star2Eq, Percent, PercentEq, Eq, Eq2, Eq3, Neq, Neq2, LAngle, LtEq, RAngle, GtEq, ShiftLeft, ShiftLeftEq, ShiftRight, ShiftRightEq, ShiftRight3, ShiftRight3Eq, Amp, Amp2, AmpEq, Amp2Eq, Pipe, Pipe2, PipeEq, Pipe2Eq, Caret, CaretEq, Eof}
 use Rattle.js_base.specs.Kinds.{same_kind, one_of_kinds}

@@ -1,5 +1,5 @@
 -- The levels of operators by number, as a loop over binding power meets them, and what may stand behind each nonterminal.
-use Rattle.std.specs.Prelude.{ℕ, zero, suc, Bool, true, List, [], ◌∷◌, nat_lt}
+use Rattle.std.specs.Prelude.{ℕ, zero, suc, true, List, [], ◌∷◌, nat_lt}
 use Rattle.js_base.specs.declared.kind.Kind.{Kind}
 use Rattle.js_base.specs.declared.kind.Kind.TheVariants.{Plus, Minus, Star, LParen, Eof}
 use Rattle.js_base.specs.Kinds.{same_kind}

@@ -1,5 +1,5 @@
 -- What the program prints: the lines of a tree and of diagnostics. Every line ends with LF.
-use Rattle.std.specs.Prelude.{ℕ, suc, ◌+◌, ◌*◌, ◌/◌, ◌%◌, List, [], ◌∷◌, ◌++◌, cond, codes, nat_eq, Option, Some, None, replicate}
+use Rattle.std.specs.Prelude.{ℕ, suc, ◌*◌, ◌/◌, ◌%◌, List, [], ◌∷◌, ◌++◌, cond, codes, nat_eq, Option, Some, None, replicate}
 use Rattle.std.specs.Fmt.{decimal}
 use Rattle.js_base.specs.Texts.{text_of}
 use Rattle.js_base.specs.Diagnostics.{name_of}

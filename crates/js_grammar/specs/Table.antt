@@ -1,5 +1,5 @@
 -- The grammar, a line for each production: expression statements, sums and products, signs, calls with no or one argument, parentheses, names and numbers. Lines that only pass on to the next one, because their operators come later, are left out.
-use Rattle.std.specs.Prelude.{ℕ, Bool, true, false, not, ◌&&◌, List, [], ◌∷◌}
+use Rattle.std.specs.Prelude.{Bool, true, false, List, [], ◌∷◌}
 use Rattle.js_base.specs.declared.kind.Kind.{Kind}
 use Rattle.js_base.specs.declared.kind.Kind.TheVariants.{LParen, RParen, Semicolon, Plus, Minus, Star, Ident, Decimal}
 use Rattle.js_base.specs.Kinds.{same_kind}

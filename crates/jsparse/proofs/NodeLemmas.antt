@@ -1,5 +1,5 @@
 -- The nodes that parse functions make.
-use Rattle.std.proofs.Common.{ℕ, ◌≡◌, ◌+◌, ◌≤◌, List, [], ◌∷◌, length, Option, Some, None, refl, sym, ap, ap₂, subst, ◌∙◌, arith}
+use Rattle.std.proofs.Common.{◌≡◌, List, [], ◌∷◌, length, Option, Some, sym, subst, arith}
 use Rattle.js_base.specs.declared.kind.Kind.{Kind}
 use Rattle.js_base.specs.declared.span.Span.{Span}
 use Rattle.js_grammar.specs.Trees.{Slots, end, tree, Label}
@@ -8,7 +8,7 @@ use Rattle.jsparse.specs.declared.tree.Node.{Node}
 use Rattle.jsparse.specs.declared.tree.NodeId.{NodeId}
 use Rattle.jsparse.specs.declared.tree.NodeKind.{NodeKind}
 use Rattle.jsparse.specs.Holding.{kind_of, op_of, label_of, Holds, HoldsAll, no_ids, next_id, Keeps, Made}
-use Rattle.jsparse.proofs.Nodes.{Keeps-refl, Keeps-trans, HoldsAll-one, Holds-bound}
+use Rattle.jsparse.proofs.Nodes.{Keeps-trans, HoldsAll-one}
 use Rattle.jsparse.proofs.Paths.{label_here}
 use Rattle.jsparse.proofs.States.{Held}
 

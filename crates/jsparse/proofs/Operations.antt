@@ -1,16 +1,14 @@
 -- Operators and their operands: the start, a step, the end, and failures of the loop over binding power.
-use Rattle.std.proofs.Common.{ℕ, zero, suc, ◌≡◌, ◌<◌, ◌≤◌, ◌+◌, max, List, [], ◌∷◌, length, Option, Some, Bool, true, false, ◌||◌, IsTrue, refl, sym, ap, subst, arith, ◌∙◌, nat_lt}
-use Rattle.std.proofs.lemmas.Bool.{false≢true, ltb-true, lt-ltb, or_right}
+use Rattle.std.proofs.Common.{ℕ, zero, suc, ◌≡◌, ◌<◌, ◌≤◌, ◌+◌, max, List, [], ◌∷◌, Option, Some, Bool, true, IsTrue, refl, sym, ap, subst, arith, ◌∙◌}
+use Rattle.std.proofs.lemmas.Bool.{ltb-true, lt-ltb}
 use Rattle.js_base.specs.declared.kind.Kind.{Kind}
 use Rattle.js_base.specs.declared.kind.Kind.TheVariants.{Plus, Minus, Star, LParen, Undetermined}
-use Rattle.js_grammar.specs.Trees.{Slots, end, tree, Label, of, binary_expression}
-use Rattle.js_grammar.specs.Grammar.{Lexeme, Look, seen, such}
-use Rattle.js_grammar.specs.Table.{Symbol, rule, at, always, script_flags, Unary, Flags}
+use Rattle.js_grammar.specs.Trees.{end, tree, of, binary_expression}
+use Rattle.js_grammar.specs.Grammar.{Lexeme, such}
+use Rattle.js_grammar.specs.Table.{at, always, script_flags, Unary}
 use Rattle.js_grammar.specs.Lexing.{Lex}
 use Rattle.js_grammar.specs.Levels.{level_at, operators_at, strength, tight, looser, follow}
-use Rattle.js_grammar.specs.Parsing.{Reads, Fails}
-use Rattle.js_grammar.proofs.Looks.{differ}
-use Rattle.js_grammar.proofs.Lexemes.{unescaped}
+use Rattle.js_grammar.specs.Parsing.{Fails}
 use Rattle.js_grammar.proofs.Calculus.{◌▹◌, ◌▹✗◌}
 use Rattle.js_grammar.proofs.Towers.{OneOf, head, later}
 use Rattle.js_grammar.proofs.Loops.{Follows, Alone, start, start_fails, step, step_fails, operators_follow, one_operator, operators_end}
@@ -24,7 +22,7 @@ use Rattle.jsparse.specs.Holding.{Made}
 use Rattle.jsparse.proofs.NodeLemmas.{pair_held, label_same}
 use Rattle.jsparse.specs.Answers.{At, Passed, Answer, Numbered}
 use Rattle.jsparse.proofs.Paths.{skips, kind_here, begins_here, label_here}
-use Rattle.jsparse.proofs.States.{Behind, Held, Operand}
+use Rattle.jsparse.proofs.States.{Held, Operand}
 
 -- where a level stops
 pub follow_level : (m : ℕ) (k : Kind) (w e : Bool) → 1 ≤ m → m ≤ 3 → follow (level_at script_flags m).name k w e ≡ looser m k w e

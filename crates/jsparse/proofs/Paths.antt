@@ -1,22 +1,22 @@
 -- Readings between two states of the parser.
-use Rattle.std.proofs.Common.{ℕ, ◌≡◌, ◌<◌, ◌≤◌, max, List, [], ◌∷◌, length, Bool, true, false, not, ◌&&◌, ◌||◌, IsTrue, ◌⊎◌, inl, inr, refl, sym, ap, subst, arith, ◌∙◌}
-use Rattle.std.proofs.lemmas.Bool.{false≢true, and_parts}
+use Rattle.std.proofs.Common.{ℕ, ◌≡◌, ◌<◌, ◌≤◌, max, List, [], ◌∷◌, Bool, true, false, ◌||◌, IsTrue, refl, sym, ap, subst, arith, ◌∙◌}
+use Rattle.std.proofs.lemmas.Bool.{false≢true}
 use Rattle.js_base.specs.declared.kind.Kind.{Kind}
 use Rattle.js_base.specs.declared.kind.Kind.TheVariants.{Undetermined}
 use Rattle.js_base.specs.Kinds.{same_kind, one_of_kinds}
 use Rattle.js_base.proofs.KindLemmas.{kind_of_same}
 use Rattle.js_grammar.specs.Trees.{Slots, end, tree, Label, Op, NodeKind}
-use Rattle.js_grammar.specs.Grammar.{Lexeme, Lexemes, Look, seen, is, here, lexeme, seq, node, such, nothing, label_of}
+use Rattle.js_grammar.specs.Grammar.{Lexeme, Look, seen, is, here, lexeme, seq, such, nothing}
 use Rattle.js_grammar.specs.Table.{G, Symbol, rule, tok, always, make}
-use Rattle.js_grammar.specs.Lexing.{Lex, Lexes}
+use Rattle.js_grammar.specs.Lexing.{Lex}
 use Rattle.js_grammar.specs.Levels.{full, follow}
 use Rattle.js_grammar.specs.Parsing.{Goes, Reads, Fails}
-use Rattle.js_grammar.proofs.Looks.{covers, same_self, differ}
+use Rattle.js_grammar.proofs.Looks.{covers, same_self}
 use Rattle.js_grammar.proofs.First.{starts}
 use Rattle.js_grammar.proofs.Lexemes.{one_lexeme, unescaped}
-use Rattle.js_grammar.proofs.Calculus.{here_at, ◌▹◌, ◌▹✗◌, then, then_by, weaken, weaken_fails, part_by, makes, by_rule, fails_rule, unless, picks, pick, reads_lexeme}
+use Rattle.js_grammar.proofs.Calculus.{here_at, ◌▹◌, ◌▹✗◌, then, then_by, weaken, weaken_fails, makes, by_rule, fails_rule, unless, picks, pick, reads_lexeme}
 use Rattle.jsparse.specs.declared.cursor.Cursor.{Cursor}
-use Rattle.jsparse.specs.Answers.{At, Passed, Answer, Part}
+use Rattle.jsparse.specs.Answers.{At, Passed, Answer}
 
 -- the kind of whatever stands behind the place
 pub kind_here : {text : List ℕ} {p : Cursor} {k : Kind} → At text p → p.token.kind ≡ k → (y : Lexeme) → Lex text p.prev_token_end y → y.kind ≡ k

@@ -1,24 +1,24 @@
 -- What the parse functions of operands answer, from what the calls in them answer.
-use Rattle.std.proofs.Common.{ℕ, ◌≡◌, ◌<◌, ◌≤◌, ◌+◌, max, List, [], ◌∷◌, ◌++◌, length, Bool, true, false, ◌||◌, IsTrue, Option, Some, None, refl, sym, ap, subst, arith, ◌∙◌, nat_lt}
+use Rattle.std.proofs.Common.{ℕ, ◌≡◌, ◌<◌, max, List, [], ◌∷◌, ◌++◌, length, true, IsTrue, Option, Some, refl, sym, ap, subst, arith, ◌∙◌, nat_lt}
 use Rattle.std.specs.Prelude.{Result, Ok, Err}
 use Rattle.std.proofs.lemmas.Bool.{false≢true, and_parts}
 use Rattle.js_base.specs.declared.kind.Kind.{Kind}
-use Rattle.js_base.specs.declared.kind.Kind.TheVariants.{Ident, Decimal, LParen, RParen, Semicolon, Plus, Minus, Star, Eof, Undetermined}
+use Rattle.js_base.specs.declared.kind.Kind.TheVariants.{Ident, Decimal, LParen, RParen, Plus, Minus, Undetermined}
 use Rattle.js_base.specs.Kinds.{same_kind, one_of_kinds}
 use Rattle.js_base.proofs.KindLemmas.{kind_of_same}
-use Rattle.js_grammar.specs.Trees.{Slots, end, hole, tree, append, Label, Op, no_op, of, binary_expression, unary_expression, call_expression, parenthesized_expression, identifier_reference, numeric_literal}
-use Rattle.js_grammar.specs.Grammar.{Lexeme, Lexemes, here, Look, seen, is, such, seq, alt, nothing, is_nothing, ◌▸◌, ◌◇◌}
-use Rattle.js_grammar.specs.Table.{G, Symbol, rule, rule_of, at, always, script_flags, sym as symbol, tok, args, opt, mk, parens, Expression, Unary, LeftHandSide, Member, Call, Primary, IdentifierReference}
+use Rattle.js_grammar.specs.Trees.{Slots, end, hole, tree, append, Label, no_op, of, unary_expression, call_expression, parenthesized_expression, identifier_reference, numeric_literal}
+use Rattle.js_grammar.specs.Grammar.{Lexeme, Lexemes, here, Look, seen, is, seq, nothing, is_nothing}
+use Rattle.js_grammar.specs.Table.{G, Symbol, rule, rule_of, at, script_flags, sym as symbol, tok, args, Expression, Unary, LeftHandSide, Member, Call, Primary, IdentifierReference}
 use Rattle.js_grammar.specs.Lexing.{Lex, Lexes}
-use Rattle.js_grammar.specs.Levels.{full, level_at, tight, looser, follow}
-use Rattle.js_grammar.specs.Parsing.{T, Goes, Reads, Fails}
+use Rattle.js_grammar.specs.Levels.{full, level_at, tight, follow}
+use Rattle.js_grammar.specs.Parsing.{T, Reads, Fails}
 use Rattle.js_grammar.proofs.Looks.{covers, differ}
 use Rattle.js_grammar.proofs.Lexemes.{first_or}
 use Rattle.js_grammar.proofs.First.{starts}
-use Rattle.js_grammar.proofs.Calculus.{here_at, ◌▹◌, ◌▹✗◌, left, right, by_rule, fails_rule, fails_node, part_by, part_fails, done, then, weaken, weaken_fails, fails_part, fails_alt, ends, then_by}
+use Rattle.js_grammar.proofs.Calculus.{here_at, ◌▹◌, ◌▹✗◌, left, right, by_rule, fails_rule, fails_node, part_by, done, weaken_fails, fails_part, fails_alt, then_by}
 use Rattle.js_grammar.proofs.Towers.{this}
-use Rattle.js_grammar.proofs.Loops.{unfollowed, Chained, chain_start, chain_start_fails, chain_step, chain_step_fails, chain_end, linked_starts}
-use Rattle.js_grammar.proofs.Operators.{call_climbs, call_links, calls, first_call, more_call, call_begins}
+use Rattle.js_grammar.proofs.Loops.{unfollowed, chain_start, chain_start_fails, chain_step, chain_step_fails, chain_end}
+use Rattle.js_grammar.proofs.Operators.{call_climbs, call_links, calls, first_call, call_begins}
 use Rattle.jsparse.specs.declared.cursor.Cursor.{Cursor}
 use Rattle.jsparse.specs.declared.cursor.Stop.{Stop}
 use Rattle.jsparse.specs.declared.cursor.Stop.TheVariants.{Fatal, NoMemory}
@@ -29,7 +29,7 @@ use Rattle.js_base.specs.declared.span.Span.{Span}
 use Rattle.jsparse.specs.declared.tree.NodeKind.{NodeKind}
 use Rattle.jsparse.specs.Holding.{HoldsAll, Keeps, Made, label_of}
 use Rattle.jsparse.proofs.NodeLemmas.{node_held}
-use Rattle.jsparse.proofs.Paths.{kind_here, narrow, by_symbol, passes_test, at_kind, fails_at, Path, ◌⟶◌, ◌⟶✗◌, ◌⟼◌, ◌⟝◌, token, last_token, called, last_called, label_here, noded, begins_here, not_here, Nots}
+use Rattle.jsparse.proofs.Paths.{kind_here, narrow, by_symbol, passes_test, at_kind, fails_at, Path, ◌⟶◌, ◌⟶✗◌, ◌⟼◌, token, last_token, called, last_called, label_here, noded, begins_here}
 use Rattle.jsparse.proofs.Nodes.{Keeps-refl, Keeps-trans, HoldsAll-next, HoldsAll-one}
 use Rattle.jsparse.proofs.States.{Behind, Held}
 

@@ -1,6 +1,6 @@
 -- What `==` of two kinds tells.
 use Rattle.std.proofs.Common.{◌≡◌, Bool, true, false, sym, ◌∙◌, rules}
-use denote.Enum.Bare.{Bare, sameb, same_true, same_false}
+use denote.Enum.Bare.{sameb, same_true, same_false}
 use Rattle.js_base.specs.contracts.kind.Kind.{the_type}
 use Rattle.js_base.specs.declared.kind.Kind.{Kind}
 use Rattle.jsparse.specs.Tokens.{Tells}

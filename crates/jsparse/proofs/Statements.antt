@@ -1,31 +1,30 @@
 -- Statements and their semicolons, and whole scripts.
-use Rattle.std.proofs.Common.{ℕ, ◌≡◌, ◌<◌, ◌≤◌, ◌+◌, max, ◌⊎◌, inl, inr, List, [], ◌∷◌, ◌++◌, length, Bool, true, false, not, ◌&&◌, ◌||◌, IsTrue, Option, Some, None, refl, sym, ap, subst, arith, ◌∙◌}
-use Rattle.std.specs.Prelude.{Result, Ok, Err}
+use Rattle.std.proofs.Common.{ℕ, ◌≡◌, ◌≤◌, max, ◌⊎◌, inl, inr, List, [], ◌∷◌, ◌++◌, length, Bool, true, false, not, ◌&&◌, ◌||◌, IsTrue, Option, Some, refl, sym, ap, subst, arith, ◌∙◌}
 use Rattle.std.proofs.lemmas.Bool.{false≢true, and_from, and_parts}
 use Rattle.js_base.specs.declared.kind.Kind.{Kind}
 use Rattle.js_base.specs.declared.kind.Kind.TheVariants.{Ident, Decimal, Semicolon, Eof, Undetermined, LParen, RParen, Plus, Minus, Star}
 use Rattle.js_base.specs.Kinds.{same_kind, one_of_kinds}
 use Rattle.js_base.proofs.KindLemmas.{kind_of_same}
-use Rattle.js_grammar.specs.Trees.{Slots, end, hole, tree, append, Label, Op, no_op, Tree, program, empty_statement, expression_statement}
-use Rattle.js_grammar.specs.Grammar.{Lexeme, Lexemes, last, here, Look, seen, is, may_omit, semicolon, such, seq, alt, many, nothing, look, lexeme, ended, is_nothing, is_such, label_of, Make, whole_text}
+use Rattle.js_grammar.specs.Trees.{Slots, end, hole, tree, append, Label, no_op, Tree, program, empty_statement, expression_statement}
+use Rattle.js_grammar.specs.Grammar.{Lexeme, Lexemes, last, here, Look, seen, is, may_omit, semicolon, many, nothing, look, lexeme, ended, is_nothing, label_of, Make, whole_text}
 use Rattle.js_grammar.specs.Insertion.{continues, after_expression}
-use Rattle.js_grammar.specs.Table.{G, Symbol, rule, rule_of, at, always, script_flags, sym as symbol, tok, Program, Item, Empty, ExprStmt, Expression}
-use Rattle.js_grammar.specs.Lexing.{Lex, Lexes, first_punctuators, a_name, a_number, a_punctuator, the_end}
+use Rattle.js_grammar.specs.Table.{rule, rule_of, at, script_flags, sym as symbol, Program, Item, Empty, ExprStmt, Expression}
+use Rattle.js_grammar.specs.Lexing.{Lex, Lexes, a_name, a_number, a_punctuator, the_end}
 use Rattle.js_grammar.specs.Levels.{full, looser, follow}
-use Rattle.js_grammar.specs.Parsing.{T, Goes, Reads, Fails}
-use Rattle.js_grammar.specs.Readings.{IsReading, program_tree, HasNoReading}
+use Rattle.js_grammar.specs.Parsing.{Goes, Reads, Fails}
+use Rattle.js_grammar.specs.Readings.{HasNoReading}
 use Rattle.js_grammar.proofs.Looks.{covers, covered, differ}
 use Rattle.js_grammar.proofs.First.{starts}
 use Rattle.js_grammar.proofs.Lexemes.{six, placed}
-use Rattle.js_grammar.proofs.Calculus.{here_at, ◌▹◌, ◌▹✗◌, stay, left, right, more_of, then, looks, ends_by, fails_ended, fails_alt, fails_here, fails_part, fails_rule, fails_node, makes, label_is, slots_are, ends}
+use Rattle.js_grammar.proofs.Calculus.{here_at, ◌▹◌, ◌▹✗◌, stay, left, right, more_of, then, looks, ends_by, fails_ended, fails_alt, fails_here, fails_part, fails_rule, fails_node, makes, label_is, slots_are}
 use Rattle.jsparse.specs.declared.cursor.Cursor.{Cursor}
 use Rattle.jsparse.specs.declared.tree.Node.{Node}
 use Rattle.jsparse.specs.declared.tree.NodeId.{NodeId}
-use Rattle.jsparse.specs.Holding.{HoldsAll, no_ids, Keeps}
+use Rattle.jsparse.specs.Holding.{HoldsAll, no_ids}
 use Rattle.jsparse.specs.Answers.{At, Passed, Answer, Numbered, Ended, by_semicolon, before_the_end, before_a_line, NotEnded, ProgramRead}
 use Rattle.jsparse.proofs.Nodes.{HoldsAll-next}
-use Rattle.jsparse.proofs.Paths.{kind_here, not_here, at_kind, fails_at, passes, Path, ◌⟶◌, ◌⟼◌, ◌⟝◌, last_token, last_called, label_here, noded, by_symbol}
-use Rattle.jsparse.proofs.Phrases.{by_path, held_by}
+use Rattle.jsparse.proofs.Paths.{kind_here, not_here, at_kind, fails_at, Path, ◌⟶◌, ◌⟼◌, ◌⟝◌, last_token, label_here, noded, by_symbol}
+use Rattle.jsparse.proofs.Phrases.{by_path}
 use Rattle.jsparse.proofs.States.{Held}
 
 is_semicolon : Semicolon ≡ Undetermined → ⊥

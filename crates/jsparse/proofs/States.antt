@@ -1,5 +1,5 @@
 -- What the loops over expressions keep.
-use Rattle.std.proofs.Common.{ℕ, ◌+◌, ◌≤◌, ◌<◌, ◌≡◌, List, length}
+use Rattle.std.proofs.Common.{ℕ, ◌+◌, ◌≤◌, ◌<◌, List, length}
 use Rattle.js_grammar.specs.Trees.{Slots, Label}
 use Rattle.js_grammar.specs.Grammar.{Lexeme, Look}
 use Rattle.js_grammar.specs.Table.{rule, script_flags}
@@ -7,7 +7,7 @@ use Rattle.js_grammar.specs.Lexing.{Lex}
 use Rattle.js_grammar.specs.Levels.{follow, level_at, tight}
 use Rattle.js_grammar.proofs.Towers.{Tower}
 use Rattle.js_grammar.proofs.Loops.{Around}
-use Rattle.js_grammar.proofs.Operators.{levels, calls}
+use Rattle.js_grammar.proofs.Operators.{levels}
 use Rattle.jsparse.specs.declared.cursor.Cursor.{Cursor}
 use Rattle.jsparse.specs.declared.tree.Node.{Node}
 use Rattle.jsparse.specs.declared.tree.NodeId.{NodeId}

@@ -1,5 +1,5 @@
 -- What the parse functions answer: which nonterminal was read, by which node; or that nothing is derived.
-use Rattle.std.specs.Prelude.{ℕ, ◌≡◌, ◌<◌, ◌≤◌, Bool, true, false, IsTrue, List, length, Option, Result, Ok, Err}
+use Rattle.std.specs.Prelude.{ℕ, ◌≡◌, ◌<◌, ◌≤◌, true, false, IsTrue, List, length, Option, Result, Ok, Err}
 use Rattle.js_base.specs.declared.kind.Kind.{Kind}
 use Rattle.js_base.specs.declared.kind.Kind.TheVariants.{Semicolon, Eof}
 use Rattle.js_grammar.specs.Trees.{Slots, end as no_slots, tree, Label, append, Tree}

@@ -1,6 +1,6 @@
 use Rattle.std.proofs.lemmas.Result.{err_from_is_err_and}
-use Rattle.std.proofs.Common.{sym, ◌∙◌, refl, arith}
-use Rattle.jsparse.proofs.Phrases.{memory, stopped, held_by, expression_answers, no_arguments_part, one_argument_part, argument_fails, arguments_open, primary_no_call, calling_fails, calling_step, calling_answers, paren_fails, paren_open, paren_answers, reference_answers, number_answers, primary_fails, signed_fails, signed_answers, unsigned_result}
+use Rattle.std.proofs.Common.{sym, ◌∙◌, arith}
+use Rattle.jsparse.proofs.Phrases.{stopped, held_by, expression_answers, no_arguments_part, one_argument_part, argument_fails, arguments_open, primary_no_call, calling_fails, calling_step, calling_answers, paren_fails, paren_open, paren_answers, reference_answers, number_answers, primary_fails, signed_fails, signed_answers, unsigned_result}
 use Rattle.std.proofs.Common.{Some, None}
 use Rattle.js_base.specs.declared.kind.Kind.TheVariants.{Decimal}
 use Rattle.jsparse.specs.declared.tree.NodeKind.TheVariants.{IdentifierReference, NumericLiteral, ParenthesizedExpression, UnaryExpression, CallExpression}
