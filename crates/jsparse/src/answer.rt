@@ -12,7 +12,9 @@ use std::alloc::Global;
 /// What is put out for a text, and whether it is refused.
 #[derive(Drop)]
 pub struct Answer {
+    /// The lines, each with its LF.
     pub output: Vec<u8>,
+    /// Whether they are those of diagnostics.
     pub refused: bool,
 }
 

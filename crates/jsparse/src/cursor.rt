@@ -11,7 +11,7 @@ use js_base::{Kind, NoMemory, Token};
 use std::alloc::{AllocError, AllocFailed};
 
 /// Why a parse function stops.
-#[derive(Debug, Clone, Copy, PartialEq, Eq)]
+#[derive(Debug, Drop, PartialEq, Eq)]
 pub enum Stop {
     /// No production fits at the current lexeme.
     Fatal,
@@ -46,7 +46,9 @@ impl<T: Drop> From<AllocFailed<T>> for Stop {
 /// A place in a text: the current lexeme, and the byte place where the one before it ends.
 #[derive(Debug, Clone, Copy)]
 pub struct Cursor {
+    /// The current lexeme.
     pub token: Token,
+    /// Where the one before it ends, in bytes; 0 at the beginning.
     pub prev_token_end: u32,
 }
 

@@ -5,7 +5,7 @@ ghost use Rattle.js_base.specs.declared.TheConstants.{MAX_LEN};
 ghost use Rattle.js_base.specs.declared.kind.Kind.TheVariants.{Eof, Undetermined};
 ghost use Rattle.js_grammar.specs.Readings.{HasNoReading};
 ghost use Rattle.jsparse.specs.Answers.{At, ProgramRead};
-ghost use Rattle.jsparse.specs.Parsed.{Parsed};
+ghost use Rattle.jsparse.specs.Parsed.{Parsed, Settles};
 ghost use Rattle.jsparse.specs.Tokens.{Tells};
 
 use crate::cursor::{Cursor, Stop, bump, is_at};
@@ -15,22 +15,25 @@ use crate::tree::{NodeId, ParserAstBuilder, Tree};
 use js_base::{Diagnostic, DiagnosticKind, Diagnostics, Kind, NoMemory, SourceType, Span};
 use std::alloc::Global;
 
-/// A program: its tree, and how its text was read.
+/// A program.
 #[derive(Drop)]
 pub struct Program {
+    /// Its tree; where there are diagnostics, only the node of the program.
     pub tree: Tree,
+    /// How its text was read: never unambiguous.
     pub source_type: SourceType,
 }
 
-/// What a parse answers. Where there are diagnostics, the program has no statement.
+/// What a parse answers.
 #[derive(Drop)]
 pub struct ParserReturn {
     pub program: Program,
+    /// None exactly where the text has a reading.
     pub diagnostics: Diagnostics,
 }
 
 /// The parser of one text.
-#[derive(Clone, Copy)]
+#[derive(Drop)]
 pub struct Parser<'a> {
     alloc: Global,
     source_text: &'a str,
@@ -40,7 +43,8 @@ pub struct Parser<'a> {
 impl<'a> Parser<'a> {
     /// The parser of a text; it takes no memory.
     pub fn new(alloc: Global, source_text: &'a str, source_type: SourceType) -> Parser<'a>
-        ensures { result.source_text.now ≡ source_text.now }
+        ensures source_text { result.source_text.now ≡ source_text.now }
+        ensures source_type { result.source_type ≡ source_type }
     {
         Parser {
             alloc,
@@ -52,19 +56,32 @@ impl<'a> Parser<'a> {
     /// Reads the text: its only tree, or one diagnostic at a place of the text where it has none.
     pub fn parse(self) -> Result<ParserReturn, NoMemory>
         requires { length self.source_text.now ≤ MAX_LEN }
-        ensures { IfOk result (λ r. Parsed self.entry.source_text.now r.program.tree r.diagnostics) }
+        ensures reading { IfOk result (λ r. Parsed self.entry.source_text.now r.program.tree r.diagnostics) }
+        ensures source_type { IfOk result (λ r. Settles self.entry.source_type r.program.source_type) }
     {
         let text = self.source_text.as_bytes();
+        let source_type = settled(self.source_type);
         let mut p = Cursor {
             token: token_at(text, 0),
             prev_token_end: 0,
         };
         let mut ast = ParserAstBuilder::new(self.alloc)?;
         match parse_program(text, &mut p, &mut ast) {
-            Ok(statements) => accepted(self.alloc, self.source_type, text, ast, statements),
-            Err(Stop::Fatal) => refused(self.alloc, self.source_type, text, ast, &p),
+            Ok(statements) => accepted(self.alloc, source_type, text, ast, statements),
+            Err(Stop::Fatal) => refused(self.alloc, source_type, text, ast, &p),
             Err(Stop::NoMemory) => Err(NoMemory),
         }
+    }
+}
+
+/// How a text is read: an unambiguous one as a script, since no word of a module is a lexeme of this language.
+fn settled(source_type: SourceType) -> SourceType
+    ensures { Settles source_type result }
+{
+    if source_type.is_unambiguous() {
+        SourceType::script()
+    } else {
+        source_type
     }
 }
 
@@ -78,7 +95,8 @@ fn accepted(
 ) -> Result<ParserReturn, NoMemory>
     requires short { length text.now ≤ MAX_LEN }
     requires read { ProgramRead text.now ast.nodes.items statements.items }
-    ensures { IfOk result (λ r. Parsed text.now r.program.tree r.diagnostics) }
+    ensures reading { IfOk result (λ r. Parsed text.now r.program.tree r.diagnostics) }
+    ensures source_type { IfOk result (λ r. r.program.source_type ≡ source_type) }
 {
     let tree = ast.finish(Span::new(0, text.len() as u32), statements)?;
     let diagnostics = Diagnostics::new(alloc);
@@ -98,7 +116,8 @@ fn refused(
 ) -> Result<ParserReturn, NoMemory>
     requires at { At text.now p.now }
     requires none { HasNoReading text.now }
-    ensures { IfOk result (λ r. Parsed text.now r.program.tree r.diagnostics) }
+    ensures reading { IfOk result (λ r. Parsed text.now r.program.tree r.diagnostics) }
+    ensures source_type { IfOk result (λ r. r.program.source_type ≡ source_type) }
 {
     let tree = ast.finish(Span::new(0, text.len() as u32), Vec::new(alloc))?;
     let mut diagnostics = Diagnostics::new(alloc);

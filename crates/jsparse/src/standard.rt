@@ -15,6 +15,7 @@ pub struct StdinSource {
 }
 
 impl StdinSource {
+    /// The source of standard input, at which no call has failed yet.
     pub fn new(input: Stdin) -> StdinSource
         ensures { result.faults ≡ 0 }
     {
@@ -46,6 +47,7 @@ pub struct StdoutSink {
 }
 
 impl StdoutSink {
+    /// The sink of standard output, at which no call has failed yet.
     pub fn new(output: Stdout) -> StdoutSink
         ensures { result.faults ≡ 0 }
     {

@@ -69,19 +69,33 @@ fn refuses_a_text_that_is_too_long(rt: HostRuntime) -> Result<(), Fail> {
     Ok(())
 }
 
+/// The status of a run over a source that fails at this call, which writes nothing.
+fn status_where_a_read_fails(
+    rt: &impl Abort,
+    alloc: Global,
+    bytes: Vec<u8>,
+    call: u64,
+) -> Result<Status, Fail> {
+    let words = words_of(alloc, &["--goal", "script"])?;
+    let mut source = FailingSource::new(bytes, vec![in alloc; call]?);
+    let mut sink = RoomSink::with_room(alloc, 100, Vec::new(alloc))?;
+    let status = run(alloc, &words, &mut source, &mut sink);
+    assert!(rt; sink.bytes().is_empty());
+    Ok(status)
+}
+
 /// Three reads give the bytes, and a fourth meets the end.
 #[test]
 fn fails_where_a_read_fails(rt: HostRuntime) -> Result<(), Fail> {
     let alloc = rt.alloc();
-    let words = words_of(alloc, &["--goal", "script"])?;
     for call in 1..5u64 {
         let bytes = repeated(alloc, b' ', 140_000)?;
-        let mut source = FailingSource::new(bytes, vec![in alloc; call]?);
-        let mut sink = RoomSink::with_room(alloc, 100, Vec::new(alloc))?;
-        let got = run(alloc, &words, &mut source, &mut sink);
+        let got = status_where_a_read_fails(&rt, alloc, bytes, call)?;
         assert_eq!(rt; got, Status::ReadFault, "at call {call}");
-        assert!(rt; sink.bytes().is_empty(), "at call {call}");
     }
+    let bytes = Vec::from_slice(alloc, b"a;")?;
+    let got = status_where_a_read_fails(&rt, alloc, bytes, 2)?;
+    assert_eq!(rt; got, Status::ReadFault);
     Ok(())
 }
 

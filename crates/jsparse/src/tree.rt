@@ -10,14 +10,23 @@ use std::alloc::Global;
 /// The kinds of nodes.
 #[derive(Debug, Clone, Copy, PartialEq, Eq)]
 pub enum NodeKind {
+    /// A script (ECMA-262, 16.1).
     Program,
+    /// A semicolon alone (14.4).
     EmptyStatement,
+    /// An expression and its semicolon (14.5).
     ExpressionStatement,
+    /// A sum, a difference or a product (13.7, 13.8).
     BinaryExpression,
+    /// A sign and its operand (13.5).
     UnaryExpression,
+    /// A callee and its arguments (13.3).
     CallExpression,
+    /// An expression in parentheses (13.2).
     ParenthesizedExpression,
+    /// A name (13.1).
     IdentifierReference,
+    /// A number (12.9.3).
     NumericLiteral,
 }
 
@@ -28,16 +37,22 @@ pub struct NodeId(pub usize);
 /// A node: its operator or the base of its number where it has one, its span, and its children by number.
 #[derive(Drop)]
 pub struct Node {
+    /// What it is.
     pub kind: NodeKind,
+    /// Its operator, or the base of a number.
     pub op: Option<Kind>,
+    /// The bytes that it covers.
     pub span: Span,
+    /// Its slots in order, each with a child or empty.
     pub children: Vec<Option<NodeId>>,
 }
 
 /// The nodes made so far. Number 0 is the program's.
 #[derive(Drop)]
 pub struct ParserAstBuilder {
+    /// Where memory comes from.
     pub alloc: Global,
+    /// The nodes, by number.
     pub nodes: Vec<Node>,
 }
 

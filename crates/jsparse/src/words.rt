@@ -19,17 +19,20 @@ pub enum Print {
 }
 
 /// What the words set.
-#[derive(Debug, Clone, Copy, PartialEq, Eq)]
+#[derive(Debug, Drop, PartialEq, Eq)]
 pub struct Settings {
+    /// How the text is read.
     pub goal: SourceType,
+    /// What is printed of it.
     pub print: Print,
+    /// What is admitted besides.
     pub options: ParseOptions,
     /// The number of lines to generate in place of a text that is read.
     pub generate: Option<u32>,
 }
 
 /// Why words set nothing.
-#[derive(Debug, Clone, Copy, PartialEq, Eq)]
+#[derive(Debug, Drop, PartialEq, Eq)]
 pub enum WordsError {
     /// The words are not admitted.
     Usage,
