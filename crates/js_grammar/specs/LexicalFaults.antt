@@ -1,5 +1,5 @@
 -- Lexical faults: what stands at the span of each. Eight stop the lexemes; a wrong flag and an HTML-like comment in a module don't.
-use Rattle.std.specs.Prelude.{ℕ, ◌+◌, ◌≡◌, ◌≤◌, ◌⊎◌, Bool, true, false, not, ◌&&◌, ◌||◌, List, [], ◌∷◌, ◌++◌, ◌==◌, codes, IsTrue, is_some, Some, IsCharBoundary, bytes_eq}
+use Rattle.std.specs.Prelude.{ℕ, ◌+◌, ◌≡◌, ◌<◌, ◌⊎◌, Bool, true, false, not, ◌&&◌, ◌||◌, List, [], ◌∷◌, ◌++◌, ◌==◌, codes, IsTrue, is_some, Some, IsCharBoundary, bytes_eq}
 use Rattle.js_base.specs.declared.kind.Kind.TheVariants.{RegExp}
 use Rattle.js_grammar.specs.Grammar.{Lexeme, Lexemes}
 use Rattle.js_grammar.specs.Settings.{Goal}
@@ -179,9 +179,9 @@ Condition invalid_number goal text from to = InvalidNumber text from
 Condition reg_exp_flag goal text from to = WrongFlag text from to
 Condition html_comment_in_module goal text from to = (passing_of goal ≡ in_module) × HtmlComment text from
 
--- The fault lies at the span, which begins and ends between characters.
+-- The fault lies at the span, which isn't empty, and begins and ends between characters.
 pub record Faulty (fault : LexicalFault) (goal : Goal) (text : List ℕ) (from to : ℕ) : Type 0 where
-  pub ordered : from ≤ to
+  pub ordered : from < to
   pub begins_between : IsCharBoundary text from
   pub ends_between : IsCharBoundary text to
   pub condition : Condition fault goal text from to
