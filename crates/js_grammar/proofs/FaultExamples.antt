@@ -61,9 +61,26 @@ name_escape : Condition invalid_escape script (codes "a\\u0020") 1 7
 unfolding chars
 name_escape = inl (record { mark = []; name = codes "a"; rest = codes "u0020"; place = 0; due = due_first (codes "a\\u0020") (codes "a\\u0020") refl refl; marked = refl; named = refl; never = refl; begin = refl })
 
-no_character : Condition invalid_character script (codes "#!") 0 1
+-- `#` alone
+no_character : Condition invalid_character script (codes "#") 0 1
 unfolding chars punctuators
-no_character = record { character = 35; rest = codes "!"; due = due_first (codes "#!") (codes "#!") refl refl; nothing = refl; end = refl }
+no_character = record { character = 35; rest = []; due = due_first (codes "#") (codes "#") refl refl; nothing = refl; no_hashbang = refl; end = refl }
+
+-- ` #!`: behind a space, `#!` begins no hashbang comment
+no_hashbang_later : Condition invalid_character script (codes " #!") 1 2
+unfolding chars punctuators
+no_hashbang_later = record {
+  character = 35;
+  rest = codes "!";
+  due = record { s = 0; reached = inl refl; pieces = codes " " ∷ []; stands = record { within = omega arith; splits = refl; trivia = refl }; place = refl };
+  nothing = refl;
+  no_hashbang = refl;
+  end = refl;
+}
+
+-- `#!`: a hashbang comment begins, so no character is invalid
+hashbang_begins : (to : ℕ) → Condition invalid_character script (codes "#!") 0 to → ⊥
+hashbang_begins to c = let h = c.no_hashbang in cc
 
 -- U+FFFD
 replaced : Condition binary_file script (239 ∷ 191 ∷ 189 ∷ []) 0 3

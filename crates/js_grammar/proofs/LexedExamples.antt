@@ -1,16 +1,22 @@
 -- Small texts and their lexemes.
-use Rattle.std.proofs.Common.{ℕ, Bool, true, false, List, [], ◌∷◌, ◌++◌, refl, arith}
+use Rattle.std.proofs.Common.{◌≡◌, ℕ, Bool, true, false, List, [], ◌∷◌, ◌++◌, Some, refl, subst, arith, inl, inr}
 use Rattle.std.specs.Prelude.{codes}
 use Rattle.std.specs.Str.{chars}
 use Rattle.js_base.specs.declared.kind.Kind.{Kind}
-use Rattle.js_base.specs.declared.kind.Kind.TheVariants.{Await, Colon, Decimal, DecimalBigInt, Eof, Float, HashbangComment, Hex, Ident, Octal, Plus, PositiveExponential, Question, RegExp, ShiftRight3Eq, Str, TemplateHead, TemplateTail}
+use Rattle.js_base.specs.declared.kind.Kind.TheVariants.{Await, Colon, Decimal, DecimalBigInt, Eof, Float, HashbangComment, Hex, Ident, Octal, Plus, PositiveExponential, Question, RCurly, RegExp, ShiftRight3Eq, Slash, Str, TemplateHead, TemplateTail}
 use Rattle.js_base.specs.Texts.{words, punctuators}
 use Rattle.js_base.specs.Keywords.{keyword_of}
-use Rattle.js_grammar.specs.Grammar.{Lexeme, last, next}
-use Rattle.js_grammar.specs.Lexemes.{division, regular_expression, template_tail, hashbang}
-use Rattle.js_grammar.specs.Lexed.{Lex, Lexed, Passing, in_script}
-use Rattle.js_grammar.specs.Settings.{script}
-use Rattle.js_grammar.proofs.Standing.{stand, number_goes_on}
+use Rattle.js_grammar.specs.Grammar.{Lexeme, Lexemes, last, next, here}
+use Rattle.js_grammar.specs.Characters.{one_of}
+use Rattle.js_grammar.specs.Longest.{longest, none_longer}
+use Rattle.js_grammar.specs.Lexing.{Lexes}
+use Rattle.js_grammar.specs.Lexemes.{LexicalGoal, division, regular_expression, template_tail, hashbang, lexemes_in, kind_in}
+use Rattle.js_grammar.specs.Lexed.{Lex, Lexed, ends_once, Passing, in_script, in_module, comments_pass, flags_right, Stands}
+use Rattle.js_grammar.specs.Settings.{script, module_goal}
+use Rattle.js_grammar.proofs.Alike.{stands-same}
+use Rattle.js_grammar.proofs.Choices.{choice}
+use Rattle.js_grammar.proofs.Standing.{stand, number_goes_on, none_stands}
+use Rattle.js_grammar.proofs.LongestLemmas.{both-left, longest-same}
 
 abbrev placed : Kind → ℕ → ℕ → List ℕ → Lexeme
 placed k a b u = record { kind = k; from = a; to = b; newline = false; escaped = false; units = u }
@@ -58,6 +64,34 @@ html_like_lexed = record {
   ends = refl;
 }
 
+-- the same in a module: only the name can be first
+html_like_first : (y : Lexeme) → Lex in_module html_like 0 y → y ≡ placed Ident 0 1 (codes "a")
+unfolding words punctuators chars keyword_of
+html_like_first y h =
+    let st : Stands html_like 0 [] [] html_like = record { within = omega arith; splits = refl; trivia = refl } in
+    elim (choice in_module in_module html_like 0 y (placed Ident 0 1 (codes "a")) h (stand in_module html_like 0 [] division (codes "a") (codes "<!--b") Ident (omega arith) refl refl refl)) [
+      | inl e ↦ e
+      | inr b ↦ absurd (let same = (stands-same b.stands st).back in let f : b.first ≡ 97 = cc in let i = subst (λ (c : ℕ). one_of (47 ∷ 125 ∷ []) c ≡ true) f b.is in cc)
+    ]
+
+-- behind the name nothing can be next in a module, since a comment stands there that is HTML-like
+html_like_next : (y : Lexeme) → Lex in_module html_like 1 y → ⊥
+unfolding words punctuators chars keyword_of
+html_like_next y h =
+    let st : Stands html_like 1 ((codes "<!--b") ∷ []) [] [] = record { within = omega arith; splits = refl; trivia = refl } in
+    let same = (stands-same h.stands st).pieces in
+    let c = subst (λ (ps : List (List ℕ)). comments_pass in_module ps ≡ true) same h.comments in
+    cc
+
+-- `a<!--b` has no list of lexemes in a module
+html_like_not_in_module : (ls : Lexemes) → Lexed module_goal html_like ls → ⊥
+html_like_not_in_module (last x) h = let e = html_like_first x h.lexes in let i = subst (λ (y : Lexeme). ends_once (last y) ≡ true) e h.ends in cc
+html_like_not_in_module (next x ls) h = let e = html_like_first x h.lexes.0 in go ls (subst (λ (y : Lexeme). Lexes (Lex in_module html_like) y.to ls) e h.lexes.1)
+  where
+    go : (ls : Lexemes) → Lexes (Lex in_module html_like) 1 ls → ⊥
+    go (last y) k = html_like_next y k
+    go (next y ms) k = html_like_next y k.0
+
 -- `\u{61}wait`: the kind of a word is that of its decoded text
 abbrev escaped_await : List ℕ
 escaped_await = codes "\\u{61}wait"
@@ -99,6 +133,84 @@ slash_in_brackets_lexed = record {
   );
   ends = refl;
 }
+
+-- `a/b/g`: two divisions
+abbrev divisions : List ℕ
+divisions = codes "a/b/g"
+
+divisions_lexed : Lexed script divisions (next (placed Ident 0 1 (codes "a")) (next (placed Slash 1 2 []) (next (placed Ident 2 3 (codes "b")) (next (placed Slash 3 4 []) (next (placed Ident 4 5 (codes "g")) (last (placed Eof 5 5 [])))))))
+unfolding words punctuators chars keyword_of
+divisions_lexed = record {
+  lexes = (
+    stand in_script divisions 0 [] division (codes "a") (codes "/b/g") Ident (omega arith) refl refl refl,
+    (
+      stand in_script divisions 1 [] division (codes "/") (codes "b/g") Slash (omega arith) refl refl refl,
+      (
+        stand in_script divisions 2 [] division (codes "b") (codes "/g") Ident (omega arith) refl refl refl,
+        (
+          stand in_script divisions 3 [] division (codes "/") (codes "g") Slash (omega arith) refl refl refl,
+          (
+            stand in_script divisions 4 [] division (codes "g") [] Ident (omega arith) refl refl refl,
+            stand in_script divisions 5 [] division [] [] Eof (omega arith) refl refl refl,
+          ),
+        ),
+      ),
+    ),
+  );
+  ends = refl;
+}
+
+-- behind the `a` a regular expression may stand too, `/b/g`: the lexemes leave that to the grammar
+pattern_behind_name : Lex in_script divisions 1 (placed RegExp 1 5 [])
+unfolding words punctuators chars keyword_of
+pattern_behind_name = stand in_script divisions 1 [] regular_expression (codes "/b/g") [] RegExp (omega arith) refl refl refl
+
+-- `` }a` ``: the brace may stand
+abbrev brace : List ℕ
+brace = codes "}a`"
+
+brace_stands : Lex in_script brace 0 (placed RCurly 0 1 [])
+unfolding words punctuators chars keyword_of
+brace_stands = stand in_script brace 0 [] division (codes "}") (codes "a`") RCurly (omega arith) refl refl refl
+
+-- in its place a template part may stand too, of all three characters
+template_part_stands : Lex in_script brace 0 (placed TemplateTail 0 3 [])
+unfolding words punctuators chars keyword_of
+template_part_stands = stand in_script brace 0 [] template_tail (codes "}a`") [] TemplateTail (omega arith) refl refl refl
+
+-- `/a/gg`: no regular expression stands first, since a flag stands twice
+abbrev flag_twice : List ℕ
+flag_twice = codes "/a/gg"
+
+flag_twice_first : (y : Lexeme) → Lex in_script flag_twice 0 y → y.kind ≡ RegExp → ⊥
+unfolding words punctuators chars keyword_of
+flag_twice_first y h r = go h.goal refl
+  where
+    back : h.word ++ h.rest ≡ codes "/a/gg"
+    back = (stands-same h.stands (let st : Stands flag_twice 0 [] (codes "/a/gg") [] = record { within = omega arith; splits = refl; trivia = refl } in st)).back
+
+    at_longest : (g : LexicalGoal) → h.goal ≡ g → longest (lexemes_in g) h.word h.rest ≡ true
+    at_longest g e = subst (λ (a : LexicalGoal). longest (lexemes_in a) h.word h.rest ≡ true) e h.lexeme.longest
+
+    go : (g : LexicalGoal) → h.goal ≡ g → ⊥
+    go division e =
+        let w = longest-same (lexemes_in division) h.word h.rest (codes "/") (codes "a/gg") back (at_longest division e) refl in
+        let a : kind_in division h.word h.rest ≡ Some RegExp = subst (λ (k : Kind). kind_in division h.word h.rest ≡ Some k) r (subst (λ (a : LexicalGoal). kind_in a h.word h.rest ≡ Some y.kind) e h.lexeme.kind) in
+        let b : kind_in division (codes "/") h.rest ≡ Some RegExp = subst (λ (u : List ℕ). kind_in division u h.rest ≡ Some RegExp) w.front a in
+        let c : kind_in division (codes "/") (codes "a/gg") ≡ Some RegExp = subst (λ (u : List ℕ). kind_in division (codes "/") u ≡ Some RegExp) w.back b in
+        cc
+    go regular_expression e =
+        let w = longest-same (lexemes_in regular_expression) h.word h.rest (codes "/a/gg") [] back (at_longest regular_expression e) refl in
+        let a : flags_right in_script RegExp h.word ≡ true = subst (λ (k : Kind). flags_right in_script k h.word ≡ true) r h.flags in
+        let b : flags_right in_script RegExp (codes "/a/gg") ≡ true = subst (λ (u : List ℕ). flags_right in_script RegExp u ≡ true) w.front a in
+        cc
+    go template_tail e = none_stands template_tail h.word h.rest 47 (codes "a/gg") refl back (both-left (lexemes_in template_tail h.word h.rest) (none_longer (lexemes_in template_tail) h.word h.rest) (at_longest template_tail e))
+    go hashbang e = none_stands hashbang h.word h.rest 47 (codes "a/gg") refl back (both-left (lexemes_in hashbang h.word h.rest) (none_longer (lexemes_in hashbang) h.word h.rest) (at_longest hashbang e))
+
+-- so `/a/gg` has no list of lexemes with a regular expression first
+flag_twice_not_lexed : (ls : Lexemes) → Lexed script flag_twice ls → (here ls).kind ≡ RegExp → ⊥
+flag_twice_not_lexed (last y) h r = flag_twice_first y h.lexes r
+flag_twice_not_lexed (next y ls) h r = flag_twice_first y h.lexes.0 r
 
 -- the forms of numbers
 abbrev numbers : List ℕ

@@ -1,17 +1,20 @@
 -- Small texts, by computing: what the classes of lexemes hold of them, and what they don't.
 use Rattle.std.proofs.Common.{◌≡◌, true, false, [], ◌∷◌, ◌++◌, refl, Some, None}
 use Rattle.std.specs.Prelude.{codes}
+use Rattle.ucd_table.specs.Rows.{value_in}
+use Rattle.ucd_category.specs.GeneralCategory.{general_category}
+use Rattle.ucd_category.specs.GeneralCategoryRows.{general_category_rows}
 use Rattle.js_base.specs.Texts.{words, punctuators}
-use Rattle.js_base.specs.declared.kind.Kind.TheVariants.{Ident, Await, If, Hex, Float, Octal, DecimalBigInt, PositiveExponential, NegativeExponential, Str, RegExp, QuestionDot, PrivateIdentifier, TemplateHead, TemplateTail, NoSubstitutionTemplate}
+use Rattle.js_base.specs.declared.kind.Kind.TheVariants.{Ident, Await, If, Decimal, Hex, Float, Octal, DecimalBigInt, PositiveExponential, NegativeExponential, Str, RegExp, QuestionDot, PrivateIdentifier, TemplateHead, TemplateTail, NoSubstitutionTemplate}
 use Rattle.js_base.specs.Keywords.{keyword_of}
 use Rattle.js_grammar.specs.Longest.{longest, none_begins}
-use Rattle.js_grammar.specs.Trivia.{are_trivia, is_trivia_piece}
+use Rattle.js_grammar.specs.Trivia.{are_trivia, is_trivia_piece, is_irregular}
 use Rattle.js_grammar.specs.Names.{name_kind, name_of, private_kind}
 use Rattle.js_grammar.specs.Numbers.{number_kind, stops_number, has_separator}
 use Rattle.js_grammar.specs.Strings.{string_kind, string_units, string_inside}
-use Rattle.js_grammar.specs.Templates.{template_kind, template_tail_kind, cooked, raw_text}
+use Rattle.js_grammar.specs.Templates.{template_kind, template_tail_kind, template_inside, cooked, raw_text}
 use Rattle.js_grammar.specs.RegularExpressions.{regular_expression_kind, flags, are_flags}
-use Rattle.js_grammar.specs.Lexemes.{punctuator_kind, lexemes_in, division}
+use Rattle.js_grammar.specs.Lexemes.{punctuator_kind, lexemes_in, division, is_separated}
 
 -- numbers
 hex_separated : number_kind (codes "0x1_f") ≡ Some Hex
@@ -19,6 +22,14 @@ hex_separated = refl
 
 hex_separated_mark : has_separator (codes "0x1_f") ≡ true
 hex_separated_mark = refl
+
+-- `1_0` has a separator
+separated : is_separated Decimal (codes "1_0") ≡ true
+separated = refl
+
+-- `10` has none
+not_separated : is_separated Decimal (codes "10") ≡ false
+not_separated = refl
 
 exponent_behind_dot : number_kind (codes "1.e3") ≡ Some PositiveExponential
 exponent_behind_dot = refl
@@ -91,8 +102,13 @@ octal_units = refl
 continued : string_units (97 ∷ 92 ∷ 13 ∷ 10 ∷ 98 ∷ []) ≡ Some (codes "ab")
 continued = refl
 
+-- no line feed stands in a string: `'a`, LF, `'` is none
 line_in_string : string_kind (39 ∷ 97 ∷ 10 ∷ 39 ∷ []) ≡ None
 line_in_string = refl
+
+-- and no lexeme begins there
+no_string_over_lines : none_begins (lexemes_in division) (39 ∷ 97 ∷ 10 ∷ 39 ∷ []) ≡ true
+no_string_over_lines = refl
 
 bad_escape : string_kind (codes "'\\xg1'") ≡ None
 bad_escape = refl
@@ -109,6 +125,14 @@ whole = refl
 
 not_closed : template_kind (codes "`a") ≡ None
 not_closed = refl
+
+-- the inside of `` `a${ `` is `a`: the opening and the `${` are no part of it
+head_inside : template_inside TemplateHead (codes "`a${") ≡ codes "a"
+head_inside = refl
+
+-- the inside of `` }a` `` is `a`: the brace and the backquote are no part of it
+tail_inside : template_inside TemplateTail (codes "}a`") ≡ codes "a"
+tail_inside = refl
 
 carriage_return : raw_text (97 ∷ 13 ∷ 98 ∷ []) ≡ 97 ∷ 10 ∷ 98 ∷ []
 carriage_return = refl
@@ -164,6 +188,19 @@ comment_then_lines = refl
 
 block_then_close : are_trivia false ((codes "/*" ++ 10 ∷ codes "*/") ∷ codes "-->" ∷ []) [] ≡ true
 block_then_close = refl
+
+-- a no-break space, U+00A0, is irregular white space
+no_break_space : is_irregular (0xA0 ∷ []) ≡ true
+unfolding value_in general_category general_category_rows
+no_break_space = refl
+
+-- so is U+FEFF
+byte_order_mark : is_irregular (0xFEFF ∷ []) ≡ true
+byte_order_mark = refl
+
+-- a space isn't
+space : is_irregular (32 ∷ []) ≡ false
+space = refl
 
 -- each single escape, and a character that stands for itself
 single_escapes_units : string_units (codes "\\b\\t\\n\\v\\f\\r\\q\\x41") ≡ Some (8 ∷ 9 ∷ 10 ∷ 11 ∷ 12 ∷ 13 ∷ 113 ∷ 65 ∷ [])

@@ -1,13 +1,20 @@
 -- The left-recursive lines of the table: the levels of operators, and calls.
-use Rattle.std.proofs.Common.{ℕ, zero, suc, ◌≤◌, ◌+◌, IsTrue, [], ◌∷◌, refl, arith}
+use Rattle.std.proofs.Common.{ℕ, zero, suc, ◌≤◌, ◌+◌, IsTrue, List, [], ◌∷◌, refl, arith}
 use Rattle.js_base.specs.declared.kind.Kind.{Kind}
 use Rattle.js_base.specs.declared.kind.Kind.TheVariants.{Plus, Minus, Star, LParen}
 use Rattle.js_grammar.specs.Trees.{Slots, end, binary_expression, call_expression}
 use Rattle.js_grammar.specs.Grammar.{Lexemes, here, seen, is, alt, such, never, is_lexeme, is_seq, is_left, is_right, is_such, is_node, ◌▸◌, ◌◇◌}
-use Rattle.js_grammar.specs.Levels.{level_at, operators_at}
+use Rattle.js_grammar.specs.Levels.{level_at}
 use Rattle.js_grammar.specs.Table.{Flags, Symbol, G, rule, rule_of, at, always, sym as symbol, branches, args, mk, Expression, Additive, Multiply, Unary, Member, Call}
 use Rattle.js_grammar.specs.Parsing.{T}
 use Rattle.js_grammar.proofs.Towers.{Same, same_as, unroll, Link, Links, one, Tower, level_tower, chain, operation, operation_link}
+
+-- the operators of each level
+abbrev pub operators_at : ℕ → List Kind
+operators_at zero = []
+operators_at (suc zero) = Plus ∷ Minus ∷ []
+operators_at (suc (suc zero)) = Star ∷ []
+operators_at _ = []
 
 passes_on : (f : Flags) → Same (rule (at Expression f)) (alt (symbol Additive f) never)
 unfolding rule rule_of

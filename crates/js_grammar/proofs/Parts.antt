@@ -2,7 +2,11 @@
 use Rattle.std.proofs.Common.{ℕ, List, refl}
 use Rattle.js_grammar.specs.Grammar.{Lexeme, Lexemes, last, next}
 use Rattle.js_grammar.specs.Lexing.{Lexes}
-use Rattle.js_grammar.specs.Lexed.{Next, end_of, join, Passing, all_faults, Lex}
+use Rattle.js_grammar.specs.Lexed.{end_of, join, Passing, all_faults, Lex}
+
+-- what may be next behind a place
+abbrev pub Next : Type 1
+Next = ℕ → Lexeme → Type 0
 
 pub joins : (L : Next) (s : ℕ) (ls ms : Lexemes) → Lexes L s ls → Lexes L (end_of ls) ms → Lexes L s (join ls ms)
 joins L s (last x) ms h k = (h, k)

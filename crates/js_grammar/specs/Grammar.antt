@@ -11,9 +11,9 @@ pub record Lexeme : Type 0 where
   pub from : ℕ
   pub to : ℕ
   pub newline : Bool
-  -- of a word: it has an escape
+  -- of a word or a private name: it has an escape
   pub escaped : Bool
-  -- of a word or a string: its decoded text
+  -- of a word, a private name behind its `#`, or a string: its decoded text
   pub units : List ℕ
 
 -- The lexemes from a place on, one at least: the last is the end of the text, which no rule takes.

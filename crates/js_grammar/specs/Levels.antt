@@ -1,5 +1,5 @@
 -- The levels of operators by number, as a loop over binding power meets them, and what may stand behind each nonterminal.
-use Rattle.std.specs.Prelude.{ℕ, zero, suc, true, List, [], ◌∷◌, nat_lt}
+use Rattle.std.specs.Prelude.{ℕ, zero, suc, true, nat_lt}
 use Rattle.js_base.specs.declared.kind.Kind.{Kind}
 use Rattle.js_base.specs.declared.kind.Kind.TheVariants.{Plus, Minus, Star, LParen, Eof}
 use Rattle.js_base.specs.Kinds.{same_kind}
@@ -12,12 +12,6 @@ level_at f zero = at Expression f
 level_at f (suc zero) = at Additive f
 level_at f (suc (suc zero)) = at Multiply f
 level_at f _ = at Unary f
-
-abbrev pub operators_at : ℕ → List Kind
-operators_at zero = []
-operators_at (suc zero) = Plus ∷ Minus ∷ []
-operators_at (suc (suc zero)) = Star ∷ []
-operators_at _ = []
 
 -- how tight an operator binds: its level, or 0
 abbrev pub strength : Kind → ℕ

@@ -58,10 +58,6 @@ pub record Lex (passing : Passing) (text : List ℕ) (s : ℕ) (y : Lexeme) : Ty
   pub escaped : y.escaped ≡ is_escaped y.kind word
   pub units : y.units ≡ units_of y.kind word
 
--- what may be next behind a place
-abbrev pub Next : Type 1
-Next = ℕ → Lexeme → Type 0
-
 -- the end of the last lexeme
 abbrev pub end_of : Lexemes → ℕ
 end_of (last x) = x.to

@@ -1,5 +1,5 @@
 -- Lexical faults: what stands at the span of each. Eight stop the lexemes; a wrong flag and an HTML-like comment in a module don't.
-use Rattle.std.specs.Prelude.{ℕ, ◌+◌, ◌≡◌, ◌≤◌, ◌⊎◌, Bool, true, false, not, ◌&&◌, ◌||◌, List, [], ◌∷◌, ◌++◌, ◌==◌, codes, IsTrue, is_some, Some, IsCharBoundary, bytes_eq}
+use Rattle.std.specs.Prelude.{ℕ, ◌+◌, ◌≡◌, ◌<◌, ◌⊎◌, Bool, true, false, not, ◌&&◌, ◌||◌, List, [], ◌∷◌, ◌++◌, ◌==◌, codes, IsTrue, is_some, Some, IsCharBoundary, bytes_eq}
 use Rattle.js_base.specs.declared.kind.Kind.TheVariants.{RegExp}
 use Rattle.js_grammar.specs.Grammar.{Lexeme, Lexemes}
 use Rattle.js_grammar.specs.Settings.{Goal}
@@ -33,7 +33,7 @@ pub record Due (text : List ℕ) (i : ℕ) (cs : List ℕ) : Type 0 where
   pub stands : Stands text s pieces [] cs
   pub place : i ≡ s + width (joined pieces)
 
--- no lexeme begins with c, and it is none of those that have a fault of their own: a digit, a quote, a backquote, a slash, a backslash, a right brace, U+FFFD
+-- no lexeme begins with c, a hashbang comment left aside, and it is none of those that have a fault of their own: a digit, a quote, a backquote, a slash, a backslash, a right brace, U+FFFD
 abbrev pub begins_nothing : ℕ → List ℕ → Bool
 begins_nothing c cs = none_begins (lexemes_in division) (c ∷ cs) && not (is_decimal c || (one_of (34 ∷ 39 ∷ 96 ∷ 47 ∷ 92 ∷ 125 ∷ 0xFFFD ∷ []) c || ((c == 46) && begins is_decimal cs)))
 
@@ -125,12 +125,13 @@ pub record InvalidStringEscape (text : List ℕ) (from : ℕ) : Type 0 where
   pub never : IsTrue (none_longer is_right_inside inside (92 ∷ rest))
   pub begin : from ≡ place + 1 + width inside
 
--- one character, at which no lexeme begins
+-- one character, at which no lexeme begins, nor a hashbang comment at the text's start
 pub record InvalidCharacter (text : List ℕ) (from to : ℕ) : Type 0 where
   pub character : ℕ
   pub rest : List ℕ
   pub due : Due text from (character ∷ rest)
   pub nothing : IsTrue (begins_nothing character rest)
+  pub no_hashbang : IsTrue (not ((from == 0) && starts (codes "#!") text))
   pub end : to ≡ from + width (character ∷ [])
 
 -- U+FFFD, where a lexeme is due
@@ -179,9 +180,9 @@ Condition invalid_number goal text from to = InvalidNumber text from
 Condition reg_exp_flag goal text from to = WrongFlag text from to
 Condition html_comment_in_module goal text from to = (passing_of goal ≡ in_module) × HtmlComment text from
 
--- The fault lies at the span, which begins and ends between characters.
+-- The fault lies at the span, which isn't empty, and begins and ends between characters.
 pub record Faulty (fault : LexicalFault) (goal : Goal) (text : List ℕ) (from to : ℕ) : Type 0 where
-  pub ordered : from ≤ to
+  pub ordered : from < to
   pub begins_between : IsCharBoundary text from
   pub ends_between : IsCharBoundary text to
   pub condition : Condition fault goal text from to

@@ -7,12 +7,12 @@ use Rattle.js_grammar.specs.Trees.{end, tree, of, binary_expression}
 use Rattle.js_grammar.specs.Grammar.{Lexeme, such}
 use Rattle.js_grammar.specs.Table.{at, always, script_flags, Unary}
 use Rattle.js_grammar.specs.Lexing.{Lex}
-use Rattle.js_grammar.specs.Levels.{level_at, operators_at, strength, tight, looser, follow}
+use Rattle.js_grammar.specs.Levels.{level_at, strength, tight, looser, follow}
 use Rattle.js_grammar.specs.Parsing.{Fails}
 use Rattle.js_grammar.proofs.Calculus.{◌▹◌, ◌▹✗◌}
 use Rattle.js_grammar.proofs.Towers.{OneOf, head, later}
 use Rattle.js_grammar.proofs.Loops.{Follows, Alone, start, start_fails, step, step_fails, operators_follow, one_operator, operators_end}
-use Rattle.js_grammar.proofs.Operators.{levels, climbs, operates}
+use Rattle.js_grammar.proofs.Operators.{operators_at, levels, climbs, operates}
 use Rattle.jsparse.specs.declared.cursor.Cursor.{Cursor}
 use Rattle.jsparse.specs.declared.tree.Node.{Node}
 use Rattle.jsparse.specs.declared.tree.NodeId.{NodeId}

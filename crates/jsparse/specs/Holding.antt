@@ -1,6 +1,5 @@
 -- Trees, and the nodes that stand for them.
-use Rattle.std.specs.Prelude.{◌≡◌, ℕ, ◌+◌, ◌<◌, ◌≤◌, List, [], ◌∷◌, length, Option, Some, None, Result, Ok, Err, slice_get}
-use Rattle.std.proofs.Common.{get_or}
+use Rattle.std.specs.Prelude.{◌≡◌, ℕ, ◌+◌, ◌<◌, ◌≤◌, List, [], ◌∷◌, length, Option, Some, None, Result, Ok, Err, get_or, slice_get}
 use Rattle.js_base.specs.declared.kind.Kind.{Kind}
 use Rattle.js_base.specs.declared.no_memory.NoMemory.{NoMemory}
 use Rattle.js_base.specs.declared.span.Span.{Span}
