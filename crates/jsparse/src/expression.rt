@@ -16,7 +16,7 @@ use std::alloc::Global;
 pub fn one_child(alloc: Global, child: NodeId) -> Result<Vec<Option<NodeId>>, NoMemory>
     ensures { IfOk result (λ v. v.items ≡ Some child ∷ []) }
 {
-    let mut children = Vec::new(alloc);
+    let mut children = Vec::with_capacity(alloc, 1)?;
     children.push(Some(child))?;
     Ok(children)
 }
