@@ -8,18 +8,21 @@ use std::fmt;
 pub struct NoMemory;
 
 impl fmt::Display for NoMemory {
+    /// Writes a sentence, whose words may change.
     fn fmt<W: fmt::Write>(&self, f: &mut fmt::Formatter<W>) -> fmt::Result {
         write!(f, "memory was refused")
     }
 }
 
 impl From<AllocError> for NoMemory {
+    /// What the allocator answers where it refuses memory.
     fn from(_e: AllocError) -> NoMemory {
         NoMemory
     }
 }
 
 impl<T: Drop> From<AllocFailed<T>> for NoMemory {
+    /// The same, where a value comes back with the answer; the value is let go.
     fn from(_e: AllocFailed<T>) -> NoMemory {
         NoMemory
     }
