@@ -1,5 +1,7 @@
 //! Want of memory.
 
+ghost use Rattle.std.specs.Prelude.{Some, codes};
+
 use std::alloc::{AllocError, AllocFailed};
 use std::fmt;
 
@@ -8,9 +10,11 @@ use std::fmt;
 pub struct NoMemory;
 
 impl fmt::Display for NoMemory {
-    /// Writes a sentence, whose words may change.
+    ghost output = { λ _. Some (codes "memory was refused") };
+
+    /// Writes that memory was refused.
     fn fmt<W: fmt::Write>(&self, f: &mut fmt::Formatter<W>) -> fmt::Result {
-        write!(f, "memory was refused")
+        f.write_str("memory was refused")
     }
 }
 
