@@ -148,9 +148,11 @@ code HashbangComment = 139
 code Eof = 140
 code Undetermined = 141
 
+-- whether two kinds are the same
 abbrev pub same_kind : Kind → Kind → Bool
 same_kind a b = nat_eq (code a) (code b)
 
+-- whether a kind stands in a list
 abbrev pub one_of_kinds : List Kind → Kind → Bool
 one_of_kinds [] k = false
 one_of_kinds (a ∷ as') k = same_kind a k || one_of_kinds as' k

@@ -7,7 +7,8 @@ ghost use Rattle.js_base.specs.Texts.{text_of, words};
 use crate::kind::Kind;
 
 impl Kind {
-    /// The kind of a word of the keyword table, else `Ident`.
+    /// The kind of a word of the keyword table (ECMA-262, section 12.7.2), else `Ident`. The text is the decoded one: in
+    /// it no escape sequence is left.
     pub fn match_keyword(text: &str) -> Kind
         ensures { result ≡ keyword_of text.now }
     {
@@ -15,7 +16,8 @@ impl Kind {
     }
 }
 
-/// The kind of a word of the keyword table, else `Ident`, for a word given by its UTF-8 bytes.
+/// The kind of a word of the keyword table (ECMA-262, section 12.7.2), else `Ident`, for a decoded word given by its
+/// UTF-8 bytes.
 pub fn keyword_kind(word: &[u8]) -> Kind
     ensures { result ≡ keyword_of word.now }
 {

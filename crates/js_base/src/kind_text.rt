@@ -6,7 +6,7 @@ ghost use Rattle.js_base.specs.Texts.{name_of, text_of};
 use crate::kind::Kind;
 
 impl Kind {
-    /// The text of a punctuator or a word; of every other kind, its name.
+    /// The text of a punctuator (ECMA-262, section 12.8) or a word (12.7.2); of every other kind, its name.
     pub fn to_str(self) -> &'static str
         ensures { result.now ≡ text_of self }
     {

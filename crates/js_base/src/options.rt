@@ -5,9 +5,9 @@ ghost use Rattle.std.specs.Prelude.{◌≡◌, true, false};
 /// What is read, beyond the source type.
 #[derive(Debug, Clone, Copy, PartialEq, Eq)]
 pub struct ParseOptions {
-    /// A `return` may stand outside functions.
+    /// A `return` may stand outside functions (against ECMA-262, section 14.10).
     pub allow_return_outside_function: bool,
-    /// Parentheses have a node of their own.
+    /// Parentheses have a node of their own (13.2.9).
     pub preserve_parens: bool,
     /// Calls of V8's runtime, as `%DebugPrint(x)`, are read.
     pub allow_v8_intrinsics: bool,

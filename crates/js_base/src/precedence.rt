@@ -10,7 +10,7 @@ use crate::kind::Kind;
 /// How tightly an operator binds, from the loosest on (ECMA-262, the sections named).
 #[derive(Debug, Clone, Copy, PartialEq, Eq, PartialOrd, Ord)]
 pub enum Precedence {
-    /// `,` (13.16).
+    /// `,` (13.16), which stands between expressions: no kind is given it.
     Comma,
     /// `??` (13.13).
     NullishCoalescing,

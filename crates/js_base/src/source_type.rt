@@ -21,14 +21,14 @@ pub struct SourceType {
 }
 
 impl SourceType {
-    /// A script.
+    /// A script (ECMA-262, section 16.1).
     pub fn script() -> SourceType
         ensures { is_goal result ≡ Script }
     {
         SourceType { goal: Goal::Script }
     }
 
-    /// A module.
+    /// A module (ECMA-262, section 16.2).
     pub fn module() -> SourceType
         ensures { is_goal result ≡ Module }
     {

@@ -8,7 +8,7 @@ use crate::span::Span;
 use std::alloc::Global;
 use std::marker::Model;
 
-/// A list of spans.
+/// A list of spans, in the order in which they were pushed.
 #[derive(Drop)]
 pub struct Spans {
     items: Vec<Span>,
@@ -54,7 +54,7 @@ impl Spans {
         self.items.get(i)
     }
 
-    /// One more, at the end. The list stays as it was where memory is refused.
+    /// One more, at the end. The only error is want of memory, and the list then stays as it was.
     pub fn push(&mut self, span: Span) -> Result<(), NoMemory>
         ensures ok { OnOk result (self.new ≡ self.old ++ span ∷ []) }
         ensures err { OnErr result (self.new ≡ self.old) }

@@ -3,24 +3,24 @@
 ghost use Rattle.std.specs.Prelude.{◌≡◌};
 ghost use Rattle.js_base.specs.Places.{is_single};
 
-/// Where a statement stands.
+/// Where a statement stands (ECMA-262, chapter 14).
 #[derive(Debug, Clone, Copy, PartialEq, Eq)]
 pub enum StatementContext {
-    /// At the top level of the text.
+    /// At the top level of the text (chapter 16).
     Program,
-    /// In a list of statements, as that of a block.
+    /// In a list of statements, as that of a block (14.2).
     StatementList,
-    /// After the head of an `if`, or after `else`.
+    /// After the head of an `if`, or after `else` (14.6).
     If,
-    /// After a label.
+    /// After a label (14.13).
     Label,
-    /// After `do`.
+    /// After `do` (14.7.2).
     Do,
-    /// After the head of a `while`.
+    /// After the head of a `while` (14.7.3).
     While,
-    /// After the head of a `with`.
+    /// After the head of a `with` (14.11).
     With,
-    /// After the head of a `for`.
+    /// After the head of a `for` (14.7.4, 14.7.5).
     For,
 }
 

@@ -18,7 +18,7 @@ pub struct Token {
 }
 
 impl Token {
-    /// The token of these fields.
+    /// The token of these fields, each of which the call of its name answers.
     pub fn new(
         kind: Kind,
         span: Span,
@@ -62,28 +62,28 @@ impl Token {
         self.span.end
     }
 
-    /// Where it stands.
+    /// Where it stands, in bytes from the start of the text.
     pub fn span(&self) -> Span
         ensures { result ≡ self.now.span }
     {
         self.span
     }
 
-    /// Whether a line terminator stands between it and the lexeme before.
+    /// Whether a line terminator (ECMA-262, section 12.3) stands between it and the lexeme before.
     pub fn is_on_new_line(&self) -> bool
         ensures { result ≡ self.now.is_on_new_line }
     {
         self.is_on_new_line
     }
 
-    /// Whether it is a word with an escape.
+    /// Whether it is a word with an escape sequence (ECMA-262, section 12.7.1).
     pub fn escaped(&self) -> bool
         ensures { result ≡ self.now.escaped }
     {
         self.escaped
     }
 
-    /// Whether it is a number with a separator.
+    /// Whether it is a number with a separator, `_` (ECMA-262, section 12.9.3).
     pub fn has_separator(&self) -> bool
         ensures { result ≡ self.now.has_separator }
     {

@@ -8,7 +8,7 @@ use crate::token::Token;
 use std::alloc::Global;
 use std::marker::Model;
 
-/// A list of tokens.
+/// A list of tokens, in the order in which they were pushed.
 #[derive(Drop)]
 pub struct Tokens {
     items: Vec<Token>,
@@ -54,7 +54,7 @@ impl Tokens {
         self.items.get(i)
     }
 
-    /// One more, at the end. The list stays as it was where memory is refused.
+    /// One more, at the end. The only error is want of memory, and the list then stays as it was.
     pub fn push(&mut self, token: Token) -> Result<(), NoMemory>
         ensures ok { OnOk result (self.new ≡ self.old ++ token ∷ []) }
         ensures err { OnErr result (self.new ≡ self.old) }
