@@ -8,8 +8,10 @@ use Rattle.js_grammar.specs.Longest.{longest, none_begins}
 use Rattle.js_grammar.specs.Trivia.{are_trivia, is_trivia_piece}
 use Rattle.js_grammar.specs.Names.{name_kind, name_of, private_kind}
 use Rattle.js_grammar.specs.Numbers.{number_kind, stops_number, has_separator}
-use Rattle.js_grammar.specs.Strings.{string_kind, string_units, string_inside}
-use Rattle.js_grammar.specs.Templates.{template_kind, template_tail_kind, cooked, raw_text}
+use Rattle.js_base.specs.Decoding.{string_units}
+use Rattle.js_grammar.specs.Strings.{string_kind, string_inside}
+use Rattle.js_base.specs.Decoding.{cooked, raw_text}
+use Rattle.js_grammar.specs.Templates.{template_kind, template_tail_kind}
 use Rattle.js_grammar.specs.RegularExpressions.{regular_expression_kind, flags, are_flags}
 use Rattle.js_grammar.specs.Lexemes.{punctuator_kind, lexemes_in, division}
 
