@@ -12,3 +12,4 @@ pub mod Diagnostics
 pub mod Characters
 pub mod Escapes
 pub mod Decoding
+pub mod DecodingSteps

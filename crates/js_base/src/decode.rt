@@ -1,0 +1,359 @@
+//! What the inside of a string literal, the inside of a template part, and a name stand for.
+
+ghost use Rattle.std.specs.Prelude.{◌≡◌, ◌≤◌, ℕ, List, [], ◌∷◌, ◌++◌, ◌==◌, if◌then◌else◌, IfOk, OnOk, IfSome, IsSome, Some, IsTrue, option_map, chars};
+ghost use Rattle.std.specs.List.{list_all};
+ghost use Rattle.js_base.specs.Escapes as escape;
+ghost use Rattle.js_base.specs.Decoding.{string_points, string_units, cooked};
+ghost use Rattle.js_base.specs.DecodingSteps.{form_of, state_of, progress_of, points_of, fits, is_point, units_from};
+
+use crate::no_memory::NoMemory;
+use crate::text::JsStr;
+use std::alloc::Global;
+
+/// What the characters are part of.
+#[derive(Clone, Copy)]
+enum Form {
+    /// A name.
+    Name,
+    /// The inside of a string literal.
+    Inside,
+    /// The inside of a template part.
+    Part,
+}
+
+/// What stands directly before a character.
+#[derive(Clone, Copy)]
+enum State {
+    /// No part of an escape.
+    Outside,
+    /// A backslash.
+    Backslash,
+    /// A backslash and `u`.
+    Unicode,
+    /// In a template, a backslash and `0`.
+    Nul,
+    /// An escape of which so many hexadecimal digits are due, and the value of those before.
+    Due(u32, u32),
+    /// `\u{`, whether a digit stands behind it, and the value of the digits.
+    Braced(bool, u32),
+    /// A backslash and an octal digit or two, how many more may follow, and the value of those before.
+    Octal(u32, u32),
+}
+
+/// The code points that a character completes.
+#[derive(Clone, Copy)]
+enum Points {
+    Nothing,
+    One(u32),
+    Two(u32, u32),
+}
+
+/// The state after a character, and the code points that are complete.
+#[derive(Clone, Copy)]
+struct Progress {
+    state: State,
+    points: Points,
+}
+
+/// The code units that the inside of a string literal stands for, outside strict mode: its SV (ECMA-262, section
+/// 12.9.4.2). CR LF and CR count as LF. Condition: each escape in it is well-formed.
+pub fn decode_string(alloc: Global, raw: &str) -> Result<JsStr, NoMemory>
+    requires { IsSome (string_points (chars raw.now)) }
+    ensures { IfOk result (λ units. Some units ≡ string_units (chars raw.now)) }
+{
+    match cook(alloc, Form::Inside, raw)? {
+        Some(units) => Ok(units),
+        None => unreachable!(),
+    }
+}
+
+/// The code units that the inside of a template part stands for: its TV (ECMA-262, section 12.9.6.1). CR LF and CR
+/// count as LF. `None` exactly where an escape in it is ill-formed.
+pub fn decode_template(alloc: Global, raw: &str) -> Result<Option<JsStr>, NoMemory>
+    ensures { IfOk result (λ units. units ≡ cooked (chars raw.now)) }
+{
+    cook(alloc, Form::Part, raw)
+}
+
+/// The code units that an inside stands for; `None` exactly where an escape in it is ill-formed.
+fn cook(alloc: Global, form: Form, raw: &str) -> Result<Option<JsStr>, NoMemory>
+    ensures { IfOk result (λ units. units ≡ option_map escape.code_units (escape.code_points (form_of form) (escape.line_feeds (chars raw.now)))) }
+{
+    let mut units = JsStr::new(alloc);
+    let mut state = State::Outside;
+    let mut after_carriage = false;
+    for c in raw.chars() {
+        match feed_line(&mut units, form, state, after_carriage, c)? {
+            Some(next) => state = next,
+            None => return Ok(None),
+        }
+        after_carriage = c == '\r';
+    }
+    let Some(points) = finish(state) else {
+        return Ok(None);
+    };
+    push_points(&mut units, points)?;
+    Ok(Some(units))
+}
+
+/// Reads a character, where CR LF and CR count as LF; the state after it, or none where no escape goes on so.
+fn feed_line(
+    units: &mut JsStr,
+    form: Form,
+    state: State,
+    after_carriage: bool,
+    c: char,
+) -> Result<Option<State>, NoMemory>
+    requires { IsTrue (fits (state_of state)) }
+    ensures read { IfOk result (λ next. (cs : List ℕ) → units_from (form_of form) units.new (option_map state_of next) (escape.line_feeds_after (c == 13) cs) ≡ units_from (form_of form) units.old (Some (state_of state)) (escape.line_feeds_after after_carriage (c ∷ cs))) }
+    ensures fits { IfOk result (λ next. IfSome next (λ s. IsTrue (fits (state_of s)))) }
+{
+    if c == '\r' {
+        return feed(units, form, state, '\n');
+    }
+    if after_carriage && c == '\n' {
+        return Ok(Some(state));
+    }
+    feed(units, form, state, c)
+}
+
+/// Reads a character; the state after it, or none where no escape goes on so.
+fn feed(
+    units: &mut JsStr,
+    form: Form,
+    state: State,
+    c: char,
+) -> Result<Option<State>, NoMemory>
+    requires { IsTrue (fits (state_of state)) }
+    ensures read { IfOk result (λ next. (cs : List ℕ) → units_from (form_of form) units.new (option_map state_of next) cs ≡ units_from (form_of form) units.old (Some (state_of state)) (c ∷ cs)) }
+    ensures fits { IfOk result (λ next. IfSome next (λ s. IsTrue (fits (state_of s)))) }
+{
+    let Some(progress) = step(form, state, c) else {
+        return Ok(None);
+    };
+    push_points(units, progress.points)?;
+    Ok(Some(progress.state))
+}
+
+/// The code units of code points, at the end.
+fn push_points(units: &mut JsStr, points: Points) -> Result<(), NoMemory>
+    requires { IsTrue (list_all is_point (points_of points)) }
+    ensures { OnOk result (units.new ≡ units.old ++ escape.code_units (points_of points)) }
+{
+    match points {
+        Points::Nothing => Ok(()),
+        Points::One(first) => units.push_code_point(first),
+        Points::Two(first, second) => {
+            units.push_code_point(first)?;
+            units.push_code_point(second)
+        }
+    }
+}
+
+/// The code points that the end completes, or none where it cuts an escape off.
+fn finish(state: State) -> Option<Points>
+    ensures { option_map points_of result ≡ escape.finish (state_of state) }
+{
+    match state {
+        State::Outside => Some(Points::Nothing),
+        State::Nul => Some(Points::One(0)),
+        State::Octal(_, value) => Some(Points::One(value)),
+        State::Backslash | State::Unicode | State::Due(_, _) | State::Braced(_, _) => None,
+    }
+}
+
+/// The state after a character and the code points that it completes, or none where no escape goes on so.
+fn step(form: Form, state: State, c: char) -> Option<Progress>
+    requires { IsTrue (fits (state_of state)) }
+    ensures { option_map progress_of result ≡ escape.step (form_of form) (state_of state) c }
+{
+    match state {
+        State::Outside => plainly(c),
+        State::Backslash => begun(form, c),
+        State::Unicode => unicode(c),
+        State::Nul => nul(c),
+        State::Due(due, value) => hexadecimal(due, value, c),
+        State::Braced(any, value) => braced(any, value, c),
+        State::Octal(more, value) => octal(more, value, c),
+    }
+}
+
+/// The character goes on with an escape, and completes nothing.
+fn goes_on(state: State) -> Option<Progress>
+    ensures { option_map progress_of result ≡ escape.go (state_of state) [] }
+{
+    Some(Progress {
+        state,
+        points: Points::Nothing,
+    })
+}
+
+/// The character completes a code point.
+fn completes(code_point: u32) -> Option<Progress>
+    ensures { option_map progress_of result ≡ escape.go escape.outside (code_point ∷ []) }
+{
+    Some(Progress {
+        state: State::Outside,
+        points: Points::One(code_point),
+    })
+}
+
+/// A character outside escapes.
+fn plainly(c: char) -> Option<Progress>
+    ensures { option_map progress_of result ≡ escape.plainly c }
+{
+    if c == '\\' {
+        goes_on(State::Backslash)
+    } else {
+        completes(c as u32)
+    }
+}
+
+/// A character behind a code point that it doesn't go on with.
+fn after(code_point: u32, c: char) -> Option<Progress>
+    ensures { option_map progress_of result ≡ (if c == 92 then escape.go escape.backslash (code_point ∷ []) else escape.go escape.outside (code_point ∷ c ∷ [])) }
+{
+    if c == '\\' {
+        Some(Progress {
+            state: State::Backslash,
+            points: Points::One(code_point),
+        })
+    } else {
+        Some(Progress {
+            state: State::Outside,
+            points: Points::Two(code_point, c as u32),
+        })
+    }
+}
+
+/// A character behind a backslash.
+fn begun(form: Form, c: char) -> Option<Progress>
+    ensures { option_map progress_of result ≡ escape.begun (form_of form) c }
+{
+    match form {
+        Form::Name => {
+            if c == 'u' {
+                goes_on(State::Unicode)
+            } else {
+                None
+            }
+        }
+        Form::Inside => match c.to_digit(8) {
+            Some(digit) => goes_on(State::Octal(if c < '4' { 2 } else { 1 }, digit)),
+            None => begun_other(c),
+        },
+        Form::Part => {
+            if c == '0' {
+                goes_on(State::Nul)
+            } else if c.is_digit(10) {
+                None
+            } else {
+                begun_other(c)
+            }
+        }
+    }
+}
+
+/// A character behind a backslash that no digit rule reads.
+fn begun_other(c: char) -> Option<Progress>
+    ensures { option_map progress_of result ≡ escape.begun_unicode c }
+{
+    match c {
+        'u' => goes_on(State::Unicode),
+        'x' => goes_on(State::Due(2, 0)),
+        '\n' | '\r' | '\u{2028}' | '\u{2029}' => goes_on(State::Outside),
+        _ => completes(single_escape(c)),
+    }
+}
+
+/// What a character behind a backslash stands for.
+fn single_escape(c: char) -> u32
+    ensures { result ≡ escape.single_escape c }
+{
+    match c {
+        'b' => 8,
+        't' => 9,
+        'n' => 10,
+        'v' => 11,
+        'f' => 12,
+        'r' => 13,
+        _ => c as u32,
+    }
+}
+
+/// A character behind `\u`.
+fn unicode(c: char) -> Option<Progress>
+    ensures { option_map progress_of result ≡ escape.step escape.in_string escape.unicode c }
+{
+    if c == '{' {
+        return goes_on(State::Braced(false, 0));
+    }
+    match c.to_digit(16) {
+        Some(digit) => goes_on(State::Due(3, digit)),
+        None => None,
+    }
+}
+
+/// A character behind `\0` in a template.
+fn nul(c: char) -> Option<Progress>
+    ensures { option_map progress_of result ≡ escape.step escape.in_template escape.nul c }
+{
+    if c.is_digit(10) { None } else { after(0, c) }
+}
+
+/// A character where hexadecimal digits are due.
+fn hexadecimal(due: u32, value: u32, c: char) -> Option<Progress>
+    requires { value ≤ 0x10_FFFF }
+    ensures { option_map progress_of result ≡ escape.step escape.in_string (escape.due due value) c }
+{
+    match c.to_digit(16) {
+        Some(digit) => {
+            if due <= 1 {
+                completes(value * 16 + digit)
+            } else {
+                goes_on(State::Due(due - 1, value * 16 + digit))
+            }
+        }
+        None => None,
+    }
+}
+
+/// A character behind `\u{` and the digits there.
+fn braced(any: bool, value: u32, c: char) -> Option<Progress>
+    requires { value ≤ 0x10_FFFF }
+    ensures { option_map progress_of result ≡ escape.step escape.in_string (escape.braced any value) c }
+{
+    match c.to_digit(16) {
+        Some(digit) => {
+            if value * 16 + digit <= 0x10_FFFF {
+                goes_on(State::Braced(true, value * 16 + digit))
+            } else {
+                None
+            }
+        }
+        None => {
+            if any && c == '}' {
+                completes(value)
+            } else {
+                None
+            }
+        }
+    }
+}
+
+/// A character behind a backslash and octal digits.
+fn octal(more: u32, value: u32, c: char) -> Option<Progress>
+    requires { value ≤ 0x10_FFFF }
+    ensures { option_map progress_of result ≡ escape.step escape.in_string (escape.octal more value) c }
+{
+    match c.to_digit(8) {
+        Some(digit) => {
+            if more > 0 {
+                goes_on(State::Octal(more - 1, value * 8 + digit))
+            } else {
+                after(value, c)
+            }
+        }
+        None => after(value, c),
+    }
+}
