@@ -2,18 +2,20 @@
 use Rattle.std.proofs.Common.{ℕ, ◌+◌, ◌*◌, List, [], ◌∷◌, ◌++◌, ◌≡◌, ◌≤◌, ◌<◌, ◌⊎◌, inl, inr, Bool, true, false, not, ◌&&◌, ◌||◌, refl, ap, sym, ◌∙◌, append_assoc, subst, length, get_or, drop, arith}
 use Rattle.std.specs.Prelude.{Option, Some, None, option_map, nat_lt, nat_le, ◌==◌, IfSome, IsTrue}
 use Rattle.std.specs.List.{list_all, flat_map}
-use Rattle.std.specs.Char.{digit_value}
+use Rattle.std.specs.Char.{digit_value, encode_utf8}
 use Rattle.std.specs.Char.Escape.{encode_utf16}
 use Rattle.std.proofs.lemmas.Bool.Decides.{nat_tests}
 use Rattle.std.proofs.Math.Utf8.{scalar, scalar_cases}
 use Rattle.std.proofs.lemmas.List.{at_drop_more, at_drop_all, length_push}
+use Rattle.std.proofs.lemmas.List.Folds.{list_all-append}
 use Rattle.std.proofs.lemmas.Grind.{flat_map-append}
 use Rattle.js_base.specs.declared.decode.Points.{Points}
 use Rattle.js_base.specs.declared.decode.Progress.{Progress}
 use Rattle.js_base.specs.declared.decode.State.{State}
-use Rattle.js_base.specs.Characters.{is_hex, is_octal, is_decimal}
+use Rattle.js_base.specs.Characters.{is_scalar, is_hex, is_octal, is_decimal}
+use Rattle.js_base.specs.Decoding.{only_if, utf8_of}
 use Rattle.js_base.specs.Escapes.{Where, in_name, in_string, in_template, Stage, Step, outside, backslash, unicode, nul, due, braced, octal, plainly, begun, begun_unicode, begun_line, begun_single, begun_hex, single_escape, step, read_from, before_all, code_units, finish, line_feeds_after}
-use Rattle.js_base.specs.DecodingSteps.{fits, is_point, state_of, points_of, progress_of, units_from}
+use Rattle.js_base.specs.DecodingSteps.{fits, is_point, state_of, points_of, progress_of, units_from, utf8_from}
 
 and-left : (a b : Bool) → (a && b) ≡ true → a ≡ true
 and-left true b h = refl
@@ -164,3 +166,93 @@ pub end-none : (w : Where) (us cs ys : List ℕ) (s : Stage) (a : Bool) (o : Opt
     → units_from w us (Some s) (line_feeds_after a (drop (length ys) cs)) ≡ whole
     → None ≡ whole
 end-none w us cs ys s a o whole l e i inv = ended w us cs ys s a o None whole l e i inv
+
+-- the UTF-8 before that of the code points that are complete
+kept : (b : Bool) (bs us vs : List ℕ) → option_map (λ x. bs ++ x) (only_if b (us ++ vs)) ≡ option_map (λ x. (bs ++ us) ++ x) (only_if b vs)
+kept true bs us vs = ap Some (sym (append_assoc bs us vs))
+kept false bs us vs = refl
+
+utf8-before : (bs out : List ℕ) (r : Option (List ℕ)) → list_all is_scalar out ≡ true
+    → option_map (λ x. bs ++ x) (utf8_of (before_all out r)) ≡ option_map (λ x. (bs ++ flat_map encode_utf8 out) ++ x) (utf8_of r)
+utf8-before bs out None h = refl
+utf8-before bs out (Some ps) h =
+    ap (λ b. option_map (λ x. bs ++ x) (only_if b (flat_map encode_utf8 (out ++ ps)))) (list_all-append is_scalar out ps ∙ ap (λ b. b && list_all is_scalar ps) h)
+    ∙ ap (λ y. option_map (λ x. bs ++ x) (only_if (list_all is_scalar ps) y)) (flat_map-append encode_utf8 out ps)
+    ∙ kept (list_all is_scalar ps) bs (flat_map encode_utf8 out) (flat_map encode_utf8 ps)
+
+utf8-none : (bs out : List ℕ) (r : Option (List ℕ)) → list_all is_scalar out ≡ false → option_map (λ x. bs ++ x) (utf8_of (before_all out r)) ≡ None
+utf8-none bs out None h = refl
+utf8-none bs out (Some ps) h = ap (λ b. option_map (λ x. bs ++ x) (only_if b (flat_map encode_utf8 (out ++ ps)))) (list_all-append is_scalar out ps ∙ ap (λ b. b && list_all is_scalar ps) h)
+
+stepped : (s : Stage) (c : ℕ) (r : Option Progress) (p : Option Progress) (bs cs : List ℕ) → option_map progress_of r ≡ step in_name s c → r ≡ p
+    → utf8_from bs (Some s) (c ∷ cs) ≡ option_map (λ x. bs ++ x) (utf8_of (after_step in_name cs (option_map progress_of p)))
+stepped s c r p bs cs e i = ap (λ o. option_map (λ x. bs ++ x) (utf8_of (after_step in_name cs o))) (sym e ∙ ap (option_map progress_of) i)
+
+pub utf8-made : (s : Stage) (c : ℕ) (r : Option Progress) (p : Progress) (bs vs cs : List ℕ) (all : Bool)
+    → option_map progress_of r ≡ step in_name s c → r ≡ Some p → all ≡ list_all is_scalar (points_of p.points) → all ≡ true → (IsTrue all → vs ≡ bs ++ flat_map encode_utf8 (points_of p.points))
+    → utf8_from vs (Some (state_of p.state)) cs ≡ utf8_from bs (Some s) (c ∷ cs)
+utf8-made s c r p bs vs cs all e i a t v =
+    ap (λ x. utf8_from x (Some (state_of p.state)) cs) (v t)
+    ∙ sym (stepped s c r (Some p) bs cs e i ∙ utf8-before bs (points_of p.points) (read_from in_name (state_of p.state) cs) (sym a ∙ t))
+
+pub utf8-stops : (s : Stage) (c : ℕ) (r : Option Progress) (p : Progress) (bs cs : List ℕ) (all : Bool)
+    → option_map progress_of r ≡ step in_name s c → r ≡ Some p → all ≡ list_all is_scalar (points_of p.points) → all ≡ false
+    → None ≡ utf8_from bs (Some s) (c ∷ cs)
+utf8-stops s c r p bs cs all e i a t = sym (stepped s c r (Some p) bs cs e i ∙ utf8-none bs (points_of p.points) (read_from in_name (state_of p.state) cs) (sym a ∙ t))
+
+spelled : (us vs cs ys : List ℕ) (s : Stage) (o p : Option State) (c : ℕ) (whole : Option (List ℕ)) → o ≡ p
+    → ((rest : List ℕ) → utf8_from vs (option_map state_of o) rest ≡ utf8_from us (Some s) (c ∷ rest))
+    → (length ys < length cs) × (c ≡ get_or cs (length ys) c)
+    → utf8_from us (Some s) (drop (length ys) cs) ≡ whole
+    → utf8_from vs (option_map state_of p) (drop (length (ys ++ c ∷ [])) cs) ≡ whole
+spelled us vs cs ys s o p c whole i r t inv =
+    sym (ap (λ x. utf8_from vs (option_map state_of x) (drop (length (ys ++ c ∷ [])) cs)) i)
+    ∙ r (drop (length (ys ++ c ∷ [])) cs)
+    ∙ ap (λ x. utf8_from us (Some s) x) (sym (turn cs ys c t))
+    ∙ inv
+
+pub spelled-some : (us vs cs ys : List ℕ) (s : Stage) (o : Option State) (n : State) (c : ℕ) (whole : Option (List ℕ)) → o ≡ Some n
+    → ((rest : List ℕ) → utf8_from vs (option_map state_of o) rest ≡ utf8_from us (Some s) (c ∷ rest))
+    → (length ys < length cs) × (c ≡ get_or cs (length ys) c)
+    → utf8_from us (Some s) (drop (length ys) cs) ≡ whole
+    → utf8_from vs (Some (state_of n)) (drop (length (ys ++ c ∷ [])) cs) ≡ whole
+spelled-some us vs cs ys s o n c whole = spelled us vs cs ys s o (Some n) c whole
+
+pub spelled-none : (us vs cs ys : List ℕ) (s : Stage) (o : Option State) (c : ℕ) (whole : Option (List ℕ)) → o ≡ None
+    → ((rest : List ℕ) → utf8_from vs (option_map state_of o) rest ≡ utf8_from us (Some s) (c ∷ rest))
+    → (length ys < length cs) × (c ≡ get_or cs (length ys) c)
+    → utf8_from us (Some s) (drop (length ys) cs) ≡ whole
+    → None ≡ whole
+spelled-none us vs cs ys s o c whole = spelled us vs cs ys s o None c whole
+
+spelled-end : (us cs ys : List ℕ) (s : Stage) (o p : Option Points) (whole : Option (List ℕ)) → length ys ≡ length cs
+    → option_map points_of o ≡ finish s → o ≡ p
+    → utf8_from us (Some s) (drop (length ys) cs) ≡ whole
+    → option_map (λ x. us ++ x) (utf8_of (option_map points_of p)) ≡ whole
+spelled-end us cs ys s o p whole l e i inv =
+    ap (λ x. option_map (λ ps. us ++ ps) (utf8_of x)) (sym (ap (option_map points_of) i) ∙ e)
+    ∙ sym (at_drop_all (utf8_from us (Some s)) cs (length ys) (omega (arith, l)))
+    ∙ inv
+
+pub spelled-end-none : (us cs ys : List ℕ) (s : Stage) (o : Option Points) (whole : Option (List ℕ)) → length ys ≡ length cs
+    → option_map points_of o ≡ finish s → o ≡ None
+    → utf8_from us (Some s) (drop (length ys) cs) ≡ whole
+    → None ≡ whole
+spelled-end-none us cs ys s o whole = spelled-end us cs ys s o None whole
+
+pub spelled-end-some : (us vs cs ys : List ℕ) (s : Stage) (o : Option Points) (p : Points) (all : Bool) (whole : Option (List ℕ)) → length ys ≡ length cs
+    → option_map points_of o ≡ finish s → o ≡ Some p → all ≡ list_all is_scalar (points_of p) → all ≡ true → (IsTrue all → vs ≡ us ++ flat_map encode_utf8 (points_of p))
+    → utf8_from us (Some s) (drop (length ys) cs) ≡ whole
+    → Some vs ≡ whole
+spelled-end-some us vs cs ys s o p all whole l e i a t v inv =
+    ap Some (v t)
+    ∙ sym (ap (λ b. option_map (λ x. us ++ x) (only_if b (flat_map encode_utf8 (points_of p)))) (sym a ∙ t))
+    ∙ spelled-end us cs ys s o (Some p) whole l e i inv
+
+pub spelled-end-stops : (us cs ys : List ℕ) (s : Stage) (o : Option Points) (p : Points) (all : Bool) (whole : Option (List ℕ)) → length ys ≡ length cs
+    → option_map points_of o ≡ finish s → o ≡ Some p → all ≡ list_all is_scalar (points_of p) → all ≡ false
+    → utf8_from us (Some s) (drop (length ys) cs) ≡ whole
+    → None ≡ whole
+spelled-end-stops us cs ys s o p all whole l e i a t inv =
+    sym (ap (λ b. option_map (λ x. us ++ x) (only_if b (flat_map encode_utf8 (points_of p)))) (sym a ∙ t))
+    ∙ spelled-end us cs ys s o (Some p) whole l e i inv

@@ -1,5 +1,5 @@
 -- Classes of characters that escapes speak of (ECMA-262, 12.3, 12.9.3), each character the number of its code point.
-use Rattle.std.specs.Prelude.{ℕ, Bool, List, [], ◌∷◌, ◌==◌}
+use Rattle.std.specs.Prelude.{ℕ, Bool, ◌&&◌, ◌||◌, List, [], ◌∷◌, nat_lt, nat_le, ◌==◌}
 use Rattle.std.specs.Char.{is_digit}
 use Rattle.std.specs.List.{list_any}
 
@@ -22,3 +22,7 @@ is_binary c = is_digit c 2
 
 abbrev pub is_hex : ℕ → Bool
 is_hex c = is_digit c 16
+
+-- a Unicode scalar value: a code point that is no surrogate
+abbrev pub is_scalar : ℕ → Bool
+is_scalar c = nat_lt c 0xD800 || (nat_le 0xE000 c && nat_le c 0x10_FFFF)

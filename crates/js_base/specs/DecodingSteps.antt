@@ -8,6 +8,7 @@ use Rattle.js_base.specs.declared.decode.State.TheVariants.{Outside, Backslash, 
 use Rattle.js_base.specs.declared.decode.Points.{Points}
 use Rattle.js_base.specs.declared.decode.Points.TheVariants.{Nothing, One, Two}
 use Rattle.js_base.specs.declared.decode.Progress.{Progress}
+use Rattle.js_base.specs.Decoding.{utf8_of}
 use Rattle.js_base.specs.Escapes.{Where, in_name, in_string, in_template, Stage, outside, backslash, unicode, nul, due, braced, octal, Step, read_from, code_units}
 
 abbrev pub form_of : Form → Where
@@ -50,3 +51,8 @@ fits (octal n v) = (nat_le n 0 && nat_lt v 256) || ((nat_le n 1 && nat_lt v 32) 
 abbrev pub units_from : Where → List ℕ → Option Stage → List ℕ → Option (List ℕ)
 units_from w us None cs = None
 units_from w us (Some s) cs = option_map (λ ps. us ++ code_units ps) (read_from w s cs)
+
+-- the UTF-8 of the whole name, where `bs` is that of the characters read
+abbrev pub utf8_from : List ℕ → Option Stage → List ℕ → Option (List ℕ)
+utf8_from bs None cs = None
+utf8_from bs (Some s) cs = option_map (λ us. bs ++ us) (utf8_of (read_from in_name s cs))

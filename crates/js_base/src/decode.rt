@@ -1,13 +1,15 @@
 //! What the inside of a string literal, the inside of a template part, and a name stand for.
 
 ghost use Rattle.std.specs.Prelude.{◌≡◌, ◌≤◌, ℕ, List, [], ◌∷◌, ◌++◌, ◌==◌, if◌then◌else◌, IfOk, OnOk, IfSome, IsSome, Some, IsTrue, option_map, chars};
-ghost use Rattle.std.specs.List.{list_all};
+ghost use Rattle.std.specs.List.{list_all, flat_map};
+ghost use Rattle.std.specs.Char.{encode_utf8};
+ghost use Rattle.js_base.specs.Characters.{is_scalar};
 ghost use Rattle.js_base.specs.Escapes as escape;
-ghost use Rattle.js_base.specs.Decoding.{string_points, string_units, cooked};
-ghost use Rattle.js_base.specs.DecodingSteps.{form_of, state_of, progress_of, points_of, fits, is_point, units_from};
+ghost use Rattle.js_base.specs.Decoding.{string_points, string_units, cooked, name_text};
+ghost use Rattle.js_base.specs.DecodingSteps.{form_of, state_of, progress_of, points_of, fits, is_point, units_from, utf8_from};
 
 use crate::no_memory::NoMemory;
-use crate::text::JsStr;
+use crate::text::{JsStr, Text};
 use std::alloc::Global;
 
 /// What the characters are part of.
@@ -73,6 +75,88 @@ pub fn decode_template(alloc: Global, raw: &str) -> Result<Option<JsStr>, NoMemo
     ensures { IfOk result (λ units. units ≡ cooked (chars raw.now)) }
 {
     cook(alloc, Form::Part, raw)
+}
+
+/// The UTF-8 of the characters that a name stands for, each escape in it for the character that it names (ECMA-262,
+/// section 12.7.1). Condition: each escape in it is well-formed and names a Unicode scalar value.
+pub fn decode_name(alloc: Global, raw: &str) -> Result<Text, NoMemory>
+    requires { IsSome (name_text (chars raw.now)) }
+    ensures { IfOk result (λ text. Some text ≡ name_text (chars raw.now)) }
+{
+    match spell(alloc, raw)? {
+        Some(text) => Ok(text),
+        None => unreachable!(),
+    }
+}
+
+/// The UTF-8 of the characters that a name stands for; `None` exactly where an escape in it is ill-formed or names a
+/// surrogate.
+fn spell(alloc: Global, raw: &str) -> Result<Option<Text>, NoMemory>
+    ensures { IfOk result (λ text. text ≡ name_text (chars raw.now)) }
+{
+    let mut text = Text::new(alloc);
+    let mut state = State::Outside;
+    for c in raw.chars() {
+        match feed_name(&mut text, state, c)? {
+            Some(next) => state = next,
+            None => return Ok(None),
+        }
+    }
+    let Some(points) = finish(state) else {
+        return Ok(None);
+    };
+    if push_characters(&mut text, points)? {
+        Ok(Some(text))
+    } else {
+        Ok(None)
+    }
+}
+
+/// Reads a character of a name; the state after it, or none where no escape goes on so or one names a surrogate.
+fn feed_name(text: &mut Text, state: State, c: char) -> Result<Option<State>, NoMemory>
+    requires { IsTrue (fits (state_of state)) }
+    ensures read { IfOk result (λ next. (cs : List ℕ) → utf8_from text.new (option_map state_of next) cs ≡ utf8_from text.old (Some (state_of state)) (c ∷ cs)) }
+    ensures fits { IfOk result (λ next. IfSome next (λ s. IsTrue (fits (state_of s)))) }
+{
+    let Some(progress) = step(Form::Name, state, c) else {
+        return Ok(None);
+    };
+    if push_characters(text, progress.points)? {
+        Ok(Some(progress.state))
+    } else {
+        Ok(None)
+    }
+}
+
+/// The UTF-8 of code points, at the end; whether each is a Unicode scalar value.
+fn push_characters(text: &mut Text, points: Points) -> Result<bool, NoMemory>
+    ensures scalar { IfOk result (λ all. all ≡ list_all is_scalar (points_of points)) }
+    ensures text { IfOk result (λ all. IsTrue all → text.new ≡ text.old ++ flat_map encode_utf8 (points_of points)) }
+{
+    match points {
+        Points::Nothing => Ok(true),
+        Points::One(first) => push_character(text, first),
+        Points::Two(first, second) => {
+            if !push_character(text, first)? {
+                return Ok(false);
+            }
+            push_character(text, second)
+        }
+    }
+}
+
+/// The UTF-8 of a code point, at the end; whether it is a Unicode scalar value.
+fn push_character(text: &mut Text, code_point: u32) -> Result<bool, NoMemory>
+    ensures scalar { IfOk result (λ is. is ≡ is_scalar code_point) }
+    ensures text { IfOk result (λ is. IsTrue is → text.new ≡ text.old ++ encode_utf8 code_point) }
+{
+    match char::from_u32(code_point) {
+        Some(c) => {
+            text.push(c)?;
+            Ok(true)
+        }
+        None => Ok(false),
+    }
 }
 
 /// The code units that an inside stands for; `None` exactly where an escape in it is ill-formed.

@@ -26,7 +26,7 @@ mod token;
 mod tokens;
 
 pub use context::Context;
-pub use decode::{decode_string, decode_template};
+pub use decode::{decode_name, decode_string, decode_template};
 pub use diagnostic::{Diagnostic, DiagnosticClass, DiagnosticKind, Diagnostics};
 pub use function_kind::{FunctionKind, VariableDeclarationParent};
 pub use keyword::keyword_kind;

@@ -2,6 +2,7 @@
 
 ghost use Rattle.std.specs.Prelude.{◌≡◌, ◌≤◌, [], ◌++◌, bytes_eq, length, IfOk, OnOk, not, slice_get};
 ghost use Rattle.std.proofs.Common.{rules};
+ghost use Rattle.std.specs.Char.{encode_utf8};
 ghost use Rattle.std.specs.Char.Escape.{encode_utf16};
 ghost use Rattle.std.specs.Char.Utf16.{has_unpaired_surrogate};
 ghost use Rattle.std.specs.Hash as fed;
@@ -29,6 +30,23 @@ impl Model for Text {
 }
 
 impl Text {
+    /// The empty text; it takes no memory.
+    pub(crate) fn new(alloc: Global) -> Self
+        ensures { result ≡ [] }
+    {
+        Text {
+            text: String::new(alloc),
+        }
+    }
+
+    /// The UTF-8 of a character, at the end.
+    pub(crate) fn push(&mut self, c: char) -> Result<(), NoMemory>
+        ensures { OnOk result (self.new ≡ self.old ++ encode_utf8 c) }
+    {
+        self.text.push(c)?;
+        Ok(())
+    }
+
     /// A text with the same bytes; the only error is want of memory.
     pub fn from_str(alloc: Global, text: &str) -> Result<Self, NoMemory>
         ensures { IfOk result (λ t. t ≡ text.now) }
