@@ -106,9 +106,9 @@ units-made w s c r p us vs cs e i v = ap (λ x. units_from w x (Some (state_of p
 -- a character is a code point
 pub char-point : (c : ℕ) → scalar c ≡ true → is_point c ≡ true
 char-point c h = go (scalar_cases c h) where
-    go : (c < 55296) ⊎ ((57344 ≤ c) × (c < 1114112)) → is_point c ≡ true
-    go (inl l) = grind (arith, nat_tests)
-    go (inr l) = grind (arith, nat_tests)
+  go : (c < 55296) ⊎ ((57344 ≤ c) × (c < 1114112)) → is_point c ≡ true
+  go (inl l) = grind (arith, nat_tests)
+  go (inr l) = grind (arith, nat_tests)
 
 -- a turn of a loop over characters, of which `ys` were read before
 turn : (cs ys : List ℕ) (c : ℕ) → (length ys < length cs) × (c ≡ get_or cs (length ys) c) → drop (length ys) cs ≡ c ∷ drop (length (ys ++ c ∷ [])) cs

@@ -202,12 +202,7 @@ fn feed_line(
 }
 
 /// Reads a character; the state after it, or none where no escape goes on so.
-fn feed(
-    units: &mut JsStr,
-    form: Form,
-    state: State,
-    c: char,
-) -> Result<Option<State>, NoMemory>
+fn feed(units: &mut JsStr, form: Form, state: State, c: char) -> Result<Option<State>, NoMemory>
     requires { IsTrue (fits (state_of state)) }
     ensures read { IfOk result (λ next. (cs : List ℕ) → units_from (form_of form) units.new (option_map state_of next) cs ≡ units_from (form_of form) units.old (Some (state_of state)) (c ∷ cs)) }
     ensures fits { IfOk result (λ next. IfSome next (λ s. IsTrue (fits (state_of s)))) }
@@ -439,5 +434,108 @@ fn octal(more: u32, value: u32, c: char) -> Option<Progress>
             }
         }
         None => after(value, c),
+    }
+}
+
+#[cfg(test)]
+mod tests {
+    use super::*;
+
+    /// Whether a text has these code units.
+    fn has_units(text: &JsStr, units: &[u16]) -> bool {
+        if text.len() != units.len() {
+            return false;
+        }
+        for i in 0..units.len() {
+            if text.unit(i) != units.get(i).copied() {
+                return false;
+            }
+        }
+        true
+    }
+
+    /// Whether the inside of a string is well-formed and stands for these code units.
+    fn string_has(alloc: Global, raw: &str, units: &[u16]) -> bool {
+        match cook(alloc, Form::Inside, raw) {
+            Ok(Some(_)) => match decode_string(alloc, raw) {
+                Ok(text) => has_units(&text, units),
+                Err(_) => false,
+            },
+            _ => false,
+        }
+    }
+
+    #[test]
+    fn strings(rt: HostRuntime) {
+        let rows: [(&str, &[u16]); 13] = [
+            ("", &[]),
+            (r"\uD83D\u{DE00}", &[0xD83D, 0xDE00]),
+            (r"\u{1F600}", &[0xD83D, 0xDE00]),
+            ("\u{1F600}", &[0xD83D, 0xDE00]),
+            (r"\uDE00\uD83D", &[0xDE00, 0xD83D]),
+            (r"\x41", &[0x41]),
+            (r"\101", &[0x41]),
+            (r"\0", &[0]),
+            (r"\400", &[0x20, 0x30]),
+            (r"\8", &[0x38]),
+            (r"\b\t\n\v\f\r\q", &[8, 9, 10, 11, 12, 13, 0x71]),
+            ("a\\\nb", &[0x61, 0x62]),
+            ("a\\\r\nb", &[0x61, 0x62]),
+        ];
+        for (raw, units) in rows {
+            assert!(rt; string_has(rt.alloc(), raw, units), "{raw}");
+        }
+    }
+
+    #[test]
+    fn template_parts(rt: HostRuntime) {
+        let rows: [(&str, Option<&[u16]>); 11] = [
+            ("", Some(&[])),
+            (r"a\u{1F600}", Some(&[0x61, 0xD83D, 0xDE00])),
+            (r"\uD83D", Some(&[0xD83D])),
+            (r"\0", Some(&[0])),
+            ("\r\n", Some(&[10])),
+            ("\r\r\n\n", Some(&[10, 10, 10])),
+            ("a\\\r\nb", Some(&[0x61, 0x62])),
+            (r"\01", None),
+            (r"\8", None),
+            (r"\u{110000}", None),
+            (r"\xg", None),
+        ];
+        for (raw, wanted) in rows {
+            match decode_template(rt.alloc(), raw) {
+                Ok(Some(text)) => match wanted {
+                    Some(units) => assert!(rt; has_units(&text, units), "{raw}"),
+                    None => assert!(rt; false, "{raw}"),
+                },
+                Ok(None) => assert!(rt; wanted.is_none(), "{raw}"),
+                Err(_) => assert!(rt; false, "{raw}"),
+            }
+        }
+    }
+
+    /// Whether a name's escapes are well-formed and it stands for a text.
+    fn name_is(alloc: Global, raw: &str, wanted: &str) -> bool {
+        match spell(alloc, raw) {
+            Ok(Some(_)) => match decode_name(alloc, raw) {
+                Ok(text) => text.as_str() == wanted,
+                Err(_) => false,
+            },
+            _ => false,
+        }
+    }
+
+    #[test]
+    fn names(rt: HostRuntime) {
+        let rows = [
+            ("plain", "plain"),
+            (r"\u0061b", "ab"),
+            (r"\u{61}wait", "await"),
+            (r"x\u{1D7D8}", "x\u{1D7D8}"),
+            ("\u{E9}", "\u{E9}"),
+        ];
+        for (raw, wanted) in rows {
+            assert!(rt; name_is(rt.alloc(), raw, wanted), "{raw}");
+        }
     }
 }

@@ -12,9 +12,10 @@ returns-in-None-2 c =
 
 pub loop-c-preserved : goal.loop-c-preserved
 loop-c-preserved c =
-    let t = YieldsList-turn (YieldsList-from_chars c.args.raw.now c.utf8.raw cc) c.loop-c.yielded _ c.loop-c.yielded_by _ _ c.in-Some.c c.in-Some.is c.next.ensures.steps in
-    ( turn-some (form_of c.args.form) c.loop-c.units _ (chars c.args.raw.now) c.loop-c.yielded (state_of c.loop-c.state) c.loop-c.after_carriage c.in_ok-next.field-0 c.in-Some-2.next c.in-Some.c _ c.in-Some-2.is c.in_ok-next.ensures.read t c.loop-c.invariant.0
-    , turn-fits c.in_ok-next.field-0 c.in-Some-2.next c.in-Some-2.is c.in_ok-next.ensures.fits)
+    let t = YieldsList-turn (YieldsList-from_chars c.args.raw.now c.utf8.raw cc) c.loop-c.yielded _ c.loop-c.yielded_by _ _ c.in-Some.c c.in-Some.is c.next.ensures.steps in (
+      turn-some (form_of c.args.form) c.loop-c.units _ (chars c.args.raw.now) c.loop-c.yielded (state_of c.loop-c.state) c.loop-c.after_carriage c.in_ok-next.field-0 c.in-Some-2.next c.in-Some.c _ c.in-Some-2.is c.in_ok-next.ensures.read t c.loop-c.invariant.0,
+      turn-fits c.in_ok-next.field-0 c.in-Some-2.next c.in-Some-2.is c.in_ok-next.ensures.fits,
+    )
 
 pub returns-in_default : goal.returns-in_default
 returns-in_default c =

@@ -9,5 +9,5 @@ use Rattle.js_base.proofs.decode.cook.Given as goal
 abbrev pub invariant-loop-c : goal.invariant-loop-c
 invariant-loop-c l =
     (units_from (form_of l.form) l.units (Some (state_of l.state)) (line_feeds_after l.after_carriage (drop (length l.yielded) (chars l.raw)))
-        ≡ option_map code_units (code_points (form_of l.form) (line_feeds (chars l.raw))))
+    ≡ option_map code_units (code_points (form_of l.form) (line_feeds (chars l.raw))))
     × IsTrue (fits (state_of l.state))
