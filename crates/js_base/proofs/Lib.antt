@@ -4,3 +4,4 @@ pub mod KeywordLemmas
 pub mod ContextLemmas
 pub mod SurrogateLemmas
 pub mod PrecedenceLemmas
+pub mod DecodingLemmas

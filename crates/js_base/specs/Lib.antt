@@ -9,3 +9,7 @@ pub mod Places
 pub mod Sources
 pub mod Spans
 pub mod Diagnostics
+pub mod Characters
+pub mod Escapes
+pub mod Decoding
+pub mod DecodingSteps

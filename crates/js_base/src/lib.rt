@@ -3,6 +3,7 @@
 #![tactic(auto)]
 
 mod context;
+mod decode;
 mod diagnostic;
 mod diagnostic_text;
 mod function_kind;
@@ -25,6 +26,7 @@ mod token;
 mod tokens;
 
 pub use context::Context;
+pub use decode::{decode_name, decode_string, decode_template};
 pub use diagnostic::{Diagnostic, DiagnosticClass, DiagnosticKind, Diagnostics};
 pub use function_kind::{FunctionKind, VariableDeclarationParent};
 pub use keyword::keyword_kind;

@@ -1,7 +1,9 @@
 //! Texts: of characters, as UTF-8, and of JavaScript, as 16-bit code units.
 
-ghost use Rattle.std.specs.Prelude.{◌≡◌, bytes_eq, length, IfOk, not, slice_get};
+ghost use Rattle.std.specs.Prelude.{◌≡◌, ◌≤◌, [], ◌++◌, bytes_eq, length, IfOk, OnOk, not, slice_get};
 ghost use Rattle.std.proofs.Common.{rules};
+ghost use Rattle.std.specs.Char.{encode_utf8};
+ghost use Rattle.std.specs.Char.Escape.{encode_utf16};
 ghost use Rattle.std.specs.Char.Utf16.{has_unpaired_surrogate};
 ghost use Rattle.std.specs.Hash as fed;
 ghost use Rattle.std.specs.Cmp.{partial_equiv_from_equiv};
@@ -28,6 +30,23 @@ impl Model for Text {
 }
 
 impl Text {
+    /// The empty text; it takes no memory.
+    pub(crate) fn new(alloc: Global) -> Self
+        ensures { result ≡ [] }
+    {
+        Text {
+            text: String::new(alloc),
+        }
+    }
+
+    /// The UTF-8 of a character, at the end.
+    pub(crate) fn push(&mut self, c: char) -> Result<(), NoMemory>
+        ensures { OnOk result (self.new ≡ self.old ++ encode_utf8 c) }
+    {
+        self.text.push(c)?;
+        Ok(())
+    }
+
     /// A text with the same bytes; the only error is want of memory.
     pub fn from_str(alloc: Global, text: &str) -> Result<Self, NoMemory>
         ensures { IfOk result (λ t. t ≡ text.now) }
@@ -86,6 +105,30 @@ impl Model for JsStr {
 }
 
 impl JsStr {
+    /// The empty text; it takes no memory.
+    pub(crate) fn new(alloc: Global) -> Self
+        ensures { result ≡ [] }
+    {
+        JsStr {
+            units: Vec::new(alloc),
+        }
+    }
+
+    /// The code units of a code point, at the end (ECMA-262, section 11.1.1).
+    pub(crate) fn push_code_point(&mut self, code_point: u32) -> Result<(), NoMemory>
+        requires { code_point ≤ 0x10_FFFF }
+        ensures { OnOk result (self.new ≡ self.old ++ encode_utf16 code_point) }
+    {
+        if code_point < 0x1_0000 {
+            self.units.push(code_point as u16)?;
+        } else {
+            let above = code_point - 0x1_0000;
+            self.units.push((0xD800 + above / 0x400) as u16)?;
+            self.units.push((0xDC00 + above % 0x400) as u16)?;
+        }
+        Ok(())
+    }
+
     /// How many code units there are.
     pub fn len(&self) -> usize
         ensures { result ≡ length self.now }

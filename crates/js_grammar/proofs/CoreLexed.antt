@@ -5,7 +5,8 @@ use Rattle.js_base.specs.declared.kind.Kind.{Kind}
 use Rattle.js_base.specs.declared.kind.Kind.TheVariants.{Eof, RegExp}
 use Rattle.js_base.specs.Kinds.{code, same_kind}
 use Rattle.js_grammar.specs.Grammar.{Lexeme, Lexemes, last, next}
-use Rattle.js_grammar.specs.Characters.{one_of, width}
+use Rattle.js_base.specs.Characters.{one_of}
+use Rattle.js_grammar.specs.Characters.{width}
 use Rattle.js_grammar.specs.Longest.{longest, joined}
 use Rattle.js_grammar.specs.Trivia.{are_trivia, lack_html_comments, after, within_line}
 use Rattle.js_grammar.specs.Numbers.{is_number, stops_number}

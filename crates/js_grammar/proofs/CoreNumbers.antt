@@ -4,7 +4,8 @@ use Rattle.std.specs.Prelude.{is_some}
 use Rattle.std.specs.List.{list_all}
 use Rattle.js_base.specs.declared.kind.Kind.{Kind}
 use Rattle.js_base.specs.declared.kind.Kind.TheVariants.{Decimal}
-use Rattle.js_grammar.specs.Characters.{one_of, is_decimal, is_identifier_start, begins}
+use Rattle.js_base.specs.Characters.{one_of, is_decimal}
+use Rattle.js_grammar.specs.Characters.{is_identifier_start, begins}
 use Rattle.js_grammar.specs.Longest.{none_longer}
 use Rattle.js_grammar.specs.Numbers.{Rest, number_kind, zero_rest, digits, integer_rest, decimal_rest, exponent, is_number, stops_number}
 use Rattle.js_grammar.specs.Lexemes.{plain_kind, lexemes_in, division, a_number, opening}

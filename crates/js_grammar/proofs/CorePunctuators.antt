@@ -6,7 +6,8 @@ use Rattle.js_base.specs.declared.kind.Kind.{Kind}
 use Rattle.js_base.specs.declared.kind.Kind.TheVariants.{LCurly, RCurly, At, Slash, SlashEq, Eof, RegExp}
 use Rattle.js_base.specs.Kinds.{code}
 use Rattle.js_base.specs.Texts.{text_of, punctuators}
-use Rattle.js_grammar.specs.Characters.{one_of, is_decimal, begins}
+use Rattle.js_base.specs.Characters.{one_of, is_decimal}
+use Rattle.js_grammar.specs.Characters.{begins}
 use Rattle.js_grammar.specs.Longest.{none_longer}
 use Rattle.js_grammar.specs.Lexemes.{plain_kind, lexemes_in, division, a_punctuator, Opening, opening, may_precede, punctuator_kind}
 use Rattle.js_grammar.specs.CoreTexts.{is_core_piece, is_core_blank, is_ascii_name, is_core_number, is_core_string, is_core_punctuator, core_punctuators, ends_in_glue, is_glue}

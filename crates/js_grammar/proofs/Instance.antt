@@ -15,12 +15,13 @@ use Rattle.js_grammar.specs.Lexing.{is_newline, is_trivia, is_digit, is_name_sta
 use Rattle.js_grammar.specs.Lexing.{a_name, a_number, the_end}
 use Rattle.js_grammar.specs.Lexing.{a_punctuator as punctuator_stands}
 use Rattle.js_grammar.specs.Lexing.{Lex as FirstLex}
-use Rattle.js_grammar.specs.Characters.{one_of, width, is_line_terminator, has_line_terminator, is_decimal, is_identifier_start, is_identifier_part}
+use Rattle.js_base.specs.Characters.{one_of, is_line_terminator, is_decimal}
+use Rattle.js_grammar.specs.Characters.{width, has_line_terminator, is_identifier_start, is_identifier_part}
 use Rattle.js_grammar.specs.Characters.{begins as begins_with}
 use Rattle.js_grammar.specs.Longest.{longest, joined}
 use Rattle.js_grammar.specs.Longest.{none_longer as no_longer_front}
 use Rattle.js_grammar.specs.Trivia.{are_trivia, lack_html_comments, is_trivia_piece, is_html_comment}
-use Rattle.js_grammar.specs.Escapes.{code_units}
+use Rattle.js_base.specs.Escapes.{code_units}
 use Rattle.js_grammar.specs.Lexemes.{plain_kind, lexemes_in, division, a_punctuator, opening, may_precede, punctuator_kind, is_escaped, units_of}
 use Rattle.js_grammar.specs.Names.{has_backslash}
 use Rattle.js_grammar.specs.CoreTexts.{is_ascii_name, is_core_number, core_words, is_glue, starts}

@@ -1,7 +1,8 @@
 -- Characters of a source text (ECMA-262, 11.1, 12.2, 12.3, 12.7), each the number of its code point.
-use Rattle.std.specs.Prelude.{ℕ, ◌+◌, Bool, true, false, ◌||◌, List, [], ◌∷◌, nat_lt, ◌==◌}
-use Rattle.std.specs.Char.{is_ascii_alphabetic, is_ascii_alphanumeric, is_digit, len_utf8}
+use Rattle.std.specs.Prelude.{ℕ, ◌+◌, Bool, true, false, ◌||◌, List, [], ◌∷◌, nat_lt}
+use Rattle.std.specs.Char.{is_ascii_alphabetic, is_ascii_alphanumeric, len_utf8}
 use Rattle.std.specs.List.{list_any}
+use Rattle.js_base.specs.Characters.{one_of, is_line_terminator}
 use Rattle.unicode.specs.Binary.{is_id_start, is_id_continue}
 use Rattle.ucd_category.specs.GeneralCategory.{general_category, general_category_eq}
 use Rattle.ucd_category.specs.declared.GeneralCategory.TheVariants.{SpaceSeparator}
@@ -11,16 +12,9 @@ abbrev pub width : List ℕ → ℕ
 width [] = 0
 width (c ∷ cs) = len_utf8 c + width cs
 
-abbrev pub one_of : List ℕ → ℕ → Bool
-one_of ds c = list_any (λ d. d == c) ds
-
 -- WhiteSpace (12.2): <TAB>, <VT>, <FF>, <SP>, <ZWNBSP>, and beyond ASCII the category Zs. Among ASCII it has the space alone.
 abbrev pub is_white_space : ℕ → Bool
 is_white_space c = one_of (9 ∷ 11 ∷ 12 ∷ 32 ∷ 0xFEFF ∷ []) c || elim (nat_lt c 128) [ true ↦ false | false ↦ general_category_eq (general_category c) SpaceSeparator ]
-
--- LineTerminator (12.3): <LF>, <CR>, <LS>, <PS>
-abbrev pub is_line_terminator : ℕ → Bool
-is_line_terminator = one_of (10 ∷ 13 ∷ 0x2028 ∷ 0x2029 ∷ [])
 
 abbrev pub has_line_terminator : List ℕ → Bool
 has_line_terminator = list_any is_line_terminator
@@ -32,19 +26,6 @@ is_identifier_start c = one_of (36 ∷ 95 ∷ []) c || elim (nat_lt c 128) [ tru
 -- IdentifierPartChar (12.7): ID_Continue, `$`, <ZWNJ>, <ZWJ>. Among ASCII, ID_Continue has letters, digits and `_` alone.
 abbrev pub is_identifier_part : ℕ → Bool
 is_identifier_part c = one_of (36 ∷ 95 ∷ 0x200C ∷ 0x200D ∷ []) c || elim (nat_lt c 128) [ true ↦ is_ascii_alphanumeric c | false ↦ is_id_continue c ]
-
--- DecimalDigit, OctalDigit, BinaryDigit, HexDigit (12.9.3)
-abbrev pub is_decimal : ℕ → Bool
-is_decimal c = is_digit c 10
-
-abbrev pub is_octal : ℕ → Bool
-is_octal c = is_digit c 8
-
-abbrev pub is_binary : ℕ → Bool
-is_binary c = is_digit c 2
-
-abbrev pub is_hex : ℕ → Bool
-is_hex c = is_digit c 16
 
 -- the first character passes
 abbrev pub begins : (ℕ → Bool) → List ℕ → Bool

@@ -11,7 +11,6 @@ pub mod Readings
 pub mod Characters
 pub mod Longest
 pub mod Trivia
-pub mod Escapes
 pub mod Names
 pub mod Numbers
 pub mod Strings

@@ -3,7 +3,8 @@ use Rattle.std.specs.Prelude.{ℕ, Bool, true, false, not, ◌&&◌, ◌||◌, L
 use Rattle.std.specs.List.{list_all}
 use Rattle.js_base.specs.declared.kind.Kind.{Kind}
 use Rattle.js_base.specs.declared.kind.Kind.TheVariants.{RegExp}
-use Rattle.js_grammar.specs.Characters.{one_of, is_line_terminator, is_identifier_part}
+use Rattle.js_base.specs.Characters.{one_of, is_line_terminator}
+use Rattle.js_grammar.specs.Characters.{is_identifier_part}
 
 -- Behind the opening slash: what stands behind the slash that ends the pattern. That is the first one neither directly behind a backslash nor in brackets.
 -- `brackets`: the characters stand in brackets; `escaped`: a backslash that is none itself stands directly before.

@@ -1,10 +1,11 @@
 -- String literals (ECMA-262, 12.9.4), outside strict mode.
-use Rattle.std.specs.Prelude.{ℕ, Bool, true, false, not, ◌&&◌, ◌||◌, List, [], ◌∷◌, ◌==◌, Option, Some, None, is_some, option_map, take, drop, length, ◌-◌}
+use Rattle.std.specs.Prelude.{ℕ, Bool, true, false, not, ◌&&◌, ◌||◌, List, [], ◌∷◌, ◌==◌, Option, Some, None, is_some, take, drop, length, ◌-◌}
 use Rattle.std.specs.List.{list_all}
 use Rattle.js_base.specs.declared.kind.Kind.{Kind}
 use Rattle.js_base.specs.declared.kind.Kind.TheVariants.{Str}
-use Rattle.js_grammar.specs.Characters.{one_of}
-use Rattle.js_grammar.specs.Escapes.{in_string, line_feeds, code_points, code_units}
+use Rattle.js_base.specs.Characters.{one_of}
+use Rattle.js_base.specs.Escapes.{line_feeds}
+use Rattle.js_base.specs.Decoding.{string_points}
 
 abbrev pub nothing_left : List ℕ → Bool
 nothing_left = list_all (λ c. false)
@@ -18,15 +19,7 @@ closes_string q escaped (c ∷ cs) = elim (not escaped && (c == q)) [ true ↦ n
 abbrev pub string_inside : List ℕ → List ℕ
 string_inside w = drop 1 (take (length w - 1) w)
 
--- the code points that an inside stands for (12.9.4.2), or none where an escape is ill-formed
-abbrev pub string_points : List ℕ → Option (List ℕ)
-string_points inside = code_points in_string (line_feeds inside)
-
 -- StringLiteral: closed, and each of its escapes is well-formed
 abbrev pub string_kind : List ℕ → Option Kind
 string_kind [] = None
 string_kind (q ∷ cs) = elim (one_of (34 ∷ 39 ∷ []) q && (closes_string q false (line_feeds cs) && is_some (string_points (string_inside (q ∷ cs))))) [ true ↦ Some Str | false ↦ None ]
-
--- the code units that an inside stands for: the SV of a string
-abbrev pub string_units : List ℕ → Option (List ℕ)
-string_units inside = option_map code_units (string_points inside)

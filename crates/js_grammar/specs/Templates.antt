@@ -1,10 +1,9 @@
 -- Template parts (ECMA-262, 12.9.6).
-use Rattle.std.specs.Prelude.{ℕ, Bool, true, false, not, ◌&&◌, List, [], ◌∷◌, ◌==◌, Option, Some, None, take, drop, length, ◌-◌, option_map}
+use Rattle.std.specs.Prelude.{ℕ, Bool, true, false, not, ◌&&◌, List, [], ◌∷◌, ◌==◌, Option, Some, None, take, drop, length, ◌-◌}
 use Rattle.js_base.specs.declared.kind.Kind.{Kind}
 use Rattle.js_base.specs.declared.kind.Kind.TheVariants.{NoSubstitutionTemplate, TemplateHead, TemplateMiddle, TemplateTail}
 use Rattle.js_base.specs.Kinds.{one_of_kinds}
 use Rattle.js_grammar.specs.Strings.{nothing_left}
-use Rattle.js_grammar.specs.Escapes.{in_template, line_feeds, code_points, code_units}
 
 -- Behind the backquote or brace that opens a part: the first backquote, or the first `${`, ends the characters; none counts directly behind a backslash.
 -- `escaped`: a backslash that is none itself stands directly before; `dollar`: a `$` does. The answer tells whether `${` ends the part.
@@ -35,11 +34,3 @@ template_tail_kind (c ∷ cs) = elim (c == 125) [ true ↦ part_kind TemplateTai
 -- the inside of a part: without the opening, and without the backquote or the `${` at its end
 abbrev pub template_inside : Kind → List ℕ → List ℕ
 template_inside k w = elim (one_of_kinds (TemplateHead ∷ TemplateMiddle ∷ []) k) [ true ↦ drop 1 (take (length w - 2) w) | false ↦ drop 1 (take (length w - 1) w) ]
-
--- the raw text of a part, of its inside (12.9.6.2)
-abbrev pub raw_text : List ℕ → List ℕ
-raw_text = line_feeds
-
--- the code units that a part stands for, of its inside, or none where an escape is ill-formed
-abbrev pub cooked : List ℕ → Option (List ℕ)
-cooked inside = option_map code_units (code_points in_template (raw_text inside))

@@ -1,7 +1,8 @@
 -- What stands between lexemes: white space, line terminators and comments (ECMA-262, 12.2 to 12.4; B.1.1 for the HTML-like ones).
 use Rattle.std.specs.Prelude.{ℕ, Bool, true, false, not, ◌&&◌, ◌||◌, List, [], ◌∷◌, ◌++◌, codes, ◌==◌}
 use Rattle.std.specs.List.{list_all, list_any}
-use Rattle.js_grammar.specs.Characters.{is_white_space, is_line_terminator, has_line_terminator}
+use Rattle.js_base.specs.Characters.{is_line_terminator}
+use Rattle.js_grammar.specs.Characters.{is_white_space, has_line_terminator}
 use Rattle.js_grammar.specs.Longest.{Class, longest, none_begins, joined}
 
 -- the characters are a beginning and, behind it, others that pass

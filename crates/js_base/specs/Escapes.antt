@@ -3,7 +3,7 @@ use Rattle.std.specs.Prelude.{ℕ, ◌+◌, ◌-◌, ◌*◌, Bool, true, false,
 use Rattle.std.specs.List.{find}
 use Rattle.std.specs.Char.{digit_value}
 use Rattle.std.specs.Char.Escape.{encode_utf16}
-use Rattle.js_grammar.specs.Characters.{is_line_terminator, is_hex, is_octal, is_decimal}
+use Rattle.js_base.specs.Characters.{is_line_terminator, is_hex, is_octal, is_decimal}
 
 -- A LineTerminatorSequence (12.3) of CR and LF is one, and CR counts as LF. `carriage`: a CR stands directly before.
 abbrev pub line_feeds_after : Bool → List ℕ → List ℕ
