@@ -1,7 +1,7 @@
 //! Laws of runs over ends that are known.
 
-ghost use Rattle.std.specs.Prelude.{◌≡◌, Some};
-ghost use Rattle.jsparse.specs.Runs.{HasCause};
+ghost use Rattle.std.specs.Prelude.{◌≡◌, Some, map, string_bytes};
+ghost use Rattle.jsparse.specs.Runs.{HasCause, FitsWords};
 
 use crate::ends::Sink;
 use crate::run::run;
@@ -26,6 +26,7 @@ pub fn run_steady<K: Sink>(
       write_faults = K.faults sink.old;
       write_faults_after = K.faults sink.new;
     }) }
+    ensures words { FitsWords result (map string_bytes words.now.items) }
     ensures no_read_fault { result ≡ Status.ReadFault → ⊥ }
 {
     run(alloc, words, source, sink)

@@ -1,11 +1,12 @@
 //! The parser of a whole text.
 
-ghost use Rattle.std.specs.Prelude.{◌≡◌, ◌≤◌, length, IfOk};
+ghost use Rattle.std.specs.Prelude.{◌≡◌, ◌≤◌, length, IfOk, None};
 ghost use Rattle.js_base.specs.declared.TheConstants.{MAX_LEN};
 ghost use Rattle.js_base.specs.declared.kind.Kind.TheVariants.{Eof, Undetermined};
+ghost use Rattle.js_base.specs.declared.diagnostic.DiagnosticKind.TheVariants.{UnexpectedToken};
 ghost use Rattle.js_grammar.specs.Readings.{HasNoReading};
 ghost use Rattle.jsparse.specs.Answers.{At, ProgramRead};
-ghost use Rattle.jsparse.specs.Parsed.{Parsed, Settles};
+ghost use Rattle.jsparse.specs.Parsed.{Parsed, Settles, IsPlace};
 ghost use Rattle.jsparse.specs.Tokens.{Tells};
 
 use crate::cursor::{Cursor, Stop, bump, is_at};
@@ -128,8 +129,12 @@ fn refused(
     })
 }
 
+/// The diagnostic at a span where a lexeme can't stand.
 fn unexpected_token(span: Span) -> Diagnostic
-    ensures { result.span ≡ span }
+    ensures span { result.span ≡ span }
+    ensures kind { result.kind ≡ UnexpectedToken }
+    ensures first { result.first ≡ None }
+    ensures second { result.second ≡ None }
 {
     Diagnostic {
         kind: DiagnosticKind::UnexpectedToken,
@@ -150,8 +155,7 @@ fn goes_on(p: &Cursor) -> bool
 /// this language stands, and where there is none, the lexeme itself.
 fn first_fault(text: &[u8], p: &Cursor) -> Span
     requires { At text.now p.now }
-    ensures ordered { result.start ≤ result.end }
-    ensures within { result.end ≤ length text.now }
+    ensures { IsPlace text.now result }
 {
     let mut last = Cursor {
         token: p.token,
