@@ -1,6 +1,8 @@
 -- Lexical faults: what stands at the span of each. Eight stop the lexemes; a wrong flag and an HTML-like comment in a module don't.
-use Rattle.std.specs.Prelude.{ℕ, ◌+◌, ◌≡◌, ◌<◌, ◌⊎◌, Bool, true, false, not, ◌&&◌, ◌||◌, List, [], ◌∷◌, ◌++◌, ◌==◌, codes, IsTrue, is_some, Some, IsCharBoundary, bytes_eq}
+use Rattle.std.specs.Prelude.{ℕ, ◌+◌, ◌≡◌, ◌<◌, ◌≤◌, ◌⊎◌, Bool, true, false, not, ◌&&◌, ◌||◌, List, [], ◌∷◌, ◌++◌, ◌==◌, codes, chars, drop, IsTrue, is_some, Some, IsCharBoundary, bytes_eq}
 use Rattle.js_base.specs.declared.kind.Kind.TheVariants.{RegExp}
+use Rattle.js_base.specs.declared.diagnostic.DiagnosticKind.{DiagnosticKind}
+use Rattle.js_base.specs.declared.diagnostic.DiagnosticKind as fault
 use Rattle.js_grammar.specs.Grammar.{Lexeme, Lexemes}
 use Rattle.js_grammar.specs.Settings.{Goal}
 use Rattle.js_base.specs.Characters.{one_of, is_decimal}
@@ -19,20 +21,14 @@ use Rattle.js_grammar.specs.Lexing.{Lexes}
 use Rattle.js_grammar.specs.Lexed.{Stands, Lex, end_of, all_faults, in_module, passing_of}
 use Rattle.js_grammar.specs.CoreTexts.{starts}
 
-pub data LexicalFault : Type 0 where
-  invalid_character binary_file unterminated_string unterminated_template unterminated_regexp unterminated_comment invalid_escape invalid_number : LexicalFault
-  reg_exp_flag html_comment_in_module : LexicalFault
+-- the characters from a place on
+abbrev pub behind : List ℕ → ℕ → List ℕ
+behind text i = chars (drop i text)
 
--- the place is the text's start, or the end of a part that begins there; faults that don't stop pass
-abbrev pub Reached : List ℕ → ℕ → Type 0
-Reached text s = (s ≡ 0) ⊎ ((ls : Lexemes) × Lexes (Lex all_faults text) 0 ls × (end_of ls ≡ s))
-
--- behind trivia a lexeme is due at the place i, and these characters stand there
-pub record Due (text : List ℕ) (i : ℕ) (cs : List ℕ) : Type 0 where
-  pub s : ℕ
-  pub reached : Reached text s
+-- behind the place s stands trivia, and behind that, at the place i, a lexeme is due
+pub record Due (text : List ℕ) (s i : ℕ) : Type 0 where
   pub pieces : List (List ℕ)
-  pub stands : Stands text s pieces [] cs
+  pub stands : Stands text s pieces [] (behind text i)
   pub place : i ≡ s + width (joined pieces)
 
 -- no lexeme begins with c, a hashbang comment left aside, and it is none of those that have a fault of their own: a digit, a quote, a backquote, a slash, a backslash, a right brace, U+FFFD
@@ -78,7 +74,7 @@ is_comment w rest = is_multi_line_comment w
 pub record Unterminated (opening closing : Class) (text : List ℕ) (from to : ℕ) : Type 0 where
   pub word : List ℕ
   pub rest : List ℕ
-  pub due : Due text from (word ++ rest)
+  pub here : behind text from ≡ word ++ rest
   pub opened : IsTrue (longest opening word rest)
   pub never : IsTrue (none_begins closing (word ++ rest))
   pub end : to ≡ from + width word
@@ -91,7 +87,7 @@ is_number_word w rest = is_some (number_kind w)
 pub record InvalidNumber (text : List ℕ) (from : ℕ) : Type 0 where
   pub first : ℕ
   pub others : List ℕ
-  pub due : Due text from (first ∷ others)
+  pub here : behind text from ≡ first ∷ others
   pub begun : IsTrue (is_decimal first || ((first == 46) && begins is_decimal others))
   pub none : (w rest : List ℕ) → first ∷ others ≡ w ++ rest → longest is_number_word w rest ≡ true → stops_number rest ≡ true → ⊥
 
@@ -103,49 +99,44 @@ abbrev pub is_right_inside : Class
 is_right_inside w rest = is_some (string_points w)
 
 -- a backslash in a name, behind `#` or not, with which no name goes on
-pub record InvalidNameEscape (text : List ℕ) (from : ℕ) : Type 0 where
+pub record InvalidNameEscape (text : List ℕ) (place from : ℕ) : Type 0 where
   pub mark : List ℕ
   pub name : List ℕ
   pub rest : List ℕ
-  pub place : ℕ
-  pub due : Due text place (mark ++ (name ++ 92 ∷ rest))
+  pub here : behind text place ≡ mark ++ (name ++ 92 ∷ rest)
   pub marked : IsTrue (nothing_left mark || bytes_eq mark (codes "#"))
   pub named : IsTrue (nothing_left name || is_name_word name [])
   pub never : IsTrue (none_longer is_name_word name (92 ∷ rest))
   pub begin : from ≡ place + width mark + width name
 
 -- a backslash in a string, with which no inside goes on
-pub record InvalidStringEscape (text : List ℕ) (from : ℕ) : Type 0 where
+pub record InvalidStringEscape (text : List ℕ) (place from : ℕ) : Type 0 where
   pub quote : ℕ
   pub inside : List ℕ
   pub rest : List ℕ
-  pub place : ℕ
-  pub due : Due text place (quote ∷ inside ++ 92 ∷ rest)
+  pub here : behind text place ≡ quote ∷ inside ++ 92 ∷ rest
   pub opened : IsTrue (is_open_string (quote ∷ inside) (92 ∷ rest))
   pub unclosed : IsTrue (none_begins is_closed_string (quote ∷ inside))
   pub right : IsTrue (is_right_inside inside [])
   pub never : IsTrue (none_longer is_right_inside inside (92 ∷ rest))
   pub begin : from ≡ place + 1 + width inside
 
--- one character, at which no lexeme begins, nor a hashbang comment at the text's start
+-- one character, at which no lexeme begins
 pub record InvalidCharacter (text : List ℕ) (from to : ℕ) : Type 0 where
   pub character : ℕ
   pub rest : List ℕ
-  pub due : Due text from (character ∷ rest)
+  pub here : behind text from ≡ character ∷ rest
   pub nothing : IsTrue (begins_nothing character rest)
-  pub no_hashbang : IsTrue (not ((from == 0) && starts (codes "#!") text))
   pub end : to ≡ from + width (character ∷ [])
 
 -- U+FFFD, where a lexeme is due
 pub record BinaryFile (text : List ℕ) (from to : ℕ) : Type 0 where
   pub rest : List ℕ
-  pub due : Due text from (0xFFFD ∷ rest)
+  pub here : behind text from ≡ 0xFFFD ∷ rest
   pub end : to ≡ from + width (0xFFFD ∷ [])
 
--- a flag of a regular expression that is none of the eight, or that stood before
-pub record WrongFlag (text : List ℕ) (from to : ℕ) : Type 0 where
-  pub s : ℕ
-  pub reached : Reached text s
+-- behind the place s stands a regular expression with a flag that is none of the eight, or that stood before
+pub record WrongFlag (text : List ℕ) (s from to : ℕ) : Type 0 where
   pub lexeme : Lexeme
   pub lex : Lex all_faults text s lexeme
   pub is : lexeme.kind ≡ RegExp
@@ -157,10 +148,8 @@ pub record WrongFlag (text : List ℕ) (from to : ℕ) : Type 0 where
   pub end : lexeme.to ≡ to + width behind
   pub begin : to ≡ from + width (flag ∷ [])
 
--- an HTML-like comment in the trivia of a module
-pub record HtmlComment (text : List ℕ) (from : ℕ) : Type 0 where
-  pub s : ℕ
-  pub reached : Reached text s
+-- an HTML-like comment in the trivia behind the place s
+pub record HtmlComment (text : List ℕ) (s from : ℕ) : Type 0 where
   pub before : List (List ℕ)
   pub comment : List ℕ
   pub behind : List (List ℕ)
@@ -169,22 +158,42 @@ pub record HtmlComment (text : List ℕ) (from : ℕ) : Type 0 where
   pub is : IsTrue (is_html_comment comment)
   pub begin : from ≡ s + width (joined before)
 
--- what stands at the span of a fault
-abbrev pub Condition : LexicalFault → Goal → List ℕ → ℕ → ℕ → Type 0
-Condition invalid_character goal text from to = InvalidCharacter text from to
-Condition binary_file goal text from to = BinaryFile text from to
-Condition unterminated_string goal text from to = Unterminated is_open_string is_closed_string text from to
-Condition unterminated_template goal text from to = Unterminated is_open_part is_part text from to
-Condition unterminated_regexp goal text from to = Unterminated is_open_regular_expression (lexemes_in regular_expression) text from to
-Condition unterminated_comment goal text from to = Unterminated is_open_comment is_comment text from to
-Condition invalid_escape goal text from to = InvalidNameEscape text from ⊎ InvalidStringEscape text from
-Condition invalid_number goal text from to = InvalidNumber text from
-Condition reg_exp_flag goal text from to = WrongFlag text from to
-Condition html_comment_in_module goal text from to = (passing_of goal ≡ in_module) × HtmlComment text from
+-- What stands at the span of a fault that stops, where a lexeme is due at the place i; of other diagnostics nothing does.
+abbrev pub Stopping : DiagnosticKind → List ℕ → ℕ → ℕ → ℕ → Type 0
+Stopping fault.InvalidCharacter text i from to = (from ≡ i) × InvalidCharacter text i to
+Stopping fault.BinaryFile text i from to = (from ≡ i) × BinaryFile text i to
+Stopping fault.UnterminatedString text i from to = (from ≡ i) × Unterminated is_open_string is_closed_string text i to
+Stopping fault.UnterminatedTemplate text i from to = (from ≡ i) × Unterminated is_open_part is_part text i to
+Stopping fault.UnterminatedRegexp text i from to = (from ≡ i) × Unterminated is_open_regular_expression (lexemes_in regular_expression) text i to
+Stopping fault.UnterminatedComment text i from to = (from ≡ i) × Unterminated is_open_comment is_comment text i to
+Stopping fault.InvalidEscape text i from to = InvalidNameEscape text i from ⊎ InvalidStringEscape text i from
+Stopping fault.InvalidNumber text i from to = (from ≡ i) × InvalidNumber text i
+Stopping _ text i from to = ⊥
+
+-- What stands at the span of a fault behind the place s, the end of a lexeme or the text's start; of a fault that is none of the lexemes nothing does.
+abbrev pub Condition : DiagnosticKind → Goal → List ℕ → ℕ → ℕ → ℕ → Type 0
+Condition fault.RegExpFlag goal text s from to = WrongFlag text s from to
+Condition fault.HtmlCommentInModule goal text s from to = (passing_of goal ≡ in_module) × HtmlComment text s from
+Condition kind goal text s from to = (i : ℕ) × Due text s i × Stopping kind text i from to
 
 -- The fault lies at the span, which isn't empty, and begins and ends between characters.
-pub record Faulty (fault : LexicalFault) (goal : Goal) (text : List ℕ) (from to : ℕ) : Type 0 where
+pub record FaultyBehind (kind : DiagnosticKind) (goal : Goal) (text : List ℕ) (s from to : ℕ) : Type 0 where
   pub ordered : from < to
   pub begins_between : IsCharBoundary text from
   pub ends_between : IsCharBoundary text to
-  pub condition : Condition fault goal text from to
+  pub condition : Condition kind goal text s from to
+
+abbrev pub is_invalid_character : DiagnosticKind → Bool
+is_invalid_character fault.InvalidCharacter = true
+is_invalid_character _ = false
+
+-- the place is the text's start, or the end of a part that begins there; faults that don't stop pass
+abbrev pub Reached : List ℕ → ℕ → Type 0
+Reached text s = (s ≡ 0) ⊎ ((ls : Lexemes) × Lexes (Lex all_faults text) 0 ls × (end_of ls ≡ s))
+
+-- A fault of a text. No character is invalid at which a hashbang comment begins.
+pub record Faulty (kind : DiagnosticKind) (goal : Goal) (text : List ℕ) (from to : ℕ) : Type 0 where
+  pub place : ℕ
+  pub reached : Reached text place
+  pub faulty : FaultyBehind kind goal text place from to
+  pub no_hashbang : IsTrue (not (is_invalid_character kind && ((from == 0) && starts (codes "#!") text)))
