@@ -28,7 +28,7 @@ due_first text t = record { pieces = []; stands = record { within = omega arith;
 -- `'a` and a line end
 open_string : Condition UnterminatedString script (codes "'a" ++ 10 ∷ []) 0 0 2
 unfolding chars
-open_string = (0, due_first (codes "'a" ++ 10 ∷ []) refl, refl, record { word = codes "'a"; rest = 10 ∷ []; here = refl; opened = refl; never = refl; end = refl })
+open_string = (0, due_first (codes "'a" ++ 10 ∷ []) refl, (refl, record { word = codes "'a"; rest = 10 ∷ []; here = refl; opened = refl; never = refl; end = refl }))
 
 -- the same, with its span
 open_string_faulty : Faulty UnterminatedString script (codes "'a") 0 2
@@ -40,22 +40,22 @@ open_string_faulty = record {
     ordered = omega arith;
     begins_between = IsCharBoundary-start (codes "'a") (IsUtf8-from_is_utf8 (codes "'a") refl);
     ends_between = IsCharBoundary-end (codes "'a");
-    condition = (0, due_first (codes "'a") refl, refl, record { word = codes "'a"; rest = []; here = refl; opened = refl; never = refl; end = refl });
+    condition = (0, due_first (codes "'a") refl, (refl, record { word = codes "'a"; rest = []; here = refl; opened = refl; never = refl; end = refl }));
   };
   no_hashbang = refl;
 }
 
 open_template : Condition UnterminatedTemplate script (codes "`a\\`") 0 0 4
 unfolding chars
-open_template = (0, due_first (codes "`a\\`") refl, refl, record { word = codes "`a\\`"; rest = []; here = refl; opened = refl; never = refl; end = refl })
+open_template = (0, due_first (codes "`a\\`") refl, (refl, record { word = codes "`a\\`"; rest = []; here = refl; opened = refl; never = refl; end = refl }))
 
 open_pattern : Condition UnterminatedRegexp script (codes "/[/]") 0 0 4
 unfolding chars
-open_pattern = (0, due_first (codes "/[/]") refl, refl, record { word = codes "/[/]"; rest = []; here = refl; opened = refl; never = refl; end = refl })
+open_pattern = (0, due_first (codes "/[/]") refl, (refl, record { word = codes "/[/]"; rest = []; here = refl; opened = refl; never = refl; end = refl }))
 
 open_comment : Condition UnterminatedComment script (codes "/*a*") 0 0 4
 unfolding chars
-open_comment = (0, due_first (codes "/*a*") refl, refl, record { word = codes "/*a*"; rest = []; here = refl; opened = refl; never = refl; end = refl })
+open_comment = (0, due_first (codes "/*a*") refl, (refl, record { word = codes "/*a*"; rest = []; here = refl; opened = refl; never = refl; end = refl }))
 
 -- `'\xg'`: from the backslash on
 hex_escape : Condition InvalidEscape script (codes "'\\xg'") 0 1 5
@@ -70,7 +70,7 @@ name_escape = (0, due_first (codes "a\\u0020") refl, inl (record { mark = []; na
 -- `#` alone
 no_character : Condition InvalidCharacter script (codes "#") 0 0 1
 unfolding chars punctuators
-no_character = (0, due_first (codes "#") refl, refl, record { character = 35; rest = []; here = refl; nothing = refl; end = refl })
+no_character = (0, due_first (codes "#") refl, (refl, record { character = 35; rest = []; here = refl; nothing = refl; end = refl }))
 
 -- ` #!`: behind a space, `#!` begins no hashbang comment
 no_hashbang_later : Condition InvalidCharacter script (codes " #!") 0 1 2
@@ -78,8 +78,7 @@ unfolding chars punctuators
 no_hashbang_later = (
   1,
   record { pieces = codes " " ∷ []; stands = record { within = omega arith; splits = refl; trivia = refl }; place = refl },
-  refl,
-  record { character = 35; rest = codes "!"; here = refl; nothing = refl; end = refl },
+  (refl, record { character = 35; rest = codes "!"; here = refl; nothing = refl; end = refl }),
 )
 
 -- `#!`: a hashbang comment begins, so no character is invalid
@@ -89,7 +88,7 @@ hashbang_begins to c = let h = c.no_hashbang in cc
 -- U+FFFD
 replaced : Condition BinaryFile script (239 ∷ 191 ∷ 189 ∷ []) 0 0 3
 unfolding chars value_in general_category general_category_rows
-replaced = (0, due_first (239 ∷ 191 ∷ 189 ∷ []) refl, refl, record { rest = []; here = refl; end = refl })
+replaced = (0, due_first (239 ∷ 191 ∷ 189 ∷ []) refl, (refl, record { rest = []; here = refl; end = refl }))
 
 -- `/a/gg`: the second flag
 flag_twice : Condition RegExpFlag script (codes "/a/gg") 0 4 5
@@ -121,15 +120,17 @@ unfolding chars
 two_separators = (
   0,
   due_first (codes "1__0") refl,
-  refl,
-  record {
-    first = 49;
-    others = codes "__0";
-    here = refl;
-    begun = refl;
-    none = λ w rest e l t.
-        let same = longest-same is_number_word (codes "1") (codes "__0") w rest e refl l in
-        let u : stops_number (codes "__0") ≡ true = subst (λ (v : List ℕ). stops_number v ≡ true) (sym same.back) t in
-        cc;
-  },
+  (
+    refl,
+    record {
+      first = 49;
+      others = codes "__0";
+      here = refl;
+      begun = refl;
+      none = λ w rest e l t.
+          let same = longest-same is_number_word (codes "1") (codes "__0") w rest e refl l in
+          let u : stops_number (codes "__0") ≡ true = subst (λ (v : List ℕ). stops_number v ≡ true) (sym same.back) t in
+          cc;
+    },
+  ),
 )
