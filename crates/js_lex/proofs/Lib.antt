@@ -1,2 +1,5 @@
 pub mod Places
 pub mod Plain
+pub mod Keeping
+pub mod TriviaLemmas
+pub mod Passing

@@ -1,2 +1,5 @@
 pub mod Places
+pub mod Comments
+pub mod Kept
+pub mod TriviaPassed
 pub mod Scans

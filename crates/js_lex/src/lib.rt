@@ -2,5 +2,11 @@
 #![tactic(auto)]
 
 mod class;
+mod comment;
+mod output;
 mod place;
 mod scan;
+mod trivia;
+
+pub use comment::{Comment, CommentKind, Comments};
+pub use output::LexerOutput;

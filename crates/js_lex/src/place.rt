@@ -1,7 +1,12 @@
 //! Bytes and characters at a place of a text.
 
-ghost use Rattle.std.specs.Prelude.{◌≡◌, IsCharBoundary};
-ghost use Rattle.js_lex.specs.Places.{PeeksAt, ReadsAt};
+ghost use Rattle.std.specs.Prelude.{◌≡◌, ◌≤◌, ◌+◌, ℕ, length, nat_lt, IsTrue, IsCharBoundary};
+ghost use Rattle.std.specs.List.{list_all};
+ghost use Rattle.js_grammar.specs.CoreTexts.{starts};
+ghost use Rattle.js_grammar.specs.LexicalFaults.{behind};
+ghost use Rattle.js_lex.specs.Places.{Word, PeeksAt, ReadsAt, CharacterAt};
+
+use js_base::MAX_LEN;
 
 /// The byte at a place, or none at the end of the text.
 #[inline]
@@ -23,4 +28,59 @@ pub(crate) fn char_at(text: &str, at: usize) -> Option<char>
     ensures { ReadsAt text.now at result }
 {
     text[at..].chars().next()
+}
+
+/// A character of a text.
+#[derive(Debug, Clone, Copy)]
+pub(crate) struct Character {
+    pub character: char,
+    /// The place behind it.
+    pub end: usize,
+}
+
+/// The character at a place and the place behind it, or none at the end of the text; an ASCII character is not decoded.
+#[inline]
+pub(crate) fn read_at(text: &str, at: usize) -> Option<Character>
+    requires boundary { IsCharBoundary text.now at }
+    requires short { at ≤ MAX_LEN }
+    ensures { CharacterAt text.now at result }
+{
+    match byte_at(text, at) {
+        None => None,
+        Some(byte) if byte < 128 => Some(Character {
+            character: byte as char,
+            end: at + 1,
+        }),
+        Some(_) => high_at(text, at),
+    }
+}
+
+/// The character at a place, decoded.
+fn high_at(text: &str, at: usize) -> Option<Character>
+    requires boundary { IsCharBoundary text.now at }
+    requires short { at ≤ MAX_LEN }
+    ensures { CharacterAt text.now at result }
+{
+    let character = char_at(text, at)?;
+    Some(Character {
+        character,
+        end: at + character.len_utf8(),
+    })
+}
+
+/// Whether the text goes on at a place with some ASCII characters.
+pub(crate) fn goes_on(text: &str, at: usize, characters: &[u8]) -> bool
+    requires boundary { IsCharBoundary text.now at }
+    requires ascii { IsTrue (list_all (λ c. nat_lt c 128) characters.now) }
+    ensures is { result ≡ starts characters.now (behind text.now at) }
+    ensures word { IsTrue result → Word text.now at (at + length characters.now) characters.now }
+{
+    let mut end = at;
+    for character in characters {
+        match byte_at(text, end) {
+            Some(byte) if byte == *character => end += 1,
+            _ => return false,
+        }
+    }
+    true
 }
