@@ -71,9 +71,9 @@ fn pass_pieces(
 {
     let mut end = at;
     let mut has_newline = false;
-    'pieces: while let Some(piece) = piece_at(text, end, at == 0 || has_newline) {
+    'pieces: while let Some(piece) = piece_at(text, end, (at == 0) | has_newline) {
         keep_piece(kept, is_module, end, piece)?;
-        has_newline = has_newline || piece.has_newline;
+        has_newline |= piece.has_newline;
         end = piece.end;
     }
     Ok(Trivia { end, has_newline })
