@@ -1,6 +1,7 @@
 //! The lexer (ECMA-262, chapter 12): one token at a time, by the lexical goal that the parser asks for.
 #![tactic(auto)]
 
+mod character;
 mod class;
 mod place;
 mod scan;
