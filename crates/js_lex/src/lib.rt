@@ -5,3 +5,4 @@ mod character;
 mod class;
 mod place;
 mod scan;
+mod template;
