@@ -1,9 +1,8 @@
 -- Fronts of a text that are of a class, and the text's end.
-use Rattle.std.proofs.Common.{◌≡◌, ◌<◌, ℕ, Bool, true, false, List, [], ◌∷◌, ◌++◌, refl, sym, ap, subst, ◌∙◌, not, ◌&&◌, append_assoc, arith, length, drop, length-drop, ◌-◌, ◌+◌}
-use Rattle.std.specs.Prelude.{chars, encode_utf8_all, IsUtf8, IsCharBoundary}
-use Rattle.std.specs.Char.{len_utf8}
+use Rattle.std.proofs.Common.{◌≡◌, ◌<◌, ℕ, true, false, List, [], ◌∷◌, ◌++◌, refl, sym, ap, subst, ◌∙◌, not, append_assoc, arith, length, drop, length-drop}
+use Rattle.std.specs.Prelude.{encode_utf8_all, IsUtf8, IsCharBoundary}
 use Rattle.std.proofs.lemmas.Str.{IsUtf8-drop, encodes-chars}
-use Rattle.js_grammar.specs.Longest.{Class, longest, none_longer}
+use Rattle.js_grammar.specs.Longest.{Class, none_longer}
 use Rattle.js_grammar.specs.LexicalFaults.{behind}
 use Rattle.js_grammar.proofs.LongestLemmas.{both}
 use Rattle.js_lex.specs.Places.{Word}

@@ -2,3 +2,4 @@ pub mod Places
 pub mod Plain
 pub mod Fronts
 pub mod TemplateParts
+pub mod TemplateLexemes

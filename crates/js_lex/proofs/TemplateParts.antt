@@ -1,10 +1,9 @@
 -- What a scan of a template part has read.
-use Rattle.std.proofs.Common.{◌≡◌, ℕ, ◌+◌, Bool, true, false, List, [], ◌∷◌, ◌++◌, refl, sym, ap, subst, ◌∙◌, append_assoc, length, Option, Some, None, not, ◌&&◌, ◌==◌, ◌⊎◌, inl, inr}
+use Rattle.std.proofs.Common.{◌≡◌, ℕ, Bool, true, false, List, [], ◌∷◌, ◌++◌, refl, sym, ap, subst, ◌∙◌, append_assoc, length, Option, Some, None, not, ◌&&◌, ◌==◌, inl, inr}
 use Rattle.std.specs.Prelude.{IsUtf8, IsCharBoundary}
 use Rattle.js_grammar.specs.LexicalFaults.{behind}
 use Rattle.js_grammar.specs.Templates.{closes_template}
-use Rattle.js_grammar.specs.Strings.{nothing_left}
-use Rattle.js_grammar.proofs.LongestLemmas.{append-nil, fronts, GoesOn, Same}
+use Rattle.js_grammar.proofs.LongestLemmas.{append-nil, fronts}
 use Rattle.js_lex.specs.declared.template.Before.{Before}
 use Rattle.js_lex.specs.declared.template.Before.TheVariants.{Other, Backslash, Dollar}
 use Rattle.js_lex.specs.declared.template.Step.TheVariants.{On, Ends}

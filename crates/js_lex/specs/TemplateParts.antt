@@ -1,8 +1,12 @@
 -- Where a template part ends (ECMA-262, 12.9.6).
-use Rattle.std.specs.Prelude.{ℕ, ◌≡◌, List, ◌++◌, Option, Some, None, Bool, true, false, length, ◌∷◌}
+use Rattle.std.specs.Prelude.{ℕ, ◌≡◌, List, ◌++◌, Option, Some, None, Bool, true, false, length, ◌∷◌, cond}
+use Rattle.js_base.specs.declared.kind.Kind.{Kind}
+use Rattle.js_base.specs.declared.diagnostic.DiagnosticKind.TheVariants.{UnterminatedTemplate}
 use Rattle.js_grammar.specs.LexicalFaults.{behind}
 use Rattle.js_grammar.specs.Strings.{nothing_left}
 use Rattle.js_grammar.specs.Templates.{closes_template}
+use Rattle.js_lex.specs.declared.scan.Scanned.{Scanned}
+use Rattle.js_lex.specs.declared.scan.Fault.{Fault}
 use Rattle.js_lex.specs.declared.template.PartEnd.{PartEnd}
 use Rattle.js_lex.specs.declared.template.Before.{Before}
 use Rattle.js_lex.specs.declared.template.Before.TheVariants.{Other, Backslash, Dollar}
@@ -40,3 +44,16 @@ ends_here opens v = elim (nothing_left v) [ true ↦ Some opens | false ↦ None
 abbrev pub Steps : Before → ℕ → Step → Type 0
 Steps b c (On s) = (v : List ℕ) → closes_behind b (c ∷ v) ≡ closes_behind s v
 Steps b c (Ends opens) = (v : List ℕ) → closes_behind b (c ∷ v) ≡ ends_here opens v
+
+-- of a part: by which of two kinds, where it ends, and no mark
+pub record IsPart (s : Scanned) (p : PartEnd) (closing opening : Kind) : Type 0 where
+  pub kind : s.kind ≡ cond p.opens_substitution opening closing
+  pub end : s.end ≡ p.end
+  pub escaped : s.escaped ≡ false
+  pub has_separator : s.has_separator ≡ false
+
+-- the fault of a part that nothing ends
+pub record IsUnended (text : List ℕ) (i : ℕ) (f : Fault) : Type 0 where
+  pub kind : f.kind ≡ UnterminatedTemplate
+  pub start : f.start ≡ i
+  pub end : f.end ≡ length text

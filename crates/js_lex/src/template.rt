@@ -1,12 +1,11 @@
 //! Template parts (ECMA-262, section 12.9.6).
 
-ghost use Rattle.std.specs.Prelude.{◌≡◌, ◌+◌, [], ◌∷◌, IsCharBoundary, cond, false, length};
+ghost use Rattle.std.specs.Prelude.{◌≡◌, ◌+◌, [], ◌∷◌, IsCharBoundary};
 ghost use Rattle.js_grammar.specs.Lexemes.{division, template_tail};
-ghost use Rattle.js_base.specs.declared.diagnostic.DiagnosticKind.TheVariants.{UnterminatedTemplate};
 ghost use Rattle.js_lex.specs.declared.template.Before.TheVariants.{Other};
 ghost use Rattle.js_lex.specs.Places.{Word};
 ghost use Rattle.js_lex.specs.Scans.{Scans};
-ghost use Rattle.js_lex.specs.TemplateParts.{PartEnds, Steps};
+ghost use Rattle.js_lex.specs.TemplateParts.{PartEnds, Steps, IsPart, IsUnended};
 
 use crate::character::next_character;
 use crate::scan::{Fault, Scan, Scanned};
@@ -69,10 +68,7 @@ pub(crate) fn template_tail_at(text: &str, at: usize) -> Scan
 
 /// A part of the first kind where a backquote ends it, and of the second where `${` does.
 fn part_of(closing: Kind, opening: Kind, part: PartEnd) -> Scanned
-    ensures kind { result.kind ≡ cond part.opens_substitution opening closing }
-    ensures end { result.end ≡ part.end }
-    ensures escaped { result.escaped ≡ false }
-    ensures has_separator { result.has_separator ≡ false }
+    ensures { IsPart result part closing opening }
 {
     Scanned {
         kind: if part.opens_substitution { opening } else { closing },
@@ -84,9 +80,7 @@ fn part_of(closing: Kind, opening: Kind, part: PartEnd) -> Scanned
 
 /// The fault of a part that nothing ends.
 fn unterminated(text: &str, at: usize) -> Fault
-    ensures kind { result.kind ≡ UnterminatedTemplate }
-    ensures start { result.start ≡ at }
-    ensures end { result.end ≡ length text.now }
+    ensures { IsUnended text.now at result }
 {
     Fault {
         kind: DiagnosticKind::UnterminatedTemplate,
