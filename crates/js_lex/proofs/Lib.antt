@@ -3,3 +3,4 @@ pub mod Plain
 pub mod Fronts
 pub mod TemplateParts
 pub mod TemplateLexemes
+pub mod RegularExpressionParts

@@ -2,3 +2,4 @@ pub mod Places
 pub mod Scans
 pub mod NextCharacters
 pub mod TemplateParts
+pub mod RegularExpressionParts

@@ -4,5 +4,6 @@
 mod character;
 mod class;
 mod place;
+mod regular_expression;
 mod scan;
 mod template;
