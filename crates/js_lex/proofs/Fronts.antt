@@ -1,5 +1,6 @@
 -- Fronts of a text that are of a class, and the text's end.
-use Rattle.std.proofs.Common.{◌≡◌, ◌<◌, ℕ, true, false, List, [], ◌∷◌, ◌++◌, refl, sym, ap, subst, ◌∙◌, not, append_assoc, arith, length, drop, length-drop}
+use Rattle.std.proofs.Common.{◌≡◌, ◌<◌, ℕ, Bool, true, false, ◌&&◌, List, [], ◌∷◌, ◌++◌, refl, sym, ap, subst, ◌∙◌, not, append_assoc, arith, length, drop, length-drop}
+use Rattle.std.specs.List.{list_all}
 use Rattle.std.specs.Prelude.{encode_utf8_all, IsUtf8, IsCharBoundary}
 use Rattle.std.proofs.lemmas.Str.{IsUtf8-drop, encodes-chars}
 use Rattle.js_grammar.specs.Longest.{Class, none_longer}
@@ -27,3 +28,12 @@ ends_there text i u b e =
 -- a character is passed
 pub passes : {text : List ℕ} {i j c : ℕ} → Word text i j (c ∷ []) → i < j
 passes {c = c} w = let e = w.end in let l = (Rattle.std.proofs.lemmas.Str.len_utf8_bounds c).0 in omega arith
+
+-- a list with an element that fails
+pub not_all : (t : ℕ → Bool) (w : List ℕ) (d : ℕ) (x : List ℕ) → t d ≡ false → list_all t (w ++ d ∷ x) ≡ false
+not_all t [] d x h = rw h refl
+not_all t (c ∷ w) d x h = go (t c) (not_all t w d x h)
+  where
+    go : (b : Bool) → list_all t (w ++ d ∷ x) ≡ false → (b && list_all t (w ++ d ∷ x)) ≡ false
+    go true e = e
+    go false e = refl

@@ -4,3 +4,4 @@ pub mod Fronts
 pub mod TemplateParts
 pub mod TemplateLexemes
 pub mod RegularExpressionParts
+pub mod RegularExpressionLexemes
