@@ -5,3 +5,4 @@ pub mod TemplateParts
 pub mod TemplateLexemes
 pub mod RegularExpressionParts
 pub mod RegularExpressionLexemes
+pub mod Hashbangs

@@ -3,3 +3,4 @@ pub mod Scans
 pub mod NextCharacters
 pub mod TemplateParts
 pub mod RegularExpressionParts
+pub mod Hashbangs

@@ -3,6 +3,7 @@
 
 mod character;
 mod class;
+mod hashbang;
 mod place;
 mod regular_expression;
 mod scan;
