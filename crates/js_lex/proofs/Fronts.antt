@@ -14,7 +14,7 @@ none_longer-of class w [] f = refl
 none_longer-of class w (c ∷ rest) f =
     let first = f c [] rest refl in
     both (not (class (w ++ c ∷ []) rest)) (none_longer class (w ++ c ∷ []) rest) (rw first refl)
-      (none_longer-of class (w ++ c ∷ []) rest (λ d x more e. subst (λ (v : List ℕ). class v more ≡ false) (sym (append_assoc w (c ∷ []) (d ∷ x))) (f c (d ∷ x) more (ap (λ (v : List ℕ). c ∷ v) e))))
+    (none_longer-of class (w ++ c ∷ []) rest (λ d x more e. subst (λ (v : List ℕ). class v more ≡ false) (sym (append_assoc w (c ∷ []) (d ∷ x))) (f c (d ∷ x) more (ap (λ (v : List ℕ). c ∷ v) e))))
 
 -- nothing stands behind the text's end alone
 pub ends_there : (text : List ℕ) (i : ℕ) → IsUtf8 text → IsCharBoundary text i → behind text i ≡ [] → i ≡ length text

@@ -46,7 +46,7 @@ no_comment w h = ap if_line h
 longest_line : (w rest : List ℕ) → within_line w ≡ true → begins (λ c. not (is_line_terminator c)) rest ≡ false → longest (lexemes_in hashbang) (35 ∷ 33 ∷ w) rest ≡ true
 longest_line w rest h l =
     both (lexemes_in hashbang (35 ∷ 33 ∷ w) rest) (none_longer (lexemes_in hashbang) (35 ∷ 33 ∷ w) rest) (ap is_some (comment_is w h))
-      (none_longer-of (lexemes_in hashbang) (35 ∷ 33 ∷ w) rest (λ d x more e. ap is_some (no_comment (w ++ d ∷ x) (not_all (λ c. not (is_line_terminator c)) w d x (sym (ap (begins (λ c. not (is_line_terminator c))) e) ∙ l)))))
+    (none_longer-of (lexemes_in hashbang) (35 ∷ 33 ∷ w) rest (λ d x more e. ap is_some (no_comment (w ++ d ∷ x) (not_all (λ c. not (is_line_terminator c)) w d x (sym (ap (begins (λ c. not (is_line_terminator c))) e) ∙ l)))))
 
 unescaped : (w : List ℕ) → false ≡ is_escaped HashbangComment w
 unfolding words

@@ -55,8 +55,8 @@ no_kind_of_flags w fs h a = ap flagged h ∙ failed (list_all is_identifier_part
 longest_flags : (p fs rest : List ℕ) → ((v : List ℕ) → behind_pattern false false (p ++ v) ≡ Some v) → begins (one_of (codes "*/")) (p ++ (fs ++ rest)) ≡ false → list_all is_identifier_part fs ≡ true → begins is_identifier_part rest ≡ false → longest (lexemes_in regular_expression) (47 ∷ (p ++ fs)) rest ≡ true
 longest_flags p fs rest f h a n =
     both (lexemes_in regular_expression (47 ∷ (p ++ fs)) rest) (none_longer (lexemes_in regular_expression) (47 ∷ (p ++ fs)) rest)
-      (ap is_some (kind_of_flags (47 ∷ (p ++ fs)) fs (flags_of p fs (fs ++ rest) f h) a))
-      (none_longer-of (lexemes_in regular_expression) (47 ∷ (p ++ fs)) rest (λ d x more e. ap is_some (longer d x (sym (ap (begins is_identifier_part) e) ∙ n))))
+    (ap is_some (kind_of_flags (47 ∷ (p ++ fs)) fs (flags_of p fs (fs ++ rest) f h) a))
+    (none_longer-of (lexemes_in regular_expression) (47 ∷ (p ++ fs)) rest (λ d x more e. ap is_some (longer d x (sym (ap (begins is_identifier_part) e) ∙ n))))
   where
     longer : (d : ℕ) (x : List ℕ) → is_identifier_part d ≡ false → regular_expression_kind ((47 ∷ (p ++ fs)) ++ d ∷ x) ≡ None
     longer d x g =
@@ -143,8 +143,8 @@ no_star (c ∷ w) rest h = go (c == 42) refl
 longest_open : (w rest : List ℕ) → within_line w ≡ true → begins (one_of (codes "*/")) (w ++ rest) ≡ false → begins (λ c. not (is_line_terminator c)) rest ≡ false → longest is_open_regular_expression (47 ∷ w) rest ≡ true
 longest_open w rest a h l =
     both (is_open_regular_expression (47 ∷ w) rest) (none_longer is_open_regular_expression (47 ∷ w) rest)
-      (both (within_line w) (not (begins (λ c. c == 42) w)) a (let e = no_star w rest h in rw e refl))
-      (none_longer-of is_open_regular_expression (47 ∷ w) rest (λ d x more e. longer d x (sym (ap (begins (λ c. not (is_line_terminator c))) e) ∙ l)))
+    (both (within_line w) (not (begins (λ c. c == 42) w)) a (let e = no_star w rest h in rw e refl))
+    (none_longer-of is_open_regular_expression (47 ∷ w) rest (λ d x more e. longer d x (sym (ap (begins (λ c. not (is_line_terminator c))) e) ∙ l)))
   where
     longer : (d : ℕ) (x : List ℕ) → not (is_line_terminator d) ≡ false → is_open_pattern (w ++ d ∷ x) ≡ false
     longer d x g = let e = not_all (λ c. not (is_line_terminator c)) w d x g in rw e refl

@@ -38,8 +38,8 @@ kind_of_part closing opening false = refl
 longest_part : (kind : List ℕ → Option Kind) (q : ℕ) (closing opening : Kind) → PartKinds kind q closing opening → (inside rest : List ℕ) (o : Bool) → closes_template false false inside ≡ Some o → longest (of_kind kind) (q ∷ inside) rest ≡ true
 longest_part kind q closing opening p inside rest o h =
     both (is_some (kind (q ∷ inside))) (none_longer (of_kind kind) (q ∷ inside) rest)
-      (ap is_some (p inside ∙ ap (part_kind closing opening) h ∙ kind_of_part closing opening o))
-      (none_longer-of (of_kind kind) (q ∷ inside) rest (λ c x more e. ap is_some (p (inside ++ c ∷ x) ∙ ap (part_kind closing opening) (no_more false false inside c x o h))))
+    (ap is_some (p inside ∙ ap (part_kind closing opening) h ∙ kind_of_part closing opening o))
+    (none_longer-of (of_kind kind) (q ∷ inside) rest (λ c x more e. ap is_some (p (inside ++ c ∷ x) ∙ ap (part_kind closing opening) (no_more false false inside c x o h))))
 
 kind_is : (kind : List ℕ → Option Kind) (q : ℕ) (closing opening : Kind) → PartKinds kind q closing opening → (inside : List ℕ) (o : Bool) → closes_template false false inside ≡ Some o → kind (q ∷ inside) ≡ Some (cond o opening closing)
 kind_is kind q closing opening p inside o h = p inside ∙ ap (part_kind closing opening) h ∙ kind_of_part closing opening o
@@ -81,7 +81,7 @@ is_template {text = text} {i = i} {p = p} {s = s} is w e =
       word = 96 ∷ e.inside;
       stands = stands_whole s is.end w e;
       lexeme = subst (λ (k : Kind). IsLexeme division i (96 ∷ e.inside) (behind text s.end) k) (sym is.kind)
-        (is_lexeme a_template i 96 e.inside (behind text s.end) (cond o TemplateHead NoSubstitutionTemplate) (λ d. refl)
+          (is_lexeme a_template i 96 e.inside (behind text s.end) (cond o TemplateHead NoSubstitutionTemplate) (λ d. refl)
           (longest_part template_kind 96 NoSubstitutionTemplate TemplateHead (λ cs. refl) e.inside (behind text s.end) o e.closed)
           (kind_is template_kind 96 NoSubstitutionTemplate TemplateHead (λ cs. refl) e.inside o e.closed)
           (no_number o (behind text s.end)));

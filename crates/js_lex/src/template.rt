@@ -71,7 +71,11 @@ fn part_of(closing: Kind, opening: Kind, part: PartEnd) -> Scanned
     ensures { IsPart result part closing opening }
 {
     Scanned {
-        kind: if part.opens_substitution { opening } else { closing },
+        kind: if part.opens_substitution {
+            opening
+        } else {
+            closing
+        },
         end: part.end,
         escaped: false,
         has_separator: false,
