@@ -10,7 +10,6 @@ use Rattle.js_grammar.specs.Characters.{begins}
 use Rattle.js_grammar.specs.Trivia.{within_line, after}
 use Rattle.js_grammar.specs.Longest.{longest, none_longer}
 use Rattle.js_grammar.specs.Lexemes.{hashbang, hashbang_kind, lexemes_in, is_escaped}
-use Rattle.js_grammar.specs.Lexed.{IsLexeme}
 use Rattle.js_grammar.specs.LexicalFaults.{behind}
 use Rattle.js_grammar.proofs.LongestLemmas.{both, both-left, both-right}
 use Rattle.js_grammar.proofs.Finding.{all-append}

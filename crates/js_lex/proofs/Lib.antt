@@ -6,3 +6,4 @@ pub mod TemplateLexemes
 pub mod RegularExpressionParts
 pub mod RegularExpressionLexemes
 pub mod Hashbangs
+pub mod Flags

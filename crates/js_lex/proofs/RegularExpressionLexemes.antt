@@ -1,5 +1,5 @@
 -- Regular expressions as lexemes, and lines in which none ends.
-use Rattle.std.proofs.Common.{◌≡◌, ℕ, ◌+◌, Bool, true, false, List, [], ◌∷◌, ◌++◌, refl, sym, ap, subst, ◌∙◌, append_assoc, Option, Some, None, not, ◌&&◌, ◌||◌, ◌==◌, arith}
+use Rattle.std.proofs.Common.{◌≡◌, ℕ, ◌+◌, Bool, true, false, List, [], ◌∷◌, ◌++◌, refl, sym, ap, subst, ◌∙◌, append_assoc, Option, Some, None, not, ◌&&◌, ◌==◌, arith}
 use Rattle.std.specs.Prelude.{IsCharBoundary, is_some, codes}
 use Rattle.std.specs.List.{list_all}
 use Rattle.std.proofs.lemmas.Bool.{eqb-true}
@@ -12,15 +12,11 @@ use Rattle.js_grammar.specs.Characters.{is_identifier_part, begins}
 use Rattle.js_grammar.specs.Trivia.{within_line}
 use Rattle.js_grammar.specs.Longest.{longest, none_longer, none_begins}
 use Rattle.js_grammar.specs.Lexemes.{regular_expression, lexemes_in, is_escaped}
-use Rattle.js_grammar.specs.Lexed.{IsLexeme}
 use Rattle.js_grammar.specs.LexicalFaults.{behind, Unterminated, is_open_pattern, is_open_regular_expression}
 use Rattle.js_grammar.specs.RegularExpressions.{behind_pattern, flags, flagged, regular_expression_kind}
-use Rattle.js_grammar.proofs.LongestLemmas.{both, not-true}
-use Rattle.js_lex.specs.declared.scan.Scanned.{Scanned}
-use Rattle.js_lex.specs.declared.scan.Fault.{Fault}
-use Rattle.js_lex.specs.declared.regular_expression.RegularExpression.{RegularExpression}
+use Rattle.js_grammar.proofs.LongestLemmas.{both}
 use Rattle.js_lex.specs.Places.{Word}
-use Rattle.js_lex.specs.Scans.{IsScanned, IsStopped, NoLexeme}
+use Rattle.js_lex.specs.Scans.{IsStopped, NoLexeme}
 use Rattle.js_lex.specs.RegularExpressionParts.{Pattern, OpenPattern, FlagsEnd, IsRegularExpression, ends_bracketed}
 use Rattle.js_lex.proofs.Places.{then}
 use Rattle.js_lex.proofs.Fronts.{none_longer-of, not_all}

@@ -1,18 +1,17 @@
 -- What a scan of a pattern, and one of flags, has read.
-use Rattle.std.proofs.Common.{◌≡◌, ℕ, ◌+◌, Bool, true, false, List, [], ◌∷◌, ◌++◌, refl, sym, ap, subst, ◌∙◌, append_assoc, Option, Some, None, not, ◌&&◌, ◌||◌, ◌==◌}
+use Rattle.std.proofs.Common.{◌≡◌, ℕ, true, false, List, [], ◌∷◌, ◌++◌, refl, ap, ◌∙◌, append_assoc, not}
 use Rattle.std.specs.Prelude.{IsCharBoundary}
 use Rattle.std.specs.List.{list_all}
 use Rattle.js_base.specs.Characters.{is_line_terminator}
-use Rattle.js_grammar.specs.Characters.{is_identifier_part, begins}
+use Rattle.js_grammar.specs.Characters.{is_identifier_part}
 use Rattle.js_grammar.specs.Trivia.{within_line}
-use Rattle.js_grammar.specs.LexicalFaults.{behind}
 use Rattle.js_grammar.specs.RegularExpressions.{behind_pattern}
 use Rattle.js_grammar.proofs.LongestLemmas.{both}
 use Rattle.js_grammar.proofs.Finding.{all-append}
 use Rattle.js_lex.specs.declared.regular_expression.Inside.{Inside}
-use Rattle.js_lex.specs.declared.regular_expression.Step.TheVariants.{On, Ends, LineEnds}
+use Rattle.js_lex.specs.declared.regular_expression.Step.TheVariants.{On, Ends}
 use Rattle.js_lex.specs.Places.{Word}
-use Rattle.js_lex.specs.RegularExpressionParts.{Steps, Pattern, OpenPattern, FlagsEnd}
+use Rattle.js_lex.specs.RegularExpressionParts.{Steps, Pattern}
 use Rattle.js_lex.proofs.Places.{none_passed, then}
 
 -- The characters from i up to j are read; they are of one line, and where in a pattern the next one stands is told.

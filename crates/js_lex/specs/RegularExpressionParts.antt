@@ -1,15 +1,15 @@
 -- Where the pattern and the flags of a regular expression end (ECMA-262, 12.9.5).
-use Rattle.std.specs.Prelude.{ℕ, ◌≡◌, Bool, true, false, not, ◌&&◌, ◌||◌, ◌==◌, List, ◌∷◌, ◌++◌, Option, Some, None, Result, MatchResult, IsTrue}
+use Rattle.std.specs.Prelude.{ℕ, ◌≡◌, Bool, true, false, not, ◌&&◌, ◌||◌, ◌==◌, List, [], ◌∷◌, codes, ◌++◌, Option, Some, None, Result, MatchResult, IsTrue}
 use Rattle.std.specs.List.{list_all}
 use Rattle.js_base.specs.declared.kind.Kind.TheVariants.{RegExp}
-use Rattle.js_base.specs.Characters.{is_line_terminator}
+use Rattle.js_base.specs.Characters.{one_of, is_line_terminator}
 use Rattle.js_grammar.specs.Characters.{is_identifier_part, begins}
 use Rattle.js_grammar.specs.Trivia.{within_line}
 use Rattle.js_grammar.specs.LexicalFaults.{behind}
 use Rattle.js_grammar.specs.Lexemes.{regular_expression}
 use Rattle.js_grammar.specs.RegularExpressions.{behind_pattern, flags}
-use Rattle.js_lex.specs.declared.scan.Scanned.{Scanned}
 use Rattle.js_lex.specs.declared.regular_expression.RegularExpression.{RegularExpression}
+use Rattle.js_lex.specs.declared.regular_expression.Flag.{Flag}
 use Rattle.js_lex.specs.declared.regular_expression.Inside.{Inside}
 use Rattle.js_lex.specs.declared.regular_expression.Step.{Step}
 use Rattle.js_lex.specs.declared.regular_expression.Step.TheVariants.{On, Ends, LineEnds}
@@ -56,3 +56,14 @@ pub record IsRegularExpression (text : List ℕ) (i : ℕ) (r : RegularExpressio
   pub flags_word : List ℕ
   pub has_flags : flags scanned.word ≡ Some flags_word
   pub flags_stand : Word text r.pattern_end r.end flags_word
+
+-- a flag stands at the place i, and whether it is wrong is told by those between the place s and it
+pub record IsFlag (text : List ℕ) (s i : ℕ) (f : Flag) : Type 0 where
+  pub flag : ℕ
+  pub stands : Word text i f.end (flag ∷ [])
+  pub wrong : (before : List ℕ) → Word text s i before → f.is_wrong ≡ (not (one_of (codes "dgimsuvy") flag) || one_of before flag)
+
+-- the flag at the place i, none at the end of the text
+abbrev pub FlagAt : List ℕ → ℕ → ℕ → Option Flag → Type 0
+FlagAt text s i None = behind text i ≡ []
+FlagAt text s i (Some f) = IsFlag text s i f

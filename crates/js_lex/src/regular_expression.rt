@@ -1,13 +1,13 @@
 //! Regular expression literals (ECMA-262, section 12.9.5) and their flags.
 
-ghost use Rattle.std.specs.Prelude.{◌≡◌, ◌+◌, ◌||◌, [], ◌∷◌, IsCharBoundary, MatchResult, codes, chars, false, not};
+ghost use Rattle.std.specs.Prelude.{◌≡◌, ◌≤◌, ◌+◌, ◌||◌, [], ◌∷◌, IsCharBoundary, MatchResult, codes, chars, false, not};
 ghost use Rattle.js_base.specs.Characters.{one_of};
 ghost use Rattle.js_grammar.specs.Characters.{begins};
 ghost use Rattle.js_grammar.specs.Lexemes.{regular_expression};
 ghost use Rattle.js_grammar.specs.LexicalFaults.{behind};
 ghost use Rattle.js_lex.specs.Places.{Word};
 ghost use Rattle.js_lex.specs.Scans.{IsStopped};
-ghost use Rattle.js_lex.specs.RegularExpressionParts.{ends_bracketed, Steps, PatternEnds, FlagsEnd, IsRegularExpression};
+ghost use Rattle.js_lex.specs.RegularExpressionParts.{ends_bracketed, Steps, PatternEnds, FlagsEnd, FlagAt, IsRegularExpression};
 
 use crate::character::next_character;
 use crate::class::{is_identifier_part, is_line_terminator};
@@ -21,6 +21,15 @@ pub(crate) struct RegularExpression {
     pub pattern_end: usize,
     /// The place behind the flags.
     pub end: usize,
+}
+
+/// A flag of a regular expression literal.
+#[derive(Debug, Clone, Copy)]
+pub(crate) struct Flag {
+    /// The place behind it.
+    pub end: usize,
+    /// Whether it is none of the eight flags, or stands before too.
+    pub is_wrong: bool,
 }
 
 /// Where in a pattern a character stands.
@@ -131,9 +140,25 @@ fn flags_end(text: &str, at: usize) -> usize
     end
 }
 
+/// The flag at a byte offset, where those before it begin at another; none at the text's end.
+pub(crate) fn flag_at(text: &str, first: usize, at: usize) -> Option<Flag>
+    requires begins { IsCharBoundary text.now first }
+    requires boundary { IsCharBoundary text.now at }
+    requires ordered { first ≤ at }
+    ensures { FlagAt text.now first at result }
+{
+    match next_character(text, at) {
+        None => None,
+        Some(next) => Some(Flag {
+            end: next.end,
+            is_wrong: is_wrong_flag(next.value, &text[first..at]),
+        }),
+    }
+}
+
 /// Whether a flag is wrong: it is none of `d g i m s u v y`, or stands among those before it (ECMA-262, section
 /// 13.2.7.2).
-pub(crate) fn is_wrong_flag(flag: char, before: &str) -> bool
+fn is_wrong_flag(flag: char, before: &str) -> bool
     ensures { result ≡ (not (one_of (codes "dgimsuvy") flag) || one_of (chars before.now) flag) }
 {
     !is_flag(flag) || stands_among(flag, before)
