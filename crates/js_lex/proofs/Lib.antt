@@ -3,3 +3,10 @@ pub mod Plain
 pub mod Keeping
 pub mod TriviaLemmas
 pub mod Passing
+pub mod Fronts
+pub mod TemplateParts
+pub mod TemplateLexemes
+pub mod RegularExpressionParts
+pub mod RegularExpressionLexemes
+pub mod Hashbangs
+pub mod Flags

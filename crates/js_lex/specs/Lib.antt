@@ -3,3 +3,7 @@ pub mod Comments
 pub mod Kept
 pub mod TriviaPassed
 pub mod Scans
+pub mod NextCharacters
+pub mod TemplateParts
+pub mod RegularExpressionParts
+pub mod Hashbangs

@@ -3,7 +3,6 @@ use Rattle.std.specs.Prelude.{ℕ, ◌+◌, ◌≡◌, ◌<◌, ◌≤◌, List,
 use Rattle.std.specs.Char.{len_utf8}
 use Rattle.js_grammar.specs.Characters.{width}
 use Rattle.js_grammar.specs.LexicalFaults.{behind}
-use Rattle.js_lex.specs.declared.place.Character.{Character}
 
 -- The characters w stand from the place i up to the place j.
 pub record Word (text : List ℕ) (i j : ℕ) (w : List ℕ) : Type 0 where
@@ -31,8 +30,3 @@ PeeksAt text i (Some b) = Peeks text i b
 abbrev pub ReadsAt : List ℕ → ℕ → Option ℕ → Type 0
 ReadsAt text i None = behind text i ≡ []
 ReadsAt text i (Some c) = Word text i (i + len_utf8 c) (c ∷ [])
-
--- the same, with the place behind it
-abbrev pub CharacterAt : List ℕ → ℕ → Option Character → Type 0
-CharacterAt text i None = behind text i ≡ []
-CharacterAt text i (Some c) = Word text i c.end (c.character ∷ [])

@@ -1,12 +1,10 @@
 //! Bytes and characters at a place of a text.
 
-ghost use Rattle.std.specs.Prelude.{◌≡◌, ◌≤◌, ◌+◌, ℕ, length, nat_lt, IsTrue, IsCharBoundary};
+ghost use Rattle.std.specs.Prelude.{◌≡◌, ◌+◌, ℕ, length, nat_lt, IsTrue, IsCharBoundary};
 ghost use Rattle.std.specs.List.{list_all};
 ghost use Rattle.js_grammar.specs.CoreTexts.{starts};
 ghost use Rattle.js_grammar.specs.LexicalFaults.{behind};
-ghost use Rattle.js_lex.specs.Places.{Word, PeeksAt, ReadsAt, CharacterAt};
-
-use js_base::MAX_LEN;
+ghost use Rattle.js_lex.specs.Places.{Word, PeeksAt, ReadsAt};
 
 /// The byte at a place, or none at the end of the text.
 #[inline]
@@ -28,44 +26,6 @@ pub(crate) fn char_at(text: &str, at: usize) -> Option<char>
     ensures { ReadsAt text.now at result }
 {
     text[at..].chars().next()
-}
-
-/// A character of a text.
-#[derive(Debug, Clone, Copy)]
-pub(crate) struct Character {
-    pub character: char,
-    /// The place behind it.
-    pub end: usize,
-}
-
-/// The character at a place and the place behind it, or none at the end of the text; an ASCII character is not decoded.
-#[inline]
-pub(crate) fn read_at(text: &str, at: usize) -> Option<Character>
-    requires boundary { IsCharBoundary text.now at }
-    requires short { at ≤ MAX_LEN }
-    ensures { CharacterAt text.now at result }
-{
-    match byte_at(text, at) {
-        None => None,
-        Some(byte) if byte < 128 => Some(Character {
-            character: byte as char,
-            end: at + 1,
-        }),
-        Some(_) => high_at(text, at),
-    }
-}
-
-/// The character at a place, decoded.
-fn high_at(text: &str, at: usize) -> Option<Character>
-    requires boundary { IsCharBoundary text.now at }
-    requires short { at ≤ MAX_LEN }
-    ensures { CharacterAt text.now at result }
-{
-    let character = char_at(text, at)?;
-    Some(Character {
-        character,
-        end: at + character.len_utf8(),
-    })
 }
 
 /// Whether the text goes on at a place with some ASCII characters.

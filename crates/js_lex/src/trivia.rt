@@ -7,10 +7,11 @@ ghost use Rattle.js_lex.specs.Kept.{Grows, Extends};
 ghost use Rattle.js_lex.specs.TriviaPassed.{PieceAt, BlankAt, BlockEnd, IsLineEnd, block_kind, told, comment_told, blank_told, fault_told, IsPassed};
 ghost use Rattle.js_lex.specs.declared.comment.CommentKind.TheVariants.{Line};
 
+use crate::character::next_character;
 use crate::class::{is_line_terminator, is_white_space};
 use crate::comment::{Comment, CommentKind};
 use crate::output::LexerOutput;
-use crate::place::{byte_at, char_at, goes_on, read_at};
+use crate::place::{byte_at, char_at, goes_on};
 use js_base::{Diagnostic, DiagnosticKind, MAX_LEN, NoMemory, Span};
 
 /// A piece of trivia: one white space or line terminator, or one comment.
@@ -269,8 +270,8 @@ pub(crate) fn line_end(text: &str, at: usize) -> usize
     ensures { IsLineEnd text.now at result }
 {
     let mut end = at;
-    'line: while let Some(next) = read_at(text, end) {
-        if is_line_terminator(next.character) {
+    'line: while let Some(next) = next_character(text, end) {
+        if is_line_terminator(next.value) {
             return end;
         }
         end = next.end;
@@ -288,15 +289,15 @@ fn block_comment_end(text: &str, at: usize) -> Option<Trivia>
     let mut end = at;
     let mut star = false;
     let mut has_newline = false;
-    'block: while let Some(next) = read_at(text, end) {
-        if star && next.character == '/' {
+    'block: while let Some(next) = next_character(text, end) {
+        if star && next.value == '/' {
             return Some(Trivia {
                 end: next.end,
                 has_newline,
             });
         }
-        star = next.character == '*';
-        has_newline |= is_line_terminator(next.character);
+        star = next.value == '*';
+        has_newline |= is_line_terminator(next.value);
         end = next.end;
     }
     None

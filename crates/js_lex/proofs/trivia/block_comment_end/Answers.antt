@@ -9,14 +9,14 @@ returns-then-next-eq47 c =
     record {
       word = _;
       stands = then i.1 c.in-Some.ensures;
-      closes = block_closed i.0 c.block.star c.in-Some.next.character i.2 c.if-star.true c.if-next-eq47.true;
-      newline = newline_same i.0 c.in-Some.next.character c.block.has_newline i.3 c.if-next-eq47.true;
+      closes = block_closed i.0 c.block.star c.in-Some.next.value i.2 c.if-star.true c.if-next-eq47.true;
+      newline = newline_same i.0 c.in-Some.next.value c.block.has_newline i.3 c.if-next-eq47.true;
     }
 
 pub block-preserved : goal.block-preserved
 block-preserved c =
     let i = c.block.invariant in
-    (_, then i.1 c.in-Some.ensures, block_more i.0 c.block.star c.in-Some.next.character i.2 c.else-star.either, newline_more i.0 c.in-Some.next.character c.block.has_newline _ i.3 c.is_line_terminator-has_newline.ensures)
+    (_, then i.1 c.in-Some.ensures, block_more i.0 c.block.star c.in-Some.next.value i.2 c.else-star.either, newline_more i.0 c.in-Some.next.value c.block.has_newline _ i.3 c.is_line_terminator-has_newline.ensures)
 
 pub returns : goal.returns
 returns c =
