@@ -3,6 +3,7 @@ pub mod Plain
 pub mod Keeping
 pub mod TriviaLemmas
 pub mod Passing
+pub mod Giving
 pub mod Fronts
 pub mod TemplateParts
 pub mod TemplateLexemes

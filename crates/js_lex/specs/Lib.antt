@@ -3,6 +3,9 @@ pub mod Comments
 pub mod Kept
 pub mod TriviaPassed
 pub mod Scans
+pub mod States
+pub mod Reading
+pub mod Settling
 pub mod NextCharacters
 pub mod TemplateParts
 pub mod RegularExpressionParts

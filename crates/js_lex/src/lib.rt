@@ -2,15 +2,23 @@
 #![tactic(auto)]
 
 mod character;
+mod checkpoint;
 mod class;
 mod comment;
+mod config;
 mod hashbang;
 mod output;
 mod place;
+mod plain_goal;
+mod reading;
 mod regular_expression;
 mod scan;
 mod template;
 mod trivia;
 
 pub use comment::{Comment, CommentKind, Comments};
+pub use config::{
+    LexerConfig, NoTokensLexerConfig, NoTokensParserConfig, ParserConfig, RuntimeLexerConfig,
+    RuntimeParserConfig, TokensLexerConfig, TokensParserConfig,
+};
 pub use output::LexerOutput;
