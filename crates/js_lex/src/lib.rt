@@ -2,5 +2,6 @@
 #![tactic(auto)]
 
 mod class;
+mod name;
 mod place;
 mod scan;
