@@ -1,2 +1,4 @@
 pub mod Places
 pub mod Plain
+pub mod Names
+pub mod Escapes
