@@ -2,3 +2,6 @@ pub mod Places
 pub mod Plain
 pub mod Names
 pub mod Escapes
+pub mod NameKinds
+pub mod Surrogates
+pub mod NameWords

@@ -115,6 +115,7 @@ pub record AsciiName (text : List ℕ) (i j : ℕ) : Type 0 where
 -- The letters hold the code points; else no word of the keyword table begins with these.
 pub record Holds (s : Letters) (ps : List ℕ) : Type 0 where
   pub short : s.len ≤ 11
+  pub counted : s.is_other ≡ false → s.len ≡ length ps
   pub held : s.is_other ≡ false → take s.len s.letters ≡ ps
   pub other : s.is_other ≡ true → (qs : List ℕ) → keyword_of (ps ++ qs) ≡ Ident
 
