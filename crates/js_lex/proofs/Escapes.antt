@@ -13,7 +13,7 @@ use Rattle.js_lex.specs.declared.name.Progress.{Progress}
 use Rattle.js_lex.specs.declared.name.Progress.TheVariants.{Goes, Names, Fails}
 use Rattle.js_lex.specs.declared.name.Escape.{Escape}
 use Rattle.js_lex.specs.Places.{Word, Peeks}
-use Rattle.js_lex.specs.Names.{Spells, Refuses, is_refused, Unfinished, IsEscape, NoEscape, stage_of, step_of, fits}
+use Rattle.js_lex.specs.Names.{Spells, Refuses, is_refused, Unfinished, IsEscape, NoEscape, NoPiece, stage_of, step_of, fits}
 use Rattle.js_lex.proofs.Places.{then}
 use Rattle.js_lex.proofs.Names.{backslash-append}
 
@@ -192,3 +192,10 @@ escape-fails {b = b} {s = s} a p h = elim (cases_lt b 128) [
   | inl l ↦ fails-with a (p.ascii l) h
   | inr g ↦ (let t = p.high g in fails-with a t.word (high-fails s t.character t.high))
 ]
+
+pub escape-refused : {text : List ℕ} {i : ℕ} {e : Escape} {test : ℕ → Bool} → IsEscape text i e → test e.code_point ≡ false → NoPiece test text i e.end
+escape-refused {text = text} {i = i} {e = e} {test = test} a n = record {
+  refuses = subst (λ (v : List ℕ). Refuses test v) (sym a.stands.splits) (refuses-escape test a.word (behind text e.end) e.code_point a.spells a.unfinished n);
+  some = λ b. a.some;
+  between = λ b. a.stands.boundary;
+}
