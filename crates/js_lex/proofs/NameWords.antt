@@ -170,3 +170,17 @@ read-whole r n h = record {
   kind = h r.points r.holds;
   escaped = r.marked;
 }
+
+or-marked : (a b : Bool) → a ≡ true → (a || b) ≡ a
+or-marked a b e = rw e refl
+
+or-unmarked : (a b : Bool) → a ≡ false → (a || b) ≡ b
+or-unmarked a b e = rw e refl
+
+pub read-marked : {text : List ℕ} {i j : ℕ} {s t : Letters} {escaped : Bool} {p : Piece} → Read text i j s escaped → IsPiece is_identifier_part text j p
+    → ((ps : List ℕ) → Holds s ps → Holds t (ps ++ p.code_point ∷ [])) → escaped ≡ true → Read text i p.end t escaped
+read-marked {text = text} {i = i} {t = t} {escaped = escaped} {p = p} r f h e = subst (λ (b : Bool). Read text i p.end t b) (or-marked escaped p.escaped e) (read-more r f h)
+
+pub read-unmarked : {text : List ℕ} {i j : ℕ} {s t : Letters} {escaped : Bool} {p : Piece} → Read text i j s escaped → IsPiece is_identifier_part text j p
+    → ((ps : List ℕ) → Holds s ps → Holds t (ps ++ p.code_point ∷ [])) → escaped ≡ false → Read text i p.end t p.escaped
+read-unmarked {text = text} {i = i} {t = t} {escaped = escaped} {p = p} r f h e = subst (λ (b : Bool). Read text i p.end t b) (or-unmarked escaped p.escaped e) (read-more r f h)
