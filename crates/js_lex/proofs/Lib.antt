@@ -5,3 +5,4 @@ pub mod Escapes
 pub mod NameKinds
 pub mod Surrogates
 pub mod NameWords
+pub mod NameScans
