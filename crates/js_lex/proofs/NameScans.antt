@@ -19,7 +19,8 @@ use Rattle.js_grammar.proofs.LongestLemmas.{both, not-true}
 use Rattle.js_grammar.proofs.CoreLemmas.{none_longer-from}
 use Rattle.js_grammar.proofs.CorePlain.{no_backslash, points-plain}
 use Rattle.js_grammar.proofs.Finding.{either}
-use Rattle.std.proofs.lemmas.Bool.{eqb-true}
+use Rattle.std.proofs.lemmas.Bool.{eqb-true, cases_lt}
+use Rattle.std.proofs.lemmas.Bool.Decides.{nat_tests}
 use Rattle.js_lex.specs.declared.scan.Scanned.{Scanned}
 use Rattle.js_lex.specs.declared.scan.Fault.{Fault}
 use Rattle.js_lex.specs.declared.name.Name.{Name}
@@ -147,28 +148,41 @@ nothing_begins rest r = both (none_begins (lexemes_in division) (35 ∷ rest)) t
         let left : rest ≡ x ++ more = cc in
         subst (λ (a : ℕ). lexemes_in division (a ∷ x) more ≡ false) same (ap is_some (plain_is a_private_name 35 x more private-opens ∙ no-private rest x more r left))
 
-pub private-escape : {text : List ℕ} {i j k : ℕ} → IsCharBoundary text j → Word text i j (35 ∷ []) → Peeks text j 92 → NoPiece is_identifier_start text j k
+-- the first byte tells whether a backslash stands at the place
+pub backslash-here : {text : List ℕ} {i b : ℕ} → Peeks text i b → (b == 92) ≡ begins (λ c. c == 92) (behind text i)
+backslash-here {text = text} {i = i} {b = b} p = elim (cases_lt b 128) [
+  | inl l ↦ (let s = (p.ascii l).splits in sym (ap (begins (λ c. c == 92)) s))
+  | inr h ↦ (let t = p.high h in let s = t.word.splits in high-no-backslash b h ∙ sym (high-no-backslash t.character t.high) ∙ sym (ap (begins (λ c. c == 92)) s))
+]
+  where
+    high-no-backslash : (c : ℕ) → 128 ≤ c → (c == 92) ≡ false
+    high-no-backslash c h = grind (arith, nat_tests)
+
+first-backslash : (cs : List ℕ) → begins (λ c. c == 92) cs ≡ true → (rest : List ℕ) × (cs ≡ 92 ∷ rest)
+first-backslash [] h = absurd (cc)
+first-backslash (c ∷ cs) h = (cs, ap (λ (x : ℕ). x ∷ cs) (eqb-true c 92 h))
+
+pub private-escape : {text : List ℕ} {i j k : ℕ} → Word text i j (35 ∷ []) → begins (λ c. c == 92) (behind text j) ≡ true → NoPiece is_identifier_start text j k
     → IsStopped division text i (record { kind = InvalidEscape; start = j; end = k })
-private-escape {text = text} {i = i} {j = j} {k = k} u m p n =
-    let s = p.ascii (omega arith) in
-    let e : behind text j ≡ 92 ∷ behind text (j + 1) = s.splits in
-    let f : begins (λ d. d == 92) (behind text j) ≡ true = subst (λ (v : List ℕ). begins (λ d. d == 92) v ≡ true) (sym e) refl in
+private-escape {text = text} {i = i} {j = j} {k = k} m f n =
+    let s = first-backslash (behind text j) f in
+    let e : behind text j ≡ 92 ∷ s.0 = s.1 in
     let z = m.end in
     record {
       none = no_private_lexeme text i (behind text j) m.splits n.refuses;
       condition = inl (record {
         mark = 35 ∷ [];
         name = [];
-        rest = behind text (j + 1);
+        rest = s.0;
         here = m.splits ∙ ap (λ (v : List ℕ). 35 ∷ v) e;
         marked = refl;
         named = refl;
-        never = never-name (92 ∷ behind text (j + 1)) (subst (λ (v : List ℕ). Refuses is_identifier_start v) e n.refuses);
+        never = never-name (92 ∷ s.0) (subst (λ (v : List ℕ). Refuses is_identifier_start v) e n.refuses);
         begin = omega arith;
       });
       behind = omega arith;
       ordered = n.some f;
-      begins_between = u;
+      begins_between = m.boundary;
       ends_between = n.between f;
     }
 

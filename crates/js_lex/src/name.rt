@@ -139,21 +139,34 @@ fn behind_mark(text: &str, at: usize) -> usize
 
 /// What stands at a `#` with no name behind it: an escape sequence that is none of a name, or the `#` alone.
 fn fault_behind_mark(text: &str, at: usize, behind: usize, end: usize) -> Fault
+    requires boundary { IsCharBoundary text.now at }
     requires mark { Word text.now at behind (35 ∷ []) }
     requires none { names.NoPiece is_identifier_start text.now behind end }
     ensures { IsStopped division text.now at result }
 {
-    match byte_at(text, behind) {
-        Some(b'\\') => Fault {
+    if is_backslash_at(text, behind) {
+        Fault {
             kind: DiagnosticKind::InvalidEscape,
             start: behind,
             end,
-        },
-        _ => Fault {
+        }
+    } else {
+        Fault {
             kind: DiagnosticKind::InvalidCharacter,
             start: at,
             end: behind,
-        },
+        }
+    }
+}
+
+/// Whether a backslash stands at a place.
+fn is_backslash_at(text: &str, at: usize) -> bool
+    requires { IsCharBoundary text.now at }
+    ensures { result ≡ begins (λ c. c == 92) (behind text.now at) }
+{
+    match byte_at(text, at) {
+        Some(byte) => byte == b'\\',
+        None => false,
     }
 }
 
