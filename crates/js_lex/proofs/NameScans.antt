@@ -1,6 +1,7 @@
 -- Names and private names as lexemes of a text, and the faults where none stands.
 use Rattle.std.proofs.Common.{◌≡◌, ◌<◌, ◌≤◌, ℕ, ◌+◌, ◌==◌, Bool, true, false, List, [], ◌∷◌, ◌++◌, refl, sym, ap, subst, ◌∙◌, not, ◌&&◌, ◌||◌, Option, Some, None, ◌⊎◌, inl, inr, arith}
-use Rattle.std.specs.Prelude.{is_some, IsCharBoundary}
+use Rattle.std.specs.Prelude.{is_some, IsCharBoundary, IsUtf8, chars, drop, encode_utf8_all}
+use Rattle.std.proofs.lemmas.Str.{IsUtf8-drop, encodes-chars}
 use Rattle.js_base.specs.declared.kind.Kind.{Kind}
 use Rattle.js_base.specs.declared.kind.Kind.TheVariants.{PrivateIdentifier}
 use Rattle.js_base.specs.declared.diagnostic.DiagnosticKind.TheVariants.{InvalidEscape, InvalidCharacter}
@@ -27,7 +28,7 @@ use Rattle.js_lex.specs.declared.name.Name.{Name}
 use Rattle.js_lex.specs.Places.{Word, Peeks}
 use Rattle.js_lex.specs.Scans.{IsScanned, IsStopped, NoLexeme}
 use Rattle.js_lex.specs.Names.{Spells, Refuses, is_refused, NoPiece, IsName}
-use Rattle.js_lex.proofs.Places.{then}
+use Rattle.js_lex.proofs.Places.{then, one_character}
 use Rattle.js_lex.proofs.Plain.{Opens, plain_is, is_lexeme, no_lexeme}
 use Rattle.js_lex.proofs.Names.{spells-some, name-longest, name-kind, private-longest, private-kind, no-name, never-name, no-private}
 use Rattle.js_lex.proofs.NameKinds.{word-no-number, word-escaped, word-separated}
@@ -157,6 +158,17 @@ backslash-here {text = text} {i = i} {b = b} p = elim (cases_lt b 128) [
   where
     high-no-backslash : (c : ℕ) → 128 ≤ c → (c == 92) ≡ false
     high-no-backslash c h = grind (arith, nat_tests)
+
+-- a `#` that stands first at the place
+pub mark-here : (text : List ℕ) (i : ℕ) → IsUtf8 text → IsCharBoundary text i → begins (λ c. c == 35) (behind text i) ≡ true → Word text i (i + 1) (35 ∷ [])
+mark-here text i u b h = by (behind text i) refl h
+  where
+    by : (cs : List ℕ) → behind text i ≡ cs → begins (λ c. c == 35) cs ≡ true → Word text i (i + 1) (35 ∷ [])
+    by [] e f = absurd (cc)
+    by (c ∷ cs) e f =
+        let same : c ≡ 35 = eqb-true c 35 f in
+        let q : behind text i ≡ 35 ∷ cs = e ∙ ap (λ (x : ℕ). x ∷ cs) same in
+        one_character text i 35 (encode_utf8_all cs) u b (sym (encodes-chars (drop i text) (IsUtf8-drop text i u b)) ∙ ap encode_utf8_all q)
 
 first-backslash : (cs : List ℕ) → begins (λ c. c == 92) cs ≡ true → (rest : List ℕ) × (cs ≡ 92 ∷ rest)
 first-backslash [] h = absurd (cc)

@@ -115,7 +115,7 @@ pub(crate) fn private_name_at(text: &str, at: usize) -> Scan
     requires first { begins (λ c. c == 35) (behind text.now at) ≡ true }
     ensures { Scans division text.now at result }
 {
-    let behind = behind_mark(text, at);
+    let behind = at + 1;
     match longest_name(text, behind) {
         Ok(name) => Ok(Scanned {
             kind: Kind::PrivateIdentifier,
@@ -125,16 +125,6 @@ pub(crate) fn private_name_at(text: &str, at: usize) -> Scan
         }),
         Err(end) => Err(fault_behind_mark(text, at, behind, end)),
     }
-}
-
-/// The place behind a `#`.
-fn behind_mark(text: &str, at: usize) -> usize
-    requires boundary { IsCharBoundary text.now at }
-    requires first { begins (λ c. c == 35) (behind text.now at) ≡ true }
-    ensures { Word text.now at result (35 ∷ []) }
-{
-    let _first = byte_at(text, at);
-    at + 1
 }
 
 /// What stands at a `#` with no name behind it: an escape sequence that is none of a name, or the `#` alone.
