@@ -115,7 +115,13 @@ ascii-whole {text = text} {i = i} {j = j} {first = first} f l n a =
           (all-mono is_ascii_part (λ c. nat_lt c 128) a.word (λ c h. both-left (nat_lt c 128) (is_identifier_part c) h) a.parts);
     }
 
-pub ascii-more : {text : List ℕ} {i j b : ℕ} → AsciiParts text i j → Peeks text j b → is_ascii_part b ≡ true → AsciiParts text i (j + 1)
+-- ASCII characters of a name, as far as they are read
+pub record AsciiRead (text : List ℕ) (i j : ℕ) : Type 0 where
+  pub word : List ℕ
+  pub stands : Word text i j word
+  pub parts : list_all is_ascii_part word ≡ true
+
+pub ascii-more : {text : List ℕ} {i j b : ℕ} → AsciiRead text i j → Peeks text j b → is_ascii_part b ≡ true → AsciiRead text i (j + 1)
 ascii-more {b = b} a p h = record {
   word = a.word ++ b ∷ [];
   stands = then a.stands (p.ascii (lt-true b 128 (both-left (nat_lt b 128) (is_identifier_part b) h)));

@@ -96,14 +96,16 @@ pub record NoPiece (test : ℕ → Bool) (text : List ℕ) (i j : ℕ) : Type 0 
   pub some : begins (λ c. c == 92) (behind text i) ≡ true → i < j
   pub between : begins (λ c. c == 92) (behind text i) ≡ true → IsCharBoundary text j
 
--- ASCII characters of a name
+-- an ASCII character of a name
 abbrev pub is_ascii_part : ℕ → Bool
 is_ascii_part c = nat_lt c 128 && is_identifier_part c
 
+-- ASCII characters of a name, and no more of them
 pub record AsciiParts (text : List ℕ) (i j : ℕ) : Type 0 where
   pub word : List ℕ
   pub stands : Word text i j word
   pub parts : list_all is_ascii_part word ≡ true
+  pub stops : begins is_ascii_part (behind text j) ≡ false
 
 -- a name of ASCII characters alone
 pub record AsciiName (text : List ℕ) (i j : ℕ) : Type 0 where

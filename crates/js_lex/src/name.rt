@@ -200,11 +200,20 @@ fn ascii_name(text: &str, at: usize, end: usize) -> Name
     }
 }
 
-/// Whether a name ends at a place.
+/// Whether a name ends at a place behind its ASCII characters.
 fn is_at_end(text: &str, at: usize) -> bool
-    requires { IsCharBoundary text.now at }
+    requires boundary { IsCharBoundary text.now at }
+    requires stops { begins names.is_ascii_part (behind text.now at) ≡ false }
     ensures { IsTrue result → names.Refuses is_identifier_part (behind text.now at) }
 {
+    match byte_at(text, at) {
+        Some(byte) => {
+            if byte < 128 && byte != b'\\' {
+                return true;
+            }
+        }
+        None => return true,
+    }
     match piece_at(text, at, Position::Part) {
         Ok(_) => false,
         Err(_) => true,
