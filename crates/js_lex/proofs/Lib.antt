@@ -1,8 +1,8 @@
 pub mod Places
 pub mod Plain
 pub mod Names
-pub mod Escapes
+pub mod NameEscapes
 pub mod NameKinds
-pub mod Surrogates
+pub mod NameSurrogates
 pub mod NameWords
 pub mod NameScans

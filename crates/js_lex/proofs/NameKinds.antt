@@ -1,6 +1,6 @@
 -- The kinds of words: which lists are no word of the keyword table, and what holds of each kind of a word.
-use Rattle.std.proofs.Common.{◌≡◌, ◌<◌, ◌≤◌, ℕ, ◌+◌, ◌==◌, Bool, true, false, List, [], ◌∷◌, ◌++◌, refl, sym, ap, subst, ◌∙◌, not, ◌&&◌, ◌||◌, ◌⊎◌, inl, inr, nat_lt, arith, length, length-append}
-use Rattle.std.specs.Prelude.{nat_le, nat_eq, if◌then◌else◌}
+use Rattle.std.proofs.Common.{◌≡◌, ◌<◌, ◌≤◌, ℕ, Bool, true, false, List, [], ◌∷◌, ◌++◌, refl, sym, ap, not, ◌&&◌, ◌||◌, nat_lt, arith, length, length-append}
+use Rattle.std.specs.Prelude.{nat_le, nat_eq}
 use Rattle.std.specs.List.{list_all}
 use Rattle.std.specs.Str.{bytes_eq}
 use Rattle.std.proofs.lemmas.Bool.Decides.{nat_tests}
@@ -13,7 +13,7 @@ use Rattle.js_base.specs.Keywords.{keyword_of, first_with_text}
 use Rattle.js_grammar.specs.Numbers.{is_number}
 use Rattle.js_grammar.specs.Names.{has_backslash}
 use Rattle.js_grammar.specs.Lexemes.{is_word, is_escaped, is_separated}
-use Rattle.js_grammar.proofs.LongestLemmas.{both-left, both-right, both}
+use Rattle.js_grammar.proofs.LongestLemmas.{both-left, both-right}
 use Rattle.js_grammar.proofs.CoreNames.{is_number_code}
 
 -- A word that lacks what each text of the kinds has is none of them.
@@ -85,14 +85,17 @@ among (k ∷ ks) w = go (among ks w) (bytes_eq (text_of k) w) refl
   where
     same : (n : ℕ) → nat_eq n n ≡ true
     same n = grind (arith, nat_tests)
+
     or-right : (a b : Bool) → b ≡ true → (a || b) ≡ true
     or-right true b e = refl
     or-right false b e = e
+
     later : (a b c : Bool) → (a || b) ≡ true → (a || (c || b)) ≡ true
     later true b c e = refl
     later false true true e = refl
     later false true false e = refl
     later false false c e = cc
+
     go : (same_kind Ident (first_with_text ks w) || one_of_kinds ks (first_with_text ks w)) ≡ true → (b : Bool) → bytes_eq (text_of k) w ≡ b → (same_kind Ident (first_with_text (k ∷ ks) w) || one_of_kinds (k ∷ ks) (first_with_text (k ∷ ks) w)) ≡ true
     go r true q = rw q (or-right (same_kind Ident k) (same_kind k k || one_of_kinds ks k) (let e = same (code k) in rw e refl))
     go r false q = rw q (later (same_kind Ident (first_with_text ks w)) (one_of_kinds ks (first_with_text ks w)) (same_kind k (first_with_text ks w)) r)

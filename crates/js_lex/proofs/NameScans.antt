@@ -1,29 +1,24 @@
 -- Names and private names as lexemes of a text, and the faults where none stands.
-use Rattle.std.proofs.Common.{◌≡◌, ◌<◌, ◌≤◌, ℕ, ◌+◌, ◌==◌, Bool, true, false, List, [], ◌∷◌, ◌++◌, refl, sym, ap, subst, ◌∙◌, not, ◌&&◌, ◌||◌, Option, Some, None, ◌⊎◌, inl, inr, arith}
-use Rattle.std.specs.Prelude.{is_some, IsCharBoundary, IsUtf8, chars, drop, encode_utf8_all}
+use Rattle.std.proofs.Common.{◌≡◌, ◌≤◌, ℕ, ◌+◌, ◌==◌, Bool, true, false, List, [], ◌∷◌, ◌++◌, refl, sym, ap, subst, ◌∙◌, not, ◌&&◌, ◌||◌, Some, None, inl, inr, arith}
+use Rattle.std.specs.Prelude.{is_some, IsCharBoundary, IsUtf8, drop, encode_utf8_all}
 use Rattle.std.proofs.lemmas.Str.{IsUtf8-drop, encodes-chars}
 use Rattle.js_base.specs.declared.kind.Kind.{Kind}
 use Rattle.js_base.specs.declared.kind.Kind.TheVariants.{PrivateIdentifier}
 use Rattle.js_base.specs.declared.diagnostic.DiagnosticKind.TheVariants.{InvalidEscape, InvalidCharacter}
-use Rattle.js_base.specs.Characters.{is_decimal}
 use Rattle.js_base.specs.Escapes.{in_name, code_points}
 use Rattle.js_base.specs.Keywords.{keyword_of}
-use Rattle.js_grammar.specs.Characters.{begins, width, is_identifier_start, is_identifier_part}
+use Rattle.js_grammar.specs.Characters.{begins, is_identifier_start}
 use Rattle.js_grammar.specs.Longest.{none_begins}
 use Rattle.js_grammar.specs.Names.{is_plain_name, name_of, word_of, private_kind, has_backslash}
-use Rattle.js_grammar.specs.Numbers.{is_number, stops_number}
+use Rattle.js_grammar.specs.Numbers.{stops_number}
 use Rattle.js_grammar.specs.Lexemes.{opening, a_name, a_number, a_string, a_template, a_private_name, a_punctuator, lexemes_in, division, is_word, is_escaped}
 use Rattle.js_grammar.specs.Lexed.{IsLexeme}
-use Rattle.js_grammar.specs.LexicalFaults.{behind, begins_nothing, InvalidNameEscape}
-use Rattle.js_grammar.specs.LexicalFaults as faults
+use Rattle.js_grammar.specs.LexicalFaults.{behind, begins_nothing}
 use Rattle.js_grammar.proofs.LongestLemmas.{both, not-true}
 use Rattle.js_grammar.proofs.CoreLemmas.{none_longer-from}
 use Rattle.js_grammar.proofs.CorePlain.{no_backslash, points-plain}
-use Rattle.js_grammar.proofs.Finding.{either}
 use Rattle.std.proofs.lemmas.Bool.{eqb-true, cases_lt}
 use Rattle.std.proofs.lemmas.Bool.Decides.{nat_tests}
-use Rattle.js_lex.specs.declared.scan.Scanned.{Scanned}
-use Rattle.js_lex.specs.declared.scan.Fault.{Fault}
 use Rattle.js_lex.specs.declared.name.Name.{Name}
 use Rattle.js_lex.specs.Places.{Word, Peeks}
 use Rattle.js_lex.specs.Scans.{IsScanned, IsStopped, NoLexeme}

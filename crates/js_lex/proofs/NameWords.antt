@@ -1,15 +1,15 @@
 -- Names at places of a text: the letters that are kept of them, and names of ASCII characters.
-use Rattle.std.proofs.Common.{◌≡◌, ◌<◌, ◌≤◌, ℕ, ◌+◌, ◌-◌, ◌==◌, Bool, true, false, List, [], ◌∷◌, ◌++◌, refl, sym, ap, subst, ◌∙◌, not, ◌&&◌, ◌||◌, append_assoc, Option, Some, None, ◌⊎◌, inl, inr, nat_lt, arith, length, length-append, take, drop}
-use Rattle.std.specs.Prelude.{IsCharBoundary, IsUtf8, chars, encode_utf8, encode_utf8_all, slice_range}
-use Rattle.std.specs.List.{list_all, list_any}
+use Rattle.std.proofs.Common.{◌≡◌, ◌<◌, ◌≤◌, ℕ, ◌+◌, ◌-◌, ◌==◌, Bool, true, false, List, [], ◌∷◌, ◌++◌, refl, sym, ap, subst, ◌∙◌, not, ◌||◌, append_assoc, nat_lt, arith, length, length-append, take, drop}
+use Rattle.std.specs.Prelude.{IsCharBoundary, IsUtf8, encode_utf8_all, slice_range}
+use Rattle.std.specs.List.{list_all}
 use Rattle.std.proofs.Math.Seq.{take-append_seam}
 use Rattle.std.proofs.lemmas.Bool.Decides.{nat_tests}
 use Rattle.std.proofs.lemmas.Str.{IsUtf8-drop, encode_ascii, encodes-chars}
 use Rattle.js_base.specs.declared.kind.Kind.{Kind}
 use Rattle.js_base.specs.declared.kind.Kind.TheVariants.{Ident}
-use Rattle.js_base.specs.Escapes.{in_name, outside, read_from, code_points}
+use Rattle.js_base.specs.Escapes.{in_name}
 use Rattle.js_base.specs.Keywords.{keyword_of}
-use Rattle.js_grammar.specs.Characters.{width, is_identifier_start, is_identifier_part}
+use Rattle.js_grammar.specs.Characters.{is_identifier_start, is_identifier_part}
 use Rattle.js_grammar.specs.Names.{is_plain_name, has_backslash}
 use Rattle.js_grammar.specs.LexicalFaults.{behind}
 use Rattle.js_grammar.proofs.LongestLemmas.{both-left, both-right, both, not-true}
@@ -19,12 +19,11 @@ use Rattle.js_grammar.proofs.CorePlain.{no_backslash, points-plain}
 use Rattle.js_grammar.proofs.Runs.{ascii_width}
 use Rattle.js_lex.specs.declared.name.Letters.{Letters}
 use Rattle.js_lex.specs.declared.name.Piece.{Piece}
-use Rattle.js_lex.specs.declared.name.Name.{Name}
 use Rattle.js_lex.specs.Places.{Word, Peeks}
-use Rattle.js_lex.specs.Names.{Spells, Refuses, Holds, AsciiParts, AsciiName, IsPiece, NoPiece, IsName, is_ascii_part}
-use Rattle.js_lex.proofs.Places.{then, none_passed}
+use Rattle.js_lex.specs.Names.{Spells, Refuses, Holds, AsciiParts, AsciiName, IsPiece, IsName, is_ascii_part}
+use Rattle.js_lex.proofs.Places.{then}
 use Rattle.js_lex.proofs.Names.{spells-then, spells-plain, spells-whole, backslash-append, plain-more}
-use Rattle.js_lex.proofs.NameKinds.{long-front, high-front}
+use Rattle.js_lex.proofs.NameKinds.{long-front}
 
 -- Of code points of which the letters hold no more, one more begins no word either.
 pub other-more : (s : Letters) (ps qs : List ℕ) (p : ℕ) → Holds s ps → s.is_other ≡ true → keyword_of ((ps ++ p ∷ []) ++ qs) ≡ Ident
@@ -162,19 +161,6 @@ read-more {escaped = escaped} {p = p} r f h = record {
   is = plain-more r.points p.code_point r.is f.passes;
   holds = h r.points r.holds;
   marked = ap (λ (b : Bool). b || p.escaped) r.marked ∙ ap (λ (b : Bool). has_backslash r.word || b) f.escaped ∙ sym (backslash-append r.word f.word);
-}
-
-pub read-whole : {text : List ℕ} {i j k : ℕ} {s : Letters} {escaped : Bool} {kind : Kind} → Read text i j s escaped → NoPiece is_identifier_part text j k
-    → ((ps : List ℕ) → Holds s ps → kind ≡ keyword_of ps) → IsName text i (record { kind = kind; end = j; escaped = escaped })
-read-whole r n h = record {
-  word = r.word;
-  points = r.points;
-  stands = r.stands;
-  spells = r.spells;
-  is = r.is;
-  ends = n.refuses;
-  kind = h r.points r.holds;
-  escaped = r.marked;
 }
 
 or-marked : (a b : Bool) → a ≡ true → (a || b) ≡ a

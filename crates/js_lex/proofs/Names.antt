@@ -1,15 +1,14 @@
 -- Names as lists of characters: what stands for which code points, and where no name goes on.
-use Rattle.std.proofs.Common.{◌≡◌, ◌<◌, ◌≤◌, ℕ, ◌+◌, ◌==◌, Bool, true, false, List, [], ◌∷◌, ◌++◌, refl, sym, ap, subst, ◌∙◌, not, ◌&&◌, ◌||◌, append_assoc, Option, Some, None, ◌⊎◌, inl, inr, nat_lt, arith, length}
+use Rattle.std.proofs.Common.{◌≡◌, ℕ, ◌==◌, Bool, true, false, List, [], ◌∷◌, ◌++◌, refl, sym, ap, ◌∙◌, ◌&&◌, ◌||◌, append_assoc, Option, Some, None}
 use Rattle.std.specs.Prelude.{is_some}
-use Rattle.std.specs.List.{list_all, list_any}
+use Rattle.std.specs.List.{list_all}
 use Rattle.std.proofs.lemmas.List.Folds.{list_any-append}
-use Rattle.js_base.specs.declared.kind.Kind.{Kind}
 use Rattle.js_base.specs.declared.kind.Kind.TheVariants.{PrivateIdentifier}
 use Rattle.js_base.specs.Keywords.{keyword_of}
-use Rattle.js_base.specs.Escapes.{in_name, read_from, outside, before_all, code_points}
-use Rattle.js_grammar.specs.Characters.{is_identifier_start, is_identifier_part, begins}
-use Rattle.js_grammar.specs.Longest.{Class, longest, none_longer, none_begins}
-use Rattle.js_grammar.specs.Names.{is_plain_name, named, name_of, word_of, name_kind, private_of, private_kind, has_backslash}
+use Rattle.js_base.specs.Escapes.{in_name, before_all, code_points}
+use Rattle.js_grammar.specs.Characters.{is_identifier_start, is_identifier_part}
+use Rattle.js_grammar.specs.Longest.{longest, none_longer}
+use Rattle.js_grammar.specs.Names.{is_plain_name, named, name_of, word_of, private_of, private_kind, has_backslash}
 use Rattle.js_grammar.specs.Lexemes.{kind_of, a_name, a_private_name}
 use Rattle.js_grammar.specs.LexicalFaults.{is_name_word}
 use Rattle.js_grammar.proofs.LongestLemmas.{both-left, both-right, both, not-true, append-nil}
@@ -113,20 +112,6 @@ never-name rest r = none_longer-from is_name_word [] rest (λ c x more e. ap (λ
 pub no-private : (rest w more : List ℕ) → Refuses is_identifier_start rest → rest ≡ w ++ more → private_kind (35 ∷ w) ≡ None
 no-private rest [] more r e = refl
 no-private rest (c ∷ x) more r e = ap private_of (no-name rest r c x more e)
-
--- where a code point is refused
-pub refuses-nothing : (test : ℕ → Bool) → Refuses test []
-refuses-nothing test c x more e = absurd (cc)
-
-pub refuses-plain : (test : ℕ → Bool) (d : ℕ) (rest : List ℕ) → no_backslash d ≡ true → test d ≡ false → Refuses test (d ∷ rest)
-refuses-plain test d rest n h c x more e =
-    let same : d ≡ c = cc in
-    subst (λ (a : ℕ). is_refused test (code_points in_name (a ∷ x)) ≡ true) same
-    (subst (λ (o : Option (List ℕ)). is_refused test o ≡ true) (sym (points-append in_name (d ∷ []) x (both (no_backslash d) true n refl))) (go (code_points in_name x)))
-  where
-    go : (o : Option (List ℕ)) → is_refused test (before_all (d ∷ []) o) ≡ true
-    go None = refl
-    go (Some zs) = rw h refl
 
 -- a backslash among characters
 pub backslash-append : (u v : List ℕ) → has_backslash (u ++ v) ≡ (has_backslash u || has_backslash v)

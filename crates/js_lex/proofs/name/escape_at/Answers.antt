@@ -1,5 +1,5 @@
 use Rattle.std.proofs.Common.{sym}
-use Rattle.js_lex.proofs.Escapes.{begun-first, begun-more, escape-ends, escape-cut, escape-fails}
+use Rattle.js_lex.proofs.NameEscapes.{begun-first, begun-more, escape-ends, escape-cut, escape-fails}
 use Rattle.js_lex.proofs.name.escape_at.Goals as goal
 
 pub escape-init : goal.escape-init

@@ -1,6 +1,5 @@
-use Rattle.std.proofs.Common.{◌≡◌, ◌<◌, length, ◌-◌, true}
-use Rattle.js_lex.specs.Names.{fits}
-use Rattle.js_lex.proofs.Escapes.{Begun}
+use Rattle.std.proofs.Common.{length, ◌-◌}
+use Rattle.js_lex.proofs.NameEscapes.{Begun}
 use Rattle.js_lex.proofs.name.escape_at.Given as goal
 
 abbrev pub invariant-escape : goal.invariant-escape

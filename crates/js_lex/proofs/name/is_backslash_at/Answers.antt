@@ -1,5 +1,3 @@
-use Rattle.std.proofs.Common.{sym, ap}
-use Rattle.js_grammar.specs.Characters.{begins}
 use Rattle.js_lex.proofs.NameScans.{backslash-here}
 use Rattle.js_lex.proofs.name.is_backslash_at.Goals as goal
 

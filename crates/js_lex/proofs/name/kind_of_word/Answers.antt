@@ -1,4 +1,4 @@
-use Rattle.std.proofs.Common.{sym, arith, inl, inr}
+use Rattle.std.proofs.Common.{sym, inl, inr}
 use Rattle.js_lex.proofs.NameKinds.{short-word, long-word}
 use Rattle.js_lex.proofs.name.kind_of_word.Goals as goal
 

@@ -1,5 +1,5 @@
-use Rattle.std.proofs.Common.{sym, arith}
-use Rattle.js_lex.proofs.Surrogates.{may_stand-scalar, no-scalar}
+use Rattle.std.proofs.Common.{sym}
+use Rattle.js_lex.proofs.NameSurrogates.{may_stand-scalar, no-scalar}
 use Rattle.js_lex.proofs.name.may_code_point_stand.Goals as goal
 
 pub returns-in-None : goal.returns-in-None

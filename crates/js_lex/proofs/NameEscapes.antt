@@ -1,6 +1,5 @@
 -- Escape sequences of a name, one character after the other.
-use Rattle.std.proofs.Common.{◌≡◌, ◌<◌, ◌≤◌, ℕ, ◌+◌, ◌==◌, Bool, true, false, List, [], ◌∷◌, ◌++◌, refl, sym, ap, subst, ◌∙◌, not, ◌&&◌, ◌||◌, append_assoc, Option, Some, None, ◌⊎◌, inl, inr, arith, length}
-use Rattle.std.specs.Prelude.{IsCharBoundary}
+use Rattle.std.proofs.Common.{◌≡◌, ◌<◌, ◌≤◌, ℕ, ◌+◌, Bool, true, false, List, [], ◌∷◌, ◌++◌, refl, sym, ap, subst, ◌∙◌, ◌||◌, append_assoc, Option, Some, None, ◌⊎◌, inl, inr, arith}
 use Rattle.std.proofs.lemmas.Bool.{cases_lt}
 use Rattle.std.proofs.lemmas.Bool.Decides.{nat_tests}
 use Rattle.js_base.specs.Escapes.{in_name, read_from, outside, backslash, before_all, code_points, Stage, Step, step, finish, go}
@@ -9,11 +8,9 @@ use Rattle.js_grammar.specs.LexicalFaults.{behind}
 use Rattle.js_grammar.proofs.LongestLemmas.{append-nil}
 use Rattle.js_lex.specs.declared.name.State.{State}
 use Rattle.js_lex.specs.declared.name.State.TheVariants as state
-use Rattle.js_lex.specs.declared.name.Progress.{Progress}
-use Rattle.js_lex.specs.declared.name.Progress.TheVariants.{Goes, Names, Fails}
 use Rattle.js_lex.specs.declared.name.Escape.{Escape}
 use Rattle.js_lex.specs.Places.{Word, Peeks}
-use Rattle.js_lex.specs.Names.{Spells, Refuses, is_refused, Unfinished, IsEscape, NoEscape, NoPiece, stage_of, step_of, fits}
+use Rattle.js_lex.specs.Names.{Spells, Refuses, is_refused, Unfinished, IsEscape, NoEscape, NoPiece, stage_of, fits}
 use Rattle.js_lex.proofs.Places.{then}
 use Rattle.js_lex.proofs.Names.{backslash-append}
 
@@ -117,6 +114,7 @@ refuses-escape test w rest p a u n c x more e = by (fronts w rest (c ∷ x) more
     some : (o : Option (List ℕ)) → is_refused test (before_all (p ∷ []) o) ≡ true
     some None = refl
     some (Some zs) = rw n refl
+
     by : ((d : ℕ) × (y : List ℕ) × (w ≡ c ∷ x ++ d ∷ y)) ⊎ ((y : List ℕ) × (c ∷ x ≡ w ++ y) × (rest ≡ y ++ more)) → is_refused test (code_points in_name (c ∷ x)) ≡ true
     by (inl q) = ap (is_refused test) (u c x q.0 q.1 q.2)
     by (inr q) = ap (λ (v : List ℕ). is_refused test (code_points in_name v)) q.1 ∙ ap (is_refused test) (a q.0) ∙ some (code_points in_name q.0)
