@@ -6,3 +6,13 @@ pub mod NameKinds
 pub mod NameSurrogates
 pub mod NameWords
 pub mod NameScans
+pub mod Keeping
+pub mod TriviaLemmas
+pub mod Passing
+pub mod Fronts
+pub mod TemplateParts
+pub mod TemplateLexemes
+pub mod RegularExpressionParts
+pub mod RegularExpressionLexemes
+pub mod Hashbangs
+pub mod Flags
