@@ -1,5 +1,11 @@
 pub mod Places
 pub mod Plain
+pub mod Names
+pub mod NameEscapes
+pub mod NameKinds
+pub mod NameSurrogates
+pub mod NameWords
+pub mod NameScans
 pub mod Keeping
 pub mod TriviaLemmas
 pub mod Passing

@@ -6,6 +6,7 @@ pub mod Scans
 pub mod States
 pub mod Reading
 pub mod Settling
+pub mod Names
 pub mod NextCharacters
 pub mod TemplateParts
 pub mod RegularExpressionParts

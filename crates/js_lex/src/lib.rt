@@ -7,6 +7,7 @@ mod class;
 mod comment;
 mod config;
 mod hashbang;
+mod name;
 mod output;
 mod place;
 mod plain_goal;
