@@ -1,2 +1,4 @@
 pub mod Places
 pub mod Plain
+pub mod StringLemmas
+pub mod StringPlaces

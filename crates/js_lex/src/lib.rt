@@ -4,3 +4,4 @@
 mod class;
 mod place;
 mod scan;
+mod string;
