@@ -1,20 +1,19 @@
 -- What the inside of a string passes, and what stands where it is closed, open, or has an ill-formed escape: of lists of characters.
-use Rattle.std.proofs.Common.{◌≡◌, ◌<◌, ◌≤◌, ℕ, suc, ◌+◌, ◌-◌, ◌==◌, Bool, true, false, List, [], ◌∷◌, ◌++◌, refl, sym, ap, subst, ◌∙◌, not, ◌&&◌, ◌||◌, Option, Some, None, ◌⊎◌, inl, inr, append_assoc, take, drop, length, length-append, arith}
+use Rattle.std.proofs.Common.{◌≡◌, ℕ, suc, ◌+◌, ◌-◌, ◌==◌, Bool, true, false, List, [], ◌∷◌, ◌++◌, refl, sym, ap, subst, ◌∙◌, not, ◌&&◌, ◌||◌, Option, Some, None, ◌⊎◌, inl, inr, append_assoc, take, drop, length, length-append, arith}
 use Rattle.std.specs.Prelude.{is_some}
 use Rattle.std.specs.List.{list_all}
 use Rattle.std.proofs.lemmas.Bool.{eqb-true, eq-eqb}
 use Rattle.std.proofs.lemmas.Bool.Decides.{nat_tests}
-use Rattle.js_base.specs.declared.kind.Kind.{Kind}
 use Rattle.js_base.specs.declared.kind.Kind.TheVariants.{Str}
-use Rattle.js_base.specs.Characters.{one_of, is_hex, is_octal, is_decimal}
-use Rattle.js_base.specs.Escapes.{in_string, Stage, Step, outside, backslash, unicode, nul, due, braced, octal, step, read_from, finish, line_feeds, line_feeds_after}
+use Rattle.js_base.specs.Characters.{one_of}
+use Rattle.js_base.specs.Escapes.{in_string, Stage, Step, outside, backslash, unicode, nul, due, braced, octal, step, finish, line_feeds, line_feeds_after}
 use Rattle.js_base.specs.InvalidEscapes.{is_right}
 use Rattle.js_base.proofs.EscapeLemmas.{is_backslash, right_from, right-on, right-stops}
 use Rattle.js_grammar.specs.Characters.{begins}
 use Rattle.js_grammar.specs.Longest.{longest, none_longer, none_begins}
 use Rattle.js_grammar.specs.Strings.{nothing_left, closes_string, string_inside, string_kind}
 use Rattle.js_grammar.specs.LexicalFaults.{lacks_line_end, is_open_string, is_closed_string, is_right_inside}
-use Rattle.js_grammar.specs.Lexemes.{Opening, a_string, opening}
+use Rattle.js_grammar.specs.Lexemes.{a_string, opening}
 use Rattle.js_grammar.proofs.LongestLemmas.{both-left, both-right, both, not-true, append-nil}
 use Rattle.js_grammar.proofs.Finding.{member, either}
 use Rattle.js_grammar.proofs.CoreNumbers.{nothing-nil}
@@ -161,7 +160,7 @@ slash_within q e = record {
   closes = λ v more i. front_nil (λ (y : List ℕ). closes_string q false (line_feeds (92 ∷ y)) ≡ closes_string q false (line_feeds y)) v more i (slash-alone q e);
   lacks = λ v more i. front_nil (λ (y : List ℕ). lacks_line_end false (line_feeds (92 ∷ y)) ≡ lacks_line_end false (line_feeds y)) v more i refl;
   unclosed = λ v more i. front_cons (λ (y : List ℕ). closes_string q false (line_feeds y) ≡ false) 92 [] v more i refl (λ u left j.
-  front_nil (λ (y : List ℕ). closes_string q false (line_feeds (92 ∷ y)) ≡ false) u left j (slash-alone q e));
+      front_nil (λ (y : List ℕ). closes_string q false (line_feeds (92 ∷ y)) ≡ false) u left j (slash-alone q e));
 }
 
 pub escaped_within : (q : ℕ) (w rest : List ℕ) → one_of (34 ∷ 39 ∷ []) q ≡ true → is_escaped_word w rest ≡ true → Within q (92 ∷ w) rest
@@ -268,8 +267,10 @@ line_end-feeds c v h = by (either (10 == c) ((13 == c) || false) h)
   where
     ten : 10 ≡ c → FeedsTen c v
     ten e = subst (λ (y : ℕ). FeedsTen y v) e (record { behind = line_feeds_after false v; is = refl })
+
     thirteen : 13 ≡ c → FeedsTen c v
     thirteen e = subst (λ (y : ℕ). FeedsTen y v) e (record { behind = line_feeds_after true v; is = refl })
+
     by : ((10 == c) ≡ true) ⊎ (((13 == c) || false) ≡ true) → FeedsTen c v
     by (inl e) = ten (eqb-true 10 c e)
     by (inr e) = elim (either (13 == c) false e) [ inl f ↦ thirteen (eqb-true 13 c f) | inr f ↦ absurd (let k = f in cc) ]
@@ -440,6 +441,7 @@ lacks-front e a (c ∷ u) v h = by (c == 13) refl (a && (c == 10)) refl (λ f b 
     goes d b r k =
         both (e || not (d == 10)) (lacks_line_end (not e && (d == 92)) (line_feeds_after b u)) (both-left (e || not (d == 10)) (lacks_line_end (not e && (d == 92)) (line_feeds_after b (u ++ v))) k)
         (r (not e && (d == 92)) b (both-right (e || not (d == 10)) (lacks_line_end (not e && (d == 92)) (line_feeds_after b (u ++ v))) k))
+
     by : (b : Bool) → (c == 13) ≡ b → (d : Bool) → (a && (c == 10)) ≡ d → ((f b : Bool) → lacks_line_end f (line_feeds_after b (u ++ v)) ≡ true → lacks_line_end f (line_feeds_after b u) ≡ true) → lacks_line_end e (line_feeds_after a (c ∷ u)) ≡ true
     by true i d j r = ap (λ (y : List ℕ). lacks_line_end e y) (feeds-is a c u true d i j) ∙ goes 10 true r (sym (ap (λ (y : List ℕ). lacks_line_end e y) (feeds-is a c (u ++ v) true d i j)) ∙ h)
     by false i true j r = ap (λ (y : List ℕ). lacks_line_end e y) (feeds-is a c u false true i j) ∙ r e false (sym (ap (λ (y : List ℕ). lacks_line_end e y) (feeds-is a c (u ++ v) false true i j)) ∙ h)

@@ -1,6 +1,6 @@
 -- What a scan of a string knows at the places of a text.
-use Rattle.std.proofs.Common.{◌≡◌, ◌<◌, ◌≤◌, ℕ, ◌+◌, ◌-◌, ◌==◌, Bool, true, false, List, [], ◌∷◌, ◌++◌, refl, sym, ap, subst, ◌∙◌, not, ◌&&◌, ◌||◌, Option, Some, None, ◌⊎◌, inl, inr, append_assoc, take, drop, length, length-append, arith}
-use Rattle.std.specs.Prelude.{chars, encode_utf8, encode_utf8_all, IsUtf8, IsCharBoundary, nat_lt, Ok, Err}
+use Rattle.std.proofs.Common.{◌≡◌, ◌<◌, ◌≤◌, ℕ, ◌+◌, ◌-◌, ◌==◌, Bool, true, false, List, [], ◌∷◌, ◌++◌, refl, sym, ap, subst, ◌∙◌, not, ◌&&◌, ◌||◌, ◌⊎◌, inl, inr, append_assoc, take, drop, length-append, arith}
+use Rattle.std.specs.Prelude.{chars, encode_utf8, encode_utf8_all, IsUtf8, IsCharBoundary}
 use Rattle.std.specs.Char.{len_utf8}
 use Rattle.std.proofs.Math.Utf8.{scalars}
 use Rattle.std.proofs.Math.Seq.{take-append_seam}
@@ -14,14 +14,14 @@ use Rattle.js_base.specs.Characters.{one_of}
 use Rattle.js_base.specs.Texts.{words}
 use Rattle.js_base.specs.InvalidEscapes.{is_right, bytes_of, IsInvalidEscape}
 use Rattle.js_grammar.specs.Characters.{begins, width}
-use Rattle.js_grammar.specs.LexicalFaults.{behind, is_open_string, is_closed_string, Unterminated, InvalidStringEscape}
+use Rattle.js_grammar.specs.LexicalFaults.{behind}
 use Rattle.js_grammar.specs.Lexemes.{a_string, division, is_escaped, is_separated}
 use Rattle.js_grammar.specs.Lexed.{IsLexeme}
 use Rattle.js_grammar.proofs.LongestLemmas.{both-left, append-nil}
 use Rattle.js_grammar.proofs.Finding.{all-append, either, neither-left, neither-right}
 use Rattle.js_lex.specs.declared.scan.Scanned.{Scanned}
-use Rattle.js_lex.specs.Places.{Word, High, Peeks}
-use Rattle.js_lex.specs.Scans.{IsScanned, NoLexeme, IsStopped}
+use Rattle.js_lex.specs.Places.{Word, Peeks}
+use Rattle.js_lex.specs.Scans.{IsScanned, IsStopped}
 use Rattle.js_lex.specs.Strings.{Within, lacks_backslash, ends_line, IsInner, OneCharacter, Passes, StandsBetween}
 use Rattle.js_lex.proofs.Places.{none_passed, then, one_character, width-append}
 use Rattle.js_lex.proofs.Plain.{is_lexeme, no_lexeme}
@@ -222,8 +222,8 @@ ill_formed text i j b e u f =
     let split : b.inside ++ b.quote ∷ after ≡ f.before ++ 92 ∷ (tail ++ b.quote ∷ after) = ap (λ (y : List ℕ). y ++ b.quote ∷ after) f.splits ∙ append_assoc f.before (92 ∷ tail) (b.quote ∷ after) in
     let first : Word text (i + 1) (i + 1 + width f.before) f.before = front_word text (i + 1) f.before (92 ∷ (tail ++ b.quote ∷ after)) u b.opens.boundary (back ∙ split) in
     let second : Word text (i + 1) (i + 1 + width (f.before ++ 92 ∷ f.beginning)) (f.before ++ 92 ∷ f.beginning) =
-        front_word text (i + 1) (f.before ++ 92 ∷ f.beginning) (f.rest ++ b.quote ∷ after) u b.opens.boundary
-        (back ∙ split ∙ ap (λ (y : List ℕ). f.before ++ 92 ∷ y) (append_assoc f.beginning f.rest (b.quote ∷ after)) ∙ sym (append_assoc f.before (92 ∷ f.beginning) (f.rest ++ b.quote ∷ after))) in
+    front_word text (i + 1) (f.before ++ 92 ∷ f.beginning) (f.rest ++ b.quote ∷ after) u b.opens.boundary
+    (back ∙ split ∙ ap (λ (y : List ℕ). f.before ++ 92 ∷ y) (append_assoc f.beginning f.rest (b.quote ∷ after)) ∙ sym (append_assoc f.before (92 ∷ f.beginning) (f.rest ++ b.quote ∷ after))) in
     let start : i + 1 + width f.before ≡ i + 1 + e.start = (let m = f.start in let n = width-bytes f.before in omega arith) in
     let end : i + 1 + width (f.before ++ 92 ∷ f.beginning) ≡ i + 1 + e.end = (let m = f.end in let n = width-bytes (f.before ++ 92 ∷ f.beginning) in omega arith) in
     record {

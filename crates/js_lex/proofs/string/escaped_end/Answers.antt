@@ -1,4 +1,4 @@
-use Rattle.std.proofs.Common.{subst, List, ℕ, [], ◌∷◌, ◌+◌, arith}
+use Rattle.std.proofs.Common.{subst, ℕ, [], ◌∷◌, ◌+◌, arith}
 use Rattle.js_lex.specs.Places.{Word}
 use Rattle.js_lex.proofs.Places.{then}
 use Rattle.js_lex.proofs.StringLemmas.{line_feed_escaped}

@@ -1,4 +1,4 @@
-use Rattle.std.proofs.Common.{◌≡◌, true, subst, sym, ap, ◌∙◌, List, ℕ, ◌+◌, arith}
+use Rattle.std.proofs.Common.{subst, sym, ap, ◌∙◌, List, ℕ, ◌+◌, arith}
 use Rattle.js_base.specs.InvalidEscapes.{is_right, IsInvalidEscape}
 use Rattle.js_lex.proofs.StringPlaces.{part_chars, within_text, a_string_stands, ill_formed}
 use Rattle.js_lex.proofs.string.escaped_string.Goals as goal

@@ -1,8 +1,4 @@
-use Rattle.std.proofs.Common.{◌≡◌, false, true, List, ℕ, length, ◌-◌}
-use Rattle.std.specs.Prelude.{IsCharBoundary}
-use Rattle.js_grammar.specs.LexicalFaults.{behind}
-use Rattle.js_lex.specs.Places.{Word}
-use Rattle.js_lex.specs.Strings.{Within, lacks_backslash}
+use Rattle.std.proofs.Common.{length, ◌-◌}
 use Rattle.js_lex.proofs.StringPlaces.{InsideSo}
 use Rattle.js_lex.proofs.string.inside_at.Given as goal
 
