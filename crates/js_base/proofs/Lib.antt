@@ -5,3 +5,4 @@ pub mod ContextLemmas
 pub mod SurrogateLemmas
 pub mod PrecedenceLemmas
 pub mod DecodingLemmas
+pub mod EscapeLemmas

@@ -13,3 +13,4 @@ pub mod Characters
 pub mod Escapes
 pub mod Decoding
 pub mod DecodingSteps
+pub mod InvalidEscapes

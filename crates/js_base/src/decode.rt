@@ -14,7 +14,7 @@ use std::alloc::Global;
 
 /// What the characters are part of.
 #[derive(Clone, Copy)]
-enum Form {
+pub(crate) enum Form {
     /// A name.
     Name,
     /// The inside of a string literal.
@@ -25,7 +25,7 @@ enum Form {
 
 /// What stands directly before a character.
 #[derive(Clone, Copy)]
-enum State {
+pub(crate) enum State {
     /// No part of an escape.
     Outside,
     /// A backslash.
@@ -44,7 +44,7 @@ enum State {
 
 /// The code points that a character completes.
 #[derive(Clone, Copy)]
-enum Points {
+pub(crate) enum Points {
     Nothing,
     One(u32),
     Two(u32, u32),
@@ -52,9 +52,9 @@ enum Points {
 
 /// The state after a character, and the code points that are complete.
 #[derive(Clone, Copy)]
-struct Progress {
-    state: State,
-    points: Points,
+pub(crate) struct Progress {
+    pub state: State,
+    pub points: Points,
 }
 
 /// The code units that the inside of a string literal stands for, outside strict mode: its SV (ECMA-262, section
@@ -230,7 +230,7 @@ fn push_points(units: &mut JsStr, points: Points) -> Result<(), NoMemory>
 }
 
 /// The code points that the end completes, or none where it cuts an escape off.
-fn finish(state: State) -> Option<Points>
+pub(crate) fn finish(state: State) -> Option<Points>
     ensures { option_map points_of result ≡ escape.finish (state_of state) }
 {
     match state {
@@ -242,7 +242,7 @@ fn finish(state: State) -> Option<Points>
 }
 
 /// The state after a character and the code points that it completes, or none where no escape goes on so.
-fn step(form: Form, state: State, c: char) -> Option<Progress>
+pub(crate) fn step(form: Form, state: State, c: char) -> Option<Progress>
     requires { IsTrue (fits (state_of state)) }
     ensures { option_map progress_of result ≡ escape.step (form_of form) (state_of state) c }
 {

@@ -17,3 +17,5 @@ pub mod RegularExpressionParts
 pub mod RegularExpressionLexemes
 pub mod Hashbangs
 pub mod Flags
+pub mod StringLemmas
+pub mod StringPlaces

@@ -11,3 +11,4 @@ pub mod NextCharacters
 pub mod TemplateParts
 pub mod RegularExpressionParts
 pub mod Hashbangs
+pub mod Strings

@@ -14,6 +14,7 @@ mod plain_goal;
 mod reading;
 mod regular_expression;
 mod scan;
+mod string;
 mod template;
 mod trivia;
 

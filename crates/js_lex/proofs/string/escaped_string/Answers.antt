@@ -1,0 +1,31 @@
+use Rattle.std.proofs.Common.{subst, sym, ap, ◌∙◌, List, ℕ, ◌+◌, arith}
+use Rattle.js_base.specs.InvalidEscapes.{is_right, IsInvalidEscape}
+use Rattle.js_lex.proofs.StringPlaces.{part_chars, within_text, a_string_stands, ill_formed}
+use Rattle.js_lex.proofs.string.escaped_string.Goals as goal
+
+pub overflow_add-result-in-Some : goal.overflow_add-result-in-Some
+overflow_add-result-in-Some c =
+    let b = c.requires in
+    let p = part_chars c.args.text.now (c.args.at + 1) c.args.end b.inside c.range.result.now c.utf8.text b.opens.boundary b.stands c.range.ensures.value in
+    let t = within_text c.args.text.now c.args.at c.args.end b c.in-Some.escape (subst (λ (y : List ℕ). IsInvalidEscape y c.in-Some.escape) p c.in-Some.ensures) in
+    omega arith
+
+pub overflow_add-result-in-Some-3 : goal.overflow_add-result-in-Some-3
+overflow_add-result-in-Some-3 c =
+    let b = c.requires in
+    let p = part_chars c.args.text.now (c.args.at + 1) c.args.end b.inside c.range.result.now c.utf8.text b.opens.boundary b.stands c.range.ensures.value in
+    let t = within_text c.args.text.now c.args.at c.args.end b c.in-Some.escape (subst (λ (y : List ℕ). IsInvalidEscape y c.in-Some.escape) p c.in-Some.ensures) in
+    omega arith
+
+pub returns-in-None : goal.returns-in-None
+returns-in-None c =
+    let b = c.requires in
+    let s = c.string_to.ensures in
+    let p = part_chars c.args.text.now (c.args.at + 1) c.args.end b.inside c.range.result.now c.utf8.text b.opens.boundary b.stands c.range.ensures.value in
+    a_string_stands c.args.text.now c.args.at c.args.end b c.string_to.result (sym (ap is_right p) ∙ c.in-None.ensures) s.kind s.end s.escaped s.separated
+
+pub returns-in-Some : goal.returns-in-Some
+returns-in-Some c =
+    let b = c.requires in
+    let p = part_chars c.args.text.now (c.args.at + 1) c.args.end b.inside c.range.result.now c.utf8.text b.opens.boundary b.stands c.range.ensures.value in
+    ill_formed c.args.text.now c.args.at c.args.end b c.in-Some.escape c.utf8.text (subst (λ (y : List ℕ). IsInvalidEscape y c.in-Some.escape) p c.in-Some.ensures)
