@@ -10,3 +10,4 @@ pub mod RegularExpressionParts
 pub mod RegularExpressionLexemes
 pub mod Hashbangs
 pub mod Flags
+pub mod KindsOfLexemes
