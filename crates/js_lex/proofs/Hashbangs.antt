@@ -11,26 +11,12 @@ use Rattle.js_grammar.specs.Trivia.{within_line, after}
 use Rattle.js_grammar.specs.Longest.{longest, none_longer}
 use Rattle.js_grammar.specs.Lexemes.{hashbang, hashbang_kind, lexemes_in, is_escaped}
 use Rattle.js_grammar.specs.LexicalFaults.{behind}
-use Rattle.js_grammar.proofs.LongestLemmas.{both, both-left, both-right}
-use Rattle.js_grammar.proofs.Finding.{all-append}
+use Rattle.js_grammar.proofs.LongestLemmas.{both, both-left, both-right, not-true}
 use Rattle.js_lex.specs.Places.{Word}
 use Rattle.js_lex.specs.Scans.{IsScanned, NoLexeme}
-use Rattle.js_lex.specs.Hashbangs.{LineEnd}
+use Rattle.js_lex.specs.TriviaPassed.{IsLineEnd}
 use Rattle.js_lex.proofs.Places.{then}
 use Rattle.js_lex.proofs.Fronts.{none_longer-of, not_all}
-
--- characters of one line stand between the places
-pub record ReadLine (text : List ℕ) (i j : ℕ) : Type 0 where
-  pub word : List ℕ
-  pub stands : Word text i j word
-  pub within : within_line word ≡ true
-
-pub one_more : {text : List ℕ} {i j k c : ℕ} → ReadLine text i j → Word text j k (c ∷ []) → is_line_terminator c ≡ false → ReadLine text i k
-one_more {c = c} r w f = record {
-  word = r.word ++ c ∷ [];
-  stands = then r.stands w;
-  within = all-append (λ d. not (is_line_terminator d)) r.word (c ∷ []) r.within (rw f refl);
-}
 
 abbrev if_line : Bool → Option Kind
 if_line b = elim b [ true ↦ Some HashbangComment | false ↦ None ]
@@ -51,13 +37,13 @@ unescaped : (w : List ℕ) → false ≡ is_escaped HashbangComment w
 unfolding words
 unescaped w = refl
 
-pub is_hashbang : {text : List ℕ} {i j k : ℕ} → i ≡ 0 → Word text 0 j (codes "#!") → LineEnd text j k → IsScanned hashbang text i (record { kind = HashbangComment; end = k; escaped = false; has_separator = false })
+pub is_hashbang : {text : List ℕ} {i j k : ℕ} → i ≡ 0 → Word text 0 j (codes "#!") → IsLineEnd text j k → IsScanned hashbang text i (record { kind = HashbangComment; end = k; escaped = false; has_separator = false })
 is_hashbang {text = text} {i = i} {j = j} {k = k} z w l = subst (λ (n : ℕ). IsScanned hashbang text n (record { kind = HashbangComment; end = k; escaped = false; has_separator = false })) (sym z) (record {
   word = 35 ∷ 33 ∷ l.word;
   stands = then w l.stands;
   lexeme = record {
-    longest = longest_line l.word (behind text k) l.within l.line_ends;
-    kind = comment_is l.word l.within;
+    longest = longest_line l.word (behind text k) l.one_line (not-true (begins (λ c. not (is_line_terminator c)) (behind text k)) l.ends);
+    kind = comment_is l.word l.one_line;
     begins = refl;
     apart = refl;
   };

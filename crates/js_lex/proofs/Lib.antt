@@ -19,3 +19,4 @@ pub mod Hashbangs
 pub mod Flags
 pub mod StringLemmas
 pub mod StringPlaces
+pub mod KindsOfLexemes

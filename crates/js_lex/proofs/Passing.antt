@@ -1,12 +1,10 @@
 -- Trivia, one piece after the other.
-use Rattle.std.proofs.Common.{◌≡◌, ◌<◌, ℕ, ◌+◌, ◌==◌, Bool, true, false, List, [], ◌∷◌, ◌++◌, refl, sym, ap, subst, ◌∙◌, not, ◌&&◌, ◌||◌, length, arith, append_assoc, append-nil, Option, Some, None, map, take, drop}
-use Rattle.std.specs.Prelude.{IsTrue, IsCharBoundary}
+use Rattle.std.proofs.Common.{◌≡◌, ℕ, ◌+◌, ◌==◌, Bool, true, false, List, [], ◌∷◌, ◌++◌, refl, sym, ap, subst, ◌∙◌, ◌&&◌, ◌||◌, length, arith, append_assoc, append-nil, Option, Some, None, map, take, drop}
+use Rattle.std.specs.Prelude.{IsCharBoundary}
 use Rattle.std.proofs.lemmas.List.Folds.{list_any-append}
 use Rattle.std.proofs.Math.Seq.{drop-append_seam, take-append_seam}
 use Rattle.std.proofs.lemmas.List.{map-append}
 use Rattle.js_base.specs.Characters.{is_line_terminator}
-use Rattle.js_base.specs.declared.span.Span.{Span}
-use Rattle.js_base.specs.declared.diagnostic.Diagnostic.{Diagnostic}
 use Rattle.js_grammar.specs.Characters.{has_line_terminator, width}
 use Rattle.js_grammar.specs.Longest.{longest, none_begins, joined}
 use Rattle.js_grammar.specs.Trivia.{is_trivia_piece, are_trivia, is_html_comment, is_irregular}
@@ -18,7 +16,7 @@ use Rattle.js_lex.specs.declared.trivia.Piece.{Piece}
 use Rattle.js_lex.specs.declared.trivia.Trivia.{Trivia}
 use Rattle.js_lex.specs.declared.output.LexerOutput.{LexerOutput}
 use Rattle.js_lex.specs.Places.{Word}
-use Rattle.js_lex.specs.Kept.{Grows, Extends}
+use Rattle.js_lex.specs.Kept.{Grows}
 use Rattle.js_lex.specs.Comments.{comment_kind, comment_at, irregular_at, html_fault_at, each_at, span_at, attached}
 use Rattle.js_lex.specs.TriviaPassed.{IsPiece, IsPassed, told, comment_told, blank_told, fault_told}
 use Rattle.js_lex.proofs.Places.{then, none_passed, width-append}

@@ -1,5 +1,5 @@
 -- Words between places of a text, and the characters that bytes tell.
-use Rattle.std.proofs.Common.{◌≡◌, ◌≤◌, ◌<◌, ℕ, ◌+◌, List, [], ◌∷◌, ◌++◌, refl, sym, ap, subst, ◌∙◌, length, drop, arith, length-drop, Option, Some, None, ◌⊎◌, inl, inr, append_assoc, zero, suc, ◌&&◌, take, nat_lt, false, true}
+use Rattle.std.proofs.Common.{◌≡◌, ◌≤◌, ◌<◌, ℕ, ◌+◌, List, [], ◌∷◌, ◌++◌, refl, sym, ap, subst, ◌∙◌, length, drop, arith, length-drop, Option, Some, None, ◌⊎◌, inl, inr, append_assoc, zero, suc, take, nat_lt, false, true}
 use Rattle.std.specs.Prelude.{chars, encode_utf8, encode_utf8_all, IsUtf8, IsCharBoundary, slice_index, slice_get}
 use Rattle.std.specs.Char.{len_utf8}
 use Rattle.std.proofs.lemmas.Str.{IsUtf8-drop, IsCharBoundary-past_char, drop_past_char, chars_past_char, chars-nil, encode_ascii, len_utf8_ascii, encodes-chars, byte_from_char}

@@ -1,16 +1,16 @@
 -- Pieces of trivia, as long as possible.
-use Rattle.std.proofs.Common.{◌≡◌, ◌<◌, ℕ, ◌+◌, ◌≤◌, Option, ◌==◌, Bool, true, false, List, [], ◌∷◌, ◌++◌, refl, sym, ap, subst, ◌∙◌, not, ◌&&◌, ◌||◌, length, arith, nat_lt, append_assoc, Some, None, ◌⊎◌, inl, inr}
-use Rattle.std.specs.Prelude.{codes, IsTrue}
-use Rattle.std.specs.List.{list_all, list_any}
+use Rattle.std.proofs.Common.{◌≡◌, ◌<◌, ℕ, ◌+◌, ◌≤◌, Option, ◌==◌, Bool, true, false, List, [], ◌∷◌, ◌++◌, refl, sym, ap, subst, ◌∙◌, not, ◌&&◌, ◌||◌, length, arith, append_assoc, Some, None, ◌⊎◌, inl, inr}
+use Rattle.std.specs.Prelude.{codes}
+use Rattle.std.specs.List.{list_all}
 use Rattle.std.proofs.lemmas.List.Folds.{list_all-append, list_any-append}
-use Rattle.js_base.specs.Characters.{one_of, is_line_terminator}
-use Rattle.js_grammar.specs.Characters.{is_white_space, has_line_terminator, begins, width}
-use Rattle.js_grammar.specs.Longest.{longest, none_longer, none_begins, joined}
-use Rattle.js_grammar.specs.Trivia.{after, within_line, closes_comment, is_blank, is_single_line_comment, is_multi_line_comment, is_html_open, is_html_close, is_html_comment, is_trivia_piece, are_trivia, is_irregular}
+use Rattle.js_base.specs.Characters.{is_line_terminator}
+use Rattle.js_grammar.specs.Characters.{has_line_terminator, begins, width}
+use Rattle.js_grammar.specs.Longest.{longest, none_longer, none_begins}
+use Rattle.js_grammar.specs.Trivia.{after, within_line, closes_comment, is_blank, is_single_line_comment, is_multi_line_comment, is_html_open, is_html_close, is_html_comment, is_trivia_piece}
 use Rattle.js_grammar.specs.CoreTexts.{starts}
 use Rattle.js_grammar.specs.LexicalFaults.{behind}
 use Rattle.js_grammar.proofs.LongestLemmas.{both-left, both-right, both, not-true, none_longer-at}
-use Rattle.js_grammar.proofs.Finding.{neither, neither-left, neither-right}
+use Rattle.js_grammar.proofs.Finding.{neither}
 use Rattle.js_grammar.proofs.CoreLemmas.{none_longer-from}
 use Rattle.js_lex.specs.Places.{Word, Peeks}
 use Rattle.std.specs.Char.{len_utf8}

@@ -1,5 +1,5 @@
 -- The trivia that a lexer passes, and what is kept of it.
-use Rattle.std.specs.Prelude.{ℕ, ◌+◌, ◌≡◌, ◌==◌, Bool, true, false, not, ◌&&◌, List, [], ◌∷◌, ◌++◌, Option, Some, None, IsTrue}
+use Rattle.std.specs.Prelude.{ℕ, ◌+◌, ◌≡◌, ◌==◌, Bool, true, false, not, List, [], ◌∷◌, ◌++◌, Option, Some, None, IsTrue}
 use Rattle.std.specs.Char.{len_utf8}
 use Rattle.js_base.specs.Characters.{is_line_terminator}
 use Rattle.js_base.specs.declared.span.Span.{Span}

@@ -1,13 +1,13 @@
 //! The hashbang comment (ECMA-262, section 12.5).
 
-ghost use Rattle.std.specs.Prelude.{IsCharBoundary, MatchOption};
+ghost use Rattle.std.specs.Prelude.{MatchOption};
 ghost use Rattle.js_grammar.specs.Lexemes.{hashbang};
 ghost use Rattle.js_lex.specs.Scans.{IsScanned, NoLexeme};
-ghost use Rattle.js_lex.specs.Hashbangs.{LineEnd, OpeningEnds};
+ghost use Rattle.js_lex.specs.Hashbangs.{OpeningEnds};
 
 use crate::character::next_character;
-use crate::class::is_line_terminator;
 use crate::scan::Scanned;
+use crate::trivia::line_end;
 use js_base::Kind;
 
 /// The hashbang comment at a byte offset, up to the end of the line; none where the offset is not the text's start or
@@ -46,19 +46,4 @@ fn opening_end(text: &str) -> Option<usize>
         return None;
     }
     Some(second.end)
-}
-
-/// The end of the line at a byte offset.
-fn line_end(text: &str, at: usize) -> usize
-    requires { IsCharBoundary text.now at }
-    ensures { LineEnd text.now at result }
-{
-    let mut end = at;
-    'line: while let Some(next) = next_character(text, end) {
-        if is_line_terminator(next.value) {
-            return end;
-        }
-        end = next.end;
-    }
-    end
 }

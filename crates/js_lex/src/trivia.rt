@@ -265,8 +265,7 @@ fn html_close_at(text: &str, at: usize, is_first: bool) -> Option<Piece>
 
 /// The place of the first line terminator from a place on, or the end of the text.
 pub(crate) fn line_end(text: &str, at: usize) -> usize
-    requires boundary { IsCharBoundary text.now at }
-    requires short { length text.now ≤ MAX_LEN }
+    requires { IsCharBoundary text.now at }
     ensures { IsLineEnd text.now at result }
 {
     let mut end = at;
@@ -282,8 +281,7 @@ pub(crate) fn line_end(text: &str, at: usize) -> usize
 /// The end of a block comment from behind its opening on, and whether a line terminator stands before it; none where
 /// nothing closes it.
 fn block_comment_end(text: &str, at: usize) -> Option<Trivia>
-    requires boundary { IsCharBoundary text.now at }
-    requires short { length text.now ≤ MAX_LEN }
+    requires { IsCharBoundary text.now at }
     ensures { BlockEnd text.now at result }
 {
     let mut end = at;
