@@ -2,7 +2,7 @@
 use Rattle.std.proofs.Common.{◌≡◌, ◌<◌, ◌≤◌, ℕ, ◌+◌, ◌==◌, Bool, true, false, List, [], ◌∷◌, ◌++◌, refl, sym, ap, subst, ◌∙◌, not, ◌&&◌, ◌||◌, length, arith, append_assoc, append-nil, Option, Some, None}
 use Rattle.std.specs.Prelude.{IsTrue, IsCharBoundary, IsUtf8, Result, Ok, Err}
 use Rattle.js_base.specs.declared.kind.Kind.{Kind}
-use Rattle.js_base.specs.declared.kind.Kind.TheVariants.{RAngle, Undetermined}
+use Rattle.js_base.specs.declared.kind.Kind.TheVariants.{RAngle, Eof, Undetermined}
 use Rattle.js_base.specs.declared.token.Token.{Token}
 use Rattle.js_base.specs.declared.diagnostic.Diagnostic.{Diagnostic}
 use Rattle.js_base.specs.declared.diagnostic.DiagnosticKind.{DiagnosticKind}
@@ -29,6 +29,7 @@ use Rattle.js_lex.specs.Scans.{IsScanned, IsStopped, NoLexeme, Scans}
 use Rattle.js_lex.specs.TriviaPassed.{IsPassed}
 use Rattle.js_lex.specs.States.{State, goal_of}
 use Rattle.js_lex.specs.Reading.{is_right_angle, cut, Tells, LexemeBehind, GivesLexeme, GivesNone, Outcome, GivesNext, in_a_module, kept_token}
+use Rattle.js_lex.proofs.KindsOfLexemes.{determined, plain_end, greater_word}
 use Rattle.js_lex.specs.Settling.{shown, shown_scan, token_of, undetermined_of, diagnostic_of, Fits, Settled}
 
 -- behind trivia no further piece begins
@@ -71,3 +72,57 @@ faulty_behind {text = text} {s = s} {i = i} ps source f l p t h = record {
   ends_between = h.ends_between;
   condition = stopping_behind f.kind source text s i f.start f.end (record { pieces = ps; stands = stands_behind [] (behind text i) l p t refl; place = p.end }) h.condition;
 }
+
+-- ---- the token
+
+same-right : (a b c : Bool) → a ≡ b → a ≡ c → b ≡ c
+same-right a b c e f = sym e ∙ f
+
+-- the token of a scanned lexeme, of which at a `>` this sign is shown, tells the lexeme
+pub shown_tells : (start : ℕ) (sc : Scanned) (newline : Bool) (w : List ℕ) → sc.escaped ≡ is_escaped sc.kind w → Tells (cut (lexeme_of sc start newline w)) (token_of (shown start sc) start newline)
+shown_tells start sc newline w e = go (is_right_angle sc.kind) refl
+  where
+    go : (b : Bool) → is_right_angle sc.kind ≡ b → Tells (cut (lexeme_of sc start newline w)) (token_of (shown start sc) start newline)
+    go true q =
+        let a : cut (lexeme_of sc start newline w) ≡ record { kind = RAngle; from = start; to = start + 1; newline = newline; escaped = is_escaped sc.kind w; units = units_of sc.kind w } = ap (λ (b : Bool). elim b as (λ b. Lexeme) [ true ↦ record { kind = RAngle; from = start; to = start + 1; newline = newline; escaped = is_escaped sc.kind w; units = units_of sc.kind w } | false ↦ lexeme_of sc start newline w ]) q in
+        let b : shown start sc ≡ record { kind = RAngle; end = start + 1; escaped = sc.escaped; has_separator = sc.has_separator } = ap (λ (b : Bool). elim b as (λ b. Scanned) [ true ↦ record { kind = RAngle; end = start + 1; escaped = sc.escaped; has_separator = sc.has_separator } | false ↦ sc ]) q in
+        subst (λ (y : Lexeme). Tells y (token_of (shown start sc) start newline)) (sym a) (subst (λ (z : Scanned). Tells (record { kind = RAngle; from = start; to = start + 1; newline = newline; escaped = is_escaped sc.kind w; units = units_of sc.kind w }) (token_of z start newline)) (sym b) (record { kind = refl; start = refl; end = refl; newline = refl; escaped = e }))
+    go false q =
+        let a : cut (lexeme_of sc start newline w) ≡ lexeme_of sc start newline w = ap (λ (b : Bool). elim b as (λ b. Lexeme) [ true ↦ record { kind = RAngle; from = start; to = start + 1; newline = newline; escaped = is_escaped sc.kind w; units = units_of sc.kind w } | false ↦ lexeme_of sc start newline w ]) q in
+        let b : shown start sc ≡ sc = ap (λ (b : Bool). elim b as (λ b. Scanned) [ true ↦ record { kind = RAngle; end = start + 1; escaped = sc.escaped; has_separator = sc.has_separator } | false ↦ sc ]) q in
+        subst (λ (y : Lexeme). Tells y (token_of (shown start sc) start newline)) (sym a) (subst (λ (z : Scanned). Tells (lexeme_of sc start newline w) (token_of z start newline)) (sym b) (record { kind = refl; start = refl; end = refl; newline = refl; escaped = e }))
+
+-- and no fault's kind
+pub shown_determined : {goal : LexicalGoal} {text : List ℕ} (start : ℕ) (sc : Scanned) → IsScanned goal text start sc → same_kind Undetermined (shown start sc).kind ≡ false
+shown_determined {goal = goal} {text = text} start sc h = go (is_right_angle sc.kind) refl
+  where
+    go : (b : Bool) → is_right_angle sc.kind ≡ b → same_kind Undetermined (shown start sc).kind ≡ false
+    go true q = rw q refl
+    go false q = rw q (determined goal h.word (behind text sc.end) sc.kind h.lexeme.kind)
+
+pub shown_separated : (start : ℕ) (sc : Scanned) → (shown start sc).has_separator ≡ sc.has_separator
+shown_separated start sc = go (is_right_angle sc.kind) refl
+  where
+    go : (b : Bool) → is_right_angle sc.kind ≡ b → (shown start sc).has_separator ≡ sc.has_separator
+    go true q = rw q refl
+    go false q = rw q refl
+
+-- ---- where the token ends
+
+pub word_ordered : {text : List ℕ} {i j : ℕ} {w : List ℕ} → Word text i j w → i ≤ j
+word_ordered h = let e = h.end in omega arith
+
+-- the place behind an ASCII character is between characters
+pub behind_ascii : (text : List ℕ) (i j c : ℕ) (cs : List ℕ) → IsUtf8 text → IsCharBoundary text i → c < 128 → Word text i j (c ∷ cs) → IsCharBoundary text (i + 1)
+behind_ascii text i j c cs u b h w = ?
+
+pub shown_end : (text : List ℕ) (i : ℕ) (sc : Scanned) → IsUtf8 text → IsCharBoundary text i → IsScanned division text i sc → (i ≤ (shown i sc).end) × IsCharBoundary text (shown i sc).end
+shown_end text i sc u b h = go (is_right_angle sc.kind) refl
+  where
+    angle : (w : List ℕ) → Word text i sc.end w → kind_in division w (behind text sc.end) ≡ Some sc.kind → is_right_angle sc.kind ≡ true → IsCharBoundary text (i + 1)
+    angle [] w k q = absurd (let z = plain_end (behind text sc.end) sc.kind k in let y : is_right_angle Eof ≡ true = subst (λ (x : Kind). is_right_angle x ≡ true) z.0 q in cc)
+    angle (c ∷ cs) w k q = let e = greater_word c cs (behind text sc.end) sc.kind k q in behind_ascii text i sc.end c cs u b (omega arith) w
+
+    go : (b : Bool) → is_right_angle sc.kind ≡ b → (i ≤ (shown i sc).end) × IsCharBoundary text (shown i sc).end
+    go true q = rw q (omega arith, angle h.word h.stands h.lexeme.kind q)
+    go false q = rw q (word_ordered h.stands, h.stands.boundary)
