@@ -1,3 +1,14 @@
 pub mod Places
+pub mod Comments
+pub mod Kept
+pub mod TriviaPassed
 pub mod Scans
+pub mod States
+pub mod Reading
+pub mod Settling
+pub mod Names
+pub mod NextCharacters
+pub mod TemplateParts
+pub mod RegularExpressionParts
+pub mod Hashbangs
 pub mod Strings

@@ -1,7 +1,26 @@
 //! The lexer (ECMA-262, chapter 12): one token at a time, by the lexical goal that the parser asks for.
 #![tactic(auto)]
 
+mod character;
+mod checkpoint;
 mod class;
+mod comment;
+mod config;
+mod hashbang;
+mod name;
+mod output;
 mod place;
+mod plain_goal;
+mod reading;
+mod regular_expression;
 mod scan;
 mod string;
+mod template;
+mod trivia;
+
+pub use comment::{Comment, CommentKind, Comments};
+pub use config::{
+    LexerConfig, NoTokensLexerConfig, NoTokensParserConfig, ParserConfig, RuntimeLexerConfig,
+    RuntimeParserConfig, TokensLexerConfig, TokensParserConfig,
+};
+pub use output::LexerOutput;

@@ -1,7 +1,10 @@
 //! Bytes and characters at a place of a text.
 
-ghost use Rattle.std.specs.Prelude.{◌≡◌, IsCharBoundary};
-ghost use Rattle.js_lex.specs.Places.{PeeksAt, ReadsAt};
+ghost use Rattle.std.specs.Prelude.{◌≡◌, ◌+◌, ℕ, length, nat_lt, IsTrue, IsCharBoundary};
+ghost use Rattle.std.specs.List.{list_all};
+ghost use Rattle.js_grammar.specs.CoreTexts.{starts};
+ghost use Rattle.js_grammar.specs.LexicalFaults.{behind};
+ghost use Rattle.js_lex.specs.Places.{Word, PeeksAt, ReadsAt};
 
 /// The byte at a place, or none at the end of the text.
 #[inline]
@@ -23,4 +26,21 @@ pub(crate) fn char_at(text: &str, at: usize) -> Option<char>
     ensures { ReadsAt text.now at result }
 {
     text[at..].chars().next()
+}
+
+/// Whether the text goes on at a place with some ASCII characters.
+pub(crate) fn goes_on(text: &str, at: usize, characters: &[u8]) -> bool
+    requires boundary { IsCharBoundary text.now at }
+    requires ascii { IsTrue (list_all (λ c. nat_lt c 128) characters.now) }
+    ensures is { result ≡ starts characters.now (behind text.now at) }
+    ensures word { IsTrue result → Word text.now at (at + length characters.now) characters.now }
+{
+    let mut end = at;
+    for character in characters {
+        match byte_at(text, end) {
+            Some(byte) if byte == *character => end += 1,
+            _ => return false,
+        }
+    }
+    true
 }

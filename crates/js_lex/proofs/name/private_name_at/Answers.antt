@@ -1,0 +1,11 @@
+use Rattle.js_lex.proofs.NameScans.{mark-here, private-scanned}
+use Rattle.js_lex.proofs.name.private_name_at.Goals as goal
+
+pub longest_name-requires : goal.longest_name-requires
+longest_name-requires c = (mark-here c.args.text.now c.args.at c.utf8.text c.requires.boundary c.requires.first).boundary
+
+pub fault_behind_mark-requires-clause-mark : goal.fault_behind_mark-requires-clause-mark
+fault_behind_mark-requires-clause-mark c = mark-here c.args.text.now c.args.at c.utf8.text c.requires.boundary c.requires.first
+
+pub returns-in-Ok : goal.returns-in-Ok
+returns-in-Ok c = private-scanned (mark-here c.args.text.now c.args.at c.utf8.text c.requires.boundary c.requires.first) c.in-Ok.ensures

@@ -1,0 +1,17 @@
+use Rattle.std.proofs.Common.{arith}
+use Rattle.js_lex.proofs.TriviaLemmas.{blank_there, ascii_there, high_there}
+use Rattle.js_lex.proofs.trivia.piece_at.Goals as goal
+
+pub returns-in-Some-eq47 : goal.returns-in-Some-eq47
+returns-in-Some-eq47 c = c.comment_at.ensures c.args.is_first
+
+pub returns-in-Some-eq60 : goal.returns-in-Some-eq60
+returns-in-Some-eq60 c = c.html_open_at.ensures c.args.is_first
+
+pub returns-in-Some : goal.returns-in-Some
+returns-in-Some c = let t = c.in-Some.byte-test in blank_there _ c.blank.result c.args.is_first (ascii_there _ (c.in-Some.ensures.ascii c.if-byte-lt128.true) c.if-byte-lt128.true) t.0.0.1 t.0.1 t.1 c.blank.ensures
+
+pub returns-in-Some-char_at : goal.returns-in-Some-char_at
+returns-in-Some-char_at c =
+    let h = high_there _ c.in-Some.ensures c.if-byte-lt128.false c.in-Some-char_at.ensures in
+    blank_there _ c.blank-in-Some-char_at.result c.args.is_first c.in-Some-char_at.ensures (λ e. omega arith) (λ e. omega arith) (λ e. omega arith) c.blank-in-Some-char_at.ensures

@@ -1,0 +1,28 @@
+-- The lists that a lexer keeps, and how they grow.
+use Rattle.std.specs.Prelude.{◌≡◌, List, [], ◌++◌}
+use Rattle.js_base.specs.declared.span.Span.{Span}
+use Rattle.js_base.specs.declared.token.Token.{Token}
+use Rattle.js_base.specs.declared.diagnostic.Diagnostic.{Diagnostic}
+use Rattle.js_lex.specs.declared.comment.Comment.{Comment}
+use Rattle.js_lex.specs.declared.output.LexerOutput.{LexerOutput}
+
+pub record IsEmpty (o : LexerOutput) : Type 0 where
+  pub comments : o.comments ≡ []
+  pub irregular_whitespaces : o.irregular_whitespaces ≡ []
+  pub tokens : o.tokens ≡ []
+  pub errors : o.errors ≡ []
+
+-- behind what was kept before stand these comments, this white space, these tokens and these faults
+pub record Grows (old new : LexerOutput) (comments : List Comment) (blanks : List Span) (tokens : List Token) (faults : List Diagnostic) : Type 0 where
+  pub comments_grow : new.comments ≡ old.comments ++ comments
+  pub blanks_grow : new.irregular_whitespaces ≡ old.irregular_whitespaces ++ blanks
+  pub tokens_grow : new.tokens ≡ old.tokens ++ tokens
+  pub faults_grow : new.errors ≡ old.errors ++ faults
+
+-- what was kept before is still there
+pub record Extends (old new : LexerOutput) : Type 0 where
+  pub comments : List Comment
+  pub blanks : List Span
+  pub tokens : List Token
+  pub faults : List Diagnostic
+  pub grows : Grows old new comments blanks tokens faults

@@ -1,0 +1,95 @@
+-- What a call of a lexer that reads answers, and what it keeps (ECMA-262, chapter 12).
+use Rattle.std.specs.Prelude.{ℕ, ◌+◌, ◌-◌, ◌≡◌, Bool, true, false, not, ◌&&◌, ◌||◌, List, [], ◌∷◌, ◌++◌, length, take, codes, Option, Some, None, IsTrue}
+use Rattle.js_base.specs.declared.kind.Kind.{Kind}
+use Rattle.js_base.specs.declared.kind.Kind.TheVariants.{RAngle, GtEq, ShiftRight, ShiftRightEq, ShiftRight3, ShiftRight3Eq, HashbangComment, Eof, Undetermined}
+use Rattle.js_base.specs.declared.token.Token.{Token}
+use Rattle.js_base.specs.declared.diagnostic.Diagnostic.{Diagnostic}
+use Rattle.js_base.specs.declared.diagnostic.DiagnosticKind.TheVariants.{RegExpFlag}
+use Rattle.js_base.specs.Kinds.{same_kind, one_of_kinds}
+use Rattle.js_base.specs.Characters.{one_of}
+use Rattle.js_grammar.specs.Grammar.{Lexeme}
+use Rattle.js_grammar.specs.Settings.{Goal}
+use Rattle.js_grammar.specs.Characters.{width, has_line_terminator}
+use Rattle.js_grammar.specs.Longest.{joined}
+use Rattle.js_grammar.specs.Lexemes.{LexicalGoal, division, is_separated}
+use Rattle.js_grammar.specs.Lexed.{Stands, Lex, Passing, in_module, all_faults, passing_of}
+use Rattle.js_grammar.specs.LexicalFaults.{behind, FaultyBehind}
+use Rattle.js_lex.specs.Comments.{comment_at, irregular_at, html_fault_at, each_at}
+use Rattle.js_lex.specs.Kept.{Grows}
+use Rattle.js_lex.specs.States.{State, SameText}
+
+-- ---- a token and the lexeme that it tells
+
+-- a punctuator that begins with `>`
+abbrev pub is_right_angle : Kind → Bool
+is_right_angle = one_of_kinds (RAngle ∷ GtEq ∷ ShiftRight ∷ ShiftRightEq ∷ ShiftRight3 ∷ ShiftRight3Eq ∷ [])
+
+-- Of a punctuator that begins with `>` the plain goal gives this sign alone.
+abbrev pub cut : Lexeme → Lexeme
+cut y = elim (is_right_angle y.kind) [ true ↦ record { kind = RAngle; from = y.from; to = y.from + 1; newline = y.newline; escaped = y.escaped; units = y.units } | false ↦ y ]
+
+-- the token tells kind, span and marks of a lexeme
+pub record Tells (y : Lexeme) (t : Token) : Type 0 where
+  pub kind : t.kind ≡ y.kind
+  pub start : t.span.start ≡ y.from
+  pub end : t.span.end ≡ y.to
+  pub newline : t.is_on_new_line ≡ y.newline
+  pub escaped : t.escaped ≡ y.escaped
+
+-- behind the place s stands the lexeme y of a lexical goal
+pub record LexemeBehind (goal : LexicalGoal) (text : List ℕ) (s : ℕ) (y : Lexeme) : Type 0 where
+  pub lex : Lex all_faults text s y
+  pub of_goal : lex.goal ≡ goal
+
+-- behind the place s stands a lexeme of the goal, which the token tells, with its mark "has a separator"
+pub record GivesLexeme (goal : LexicalGoal) (shown : Lexeme → Lexeme) (text : List ℕ) (s : ℕ) (t : Token) : Type 0 where
+  pub lexeme : Lexeme
+  pub stands : LexemeBehind goal text s lexeme
+  pub tells : Tells (shown lexeme) t
+  pub separated : t.has_separator ≡ is_separated lexeme.kind stands.lex.word
+
+-- None does, and the fault has behind s what its kind says at its span. The token ends where it does.
+pub record GivesNone (goal : LexicalGoal) (source : Goal) (text : List ℕ) (s : ℕ) (t : Token) (d : Diagnostic) : Type 0 where
+  pub none : (y : Lexeme) → LexemeBehind goal text s y → ⊥
+  pub faulty : FaultyBehind d.kind source text s d.span.start d.span.end
+  pub end : t.span.end ≡ d.span.end
+  pub no_first : d.first ≡ None
+  pub no_second : d.second ≡ None
+
+-- Which of the two holds is told by the kind; these faults are kept, where `going_on` are those of the lexeme itself.
+abbrev pub Outcome : LexicalGoal → (Lexeme → Lexeme) → Goal → List ℕ → ℕ → Token → List Diagnostic → List Diagnostic → Type 0
+Outcome goal shown source text s t going_on faults = elim (same_kind Undetermined t.kind) [ true ↦ (d : Diagnostic) × (faults ≡ d ∷ []) × GivesNone goal source text s t d | false ↦ (faults ≡ going_on) × GivesLexeme goal shown text s t ]
+
+-- ---- what is kept
+
+abbrev pub in_a_module : Goal → Bool
+in_a_module g = elim (passing_of g) [ in_module ↦ true | _ ↦ false ]
+
+-- a hashbang, the end of the text and what is no lexeme aren't kept
+abbrev pub is_kept : Kind → Bool
+is_kept k = not (one_of_kinds (HashbangComment ∷ Eof ∷ Undetermined ∷ []) k)
+
+abbrev pub kept_token : Bool → Token → List Token
+kept_token keeps t = elim (keeps && is_kept t.kind) [ true ↦ t ∷ [] | false ↦ [] ]
+
+-- the last one is put in place of the one kept last; where none is kept, none is added
+abbrev pub replaced : List Token → Token → List Token
+replaced [] t = []
+replaced (u ∷ us) t = take (length us) (u ∷ us) ++ t ∷ []
+
+abbrev pub relexed : Bool → List Token → Token → List Token
+relexed keeps ts t = elim (keeps && is_kept t.kind) [ true ↦ replaced ts t | false ↦ ts ]
+
+-- ---- the calls
+
+-- The next token: trivia is passed, as much as stands there, and the lexeme of the goal behind it is given, or none.
+pub record GivesNext (goal : LexicalGoal) (old new : State) (t : Token) : Type 0 where
+  pub same : SameText old new
+  pub pieces : List (List ℕ)
+  pub stands : Stands old.text old.place pieces [] (behind old.text t.span.start)
+  pub start : t.span.start ≡ old.place + width (joined pieces)
+  pub newline : t.is_on_new_line ≡ has_line_terminator (joined pieces)
+  pub place : new.place ≡ t.span.end
+  pub faults : List Diagnostic
+  pub outcome : Outcome goal cut old.goal old.text old.place t [] faults
+  pub grows : Grows old.kept new.kept (each_at (comment_at t.span.start) old.place pieces) (each_at irregular_at old.place pieces) (kept_token old.keeps_tokens t) (each_at (html_fault_at (in_a_module old.goal)) old.place pieces ++ faults)

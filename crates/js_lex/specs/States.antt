@@ -1,0 +1,23 @@
+-- What contracts see of a lexer: the text that it reads and how, the place that it has reached, and what it has kept.
+use Rattle.std.specs.Prelude.{ℕ, ◌≡◌, Bool, List}
+use Rattle.js_base.specs.declared.source_type.SourceType.{SourceType}
+use Rattle.js_base.specs.declared.source_type.Goal.TheVariants as source
+use Rattle.js_grammar.specs.Settings.{Goal, script, module_goal, commonjs, unambiguous}
+use Rattle.js_lex.specs.declared.output.LexerOutput.{LexerOutput}
+
+pub record State : Type 0 where
+  pub text : List ℕ
+  pub goal : Goal
+  pub keeps_tokens : Bool
+  pub place : ℕ
+  pub kept : LexerOutput
+
+-- the goal by which a text of a source type is read
+abbrev pub goal_of : SourceType → Goal
+goal_of s = elim s.goal [ source.Script ↦ script | source.Module ↦ module_goal | source.CommonJs ↦ commonjs | source.Unambiguous ↦ unambiguous ]
+
+-- the text, the goal and the config are as before
+pub record SameText (old new : State) : Type 0 where
+  pub text : new.text ≡ old.text
+  pub goal : new.goal ≡ old.goal
+  pub keeps_tokens : new.keeps_tokens ≡ old.keeps_tokens

@@ -1,0 +1,49 @@
+//! One character of a text, where a byte of ASCII costs no decoding.
+
+ghost use Rattle.std.specs.Prelude.{◌≡◌, IsCharBoundary};
+ghost use Rattle.js_lex.specs.Places.{Peeks};
+ghost use Rattle.js_lex.specs.NextCharacters.{NextAt, IsNext};
+
+use crate::place::{byte_at, char_at};
+
+/// A character of a text.
+#[derive(Debug, Clone, Copy)]
+pub(crate) struct Character {
+    pub value: char,
+    /// The place behind it.
+    pub end: usize,
+}
+
+/// The character at a place, or none at the end of the text.
+#[inline]
+pub(crate) fn next_character(text: &str, at: usize) -> Option<Character>
+    requires { IsCharBoundary text.now at }
+    ensures { NextAt text.now at result }
+{
+    match byte_at(text, at) {
+        None => None,
+        Some(byte) => Some(character_of(text, at, byte)),
+    }
+}
+
+/// The character at a place that a byte begins.
+#[inline]
+fn character_of(text: &str, at: usize, byte: u8) -> Character
+    requires boundary { IsCharBoundary text.now at }
+    requires byte { Peeks text.now at byte }
+    ensures { IsNext text.now at result }
+{
+    if byte < 128 {
+        return Character {
+            value: char::from(byte),
+            end: at + 1,
+        };
+    }
+    match char_at(text, at) {
+        Some(value) => Character {
+            value,
+            end: at + value.len_utf8(),
+        },
+        None => unreachable!(),
+    }
+}

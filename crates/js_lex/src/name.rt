@@ -1,0 +1,518 @@
+//! Names and private names (ECMA-262, section 12.7).
+
+ghost use Rattle.std.specs.Prelude.{◌≡◌, ◌<◌, ◌≤◌, ℕ, ◌+◌, ◌||◌, ◌==◌, List, [], ◌∷◌, ◌++◌, true, false, length, MatchResult, IsCharBoundary, IsTrue};
+ghost use Rattle.js_base.specs.Escapes.{in_name, unicode, step as escape_step};
+ghost use Rattle.js_base.specs.Keywords.{keyword_of};
+ghost use Rattle.js_grammar.specs.Characters.{begins, is_identifier_start, is_identifier_part};
+ghost use Rattle.js_grammar.specs.LexicalFaults.{behind};
+ghost use Rattle.js_grammar.specs.Lexemes.{division};
+ghost use Rattle.js_lex.specs.Names as names;
+ghost use Rattle.js_lex.specs.Places.{Word, High};
+ghost use Rattle.js_lex.specs.Scans.{Scans, IsStopped};
+ghost use Rattle.js_lex.specs.declared.name.State.TheVariants.{Due, Braced};
+
+use crate::class;
+use crate::place::{byte_at, char_at};
+use crate::scan::{Fault, Scan, Scanned};
+use js_base::{DiagnosticKind, Kind, keyword_kind};
+
+/// Where a code point stands in a name.
+#[derive(Debug, Clone, Copy)]
+enum Position {
+    /// At its beginning: IdentifierStart.
+    Start,
+    /// Behind that: IdentifierPart.
+    Part,
+}
+
+/// What stands before a character of an escape sequence.
+#[derive(Debug, Clone, Copy)]
+enum State {
+    /// A backslash.
+    Backslash,
+    /// A backslash and `u`.
+    Unicode,
+    /// `\u` and digits: how many more are due, and the value of those before.
+    Due(u32, u32),
+    /// `\u{`, whether a digit stands behind it, and the value of the digits.
+    Braced(bool, u32),
+}
+
+/// What a character of an escape sequence does.
+#[derive(Debug, Clone, Copy)]
+enum Progress {
+    /// The escape sequence goes on.
+    Goes(State),
+    /// It ends, and names a code point.
+    Names(u32),
+    /// No escape sequence goes on so.
+    Fails,
+}
+
+/// An escape sequence: the code point that it names, and the place behind it.
+#[derive(Debug, Clone, Copy)]
+struct Escape {
+    code_point: u32,
+    end: usize,
+}
+
+/// A character or an escape sequence of a name: its code point, the place behind it, and whether it is escaped.
+#[derive(Debug, Clone, Copy)]
+struct Piece {
+    code_point: u32,
+    end: usize,
+    escaped: bool,
+}
+
+/// The first code points of a name, of which as many are kept as the longest word of the keyword table has.
+#[derive(Debug, Clone, Copy)]
+struct Letters {
+    letters: [u8; 11],
+    len: usize,
+    /// Whether the name is no word of the table, whatever else follows.
+    is_other: bool,
+}
+
+/// No code points.
+const NO_LETTERS: Letters = Letters {
+    letters: [0; 11],
+    len: 0,
+    is_other: false,
+};
+
+/// A name that stands at a place: the kind of its word, the place behind it, and whether an escape sequence is in it.
+#[derive(Debug, Clone, Copy)]
+struct Name {
+    kind: Kind,
+    end: usize,
+    escaped: bool,
+}
+
+/// The name at a place (ECMA-262, section 12.7), with the kind of the word that it stands for.
+pub(crate) fn name_at(text: &str, at: usize) -> Scan
+    requires boundary { IsCharBoundary text.now at }
+    requires first { begins (λ c. is_identifier_start c || (c == 92)) (behind text.now at) ≡ true }
+    ensures { Scans division text.now at result }
+{
+    match longest_name(text, at) {
+        Ok(name) => Ok(Scanned {
+            kind: name.kind,
+            end: name.end,
+            escaped: name.escaped,
+            has_separator: false,
+        }),
+        Err(end) => Err(Fault {
+            kind: DiagnosticKind::InvalidEscape,
+            start: at,
+            end,
+        }),
+    }
+}
+
+/// The private name at a place (ECMA-262, section 12.7): `#` and a name.
+pub(crate) fn private_name_at(text: &str, at: usize) -> Scan
+    requires boundary { IsCharBoundary text.now at }
+    requires first { begins (λ c. c == 35) (behind text.now at) ≡ true }
+    ensures { Scans division text.now at result }
+{
+    let behind = at + 1;
+    match longest_name(text, behind) {
+        Ok(name) => Ok(Scanned {
+            kind: Kind::PrivateIdentifier,
+            end: name.end,
+            escaped: name.escaped,
+            has_separator: false,
+        }),
+        Err(end) => Err(fault_behind_mark(text, at, behind, end)),
+    }
+}
+
+/// What stands at a `#` with no name behind it: an escape sequence that is none of a name, or the `#` alone.
+fn fault_behind_mark(text: &str, at: usize, behind: usize, end: usize) -> Fault
+    requires boundary { IsCharBoundary text.now at }
+    requires mark { Word text.now at behind (35 ∷ []) }
+    requires none { names.NoPiece is_identifier_start text.now behind end }
+    ensures { IsStopped division text.now at result }
+{
+    if is_backslash_at(text, behind) {
+        Fault {
+            kind: DiagnosticKind::InvalidEscape,
+            start: behind,
+            end,
+        }
+    } else {
+        Fault {
+            kind: DiagnosticKind::InvalidCharacter,
+            start: at,
+            end: behind,
+        }
+    }
+}
+
+/// Whether a backslash stands at a place.
+fn is_backslash_at(text: &str, at: usize) -> bool
+    requires { IsCharBoundary text.now at }
+    ensures { result ≡ begins (λ c. c == 92) (behind text.now at) }
+{
+    match byte_at(text, at) {
+        Some(byte) => byte == b'\\',
+        None => false,
+    }
+}
+
+/// The longest name at a place; where none stands, the place behind what may be the beginning of an escape sequence.
+fn longest_name(text: &str, at: usize) -> Result<Name, usize>
+    requires { IsCharBoundary text.now at }
+    ensures { MatchResult result (λ n. names.IsName text.now at n) (λ end. names.NoPiece is_identifier_start text.now at end) }
+{
+    match piece_at(text, at, Position::Start) {
+        Ok(first) => Ok(name_from(text, at, first)),
+        Err(end) => Err(end),
+    }
+}
+
+/// The longest name whose first code point is known.
+fn name_from(text: &str, at: usize, first: Piece) -> Name
+    requires boundary { IsCharBoundary text.now at }
+    requires first { names.IsPiece is_identifier_start text.now at first }
+    ensures { names.IsName text.now at result }
+{
+    if first.code_point < 128 && !first.escaped {
+        let end = ascii_parts_end(text, first.end);
+        if is_at_end(text, end) {
+            return ascii_name(text, at, end);
+        }
+    }
+    name_by_pieces(text, at, first)
+}
+
+/// A name of ASCII characters, none of them escaped, of which the end is known.
+fn ascii_name(text: &str, at: usize, end: usize) -> Name
+    requires boundary { IsCharBoundary text.now at }
+    requires name { names.AsciiName text.now at end }
+    requires ends { names.Refuses is_identifier_part (behind text.now end) }
+    ensures { names.IsName text.now at result }
+{
+    Name {
+        kind: kind_of_word(&text.as_bytes()[at..end]),
+        end,
+        escaped: false,
+    }
+}
+
+/// Whether a name ends at a place behind its ASCII characters.
+fn is_at_end(text: &str, at: usize) -> bool
+    requires boundary { IsCharBoundary text.now at }
+    requires stops { begins names.is_ascii_part (behind text.now at) ≡ false }
+    ensures { IsTrue result → names.Refuses is_identifier_part (behind text.now at) }
+{
+    match byte_at(text, at) {
+        Some(byte) => {
+            if byte < 128 && byte != b'\\' {
+                return true;
+            }
+        }
+        None => return true,
+    }
+    match piece_at(text, at, Position::Part) {
+        Ok(_) => false,
+        Err(_) => true,
+    }
+}
+
+/// The place behind the ASCII characters of a name from a place on.
+fn ascii_parts_end(text: &str, at: usize) -> usize
+    requires { IsCharBoundary text.now at }
+    ensures { names.AsciiParts text.now at result }
+{
+    let mut end = at;
+    'parts: loop {
+        match byte_at(text, end) {
+            Some(byte) => {
+                if !is_ascii_part(byte) {
+                    return end;
+                }
+                end += 1;
+            }
+            None => return end,
+        }
+    }
+}
+
+/// Whether a byte is an ASCII character of a name.
+fn is_ascii_part(byte: u8) -> bool
+    ensures { result ≡ names.is_ascii_part byte }
+{
+    byte.is_ascii_alphanumeric() || byte == b'_' || byte == b'$'
+}
+
+/// The longest name whose first code point is known, each character of it taken for what it stands for.
+fn name_by_pieces(text: &str, at: usize, first: Piece) -> Name
+    requires { names.IsPiece is_identifier_start text.now at first }
+    ensures { names.IsName text.now at result }
+{
+    let mut letters = with_letter(NO_LETTERS, first.code_point);
+    let mut end = first.end;
+    let mut escaped = first.escaped;
+    'pieces: loop {
+        match piece_at(text, end, Position::Part) {
+            Ok(piece) => {
+                letters = with_letter(letters, piece.code_point);
+                end = piece.end;
+                escaped = escaped || piece.escaped;
+            }
+            Err(_) => {
+                return Name {
+                    kind: kind_of_letters(letters),
+                    end,
+                    escaped,
+                };
+            }
+        }
+    }
+}
+
+/// Letters and one code point more.
+fn with_letter(before: Letters, code_point: u32) -> Letters
+    requires { before.len ≤ 11 }
+    ensures { (ps : List ℕ) → names.Holds before ps → names.Holds result (ps ++ code_point ∷ []) }
+{
+    if before.is_other || code_point >= 128 || before.len == before.letters.len() {
+        return Letters {
+            is_other: true,
+            ..before
+        };
+    }
+    let mut letters = before.letters;
+    letters[before.len] = code_point as u8;
+    Letters {
+        letters,
+        len: before.len + 1,
+        is_other: false,
+    }
+}
+
+/// The kind of the word that the letters are.
+fn kind_of_letters(letters: Letters) -> Kind
+    requires { letters.len ≤ 11 }
+    ensures { (ps : List ℕ) → names.Holds letters ps → result ≡ keyword_of ps }
+{
+    if letters.is_other {
+        Kind::Ident
+    } else {
+        kind_of_word(&letters.letters[..letters.len])
+    }
+}
+
+/// The kind of a word: the words of the keyword table have two to eleven bytes.
+fn kind_of_word(word: &[u8]) -> Kind
+    ensures { result ≡ keyword_of word.now }
+{
+    if word.len() < 2 || word.len() > 11 {
+        Kind::Ident
+    } else {
+        keyword_kind(word)
+    }
+}
+
+/// The character or the escape sequence at a place, if its code point may stand there in a name; else, where a
+/// backslash stands, the place behind what may be the beginning of an escape sequence.
+fn piece_at(text: &str, at: usize, position: Position) -> Result<Piece, usize>
+    requires { IsCharBoundary text.now at }
+    ensures { MatchResult result (λ p. names.IsPiece (names.may_stand position) text.now at p) (λ end. names.NoPiece (names.may_stand position) text.now at end) }
+{
+    match byte_at(text, at) {
+        Some(b'\\') => escaped_piece(text, at, position),
+        Some(byte) if byte < 128 => ascii_piece(text, at, byte, position),
+        Some(_) => other_piece(text, at, position),
+        None => Err(at),
+    }
+}
+
+/// An ASCII character, if it may stand in a name.
+fn ascii_piece(text: &str, at: usize, byte: u8, position: Position) -> Result<Piece, usize>
+    requires word { Word text.now at (at + 1) (byte ∷ []) }
+    requires plain { (byte == 92) ≡ false }
+    requires within { at < length text.now }
+    requires ascii { byte < 128 }
+    ensures { MatchResult result (λ p. names.IsPiece (names.may_stand position) text.now at p) (λ end. names.NoPiece (names.may_stand position) text.now at end) }
+{
+    if may_stand(byte as char, position) {
+        Ok(Piece {
+            code_point: byte as u32,
+            end: at + 1,
+            escaped: false,
+        })
+    } else {
+        Err(at)
+    }
+}
+
+/// A character above ASCII, if it may stand in a name.
+fn other_piece(text: &str, at: usize, position: Position) -> Result<Piece, usize>
+    requires boundary { IsCharBoundary text.now at }
+    requires high { High text.now at }
+    ensures { MatchResult result (λ p. names.IsPiece (names.may_stand position) text.now at p) (λ end. names.NoPiece (names.may_stand position) text.now at end) }
+{
+    match char_at(text, at) {
+        Some(c) => {
+            if may_stand(c, position) {
+                Ok(Piece {
+                    code_point: c as u32,
+                    end: at + c.len_utf8(),
+                    escaped: false,
+                })
+            } else {
+                Err(at)
+            }
+        }
+        None => Err(at),
+    }
+}
+
+/// An escape sequence, if the code point that it names may stand in a name.
+fn escaped_piece(text: &str, at: usize, position: Position) -> Result<Piece, usize>
+    requires { Word text.now at (at + 1) (92 ∷ []) }
+    ensures { MatchResult result (λ p. names.IsPiece (names.may_stand position) text.now at p) (λ end. names.NoPiece (names.may_stand position) text.now at end) }
+{
+    match escape_at(text, at) {
+        Ok(escape) => {
+            if may_code_point_stand(escape.code_point, position) {
+                Ok(Piece {
+                    code_point: escape.code_point,
+                    end: escape.end,
+                    escaped: true,
+                })
+            } else {
+                Err(escape.end)
+            }
+        }
+        Err(end) => Err(end),
+    }
+}
+
+/// Whether a character may stand in a name.
+fn may_stand(c: char, position: Position) -> bool
+    ensures { result ≡ names.may_stand position c }
+{
+    match position {
+        Position::Start => class::is_identifier_start(c),
+        Position::Part => class::is_identifier_part(c),
+    }
+}
+
+/// Whether a code point may stand in a name; a surrogate may not.
+fn may_code_point_stand(code_point: u32, position: Position) -> bool
+    ensures { result ≡ names.may_stand position code_point }
+{
+    match char::from_u32(code_point) {
+        Some(c) => may_stand(c, position),
+        None => false,
+    }
+}
+
+/// The escape sequence that begins with the backslash at a place (UnicodeEscapeSequence, ECMA-262, section 12.9.4);
+/// where none stands, the place behind the characters that may be the beginning of one.
+fn escape_at(text: &str, at: usize) -> Result<Escape, usize>
+    requires { Word text.now at (at + 1) (92 ∷ []) }
+    ensures { MatchResult result (λ e. names.IsEscape text.now at e) (λ end. names.NoEscape text.now at end) }
+{
+    let mut end = at + 1;
+    let mut state = State::Backslash;
+    'escape: loop {
+        match byte_at(text, end) {
+            Some(byte) => match step(state, byte) {
+                Progress::Goes(next) => {
+                    state = next;
+                    end += 1;
+                }
+                Progress::Names(code_point) => {
+                    return Ok(Escape {
+                        code_point,
+                        end: end + 1,
+                    });
+                }
+                Progress::Fails => return Err(end),
+            },
+            None => return Err(end),
+        }
+    }
+}
+
+/// What a byte of an escape sequence does.
+fn step(state: State, byte: u8) -> Progress
+    requires { names.fits state ≡ true }
+    ensures step { names.step_of result ≡ escape_step in_name (names.stage_of state) byte }
+    ensures fits { names.step_fits result ≡ true }
+{
+    match state {
+        State::Backslash => {
+            if byte == b'u' {
+                Progress::Goes(State::Unicode)
+            } else {
+                Progress::Fails
+            }
+        }
+        State::Unicode => unicode_step(byte),
+        State::Due(due, value) => due_step(due, value, byte),
+        State::Braced(any, value) => braced_step(any, value, byte),
+    }
+}
+
+/// A byte behind `\u`.
+fn unicode_step(byte: u8) -> Progress
+    ensures step { names.step_of result ≡ escape_step in_name unicode byte }
+    ensures fits { names.step_fits result ≡ true }
+{
+    if byte == b'{' {
+        return Progress::Goes(State::Braced(false, 0));
+    }
+    match (byte as char).to_digit(16) {
+        Some(digit) => Progress::Goes(State::Due(3, digit)),
+        None => Progress::Fails,
+    }
+}
+
+/// A byte where hexadecimal digits are due.
+fn due_step(due: u32, value: u32, byte: u8) -> Progress
+    requires { names.fits (Due due value) ≡ true }
+    ensures step { names.step_of result ≡ escape_step in_name (names.stage_of (Due due value)) byte }
+    ensures fits { names.step_fits result ≡ true }
+{
+    match (byte as char).to_digit(16) {
+        Some(digit) => {
+            let more = value * 16 + digit;
+            if due <= 1 {
+                Progress::Names(more)
+            } else {
+                Progress::Goes(State::Due(due - 1, more))
+            }
+        }
+        None => Progress::Fails,
+    }
+}
+
+/// A byte behind `\u{` and the digits there.
+fn braced_step(any: bool, value: u32, byte: u8) -> Progress
+    requires { names.fits (Braced any value) ≡ true }
+    ensures step { names.step_of result ≡ escape_step in_name (names.stage_of (Braced any value)) byte }
+    ensures fits { names.step_fits result ≡ true }
+{
+    match (byte as char).to_digit(16) {
+        Some(digit) => {
+            let more = value * 16 + digit;
+            if more <= 0x10_FFFF {
+                Progress::Goes(State::Braced(true, more))
+            } else {
+                Progress::Fails
+            }
+        }
+        None => {
+            if any && byte == b'}' {
+                Progress::Names(value)
+            } else {
+                Progress::Fails
+            }
+        }
+    }
+}

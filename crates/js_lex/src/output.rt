@@ -1,0 +1,34 @@
+//! What a lexer keeps.
+
+ghost use Rattle.js_lex.specs.Kept.{IsEmpty};
+
+use crate::comment::Comments;
+use js_base::{Diagnostics, Spans, Tokens};
+use std::alloc::Global;
+
+/// What was kept while a text was read, each list in the order of the text.
+#[derive(Drop)]
+pub struct LexerOutput {
+    /// The comments.
+    pub comments: Comments,
+    /// The white space and line terminators between lexemes other than space, tab, CR and LF, one character per span.
+    pub irregular_whitespaces: Spans,
+    /// The tokens, where the config asks for them; neither a hashbang nor the end of the text is among them.
+    pub tokens: Tokens,
+    /// The lexical faults.
+    pub errors: Diagnostics,
+}
+
+impl LexerOutput {
+    /// Four empty lists; they take no memory.
+    pub(crate) fn new(alloc: Global) -> LexerOutput
+        ensures { IsEmpty result }
+    {
+        LexerOutput {
+            comments: Comments::new(alloc),
+            irregular_whitespaces: Spans::new(alloc),
+            tokens: Tokens::new(alloc),
+            errors: Diagnostics::new(alloc),
+        }
+    }
+}

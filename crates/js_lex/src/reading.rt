@@ -1,0 +1,153 @@
+//! How a token is made of what a scan answers, and what is kept of it.
+
+ghost use Rattle.std.specs.Prelude.{◌≡◌, ◌≤◌, ◌<◌, ◌+◌, [], ◌∷◌, true, length, IfOk, OnOk, OnErr, IsCharBoundary};
+ghost use Rattle.js_grammar.specs.Lexemes.{division};
+ghost use Rattle.js_lex.specs.Scans.{Scans};
+ghost use Rattle.js_lex.specs.Kept.{Grows, Extends};
+ghost use Rattle.js_lex.specs.States.{goal_of};
+ghost use Rattle.js_lex.specs.Reading as reading;
+ghost use Rattle.js_lex.specs.Reading.{GivesNext, kept_token};
+ghost use Rattle.js_lex.specs.Settling as settling;
+ghost use Rattle.js_lex.specs.Settling.{Fits, Settled};
+
+use crate::output::LexerOutput;
+use crate::plain_goal::plain_at;
+use crate::scan::{Fault, Scan, Scanned};
+use crate::trivia::pass_trivia;
+use js_base::{Diagnostic, Kind, MAX_LEN, NoMemory, SourceType, Span, Token};
+
+/// The next token of the plain goal from a place on; of a punctuator that begins with `>` this sign alone. What is
+/// passed and given is kept. After want of memory what was kept before is still there.
+pub(crate) fn read_plain(
+    text: &str,
+    source_type: SourceType,
+    keeps_tokens: bool,
+    at: usize,
+    kept: &mut LexerOutput,
+) -> Result<Token, NoMemory>
+    requires boundary { IsCharBoundary text.now at }
+    requires short { length text.now ≤ MAX_LEN }
+    ensures ok { IfOk result (λ t. GivesNext division (record { text = text.now; goal = goal_of source_type; keeps_tokens = keeps_tokens; place = at; kept = kept.old }) (record { text = text.now; goal = goal_of source_type; keeps_tokens = keeps_tokens; place = t.span.end; kept = kept.new }) t) }
+    ensures boundary { IfOk result (λ t. IsCharBoundary text.now t.span.end) }
+    ensures err { OnErr result (Extends kept.old kept.new) }
+{
+    let trivia = pass_trivia(text, source_type.is_module(), at, kept)?;
+    let scan = first_angle(trivia.end, plain_at(text, trivia.end));
+    settle(kept, keeps_tokens, trivia.end, trivia.has_newline, scan)
+}
+
+/// Of a punctuator that begins with `>`, the sign alone; else what was scanned.
+fn first_angle(start: usize, scan: Scan) -> Scan
+    requires { start < MAX_LEN + 1 }
+    ensures { result ≡ settling.shown_scan start scan }
+{
+    match scan {
+        Ok(scanned) if is_right_angle(scanned.kind) => Ok(Scanned {
+            kind: Kind::RAngle,
+            end: start + 1,
+            escaped: scanned.escaped,
+            has_separator: scanned.has_separator,
+        }),
+        other => other,
+    }
+}
+
+/// Whether it is a punctuator that begins with `>`.
+fn is_right_angle(kind: Kind) -> bool
+    ensures { result ≡ reading.is_right_angle kind }
+{
+    matches!(
+        kind,
+        Kind::RAngle
+            | Kind::GtEq
+            | Kind::ShiftRight
+            | Kind::ShiftRightEq
+            | Kind::ShiftRight3
+            | Kind::ShiftRight3Eq
+    )
+}
+
+/// The token of what a scan at a place answers, which is kept, as is its fault.
+pub(crate) fn settle(
+    kept: &mut LexerOutput,
+    keeps_tokens: bool,
+    start: usize,
+    is_on_new_line: bool,
+    scan: Scan,
+) -> Result<Token, NoMemory>
+    requires { Fits MAX_LEN start scan }
+    ensures ok { IfOk result (λ t. Settled keeps_tokens start is_on_new_line scan kept.old kept.new t) }
+    ensures err { OnErr result (Extends kept.old kept.new) }
+{
+    match scan {
+        Ok(scanned) => {
+            let token = token_of(scanned, start, is_on_new_line);
+            keep_token(kept, keeps_tokens, token)?;
+            Ok(token)
+        }
+        Err(fault) => {
+            keep_fault(kept, fault)?;
+            Ok(undetermined(fault, start, is_on_new_line))
+        }
+    }
+}
+
+/// The token of a lexeme.
+pub(crate) fn token_of(scanned: Scanned, start: usize, is_on_new_line: bool) -> Token
+    requires ordered { start ≤ scanned.end }
+    requires short { scanned.end ≤ MAX_LEN }
+    ensures { result ≡ settling.token_of scanned start is_on_new_line }
+{
+    let span = Span::new(start as u32, scanned.end as u32);
+    Token::new(
+        scanned.kind,
+        span,
+        is_on_new_line,
+        scanned.escaped,
+        scanned.has_separator,
+    )
+}
+
+/// The token that stands for a fault.
+pub(crate) fn undetermined(fault: Fault, start: usize, is_on_new_line: bool) -> Token
+    requires ordered { start ≤ fault.end }
+    requires short { fault.end ≤ MAX_LEN }
+    ensures { result ≡ settling.undetermined_of fault start is_on_new_line }
+{
+    let span = Span::new(start as u32, fault.end as u32);
+    Token::new(Kind::Undetermined, span, is_on_new_line, false, false)
+}
+
+/// Keeps a token, where tokens are asked for, unless it is a hashbang, the end of the text or no lexeme.
+fn keep_token(kept: &mut LexerOutput, keeps_tokens: bool, token: Token) -> Result<(), NoMemory>
+    ensures ok { OnOk result (Grows kept.old kept.new [] [] (kept_token keeps_tokens token) []) }
+    ensures err { OnErr result (Extends kept.old kept.new) }
+{
+    if keeps_tokens && is_kept(token.kind()) {
+        kept.tokens.push(token)?;
+    }
+    Ok(())
+}
+
+/// Whether tokens of this kind are kept.
+pub(crate) fn is_kept(kind: Kind) -> bool
+    ensures { result ≡ reading.is_kept kind }
+{
+    !matches!(kind, Kind::HashbangComment | Kind::Eof | Kind::Undetermined)
+}
+
+/// Keeps a fault.
+pub(crate) fn keep_fault(kept: &mut LexerOutput, fault: Fault) -> Result<(), NoMemory>
+    requires ordered { fault.start ≤ fault.end }
+    requires short { fault.end ≤ MAX_LEN }
+    ensures ok { OnOk result (Grows kept.old kept.new [] [] [] (settling.diagnostic_of fault ∷ [])) }
+    ensures err { OnErr result (Extends kept.old kept.new) }
+{
+    kept.errors.push(Diagnostic {
+        kind: fault.kind,
+        span: Span::new(fault.start as u32, fault.end as u32),
+        first: None,
+        second: None,
+    })?;
+    Ok(())
+}

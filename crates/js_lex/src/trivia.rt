@@ -1,0 +1,302 @@
+//! Trivia: white space, line terminators and comments (ECMA-262, sections 12.2 to 12.4, and B.1.1 for the HTML-like
+//! comments).
+
+ghost use Rattle.std.specs.Prelude.{◌≡◌, ◌≤◌, ◌+◌, [], ◌∷◌, Bool, ◌&&◌, false, length, IfOk, OnErr, OnOk, Some, IsCharBoundary};
+ghost use Rattle.js_lex.specs.Places.{Word};
+ghost use Rattle.js_lex.specs.Kept.{Grows, Extends};
+ghost use Rattle.js_lex.specs.TriviaPassed.{PieceAt, BlankAt, BlockEnd, IsLineEnd, block_kind, told, comment_told, blank_told, fault_told, IsPassed};
+ghost use Rattle.js_lex.specs.declared.comment.CommentKind.TheVariants.{Line};
+
+use crate::character::next_character;
+use crate::class::{is_line_terminator, is_white_space};
+use crate::comment::{Comment, CommentKind};
+use crate::output::LexerOutput;
+use crate::place::{byte_at, char_at, goes_on};
+use js_base::{Diagnostic, DiagnosticKind, MAX_LEN, NoMemory, Span};
+
+/// A piece of trivia: one white space or line terminator, or one comment.
+#[derive(Debug, Clone, Copy)]
+pub(crate) struct Piece {
+    /// The place behind it.
+    end: usize,
+    /// Its kind, if it is a comment.
+    comment: Option<CommentKind>,
+    /// Whether it is an HTML-like comment.
+    is_html: bool,
+    /// Whether it is white space or a line terminator other than space, tab, CR and LF.
+    is_irregular: bool,
+    /// Whether it is or has a line terminator.
+    has_newline: bool,
+}
+
+/// The trivia between two places.
+#[derive(Debug, Clone, Copy)]
+pub(crate) struct Trivia {
+    /// The place behind it.
+    pub end: usize,
+    /// Whether a line terminator is in it.
+    pub has_newline: bool,
+}
+
+/// Passes all trivia from a place on, and keeps its comments, attached to the place behind it, its irregular white
+/// space and, in a module, the fault that each HTML-like comment is. After want of memory what was kept before is still
+/// there.
+pub(crate) fn pass_trivia(
+    text: &str,
+    is_module: bool,
+    at: usize,
+    kept: &mut LexerOutput,
+) -> Result<Trivia, NoMemory>
+    requires boundary { IsCharBoundary text.now at }
+    requires short { length text.now ≤ MAX_LEN }
+    ensures ok { IfOk result (λ t. IsPassed is_module text.now at t.end kept.old kept.new t) }
+    ensures err { OnErr result (Extends kept.old kept.new) }
+{
+    let first_comment = kept.comments.len();
+    let trivia = pass_pieces(text, is_module, at, kept)?;
+    kept.comments.attach(first_comment, trivia.end as u32);
+    Ok(trivia)
+}
+
+/// Passes all trivia from a place on; the comments are attached to nothing yet.
+fn pass_pieces(
+    text: &str,
+    is_module: bool,
+    at: usize,
+    kept: &mut LexerOutput,
+) -> Result<Trivia, NoMemory>
+    requires boundary { IsCharBoundary text.now at }
+    requires short { length text.now ≤ MAX_LEN }
+    ensures ok { IfOk result (λ t. IsPassed is_module text.now at 0 kept.old kept.new t) }
+    ensures err { OnErr result (Extends kept.old kept.new) }
+{
+    let mut end = at;
+    let mut has_newline = false;
+    'pieces: while let Some(piece) = piece_at(text, end, (at == 0) | has_newline) {
+        keep_piece(kept, is_module, end, piece)?;
+        has_newline |= piece.has_newline;
+        end = piece.end;
+    }
+    Ok(Trivia { end, has_newline })
+}
+
+/// Keeps what a piece that begins at a place is.
+fn keep_piece(
+    kept: &mut LexerOutput,
+    is_module: bool,
+    start: usize,
+    piece: Piece,
+) -> Result<(), NoMemory>
+    requires ordered { start ≤ piece.end }
+    requires short { piece.end ≤ MAX_LEN }
+    ensures ok { OnOk result (Grows kept.old kept.new (comment_told piece.comment (told start piece)) (blank_told piece.is_irregular (told start piece)) [] (fault_told (is_module && piece.is_html) (told start piece))) }
+    ensures err { OnErr result (Extends kept.old kept.new) }
+{
+    let span = Span::new(start as u32, piece.end as u32);
+    keep_comment(kept, piece.comment, span)?;
+    keep_blank(kept, piece.is_irregular, span)?;
+    keep_fault(kept, is_module && piece.is_html, span)
+}
+
+/// Keeps a comment, if there is one.
+fn keep_comment(
+    kept: &mut LexerOutput,
+    comment: Option<CommentKind>,
+    span: Span,
+) -> Result<(), NoMemory>
+    ensures ok { OnOk result (Grows kept.old kept.new (comment_told comment span) [] [] []) }
+    ensures err { OnErr result (Extends kept.old kept.new) }
+{
+    if let Some(kind) = comment {
+        kept.comments.push(Comment {
+            span,
+            kind,
+            attached_to: 0,
+        })?;
+    }
+    Ok(())
+}
+
+/// Keeps irregular white space.
+fn keep_blank(kept: &mut LexerOutput, is_irregular: bool, span: Span) -> Result<(), NoMemory>
+    ensures ok { OnOk result (Grows kept.old kept.new [] (blank_told is_irregular span) [] []) }
+    ensures err { OnErr result (Extends kept.old kept.new) }
+{
+    if is_irregular {
+        kept.irregular_whitespaces.push(span)?;
+    }
+    Ok(())
+}
+
+/// Keeps the fault that an HTML-like comment in a module is.
+fn keep_fault(kept: &mut LexerOutput, is_fault: bool, span: Span) -> Result<(), NoMemory>
+    ensures ok { OnOk result (Grows kept.old kept.new [] [] [] (fault_told is_fault span)) }
+    ensures err { OnErr result (Extends kept.old kept.new) }
+{
+    if is_fault {
+        kept.errors.push(Diagnostic {
+            kind: DiagnosticKind::HtmlCommentInModule,
+            span,
+            first: None,
+            second: None,
+        })?;
+    }
+    Ok(())
+}
+
+/// The longest piece of trivia that begins at a place. `is_first`: only trivia stands before it on its line, or in the
+/// text; there alone `-->` begins a comment.
+fn piece_at(text: &str, at: usize, is_first: bool) -> Option<Piece>
+    requires boundary { IsCharBoundary text.now at }
+    requires short { length text.now ≤ MAX_LEN }
+    ensures { PieceAt is_first text.now at result }
+{
+    match byte_at(text, at) {
+        None => None,
+        Some(b'/') => comment_at(text, at),
+        Some(b'<') => html_open_at(text, at),
+        Some(b'-') => html_close_at(text, at, is_first),
+        Some(byte) if byte < 128 => blank(byte as char, at),
+        Some(_) => match char_at(text, at) {
+            Some(c) => blank(c, at),
+            None => None,
+        },
+    }
+}
+
+/// The character at a place as a piece, if it is white space or a line terminator.
+fn blank(c: char, at: usize) -> Option<Piece>
+    requires { at ≤ MAX_LEN }
+    ensures { BlankAt c at result }
+{
+    let has_newline = is_line_terminator(c);
+    if !(has_newline || is_white_space(c)) {
+        return None;
+    }
+    Some(Piece {
+        end: at + c.len_utf8(),
+        comment: None,
+        is_html: false,
+        is_irregular: !(c == ' ' || c == '\t' || c == '\r' || c == '\n'),
+        has_newline,
+    })
+}
+
+/// The comment that begins with the slash at a place, if one does.
+fn comment_at(text: &str, at: usize) -> Option<Piece>
+    requires boundary { IsCharBoundary text.now at }
+    requires slash { Word text.now at (at + 1) (47 ∷ []) }
+    requires short { length text.now ≤ MAX_LEN }
+    ensures { (first : Bool) → PieceAt first text.now at result }
+{
+    if goes_on(text, at, b"//") {
+        return Some(line_comment(line_end(text, at + 2), false));
+    }
+    if !goes_on(text, at, b"/*") {
+        return None;
+    }
+    match block_comment_end(text, at + 2) {
+        Some(block) => Some(block_comment(block)),
+        None => None,
+    }
+}
+
+/// A comment to the end of its line.
+fn line_comment(end: usize, is_html: bool) -> Piece
+    ensures { result ≡ record { end = end; comment = Some Line; is_html = is_html; is_irregular = false; has_newline = false } }
+{
+    Piece {
+        end,
+        comment: Some(CommentKind::Line),
+        is_html,
+        is_irregular: false,
+        has_newline: false,
+    }
+}
+
+/// A comment from `/*` to `*/`.
+fn block_comment(block: Trivia) -> Piece
+    ensures { result ≡ record { end = block.end; comment = Some (block_kind block.has_newline); is_html = false; is_irregular = false; has_newline = block.has_newline } }
+{
+    let kind = if block.has_newline {
+        CommentKind::MultiLineBlock
+    } else {
+        CommentKind::SingleLineBlock
+    };
+    Piece {
+        end: block.end,
+        comment: Some(kind),
+        is_html: false,
+        is_irregular: false,
+        has_newline: block.has_newline,
+    }
+}
+
+/// The HTML-like comment that begins with `<!--` at a place, if one does.
+fn html_open_at(text: &str, at: usize) -> Option<Piece>
+    requires boundary { IsCharBoundary text.now at }
+    requires less { Word text.now at (at + 1) (60 ∷ []) }
+    requires short { length text.now ≤ MAX_LEN }
+    ensures { (first : Bool) → PieceAt first text.now at result }
+{
+    if goes_on(text, at, b"<!--") {
+        Some(line_comment(line_end(text, at + 4), true))
+    } else {
+        None
+    }
+}
+
+/// The HTML-like comment that begins with `-->` at a place, if one does: only where it is the first on its line.
+fn html_close_at(text: &str, at: usize, is_first: bool) -> Option<Piece>
+    requires boundary { IsCharBoundary text.now at }
+    requires minus { Word text.now at (at + 1) (45 ∷ []) }
+    requires short { length text.now ≤ MAX_LEN }
+    ensures { PieceAt is_first text.now at result }
+{
+    if !is_first {
+        return None;
+    }
+    if goes_on(text, at, b"-->") {
+        Some(line_comment(line_end(text, at + 3), true))
+    } else {
+        None
+    }
+}
+
+/// The place of the first line terminator from a place on, or the end of the text.
+pub(crate) fn line_end(text: &str, at: usize) -> usize
+    requires { IsCharBoundary text.now at }
+    ensures { IsLineEnd text.now at result }
+{
+    let mut end = at;
+    'line: while let Some(next) = next_character(text, end) {
+        if is_line_terminator(next.value) {
+            return end;
+        }
+        end = next.end;
+    }
+    end
+}
+
+/// The end of a block comment from behind its opening on, and whether a line terminator stands before it; none where
+/// nothing closes it.
+fn block_comment_end(text: &str, at: usize) -> Option<Trivia>
+    requires { IsCharBoundary text.now at }
+    ensures { BlockEnd text.now at result }
+{
+    let mut end = at;
+    let mut star = false;
+    let mut has_newline = false;
+    'block: while let Some(next) = next_character(text, end) {
+        if star && next.value == '/' {
+            return Some(Trivia {
+                end: next.end,
+                has_newline,
+            });
+        }
+        star = next.value == '*';
+        has_newline |= is_line_terminator(next.value);
+        end = next.end;
+    }
+    None
+}
