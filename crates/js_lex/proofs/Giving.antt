@@ -1,6 +1,7 @@
 -- From trivia, a scan and what is kept of them to what a call of the lexer answers.
 use Rattle.std.proofs.Common.{◌≡◌, ◌<◌, ◌≤◌, ℕ, ◌+◌, ◌==◌, Bool, true, false, List, [], ◌∷◌, ◌++◌, refl, sym, ap, subst, ◌∙◌, not, ◌&&◌, ◌||◌, length, arith, append_assoc, append-nil, Option, Some, None}
-use Rattle.std.specs.Prelude.{IsTrue, IsCharBoundary, IsUtf8, Result, Ok, Err}
+use Rattle.std.specs.Prelude.{IsTrue, IsCharBoundary, IsUtf8, ◌↔◌, Result, Ok, Err, encode_utf8, encode_utf8_all, drop}
+use Rattle.std.proofs.lemmas.Str.{IsUtf8-drop, encodes-chars, len_utf8_ascii, IsCharBoundary-past_char}
 use Rattle.js_base.specs.declared.kind.Kind.{Kind}
 use Rattle.js_base.specs.declared.kind.Kind.TheVariants.{RAngle, Eof, Undetermined}
 use Rattle.js_base.specs.declared.token.Token.{Token}
@@ -8,6 +9,9 @@ use Rattle.js_base.specs.declared.diagnostic.Diagnostic.{Diagnostic}
 use Rattle.js_base.specs.declared.diagnostic.DiagnosticKind.{DiagnosticKind}
 use Rattle.js_base.specs.declared.diagnostic.DiagnosticKind.TheVariants as fault
 use Rattle.js_base.specs.declared.source_type.SourceType.{SourceType}
+use Rattle.js_base.specs.declared.source_type.Goal.{Goal as SourceGoal}
+use Rattle.js_base.specs.declared.source_type.Goal.TheVariants.{Script, Module, CommonJs, Unambiguous}
+use Rattle.js_base.specs.Sources.{is_goal}
 use Rattle.js_base.specs.Kinds.{same_kind, one_of_kinds}
 use Rattle.js_grammar.specs.Grammar.{Lexeme}
 use Rattle.js_grammar.specs.Settings.{Goal}
@@ -97,15 +101,15 @@ pub shown_determined : {goal : LexicalGoal} {text : List ℕ} (start : ℕ) (sc 
 shown_determined {goal = goal} {text = text} start sc h = go (is_right_angle sc.kind) refl
   where
     go : (b : Bool) → is_right_angle sc.kind ≡ b → same_kind Undetermined (shown start sc).kind ≡ false
-    go true q = rw q refl
-    go false q = rw q (determined goal h.word (behind text sc.end) sc.kind h.lexeme.kind)
+    go true q = rw (q, shown) refl
+    go false q = rw (q, shown) (determined goal h.word (behind text sc.end) sc.kind h.lexeme.kind)
 
 pub shown_separated : (start : ℕ) (sc : Scanned) → (shown start sc).has_separator ≡ sc.has_separator
 shown_separated start sc = go (is_right_angle sc.kind) refl
   where
     go : (b : Bool) → is_right_angle sc.kind ≡ b → (shown start sc).has_separator ≡ sc.has_separator
-    go true q = rw q refl
-    go false q = rw q refl
+    go true q = rw (q, shown) refl
+    go false q = rw (q, shown) refl
 
 -- ---- where the token ends
 
@@ -114,7 +118,10 @@ word_ordered h = let e = h.end in omega arith
 
 -- the place behind an ASCII character is between characters
 pub behind_ascii : (text : List ℕ) (i j c : ℕ) (cs : List ℕ) → IsUtf8 text → IsCharBoundary text i → c < 128 → Word text i j (c ∷ cs) → IsCharBoundary text (i + 1)
-behind_ascii text i j c cs u b h w = ?
+behind_ascii text i j c cs u b h w =
+    let v : IsUtf8 (drop i text) = IsUtf8-drop text i u b in
+    let e : drop i text ≡ encode_utf8 c ++ encode_utf8_all (cs ++ behind text j) = sym (encodes-chars (drop i text) v) ∙ ap encode_utf8_all w.splits in
+    subst (λ (n : ℕ). IsCharBoundary text (i + n)) (len_utf8_ascii c h) (IsCharBoundary-past_char text (encode_utf8_all (cs ++ behind text j)) i c b.0 v e)
 
 pub shown_end : (text : List ℕ) (i : ℕ) (sc : Scanned) → IsUtf8 text → IsCharBoundary text i → IsScanned division text i sc → (i ≤ (shown i sc).end) × IsCharBoundary text (shown i sc).end
 shown_end text i sc u b h = go (is_right_angle sc.kind) refl
@@ -124,5 +131,31 @@ shown_end text i sc u b h = go (is_right_angle sc.kind) refl
     angle (c ∷ cs) w k q = let e = greater_word c cs (behind text sc.end) sc.kind k q in behind_ascii text i sc.end c cs u b (omega arith) w
 
     go : (b : Bool) → is_right_angle sc.kind ≡ b → (i ≤ (shown i sc).end) × IsCharBoundary text (shown i sc).end
-    go true q = rw q (omega arith, angle h.word h.stands h.lexeme.kind q)
-    go false q = rw q (word_ordered h.stands, h.stands.boundary)
+    go true q = rw (q, shown) (omega arith, angle h.word h.stands h.lexeme.kind q)
+    go false q = rw (q, shown) (word_ordered h.stands, h.stands.boundary)
+
+-- ---- what a call answers
+
+-- whether a text is read as a module
+pub module_same : (source_type : SourceType) (is_module : Bool) → (IsTrue is_module ↔ (is_goal source_type ≡ Module)) → is_module ≡ in_a_module (goal_of source_type)
+module_same source_type is_module h = go source_type.goal refl is_module refl
+  where
+    go : (g : SourceGoal) → source_type.goal ≡ g → (b : Bool) → is_module ≡ b → is_module ≡ in_a_module (goal_of source_type)
+    go g e b f = ?
+
+gives_lexeme : {text : List ℕ} {s i : ℕ} (ps : List (List ℕ)) (sc : Scanned) (newline : Bool) → s ≤ length text → Word text s i (joined ps) → are_trivia (s == 0) ps (behind text i) ≡ true → newline ≡ has_line_terminator (joined ps) → IsScanned division text i sc → GivesLexeme division cut text s (token_of (shown i sc) i newline)
+gives_lexeme {text = text} {s = s} {i = i} ps sc newline l p t n h = record {
+  lexeme = lexeme_of sc i (has_line_terminator (joined ps)) h.word;
+  stands = lexeme_behind ps sc l p t h;
+  tells = subst (λ (b : Bool). Tells (cut (lexeme_of sc i (has_line_terminator (joined ps)) h.word)) (token_of (shown i sc) i b)) (sym n) (shown_tells i sc (has_line_terminator (joined ps)) h.word h.escaped);
+  separated = shown_separated i sc ∙ h.separated;
+}
+
+gives_none : {goal : LexicalGoal} {text : List ℕ} {s i : ℕ} (ps : List (List ℕ)) (source : Goal) (f : Fault) (newline : Bool) → s ≤ length text → Word text s i (joined ps) → are_trivia (s == 0) ps (behind text i) ≡ true → IsStopped goal text i f → GivesNone goal source text s (undetermined_of f i newline) (diagnostic_of f)
+gives_none ps source f newline l p t h = record { none = none_behind ps l p t h.none; faulty = faulty_behind ps source f l p t h; end = refl; no_first = refl; no_second = refl }
+
+-- the token behind trivia, and what is kept of both
+pub gives_next : (text : List ℕ) (source : Goal) (keeps : Bool) (s : ℕ) (old mid new : LexerOutput) (tr : Trivia) (scan : Result Scanned Fault) (t : Token) → s ≤ length text → IsPassed (in_a_module source) text s tr.end old mid tr → Scans division text tr.end scan → Settled keeps tr.end tr.has_newline (shown_scan tr.end scan) mid new t
+    → GivesNext division (record { text = text; goal = source; keeps_tokens = keeps; place = s; kept = old }) (record { text = text; goal = source; keeps_tokens = keeps; place = t.span.end; kept = new }) t
+gives_next text source keeps s old mid new tr (Ok sc) t l p h e = ?
+gives_next text source keeps s old mid new tr (Err f) t l p h e = ?
