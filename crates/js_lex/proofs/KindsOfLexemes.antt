@@ -25,7 +25,6 @@ use Rattle.js_grammar.specs.Lexed.{IsLexeme}
 use Rattle.js_grammar.proofs.LongestLemmas.{both, both-left, both-right, not-true, longest-same}
 use Rattle.js_grammar.proofs.Finding.{kind_member, found-test, found-all}
 use Rattle.js_grammar.proofs.CoreLemmas.{opens, opens-same}
-use Rattle.js_grammar.proofs.CoreFirst.{first_passes}
 
 -- ---- what opens a lexeme of a kind
 
@@ -288,20 +287,20 @@ punctuator_word c cs rest k h p = listed_word (c ∷ cs) rest k (listed c cs res
 abbrev pub greater_kinds : List Kind
 greater_kinds = RAngle ∷ GtEq ∷ ShiftRight ∷ ShiftRightEq ∷ ShiftRight3 ∷ ShiftRight3Eq ∷ []
 
-greater_first : (w rest : List ℕ) (k : Kind) → punctuator_kind w rest ≡ Some k → one_of_kinds greater_kinds k ≡ first_passes (λ d. d == 62) (text_of k)
+greater_first : (w rest : List ℕ) (k : Kind) → punctuator_kind w rest ≡ Some k → one_of_kinds greater_kinds k ≡ begins (λ d. d == 62) (text_of k)
 unfolding punctuators
-greater_first w rest k h = (booleans_Decides _ _).0 (found-all (λ k. bytes_eq (text_of k) w && may_precede k rest) (λ k. beq (one_of_kinds greater_kinds k) (first_passes (λ d. d == 62) (text_of k))) punctuators k h refl)
+greater_first w rest k h = (booleans_Decides _ _).0 (found-all (λ k. bytes_eq (text_of k) w && may_precede k rest) (λ k. beq (one_of_kinds greater_kinds k) (begins (λ d. d == 62) (text_of k))) punctuators k h refl)
 
 pub greater_word : (c : ℕ) (cs rest : List ℕ) (k : Kind) → plain_kind (c ∷ cs) rest ≡ Some k → one_of_kinds greater_kinds k ≡ true → c ≡ 62
 greater_word c cs rest k h g =
     let l = listed c cs rest k h (opened_member a_punctuator greater_kinds k g refl) in
     let e = (listed_word (c ∷ cs) rest k l).0 in
-    eqb-true c 62 (ap (first_passes (λ d. d == 62)) e ∙ sym (greater_first (c ∷ cs) rest k l) ∙ g)
+    eqb-true c 62 (ap (begins (λ d. d == 62)) e ∙ sym (greater_first (c ∷ cs) rest k l) ∙ g)
 
 pub greater_kind : (cs rest : List ℕ) (k : Kind) → plain_kind (62 ∷ cs) rest ≡ Some k → one_of_kinds greater_kinds k ≡ true
 greater_kind cs rest k h =
     let l : punctuator_kind (62 ∷ cs) rest ≡ Some k = h in
-    greater_first (62 ∷ cs) rest k l ∙ sym (ap (first_passes (λ d. d == 62)) (listed_word (62 ∷ cs) rest k l).0)
+    greater_first (62 ∷ cs) rest k l ∙ sym (ap (begins (λ d. d == 62)) (listed_word (62 ∷ cs) rest k l).0)
 
 pub slash_word : (c : ℕ) (cs rest : List ℕ) → plain_kind (c ∷ cs) rest ≡ Some Slash → (c ≡ 47) × (cs ≡ []) × (begins (one_of (codes "*/")) rest ≡ false)
 slash_word c cs rest h =
