@@ -14,7 +14,7 @@ use Rattle.js_base.specs.declared.source_type.Goal.TheVariants.{Script, Module, 
 use Rattle.js_base.specs.Sources.{is_goal}
 use Rattle.js_base.specs.Kinds.{same_kind, one_of_kinds}
 use Rattle.js_grammar.specs.Grammar.{Lexeme}
-use Rattle.js_grammar.specs.Settings.{Goal}
+use Rattle.js_grammar.specs.Settings.{Goal, script, module_goal, commonjs, unambiguous}
 use Rattle.js_grammar.specs.Characters.{has_line_terminator, width}
 use Rattle.js_grammar.specs.Longest.{longest, none_begins, joined}
 use Rattle.js_grammar.specs.Trivia.{is_trivia_piece, are_trivia}
@@ -31,6 +31,8 @@ use Rattle.js_lex.specs.Places.{Word}
 use Rattle.js_lex.specs.Kept.{Grows}
 use Rattle.js_lex.specs.Scans.{IsScanned, IsStopped, NoLexeme, Scans}
 use Rattle.js_lex.specs.TriviaPassed.{IsPassed}
+use Rattle.js_lex.specs.Comments.{comment_at, irregular_at, html_fault_at, each_at}
+use Rattle.js_lex.proofs.Keeping.{grow_on}
 use Rattle.js_lex.specs.States.{State, goal_of}
 use Rattle.js_lex.specs.Reading.{is_right_angle, cut, Tells, LexemeBehind, GivesLexeme, GivesNone, Outcome, GivesNext, in_a_module, kept_token}
 use Rattle.js_lex.proofs.KindsOfLexemes.{determined, plain_end, greater_word}
@@ -138,12 +140,20 @@ shown_end text i sc u b h = go (is_right_angle sc.kind) refl
 
 -- whether a text is read as a module
 pub module_same : (source_type : SourceType) (is_module : Bool) → (IsTrue is_module ↔ (is_goal source_type ≡ Module)) → is_module ≡ in_a_module (goal_of source_type)
-module_same source_type is_module h = go source_type.goal refl is_module refl
+module_same source_type is_module h = go source_type.goal refl
   where
-    go : (g : SourceGoal) → source_type.goal ≡ g → (b : Bool) → is_module ≡ b → is_module ≡ in_a_module (goal_of source_type)
-    go g e b f = ?
+    other : (g : SourceGoal) → source_type.goal ≡ g → (g ≡ Module → ⊥) → (b : Bool) → is_module ≡ b → is_module ≡ false
+    other g e n true f = absurd (n (sym e ∙ h.0 f))
+    other g e n false f = f
+
+    go : (g : SourceGoal) → source_type.goal ≡ g → is_module ≡ in_a_module (goal_of source_type)
+    go Script e = other Script e (λ q. cc) is_module refl ∙ ap (λ g. in_a_module (goal_of (record { goal = g }))) (sym e)
+    go Module e = h.1 e ∙ ap (λ g. in_a_module (goal_of (record { goal = g }))) (sym e)
+    go CommonJs e = other CommonJs e (λ q. cc) is_module refl ∙ ap (λ g. in_a_module (goal_of (record { goal = g }))) (sym e)
+    go Unambiguous e = other Unambiguous e (λ q. cc) is_module refl ∙ ap (λ g. in_a_module (goal_of (record { goal = g }))) (sym e)
 
 gives_lexeme : {text : List ℕ} {s i : ℕ} (ps : List (List ℕ)) (sc : Scanned) (newline : Bool) → s ≤ length text → Word text s i (joined ps) → are_trivia (s == 0) ps (behind text i) ≡ true → newline ≡ has_line_terminator (joined ps) → IsScanned division text i sc → GivesLexeme division cut text s (token_of (shown i sc) i newline)
+unfolding lexeme_behind
 gives_lexeme {text = text} {s = s} {i = i} ps sc newline l p t n h = record {
   lexeme = lexeme_of sc i (has_line_terminator (joined ps)) h.word;
   stands = lexeme_behind ps sc l p t h;
@@ -154,8 +164,53 @@ gives_lexeme {text = text} {s = s} {i = i} ps sc newline l p t n h = record {
 gives_none : {goal : LexicalGoal} {text : List ℕ} {s i : ℕ} (ps : List (List ℕ)) (source : Goal) (f : Fault) (newline : Bool) → s ≤ length text → Word text s i (joined ps) → are_trivia (s == 0) ps (behind text i) ≡ true → IsStopped goal text i f → GivesNone goal source text s (undetermined_of f i newline) (diagnostic_of f)
 gives_none ps source f newline l p t h = record { none = none_behind ps l p t h.none; faulty = faulty_behind ps source f l p t h; end = refl; no_first = refl; no_second = refl }
 
+determined_outcome : {goal : LexicalGoal} (source : Goal) {text : List ℕ} {s : ℕ} {t : Token} (form : Lexeme → Lexeme) → same_kind Undetermined t.kind ≡ false → GivesLexeme goal form text s t → Outcome goal form source text s t [] []
+determined_outcome {goal = goal} source {text = text} {s = s} {t = t} form k g = subst (λ (b : Bool). elim b as (λ _. Type 0) [ true ↦ (d : Diagnostic) × ([] ≡ d ∷ []) × GivesNone goal source text s t d | false ↦ (◌≡◌ {A = List Diagnostic} [] []) × GivesLexeme goal form text s t ]) (sym k) (refl, g)
+
 -- the token behind trivia, and what is kept of both
 pub gives_next : (text : List ℕ) (source : Goal) (keeps : Bool) (s : ℕ) (old mid new : LexerOutput) (tr : Trivia) (scan : Result Scanned Fault) (t : Token) → s ≤ length text → IsPassed (in_a_module source) text s tr.end old mid tr → Scans division text tr.end scan → Settled keeps tr.end tr.has_newline (shown_scan tr.end scan) mid new t
     → GivesNext division (record { text = text; goal = source; keeps_tokens = keeps; place = s; kept = old }) (record { text = text; goal = source; keeps_tokens = keeps; place = t.span.end; kept = new }) t
-gives_next text source keeps s old mid new tr (Ok sc) t l p h e = ?
-gives_next text source keeps s old mid new tr (Err f) t l p h e = ?
+gives_next text source keeps s old mid new tr (Ok sc) t l p h e =
+    let u = token_of (shown tr.end sc) tr.end tr.has_newline in
+    let g : Grows old new (each_at (comment_at tr.end) s p.pieces ++ []) (each_at irregular_at s p.pieces ++ []) ([] ++ kept_token keeps t) (each_at (html_fault_at (in_a_module source)) s p.pieces ++ []) = grow_on p.grows e.1 in
+    subst (λ (z : Token). GivesNext division (record { text = text; goal = source; keeps_tokens = keeps; place = s; kept = old }) (record { text = text; goal = source; keeps_tokens = keeps; place = z.span.end; kept = new }) z) (sym e.0)
+    (record {
+      same = record { text = refl; goal = refl; keeps_tokens = refl };
+      pieces = p.pieces;
+      stands = stands_behind [] (behind text tr.end) l p.stands p.trivia refl;
+      start = p.stands.end;
+      newline = p.newline;
+      place = refl;
+      faults = [];
+      outcome = determined_outcome source cut (shown_determined tr.end sc h) (gives_lexeme p.pieces sc tr.has_newline l p.stands p.trivia p.newline h);
+      grows = record {
+        comments_grow = g.comments_grow ∙ ap (λ v. old.comments ++ v) (append-nil (each_at (comment_at tr.end) s p.pieces));
+        blanks_grow = g.blanks_grow ∙ ap (λ v. old.irregular_whitespaces ++ v) (append-nil (each_at irregular_at s p.pieces));
+        tokens_grow = g.tokens_grow ∙ ap (λ z. old.tokens ++ kept_token keeps z) e.0;
+        faults_grow = g.faults_grow;
+      };
+    })
+gives_next text source keeps s old mid new tr (Err f) t l p h e =
+    let u = undetermined_of f tr.end tr.has_newline in
+    let g : Grows old new (each_at (comment_at tr.end) s p.pieces ++ []) (each_at irregular_at s p.pieces ++ []) [] (each_at (html_fault_at (in_a_module source)) s p.pieces ++ diagnostic_of f ∷ []) = grow_on p.grows e.1 in
+    subst (λ (z : Token). GivesNext division (record { text = text; goal = source; keeps_tokens = keeps; place = s; kept = old }) (record { text = text; goal = source; keeps_tokens = keeps; place = z.span.end; kept = new }) z) (sym e.0)
+    (record {
+      same = record { text = refl; goal = refl; keeps_tokens = refl };
+      pieces = p.pieces;
+      stands = stands_behind [] (behind text tr.end) l p.stands p.trivia refl;
+      start = p.stands.end;
+      newline = p.newline;
+      place = refl;
+      faults = diagnostic_of f ∷ [];
+      outcome = (diagnostic_of f, refl, gives_none p.pieces source f tr.has_newline l p.stands p.trivia h);
+      grows = record {
+        comments_grow = g.comments_grow ∙ ap (λ v. old.comments ++ v) (append-nil (each_at (comment_at tr.end) s p.pieces));
+        blanks_grow = g.blanks_grow ∙ ap (λ v. old.irregular_whitespaces ++ v) (append-nil (each_at irregular_at s p.pieces));
+        tokens_grow = g.tokens_grow ∙ ap (λ v. old.tokens ++ v) (none_kept keeps);
+        faults_grow = g.faults_grow;
+      };
+    })
+  where
+    none_kept : (b : Bool) → [] ≡ kept_token b (undetermined_of f tr.end tr.has_newline)
+    none_kept true = refl
+    none_kept false = refl
