@@ -1,2 +1,4 @@
+pub mod NumberRests
+pub mod Numbers
 pub mod Places
 pub mod Plain

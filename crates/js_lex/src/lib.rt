@@ -2,5 +2,6 @@
 #![tactic(auto)]
 
 mod class;
+mod number;
 mod place;
 mod scan;
