@@ -43,15 +43,15 @@ radix-no-separator radix c l h = hex-no-separator c (wider (digit_value c) radix
 separator-on : (c : ℕ) → (c == 95) ≡ true → goes_on c ≡ true
 separator-on c h = subst (λ (x : ℕ). goes_on x ≡ true) (sym (Rattle.std.proofs.lemmas.Bool.eqb-true c 95 h)) refl
 
-or-assoc : (a b d : Bool) → ((a || b) || d) ≡ (a || (b || d))
+pub or-assoc : (a b d : Bool) → ((a || b) || d) ≡ (a || (b || d))
 or-assoc true b d = refl
 or-assoc false b d = refl
 
-or-false : (a : Bool) → a ≡ (a || false)
+pub or-false : (a : Bool) → a ≡ (a || false)
 or-false true = refl
 or-false false = refl
 
-any-append : (p : ℕ → Bool) (w v : List ℕ) → list_any p (w ++ v) ≡ (list_any p w || list_any p v)
+pub any-append : (p : ℕ → Bool) (w v : List ℕ) → list_any p (w ++ v) ≡ (list_any p w || list_any p v)
 any-append p [] v = refl
 any-append p (c ∷ w) v = ap (λ (b : Bool). p c || b) (any-append p w v) ∙ sym (or-assoc (p c) (list_any p w) (list_any p v))
 

@@ -47,8 +47,9 @@ pub record IsBroken (r : Rest) (text : List ℕ) (i place : ℕ) : Type 0 where
   pub boundary : IsCharBoundary text place
   pub ordered : i ≤ place
 
-abbrev pub Reads : Rest → Bool → List ℕ → ℕ → Result Number ℕ → Type 0
-Reads r before text i result = MatchResult result (λ n. IsRest r before text i n) (λ place. IsBroken r text i place)
+-- what a scan of the rest of a number answers at the place i
+pub record Reads (r : Rest) (before : Bool) (text : List ℕ) (i : ℕ) (result : Result Number ℕ) : Type 0 where
+  pub is : MatchResult result (λ n. IsRest r before text i n) (λ place. IsBroken r text i place)
 
 -- Digits of a radix, and single separators behind digits, as far as they go on.
 pub record AreDigits (radix : ℕ) (text : List ℕ) (i : ℕ) (n : Digits) : Type 0 where
