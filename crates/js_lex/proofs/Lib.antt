@@ -1,4 +1,5 @@
 pub mod NumberRests
+pub mod NumberScans
 pub mod Numbers
 pub mod Places
 pub mod Plain

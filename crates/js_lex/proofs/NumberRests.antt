@@ -20,7 +20,7 @@ use Rattle.js_lex.proofs.Places.{none_passed, then}
 use Rattle.js_lex.proofs.Numbers.{any-append, or-assoc, or-false, front-begins, decimal-on}
 
 -- a front that a number doesn't stop before
-front_goes_on : (r : Rest) (c : ℕ) (cs : List ℕ) → goes_on c ≡ true → Unstopped (λ v. r (c ∷ v)) cs → Unstopped r (c ∷ cs)
+pub front_goes_on : (r : Rest) (c : ℕ) (cs : List ℕ) → goes_on c ≡ true → Unstopped (λ v. r (c ∷ v)) cs → Unstopped r (c ∷ cs)
 front_goes_on r c cs g u [] more e s n t =
     let a : stops_number (c ∷ cs) ≡ true = subst (λ (x : List ℕ). stops_number x ≡ true) (sym e) t in
     let b : stops_number (c ∷ cs) ≡ false = ap not g in
@@ -46,20 +46,20 @@ front_rejected r c cs g u (d ∷ w) more e s n t =
     let left : cs ≡ w ++ more = cc in
     u w more left (subst (λ (x : ℕ). is_some (r (x ∷ w)) ≡ true) same s) (λ a x others f. subst (λ (y : ℕ). r (y ∷ w ++ a ∷ x) ≡ None) same (n a x others f)) t
 
-fronts_go_on : (r : Rest) (word cs : List ℕ) → list_all goes_on word ≡ true → Unstopped (λ v. r (word ++ v)) cs → Unstopped r (word ++ cs)
+pub fronts_go_on : (r : Rest) (word cs : List ℕ) → list_all goes_on word ≡ true → Unstopped (λ v. r (word ++ v)) cs → Unstopped r (word ++ cs)
 fronts_go_on r [] cs a u = u
 fronts_go_on r (c ∷ word) cs a u = front_goes_on r c (word ++ cs) (both-left (goes_on c) (list_all goes_on word) a) (fronts_go_on (λ v. r (c ∷ v)) word cs (both-right (goes_on c) (list_all goes_on word) a) u)
 
-unstopped_same : (r q : Rest) (cs : List ℕ) → ((v more : List ℕ) → cs ≡ v ++ more → r v ≡ q v) → Unstopped q cs → Unstopped r cs
+pub unstopped_same : (r q : Rest) (cs : List ℕ) → ((v more : List ℕ) → cs ≡ v ++ more → r v ≡ q v) → Unstopped q cs → Unstopped r cs
 unstopped_same r q cs f u w more e s n t =
     u w more e (subst (λ (o : Option Kind). is_some o ≡ true) (f w more e) s)
     (λ c x others g. sym (f (w ++ c ∷ x) others (e ∙ ap (λ (v : List ℕ). w ++ v) g ∙ sym (append_assoc w (c ∷ x) others))) ∙ n c x others g) t
 
 -- What is left of r behind the word is q.
-abbrev Leaves : Rest → List ℕ → Rest → List ℕ → Type 0
+abbrev pub Leaves : Rest → List ℕ → Rest → List ℕ → Type 0
 Leaves r word q cs = (v more : List ℕ) → cs ≡ v ++ more → r (word ++ v) ≡ q v
 
-abbrev Lifts : Rest → List ℕ → List ℕ → Type 0
+abbrev pub Lifts : Rest → List ℕ → List ℕ → Type 0
 Lifts r word cs = Unstopped (λ v. r (word ++ v)) cs → Unstopped r (word ++ cs)
 
 rest_behind : {r q : Rest} {before between : Bool} {text : List ℕ} {i j : ℕ} {word : List ℕ} {n : Number} → Word text i j word → Leaves r word q (behind text j) → between ≡ (before || has_separator word) → IsRest q between text j n → IsRest r before text i n
@@ -83,7 +83,7 @@ broken_behind {r = r} {q = q} {text = text} {j = j} {word = word} s f l x = reco
   ordered = let a = x.ordered in let b = s.end in omega arith;
 }
 
-behind_word : {r q : Rest} {before between : Bool} {text : List ℕ} {i j : ℕ} {word : List ℕ} {result : Result Number ℕ} → Word text i j word → Leaves r word q (behind text j) → Lifts r word (behind text j) → between ≡ (before || has_separator word) → Reads q between text j result → Reads r before text i result
+pub behind_word : {r q : Rest} {before between : Bool} {text : List ℕ} {i j : ℕ} {word : List ℕ} {result : Result Number ℕ} → Word text i j word → Leaves r word q (behind text j) → Lifts r word (behind text j) → between ≡ (before || has_separator word) → Reads q between text j result → Reads r before text i result
 behind_word {r = r} {q = q} {before = before} {between = between} {text = text} {i = i} {j = j} {result = result} s f l b x = go result x.is
   where
     go : (a : Result Number ℕ) → MatchResult a (λ n. IsRest q between text j n) (λ place. IsBroken q text j place) → Reads r before text i a
@@ -91,7 +91,7 @@ behind_word {r = r} {q = q} {before = before} {between = between} {text = text} 
     go (Err place) x = record { is = broken_behind s f l x }
 
 -- behind one character before which no number stops
-behind_one : {r q : Rest} {before : Bool} {text : List ℕ} {i c : ℕ} {result : Result Number ℕ} → Word text i (i + 1) (c ∷ []) → ((v : List ℕ) → r (c ∷ v) ≡ q v) → goes_on c ≡ true → (c == 95) ≡ false → Reads q before text (i + 1) result → Reads r before text i result
+pub behind_one : {r q : Rest} {before : Bool} {text : List ℕ} {i c : ℕ} {result : Result Number ℕ} → Word text i (i + 1) (c ∷ []) → ((v : List ℕ) → r (c ∷ v) ≡ q v) → goes_on c ≡ true → (c == 95) ≡ false → Reads q before text (i + 1) result → Reads r before text i result
 behind_one {r = r} {before = before} {text = text} {i = i} {c = c} s f g h x =
     behind_word s (λ v more e. f v) (front_goes_on r c (behind text (i + 1)) g) (or-false before ∙ ap (λ (a : Bool). before || (a || false)) (sym h)) x
 
@@ -101,16 +101,16 @@ behind_accepted {r = r} {before = before} {text = text} {i = i} {c = c} s f g h 
     behind_word s (λ v more e. f v) (front_accepted r c (behind text (i + 1)) (ap is_some (f []) ∙ g)) (or-false before ∙ ap (λ (a : Bool). before || (a || false)) (sym h)) x
 
 -- behind one character at which no number ends yet
-behind_rejected : {r q : Rest} {before : Bool} {text : List ℕ} {i c : ℕ} {result : Result Number ℕ} → Word text i (i + 1) (c ∷ []) → ((v : List ℕ) → r (c ∷ v) ≡ q v) → r [] ≡ None → (c == 95) ≡ false → Reads q before text (i + 1) result → Reads r before text i result
+pub behind_rejected : {r q : Rest} {before : Bool} {text : List ℕ} {i c : ℕ} {result : Result Number ℕ} → Word text i (i + 1) (c ∷ []) → ((v : List ℕ) → r (c ∷ v) ≡ q v) → r [] ≡ None → (c == 95) ≡ false → Reads q before text (i + 1) result → Reads r before text i result
 behind_rejected {r = r} {before = before} {text = text} {i = i} {c = c} s f g h x =
     behind_word s (λ v more e. f v) (front_rejected r c (behind text (i + 1)) g) (or-false before ∙ ap (λ (a : Bool). before || (a || false)) (sym h)) x
 
 -- the same where the two agree
-same_here : {r q : Rest} {before : Bool} {text : List ℕ} {i : ℕ} {result : Result Number ℕ} → IsCharBoundary text i → ((v more : List ℕ) → behind text i ≡ v ++ more → r v ≡ q v) → Reads q before text i result → Reads r before text i result
+pub same_here : {r q : Rest} {before : Bool} {text : List ℕ} {i : ℕ} {result : Result Number ℕ} → IsCharBoundary text i → ((v more : List ℕ) → behind text i ≡ v ++ more → r v ≡ q v) → Reads q before text i result → Reads r before text i result
 same_here {before = before} {text = text} {i = i} b f x = behind_word (none_passed text i b) f (λ u. u) (or-false before) x
 
 -- the same where the two agree on all that a digit or the like begins
-same_from_head : {r q : Rest} {before : Bool} {text : List ℕ} {i c : ℕ} {cs : List ℕ} {result : Result Number ℕ} → behind text i ≡ c ∷ cs → goes_on c ≡ true → ((v : List ℕ) → r (c ∷ v) ≡ q (c ∷ v)) → q [] ≡ None → Reads q before text i result → Reads r before text i result
+pub same_from_head : {r q : Rest} {before : Bool} {text : List ℕ} {i c : ℕ} {cs : List ℕ} {result : Result Number ℕ} → behind text i ≡ c ∷ cs → goes_on c ≡ true → ((v : List ℕ) → r (c ∷ v) ≡ q (c ∷ v)) → q [] ≡ None → Reads q before text i result → Reads r before text i result
 same_from_head {r = r} {q = q} {before = before} {text = text} {i = i} {c = c} {cs = cs} {result = result} e g f z x = by result x.is
   where
     go : {n : Number} (w : List ℕ) → Word text i n.end w → q w ≡ Some n.kind → ((a : ℕ) (v others : List ℕ) → behind text n.end ≡ a ∷ v ++ others → q (w ++ a ∷ v) ≡ None) → n.has_separator ≡ (before || has_separator w) → IsRest r before text i n
@@ -138,16 +138,16 @@ stays {before = before} {text = text} {i = i} b e n = record { is = record { wor
 head-of : {c : ℕ} {cs : List ℕ} (p : ℕ → Bool) (x others : List ℕ) → begins p cs ≡ false → cs ≡ c ∷ x ++ others → p c ≡ false
 head-of p x others h e = subst (λ (v : List ℕ). begins p v ≡ false) e h
 
-head-is : {text : List ℕ} {i c : ℕ} (p : ℕ → Bool) → Word text i (i + 1) (c ∷ []) → begins p (behind text i) ≡ false → p c ≡ false
+pub head-is : {text : List ℕ} {i c : ℕ} (p : ℕ → Bool) → Word text i (i + 1) (c ∷ []) → begins p (behind text i) ≡ false → p c ≡ false
 head-is p w h = subst (λ (v : List ℕ). begins p v ≡ false) w.splits h
 
-front-of : {cs : List ℕ} (p : ℕ → Bool) (v more : List ℕ) → begins p cs ≡ false → cs ≡ v ++ more → begins p v ≡ false
+pub front-of : {cs : List ℕ} (p : ℕ → Bool) (v more : List ℕ) → begins p cs ≡ false → cs ≡ v ++ more → begins p v ≡ false
 front-of p v more h e = front-begins p v more (subst (λ (u : List ℕ). begins p u ≡ false) e h)
 
-one_passes : (p : ℕ → Bool) (d c : ℕ) → (c == d) ≡ true → p d ≡ true → p c ≡ true
+pub one_passes : (p : ℕ → Bool) (d c : ℕ) → (c == d) ≡ true → p d ≡ true → p c ≡ true
 one_passes p d c h k = subst (λ (x : ℕ). p x ≡ true) (sym (eqb-true c d h)) k
 
-one_fails : (a d c : ℕ) → (c == d) ≡ true → (d == a) ≡ false → (c == a) ≡ false
+pub one_fails : (a d c : ℕ) → (c == d) ≡ true → (d == a) ≡ false → (c == a) ≡ false
 one_fails a d c h k = subst (λ (x : ℕ). (x == a) ≡ false) (sym (eqb-true c d h)) k
 
 -- digits, and what stands behind them

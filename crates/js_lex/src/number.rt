@@ -179,19 +179,29 @@ fn read_in_radix(text: &str, at: usize, radix: u32, kind: Kind, big: Kind) -> Re
     ensures { Reads (digits (in_radix radix) (suffix kind big) false) false text.now at result }
 {
     let digits = digits_at(text, at, radix);
-    if !digits.complete {
+    if digits.complete {
+        read_suffix(text, digits.end, kind, big, digits.has_separator)
+    } else {
         Err(digits.end)
-    } else if is_at(text, digits.end, b'n') {
+    }
+}
+
+/// BigIntLiteralSuffix or nothing (12.9.3).
+fn read_suffix(text: &str, at: usize, kind: Kind, big: Kind, separated: bool) -> Reading
+    requires { IsCharBoundary text.now at }
+    ensures { Reads (suffix kind big) separated text.now at result }
+{
+    if is_at(text, at, b'n') {
         Ok(Number {
             kind: big,
-            end: digits.end + 1,
-            has_separator: digits.has_separator,
+            end: at + 1,
+            has_separator: separated,
         })
     } else {
         Ok(Number {
             kind,
-            end: digits.end,
-            has_separator: digits.has_separator,
+            end: at,
+            has_separator: separated,
         })
     }
 }

@@ -1,4 +1,4 @@
-use Rattle.std.proofs.Common.{subst, sym}
+use Rattle.std.proofs.Common.{subst, sym, ◌+◌}
 use Rattle.js_lex.proofs.Numbers.{Decimals, decimals_above, decimals_below}
 use Rattle.js_lex.proofs.number.legacy_digits_at.Goals.{then-is_either_at, else-is_either_at}
 use Rattle.js_lex.proofs.number.legacy_digits_at.Goals as goal
