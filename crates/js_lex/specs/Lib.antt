@@ -1,3 +1,4 @@
 pub mod Numbers
 pub mod Places
+pub mod Punctuators
 pub mod Scans

@@ -4,4 +4,5 @@
 mod class;
 mod number;
 mod place;
+mod punctuator;
 mod scan;

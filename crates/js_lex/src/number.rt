@@ -367,7 +367,7 @@ fn legacy_digits_at(text: &str, at: usize) -> Legacy
 }
 
 /// Whether an ASCII character stands at a place.
-fn is_at(text: &str, at: usize, byte: u8) -> bool
+pub(crate) fn is_at(text: &str, at: usize, byte: u8) -> bool
     requires boundary { IsCharBoundary text.now at }
     requires ascii { byte < 128 }
     ensures { Finds (λ c. c == byte) text.now at result }
@@ -379,7 +379,7 @@ fn is_at(text: &str, at: usize, byte: u8) -> bool
 }
 
 /// Whether one of two ASCII characters stands at a place.
-fn is_either_at(text: &str, at: usize, first: u8, second: u8) -> bool
+pub(crate) fn is_either_at(text: &str, at: usize, first: u8, second: u8) -> bool
     requires boundary { IsCharBoundary text.now at }
     requires ascii { first < 128 }
     requires ascii_too { second < 128 }
@@ -392,7 +392,7 @@ fn is_either_at(text: &str, at: usize, first: u8, second: u8) -> bool
 }
 
 /// Whether a digit of a radix stands at a place (12.9.3).
-fn digit_at(text: &str, at: usize, radix: u32) -> bool
+pub(crate) fn digit_at(text: &str, at: usize, radix: u32) -> bool
     requires boundary { IsCharBoundary text.now at }
     requires radix { 2 ≤ radix }
     requires radix_within { radix ≤ 16 }
