@@ -3,3 +3,4 @@ pub mod NumberScans
 pub mod Numbers
 pub mod Places
 pub mod Plain
+pub mod Punctuators

@@ -33,7 +33,7 @@ punctuator_of w = find (λ k. bytes_eq (text_of k) w) punctuators
 -- neither a dot nor a slash begins the characters, and `?.` doesn't
 abbrev pub is_free : List ℕ → Bool
 is_free [] = false
-is_free (c ∷ cs) = not (one_of (46 ∷ 47 ∷ []) c || ((c == 63) && begins (λ d. d == 46) cs))
+is_free (c ∷ cs) = not (one_of (46 ∷ 47 ∷ []) c || (one_of (63 ∷ []) c && begins (one_of (46 ∷ [])) cs))
 
 -- the longest punctuator at the place i
 pub record IsPunctuator (text : List ℕ) (i : ℕ) (p : Punctuator) : Type 0 where
