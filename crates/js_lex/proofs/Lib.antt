@@ -1,3 +1,6 @@
+pub mod NumberRests
+pub mod NumberScans
+pub mod Numbers
 pub mod Places
 pub mod Plain
 pub mod Names
@@ -20,3 +23,5 @@ pub mod Flags
 pub mod StringLemmas
 pub mod StringPlaces
 pub mod KindsOfLexemes
+pub mod PunctuatorScans
+pub mod Punctuators

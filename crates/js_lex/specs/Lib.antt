@@ -1,7 +1,9 @@
+pub mod Numbers
 pub mod Places
 pub mod Comments
 pub mod Kept
 pub mod TriviaPassed
+pub mod Punctuators
 pub mod Scans
 pub mod States
 pub mod Reading
