@@ -1,6 +1,6 @@
 -- From trivia, a scan and what is kept of them to what a call of the lexer answers.
 use Rattle.std.proofs.Common.{◌≡◌, ◌<◌, ◌≤◌, ℕ, ◌+◌, ◌==◌, Bool, true, false, List, [], ◌∷◌, ◌++◌, refl, sym, ap, subst, ◌∙◌, not, ◌&&◌, ◌||◌, length, arith, append_assoc, append-nil, Option, Some, None}
-use Rattle.std.specs.Prelude.{IsTrue, IsCharBoundary, IsUtf8, ◌↔◌, Result, Ok, Err, encode_utf8, encode_utf8_all, drop}
+use Rattle.std.specs.Prelude.{IsTrue, IsCharBoundary, IsUtf8, ◌↔◌, IfOk, OnErr, Result, Ok, Err, encode_utf8, encode_utf8_all, drop}
 use Rattle.std.proofs.lemmas.Str.{IsUtf8-drop, encodes-chars, len_utf8_ascii, IsCharBoundary-past_char}
 use Rattle.js_base.specs.declared.kind.Kind.{Kind}
 use Rattle.js_base.specs.declared.kind.Kind.TheVariants.{RAngle, Eof, Undetermined}
@@ -28,11 +28,11 @@ use Rattle.js_lex.specs.declared.scan.Fault.{Fault}
 use Rattle.js_lex.specs.declared.trivia.Trivia.{Trivia}
 use Rattle.js_lex.specs.declared.output.LexerOutput.{LexerOutput}
 use Rattle.js_lex.specs.Places.{Word}
-use Rattle.js_lex.specs.Kept.{Grows}
+use Rattle.js_lex.specs.Kept.{Grows, Extends}
 use Rattle.js_lex.specs.Scans.{IsScanned, IsStopped, NoLexeme, Scans}
 use Rattle.js_lex.specs.TriviaPassed.{IsPassed}
 use Rattle.js_lex.specs.Comments.{comment_at, irregular_at, html_fault_at, each_at}
-use Rattle.js_lex.proofs.Keeping.{grow_on}
+use Rattle.js_lex.proofs.Keeping.{grow_on, extend_on}
 use Rattle.js_lex.specs.States.{State, goal_of}
 use Rattle.js_lex.specs.Reading.{is_right_angle, cut, Tells, LexemeBehind, GivesLexeme, GivesNone, Outcome, GivesNext, in_a_module, kept_token}
 use Rattle.js_lex.proofs.KindsOfLexemes.{determined, plain_end, greater_word}
@@ -214,3 +214,32 @@ gives_next text source keeps s old mid new tr (Err f) t l p h e =
     none_kept : (b : Bool) → [] ≡ kept_token b (undetermined_of f tr.end tr.has_newline)
     none_kept true = refl
     none_kept false = refl
+
+-- ---- of a call's result
+
+-- what is shown fits into the text
+pub fits_shown : (text : List ℕ) (i most : ℕ) (scan shown_one : Result Scanned Fault) → IsUtf8 text → IsCharBoundary text i → length text ≤ most → Scans division text i scan → shown_one ≡ shown_scan i scan → Fits most i shown_one
+fits_shown text i most scan shown_one u b l h e = subst (Fits most i) (sym e) (by scan h)
+  where
+    by : (r : Result Scanned Fault) → Scans division text i r → Fits most i (shown_scan i r)
+    by (Ok sc) h = let z = shown_end text i sc u b h in let y = z.1.0 in (z.0, omega arith)
+    by (Err f) h = let z = h.ends_between.0 in (h.behind, h.ordered, omega arith)
+
+pub ok_next : (text : List ℕ) (source : Goal) (keeps in_module : Bool) (s : ℕ) (old mid new : LexerOutput) (tr : Trivia) (scan shown_one : Result Scanned Fault) {E : Type 0} (r : Result Token E) → s ≤ length text → in_module ≡ in_a_module source → IsPassed in_module text s tr.end old mid tr → Scans division text tr.end scan → shown_one ≡ shown_scan tr.end scan
+    → IfOk r (λ t. Settled keeps tr.end tr.has_newline shown_one mid new t)
+    → IfOk r (λ t. GivesNext division (record { text = text; goal = source; keeps_tokens = keeps; place = s; kept = old }) (record { text = text; goal = source; keeps_tokens = keeps; place = t.span.end; kept = new }) t)
+ok_next text source keeps in_module s old mid new tr scan shown_one (Ok t) l m p h e k = gives_next text source keeps s old mid new tr scan t l (subst (λ (b : Bool). IsPassed b text s tr.end old mid tr) m p) h (subst (λ (z : Result Scanned Fault). Settled keeps tr.end tr.has_newline z mid new t) e k)
+ok_next text source keeps in_module s old mid new tr scan shown_one (Err x) l m p h e k = tt
+
+-- the token ends between characters
+pub ok_boundary : (text : List ℕ) (keeps newline : Bool) (i : ℕ) (mid new : LexerOutput) (scan shown_one : Result Scanned Fault) {E : Type 0} (r : Result Token E) → IsUtf8 text → IsCharBoundary text i → Scans division text i scan → shown_one ≡ shown_scan i scan → IfOk r (λ t. Settled keeps i newline shown_one mid new t) → IfOk r (λ t. IsCharBoundary text t.span.end)
+ok_boundary text keeps newline i mid new scan shown_one (Err x) u b h e k = tt
+ok_boundary text keeps newline i mid new scan shown_one (Ok t) u b h e k = by scan h (subst (λ (z : Result Scanned Fault). Settled keeps i newline z mid new t) e k)
+  where
+    by : (r : Result Scanned Fault) → Scans division text i r → Settled keeps i newline (shown_scan i r) mid new t → IsCharBoundary text t.span.end
+    by (Ok sc) h k = subst (λ (z : Token). IsCharBoundary text z.span.end) (sym k.0) (shown_end text i sc u b h).1
+    by (Err f) h k = subst (λ (z : Token). IsCharBoundary text z.span.end) (sym k.0) h.ends_between
+
+pub err_next : {m : Bool} {text : List ℕ} {s a : ℕ} {old mid : LexerOutput} {tr : Trivia} (new : LexerOutput) {T E : Type 0} (r : Result T E) → IsPassed m text s a old mid tr → OnErr r (Extends mid new) → OnErr r (Extends old new)
+err_next new (Ok t) p k = k
+err_next new (Err x) p k = extend_on p.grows k

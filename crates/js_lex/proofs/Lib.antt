@@ -13,6 +13,7 @@ pub mod Keeping
 pub mod TriviaLemmas
 pub mod Passing
 pub mod Giving
+pub mod Openings
 pub mod Fronts
 pub mod TemplateParts
 pub mod TemplateLexemes

@@ -186,8 +186,8 @@ zero_numeric : Numeric zero_rest
 zero_numeric [] = refl
 zero_numeric (c ∷ v) = cond_numeric (is_decimal c) _ _ (legacy_numeric (nat_le 56 c) v)
     (cond_numeric (one_of (88 ∷ 120 ∷ []) c) _ _ (digits_numeric is_hex (suffix Hex HexBigInt) (suffix_numeric Hex HexBigInt refl refl) false v)
-        (cond_numeric (one_of (79 ∷ 111 ∷ []) c) _ _ (digits_numeric is_octal (suffix Octal OctalBigInt) (suffix_numeric Octal OctalBigInt refl refl) false v)
-            (cond_numeric (one_of (66 ∷ 98 ∷ []) c) _ _ (digits_numeric is_binary (suffix Binary BinaryBigInt) (suffix_numeric Binary BinaryBigInt refl refl) false v) (integer_numeric (c ∷ v)))))
+    (cond_numeric (one_of (79 ∷ 111 ∷ []) c) _ _ (digits_numeric is_octal (suffix Octal OctalBigInt) (suffix_numeric Octal OctalBigInt refl refl) false v)
+    (cond_numeric (one_of (66 ∷ 98 ∷ []) c) _ _ (digits_numeric is_binary (suffix Binary BinaryBigInt) (suffix_numeric Binary BinaryBigInt refl refl) false v) (integer_numeric (c ∷ v)))))
 
 number_numeric : Numeric number_kind
 number_numeric [] = refl
@@ -328,11 +328,11 @@ front_begins_number c [] rest h l = go (is_decimal c) refl rest h l
     go false g [] h l = absurd (let d = (dot-of c [] g h).digit in cc)
     go false g (d ∷ r) h l =
         absurd (
-          let e = dot-of c (d ∷ r) g h in
-          let z : number_kind (c ∷ d ∷ []) ≡ Some Float = dot_digit c d (subst (λ (x : ℕ). (x == 46) ≡ true) (sym e.dot) refl) e.digit in
-          let y : lexemes_in division (c ∷ d ∷ []) r ≡ true = ap is_some (plain_number c (d ∷ []) r h ∙ z) in
-          let n : lexemes_in division (c ∷ d ∷ []) r ≡ false = none_longer-at (lexemes_in division) (c ∷ []) d [] r (both-right (lexemes_in division (c ∷ []) (d ∷ r)) (none_longer (lexemes_in division) (c ∷ []) (d ∷ r)) l) in
-          cc)
+        let e = dot-of c (d ∷ r) g h in
+        let z : number_kind (c ∷ d ∷ []) ≡ Some Float = dot_digit c d (subst (λ (x : ℕ). (x == 46) ≡ true) (sym e.dot) refl) e.digit in
+        let y : lexemes_in division (c ∷ d ∷ []) r ≡ true = ap is_some (plain_number c (d ∷ []) r h ∙ z) in
+        let n : lexemes_in division (c ∷ d ∷ []) r ≡ false = none_longer-at (lexemes_in division) (c ∷ []) d [] r (both-right (lexemes_in division (c ∷ []) (d ∷ r)) (none_longer (lexemes_in division) (c ∷ []) (d ∷ r)) l) in
+        cc)
 
 stops-of : (k : Kind) (rest : List ℕ) → is_number k ≡ true → (not (is_number k) || stops_number rest) ≡ true → stops_number rest ≡ true
 stops-of k rest h a = subst (λ (b : Bool). (not b || stops_number rest) ≡ true) h a

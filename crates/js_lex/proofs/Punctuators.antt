@@ -92,11 +92,11 @@ longer_none c w d x h e = go (punctuator_of (c ∷ w ++ d ∷ x)) refl
     go : (o : Option Kind) → punctuator_of (c ∷ w ++ d ∷ x) ≡ o → punctuator_of (c ∷ w ++ d ∷ x) ≡ None
     go None g = g
     go (Some k) g = absurd (
-      let p : (one_of (46 ∷ []) c || known [] (c ∷ w ++ d ∷ x)) ≡ true = passes fronts_known (c ∷ w ++ d ∷ x) k g all_known in
-      let q : known [] (c ∷ w ++ d ∷ x) ≡ true = subst (λ (b : Bool). (b || known [] (c ∷ w ++ d ∷ x)) ≡ true) h p in
-      let r : is_some (punctuator_of (c ∷ w ++ d ∷ [])) ≡ true = front_known [] (c ∷ w) d x q in
-      let s : is_some (punctuator_of (c ∷ w ++ d ∷ [])) ≡ false = ap is_some e in
-      cc)
+        let p : (one_of (46 ∷ []) c || known [] (c ∷ w ++ d ∷ x)) ≡ true = passes fronts_known (c ∷ w ++ d ∷ x) k g all_known in
+        let q : known [] (c ∷ w ++ d ∷ x) ≡ true = subst (λ (b : Bool). (b || known [] (c ∷ w ++ d ∷ x)) ≡ true) h p in
+        let r : is_some (punctuator_of (c ∷ w ++ d ∷ [])) ≡ true = front_known [] (c ∷ w) d x q in
+        let s : is_some (punctuator_of (c ∷ w ++ d ∷ [])) ≡ false = ap is_some e in
+        cc)
 
 first_known : list_all (λ k. begins (λ d. is_some (punctuator_of (d ∷ []))) (text_of k)) punctuators ≡ true
 unfolding punctuators
@@ -108,9 +108,9 @@ alone_none c x e = go (punctuator_of (c ∷ x)) refl
     go : (o : Option Kind) → punctuator_of (c ∷ x) ≡ o → punctuator_of (c ∷ x) ≡ None
     go None g = g
     go (Some k) g = absurd (
-      let p : is_some (punctuator_of (c ∷ [])) ≡ true = passes (begins (λ d. is_some (punctuator_of (d ∷ [])))) (c ∷ x) k g first_known in
-      let s : is_some (punctuator_of (c ∷ [])) ≡ false = ap is_some e in
-      cc)
+        let p : is_some (punctuator_of (c ∷ [])) ≡ true = passes (begins (λ d. is_some (punctuator_of (d ∷ [])))) (c ∷ x) k g first_known in
+        let s : is_some (punctuator_of (c ∷ [])) ≡ false = ap is_some e in
+        cc)
 
 -- all punctuators are ASCII
 all_ascii : list_all (λ k. list_all (λ c. nat_lt c 128) (text_of k)) punctuators ≡ true

@@ -8,6 +8,7 @@ pub mod Scans
 pub mod States
 pub mod Reading
 pub mod Settling
+pub mod Openings
 pub mod Names
 pub mod NextCharacters
 pub mod TemplateParts

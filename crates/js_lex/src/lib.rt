@@ -7,6 +7,7 @@ mod class;
 mod comment;
 mod config;
 mod hashbang;
+mod lexer;
 mod name;
 mod number;
 mod output;
@@ -20,9 +21,11 @@ mod string;
 mod template;
 mod trivia;
 
+pub use checkpoint::LexerCheckpoint;
 pub use comment::{Comment, CommentKind, Comments};
 pub use config::{
     LexerConfig, NoTokensLexerConfig, NoTokensParserConfig, ParserConfig, RuntimeLexerConfig,
     RuntimeParserConfig, TokensLexerConfig, TokensParserConfig,
 };
+pub use lexer::Lexer;
 pub use output::LexerOutput;
