@@ -209,3 +209,11 @@ four_stop a b c d = record { none = λ e r f. fails at_most_four (a ∷ b ∷ c 
 
 pub free_second : (c d : ℕ) (w : List ℕ) → is_free (c ∷ d ∷ []) ≡ true → is_free (c ∷ d ∷ w) ≡ true
 free_second c d w h = h
+
+-- no punctuator begins with the character at the place
+pub begins_none : {text : List ℕ} {i b : ℕ} → Peeks text i b → punctuator_of (b ∷ []) ≡ None → Rattle.js_lex.specs.Punctuators.BeginsNone (behind text i)
+begins_none {text = text} {i = i} {b = b} p e = go (cases_lt b 128)
+  where
+    go : (b < 128) ⊎ (128 ≤ b) → Rattle.js_lex.specs.Punctuators.BeginsNone (behind text i)
+    go (inl l) = subst Rattle.js_lex.specs.Punctuators.BeginsNone (sym (p.ascii l).splits) e
+    go (inr h) = let q = p.high h in subst Rattle.js_lex.specs.Punctuators.BeginsNone (sym q.word.splits) (high_none [] q.character [] q.high)
