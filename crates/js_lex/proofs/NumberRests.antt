@@ -1,21 +1,20 @@
 -- Readings of what is left of a number, from those of what is left behind a front of it.
-use Rattle.std.proofs.Common.{◌≡◌, ◌<◌, ◌≤◌, ℕ, ◌+◌, ◌==◌, Bool, true, false, List, [], ◌∷◌, ◌++◌, refl, sym, ap, subst, ◌∙◌, not, ◌&&◌, ◌||◌, append_assoc, arith, Option, Some, None}
-use Rattle.std.specs.Prelude.{is_some, nat_le, IsCharBoundary, Result, Ok, Err, MatchResult}
-use Rattle.std.specs.List.{list_all, list_any}
+use Rattle.std.proofs.Common.{◌≡◌, ℕ, ◌+◌, ◌==◌, Bool, true, false, List, [], ◌∷◌, ◌++◌, refl, sym, ap, subst, ◌∙◌, not, ◌&&◌, ◌||◌, append_assoc, arith, Option, Some, None}
+use Rattle.std.specs.Prelude.{is_some, IsCharBoundary, Result, Ok, Err, MatchResult}
+use Rattle.std.specs.List.{list_all}
 use Rattle.std.proofs.lemmas.Bool.{eqb-true}
 use Rattle.js_base.specs.declared.kind.Kind.{Kind}
-use Rattle.js_base.specs.declared.kind.Kind.TheVariants.{Octal, Decimal, Float, PositiveExponential, NegativeExponential, DecimalBigInt}
+use Rattle.js_base.specs.declared.kind.Kind.TheVariants.{Decimal, Float, PositiveExponential, NegativeExponential, DecimalBigInt}
 use Rattle.js_base.specs.Characters.{one_of, is_decimal}
 use Rattle.js_grammar.specs.Characters.{begins}
-use Rattle.js_grammar.specs.Numbers.{Rest, ends, suffix, digits, signed, exponent, fraction, decimal_rest, integer_rest, legacy, zero_rest, number_kind, has_separator, stops_number}
+use Rattle.js_grammar.specs.Numbers.{Rest, ends, suffix, digits, signed, exponent, fraction, decimal_rest, integer_rest, has_separator, stops_number}
 use Rattle.js_grammar.specs.LexicalFaults.{behind}
 use Rattle.js_grammar.proofs.LongestLemmas.{both-left, both-right, not-true}
 use Rattle.js_grammar.proofs.Finding.{member, neither-left, neither-right}
 use Rattle.js_lex.specs.declared.number.Number.{Number}
 use Rattle.js_lex.specs.declared.number.Digits.{Digits}
-use Rattle.js_lex.specs.declared.number.Legacy.{Legacy}
 use Rattle.js_lex.specs.Places.{Word}
-use Rattle.js_lex.specs.Numbers.{goes_on, in_radix, Finds, Unstopped, IsRest, IsBroken, Reads, AreDigits, AreLegacy}
+use Rattle.js_lex.specs.Numbers.{goes_on, in_radix, Finds, Unstopped, IsRest, IsBroken, Reads, AreDigits}
 use Rattle.js_lex.proofs.Places.{none_passed, then}
 use Rattle.js_lex.proofs.Numbers.{any-append, or-assoc, or-false, front-begins, decimal-on}
 
@@ -123,13 +122,15 @@ same_from_head {r = r} {q = q} {before = before} {text = text} {i = i} {c = c} {
 
     by : (a : Result Number ℕ) → MatchResult a (λ n. IsRest q before text i n) (λ place. IsBroken q text i place) → Reads r before text i a
     by (Ok n) x = record { is = go {n = n} x.word x.stands x.kind x.never x.separated }
-    by (Err place) x = record { is = record {
-      unstopped =
-          let u : Unstopped q (c ∷ cs) = subst (λ (v : List ℕ). Unstopped q v) e x.unstopped in
-          subst (λ (v : List ℕ). Unstopped r v) (sym e) (front_goes_on r c cs g (unstopped_same (λ v. r (c ∷ v)) (λ v. q (c ∷ v)) cs (λ v more p. f v) (λ w more p s n t. u (c ∷ w) more (ap (λ (v : List ℕ). c ∷ v) p) s n t)));
-      boundary = x.boundary;
-      ordered = x.ordered;
-    } }
+    by (Err place) x = record {
+      is = record {
+        unstopped =
+            let u : Unstopped q (c ∷ cs) = subst (λ (v : List ℕ). Unstopped q v) e x.unstopped in
+            subst (λ (v : List ℕ). Unstopped r v) (sym e) (front_goes_on r c cs g (unstopped_same (λ v. r (c ∷ v)) (λ v. q (c ∷ v)) cs (λ v more p. f v) (λ w more p s n t. u (c ∷ w) more (ap (λ (v : List ℕ). c ∷ v) p) s n t)));
+        boundary = x.boundary;
+        ordered = x.ordered;
+      };
+    }
 
 -- nothing more is taken
 pub stays : {r : Rest} {before : Bool} {text : List ℕ} {i : ℕ} {k : Kind} → IsCharBoundary text i → r [] ≡ Some k → ((c : ℕ) (x others : List ℕ) → behind text i ≡ c ∷ x ++ others → r (c ∷ x) ≡ None) → Reads r before text i (Ok (record { kind = k; end = i; has_separator = before }))
@@ -163,17 +164,19 @@ pub behind_digits : {radix : ℕ} (r : Rest) {before between : Bool} {text : Lis
 behind_digits {radix = radix} r {before = before} {text = text} {n = n} d k b x =
     behind_word d.stands
     (λ v more e. d.left r v ∙ ap (λ (a : Bool). digits (in_radix radix) r a v) k ∙ digits_ended (in_radix radix) r v (front-begins (λ c. in_radix radix c || (true && (c == 95))) v more
-        (subst (λ (cs : List ℕ). begins (λ c. in_radix radix c || (true && (c == 95))) cs ≡ false) e (subst (λ (a : Bool). begins (λ c. in_radix radix c || (a && (c == 95))) (behind text n.end) ≡ false) k d.end))))
+    (subst (λ (cs : List ℕ). begins (λ c. in_radix radix c || (true && (c == 95))) cs ≡ false) e (subst (λ (a : Bool). begins (λ c. in_radix radix c || (a && (c == 95))) (behind text n.end) ≡ false) k d.end))))
     (fronts_go_on (digits (in_radix radix) r false) d.word (behind text n.end) d.on)
     (b ∙ ap (λ (a : Bool). before || a) d.separated) x
 
 pub broken_digits : {radix : ℕ} (r : Rest) {before : Bool} {text : List ℕ} {i : ℕ} {n : Digits} → AreDigits radix text i n → n.complete ≡ false → Reads (digits (in_radix radix) r false) before text i (Err n.end)
 broken_digits {radix = radix} r {text = text} {n = n} d k =
-    record { is = broken_behind {q = λ v. None} d.stands
-    (λ v more e. d.left r v ∙ ap (λ (a : Bool). digits (in_radix radix) r a v) k ∙ no_digits (in_radix radix) r v (front-begins (λ c. in_radix radix c || (false && (c == 95))) v more
-        (subst (λ (cs : List ℕ). begins (λ c. in_radix radix c || (false && (c == 95))) cs ≡ false) e (subst (λ (a : Bool). begins (λ c. in_radix radix c || (a && (c == 95))) (behind text n.end) ≡ false) k d.end))))
-    (fronts_go_on (digits (in_radix radix) r false) d.word (behind text n.end) d.on)
-    (record { unstopped = λ w more e s m t. (let a : false ≡ true = s in cc); boundary = d.stands.boundary; ordered = omega arith }) }
+    record {
+      is = broken_behind {q = λ v. None} d.stands
+          (λ v more e. d.left r v ∙ ap (λ (a : Bool). digits (in_radix radix) r a v) k ∙ no_digits (in_radix radix) r v (front-begins (λ c. in_radix radix c || (false && (c == 95))) v more
+          (subst (λ (cs : List ℕ). begins (λ c. in_radix radix c || (false && (c == 95))) cs ≡ false) e (subst (λ (a : Bool). begins (λ c. in_radix radix c || (a && (c == 95))) (behind text n.end) ≡ false) k d.end))))
+          (fronts_go_on (digits (in_radix radix) r false) d.word (behind text n.end) d.on)
+          (record { unstopped = λ w more e s m t. (let a : false ≡ true = s in cc); boundary = d.stands.boundary; ordered = omega arith });
+    }
 
 pub or-left : (a b : Bool) → a ≡ true → a ≡ (a || b)
 or-left true b h = refl

@@ -1,8 +1,8 @@
 -- What the longest punctuator, or none, tells of lexemes.
-use Rattle.std.proofs.Common.{◌≡◌, ◌<◌, ◌≤◌, ℕ, ◌+◌, ◌-◌, ◌==◌, Bool, true, false, List, [], ◌∷◌, ◌++◌, refl, sym, ap, subst, ◌∙◌, not, ◌&&◌, ◌||◌, append_assoc, arith, Option, Some, None, length, length-append, length-drop, drop}
-use Rattle.std.specs.Prelude.{is_some, nat_eq, IsCharBoundary, IsUtf8, bytes_eq, codes, chars, encode_utf8, encode_utf8_all}
+use Rattle.std.proofs.Common.{◌≡◌, ◌≤◌, ℕ, ◌+◌, ◌==◌, Bool, true, false, List, [], ◌∷◌, ◌++◌, refl, sym, ap, subst, ◌∙◌, not, ◌&&◌, ◌||◌, append_assoc, arith, Some, None, length, length-append, length-drop, drop}
+use Rattle.std.specs.Prelude.{is_some, IsCharBoundary, IsUtf8, bytes_eq, codes, encode_utf8, encode_utf8_all}
 use Rattle.std.specs.Char.{len_utf8}
-use Rattle.std.specs.List.{list_all, find}
+use Rattle.std.specs.List.{list_all}
 use Rattle.std.proofs.lemmas.Bool.{eqb-true}
 use Rattle.std.proofs.lemmas.Bool.Decides.{nat_tests}
 use Rattle.std.proofs.lemmas.Str.{length-encode, len_utf8_bounds, encodes-chars, IsUtf8-drop, IsCharBoundary-end}
@@ -14,12 +14,12 @@ use Rattle.js_base.specs.Texts.{text_of, punctuators, words}
 use Rattle.js_base.specs.Characters.{one_of, is_decimal}
 use Rattle.js_grammar.specs.Characters.{begins, is_identifier_start, width}
 use Rattle.js_grammar.specs.CoreTexts.{starts}
-use Rattle.js_grammar.specs.Longest.{Class, longest, none_longer, none_begins}
+use Rattle.js_grammar.specs.Longest.{Class, none_longer, none_begins}
 use Rattle.js_grammar.specs.Trivia.{is_single_line_comment, is_multi_line_comment}
 use Rattle.js_grammar.specs.Numbers.{is_number, stops_number}
-use Rattle.js_grammar.specs.Lexemes.{punctuator_kind, plain_kind, lexemes_in, division, Opening, a_name, a_number, a_string, a_template, a_private_name, a_punctuator, opening, is_word, is_escaped, is_separated}
+use Rattle.js_grammar.specs.Lexemes.{punctuator_kind, plain_kind, lexemes_in, division, a_name, a_number, a_string, a_template, a_private_name, a_punctuator, opening, is_word}
 use Rattle.js_grammar.specs.Lexed.{IsLexeme}
-use Rattle.js_grammar.specs.LexicalFaults.{behind, Unterminated, InvalidCharacter, BinaryFile, begins_nothing, is_open_comment, is_comment}
+use Rattle.js_grammar.specs.LexicalFaults.{behind, begins_nothing, is_comment}
 use Rattle.js_grammar.proofs.LongestLemmas.{both-left, both-right, both, not-true, none_longer-at, append-nil}
 use Rattle.js_grammar.proofs.Finding.{neither-left, neither-right, found-all}
 use Rattle.js_grammar.proofs.CoreLemmas.{none_longer-from, plain_of}
@@ -244,15 +244,18 @@ unterminated {text = text} {i = i} u b h n =
     let l = begun-width (behind text i) g in
     record {
       none = no_lexeme_begun text i g;
-      condition = (refl, record {
-        word = behind text i;
-        rest = [];
-        here = sym (append-nil (behind text i));
-        opened = both (starts (codes "/*") (behind text i)) true h refl;
-        never = subst (λ (v : List ℕ). none_begins is_comment v ≡ true) (sym (append-nil (behind text i)))
-            (none_mono (λ w rest. is_single_line_comment w || is_multi_line_comment w) is_comment (behind text i) (λ w rest f. neither-right (is_single_line_comment w) (is_multi_line_comment w) f) n);
-        end = e;
-      });
+      condition = (
+        refl,
+        record {
+          word = behind text i;
+          rest = [];
+          here = sym (append-nil (behind text i));
+          opened = both (starts (codes "/*") (behind text i)) true h refl;
+          never = subst (λ (v : List ℕ). none_begins is_comment v ≡ true) (sym (append-nil (behind text i)))
+              (none_mono (λ w rest. is_single_line_comment w || is_multi_line_comment w) is_comment (behind text i) (λ w rest f. neither-right (is_single_line_comment w) (is_multi_line_comment w) f) n);
+          end = e;
+        },
+      );
       behind = omega arith;
       ordered = omega arith;
       begins_between = b;

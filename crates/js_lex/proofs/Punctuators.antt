@@ -1,15 +1,14 @@
 -- Which punctuators there are, and that a front of one is one.
 use Rattle.std.proofs.Common.{◌≡◌, ◌<◌, ◌≤◌, ℕ, ◌+◌, ◌==◌, Bool, true, false, List, [], ◌∷◌, ◌++◌, refl, sym, ap, subst, ◌∙◌, not, ◌&&◌, ◌||◌, append_assoc, arith, Option, Some, None, ◌⊎◌, inl, inr}
-use Rattle.std.specs.Prelude.{is_some, nat_lt, IsCharBoundary, bytes_eq, cond, codes}
+use Rattle.std.specs.Prelude.{is_some, nat_lt, bytes_eq, cond}
 use Rattle.std.specs.List.{list_all, find}
-use Rattle.std.proofs.lemmas.Bool.{eqb-true, cases_lt}
-use Rattle.std.proofs.lemmas.Bool.Decides.{nat_tests}
+use Rattle.std.proofs.lemmas.Bool.{cases_lt}
 use Rattle.std.proofs.lemmas.Slice.Eq.{bytes_eq-Decides}
 use Rattle.js_base.specs.declared.kind.Kind.{Kind}
-use Rattle.js_base.specs.declared.kind.Kind.TheVariants.{Dot, Dot3, Question, QuestionDot, Question2, Slash, SlashEq}
+use Rattle.js_base.specs.declared.kind.Kind.TheVariants.{QuestionDot, Slash}
 use Rattle.js_base.specs.Kinds.{same_kind}
 use Rattle.js_base.specs.Texts.{text_of, punctuators}
-use Rattle.js_base.specs.Characters.{one_of, is_decimal}
+use Rattle.js_base.specs.Characters.{one_of}
 use Rattle.js_grammar.specs.Characters.{begins}
 use Rattle.js_grammar.specs.Lexemes.{may_precede, punctuator_kind}
 use Rattle.js_grammar.specs.LexicalFaults.{behind}
@@ -17,9 +16,7 @@ use Rattle.js_grammar.proofs.LongestLemmas.{both-left, both-right, both, not-tru
 use Rattle.js_grammar.proofs.Finding.{neither-left, neither-right, found-test, found-all}
 use Rattle.js_grammar.proofs.CoreLemmas.{implies, implied}
 use Rattle.js_grammar.proofs.CoreFirst.{lt-true}
-use Rattle.js_lex.specs.declared.punctuator.Punctuator.{Punctuator}
-use Rattle.js_lex.specs.Places.{Word, High, Peeks}
-use Rattle.js_lex.specs.Numbers.{Finds, in_radix}
+use Rattle.js_lex.specs.Places.{Word, Peeks}
 use Rattle.js_lex.specs.Punctuators.{punctuator_of, is_free, opens_no_comment, IsPunctuator}
 use Rattle.js_lex.proofs.Places.{then}
 
@@ -92,11 +89,11 @@ longer_none c w d x h e = go (punctuator_of (c ∷ w ++ d ∷ x)) refl
     go : (o : Option Kind) → punctuator_of (c ∷ w ++ d ∷ x) ≡ o → punctuator_of (c ∷ w ++ d ∷ x) ≡ None
     go None g = g
     go (Some k) g = absurd (
-      let p : (one_of (46 ∷ []) c || known [] (c ∷ w ++ d ∷ x)) ≡ true = passes fronts_known (c ∷ w ++ d ∷ x) k g all_known in
-      let q : known [] (c ∷ w ++ d ∷ x) ≡ true = subst (λ (b : Bool). (b || known [] (c ∷ w ++ d ∷ x)) ≡ true) h p in
-      let r : is_some (punctuator_of (c ∷ w ++ d ∷ [])) ≡ true = front_known [] (c ∷ w) d x q in
-      let s : is_some (punctuator_of (c ∷ w ++ d ∷ [])) ≡ false = ap is_some e in
-      cc)
+        let p : (one_of (46 ∷ []) c || known [] (c ∷ w ++ d ∷ x)) ≡ true = passes fronts_known (c ∷ w ++ d ∷ x) k g all_known in
+        let q : known [] (c ∷ w ++ d ∷ x) ≡ true = subst (λ (b : Bool). (b || known [] (c ∷ w ++ d ∷ x)) ≡ true) h p in
+        let r : is_some (punctuator_of (c ∷ w ++ d ∷ [])) ≡ true = front_known [] (c ∷ w) d x q in
+        let s : is_some (punctuator_of (c ∷ w ++ d ∷ [])) ≡ false = ap is_some e in
+        cc)
 
 first_known : list_all (λ k. begins (λ d. is_some (punctuator_of (d ∷ []))) (text_of k)) punctuators ≡ true
 unfolding punctuators
@@ -108,9 +105,9 @@ alone_none c x e = go (punctuator_of (c ∷ x)) refl
     go : (o : Option Kind) → punctuator_of (c ∷ x) ≡ o → punctuator_of (c ∷ x) ≡ None
     go None g = g
     go (Some k) g = absurd (
-      let p : is_some (punctuator_of (c ∷ [])) ≡ true = passes (begins (λ d. is_some (punctuator_of (d ∷ [])))) (c ∷ x) k g first_known in
-      let s : is_some (punctuator_of (c ∷ [])) ≡ false = ap is_some e in
-      cc)
+        let p : is_some (punctuator_of (c ∷ [])) ≡ true = passes (begins (λ d. is_some (punctuator_of (d ∷ [])))) (c ∷ x) k g first_known in
+        let s : is_some (punctuator_of (c ∷ [])) ≡ false = ap is_some e in
+        cc)
 
 -- all punctuators are ASCII
 all_ascii : list_all (λ k. list_all (λ c. nat_lt c 128) (text_of k)) punctuators ≡ true

@@ -110,7 +110,9 @@ fn stops_at(text: &str, at: usize) -> bool
     ensures { result ≡ stops_number (behind text.now at) }
 {
     match byte_at(text, at) {
-        Some(byte) if byte < 128 => !(byte.is_ascii_digit() || byte == b'\\' || is_identifier_start(char::from(byte))),
+        Some(byte) if byte < 128 => !(byte.is_ascii_digit()
+            || byte == b'\\'
+            || is_identifier_start(char::from(byte))),
         Some(_) => match char_at(text, at) {
             Some(c) => !is_identifier_start(c),
             None => true,
@@ -268,7 +270,12 @@ fn read_fraction_digits(text: &str, at: usize, separated: bool) -> Reading
 {
     let digits = digits_at(text, at, 10);
     if digits.complete {
-        read_exponent(text, digits.end, Kind::Float, separated || digits.has_separator)
+        read_exponent(
+            text,
+            digits.end,
+            Kind::Float,
+            separated || digits.has_separator,
+        )
     } else {
         Err(digits.end)
     }

@@ -189,7 +189,14 @@ fn longer_than_two(text: &str, at: usize, first: u8, second: u8, kind: Kind) -> 
 }
 
 /// The longest punctuator that begins with one of three characters.
-fn longer_than_three(text: &str, at: usize, first: u8, second: u8, third: u8, kind: Kind) -> Punctuator
+fn longer_than_three(
+    text: &str,
+    at: usize,
+    first: u8,
+    second: u8,
+    third: u8,
+    kind: Kind,
+) -> Punctuator
     requires word { Word text.now at (at + 3) (first ∷ second ∷ third ∷ []) }
     requires kind { punctuator_of (first ∷ second ∷ third ∷ []) ≡ Some kind }
     requires free { IsTrue (is_free (first ∷ second ∷ third ∷ [])) }
