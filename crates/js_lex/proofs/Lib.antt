@@ -24,5 +24,6 @@ pub mod Flags
 pub mod StringLemmas
 pub mod StringPlaces
 pub mod KindsOfLexemes
+pub mod PunctuatorLexemes
 pub mod PunctuatorScans
 pub mod Punctuators

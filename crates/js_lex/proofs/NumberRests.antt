@@ -1,21 +1,20 @@
 -- Readings of what is left of a number, from those of what is left behind a front of it.
-use Rattle.std.proofs.Common.{◌≡◌, ◌<◌, ◌≤◌, ℕ, ◌+◌, ◌==◌, Bool, true, false, List, [], ◌∷◌, ◌++◌, refl, sym, ap, subst, ◌∙◌, not, ◌&&◌, ◌||◌, append_assoc, arith, Option, Some, None}
-use Rattle.std.specs.Prelude.{is_some, nat_le, IsCharBoundary, Result, Ok, Err, MatchResult}
-use Rattle.std.specs.List.{list_all, list_any}
+use Rattle.std.proofs.Common.{◌≡◌, ℕ, ◌+◌, ◌==◌, Bool, true, false, List, [], ◌∷◌, ◌++◌, refl, sym, ap, subst, ◌∙◌, not, ◌&&◌, ◌||◌, append_assoc, arith, Option, Some, None}
+use Rattle.std.specs.Prelude.{is_some, IsCharBoundary, Result, Ok, Err, MatchResult}
+use Rattle.std.specs.List.{list_all}
 use Rattle.std.proofs.lemmas.Bool.{eqb-true}
 use Rattle.js_base.specs.declared.kind.Kind.{Kind}
-use Rattle.js_base.specs.declared.kind.Kind.TheVariants.{Octal, Decimal, Float, PositiveExponential, NegativeExponential, DecimalBigInt}
+use Rattle.js_base.specs.declared.kind.Kind.TheVariants.{Decimal, Float, PositiveExponential, NegativeExponential, DecimalBigInt}
 use Rattle.js_base.specs.Characters.{one_of, is_decimal}
 use Rattle.js_grammar.specs.Characters.{begins}
-use Rattle.js_grammar.specs.Numbers.{Rest, ends, suffix, digits, signed, exponent, fraction, decimal_rest, integer_rest, legacy, zero_rest, number_kind, has_separator, stops_number}
+use Rattle.js_grammar.specs.Numbers.{Rest, ends, suffix, digits, signed, exponent, fraction, decimal_rest, integer_rest, has_separator, stops_number}
 use Rattle.js_grammar.specs.LexicalFaults.{behind}
 use Rattle.js_grammar.proofs.LongestLemmas.{both-left, both-right, not-true}
 use Rattle.js_grammar.proofs.Finding.{member, neither-left, neither-right}
 use Rattle.js_lex.specs.declared.number.Number.{Number}
 use Rattle.js_lex.specs.declared.number.Digits.{Digits}
-use Rattle.js_lex.specs.declared.number.Legacy.{Legacy}
 use Rattle.js_lex.specs.Places.{Word}
-use Rattle.js_lex.specs.Numbers.{goes_on, in_radix, Finds, Unstopped, IsRest, IsBroken, Reads, AreDigits, AreLegacy}
+use Rattle.js_lex.specs.Numbers.{goes_on, in_radix, Finds, Unstopped, IsRest, IsBroken, Reads, AreDigits}
 use Rattle.js_lex.proofs.Places.{none_passed, then}
 use Rattle.js_lex.proofs.Numbers.{any-append, or-assoc, or-false, front-begins, decimal-on}
 

@@ -1,7 +1,7 @@
 -- Readings of whole numbers, and what they tell of lexemes.
-use Rattle.std.proofs.Common.{◌≡◌, ◌<◌, ◌≤◌, ℕ, ◌+◌, ◌==◌, Bool, true, false, List, [], ◌∷◌, ◌++◌, refl, sym, ap, subst, ◌∙◌, not, ◌&&◌, ◌||◌, append_assoc, arith, Option, Some, None, inl, inr}
-use Rattle.std.specs.Prelude.{is_some, nat_lt, nat_eq, nat_le, IsCharBoundary, Result, Ok, Err, MatchResult, IfErr}
-use Rattle.std.specs.List.{list_all, list_any}
+use Rattle.std.proofs.Common.{◌≡◌, ◌<◌, ℕ, ◌+◌, ◌==◌, Bool, true, false, List, [], ◌∷◌, ◌++◌, refl, sym, ap, subst, ◌∙◌, not, ◌&&◌, ◌||◌, arith, Option, Some, None, inl, inr}
+use Rattle.std.specs.Prelude.{is_some, nat_lt, nat_eq, nat_le, IsCharBoundary, Result, Ok}
+use Rattle.std.specs.List.{list_all}
 use Rattle.std.proofs.lemmas.Bool.{eqb-true}
 use Rattle.std.proofs.lemmas.Bool.Decides.{nat_tests}
 use Rattle.js_base.specs.declared.kind.Kind.{Kind}
@@ -11,28 +11,25 @@ use Rattle.js_base.specs.declared.diagnostic.DiagnosticKind.TheVariants as fault
 use Rattle.js_base.specs.Kinds.{code, same_kind, one_of_kinds}
 use Rattle.js_base.specs.Texts.{words}
 use Rattle.js_base.specs.Characters.{one_of, is_decimal, is_hex, is_octal, is_binary}
-use Rattle.js_grammar.specs.Characters.{begins, width}
+use Rattle.js_grammar.specs.Characters.{begins}
 use Rattle.js_grammar.specs.Longest.{longest, none_longer}
 use Rattle.js_grammar.specs.Numbers.{Rest, ends, suffix, digits, signed, exponent, fraction, decimal_rest, integer_rest, legacy, zero_rest, number_kind, has_separator, stops_number, is_number}
-use Rattle.js_grammar.specs.Lexemes.{plain_kind, lexemes_in, division, Opening, a_number, opening, is_escaped, is_separated, is_word}
+use Rattle.js_grammar.specs.Lexemes.{plain_kind, lexemes_in, division, a_number, opening, is_escaped}
 use Rattle.js_grammar.specs.Lexed.{IsLexeme}
 use Rattle.js_grammar.specs.LexicalFaults.{behind, InvalidNumber, is_number_word, Stopping}
-use Rattle.js_grammar.proofs.LongestLemmas.{both-left, both-right, both, not-true, none_longer-at, Same, GoesOn, fronts}
+use Rattle.js_grammar.proofs.LongestLemmas.{both-left, both-right, both, not-true, none_longer-at, fronts}
 use Rattle.js_grammar.proofs.Finding.{member, neither-left, neither-right, kind_member}
 use Rattle.js_grammar.proofs.CoreLemmas.{none_longer-from, plain_of, opens, opens-same}
 use Rattle.js_grammar.proofs.CoreFirst.{decimal-ascii}
 use Rattle.js_grammar.proofs.CoreNames.{ascii}
 use Rattle.js_lex.specs.declared.number.Number.{Number}
-use Rattle.js_lex.specs.declared.number.Digits.{Digits}
 use Rattle.js_lex.specs.declared.number.Legacy.{Legacy}
-use Rattle.js_lex.specs.declared.scan.Scanned.{Scanned}
 use Rattle.js_lex.specs.declared.scan.Fault.{Fault}
 use Rattle.js_lex.specs.Places.{Word}
 use Rattle.js_lex.specs.Scans.{IsScanned, IsStopped, NoLexeme}
-use Rattle.js_lex.specs.Numbers.{begins_number, goes_on, in_radix, Finds, Unstopped, IsRest, IsBroken, Reads, AreDigits, AreLegacy}
-use Rattle.js_lex.proofs.Places.{none_passed, then}
-use Rattle.js_lex.proofs.Numbers.{any-append, or-assoc, or-false, front-begins, decimal-on}
-use Rattle.js_lex.proofs.NumberRests.{behind_word, behind_one, behind_rejected, same_here, same_from_head, fronts_go_on, one_fails, one_passes, head-is, front-of, stays}
+use Rattle.js_lex.specs.Numbers.{begins_number, goes_on, in_radix, Finds, Unstopped, IsRest, Reads, AreLegacy}
+use Rattle.js_lex.proofs.Numbers.{decimal-on}
+use Rattle.js_lex.proofs.NumberRests.{behind_word, behind_one, behind_rejected, same_here, same_from_head, fronts_go_on, one_fails, head-is, front-of, stays}
 
 -- behind a zero: the digits of a legacy integer
 zero_legacy : (word v : List ℕ) → begins is_decimal word ≡ true → zero_rest (word ++ v) ≡ legacy false (word ++ v)

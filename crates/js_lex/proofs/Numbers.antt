@@ -1,25 +1,20 @@
 -- What is left of numbers, over lists of characters and between places.
-use Rattle.std.proofs.Common.{◌≡◌, ◌<◌, ◌≤◌, ℕ, ◌+◌, ◌==◌, Bool, true, false, List, [], ◌∷◌, ◌++◌, refl, sym, ap, subst, ◌∙◌, not, ◌&&◌, ◌||◌, append_assoc, arith, Option, Some, None, ◌⊎◌, inl, inr, length}
-use Rattle.std.specs.Prelude.{is_some, nat_lt, nat_le, IsCharBoundary, Result, Ok, Err}
+use Rattle.std.proofs.Common.{◌≡◌, ◌<◌, ◌≤◌, ℕ, ◌+◌, ◌==◌, Bool, true, false, List, [], ◌∷◌, ◌++◌, refl, sym, ap, subst, ◌∙◌, not, ◌&&◌, ◌||◌, append_assoc, arith, length}
+use Rattle.std.specs.Prelude.{nat_lt, nat_le, IsCharBoundary}
 use Rattle.std.specs.List.{list_all, list_any}
 use Rattle.std.specs.Char.{is_digit, digit_value}
 use Rattle.std.proofs.lemmas.Bool.Decides.{nat_tests}
-use Rattle.js_base.specs.declared.kind.Kind.{Kind}
-use Rattle.js_base.specs.declared.kind.Kind.TheVariants.{Octal, Decimal}
 use Rattle.js_base.specs.Characters.{one_of, is_decimal, is_hex}
-use Rattle.js_grammar.specs.Characters.{begins, is_identifier_start, width}
-use Rattle.js_grammar.specs.Numbers.{Rest, digits, legacy, zero_rest, decimal_rest, has_separator, stops_number}
+use Rattle.js_grammar.specs.Characters.{begins}
+use Rattle.js_grammar.specs.Numbers.{Rest, digits, legacy, has_separator}
 use Rattle.js_grammar.specs.LexicalFaults.{behind}
 use Rattle.js_grammar.proofs.LongestLemmas.{both-left, both-right, both, append-nil}
-use Rattle.js_grammar.proofs.Finding.{all-append, neither-left, neither-right}
+use Rattle.js_grammar.proofs.Finding.{all-append}
 use Rattle.js_grammar.proofs.CoreLemmas.{below, implies, implied}
 use Rattle.js_grammar.proofs.CoreFirst.{decimal-ascii}
-use Rattle.js_lex.specs.declared.number.Number.{Number}
-use Rattle.js_lex.specs.declared.number.Digits.{Digits}
-use Rattle.js_lex.specs.declared.number.Legacy.{Legacy}
 use Rattle.js_lex.specs.Places.{Word}
-use Rattle.js_lex.specs.Numbers.{goes_on, in_radix, Finds, Unstopped, IsRest, IsBroken, Reads, AreDigits, AreLegacy}
-use Rattle.js_lex.proofs.Places.{none_passed, then, width-append}
+use Rattle.js_lex.specs.Numbers.{goes_on, in_radix, Finds, AreDigits, AreLegacy}
+use Rattle.js_lex.proofs.Places.{none_passed, then}
 
 -- characters before which no number stops
 hex-ascii : (c : ℕ) → is_hex c ≡ true → c < 128

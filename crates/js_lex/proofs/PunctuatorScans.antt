@@ -1,27 +1,18 @@
 -- The punctuators that begin with a dot, a question mark or a slash, and what punctuators tell of lexemes.
-use Rattle.std.proofs.Common.{◌≡◌, ◌<◌, ◌≤◌, ℕ, ◌+◌, ◌==◌, Bool, true, false, List, [], ◌∷◌, ◌++◌, refl, sym, ap, subst, ◌∙◌, not, ◌&&◌, ◌||◌, append_assoc, arith, Option, Some, None, ◌⊎◌, inl, inr}
-use Rattle.std.specs.Prelude.{is_some, nat_lt, nat_eq, IsCharBoundary, bytes_eq, codes}
-use Rattle.std.specs.List.{list_all, find}
+use Rattle.std.proofs.Common.{◌≡◌, ℕ, ◌+◌, ◌==◌, Bool, true, false, List, [], ◌∷◌, ◌++◌, refl, sym, ap, subst, ◌∙◌, not, ◌&&◌, arith, Some, None}
 use Rattle.std.proofs.lemmas.Bool.{eqb-true}
 use Rattle.std.proofs.lemmas.Bool.Decides.{nat_tests}
-use Rattle.js_base.specs.declared.kind.Kind.{Kind}
-use Rattle.js_base.specs.declared.kind.Kind.TheVariants.{Dot, Dot3, Question, QuestionDot, Question2, Slash, SlashEq, PrivateIdentifier}
-use Rattle.js_base.specs.Kinds.{same_kind}
-use Rattle.js_base.specs.Texts.{text_of, punctuators, words}
-use Rattle.js_base.specs.Characters.{one_of, is_decimal}
+use Rattle.js_base.specs.declared.kind.Kind.TheVariants.{Dot, Dot3, Question, QuestionDot, Question2, Slash, SlashEq}
+use Rattle.js_base.specs.Texts.{punctuators}
+use Rattle.js_base.specs.Characters.{is_decimal}
 use Rattle.js_grammar.specs.Characters.{begins}
-use Rattle.js_grammar.specs.CoreTexts.{starts}
-use Rattle.js_grammar.specs.Numbers.{is_number, stops_number}
-use Rattle.js_grammar.specs.Lexemes.{may_precede, punctuator_kind, plain_kind, lexemes_in, division, Opening, a_punctuator, opening, is_word, is_escaped, is_separated}
+use Rattle.js_grammar.specs.Lexemes.{punctuator_kind}
 use Rattle.js_grammar.specs.LexicalFaults.{behind}
-use Rattle.js_grammar.proofs.LongestLemmas.{both-left, both-right, both, not-true}
-use Rattle.js_grammar.proofs.Finding.{neither-left, neither-right, found-all}
-use Rattle.js_lex.specs.declared.punctuator.Punctuator.{Punctuator}
 use Rattle.js_lex.specs.Places.{Word}
 use Rattle.js_lex.specs.Numbers.{Finds, in_radix}
-use Rattle.js_lex.specs.Punctuators.{punctuator_of, is_free, opens_no_comment, IsPunctuator}
+use Rattle.js_lex.specs.Punctuators.{punctuator_of, opens_no_comment, IsPunctuator}
 use Rattle.js_lex.proofs.Places.{then}
-use Rattle.js_lex.proofs.Punctuators.{kind_none, kind_some}
+use Rattle.js_lex.proofs.Punctuators.{kind_none}
 
 eq-turned : (a b : ℕ) → (a == b) ≡ false → (b == a) ≡ false
 eq-turned a b h = grind (arith, nat_tests)

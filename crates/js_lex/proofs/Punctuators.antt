@@ -1,15 +1,14 @@
 -- Which punctuators there are, and that a front of one is one.
 use Rattle.std.proofs.Common.{◌≡◌, ◌<◌, ◌≤◌, ℕ, ◌+◌, ◌==◌, Bool, true, false, List, [], ◌∷◌, ◌++◌, refl, sym, ap, subst, ◌∙◌, not, ◌&&◌, ◌||◌, append_assoc, arith, Option, Some, None, ◌⊎◌, inl, inr}
-use Rattle.std.specs.Prelude.{is_some, nat_lt, IsCharBoundary, bytes_eq, cond, codes}
+use Rattle.std.specs.Prelude.{is_some, nat_lt, bytes_eq, cond}
 use Rattle.std.specs.List.{list_all, find}
-use Rattle.std.proofs.lemmas.Bool.{eqb-true, cases_lt}
-use Rattle.std.proofs.lemmas.Bool.Decides.{nat_tests}
+use Rattle.std.proofs.lemmas.Bool.{cases_lt}
 use Rattle.std.proofs.lemmas.Slice.Eq.{bytes_eq-Decides}
 use Rattle.js_base.specs.declared.kind.Kind.{Kind}
-use Rattle.js_base.specs.declared.kind.Kind.TheVariants.{Dot, Dot3, Question, QuestionDot, Question2, Slash, SlashEq}
+use Rattle.js_base.specs.declared.kind.Kind.TheVariants.{QuestionDot, Slash}
 use Rattle.js_base.specs.Kinds.{same_kind}
 use Rattle.js_base.specs.Texts.{text_of, punctuators}
-use Rattle.js_base.specs.Characters.{one_of, is_decimal}
+use Rattle.js_base.specs.Characters.{one_of}
 use Rattle.js_grammar.specs.Characters.{begins}
 use Rattle.js_grammar.specs.Lexemes.{may_precede, punctuator_kind}
 use Rattle.js_grammar.specs.LexicalFaults.{behind}
@@ -17,9 +16,7 @@ use Rattle.js_grammar.proofs.LongestLemmas.{both-left, both-right, both, not-tru
 use Rattle.js_grammar.proofs.Finding.{neither-left, neither-right, found-test, found-all}
 use Rattle.js_grammar.proofs.CoreLemmas.{implies, implied}
 use Rattle.js_grammar.proofs.CoreFirst.{lt-true}
-use Rattle.js_lex.specs.declared.punctuator.Punctuator.{Punctuator}
-use Rattle.js_lex.specs.Places.{Word, High, Peeks}
-use Rattle.js_lex.specs.Numbers.{Finds, in_radix}
+use Rattle.js_lex.specs.Places.{Word, Peeks}
 use Rattle.js_lex.specs.Punctuators.{punctuator_of, is_free, opens_no_comment, IsPunctuator}
 use Rattle.js_lex.proofs.Places.{then}
 
@@ -209,3 +206,11 @@ four_stop a b c d = record { none = λ e r f. fails at_most_four (a ∷ b ∷ c 
 
 pub free_second : (c d : ℕ) (w : List ℕ) → is_free (c ∷ d ∷ []) ≡ true → is_free (c ∷ d ∷ w) ≡ true
 free_second c d w h = h
+
+-- no punctuator begins with the character at the place
+pub begins_none : {text : List ℕ} {i b : ℕ} → Peeks text i b → punctuator_of (b ∷ []) ≡ None → Rattle.js_lex.specs.Punctuators.BeginsNone (behind text i)
+begins_none {text = text} {i = i} {b = b} p e = go (cases_lt b 128)
+  where
+    go : (b < 128) ⊎ (128 ≤ b) → Rattle.js_lex.specs.Punctuators.BeginsNone (behind text i)
+    go (inl l) = subst Rattle.js_lex.specs.Punctuators.BeginsNone (sym (p.ascii l).splits) e
+    go (inr h) = let q = p.high h in subst Rattle.js_lex.specs.Punctuators.BeginsNone (sym q.word.splits) (high_none [] q.character [] q.high)

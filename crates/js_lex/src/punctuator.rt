@@ -1,8 +1,7 @@
 //! Punctuators (ECMA-262, section 12.8), and characters at which no token begins.
 
-ghost use Rattle.std.specs.Prelude.{◌≡◌, ◌+◌, ◌≤◌, ◌<◌, ◌==◌, true, false, [], ◌∷◌, Some, IsCharBoundary, IsTrue, codes};
+ghost use Rattle.std.specs.Prelude.{◌≡◌, ◌+◌, true, false, [], ◌∷◌, Some, IsCharBoundary, IsTrue, codes};
 ghost use Rattle.js_base.specs.Characters.{one_of};
-ghost use Rattle.js_grammar.specs.Characters.{begins};
 ghost use Rattle.js_grammar.specs.CoreTexts.{starts};
 ghost use Rattle.js_grammar.specs.LexicalFaults.{behind};
 ghost use Rattle.js_grammar.specs.Lexemes.{division};
@@ -10,7 +9,7 @@ ghost use Rattle.js_lex.specs.Places.{Word};
 ghost use Rattle.js_lex.specs.Punctuators.{punctuator_of, OpensPunctuator, BeginsNone, begins_no_comment, opens_no_comment, is_free, IsPunctuator, ReadsPunctuator};
 ghost use Rattle.js_lex.specs.Scans.{Scans, IsStopped};
 
-use crate::number::{digit_at, is_at, is_either_at};
+use crate::number::{digit_at, is_at};
 use crate::place::{byte_at, char_at};
 use crate::scan::{Fault, Scan, Scanned};
 use js_base::{DiagnosticKind, Kind};

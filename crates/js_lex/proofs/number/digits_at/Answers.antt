@@ -1,4 +1,4 @@
-use Rattle.std.proofs.Common.{subst, true}
+use Rattle.std.proofs.Common.{subst}
 use Rattle.js_lex.proofs.Numbers.{Passed, passed_digit, passed_separator}
 use Rattle.js_lex.proofs.number.digits_at.Goals as goal
 
