@@ -1,5 +1,5 @@
 -- The lists that a lexer keeps, and how they grow.
-use Rattle.std.specs.Prelude.{◌≡◌, List, [], ◌++◌}
+use Rattle.std.specs.Prelude.{◌≡◌, ◌≤◌, List, [], ◌++◌, length, take}
 use Rattle.js_base.specs.declared.span.Span.{Span}
 use Rattle.js_base.specs.declared.token.Token.{Token}
 use Rattle.js_base.specs.declared.diagnostic.Diagnostic.{Diagnostic}
@@ -35,3 +35,10 @@ lengths_of o = record { comments = length o.comments; irregular_whitespaces = le
 -- what was kept first, so much of each list
 abbrev pub first_kept : Lengths → LexerOutput → LexerOutput
 first_kept n o = record { comments = take n.comments o.comments; irregular_whitespaces = take n.irregular_whitespaces o.irregular_whitespaces; tokens = take n.tokens o.tokens; errors = take n.errors o.errors }
+
+-- no list is shorter
+pub record AreAtMost (m n : Lengths) : Type 0 where
+  pub comments : m.comments ≤ n.comments
+  pub irregular_whitespaces : m.irregular_whitespaces ≤ n.irregular_whitespaces
+  pub tokens : m.tokens ≤ n.tokens
+  pub errors : m.errors ≤ n.errors
