@@ -1,5 +1,5 @@
 -- The last item of a list, replaced.
-use Rattle.std.proofs.Common.{ℕ, ◌-◌, ◌+◌, ◌<◌, ◌≤◌, List, [], ◌∷◌, ◌++◌, length, take, slice_set, ◌≡◌, sym, ◌∙◌, arith}
+use Rattle.std.proofs.Common.{ℕ, ◌-◌, ◌+◌, ◌<◌, List, [], ◌∷◌, length, take, slice_set, ◌≡◌, sym, ◌∙◌, arith}
 use Rattle.std.proofs.lemmas.List.{take_more_set, take_all, length-set}
 use Rattle.js_base.specs.Lists.{replaced}
 
@@ -14,5 +14,6 @@ replaced-set (u ∷ us) n t e p =
   where
     last : n - 1 ≡ length us
     last = omega arith
+
     whole : take (length us + 1) (slice_set (u ∷ us) (length us) t) ≡ slice_set (u ∷ us) (length us) t
     whole = take_all (length us + 1) (slice_set (u ∷ us) (length us) t) (omega (arith, length-set (u ∷ us) (length us) t))
