@@ -1,8 +1,8 @@
 -- What one character does to a stage, and to what is decoded.
-use Rattle.std.proofs.Common.{ℕ, ◌+◌, ◌*◌, List, [], ◌∷◌, ◌++◌, ◌≡◌, ◌≤◌, ◌<◌, ◌⊎◌, inl, inr, Bool, true, false, not, ◌&&◌, ◌||◌, refl, ap, sym, ◌∙◌, append_assoc, subst, length, get_or, drop, arith}
-use Rattle.std.specs.Prelude.{Option, Some, None, option_map, nat_lt, nat_le, ◌==◌, IfSome, IsTrue}
+use Rattle.std.proofs.Common.{ℕ, ◌+◌, List, [], ◌∷◌, ◌++◌, ◌≡◌, ◌≤◌, ◌<◌, ◌⊎◌, inl, inr, Bool, true, false, ◌&&◌, refl, ap, sym, ◌∙◌, append_assoc, subst, length, get_or, drop, arith}
+use Rattle.std.specs.Prelude.{Option, Some, None, option_map, ◌==◌, IfSome, IsTrue}
 use Rattle.std.specs.List.{list_all, flat_map}
-use Rattle.std.specs.Char.{digit_value, encode_utf8}
+use Rattle.std.specs.Char.{encode_utf8}
 use Rattle.std.specs.Char.Escape.{encode_utf16}
 use Rattle.std.proofs.lemmas.Bool.Decides.{nat_tests}
 use Rattle.std.proofs.Math.Utf8.{scalar, scalar_cases}
@@ -12,9 +12,9 @@ use Rattle.std.proofs.lemmas.Grind.{flat_map-append}
 use Rattle.js_base.specs.declared.decode.Points.{Points}
 use Rattle.js_base.specs.declared.decode.Progress.{Progress}
 use Rattle.js_base.specs.declared.decode.State.{State}
-use Rattle.js_base.specs.Characters.{is_scalar, is_hex, is_octal, is_decimal}
+use Rattle.js_base.specs.Characters.{is_scalar}
 use Rattle.js_base.specs.Decoding.{only_if, utf8_of}
-use Rattle.js_base.specs.Escapes.{Where, in_name, in_string, in_template, Stage, Step, outside, backslash, unicode, nul, due, braced, octal, plainly, begun, begun_unicode, begun_line, begun_single, begun_hex, single_escape, step, read_from, before_all, code_units, finish, line_feeds_after}
+use Rattle.js_base.specs.Escapes.{Where, in_name, in_string, in_template, Stage, Step, outside, backslash, unicode, nul, due, braced, octal, plainly, begun, begun_unicode, single_escape, step, read_from, before_all, code_units, finish, line_feeds_after}
 use Rattle.js_base.specs.DecodingSteps.{fits, is_point, state_of, points_of, progress_of, units_from, utf8_from}
 
 and-left : (a b : Bool) → (a && b) ≡ true → a ≡ true

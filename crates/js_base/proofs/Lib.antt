@@ -6,3 +6,4 @@ pub mod SurrogateLemmas
 pub mod PrecedenceLemmas
 pub mod DecodingLemmas
 pub mod EscapeLemmas
+pub mod ListLemmas

@@ -1,6 +1,5 @@
 -- How the types of the decoder stand for those of the definition of escapes, and what is decoded once some characters are read.
 use Rattle.std.specs.Prelude.{ℕ, Bool, true, ◌&&◌, ◌||◌, List, [], ◌∷◌, ◌++◌, nat_le, nat_lt, Option, Some, None, option_map}
-use Rattle.std.specs.List.{list_all}
 use Rattle.js_base.specs.declared.decode.Form.{Form}
 use Rattle.js_base.specs.declared.decode.Form.TheVariants.{Name, Inside, Part}
 use Rattle.js_base.specs.declared.decode.State.{State}

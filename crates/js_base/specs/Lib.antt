@@ -8,6 +8,7 @@ pub mod Contexts
 pub mod Places
 pub mod Sources
 pub mod Spans
+pub mod Lists
 pub mod Diagnostics
 pub mod Characters
 pub mod Escapes

@@ -1,12 +1,7 @@
 //! What is wrong with a text, and where.
 
-ghost use Rattle.std.specs.Prelude.{◌≡◌, ◌≤◌, ◌<◌, List, [], ◌∷◌, ◌++◌, length, take, OnOk, OnErr, IsTrue, ◌↔◌, slice_get};
-ghost use Rattle.std.specs.Option.{option_copied};
-
-use crate::no_memory::NoMemory;
+use crate::list::List;
 use crate::span::Span;
-use std::alloc::Global;
-use std::marker::Model;
 
 /// The classes of diagnostics: by what kind of rule a text is refused.
 #[derive(Debug, Clone, Copy, PartialEq, Eq)]
@@ -274,65 +269,5 @@ pub struct Diagnostic {
     pub second: Option<Span>,
 }
 
-/// A list of diagnostics, in the order in which they were pushed.
-#[derive(Drop)]
-pub struct Diagnostics {
-    items: Vec<Diagnostic>,
-}
-
-impl Model for Diagnostics {
-    ghost use Rattle.std.specs.Prelude.{List};
-    ghost use Rattle.js_base.specs.declared.diagnostic.Diagnostic.{Diagnostic};
-
-    ghost Value = { List Diagnostic };
-
-    ghost view = { λ d. d.items.items };
-}
-
-impl Diagnostics {
-    /// The empty list; it takes no memory.
-    pub fn new(alloc: Global) -> Self
-        ensures { result ≡ [] }
-    {
-        Diagnostics {
-            items: Vec::new(alloc),
-        }
-    }
-
-    /// How many there are.
-    pub fn len(&self) -> usize
-        ensures { result ≡ length self.now }
-    {
-        self.items.len()
-    }
-
-    /// Whether there is none.
-    pub fn is_empty(&self) -> bool
-        ensures { IsTrue result ↔ (self.now ≡ []) }
-    {
-        self.items.is_empty()
-    }
-
-    /// The one at a place, counted from 0; none exactly where the place isn't below the length.
-    pub fn get(&self, i: usize) -> Option<&Diagnostic>
-        ensures { option_copied result ≡ slice_get self.now i }
-    {
-        self.items.get(i)
-    }
-
-    /// One more, at the end. The only error is want of memory, and the list then stays as it was.
-    pub fn push(&mut self, d: Diagnostic) -> Result<(), NoMemory>
-        ensures ok { OnOk result (self.new ≡ self.old ++ d ∷ []) }
-        ensures err { OnErr result (self.new ≡ self.old) }
-    {
-        self.items.push(d)?;
-        Ok(())
-    }
-
-    /// Keeps the first `len`, or all where there are fewer.
-    pub fn truncate(&mut self, len: usize)
-        ensures { self.new ≡ take len self.old }
-    {
-        self.items.truncate(len);
-    }
-}
+/// A list of diagnostics.
+pub type Diagnostics = List<Diagnostic>;

@@ -12,6 +12,7 @@ mod keyword;
 mod kind;
 mod kind_set;
 mod kind_text;
+mod list;
 mod no_memory;
 mod operator;
 mod operator_map;
@@ -19,12 +20,10 @@ mod options;
 mod precedence;
 mod source_type;
 mod span;
-mod spans;
 mod statement_context;
 mod steps;
 mod text;
 mod token;
-mod tokens;
 
 pub use context::Context;
 pub use decode::{decode_name, decode_string, decode_template};
@@ -33,6 +32,7 @@ pub use escape::{InvalidEscape, invalid_escape};
 pub use function_kind::{FunctionKind, VariableDeclarationParent};
 pub use keyword::keyword_kind;
 pub use kind::Kind;
+pub use list::List;
 pub use no_memory::NoMemory;
 pub use operator::{
     AssignmentOperator, BinaryOperator, LogicalOperator, UnaryOperator, UpdateOperator,
@@ -44,13 +44,11 @@ pub use operator_map::{
 pub use options::ParseOptions;
 pub use precedence::{Precedence, kind_to_precedence};
 pub use source_type::SourceType;
-pub use span::Span;
-pub use spans::Spans;
+pub use span::{Span, Spans};
 pub use statement_context::{StatementContext, Tristate};
 pub use steps::{Ledger, Steps, TickLedger};
 pub use text::{JsStr, Text};
-pub use token::Token;
-pub use tokens::Tokens;
+pub use token::{Token, Tokens};
 
 /// The greatest length of a text in bytes: a place in it fits a `u32`, with room for small sums.
 pub const MAX_LEN: usize = 4_294_967_039;

@@ -2,6 +2,8 @@
 
 ghost use Rattle.std.specs.Prelude.{◌≡◌, ◌+◌, ◌^◌, ◌<◌, ◌≤◌, min, max};
 
+use crate::list::List;
+
 /// Byte places in a text: from `start` up to but not including `end`, with `start` at most `end`.
 #[derive(Debug, Clone, Copy, PartialEq, Eq)]
 pub struct Span {
@@ -10,6 +12,9 @@ pub struct Span {
     /// The place behind the last byte.
     pub end: u32,
 }
+
+/// A list of spans.
+pub type Spans = List<Span>;
 
 impl Span {
     /// The span from one byte place to another, which may not stand before it.

@@ -5,6 +5,7 @@ ghost use Rattle.js_base.specs.Spans.{LiesIn};
 ghost use Rattle.js_base.specs.declared.kind.Kind.TheVariants.{Eof};
 
 use crate::kind::Kind;
+use crate::list::List;
 use crate::span::Span;
 
 /// A placed lexeme (ECMA-262, chapter 12).
@@ -16,6 +17,9 @@ pub struct Token {
     escaped: bool,
     has_separator: bool,
 }
+
+/// A list of tokens.
+pub type Tokens = List<Token>;
 
 impl Token {
     /// The token of these fields, each of which the call of its name answers.

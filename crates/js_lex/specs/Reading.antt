@@ -7,6 +7,7 @@ use Rattle.js_base.specs.declared.diagnostic.Diagnostic.{Diagnostic}
 use Rattle.js_base.specs.declared.diagnostic.DiagnosticKind.TheVariants.{RegExpFlag}
 use Rattle.js_base.specs.Kinds.{same_kind, one_of_kinds}
 use Rattle.js_base.specs.Characters.{one_of}
+use Rattle.js_base.specs.Lists.{replaced}
 use Rattle.js_grammar.specs.Grammar.{Lexeme}
 use Rattle.js_grammar.specs.Settings.{Goal}
 use Rattle.js_grammar.specs.Characters.{width, has_line_terminator}
@@ -75,11 +76,7 @@ is_kept k = not (one_of_kinds (HashbangComment ∷ Eof ∷ Undetermined ∷ []) 
 abbrev pub kept_token : Bool → Token → List Token
 kept_token keeps t = elim (keeps && is_kept t.kind) [ true ↦ t ∷ [] | false ↦ [] ]
 
--- the last one is put in place of the one kept last; where none is kept, none is added
-abbrev pub replaced : List Token → Token → List Token
-replaced [] t = []
-replaced (u ∷ us) t = take (length us) (u ∷ us) ++ t ∷ []
-
+-- a token that is read once more is put in place of the one kept last
 abbrev pub relexed : Bool → List Token → Token → List Token
 relexed keeps ts t = elim (keeps && is_kept t.kind) [ true ↦ replaced ts t | false ↦ ts ]
 

@@ -1,12 +1,9 @@
 //! Comments (ECMA-262, section 12.4) and lists of them.
 
-ghost use Rattle.std.specs.Prelude.{◌≡◌, List, [], ◌∷◌, ◌++◌, length, take, drop, map, OnOk, OnErr, IsTrue, ◌↔◌, slice_get};
-ghost use Rattle.std.specs.Option.{option_copied};
+ghost use Rattle.std.specs.Prelude.{◌≡◌, ◌++◌, take, drop, map};
 ghost use Rattle.js_lex.specs.Comments.{attached};
 
-use js_base::{NoMemory, Span};
-use std::alloc::Global;
-use std::marker::Model;
+use js_base::{List, Span};
 
 /// The kinds of comments.
 #[derive(Debug, Clone, Copy, PartialEq, Eq)]
@@ -31,76 +28,20 @@ pub struct Comment {
     pub attached_to: u32,
 }
 
-/// A list of comments, in the order in which they were pushed.
-#[derive(Drop)]
-pub struct Comments {
-    items: Vec<Comment>,
-}
+/// A list of comments.
+pub type Comments = List<Comment>;
 
-impl Model for Comments {
-    ghost use Rattle.std.specs.Prelude.{List};
-    ghost use Rattle.js_lex.specs.declared.comment.Comment.{Comment};
-
-    ghost Value = { List Comment };
-
-    ghost view = { λ l. l.items.items };
-}
-
-impl Comments {
-    /// The empty list; it takes no memory.
-    pub fn new(alloc: Global) -> Self
-        ensures { result ≡ [] }
-    {
-        Comments {
-            items: Vec::new(alloc),
-        }
-    }
-
-    /// How many there are.
-    pub fn len(&self) -> usize
-        ensures { result ≡ length self.now }
-    {
-        self.items.len()
-    }
-
-    /// Whether there is none.
-    pub fn is_empty(&self) -> bool
-        ensures { IsTrue result ↔ (self.now ≡ []) }
-    {
-        self.items.is_empty()
-    }
-
-    /// The one at a place, counted from 0; none exactly where the place isn't below the length.
-    pub fn get(&self, i: usize) -> Option<&Comment>
-        ensures { option_copied result ≡ slice_get self.now i }
-    {
-        self.items.get(i)
-    }
-
-    /// One more, at the end. The only error is want of memory, and the list then stays as it was.
-    pub fn push(&mut self, comment: Comment) -> Result<(), NoMemory>
-        ensures ok { OnOk result (self.new ≡ self.old ++ comment ∷ []) }
-        ensures err { OnErr result (self.new ≡ self.old) }
-    {
-        self.items.push(comment)?;
-        Ok(())
-    }
-
-    /// Keeps the first `len`, or all where there are fewer.
-    pub fn truncate(&mut self, len: usize)
-        ensures { self.new ≡ take len self.old }
-    {
-        self.items.truncate(len);
-    }
-
-    /// Attaches the comments from a number on to the lexeme that begins at a place.
-    pub(crate) fn attach(&mut self, from: usize, place: u32)
-        ensures { self.new ≡ take from self.old ++ map (attached place) (drop from self.old) }
-    {
-        let mut next = from;
-        'comments: while next < self.items.len() {
-            self.items[next].attached_to = place;
-            next += 1;
-        }
+/// Attaches the comments from a number on to the lexeme that begins at a place.
+pub(crate) fn attach(comments: &mut Comments, from: usize, place: u32)
+    ensures { comments.new ≡ take from comments.old ++ map (attached place) (drop from comments.old) }
+{
+    let mut next = from;
+    'comments: while next < comments.len() {
+        let attached = Comment {
+            attached_to: place,
+            ..comments[next]
+        };
+        comments.set(next, attached);
+        next += 1;
     }
 }

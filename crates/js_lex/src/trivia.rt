@@ -9,7 +9,7 @@ ghost use Rattle.js_lex.specs.declared.comment.CommentKind.TheVariants.{Line};
 
 use crate::character::next_character;
 use crate::class::{is_line_terminator, is_white_space};
-use crate::comment::{Comment, CommentKind};
+use crate::comment::{Comment, CommentKind, attach};
 use crate::output::LexerOutput;
 use crate::place::{byte_at, char_at, goes_on};
 use js_base::{Diagnostic, DiagnosticKind, MAX_LEN, NoMemory, Span};
@@ -54,7 +54,7 @@ pub(crate) fn pass_trivia(
 {
     let first_comment = kept.comments.len();
     let trivia = pass_pieces(text, is_module, at, kept)?;
-    kept.comments.attach(first_comment, trivia.end as u32);
+    attach(&mut kept.comments, first_comment, trivia.end as u32);
     Ok(trivia)
 }
 

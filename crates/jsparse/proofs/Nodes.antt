@@ -103,10 +103,6 @@ get_first (n ∷ ns) m p = refl
 pub program_written : (ns : List Node) (m : Node) (cs : Slots) → m.kind ≡ Program → m.op ≡ None → HoldsAll ns 1 (length ns) m.children.items cs → IsProgram (set ns 0 m) (label_of Program None m.span) cs
 program_written ns m cs k o h = record { program = m; first = get_first ns m (let p = HoldsAll-order h in omega arith); kind = k; op = o; label = refl; children = rw (length-set ns 0 m) (all_write m (omega arith) h) }
 
--- with no node nothing is held from 1 on
-pub none_held : {ns : List Node} {ids : List (Option NodeId)} {cs : Slots} → length ns ≡ 0 → HoldsAll ns 1 (length ns) ids cs → ⊥
-none_held e h = let p = HoldsAll-order h in omega arith
-
 -- what was held stays held in a longer list, up to its end
 pub Holds-kept : {ns ms : List Node} {lo hi id : ℕ} {l : Label} {cs : Slots} → Keeps ns ms → Holds ns lo hi id l cs → Holds ms lo (length ms) id l cs
 Holds-kept {ns} {ms} {lo} {hi} {id} {l} {cs} k h = let a = k.longer in let b = Holds-bound h in Holds-wider lo (length ms) (omega arith) (omega arith) (omega arith) (k.one lo hi id l cs h)

@@ -68,6 +68,5 @@ abbrev pub IsTree : Tree → Label → Slots → Type 0
 IsTree t l cs = IsProgram t.nodes.items l cs
 
 -- the program's children are these, where they hold
-abbrev pub Finishes : Span → List (Option NodeId) → List Node → Result Tree NoMemory → Type 0
-Finishes s ids ns (Ok t) = (cs : Slots) → HoldsAll ns 1 (length ns) ids cs → IsTree t (label_of Program None s) cs
-Finishes s ids ns (Err e) = Unit {0}
+abbrev pub Finishes : Span → List (Option NodeId) → List Node → Tree → Type 0
+Finishes s ids ns t = (cs : Slots) → HoldsAll ns 1 (length ns) ids cs → IsTree t (label_of Program None s) cs

@@ -1,16 +1,16 @@
 //! A source that fails at calls that are listed.
 
-ghost use Rattle.std.specs.Prelude.{◌≡◌, ◌≤◌, Some, length, drop, OnErr};
+ghost use Rattle.std.specs.Prelude.{◌≡◌, ◌≤◌, Some, OnErr};
 ghost use Rattle.jsparse.specs.Ends.{Failing, FailingRead, IsFault};
 
 use crate::ends::{Failed, Source};
+use crate::steady::SteadySource;
 use std::marker::Model;
 
 /// A source over bytes in memory that fails at the calls that are listed, the first of which has the number 1.
 #[derive(Drop)]
 pub struct FailingSource {
-    bytes: Vec<u8>,
-    at: usize,
+    source: SteadySource,
     fails: Vec<u64>,
     calls: u64,
     faults: u64,
@@ -19,9 +19,7 @@ pub struct FailingSource {
 impl Model for FailingSource {
     ghost Value = { Failing };
 
-    ghost view = { λ s. record { left = drop s.at s.bytes.items; fails = s.fails.items; calls = s.calls; faults = s.faults } };
-
-    ghost invariant = { λ s. s.at ≤ length s.bytes.items };
+    ghost view = { λ s. record { left = s.source.left; fails = s.fails.items; calls = s.calls; faults = s.faults } };
 }
 
 impl FailingSource {
@@ -30,8 +28,7 @@ impl FailingSource {
         ensures { result ≡ record { left = bytes.items; fails = fails.items; calls = 0; faults = 0 } }
     {
         FailingSource {
-            bytes,
-            at: 0,
+            source: SteadySource::new(bytes),
             fails,
             calls: 0,
             faults: 0,
@@ -54,9 +51,6 @@ impl Source for FailingSource {
             self.faults = self.faults.saturating_add(1);
             return Err(Failed);
         }
-        let n = into.len().min(self.bytes.len() - self.at);
-        into[..n].copy_from_slice(&self.bytes[self.at..self.at + n]);
-        self.at += n;
-        Ok(n)
+        self.source.read(into)
     }
 }

@@ -233,7 +233,7 @@ mod tests {
         let sum = builder.node(NodeKind::BinaryExpression, whole, Some(Kind::Plus), both)?;
         let one = vec![in alloc; Some(sum)]?;
         let statement = builder.node(NodeKind::ExpressionStatement, whole, None, one)?;
-        let tree = builder.finish(whole, vec![in alloc; Some(statement)]?)?;
+        let tree = builder.finish(whole, vec![in alloc; Some(statement)]?);
         let lines = tree.lines(alloc)?;
         let wanted =
             "Program 0..5\n  ExpressionStatement 0..5\n    BinaryExpression 0..5 +\n      IdentifierReference 0..1\n      IdentifierReference 4..5\n";
@@ -258,7 +258,7 @@ mod tests {
         )?;
         let slots = vec![in alloc; None, Some(number), None]?;
         let call = builder.node(NodeKind::CallExpression, far, None, slots)?;
-        let tree = builder.finish(far, vec![in alloc; Some(call)]?)?;
+        let tree = builder.finish(far, vec![in alloc; Some(call)]?);
         let lines = tree.lines(alloc)?;
         let wanted =
             "Program 907..4294967039\n  CallExpression 907..4294967039\n    -\n    NumericLiteral 907..4294967039 Hex\n    -\n";

@@ -19,7 +19,7 @@ use std::alloc::Global;
 /// A program.
 #[derive(Drop)]
 pub struct Program {
-    /// Its tree; where there are diagnostics, only the node of the program.
+    /// Its tree; after a refusal the program is a node without children.
     pub tree: Tree,
     /// How its text was read: never unambiguous.
     pub source_type: SourceType,
@@ -99,7 +99,7 @@ fn accepted(
     ensures reading { IfOk result (λ r. Parsed text.now r.program.tree r.diagnostics) }
     ensures source_type { IfOk result (λ r. r.program.source_type ≡ source_type) }
 {
-    let tree = ast.finish(Span::new(0, text.len() as u32), statements)?;
+    let tree = ast.finish(Span::new(0, text.len() as u32), statements);
     let diagnostics = Diagnostics::new(alloc);
     Ok(ParserReturn {
         program: Program { tree, source_type },
@@ -120,7 +120,7 @@ fn refused(
     ensures reading { IfOk result (λ r. Parsed text.now r.program.tree r.diagnostics) }
     ensures source_type { IfOk result (λ r. r.program.source_type ≡ source_type) }
 {
-    let tree = ast.finish(Span::new(0, text.len() as u32), Vec::new(alloc))?;
+    let tree = ast.finish(Span::new(0, text.len() as u32), Vec::new(alloc));
     let mut diagnostics = Diagnostics::new(alloc);
     diagnostics.push(unexpected_token(first_fault(text, p)))?;
     Ok(ParserReturn {

@@ -1,6 +1,6 @@
 //! The nodes of a tree, each with a number.
 
-ghost use Rattle.std.specs.Prelude.{◌≡◌, length, IfOk, slice_get};
+ghost use Rattle.std.specs.Prelude.{◌≡◌, ◌<◌, length, IfOk, slice_get};
 ghost use Rattle.std.specs.Option.{option_copied};
 ghost use Rattle.jsparse.specs.Holding.{Makes, Finishes};
 
@@ -54,6 +54,7 @@ pub struct ParserAstBuilder {
     pub alloc: Global,
     /// The nodes, by number.
     pub nodes: Vec<Node>,
+    ghost has_program: { 0 < length nodes.items },
 }
 
 impl ParserAstBuilder {
@@ -92,22 +93,17 @@ impl ParserAstBuilder {
     }
 
     /// The tree of a program of this span and these children, which were made before.
-    pub fn finish(self, span: Span, children: Vec<Option<NodeId>>) -> Result<Tree, NoMemory>
+    pub fn finish(self, span: Span, children: Vec<Option<NodeId>>) -> Tree
         ensures { Finishes span children.items self.nodes.items result }
     {
         let mut nodes = self.nodes;
-        let program = Node {
+        nodes[0] = Node {
             kind: NodeKind::Program,
             op: None,
             span,
             children,
         };
-        if nodes.len() == 0 {
-            nodes.push(program)?;
-        } else {
-            nodes[0] = program;
-        }
-        Ok(Tree { nodes })
+        Tree { nodes }
     }
 }
 

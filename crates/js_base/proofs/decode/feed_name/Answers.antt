@@ -1,6 +1,6 @@
 use Rattle.js_base.specs.Escapes.{in_name}
 use Rattle.js_base.specs.DecodingSteps.{state_of}
-use Rattle.js_base.proofs.DecodingLemmas.{fits-made, utf8-made, utf8-stops, char-point}
+use Rattle.js_base.proofs.DecodingLemmas.{fits-made, utf8-made, char-point}
 use Rattle.js_base.proofs.decode.feed_name.Goals as goal
 
 pub returns-then-branch-clause-read : goal.returns-then-branch-clause-read
