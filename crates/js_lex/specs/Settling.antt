@@ -1,14 +1,18 @@
 -- The token that is made of what a scan answers, and what is kept of it.
-use Rattle.std.specs.Prelude.{ℕ, ◌+◌, ◌≡◌, ◌<◌, ◌≤◌, Bool, true, false, ◌&&◌, List, [], ◌∷◌, Result, Ok, Err, None}
+use Rattle.std.specs.Prelude.{ℕ, ◌+◌, ◌≡◌, ◌<◌, ◌≤◌, ◌⊎◌, Bool, true, false, ◌&&◌, List, [], ◌∷◌, Result, Ok, Err, None, IsCharBoundary}
 use Rattle.js_base.specs.declared.kind.Kind.{Kind}
-use Rattle.js_base.specs.declared.kind.Kind.TheVariants.{RAngle, Undetermined}
+use Rattle.js_base.specs.declared.kind.Kind.TheVariants.{RAngle, RegExp, Undetermined}
 use Rattle.js_base.specs.declared.token.Token.{Token}
 use Rattle.js_base.specs.declared.diagnostic.Diagnostic.{Diagnostic}
 use Rattle.js_lex.specs.declared.scan.Scanned.{Scanned}
 use Rattle.js_lex.specs.declared.scan.Fault.{Fault}
 use Rattle.js_lex.specs.declared.output.LexerOutput.{LexerOutput}
 use Rattle.js_lex.specs.Kept.{Grows}
-use Rattle.js_lex.specs.Reading.{is_right_angle, kept_token}
+use Rattle.js_lex.specs.Reading.{is_right_angle, kept_token, relexed, flag_faults}
+use Rattle.js_grammar.specs.Lexemes.{regular_expression}
+use Rattle.js_lex.specs.Scans.{IsStopped}
+use Rattle.js_lex.specs.RegularExpressionParts.{IsRegularExpression}
+use Rattle.js_lex.specs.declared.regular_expression.RegularExpression.{RegularExpression}
 
 -- of a punctuator that begins with `>`, the sign alone
 abbrev pub shown : ℕ → Scanned → Scanned
@@ -36,3 +40,31 @@ Settled keeps start newline (Err f) old new t = (t ≡ undetermined_of f start n
 abbrev pub shown_scan : ℕ → Result Scanned Fault → Result Scanned Fault
 shown_scan start (Ok s) = Ok (shown start s)
 shown_scan start (Err f) = Err f
+
+-- the same, of a token that is read again: in place of the one kept last
+abbrev pub SettledAgain : Bool → Token → Result Scanned Fault → LexerOutput → LexerOutput → Token → Type 0
+SettledAgain keeps given (Ok s) old new t = (t ≡ token_of s given.span.start given.is_on_new_line) × (new ≡ record { comments = old.comments; irregular_whitespaces = old.irregular_whitespaces; tokens = relexed keeps old.tokens t; errors = old.errors })
+SettledAgain keeps given (Err f) old new t = (t ≡ undetermined_of f given.span.start given.is_on_new_line) × Grows old new [] [] [] (diagnostic_of f ∷ [])
+
+-- A regular expression, or none, in place of the slash that was given: what is kept, and where the pattern ends.
+pub record IsFoundAgain (text : List ℕ) (keeps : Bool) (given : Token) (old new : LexerOutput) (t : Token) (pattern_end : ℕ) : Type 0 where
+  pub found : RegularExpression
+  pub is : IsRegularExpression text given.span.start found
+  pub pattern_ends : pattern_end ≡ found.pattern_end
+  pub mid : LexerOutput
+  pub flags_kept : Grows old mid [] [] [] (flag_faults found.pattern_end [] is.flags_word)
+  pub settled : SettledAgain keeps given (Ok (record { kind = RegExp; end = found.end; escaped = false; has_separator = false })) mid new t
+
+pub record IsStoppedAgain (text : List ℕ) (keeps : Bool) (given : Token) (old new : LexerOutput) (t : Token) (pattern_end : ℕ) : Type 0 where
+  pub fault : Fault
+  pub stopped : IsStopped regular_expression text given.span.start fault
+  pub pattern_ends : pattern_end ≡ fault.end
+  pub settled : SettledAgain keeps given (Err fault) old new t
+
+abbrev pub IsReadAgain : List ℕ → Bool → Token → LexerOutput → LexerOutput → Token → ℕ → Type 0
+IsReadAgain text keeps given old new t pattern_end = IsFoundAgain text keeps given old new t pattern_end ⊎ IsStoppedAgain text keeps given old new t pattern_end
+
+-- what was scanned ends between characters
+abbrev pub ScanEnds : List ℕ → Result Scanned Fault → Type 0
+ScanEnds text (Ok s) = IsCharBoundary text s.end
+ScanEnds text (Err f) = IsCharBoundary text f.end

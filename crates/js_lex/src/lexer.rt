@@ -1,20 +1,26 @@
 //! The lexer: one token at a time, by the lexical goal that is asked for (ECMA-262, chapter 12).
 
-ghost use Rattle.std.specs.Prelude.{◌≡◌, ◌≤◌, ◌-◌, true, false, length, IfOk, OnErr, Some, IsCharBoundary, chars, slice_range, slice_get};
-ghost use Rattle.js_base.specs.declared.kind.Kind.TheVariants.{Str};
+ghost use Rattle.std.specs.Prelude.{◌≡◌, ◌≤◌, ◌-◌, ◌⊎◌, List, [], true, false, length, IfOk, OnErr, Some, IsCharBoundary, chars, slice_range, slice_get};
+ghost use Rattle.js_base.specs.declared.kind.Kind.TheVariants.{Str, Slash, SlashEq, RAngle, RCurly};
+ghost use Rattle.js_base.specs.declared.diagnostic.Diagnostic.{Diagnostic};
 ghost use Rattle.js_base.specs.Spans.{LiesIn};
 ghost use Rattle.js_base.specs.Decoding.{string_units};
 ghost use Rattle.js_grammar.specs.Strings.{string_kind, string_inside};
-ghost use Rattle.js_grammar.specs.Lexemes.{division, is_word};
+ghost use Rattle.js_grammar.specs.Lexemes.{division, regular_expression, template_tail, is_word};
 ghost use Rattle.js_lex.specs.Kept.{IsEmpty, lengths_of, first_kept, AreAtMost};
 ghost use Rattle.js_lex.specs.States.{State, goal_of, SameText};
-ghost use Rattle.js_lex.specs.Reading.{GivesNext, GivesFirst};
+ghost use Rattle.js_lex.specs.Reading.{GivesNext, GivesFirst, GivesAgain, WasGiven, FlagsStand};
+ghost use Rattle.js_lex.specs.Settling.{Fits, SettledAgain, ScanEnds};
 
 use crate::checkpoint::LexerCheckpoint;
 use crate::config::LexerConfig;
 use crate::hashbang::hashbang_at;
 use crate::output::LexerOutput;
+use crate::plain_goal::plain_at;
 use crate::reading::{read_plain, token_of};
+use crate::relexing::{read_regular_expression, settle_again};
+use crate::scan::Scan;
+use crate::template::template_tail_at;
 use js_base::{Diagnostic, JsStr, MAX_LEN, NoMemory, SourceType, Token, decode_string};
 use std::alloc::Global;
 use std::marker::Model;
@@ -118,6 +124,57 @@ impl<'a, C: LexerConfig> Lexer<'a, C> {
         token
     }
 
+    /// Reads the slash or `/=` that was given last as a regular expression. The answer is its token and the place at
+    /// which its pattern ends, the one behind the second slash; or, where none stands, an undetermined token and that
+    /// token's end, and the fault is kept. Each wrong flag is a fault that is kept, too.
+    pub fn re_lex_regex(&mut self, token: Token) -> Result<(Token, u32), NoMemory>
+        requires given { WasGiven self.old token }
+        requires kind { (token.kind ≡ Slash) ⊎ (token.kind ≡ SlashEq) }
+        ensures ok { IfOk result (λ r. (going_on : List Diagnostic) × (faults : List Diagnostic) × GivesAgain regular_expression self.old self.new token r.0 going_on faults × FlagsStand self.old.text r.1 r.0 going_on) }
+        ensures err { OnErr result (self.new ≡ self.old) }
+    {
+        let lengths = self.kept.lengths();
+        match read_regular_expression(
+            self.source_text,
+            self.config.tokens(),
+            token,
+            &mut self.kept,
+        ) {
+            Ok((again, pattern_end)) => {
+                self.place = again.end() as usize;
+                Ok((again, pattern_end as u32))
+            }
+            Err(error) => {
+                self.kept.truncate(lengths);
+                Err(error)
+            }
+        }
+    }
+
+    /// Reads the `>` that was given last as the longest punctuator that it begins: `>`, `>=`, `>>`, `>>>`, `>>=` or
+    /// `>>>=`.
+    pub fn re_lex_right_angle(&mut self, token: Token) -> Result<Token, NoMemory>
+        requires given { WasGiven self.old token }
+        requires kind { token.kind ≡ RAngle }
+        ensures ok { IfOk result (λ t. GivesAgain division self.old self.new token t [] []) }
+        ensures err { OnErr result (self.new ≡ self.old) }
+    {
+        let scan = plain_at(self.source_text, token.start() as usize);
+        self.settle_again(token, scan)
+    }
+
+    /// Reads the `}` that was given last as the beginning of a template part: `TemplateMiddle` up to `${`,
+    /// `TemplateTail` up to a backquote; or, where neither follows, an undetermined token, and the fault is kept.
+    pub fn re_lex_template_tail(&mut self, token: Token) -> Result<Token, NoMemory>
+        requires given { WasGiven self.old token }
+        requires kind { token.kind ≡ RCurly }
+        ensures ok { IfOk result (λ t. (faults : List Diagnostic) × GivesAgain template_tail self.old self.new token t [] faults) }
+        ensures err { OnErr result (self.new ≡ self.old) }
+    {
+        let scan = template_tail_at(self.source_text, token.start() as usize);
+        self.settle_again(token, scan)
+    }
+
     /// Where the lexer is, and how much it has kept.
     pub fn checkpoint(&self) -> LexerCheckpoint
         ensures place { result.place ≡ self.now.place }
@@ -177,5 +234,26 @@ impl<'a, C: LexerConfig> Lexer<'a, C> {
         ensures { result ≡ self.entry.kept }
     {
         self.kept
+    }
+
+    /// The token of what a scan at the start of the token given last answers, in place of that one.
+    fn settle_again(&mut self, token: Token, scan: Scan) -> Result<Token, NoMemory>
+        requires fits { Fits MAX_LEN token.span.start scan }
+        requires ends { ScanEnds self.old.text scan }
+        ensures same { SameText self.old self.new }
+        ensures ok { IfOk result (λ t. (self.new.place ≡ t.span.end) × SettledAgain self.old.keeps_tokens token scan self.old.kept self.new.kept t) }
+        ensures err { OnErr result (self.new ≡ self.old) }
+    {
+        let lengths = self.kept.lengths();
+        match settle_again(&mut self.kept, self.config.tokens(), token, scan) {
+            Ok(again) => {
+                self.place = again.end() as usize;
+                Ok(again)
+            }
+            Err(error) => {
+                self.kept.truncate(lengths);
+                Err(error)
+            }
+        }
     }
 }

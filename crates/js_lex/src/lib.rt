@@ -16,6 +16,7 @@ mod plain_goal;
 mod punctuator;
 mod reading;
 mod regular_expression;
+mod relexing;
 mod scan;
 mod string;
 mod template;
