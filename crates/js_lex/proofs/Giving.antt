@@ -36,7 +36,7 @@ use Rattle.js_lex.proofs.Keeping.{grow_on, extend_on}
 use Rattle.js_lex.specs.States.{State, goal_of}
 use Rattle.js_lex.specs.Reading.{is_right_angle, cut, Tells, LexemeBehind, GivesLexeme, GivesNone, Outcome, GivesNext, in_a_module, kept_token}
 use Rattle.js_lex.proofs.KindsOfLexemes.{determined, plain_end, greater_word}
-use Rattle.js_lex.specs.Settling.{shown, shown_scan, token_of, undetermined_of, diagnostic_of, Fits, Settled}
+use Rattle.js_lex.specs.Settling.{shown, shown_scan, token_of, undetermined_of, diagnostic_of, Fits, Settled, SettledAgain, ScanEnds}
 
 -- behind trivia no further piece begins
 pub trivia_ends : (first : Bool) (ps : List (List ℕ)) (rest : List ℕ) → are_trivia first ps rest ≡ true → (f : Bool) × (none_begins (is_trivia_piece f) rest ≡ true)
@@ -243,3 +243,14 @@ ok_boundary text keeps newline i mid new scan shown_one (Ok t) u b h e k = by sc
 pub err_next : {m : Bool} {text : List ℕ} {s a : ℕ} {old mid : LexerOutput} {tr : Trivia} (new : LexerOutput) {T E : Type 0} (r : Result T E) → IsPassed m text s a old mid tr → OnErr r (Extends mid new) → OnErr r (Extends old new)
 err_next new (Ok t) p k = k
 err_next new (Err x) p k = extend_on p.grows k
+
+-- whatever a call answers, the text stays
+pub text_stays : (old new : State) {E : Type 0} (r : Result Token E) → IfOk r (λ t. GivesNext division old new t) → OnErr r (new ≡ old) → new.text ≡ old.text
+text_stays old new (Ok t) h k = h.same.text
+text_stays old new (Err e) h k = ap (λ (x : State). x.text) k
+
+-- ---- a token that is read again
+
+pub settled_ends : (text : List ℕ) (keeps : Bool) (given : Token) (scan : Result Scanned Fault) (old new : LexerOutput) (t : Token) → ScanEnds text scan → SettledAgain keeps given scan old new t → IsCharBoundary text t.span.end
+settled_ends text keeps given (Ok sc) old new t b k = subst (λ (z : Token). IsCharBoundary text z.span.end) (sym k.0) b
+settled_ends text keeps given (Err f) old new t b k = subst (λ (z : Token). IsCharBoundary text z.span.end) (sym k.0) b

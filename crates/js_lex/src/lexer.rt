@@ -178,6 +178,7 @@ impl<'a, C: LexerConfig> Lexer<'a, C> {
     /// Where the lexer is, and how much it has kept.
     pub fn checkpoint(&self) -> LexerCheckpoint
         ensures place { result.place ≡ self.now.place }
+        ensures between { IsCharBoundary self.now.text result.place }
         ensures lengths { result.lengths ≡ lengths_of self.now.kept }
     {
         LexerCheckpoint {
