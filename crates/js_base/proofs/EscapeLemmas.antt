@@ -1,6 +1,6 @@
 -- What one character more does to what is known of the inside of a string.
-use Rattle.std.proofs.Common.{◌≡◌, ℕ, ◌+◌, ◌==◌, Bool, true, false, List, [], ◌∷◌, ◌++◌, refl, sym, ap, subst, ◌∙◌, not, ◌&&◌, ◌||◌, Option, Some, None, ◌⊎◌, inl, inr, append_assoc, length, length-append, arith}
-use Rattle.std.specs.Prelude.{is_some, chars, encode_utf8, encode_utf8_all, IsUtf8}
+use Rattle.std.proofs.Common.{◌≡◌, ℕ, zero, suc, ◌+◌, ◌-◌, ◌*◌, ◌==◌, Bool, true, false, List, [], ◌∷◌, ◌++◌, refl, sym, ap, subst, ◌∙◌, not, ◌&&◌, ◌||◌, Option, Some, None, ◌⊎◌, inl, inr, append_assoc, length, length-append, arith}
+use Rattle.std.specs.Prelude.{nat_le, is_some, chars, encode_utf8, encode_utf8_all, IsUtf8}
 use Rattle.std.proofs.lemmas.Bool.Decides.{nat_tests}
 use Rattle.std.proofs.lemmas.Bool.{eqb-true}
 use Rattle.std.specs.declared.str.CharIndices.{CharIndices}
@@ -11,7 +11,7 @@ use Rattle.js_base.specs.declared.decode.State.TheVariants.{Outside, Backslash, 
 use Rattle.js_base.specs.declared.escape.Reading.{Reading}
 use Rattle.js_base.specs.Escapes.{in_string, Stage, Step, outside, backslash, unicode, nul, due, braced, octal, step, read_from, before_all, finish, line_feeds_after}
 use Rattle.js_base.specs.DecodingSteps.{state_of}
-use Rattle.js_base.specs.InvalidEscapes.{is_right, bytes_of, IsInvalidEscape, WithinEscape, is_of_string, Reads, IsRead, CountsAs}
+use Rattle.js_base.specs.InvalidEscapes.{is_right, bytes_of, MayGoOn, IsInvalidEscape, WithinEscape, is_of_string, Reads, IsRead, CountsAs}
 
 -- whether characters are right from a stage on
 abbrev pub right_from : Stage → List ℕ → Bool
@@ -142,8 +142,8 @@ front_push (x ∷ b) (y ∷ v) more d e =
       | inr f ↦ inr (let g = f in cc)
     ]
 
-grown : (w : List ℕ) (d p : ℕ) → WithinEscape w p → is_right (w ++ d ∷ []) ≡ false → WithinEscape (w ++ d ∷ []) p
-grown w d p i h =
+grown : (w : List ℕ) (d p : ℕ) → WithinEscape w p → is_right (w ++ d ∷ []) ≡ false → MayGoOn (w ++ d ∷ []) → WithinEscape (w ++ d ∷ []) p
+grown w d p i h m =
     let s = behind_backslash i.before i.beginning w (d ∷ []) i.splits in
     record {
       before = i.before;
@@ -154,16 +154,18 @@ grown w d p i h =
         | inl f ↦ i.never v f.0 f.1
         | inr f ↦ ap (λ (x : List ℕ). is_right (i.before ++ 92 ∷ x)) f ∙ sym (ap is_right s) ∙ h
       ];
+      may_go_on = m;
       start = i.start;
     }
 
-begun_at : (w : List ℕ) (d p : ℕ) → d ≡ 92 → is_right w ≡ true → is_right (w ++ d ∷ []) ≡ false → p ≡ bytes_of w → WithinEscape (w ++ d ∷ []) p
-begun_at w d p e r h q = record {
+begun_at : (w : List ℕ) (d p : ℕ) → d ≡ 92 → is_right w ≡ true → is_right (w ++ d ∷ []) ≡ false → p ≡ bytes_of w → MayGoOn (w ++ d ∷ []) → WithinEscape (w ++ d ∷ []) p
+begun_at w d p e r h q m = record {
   before = w;
   beginning = [];
   splits = ap (λ (x : ℕ). w ++ x ∷ []) e;
   right = r;
   never = λ v more f. nothing_before v more (λ (x : List ℕ). is_right (w ++ 92 ∷ x) ≡ false) f (ap (λ (x : ℕ). is_right (w ++ x ∷ [])) (sym e) ∙ h);
+  may_go_on = m;
   start = q;
 }
 
@@ -175,6 +177,60 @@ further w s a p d c b t r k e v = ap is_right (append_assoc w (d ∷ []) v) ∙ 
 now : (w : List ℕ) (s : Stage) (a : Bool) → ((v : List ℕ) → is_right (w ++ v) ≡ right_from s (line_feeds_after a v)) → is_right w ≡ is_some (finish s)
 now w s a h = sym (ap is_right (append-nil w)) ∙ h []
 
+-- characters that end each escape that is begun
+abbrev zeros : ℕ → List ℕ
+zeros zero = 48 ∷ []
+zeros (suc n) = 48 ∷ zeros n
+
+zeros-feeds : (a : Bool) (n : ℕ) → line_feeds_after a (zeros n) ≡ zeros n
+zeros-feeds true zero = refl
+zeros-feeds false zero = refl
+zeros-feeds true (suc n) = ap (λ (x : List ℕ). 48 ∷ x) (zeros-feeds false n)
+zeros-feeds false (suc n) = ap (λ (x : List ℕ). 48 ∷ x) (zeros-feeds false n)
+
+zeros-outside : (n : ℕ) → right_from outside (zeros n) ≡ true
+zeros-outside zero = refl
+zeros-outside (suc n) = right-on outside 48 (zeros n) (record { stage = outside; gives = 48 ∷ [] }) refl ∙ zeros-outside n
+
+due-step : (n v : ℕ) (cs : List ℕ) (b : Bool) → nat_le n 1 ≡ b → right_from (due n v) (48 ∷ cs) ≡ elim b [ true ↦ right_from outside cs | false ↦ right_from (due (n - 1) (v * 16 + 0)) cs ]
+due-step n v cs b e = right-step (due n v) 48 cs ∙ ap (λ (x : Bool). right_after cs (elim x [ true ↦ Some (record { stage = outside; gives = (v * 16 + 0) ∷ [] }) | false ↦ Some (record { stage = due (n - 1) (v * 16 + 0); gives = [] }) ])) e ∙ by b
+  where
+    by : (b : Bool) → right_after cs (elim b [ true ↦ Some (record { stage = outside; gives = (v * 16 + 0) ∷ [] }) | false ↦ Some (record { stage = due (n - 1) (v * 16 + 0); gives = [] }) ]) ≡ elim b [ true ↦ right_from outside cs | false ↦ right_from (due (n - 1) (v * 16 + 0)) cs ]
+    by true = refl
+    by false = refl
+
+zeros-due : (n v : ℕ) → right_from (due n v) (zeros n) ≡ true
+zeros-due zero v = refl
+zeros-due (suc n) v = by (nat_le (suc n) 1) refl (zeros-due n (v * 16 + 0))
+  where
+    by : (b : Bool) → nat_le (suc n) 1 ≡ b → right_from (due n (v * 16 + 0)) (zeros n) ≡ true → right_from (due (suc n) v) (zeros (suc n)) ≡ true
+    by true e r = due-step (suc n) v (zeros n) true e ∙ zeros-outside n
+    by false e r = let k : suc n - 1 ≡ n = omega arith in due-step (suc n) v (zeros n) false e ∙ ap (λ (m : ℕ). right_from (due m (v * 16 + 0)) (zeros n)) k ∙ r
+
+-- characters with which all is right
+abbrev Ends : Stage → Bool → Type 0
+Ends s a = (v : List ℕ) × (right_from s (line_feeds_after a v) ≡ true)
+
+ends : (s : Stage) (a : Bool) → is_of_string s ≡ true → is_some (finish s) ≡ false → Ends s a
+ends outside a h k = absurd (let m = k in cc)
+ends backslash true h k = (97 ∷ [], refl)
+ends backslash false h k = (97 ∷ [], refl)
+ends unicode true h k = (48 ∷ 48 ∷ 48 ∷ 48 ∷ [], refl)
+ends unicode false h k = (48 ∷ 48 ∷ 48 ∷ 48 ∷ [], refl)
+ends nul a h k = absurd (let m = k in cc)
+ends (due n v) a h k = (zeros n, ap (right_from (due n v)) (zeros-feeds a n) ∙ zeros-due n v)
+ends (braced true v) true h k = (125 ∷ [], refl)
+ends (braced true v) false h k = (125 ∷ [], refl)
+ends (braced false v) a h k = subst (λ (x : ℕ). Ends (braced false x) a) (sym (eqb-true v 0 h)) (both a)
+  where
+    both : (a : Bool) → Ends (braced false 0) a
+    both true = (48 ∷ 125 ∷ [], refl)
+    both false = (48 ∷ 125 ∷ [], refl)
+ends (octal n v) a h k = absurd (let m = k in cc)
+
+may_go_on : (w : List ℕ) (s : Stage) (a : Bool) → ((v : List ℕ) → is_right (w ++ v) ≡ right_from s (line_feeds_after a v)) → is_of_string s ≡ true → is_some (finish s) ≡ false → MayGoOn w
+may_go_on w s a g h k = let e = ends s a h k in (e.0, g e.0 ∙ e.1)
+
 pub opened : (w : List ℕ) (s : Stage) (a : Bool) (p d c : ℕ) (b : Bool) (t : Step) (place : ℕ) → Reads w s a p → CountsAs a d c b → step in_string s c ≡ Some t
     → t.stage ≡ backslash → place ≡ bytes_of w → Reads (w ++ d ∷ []) backslash b place
 opened w s a p d c b t place r k e h q =
@@ -184,7 +240,7 @@ opened w s a p d c b t place r k e h q =
     record {
       goes_on = g;
       of_string = refl;
-      within = λ _. begun_at w d place (k.backslash (eqb-true c 92 (left (c == 92) (is_some (finish s)) m))) (now w s a r.goes_on ∙ right (c == 92) (is_some (finish s)) m) (now (w ++ d ∷ []) backslash b g) q;
+      within = λ _. begun_at w d place (k.backslash (eqb-true c 92 (left (c == 92) (is_some (finish s)) m))) (now w s a r.goes_on ∙ right (c == 92) (is_some (finish s)) m) (now (w ++ d ∷ []) backslash b g) q (may_go_on (w ++ d ∷ []) backslash b g refl refl);
     }
   where
     left : (x y : Bool) → (x && y) ≡ true → x ≡ true
@@ -209,7 +265,7 @@ went_on w s a p d c b t r k e h =
     record {
       goes_on = g;
       of_string = sym (ap stays_of_string e) ∙ stays s c;
-      within = λ n. grown w d p (r.within (no_ends (is_some (finish t.stage)) (is_backslash t.stage) (is_some (finish s)) f n h)) (now (w ++ d ∷ []) t.stage b g ∙ n);
+      within = λ n. grown w d p (r.within (no_ends (is_some (finish t.stage)) (is_backslash t.stage) (is_some (finish s)) f n h)) (now (w ++ d ∷ []) t.stage b g ∙ n) (may_go_on (w ++ d ∷ []) t.stage b g (sym (ap stays_of_string e) ∙ stays s c) n);
     }
 
 -- the LF of CR LF
@@ -217,7 +273,7 @@ pub passed : (w : List ℕ) (d : ℕ) (s : Stage) (a : Bool) (p : ℕ) → a ≡
 passed w d s a p h k r =
     let f : (v : List ℕ) → line_feeds_after a (d ∷ v) ≡ line_feeds_after false v = λ v. ap (λ (x : Bool). line_feeds_after x (d ∷ v)) h ∙ ap (λ (x : ℕ). line_feeds_after true (x ∷ v)) k in
     let g : (v : List ℕ) → is_right ((w ++ d ∷ []) ++ v) ≡ right_from s (line_feeds_after false v) = λ v. ap is_right (append_assoc w (d ∷ []) v) ∙ r.goes_on (d ∷ v) ∙ ap (right_from s) (f v) in
-    record { goes_on = g; of_string = r.of_string; within = λ n. grown w d p (r.within n) (now (w ++ d ∷ []) s false g ∙ n) }
+    record { goes_on = g; of_string = r.of_string; within = λ n. grown w d p (r.within n) (now (w ++ d ∷ []) s false g ∙ n) (may_go_on (w ++ d ∷ []) s false g r.of_string n) }
 
 pub no_line_feed : (a b : Bool) → b ≡ false → (a && b) ≡ false
 no_line_feed true b h = h
@@ -249,6 +305,8 @@ ill_formed w c rest p place i h q = record {
     | inl f ↦ i.never v f.0 f.1
     | inr f ↦ ap (λ (x : List ℕ). is_right (i.before ++ 92 ∷ x)) f.1 ∙ sym (ap is_right (behind_backslash i.before i.beginning w (c ∷ f.0) i.splits)) ∙ h f.0
   ];
+  may_go_on = subst MayGoOn i.splits i.may_go_on;
+  stops = λ d more v e. let s : c ≡ d = cc in ap is_right (sym (behind_backslash i.before i.beginning w (d ∷ v) i.splits)) ∙ ap (λ (x : ℕ). is_right (w ++ x ∷ v)) (sym s) ∙ h v;
   start = i.start;
   end = q ∙ ap bytes_of i.splits;
 }
@@ -263,6 +321,8 @@ cut_off w s a p place r e q =
       splits = i.splits ∙ ap (λ (x : List ℕ). i.before ++ 92 ∷ x) (sym (append-nil i.beginning));
       right = i.right;
       never = λ v more f. i.never v more (sym (append-nil i.beginning) ∙ f);
+      may_go_on = subst MayGoOn i.splits i.may_go_on;
+      stops = λ d more v f. absurd (let k = f in cc);
       start = i.start;
       end = q ∙ ap bytes_of i.splits;
     }

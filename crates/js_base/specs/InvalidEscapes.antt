@@ -1,5 +1,5 @@
 -- The first ill-formed escape in the inside of a string literal (ECMA-262, 12.9.4), and what is known once some characters are read.
-use Rattle.std.specs.Prelude.{ℕ, ◌≡◌, Bool, true, false, List, [], ◌∷◌, ◌++◌, Option, Some, None, is_some, length, encode_utf8_all}
+use Rattle.std.specs.Prelude.{ℕ, ◌≡◌, ◌==◌, Bool, true, false, ◌||◌, List, [], ◌∷◌, ◌++◌, Option, Some, None, is_some, length, encode_utf8_all}
 use Rattle.js_base.specs.declared.escape.InvalidEscape.{InvalidEscape}
 use Rattle.js_base.specs.declared.escape.Reading.{Reading}
 use Rattle.js_base.specs.Escapes.{in_string, Stage, outside, backslash, unicode, nul, due, braced, octal, read_from, finish, line_feeds_after}
@@ -14,7 +14,11 @@ bytes_of cs = length (encode_utf8_all cs)
 abbrev pub is_right : List ℕ → Bool
 is_right inside = is_some (string_points inside)
 
--- What stands before a backslash is right, and is no more so with the backslash and what stands behind it, however much of it. The span ends behind as much of it as may still begin an escape.
+-- some characters behind these make an inside in which each escape is well-formed
+abbrev pub MayGoOn : List ℕ → Type 0
+MayGoOn w = (v : List ℕ) × (is_right (w ++ v) ≡ true)
+
+-- What stands before a backslash is right, and is no more so with the backslash and what stands behind it, however much of it. The span ends before the first character with which nothing can make it right.
 pub record IsInvalidEscape (inside : List ℕ) (escape : InvalidEscape) : Type 0 where
   pub before : List ℕ
   pub beginning : List ℕ
@@ -22,6 +26,8 @@ pub record IsInvalidEscape (inside : List ℕ) (escape : InvalidEscape) : Type 0
   pub splits : inside ≡ before ++ 92 ∷ (beginning ++ rest)
   pub right : is_right before ≡ true
   pub never : (v more : List ℕ) → beginning ++ rest ≡ v ++ more → is_right (before ++ 92 ∷ v) ≡ false
+  pub may_go_on : MayGoOn (before ++ 92 ∷ beginning)
+  pub stops : (c : ℕ) (more v : List ℕ) → rest ≡ c ∷ more → is_right (before ++ 92 ∷ (beginning ++ c ∷ v)) ≡ false
   pub start : escape.start ≡ bytes_of before
   pub end : escape.end ≡ bytes_of (before ++ 92 ∷ beginning)
 
@@ -37,16 +43,17 @@ pub record WithinEscape (w : List ℕ) (place : ℕ) : Type 0 where
   pub splits : w ≡ before ++ 92 ∷ beginning
   pub right : is_right before ≡ true
   pub never : (v more : List ℕ) → beginning ≡ v ++ more → is_right (before ++ 92 ∷ v) ≡ false
+  pub may_go_on : MayGoOn w
   pub start : place ≡ bytes_of before
 
--- a string has no escape of its own for NUL
+-- a string has no escape of its own for NUL, and behind `\u{` alone no value
 abbrev pub is_of_string : Stage → Bool
 is_of_string outside = true
 is_of_string backslash = true
 is_of_string unicode = true
 is_of_string nul = false
 is_of_string (due n v) = true
-is_of_string (braced any v) = true
+is_of_string (braced any v) = any || (v == 0)
 is_of_string (octal n v) = true
 
 -- After the characters w the stage is known, whether a CR stands last, and the place of the backslash of an escape within which they end.

@@ -11,7 +11,7 @@ use crate::decode::{Form, State, finish, step};
 pub struct InvalidEscape {
     /// The place of its backslash, in bytes from the beginning of the inside.
     pub start: usize,
-    /// The place behind the characters with which an escape may begin.
+    /// The place before the first character with which no escape goes on, or the end of the inside.
     pub end: usize,
 }
 

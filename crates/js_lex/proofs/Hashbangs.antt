@@ -12,11 +12,12 @@ use Rattle.js_grammar.specs.Longest.{longest, none_longer}
 use Rattle.js_grammar.specs.Lexemes.{hashbang, hashbang_kind, lexemes_in, is_escaped}
 use Rattle.js_grammar.specs.LexicalFaults.{behind}
 use Rattle.js_grammar.proofs.LongestLemmas.{both, both-left, both-right, not-true}
+use Rattle.js_grammar.proofs.CoreLemmas.{none_longer-from}
 use Rattle.js_lex.specs.Places.{Word}
 use Rattle.js_lex.specs.Scans.{IsScanned, NoLexeme}
 use Rattle.js_lex.specs.TriviaPassed.{IsLineEnd}
 use Rattle.js_lex.proofs.Places.{then}
-use Rattle.js_lex.proofs.Fronts.{none_longer-of, not_all}
+use Rattle.js_lex.proofs.Fronts.{not_all}
 
 abbrev if_line : Bool → Option Kind
 if_line b = elim b [ true ↦ Some HashbangComment | false ↦ None ]
@@ -31,7 +32,7 @@ no_comment w h = ap if_line h
 longest_line : (w rest : List ℕ) → within_line w ≡ true → begins (λ c. not (is_line_terminator c)) rest ≡ false → longest (lexemes_in hashbang) (35 ∷ 33 ∷ w) rest ≡ true
 longest_line w rest h l =
     both (lexemes_in hashbang (35 ∷ 33 ∷ w) rest) (none_longer (lexemes_in hashbang) (35 ∷ 33 ∷ w) rest) (ap is_some (comment_is w h))
-    (none_longer-of (lexemes_in hashbang) (35 ∷ 33 ∷ w) rest (λ d x more e. ap is_some (no_comment (w ++ d ∷ x) (not_all (λ c. not (is_line_terminator c)) w d x (sym (ap (begins (λ c. not (is_line_terminator c))) e) ∙ l)))))
+    (none_longer-from (lexemes_in hashbang) (35 ∷ 33 ∷ w) rest (λ d x more e. ap is_some (no_comment (w ++ d ∷ x) (not_all (λ c. not (is_line_terminator c)) w d x (sym (ap (begins (λ c. not (is_line_terminator c))) e) ∙ l)))))
 
 unescaped : (w : List ℕ) → false ≡ is_escaped HashbangComment w
 unfolding words

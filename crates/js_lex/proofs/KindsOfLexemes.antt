@@ -25,7 +25,6 @@ use Rattle.js_grammar.specs.Lexed.{IsLexeme}
 use Rattle.js_grammar.proofs.LongestLemmas.{both, both-left, both-right, not-true, longest-same}
 use Rattle.js_grammar.proofs.Finding.{kind_member, found-test, found-all}
 use Rattle.js_grammar.proofs.CoreLemmas.{opens, opens-same}
-use Rattle.js_grammar.proofs.CoreFirst.{first_passes}
 
 -- ---- what opens a lexeme of a kind
 
@@ -58,6 +57,7 @@ opened_number n =
 abbrev pub opened : Kind → Option Opening
 opened k = opened_number (code k)
 
+-- whether a kind's opening is this one
 abbrev is_opened_by : Opening → Option Opening → Bool
 is_opened_by o None = false
 is_opened_by o (Some p) = opens p o
@@ -66,7 +66,7 @@ opened-same : (o : Opening) (p : Option Opening) → is_opened_by o p ≡ true �
 opened-same o None h = cc
 opened-same o (Some p) h = ap (λ (q : Opening). Some q) (opens-same p o h)
 
--- a kind of a list
+-- the opening of the kinds of a list, where they all have the same one
 opened_member : (o : Opening) (ks : List Kind) (k : Kind) → one_of_kinds ks k ≡ true → list_all (λ a. is_opened_by o (opened_number (code a))) ks ≡ true → opened k ≡ Some o
 opened_member o ks k h a = opened-same o (opened k) (kind_member (λ n. is_opened_by o (opened_number n)) ks k h a)
 
@@ -80,6 +80,7 @@ unopened j k o n h = go (same_kind j k) refl
 
 -- ---- each opening gives kinds of its own
 
+-- no kind, or one with this opening
 abbrev gives : Opening → Option Kind → Bool
 gives o None = true
 gives o (Some k) = is_opened_by o (opened k)
@@ -94,6 +95,7 @@ chosen o false x y h k = k
 
 -- names
 
+-- each word of a list has the opening of names, and `Ident` has
 first_opened : (ks : List Kind) (w : List ℕ) → list_all (λ k. is_opened_by a_name (opened k)) ks ≡ true → is_opened_by a_name (opened (first_with_text ks w)) ≡ true
 first_opened [] w h = refl
 first_opened (k ∷ ks) w h = go (bytes_eq (text_of k) w) refl (first_opened ks w (both-right (is_opened_by a_name (opened k)) (list_all (λ k. is_opened_by a_name (opened k)) ks) h))
@@ -120,6 +122,7 @@ private_gives (c ∷ cs) = chosen a_private_name (c == 35) (private_of (name_of 
 
 -- numbers
 
+-- what is left of a number gives kinds of numbers alone
 abbrev Numeric : Rest → Type 0
 Numeric r = (w : List ℕ) → gives a_number (r w) ≡ true
 
@@ -227,6 +230,7 @@ pub plain_end : (rest : List ℕ) (k : Kind) → plain_kind [] rest ≡ Some k �
 plain_end [] k h = (cc, refl)
 plain_end (c ∷ rest) k h = cc
 
+-- the kinds of the other goals
 pub pattern_is : (w : List ℕ) (k : Kind) → regular_expression_kind w ≡ Some k → k ≡ RegExp
 pattern_is w k h = go (flags w) h
   where
@@ -288,21 +292,25 @@ punctuator_word c cs rest k h p = listed_word (c ∷ cs) rest k (listed c cs res
 abbrev pub greater_kinds : List Kind
 greater_kinds = RAngle ∷ GtEq ∷ ShiftRight ∷ ShiftRightEq ∷ ShiftRight3 ∷ ShiftRight3Eq ∷ []
 
-greater_first : (w rest : List ℕ) (k : Kind) → punctuator_kind w rest ≡ Some k → one_of_kinds greater_kinds k ≡ first_passes (λ d. d == 62) (text_of k)
+-- a punctuator is one of these exactly where its text begins so
+greater_first : (w rest : List ℕ) (k : Kind) → punctuator_kind w rest ≡ Some k → one_of_kinds greater_kinds k ≡ begins (λ d. d == 62) (text_of k)
 unfolding punctuators
-greater_first w rest k h = (booleans_Decides _ _).0 (found-all (λ k. bytes_eq (text_of k) w && may_precede k rest) (λ k. beq (one_of_kinds greater_kinds k) (first_passes (λ d. d == 62) (text_of k))) punctuators k h refl)
+greater_first w rest k h = (booleans_Decides _ _).0 (found-all (λ k. bytes_eq (text_of k) w && may_precede k rest) (λ k. beq (one_of_kinds greater_kinds k) (begins (λ d. d == 62) (text_of k))) punctuators k h refl)
 
+-- a lexeme of one of these kinds begins with a greater-than sign
 pub greater_word : (c : ℕ) (cs rest : List ℕ) (k : Kind) → plain_kind (c ∷ cs) rest ≡ Some k → one_of_kinds greater_kinds k ≡ true → c ≡ 62
 greater_word c cs rest k h g =
     let l = listed c cs rest k h (opened_member a_punctuator greater_kinds k g refl) in
     let e = (listed_word (c ∷ cs) rest k l).0 in
-    eqb-true c 62 (ap (first_passes (λ d. d == 62)) e ∙ sym (greater_first (c ∷ cs) rest k l) ∙ g)
+    eqb-true c 62 (ap (begins (λ d. d == 62)) e ∙ sym (greater_first (c ∷ cs) rest k l) ∙ g)
 
+-- a lexeme that begins with a greater-than sign is of one of these kinds
 pub greater_kind : (cs rest : List ℕ) (k : Kind) → plain_kind (62 ∷ cs) rest ≡ Some k → one_of_kinds greater_kinds k ≡ true
 greater_kind cs rest k h =
     let l : punctuator_kind (62 ∷ cs) rest ≡ Some k = h in
-    greater_first (62 ∷ cs) rest k l ∙ sym (ap (first_passes (λ d. d == 62)) (listed_word (62 ∷ cs) rest k l).0)
+    greater_first (62 ∷ cs) rest k l ∙ sym (ap (begins (λ d. d == 62)) (listed_word (62 ∷ cs) rest k l).0)
 
+-- a slash is one character, and what stands behind it makes no comment of it
 pub slash_word : (c : ℕ) (cs rest : List ℕ) → plain_kind (c ∷ cs) rest ≡ Some Slash → (c ≡ 47) × (cs ≡ []) × (begins (one_of (codes "*/")) rest ≡ false)
 slash_word c cs rest h =
     let p = punctuator_word c cs rest Slash h refl in
@@ -312,7 +320,7 @@ slash_word c cs rest h =
 pub slash_equals_word : (c : ℕ) (cs rest : List ℕ) → plain_kind (c ∷ cs) rest ≡ Some SlashEq → c ∷ cs ≡ 47 ∷ 61 ∷ []
 slash_equals_word c cs rest h = (punctuator_word c cs rest SlashEq h refl).0
 
--- the slash that begins one of these two begins no comment
+-- the slash with which a lexeme of one of these two kinds begins, begins no comment
 pub no_comment_opens : (c : ℕ) (cs rest : List ℕ) (k : Kind) → plain_kind (c ∷ cs) rest ≡ Some k → (k ≡ Slash) ⊎ (k ≡ SlashEq) → begins (one_of (codes "*/")) (cs ++ rest) ≡ false
 no_comment_opens c cs rest k h (inl e) = let s = slash_word c cs rest (h ∙ ap (λ (l : Kind). Some l) e) in ap (λ (v : List ℕ). begins (one_of (codes "*/")) (v ++ rest)) s.1 ∙ s.2
 no_comment_opens c cs rest k h (inr e) =

@@ -1,3 +1,6 @@
+pub mod NumberRests
+pub mod NumberScans
+pub mod Numbers
 pub mod Places
 pub mod Plain
 pub mod Names
@@ -10,6 +13,7 @@ pub mod Keeping
 pub mod TriviaLemmas
 pub mod Passing
 pub mod Giving
+pub mod Openings
 pub mod Fronts
 pub mod TemplateParts
 pub mod TemplateLexemes
@@ -20,3 +24,6 @@ pub mod Flags
 pub mod StringLemmas
 pub mod StringPlaces
 pub mod KindsOfLexemes
+pub mod PunctuatorLexemes
+pub mod PunctuatorScans
+pub mod Punctuators

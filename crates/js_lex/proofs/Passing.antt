@@ -2,6 +2,7 @@
 use Rattle.std.proofs.Common.{◌≡◌, ℕ, ◌+◌, ◌==◌, Bool, true, false, List, [], ◌∷◌, ◌++◌, refl, sym, ap, subst, ◌∙◌, ◌&&◌, ◌||◌, length, arith, append_assoc, append-nil, Option, Some, None, map, take, drop}
 use Rattle.std.specs.Prelude.{IsCharBoundary}
 use Rattle.std.proofs.lemmas.List.Folds.{list_any-append}
+use Rattle.std.proofs.Math.Bool.{or-false, or_assoc}
 use Rattle.std.proofs.Math.Seq.{drop-append_seam, take-append_seam}
 use Rattle.std.proofs.lemmas.List.{map-append}
 use Rattle.js_base.specs.Characters.{is_line_terminator}
@@ -29,14 +30,6 @@ pub record Passing (in_a_module : Bool) (text : List ℕ) (s end : ℕ) (newline
   pub newline_is : newline ≡ has_line_terminator (joined pieces)
   pub goes_on : (qs : List (List ℕ)) (rest : List ℕ) → behind text end ≡ joined qs ++ rest → are_trivia ((s == 0) || newline) qs rest ≡ true → are_trivia (s == 0) (pieces ++ qs) rest ≡ true
   pub grows : Grows old new (each_at (comment_at 0) s pieces) (each_at irregular_at s pieces) [] (each_at (html_fault_at in_a_module) s pieces)
-
-or-false : (b : Bool) → (b || false) ≡ b
-or-false true = refl
-or-false false = refl
-
-or-assoc : (a b c : Bool) → ((a || b) || c) ≡ (a || (b || c))
-or-assoc true b c = refl
-or-assoc false b c = refl
 
 pub passed_none : (m : Bool) (text : List ℕ) (s : ℕ) (old : LexerOutput) → IsCharBoundary text s → Passing m text s s false old old
 passed_none m text s old b = record {
@@ -89,7 +82,7 @@ passed_more {m = m} {text = text} {s = s} {end = end} {newline = newline} {old =
   newline_is = rw (a.newline_is, h.newline) (sym (list_any-append is_line_terminator (joined a.pieces) h.word)) ∙ ap has_line_terminator (sym (joined-more a.pieces h.word));
   goes_on = λ qs rest e t.
       let k : longest (is_trivia_piece ((s == 0) || newline)) h.word (joined qs ++ rest) ≡ true = subst (λ (v : List ℕ). longest (is_trivia_piece ((s == 0) || newline)) h.word v ≡ true) e h.longest in
-      let f : are_trivia (((s == 0) || newline) || has_line_terminator h.word) qs rest ≡ true = subst (λ (b : Bool). are_trivia b qs rest ≡ true) (sym (or-assoc (s == 0) newline p.has_newline) ∙ ap (λ (b : Bool). ((s == 0) || newline) || b) h.newline) t in
+      let f : are_trivia (((s == 0) || newline) || has_line_terminator h.word) qs rest ≡ true = subst (λ (b : Bool). are_trivia b qs rest ≡ true) (sym (or_assoc (s == 0) newline p.has_newline) ∙ ap (λ (b : Bool). ((s == 0) || newline) || b) h.newline) t in
       let u : behind text end ≡ (h.word ++ joined qs) ++ rest = h.stands.splits ∙ ap (λ (v : List ℕ). h.word ++ v) e ∙ sym (append_assoc h.word (joined qs) rest) in
       let r = a.goes_on (h.word ∷ qs) rest u (both (longest (is_trivia_piece ((s == 0) || newline)) h.word (joined qs ++ rest)) (are_trivia (((s == 0) || newline) || has_line_terminator h.word) qs rest) k f) in
       subst (λ (v : List (List ℕ)). are_trivia (s == 0) v rest ≡ true) (sym (append_assoc a.pieces (h.word ∷ []) qs)) r;

@@ -1,12 +1,12 @@
 -- Words between places of a text, and the characters that bytes tell.
-use Rattle.std.proofs.Common.{◌≡◌, ◌≤◌, ◌<◌, ℕ, ◌+◌, List, [], ◌∷◌, ◌++◌, refl, sym, ap, subst, ◌∙◌, length, drop, arith, length-drop, Option, Some, None, ◌⊎◌, inl, inr, append_assoc, zero, suc, take, nat_lt, false, true}
+use Rattle.std.proofs.Common.{◌≡◌, ◌≤◌, ◌<◌, ℕ, ◌+◌, List, [], ◌∷◌, ◌++◌, refl, sym, ap, subst, ◌∙◌, length, drop, arith, length-drop, Option, Some, None, ◌⊎◌, inl, inr, append_assoc, take, nat_lt, false, true}
 use Rattle.std.specs.Prelude.{chars, encode_utf8, encode_utf8_all, IsUtf8, IsCharBoundary, slice_index, slice_get}
 use Rattle.std.specs.Char.{len_utf8}
 use Rattle.std.proofs.lemmas.Str.{IsUtf8-drop, IsCharBoundary-past_char, drop_past_char, chars_past_char, chars-nil, encode_ascii, len_utf8_ascii, encodes-chars, byte_from_char}
 use Rattle.std.specs.List.{list_all}
 use Rattle.std.proofs.lemmas.List.{drop_more, take_more, take_all, get_or-drop}
 use Rattle.js_grammar.specs.CoreTexts.{starts}
-use Rattle.js_grammar.proofs.LongestLemmas.{both-left, both-right}
+use Rattle.js_grammar.proofs.Runs.{is_ascii_list, ascii_width}
 use Rattle.std.proofs.lemmas.Bool.{cases_lt}
 use Rattle.js_grammar.specs.Characters.{width}
 use Rattle.js_grammar.specs.LexicalFaults.{behind}
@@ -85,14 +85,6 @@ reads text i r u b e = by (behind text i) refl r e
 
 -- ---- to go on with some ASCII characters
 
-is_ascii_at : (xs : List ℕ) (k : ℕ) → list_all (λ c. nat_lt c 128) xs ≡ true → k < length xs → slice_index xs k < 128
-is_ascii_at xs k h l = Rattle.std.proofs.lemmas.Bool.ltb-true (slice_index xs k) 128 (by xs k h l)
-  where
-    by : (xs : List ℕ) (k : ℕ) → list_all (λ c. nat_lt c 128) xs ≡ true → k < length xs → nat_lt (slice_index xs k) 128 ≡ true
-    by [] k h l = absurd (omega arith)
-    by (x ∷ xs) zero h l = both-left (nat_lt x 128) (list_all (λ c. nat_lt c 128) xs) h
-    by (x ∷ xs) (suc k) h l = by xs k (both-right (nat_lt x 128) (list_all (λ c. nat_lt c 128) xs) h) (omega arith)
-
 starts_same : (x : ℕ) (xs cs : List ℕ) → starts (x ∷ xs) (x ∷ cs) ≡ starts xs cs
 starts_same x xs cs = rw (Rattle.std.proofs.lemmas.Bool.eq-eqb x x refl) refl
 
@@ -100,7 +92,7 @@ pub goes_step : (text xs : List ℕ) (at end k b : ℕ) → list_all (λ c. nat_
     → Word text at (end + 1) (take (k + 1) xs) × (starts xs (behind text at) ≡ starts (drop (k + 1) xs) (behind text (end + 1)))
 goes_step text xs at end k b h l e p w s =
     let x = slice_index xs k in
-    let below = is_ascii_at xs k h l in
+    let below = is_ascii_list xs h k in
     let one : Word text end (end + 1) (x ∷ []) = subst (λ (v : ℕ). Word text end (end + 1) (v ∷ [])) e (p.ascii (omega arith)) in (
       subst (λ (v : List ℕ). Word text at (end + 1) v) (sym (take_more xs k 0 l)) (then w one),
       s ∙ ap (λ (v : List ℕ). starts v (behind text end)) (drop_more xs k 0 l) ∙ ap (λ (v : List ℕ). starts (x ∷ drop (k + 1) xs) v) one.splits ∙ starts_same x (drop (k + 1) xs) (behind text (end + 1)),
@@ -120,22 +112,15 @@ goes_stop text xs at end k r h l p n s = s ∙ ap (λ (v : List ℕ). starts v (
     high b p (inl below) n = let w = p.ascii below in ap (λ (v : List ℕ). starts (x ∷ drop (k + 1) xs) v) w.splits ∙ differs x b (λ e. n (sym e)) (drop (k + 1) xs) (behind text (end + 1))
     high b p (inr above) n =
         let g = p.high above in
-        let below = is_ascii_at xs k h l in
+        let below = is_ascii_list xs h k in
         ap (λ (v : List ℕ). starts (x ∷ drop (k + 1) xs) v) g.word.splits ∙ differs x g.character (λ e. let a = g.high in omega arith) (drop (k + 1) xs) (behind text (end + len_utf8 g.character))
 
     by : (r : Option ℕ) → PeeksAt text end r → (r ≡ Some x → ⊥) → starts (x ∷ drop (k + 1) xs) (behind text end) ≡ false
     by None p n = ap (λ (v : List ℕ). starts (x ∷ drop (k + 1) xs) v) p
     by (Some b) p n = high b p (cases_lt b 128) (λ e. n (ap Some e))
 
-width-ascii : (xs : List ℕ) → list_all (λ c. nat_lt c 128) xs ≡ true → width xs ≡ length xs
-width-ascii [] h = refl
-width-ascii (x ∷ xs) h =
-    let a : len_utf8 x ≡ 1 = len_utf8_ascii x (Rattle.std.proofs.lemmas.Bool.ltb-true x 128 (both-left (nat_lt x 128) (list_all (λ c. nat_lt c 128) xs) h)) in
-    let b = width-ascii xs (both-right (nat_lt x 128) (list_all (λ c. nat_lt c 128) xs) h) in
-    omega arith
-
 pub goes_all : (text xs : List ℕ) (at end k : ℕ) → list_all (λ c. nat_lt c 128) xs ≡ true → length xs ≤ k → Word text at end (take k xs) → Word text at (at + length xs) xs
 goes_all text xs at end k h l w =
     let v : Word text at end xs = subst (λ (x : List ℕ). Word text at end x) (take_all k xs l) w in
-    let e : end ≡ at + length xs = (let a = v.end in let b = width-ascii xs h in omega arith) in
+    let e : end ≡ at + length xs = (let a = v.end in let b = ascii_width xs h in omega arith) in
     subst (λ (n : ℕ). Word text at n xs) e v

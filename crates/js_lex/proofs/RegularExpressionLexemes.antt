@@ -15,11 +15,12 @@ use Rattle.js_grammar.specs.Lexemes.{regular_expression, lexemes_in, is_escaped}
 use Rattle.js_grammar.specs.LexicalFaults.{behind, Unterminated, is_open_pattern, is_open_regular_expression}
 use Rattle.js_grammar.specs.RegularExpressions.{behind_pattern, flags, flagged, regular_expression_kind}
 use Rattle.js_grammar.proofs.LongestLemmas.{both}
+use Rattle.js_grammar.proofs.CoreLemmas.{none_longer-from}
 use Rattle.js_lex.specs.Places.{Word}
 use Rattle.js_lex.specs.Scans.{IsStopped, NoLexeme}
 use Rattle.js_lex.specs.RegularExpressionParts.{Pattern, OpenPattern, FlagsEnd, IsRegularExpression, ends_bracketed}
 use Rattle.js_lex.proofs.Places.{then}
-use Rattle.js_lex.proofs.Fronts.{none_longer-of, not_all}
+use Rattle.js_lex.proofs.Fronts.{not_all}
 
 -- the pattern that a list begins with, and nothing of a comment, give the flags behind the slash
 flags_of : (p fs rest : List ℕ) → ((v : List ℕ) → behind_pattern false false (p ++ v) ≡ Some v) → begins (one_of (codes "*/")) (p ++ rest) ≡ false → flags (47 ∷ (p ++ fs)) ≡ Some fs
@@ -33,26 +34,18 @@ flags_of (c ∷ p) fs rest f h = chosen (one_of (codes "*/") c) h
 abbrev if_named : Bool → Option Kind
 if_named b = elim b [ true ↦ Some RegExp | false ↦ None ]
 
-passed : (b : Bool) → b ≡ true → if_named b ≡ Some RegExp
-passed true e = refl
-passed false e = cc
-
-failed : (b : Bool) → b ≡ false → if_named b ≡ None
-failed true e = cc
-failed false e = refl
-
 kind_of_flags : (w fs : List ℕ) → flags w ≡ Some fs → list_all is_identifier_part fs ≡ true → regular_expression_kind w ≡ Some RegExp
-kind_of_flags w fs h a = ap flagged h ∙ passed (list_all is_identifier_part fs) a
+kind_of_flags w fs h a = ap flagged h ∙ ap if_named a
 
 no_kind_of_flags : (w fs : List ℕ) → flags w ≡ Some fs → list_all is_identifier_part fs ≡ false → regular_expression_kind w ≡ None
-no_kind_of_flags w fs h a = ap flagged h ∙ failed (list_all is_identifier_part fs) a
+no_kind_of_flags w fs h a = ap flagged h ∙ ap if_named a
 
 -- as many name characters as follow make it the longest one
 longest_flags : (p fs rest : List ℕ) → ((v : List ℕ) → behind_pattern false false (p ++ v) ≡ Some v) → begins (one_of (codes "*/")) (p ++ (fs ++ rest)) ≡ false → list_all is_identifier_part fs ≡ true → begins is_identifier_part rest ≡ false → longest (lexemes_in regular_expression) (47 ∷ (p ++ fs)) rest ≡ true
 longest_flags p fs rest f h a n =
     both (lexemes_in regular_expression (47 ∷ (p ++ fs)) rest) (none_longer (lexemes_in regular_expression) (47 ∷ (p ++ fs)) rest)
     (ap is_some (kind_of_flags (47 ∷ (p ++ fs)) fs (flags_of p fs (fs ++ rest) f h) a))
-    (none_longer-of (lexemes_in regular_expression) (47 ∷ (p ++ fs)) rest (λ d x more e. ap is_some (longer d x (sym (ap (begins is_identifier_part) e) ∙ n))))
+    (none_longer-from (lexemes_in regular_expression) (47 ∷ (p ++ fs)) rest (λ d x more e. ap is_some (longer d x (sym (ap (begins is_identifier_part) e) ∙ n))))
   where
     longer : (d : ℕ) (x : List ℕ) → is_identifier_part d ≡ false → regular_expression_kind ((47 ∷ (p ++ fs)) ++ d ∷ x) ≡ None
     longer d x g =
@@ -125,7 +118,7 @@ no_kind : (cs : List ℕ) → behind_pattern false false cs ≡ None → (c : �
 no_kind cs n c w rest e = ap flagged (no_flags c w (no_front w rest (ap (λ (v : List ℕ). behind_pattern false false v) (sym e) ∙ n)))
 
 never_ends : (cs : List ℕ) → behind_pattern false false cs ≡ None → none_begins (lexemes_in regular_expression) (47 ∷ cs) ≡ true
-never_ends cs n = none_longer-of (lexemes_in regular_expression) [] (47 ∷ cs) (λ c x more e. ap is_some (no_kind cs n c x more (let k = e in cc)))
+never_ends cs n = none_longer-from (lexemes_in regular_expression) [] (47 ∷ cs) (λ c x more e. ap is_some (no_kind cs n c x more (let k = e in cc)))
 
 no_star : (w rest : List ℕ) → begins (one_of (codes "*/")) (w ++ rest) ≡ false → begins (λ c. c == 42) w ≡ false
 no_star [] rest h = refl
@@ -140,7 +133,7 @@ longest_open : (w rest : List ℕ) → within_line w ≡ true → begins (one_of
 longest_open w rest a h l =
     both (is_open_regular_expression (47 ∷ w) rest) (none_longer is_open_regular_expression (47 ∷ w) rest)
     (both (within_line w) (not (begins (λ c. c == 42) w)) a (let e = no_star w rest h in rw e refl))
-    (none_longer-of is_open_regular_expression (47 ∷ w) rest (λ d x more e. longer d x (sym (ap (begins (λ c. not (is_line_terminator c))) e) ∙ l)))
+    (none_longer-from is_open_regular_expression (47 ∷ w) rest (λ d x more e. longer d x (sym (ap (begins (λ c. not (is_line_terminator c))) e) ∙ l)))
   where
     longer : (d : ℕ) (x : List ℕ) → not (is_line_terminator d) ≡ false → is_open_pattern (w ++ d ∷ x) ≡ false
     longer d x g = let e = not_all (λ c. not (is_line_terminator c)) w d x g in rw e refl

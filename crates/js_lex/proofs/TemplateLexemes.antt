@@ -12,6 +12,7 @@ use Rattle.js_grammar.specs.Lexemes.{LexicalGoal, division, template_tail, is_es
 use Rattle.js_grammar.specs.Lexed.{IsLexeme}
 use Rattle.js_grammar.specs.LexicalFaults.{behind, Stopping, Unterminated, is_open_part, is_part}
 use Rattle.js_grammar.proofs.LongestLemmas.{append-nil, both}
+use Rattle.js_grammar.proofs.CoreLemmas.{none_longer-from}
 use Rattle.js_lex.specs.declared.scan.Scanned.{Scanned}
 use Rattle.js_lex.specs.declared.scan.Fault.{Fault}
 use Rattle.js_lex.specs.declared.template.PartEnd.{PartEnd}
@@ -20,7 +21,6 @@ use Rattle.js_lex.specs.Scans.{IsScanned, IsStopped, NoLexeme}
 use Rattle.js_lex.specs.TemplateParts.{Ended, Endless, IsPart, IsUnended}
 use Rattle.js_lex.proofs.Places.{then}
 use Rattle.js_lex.proofs.Plain.{is_lexeme, no_lexeme}
-use Rattle.js_lex.proofs.Fronts.{none_longer-of}
 use Rattle.js_lex.proofs.TemplateParts.{no_more}
 
 -- the kind of characters behind an opening, by how they end
@@ -39,7 +39,7 @@ longest_part : (kind : List ℕ → Option Kind) (q : ℕ) (closing opening : Ki
 longest_part kind q closing opening p inside rest o h =
     both (is_some (kind (q ∷ inside))) (none_longer (of_kind kind) (q ∷ inside) rest)
     (ap is_some (p inside ∙ ap (part_kind closing opening) h ∙ kind_of_part closing opening o))
-    (none_longer-of (of_kind kind) (q ∷ inside) rest (λ c x more e. ap is_some (p (inside ++ c ∷ x) ∙ ap (part_kind closing opening) (no_more false false inside c x o h))))
+    (none_longer-from (of_kind kind) (q ∷ inside) rest (λ c x more e. ap is_some (p (inside ++ c ∷ x) ∙ ap (part_kind closing opening) (no_more false false inside c x o h))))
 
 kind_is : (kind : List ℕ → Option Kind) (q : ℕ) (closing opening : Kind) → PartKinds kind q closing opening → (inside : List ℕ) (o : Bool) → closes_template false false inside ≡ Some o → kind (q ∷ inside) ≡ Some (cond o opening closing)
 kind_is kind q closing opening p inside o h = p inside ∙ ap (part_kind closing opening) h ∙ kind_of_part closing opening o
@@ -124,7 +124,7 @@ no_part : (c : ℕ) (x more : List ℕ) → closes_template false false x ≡ No
 no_part c x more h = rw (no_template c x h, no_template_tail c x h) refl
 
 never_part : (q : ℕ) (cs : List ℕ) → ((w rest : List ℕ) → cs ≡ w ++ rest → closes_template false false w ≡ None) → none_begins is_part (q ∷ cs) ≡ true
-never_part q cs f = none_longer-of is_part [] (q ∷ cs) (λ c x more e. no_part c x more (f x more (let k = e in cc)))
+never_part q cs f = none_longer-from is_part [] (q ∷ cs) (λ c x more e. no_part c x more (f x more (let k = e in cc)))
 
 unended : (text : List ℕ) (i q : ℕ) → is_open_part (q ∷ []) [] ≡ true → Word text i (i + 1) (q ∷ []) → Endless text (i + 1) → Unterminated is_open_part is_part text i (length text)
 unended text i q o w e =

@@ -10,7 +10,7 @@ use Rattle.js_lex.specs.declared.template.Step.TheVariants.{On, Ends}
 use Rattle.js_lex.specs.Places.{Word}
 use Rattle.js_lex.specs.TemplateParts.{closes_behind, ends_here, Steps, Ended, Endless}
 use Rattle.js_lex.proofs.Places.{none_passed, then}
-use Rattle.js_lex.proofs.Fronts.{ends_there}
+use Rattle.js_lex.proofs.Fronts.{ends_there, onwards}
 
 -- The characters from i up to j are read, and the last one is told.
 pub record Read (text : List ℕ) (i j : ℕ) (b : Before) : Type 0 where
@@ -21,18 +21,15 @@ pub record Read (text : List ℕ) (i j : ℕ) (b : Before) : Type 0 where
 pub read_none : (text : List ℕ) (i : ℕ) → IsCharBoundary text i → Read text i i Other
 read_none text i b = record { word = []; stands = none_passed text i b; follows = λ v. refl }
 
-onwards : (w : List ℕ) (c : ℕ) (b : Before) (v : List ℕ) → ((v : List ℕ) → closes_template false false (w ++ v) ≡ closes_behind b v) → closes_template false false ((w ++ c ∷ []) ++ v) ≡ closes_behind b (c ∷ v)
-onwards w c b v f = ap (λ (x : List ℕ). closes_template false false x) (append_assoc w (c ∷ []) v) ∙ f (c ∷ v)
-
 pub read_on : {text : List ℕ} {i j k c : ℕ} {b s : Before} → Read text i j b → Word text j k (c ∷ []) → Steps b c (On s) → Read text i k s
-read_on {c = c} {b = b} r w f = record { word = r.word ++ c ∷ []; stands = then r.stands w; follows = λ v. onwards r.word c b v r.follows ∙ f v }
+read_on {c = c} {b = b} r w f = record { word = r.word ++ c ∷ []; stands = then r.stands w; follows = λ v. onwards (closes_template false false) (closes_behind b) r.word c r.follows v ∙ f v }
 
 -- the rest of what ends a part
 pub read_end : {text : List ℕ} {i j k c : ℕ} {b : Before} {o : Bool} → Read text i j b → Word text j k (c ∷ []) → Steps b c (Ends o) → Ended text i (record { end = k; opens_substitution = o })
 read_end {c = c} {b = b} {o = o} r w f = record {
   inside = r.word ++ c ∷ [];
   stands = then r.stands w;
-  closed = ap (λ (x : List ℕ). closes_template false false x) (sym (append-nil (r.word ++ c ∷ []))) ∙ onwards r.word c b [] r.follows ∙ f [];
+  closed = ap (λ (x : List ℕ). closes_template false false x) (sym (append-nil (r.word ++ c ∷ []))) ∙ onwards (closes_template false false) (closes_behind b) r.word c r.follows [] ∙ f [];
 }
 
 some_left : (o : Bool) (w : List ℕ) (c : ℕ) (x : List ℕ) → ends_here o (w ++ c ∷ x) ≡ None

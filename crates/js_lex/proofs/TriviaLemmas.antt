@@ -2,6 +2,8 @@
 use Rattle.std.proofs.Common.{◌≡◌, ◌<◌, ℕ, ◌+◌, ◌≤◌, Option, ◌==◌, Bool, true, false, List, [], ◌∷◌, ◌++◌, refl, sym, ap, subst, ◌∙◌, not, ◌&&◌, ◌||◌, length, arith, append_assoc, Some, None, ◌⊎◌, inl, inr}
 use Rattle.std.specs.Prelude.{codes}
 use Rattle.std.specs.List.{list_all}
+use Rattle.std.proofs.lemmas.Bool.{and_left, and_right}
+use Rattle.std.proofs.Math.Bool.{and-false, and-true, not-not, or-false}
 use Rattle.std.proofs.lemmas.List.Folds.{list_all-append, list_any-append}
 use Rattle.js_base.specs.Characters.{is_line_terminator}
 use Rattle.js_grammar.specs.Characters.{has_line_terminator, begins, width}
@@ -21,13 +23,7 @@ use Rattle.js_lex.specs.declared.comment.CommentKind.TheVariants.{Line, SingleLi
 use Rattle.js_lex.specs.declared.trivia.Piece.{Piece}
 use Rattle.js_lex.specs.declared.trivia.Trivia.{Trivia}
 use Rattle.js_lex.proofs.Places.{then}
-
-pub and-left : (a b : Bool) → a ≡ false → (a && b) ≡ false
-and-left a b h = rw h refl
-
-pub and-false : (a b : Bool) → b ≡ false → (a && b) ≡ false
-and-false true b e = e
-and-false false b e = refl
+use Rattle.js_lex.proofs.Fronts.{not_all, onwards}
 
 -- ---- lines
 
@@ -35,7 +31,7 @@ pub line_more : (w : List ℕ) (c : ℕ) → within_line w ≡ true → is_line_
 line_more w c h n = list_all-append (λ c. not (is_line_terminator c)) w (c ∷ []) ∙ rw (h, n) refl
 
 pub line_ended : (w x : List ℕ) (c : ℕ) → is_line_terminator c ≡ true → within_line (w ++ c ∷ x) ≡ false
-line_ended w x c n = list_all-append (λ c. not (is_line_terminator c)) w (c ∷ x) ∙ and-false (within_line w) (within_line (c ∷ x)) (rw n refl)
+line_ended w x c n = not_all (λ d. not (is_line_terminator d)) w c x (rw n refl)
 
 -- all of a line is without line terminator
 pub no_terminator : (w : List ℕ) → within_line w ≡ true → has_line_terminator w ≡ false
@@ -57,12 +53,12 @@ no_comment first c x more b p =
     neither (is_blank (c ∷ x)) (is_single_line_comment (c ∷ x) || (is_multi_line_comment (c ∷ x) || (is_html_open (c ∷ x) || (first && is_html_close (c ∷ x)))))
     b
     (neither (is_single_line_comment (c ∷ x)) (is_multi_line_comment (c ∷ x) || (is_html_open (c ∷ x) || (first && is_html_close (c ∷ x))))
-    (and-left (47 == c) (after (47 ∷ []) within_line x) p.0)
+    (and_left (47 == c) (after (47 ∷ []) within_line x) p.0)
     (neither (is_multi_line_comment (c ∷ x)) (is_html_open (c ∷ x) || (first && is_html_close (c ∷ x)))
-    (and-left (47 == c) (after (42 ∷ []) (closes_comment false) x) p.0)
+    (and_left (47 == c) (after (42 ∷ []) (closes_comment false) x) p.0)
     (neither (is_html_open (c ∷ x)) (first && is_html_close (c ∷ x))
-    (and-left (60 == c) (after (codes "!--") within_line x) p.1)
-    (and-false first (is_html_close (c ∷ x)) (and-left (45 == c) (after (codes "->") within_line x) p.2)))))
+    (and_left (60 == c) (after (codes "!--") within_line x) p.1)
+    (and_right first (is_html_close (c ∷ x)) (and_left (45 == c) (after (codes "->") within_line x) p.2)))))
 
 differs : (a c : ℕ) → is_blank (a ∷ []) ≡ false → is_blank (c ∷ []) ≡ true → (a == c) ≡ false
 differs a c h k = go (a == c) refl
@@ -108,19 +104,15 @@ abbrev pub Ends : List ℕ → Type 0
 Ends rest = not (begins (λ c. not (is_line_terminator c)) rest) ≡ true
 
 ends_at : (rest x more : List ℕ) (c : ℕ) → Ends rest → rest ≡ c ∷ x ++ more → is_line_terminator c ≡ true
-ends_at rest x more c h e = let k : not (not (is_line_terminator c)) ≡ true = subst Ends e h in by (is_line_terminator c) k
-  where
-    by : (b : Bool) → not (not b) ≡ true → b ≡ true
-    by true k = refl
-    by false k = cc
+ends_at rest x more c h e = sym (not-not (is_line_terminator c)) ∙ subst Ends e h
 
 pub slashes_longest : (first : Bool) (v rest : List ℕ) → within_line v ≡ true → Ends rest → longest (is_trivia_piece first) (47 ∷ 47 ∷ v) rest ≡ true
 slashes_longest first v rest h e = both (is_trivia_piece first (47 ∷ 47 ∷ v) rest) (none_longer (is_trivia_piece first) (47 ∷ 47 ∷ v) rest) (rw h refl)
-    (none_longer-from (is_trivia_piece first) (47 ∷ 47 ∷ v) rest (λ c x more k. let n : within_line (v ++ c ∷ x) ≡ false = line_ended v x c (ends_at rest x more c e k) in rw n (and-false first false refl)))
+    (none_longer-from (is_trivia_piece first) (47 ∷ 47 ∷ v) rest (λ c x more k. let n : within_line (v ++ c ∷ x) ≡ false = line_ended v x c (ends_at rest x more c e k) in rw n (and_right first false refl)))
 
 pub open_longest : (first : Bool) (v rest : List ℕ) → within_line v ≡ true → Ends rest → longest (is_trivia_piece first) (60 ∷ 33 ∷ 45 ∷ 45 ∷ v) rest ≡ true
 open_longest first v rest h e = both (is_trivia_piece first (60 ∷ 33 ∷ 45 ∷ 45 ∷ v) rest) (none_longer (is_trivia_piece first) (60 ∷ 33 ∷ 45 ∷ 45 ∷ v) rest) (rw h refl)
-    (none_longer-from (is_trivia_piece first) (60 ∷ 33 ∷ 45 ∷ 45 ∷ v) rest (λ c x more k. let n : within_line (v ++ c ∷ x) ≡ false = line_ended v x c (ends_at rest x more c e k) in rw n (and-false first false refl)))
+    (none_longer-from (is_trivia_piece first) (60 ∷ 33 ∷ 45 ∷ 45 ∷ v) rest (λ c x more k. let n : within_line (v ++ c ∷ x) ≡ false = line_ended v x c (ends_at rest x more c e k) in rw n (and_right first false refl)))
 
 pub close_longest : (v rest : List ℕ) → within_line v ≡ true → Ends rest → longest (is_trivia_piece true) (45 ∷ 45 ∷ 62 ∷ v) rest ≡ true
 close_longest v rest h e = both (is_trivia_piece true (45 ∷ 45 ∷ 62 ∷ v) rest) (none_longer (is_trivia_piece true) (45 ∷ 45 ∷ 62 ∷ v) rest) h
@@ -143,35 +135,26 @@ closed star (d ∷ w) c x h = go (star && (d == 47)) refl (λ k. closed (d == 42
 
 pub block_longest : (first : Bool) (v rest : List ℕ) → closes_comment false v ≡ true → longest (is_trivia_piece first) (47 ∷ 42 ∷ v) rest ≡ true
 block_longest first v rest h = both (is_trivia_piece first (47 ∷ 42 ∷ v) rest) (none_longer (is_trivia_piece first) (47 ∷ 42 ∷ v) rest) (rw h refl)
-    (none_longer-from (is_trivia_piece first) (47 ∷ 42 ∷ v) rest (λ c x more k. let n : closes_comment false (v ++ c ∷ x) ≡ false = closed false v c x h in rw n (and-false first false refl)))
+    (none_longer-from (is_trivia_piece first) (47 ∷ 42 ∷ v) rest (λ c x more k. let n : closes_comment false (v ++ c ∷ x) ≡ false = closed false v c x h in rw n (and_right first false refl)))
 
 -- one character more of an open comment
 pub block_more : (w : List ℕ) (star : Bool) (c : ℕ) → ((v : List ℕ) → closes_comment false (w ++ v) ≡ closes_comment star v) → ((star ≡ true × (c ≡ 47 → ⊥)) ⊎ (star ≡ false)) → (v : List ℕ) → closes_comment false ((w ++ c ∷ []) ++ v) ≡ closes_comment (c == 42) v
-block_more w star c f o v = ap (closes_comment false) (append_assoc w (c ∷ []) v) ∙ f (c ∷ v) ∙ rw (stays o, closes_comment) refl
+block_more w star c f o v = onwards (closes_comment false) (closes_comment star) w c f v ∙ rw (stays o, closes_comment) refl
   where
     stays : ((star ≡ true × (c ≡ 47 → ⊥)) ⊎ (star ≡ false)) → (star && (c == 47)) ≡ false
-    stays (inl h) = and-false star (c == 47) (Rattle.std.proofs.lemmas.Bool.ne_eqb c 47 h.1)
-    stays (inr h) = and-left star (c == 47) h
+    stays (inl h) = and_right star (c == 47) (Rattle.std.proofs.lemmas.Bool.ne_eqb c 47 h.1)
+    stays (inr h) = and_left star (c == 47) h
 
 -- the slash that closes it
 pub block_closed : (w : List ℕ) (star : Bool) (c : ℕ) → ((v : List ℕ) → closes_comment false (w ++ v) ≡ closes_comment star v) → star ≡ true → c ≡ 47 → closes_comment false (w ++ c ∷ []) ≡ true
 block_closed w star c f s e = f (c ∷ []) ∙ rw (s, e) refl
 
 pub newline_more : (w : List ℕ) (c : ℕ) (b n : Bool) → b ≡ has_line_terminator w → n ≡ is_line_terminator c → (b || n) ≡ has_line_terminator (w ++ c ∷ [])
-newline_more w c b n e f = rw (e, f) (by (has_line_terminator w) (is_line_terminator c) ∙ sym (list_any-append is_line_terminator w (c ∷ [])))
-  where
-    by : (x y : Bool) → (x || y) ≡ (x || (y || false))
-    by true y = refl
-    by false true = refl
-    by false false = refl
+newline_more w c b n e f = rw (e, f) (ap (λ (x : Bool). has_line_terminator w || x) (sym (or-false (is_line_terminator c))) ∙ sym (list_any-append is_line_terminator w (c ∷ [])))
 
 -- a slash is no line terminator
 pub newline_same : (w : List ℕ) (c : ℕ) (b : Bool) → b ≡ has_line_terminator w → c ≡ 47 → b ≡ has_line_terminator (w ++ c ∷ [])
-newline_same w c b e f = by b ∙ newline_more w c b false e (sym (ap is_line_terminator f))
-  where
-    by : (b : Bool) → b ≡ (b || false)
-    by true = refl
-    by false = refl
+newline_same w c b e f = sym (or-false b) ∙ newline_more w c b false e (sym (ap is_line_terminator f))
 
 -- what is open at the end of the text was closed nowhere
 pub never_closed : (star : Bool) (all : List ℕ) → ((v : List ℕ) → closes_comment false (all ++ v) ≡ closes_comment star v) → (w more : List ℕ) → all ≡ w ++ more → closes_comment false w ≡ false
@@ -193,39 +176,27 @@ never_closed star all f w more e = go (closes_comment false w) refl
 pub open_block : (first : Bool) (rest : List ℕ) → ((w more : List ℕ) → rest ≡ w ++ more → closes_comment false w ≡ false) → none_begins (is_trivia_piece first) (47 ∷ 42 ∷ rest) ≡ true
 open_block first rest f = none_longer-from (is_trivia_piece first) [] (47 ∷ 42 ∷ rest) (λ c x more e. by c x more e)
   where
-    none : (b : Bool) → (b && false) ≡ false
-    none true = refl
-    none false = refl
-
     by : (c : ℕ) (x more : List ℕ) → 47 ∷ 42 ∷ rest ≡ c ∷ x ++ more → is_trivia_piece first (c ∷ x) more ≡ false
-    by c [] more e = let s : 47 ≡ c = cc in subst (λ (d : ℕ). is_trivia_piece first (d ∷ []) more ≡ false) s (none first)
+    by c [] more e = let s : 47 ≡ c = cc in subst (λ (d : ℕ). is_trivia_piece first (d ∷ []) more ≡ false) s (and-false first)
     by c (d ∷ x) more e =
         let s : 47 ≡ c = cc in
         let t : 42 ≡ d = cc in
         let u : rest ≡ x ++ more = cc in
         let n : closes_comment false x ≡ false = f x more u in
-        subst (λ (b : ℕ). is_trivia_piece first (b ∷ d ∷ x) more ≡ false) s (subst (λ (b : ℕ). is_trivia_piece first (47 ∷ b ∷ x) more ≡ false) t (rw n (none first)))
+        subst (λ (b : ℕ). is_trivia_piece first (b ∷ d ∷ x) more ≡ false) s (subst (λ (b : ℕ). is_trivia_piece first (47 ∷ b ∷ x) more ≡ false) t (rw n (and-false first)))
 
 -- a slash that begins no comment
 pub lone_slash : (first : Bool) (rest : List ℕ) → starts (codes "//") (47 ∷ rest) ≡ false → starts (codes "/*") (47 ∷ rest) ≡ false → none_begins (is_trivia_piece first) (47 ∷ rest) ≡ true
 lone_slash first rest h k = none_longer-from (is_trivia_piece first) [] (47 ∷ rest) (λ c x more e. by c x more e)
   where
-    none : (b : Bool) → (b && false) ≡ false
-    none true = refl
-    none false = refl
-
-    plain : (b : Bool) → (b && true) ≡ false → b ≡ false
-    plain true h = h
-    plain false h = refl
-
     by : (c : ℕ) (x more : List ℕ) → 47 ∷ rest ≡ c ∷ x ++ more → is_trivia_piece first (c ∷ x) more ≡ false
-    by c [] more e = let s : 47 ≡ c = cc in subst (λ (d : ℕ). is_trivia_piece first (d ∷ []) more ≡ false) s (none first)
+    by c [] more e = let s : 47 ≡ c = cc in subst (λ (d : ℕ). is_trivia_piece first (d ∷ []) more ≡ false) s (and-false first)
     by c (d ∷ x) more e =
         let s : 47 ≡ c = cc in
         let u : rest ≡ d ∷ x ++ more = cc in
-        let a : (47 == d) ≡ false = plain (47 == d) (subst (λ (v : List ℕ). starts (codes "//") (47 ∷ v) ≡ false) u h) in
-        let b : (42 == d) ≡ false = plain (42 == d) (subst (λ (v : List ℕ). starts (codes "/*") (47 ∷ v) ≡ false) u k) in
-        subst (λ (z : ℕ). is_trivia_piece first (z ∷ d ∷ x) more ≡ false) s (rw (a, b) (none first))
+        let a : (47 == d) ≡ false = sym (and-true (47 == d)) ∙ (subst (λ (v : List ℕ). starts (codes "//") (47 ∷ v) ≡ false) u h) in
+        let b : (42 == d) ≡ false = sym (and-true (42 == d)) ∙ (subst (λ (v : List ℕ). starts (codes "/*") (47 ∷ v) ≡ false) u k) in
+        subst (λ (z : ℕ). is_trivia_piece first (z ∷ d ∷ x) more ≡ false) s (rw (a, b) (and-false first))
 
 -- a beginning of a beginning
 after-starts : (a w more : List ℕ) (p : List ℕ → Bool) → after a p w ≡ true → starts a (w ++ more) ≡ true
@@ -252,8 +223,8 @@ lone_less first rest h = none_longer-from (is_trivia_piece first) [] (60 ∷ res
         subst (λ (d : ℕ). is_trivia_piece first (d ∷ x) more ≡ false) (sym s) (less x m)
       where
         less : (x : List ℕ) → is_html_open (60 ∷ x) ≡ false → is_trivia_piece first (60 ∷ x) more ≡ false
-        less [] m = and-false first (is_html_close (60 ∷ [])) refl
-        less (d ∷ x) m = neither (is_html_open (60 ∷ d ∷ x)) (first && is_html_close (60 ∷ d ∷ x)) m (and-false first (is_html_close (60 ∷ d ∷ x)) refl)
+        less [] m = and_right first (is_html_close (60 ∷ [])) refl
+        less (d ∷ x) m = neither (is_html_open (60 ∷ d ∷ x)) (first && is_html_close (60 ∷ d ∷ x)) m (and_right first (is_html_close (60 ∷ d ∷ x)) refl)
 
 -- a minus that begins no comment
 pub lone_minus : (first : Bool) (rest : List ℕ) → (first && starts (codes "-->") (45 ∷ rest)) ≡ false → none_begins (is_trivia_piece first) (45 ∷ rest) ≡ true
@@ -299,11 +270,7 @@ closed_piece {b = b} w l first = let h : closes_comment false l.word ≡ true = 
     kind false = refl
 
 pub blank_piece : {text : List ℕ} {at c : ℕ} {p : Piece} → Word text at p.end (c ∷ []) → IsBlankPiece c at p → (first : Bool) → IsPiece first text at p
-blank_piece {c = c} w b first = let k = blank_no_comment c b.blank in record { word = c ∷ []; stands = w; longest = blank_longest first c _ b.blank; comment = b.comment ∙ sym k.0; html = b.html ∙ sym k.1; irregular = b.irregular; newline = b.newline ∙ one (is_line_terminator c) }
-  where
-    one : (b : Bool) → b ≡ (b || false)
-    one true = refl
-    one false = refl
+blank_piece {c = c} w b first = let k = blank_no_comment c b.blank in record { word = c ∷ []; stands = w; longest = blank_longest first c _ b.blank; comment = b.comment ∙ sym k.0; html = b.html ∙ sym k.1; irregular = b.irregular; newline = b.newline ∙ sym (or-false (is_line_terminator c)) }
 
 -- ---- at a place of a text
 

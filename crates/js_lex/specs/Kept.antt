@@ -1,10 +1,11 @@
 -- The lists that a lexer keeps, and how they grow.
-use Rattle.std.specs.Prelude.{◌≡◌, List, [], ◌++◌}
+use Rattle.std.specs.Prelude.{◌≡◌, ◌≤◌, List, [], ◌++◌, length, take}
 use Rattle.js_base.specs.declared.span.Span.{Span}
 use Rattle.js_base.specs.declared.token.Token.{Token}
 use Rattle.js_base.specs.declared.diagnostic.Diagnostic.{Diagnostic}
 use Rattle.js_lex.specs.declared.comment.Comment.{Comment}
 use Rattle.js_lex.specs.declared.output.LexerOutput.{LexerOutput}
+use Rattle.js_lex.specs.declared.checkpoint.Lengths.{Lengths}
 
 pub record IsEmpty (o : LexerOutput) : Type 0 where
   pub comments : o.comments ≡ []
@@ -26,3 +27,18 @@ pub record Extends (old new : LexerOutput) : Type 0 where
   pub tokens : List Token
   pub faults : List Diagnostic
   pub grows : Grows old new comments blanks tokens faults
+
+-- how much was kept
+abbrev pub lengths_of : LexerOutput → Lengths
+lengths_of o = record { comments = length o.comments; irregular_whitespaces = length o.irregular_whitespaces; tokens = length o.tokens; errors = length o.errors }
+
+-- what was kept first, so much of each list
+abbrev pub first_kept : Lengths → LexerOutput → LexerOutput
+first_kept n o = record { comments = take n.comments o.comments; irregular_whitespaces = take n.irregular_whitespaces o.irregular_whitespaces; tokens = take n.tokens o.tokens; errors = take n.errors o.errors }
+
+-- no list is shorter
+pub record AreAtMost (m n : Lengths) : Type 0 where
+  pub comments : m.comments ≤ n.comments
+  pub irregular_whitespaces : m.irregular_whitespaces ≤ n.irregular_whitespaces
+  pub tokens : m.tokens ≤ n.tokens
+  pub errors : m.errors ≤ n.errors

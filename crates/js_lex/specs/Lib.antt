@@ -1,11 +1,14 @@
+pub mod Numbers
 pub mod Places
 pub mod Comments
 pub mod Kept
 pub mod TriviaPassed
+pub mod Punctuators
 pub mod Scans
 pub mod States
 pub mod Reading
 pub mod Settling
+pub mod Openings
 pub mod Names
 pub mod NextCharacters
 pub mod TemplateParts

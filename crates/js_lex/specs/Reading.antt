@@ -1,5 +1,5 @@
 -- What a call of a lexer that reads answers, and what it keeps (ECMA-262, chapter 12).
-use Rattle.std.specs.Prelude.{ℕ, ◌+◌, ◌-◌, ◌≡◌, Bool, true, false, not, ◌&&◌, ◌||◌, List, [], ◌∷◌, ◌++◌, length, take, codes, Option, Some, None, IsTrue}
+use Rattle.std.specs.Prelude.{ℕ, ◌+◌, ◌-◌, ◌≡◌, Bool, true, false, not, ◌&&◌, ◌||◌, List, [], ◌∷◌, ◌++◌, length, take, codes, chars, slice_range, Option, Some, None, IsTrue}
 use Rattle.js_base.specs.declared.kind.Kind.{Kind}
 use Rattle.js_base.specs.declared.kind.Kind.TheVariants.{RAngle, GtEq, ShiftRight, ShiftRightEq, ShiftRight3, ShiftRight3Eq, HashbangComment, Eof, Undetermined}
 use Rattle.js_base.specs.declared.token.Token.{Token}
@@ -12,11 +12,14 @@ use Rattle.js_grammar.specs.Grammar.{Lexeme}
 use Rattle.js_grammar.specs.Settings.{Goal}
 use Rattle.js_grammar.specs.Characters.{width, has_line_terminator}
 use Rattle.js_grammar.specs.Longest.{joined}
-use Rattle.js_grammar.specs.Lexemes.{LexicalGoal, division, is_separated}
+use Rattle.js_grammar.specs.Lexemes.{LexicalGoal, division, hashbang, is_separated}
 use Rattle.js_grammar.specs.Lexed.{Stands, Lex, Passing, in_module, all_faults, passing_of}
+use Rattle.js_grammar.specs.RegularExpressions.{flags}
+use Rattle.js_grammar.specs.CoreTexts.{starts}
 use Rattle.js_grammar.specs.LexicalFaults.{behind, FaultyBehind}
 use Rattle.js_lex.specs.Comments.{comment_at, irregular_at, html_fault_at, each_at}
 use Rattle.js_lex.specs.Kept.{Grows}
+use Rattle.js_lex.specs.Places.{Word}
 use Rattle.js_lex.specs.States.{State, SameText}
 
 -- ---- a token and the lexeme that it tells
@@ -90,3 +93,50 @@ pub record GivesNext (goal : LexicalGoal) (old new : State) (t : Token) : Type 0
   pub faults : List Diagnostic
   pub outcome : Outcome goal cut old.goal old.text old.place t [] faults
   pub grows : Grows old.kept new.kept (each_at (comment_at t.span.start) old.place pieces) (each_at irregular_at old.place pieces) (kept_token old.keeps_tokens t) (each_at (html_fault_at (in_a_module old.goal)) old.place pieces ++ faults)
+
+-- The first token: a hashbang comment, behind which nothing is kept, where the text begins with one; else the next token.
+pub record GivesHashbang (old new : State) (t : Token) : Type 0 where
+  pub same : SameText old new
+  pub gives : GivesLexeme hashbang (λ y. y) old.text 0 t
+  pub place : new.place ≡ t.span.end
+  pub kept : new.kept ≡ old.kept
+
+abbrev pub GivesFirst : State → State → Token → Type 0
+GivesFirst old new t = elim (starts (codes "#!") old.text) [ true ↦ GivesHashbang old new t | false ↦ GivesNext division old new t ]
+
+-- ---- to read a token again, by another lexical goal
+
+-- The lexer gave the token last, as the lexeme of the plain goal that stands behind a place.
+pub record WasGiven (old : State) (t : Token) : Type 0 where
+  pub place : old.place ≡ t.span.end
+  pub before : ℕ
+  pub lexeme : Lexeme
+  pub stands : LexemeBehind division old.text before lexeme
+  pub tells : Tells (cut lexeme) t
+
+-- In place of a token another one is given that begins where it does: the lexeme of the goal that stands behind the same trivia, or none.
+pub record GivesAgain (goal : LexicalGoal) (old new : State) (given t : Token) (going_on faults : List Diagnostic) : Type 0 where
+  pub same : SameText old new
+  pub start : t.span.start ≡ given.span.start
+  pub newline : t.is_on_new_line ≡ given.is_on_new_line
+  pub place : new.place ≡ t.span.end
+  pub outcome : (s : ℕ) (y : Lexeme) → LexemeBehind division old.text s y → Tells (cut y) given → Outcome goal (λ z. z) old.goal old.text s t going_on faults
+  pub comments : new.kept.comments ≡ old.kept.comments
+  pub blanks : new.kept.irregular_whitespaces ≡ old.kept.irregular_whitespaces
+  pub tokens : new.kept.tokens ≡ relexed old.keeps_tokens old.kept.tokens t
+  pub errors : new.kept.errors ≡ old.kept.errors ++ faults
+
+-- ---- flags of a regular expression
+
+-- whether a flag is none of the eight, or stood before
+abbrev pub is_wrong_flag : List ℕ → ℕ → Bool
+is_wrong_flag before flag = not (one_of (codes "dgimsuvy") flag) || one_of before flag
+
+-- the faults that flags are, of which the first stands at a place, behind others
+abbrev pub flag_faults : ℕ → List ℕ → List ℕ → List Diagnostic
+flag_faults i before [] = []
+flag_faults i before (f ∷ fs) = elim (is_wrong_flag before f) [ true ↦ record { kind = RegExpFlag; span = record { start = i; end = i + width (f ∷ []) }; first = None; second = None } ∷ flag_faults (i + width (f ∷ [])) (before ++ f ∷ []) fs | false ↦ flag_faults (i + width (f ∷ [])) (before ++ f ∷ []) fs ]
+
+-- A regular expression, and the place at which its pattern ends: behind it stand the flags, each wrong one is a fault. Where none stands, the place is the token's end.
+abbrev pub FlagsStand : List ℕ → ℕ → Token → List Diagnostic → Type 0
+FlagsStand text pattern_end t going_on = elim (same_kind Undetermined t.kind) [ true ↦ pattern_end ≡ t.span.end | false ↦ (fs : List ℕ) × Word text pattern_end t.span.end fs × (flags (chars (slice_range text t.span.start t.span.end)) ≡ Some fs) × (going_on ≡ flag_faults pattern_end [] fs) ]

@@ -7,10 +7,13 @@ mod class;
 mod comment;
 mod config;
 mod hashbang;
+mod lexer;
 mod name;
+mod number;
 mod output;
 mod place;
 mod plain_goal;
+mod punctuator;
 mod reading;
 mod regular_expression;
 mod scan;
@@ -18,9 +21,11 @@ mod string;
 mod template;
 mod trivia;
 
+pub use checkpoint::LexerCheckpoint;
 pub use comment::{Comment, CommentKind, Comments};
 pub use config::{
     LexerConfig, NoTokensLexerConfig, NoTokensParserConfig, ParserConfig, RuntimeLexerConfig,
     RuntimeParserConfig, TokensLexerConfig, TokensParserConfig,
 };
+pub use lexer::Lexer;
 pub use output::LexerOutput;

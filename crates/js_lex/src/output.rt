@@ -1,7 +1,9 @@
 //! What a lexer keeps.
 
-ghost use Rattle.js_lex.specs.Kept.{IsEmpty};
+ghost use Rattle.std.specs.Prelude.{◌≡◌};
+ghost use Rattle.js_lex.specs.Kept.{IsEmpty, lengths_of, first_kept};
 
+use crate::checkpoint::Lengths;
 use crate::comment::Comments;
 use js_base::{Diagnostics, Spans, Tokens};
 use std::alloc::Global;
@@ -30,5 +32,28 @@ impl LexerOutput {
             tokens: Tokens::new(alloc),
             errors: Diagnostics::new(alloc),
         }
+    }
+
+    /// How much was kept.
+    pub(crate) fn lengths(&self) -> Lengths
+        ensures { result ≡ lengths_of self.now }
+    {
+        Lengths {
+            comments: self.comments.len(),
+            irregular_whitespaces: self.irregular_whitespaces.len(),
+            tokens: self.tokens.len(),
+            errors: self.errors.len(),
+        }
+    }
+
+    /// Keeps so much of each list alone.
+    pub(crate) fn truncate(&mut self, lengths: Lengths)
+        ensures { self.new ≡ first_kept lengths self.old }
+    {
+        self.comments.truncate(lengths.comments);
+        self.irregular_whitespaces
+            .truncate(lengths.irregular_whitespaces);
+        self.tokens.truncate(lengths.tokens);
+        self.errors.truncate(lengths.errors);
     }
 }

@@ -1,26 +1,82 @@
 //! The plain lexical goal: InputElementDiv (ECMA-262, chapter 12).
 
-ghost use Rattle.std.specs.Prelude.{◌≡◌, ◌≤◌, Bool, length, IsTrue, IsCharBoundary};
+ghost use Rattle.std.specs.Prelude.{◌≡◌, Bool, IsTrue, IsCharBoundary};
 ghost use Rattle.js_grammar.specs.Longest.{none_begins};
 ghost use Rattle.js_grammar.specs.Trivia.{is_trivia_piece};
 ghost use Rattle.js_grammar.specs.Lexemes.{division};
+ghost use Rattle.js_grammar.specs.Lexemes as lexemes;
 ghost use Rattle.js_grammar.specs.LexicalFaults.{behind};
 ghost use Rattle.js_lex.specs.Scans.{Scans};
+ghost use Rattle.js_lex.specs.Openings.{end_at, opening_told};
 
-use crate::scan::{Fault, Scan};
-use js_base::{DiagnosticKind, MAX_LEN};
+use crate::character::next_character;
+use crate::class::is_identifier_start;
+use crate::name::{name_at, private_name_at};
+use crate::number::{digit_at, number_at};
+use crate::punctuator::punctuator_at;
+use crate::scan::{Scan, Scanned};
+use crate::string::string_at;
+use crate::template::template_at;
+use js_base::Kind;
+
+/// What a character begins.
+#[derive(Debug, Clone, Copy)]
+enum Opening {
+    Name,
+    Number,
+    String,
+    Template,
+    PrivateName,
+    Punctuator,
+}
 
 /// The lexeme of the plain goal that stands at a place, where no trivia does. Of the punctuators that begin with `>` it
 /// is the longest one.
 pub(crate) fn plain_at(text: &str, at: usize) -> Scan
     requires boundary { IsCharBoundary text.now at }
-    requires short { length text.now ≤ MAX_LEN }
     requires no_trivia { (first : Bool) × IsTrue (none_begins (is_trivia_piece first) (behind text.now at)) }
     ensures { Scans division text.now at result }
 {
-    Err(Fault {
-        kind: DiagnosticKind::InvalidCharacter,
-        start: at,
+    let Some(first) = next_character(text, at) else {
+        return Ok(end_of_text(at));
+    };
+    let before_digit = first.value == '.' && digit_at(text, first.end, 10);
+    match opening_of(first.value, before_digit) {
+        Opening::Name => name_at(text, at),
+        Opening::Number => number_at(text, at),
+        Opening::String => string_at(text, at),
+        Opening::Template => template_at(text, at),
+        Opening::PrivateName => private_name_at(text, at),
+        Opening::Punctuator => punctuator_at(text, at),
+    }
+}
+
+/// The end of the text.
+fn end_of_text(at: usize) -> Scanned
+    ensures { result ≡ end_at at }
+{
+    Scanned {
+        kind: Kind::Eof,
         end: at,
-    })
+        escaped: false,
+        has_separator: false,
+    }
+}
+
+/// What a character begins, a dot before a digit or not.
+fn opening_of(c: char, before_digit: bool) -> Opening
+    ensures { opening_told result ≡ lexemes.opening c before_digit }
+{
+    if is_identifier_start(c) || c == '\\' {
+        return Opening::Name;
+    }
+    if c.is_digit(10) || (c == '.' && before_digit) {
+        return Opening::Number;
+    }
+    match c {
+        '"' | '\'' => Opening::String,
+        '`' => Opening::Template,
+        '#' => Opening::PrivateName,
+        _ => Opening::Punctuator,
+    }
 }

@@ -25,8 +25,8 @@ struct Inside {
     has_backslash: bool,
 }
 
-/// The string literal at a place, where a quote stands. To the end of the line or of the text without another such quote
-/// it is unterminated; an escape in it that is ill-formed is a fault, too (ECMA-262, section 12.9.4).
+/// The string literal at a place, where a quote stands. Without another such quote on its line it is unterminated; an
+/// escape in it that is ill-formed is a fault, too (ECMA-262, section 12.9.4).
 pub(crate) fn string_at(text: &str, at: usize) -> Scan
     requires boundary { IsCharBoundary text.now at }
     requires quote { begins (one_of (34 ∷ 39 ∷ [])) (behind text.now at) ≡ true }

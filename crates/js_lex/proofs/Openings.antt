@@ -1,0 +1,25 @@
+-- What a character is that opens one class of lexemes alone.
+use Rattle.std.proofs.Common.{◌≡◌, ℕ, ◌+◌, ◌==◌, Bool, true, false, List, [], ◌∷◌, refl, sym, ap, subst, ◌∙◌, ◌&&◌, ◌||◌, arith}
+use Rattle.std.proofs.lemmas.Bool.{eqb-true}
+use Rattle.js_base.specs.Characters.{one_of, is_decimal}
+use Rattle.js_grammar.specs.Characters.{is_identifier_start}
+use Rattle.js_grammar.specs.Lexemes.{Opening, a_name, a_number, a_string, a_template, a_private_name, a_punctuator, opening}
+use Rattle.js_lex.specs.Places.{Word}
+
+pub template_opens : (c : ℕ) (digit : Bool) → opening c digit ≡ a_template → c ≡ 96
+template_opens c digit h = by (is_identifier_start c || (c == 92)) refl (is_decimal c || ((c == 46) && digit)) refl (one_of (34 ∷ 39 ∷ []) c) refl (c == 96) refl (c == 35) refl
+  where
+    by : (a : Bool) → (is_identifier_start c || (c == 92)) ≡ a → (b : Bool) → (is_decimal c || ((c == 46) && digit)) ≡ b → (d : Bool) → one_of (34 ∷ 39 ∷ []) c ≡ d → (e : Bool) → (c == 96) ≡ e → (f : Bool) → (c == 35) ≡ f → c ≡ 96
+    by true p b q d r true s f t = eqb-true c 96 s
+    by false p b q d r true s f t = eqb-true c 96 s
+    by true p b q d r false s f t = absurd (let k : opening c digit ≡ a_name = rw (p, opening) refl in cc)
+    by false p true q d r false s f t = absurd (let k : opening c digit ≡ a_number = rw (p, q, opening) refl in cc)
+    by false p false q true r false s f t = absurd (let k : opening c digit ≡ a_string = rw (p, q, r, opening) refl in cc)
+    by false p false q false r false s true t = absurd (let k : opening c digit ≡ a_private_name = rw (p, q, r, s, t, opening) refl in cc)
+    by false p false q false r false s false t = absurd (let k : opening c digit ≡ a_punctuator = rw (p, q, r, s, t, opening) refl in cc)
+
+pub backquote_there : {text : List ℕ} {at end : ℕ} (c : ℕ) (digit : Bool) → opening c digit ≡ a_template → Word text at end (c ∷ []) → Word text at (at + 1) (96 ∷ [])
+backquote_there {text = text} {at = at} {end = end} c digit h w =
+    let v : Word text at end (96 ∷ []) = subst (λ (x : ℕ). Word text at end (x ∷ [])) (template_opens c digit h) w in
+    let e : end ≡ at + 1 = v.end in
+    subst (λ (n : ℕ). Word text at n (96 ∷ [])) e v

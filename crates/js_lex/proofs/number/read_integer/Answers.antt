@@ -1,0 +1,10 @@
+use Rattle.std.proofs.Common.{refl}
+use Rattle.js_grammar.specs.Numbers.{integer_rest}
+use Rattle.js_lex.proofs.NumberRests.{behind_digits, broken_digits}
+use Rattle.js_lex.proofs.number.read_integer.Goals as goal
+
+pub returns-then-digits-clause-reads : goal.returns-then-digits-clause-reads
+returns-then-digits-clause-reads c = behind_digits integer_rest c.digits_at-digits.ensures c.if-digits.true refl c.read_integer_rest.ensures
+
+pub returns-else-digits-clause-reads : goal.returns-else-digits-clause-reads
+returns-else-digits-clause-reads c = broken_digits integer_rest c.digits_at-digits.ensures c.if-digits.false

@@ -1,0 +1,12 @@
+use Rattle.js_grammar.specs.LexicalFaults.{behind}
+use Rattle.js_lex.proofs.NumberScans.{reads_fraction_alone, reads_zero, reads_integer, begins_digit}
+use Rattle.js_lex.proofs.number.read_number.Goals as goal
+
+pub returns-then-is_at-clause-reads : goal.returns-then-is_at-clause-reads
+returns-then-is_at-clause-reads c = reads_fraction_alone c.if-is_at.ensures c.read_fraction_digits.ensures
+
+pub returns-then-is_at-2-clause-reads : goal.returns-then-is_at-2-clause-reads
+returns-then-is_at-2-clause-reads c = reads_zero c.if-is_at-2.ensures c.read_zero_rest.ensures
+
+pub returns-else-is_at-2-clause-reads : goal.returns-else-is_at-2-clause-reads
+returns-else-is_at-2-clause-reads c = reads_integer (begins_digit (behind c.args.text.now c.args.at) c.requires.begun c.if-is_at.ensures) c.if-is_at.ensures c.if-is_at-2.ensures c.read_integer.ensures.reads

@@ -1,0 +1,181 @@
+//! The lexer: one token at a time, by the lexical goal that is asked for (ECMA-262, chapter 12).
+
+ghost use Rattle.std.specs.Prelude.{◌≡◌, ◌≤◌, ◌-◌, true, false, length, IfOk, OnErr, Some, IsCharBoundary, chars, slice_range, slice_get};
+ghost use Rattle.js_base.specs.declared.kind.Kind.TheVariants.{Str};
+ghost use Rattle.js_base.specs.Spans.{LiesIn};
+ghost use Rattle.js_base.specs.Decoding.{string_units};
+ghost use Rattle.js_grammar.specs.Strings.{string_kind, string_inside};
+ghost use Rattle.js_grammar.specs.Lexemes.{division, is_word};
+ghost use Rattle.js_lex.specs.Kept.{IsEmpty, lengths_of, first_kept, AreAtMost};
+ghost use Rattle.js_lex.specs.States.{State, goal_of, SameText};
+ghost use Rattle.js_lex.specs.Reading.{GivesNext, GivesFirst};
+
+use crate::checkpoint::LexerCheckpoint;
+use crate::config::LexerConfig;
+use crate::hashbang::hashbang_at;
+use crate::output::LexerOutput;
+use crate::reading::{read_plain, token_of};
+use js_base::{Diagnostic, JsStr, MAX_LEN, NoMemory, SourceType, Token, decode_string};
+use std::alloc::Global;
+use std::marker::Model;
+
+/// Reads the lexemes of a text, and keeps its comments, its irregular white space, its lexical faults and, where the
+/// config asks for them, its tokens. A lexical fault is never an error of a call: it is kept, and where it stops the
+/// lexemes, the token has the kind `Undetermined`.
+#[derive(Drop)]
+pub struct Lexer<'a, C: LexerConfig> {
+    alloc: Global,
+    source_text: &'a str,
+    source_type: SourceType,
+    config: C,
+    place: usize,
+    kept: LexerOutput,
+}
+
+impl<'a, C: LexerConfig> Model for Lexer<'a, C> {
+    ghost use Rattle.std.specs.Prelude.{◌≤◌, length, IsCharBoundary};
+    ghost use Rattle.js_lex.specs.States.{State, goal_of};
+    ghost use Rattle.js_base.specs.declared.TheConstants.{MAX_LEN};
+
+    ghost Value = { State };
+
+    ghost view = { λ l. record { text = l.source_text.now; goal = goal_of l.source_type; keeps_tokens = C.asks_for_tokens l.config; place = l.place; kept = l.kept } };
+
+    ghost invariant = { λ l. (length l.source_text.now ≤ MAX_LEN) × IsCharBoundary l.source_text.now l.place };
+}
+
+impl<'a, C: LexerConfig> Lexer<'a, C> {
+    /// A lexer at the start of a text, which has at most `MAX_LEN` bytes. It takes no memory.
+    pub fn new(alloc: Global, source_text: &'a str, source_type: SourceType, config: C) -> Self
+        requires { length source_text.now ≤ MAX_LEN }
+        ensures text { result.text ≡ source_text.now }
+        ensures goal { result.goal ≡ goal_of source_type }
+        ensures keeps_tokens { result.keeps_tokens ≡ C.asks_for_tokens config }
+        ensures place { result.place ≡ 0 }
+        ensures kept { IsEmpty result.kept }
+    {
+        Lexer {
+            alloc,
+            source_text,
+            source_type,
+            config,
+            place: 0,
+            kept: LexerOutput::new(alloc),
+        }
+    }
+
+    /// The next token: the longest lexeme of the plain goal behind as much trivia as stands there. Of a punctuator that
+    /// begins with `>` this sign alone is given, and `/`, `/=` and `}` are punctuators. Where no lexeme stands, the kind
+    /// is `Undetermined`, and the fault is kept. At the end of the text, and ever after, it is `Eof`. After want of
+    /// memory the lexer is as it was.
+    pub fn next_token(&mut self) -> Result<Token, NoMemory>
+        ensures ok { IfOk result (λ t. GivesNext division self.old self.new t) }
+        ensures err { OnErr result (self.new ≡ self.old) }
+    {
+        let lengths = self.kept.lengths();
+        match read_plain(
+            self.source_text,
+            self.source_type,
+            self.config.tokens(),
+            self.place,
+            &mut self.kept,
+        ) {
+            Ok(token) => {
+                self.place = token.end() as usize;
+                Ok(token)
+            }
+            Err(error) => {
+                self.kept.truncate(lengths);
+                Err(error)
+            }
+        }
+    }
+
+    /// The first token: a hashbang comment where the text begins with `#!` (ECMA-262, section 12.5), else what
+    /// `next_token` gives. Condition: nothing was read.
+    pub fn first_token(&mut self) -> Result<Token, NoMemory>
+        requires { self.old.place ≡ 0 }
+        ensures ok { IfOk result (λ t. GivesFirst self.old self.new t) }
+        ensures err { OnErr result (self.new ≡ self.old) }
+    {
+        match hashbang_at(self.source_text, self.place) {
+            Some(scanned) => {
+                self.place = scanned.end;
+                Ok(token_of(scanned, 0, false))
+            }
+            None => self.next_token(),
+        }
+    }
+
+    /// What `next_token` would give; nothing moves and nothing is kept, a fault included.
+    pub fn peek_token(&mut self) -> Result<Token, NoMemory>
+        ensures ok { IfOk result (λ t. (after : State) × GivesNext division self.old after t) }
+        ensures same { self.new ≡ self.old }
+    {
+        let here = self.checkpoint();
+        let token = self.next_token();
+        self.rewind(here);
+        token
+    }
+
+    /// Where the lexer is, and how much it has kept.
+    pub fn checkpoint(&self) -> LexerCheckpoint
+        ensures place { result.place ≡ self.now.place }
+        ensures lengths { result.lengths ≡ lengths_of self.now.kept }
+    {
+        LexerCheckpoint {
+            place: self.place,
+            lengths: self.kept.lengths(),
+        }
+    }
+
+    /// Goes back to a place, and keeps of each list what was kept there. Condition: the place lies in this text and
+    /// splits no character, and no list is shorter than the checkpoint says.
+    pub fn rewind(&mut self, c: LexerCheckpoint)
+        requires between { IsCharBoundary self.old.text c.place }
+        requires longer { AreAtMost c.lengths (lengths_of self.old.kept) }
+        ensures same { SameText self.old self.new }
+        ensures place { self.new.place ≡ c.place }
+        ensures kept { self.new.kept ≡ first_kept c.lengths self.old.kept }
+    {
+        self.place = c.place;
+        self.kept.truncate(c.lengths);
+    }
+
+    /// The code units that a string token of this text stands for: its SV (ECMA-262, section 12.9.4.2).
+    pub fn decode(&self, token: Token) -> Result<JsStr, NoMemory>
+        requires lies { LiesIn token.span self.now.text }
+        requires string { string_kind (chars (slice_range self.now.text token.span.start token.span.end)) ≡ Some Str }
+        ensures { IfOk result (λ units. Some units ≡ string_units (string_inside (chars (slice_range self.now.text token.span.start token.span.end)))) }
+    {
+        let inside = &self.source_text[token.start() as usize + 1..token.end() as usize - 1];
+        decode_string(self.alloc, inside)
+    }
+
+    /// The name that a token of this text is, without copying. Condition: it has no escape sequence.
+    pub fn name(&self, token: Token) -> &'a str
+        requires lies { LiesIn token.span self.now.text }
+        requires name { is_word token.kind ≡ true }
+        requires plain { token.escaped ≡ false }
+        ensures { result.now ≡ slice_range self.now.text token.span.start token.span.end }
+    {
+        token.text(self.source_text)
+    }
+
+    /// The fault that was kept last; none exactly where none is kept.
+    pub fn last_fault(&self) -> Option<Diagnostic>
+        ensures { result ≡ slice_get self.now.kept.errors (length self.now.kept.errors - 1) }
+    {
+        match self.kept.errors.len() {
+            0 => None,
+            len => self.kept.errors.get(len - 1).copied(),
+        }
+    }
+
+    /// What was kept.
+    pub fn finish(self) -> LexerOutput
+        ensures { result ≡ self.entry.kept }
+    {
+        self.kept
+    }
+}
