@@ -51,7 +51,7 @@ stands_behind {s = s} {ps = ps} w rest l p t e = record { within = l; splits = p
 abbrev pub lexeme_of : Scanned → ℕ → Bool → List ℕ → Lexeme
 lexeme_of sc i newline w = record { kind = sc.kind; from = i; to = sc.end; newline = newline; escaped = is_escaped sc.kind w; units = units_of sc.kind w }
 
-pub lexeme_behind : {goal : LexicalGoal} {text : List ℕ} {s i : ℕ} (ps : List (List ℕ)) (sc : Scanned) → s ≤ length text → Word text s i (joined ps) → are_trivia (s == 0) ps (behind text i) ≡ true → (h : IsScanned goal text i sc) → LexemeBehind goal text s (lexeme_of sc i (has_line_terminator (joined ps)) h.word)
+unfoldable pub lexeme_behind : {goal : LexicalGoal} {text : List ℕ} {s i : ℕ} (ps : List (List ℕ)) (sc : Scanned) → s ≤ length text → Word text s i (joined ps) → are_trivia (s == 0) ps (behind text i) ≡ true → (h : IsScanned goal text i sc) → LexemeBehind goal text s (lexeme_of sc i (has_line_terminator (joined ps)) h.word)
 lexeme_behind {goal = goal} {text = text} ps sc l p t h = record {
   lex = record { trivia = ps; goal = goal; word = h.word; rest = behind text sc.end; stands = stands_behind h.word (behind text sc.end) l p t h.stands.splits; lexeme = h.lexeme; comments = refl; flags = refl; from = p.end; to = h.stands.end; newline = refl; escaped = refl; units = refl };
   of_goal = refl;
@@ -161,10 +161,10 @@ gives_lexeme {text = text} {s = s} {i = i} ps sc newline l p t n h = record {
   separated = shown_separated i sc ∙ h.separated;
 }
 
-gives_none : {goal : LexicalGoal} {text : List ℕ} {s i : ℕ} (ps : List (List ℕ)) (source : Goal) (f : Fault) (newline : Bool) → s ≤ length text → Word text s i (joined ps) → are_trivia (s == 0) ps (behind text i) ≡ true → IsStopped goal text i f → GivesNone goal source text s (undetermined_of f i newline) (diagnostic_of f)
+pub gives_none : {goal : LexicalGoal} {text : List ℕ} {s i : ℕ} (ps : List (List ℕ)) (source : Goal) (f : Fault) (newline : Bool) → s ≤ length text → Word text s i (joined ps) → are_trivia (s == 0) ps (behind text i) ≡ true → IsStopped goal text i f → GivesNone goal source text s (undetermined_of f i newline) (diagnostic_of f)
 gives_none ps source f newline l p t h = record { none = none_behind ps l p t h.none; faulty = faulty_behind ps source f l p t h; end = refl; no_first = refl; no_second = refl }
 
-determined_outcome : {goal : LexicalGoal} (source : Goal) {text : List ℕ} {s : ℕ} {t : Token} (form : Lexeme → Lexeme) → same_kind Undetermined t.kind ≡ false → GivesLexeme goal form text s t → Outcome goal form source text s t [] []
+pub determined_outcome : {goal : LexicalGoal} (source : Goal) {text : List ℕ} {s : ℕ} {t : Token} (form : Lexeme → Lexeme) → same_kind Undetermined t.kind ≡ false → GivesLexeme goal form text s t → Outcome goal form source text s t [] []
 determined_outcome {goal = goal} source {text = text} {s = s} {t = t} form k g = subst (λ (b : Bool). elim b as (λ _. Type 0) [ true ↦ (d : Diagnostic) × ([] ≡ d ∷ []) × GivesNone goal source text s t d | false ↦ (◌≡◌ {A = List Diagnostic} [] []) × GivesLexeme goal form text s t ]) (sym k) (refl, g)
 
 -- the token behind trivia, and what is kept of both

@@ -14,6 +14,7 @@ pub mod TriviaLemmas
 pub mod Passing
 pub mod Giving
 pub mod Openings
+pub mod Again
 pub mod Fronts
 pub mod TemplateParts
 pub mod TemplateLexemes
