@@ -177,3 +177,27 @@ brace_for old given text i e p u g k = subst (λ (v : List ℕ). Word v i (i + 1
 
 pub scans_for : (goal : LexicalGoal) (old : State) (given : Token) (text : List ℕ) (i : ℕ) (scan : Result Scanned Fault) → text ≡ old.text → i ≡ given.span.start → Scans goal text i scan → Scans goal old.text given.span.start scan
 scans_for goal old given text i scan e p h = subst (λ (v : List ℕ). Scans goal v given.span.start scan) e (subst (λ (n : ℕ). Scans goal text n scan) p h)
+
+-- behind the trivia of a token that was given no further trivia begins
+pub no_trivia_for : (old : State) (given : Token) (text : List ℕ) (i : ℕ) → text ≡ old.text → i ≡ given.span.start → IsUtf8 text → WasGiven old given → (first : Bool) × IsTrue (none_begins (is_trivia_piece first) (behind text i))
+no_trivia_for old given text i e p u g =
+    let q = passed (subst IsUtf8 e u) g.between g.stands in
+    let z = trivia_ends (g.before == 0) q.pieces (behind old.text g.lexeme.from) q.trivia in
+    let j : i ≡ g.lexeme.from = p ∙ given_start g.lexeme g.tells in
+    (z.0, subst (λ (v : List ℕ). IsTrue (none_begins (is_trivia_piece z.0) (behind v i))) (sym e) (subst (λ (n : ℕ). IsTrue (none_begins (is_trivia_piece z.0) (behind old.text n))) (sym j) z.1))
+
+pub starts_for : (old : State) (given : Token) (text : List ℕ) (i : ℕ) → text ≡ old.text → i ≡ given.span.start → WasGiven old given → IsCharBoundary text i
+starts_for old given text i e p g = subst (λ (v : List ℕ). IsCharBoundary v i) (sym e) (subst (λ (n : ℕ). IsCharBoundary old.text n) (sym p) g.lies.starts_whole)
+
+-- where a token of the plain goal was given, a lexeme of that goal stands
+stands_again : (old : State) (given : Token) (f : Fault) → IsUtf8 old.text → WasGiven old given → IsStopped division old.text given.span.start f → ⊥
+stands_again old given f u g h =
+    let q = passed u g.between g.stands in
+    let j : given.span.start ≡ g.lexeme.from = given_start g.lexeme g.tells in
+    h.none q.word q.rest g.lexeme.kind (ap (behind old.text) j ∙ q.here) (subst (λ (n : ℕ). IsLexeme division n q.word q.rest g.lexeme.kind) (sym j) q.lexeme)
+
+pub ok_angle : (old new : State) (given : Token) (scan : Result Scanned Fault) {E : Type 0} (r : Result Token E) → IsUtf8 old.text → WasGiven old given → Scans division old.text given.span.start scan → SameText old new → IfOk r (λ t. (new.place ≡ t.span.end) × SettledAgain old.keeps_tokens given scan old.kept new.kept t) → IfOk r (λ t. GivesAgain division old new given t [] [])
+unfolding gives_again
+ok_angle old new given (Ok sc) (Ok t) u g h same k = (gives_again old new given t (Ok sc) u g.lies.starts_whole h same k.0 k.1).1
+ok_angle old new given (Ok sc) (Err e) u g h same k = tt
+ok_angle old new given (Err f) r u g h same k = absurd (stands_again old given f u g h)
