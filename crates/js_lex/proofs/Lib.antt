@@ -27,3 +27,4 @@ pub mod KindsOfLexemes
 pub mod PunctuatorLexemes
 pub mod PunctuatorScans
 pub mod Punctuators
+pub mod FlagFaults
