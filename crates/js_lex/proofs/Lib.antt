@@ -28,3 +28,5 @@ pub mod PunctuatorLexemes
 pub mod PunctuatorScans
 pub mod Punctuators
 pub mod FlagFaults
+pub mod Marks
+pub mod ReadAgain

@@ -1,18 +1,11 @@
-use Rattle.std.proofs.Common.{rules, ◌≡◌, ◌≤◌, ◌+◌, ℕ, List, [], ◌∷◌, false, codes, length, IfOk, OnOk, OnErr, IsCharBoundary, ◌-◌, ◌*◌, ◌<◌, ◌/◌, ◌%◌, Bool, true, nat_eq, nat_lt, ◌++◌, slice_index_or, slice_set, bit_and, bit_or, w8, w32, w64, Bor, MutBor}
-use Rattle.js_base.specs.declared.kind.Kind.TheVariants.{RegExp}
-use Rattle.js_lex.specs.Places.{Word}
-use Rattle.js_lex.specs.Kept.{Grows, Extends}
-use Rattle.js_lex.specs.Reading.{flag_faults}
-use Rattle.js_lex.specs.Settling.{Fits, SettledAgain, IsReadAgain}
-use Rattle.js_base.specs.Characters.{one_of}
-use Rattle.js_grammar.specs.Characters.{begins}
-use Rattle.js_grammar.specs.LexicalFaults.{behind}
+use Rattle.std.proofs.Common.{ℕ, subst, sym}
+use Rattle.std.specs.Prelude.{IsCharBoundary}
+use Rattle.js_lex.proofs.Marks.{pattern_boundary}
+use Rattle.js_lex.proofs.ReadAgain.{found_again}
 use Rattle.js_lex.proofs.relexing.read_regular_expression.Goals as goal
 
--- src/relexing.rt:67:13
 pub keep_wrong_flags-requires-clause-begins : goal.keep_wrong_flags-requires-clause-begins
-keep_wrong_flags-requires-clause-begins c = ?
+keep_wrong_flags-requires-clause-begins c = pattern_boundary c.utf8.text (subst (λ (n : ℕ). IsCharBoundary c.args.text.now n) (sym c.start.ensures) c.requires.boundary) c.in-Ok.ensures
 
--- src/relexing.rt:51:1
 pub returns-in_ok-token-in-Ok-clause-ok : goal.returns-in_ok-token-in-Ok-clause-ok
-returns-in_ok-token-in-Ok-clause-ok c = ?
+returns-in_ok-token-in-Ok-clause-ok c = found_again c.args.text.now c.args.keeps_tokens c.args.given c.args.kept.now c.keep_wrong_flags.new.kept c.settle_again.new.kept c.in_ok-token-in-Ok.token c.start.result c.in-Ok.found c.scanned_regular_expression.result c.start.ensures c.in-Ok.ensures c.in_ok-keep_wrong_flags-in-Ok.ensures.ok c.scanned_regular_expression.ensures c.in_ok-token-in-Ok.ensures.ok
