@@ -7,7 +7,7 @@ ghost use Rattle.js_base.specs.Lists.{replaced};
 use crate::no_memory::NoMemory;
 use std::alloc::Global;
 use std::marker::Model;
-use std::ops::Index;
+use std::ops::{Index, IndexMut};
 
 /// A list of items, in the order in which they were pushed.
 #[derive(Drop)]
@@ -73,14 +73,6 @@ impl<T: Drop> List<T> {
         }
     }
 
-    /// Puts an item in place of the one at a place, counted from 0. It takes no memory.
-    pub fn set(&mut self, i: usize, item: T)
-        requires { i < length self.old }
-        ensures { self.new ≡ slice_set self.old i item }
-    {
-        self.items[i] = item;
-    }
-
     /// Keeps the first `len`, or all where there are fewer.
     pub fn truncate(&mut self, len: usize)
         ensures { self.new ≡ take len self.old }
@@ -101,5 +93,20 @@ impl<T> Index<usize> for List<T> {
     /// The item at a place, counted from 0, which has to be below the length.
     fn index(&self, i: usize) -> &T {
         &self.items[i]
+    }
+}
+
+impl<T> IndexMut<usize> for List<T> {
+    ghost use Rattle.std.specs.Prelude.{slice_index_or};
+    ghost use Rattle.std.specs.Borrow.{Lends, sem};
+    ghost use Rattle.js_base.specs.contracts.list.List.{the_row};
+
+    /// The item at a place, counted from 0, which has to be below the length; it may be written.
+    fn index_mut(&mut self, i: usize) -> &mut T
+        requires { i < length self.old }
+        ensures* writes_back { sem 𝓛 (Lends (the_row T.row) T.row self.entry result (slice_set self.old i)) }
+        ensures value { result.now ≡ slice_index_or self.old i result.now }
+    {
+        &mut self.items[i]
     }
 }

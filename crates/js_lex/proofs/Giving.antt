@@ -37,7 +37,7 @@ use Rattle.js_lex.proofs.Marks.{html_marked}
 use Rattle.js_lex.specs.States.{State, goal_of}
 use Rattle.js_lex.specs.Reading.{is_right_angle, cut, Tells, LexemeBehind, GivesLexeme, GivesNone, Outcome, GivesNext, in_a_module, kept_token}
 use Rattle.js_lex.proofs.KindsOfLexemes.{determined, plain_end, greater_word}
-use Rattle.js_lex.specs.Settling.{shown, shown_scan, token_of, undetermined_of, diagnostic_of, Fits, Settled}
+use Rattle.js_lex.specs.Settling.{shown, shown_scan, token_of, undetermined_of, diagnostic_of, Fits, Settled, SettledAgain, ScanEnds}
 
 -- behind trivia no further piece begins
 pub trivia_ends : (first : Bool) (ps : List (List ℕ)) (rest : List ℕ) → are_trivia first ps rest ≡ true → (f : Bool) × (none_begins (is_trivia_piece f) rest ≡ true)
@@ -171,7 +171,7 @@ determined_outcome {goal = goal} source {text = text} {s = s} {t = t} form k g =
 -- the token behind trivia, and what is kept of both
 pub gives_next : (text : List ℕ) (source : Goal) (keeps : Bool) (s : ℕ) (old mid new : LexerOutput) (tr : Trivia) (scan : Result Scanned Fault) (t : Token) → IsUtf8 text → IsCharBoundary text s → IsPassed (in_a_module source) text s tr.end old mid tr → Scans division text tr.end scan → Settled keeps tr.end tr.has_newline (shown_scan tr.end scan) mid new t
     → GivesNext division (record { text = text; goal = source; keeps_tokens = keeps; place = s; kept = old }) (record { text = text; goal = source; keeps_tokens = keeps; place = t.span.end; kept = new }) t
-gives_next text source keeps s old mid new tr (Ok sc) t v b p h e =
+gives_next text source keeps s old mid new tr (Ok sc) t utf8 b p h e =
     let l : s ≤ length text = b.0 in
     let u = token_of (shown tr.end sc) tr.end tr.has_newline in
     let g : Grows old new (each_at (comment_at tr.end) s p.pieces ++ []) (each_at irregular_at s p.pieces ++ []) ([] ++ kept_token keeps t) (each_at (html_fault_at (in_a_module source)) s p.pieces ++ []) = grow_on p.grows e.1 in
@@ -183,6 +183,7 @@ gives_next text source keeps s old mid new tr (Ok sc) t v b p h e =
       start = p.stands.end;
       newline = p.newline;
       place = refl;
+      lies = (let z = shown_end text tr.end sc utf8 p.stands.boundary h in record { ordered = z.0; starts_whole = p.stands.boundary; ends_whole = z.1 });
       faults = [];
       outcome = determined_outcome source cut (shown_determined tr.end sc h) (gives_lexeme p.pieces sc tr.has_newline l p.stands p.trivia p.newline h);
       grows = record {
@@ -191,9 +192,9 @@ gives_next text source keeps s old mid new tr (Ok sc) t v b p h e =
         tokens_grow = g.tokens_grow ∙ ap (λ z. old.tokens ++ kept_token keeps z) e.0;
         faults_grow = g.faults_grow;
       };
-      marked = html_marked text source s p.pieces (behind text tr.end) v b (stands_behind [] (behind text tr.end) l p.stands p.trivia refl);
+      marked = html_marked text source s p.pieces (behind text tr.end) utf8 b (stands_behind [] (behind text tr.end) l p.stands p.trivia refl);
     })
-gives_next text source keeps s old mid new tr (Err f) t v b p h e =
+gives_next text source keeps s old mid new tr (Err f) t utf8 b p h e =
     let l : s ≤ length text = b.0 in
     let u = undetermined_of f tr.end tr.has_newline in
     let g : Grows old new (each_at (comment_at tr.end) s p.pieces ++ []) (each_at irregular_at s p.pieces ++ []) [] (each_at (html_fault_at (in_a_module source)) s p.pieces ++ diagnostic_of f ∷ []) = grow_on p.grows e.1 in
@@ -205,6 +206,7 @@ gives_next text source keeps s old mid new tr (Err f) t v b p h e =
       start = p.stands.end;
       newline = p.newline;
       place = refl;
+      lies = record { ordered = (let a = h.behind in let b = h.ordered in omega arith); starts_whole = p.stands.boundary; ends_whole = h.ends_between };
       faults = diagnostic_of f ∷ [];
       outcome = (diagnostic_of f, refl, gives_none p.pieces source f tr.has_newline l p.stands p.trivia h);
       grows = record {
@@ -213,7 +215,7 @@ gives_next text source keeps s old mid new tr (Err f) t v b p h e =
         tokens_grow = g.tokens_grow ∙ ap (λ v. old.tokens ++ v) (none_kept keeps);
         faults_grow = g.faults_grow;
       };
-      marked = html_marked text source s p.pieces (behind text tr.end) v b (stands_behind [] (behind text tr.end) l p.stands p.trivia refl);
+      marked = html_marked text source s p.pieces (behind text tr.end) utf8 b (stands_behind [] (behind text tr.end) l p.stands p.trivia refl);
     })
   where
     none_kept : (b : Bool) → [] ≡ kept_token b (undetermined_of f tr.end tr.has_newline)
@@ -233,8 +235,8 @@ fits_shown text i most scan shown_one u b l h e = subst (Fits most i) (sym e) (b
 pub ok_next : (text : List ℕ) (source : Goal) (keeps in_module : Bool) (s : ℕ) (old mid new : LexerOutput) (tr : Trivia) (scan shown_one : Result Scanned Fault) {E : Type 0} (r : Result Token E) → IsUtf8 text → IsCharBoundary text s → in_module ≡ in_a_module source → IsPassed in_module text s tr.end old mid tr → Scans division text tr.end scan → shown_one ≡ shown_scan tr.end scan
     → IfOk r (λ t. Settled keeps tr.end tr.has_newline shown_one mid new t)
     → IfOk r (λ t. GivesNext division (record { text = text; goal = source; keeps_tokens = keeps; place = s; kept = old }) (record { text = text; goal = source; keeps_tokens = keeps; place = t.span.end; kept = new }) t)
-ok_next text source keeps in_module s old mid new tr scan shown_one (Ok t) v b m p h e k = gives_next text source keeps s old mid new tr scan t v b (subst (λ (b : Bool). IsPassed b text s tr.end old mid tr) m p) h (subst (λ (z : Result Scanned Fault). Settled keeps tr.end tr.has_newline z mid new t) e k)
-ok_next text source keeps in_module s old mid new tr scan shown_one (Err x) v b m p h e k = tt
+ok_next text source keeps in_module s old mid new tr scan shown_one (Ok t) u b m p h e k = gives_next text source keeps s old mid new tr scan t u b (subst (λ (b : Bool). IsPassed b text s tr.end old mid tr) m p) h (subst (λ (z : Result Scanned Fault). Settled keeps tr.end tr.has_newline z mid new t) e k)
+ok_next text source keeps in_module s old mid new tr scan shown_one (Err x) u b m p h e k = tt
 
 -- the token ends between characters
 pub ok_boundary : (text : List ℕ) (keeps newline : Bool) (i : ℕ) (mid new : LexerOutput) (scan shown_one : Result Scanned Fault) {E : Type 0} (r : Result Token E) → IsUtf8 text → IsCharBoundary text i → Scans division text i scan → shown_one ≡ shown_scan i scan → IfOk r (λ t. Settled keeps i newline shown_one mid new t) → IfOk r (λ t. IsCharBoundary text t.span.end)
@@ -248,3 +250,14 @@ ok_boundary text keeps newline i mid new scan shown_one (Ok t) u b h e k = by sc
 pub err_next : {m : Bool} {text : List ℕ} {s a : ℕ} {old mid : LexerOutput} {tr : Trivia} (new : LexerOutput) {T E : Type 0} (r : Result T E) → IsPassed m text s a old mid tr → OnErr r (Extends mid new) → OnErr r (Extends old new)
 err_next new (Ok t) p k = k
 err_next new (Err x) p k = extend_on p.grows k
+
+-- whatever a call answers, the text stays
+pub text_stays : (old new : State) {E : Type 0} (r : Result Token E) → IfOk r (λ t. GivesNext division old new t) → OnErr r (new ≡ old) → new.text ≡ old.text
+text_stays old new (Ok t) h k = h.same.text
+text_stays old new (Err e) h k = ap (λ (x : State). x.text) k
+
+-- ---- a token that is read again
+
+pub settled_ends : (text : List ℕ) (keeps : Bool) (given : Token) (scan : Result Scanned Fault) (old new : LexerOutput) (t : Token) → ScanEnds text scan → SettledAgain keeps given scan old new t → IsCharBoundary text t.span.end
+settled_ends text keeps given (Ok sc) old new t b k = subst (λ (z : Token). IsCharBoundary text z.span.end) (sym k.0) b
+settled_ends text keeps given (Err f) old new t b k = subst (λ (z : Token). IsCharBoundary text z.span.end) (sym k.0) b

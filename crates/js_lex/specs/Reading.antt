@@ -1,5 +1,5 @@
 -- What a call of a lexer that reads answers, and what it keeps (ECMA-262, chapter 12).
-use Rattle.std.specs.Prelude.{ℕ, ◌+◌, ◌-◌, ◌≡◌, Bool, true, false, not, ◌&&◌, ◌||◌, List, [], ◌∷◌, ◌++◌, length, take, codes, chars, slice_range, Option, Some, None, IsTrue}
+use Rattle.std.specs.Prelude.{ℕ, ◌+◌, ◌-◌, ◌≡◌, Bool, true, false, not, ◌&&◌, ◌||◌, List, [], ◌∷◌, ◌++◌, length, take, codes, chars, slice_range, Option, Some, None, IsTrue, IsCharBoundary}
 use Rattle.std.specs.List.{All}
 use Rattle.js_base.specs.declared.kind.Kind.{Kind}
 use Rattle.js_base.specs.declared.kind.Kind.TheVariants.{RAngle, GtEq, ShiftRight, ShiftRightEq, ShiftRight3, ShiftRight3Eq, HashbangComment, Eof, Undetermined}
@@ -7,6 +7,7 @@ use Rattle.js_base.specs.declared.token.Token.{Token}
 use Rattle.js_base.specs.declared.diagnostic.Diagnostic.{Diagnostic}
 use Rattle.js_base.specs.declared.diagnostic.DiagnosticKind.TheVariants.{RegExpFlag}
 use Rattle.js_base.specs.Kinds.{same_kind, one_of_kinds}
+use Rattle.js_base.specs.Spans.{LiesIn}
 use Rattle.js_base.specs.Characters.{one_of}
 use Rattle.js_base.specs.Lists.{replaced}
 use Rattle.js_grammar.specs.Grammar.{Lexeme}
@@ -91,6 +92,7 @@ pub record GivesNext (goal : LexicalGoal) (old new : State) (t : Token) : Type 0
   pub start : t.span.start ≡ old.place + width (joined pieces)
   pub newline : t.is_on_new_line ≡ has_line_terminator (joined pieces)
   pub place : new.place ≡ t.span.end
+  pub lies : LiesIn t.span old.text
   pub faults : List Diagnostic
   pub outcome : Outcome goal cut old.goal old.text old.place t [] faults
   pub grows : Grows old.kept new.kept (each_at (comment_at t.span.start) old.place pieces) (each_at irregular_at old.place pieces) (kept_token old.keeps_tokens t) (each_at (html_fault_at (in_a_module old.goal)) old.place pieces ++ faults)
@@ -99,6 +101,7 @@ pub record GivesNext (goal : LexicalGoal) (old new : State) (t : Token) : Type 0
 -- The first token: a hashbang comment, behind which nothing is kept, where the text begins with one; else the next token.
 pub record GivesHashbang (old new : State) (t : Token) : Type 0 where
   pub same : SameText old new
+  pub lies : LiesIn t.span old.text
   pub gives : GivesLexeme hashbang (λ y. y) old.text 0 t
   pub place : new.place ≡ t.span.end
   pub kept : new.kept ≡ old.kept
@@ -108,10 +111,12 @@ GivesFirst old new t = elim (starts (codes "#!") old.text) [ true ↦ GivesHashb
 
 -- ---- to read a token again, by another lexical goal
 
--- The lexer gave the token last, as the lexeme of the plain goal that stands behind a place.
+-- The lexer gave the token last, as the lexeme of the plain goal that stands behind a place between characters.
 pub record WasGiven (old : State) (t : Token) : Type 0 where
   pub place : old.place ≡ t.span.end
+  pub lies : LiesIn t.span old.text
   pub before : ℕ
+  pub between : IsCharBoundary old.text before
   pub lexeme : Lexeme
   pub stands : LexemeBehind division old.text before lexeme
   pub tells : Tells (cut lexeme) t
@@ -122,7 +127,8 @@ pub record GivesAgain (goal : LexicalGoal) (old new : State) (given t : Token) (
   pub start : t.span.start ≡ given.span.start
   pub newline : t.is_on_new_line ≡ given.is_on_new_line
   pub place : new.place ≡ t.span.end
-  pub outcome : (s : ℕ) (y : Lexeme) → LexemeBehind division old.text s y → Tells (cut y) given → Outcome goal (λ z. z) old.goal old.text s t going_on faults
+  pub lies : LiesIn t.span old.text
+  pub outcome : (s : ℕ) (y : Lexeme) → IsCharBoundary old.text s → LexemeBehind division old.text s y → Tells (cut y) given → Outcome goal (λ z. z) old.goal old.text s t going_on faults
   pub comments : new.kept.comments ≡ old.kept.comments
   pub blanks : new.kept.irregular_whitespaces ≡ old.kept.irregular_whitespaces
   pub tokens : new.kept.tokens ≡ relexed old.keeps_tokens old.kept.tokens t

@@ -1,5 +1,6 @@
 -- What contracts see of a lexer: the text that it reads and how, the place that it has reached, and what it has kept.
-use Rattle.std.specs.Prelude.{ℕ, ◌≡◌, Bool, List}
+use Rattle.std.specs.Prelude.{ℕ, ◌≡◌, ◌≤◌, Bool, List, length, IsUtf8, IsCharBoundary}
+use Rattle.js_base.specs.declared.TheConstants.{MAX_LEN}
 use Rattle.js_base.specs.declared.source_type.SourceType.{SourceType}
 use Rattle.js_base.specs.declared.source_type.Goal.TheVariants as source
 use Rattle.js_grammar.specs.Settings.{Goal, script, module_goal, commonjs, unambiguous}
@@ -21,3 +22,9 @@ pub record SameText (old new : State) : Type 0 where
   pub text : new.text ≡ old.text
   pub goal : new.goal ≡ old.goal
   pub keeps_tokens : new.keeps_tokens ≡ old.keeps_tokens
+
+-- the text is one of characters and not too long, and the place lies between two of them
+pub record IsReady (text : List ℕ) (place : ℕ) : Type 0 where
+  pub utf8 : IsUtf8 text
+  pub short : length text ≤ MAX_LEN
+  pub between : IsCharBoundary text place

@@ -37,11 +37,7 @@ pub(crate) fn attach(comments: &mut Comments, from: usize, place: u32)
 {
     let mut next = from;
     'comments: while next < comments.len() {
-        let attached = Comment {
-            attached_to: place,
-            ..comments[next]
-        };
-        comments.set(next, attached);
+        comments[next].attached_to = place;
         next += 1;
     }
 }

@@ -39,15 +39,13 @@ pub struct Lexer<'a, C: LexerConfig> {
 }
 
 impl<'a, C: LexerConfig> Model for Lexer<'a, C> {
-    ghost use Rattle.std.specs.Prelude.{◌≤◌, length, IsCharBoundary};
-    ghost use Rattle.js_lex.specs.States.{State, goal_of};
-    ghost use Rattle.js_base.specs.declared.TheConstants.{MAX_LEN};
+    ghost use Rattle.js_lex.specs.States.{State, IsReady, goal_of};
 
     ghost Value = { State };
 
     ghost view = { λ l. record { text = l.source_text.now; goal = goal_of l.source_type; keeps_tokens = C.asks_for_tokens l.config; place = l.place; kept = l.kept } };
 
-    ghost invariant = { λ l. (length l.source_text.now ≤ MAX_LEN) × IsCharBoundary l.source_text.now l.place };
+    ghost invariant = { λ l. IsReady l.source_text.now l.place };
 }
 
 impl<'a, C: LexerConfig> Lexer<'a, C> {
@@ -178,6 +176,7 @@ impl<'a, C: LexerConfig> Lexer<'a, C> {
     /// Where the lexer is, and how much it has kept.
     pub fn checkpoint(&self) -> LexerCheckpoint
         ensures place { result.place ≡ self.now.place }
+        ensures between { IsCharBoundary self.now.text result.place }
         ensures lengths { result.lengths ≡ lengths_of self.now.kept }
     {
         LexerCheckpoint {
