@@ -1,11 +1,10 @@
 -- Faults that are kept and don't stop the lexemes: what stands at the span of each.
-use Rattle.std.proofs.Common.{◌≡◌, ◌≤◌, ◌<◌, ℕ, ◌+◌, ◌==◌, Bool, true, false, List, [], ◌∷◌, ◌++◌, refl, sym, ap, subst, ◌∙◌, not, ◌&&◌, ◌||◌, arith, append_assoc, append-nil, Option, Some, None}
-use Rattle.std.specs.Prelude.{codes, IsCharBoundary, IsUtf8, IsTrue}
+use Rattle.std.proofs.Common.{◌≡◌, ◌<◌, ℕ, ◌+◌, ◌==◌, Bool, true, false, List, [], ◌∷◌, ◌++◌, refl, sym, ap, subst, ◌∙◌, not, ◌&&◌, ◌||◌, arith, append_assoc, Option, Some, None}
+use Rattle.std.specs.Prelude.{codes, IsCharBoundary, IsUtf8}
 use Rattle.std.specs.List.{All}
 use Rattle.std.proofs.lemmas.Str.{len_utf8_bounds}
 use Rattle.std.proofs.lemmas.List.{append_cancel_left}
 use Rattle.std.proofs.lemmas.List.Elements.{All-nil, All-cons, All-append}
-use Rattle.js_base.specs.declared.kind.Kind.{Kind}
 use Rattle.js_base.specs.declared.kind.Kind.TheVariants.{RegExp}
 use Rattle.js_base.specs.declared.diagnostic.Diagnostic.{Diagnostic}
 use Rattle.js_base.specs.declared.diagnostic.DiagnosticKind.TheVariants.{RegExpFlag, HtmlCommentInModule}
@@ -26,7 +25,7 @@ use Rattle.js_lex.specs.RegularExpressionParts.{IsRegularExpression}
 use Rattle.js_lex.specs.declared.regular_expression.RegularExpression.{RegularExpression}
 use Rattle.js_lex.proofs.KindsOfLexemes.{pattern_is}
 use Rattle.js_lex.proofs.Passing.{joined-more}
-use Rattle.js_lex.proofs.Places.{then, width-append}
+use Rattle.js_lex.proofs.Places.{width-append}
 use Rattle.js_lex.proofs.StringPlaces.{front_word}
 
 -- ---- the flags of a regular expression

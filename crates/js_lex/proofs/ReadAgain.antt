@@ -1,5 +1,5 @@
 -- A regular expression that is read in place of a slash.
-use Rattle.std.proofs.Common.{◌≡◌, ℕ, Bool, false, List, [], refl, sym, subst, inl}
+use Rattle.std.proofs.Common.{◌≡◌, ℕ, Bool, false, List, [], refl, subst, inl}
 use Rattle.std.specs.Prelude.{Ok}
 use Rattle.js_base.specs.declared.kind.Kind.TheVariants.{RegExp}
 use Rattle.js_base.specs.declared.token.Token.{Token}

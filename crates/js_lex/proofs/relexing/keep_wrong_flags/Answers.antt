@@ -1,5 +1,5 @@
 use Rattle.std.proofs.Common.{refl, arith}
-use Rattle.js_lex.proofs.Keeping.{keeps, grown, extend_on, on_err}
+use Rattle.js_lex.proofs.Keeping.{keeps, extend_on, on_err}
 use Rattle.js_lex.proofs.FlagFaults.{flagged_none, flagged_from, flagged_all, flagged_end, flagged_wrong, flagged_right}
 use Rattle.js_lex.proofs.relexing.keep_wrong_flags.Goals as goal
 
