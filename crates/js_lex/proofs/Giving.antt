@@ -33,6 +33,7 @@ use Rattle.js_lex.specs.Scans.{IsScanned, IsStopped, NoLexeme, Scans}
 use Rattle.js_lex.specs.TriviaPassed.{IsPassed}
 use Rattle.js_lex.specs.Comments.{comment_at, irregular_at, html_fault_at, each_at}
 use Rattle.js_lex.proofs.Keeping.{grow_on, extend_on}
+use Rattle.js_lex.proofs.Marks.{html_marked}
 use Rattle.js_lex.specs.States.{State, goal_of}
 use Rattle.js_lex.specs.Reading.{is_right_angle, cut, Tells, LexemeBehind, GivesLexeme, GivesNone, Outcome, GivesNext, in_a_module, kept_token}
 use Rattle.js_lex.proofs.KindsOfLexemes.{determined, plain_end, greater_word}
@@ -168,9 +169,10 @@ pub determined_outcome : {goal : LexicalGoal} (source : Goal) {text : List ℕ} 
 determined_outcome {goal = goal} source {text = text} {s = s} {t = t} form k g = subst (λ (b : Bool). elim b as (λ _. Type 0) [ true ↦ (d : Diagnostic) × ([] ≡ d ∷ []) × GivesNone goal source text s t d | false ↦ (◌≡◌ {A = List Diagnostic} [] []) × GivesLexeme goal form text s t ]) (sym k) (refl, g)
 
 -- the token behind trivia, and what is kept of both
-pub gives_next : (text : List ℕ) (source : Goal) (keeps : Bool) (s : ℕ) (old mid new : LexerOutput) (tr : Trivia) (scan : Result Scanned Fault) (t : Token) → IsUtf8 text → s ≤ length text → IsPassed (in_a_module source) text s tr.end old mid tr → Scans division text tr.end scan → Settled keeps tr.end tr.has_newline (shown_scan tr.end scan) mid new t
+pub gives_next : (text : List ℕ) (source : Goal) (keeps : Bool) (s : ℕ) (old mid new : LexerOutput) (tr : Trivia) (scan : Result Scanned Fault) (t : Token) → IsUtf8 text → IsCharBoundary text s → IsPassed (in_a_module source) text s tr.end old mid tr → Scans division text tr.end scan → Settled keeps tr.end tr.has_newline (shown_scan tr.end scan) mid new t
     → GivesNext division (record { text = text; goal = source; keeps_tokens = keeps; place = s; kept = old }) (record { text = text; goal = source; keeps_tokens = keeps; place = t.span.end; kept = new }) t
-gives_next text source keeps s old mid new tr (Ok sc) t utf8 l p h e =
+gives_next text source keeps s old mid new tr (Ok sc) t utf8 b p h e =
+    let l : s ≤ length text = b.0 in
     let u = token_of (shown tr.end sc) tr.end tr.has_newline in
     let g : Grows old new (each_at (comment_at tr.end) s p.pieces ++ []) (each_at irregular_at s p.pieces ++ []) ([] ++ kept_token keeps t) (each_at (html_fault_at (in_a_module source)) s p.pieces ++ []) = grow_on p.grows e.1 in
     subst (λ (z : Token). GivesNext division (record { text = text; goal = source; keeps_tokens = keeps; place = s; kept = old }) (record { text = text; goal = source; keeps_tokens = keeps; place = z.span.end; kept = new }) z) (sym e.0)
@@ -190,8 +192,10 @@ gives_next text source keeps s old mid new tr (Ok sc) t utf8 l p h e =
         tokens_grow = g.tokens_grow ∙ ap (λ z. old.tokens ++ kept_token keeps z) e.0;
         faults_grow = g.faults_grow;
       };
+      marked = html_marked text source s p.pieces (behind text tr.end) utf8 b (stands_behind [] (behind text tr.end) l p.stands p.trivia refl);
     })
-gives_next text source keeps s old mid new tr (Err f) t utf8 l p h e =
+gives_next text source keeps s old mid new tr (Err f) t utf8 b p h e =
+    let l : s ≤ length text = b.0 in
     let u = undetermined_of f tr.end tr.has_newline in
     let g : Grows old new (each_at (comment_at tr.end) s p.pieces ++ []) (each_at irregular_at s p.pieces ++ []) [] (each_at (html_fault_at (in_a_module source)) s p.pieces ++ diagnostic_of f ∷ []) = grow_on p.grows e.1 in
     subst (λ (z : Token). GivesNext division (record { text = text; goal = source; keeps_tokens = keeps; place = s; kept = old }) (record { text = text; goal = source; keeps_tokens = keeps; place = z.span.end; kept = new }) z) (sym e.0)
@@ -211,6 +215,7 @@ gives_next text source keeps s old mid new tr (Err f) t utf8 l p h e =
         tokens_grow = g.tokens_grow ∙ ap (λ v. old.tokens ++ v) (none_kept keeps);
         faults_grow = g.faults_grow;
       };
+      marked = html_marked text source s p.pieces (behind text tr.end) utf8 b (stands_behind [] (behind text tr.end) l p.stands p.trivia refl);
     })
   where
     none_kept : (b : Bool) → [] ≡ kept_token b (undetermined_of f tr.end tr.has_newline)
@@ -227,11 +232,11 @@ fits_shown text i most scan shown_one u b l h e = subst (Fits most i) (sym e) (b
     by (Ok sc) h = let z = shown_end text i sc u b h in let y = z.1.0 in (z.0, omega arith)
     by (Err f) h = let z = h.ends_between.0 in (h.behind, h.ordered, omega arith)
 
-pub ok_next : (text : List ℕ) (source : Goal) (keeps in_module : Bool) (s : ℕ) (old mid new : LexerOutput) (tr : Trivia) (scan shown_one : Result Scanned Fault) {E : Type 0} (r : Result Token E) → IsUtf8 text → s ≤ length text → in_module ≡ in_a_module source → IsPassed in_module text s tr.end old mid tr → Scans division text tr.end scan → shown_one ≡ shown_scan tr.end scan
+pub ok_next : (text : List ℕ) (source : Goal) (keeps in_module : Bool) (s : ℕ) (old mid new : LexerOutput) (tr : Trivia) (scan shown_one : Result Scanned Fault) {E : Type 0} (r : Result Token E) → IsUtf8 text → IsCharBoundary text s → in_module ≡ in_a_module source → IsPassed in_module text s tr.end old mid tr → Scans division text tr.end scan → shown_one ≡ shown_scan tr.end scan
     → IfOk r (λ t. Settled keeps tr.end tr.has_newline shown_one mid new t)
     → IfOk r (λ t. GivesNext division (record { text = text; goal = source; keeps_tokens = keeps; place = s; kept = old }) (record { text = text; goal = source; keeps_tokens = keeps; place = t.span.end; kept = new }) t)
-ok_next text source keeps in_module s old mid new tr scan shown_one (Ok t) u l m p h e k = gives_next text source keeps s old mid new tr scan t u l (subst (λ (b : Bool). IsPassed b text s tr.end old mid tr) m p) h (subst (λ (z : Result Scanned Fault). Settled keeps tr.end tr.has_newline z mid new t) e k)
-ok_next text source keeps in_module s old mid new tr scan shown_one (Err x) u l m p h e k = tt
+ok_next text source keeps in_module s old mid new tr scan shown_one (Ok t) u b m p h e k = gives_next text source keeps s old mid new tr scan t u b (subst (λ (b : Bool). IsPassed b text s tr.end old mid tr) m p) h (subst (λ (z : Result Scanned Fault). Settled keeps tr.end tr.has_newline z mid new t) e k)
+ok_next text source keeps in_module s old mid new tr scan shown_one (Err x) u b m p h e k = tt
 
 -- the token ends between characters
 pub ok_boundary : (text : List ℕ) (keeps newline : Bool) (i : ℕ) (mid new : LexerOutput) (scan shown_one : Result Scanned Fault) {E : Type 0} (r : Result Token E) → IsUtf8 text → IsCharBoundary text i → Scans division text i scan → shown_one ≡ shown_scan i scan → IfOk r (λ t. Settled keeps i newline shown_one mid new t) → IfOk r (λ t. IsCharBoundary text t.span.end)

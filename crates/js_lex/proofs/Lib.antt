@@ -28,3 +28,6 @@ pub mod KindsOfLexemes
 pub mod PunctuatorLexemes
 pub mod PunctuatorScans
 pub mod Punctuators
+pub mod FlagFaults
+pub mod Marks
+pub mod ReadAgain

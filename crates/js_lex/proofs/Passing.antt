@@ -40,7 +40,7 @@ passed_none m text s old b = record {
   grows = record { comments_grow = sym (append-nil old.comments); blanks_grow = sym (append-nil old.irregular_whitespaces); tokens_grow = sym (append-nil old.tokens); faults_grow = sym (append-nil old.errors) };
 }
 
-joined-more : (ps : List (List ℕ)) (q : List ℕ) → joined (ps ++ q ∷ []) ≡ joined ps ++ q
+pub joined-more : (ps : List (List ℕ)) (q : List ℕ) → joined (ps ++ q ∷ []) ≡ joined ps ++ q
 joined-more [] q = append-nil q
 joined-more (p ∷ ps) q = ap (λ (v : List ℕ). p ++ v) (joined-more ps q) ∙ sym (append_assoc p (joined ps) q)
 

@@ -1,5 +1,6 @@
 -- What a call of a lexer that reads answers, and what it keeps (ECMA-262, chapter 12).
 use Rattle.std.specs.Prelude.{ℕ, ◌+◌, ◌-◌, ◌≡◌, Bool, true, false, not, ◌&&◌, ◌||◌, List, [], ◌∷◌, ◌++◌, length, take, codes, chars, slice_range, Option, Some, None, IsTrue, IsCharBoundary}
+use Rattle.std.specs.List.{All}
 use Rattle.js_base.specs.declared.kind.Kind.{Kind}
 use Rattle.js_base.specs.declared.kind.Kind.TheVariants.{RAngle, GtEq, ShiftRight, ShiftRightEq, ShiftRight3, ShiftRight3Eq, HashbangComment, Eof, Undetermined}
 use Rattle.js_base.specs.declared.token.Token.{Token}
@@ -83,7 +84,7 @@ relexed keeps ts t = elim (keeps && is_kept t.kind) [ true ↦ replaced ts t | f
 
 -- ---- the calls
 
--- The next token: trivia is passed, as much as stands there, and the lexeme of the goal behind it is given, or none.
+-- The next token: trivia is passed, as much as stands there, and the lexeme of the goal behind it is given, or none. Each HTML-like comment that is kept as a fault in a module is one behind the old place.
 pub record GivesNext (goal : LexicalGoal) (old new : State) (t : Token) : Type 0 where
   pub same : SameText old new
   pub pieces : List (List ℕ)
@@ -95,6 +96,7 @@ pub record GivesNext (goal : LexicalGoal) (old new : State) (t : Token) : Type 0
   pub faults : List Diagnostic
   pub outcome : Outcome goal cut old.goal old.text old.place t [] faults
   pub grows : Grows old.kept new.kept (each_at (comment_at t.span.start) old.place pieces) (each_at irregular_at old.place pieces) (kept_token old.keeps_tokens t) (each_at (html_fault_at (in_a_module old.goal)) old.place pieces ++ faults)
+  pub marked : All (λ d. FaultyBehind d.kind old.goal old.text old.place d.span.start d.span.end) (each_at (html_fault_at (in_a_module old.goal)) old.place pieces)
 
 -- The first token: a hashbang comment, behind which nothing is kept, where the text begins with one; else the next token.
 pub record GivesHashbang (old new : State) (t : Token) : Type 0 where

@@ -11,7 +11,7 @@ pub settle-requires : goal.settle-requires
 settle-requires c = fits_shown _ _ _ c.plain_at.result c.first_angle-scan.result c.utf8.text c.in_ok-trivia.ensures.ok.stands.boundary c.requires.short c.plain_at.ensures c.first_angle-scan.ensures
 
 pub returns-clause-ok : goal.returns-clause-ok
-returns-clause-ok c = ok_next c.args.text.now (goal_of c.args.source_type) c.args.keeps_tokens c.is_module.result c.args.at c.args.kept.now c.pass_trivia.new.kept c.settle.new.kept c.in_ok-trivia.trivia c.plain_at.result c.first_angle-scan.result c.settle.result c.utf8.text c.requires.boundary.0 (module_same c.args.source_type c.is_module.result c.is_module.ensures) c.in_ok-trivia.ensures.ok c.plain_at.ensures c.first_angle-scan.ensures c.settle.ensures.ok
+returns-clause-ok c = ok_next c.args.text.now (goal_of c.args.source_type) c.args.keeps_tokens c.is_module.result c.args.at c.args.kept.now c.pass_trivia.new.kept c.settle.new.kept c.in_ok-trivia.trivia c.plain_at.result c.first_angle-scan.result c.settle.result c.utf8.text c.requires.boundary (module_same c.args.source_type c.is_module.result c.is_module.ensures) c.in_ok-trivia.ensures.ok c.plain_at.ensures c.first_angle-scan.ensures c.settle.ensures.ok
 
 pub returns-clause-boundary : goal.returns-clause-boundary
 returns-clause-boundary c = ok_boundary c.args.text.now c.args.keeps_tokens c.in_ok-trivia.trivia.has_newline c.in_ok-trivia.trivia.end c.pass_trivia.new.kept c.settle.new.kept c.plain_at.result c.first_angle-scan.result c.settle.result c.utf8.text c.in_ok-trivia.ensures.ok.stands.boundary c.plain_at.ensures c.first_angle-scan.ensures c.settle.ensures.ok
