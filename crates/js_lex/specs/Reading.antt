@@ -1,5 +1,5 @@
 -- What a call of a lexer that reads answers, and what it keeps (ECMA-262, chapter 12).
-use Rattle.std.specs.Prelude.{ℕ, ◌+◌, ◌-◌, ◌≡◌, Bool, true, false, not, ◌&&◌, ◌||◌, List, [], ◌∷◌, ◌++◌, length, take, codes, chars, slice_range, Option, Some, None, IsTrue}
+use Rattle.std.specs.Prelude.{ℕ, ◌+◌, ◌≡◌, Bool, true, false, not, ◌&&◌, ◌||◌, List, [], ◌∷◌, ◌++◌, codes, chars, slice_range, Some, None}
 use Rattle.js_base.specs.declared.kind.Kind.{Kind}
 use Rattle.js_base.specs.declared.kind.Kind.TheVariants.{RAngle, GtEq, ShiftRight, ShiftRightEq, ShiftRight3, ShiftRight3Eq, HashbangComment, Eof, Undetermined}
 use Rattle.js_base.specs.declared.token.Token.{Token}
@@ -13,7 +13,7 @@ use Rattle.js_grammar.specs.Settings.{Goal}
 use Rattle.js_grammar.specs.Characters.{width, has_line_terminator}
 use Rattle.js_grammar.specs.Longest.{joined}
 use Rattle.js_grammar.specs.Lexemes.{LexicalGoal, division, hashbang, is_separated}
-use Rattle.js_grammar.specs.Lexed.{Stands, Lex, Passing, in_module, all_faults, passing_of}
+use Rattle.js_grammar.specs.Lexed.{Stands, Lex, in_module, all_faults, passing_of}
 use Rattle.js_grammar.specs.RegularExpressions.{flags}
 use Rattle.js_grammar.specs.CoreTexts.{starts}
 use Rattle.js_grammar.specs.LexicalFaults.{behind, FaultyBehind}
