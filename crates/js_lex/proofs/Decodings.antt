@@ -1,5 +1,5 @@
 -- A string literal as its quotes and what stands between them.
-use Rattle.std.proofs.Common.{◌≡◌, ◌≤◌, ℕ, suc, ◌+◌, ◌-◌, ◌==◌, Bool, true, false, List, [], ◌∷◌, ◌++◌, refl, sym, ap, subst, ◌∙◌, not, ◌&&◌, ◌||◌, Option, Some, None, append_assoc, take, drop, length, length-append, arith}
+use Rattle.std.proofs.Common.{◌≡◌, ◌≤◌, ℕ, suc, ◌+◌, ◌-◌, ◌==◌, Bool, true, false, List, [], ◌∷◌, ◌++◌, refl, sym, ap, subst, ◌∙◌, not, ◌&&◌, ◌||◌, Some, None, take, drop, length, length-append, arith}
 use Rattle.std.specs.Char.{len_utf8}
 use Rattle.std.specs.Prelude.{chars, encode_utf8, encode_utf8_all, IsUtf8, IsCharBoundary, slice_range, is_some, IsSome}
 use Rattle.std.proofs.Math.Seq.{take-append_seam}
@@ -13,7 +13,6 @@ use Rattle.js_grammar.specs.Characters.{width}
 use Rattle.js_grammar.specs.Strings.{nothing_left, closes_string, string_inside, string_kind}
 use Rattle.js_grammar.proofs.LongestLemmas.{both-left, both-right, not-true}
 use Rattle.js_grammar.proofs.Finding.{member}
-use Rattle.js_grammar.proofs.CoreNumbers.{nothing-nil}
 use Rattle.js_grammar.specs.LexicalFaults.{behind}
 use Rattle.js_lex.specs.Places.{Word}
 use Rattle.js_lex.proofs.Places.{width-append}

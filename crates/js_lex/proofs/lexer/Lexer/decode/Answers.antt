@@ -1,6 +1,5 @@
 use Rattle.std.proofs.Common.{◌≡◌, subst, sym, ap, ◌∙◌, List, ℕ, Some, IfOk, slice_range, chars, arith}
 use Rattle.std.specs.Prelude.{IsSome}
-use Rattle.js_base.specs.declared.kind.Kind.TheVariants.{Str}
 use Rattle.js_base.specs.Decoding.{string_points, string_units}
 use Rattle.js_grammar.specs.Strings.{string_kind, string_inside}
 use Rattle.js_lex.specs.States.{State}
