@@ -24,6 +24,7 @@ pub mod Hashbangs
 pub mod Flags
 pub mod StringLemmas
 pub mod StringPlaces
+pub mod Decodings
 pub mod KindsOfLexemes
 pub mod PunctuatorLexemes
 pub mod PunctuatorScans

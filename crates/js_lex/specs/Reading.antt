@@ -15,7 +15,7 @@ use Rattle.js_grammar.specs.Settings.{Goal}
 use Rattle.js_grammar.specs.Characters.{width, has_line_terminator}
 use Rattle.js_grammar.specs.Longest.{joined}
 use Rattle.js_grammar.specs.Lexemes.{LexicalGoal, division, hashbang, is_separated}
-use Rattle.js_grammar.specs.Lexed.{Stands, Lex, Passing, in_module, all_faults, passing_of}
+use Rattle.js_grammar.specs.Lexed.{Stands, Lex, in_module, all_faults, passing_of}
 use Rattle.js_grammar.specs.RegularExpressions.{flags}
 use Rattle.js_grammar.specs.CoreTexts.{starts}
 use Rattle.js_grammar.specs.LexicalFaults.{behind, FaultyBehind}

@@ -204,8 +204,8 @@ impl<'a, C: LexerConfig> Lexer<'a, C> {
         requires string { string_kind (chars (slice_range self.now.text token.span.start token.span.end)) ≡ Some Str }
         ensures { IfOk result (λ units. Some units ≡ string_units (string_inside (chars (slice_range self.now.text token.span.start token.span.end)))) }
     {
-        let inside = &self.source_text[token.start() as usize + 1..token.end() as usize - 1];
-        decode_string(self.alloc, inside)
+        let literal = token.text(self.source_text);
+        decode_string(self.alloc, &literal[1..literal.len() - 1])
     }
 
     /// The name that a token of this text is, without copying. Condition: it has no escape sequence.
