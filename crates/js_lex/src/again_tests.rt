@@ -216,8 +216,10 @@ static SLASHES: [Row; 4] = [
 fn check(rt: &impl Abort, alloc: Global, rows: &[Row]) -> Result<(), Fail> {
     for &(text, again, tokens, last) in rows {
         let reading = read_text(rt, alloc, text, SourceType::module(), again)?;
-        assert_eq!(rt; reading.last.as_str(), last, "at {text:?}");
         assert_eq!(rt; reading.tokens.as_str(), tokens, "at {text:?}");
+        assert_eq!(rt; reading.last.as_str(), last, "at {text:?}");
+        let kept = tokens_text(alloc, &reading.output.tokens)?;
+        assert_eq!(rt; kept.as_str(), tokens, "at {text:?}");
         assert_eq!(rt;
             reading.output.errors.is_empty(),
             last.starts_with("Eof"),
@@ -242,61 +244,163 @@ fn slashes(rt: HostRuntime) -> Result<(), Fail> {
     check(&rt, rt.alloc(), &SLASHES)
 }
 
-/// A text, the tokens before its fault, and the fault.
-static FAULTS: [(&str, &str, &str); 36] = [
-    ("'a", "", "unterminated_string 0..2"),
-    ("\"a'", "", "unterminated_string 0..3"),
-    ("'a\nb'", "", "unterminated_string 0..2"),
-    ("'a\rb'", "", "unterminated_string 0..2"),
-    ("'a\\", "", "unterminated_string 0..3"),
-    ("'a\\'", "", "unterminated_string 0..4"),
-    ("'a\\\nb", "", "unterminated_string 0..5"),
-    ("'\\\r\n\n", "", "unterminated_string 0..4"),
-    ("'a\u{2028}\u{e9}", "", "unterminated_string 0..7"),
+/// A text, the tokens before its fault, the token that stands for it, and the fault.
+static FAULTS: [(&str, &str, &str, &str); 36] = [
+    ("'a", "", "Undetermined 0..2", "unterminated_string 0..2"),
+    ("\"a'", "", "Undetermined 0..3", "unterminated_string 0..3"),
+    (
+        "'a\nb'",
+        "",
+        "Undetermined 0..2",
+        "unterminated_string 0..2",
+    ),
+    (
+        "'a\rb'",
+        "",
+        "Undetermined 0..2",
+        "unterminated_string 0..2",
+    ),
+    ("'a\\", "", "Undetermined 0..3", "unterminated_string 0..3"),
+    ("'a\\'", "", "Undetermined 0..4", "unterminated_string 0..4"),
+    (
+        "'a\\\nb",
+        "",
+        "Undetermined 0..5",
+        "unterminated_string 0..5",
+    ),
+    (
+        "'\\\r\n\n",
+        "",
+        "Undetermined 0..4",
+        "unterminated_string 0..4",
+    ),
+    (
+        "'a\u{2028}\u{e9}",
+        "",
+        "Undetermined 0..7",
+        "unterminated_string 0..7",
+    ),
     (
         "foo();\n'unterminated",
         "Ident 0..3, LParen 3..4, RParen 4..5, Semicolon 5..6",
+        "Undetermined 7..20 newline",
         "unterminated_string 7..20",
     ),
-    ("'//'/*'*/'", "Str 0..4", "unterminated_string 9..10"),
-    ("`a", "", "unterminated_template 0..2"),
-    ("`\\`", "", "unterminated_template 0..3"),
-    ("`a\nb$\n", "", "unterminated_template 0..6"),
+    (
+        "'//'/*'*/'",
+        "Str 0..4",
+        "Undetermined 9..10",
+        "unterminated_string 9..10",
+    ),
+    ("`a", "", "Undetermined 0..2", "unterminated_template 0..2"),
+    (
+        "`\\`",
+        "",
+        "Undetermined 0..3",
+        "unterminated_template 0..3",
+    ),
+    (
+        "`a\nb$\n",
+        "",
+        "Undetermined 0..6",
+        "unterminated_template 0..6",
+    ),
     (
         "a`${b}`",
         "Ident 0..1, TemplateHead 1..4, Ident 4..5, RCurly 5..6",
+        "Undetermined 6..7",
         "unterminated_template 6..7",
     ),
-    ("/* x", "", "unterminated_comment 0..4"),
-    ("/*/", "", "unterminated_comment 0..3"),
-    ("a /*\n*", "Ident 0..1", "unterminated_comment 2..6"),
-    ("/**/ /* /*", "", "unterminated_comment 5..10"),
-    ("\u{0}", "", "invalid_character 0..1"),
-    ("\u{7f}", "", "invalid_character 0..1"),
-    ("\u{1f600}", "", "invalid_character 0..4"),
-    ("#", "", "invalid_character 0..1"),
-    ("a # b", "Ident 0..1", "invalid_character 2..3"),
-    ("#1", "", "invalid_character 0..1"),
-    ("##a", "", "invalid_character 0..1"),
-    ("\u{200d}", "", "invalid_character 0..3"),
-    ("\u{180e}a", "", "invalid_character 0..3"),
-    ("\u{85}", "", "invalid_character 0..2"),
-    ("\u{200b}", "", "invalid_character 0..3"),
-    ("\u{301}a", "", "invalid_character 0..2"),
-    ("\u{2e2f}", "", "invalid_character 0..3"),
-    ("a\u{201c}", "Ident 0..1", "invalid_character 1..4"),
-    ("\u{fffd}", "", "binary_file 0..3"),
-    ("a\u{fffd}", "Ident 0..1", "binary_file 1..4"),
-    ("#\u{fffd}", "", "invalid_character 0..1"),
+    ("/* x", "", "Undetermined 0..4", "unterminated_comment 0..4"),
+    ("/*/", "", "Undetermined 0..3", "unterminated_comment 0..3"),
+    (
+        "a /*\n*",
+        "Ident 0..1",
+        "Undetermined 2..6",
+        "unterminated_comment 2..6",
+    ),
+    (
+        "/**/ /* /*",
+        "",
+        "Undetermined 5..10",
+        "unterminated_comment 5..10",
+    ),
+    ("\u{0}", "", "Undetermined 0..1", "invalid_character 0..1"),
+    ("\u{7f}", "", "Undetermined 0..1", "invalid_character 0..1"),
+    (
+        "\u{1f600}",
+        "",
+        "Undetermined 0..4",
+        "invalid_character 0..4",
+    ),
+    ("#", "", "Undetermined 0..1", "invalid_character 0..1"),
+    (
+        "a # b",
+        "Ident 0..1",
+        "Undetermined 2..3",
+        "invalid_character 2..3",
+    ),
+    ("#1", "", "Undetermined 0..1", "invalid_character 0..1"),
+    ("##a", "", "Undetermined 0..1", "invalid_character 0..1"),
+    (
+        "\u{200d}",
+        "",
+        "Undetermined 0..3",
+        "invalid_character 0..3",
+    ),
+    (
+        "\u{180e}a",
+        "",
+        "Undetermined 0..3",
+        "invalid_character 0..3",
+    ),
+    ("\u{85}", "", "Undetermined 0..2", "invalid_character 0..2"),
+    (
+        "\u{200b}",
+        "",
+        "Undetermined 0..3",
+        "invalid_character 0..3",
+    ),
+    (
+        "\u{301}a",
+        "",
+        "Undetermined 0..2",
+        "invalid_character 0..2",
+    ),
+    (
+        "\u{2e2f}",
+        "",
+        "Undetermined 0..3",
+        "invalid_character 0..3",
+    ),
+    (
+        "a\u{201c}",
+        "Ident 0..1",
+        "Undetermined 1..4",
+        "invalid_character 1..4",
+    ),
+    ("\u{fffd}", "", "Undetermined 0..3", "binary_file 0..3"),
+    (
+        "a\u{fffd}",
+        "Ident 0..1",
+        "Undetermined 1..4",
+        "binary_file 1..4",
+    ),
+    (
+        "#\u{fffd}",
+        "",
+        "Undetermined 0..1",
+        "invalid_character 0..1",
+    ),
 ];
 
 /// A fault stops the tokens: an undetermined one, which isn't kept, stands where the fault does.
 #[test]
 fn faults(rt: HostRuntime) -> Result<(), Fail> {
     let alloc = rt.alloc();
-    for &(text, tokens, fault) in &FAULTS {
+    for &(text, tokens, last, fault) in &FAULTS {
         let reading = read_text(&rt, alloc, text, SourceType::script(), &[])?;
-        assert!(rt; reading.last.starts_with("Undetermined "), "at {text:?}");
+        assert_eq!(rt; reading.last.as_str(), last, "at {text:?}");
         assert_eq!(rt; reading.tokens.as_str(), tokens, "at {text:?}");
         let kept = tokens_text(alloc, &reading.output.tokens)?;
         assert_eq!(rt; kept.as_str(), tokens, "at {text:?}");

@@ -19,9 +19,9 @@ use std::test::Fail;
 fn peeks(rt: HostRuntime) -> Result<(), Fail> {
     let alloc = rt.alloc();
     let mut lexer = lexer_of(&rt, alloc, "a /* b */\u{a0}'c", SourceType::script());
+    assert!(rt; lexer.last_fault().is_none());
     let first = lexer.peek_token()?;
     assert_eq!(rt; lexer.next_token()?, first);
-    assert!(rt; lexer.last_fault().is_none());
     let peeked = lexer.peek_token()?;
     assert_eq!(rt; token_text(alloc, peeked)?.as_str(), "Undetermined 11..13");
     assert!(rt; lexer.last_fault().is_none());
