@@ -30,3 +30,12 @@ pub use config::{
 };
 pub use lexer::Lexer;
 pub use output::LexerOutput;
+
+#[cfg(test)]
+mod again_tests;
+#[cfg(test)]
+mod row_tests;
+#[cfg(test)]
+mod test_reading;
+#[cfg(test)]
+mod tests;
