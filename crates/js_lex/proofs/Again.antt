@@ -120,6 +120,7 @@ gives_again {goal = goal} old new given t (Ok sc) u b h same place k = ([], subs
   place = place ∙ ap (λ (z : Token). z.span.end) k.0;
   lies = record { ordered = (let e = h.stands.end in omega arith); starts_whole = b; ends_whole = h.stands.boundary };
   outcome = λ s y between l tells. determined_outcome old.goal (λ z. z) (determined goal h.word (behind old.text sc.end) sc.kind h.lexeme.kind) (again_lexeme y given sc between.0 (passed u between l) tells h);
+  marked = λ s y between l tells. tt;
   comments = ap (λ (o : LexerOutput). o.comments) k.1;
   blanks = ap (λ (o : LexerOutput). o.irregular_whitespaces) k.1;
   tokens = ap (λ (o : LexerOutput). o.tokens) k.1 ∙ ap (λ (z : Token). relexed old.keeps_tokens old.kept.tokens z) k.0;
@@ -132,6 +133,7 @@ gives_again {goal = goal} old new given t (Err f) u b h same place k = (diagnost
   place = place ∙ ap (λ (z : Token). z.span.end) k.0;
   lies = record { ordered = (let a = h.behind in let c = h.ordered in omega arith); starts_whole = b; ends_whole = h.ends_between };
   outcome = λ s y between l tells. (diagnostic_of f, refl, again_none old.goal y given f between.0 (passed u between l) tells h);
+  marked = λ s y between l tells. tt;
   comments = k.1.comments_grow ∙ append-nil old.kept.comments;
   blanks = k.1.blanks_grow ∙ append-nil old.kept.irregular_whitespaces;
   tokens = k.1.tokens_grow ∙ append-nil old.kept.tokens ∙ sym (stays old.keeps_tokens);

@@ -15,6 +15,7 @@ pub mod Passing
 pub mod Giving
 pub mod Openings
 pub mod Again
+pub mod Expressions
 pub mod Fronts
 pub mod TemplateParts
 pub mod TemplateLexemes

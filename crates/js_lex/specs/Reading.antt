@@ -129,6 +129,8 @@ pub record GivesAgain (goal : LexicalGoal) (old new : State) (given t : Token) (
   pub place : new.place ≡ t.span.end
   pub lies : LiesIn t.span old.text
   pub outcome : (s : ℕ) (y : Lexeme) → IsCharBoundary old.text s → LexemeBehind division old.text s y → Tells (cut y) given → Outcome goal (λ z. z) old.goal old.text s t going_on faults
+  -- each fault that goes on is one behind the same place
+  pub marked : (s : ℕ) (y : Lexeme) → IsCharBoundary old.text s → LexemeBehind division old.text s y → Tells (cut y) given → All (λ d. FaultyBehind d.kind old.goal old.text s d.span.start d.span.end) going_on
   pub comments : new.kept.comments ≡ old.kept.comments
   pub blanks : new.kept.irregular_whitespaces ≡ old.kept.irregular_whitespaces
   pub tokens : new.kept.tokens ≡ relexed old.keeps_tokens old.kept.tokens t

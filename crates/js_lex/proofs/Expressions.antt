@@ -1,0 +1,99 @@
+-- A slash that is read again as a regular expression.
+use Rattle.std.proofs.Common.{◌≡◌, ◌<◌, ◌≤◌, ℕ, ◌+◌, ◌==◌, Bool, true, false, List, [], ◌∷◌, ◌++◌, refl, sym, ap, subst, ◌∙◌, length, arith, append-nil, Some, ◌⊎◌, inl, inr}
+use Rattle.std.specs.Prelude.{IsCharBoundary, IsUtf8, codes}
+use Rattle.js_base.specs.declared.kind.Kind.{Kind}
+use Rattle.js_base.specs.declared.kind.Kind.TheVariants.{RAngle, Slash, SlashEq, RegExp, Undetermined}
+use Rattle.js_base.specs.declared.token.Token.{Token}
+use Rattle.js_base.specs.declared.diagnostic.Diagnostic.{Diagnostic}
+use Rattle.js_base.specs.Characters.{one_of}
+use Rattle.js_base.specs.Kinds.{same_kind}
+use Rattle.js_grammar.specs.Grammar.{Lexeme}
+use Rattle.js_grammar.specs.Characters.{has_line_terminator, begins, width}
+use Rattle.js_grammar.specs.Longest.{joined}
+use Rattle.js_grammar.specs.Trivia.{are_trivia}
+use Rattle.js_grammar.specs.Lexemes.{division, regular_expression, kind_in}
+use Rattle.js_grammar.specs.LexicalFaults.{behind}
+use Rattle.js_lex.specs.declared.scan.Scanned.{Scanned}
+use Rattle.js_lex.specs.Places.{Word}
+use Rattle.js_lex.specs.States.{State, SameText}
+use Rattle.js_lex.specs.Reading.{cut, Tells, LexemeBehind, GivesLexeme, GivesNone, Outcome, WasGiven, GivesAgain, FlagsStand, flag_faults, relexed}
+use Rattle.js_lex.specs.Settling.{token_of, undetermined_of, IsReadAgain, IsFoundAgain, IsStoppedAgain}
+use Rattle.js_lex.proofs.KindsOfLexemes.{plain_end, slash_word, slash_equals_word, no_comment_opens}
+use Rattle.js_lex.proofs.StringPlaces.{front_word}
+use Rattle.js_lex.proofs.Flags.{spelled}
+use Rattle.js_lex.proofs.Marks.{flags_marked, pattern_boundary}
+use Rattle.js_lex.proofs.Giving.{lexeme_behind}
+use Rattle.js_lex.proofs.Again.{Passed, passed, given_start, cut_kind, again_lexeme, gives_again, cancel}
+
+-- ---- the slash that was given
+
+-- a slash, before what begins no comment
+pub record SlashStands (text : List ℕ) (i : ℕ) : Type 0 where
+  pub slash : Word text i (i + 1) (47 ∷ [])
+  pub no_comment : begins (one_of (codes "*/")) (behind text (i + 1)) ≡ false
+
+slash_first : (w rest : List ℕ) (k : Kind) → kind_in division w rest ≡ Some k → (k ≡ Slash) ⊎ (k ≡ SlashEq) → (cs : List ℕ) × (w ≡ 47 ∷ cs) × (begins (one_of (codes "*/")) (cs ++ rest) ≡ false)
+slash_first [] rest k h (inl e) = absurd (let z = (plain_end rest k h).0 in cc)
+slash_first [] rest k h (inr e) = absurd (let z = (plain_end rest k h).0 in cc)
+slash_first (c ∷ cs) rest k h (inl e) = let z = (slash_word c cs rest (h ∙ ap Some e)).0 in (cs, ap (λ (d : ℕ). d ∷ cs) z, no_comment_opens c cs rest k h (inl e))
+slash_first (c ∷ cs) rest k h (inr e) = let f : c ∷ cs ≡ 47 ∷ 61 ∷ [] = slash_equals_word c cs rest (h ∙ ap Some e) in let z : c ≡ 47 = cc in (cs, ap (λ (d : ℕ). d ∷ cs) z, no_comment_opens c cs rest k h (inr e))
+
+slash_kind : (y : Lexeme) (given : Token) → Tells (cut y) given → (given.kind ≡ Slash) ⊎ (given.kind ≡ SlashEq) → (y.kind ≡ Slash) ⊎ (y.kind ≡ SlashEq)
+slash_kind y given h (inl e) = inl (cut_kind y Slash (sym h.kind ∙ e) (λ q. cc))
+slash_kind y given h (inr e) = inr (cut_kind y SlashEq (sym h.kind ∙ e) (λ q. cc))
+
+slash_stands : (old : State) (given : Token) → IsUtf8 old.text → WasGiven old given → (given.kind ≡ Slash) ⊎ (given.kind ≡ SlashEq) → SlashStands old.text given.span.start
+slash_stands old given u g k =
+    let p = passed u g.between g.stands in
+    let z = slash_first p.word p.rest g.lexeme.kind p.lexeme.kind (slash_kind g.lexeme given g.tells k) in
+    let f : behind old.text given.span.start ≡ (47 ∷ []) ++ (z.0 ++ p.rest) = ap (behind old.text) (given_start g.lexeme g.tells) ∙ p.here ∙ ap (λ (v : List ℕ). v ++ p.rest) z.1 in
+    let w = front_word old.text given.span.start (47 ∷ []) (z.0 ++ p.rest) u g.lies.starts_whole f in
+    let here : behind old.text (given.span.start + 1) ≡ z.0 ++ p.rest = cancel (47 ∷ []) (behind old.text (given.span.start + 1)) (z.0 ++ p.rest) (sym w.splits ∙ f) in
+    record { slash = w; no_comment = ap (begins (one_of (codes "*/"))) here ∙ z.2 }
+
+pub slash_for : (old : State) (given : Token) (text : List ℕ) → text ≡ old.text → IsUtf8 text → WasGiven old given → (given.kind ≡ Slash) ⊎ (given.kind ≡ SlashEq) → SlashStands text given.span.start
+slash_for old given text e u g k = subst (λ (v : List ℕ). SlashStands v given.span.start) (sym e) (slash_stands old given (subst IsUtf8 e u) g k)
+
+-- ---- what is given in its place
+
+going_outcome : {text : List ℕ} {s : ℕ} {t : Token} (source : Rattle.js_grammar.specs.Settings.Goal) (ds : List Diagnostic) → same_kind Undetermined t.kind ≡ false → GivesLexeme regular_expression (λ z. z) text s t → Outcome regular_expression (λ z. z) source text s t ds ds
+going_outcome {text = text} {s = s} {t = t} source ds k g = subst (λ (b : Bool). elim b as (λ _. Type 0) [ true ↦ (d : Diagnostic) × (ds ≡ d ∷ []) × GivesNone regular_expression source text s t d | false ↦ (◌≡◌ {A = List Diagnostic} ds ds) × GivesLexeme regular_expression (λ z. z) text s t ]) (sym k) (refl, g)
+
+pub regex_again : (old new : State) (given t : Token) (pattern_end : ℕ) → IsUtf8 old.text → IsCharBoundary old.text given.span.start → SameText old new → new.place ≡ t.span.end → IsReadAgain old.text old.keeps_tokens given old.kept new.kept t pattern_end → (going_on : List Diagnostic) × (faults : List Diagnostic) × GivesAgain regular_expression old new given t going_on faults × FlagsStand old.text pattern_end t going_on
+unfolding lexeme_behind
+regex_again old new given t pattern_end u b same place (inl h) = (ds, ds, subst (λ (z : Token). GivesAgain regular_expression old new given z ds ds) (sym h.settled.0) again, subst (λ (z : Token). FlagsStand old.text pattern_end z ds) (sym h.settled.0) flags_there)
+  where
+    ds : List Diagnostic
+    ds = flag_faults h.found.pattern_end [] h.is.flags_word
+
+    sc : Scanned
+    sc = record { kind = RegExp; end = h.found.end; escaped = false; has_separator = false }
+
+    marks : (s : ℕ) (y : Lexeme) → IsCharBoundary old.text s → LexemeBehind division old.text s y → Tells (cut y) given → Rattle.std.specs.List.All (λ d. Rattle.js_grammar.specs.LexicalFaults.FaultyBehind d.kind old.goal old.text s d.span.start d.span.end) ds
+    marks s y between l tells =
+        let p = passed u between l in
+        let e : given.span.start ≡ y.from = given_start y tells in
+        let w : Word old.text s given.span.start (joined p.pieces) = subst (λ (n : ℕ). Word old.text s n (joined p.pieces)) (sym e) p.stands in
+        let r : are_trivia (s == 0) p.pieces (behind old.text given.span.start) ≡ true = subst (λ (n : ℕ). are_trivia (s == 0) p.pieces (behind old.text n) ≡ true) (sym e) p.trivia in
+        flags_marked old.goal h.found.pattern_end h.is.flags_word (lexeme_behind p.pieces sc between.0 w r h.is.scanned) h.is.has_flags u (pattern_boundary u b h.is) h.is.flags_stand
+
+    again : GivesAgain regular_expression old new given (token_of sc given.span.start given.is_on_new_line) ds ds
+    again = record {
+      same = same;
+      start = refl;
+      newline = refl;
+      place = place ∙ ap (λ (z : Token). z.span.end) h.settled.0;
+      lies = record { ordered = (let e = h.is.scanned.stands.end in omega arith); starts_whole = b; ends_whole = h.is.scanned.stands.boundary };
+      outcome = λ s y between l tells. going_outcome old.goal ds refl (again_lexeme y given sc between.0 (passed u between l) tells h.is.scanned);
+      marked = marks;
+      comments = ap (λ o. o.comments) h.settled.1 ∙ h.flags_kept.comments_grow ∙ append-nil old.kept.comments;
+      blanks = ap (λ o. o.irregular_whitespaces) h.settled.1 ∙ h.flags_kept.blanks_grow ∙ append-nil old.kept.irregular_whitespaces;
+      tokens = ap (λ o. o.tokens) h.settled.1 ∙ ap (λ ts. relexed old.keeps_tokens ts t) (h.flags_kept.tokens_grow ∙ append-nil old.kept.tokens) ∙ ap (λ (z : Token). relexed old.keeps_tokens old.kept.tokens z) h.settled.0;
+      errors = ap (λ o. o.errors) h.settled.1 ∙ h.flags_kept.faults_grow;
+    }
+
+    flags_there : FlagsStand old.text pattern_end (token_of sc given.span.start given.is_on_new_line) ds
+    flags_there = (h.is.flags_word, subst (λ (n : ℕ). Word old.text n h.found.end h.is.flags_word) (sym h.pattern_ends) h.is.flags_stand, ap Rattle.js_grammar.specs.RegularExpressions.flags (spelled old.text given.span.start h.found.end h.is.scanned.word u b h.is.scanned.stands) ∙ h.is.has_flags, ap (λ (n : ℕ). flag_faults n [] h.is.flags_word) (sym h.pattern_ends))
+regex_again old new given t pattern_end u b same place (inr h) =
+    let g = gives_again old new given t (Rattle.std.specs.Prelude.Err h.fault) u b h.stopped same place h.settled in
+    ([], g.0, g.1, subst (λ (z : Token). FlagsStand old.text pattern_end z []) (sym h.settled.0) h.pattern_ends)

@@ -1,0 +1,15 @@
+use Rattle.std.proofs.Common.{sym, subst, ap, ◌∙◌}
+use Rattle.std.specs.Prelude.{IsUtf8}
+use Rattle.js_lex.specs.States.{State}
+use Rattle.js_lex.specs.Settling.{IsReadAgain}
+use Rattle.js_lex.proofs.Expressions.{slash_for, regex_again}
+use Rattle.js_lex.proofs.lexer.Lexer.re_lex_regex.Goals as goal
+
+pub read_regular_expression-requires-clause-slash : goal.read_regular_expression-requires-clause-slash
+read_regular_expression-requires-clause-slash g c = (slash_for c.args.self.now c.args.token c.self.inside.source_text.now (ap (λ (s : State). s.text) c.self.view_is) c.self.invariant.utf8 c.requires.given c.requires.kind).slash
+
+pub read_regular_expression-requires-clause-no_comment : goal.read_regular_expression-requires-clause-no_comment
+read_regular_expression-requires-clause-no_comment g c = (slash_for c.args.self.now c.args.token c.self.inside.source_text.now (ap (λ (s : State). s.text) c.self.view_is) c.self.invariant.utf8 c.requires.given c.requires.kind).no_comment
+
+pub returns-in-Ok-clause-ok : goal.returns-in-Ok-clause-ok
+returns-in-Ok-clause-ok g c = ?
