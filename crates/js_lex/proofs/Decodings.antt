@@ -6,6 +6,7 @@ use Rattle.std.proofs.Math.Seq.{take-append_seam}
 use Rattle.std.proofs.lemmas.Bool.{eqb-true}
 use Rattle.std.proofs.lemmas.Str.{IsCharBoundary-start, encodes-chars, length-encode}
 use Rattle.js_base.specs.declared.kind.Kind.TheVariants.{Str}
+use Rattle.js_base.specs.declared.span.Span.{Span}
 use Rattle.js_base.specs.Characters.{one_of}
 use Rattle.js_base.specs.Escapes.{line_feeds, line_feeds_after}
 use Rattle.js_base.specs.Decoding.{string_points}
@@ -15,6 +16,7 @@ use Rattle.js_grammar.proofs.LongestLemmas.{both-left, both-right, not-true}
 use Rattle.js_grammar.proofs.Finding.{member}
 use Rattle.js_grammar.specs.LexicalFaults.{behind}
 use Rattle.js_lex.specs.Places.{Word}
+use Rattle.js_lex.specs.States.{State}
 use Rattle.js_lex.proofs.Places.{width-append}
 use Rattle.js_lex.proofs.StringPlaces.{front_word, part_chars}
 
@@ -107,14 +109,14 @@ width_all [] = refl
 width_all (c ∷ cs) = let e = length-append (encode_utf8 c) (encode_utf8_all cs) in let f = length-encode c in let g = width_all cs in omega arith
 
 -- the bytes of a string literal, and those between its quotes
-pub record Literal (bytes : List ℕ) : Type 0 where
+pub record Literal (bytes word : List ℕ) : Type 0 where
   pub quotes : 2 ≤ length bytes
   pub starts_whole : IsCharBoundary bytes 1
   pub ends_whole : IsCharBoundary bytes (length bytes - 1)
-  pub inside : (part : List ℕ) → part ≡ slice_range bytes 1 (length bytes - 1) → chars part ≡ string_inside (chars bytes)
-  pub right : IsSome (string_points (string_inside (chars bytes)))
+  pub inside : (part : List ℕ) → part ≡ slice_range bytes 1 (length bytes - 1) → chars part ≡ string_inside (chars word)
+  pub right : IsSome (string_points (string_inside (chars word)))
 
-pub literal : (bytes : List ℕ) → IsUtf8 bytes → string_kind (chars bytes) ≡ Some Str → Literal bytes
+literal : (bytes : List ℕ) → IsUtf8 bytes → string_kind (chars bytes) ≡ Some Str → Literal bytes bytes
 literal bytes u h =
     let s = quotation (chars bytes) h in
     let q = s.quote in
@@ -134,3 +136,9 @@ literal bytes u h =
       inside = λ part p. part_chars bytes 1 (length bytes - 1) v part u opens.boundary stands p ∙ sym s.same;
       right = s.right;
     }
+
+-- the string literal that a span of a lexer's text is
+pub literal_of : {view now : State} {bytes : List ℕ} (span : Span) → view ≡ now → IsUtf8 bytes → bytes ≡ slice_range view.text span.start span.end → string_kind (chars (slice_range now.text span.start span.end)) ≡ Some Str → Literal bytes (slice_range now.text span.start span.end)
+literal_of {bytes = bytes} span v u e h =
+    let same = e ∙ ap (λ (s : State). slice_range s.text span.start span.end) v in
+    subst (λ (w : List ℕ). Literal bytes w) same (literal bytes u (ap (λ (w : List ℕ). string_kind (chars w)) same ∙ h))

@@ -1,5 +1,5 @@
 -- From trivia, a scan and what is kept of them to what a call of the lexer answers.
-use Rattle.std.proofs.Common.{◌≡◌, ◌<◌, ◌≤◌, ℕ, ◌+◌, ◌==◌, Bool, true, false, List, [], ◌∷◌, ◌++◌, refl, sym, ap, subst, ◌∙◌, not, ◌&&◌, ◌||◌, length, arith, append_assoc, append-nil, Option, Some, None}
+use Rattle.std.proofs.Common.{◌≡◌, ◌<◌, ◌≤◌, ℕ, ◌+◌, ◌==◌, Bool, true, false, List, [], ◌∷◌, ◌++◌, refl, sym, ap, subst, ◌∙◌, ◌||◌, length, arith, append-nil, Some}
 use Rattle.std.specs.Prelude.{IsTrue, IsCharBoundary, IsUtf8, ◌↔◌, IfOk, OnErr, Result, Ok, Err, encode_utf8, encode_utf8_all, drop}
 use Rattle.std.proofs.lemmas.Str.{IsUtf8-drop, encodes-chars, len_utf8_ascii, IsCharBoundary-past_char}
 use Rattle.js_base.specs.declared.kind.Kind.{Kind}
@@ -12,16 +12,16 @@ use Rattle.js_base.specs.declared.source_type.SourceType.{SourceType}
 use Rattle.js_base.specs.declared.source_type.Goal.{Goal as SourceGoal}
 use Rattle.js_base.specs.declared.source_type.Goal.TheVariants.{Script, Module, CommonJs, Unambiguous}
 use Rattle.js_base.specs.Sources.{is_goal}
-use Rattle.js_base.specs.Kinds.{same_kind, one_of_kinds}
+use Rattle.js_base.specs.Kinds.{same_kind}
 use Rattle.js_grammar.specs.Grammar.{Lexeme}
-use Rattle.js_grammar.specs.Settings.{Goal, script, module_goal, commonjs, unambiguous}
+use Rattle.js_grammar.specs.Settings.{Goal}
 use Rattle.js_grammar.specs.Characters.{has_line_terminator, width}
 use Rattle.js_grammar.specs.Longest.{longest, none_begins, joined}
 use Rattle.js_grammar.specs.Trivia.{is_trivia_piece, are_trivia}
-use Rattle.js_grammar.specs.Lexemes.{LexicalGoal, division, kind_in, is_escaped, is_separated, units_of}
-use Rattle.js_grammar.specs.Lexed.{Lex, Stands, IsLexeme, all_faults}
+use Rattle.js_grammar.specs.Lexemes.{LexicalGoal, division, kind_in, is_escaped, units_of}
+use Rattle.js_grammar.specs.Lexed.{Stands, IsLexeme}
 use Rattle.js_grammar.specs.LexicalFaults.{behind, Due, Stopping, Condition, FaultyBehind}
-use Rattle.js_grammar.proofs.LongestLemmas.{both, both-left, both-right}
+use Rattle.js_grammar.proofs.LongestLemmas.{both-right}
 use Rattle.js_grammar.proofs.Alike.{stands-same}
 use Rattle.js_lex.specs.declared.scan.Scanned.{Scanned}
 use Rattle.js_lex.specs.declared.scan.Fault.{Fault}
