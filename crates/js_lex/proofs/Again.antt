@@ -27,7 +27,7 @@ use Rattle.js_lex.proofs.KindsOfLexemes.{determined, plain_end, brace_word}
 use Rattle.js_lex.proofs.StringPlaces.{front_word}
 use Rattle.js_lex.proofs.Giving.{lexeme_of, lexeme_behind, gives_none, determined_outcome, trivia_ends}
 
-cancel : (u v w : List ℕ) → u ++ v ≡ u ++ w → v ≡ w
+pub cancel : (u v w : List ℕ) → u ++ v ≡ u ++ w → v ≡ w
 cancel [] v w e = e
 cancel (c ∷ u) v w e = let f : u ++ v ≡ u ++ w = cc in cancel u v w f
 
@@ -91,7 +91,7 @@ given_start y h = h.start ∙ cut_from y
 again_newline : {text : List ℕ} {s : ℕ} (y : Lexeme) {t : Token} (p : Passed text s y) → Tells (cut y) t → t.is_on_new_line ≡ has_line_terminator (joined p.pieces)
 again_newline y p h = h.newline ∙ cut_newline y ∙ p.newline
 
-again_lexeme : {goal : LexicalGoal} {text : List ℕ} {s : ℕ} (y : Lexeme) (given : Token) (sc : Scanned) → s ≤ length text → Passed text s y → Tells (cut y) given → IsScanned goal text given.span.start sc → GivesLexeme goal (λ z. z) text s (token_of sc given.span.start given.is_on_new_line)
+pub again_lexeme : {goal : LexicalGoal} {text : List ℕ} {s : ℕ} (y : Lexeme) (given : Token) (sc : Scanned) → s ≤ length text → Passed text s y → Tells (cut y) given → IsScanned goal text given.span.start sc → GivesLexeme goal (λ z. z) text s (token_of sc given.span.start given.is_on_new_line)
 unfolding lexeme_behind
 again_lexeme {goal = goal} {text = text} {s = s} y given sc l p h k =
     let e : given.span.start ≡ y.from = given_start y h in
@@ -120,7 +120,7 @@ gives_again {goal = goal} old new given t (Ok sc) u b h same place k = ([], subs
   place = place ∙ ap (λ (z : Token). z.span.end) k.0;
   lies = record { ordered = (let e = h.stands.end in omega arith); starts_whole = b; ends_whole = h.stands.boundary };
   outcome = λ s y between l tells. determined_outcome old.goal (λ z. z) (determined goal h.word (behind old.text sc.end) sc.kind h.lexeme.kind) (again_lexeme y given sc between.0 (passed u between l) tells h);
-  marked = λ s y between l tells. tt;
+  marked = λ s y between l tells k d e. absurd (omega arith);
   comments = ap (λ (o : LexerOutput). o.comments) k.1;
   blanks = ap (λ (o : LexerOutput). o.irregular_whitespaces) k.1;
   tokens = ap (λ (o : LexerOutput). o.tokens) k.1 ∙ ap (λ (z : Token). relexed old.keeps_tokens old.kept.tokens z) k.0;
@@ -133,7 +133,7 @@ gives_again {goal = goal} old new given t (Err f) u b h same place k = (diagnost
   place = place ∙ ap (λ (z : Token). z.span.end) k.0;
   lies = record { ordered = (let a = h.behind in let c = h.ordered in omega arith); starts_whole = b; ends_whole = h.ends_between };
   outcome = λ s y between l tells. (diagnostic_of f, refl, again_none old.goal y given f between.0 (passed u between l) tells h);
-  marked = λ s y between l tells. tt;
+  marked = λ s y between l tells k d e. absurd (omega arith);
   comments = k.1.comments_grow ∙ append-nil old.kept.comments;
   blanks = k.1.blanks_grow ∙ append-nil old.kept.irregular_whitespaces;
   tokens = k.1.tokens_grow ∙ append-nil old.kept.tokens ∙ sym (stays old.keeps_tokens);

@@ -93,7 +93,7 @@ regex_again old new given t pattern_end u b same place (inl h) = (ds, ds, subst 
     }
 
     flags_there : FlagsStand old.text pattern_end (token_of sc given.span.start given.is_on_new_line) ds
-    flags_there = (h.is.flags_word, subst (λ (n : ℕ). Word old.text n h.found.end h.is.flags_word) (sym h.pattern_ends) h.is.flags_stand, ap Rattle.js_grammar.specs.RegularExpressions.flags (spelled old.text given.span.start h.found.end h.is.scanned.word u b h.is.scanned.stands) ∙ h.is.has_flags, ap (λ (n : ℕ). flag_faults n [] h.is.flags_word) (sym h.pattern_ends))
+    flags_there = (h.is.flags_word, subst (λ (n : ℕ). Word old.text n h.found.end h.is.flags_word) (sym h.pattern_ends) h.is.flags_stand, ap Rattle.js_grammar.specs.RegularExpressions.flags (spelled old.text given.span.start h.found.end h.is.scanned.word u b (let e = h.is.scanned.stands.end in omega arith) h.is.scanned.stands) ∙ h.is.has_flags, ap (λ (n : ℕ). flag_faults n [] h.is.flags_word) (sym h.pattern_ends))
 regex_again old new given t pattern_end u b same place (inr h) =
     let g = gives_again old new given t (Rattle.std.specs.Prelude.Err h.fault) u b h.stopped same place h.settled in
     ([], g.0, g.1, subst (λ (z : Token). FlagsStand old.text pattern_end z []) (sym h.settled.0) h.pattern_ends)

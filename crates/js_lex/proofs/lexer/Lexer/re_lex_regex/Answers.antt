@@ -12,4 +12,7 @@ pub read_regular_expression-requires-clause-no_comment : goal.read_regular_expre
 read_regular_expression-requires-clause-no_comment g c = (slash_for c.args.self.now c.args.token c.self.inside.source_text.now (ap (λ (s : State). s.text) c.self.view_is) c.self.invariant.utf8 c.requires.given c.requires.kind).no_comment
 
 pub returns-in-Ok-clause-ok : goal.returns-in-Ok-clause-ok
-returns-in-Ok-clause-ok g c = ?
+returns-in-Ok-clause-ok g c =
+    let e = ap (λ (s : State). s.text) c.self.view_is in
+    let read = subst (λ (s : State). IsReadAgain s.text s.keeps_tokens c.args.token s.kept c.read_regular_expression.new.kept c.in-Ok.again c.in-Ok.pattern_end) c.self.view_is (subst (λ b. IsReadAgain c.self.inside.source_text.now b c.args.token c.self.inside.kept c.read_regular_expression.new.kept c.in-Ok.again c.in-Ok.pattern_end) c.tokens.ensures c.in-Ok.ensures.ok) in
+    regex_again c.args.self.now _ c.args.token c.in-Ok.again c.in-Ok.pattern_end (subst IsUtf8 e c.self.invariant.utf8) c.requires.given.lies.starts_whole (record { text = e; goal = ap (λ (s : State). s.goal) c.self.view_is; keeps_tokens = ap (λ (s : State). s.keeps_tokens) c.self.view_is }) c.end.ensures read
