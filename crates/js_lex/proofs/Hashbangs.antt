@@ -60,14 +60,15 @@ opened : (b : Bool) → is_some (if_line b) ≡ true → b ≡ true
 opened true e = refl
 opened false e = e
 
+-- a hashbang comment begins so
+pub begins_so : (w : List ℕ) → is_some (hashbang_kind w) ≡ true → (v : List ℕ) × (w ≡ 35 ∷ 33 ∷ v)
+begins_so [] h = cc
+begins_so (c ∷ []) h = let o = both-right (35 == c) false (opened (after (codes "#!") within_line (c ∷ [])) h) in cc
+begins_so (c ∷ d ∷ v) h =
+    let o = opened (after (codes "#!") within_line (c ∷ d ∷ v)) h in
+    let first : 35 ≡ c = eqb-true 35 c (both-left (35 == c) ((33 == d) && within_line v) o) in
+    let second : 33 ≡ d = eqb-true 33 d (both-left (33 == d) (within_line v) (both-right (35 == c) ((33 == d) && within_line v) o)) in
+    (v, sym (ap (λ (x : ℕ). x ∷ 33 ∷ v) first ∙ ap (λ (x : ℕ). c ∷ x ∷ v) second))
+
 pub no_hashbang : (text : List ℕ) {i : ℕ} → i ≡ 0 → ((rest : List ℕ) → behind text 0 ≡ 35 ∷ 33 ∷ rest → ⊥) → NoLexeme hashbang text i
-no_hashbang text {i = i} z none w rest k s l = by w (ap is_some l.kind) (sym (ap (behind text) z) ∙ s)
-  where
-    by : (w : List ℕ) → is_some (hashbang_kind w) ≡ true → behind text 0 ≡ w ++ rest → ⊥
-    by [] h e = cc
-    by (c ∷ []) h e = let o = both-right (35 == c) false (opened (after (codes "#!") within_line (c ∷ [])) h) in cc
-    by (c ∷ d ∷ v) h e =
-        let o = opened (after (codes "#!") within_line (c ∷ d ∷ v)) h in
-        let first : 35 ≡ c = eqb-true 35 c (both-left (35 == c) ((33 == d) && within_line v) o) in
-        let second : 33 ≡ d = eqb-true 33 d (both-left (33 == d) (within_line v) (both-right (35 == c) ((33 == d) && within_line v) o)) in
-        none (v ++ rest) (e ∙ sym (ap (λ (x : ℕ). x ∷ 33 ∷ v ++ rest) first ∙ ap (λ (x : ℕ). c ∷ x ∷ v ++ rest) second))
+no_hashbang text {i = i} z none w rest k s l = let b = begins_so w (ap is_some l.kind) in none (b.0 ++ rest) (sym (ap (behind text) z) ∙ s ∙ ap (λ (x : List ℕ). x ++ rest) b.1)

@@ -16,6 +16,7 @@ pub mod Giving
 pub mod Openings
 pub mod Again
 pub mod Expressions
+pub mod Firsts
 pub mod Fronts
 pub mod TemplateParts
 pub mod TemplateLexemes

@@ -1,5 +1,5 @@
 -- What a call of a lexer that reads answers, and what it keeps (ECMA-262, chapter 12).
-use Rattle.std.specs.Prelude.{ℕ, ◌+◌, ◌-◌, ◌≡◌, Bool, true, false, not, ◌&&◌, ◌||◌, List, [], ◌∷◌, ◌++◌, length, take, codes, chars, slice_range, Option, Some, None, IsTrue, IsCharBoundary}
+use Rattle.std.specs.Prelude.{ℕ, ◌+◌, ◌-◌, ◌≡◌, ◌⊎◌, Bool, true, false, not, ◌&&◌, ◌||◌, List, [], ◌∷◌, ◌++◌, length, take, codes, chars, slice_range, Option, Some, None, IsTrue, IsCharBoundary}
 use Rattle.std.specs.List.{All}
 use Rattle.js_base.specs.declared.kind.Kind.{Kind}
 use Rattle.js_base.specs.declared.kind.Kind.TheVariants.{RAngle, GtEq, ShiftRight, ShiftRightEq, ShiftRight3, ShiftRight3Eq, HashbangComment, Eof, Undetermined}
@@ -17,11 +17,11 @@ use Rattle.js_grammar.specs.Longest.{joined}
 use Rattle.js_grammar.specs.Lexemes.{LexicalGoal, division, hashbang, is_separated}
 use Rattle.js_grammar.specs.Lexed.{Stands, Lex, in_module, all_faults, passing_of}
 use Rattle.js_grammar.specs.RegularExpressions.{flags}
-use Rattle.js_grammar.specs.CoreTexts.{starts}
 use Rattle.js_grammar.specs.LexicalFaults.{behind, FaultyBehind}
 use Rattle.js_lex.specs.Comments.{comment_at, irregular_at, html_fault_at, each_at}
 use Rattle.js_lex.specs.Kept.{Grows}
 use Rattle.js_lex.specs.Places.{Word}
+use Rattle.js_lex.specs.Scans.{NoLexeme}
 use Rattle.js_lex.specs.States.{State, SameText}
 
 -- ---- a token and the lexeme that it tells
@@ -98,7 +98,7 @@ pub record GivesNext (goal : LexicalGoal) (old new : State) (t : Token) : Type 0
   pub grows : Grows old.kept new.kept (each_at (comment_at t.span.start) old.place pieces) (each_at irregular_at old.place pieces) (kept_token old.keeps_tokens t) (each_at (html_fault_at (in_a_module old.goal)) old.place pieces ++ faults)
   pub marked : All (λ d. FaultyBehind d.kind old.goal old.text old.place d.span.start d.span.end) (each_at (html_fault_at (in_a_module old.goal)) old.place pieces)
 
--- The first token: a hashbang comment, behind which nothing is kept, where the text begins with one; else the next token.
+-- The first token: a hashbang comment, behind which nothing is kept, where one stands at the text's start; else the next token.
 pub record GivesHashbang (old new : State) (t : Token) : Type 0 where
   pub same : SameText old new
   pub lies : LiesIn t.span old.text
@@ -107,7 +107,7 @@ pub record GivesHashbang (old new : State) (t : Token) : Type 0 where
   pub kept : new.kept ≡ old.kept
 
 abbrev pub GivesFirst : State → State → Token → Type 0
-GivesFirst old new t = elim (starts (codes "#!") old.text) [ true ↦ GivesHashbang old new t | false ↦ GivesNext division old new t ]
+GivesFirst old new t = GivesHashbang old new t ⊎ (NoLexeme hashbang old.text 0 × GivesNext division old new t)
 
 -- ---- to read a token again, by another lexical goal
 
