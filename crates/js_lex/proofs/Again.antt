@@ -113,32 +113,38 @@ again_none {goal = goal} {text = text} {s = s} source y given f l p h k =
 
 -- the token of a scan in place of the one that was given
 pub gives_again : {goal : LexicalGoal} (old new : State) (given t : Token) (scan : Result Scanned Fault) → IsUtf8 old.text → IsCharBoundary old.text given.span.start → Scans goal old.text given.span.start scan → SameText old new → new.place ≡ t.span.end → SettledAgain old.keeps_tokens given scan old.kept new.kept t → (faults : List Diagnostic) × GivesAgain goal old new given t [] faults
-gives_again {goal = goal} old new given t (Ok sc) u b h same place k = ([], subst (λ (z : Token). GivesAgain goal old new given z [] []) (sym k.0) (record {
-  same = same;
-  start = refl;
-  newline = refl;
-  place = place ∙ ap (λ (z : Token). z.span.end) k.0;
-  lies = record { ordered = (let e = h.stands.end in omega arith); starts_whole = b; ends_whole = h.stands.boundary };
-  outcome = λ s y between l tells. determined_outcome old.goal (λ z. z) (determined goal h.word (behind old.text sc.end) sc.kind h.lexeme.kind) (again_lexeme y given sc between.0 (passed u between l) tells h);
-  marked = λ s y between l tells k d e. absurd (omega arith);
-  comments = ap (λ (o : LexerOutput). o.comments) k.1;
-  blanks = ap (λ (o : LexerOutput). o.irregular_whitespaces) k.1;
-  tokens = ap (λ (o : LexerOutput). o.tokens) k.1 ∙ ap (λ (z : Token). relexed old.keeps_tokens old.kept.tokens z) k.0;
-  errors = ap (λ (o : LexerOutput). o.errors) k.1 ∙ sym (append-nil old.kept.errors);
-}))
-gives_again {goal = goal} old new given t (Err f) u b h same place k = (diagnostic_of f ∷ [], subst (λ (z : Token). GivesAgain goal old new given z [] (diagnostic_of f ∷ [])) (sym k.0) (record {
-  same = same;
-  start = refl;
-  newline = refl;
-  place = place ∙ ap (λ (z : Token). z.span.end) k.0;
-  lies = record { ordered = (let a = h.behind in let c = h.ordered in omega arith); starts_whole = b; ends_whole = h.ends_between };
-  outcome = λ s y between l tells. (diagnostic_of f, refl, again_none old.goal y given f between.0 (passed u between l) tells h);
-  marked = λ s y between l tells k d e. absurd (omega arith);
-  comments = k.1.comments_grow ∙ append-nil old.kept.comments;
-  blanks = k.1.blanks_grow ∙ append-nil old.kept.irregular_whitespaces;
-  tokens = k.1.tokens_grow ∙ append-nil old.kept.tokens ∙ sym (stays old.keeps_tokens);
-  errors = k.1.faults_grow;
-}))
+gives_again {goal = goal} old new given t (Ok sc) u b h same place k = (
+  [],
+  subst (λ (z : Token). GivesAgain goal old new given z [] []) (sym k.0) (record {
+    same = same;
+    start = refl;
+    newline = refl;
+    place = place ∙ ap (λ (z : Token). z.span.end) k.0;
+    lies = record { ordered = (let e = h.stands.end in omega arith); starts_whole = b; ends_whole = h.stands.boundary };
+    outcome = λ s y between l tells. determined_outcome old.goal (λ z. z) (determined goal h.word (behind old.text sc.end) sc.kind h.lexeme.kind) (again_lexeme y given sc between.0 (passed u between l) tells h);
+    marked = λ s y between l tells k d e. absurd (omega arith);
+    comments = ap (λ (o : LexerOutput). o.comments) k.1;
+    blanks = ap (λ (o : LexerOutput). o.irregular_whitespaces) k.1;
+    tokens = ap (λ (o : LexerOutput). o.tokens) k.1 ∙ ap (λ (z : Token). relexed old.keeps_tokens old.kept.tokens z) k.0;
+    errors = ap (λ (o : LexerOutput). o.errors) k.1 ∙ sym (append-nil old.kept.errors);
+  }),
+)
+gives_again {goal = goal} old new given t (Err f) u b h same place k = (
+  diagnostic_of f ∷ [],
+  subst (λ (z : Token). GivesAgain goal old new given z [] (diagnostic_of f ∷ [])) (sym k.0) (record {
+    same = same;
+    start = refl;
+    newline = refl;
+    place = place ∙ ap (λ (z : Token). z.span.end) k.0;
+    lies = record { ordered = (let a = h.behind in let c = h.ordered in omega arith); starts_whole = b; ends_whole = h.ends_between };
+    outcome = λ s y between l tells. (diagnostic_of f, refl, again_none old.goal y given f between.0 (passed u between l) tells h);
+    marked = λ s y between l tells k d e. absurd (omega arith);
+    comments = k.1.comments_grow ∙ append-nil old.kept.comments;
+    blanks = k.1.blanks_grow ∙ append-nil old.kept.irregular_whitespaces;
+    tokens = k.1.tokens_grow ∙ append-nil old.kept.tokens ∙ sym (stays old.keeps_tokens);
+    errors = k.1.faults_grow;
+  }),
+)
   where
     stays : (b : Bool) → relexed b old.kept.tokens (undetermined_of f given.span.start given.is_on_new_line) ≡ old.kept.tokens
     stays true = refl

@@ -14,7 +14,8 @@ use Rattle.js_grammar.proofs.Finding.{member, neither-left, neither-right}
 use Rattle.js_lex.specs.declared.number.Number.{Number}
 use Rattle.js_lex.specs.declared.number.Digits.{Digits}
 use Rattle.js_lex.specs.Places.{Word}
-use Rattle.js_lex.specs.Numbers.{goes_on, in_radix, Finds, Unstopped, IsRest, IsBroken, Reads, AreDigits}
+use Rattle.js_lex.specs.Numbers.{goes_on, Unstopped, IsRest, IsBroken, Reads, AreDigits}
+use Rattle.js_lex.specs.Places.{in_radix, Finds}
 use Rattle.js_lex.proofs.Places.{none_passed, then}
 use Rattle.js_lex.proofs.Numbers.{any-append, or-assoc, or-false, front-begins, decimal-on}
 

@@ -27,7 +27,8 @@ use Rattle.js_lex.specs.declared.number.Legacy.{Legacy}
 use Rattle.js_lex.specs.declared.scan.Fault.{Fault}
 use Rattle.js_lex.specs.Places.{Word}
 use Rattle.js_lex.specs.Scans.{IsScanned, IsStopped, NoLexeme}
-use Rattle.js_lex.specs.Numbers.{begins_number, goes_on, in_radix, Finds, Unstopped, IsRest, Reads, AreLegacy}
+use Rattle.js_lex.specs.Numbers.{begins_number, goes_on, Unstopped, IsRest, Reads, AreLegacy}
+use Rattle.js_lex.specs.Places.{in_radix, Finds}
 use Rattle.js_lex.proofs.Numbers.{decimal-on}
 use Rattle.js_lex.proofs.NumberRests.{behind_word, behind_one, behind_rejected, same_here, same_from_head, fronts_go_on, one_fails, head-is, front-of, stays}
 

@@ -13,7 +13,8 @@ use Rattle.js_grammar.proofs.Finding.{all-append}
 use Rattle.js_grammar.proofs.CoreLemmas.{below, implies, implied}
 use Rattle.js_grammar.proofs.CoreFirst.{decimal-ascii}
 use Rattle.js_lex.specs.Places.{Word}
-use Rattle.js_lex.specs.Numbers.{goes_on, in_radix, Finds, AreDigits, AreLegacy}
+use Rattle.js_lex.specs.Numbers.{goes_on, AreDigits, AreLegacy}
+use Rattle.js_lex.specs.Places.{in_radix, Finds}
 use Rattle.js_lex.proofs.Places.{none_passed, then}
 
 -- characters before which no number stops

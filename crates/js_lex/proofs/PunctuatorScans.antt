@@ -9,7 +9,7 @@ use Rattle.js_grammar.specs.Characters.{begins}
 use Rattle.js_grammar.specs.Lexemes.{punctuator_kind}
 use Rattle.js_grammar.specs.LexicalFaults.{behind}
 use Rattle.js_lex.specs.Places.{Word}
-use Rattle.js_lex.specs.Numbers.{Finds, in_radix}
+use Rattle.js_lex.specs.Places.{Finds, in_radix}
 use Rattle.js_lex.specs.Punctuators.{punctuator_of, opens_no_comment, IsPunctuator}
 use Rattle.js_lex.proofs.Places.{then}
 use Rattle.js_lex.proofs.Punctuators.{kind_none}

@@ -9,7 +9,7 @@ use Rattle.js_grammar.specs.LexicalFaults.{behind}
 use Rattle.js_lex.specs.declared.number.Number.{Number}
 use Rattle.js_lex.specs.declared.number.Digits.{Digits}
 use Rattle.js_lex.specs.declared.number.Legacy.{Legacy}
-use Rattle.js_lex.specs.Places.{Word}
+use Rattle.js_lex.specs.Places.{Word, in_radix}
 
 -- a digit, or a dot and a digit
 abbrev pub begins_number : List ℕ → Bool
@@ -19,15 +19,6 @@ begins_number (c ∷ cs) = is_decimal c || ((c == 46) && begins is_decimal cs)
 -- a character before which no number stops
 abbrev pub goes_on : ℕ → Bool
 goes_on c = is_decimal c || (is_identifier_start c || (c == 92))
-
--- a digit of a radix
-abbrev pub in_radix : ℕ → ℕ → Bool
-in_radix radix c = is_digit c radix
-
--- whether a character that passes stands at a place, and there it is
-abbrev pub Finds : (ℕ → Bool) → List ℕ → ℕ → Bool → Type 0
-Finds p text i true = (c : ℕ) × Word text i (i + 1) (c ∷ []) × (p c ≡ true)
-Finds p text i false = begins p (behind text i) ≡ false
 
 -- Of the fronts of the characters that are the rest of a number, the longest doesn't stop.
 abbrev pub Unstopped : Rest → List ℕ → Type 0

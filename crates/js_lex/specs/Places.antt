@@ -1,7 +1,7 @@
 -- Places of a text, in bytes, and the characters between two of them.
-use Rattle.std.specs.Prelude.{ℕ, ◌+◌, ◌≡◌, ◌<◌, ◌≤◌, List, [], ◌∷◌, ◌++◌, Option, Some, None, IsCharBoundary}
-use Rattle.std.specs.Char.{len_utf8}
-use Rattle.js_grammar.specs.Characters.{width}
+use Rattle.std.specs.Prelude.{ℕ, ◌+◌, ◌≡◌, ◌<◌, ◌≤◌, Bool, true, false, List, [], ◌∷◌, ◌++◌, Option, Some, None, IsCharBoundary}
+use Rattle.std.specs.Char.{len_utf8, is_digit}
+use Rattle.js_grammar.specs.Characters.{width, begins}
 use Rattle.js_grammar.specs.LexicalFaults.{behind}
 
 -- The characters w stand from the place i up to the place j.
@@ -30,3 +30,12 @@ PeeksAt text i (Some b) = Peeks text i b
 abbrev pub ReadsAt : List ℕ → ℕ → Option ℕ → Type 0
 ReadsAt text i None = behind text i ≡ []
 ReadsAt text i (Some c) = Word text i (i + len_utf8 c) (c ∷ [])
+
+-- a digit of a radix
+abbrev pub in_radix : ℕ → ℕ → Bool
+in_radix radix c = is_digit c radix
+
+-- whether a character that passes stands at a place, and there it is
+abbrev pub Finds : (ℕ → Bool) → List ℕ → ℕ → Bool → Type 0
+Finds p text i true = (c : ℕ) × Word text i (i + 1) (c ∷ []) × (p c ≡ true)
+Finds p text i false = begins p (behind text i) ≡ false

@@ -8,11 +8,12 @@ ghost use Rattle.js_grammar.specs.Characters.{begins};
 ghost use Rattle.js_grammar.specs.LexicalFaults.{behind};
 ghost use Rattle.js_grammar.specs.Lexemes.{division};
 ghost use Rattle.js_grammar.specs.Numbers.{stops_number, number_kind, zero_rest, integer_rest, decimal_rest, fraction, exponent, signed, digits, suffix, ends};
-ghost use Rattle.js_lex.specs.Numbers.{begins_number, in_radix, AreDigits, AreLegacy, Finds, Reads};
+ghost use Rattle.js_lex.specs.Places.{in_radix};
+ghost use Rattle.js_lex.specs.Numbers.{begins_number, AreDigits, AreLegacy, Reads};
 ghost use Rattle.js_lex.specs.Scans.{Scans};
 
 use crate::class::{is_identifier_part, is_identifier_start};
-use crate::place::{byte_at, char_at};
+use crate::place::{byte_at, char_at, digit_at, is_at, is_either_at};
 use crate::scan::{Fault, Scan, Scanned};
 use js_base::{DiagnosticKind, Kind};
 
@@ -371,42 +372,4 @@ fn legacy_digits_at(text: &str, at: usize) -> Legacy
         end += 1;
     }
     Legacy { end, above }
-}
-
-/// Whether an ASCII character stands at a place.
-pub(crate) fn is_at(text: &str, at: usize, byte: u8) -> bool
-    requires boundary { IsCharBoundary text.now at }
-    requires ascii { byte < 128 }
-    ensures { Finds (λ c. c == byte) text.now at result }
-{
-    match byte_at(text, at) {
-        Some(b) => b == byte,
-        None => false,
-    }
-}
-
-/// Whether one of two ASCII characters stands at a place.
-pub(crate) fn is_either_at(text: &str, at: usize, first: u8, second: u8) -> bool
-    requires boundary { IsCharBoundary text.now at }
-    requires ascii { first < 128 }
-    requires ascii_too { second < 128 }
-    ensures { Finds (one_of (first ∷ second ∷ [])) text.now at result }
-{
-    match byte_at(text, at) {
-        Some(b) => b == first || b == second,
-        None => false,
-    }
-}
-
-/// Whether a digit of a radix stands at a place (12.9.3).
-pub(crate) fn digit_at(text: &str, at: usize, radix: u32) -> bool
-    requires boundary { IsCharBoundary text.now at }
-    requires radix { 2 ≤ radix }
-    requires radix_within { radix ≤ 16 }
-    ensures { Finds (in_radix radix) text.now at result }
-{
-    match byte_at(text, at) {
-        Some(b) => char::from(b).is_digit(radix),
-        None => false,
-    }
 }

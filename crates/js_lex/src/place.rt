@@ -1,10 +1,11 @@
 //! Bytes and characters at a place of a text.
 
-ghost use Rattle.std.specs.Prelude.{◌≡◌, ◌+◌, ℕ, length, nat_lt, IsTrue, IsCharBoundary};
+ghost use Rattle.std.specs.Prelude.{◌≡◌, ◌≤◌, ◌<◌, ◌+◌, ◌==◌, ℕ, [], ◌∷◌, length, nat_lt, IsTrue, IsCharBoundary};
 ghost use Rattle.std.specs.List.{list_all};
+ghost use Rattle.js_base.specs.Characters.{one_of};
 ghost use Rattle.js_grammar.specs.CoreTexts.{starts};
 ghost use Rattle.js_grammar.specs.LexicalFaults.{behind};
-ghost use Rattle.js_lex.specs.Places.{Word, PeeksAt, ReadsAt};
+ghost use Rattle.js_lex.specs.Places.{Word, PeeksAt, ReadsAt, Finds, in_radix};
 
 /// The byte at a place, or none at the end of the text.
 #[inline]
@@ -43,4 +44,42 @@ pub(crate) fn goes_on(text: &str, at: usize, characters: &[u8]) -> bool
         }
     }
     true
+}
+
+/// Whether an ASCII character stands at a place.
+pub(crate) fn is_at(text: &str, at: usize, byte: u8) -> bool
+    requires boundary { IsCharBoundary text.now at }
+    requires ascii { byte < 128 }
+    ensures { Finds (λ c. c == byte) text.now at result }
+{
+    match byte_at(text, at) {
+        Some(b) => b == byte,
+        None => false,
+    }
+}
+
+/// Whether one of two ASCII characters stands at a place.
+pub(crate) fn is_either_at(text: &str, at: usize, first: u8, second: u8) -> bool
+    requires boundary { IsCharBoundary text.now at }
+    requires ascii { first < 128 }
+    requires ascii_too { second < 128 }
+    ensures { Finds (one_of (first ∷ second ∷ [])) text.now at result }
+{
+    match byte_at(text, at) {
+        Some(b) => b == first || b == second,
+        None => false,
+    }
+}
+
+/// Whether a digit of a radix stands at a place (12.9.3).
+pub(crate) fn digit_at(text: &str, at: usize, radix: u32) -> bool
+    requires boundary { IsCharBoundary text.now at }
+    requires radix { 2 ≤ radix }
+    requires radix_within { radix ≤ 16 }
+    ensures { Finds (in_radix radix) text.now at result }
+{
+    match byte_at(text, at) {
+        Some(b) => char::from(b).is_digit(radix),
+        None => false,
+    }
 }

@@ -9,8 +9,7 @@ ghost use Rattle.js_lex.specs.Places.{Word};
 ghost use Rattle.js_lex.specs.Punctuators.{punctuator_of, OpensPunctuator, BeginsNone, begins_no_comment, opens_no_comment, is_free, IsPunctuator, ReadsPunctuator};
 ghost use Rattle.js_lex.specs.Scans.{Scans, IsStopped};
 
-use crate::number::{digit_at, is_at};
-use crate::place::{byte_at, char_at};
+use crate::place::{byte_at, char_at, digit_at, is_at};
 use crate::scan::{Fault, Scan, Scanned};
 use js_base::{DiagnosticKind, Kind};
 
