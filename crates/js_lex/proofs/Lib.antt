@@ -34,3 +34,4 @@ pub mod Punctuators
 pub mod FlagFaults
 pub mod Marks
 pub mod ReadAgain
+pub mod Given

@@ -87,6 +87,7 @@ relexed keeps ts t = elim (keeps && is_kept t.kind) [ true ↦ replaced ts t | f
 -- The next token: trivia is passed, as much as stands there, and the lexeme of the goal behind it is given, or none. Each HTML-like comment that is kept as a fault in a module is one behind the old place.
 pub record GivesNext (goal : LexicalGoal) (old new : State) (t : Token) : Type 0 where
   pub same : SameText old new
+  pub between : IsCharBoundary old.text old.place
   pub pieces : List (List ℕ)
   pub stands : Stands old.text old.place pieces [] (behind old.text t.span.start)
   pub start : t.span.start ≡ old.place + width (joined pieces)

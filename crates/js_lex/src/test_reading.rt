@@ -85,10 +85,10 @@ pub fn next_regular_expression<C: LexerConfig>(
     lexer: &mut Lexer<'_, C>,
 ) -> Result<Option<(Token, u32)>, NoMemory> {
     let token = lexer.next_token()?;
-    if token.kind() == Kind::Slash || token.kind() == Kind::SlashEq {
-        return Ok(Some(lexer.re_lex_regex(token)?));
+    match token.kind() {
+        Kind::Slash | Kind::SlashEq => Ok(Some(lexer.re_lex_regex(token)?)),
+        _ => Ok(None),
     }
-    Ok(None)
 }
 
 /// Writes a name and a span, behind what was written.
