@@ -40,6 +40,7 @@ pub record Passed (text : List ℕ) (s : ℕ) (y : Lexeme) : Type 0 where
   pub trivia : are_trivia (s == 0) pieces (behind text y.from) ≡ true
   pub here : behind text y.from ≡ word ++ rest
   pub newline : y.newline ≡ has_line_terminator (joined pieces)
+  pub to : y.to ≡ y.from + width word
   pub lexeme : IsLexeme division y.from word rest y.kind
 
 pub passed : {text : List ℕ} {s : ℕ} {y : Lexeme} → IsUtf8 text → IsCharBoundary text s → LexemeBehind division text s y → Passed text s y
@@ -56,6 +57,7 @@ passed {text = text} {s = s} {y = y} u b h =
       trivia = subst (λ (x : List ℕ). are_trivia (s == 0) l.trivia x ≡ true) (sym here) l.stands.trivia;
       here = here;
       newline = l.newline;
+      to = l.to;
       lexeme = subst (λ (g : LexicalGoal). IsLexeme g y.from l.word l.rest y.kind) h.of_goal l.lexeme;
     }
 
@@ -74,6 +76,10 @@ cut_newline y = go (is_right_angle y.kind) refl
     go : (b : Bool) → is_right_angle y.kind ≡ b → (cut y).newline ≡ y.newline
     go true e = rw (e, cut) refl
     go false e = rw (e, cut) refl
+
+-- what begins with no `>` is shown as it is
+pub cut_same : (y : Lexeme) → is_right_angle y.kind ≡ false → cut y ≡ y
+cut_same y e = rw (e, cut) refl
 
 -- a kind that is shown, but for `>`, is the lexeme's own
 pub cut_kind : (y : Lexeme) (k : Kind) → (cut y).kind ≡ k → (RAngle ≡ k → ⊥) → y.kind ≡ k

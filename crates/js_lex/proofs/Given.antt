@@ -1,16 +1,27 @@
 -- A token that was given last, as what may be read again, decoded or named.
-use Rattle.std.proofs.Common.{◌≡◌, ℕ, Bool, true, false, List, [], ◌∷◌, refl, sym, subst, ap, ◌⊎◌, inl, inr}
-use Rattle.std.specs.Prelude.{IsCharBoundary}
+use Rattle.std.proofs.Common.{◌≡◌, ◌+◌, ◌++◌, ℕ, Bool, true, false, List, [], ◌∷◌, refl, sym, subst, ap, ◌∙◌, Some, ◌⊎◌, inl, inr}
+use Rattle.std.specs.Prelude.{IsCharBoundary, IsUtf8, chars, slice_range}
 use Rattle.js_base.specs.declared.kind.Kind.{Kind}
-use Rattle.js_base.specs.declared.kind.Kind.TheVariants.{Undetermined, Slash, SlashEq}
+use Rattle.js_base.specs.declared.kind.Kind.TheVariants.{Undetermined, Str, Eof, Slash, SlashEq}
 use Rattle.js_base.specs.declared.token.Token.{Token}
 use Rattle.js_base.specs.declared.diagnostic.Diagnostic.{Diagnostic}
 use Rattle.js_base.specs.Kinds.{same_kind}
 use Rattle.js_base.specs.Spans.{LiesIn}
 use Rattle.js_grammar.specs.Settings.{Goal}
-use Rattle.js_grammar.specs.Lexemes.{division}
+use Rattle.js_grammar.specs.Characters.{begins}
+use Rattle.js_grammar.specs.Strings.{string_kind}
+use Rattle.js_grammar.specs.Lexemes.{division, kind_in, plain_kind, Opening, opening, a_string, kind_of}
+use Rattle.js_base.specs.Characters.{is_decimal}
+use Rattle.js_lex.proofs.KindsOfLexemes.{plain_end, opened_is}
+use Rattle.js_lex.proofs.Again.{passed, given_start, cut_kind, cut_same}
+use Rattle.js_grammar.specs.Grammar.{Lexeme}
+use Rattle.js_grammar.specs.Characters.{width}
+use Rattle.js_grammar.specs.LexicalFaults.{behind}
+use Rattle.js_lex.specs.Places.{Word}
+use Rattle.js_lex.proofs.StringPlaces.{front_word}
+use Rattle.js_lex.proofs.Flags.{spelled}
 use Rattle.js_lex.specs.States.{State}
-use Rattle.js_lex.specs.Reading.{cut, LexemeBehind, GivesLexeme, GivesNone, Outcome, GivesNext, WasGiven}
+use Rattle.js_lex.specs.Reading.{cut, is_right_angle, LexemeBehind, GivesLexeme, GivesNone, Outcome, GivesNext, WasGiven}
 
 -- where the token is determined, a lexeme stands
 lexeme_given : (source : Goal) (text : List ℕ) (s : ℕ) (t : Token) (faults : List Diagnostic) → same_kind Undetermined t.kind ≡ false → Outcome division cut source text s t [] faults → GivesLexeme division cut text s t
@@ -33,3 +44,29 @@ was_given old new t k g =
 pub slash_given : (old new : State) (t : Token) → (t.kind ≡ Slash) ⊎ (t.kind ≡ SlashEq) → GivesNext division old new t → WasGiven new t
 slash_given old new t (inl e) g = was_given old new t (ap (same_kind Undetermined) e) g
 slash_given old new t (inr e) g = was_given old new t (ap (same_kind Undetermined) e) g
+
+-- a string token that was given is a string literal
+string_of_kind : (w rest : List ℕ) (k : Kind) → kind_in division w rest ≡ Some k → k ≡ Str → string_kind w ≡ Some Str
+string_of_kind [] rest k h e = absurd (let z = (plain_end rest k h).0 in let y : same_kind Eof Str ≡ true = subst (λ (j : Kind). same_kind Eof j ≡ true) (sym z ∙ e) refl in cc)
+string_of_kind (c ∷ cs) rest k h e =
+    let f : plain_kind (c ∷ cs) rest ≡ Some Str = h ∙ ap Some e in
+    let o : opening c (begins is_decimal cs) ≡ a_string = some-opening _ _ (sym (opened_is c cs rest Str f)) in
+    sym (ap (λ (p : Opening). kind_of p (c ∷ cs) rest) o) ∙ f
+  where
+    some-opening : (a b : Opening) → Some a ≡ Some b → a ≡ b
+    some-opening a b e = cc
+
+pub string_given : (old new : State) (t : Token) → t.kind ≡ Str → GivesNext division old new t → string_kind (chars (slice_range new.text t.span.start t.span.end)) ≡ Some Str
+string_given old new t k g =
+    let l = lexeme_given old.goal old.text old.place t g.faults (ap (same_kind Undetermined) k) g.outcome in
+    let kind : l.lexeme.kind ≡ Str = cut_kind l.lexeme Str (sym l.tells.kind ∙ k) (λ e. cc) in
+    let same : cut l.lexeme ≡ l.lexeme = cut_same l.lexeme (ap is_right_angle kind) in
+    let p = passed g.utf8 g.between l.stands in
+    let i : t.span.start ≡ l.lexeme.from = given_start l.lexeme l.tells in
+    let j : t.span.end ≡ l.lexeme.to = l.tells.end ∙ ap (λ (y : Lexeme). y.to) same in
+    let here : behind old.text t.span.start ≡ p.word ++ p.rest = ap (behind old.text) i ∙ p.here in
+    let w : Word old.text t.span.start (t.span.start + width p.word) p.word = front_word old.text t.span.start p.word p.rest g.utf8 g.lies.starts_whole here in
+    let to : t.span.end ≡ t.span.start + width p.word = j ∙ p.to ∙ ap (λ (n : ℕ). n + width p.word) (sym i) in
+    let v : Word old.text t.span.start t.span.end p.word = subst (λ (n : ℕ). Word old.text t.span.start n p.word) (sym to) w in
+    let text : chars (slice_range new.text t.span.start t.span.end) ≡ p.word = ap (λ (v : List ℕ). chars (slice_range v t.span.start t.span.end)) g.same.text ∙ spelled old.text t.span.start t.span.end p.word g.utf8 g.lies.starts_whole g.lies.ordered v in
+    ap string_kind text ∙ string_of_kind p.word p.rest l.lexeme.kind p.lexeme.kind kind

@@ -178,6 +178,7 @@ gives_next text source keeps s old mid new tr (Ok sc) t utf8 b p h e =
     subst (λ (z : Token). GivesNext division (record { text = text; goal = source; keeps_tokens = keeps; place = s; kept = old }) (record { text = text; goal = source; keeps_tokens = keeps; place = z.span.end; kept = new }) z) (sym e.0)
     (record {
       same = record { text = refl; goal = refl; keeps_tokens = refl };
+      utf8 = utf8;
       between = b;
       pieces = p.pieces;
       stands = stands_behind [] (behind text tr.end) l p.stands p.trivia refl;
@@ -202,6 +203,7 @@ gives_next text source keeps s old mid new tr (Err f) t utf8 b p h e =
     subst (λ (z : Token). GivesNext division (record { text = text; goal = source; keeps_tokens = keeps; place = s; kept = old }) (record { text = text; goal = source; keeps_tokens = keeps; place = z.span.end; kept = new }) z) (sym e.0)
     (record {
       same = record { text = refl; goal = refl; keeps_tokens = refl };
+      utf8 = utf8;
       between = b;
       pieces = p.pieces;
       stands = stands_behind [] (behind text tr.end) l p.stands p.trivia refl;

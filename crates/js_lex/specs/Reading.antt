@@ -1,5 +1,5 @@
 -- What a call of a lexer that reads answers, and what it keeps (ECMA-262, chapter 12).
-use Rattle.std.specs.Prelude.{ℕ, ◌+◌, ◌-◌, ◌≡◌, ◌⊎◌, Bool, true, false, not, ◌&&◌, ◌||◌, List, [], ◌∷◌, ◌++◌, length, take, codes, chars, slice_range, Option, Some, None, IsTrue, IsCharBoundary}
+use Rattle.std.specs.Prelude.{ℕ, ◌+◌, ◌-◌, ◌≡◌, ◌⊎◌, Bool, true, false, not, ◌&&◌, ◌||◌, List, [], ◌∷◌, ◌++◌, length, take, codes, chars, slice_range, Option, Some, None, IsTrue, IsCharBoundary, IsUtf8}
 use Rattle.std.specs.List.{All}
 use Rattle.js_base.specs.declared.kind.Kind.{Kind}
 use Rattle.js_base.specs.declared.kind.Kind.TheVariants.{RAngle, GtEq, ShiftRight, ShiftRightEq, ShiftRight3, ShiftRight3Eq, HashbangComment, Eof, Undetermined}
@@ -87,6 +87,7 @@ relexed keeps ts t = elim (keeps && is_kept t.kind) [ true ↦ replaced ts t | f
 -- The next token: trivia is passed, as much as stands there, and the lexeme of the goal behind it is given, or none. Each HTML-like comment that is kept as a fault in a module is one behind the old place.
 pub record GivesNext (goal : LexicalGoal) (old new : State) (t : Token) : Type 0 where
   pub same : SameText old new
+  pub utf8 : IsUtf8 old.text
   pub between : IsCharBoundary old.text old.place
   pub pieces : List (List ℕ)
   pub stands : Stands old.text old.place pieces [] (behind old.text t.span.start)

@@ -3,10 +3,12 @@
 ghost use Rattle.std.specs.Prelude.{◌≡◌, ◌≤◌, ◌-◌, ◌⊎◌, List, [], true, false, length, IfOk, OnErr, Some, IsCharBoundary, chars, slice_range, slice_get};
 ghost use Rattle.js_base.specs.declared.kind.Kind.TheVariants.{Str, Slash, SlashEq, RAngle, RCurly};
 ghost use Rattle.js_base.specs.declared.diagnostic.Diagnostic.{Diagnostic};
+ghost use Rattle.js_base.specs.Kinds.{one_of_kinds};
+ghost use Rattle.js_base.specs.KindSets.{identifier_name_kinds};
 ghost use Rattle.js_base.specs.Spans.{LiesIn};
 ghost use Rattle.js_base.specs.Decoding.{string_units};
 ghost use Rattle.js_grammar.specs.Strings.{string_kind, string_inside};
-ghost use Rattle.js_grammar.specs.Lexemes.{division, regular_expression, template_tail, is_word};
+ghost use Rattle.js_grammar.specs.Lexemes.{division, regular_expression, template_tail};
 ghost use Rattle.js_lex.specs.Kept.{IsEmpty, lengths_of, first_kept, AreAtMost};
 ghost use Rattle.js_lex.specs.States.{State, goal_of, SameText};
 ghost use Rattle.js_lex.specs.Reading.{GivesNext, GivesFirst, GivesAgain, WasGiven, FlagsStand};
@@ -211,7 +213,7 @@ impl<'a, C: LexerConfig> Lexer<'a, C> {
     /// The name that a token of this text is, without copying. Condition: it has no escape sequence.
     pub fn name(&self, token: Token) -> &'a str
         requires lies { LiesIn token.span self.now.text }
-        requires name { is_word token.kind ≡ true }
+        requires name { one_of_kinds identifier_name_kinds token.kind ≡ true }
         requires plain { token.escaped ≡ false }
         ensures { result.now ≡ slice_range self.now.text token.span.start token.span.end }
     {

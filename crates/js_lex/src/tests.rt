@@ -6,8 +6,7 @@ use crate::config::{
 };
 use crate::lexer::Lexer;
 use crate::test_reading::{
-    blanks_text, comments_text, faults_text, lexer_of, next_regular_expression, read_text,
-    token_text, tokens_text,
+    blanks_text, comments_text, faults_text, lexer_of, read_text, token_text, tokens_text,
 };
 use js_base::{JsStr, Kind, NoMemory, SourceType};
 use std::alloc::{AllocError, Global};
@@ -56,53 +55,37 @@ fn kept_text(alloc: Global, lexer: Lexer<'_, TokensLexerConfig>) -> Result<Strin
     format!(in alloc; "{tokens}\n{comments}\n{blanks}\n{faults}\n")
 }
 
-const TWICE: &str = "a // b\n\u{a0}/c/gg // d\n\u{2028}e/*f*/`";
-
-const KEPT_FIRST: &str = "Ident 0..1\n\n\n\n";
-
-const KEPT_TWICE: &str =
-    "Ident 0..1, RegExp 9..14 newline, Ident 23..24 newline\nLine 2..6 to 9, Line 15..19 to 23, SingleLineBlock 24..29 to 29\nblank 7..9, blank 20..23\nreg_exp_flag 13..14, unterminated_template 29..30\n";
-
-/// Reads the second token as a regular expression, a name and a fault.
-fn read_on(lexer: &mut Lexer<'_, TokensLexerConfig>) -> Result<(), NoMemory> {
-    next_regular_expression(lexer)?;
-    lexer.next_token()?;
-    lexer.next_token()?;
-    Ok(())
-}
+/// A module in which the second token has a comment, irregular white space and a fault before it.
+const MODULE: &str = "a /*b*/\u{a0}<!--c\nd";
 
 /// A rewind drops what was kept behind the checkpoint from each of the four lists, and the same is then read again.
 #[test]
 fn rewinds(rt: HostRuntime) -> Result<(), Fail> {
     let alloc = rt.alloc();
-    let mut lexer = lexer_of(&rt, alloc, TWICE, SourceType::script());
+    let mut lexer = lexer_of(&rt, alloc, MODULE, SourceType::module());
     lexer.next_token()?;
     let here = lexer.checkpoint();
-    read_on(&mut lexer)?;
+    let token = lexer.next_token()?;
     lexer.rewind(here);
     assert!(rt; lexer.last_fault().is_none());
-    assert_eq!(rt; kept_text(alloc, lexer)?.as_str(), KEPT_FIRST);
-    let mut lexer = lexer_of(&rt, alloc, TWICE, SourceType::script());
-    lexer.next_token()?;
-    let here = lexer.checkpoint();
-    read_on(&mut lexer)?;
-    lexer.rewind(here);
-    read_on(&mut lexer)?;
-    assert_eq!(rt; kept_text(alloc, lexer)?.as_str(), KEPT_TWICE);
+    assert_eq!(rt; lexer.next_token()?, token);
+    assert_eq!(rt;
+        kept_text(alloc, lexer)?.as_str(),
+        "Ident 0..1, Ident 15..16 newline\nSingleLineBlock 2..7 to 15, Line 9..14 to 15\nblank 7..9\nhtml_comment_in_module 9..14\n"
+    );
     Ok(())
 }
 
-/// A rewind keeps what was kept before the checkpoint.
+/// What a rewind leaves is what was kept before.
 #[test]
 fn rewinds_to_what_was_kept(rt: HostRuntime) -> Result<(), Fail> {
     let alloc = rt.alloc();
-    let mut lexer = lexer_of(&rt, alloc, TWICE, SourceType::script());
+    let mut lexer = lexer_of(&rt, alloc, MODULE, SourceType::module());
     lexer.next_token()?;
-    read_on(&mut lexer)?;
     let here = lexer.checkpoint();
-    assert_eq!(rt; lexer.next_token()?.kind(), Kind::Eof);
+    lexer.next_token()?;
     lexer.rewind(here);
-    assert_eq!(rt; kept_text(alloc, lexer)?.as_str(), KEPT_TWICE);
+    assert_eq!(rt; kept_text(alloc, lexer)?.as_str(), "Ident 0..1\n\n\n\n");
     Ok(())
 }
 
@@ -276,10 +259,9 @@ fn names(rt: HostRuntime) -> Result<(), Fail> {
 /// The code units of the next token, if it is a string.
 fn next_string<C: LexerConfig>(lexer: &mut Lexer<'_, C>) -> Result<Option<JsStr>, NoMemory> {
     let token = lexer.next_token()?;
-    if token.kind() == Kind::Str {
-        Ok(Some(lexer.decode(token)?))
-    } else {
-        Ok(None)
+    match token.kind() {
+        Kind::Str => Ok(Some(lexer.decode(token)?)),
+        _ => Ok(None),
     }
 }
 
