@@ -1,27 +1,25 @@
 -- A token that is read again by another lexical goal.
-use Rattle.std.proofs.Common.{◌≡◌, ◌<◌, ◌≤◌, ℕ, ◌+◌, ◌==◌, Bool, true, false, List, [], ◌∷◌, ◌++◌, refl, sym, ap, subst, ◌∙◌, not, ◌&&◌, ◌||◌, length, arith, append_assoc, append-nil, Option, Some, None, ◌⊎◌, inl, inr}
+use Rattle.std.proofs.Common.{◌≡◌, ◌≤◌, ℕ, ◌+◌, ◌==◌, Bool, true, false, List, [], ◌∷◌, ◌++◌, refl, sym, ap, subst, ◌∙◌, length, arith, append-nil, Some}
 use Rattle.std.specs.Prelude.{IsTrue, IsCharBoundary, IsUtf8, IfOk, Result, Ok, Err}
 use Rattle.js_base.specs.declared.kind.Kind.{Kind}
-use Rattle.js_base.specs.declared.kind.Kind.TheVariants.{RAngle, RCurly, Slash, SlashEq, Eof, Undetermined}
+use Rattle.js_base.specs.declared.kind.Kind.TheVariants.{RAngle, RCurly}
 use Rattle.js_base.specs.declared.token.Token.{Token}
 use Rattle.js_base.specs.declared.diagnostic.Diagnostic.{Diagnostic}
-use Rattle.js_base.specs.Kinds.{same_kind}
-use Rattle.js_base.specs.Spans.{LiesIn}
 use Rattle.js_grammar.specs.Grammar.{Lexeme}
 use Rattle.js_grammar.specs.Settings.{Goal}
 use Rattle.js_grammar.specs.Characters.{has_line_terminator, width}
 use Rattle.js_grammar.specs.Longest.{none_begins, joined}
 use Rattle.js_grammar.specs.Trivia.{is_trivia_piece, are_trivia}
 use Rattle.js_grammar.specs.Lexemes.{LexicalGoal, division, kind_in}
-use Rattle.js_grammar.specs.Lexed.{Lex, IsLexeme, all_faults}
+use Rattle.js_grammar.specs.Lexed.{IsLexeme}
 use Rattle.js_grammar.specs.LexicalFaults.{behind}
 use Rattle.js_lex.specs.declared.scan.Scanned.{Scanned}
 use Rattle.js_lex.specs.declared.scan.Fault.{Fault}
 use Rattle.js_lex.specs.declared.output.LexerOutput.{LexerOutput}
 use Rattle.js_lex.specs.Places.{Word}
-use Rattle.js_lex.specs.Scans.{IsScanned, IsStopped, NoLexeme, Scans}
+use Rattle.js_lex.specs.Scans.{IsScanned, IsStopped, Scans}
 use Rattle.js_lex.specs.States.{State, SameText}
-use Rattle.js_lex.specs.Reading.{is_right_angle, cut, Tells, LexemeBehind, GivesLexeme, GivesNone, Outcome, WasGiven, GivesAgain, relexed}
+use Rattle.js_lex.specs.Reading.{is_right_angle, cut, Tells, LexemeBehind, GivesLexeme, GivesNone, WasGiven, GivesAgain, relexed}
 use Rattle.js_lex.specs.Settling.{token_of, undetermined_of, diagnostic_of, Fits, SettledAgain, ScanEnds}
 use Rattle.js_lex.proofs.KindsOfLexemes.{determined, plain_end, brace_word}
 use Rattle.js_lex.proofs.StringPlaces.{front_word}

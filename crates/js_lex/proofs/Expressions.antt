@@ -1,14 +1,14 @@
 -- A slash that is read again as a regular expression.
-use Rattle.std.proofs.Common.{◌≡◌, ◌<◌, ◌≤◌, ℕ, ◌+◌, ◌==◌, Bool, true, false, List, [], ◌∷◌, ◌++◌, refl, sym, ap, subst, ◌∙◌, length, arith, append-nil, Some, ◌⊎◌, inl, inr}
+use Rattle.std.proofs.Common.{◌≡◌, ℕ, ◌+◌, ◌==◌, Bool, true, false, List, [], ◌∷◌, ◌++◌, refl, sym, ap, subst, ◌∙◌, arith, append-nil, Some, ◌⊎◌, inl, inr}
 use Rattle.std.specs.Prelude.{IsCharBoundary, IsUtf8, codes}
 use Rattle.js_base.specs.declared.kind.Kind.{Kind}
-use Rattle.js_base.specs.declared.kind.Kind.TheVariants.{RAngle, Slash, SlashEq, RegExp, Undetermined}
+use Rattle.js_base.specs.declared.kind.Kind.TheVariants.{Slash, SlashEq, RegExp, Undetermined}
 use Rattle.js_base.specs.declared.token.Token.{Token}
 use Rattle.js_base.specs.declared.diagnostic.Diagnostic.{Diagnostic}
 use Rattle.js_base.specs.Characters.{one_of}
 use Rattle.js_base.specs.Kinds.{same_kind}
 use Rattle.js_grammar.specs.Grammar.{Lexeme}
-use Rattle.js_grammar.specs.Characters.{has_line_terminator, begins, width}
+use Rattle.js_grammar.specs.Characters.{begins}
 use Rattle.js_grammar.specs.Longest.{joined}
 use Rattle.js_grammar.specs.Trivia.{are_trivia}
 use Rattle.js_grammar.specs.Lexemes.{division, regular_expression, kind_in}
@@ -17,13 +17,13 @@ use Rattle.js_lex.specs.declared.scan.Scanned.{Scanned}
 use Rattle.js_lex.specs.Places.{Word}
 use Rattle.js_lex.specs.States.{State, SameText}
 use Rattle.js_lex.specs.Reading.{cut, Tells, LexemeBehind, GivesLexeme, GivesNone, Outcome, WasGiven, GivesAgain, FlagsStand, flag_faults, relexed}
-use Rattle.js_lex.specs.Settling.{token_of, undetermined_of, IsReadAgain, IsFoundAgain, IsStoppedAgain}
+use Rattle.js_lex.specs.Settling.{token_of, IsReadAgain}
 use Rattle.js_lex.proofs.KindsOfLexemes.{plain_end, slash_word, slash_equals_word, no_comment_opens}
 use Rattle.js_lex.proofs.StringPlaces.{front_word}
 use Rattle.js_lex.proofs.Flags.{spelled}
 use Rattle.js_lex.proofs.Marks.{flags_marked, pattern_boundary}
 use Rattle.js_lex.proofs.Giving.{lexeme_behind}
-use Rattle.js_lex.proofs.Again.{Passed, passed, given_start, cut_kind, again_lexeme, gives_again, cancel}
+use Rattle.js_lex.proofs.Again.{passed, given_start, cut_kind, again_lexeme, gives_again, cancel}
 
 -- ---- the slash that was given
 

@@ -1,16 +1,15 @@
 -- The first token of a text.
-use Rattle.std.proofs.Common.{◌≡◌, ◌≤◌, ℕ, ◌+◌, Bool, true, false, List, [], ◌∷◌, ◌++◌, refl, sym, ap, subst, ◌∙◌, length, arith, Some, None, ◌⊎◌, inl, inr}
-use Rattle.std.specs.Prelude.{IsCharBoundary, IsUtf8, IfOk, Result, Ok, Err, is_some}
+use Rattle.std.proofs.Common.{◌≡◌, ℕ, true, false, List, [], ◌∷◌, ◌++◌, refl, sym, ap, subst, ◌∙◌, arith, Some, inr}
+use Rattle.std.specs.Prelude.{IsUtf8, IfOk, Result, Ok, Err, is_some}
 use Rattle.js_base.specs.declared.kind.Kind.{Kind}
 use Rattle.js_base.specs.declared.token.Token.{Token}
 use Rattle.js_grammar.specs.Trivia.{are_trivia}
 use Rattle.js_grammar.specs.Lexemes.{hashbang, hashbang_kind, division, kind_in}
 use Rattle.js_grammar.specs.LexicalFaults.{behind}
 use Rattle.js_lex.specs.declared.scan.Scanned.{Scanned}
-use Rattle.js_lex.specs.Places.{Word}
 use Rattle.js_lex.specs.Scans.{IsScanned, NoLexeme}
 use Rattle.js_lex.specs.States.{State, SameText}
-use Rattle.js_lex.specs.Reading.{GivesHashbang, GivesFirst, GivesNext, GivesLexeme}
+use Rattle.js_lex.specs.Reading.{GivesHashbang, GivesFirst, GivesNext}
 use Rattle.js_lex.specs.Settling.{token_of}
 use Rattle.std.proofs.lemmas.Str.{IsCharBoundary-start}
 use Rattle.js_lex.proofs.Places.{none_passed}

@@ -1,6 +1,6 @@
 -- A token that was given last, as what may be read again, decoded or named.
 use Rattle.std.proofs.Common.{◌≡◌, ◌+◌, ◌++◌, ℕ, Bool, true, false, List, [], ◌∷◌, refl, sym, subst, ap, ◌∙◌, Some, ◌⊎◌, inl, inr}
-use Rattle.std.specs.Prelude.{IsCharBoundary, IsUtf8, chars, slice_range}
+use Rattle.std.specs.Prelude.{IsCharBoundary, chars, slice_range}
 use Rattle.js_base.specs.declared.kind.Kind.{Kind}
 use Rattle.js_base.specs.declared.kind.Kind.TheVariants.{Undetermined, Str, Eof, Slash, SlashEq}
 use Rattle.js_base.specs.declared.token.Token.{Token}

@@ -1,5 +1,7 @@
 //! How the tests read a text: what was given and kept, written as text.
 
+ghost use Rattle.std.specs.Prelude.{◌≡◌};
+
 use crate::comment::{CommentKind, Comments};
 use crate::config::{LexerConfig, TokensLexerConfig};
 use crate::lexer::Lexer;
@@ -26,7 +28,10 @@ pub fn lexer_of<'a>(
     alloc: Global,
     text: &'a str,
     source_type: SourceType,
-) -> Lexer<'a, TokensLexerConfig> {
+) -> Lexer<'a, TokensLexerConfig>
+    ensures text { result.text ≡ text.now }
+    ensures place { result.place ≡ 0 }
+{
     assert!(rt; text.len() <= MAX_LEN);
     Lexer::new(alloc, text, source_type, TokensLexerConfig)
 }

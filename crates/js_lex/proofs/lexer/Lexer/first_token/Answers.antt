@@ -1,6 +1,5 @@
-use Rattle.std.proofs.Common.{sym, subst, ap, inl, refl, Some, ◌∙◌}
+use Rattle.std.proofs.Common.{subst, ap, inl, refl, Some, ◌∙◌}
 use Rattle.std.specs.Prelude.{IsUtf8}
-use Rattle.js_grammar.specs.LexicalFaults.{behind}
 use Rattle.js_lex.specs.States.{State}
 use Rattle.js_lex.proofs.KindsOfLexemes.{hashbang_is}
 use Rattle.js_lex.proofs.Firsts.{gives_hashbang, ok_first, hashbang_for, none_for}

@@ -1,4 +1,4 @@
-use Rattle.std.proofs.Common.{sym, subst, ap}
+use Rattle.std.proofs.Common.{subst, ap}
 use Rattle.std.specs.Prelude.{IsUtf8}
 use Rattle.js_grammar.specs.Lexemes.{template_tail}
 use Rattle.js_lex.specs.States.{State}
