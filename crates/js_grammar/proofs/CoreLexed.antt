@@ -13,7 +13,7 @@ use Rattle.js_grammar.specs.Numbers.{is_number, stops_number}
 use Rattle.js_grammar.specs.RegularExpressions.{flags, flagged, flags_pass, behind_pattern}
 use Rattle.js_grammar.specs.Templates.{template_tail_kind}
 use Rattle.js_grammar.specs.Lexemes.{LexicalGoal, division, regular_expression, template_tail, hashbang, kind_in, lexemes_in}
-use Rattle.js_grammar.specs.Lexing.{Lexes}
+use Rattle.js_grammar.specs.Lexed.{Lexes}
 use Rattle.js_grammar.specs.Lexed.{Passing, in_script, in_module, all_faults, passing_of, Lex, Stands, comments_pass, flags_right, ends_once}
 use Rattle.js_grammar.specs.LexicalLaws.{OneList}
 use Rattle.js_grammar.specs.CoreTexts.{CoreSource, are_core, ends_in_glue, occurs}

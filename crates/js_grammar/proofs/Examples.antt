@@ -2,18 +2,19 @@
 use Rattle.std.proofs.Common.{ℕ, ◌≡◌, ◌<◌, ◌≤◌, ◌⊎◌, inl, inr, Bool, true, false, not, List, [], refl, ap, sym, ◌∙◌, subst, arith}
 use Rattle.std.specs.Prelude.{codes}
 use Rattle.std.proofs.lemmas.Bool.{and_parts, false≢true}
-use Rattle.js_base.specs.declared.kind.Kind.TheVariants.{LParen, RParen, Semicolon, Plus, Minus, Star, Ident, Eof}
-use Rattle.js_base.specs.Kinds.{same_kind}
+use Rattle.js_base.specs.declared.kind.Kind.TheVariants.{LParen, RParen, Semicolon, Plus, Plus2, Minus, Star, Ident, Eof}
+use Rattle.js_base.specs.Kinds.{same_kind, one_of_kinds}
 use Rattle.js_base.proofs.KindLemmas.{kind_of_same}
 use Rattle.js_base.specs.Texts.{punctuators, words}
 use Rattle.js_base.specs.Keywords.{keyword_of}
 use Rattle.js_grammar.specs.Trees.{expression_statement, Label, Slots, tree, Tree}
 use Rattle.js_grammar.specs.Grammar.{Lexeme, Lexemes, last, next, here, seen, may_omit, Derives}
-use Rattle.js_grammar.specs.Table.{rule, rule_of, at, Program, script_flags}
-use Rattle.js_grammar.specs.Insertion.{continues}
-use Rattle.js_grammar.specs.Lexing.{lexeme_of, Lex, Lexes, is_longest}
-use Rattle.js_grammar.specs.Readings.{IsReading}
-use Rattle.js_grammar.specs.Examples.{sum_text, sum_tree, call_text, call_tree, call_lexemes, two_statements, semicolon_text, semicolon_tree, product_text, product_tree}
+use Rattle.js_grammar.specs.FirstLanguageTable.{rule, rule_of, at, Program, script_flags}
+use Rattle.js_grammar.specs.FirstLanguageInsertion.{continues}
+use Rattle.js_grammar.specs.FirstLanguageLexing.{lexeme_of, Lex, is_longest, first_punctuators, a_name, a_number, a_punctuator, the_end}
+use Rattle.js_grammar.specs.Lexed.{Lexes}
+use Rattle.js_grammar.specs.FirstLanguageReadings.{IsReading}
+use Rattle.js_grammar.specs.FirstLanguageExamples.{sum_text, sum_tree, call_text, call_tree, call_lexemes, two_statements, semicolon_text, semicolon_tree, product_text, product_tree}
 use Rattle.js_grammar.proofs.Looks.{differ}
 use Rattle.js_grammar.proofs.Calculus.{here_at}
 use Rattle.js_grammar.proofs.Lexemes.{one_lexeme, placed}
@@ -92,9 +93,16 @@ pub product_reads : IsReading product_text product_tree
 unfolding rule rule_of
 product_reads = reads product_text product_tree product_lexemes product_lexed refl
 
+-- No lexeme of the first language is a `++`.
+no_update : {text : List ℕ} (s : ℕ) (y : Lexeme) → Lex text s y → y.kind ≡ Plus2 → ⊥
+no_update s y (a_name g n) e = absurd (cc)
+no_update s y (a_number g n) e = absurd (cc)
+no_update s y (a_punctuator {k = k} g p) e = false≢true (subst (λ v. one_of_kinds first_punctuators v ≡ true) e p.one_of)
+no_update s y (the_end g i) e = absurd (cc)
+
 -- Where a text begins with the name `a` and behind it there stands what no semicolon may be left out before, no expression statement ends behind `a`.
 module _ (text : List ℕ) (y : Lexeme) (one : Lex text 0 (lexeme_of Ident 0 1 false (codes "a"))) (two : Lex text 1 y) (goes_on : seen (may_omit (continues false)) y ≡ false) where
-  no_place : Ending (Lex text) script_flags 1 → ⊥
+  no_place : Ending (Lex text) no_update script_flags 1 → ⊥
   no_place (j, next x ls, l, by_semicolon p e) =
       let k : Semicolon ≡ x.kind = kind_of_same Semicolon x.kind (and_parts (same_kind Semicolon x.kind) (not x.escaped) p).0 in
       let y = placed l.0 in
@@ -108,7 +116,7 @@ module _ (text : List ℕ) (y : Lexeme) (one : Lex text 0 (lexeme_of Ident 0 1 f
       false≢true (sym goes_on ∙ subst (λ v. seen (may_omit (continues false)) v ≡ true) q p)
 
   none_early : (ls rest : Lexemes) (j : ℕ) (l m : Label) (slots more : Slots) → Lexes (Lex text) 0 ls → Derives rule (at Program script_flags) (record { label = l; slots = tree m slots more }) 0 ls j rest → m.kind ≡ expression_statement → m.span.to ≡ 1 → ⊥
-  none_early ls rest j l m slots more lx d k e = no_place (subst (Ending (Lex text) script_flags) e (first_ends (Lex text) script_flags d refl k lx))
+  none_early ls rest j l m slots more lx d k e = no_place (subst (Ending (Lex text) no_update script_flags) e (first_ends (Lex text) no_update script_flags d refl k lx))
 
   none_read : (l m : Label) (slots more : Slots) → IsReading text (record { label = l; slots = tree m slots more }) → m.kind ≡ expression_statement → m.span.to ≡ 1 → ⊥
   none_read l m slots more r k e = none_early r.lexemes _ r.end l m slots more r.lexed r.derived k e

@@ -3,8 +3,8 @@ use Rattle.std.proofs.Common.{ℕ, ◌≡◌, ◌⊎◌, inl, inr, true, ◌&&�
 use Rattle.std.proofs.lemmas.Bool.{or_left, or_right, and_from}
 use Rattle.js_grammar.specs.Trees.{Slots, Tree}
 use Rattle.js_grammar.specs.Grammar.{Lexemes, here, Look, seen, Grammar, nothing, never, lexeme, look, text, ahead, empty_slot, seq, alt, when, many, commas, such, marked, node, ended, keep, kept, Takes, Derives, is_nothing, is_lexeme, is_look, is_text, is_ahead, is_empty_slot, is_seq, is_left, is_right, is_when, is_many, is_commas, is_such, is_marked, is_node, is_ended, is_keep, is_kept}
-use Rattle.js_grammar.specs.Table.{Flags, Name, Symbol, rule, rule_of, at, Program, Item, Empty, ExprStmt, Expression, Additive, Multiply, Unary, LeftHandSide, Member, Call, Primary, IdentifierReference}
-pub use Rattle.js_grammar.specs.FirstSets.{first_of, first}
+use Rattle.js_grammar.specs.FirstLanguageTable.{Flags, Name, Symbol, rule, rule_of, at, Program, Item, Empty, ExprStmt, Expression, Additive, Multiply, Unary, Update, LeftHandSide, Member, Call, Primary, IdentifierReference}
+pub use Rattle.js_grammar.specs.FirstLanguageFirstSets.{first_of, first}
 use Rattle.js_grammar.proofs.Looks.{full, none, either, covers, covered}
 
 -- what may stand first, where F stands after: a condition on flags is let go
@@ -39,6 +39,7 @@ first_at Expression f = refl
 first_at Additive f = refl
 first_at Multiply f = refl
 first_at Unary f = refl
+first_at Update f = refl
 first_at LeftHandSide f = refl
 first_at Member f = refl
 first_at Call f = refl

@@ -11,10 +11,11 @@ use Rattle.js_base.specs.Kinds.{code, same_kind, one_of_kinds}
 use Rattle.js_base.specs.Keywords.{keyword_of}
 use Rattle.js_base.specs.Texts.{text_of, words, punctuators}
 use Rattle.js_grammar.specs.Grammar.{Lexeme, Lexemes, last, next}
-use Rattle.js_grammar.specs.Lexing.{is_newline, is_trivia, is_digit, is_name_start, is_name_part, Gap, IsName, IsNumber, IsPunctuator, begins, none_longer, is_longest, first_punctuators, Lexes}
-use Rattle.js_grammar.specs.Lexing.{a_name, a_number, the_end}
-use Rattle.js_grammar.specs.Lexing.{a_punctuator as punctuator_stands}
-use Rattle.js_grammar.specs.Lexing.{Lex as FirstLex}
+use Rattle.js_grammar.specs.FirstLanguageLexing.{is_newline, is_trivia, is_digit, is_name_start, is_name_part, Gap, IsName, IsNumber, IsPunctuator, begins, none_longer, is_longest, first_punctuators}
+use Rattle.js_grammar.specs.Lexed.{Lexes}
+use Rattle.js_grammar.specs.FirstLanguageLexing.{a_name, a_number, the_end}
+use Rattle.js_grammar.specs.FirstLanguageLexing.{a_punctuator as punctuator_stands}
+use Rattle.js_grammar.specs.FirstLanguageLexing.{Lex as FirstLex}
 use Rattle.js_base.specs.Characters.{one_of, is_line_terminator, is_decimal}
 use Rattle.js_grammar.specs.Characters.{width, has_line_terminator, is_identifier_start, is_identifier_part}
 use Rattle.js_grammar.specs.Characters.{begins as begins_with}

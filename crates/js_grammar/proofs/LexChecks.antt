@@ -8,7 +8,7 @@ use Rattle.js_base.specs.Kinds.{same_kind, one_of_kinds}
 use Rattle.js_base.proofs.KindLemmas.{kind_of_same}
 use Rattle.js_base.specs.Texts.{text_of}
 use Rattle.js_base.specs.Keywords.{keyword_of}
-use Rattle.js_grammar.specs.Lexing.{lexeme_of, is_newline, is_trivia, is_name_start, is_name_part, Run, Gap, is_longest, first_punctuators, Lex, a_name, a_punctuator, the_end}
+use Rattle.js_grammar.specs.FirstLanguageLexing.{lexeme_of, is_newline, is_trivia, is_name_start, is_name_part, Run, Gap, is_longest, first_punctuators, Lex, a_name, a_punctuator, the_end}
 
 -- the n bytes from i on pass the test
 abbrev pub passes_from : (ℕ → Bool) → List ℕ → ℕ → ℕ → Bool

@@ -9,7 +9,7 @@ use Rattle.js_base.specs.Keywords.{keyword_of}
 use Rattle.js_grammar.specs.Grammar.{Lexeme, Lexemes, last, next, here}
 use Rattle.js_base.specs.Characters.{one_of}
 use Rattle.js_grammar.specs.Longest.{longest, none_longer}
-use Rattle.js_grammar.specs.Lexing.{Lexes}
+use Rattle.js_grammar.specs.Lexed.{Lexes}
 use Rattle.js_grammar.specs.Lexemes.{LexicalGoal, division, regular_expression, template_tail, hashbang, lexemes_in, kind_in}
 use Rattle.js_grammar.specs.Lexed.{Lex, Lexed, ends_once, Passing, in_script, in_module, comments_pass, flags_right, Stands}
 use Rattle.js_grammar.specs.Settings.{script, module_goal}

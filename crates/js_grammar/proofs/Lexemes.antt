@@ -10,7 +10,7 @@ use Rattle.js_base.proofs.KindLemmas.{kind_of_same}
 use Rattle.js_base.specs.Texts.{text_of, punctuators}
 use Rattle.js_grammar.specs.Grammar.{Lexeme}
 use Rattle.js_grammar.proofs.Looks.{differ}
-use Rattle.js_grammar.specs.Lexing.{lexeme_of, is_digit, is_name_start, is_name_part, Run, Gap, IsName, IsNumber, begins, is_longest, first_punctuators, signed, punctuator_of, IsPunctuator, Lex, a_name, a_number, a_punctuator, the_end}
+use Rattle.js_grammar.specs.FirstLanguageLexing.{lexeme_of, is_digit, is_name_start, is_name_part, Run, Gap, IsName, IsNumber, begins, is_longest, first_punctuators, signed, punctuator_of, IsPunctuator, Lex, a_name, a_number, a_punctuator, the_end}
 
 pub one_run : {test : ℕ → Bool} {text : List ℕ} {i a b : ℕ} → Run test text i a → Run test text i b → a ≡ b
 one_run {test} {text} {i} {a} {b} r t = elim (cases_order a b) [

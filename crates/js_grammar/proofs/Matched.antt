@@ -7,7 +7,7 @@ use Rattle.js_base.specs.Kinds.{same_kind}
 use Rattle.js_base.proofs.KindLemmas.{kind_of_same}
 use Rattle.js_grammar.specs.Trees.{Tree, Slots}
 use Rattle.js_grammar.specs.Grammar.{Lexeme, Lexemes, next, Look, seen, is, Grammar, nothing, never, lexeme, look, text, ahead, empty_slot, seq, alt, when, many, commas, such, marked, node, ended, keep, kept, Takes, Derives, is_nothing, is_lexeme, is_look, is_text, is_ahead, is_empty_slot, is_seq, is_left, is_right, is_when, is_many, is_commas, is_such, is_marked, is_node, is_ended, is_keep, is_kept}
-use Rattle.js_grammar.specs.Table.{Flags, Name, Symbol, rule, rule_of, Program, Item, Empty, ExprStmt, Expression, Additive, Multiply, Unary, LeftHandSide, Member, Call, Primary, IdentifierReference}
+use Rattle.js_grammar.specs.FirstLanguageTable.{Flags, Name, Symbol, rule, rule_of, Program, Item, Empty, ExprStmt, Expression, Additive, Multiply, Unary, Update, LeftHandSide, Member, Call, Primary, IdentifierReference}
 use Rattle.js_grammar.specs.Brackets.{plain, opens, closes, pop, bracket, move, Runs, stop, go_on}
 use Rattle.js_grammar.proofs.Looks.{apart, covers, covered, not_both}
 
@@ -94,6 +94,7 @@ rules_match Expression f = refl
 rules_match Additive f = refl
 rules_match Multiply f = refl
 rules_match Unary f = refl
+rules_match Update f = refl
 rules_match LeftHandSide f = refl
 rules_match Member f = refl
 rules_match Call f = refl

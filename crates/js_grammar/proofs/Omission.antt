@@ -5,7 +5,7 @@ use Rattle.js_base.specs.declared.kind.Kind.TheVariants.{RCurly, Semicolon, Eof,
 use Rattle.js_base.specs.Kinds.{same_kind, one_of_kinds}
 use Rattle.js_grammar.specs.Trees.{Slots}
 use Rattle.js_grammar.specs.Grammar.{Lexeme, Look, seen, may_omit}
-use Rattle.js_grammar.specs.Insertion.{continues, after_expression, permitted_core}
+use Rattle.js_grammar.specs.FirstLanguageInsertion.{continues, after_expression, permitted_core}
 use Rattle.js_grammar.proofs.Looks.{covers, covered}
 
 -- the rule by two lexemes, behind one that is no `++` or `--`

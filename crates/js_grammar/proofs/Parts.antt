@@ -1,7 +1,7 @@
 -- Parts of a list of lexemes: they can be joined where they meet, and cut at every lexeme.
 use Rattle.std.proofs.Common.{ℕ, List, refl}
 use Rattle.js_grammar.specs.Grammar.{Lexeme, Lexemes, last, next}
-use Rattle.js_grammar.specs.Lexing.{Lexes}
+use Rattle.js_grammar.specs.Lexed.{Lexes}
 use Rattle.js_grammar.specs.Lexed.{end_of, join, Passing, all_faults, Lex}
 
 -- what may be next behind a place

@@ -6,7 +6,7 @@ use Rattle.std.proofs.Math.Seq.{drop-cons, drop-length, take-append_seam}
 use Rattle.std.proofs.Math.ListN.{get_or-append}
 use Rattle.std.proofs.lemmas.List.{get_or-drop}
 use Rattle.std.proofs.lemmas.Str.{len_utf8_ascii, chars-IsAscii}
-use Rattle.js_grammar.specs.Lexing.{Run}
+use Rattle.js_grammar.specs.FirstLanguageLexing.{Run}
 use Rattle.js_grammar.specs.Characters.{width}
 use Rattle.js_grammar.proofs.LongestLemmas.{both-left, both-right, both}
 use Rattle.js_grammar.proofs.CoreFirst.{lt-true}

@@ -1,40 +1,23 @@
 -- What a derivation of Program says of its first statement.
-use Rattle.std.proofs.Common.{ℕ, ◌≡◌, false, IsTrue, ap}
+use Rattle.std.proofs.Common.{ℕ, ◌≡◌, true, false, IsTrue, refl, ap, subst}
 use Rattle.js_base.specs.declared.kind.Kind.TheVariants.{Semicolon}
 use Rattle.js_grammar.specs.Trees.{expression_statement, empty_statement, Label, Slots, end, tree}
-use Rattle.js_grammar.specs.Grammar.{Lexeme, Lexemes, next, here, seen, is, may_omit, Grammar, many, Takes, is_nothing, is_lexeme, is_look, is_text, is_ahead, is_empty_slot, is_seq, is_left, is_right, is_when, is_many, is_commas, is_such, is_marked, is_node, is_ended, is_keep, is_kept}
-use Rattle.js_grammar.specs.Table.{Flags, rule, rule_of, Program, Item, Empty, ExprStmt, sym}
-use Rattle.js_grammar.specs.Insertion.{continues}
-use Rattle.js_grammar.specs.Lexing.{Lexes}
+use Rattle.js_grammar.specs.Grammar.{Lexeme, Lexemes, next, here, seen, is, may_omit, many, Takes, is_nothing, is_lexeme, is_look, is_seq, is_left, is_right, is_many, is_such, is_node, is_ended}
+use Rattle.js_grammar.specs.FirstLanguageTable.{Flags, rule, rule_of, Program, Item, Empty, ExprStmt, sym}
+use Rattle.js_grammar.specs.FirstLanguageInsertion.{continues}
+use Rattle.js_grammar.specs.Lexed.{Lexes}
+use Rattle.js_base.specs.declared.kind.Kind.TheVariants.{Plus2}
+use Rattle.js_grammar.specs.FirstLanguageEdges.{is_postfix}
+use Rattle.js_grammar.proofs.Behind.{lexed_behind}
 use Rattle.js_grammar.proofs.Calculus.{label_is, slots_are}
-
--- Behind what is taken from lexemes that stand one behind the other, the others do too.
-pub lexed_behind : {N : Type 0} {rules : N → Grammar N} (Lex : ℕ → Lexeme → Type 0) {g : Grammar N} {ks ts us : Slots} {i j : ℕ} {ls rest : Lexemes} → Takes rules g ks ts i ls us j rest → Lexes Lex i ls → Lexes Lex j rest
-lexed_behind Lex is_nothing l = l
-lexed_behind Lex (is_lexeme p) l = l.1
-lexed_behind Lex (is_look p) l = l
-lexed_behind Lex (is_text p) l = l
-lexed_behind Lex (is_ahead d) l = l
-lexed_behind Lex is_empty_slot l = l
-lexed_behind Lex (is_seq d e) l = lexed_behind Lex e (lexed_behind Lex d l)
-lexed_behind Lex (is_left d) l = lexed_behind Lex d l
-lexed_behind Lex (is_right d) l = lexed_behind Lex d l
-lexed_behind Lex (is_when c d) l = lexed_behind Lex d l
-lexed_behind Lex (is_many d) l = lexed_behind Lex d l
-lexed_behind Lex (is_commas d) l = lexed_behind Lex d l
-lexed_behind Lex (is_such d c) l = lexed_behind Lex d l
-lexed_behind Lex (is_marked d) l = lexed_behind Lex d l
-lexed_behind Lex (is_node d) l = lexed_behind Lex d l
-lexed_behind Lex (is_ended q d e) l = lexed_behind Lex e (lexed_behind Lex d l)
-lexed_behind Lex (is_keep d e) l = lexed_behind Lex e (lexed_behind Lex d l)
-lexed_behind Lex (is_kept q) l = l
+use Rattle.js_grammar.proofs.Calm.{no_postfix_edge}
 
 -- A place and the lexemes behind it where a statement may end that ends at the place k: with a semicolon, or without one.
 pub data EndsAt (k j : ℕ) : Lexemes → Type 0 where
   by_semicolon : {x : Lexeme} {ls : Lexemes} → IsTrue (seen (is Semicolon) x) → x.to ≡ k → EndsAt k j (next x ls)
   by_none : {ls : Lexemes} → IsTrue (seen (may_omit (continues false)) (here ls)) → j ≡ k → EndsAt k j ls
 
-module _ (Lex : ℕ → Lexeme → Type 0) (f : Flags) where
+module _ (Lex : ℕ → Lexeme → Type 0) (none : (s : ℕ) (y : Lexeme) → Lex s y → y.kind ≡ Plus2 → ⊥) (f : Flags) where
   -- some place where a statement may end
   abbrev pub Ending : ℕ → Type 0
   Ending k = (j : ℕ) × (ls : Lexemes) × Lexes Lex j ls × EndsAt k j ls
@@ -42,7 +25,7 @@ module _ (Lex : ℕ → Lexeme → Type 0) (f : Flags) where
   statement_ends : {ks ts us ds vs : Slots} {m : Label} {i j : ℕ} {ls rest : Lexemes} → Takes rule (rule (record { name = ExprStmt; flags = f })) ks ts i ls us j rest → ts ≡ tree m ds vs → Lexes Lex i ls → Ending m.span.to
   unfolding rule rule_of
   statement_ends (is_node (is_ended {j = j} {mid = mid} q d (is_left (is_lexeme p)))) e l = (j, mid, lexed_behind Lex d l, by_semicolon p (ap (λ v. v.span.to) (label_is e)))
-  statement_ends (is_node (is_ended {j = j} {mid = mid} q d (is_right (is_look p)))) e l = (j, mid, lexed_behind Lex d l, by_none p (ap (λ v. v.span.to) (label_is e)))
+  statement_ends (is_node (is_ended {j = j} {mid = mid} q d (is_right (is_look p)))) e l = (j, mid, lexed_behind Lex d l, by_none (subst (λ v. seen (may_omit (continues (is_postfix v))) (here mid) ≡ true) (no_postfix_edge Lex none d l refl) p) (ap (λ v. v.span.to) (label_is e)))
 
   no_empty : {ks ts us ds vs : Slots} {m : Label} {i j : ℕ} {ls rest : Lexemes} → Takes rule (rule (record { name = Empty; flags = f })) ks ts i ls us j rest → ts ≡ tree m ds vs → m.kind ≡ expression_statement → ⊥
   unfolding rule rule_of

@@ -3,7 +3,7 @@ use Rattle.std.proofs.Common.{ℕ, zero, suc, ◌≡◌, ◌≤◌, ◌+◌, ◌
 use Rattle.js_base.specs.declared.kind.Kind.{Kind}
 use Rattle.js_grammar.specs.Trees.{NodeKind, Op, of, Label, Slots, end, hole, tree}
 use Rattle.js_grammar.specs.Grammar.{here, Lexemes, Make, exact, Grammar, never, lexeme, is, seq, alt, when, such, node, Takes, is_seq, is_left, is_right, is_when, is_such, is_node}
-use Rattle.js_grammar.specs.Table.{Symbol, G, rule, always, branches}
+use Rattle.js_grammar.specs.FirstLanguageTable.{Symbol, G, rule, always, branches}
 
 -- A link: a node around what stands before it, and the part that follows.
 pub record Link (N : Type 0) : Type 0 where

@@ -4,7 +4,6 @@ use Rattle.js_base.specs.declared.kind.Kind.{Kind}
 use Rattle.js_base.specs.declared.kind.Kind.TheVariants.{RegExp, Eof}
 use Rattle.js_base.specs.Kinds.{same_kind}
 use Rattle.js_grammar.specs.Grammar.{Lexeme, Lexemes, last, next}
-use Rattle.js_grammar.specs.Lexing.{Lexes}
 use Rattle.js_grammar.specs.Settings.{Goal, module_goal}
 use Rattle.js_grammar.specs.Characters.{width, has_line_terminator}
 use Rattle.js_grammar.specs.Longest.{longest, joined}
@@ -57,6 +56,11 @@ pub record Lex (passing : Passing) (text : List ℕ) (s : ℕ) (y : Lexeme) : Ty
   pub newline : y.newline ≡ has_line_terminator (joined trivia)
   pub escaped : y.escaped ≡ is_escaped y.kind word
   pub units : y.units ≡ units_of y.kind word
+
+-- Lexemes one behind the other, from a place on. The last may be any, so that a fault further on changes nothing.
+abbrev pub Lexes : (ℕ → Lexeme → Type 0) → ℕ → Lexemes → Type 0
+Lexes lex s (last x) = lex s x
+Lexes lex s (next x ls) = lex s x × Lexes lex x.to ls
 
 -- the end of the last lexeme
 abbrev pub end_of : Lexemes → ℕ

@@ -17,7 +17,7 @@ use Rattle.js_grammar.specs.Strings.{nothing_left, closes_string}
 use Rattle.js_grammar.specs.Templates.{template_kind, template_tail_kind}
 use Rattle.js_grammar.specs.RegularExpressions.{flags}
 use Rattle.js_grammar.specs.Lexemes.{lexemes_in, division, regular_expression}
-use Rattle.js_grammar.specs.Lexing.{Lexes}
+use Rattle.js_grammar.specs.Lexed.{Lexes}
 use Rattle.js_grammar.specs.Lexed.{Stands, Lex, end_of, all_faults, in_module, passing_of}
 use Rattle.js_grammar.specs.CoreTexts.{starts}
 

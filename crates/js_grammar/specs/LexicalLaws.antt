@@ -6,8 +6,8 @@ use Rattle.ucd_category.specs.declared.GeneralCategory.TheVariants.{SpaceSeparat
 use Rattle.js_base.specs.Characters.{one_of}
 use Rattle.js_grammar.specs.Characters.{is_white_space, is_identifier_start, is_identifier_part}
 use Rattle.js_grammar.specs.Grammar.{Lexeme, Lexemes}
-use Rattle.js_grammar.specs.Lexing.{Lexes}
-use Rattle.js_grammar.specs.Lexing.{Lex as FirstLex}
+use Rattle.js_grammar.specs.Lexed.{Lexes}
+use Rattle.js_grammar.specs.FirstLanguageLexing.{Lex as FirstLex}
 use Rattle.js_grammar.specs.Lexed.{Passing, all_faults, Lex, Stands, Lexed, end_of, join, ends_once}
 use Rattle.js_grammar.specs.Settings.{Goal}
 use Rattle.js_grammar.specs.CoreTexts.{CoreSource}

@@ -1,10 +1,10 @@
 -- What it is that a grammar's part is read from a place of a text on, or can't be.
-use Rattle.std.specs.Prelude.{ℕ, ◌≡◌, ◌≤◌, ◌⊎◌, IsTrue}
+use Rattle.std.specs.Prelude.{ℕ, ◌≡◌, ◌≤◌, ◌⊎◌, true, IsTrue, max}
 use Rattle.js_base.specs.declared.kind.Kind.TheVariants.{Eof}
 use Rattle.js_grammar.specs.Trees.{Slots}
 use Rattle.js_grammar.specs.Grammar.{Lexeme, Lexemes, last, next, here, Look, seen, nothing, Takes}
-use Rattle.js_grammar.specs.Table.{G, rule}
-use Rattle.js_grammar.specs.Lexing.{Lexes}
+use Rattle.js_grammar.specs.FirstLanguageTable.{G, rule}
+use Rattle.js_grammar.specs.Lexed.{Lexes}
 
 abbrev pub T : G → Slots → Slots → ℕ → Lexemes → Slots → ℕ → Lexemes → Type 0
 T = Takes rule
@@ -14,19 +14,55 @@ abbrev pub Reaches : ℕ → ℕ → Lexemes → Type 0
 Reaches e s (last x) = (e ≤ s) ⊎ (x.kind ≡ Eof)
 Reaches e s (next x ls) = Reaches e x.to ls
 
--- what reaches a place reaches it with more lexemes before
-abbrev pub Extends : ℕ → Lexemes → ℕ → Lexemes → Type 0
-Extends s ls s' ls' = (e : ℕ) → Reaches e s' ls' → Reaches e s ls
+-- What is passed on the way from one place to another: how far the list was looked along, and the lexemes, put before those from there on.
+pub record Way : Type 0 where
+  pub reach : ℕ
+  pub pass : Lexemes → Lexemes
 
--- With the slots ks kept, to read g from the place s, where F stands behind it, is to read g' from the place s', with the slots that f puts before.
--- Sound: what follows can be completed, where it reaches as far as was looked, to the place `reach`. Only: whatever is taken from s goes this way.
-pub record Goes (Lex : ℕ → Lexeme → Type 0) (F : Look) (ks : Slots) (g : G) (s : ℕ) (g' : G) (s' : ℕ) (f : Slots → Slots) (reach : ℕ) : Type 0 where
-  pub sound : (us vs : Slots) (k : ℕ) (ls' rest : Lexemes) → Lexes Lex s' ls' → Reaches reach s' ls' → T g' ks us s' ls' vs k rest → (ls : Lexemes) × Lexes Lex s ls × Extends s ls s' ls' × T g ks (f us) s ls vs k rest
-  pub only : (ts vs : Slots) (k : ℕ) (ls rest : Lexemes) → Lexes Lex s ls → T g ks ts s ls vs k rest → IsTrue (seen F (here rest)) → (us : Slots) × (ls' : Lexemes) × (ts ≡ f us) × Lexes Lex s' ls' × T g' ks us s' ls' vs k rest
+-- no lexeme is passed
+abbrev pub still : ℕ → Way
+still n = record { reach = n; pass = λ ls. ls }
+
+abbrev pub passing : Lexeme → Way
+passing x = record { reach = 0; pass = λ ls. next x ls }
+
+abbrev pub joined : Way → Way → Way
+joined a b = record { reach = max a.reach b.reach; pass = λ ls. a.pass (b.pass ls) }
+
+-- The lexemes stand between the places s and s': before lexemes from s' on they are lexemes from s on, which reach as far.
+pub record Passes (Lex : ℕ → Lexeme → Type 0) (s s' : ℕ) (pass : Lexemes → Lexemes) : Type 0 where
+  pub lexed : (ls : Lexemes) → Lexes Lex s' ls → Lexes Lex s (pass ls)
+  pub reaches : (e : ℕ) (ls : Lexemes) → Reaches e s' ls → Reaches e s (pass ls)
+
+-- What may stand behind what is read: by the next lexeme alone, on which checks compute, and by the slots that were read as well.
+pub record Test : Type 0 where
+  pub base : Look
+  pub by : Slots → Look
+
+abbrev pub any_slots : Slots → Look
+any_slots ts k w e = true
+
+abbrev pub plain : Look → Test
+plain F = record { base = F; by = any_slots }
+
+-- the test of what is read behind the slots that f puts before
+abbrev pub behind : Test → (Slots → Slots) → Test
+behind X f = record { base = X.base; by = λ us. X.by (f us) }
+
+-- behind these slots this lexeme may stand
+abbrev pub Admits : Test → Slots → Lexeme → Type 0
+Admits X ts y = IsTrue (seen X.base y) × IsTrue (seen (X.by ts) y)
+
+-- With the slots ks kept, to read g from the place s, where X stands behind it, is to read g' from the place s', with the slots that f puts before, and over the lexemes passed.
+-- Sound: what follows can be completed, where it reaches as far as was looked. Only: whatever is taken from s, and ends where its own slots permit, goes this way, over these lexemes.
+pub record Goes (Lex : ℕ → Lexeme → Type 0) (X : Test) (ks : Slots) (g : G) (s : ℕ) (g' : G) (s' : ℕ) (f : Slots → Slots) (way : Way) : Type 0 where
+  pub passes : Passes Lex s s' way.pass
+  pub sound : (us vs : Slots) (k : ℕ) (ls rest : Lexemes) → Lexes Lex s' ls → Reaches way.reach s' ls → T g' ks us s' ls vs k rest → T g ks (f us) s (way.pass ls) vs k rest
+  pub only : (ts vs : Slots) (k : ℕ) (ls rest : Lexemes) → Lexes Lex s ls → T g ks ts s ls vs k rest → Admits X ts (here rest) → (us : Slots) × (ls' : Lexemes) × (ts ≡ f us) × Lexes Lex s' ls' × T g' ks us s' ls' vs k rest × (ls ≡ way.pass ls')
 
 -- It is read whole, up to the place s'.
-abbrev pub Reads : (ℕ → Lexeme → Type 0) → Look → Slots → G → ℕ → ℕ → (Slots → Slots) → ℕ → Type 0
-Reads Lex F ks g s s' f reach = Goes Lex F ks g s nothing s' f reach
+abbrev pub Reads : (ℕ → Lexeme → Type 0) → Test → Slots → G → ℕ → ℕ → (Slots → Slots) → Way → Type 0
+Reads Lex X ks g s s' f way = Goes Lex X ks g s nothing s' f way
 
-pub record Fails (Lex : ℕ → Lexeme → Type 0) (F : Look) (ks : Slots) (g : G) (s : ℕ) : Type 0 where
-  pub no : (ts vs : Slots) (k : ℕ) (ls rest : Lexemes) → Lexes Lex s ls → T g ks ts s ls vs k rest → IsTrue (seen F (here rest)) → ⊥
+pub record Fails (Lex : ℕ → Lexeme → Type 0) (X : Test) (ks : Slots) (g : G) (s : ℕ) : Type 0 where
+  pub no : (ts vs : Slots) (k : ℕ) (ls rest : Lexemes) → Lexes Lex s ls → T g ks ts s ls vs k rest → Admits X ts (here rest) → ⊥

@@ -1,6 +1,6 @@
 //! Laws about the definitions in `specs/`: each function's contract is one, and its call computes nothing.
 
-ghost use Rattle.js_grammar.specs.Laws.{OneLexeme, BracketsMatch, BeginsWithFirst, ProgramBegins, OmissionAgrees, SumGoesOn, CallGoesOn, CallIsOneStatement, CallLexemesAreOneStatement, SemicolonEnds, ProductReads, NoneEndsEarly};
+ghost use Rattle.js_grammar.specs.FirstLanguageLaws.{OneLexeme, BracketsMatch, BeginsWithFirst, ProgramBegins, OmissionAgrees, SumGoesOn, CallGoesOn, CallIsOneStatement, CallLexemesAreOneStatement, SemicolonEnds, ProductReads, NoneEndsEarly};
 
 /// At most one lexeme stands behind a place of a text.
 pub fn law_one_lexeme()

@@ -8,7 +8,7 @@ use Rattle.js_base.specs.declared.kind.Kind.TheVariants.{Ident, Decimal, Eof, Un
 use Rattle.js_base.specs.declared.TheConstants.{MAX_LEN}
 use Rattle.js_base.specs.Keywords.{keyword_of}
 use Rattle.js_grammar.specs.Grammar.{Lexeme}
-use Rattle.js_grammar.specs.Lexing.{is_digit, is_name_start, is_name_part, Run, Gap, IsName, IsNumber, IsPunctuator, Lex, a_name, a_number, a_punctuator, the_end}
+use Rattle.js_grammar.specs.FirstLanguageLexing.{is_digit, is_name_start, is_name_part, Run, Gap, IsName, IsNumber, IsPunctuator, Lex, a_name, a_number, a_punctuator, the_end}
 use Rattle.js_grammar.proofs.Looks.{differ}
 use Rattle.js_grammar.proofs.Lexemes.{one_run, same_gap, punctuator_at, punctuator_kind, name_start_kind, digit_kind, name_kind, number_kind, a_punctuator_here, no_six, single_byte, not_undetermined, one_lexeme, placed}
 use Rattle.jsparse.specs.Tokens.{Agrees, TokenAt, Begins, a_name_begins, a_number_begins, a_punctuator_begins, nothing_begins, token_of}

@@ -2,7 +2,7 @@
 use Rattle.std.proofs.Common.{ℕ, ◌≡◌, ◌+◌, ◌<◌, ◌≤◌, ◌⊎◌, inl, inr, Bool, true, false, List, length, sym, subst, arith}
 use Rattle.std.specs.Prelude.{slice_index}
 use Rattle.std.proofs.lemmas.Bool.{false≢true, cases_lt}
-use Rattle.js_grammar.specs.Lexing.{is_newline, is_trivia, Run, Gap}
+use Rattle.js_grammar.specs.FirstLanguageLexing.{is_newline, is_trivia, Run, Gap}
 
 -- all bytes from one place up to another pass the test
 pub record Passes (test : ℕ → Bool) (text : List ℕ) (i j : ℕ) : Type 0 where

@@ -9,7 +9,7 @@ use Rattle.jsparse.specs.declared.status.Status.{Status}
 use Rattle.jsparse.specs.declared.status.Status.TheVariants.{Ok, Refused, Usage, ReadFault, WriteFault, NoMemory, NotUtf8, TooLong}
 use Rattle.jsparse.specs.Ends.{IsFault}
 use Rattle.std.specs.Str.{IsUtf8}
-use Rattle.js_grammar.specs.Readings.{Accepts, Refuses, Gives}
+use Rattle.js_grammar.specs.FirstLanguageReadings.{Accepts, Refuses, Gives}
 use Rattle.js_grammar.specs.Settings.{Settings, Admitted}
 use Rattle.jsparse.specs.Runs.{limit, Gave, IsText, IsLong, ReadsUpTo, Told, HasCause, FitsWords, LeavesSink, LeavesSource, ComesBefore, IsAnswerTo}
 use Rattle.jsparse.specs.Steps.{Made, ReadPiece, ReadCause, StopCause, TookFront, PutCause}

@@ -7,7 +7,7 @@ use Rattle.jsparse.specs.declared.status.Status.TheVariants.{Ok, Refused, Usage,
 use Rattle.jsparse.specs.Ends.{IsFault}
 use Rattle.jsparse.specs.Words.{NoneAdmitted}
 use Rattle.js_grammar.specs.Settings.{Settings, Admitted}
-use Rattle.js_grammar.specs.Readings.{Accepts, Refuses}
+use Rattle.js_grammar.specs.FirstLanguageReadings.{Accepts, Refuses}
 
 -- the greatest number of bytes of a text
 abbrev pub limit : ℕ

@@ -5,7 +5,7 @@ use Rattle.jsparse.specs.declared.status.Status.{Status}
 use Rattle.jsparse.specs.declared.status.Status.TheVariants.{Ok, Refused, ReadFault, WriteFault, NoMemory, NotUtf8, TooLong}
 use Rattle.jsparse.specs.Ends.{IsFault}
 use Rattle.jsparse.specs.Runs.{limit, Gave, IsText, ReadFailed, IsNoText, IsLong}
-use Rattle.js_grammar.specs.Readings.{Gives}
+use Rattle.js_grammar.specs.FirstLanguageReadings.{Gives}
 
 -- One read put its bytes behind those that were there: n of them, and none only at the end.
 pub record ReadPiece (given left : Option (List ℕ)) (old new : List ℕ) (n : ℕ) : Type 0 where

@@ -5,7 +5,7 @@ use Rattle.js_base.specs.declared.kind.Kind.TheVariants.{Ident, Decimal, Eof, Un
 use Rattle.js_base.specs.declared.token.Token.{Token}
 use Rattle.js_base.specs.declared.TheConstants.{MAX_LEN}
 use Rattle.js_grammar.specs.Grammar.{Lexeme}
-use Rattle.js_grammar.specs.Lexing.{IsName, IsNumber, IsPunctuator, Lex}
+use Rattle.js_grammar.specs.FirstLanguageLexing.{IsName, IsNumber, IsPunctuator, Lex}
 
 -- the token tells what the lexeme is and where it stands
 pub record Agrees (t : Token) (y : Lexeme) : Type 0 where

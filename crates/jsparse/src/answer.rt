@@ -2,7 +2,7 @@
 
 ghost use Rattle.std.specs.Prelude.{◌≤◌, length, IfOk};
 ghost use Rattle.js_base.specs.declared.TheConstants.{MAX_LEN};
-ghost use Rattle.js_grammar.specs.Readings.{Gives};
+ghost use Rattle.js_grammar.specs.FirstLanguageReadings.{Gives};
 
 use crate::lines::diagnostic_lines;
 use crate::parser::Parser;

@@ -2,7 +2,7 @@
 
 ghost use Rattle.std.specs.Prelude.{◌≡◌, ◌+◌, ◌<◌, ◌≤◌, ◌||◌, true, length, slice_index, nat_eq};
 ghost use Rattle.js_base.specs.declared.kind.Kind.TheVariants.{Ident, Decimal, Undetermined};
-ghost use Rattle.js_grammar.specs.Lexing.{Run, Gap, punctuator_of, signed};
+ghost use Rattle.js_grammar.specs.FirstLanguageLexing.{Run, Gap, punctuator_of, signed};
 ghost use Rattle.jsparse.specs.Tokens.{Begins, Tells, TokenAt, token_of};
 
 use js_base::{Kind, MAX_LEN, Span, Token, keyword_kind};
@@ -22,31 +22,31 @@ struct Trivia {
 }
 
 fn is_newline(byte: u8) -> bool
-    ensures { result ≡ Rattle.js_grammar.specs.Lexing.is_newline byte }
+    ensures { result ≡ Rattle.js_grammar.specs.FirstLanguageLexing.is_newline byte }
 {
     byte == b'\n' || byte == b'\r'
 }
 
 fn is_trivia(byte: u8) -> bool
-    ensures { result ≡ Rattle.js_grammar.specs.Lexing.is_trivia byte }
+    ensures { result ≡ Rattle.js_grammar.specs.FirstLanguageLexing.is_trivia byte }
 {
     byte == b' ' || byte == b'\t' || is_newline(byte)
 }
 
 fn is_digit(byte: u8) -> bool
-    ensures { result ≡ Rattle.js_grammar.specs.Lexing.is_digit byte }
+    ensures { result ≡ Rattle.js_grammar.specs.FirstLanguageLexing.is_digit byte }
 {
     b'0' <= byte && byte <= b'9'
 }
 
 fn is_name_start(byte: u8) -> bool
-    ensures { result ≡ Rattle.js_grammar.specs.Lexing.is_name_start byte }
+    ensures { result ≡ Rattle.js_grammar.specs.FirstLanguageLexing.is_name_start byte }
 {
     (b'a' <= byte && byte <= b'z') || (b'A' <= byte && byte <= b'Z') || byte == b'$' || byte == b'_'
 }
 
 fn is_name_part(byte: u8) -> bool
-    ensures { result ≡ Rattle.js_grammar.specs.Lexing.is_name_part byte }
+    ensures { result ≡ Rattle.js_grammar.specs.FirstLanguageLexing.is_name_part byte }
 {
     is_name_start(byte) || is_digit(byte)
 }
@@ -80,7 +80,7 @@ fn trivia_at(text: &[u8], at: usize) -> Trivia
 /// Where the parts of a name end.
 fn name_end(text: &[u8], at: usize) -> usize
     requires { at ≤ length text.now }
-    ensures { Run Rattle.js_grammar.specs.Lexing.is_name_part text.now at result }
+    ensures { Run Rattle.js_grammar.specs.FirstLanguageLexing.is_name_part text.now at result }
 {
     let mut end = at;
     'name: while end < text.len() && is_name_part(text[end]) {
@@ -92,7 +92,7 @@ fn name_end(text: &[u8], at: usize) -> usize
 /// Where the digits end.
 fn digits_end(text: &[u8], at: usize) -> usize
     requires { at ≤ length text.now }
-    ensures { Run Rattle.js_grammar.specs.Lexing.is_digit text.now at result }
+    ensures { Run Rattle.js_grammar.specs.FirstLanguageLexing.is_digit text.now at result }
 {
     let mut end = at;
     'digits: while end < text.len() && is_digit(text[end]) {
@@ -123,7 +123,7 @@ fn character_end(text: &[u8], at: usize) -> usize
 /// The name that begins at a byte, unless it is a word of the keyword table.
 fn word_at(text: &[u8], at: usize) -> Beginning
     requires within { at < length text.now }
-    requires start { Rattle.js_grammar.specs.Lexing.is_name_start (slice_index text.now at) ≡ true }
+    requires start { Rattle.js_grammar.specs.FirstLanguageLexing.is_name_start (slice_index text.now at) ≡ true }
     ensures { Begins text.now at result.kind result.end }
 {
     let end = name_end(text, at);
@@ -138,7 +138,7 @@ fn word_at(text: &[u8], at: usize) -> Beginning
 
 /// Whether a number may end before a byte, or 0 at the end.
 fn may_follow_number(byte: u8) -> bool
-    ensures { result ≡ Rattle.std.specs.Prelude.not (Rattle.js_grammar.specs.Lexing.is_name_part byte || nat_eq 46 byte) }
+    ensures { result ≡ Rattle.std.specs.Prelude.not (Rattle.js_grammar.specs.FirstLanguageLexing.is_name_part byte || nat_eq 46 byte) }
 {
     !(is_name_part(byte) || byte == b'.')
 }
@@ -173,7 +173,7 @@ fn nothing_at(text: &[u8], at: usize) -> Beginning
 /// The decimal integer that begins at a byte.
 fn number_at(text: &[u8], at: usize) -> Beginning
     requires within { at < length text.now }
-    requires start { Rattle.js_grammar.specs.Lexing.is_digit (slice_index text.now at) ≡ true }
+    requires start { Rattle.js_grammar.specs.FirstLanguageLexing.is_digit (slice_index text.now at) ≡ true }
     ensures { Begins text.now at result.kind result.end }
 {
     let end = digits_end(text, at);

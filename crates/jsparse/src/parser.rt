@@ -1,19 +1,16 @@
 //! The parser of a whole text.
 
-ghost use Rattle.std.specs.Prelude.{◌≡◌, ◌≤◌, length, IfOk, None};
+ghost use Rattle.std.specs.Prelude.{◌≡◌, ◌≤◌, [], length, IfOk};
 ghost use Rattle.js_base.specs.declared.TheConstants.{MAX_LEN};
-ghost use Rattle.js_base.specs.declared.kind.Kind.TheVariants.{Eof, Undetermined};
-ghost use Rattle.js_base.specs.declared.diagnostic.DiagnosticKind.TheVariants.{UnexpectedToken};
-ghost use Rattle.js_grammar.specs.Readings.{HasNoReading};
-ghost use Rattle.jsparse.specs.Answers.{At, ProgramRead};
-ghost use Rattle.jsparse.specs.Parsed.{Parsed, Settles, IsPlace};
-ghost use Rattle.jsparse.specs.Tokens.{Tells};
+ghost use Rattle.js_grammar.specs.FirstLanguageReadings.{HasNoReading};
+ghost use Rattle.jsparse.specs.Answers.{At};
+ghost use Rattle.jsparse.specs.Parsed.{Parsed, Settles, Taken};
 
-use crate::cursor::{Cursor, Stop, bump, is_at};
+use crate::cursor::{Cursor, Stop};
 use crate::lexer::token_at;
 use crate::statement::parse_program;
 use crate::tree::{NodeId, ParserAstBuilder, Tree};
-use js_base::{Diagnostic, DiagnosticKind, Diagnostics, Kind, NoMemory, SourceType, Span};
+use js_base::{Diagnostics, NoMemory, SourceType, Span};
 use std::alloc::Global;
 
 /// A program.
@@ -65,11 +62,12 @@ impl<'a> Parser<'a> {
         let mut p = Cursor {
             token: token_at(text, 0),
             prev_token_end: 0,
+            diagnostics: Diagnostics::new(self.alloc),
         };
         let mut ast = ParserAstBuilder::new(self.alloc)?;
         match parse_program(text, &mut p, &mut ast) {
-            Ok(statements) => accepted(self.alloc, source_type, text, ast, statements),
-            Err(Stop::Fatal) => refused(self.alloc, source_type, text, ast, &p),
+            Ok(statements) => taken(source_type, text, ast, statements, p),
+            Err(Stop::Fatal) => refused(self.alloc, source_type, text, ast, p),
             Err(Stop::NoMemory) => Err(NoMemory),
         }
     }
@@ -86,87 +84,43 @@ fn settled(source_type: SourceType) -> SourceType
     }
 }
 
-/// The answer for a text that was read whole.
-fn accepted(
-    alloc: Global,
+/// The answer for a text that was taken to its end.
+fn taken(
     source_type: SourceType,
     text: &[u8],
     ast: ParserAstBuilder,
     statements: Vec<Option<NodeId>>,
+    p: Cursor,
 ) -> Result<ParserReturn, NoMemory>
     requires short { length text.now ≤ MAX_LEN }
-    requires read { ProgramRead text.now ast.nodes.items statements.items }
+    requires taken { Taken text.now p ast.nodes.items statements.items }
     ensures reading { IfOk result (λ r. Parsed text.now r.program.tree r.diagnostics) }
     ensures source_type { IfOk result (λ r. r.program.source_type ≡ source_type) }
 {
     let tree = ast.finish(Span::new(0, text.len() as u32), statements);
-    let diagnostics = Diagnostics::new(alloc);
     Ok(ParserReturn {
         program: Program { tree, source_type },
-        diagnostics,
+        diagnostics: p.diagnostics,
     })
 }
 
-/// The answer for a text that has no reading: a program without statements, and one diagnostic.
+/// The answer for a text that can't be taken to its end: a program without statements.
 fn refused(
     alloc: Global,
     source_type: SourceType,
     text: &[u8],
     ast: ParserAstBuilder,
-    p: &Cursor,
+    p: Cursor,
 ) -> Result<ParserReturn, NoMemory>
-    requires at { At text.now p.now }
+    requires at { At text.now p }
+    requires some { p.diagnostics ≡ [] → ⊥ }
     requires none { HasNoReading text.now }
     ensures reading { IfOk result (λ r. Parsed text.now r.program.tree r.diagnostics) }
     ensures source_type { IfOk result (λ r. r.program.source_type ≡ source_type) }
 {
     let tree = ast.finish(Span::new(0, text.len() as u32), Vec::new(alloc));
-    let mut diagnostics = Diagnostics::new(alloc);
-    diagnostics.push(unexpected_token(first_fault(text, p)))?;
     Ok(ParserReturn {
         program: Program { tree, source_type },
-        diagnostics,
+        diagnostics: p.diagnostics,
     })
-}
-
-/// The diagnostic at a span where a lexeme can't stand.
-fn unexpected_token(span: Span) -> Diagnostic
-    ensures span { result.span ≡ span }
-    ensures kind { result.kind ≡ UnexpectedToken }
-    ensures first { result.first ≡ None }
-    ensures second { result.second ≡ None }
-{
-    Diagnostic {
-        kind: DiagnosticKind::UnexpectedToken,
-        span,
-        first: None,
-        second: None,
-    }
-}
-
-/// Whether a lexeme stands behind this one.
-fn goes_on(p: &Cursor) -> bool
-    ensures { Tells result ((p.now.token.kind ≡ Eof → ⊥) × (p.now.token.kind ≡ Undetermined → ⊥)) }
-{
-    !is_at(p, Kind::Eof) && !is_at(p, Kind::Undetermined)
-}
-
-/// Where a text goes wrong that can't be read on from a lexeme: the first character from there on at which no lexeme of
-/// this language stands, and where there is none, the lexeme itself.
-fn first_fault(text: &[u8], p: &Cursor) -> Span
-    requires { At text.now p.now }
-    ensures { IsPlace text.now result }
-{
-    let mut last = Cursor {
-        token: p.token,
-        prev_token_end: p.prev_token_end,
-    };
-    'lexemes: while goes_on(&last) {
-        bump(text, &mut last);
-    }
-    if is_at(&last, Kind::Undetermined) {
-        last.token.span()
-    } else {
-        p.token.span()
-    }
 }

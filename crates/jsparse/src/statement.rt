@@ -2,9 +2,9 @@
 
 ghost use Rattle.std.specs.Prelude.{◌≡◌, MatchResult, length};
 ghost use Rattle.js_base.specs.declared.kind.Kind.TheVariants.{Semicolon};
-ghost use Rattle.js_grammar.specs.Table.{at, script_flags, Item};
-ghost use Rattle.js_grammar.specs.Readings.{HasNoReading};
-ghost use Rattle.jsparse.specs.Answers.{At, Answers, ProgramRead, Stops};
+ghost use Rattle.js_grammar.specs.FirstLanguageTable.{at, script_flags, Item};
+ghost use Rattle.js_grammar.specs.FirstLanguageReadings.{HasNoReading};
+ghost use Rattle.jsparse.specs.Answers.{At, Answers, ProgramTaken, Stops};
 
 use crate::cursor::{Cursor, Stop, asi, bump, is_at};
 use crate::expression::{one_child, parse_expression};
@@ -73,7 +73,7 @@ pub fn parse_program(
     requires at { At text.now p.old }
     requires begin { p.old.prev_token_end ≡ 0 }
     requires new { length ast.old.nodes.items ≡ 1 }
-    ensures { MatchResult result (λ v. ProgramRead text.now ast.new.nodes.items v.items) (λ e. Stops text.now p.new e (HasNoReading text.now)) }
+    ensures { MatchResult result (λ v. ProgramTaken text.now p.old p.new ast.new.nodes.items v.items) (λ e. Stops text.now p.old.diagnostics p.new e (HasNoReading text.now)) }
 {
     let mut statements = Vec::new(ast.alloc);
     'statements: while !is_at(p, Kind::Eof) {

@@ -1,5 +1,5 @@
 use Rattle.std.proofs.Common.{subst}
-use Rattle.js_grammar.specs.Readings.{Accepts, Refuses}
+use Rattle.js_grammar.specs.FirstLanguageReadings.{Accepts, Refuses}
 use Rattle.jsparse.proofs.Given.{accepts, refuses, true_of, false_of}
 use Rattle.jsparse.proofs.answer.answer_to.Goals as goal
 

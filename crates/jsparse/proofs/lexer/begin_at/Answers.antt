@@ -1,6 +1,6 @@
 use Rattle.std.proofs.Common.{sym, ◌∙◌, ap}
 use Rattle.std.specs.Prelude.{slice_index}
-use Rattle.js_grammar.specs.Lexing.{punctuator_of}
+use Rattle.js_grammar.specs.FirstLanguageLexing.{punctuator_of}
 use Rattle.jsparse.proofs.Beginnings.{other_begins, punctuator_begins, of_kind}
 use Rattle.jsparse.proofs.lexer.begin_at.Goals as goal
 

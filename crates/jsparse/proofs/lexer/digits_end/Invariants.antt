@@ -1,5 +1,5 @@
 use Rattle.std.proofs.Common.{length, ◌-◌}
-use Rattle.js_grammar.specs.Lexing.{is_digit}
+use Rattle.js_grammar.specs.FirstLanguageLexing.{is_digit}
 use Rattle.jsparse.proofs.ByteRuns.{Passes}
 use Rattle.jsparse.proofs.lexer.digits_end.Given as goal
 

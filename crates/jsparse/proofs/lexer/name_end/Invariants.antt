@@ -1,5 +1,5 @@
 use Rattle.std.proofs.Common.{length, ◌-◌}
-use Rattle.js_grammar.specs.Lexing.{is_name_part}
+use Rattle.js_grammar.specs.FirstLanguageLexing.{is_name_part}
 use Rattle.jsparse.proofs.ByteRuns.{Passes}
 use Rattle.jsparse.proofs.lexer.name_end.Given as goal
 

@@ -1,5 +1,5 @@
 use Rattle.std.proofs.Common.{◌≡◌, ◌||◌, subst, true, false, nat_eq}
-use Rattle.js_grammar.specs.Lexing.{is_name_part}
+use Rattle.js_grammar.specs.FirstLanguageLexing.{is_name_part}
 use Rattle.jsparse.specs.Tokens.{a_number_begins}
 use Rattle.jsparse.proofs.Beginnings.{bad_number_begins, of_kind, no_number_zero, no_number_after, may_follow, may_not_follow, is_number}
 use Rattle.jsparse.proofs.lexer.number_at.Goals as goal

@@ -4,7 +4,7 @@ use Rattle.js_base.specs.declared.kind.Kind.{Kind}
 use Rattle.js_base.specs.declared.kind.Kind.TheVariants.{LParen, Semicolon, Plus, Minus, Ident, Decimal}
 use Rattle.js_base.specs.Kinds.{same_kind, one_of_kinds}
 use Rattle.js_grammar.specs.Grammar.{Look}
-use Rattle.js_grammar.specs.Table.{Name, Symbol, Program, Item, Empty, ExprStmt, Expression, Additive, Multiply, Unary, LeftHandSide, Member, Call, Primary, IdentifierReference}
+use Rattle.js_grammar.specs.FirstLanguageTable.{Name, Symbol, Program, Item, Empty, ExprStmt, Expression, Additive, Multiply, Unary, Update, LeftHandSide, Member, Call, Primary, IdentifierReference}
 
 -- names, numbers and `(`
 abbrev pub primary : Kind → Bool
@@ -24,6 +24,7 @@ first_of Expression k = unary k
 first_of Additive k = unary k
 first_of Multiply k = unary k
 first_of Unary k = unary k
+first_of Update k = primary k
 first_of LeftHandSide k = primary k
 first_of Member k = primary k
 first_of Call k = primary k

@@ -1,11 +1,11 @@
 -- The grammar, a line for each production: expression statements, sums and products, signs, calls with no or one argument, parentheses, names and numbers. Lines that only pass on to the next one, because their operators come later, are left out.
-use Rattle.std.specs.Prelude.{Bool, true, false, List, [], ◌∷◌}
+use Rattle.std.specs.Prelude.{Bool, true, false, not, List, [], ◌∷◌}
 use Rattle.js_base.specs.declared.kind.Kind.{Kind}
-use Rattle.js_base.specs.declared.kind.Kind.TheVariants.{LParen, RParen, Semicolon, Plus, Minus, Star, Ident, Decimal}
+use Rattle.js_base.specs.declared.kind.Kind.TheVariants.{LParen, RParen, Semicolon, Plus, Plus2, Minus, Star, Ident, Decimal}
 use Rattle.js_base.specs.Kinds.{same_kind}
-use Rattle.js_grammar.specs.Trees.{NodeKind, program, empty_statement, expression_statement, binary_expression, unary_expression, call_expression, parenthesized_expression, identifier_reference, numeric_literal, Op, no_op, of, Tree}
-use Rattle.js_grammar.specs.Grammar.{exact, whole_text, Grammar, nothing, never, lexeme, ◌▸◌, ◌◇◌, many, such, node, ended, is}
-use Rattle.js_grammar.specs.Insertion.{after_expression}
+use Rattle.js_grammar.specs.Trees.{NodeKind, program, empty_statement, expression_statement, binary_expression, unary_expression, update_expression, call_expression, parenthesized_expression, identifier_reference, numeric_literal, Op, no_op, of, Tree}
+use Rattle.js_grammar.specs.Grammar.{exact, whole_text, Look, Grammar, nothing, never, lexeme, look, ◌▸◌, ◌◇◌, many, such, node, ended, is}
+use Rattle.js_grammar.specs.FirstLanguageInsertion.{by_edge}
 
 -- The parameters of productions (ECMA-262, 5.1.5), the goal and the option that admits V8's calls.
 pub record Flags : Type 0 where
@@ -23,7 +23,7 @@ script_flags = record { in_ = true; yield_ = false; await_ = false; return_ = fa
 
 -- The nonterminals.
 pub data Name : Type 0 where
-  Program Item Empty ExprStmt Expression Additive Multiply Unary LeftHandSide Member Call Primary IdentifierReference : Name
+  Program Item Empty ExprStmt Expression Additive Multiply Unary Update LeftHandSide Member Call Primary IdentifierReference : Name
 
 pub record Symbol : Type 0 where
   pub name : Name
@@ -45,6 +45,10 @@ sym n f = such (at n f) always
 
 abbrev pub tok : Kind → G
 tok k = lexeme (is k)
+
+-- no line terminator before it
+abbrev pub on_the_line : Look
+on_the_line k w e = not w
 
 abbrev pub opt : G → G
 opt g = g ◇ nothing
@@ -73,20 +77,29 @@ level here tighter ks k f = sym tighter f ◇ branches ks (λ o. op k o (sym her
 abbrev pub args : Flags → G
 args f = parens (opt (sym Expression f))
 
+-- An early rule of the lab: a number is no callee.
+abbrev pub callable_kind : NodeKind → Bool
+callable_kind numeric_literal = false
+callable_kind _ = true
+
+abbrev pub callable : Tree → Bool
+callable t = callable_kind t.label.kind
+
 unfoldable pub rule_of : Name → Flags → G
 -- Scripts (16.1) and statements (14.4, 14.5)
 rule_of Program f = node (record { kind = program; op = no_op; flags = 0; extent = whole_text }) (many (sym Item f))
 rule_of Item f = sym ExprStmt f ◇ sym Empty f
 rule_of Empty f = mk empty_statement (tok Semicolon)
-rule_of ExprStmt f = mk expression_statement (ended after_expression (sym Expression f))
+rule_of ExprStmt f = mk expression_statement (ended by_edge (sym Expression f))
 -- Expressions (13.1 to 13.3, 13.5, 13.7, 13.8, 13.16)
 rule_of Expression f = sym Additive f
 rule_of Additive f = level Additive Multiply (Plus ∷ Minus ∷ []) binary_expression f
 rule_of Multiply f = level Multiply Unary (Star ∷ []) binary_expression f
-rule_of Unary f = sym LeftHandSide f ◇ branches (Minus ∷ Plus ∷ []) (λ o. op unary_expression o (tok o ▸ sym Unary f))
+rule_of Unary f = sym Update f ◇ branches (Minus ∷ Plus ∷ []) (λ o. op unary_expression o (tok o ▸ sym Unary f))
+rule_of Update f = sym LeftHandSide f ◇ op update_expression Plus2 (sym IdentifierReference f ▸ look on_the_line ▸ tok Plus2)
 rule_of LeftHandSide f = sym Member f ◇ sym Call f
 rule_of Member f = sym Primary f
-rule_of Call f = mk call_expression ((sym Member f ◇ sym Call f) ▸ args f)
+rule_of Call f = mk call_expression ((such (at Member f) callable ◇ sym Call f) ▸ args f)
 rule_of Primary f = sym IdentifierReference f ◇ op numeric_literal Decimal (tok Decimal) ◇ mk parenthesized_expression (parens (sym Expression f))
 rule_of IdentifierReference f = mk identifier_reference (lexeme (λ k w e. same_kind Ident k))
 

@@ -4,8 +4,9 @@ use Rattle.js_base.specs.declared.diagnostic.Diagnostic.{Diagnostic}
 use Rattle.js_base.specs.declared.kind.Kind.TheVariants.{Eof}
 use Rattle.js_grammar.specs.Trees.{Slots, Tree, program, no_op}
 use Rattle.js_grammar.specs.Grammar.{Lexeme, Lexemes, last, Derives}
-use Rattle.js_grammar.specs.Table.{Program, rule, at, script_flags}
-use Rattle.js_grammar.specs.Lexing.{Lex, Lexes}
+use Rattle.js_grammar.specs.FirstLanguageTable.{Program, rule, at, script_flags}
+use Rattle.js_grammar.specs.FirstLanguageLexing.{Lex}
+use Rattle.js_grammar.specs.Lexed.{Lexes}
 use Rattle.js_grammar.specs.Lines.{tree_text, diagnostic_text}
 
 -- The tree is a reading of the text: the text has a list of lexemes up to its end, and Program derives the tree from exactly these.

@@ -4,6 +4,7 @@ use Rattle.js_base.specs.declared.kind.Kind.{Kind}
 use Rattle.js_base.specs.declared.kind.Kind.TheVariants.{In, Instanceof, LParen, LBrack, Semicolon, Comma, Dot, Arrow, Question, QuestionDot, Question2, Question2Eq, Plus, Plus2, PlusEq, Minus, Minus2, MinusEq, Star, Star2, StarEq, Star2Eq, Percent, PercentEq, Eq, Eq2, Eq3, Neq, Neq2, LAngle, LtEq, RAngle, GtEq, ShiftLeft, ShiftLeftEq, ShiftRight, ShiftRightEq, ShiftRight3, ShiftRight3Eq, Amp, Amp2, AmpEq, Amp2Eq, Pipe, Pipe2, PipeEq, Pipe2Eq, Caret, CaretEq, Eof}
 use Rattle.js_base.specs.Kinds.{same_kind, one_of_kinds}
 use Rattle.js_grammar.specs.Trees.{Slots}
+use Rattle.js_grammar.specs.FirstLanguageEdges.{as_expression, last_edge, is_postfix}
 use Rattle.js_grammar.specs.Grammar.{Lexeme, Look, seen}
 
 abbrev pub assign_operators : List Kind
@@ -25,3 +26,7 @@ permitted_core last_one next_one = same_kind Eof next_one.kind
 -- The row of an expression none of whose operators is `++` or `--`, whatever its first lexeme and its slots.
 abbrev pub after_expression : Lexeme → Slots → Look
 after_expression first cs = continues false
+
+-- The row of an expression by its right edge.
+abbrev pub by_edge : Lexeme → Slots → Look
+by_edge first cs = continues (is_postfix (last_edge as_expression cs))

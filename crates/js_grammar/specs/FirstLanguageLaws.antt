@@ -4,13 +4,13 @@ use Rattle.js_base.specs.declared.kind.Kind.TheVariants.{RCurly, Plus2, Minus2}
 use Rattle.js_base.specs.Kinds.{same_kind, one_of_kinds}
 use Rattle.js_grammar.specs.Trees.{expression_statement, Label, Slots, tree, Tree}
 use Rattle.js_grammar.specs.Grammar.{Lexeme, Lexemes, here, seen, may_omit, Derives}
-use Rattle.js_grammar.specs.Table.{Flags, Symbol, rule, at, Program, Item, script_flags}
-use Rattle.js_grammar.specs.Insertion.{after_expression, permitted_core}
-use Rattle.js_grammar.specs.Lexing.{Lex}
-use Rattle.js_grammar.specs.Readings.{IsReading}
+use Rattle.js_grammar.specs.FirstLanguageTable.{Flags, Symbol, rule, at, Program, Item, script_flags}
+use Rattle.js_grammar.specs.FirstLanguageInsertion.{after_expression, permitted_core}
+use Rattle.js_grammar.specs.FirstLanguageLexing.{Lex}
+use Rattle.js_grammar.specs.FirstLanguageReadings.{IsReading}
 use Rattle.js_grammar.specs.Brackets.{Runs}
-use Rattle.js_grammar.specs.FirstSets.{first}
-use Rattle.js_grammar.specs.Examples.{sum_text, sum_tree, call_text, call_tree, call_lexemes, two_statements, semicolon_text, semicolon_tree, product_text, product_tree}
+use Rattle.js_grammar.specs.FirstLanguageFirstSets.{first}
+use Rattle.js_grammar.specs.FirstLanguageExamples.{sum_text, sum_tree, call_text, call_tree, call_lexemes, two_statements, semicolon_text, semicolon_tree, product_text, product_tree}
 
 -- One lexeme at the most stands behind a place of a text (ECMA-262, chapter 12).
 abbrev pub OneLexeme : Type 0

@@ -3,7 +3,7 @@ use Rattle.std.specs.Prelude.{ℕ, true, false, List, [], codes}
 use Rattle.js_base.specs.declared.kind.Kind.TheVariants.{LParen, RParen, Plus, Minus, Star, Ident, Eof}
 use Rattle.js_grammar.specs.Trees.{NodeKind, program, expression_statement, binary_expression, unary_expression, call_expression, parenthesized_expression, identifier_reference, Op, no_op, of, Label, Slots, end, tree, Tree}
 use Rattle.js_grammar.specs.Grammar.{Lexemes, last, next}
-use Rattle.js_grammar.specs.Lexing.{lexeme_of}
+use Rattle.js_grammar.specs.FirstLanguageLexing.{lexeme_of}
 
 abbrev pub label : NodeKind → Op → ℕ → ℕ → Label
 label k o a b = record { kind = k; op = o; flags = 0; span = record { from = a; to = b } }
