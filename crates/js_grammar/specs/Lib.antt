@@ -1,6 +1,9 @@
 pub mod Trees
 pub mod FirstLanguageEdges
 pub mod Grammar
+pub mod Words
+pub mod Insertion
+pub mod Table
 pub mod FirstLanguageInsertion
 pub mod FirstLanguageTable
 pub mod FirstLanguageLexing
