@@ -3,6 +3,8 @@ pub mod FirstLanguageEdges
 pub mod Grammar
 pub mod Words
 pub mod Insertion
+pub mod Productions
+pub mod Conditions
 pub mod Table
 pub mod FirstLanguageInsertion
 pub mod FirstLanguageTable
