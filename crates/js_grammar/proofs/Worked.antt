@@ -1,0 +1,100 @@
+-- Worked examples by computing: that a text has these lexemes, and that a symbol derives this tree from them.
+use Rattle.std.proofs.Common.{ℕ, ◌+◌, ◌-◌, ◌≡◌, ◌≤◌, Bool, true, false, ◌&&◌, ◌==◌, List, [], ◌∷◌, ◌++◌, Some, None, Option, IsTrue, refl, ap, sym, subst, length, drop, leb}
+use Rattle.std.proofs.lemmas.Bool.{and_parts, false≢true, leb-true}
+use Rattle.std.proofs.lemmas.Slice.Eq.{bytes_eq-Decides}
+use Rattle.std.specs.Prelude.{chars, bytes_eq}
+use Rattle.js_base.specs.declared.kind.Kind.{Kind}
+use Rattle.js_base.specs.Kinds.{same_kind}
+use Rattle.js_base.proofs.KindLemmas.{kind_of_same}
+use Rattle.js_grammar.specs.Trees.{Label, Slots, Tree}
+use Rattle.js_grammar.specs.Grammar.{Lexeme, Lexemes, last, next, Derives}
+use Rattle.js_grammar.specs.Characters.{width}
+use Rattle.js_grammar.specs.Longest.{joined}
+use Rattle.js_grammar.specs.Lexemes.{LexicalGoal, kind_in}
+use Rattle.js_grammar.specs.Lexed.{Passing, Lex, Lexes, Lexed, passing_of, ends_once}
+use Rattle.js_grammar.specs.Settings.{Goal}
+use Rattle.js_grammar.specs.Productions.{Symbol}
+use Rattle.js_grammar.specs.Table.{rule}
+use Rattle.js_grammar.proofs.Standing.{lexeme_of, passes, stand}
+use Rattle.js_grammar.proofs.Check.{check, checked}
+
+-- a lexeme as it is written: the trivia before it, its characters, by which lexical goal they are read, and their kind
+pub record Written : Type 0 where
+  pub trivia : List (List ℕ)
+  pub goal : LexicalGoal
+  pub word : List ℕ
+  pub kind : Kind
+
+-- the first, and more
+abbrev pub characters : Written → List Written → List ℕ
+characters x [] = joined x.trivia ++ x.word
+characters x (y ∷ ys) = joined x.trivia ++ (x.word ++ characters y ys)
+
+abbrev pub behind : List Written → List ℕ
+behind [] = []
+behind (y ∷ ys) = characters y ys
+
+abbrev pub lexeme_at : ℕ → Written → Lexeme
+lexeme_at s x = lexeme_of s x.trivia x.word x.kind
+
+abbrev pub lexemes_at : ℕ → Written → List Written → Lexemes
+lexemes_at s x [] = last (lexeme_at s x)
+lexemes_at s x (y ∷ ys) = next (lexeme_at s x) (lexemes_at (lexeme_at s x).to y ys)
+
+abbrev is_kind : Option Kind → Kind → Bool
+is_kind None k = false
+is_kind (Some j) k = same_kind j k
+
+kind_is : (o : Option Kind) (k : Kind) → is_kind o k ≡ true → o ≡ Some k
+kind_is None k h = absurd (false≢true h)
+kind_is (Some j) k h = ap Some (kind_of_same j k h)
+
+abbrev stands : Passing → List ℕ → ℕ → Written → List ℕ → Bool
+stands p text s x rest = leb s (length text) && (bytes_eq (chars (drop s text)) (joined x.trivia ++ (x.word ++ rest)) && (is_kind (kind_in x.goal x.word rest) x.kind && passes p s x.trivia x.goal x.word rest x.kind))
+
+stands_right : (p : Passing) (text : List ℕ) (s : ℕ) (x : Written) (rest : List ℕ) → stands p text s x rest ≡ true → Lex p text s (lexeme_at s x)
+stands_right p text s x rest h =
+    let a = and_parts (leb s (length text)) _ h in
+    let b = and_parts (bytes_eq (chars (drop s text)) (joined x.trivia ++ (x.word ++ rest))) _ a.1 in
+    let c = and_parts (is_kind (kind_in x.goal x.word rest) x.kind) _ b.1 in
+    stand p text s x.trivia x.goal x.word rest x.kind (leb-true s (length text) a.0) ((bytes_eq-Decides (chars (drop s text)) (joined x.trivia ++ (x.word ++ rest))).0 b.0) (kind_is _ x.kind c.0) c.1
+
+abbrev pub all_stand : Passing → List ℕ → ℕ → Written → List Written → Bool
+all_stand p text s x [] = stands p text s x []
+all_stand p text s x (y ∷ ys) = stands p text s x (characters y ys) && all_stand p text (lexeme_at s x).to y ys
+
+pub all_right : (p : Passing) (text : List ℕ) (s : ℕ) (x : Written) (ys : List Written) → all_stand p text s x ys ≡ true → Lexes (Lex p text) s (lexemes_at s x ys)
+all_right p text s x [] h = stands_right p text s x [] h
+all_right p text s x (y ∷ ys) h = let a = and_parts (stands p text s x (characters y ys)) _ h in (stands_right p text s x (characters y ys) a.0, all_right p text (lexeme_at s x).to y ys a.1)
+
+-- the text is made of these lexemes
+abbrev pub lexes : Goal → List ℕ → Written → List Written → Bool
+lexes goal text x ys = all_stand (passing_of goal) text 0 x ys && ends_once (lexemes_at 0 x ys)
+
+pub lexes_right : (goal : Goal) (text : List ℕ) (x : Written) (ys : List Written) → lexes goal text x ys ≡ true → Lexed goal text (lexemes_at 0 x ys)
+lexes_right goal text x ys h = let a = and_parts (all_stand (passing_of goal) text 0 x ys) _ h in record { lexes = all_right (passing_of goal) text 0 x ys a.0; ends = a.1 }
+
+-- the mark that parentheses give, taken away
+abbrev pub undo_pife : Label → Label
+undo_pife l = record l { flags = l.flags - 8192 }
+
+abbrev pub is_last : Lexemes → Bool
+is_last (last x) = true
+is_last (next x ls) = false
+
+-- the symbol derives the tree from all of these lexemes but the last
+abbrev pub derives : Symbol → Lexemes → Label → Slots → Bool
+derives n ls l cs = check rule 40 undo_pife 300 n l cs 0 ls (λ j rest. is_last rest)
+
+-- it does, up to the last one
+pub record DerivesAll (n : Symbol) (ls : Lexemes) (t : Tree) : Type 0 where
+  pub end : ℕ
+  pub final : Lexeme
+  pub derived : Derives rule n t 0 ls end (last final)
+
+pub derives_right : (n : Symbol) (ls : Lexemes) (l : Label) (cs : Slots) → derives n ls l cs ≡ true → DerivesAll n ls (record { label = l; slots = cs })
+derives_right n ls l cs e = let d = checked rule 40 undo_pife 300 n l cs 0 ls (λ j rest. is_last rest) e in go d.0 d.1 d.2 d.3
+  where
+    go : (j : ℕ) (rest : Lexemes) → Derives rule n (record { label = l; slots = cs }) 0 ls j rest → is_last rest ≡ true → DerivesAll n ls (record { label = l; slots = cs })
+    go j (last x) d q = record { end = j; final = x; derived = d }
+    go j (next x more) d q = absurd (false≢true q)
