@@ -11,6 +11,7 @@ pub mod Readings
 pub mod Characters
 pub mod Longest
 pub mod Trivia
+pub mod CommentMarks
 pub mod Names
 pub mod Numbers
 pub mod Strings
