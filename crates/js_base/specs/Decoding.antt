@@ -21,7 +21,7 @@ raw_text = line_feeds
 abbrev pub cooked : List ℕ → Option (List ℕ)
 cooked inside = option_map code_units (code_points in_template (raw_text inside))
 
--- the code points that a name stands for (12.7.1.1), or none where an escape is ill-formed
+-- the code points that a name stands for: IdentifierCodePoints (12.7.1.2), or none where an escape is ill-formed
 abbrev pub name_points : List ℕ → Option (List ℕ)
 name_points = code_points in_name
 

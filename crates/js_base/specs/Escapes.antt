@@ -1,6 +1,7 @@
 -- Escapes, and the code points that the inside of a name, a string or a template part stands for (ECMA-262, 12.7, 12.9.4, 12.9.6).
 use Rattle.std.specs.Prelude.{ℕ, ◌+◌, ◌-◌, ◌*◌, Bool, true, false, ◌&&◌, List, [], ◌∷◌, ◌++◌, ◌==◌, nat_le, nat_lt, Option, Some, None, option_map, unwrap_or, flat_map}
 use Rattle.std.specs.List.{find}
+use Rattle.std.specs.Str.{byte}
 use Rattle.std.specs.Char.{digit_value}
 use Rattle.std.specs.Char.Escape.{encode_utf16}
 use Rattle.js_base.specs.Characters.{is_line_terminator, is_hex, is_octal, is_decimal}
@@ -9,10 +10,10 @@ use Rattle.js_base.specs.Characters.{is_line_terminator, is_hex, is_octal, is_de
 abbrev pub line_feeds_after : Bool → List ℕ → List ℕ
 line_feeds_after carriage [] = []
 line_feeds_after carriage (c ∷ cs) =
-    elim (c == 13) [
-      | true ↦ 10 ∷ line_feeds_after true cs
+    elim (c == byte "\r") [
+      | true ↦ byte "\n" ∷ line_feeds_after true cs
       | false ↦
-          elim (carriage && (c == 10)) [ true ↦ line_feeds_after false cs | false ↦ c ∷ line_feeds_after false cs ]
+          elim (carriage && (c == byte "\n")) [ true ↦ line_feeds_after false cs | false ↦ c ∷ line_feeds_after false cs ]
     ]
 
 abbrev pub line_feeds : List ℕ → List ℕ
@@ -44,11 +45,11 @@ abbrev pub go : Stage → List ℕ → Option Step
 go s out = Some (record { stage = s; gives = out })
 
 abbrev pub plainly : ℕ → Option Step
-plainly c = elim (c == 92) [ true ↦ go backslash [] | false ↦ go outside (c ∷ []) ]
+plainly c = elim (c == byte "\\") [ true ↦ go backslash [] | false ↦ go outside (c ∷ []) ]
 
 -- SingleEscapeCharacter, and what it stands for: `b` `t` `n` `v` `f` `r`
 abbrev pub single_escapes : List (ℕ × ℕ)
-single_escapes = (98, 8) ∷ (116, 9) ∷ (110, 10) ∷ (118, 11) ∷ (102, 12) ∷ (114, 13) ∷ []
+single_escapes = (byte "b", byte "\u{8}") ∷ (byte "t", byte "\t") ∷ (byte "n", byte "\n") ∷ (byte "v", byte "\u{b}") ∷ (byte "f", byte "\u{c}") ∷ (byte "r", byte "\r") ∷ []
 
 -- any other character stands for itself
 abbrev pub single_escape : ℕ → ℕ
@@ -62,23 +63,23 @@ abbrev pub begun_line : ℕ → Option Step
 begun_line c = elim (is_line_terminator c) [ true ↦ go outside [] | false ↦ begun_single c ]
 
 abbrev pub begun_hex : ℕ → Option Step
-begun_hex c = elim (c == 120) [ true ↦ go (due 2 0) [] | false ↦ begun_line c ]
+begun_hex c = elim (c == byte "x") [ true ↦ go (due 2 0) [] | false ↦ begun_line c ]
 
 abbrev pub begun_unicode : ℕ → Option Step
-begun_unicode c = elim (c == 117) [ true ↦ go unicode [] | false ↦ begun_hex c ]
+begun_unicode c = elim (c == byte "u") [ true ↦ go unicode [] | false ↦ begun_hex c ]
 
 -- the character behind a backslash
 abbrev pub begun : Where → ℕ → Option Step
-begun in_name c = elim (c == 117) [ true ↦ go unicode [] | false ↦ None ]
-begun in_string c = elim (is_octal c) [ true ↦ go (octal (elim (nat_lt c 52) [ true ↦ 2 | false ↦ 1 ]) (digit_value c)) [] | false ↦ begun_unicode c ]
-begun in_template c = elim (is_decimal c) [ true ↦ elim (c == 48) [ true ↦ go nul [] | false ↦ None ] | false ↦ begun_unicode c ]
+begun in_name c = elim (c == byte "u") [ true ↦ go unicode [] | false ↦ None ]
+begun in_string c = elim (is_octal c) [ true ↦ go (octal (elim (nat_lt c (byte "4")) [ true ↦ 2 | false ↦ 1 ]) (digit_value c)) [] | false ↦ begun_unicode c ]
+begun in_template c = elim (is_decimal c) [ true ↦ elim (c == byte "0") [ true ↦ go nul [] | false ↦ None ] | false ↦ begun_unicode c ]
 
 -- the stage and the code points after one character more, or none where no escape goes on so
 abbrev pub step : Where → Stage → ℕ → Option Step
 step w outside c = plainly c
 step w backslash c = begun w c
 step w unicode c =
-    elim (c == 123) [
+    elim (c == byte "{") [
       | true ↦ go (braced false 0) []
       | false ↦
           elim (is_hex c) [ true ↦ go (due 3 (digit_value c)) [] | false ↦ None ]
@@ -87,20 +88,20 @@ step w nul c =
     elim (is_decimal c) [
       | true ↦ None
       | false ↦
-          elim (c == 92) [ true ↦ go backslash (0 ∷ []) | false ↦ go outside (0 ∷ c ∷ []) ]
+          elim (c == byte "\\") [ true ↦ go backslash (0 ∷ []) | false ↦ go outside (0 ∷ c ∷ []) ]
     ]
 step w (due n v) c = elim (is_hex c) [ true ↦ elim (nat_le n 1) [ true ↦ go outside ((v * 16 + digit_value c) ∷ []) | false ↦ go (due (n - 1) (v * 16 + digit_value c)) [] ] | false ↦ None ]
 step w (braced any v) c =
     elim (is_hex c && nat_le (v * 16 + digit_value c) 0x10_FFFF) [
       | true ↦ go (braced true (v * 16 + digit_value c)) []
       | false ↦
-          elim (any && (c == 125)) [ true ↦ go outside (v ∷ []) | false ↦ None ]
+          elim (any && (c == byte "}")) [ true ↦ go outside (v ∷ []) | false ↦ None ]
     ]
 step w (octal n v) c =
     elim (is_octal c && nat_lt 0 n) [
       | true ↦ go (octal (n - 1) (v * 8 + digit_value c)) []
       | false ↦
-          elim (c == 92) [ true ↦ go backslash (v ∷ []) | false ↦ go outside (v ∷ c ∷ []) ]
+          elim (c == byte "\\") [ true ↦ go backslash (v ∷ []) | false ↦ go outside (v ∷ c ∷ []) ]
     ]
 
 -- the code points that the end of the inside completes, or none where it cuts an escape off

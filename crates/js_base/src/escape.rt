@@ -7,7 +7,7 @@ ghost use Rattle.js_base.specs.InvalidEscapes.{TellsEscape, IsRead, ReadsOn, Rea
 use crate::decode::{Form, State, finish, step};
 
 /// An ill-formed escape in the inside of a string literal.
-#[derive(Debug, Clone, Copy)]
+#[derive(Debug, Drop)]
 pub struct InvalidEscape {
     /// The place of its backslash, in bytes from the beginning of the inside.
     pub start: usize,

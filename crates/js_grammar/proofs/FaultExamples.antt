@@ -7,18 +7,17 @@ use Rattle.ucd_table.specs.Rows.{value_in}
 use Rattle.ucd_category.specs.GeneralCategory.{general_category}
 use Rattle.ucd_category.specs.GeneralCategoryRows.{general_category_rows}
 use Rattle.std.proofs.lemmas.Str.{IsCharBoundary-start, IsCharBoundary-end, IsUtf8-from_is_utf8}
-use Rattle.js_base.specs.declared.kind.Kind.TheVariants.{RegExp, Ident}
+use Rattle.js_base.specs.declared.kind.Kind.TheVariants.{RegExp}
 use Rattle.js_base.specs.Texts.{words, punctuators}
 use Rattle.js_base.specs.Keywords.{keyword_of}
-use Rattle.js_grammar.specs.Grammar.{last}
 use Rattle.js_grammar.specs.Settings.{script, module_goal}
 use Rattle.js_grammar.specs.Trivia.{are_trivia}
-use Rattle.js_grammar.specs.Lexemes.{division, regular_expression}
+use Rattle.js_grammar.specs.Lexemes.{regular_expression}
 use Rattle.js_grammar.specs.Lexed.{all_faults}
 use Rattle.js_grammar.specs.Numbers.{stops_number}
 use Rattle.js_grammar.proofs.LongestLemmas.{longest-same}
 use Rattle.js_base.specs.declared.diagnostic.DiagnosticKind.TheVariants.{InvalidNumber, InvalidCharacter, BinaryFile, UnterminatedString, UnterminatedTemplate, UnterminatedRegexp, UnterminatedComment, InvalidEscape, RegExpFlag, HtmlCommentInModule}
-use Rattle.js_grammar.specs.LexicalFaults.{is_number_word, behind, Due, Condition, Faulty}
+use Rattle.js_grammar.specs.LexicalFaults.{is_number_word, Due, Condition, Faulty}
 use Rattle.js_grammar.proofs.Standing.{stand, lexeme_of}
 
 -- at the start of the text, behind no trivia

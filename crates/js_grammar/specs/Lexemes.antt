@@ -1,6 +1,7 @@
 -- Which characters are a lexeme, and of which kind (ECMA-262, 12: the input elements of each lexical goal; 12.8 for the punctuators).
 use Rattle.std.specs.Prelude.{ℕ, Bool, true, false, not, ◌&&◌, ◌||◌, List, [], ◌∷◌, ◌==◌, codes, bytes_eq, Option, Some, None, is_some, option_map, unwrap_or, drop}
 use Rattle.std.specs.List.{find}
+use Rattle.std.specs.Str.{byte}
 use Rattle.js_base.specs.declared.kind.Kind.{Kind}
 use Rattle.js_base.specs.declared.kind.Kind.TheVariants.{Ident, PrivateIdentifier, Str, QuestionDot, Slash, HashbangComment, Eof}
 use Rattle.js_base.specs.Kinds.{same_kind, one_of_kinds}
@@ -31,19 +32,19 @@ pub data Opening : Type 0 where
 
 abbrev pub opening : ℕ → Bool → Opening
 opening c digit =
-    elim (is_identifier_start c || (c == 92)) [
+    elim (is_identifier_start c || (c == byte "\\")) [
       | true ↦ a_name
       | false ↦
-          elim (is_decimal c || ((c == 46) && digit)) [
+          elim (is_decimal c || ((c == byte ".") && digit)) [
             | true ↦ a_number
             | false ↦
-                elim (one_of (34 ∷ 39 ∷ []) c) [
+                elim (one_of (codes "\"'") c) [
                   | true ↦ a_string
                   | false ↦
-                      elim (c == 96) [
+                      elim (c == byte "`") [
                         | true ↦ a_template
                         | false ↦
-                            elim (c == 35) [ true ↦ a_private_name | false ↦ a_punctuator ]
+                            elim (c == byte "#") [ true ↦ a_private_name | false ↦ a_punctuator ]
                       ]
                 ]
           ]
@@ -67,7 +68,7 @@ plain_kind (c ∷ cs) rest = kind_of (opening c (begins is_decimal cs)) (c ∷ c
 abbrev pub hashbang_kind : List ℕ → Option Kind
 hashbang_kind w = elim (after (codes "#!") within_line w) [ true ↦ Some HashbangComment | false ↦ None ]
 
--- The goals, by what they have beside trivia and CommonToken: InputElementDiv; what InputElementRegExp has more than it; what InputElementTemplateTail has; what InputElementHashbangOrRegExp has.
+-- The lexical goals. The plain one, `division`, is InputElementDiv without trivia: CommonToken, DivPunctuator and RightBracePunctuator. Each of the other three holds the one lexeme alone that its goal has beyond that: RegularExpressionLiteral (InputElementRegExp), TemplateSubstitutionTail (InputElementTemplateTail), HashbangComment (InputElementHashbangOrRegExp).
 pub data LexicalGoal : Type 0 where
   division regular_expression template_tail hashbang : LexicalGoal
 

@@ -1,5 +1,6 @@
 -- Lexical faults: what stands at the span of each. Eight stop the lexemes; a wrong flag and an HTML-like comment in a module don't.
-use Rattle.std.specs.Prelude.{ℕ, ◌+◌, ◌≡◌, ◌<◌, ◌≤◌, ◌⊎◌, Bool, true, false, not, ◌&&◌, ◌||◌, List, [], ◌∷◌, ◌++◌, ◌==◌, codes, chars, drop, IsTrue, is_some, Some, IsCharBoundary, bytes_eq}
+use Rattle.std.specs.Prelude.{ℕ, ◌+◌, ◌≡◌, ◌<◌, ◌⊎◌, Bool, true, false, not, ◌&&◌, ◌||◌, List, [], ◌∷◌, ◌++◌, ◌==◌, codes, chars, drop, IsTrue, is_some, Some, IsCharBoundary, bytes_eq}
+use Rattle.std.specs.Str.{byte}
 use Rattle.js_base.specs.declared.kind.Kind.TheVariants.{RegExp}
 use Rattle.js_base.specs.declared.diagnostic.DiagnosticKind.{DiagnosticKind}
 use Rattle.js_base.specs.declared.diagnostic.DiagnosticKind.TheVariants as fault
@@ -31,35 +32,38 @@ pub record Due (text : List ℕ) (s i : ℕ) : Type 0 where
   pub stands : Stands text s pieces [] (behind text i)
   pub place : i ≡ s + width (joined pieces)
 
--- no lexeme begins with c, a hashbang comment left aside, and it is none of those that have a fault of their own: a digit, a quote, a backquote, a slash, a backslash, a right brace, U+FFFD
+-- No lexeme begins with c, a hashbang comment left aside. It is none of those that have a fault of their own: a digit, a dot before a digit, a quote, a backquote, a slash, a backslash, a right brace, U+FFFD.
 abbrev pub begins_nothing : ℕ → List ℕ → Bool
-begins_nothing c cs = none_begins (lexemes_in division) (c ∷ cs) && not (is_decimal c || (one_of (34 ∷ 39 ∷ 96 ∷ 47 ∷ 92 ∷ 125 ∷ 0xFFFD ∷ []) c || ((c == 46) && begins is_decimal cs)))
+begins_nothing c cs = none_begins (lexemes_in division) (c ∷ cs) && not (is_decimal c || (one_of (codes "\"'`/\\}�") c || ((c == byte ".") && begins is_decimal cs)))
 
--- a quote and characters of which none is a line end, but directly behind a backslash
+-- None of the characters ends a line, but directly behind a backslash. CR and CR LF count as LF here. `escaped`: a backslash that is none itself stands directly before.
 abbrev pub lacks_line_end : Bool → List ℕ → Bool
 lacks_line_end escaped [] = true
-lacks_line_end escaped (c ∷ cs) = (escaped || not (c == 10)) && lacks_line_end (not escaped && (c == 92)) cs
+lacks_line_end escaped (c ∷ cs) = (escaped || not (c == byte "\n")) && lacks_line_end (not escaped && (c == byte "\\")) cs
 
+-- a quote and characters that end no line: the beginning of a string, as far as it may go
 abbrev pub is_open_string : Class
 is_open_string [] rest = false
-is_open_string (q ∷ cs) rest = one_of (34 ∷ 39 ∷ []) q && lacks_line_end false (line_feeds cs)
+is_open_string (q ∷ cs) rest = one_of (codes "\"'") q && lacks_line_end false (line_feeds cs)
 
 -- a quote and characters up to an equal one, whatever their escapes
 abbrev pub is_closed_string : Class
 is_closed_string [] rest = false
-is_closed_string (q ∷ cs) rest = one_of (34 ∷ 39 ∷ []) q && closes_string q false (line_feeds cs)
+is_closed_string (q ∷ cs) rest = one_of (codes "\"'") q && closes_string q false (line_feeds cs)
 
--- a slash, no star behind it, and characters of one line
+-- behind the slash: characters of one line, of which the first is no star
 abbrev pub is_open_pattern : List ℕ → Bool
-is_open_pattern cs = within_line cs && not (begins (λ c. c == 42) cs)
+is_open_pattern cs = within_line cs && not (begins (λ c. c == byte "*") cs)
 
+-- a slash, and so on
 abbrev pub is_open_regular_expression : Class
 is_open_regular_expression w rest = after (codes "/") is_open_pattern w
 
 -- a backquote or a right brace, and what stands behind it
 abbrev pub is_open_part : Class
-is_open_part w rest = begins (one_of (96 ∷ 125 ∷ [])) w
+is_open_part w rest = begins (one_of (codes "`}")) w
 
+-- a part that is ended
 abbrev pub is_part : Class
 is_part w rest = is_some (template_kind w) || is_some (template_tail_kind w)
 
@@ -67,6 +71,7 @@ is_part w rest = is_some (template_kind w) || is_some (template_tail_kind w)
 abbrev pub is_open_comment : Class
 is_open_comment w rest = starts (codes "/*") w
 
+-- a comment that is ended
 abbrev pub is_comment : Class
 is_comment w rest = is_multi_line_comment w
 
@@ -91,22 +96,23 @@ pub record InvalidNumber (text : List ℕ) (from : ℕ) : Type 0 where
   pub begun : IsTrue (is_decimal first || ((first == 46) && begins is_decimal others))
   pub none : (w rest : List ℕ) → first ∷ others ≡ w ++ rest → longest is_number_word w rest ≡ true → stops_number rest ≡ true → ⊥
 
--- nothing yet, or a name; the inside of a string, as far as it is right
+-- a name
 abbrev pub is_name_word : Class
 is_name_word w rest = is_some (name_of w)
 
+-- the inside of a string, each of its escapes well-formed
 abbrev pub is_right_inside : Class
 is_right_inside w rest = is_some (string_points w)
 
--- a backslash in a name, behind `#` or not, with which no name goes on
+-- A backslash with which no name goes on, behind a name or where one begins, with `#` before it or not.
 pub record InvalidNameEscape (text : List ℕ) (place from : ℕ) : Type 0 where
   pub mark : List ℕ
   pub name : List ℕ
   pub rest : List ℕ
-  pub here : behind text place ≡ mark ++ (name ++ 92 ∷ rest)
+  pub here : behind text place ≡ mark ++ (name ++ byte "\\" ∷ rest)
   pub marked : IsTrue (nothing_left mark || bytes_eq mark (codes "#"))
   pub named : IsTrue (nothing_left name || is_name_word name [])
-  pub never : IsTrue (none_longer is_name_word name (92 ∷ rest))
+  pub never : IsTrue (none_longer is_name_word name (byte "\\" ∷ rest))
   pub begin : from ≡ place + width mark + width name
 
 -- a backslash in a string, with which no inside goes on
@@ -114,11 +120,11 @@ pub record InvalidStringEscape (text : List ℕ) (place from : ℕ) : Type 0 whe
   pub quote : ℕ
   pub inside : List ℕ
   pub rest : List ℕ
-  pub here : behind text place ≡ quote ∷ inside ++ 92 ∷ rest
-  pub opened : IsTrue (is_open_string (quote ∷ inside) (92 ∷ rest))
+  pub here : behind text place ≡ quote ∷ inside ++ byte "\\" ∷ rest
+  pub opened : IsTrue (is_open_string (quote ∷ inside) (byte "\\" ∷ rest))
   pub unclosed : IsTrue (none_begins is_closed_string (quote ∷ inside))
   pub right : IsTrue (is_right_inside inside [])
-  pub never : IsTrue (none_longer is_right_inside inside (92 ∷ rest))
+  pub never : IsTrue (none_longer is_right_inside inside (byte "\\" ∷ rest))
   pub begin : from ≡ place + 1 + width inside
 
 -- one character, at which no lexeme begins
@@ -133,7 +139,7 @@ pub record InvalidCharacter (text : List ℕ) (from to : ℕ) : Type 0 where
 pub record BinaryFile (text : List ℕ) (from to : ℕ) : Type 0 where
   pub rest : List ℕ
   pub here : behind text from ≡ 0xFFFD ∷ rest
-  pub end : to ≡ from + width (0xFFFD ∷ [])
+  pub end : to ≡ from + width (codes "�")
 
 -- behind the place s stands a regular expression with a flag that is none of the eight, or that stood before
 pub record WrongFlag (text : List ℕ) (s from to : ℕ) : Type 0 where

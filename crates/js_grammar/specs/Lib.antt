@@ -17,6 +17,7 @@ pub mod FirstLanguageReadings
 pub mod Characters
 pub mod Longest
 pub mod Trivia
+pub mod CommentMarks
 pub mod Names
 pub mod Numbers
 pub mod Strings

@@ -1,6 +1,7 @@
 -- Names and keywords (ECMA-262, 12.7).
 use Rattle.std.specs.Prelude.{ℕ, Bool, true, false, ◌&&◌, List, [], ◌∷◌, ◌==◌, Option, Some, None}
 use Rattle.std.specs.List.{list_all, list_any}
+use Rattle.std.specs.Str.{byte}
 use Rattle.js_base.specs.declared.kind.Kind.{Kind}
 use Rattle.js_base.specs.declared.kind.Kind.TheVariants.{PrivateIdentifier}
 use Rattle.js_base.specs.Keywords.{keyword_of}
@@ -21,7 +22,7 @@ abbrev pub name_of : List ℕ → Option (List ℕ)
 name_of w = named (code_points in_name w)
 
 abbrev pub has_backslash : List ℕ → Bool
-has_backslash = list_any (λ c. c == 92)
+has_backslash = list_any (λ c. c == byte "\\")
 
 -- the kind that characters have as a name: that of the word that they spell, its own in the keyword table
 abbrev pub word_of : Option (List ℕ) → Option Kind
@@ -38,4 +39,4 @@ private_of (Some cs) = Some PrivateIdentifier
 
 abbrev pub private_kind : List ℕ → Option Kind
 private_kind [] = None
-private_kind (c ∷ cs) = elim (c == 35) [ true ↦ private_of (name_of cs) | false ↦ None ]
+private_kind (c ∷ cs) = elim (c == byte "#") [ true ↦ private_of (name_of cs) | false ↦ None ]

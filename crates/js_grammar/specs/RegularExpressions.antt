@@ -1,6 +1,7 @@
 -- Regular expressions (ECMA-262, 12.9.5; the flags, 13.2.7.2).
 use Rattle.std.specs.Prelude.{ℕ, Bool, true, false, not, ◌&&◌, ◌||◌, List, [], ◌∷◌, ◌==◌, codes, Option, Some, None}
 use Rattle.std.specs.List.{list_all}
+use Rattle.std.specs.Str.{byte}
 use Rattle.js_base.specs.declared.kind.Kind.{Kind}
 use Rattle.js_base.specs.declared.kind.Kind.TheVariants.{RegExp}
 use Rattle.js_base.specs.Characters.{one_of, is_line_terminator}
@@ -14,14 +15,14 @@ behind_pattern brackets escaped (c ∷ cs) =
     elim (is_line_terminator c) [
       | true ↦ None
       | false ↦
-          elim (not escaped && (not brackets && (c == 47))) [ true ↦ Some cs | false ↦ behind_pattern (elim escaped [ true ↦ brackets | false ↦ (brackets && not (c == 93)) || (c == 91) ]) (not escaped && (c == 92)) cs ]
+          elim (not escaped && (not brackets && (c == byte "/"))) [ true ↦ Some cs | false ↦ behind_pattern (elim escaped [ true ↦ brackets | false ↦ (brackets && not (c == byte "]")) || (c == byte "[") ]) (not escaped && (c == byte "\\")) cs ]
     ]
 
 -- the flags, of all characters from the opening slash on; none where they begin a comment or no slash ends the pattern
 abbrev pub flags : List ℕ → Option (List ℕ)
 flags [] = None
 flags (a ∷ []) = None
-flags (a ∷ c ∷ cs) = elim ((a == 47) && not (one_of (codes "*/") c)) [ true ↦ behind_pattern false false (c ∷ cs) | false ↦ None ]
+flags (a ∷ c ∷ cs) = elim ((a == byte "/") && not (one_of (codes "*/") c)) [ true ↦ behind_pattern false false (c ∷ cs) | false ↦ None ]
 
 -- RegularExpressionLiteral, with any name characters as flags
 abbrev pub flagged : Option (List ℕ) → Option Kind

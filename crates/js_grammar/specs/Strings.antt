@@ -1,6 +1,7 @@
 -- String literals (ECMA-262, 12.9.4), outside strict mode.
-use Rattle.std.specs.Prelude.{ℕ, Bool, true, false, not, ◌&&◌, ◌||◌, List, [], ◌∷◌, ◌==◌, Option, Some, None, is_some, take, drop, length, ◌-◌}
+use Rattle.std.specs.Prelude.{ℕ, Bool, true, false, not, ◌&&◌, ◌||◌, List, [], ◌∷◌, ◌==◌, Option, Some, None, is_some, take, drop, length, ◌-◌, codes}
 use Rattle.std.specs.List.{list_all}
+use Rattle.std.specs.Str.{byte}
 use Rattle.js_base.specs.declared.kind.Kind.{Kind}
 use Rattle.js_base.specs.declared.kind.Kind.TheVariants.{Str}
 use Rattle.js_base.specs.Characters.{one_of}
@@ -13,7 +14,7 @@ nothing_left = list_all (λ c. false)
 -- Behind the opening quote: the first equal quote ends the characters, and no LF stands before it; but one directly behind a backslash counts for neither. `escaped`: a backslash that is none itself stands directly before.
 abbrev pub closes_string : ℕ → Bool → List ℕ → Bool
 closes_string q escaped [] = false
-closes_string q escaped (c ∷ cs) = elim (not escaped && (c == q)) [ true ↦ nothing_left cs | false ↦ (escaped || not (c == 10)) && closes_string q (not escaped && (c == 92)) cs ]
+closes_string q escaped (c ∷ cs) = elim (not escaped && (c == q)) [ true ↦ nothing_left cs | false ↦ (escaped || not (c == byte "\n")) && closes_string q (not escaped && (c == byte "\\")) cs ]
 
 -- what stands between the quotes
 abbrev pub string_inside : List ℕ → List ℕ
@@ -22,4 +23,4 @@ string_inside w = drop 1 (take (length w - 1) w)
 -- StringLiteral: closed, and each of its escapes is well-formed
 abbrev pub string_kind : List ℕ → Option Kind
 string_kind [] = None
-string_kind (q ∷ cs) = elim (one_of (34 ∷ 39 ∷ []) q && (closes_string q false (line_feeds cs) && is_some (string_points (string_inside (q ∷ cs))))) [ true ↦ Some Str | false ↦ None ]
+string_kind (q ∷ cs) = elim (one_of (codes "\"'") q && (closes_string q false (line_feeds cs) && is_some (string_points (string_inside (q ∷ cs))))) [ true ↦ Some Str | false ↦ None ]

@@ -1,5 +1,6 @@
 -- Template parts (ECMA-262, 12.9.6).
 use Rattle.std.specs.Prelude.{ℕ, Bool, true, false, not, ◌&&◌, List, [], ◌∷◌, ◌==◌, Option, Some, None, take, drop, length, ◌-◌}
+use Rattle.std.specs.Str.{byte}
 use Rattle.js_base.specs.declared.kind.Kind.{Kind}
 use Rattle.js_base.specs.declared.kind.Kind.TheVariants.{NoSubstitutionTemplate, TemplateHead, TemplateMiddle, TemplateTail}
 use Rattle.js_base.specs.Kinds.{one_of_kinds}
@@ -10,10 +11,10 @@ use Rattle.js_grammar.specs.Strings.{nothing_left}
 abbrev pub closes_template : Bool → Bool → List ℕ → Option Bool
 closes_template escaped dollar [] = None
 closes_template escaped dollar (c ∷ cs) =
-    elim (not escaped && (c == 96)) [
+    elim (not escaped && (c == byte "`")) [
       | true ↦ elim (nothing_left cs) [ true ↦ Some false | false ↦ None ]
       | false ↦
-          elim (dollar && (c == 123)) [ true ↦ elim (nothing_left cs) [ true ↦ Some true | false ↦ None ] | false ↦ closes_template (not escaped && (c == 92)) (not escaped && (c == 36)) cs ]
+          elim (dollar && (c == byte "{")) [ true ↦ elim (nothing_left cs) [ true ↦ Some true | false ↦ None ] | false ↦ closes_template (not escaped && (c == byte "\\")) (not escaped && (c == byte "$")) cs ]
     ]
 
 abbrev pub part_kind : Kind → Kind → Option Bool → Option Kind
@@ -24,12 +25,12 @@ part_kind closing opening (Some false) = Some closing
 -- Template: a part that opens with a backquote
 abbrev pub template_kind : List ℕ → Option Kind
 template_kind [] = None
-template_kind (c ∷ cs) = elim (c == 96) [ true ↦ part_kind NoSubstitutionTemplate TemplateHead (closes_template false false cs) | false ↦ None ]
+template_kind (c ∷ cs) = elim (c == byte "`") [ true ↦ part_kind NoSubstitutionTemplate TemplateHead (closes_template false false cs) | false ↦ None ]
 
 -- TemplateSubstitutionTail: a part that opens with a brace
 abbrev pub template_tail_kind : List ℕ → Option Kind
 template_tail_kind [] = None
-template_tail_kind (c ∷ cs) = elim (c == 125) [ true ↦ part_kind TemplateTail TemplateMiddle (closes_template false false cs) | false ↦ None ]
+template_tail_kind (c ∷ cs) = elim (c == byte "}") [ true ↦ part_kind TemplateTail TemplateMiddle (closes_template false false cs) | false ↦ None ]
 
 -- the inside of a part: without the opening, and without the backquote or the `${` at its end
 abbrev pub template_inside : Kind → List ℕ → List ℕ

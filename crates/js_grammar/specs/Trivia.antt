@@ -1,6 +1,7 @@
 -- What stands between lexemes: white space, line terminators and comments (ECMA-262, 12.2 to 12.4; B.1.1 for the HTML-like ones).
 use Rattle.std.specs.Prelude.{ℕ, Bool, true, false, not, ◌&&◌, ◌||◌, List, [], ◌∷◌, ◌++◌, codes, ◌==◌}
 use Rattle.std.specs.List.{list_all, list_any}
+use Rattle.std.specs.Str.{byte}
 use Rattle.js_base.specs.Characters.{is_line_terminator}
 use Rattle.js_grammar.specs.Characters.{is_white_space, has_line_terminator}
 use Rattle.js_grammar.specs.Longest.{Class, longest, none_begins, joined}
@@ -18,7 +19,7 @@ within_line = list_all (λ c. not (is_line_terminator c))
 -- behind the opening of a MultiLineComment (12.4): the first `*/` ends the characters; `star` tells that a `*` stands directly before
 abbrev pub closes_comment : Bool → List ℕ → Bool
 closes_comment star [] = false
-closes_comment star (c ∷ cs) = elim (star && (c == 47)) [ true ↦ list_all (λ d. false) cs | false ↦ closes_comment (c == 42) cs ]
+closes_comment star (c ∷ cs) = elim (star && (c == byte "/")) [ true ↦ list_all (λ d. false) cs | false ↦ closes_comment (c == byte "*") cs ]
 
 abbrev pub is_single_line_comment : List ℕ → Bool
 is_single_line_comment = after (codes "//") within_line
@@ -56,4 +57,4 @@ lack_html_comments = list_all (λ p. not (is_html_comment p))
 
 -- a white space or line terminator other than space, tab, CR and LF
 abbrev pub is_irregular : List ℕ → Bool
-is_irregular w = is_blank w && list_all (λ c. not (list_any (λ d. d == c) (32 ∷ 9 ∷ 13 ∷ 10 ∷ []))) w
+is_irregular w = is_blank w && list_all (λ c. not (list_any (λ d. d == c) (codes " \t\r\n"))) w
