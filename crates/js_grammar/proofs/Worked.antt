@@ -6,14 +6,16 @@ use Rattle.std.specs.Prelude.{chars, bytes_eq}
 use Rattle.js_base.specs.declared.kind.Kind.{Kind}
 use Rattle.js_base.specs.Kinds.{same_kind}
 use Rattle.js_base.proofs.KindLemmas.{kind_of_same}
-use Rattle.js_grammar.specs.Trees.{Label, Slots, Tree}
+use Rattle.js_grammar.specs.Trees.{NodeKind, Op, Label, Slots, Tree}
 use Rattle.js_grammar.specs.Grammar.{Lexeme, Lexemes, last, next, Derives}
 use Rattle.js_grammar.specs.Characters.{width}
 use Rattle.js_grammar.specs.Longest.{joined}
 use Rattle.js_grammar.specs.Lexemes.{LexicalGoal, kind_in}
 use Rattle.js_grammar.specs.Lexed.{Passing, Lex, Lexes, Lexed, passing_of, ends_once}
 use Rattle.js_grammar.specs.Settings.{Goal}
-use Rattle.js_grammar.specs.Productions.{Symbol}
+use Rattle.js_grammar.specs.Options.{program_flags}
+use Rattle.js_grammar.specs.Productions.{Symbol, Program, at}
+use Rattle.js_grammar.specs.Readings.{IsDerived}
 use Rattle.js_grammar.specs.Table.{rule}
 use Rattle.js_grammar.proofs.Standing.{lexeme_of, passes, stand}
 use Rattle.js_grammar.proofs.Check.{check, checked}
@@ -98,3 +100,29 @@ derives_right n ls l cs e = let d = checked rule 40 undo_pife 300 n l cs 0 ls (�
     go : (j : ℕ) (rest : Lexemes) → Derives rule n (record { label = l; slots = cs }) 0 ls j rest → is_last rest ≡ true → DerivesAll n ls (record { label = l; slots = cs })
     go j (last x) d q = record { end = j; final = x; derived = d }
     go j (next x more) d q = absurd (false≢true q)
+
+-- Words for the examples.
+
+abbrev pub lexeme : List (List ℕ) → LexicalGoal → List ℕ → Kind → Written
+lexeme trivia goal word kind = record { trivia = trivia; goal = goal; word = word; kind = kind }
+
+abbrev pub label : NodeKind → Op → ℕ → ℕ → ℕ → Label
+label kind op flags from to = record { kind = kind; op = op; flags = flags; span = record { from = from; to = to } }
+
+-- the whole of a text, under the options that `return` stands anywhere and that V8's calls are read
+abbrev pub program_at : Goal → Bool → Bool → Symbol
+program_at goal allow_return v8 = at Program (program_flags goal (record { allow_return = allow_return; preserve_parens = true; allow_v8 = v8 }))
+
+-- the text has these lexemes, and Program derives the tree from them
+abbrev pub example : Goal → Bool → Bool → List ℕ → Written → List Written → Label → Slots → Bool
+example goal r v text x ys l cs = lexes goal text x ys && derives (program_at goal r v) (lexemes_at 0 x ys) l cs
+
+-- Program derives the tree from these lexemes
+abbrev pub tree_alone : Goal → Bool → Bool → Written → List Written → Label → Slots → Bool
+tree_alone goal r v x ys l cs = derives (program_at goal r v) (lexemes_at 0 x ys) l cs
+
+pub example_right : (goal : Goal) (r v : Bool) (text : List ℕ) (x : Written) (ys : List Written) (l : Label) (cs : Slots) → example goal r v text x ys l cs ≡ true → IsDerived (program_at goal r v) goal text (record { label = l; slots = cs })
+example_right goal r v text x ys l cs e =
+    let p = and_parts (lexes goal text x ys) _ e in
+    let d = derives_right (program_at goal r v) (lexemes_at 0 x ys) l cs p.1 in
+    record { lexemes = lexemes_at 0 x ys; lexed = lexes_right goal text x ys p.0; end = d.end; final = d.final; derived = d.derived }

@@ -32,3 +32,12 @@ pub mod FirstLanguageFirstSets
 pub mod Brackets
 pub mod FirstLanguageExamples
 pub mod FirstLanguageLaws
+pub mod NodeNames
+pub mod BoundNames
+pub mod ModuleRecords
+pub mod Modules
+pub mod RecordLines
+pub mod EarlyRules
+pub mod Options
+pub mod TreeForms
+pub mod Readings

@@ -1,5 +1,5 @@
 -- What the lines of the grammar are written in: nonterminals, their parameters, and words for right sides.
-use Rattle.std.specs.Prelude.{ℕ, ◌+◌, Bool, true, false, not, cond, ◌&&◌, ◌||◌, List, [], ◌∷◌}
+use Rattle.std.specs.Prelude.{◌-◌, ◌/◌, ◌%◌, nat_eq, ℕ, ◌+◌, Bool, true, false, not, cond, ◌&&◌, ◌||◌, List, [], ◌∷◌}
 use Rattle.js_base.specs.declared.kind.Kind.{Kind}
 use Rattle.js_base.specs.declared.kind.Kind.TheVariants.{LParen, RParen, LCurly, RCurly, Comma}
 use Rattle.js_base.specs.Kinds.{same_kind, one_of_kinds}
@@ -170,6 +170,13 @@ pure_flag = 4096
 
 abbrev pub pife_flag : ℕ
 pife_flag = 8192
+
+-- whether this flag is among flags; flags without it
+abbrev pub has_flag : ℕ → ℕ → Bool
+has_flag f n = nat_eq (n / f % 2) 1
+
+abbrev pub without_flag : ℕ → ℕ → ℕ
+without_flag f n = cond (has_flag f n) (n - f) n
 
 abbrev pub flag : Bool → ℕ → ℕ
 flag b n = cond b n 0
