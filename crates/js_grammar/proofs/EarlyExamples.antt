@@ -1,5 +1,5 @@
 -- The early rules: for each of them a tree that meets it and one that breaks it.
-use Rattle.std.specs.Prelude.{Bool, true, false, List, [], ◌∷◌, ◌≡◌, codes}
+use Rattle.std.specs.Prelude.{true, false, ◌≡◌, codes}
 use Rattle.std.proofs.Common.{refl}
 use Rattle.std.specs.Str.{chars}
 use Rattle.js_base.specs.declared.kind.Kind.TheVariants.{Decimal}

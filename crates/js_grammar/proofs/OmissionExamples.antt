@@ -1,5 +1,5 @@
 -- Where a semicolon may be left out (ECMA-262, 12.10), by what stands before it: for each row of the table a text in which it is, and a text that is no two statements.
-use Rattle.std.specs.Prelude.{Bool, true, false, List, [], ◌∷◌, ◌≡◌, codes}
+use Rattle.std.specs.Prelude.{true, false, [], ◌∷◌, ◌≡◌, codes}
 use Rattle.std.proofs.Common.{refl}
 use Rattle.std.specs.Str.{chars}
 use Rattle.js_base.specs.declared.kind.Kind.TheVariants.{Arrow, Colon, Eof, Eq, Ident, LBrack, LCurly, LParen, NoSubstitutionTemplate, Plus, Plus2, RBrack, RCurly, RParen, RegExp, Star, Str}

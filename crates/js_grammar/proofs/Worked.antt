@@ -1,5 +1,5 @@
 -- Worked examples by computing: that a text has these lexemes, and that a symbol derives this tree from them.
-use Rattle.std.proofs.Common.{ℕ, ◌+◌, ◌-◌, ◌≡◌, ◌≤◌, Bool, true, false, ◌&&◌, ◌==◌, List, [], ◌∷◌, ◌++◌, Some, None, Option, IsTrue, refl, ap, sym, subst, length, drop, leb}
+use Rattle.std.proofs.Common.{ℕ, ◌-◌, ◌≡◌, Bool, true, false, ◌&&◌, List, [], ◌∷◌, ◌++◌, Some, None, Option, ap, length, drop, leb}
 use Rattle.std.proofs.lemmas.Bool.{and_parts, false≢true, leb-true}
 use Rattle.std.proofs.lemmas.Slice.Eq.{bytes_eq-Decides}
 use Rattle.std.specs.Prelude.{chars, bytes_eq}
@@ -8,7 +8,6 @@ use Rattle.js_base.specs.Kinds.{same_kind}
 use Rattle.js_base.proofs.KindLemmas.{kind_of_same}
 use Rattle.js_grammar.specs.Trees.{NodeKind, Op, Label, Slots, Tree}
 use Rattle.js_grammar.specs.Grammar.{Lexeme, Lexemes, last, next, Derives}
-use Rattle.js_grammar.specs.Characters.{width}
 use Rattle.js_grammar.specs.Longest.{joined}
 use Rattle.js_grammar.specs.Lexemes.{LexicalGoal, kind_in}
 use Rattle.js_grammar.specs.Lexed.{Passing, Lex, Lexes, Lexed, passing_of, ends_once}

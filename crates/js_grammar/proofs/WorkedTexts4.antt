@@ -1,5 +1,5 @@
 -- Texts, their lexemes and their trees, and trees that are not theirs. An independent parser gave the trees; here they are derived by computing.
-use Rattle.std.specs.Prelude.{Bool, true, false, List, [], ◌∷◌, ◌≡◌, codes}
+use Rattle.std.specs.Prelude.{true, false, [], ◌∷◌, ◌≡◌, codes}
 use Rattle.std.proofs.Common.{refl}
 use Rattle.std.specs.Str.{chars}
 use Rattle.js_base.specs.declared.kind.Kind.TheVariants.{Arrow, Bang, Binary, Colon, Comma, Decimal, DecimalBigInt, Dot, Dot3, Eof, Eq, Eq2, Eq3, Float, GtEq, Hex, HexBigInt, Ident, LAngle, LBrack, LCurly, LParen, LtEq, Minus, Minus2, Neq, Neq2, NoSubstitutionTemplate, Octal, Percent, Plus, Plus2, PlusEq, PositiveExponential, PrivateIdentifier, QuestionDot, RAngle, RBrack, RCurly, RParen, RegExp, Semicolon, ShiftLeft, ShiftRight, ShiftRight3, Slash, Star, Star2, Str, TemplateHead, TemplateMiddle, TemplateTail, Tilde}

@@ -1,5 +1,5 @@
 -- Texts, their lexemes and their trees, and trees that are not theirs. An independent parser gave the trees; here they are derived by computing.
-use Rattle.std.specs.Prelude.{Bool, true, false, List, [], ◌∷◌, ◌≡◌, codes}
+use Rattle.std.specs.Prelude.{true, false, [], ◌∷◌, ◌≡◌, codes}
 use Rattle.std.proofs.Common.{refl}
 use Rattle.std.specs.Str.{chars}
 use Rattle.js_base.specs.declared.kind.Kind.TheVariants.{Arrow, Colon, Comma, Decimal, Eof, Eq, Ident, LBrack, LCurly, LParen, Plus, Plus2, RBrack, RCurly, RParen, Slash, Star, Str}

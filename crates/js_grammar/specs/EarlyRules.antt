@@ -1,12 +1,9 @@
 -- Early errors (ECMA-262, 5.2.7) that no production of the table leaves out: a predicate for each rule, over a text and its tree.
 use Rattle.std.specs.Prelude.{ℕ, Bool, true, false, not, ◌&&◌, ◌||◌, List, [], ◌∷◌, Option, Some, None, codes, bytes_eq, is_some, unwrap_or, IsTrue}
-use Rattle.std.specs.List.{list_all}
-use Rattle.js_base.specs.declared.kind.Kind.{Kind}
 use Rattle.js_base.specs.Characters.{one_of}
 use Rattle.js_base.specs.Decoding.{cooked, string_units, name_points}
 use Rattle.js_base.specs.Escapes.{code_units}
-use Rattle.js_grammar.specs.Words.{'get', 'set'}
-use Rattle.js_grammar.specs.Trees.{NodeKind, switch_statement, switch_case, try_statement, reg_exp_literal, template_literal, template_element, tagged_template_expression, with_clause, import_attribute, class_body, method_definition, property_definition, accessor_property, identifier_name, string_literal, private_identifier, function_expression, Op, no_op, init, method_op, constructor_op, exponential, of, Label, Slots, end, hole, tree, Tree}
+use Rattle.js_grammar.specs.Trees.{NodeKind, switch_statement, switch_case, try_statement, reg_exp_literal, template_literal, template_element, tagged_template_expression, with_clause, method_definition, property_definition, accessor_property, identifier_name, string_literal, private_identifier, Op, method_op, constructor_op, of, Label, Slots, end, hole, tree, Tree}
 use Rattle.js_grammar.specs.RegularExpressions.{flags}
 use Rattle.js_grammar.specs.Strings.{string_inside}
 use Rattle.js_grammar.specs.NodeNames.{characters_at}

@@ -41,3 +41,4 @@ pub mod EarlyRules
 pub mod Options
 pub mod TreeForms
 pub mod Readings
+pub mod Marks

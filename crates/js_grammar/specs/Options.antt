@@ -1,6 +1,6 @@
 -- What a parse is asked for beside its goal, and under which parameters the whole of a text is read.
 use Rattle.std.specs.Prelude.{Bool, true, false, ◌||◌}
-use Rattle.js_grammar.specs.Settings.{Goal, script, module_goal, commonjs, unambiguous, Settings}
+use Rattle.js_grammar.specs.Settings.{Goal, module_goal, commonjs, Settings}
 use Rattle.js_grammar.specs.Productions.{Flags}
 
 pub record Options : Type 0 where

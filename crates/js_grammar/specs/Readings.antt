@@ -1,11 +1,11 @@
 -- What it is that a tree is a reading of a text, and that it is valid for it (ECMA-262, chapter 16).
 use Rattle.std.specs.Prelude.{ℕ, ◌≡◌, ◌≤◌, Bool, true, false, ◌&&◌, ◌||◌, not, List, [], length, IsTrue, ◌⊎◌}
-use Rattle.js_grammar.specs.Trees.{NodeKind, import_declaration, export_all_declaration, export_from_declaration, export_named_declaration, export_declaration, export_default_declaration, import_meta, await_expression, function_declaration, function_expression, arrow_function_expression, static_block, Label, Slots, end, hole, tree, Tree}
+use Rattle.js_grammar.specs.Trees.{NodeKind, import_declaration, export_all_declaration, export_from_declaration, export_named_declaration, export_declaration, export_default_declaration, import_meta, await_expression, function_declaration, function_expression, arrow_function_expression, static_block, Slots, end, hole, tree, Tree}
 use Rattle.js_grammar.specs.Grammar.{Lexeme, Lexemes, last, Derives}
 use Rattle.js_grammar.specs.Productions.{Name, Program, Expression, Symbol, at}
 use Rattle.js_grammar.specs.Table.{rule}
 use Rattle.js_grammar.specs.Lexed.{Lexed}
-use Rattle.js_grammar.specs.CoreTexts.{CoreSource, max_len}
+use Rattle.js_grammar.specs.CoreTexts.{max_len}
 use Rattle.js_grammar.specs.Settings.{Goal, script, module_goal}
 use Rattle.js_grammar.specs.Options.{Options, program_flags}
 use Rattle.js_grammar.specs.EarlyRules.{EarlyOk}

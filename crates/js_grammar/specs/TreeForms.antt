@@ -1,6 +1,6 @@
 -- A tree with something left out of it.
-use Rattle.std.specs.Prelude.{ℕ, Bool, true, false, cond}
-use Rattle.js_grammar.specs.Trees.{NodeKind, parenthesized_expression, Span, Label, Slots, end, hole, tree, Tree, append}
+use Rattle.std.specs.Prelude.{Bool, true, false, cond}
+use Rattle.js_grammar.specs.Trees.{NodeKind, parenthesized_expression, Label, Slots, end, hole, tree, Tree, append}
 use Rattle.js_grammar.specs.Productions.{pure_flag, without_flag}
 
 -- every node's label is changed
