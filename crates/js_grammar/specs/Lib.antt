@@ -42,3 +42,5 @@ pub mod Options
 pub mod TreeForms
 pub mod Readings
 pub mod Marks
+pub mod Derivations
+pub mod PureMarks
