@@ -40,7 +40,11 @@ pub mod RecordLines
 pub mod EarlyRules
 pub mod Options
 pub mod TreeForms
+pub mod Pruning
+pub mod CoreGrammar
 pub mod Readings
 pub mod Marks
 pub mod Derivations
 pub mod PureMarks
+pub mod CommandLine
+pub mod Output
