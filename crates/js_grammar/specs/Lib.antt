@@ -42,6 +42,7 @@ pub mod Options
 pub mod TreeForms
 pub mod Pruning
 pub mod CoreGrammar
+pub mod CoreReadings
 pub mod Readings
 pub mod Marks
 pub mod Derivations

@@ -3,5 +3,6 @@
 //! The definitions stand in `specs/`. No call of this crate runs in the program.
 #![tactic(auto)]
 
+pub mod grammar_laws;
 pub mod laws;
 pub mod lexical_laws;
