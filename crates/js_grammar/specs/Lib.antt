@@ -9,8 +9,9 @@ pub mod Table
 pub mod FirstLanguageInsertion
 pub mod FirstLanguageTable
 pub mod FirstLanguageLexing
-pub mod FirstLanguageLevels
 pub mod Parsing
+pub mod FirstLanguageParsing
+pub mod FirstLanguageLevels
 pub mod Lines
 pub mod Settings
 pub mod FirstLanguageReadings
