@@ -6,6 +6,7 @@ pub mod Insertion
 pub mod Productions
 pub mod Conditions
 pub mod Table
+pub mod FirstSets
 pub mod FirstLanguageInsertion
 pub mod FirstLanguageTable
 pub mod FirstLanguageLexing
