@@ -1,7 +1,7 @@
 -- Lexemes behind what is taken.
 use Rattle.std.proofs.Common.{ℕ}
-use Rattle.js_grammar.specs.Trees.{Slots}
-use Rattle.js_grammar.specs.Grammar.{Lexeme, Lexemes, Grammar, Takes, is_nothing, is_lexeme, is_look, is_text, is_ahead, is_empty_slot, is_seq, is_left, is_right, is_when, is_many, is_commas, is_such, is_marked, is_node, is_ended, is_keep, is_kept}
+use Rattle.js_grammar.specs.Trees.{Slots, Tree}
+use Rattle.js_grammar.specs.Grammar.{Lexeme, Lexemes, last, next, here, Grammar, Takes, Derives, is_nothing, is_lexeme, is_look, is_text, is_ahead, is_empty_slot, is_seq, is_left, is_right, is_when, is_many, is_commas, is_such, is_marked, is_node, is_ended, is_keep, is_kept}
 use Rattle.js_grammar.specs.Lexed.{Lexes}
 
 -- Behind what is taken from lexemes that stand one behind the other, the others do too.
@@ -24,3 +24,7 @@ lexed_behind Lex (is_node d) l = lexed_behind Lex d l
 lexed_behind Lex (is_ended q d e) l = lexed_behind Lex e (lexed_behind Lex d l)
 lexed_behind Lex (is_keep d e) l = lexed_behind Lex e (lexed_behind Lex d l)
 lexed_behind Lex (is_kept q) l = l
+
+-- A text that is taken whole was lexed to its last lexeme.
+pub to_the_end : {N : Type 0} {rules : N → Grammar N} (Lex : ℕ → Lexeme → Type 0) (n : N) (t : Tree) {i j : ℕ} {ls : Lexemes} {x : Lexeme} → Derives rules n t i ls j (last x) → Lexes Lex i ls → Lex j x
+to_the_end Lex n t d l = lexed_behind Lex d l

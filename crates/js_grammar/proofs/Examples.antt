@@ -18,7 +18,7 @@ use Rattle.js_grammar.specs.FirstLanguageExamples.{sum_text, sum_tree, call_text
 use Rattle.js_grammar.proofs.Looks.{differ}
 use Rattle.js_grammar.proofs.Calculus.{here_at}
 use Rattle.js_grammar.proofs.Lexemes.{one_lexeme, placed}
-use Rattle.js_grammar.proofs.Statements.{by_semicolon, by_none, Ending, first_ends}
+use Rattle.js_grammar.proofs.FirstLanguageStatements.{by_semicolon, by_none, Ending, first_ends}
 use Rattle.js_grammar.proofs.Check.{check, checked}
 use Rattle.js_grammar.proofs.LexChecks.{name_here, punctuator_here, end_here}
 

@@ -5,7 +5,7 @@ use Rattle.js_base.specs.declared.kind.Kind.{Kind}
 use Rattle.js_base.specs.Kinds.{code, kinds, same_kind}
 use Rattle.js_base.proofs.KindLemmas.{all_of, at_each}
 use Rattle.js_grammar.specs.Grammar.{Look}
-pub use Rattle.js_grammar.specs.FirstLanguageLevels.{full}
+pub use Rattle.js_grammar.specs.Parsing.{full}
 
 abbrev pub none : Look
 none k w e = false

@@ -1,4 +1,4 @@
--- Brackets match in whatever a grammar takes, where each rule's own brackets do: a computed check.
+-- Brackets match in whatever a grammar takes, where each rule's own brackets do: a computed check. For any grammar.
 use Rattle.std.proofs.Common.{ℕ, List, [], ◌∷◌, ◌++◌, ◌≡◌, Bool, true, false, not, ◌&&◌, ◌||◌, IsTrue, refl, ap₂, sym, subst, cond, nat_eq, eqb-true, Some}
 use Rattle.std.proofs.lemmas.Bool.{false≢true, and_parts}
 use Rattle.js_base.specs.declared.kind.Kind.{Kind}
@@ -7,7 +7,6 @@ use Rattle.js_base.specs.Kinds.{same_kind}
 use Rattle.js_base.proofs.KindLemmas.{kind_of_same}
 use Rattle.js_grammar.specs.Trees.{Tree, Slots}
 use Rattle.js_grammar.specs.Grammar.{Lexeme, Lexemes, next, Look, seen, is, Grammar, nothing, never, lexeme, look, text, ahead, empty_slot, seq, alt, when, many, commas, such, marked, node, ended, keep, kept, Takes, Derives, is_nothing, is_lexeme, is_look, is_text, is_ahead, is_empty_slot, is_seq, is_left, is_right, is_when, is_many, is_commas, is_such, is_marked, is_node, is_ended, is_keep, is_kept}
-use Rattle.js_grammar.specs.FirstLanguageTable.{Flags, Name, Symbol, rule, rule_of, Program, Item, Empty, ExprStmt, Expression, Additive, Multiply, Unary, Update, LeftHandSide, Member, Call, Primary, IdentifierReference}
 use Rattle.js_grammar.specs.Brackets.{plain, opens, closes, pop, bracket, move, Runs, stop, go_on}
 use Rattle.js_grammar.proofs.Looks.{apart, covers, covered, not_both}
 
@@ -82,24 +81,6 @@ effect (node m a) s = effect a s
 effect (ended rows a) s = effect a s
 effect (keep a b) s = then_effect (effect a s) (effect b)
 effect kept s = leaves s
-
--- Each rule leaves the brackets as they were.
-rules_match : (n : Name) (f : Flags) → effect (rule_of n f) [] ≡ leaves []
-unfolding rule_of apart covers
-rules_match Program f = refl
-rules_match Item f = refl
-rules_match Empty f = refl
-rules_match ExprStmt f = refl
-rules_match Expression f = refl
-rules_match Additive f = refl
-rules_match Multiply f = refl
-rules_match Unary f = refl
-rules_match Update f = refl
-rules_match LeftHandSide f = refl
-rules_match Member f = refl
-rules_match Call f = refl
-rules_match Primary f = refl
-rules_match IdentifierReference f = refl
 
 pub not_bracket : (k : Kind) (w e : Bool) → (brackets k w e ≡ true → ⊥) → bracket k ≡ plain
 unfolding bracket
@@ -235,36 +216,34 @@ semicolon_is : bracket Semicolon ≡ plain
 unfolding bracket
 semicolon_is = refl
 
-rule_matches : (n : Symbol) → effect (rule n) [] ≡ leaves []
-unfolding rule
-rule_matches n = rules_match n.name n.flags
+-- Each rule leaves the brackets as they were.
+module _ {N : Type 0} {rule : N → Grammar N} (rule_matches : (n : N) → effect (rule n) [] ≡ leaves []) where
+  -- What is taken does to the brackets what its grammar's effect says.
+  pub balance : {g : Grammar N} {ks ts us : Slots} {i j : ℕ} {ls rest : Lexemes} → Takes rule g ks ts i ls us j rest → (s st : List ℕ) → Meets (effect g s) s st ls rest
+  balance is_nothing s st = stop
+  balance (is_lexeme {p = p} e) s st = lexeme_meets st _ _ p s e
+  balance (is_look e) s st = stop
+  balance (is_text e) s st = stop
+  balance (is_ahead d) s st = stop
+  balance is_empty_slot s st = stop
+  balance (is_seq {a = a} {b = b} d e) s st = then_meets st _ (effect a s) (effect b) s _ _ (balance d s st) (λ t. balance e t st)
+  balance (is_left {a = a} {b = b} d) s st = both_left st _ _ (effect a s) (effect b s) s (balance d s st)
+  balance (is_right {a = a} {b = b} d) s st = both_right st _ _ (effect a s) (effect b s) s (balance d s st)
+  balance (is_when c d) s st = balance d s st
+  balance (is_many {a = a} (is_right is_nothing)) s st = none_of_many st _ (effect a s) s
+  balance (is_many {a = a} (is_left (is_seq d e))) s st = more_of_many st (effect a s) s _ _ _ (one_of_many st _ _ (effect a s) s (balance d s st)) (balance e s st)
+  balance (is_commas {a = a} (is_seq d (is_right is_nothing))) s st = one_of_many st _ _ (effect a s) s (balance d s st)
+  balance (is_commas {b = true} {a = a} (is_seq d (is_left (is_seq (is_lexeme c) (is_right is_nothing))))) s st = and_then st _ (repeats (effect a s) s) s _ _ (one_of_many st _ _ (effect a s) s (balance d s st)) (plain_one Comma comma_is c)
+  balance (is_commas {b = true} {a = a} (is_seq d (is_left (is_seq (is_lexeme c) (is_left e))))) s st = more_of_many st (effect a s) s _ _ _ (and_then st _ (repeats (effect a s) s) s _ _ (one_of_many st _ _ (effect a s) s (balance d s st)) (plain_one Comma comma_is c)) (balance e s st)
+  balance (is_commas {b = false} {a = a} (is_seq d (is_left (is_seq (is_lexeme c) e)))) s st = more_of_many st (effect a s) s _ _ _ (and_then st _ (repeats (effect a s) s) s _ _ (one_of_many st _ _ (effect a s) s (balance d s st)) (plain_one Comma comma_is c)) (balance e s st)
+  balance (is_such {n = n} {ls = ls} {rest = rest} d c) s st = subst (λ e. Meets e [] (s ++ st) ls rest) (rule_matches n) (balance d [] (s ++ st))
+  balance (is_marked {n = n} {ls = ls} {rest = rest} d) s st = subst (λ e. Meets e [] (s ++ st) ls rest) (rule_matches n) (balance d [] (s ++ st))
+  balance (is_node d) s st = balance d s st
+  balance (is_ended {a = a} q d (is_left (is_lexeme c))) s st = and_then st _ (effect a s) s _ _ (balance d s st) (plain_one Semicolon semicolon_is c)
+  balance (is_ended q d (is_right (is_look c))) s st = balance d s st
+  balance (is_keep {a = a} {b = b} d e) s st = then_meets st _ (effect a s) (effect b) s _ _ (balance d s st) (λ t. balance e t st)
+  balance (is_kept q) s st = stop
 
--- What is taken does to the brackets what its grammar's effect says.
-pub balance : {g : Grammar Symbol} {ks ts us : Slots} {i j : ℕ} {ls rest : Lexemes} → Takes rule g ks ts i ls us j rest → (s st : List ℕ) → Meets (effect g s) s st ls rest
-balance is_nothing s st = stop
-balance (is_lexeme {p = p} e) s st = lexeme_meets st _ _ p s e
-balance (is_look e) s st = stop
-balance (is_text e) s st = stop
-balance (is_ahead d) s st = stop
-balance is_empty_slot s st = stop
-balance (is_seq {a = a} {b = b} d e) s st = then_meets st _ (effect a s) (effect b) s _ _ (balance d s st) (λ t. balance e t st)
-balance (is_left {a = a} {b = b} d) s st = both_left st _ _ (effect a s) (effect b s) s (balance d s st)
-balance (is_right {a = a} {b = b} d) s st = both_right st _ _ (effect a s) (effect b s) s (balance d s st)
-balance (is_when c d) s st = balance d s st
-balance (is_many {a = a} (is_right is_nothing)) s st = none_of_many st _ (effect a s) s
-balance (is_many {a = a} (is_left (is_seq d e))) s st = more_of_many st (effect a s) s _ _ _ (one_of_many st _ _ (effect a s) s (balance d s st)) (balance e s st)
-balance (is_commas {a = a} (is_seq d (is_right is_nothing))) s st = one_of_many st _ _ (effect a s) s (balance d s st)
-balance (is_commas {b = true} {a = a} (is_seq d (is_left (is_seq (is_lexeme c) (is_right is_nothing))))) s st = and_then st _ (repeats (effect a s) s) s _ _ (one_of_many st _ _ (effect a s) s (balance d s st)) (plain_one Comma comma_is c)
-balance (is_commas {b = true} {a = a} (is_seq d (is_left (is_seq (is_lexeme c) (is_left e))))) s st = more_of_many st (effect a s) s _ _ _ (and_then st _ (repeats (effect a s) s) s _ _ (one_of_many st _ _ (effect a s) s (balance d s st)) (plain_one Comma comma_is c)) (balance e s st)
-balance (is_commas {b = false} {a = a} (is_seq d (is_left (is_seq (is_lexeme c) e)))) s st = more_of_many st (effect a s) s _ _ _ (and_then st _ (repeats (effect a s) s) s _ _ (one_of_many st _ _ (effect a s) s (balance d s st)) (plain_one Comma comma_is c)) (balance e s st)
-balance (is_such {n = n} {ls = ls} {rest = rest} d c) s st = subst (λ e. Meets e [] (s ++ st) ls rest) (rule_matches n) (balance d [] (s ++ st))
-balance (is_marked {n = n} {ls = ls} {rest = rest} d) s st = subst (λ e. Meets e [] (s ++ st) ls rest) (rule_matches n) (balance d [] (s ++ st))
-balance (is_node d) s st = balance d s st
-balance (is_ended {a = a} q d (is_left (is_lexeme c))) s st = and_then st _ (effect a s) s _ _ (balance d s st) (plain_one Semicolon semicolon_is c)
-balance (is_ended q d (is_right (is_look c))) s st = balance d s st
-balance (is_keep {a = a} {b = b} d e) s st = then_meets st _ (effect a s) (effect b) s _ _ (balance d s st) (λ t. balance e t st)
-balance (is_kept q) s st = stop
-
--- The lexemes of every derivation match, whatever brackets are open around it.
-pub matched : (n : Symbol) (t : Tree) {i j : ℕ} {ls rest : Lexemes} → Derives rule n t i ls j rest → (st : List ℕ) → Runs st ls st rest
-matched n t {ls = ls} {rest = rest} d st = subst (λ e. Meets e [] st ls rest) (rule_matches n) (balance d [] st)
+  -- The lexemes of every derivation match, whatever brackets are open around it.
+  pub matched : (n : N) (t : Tree) {i j : ℕ} {ls rest : Lexemes} → Derives rule n t i ls j rest → (st : List ℕ) → Runs st ls st rest
+  matched n t {ls = ls} {rest = rest} d st = subst (λ e. Meets e [] st ls rest) (rule_matches n) (balance d [] st)

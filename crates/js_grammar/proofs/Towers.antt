@@ -1,9 +1,9 @@
--- Left-recursive symbols, one above the other, and the loop that reads them: what a symbol takes is what the topmost operand takes, with parts behind it.
+-- Left-recursive symbols, one above the other, and the loop that reads them: what a symbol takes is what a foot takes, with parts behind it. For any grammar.
 use Rattle.std.proofs.Common.{ℕ, zero, suc, ◌≡◌, ◌≤◌, ◌+◌, ◌-◌, Bool, IsTrue, List, [], ◌∷◌, refl, ap, sym, subst, arith, ◌↔◌, nat_eq, cond}
 use Rattle.js_base.specs.declared.kind.Kind.{Kind}
 use Rattle.js_grammar.specs.Trees.{NodeKind, Op, of, Label, Slots, end, hole, tree}
 use Rattle.js_grammar.specs.Grammar.{here, Lexemes, Make, exact, Grammar, never, lexeme, is, seq, alt, when, such, node, Takes, is_seq, is_left, is_right, is_when, is_such, is_node}
-use Rattle.js_grammar.specs.FirstLanguageTable.{Symbol, G, rule, always, branches}
+use Rattle.js_grammar.specs.Parsing.{always}
 
 -- A link: a node around what stands before it, and the part that follows.
 pub record Link (N : Type 0) : Type 0 where
@@ -36,16 +36,22 @@ pub data Links {N : Type 0} (n : N) : Grammar N → Type 0 where
   guarded : {c : Bool} {a : Grammar N} → Links n a → Links n (when c a)
   none_at_all : Links n never
 
--- Symbols by levels, each of which takes what the operand of the next level takes, or a link behind itself. Above the last stands any grammar.
+-- Symbols by levels, each of which takes what the operand of the next level takes, or what a foot of its own takes, or a link behind itself. Above the last stands any grammar.
 pub record Tower {N : Type 0} (rule : N → Grammar N) : Type 0 where
   pub level : ℕ → N
   pub top : ℕ
+  pub feet : ℕ → Grammar N
   pub steps : ℕ → Grammar N
   pub operand : ℕ → Grammar N
   pub symbols : (p : ℕ) → p ≤ top → operand p ≡ such (level p) always
-  pub climbs : (p : ℕ) → p ≤ top → (ts us : Slots) (i j : ℕ) (ls rest : Lexemes) → Takes rule (rule (level p)) end ts i ls us j rest → Takes rule (alt (operand (p + 1)) (steps p)) end ts i ls us j rest
-  pub falls : (p : ℕ) → p ≤ top → (ts us : Slots) (i j : ℕ) (ls rest : Lexemes) → Takes rule (alt (operand (p + 1)) (steps p)) end ts i ls us j rest → Takes rule (rule (level p)) end ts i ls us j rest
+  pub climbs : (p : ℕ) → p ≤ top → (ts us : Slots) (i j : ℕ) (ls rest : Lexemes) → Takes rule (rule (level p)) end ts i ls us j rest → Takes rule (alt (alt (operand (p + 1)) (feet p)) (steps p)) end ts i ls us j rest
+  pub falls : (p : ℕ) → p ≤ top → (ts us : Slots) (i j : ℕ) (ls rest : Lexemes) → Takes rule (alt (alt (operand (p + 1)) (feet p)) (steps p)) end ts i ls us j rest → Takes rule (rule (level p)) end ts i ls us j rest
   pub linked : (p : ℕ) → p ≤ top → Links (level p) (steps p)
+
+-- What a loop for the level m may begin with, and the level of that: the topmost operand, or a foot of a level from m on.
+pub data Foot {N : Type 0} {rule : N → Grammar N} (w : Tower rule) (m : ℕ) : ℕ → Grammar N → Type 0 where
+  topmost : Foot w m (w.top + 1) (w.operand (w.top + 1))
+  of_level : {q : ℕ} → m ≤ q → q ≤ w.top → Foot w m q (w.feet q)
 
 -- The postfix form: behind a node of the level c stand parts, each of which makes a node around what stands before it, of its own level, m at least; a node of the level m comes of it.
 pub data Tail {N : Type 0} {rule : N → Grammar N} (w : Tower rule) (m from : ℕ) : ℕ → Label → Slots → ℕ → Lexemes → Label → Slots → ℕ → Lexemes → Type 0 where
@@ -105,7 +111,19 @@ module _ {N : Type 0} {rule : N → Grammar N} where
 
     -- what a symbol takes, in postfix form
     abbrev pub Postfix : ℕ → Label → Slots → ℕ → Lexemes → ℕ → Lexemes → Type 0
-    Postfix m l cs i ls j rest = (l' : Label) × (cs' : Slots) × (k : ℕ) × (mid : Lexemes) × Takes rule (w.operand (w.top + 1)) end (tree l' cs' end) i ls end k mid × Tail w m (here ls).from (w.top + 1) l' cs' k mid l cs j rest
+    Postfix m l cs i ls j rest = (l' : Label) × (cs' : Slots) × (k : ℕ) × (mid : Lexemes) × (c : ℕ) × (g : Grammar N) × Foot w m c g × Takes rule g end (tree l' cs' end) i ls end k mid × Tail w m (here ls).from c l' cs' k mid l cs j rest
+
+    lower_foot : {m c : ℕ} {g : Grammar N} → Foot w (m + 1) c g → Foot w m c g
+    lower_foot topmost = topmost
+    lower_foot (of_level a b) = of_level (omega arith) b
+
+    pub foot_high : {m c : ℕ} {g : Grammar N} → m ≤ w.top + 1 → Foot w m c g → m ≤ c
+    foot_high h topmost = h
+    foot_high h (of_level a b) = a
+
+    pub foot_low : {m c : ℕ} {g : Grammar N} → Foot w m c g → c ≤ w.top + 1
+    foot_low topmost = omega arith
+    foot_low (of_level a b) = omega arith
 
     to_symbol : {m : ℕ} → m ≤ w.top → {ts us : Slots} {i j : ℕ} {ls rest : Lexemes} → Takes rule (w.operand m) end ts i ls us j rest → Takes rule (such (w.level m) always) end ts i ls us j rest
     to_symbol {m} h {ts} {us} {i} {j} {ls} {rest} d = subst (λ v. Takes rule v end ts i ls us j rest) (w.symbols m h) d
@@ -125,11 +143,12 @@ module _ {N : Type 0} {rule : N → Grammar N} where
     behind : {m i j : ℕ} {ls rest : Lexemes} (cs : Slots) → Inner cs → m ≤ w.top → {x : Link N} → Among (w.level m) (w.steps m) x → Takes rule (seq (such (w.level m) always) x.part) end cs i ls end j rest → Postfix m (linked_label x (here ls).from j) cs i ls j rest
     behind {m} {i} {j} {ls} {rest} cs h t x (is_seq (is_such {l = l} {cs = ds} {us = us} d c) p) =
         let y = h m i _ ls _ (omega arith) (of_symbol t (is_such d refl)) in
-        (y.0, y.1, y.2, y.3, y.4, one_more (omega arith) t y.5 x p)
+        (y.0, y.1, y.2, y.3, y.4, y.5, y.6, y.7, one_more (foot_high (omega arith) y.6) t y.8 x p)
 
     by_choice : {m i j : ℕ} {ls rest : Lexemes} (l : Label) (cs : Slots) → Inner cs → m ≤ w.top → (Takes rule (w.operand (m + 1)) end (tree l cs end) i ls end j rest → Postfix (m + 1) l cs i ls j rest)
-        → Takes rule (alt (w.operand (m + 1)) (w.steps m)) end (tree l cs end) i ls end j rest → Postfix m l cs i ls j rest
-    by_choice l cs h t up (is_left d) = let y = up d in (y.0, y.1, y.2, y.3, y.4, lower (omega arith) y.5)
+        → Takes rule (alt (alt (w.operand (m + 1)) (w.feet m)) (w.steps m)) end (tree l cs end) i ls end j rest → Postfix m l cs i ls j rest
+    by_choice l cs h t up (is_left (is_left d)) = let y = up d in (y.0, y.1, y.2, y.3, y.4, y.5, lower_foot y.6, y.7, lower (omega arith) y.8)
+    by_choice {m} {i} {j} {ls} {rest} l cs h t up (is_left (is_right d)) = (l, cs, j, rest, m, w.feet m, of_level (omega arith) t, d, tail_none)
     by_choice {m} {i} {j} {ls} {rest} l cs h t up (is_right d) =
         let y = split (w.linked m t) d in
         let q = sym (same_slots y.3) in
@@ -139,7 +158,7 @@ module _ {N : Type 0} {rule : N → Grammar N} where
     of_such (is_such d c) = d
 
     climb : (l : Label) (cs : Slots) → Inner cs → (f m i j : ℕ) (ls rest : Lexemes) → f + m ≡ w.top + 1 → Takes rule (w.operand m) end (tree l cs end) i ls end j rest → Postfix m l cs i ls j rest
-    climb l cs h zero m i j ls rest e d = let same : m ≡ w.top + 1 = omega arith in (l, cs, j, rest, subst (λ v. Takes rule (w.operand v) end (tree l cs end) i ls end j rest) same d, tail_none)
+    climb l cs h zero m i j ls rest e d = let same : m ≡ w.top + 1 = omega arith in (l, cs, j, rest, w.top + 1, w.operand (w.top + 1), topmost, subst (λ v. Takes rule (w.operand v) end (tree l cs end) i ls end j rest) same d, tail_none)
     climb l cs h (suc f) m i j ls rest e d =
         let t : m ≤ w.top = omega arith in
         by_choice l cs h t (climb l cs h f (m + 1) i j ls rest (omega arith)) (w.climbs m t (tree l cs end) end i j ls rest (of_such (to_symbol t d)))
@@ -151,7 +170,7 @@ module _ {N : Type 0} {rule : N → Grammar N} where
     unroll l (tree l' cs us) m i j ls rest b d = climb l (tree l' cs us) (unroll l' cs) (w.top + 1 - m) m i j ls rest (omega arith) d
 
     up_one : {p : ℕ} {l : Label} {cs : Slots} {i j : ℕ} {ls rest : Lexemes} → p ≤ w.top → Takes rule (w.operand (p + 1)) end (tree l cs end) i ls end j rest → Takes rule (w.operand p) end (tree l cs end) i ls end j rest
-    up_one {p} {l} {cs} {i} {j} {ls} {rest} h d = of_symbol h (is_such (w.falls p h (tree l cs end) end i j ls rest (is_left d)) refl)
+    up_one {p} {l} {cs} {i} {j} {ls} {rest} h d = of_symbol h (is_such (w.falls p h (tree l cs end) end i j ls rest (is_left (is_left d))) refl)
 
     down : (f : ℕ) {m c : ℕ} {l : Label} {cs : Slots} {i j : ℕ} {ls rest : Lexemes} → f + m ≡ c → c ≤ w.top + 1 → Takes rule (w.operand c) end (tree l cs end) i ls end j rest → Takes rule (w.operand m) end (tree l cs end) i ls end j rest
     down zero {m} {c} {l} {cs} {i} {j} {ls} {rest} e b d = let same : c ≡ m = omega arith in subst (λ v. Takes rule (w.operand v) end (tree l cs end) i ls end j rest) same d
@@ -164,9 +183,14 @@ module _ {N : Type 0} {rule : N → Grammar N} where
     roll {m} {s} {start} {c} d a b (tail_more {q = q} {x = x} {l = l} {cs = cs} {ds = ds} {j = j} {mid = mid} mq qc qt y p t) =
         roll (of_symbol qt (is_such (w.falls q qt (tree (linked_label x (here start).from j) (tree l cs ds) end) end s j start mid (is_right (join y (is_seq (reslot ds (to_symbol qt (down (c - q) (omega arith) b d))) p)))) refl)) mq (omega arith) t
 
+    -- what a foot takes its level's operand takes
+    pub on_foot : {m c : ℕ} {g : Grammar N} {l : Label} {cs : Slots} {i j : ℕ} {ls rest : Lexemes} → Foot w m c g → Takes rule g end (tree l cs end) i ls end j rest → Takes rule (w.operand c) end (tree l cs end) i ls end j rest
+    on_foot topmost d = d
+    on_foot {l = l} {cs = cs} {i = i} {j = j} {ls = ls} {rest = rest} (of_level {q = q} a b) d = of_symbol b (is_such (w.falls q b (tree l cs end) end i j ls rest (is_left (is_right d))) refl)
+
     -- The left-recursive table takes what the postfix form takes.
     pub is_postfix : {m : ℕ} {l : Label} {cs : Slots} {i j : ℕ} {ls rest : Lexemes} → m ≤ w.top + 1 → Takes rule (w.operand m) end (tree l cs end) i ls end j rest ↔ Postfix m l cs i ls j rest
-    is_postfix {m} {l} {cs} {i} {j} {ls} {rest} h = (λ d. unroll l cs m i j ls rest h d, λ y. roll y.4 h (omega arith) y.5)
+    is_postfix {m} {l} {cs} {i} {j} {ls} {rest} h = (λ d. unroll l cs m i j ls rest h d, λ y. roll (on_foot y.6 y.7) (foot_high h y.6) (foot_low y.6) y.8)
 
 -- a member of a list
 pub data OneOf {A : Type 0} (x : A) : List A → Type 0 where
@@ -189,20 +213,26 @@ an_link i = agrees i
 pub under : {N : Type 0} {n : N} {c : Bool} {a : Grammar N} {x : Link N} → Among n (when c a) x → IsTrue c × Among n a x
 under (of_when c i) = (c, i)
 
--- Operators of one level: for each a choice, whose left operand is of the level and whose right one is of the next.
-module _ (level : ℕ → Symbol) (kind : NodeKind) (p : ℕ) where
-  abbrev pub operation : Kind → G
-  operation o = node (make_of kind (of o) 0) (seq (such (level p) always) (seq (lexeme (is o)) (such (level (p + 1)) always)))
+-- a choice for each of these kinds
+abbrev pub branches : {N : Type 0} → List Kind → (Kind → Grammar N) → Grammar N
+branches [] g = never
+branches (k ∷ []) g = g k
+branches (k ∷ ks) g = alt (g k) (branches ks g)
 
-  abbrev pub operation_link : Kind → Link Symbol
-  operation_link o = link kind (of o) 0 (seq (lexeme (is o)) (such (level (p + 1)) always))
+-- Operators of one level: for each a choice, whose left operand is of the level and whose right one is of the next.
+module _ {N : Type 0} (level : ℕ → N) (kind : ℕ → NodeKind) (p : ℕ) where
+  abbrev pub operation : Kind → Grammar N
+  operation o = node (make_of (kind p) (of o) 0) (seq (such (level p) always) (seq (lexeme (is o)) (such (level (p + 1)) always)))
+
+  abbrev pub operation_link : Kind → Link N
+  operation_link o = link (kind p) (of o) 0 (seq (lexeme (is o)) (such (level (p + 1)) always))
 
   pub operations_linked : (os : List Kind) → Links (level p) (branches os operation)
   operations_linked [] = none_at_all
   operations_linked (o ∷ []) = one
   operations_linked (o ∷ a ∷ os) = two one (operations_linked (a ∷ os))
 
-  pub of_operations : (os : List Kind) {x : Link Symbol} → Among (level p) (branches os operation) x → (o : Kind) × OneOf o os × (x ≡ operation_link o)
+  pub of_operations : (os : List Kind) {x : Link N} → Among (level p) (branches os operation) x → (o : Kind) × OneOf o os × (x ≡ operation_link o)
   of_operations [] a = elim a [ ]
   of_operations (o ∷ []) a = (o, head, an_link a)
   of_operations (o ∷ b ∷ os) (of_left a) = (o, head, an_link a)
@@ -216,27 +246,47 @@ module _ (level : ℕ → Symbol) (kind : NodeKind) (p : ℕ) where
   to_operations (o ∷ b ∷ os) (later i) = of_right (to_operations (b ∷ os) i)
 
 -- two grammars take the same
-pub record Same (a b : G) : Type 0 where
+pub record Same {N : Type 0} (rule : N → Grammar N) (a b : Grammar N) : Type 0 where
   pub to : (ts us : Slots) (i j : ℕ) (ls rest : Lexemes) → Takes rule a end ts i ls us j rest → Takes rule b end ts i ls us j rest
   pub back : (ts us : Slots) (i j : ℕ) (ls rest : Lexemes) → Takes rule b end ts i ls us j rest → Takes rule a end ts i ls us j rest
 
-pub same_as : {a b : G} → a ≡ b → Same a b
-same_as {a} e = record { to = λ ts us i j ls rest d. subst (λ v. Takes rule v end ts i ls us j rest) e d; back = λ ts us i j ls rest d. subst (λ v. Takes rule v end ts i ls us j rest) (sym e) d }
+pub same_as : {N : Type 0} {rule : N → Grammar N} {a b : Grammar N} → a ≡ b → Same rule a b
+same_as {rule = rule} e = record { to = λ ts us i j ls rest d. subst (λ v. Takes rule v end ts i ls us j rest) e d; back = λ ts us i j ls rest d. subst (λ v. Takes rule v end ts i ls us j rest) (sym e) d }
 
--- Any number of levels of operators.
-abbrev pub level_tower : (level : ℕ → Symbol) (top : ℕ) (kind : NodeKind) (ops : ℕ → List Kind)
-    → ((p : ℕ) → p ≤ top → Same (rule (level p)) (alt (such (level (p + 1)) always) (branches (ops p) (operation level kind p)))) → Tower rule
-level_tower level top kind ops e = record { level = level; top = top; steps = λ p. branches (ops p) (operation level kind p); operand = λ p. such (level p) always; symbols = λ p h. refl; climbs = λ p h. (e p h).to; falls = λ p h. (e p h).back; linked = λ p h. operations_linked level kind p (ops p) }
+-- a level without feet
+pub without_feet : {N : Type 0} {rule : N → Grammar N} {a b : Grammar N} → Same rule (alt a b) (alt (alt a never) b)
+without_feet {N} {rule} {a} {b} = record { to = λ ts us i j ls rest d. go d; back = λ ts us i j ls rest d. come d }
+  where
+    go : {ts us : Slots} {i j : ℕ} {ls rest : Lexemes} → Takes rule (alt a b) end ts i ls us j rest → Takes rule (alt (alt a never) b) end ts i ls us j rest
+    go (is_left d) = is_left (is_left d)
+    go (is_right d) = is_right d
+
+    come : {ts us : Slots} {i j : ℕ} {ls rest : Lexemes} → Takes rule (alt (alt a never) b) end ts i ls us j rest → Takes rule (alt a b) end ts i ls us j rest
+    come (is_left (is_left d)) = is_left d
+    come (is_left (is_right d)) = elim d [ ]
+    come (is_right d) = is_right d
+
+-- Any number of levels of operators, some of which have feet.
+abbrev pub level_tower : {N : Type 0} {rule : N → Grammar N} (level : ℕ → N) (top : ℕ) (kind : ℕ → NodeKind) (feet : ℕ → Grammar N) (ops : ℕ → List Kind)
+    → ((p : ℕ) → p ≤ top → Same rule (rule (level p)) (alt (alt (such (level (p + 1)) always) (feet p)) (branches (ops p) (operation level kind p)))) → Tower rule
+level_tower level top kind feet ops e = record { level = level; top = top; feet = feet; steps = λ p. branches (ops p) (operation level kind p); operand = λ p. such (level p) always; symbols = λ p h. refl; climbs = λ p h. (e p h).to; falls = λ p h. (e p h).back; linked = λ p h. operations_linked level kind p (ops p) }
 
 -- One symbol with links behind it, any number of them, over any grammar.
-abbrev pub chain : (n : Symbol) (base g : G) → Same (rule n) (alt base g) → Links n g → Tower rule
-chain n base g e lk = record {
-  level = λ p. n;
-  top = 0;
-  steps = λ p. g;
-  operand = λ p. cond (nat_eq p 0) (such n always) base;
-  symbols = λ p h. let z : 0 ≡ p = omega arith in subst (λ v. cond (nat_eq v 0) (such n always) base ≡ such n always) z refl;
-  climbs = λ p h ts us i j ls rest d. let z : 0 ≡ p = omega arith in subst (λ v. Takes rule (alt (cond (nat_eq (v + 1) 0) (such n always) base) g) end ts i ls us j rest) z (e.to ts us i j ls rest d);
-  falls = λ p h ts us i j ls rest d. let z : p ≡ 0 = omega arith in e.back ts us i j ls rest (subst (λ v. Takes rule (alt (cond (nat_eq (v + 1) 0) (such n always) base) g) end ts i ls us j rest) z d);
-  linked = λ p h. lk;
-}
+module _ {N : Type 0} {rule : N → Grammar N} (n : N) (base g : Grammar N) (e : Same rule (rule n) (alt base g)) where
+  abbrev pub chain : Links n g → Tower rule
+  chain lk = record {
+    level = λ p. n;
+    top = 0;
+    feet = λ p. never;
+    steps = λ p. g;
+    operand = λ p. cond (nat_eq p 0) (such n always) base;
+    symbols = λ p h. let z : 0 ≡ p = omega arith in subst (λ v. cond (nat_eq v 0) (such n always) base ≡ such n always) z refl;
+    climbs = λ p h ts us i j ls rest d. let z : 0 ≡ p = omega arith in subst (λ v. Takes rule (alt (alt (cond (nat_eq (v + 1) 0) (such n always) base) never) g) end ts i ls us j rest) z (without_feet.to ts us i j ls rest (e.to ts us i j ls rest d));
+    falls = λ p h ts us i j ls rest d. let z : p ≡ 0 = omega arith in e.back ts us i j ls rest (without_feet.back ts us i j ls rest (subst (λ v. Takes rule (alt (alt (cond (nat_eq (v + 1) 0) (such n always) base) never) g) end ts i ls us j rest) z d));
+    linked = λ p h. lk;
+  }
+
+  -- the loop of a chain begins with what its links stand behind
+  pub chain_foot : {lk : Links n g} {m c : ℕ} {h : Grammar N} → Foot (chain lk) m c h → {ts us : Slots} {i j : ℕ} {ls rest : Lexemes} → Takes rule h end ts i ls us j rest → Takes rule base end ts i ls us j rest
+  chain_foot topmost d = d
+  chain_foot (of_level a b) d = elim d [ ]

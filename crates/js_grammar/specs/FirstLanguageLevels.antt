@@ -7,6 +7,7 @@ use Rattle.js_grammar.specs.Trees.{Slots}
 use Rattle.js_grammar.specs.FirstLanguageEdges.{Edge, as_expression, as_postfix, first_edge}
 use Rattle.js_grammar.specs.Grammar.{Look}
 use Rattle.js_grammar.specs.FirstLanguageTable.{Flags, Name, Symbol, at, Program, Expression, Additive, Multiply, Unary, Update, LeftHandSide}
+pub use Rattle.js_grammar.specs.Parsing.{full}
 use Rattle.js_grammar.specs.Parsing.{Test}
 
 -- the levels, from the loosest on; the last one has no operators
@@ -40,10 +41,6 @@ tight e _ w = 0
 -- it binds less than this
 abbrev pub looser : ℕ → Edge → Look
 looser p d k w e = nat_lt (tight d k w) p
-
--- anything
-abbrev pub full : Look
-full k w e = true
 
 -- What stands behind a nonterminal, read as a tree of this edge, where a parser has read as much of it as it can.
 abbrev pub follow : Name → Edge → Look

@@ -6,11 +6,13 @@ pub mod Insertion
 pub mod Productions
 pub mod Conditions
 pub mod Table
+pub mod FirstSets
 pub mod FirstLanguageInsertion
 pub mod FirstLanguageTable
 pub mod FirstLanguageLexing
-pub mod FirstLanguageLevels
 pub mod Parsing
+pub mod FirstLanguageParsing
+pub mod FirstLanguageLevels
 pub mod Lines
 pub mod Settings
 pub mod FirstLanguageReadings

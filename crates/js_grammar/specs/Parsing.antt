@@ -1,13 +1,16 @@
--- What it is that a grammar's part is read from a place of a text on, or can't be.
-use Rattle.std.specs.Prelude.{ℕ, ◌≡◌, ◌≤◌, ◌⊎◌, true, IsTrue, max}
+-- What it is that a grammar's part is read from a place of a text on, or can't be: for any grammar and any lexing.
+use Rattle.std.specs.Prelude.{ℕ, ◌≡◌, ◌≤◌, ◌⊎◌, Bool, true, IsTrue, max}
 use Rattle.js_base.specs.declared.kind.Kind.TheVariants.{Eof}
-use Rattle.js_grammar.specs.Trees.{Slots}
-use Rattle.js_grammar.specs.Grammar.{Lexeme, Lexemes, last, next, here, Look, seen, nothing, Takes}
-use Rattle.js_grammar.specs.FirstLanguageTable.{G, rule}
+use Rattle.js_grammar.specs.Trees.{Slots, Tree}
+use Rattle.js_grammar.specs.Grammar.{Lexeme, Lexemes, last, next, here, Look, seen, Grammar, nothing, Takes}
 use Rattle.js_grammar.specs.Lexed.{Lexes}
 
-abbrev pub T : G → Slots → Slots → ℕ → Lexemes → Slots → ℕ → Lexemes → Type 0
-T = Takes rule
+-- The test that every tree passes, and the one that every lexeme passes.
+abbrev pub always : Tree → Bool
+always t = true
+
+abbrev pub full : Look
+full k w e = true
 
 -- The list goes on at least to the lexeme behind the place e, or to the end of the text.
 abbrev pub Reaches : ℕ → ℕ → Lexemes → Type 0
@@ -55,14 +58,14 @@ Admits X ts y = IsTrue (seen X.base y) × IsTrue (seen (X.by ts) y)
 
 -- With the slots ks kept, to read g from the place s, where X stands behind it, is to read g' from the place s', with the slots that f puts before, and over the lexemes passed.
 -- Sound: what follows can be completed, where it reaches as far as was looked. Only: whatever is taken from s, and ends where its own slots permit, goes this way, over these lexemes.
-pub record Goes (Lex : ℕ → Lexeme → Type 0) (X : Test) (ks : Slots) (g : G) (s : ℕ) (g' : G) (s' : ℕ) (f : Slots → Slots) (way : Way) : Type 0 where
+pub record Goes {N : Type 0} (rule : N → Grammar N) (Lex : ℕ → Lexeme → Type 0) (X : Test) (ks : Slots) (g : Grammar N) (s : ℕ) (g' : Grammar N) (s' : ℕ) (f : Slots → Slots) (way : Way) : Type 0 where
   pub passes : Passes Lex s s' way.pass
-  pub sound : (us vs : Slots) (k : ℕ) (ls rest : Lexemes) → Lexes Lex s' ls → Reaches way.reach s' ls → T g' ks us s' ls vs k rest → T g ks (f us) s (way.pass ls) vs k rest
-  pub only : (ts vs : Slots) (k : ℕ) (ls rest : Lexemes) → Lexes Lex s ls → T g ks ts s ls vs k rest → Admits X ts (here rest) → (us : Slots) × (ls' : Lexemes) × (ts ≡ f us) × Lexes Lex s' ls' × T g' ks us s' ls' vs k rest × (ls ≡ way.pass ls')
+  pub sound : (us vs : Slots) (k : ℕ) (ls rest : Lexemes) → Lexes Lex s' ls → Reaches way.reach s' ls → Takes rule g' ks us s' ls vs k rest → Takes rule g ks (f us) s (way.pass ls) vs k rest
+  pub only : (ts vs : Slots) (k : ℕ) (ls rest : Lexemes) → Lexes Lex s ls → Takes rule g ks ts s ls vs k rest → Admits X ts (here rest) → (us : Slots) × (ls' : Lexemes) × (ts ≡ f us) × Lexes Lex s' ls' × Takes rule g' ks us s' ls' vs k rest × (ls ≡ way.pass ls')
 
 -- It is read whole, up to the place s'.
-abbrev pub Reads : (ℕ → Lexeme → Type 0) → Test → Slots → G → ℕ → ℕ → (Slots → Slots) → Way → Type 0
-Reads Lex X ks g s s' f way = Goes Lex X ks g s nothing s' f way
+abbrev pub Reads : {N : Type 0} → (N → Grammar N) → (ℕ → Lexeme → Type 0) → Test → Slots → Grammar N → ℕ → ℕ → (Slots → Slots) → Way → Type 0
+Reads rule Lex X ks g s s' f way = Goes rule Lex X ks g s nothing s' f way
 
-pub record Fails (Lex : ℕ → Lexeme → Type 0) (X : Test) (ks : Slots) (g : G) (s : ℕ) : Type 0 where
-  pub no : (ts vs : Slots) (k : ℕ) (ls rest : Lexemes) → Lexes Lex s ls → T g ks ts s ls vs k rest → Admits X ts (here rest) → ⊥
+pub record Fails {N : Type 0} (rule : N → Grammar N) (Lex : ℕ → Lexeme → Type 0) (X : Test) (ks : Slots) (g : Grammar N) (s : ℕ) : Type 0 where
+  pub no : (ts vs : Slots) (k : ℕ) (ls rest : Lexemes) → Lexes Lex s ls → Takes rule g ks ts s ls vs k rest → Admits X ts (here rest) → ⊥

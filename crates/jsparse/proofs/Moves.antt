@@ -1,5 +1,5 @@
 -- What a move and a kept diagnostic do to a place's history, and what a parse answers in the end.
-use Rattle.std.proofs.Common.{ℕ, ◌≡◌, List, [], ◌∷◌, ◌++◌, length, refl, sym, ap, subst, arith, ◌∙◌}
+use Rattle.std.proofs.Common.{ℕ, ◌≡◌, List, [], ◌∷◌, ◌++◌, length, refl, sym, subst, arith, ◌∙◌}
 use Rattle.std.proofs.lemmas.List.Elements.{All-same, All-nil, All-push}
 use Rattle.std.specs.Prelude.{Option}
 use Rattle.js_base.specs.declared.diagnostic.Diagnostic.{Diagnostic}

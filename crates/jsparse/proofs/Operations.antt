@@ -9,12 +9,12 @@ use Rattle.js_grammar.specs.Grammar.{Lexeme, seen, such}
 use Rattle.js_grammar.specs.FirstLanguageTable.{at, always, script_flags, Unary}
 use Rattle.js_grammar.specs.FirstLanguageLexing.{Lex}
 use Rattle.js_grammar.specs.FirstLanguageLevels.{level_at, strength, tight, looser, after}
-use Rattle.js_grammar.specs.Parsing.{Fails}
+use Rattle.js_grammar.specs.FirstLanguageParsing.{Fails}
 use Rattle.js_grammar.proofs.Calculus.{◌▹◌, ◌▹✗◌}
 use Rattle.js_grammar.proofs.Towers.{OneOf, head, later}
 use Rattle.js_grammar.proofs.Loops.{Follows, Alone, start, start_fails, step, step_fails, operators_follow, one_operator, operators_end}
-use Rattle.js_grammar.proofs.Operators.{operators_at, levels, climbs, operates}
-use Rattle.js_grammar.proofs.RightEdges.{admits, level_looser, tighter_level, operator_edges}
+use Rattle.js_grammar.proofs.FirstLanguageOperators.{kind_at, feet_at, operators_at, levels, climbs, operates}
+use Rattle.js_grammar.proofs.FirstLanguageRightEdges.{admits, level_looser, tighter_level, operator_edges}
 use Rattle.jsparse.specs.declared.cursor.Cursor.{Cursor}
 use Rattle.jsparse.specs.declared.tree.Node.{Node}
 use Rattle.jsparse.specs.declared.tree.NodeId.{NodeId}
@@ -27,6 +27,7 @@ use Rattle.jsparse.proofs.Moves.{walked_both, walked_one}
 use Rattle.jsparse.proofs.Paths.{skips, kind_here, begins_here, label_here}
 use Rattle.jsparse.proofs.States.{Held, Ring, Operand}
 use Rattle.jsparse.proofs.Verdicts.{verdict_of, either_way, and_then, behind_none}
+use Rattle.js_grammar.proofs.FirstLanguageFirst.{first, firsts}
 
 binds : (n : ℕ) (d : Edge) (y : Lexeme) → tight d y.kind y.newline < n → IsTrue (seen (looser n d) y)
 binds n d y h = lt-ltb (tight d y.kind y.newline) n h
@@ -70,8 +71,8 @@ tight_low as_postfix LParen w h = omega arith
 tight_low d _ w h = omega arith
 
 -- an operator may stand behind an operand of a tighter level
-operand_follow : (m c n : ℕ) → 1 ≤ m → n ≤ 3 → (c < n) ⊎ (n ≡ 3) → Follows (levels script_flags) m c (after (level_at script_flags n))
-operand_follow m c n a z b = operators_follow (level_at script_flags) 2 binary_expression operators_at (climbs script_flags)
+operand_follow : (m c n : ℕ) → 1 ≤ m → n ≤ 3 → (c < n) ⊎ (n ≡ 3) → Follows first (levels script_flags) m c (after (level_at script_flags n))
+operand_follow m c n a z b = operators_follow firsts (level_at script_flags) 2 kind_at feet_at operators_at (climbs script_flags)
     (λ q ts y i g h t. let u = (operator_level q (first_edge ts) y.newline i).0 in admits (level_at script_flags n) ts y (level_looser script_flags n (first_edge ts) y (lowest q b t g h) z ∙ binds n (first_edge ts) y (let v = less q b t h in omega arith)))
   where
     less : (q : ℕ) → (c < n) ⊎ (n ≡ 3) → q ≤ 2 → q ≤ c → q < n
@@ -86,13 +87,13 @@ stops_below : {text : List ℕ} {s : ℕ} (n : ℕ) (d : Edge) → ((y : Lexeme)
 stops_below n d h y l = unbound n d y (h y l)
 
 pub operand_init_fails : {text : List ℕ} {s : ℕ} (m : ℕ) → 1 ≤ m → m ≤ 3 → Fails (Lex text) (after (at Unary script_flags)) end (such (at Unary script_flags) always) s → Fails (Lex text) (after (level_at script_flags m)) end (such (level_at script_flags m) always) s
-operand_init_fails m a b x = start_fails {w = levels script_flags} refl b x (λ l cs vs y e. e) (tighter_level script_flags m 3 a b (omega arith)) (operand_follow m 3 3 a (omega arith) (inr refl))
+operand_init_fails m a b x = start_fails firsts {w = levels script_flags} (λ q h. refl) refl b x (λ l cs vs y e. e) (tighter_level script_flags m 3 a b (omega arith)) (operand_follow m 3 3 a (omega arith) (inr refl))
 
 pub operand_init : {text : List ℕ} {p q : Cursor} {ns ms : List Node} {id : NodeId} {m : ℕ} → 1 ≤ m → m ≤ 3 → At text p → (x : Answer text (at Unary script_flags) p q) → Held x.label x.slots ns ms id → Operand text m p q ns ms id
 operand_init {text} {p} {q} {ns} {ms} {id} {m} a b t x h = record {
   cap = 3;
   low = omega arith;
-  behind = record { at = x.at; further = x.further; label = x.label; slots = x.slots; pass = x.pass; walked = x.walked; verdict = verdict_of x.verdict (λ y. record { reach = y.reach; near = y.near; around = start {w = levels script_flags} b y.goes (tighter_level script_flags m 3 a b (omega arith)) (operand_follow m 3 3 a (omega arith) (inr refl)) (begins_here t) }) (λ n. operand_init_fails m a b n) };
+  behind = record { at = x.at; further = x.further; label = x.label; slots = x.slots; pass = x.pass; walked = x.walked; verdict = verdict_of x.verdict (λ y. record { reach = y.reach; near = y.near; around = start firsts {w = levels script_flags} (λ q h. refl) b y.goes (tighter_level script_flags m 3 a b (omega arith)) (operand_follow m 3 3 a (omega arith) (inr refl)) (begins_here t) }) (λ n. operand_init_fails m a b n) };
   stops = λ y l. let z = stops_below 3 (edge_of x.label x.slots) x.stops y l in omega arith;
   stops_first = stops_below 3 (edge_of x.label x.slots) x.stops;
   held = h;
@@ -102,9 +103,9 @@ not_undetermined : (k : Kind) → 1 ≤ strength k → k ≡ Undetermined → �
 not_undetermined k h e = let z : strength k ≡ 0 = ap strength e in absurd (omega arith)
 
 -- an operator alone may stand here, whatever stands before it
-operator_alone : {text : List ℕ} {p : Cursor} {l : Label} {cs : Slots} (m c : ℕ) → At text p → 1 ≤ m → m ≤ 3 → m ≤ strength p.token.kind → strength p.token.kind ≤ c → Alone (Lex text) (after (level_at script_flags m)) (levels script_flags) m c p.prev_token_end (strength p.token.kind) (operates script_flags (strength p.token.kind) p.token.kind) l cs
+operator_alone : {text : List ℕ} {p : Cursor} {l : Label} {cs : Slots} (m c : ℕ) → At text p → 1 ≤ m → m ≤ 3 → m ≤ strength p.token.kind → strength p.token.kind ≤ c → Alone firsts (Lex text) (after (level_at script_flags m)) (levels script_flags) m c p.prev_token_end (strength p.token.kind) (operates script_flags (strength p.token.kind) p.token.kind) l cs
 operator_alone {text} {p} {l} {cs} m c t a b g h = let k = p.token.kind in let d = edge_of l cs in
-    one_operator (level_at script_flags) 2 binary_expression operators_at (climbs script_flags) k (kind_here t refl) g h (strength_low k) (an_operator k (omega arith)) (λ q i. sym (operator_level q as_expression false i).1)
+    one_operator firsts (level_at script_flags) 2 kind_at feet_at operators_at (climbs script_flags) k (kind_here t refl) g h (strength_low k) (an_operator k (omega arith)) (λ q i. sym (operator_level q as_expression false i).1)
     (λ y i e. let z = unbound m d y (sym (level_looser script_flags m d y a b) ∙ e.1) in let same : tight d y.kind y.newline ≡ tight d k y.newline = ap (λ v. tight d v y.newline) (kind_here t refl y i) in let u : tight d k y.newline ≡ strength k = (operator_level (strength k) d y.newline (an_operator k (omega arith))).0 in absurd (omega arith))
 
 -- how tight the operator here binds, by what was read before it
@@ -116,7 +117,7 @@ ring_fails : {text : List ℕ} {p q r : Cursor} {ns ms : List Node} {left : Node
     → Ring text (after (level_at script_flags m)) (levels script_flags) m p.prev_token_end p.token.span.start s.cap s.behind.label s.behind.slots q.prev_token_end s.behind.pass
     → Fails (Lex text) (after (level_at script_flags (strength q.token.kind + 1))) end (such (level_at script_flags (strength q.token.kind + 1)) always) r.prev_token_end → Fails (Lex text) (after (level_at script_flags m)) end (such (level_at script_flags m) always) p.prev_token_end
 ring_fails {text} {p} {q} {r} {m = m} a b s c d u x = let k = q.token.kind in let i = strength_low k in
-    step_fails u.around (operator_alone m s.cap s.behind.at a b c (within_cap (edge_of s.behind.label s.behind.slots) s.behind.at (omega arith) s.stops)) refl (skips s.behind.at k refl d ▹✗ x) (λ l cs vs y e. e) (operator_edges script_flags m (strength k) k a c i) (operand_follow m (strength k) (strength k + 1) a (omega arith) (inl (omega arith)))
+    step_fails firsts u.around (operator_alone m s.cap s.behind.at a b c (within_cap (edge_of s.behind.label s.behind.slots) s.behind.at (omega arith) s.stops)) refl (skips s.behind.at k refl d ▹✗ x) (λ l cs vs y e. e) (operator_edges script_flags m (strength k) k a c i) (operand_follow m (strength k) (strength k + 1) a (omega arith) (inl (omega arith)))
 
 pub operand_step : {text : List ℕ} {p q r t : Cursor} {ns ms os : List Node} {left id : NodeId} {m : ℕ} → 1 ≤ m → m ≤ 3 → (s : Operand text m p q ns ms left) → m ≤ strength q.token.kind → Passed text q r → (x : Answer text (level_at script_flags (strength q.token.kind + 1)) r t)
     → Held (label_here binary_expression (of q.token.kind) p t) (tree s.behind.label s.behind.slots (tree x.label x.slots end)) ns os id → Operand text m p t ns os id
@@ -134,7 +135,7 @@ operand_step {text} {p} {q} {r} {t} {ns} {ms} {os} {left} {id} {m} a b s c d x h
         (λ u y. record {
           reach = max u.reach (max 0 y.reach);
           near = let i = u.near in let j = d.further in let n = x.further in let v = y.near in let g = s.behind.at.here.behind in let e = d.at.here.behind in omega arith;
-          around = let i = strength_low k in step u.around (operator_alone m s.cap s.behind.at a b c (within_cap (edge_of s.behind.label s.behind.slots) s.behind.at (omega arith) s.stops)) (skips s.behind.at k refl d ▹ y.goes) (operator_edges script_flags m (strength k) k a c i) (operand_follow m (strength k) (strength k + 1) a (omega arith) (inl (omega arith)));
+          around = let i = strength_low k in step firsts u.around (operator_alone m s.cap s.behind.at a b c (within_cap (edge_of s.behind.label s.behind.slots) s.behind.at (omega arith) s.stops)) (skips s.behind.at k refl d ▹ y.goes) (operator_edges script_flags m (strength k) k a c i) (operand_follow m (strength k) (strength k + 1) a (omega arith) (inl (omega arith)));
         })
         (λ n. n)
         (λ u n. ring_fails a b s c d u n);
@@ -165,7 +166,7 @@ operand_answers {text} {p} {q} {ns} {ms} {id} {m} a b s c = record {
         (λ z. record {
           reach = z.reach;
           near = z.near;
-          goes = operators_end (level_at script_flags) 2 binary_expression operators_at (climbs script_flags) (λ l cs vs y e. e) z.around (λ n i j y l o. let u = (operator_level n as_expression false o).1 in let v : strength y.kind ≡ strength q.token.kind = ap strength (kind_here s.behind.at refl y l) in absurd (omega arith));
+          goes = operators_end firsts (level_at script_flags) 2 kind_at feet_at operators_at (climbs script_flags) (λ l cs vs y e. e) z.around (λ n i j y l o. let u = (operator_level n as_expression false o).1 in let v : strength y.kind ≡ strength q.token.kind = ap strength (kind_here s.behind.at refl y l) in absurd (omega arith));
         })
         (λ n. n);
   };

@@ -10,17 +10,19 @@ use Rattle.js_grammar.specs.FirstLanguageTable.{G, Symbol, rule, tok, always, ma
 use Rattle.js_grammar.specs.FirstLanguageLexing.{Lex}
 use Rattle.js_grammar.specs.FirstLanguageLevels.{full, follow, surest, after}
 use Rattle.js_grammar.specs.FirstLanguageEdges.{edge_of}
-use Rattle.js_grammar.specs.Parsing.{still, passing, Test, plain, behind, Goes, Reads, Fails}
+use Rattle.js_grammar.specs.FirstLanguageParsing.{Goes, Reads, Fails}
+use Rattle.js_grammar.specs.Parsing.{still, passing, Test, plain, behind}
 use Rattle.js_grammar.proofs.Looks.{covers, same_self}
-use Rattle.js_grammar.proofs.First.{starts}
 use Rattle.js_grammar.proofs.Lexemes.{one_lexeme, unescaped}
-use Rattle.js_grammar.proofs.Calculus.{On, Inside, Heads, by_first, here_at, ◌▹◌, ◌▹✗◌, then_by, weaken_on, weaken_fails_on, makes_by, by_rule, fails_rule, part_fails, fails_node, tested, fails_test, fails_tested, unless, picks, pick, reads_lexeme}
-use Rattle.js_grammar.proofs.RightEdges.{surely}
+use Rattle.js_grammar.proofs.Calculus.{On, Inside, Heads, here_at, ◌▹◌, ◌▹✗◌, then_by, weaken_on, weaken_fails_on, makes_by, by_rule, fails_rule, part_fails, fails_node, tested, fails_test, fails_tested, reads_lexeme}
+use Rattle.js_grammar.proofs.FirstRules.{by_first, unless, picks, pick}
+use Rattle.js_grammar.proofs.FirstLanguageRightEdges.{surely}
 use Rattle.jsparse.specs.declared.cursor.Cursor.{Cursor}
 use Rattle.jsparse.specs.Marks.{Walked}
 use Rattle.jsparse.specs.Answers.{At, Passed, Verdict, clean, Stretch, Answer}
 use Rattle.jsparse.proofs.Moves.{walked_both, walked_one, walked_to}
 use Rattle.jsparse.proofs.Verdicts.{verdict_of, either_way, and_then}
+use Rattle.js_grammar.proofs.FirstLanguageFirst.{first, firsts, starts}
 
 -- the kind of whatever stands behind the place
 pub kind_here : {text : List ℕ} {p : Cursor} {k : Kind} → At text p → p.token.kind ≡ k → (y : Lexeme) → Lex text p.prev_token_end y → y.kind ≡ k
@@ -44,15 +46,15 @@ module _ {text : List ℕ} {p : Cursor} (a : At text p) where
   not_here ks n y l h = none_of ks p.token.kind n (subst (λ v. one_of_kinds ks v ≡ true) (a.here.is y l).kind h)
 
   -- a choice, cut down at the kind that stands here
-  pub at_kind : {X : Test} {g : G} (k : Kind) → p.token.kind ≡ k → Goes (Lex text) X end g p.prev_token_end (pick X.base g (k ∷ [])) p.prev_token_end (λ us. us) (still 0)
-  at_kind {X} {g} k e = picks (k ∷ []) (λ y l. subst (λ v. one_of_kinds (k ∷ []) v ≡ true) (sym (kind_here a e y l)) (one_kind k)) g
+  pub at_kind : {X : Test} {g : G} (k : Kind) → p.token.kind ≡ k → Goes (Lex text) X end g p.prev_token_end (pick first X.base g (k ∷ [])) p.prev_token_end (λ us. us) (still 0)
+  at_kind {X} {g} k e = picks firsts (k ∷ []) (λ y l. subst (λ v. one_of_kinds (k ∷ []) v ≡ true) (sym (kind_here a e y l)) (one_kind k)) g
     where
       one_kind : (k : Kind) → one_of_kinds (k ∷ []) k ≡ true
       one_kind k = rw (same_self k) refl
 
   -- another kind stands here
   pub fails_at : {X : Test} (g : G) (ks : List Kind) → covers (starts g X.base) (λ k w e. one_of_kinds ks k) ≡ true → Nots ks p.token.kind → Fails (Lex text) X end g p.prev_token_end
-  fails_at g ks c n = unless g ks c (not_here ks n)
+  fails_at g ks c n = unless firsts g ks c (not_here ks n)
 
   -- the lexeme of a kind was passed
   pub passes : {X : Test} {q : Cursor} (k : Kind) → p.token.kind ≡ k → (s : Passed text p q) → Reads (Lex text) X end (tok k) p.prev_token_end q.prev_token_end (λ us. us) (passing s.lexeme)
@@ -110,25 +112,25 @@ module _ {text : List ℕ} {X : Test} where
   last_token k a e s = record { at = s.at; further = s.further; pass = _; walked = walked_one s; verdict = clean s.kept (record { reach = 0; near = omega arith; goes = passes a k e s }) }
 
   pub called : {b : G} {n : Symbol} {p q : Cursor} (a : Answer text n p q) → covers (starts b X.base) (surest n.name) ≡ true → Path text X (seq (such n always) b) p b q (tree a.label a.slots)
-  called {n = n} a c = record { at = a.at; further = a.further; pass = a.pass; walked = a.walked; verdict = verdict_of a.verdict (λ x. record { reach = x.reach; near = x.near; goes = then_by x.goes (by_first (surely n) c) }) (λ m. part_fails m (by_first (surely n) c)) }
+  called {n = n} a c = record { at = a.at; further = a.further; pass = a.pass; walked = a.walked; verdict = verdict_of a.verdict (λ x. record { reach = x.reach; near = x.near; goes = then_by x.goes (by_first firsts (surely n) c) }) (λ m. part_fails m (by_first firsts (surely n) c)) }
 
-  pub last_called : {n : Symbol} {p q : Cursor} (a : Answer text n p q) → On X (after n) end (such n always) p.prev_token_end → Path text X (such n always) p nothing q (tree a.label a.slots)
+  pub last_called : {n : Symbol} {p q : Cursor} (a : Answer text n p q) → On rule X (after n) end (such n always) p.prev_token_end → Path text X (such n always) p nothing q (tree a.label a.slots)
   last_called a c = record { at = a.at; further = a.further; pass = a.pass; walked = a.walked; verdict = verdict_of a.verdict (λ x. record { reach = x.reach; near = x.near; goes = weaken_on x.goes c }) (λ n. weaken_fails_on n c) }
 
 pub fails_called : {text : List ℕ} {X : Test} {b : G} {n : Symbol} {s : ℕ} → Fails (Lex text) (after n) end (such n always) s → covers (starts b X.base) (surest n.name) ≡ true → Fails (Lex text) X end (seq (such n always) b) s
-fails_called {n = n} r c = part_fails r (by_first (surely n) c)
+fails_called {n = n} r c = part_fails r (by_first firsts (surely n) c)
 
 -- a node's label, from the first lexeme to the last
 abbrev pub label_here : NodeKind → Op → Cursor → Cursor → Label
 label_here k o p q = record { kind = k; op = o; flags = 0; span = record { from = p.token.span.start; to = q.prev_token_end } }
 
-pub noding : {text : List ℕ} {X X' : Test} {k : NodeKind} {o : Op} {g : G} {p : Cursor} {f : Slots → Slots} {pass : Lexemes → Lexemes} (q : Cursor) → At text p → Inside (record { kind = k; op = o; flags = 0; extent = exact }) X X' end g p.prev_token_end → Stretch text X' g p.prev_token_end nothing q.prev_token_end f pass → Stretch text X (make k o g) p.prev_token_end nothing q.prev_token_end (tree (label_here k o p q) (f end)) pass
+pub noding : {text : List ℕ} {X X' : Test} {k : NodeKind} {o : Op} {g : G} {p : Cursor} {f : Slots → Slots} {pass : Lexemes → Lexemes} (q : Cursor) → At text p → Inside rule (record { kind = k; op = o; flags = 0; extent = exact }) X X' end g p.prev_token_end → Stretch text X' g p.prev_token_end nothing q.prev_token_end f pass → Stretch text X (make k o g) p.prev_token_end nothing q.prev_token_end (tree (label_here k o p q) (f end)) pass
 noding {text} {X} {X'} {k} {o} {g} {p} {f} q a i x = record { reach = x.reach; near = x.near; goes = makes_by (label_here k o p q) i x.goes (λ ls ls' l l'. ap (λ v. label_from v) (begins_here a (here ls) (here_at (Lex text) ls l))) }
   where
     label_from : ℕ → Label
     label_from v = record { kind = k; op = o; flags = 0; span = record { from = v; to = q.prev_token_end } }
 
-pub noded_by : {text : List ℕ} {X X' : Test} {k : NodeKind} {o : Op} {g : G} {p q : Cursor} {f : Slots → Slots} → At text p → Inside (record { kind = k; op = o; flags = 0; extent = exact }) X X' end g p.prev_token_end → Path text X' g p nothing q f → Path text X (make k o g) p nothing q (tree (label_here k o p q) (f end))
+pub noded_by : {text : List ℕ} {X X' : Test} {k : NodeKind} {o : Op} {g : G} {p q : Cursor} {f : Slots → Slots} → At text p → Inside rule (record { kind = k; op = o; flags = 0; extent = exact }) X X' end g p.prev_token_end → Path text X' g p nothing q f → Path text X (make k o g) p nothing q (tree (label_here k o p q) (f end))
 noded_by {q = q} a i r = record { at = r.at; further = r.further; pass = r.pass; walked = r.walked; verdict = verdict_of r.verdict (λ x. noding q a i x) (λ n. fails_node i n) }
 
 -- where whatever may stand behind the slots

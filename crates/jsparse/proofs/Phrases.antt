@@ -14,16 +14,18 @@ use Rattle.js_grammar.specs.FirstLanguageLexing.{Lex, first_punctuators, a_name,
 use Rattle.js_grammar.specs.Lexed.{Lexes}
 use Rattle.js_grammar.specs.FirstLanguageLevels.{full, level_at, tight, follow, after}
 use Rattle.js_grammar.specs.FirstLanguageEdges.{as_expression, edge_of}
-use Rattle.js_grammar.specs.Parsing.{T, plain, Admits, Fails}
+use Rattle.js_grammar.specs.FirstLanguageParsing.{T, Fails}
+use Rattle.js_grammar.specs.Parsing.{plain, Admits}
 use Rattle.js_grammar.proofs.Looks.{covers}
 use Rattle.js_grammar.proofs.Lexemes.{first_or}
-use Rattle.js_grammar.proofs.Calculus.{inside_full, on_itself, here_at, ◌▹◌, ◌▹✗◌, left, right, by_rule, fails_rule, fails_node, part, done, weaken, weaken_on, weaken_fails, weaken_fails_on, fails_part, fails_alt, fails_such, then_by}
+use Rattle.js_grammar.proofs.Calculus.{inside_full, on_itself, here_at, ◌▹◌, ◌▹✗◌, left, right, by_rule, fails_rule, fails_node, done, weaken, weaken_on, weaken_fails, weaken_fails_on, fails_alt, fails_such, then_by}
+use Rattle.js_grammar.proofs.FirstRules.{part, fails_part}
 use Rattle.js_grammar.proofs.Towers.{this}
 use Rattle.js_grammar.proofs.Loops.{unfollowed, chain_start, chain_start_fails, chain_step, chain_step_fails, chain_end}
 use Rattle.js_grammar.proofs.Behind.{lexed_behind}
-use Rattle.js_grammar.proofs.RightEdges.{fails_by, admits, same_tree, same_read}
-use Rattle.js_grammar.proofs.PostfixPaths.{sign_edge, below_call, no_call_behind}
-use Rattle.js_grammar.proofs.Operators.{call_climbs, call_links, calls, first_call, call_begins}
+use Rattle.js_grammar.proofs.FirstLanguageRightEdges.{fails_by, admits, same_tree, same_read}
+use Rattle.js_grammar.proofs.FirstLanguagePostfix.{sign_edge, below_call, no_call_behind}
+use Rattle.js_grammar.proofs.FirstLanguageOperators.{call_climbs, call_links, calls, first_call, call_begins}
 use Rattle.jsparse.specs.declared.cursor.Cursor.{Cursor}
 use Rattle.jsparse.specs.declared.cursor.Stop.{Stop}
 use Rattle.jsparse.specs.declared.cursor.Stop.TheVariants.{Fatal, NoMemory}
@@ -40,6 +42,7 @@ use Rattle.jsparse.proofs.Moves.{walked_both, walked_one}
 use Rattle.jsparse.proofs.Paths.{kind_here, narrow, by_symbol, by_symbol_as, passes_test, at_kind, fails_at, Path, ◌⟶◌, ◌⟶✗◌, ◌⟼◌, token, last_token, called, last_called, fails_called, label_here, noding, noded, noded_by, begins_here}
 use Rattle.jsparse.proofs.Nodes.{Keeps-refl, Keeps-trans, HoldsAll-next, HoldsAll-one}
 use Rattle.jsparse.proofs.States.{Ring, Held}
+use Rattle.js_grammar.proofs.FirstLanguageFirst.{firsts}
 
 pub stopped : (text : List ℕ) (p q : List Diagnostic) (r : Cursor) (e : Stop) {F H : Type 0} → (Grown q r.diagnostics → Grown p r.diagnostics) → (F → H) → Stops text q r e F → Stops text p r e H
 stopped text p q r Fatal g f h = (h.0, g h.1, f h.2)
@@ -153,19 +156,19 @@ module _ {text : List ℕ} where
   -- arguments
   no_arguments : {p q r : Cursor} → At text p → p.token.kind ≡ LParen → Passed text p q → q.token.kind ≡ RParen → Passed text q r → Path text (plain full) (args script_flags) p nothing r (λ us. us)
   unfolding rule rule_of covers
-  no_arguments a e s k u = token LParen a e s ⟶ (part (is RParen) (at_kind s.at RParen k) refl ▹ done) ⟼ last_token RParen s.at k u
+  no_arguments a e s k u = token LParen a e s ⟶ (part firsts (is RParen) (at_kind s.at RParen k) refl ▹ done) ⟼ last_token RParen s.at k u
 
   one_argument : {p q r t : Cursor} → At text p → p.token.kind ≡ LParen → Passed text p q → (q.token.kind ≡ RParen → ⊥) → (x : Answer text (at Expression script_flags) q r) → r.token.kind ≡ RParen → Passed text r t → Path text (plain full) (args script_flags) p nothing t (tree x.label x.slots)
   unfolding rule rule_of covers
-  one_argument a e s n x k u = token LParen a e s ⟶ part (is RParen) (left (fails_at s.at nothing (RParen ∷ []) refl (n, tt))) refl ⟼ called x refl ⟶ last_token RParen x.at k u
+  one_argument a e s n x k u = token LParen a e s ⟶ part firsts (is RParen) (left (fails_at s.at nothing (RParen ∷ []) refl (n, tt))) refl ⟼ called x refl ⟶ last_token RParen x.at k u
 
   pub argument_fails : {p q : Cursor} → At text p → p.token.kind ≡ LParen → Passed text p q → (q.token.kind ≡ RParen → ⊥) → Fails (Lex text) (after (at Expression script_flags)) end (symbol Expression script_flags) q.prev_token_end → Fails (Lex text) (plain full) end (args script_flags) p.prev_token_end
   unfolding rule rule_of covers
-  argument_fails a e s n x = token LParen a e s ⟶✗ part (is RParen) (left (fails_at s.at nothing (RParen ∷ []) refl (n, tt))) refl ▹✗ fails_called x refl
+  argument_fails a e s n x = token LParen a e s ⟶✗ part firsts (is RParen) (left (fails_at s.at nothing (RParen ∷ []) refl (n, tt))) refl ▹✗ fails_called x refl
 
   pub arguments_open : {p q r : Cursor} → At text p → p.token.kind ≡ LParen → Passed text p q → (q.token.kind ≡ RParen → ⊥) → Answer text (at Expression script_flags) q r → (r.token.kind ≡ RParen → ⊥) → Fails (Lex text) (plain full) end (args script_flags) p.prev_token_end
   unfolding rule rule_of covers
-  arguments_open a e s n x m = token LParen a e s ⟶✗ part (is RParen) (left (fails_at s.at nothing (RParen ∷ []) refl (n, tt))) refl ▹✗ (called x refl ⟶✗ fails_at x.at (tok RParen) (RParen ∷ []) refl (m, tt))
+  arguments_open a e s n x m = token LParen a e s ⟶✗ part firsts (is RParen) (left (fails_at s.at nothing (RParen ∷ []) refl (n, tt))) refl ▹✗ (called x refl ⟶✗ fails_at x.at (tok RParen) (RParen ∷ []) refl (m, tt))
 
 append_end : (us : Slots) → append us end ≡ us
 append_end end = refl
@@ -220,7 +223,7 @@ module _ {text : List ℕ} where
 
   pub primary_no_call : (place : ℕ) → Fails (Lex text) (after (at Primary script_flags)) end (symbol Primary script_flags) place → Fails (Lex text) (after (at LeftHandSide script_flags)) end (symbol LeftHandSide script_flags) place
   unfolding rule rule_of covers
-  primary_no_call place x = fails_by (fails_alt (weaken_fails (member_none place x) (λ ts y e. (refl, refl))) (chain_start_fails (call_climbs script_flags) (call_links script_flags) {F' = full} (fails_node inside_full (fails_part (member_none place x) refl)) refl refl))
+  primary_no_call place x = fails_by (fails_alt (weaken_fails (member_none place x) (λ ts y e. (refl, refl))) (chain_start_fails firsts (call_climbs script_flags) (call_links script_flags) {F' = full} (fails_node inside_full (fails_part firsts (member_none place x) refl)) refl refl))
 
   pub calling_init : {p q : Cursor} {ns ms : List Node} {id : NodeId} → Numbered text (at Primary script_flags) p q ns ms id → Calling text p q ns ms id
   calling_init {p} x = record { at = x.answer.at; further = x.answer.further; label = x.answer.label; slots = x.answer.slots; held = held_by x; pass = x.answer.pass; walked = x.answer.walked; verdict = verdict_of x.answer.verdict (λ y. a_member (record { reach = y.reach; near = y.near; goes = weaken y.goes (λ ts z e. admits (at Primary script_flags) ts z refl) })) (λ n. primary_no_call p.prev_token_end n) }
@@ -236,21 +239,21 @@ module _ {text : List ℕ} where
     -- no call has this callee
     no_callee : Callee text p q l cs pass → callable_kind l.kind ≡ false → Underived text left_hand_side p.prev_token_end
     unfolding rule rule_of covers
-    no_callee (a_member x) h = fails_by (fails_alt (member_fails x) (chain_start_fails (call_climbs script_flags) (call_links script_flags) {F' = full} (fails_node inside_full (fails_part {F' = full} (fails_such {X' = plain full} (λ l cs vs y e. e) (member_rule x).goes h) refl)) refl refl))
+    no_callee (a_member x) h = fails_by (fails_alt (member_fails x) (chain_start_fails firsts (call_climbs script_flags) (call_links script_flags) {F' = full} (fails_node inside_full (fails_part firsts {F' = full} (fails_such {X' = plain full} (λ l cs vs y e. e) (member_rule x).goes h) refl)) refl refl))
     no_callee (a_call t m g) h = absurd (false≢true (sym h ∙ t))
 
     no_arguments_there : Callee text p q l cs pass → callable_kind l.kind ≡ true → Fails (Lex text) (plain full) end (args script_flags) q.prev_token_end → Underived text left_hand_side p.prev_token_end
     unfolding rule rule_of covers
-    no_arguments_there (a_member x) t n = fails_by (fails_alt (member_fails x) (chain_start_fails (call_climbs script_flags) (call_links script_flags) {F' = full} (fails_node inside_full (then_by {X' = plain full} (member callable x t).goes (record { admits = λ ts us vs j k ls mid rest d d' e. (refl, refl) }) ▹✗ n)) refl refl))
-    no_arguments_there (a_call t' m g) t n = fails_by (fails_alt m (chain_step_fails (call_climbs script_flags) (call_links script_flags) {F' = full} LParen g.around (kind_here b k) this refl refl (λ l cs vs y e. e) n refl refl))
+    no_arguments_there (a_member x) t n = fails_by (fails_alt (member_fails x) (chain_start_fails firsts (call_climbs script_flags) (call_links script_flags) {F' = full} (fails_node inside_full (then_by {X' = plain full} (member callable x t).goes (record { admits = λ ts us vs j k ls mid rest d d' e. (refl, refl) }) ▹✗ n)) refl refl))
+    no_arguments_there (a_call t' m g) t n = fails_by (fails_alt m (chain_step_fails firsts (call_climbs script_flags) (call_links script_flags) {F' = full} LParen g.around (kind_here b k) this refl refl (λ l cs vs y e. e) n refl refl))
 
     called_so : {r : Cursor} {f : Slots → Slots} {more : Lexemes → Lexemes} → Callee text p q l cs pass → callable_kind l.kind ≡ true → q.prev_token_end ≤ r.prev_token_end → Stretch text (plain full) (args script_flags) q.prev_token_end nothing r.prev_token_end f more → Callee text p r (label_here call_expression no_op p r) (tree l cs (f end)) (λ ls. pass (more ls))
     unfolding covers
     called_so {r} {f} {more} (a_member x) t o y =
         let m = member callable x t in
         let z : Stretch text (plain full) (first_call script_flags) p.prev_token_end nothing r.prev_token_end (tree (label_here call_expression no_op p r) (tree l cs (f end))) (λ ls. pass (more ls)) = noding r a inside_full (record { reach = max m.reach y.reach; near = let i = m.near in let j = y.near in omega arith; goes = then_by {X' = plain full} m.goes (record { admits = λ ts us vs j k ls mid rest d d' e. (refl, refl) }) ▹ y.goes }) in
-        a_call refl (member_fails x) (record { reach = z.reach; near = z.near; around = chain_start (call_climbs script_flags) (call_links script_flags) z.goes refl refl (begins_here a) })
-    called_so {r} {f} (a_call t' m g) t o y = a_call refl m (record { reach = max g.reach y.reach; near = let i = g.near in let j = y.near in omega arith; around = chain_step (call_climbs script_flags) (call_links script_flags) {F' = full} LParen g.around (kind_here b k) this refl refl y.goes refl refl })
+        a_call refl (member_fails x) (record { reach = z.reach; near = z.near; around = chain_start firsts (call_climbs script_flags) (call_links script_flags) z.goes refl refl (begins_here a) })
+    called_so {r} {f} (a_call t' m g) t o y = a_call refl m (record { reach = max g.reach y.reach; near = let i = g.near in let j = y.near in omega arith; around = chain_step firsts (call_climbs script_flags) (call_links script_flags) {F' = full} LParen g.around (kind_here b k) this refl refl y.goes refl refl })
 
   -- the callee, and the test of it
   callee_verdict : {p q r : Cursor} {ns ms : List Node} {left : NodeId} → At text p → (c : Calling text p q ns ms left) → q.token.kind ≡ LParen → CalleeChecked text ms left q r → Verdict p.diagnostics r.diagnostics (Callee text p q c.label c.slots c.pass × (callable_kind c.label.kind ≡ true)) (Underived text left_hand_side p.prev_token_end)
@@ -293,7 +296,7 @@ module _ {text : List ℕ} where
   callee_answers : {p q : Cursor} {l : Label} {cs : Slots} {pass : Lexemes → Lexemes} → At text q → (q.token.kind ≡ LParen → ⊥) → Callee text p q l cs pass → Stretch text (after (at LeftHandSide script_flags)) (symbol LeftHandSide script_flags) p.prev_token_end nothing q.prev_token_end (tree l cs) pass
   unfolding rule rule_of covers
   callee_answers a n (a_member x) = let m = member always x refl in let y = narrow {X = after (at LeftHandSide script_flags)} m in record { reach = max 0 y.reach; near = let i = y.near in omega arith; goes = by_rule {X' = after (at LeftHandSide script_flags)} (λ l cs vs y e. e) (left (no_call m a n) ▹ y.goes) refl }
-  callee_answers a n (a_call t m g) = record { reach = max 0 g.reach; near = let i = g.near in omega arith; goes = by_rule {X' = after (at LeftHandSide script_flags)} (λ l cs vs y e. e) (right m ▹ chain_end (call_climbs script_flags) (call_links script_flags) {X' = after (at LeftHandSide script_flags)} (λ l cs vs y e. e) g.around (λ y l t. n (sym (a.here.is y l).kind ∙ sym (kind_of_same LParen y.kind (and_parts _ _ t).0)))) refl }
+  callee_answers a n (a_call t m g) = record { reach = max 0 g.reach; near = let i = g.near in omega arith; goes = by_rule {X' = after (at LeftHandSide script_flags)} (λ l cs vs y e. e) (right m ▹ chain_end firsts (call_climbs script_flags) (call_links script_flags) {X' = after (at LeftHandSide script_flags)} (λ l cs vs y e. e) g.around (λ y l t. n (sym (a.here.is y l).kind ∙ sym (kind_of_same LParen y.kind (and_parts _ _ t).0)))) refl }
 
   pub calling_answers : {p q : Cursor} {ns ms : List Node} {id : NodeId} → Calling text p q ns ms id → (q.token.kind ≡ LParen → ⊥) → Numbered text (at LeftHandSide script_flags) p q ns ms id
   calling_answers c n = record { answer = record { at = c.at; further = c.further; label = c.label; slots = c.slots; stops = call_ends c.at n; pass = c.pass; walked = c.walked; verdict = verdict_of c.verdict (λ x. callee_answers c.at n x) (λ m. m) }; holds = c.held.holds; keeps = c.held.keeps }

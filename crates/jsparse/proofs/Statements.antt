@@ -13,14 +13,15 @@ use Rattle.js_grammar.specs.FirstLanguageTable.{rule, rule_of, at, script_flags,
 use Rattle.js_grammar.specs.FirstLanguageLexing.{Lex, a_name, a_number, a_punctuator, the_end}
 use Rattle.js_grammar.specs.Lexed.{Lexes}
 use Rattle.js_grammar.specs.FirstLanguageLevels.{full, looser, follow, after}
-use Rattle.js_grammar.specs.Parsing.{still, T, plain, Admits, Goes, Reads, Fails}
+use Rattle.js_grammar.specs.FirstLanguageParsing.{T, Goes, Reads, Fails}
+use Rattle.js_grammar.specs.Parsing.{still, plain, Admits}
 use Rattle.js_grammar.specs.FirstLanguageReadings.{HasNoReading}
 use Rattle.js_grammar.proofs.Looks.{covers, covered, differ}
-use Rattle.js_grammar.proofs.First.{starts}
 use Rattle.js_grammar.proofs.Lexemes.{six, placed, one_lexeme}
-use Rattle.js_grammar.proofs.Calculus.{here_at, ◌▹◌, ◌▹✗◌, stay, left, right, more_of, then_by, by_first, inside_full, inside_plain, looks, ends_by, fails_ended, fails_alt, fails_here, fails_rule, fails_node, makes_by, ends, label_is, slots_are}
-use Rattle.js_grammar.proofs.RightEdges.{admits, surely, fails_by, at_edge}
-use Rattle.js_grammar.proofs.PostfixPaths.{row_ends}
+use Rattle.js_grammar.proofs.Calculus.{here_at, ◌▹◌, ◌▹✗◌, stay, left, right, more_of, then_by, inside_full, inside_plain, looks, ends_by, fails_ended, fails_alt, fails_rule, fails_node, makes_by, ends, label_is, slots_are}
+use Rattle.js_grammar.proofs.FirstRules.{by_first, fails_here}
+use Rattle.js_grammar.proofs.FirstLanguageRightEdges.{admits, surely, fails_by, at_edge}
+use Rattle.js_grammar.proofs.FirstLanguagePostfix.{row_ends}
 use Rattle.jsparse.specs.declared.cursor.Cursor.{Cursor}
 use Rattle.jsparse.specs.declared.tree.Node.{Node}
 use Rattle.jsparse.specs.declared.tree.NodeId.{NodeId}
@@ -33,6 +34,7 @@ use Rattle.jsparse.proofs.Nodes.{HoldsAll-next}
 use Rattle.jsparse.proofs.Paths.{kind_here, not_here, at_kind, fails_at, fails_called, Path, ◌⟶◌, ◌⟶✗◌, ◌⟼◌, ◌⟝◌, last_token, label_here, noded, by_symbol}
 use Rattle.jsparse.proofs.Phrases.{by_path}
 use Rattle.jsparse.proofs.States.{Held}
+use Rattle.js_grammar.proofs.FirstLanguageFirst.{firsts, starts}
 
 -- the kinds of the first language
 abbrev small_kinds : List Kind
@@ -102,7 +104,7 @@ module _ {text : List ℕ} where
 
   ended_path : {p q r : Cursor} → (x : Answer text (at Expression script_flags) p q) → Ended text q r → Path text (plain full) (ended by_edge (symbol Expression script_flags)) p nothing r (tree x.label x.slots)
   unfolding covers
-  ended_path x (by_semicolon e s) = to_semicolon x ⟶ (left (fails_here (λ y l h. no_row (edge_of x.label x.slots) y (kind_here x.at e y l) (and_parts _ _ h).0)) ⟼ last_token Semicolon x.at e s)
+  ended_path x (by_semicolon e s) = to_semicolon x ⟶ (left (fails_here firsts (λ y l h. no_row (edge_of x.label x.slots) y (kind_here x.at e y l) (and_parts _ _ h).0)) ⟼ last_token Semicolon x.at e s)
     where
       no_row : (d : Edge) (y : Lexeme) → y.kind ≡ Semicolon → IsTrue (seen (row_of d) y) → ⊥
       no_row d y e h = not_omitted y.newline (subst (λ v. row_of d v y.newline y.escaped ≡ true) e h)
@@ -131,7 +133,7 @@ module _ {text : List ℕ} where
   -- no semicolon stands here, and none may be left out
   none_here : {q : Cursor} (d : Edge) → At text q → NotEnded q → Fails (Lex text) (plain full) end (semicolon (continues (is_postfix d))) q.prev_token_end
   unfolding covers
-  none_here {q} d a n = fails_alt (fails_at a (lexeme (is Semicolon)) (Semicolon ∷ []) refl (n.no_semicolon, tt)) (fails_here (λ y l h. not_omitted y l (or_else (one_of_kinds (Eof ∷ []) y.kind) (one_of_kinds small_kinds y.kind) y.newline (covered (row_of d) no_omission (omits_so d) y.kind y.newline y.escaped (and_parts _ _ h).0) (small l))))
+  none_here {q} d a n = fails_alt (fails_at a (lexeme (is Semicolon)) (Semicolon ∷ []) refl (n.no_semicolon, tt)) (fails_here firsts (λ y l h. not_omitted y l (or_else (one_of_kinds (Eof ∷ []) y.kind) (one_of_kinds small_kinds y.kind) y.newline (covered (row_of d) no_omission (omits_so d) y.kind y.newline y.escaped (and_parts _ _ h).0) (small l))))
     where
       or_else : (b c d : Bool) → (b || (not c || d)) ≡ true → c ≡ true → (b ≡ true) ⊎ (d ≡ true)
       or_else true c d h e = inl refl
@@ -180,7 +182,7 @@ module _ {text : List ℕ} where
 
   more_items : {q : Cursor} {s : ℕ} {f : Slots → Slots} {pass : Lexemes → Lexemes} → At text q → (q.token.kind ≡ Eof → ⊥) → (x : Stretch text (after (at Item script_flags)) (symbol Item script_flags) q.prev_token_end nothing s f pass) → Goes (Lex text) (plain (follow Program as_expression)) end (many (symbol Item script_flags)) q.prev_token_end (many (symbol Item script_flags)) s f (record { reach = max 0 (max 0 x.reach); pass = pass })
   unfolding covers
-  more_items a n x = more_of ▹ left (fails_at a nothing (Eof ∷ []) refl (n, tt)) ▹ then_by x.goes (by_first (surely (at Item script_flags)) refl)
+  more_items a n x = more_of ▹ left (fails_at a nothing (Eof ∷ []) refl (n, tt)) ▹ then_by x.goes (by_first firsts (surely (at Item script_flags)) refl)
 
   -- a text that isn't read has no reading
   no_reading : Fails (Lex text) (plain (follow Program as_expression)) end (rule (at Program script_flags)) 0 → HasNoReading text

@@ -6,10 +6,11 @@ use Rattle.js_grammar.specs.FirstLanguageTable.{rule, script_flags}
 use Rattle.js_grammar.specs.FirstLanguageLexing.{Lex}
 use Rattle.js_grammar.specs.FirstLanguageLevels.{level_at, tight, after}
 use Rattle.js_grammar.specs.FirstLanguageEdges.{edge_of}
-use Rattle.js_grammar.specs.Parsing.{Test, Fails}
+use Rattle.js_grammar.specs.FirstLanguageParsing.{Fails}
+use Rattle.js_grammar.specs.Parsing.{Test}
 use Rattle.js_grammar.proofs.Towers.{Tower}
 use Rattle.js_grammar.proofs.Loops.{Around}
-use Rattle.js_grammar.proofs.Operators.{levels}
+use Rattle.js_grammar.proofs.FirstLanguageOperators.{levels}
 use Rattle.jsparse.specs.declared.cursor.Cursor.{Cursor}
 use Rattle.jsparse.specs.declared.tree.Node.{Node}
 use Rattle.jsparse.specs.declared.tree.NodeId.{NodeId}

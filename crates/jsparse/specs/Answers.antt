@@ -9,7 +9,8 @@ use Rattle.js_grammar.specs.FirstLanguageTable.{G, Symbol, always, callable_kind
 use Rattle.js_grammar.specs.FirstLanguageLexing.{Lex}
 use Rattle.js_grammar.specs.FirstLanguageEdges.{edge_of}
 use Rattle.js_grammar.specs.FirstLanguageLevels.{full, follow, after}
-use Rattle.js_grammar.specs.Parsing.{Test, plain, Goes, Fails}
+use Rattle.js_grammar.specs.FirstLanguageParsing.{Goes, Fails}
+use Rattle.js_grammar.specs.Parsing.{Test, plain}
 use Rattle.js_grammar.specs.FirstLanguageReadings.{IsReading, HasNoReading, program_tree}
 use Rattle.jsparse.specs.declared.cursor.Cursor.{Cursor}
 use Rattle.jsparse.specs.declared.cursor.Stop.{Stop}

@@ -1,4 +1,4 @@
-use Rattle.js_grammar.proofs.Matched.{matched}
+use Rattle.js_grammar.proofs.FirstLanguageMatched.{matched}
 use Rattle.js_grammar.proofs.laws.law_brackets.Goals as goal
 
 pub returns : goal.returns

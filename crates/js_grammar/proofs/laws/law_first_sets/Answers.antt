@@ -1,4 +1,4 @@
-use Rattle.js_grammar.proofs.First.{begins}
+use Rattle.js_grammar.proofs.FirstLanguageFirst.{begins}
 use Rattle.js_grammar.proofs.laws.law_first_sets.Goals as goal
 
 pub returns : goal.returns

@@ -1,4 +1,4 @@
-use Rattle.js_grammar.proofs.Omission.{omission_agrees}
+use Rattle.js_grammar.proofs.FirstLanguageOmission.{omission_agrees}
 use Rattle.js_grammar.proofs.laws.law_omission.Goals as goal
 
 pub returns : goal.returns

@@ -1,4 +1,4 @@
-use Rattle.js_grammar.proofs.First.{program_begins}
+use Rattle.js_grammar.proofs.FirstLanguageFirst.{program_begins}
 use Rattle.js_grammar.proofs.laws.law_program_begins.Goals as goal
 
 pub returns : goal.returns

@@ -7,10 +7,11 @@ use Rattle.js_grammar.specs.FirstLanguageEdges.{Edge, as_expression, as_postfix,
 use Rattle.js_grammar.specs.Grammar.{Lexeme, Lexemes, here, seen, Grammar, seq, alt, when, such, node, Takes, is_nothing, is_lexeme, is_look, is_text, is_ahead, is_empty_slot, is_seq, is_left, is_right, is_when, is_many, is_commas, is_such, is_marked, is_node, is_ended, is_keep, is_kept}
 use Rattle.js_grammar.specs.FirstLanguageTable.{Flags, Name, Symbol, rule, rule_of, always, Program, Item, Empty, ExprStmt, Expression, Additive, Multiply, Unary, Update, LeftHandSide, Member, Call, Primary, IdentifierReference}
 use Rattle.js_grammar.specs.FirstLanguageLevels.{level_at, tight, looser, follow, widest, surest, after}
-use Rattle.js_grammar.specs.Parsing.{T, Admits, Fails}
+use Rattle.js_grammar.specs.FirstLanguageParsing.{T, Fails}
+use Rattle.js_grammar.specs.Parsing.{Admits}
 use Rattle.js_grammar.proofs.Looks.{covers, covered}
 use Rattle.js_grammar.proofs.Calculus.{Sure, Within, On, fails_rule}
-use Rattle.js_grammar.proofs.Operators.{operates}
+use Rattle.js_grammar.proofs.FirstLanguageOperators.{operates}
 use Rattle.js_grammar.proofs.Loops.{Edges}
 
 -- a check at each edge
@@ -168,7 +169,7 @@ pub edged : {g : Grammar Symbol} {ks ts us : Slots} {i j : ℕ} {ls rest : Lexem
 edged d = (edged_both d).0
 
 -- The same for the trees that the second symbol is read as.
-pub same_read : (n m : Symbol) {c : Tree → Bool} {ks : Slots} {s : ℕ} → each_edge (λ d. covers (follow n.name d) (follow m.name d) || not (may_end m.name d)) ≡ true → On (after n) (after m) ks (such m c) s
+pub same_read : (n m : Symbol) {c : Tree → Bool} {ks : Slots} {s : ℕ} → each_edge (λ d. covers (follow n.name d) (follow m.name d) || not (may_end m.name d)) ≡ true → On rule (after n) (after m) ks (such m c) s
 same_read n m c = record {
   admits = λ ts vs k ls rest d e. let at = first_edge ts in
       admits m ts (here rest) (covered (follow n.name at) (follow m.name at) (implied (may_end m.name at) (covers (follow n.name at) (follow m.name at)) (at_edge (λ d. covers (follow n.name d) (follow m.name d) || not (may_end m.name d)) c at) (edged d)) _ _ _ e.1);
@@ -197,7 +198,7 @@ level_looser f (suc (suc (suc (suc n)))) d y a b = absurd (omega arith)
 pub tighter_level : (f : Flags) (m n : ℕ) → 1 ≤ m → m ≤ n → n ≤ 3 → Within (after (level_at f m)) (after (level_at f n))
 tighter_level f m n a b c ts y e = admits (level_at f n) ts y (level_looser f n (first_edge ts) y (omega arith) c ∙ looser_than m n (first_edge ts) y b (sym (level_looser f m (first_edge ts) y a (omega arith)) ∙ e.1))
 
-pub operator_edges : (f : Flags) (m q : ℕ) (k : Kind) {from : ℕ} {l : Label} {cs : Slots} {s' : ℕ} → 1 ≤ m → m ≤ q → q ≤ 2 → Edges (after (level_at f m)) (after (level_at f (q + 1))) (operates f q k) from l cs s'
+pub operator_edges : (f : Flags) (m q : ℕ) (k : Kind) {from : ℕ} {l : Label} {cs : Slots} {s' : ℕ} → 1 ≤ m → m ≤ q → q ≤ 2 → Edges rule (after (level_at f m)) (after (level_at f (q + 1))) (operates f q k) from l cs s'
 operator_edges f m q k {from} {l} {cs} {s'} a b c = record { ends = λ es j ls mid y d e. go es j y d e }
   where
     go : (es : Slots) {i j : ℕ} {ls mid : Lexemes} (p : ℕ) (y : Lexeme) → T (operates f q k).part end es i ls end j mid → Admits (after (level_at f m)) (tree (record { kind = binary_expression; op = of k; flags = 0; span = record { from = from; to = p } }) (tree l cs es) end) y → Admits (after (level_at f (q + 1))) es y

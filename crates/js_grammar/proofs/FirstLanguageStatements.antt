@@ -10,7 +10,7 @@ use Rattle.js_base.specs.declared.kind.Kind.TheVariants.{Plus2}
 use Rattle.js_grammar.specs.FirstLanguageEdges.{is_postfix}
 use Rattle.js_grammar.proofs.Behind.{lexed_behind}
 use Rattle.js_grammar.proofs.Calculus.{label_is, slots_are}
-use Rattle.js_grammar.proofs.Calm.{no_postfix_edge}
+use Rattle.js_grammar.proofs.FirstLanguageCalm.{no_postfix_edge}
 
 -- A place and the lexemes behind it where a statement may end that ends at the place k: with a semicolon, or without one.
 pub data EndsAt (k j : ℕ) : Lexemes → Type 0 where

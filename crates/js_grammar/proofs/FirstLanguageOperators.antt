@@ -2,12 +2,12 @@
 use Rattle.std.proofs.Common.{ℕ, zero, suc, ◌≤◌, ◌+◌, IsTrue, List, [], ◌∷◌, refl, arith}
 use Rattle.js_base.specs.declared.kind.Kind.{Kind}
 use Rattle.js_base.specs.declared.kind.Kind.TheVariants.{Plus, Minus, Star, LParen}
-use Rattle.js_grammar.specs.Trees.{Slots, end, binary_expression, call_expression}
+use Rattle.js_grammar.specs.Trees.{NodeKind, Slots, end, binary_expression, call_expression}
 use Rattle.js_grammar.specs.Grammar.{Lexemes, here, seen, is, alt, such, never, is_lexeme, is_seq, is_left, is_right, is_such, is_node, ◌▸◌, ◌◇◌}
 use Rattle.js_grammar.specs.FirstLanguageLevels.{level_at}
-use Rattle.js_grammar.specs.FirstLanguageTable.{Flags, Symbol, G, rule, rule_of, at, always, sym as symbol, branches, args, mk, callable, Expression, Additive, Multiply, Unary, Member, Call}
-use Rattle.js_grammar.specs.Parsing.{T}
-use Rattle.js_grammar.proofs.Towers.{Same, same_as, unroll, Link, Links, one, Tower, level_tower, chain, operation, operation_link}
+use Rattle.js_grammar.specs.FirstLanguageTable.{Flags, Symbol, G, rule, rule_of, at, always, sym as symbol, args, mk, callable, Expression, Additive, Multiply, Unary, Member, Call}
+use Rattle.js_grammar.specs.FirstLanguageParsing.{T}
+use Rattle.js_grammar.proofs.Towers.{branches, Same, without_feet, unroll, Link, Links, one, Tower, level_tower, chain, chain_foot, operation, operation_link}
 
 -- the operators of each level
 abbrev pub operators_at : ℕ → List Kind
@@ -16,33 +16,41 @@ operators_at (suc zero) = Plus ∷ Minus ∷ []
 operators_at (suc (suc zero)) = Star ∷ []
 operators_at _ = []
 
-passes_on : (f : Flags) → Same (rule (at Expression f)) (alt (symbol Additive f) never)
+-- all make the same node, and none has a foot
+abbrev pub kind_at : ℕ → NodeKind
+kind_at p = binary_expression
+
+abbrev pub feet_at : ℕ → G
+feet_at p = never
+
+passes_on : (f : Flags) → Same rule (rule (at Expression f)) (alt (alt (symbol Additive f) never) never)
 unfolding rule rule_of
-passes_on f = record { to = λ ts us i j ls rest d. is_left d; back = λ ts us i j ls rest d. go d }
+passes_on f = record { to = λ ts us i j ls rest d. is_left (is_left d); back = λ ts us i j ls rest d. go d }
   where
-    go : {ts us : Slots} {i j : ℕ} {ls rest : Lexemes} → T (alt (symbol Additive f) never) end ts i ls us j rest → T (symbol Additive f) end ts i ls us j rest
-    go (is_left d) = d
+    go : {ts us : Slots} {i j : ℕ} {ls rest : Lexemes} → T (alt (alt (symbol Additive f) never) never) end ts i ls us j rest → T (symbol Additive f) end ts i ls us j rest
+    go (is_left (is_left d)) = d
+    go (is_left (is_right d)) = elim d [ ]
     go (is_right d) = elim d [ ]
 
-additive_level : (f : Flags) → Same (rule (at Additive f)) (alt (symbol Multiply f) (branches (Plus ∷ Minus ∷ []) (operation (level_at f) binary_expression 1)))
+additive_level : (f : Flags) → Same rule (rule (at Additive f)) (alt (alt (symbol Multiply f) never) (branches (Plus ∷ Minus ∷ []) (operation (level_at f) kind_at 1)))
 unfolding rule rule_of
-additive_level f = same_as refl
+additive_level f = without_feet
 
-multiply_level : (f : Flags) → Same (rule (at Multiply f)) (alt (symbol Unary f) (branches (Star ∷ []) (operation (level_at f) binary_expression 2)))
+multiply_level : (f : Flags) → Same rule (rule (at Multiply f)) (alt (alt (symbol Unary f) never) (branches (Star ∷ []) (operation (level_at f) kind_at 2)))
 unfolding rule rule_of
-multiply_level f = same_as refl
+multiply_level f = without_feet
 
-pub climbs : (f : Flags) (p : ℕ) → p ≤ 2 → Same (rule (level_at f p)) (alt (such (level_at f (p + 1)) always) (branches (operators_at p) (operation (level_at f) binary_expression p)))
+pub climbs : (f : Flags) (p : ℕ) → p ≤ 2 → Same rule (rule (level_at f p)) (alt (alt (such (level_at f (p + 1)) always) (feet_at p)) (branches (operators_at p) (operation (level_at f) kind_at p)))
 climbs f zero h = passes_on f
 climbs f (suc zero) h = additive_level f
 climbs f (suc (suc zero)) h = multiply_level f
 climbs f (suc (suc (suc n))) h = absurd (omega arith)
 
 abbrev pub levels : Flags → Tower rule
-levels f = level_tower (level_at f) 2 binary_expression operators_at (climbs f)
+levels f = level_tower (level_at f) 2 kind_at feet_at operators_at (climbs f)
 
 abbrev pub operates : Flags → ℕ → Kind → Link Symbol
-operates f p o = operation_link (level_at f) binary_expression p o
+operates f p o = operation_link (level_at f) kind_at p o
 
 -- a call: a member with arguments, and arguments behind a call
 abbrev pub first_call : Flags → G
@@ -51,7 +59,7 @@ first_call f = mk call_expression (such (at Member f) callable ▸ args f)
 abbrev pub more_call : Flags → G
 more_call f = mk call_expression (symbol Call f ▸ args f)
 
-pub call_climbs : (f : Flags) → Same (rule (at Call f)) (alt (first_call f) (more_call f))
+pub call_climbs : (f : Flags) → Same rule (rule (at Call f)) (alt (first_call f) (more_call f))
 unfolding rule rule_of
 call_climbs f = record { to = λ ts us i j ls rest d. go d; back = λ ts us i j ls rest d. come d }
   where
@@ -78,4 +86,4 @@ first_begins f (is_node (is_seq {us = vs} {j = k} d (is_seq (is_lexeme {x = x} p
 
 -- A call begins with a member and a parenthesis behind it.
 pub call_begins : (f : Flags) {ks ts us : Slots} {i j : ℕ} {ls rest : Lexemes} → T (symbol Call f) ks ts i ls us j rest → (ws : Slots) × (vs : Slots) × (k : ℕ) × (mid : Lexemes) × T (symbol Member f) end ws i ls vs k mid × IsTrue (seen (is LParen) (here mid))
-call_begins f {i = i} {j = j} {ls = ls} {rest = rest} (is_such {l = l} {cs = cs} d c) = first_begins f (unroll (calls f) l cs 0 i j ls rest (omega arith) (is_such d refl)).4
+call_begins f {i = i} {j = j} {ls = ls} {rest = rest} (is_such {l = l} {cs = cs} d c) = let y = unroll (calls f) l cs 0 i j ls rest (omega arith) (is_such d refl) in first_begins f (chain_foot (at Call f) (first_call f) (more_call f) (call_climbs f) y.6 y.7)

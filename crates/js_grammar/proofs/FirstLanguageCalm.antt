@@ -9,7 +9,7 @@ use Rattle.js_grammar.specs.FirstLanguageEdges.{Edge, as_expression, as_postfix,
 use Rattle.js_grammar.specs.Grammar.{Lexeme, Lexemes, Grammar, lexeme, ahead, seq, alt, when, many, commas, marked, node, ended, keep, kept, is_nothing, is_lexeme, is_look, is_text, is_ahead, is_empty_slot, is_seq, is_left, is_right, is_when, is_many, is_commas, is_such, is_marked, is_node, is_ended, is_keep, is_kept}
 use Rattle.js_grammar.specs.FirstLanguageTable.{Flags, Name, Symbol, rule, rule_of, Program, Item, Empty, ExprStmt, Expression, Additive, Multiply, Unary, Update, LeftHandSide, Member, Call, Primary, IdentifierReference}
 use Rattle.js_grammar.specs.Lexed.{Lexes}
-use Rattle.js_grammar.specs.Parsing.{T}
+use Rattle.js_grammar.specs.FirstLanguageParsing.{T}
 use Rattle.js_grammar.proofs.Looks.{covers, covered}
 use Rattle.js_grammar.proofs.Behind.{lexed_behind}
 

@@ -12,14 +12,16 @@ use Rattle.js_grammar.specs.Grammar.{Lexeme, Lexemes, here, Look, seen, is, exac
 use Rattle.js_grammar.specs.FirstLanguageTable.{Flags, Symbol, G, rule, rule_of, at, always, callable_kind, make, sym as symbol, tok, args, on_the_line, Expression, Additive, Unary, Update, LeftHandSide, Member, Call, Primary, IdentifierReference, ExprStmt}
 use Rattle.js_grammar.specs.FirstLanguageLevels.{level_at, strength, tight, looser, follow, widest, after}
 use Rattle.js_grammar.specs.Lexed.{Lexes}
-use Rattle.js_grammar.specs.Parsing.{T, Reaches, Way, still, passing, joined, Test, plain, Admits, Goes, Reads, Fails}
+use Rattle.js_grammar.specs.FirstLanguageParsing.{T, Goes, Reads, Fails}
+use Rattle.js_grammar.specs.Parsing.{Reaches, Way, still, passing, joined, Test, plain, Admits}
 use Rattle.js_grammar.proofs.Looks.{full, covers, covered, same_self}
-use Rattle.js_grammar.proofs.First.{starts}
-use Rattle.js_grammar.proofs.Calculus.{Inside, by_plain, by_first, inside_plain, here_at, ends, ◌▹◌, ◌▹✗◌, left, right, then_by, makes_by, by_rule, fails_rule, fails_node, fails_here, ends_by, reads_lexeme, looks, picks, pick, unless, tested, weaken, weaken_fails, weaken_on}
+use Rattle.js_grammar.proofs.Calculus.{Inside, by_plain, inside_plain, here_at, ends, ◌▹◌, ◌▹✗◌, left, right, then_by, makes_by, by_rule, fails_rule, fails_node, ends_by, reads_lexeme, looks, tested, weaken, weaken_fails, weaken_on}
+use Rattle.js_grammar.proofs.FirstRules.{by_first, fails_here, picks, pick, unless}
 use Rattle.js_grammar.proofs.Towers.{OneOf, head, later, this}
 use Rattle.js_grammar.proofs.Loops.{Follows, Around, Alone, start, step, step_fails, operators_follow, one_operator, operators_end, Chained, chain_start, chain_step, chain_end, unfollowed}
-use Rattle.js_grammar.proofs.Operators.{operators_at, levels, climbs, operates, call_climbs, call_links, call_begins}
-use Rattle.js_grammar.proofs.RightEdges.{each_edge, at_edge, admits, same_tree, same_read, level_looser, tighter_level, operator_edges}
+use Rattle.js_grammar.proofs.FirstLanguageOperators.{kind_at as node_at, feet_at, operators_at, levels, climbs, operates, call_climbs, call_links, call_begins}
+use Rattle.js_grammar.proofs.FirstLanguageRightEdges.{each_edge, at_edge, admits, same_tree, same_read, level_looser, tighter_level, operator_edges}
+use Rattle.js_grammar.proofs.FirstLanguageFirst.{first, firsts, starts}
 
 -- one lexeme stands behind the place
 pub record Stands (Lex : ℕ → Lexeme → Type 0) (s : ℕ) (x : Lexeme) : Type 0 where
@@ -45,7 +47,7 @@ kind_is k x h = sym (kind_of_same k x.kind (and_parts (same_kind k x.kind) (not 
 
 module _ (f : Flags) where
   -- Signs: behind the node there stands what stands behind its operand.
-  pub sign_edge : (k o : Kind) {s : ℕ} → Inside (record { kind = unary_expression; op = of o; flags = 0; extent = exact }) (after (at Unary f)) (after (at Unary f)) end (tok k ▸ symbol Unary f) s
+  pub sign_edge : (k o : Kind) {s : ℕ} → Inside rule (record { kind = unary_expression; op = of o; flags = 0; extent = exact }) (after (at Unary f)) (after (at Unary f)) end (tok k ▸ symbol Unary f) s
   sign_edge k o = record { ends = λ p cs vs j ls mid d e. go cs d e }
     where
       go : (cs : Slots) {i j : ℕ} {ls mid : Lexemes} → T (tok k ▸ symbol Unary f) end cs i ls end j mid → IsTrue (seen (widest Unary) (here mid)) × IsTrue (seen (follow Unary (last_edge as_expression cs)) (here mid)) → Admits (after (at Unary f)) cs (here mid)
@@ -59,7 +61,7 @@ module _ (f : Flags) where
   abbrev postfix : G
   postfix = symbol IdentifierReference f ▸ look on_the_line ▸ tok Plus2
 
-  update_edge : {s : ℕ} → Inside (record { kind = update_expression; op = of Plus2; flags = 0; extent = exact }) (after (at Update f)) (plain full) end postfix s
+  update_edge : {s : ℕ} → Inside rule (record { kind = update_expression; op = of Plus2; flags = 0; extent = exact }) (after (at Update f)) (plain full) end postfix s
   update_edge = record { ends = λ p cs vs j ls mid d e. (refl, refl) }
 
   -- what binds less than a call, and is no `++` on the line, binds less than a `++`
@@ -127,8 +129,8 @@ module _ (f : Flags) where
   unbound : (n : ℕ) (d : Edge) (y : Lexeme) → IsTrue (seen (looser n d) y) → tight d y.kind y.newline < n
   unbound n d y h = ltb-true (tight d y.kind y.newline) n h
 
-  operand_follow : (m c n : ℕ) → 1 ≤ m → c < n → n ≤ 3 → Follows (levels f) m c (after (level_at f n))
-  operand_follow m c n a b z = operators_follow (level_at f) 2 binary_expression operators_at (climbs f)
+  operand_follow : (m c n : ℕ) → 1 ≤ m → c < n → n ≤ 3 → Follows first (levels f) m c (after (level_at f n))
+  operand_follow m c n a b z = operators_follow firsts (level_at f) 2 node_at feet_at operators_at (climbs f)
       (λ q ts y i g h t. admits (level_at f n) ts y (level_looser f n (first_edge ts) y (omega arith) z ∙ binds n (first_edge ts) y (let u = (operator_tight q (first_edge ts) y.newline i).0 in omega arith)))
 
   pub no_call_behind : (z : Lexeme) → (z.kind ≡ LParen → ⊥) → IsTrue (seen (follow LeftHandSide as_expression) z)
@@ -144,7 +146,7 @@ module _ (f : Flags) where
       loose _ w n = refl
 
   abbrev pub Calling : (ℕ → Lexeme → Type 0) → ℕ → ℕ → Label → Slots → ℕ → Way → Type 0
-  Calling Lex s from l cs s' way = Chained (call_climbs f) (call_links f) Lex (after (at LeftHandSide f)) s from l cs s' way
+  Calling Lex s from l cs s' way = Chained firsts (call_climbs f) (call_links f) Lex (after (at LeftHandSide f)) s from l cs s' way
 
   omitted_before_a_line : (y : Lexeme) → y.kind ≡ LParen → y.newline ≡ true → IsTrue (seen (may_omit (continues true)) y)
   unfolding covers
@@ -171,8 +173,8 @@ module _ {Lex : ℕ → Lexeme → Type 0} where
   kind_at t e y l = ap (λ v. v.kind) (t.alone y l) ∙ e
 
   -- a choice, cut down at the kind that stands here
-  at_this : {X : Test} {g : G} {s : ℕ} {x : Lexeme} (k : Kind) → Stands Lex s x → x.kind ≡ k → Goes Lex X end g s (pick X.base g (k ∷ [])) s (λ us. us) (still 0)
-  at_this {X} {g} k t e = picks (k ∷ []) (λ y l. subst (λ v. one_of_kinds (k ∷ []) v ≡ true) (sym (kind_at t e y l)) (one_kind k)) g
+  at_this : {X : Test} {g : G} {s : ℕ} {x : Lexeme} (k : Kind) → Stands Lex s x → x.kind ≡ k → Goes Lex X end g s (pick first X.base g (k ∷ [])) s (λ us. us) (still 0)
+  at_this {X} {g} k t e = picks firsts (k ∷ []) (λ y l. subst (λ v. one_of_kinds (k ∷ []) v ≡ true) (sym (kind_at t e y l)) (one_kind k)) g
     where
       one_kind : (k : Kind) → one_of_kinds (k ∷ []) k ≡ true
       one_kind k = rw (same_self k) refl
@@ -209,12 +211,12 @@ module _ {Lex : ℕ → Lexeme → Type 0} where
       slots = r.slots;
       way = _;
       stops = r.stops;
-      reads = by_rule {X' = after (at Unary f)} (λ l cs vs y e. e) (left (unless _ (Plus ∷ Minus ∷ []) refl n) ▹ weaken r.reads (same_tree (at Unary f) (at Update f) refl)) refl;
+      reads = by_rule {X' = after (at Unary f)} (λ l cs vs y e. e) (left (unless firsts _ (Plus ∷ Minus ∷ []) refl n) ▹ weaken r.reads (same_tree (at Unary f) (at Update f) refl)) refl;
     }
 
     unsigned_fails : {s : ℕ} → ((y : Lexeme) → Lex s y → one_of_kinds (Plus ∷ Minus ∷ []) y.kind ≡ true → ⊥) → NoAnswer Lex (at Update f) s → NoAnswer Lex (at Unary f) s
     unfolding rule rule_of covers
-    unsigned_fails n r = fails_rule {X' = after (at Unary f)} (λ l cs vs y e. e) (left (unless _ (Plus ∷ Minus ∷ []) refl n) ▹✗ weaken_fails r (same_tree (at Unary f) (at Update f) refl))
+    unsigned_fails n r = fails_rule {X' = after (at Unary f)} (λ l cs vs y e. e) (left (unless firsts _ (Plus ∷ Minus ∷ []) refl n) ▹✗ weaken_fails r (same_tree (at Unary f) (at Update f) refl))
 
     -- behind a name with `++` on its line the left-hand side ends too
     name_ends : {s s' : ℕ} (r : Answer Lex (at LeftHandSide f) s s') {cs us : Slots} {j : ℕ} {ls rest : Lexemes} → Lexes Lex s ls → T (postfix f) end cs s ls us j rest → (y : Lexeme) × Lex s' y × (y.kind ≡ Plus2) × (y.newline ≡ false)
@@ -266,7 +268,7 @@ module _ {Lex : ℕ → Lexeme → Type 0} where
       slots = tree r.label r.slots end;
       way = _;
       stops = λ z l. covered full (follow Update as_postfix) refl z.kind z.newline z.escaped refl;
-      reads = by_rule {X' = after (at Update f)} (λ l cs vs y e. e) (right no_operand ▹ makes_by _ (update_edge f) (then_by (reads_name r e) (by_first (by_plain (follow LeftHandSide as_expression)) refl) ▹ (then_by {X' = plain full} (looks on_the_line stays) (by_first (by_plain full) refl) ▹ takes Plus2 u h)) (labelled t)) refl;
+      reads = by_rule {X' = after (at Update f)} (λ l cs vs y e. e) (right no_operand ▹ makes_by _ (update_edge f) (then_by (reads_name r e) (by_first firsts (by_plain (follow LeftHandSide as_expression)) refl) ▹ (then_by {X' = plain full} (looks on_the_line stays) (by_first firsts (by_plain full) refl) ▹ takes Plus2 u h)) (labelled t)) refl;
     }
       where
         stays : (z : Lexeme) → Lex s' z → IsTrue (seen on_the_line z)
@@ -289,11 +291,11 @@ module _ {Lex : ℕ → Lexeme → Type 0} where
 
     first_around : {s o q : ℕ} {rn : Way} {x : Lexeme} {h : Slots → Slots} → Stands Lex s x → (r : Answer Lex (at Primary f) s o) → callable_kind r.label.kind ≡ true → Reads Lex (plain full) end (args f) o q h rn → Calling f Lex s x.from (label_at call_expression no_op x.from q) (tree r.label r.slots (h end)) q (joined r.way rn)
     unfolding covers
-    first_around t r b a = chain_start (call_climbs f) (call_links f) {F' = full} (makes_by _ (inside_plain refl) (then_by (tested (member_reads r) b) (by_first (by_plain full) refl) ▹ a) (labelled t)) refl refl (λ y l. ap (λ v. v.from) (t.alone y l))
+    first_around t r b a = chain_start firsts (call_climbs f) (call_links f) {F' = full} (makes_by _ (inside_plain refl) (then_by (tested (member_reads r) b) (by_first firsts (by_plain full) refl) ▹ a) (labelled t)) refl refl (λ y l. ap (λ v. v.from) (t.alone y l))
 
     more_around : {s from o q : ℕ} {rn rm : Way} {l : Label} {cs : Slots} {y : Lexeme} {h : Slots → Slots} → Calling f Lex s from l cs o rn → Stands Lex o y → y.kind ≡ LParen → Reads Lex (plain full) end (args f) o q h rm → Calling f Lex s from (label_at call_expression no_op from q) (tree l cs (h end)) q (joined rn rm)
     unfolding covers
-    more_around c u e a = chain_step (call_climbs f) (call_links f) {F' = full} LParen c (kind_at u e) this refl refl a refl refl
+    more_around c u e a = chain_step firsts (call_climbs f) (call_links f) {F' = full} LParen c (kind_at u e) this refl refl a refl refl
 
     -- at a parenthesis no left-hand side ends
     paren_stops : {o : ℕ} {y : Lexeme} → Stands Lex o y → y.kind ≡ LParen → (us : Slots) (z : Lexeme) → Lex o z → Admits (after (at LeftHandSide f)) us z → ⊥
@@ -309,7 +311,7 @@ module _ {Lex : ℕ → Lexeme → Type 0} where
       slots = cs;
       way = _;
       stops = λ z i. no_call_behind f z (n z i);
-      reads = by_rule {X' = after (at LeftHandSide f)} (λ l cs vs y e. e) (right (member_fails r u e) ▹ chain_end (call_climbs f) (call_links f) {X' = after (at LeftHandSide f)} (λ l cs vs y e. e) c (λ z i t. n z i (sym (kind_of_same LParen z.kind (and_parts _ _ t).0)))) refl;
+      reads = by_rule {X' = after (at LeftHandSide f)} (λ l cs vs y e. e) (right (member_fails r u e) ▹ chain_end firsts (call_climbs f) (call_links f) {X' = after (at LeftHandSide f)} (λ l cs vs y e. e) c (λ z i t. n z i (sym (kind_of_same LParen z.kind (and_parts _ _ t).0)))) refl;
     }
 
     -- a number, a name or parentheses, with no call behind
@@ -338,16 +340,16 @@ module _ {Lex : ℕ → Lexeme → Type 0} where
       way = r.way;
       stops = λ y l. let z = unbound f 3 (edge_of r.label r.slots) y (r.stops y l) in omega arith;
       stops_first = λ y l. unbound f 3 (edge_of r.label r.slots) y (r.stops y l);
-      around = start {w = levels f} b r.reads (tighter_level f m 3 a b (omega arith)) (tower_follow m b) (λ y l. ap (λ v. v.from) (t.alone y l));
+      around = start firsts {w = levels f} (λ q h. refl) b r.reads (tighter_level f m 3 a b (omega arith)) (tower_follow m b) (λ y l. ap (λ v. v.from) (t.alone y l));
     }
       where
-        tower_follow : (m : ℕ) → m ≤ 3 → Follows (levels f) m 3 (after (at Unary f))
-        tower_follow m b = operators_follow (level_at f) 2 binary_expression operators_at (climbs f) (λ q ts y i g h t. admits (at Unary f) ts y (binds f 3 (first_edge ts) y (let u = (operator_tight f q (first_edge ts) y.newline i).0 in omega arith)))
+        tower_follow : (m : ℕ) → m ≤ 3 → Follows first (levels f) m 3 (after (at Unary f))
+        tower_follow m b = operators_follow firsts (level_at f) 2 node_at feet_at operators_at (climbs f) (λ q ts y i g h t. admits (at Unary f) ts y (binds f 3 (first_edge ts) y (let u = (operator_tight f q (first_edge ts) y.newline i).0 in omega arith)))
 
     -- an operator alone may stand here, whatever edge stands before it
-    operator_alone : {m c s' : ℕ} {l : Label} {cs : Slots} {x : Lexeme} → Stands Lex s' x → 1 ≤ m → m ≤ 3 → m ≤ strength x.kind → strength x.kind ≤ c → Alone Lex (after (level_at f m)) (levels f) m c s' (strength x.kind) (operates f (strength x.kind) x.kind) l cs
+    operator_alone : {m c s' : ℕ} {l : Label} {cs : Slots} {x : Lexeme} → Stands Lex s' x → 1 ≤ m → m ≤ 3 → m ≤ strength x.kind → strength x.kind ≤ c → Alone firsts Lex (after (level_at f m)) (levels f) m c s' (strength x.kind) (operates f (strength x.kind) x.kind) l cs
     operator_alone {m} {c} {s'} {l} {cs} {x} t a b g h = let k = x.kind in
-        one_operator (level_at f) 2 binary_expression operators_at (climbs f) k (kind_at t refl) g h (strength_low f k) (an_operator f k (omega arith)) (λ q i. sym (operator_tight f q as_expression false i).1)
+        one_operator firsts (level_at f) 2 node_at feet_at operators_at (climbs f) k (kind_at t refl) g h (strength_low f k) (an_operator f k (omega arith)) (λ q i. sym (operator_tight f q as_expression false i).1)
         (λ y i e. let z = unbound f m (edge_of l cs) y (sym (level_looser f m (edge_of l cs) y a b) ∙ e.1) in
         let same : tight (edge_of l cs) y.kind y.newline ≡ tight (edge_of l cs) k y.newline = ap (λ v. tight (edge_of l cs) v y.newline) (kind_at t refl y i) in
         let u = (operator_tight f (strength k) (edge_of l cs) y.newline (an_operator f k (omega arith))).0 in absurd (omega arith))
@@ -365,7 +367,7 @@ module _ {Lex : ℕ → Lexeme → Type 0} where
       way = _;
       stops = stopping;
       stops_first = λ y l. let i = strength_low f x.kind in let j = stopping y l in omega arith;
-      around = let i = strength_low f x.kind in step o.around (operator_alone t a b c (within_cap (edge_of o.label o.slots) t (omega arith) o.stops)) (skips x.kind t h ▹ r.reads) (operator_edges f m (strength x.kind) x.kind a c i) (operand_follow f m (strength x.kind) (strength x.kind + 1) a (omega arith) (omega arith));
+      around = let i = strength_low f x.kind in step firsts o.around (operator_alone t a b c (within_cap (edge_of o.label o.slots) t (omega arith) o.stops)) (skips x.kind t h ▹ r.reads) (operator_edges f m (strength x.kind) x.kind a c i) (operand_follow f m (strength x.kind) (strength x.kind + 1) a (omega arith) (omega arith));
     }
       where
         stopping : (y : Lexeme) → Lex s'' y → tight (edge_of r.label r.slots) y.kind y.newline < strength x.kind + 1
@@ -373,7 +375,7 @@ module _ {Lex : ℕ → Lexeme → Type 0} where
 
     operand_step_fails : {m s from s' : ℕ} {x : Lexeme} → 1 ≤ m → m ≤ 3 → (o : Operand Lex f m s from s') → Stands Lex s' x → IsTrue (seen (is x.kind) x) → m ≤ strength x.kind → NoAnswer Lex (level_at f (strength x.kind + 1)) x.to → NoAnswer Lex (level_at f m) s
     operand_step_fails {m} {x = x} a b o t h c r = let i = strength_low f x.kind in
-        step_fails o.around (operator_alone t a b c (within_cap (edge_of o.label o.slots) t (omega arith) o.stops)) refl (skips x.kind t h ▹✗ r) (λ l cs vs y e. e) (operator_edges f m (strength x.kind) x.kind a c i) (operand_follow f m (strength x.kind) (strength x.kind + 1) a (omega arith) (omega arith))
+        step_fails firsts o.around (operator_alone t a b c (within_cap (edge_of o.label o.slots) t (omega arith) o.stops)) refl (skips x.kind t h ▹✗ r) (λ l cs vs y e. e) (operator_edges f m (strength x.kind) x.kind a c i) (operand_follow f m (strength x.kind) (strength x.kind + 1) a (omega arith) (omega arith))
 
     -- no operator of the level m or tighter stands here
     operand_ends : {m s from s' : ℕ} {x : Lexeme} → 1 ≤ m → m ≤ 3 → Operand Lex f m s from s' → Stands Lex s' x → strength x.kind < m → Answer Lex (level_at f m) s s'
@@ -382,7 +384,7 @@ module _ {Lex : ℕ → Lexeme → Type 0} where
       slots = o.slots;
       way = o.way;
       stops = λ y l. level_looser f m (edge_of o.label o.slots) y a b ∙ binds f m (edge_of o.label o.slots) y (let u = tight_low f (edge_of o.label o.slots) y.kind y.newline (o.stops_first y l) in let v = weak y l in omega arith);
-      reads = operators_end (level_at f) 2 binary_expression operators_at (climbs f) {X' = after (level_at f m)} (λ l cs vs y e. e) o.around (λ q i j y l g. let u = (operator_tight f q as_expression false g).1 in let v = weak y l in absurd (omega arith));
+      reads = operators_end firsts (level_at f) 2 node_at feet_at operators_at (climbs f) {X' = after (level_at f m)} (λ l cs vs y e. e) o.around (λ q i j y l g. let u = (operator_tight f q as_expression false g).1 in let v = weak y l in absurd (omega arith));
     }
       where
         weak : (y : Lexeme) → Lex s' y → strength y.kind ≡ strength x.kind
@@ -411,7 +413,7 @@ module _ {Lex : ℕ → Lexeme → Type 0} where
     statement_with_semicolon {s} {s'} {x} {y} t r u h = (_, in_statement t (to_semicolon r ▹ (left (no_omission (is_postfix (edge_of r.label r.slots))) ▹ takes Semicolon u h)))
       where
         no_omission : (b : Bool) → Fails Lex (plain full) end (look (may_omit (continues b))) s'
-        no_omission b = fails_here (λ z l p. not_omitted b z.newline z.escaped (subst (λ v. may_omit (continues b) v z.newline z.escaped ≡ true) (kind_at u (kind_is Semicolon y h) z l) (and_parts _ _ p).0))
+        no_omission b = fails_here firsts (λ z l p. not_omitted b z.newline z.escaped (subst (λ v. may_omit (continues b) v z.newline z.escaped ≡ true) (kind_at u (kind_is Semicolon y h) z l) (and_parts _ _ p).0))
           where
             not_omitted : (b w e : Bool) → may_omit (continues b) Semicolon w e ≡ true → ⊥
             not_omitted b true e p = false≢true p
@@ -420,7 +422,7 @@ module _ {Lex : ℕ → Lexeme → Type 0} where
     statement_without : {s s' : ℕ} {x y : Lexeme} → Stands Lex s x → (r : Answer Lex (at Expression f) s s') → Stands Lex s' y → (y.kind ≡ Semicolon → ⊥) → IsTrue (seen (may_omit (Row r)) y)
         → (rn : Way) × Reads Lex (plain full) end (symbol ExprStmt f) s s' (tree (label_at expression_statement no_op x.from s') (tree r.label r.slots end)) rn
     unfolding covers
-    statement_without {s} {s'} {x} {y} t r u n h = (_, in_statement t (to_semicolon r ▹ (right (unless _ (Semicolon ∷ []) refl no_semicolon) ▹ looks (may_omit (Row r)) (λ z l. subst (λ v. IsTrue (seen (may_omit (Row r)) v)) (sym (u.alone z l)) h))))
+    statement_without {s} {s'} {x} {y} t r u n h = (_, in_statement t (to_semicolon r ▹ (right (unless firsts _ (Semicolon ∷ []) refl no_semicolon) ▹ looks (may_omit (Row r)) (λ z l. subst (λ v. IsTrue (seen (may_omit (Row r)) v)) (sym (u.alone z l)) h))))
       where
         no_semicolon : (z : Lexeme) → Lex s' z → one_of_kinds (Semicolon ∷ []) z.kind ≡ true → ⊥
         no_semicolon z l p = n (sym (kind_at u refl z l) ∙ semicolon_is z.kind p)
