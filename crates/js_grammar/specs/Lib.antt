@@ -7,6 +7,7 @@ pub mod Productions
 pub mod Conditions
 pub mod Table
 pub mod FirstSets
+pub mod Levels
 pub mod FirstLanguageInsertion
 pub mod FirstLanguageTable
 pub mod FirstLanguageLexing
