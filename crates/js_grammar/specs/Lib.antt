@@ -8,6 +8,7 @@ pub mod Conditions
 pub mod Table
 pub mod FirstSets
 pub mod Levels
+pub mod Follow
 pub mod FirstLanguageInsertion
 pub mod FirstLanguageTable
 pub mod FirstLanguageLexing
