@@ -62,7 +62,7 @@ binds b _ = 0
 
 -- an operator, without an escape where it is a word
 abbrev pub operator : Bool → Kind → Bool → ℕ
-operator b k e = cond e 0 (cond (one_of_kinds assign_operators k) 2 (binds b k))
+operator b k e = cond (one_of_kinds ('in' ∷ 'instanceof' ∷ []) k && e) 0 (cond (one_of_kinds assign_operators k) 2 (binds b k))
 
 -- what begins a link behind a member or a call, a template among them
 abbrev pub begins_link : Kind → Bool
