@@ -60,9 +60,8 @@ binds b Percent = 14
 binds b Star2 = 15
 binds b _ = 0
 
--- an operator, without an escape where it is a word
-abbrev pub operator : Bool → Kind → Bool → ℕ
-operator b k e = cond (one_of_kinds ('in' ∷ 'instanceof' ∷ []) k && e) 0 (cond (one_of_kinds assign_operators k) 2 (binds b k))
+abbrev pub operator : Bool → Kind → ℕ
+operator b k = cond (one_of_kinds assign_operators k) 2 (binds b k)
 
 -- what begins a link behind a member or a call, a template among them
 abbrev pub begins_link : Kind → Bool
@@ -83,12 +82,12 @@ yielded k w = cond (not w && (begins_expression k || one_of_kinds (Star ∷ Slas
 abbrev pub larger : ℕ → ℕ → ℕ
 larger a b = cond (nat_lt a b) b a
 
--- How tight a lexeme binds what stands before it, by the row of that: 17 a link, 18 what makes it the head of something else.
+-- How tight a lexeme binds what stands before it, by the row of that: 17 a link, 18 what makes it the head of something else. A word with an escape is no operator.
 abbrev pub tight : Bool → Row → Kind → Bool → Bool → ℕ
-tight b after_body k w e = cond (same_kind Comma k) 1 0
-tight b after_yield k w e = cond (same_kind Comma k) 1 (yielded k w)
-tight b after_postfix k w e = cond (same_kind Arrow k) 18 (operator b k e)
-tight b _ k w e = cond (begins_link k) 17 (cond (same_kind Arrow k) 18 (larger (operator b k e) (behind_operand k w e)))
+tight b after_body k w e = cond (same_kind Comma k && not e) 1 0
+tight b after_yield k w e = cond (same_kind Comma k && not e) 1 (yielded k w)
+tight b after_postfix k w e = cond e 0 (cond (same_kind Arrow k) 18 (operator b k))
+tight b _ k w e = cond e (on_line k w e) (cond (begins_link k) 17 (cond (same_kind Arrow k) 18 (larger (operator b k) (behind_operand k w e))))
 
 -- it binds less than this
 abbrev pub looser : ℕ → Bool → Row → Look
@@ -158,9 +157,8 @@ follow_of Chain b d k w e = looser 17 b after_expression k w e
 follow_of Links b d k w e = looser 17 b after_expression k w e
 follow_of SimpleTarget b d k w e = looser 17 b after_expression k w e
 follow_of Target b d k w e = looser 17 b after_expression k w e
--- behind a member a call may stand, and a link of an optional chain
-follow_of Member b d k w e = not (one_of_kinds (LBrack ∷ Dot ∷ NoSubstitutionTemplate ∷ TemplateHead ∷ []) k)
--- `async` before `function` begins a function
+-- behind a member a call may stand, and a link of an optional chain; `async` before `function` begins a function
+follow_of Member b d k w e = not (one_of_kinds (LBrack ∷ Dot ∷ NoSubstitutionTemplate ∷ TemplateHead ∷ []) k && not e) && not (not w && (same_kind 'function' k && not e))
 follow_of Primary b d k w e = not (not w && (same_kind 'function' k && not e))
 -- what ends with a lexeme of its own, or by a semicolon, written or left out
 follow_of _ b d k w e = true

@@ -28,18 +28,21 @@ top_level = 9
 abbrev pub comparisons : Bool → List Kind
 comparisons b = LAngle ∷ RAngle ∷ LtEq ∷ GtEq ∷ 'instanceof' ∷ cond b ('in' ∷ []) []
 
+abbrev pub operators_of : Bool → ℕ → List Kind
+operators_of b zero = Pipe2 ∷ []
+operators_of b (suc zero) = Amp2 ∷ []
+operators_of b (suc (suc zero)) = Pipe ∷ []
+operators_of b (suc (suc (suc zero))) = Caret ∷ []
+operators_of b (suc (suc (suc (suc zero)))) = Amp ∷ []
+operators_of b (suc (suc (suc (suc (suc zero))))) = Eq2 ∷ Neq ∷ Eq3 ∷ Neq2 ∷ []
+operators_of b (suc (suc (suc (suc (suc (suc zero)))))) = comparisons b
+operators_of b (suc (suc (suc (suc (suc (suc (suc zero))))))) = ShiftLeft ∷ ShiftRight ∷ ShiftRight3 ∷ []
+operators_of b (suc (suc (suc (suc (suc (suc (suc (suc zero)))))))) = Plus ∷ Minus ∷ []
+operators_of b (suc (suc (suc (suc (suc (suc (suc (suc (suc zero))))))))) = Star ∷ Slash ∷ Percent ∷ []
+operators_of b _ = []
+
 abbrev pub operators_at : Flags → ℕ → List Kind
-operators_at f zero = Pipe2 ∷ []
-operators_at f (suc zero) = Amp2 ∷ []
-operators_at f (suc (suc zero)) = Pipe ∷ []
-operators_at f (suc (suc (suc zero))) = Caret ∷ []
-operators_at f (suc (suc (suc (suc zero)))) = Amp ∷ []
-operators_at f (suc (suc (suc (suc (suc zero))))) = Eq2 ∷ Neq ∷ Eq3 ∷ Neq2 ∷ []
-operators_at f (suc (suc (suc (suc (suc (suc zero)))))) = comparisons f.in_
-operators_at f (suc (suc (suc (suc (suc (suc (suc zero))))))) = ShiftLeft ∷ ShiftRight ∷ ShiftRight3 ∷ []
-operators_at f (suc (suc (suc (suc (suc (suc (suc (suc zero)))))))) = Plus ∷ Minus ∷ []
-operators_at f (suc (suc (suc (suc (suc (suc (suc (suc (suc zero))))))))) = Star ∷ Slash ∷ Percent ∷ []
-operators_at f _ = []
+operators_at f p = operators_of f.in_ p
 
 -- the nodes of each level
 abbrev pub node_at : ℕ → NodeKind
