@@ -1,11 +1,11 @@
 -- The loop over links behind a member, over any lexing: what begins a link, and the link that it is, are computed from the table.
-use Rattle.std.proofs.Common.{ℕ, ◌≡◌, ◌⊎◌, inl, inr, Bool, true, false, IsTrue, refl, sym, ◌∙◌, subst}
+use Rattle.std.proofs.Common.{ℕ, ◌≡◌, ◌⊎◌, inl, inr, Bool, true, false, refl, sym, ◌∙◌, subst}
 use Rattle.std.proofs.lemmas.Bool.{false≢true}
 use Rattle.js_base.specs.declared.kind.Kind.{Kind}
 use Rattle.js_base.specs.declared.kind.Kind.TheVariants.{Dot, LBrack, RBrack}
 use Rattle.js_grammar.specs.Trees.{static_member_expression, private_field_expression, computed_member_expression, no_op, Slots, end, Label, tree}
 use Rattle.js_grammar.specs.Grammar.{Lexeme, ◌▸◌}
-use Rattle.js_grammar.specs.Productions.{Flags, Symbol, G, at, tok, plus_in, Expression, IdentifierName, PrivateName, Member}
+use Rattle.js_grammar.specs.Productions.{Flags, Symbol, at, tok, plus_in, Expression, IdentifierName, PrivateName, Member}
 use Rattle.js_grammar.specs.Productions.{sym as symbol}
 use Rattle.js_grammar.specs.Parsing.{full, plain, Way, joined, Admits, Reads, Fails}
 use Rattle.js_grammar.specs.Table.{rule, rule_of}

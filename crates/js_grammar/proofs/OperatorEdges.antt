@@ -1,13 +1,13 @@
 -- Right edges of operators: what may stand behind a level's node may stand behind its right operand, and how tight its operators bind.
-use Rattle.std.proofs.Common.{ℕ, zero, suc, ◌≡◌, ◌≤◌, ◌+◌, Bool, true, false, not, cond, ◌&&◌, ◌||◌, IsTrue, nat_lt, nat_eq, List, [], ◌∷◌, refl, sym, ap, ◌∙◌, subst, arith}
-use Rattle.std.proofs.lemmas.Bool.{false≢true, and_parts, ltb-true, lt-ltb, eqb-true}
+use Rattle.std.proofs.Common.{ℕ, zero, suc, ◌≡◌, ◌≤◌, ◌+◌, Bool, true, false, ◌&&◌, ◌||◌, nat_lt, nat_eq, refl, sym, ◌∙◌, subst, arith}
+use Rattle.std.proofs.lemmas.Bool.{false≢true, and_parts, ltb-true, eqb-true}
 use Rattle.js_base.specs.declared.kind.Kind.{Kind}
 use Rattle.js_base.specs.Kinds.{one_of_kinds}
-use Rattle.js_grammar.specs.Trees.{NodeKind, of, Slots, end, Label, tree}
-use Rattle.js_grammar.specs.Insertion.{Row, after_expression, after_postfix, after_body, after_yield, after_declarator, after_word, edge_is_last, own_row, empty_row, edge}
-use Rattle.js_grammar.specs.Grammar.{Lexeme, Lexemes, here, Look, seen, Takes, is_lexeme, is_seq, is_such}
-use Rattle.js_grammar.specs.Productions.{Flags, Symbol}
-use Rattle.js_grammar.specs.Parsing.{full, Admits}
+use Rattle.js_grammar.specs.Trees.{of, Slots, end, Label, tree}
+use Rattle.js_grammar.specs.Insertion.{Row, after_expression, after_postfix, after_body, after_yield, after_declarator, after_word, edge_is_last}
+use Rattle.js_grammar.specs.Grammar.{Lexeme, Lexemes, Look, seen, Takes, is_lexeme, is_seq, is_such}
+use Rattle.js_grammar.specs.Productions.{Flags}
+use Rattle.js_grammar.specs.Parsing.{Admits}
 use Rattle.js_grammar.specs.Table.{rule}
 use Rattle.js_grammar.specs.Levels.{level_at, operators_of, operators_at, node_at}
 use Rattle.js_grammar.specs.Follow.{row_of, first_edge, binds, tight, looser, follow, after}
@@ -53,8 +53,8 @@ operator_edges f m q k {from} {l} {cs} {s'} a b = record { ends = λ es j ls mid
     go es p y (is_seq (is_lexeme h) (is_such {l = l'} {cs = ds} d c')) e =
         let n : Label = record { kind = node_at q; op = of k; flags = 0; span = record { from = from; to = p } } in
         admits (level_at f (q + 1)) (tree l' ds end) y (level_looser f (q + 1) (tree l' ds end) y (omega arith)
-            ∙ looser_than (m + 5) (q + 1 + 5) f.in_ (row_of l' ds) y.kind y.newline y.escaped (omega arith)
-                (subst (λ r. looser (m + 5) f.in_ r y.kind y.newline y.escaped ≡ true) (operand_row q l n l' cs ds refl) (sym (level_looser f m (tree n (tree l cs (tree l' ds end)) end) y (omega arith)) ∙ e.1)))
+        ∙ looser_than (m + 5) (q + 1 + 5) f.in_ (row_of l' ds) y.kind y.newline y.escaped (omega arith)
+        (subst (λ r. looser (m + 5) f.in_ r y.kind y.newline y.escaped ≡ true) (operand_row q l n l' cs ds refl) (sym (level_looser f m (tree n (tree l cs (tree l' ds end)) end) y (omega arith)) ∙ e.1)))
 
 -- How tight the operators of a level bind: computed over all kinds.
 abbrev is_operator : Bool → ℕ → Look

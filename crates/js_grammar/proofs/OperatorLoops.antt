@@ -1,18 +1,18 @@
 -- The loop over all levels of operators, over any lexing: its start at an operand or at `#x in ..`, a step, its end, and failures.
-use Rattle.std.proofs.Common.{ℕ, zero, suc, ◌≡◌, ◌≤◌, ◌<◌, ◌+◌, ◌⊎◌, inl, inr, Bool, true, false, ◌&&◌, IsTrue, refl, sym, ap, ◌∙◌, subst, arith}
-use Rattle.std.proofs.lemmas.Bool.{false≢true, and_parts, ltb-true, lt-ltb}
+use Rattle.std.proofs.Common.{ℕ, zero, suc, ◌≡◌, ◌≤◌, ◌<◌, ◌+◌, ◌⊎◌, inl, inr, true, false, refl, sym, ◌∙◌, subst, arith}
+use Rattle.std.proofs.lemmas.Bool.{and_parts, ltb-true, lt-ltb}
 use Rattle.js_base.specs.declared.kind.Kind.{Kind}
 use Rattle.js_base.specs.declared.kind.Kind.TheVariants.{PrivateIdentifier}
 use Rattle.js_base.proofs.KindLemmas.{kind_of_same}
 use Rattle.js_grammar.specs.Trees.{Slots, end, Label, tree}
-use Rattle.js_grammar.specs.Grammar.{Lexeme, Grammar, seen, such}
-use Rattle.js_grammar.specs.Productions.{Flags, Symbol, G, at, Exponent}
+use Rattle.js_grammar.specs.Grammar.{Lexeme, such}
+use Rattle.js_grammar.specs.Productions.{Flags, G, at, Exponent}
 use Rattle.js_grammar.specs.Parsing.{always, Way, joined, Admits, Reads, Fails}
 use Rattle.js_grammar.specs.Table.{rule}
 use Rattle.js_grammar.specs.FirstSets.{first}
 use Rattle.js_grammar.specs.Levels.{level_at, top_level, operators_at, node_at, feet_at, private_in}
-use Rattle.js_grammar.specs.Follow.{row_of, first_edge, tight, looser, follow, after}
-use Rattle.js_grammar.proofs.Calculus.{Heads, fails_never}
+use Rattle.js_grammar.specs.Follow.{row_of, first_edge, tight, looser, after}
+use Rattle.js_grammar.proofs.Calculus.{fails_never}
 use Rattle.js_grammar.proofs.FirstRules.{fails_here}
 use Rattle.js_grammar.proofs.FirstClaims.{firsts}
 use Rattle.js_grammar.proofs.Towers.{Foot, topmost, of_level, linked_label, OneOf}

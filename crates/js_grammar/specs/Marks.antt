@@ -160,7 +160,7 @@ pub record Again (test : Lexeme → Bool) (goal : Goal) (text : List ℕ) (s : S
 
 -- Expressions and targets: by the productions of loose expressions, under some setting of the parameters.
 
-abbrev loose : Flags → Flags
+abbrev pub loose : Flags → Flags
 loose f = record f { cover = true; wide = true }
 
 -- The lexemes at the span derive a tree of this nonterminal, which with what stands behind passes a test.
