@@ -9,8 +9,8 @@ use Rattle.js_grammar.specs.Grammar.{Lexeme, Lexemes, Look, seen, Takes, is_lexe
 use Rattle.js_grammar.specs.Productions.{Flags}
 use Rattle.js_grammar.specs.Parsing.{Admits}
 use Rattle.js_grammar.specs.Table.{rule}
-use Rattle.js_grammar.specs.Levels.{level_at, operators_of, operators_at, node_at}
-use Rattle.js_grammar.specs.Follow.{row_of, first_edge, binds, tight, looser, follow, after}
+use Rattle.js_grammar.specs.Levels.{binds, level_at, operators_of, operators_at, node_at}
+use Rattle.js_grammar.specs.Follow.{row_of, first_edge, tight, looser, follow, after}
 use Rattle.js_grammar.proofs.Looks.{covers, covered, same_self}
 use Rattle.js_grammar.proofs.Calculus.{Within}
 use Rattle.js_grammar.proofs.Towers.{OneOf}

@@ -9,6 +9,7 @@ use Rattle.js_grammar.specs.Grammar.{Look}
 use Rattle.js_grammar.specs.Insertion.{Row, after_expression, after_postfix, after_body, after_yield, assign_operators, may_bind, edge_is_last, own_row, empty_row, edge}
 use Rattle.js_grammar.specs.Conditions.{ends_in_sub, lacks_else}
 use Rattle.js_grammar.specs.FirstSets.{begins_expression}
+use Rattle.js_grammar.specs.Levels.{binds}
 use Rattle.js_grammar.specs.Productions.{Name, Symbol, Program, Item, ListItem, Statement, Sub, If, While, With, For, ForInit, ForIn, ForOf, Case, Try, Labeled, Param, Arrow', Decorator, DecoratorMember, Property, Init, Expression, Assignment, Yield, Conditional, Short, Coalesce, Or, And, BitOr, BitXor, BitAnd, Equality, Relational, Shift, Additive, Multiply, Exponent, Unary, Update, LeftHandSide, New, Member, Call, Chain, Links, Argument, Primary, SimpleTarget, Target, TargetElement, TargetProperty, BElement, PatternProperty, Spec}
 use Rattle.js_grammar.specs.Parsing.{Test}
 
@@ -27,38 +28,6 @@ edge_of l cs = record { row = row_of l cs; open_if = ends_in_sub l.kind && lacks
 abbrev pub first_edge : Slots → Edge
 first_edge (tree l cs us) = edge_of l cs
 first_edge us = record { row = after_expression; open_if = false }
-
--- How tight an operator binds what stands before it (13), from the comma on; `in` where it is allowed; 0: it is no operator.
-abbrev pub binds : Bool → Kind → ℕ
-binds b Comma = 1
-binds b Question = 3
-binds b Question2 = 4
-binds b Pipe2 = 5
-binds b Amp2 = 6
-binds b Pipe = 7
-binds b Caret = 8
-binds b Amp = 9
-binds b Eq2 = 10
-binds b Neq = 10
-binds b Eq3 = 10
-binds b Neq2 = 10
-binds b LAngle = 11
-binds b RAngle = 11
-binds b LtEq = 11
-binds b GtEq = 11
-binds b 'instanceof' = 11
-binds b 'in' = cond b 11 0
-binds b ShiftLeft = 12
-binds b ShiftRight = 12
-binds b ShiftRight3 = 12
-binds b Plus = 13
-binds b Minus = 13
-binds b Star = 14
-binds b Slash = 14
-binds b RegExp = 14
-binds b Percent = 14
-binds b Star2 = 15
-binds b _ = 0
 
 abbrev pub operator : Bool → Kind → ℕ
 operator b k = cond (one_of_kinds assign_operators k) 2 (binds b k)
