@@ -121,12 +121,12 @@ follow_of Update b d k w e = looser 16 b d.row k w e
 -- their trees have no other edge
 follow_of LeftHandSide b d k w e = looser 17 b after_expression k w e
 follow_of New b d k w e = looser 17 b after_expression k w e
-follow_of Call b d k w e = looser 17 b after_expression k w e
 follow_of Chain b d k w e = looser 17 b after_expression k w e
 follow_of Links b d k w e = looser 17 b after_expression k w e
 follow_of SimpleTarget b d k w e = looser 17 b after_expression k w e
 follow_of Target b d k w e = looser 17 b after_expression k w e
--- behind a member a call may stand, and a link of an optional chain; `async` before `function` begins a function
+-- behind a call a link of an optional chain may stand, behind a member a call too; `async` before `function` begins a function
+follow_of Call b d k w e = not (one_of_kinds (LParen ∷ LBrack ∷ Dot ∷ NoSubstitutionTemplate ∷ TemplateHead ∷ []) k && not e) && not (not w && (same_kind 'function' k && not e))
 follow_of Member b d k w e = not (one_of_kinds (LBrack ∷ Dot ∷ NoSubstitutionTemplate ∷ TemplateHead ∷ []) k && not e) && not (not w && (same_kind 'function' k && not e))
 follow_of Primary b d k w e = not (not w && (same_kind 'function' k && not e))
 -- what ends with a lexeme of its own, or by a semicolon, written or left out
