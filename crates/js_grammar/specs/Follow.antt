@@ -1,9 +1,9 @@
 -- What may stand behind each nonterminal, read as a tree of a given right edge, where a parser has read as much of it as it can. A regular expression counts as the slash that it begins with, a template's middle or tail as its brace: which of the two stands there depends on the lexical goal (ECMA-262, 12).
 use Rattle.std.specs.Prelude.{ℕ, Bool, true, false, not, cond, ◌&&◌, ◌||◌, [], ◌∷◌, nat_lt}
 use Rattle.js_base.specs.declared.kind.Kind.{Kind}
-use Rattle.js_base.specs.declared.kind.Kind.TheVariants.{LParen, LBrack, RCurly, Comma, Colon, Dot, Arrow, Question, QuestionDot, Question2, Plus, Plus2, Minus, Minus2, Star, Star2, Slash, SlashEq, Percent, Eq2, Eq3, Neq, Neq2, LAngle, LtEq, RAngle, GtEq, ShiftLeft, ShiftRight, ShiftRight3, Amp, Amp2, Pipe, Pipe2, Caret, RegExp, NoSubstitutionTemplate, TemplateHead, TemplateMiddle, TemplateTail, Eof}
+use Rattle.js_base.specs.declared.kind.Kind.TheVariants.{LParen, LBrack, RCurly, Comma, Colon, Dot, Arrow, QuestionDot, Plus2, Minus2, Star, Slash, SlashEq, NoSubstitutionTemplate, TemplateHead, TemplateMiddle, TemplateTail, Eof}
 use Rattle.js_base.specs.Kinds.{same_kind, one_of_kinds}
-use Rattle.js_grammar.specs.Words.{'case', 'catch', 'default', 'else', 'finally', 'function', 'in', 'instanceof'}
+use Rattle.js_grammar.specs.Words.{'case', 'catch', 'default', 'else', 'finally', 'function'}
 use Rattle.js_grammar.specs.Trees.{Label, Slots, tree}
 use Rattle.js_grammar.specs.Grammar.{Look}
 use Rattle.js_grammar.specs.Insertion.{Row, after_expression, after_postfix, after_body, after_yield, assign_operators, may_bind, edge_is_last, own_row, empty_row, edge}
