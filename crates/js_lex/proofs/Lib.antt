@@ -32,6 +32,7 @@ pub mod KindsOfLexemes
 pub mod PunctuatorLexemes
 pub mod PunctuatorScans
 pub mod Punctuators
+pub mod FlagsSeen
 pub mod FlagFaults
 pub mod Marks
 pub mod ReadAgain

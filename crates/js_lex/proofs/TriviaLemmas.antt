@@ -17,7 +17,7 @@ use Rattle.js_grammar.proofs.CoreLemmas.{none_longer-from}
 use Rattle.js_lex.specs.Places.{Word, Peeks}
 use Rattle.std.specs.Char.{len_utf8}
 use Rattle.std.proofs.lemmas.Str.{len_utf8_ascii, len_utf8_bounds}
-use Rattle.js_lex.specs.TriviaPassed.{IsPiece, PieceAt, BlankAt, IsBlankPiece, IsLineEnd, IsBlockEnd, block_kind}
+use Rattle.js_lex.specs.TriviaPassed.{IsPiece, PieceAt, BlankAt, IsBlankPiece, IsLineEnd, IsBlockEnd, block_kind, PlainBlankAt}
 use Rattle.js_lex.specs.Comments.{comment_kind}
 use Rattle.js_lex.specs.declared.comment.CommentKind.TheVariants.{Line, SingleLineBlock, MultiLineBlock}
 use Rattle.js_lex.specs.declared.trivia.Piece.{Piece}
@@ -324,3 +324,7 @@ piece_moves {first = first} {text = text} {i = i} {p = p} h = (by h.word h.stand
     by : (w : List ℕ) → p.end ≡ i + width w → is_trivia_piece first w (behind text p.end) ≡ true → i < p.end
     by [] e k = absurd (let z = no_empty_piece first (behind text p.end) in cc)
     by (c ∷ w) e k = let z = some_width c w in omega arith
+
+-- a space, tab, CR or LF, as a piece
+pub plain_blank : {text : List ℕ} {at : ℕ} (c : ℕ) (newline : Bool) → Word text at (at + len_utf8 c) (c ∷ []) → (c ≡ 47 → ⊥) → (c ≡ 60 → ⊥) → (c ≡ 45 → ⊥) → IsBlankPiece c at (record { end = at + 1; comment = None; is_html = false; is_irregular = false; has_newline = newline }) → PlainBlankAt text at (Some newline)
+plain_blank {text = text} {at = at} c newline w n m k b first = blank_there c (Some (record { end = at + 1; comment = None; is_html = false; is_irregular = false; has_newline = newline })) first w n m k b
