@@ -112,18 +112,18 @@ flagged_more {text = text} {first = first} {end = end} {at = at} {seen = seen} {
         let s : h.before ++ (o ∷ os) ≡ (h.before ++ o ∷ []) ++ os = sym (append_assoc h.before (o ∷ []) os) in
         record {
           flagged = record {
-          before = h.before ++ o ∷ [];
-          others = os;
-          passed = then h.passed (subst (λ (c : ℕ). Word text at f.end (c ∷ [])) r.0 g.stands);
-          left = r.1;
-          faults = h.faults ++ fault_of f.is_wrong (record { start = at; end = f.end });
-          grows = grow_on h.grows k;
-          faults_are = ap (flag_faults first []) (sym s ∙ ap (λ (v : List ℕ). h.before ++ v) (sym e)) ∙ h.faults_are
-              ∙ ap (λ (v : List ℕ). h.faults ++ flag_faults at h.before v) e
-              ∙ ap (λ (v : List Diagnostic). h.faults ++ v) (faults_step at h.before o os)
-              ∙ ap (λ (b : Bool). h.faults ++ (fault_of b (record { start = at; end = at + width (o ∷ []) }) ++ flag_faults (at + width (o ∷ [])) (h.before ++ o ∷ []) os)) (sym w)
-              ∙ ap (λ (m : ℕ). h.faults ++ (fault_of f.is_wrong (record { start = at; end = m }) ++ flag_faults m (h.before ++ o ∷ []) os)) (sym n)
-              ∙ sym (append_assoc h.faults (fault_of f.is_wrong (record { start = at; end = f.end })) (flag_faults f.end (h.before ++ o ∷ []) os));
+            before = h.before ++ o ∷ [];
+            others = os;
+            passed = then h.passed (subst (λ (c : ℕ). Word text at f.end (c ∷ [])) r.0 g.stands);
+            left = r.1;
+            faults = h.faults ++ fault_of f.is_wrong (record { start = at; end = f.end });
+            grows = grow_on h.grows k;
+            faults_are = ap (flag_faults first []) (sym s ∙ ap (λ (v : List ℕ). h.before ++ v) (sym e)) ∙ h.faults_are
+                ∙ ap (λ (v : List ℕ). h.faults ++ flag_faults at h.before v) e
+                ∙ ap (λ (v : List Diagnostic). h.faults ++ v) (faults_step at h.before o os)
+                ∙ ap (λ (b : Bool). h.faults ++ (fault_of b (record { start = at; end = at + width (o ∷ []) }) ++ flag_faults (at + width (o ∷ [])) (h.before ++ o ∷ []) os)) (sym w)
+                ∙ ap (λ (m : ℕ). h.faults ++ (fault_of f.is_wrong (record { start = at; end = m }) ++ flag_faults m (h.before ++ o ∷ []) os)) (sym n)
+                ∙ sym (append_assoc h.faults (fault_of f.is_wrong (record { start = at; end = f.end })) (flag_faults f.end (h.before ++ o ∷ []) os));
           };
           seen_in = subst (λ (c : ℕ). SeenIn f.seen (h.before ++ c ∷ [])) r.0 told.1;
         }

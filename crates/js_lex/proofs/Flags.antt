@@ -1,10 +1,9 @@
 -- Flags that stand one behind the other.
-use Rattle.std.proofs.Common.{◌≡◌, ◌≤◌, ℕ, Bool, List, [], ◌∷◌, ◌++◌, sym, ap, ◌∙◌, drop, arith, not, ◌||◌}
-use Rattle.std.specs.Prelude.{chars, codes, slice_range, IsUtf8, IsCharBoundary}
+use Rattle.std.proofs.Common.{◌≡◌, ◌≤◌, ℕ, List, [], ◌∷◌, ◌++◌, sym, ap, ◌∙◌, drop, arith}
+use Rattle.std.specs.Prelude.{chars, slice_range, IsUtf8, IsCharBoundary}
 use Rattle.std.proofs.lemmas.Str.{IsUtf8-between, chars-append}
 use Rattle.std.proofs.lemmas.List.{append_cancel_right}
 use Rattle.std.proofs.lemmas.List.Folds.{drop_split}
-use Rattle.js_base.specs.Characters.{one_of}
 use Rattle.js_grammar.specs.LexicalFaults.{behind}
 use Rattle.js_lex.specs.Places.{Word}
 

@@ -4,7 +4,6 @@ use Rattle.std.specs.Prelude.{codes}
 use Rattle.std.proofs.lemmas.List.Folds.{list_any-append}
 use Rattle.js_base.specs.Characters.{one_of}
 use Rattle.js_lex.specs.declared.regular_expression.Seen.{Seen}
-use Rattle.js_lex.specs.declared.regular_expression.Flag.{Flag}
 use Rattle.js_lex.specs.RegularExpressionParts.{SeenIn, TellsFlag}
 
 pub seen_none : SeenIn (record { d = false; g = false; i = false; m = false; s = false; u = false; v = false; y = false }) []
@@ -55,7 +54,7 @@ pub sees_y : (s : Seen) (end : ℕ) → TellsFlag s 121 (record { end = end; is_
 sees_y s end before h = (h.y, record { d = stays before 100 121 s.d h.d refl; g = stays before 103 121 s.g h.g refl; i = stays before 105 121 s.i h.i refl; m = stays before 109 121 s.m h.m refl; s = stays before 115 121 s.s h.s refl; u = stays before 117 121 s.u h.u refl; v = stays before 118 121 s.v h.v refl; y = last_is before 121 refl })
 
 pub sees_none : (s : Seen) (c end : ℕ) → (100 == c) ≡ false → (c == 100) ≡ false → (103 == c) ≡ false → (c == 103) ≡ false → (105 == c) ≡ false → (c == 105) ≡ false → (109 == c) ≡ false → (c == 109) ≡ false → (115 == c) ≡ false → (c == 115) ≡ false → (117 == c) ≡ false → (c == 117) ≡ false → (118 == c) ≡ false → (c == 118) ≡ false → (121 == c) ≡ false → (c == 121) ≡ false → TellsFlag s c (record { end = end; is_wrong = true; seen = s })
-sees_none s c end d1 d2 g1 g2 i1 i2 m1 m2 s1 s2 u1 u2 v1 v2 y1 y2 before h = (by d1 g1 i1 m1 s1 u1 v1 y1 , record { d = stays before 100 c s.d h.d d2; g = stays before 103 c s.g h.g g2; i = stays before 105 c s.i h.i i2; m = stays before 109 c s.m h.m m2; s = stays before 115 c s.s h.s s2; u = stays before 117 c s.u h.u u2; v = stays before 118 c s.v h.v v2; y = stays before 121 c s.y h.y y2 })
+sees_none s c end d1 d2 g1 g2 i1 i2 m1 m2 s1 s2 u1 u2 v1 v2 y1 y2 before h = (by d1 g1 i1 m1 s1 u1 v1 y1, record { d = stays before 100 c s.d h.d d2; g = stays before 103 c s.g h.g g2; i = stays before 105 c s.i h.i i2; m = stays before 109 c s.m h.m m2; s = stays before 115 c s.s h.s s2; u = stays before 117 c s.u h.u u2; v = stays before 118 c s.v h.v v2; y = stays before 121 c s.y h.y y2 })
   where
     by : (100 == c) ≡ false → (103 == c) ≡ false → (105 == c) ≡ false → (109 == c) ≡ false → (115 == c) ≡ false → (117 == c) ≡ false → (118 == c) ≡ false → (121 == c) ≡ false → true ≡ (not (one_of (codes "dgimsuvy") c) || one_of before c)
     by d1 g1 i1 m1 s1 u1 v1 y1 = let e : (not (one_of (codes "dgimsuvy") c) || one_of before c) ≡ true = rw (d1, g1, i1, m1, s1, u1, v1, y1) refl in sym e

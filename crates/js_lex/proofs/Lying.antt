@@ -1,5 +1,5 @@
 -- What a lexer keeps lies in the text.
-use Rattle.std.proofs.Common.{◌≡◌, ◌+◌, ◌≤◌, ◌==◌, ℕ, Bool, true, false, List, [], ◌∷◌, ◌++◌, refl, sym, ap, subst, ◌∙◌, ◌&&◌, ◌||◌, append_assoc, append-nil, arith, Option, Some, None}
+use Rattle.std.proofs.Common.{◌≡◌, ◌+◌, ℕ, Bool, true, false, List, [], ◌∷◌, ◌++◌, refl, sym, ap, subst, ◌∙◌, ◌&&◌, append_assoc, append-nil, arith, Option, Some, None}
 use Rattle.std.specs.Prelude.{IsCharBoundary, IsUtf8, take, length, Result, Ok, Err}
 use Rattle.std.specs.List.{All}
 use Rattle.std.proofs.lemmas.List.{append_cancel_left}
@@ -26,7 +26,7 @@ use Rattle.js_lex.specs.Comments.{comment_kind, comment_at, irregular_at, html_f
 use Rattle.js_lex.specs.Kept.{IsEmpty, LieIn, Extends, lengths_of, first_kept}
 use Rattle.js_lex.specs.Places.{Word}
 use Rattle.js_lex.specs.States.{State}
-use Rattle.js_lex.specs.Reading.{cut, Tells, GivesLexeme, GivesNone, Outcome, GivesNext, GivesAgain, WasGiven, LexemeBehind, in_a_module, is_kept, kept_token, relexed}
+use Rattle.js_lex.specs.Reading.{cut, GivesLexeme, GivesNone, Outcome, GivesNext, GivesAgain, WasGiven, in_a_module, is_kept, kept_token, relexed}
 use Rattle.js_lex.specs.declared.scan.Scanned.{Scanned}
 use Rattle.js_lex.specs.declared.scan.Fault.{Fault}
 use Rattle.js_lex.specs.Settling.{Fits, SettledAgain, IsReadAgain, ScanEnds, diagnostic_of}

@@ -1,7 +1,7 @@
 -- Comments that are attached to a place, looked for from the last one on; and a word in a comment.
-use Rattle.std.proofs.Common.{◌≡◌, ◌+◌, ◌-◌, ◌≤◌, ◌<◌, ◌==◌, ℕ, Bool, true, false, List, [], ◌∷◌, ◌++◌, refl, sym, ap, subst, ◌∙◌, ◌&&◌, ◌||◌, arith, length, take, get_or, drop}
-use Rattle.std.specs.Prelude.{chars, slice_range, IsCharBoundary, IsTrue}
-use Rattle.std.specs.List.{list_any, Any}
+use Rattle.std.proofs.Common.{◌≡◌, ◌+◌, ◌-◌, ◌≤◌, ◌<◌, ◌==◌, ℕ, Bool, true, false, List, [], ◌∷◌, refl, sym, ap, ◌∙◌, ◌&&◌, ◌||◌, arith, length, take, get_or}
+use Rattle.std.specs.Prelude.{chars, slice_range, IsCharBoundary}
+use Rattle.std.specs.List.{Any}
 use Rattle.std.proofs.lemmas.Bool.{eqb-true}
 use Rattle.std.proofs.lemmas.List.{get_or-take, take_all}
 use Rattle.std.proofs.lemmas.List.Folds.{list_any_more, Any-from_list_any}

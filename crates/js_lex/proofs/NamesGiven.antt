@@ -1,20 +1,19 @@
 -- A name token that was given, as what may be decoded.
-use Rattle.std.proofs.Common.{◌≡◌, ◌+◌, ◌++◌, ℕ, Bool, true, false, List, [], ◌∷◌, refl, sym, subst, ap, ◌∙◌, ◌&&◌, Option, Some, None}
-use Rattle.std.specs.Prelude.{IsCharBoundary, IsSome, chars, slice_range, flat_map}
+use Rattle.std.proofs.Common.{◌≡◌, ◌+◌, ◌++◌, ℕ, Bool, true, false, List, [], ◌∷◌, refl, sym, subst, ap, ◌∙◌, Option, Some, None}
+use Rattle.std.specs.Prelude.{IsSome, chars, slice_range, flat_map}
 use Rattle.std.specs.Char.{encode_utf8}
 use Rattle.std.specs.List.{list_all}
 use Rattle.js_base.specs.declared.kind.Kind.{Kind}
 use Rattle.js_base.specs.declared.kind.Kind.TheVariants.{Undetermined, Eof, RAngle, GtEq, ShiftRight, ShiftRightEq, ShiftRight3, ShiftRight3Eq}
 use Rattle.js_base.specs.declared.token.Token.{Token}
-use Rattle.js_base.specs.Kinds.{same_kind, one_of_kinds}
+use Rattle.js_base.specs.Kinds.{one_of_kinds}
 use Rattle.js_base.specs.KindSets.{identifier_name_kinds}
-use Rattle.js_base.specs.Texts.{reserved_words, contextual_words}
 use Rattle.js_base.specs.Characters.{is_decimal, is_scalar}
 use Rattle.js_base.specs.Escapes.{in_name, code_points}
 use Rattle.js_base.specs.Decoding.{utf8_of, only_if, name_text}
 use Rattle.js_grammar.specs.Characters.{width, begins, is_identifier_start, is_identifier_part}
 use Rattle.js_grammar.specs.Names.{is_plain_name, named, name_of, word_of}
-use Rattle.js_grammar.specs.Lexemes.{division, kind_in, plain_kind, kind_of, Opening, opening, a_name, a_punctuator}
+use Rattle.js_grammar.specs.Lexemes.{division, kind_in, kind_of, Opening, opening, a_name, a_punctuator}
 use Rattle.js_grammar.specs.LexicalFaults.{behind}
 use Rattle.js_grammar.proofs.LongestLemmas.{both, both-left, both-right}
 use Rattle.js_lex.specs.declared.name.Position.TheVariants.{Start, Part}

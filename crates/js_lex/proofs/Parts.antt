@@ -1,10 +1,10 @@
 -- Runs of the characters of names: what a scan of one has read, and that one run alone begins at a place.
-use Rattle.std.proofs.Common.{◌≡◌, ◌+◌, ℕ, Bool, true, false, List, [], ◌∷◌, ◌++◌, refl, sym, ap, subst, ◌∙◌, not, ◌&&◌, arith}
+use Rattle.std.proofs.Common.{◌≡◌, ◌+◌, ℕ, Bool, true, false, List, [], ◌∷◌, ◌++◌, refl, sym, ap, subst, ◌∙◌}
 use Rattle.std.specs.Prelude.{IsCharBoundary}
 use Rattle.std.specs.List.{list_all}
 use Rattle.js_grammar.specs.Characters.{width, begins}
 use Rattle.js_grammar.specs.LexicalFaults.{behind}
-use Rattle.js_grammar.proofs.LongestLemmas.{both, both-left, both-right, not-true}
+use Rattle.js_grammar.proofs.LongestLemmas.{both, both-left, both-right}
 use Rattle.js_grammar.proofs.Finding.{all-append}
 use Rattle.js_lex.specs.Places.{Word}
 use Rattle.js_lex.specs.Faults.{is_part, PartsEnd}

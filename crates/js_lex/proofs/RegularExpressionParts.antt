@@ -1,12 +1,9 @@
 -- What a scan of a pattern, and one of flags, has read.
 use Rattle.std.proofs.Common.{◌≡◌, ℕ, true, false, List, [], ◌∷◌, ◌++◌, refl, ◌∙◌, not}
 use Rattle.std.specs.Prelude.{IsCharBoundary}
-use Rattle.std.specs.List.{list_all}
 use Rattle.js_base.specs.Characters.{is_line_terminator}
-use Rattle.js_grammar.specs.Characters.{is_identifier_part}
 use Rattle.js_grammar.specs.Trivia.{within_line}
 use Rattle.js_grammar.specs.RegularExpressions.{behind_pattern}
-use Rattle.js_grammar.proofs.LongestLemmas.{both}
 use Rattle.js_grammar.proofs.Finding.{all-append}
 use Rattle.js_lex.specs.declared.regular_expression.Inside.{Inside}
 use Rattle.js_lex.specs.declared.regular_expression.Step.TheVariants.{On, Ends}

@@ -15,17 +15,17 @@ use Rattle.js_grammar.specs.Grammar.{Lexeme}
 use Rattle.js_grammar.specs.Settings.{Goal}
 use Rattle.js_grammar.specs.Characters.{width, is_identifier_start, has_line_terminator}
 use Rattle.js_grammar.specs.Longest.{Class, longest, none_longer, joined}
-use Rattle.js_grammar.specs.Names.{named, name_of, is_plain_name}
+use Rattle.js_grammar.specs.Names.{named, name_of}
 use Rattle.js_grammar.specs.Strings.{nothing_left}
 use Rattle.js_grammar.specs.Lexemes.{LexicalGoal, division, lexemes_in, is_separated}
-use Rattle.js_grammar.specs.LexicalFaults.{behind, Unterminated, InvalidCharacter, BinaryFile, InvalidNameEscape, InvalidStringEscape, is_name_word, is_right_inside, Stopping}
+use Rattle.js_grammar.specs.LexicalFaults.{behind, Unterminated, InvalidCharacter, InvalidNameEscape, InvalidStringEscape, is_name_word, is_right_inside, Stopping}
 use Rattle.js_grammar.proofs.LongestLemmas.{fronts, GoesOn, Same, none_longer-at, longest-same, both-left}
 use Rattle.js_grammar.proofs.Alike.{stands-same, lex-same}
 use Rattle.js_grammar.proofs.CorePlain.{no_backslash, points-append}
 use Rattle.js_grammar.proofs.Finding.{member}
 use Rattle.js_lex.specs.Faults.{fault_kind, Reaches}
 use Rattle.js_lex.specs.States.{State}
-use Rattle.js_lex.specs.Reading.{cut, Tells, LexemeBehind, GivesLexeme, GivesNone, Outcome, GivesNext}
+use Rattle.js_lex.specs.Reading.{cut, LexemeBehind, GivesLexeme, GivesNone, Outcome, GivesNext}
 use Rattle.js_lex.proofs.Parts.{parts_same}
 
 -- ---- the span of a fault that stops

@@ -1,10 +1,9 @@
 -- Where the pattern and the flags of a regular expression end (ECMA-262, 12.9.5).
 use Rattle.std.specs.Prelude.{ℕ, ◌≡◌, Bool, true, false, not, ◌&&◌, ◌||◌, ◌==◌, List, [], ◌∷◌, codes, ◌++◌, Option, Some, None, Result, MatchResult, IsTrue}
-use Rattle.std.specs.List.{list_all}
 use Rattle.std.specs.Str.{byte}
 use Rattle.js_base.specs.declared.kind.Kind.TheVariants.{RegExp}
 use Rattle.js_base.specs.Characters.{one_of, is_line_terminator}
-use Rattle.js_grammar.specs.Characters.{is_identifier_part, begins}
+use Rattle.js_grammar.specs.Characters.{begins}
 use Rattle.js_grammar.specs.Trivia.{within_line}
 use Rattle.js_grammar.specs.LexicalFaults.{behind}
 use Rattle.js_grammar.specs.Lexemes.{regular_expression}

@@ -174,9 +174,21 @@ fn longest_name(text: &str, at: usize) -> Result<Name, usize>
     requires { IsCharBoundary text.now at }
     ensures { MatchResult result (λ n. names.IsName text.now at n) (λ end. names.NoPiece is_identifier_start text.now at end) }
 {
-    match piece_at(text, at, Position::Start) {
+    match first_piece(text, at) {
         Ok(first) => Ok(name_from(text, at, first)),
         Err(end) => Err(end),
+    }
+}
+
+/// The character or the escape sequence at a place, if a name may begin with it.
+#[inline]
+fn first_piece(text: &str, at: usize) -> Result<Piece, usize>
+    requires { IsCharBoundary text.now at }
+    ensures { MatchResult result (λ p. names.IsPiece is_identifier_start text.now at p) (λ end. names.NoPiece is_identifier_start text.now at end) }
+{
+    match byte_at(text, at) {
+        Some(byte) if byte < 128 && byte != b'\\' => ascii_piece(text, at, byte, Position::Start),
+        _ => piece_at(text, at, Position::Start),
     }
 }
 

@@ -143,8 +143,5 @@ pub(crate) fn keep_fault(kept: &mut LexerOutput, fault: Fault) -> Result<(), NoM
     ensures ok { OnOk result (Grows kept.old kept.new [] [] [] (settling.diagnostic_of fault ∷ [])) }
     ensures err { OnErr result (Extends kept.old kept.new) }
 {
-    kept.keep_fault(
-        fault.kind,
-        Span::new(fault.start as u32, fault.end as u32),
-    )
+    kept.keep_fault(fault.kind, Span::new(fault.start as u32, fault.end as u32))
 }

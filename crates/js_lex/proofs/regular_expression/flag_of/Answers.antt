@@ -1,5 +1,4 @@
-use Rattle.std.proofs.Common.{ℕ, Bool, true, subst, sym, arith}
-use Rattle.js_lex.specs.declared.regular_expression.Seen.{Seen}
+use Rattle.std.proofs.Common.{ℕ, true, subst, sym, arith}
 use Rattle.js_lex.specs.RegularExpressionParts.{TellsFlag}
 use Rattle.js_lex.proofs.FlagsSeen.{sees_d, sees_g, sees_i, sees_m, sees_s, sees_u, sees_v, sees_y, sees_none, apart, apart_turned}
 use Rattle.js_lex.proofs.regular_expression.flag_of.Goals.{in-d, in-g, in-i, in-m, in-s, in-u, in-v, in-y, in_default}

@@ -1,7 +1,5 @@
 use Rattle.std.proofs.Common.{subst, sym, ap, ◌∙◌, List, ℕ, ◌+◌, arith}
-use Rattle.std.specs.Prelude.{IsCharBoundary}
 use Rattle.js_base.specs.InvalidEscapes.{is_right, IsInvalidEscape}
-use Rattle.js_lex.specs.Faults.{PartsEnd}
 use Rattle.js_lex.proofs.StringPlaces.{part_chars, within_text, backslash_stands, a_string_stands, ill_formed}
 use Rattle.js_lex.proofs.string.escaped_string.Goals as goal
 

@@ -14,4 +14,3 @@ returns-in-Some-eq10 c = plain_blank 10 _ (subst (λ (b : ℕ). Word c.args.text
 
 pub returns-in-Some-eq13 : goal.returns-in-Some-eq13
 returns-in-Some-eq13 c = plain_blank 13 _ (subst (λ (b : ℕ). Word c.args.text.now c.args.at (c.args.at + 1) (b ∷ [])) c.in-Some-eq13.field-0-test (c.in-Some-eq13.ensures.ascii (let i = c.in-Some-eq13.field-0-test in omega arith))) (λ e. omega arith) (λ e. omega arith) (λ e. omega arith) (record { blank = refl; end = refl; comment = refl; html = refl; irregular = refl; newline = refl })
-

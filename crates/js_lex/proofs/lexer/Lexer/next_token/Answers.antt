@@ -1,8 +1,8 @@
-use Rattle.std.proofs.Common.{ℕ, sym, ap, subst, ◌∙◌, true, false, ◌≡◌}
-use Rattle.std.specs.Prelude.{IsCharBoundary, IsTrue}
+use Rattle.std.proofs.Common.{ℕ, sym, ap, subst, ◌∙◌}
+use Rattle.std.specs.Prelude.{IsCharBoundary}
 use Rattle.js_lex.specs.declared.output.LexerOutput.{LexerOutput}
 use Rattle.js_lex.specs.declared.checkpoint.Lengths.{Lengths}
-use Rattle.js_lex.specs.Comments.{AreInOrder, Follow}
+use Rattle.js_lex.specs.Comments.{Follow}
 use Rattle.js_lex.specs.States.{IsReady}
 use Rattle.js_lex.proofs.Lying.{lie_next, cut_back}
 use Rattle.js_lex.proofs.Ordered.{order_next}
