@@ -173,6 +173,7 @@ fn piece_at(text: &str, at: usize, is_first: bool) -> Option<Piece>
         Some(b'/') => comment_at(text, at),
         Some(b'<') => html_open_at(text, at),
         Some(b'-') => html_close_at(text, at, is_first),
+        Some(byte) if b' ' < byte && byte < 127 => None,
         Some(byte) if byte < 128 => blank(byte as char, at),
         Some(_) => match char_at(text, at) {
             Some(c) => blank(c, at),
