@@ -64,8 +64,8 @@ fn main(rt: HostRuntime) -> io::Result<()> {
     let pass = one_pass(&rt, text.as_str())?;
     let bytes = text.len();
     println!(rt;
-        "{bytes} bytes, {} tokens, {} faults, {} comments",
-        pass.tokens, pass.faults, pass.comments
+        "{bytes} bytes, {} of them in {} tokens, {} faults, {} comments",
+        pass.bytes, pass.tokens, pass.faults, pass.comments
     )?;
     for _ in 0..passes.unwrap_or(0) {
         timed(&rt, text.as_str())?;

@@ -11,6 +11,8 @@ use std::alloc::Global;
 pub struct Pass {
     /// The tokens before the end of the text.
     pub tokens: usize,
+    /// The bytes in them.
+    pub bytes: u64,
     /// The faults that were kept.
     pub faults: usize,
     /// The comments that were kept.
@@ -53,53 +55,61 @@ pub fn lex(alloc: Global, text: &str) -> Result<Pass, NoMemory>
         open: 0,
     };
     let mut tokens = 0usize;
+    let mut bytes = 0u64;
     let mut before = Kind::Semicolon;
     for _ in 0..text.len() {
-        let token = next(&mut lexer, before, &mut braces)?;
-        before = token.kind();
+        let ends_substitution = braces.open == 0 && !braces.outer.is_empty();
+        let token = next(&mut lexer, ends_operand(before), ends_substitution)?;
+        count_braces(&mut braces, token.kind)?;
+        before = token.kind;
         if matches!(before, Kind::Eof) {
             break;
         }
         tokens = tokens.saturating_add(1);
+        bytes = bytes.saturating_add(u64::from(token.len));
     }
     let output = lexer.finish();
     Ok(Pass {
         tokens,
+        bytes,
         faults: output.errors.len(),
         comments: output.comments.len(),
     })
 }
 
-/// The next token, read again where the one before or the braces tell so.
-fn next(
-    lexer: &mut Lexer<'_, NoTokensLexerConfig>,
-    before: Kind,
-    braces: &mut Braces,
-) -> Result<Token, NoMemory> {
-    let token = next_in(
-        lexer,
-        ends_operand(before),
-        braces.open == 0 && !braces.outer.is_empty(),
-    )?;
-    count_braces(braces, token.kind())?;
-    Ok(token)
+/// What is told of a token: its kind, and how many bytes it has.
+#[derive(Debug, Clone, Copy)]
+struct Told {
+    kind: Kind,
+    len: u32,
+}
+
+/// What is told of a token.
+fn tell(token: Token) -> Told {
+    Told {
+        kind: token.kind(),
+        len: token.end().saturating_sub(token.start()),
+    }
 }
 
 /// The next token: a slash behind no operand read as a regular expression, and a brace that ends a substitution as a
 /// template part.
-fn next_in(
+fn next(
     lexer: &mut Lexer<'_, NoTokensLexerConfig>,
     behind_operand: bool,
     ends_substitution: bool,
-) -> Result<Token, NoMemory> {
+) -> Result<Told, NoMemory> {
     let token = lexer.next_token()?;
     match token.kind() {
         Kind::Slash | Kind::SlashEq if !behind_operand => match lexer.re_lex_regex(token) {
-            Ok((again, _)) => Ok(again),
+            Ok((again, _)) => Ok(tell(again)),
             Err(error) => Err(error),
         },
-        Kind::RCurly if ends_substitution => lexer.re_lex_template_tail(token),
-        _ => Ok(token),
+        Kind::RCurly if ends_substitution => match lexer.re_lex_template_tail(token) {
+            Ok(again) => Ok(tell(again)),
+            Err(error) => Err(error),
+        },
+        _ => Ok(tell(token)),
     }
 }
 
