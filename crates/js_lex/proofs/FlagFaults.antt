@@ -13,10 +13,13 @@ use Rattle.js_lex.specs.declared.regular_expression.Flag.{Flag}
 use Rattle.js_lex.specs.Places.{Word}
 use Rattle.js_lex.specs.Kept.{Grows}
 use Rattle.js_lex.specs.Reading.{is_wrong_flag, flag_faults}
-use Rattle.js_lex.specs.RegularExpressionParts.{IsFlag}
+use Rattle.js_lex.specs.Settling.{flag_told}
+use Rattle.js_lex.specs.declared.regular_expression.Seen.{Seen}
+use Rattle.js_lex.specs.RegularExpressionParts.{SeenIn, IsFlag}
 use Rattle.js_lex.proofs.Places.{none_passed, then}
 use Rattle.js_lex.proofs.Keeping.{grow_on}
 use Rattle.js_lex.proofs.Flags.{others_stand}
+use Rattle.js_lex.proofs.FlagsSeen.{seen_none}
 
 -- the fault that a wrong flag between two places is
 abbrev pub fault_between : Span → Diagnostic
@@ -42,6 +45,15 @@ flagged_none text first end old b f = record {
   grows = record { comments_grow = sym (append-nil old.comments); blanks_grow = sym (append-nil old.irregular_whitespaces); tokens_grow = sym (append-nil old.tokens); faults_grow = sym (append-nil old.errors) };
   faults_are = refl;
 }
+
+-- and which of the eight flags are seen
+pub record FlaggedSo (text : List ℕ) (first end at : ℕ) (seen : Seen) (old new : LexerOutput) : Type 0 where
+  pub flagged : Flagged text first end at old new
+  pub seen_in : SeenIn seen flagged.before
+
+pub flagged_so_none : (text : List ℕ) (first end : ℕ) (old : LexerOutput) → IsCharBoundary text first → ((fs : List ℕ) × Word text first end fs) → FlaggedSo text first end first (record { d = false; g = false; i = false; m = false; s = false; u = false; v = false; y = false }) old old
+unfolding flagged_none
+flagged_so_none text first end old b f = record { flagged = flagged_none text first end old b f; seen_in = seen_none }
 
 pub flagged_from : {text : List ℕ} {first end at : ℕ} {old new : LexerOutput} → Flagged text first end at old new → first ≤ at
 flagged_from h = let e = h.passed.end in omega arith
@@ -81,49 +93,47 @@ faults_step at before f fs = by (is_wrong_flag before f)
     by false = refl
 
 -- one flag more
-pub flagged_more : {text : List ℕ} {first end at : ℕ} {old mid : LexerOutput} (new : LexerOutput) (f : Flag) → Flagged text first end at old mid → IsFlag text first at f → at < end → Grows mid new [] [] [] (fault_of f.is_wrong (record { start = at; end = f.end })) → Flagged text first end f.end old new
-flagged_more {text = text} {first = first} {end = end} {at = at} {old = old} {mid = mid} new f h g l k = by h.others refl
+pub flagged_more : {text : List ℕ} {first end at : ℕ} {seen : Seen} {old mid : LexerOutput} (new : LexerOutput) (f : Flag) → FlaggedSo text first end at seen old mid → IsFlag text at seen f → at < end → Grows mid new [] [] [] (fault_of f.is_wrong (record { start = at; end = f.end })) → FlaggedSo text first end f.end f.seen old new
+flagged_more {text = text} {first = first} {end = end} {at = at} {seen = seen} {old = old} {mid = mid} new f z g l k = by h.others refl
   where
-    by : (os : List ℕ) → h.others ≡ os → Flagged text first end f.end old new
+    h : Flagged text first end at old mid
+    h = z.flagged
+
+    told : (f.is_wrong ≡ is_wrong_flag h.before g.flag) × SeenIn f.seen (h.before ++ g.flag ∷ [])
+    told = g.tells h.before z.seen_in
+
+    by : (os : List ℕ) → h.others ≡ os → FlaggedSo text first end f.end f.seen old new
     by [] e = absurd (let a = h.left.end in let b = ap width e in omega arith)
     by (o ∷ os) e =
         let q : Word text at end (o ∷ os) = subst (λ (v : List ℕ). Word text at end v) e h.left in
         let r : (g.flag ≡ o) × Word text f.end end os = others_stand g.stands q in
-        let w : f.is_wrong ≡ is_wrong_flag h.before o = g.wrong h.before h.passed ∙ ap (λ (c : ℕ). is_wrong_flag h.before c) r.0 in
+        let w : f.is_wrong ≡ is_wrong_flag h.before o = told.0 ∙ ap (λ (c : ℕ). is_wrong_flag h.before c) r.0 in
         let n : f.end ≡ at + width (o ∷ []) = g.stands.end ∙ ap (λ (c : ℕ). at + width (c ∷ [])) r.0 in
         let s : h.before ++ (o ∷ os) ≡ (h.before ++ o ∷ []) ++ os = sym (append_assoc h.before (o ∷ []) os) in
         record {
-          before = h.before ++ o ∷ [];
-          others = os;
-          passed = then h.passed (subst (λ (c : ℕ). Word text at f.end (c ∷ [])) r.0 g.stands);
-          left = r.1;
-          faults = h.faults ++ fault_of f.is_wrong (record { start = at; end = f.end });
-          grows = grow_on h.grows k;
-          faults_are = ap (flag_faults first []) (sym s ∙ ap (λ (v : List ℕ). h.before ++ v) (sym e)) ∙ h.faults_are
-              ∙ ap (λ (v : List ℕ). h.faults ++ flag_faults at h.before v) e
-              ∙ ap (λ (v : List Diagnostic). h.faults ++ v) (faults_step at h.before o os)
-              ∙ ap (λ (b : Bool). h.faults ++ (fault_of b (record { start = at; end = at + width (o ∷ []) }) ++ flag_faults (at + width (o ∷ [])) (h.before ++ o ∷ []) os)) (sym w)
-              ∙ ap (λ (m : ℕ). h.faults ++ (fault_of f.is_wrong (record { start = at; end = m }) ++ flag_faults m (h.before ++ o ∷ []) os)) (sym n)
-              ∙ sym (append_assoc h.faults (fault_of f.is_wrong (record { start = at; end = f.end })) (flag_faults f.end (h.before ++ o ∷ []) os));
+          flagged = record {
+            before = h.before ++ o ∷ [];
+            others = os;
+            passed = then h.passed (subst (λ (c : ℕ). Word text at f.end (c ∷ [])) r.0 g.stands);
+            left = r.1;
+            faults = h.faults ++ fault_of f.is_wrong (record { start = at; end = f.end });
+            grows = grow_on h.grows k;
+            faults_are = ap (flag_faults first []) (sym s ∙ ap (λ (v : List ℕ). h.before ++ v) (sym e)) ∙ h.faults_are
+                ∙ ap (λ (v : List ℕ). h.faults ++ flag_faults at h.before v) e
+                ∙ ap (λ (v : List Diagnostic). h.faults ++ v) (faults_step at h.before o os)
+                ∙ ap (λ (b : Bool). h.faults ++ (fault_of b (record { start = at; end = at + width (o ∷ []) }) ++ flag_faults (at + width (o ∷ [])) (h.before ++ o ∷ []) os)) (sym w)
+                ∙ ap (λ (m : ℕ). h.faults ++ (fault_of f.is_wrong (record { start = at; end = m }) ++ flag_faults m (h.before ++ o ∷ []) os)) (sym n)
+                ∙ sym (append_assoc h.faults (fault_of f.is_wrong (record { start = at; end = f.end })) (flag_faults f.end (h.before ++ o ∷ []) os));
+          };
+          seen_in = subst (λ (c : ℕ). SeenIn f.seen (h.before ++ c ∷ [])) r.0 told.1;
         }
 
--- a wrong flag is kept
-pub flagged_wrong : {text : List ℕ} {first end at : ℕ} {old mid : LexerOutput} (new : List Diagnostic) (f : Flag) (s : Span) → Flagged text first end at old mid → IsFlag text first at f → at < end → f.is_wrong ≡ true → s.start ≡ at → s.end ≡ f.end → new ≡ mid.errors ++ fault_between s ∷ []
-    → Flagged text first end f.end old (record { comments = mid.comments; irregular_whitespaces = mid.irregular_whitespaces; tokens = mid.tokens; errors = new })
-flagged_wrong {text = text} {at = at} {mid = mid} new f s h g l w a b e =
+-- a flag is kept, if it is wrong
+pub flagged_kept : {text : List ℕ} {first end at : ℕ} {seen : Seen} {old mid : LexerOutput} (new : LexerOutput) (f : Flag) (s : Span) → FlaggedSo text first end at seen old mid → IsFlag text at seen f → at < end → s.start ≡ at → s.end ≡ f.end → Grows mid new [] [] [] (flag_told f.is_wrong s) → FlaggedSo text first end f.end f.seen old new
+flagged_kept {at = at} {mid = mid} new f s h g l a b k =
     let sp : s ≡ record { start = at; end = f.end } = ap (λ (n : ℕ). record { start = n; end = s.end }) a ∙ ap (λ (n : ℕ). record { start = at; end = n }) b in
-    flagged_more (record { comments = mid.comments; irregular_whitespaces = mid.irregular_whitespaces; tokens = mid.tokens; errors = new }) f h g l (record {
-      comments_grow = sym (append-nil mid.comments);
-      blanks_grow = sym (append-nil mid.irregular_whitespaces);
-      tokens_grow = sym (append-nil mid.tokens);
-      faults_grow = e ∙ ap (λ (z : Span). mid.errors ++ fault_between z ∷ []) sp ∙ ap (λ (v : Bool). mid.errors ++ fault_of v (record { start = at; end = f.end })) (sym w);
-    })
-
--- a right one isn't
-pub flagged_right : {text : List ℕ} {first end at : ℕ} {old mid : LexerOutput} (f : Flag) → Flagged text first end at old mid → IsFlag text first at f → at < end → f.is_wrong ≡ false → Flagged text first end f.end old mid
-flagged_right {at = at} {mid = mid} f h g l w = flagged_more mid f h g l (record {
-  comments_grow = sym (append-nil mid.comments);
-  blanks_grow = sym (append-nil mid.irregular_whitespaces);
-  tokens_grow = sym (append-nil mid.tokens);
-  faults_grow = sym (append-nil mid.errors) ∙ ap (λ (v : Bool). mid.errors ++ fault_of v (record { start = at; end = f.end })) (sym w);
-})
+    flagged_more new f h g l (subst (λ (v : List Diagnostic). Grows mid new [] [] [] v) (told f.is_wrong ∙ ap (fault_of f.is_wrong) sp) k)
+  where
+    told : (w : Bool) → flag_told w s ≡ fault_of w s
+    told true = refl
+    told false = refl

@@ -1,26 +1,17 @@
 -- Flags that stand one behind the other.
-use Rattle.std.proofs.Common.{◌≡◌, ◌≤◌, ℕ, Bool, List, [], ◌∷◌, ◌++◌, sym, ap, ◌∙◌, drop, arith, not, ◌||◌}
-use Rattle.std.specs.Prelude.{chars, codes, slice_range, IsUtf8, IsCharBoundary}
+use Rattle.std.proofs.Common.{◌≡◌, ◌≤◌, ℕ, List, [], ◌∷◌, ◌++◌, sym, ap, ◌∙◌, drop, arith}
+use Rattle.std.specs.Prelude.{chars, slice_range, IsUtf8, IsCharBoundary}
 use Rattle.std.proofs.lemmas.Str.{IsUtf8-between, chars-append}
 use Rattle.std.proofs.lemmas.List.{append_cancel_right}
 use Rattle.std.proofs.lemmas.List.Folds.{drop_split}
-use Rattle.js_base.specs.Characters.{one_of}
 use Rattle.js_grammar.specs.LexicalFaults.{behind}
 use Rattle.js_lex.specs.Places.{Word}
-use Rattle.js_lex.specs.RegularExpressionParts.{IsFlag}
 
 -- the characters that stand between two places are those that the bytes between them spell
 pub spelled : (text : List ℕ) (i j : ℕ) (w : List ℕ) → IsUtf8 text → IsCharBoundary text i → i ≤ j → Word text i j w → chars (slice_range text i j) ≡ w
 spelled text i j w u b o s =
     let piece : IsUtf8 (slice_range text i j) = IsUtf8-between text i j u o b s.boundary in
     append_cancel_right (chars (slice_range text i j)) w (behind text j) (sym (chars-append (slice_range text i j) (drop j text) piece) ∙ ap chars (sym (drop_split text i j o)) ∙ s.splits)
-
-pub is_flag : {text bytes : List ℕ} {s i j c : ℕ} {wrong : Bool} → IsUtf8 text → IsCharBoundary text s → s ≤ i → bytes ≡ slice_range text s i → Word text i j (c ∷ []) → wrong ≡ (not (one_of (codes "dgimsuvy") c) || one_of (chars bytes) c) → IsFlag text s i (record { end = j; is_wrong = wrong })
-is_flag {text = text} {s = s} {i = i} {c = c} u b o e w f = record {
-  flag = c;
-  stands = w;
-  wrong = λ before p. f ∙ ap (λ (v : List ℕ). not (one_of (codes "dgimsuvy") c) || one_of v c) (ap chars e ∙ spelled text s i before u b o p);
-}
 
 -- Of characters that stand between two places, the first one ends where the others begin.
 pub others_stand : {text : List ℕ} {i j k c d : ℕ} {rest : List ℕ} → Word text i j (c ∷ []) → Word text i k (d ∷ rest) → (c ≡ d) × Word text j k rest

@@ -1,5 +1,5 @@
 -- How what is kept grows.
-use Rattle.std.proofs.Common.{◌≡◌, ◌∙◌, List, [], ◌++◌, sym, ap, append_assoc, append-nil}
+use Rattle.std.proofs.Common.{◌≡◌, ◌∙◌, List, [], ◌++◌, sym, ap, append_assoc, append-nil, refl}
 use Rattle.std.specs.Prelude.{Result, Ok, Err, OnErr}
 use Rattle.js_base.specs.declared.span.Span.{Span}
 use Rattle.js_base.specs.declared.token.Token.{Token}
@@ -31,3 +31,8 @@ extend_on g h = grown (grow_on g h.grows)
 pub on_err : {A B : Type 0} (r : Result A B) {P : Type 0} → P → OnErr r P
 on_err (Ok v) p = tt
 on_err (Err e) p = p
+
+-- after want of memory the faults are those of before
+pub faults_on_err : {A B : Type 0} (r : Result A B) (o : LexerOutput) (new : List Diagnostic) → OnErr r (new ≡ o.errors) → OnErr r (Extends o (record { comments = o.comments; irregular_whitespaces = o.irregular_whitespaces; tokens = o.tokens; errors = new }))
+faults_on_err (Ok v) o new e = tt
+faults_on_err (Err x) o new e = keeps _ _ refl refl refl e

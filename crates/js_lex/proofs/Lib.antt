@@ -2,6 +2,7 @@ pub mod NumberRests
 pub mod NumberScans
 pub mod Numbers
 pub mod Places
+pub mod Parts
 pub mod Plain
 pub mod Names
 pub mod NameEscapes
@@ -31,7 +32,13 @@ pub mod KindsOfLexemes
 pub mod PunctuatorLexemes
 pub mod PunctuatorScans
 pub mod Punctuators
+pub mod FlagsSeen
 pub mod FlagFaults
 pub mod Marks
 pub mod ReadAgain
 pub mod Given
+pub mod NamesGiven
+pub mod Settled
+pub mod Lying
+pub mod Ordered
+pub mod Marked

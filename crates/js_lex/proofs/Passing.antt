@@ -5,6 +5,7 @@ use Rattle.std.proofs.lemmas.List.Folds.{list_any-append}
 use Rattle.std.proofs.Math.Bool.{or-false, or_assoc}
 use Rattle.std.proofs.Math.Seq.{drop-append_seam, take-append_seam}
 use Rattle.std.proofs.lemmas.List.{map-append}
+use Rattle.js_base.specs.declared.span.Span.{Span}
 use Rattle.js_base.specs.Characters.{is_line_terminator}
 use Rattle.js_grammar.specs.Characters.{has_line_terminator, width}
 use Rattle.js_grammar.specs.Longest.{longest, none_begins, joined}
@@ -143,3 +144,11 @@ attached_all {s = s} {old = old} {mid = mid} new n a e h f = record {
     faults_grow = h.grows.faults_grow;
   };
 }
+
+-- of a piece that is neither a comment nor irregular nothing is kept
+pub nothing_grows : (m : Bool) (o : LexerOutput) (span : Span) → Grows o o (comment_told None span) (blank_told false span) [] (fault_told (m && false) span)
+nothing_grows m o span = subst (λ (b : Bool). Grows o o [] [] [] (fault_told b span)) (sym (no m)) (record { comments_grow = sym (append-nil o.comments); blanks_grow = sym (append-nil o.irregular_whitespaces); tokens_grow = sym (append-nil o.tokens); faults_grow = sym (append-nil o.errors) })
+  where
+    no : (b : Bool) → (b && false) ≡ false
+    no true = refl
+    no false = refl

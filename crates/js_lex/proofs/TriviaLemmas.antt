@@ -1,5 +1,5 @@
 -- Pieces of trivia, as long as possible.
-use Rattle.std.proofs.Common.{◌≡◌, ◌<◌, ℕ, ◌+◌, ◌≤◌, Option, ◌==◌, Bool, true, false, List, [], ◌∷◌, ◌++◌, refl, sym, ap, subst, ◌∙◌, not, ◌&&◌, ◌||◌, length, arith, append_assoc, Some, None, ◌⊎◌, inl, inr}
+use Rattle.std.proofs.Common.{◌≡◌, ◌<◌, ℕ, ◌+◌, ◌≤◌, Option, ◌==◌, Bool, true, false, List, [], ◌∷◌, ◌++◌, refl, sym, ap, subst, ◌∙◌, not, ◌&&◌, ◌||◌, length, arith, append_assoc, Some, None, ◌⊎◌, inl, inr, nat_lt}
 use Rattle.std.specs.Prelude.{codes}
 use Rattle.std.specs.List.{list_all}
 use Rattle.std.proofs.lemmas.Bool.{and_left, and_right}
@@ -17,13 +17,15 @@ use Rattle.js_grammar.proofs.CoreLemmas.{none_longer-from}
 use Rattle.js_lex.specs.Places.{Word, Peeks}
 use Rattle.std.specs.Char.{len_utf8}
 use Rattle.std.proofs.lemmas.Str.{len_utf8_ascii, len_utf8_bounds}
-use Rattle.js_lex.specs.TriviaPassed.{IsPiece, PieceAt, BlankAt, IsBlankPiece, IsLineEnd, IsBlockEnd, block_kind}
+use Rattle.js_lex.specs.TriviaPassed.{IsPiece, PieceAt, BlankAt, IsBlankPiece, IsLineEnd, IsBlockEnd, block_kind, PlainBlankAt}
 use Rattle.js_lex.specs.Comments.{comment_kind}
 use Rattle.js_lex.specs.declared.comment.CommentKind.TheVariants.{Line, SingleLineBlock, MultiLineBlock}
 use Rattle.js_lex.specs.declared.trivia.Piece.{Piece}
 use Rattle.js_lex.specs.declared.trivia.Trivia.{Trivia}
 use Rattle.js_lex.proofs.Places.{then}
 use Rattle.js_lex.proofs.Fronts.{not_all, onwards}
+use Rattle.js_grammar.proofs.CoreNames.{ascii}
+use Rattle.std.proofs.lemmas.Bool.Decides.{nat_tests}
 
 -- ---- lines
 
@@ -324,3 +326,14 @@ piece_moves {first = first} {text = text} {i = i} {p = p} h = (by h.word h.stand
     by : (w : List ℕ) → p.end ≡ i + width w → is_trivia_piece first w (behind text p.end) ≡ true → i < p.end
     by [] e k = absurd (let z = no_empty_piece first (behind text p.end) in cc)
     by (c ∷ w) e k = let z = some_width c w in omega arith
+
+-- a space, tab, CR or LF, as a piece
+pub plain_blank : {text : List ℕ} {at : ℕ} (c : ℕ) (newline : Bool) → Word text at (at + len_utf8 c) (c ∷ []) → (c ≡ 47 → ⊥) → (c ≡ 60 → ⊥) → (c ≡ 45 → ⊥) → IsBlankPiece c at (record { end = at + 1; comment = None; is_html = false; is_irregular = false; has_newline = newline }) → PlainBlankAt text at (Some newline)
+plain_blank {text = text} {at = at} c newline w n m k b first = blank_there c (Some (record { end = at + 1; comment = None; is_html = false; is_irregular = false; has_newline = newline })) first w n m k b
+
+-- a visible ASCII character is neither white space nor a line terminator
+pub visible : (c : ℕ) → 32 < c → c < 127 → not (is_blank (c ∷ [])) ≡ true
+visible c h k = ascii (λ e. nat_lt 32 e && nat_lt e 127) (λ e. not (is_blank (e ∷ []))) c refl (omega arith) (between c h k)
+  where
+    between : (c : ℕ) → 32 < c → c < 127 → (nat_lt 32 c && nat_lt c 127) ≡ true
+    between c h k = grind (arith, nat_tests)

@@ -1,15 +1,16 @@
 -- Where the pattern and the flags of a regular expression end (ECMA-262, 12.9.5).
 use Rattle.std.specs.Prelude.{ℕ, ◌≡◌, Bool, true, false, not, ◌&&◌, ◌||◌, ◌==◌, List, [], ◌∷◌, codes, ◌++◌, Option, Some, None, Result, MatchResult, IsTrue}
-use Rattle.std.specs.List.{list_all}
+use Rattle.std.specs.Str.{byte}
 use Rattle.js_base.specs.declared.kind.Kind.TheVariants.{RegExp}
 use Rattle.js_base.specs.Characters.{one_of, is_line_terminator}
-use Rattle.js_grammar.specs.Characters.{is_identifier_part, begins}
+use Rattle.js_grammar.specs.Characters.{begins}
 use Rattle.js_grammar.specs.Trivia.{within_line}
 use Rattle.js_grammar.specs.LexicalFaults.{behind}
 use Rattle.js_grammar.specs.Lexemes.{regular_expression}
 use Rattle.js_grammar.specs.RegularExpressions.{behind_pattern, flags}
 use Rattle.js_lex.specs.declared.regular_expression.RegularExpression.{RegularExpression}
 use Rattle.js_lex.specs.declared.regular_expression.Flag.{Flag}
+use Rattle.js_lex.specs.declared.regular_expression.Seen.{Seen}
 use Rattle.js_lex.specs.declared.regular_expression.Inside.{Inside}
 use Rattle.js_lex.specs.declared.regular_expression.Step.{Step}
 use Rattle.js_lex.specs.declared.regular_expression.Step.TheVariants.{On, Ends, LineEnds}
@@ -43,13 +44,6 @@ pub record OpenPattern (text : List ℕ) (i j : ℕ) : Type 0 where
 abbrev pub PatternEnds : List ℕ → ℕ → Result ℕ ℕ → Type 0
 PatternEnds text i r = MatchResult r (λ j. Pattern text i j) (λ j. OpenPattern text i j)
 
--- name characters stand between the places, and none behind them
-pub record FlagsEnd (text : List ℕ) (i j : ℕ) : Type 0 where
-  pub word : List ℕ
-  pub stands : Word text i j word
-  pub pass : IsTrue (list_all is_identifier_part word)
-  pub no_more : begins is_identifier_part (behind text j) ≡ false
-
 -- A regular expression stands at the place, and its flags from the end of the pattern on.
 pub record IsRegularExpression (text : List ℕ) (i : ℕ) (r : RegularExpression) : Type 0 where
   pub scanned : IsScanned regular_expression text i (record { kind = RegExp; end = r.end; escaped = false; has_separator = false })
@@ -57,13 +51,28 @@ pub record IsRegularExpression (text : List ℕ) (i : ℕ) (r : RegularExpressio
   pub has_flags : flags scanned.word ≡ Some flags_word
   pub flags_stand : Word text r.pattern_end r.end flags_word
 
--- a flag stands at the place i, and whether it is wrong is told by those between the place s and it
-pub record IsFlag (text : List ℕ) (s i : ℕ) (f : Flag) : Type 0 where
+-- which of the eight flags stand among these
+pub record SeenIn (seen : Seen) (before : List ℕ) : Type 0 where
+  pub d : seen.d ≡ one_of before (byte "d")
+  pub g : seen.g ≡ one_of before (byte "g")
+  pub i : seen.i ≡ one_of before (byte "i")
+  pub m : seen.m ≡ one_of before (byte "m")
+  pub s : seen.s ≡ one_of before (byte "s")
+  pub u : seen.u ≡ one_of before (byte "u")
+  pub v : seen.v ≡ one_of before (byte "v")
+  pub y : seen.y ≡ one_of before (byte "y")
+
+-- whether a flag behind others is wrong, and which are seen with it
+abbrev pub TellsFlag : Seen → ℕ → Flag → Type 0
+TellsFlag seen flag f = (before : List ℕ) → SeenIn seen before → (f.is_wrong ≡ (not (one_of (codes "dgimsuvy") flag) || one_of before flag)) × SeenIn f.seen (before ++ flag ∷ [])
+
+-- a flag stands at the place i
+pub record IsFlag (text : List ℕ) (i : ℕ) (seen : Seen) (f : Flag) : Type 0 where
   pub flag : ℕ
   pub stands : Word text i f.end (flag ∷ [])
-  pub wrong : (before : List ℕ) → Word text s i before → f.is_wrong ≡ (not (one_of (codes "dgimsuvy") flag) || one_of before flag)
+  pub tells : TellsFlag seen flag f
 
 -- the flag at the place i, none at the end of the text
-abbrev pub FlagAt : List ℕ → ℕ → ℕ → Option Flag → Type 0
-FlagAt text s i None = behind text i ≡ []
-FlagAt text s i (Some f) = IsFlag text s i f
+abbrev pub FlagAt : List ℕ → ℕ → Seen → Option Flag → Type 0
+FlagAt text i seen None = behind text i ≡ []
+FlagAt text i seen (Some f) = IsFlag text i seen f

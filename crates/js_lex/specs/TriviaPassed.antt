@@ -85,6 +85,11 @@ abbrev pub PieceAt : Bool → List ℕ → ℕ → Option Piece → Type 0
 PieceAt first text i None = IsTrue (none_begins (is_trivia_piece first) (behind text i))
 PieceAt first text i (Some p) = IsPiece first text i p
 
+-- of a space, tab, CR or LF at a place, the piece that it is; of anything else nothing is told
+abbrev pub PlainBlankAt : List ℕ → ℕ → Option Bool → Type 0
+PlainBlankAt text i None = Unit {0}
+PlainBlankAt text i (Some newline) = (first : Bool) → PieceAt first text i (Some (record { end = i + 1; comment = None; is_html = false; is_irregular = false; has_newline = newline }))
+
 -- all trivia from the place s on, the comments attached to the place a
 pub record IsPassed (in_a_module : Bool) (text : List ℕ) (s a : ℕ) (old new : LexerOutput) (t : Trivia) : Type 0 where
   pub pieces : List (List ℕ)

@@ -1,11 +1,11 @@
 //! What a lexer keeps.
 
-ghost use Rattle.std.specs.Prelude.{◌≡◌};
-ghost use Rattle.js_lex.specs.Kept.{IsEmpty, lengths_of, first_kept};
+ghost use Rattle.std.specs.Prelude.{◌≡◌, [], ◌∷◌, OnOk, OnErr};
+ghost use Rattle.js_lex.specs.Kept.{IsEmpty, Grows, Extends, fault_at, lengths_of, first_kept};
 
 use crate::checkpoint::Lengths;
 use crate::comment::Comments;
-use js_base::{Diagnostics, Spans, Tokens};
+use js_base::{Diagnostic, DiagnosticKind, Diagnostics, NoMemory, Span, Spans, Tokens};
 use std::alloc::Global;
 
 /// What was kept while a text was read, each list in the order of the text.
@@ -32,6 +32,19 @@ impl LexerOutput {
             tokens: Tokens::new(alloc),
             errors: Diagnostics::new(alloc),
         }
+    }
+
+    /// Keeps a fault, behind those that are kept. After want of memory what was kept is still there.
+    pub(crate) fn keep_fault(&mut self, kind: DiagnosticKind, span: Span) -> Result<(), NoMemory>
+        ensures ok { OnOk result (Grows self.old self.new [] [] [] (fault_at kind span ∷ [])) }
+        ensures err { OnErr result (Extends self.old self.new) }
+    {
+        self.errors.push(Diagnostic {
+            kind,
+            span,
+            first: None,
+            second: None,
+        })
     }
 
     /// How much was kept.

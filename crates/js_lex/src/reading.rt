@@ -14,7 +14,7 @@ use crate::output::LexerOutput;
 use crate::plain_goal::plain_at;
 use crate::scan::{Fault, Scan, Scanned};
 use crate::trivia::pass_trivia;
-use js_base::{Diagnostic, Kind, MAX_LEN, NoMemory, SourceType, Span, Token};
+use js_base::{Kind, MAX_LEN, NoMemory, SourceType, Span, Token};
 
 /// The next token of the plain goal from a place on; of a punctuator that begins with `>` this sign alone. What is
 /// passed and given is kept. After want of memory what was kept before is still there.
@@ -143,11 +143,5 @@ pub(crate) fn keep_fault(kept: &mut LexerOutput, fault: Fault) -> Result<(), NoM
     ensures ok { OnOk result (Grows kept.old kept.new [] [] [] (settling.diagnostic_of fault ∷ [])) }
     ensures err { OnErr result (Extends kept.old kept.new) }
 {
-    kept.errors.push(Diagnostic {
-        kind: fault.kind,
-        span: Span::new(fault.start as u32, fault.end as u32),
-        first: None,
-        second: None,
-    })?;
-    Ok(())
+    kept.keep_fault(fault.kind, Span::new(fault.start as u32, fault.end as u32))
 }

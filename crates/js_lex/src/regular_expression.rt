@@ -7,10 +7,11 @@ ghost use Rattle.js_grammar.specs.Lexemes.{regular_expression};
 ghost use Rattle.js_grammar.specs.LexicalFaults.{behind};
 ghost use Rattle.js_lex.specs.Places.{Word};
 ghost use Rattle.js_lex.specs.Scans.{IsStopped};
-ghost use Rattle.js_lex.specs.RegularExpressionParts.{ends_bracketed, Steps, PatternEnds, FlagsEnd, FlagAt, IsRegularExpression};
+ghost use Rattle.js_lex.specs.RegularExpressionParts.{ends_bracketed, Steps, PatternEnds, FlagAt, TellsFlag, IsRegularExpression};
 
 use crate::character::next_character;
-use crate::class::{is_identifier_part, is_line_terminator};
+use crate::class::is_line_terminator;
+use crate::part::parts_end;
 use crate::scan::Fault;
 use js_base::DiagnosticKind;
 
@@ -30,7 +31,34 @@ pub(crate) struct Flag {
     pub end: usize,
     /// Whether it is none of the eight flags, or stands before too.
     pub is_wrong: bool,
+    /// The flags that are seen with it.
+    pub seen: Seen,
 }
+
+/// Which of the eight flags are seen.
+#[derive(Debug, Clone, Copy)]
+pub(crate) struct Seen {
+    d: bool,
+    g: bool,
+    i: bool,
+    m: bool,
+    s: bool,
+    u: bool,
+    v: bool,
+    y: bool,
+}
+
+/// None of them.
+pub(crate) const NONE_SEEN: Seen = Seen {
+    d: false,
+    g: false,
+    i: false,
+    m: false,
+    s: false,
+    u: false,
+    v: false,
+    y: false,
+};
 
 /// Where in a pattern a character stands.
 #[derive(Debug, Clone, Copy)]
@@ -64,7 +92,7 @@ pub(crate) fn regular_expression_at(text: &str, at: usize) -> Result<RegularExpr
     match pattern_end(text, at + 1) {
         Ok(pattern_end) => Ok(RegularExpression {
             pattern_end,
-            end: flags_end(text, pattern_end),
+            end: parts_end(text, pattern_end, false),
         }),
         Err(line_end) => Err(Fault {
             kind: DiagnosticKind::UnterminatedRegexp,
@@ -125,55 +153,37 @@ fn is_bracketed(brackets: bool, c: char) -> bool
     (brackets && c != ']') || c == '['
 }
 
-/// The end of the name characters at a byte offset.
-fn flags_end(text: &str, at: usize) -> usize
+/// The flag at a byte offset, where some are seen before it; none at the text's end.
+pub(crate) fn flag_at(text: &str, at: usize, seen: Seen) -> Option<Flag>
     requires { IsCharBoundary text.now at }
-    ensures { FlagsEnd text.now at result }
-{
-    let mut end = at;
-    'flags: while let Some(next) = next_character(text, end) {
-        if !is_identifier_part(next.value) {
-            return end;
-        }
-        end = next.end;
-    }
-    end
-}
-
-/// The flag at a byte offset, where those before it begin at another; none at the text's end.
-pub(crate) fn flag_at(text: &str, first: usize, at: usize) -> Option<Flag>
-    requires begins { IsCharBoundary text.now first }
-    requires boundary { IsCharBoundary text.now at }
-    requires ordered { first ≤ at }
-    ensures { FlagAt text.now first at result }
+    ensures { FlagAt text.now at seen result }
 {
     match next_character(text, at) {
         None => None,
-        Some(next) => Some(Flag {
-            end: next.end,
-            is_wrong: is_wrong_flag(next.value, &text[first..at]),
-        }),
+        Some(next) => Some(flag_of(next.value, next.end, seen)),
     }
 }
 
-/// Whether a flag is wrong: it is none of `d g i m s u v y`, or stands among those before it (ECMA-262, section
+/// A flag up to a byte offset. It is wrong where it is none of `d g i m s u v y`, or is seen already (ECMA-262, section
 /// 13.2.7.2).
-fn is_wrong_flag(flag: char, before: &str) -> bool
-    ensures { result ≡ (not (one_of (codes "dgimsuvy") flag) || one_of (chars before.now) flag) }
+fn flag_of(flag: char, end: usize, seen: Seen) -> Flag
+    ensures end { result.end ≡ end }
+    ensures tells { TellsFlag seen flag result }
 {
-    !is_flag(flag) || stands_among(flag, before)
-}
-
-/// Whether a flag stands among others.
-fn stands_among(flag: char, others: &str) -> bool
-    ensures { result ≡ one_of (chars others.now) flag }
-{
-    others.chars().any(|c| c == flag)
-}
-
-/// Whether a character is one of the eight flags.
-fn is_flag(c: char) -> bool
-    ensures { result ≡ one_of (codes "dgimsuvy") c }
-{
-    c == 'd' || c == 'g' || c == 'i' || c == 'm' || c == 's' || c == 'u' || c == 'v' || c == 'y'
+    let (is_wrong, seen) = match flag {
+        'd' => (seen.d, Seen { d: true, ..seen }),
+        'g' => (seen.g, Seen { g: true, ..seen }),
+        'i' => (seen.i, Seen { i: true, ..seen }),
+        'm' => (seen.m, Seen { m: true, ..seen }),
+        's' => (seen.s, Seen { s: true, ..seen }),
+        'u' => (seen.u, Seen { u: true, ..seen }),
+        'v' => (seen.v, Seen { v: true, ..seen }),
+        'y' => (seen.y, Seen { y: true, ..seen }),
+        _ => (true, seen),
+    };
+    Flag {
+        end,
+        is_wrong,
+        seen,
+    }
 }

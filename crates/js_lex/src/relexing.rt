@@ -6,16 +6,16 @@ ghost use Rattle.js_base.specs.declared.kind.Kind.TheVariants.{RegExp};
 ghost use Rattle.js_lex.specs.Places.{Word};
 ghost use Rattle.js_lex.specs.Kept.{Grows, Extends};
 ghost use Rattle.js_lex.specs.Reading.{flag_faults};
-ghost use Rattle.js_lex.specs.Settling.{Fits, SettledAgain, IsReadAgain};
+ghost use Rattle.js_lex.specs.Settling.{Fits, SettledAgain, IsReadAgain, flag_told};
 ghost use Rattle.js_base.specs.Characters.{one_of};
 ghost use Rattle.js_grammar.specs.Characters.{begins};
 ghost use Rattle.js_grammar.specs.LexicalFaults.{behind};
 
 use crate::output::LexerOutput;
 use crate::reading::{is_kept, keep_fault, token_of, undetermined};
-use crate::regular_expression::{RegularExpression, flag_at, regular_expression_at};
+use crate::regular_expression::{NONE_SEEN, RegularExpression, flag_at, regular_expression_at};
 use crate::scan::{Scan, Scanned};
-use js_base::{Diagnostic, DiagnosticKind, Kind, MAX_LEN, NoMemory, Span, Token};
+use js_base::{DiagnosticKind, Kind, MAX_LEN, NoMemory, Span, Token};
 
 /// The token of what a scan at the start of a token answers. It is put in place of the token kept last, where tokens are
 /// asked for, unless no lexeme stands there; then the fault is kept.
@@ -101,19 +101,25 @@ pub(crate) fn keep_wrong_flags(
     ensures err { OnErr result (Extends kept.old kept.new) }
 {
     let mut at = found.pattern_end;
+    let mut seen = NONE_SEEN;
     'flags: while at < found.end {
-        let Some(flag) = flag_at(text, found.pattern_end, at) else {
+        let Some(flag) = flag_at(text, at, seen) else {
             return Ok(());
         };
-        if flag.is_wrong {
-            kept.errors.push(Diagnostic {
-                kind: DiagnosticKind::RegExpFlag,
-                span: Span::new(at as u32, flag.end as u32),
-                first: None,
-                second: None,
-            })?;
-        }
+        keep_flag_fault(kept, flag.is_wrong, Span::new(at as u32, flag.end as u32))?;
         at = flag.end;
+        seen = flag.seen;
+    }
+    Ok(())
+}
+
+/// Keeps the fault that a flag is, if it is wrong.
+fn keep_flag_fault(kept: &mut LexerOutput, is_wrong: bool, span: Span) -> Result<(), NoMemory>
+    ensures ok { OnOk result (Grows kept.old kept.new [] [] [] (flag_told is_wrong span)) }
+    ensures err { OnErr result (Extends kept.old kept.new) }
+{
+    if is_wrong {
+        kept.keep_fault(DiagnosticKind::RegExpFlag, span)?;
     }
     Ok(())
 }

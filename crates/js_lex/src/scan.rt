@@ -6,12 +6,12 @@ use js_base::{DiagnosticKind, Kind};
 #[derive(Debug, Clone, Copy)]
 pub(crate) struct Scanned {
     pub kind: Kind,
-    /// The place behind it.
-    pub end: usize,
     /// Whether it is a word or a private name with an escape sequence.
     pub escaped: bool,
     /// Whether it is a number with a separator.
     pub has_separator: bool,
+    /// The place behind it.
+    pub end: usize,
 }
 
 /// A fault that stops the lexemes: what stands at the place of a scan where no lexeme does.

@@ -4,7 +4,7 @@
 ghost use Rattle.std.specs.Prelude.{◌≡◌, ◌≤◌, ◌+◌, [], ◌∷◌, Bool, ◌&&◌, false, length, IfOk, OnErr, OnOk, Some, IsCharBoundary};
 ghost use Rattle.js_lex.specs.Places.{Word};
 ghost use Rattle.js_lex.specs.Kept.{Grows, Extends};
-ghost use Rattle.js_lex.specs.TriviaPassed.{PieceAt, BlankAt, BlockEnd, IsLineEnd, block_kind, told, comment_told, blank_told, fault_told, IsPassed};
+ghost use Rattle.js_lex.specs.TriviaPassed.{PieceAt, BlankAt, PlainBlankAt, BlockEnd, IsLineEnd, block_kind, told, comment_told, blank_told, fault_told, IsPassed};
 ghost use Rattle.js_lex.specs.declared.comment.CommentKind.TheVariants.{Line};
 
 use crate::character::next_character;
@@ -12,7 +12,7 @@ use crate::class::{is_line_terminator, is_white_space};
 use crate::comment::{Comment, CommentKind, attach};
 use crate::output::LexerOutput;
 use crate::place::{byte_at, char_at, goes_on};
-use js_base::{Diagnostic, DiagnosticKind, MAX_LEN, NoMemory, Span};
+use js_base::{DiagnosticKind, MAX_LEN, NoMemory, Span};
 
 /// A piece of trivia: one white space or line terminator, or one comment.
 #[derive(Debug, Clone, Copy)]
@@ -72,12 +72,34 @@ fn pass_pieces(
 {
     let mut end = at;
     let mut has_newline = false;
-    'pieces: while let Some(piece) = piece_at(text, end, (at == 0) | has_newline) {
+    'pieces: loop {
+        if let Some(is_newline) = plain_blank_at(text, end) {
+            has_newline |= is_newline;
+            end += 1;
+            continue;
+        }
+        let Some(piece) = piece_at(text, end, (at == 0) | has_newline) else {
+            return Ok(Trivia { end, has_newline });
+        };
         keep_piece(kept, is_module, end, piece)?;
         has_newline |= piece.has_newline;
         end = piece.end;
     }
-    Ok(Trivia { end, has_newline })
+}
+
+/// Whether the space, tab, CR or LF at a place is a line terminator; none where no such character stands there.
+#[inline]
+fn plain_blank_at(text: &str, at: usize) -> Option<bool>
+    requires { IsCharBoundary text.now at }
+    ensures { PlainBlankAt text.now at result }
+{
+    match byte_at(text, at) {
+        Some(b' ') => Some(false),
+        Some(b'\t') => Some(false),
+        Some(b'\n') => Some(true),
+        Some(b'\r') => Some(true),
+        _ => None,
+    }
 }
 
 /// Keeps what a piece that begins at a place is.
@@ -95,7 +117,7 @@ fn keep_piece(
     let span = Span::new(start as u32, piece.end as u32);
     keep_comment(kept, piece.comment, span)?;
     keep_blank(kept, piece.is_irregular, span)?;
-    keep_fault(kept, is_module && piece.is_html, span)
+    keep_html_fault(kept, is_module && piece.is_html, span)
 }
 
 /// Keeps a comment, if there is one.
@@ -129,17 +151,12 @@ fn keep_blank(kept: &mut LexerOutput, is_irregular: bool, span: Span) -> Result<
 }
 
 /// Keeps the fault that an HTML-like comment in a module is.
-fn keep_fault(kept: &mut LexerOutput, is_fault: bool, span: Span) -> Result<(), NoMemory>
+fn keep_html_fault(kept: &mut LexerOutput, is_fault: bool, span: Span) -> Result<(), NoMemory>
     ensures ok { OnOk result (Grows kept.old kept.new [] [] [] (fault_told is_fault span)) }
     ensures err { OnErr result (Extends kept.old kept.new) }
 {
     if is_fault {
-        kept.errors.push(Diagnostic {
-            kind: DiagnosticKind::HtmlCommentInModule,
-            span,
-            first: None,
-            second: None,
-        })?;
+        kept.keep_fault(DiagnosticKind::HtmlCommentInModule, span)?;
     }
     Ok(())
 }
@@ -156,6 +173,7 @@ fn piece_at(text: &str, at: usize, is_first: bool) -> Option<Piece>
         Some(b'/') => comment_at(text, at),
         Some(b'<') => html_open_at(text, at),
         Some(b'-') => html_close_at(text, at, is_first),
+        Some(byte) if b' ' < byte && byte < 127 => None,
         Some(byte) if byte < 128 => blank(byte as char, at),
         Some(_) => match char_at(text, at) {
             Some(c) => blank(c, at),

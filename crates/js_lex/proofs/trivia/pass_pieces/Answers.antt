@@ -1,8 +1,15 @@
-use Rattle.js_lex.proofs.Passing.{passed_more, passed_all}
+use Rattle.std.proofs.Common.{◌+◌, false, None, arith}
+use Rattle.js_lex.proofs.Passing.{passed_more, passed_all, nothing_grows}
 use Rattle.js_lex.proofs.trivia.pass_pieces.Goals as goal
 
-pub pieces-preserved : goal.pieces-preserved
-pieces-preserved c = passed_more c.in-Some.piece c.pieces.invariant c.in-Some.ensures c.in_ok-keep_piece.ensures.ok
+pub pieces-smaller-in-Some : goal.pieces-smaller-in-Some
+pieces-smaller-in-Some c = let b = (c.in-Some.ensures false).stands.boundary.0 in omega arith
 
-pub returns-clause-ok : goal.returns-clause-ok
-returns-clause-ok c = passed_all c.pieces.invariant c.in_default.ensures
+pub pieces-preserved-in-Some : goal.pieces-preserved-in-Some
+pieces-preserved-in-Some c = passed_more (record { end = c.pieces.end + 1; comment = None; is_html = false; is_irregular = false; has_newline = c.in-Some.is_newline }) c.pieces.invariant (c.in-Some.ensures _) (nothing_grows c.args.is_module _ _)
+
+pub pieces-preserved : goal.pieces-preserved
+pieces-preserved c = passed_more c.in-Some-piece_at.piece c.pieces.invariant c.in-Some-piece_at.ensures c.in_ok-keep_piece.ensures.ok
+
+pub returns-in_default-piece_at-clause-ok : goal.returns-in_default-piece_at-clause-ok
+returns-in_default-piece_at-clause-ok c = passed_all c.pieces.invariant c.in_default-piece_at.ensures

@@ -1,5 +1,5 @@
-use Rattle.std.proofs.Common.{arith}
-use Rattle.js_lex.proofs.TriviaLemmas.{blank_there, ascii_there, high_there}
+use Rattle.std.proofs.Common.{arith, None}
+use Rattle.js_lex.proofs.TriviaLemmas.{blank_there, ascii_there, high_there, visible}
 use Rattle.js_lex.proofs.trivia.piece_at.Goals as goal
 
 pub returns-in-Some-eq47 : goal.returns-in-Some-eq47
@@ -9,7 +9,14 @@ pub returns-in-Some-eq60 : goal.returns-in-Some-eq60
 returns-in-Some-eq60 c = c.html_open_at.ensures c.args.is_first
 
 pub returns-in-Some : goal.returns-in-Some
-returns-in-Some c = let t = c.in-Some.byte-test in blank_there _ c.blank.result c.args.is_first (ascii_there _ (c.in-Some.ensures.ascii c.if-byte-lt128.true) c.if-byte-lt128.true) t.0.0.1 t.0.1 t.1 c.blank.ensures
+returns-in-Some c =
+    let t = c.in-Some.byte-test in
+    let low = c.if-byte-gt32.true in
+    let high = c.if-byte-lt127.true in
+    blank_there _ None c.args.is_first (ascii_there _ (c.in-Some.ensures.ascii (omega arith)) (omega arith)) t.0.0.1 t.0.1 t.1 (visible c.in-Some.byte low high)
+
+pub returns-in-Some-2 : goal.returns-in-Some-2
+returns-in-Some-2 c = let t = c.in-Some.byte-test in blank_there _ c.blank.result c.args.is_first (ascii_there _ (c.in-Some.ensures.ascii c.if-byte-lt128.true) c.if-byte-lt128.true) t.0.0.1 t.0.1 t.1 c.blank.ensures
 
 pub returns-in-Some-char_at : goal.returns-in-Some-char_at
 returns-in-Some-char_at c =

@@ -1,0 +1,129 @@
+//! One pass of the lexer over a text.
+
+ghost use Rattle.std.specs.Prelude.{◌≤◌, length};
+
+use js_base::{Kind, MAX_LEN, NoMemory, SourceType, Token};
+use js_lex::{Lexer, NoTokensLexerConfig};
+use std::alloc::Global;
+
+/// What a pass counts.
+#[derive(Debug, Clone, Copy)]
+pub struct Pass {
+    /// The tokens before the end of the text.
+    pub tokens: usize,
+    /// The bytes in them.
+    pub bytes: u64,
+    /// The faults that were kept.
+    pub faults: usize,
+    /// The comments that were kept.
+    pub comments: usize,
+}
+
+/// How many braces are open in each substitution of a template that is open, the innermost last.
+#[derive(Drop)]
+struct Braces {
+    outer: Vec<u32>,
+    open: u32,
+}
+
+/// Whether an operand may end with a token, so that a slash behind it divides.
+fn ends_operand(kind: Kind) -> bool {
+    kind.is_literal()
+        || matches!(
+            kind,
+            Kind::RParen
+                | Kind::RBrack
+                | Kind::RCurly
+                | Kind::This
+                | Kind::Super
+                | Kind::PrivateIdentifier
+                | Kind::NoSubstitutionTemplate
+                | Kind::TemplateTail
+                | Kind::Plus2
+                | Kind::Minus2
+        )
+        || (kind.is_identifier_name() && !kind.is_reserved_keyword())
+}
+
+/// Takes a text apart, to its end.
+pub fn lex(alloc: Global, text: &str) -> Result<Pass, NoMemory>
+    requires { length text.now ≤ MAX_LEN }
+{
+    let mut lexer = Lexer::new(alloc, text, SourceType::script(), NoTokensLexerConfig);
+    let mut braces = Braces {
+        outer: Vec::new(alloc),
+        open: 0,
+    };
+    let mut tokens = 0usize;
+    let mut bytes = 0u64;
+    let mut before = Kind::Semicolon;
+    for _ in 0..text.len() {
+        let ends_substitution = braces.open == 0 && !braces.outer.is_empty();
+        let token = next(&mut lexer, ends_operand(before), ends_substitution)?;
+        count_braces(&mut braces, token.kind)?;
+        before = token.kind;
+        if matches!(before, Kind::Eof) {
+            break;
+        }
+        tokens = tokens.saturating_add(1);
+        bytes = bytes.saturating_add(u64::from(token.len));
+    }
+    let output = lexer.finish();
+    Ok(Pass {
+        tokens,
+        bytes,
+        faults: output.errors.len(),
+        comments: output.comments.len(),
+    })
+}
+
+/// What is told of a token: its kind, and how many bytes it has.
+#[derive(Debug, Clone, Copy)]
+struct Told {
+    kind: Kind,
+    len: u32,
+}
+
+/// What is told of a token.
+fn tell(token: Token) -> Told {
+    Told {
+        kind: token.kind(),
+        len: token.end().saturating_sub(token.start()),
+    }
+}
+
+/// The next token: a slash behind no operand read as a regular expression, and a brace that ends a substitution as a
+/// template part.
+fn next(
+    lexer: &mut Lexer<'_, NoTokensLexerConfig>,
+    behind_operand: bool,
+    ends_substitution: bool,
+) -> Result<Told, NoMemory> {
+    let token = lexer.next_token()?;
+    match token.kind() {
+        Kind::Slash | Kind::SlashEq if !behind_operand => match lexer.re_lex_regex(token) {
+            Ok((again, _)) => Ok(tell(again)),
+            Err(error) => Err(error),
+        },
+        Kind::RCurly if ends_substitution => match lexer.re_lex_template_tail(token) {
+            Ok(again) => Ok(tell(again)),
+            Err(error) => Err(error),
+        },
+        _ => Ok(tell(token)),
+    }
+}
+
+/// Counts a brace, and opens or closes a substitution.
+fn count_braces(braces: &mut Braces, kind: Kind) -> Result<(), NoMemory> {
+    match kind {
+        Kind::LCurly => braces.open = braces.open.saturating_add(1),
+        Kind::RCurly => braces.open = braces.open.saturating_sub(1),
+        Kind::TemplateHead => {
+            braces.outer.push(braces.open)?;
+            braces.open = 0;
+        }
+        Kind::TemplateTail => braces.open = braces.outer.pop().unwrap_or(0),
+        _ => {}
+    }
+    Ok(())
+}
