@@ -1,0 +1,5 @@
+pub mod Labels
+pub mod Nodes
+pub mod Holding
+pub mod Bits
+pub mod Rows

@@ -1,0 +1,14 @@
+//! The nodes of a tree, in columns, and what is read from them.
+#![tactic(auto)]
+
+mod bits;
+mod columns;
+mod flags;
+mod id;
+mod kind;
+mod op;
+
+pub use flags::NodeFlags;
+pub use id::NodeId;
+pub use kind::NodeKind;
+pub use op::{BigintBase, ClauseWord, DeclarationKind, MethodKind, NumberBase, Op, PropertyKind};
