@@ -2,4 +2,6 @@ pub mod Labels
 pub mod Nodes
 pub mod Holding
 pub mod Bits
+pub mod Names
+pub mod Rooms
 pub mod Rows
