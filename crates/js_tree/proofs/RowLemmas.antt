@@ -53,7 +53,8 @@ AreEntries-alike c d a h = record {
   starts = rw (a.kinds, a.starts) h.starts;
   counts = rw (a.kinds, a.counts) h.counts;
   ranges = rw (a.starts, a.counts, a.slots) h.ranges;
-  names = λ i b. a.names i ∙ h.names i (rw (← a.kinds) b) }
+  names = λ i b. a.names i ∙ h.names i (rw (← a.kinds) b);
+}
 
 -- one more entry in each column
 pub record Appended (c d : Entries) (k : NodeKind) (s : Span) (o : Op) (f : NodeFlags) (name : Option (List ℕ)) (ids : List (Option NodeId)) : Type 0 where
@@ -112,9 +113,10 @@ appended_range c d {ids = ids} h a i =
     let q = h.ranges i in
     rw (a.starts, a.counts, a.slots)
     (elim (cases_order i (length c.kinds)) [
-      inl e ↦ let x = get_or_push c.starts (length c.slots) 0 i (h.starts ∙ sym e) in let y = get_or_push c.counts (length ids) 0 i (h.counts ∙ sym e) in omega arith
-    | inr (inl b) ↦ let x = get_or_append_left c.starts (length c.slots ∷ []) 0 i (let e = h.starts in omega arith) in let y = get_or_append_left c.counts (length ids ∷ []) 0 i (let e = h.counts in omega arith) in omega arith
-    | inr (inr b) ↦ let u = length_push c.starts (length c.slots) in let v = length_push c.counts (length ids) in let m = h.starts in let n = h.counts in let x = get_or_past (c.starts ++ length c.slots ∷ []) i 0 (omega arith) in let y = get_or_past (c.counts ++ length ids ∷ []) i 0 (omega arith) in omega arith ])
+      | inl e ↦ let x = get_or_push c.starts (length c.slots) 0 i (h.starts ∙ sym e) in let y = get_or_push c.counts (length ids) 0 i (h.counts ∙ sym e) in omega arith
+      | inr (inl b) ↦ let x = get_or_append_left c.starts (length c.slots ∷ []) 0 i (let e = h.starts in omega arith) in let y = get_or_append_left c.counts (length ids ∷ []) 0 i (let e = h.counts in omega arith) in omega arith
+      | inr (inr b) ↦ let u = length_push c.starts (length c.slots) in let v = length_push c.counts (length ids) in let m = h.starts in let n = h.counts in let x = get_or_past (c.starts ++ length c.slots ∷ []) i 0 (omega arith) in let y = get_or_past (c.counts ++ length ids ∷ []) i 0 (omega arith) in omega arith
+    ])
 
 pub AreEntries-appended : (c d : Entries) {k : NodeKind} {s : Span} {o : Op} {f : NodeFlags} {name : Option (List ℕ)} {ids : List (Option NodeId)} → AreEntries c → Appended c d k s o f name ids → AreEntries d
 AreEntries-appended c d {k} {s} {o} {f} {name} {ids} h a =
@@ -127,7 +129,8 @@ AreEntries-appended c d {k} {s} {o} {f} {name} {ids} h a =
       starts = (let l = length_push c.starts (length c.slots) in let e = h.starts in rw (n, a.starts) (omega arith));
       counts = (let l = length_push c.counts (length ids) in let e = h.counts in rw (n, a.counts) (omega arith));
       ranges = appended_range c d h a;
-      names = λ i b. a.names i (omega arith) ∙ h.names i (omega arith) }
+      names = λ i b. a.names i (omega arith) ∙ h.names i (omega arith);
+    }
 
 -- Program's entries alone
 pub rows-new : (d : Entries) → d.kinds ≡ node.Program ∷ [] → d.ops ≡ op.None ∷ [] → d.flags ≡ 0 ∷ [] → d.spans ≡ record { start = 0; end = 0 } ∷ [] → d.starts ≡ 0 ∷ [] → d.counts ≡ 0 ∷ [] → d.slots ≡ [] → d.names 0 ≡ None → rows d ≡ empty_program ∷ []

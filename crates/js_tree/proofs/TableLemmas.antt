@@ -25,9 +25,10 @@ pub table-set : {A : Type 0} (f g : ℕ → A) (n i : ℕ) (x : A) → i < n →
 table-set f g n i x h others at =
     same_lists _ _ (length-table g n ∙ sym (length-set (table f n) i x ∙ length-table f n))
     (λ k d b. let w : k < n = (let l = length-table g n in omega arith) in
-      elim (cases_eq k i) [
-        inl e ↦ get-table g n k d w ∙ (ap g e ∙ at) ∙ sym (ap (λ m. get_or (set (table f n) i x) m d) e ∙ get_or-set_same (table f n) i x d (let l = length-table f n in omega arith))
-      | inr ne ↦ get-table g n k d w ∙ others k w ne ∙ sym (get_or-set_other (table f n) i k x d ne ∙ get-table f n k d w) ])
+    elim (cases_eq k i) [
+      | inl e ↦ get-table g n k d w ∙ (ap g e ∙ at) ∙ sym (ap (λ m. get_or (set (table f n) i x) m d) e ∙ get_or-set_same (table f n) i x d (let l = length-table f n in omega arith))
+      | inr ne ↦ get-table g n k d w ∙ others k w ne ∙ sym (get_or-set_other (table f n) i k x d ne ∙ get-table f n k d w)
+    ])
 
 -- the first replaced
 pub set-first : {A : Type 0} (xs : List A) (x : A) → 0 < length xs → set xs 0 x ≡ x ∷ drop 1 xs

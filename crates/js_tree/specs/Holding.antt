@@ -45,6 +45,7 @@ pub record Holds (ns : List Node) (lo hi id : ℕ) (l : Label) (cs : Slots) : Ty
 
 -- the same of a list of slots
 pub record HoldsAll (ns : List Node) (lo hi : ℕ) (ids : List (Option NodeId)) (cs : Slots) : Type 0 where
+  pub order : lo ≤ hi
   pub numbers : List ℕ
   pub stands : StandsAll ns (length ns) ids cs numbers
   pub within : AreWithin lo hi numbers

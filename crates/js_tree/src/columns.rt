@@ -178,8 +178,18 @@ impl Columns {
         let start = place_of(self.slots.len())?;
         let count = place_of(children.len())?;
         let id = NodeId(self.kinds.len());
-        make_room(&mut self.kinds, &mut self.ops, &mut self.flags, &mut self.spans)?;
-        make_child_room(&mut self.starts, &mut self.counts, &mut self.slots, children.len())?;
+        make_room(
+            &mut self.kinds,
+            &mut self.ops,
+            &mut self.flags,
+            &mut self.spans,
+        )?;
+        make_child_room(
+            &mut self.starts,
+            &mut self.counts,
+            &mut self.slots,
+            children.len(),
+        )?;
         keep_name(&mut self.names, id.0, name)?;
         put(&mut self.kinds, kind);
         put(&mut self.ops, op);
