@@ -9,3 +9,4 @@ pub mod SpellingLemmas
 pub mod StackLemmas
 pub mod WeightLemmas
 pub mod BindingLemmas
+pub mod WalkLemmas

@@ -2,6 +2,8 @@ pub mod Labels
 pub mod Nodes
 pub mod Holding
 pub mod Bits
+pub mod Counting
+pub mod Walking
 pub mod Parts
 pub mod Binding
 pub mod Sources

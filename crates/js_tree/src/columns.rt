@@ -227,6 +227,14 @@ impl Columns {
         Ok(columns)
     }
 
+    /// How many nodes there are; there is one at least.
+    pub(crate) fn len(&self) -> usize
+        ensures len { result ≡ length self.now }
+        ensures some { 0 < length self.now }
+    {
+        self.kinds.len()
+    }
+
     /// Whether a node has the number.
     #[inline]
     pub(crate) fn contains(&self, id: NodeId) -> bool

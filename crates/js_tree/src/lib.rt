@@ -8,6 +8,7 @@ mod columns;
 mod flags;
 mod id;
 mod kind;
+mod lines;
 mod op;
 mod reading;
 mod tree;
