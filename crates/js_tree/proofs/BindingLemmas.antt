@@ -80,7 +80,8 @@ first_stands all g (next_child {l = l} {cs = cs} {us = us} {rs = rs} {ss = ss} b
   numbers = rs ++ [];
   stands = next_child b h no_slots;
   among = subst (AreAmong all) (sym (append-nil rs)) (AreAmong-left all rs ss g);
-  names = ap (λ (x : List Label). own_or (part_of l.kind) l (bound_in (part_of l.kind) cs) ++ x) (sym (nothing_bound us)) }
+  names = ap (λ (x : List Label). own_or (part_of l.kind) l (bound_in (part_of l.kind) cs) ++ x) (sym (nothing_bound us));
+}
 first_stands all g (next_hole {us = us} a) = record { slots = hole end; numbers = []; stands = next_hole no_slots; among = tt; names = sym (nothing_bound us) }
 
 second_stands : {ns : List Node} {below : ℕ} {ids : List (Option NodeId)} {cs : Slots} {rs : List ℕ} (all : List ℕ) → AreAmong all rs → StandsAll ns below ids cs rs → PartStands ns below (take 1 (drop 1 ids)) all (bound_in bound.second cs)
@@ -138,7 +139,8 @@ opened {ns} {all} id n ps u e (stands {cs} {rs} m h a) g r =
       inner = bound_in p cs;
       stacked = rw e (subst (λ (t : List Label). Stacked (Means ns all) (ps ++ below_all m (chosen p x.children)) (t ++ u)) s.names st);
       labels = rw e (found_labels ns p (record { 0 = m }) (label x) cs refl ∙ sym (append-nil (own_or p (label x) (bound_in p cs))));
-      among = rw e (own_in all p (record { 0 = m }) g.0) }
+      among = rw e (own_in all p (record { 0 = m }) g.0);
+    }
 
 pub Searched-start : {ns : List Node} {l : Label} {cs : Slots} {rs : List ℕ} (id : NodeId) → Stands ns id.0 l cs rs → Searched ns rs (id ∷ []) [] (bound_names l cs)
 Searched-start {ns} {l} {cs} {rs} id h = record { rest = bound_names l cs; stacked = Stacked-one id (bound_names l cs) (record { label = l; slots = cs; numbers = rs; stands = h; among = among_self rs; names = refl }); labels = refl; among = tt }
@@ -153,7 +155,8 @@ Searched-step {ns} {all} {whole} ps id found s =
       rest = o.inner ++ x.rest;
       stacked = o.stacked;
       labels = ap (λ (y : List Label). y ++ (o.inner ++ x.rest)) (map-append f found (found_at ns id)) ∙ append_assoc (map f found) (map f (found_at ns id)) (o.inner ++ x.rest) ∙ ap (λ (y : List Label). map f found ++ y) (sym (append_assoc (map f (found_at ns id)) o.inner x.rest) ∙ ap (λ (y : List Label). y ++ x.rest) (o.labels ∙ sym m.names) ∙ sym x.whole) ∙ s.labels;
-      among = AreIn-append all found (found_at ns id) s.among o.among }
+      among = AreIn-append all found (found_at ns id) s.among o.among;
+    }
 
 pub Searched-end : {ns : List Node} {l : Label} {cs : Slots} {rs : List ℕ} (found : List NodeId) → Searched ns rs [] found (bound_names l cs) → Binds ns found l cs rs
 Searched-end {ns} found s = record { labels = sym (append-nil (map (λ (i : NodeId). label (node_at ns i)) found)) ∙ ap (λ (y : List Label). map (λ (i : NodeId). label (node_at ns i)) found ++ y) (sym (Stacked-none s.stacked)) ∙ s.labels; reached = s.among }

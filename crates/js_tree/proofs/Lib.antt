@@ -10,3 +10,4 @@ pub mod StackLemmas
 pub mod WeightLemmas
 pub mod BindingLemmas
 pub mod WalkLemmas
+pub mod CountLemmas

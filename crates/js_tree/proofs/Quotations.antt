@@ -135,4 +135,5 @@ literal bytes u h =
       starts_whole = IsCharBoundary-after_ascii bytes 0 u (omega arith) (omega arith);
       ends_whole = IsCharBoundary-before_ascii bytes (length bytes - 1) (omega arith) (omega arith);
       inside = λ part p. sym (chars_from_encodes v part (v, (fine, sym (p ∙ part_is))) (sym (p ∙ part_is))) ∙ sym s.same;
-      right = s.right }
+      right = s.right;
+    }

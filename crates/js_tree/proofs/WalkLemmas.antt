@@ -93,7 +93,8 @@ open_node {ns} d id n ps u v e (stands {cs} {rs} m h a) q r =
     rw (e, lt-ltb m (length ns) h, add-one) record {
       rest = slots_text (suc d) cs ++ u;
       stacked = pending_stacked (suc d) ps u a r;
-      parts = ap (λ (w : List ℕ). w ++ u) q ∙ node_first (indent d) (label_text (label (get_or ns m empty_program))) (slots_text (suc d) cs) u }
+      parts = ap (λ (w : List ℕ). w ++ u) q ∙ node_first (indent d) (label_text (label (get_or ns m empty_program))) (slots_text (suc d) cs) u;
+    }
 
 open_slot : {ns : List Node} (d : ℕ) (s : Option NodeId) (ps : List PendingSlot) (u v : List ℕ) → SlotMeans ns d s v → Stacked (Means ns) ps u → Entered ns (ps ++ slot_within ns d s) (indent d ++ (text_at ns s ++ 10 ∷ [])) (v ++ u)
 open_slot d None ps u v (a_hole e) r = record { rest = u; stacked = rw append-nil r; parts = ap (λ (w : List ℕ). w ++ u) e }
@@ -125,7 +126,8 @@ Walked-start ns t h =
     rw (f.0, f.1, h.label) record {
       rest = slots_text 1 t.slots ++ [];
       stacked = s;
-      parts = sym (append_assoc (label_text (label h.program)) (10 ∷ []) (slots_text 1 t.slots ++ [])) }
+      parts = sym (append_assoc (label_text (label h.program)) (10 ∷ []) (slots_text 1 t.slots ++ []));
+    }
 
 pub Walked-step : {ns : List Node} (ps : List PendingSlot) (p : PendingSlot) (out whole : List ℕ) → Walked ns (ps ++ p ∷ []) out whole → Walked ns (ps ++ within ns p) (out ++ line_at ns p) whole
 Walked-step {ns} ps p out whole w =

@@ -68,19 +68,13 @@ fn chosen(part: Part, slots: &[Option<NodeId>]) -> &[Option<NodeId>]
     match part {
         Part::Nothing | Part::Itself => &[],
         Part::First => &slots[..slots.len().min(1)],
-        Part::Second => {
-            if slots.len() < 2 {
-                &[]
-            } else {
-                &slots[1..2]
-            }
-        }
+        Part::Second => { if slots.len() < 2 { &[] } else { &slots[1..2] } }
         Part::Every => slots,
     }
 }
 
 /// Puts the children in slots on the stack, the first on top, but for those whose number isn't below the bound.
-fn push_children(
+pub(crate) fn push_children(
     stack: &mut Vec<NodeId>,
     below: usize,
     slots: &[Option<NodeId>],

@@ -2,7 +2,9 @@
 
 ghost use Rattle.std.specs.Prelude.{◌≡◌, ◌<◌, ◌↔◌, ◌∷◌, [], length, map, is_some, slice_get, IfOk, IsTrue, Some, None, ℕ, List, chars};
 ghost use Rattle.js_base.specs.Spans.{LiesIn};
-ghost use Rattle.js_grammar.specs.Trees.{Label, Slots};
+ghost use Rattle.js_grammar.specs.Trees.{Label, Slots, Tree as SeenTree};
+ghost use Rattle.js_grammar.specs.Lines.{tree_text};
+ghost use Rattle.js_tree.specs.Counting.{IsCount};
 ghost use Rattle.js_tree.specs.Nodes.{node_at, new_node, empty_program, flags_set, program_node};
 ghost use Rattle.js_tree.specs.Holding.{Makes, Stands, HoldsAll, IsTree, with_program, program_tree};
 ghost use Rattle.js_tree.specs.Sources.{text_of, name_of, IsString, units_of, raw_bytes, digit_bytes, IsKey, prop_name_of};
@@ -24,6 +26,7 @@ use std::marker::Model;
 /// tree is finished.
 #[derive(Drop)]
 pub struct ParserAstBuilder {
+    alloc: Global,
     columns: Columns,
 }
 
@@ -42,6 +45,7 @@ impl ParserAstBuilder {
         ensures { IfOk result (λ ns. ns ≡ empty_program ∷ []) }
     {
         Ok(ParserAstBuilder {
+            alloc,
             columns: Columns::new(alloc)?,
         })
     }
@@ -118,8 +122,7 @@ impl ParserAstBuilder {
     ) -> Result<NodeId, NoMemory>
         ensures { Makes (new_node kind span op flags None children) self.old self.new result }
     {
-        self.columns
-            .append(kind, span, op, flags, None, &children)
+        self.columns.append(kind, span, op, flags, None, &children)
     }
 
     /// Gives a node these flags; all else stays.
@@ -136,8 +139,10 @@ impl ParserAstBuilder {
         ensures nodes { IfOk result (λ t. t ≡ with_program (program_node span children.items) self) }
         ensures tree { IfOk result (λ t. (cs : Slots) → HoldsAll self 1 (length self) children.items cs → IsTree t (program_tree span cs)) }
     {
+        let alloc = self.alloc;
         let columns = self.columns.finish(span, children.as_slice())?;
-        Ok(Tree::new(columns))
+        let node_count = columns.count_nodes(alloc)?;
+        Ok(Tree::new(columns, node_count))
     }
 
     /// Whether the number is of this builder.
@@ -292,7 +297,12 @@ impl ParserAstBuilder {
     /// The name of a key: of a name, of a private name without its `#`, or the text of a string literal without a lone
     /// surrogate; none of any other node. Condition: as in `text`, and the text of a StringLiteral is a string literal. The
     /// only error is want of memory.
-    pub fn prop_name(&self, alloc: Global, id: NodeId, source: &str) -> Result<Option<Text>, NoMemory>
+    pub fn prop_name(
+        &self,
+        alloc: Global,
+        id: NodeId,
+        source: &str,
+    ) -> Result<Option<Text>, NoMemory>
         requires contained { id.0 < length self.now }
         requires lies { LiesIn (node_at self.now id).span source.now }
         requires key { IsKey (node_at self.now id).kind (node_at self.now id) source.now }

@@ -5,6 +5,7 @@ mod bits;
 mod bound;
 mod builder;
 mod columns;
+mod count;
 mod flags;
 mod id;
 mod kind;

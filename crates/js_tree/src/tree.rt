@@ -2,7 +2,9 @@
 
 ghost use Rattle.std.specs.Prelude.{◌≡◌, ◌<◌, ◌↔◌, ◌∷◌, [], length, map, is_some, slice_get, IfOk, IsTrue, Some, None, ℕ, List, chars};
 ghost use Rattle.js_base.specs.Spans.{LiesIn};
-ghost use Rattle.js_grammar.specs.Trees.{Label, Slots};
+ghost use Rattle.js_grammar.specs.Trees.{Label, Slots, Tree as SeenTree};
+ghost use Rattle.js_grammar.specs.Lines.{tree_text};
+ghost use Rattle.js_tree.specs.Counting.{IsCount};
 ghost use Rattle.js_tree.specs.Nodes.{node_at, new_node, empty_program, flags_set, program_node};
 ghost use Rattle.js_tree.specs.Holding.{Makes, Stands, HoldsAll, IsTree, with_program, program_tree};
 ghost use Rattle.js_tree.specs.Sources.{text_of, name_of, IsString, units_of, raw_bytes, digit_bytes, IsKey, prop_name_of};
@@ -24,6 +26,7 @@ use std::marker::Model;
 #[derive(Drop)]
 pub struct Tree {
     columns: Columns,
+    node_count: usize,
 }
 
 impl Model for Tree {
@@ -33,14 +36,22 @@ impl Model for Tree {
     ghost Value = { List Node };
 
     ghost view = { λ t. t.columns };
+
+    ghost use Rattle.js_tree.specs.Counting.{IsCount};
+
+    ghost invariant = { λ t. IsCount t.columns t.node_count };
 }
 
 impl Tree {
     /// The tree of finished columns.
-    pub(crate) fn new(columns: Columns) -> Tree
+    pub(crate) fn new(columns: Columns, node_count: usize) -> Tree
+        requires { IsCount columns node_count }
         ensures { result ≡ columns }
     {
-        Tree { columns }
+        Tree {
+            columns,
+            node_count,
+        }
     }
 
     /// Whether the number is of this tree.
@@ -195,12 +206,33 @@ impl Tree {
     /// The name of a key: of a name, of a private name without its `#`, or the text of a string literal without a lone
     /// surrogate; none of any other node. Condition: as in `text`, and the text of a StringLiteral is a string literal. The
     /// only error is want of memory.
-    pub fn prop_name(&self, alloc: Global, id: NodeId, source: &str) -> Result<Option<Text>, NoMemory>
+    pub fn prop_name(
+        &self,
+        alloc: Global,
+        id: NodeId,
+        source: &str,
+    ) -> Result<Option<Text>, NoMemory>
         requires contained { id.0 < length self.now }
         requires lies { LiesIn (node_at self.now id).span source.now }
         requires key { IsKey (node_at self.now id).kind (node_at self.now id) source.now }
         ensures { IfOk result (λ name. name ≡ prop_name_of (node_at self.now id) source.now) }
     {
         self.columns.prop_name(alloc, id, source)
+    }
+
+    /// How many nodes are reached from Program, its own included.
+    pub fn node_count(&self) -> usize
+        ensures { IsCount self.now result }
+    {
+        self.node_count
+    }
+
+    /// The lines of the tree, a node before its own slots: two spaces for each level, the kind, the span, the op where there
+    /// is one, and the flags that are set; an empty slot is a `-`. They are counted first, and their memory is taken once;
+    /// more than 2,147,483,648 bytes count as want of memory, which is the only error.
+    pub fn tree_lines(&self, alloc: Global) -> Result<Vec<u8>, NoMemory>
+        ensures { IfOk result (λ bytes. (t : SeenTree) → IsTree self.now t → bytes.items ≡ tree_text t) }
+    {
+        self.columns.tree_lines(alloc)
     }
 }

@@ -9,8 +9,9 @@ use Rattle.js_tree.proofs.reading.spelled.Goals.{in-Some+in_ok-push, in_default}
 
 pub loop-i-preserved : goal.loop-i-preserved
 loop-i-preserved c = elim c.match-unit.branch [
-    in-Some+in_ok-push w ↦ rw (w.all-is, w.in_ok-push.ensures.items, c.loop-i.invariant) (sym (next_unit c.args.units.now c.loop-i.i w.in-Some.unit (sym c.unit.ensures ∙ w.in-Some.is)))
-  | in_default w ↦ absurd (no_unit c.args.units.now c.loop-i.i (omega (arith, c.len-i-end.ensures)) (sym c.unit.ensures ∙ w.in_default.is)) ]
+  | in-Some+in_ok-push w ↦ rw (w.all-is, w.in_ok-push.ensures.items, c.loop-i.invariant) (sym (next_unit c.args.units.now c.loop-i.i w.in-Some.unit (sym c.unit.ensures ∙ w.in-Some.is)))
+  | in_default w ↦ absurd (no_unit c.args.units.now c.loop-i.i (omega (arith, c.len-i-end.ensures)) (sym c.unit.ensures ∙ w.in_default.is))
+]
 
 pub returns-in-Ok : goal.returns-in-Ok
 returns-in-Ok c =

@@ -1,4 +1,3 @@
-
 use Rattle.js_grammar.specs.Trees.{Tree}
 use Rattle.js_grammar.specs.Lines.{tree_text}
 use Rattle.js_tree.specs.Holding.{IsTree}
