@@ -2,6 +2,7 @@
 use Rattle.std.proofs.Common.{◌≡◌, ℕ, ◌+◌, ◌*◌, ◌/◌, ◌%◌, ◌==◌, Bool, true, false, refl, arith, ap, eq-eqb}
 use Rattle.js_tree.specs.declared.flags.NodeFlags.{NodeFlags}
 use Rattle.js_tree.specs.Labels.{with_bit, number_of}
+use Rattle.js_tree.specs.Nodes.{no_flags}
 use Rattle.js_tree.specs.Bits.{low, above, flags_of}
 
 half : (b : Bool) (n : ℕ) → with_bit b n / 2 ≡ n
@@ -15,3 +16,7 @@ lowest false n = let e : (2 * n) % 2 ≡ 0 = omega arith in rw e
 pub flags_of-number_of : (f : NodeFlags) → flags_of (number_of f) ≡ f
 unfolding flags_of
 flags_of-number_of f = simp (half, lowest)
+
+pub flags_of-none : flags_of 0 ≡ no_flags
+unfolding flags_of
+flags_of-none = refl

@@ -8,7 +8,7 @@ ghost use Rattle.js_tree.specs.Names.{kept_name};
 ghost use Rattle.js_tree.specs.Rooms.{HasRoom};
 ghost use Rattle.std.specs.Vec.{vec_capacity};
 ghost use Rattle.js_tree.specs.Labels.{number_of};
-ghost use Rattle.js_tree.specs.Nodes.{node_at, new_node, empty_program, flags_set, program_node};
+ghost use Rattle.js_tree.specs.Nodes.{node_at, no_flags, new_node, empty_program, flags_set, program_node};
 ghost use Rattle.js_tree.specs.Holding.{Makes, with_program};
 
 use crate::bits::{bits_of, flags_of};
@@ -20,6 +20,16 @@ use js_base::{NoMemory, Span, Text};
 use std::alloc::Global;
 use std::collections::BTreeMap;
 use std::marker::Model;
+
+/// The bytes of a node's entries, its slots aside.
+const ENTRY_SIZE: usize = size_of::<NodeKind>()
+    + size_of::<Op>()
+    + size_of::<u16>()
+    + size_of::<Span>()
+    + size_of::<u32>()
+    + size_of::<u32>();
+
+const _: () = prove!(ENTRY_SIZE == 21);
 
 /// The nodes made so far, in columns.
 #[derive(Drop)]
@@ -266,6 +276,15 @@ impl Columns {
         ensures { result ≡ (node_at self.now id).flags }
     {
         flags_of(self.flags[id.0])
+    }
+
+    /// Whether no flag of a node is set.
+    #[inline]
+    pub(crate) fn has_no_flag(&self, id: NodeId) -> bool
+        requires { id.0 < length self.now }
+        ensures { IsTrue result → (node_at self.now id).flags ≡ no_flags }
+    {
+        self.flags[id.0] == 0
     }
 
     /// The span of a node.

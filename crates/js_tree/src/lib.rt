@@ -20,3 +20,6 @@ pub use id::NodeId;
 pub use kind::NodeKind;
 pub use op::{BigintBase, ClauseWord, DeclarationKind, MethodKind, NumberBase, Op, PropertyKind};
 pub use tree::Tree;
+
+#[cfg(test)]
+mod tests;

@@ -196,6 +196,9 @@ impl Columns {
         out.push(b' ')?;
         write_span(out, self.span(id))?;
         write_op(out, self.op(id))?;
+        if self.has_no_flag(id) {
+            return Ok(());
+        }
         write_flags(out, bits_of(self.flags(id)))
     }
 
