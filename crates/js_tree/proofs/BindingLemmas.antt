@@ -1,6 +1,6 @@
 -- The walk that finds the names that a tree binds.
-use Rattle.std.proofs.Common.{◌≡◌, ℕ, zero, suc, ◌+◌, ◌<◌, ◌≤◌, ◌⊎◌, inl, inr, Bool, true, false, cond, List, [], ◌∷◌, ◌++◌, map, Option, Some, None, nat_lt, get_or, take, drop, refl, ap, sym, ◌∙◌, subst, arith, lt-ltb, append_assoc, append-nil, if◌then◌else◌}
-use Rattle.std.proofs.lemmas.List.{map_push, map-append}
+use Rattle.std.proofs.Common.{◌≡◌, ℕ, inl, inr, List, [], ◌∷◌, ◌++◌, map, Option, get_or, take, drop, refl, ap, sym, ◌∙◌, subst, lt-ltb, append_assoc, append-nil}
+use Rattle.std.proofs.lemmas.List.{map-append}
 use Rattle.js_grammar.specs.Trees.{Label, Slots, end, hole, tree}
 use Rattle.js_grammar.specs.BoundNames.{Part, part_of, takes, behind, own_or, bound_in, bound_names}
 use Rattle.js_grammar.specs.BoundNames as bound
@@ -10,7 +10,7 @@ use Rattle.js_tree.specs.Holding.{Stands, stands, StandsAll, no_slots, next_chil
 use Rattle.js_tree.specs.Binding.{IsIn, AreIn, Binds}
 use Rattle.js_tree.specs.Labels.{kind_of}
 use Rattle.js_tree.specs.Parts.{chosen, own, below_all, found_at, due_at}
-use Rattle.js_tree.proofs.StackLemmas.{Stacked, bottom, above, Stacked-push, Stacked-pop, Popped, Stacked-none, Stacked-one}
+use Rattle.js_tree.proofs.StackLemmas.{Stacked, Stacked-push, Stacked-pop, Stacked-none, Stacked-one}
 
 -- each number of the one list is in the other
 abbrev pub AreAmong : List ℕ → List ℕ → Type 0

@@ -1,9 +1,9 @@
 -- The flags of the number of flags are these flags.
-use Rattle.std.proofs.Common.{◌≡◌, ℕ, ◌+◌, ◌*◌, ◌/◌, ◌%◌, ◌==◌, Bool, true, false, refl, arith, ap, eq-eqb}
+use Rattle.std.proofs.Common.{◌≡◌, ℕ, ◌+◌, ◌*◌, ◌/◌, ◌%◌, Bool, true, false, refl, arith}
 use Rattle.js_tree.specs.declared.flags.NodeFlags.{NodeFlags}
 use Rattle.js_tree.specs.Labels.{with_bit, number_of}
 use Rattle.js_tree.specs.Nodes.{no_flags}
-use Rattle.js_tree.specs.Bits.{low, above, flags_of}
+use Rattle.js_tree.specs.Bits.{low, flags_of}
 
 half : (b : Bool) (n : ℕ) → with_bit b n / 2 ≡ n
 half true n = omega arith

@@ -1,14 +1,14 @@
 -- The walk that counts the nodes of a tree.
-use Rattle.std.proofs.Common.{◌≡◌, ℕ, zero, suc, ◌+◌, ◌<◌, ◌≤◌, cond, List, [], ◌∷◌, ◌++◌, length, Option, Some, None, nat_lt, get_or, slice_get, refl, ap, sym, ◌∙◌, subst, arith, lt-ltb, append_assoc, append-nil, length-append}
-use Rattle.js_grammar.specs.Trees.{Label, Slots, end, hole, tree, Tree}
+use Rattle.std.proofs.Common.{◌≡◌, ℕ, suc, ◌+◌, ◌<◌, List, [], ◌∷◌, ◌++◌, length, Option, Some, get_or, slice_get, refl, ap, sym, ◌∙◌, subst, arith, lt-ltb, append_assoc, append-nil, length-append}
+use Rattle.js_grammar.specs.Trees.{Label, Slots, Tree}
 use Rattle.js_grammar.specs.BoundNames.{every}
 use Rattle.js_tree.specs.declared.id.NodeId.{NodeId}
 use Rattle.js_tree.specs.Nodes.{Node, node_at, empty_program}
 use Rattle.js_tree.specs.Holding.{Stands, stands, StandsAll, no_slots, next_child, next_hole, IsTree}
 use Rattle.js_tree.specs.Counting.{nodes_in, count_of}
 use Rattle.js_tree.specs.Parts.{below_all}
-use Rattle.js_tree.proofs.StackLemmas.{Stacked, bottom, above, Stacked-push, Stacked-pop, Stacked-none}
-use Rattle.js_tree.proofs.WeightLemmas.{stack_weight, stack_weight-append, part_below_lighter, weight}
+use Rattle.js_tree.proofs.StackLemmas.{Stacked, bottom, Stacked-push, Stacked-pop, Stacked-none}
+use Rattle.js_tree.proofs.WeightLemmas.{stack_weight, stack_weight-append, part_below_lighter}
 
 -- a number on the stack: the numbers that it reaches
 pub record Means (ns : List Node) (id : NodeId) (rs : List ℕ) : Type 0 where

@@ -1,5 +1,5 @@
 -- How trees that numbers stand for are put together and kept.
-use Rattle.std.proofs.Common.{◌≡◌, ℕ, zero, suc, ◌+◌, ◌-◌, ◌<◌, ◌≤◌, List, [], ◌∷◌, ◌++◌, length, get_or, set, drop, slice_get, Option, Some, None, refl, ap, sym, ◌∙◌, subst, arith, length-append, length-set, length-drop, append-nil, append_assoc, get_or-set_same, get_or-set_other}
+use Rattle.std.proofs.Common.{◌≡◌, ℕ, zero, suc, ◌-◌, ◌<◌, ◌≤◌, List, [], ◌∷◌, ◌++◌, length, get_or, set, drop, Option, Some, None, refl, ap, sym, ◌∙◌, subst, arith, length-append, length-set, append-nil, append_assoc, get_or-set_same, get_or-set_other}
 use Rattle.std.proofs.lemmas.List.{get_or_append_left, get_or_push, length_push, set-append_right}
 use Rattle.js_base.specs.declared.span.Span.{Span}
 use Rattle.js_grammar.specs.Trees.{Label, Slots, end, hole, tree, append}

@@ -1,6 +1,6 @@
 -- A string literal as its quotes and what stands between them.
-use Rattle.std.proofs.Common.{◌≡◌, ◌<◌, ◌≤◌, ℕ, suc, ◌+◌, ◌-◌, ◌==◌, Bool, true, false, List, [], ◌∷◌, ◌++◌, refl, sym, ap, subst, ◌∙◌, not, ◌&&◌, ◌||◌, inl, inr, Some, None, take, drop, length, get_or, length-append, arith}
-use Rattle.std.specs.Prelude.{chars, encode_utf8, encode_utf8_all, IsUtf8, IsCharBoundary, slice_range, is_some, IsSome}
+use Rattle.std.proofs.Common.{◌≡◌, ◌<◌, ◌≤◌, ℕ, suc, ◌+◌, ◌-◌, ◌==◌, Bool, true, false, List, [], ◌∷◌, ◌++◌, refl, sym, ap, ◌∙◌, not, ◌&&◌, ◌||◌, inl, inr, Some, None, take, drop, length, get_or, length-append, arith}
+use Rattle.std.specs.Prelude.{chars, encode_utf8_all, IsUtf8, IsCharBoundary, slice_range, is_some, IsSome}
 use Rattle.std.proofs.Math.Seq.{take-append_seam}
 use Rattle.std.proofs.Math.Utf8.{scalars, scalar}
 use Rattle.std.proofs.lemmas.Bool.{eqb-true}

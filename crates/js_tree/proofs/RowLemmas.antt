@@ -1,5 +1,5 @@
 -- What a change of columns is as a change of the list of nodes.
-use Rattle.std.proofs.Common.{◌≡◌, ℕ, zero, suc, ◌+◌, ◌<◌, ◌≤◌, ◌⊎◌, List, [], ◌∷◌, ◌++◌, map, length, get_or, take, drop, set, Option, Some, None, refl, ap, sym, ◌∙◌, subst, arith, add-one, inl, inr, length-set, length-drop, get_or-set_same, get_or-set_other, append-nil, length-append, eq-eqb}
+use Rattle.std.proofs.Common.{◌≡◌, ℕ, zero, suc, ◌+◌, ◌<◌, ◌≤◌, List, [], ◌∷◌, ◌++◌, map, length, get_or, take, drop, set, Option, Some, None, refl, ap, sym, ◌∙◌, subst, arith, add-one, inl, inr, length-set, length-drop, get_or-set_same, get_or-set_other, length-append, eq-eqb}
 use Rattle.std.proofs.lemmas.List.{get_or_append_left, get_or_push, get_or_past, length_push, take-append-le, drop-append-le, drop_at, take_all, take_more, map_push, get_or_read}
 use Rattle.std.proofs.lemmas.Bool.{cases_order, ne_eqb}
 use Rattle.std.specs.Ordering.{nat_cmp}
@@ -13,7 +13,7 @@ use Rattle.js_tree.specs.declared.op.Op.{Op}
 use Rattle.js_tree.specs.declared.op.Op.TheVariants as op
 use Rattle.js_tree.specs.Bits.{flags_of}
 use Rattle.js_tree.specs.Nodes.{Node, new_node, node_at, empty_program, program_node, with_flags, flags_set}
-use Rattle.js_tree.specs.Holding.{Made, with_program}
+use Rattle.js_tree.specs.Holding.{with_program}
 use Rattle.js_tree.specs.Names.{kept_name}
 use Rattle.js_tree.specs.Rows.{Entries, table, row, rows, AreEntries}
 use Rattle.js_tree.proofs.TableLemmas.{length-table, get-table, table-same, table-more, table-set, set-first}

@@ -1,8 +1,7 @@
 -- The text that code units spell.
-use Rattle.std.proofs.Common.{◌≡◌, ◌+◌, ◌<◌, ℕ, zero, suc, Bool, true, false, List, [], ◌∷◌, ◌++◌, Some, None, Option, length, take, slice_get, refl, sym, ap, ◌∙◌, arith, add-one, if◌then◌else◌}
+use Rattle.std.proofs.Common.{◌≡◌, ◌+◌, ◌<◌, ℕ, zero, suc, false, List, [], ◌∷◌, ◌++◌, Some, None, length, take, slice_get, refl, ap, arith, add-one}
 use Rattle.std.specs.Prelude.{encode_utf8_all}
 use Rattle.std.specs.Char.Utf16.{has_unpaired_surrogate, utf16_lossy_chars}
-use Rattle.std.proofs.lemmas.List.{take_more}
 use Rattle.js_tree.specs.Sources.{spelled}
 
 -- the units up to a place and the one there

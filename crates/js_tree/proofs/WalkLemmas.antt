@@ -1,15 +1,15 @@
 -- The walk over the nodes: it ends, and what it has written and what is still to be written make up the lines of the tree.
-use Rattle.std.proofs.Common.{◌≡◌, ℕ, zero, suc, ◌+◌, ◌<◌, ◌≤◌, Bool, true, false, cond, List, [], ◌∷◌, ◌++◌, length, Option, Some, None, slice_get, get_or, drop, nat_lt, refl, ap, sym, ◌∙◌, subst, arith, append_assoc, append-nil, ltb-true, lt-ltb, add-one, length-append, nat_eq, ◌%◌, ◌/◌}
-use Rattle.js_grammar.specs.Trees.{Label, Slots, end, hole, tree, Tree}
+use Rattle.std.proofs.Common.{◌≡◌, ℕ, zero, suc, ◌+◌, ◌<◌, ◌≤◌, Bool, true, false, cond, List, [], ◌∷◌, ◌++◌, length, Option, Some, None, slice_get, get_or, drop, nat_lt, refl, ap, sym, ◌∙◌, arith, append_assoc, append-nil, ltb-true, lt-ltb, add-one, length-append, nat_eq, ◌%◌, ◌/◌}
+use Rattle.js_grammar.specs.Trees.{Label, Slots, Tree}
 use Rattle.js_grammar.specs.Lines.{label_text, indent, slots_text, tree_text, words_of, flag_words}
-use Rattle.std.proofs.lemmas.List.{drop_more, get_or_default}
+use Rattle.std.proofs.lemmas.List.{drop_more}
 use Rattle.js_tree.specs.declared.id.NodeId.{NodeId}
 use Rattle.js_tree.specs.declared.lines.PendingSlot.{PendingSlot}
 use Rattle.js_tree.specs.Nodes.{Node, label, node_at, empty_program}
 use Rattle.js_tree.specs.Holding.{Stands, stands, StandsAll, no_slots, next_child, next_hole, IsTree}
-use Rattle.js_tree.specs.Walking.{text_at, line_at, is_slot_below, pending, slot_within, within}
-use Rattle.js_tree.proofs.StackLemmas.{Stacked, bottom, above, Stacked-push, Stacked-pop, Stacked-none}
-use Rattle.js_tree.proofs.WeightLemmas.{weight, slots_weight, weight-le, some_weight}
+use Rattle.js_tree.specs.Walking.{text_at, line_at, pending, slot_within, within}
+use Rattle.js_tree.proofs.StackLemmas.{Stacked, bottom, Stacked-push, Stacked-pop, Stacked-none}
+use Rattle.js_tree.proofs.WeightLemmas.{weight, slots_weight, weight-le}
 
 -- ---- the walk ends
 

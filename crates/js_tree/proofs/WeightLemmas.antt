@@ -1,5 +1,5 @@
 -- Walks over nodes end: each node weighs more than what of its children lies below it.
-use Rattle.std.proofs.Common.{◌≡◌, ℕ, zero, suc, ◌+◌, ◌-◌, ◌<◌, ◌≤◌, Bool, true, false, cond, List, [], ◌∷◌, ◌++◌, Option, Some, None, nat_lt, get_or, take, drop, refl, ap, sym, ◌∙◌, subst, arith, add-zero, add-suc, ltb-true}
+use Rattle.std.proofs.Common.{◌≡◌, ℕ, zero, suc, ◌+◌, ◌-◌, ◌<◌, ◌≤◌, Bool, true, false, cond, List, [], ◌∷◌, ◌++◌, Option, Some, None, nat_lt, get_or, refl, subst, arith, add-zero, add-suc, ltb-true}
 use Rattle.js_tree.specs.declared.id.NodeId.{NodeId}
 use Rattle.js_grammar.specs.BoundNames.{Part, part_of, none, itself, first, second, every}
 use Rattle.js_tree.specs.Nodes.{Node, node_at, empty_program}

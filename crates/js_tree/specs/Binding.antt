@@ -4,7 +4,6 @@ use Rattle.js_grammar.specs.Trees.{Label, Slots}
 use Rattle.js_grammar.specs.BoundNames.{bound_names}
 use Rattle.js_tree.specs.declared.id.NodeId.{NodeId}
 use Rattle.js_tree.specs.Nodes.{Node, label, node_at}
-use Rattle.js_tree.specs.Holding.{Stands}
 
 -- the number is in the list
 abbrev pub IsIn : List ℕ → ℕ → Type 0

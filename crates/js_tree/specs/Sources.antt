@@ -1,5 +1,5 @@
 -- What the text of a node stands for. A node is read with the text that it was made for: its span lies in that text and splits no character.
-use Rattle.std.specs.Prelude.{◌≡◌, ℕ, ◌+◌, ◌-◌, ◌==◌, Bool, true, false, not, ◌&&◌, List, [], ◌∷◌, length, take, drop, filter, if◌then◌else◌, Option, Some, None, unwrap_or, chars, encode_utf8_all, slice_range}
+use Rattle.std.specs.Prelude.{◌≡◌, ℕ, ◌-◌, ◌==◌, not, List, [], ◌∷◌, length, take, filter, if◌then◌else◌, Option, Some, None, unwrap_or, chars, encode_utf8_all, slice_range}
 use Rattle.std.specs.Char.Utf16.{has_unpaired_surrogate, utf16_lossy_chars}
 use Rattle.js_base.specs.Characters.{one_of}
 use Rattle.js_base.specs.Decoding.{string_units, raw_text}

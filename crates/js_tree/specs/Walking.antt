@@ -1,5 +1,5 @@
 -- The walk over a tree's nodes: which line a slot has, and which slots stand within it.
-use Rattle.std.specs.Prelude.{ℕ, suc, ◌+◌, ◌*◌, Bool, true, cond, List, [], ◌∷◌, ◌++◌, length, Option, Some, None, codes, nat_lt}
+use Rattle.std.specs.Prelude.{ℕ, ◌+◌, Bool, true, cond, List, [], ◌∷◌, ◌++◌, length, Option, Some, None, codes, nat_lt}
 use Rattle.js_grammar.specs.Lines.{label_text, indent}
 use Rattle.js_tree.specs.declared.id.NodeId.{NodeId}
 use Rattle.js_tree.specs.declared.lines.PendingSlot.{PendingSlot}

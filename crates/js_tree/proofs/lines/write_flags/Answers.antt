@@ -1,4 +1,3 @@
-use Rattle.std.proofs.Common.{arith}
 use Rattle.js_tree.proofs.WalkLemmas.{flags_step}
 use Rattle.js_tree.proofs.lines.write_flags.Goals as goal
 

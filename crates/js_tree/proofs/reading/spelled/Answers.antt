@@ -1,8 +1,7 @@
-use Rattle.std.proofs.Common.{◌≡◌, ◌∙◌, ◌+◌, ◌<◌, ℕ, List, ap, sym, refl, arith, Some, None, Option, length, take, slice_get}
-use Rattle.std.specs.Prelude.{encode_utf8_all, string_bytes}
+use Rattle.std.proofs.Common.{◌≡◌, ◌∙◌, ℕ, List, ap, sym, arith, Some}
+use Rattle.std.specs.Prelude.{encode_utf8_all}
 use Rattle.std.specs.Char.Utf16.{has_unpaired_surrogate, utf16_lossy_chars}
-use Rattle.std.proofs.lemmas.List.{take_more, take_all}
-use Rattle.js_tree.specs.Sources.{spelled}
+use Rattle.std.proofs.lemmas.List.{take_all}
 use Rattle.js_tree.proofs.SpellingLemmas.{spelled-paired, next_unit, no_unit}
 use Rattle.js_tree.proofs.reading.spelled.Goals as goal
 use Rattle.js_tree.proofs.reading.spelled.Goals.{in-Some+in_ok-push, in_default}

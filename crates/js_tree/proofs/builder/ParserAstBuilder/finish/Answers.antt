@@ -1,6 +1,3 @@
-use Rattle.std.proofs.Common.{◌∙◌, List, ap, subst, sym}
-use Rattle.js_tree.specs.Nodes.{Node, program_node}
-use Rattle.js_tree.specs.Holding.{IsTree, with_program, program_tree}
 use Rattle.js_tree.proofs.HoldingLemmas.{IsTree-finished}
 use Rattle.js_tree.proofs.builder.ParserAstBuilder.finish.Goals as goal
 

@@ -1,8 +1,6 @@
-use Rattle.std.proofs.Common.{◌≡◌, ℕ, ◌∙◌, ap, sym, refl, arith, length, None}
+use Rattle.std.proofs.Common.{◌≡◌, ℕ, ◌∙◌, ap, sym, refl, arith, length}
 use Rattle.std.specs.BTreeMap.{get}
 use Rattle.std.specs.Ordering.{nat_cmp}
-use Rattle.js_tree.specs.Holding.{Made}
-use Rattle.js_tree.specs.Nodes.{new_node}
 use Rattle.js_tree.specs.Rows.{entries_of}
 use Rattle.js_tree.proofs.RowLemmas.{rows-appended, Appended, kept-other, kept-same, length-rows}
 use Rattle.js_tree.proofs.columns.Columns.append.Goals as goal

@@ -1,6 +1,5 @@
-use Rattle.std.proofs.Common.{◌≡◌, List, arith, ap, [], refl}
+use Rattle.std.proofs.Common.{arith}
 use Rattle.std.proofs.lemmas.List.{nil_from_length}
-use Rattle.js_tree.specs.declared.id.NodeId.{NodeId}
 use Rattle.js_tree.proofs.BindingLemmas.{Searched-start, Searched-step, Searched-end}
 use Rattle.js_tree.proofs.WeightLemmas.{search_lighter}
 use Rattle.js_tree.proofs.columns.Columns.bound_names.Goals as goal

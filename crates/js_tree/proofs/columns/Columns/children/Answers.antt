@@ -1,4 +1,4 @@
-use Rattle.std.proofs.Common.{◌≡◌, ◌∙◌, ap, sym, refl, arith, get_or, take, drop, length, rules, ◌+◌, ◌-◌}
+use Rattle.std.proofs.Common.{◌≡◌, ap, sym, arith, length, rules, ◌+◌, ◌-◌}
 use Rattle.std.proofs.lemmas.List.{get_or_read}
 use Rattle.js_tree.specs.Nodes.{Node}
 use Rattle.js_tree.specs.Rows.{entries_of}

@@ -1,4 +1,4 @@
-use Rattle.std.proofs.Common.{arith, ltb-true, lt-ltb}
+use Rattle.std.proofs.Common.{arith}
 use Rattle.js_tree.specs.Rows.{entries_of}
 use Rattle.js_tree.proofs.RowLemmas.{length_same}
 use Rattle.js_tree.proofs.columns.Columns.contains.Goals as goal

@@ -1,11 +1,11 @@
-use Rattle.std.proofs.Common.{◌∙◌, ap, refl, arith, List, ℕ, zero, suc, ◌≡◌, set, false}
+use Rattle.std.proofs.Common.{◌∙◌, ap, refl, arith, List, ℕ, ◌≡◌, set, false}
 use Rattle.std.proofs.lemmas.Grind.{common_steps}
 use Rattle.std.specs.Ordering.{nat_cmp}
 use Rattle.std.specs.BTreeMap.{is_at}
 use Rattle.js_tree.specs.Nodes.{Node, program_node}
 use Rattle.js_tree.specs.Holding.{with_program}
 use Rattle.js_tree.specs.Rows.{entries_of}
-use Rattle.js_tree.proofs.RowLemmas.{rows-finished, Finished}
+use Rattle.js_tree.proofs.RowLemmas.{rows-finished}
 use Rattle.js_tree.proofs.columns.Columns.finish.Goals as goal
 
 other : (i : ℕ) → (i ≡ 0 → ⊥) → is_at (nat_cmp 0) i ≡ false

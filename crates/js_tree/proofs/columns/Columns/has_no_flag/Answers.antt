@@ -1,7 +1,6 @@
-use Rattle.std.proofs.Common.{◌≡◌, ◌∙◌, refl, arith, sym, ap, ℕ}
+use Rattle.std.proofs.Common.{◌∙◌, refl, arith, sym, ap}
 use Rattle.std.proofs.lemmas.Bool.{eqb-true}
 use Rattle.js_tree.specs.Bits.{flags_of}
-use Rattle.js_tree.specs.Nodes.{Node, no_flags}
 use Rattle.js_tree.specs.Rows.{entries_of}
 use Rattle.js_tree.proofs.BitLemmas.{flags_of-none}
 use Rattle.js_tree.proofs.RowLemmas.{number_below, read}

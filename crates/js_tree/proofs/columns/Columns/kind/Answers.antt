@@ -1,6 +1,5 @@
 use Rattle.std.proofs.Common.{refl, arith}
 use Rattle.js_tree.specs.declared.kind.NodeKind.TheVariants as node
-use Rattle.js_tree.specs.Nodes.{Node}
 use Rattle.js_tree.specs.Rows.{entries_of}
 use Rattle.js_tree.proofs.RowLemmas.{number_below, read}
 use Rattle.js_tree.proofs.columns.Columns.kind.Goals as goal

@@ -3,7 +3,7 @@ use Rattle.std.proofs.lemmas.List.{nil_from_length}
 use Rattle.js_grammar.specs.Lines.{tree_text}
 use Rattle.js_tree.specs.Walking.{line_at}
 use Rattle.js_tree.specs.declared.lines.PendingSlot.{PendingSlot}
-use Rattle.js_tree.proofs.WalkLemmas.{within_lighter, Counted, Counted-start, Counted-step, Counted-end}
+use Rattle.js_tree.proofs.WalkLemmas.{within_lighter, Counted-start, Counted-step, Counted-end}
 use Rattle.js_tree.proofs.columns.Columns.lines_len.Goals as goal
 
 pub loop-at-init : goal.loop-at-init

@@ -1,4 +1,4 @@
-use Rattle.std.proofs.Common.{◌∙◌, ap, refl, ◌≡◌, ℕ, List, ◌∷◌, None, []}
+use Rattle.std.proofs.Common.{refl, ◌≡◌, ℕ, List, ◌∷◌, None, []}
 use Rattle.std.specs.BTreeMap.{BTreeMap, IsEmpty, get}
 use Rattle.std.specs.Ordering.{nat_cmp}
 use Rattle.js_base.specs.declared.span.Span.{Span}

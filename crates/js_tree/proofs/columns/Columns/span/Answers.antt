@@ -1,5 +1,4 @@
 use Rattle.std.proofs.Common.{refl, arith}
-use Rattle.js_tree.specs.Nodes.{Node}
 use Rattle.js_tree.specs.Rows.{entries_of}
 use Rattle.js_tree.proofs.RowLemmas.{number_below, read}
 use Rattle.js_tree.proofs.columns.Columns.span.Goals as goal
