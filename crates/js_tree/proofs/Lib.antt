@@ -1,0 +1,13 @@
+pub mod BitLemmas
+pub mod TableLemmas
+pub mod RowLemmas
+pub mod HoldingLemmas
+pub mod SignLemmas
+pub mod Quotations
+pub mod LineLemmas
+pub mod SpellingLemmas
+pub mod StackLemmas
+pub mod WeightLemmas
+pub mod BindingLemmas
+pub mod WalkLemmas
+pub mod CountLemmas
