@@ -25,3 +25,8 @@ pub mod FirstSets
 pub mod Brackets
 pub mod Examples
 pub mod Laws
+pub mod NodeNames
+pub mod BoundNames
+pub mod ModuleRecords
+pub mod Modules
+pub mod RecordLines

@@ -1,0 +1,11 @@
+//! Module records (ECMA-262, 16.2.1.7): what the import and export declarations of a module tell.
+#![tactic(auto)]
+
+mod entry;
+mod name;
+
+pub use entry::{
+    DynamicImport, DynamicImports, ExportEntries, ExportEntry, ImportEntries, ImportEntry,
+    RequestedModule, RequestedModules,
+};
+pub use name::{ExportExportName, ExportImportName, ExportLocalName, ImportImportName, NameSpan};
