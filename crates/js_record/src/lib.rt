@@ -1,8 +1,10 @@
 //! Module records (ECMA-262, 16.2.1.7): what the import and export declarations of a module tell.
 #![tactic(auto)]
 
+mod copied;
 mod entry;
 mod name;
+mod part;
 
 pub use entry::{
     DynamicImport, DynamicImports, ExportEntries, ExportEntry, ImportEntries, ImportEntry,

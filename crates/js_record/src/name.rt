@@ -1,10 +1,6 @@
 //! The names of import and export entries.
 
-ghost use Rattle.std.specs.Prelude.{◌≡◌, IfOk};
-ghost use Rattle.js_record.specs.Names.{import_name_of, taken_name_of, export_name_of, local_name_of};
-
-use js_base::{NoMemory, Span, Text};
-use std::alloc::Global;
+use js_base::{Span, Text};
 use std::marker::Model;
 
 /// A name or a module specifier, decoded, and where it stands.
@@ -22,17 +18,6 @@ impl Model for NameSpan {
     ghost Value = { Named };
 
     ghost view = { λ n. record { name = n.name; span = n.span } };
-}
-
-impl NameSpan {
-    /// The same, in memory of its own.
-    pub(crate) fn copy(&self, alloc: Global) -> Result<NameSpan, NoMemory>
-        ensures { IfOk result (λ n. n ≡ self.now) }
-    {
-        let name = Text::from_str(alloc, self.name.as_str())?;
-        let span = self.span;
-        Ok(NameSpan { name, span })
-    }
 }
 
 /// What an import takes from its module: \[\[ImportName\]\] of an import entry (ECMA-262, 16.2.1.7).
