@@ -1,5 +1,7 @@
 //! Import and export entries, requests of modules, and dynamic imports.
 
+ghost use Rattle.std.specs.Prelude.{◌≡◌};
+
 use crate::name::{ExportExportName, ExportImportName, ExportLocalName, ImportImportName, NameSpan};
 use js_base::{List, Span};
 use std::marker::Model;
@@ -25,6 +27,15 @@ impl Model for ImportEntry {
     ghost use Rattle.js_record.specs.Names.{import_name_of};
 
     ghost view = { λ e. record { statement_span = e.statement_span; module_request = e.module_request; import_name = import_name_of e.import_name; local_name = e.local_name } };
+}
+
+impl ImportEntry {
+    /// The name that it has in this module.
+    pub(crate) fn local_text(&self) -> &str
+        ensures { result.now ≡ self.now.local_name.name }
+    {
+        self.local_name.name.as_str()
+    }
 }
 
 /// An export of an export declaration: an ExportEntry Record (ECMA-262, 16.2.1.7).

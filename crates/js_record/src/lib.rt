@@ -5,9 +5,11 @@ mod copied;
 mod entry;
 mod name;
 mod part;
+mod record;
 
 pub use entry::{
     DynamicImport, DynamicImports, ExportEntries, ExportEntry, ImportEntries, ImportEntry,
     RequestedModule, RequestedModules,
 };
+pub use record::ModuleRecord;
 pub use name::{ExportExportName, ExportImportName, ExportLocalName, ImportImportName, NameSpan};
