@@ -8,7 +8,7 @@ use Rattle.std.proofs.lemmas.Option.{slice_get-get_or}
 use Rattle.std.proofs.lemmas.List.Folds.{find-append}
 use Rattle.std.proofs.lemmas.Slice.Eq.{bytes_eq-Decides}
 use Rattle.js_grammar.specs.ModuleRecords.{ImportEntry, import_entry_of}
-use Rattle.js_record.specs.Records.{AreFirst, entry_at}
+use Rattle.js_record.specs.Firsts.{AreFirst, entry_at}
 
 abbrev Firsts : Type 0
 Firsts = List (List ℕ × ℕ)

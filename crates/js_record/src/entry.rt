@@ -1,6 +1,8 @@
 //! Import and export entries, requests of modules, and dynamic imports.
 
 ghost use Rattle.std.specs.Prelude.{◌≡◌};
+ghost use Rattle.js_grammar.specs.ModuleRecords.{default_places};
+ghost use Rattle.js_record.specs.Options.{places_of};
 
 use crate::name::{ExportExportName, ExportImportName, ExportLocalName, ImportImportName, NameSpan};
 use js_base::{List, Span};
@@ -63,6 +65,25 @@ impl Model for ExportEntry {
     ghost use Rattle.js_record.specs.Names.{taken_name_of, export_name_of, local_name_of};
 
     ghost view = { λ e. record { statement_span = e.statement_span; span = e.span; module_request = e.module_request; import_name = taken_name_of e.import_name; export_name = export_name_of e.export_name; local_name = local_name_of e.local_name } };
+}
+
+impl ExportEntry {
+    /// Where `default` stands, if it is exported as that: the word, or a name.
+    pub(crate) fn default_place(&self) -> Option<Span>
+        ensures { default_places self.now.export_name ≡ places_of result }
+    {
+        match &self.export_name {
+            ExportExportName::Default(span) => Some(*span),
+            ExportExportName::Name(name) => {
+                if name.name.as_str() == "default" {
+                    Some(name.span)
+                } else {
+                    None
+                }
+            }
+            ExportExportName::Null => None,
+        }
+    }
 }
 
 /// An occurrence of a module specifier (ECMA-262, 16.2.1.5).

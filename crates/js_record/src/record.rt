@@ -2,14 +2,12 @@
 
 ghost use Rattle.std.specs.Prelude.{◌≡◌, ◌++◌, ◌∷◌, [], IfOk, OnOk, bytes_eq, fold, map, position};
 ghost use Rattle.std.specs.List.{flat_map};
-ghost use Rattle.js_grammar.specs.ModuleRecords as def;
 ghost use Rattle.js_grammar.specs.ModuleRecords.{with_request, with_binding, replaced_by, replaced, if_local, if_indirect, if_star, default_places, defaults_among, duplicate_export, duplicate_defaults, record_of_part, errors_of_part};
-ghost use Rattle.js_record.specs.Records.{AreFirst, placed_of};
-ghost use Rattle.js_record.specs.Names.{export_name_of};
+ghost use Rattle.js_record.specs.Exports.{IsMadeOf};
 
-use crate::copied::Copied;
-use crate::entry::{DynamicImports, ExportEntries, ExportEntry, ImportEntries, ImportEntry, RequestedModules};
-use crate::name::{ExportExportName, ExportImportName, ExportLocalName, ImportImportName, NameSpan};
+use crate::entry::{DynamicImports, ExportEntries, ExportEntry, ImportEntries, RequestedModules};
+use crate::name::NameSpan;
+use crate::placing::{Places, place_all};
 use crate::part::{Part, Request, listed};
 use indexmap::IndexMap;
 use js_base::{Diagnostic, DiagnosticKind, Diagnostics, List, NoMemory, Span, Spans, Text};
@@ -118,27 +116,125 @@ fn bind_all(alloc: Global, bindings: Vec<NameSpan>) -> Result<Exported, NoMemory
     Ok(exported)
 }
 
-/// Of each local name of the import entries, the first entry that has it, by its place in the list.
-fn first_imports(
-    alloc: Global,
-    imports: &ImportEntries,
-) -> Result<IndexMap<Text, usize>, NoMemory>
-    ensures { IfOk result (λ m. AreFirst m.entries imports.now imports.now) }
+/// The places of `default` among the names of export entries, behind others.
+fn add_defaults(places: &mut Vec<Span>, entries: &ExportEntries) -> Result<(), NoMemory>
+    ensures { OnOk result (places.new.items ≡ places.old.items ++ defaults_among entries.now) }
 {
-    let mut firsts = IndexMap::new(alloc);
-    for i in 0..imports.len() {
-        let name = Text::from_str(alloc, imports[i].local_text())?;
-        if !firsts.contains_key(&name) {
-            firsts.insert(name, i)?;
+    for i in 0..entries.len() {
+        if let Some(place) = entries[i].default_place() {
+            places.push(place)?;
         }
     }
-    Ok(firsts)
+    Ok(())
 }
 
-/// Where an export entry is appended.
+/// The errors of names that are exported twice: each place that is replaced, with the last one of that name.
+fn duplicate_exports(alloc: Global, exported: &Exported) -> Result<Diagnostics, NoMemory>
+    ensures { IfOk result (λ ds. ds ≡ map (duplicate_export exported.now.bindings.entries) exported.now.replaced.items) }
+{
+    let mut errors = List::new(alloc);
+    for binding in &exported.replaced {
+        errors.push(Diagnostic {
+            kind: DiagnosticKind::DuplicateExport,
+            span: binding.span,
+            first: exported.bindings.get(&binding.name).copied(),
+            second: None,
+        })?;
+    }
+    Ok(errors)
+}
+
+/// The error of more than one export of `default`: the first, with the second.
+fn add_duplicate_default(errors: &mut Diagnostics, places: &[Span]) -> Result<(), NoMemory>
+    ensures { OnOk result (errors.new ≡ errors.old ++ duplicate_defaults places.now) }
+{
+    if let [span, second, ..] = places {
+        errors.push(Diagnostic {
+            kind: DiagnosticKind::DuplicateDefaultExport,
+            span: *span,
+            first: Some(*second),
+            second: None,
+        })?;
+    }
+    Ok(())
+}
+
+/// The places of `default` among the local exports, the indirect ones, and those without an entry.
+fn default_places(alloc: Global, places: &Places, skipped: &[Span]) -> Result<Vec<Span>, NoMemory>
+    ensures { IfOk result (λ v. v.items ≡ defaults_among places.now.local ++ (defaults_among places.now.indirect ++ skipped.now)) }
+{
+    let mut defaults = Vec::new(alloc);
+    add_defaults(&mut defaults, &places.local)?;
+    add_defaults(&mut defaults, &places.indirect)?;
+    defaults.extend_from_slice(skipped)?;
+    Ok(defaults)
+}
+
+/// The early errors of the exports of a module (ECMA-262, 16.2.1.1).
+fn find_errors(
+    alloc: Global,
+    exported: &Exported,
+    places: &Places,
+    skipped: &[Span],
+) -> Result<Diagnostics, NoMemory>
+    ensures { IfOk result (λ ds. ds ≡ map (duplicate_export exported.now.bindings.entries) exported.now.replaced.items ++ duplicate_defaults (defaults_among places.now.local ++ (defaults_among places.now.indirect ++ skipped.now))) }
+{
+    let mut errors = duplicate_exports(alloc, exported)?;
+    let defaults = default_places(alloc, places, skipped)?;
+    add_duplicate_default(&mut errors, &defaults)?;
+    Ok(errors)
+}
+
+/// The exports of a module, told apart, and their early errors.
 #[derive(Drop)]
-pub(crate) enum Placed {
-    Local(ExportEntry),
-    Indirect(ExportEntry),
-    Star(ExportEntry),
+struct Exports {
+    places: Places,
+    bindings: IndexMap<Text, Span>,
+    errors: Diagnostics,
+}
+
+/// Tells the exports of a module apart, by its import entries.
+fn exports_of(
+    alloc: Global,
+    imports: &ImportEntries,
+    exports: Vec<ExportEntry>,
+    bindings: Vec<NameSpan>,
+    skipped: &[Span],
+) -> Result<Exports, NoMemory>
+    ensures { IfOk result (λ e. IsMadeOf e imports.now exports.items bindings.items skipped.now) }
+{
+    let exported = bind_all(alloc, bindings)?;
+    let places = place_all(alloc, imports, exports)?;
+    let errors = find_errors(alloc, &exported, &places, skipped)?;
+    Ok(Exports {
+        places,
+        bindings: exported.bindings,
+        errors,
+    })
+}
+
+/// The record of all that the declarations of a module add, and its early errors.
+pub(crate) fn record_of(
+    alloc: Global,
+    part: Part,
+) -> Result<(ModuleRecord, Diagnostics), NoMemory>
+    ensures { IfOk result (λ r. r ≡ (record_of_part part, errors_of_part part)) }
+{
+    let imports = listed(alloc, part.imports)?;
+    let exports = exports_of(alloc, &imports, part.exports, part.bindings, &part.skipped_defaults)?;
+    let requested_modules = requested(alloc, part.requests)?;
+    let import_metas = listed(alloc, part.metas)?;
+    let dynamic_imports = listed(alloc, part.dynamic)?;
+    let record = ModuleRecord {
+        has_module_syntax: part.is_module_syntax,
+        requested_modules,
+        import_entries: imports,
+        local_export_entries: exports.places.local,
+        indirect_export_entries: exports.places.indirect,
+        star_export_entries: exports.places.star,
+        exported_bindings: exports.bindings,
+        import_metas,
+        dynamic_imports,
+    };
+    Ok((record, exports.errors))
 }

@@ -1,7 +1,7 @@
 use Rattle.std.proofs.Common.{arith, sym, ◌∙◌}
 use Rattle.js_record.proofs.FirstLemmas.{step_kept, step_added}
-use Rattle.js_record.proofs.record.first_imports.Goals as goal
-use Rattle.js_record.proofs.record.first_imports.Goals.{then-not-contains_key+in_ok-insert, else-not-contains_key}
+use Rattle.js_record.proofs.placing.first_imports.Goals as goal
+use Rattle.js_record.proofs.placing.first_imports.Goals.{then-not-contains_key+in_ok-insert, else-not-contains_key}
 
 pub loop-i-preserved : goal.loop-i-preserved
 loop-i-preserved c =
