@@ -1,7 +1,5 @@
 -- What names and strings of a tree stand for, of the text that it was read from.
-use Rattle.std.specs.Prelude.{ℕ, Bool, true, false, List, [], ◌∷◌, Option, Some, None, chars, slice_range, unwrap_or}
-use Rattle.std.specs.List.{flat_map}
-use Rattle.std.specs.Char.{encode_utf8}
+use Rattle.std.specs.Prelude.{ℕ, List, [], Option, Some, None, if◌then◌else◌, chars, encode_utf8_all, slice_range, unwrap_or}
 use Rattle.std.specs.Char.Utf16.{has_unpaired_surrogate, utf16_lossy_chars}
 use Rattle.js_base.specs.Decoding.{string_units, name_text}
 use Rattle.js_grammar.specs.Strings.{string_inside}
@@ -11,16 +9,16 @@ use Rattle.js_grammar.specs.Trees.{NodeKind, string_literal, Label}
 abbrev pub characters_at : List ℕ → Label → List ℕ
 characters_at text l = chars (slice_range text l.span.from l.span.to)
 
--- the UTF-8 of code units, or none where a lone surrogate is among them
+-- code units as UTF-8, or none where a lone surrogate is among them (11.1.4)
 abbrev pub utf8_of_units : Option (List ℕ) → Option (List ℕ)
 utf8_of_units None = None
-utf8_of_units (Some us) = elim (has_unpaired_surrogate us) [ true ↦ None | false ↦ Some (flat_map encode_utf8 (utf16_lossy_chars us)) ]
+utf8_of_units (Some us) = if has_unpaired_surrogate us then None else Some (encode_utf8_all (utf16_lossy_chars us))
 
--- the value of a string literal, as UTF-8
+-- the value of a string literal (12.9.4.2), as UTF-8
 abbrev pub string_at : List ℕ → Label → Option (List ℕ)
 string_at text l = utf8_of_units (string_units (string_inside (characters_at text l)))
 
--- the StringValue of a name, or the value of a string literal that stands as one (16.2.1)
+-- the StringValue of a name (12.7.1), or the value of a string literal that stands as one (16.2.1)
 abbrev pub name_by : NodeKind → List ℕ → Label → Option (List ℕ)
 name_by string_literal text l = string_at text l
 name_by _ text l = name_text (characters_at text l)
