@@ -2,3 +2,4 @@ pub mod RecordLemmas
 pub mod FirstLemmas
 pub mod ExportLemmas
 pub mod PartLemmas
+pub mod LineLemmas

@@ -4,6 +4,7 @@
 mod builder;
 mod copied;
 mod entry;
+mod lines;
 mod name;
 mod part;
 mod placing;
