@@ -3,3 +3,5 @@ pub mod FirstLemmas
 pub mod ExportLemmas
 pub mod PartLemmas
 pub mod LineLemmas
+pub mod KindLemmas
+pub mod SignLemmas

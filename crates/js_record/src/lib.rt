@@ -8,6 +8,7 @@ mod lines;
 mod name;
 mod part;
 mod placing;
+mod reading;
 mod record;
 
 pub use builder::ModuleRecordBuilder;
