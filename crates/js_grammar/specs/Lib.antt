@@ -6,6 +6,7 @@ pub mod Lexing
 pub mod Levels
 pub mod Parsing
 pub mod Lines
+pub mod BoundNames
 pub mod Settings
 pub mod Readings
 pub mod Characters
