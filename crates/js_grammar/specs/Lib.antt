@@ -27,7 +27,6 @@ pub mod Brackets
 pub mod Examples
 pub mod Laws
 pub mod NodeNames
-pub mod BoundNames
 pub mod ModuleRecords
 pub mod Modules
 pub mod RecordLines

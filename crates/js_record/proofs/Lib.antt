@@ -5,3 +5,4 @@ pub mod PartLemmas
 pub mod LineLemmas
 pub mod KindLemmas
 pub mod SignLemmas
+pub mod ShownLemmas

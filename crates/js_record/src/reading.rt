@@ -1,6 +1,6 @@
 //! The names of nodes, decoded from the text.
 
-ghost use Rattle.std.specs.Prelude.{◌≡◌, ◌<◌, length, IfOk, Some, All, IsSome};
+ghost use Rattle.std.specs.Prelude.{◌≡◌, ◌<◌, length, true, IfOk, Some, All, IsSome};
 ghost use Rattle.js_base.specs.Spans.{LiesIn};
 ghost use Rattle.js_grammar.specs.NodeNames.{without_sign, word_at, string_at, name_at, IsReadFrom};
 ghost use Rattle.js_grammar.specs.Modules.{named, no_name, specifier as specified};
@@ -69,7 +69,7 @@ fn string_text(
     requires string { is_string (node_at tree.now id).kind ≡ true }
     ensures { IfOk result (λ text. text ≡ string_at source.now (label_at tree.now id)) }
 {
-    Err(NoMemory)
+    tree.prop_name(alloc, id, source)
 }
 
 /// What the node stands for as a name; the empty text where it stands for none.
