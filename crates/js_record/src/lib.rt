@@ -11,6 +11,8 @@ mod placing;
 mod reading;
 mod record;
 
+mod visiting;
+
 pub use builder::ModuleRecordBuilder;
 pub use entry::{
     DynamicImport, DynamicImports, ExportEntries, ExportEntry, ImportEntries, ImportEntry,
