@@ -6,3 +6,4 @@ pub mod LineLemmas
 pub mod KindLemmas
 pub mod SignLemmas
 pub mod ShownLemmas
+pub mod TreeLemmas

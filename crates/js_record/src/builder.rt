@@ -2,12 +2,15 @@
 
 ghost use Rattle.std.specs.Prelude.{◌≡◌, ◌≤◌, ◌++◌, ◌∷◌, [], length, take, IfOk, OnOk, OnErr};
 ghost use Rattle.js_grammar.specs.ModuleRecords.{record_of_parts, errors_of_parts};
-ghost use Rattle.js_grammar.specs.Modules.{syntax, of_import_meta};
+ghost use Rattle.js_grammar.specs.Modules.{syntax, of_import_meta, import_part, export_named_part, export_from_part, export_all_part, export_declaration_part, export_default_part, import_call_part};
+ghost use Rattle.js_record.specs.Shown.{IsRead, IsTree, OfTree};
 
 use crate::copied::copies;
 use crate::part::Part;
 use crate::record::{ModuleRecord, record_of};
+use crate::visiting;
 use js_base::{Diagnostics, NoMemory, SourceType, Span};
+use js_tree::{NodeId, ParserAstBuilder};
 use std::alloc::Global;
 use std::marker::Model;
 
@@ -55,6 +58,118 @@ impl ModuleRecordBuilder {
     {
         let mut visit = Part::syntax(self.alloc);
         visit.metas.push(span)?;
+        self.keep(visit)
+    }
+
+    /// An `import()` (ECMA-262, 13.3.10), when all of it was read, so that an inner one comes first. On an error all
+    /// stays as it was. Condition: the number stands for a tree.
+    pub fn visit_import_expression(
+        &mut self,
+        tree: &ParserAstBuilder,
+        id: NodeId,
+    ) -> Result<(), NoMemory>
+        requires { IsTree tree.now id }
+        ensures ok { OnOk result (OfTree tree.now id (λ l cs. self.new ≡ self.old ++ import_call_part l cs ∷ [])) }
+        ensures err { OnErr result (self.new ≡ self.old) }
+    {
+        let visit = visiting::import_call_part(self.alloc, tree, id)?;
+        self.keep(visit)
+    }
+
+    /// An import declaration (ECMA-262, 16.2.2). On an error all stays as it was. Condition: the number stands
+    /// for a tree, of which every node below the first is read from the source.
+    pub fn visit_import_declaration(
+        &mut self,
+        tree: &ParserAstBuilder,
+        source: &str,
+        id: NodeId,
+    ) -> Result<(), NoMemory>
+        requires { IsRead tree.now source.now id }
+        ensures ok { OnOk result (OfTree tree.now id (λ l cs. self.new ≡ self.old ++ import_part source.now l cs ∷ [])) }
+        ensures err { OnErr result (self.new ≡ self.old) }
+    {
+        let visit = visiting::import_part(self.alloc, tree, source, id)?;
+        self.keep(visit)
+    }
+
+    /// `export *` (ECMA-262, 16.2.3). On an error all stays as it was. Condition: the number stands
+    /// for a tree, of which every node below the first is read from the source.
+    pub fn visit_export_all_declaration(
+        &mut self,
+        tree: &ParserAstBuilder,
+        source: &str,
+        id: NodeId,
+    ) -> Result<(), NoMemory>
+        requires { IsRead tree.now source.now id }
+        ensures ok { OnOk result (OfTree tree.now id (λ l cs. self.new ≡ self.old ++ export_all_part source.now l cs ∷ [])) }
+        ensures err { OnErr result (self.new ≡ self.old) }
+    {
+        let visit = visiting::export_all_part(self.alloc, tree, source, id)?;
+        self.keep(visit)
+    }
+
+    /// `export` of a declaration (ECMA-262, 16.2.3). On an error all stays as it was. Condition: the number stands
+    /// for a tree, of which every node below the first is read from the source.
+    pub fn visit_export_declaration(
+        &mut self,
+        tree: &ParserAstBuilder,
+        source: &str,
+        id: NodeId,
+    ) -> Result<(), NoMemory>
+        requires { IsRead tree.now source.now id }
+        ensures ok { OnOk result (OfTree tree.now id (λ l cs. self.new ≡ self.old ++ export_declaration_part source.now l cs ∷ [])) }
+        ensures err { OnErr result (self.new ≡ self.old) }
+    {
+        let visit = visiting::export_declaration_part(self.alloc, tree, source, id)?;
+        self.keep(visit)
+    }
+
+    /// `export` of names (ECMA-262, 16.2.3). On an error all stays as it was. Condition: the number stands
+    /// for a tree, of which every node below the first is read from the source.
+    pub fn visit_export_named_declaration(
+        &mut self,
+        tree: &ParserAstBuilder,
+        source: &str,
+        id: NodeId,
+    ) -> Result<(), NoMemory>
+        requires { IsRead tree.now source.now id }
+        ensures ok { OnOk result (OfTree tree.now id (λ l cs. self.new ≡ self.old ++ export_named_part source.now l cs ∷ [])) }
+        ensures err { OnErr result (self.new ≡ self.old) }
+    {
+        let visit = visiting::export_named_part(self.alloc, tree, source, id)?;
+        self.keep(visit)
+    }
+
+    /// `export` of names of another module (ECMA-262, 16.2.3). On an error all stays as it was. Condition: the number stands
+    /// for a tree, of which every node below the first is read from the source.
+    pub fn visit_export_from_declaration(
+        &mut self,
+        tree: &ParserAstBuilder,
+        source: &str,
+        id: NodeId,
+    ) -> Result<(), NoMemory>
+        requires { IsRead tree.now source.now id }
+        ensures ok { OnOk result (OfTree tree.now id (λ l cs. self.new ≡ self.old ++ export_from_part source.now l cs ∷ [])) }
+        ensures err { OnErr result (self.new ≡ self.old) }
+    {
+        let visit = visiting::export_from_part(self.alloc, tree, source, id)?;
+        self.keep(visit)
+    }
+
+    /// `export default` (ECMA-262, 16.2.3), with the place of the word `default`. On an error all stays as it was. Condition: the number stands
+    /// for a tree, of which every node below the first is read from the source.
+    pub fn visit_export_default_declaration(
+        &mut self,
+        tree: &ParserAstBuilder,
+        source: &str,
+        id: NodeId,
+        default_keyword_span: Span,
+    ) -> Result<(), NoMemory>
+        requires { IsRead tree.now source.now id }
+        ensures ok { OnOk result (OfTree tree.now id (λ l cs. self.new ≡ self.old ++ export_default_part source.now default_keyword_span l cs ∷ [])) }
+        ensures err { OnErr result (self.new ≡ self.old) }
+    {
+        let visit = visiting::export_default_part(self.alloc, tree, source, id, default_keyword_span)?;
         self.keep(visit)
     }
 

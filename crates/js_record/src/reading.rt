@@ -7,7 +7,7 @@ ghost use Rattle.js_grammar.specs.Modules.{named, no_name, specifier as specifie
 ghost use Rattle.js_tree.specs.declared.kind.NodeKind.TheVariants as node;
 ghost use Rattle.js_tree.specs.Nodes.{node_at};
 ghost use Rattle.js_record.specs.NodeKinds.{is_word, is_string};
-ghost use Rattle.js_record.specs.Shown.{label_at, IsNear, first_shown, second_shown, optional_shown, rest_of};
+ghost use Rattle.js_record.specs.Shown.{label_at, IsNear, first_shown, second_shown, optional_shown, first_of, rest_of};
 
 use crate::name::NameSpan;
 use js_base::{NoMemory, Span, Text, decode_name};
@@ -130,6 +130,13 @@ pub(crate) fn specifier_of(
         Some(name) => Ok(Some(NameSpan { name, span })),
         None => Ok(None),
     }
+}
+
+/// The child in the first slot, where there is one.
+pub(crate) fn first(slots: &[Option<NodeId>]) -> Option<NodeId>
+    ensures { result ≡ first_of slots.now }
+{
+    if slots.is_empty() { None } else { slots[0] }
 }
 
 /// The slots behind the first.
