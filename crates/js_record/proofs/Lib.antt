@@ -7,3 +7,4 @@ pub mod KindLemmas
 pub mod SignLemmas
 pub mod ShownLemmas
 pub mod TreeLemmas
+pub mod ResultLemmas
