@@ -8,3 +8,4 @@ pub mod SignLemmas
 pub mod ShownLemmas
 pub mod TreeLemmas
 pub mod ResultLemmas
+mod RecordExamples
