@@ -1,6 +1,6 @@
 -- What nodes of a kind stand for.
 use Rattle.std.proofs.Common.{◌≡◌, ℕ, true, false, List, Some, None, refl, sym, true≢false}
-use Rattle.std.specs.Prelude.{IsSome, chars, slice_range}
+use Rattle.std.specs.Prelude.{IsSome}
 use Rattle.js_base.specs.declared.kind.Kind.TheVariants.{Str}
 use Rattle.js_grammar.specs.NodeNames.{word_at, string_at, string_by, name_by, IsReadAs, characters_at}
 use Rattle.js_grammar.specs.Strings.{string_kind}

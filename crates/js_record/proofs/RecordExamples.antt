@@ -1,15 +1,14 @@
 -- Worked examples: the lines of the records of short modules, computed by the definitions.
-use Rattle.std.proofs.Common.{◌≡◌, ℕ, List, [], ◌∷◌, ◌++◌, refl}
-use Rattle.std.specs.Prelude.{codes, Some, None}
+use Rattle.std.proofs.Common.{◌≡◌, ℕ, ◌++◌, refl}
+use Rattle.std.specs.Prelude.{codes}
 use Rattle.std.specs.Char.Utf16.{utf16_chars}
 use Rattle.std.specs.Fmt.{digits}
 use Rattle.std.specs.Str.{chars}
 use Rattle.js_base.specs.declared.kind.Kind.TheVariants.{Var, Eq, Decimal}
-use Rattle.js_base.specs.declared.diagnostic.Diagnostic.{Diagnostic}
 use Rattle.js_grammar.specs.Modules.{record_of, record_errors}
 use Rattle.js_grammar.specs.Lines.{diagnostic_text}
 use Rattle.js_grammar.specs.RecordLines.{record_text}
-use Rattle.js_grammar.specs.Trees.{NodeKind, assignment_expression, binding_identifier, export_all_declaration, export_declaration, export_default_declaration, export_from_declaration, export_named_declaration, export_specifier, expression_statement, formal_parameters, function_body, function_declaration, identifier_name, identifier_reference, import_declaration, import_default_specifier, import_expression, import_meta, import_namespace_specifier, import_specifier, numeric_literal, parenthesized_expression, program, static_member_expression, string_literal, variable_declaration, variable_declarator, Op, no_op, of, Label, Slots, end, hole, tree, Tree}
+use Rattle.js_grammar.specs.Trees.{NodeKind, assignment_expression, binding_identifier, export_all_declaration, export_declaration, export_default_declaration, export_from_declaration, export_named_declaration, export_specifier, expression_statement, formal_parameters, function_body, function_declaration, identifier_name, identifier_reference, import_declaration, import_default_specifier, import_expression, import_meta, import_namespace_specifier, import_specifier, numeric_literal, parenthesized_expression, program, static_member_expression, string_literal, variable_declaration, variable_declarator, Op, no_op, of, Label, end, hole, tree, Tree}
 
 abbrev label : NodeKind → Op → ℕ → ℕ → ℕ → Label
 label k o f a b = record { kind = k; op = o; flags = f; span = record { from = a; to = b } }

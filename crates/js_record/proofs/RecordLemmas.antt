@@ -1,8 +1,7 @@
 -- The maps of a record as the definitions have them.
-use Rattle.std.proofs.Common.{◌≡◌, ℕ, ◌+◌, ◌<◌, ◌≤◌, Bool, true, false, cond, List, [], ◌∷◌, ◌++◌, Option, Some, None, refl, sym, ap, ◌∙◌, subst, true≢false, is_some, unwrap_or, append_assoc}
+use Rattle.std.proofs.Common.{◌≡◌, ℕ, Bool, true, false, cond, List, [], ◌∷◌, ◌++◌, Some, None, refl, sym, ap, ◌∙◌, true≢false, is_some, unwrap_or, append_assoc}
 use Rattle.std.specs.Prelude.{bytes_eq, fold}
 use Rattle.std.specs.Map.{lookup, set_value}
-use Rattle.std.proofs.lemmas.List.Sums.{fold-append}
 use Rattle.indexmap.specs.IndexMap.{insert_entry}
 use Rattle.js_base.specs.declared.span.Span.{Span}
 use Rattle.js_grammar.specs.ModuleRecords.{NameSpan, RequestedModule, Request, with_request, with_binding, replaced_by, replaced}
@@ -55,4 +54,4 @@ replaced_more es [] b = append-nil (replaced_by es b)
     append-nil (x ∷ xs) = ap (λ v. x ∷ v) (append-nil xs)
 replaced_more es (c ∷ bs) b =
     ap (λ v. replaced_by es c ++ v) (replaced_more (with_binding es c) bs b)
-        ∙ sym (append_assoc (replaced_by es c) (replaced (with_binding es c) bs) (replaced_by (fold with_binding (with_binding es c) bs) b))
+    ∙ sym (append_assoc (replaced_by es c) (replaced (with_binding es c) bs) (replaced_by (fold with_binding (with_binding es c) bs) b))

@@ -1,12 +1,12 @@
 -- What the slots of a tree add is what the numbers that stand for them show.
-use Rattle.std.proofs.Common.{◌≡◌, ℕ, ◌<◌, List, [], ◌∷◌, ◌++◌, Option, Some, None, Bool, true, false, length, get_or, map, if◌then◌else◌, refl, sym, ap, ◌∙◌, subst, inl, inr, ◌⊎◌, true≢false, is_some, unwrap_or}
+use Rattle.std.proofs.Common.{◌≡◌, ℕ, ◌<◌, List, [], ◌∷◌, ◌++◌, Option, Some, None, Bool, true, false, length, get_or, map, if◌then◌else◌, refl, sym, ap, ◌∙◌, subst, inl, inr, true≢false, is_some, unwrap_or}
 use Rattle.std.specs.Prelude.{All}
 use Rattle.std.specs.List.{flat_map}
 use Rattle.std.proofs.lemmas.List.Elements.{All-from_recursion}
 use Rattle.js_base.specs.declared.span.Span.{Span}
 use Rattle.js_grammar.specs.BoundNames as bound
 use Rattle.js_grammar.specs.ModuleRecords.{NameSpan}
-use Rattle.js_grammar.specs.Modules.{named, first_name, second_name, behind, specifier, import_entry, import_entries, own_entry, own_entries, from_entry, from_entries, exported_names, optional_name, of_import, of_export_named, of_export_from, of_export_all, of_export_default, of_import_call, of_export_declaration, import_part, export_named_part, export_from_part, export_all_by, export_all_part, export_default_part, export_declaration_part, syntax, import_call_part}
+use Rattle.js_grammar.specs.Modules.{named, first_name, second_name, behind, specifier, import_entry, import_entries, own_entry, own_entries, from_entry, from_entries, exported_names, optional_name, of_import, of_export_named, of_export_from, of_export_all, of_export_default, of_export_declaration, import_part, export_named_part, export_from_part, export_all_by, export_all_part, export_default_part, export_declaration_part, syntax, import_call_part}
 use Rattle.js_grammar.specs.NodeNames.{span_of, IsReadFrom, AreReadFrom}
 use Rattle.js_grammar.specs.Trees.{Label, Slots, end, hole, tree}
 use Rattle.js_tree.specs.declared.id.NodeId.{NodeId}
@@ -169,8 +169,8 @@ module _ (text : List ℕ) where
   bound_read p (hole us) r = bound_read (bound.behind p) us r
   bound_read p (tree l cs us) r =
       each_append (IsReadFrom text) _ _
-          (if_read (bound.takes p) _ (own_read (bound.part_of l.kind) l _ r.0 (bound_read (bound.part_of l.kind) cs r.1)))
-          (bound_read (bound.behind p) us r.2)
+      (if_read (bound.takes p) _ (own_read (bound.part_of l.kind) l _ r.0 (bound_read (bound.part_of l.kind) cs r.1)))
+      (bound_read (bound.behind p) us r.2)
 
 -- the numbers that a tree reaches are of the store
 mutual
@@ -194,7 +194,7 @@ good_each ns text rs (id ∷ ids) w k h = ((is_in (λ r. r < length ns) rs id.0 
 pub good_all : (ns : List Node) (text : List ℕ) (i : ℕ) (l : Label) (cs : Slots) (rs : List ℕ) (ids : List NodeId) → Stands ns i l cs rs → IsReadFrom text l → AreReadFrom text cs → Binds ns ids l cs rs → All (IsGood ns text) ids
 good_all ns text i l cs rs ids s r rr b =
     All-from_recursion (IsGood ns text) ids (good_each ns text rs ids (reached_stands ns i l cs rs s) b.reached
-        (subst (Each (IsReadFrom text)) (sym b.labels) (bound_read text bound.first (tree l cs end) (r, rr, tt))))
+    (subst (Each (IsReadFrom text)) (sym b.labels) (bound_read text bound.first (tree l cs end) (r, rr, tt))))
 
 pub names_bound : (ns : List Node) (text : List ℕ) (l : Label) (cs : Slots) (rs : List ℕ) (ids : List NodeId) → Binds ns ids l cs rs → map (λ id. named text (label_at ns id)) ids ≡ map (named text) (bound.bound_names l cs)
 names_bound ns text l cs rs ids b = twice ids ∙ ap (map (named text)) b.labels
@@ -238,7 +238,7 @@ module _ (ns : List Node) (text : List ℕ) where
   declaration_go l b _ _ _ no_slots c e names h = absurd (none_some e)
   declaration_go l b _ _ _ (next_child {id = d} {cs = ds} {rs = rs} lt (stands i w all) more) c e names h =
       ap (λ v. of_export_declaration (span_of l) (span_of (label_at ns v)) names) (same_id e)
-          ∙ ap (of_export_declaration (span_of l) (span_of (label_at ns d))) (subst (λ v. OfTree ns v (λ dl es. names ≡ map (named text) (bound.bound_names dl es))) (same_id e) h (label_at ns d) ds _ (stands i w all))
+      ∙ ap (of_export_declaration (span_of l) (span_of (label_at ns d))) (subst (λ v. OfTree ns v (λ dl es. names ≡ map (named text) (bound.bound_names dl es))) (same_id e) h (label_at ns d) ds _ (stands i w all))
   declaration_go l b _ _ _ (next_hole more) c e names h = absurd (none_some e)
 
   pub declaration_is : (id c : NodeId) → Some c ≡ first_of (ids_of ns id) → (names : List NameSpan) → OfTree ns c (λ dl ds. names ≡ map (named text) (bound.bound_names dl ds))

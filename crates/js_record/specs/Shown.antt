@@ -1,5 +1,5 @@
 -- What a node adds to a record, as the numbers of a store show it: the definitions of `Modules` in js_grammar, over lists of numbers in place of slots.
-use Rattle.std.specs.Prelude.{◌≡◌, ℕ, ◌<◌, List, [], ◌∷◌, Option, Some, None, length, map, All}
+use Rattle.std.specs.Prelude.{ℕ, ◌<◌, List, [], ◌∷◌, Option, Some, None, length, All}
 use Rattle.std.specs.List.{flat_map}
 use Rattle.js_base.specs.declared.span.Span.{Span}
 use Rattle.js_grammar.specs.ModuleRecords.{NameSpan, ImportEntry, ExportEntry, Part, nothing}

@@ -169,7 +169,13 @@ impl ModuleRecordBuilder {
         ensures ok { OnOk result (OfTree tree.now id (λ l cs. self.new ≡ self.old ++ export_default_part source.now default_keyword_span l cs ∷ [])) }
         ensures err { OnErr result (self.new ≡ self.old) }
     {
-        let visit = visiting::export_default_part(self.alloc, tree, source, id, default_keyword_span)?;
+        let visit = visiting::export_default_part(
+            self.alloc,
+            tree,
+            source,
+            id,
+            default_keyword_span,
+        )?;
         self.keep(visit)
     }
 

@@ -3,7 +3,9 @@
 ghost use Rattle.std.specs.Prelude.{◌≡◌, IfOk};
 
 use crate::entry::{DynamicImport, ExportEntry, ImportEntry, RequestedModule};
-use crate::name::{ExportExportName, ExportImportName, ExportLocalName, ImportImportName, NameSpan};
+use crate::name::{
+    ExportExportName, ExportImportName, ExportLocalName, ImportImportName, NameSpan,
+};
 use crate::part::{Part, Request};
 use js_base::{NoMemory, Span, Text};
 use std::alloc::Global;
@@ -102,10 +104,7 @@ impl Copied for ImportEntry {
 }
 
 /// A copy of a name, where there is one.
-fn copied_request(
-    alloc: Global,
-    request: &Option<NameSpan>,
-) -> Result<Option<NameSpan>, NoMemory>
+fn copied_request(alloc: Global, request: &Option<NameSpan>) -> Result<Option<NameSpan>, NoMemory>
     ensures { IfOk result (λ copy. copy ≡ request.now) }
 {
     match request {

@@ -4,7 +4,9 @@ ghost use Rattle.std.specs.Prelude.{◌≡◌};
 ghost use Rattle.js_grammar.specs.ModuleRecords.{default_places};
 ghost use Rattle.js_record.specs.Options.{places_of};
 
-use crate::name::{ExportExportName, ExportImportName, ExportLocalName, ImportImportName, NameSpan};
+use crate::name::{
+    ExportExportName, ExportImportName, ExportLocalName, ImportImportName, NameSpan,
+};
 use js_base::{List, Span};
 use std::marker::Model;
 

@@ -10,7 +10,6 @@ mod part;
 mod placing;
 mod reading;
 mod record;
-
 mod visiting;
 
 pub use builder::ModuleRecordBuilder;
@@ -18,5 +17,5 @@ pub use entry::{
     DynamicImport, DynamicImports, ExportEntries, ExportEntry, ImportEntries, ImportEntry,
     RequestedModule, RequestedModules,
 };
-pub use record::ModuleRecord;
 pub use name::{ExportExportName, ExportImportName, ExportLocalName, ImportImportName, NameSpan};
+pub use record::ModuleRecord;

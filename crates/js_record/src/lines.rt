@@ -7,8 +7,13 @@ ghost use Rattle.js_grammar.specs.Lines.{span_text};
 ghost use Rattle.js_grammar.specs.RecordLines.{name_text, default_text, import_name_text, taken_name_text, export_name_text, local_name_text, request_text, syntax_line, request_line, binding_line, import_line, export_names, export_line, dynamic_line, meta_line, record_text};
 ghost use Rattle.js_record.specs.Names.{import_name_of, taken_name_of, export_name_of, local_name_of};
 
-use crate::entry::{DynamicImport, DynamicImports, ExportEntries, ExportEntry, ImportEntries, ImportEntry, RequestedModule, RequestedModules};
-use crate::name::{ExportExportName, ExportImportName, ExportLocalName, ImportImportName, NameSpan};
+use crate::entry::{
+    DynamicImport, DynamicImports, ExportEntries, ExportEntry, ImportEntries, ImportEntry,
+    RequestedModule, RequestedModules,
+};
+use crate::name::{
+    ExportExportName, ExportImportName, ExportLocalName, ImportImportName, NameSpan,
+};
 use crate::record::ModuleRecord;
 use indexmap::IndexMap;
 use js_base::{NoMemory, Span, Spans, Text};
@@ -131,7 +136,14 @@ fn write_requested(out: &mut Vec<u8>, requested: RequestedModule) -> Result<(), 
     write_text(out, " ")?;
     write_span(out, requested.statement_span)?;
     write_text(out, " ")?;
-    write_text(out, if requested.is_import { "import" } else { "export" })?;
+    write_text(
+        out,
+        if requested.is_import {
+            "import"
+        } else {
+            "export"
+        },
+    )?;
     write_text(out, "\n")
 }
 
@@ -248,11 +260,7 @@ fn write_imports(out: &mut Vec<u8>, entries: &ImportEntries) -> Result<(), NoMem
 }
 
 /// Writes a list of export entries.
-fn write_exports(
-    out: &mut Vec<u8>,
-    word: &str,
-    entries: &ExportEntries,
-) -> Result<(), NoMemory>
+fn write_exports(out: &mut Vec<u8>, word: &str, entries: &ExportEntries) -> Result<(), NoMemory>
     ensures { OnOk result (out.new.items ≡ out.old.items ++ flat_map (export_line word.now) entries.now) }
 {
     for i in 0..entries.len() {

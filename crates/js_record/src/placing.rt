@@ -17,10 +17,7 @@ use js_base::{List, NoMemory, Text};
 use std::alloc::Global;
 
 /// Of each local name of the import entries, the first entry that has it, by its place in the list.
-fn first_imports(
-    alloc: Global,
-    imports: &ImportEntries,
-) -> Result<IndexMap<Text, usize>, NoMemory>
+fn first_imports(alloc: Global, imports: &ImportEntries) -> Result<IndexMap<Text, usize>, NoMemory>
     ensures { IfOk result (λ m. AreFirst m.entries imports.now imports.now) }
 {
     let mut firsts = IndexMap::new(alloc);

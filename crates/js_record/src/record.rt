@@ -7,8 +7,8 @@ ghost use Rattle.js_record.specs.Exports.{IsMadeOf};
 
 use crate::entry::{DynamicImports, ExportEntries, ExportEntry, ImportEntries, RequestedModules};
 use crate::name::NameSpan;
-use crate::placing::{Places, place_all};
 use crate::part::{Part, Request, listed};
+use crate::placing::{Places, place_all};
 use indexmap::IndexMap;
 use js_base::{Diagnostic, DiagnosticKind, Diagnostics, List, NoMemory, Span, Spans, Text};
 use std::alloc::Global;
@@ -214,14 +214,17 @@ fn exports_of(
 }
 
 /// The record of all that the declarations of a module add, and its early errors.
-pub(crate) fn record_of(
-    alloc: Global,
-    part: Part,
-) -> Result<(ModuleRecord, Diagnostics), NoMemory>
+pub(crate) fn record_of(alloc: Global, part: Part) -> Result<(ModuleRecord, Diagnostics), NoMemory>
     ensures { IfOk result (λ r. r ≡ (record_of_part part, errors_of_part part)) }
 {
     let imports = listed(alloc, part.imports)?;
-    let exports = exports_of(alloc, &imports, part.exports, part.bindings, &part.skipped_defaults)?;
+    let exports = exports_of(
+        alloc,
+        &imports,
+        part.exports,
+        part.bindings,
+        &part.skipped_defaults,
+    )?;
     let requested_modules = requested(alloc, part.requests)?;
     let import_metas = listed(alloc, part.metas)?;
     let dynamic_imports = listed(alloc, part.dynamic)?;

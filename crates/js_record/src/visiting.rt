@@ -14,7 +14,9 @@ ghost use Rattle.js_record.specs.Shown.{label_at, ids_of, IsNear, IsDeep, first_
 
 use crate::copied::Copied;
 use crate::entry::{DynamicImport, ExportEntry, ImportEntry, RequestedModule};
-use crate::name::{ExportExportName, ExportImportName, ExportLocalName, ImportImportName, NameSpan};
+use crate::name::{
+    ExportExportName, ExportImportName, ExportLocalName, ImportImportName, NameSpan,
+};
 use crate::part::{Part, Request};
 use crate::reading::{first, first_name, name_of, optional_name, rest, second_name, specifier_of};
 use js_base::{NoMemory, Span};
@@ -111,12 +113,7 @@ fn exported_names(
 }
 
 /// The entry of an export of what the module itself has.
-fn own_entry(
-    statement: Span,
-    span: Span,
-    name: NameSpan,
-    own: NameSpan,
-) -> ExportEntry
+fn own_entry(statement: Span, span: Span, name: NameSpan, own: NameSpan) -> ExportEntry
     ensures { result ≡ def.own_entry statement span name own }
 {
     ExportEntry {
@@ -355,7 +352,10 @@ fn star_entry(
 {
     let module_request = Some(specifier.copied(alloc)?);
     let (import_name, export_name) = match names.first() {
-        Some(name) => (ExportImportName::All, ExportExportName::Name(name.copied(alloc)?)),
+        Some(name) => (
+            ExportImportName::All,
+            ExportExportName::Name(name.copied(alloc)?),
+        ),
         None => (ExportImportName::AllButDefault, ExportExportName::Null),
     };
     Ok(ExportEntry {

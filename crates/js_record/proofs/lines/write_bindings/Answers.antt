@@ -1,6 +1,4 @@
-use Rattle.std.proofs.Common.{◌≡◌, ◌∙◌, ℕ, List, ap, subst, sym, arith}
-use Rattle.std.specs.List.{flat_map}
-
+use Rattle.std.proofs.Common.{sym, arith}
 use Rattle.js_grammar.specs.RecordLines.{binding_line}
 use Rattle.js_record.proofs.LineLemmas.{next_lines, none_below}
 use Rattle.js_record.proofs.lines.write_bindings.Goals as goal

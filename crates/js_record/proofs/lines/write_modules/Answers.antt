@@ -1,4 +1,4 @@
-use Rattle.std.proofs.Common.{◌≡◌, ◌∙◌, ℕ, List, ap, subst, sym, arith}
+use Rattle.std.proofs.Common.{ℕ, List, sym, arith}
 use Rattle.std.specs.List.{flat_map}
 use Rattle.js_grammar.specs.ModuleRecords.{RequestedModule}
 use Rattle.js_grammar.specs.RecordLines.{request_line}

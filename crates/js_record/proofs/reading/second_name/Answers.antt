@@ -1,5 +1,3 @@
-use Rattle.std.proofs.Common.{List, Option}
-use Rattle.std.specs.Prelude.{All}
 use Rattle.js_record.specs.Shown.{IsNear}
 use Rattle.js_record.proofs.ShownLemmas.{all_rest}
 use Rattle.js_record.proofs.reading.second_name.Goals as goal

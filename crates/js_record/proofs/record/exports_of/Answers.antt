@@ -1,4 +1,4 @@
-use Rattle.std.proofs.Common.{◌≡◌, ◌++◌, map, ◌∙◌}
+use Rattle.std.proofs.Common.{◌++◌, map, ◌∙◌}
 use Rattle.js_grammar.specs.ModuleRecords.{duplicate_export, duplicate_defaults, defaults_among}
 use Rattle.js_record.proofs.record.exports_of.Goals as goal
 
@@ -11,5 +11,5 @@ returns c =
       indirect = b.indirect;
       star = b.star;
       bindings_are = a.bindings;
-      errors_are = c.in_ok-errors.ensures ∙ (λ j. map (duplicate_export (a.bindings j)) (a.replaced j) ++ duplicate_defaults (defaults_among (b.local j) ++ (defaults_among (b.indirect j) ++ c.args.skipped.now)))
+      errors_are = c.in_ok-errors.ensures ∙ (λ j. map (duplicate_export (a.bindings j)) (a.replaced j) ++ duplicate_defaults (defaults_among (b.local j) ++ (defaults_among (b.indirect j) ++ c.args.skipped.now)));
     }

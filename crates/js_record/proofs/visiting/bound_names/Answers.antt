@@ -1,4 +1,3 @@
-use Rattle.std.proofs.Common.{◌≡◌}
 use Rattle.js_record.proofs.ResultLemmas.{if_ok}
 use Rattle.js_record.proofs.TreeLemmas.{whole_contained, whole_good, whole_names}
 use Rattle.js_record.proofs.visiting.bound_names.Goals as goal

@@ -1,5 +1,4 @@
-use Rattle.std.proofs.Common.{◌∙◌}
-use Rattle.js_record.specs.Shown.{IsDeep, rest_of}
+use Rattle.js_record.specs.Shown.{IsDeep}
 use Rattle.js_record.proofs.ShownLemmas.{all_rest, all_first}
 use Rattle.js_record.proofs.visiting.export_from_part.Goals as goal
 

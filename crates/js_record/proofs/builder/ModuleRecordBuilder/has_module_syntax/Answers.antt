@@ -1,4 +1,4 @@
-use Rattle.std.proofs.Common.{◌≡◌, ◌≤◌, true, false, length, sym, ap, subst, ◌∙◌, arith}
+use Rattle.std.proofs.Common.{◌≡◌, sym, ap, ◌∙◌}
 use Rattle.js_grammar.specs.ModuleRecords.{Part, whole}
 use Rattle.js_record.proofs.PartLemmas.{whole_syntax, any_at, any_all}
 use Rattle.js_record.proofs.builder.ModuleRecordBuilder.has_module_syntax.Goals as goal

@@ -7,4 +7,4 @@ pub export_from_part-requires-clause-deep : goal.export_from_part-requires-claus
 export_from_part-requires-clause-deep c = read_deep c.args.tree.now c.args.source.now c.args.id c.requires
 
 pub returns-clause-ok : goal.returns-clause-ok
-returns-clause-ok c = on_ok c.keep.result (λ e l cs rs s. e ∙ ap (λ v. c.args.self.now ++ v ∷ []) (c.in_ok-visit.ensures ∙ export_from_is c.args.tree.now c.args.source.now  c.args.id.0 l cs rs s)) c.keep.ensures.ok
+returns-clause-ok c = on_ok c.keep.result (λ e l cs rs s. e ∙ ap (λ v. c.args.self.now ++ v ∷ []) (c.in_ok-visit.ensures ∙ export_from_is c.args.tree.now c.args.source.now c.args.id.0 l cs rs s)) c.keep.ensures.ok
