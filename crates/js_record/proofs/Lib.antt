@@ -1,0 +1,11 @@
+pub mod RecordLemmas
+pub mod FirstLemmas
+pub mod ExportLemmas
+pub mod PartLemmas
+pub mod LineLemmas
+pub mod KindLemmas
+pub mod SignLemmas
+pub mod ShownLemmas
+pub mod TreeLemmas
+pub mod ResultLemmas
+mod RecordExamples

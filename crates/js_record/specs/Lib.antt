@@ -1,0 +1,7 @@
+pub mod Names
+pub mod Firsts
+pub mod Places
+pub mod Options
+pub mod Exports
+pub mod NodeKinds
+pub mod Shown
