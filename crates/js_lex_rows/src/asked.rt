@@ -29,7 +29,7 @@ pub struct Asked<'a, C: LexerConfig> {
 
 impl<'a, C: LexerConfig> Asked<'a, C> {
     /// Nothing was read yet.
-    pub fn new(alloc: Global, lexer: Lexer<'a, C>, source: &'a str) -> Self {
+    pub(crate) fn new(alloc: Global, lexer: Lexer<'a, C>, source: &'a str) -> Self {
         Asked {
             alloc,
             lexer,
@@ -226,7 +226,7 @@ impl<'a, C: LexerConfig> Asked<'a, C> {
 
 /// Does what the words of a row ask for, in order. Numbers say which tokens are read again where all are read; `first`
 /// is done before.
-pub fn asked_of<C: LexerConfig>(
+pub(crate) fn asked_of<C: LexerConfig>(
     alloc: Global,
     mut asked: Asked<'_, C>,
     words: &str,
@@ -246,7 +246,7 @@ pub fn asked_of<C: LexerConfig>(
 }
 
 /// A lexer of which the first token was given, and that token.
-pub fn first_of<'a, C: LexerConfig>(
+pub(crate) fn first_of<'a, C: LexerConfig>(
     alloc: Global,
     mut lexer: Lexer<'a, C>,
     source: &'a str,

@@ -25,7 +25,7 @@ pub struct Row<'a> {
 
 impl<'a> Row<'a> {
     /// The row that a line is, if it is one.
-    pub fn read(line: &'a str) -> Option<Row<'a>> {
+    pub(crate) fn read(line: &'a str) -> Option<Row<'a>> {
         let (reader, rest) = line.split_once(" ¦ ")?;
         let (asked, rest) = rest.split_once(" ¦ ")?;
         let (text, want) = rest.split_once(" ¦ ")?;
@@ -85,7 +85,7 @@ fn named_character(piece: &str) -> Option<(char, &str)> {
 }
 
 /// What comes of a row, written.
-pub fn answer_of(alloc: Global, row: &Row<'_>) -> Result<String, NoMemory> {
+pub(crate) fn answer_of(alloc: Global, row: &Row<'_>) -> Result<String, NoMemory> {
     match row.config {
         "" | "tokens" => read_row(alloc, row, TokensLexerConfig),
         "no tokens" => read_row(alloc, row, NoTokensLexerConfig),

@@ -11,7 +11,7 @@ fn push_span(out: &mut String, name: &str, span: Span) -> Result<(), AllocError>
 }
 
 /// Parts what was written from what is to come, with `, `.
-pub fn push_comma(out: &mut String) -> Result<(), AllocError> {
+pub(crate) fn push_comma(out: &mut String) -> Result<(), AllocError> {
     if !(out.is_empty() || out.as_str().ends_with(": ")) {
         out.push_str(", ")?;
     }
@@ -19,7 +19,7 @@ pub fn push_comma(out: &mut String) -> Result<(), AllocError> {
 }
 
 /// Writes a token and its marks, behind what was written.
-pub fn push_token(out: &mut String, token: Token) -> Result<(), AllocError> {
+pub(crate) fn push_token(out: &mut String, token: Token) -> Result<(), AllocError> {
     push_span(out, token.kind().name(), token.span())?;
     if token.is_on_new_line() {
         out.push_str(" newline")?;
@@ -34,7 +34,7 @@ pub fn push_token(out: &mut String, token: Token) -> Result<(), AllocError> {
 }
 
 /// Writes tokens, behind what was written.
-pub fn push_tokens(out: &mut String, tokens: &Tokens) -> Result<(), AllocError> {
+pub(crate) fn push_tokens(out: &mut String, tokens: &Tokens) -> Result<(), AllocError> {
     for i in 0..tokens.len() {
         if let Some(token) = tokens.get(i) {
             push_token(out, *token)?;
@@ -44,7 +44,7 @@ pub fn push_tokens(out: &mut String, tokens: &Tokens) -> Result<(), AllocError> 
 }
 
 /// Writes faults, behind what was written.
-pub fn push_faults(out: &mut String, faults: &Diagnostics) -> Result<(), AllocError> {
+pub(crate) fn push_faults(out: &mut String, faults: &Diagnostics) -> Result<(), AllocError> {
     for i in 0..faults.len() {
         if let Some(fault) = faults.get(i) {
             push_span(out, fault.kind.name(), fault.span)?;
@@ -54,7 +54,7 @@ pub fn push_faults(out: &mut String, faults: &Diagnostics) -> Result<(), AllocEr
 }
 
 /// Writes white space, behind what was written.
-pub fn push_blanks(out: &mut String, blanks: &Spans) -> Result<(), AllocError> {
+pub(crate) fn push_blanks(out: &mut String, blanks: &Spans) -> Result<(), AllocError> {
     for i in 0..blanks.len() {
         if let Some(span) = blanks.get(i) {
             push_span(out, "blank", *span)?;
@@ -64,7 +64,7 @@ pub fn push_blanks(out: &mut String, blanks: &Spans) -> Result<(), AllocError> {
 }
 
 /// Writes comments and the places that they are attached to, behind what was written.
-pub fn push_comments(out: &mut String, comments: &Comments) -> Result<(), AllocError> {
+pub(crate) fn push_comments(out: &mut String, comments: &Comments) -> Result<(), AllocError> {
     for i in 0..comments.len() {
         if let Some(comment) = comments.get(i) {
             push_span(out, comment_name(comment.kind), comment.span)?;

@@ -46,7 +46,7 @@ fn ends_operand(kind: Kind) -> bool {
 }
 
 /// Takes a text apart, to its end.
-pub fn lex(alloc: Global, text: &str) -> Result<Pass, NoMemory>
+pub(crate) fn lex(alloc: Global, text: &str) -> Result<Pass, NoMemory>
     requires { length text.now ≤ MAX_LEN }
 {
     let mut lexer = Lexer::new(alloc, text, SourceType::script(), NoTokensLexerConfig);
