@@ -1,13 +1,13 @@
 -- What it is that a tree is a reading of a core text, and when a semicolon is left out in one (ECMA-262, 12.10).
-use Rattle.std.specs.Prelude.{ℕ, ◌≡◌, Bool, true, false, not, ◌&&◌, ◌||◌, List, [], ◌∷◌}
+use Rattle.std.specs.Prelude.{ℕ, ◌≡◌, IsTrue, Bool, true, false, not, ◌&&◌, ◌||◌, List, [], ◌∷◌}
 use Rattle.js_base.specs.declared.kind.Kind.{Kind}
 use Rattle.js_base.specs.declared.kind.Kind.TheVariants.{LParen, LBrack, Semicolon, Comma, Dot, Arrow, Question, QuestionDot, Plus2, Minus2, Eof}
 use Rattle.js_base.specs.Kinds.{same_kind, one_of_kinds}
-use Rattle.js_grammar.specs.Trees.{Tree}
-use Rattle.js_grammar.specs.Grammar.{Lexeme, Lexemes, last, Derives}
-use Rattle.js_grammar.specs.Insertion.{assign_operators, binary_operators}
-use Rattle.js_grammar.specs.Productions.{Name, Flags, Program, Symbol, G, at}
-use Rattle.js_grammar.specs.Table.{rule_of}
+use Rattle.js_grammar.specs.Trees.{Slots, end, Tree}
+use Rattle.js_grammar.specs.Grammar.{Lexeme, Lexemes, here, last, next, seen, may_omit, Takes, Derives}
+use Rattle.js_grammar.specs.Insertion.{assign_operators, binary_operators, by_edge}
+use Rattle.js_grammar.specs.Productions.{Name, Flags, Program, Expression, Symbol, G, at, sym}
+use Rattle.js_grammar.specs.Table.{rule_of, string}
 use Rattle.js_grammar.specs.Pruning.{pruned}
 use Rattle.js_grammar.specs.CoreGrammar.{core_kinds, dead, core_of, core_rule}
 use Rattle.js_grammar.specs.CoreTexts.{CoreSource}
@@ -36,6 +36,22 @@ continues before k = one_of_kinds binary_operators k || (one_of_kinds assign_ope
 -- By the last lexeme of a statement and the next one: the next one is the end, or on a new line, no `;`, and `++`, `--` or nothing that goes on.
 abbrev pub permitted_core : Lexeme → Lexeme → Bool
 permitted_core before y = same_kind Eof y.kind || (y.newline && (not (same_kind Semicolon y.kind) && (one_of_kinds (Plus2 ∷ Minus2 ∷ []) y.kind || not (continues before.kind y.kind))))
+
+-- The lexemes from one place to another, with x standing last.
+pub data EndsWith : Lexemes → Lexeme → Lexemes → Type 0 where
+  at_last : {x : Lexeme} {ls : Lexemes} → EndsWith (next x ls) x ls
+  later : {x y : Lexeme} {ls rest : Lexemes} → EndsWith ls x rest → EndsWith (next y ls) x rest
+
+abbrev pub core_lexeme : Lexeme → Bool
+core_lexeme y = one_of_kinds core_kinds y.kind && not y.escaped
+
+-- Behind what a core text may have before a semicolon, the rule by two lexemes says what the table by right edges says.
+abbrev pub SameOmission : G → Type 0
+SameOmission g = (ts : Slots) (i j : ℕ) (ls rest : Lexemes) (x : Lexeme) → Takes core_rule g end ts i ls end j rest → EndsWith ls x rest → IsTrue (core_lexeme (here rest)) → permitted_core x (here rest) ≡ seen (may_omit (by_edge (here ls) ts)) (here rest)
+
+pub record CoreOmission : Type 0 where
+  pub expressions : (f : Flags) → SameOmission (sym Expression f)
+  pub directives : SameOmission string
 
 -- Each line of the core grammar is the line of the whole one, cut down to core lexemes.
 abbrev pub CoreLines : Type 0

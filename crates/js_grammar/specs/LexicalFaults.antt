@@ -93,7 +93,7 @@ pub record InvalidNumber (text : List ℕ) (from : ℕ) : Type 0 where
   pub first : ℕ
   pub others : List ℕ
   pub here : behind text from ≡ first ∷ others
-  pub begun : IsTrue (is_decimal first || ((first == 46) && begins is_decimal others))
+  pub begun : IsTrue (is_decimal first || ((first == byte ".") && begins is_decimal others))
   pub none : (w rest : List ℕ) → first ∷ others ≡ w ++ rest → longest is_number_word w rest ≡ true → stops_number rest ≡ true → ⊥
 
 -- a name

@@ -1,8 +1,13 @@
 //! Laws about the grammar of the whole language.
 
-ghost use Rattle.js_grammar.specs.CoreReadings.{CoreLines};
+ghost use Rattle.js_grammar.specs.CoreReadings.{CoreLines, CoreOmission};
 
 /// Each line of the core grammar is the line of the whole one, cut down to core lexemes.
 pub fn law_of_core_lines()
     ensures { CoreLines }
+{}
+
+/// In core texts the rule by two lexemes for leaving a semicolon out says what the table by right edges says.
+pub fn law_of_core_omission()
+    ensures { CoreOmission }
 {}
