@@ -7,7 +7,7 @@ use Rattle.js_grammar.specs.Trees.{Slots, end, Tree}
 use Rattle.js_grammar.specs.Grammar.{Lexeme, Lexemes, here, last, next, seen, may_omit, Takes, Derives}
 use Rattle.js_grammar.specs.Insertion.{assign_operators, binary_operators, by_edge}
 use Rattle.js_grammar.specs.Productions.{Name, Flags, Program, Expression, Symbol, G, at, sym}
-use Rattle.js_grammar.specs.Table.{rule_of, string}
+use Rattle.js_grammar.specs.Table.{rule_of, rule, string}
 use Rattle.js_grammar.specs.Pruning.{pruned}
 use Rattle.js_grammar.specs.CoreGrammar.{core_kinds, dead, core_of, core_rule}
 use Rattle.js_grammar.specs.CoreTexts.{CoreSource}
@@ -52,6 +52,15 @@ SameOmission g = (ts : Slots) (i j : ℕ) (ls rest : Lexemes) (x : Lexeme) → T
 pub record CoreOmission : Type 0 where
   pub expressions : (f : Flags) → SameOmission (sym Expression f)
   pub directives : SameOmission string
+
+-- core lexemes alone, and the end
+abbrev pub AllCore : Lexemes → Type 0
+AllCore (last x) = IsTrue (core_lexeme x)
+AllCore (next x ls) = IsTrue (core_lexeme x) × AllCore ls
+
+-- From core lexemes the whole grammar and the core grammar derive the same.
+abbrev pub CoreDerivations : Type 0
+CoreDerivations = (n : Symbol) (t : Tree) (i j : ℕ) (ls rest : Lexemes) → AllCore ls → (Derives rule n t i ls j rest → Derives core_rule n t i ls j rest) × (Derives core_rule n t i ls j rest → Derives rule n t i ls j rest)
 
 -- Each line of the core grammar is the line of the whole one, cut down to core lexemes.
 abbrev pub CoreLines : Type 0
