@@ -3,8 +3,9 @@ use Rattle.std.proofs.Common.{◌≡◌, ◌<◌, ◌≤◌, ℕ, zero, suc, ◌
 use Rattle.std.specs.Prelude.{chars, codes, IsUtf8}
 use Rattle.js_base.specs.declared.kind.Kind.{Kind}
 use Rattle.js_base.specs.declared.kind.Kind.TheVariants.{Eof, RegExp}
-use Rattle.js_base.specs.Kinds.{code, same_kind}
+use Rattle.js_base.specs.Kinds.{code, same_kind, one_of_kinds}
 use Rattle.js_grammar.specs.Grammar.{Lexeme, Lexemes, last, next}
+use Rattle.js_base.specs.Texts.{words}
 use Rattle.js_base.specs.Characters.{one_of}
 use Rattle.js_grammar.specs.Characters.{width}
 use Rattle.js_grammar.specs.Longest.{longest, joined}
@@ -12,10 +13,12 @@ use Rattle.js_grammar.specs.Trivia.{are_trivia, lack_html_comments, after, withi
 use Rattle.js_grammar.specs.Numbers.{is_number, stops_number}
 use Rattle.js_grammar.specs.RegularExpressions.{flags, flagged, flags_pass, behind_pattern}
 use Rattle.js_grammar.specs.Templates.{template_tail_kind}
-use Rattle.js_grammar.specs.Lexemes.{LexicalGoal, division, regular_expression, template_tail, hashbang, kind_in, lexemes_in}
+use Rattle.js_grammar.specs.Lexemes.{LexicalGoal, division, regular_expression, template_tail, hashbang, kind_in, lexemes_in, is_escaped}
 use Rattle.js_grammar.specs.Lexed.{Lexes}
 use Rattle.js_grammar.specs.Lexed.{Passing, in_script, in_module, all_faults, passing_of, Lex, Stands, comments_pass, flags_right, ends_once}
 use Rattle.js_grammar.specs.LexicalLaws.{OneList}
+use Rattle.js_grammar.specs.CoreGrammar.{core_kinds}
+use Rattle.js_grammar.specs.CoreReadings.{core_lexeme, AllCore, CoreLexemes}
 use Rattle.js_grammar.specs.CoreTexts.{CoreSource, are_core, ends_in_glue, occurs}
 use Rattle.js_grammar.proofs.LongestLemmas.{both-left, both-right, both, not-true}
 use Rattle.js_grammar.proofs.Finding.{neither-left, neither-right}
@@ -168,9 +171,20 @@ stands_of qs w rest a e t = record { within = a.within; splits = at-chars a ∙ 
 at_along : {text : List ℕ} {s : ℕ} {cs ds : List ℕ} → cs ≡ ds → At text s cs → At text s ds
 at_along {text = text} {s = s} e a = subst (λ (v : List ℕ). At text s v) e a
 
+-- and all of them are core lexemes
+abbrev CoreTail : List ℕ → ℕ → Type 0
+CoreTail text s = (t : Tail text s) × AllCore t.list
+
+end_core : (text : List ℕ) (s : ℕ) (qs : List (List ℕ)) (h : Single text s (lexeme_of s qs [] Eof)) → AllCore (tail_end text s (lexeme_of s qs [] Eof) h refl).list
+unfolding words
+end_core text s qs h = subst AllCore (sym (tail_end-list text s (lexeme_of s qs [] Eof) h refl)) refl
+
+next_core : (text : List ℕ) (s : ℕ) (x : Lexeme) (h : Single text s x) (e : same_kind Eof x.kind ≡ false) (t : Tail text x.to) → core_lexeme x ≡ true → AllCore t.list → AllCore (tail_next text s x h e t).list
+next_core text s x h e t c a = subst AllCore (sym (tail_next-list text s x h e t)) (c, a)
+
 finish : (text : List ℕ) (s : ℕ) (ps : List (List ℕ)) → At text s (joined ps) → Lacks (joined ps) → Ahead (s == 0) ps
-    → ((i : ℕ) (glued : Bool) (qs : List (List ℕ)) → length qs < length ps → are_core glued qs ≡ true → Lacks (joined qs) → At text i (joined qs) → Tail text i) → Tail text s
-finish text s ps a l (ends qs e t h) rec = tail_end text s (lexeme_of s qs [] Eof) (at_end text s qs (stands_of qs [] [] a e t) h) refl
+    → ((i : ℕ) (glued : Bool) (qs : List (List ℕ)) → length qs < length ps → are_core glued qs ≡ true → Lacks (joined qs) → At text i (joined qs) → CoreTail text i) → CoreTail text s
+finish text s ps a l (ends qs e t h) rec = let x = at_end text s qs (stands_of qs [] [] a e t) h in (tail_end text s (lexeme_of s qs [] Eof) x refl, end_core text s qs x)
 finish text s ps a l (word qs c cs later e t h f i k m) rec =
     let st = stands_of qs (c ∷ cs) (joined later) a e t in
     let inside = not-true (one_of (code Eof ∷ code RegExp ∷ []) (code i.kind)) i.inside in
@@ -181,15 +195,24 @@ finish text s ps a l (word qs c cs later e t h f i k m) rec =
     let a3 : At text (s + width (joined qs) + width (c ∷ cs)) (joined later) = at-behind (c ∷ cs) (joined later) a2 in
     let l1 : Lacks (joined qs ++ (c ∷ cs ++ joined later)) = subst (λ (v : List ℕ). Lacks v) e l in
     let l2 = lacks-behind (c ∷ cs) (joined later) (lacks-behind (joined qs) (c ∷ cs ++ joined later) l1) in
-    tail_next text s (lexeme_of s qs (c ∷ cs) i.kind) (at_word text s qs c cs (joined later) st h f i no_regular) no_end (rec (s + width (joined qs) + width (c ∷ cs)) (ends_in_glue (c ∷ cs)) later m k l2 a3)
+    let x = at_word text s qs c cs (joined later) st h f i no_regular in
+    let r = rec (s + width (joined qs) + width (c ∷ cs)) (ends_in_glue (c ∷ cs)) later m k l2 a3 in
+    (tail_next text s (lexeme_of s qs (c ∷ cs) i.kind) x no_end r.0, next_core text s (lexeme_of s qs (c ∷ cs) i.kind) x no_end r.0 (both (one_of_kinds core_kinds i.kind) (not (is_escaped i.kind (c ∷ cs))) i.core (rw i.unescaped refl)) r.1)
 
-build : (text : List ℕ) (n s : ℕ) (glued : Bool) (ps : List (List ℕ)) → length ps ≤ n → are_core glued ps ≡ true → Lacks (joined ps) → At text s (joined ps) → Tail text s
+build : (text : List ℕ) (n s : ℕ) (glued : Bool) (ps : List (List ℕ)) → length ps ≤ n → are_core glued ps ≡ true → Lacks (joined ps) → At text s (joined ps) → CoreTail text s
 build text zero s glued ps m k l a = finish text s ps a l (ahead (s == 0) glued ps k l) (λ i g qs b _ _ _. absurd (omega arith))
 build text (suc n) s glued ps m k l a = finish text s ps a l (ahead (s == 0) glued ps k l) (λ i g qs b k' l' a'. build text n i g qs (omega arith) k' l' a')
 
-pub core_text : (text : List ℕ) → IsUtf8 text → CoreSource text → OneList text
-core_text text u c =
+built : (text : List ℕ) → IsUtf8 text → CoreSource text → CoreTail text 0
+built text u c =
     let a : At text 0 (joined c.pieces) = at_along c.splits (at-start text u) in
     let l : Lacks (joined c.pieces) = subst (λ (v : List ℕ). Lacks v) c.splits (record { open_mark = not-true (occurs (codes "<!--") (chars text)) c.lacks_open; close_mark = not-true (occurs (codes "-->") (chars text)) c.lacks_close }) in
-    let t = build text (length c.pieces) 0 false c.pieces (omega arith) c.core l a in
+    build text (length c.pieces) 0 false c.pieces (omega arith) c.core l a
+
+pub core_text : (text : List ℕ) → IsUtf8 text → CoreSource text → OneList text
+core_text text u c =
+    let t = (built text u c).0 in
     record { lexemes = t.list; lexed = λ g. record { lexes = t.lexes (passing_of g); ends = t.once }; only = λ g ls h. t.only (passing_of g) ls h.lexes h.ends }
+
+pub core_lexemes : CoreLexemes
+core_lexemes text u c g ls h = let t = built text u c in subst AllCore (sym (t.0.only (passing_of g) ls h.lexes h.ends)) t.1

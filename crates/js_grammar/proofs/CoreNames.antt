@@ -10,12 +10,13 @@ use Rattle.js_grammar.specs.Characters.{is_identifier_start, is_identifier_part,
 use Rattle.js_grammar.specs.Longest.{longest, none_longer}
 use Rattle.js_base.specs.Escapes.{in_name, read_from, outside, before_all}
 use Rattle.js_base.specs.Keywords.{keyword_of}
-use Rattle.js_grammar.specs.Names.{is_plain_name, named, name_of, word_of}
+use Rattle.js_grammar.specs.Names.{is_plain_name, has_backslash, named, name_of, word_of}
 use Rattle.js_grammar.specs.Numbers.{is_number, stops_number}
-use Rattle.js_grammar.specs.Lexemes.{plain_kind, lexemes_in, kind_in, division, a_name}
+use Rattle.js_grammar.specs.Lexemes.{plain_kind, lexemes_in, kind_in, division, a_name, is_escaped}
+use Rattle.js_grammar.specs.CoreGrammar.{core_kinds}
 use Rattle.js_grammar.specs.CoreTexts.{is_core_piece, is_ascii_name, is_core_number, is_core_blank, is_core_string, is_core_punctuator, core_words}
-use Rattle.js_grammar.proofs.LongestLemmas.{both-left, both-right, both, none_longer-at}
-use Rattle.js_grammar.proofs.Finding.{neither-left, neither-right, kind_member, all-append, all-both}
+use Rattle.js_grammar.proofs.LongestLemmas.{both-left, both-right, both, not-true, none_longer-at}
+use Rattle.js_grammar.proofs.Finding.{neither-left, neither-right, kind_member, kind_passes, all-append, all-both}
 use Rattle.js_grammar.proofs.CoreLemmas.{below, implies, implied, none_longer-from, plain_of, opens, opens-same}
 use Rattle.js_grammar.proofs.CoreFirst.{is_core_first, lt-true, lt-is, name_opens}
 use Rattle.js_grammar.proofs.CorePlain.{no_backslash, points-append, points-plain, points-one}
@@ -42,6 +43,8 @@ pub record IsPlain (w rest : List ℕ) : Type 0 where
   pub apart : (not (is_number kind) || stops_number rest) ≡ true
   -- neither the end of the text nor a regular expression
   pub inside : not (one_of (code Eof ∷ code RegExp ∷ []) (code kind)) ≡ true
+  pub core : one_of_kinds core_kinds kind ≡ true
+  pub unescaped : is_escaped kind w ≡ false
 
 -- the numbers of the kinds of numbers
 abbrev pub is_number_code : ℕ → Bool
@@ -113,6 +116,17 @@ next_no_part c cs d more h l n = go (is_identifier_part d) refl
         let r = both (is_plain_name (c ∷ cs ++ d ∷ [])) (list_all (λ x. nat_lt x 128) (c ∷ cs ++ d ∷ [])) p q in
         cc
 
+pub no_backslash_has : (xs : List ℕ) → list_all no_backslash xs ≡ true → has_backslash xs ≡ false
+no_backslash_has [] h = refl
+no_backslash_has (x ∷ xs) h = rw (not-true (x == 92) (both-left (no_backslash x) (list_all no_backslash xs) h)) (no_backslash_has xs (both-right (no_backslash x) (list_all no_backslash xs) h))
+
+no_escape : (k : Kind) (w : List ℕ) → list_all no_backslash w ≡ true → is_escaped k w ≡ false
+no_escape k w h = go _ (has_backslash w) (no_backslash_has w h)
+  where
+    go : (a b : Bool) → b ≡ false → (a && b) ≡ false
+    go true b e = e
+    go false b e = refl
+
 -- a name behind which a character stands that no name goes on with, or nothing
 pub plain_word : (c : ℕ) (cs rest : List ℕ) → is_ascii_name (c ∷ cs) ≡ true → one_of_kinds core_words (keyword_of (c ∷ cs)) ≡ true → ((d : ℕ) (r : List ℕ) → rest ≡ d ∷ r → (no_backslash d ≡ true) × (is_identifier_part d ≡ false)) → IsPlain (c ∷ cs) rest
 plain_word c cs rest h k b =
@@ -126,6 +140,8 @@ plain_word c cs rest h k b =
       is = kd;
       apart = no_number_apart (keyword_of (c ∷ cs)) rest (kind_member (λ i. not (is_number_code i)) core_words (keyword_of (c ∷ cs)) k refl);
       inside = kind_member (λ i. not (one_of (code Eof ∷ code RegExp ∷ []) i)) core_words (keyword_of (c ∷ cs)) k refl;
+      core = kind_passes (one_of_kinds core_kinds) core_words (keyword_of (c ∷ cs)) k refl;
+      unescaped = no_escape (keyword_of (c ∷ cs)) (c ∷ cs) (name_no_backslash c cs h);
     }
 
 pub plain_word-kind : (c : ℕ) (cs rest : List ℕ) (h : is_ascii_name (c ∷ cs) ≡ true) (k : one_of_kinds core_words (keyword_of (c ∷ cs)) ≡ true) (b : (d : ℕ) (r : List ℕ) → rest ≡ d ∷ r → (no_backslash d ≡ true) × (is_identifier_part d ≡ false)) → (plain_word c cs rest h k b).kind ≡ keyword_of (c ∷ cs)

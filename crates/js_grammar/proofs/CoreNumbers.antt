@@ -5,6 +5,7 @@ use Rattle.std.specs.List.{list_all}
 use Rattle.js_base.specs.declared.kind.Kind.{Kind}
 use Rattle.js_base.specs.declared.kind.Kind.TheVariants.{Decimal}
 use Rattle.js_base.specs.Characters.{one_of, is_decimal}
+use Rattle.js_base.specs.Texts.{words}
 use Rattle.js_grammar.specs.Characters.{is_identifier_start, begins}
 use Rattle.js_grammar.specs.Longest.{none_longer}
 use Rattle.js_grammar.specs.Numbers.{Rest, number_kind, zero_rest, digits, integer_rest, decimal_rest, exponent, is_number, stops_number}
@@ -123,6 +124,7 @@ stops [] b g = refl
 stops (d ∷ r) b g = rw (glue-stop d (b d r refl) g) refl
 
 pub plain_number : (c : ℕ) (cs rest : List ℕ) → is_core_number (c ∷ cs) ≡ true → begins is_glue rest ≡ false → Before rest → IsPlain (c ∷ cs) rest
+unfolding words
 plain_number c cs rest h g b =
     let d = both-left (is_decimal c) (list_all is_decimal cs && (not (c == 48) || nothing_left cs)) h in
     let kd : plain_kind (c ∷ cs) rest ≡ Some Decimal = plain_of a_number c cs rest (number-opens c (begins is_decimal cs) d) ∙ number-itself c cs h in
@@ -135,6 +137,8 @@ plain_number c cs rest h g b =
       is = kd;
       apart = stops rest b g;
       inside = refl;
+      core = refl;
+      unescaped = refl;
     }
 
 pub plain_number-kind : (c : ℕ) (cs rest : List ℕ) (h : is_core_number (c ∷ cs) ≡ true) (g : begins is_glue rest ≡ false) (b : Before rest) → (plain_number c cs rest h g b).kind ≡ Decimal

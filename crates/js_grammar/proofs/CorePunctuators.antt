@@ -3,13 +3,15 @@ use Rattle.std.proofs.Common.{◌≡◌, ℕ, ◌==◌, Bool, true, false, List,
 use Rattle.std.specs.Prelude.{is_some, bytes_eq, nat_eq}
 use Rattle.std.specs.List.{list_all, find}
 use Rattle.js_base.specs.declared.kind.Kind.{Kind}
-use Rattle.js_base.specs.declared.kind.Kind.TheVariants.{LCurly, RCurly, At, Slash, SlashEq, Eof, RegExp}
-use Rattle.js_base.specs.Kinds.{code}
-use Rattle.js_base.specs.Texts.{text_of, punctuators}
+use Rattle.js_base.specs.declared.kind.Kind.TheVariants.{LCurly, RCurly, At, Slash, SlashEq, PrivateIdentifier, Eof, RegExp}
+use Rattle.js_base.specs.Kinds.{code, same_kind, one_of_kinds}
+use Rattle.js_base.specs.Texts.{text_of, punctuators, words}
 use Rattle.js_base.specs.Characters.{one_of, is_decimal}
 use Rattle.js_grammar.specs.Characters.{begins}
 use Rattle.js_grammar.specs.Longest.{none_longer}
-use Rattle.js_grammar.specs.Lexemes.{plain_kind, lexemes_in, division, a_punctuator, Opening, opening, may_precede, punctuator_kind}
+use Rattle.js_grammar.specs.Lexemes.{plain_kind, lexemes_in, division, a_punctuator, Opening, opening, may_precede, punctuator_kind, is_word}
+use Rattle.js_grammar.specs.CoreGrammar.{core_kinds as kinds_of_core}
+use Rattle.js_grammar.specs.Names.{has_backslash}
 use Rattle.js_grammar.specs.CoreTexts.{is_core_piece, is_core_blank, is_ascii_name, is_core_number, is_core_string, is_core_punctuator, core_punctuators, ends_in_glue, is_glue}
 use Rattle.js_grammar.proofs.LongestLemmas.{both-left, both-right, both, not-true, none_longer-at}
 use Rattle.js_grammar.proofs.Finding.{neither-left, neither-right, found-all}
@@ -74,7 +76,7 @@ no_core_piece : (v more : List ℕ) → is_core_piece v more ≡ false → is_co
 no_core_piece v more n = neither-right (is_core_string v) (is_core_punctuator v more) (neither-right (is_core_number v) (is_core_string v || is_core_punctuator v more) (neither-right (is_ascii_name v) (is_core_number v || (is_core_string v || is_core_punctuator v more)) (neither-right (is_core_blank v) (is_ascii_name v || (is_core_number v || (is_core_string v || is_core_punctuator v more))) n)))
 
 pub plain_punctuator : (c : ℕ) (cs rest : List ℕ) → is_core_punctuator (c ∷ cs) rest ≡ true → none_longer is_core_piece (c ∷ cs) rest ≡ true → (ends_in_glue (c ∷ cs) ≡ true → begins is_decimal rest ≡ false) → IsPlain (c ∷ cs) rest
-unfolding core_punctuators
+unfolding core_punctuators words
 plain_punctuator c cs rest h n g =
     let m = punctuator_mark c cs rest h in
     let first = both-left (is_core_first c) (opens (opening c false) a_punctuator) m.mark in
@@ -89,4 +91,6 @@ plain_punctuator c cs rest h n g =
       is = kd;
       apart = no_number_apart m.kind rest (found-all (λ k. bytes_eq (text_of k) (c ∷ cs) && may_precede k rest) (λ k. not (is_number_code (code k))) core_punctuators m.kind m.listed refl);
       inside = found-all (λ k. bytes_eq (text_of k) (c ∷ cs) && may_precede k rest) (λ k. not (one_of (code Eof ∷ code RegExp ∷ []) (code k))) core_punctuators m.kind m.listed refl;
+      core = found-all (λ k. bytes_eq (text_of k) (c ∷ cs) && may_precede k rest) (one_of_kinds kinds_of_core) core_punctuators m.kind m.listed refl;
+      unescaped = and-left (is_word m.kind || same_kind PrivateIdentifier m.kind) (has_backslash (c ∷ cs)) (not-true (is_word m.kind || same_kind PrivateIdentifier m.kind) (found-all (λ k. bytes_eq (text_of k) (c ∷ cs) && may_precede k rest) (λ k. not (is_word k || same_kind PrivateIdentifier k)) core_punctuators m.kind m.listed refl));
     }

@@ -5,6 +5,7 @@ use Rattle.std.specs.List.{list_all}
 use Rattle.std.proofs.lemmas.Bool.{eqb-true}
 use Rattle.js_base.specs.declared.kind.Kind.TheVariants.{Str}
 use Rattle.js_base.specs.Characters.{one_of, is_decimal}
+use Rattle.js_base.specs.Texts.{words}
 use Rattle.js_grammar.specs.Characters.{begins}
 use Rattle.js_grammar.specs.Longest.{none_longer}
 use Rattle.js_base.specs.Escapes.{in_string, code_points, line_feeds, line_feeds_after}
@@ -134,6 +135,7 @@ quote_opens q true h = opens-same _ _ (member (λ c. opens (opening c true) a_st
 quote_opens q false h = opens-same _ _ (member (λ c. opens (opening c false) a_string) (34 ∷ 39 ∷ []) q h refl)
 
 plain_body : (q : ℕ) (body rest : List ℕ) → one_of (34 ∷ 39 ∷ []) q ≡ true → list_all (plain_in q) body ≡ true → IsPlain (q ∷ body ++ q ∷ []) rest
+unfolding words
 plain_body q body rest o h =
     let kd : plain_kind (q ∷ body ++ q ∷ []) rest ≡ Some Str = plain_of a_string q (body ++ q ∷ []) rest (quote_opens q (begins is_decimal (body ++ q ∷ [])) o) ∙ string-itself q body o h in
     record {
@@ -145,6 +147,8 @@ plain_body q body rest o h =
       is = kd;
       apart = refl;
       inside = refl;
+      core = refl;
+      unescaped = refl;
     }
 
 pub plain_string : (q : ℕ) (cs rest : List ℕ) → is_core_string (q ∷ cs) ≡ true → IsPlain (q ∷ cs) rest

@@ -5,6 +5,7 @@ use Rattle.std.specs.List.{list_all, find}
 use Rattle.std.proofs.lemmas.Bool.{eqb-true}
 use Rattle.js_base.specs.declared.kind.Kind.{Kind}
 use Rattle.js_base.specs.Kinds.{code, same_kind, one_of_kinds}
+use Rattle.js_base.proofs.KindLemmas.{kind_of_same}
 use Rattle.js_base.specs.Characters.{one_of}
 use Rattle.js_grammar.proofs.LongestLemmas.{both-left, both-right, both}
 
@@ -29,6 +30,14 @@ member t [] c h a = cc
 member t (d ∷ ds) c h a = elim (either (d == c) (one_of ds c) h) [
   | inl e ↦ subst (λ (x : ℕ). t x ≡ true) (eqb-true d c e) (both-left (t d) (list_all t ds) a)
   | inr m ↦ member t ds c m (both-right (t d) (list_all t ds) a)
+]
+
+-- of a kind
+pub kind_passes : (t : Kind → Bool) (ks : List Kind) (k : Kind) → one_of_kinds ks k ≡ true → list_all t ks ≡ true → t k ≡ true
+kind_passes t [] k h a = cc
+kind_passes t (d ∷ ks) k h a = elim (either (same_kind d k) (one_of_kinds ks k) h) [
+  | inl e ↦ subst (λ (x : Kind). t x ≡ true) (kind_of_same d k e) (both-left (t d) (list_all t ks) a)
+  | inr m ↦ kind_passes t ks k m (both-right (t d) (list_all t ks) a)
 ]
 
 -- of a kind, by its number

@@ -25,6 +25,7 @@ use Rattle.js_grammar.specs.Trivia.{are_trivia, lack_html_comments, is_trivia_pi
 use Rattle.js_base.specs.Escapes.{code_units}
 use Rattle.js_grammar.specs.Lexemes.{plain_kind, lexemes_in, division, a_punctuator, opening, may_precede, punctuator_kind, is_escaped, units_of}
 use Rattle.js_grammar.specs.Names.{has_backslash}
+use Rattle.js_grammar.specs.CoreGrammar.{core_kinds}
 use Rattle.js_grammar.specs.CoreTexts.{is_ascii_name, is_core_number, core_words, is_glue, starts}
 use Rattle.js_grammar.specs.Strings.{nothing_left}
 use Rattle.js_grammar.specs.Lexed.{Stands, ends_once}
@@ -32,7 +33,7 @@ use Rattle.js_grammar.proofs.LongestLemmas.{both-left, both-right, both, not-tru
 use Rattle.js_grammar.proofs.Finding.{either, neither, neither-left, neither-right, member, kind_member, all-mono, all-both}
 use Rattle.js_grammar.proofs.CoreLemmas.{none_longer-from, plain_of}
 use Rattle.js_grammar.proofs.CoreFirst.{is_core_first, lt-true, lt-is}
-use Rattle.js_grammar.proofs.CoreNames.{Before, IsPlain, ascii, core_ascii, core_no_backslash, plain_word, plain_word-kind, name-of-plain, is_number_code, no_number_apart}
+use Rattle.js_grammar.proofs.CoreNames.{Before, IsPlain, no_backslash_has, ascii, core_ascii, core_no_backslash, plain_word, plain_word-kind, name-of-plain, is_number_code, no_number_apart}
 use Rattle.js_grammar.proofs.CorePlain.{no_backslash}
 use Rattle.js_grammar.proofs.CoreNumbers.{plain_number, plain_number-kind}
 use Rattle.js_grammar.proofs.CoreTrivia.{is_lexeme_first, blank_piece, blank_no_html, no_trivia, blanks}
@@ -163,9 +164,6 @@ units_plain (x ∷ xs) h =
     let r = units_plain xs (both-right (ascii_byte x) (list_all ascii_byte xs) h) in
     rw e (ap (λ (v : List ℕ). x ∷ v) r)
 
-no_backslash_has : (xs : List ℕ) → list_all no_backslash xs ≡ true → has_backslash xs ≡ false
-no_backslash_has xs h = none-any (λ c. c == 92) no_backslash xs (λ c k. not-true (c == 92) k) h
-
 no_start : (a : ℕ) (as' : List ℕ) (c : ℕ) (cs : List ℕ) → (a == c) ≡ false → starts (a ∷ as') (c ∷ cs) ≡ false
 no_start a as' c cs h = rw h refl
 
@@ -289,6 +287,7 @@ record Mark (k : Kind) (c : ℕ) : Type 0 where
   pub close : (rest : List ℕ) → starts (codes "-->") (c ∷ rest) ≡ true → is_longest k (c ∷ rest) ≡ true → ⊥
   pub number : not (is_number_code (code k)) ≡ true
   pub inside : not (one_of (code Eof ∷ code RegExp ∷ []) (code k)) ≡ true
+  pub core : one_of_kinds core_kinds k ≡ true
   pub escaped : false ≡ is_escaped k (c ∷ [])
   pub units : [] ≡ units_of k (c ∷ [])
 
@@ -305,27 +304,27 @@ minus_close (d ∷ r) s h =
 
 left_mark : Mark LParen 40
 unfolding punctuators words
-left_mark = record { text = refl; opens = refl; opens_digit = refl; kind = λ r. refl; begins = refl; ascii = refl; less = refl; close = λ r s h. no_minus 40 r refl s; number = refl; inside = refl; escaped = refl; units = refl }
+left_mark = record { text = refl; opens = refl; opens_digit = refl; kind = λ r. refl; begins = refl; ascii = refl; less = refl; close = λ r s h. no_minus 40 r refl s; number = refl; inside = refl; core = refl; escaped = refl; units = refl }
 
 right_mark : Mark RParen 41
 unfolding punctuators words
-right_mark = record { text = refl; opens = refl; opens_digit = refl; kind = λ r. refl; begins = refl; ascii = refl; less = refl; close = λ r s h. no_minus 41 r refl s; number = refl; inside = refl; escaped = refl; units = refl }
+right_mark = record { text = refl; opens = refl; opens_digit = refl; kind = λ r. refl; begins = refl; ascii = refl; less = refl; close = λ r s h. no_minus 41 r refl s; number = refl; inside = refl; core = refl; escaped = refl; units = refl }
 
 semicolon_mark : Mark Semicolon 59
 unfolding punctuators words
-semicolon_mark = record { text = refl; opens = refl; opens_digit = refl; kind = λ r. refl; begins = refl; ascii = refl; less = refl; close = λ r s h. no_minus 59 r refl s; number = refl; inside = refl; escaped = refl; units = refl }
+semicolon_mark = record { text = refl; opens = refl; opens_digit = refl; kind = λ r. refl; begins = refl; ascii = refl; less = refl; close = λ r s h. no_minus 59 r refl s; number = refl; inside = refl; core = refl; escaped = refl; units = refl }
 
 plus_mark : Mark Plus 43
 unfolding punctuators words
-plus_mark = record { text = refl; opens = refl; opens_digit = refl; kind = λ r. refl; begins = refl; ascii = refl; less = refl; close = λ r s h. no_minus 43 r refl s; number = refl; inside = refl; escaped = refl; units = refl }
+plus_mark = record { text = refl; opens = refl; opens_digit = refl; kind = λ r. refl; begins = refl; ascii = refl; less = refl; close = λ r s h. no_minus 43 r refl s; number = refl; inside = refl; core = refl; escaped = refl; units = refl }
 
 minus_mark : Mark Minus 45
 unfolding punctuators words
-minus_mark = record { text = refl; opens = refl; opens_digit = refl; kind = λ r. refl; begins = refl; ascii = refl; less = refl; close = minus_close; number = refl; inside = refl; escaped = refl; units = refl }
+minus_mark = record { text = refl; opens = refl; opens_digit = refl; kind = λ r. refl; begins = refl; ascii = refl; less = refl; close = minus_close; number = refl; inside = refl; core = refl; escaped = refl; units = refl }
 
 star_mark : Mark Star 42
 unfolding punctuators words
-star_mark = record { text = refl; opens = refl; opens_digit = refl; kind = λ r. refl; begins = refl; ascii = refl; less = refl; close = λ r s h. no_minus 42 r refl s; number = refl; inside = refl; escaped = refl; units = refl }
+star_mark = record { text = refl; opens = refl; opens_digit = refl; kind = λ r. refl; begins = refl; ascii = refl; less = refl; close = λ r s h. no_minus 42 r refl s; number = refl; inside = refl; core = refl; escaped = refl; units = refl }
 
 -- the text goes on with the punctuator's character
 begun : (c : ℕ) (bs : List ℕ) → begins (c ∷ []) bs ≡ true → (r : List ℕ) × (bs ≡ c ∷ r)
@@ -348,6 +347,8 @@ plain_mark k c rest m h =
       is = kd;
       apart = no_number_apart k rest m.number;
       inside = m.inside;
+      core = m.core;
+      unescaped = sym m.escaped;
     }
   where
     by_digit : (b : Bool) → opening c b ≡ a_punctuator

@@ -1,5 +1,5 @@
 -- What it is that a tree is a reading of a core text, and when a semicolon is left out in one (ECMA-262, 12.10).
-use Rattle.std.specs.Prelude.{ℕ, ◌≡◌, IsTrue, Bool, true, false, not, ◌&&◌, ◌||◌, List, [], ◌∷◌}
+use Rattle.std.specs.Prelude.{ℕ, ◌≡◌, IsTrue, IsUtf8, Bool, true, false, not, ◌&&◌, ◌||◌, List, [], ◌∷◌}
 use Rattle.js_base.specs.declared.kind.Kind.{Kind}
 use Rattle.js_base.specs.declared.kind.Kind.TheVariants.{LParen, LBrack, Semicolon, Comma, Dot, Arrow, Question, QuestionDot, Plus2, Minus2, Eof}
 use Rattle.js_base.specs.Kinds.{same_kind, one_of_kinds}
@@ -12,7 +12,7 @@ use Rattle.js_grammar.specs.Pruning.{pruned}
 use Rattle.js_grammar.specs.CoreGrammar.{core_kinds, dead, core_of, core_rule}
 use Rattle.js_grammar.specs.CoreTexts.{CoreSource}
 use Rattle.js_grammar.specs.Lexed.{Lexed}
-use Rattle.js_grammar.specs.Settings.{script}
+use Rattle.js_grammar.specs.Settings.{Goal, script}
 use Rattle.js_grammar.specs.Options.{Options, program_flags}
 
 -- the options, with parentheses kept and `return` left out
@@ -57,6 +57,10 @@ pub record CoreOmission : Type 0 where
 abbrev pub AllCore : Lexemes → Type 0
 AllCore (last x) = IsTrue (core_lexeme x)
 AllCore (next x ls) = IsTrue (core_lexeme x) × AllCore ls
+
+-- The lexemes of a core text are core lexemes.
+abbrev pub CoreLexemes : Type 0
+CoreLexemes = (text : List ℕ) → IsUtf8 text → CoreSource text → (goal : Goal) (ls : Lexemes) → Lexed goal text ls → AllCore ls
 
 -- From core lexemes the whole grammar and the core grammar derive the same.
 abbrev pub CoreDerivations : Type 0

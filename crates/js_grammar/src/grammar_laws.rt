@@ -1,6 +1,6 @@
 //! Laws about the grammar of the whole language.
 
-ghost use Rattle.js_grammar.specs.CoreReadings.{CoreLines, CoreOmission, CoreDerivations};
+ghost use Rattle.js_grammar.specs.CoreReadings.{CoreLines, CoreOmission, CoreDerivations, CoreLexemes};
 
 /// Each line of the core grammar is the line of the whole one, cut down to core lexemes.
 pub fn law_of_core_lines()
@@ -10,6 +10,11 @@ pub fn law_of_core_lines()
 /// In core texts the rule by two lexemes for leaving a semicolon out says what the table by right edges says.
 pub fn law_of_core_omission()
     ensures { CoreOmission }
+{}
+
+/// The lexemes of a core text are core lexemes.
+pub fn law_of_core_lexemes()
+    ensures { CoreLexemes }
 {}
 
 /// From core lexemes the whole grammar and the core grammar derive the same trees.
