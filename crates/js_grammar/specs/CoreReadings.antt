@@ -37,6 +37,18 @@ continues before k = one_of_kinds binary_operators k || (one_of_kinds assign_ope
 abbrev pub permitted_core : Lexeme → Lexeme → Bool
 permitted_core before y = same_kind Eof y.kind || (y.newline && (not (same_kind Semicolon y.kind) && (one_of_kinds (Plus2 ∷ Minus2 ∷ []) y.kind || not (continues before.kind y.kind))))
 
+-- Program derives the tree from the text's lexemes by the whole table.
+pub record IsDerived (text : List ℕ) (v8 : Bool) (t : Tree) : Type 0 where
+  pub lexemes : Lexemes
+  pub lexed : Lexed script text lexemes
+  pub end : ℕ
+  pub final : Lexeme
+  pub derived : Derives rule (at Program (program_flags script (core_options v8))) t 0 lexemes end (last final)
+
+-- On core texts that is the same.
+abbrev pub CoreReading : Type 0
+CoreReading = (text : List ℕ) (v8 : Bool) (t : Tree) → IsUtf8 text → CoreSource text → (IsReading text v8 t → IsDerived text v8 t) × (IsDerived text v8 t → IsReading text v8 t)
+
 -- The lexemes from one place to another, with x standing last.
 pub data EndsWith : Lexemes → Lexeme → Lexemes → Type 0 where
   at_last : {x : Lexeme} {ls : Lexemes} → EndsWith (next x ls) x ls

@@ -1,6 +1,6 @@
 //! Laws about the grammar of the whole language.
 
-ghost use Rattle.js_grammar.specs.CoreReadings.{CoreLines, CoreOmission, CoreDerivations, CoreLexemes};
+ghost use Rattle.js_grammar.specs.CoreReadings.{CoreLines, CoreOmission, CoreDerivations, CoreLexemes, CoreReading};
 
 /// Each line of the core grammar is the line of the whole one, cut down to core lexemes.
 pub fn law_of_core_lines()
@@ -20,4 +20,9 @@ pub fn law_of_core_lexemes()
 /// From core lexemes the whole grammar and the core grammar derive the same trees.
 pub fn law_of_core_derivations()
     ensures { CoreDerivations }
+{}
+
+/// A tree is a reading of a core text exactly where the whole grammar derives it from the text's lexemes.
+pub fn law_of_core_readings()
+    ensures { CoreReading }
 {}
