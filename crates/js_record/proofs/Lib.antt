@@ -1,6 +1,8 @@
 pub mod RecordLemmas
 pub mod FirstLemmas
 pub mod ExportLemmas
+pub mod DistinctLemmas
+pub mod CheckedLemmas
 pub mod PartLemmas
 pub mod LineLemmas
 pub mod KindLemmas

@@ -1,7 +1,7 @@
 //! Import and export entries, requests of modules, and dynamic imports.
 
-ghost use Rattle.std.specs.Prelude.{◌≡◌};
-ghost use Rattle.js_grammar.specs.ModuleRecords.{default_places};
+ghost use Rattle.std.specs.Prelude.{◌≡◌, option_map};
+ghost use Rattle.js_grammar.specs.ModuleRecords.{default_places, asked_names};
 ghost use Rattle.js_record.specs.Options.{places_of};
 
 use crate::name::{
@@ -70,6 +70,17 @@ impl Model for ExportEntry {
 }
 
 impl ExportEntry {
+    /// The name by which another module asks for it; none of `export *`.
+    pub(crate) fn asked_name(&self) -> Option<&str>
+        ensures { asked_names self.now.export_name ≡ places_of (option_map (λ s. s.now) result) }
+    {
+        match &self.export_name {
+            ExportExportName::Name(name) => Some(name.name.as_str()),
+            ExportExportName::Default(_) => Some("default"),
+            ExportExportName::Null => None,
+        }
+    }
+
     /// Where `default` stands, if it is exported as that: the word, or a name.
     pub(crate) fn default_place(&self) -> Option<Span>
         ensures { default_places self.now.export_name ≡ places_of result }

@@ -3,6 +3,7 @@
 
 mod builder;
 mod copied;
+mod distinct;
 mod entry;
 mod lines;
 mod name;

@@ -15,7 +15,7 @@ use js_tree::{NodeId, NodeKind, ParserAstBuilder};
 use std::alloc::Global;
 
 /// Whether a node of this kind is a name.
-fn is_word(kind: NodeKind) -> bool
+pub(crate) fn is_word(kind: NodeKind) -> bool
     ensures { result ≡ is_word kind }
 {
     matches!(
@@ -29,7 +29,7 @@ fn is_word(kind: NodeKind) -> bool
 }
 
 /// Whether a node of this kind is a string literal.
-fn is_string(kind: NodeKind) -> bool
+pub(crate) fn is_string(kind: NodeKind) -> bool
     ensures { result ≡ is_string kind }
 {
     matches!(kind, NodeKind::StringLiteral)

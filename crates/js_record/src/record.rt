@@ -1,10 +1,11 @@
 //! A module record, of all that the declarations of a module add: ParseModule (ECMA-262, 16.2.1.7.1), step 10.
 
-ghost use Rattle.std.specs.Prelude.{◌≡◌, ◌++◌, ◌∷◌, [], IfOk, OnOk, bytes_eq, fold, map, position};
-ghost use Rattle.std.specs.List.{flat_map};
-ghost use Rattle.js_grammar.specs.ModuleRecords.{with_request, with_binding, replaced_by, replaced, if_local, if_indirect, if_star, default_places, defaults_among, duplicate_export, duplicate_defaults, record_of_part, errors_of_part};
+ghost use Rattle.std.specs.Prelude.{◌≡◌, ◌++◌, ◌∷◌, ◌↔◌, [], IfOk, IsTrue, OnOk, bytes_eq, fold, map, position};
+ghost use Rattle.std.specs.List.{flat_map, IsDistinct};
+ghost use Rattle.js_grammar.specs.ModuleRecords.{own_export_names, with_request, with_binding, replaced_by, replaced, if_local, if_indirect, if_star, default_places, defaults_among, duplicate_export, duplicate_defaults, record_of_part, errors_of_part};
 ghost use Rattle.js_record.specs.Exports.{IsMadeOf};
 
+use crate::distinct::are_all_distinct;
 use crate::entry::{DynamicImports, ExportEntries, ExportEntry, ImportEntries, RequestedModules};
 use crate::name::NameSpan;
 use crate::part::{Part, Request, listed};
@@ -45,6 +46,17 @@ impl Model for ModuleRecord {
     ghost Value = { Record };
 
     ghost view = { λ r. record { has_module_syntax = r.has_module_syntax; requested_modules = r.requested_modules.entries; import_entries = r.import_entries; local_export_entries = r.local_export_entries; indirect_export_entries = r.indirect_export_entries; star_export_entries = r.star_export_entries; exported_bindings = r.exported_bindings.entries; import_metas = r.import_metas; dynamic_imports = r.dynamic_imports } };
+}
+
+impl ModuleRecord {
+    /// Whether no two of the local and indirect export entries are exported by the same name (ECMA-262, 16.2.1.1), where
+    /// the name of `export default` is `default`. It takes no memory; each pair of entries is compared, so the time grows
+    /// as the square of their number.
+    pub fn exports_distinct(&self) -> bool
+        ensures { IsTrue result ↔ IsDistinct bytes_eq (own_export_names self.now) }
+    {
+        are_all_distinct(&self.local_export_entries, &self.indirect_export_entries)
+    }
 }
 
 /// Counts an occurrence of a module specifier.

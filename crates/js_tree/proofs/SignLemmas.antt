@@ -2,7 +2,7 @@
 use Rattle.std.proofs.Common.{◌≡◌, ◌≢◌, ◌==◌, ◌∙◌, ℕ, Bool, true, false, List, [], ◌∷◌, Option, Some, None, Bor, refl, sym, ap, if◌then◌else◌}
 use Rattle.std.specs.Option.{MatchOption, unwrap_or}
 use Rattle.std.proofs.lemmas.Bool.{eqb-true}
-use Rattle.js_tree.specs.Sources.{without_sign}
+use Rattle.js_grammar.specs.NodeNames.{without_sign}
 
 no_sign : (b : ℕ) (bs : List ℕ) (t : Bool) → (b == 35) ≡ t → ((rest : List ℕ) → b ∷ bs ≢ 35 ∷ rest) → b ∷ bs ≡ if t then bs else b ∷ bs
 no_sign b bs true e h = absurd (h bs (ap (λ (n : ℕ). n ∷ bs) (eqb-true b 35 e)))

@@ -4,6 +4,7 @@ use Rattle.std.specs.Char.Utf16.{has_unpaired_surrogate, utf16_lossy_chars}
 use Rattle.js_base.specs.Characters.{one_of}
 use Rattle.js_base.specs.Decoding.{string_units, raw_text}
 use Rattle.js_base.specs.declared.kind.Kind.TheVariants.{Str}
+use Rattle.js_grammar.specs.NodeNames.{without_sign}
 use Rattle.js_grammar.specs.Strings.{string_kind, string_inside}
 use Rattle.js_tree.specs.declared.kind.NodeKind.{NodeKind}
 use Rattle.js_tree.specs.declared.kind.NodeKind.TheVariants as node
@@ -12,11 +13,6 @@ use Rattle.js_tree.specs.Nodes.{Node}
 -- the bytes of a text at a node's span
 abbrev pub text_of : Node → List ℕ → List ℕ
 text_of n source = slice_range source n.span.start n.span.end
-
--- the bytes without the `#` before a private name (12.7)
-abbrev pub without_sign : List ℕ → List ℕ
-without_sign [] = []
-without_sign (b ∷ bs) = if b == 35 then bs else b ∷ bs
 
 -- the name of a node: the one that it keeps, else its text, a `#` aside
 abbrev pub name_of : Node → List ℕ → List ℕ

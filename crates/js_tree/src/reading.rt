@@ -8,6 +8,7 @@ ghost use Rattle.js_tree.specs.Sources as sources;
 ghost use Rattle.js_base.specs.Escapes.{line_feeds_after};
 ghost use Rattle.js_base.specs.Decoding.{raw_text, string_points};
 ghost use Rattle.js_base.specs.declared.kind.Kind.TheVariants.{Str};
+ghost use Rattle.js_grammar.specs.NodeNames.{without_sign};
 ghost use Rattle.js_grammar.specs.Strings.{string_kind, string_inside};
 
 use crate::columns::Columns;
@@ -26,7 +27,7 @@ fn slice_at(source: &str, span: Span) -> &str
 
 /// A name without the `#` before it.
 fn without_sign(name: &str) -> &str
-    ensures { result.now ≡ sources.without_sign name.now }
+    ensures { result.now ≡ without_sign name.now }
 {
     name.strip_prefix('#').unwrap_or(name)
 }

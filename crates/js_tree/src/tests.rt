@@ -1,14 +1,16 @@
 //! Trees and their lines, and what is read from nodes, as rows of plain data.
 
-ghost use Rattle.std.specs.Prelude.{IsTrue};
+ghost use Rattle.std.specs.Prelude.{◌≡◌, IsTrue, Some, chars};
 ghost use Rattle.js_base.specs.Spans.{LiesIn};
+ghost use Rattle.js_base.specs.declared.kind.Kind.TheVariants.{Str};
+ghost use Rattle.js_grammar.specs.Strings.{string_kind};
 
 use crate::bits::flags_of;
 use crate::{
     BigintBase, ClauseWord, DeclarationKind, MethodKind, NodeId, NodeKind, NumberBase, Op,
     ParserAstBuilder, PropertyKind, Tree,
 };
-use js_base::{AssignmentOperator, NoMemory, Span, Text};
+use js_base::{AssignmentOperator, JsStr, NoMemory, Span, Text};
 use std::alloc::Global;
 use std::test::Fail;
 
@@ -267,6 +269,13 @@ fn lies_in(source: &str, span: Span) -> bool
     source.is_ascii() && span.start <= span.end && span.end as usize <= source.len()
 }
 
+/// Whether it is one of the string literals of the rows.
+fn is_quoted(text: &str) -> bool
+    ensures { IsTrue result → string_kind (chars text.now) ≡ Some Str }
+{
+    matches!(text, "'a\\x62'" | "'\\uD800'")
+}
+
 /// Which call reads a node.
 #[derive(Clone, Copy, PartialEq, Eq)]
 enum Reader {
@@ -277,12 +286,14 @@ enum Reader {
 }
 
 /// A text, the node at its whole, and what is read.
-static READINGS: [(&str, NodeKind, Reader, &str); 12] = [
+static READINGS: [(&str, NodeKind, Reader, &str); 14] = [
     ("ab", NodeKind::IdentifierReference, Reader::Name, "ab"),
     ("#ab", NodeKind::PrivateIdentifier, Reader::Name, "ab"),
     ("ab", NodeKind::IdentifierName, Reader::Key, "ab"),
     ("#ab", NodeKind::PrivateIdentifier, Reader::Key, "ab"),
     ("12", NodeKind::NumericLiteral, Reader::Key, "none"),
+    ("'a\\x62'", NodeKind::StringLiteral, Reader::Key, "ab"),
+    ("'\\uD800'", NodeKind::StringLiteral, Reader::Key, "none"),
     ("a\rb", NodeKind::TemplateElement, Reader::Raw, "a\nb"),
     (
         "a\r\nb\n\r",
@@ -313,7 +324,7 @@ fn read(
     if !builder.contains(id) || !lies_in(source, builder.span(id)) {
         return Ok(None);
     }
-    if builder.kind(id) == NodeKind::StringLiteral {
+    if builder.kind(id) == NodeKind::StringLiteral && !is_quoted(builder.text(id, source)) {
         return Ok(None);
     }
     match reader {
@@ -338,6 +349,59 @@ fn readings(rt: HostRuntime) -> Result<(), Fail> {
         match read(alloc, &builder, id, source, *reader)? {
             Some(text) => assert_eq!(rt; text.as_str(), *wanted),
             None => assert_eq!(rt; "none", *wanted),
+        }
+    }
+    Ok(())
+}
+
+/// A text, the kind of the node at its whole, a string literal or a part of a template, and the text of ASCII that its code
+/// units spell; none where an escape of the part is ill-formed.
+static VALUES: [(&str, NodeKind, Option<&str>); 5] = [
+    ("'a\\x62'", NodeKind::StringLiteral, Some("ab")),
+    ("a\rb", NodeKind::TemplateElement, Some("a\nb")),
+    ("\\x61\\u{62}", NodeKind::TemplateElement, Some("ab")),
+    ("\\0", NodeKind::TemplateElement, Some("\0")),
+    ("\\01", NodeKind::TemplateElement, None),
+];
+
+/// The code units of a string literal or of a part of a template.
+fn units_of(
+    alloc: Global,
+    builder: &ParserAstBuilder,
+    id: NodeId,
+    source: &str,
+) -> Result<Option<JsStr>, NoMemory> {
+    if !builder.contains(id) || !lies_in(source, builder.span(id)) {
+        return Ok(None);
+    }
+    if is_quoted(builder.text(id, source)) {
+        return Ok(Some(builder.string_value(alloc, id, source)?));
+    }
+    builder.cooked(alloc, id, source)
+}
+
+/// Whether the code units are those of a text of ASCII.
+fn are_spelled(units: &JsStr, text: &str) -> bool {
+    for (i, byte) in text.bytes().enumerate() {
+        if units.unit(i) != Some(u16::from(byte)) {
+            return false;
+        }
+    }
+    units.len() == text.len()
+}
+
+/// The code units of each.
+#[test]
+fn values(rt: HostRuntime) -> Result<(), Fail> {
+    let alloc = rt.alloc();
+    for (source, kind, wanted) in &VALUES {
+        let mut builder = ParserAstBuilder::new(alloc)?;
+        let end = u32::try_from(source.len()).unwrap_or(0);
+        let id = builder.leaf(*kind, Span { start: 0, end }, Op::None, flags_of(0), None)?;
+        match (units_of(alloc, &builder, id, source)?, wanted) {
+            (Some(units), Some(text)) => assert!(rt; are_spelled(&units, text), "at {source}"),
+            (None, None) => {}
+            _ => assert!(rt; false, "at {source}"),
         }
     }
     Ok(())
