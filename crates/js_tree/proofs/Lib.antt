@@ -1,0 +1,5 @@
+pub mod BitLemmas
+pub mod TableLemmas
+pub mod RowLemmas
+pub mod HoldingLemmas
+pub mod SignLemmas

@@ -1,0 +1,12 @@
+use Rattle.std.proofs.Common.{refl, arith, ◌∙◌}
+use Rattle.js_tree.specs.Bits.{flags_of}
+use Rattle.js_tree.specs.Nodes.{Node}
+use Rattle.js_tree.specs.Rows.{entries_of}
+use Rattle.js_tree.proofs.RowLemmas.{number_below, read}
+use Rattle.js_tree.proofs.columns.Columns.flags.Goals as goal
+
+pub index-requires : goal.index-requires
+index-requires c = let b = number_below (entries_of c.self.inside) c.args.self.now c.args.id.0 c.self.view_is c.requires in let l = c.self.invariant.flags in omega (arith, c.self.inside.flags.ok.0)
+
+pub returns : goal.returns
+returns c = c.flags_of.ensures ∙ read (entries_of c.self.inside) c.args.self.now c.args.id (λ n. n.flags) c.self.inside.flags.items c.index.result.now 0 flags_of c.self.view_is c.requires c.self.invariant.flags refl c.index.ensures

@@ -1,0 +1,11 @@
+use Rattle.std.proofs.Common.{refl, arith}
+use Rattle.js_tree.specs.Nodes.{Node}
+use Rattle.js_tree.specs.Rows.{entries_of}
+use Rattle.js_tree.proofs.RowLemmas.{number_below, read}
+use Rattle.js_tree.proofs.columns.Columns.span.Goals as goal
+
+pub index-requires : goal.index-requires
+index-requires c = let b = number_below (entries_of c.self.inside) c.args.self.now c.args.id.0 c.self.view_is c.requires in let l = c.self.invariant.spans in omega (arith, c.self.inside.spans.ok.0)
+
+pub returns : goal.returns
+returns c = read (entries_of c.self.inside) c.args.self.now c.args.id (λ n. n.span) c.self.inside.spans.items c.index.result.now (record { start = 0; end = 0 }) (λ x. x) c.self.view_is c.requires c.self.invariant.spans refl c.index.ensures

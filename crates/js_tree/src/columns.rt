@@ -1,0 +1,297 @@
+//! Nodes in columns: of each number one entry in each column, and the children of all nodes in one column of slots.
+
+ghost use Rattle.std.specs.Prelude.{◌≡◌, ◌+◌, ◌<◌, ◌≤◌, ◌∷◌, [], ◌++◌, IfOk, OnOk, IsTrue, ◌↔◌, ℕ, length, is_some, map, vec_len, OnErr};
+ghost use Rattle.std.specs.Ordering.{nat_cmp};
+ghost use Rattle.std.specs.BTreeMap.{get};
+ghost use Rattle.std.specs.Option.{option_copied};
+ghost use Rattle.js_tree.specs.Names.{kept_name};
+ghost use Rattle.js_tree.specs.Rooms.{HasRoom};
+ghost use Rattle.std.specs.Vec.{vec_capacity};
+ghost use Rattle.js_tree.specs.Labels.{number_of};
+ghost use Rattle.js_tree.specs.Nodes.{node_at, new_node, empty_program, flags_set, program_node};
+ghost use Rattle.js_tree.specs.Holding.{Makes, with_program};
+
+use crate::bits::{bits_of, flags_of};
+use crate::flags::NodeFlags;
+use crate::id::NodeId;
+use crate::kind::NodeKind;
+use crate::op::Op;
+use js_base::{NoMemory, Span, Text};
+use std::alloc::Global;
+use std::collections::BTreeMap;
+use std::marker::Model;
+
+/// The nodes made so far, in columns.
+#[derive(Drop)]
+pub(crate) struct Columns {
+    kinds: Vec<NodeKind>,
+    ops: Vec<Op>,
+    /// The flags of a node, each a bit.
+    flags: Vec<u16>,
+    spans: Vec<Span>,
+    /// Where the children of a node begin in the column of slots.
+    starts: Vec<u32>,
+    /// How many slots a node has.
+    counts: Vec<u32>,
+    slots: Vec<Option<NodeId>>,
+    /// The names that are kept, by number.
+    names: BTreeMap<usize, Text>,
+}
+
+impl Model for Columns {
+    ghost use Rattle.std.specs.Prelude.{List};
+    ghost use Rattle.js_tree.specs.Nodes.{Node};
+
+    ghost Value = { List Node };
+
+    ghost use Rattle.js_tree.specs.Rows.{nodes_of, AreColumns};
+
+    ghost view = { nodes_of };
+
+    ghost invariant = { AreColumns };
+}
+
+/// One more entry in a column that has room for it.
+fn put<T: Drop>(column: &mut Vec<T>, entry: T)
+    requires { vec_len column.old < vec_capacity column.old }
+    ensures { column.new.items ≡ column.old.items ++ entry ∷ [] }
+{
+    match column.push(entry) {
+        Ok(()) => (),
+        Err(_) => unreachable!(),
+    }
+}
+
+/// The slots of a node, at the end of a column that has room for them.
+fn put_all(column: &mut Vec<Option<NodeId>>, slots: &[Option<NodeId>])
+    requires { vec_len column.old + length slots.now ≤ vec_capacity column.old }
+    ensures { column.new.items ≡ column.old.items ++ slots.now }
+{
+    match column.extend_from_slice(slots) {
+        Ok(()) => (),
+        Err(_) => unreachable!(),
+    }
+}
+
+/// Makes room for one more entry in each of these columns.
+fn make_room(
+    kinds: &mut Vec<NodeKind>,
+    ops: &mut Vec<Op>,
+    flags: &mut Vec<u16>,
+    spans: &mut Vec<Span>,
+) -> Result<(), NoMemory>
+    ensures kinds { HasRoom result kinds.old kinds.new 1 }
+    ensures ops { HasRoom result ops.old ops.new 1 }
+    ensures flags { HasRoom result flags.old flags.new 1 }
+    ensures spans { HasRoom result spans.old spans.new 1 }
+{
+    kinds.reserve(1)?;
+    ops.reserve(1)?;
+    flags.reserve(1)?;
+    spans.reserve(1)?;
+    Ok(())
+}
+
+/// Makes room for the children of one more node.
+fn make_child_room(
+    starts: &mut Vec<u32>,
+    counts: &mut Vec<u32>,
+    slots: &mut Vec<Option<NodeId>>,
+    children: usize,
+) -> Result<(), NoMemory>
+    ensures starts { HasRoom result starts.old starts.new 1 }
+    ensures counts { HasRoom result counts.old counts.new 1 }
+    ensures slots { HasRoom result slots.old slots.new children }
+{
+    starts.reserve(1)?;
+    counts.reserve(1)?;
+    slots.reserve(children)?;
+    Ok(())
+}
+
+/// A place in the column of slots, or a number of slots. It has to fit 32 bits, else it counts as want of memory.
+fn place_of(n: usize) -> Result<u32, NoMemory>
+    ensures { IfOk result (λ place. place ≡ n) }
+{
+    match u32::try_from(n) {
+        Ok(place) => Ok(place),
+        Err(_) => Err(NoMemory),
+    }
+}
+
+/// Keeps the name of a number that has none yet, where there is one.
+fn keep_name(
+    names: &mut BTreeMap<usize, Text>,
+    number: usize,
+    name: Option<Text>,
+) -> Result<(), NoMemory>
+    ensures ok { OnOk result ((i : ℕ) → get nat_cmp names.new i ≡ kept_name names.old number name i) }
+    ensures err { OnErr result ((i : ℕ) → get nat_cmp names.new i ≡ get nat_cmp names.old i) }
+{
+    if let Some(name) = name {
+        names.insert(number, name)?;
+    }
+    Ok(())
+}
+
+impl Columns {
+    /// Program's entries alone.
+    pub(crate) fn new(alloc: Global) -> Result<Self, NoMemory>
+        ensures { IfOk result (λ ns. ns ≡ empty_program ∷ []) }
+    {
+        let mut kinds = Vec::new(alloc);
+        let mut ops = Vec::new(alloc);
+        let mut flags = Vec::new(alloc);
+        let mut spans = Vec::new(alloc);
+        let mut starts = Vec::new(alloc);
+        let mut counts = Vec::new(alloc);
+        kinds.push(NodeKind::Program)?;
+        ops.push(Op::None)?;
+        flags.push(0)?;
+        spans.push(Span::empty(0))?;
+        starts.push(0)?;
+        counts.push(0)?;
+        Ok(Columns {
+            kinds,
+            ops,
+            flags,
+            spans,
+            starts,
+            counts,
+            slots: Vec::new(alloc),
+            names: BTreeMap::new(alloc),
+        })
+    }
+
+    /// One more node. All room is made first, so after `NoMemory` every column is as before.
+    pub(crate) fn append(
+        &mut self,
+        kind: NodeKind,
+        span: Span,
+        op: Op,
+        flags: NodeFlags,
+        name: Option<Text>,
+        children: &[Option<NodeId>],
+    ) -> Result<NodeId, NoMemory>
+        ensures { Makes (new_node kind span op flags name children.now) self.old self.new result }
+    {
+        let start = place_of(self.slots.len())?;
+        let count = place_of(children.len())?;
+        let id = NodeId(self.kinds.len());
+        make_room(
+            &mut self.kinds,
+            &mut self.ops,
+            &mut self.flags,
+            &mut self.spans,
+        )?;
+        make_child_room(
+            &mut self.starts,
+            &mut self.counts,
+            &mut self.slots,
+            children.len(),
+        )?;
+        keep_name(&mut self.names, id.0, name)?;
+        put(&mut self.kinds, kind);
+        put(&mut self.ops, op);
+        put(&mut self.flags, bits_of(flags));
+        put(&mut self.spans, span);
+        put(&mut self.starts, start);
+        put(&mut self.counts, count);
+        put_all(&mut self.slots, children);
+        Ok(id)
+    }
+
+    /// Other flags for one node.
+    pub(crate) fn set_flags(&mut self, id: NodeId, flags: NodeFlags)
+        requires { id.0 < length self.old }
+        ensures { self.new ≡ flags_set self.old id flags }
+    {
+        self.flags[id.0] = bits_of(flags);
+    }
+
+    /// Program's span and children. All room is made first.
+    pub(crate) fn finish(self, span: Span, children: &[Option<NodeId>]) -> Result<Self, NoMemory>
+        ensures { IfOk result (λ ns. ns ≡ with_program (program_node span children.now) self) }
+    {
+        let mut columns = self;
+        let start = place_of(columns.slots.len())?;
+        let count = place_of(children.len())?;
+        columns.slots.extend_from_slice(children)?;
+        columns.kinds[0] = NodeKind::Program;
+        columns.ops[0] = Op::None;
+        columns.flags[0] = 0;
+        columns.spans[0] = span;
+        columns.starts[0] = start;
+        columns.counts[0] = count;
+        let _ = columns.names.remove(&0);
+        Ok(columns)
+    }
+
+    /// Whether a node has the number.
+    #[inline]
+    pub(crate) fn contains(&self, id: NodeId) -> bool
+        ensures { IsTrue result ↔ (id.0 < length self.now) }
+    {
+        id.0 < self.kinds.len()
+    }
+
+    /// What a node is.
+    #[inline]
+    pub(crate) fn kind(&self, id: NodeId) -> NodeKind
+        requires { id.0 < length self.now }
+        ensures { result ≡ (node_at self.now id).kind }
+    {
+        self.kinds[id.0]
+    }
+
+    /// The op of a node.
+    pub(crate) fn op(&self, id: NodeId) -> Op
+        requires { id.0 < length self.now }
+        ensures { result ≡ (node_at self.now id).op }
+    {
+        self.ops[id.0]
+    }
+
+    /// The flags of a node.
+    pub(crate) fn flags(&self, id: NodeId) -> NodeFlags
+        requires { id.0 < length self.now }
+        ensures { result ≡ (node_at self.now id).flags }
+    {
+        flags_of(self.flags[id.0])
+    }
+
+    /// The span of a node.
+    #[inline]
+    pub(crate) fn span(&self, id: NodeId) -> Span
+        requires { id.0 < length self.now }
+        ensures { result ≡ (node_at self.now id).span }
+    {
+        self.spans[id.0]
+    }
+
+    /// The slots of a node, in order.
+    #[inline]
+    pub(crate) fn children(&self, id: NodeId) -> &[Option<NodeId>]
+        requires { id.0 < length self.now }
+        ensures { result.now ≡ (node_at self.now id).children }
+    {
+        let start = self.starts[id.0] as usize;
+        let count = self.counts[id.0] as usize;
+        &self.slots[start..start + count]
+    }
+
+    /// The kinds of all nodes, in the order of their numbers.
+    pub(crate) fn kinds(&self) -> &[NodeKind]
+        ensures { result.now ≡ map (λ n. n.kind) self.now }
+    {
+        self.kinds.as_slice()
+    }
+
+    /// The name that a node keeps, if it keeps one.
+    pub(crate) fn kept_name(&self, id: NodeId) -> Option<&Text>
+        requires { id.0 < length self.now }
+        ensures { option_copied result ≡ (node_at self.now id).name }
+    {
+        self.names.get(&id.0)
+    }
+}
