@@ -1,6 +1,6 @@
 -- BoundNames (ECMA-262, 8.2.1). (placeholder)
 use Rattle.std.specs.Prelude.{List, [], ◌∷◌, ◌++◌}
-use Rattle.js_grammar.specs.Trees.{NodeKind, binding_identifier, Label, Slots, end, hole, tree}
+use Rattle.js_grammar.specs.Trees.{NodeKind, binding_identifier, function_declaration, class_declaration, Label, Slots, end, hole, tree}
 
 abbrev pub names_in : Slots → List Label
 names_in end = []

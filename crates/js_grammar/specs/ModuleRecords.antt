@@ -103,7 +103,7 @@ joined p q = record {
   bindings = p.bindings ++ q.bindings;
   skipped_defaults = p.skipped_defaults ++ q.skipped_defaults;
   metas = p.metas ++ q.metas;
-  dynamic = p.dynamic ++ q.dynamic;
+  dynamic = p.dynamic ++ q.dynamic
 }
 
 -- all parts, in their order
@@ -195,7 +195,7 @@ record_of_part p = record {
   star_export_entries = flat_map (λ ee. if_star (place p.imports ee)) p.exports;
   exported_bindings = fold with_binding [] p.bindings;
   import_metas = p.metas;
-  dynamic_imports = p.dynamic;
+  dynamic_imports = p.dynamic
 }
 
 -- The early errors (16.2.1.1).
@@ -232,7 +232,7 @@ abbrev pub errors_of_part : Part → List Diagnostic
 errors_of_part p =
     let r = record_of_part p in
     map (duplicate_export r.exported_bindings) (replaced [] p.bindings)
-    ++ duplicate_defaults (defaults_among r.local_export_entries ++ (defaults_among r.indirect_export_entries ++ p.skipped_defaults))
+        ++ duplicate_defaults (defaults_among r.local_export_entries ++ (defaults_among r.indirect_export_entries ++ p.skipped_defaults))
 
 -- the record and the early errors of parts, in their order
 abbrev pub record_of_parts : List Part → ModuleRecord

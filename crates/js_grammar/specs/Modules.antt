@@ -74,7 +74,7 @@ import_entries text statement request (tree l cs us) = import_entry text stateme
 abbrev pub of_import : List ℕ → Label → Option NameSpan → Slots → Part
 of_import text l source specifiers = record syntax {
   imports = of_specifier source (λ request. import_entries text l request specifiers);
-  requests = requests_of l true source;
+  requests = requests_of l true source
 }
 
 -- Exports (16.2.3).
@@ -124,7 +124,7 @@ of_export_from text l source specifiers = record syntax {
   exports = of_specifier source (λ request. from_entries text l request specifiers);
   requests = requests_of l false source;
   bindings = exported_names text specifiers;
-  skipped_defaults = skipped source (exported_names text specifiers);
+  skipped_defaults = skipped source (exported_names text specifiers)
 }
 
 -- export * FromClause ; export * as ModuleExportName FromClause
@@ -137,7 +137,7 @@ of_export_all l names source = record syntax {
   exports = of_specifier source (λ request. star_entry l request names ∷ []);
   requests = requests_of l false source;
   bindings = names;
-  skipped_defaults = skipped source names;
+  skipped_defaults = skipped source names
 }
 
 -- export VariableStatement ; export Declaration

@@ -1,0 +1,4 @@
+pub mod RecordLemmas
+pub mod FirstLemmas
+pub mod ExportLemmas
+pub mod PartLemmas

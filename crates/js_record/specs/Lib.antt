@@ -1,0 +1,5 @@
+pub mod Names
+pub mod Firsts
+pub mod Places
+pub mod Options
+pub mod Exports

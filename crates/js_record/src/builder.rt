@@ -1,0 +1,116 @@
+//! The record of a module in the making: one visit for each declaration that adds something.
+
+ghost use Rattle.std.specs.Prelude.{◌≡◌, ◌≤◌, ◌++◌, ◌∷◌, [], length, take, IfOk, OnOk, OnErr};
+ghost use Rattle.js_grammar.specs.ModuleRecords.{record_of_parts, errors_of_parts};
+ghost use Rattle.js_grammar.specs.Modules.{syntax, of_import_meta};
+
+use crate::copied::copies;
+use crate::part::Part;
+use crate::record::{ModuleRecord, record_of};
+use js_base::{Diagnostics, NoMemory, SourceType, Span};
+use std::alloc::Global;
+use std::marker::Model;
+
+/// What the declarations of a module add to its record, as long as it is being read. It is seen as the list of what
+/// each visit adds, in the order of the visits.
+#[derive(Drop)]
+pub struct ModuleRecordBuilder {
+    alloc: Global,
+    visits: Vec<Part>,
+}
+
+impl Model for ModuleRecordBuilder {
+    ghost use Rattle.std.specs.Prelude.{List};
+    ghost use Rattle.js_grammar.specs.ModuleRecords.{Part as Added};
+
+    ghost Value = { List Added };
+
+    ghost view = { λ b. b.visits.items };
+}
+
+impl ModuleRecordBuilder {
+    /// No visit; it takes no memory. What is kept is the same for every source type.
+    pub fn new(alloc: Global, _source_type: SourceType) -> Self
+        ensures { result ≡ [] }
+    {
+        ModuleRecordBuilder {
+            alloc,
+            visits: Vec::new(alloc),
+        }
+    }
+
+    /// Keeps a visit. On an error all stays as it was.
+    pub(crate) fn keep(&mut self, visit: Part) -> Result<(), NoMemory>
+        ensures ok { OnOk result (self.new ≡ self.old ++ visit ∷ []) }
+        ensures err { OnErr result (self.new ≡ self.old) }
+    {
+        self.visits.push(visit)?;
+        Ok(())
+    }
+
+    /// An `import.meta` (ECMA-262, 13.3.12) at this span. On an error all stays as it was.
+    pub fn visit_import_meta(&mut self, span: Span) -> Result<(), NoMemory>
+        ensures ok { OnOk result (self.new ≡ self.old ++ of_import_meta span ∷ []) }
+        ensures err { OnErr result (self.new ≡ self.old) }
+    {
+        let mut visit = Part::syntax(self.alloc);
+        visit.metas.push(span)?;
+        self.keep(visit)
+    }
+
+    /// Notes that the text has what modules alone have; a visit too. On an error all stays as it was.
+    pub fn set_module_syntax(&mut self) -> Result<(), NoMemory>
+        ensures ok { OnOk result (self.new ≡ self.old ++ syntax ∷ []) }
+        ensures err { OnErr result (self.new ≡ self.old) }
+    {
+        self.keep(Part::syntax(self.alloc))
+    }
+
+    #[tactic(auto, using(crate::proofs::PartLemmas::whole_syntax))]
+    /// Whether the text has an import or export declaration or `import.meta` so far, or `set_module_syntax` was called.
+    pub fn has_module_syntax(&self) -> bool
+        ensures { result ≡ (record_of_parts self.now).has_module_syntax }
+    {
+        for visit in &self.visits {
+            if visit.is_module_syntax {
+                return true;
+            }
+        }
+        false
+    }
+
+    /// How many visits are kept.
+    pub fn mark(&self) -> usize
+        ensures { result ≡ length self.now }
+    {
+        self.visits.len()
+    }
+
+    /// Keeps the first `mark` visits, of which there have to be as many.
+    pub fn cut(&mut self, mark: usize)
+        requires { mark ≤ length self.old }
+        ensures { self.new ≡ take mark self.old }
+    {
+        self.visits.truncate(mark);
+    }
+
+    /// The early errors of the imports and exports so far (ECMA-262, 16.2.1.1): the names that are exported twice, in
+    /// the order in which they come again, then `default`.
+    pub fn errors(&self) -> Result<Diagnostics, NoMemory>
+        ensures { IfOk result (λ ds. ds ≡ errors_of_parts self.now) }
+    {
+        let visits = copies(self.alloc, &self.visits)?;
+        let whole = Part::whole(self.alloc, visits)?;
+        let (_, errors) = record_of(self.alloc, whole)?;
+        Ok(errors)
+    }
+
+    /// The record of all visits, with its export entries told apart (ECMA-262, 16.2.1.7.1, step 10), and the early
+    /// errors of `errors`.
+    pub fn build(self) -> Result<(ModuleRecord, Diagnostics), NoMemory>
+        ensures { IfOk result (λ r. r ≡ (record_of_parts self, errors_of_parts self)) }
+    {
+        let whole = Part::whole(self.alloc, self.visits)?;
+        record_of(self.alloc, whole)
+    }
+}
