@@ -34,8 +34,6 @@ pub mod FirstLanguageFirstSets
 pub mod Brackets
 pub mod FirstLanguageExamples
 pub mod FirstLanguageLaws
-pub mod Examples
-pub mod Laws
 pub mod NodeNames
 pub mod BoundNames
 pub mod ModuleRecords

@@ -1,0 +1,4 @@
+pub mod Parsers
+pub mod Tokens
+pub mod Places
+pub mod Moves
