@@ -140,7 +140,7 @@ gives_again {goal = goal} old new given t (Err f) u b h same place k = (
     start = refl;
     newline = refl;
     place = place ∙ ap (λ (z : Token). z.span.end) k.0;
-    lies = record { ordered = (let a = h.behind in let c = h.ordered in omega arith); starts_whole = b; ends_whole = h.ends_between };
+    lies = record { ordered = (let a = h.follows in let c = h.ordered in omega arith); starts_whole = b; ends_whole = h.ends_between };
     outcome = λ s y between l tells. (diagnostic_of f, refl, again_none old.goal y given f between.0 (passed u between l) tells h);
     marked = λ s y between l tells k d e. absurd (omega arith);
     comments = k.1.comments_grow ∙ append-nil old.kept.comments;
@@ -163,11 +163,11 @@ ok_again goal old new given scan (Err e) u b h same k = tt
 -- what was scanned fits, and ends between characters
 pub fits_again : (goal : LexicalGoal) (text : List ℕ) (i most : ℕ) (scan : Result Scanned Fault) → length text ≤ most → Scans goal text i scan → Fits most i scan
 fits_again goal text i most (Ok sc) l h = let e = h.stands.end in let z = h.stands.boundary.0 in (omega arith, omega arith)
-fits_again goal text i most (Err f) l h = let z = h.ends_between.0 in (h.behind, h.ordered, omega arith)
+fits_again goal text i most (Err f) l h = let z = h.ends_between.0 in (h.follows, h.ordered, omega arith)
 
 pub ends_again : (goal : LexicalGoal) (text : List ℕ) (i : ℕ) (scan : Result Scanned Fault) → Scans goal text i scan → ScanEnds text scan
 ends_again goal text i (Ok sc) h = h.stands.boundary
-ends_again goal text i (Err f) h = h.ends_between
+ends_again goal text i (Err f) h = (h.begins_between, h.ends_between)
 
 -- a right brace that was given stands there
 pub brace_there : {text : List ℕ} (s : ℕ) (y : Lexeme) (given : Token) → IsUtf8 text → IsCharBoundary text s → IsCharBoundary text given.span.start → LexemeBehind division text s y → Tells (cut y) given → given.kind ≡ RCurly → Word text given.span.start (given.span.start + 1) (125 ∷ [])

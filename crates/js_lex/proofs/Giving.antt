@@ -163,7 +163,19 @@ gives_lexeme {text = text} {s = s} {i = i} ps sc newline l p t n h = record {
 }
 
 pub gives_none : {goal : LexicalGoal} {text : List ℕ} {s i : ℕ} (ps : List (List ℕ)) (source : Goal) (f : Fault) (newline : Bool) → s ≤ length text → Word text s i (joined ps) → are_trivia (s == 0) ps (behind text i) ≡ true → IsStopped goal text i f → GivesNone goal source text s (undetermined_of f i newline) (diagnostic_of f)
-gives_none ps source f newline l p t h = record { none = none_behind ps l p t h.none; faulty = faulty_behind ps source f l p t h; end = refl; no_first = refl; no_second = refl }
+gives_none {text = text} {s = s} {i = i} ps source f newline l p t h = record {
+  none = none_behind ps l p t h.none;
+  due = record { pieces = ps; stands = stands_behind [] (behind text i) l p t refl; place = p.end };
+  stops = h.condition;
+  told = h.told;
+  reaches = h.reaches;
+  faulty = faulty_behind ps source f l p t h;
+  end = refl;
+  escaped = refl;
+  separated = refl;
+  no_first = refl;
+  no_second = refl;
+}
 
 pub determined_outcome : {goal : LexicalGoal} (source : Goal) {text : List ℕ} {s : ℕ} {t : Token} (form : Lexeme → Lexeme) → same_kind Undetermined t.kind ≡ false → GivesLexeme goal form text s t → Outcome goal form source text s t [] []
 determined_outcome {goal = goal} source {text = text} {s = s} {t = t} form k g = subst (λ (b : Bool). elim b as (λ _. Type 0) [ true ↦ (d : Diagnostic) × ([] ≡ d ∷ []) × GivesNone goal source text s t d | false ↦ (◌≡◌ {A = List Diagnostic} [] []) × GivesLexeme goal form text s t ]) (sym k) (refl, g)
@@ -210,7 +222,7 @@ gives_next text source keeps s old mid new tr (Err f) t utf8 b p h e =
       start = p.stands.end;
       newline = p.newline;
       place = refl;
-      lies = record { ordered = (let a = h.behind in let b = h.ordered in omega arith); starts_whole = p.stands.boundary; ends_whole = h.ends_between };
+      lies = record { ordered = (let a = h.follows in let b = h.ordered in omega arith); starts_whole = p.stands.boundary; ends_whole = h.ends_between };
       faults = diagnostic_of f ∷ [];
       outcome = (diagnostic_of f, refl, gives_none p.pieces source f tr.has_newline l p.stands p.trivia h);
       grows = record {
@@ -234,7 +246,7 @@ fits_shown text i most scan shown_one u b l h e = subst (Fits most i) (sym e) (b
   where
     by : (r : Result Scanned Fault) → Scans division text i r → Fits most i (shown_scan i r)
     by (Ok sc) h = let z = shown_end text i sc u b h in let y = z.1.0 in (z.0, omega arith)
-    by (Err f) h = let z = h.ends_between.0 in (h.behind, h.ordered, omega arith)
+    by (Err f) h = let z = h.ends_between.0 in (h.follows, h.ordered, omega arith)
 
 pub ok_next : (text : List ℕ) (source : Goal) (keeps in_module : Bool) (s : ℕ) (old mid new : LexerOutput) (tr : Trivia) (scan shown_one : Result Scanned Fault) {E : Type 0} (r : Result Token E) → IsUtf8 text → IsCharBoundary text s → in_module ≡ in_a_module source → IsPassed in_module text s tr.end old mid tr → Scans division text tr.end scan → shown_one ≡ shown_scan tr.end scan
     → IfOk r (λ t. Settled keeps tr.end tr.has_newline shown_one mid new t)
@@ -264,4 +276,4 @@ text_stays old new (Err e) h k = ap (λ (x : State). x.text) k
 
 pub settled_ends : (text : List ℕ) (keeps : Bool) (given : Token) (scan : Result Scanned Fault) (old new : LexerOutput) (t : Token) → ScanEnds text scan → SettledAgain keeps given scan old new t → IsCharBoundary text t.span.end
 settled_ends text keeps given (Ok sc) old new t b k = subst (λ (z : Token). IsCharBoundary text z.span.end) (sym k.0) b
-settled_ends text keeps given (Err f) old new t b k = subst (λ (z : Token). IsCharBoundary text z.span.end) (sym k.0) b
+settled_ends text keeps given (Err f) old new t b k = subst (λ (z : Token). IsCharBoundary text z.span.end) (sym k.0) b.1

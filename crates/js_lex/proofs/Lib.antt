@@ -2,6 +2,7 @@ pub mod NumberRests
 pub mod NumberScans
 pub mod Numbers
 pub mod Places
+pub mod Parts
 pub mod Plain
 pub mod Names
 pub mod NameEscapes
@@ -35,3 +36,7 @@ pub mod FlagFaults
 pub mod Marks
 pub mod ReadAgain
 pub mod Given
+pub mod Settled
+pub mod Lying
+pub mod Ordered
+pub mod Marked

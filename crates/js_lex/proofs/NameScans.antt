@@ -5,15 +5,17 @@ use Rattle.std.proofs.lemmas.Str.{IsUtf8-drop, encodes-chars}
 use Rattle.js_base.specs.declared.kind.Kind.{Kind}
 use Rattle.js_base.specs.declared.kind.Kind.TheVariants.{PrivateIdentifier}
 use Rattle.js_base.specs.declared.diagnostic.DiagnosticKind.TheVariants.{InvalidEscape, InvalidCharacter}
+use Rattle.js_base.specs.declared.diagnostic.DiagnosticKind.{DiagnosticKind}
+use Rattle.js_base.specs.Characters.{is_decimal}
 use Rattle.js_base.specs.Escapes.{in_name, code_points}
 use Rattle.js_base.specs.Keywords.{keyword_of}
 use Rattle.js_grammar.specs.Characters.{begins, is_identifier_start}
 use Rattle.js_grammar.specs.Longest.{none_begins}
 use Rattle.js_grammar.specs.Names.{is_plain_name, name_of, word_of, private_kind, has_backslash}
 use Rattle.js_grammar.specs.Numbers.{stops_number}
-use Rattle.js_grammar.specs.Lexemes.{opening, a_name, a_number, a_string, a_template, a_private_name, a_punctuator, lexemes_in, division, is_word, is_escaped}
+use Rattle.js_grammar.specs.Lexemes.{Opening, opening, a_name, a_number, a_string, a_template, a_private_name, a_punctuator, lexemes_in, division, is_word, is_escaped}
 use Rattle.js_grammar.specs.Lexed.{IsLexeme}
-use Rattle.js_grammar.specs.LexicalFaults.{behind, begins_nothing}
+use Rattle.js_grammar.specs.LexicalFaults.{behind, begins_nothing, Stopping}
 use Rattle.js_grammar.proofs.LongestLemmas.{both, not-true}
 use Rattle.js_grammar.proofs.CoreLemmas.{none_longer-from}
 use Rattle.js_grammar.proofs.CorePlain.{no_backslash, points-plain}
@@ -22,7 +24,9 @@ use Rattle.std.proofs.lemmas.Bool.Decides.{nat_tests}
 use Rattle.js_lex.specs.declared.name.Name.{Name}
 use Rattle.js_lex.specs.Places.{Word, Peeks}
 use Rattle.js_lex.specs.Scans.{IsScanned, IsStopped, NoLexeme}
-use Rattle.js_lex.specs.Names.{Spells, Refuses, is_refused, NoPiece, IsName}
+use Rattle.js_lex.specs.Faults.{PartsEnd, Reaches, fault_kind, kind_of_fault}
+use Rattle.js_lex.specs.declared.scan.Fault.{Fault}
+use Rattle.js_lex.specs.Names.{Spells, Refuses, is_refused, IsName}
 use Rattle.js_lex.proofs.Places.{then, one_character}
 use Rattle.js_lex.proofs.Plain.{Opens, plain_is, is_lexeme, no_lexeme}
 use Rattle.js_lex.proofs.Names.{spells-some, name-longest, name-kind, private-longest, private-kind, no-name, never-name, no-private}
@@ -80,21 +84,47 @@ is-backslash c rest o r = go (c == 92) refl
         let q : (is_identifier_start c || (c == 92)) ≡ false = rw (s, e) refl in
         absurd (cc)
 
-pub name-stopped : {text : List ℕ} {i j : ℕ} → IsCharBoundary text i → begins opens_name (behind text i) ≡ true → NoPiece is_identifier_start text i j
-    → IsStopped division text i (record { kind = InvalidEscape; start = i; end = j })
-name-stopped {text = text} {i = i} {j = j} u b n = by (behind text i) refl
+-- how far an escape's span goes
+escape-reaches : {text : List ℕ} {i : ℕ} {f : Fault} → f.kind ≡ InvalidEscape → f.start ≡ i → PartsEnd false text (i + 1) f.end → Reaches f.kind text f.start f.end
+escape-reaches {text = text} {f = f} k s p = subst (λ (d : DiagnosticKind). Reaches d text f.start f.end) (sym k) (subst (λ (n : ℕ). PartsEnd false text (n + 1) f.end) (sym s) p)
+
+-- a backslash that stands first at the place
+pub backslash-there : (text : List ℕ) (i : ℕ) → IsUtf8 text → IsCharBoundary text i → begins (λ c. c == 92) (behind text i) ≡ true → Word text i (i + 1) (92 ∷ [])
+backslash-there text i u b h = by (behind text i) refl h
   where
-    by : (cs : List ℕ) → behind text i ≡ cs → IsStopped division text i (record { kind = InvalidEscape; start = i; end = j })
+    by : (cs : List ℕ) → behind text i ≡ cs → begins (λ c. c == 92) cs ≡ true → Word text i (i + 1) (92 ∷ [])
+    by [] e f = absurd (cc)
+    by (c ∷ cs) e f =
+        let same : c ≡ 92 = eqb-true c 92 f in
+        let q : behind text i ≡ 92 ∷ cs = e ∙ ap (λ (x : ℕ). x ∷ cs) same in
+        one_character text i 92 (encode_utf8_all cs) u b (sym (encodes-chars (drop i text) (IsUtf8-drop text i u b)) ∙ ap encode_utf8_all q)
+
+-- where a name may begin and none does, a backslash stands
+pub backslash-opens : (text : List ℕ) (i : ℕ) → IsUtf8 text → IsCharBoundary text i → begins opens_name (behind text i) ≡ true → Refuses is_identifier_start (behind text i) → Word text i (i + 1) (92 ∷ [])
+backslash-opens text i u b h n = backslash-there text i u b (by (behind text i) h n)
+  where
+    by : (cs : List ℕ) → begins opens_name cs ≡ true → Refuses is_identifier_start cs → begins (λ c. c == 92) cs ≡ true
+    by [] f r = absurd (cc)
+    by (c ∷ rest) f r = is-backslash c rest f r
+
+escape-told : (c : ℕ) (cs : List ℕ) → opens_name c ≡ true → fault_kind (c ∷ cs) ≡ InvalidEscape
+escape-told c cs o = ap (λ (p : Opening). kind_of_fault p c cs) (name-opens c o (begins is_decimal cs))
+
+pub name-stopped : {text : List ℕ} {i : ℕ} {f : Fault} → IsCharBoundary text i → begins opens_name (behind text i) ≡ true → Refuses is_identifier_start (behind text i) → f.kind ≡ InvalidEscape → f.start ≡ i → PartsEnd false text (i + 1) f.end
+    → IsStopped division text i f
+name-stopped {text = text} {i = i} {f = f} u b n kd st p = by (behind text i) refl
+  where
+    by : (cs : List ℕ) → behind text i ≡ cs → IsStopped division text i f
     by [] e = absurd (let a : false ≡ true = subst (λ (v : List ℕ). begins opens_name v ≡ true) e b in cc)
     by (c ∷ rest) e =
         let o : opens_name c ≡ true = subst (λ (v : List ℕ). begins opens_name v ≡ true) e b in
-        let r : Refuses is_identifier_start (c ∷ rest) = subst (λ (v : List ℕ). Refuses is_identifier_start v) e n.refuses in
+        let r : Refuses is_identifier_start (c ∷ rest) = subst (λ (v : List ℕ). Refuses is_identifier_start v) e n in
         let k : (c == 92) ≡ true = is-backslash c rest o r in
         let same : c ≡ 92 = eqb-true c 92 k in
-        let f : begins (λ d. d == 92) (behind text i) ≡ true = subst (λ (v : List ℕ). begins (λ d. d == 92) v ≡ true) (sym e) k in
+        let l = p.stands.end in
         record {
           none = no_name_lexeme text i c rest o e r;
-          condition = inl (record {
+          condition = subst (λ (d : DiagnosticKind). Stopping d text i f.start f.end) (sym kd) (inl (record {
             mark = [];
             name = [];
             rest = rest;
@@ -103,11 +133,13 @@ name-stopped {text = text} {i = i} {j = j} u b n = by (behind text i) refl
             named = refl;
             never = never-name (92 ∷ rest) (subst (λ (x : ℕ). Refuses is_identifier_start (x ∷ rest)) same r);
             begin = omega arith;
-          });
-          behind = omega arith;
-          ordered = n.some f;
-          begins_between = u;
-          ends_between = n.between f;
+          }));
+          follows = omega arith;
+          ordered = omega arith;
+          begins_between = subst (λ (m : ℕ). IsCharBoundary text m) (sym st) u;
+          ends_between = p.stands.boundary;
+          told = kd ∙ sym (ap fault_kind e ∙ escape-told c rest o);
+          reaches = escape-reaches kd st p;
         }
 
 -- a private name
@@ -169,39 +201,44 @@ first-backslash : (cs : List ℕ) → begins (λ c. c == 92) cs ≡ true → (re
 first-backslash [] h = absurd (cc)
 first-backslash (c ∷ cs) h = (cs, ap (λ (x : ℕ). x ∷ cs) (eqb-true c 92 h))
 
-pub private-escape : {text : List ℕ} {i j k : ℕ} → Word text i j (35 ∷ []) → begins (λ c. c == 92) (behind text j) ≡ true → NoPiece is_identifier_start text j k
-    → IsStopped division text i (record { kind = InvalidEscape; start = j; end = k })
-private-escape {text = text} {i = i} {j = j} {k = k} m f n =
+pub private-escape : {text : List ℕ} {i j : ℕ} {fault : Fault} → Word text i j (35 ∷ []) → begins (λ c. c == 92) (behind text j) ≡ true → Refuses is_identifier_start (behind text j) → fault.kind ≡ InvalidEscape → fault.start ≡ j → PartsEnd false text (j + 1) fault.end
+    → IsStopped division text i fault
+private-escape {text = text} {i = i} {j = j} {fault = fault} m f n kd st p =
     let s = first-backslash (behind text j) f in
+    let l = p.stands.end in
     let e : behind text j ≡ 92 ∷ s.0 = s.1 in
     let z = m.end in
     record {
-      none = no_private_lexeme text i (behind text j) m.splits n.refuses;
-      condition = inl (record {
+      none = no_private_lexeme text i (behind text j) m.splits n;
+      condition = subst (λ (d : DiagnosticKind). Stopping d text i fault.start fault.end) (sym kd) (inl (record {
         mark = 35 ∷ [];
         name = [];
         rest = s.0;
         here = m.splits ∙ ap (λ (v : List ℕ). 35 ∷ v) e;
         marked = refl;
         named = refl;
-        never = never-name (92 ∷ s.0) (subst (λ (v : List ℕ). Refuses is_identifier_start v) e n.refuses);
+        never = never-name (92 ∷ s.0) (subst (λ (v : List ℕ). Refuses is_identifier_start v) e n);
         begin = omega arith;
-      });
-      behind = omega arith;
-      ordered = n.some f;
-      begins_between = m.boundary;
-      ends_between = n.between f;
+      }));
+      follows = omega arith;
+      ordered = omega arith;
+      begins_between = subst (λ (x : ℕ). IsCharBoundary text x) (sym st) m.boundary;
+      ends_between = p.stands.boundary;
+      told = kd ∙ sym (ap fault_kind m.splits ∙ ap (λ (b : Bool). elim b [ true ↦ InvalidEscape | false ↦ InvalidCharacter ]) f);
+      reaches = escape-reaches kd st p;
     }
 
-pub private-nothing : {text : List ℕ} {i j k : ℕ} → IsCharBoundary text i → Word text i j (35 ∷ []) → NoPiece is_identifier_start text j k
+pub private-nothing : {text : List ℕ} {i j : ℕ} → IsCharBoundary text i → Word text i j (35 ∷ []) → begins (λ c. c == 92) (behind text j) ≡ false → Refuses is_identifier_start (behind text j)
     → IsStopped division text i (record { kind = InvalidCharacter; start = i; end = j })
-private-nothing {text = text} {i = i} {j = j} u m n =
+private-nothing {text = text} {i = i} {j = j} u m g n =
     let z = m.end in
     record {
-      none = no_private_lexeme text i (behind text j) m.splits n.refuses;
-      condition = (refl, record { character = 35; rest = behind text j; here = m.splits; nothing = nothing_begins (behind text j) n.refuses; end = m.end });
-      behind = omega arith;
+      none = no_private_lexeme text i (behind text j) m.splits n;
+      condition = (refl, record { character = 35; rest = behind text j; here = m.splits; nothing = nothing_begins (behind text j) n; end = m.end });
+      follows = omega arith;
       ordered = omega arith;
       begins_between = u;
       ends_between = m.boundary;
+      told = sym (ap fault_kind m.splits ∙ ap (λ (b : Bool). elim b [ true ↦ InvalidEscape | false ↦ InvalidCharacter ]) g);
+      reaches = tt;
     }

@@ -1,6 +1,6 @@
 -- Readings of whole numbers, and what they tell of lexemes.
 use Rattle.std.proofs.Common.{◌≡◌, ◌<◌, ℕ, ◌+◌, ◌==◌, Bool, true, false, List, [], ◌∷◌, ◌++◌, refl, sym, ap, subst, ◌∙◌, not, ◌&&◌, ◌||◌, arith, Option, Some, None, inl, inr}
-use Rattle.std.specs.Prelude.{is_some, nat_lt, nat_eq, nat_le, IsCharBoundary, Result, Ok}
+use Rattle.std.specs.Prelude.{is_some, nat_lt, nat_eq, nat_le, IsCharBoundary, Result, Ok, IsTrue}
 use Rattle.std.specs.List.{list_all}
 use Rattle.std.proofs.lemmas.Bool.{eqb-true}
 use Rattle.std.proofs.lemmas.Bool.Decides.{nat_tests}
@@ -14,7 +14,7 @@ use Rattle.js_base.specs.Characters.{one_of, is_decimal, is_hex, is_octal, is_bi
 use Rattle.js_grammar.specs.Characters.{begins}
 use Rattle.js_grammar.specs.Longest.{longest, none_longer}
 use Rattle.js_grammar.specs.Numbers.{Rest, ends, suffix, digits, signed, exponent, fraction, decimal_rest, integer_rest, legacy, zero_rest, number_kind, has_separator, stops_number, is_number}
-use Rattle.js_grammar.specs.Lexemes.{plain_kind, lexemes_in, division, a_number, opening, is_escaped}
+use Rattle.js_grammar.specs.Lexemes.{plain_kind, lexemes_in, division, a_number, opening, is_escaped, Opening}
 use Rattle.js_grammar.specs.Lexed.{IsLexeme}
 use Rattle.js_grammar.specs.LexicalFaults.{behind, InvalidNumber, is_number_word, Stopping}
 use Rattle.js_grammar.proofs.LongestLemmas.{both-left, both-right, both, not-true, none_longer-at, fronts}
@@ -31,6 +31,9 @@ use Rattle.js_lex.specs.Numbers.{begins_number, goes_on, Unstopped, IsRest, Read
 use Rattle.js_lex.specs.Places.{in_radix, Finds}
 use Rattle.js_lex.proofs.Numbers.{decimal-on}
 use Rattle.js_lex.proofs.NumberRests.{behind_word, behind_one, behind_rejected, same_here, same_from_head, fronts_go_on, one_fails, head-is, front-of, stays}
+use Rattle.js_lex.specs.Faults.{PartsEnd, Reaches, fault_kind, kind_of_fault, is_part}
+use Rattle.js_lex.proofs.Parts.{parts_some}
+use Rattle.std.proofs.lemmas.Str.{len_utf8_bounds}
 
 -- behind a zero: the digits of a legacy integer
 zero_legacy : (word v : List ℕ) → begins is_decimal word ≡ true → zero_rest (word ++ v) ≡ legacy false (word ++ v)
@@ -366,12 +369,37 @@ invalid {text = text} {i = i} h u = by (behind text i) refl
           none-of (number_kind (w ++ d ∷ y)) (none_longer-at is_number_word w d y others n)) t;
     }
 
-pub stopped : {text : List ℕ} {i : ℕ} {f : Fault} → begins_number (behind text i) ≡ true → Unstopped number_kind (behind text i) → f.kind ≡ fault.InvalidNumber → f.start ≡ i → i < f.end → IsCharBoundary text i → IsCharBoundary text f.end → IsStopped division text i f
-stopped {text = text} {i = i} {f = f} h u k s l b b' = record {
-  none = no_lexeme text i h u;
-  condition = subst (λ (d : DiagnosticKind). Stopping d text i f.start f.end) (sym k) (s, invalid h u);
-  behind = omega arith;
-  ordered = omega arith;
-  begins_between = subst (λ (n : ℕ). IsCharBoundary text n) (sym s) b;
-  ends_between = b';
-}
+-- a digit, or a dot before one, begins a number alone, and is one of the characters of its fault's span
+number_told : (cs : List ℕ) → begins_number cs ≡ true → (fault_kind cs ≡ fault.InvalidNumber) × (begins (is_part true) cs ≡ true)
+number_told [] h = absurd (cc)
+number_told (c ∷ cs) h = go (is_decimal c) refl
+  where
+    part : (c : ℕ) → is_decimal c ≡ true → IsTrue (is_part true c)
+    part c d = ascii is_decimal (λ a. is_part true a) c refl (decimal-ascii c d) d
+
+    go : (b : Bool) → is_decimal c ≡ b → (fault_kind (c ∷ cs) ≡ fault.InvalidNumber) × (begins (is_part true) (c ∷ cs) ≡ true)
+    go true d = (ap (λ (o : Opening). kind_of_fault o c cs) (number_opens c (begins is_decimal cs) d), part c d)
+    go false d =
+        let e : ((c == 46) && begins is_decimal cs) ≡ true = subst (λ (b : Bool). (b || ((c == 46) && begins is_decimal cs)) ≡ true) d h in
+        let dot : c ≡ 46 = eqb-true c 46 (both-left (c == 46) (begins is_decimal cs) e) in
+        let digit : begins is_decimal cs ≡ true = both-right (c == 46) (begins is_decimal cs) e in (
+          ap (λ (x : ℕ). fault_kind (x ∷ cs)) dot ∙ ap (λ (b : Bool). kind_of_fault (opening 46 b) 46 cs) digit,
+          ap (is_part true) dot,
+        )
+
+pub stopped : {text : List ℕ} {i : ℕ} {f : Fault} → begins_number (behind text i) ≡ true → Unstopped number_kind (behind text i) → f.kind ≡ fault.InvalidNumber → f.start ≡ i → IsCharBoundary text i → PartsEnd true text i f.end → IsStopped division text i f
+stopped {text = text} {i = i} {f = f} h u k s b p =
+    let t = number_told (behind text i) h in
+    let z = parts_some t.1 p in
+    let w = (len_utf8_bounds z.0).0 in
+    let e = z.2 in
+    record {
+      none = no_lexeme text i h u;
+      condition = subst (λ (d : DiagnosticKind). Stopping d text i f.start f.end) (sym k) (s, invalid h u);
+      follows = omega arith;
+      ordered = omega arith;
+      begins_between = subst (λ (n : ℕ). IsCharBoundary text n) (sym s) b;
+      ends_between = p.stands.boundary;
+      told = k ∙ sym t.0;
+      reaches = subst (λ (d : DiagnosticKind). Reaches d text f.start f.end) (sym k) (subst (λ (n : ℕ). PartsEnd true text n f.end) (sym s) p);
+    }

@@ -17,7 +17,7 @@ use Rattle.js_grammar.specs.CoreTexts.{starts}
 use Rattle.js_grammar.specs.Longest.{Class, none_longer, none_begins}
 use Rattle.js_grammar.specs.Trivia.{is_single_line_comment, is_multi_line_comment}
 use Rattle.js_grammar.specs.Numbers.{is_number, stops_number}
-use Rattle.js_grammar.specs.Lexemes.{punctuator_kind, plain_kind, lexemes_in, division, a_name, a_number, a_string, a_template, a_private_name, a_punctuator, opening, is_word}
+use Rattle.js_grammar.specs.Lexemes.{Opening, punctuator_kind, plain_kind, lexemes_in, division, a_name, a_number, a_string, a_template, a_private_name, a_punctuator, opening, is_word}
 use Rattle.js_grammar.specs.Lexed.{IsLexeme}
 use Rattle.js_grammar.specs.LexicalFaults.{behind, begins_nothing, is_comment}
 use Rattle.js_grammar.proofs.LongestLemmas.{both-left, both-right, both, not-true, none_longer-at, append-nil}
@@ -25,6 +25,7 @@ use Rattle.js_grammar.proofs.Finding.{neither-left, neither-right, found-all}
 use Rattle.js_grammar.proofs.CoreLemmas.{none_longer-from, plain_of}
 use Rattle.js_lex.specs.declared.punctuator.Punctuator.{Punctuator}
 use Rattle.js_lex.specs.Places.{Word}
+use Rattle.js_lex.specs.Faults.{fault_kind, kind_of_fault, stray_kind}
 use Rattle.js_lex.specs.Punctuators.{punctuator_of, OpensPunctuator, BeginsNone, begins_no_comment, IsPunctuator}
 use Rattle.js_lex.specs.Scans.{IsScanned, IsStopped, NoLexeme}
 use Rattle.js_lex.proofs.Punctuators.{kind_none, kind_some, alone_none}
@@ -126,10 +127,12 @@ pub binary : {text : List ℕ} {i : ℕ} → IsCharBoundary text i → OpensPunc
 binary {text = text} {i = i} b o n w = record {
   none = no_lexeme text i o n;
   condition = (refl, record { rest = behind text (i + 3); here = w.splits; end = refl });
-  behind = omega arith;
+  follows = omega arith;
   ordered = omega arith;
   begins_between = b;
   ends_between = w.boundary;
+  told = sym (ap fault_kind w.splits ∙ ap (λ (p : Opening). kind_of_fault p 65533 (behind text (i + 3))) (subst OpensPunctuator w.splits o));
+  reaches = tt;
 }
 
 not_in : (c d : ℕ) (k : Kind) → punctuator_of (d ∷ []) ≡ Some k → punctuator_of (c ∷ []) ≡ None → (d == c) ≡ false
@@ -172,14 +175,22 @@ differs c d f = go (d == c) refl
     go false g = g
     go true g = absurd (f (sym (eqb-true d c g)))
 
+stray_told : (c : ℕ) (cs : List ℕ) → punctuator_of (c ∷ []) ≡ None → (0xFFFD == c) ≡ false → stray_kind c cs ≡ fault.InvalidCharacter
+stray_told c cs n r = by (c == 47) (c == 125) (c == 0xFFFD) (turned 47 c (slash_in c n)) (turned 125 c (brace_in c n)) (turned 0xFFFD c r)
+  where
+    by : (a b d : Bool) → a ≡ false → b ≡ false → d ≡ false → elim a [ true ↦ elim (begins (λ x. x == 42) cs) [ true ↦ fault.UnterminatedComment | false ↦ fault.UnterminatedRegexp ] | false ↦ elim b [ true ↦ fault.UnterminatedTemplate | false ↦ elim d [ true ↦ fault.BinaryFile | false ↦ fault.InvalidCharacter ] ] ] ≡ fault.InvalidCharacter
+    by a b d e f g = rw (e, f, g) refl
+
 pub stray : {text : List ℕ} {i c n : ℕ} → IsCharBoundary text i → OpensPunctuator (behind text i) → BeginsNone (behind text i) → Word text i (i + len_utf8 c) (c ∷ []) → (0xFFFD == c) ≡ false → n ≡ len_utf8 c → IsStopped division text i (record { kind = fault.InvalidCharacter; start = i; end = i + n })
 stray {text = text} {i = i} {c = c} {n = n} b o z w r e = record {
   none = no_lexeme text i o z;
   condition = (refl, record { character = c; rest = behind text (i + len_utf8 c); here = w.splits; nothing = nothing_begins c (behind text (i + len_utf8 c)) (subst OpensPunctuator w.splits o) (subst BeginsNone w.splits z) r; end = omega arith });
-  behind = omega arith;
+  follows = omega arith;
   ordered = let l = (len_utf8_bounds c).0 in omega arith;
   begins_between = b;
   ends_between = subst (λ (m : ℕ). IsCharBoundary text (i + m)) (sym e) w.boundary;
+  told = sym (ap fault_kind w.splits ∙ ap (λ (p : Opening). kind_of_fault p c (behind text (i + len_utf8 c))) (subst OpensPunctuator w.splits o) ∙ stray_told c (behind text (i + len_utf8 c)) (subst BeginsNone w.splits z) r);
+  reaches = tt;
 }
 
 -- a comment that nothing ends
@@ -256,8 +267,10 @@ unterminated {text = text} {i = i} u b h n =
           end = e;
         },
       );
-      behind = omega arith;
+      follows = omega arith;
       ordered = omega arith;
       begins_between = b;
       ends_between = IsCharBoundary-end text;
+      told = sym (ap fault_kind g.is);
+      reaches = tt;
     }

@@ -5,7 +5,7 @@ use Rattle.std.specs.List.{list_all}
 use Rattle.std.proofs.lemmas.Bool.{eqb-true}
 use Rattle.js_base.specs.declared.kind.Kind.{Kind}
 use Rattle.js_base.specs.declared.kind.Kind.TheVariants.{RegExp}
-use Rattle.js_base.specs.declared.diagnostic.DiagnosticKind.TheVariants.{UnterminatedRegexp}
+use Rattle.js_base.specs.declared.diagnostic.DiagnosticKind.TheVariants.{UnterminatedRegexp, UnterminatedComment}
 use Rattle.js_base.specs.Texts.{words}
 use Rattle.js_base.specs.Characters.{one_of, is_line_terminator}
 use Rattle.js_grammar.specs.Characters.{is_identifier_part, begins}
@@ -14,13 +14,14 @@ use Rattle.js_grammar.specs.Longest.{longest, none_longer, none_begins}
 use Rattle.js_grammar.specs.Lexemes.{regular_expression, lexemes_in, is_escaped}
 use Rattle.js_grammar.specs.LexicalFaults.{behind, Unterminated, is_open_pattern, is_open_regular_expression}
 use Rattle.js_grammar.specs.RegularExpressions.{behind_pattern, flags, flagged, regular_expression_kind}
-use Rattle.js_grammar.proofs.LongestLemmas.{both}
+use Rattle.js_grammar.proofs.LongestLemmas.{both, append-nil}
 use Rattle.js_grammar.proofs.CoreLemmas.{none_longer-from}
 use Rattle.js_lex.specs.Places.{Word}
 use Rattle.js_lex.specs.Scans.{IsStopped, NoLexeme}
-use Rattle.js_lex.specs.RegularExpressionParts.{Pattern, OpenPattern, FlagsEnd, IsRegularExpression, ends_bracketed}
+use Rattle.js_lex.specs.RegularExpressionParts.{Pattern, OpenPattern, IsRegularExpression, ends_bracketed}
 use Rattle.js_lex.proofs.Places.{then}
 use Rattle.js_lex.proofs.Fronts.{not_all}
+use Rattle.js_lex.specs.Faults.{PartsEnd, fault_kind}
 
 -- the pattern that a list begins with, and nothing of a comment, give the flags behind the slash
 flags_of : (p fs rest : List ℕ) → ((v : List ℕ) → behind_pattern false false (p ++ v) ≡ Some v) → begins (one_of (codes "*/")) (p ++ rest) ≡ false → flags (47 ∷ (p ++ fs)) ≡ Some fs
@@ -56,7 +57,7 @@ unescaped : (w : List ℕ) → false ≡ is_escaped RegExp w
 unfolding words
 unescaped w = refl
 
-pub is_regular_expression : {text : List ℕ} {i j k : ℕ} → Word text i (i + 1) (47 ∷ []) → begins (one_of (codes "*/")) (behind text (i + 1)) ≡ false → Pattern text (i + 1) j → FlagsEnd text j k → IsRegularExpression text i (record { pattern_end = j; end = k })
+pub is_regular_expression : {text : List ℕ} {i j k : ℕ} → Word text i (i + 1) (47 ∷ []) → begins (one_of (codes "*/")) (behind text (i + 1)) ≡ false → Pattern text (i + 1) j → PartsEnd false text j k → IsRegularExpression text i (record { pattern_end = j; end = k })
 is_regular_expression {text = text} {i = i} {j = j} {k = k} w h p f =
     let rest : List ℕ = behind text k in
     let no_comment : begins (one_of (codes "*/")) (p.word ++ (f.word ++ rest)) ≡ false = ap (begins (one_of (codes "*/"))) (sym (p.stands.splits ∙ ap (λ (v : List ℕ). p.word ++ v) f.stands.splits)) ∙ h in
@@ -163,8 +164,10 @@ pub is_open : {text : List ℕ} {i j : ℕ} → IsCharBoundary text i → Word t
 is_open {text = text} {i = i} {j = j} b w h o = record {
   none = none_here w o;
   condition = (refl, unterminated w h o);
-  behind = omega arith;
+  follows = omega arith;
   ordered = let e = o.stands.end in omega arith;
   begins_between = b;
   ends_between = o.stands.boundary;
+  told = sym (ap fault_kind w.splits ∙ ap (λ (s : Bool). elim s [ true ↦ UnterminatedComment | false ↦ UnterminatedRegexp ]) (no_star (behind text (i + 1)) [] (ap (begins (one_of (codes "*/"))) (append-nil (behind text (i + 1))) ∙ h)));
+  reaches = tt;
 }

@@ -35,16 +35,3 @@ read_on {c = c} {b = b} r w f = record {
 
 pub read_end : {text : List ℕ} {i j k c : ℕ} {b : Inside} → Read text i j b → Word text j k (c ∷ []) → Steps b c Ends → Pattern text i k
 read_end {c = c} {b = b} r w f = record { word = r.word ++ c ∷ []; stands = then r.stands w; ended = λ v. onwards (behind_pattern false false) (behind_pattern b.brackets b.escaped) r.word c r.follows v ∙ f v }
-
--- name characters stand between the places
-pub record ReadFlags (text : List ℕ) (i j : ℕ) : Type 0 where
-  pub word : List ℕ
-  pub stands : Word text i j word
-  pub pass : list_all is_identifier_part word ≡ true
-
-pub one_flag : {text : List ℕ} {i j k c : ℕ} → ReadFlags text i j → Word text j k (c ∷ []) → is_identifier_part c ≡ true → ReadFlags text i k
-one_flag {c = c} r w f = record {
-  word = r.word ++ c ∷ [];
-  stands = then r.stands w;
-  pass = all-append is_identifier_part r.word (c ∷ []) r.pass (both (is_identifier_part c) true f refl);
-}

@@ -10,14 +10,14 @@ use Rattle.js_base.specs.declared.kind.Kind.{Kind}
 use Rattle.js_base.specs.declared.kind.Kind.TheVariants.{Str}
 use Rattle.js_base.specs.declared.diagnostic.DiagnosticKind.TheVariants as fault
 use Rattle.js_base.specs.declared.escape.InvalidEscape.{InvalidEscape}
-use Rattle.js_base.specs.Characters.{one_of}
+use Rattle.js_base.specs.Characters.{one_of, is_decimal}
 use Rattle.js_base.specs.Texts.{words}
 use Rattle.js_base.specs.InvalidEscapes.{is_right, bytes_of, IsInvalidEscape}
 use Rattle.js_grammar.specs.Characters.{begins, width}
-use Rattle.js_grammar.specs.LexicalFaults.{behind}
-use Rattle.js_grammar.specs.Lexemes.{a_string, division, is_escaped, is_separated}
+use Rattle.js_grammar.specs.LexicalFaults.{behind, is_closed_string}
+use Rattle.js_grammar.specs.Lexemes.{a_string, division, is_escaped, is_separated, Opening}
 use Rattle.js_grammar.specs.Lexed.{IsLexeme}
-use Rattle.js_grammar.proofs.LongestLemmas.{both-left, append-nil}
+use Rattle.js_grammar.proofs.LongestLemmas.{both-left, append-nil, none_longer-at}
 use Rattle.js_grammar.proofs.Finding.{all-append, either, neither-left, neither-right}
 use Rattle.js_lex.specs.declared.scan.Scanned.{Scanned}
 use Rattle.js_lex.specs.Places.{Word, Peeks}
@@ -25,7 +25,12 @@ use Rattle.js_lex.specs.Scans.{IsScanned, IsStopped}
 use Rattle.js_lex.specs.Strings.{Within, lacks_backslash, ends_line, IsInner, OneCharacter, Passes, StandsBetween}
 use Rattle.js_lex.proofs.Places.{none_passed, then, one_character, width-append}
 use Rattle.js_lex.proofs.Plain.{is_lexeme, no_lexeme}
-use Rattle.js_lex.proofs.StringLemmas.{one_within, none_within, and_on, a_string_kind, longest_string, quote_opens, wrong_none, open_none, never_closes, longest_open, none_closed, open_before, unclosed_before, never_right}
+use Rattle.js_lex.proofs.StringLemmas.{one_within, none_within, and_on, a_string_kind, longest_string, quote_opens, wrong_none, open_none, never_closes, longest_open, none_closed, open_before, unclosed_before, never_right, closed_now}
+use Rattle.js_lex.specs.Faults.{PartsEnd, fault_kind, kind_of_fault}
+use Rattle.js_base.specs.Escapes.{line_feeds}
+use Rattle.js_grammar.specs.Longest.{none_begins}
+use Rattle.js_grammar.specs.Strings.{closes_string}
+use Rattle.std.proofs.lemmas.List.{append_cancel_left}
 
 -- a quote is ASCII
 quote_low : (q : ℕ) → one_of (34 ∷ 39 ∷ []) q ≡ true → q < 128
@@ -157,6 +162,10 @@ a_string_stands text i j b s r k e x p =
       separated = p ∙ sym (ap (λ (z : Kind). is_separated z w) k);
     }
 
+-- of what begins with a quote, whether a string stands there that is closed tells the fault
+string_told : (q : ℕ) (cs : List ℕ) → one_of (34 ∷ 39 ∷ []) q ≡ true → fault_kind (q ∷ cs) ≡ elim (none_begins is_closed_string (q ∷ cs)) [ true ↦ fault.UnterminatedString | false ↦ fault.InvalidEscape ]
+string_told q cs h = ap (λ (o : Opening). kind_of_fault o q cs) (quote_opens q h (begins is_decimal cs))
+
 -- no closed string stands at the place
 pub unterminated : (text : List ℕ) (i j q : ℕ) (w : List ℕ) → IsCharBoundary text i → Quoted text i q → Word text (i + 1) j w → Within q w (behind text j) → ends_line (behind text j) ≡ true
     → IsStopped division text i (record { kind = fault.UnterminatedString; start = i; end = j })
@@ -175,10 +184,12 @@ unterminated text i j q w b o s h t =
           end = a.end;
         },
       );
-      behind = omega arith;
+      follows = omega arith;
       ordered = (let n = s.end in omega arith);
       begins_between = b;
       ends_between = s.boundary;
+      told = sym (ap fault_kind a.splits ∙ string_told q (w ++ behind text j) o.is_quote ∙ ap (λ (z : Bool). elim z [ true ↦ fault.UnterminatedString | false ↦ fault.InvalidEscape ]) (none_closed q (w ++ behind text j) (never_closes q w (behind text j) o.is_quote h t)));
+      reaches = tt;
     }
 
 -- an escape is ill-formed
@@ -210,8 +221,36 @@ within_text text i j b e f =
     let n = b.stands.end in
     (omega arith, omega arith)
 
-pub ill_formed : (text : List ℕ) (i j : ℕ) (b : StandsBetween text i j) (e : InvalidEscape) → IsUtf8 text → IsInvalidEscape b.inside e → IsStopped division text i (record { kind = fault.InvalidEscape; start = i + 1 + e.start; end = i + 1 + e.end })
-ill_formed text i j b e u f =
+-- where a closed string stands, its fault is an escape
+closed_told : (q : ℕ) (w after : List ℕ) → one_of (34 ∷ 39 ∷ []) q ≡ true → Within q w (q ∷ after) → none_begins is_closed_string (q ∷ (w ++ q ∷ after)) ≡ false
+closed_told q w after o i = go (none_begins is_closed_string (q ∷ (w ++ q ∷ after))) refl
+  where
+    closes : is_closed_string (q ∷ (w ++ q ∷ [])) after ≡ true
+    closes = Rattle.js_grammar.proofs.LongestLemmas.both (one_of (34 ∷ 39 ∷ []) q) (closes_string q false (line_feeds (w ++ q ∷ []))) o (closed_now q w after o i)
+
+    go : (b : Bool) → none_begins is_closed_string (q ∷ (w ++ q ∷ after)) ≡ b → none_begins is_closed_string (q ∷ (w ++ q ∷ after)) ≡ false
+    go false e = e
+    go true e = absurd (
+        let n : none_begins is_closed_string (q ∷ ((w ++ q ∷ []) ++ after)) ≡ true = subst (λ (v : List ℕ). none_begins is_closed_string (q ∷ v) ≡ true) (sym (append_assoc w (q ∷ []) after)) e in
+        let m : is_closed_string (q ∷ (w ++ q ∷ [])) after ≡ false = none_longer-at is_closed_string [] q (w ++ q ∷ []) after n in
+        let k = closes in
+        cc)
+
+-- the place behind the backslash of an ill-formed escape
+pub backslash_stands : (text : List ℕ) (i j : ℕ) (b : StandsBetween text i j) (e : InvalidEscape) → IsUtf8 text → IsInvalidEscape b.inside e → Word text (i + 1 + e.start) (i + 1 + e.start + 1) (92 ∷ [])
+backslash_stands text i j b e u f =
+    let after = behind text (j + 1) in
+    let tail = f.beginning ++ f.rest in
+    let back : behind text (i + 1) ≡ b.inside ++ b.quote ∷ after = b.stands.splits ∙ ap (λ (y : List ℕ). b.inside ++ y) b.closes.splits in
+    let split : b.inside ++ b.quote ∷ after ≡ f.before ++ 92 ∷ (tail ++ b.quote ∷ after) = ap (λ (y : List ℕ). y ++ b.quote ∷ after) f.splits ∙ append_assoc f.before (92 ∷ tail) (b.quote ∷ after) in
+    let first : Word text (i + 1) (i + 1 + width f.before) f.before = front_word text (i + 1) f.before (92 ∷ (tail ++ b.quote ∷ after)) u b.opens.boundary (back ∙ split) in
+    let start : i + 1 + width f.before ≡ i + 1 + e.start = (let m = f.start in let n = width-bytes f.before in omega arith) in
+    let here : behind text (i + 1 + width f.before) ≡ 92 ∷ (tail ++ b.quote ∷ after) = append_cancel_left f.before (behind text (i + 1 + width f.before)) (92 ∷ (tail ++ b.quote ∷ after)) (sym first.splits ∙ back ∙ split) in
+    let one : Word text (i + 1 + width f.before) (i + 1 + width f.before + width (92 ∷ [])) (92 ∷ []) = front_word text (i + 1 + width f.before) (92 ∷ []) (tail ++ b.quote ∷ after) u first.boundary here in
+    subst (λ (n : ℕ). Word text n (n + 1) (92 ∷ [])) start one
+
+pub ill_formed : (text : List ℕ) (i j : ℕ) (b : StandsBetween text i j) (e : InvalidEscape) (to : ℕ) → IsUtf8 text → IsInvalidEscape b.inside e → PartsEnd false text (i + 1 + e.start + 1) to → IsStopped division text i (record { kind = fault.InvalidEscape; start = i + 1 + e.start; end = to })
+ill_formed text i j b e to u f p =
     let h = closed_within text i j b in
     let after = behind text (j + 1) in
     let r = inside_wrong b.inside e f in
@@ -221,11 +260,8 @@ ill_formed text i j b e u f =
     let i' : Within b.quote (f.before ++ 92 ∷ tail) (b.quote ∷ after) = subst (λ (y : List ℕ). Within b.quote y (b.quote ∷ after)) f.splits h in
     let split : b.inside ++ b.quote ∷ after ≡ f.before ++ 92 ∷ (tail ++ b.quote ∷ after) = ap (λ (y : List ℕ). y ++ b.quote ∷ after) f.splits ∙ append_assoc f.before (92 ∷ tail) (b.quote ∷ after) in
     let first : Word text (i + 1) (i + 1 + width f.before) f.before = front_word text (i + 1) f.before (92 ∷ (tail ++ b.quote ∷ after)) u b.opens.boundary (back ∙ split) in
-    let second : Word text (i + 1) (i + 1 + width (f.before ++ 92 ∷ f.beginning)) (f.before ++ 92 ∷ f.beginning) =
-    front_word text (i + 1) (f.before ++ 92 ∷ f.beginning) (f.rest ++ b.quote ∷ after) u b.opens.boundary
-    (back ∙ split ∙ ap (λ (y : List ℕ). f.before ++ 92 ∷ y) (append_assoc f.beginning f.rest (b.quote ∷ after)) ∙ sym (append_assoc f.before (92 ∷ f.beginning) (f.rest ++ b.quote ∷ after))) in
     let start : i + 1 + width f.before ≡ i + 1 + e.start = (let m = f.start in let n = width-bytes f.before in omega arith) in
-    let end : i + 1 + width (f.before ++ 92 ∷ f.beginning) ≡ i + 1 + e.end = (let m = f.end in let n = width-bytes (f.before ++ 92 ∷ f.beginning) in omega arith) in
+    let l = p.stands.end in
     record {
       none = no_lexeme a_string text i b.quote (b.inside ++ b.quote ∷ after) (quote_opens b.quote b.is_quote) here (λ v more k g l d p. absurd (let n = wrong_none b.quote b.inside after b.is_quote h r v more g in let m = d in cc));
       condition = inr (record {
@@ -239,8 +275,10 @@ ill_formed text i j b e u f =
         never = never_right b.quote f.before tail after b.is_quote i' (sym (ap is_right f.splits) ∙ r) f.never;
         begin = sym start;
       });
-      behind = omega arith;
-      ordered = (let s = (spans b.inside e f).ordered in omega arith);
+      follows = omega arith;
+      ordered = omega arith;
       begins_between = subst (λ (n : ℕ). IsCharBoundary text n) start first.boundary;
-      ends_between = subst (λ (n : ℕ). IsCharBoundary text n) end second.boundary;
+      ends_between = p.stands.boundary;
+      told = sym (ap fault_kind here ∙ string_told b.quote (b.inside ++ b.quote ∷ after) b.is_quote ∙ ap (λ (z : Bool). elim z [ true ↦ fault.UnterminatedString | false ↦ fault.InvalidEscape ]) (closed_told b.quote b.inside after b.is_quote h));
+      reaches = p;
     }

@@ -22,6 +22,8 @@ use Rattle.js_lex.specs.TemplateParts.{Ended, Endless, IsPart, IsUnended}
 use Rattle.js_lex.proofs.Places.{then}
 use Rattle.js_lex.proofs.Plain.{is_lexeme, no_lexeme}
 use Rattle.js_lex.proofs.TemplateParts.{no_more}
+use Rattle.js_lex.specs.Faults.{fault_kind, Reaches}
+use Rattle.js_base.specs.declared.diagnostic.DiagnosticKind.TheVariants.{UnterminatedTemplate}
 
 -- the kind of characters behind an opening, by how they end
 abbrev pub PartKinds : (List ℕ → Option Kind) → ℕ → Kind → Kind → Type 0
@@ -138,29 +140,31 @@ unended text i q o w e =
       end = whole.end;
     }
 
-stopped : (goal : LexicalGoal) (text : List ℕ) (i q : ℕ) (f : Fault) → IsUnended text i f → NoLexeme goal text i → is_open_part (q ∷ []) [] ≡ true → IsCharBoundary text i → Word text i (i + 1) (q ∷ []) → Endless text (i + 1) → IsStopped goal text i f
-stopped goal text i q f is none o b w e =
+stopped : (goal : LexicalGoal) (text : List ℕ) (i q : ℕ) (f : Fault) → IsUnended text i f → ((cs : List ℕ) → fault_kind (q ∷ cs) ≡ UnterminatedTemplate) → NoLexeme goal text i → is_open_part (q ∷ []) [] ≡ true → IsCharBoundary text i → Word text i (i + 1) (q ∷ []) → Endless text (i + 1) → IsStopped goal text i f
+stopped goal text i q f is told none o b w e =
     let s = is.start in
     let l = is.end in
     let within = w.boundary.0 in
     record {
       none = none;
       condition = subst (λ (k : DiagnosticKind). Stopping k text i f.start f.end) (sym is.kind) (is.start, subst (λ (n : ℕ). Unterminated is_open_part is_part text i n) (sym is.end) (unended text i q o w e));
-      behind = omega arith;
+      follows = omega arith;
       ordered = omega arith;
       begins_between = subst (λ (n : ℕ). IsCharBoundary text n) (sym is.start) b;
       ends_between = subst (λ (n : ℕ). IsCharBoundary text n) (sym is.end) e.stands.boundary;
+      told = is.kind ∙ sym (ap fault_kind w.splits ∙ told (behind text (i + 1)));
+      reaches = subst (λ (k : DiagnosticKind). Reaches k text f.start f.end) (sym is.kind) tt;
     }
 
 -- no part behind a backquote
 pub no_template_ends : {text : List ℕ} {i : ℕ} {f : Fault} → IsUnended text i f → IsCharBoundary text i → Word text i (i + 1) (96 ∷ []) → Endless text (i + 1) → IsStopped division text i f
 no_template_ends {text = text} {i = i} {f = f} is b w e =
-    stopped division text i 96 f is (no_lexeme a_template text i 96 (behind text (i + 1)) (λ d. refl) w.splits (λ v more k s l h a. let n = no_template 96 v (e.none v more s) in cc)) refl b w e
+    stopped division text i 96 f is (λ cs. refl) (no_lexeme a_template text i 96 (behind text (i + 1)) (λ d. refl) w.splits (λ v more k s l h a. let n = no_template 96 v (e.none v more s) in cc)) refl b w e
 
 -- no part behind a right brace
 pub no_template_tail_ends : {text : List ℕ} {i : ℕ} {f : Fault} → IsUnended text i f → IsCharBoundary text i → Word text i (i + 1) (125 ∷ []) → Endless text (i + 1) → IsStopped template_tail text i f
 no_template_tail_ends {text = text} {i = i} {f = f} is b w e =
-    stopped template_tail text i 125 f is none refl b w e
+    stopped template_tail text i 125 f is (λ cs. refl) none refl b w e
   where
     none : NoLexeme template_tail text i
     none [] rest k s l = let h = l.kind in cc

@@ -1,5 +1,7 @@
 -- The lists that a lexer keeps, and how they grow.
-use Rattle.std.specs.Prelude.{◌≡◌, ◌≤◌, List, [], ◌++◌, length, take}
+use Rattle.std.specs.Prelude.{ℕ, ◌≡◌, ◌≤◌, List, [], ◌++◌, length, take}
+use Rattle.std.specs.List.{All}
+use Rattle.js_base.specs.Spans.{LiesIn}
 use Rattle.js_base.specs.declared.span.Span.{Span}
 use Rattle.js_base.specs.declared.token.Token.{Token}
 use Rattle.js_base.specs.declared.diagnostic.Diagnostic.{Diagnostic}
@@ -27,6 +29,13 @@ pub record Extends (old new : LexerOutput) : Type 0 where
   pub tokens : List Token
   pub faults : List Diagnostic
   pub grows : Grows old new comments blanks tokens faults
+
+-- what is kept spans characters of the text and splits none
+pub record LieIn (text : List ℕ) (o : LexerOutput) : Type 0 where
+  pub comments : All (λ c. LiesIn c.span text) o.comments
+  pub irregular_whitespaces : All (λ s. LiesIn s text) o.irregular_whitespaces
+  pub tokens : All (λ t. LiesIn t.span text) o.tokens
+  pub errors : All (λ d. LiesIn d.span text) o.errors
 
 -- how much was kept
 abbrev pub lengths_of : LexerOutput → Lengths

@@ -4,6 +4,7 @@ pub mod Comments
 pub mod Kept
 pub mod TriviaPassed
 pub mod Punctuators
+pub mod Faults
 pub mod Scans
 pub mod States
 pub mod Reading

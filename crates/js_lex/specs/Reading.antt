@@ -17,10 +17,11 @@ use Rattle.js_grammar.specs.Longest.{joined}
 use Rattle.js_grammar.specs.Lexemes.{LexicalGoal, division, hashbang, is_separated}
 use Rattle.js_grammar.specs.Lexed.{Stands, Lex, in_module, all_faults, passing_of}
 use Rattle.js_grammar.specs.RegularExpressions.{flags}
-use Rattle.js_grammar.specs.LexicalFaults.{behind, FaultyBehind}
+use Rattle.js_grammar.specs.LexicalFaults.{behind, Due, Stopping, FaultyBehind}
 use Rattle.js_lex.specs.Comments.{comment_at, irregular_at, html_fault_at, each_at}
 use Rattle.js_lex.specs.Kept.{Grows}
 use Rattle.js_lex.specs.Places.{Word}
+use Rattle.js_lex.specs.Faults.{fault_kind, Reaches}
 use Rattle.js_lex.specs.Scans.{NoLexeme}
 use Rattle.js_lex.specs.States.{State, SameText}
 
@@ -54,11 +55,17 @@ pub record GivesLexeme (goal : LexicalGoal) (shown : Lexeme → Lexeme) (text : 
   pub tells : Tells (shown lexeme) t
   pub separated : t.has_separator ≡ is_separated lexeme.kind stands.lex.word
 
--- None does, and the fault has behind s what its kind says at its span. The token ends where it does.
+-- None does. The fault is one that stops: it has what its kind says where the lexeme was due, which is where the token begins; which fault it is, and how far it goes, is settled. The token ends where it does.
 pub record GivesNone (goal : LexicalGoal) (source : Goal) (text : List ℕ) (s : ℕ) (t : Token) (d : Diagnostic) : Type 0 where
   pub none : (y : Lexeme) → LexemeBehind goal text s y → ⊥
+  pub due : Due text s t.span.start
+  pub stops : Stopping d.kind text t.span.start d.span.start d.span.end
+  pub told : d.kind ≡ fault_kind (behind text t.span.start)
+  pub reaches : Reaches d.kind text d.span.start d.span.end
   pub faulty : FaultyBehind d.kind source text s d.span.start d.span.end
   pub end : t.span.end ≡ d.span.end
+  pub escaped : t.escaped ≡ false
+  pub separated : t.has_separator ≡ false
   pub no_first : d.first ≡ None
   pub no_second : d.second ≡ None
 

@@ -43,13 +43,6 @@ pub record OpenPattern (text : List ℕ) (i j : ℕ) : Type 0 where
 abbrev pub PatternEnds : List ℕ → ℕ → Result ℕ ℕ → Type 0
 PatternEnds text i r = MatchResult r (λ j. Pattern text i j) (λ j. OpenPattern text i j)
 
--- name characters stand between the places, and none behind them
-pub record FlagsEnd (text : List ℕ) (i j : ℕ) : Type 0 where
-  pub word : List ℕ
-  pub stands : Word text i j word
-  pub pass : IsTrue (list_all is_identifier_part word)
-  pub no_more : begins is_identifier_part (behind text j) ≡ false
-
 -- A regular expression stands at the place, and its flags from the end of the pattern on.
 pub record IsRegularExpression (text : List ℕ) (i : ℕ) (r : RegularExpression) : Type 0 where
   pub scanned : IsScanned regular_expression text i (record { kind = RegExp; end = r.end; escaped = false; has_separator = false })

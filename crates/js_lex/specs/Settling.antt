@@ -63,7 +63,7 @@ pub record IsStoppedAgain (text : List ℕ) (keeps : Bool) (given : Token) (old 
 abbrev pub IsReadAgain : List ℕ → Bool → Token → LexerOutput → LexerOutput → Token → ℕ → Type 0
 IsReadAgain text keeps given old new t pattern_end = IsFoundAgain text keeps given old new t pattern_end ⊎ IsStoppedAgain text keeps given old new t pattern_end
 
--- what was scanned ends between characters
+-- what was scanned ends between characters, and a fault begins so
 abbrev pub ScanEnds : List ℕ → Result Scanned Fault → Type 0
 ScanEnds text (Ok s) = IsCharBoundary text s.end
-ScanEnds text (Err f) = IsCharBoundary text f.end
+ScanEnds text (Err f) = IsCharBoundary text f.start × IsCharBoundary text f.end

@@ -1,7 +1,7 @@
 //! Comments (ECMA-262, section 12.4) and lists of them.
 
-ghost use Rattle.std.specs.Prelude.{◌≡◌, ◌++◌, take, drop, map};
-ghost use Rattle.js_lex.specs.Comments.{attached};
+ghost use Rattle.std.specs.Prelude.{◌≡◌, ◌++◌, take, drop, map, IsTrue};
+ghost use Rattle.js_lex.specs.Comments.{attached, Follow};
 
 use js_base::{List, Span};
 
@@ -30,6 +30,16 @@ pub struct Comment {
 
 /// A list of comments.
 pub type Comments = List<Comment>;
+
+/// Whether the comments from a number on are attached to no place before the one to which the comment before them is.
+pub(crate) fn follow(comments: &Comments, from: usize) -> bool
+    ensures { IsTrue result → Follow comments.now from }
+{
+    if from == 0 || from >= comments.len() {
+        return true;
+    }
+    comments[from - 1].attached_to <= comments[from].attached_to
+}
 
 /// Attaches the comments from a number on to the lexeme that begins at a place.
 pub(crate) fn attach(comments: &mut Comments, from: usize, place: u32)

@@ -9,14 +9,19 @@ ghost use Rattle.js_base.specs.Spans.{LiesIn};
 ghost use Rattle.js_base.specs.Decoding.{string_units};
 ghost use Rattle.js_grammar.specs.Strings.{string_kind, string_inside};
 ghost use Rattle.js_grammar.specs.Lexemes.{division, regular_expression, template_tail};
-ghost use Rattle.js_lex.specs.Kept.{IsEmpty, lengths_of, first_kept, AreAtMost};
+ghost use Rattle.js_base.specs.declared.token.Token.{Token};
+ghost use Rattle.js_grammar.specs.CommentMarks.{is_pure_comment, is_no_side_effects_comment};
+ghost use Rattle.js_lex.specs.Comments.{has_before};
+ghost use Rattle.js_lex.specs.Kept.{IsEmpty, LieIn, lengths_of, first_kept, AreAtMost};
 ghost use Rattle.js_lex.specs.States.{State, goal_of, SameText};
 ghost use Rattle.js_lex.specs.Reading.{GivesNext, GivesFirst, GivesAgain, WasGiven, FlagsStand};
 ghost use Rattle.js_lex.specs.Settling.{Fits, SettledAgain, ScanEnds};
 
 use crate::checkpoint::LexerCheckpoint;
+use crate::comment::follow;
 use crate::config::LexerConfig;
 use crate::hashbang::hashbang_at;
+use crate::mark::{Sort, is_marked};
 use crate::output::LexerOutput;
 use crate::plain_goal::plain_at;
 use crate::reading::{read_plain, token_of};
@@ -38,6 +43,8 @@ pub struct Lexer<'a, C: LexerConfig> {
     config: C,
     place: usize,
     kept: LexerOutput,
+    /// Whether the comments are known to stand in the order of the places that they are attached to.
+    in_order: bool,
 }
 
 impl<'a, C: LexerConfig> Model for Lexer<'a, C> {
@@ -47,7 +54,7 @@ impl<'a, C: LexerConfig> Model for Lexer<'a, C> {
 
     ghost view = { λ l. record { text = l.source_text.now; goal = goal_of l.source_type; keeps_tokens = C.asks_for_tokens l.config; place = l.place; kept = l.kept } };
 
-    ghost invariant = { λ l. IsReady l.source_text.now l.place };
+    ghost invariant = { λ l. IsReady l.source_text.now l.place l.kept l.in_order };
 }
 
 impl<'a, C: LexerConfig> Lexer<'a, C> {
@@ -67,6 +74,7 @@ impl<'a, C: LexerConfig> Lexer<'a, C> {
             config,
             place: 0,
             kept: LexerOutput::new(alloc),
+            in_order: true,
         }
     }
 
@@ -88,6 +96,7 @@ impl<'a, C: LexerConfig> Lexer<'a, C> {
         ) {
             Ok(token) => {
                 self.place = token.end() as usize;
+                self.in_order = self.in_order && follow(&self.kept.comments, lengths.comments);
                 Ok(token)
             }
             Err(error) => {
@@ -113,9 +122,10 @@ impl<'a, C: LexerConfig> Lexer<'a, C> {
         }
     }
 
-    /// What `next_token` would give; nothing moves and nothing is kept, a fault included.
+    /// What `next_token` would give, also where no lexeme stands; nothing moves and nothing is kept, a fault included.
     pub fn peek_token(&mut self) -> Result<Token, NoMemory>
         ensures ok { IfOk result (λ t. (after : State) × GivesNext division self.old after t) }
+        ensures only { IfOk result (λ t. (after : State) (u : Token) → GivesNext division self.old after u → u ≡ t) }
         ensures same { self.new ≡ self.old }
     {
         let here = self.checkpoint();
@@ -230,15 +240,45 @@ impl<'a, C: LexerConfig> Lexer<'a, C> {
         }
     }
 
-    /// What was kept.
+    /// Whether a comment that is attached to a token's start is a pure comment: one that holds `@__PURE__` or
+    /// `#__PURE__`.
+    pub fn pure_before(&self, token: Token) -> bool
+        ensures { result ≡ has_before is_pure_comment self.now.text token.span.start self.now.kept.comments }
+    {
+        is_marked(
+            self.source_text,
+            &self.kept.comments,
+            self.in_order,
+            token.start(),
+            Sort::Pure,
+        )
+    }
+
+    /// Whether a comment that is attached to a token's start is a no-side-effects comment: one that holds
+    /// `@__NO_SIDE_EFFECTS__` or `#__NO_SIDE_EFFECTS__`.
+    pub fn no_side_effects_before(&self, token: Token) -> bool
+        ensures { result ≡ has_before is_no_side_effects_comment self.now.text token.span.start self.now.kept.comments }
+    {
+        is_marked(
+            self.source_text,
+            &self.kept.comments,
+            self.in_order,
+            token.start(),
+            Sort::NoSideEffects,
+        )
+    }
+
+    /// What was kept. Each span in it lies in the text and splits no character.
     pub fn finish(self) -> LexerOutput
-        ensures { result ≡ self.entry.kept }
+        ensures kept { result ≡ self.entry.kept }
+        ensures lies { LieIn self.entry.text result }
     {
         self.kept
     }
 
     /// The token of what a scan at the start of the token given last answers, in place of that one.
     fn settle_again(&mut self, token: Token, scan: Scan) -> Result<Token, NoMemory>
+        requires starts { IsCharBoundary self.old.text token.span.start }
         requires fits { Fits MAX_LEN token.span.start scan }
         requires ends { ScanEnds self.old.text scan }
         ensures same { SameText self.old self.new }

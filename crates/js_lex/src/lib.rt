@@ -8,9 +8,11 @@ mod comment;
 mod config;
 mod hashbang;
 mod lexer;
+mod mark;
 mod name;
 mod number;
 mod output;
+mod part;
 mod place;
 mod plain_goal;
 mod punctuator;
@@ -30,12 +32,3 @@ pub use config::{
 };
 pub use lexer::Lexer;
 pub use output::LexerOutput;
-
-#[cfg(test)]
-mod again_tests;
-#[cfg(test)]
-mod row_tests;
-#[cfg(test)]
-mod test_reading;
-#[cfg(test)]
-mod tests;

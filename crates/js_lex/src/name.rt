@@ -7,11 +7,14 @@ ghost use Rattle.js_grammar.specs.Characters.{begins, is_identifier_start, is_id
 ghost use Rattle.js_grammar.specs.LexicalFaults.{behind};
 ghost use Rattle.js_grammar.specs.Lexemes.{division};
 ghost use Rattle.js_lex.specs.Names as names;
+ghost use Rattle.js_base.specs.declared.diagnostic.DiagnosticKind.TheVariants.{InvalidEscape};
+ghost use Rattle.js_lex.specs.Faults.{PartsEnd};
 ghost use Rattle.js_lex.specs.Places.{Word, High};
 ghost use Rattle.js_lex.specs.Scans.{Scans, IsStopped};
 ghost use Rattle.js_lex.specs.declared.name.State.TheVariants.{Due, Braced};
 
 use crate::class;
+use crate::part::parts_end;
 use crate::place::{byte_at, char_at};
 use crate::scan::{Fault, Scan, Scanned};
 use js_base::{DiagnosticKind, Kind, keyword_kind};
@@ -101,11 +104,7 @@ pub(crate) fn name_at(text: &str, at: usize) -> Scan
             escaped: name.escaped,
             has_separator: false,
         }),
-        Err(end) => Err(Fault {
-            kind: DiagnosticKind::InvalidEscape,
-            start: at,
-            end,
-        }),
+        Err(_) => Err(invalid_escape(text, at)),
     }
 }
 
@@ -115,36 +114,46 @@ pub(crate) fn private_name_at(text: &str, at: usize) -> Scan
     requires first { begins (λ c. c == 35) (behind text.now at) ≡ true }
     ensures { Scans division text.now at result }
 {
-    let behind = at + 1;
-    match longest_name(text, behind) {
+    let place = at + 1;
+    match longest_name(text, place) {
         Ok(name) => Ok(Scanned {
             kind: Kind::PrivateIdentifier,
             end: name.end,
             escaped: name.escaped,
             has_separator: false,
         }),
-        Err(end) => Err(fault_behind_mark(text, at, behind, end)),
+        Err(_) => Err(fault_behind_mark(text, at, place)),
+    }
+}
+
+/// The fault of a backslash that begins no escape sequence of a name, with the characters of a name behind it.
+fn invalid_escape(text: &str, at: usize) -> Fault
+    requires { Word text.now at (at + 1) (92 ∷ []) }
+    ensures kind { result.kind ≡ InvalidEscape }
+    ensures start { result.start ≡ at }
+    ensures end { PartsEnd false text.now (at + 1) result.end }
+{
+    Fault {
+        kind: DiagnosticKind::InvalidEscape,
+        start: at,
+        end: parts_end(text, at + 1, false),
     }
 }
 
 /// What stands at a `#` with no name behind it: an escape sequence that is none of a name, or the `#` alone.
-fn fault_behind_mark(text: &str, at: usize, behind: usize, end: usize) -> Fault
+fn fault_behind_mark(text: &str, at: usize, place: usize) -> Fault
     requires boundary { IsCharBoundary text.now at }
-    requires mark { Word text.now at behind (35 ∷ []) }
-    requires none { names.NoPiece is_identifier_start text.now behind end }
+    requires mark { Word text.now at place (35 ∷ []) }
+    requires none { names.Refuses is_identifier_start (behind text.now place) }
     ensures { IsStopped division text.now at result }
 {
-    if is_backslash_at(text, behind) {
-        Fault {
-            kind: DiagnosticKind::InvalidEscape,
-            start: behind,
-            end,
-        }
+    if is_backslash_at(text, place) {
+        invalid_escape(text, place)
     } else {
         Fault {
             kind: DiagnosticKind::InvalidCharacter,
             start: at,
-            end: behind,
+            end: place,
         }
     }
 }

@@ -10,9 +10,11 @@ ghost use Rattle.js_grammar.specs.Lexemes.{division};
 ghost use Rattle.js_grammar.specs.Numbers.{stops_number, number_kind, zero_rest, integer_rest, decimal_rest, fraction, exponent, signed, digits, suffix, ends};
 ghost use Rattle.js_lex.specs.Places.{in_radix};
 ghost use Rattle.js_lex.specs.Numbers.{begins_number, AreDigits, AreLegacy, Reads};
+ghost use Rattle.js_lex.specs.Faults.{PartsEnd};
 ghost use Rattle.js_lex.specs.Scans.{Scans};
 
-use crate::class::{is_identifier_part, is_identifier_start};
+use crate::class::is_identifier_start;
+use crate::part::parts_end;
 use crate::place::{byte_at, char_at, digit_at, is_at, is_either_at};
 use crate::scan::{Fault, Scan, Scanned};
 use js_base::{DiagnosticKind, Kind};
@@ -66,43 +68,25 @@ pub(crate) fn number_at(text: &str, at: usize) -> Scan
                     has_separator: number.has_separator,
                 })
             } else {
-                Err(invalid_number(text, at, number.end))
+                Err(invalid_number(text, at))
             }
         }
-        Err(end) => Err(invalid_number(text, at, end)),
+        Err(_) => Err(invalid_number(text, at)),
     }
 }
 
-/// The fault of a number that doesn't stop, up to the end of what is joined with it.
-fn invalid_number(text: &str, start: usize, end: usize) -> Fault
-    requires boundary { IsCharBoundary text.now end }
-    requires ordered { start < end }
+/// The fault of a number that doesn't stop, as far as characters of a name and dots go on.
+fn invalid_number(text: &str, start: usize) -> Fault
+    requires { IsCharBoundary text.now start }
     ensures kind { result.kind ≡ InvalidNumber }
     ensures start { result.start ≡ start }
-    ensures ordered { start < result.end }
-    ensures boundary { IsCharBoundary text.now result.end }
+    ensures end { PartsEnd true text.now start result.end }
 {
     Fault {
         kind: DiagnosticKind::InvalidNumber,
         start,
-        end: name_end(text, end),
+        end: parts_end(text, start, true),
     }
-}
-
-/// Where characters end that are IdentifierPartChar (12.7).
-fn name_end(text: &str, at: usize) -> usize
-    requires { IsCharBoundary text.now at }
-    ensures boundary { IsCharBoundary text.now result }
-    ensures ordered { at ≤ result }
-{
-    let mut end = at;
-    'name: while let Some(c) = char_at(text, end) {
-        if !is_identifier_part(c) {
-            break;
-        }
-        end += c.len_utf8();
-    }
-    end
 }
 
 /// Whether a number stops before a place: no digit, no IdentifierStart and no backslash stands there (12.9.3).

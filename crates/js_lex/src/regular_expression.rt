@@ -7,10 +7,11 @@ ghost use Rattle.js_grammar.specs.Lexemes.{regular_expression};
 ghost use Rattle.js_grammar.specs.LexicalFaults.{behind};
 ghost use Rattle.js_lex.specs.Places.{Word};
 ghost use Rattle.js_lex.specs.Scans.{IsStopped};
-ghost use Rattle.js_lex.specs.RegularExpressionParts.{ends_bracketed, Steps, PatternEnds, FlagsEnd, FlagAt, IsRegularExpression};
+ghost use Rattle.js_lex.specs.RegularExpressionParts.{ends_bracketed, Steps, PatternEnds, FlagAt, IsRegularExpression};
 
 use crate::character::next_character;
-use crate::class::{is_identifier_part, is_line_terminator};
+use crate::class::is_line_terminator;
+use crate::part::parts_end;
 use crate::scan::Fault;
 use js_base::DiagnosticKind;
 
@@ -64,7 +65,7 @@ pub(crate) fn regular_expression_at(text: &str, at: usize) -> Result<RegularExpr
     match pattern_end(text, at + 1) {
         Ok(pattern_end) => Ok(RegularExpression {
             pattern_end,
-            end: flags_end(text, pattern_end),
+            end: parts_end(text, pattern_end, false),
         }),
         Err(line_end) => Err(Fault {
             kind: DiagnosticKind::UnterminatedRegexp,
@@ -123,21 +124,6 @@ fn is_bracketed(brackets: bool, c: char) -> bool
     ensures { result ≡ ends_bracketed brackets c }
 {
     (brackets && c != ']') || c == '['
-}
-
-/// The end of the name characters at a byte offset.
-fn flags_end(text: &str, at: usize) -> usize
-    requires { IsCharBoundary text.now at }
-    ensures { FlagsEnd text.now at result }
-{
-    let mut end = at;
-    'flags: while let Some(next) = next_character(text, end) {
-        if !is_identifier_part(next.value) {
-            return end;
-        }
-        end = next.end;
-    }
-    end
 }
 
 /// The flag at a byte offset, where those before it begin at another; none at the text's end.

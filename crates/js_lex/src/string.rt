@@ -10,6 +10,7 @@ ghost use Rattle.js_lex.specs.Places.{Peeks};
 ghost use Rattle.js_lex.specs.Scans.{Scans};
 ghost use Rattle.js_lex.specs.Strings.{IsInner, Passes, OneCharacter, Escapes, EndsLine, IsInside, StandsBetween};
 
+use crate::part::parts_end;
 use crate::place::{byte_at, char_at};
 use crate::scan::{Fault, Scan, Scanned};
 use js_base::{DiagnosticKind, Kind, invalid_escape};
@@ -159,10 +160,13 @@ fn escaped_string(text: &str, at: usize, end: usize) -> Scan
 {
     match invalid_escape(&text[at + 1..end]) {
         None => Ok(string_to(end + 1)),
-        Some(escape) => Err(Fault {
-            kind: DiagnosticKind::InvalidEscape,
-            start: at + 1 + escape.start,
-            end: at + 1 + escape.end,
-        }),
+        Some(escape) => {
+            let start = at + 1 + escape.start;
+            Err(Fault {
+                kind: DiagnosticKind::InvalidEscape,
+                start,
+                end: parts_end(text, start + 1, false),
+            })
+        }
     }
 }

@@ -7,5 +7,8 @@ longest_name-requires c = (mark-here c.args.text.now c.args.at c.utf8.text c.req
 pub fault_behind_mark-requires-clause-mark : goal.fault_behind_mark-requires-clause-mark
 fault_behind_mark-requires-clause-mark c = mark-here c.args.text.now c.args.at c.utf8.text c.requires.boundary c.requires.first
 
+pub fault_behind_mark-requires-clause-none : goal.fault_behind_mark-requires-clause-none
+fault_behind_mark-requires-clause-none c = c.in-Err.ensures.refuses
+
 pub returns-in-Ok : goal.returns-in-Ok
 returns-in-Ok c = private-scanned (mark-here c.args.text.now c.args.at c.utf8.text c.requires.boundary c.requires.first) c.in-Ok.ensures

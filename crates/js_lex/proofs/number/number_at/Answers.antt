@@ -8,9 +8,9 @@ returns-then-stops_at c = scanned c.in-Ok.ensures.reads.is (sym c.if-stops_at.en
 pub returns-else-stops_at : goal.returns-else-stops_at
 returns-else-stops_at c =
     let e = c.invalid_number.ensures in
-    stopped c.requires.begun (unstopped c.in-Ok.ensures.reads.is (sym c.if-stops_at.ensures)) e.kind e.start e.ordered c.requires.boundary e.boundary
+    stopped c.requires.begun (unstopped c.in-Ok.ensures.reads.is (sym c.if-stops_at.ensures)) e.kind e.start c.requires.boundary e.end
 
 pub returns-in-Err : goal.returns-in-Err
 returns-in-Err c =
     let e = c.invalid_number-in-Err.ensures in
-    stopped c.requires.begun c.in-Err.ensures.reads.is.unstopped e.kind e.start e.ordered c.requires.boundary e.boundary
+    stopped c.requires.begun c.in-Err.ensures.reads.is.unstopped e.kind e.start c.requires.boundary e.end
