@@ -52,3 +52,9 @@ is_last k = same_kind Eof k || same_kind Undetermined k
 pub record Keeps (d : Diagnostic) (old new : Parser) : Type 0 where
   pub is : new ≡ record old { errors = old.errors ++ d ∷ [] }
   pub at : IsAt new
+
+-- The current token tells the whole of a lexeme.
+pub record IsWhole (p : Parser) : Type 0 where
+  pub lexeme : Lexeme
+  pub stood : Lex all_faults p.text p.prev_token_end lexeme
+  pub tells : Tells lexeme p.token

@@ -2,5 +2,7 @@
 #![tactic(auto)]
 
 mod parser;
+mod stop;
 
 pub use parser::ParserImpl;
+pub use stop::Stop;

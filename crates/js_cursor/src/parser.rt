@@ -1,8 +1,13 @@
-//! The parser's state.
+//! The parser's state, and the moves over lexemes.
 
-ghost use Rattle.std.specs.Prelude.{◌≡◌};
+ghost use Rattle.std.specs.Prelude.{◌≡◌, ◌≢◌, MatchResult};
+ghost use Rattle.js_base.specs.declared.kind.Kind.TheVariants.{RAngle, RCurly, Slash, SlashEq, Eof, Undetermined};
+ghost use Rattle.js_cursor.specs.Places.{IsAt};
+ghost use Rattle.js_cursor.specs.Moves.{Passed, IsWhole};
+ghost use Rattle.js_cursor.specs.declared.stop.Stop.TheVariants.{NoMemory as no_memory};
 
-use js_base::{Context, Diagnostics, Kind, ParseOptions, SourceType, Token};
+use crate::stop::Stop;
+use js_base::{Context, Diagnostics, Kind, NoMemory, ParseOptions, SourceType, Span, Token};
 use js_lex::{Lexer, ParserConfig};
 use js_record::ModuleRecordBuilder;
 use js_tree::ParserAstBuilder;
@@ -47,5 +52,25 @@ impl<'a, C: ParserConfig> ParserImpl<'a, C> {
         ensures { result ≡ self.now.token.kind }
     {
         self.token.kind()
+    }
+
+    /// Its start, in bytes.
+    pub fn cur_start(&self) -> u32
+        ensures { result ≡ self.now.token.span.start }
+    {
+        self.token.start()
+    }
+
+    /// Moves over the current lexeme, which is told whole, and isn't the end.
+    fn pass(&mut self) -> Result<(), NoMemory>
+        requires at { IsAt self.old }
+        requires whole { IsWhole self.old }
+        requires some { self.old.token.kind ≢ Eof }
+        ensures { Rattle.std.specs.Prelude.OnOk result (Passed self.old self.new) }
+    {
+        let next = self.lexer.next_token()?;
+        self.prev_token_end = self.token.end();
+        self.token = next;
+        Ok(())
     }
 }

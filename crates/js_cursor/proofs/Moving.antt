@@ -1,0 +1,137 @@
+-- What holds at a place when the lexer has given the next token.
+use Rattle.std.proofs.Common.{ℕ, zero, suc, ◌+◌, ◌≡◌, ◌≤◌, ◌<◌, ◌⊎◌, inl, inr, Bool, true, false, List, [], ◌∷◌, ◌++◌, refl, sym, ap, subst, arith, ◌∙◌}
+use Rattle.std.specs.List.{All}
+use Rattle.std.specs.Prelude.{IsCharBoundary, IsTrue, Some, length, not, ◌&&◌, ◌==◌, codes, Option}
+use Rattle.std.proofs.lemmas.List.Elements.{All-append}
+use Rattle.js_base.specs.declared.diagnostic.Diagnostic.{Diagnostic}
+use Rattle.js_base.specs.declared.diagnostic.DiagnosticKind.{DiagnosticKind}
+use Rattle.js_base.specs.declared.diagnostic.DiagnosticKind.TheVariants as fault
+use Rattle.std.proofs.lemmas.Bool.{false≢true}
+use Rattle.js_lex.specs.Comments.{each_at, html_fault_at}
+use Rattle.js_base.specs.declared.kind.Kind.{Kind}
+use Rattle.js_base.specs.declared.kind.Kind.TheVariants.{Undetermined, RAngle, Eof}
+use Rattle.js_base.specs.declared.token.Token.{Token}
+use Rattle.js_base.specs.Kinds.{same_kind, one_of_kinds}
+use Rattle.js_base.specs.Spans.{LiesIn}
+use Rattle.js_base.proofs.KindLemmas.{kind_of_same}
+use Rattle.js_grammar.specs.Grammar.{Lexeme, Lexemes, last, next}
+use Rattle.js_grammar.specs.Lexemes.{LexicalGoal, division}
+use Rattle.js_grammar.specs.Lexed.{Lex, Lexes, all_faults, end_of, join}
+use Rattle.js_grammar.specs.LexicalFaults.{Reached, FaultyBehind, is_invalid_character, Condition, Stopping}
+use Rattle.js_grammar.specs.CoreTexts.{starts}
+use Rattle.js_grammar.specs.Characters.{width}
+use Rattle.js_grammar.specs.Longest.{joined}
+use Rattle.js_grammar.specs.Lexemes.{regular_expression, template_tail, hashbang, kind_in}
+use Rattle.js_lex.proofs.KindsOfLexemes.{plain_end}
+use Rattle.js_lex.proofs.TriviaLemmas.{some_width}
+use Rattle.js_lex.specs.Kept.{Grows}
+use Rattle.std.proofs.lemmas.List.Elements.{All-weaker, All-same, All-cons, All-nil}
+use Rattle.js_grammar.specs.Settings.{Goal}
+use Rattle.js_grammar.proofs.Parts.{joins}
+use Rattle.js_lex.specs.Reading.{cut, is_right_angle, Tells, LexemeBehind, GivesLexeme, GivesNone, Outcome, GivesNext, in_a_module}
+use Rattle.js_lex.specs.States.{State, SameText}
+use Rattle.js_cursor.specs.Parsers.{Parser}
+use Rattle.js_cursor.specs.Tokens.{IsToken, given, read_for, none}
+use Rattle.js_cursor.specs.Places.{IsAt, IsFault, goal}
+use Rattle.js_cursor.specs.Moves.{Stays, Passed, IsWhole}
+
+end_of-join : (ls : Lexemes) (x : Lexeme) → end_of (join ls (last x)) ≡ x.to
+end_of-join (last y) x = refl
+end_of-join (next y ls) x = end_of-join ls x
+
+-- a lexeme further on
+pub reached_next : {text : List ℕ} {s : ℕ} {x : Lexeme} → Reached text s → Lex all_faults text s x → Reached text x.to
+reached_next {text} {s} {x} (inl e) h = inr (last x, subst (λ v. Lex all_faults text v x) e h, refl)
+reached_next {text} {s} {x} (inr r) h = inr (join r.0 (last x), joins (Lex all_faults text) 0 r.0 (last x) r.1 (subst (λ v. Lex all_faults text v x) (sym r.2) h), end_of-join r.0 x)
+
+-- what the lexer gives is a token of its place
+pub token_given : {source : Goal} {text : List ℕ} {s : ℕ} {t : Token} (faults : List Diagnostic) → Outcome division cut source text s t [] faults → IsToken source text s t
+token_given {source} {text} {s} {t} faults o = go (same_kind Undetermined t.kind) refl o
+  where
+    go : (b : Bool) → same_kind Undetermined t.kind ≡ b → elim b as (λ _. Type 0) [ true ↦ (d : Diagnostic) × (faults ≡ d ∷ []) × GivesNone division source text s t d | false ↦ (faults ≡ []) × GivesLexeme division cut text s t ] → IsToken source text s t
+    go true e x = none (sym (kind_of_same Undetermined t.kind e)) x.2
+    go false e x = given x.1
+
+-- a lexeme that isn't the end has some bytes
+empty_is_end : (g : LexicalGoal) (rest : List ℕ) (k : Kind) → kind_in g [] rest ≡ Some k → k ≡ Eof
+empty_is_end division rest k e = (plain_end rest k e).0
+empty_is_end regular_expression rest k e = cc
+empty_is_end template_tail rest k e = cc
+empty_is_end hashbang rest k e = cc
+
+pub lexeme_some : {text : List ℕ} {s : ℕ} {x : Lexeme} → Lex all_faults text s x → (x.kind ≡ Eof → ⊥) → x.from < x.to
+lexeme_some {x = x} h n = go h.word h.rest h.lexeme.kind h.to
+  where
+    go : (w rest : List ℕ) → kind_in h.goal w rest ≡ Some x.kind → x.to ≡ x.from + width w → x.from < x.to
+    go [] rest e q = absurd (n (empty_is_end h.goal rest x.kind e))
+    go (c ∷ w) rest e q = let z = some_width c w in omega arith
+
+-- faults behind a place that isn't the text's start
+further_on : (k : DiagnosticKind) (source : Goal) (text : List ℕ) (s from to : ℕ) → 0 < s → Condition k source text s from to → is_invalid_character k ≡ true → from ≡ 0 → ⊥
+further_on fault.InvalidCharacter source text s from to p c e z = let q = c.1.place in let r = c.2.0 in absurd (omega arith)
+further_on _ source text s from to p c e z = false≢true e
+
+pub is_fault : {source : Goal} {text : List ℕ} {s : ℕ} (d : Diagnostic) → Reached text s → 0 < s → FaultyBehind d.kind source text s d.span.start d.span.end → IsFault source text d
+is_fault {source} {text} {s} d r p h = record { place = s; reached = r; faulty = h; no_hashbang = λ e z q. further_on d.kind source text s d.span.start d.span.end p h.condition e z }
+
+pub are_faults : {source : Goal} {text : List ℕ} {s : ℕ} (ds : List Diagnostic) → Reached text s → 0 < s → All (λ d. FaultyBehind d.kind source text s d.span.start d.span.end) ds → All (IsFault source text) ds
+are_faults {source} {text} {s} ds r p h = All-weaker (λ d. FaultyBehind d.kind source text s d.span.start d.span.end) (IsFault source text) (λ d f. is_fault d r p f) ds h
+
+-- the faults that come with the next token
+pub next_faults : {source : Goal} {text : List ℕ} {s : ℕ} (t : Token) (faults : List Diagnostic) → Reached text s → 0 < s → Outcome division cut source text s t [] faults → All (IsFault source text) faults
+next_faults {source} {text} {s} t faults r p o = go (same_kind Undetermined t.kind) o
+  where
+    go : (b : Bool) → elim b as (λ _. Type 0) [ true ↦ (d : Diagnostic) × (faults ≡ d ∷ []) × GivesNone division source text s t d | false ↦ (faults ≡ []) × GivesLexeme division cut text s t ] → All (IsFault source text) faults
+    go true x = All-same (IsFault source text) faults (x.0 ∷ []) x.1 (All-cons (IsFault source text) x.0 [] (is_fault x.0 r p x.2.faulty) (All-nil (IsFault source text)))
+    go false x = All-same (IsFault source text) faults [] x.0 (All-nil (IsFault source text))
+
+-- all but the place, the token and the lexer stays
+pub stays : {p : Parser} {l : State} {t : Token} {e : ℕ} → SameText p.lexer l → Stays p (record p { lexer = l; token = t; prev_token_end = e })
+stays h = record { text = refl; source_type = refl; options = refl; same = h; nodes = refl; visits = refl; ctx = refl; errors = refl; depth = refl }
+
+-- The lexer gave the next token behind a lexeme that the current one told whole.
+pub passed : {p : Parser} {l : State} {t : Token} {e : ℕ} → IsAt p → IsWhole p → (p.token.kind ≡ Eof → ⊥) → GivesNext division p.lexer l t → e ≡ p.token.span.end → Passed p (record p { lexer = l; token = t; prev_token_end = e })
+passed {p} {l} {t} {e} a w n g q = record {
+  lexeme = w.lexeme;
+  stood = w.stood;
+  tells = w.tells;
+  moved = ends;
+  next = g;
+  stays = stays g.same;
+  at = record {
+    reads = g.same.text ∙ a.reads;
+    reads_for = g.same.goal ∙ a.reads_for;
+    reached = reached;
+    between = subst (λ v. IsCharBoundary p.text v) (sym q) a.lies.ends_whole;
+    token = subst (λ v. IsToken (goal p) v e t) a.reads (subst (λ v. IsToken v p.lexer.text e t) a.reads_for (subst (λ v. IsToken p.lexer.goal p.lexer.text v t) here (token_given g.faults g.outcome)));
+    lies = subst (λ v. LiesIn t.span v) a.reads g.lies;
+    last = g.place;
+    marked = a.marked;
+    faulty = All-same (IsFault (goal p) p.text) l.kept.errors _ g.grows.faults_grow (All-append (IsFault (goal p) p.text) p.lexer.kept.errors _ a.faulty (All-append (IsFault (goal p) p.text) _ g.faults passing stopping));
+  };
+}
+  where
+    here : p.lexer.place ≡ e
+    here = a.last ∙ sym q
+
+    ends : e ≡ w.lexeme.to
+    ends = q ∙ w.tells.end
+
+    reached : Reached p.text e
+    reached = subst (λ v. Reached p.text v) (sym ends) (reached_next a.reached w.stood)
+
+    some : 0 < e
+    some = let z = lexeme_some w.stood (λ k. n (w.tells.kind ∙ k)) in let y = ends in omega arith
+
+    at_place : (P : Goal → List ℕ → ℕ → Type 0) → P p.lexer.goal p.lexer.text p.lexer.place → P (goal p) p.text e
+    at_place P x = subst (λ v. P v p.text e) a.reads_for (subst (λ v. P p.lexer.goal v e) a.reads (subst (λ v. P p.lexer.goal p.lexer.text v) here x))
+
+    passing : All (IsFault (goal p) p.text) (each_at (html_fault_at (in_a_module p.lexer.goal)) p.lexer.place g.pieces)
+    passing = are_faults (each_at (html_fault_at (in_a_module p.lexer.goal)) p.lexer.place g.pieces) reached some (at_place (λ v x s. All (λ d. FaultyBehind d.kind v x s d.span.start d.span.end) (each_at (html_fault_at (in_a_module p.lexer.goal)) p.lexer.place g.pieces)) g.marked)
+
+    stopping : All (IsFault (goal p) p.text) g.faults
+    stopping = next_faults t g.faults reached some (at_place (λ v x s. Outcome division cut v x s t [] g.faults) g.outcome)
+
+-- the same, of a parser seen as p
+pub passed_seen : {p q : Parser} → p ≡ q → IsAt q → IsWhole q → (q.token.kind ≡ Eof → ⊥) → {l : State} {t : Token} {e : ℕ} → GivesNext division p.lexer l t → e ≡ p.token.span.end → Passed q (record p { lexer = l; token = t; prev_token_end = e })
+passed_seen {p} {q} v a w n {l} {t} {e} g h = subst (λ r. Passed r (record p { lexer = l; token = t; prev_token_end = e })) v (passed (subst IsAt (sym v) a) (subst IsWhole (sym v) w) (λ k. n (sym (ap (λ r. r.token.kind) v) ∙ k)) g h)
