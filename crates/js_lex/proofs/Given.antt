@@ -24,7 +24,7 @@ use Rattle.js_lex.specs.States.{State}
 use Rattle.js_lex.specs.Reading.{cut, is_right_angle, LexemeBehind, GivesLexeme, GivesNone, Outcome, GivesNext, WasGiven}
 
 -- where the token is determined, a lexeme stands
-lexeme_given : (source : Goal) (text : List ℕ) (s : ℕ) (t : Token) (faults : List Diagnostic) → same_kind Undetermined t.kind ≡ false → Outcome division cut source text s t [] faults → GivesLexeme division cut text s t
+pub lexeme_given : (source : Goal) (text : List ℕ) (s : ℕ) (t : Token) (faults : List Diagnostic) → same_kind Undetermined t.kind ≡ false → Outcome division cut source text s t [] faults → GivesLexeme division cut text s t
 lexeme_given source text s t faults k o = (subst (λ (b : Bool). elim b as (λ _. Type 0) [ true ↦ (d : Diagnostic) × (faults ≡ d ∷ []) × GivesNone division source text s t d | false ↦ (◌≡◌ {A = List Diagnostic} faults []) × GivesLexeme division cut text s t ]) k o).1
 
 -- a determined token of the plain goal was given last by the lexer that gave it

@@ -67,7 +67,7 @@ opened-same o None h = cc
 opened-same o (Some p) h = ap (λ (q : Opening). Some q) (opens-same p o h)
 
 -- the opening of the kinds of a list, where they all have the same one
-opened_member : (o : Opening) (ks : List Kind) (k : Kind) → one_of_kinds ks k ≡ true → list_all (λ a. is_opened_by o (opened_number (code a))) ks ≡ true → opened k ≡ Some o
+pub opened_member : (o : Opening) (ks : List Kind) (k : Kind) → one_of_kinds ks k ≡ true → list_all (λ a. is_opened_by o (opened_number (code a))) ks ≡ true → opened k ≡ Some o
 opened_member o ks k h a = opened-same o (opened k) (kind_member (λ n. is_opened_by o (opened_number n)) ks k h a)
 
 -- a kind without opening is none that has one

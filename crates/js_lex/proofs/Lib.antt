@@ -36,6 +36,7 @@ pub mod FlagFaults
 pub mod Marks
 pub mod ReadAgain
 pub mod Given
+pub mod NamesGiven
 pub mod Settled
 pub mod Lying
 pub mod Ordered
