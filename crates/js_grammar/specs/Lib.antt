@@ -14,6 +14,7 @@ pub mod Parsing
 pub mod FirstLanguageParsing
 pub mod FirstLanguageLevels
 pub mod Lines
+pub mod BoundNames
 pub mod Settings
 pub mod FirstLanguageReadings
 pub mod Characters

@@ -3,3 +3,9 @@ pub mod TableLemmas
 pub mod RowLemmas
 pub mod HoldingLemmas
 pub mod SignLemmas
+pub mod Quotations
+pub mod LineLemmas
+pub mod SpellingLemmas
+pub mod StackLemmas
+pub mod WeightLemmas
+pub mod BindingLemmas

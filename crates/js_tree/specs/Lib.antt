@@ -2,6 +2,8 @@ pub mod Labels
 pub mod Nodes
 pub mod Holding
 pub mod Bits
+pub mod Parts
+pub mod Binding
 pub mod Sources
 pub mod Names
 pub mod Rooms

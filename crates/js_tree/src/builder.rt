@@ -1,19 +1,22 @@
 //! The nodes that a parser makes.
 
-ghost use Rattle.std.specs.Prelude.{◌≡◌, ◌<◌, ◌↔◌, ◌∷◌, [], length, map, is_some, slice_get, IfOk, IsTrue, Some, None};
+ghost use Rattle.std.specs.Prelude.{◌≡◌, ◌<◌, ◌↔◌, ◌∷◌, [], length, map, is_some, slice_get, IfOk, IsTrue, Some, None, ℕ, List, chars};
 ghost use Rattle.js_base.specs.Spans.{LiesIn};
-ghost use Rattle.js_grammar.specs.Trees.{Slots, Tree as SpecTree};
+ghost use Rattle.js_grammar.specs.Trees.{Label, Slots};
 ghost use Rattle.js_tree.specs.Nodes.{node_at, new_node, empty_program, flags_set, program_node};
-ghost use Rattle.js_tree.specs.Holding.{Makes, HoldsAll, IsTree, with_program, program_tree};
-ghost use Rattle.js_tree.specs.Sources.{text_of, name_of};
+ghost use Rattle.js_tree.specs.Holding.{Makes, Stands, HoldsAll, IsTree, with_program, program_tree};
+ghost use Rattle.js_tree.specs.Sources.{text_of, name_of, IsString, units_of, raw_bytes, digit_bytes, IsKey, prop_name_of};
+ghost use Rattle.js_tree.specs.Binding.{Binds};
+ghost use Rattle.js_base.specs.Decoding.{cooked};
 
 use crate::columns::Columns;
 use crate::flags::NodeFlags;
 use crate::id::NodeId;
 use crate::kind::NodeKind;
 use crate::op::Op;
+use crate::reading::{digits_of, with_line_feeds};
 use crate::tree::Tree;
-use js_base::{NoMemory, Span, Text};
+use js_base::{JsStr, NoMemory, Span, Text, decode_template};
 use std::alloc::Global;
 use std::marker::Model;
 
@@ -115,7 +118,8 @@ impl ParserAstBuilder {
     ) -> Result<NodeId, NoMemory>
         ensures { Makes (new_node kind span op flags None children) self.old self.new result }
     {
-        self.columns.append(kind, span, op, flags, None, &children)
+        self.columns
+            .append(kind, span, op, flags, None, &children)
     }
 
     /// Gives a node these flags; all else stays.
@@ -233,5 +237,67 @@ impl ParserAstBuilder {
         ensures { result.now ≡ name_of (node_at self.now id) source.now }
     {
         self.columns.name(id, source)
+    }
+
+    /// The code units that the string literal stands for: its SV (ECMA-262, section 12.9.4.2). Condition: as in `text`, and
+    /// the node's text there is a string literal. The only error is want of memory.
+    pub fn string_value(&self, alloc: Global, id: NodeId, source: &str) -> Result<JsStr, NoMemory>
+        requires contained { id.0 < length self.now }
+        requires lies { LiesIn (node_at self.now id).span source.now }
+        requires string { IsString (node_at self.now id) source.now }
+        ensures { IfOk result (λ units. Some units ≡ units_of (node_at self.now id) source.now) }
+    {
+        self.columns.string_value(alloc, id, source)
+    }
+
+    /// The code units that the template part stands for: its TV (ECMA-262, section 12.9.6.1); none exactly where an escape
+    /// in it is ill-formed. Condition: as in `text`. The only error is want of memory.
+    pub fn cooked(&self, alloc: Global, id: NodeId, source: &str) -> Result<Option<JsStr>, NoMemory>
+        requires contained { id.0 < length self.now }
+        requires lies { LiesIn (node_at self.now id).span source.now }
+        ensures { IfOk result (λ units. units ≡ cooked (chars (text_of (node_at self.now id) source.now))) }
+    {
+        decode_template(alloc, self.columns.text(id, source))
+    }
+
+    /// The text of the template part with CR LF and CR as LF: its TRV (ECMA-262, section 12.9.6.2). Condition: as in `text`.
+    /// The only error is want of memory.
+    pub fn raw(&self, alloc: Global, id: NodeId, source: &str) -> Result<Text, NoMemory>
+        requires contained { id.0 < length self.now }
+        requires lies { LiesIn (node_at self.now id).span source.now }
+        ensures { IfOk result (λ text. text ≡ raw_bytes (node_at self.now id) source.now) }
+    {
+        with_line_feeds(alloc, self.columns.text(id, source))
+    }
+
+    /// The digits of the big integer (ECMA-262, section 12.9.3) without prefix, separators and the `n` behind them.
+    /// Condition: as in `text`. The only error is want of memory.
+    pub fn digits(&self, alloc: Global, id: NodeId, source: &str) -> Result<Text, NoMemory>
+        requires contained { id.0 < length self.now }
+        requires lies { LiesIn (node_at self.now id).span source.now }
+        ensures { IfOk result (λ text. text ≡ digit_bytes (node_at self.now id) source.now) }
+    {
+        digits_of(alloc, self.columns.text(id, source))
+    }
+
+    /// The nodes that bind the names of the pattern or declaration, in the order of the text (ECMA-262, section 8.2.1,
+    /// BoundNames); none of any other node. The only error is want of memory.
+    pub fn bound_names(&self, alloc: Global, id: NodeId) -> Result<Vec<NodeId>, NoMemory>
+        requires { id.0 < length self.now }
+        ensures { IfOk result (λ ids. (l : Label) (cs : Slots) (rs : List ℕ) → Stands self.now id.0 l cs rs → Binds self.now ids.items l cs rs) }
+    {
+        self.columns.bound_names(alloc, id)
+    }
+
+    /// The name of a key: of a name, of a private name without its `#`, or the text of a string literal without a lone
+    /// surrogate; none of any other node. Condition: as in `text`, and the text of a StringLiteral is a string literal. The
+    /// only error is want of memory.
+    pub fn prop_name(&self, alloc: Global, id: NodeId, source: &str) -> Result<Option<Text>, NoMemory>
+        requires contained { id.0 < length self.now }
+        requires lies { LiesIn (node_at self.now id).span source.now }
+        requires key { IsKey (node_at self.now id).kind (node_at self.now id) source.now }
+        ensures { IfOk result (λ name. name ≡ prop_name_of (node_at self.now id) source.now) }
+    {
+        self.columns.prop_name(alloc, id, source)
     }
 }

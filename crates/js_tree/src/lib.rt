@@ -2,6 +2,7 @@
 #![tactic(auto)]
 
 mod bits;
+mod bound;
 mod builder;
 mod columns;
 mod flags;
