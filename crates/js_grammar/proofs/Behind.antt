@@ -1,7 +1,7 @@
 -- Lexemes behind what is taken.
 use Rattle.std.proofs.Common.{ℕ}
 use Rattle.js_grammar.specs.Trees.{Slots, Tree}
-use Rattle.js_grammar.specs.Grammar.{Lexeme, Lexemes, last, next, here, Grammar, Takes, Derives, is_nothing, is_lexeme, is_look, is_text, is_ahead, is_empty_slot, is_seq, is_left, is_right, is_when, is_many, is_commas, is_such, is_marked, is_node, is_ended, is_keep, is_kept}
+use Rattle.js_grammar.specs.Grammar.{Lexeme, Lexemes, last, Grammar, Takes, Derives, is_nothing, is_lexeme, is_look, is_text, is_ahead, is_empty_slot, is_seq, is_left, is_right, is_when, is_many, is_commas, is_such, is_marked, is_node, is_ended, is_keep, is_kept}
 use Rattle.js_grammar.specs.Lexed.{Lexes}
 
 -- Behind what is taken from lexemes that stand one behind the other, the others do too.

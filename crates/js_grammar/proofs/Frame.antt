@@ -3,12 +3,12 @@ use Rattle.std.proofs.Common.{ℕ, ◌≡◌, refl, ap, sym, ◌∙◌, subst}
 use Rattle.js_grammar.specs.Trees.{Slots, end, hole, tree, append}
 use Rattle.js_grammar.specs.Grammar.{Lexemes, label_of, seq, Grammar, Takes, is_nothing, is_lexeme, is_look, is_text, is_ahead, is_empty_slot, is_seq, is_left, is_right, is_when, is_many, is_commas, is_such, is_marked, is_node, is_ended, is_keep, is_kept}
 
-append_end : (ts : Slots) → append ts end ≡ ts
+pub append_end : (ts : Slots) → append ts end ≡ ts
 append_end end = refl
 append_end (hole ts) = ap hole (append_end ts)
 append_end (tree l cs ts) = ap (tree l cs) (append_end ts)
 
-append_assoc : (a b c : Slots) → append (append a b) c ≡ append a (append b c)
+pub append_assoc : (a b c : Slots) → append (append a b) c ≡ append a (append b c)
 append_assoc end b c = refl
 append_assoc (hole a) b c = ap hole (append_assoc a b c)
 append_assoc (tree l cs a) b c = ap (tree l cs) (append_assoc a b c)
@@ -41,3 +41,7 @@ framed (is_ended {cs = cs} {vs = us} q d e) =
     (append cs y.0, q ∙ (ap (append cs) y.1 ∙ sym (append_assoc cs y.0 us)), λ vs. is_ended (append_assoc cs y.0 vs) d (y.2 vs))
 framed (is_keep d e) = let x = framed e in (x.0, x.1, λ vs. is_keep d (x.2 vs))
 framed (is_kept {ks = ks} q) = (ks, q, λ vs. is_kept refl)
+
+-- A grammar puts slots before those behind it, and looks at none of these.
+pub puts : {N : Type 0} {rule : N → Grammar N} {g : Grammar N} {ks ts us : Slots} {i j : ℕ} {ls rest : Lexemes} → Takes rule g ks ts i ls us j rest → (ps : Slots) × (ts ≡ append ps us)
+puts d = let x = framed d in (x.0, x.1)

@@ -186,12 +186,16 @@ module _ {N : Type 0} {rule : N → Grammar N} (C : FirstSets rule) where
         let same = y.other q' x' (g, h, t, z) (here ls) (here_at Lex ls i) (starting C full d refl) in
         (es, j, mid, subst (λ v. Takes rule v.part end es s' ls end j mid) same.1 d, subst (λ v. Tail w m from v (linked_label x from j) (tree l cs es) j mid m' ds k rest) same.0 (subst (λ v. Tail w m from q' (linked_label v from j) (tree l cs es) j mid m' ds k rest) same.1 more))
 
+    -- what stands behind a part
+    part_admits : {X' : Test} → Edges rule X X' x from l cs s' → Follows C.first w m q X' → (es : Slots) (j : ℕ) (ls' mid : Lexemes) (m' : Label) (ds : Slots) (k : ℕ) (rest : Lexemes) → Takes rule x.part end es s' ls' end j mid → Tail w m from q (linked_label x from j) (tree l cs es) j mid m' ds k rest → Admits X (tree m' ds end) (here rest) → Admits X' es (here mid)
+    part_admits {X'} h g es j ls' mid m' ds k rest d t e = starting_tail X X' es t e g (h.ends es j ls' mid (here mid) d)
+
     -- a part stands here, and the node goes around it
     pub step : {X' : Test} {s'' : ℕ} {rm : Way} {f : Slots → Slots} → Reads rule Lex X' end x.part s' s'' f rm → Edges rule X X' x from l cs s' → Follows C.first w m q X' → Around Lex X w m s from q (linked_label x from s'') (tree l cs (f end)) s'' (joined rn rm)
     step {X'} {s''} {rm} {f} r h g = record {
       passes = passes_both a.passes r.passes;
       sound = λ m' ds k ls' rest i n t. a.sound m' ds k (rm.pass ls') rest (r.passes.lexed ls' i) (a_far rn rm r.passes ls' n) (tail_more y.step.0 y.step.1 y.step.2 y.step.3 (r.sound end end s'' ls' ls' i (b_far rn rm _ ls' n) is_nothing) t);
-      only = λ m' ds k ls rest i d e. let u = a.only m' ds k ls rest i d e in let v = part_here m' ds k u.0 rest u.1 u.2 e in let z = r.only v.0 end v.1 u.0 v.2 u.1 v.3 (starting_tail X X' v.0 v.4 e g (h.ends v.0 v.1 u.0 v.2 (here v.2) v.3)) in
+      only = λ m' ds k ls rest i d e. let u = a.only m' ds k ls rest i d e in let v = part_here m' ds k u.0 rest u.1 u.2 e in let z = r.only v.0 end v.1 u.0 v.2 u.1 v.3 (part_admits h g v.0 v.1 u.0 v.2 m' ds k rest v.3 v.4 e) in
           (z.1, z.3, grown x f z.4 z.2 v.4, u.3 ∙ ap rn.pass z.5);
       begins = a.begins;
     }
@@ -199,7 +203,7 @@ module _ {N : Type 0} {rule : N → Grammar N} (C : FirstSets rule) where
     pub step_fails : {n : N} {ks : Slots} {X' X'' : Test} → w.operand m ≡ such n always → Fails rule Lex X' end x.part s' → Heads X'' X → Edges rule X X' x from l cs s' → Follows C.first w m q X' → Fails rule Lex X'' ks (such n always) s
     step_fails {X' = X'} {X'' = X''} o r p h g = record {
       no = λ ts vs k ls rest i d e. let b = as_tree d in let e' = p b.0 b.1 vs (here rest) (at_tree X'' (here rest) e b.2) in let u = a.only b.0 b.1 k ls rest i (subst (λ v. Takes rule v end (tree b.0 b.1 end) s ls end k rest) (sym o) b.3) e' in let v = part_here b.0 b.1 k u.0 rest u.1 u.2 e' in
-          r.no v.0 end v.1 u.0 v.2 u.1 v.3 (starting_tail X X' v.0 v.4 e' g (h.ends v.0 v.1 u.0 v.2 (here v.2) v.3));
+          r.no v.0 end v.1 u.0 v.2 u.1 v.3 (part_admits h g v.0 v.1 u.0 v.2 b.0 b.1 k rest v.3 v.4 e');
     }
 
   -- The rules of operators, for any table of levels, where each operator stands at one level.

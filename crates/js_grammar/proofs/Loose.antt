@@ -1,5 +1,5 @@
 -- Strict is loose: what the table derives, it derives where more is let in, under the parameters of the cover grammar and of the wider targets.
-use Rattle.std.proofs.Common.{ℕ, Bool, true, false, ◌||◌, rules}
+use Rattle.std.proofs.Common.{ℕ, true, rules}
 use Rattle.js_grammar.specs.Trees.{Tree}
 use Rattle.js_grammar.specs.Grammar.{Lexemes, Derives}
 use Rattle.js_grammar.specs.Productions.{Flags, Name, Symbol, at, Program}

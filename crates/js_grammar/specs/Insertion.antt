@@ -29,12 +29,14 @@ begins_name k w e = is_word k || is_number k || one_of_kinds (Str ∷ PrivateIde
 
 -- The rows of the table.
 pub data Row : Type 0 where
-  after_expression after_postfix after_body after_declarator after_word : Row
+  after_expression after_postfix after_body after_yield after_declarator after_word : Row
 
 abbrev pub goes_on : Row → Look
 goes_on after_expression k w e = not e && (one_of_kinds binary_operators k || one_of_kinds assign_operators k || one_of_kinds (RegExp ∷ Question ∷ Comma ∷ Dot ∷ QuestionDot ∷ Arrow ∷ LParen ∷ LBrack ∷ NoSubstitutionTemplate ∷ TemplateHead ∷ []) k)
 goes_on after_postfix k w e = not e && (one_of_kinds binary_operators k || one_of_kinds assign_operators k || one_of_kinds (RegExp ∷ Question ∷ Comma ∷ Dot ∷ QuestionDot ∷ Arrow ∷ []) k)
 goes_on after_body k w e = same_kind Comma k
+-- a `yield` with nothing behind it goes on as a body does; on its own line more may not stand behind it
+goes_on after_yield k w e = same_kind Comma k
 goes_on after_declarator k w e = one_of_kinds (Eq ∷ Comma ∷ []) k
 goes_on after_word k w e = false
 
@@ -64,7 +66,7 @@ own_row _ flags = after_expression
 -- and of one whose last slot is empty
 abbrev pub empty_row : NodeKind → Row
 empty_row variable_declarator = after_declarator
-empty_row yield_expression = after_body
+empty_row yield_expression = after_yield
 empty_row _ = after_word
 
 abbrev pub edge : Row → Row → Slots → Row

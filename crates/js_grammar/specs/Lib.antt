@@ -7,6 +7,8 @@ pub mod Productions
 pub mod Conditions
 pub mod Table
 pub mod FirstSets
+pub mod Levels
+pub mod Follow
 pub mod FirstLanguageInsertion
 pub mod FirstLanguageTable
 pub mod FirstLanguageLexing
