@@ -38,7 +38,6 @@ pub mod Brackets
 pub mod FirstLanguageExamples
 pub mod FirstLanguageLaws
 pub mod NodeNames
-pub mod BoundNames
 pub mod ModuleRecords
 pub mod Modules
 pub mod RecordLines

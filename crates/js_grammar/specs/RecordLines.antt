@@ -49,9 +49,13 @@ binding_line e = codes "exported " ++ (span_text e.1 ++ codes "\n")
 abbrev pub import_line : ImportEntry → List ℕ
 import_line e = codes "import " ++ (span_text e.statement_span ++ (codes " request " ++ (span_text e.module_request.span ++ (codes " " ++ (import_name_text e.import_name ++ (codes " local " ++ (span_text e.local_name.span ++ codes "\n")))))))
 
+-- the names of an export entry, to the end of its line
+abbrev pub export_names : ExportEntry → List ℕ
+export_names e = codes " import " ++ (taken_name_text e.import_name ++ (codes " export " ++ (export_name_text e.export_name ++ (codes " local " ++ (local_name_text e.local_name ++ codes "\n")))))
+
 -- the word for the list, and then an entry of it
 abbrev pub export_line : List ℕ → ExportEntry → List ℕ
-export_line word e = word ++ (codes " " ++ (span_text e.statement_span ++ (codes " " ++ (span_text e.span ++ (codes " request " ++ (request_text e.module_request ++ (codes " import " ++ (taken_name_text e.import_name ++ (codes " export " ++ (export_name_text e.export_name ++ (codes " local " ++ (local_name_text e.local_name ++ codes "\n"))))))))))))
+export_line word e = word ++ (codes " " ++ (span_text e.statement_span ++ (codes " " ++ (span_text e.span ++ (codes " request " ++ (request_text e.module_request ++ export_names e))))))
 
 abbrev pub dynamic_line : DynamicImport → List ℕ
 dynamic_line d = codes "dynamic " ++ (span_text d.span ++ (codes " request " ++ (span_text d.module_request ++ codes "\n")))

@@ -3,3 +3,5 @@ pub mod Firsts
 pub mod Places
 pub mod Options
 pub mod Exports
+pub mod NodeKinds
+pub mod Shown

@@ -4,9 +4,11 @@
 mod builder;
 mod copied;
 mod entry;
+mod lines;
 mod name;
 mod part;
 mod placing;
+mod reading;
 mod record;
 
 pub use builder::ModuleRecordBuilder;

@@ -1,0 +1,24 @@
+-- Lines of members, one after the other.
+use Rattle.std.proofs.Common.{◌≡◌, ℕ, ◌+◌, ◌<◌, List, [], ◌∷◌, ◌++◌, Option, Some, None, get_or, take, length, slice_get, refl, sym, ap, ◌∙◌, append_assoc, is_some, true≢false, arith}
+use Rattle.std.specs.List.{flat_map}
+use Rattle.std.proofs.lemmas.Grind.{flat_map-append}
+use Rattle.std.proofs.lemmas.List.{take_more}
+use Rattle.std.proofs.lemmas.Option.{slice_get_within, get_or_from_slice_get, slice_get-get_or}
+
+append_nil : {A : Type 0} (xs : List A) → xs ++ [] ≡ xs
+append_nil [] = refl
+append_nil (x ∷ xs) = ap (λ v. x ∷ v) (append_nil xs)
+
+module _ {E : Type 0} (f : E → List ℕ) (es : List E) (i : ℕ) where
+  -- those of one member more
+  pub next_lines : (e : E) (out mid new : List ℕ) → slice_get es i ≡ Some e → mid ≡ out ++ flat_map f (take i es) → new ≡ mid ++ f e → new ≡ out ++ flat_map f (take (i + 1) es)
+  next_lines e out mid new at m n =
+      let more : take (i + 1) es ≡ take i es ++ e ∷ [] = take_more es i e (slice_get_within es i e at) ∙ ap (λ v. take i es ++ v ∷ []) (get_or_from_slice_get es i e e at) in
+      n ∙ ap (λ v. v ++ f e) m ∙ append_assoc out (flat_map f (take i es)) (f e)
+          ∙ ap (λ v. out ++ (flat_map f (take i es) ++ v)) (sym (append_nil (f e)))
+          ∙ ap (λ v. out ++ v) (sym (flat_map-append f (take i es) (e ∷ []))) ∙ ap (λ v. out ++ flat_map f v) (sym more)
+
+-- a place below the length has a member
+pub none_below : {E : Type 0} (es : List E) (i : ℕ) → i < length es → None ≡ slice_get es i → ⊥
+none_below [] i w h = absurd (omega arith)
+none_below (e ∷ es) i w h = true≢false (sym (ap is_some (h ∙ slice_get-get_or (e ∷ es) i e w)))
