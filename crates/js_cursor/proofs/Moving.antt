@@ -1,7 +1,8 @@
 -- What holds at a place when the lexer has given the next token.
 use Rattle.std.proofs.Common.{ℕ, zero, suc, ◌+◌, ◌≡◌, ◌≤◌, ◌<◌, ◌⊎◌, inl, inr, Bool, true, false, List, [], ◌∷◌, ◌++◌, refl, sym, ap, subst, arith, ◌∙◌}
 use Rattle.std.specs.List.{All}
-use Rattle.std.specs.Prelude.{IsCharBoundary, IsTrue, Some, length, not, ◌&&◌, ◌==◌, codes, Option}
+use Rattle.std.specs.Prelude.{IsCharBoundary, IsTrue, Some, ◌↔◌}
+use Rattle.js_lex.proofs.Again.{cut_same}
 use Rattle.std.proofs.lemmas.List.Elements.{All-append}
 use Rattle.js_base.specs.declared.diagnostic.Diagnostic.{Diagnostic}
 use Rattle.js_base.specs.declared.diagnostic.DiagnosticKind.{DiagnosticKind}
@@ -31,7 +32,7 @@ use Rattle.js_grammar.proofs.Parts.{joins}
 use Rattle.js_lex.specs.Reading.{cut, is_right_angle, Tells, LexemeBehind, GivesLexeme, GivesNone, Outcome, GivesNext, in_a_module}
 use Rattle.js_lex.specs.States.{State, SameText}
 use Rattle.js_cursor.specs.Parsers.{Parser}
-use Rattle.js_cursor.specs.Tokens.{IsToken, given, read_for, none}
+use Rattle.js_cursor.specs.Tokens.{IsToken, whole, sign, nothing}
 use Rattle.js_cursor.specs.Places.{IsAt, IsFault, goal}
 use Rattle.js_cursor.specs.Moves.{Stays, Passed, IsWhole}
 
@@ -44,13 +45,29 @@ pub reached_next : {text : List ℕ} {s : ℕ} {x : Lexeme} → Reached text s �
 reached_next {text} {s} {x} (inl e) h = inr (last x, subst (λ v. Lex all_faults text v x) e h, refl)
 reached_next {text} {s} {x} (inr r) h = inr (join r.0 (last x), joins (Lex all_faults text) 0 r.0 (last x) r.1 (subst (λ v. Lex all_faults text v x) (sym r.2) h), end_of-join r.0 x)
 
+-- a sign that begins with `>` is shown as `>`
+cut_sign : (y : Lexeme) → is_right_angle y.kind ≡ true → (cut y).kind ≡ RAngle
+cut_sign y e = rw (e, cut) refl
+
 -- what the lexer gives is a token of its place
-pub token_given : {source : Goal} {text : List ℕ} {s : ℕ} {t : Token} (faults : List Diagnostic) → Outcome division cut source text s t [] faults → IsToken source text s t
-token_given {source} {text} {s} {t} faults o = go (same_kind Undetermined t.kind) refl o
+pub token_given : {source : Goal} {text : List ℕ} {s : ℕ} {t : Token} (faults : List Diagnostic) (b : Bool) → (IsTrue b ↔ (t.kind ≡ RAngle)) → Outcome division cut source text s t [] faults → IsToken source text s t b
+token_given {source} {text} {s} {t} faults b h o = go (same_kind Undetermined t.kind) refl o
   where
-    go : (b : Bool) → same_kind Undetermined t.kind ≡ b → elim b as (λ _. Type 0) [ true ↦ (d : Diagnostic) × (faults ≡ d ∷ []) × GivesNone division source text s t d | false ↦ (faults ≡ []) × GivesLexeme division cut text s t ] → IsToken source text s t
-    go true e x = none (sym (kind_of_same Undetermined t.kind e)) x.2
-    go false e x = given x.1
+    told : (b : Bool) → (IsTrue b ↔ (t.kind ≡ RAngle)) → GivesLexeme division cut text s t → IsToken source text s t b
+    told true h x = sign (h.0 refl) x
+    told false h x = whole (record { lexeme = x.lexeme; stands = x.stands; tells = subst (λ v. Tells v t) (plain (is_right_angle x.lexeme.kind) refl) x.tells; separated = x.separated })
+      where
+        plain : (r : Bool) → is_right_angle x.lexeme.kind ≡ r → cut x.lexeme ≡ x.lexeme
+        plain true e = absurd (false≢true (h.1 (x.tells.kind ∙ cut_sign x.lexeme e)))
+        plain false e = cut_same x.lexeme e
+
+    none_told : (b : Bool) → (IsTrue b ↔ (t.kind ≡ RAngle)) → t.kind ≡ Undetermined → (d : Diagnostic) → GivesNone division source text s t d → IsToken source text s t b
+    none_told true h e d x = absurd (let z : Undetermined ≡ RAngle = sym e ∙ h.0 refl in cc)
+    none_told false h e d x = nothing e x
+
+    go : (r : Bool) → same_kind Undetermined t.kind ≡ r → elim r as (λ _. Type 0) [ true ↦ (d : Diagnostic) × (faults ≡ d ∷ []) × GivesNone division source text s t d | false ↦ (faults ≡ []) × GivesLexeme division cut text s t ] → IsToken source text s t b
+    go true e x = none_told b h (sym (kind_of_same Undetermined t.kind e)) x.0 x.2
+    go false e x = told b h x.1
 
 -- a lexeme that isn't the end has some bytes
 empty_is_end : (g : LexicalGoal) (rest : List ℕ) (k : Kind) → kind_in g [] rest ≡ Some k → k ≡ Eof
@@ -86,52 +103,53 @@ next_faults {source} {text} {s} t faults r p o = go (same_kind Undetermined t.ki
     go false x = All-same (IsFault source text) faults [] x.0 (All-nil (IsFault source text))
 
 -- all but the place, the token and the lexer stays
-pub stays : {p : Parser} {l : State} {t : Token} {e : ℕ} → SameText p.lexer l → Stays p (record p { lexer = l; token = t; prev_token_end = e })
+pub stays : {p : Parser} {l : State} {t : Token} {b : Bool} {e : ℕ} → SameText p.lexer l → Stays p (record p { lexer = l; token = t; cut = b; prev_token_end = e })
 stays h = record { text = refl; source_type = refl; options = refl; same = h; nodes = refl; visits = refl; ctx = refl; errors = refl; depth = refl }
 
--- The lexer gave the next token behind a lexeme that the current one told whole.
-pub passed : {p : Parser} {l : State} {t : Token} {e : ℕ} → IsAt p → IsWhole p → (p.token.kind ≡ Eof → ⊥) → GivesNext division p.lexer l t → e ≡ p.token.span.end → Passed p (record p { lexer = l; token = t; prev_token_end = e })
-passed {p} {l} {t} {e} a w n g q = record {
-  lexeme = w.lexeme;
-  stood = w.stood;
-  tells = w.tells;
-  moved = ends;
-  next = g;
-  stays = stays g.same;
-  at = record {
-    reads = g.same.text ∙ a.reads;
-    reads_for = g.same.goal ∙ a.reads_for;
-    reached = reached;
-    between = subst (λ v. IsCharBoundary p.text v) (sym q) a.lies.ends_whole;
-    token = subst (λ v. IsToken (goal p) v e t) a.reads (subst (λ v. IsToken v p.lexer.text e t) a.reads_for (subst (λ v. IsToken p.lexer.goal p.lexer.text v t) here (token_given g.faults g.outcome)));
-    lies = subst (λ v. LiesIn t.span v) a.reads g.lies;
-    last = g.place;
-    marked = a.marked;
-    faulty = All-same (IsFault (goal p) p.text) l.kept.errors _ g.grows.faults_grow (All-append (IsFault (goal p) p.text) p.lexer.kept.errors _ a.faulty (All-append (IsFault (goal p) p.text) _ g.faults passing stopping));
-  };
-}
-  where
-    here : p.lexer.place ≡ e
-    here = a.last ∙ sym q
+module _ {p : Parser} {l : State} {t : Token} {b : Bool} {e : ℕ} where
+  -- The lexer gave the next token behind a lexeme that the current one told whole.
+  pub passed : IsAt p → IsWhole p → (p.token.kind ≡ Eof → ⊥) → GivesNext division p.lexer l t → (IsTrue b ↔ (t.kind ≡ RAngle)) → e ≡ p.token.span.end → Passed p (record p { lexer = l; token = t; cut = b; prev_token_end = e })
+  passed a w n g i q = record {
+    lexeme = w.lexeme;
+    stood = w.stood;
+    tells = w.tells;
+    moved = ends;
+    next = g;
+    stays = stays g.same;
+    at = record {
+      reads = g.same.text ∙ a.reads;
+      reads_for = g.same.goal ∙ a.reads_for;
+      reached = reached;
+      between = subst (λ v. IsCharBoundary p.text v) (sym q) a.lies.ends_whole;
+      token = at_place (λ v x s. IsToken v x s t b) (token_given g.faults b i g.outcome);
+      lies = subst (λ v. LiesIn t.span v) a.reads g.lies;
+      last = g.place;
+      marked = a.marked;
+      faulty = All-same (IsFault (goal p) p.text) l.kept.errors _ g.grows.faults_grow (All-append (IsFault (goal p) p.text) p.lexer.kept.errors _ a.faulty (All-append (IsFault (goal p) p.text) _ g.faults passing stopping));
+    };
+  }
+    where
+      here : p.lexer.place ≡ e
+      here = a.last ∙ sym q
 
-    ends : e ≡ w.lexeme.to
-    ends = q ∙ w.tells.end
+      ends : e ≡ w.lexeme.to
+      ends = q ∙ w.tells.end
 
-    reached : Reached p.text e
-    reached = subst (λ v. Reached p.text v) (sym ends) (reached_next a.reached w.stood)
+      reached : Reached p.text e
+      reached = subst (λ v. Reached p.text v) (sym ends) (reached_next a.reached w.stood)
 
-    some : 0 < e
-    some = let z = lexeme_some w.stood (λ k. n (w.tells.kind ∙ k)) in let y = ends in omega arith
+      some : 0 < e
+      some = let z = lexeme_some w.stood (λ k. n (w.tells.kind ∙ k)) in let y = ends in omega arith
 
-    at_place : (P : Goal → List ℕ → ℕ → Type 0) → P p.lexer.goal p.lexer.text p.lexer.place → P (goal p) p.text e
-    at_place P x = subst (λ v. P v p.text e) a.reads_for (subst (λ v. P p.lexer.goal v e) a.reads (subst (λ v. P p.lexer.goal p.lexer.text v) here x))
+      at_place : (P : Goal → List ℕ → ℕ → Type 0) → P p.lexer.goal p.lexer.text p.lexer.place → P (goal p) p.text e
+      at_place P x = subst (λ v. P v p.text e) a.reads_for (subst (λ v. P p.lexer.goal v e) a.reads (subst (λ v. P p.lexer.goal p.lexer.text v) here x))
 
-    passing : All (IsFault (goal p) p.text) (each_at (html_fault_at (in_a_module p.lexer.goal)) p.lexer.place g.pieces)
-    passing = are_faults (each_at (html_fault_at (in_a_module p.lexer.goal)) p.lexer.place g.pieces) reached some (at_place (λ v x s. All (λ d. FaultyBehind d.kind v x s d.span.start d.span.end) (each_at (html_fault_at (in_a_module p.lexer.goal)) p.lexer.place g.pieces)) g.marked)
+      passing : All (IsFault (goal p) p.text) (each_at (html_fault_at (in_a_module p.lexer.goal)) p.lexer.place g.pieces)
+      passing = are_faults (each_at (html_fault_at (in_a_module p.lexer.goal)) p.lexer.place g.pieces) reached some (at_place (λ v x s. All (λ d. FaultyBehind d.kind v x s d.span.start d.span.end) (each_at (html_fault_at (in_a_module p.lexer.goal)) p.lexer.place g.pieces)) g.marked)
 
-    stopping : All (IsFault (goal p) p.text) g.faults
-    stopping = next_faults t g.faults reached some (at_place (λ v x s. Outcome division cut v x s t [] g.faults) g.outcome)
+      stopping : All (IsFault (goal p) p.text) g.faults
+      stopping = next_faults t g.faults reached some (at_place (λ v x s. Outcome division cut v x s t [] g.faults) g.outcome)
 
 -- the same, of a parser seen as p
-pub passed_seen : {p q : Parser} → p ≡ q → IsAt q → IsWhole q → (q.token.kind ≡ Eof → ⊥) → {l : State} {t : Token} {e : ℕ} → GivesNext division p.lexer l t → e ≡ p.token.span.end → Passed q (record p { lexer = l; token = t; prev_token_end = e })
-passed_seen {p} {q} v a w n {l} {t} {e} g h = subst (λ r. Passed r (record p { lexer = l; token = t; prev_token_end = e })) v (passed (subst IsAt (sym v) a) (subst IsWhole (sym v) w) (λ k. n (sym (ap (λ r. r.token.kind) v) ∙ k)) g h)
+pub passed_seen : {p q : Parser} → p ≡ q → IsAt q → IsWhole q → (q.token.kind ≡ Eof → ⊥) → {l : State} {t : Token} {b : Bool} {e : ℕ} → GivesNext division p.lexer l t → (IsTrue b ↔ (t.kind ≡ RAngle)) → e ≡ p.token.span.end → Passed q (record p { lexer = l; token = t; cut = b; prev_token_end = e })
+passed_seen {p} {q} v a w n {l} {t} {b} {e} g i h = subst (λ r. Passed r (record p { lexer = l; token = t; cut = b; prev_token_end = e })) v (passed (subst IsAt (sym v) a) (subst IsWhole (sym v) w) (λ k. n (sym (ap (λ r. r.token.kind) v) ∙ k)) g i h)

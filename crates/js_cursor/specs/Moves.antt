@@ -1,8 +1,10 @@
 -- What the moves over lexemes do (ECMA-262, chapter 12; 12.10 for omitted semicolons).
-use Rattle.std.specs.Prelude.{ℕ, ◌≡◌, ◌⊎◌, Bool, true, false, not, ◌&&◌, ◌||◌, List, [], ◌∷◌, ◌++◌, Result, Ok, Err}
+use Rattle.std.specs.Prelude.{ℕ, ◌≡◌, ◌⊎◌, Bool, true, false, not, ◌&&◌, ◌||◌, List, [], ◌∷◌, ◌++◌, Option, Some, None, Result, Ok, Err}
 use Rattle.js_base.specs.declared.diagnostic.Diagnostic.{Diagnostic}
+use Rattle.js_base.specs.declared.diagnostic.DiagnosticKind.{DiagnosticKind}
 use Rattle.js_base.specs.declared.kind.Kind.{Kind}
-use Rattle.js_base.specs.declared.kind.Kind.TheVariants.{Eof, Undetermined, Semicolon, RCurly}
+use Rattle.js_base.specs.declared.kind.Kind.TheVariants.{Eof, Undetermined, Semicolon, RCurly, Comma}
+use Rattle.js_base.specs.declared.span.Span.{Span}
 use Rattle.js_base.specs.declared.token.Token.{Token}
 use Rattle.js_base.specs.Kinds.{same_kind}
 use Rattle.js_grammar.specs.Grammar.{Lexeme}
@@ -10,6 +12,8 @@ use Rattle.js_grammar.specs.Lexemes.{LexicalGoal, division}
 use Rattle.js_grammar.specs.Lexed.{Lex, all_faults}
 use Rattle.js_lex.specs.Reading.{Tells, GivesNext, GivesAgain}
 use Rattle.js_lex.specs.States.{SameText}
+use Rattle.js_cursor.specs.declared.stop.Stop.{Stop}
+use Rattle.js_cursor.specs.declared.stop.Stop.TheVariants.{Fatal, NoMemory}
 use Rattle.js_cursor.specs.Parsers.{Parser}
 use Rattle.js_cursor.specs.Places.{IsAt}
 
@@ -25,7 +29,13 @@ pub record Stays (old new : Parser) : Type 0 where
   pub errors : new.errors ≡ old.errors
   pub depth : new.depth ≡ old.depth
 
--- The current lexeme was passed; the next one is current, as the lexer gives it.
+-- The current token tells the whole of a lexeme.
+pub record IsWhole (p : Parser) : Type 0 where
+  pub lexeme : Lexeme
+  pub stood : Lex all_faults p.text p.prev_token_end lexeme
+  pub tells : Tells lexeme p.token
+
+-- The current lexeme, told whole, was passed; the next one is current, as the lexer gives it.
 pub record Passed (old new : Parser) : Type 0 where
   pub lexeme : Lexeme
   pub stood : Lex all_faults old.text old.prev_token_end lexeme
@@ -44,17 +54,38 @@ pub record ReadAgain (goal : LexicalGoal) (old new : Parser) : Type 0 where
   pub stays : Stays old new
   pub at : IsAt new
 
+-- a sign that begins with `>` is told whole now
+abbrev pub Completed : Parser → Parser → Type 0
+Completed old new = ((old.cut ≡ false) × (new ≡ old)) ⊎ ((old.cut ≡ true) × ReadAgain division old new)
+
 -- the end of the text, or what begins no lexeme
 abbrev pub is_last : Kind → Bool
 is_last k = same_kind Eof k || same_kind Undetermined k
+
+-- One lexeme on: the whole of it was passed; at the end of the text, and where no lexeme stands, all stays.
+abbrev pub MovesOn : Parser → Parser → Type 0
+MovesOn old new = ((is_last old.token.kind ≡ true) × (new ≡ old)) ⊎ ((is_last old.token.kind ≡ false) × ((mid : Parser) × Completed old mid × Passed mid new))
+
+-- the current lexeme is of this kind, and no word with an escape
+abbrev pub is_at : Kind → Parser → Bool
+is_at k p = same_kind k p.token.kind && not p.token.escaped
+
+-- What a call answers that takes a lexeme of a kind where one stands: it was passed, or all stays.
+abbrev pub Eats : Kind → Parser → Parser → Bool → Type 0
+Eats k old new true = (is_at k old ≡ true) × MovesOn old new
+Eats k old new false = (is_at k old ≡ false) × (new ≡ old)
 
 -- A diagnostic was kept, and nothing else changed.
 pub record Keeps (d : Diagnostic) (old new : Parser) : Type 0 where
   pub is : new ≡ record old { errors = old.errors ++ d ∷ [] }
   pub at : IsAt new
 
--- The current token tells the whole of a lexeme.
-pub record IsWhole (p : Parser) : Type 0 where
-  pub lexeme : Lexeme
-  pub stood : Lex all_faults p.text p.prev_token_end lexeme
-  pub tells : Tells lexeme p.token
+-- A call gave up: a diagnostic was kept as the last one. Of want of memory nothing is said.
+abbrev pub GivesUp : (Diagnostic → Type 0) → Parser → Parser → Stop → Type 0
+GivesUp P old new Fatal = (d : Diagnostic) × P d × Keeps d old new
+GivesUp P old new NoMemory = Unit {0}
+
+-- Memory was refused, and no more is said.
+abbrev pub OnlyMemory : Stop → Type 0
+OnlyMemory Fatal = ⊥
+OnlyMemory NoMemory = Unit {0}

@@ -15,8 +15,9 @@ pub record Parser : Type 0 where
   pub options : ParseOptions
   -- its lexer, which is a lexeme ahead
   pub lexer : State
-  -- the current lexeme, and where the one before it ends; 0 at the beginning
+  -- the current lexeme; true: of a sign that begins with `>` this alone is told; and where the lexeme before it ends, 0 at the beginning
   pub token : Token
+  pub cut : Bool
   pub prev_token_end : ℕ
   -- the nodes by number, and what the declarations of a module add to its record
   pub nodes : List Node

@@ -1,6 +1,7 @@
 //! The place of a parser in its text, and the moves over lexemes.
 #![tactic(auto)]
 
+mod kinds;
 mod parser;
 mod stop;
 

@@ -1,0 +1,23 @@
+//! Tests of kinds.
+
+ghost use Rattle.std.specs.Prelude.{◌≡◌, ◌⊎◌, ◌↔◌, IsTrue};
+ghost use Rattle.js_base.specs.declared.kind.Kind.TheVariants.{Eof, Undetermined};
+
+use js_base::Kind;
+
+/// Whether two kinds are the same.
+pub(crate) fn is_kind(kind: Kind, other: Kind) -> bool
+    ensures { IsTrue result ↔ (kind ≡ other) }
+{
+    kind == other
+}
+
+/// Whether no lexeme can be passed: at the end of the text, and where none stands.
+pub(crate) fn is_last(kind: Kind) -> bool
+    ensures { IsTrue result ↔ ((kind ≡ Eof) ⊎ (kind ≡ Undetermined)) }
+{
+    match kind {
+        Kind::Eof | Kind::Undetermined => true,
+        _ => false,
+    }
+}
