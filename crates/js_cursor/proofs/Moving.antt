@@ -29,12 +29,12 @@ use Rattle.js_lex.specs.Kept.{Grows}
 use Rattle.std.proofs.lemmas.List.Elements.{All-weaker, All-same, All-cons, All-nil}
 use Rattle.js_grammar.specs.Settings.{Goal}
 use Rattle.js_grammar.proofs.Parts.{joins}
-use Rattle.js_lex.specs.Reading.{cut, is_right_angle, Tells, LexemeBehind, GivesLexeme, GivesNone, Outcome, GivesNext, in_a_module}
+use Rattle.js_lex.specs.Reading.{cut, is_right_angle, Tells, LexemeBehind, GivesLexeme, GivesNone, Outcome, GivesNext, GivesAgain, WasGiven, in_a_module}
 use Rattle.js_lex.specs.States.{State, SameText}
 use Rattle.js_cursor.specs.Parsers.{Parser}
 use Rattle.js_cursor.specs.Tokens.{IsToken, whole, sign, nothing}
 use Rattle.js_cursor.specs.Places.{IsAt, IsFault, goal}
-use Rattle.js_cursor.specs.Moves.{Stays, Passed, IsWhole}
+use Rattle.js_cursor.specs.Moves.{Stays, Passed, IsWhole, ReadAgain, Completed, Told, is_last}
 
 end_of-join : (ls : Lexemes) (x : Lexeme) → end_of (join ls (last x)) ≡ x.to
 end_of-join (last y) x = refl
@@ -153,3 +153,92 @@ module _ {p : Parser} {l : State} {t : Token} {b : Bool} {e : ℕ} where
 -- the same, of a parser seen as p
 pub passed_seen : {p q : Parser} → p ≡ q → IsAt q → IsWhole q → (q.token.kind ≡ Eof → ⊥) → {l : State} {t : Token} {b : Bool} {e : ℕ} → GivesNext division p.lexer l t → (IsTrue b ↔ (t.kind ≡ RAngle)) → e ≡ p.token.span.end → Passed q (record p { lexer = l; token = t; cut = b; prev_token_end = e })
 passed_seen {p} {q} v a w n {l} {t} {b} {e} g i h = subst (λ r. Passed r (record p { lexer = l; token = t; cut = b; prev_token_end = e })) v (passed (subst IsAt (sym v) a) (subst IsWhole (sym v) w) (λ k. n (sym (ap (λ r. r.token.kind) v) ∙ k)) g i h)
+
+-- ---- to read the current token again
+
+-- the lexer gave the sign `>` last
+pub sign_given : {p : Parser} → IsAt p → p.cut ≡ true → WasGiven p.lexer p.token
+sign_given {p} a e = go p.cut a.token e
+  where
+    given : GivesLexeme division cut p.text p.prev_token_end p.token → WasGiven p.lexer p.token
+    given x = record {
+      place = a.last;
+      lies = subst (λ v. LiesIn p.token.span v) (sym a.reads) a.lies;
+      before = p.prev_token_end;
+      between = subst (λ v. IsCharBoundary v p.prev_token_end) (sym a.reads) a.between;
+      lexeme = x.lexeme;
+      stands = subst (λ v. LexemeBehind division v p.prev_token_end x.lexeme) (sym a.reads) x.stands;
+      tells = x.tells;
+    }
+
+    go : (b : Bool) → IsToken (goal p) p.text p.prev_token_end p.token b → b ≡ true → WasGiven p.lexer p.token
+    go false x q = absurd (false≢true q)
+    go true (sign k x) q = given x
+
+-- what is given in its place, where no fault comes with it, is the whole of a lexeme
+whole_again : (source : Goal) {text : List ℕ} {s : ℕ} {t : Token} → Outcome division (λ z. z) source text s t [] [] → GivesLexeme division (λ z. z) text s t
+whole_again source {text} {s} {t} o = go (same_kind Undetermined t.kind) o
+  where
+    go : (r : Bool) → elim r as (λ _. Type 0) [ true ↦ (d : Diagnostic) × ([] ≡ d ∷ []) × GivesNone division source text s t d | false ↦ (◌≡◌ {A = List Diagnostic} [] []) × GivesLexeme division (λ z. z) text s t ] → GivesLexeme division (λ z. z) text s t
+    go true x = absurd (let e = x.1 in cc)
+    go false x = x.1
+
+is_whole_of : {p : Parser} {g : LexicalGoal} → GivesLexeme g (λ z. z) p.text p.prev_token_end p.token → IsWhole p
+is_whole_of x = record { lexeme = x.lexeme; stood = x.stands.lex; tells = x.tells }
+
+completed : {p : Parser} {l : State} {t : Token} → IsAt p → p.cut ≡ true → GivesAgain division p.lexer l p.token t [] [] → Told p (record p { lexer = l; token = t; cut = false })
+completed {p} {l} {t} a e g = record { completed = inr (e, record { going_on = []; faults = []; again = g; place = refl; stays = stays g.same; at = at }); at = at; whole = λ n. is_whole_of given }
+  where
+    w : WasGiven p.lexer p.token
+    w = sign_given a e
+
+    by : (b : Bool) → IsToken (goal p) p.text p.prev_token_end p.token b → b ≡ true → GivesLexeme division (λ z. z) p.text p.prev_token_end t
+    by false x q = absurd (false≢true q)
+    by true (sign k x) q =
+        let h = g.outcome p.prev_token_end x.lexeme (subst (λ v. IsCharBoundary v p.prev_token_end) (sym a.reads) a.between) (subst (λ v. LexemeBehind division v p.prev_token_end x.lexeme) (sym a.reads) x.stands) x.tells in
+        subst (λ v. GivesLexeme division (λ z. z) v p.prev_token_end t) a.reads (whole_again p.lexer.goal h)
+
+    given : GivesLexeme division (λ z. z) p.text p.prev_token_end t
+    given = by p.cut a.token e
+
+    at : IsAt (record p { lexer = l; token = t; cut = false })
+    at = record {
+      reads = g.same.text ∙ a.reads;
+      reads_for = g.same.goal ∙ a.reads_for;
+      reached = a.reached;
+      between = a.between;
+      token = whole given;
+      lies = subst (λ v. LiesIn t.span v) a.reads g.lies;
+      last = g.place;
+      marked = a.marked;
+      faulty = All-same (IsFault (goal p) p.text) l.kept.errors _ g.errors (All-append (IsFault (goal p) p.text) p.lexer.kept.errors [] a.faulty (All-nil (IsFault (goal p) p.text)));
+    }
+
+pub completed_seen : {p q : Parser} → p ≡ q → IsAt q → {l : State} {t : Token} → p.cut ≡ true → GivesAgain division p.lexer l p.token t [] [] → Told q (record p { lexer = l; token = t; cut = false })
+completed_seen {p} {q} v a {l} {t} e g = subst (λ r. Told r (record p { lexer = l; token = t; cut = false })) v (completed (subst IsAt (sym v) a) e g)
+
+pub sign_given_seen : {p q : Parser} → p ≡ q → IsAt q → p.cut ≡ true → WasGiven p.lexer p.token
+sign_given_seen v a e = sign_given (subst IsAt (sym v) a) e
+
+-- where no more than the token can be told, all of it is
+pub whole_already : {p q : Parser} → p ≡ q → IsAt q → p.cut ≡ false → Told q q
+whole_already {p} {q} v a e = record { completed = inl (sym (ap (λ r. r.cut) v) ∙ e, refl); at = a; whole = λ n. go q.cut a.token (sym (ap (λ r. r.cut) v) ∙ e) n }
+  where
+    go : (b : Bool) → IsToken (goal q) q.text q.prev_token_end q.token b → b ≡ false → (q.token.kind ≡ Undetermined → ⊥) → IsWhole q
+    go true x z n = absurd (false≢true (sym z))
+    go false (whole x) z n = is_whole_of x
+    go false (nothing k x) z n = absurd (n k)
+
+pub sign_is : {p q : Parser} → p ≡ q → IsAt q → p.cut ≡ true → p.token.kind ≡ RAngle
+sign_is {p} {q} v a e = ap (λ r. r.token.kind) v ∙ go q.cut a.token (sym (ap (λ r. r.cut) v) ∙ e)
+  where
+    go : (b : Bool) → IsToken (goal q) q.text q.prev_token_end q.token b → b ≡ true → q.token.kind ≡ RAngle
+    go true (sign k x) z = k
+    go false x z = absurd (false≢true z)
+
+-- a kind that isn't one of the last two
+pub not_end : (k : Kind) → is_last k ≡ false → k ≡ Eof → ⊥
+not_end k h e = false≢true (sym h ∙ ap is_last e)
+
+pub not_undetermined : (k : Kind) → is_last k ≡ false → k ≡ Undetermined → ⊥
+not_undetermined k h e = false≢true (sym h ∙ ap is_last e)

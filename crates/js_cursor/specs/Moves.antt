@@ -58,13 +58,19 @@ pub record ReadAgain (goal : LexicalGoal) (old new : Parser) : Type 0 where
 abbrev pub Completed : Parser → Parser → Type 0
 Completed old new = ((old.cut ≡ false) × (new ≡ old)) ⊎ ((old.cut ≡ true) × ReadAgain division old new)
 
+-- It is, and stands as it did.
+pub record Told (old new : Parser) : Type 0 where
+  pub completed : Completed old new
+  pub at : IsAt new
+  pub whole : (new.token.kind ≡ Undetermined → ⊥) → IsWhole new
+
 -- the end of the text, or what begins no lexeme
 abbrev pub is_last : Kind → Bool
 is_last k = same_kind Eof k || same_kind Undetermined k
 
 -- One lexeme on: the whole of it was passed; at the end of the text, and where no lexeme stands, all stays.
 abbrev pub MovesOn : Parser → Parser → Type 0
-MovesOn old new = ((is_last old.token.kind ≡ true) × (new ≡ old)) ⊎ ((is_last old.token.kind ≡ false) × ((mid : Parser) × Completed old mid × Passed mid new))
+MovesOn old new = (mid : Parser) × Completed old mid × (((is_last mid.token.kind ≡ true) × (new ≡ mid) × IsAt new) ⊎ ((is_last mid.token.kind ≡ false) × Passed mid new))
 
 -- the current lexeme is of this kind, and no word with an escape
 abbrev pub is_at : Kind → Parser → Bool

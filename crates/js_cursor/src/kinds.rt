@@ -1,7 +1,7 @@
 //! Tests of kinds.
 
-ghost use Rattle.std.specs.Prelude.{◌≡◌, ◌⊎◌, ◌↔◌, IsTrue};
-ghost use Rattle.js_base.specs.declared.kind.Kind.TheVariants.{Eof, Undetermined};
+ghost use Rattle.std.specs.Prelude.{◌≡◌, ◌↔◌, IsTrue};
+ghost use Rattle.js_cursor.specs.Moves.{is_last};
 
 use js_base::Kind;
 
@@ -14,7 +14,7 @@ pub(crate) fn is_kind(kind: Kind, other: Kind) -> bool
 
 /// Whether no lexeme can be passed: at the end of the text, and where none stands.
 pub(crate) fn is_last(kind: Kind) -> bool
-    ensures { IsTrue result ↔ ((kind ≡ Eof) ⊎ (kind ≡ Undetermined)) }
+    ensures { result ≡ is_last kind }
 {
     match kind {
         Kind::Eof | Kind::Undetermined => true,

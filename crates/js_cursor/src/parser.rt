@@ -3,7 +3,7 @@
 ghost use Rattle.std.specs.Prelude.{◌≡◌, ◌≢◌, ◌≤◌, ◌↔◌, IsTrue, IfOk, MatchResult};
 ghost use Rattle.js_base.specs.declared.kind.Kind.TheVariants.{RAngle, RCurly, Slash, SlashEq, Eof, Undetermined};
 ghost use Rattle.js_cursor.specs.Places.{IsAt};
-ghost use Rattle.js_cursor.specs.Moves.{IsWhole, Passed, Completed, MovesOn, OnlyMemory};
+ghost use Rattle.js_cursor.specs.Moves.{IsWhole, Passed, Completed, Told, MovesOn, OnlyMemory};
 
 use crate::kinds::{is_kind, is_last};
 use crate::stop::Stop;
@@ -108,12 +108,11 @@ impl<'a, C: ParserConfig> ParserImpl<'a, C> {
         Ok(())
     }
 
-    /// What a punctuator that begins with `>` is, where only this sign of it is told: the current token becomes the whole of
-    /// it. Where the current token is whole already, it stays. Never `Fatal`.
-    pub fn re_lex_right_angle(&mut self) -> Result<(), Stop>
-        requires at { IsAt self.old }
-        requires kind { self.old.token.kind ≡ RAngle }
-        ensures { MatchResult result (λ _. Completed self.old self.new × IsWhole self.new) OnlyMemory }
+    /// The whole of a punctuator that begins with `>`, where only this sign of it is told, becomes the current token; any
+    /// other token stays.
+    fn complete(&mut self) -> Result<(), NoMemory>
+        requires { IsAt self.old }
+        ensures { IfOk result (λ _. Told self.old self.new) }
     {
         if self.cut {
             self.token = self.lexer.re_lex_right_angle(self.token)?;
@@ -122,16 +121,24 @@ impl<'a, C: ParserConfig> ParserImpl<'a, C> {
         Ok(())
     }
 
+    /// What a punctuator that begins with `>` is: the current token becomes the whole of it. Never `Fatal`.
+    pub fn re_lex_right_angle(&mut self) -> Result<(), Stop>
+        requires at { IsAt self.old }
+        requires kind { self.old.token.kind ≡ RAngle }
+        ensures { MatchResult result (λ _. Completed self.old self.new × IsAt self.new) OnlyMemory }
+    {
+        self.complete()?;
+        Ok(())
+    }
+
     /// Moves one lexeme on. At the end of the text, and where no lexeme stands, all stays. Never `Fatal`.
     pub fn bump_any(&mut self) -> Result<(), Stop>
         requires { IsAt self.old }
         ensures { MatchResult result (λ _. MovesOn self.old self.new) OnlyMemory }
     {
+        self.complete()?;
         if is_last(self.token.kind()) {
             return Ok(());
-        }
-        if self.cut {
-            self.re_lex_right_angle()?;
         }
         self.pass()?;
         Ok(())
