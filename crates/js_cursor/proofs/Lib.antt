@@ -1,2 +1,3 @@
 mod Moving
+mod Keeping
 mod KindTests

@@ -14,6 +14,9 @@ use Rattle.js_lex.specs.Reading.{Tells, GivesNext, GivesAgain}
 use Rattle.js_lex.specs.States.{SameText}
 use Rattle.js_cursor.specs.declared.stop.Stop.{Stop}
 use Rattle.js_cursor.specs.declared.stop.Stop.TheVariants.{Fatal, NoMemory}
+use Rattle.js_cursor.specs.declared.stop.ListStep.{ListStep}
+use Rattle.js_cursor.specs.declared.stop.ListStep.TheVariants.{Element, End, EndAfterComma}
+use Rattle.js_base.specs.declared.diagnostic.DiagnosticKind.TheVariants.{ExpectToken, ExpectClosingOrSeparator}
 use Rattle.js_cursor.specs.Parsers.{Parser}
 use Rattle.js_cursor.specs.Places.{IsAt}
 
@@ -73,13 +76,13 @@ abbrev pub MovesOn : Parser → Parser → Type 0
 MovesOn old new = (mid : Parser) × Completed old mid × (((is_last mid.token.kind ≡ true) × (new ≡ mid) × IsAt new) ⊎ ((is_last mid.token.kind ≡ false) × Passed mid new))
 
 -- the current lexeme is of this kind, and no word with an escape
-abbrev pub is_at : Kind → Parser → Bool
-is_at k p = same_kind k p.token.kind && not p.token.escaped
+abbrev pub IsKind : Kind → Parser → Type 0
+IsKind k p = (p.token.kind ≡ k) × (p.token.escaped ≡ false)
 
 -- What a call answers that takes a lexeme of a kind where one stands: it was passed, or all stays.
 abbrev pub Eats : Kind → Parser → Parser → Bool → Type 0
-Eats k old new true = (is_at k old ≡ true) × MovesOn old new
-Eats k old new false = (is_at k old ≡ false) × (new ≡ old)
+Eats k old new true = IsKind k old × MovesOn old new
+Eats k old new false = (IsKind k old → ⊥) × (new ≡ old)
 
 -- A diagnostic was kept, and nothing else changed.
 pub record Keeps (d : Diagnostic) (old new : Parser) : Type 0 where
@@ -95,3 +98,37 @@ GivesUp P old new NoMemory = Unit {0}
 abbrev pub OnlyMemory : Stop → Type 0
 OnlyMemory Fatal = ⊥
 OnlyMemory NoMemory = Unit {0}
+
+-- a diagnostic of this kind at the current lexeme
+pub record IsHere (k : DiagnosticKind) (p : Parser) (first : Option Span) (d : Diagnostic) : Type 0 where
+  pub kind : d.kind ≡ k
+  pub span : d.span ≡ p.token.span
+  pub is_first : d.first ≡ first
+  pub no_second : d.second ≡ None
+
+-- A lexeme of a kind is due: it was passed; or it doesn't stand here, and that was kept.
+abbrev pub Expects : (Parser → Type 0) → DiagnosticKind → Option Span → Parser → Parser → Result (Unit {0}) Stop → Type 0
+Expects Is k first old new (Ok x) = Is old × MovesOn old new
+Expects Is k first old new (Err e) = ((e ≡ Fatal → Is old → ⊥)) × GivesUp (IsHere k old first) old new e
+
+-- a semicolon may end a statement here (12.10)
+pub data MayEnd (p : Parser) : Type 0 where
+  at_semicolon : p.token.kind ≡ Semicolon → MayEnd p
+  at_brace : p.token.kind ≡ RCurly → MayEnd p
+  at_end : p.token.kind ≡ Eof → MayEnd p
+  on_new_line : p.token.is_on_new_line ≡ true → MayEnd p
+
+-- A semicolon was passed, or left out.
+abbrev pub Ends : Parser → Parser → Type 0
+Ends old new = ((old.token.kind ≡ Semicolon) × MovesOn old new) ⊎ ((old.token.kind ≡ Semicolon → ⊥) × MayEnd old × (new ≡ old))
+
+abbrev pub EndsOr : Parser → Parser → Result (Unit {0}) Stop → Type 0
+EndsOr old new (Ok x) = Ends old new
+EndsOr old new (Err e) = (e ≡ Fatal → MayEnd old → ⊥) × GivesUp (IsHere ExpectToken old None) old new e
+
+-- What a step in a list between brackets answers: an item comes, or the closing bracket stands here, behind a comma or not.
+abbrev pub Steps : Kind → Span → Bool → Parser → Parser → Result ListStep Stop → Type 0
+Steps close opening first old new (Ok (EndAfterComma at)) = (first ≡ false) × (old.token.kind ≡ Comma) × (at ≡ old.token.span.start) × MovesOn old new × (new.token.kind ≡ close)
+Steps close opening first old new (Ok End) = (old.token.kind ≡ close) × (new ≡ old)
+Steps close opening first old new (Ok Element) = (old.token.kind ≡ close → ⊥) × (((first ≡ true) × (new ≡ old)) ⊎ ((first ≡ false) × (old.token.kind ≡ Comma) × MovesOn old new × (new.token.kind ≡ close → ⊥)))
+Steps close opening first old new (Err e) = (e ≡ Fatal → (first ≡ false) × (old.token.kind ≡ close → ⊥) × (old.token.kind ≡ Comma → ⊥)) × GivesUp (IsHere ExpectClosingOrSeparator old (Some opening)) old new e

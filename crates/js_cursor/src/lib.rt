@@ -2,8 +2,9 @@
 #![tactic(auto)]
 
 mod kinds;
+mod moves;
 mod parser;
 mod stop;
 
 pub use parser::ParserImpl;
-pub use stop::Stop;
+pub use stop::{ListStep, Stop};

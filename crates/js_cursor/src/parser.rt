@@ -110,7 +110,7 @@ impl<'a, C: ParserConfig> ParserImpl<'a, C> {
 
     /// The whole of a punctuator that begins with `>`, where only this sign of it is told, becomes the current token; any
     /// other token stays.
-    fn complete(&mut self) -> Result<(), NoMemory>
+    pub(crate) fn complete(&mut self) -> Result<(), NoMemory>
         requires { IsAt self.old }
         ensures { IfOk result (λ _. Told self.old self.new) }
     {

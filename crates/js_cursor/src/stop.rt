@@ -12,6 +12,17 @@ pub enum Stop {
     NoMemory,
 }
 
+/// What comes next in a list between brackets.
+#[derive(Debug, Drop)]
+pub enum ListStep {
+    /// An item.
+    Element,
+    /// The closing bracket, which stands here.
+    End,
+    /// The closing bracket, which stands here, behind a comma that begins at this place, in bytes.
+    EndAfterComma(u32),
+}
+
 impl From<NoMemory> for Stop {
     ghost use Rattle.std.specs.Prelude.{◌≡◌};
     ghost use Rattle.js_cursor.specs.declared.stop.Stop.TheVariants.{NoMemory as no_memory};
