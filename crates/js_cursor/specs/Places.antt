@@ -27,7 +27,7 @@ pub record IsAt (p : Parser) : Type 0 where
   pub reads_for : p.lexer.goal ≡ goal p
   pub reached : Reached p.text p.prev_token_end
   pub between : IsCharBoundary p.text p.prev_token_end
-  pub token : IsToken (goal p) p.text p.prev_token_end p.token p.cut
+  pub token : IsToken (goal p) p.text p.prev_token_end p.lexer.kept.errors p.token p.cut
   pub lies : LiesIn p.token.span p.text
   pub last : p.lexer.place ≡ p.token.span.end
   pub marked : All (Mark (goal p) p.text) p.errors
