@@ -221,6 +221,18 @@ module _ {N : Type 0} {rule : N → Grammar N} {Lex : ℕ → Lexeme → Type 0}
         alone : (ts us : Slots) (j : ℕ) (ls rest : Lexemes) → Lexes Lex s ls → Takes rule (lexeme p) ks ts s ls us j rest → ts ≡ us
         alone ts us j ls rest l (is_lexeme q) = refl
 
+    -- a lexeme ahead, and a test of the one behind it
+    pub two_ahead : (p q : Look) → ((y : Lexeme) → Lex s y → IsTrue (seen p y) × (y.kind ≡ Eof → ⊥) × ((z : Lexeme) → Lex y.to z → IsTrue (seen q z))) → Reads rule Lex X ks (ahead (seq (lexeme p) (look q))) s s (λ us. us) (still (suc s))
+    two_ahead p q h = aheads (suc s) there alone
+      where
+        there : (us : Slots) (ls : Lexemes) → Lexes Lex s ls → Reaches (suc s) s ls → (j : ℕ) × (rest : Lexemes) × Takes rule (seq (lexeme p) (look q)) ks us s ls us j rest
+        there us (last x) l (inl i) = absurd (omega arith)
+        there us (last x) l (inr e) = absurd ((h x l).1 e)
+        there us (next x ls) l w = (x.to, ls, is_seq (is_lexeme (h x l.0).0) (is_look ((h x l.0).2 (here ls) (here_at Lex ls l.1))))
+
+        alone : (ts us : Slots) (j : ℕ) (ls rest : Lexemes) → Lexes Lex s ls → Takes rule (seq (lexeme p) (look q)) ks ts s ls us j rest → ts ≡ us
+        alone ts us j ls rest l (is_seq (is_lexeme a) (is_look b)) = refl
+
     pub fails_ahead : {a : Grammar N} → Fails rule Lex (plain full) ks a s → Fails rule Lex X ks (ahead a) s
     fails_ahead {a} n = record { no = λ ts vs k ls rest l d e. go ts vs k ls rest l d }
       where

@@ -56,23 +56,23 @@ module _ (own : Symbol → Bool) (n : Name) (f : Flags) where
   climbs = split own (rule_of n f)
 
 module _ (f : Flags) where
-  pub coalesce_links : LinksOf (at Coalesce f) (links_of is_coalesce Coalesce f)
+  unfoldable pub coalesce_links : LinksOf (at Coalesce f) (links_of is_coalesce Coalesce f)
   unfolding rule_of
   coalesce_links = search (one, two, none_at_all) depth 40
 
-  pub member_links : LinksOf (at Member f) (links_of is_member Member f)
+  unfoldable pub member_links : LinksOf (at Member f) (links_of is_member Member f)
   unfolding rule_of
   member_links = search (one, two, guarded, none_at_all) depth 40
 
-  pub call_links : LinksOf (at Call f) (links_of is_call Call f)
+  unfoldable pub call_links : LinksOf (at Call f) (links_of is_call Call f)
   unfolding rule_of
   call_links = search (one, two, none_at_all) depth 40
 
-  pub chain_links : LinksOf (at Links f) (links_of is_links Links f)
+  unfoldable pub chain_links : LinksOf (at Links f) (links_of is_links Links f)
   unfolding rule_of
   chain_links = search (one, two, none_at_all) depth 40
 
-  pub decorator_links : LinksOf (at DecoratorMember f) (links_of is_decorator_member DecoratorMember f)
+  unfoldable pub decorator_links : LinksOf (at DecoratorMember f) (links_of is_decorator_member DecoratorMember f)
   unfolding rule_of
   decorator_links = search (one, two, none_at_all) depth 40
 

@@ -1,209 +1,27 @@
 -- The core grammar is what is left of the whole one on core lexemes, line by line.
-use Rattle.std.specs.Prelude.{false, true}
-use Rattle.js_grammar.specs.Productions.{Additive, And, Argument, ArrayTarget, Arrow', Assignment, Attr, Attrs, BElement, Binding, BindingIdentifier, BindingRest, BitAnd, BitOr, BitXor, Block, Body, Break, Call, Case, Catch, Chain, Class, ClassBody, ClassExpr, Coalesce, Conditional, Continue, Debugger, Decorator, DecoratorMember, Directive, Do, Element, Empty, Equality, Exponent, ExportDecl, ExportName, ExprStmt, Expression, Flags, For, ForIn, ForInit, ForOf, FuncExpr, Function, IdentifierName, IdentifierReference, If, ImportDecl, Init, Item, LabelIdentifier, Labeled, LeftHandSide, Lexical, Links, ListItem, LooseHead, Member, Multiply, Name, New, Object, ObjectTarget, Or, Param, Params, Pattern, PatternProperty, Primary, PrivateName, Program, Property, Relational, Rest, Return, Shift, Short, SimpleTarget, Spec, Statement, Sub, Super, Switch, Target, TargetElement, TargetProperty, Template, Throw, Try, Unary, Update, Var, While, With, Yield}
+use Rattle.std.specs.Prelude.{Bool, true, false, not, ◌||◌}
+use Rattle.js_grammar.specs.Productions.{Flags, Name, Program}
 use Rattle.js_grammar.specs.Table.{rule_of}
 use Rattle.js_grammar.specs.Pruning.{is_never, pruned}
 use Rattle.js_grammar.specs.CoreGrammar.{core_kinds, core_of, dead, needs_more}
 use Rattle.std.proofs.Common.{refl, ◌≡◌}
 use Rattle.std.proofs.lemmas.Bool.{false≢true}
 
+-- computed for each nonterminal
 pub core_at : (n : Name) (f : Flags) → pruned dead core_kinds (rule_of n f) ≡ core_of n f
 unfolding rule_of core_of
 core_at Program f = refl
-core_at Directive f = refl
-core_at Item f = refl
-core_at ListItem f = refl
-core_at Statement f = refl
-core_at Sub f = refl
-core_at Block f = refl
-core_at Empty f = refl
-core_at ExprStmt f = refl
-core_at Var f = refl
-core_at Lexical f = refl
-core_at Init f = refl
-core_at If f = refl
-core_at Do f = refl
-core_at While f = refl
-core_at With f = refl
-core_at For f = refl
-core_at ForInit f = refl
-core_at ForIn f = refl
-core_at ForOf f = refl
-core_at Continue f = refl
-core_at Break f = refl
-core_at Return f = refl
-core_at Throw f = refl
-core_at Switch f = refl
-core_at Case f = refl
-core_at Try f = refl
-core_at Catch f = refl
-core_at Debugger f = refl
-core_at Labeled f = refl
-core_at Function f = refl
-core_at FuncExpr f = refl
-core_at Params f = refl
-core_at Param f = refl
-core_at Rest f = refl
-core_at Body f = refl
-core_at Arrow' f = refl
-core_at Class f = refl
-core_at ClassExpr f = refl
-core_at ClassBody f = refl
-core_at Element f = refl
-core_at Decorator f = refl
-core_at DecoratorMember f = refl
-core_at Object f = refl
-core_at Property f = refl
-core_at Expression f = refl
-core_at Assignment f = refl
-core_at Yield f = refl
-core_at Conditional f = refl
-core_at Short f = refl
-core_at Coalesce f = refl
-core_at Or f = refl
-core_at And f = refl
-core_at BitOr f = refl
-core_at BitXor f = refl
-core_at BitAnd f = refl
-core_at Equality f = refl
-core_at Relational f = refl
-core_at Shift f = refl
-core_at Additive f = refl
-core_at Multiply f = refl
-core_at Exponent f = refl
-core_at Unary f = refl
-core_at Update f = refl
-core_at LeftHandSide f = refl
-core_at New f = refl
-core_at Member f = refl
-core_at Call f = refl
-core_at Chain f = refl
-core_at Links f = refl
-core_at Super f = refl
-core_at Argument f = refl
-core_at Primary f = refl
-core_at Template f = refl
-core_at IdentifierReference f = refl
-core_at BindingIdentifier f = refl
-core_at LabelIdentifier f = refl
-core_at IdentifierName f = refl
-core_at PrivateName f = refl
-core_at SimpleTarget f = refl
-core_at Target f = refl
-core_at ArrayTarget f = refl
-core_at ObjectTarget f = refl
-core_at TargetElement f = refl
-core_at TargetProperty f = refl
-core_at Binding f = refl
-core_at BElement f = refl
-core_at Pattern f = refl
-core_at PatternProperty f = refl
-core_at BindingRest f = refl
-core_at ImportDecl f = refl
-core_at Spec f = refl
-core_at ExportName f = refl
-core_at Attrs f = refl
-core_at Attr f = refl
-core_at ExportDecl f = refl
-core_at LooseHead f = refl
+core_at n f = refl
 
 -- Where a nonterminal needs another lexeme, nothing is left.
-pub dead_at : (n : Name) (f : Flags) → needs_more n ≡ true → is_never (pruned dead core_kinds (rule_of n f)) ≡ true
+dead_check : (n : Name) (f : Flags) → (not (needs_more n) || is_never (pruned dead core_kinds (rule_of n f))) ≡ true
 unfolding rule_of
-dead_at Program f e = absurd (false≢true e)
-dead_at Directive f e = absurd (false≢true e)
-dead_at Item f e = absurd (false≢true e)
-dead_at ListItem f e = absurd (false≢true e)
-dead_at Statement f e = absurd (false≢true e)
-dead_at Sub f e = absurd (false≢true e)
-dead_at Block f e = refl
-dead_at Empty f e = absurd (false≢true e)
-dead_at ExprStmt f e = absurd (false≢true e)
-dead_at Var f e = refl
-dead_at Lexical f e = refl
-dead_at Init f e = absurd (false≢true e)
-dead_at If f e = refl
-dead_at Do f e = refl
-dead_at While f e = refl
-dead_at With f e = refl
-dead_at For f e = refl
-dead_at ForInit f e = absurd (false≢true e)
-dead_at ForIn f e = refl
-dead_at ForOf f e = refl
-dead_at Continue f e = refl
-dead_at Break f e = refl
-dead_at Return f e = refl
-dead_at Throw f e = refl
-dead_at Switch f e = refl
-dead_at Case f e = refl
-dead_at Try f e = refl
-dead_at Catch f e = refl
-dead_at Debugger f e = refl
-dead_at Labeled f e = absurd (false≢true e)
-dead_at Function f e = refl
-dead_at FuncExpr f e = refl
-dead_at Params f e = absurd (false≢true e)
-dead_at Param f e = absurd (false≢true e)
-dead_at Rest f e = absurd (false≢true e)
-dead_at Body f e = refl
-dead_at Arrow' f e = absurd (false≢true e)
-dead_at Class f e = refl
-dead_at ClassExpr f e = refl
-dead_at ClassBody f e = refl
-dead_at Element f e = absurd (false≢true e)
-dead_at Decorator f e = refl
-dead_at DecoratorMember f e = absurd (false≢true e)
-dead_at Object f e = refl
-dead_at Property f e = absurd (false≢true e)
-dead_at Expression f e = absurd (false≢true e)
-dead_at Assignment f e = absurd (false≢true e)
-dead_at Yield f e = refl
-dead_at Conditional f e = absurd (false≢true e)
-dead_at Short f e = absurd (false≢true e)
-dead_at Coalesce f e = absurd (false≢true e)
-dead_at Or f e = absurd (false≢true e)
-dead_at And f e = absurd (false≢true e)
-dead_at BitOr f e = absurd (false≢true e)
-dead_at BitXor f e = absurd (false≢true e)
-dead_at BitAnd f e = absurd (false≢true e)
-dead_at Equality f e = absurd (false≢true e)
-dead_at Relational f e = absurd (false≢true e)
-dead_at Shift f e = absurd (false≢true e)
-dead_at Additive f e = absurd (false≢true e)
-dead_at Multiply f e = absurd (false≢true e)
-dead_at Exponent f e = absurd (false≢true e)
-dead_at Unary f e = absurd (false≢true e)
-dead_at Update f e = absurd (false≢true e)
-dead_at LeftHandSide f e = absurd (false≢true e)
-dead_at New f e = absurd (false≢true e)
-dead_at Member f e = absurd (false≢true e)
-dead_at Call f e = absurd (false≢true e)
-dead_at Chain f e = absurd (false≢true e)
-dead_at Links f e = absurd (false≢true e)
-dead_at Super f e = refl
-dead_at Argument f e = absurd (false≢true e)
-dead_at Primary f e = absurd (false≢true e)
-dead_at Template f e = refl
-dead_at IdentifierReference f e = absurd (false≢true e)
-dead_at BindingIdentifier f e = absurd (false≢true e)
-dead_at LabelIdentifier f e = absurd (false≢true e)
-dead_at IdentifierName f e = absurd (false≢true e)
-dead_at PrivateName f e = refl
-dead_at SimpleTarget f e = absurd (false≢true e)
-dead_at Target f e = absurd (false≢true e)
-dead_at ArrayTarget f e = absurd (false≢true e)
-dead_at ObjectTarget f e = refl
-dead_at TargetElement f e = absurd (false≢true e)
-dead_at TargetProperty f e = absurd (false≢true e)
-dead_at Binding f e = absurd (false≢true e)
-dead_at BElement f e = absurd (false≢true e)
-dead_at Pattern f e = absurd (false≢true e)
-dead_at PatternProperty f e = absurd (false≢true e)
-dead_at BindingRest f e = absurd (false≢true e)
-dead_at ImportDecl f e = refl
-dead_at Spec f e = absurd (false≢true e)
-dead_at ExportName f e = absurd (false≢true e)
-dead_at Attrs f e = refl
-dead_at Attr f e = absurd (false≢true e)
-dead_at ExportDecl f e = refl
-dead_at LooseHead f e = absurd (false≢true e)
+dead_check Program f = refl
+dead_check n f = refl
+
+pub dead_at : (n : Name) (f : Flags) → needs_more n ≡ true → is_never (pruned dead core_kinds (rule_of n f)) ≡ true
+dead_at n f e = holds (needs_more n) (is_never (pruned dead core_kinds (rule_of n f))) (dead_check n f) e
+  where
+    holds : (a b : Bool) → (not a || b) ≡ true → a ≡ true → b ≡ true
+    holds true b h e = h
+    holds false b h e = absurd (false≢true e)

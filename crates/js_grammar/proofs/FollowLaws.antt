@@ -1,18 +1,18 @@
 -- Laws of what may stand behind a nonterminal.
-use Rattle.std.proofs.Common.{ℕ, ◌≡◌, ◌≤◌, ◌<◌, Bool, true, false, not, ◌&&◌, ◌||◌, IsTrue, nat_lt, cond, refl, sym, ap, ◌∙◌, subst, arith}
-use Rattle.std.proofs.lemmas.Bool.{false≢true, and_parts, and_from, ltb-true, lt-ltb}
+use Rattle.std.proofs.Common.{ℕ, ◌≡◌, ◌≤◌, Bool, true, false, not, ◌&&◌, ◌||◌, IsTrue, nat_lt, cond, refl, subst, arith}
+use Rattle.std.proofs.lemmas.Bool.{false≢true, or_right, and_parts, and_from, ltb-true, lt-ltb}
 use Rattle.js_base.specs.declared.kind.Kind.{Kind}
 use Rattle.js_base.specs.declared.kind.Kind.TheVariants.{RCurly, Semicolon, Slash, RegExp, TemplateMiddle, TemplateTail}
-use Rattle.js_grammar.specs.Trees.{Slots, end, Label, Tree, tree}
+use Rattle.js_grammar.specs.Trees.{Slots, end, Tree, tree, put}
 use Rattle.js_grammar.specs.Insertion.{Row, after_expression, after_postfix, after_body, after_yield, after_declarator, after_word, goes_on, by_edge}
-use Rattle.js_grammar.specs.Grammar.{Lexeme, Lexemes, here, Look, seen, is, may_omit, such, Takes, is_such}
-use Rattle.js_grammar.specs.Productions.{Flags, Name, Symbol, G, at, Program, Expression, Assignment, Arrow', Yield, Conditional, Short, Coalesce, Or, Exponent, Unary, Update, LeftHandSide, New, Member, Call, Chain, Primary}
+use Rattle.js_grammar.specs.Grammar.{Lexeme, Lexemes, here, Look, seen, is, may_omit, such, Takes, Derives, is_such}
+use Rattle.js_grammar.specs.Productions.{Flags, Name, Symbol, at, Program, Expression, Assignment, Arrow', Yield, Conditional, Short, Coalesce, Or, Exponent, Unary, Update, LeftHandSide, New, Member, Call, Chain, Primary}
 use Rattle.js_grammar.specs.Parsing.{always, full, Admits, Fails}
 use Rattle.js_grammar.specs.Table.{rule}
-use Rattle.js_grammar.specs.Follow.{Edge, row_of, edge_of, first_edge, tight, larger, looser, behind_statement, follow_of, follow, widest, surest, by_tree, after}
+use Rattle.js_grammar.specs.Follow.{Edge, row_of, edge_of, first_edge, tight, larger, looser, behind_statement, follow_of, follow, widest, surest, after}
 use Rattle.js_grammar.proofs.Looks.{covers, covered}
-use Rattle.js_grammar.proofs.Calculus.{Sure, Within, On, closes, fails_rule}
-use Rattle.js_grammar.proofs.RightEdges.{each_row, at_row, may_end, edged, implied, first_row}
+use Rattle.js_grammar.proofs.Calculus.{Sure, On, closes, fails_rule}
+use Rattle.js_grammar.proofs.RightEdges.{each_row, at_row, may_end, edged, first_row}
 
 -- A regular expression counts as a slash, a template's middle and its tail as a right brace.
 
@@ -188,9 +188,9 @@ pub same_read : (n m : Symbol) {c : Tree → Bool} {ks : Slots} {s : ℕ} → pa
 same_read n m h q = record {
   admits = λ ts vs k ls rest d e. let r = first_row ts in let o = (first_edge ts).open_if in let b = m.flags.in_ in
       admits m ts (here rest) (covered (follow_of n.name b (record { row = r; open_if = o })) (follow_of m.name b (record { row = r; open_if = o }))
-          (holds_if (may_end m.name r) _ (at_row (λ r. not (may_end m.name r) || covers (follow_of n.name b (record { row = r; open_if = o })) (follow_of m.name b (record { row = r; open_if = o }))) (passed_at n.name m.name b o h) r) (row_claimed d))
-          (here rest).kind (here rest).newline (here rest).escaped
-          (subst (λ v. IsTrue (seen (follow_of n.name v (first_edge ts)) (here rest))) q e.1));
+      (holds_if (may_end m.name r) _ (at_row (λ r. not (may_end m.name r) || covers (follow_of n.name b (record { row = r; open_if = o })) (follow_of m.name b (record { row = r; open_if = o }))) (passed_at n.name m.name b o h) r) (row_claimed d))
+      (here rest).kind (here rest).newline (here rest).escaped
+      (subst (λ v. IsTrue (seen (follow_of n.name v (first_edge ts)) (here rest))) q e.1));
 }
 
 -- each level of expressions passes on to the next one
@@ -231,12 +231,15 @@ ended_by : (n : Name) (f : Flags) → ((b o : Bool) → ends_at_row n b o ≡ tr
 ended_by n f c F {mid = mid} ts (is_such {l = l} {cs = cs} {us = us} d t) q y h =
     let m = is_such {n = at n f} {c = always} {ks = end} {us = end} d t in
     admits (at n f) (tree l cs us) (here mid) (covered (closes (goes_on (row_of l cs)) full) (follow_of n f.in_ (edge_of l cs))
-        (holds_if (may_end n (row_of l cs)) _ (at_row (λ r. not (may_end n r) || covers (closes (goes_on r) full) (follow_of n f.in_ (record { row = r; open_if = (edge_of l cs).open_if }))) (c f.in_ (edge_of l cs).open_if) (row_of l cs)) (row_claimed m))
-        (here mid).kind (here mid).newline (here mid).escaped
-        (closes_less (goes_on (row_of l cs)) F (here mid) (subst (λ v. IsTrue (seen (closes (by_edge y (tree l cs v)) F) (here mid))) q h)))
+    (holds_if (may_end n (row_of l cs)) _ (at_row (λ r. not (may_end n r) || covers (closes (goes_on r) full) (follow_of n f.in_ (record { row = r; open_if = (edge_of l cs).open_if }))) (c f.in_ (edge_of l cs).open_if) (row_of l cs)) (row_claimed m))
+    (here mid).kind (here mid).newline (here mid).escaped
+    (closes_less (goes_on (row_of l cs)) F (here mid) (subst (λ v. IsTrue (seen (closes (by_edge y (tree l cs v)) F) (here mid))) q h)))
 
 pub expression_ended : (f : Flags) (F : Look) {ks cs : Slots} {i j : ℕ} {ls mid : Lexemes} → Takes rule (such (at Expression f) always) ks cs i ls end j mid → (y : Lexeme) → IsTrue (seen (closes (by_edge y cs) F) (here mid)) → Admits (after (at Expression f)) cs (here mid)
 expression_ended f F {cs = cs} d y h = ended_by Expression f ends_expression F cs d refl y h
 
 pub assignment_ended : (f : Flags) (F : Look) {ks cs : Slots} {i j : ℕ} {ls mid : Lexemes} → Takes rule (such (at Assignment f) always) ks cs i ls end j mid → (y : Lexeme) → IsTrue (seen (closes (by_edge y cs) F) (here mid)) → Admits (after (at Assignment f)) cs (here mid)
 assignment_ended f F {cs = cs} d y h = ended_by Assignment f ends_assignment F cs d refl y h
+
+pub omission_ends : (f : Flags) (t : Tree) {i j : ℕ} {ls rest : Lexemes} → Derives rule (at Expression f) t i ls j rest → IsTrue (seen (may_omit (by_edge (here ls) (put t end))) (here rest)) → IsTrue (seen (follow (at Expression f) (edge_of t.label t.slots)) (here rest))
+omission_ends f t {ls = ls} {rest = rest} d h = (expression_ended f full {ks = end} {cs = put t end} (is_such d refl) (here ls) (or_right (seen (is Semicolon) (here rest)) _ (and_from _ true h refl))).1

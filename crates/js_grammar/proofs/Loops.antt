@@ -175,16 +175,21 @@ module _ {N : Type 0} {rule : N → Grammar N} (C : FirstSets rule) where
   -- One link alone can go around this node here, and the symbol, read as this node, can't end here.
   pub record Alone (Lex : ℕ → Lexeme → Type 0) (X : Test) (w : Tower rule) (m c s' q : ℕ) (x : Link N) (l : Label) (cs : Slots) : Type 0 where
     pub step : Step w m c q x
-    pub other : (q' : ℕ) (x' : Link N) → Step w m c q' x' → (y : Lexeme) → Lex s' y → IsTrue (seen (starts C.first x'.part full) y) → (q' ≡ q) × (x' ≡ x)
+    pub other : (q' : ℕ) (x' : Link N) → Step w m c q' x' → (y : Lexeme) → Lex s' y → IsTrue (seen (starts C.first x'.part full) y) → ((q' ≡ q) × (x' ≡ x)) ⊎ Fails rule Lex (plain full) end x'.part s'
     pub goes_on : (y : Lexeme) → Lex s' y → Admits X (tree l cs end) y → ⊥
 
   module _ {Lex : ℕ → Lexeme → Type 0} {X : Test} {w : Tower rule} {m s from c s' : ℕ} {rn : Way} {l : Label} {cs : Slots} {q : ℕ} {x : Link N} (a : Around Lex X w m s from c l cs s' rn) (y : Alone Lex X w m c s' q x l cs) where
+    same_part : (m' : Label) (ds : Slots) (k : ℕ) (ls rest : Lexemes) (q' : ℕ) (x' : Link N) (es : Slots) (j : ℕ) (mid : Lexemes) → ((q' ≡ q) × (x' ≡ x)) ⊎ Fails rule Lex (plain full) end x'.part s' → Lexes Lex s' ls → Takes rule x'.part end es s' ls end j mid → Tail w m from q' (linked_label x' from j) (tree l cs es) j mid m' ds k rest
+        → (es : Slots) × (j : ℕ) × (mid : Lexemes) × Takes rule x.part end es s' ls end j mid × Tail w m from q (linked_label x from j) (tree l cs es) j mid m' ds k rest
+    same_part m' ds k ls rest q' x' es j mid (inl same) i d more =
+        (es, j, mid, subst (λ v. Takes rule v.part end es s' ls end j mid) same.1 d, subst (λ v. Tail w m from v (linked_label x from j) (tree l cs es) j mid m' ds k rest) same.0 (subst (λ v. Tail w m from q' (linked_label v from j) (tree l cs es) j mid m' ds k rest) same.1 more))
+    same_part m' ds k ls rest q' x' es j mid (inr n) i d more = absurd (n.no es end j ls mid i d (refl, refl))
+
     part_here : (m' : Label) (ds : Slots) (k : ℕ) (ls rest : Lexemes) → Lexes Lex s' ls → Tail w m from c l cs s' ls m' ds k rest → Admits X (tree m' ds end) (here rest)
         → (es : Slots) × (j : ℕ) × (mid : Lexemes) × Takes rule x.part end es s' ls end j mid × Tail w m from q (linked_label x from j) (tree l cs es) j mid m' ds k rest
     part_here m' ds k ls rest i tail_none e = absurd (y.goes_on (here ls) (here_at Lex ls i) e)
     part_here m' ds k ls rest i (tail_more {q = q'} {x = x'} {ds = es} {j = j} {mid = mid} g h t z d more) e =
-        let same = y.other q' x' (g, h, t, z) (here ls) (here_at Lex ls i) (starting C full d refl) in
-        (es, j, mid, subst (λ v. Takes rule v.part end es s' ls end j mid) same.1 d, subst (λ v. Tail w m from v (linked_label x from j) (tree l cs es) j mid m' ds k rest) same.0 (subst (λ v. Tail w m from q' (linked_label v from j) (tree l cs es) j mid m' ds k rest) same.1 more))
+        same_part m' ds k ls rest q' x' es j mid (y.other q' x' (g, h, t, z) (here ls) (here_at Lex ls i) (starting C full d refl)) i d more
 
     -- what stands behind a part
     part_admits : {X' : Test} → Edges rule X X' x from l cs s' → Follows C.first w m q X' → (es : Slots) (j : ℕ) (ls' mid : Lexemes) (m' : Label) (ds : Slots) (k : ℕ) (rest : Lexemes) → Takes rule x.part end es s' ls' end j mid → Tail w m from q (linked_label x from j) (tree l cs es) j mid m' ds k rest → Admits X (tree m' ds end) (here rest) → Admits X' es (here mid)
@@ -224,7 +229,7 @@ module _ {N : Type 0} {rule : N → Grammar N} (C : FirstSets rule) where
         → Alone Lex X (level_tower level top kind feet ops climbs) m c s q (operation_link level kind q k) l cs
     one_operator {Lex} {X} {m} {c} {s} {q} {l} {cs} k z a b d i u g = record {
       step = (a, b, d, to_operations level kind q (ops q) i);
-      other = λ q' x' st y n t. let r = part_at m c q' x' st y.kind y.newline y.escaped t in let same = z y n in let v = u q' (subst (λ a. OneOf a (ops q')) same r.0) in (v, r.1 ∙ (ap (λ a. operation_link level kind q' a) same ∙ ap (λ a. operation_link level kind a k) v));
+      other = λ q' x' st y n t. let r = part_at m c q' x' st y.kind y.newline y.escaped t in let same = z y n in let v = u q' (subst (λ a. OneOf a (ops q')) same r.0) in inl (v, r.1 ∙ (ap (λ a. operation_link level kind q' a) same ∙ ap (λ a. operation_link level kind a k) v));
       goes_on = g;
     }
 
@@ -277,24 +282,46 @@ module _ {N : Type 0} {rule : N → Grammar N} (C : FirstSets rule) where
     pub chain_start_fails : {Lex : ℕ → Lexeme → Type 0} {X : Test} {F' : Look} {ks : Slots} {s : ℕ} → Fails rule Lex (plain F') end base s → covers X.base F' ≡ true → all_links lk (λ x. covers (starts C.first x.part full) F') ≡ true → Fails rule Lex X ks (such n always) s
     chain_start_fails {Lex} {X} {F'} r h i = weaken_fails (start_fails {Lex = Lex} {w = chain n base g e lk} {m = 0} {X = plain X.base} {X' = plain F'} (λ q h. refl) refl (omega arith) r (λ l cs vs y p. p) (λ ts y p. (covered X.base F' h _ _ _ p.0, refl)) (follows i)) (λ ts y p. (p.0, refl))
 
-    alone : {Lex : ℕ → Lexeme → Type 0} {X : Test} {s' : ℕ} {x : Link N} {l : Label} {cs : Slots} (k : Kind) → ((y : Lexeme) → Lex s' y → y.kind ≡ k) → Among n g x → beginning lk k ≡ x ∷ [] → some_of (X.base k) ≡ false → Alone Lex X (chain n base g e lk) 0 1 s' 0 x l cs
+    alone : {Lex : ℕ → Lexeme → Type 0} {X : Test} {s' : ℕ} {x : Link N} {l : Label} {cs : Slots} (k : Kind) → ((y : Lexeme) → Lex s' y → y.kind ≡ k) → Among n g x → ((x' : Link N) → OneOf x' (beginning lk k) → (x' ≡ x) ⊎ Fails rule Lex (plain full) end x'.part s') → ((y : Lexeme) → Lex s' y → Admits X (tree l cs end) y → ⊥) → Alone Lex X (chain n base g e lk) 0 1 s' 0 x l cs
     alone {Lex} {X} {s'} {x} {l} {cs} k h a b f = record {
       step = (omega arith, omega arith, omega arith, a);
-      other = λ q' x' st y i t. let z = of_step 1 q' x' st in (z.0, only_one (subst (λ v. OneOf x' v) b (in_beginning lk k x' z.1 (subst (λ v. some_of (starts C.first x'.part full v) ≡ true) (h y i) (some_at (starts C.first x'.part full y.kind) y.newline y.escaped t)))));
-      goes_on = λ y i t. false≢true (sym f ∙ subst (λ v. some_of (X.base v) ≡ true) (h y i) (some_at (X.base y.kind) y.newline y.escaped t.0));
+      other = λ q' x' st y i t. let z = of_step 1 q' x' st in at_level q' x' z.0 (b x' (in_beginning lk k x' z.1 (subst (λ v. some_of (starts C.first x'.part full v) ≡ true) (h y i) (some_at (starts C.first x'.part full y.kind) y.newline y.escaped t))));
+      goes_on = f;
     }
+      where
+        at_level : (q' : ℕ) (x' : Link N) → q' ≡ 0 → (x' ≡ x) ⊎ Fails rule Lex (plain full) end x'.part s' → ((q' ≡ 0) × (x' ≡ x)) ⊎ Fails rule Lex (plain full) end x'.part s'
+        at_level q' x' z (inl w) = inl (z, w)
+        at_level q' x' z (inr w) = inr w
+
+    -- a link that stands alone
+    single : {Lex : ℕ → Lexeme → Type 0} {s' : ℕ} {x : Link N} (k : Kind) → beginning lk k ≡ x ∷ [] → (x' : Link N) → OneOf x' (beginning lk k) → (x' ≡ x) ⊎ Fails rule Lex (plain full) end x'.part s'
+    single k b x' i = inl (only_one (subst (λ v. OneOf x' v) b i))
+
+    stops_at : (Lex : ℕ → Lexeme → Type 0) (X : Test) {s' : ℕ} {l : Label} {cs : Slots} {k : Kind} → ((y : Lexeme) → Lex s' y → y.kind ≡ k) → some_of (X.base k) ≡ false → (y : Lexeme) → Lex s' y → Admits X (tree l cs end) y → ⊥
+    stops_at Lex X h f y i t = false≢true (sym f ∙ subst (λ v. some_of (X.base v) ≡ true) (h y i) (some_at (X.base y.kind) y.newline y.escaped t.0))
 
     part_edges : {X : Test} {F' : Look} {x : Link N} {from : ℕ} {l : Label} {cs : Slots} {s' : ℕ} → covers X.base F' ≡ true → Edges rule X (plain F') x from l cs s'
     part_edges {X} {F'} c = record { ends = λ es j ls mid y d p. (covered X.base F' c _ _ _ p.0, refl) }
 
-    -- the lexeme k begins the part of the link x alone
+    -- The lexeme k begins the part of the link x; of the other links that it may begin none can be read, and what is read can't end before it.
+    pub chain_step_by : {Lex : ℕ → Lexeme → Type 0} {X : Test} {F' : Look} {s from s' s'' : ℕ} {rn rm : Way} {l : Label} {cs : Slots} {x : Link N} {f : Slots → Slots} (k : Kind) → Chained Lex X s from l cs s' rn → ((y : Lexeme) → Lex s' y → y.kind ≡ k) → Among n g x
+        → ((x' : Link N) → OneOf x' (beginning lk k) → (x' ≡ x) ⊎ Fails rule Lex (plain full) end x'.part s') → ((y : Lexeme) → Lex s' y → Admits X (tree l cs end) y → ⊥)
+        → Reads rule Lex (plain F') end x.part s' s'' f rm → covers X.base F' ≡ true → all_links lk (λ x. covers (starts C.first x.part full) F') ≡ true → Chained Lex X s from (linked_label x from s'') (tree l cs (f end)) s'' (joined rn rm)
+    chain_step_by k a h i b t r c d = recap (step a (alone k h i b t) r (part_edges c) (follows d)) (omega arith) (omega arith)
+
+    pub chain_step_fails_by : {Lex : ℕ → Lexeme → Type 0} {X X' : Test} {F' : Look} {ks : Slots} {s from s' : ℕ} {rn : Way} {l : Label} {cs : Slots} {x : Link N} (k : Kind) → Chained Lex X s from l cs s' rn → ((y : Lexeme) → Lex s' y → y.kind ≡ k) → Among n g x
+        → ((x' : Link N) → OneOf x' (beginning lk k) → (x' ≡ x) ⊎ Fails rule Lex (plain full) end x'.part s') → ((y : Lexeme) → Lex s' y → Admits X (tree l cs end) y → ⊥)
+        → Heads X' X → Fails rule Lex (plain F') end x.part s' → covers X.base F' ≡ true → all_links lk (λ x. covers (starts C.first x.part full) F') ≡ true → Fails rule Lex X' ks (such n always) s
+    chain_step_fails_by k a h i b t p r c d = step_fails a (alone k h i b t) refl r p (part_edges c) (follows d)
+
+    -- it begins the part of this link alone
     pub chain_step : {Lex : ℕ → Lexeme → Type 0} {X : Test} {F' : Look} {s from s' s'' : ℕ} {rn rm : Way} {l : Label} {cs : Slots} {x : Link N} {f : Slots → Slots} (k : Kind) → Chained Lex X s from l cs s' rn → ((y : Lexeme) → Lex s' y → y.kind ≡ k) → Among n g x → beginning lk k ≡ x ∷ [] → some_of (X.base k) ≡ false
         → Reads rule Lex (plain F') end x.part s' s'' f rm → covers X.base F' ≡ true → all_links lk (λ x. covers (starts C.first x.part full) F') ≡ true → Chained Lex X s from (linked_label x from s'') (tree l cs (f end)) s'' (joined rn rm)
-    chain_step k a h i b t r c d = recap (step a (alone k h i b t) r (part_edges c) (follows d)) (omega arith) (omega arith)
+    chain_step {Lex} {X} k a h i b t r c d = chain_step_by k a h i (single k b) (stops_at Lex X h t) r c d
 
     pub chain_step_fails : {Lex : ℕ → Lexeme → Type 0} {X X' : Test} {F' : Look} {ks : Slots} {s from s' : ℕ} {rn : Way} {l : Label} {cs : Slots} {x : Link N} (k : Kind) → Chained Lex X s from l cs s' rn → ((y : Lexeme) → Lex s' y → y.kind ≡ k) → Among n g x → beginning lk k ≡ x ∷ [] → some_of (X.base k) ≡ false
         → Heads X' X → Fails rule Lex (plain F') end x.part s' → covers X.base F' ≡ true → all_links lk (λ x. covers (starts C.first x.part full) F') ≡ true → Fails rule Lex X' ks (such n always) s
-    chain_step_fails k a h i b t p r c d = step_fails a (alone k h i b t) refl r p (part_edges c) (follows d)
+    chain_step_fails {Lex} {X} k a h i b t p r c d = chain_step_fails_by k a h i (single k b) (stops_at Lex X h t) p r c d
 
     -- no part begins here
     pub chain_end : {Lex : ℕ → Lexeme → Type 0} {X X' : Test} {ks : Slots} {s from s' : ℕ} {rn : Way} {l : Label} {cs : Slots} → Heads X' X → Chained Lex X s from l cs s' rn → ((y : Lexeme) → Lex s' y → IsTrue (seen (linked_starts lk) y) → ⊥) → Reads rule Lex X' ks (such n always) s s' (tree l cs) rn

@@ -1,22 +1,22 @@
 -- Right edges of operators: what may stand behind a level's node may stand behind its right operand, and how tight its operators bind.
-use Rattle.std.proofs.Common.{ℕ, zero, suc, ◌≡◌, ◌≤◌, ◌+◌, Bool, true, false, not, cond, ◌&&◌, ◌||◌, IsTrue, nat_lt, nat_eq, List, [], ◌∷◌, refl, sym, ap, ◌∙◌, subst, arith}
-use Rattle.std.proofs.lemmas.Bool.{false≢true, and_parts, ltb-true, lt-ltb, eqb-true}
+use Rattle.std.proofs.Common.{ℕ, zero, suc, ◌≡◌, ◌≤◌, ◌+◌, Bool, true, false, ◌&&◌, ◌||◌, nat_lt, nat_eq, refl, sym, ◌∙◌, subst, arith}
+use Rattle.std.proofs.lemmas.Bool.{false≢true, and_parts, ltb-true, eqb-true}
 use Rattle.js_base.specs.declared.kind.Kind.{Kind}
 use Rattle.js_base.specs.Kinds.{one_of_kinds}
-use Rattle.js_grammar.specs.Trees.{NodeKind, of, Slots, end, Label, tree}
-use Rattle.js_grammar.specs.Insertion.{Row, after_expression, after_postfix, after_body, after_yield, after_declarator, after_word, edge_is_last, own_row, empty_row, edge}
-use Rattle.js_grammar.specs.Grammar.{Lexeme, Lexemes, here, Look, seen, Takes, is_lexeme, is_seq, is_such}
-use Rattle.js_grammar.specs.Productions.{Flags, Symbol}
-use Rattle.js_grammar.specs.Parsing.{full, Admits}
+use Rattle.js_grammar.specs.Trees.{of, Slots, end, Label, tree}
+use Rattle.js_grammar.specs.Insertion.{Row, after_expression, after_postfix, after_body, after_yield, after_declarator, after_word, edge_is_last}
+use Rattle.js_grammar.specs.Grammar.{Lexeme, Lexemes, Look, seen, Takes, is_lexeme, is_seq, is_such}
+use Rattle.js_grammar.specs.Productions.{Flags}
+use Rattle.js_grammar.specs.Parsing.{Admits}
 use Rattle.js_grammar.specs.Table.{rule}
-use Rattle.js_grammar.specs.Levels.{level_at, operators_of, operators_at, node_at}
+use Rattle.js_grammar.specs.Levels.{binds, level_at, operators_of, operators_at, node_at}
 use Rattle.js_grammar.specs.Follow.{row_of, first_edge, tight, looser, follow, after}
 use Rattle.js_grammar.proofs.Looks.{covers, covered, same_self}
 use Rattle.js_grammar.proofs.Calculus.{Within}
 use Rattle.js_grammar.proofs.Towers.{OneOf}
 use Rattle.js_grammar.proofs.Loops.{Edges, listed}
 use Rattle.js_grammar.proofs.Operators.{operates}
-use Rattle.js_grammar.proofs.RightEdges.{first_row}
+use Rattle.js_grammar.proofs.RightEdges.{each_row, at_row, of_operand, first_row}
 use Rattle.js_grammar.proofs.FollowLaws.{admits, looser_than}
 
 -- the test of a level is that of its number
@@ -53,39 +53,90 @@ operator_edges f m q k {from} {l} {cs} {s'} a b = record { ends = λ es j ls mid
     go es p y (is_seq (is_lexeme h) (is_such {l = l'} {cs = ds} d c')) e =
         let n : Label = record { kind = node_at q; op = of k; flags = 0; span = record { from = from; to = p } } in
         admits (level_at f (q + 1)) (tree l' ds end) y (level_looser f (q + 1) (tree l' ds end) y (omega arith)
-            ∙ looser_than (m + 5) (q + 1 + 5) f.in_ (row_of l' ds) y.kind y.newline y.escaped (omega arith)
-                (subst (λ r. looser (m + 5) f.in_ r y.kind y.newline y.escaped ≡ true) (operand_row q l n l' cs ds refl) (sym (level_looser f m (tree n (tree l cs (tree l' ds end)) end) y (omega arith)) ∙ e.1)))
+        ∙ looser_than (m + 5) (q + 1 + 5) f.in_ (row_of l' ds) y.kind y.newline y.escaped (omega arith)
+        (subst (λ r. looser (m + 5) f.in_ r y.kind y.newline y.escaped ≡ true) (operand_row q l n l' cs ds refl) (sym (level_looser f m (tree n (tree l cs (tree l' ds end)) end) y (omega arith)) ∙ e.1)))
 
--- How tight an operator binds: as tight as its level behind an operand, where it has no escape; no tighter behind whatever.
+-- How tight the operators of a level bind: computed over all kinds.
 abbrev is_operator : Bool → ℕ → Look
-is_operator b q k w e = one_of_kinds (operators_of b q) k && not e
+is_operator b q k w e = one_of_kinds (operators_of b q) k
 
-exactly : Bool → Row → ℕ → Look
-exactly b r q k w e = nat_eq (tight b r k w e) (q + 5)
+abbrev exactly : Bool → Row → ℕ → Look
+exactly b r q k w e = e || nat_eq (tight b r k w e) (q + 5)
 
-loosely : Bool → Row → ℕ → Look
-loosely b r q k w e = nat_lt (tight b r k w e) (q + 6)
+abbrev loosely : Bool → ℕ → Row → Look
+loosely b q r k w e = nat_lt (tight b r k w e) (q + 6)
 
-exact_at : (b : Bool) (q : ℕ) → q ≤ 9 → (covers (is_operator b q) (exactly b after_expression q) && covers (is_operator b q) (exactly b after_postfix q)) ≡ true
-unfolding covers exactly
-exact_at true zero h = refl
-exact_at true (suc zero) h = refl
-exact_at true (suc (suc zero)) h = refl
-exact_at true (suc (suc (suc zero))) h = refl
-exact_at true (suc (suc (suc (suc zero)))) h = refl
-exact_at true (suc (suc (suc (suc (suc zero))))) h = refl
-exact_at true (suc (suc (suc (suc (suc (suc zero)))))) h = refl
-exact_at true (suc (suc (suc (suc (suc (suc (suc zero))))))) h = refl
-exact_at true (suc (suc (suc (suc (suc (suc (suc (suc zero)))))))) h = refl
-exact_at true (suc (suc (suc (suc (suc (suc (suc (suc (suc zero))))))))) h = refl
-exact_at false zero h = refl
-exact_at false (suc zero) h = refl
-exact_at false (suc (suc zero)) h = refl
-exact_at false (suc (suc (suc zero))) h = refl
-exact_at false (suc (suc (suc (suc zero)))) h = refl
-exact_at false (suc (suc (suc (suc (suc zero))))) h = refl
-exact_at false (suc (suc (suc (suc (suc (suc zero)))))) h = refl
-exact_at false (suc (suc (suc (suc (suc (suc (suc zero))))))) h = refl
-exact_at false (suc (suc (suc (suc (suc (suc (suc (suc zero)))))))) h = refl
-exact_at false (suc (suc (suc (suc (suc (suc (suc (suc (suc zero))))))))) h = refl
-exact_at b (suc (suc (suc (suc (suc (suc (suc (suc (suc (suc n)))))))))) h = absurd (omega arith)
+abbrev of_level : Bool → ℕ → Look
+of_level b q k w e = nat_eq (binds b k) (q + 5)
+
+abbrev all_at : Bool → ℕ → Bool
+all_at b q = covers (is_operator b q) (of_level b q) && (covers (is_operator b q) (exactly b after_expression q) && (covers (is_operator b q) (exactly b after_postfix q) && each_row (λ r. covers (is_operator b q) (loosely b q r))))
+
+checked : (b : Bool) (q : ℕ) → q ≤ 9 → all_at b q ≡ true
+unfolding covers
+checked true zero h = refl
+checked true (suc zero) h = refl
+checked true (suc (suc zero)) h = refl
+checked true (suc (suc (suc zero))) h = refl
+checked true (suc (suc (suc (suc zero)))) h = refl
+checked true (suc (suc (suc (suc (suc zero))))) h = refl
+checked true (suc (suc (suc (suc (suc (suc zero)))))) h = refl
+checked true (suc (suc (suc (suc (suc (suc (suc zero))))))) h = refl
+checked true (suc (suc (suc (suc (suc (suc (suc (suc zero)))))))) h = refl
+checked true (suc (suc (suc (suc (suc (suc (suc (suc (suc zero))))))))) h = refl
+checked false zero h = refl
+checked false (suc zero) h = refl
+checked false (suc (suc zero)) h = refl
+checked false (suc (suc (suc zero))) h = refl
+checked false (suc (suc (suc (suc zero)))) h = refl
+checked false (suc (suc (suc (suc (suc zero))))) h = refl
+checked false (suc (suc (suc (suc (suc (suc zero)))))) h = refl
+checked false (suc (suc (suc (suc (suc (suc (suc zero))))))) h = refl
+checked false (suc (suc (suc (suc (suc (suc (suc (suc zero)))))))) h = refl
+checked false (suc (suc (suc (suc (suc (suc (suc (suc (suc zero))))))))) h = refl
+checked b (suc (suc (suc (suc (suc (suc (suc (suc (suc (suc n)))))))))) h = absurd (omega arith)
+
+some_level : (b : Bool) (q : ℕ) {k : Kind} → OneOf k (operators_of b q) → q ≤ 9
+some_level b zero i = omega arith
+some_level b (suc zero) i = omega arith
+some_level b (suc (suc zero)) i = omega arith
+some_level b (suc (suc (suc zero))) i = omega arith
+some_level b (suc (suc (suc (suc zero)))) i = omega arith
+some_level b (suc (suc (suc (suc (suc zero))))) i = omega arith
+some_level b (suc (suc (suc (suc (suc (suc zero)))))) i = omega arith
+some_level b (suc (suc (suc (suc (suc (suc (suc zero))))))) i = omega arith
+some_level b (suc (suc (suc (suc (suc (suc (suc (suc zero)))))))) i = omega arith
+some_level b (suc (suc (suc (suc (suc (suc (suc (suc (suc zero))))))))) i = omega arith
+some_level b (suc (suc (suc (suc (suc (suc (suc (suc (suc (suc n)))))))))) i = elim i [ ]
+
+fourth : (a b c d : Bool) → (a && (b && (c && d))) ≡ true → d ≡ true
+fourth a b c d h = (and_parts c d (and_parts b (c && d) (and_parts a (b && (c && d)) h).1).1).1
+
+module _ (f : Flags) (q : ℕ) {k : Kind} (i : OneOf k (operators_at f q)) where
+  check : all_at f.in_ q ≡ true
+  check = checked f.in_ q (some_level f.in_ q i)
+
+  found : one_of_kinds (operators_at f q) k ≡ true
+  found = listed (operators_at f q) i same_self
+
+  pub operator_level : binds f.in_ k ≡ q + 5
+  operator_level = eqb-true _ _ (covered (is_operator f.in_ q) (of_level f.in_ q) (and_parts _ _ check).0 k true true found)
+
+  -- behind whatever, no tighter than its level
+  pub operator_loosely : (r : Row) (w e : Bool) → tight f.in_ r k w e ≤ q + 5
+  operator_loosely r w e =
+      let c = fourth (covers (is_operator f.in_ q) (of_level f.in_ q)) (covers (is_operator f.in_ q) (exactly f.in_ after_expression q)) (covers (is_operator f.in_ q) (exactly f.in_ after_postfix q)) (each_row (λ r. covers (is_operator f.in_ q) (loosely f.in_ q r))) check in
+      let h = ltb-true (tight f.in_ r k w e) (q + 6) (covered (is_operator f.in_ q) (loosely f.in_ q r) (at_row (λ r. covers (is_operator f.in_ q) (loosely f.in_ q r)) c r) k w e found) in omega arith
+
+  -- behind an operand, as tight as its level
+  pub operator_exactly : (r : Row) (w : Bool) → of_operand r ≡ true → tight f.in_ r k w false ≡ q + 5
+  operator_exactly after_expression w o = eqb-true _ _ (covered (is_operator f.in_ q) (exactly f.in_ after_expression q) (and_parts _ _ (and_parts _ _ check).1).0 k w false found)
+  operator_exactly after_postfix w o = eqb-true _ _ (covered (is_operator f.in_ q) (exactly f.in_ after_postfix q) (and_parts _ _ (and_parts _ _ (and_parts _ _ check).1).1).0 k w false found)
+  operator_exactly after_body w o = absurd (false≢true o)
+  operator_exactly after_yield w o = absurd (false≢true o)
+  operator_exactly after_declarator w o = absurd (false≢true o)
+  operator_exactly after_word w o = absurd (false≢true o)
+
+-- an operator stands at one level
+pub one_level : (f : Flags) (q q' : ℕ) {k : Kind} → OneOf k (operators_at f q) → OneOf k (operators_at f q') → q' ≡ q
+one_level f q q' i i' = let a = operator_level f q i in let b = operator_level f q' i' in omega arith

@@ -1,14 +1,13 @@
 -- Right edges: which a nonterminal's trees may have, and that what may stand behind a tree may stand behind its last slot, as far as the tree's own symbol permits.
-use Rattle.std.proofs.Common.{ℕ, ◌≡◌, ◌≤◌, Bool, true, false, not, cond, ◌&&◌, ◌||◌, IsTrue, refl, sym, ap, ◌∙◌, subst}
+use Rattle.std.proofs.Common.{ℕ, ◌≡◌, Bool, true, false, not, cond, ◌&&◌, ◌||◌, refl, sym, ◌∙◌, subst}
 use Rattle.std.proofs.lemmas.Bool.{false≢true, or_left, or_right, and_parts, and_from}
-use Rattle.js_base.specs.declared.kind.Kind.{Kind}
-use Rattle.js_grammar.specs.Trees.{Label, Slots, end, hole, tree, Tree, append}
+use Rattle.js_grammar.specs.Trees.{Label, Slots, end, hole, tree, append}
 use Rattle.js_grammar.specs.Insertion.{Row, after_expression, after_postfix, after_body, after_yield, after_declarator, after_word, edge_is_last, own_row, empty_row, edge}
-use Rattle.js_grammar.specs.Grammar.{Lexeme, Lexemes, here, seen, Grammar, nothing, lexeme, look, text, empty_slot, seq, alt, when, commas, such, node, Takes, is_nothing, is_lexeme, is_look, is_text, is_ahead, is_empty_slot, is_seq, is_left, is_right, is_when, is_many, is_commas, is_such, is_marked, is_node, is_ended, is_keep, is_kept}
-use Rattle.js_grammar.specs.Productions.{Flags, Name, Symbol, G, at, Program, Body, Expression, Assignment, Yield, Conditional, Short, Coalesce, Or, And, BitOr, BitXor, BitAnd, Equality, Relational, Shift, Additive, Multiply, Exponent, Unary, Update, Arrow', Argument, LeftHandSide, New, Member, Call, Chain, Links, Super, Primary, Template, Object, FuncExpr, ClassExpr, IdentifierReference, SimpleTarget}
+use Rattle.js_grammar.specs.Grammar.{Lexemes, nothing, lexeme, look, text, empty_slot, seq, alt, when, commas, such, node, Takes, is_nothing, is_lexeme, is_look, is_text, is_ahead, is_empty_slot, is_seq, is_left, is_right, is_when, is_many, is_commas, is_such, is_marked, is_node, is_ended, is_keep, is_kept}
+use Rattle.js_grammar.specs.Productions.{Flags, Name, Symbol, G, Program, Body, Expression, Assignment, Yield, Conditional, Short, Coalesce, Or, And, BitOr, BitXor, BitAnd, Equality, Relational, Shift, Additive, Multiply, Exponent, Unary, Update, Arrow', Argument, LeftHandSide, New, Member, Call, Chain, Links, Super, Primary, Template, Object, FuncExpr, ClassExpr, IdentifierReference, SimpleTarget}
 use Rattle.js_grammar.specs.Table.{rule, rule_of}
-use Rattle.js_grammar.specs.Follow.{Edge, row_of, edge_of, first_edge}
-use Rattle.js_grammar.proofs.Frame.{puts, append_assoc}
+use Rattle.js_grammar.specs.Follow.{row_of, first_edge}
+use Rattle.js_grammar.proofs.Frame.{puts}
 
 -- a check at each row
 abbrev pub each_row : (Row → Bool) → Bool

@@ -1,14 +1,15 @@
 -- What may stand behind each nonterminal, read as a tree of a given right edge, where a parser has read as much of it as it can. A regular expression counts as the slash that it begins with, a template's middle or tail as its brace: which of the two stands there depends on the lexical goal (ECMA-262, 12).
-use Rattle.std.specs.Prelude.{ℕ, Bool, true, false, not, cond, ◌&&◌, ◌||◌, List, [], ◌∷◌, nat_lt}
+use Rattle.std.specs.Prelude.{ℕ, Bool, true, false, not, cond, ◌&&◌, ◌||◌, [], ◌∷◌, nat_lt}
 use Rattle.js_base.specs.declared.kind.Kind.{Kind}
 use Rattle.js_base.specs.declared.kind.Kind.TheVariants.{LParen, LBrack, RCurly, Comma, Colon, Dot, Arrow, Question, QuestionDot, Question2, Plus, Plus2, Minus, Minus2, Star, Star2, Slash, SlashEq, Percent, Eq2, Eq3, Neq, Neq2, LAngle, LtEq, RAngle, GtEq, ShiftLeft, ShiftRight, ShiftRight3, Amp, Amp2, Pipe, Pipe2, Caret, RegExp, NoSubstitutionTemplate, TemplateHead, TemplateMiddle, TemplateTail, Eof}
 use Rattle.js_base.specs.Kinds.{same_kind, one_of_kinds}
 use Rattle.js_grammar.specs.Words.{'case', 'catch', 'default', 'else', 'finally', 'function', 'in', 'instanceof'}
-use Rattle.js_grammar.specs.Trees.{Label, Slots, end, hole, tree}
+use Rattle.js_grammar.specs.Trees.{Label, Slots, tree}
 use Rattle.js_grammar.specs.Grammar.{Look}
 use Rattle.js_grammar.specs.Insertion.{Row, after_expression, after_postfix, after_body, after_yield, assign_operators, may_bind, edge_is_last, own_row, empty_row, edge}
 use Rattle.js_grammar.specs.Conditions.{ends_in_sub, lacks_else}
 use Rattle.js_grammar.specs.FirstSets.{begins_expression}
+use Rattle.js_grammar.specs.Levels.{binds}
 use Rattle.js_grammar.specs.Productions.{Name, Symbol, Program, Item, ListItem, Statement, Sub, If, While, With, For, ForInit, ForIn, ForOf, Case, Try, Labeled, Param, Arrow', Decorator, DecoratorMember, Property, Init, Expression, Assignment, Yield, Conditional, Short, Coalesce, Or, And, BitOr, BitXor, BitAnd, Equality, Relational, Shift, Additive, Multiply, Exponent, Unary, Update, LeftHandSide, New, Member, Call, Chain, Links, Argument, Primary, SimpleTarget, Target, TargetElement, TargetProperty, BElement, PatternProperty, Spec}
 use Rattle.js_grammar.specs.Parsing.{Test}
 
@@ -27,38 +28,6 @@ edge_of l cs = record { row = row_of l cs; open_if = ends_in_sub l.kind && lacks
 abbrev pub first_edge : Slots → Edge
 first_edge (tree l cs us) = edge_of l cs
 first_edge us = record { row = after_expression; open_if = false }
-
--- How tight an operator binds what stands before it (13), from the comma on; `in` where it is allowed; 0: it is no operator.
-abbrev pub binds : Bool → Kind → ℕ
-binds b Comma = 1
-binds b Question = 3
-binds b Question2 = 4
-binds b Pipe2 = 5
-binds b Amp2 = 6
-binds b Pipe = 7
-binds b Caret = 8
-binds b Amp = 9
-binds b Eq2 = 10
-binds b Neq = 10
-binds b Eq3 = 10
-binds b Neq2 = 10
-binds b LAngle = 11
-binds b RAngle = 11
-binds b LtEq = 11
-binds b GtEq = 11
-binds b 'instanceof' = 11
-binds b 'in' = cond b 11 0
-binds b ShiftLeft = 12
-binds b ShiftRight = 12
-binds b ShiftRight3 = 12
-binds b Plus = 13
-binds b Minus = 13
-binds b Star = 14
-binds b Slash = 14
-binds b RegExp = 14
-binds b Percent = 14
-binds b Star2 = 15
-binds b _ = 0
 
 abbrev pub operator : Bool → Kind → ℕ
 operator b k = cond (one_of_kinds assign_operators k) 2 (binds b k)
@@ -152,12 +121,12 @@ follow_of Update b d k w e = looser 16 b d.row k w e
 -- their trees have no other edge
 follow_of LeftHandSide b d k w e = looser 17 b after_expression k w e
 follow_of New b d k w e = looser 17 b after_expression k w e
-follow_of Call b d k w e = looser 17 b after_expression k w e
 follow_of Chain b d k w e = looser 17 b after_expression k w e
 follow_of Links b d k w e = looser 17 b after_expression k w e
 follow_of SimpleTarget b d k w e = looser 17 b after_expression k w e
 follow_of Target b d k w e = looser 17 b after_expression k w e
--- behind a member a call may stand, and a link of an optional chain; `async` before `function` begins a function
+-- behind a call a link of an optional chain may stand, behind a member a call too; `async` before `function` begins a function
+follow_of Call b d k w e = not (one_of_kinds (LParen ∷ LBrack ∷ Dot ∷ NoSubstitutionTemplate ∷ TemplateHead ∷ []) k && not e) && not (not w && (same_kind 'function' k && not e))
 follow_of Member b d k w e = not (one_of_kinds (LBrack ∷ Dot ∷ NoSubstitutionTemplate ∷ TemplateHead ∷ []) k && not e) && not (not w && (same_kind 'function' k && not e))
 follow_of Primary b d k w e = not (not w && (same_kind 'function' k && not e))
 -- what ends with a lexeme of its own, or by a semicolon, written or left out

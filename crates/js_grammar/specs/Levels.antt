@@ -1,7 +1,7 @@
 -- The levels of operators by number, as a loop over binding power meets them.
 use Rattle.std.specs.Prelude.{ℕ, zero, suc, Bool, cond, List, [], ◌∷◌}
 use Rattle.js_base.specs.declared.kind.Kind.{Kind}
-use Rattle.js_base.specs.declared.kind.Kind.TheVariants.{Plus, Minus, Star, Slash, Percent, Eq2, Eq3, Neq, Neq2, LAngle, LtEq, RAngle, GtEq, ShiftLeft, ShiftRight, ShiftRight3, Amp, Amp2, Pipe, Pipe2, Caret}
+use Rattle.js_base.specs.declared.kind.Kind.TheVariants.{Comma, Question, Question2, Star2, RegExp, Plus, Minus, Star, Slash, Percent, Eq2, Eq3, Neq, Neq2, LAngle, LtEq, RAngle, GtEq, ShiftLeft, ShiftRight, ShiftRight3, Amp, Amp2, Pipe, Pipe2, Caret}
 use Rattle.js_grammar.specs.Words.{'in', 'instanceof'}
 use Rattle.js_grammar.specs.Trees.{NodeKind, logical_expression, binary_expression, private_in_expression}
 use Rattle.js_grammar.specs.Grammar.{never, when, ◌▸◌}
@@ -57,3 +57,35 @@ private_in f = when f.in_ (op private_in_expression 'in' (sym PrivateName f ▸ 
 abbrev pub feet_at : Flags → ℕ → G
 feet_at f (suc (suc (suc (suc (suc (suc zero)))))) = private_in f
 feet_at f _ = never
+
+-- How tight an operator binds what stands before it (13), from the comma on; `in` where it is allowed; 0: it is no operator.
+abbrev pub binds : Bool → Kind → ℕ
+binds b Comma = 1
+binds b Question = 3
+binds b Question2 = 4
+binds b Pipe2 = 5
+binds b Amp2 = 6
+binds b Pipe = 7
+binds b Caret = 8
+binds b Amp = 9
+binds b Eq2 = 10
+binds b Neq = 10
+binds b Eq3 = 10
+binds b Neq2 = 10
+binds b LAngle = 11
+binds b RAngle = 11
+binds b LtEq = 11
+binds b GtEq = 11
+binds b 'instanceof' = 11
+binds b 'in' = cond b 11 0
+binds b ShiftLeft = 12
+binds b ShiftRight = 12
+binds b ShiftRight3 = 12
+binds b Plus = 13
+binds b Minus = 13
+binds b Star = 14
+binds b Slash = 14
+binds b RegExp = 14
+binds b Percent = 14
+binds b Star2 = 15
+binds b _ = 0

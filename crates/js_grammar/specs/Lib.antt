@@ -53,3 +53,4 @@ pub mod Derivations
 pub mod PureMarks
 pub mod CommandLine
 pub mod Output
+pub mod TableLaws

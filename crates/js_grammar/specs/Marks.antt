@@ -29,11 +29,11 @@ use Rattle.js_grammar.specs.LexicalFaults.{Reached, Faulty}
 abbrev pub cut_sign : Lexeme → Lexeme
 cut_sign x = record x { kind = RAngle; to = x.from + 1 }
 
-abbrev begins_with_greater : Kind → Bool
-begins_with_greater k = one_of_kinds (GtEq ∷ ShiftRight ∷ ShiftRightEq ∷ ShiftRight3 ∷ ShiftRight3Eq ∷ []) k
+abbrev pub begins_with_greater : Kind → Bool
+begins_with_greater k = one_of_kinds (RAngle ∷ GtEq ∷ ShiftRight ∷ ShiftRightEq ∷ ShiftRight3 ∷ ShiftRight3Eq ∷ []) k
 
 -- faults that pass
-abbrev goes_on : DiagnosticKind → Bool
+abbrev pub goes_on : DiagnosticKind → Bool
 goes_on kind.RegExpFlag = true
 goes_on kind.HtmlCommentInModule = true
 goes_on _ = false
@@ -48,7 +48,7 @@ pub data IsLexemeOf (goal : Goal) (text : List ℕ) : Lexeme → Type 0 where
   a_sign : {s : ℕ} {x : Lexeme} → Reached text s → Lex all_faults text s x → IsTrue (begins_with_greater x.kind) → IsLexemeOf goal text (cut_sign x)
   a_fault : {k : DiagnosticKind} {from to : ℕ} → Faulty k goal text from to → IsTrue (not (goes_on k)) → IsLexemeOf goal text (faulty_lexeme from to)
 
-abbrev Is : Lexeme → Span → Type 0
+abbrev pub Is : Lexeme → Span → Type 0
 Is x s = (x.from ≡ s.start) × (x.to ≡ s.end)
 
 -- The span is that of one lexeme, the empty end among them, which passes a test.
@@ -58,10 +58,10 @@ pub record LexemeAt (test : Lexeme → Bool) (goal : Goal) (text : List ℕ) (s 
   pub is : Is lexeme s
   pub passes : IsTrue (test lexeme)
 
-abbrev any_lexeme : Lexeme → Bool
+abbrev pub any_lexeme : Lexeme → Bool
 any_lexeme x = true
 
-abbrev of_kinds : List Kind → Lexeme → Bool
+abbrev pub of_kinds : List Kind → Lexeme → Bool
 of_kinds ks x = one_of_kinds ks x.kind && not x.escaped
 
 abbrev on_new_line : Lexeme → Bool
@@ -134,7 +134,7 @@ modifies x y = of_kinds ('private' ∷ 'protected' ∷ 'public' ∷ []) x && (no
 
 -- Related places.
 
-abbrev Unrelated : Option Span → Option Span → Type 0
+abbrev pub Unrelated : Option Span → Option Span → Type 0
 Unrelated first second = (first ≡ None) × (second ≡ None)
 
 -- `first` is a lexeme before this place that passes a test.
@@ -146,7 +146,7 @@ pub record Earlier (test : Lexeme → Bool) (goal : Goal) (text : List ℕ) (bef
   pub earlier : place.end ≤ before
 
 -- an opening bracket
-abbrev opens : Lexeme → Bool
+abbrev pub opens : Lexeme → Bool
 opens x = one_of_kinds (LParen ∷ LBrack ∷ LCurly ∷ TemplateHead ∷ TemplateMiddle ∷ []) x.kind
 
 -- two lexemes that stand for the same, the later one in `first`, or the earlier one
@@ -160,7 +160,7 @@ pub record Again (test : Lexeme → Bool) (goal : Goal) (text : List ℕ) (s : S
 
 -- Expressions and targets: by the productions of loose expressions, under some setting of the parameters.
 
-abbrev loose : Flags → Flags
+abbrev pub loose : Flags → Flags
 loose f = record f { cover = true; wide = true }
 
 -- The lexemes at the span derive a tree of this nonterminal, which with what stands behind passes a test.
@@ -270,27 +270,27 @@ pub record BehindExpression (k : Kind) (text : List ℕ) (s : Span) : Type 0 whe
 -- Merge conflict markers.
 
 -- the seven signs stand from where the lexeme begins, which is the first on its line
-abbrev begins_marker : List ℕ → List ℕ → Lexeme → Bool
+abbrev pub begins_marker : List ℕ → List ℕ → Lexeme → Bool
 begins_marker signs text x = (x.newline || (x.from == 0)) && bytes_eq (take 7 (drop x.from text)) signs
 
-abbrev begins_middle : List ℕ → Lexeme → Bool
+abbrev pub begins_middle : List ℕ → Lexeme → Bool
 begins_middle text x = begins_marker (codes "=======") text x
 
-abbrev begins_closing : List ℕ → Lexeme → Bool
+abbrev pub begins_closing : List ℕ → Lexeme → Bool
 begins_closing text x = begins_marker (codes ">>>>>>>") text x
 
-abbrev begins_some_marker : List ℕ → Lexeme → Bool
+abbrev pub begins_some_marker : List ℕ → Lexeme → Bool
 begins_some_marker text x = begins_marker (codes "<<<<<<<") text x || (begins_middle text x || (begins_closing text x || begins_marker (codes "|||||||") text x))
 
-abbrev seven_from : ℕ → Span
+abbrev pub seven_from : ℕ → Span
 seven_from i = record { start = i; end = i + 7 }
 
 -- the next marker of `>`; the next one of `=`, not behind that
-abbrev closing_marker : List ℕ → Lexemes → Option Span
+abbrev pub closing_marker : List ℕ → Lexemes → Option Span
 closing_marker text (last x) = elim (begins_closing text x) [ true ↦ Some (seven_from x.from) | false ↦ None ]
 closing_marker text (next x ls) = elim (begins_closing text x) [ true ↦ Some (seven_from x.from) | false ↦ closing_marker text ls ]
 
-abbrev middle_marker : List ℕ → Lexemes → Option Span
+abbrev pub middle_marker : List ℕ → Lexemes → Option Span
 middle_marker text (last x) = elim (begins_middle text x) [ true ↦ Some (seven_from x.from) | false ↦ None ]
 middle_marker text (next x ls) = elim (begins_closing text x) [
   | true ↦ None
@@ -302,7 +302,7 @@ pub record Plain (text : List ℕ) (s : ℕ) (x : Lexeme) : Type 0 where
   pub lex : Lex all_faults text s x
   pub plain : lex.goal ≡ division
 
-abbrev NoPlain : List ℕ → ℕ → Type 0
+abbrev pub NoPlain : List ℕ → ℕ → Type 0
 NoPlain text s = (x : Lexeme) → Plain text s x → ⊥
 
 -- the lexemes of the plain goal, up to the end of the text or a fault that stops them

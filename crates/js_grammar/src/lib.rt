@@ -6,3 +6,4 @@
 pub mod grammar_laws;
 pub mod laws;
 pub mod lexical_laws;
+pub mod table_laws;
