@@ -49,25 +49,32 @@ reached_next {text} {s} {x} (inr r) h = inr (join r.0 (last x), joins (Lex all_f
 cut_sign : (y : Lexeme) → is_right_angle y.kind ≡ true → (cut y).kind ≡ RAngle
 cut_sign y e = rw (e, cut) refl
 
+same_is : (k : Kind) → same_kind Undetermined k ≡ false → k ≡ Undetermined → ⊥
+same_is k h e = false≢true (sym h ∙ ap (same_kind Undetermined) e)
+
+joined_lists : (a b c : List Diagnostic) → (a ++ b) ++ c ≡ a ++ (b ++ c)
+joined_lists [] b c = refl
+joined_lists (x ∷ a) b c = ap (λ v. x ∷ v) (joined_lists a b c)
+
 -- what the lexer gives is a token of its place
-pub token_given : {source : Goal} {text : List ℕ} {s : ℕ} {t : Token} (faults : List Diagnostic) (b : Bool) → (IsTrue b ↔ (t.kind ≡ RAngle)) → Outcome division cut source text s t [] faults → IsToken source text s t b
-token_given {source} {text} {s} {t} faults b h o = go (same_kind Undetermined t.kind) refl o
+pub token_given : {source : Goal} {text : List ℕ} {s : ℕ} {t : Token} (faults : List Diagnostic) {all : List Diagnostic} (before : List Diagnostic) (b : Bool) → (IsTrue b ↔ (t.kind ≡ RAngle)) → all ≡ before ++ faults → Outcome division cut source text s t [] faults → IsToken source text s all t b
+token_given {source} {text} {s} {t} faults {all} before b h q o = go (same_kind Undetermined t.kind) refl o
   where
-    told : (b : Bool) → (IsTrue b ↔ (t.kind ≡ RAngle)) → GivesLexeme division cut text s t → IsToken source text s t b
-    told true h x = sign (h.0 refl) x
-    told false h x = whole (record { lexeme = x.lexeme; stands = x.stands; tells = subst (λ v. Tells v t) (plain (is_right_angle x.lexeme.kind) refl) x.tells; separated = x.separated })
+    told : (b : Bool) → (IsTrue b ↔ (t.kind ≡ RAngle)) → same_kind Undetermined t.kind ≡ false → GivesLexeme division cut text s t → IsToken source text s all t b
+    told true h e x = sign (h.0 refl) x
+    told false h e x = whole (same_is t.kind e) (record { lexeme = x.lexeme; stands = x.stands; tells = subst (λ v. Tells v t) (plain (is_right_angle x.lexeme.kind) refl) x.tells; separated = x.separated })
       where
         plain : (r : Bool) → is_right_angle x.lexeme.kind ≡ r → cut x.lexeme ≡ x.lexeme
         plain true e = absurd (false≢true (h.1 (x.tells.kind ∙ cut_sign x.lexeme e)))
         plain false e = cut_same x.lexeme e
 
-    none_told : (b : Bool) → (IsTrue b ↔ (t.kind ≡ RAngle)) → t.kind ≡ Undetermined → (d : Diagnostic) → GivesNone division source text s t d → IsToken source text s t b
-    none_told true h e d x = absurd (let z : Undetermined ≡ RAngle = sym e ∙ h.0 refl in cc)
-    none_told false h e d x = nothing e x
+    none_told : (b : Bool) → (IsTrue b ↔ (t.kind ≡ RAngle)) → t.kind ≡ Undetermined → (d : Diagnostic) → faults ≡ d ∷ [] → GivesNone division source text s t d → IsToken source text s all t b
+    none_told true h e d r x = absurd (let z : Undetermined ≡ RAngle = sym e ∙ h.0 refl in cc)
+    none_told false h e d r x = nothing before e (q ∙ ap (λ v. before ++ v) r) x
 
-    go : (r : Bool) → same_kind Undetermined t.kind ≡ r → elim r as (λ _. Type 0) [ true ↦ (d : Diagnostic) × (faults ≡ d ∷ []) × GivesNone division source text s t d | false ↦ (faults ≡ []) × GivesLexeme division cut text s t ] → IsToken source text s t b
-    go true e x = none_told b h (sym (kind_of_same Undetermined t.kind e)) x.0 x.2
-    go false e x = told b h x.1
+    go : (r : Bool) → same_kind Undetermined t.kind ≡ r → elim r as (λ _. Type 0) [ true ↦ (d : Diagnostic) × (faults ≡ d ∷ []) × GivesNone division source text s t d | false ↦ (faults ≡ []) × GivesLexeme division cut text s t ] → IsToken source text s all t b
+    go true e x = none_told b h (sym (kind_of_same Undetermined t.kind e)) x.0 x.1 x.2
+    go false e x = told b h e x.1
 
 -- a lexeme that isn't the end has some bytes
 empty_is_end : (g : LexicalGoal) (rest : List ℕ) (k : Kind) → kind_in g [] rest ≡ Some k → k ≡ Eof
@@ -121,7 +128,7 @@ module _ {p : Parser} {l : State} {t : Token} {b : Bool} {e : ℕ} where
       reads_for = g.same.goal ∙ a.reads_for;
       reached = reached;
       between = subst (λ v. IsCharBoundary p.text v) (sym q) a.lies.ends_whole;
-      token = at_place (λ v x s. IsToken v x s t b) (token_given g.faults b i g.outcome);
+      token = at_place (λ v x s. IsToken v x s l.kept.errors t b) (token_given g.faults (p.lexer.kept.errors ++ each_at (html_fault_at (in_a_module p.lexer.goal)) p.lexer.place g.pieces) b i (g.grows.faults_grow ∙ sym (joined_lists p.lexer.kept.errors (each_at (html_fault_at (in_a_module p.lexer.goal)) p.lexer.place g.pieces) g.faults)) g.outcome);
       lies = subst (λ v. LiesIn t.span v) a.reads g.lies;
       last = g.place;
       marked = a.marked;
@@ -171,34 +178,34 @@ sign_given {p} a e = go p.cut a.token e
       tells = x.tells;
     }
 
-    go : (b : Bool) → IsToken (goal p) p.text p.prev_token_end p.token b → b ≡ true → WasGiven p.lexer p.token
+    go : (b : Bool) → IsToken (goal p) p.text p.prev_token_end p.lexer.kept.errors p.token b → b ≡ true → WasGiven p.lexer p.token
     go false x q = absurd (false≢true q)
     go true (sign k x) q = given x
 
 -- what is given in its place, where no fault comes with it, is the whole of a lexeme
-whole_again : (source : Goal) {text : List ℕ} {s : ℕ} {t : Token} → Outcome division (λ z. z) source text s t [] [] → GivesLexeme division (λ z. z) text s t
-whole_again source {text} {s} {t} o = go (same_kind Undetermined t.kind) o
+whole_again : (source : Goal) {text : List ℕ} {s : ℕ} {t : Token} → Outcome division (λ z. z) source text s t [] [] → (t.kind ≡ Undetermined → ⊥) × GivesLexeme division (λ z. z) text s t
+whole_again source {text} {s} {t} o = go (same_kind Undetermined t.kind) refl o
   where
-    go : (r : Bool) → elim r as (λ _. Type 0) [ true ↦ (d : Diagnostic) × ([] ≡ d ∷ []) × GivesNone division source text s t d | false ↦ (◌≡◌ {A = List Diagnostic} [] []) × GivesLexeme division (λ z. z) text s t ] → GivesLexeme division (λ z. z) text s t
-    go true x = absurd (let e = x.1 in cc)
-    go false x = x.1
+    go : (r : Bool) → same_kind Undetermined t.kind ≡ r → elim r as (λ _. Type 0) [ true ↦ (d : Diagnostic) × ([] ≡ d ∷ []) × GivesNone division source text s t d | false ↦ (◌≡◌ {A = List Diagnostic} [] []) × GivesLexeme division (λ z. z) text s t ] → (t.kind ≡ Undetermined → ⊥) × GivesLexeme division (λ z. z) text s t
+    go true q x = absurd (let e = x.1 in cc)
+    go false q x = (same_is t.kind q, x.1)
 
 is_whole_of : {p : Parser} {g : LexicalGoal} → GivesLexeme g (λ z. z) p.text p.prev_token_end p.token → IsWhole p
 is_whole_of x = record { lexeme = x.lexeme; stood = x.stands.lex; tells = x.tells }
 
 completed : {p : Parser} {l : State} {t : Token} → IsAt p → p.cut ≡ true → GivesAgain division p.lexer l p.token t [] [] → Told p (record p { lexer = l; token = t; cut = false })
-completed {p} {l} {t} a e g = record { completed = inr (e, record { going_on = []; faults = []; again = g; place = refl; stays = stays g.same; at = at }); at = at; whole = λ n. is_whole_of given }
+completed {p} {l} {t} a e g = record { completed = inr (e, record { going_on = []; faults = []; again = g; place = refl; stays = stays g.same; at = at }); at = at; whole = λ n. is_whole_of given.1 }
   where
     w : WasGiven p.lexer p.token
     w = sign_given a e
 
-    by : (b : Bool) → IsToken (goal p) p.text p.prev_token_end p.token b → b ≡ true → GivesLexeme division (λ z. z) p.text p.prev_token_end t
+    by : (b : Bool) → IsToken (goal p) p.text p.prev_token_end p.lexer.kept.errors p.token b → b ≡ true → (t.kind ≡ Undetermined → ⊥) × GivesLexeme division (λ z. z) p.text p.prev_token_end t
     by false x q = absurd (false≢true q)
     by true (sign k x) q =
         let h = g.outcome p.prev_token_end x.lexeme (subst (λ v. IsCharBoundary v p.prev_token_end) (sym a.reads) a.between) (subst (λ v. LexemeBehind division v p.prev_token_end x.lexeme) (sym a.reads) x.stands) x.tells in
-        subst (λ v. GivesLexeme division (λ z. z) v p.prev_token_end t) a.reads (whole_again p.lexer.goal h)
+        let z = whole_again p.lexer.goal h in (z.0, subst (λ v. GivesLexeme division (λ z. z) v p.prev_token_end t) a.reads z.1)
 
-    given : GivesLexeme division (λ z. z) p.text p.prev_token_end t
+    given : (t.kind ≡ Undetermined → ⊥) × GivesLexeme division (λ z. z) p.text p.prev_token_end t
     given = by p.cut a.token e
 
     at : IsAt (record p { lexer = l; token = t; cut = false })
@@ -207,7 +214,7 @@ completed {p} {l} {t} a e g = record { completed = inr (e, record { going_on = [
       reads_for = g.same.goal ∙ a.reads_for;
       reached = a.reached;
       between = a.between;
-      token = whole given;
+      token = whole given.0 given.1;
       lies = subst (λ v. LiesIn t.span v) a.reads g.lies;
       last = g.place;
       marked = a.marked;
@@ -224,15 +231,15 @@ sign_given_seen v a e = sign_given (subst IsAt (sym v) a) e
 pub whole_already : {p q : Parser} → p ≡ q → IsAt q → p.cut ≡ false → Told q q
 whole_already {p} {q} v a e = record { completed = inl (sym (ap (λ r. r.cut) v) ∙ e, refl); at = a; whole = λ n. go q.cut a.token (sym (ap (λ r. r.cut) v) ∙ e) n }
   where
-    go : (b : Bool) → IsToken (goal q) q.text q.prev_token_end q.token b → b ≡ false → (q.token.kind ≡ Undetermined → ⊥) → IsWhole q
+    go : (b : Bool) → IsToken (goal q) q.text q.prev_token_end q.lexer.kept.errors q.token b → b ≡ false → (q.token.kind ≡ Undetermined → ⊥) → IsWhole q
     go true x z n = absurd (false≢true (sym z))
-    go false (whole x) z n = is_whole_of x
-    go false (nothing k x) z n = absurd (n k)
+    go false (whole u x) z n = is_whole_of x
+    go false (nothing bs k r x) z n = absurd (n k)
 
 pub sign_is : {p q : Parser} → p ≡ q → IsAt q → p.cut ≡ true → p.token.kind ≡ RAngle
 sign_is {p} {q} v a e = ap (λ r. r.token.kind) v ∙ go q.cut a.token (sym (ap (λ r. r.cut) v) ∙ e)
   where
-    go : (b : Bool) → IsToken (goal q) q.text q.prev_token_end q.token b → b ≡ true → q.token.kind ≡ RAngle
+    go : (b : Bool) → IsToken (goal q) q.text q.prev_token_end q.lexer.kept.errors q.token b → b ≡ true → q.token.kind ≡ RAngle
     go true (sign k x) z = k
     go false x z = absurd (false≢true z)
 

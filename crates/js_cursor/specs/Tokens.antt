@@ -11,4 +11,4 @@ use Rattle.js_lex.specs.Reading.{cut, GivesLexeme, GivesNone}
 pub data IsToken (source : Goal) (text : List ℕ) (s : ℕ) (faults : List Diagnostic) (t : Token) : Bool → Type 0 where
   whole : {goal : LexicalGoal} → (t.kind ≡ Undetermined → ⊥) → GivesLexeme goal (λ y. y) text s t → IsToken source text s faults t false
   sign : t.kind ≡ RAngle → GivesLexeme division cut text s t → IsToken source text s faults t true
-  nothing : {goal : LexicalGoal} {before : List Diagnostic} {d : Diagnostic} → t.kind ≡ Undetermined → faults ≡ before ++ d ∷ [] → GivesNone goal source text s t d → IsToken source text s faults t false
+  nothing : {goal : LexicalGoal} {d : Diagnostic} (before : List Diagnostic) → t.kind ≡ Undetermined → faults ≡ before ++ d ∷ [] → GivesNone goal source text s t d → IsToken source text s faults t false
