@@ -1,3 +1,6 @@
 mod Moving
 mod Keeping
 mod KindTests
+mod Standing
+mod Rereading
+mod Starting

@@ -2,3 +2,4 @@ pub mod Parsers
 pub mod Tokens
 pub mod Places
 pub mod Moves
+pub mod Starts

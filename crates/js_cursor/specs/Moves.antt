@@ -1,5 +1,5 @@
 -- What the moves over lexemes do (ECMA-262, chapter 12; 12.10 for omitted semicolons).
-use Rattle.std.specs.Prelude.{ℕ, ◌≡◌, ◌⊎◌, Bool, true, false, not, ◌&&◌, ◌||◌, List, [], ◌∷◌, ◌++◌, Option, Some, None, Result, Ok, Err}
+use Rattle.std.specs.Prelude.{ℕ, ◌≡◌, ◌≤◌, ◌⊎◌, Bool, true, false, not, ◌&&◌, ◌||◌, List, [], ◌∷◌, ◌++◌, Option, Some, None, Result, Ok, Err}
 use Rattle.js_base.specs.declared.diagnostic.Diagnostic.{Diagnostic}
 use Rattle.js_base.specs.declared.diagnostic.DiagnosticKind.{DiagnosticKind}
 use Rattle.js_base.specs.declared.kind.Kind.{Kind}
@@ -8,17 +8,18 @@ use Rattle.js_base.specs.declared.span.Span.{Span}
 use Rattle.js_base.specs.declared.token.Token.{Token}
 use Rattle.js_base.specs.Kinds.{same_kind}
 use Rattle.js_grammar.specs.Grammar.{Lexeme}
-use Rattle.js_grammar.specs.Lexemes.{LexicalGoal, division}
+use Rattle.js_grammar.specs.Lexemes.{LexicalGoal, division, regular_expression}
 use Rattle.js_grammar.specs.Lexed.{Lex, all_faults}
-use Rattle.js_lex.specs.Reading.{Tells, GivesNext, GivesAgain}
-use Rattle.js_lex.specs.States.{SameText}
+use Rattle.js_lex.specs.Reading.{Tells, GivesNext, GivesAgain, FlagsStand}
+use Rattle.js_lex.specs.States.{State, SameText}
 use Rattle.js_cursor.specs.declared.stop.Stop.{Stop}
 use Rattle.js_cursor.specs.declared.stop.Stop.TheVariants.{Fatal, NoMemory}
 use Rattle.js_cursor.specs.declared.stop.ListStep.{ListStep}
 use Rattle.js_cursor.specs.declared.stop.ListStep.TheVariants.{Element, End, EndAfterComma}
 use Rattle.js_base.specs.declared.diagnostic.DiagnosticKind.TheVariants.{ExpectToken, ExpectClosingOrSeparator}
 use Rattle.js_cursor.specs.Parsers.{Parser}
-use Rattle.js_cursor.specs.Places.{IsAt}
+use Rattle.js_grammar.specs.Marks.{LexemeAt, any_lexeme, opens, StandsAt}
+use Rattle.js_cursor.specs.Places.{IsAt, goal}
 
 -- All but the place and the lexer stays.
 pub record Stays (old new : Parser) : Type 0 where
@@ -56,6 +57,17 @@ pub record ReadAgain (goal : LexicalGoal) (old new : Parser) : Type 0 where
   pub place : new.prev_token_end ≡ old.prev_token_end
   pub stays : Stays old new
   pub at : IsAt new
+
+-- a regular expression was read, whose pattern ends there (12.9.5)
+pub record IsRegularExpression (end : ℕ) (old new : Parser) : Type 0 where
+  pub read : ReadAgain regular_expression old new
+  pub flags : FlagsStand old.text end new.token read.going_on
+
+-- what the lexer would give next, and nothing else
+pub record Peeks (p : Parser) (t : Token) : Type 0 where
+  pub after : State
+  pub next : GivesNext division p.lexer after t
+  pub only : (other : State) (u : Token) → GivesNext division p.lexer other u → u ≡ t
 
 -- a sign that begins with `>` is told whole now
 abbrev pub Completed : Parser → Parser → Type 0
@@ -99,24 +111,39 @@ abbrev pub OnlyMemory : Stop → Type 0
 OnlyMemory Fatal = ⊥
 OnlyMemory NoMemory = Unit {0}
 
--- a diagnostic of this kind at the current lexeme
+-- The span of what stands here: of the current lexeme; and where none stands, of the fault, which was kept last.
+pub data StandsHere (p : Parser) (s : Span) : Type 0 where
+  at_lexeme : (p.token.kind ≡ Undetermined → ⊥) → s ≡ p.token.span → StandsHere p s
+  at_fault : (before : List Diagnostic) (fault : Diagnostic) → p.token.kind ≡ Undetermined → p.lexer.kept.errors ≡ before ++ fault ∷ [] → s ≡ fault.span → StandsHere p s
+
+-- a diagnostic of this kind of what stands here
 pub record IsHere (k : DiagnosticKind) (p : Parser) (first : Option Span) (d : Diagnostic) : Type 0 where
   pub kind : d.kind ≡ k
-  pub span : d.span ≡ p.token.span
+  pub span : StandsHere p d.span
   pub is_first : d.first ≡ first
   pub no_second : d.second ≡ None
+
+-- This kind of diagnostic, with this related place, may be told of whatever lexeme stands behind the place of p.
+abbrev pub MayTell : DiagnosticKind → Parser → Option Span → Type 0
+MayTell k p first = (s : Span) → LexemeAt any_lexeme (goal p) p.text s → p.prev_token_end ≤ s.start → StandsAt k (goal p) p.text s first None
+
+-- a bracket was opened there, before the current lexeme
+pub record Opened (p : Parser) (opening : Span) : Type 0 where
+  pub bracket : LexemeAt opens (goal p) p.text opening
+  pub before : opening.end ≤ p.prev_token_end
 
 -- A lexeme of a kind is due: it was passed; or it doesn't stand here, and that was kept.
 abbrev pub Expects : (Parser → Type 0) → DiagnosticKind → Option Span → Parser → Parser → Result (Unit {0}) Stop → Type 0
 Expects Is k first old new (Ok x) = Is old × MovesOn old new
-Expects Is k first old new (Err e) = ((e ≡ Fatal → Is old → ⊥)) × GivesUp (IsHere k old first) old new e
+Expects Is k first old new (Err e) = (e ≡ Fatal → Is old → ⊥) × GivesUp (IsHere k old first) old new e
 
--- a semicolon may end a statement here (12.10)
-pub data MayEnd (p : Parser) : Type 0 where
-  at_semicolon : p.token.kind ≡ Semicolon → MayEnd p
-  at_brace : p.token.kind ≡ RCurly → MayEnd p
-  at_end : p.token.kind ≡ Eof → MayEnd p
-  on_new_line : p.token.is_on_new_line ≡ true → MayEnd p
+-- a semicolon, or a lexeme before which one may be left out wherever it stands (12.10)
+abbrev pub ends_statement : Kind → Bool
+ends_statement k = same_kind Semicolon k || (same_kind RCurly k || same_kind Eof k)
+
+-- a statement may end here: a semicolon stands here, or may be left out
+abbrev pub MayEnd : Parser → Type 0
+MayEnd p = (ends_statement p.token.kind ≡ true) ⊎ (p.token.is_on_new_line ≡ true)
 
 -- A semicolon was passed, or left out.
 abbrev pub Ends : Parser → Parser → Type 0

@@ -1,7 +1,7 @@
 //! Tests of kinds.
 
 ghost use Rattle.std.specs.Prelude.{◌≡◌, ◌↔◌, IsTrue};
-ghost use Rattle.js_cursor.specs.Moves.{is_last};
+ghost use Rattle.js_cursor.specs.Moves.{is_last, ends_statement};
 
 use js_base::Kind;
 
@@ -18,6 +18,16 @@ pub(crate) fn is_last(kind: Kind) -> bool
 {
     match kind {
         Kind::Eof | Kind::Undetermined => true,
+        _ => false,
+    }
+}
+
+/// Whether a semicolon stands here, or may be left out without a new line.
+pub(crate) fn ends_statement(kind: Kind) -> bool
+    ensures { result ≡ ends_statement kind }
+{
+    match kind {
+        Kind::Semicolon | Kind::RCurly | Kind::Eof => true,
         _ => false,
     }
 }

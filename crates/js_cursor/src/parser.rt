@@ -1,13 +1,17 @@
 //! The parser's state.
 
-ghost use Rattle.std.specs.Prelude.{◌≡◌, ◌≢◌, ◌≤◌, ◌↔◌, IsTrue, IfOk, MatchResult};
+ghost use Rattle.std.specs.Prelude.{◌≡◌, length, ◌≢◌, ◌≤◌, ◌⊎◌, ◌↔◌, IsTrue, IfOk, MatchResult};
 ghost use Rattle.js_base.specs.declared.kind.Kind.TheVariants.{RAngle, RCurly, Slash, SlashEq, Eof, Undetermined};
+ghost use Rattle.js_grammar.specs.Lexemes.{template_tail};
+ghost use Rattle.js_base.specs.Sources.{is_goal};
+ghost use Rattle.js_base.specs.declared.source_type.Goal.TheVariants.{Unambiguous};
+ghost use Rattle.js_cursor.specs.Starts.{AtStart, Starts};
 ghost use Rattle.js_cursor.specs.Places.{IsAt};
-ghost use Rattle.js_cursor.specs.Moves.{IsWhole, Passed, Completed, Told, MovesOn, OnlyMemory};
+ghost use Rattle.js_cursor.specs.Moves.{IsWhole, Passed, Completed, ReadAgain, IsRegularExpression, Peeks, Told, MovesOn, OnlyMemory};
 
 use crate::kinds::{is_kind, is_last};
 use crate::stop::Stop;
-use js_base::{Context, Diagnostics, Kind, NoMemory, ParseOptions, SourceType, Span, Token};
+use js_base::{Context, Diagnostics, Kind, MAX_LEN, NoMemory, ParseOptions, SourceType, Span, Token};
 use js_lex::{Lexer, ParserConfig};
 use js_record::ModuleRecordBuilder;
 use js_tree::ParserAstBuilder;
@@ -49,7 +53,54 @@ impl<'a, C: ParserConfig> Model for ParserImpl<'a, C> {
     ghost view = { λ p. record { text = p.source_text.now; source_type = p.source_type; options = p.options; lexer = p.lexer; token = p.token; cut = p.cut; prev_token_end = p.prev_token_end; nodes = p.ast; visits = p.module_record_builder; ctx = p.ctx; errors = p.errors; depth = p.depth } };
 }
 
+/// How deep productions may be nested.
+const MAX_DEPTH: u32 = 2000;
+
+/// The parameters in force where a text begins.
+fn context_at_start(source_type: SourceType, options: ParseOptions) -> Context
+    ensures { AtStart source_type options result }
+{
+    let is_body = source_type.is_commonjs();
+    Context::default()
+        .and_await(source_type.is_module())
+        .and_return(is_body || options.allow_return_outside_function)
+        .and_new_target(is_body)
+}
+
 impl<'a, C: ParserConfig> ParserImpl<'a, C> {
+    /// A parser at the start of a text, which has at most `MAX_LEN` bytes and is read for a named goal. What the lexer's
+    /// `first_token` gives is the current lexeme.
+    pub fn new(
+        alloc: Global,
+        source_text: &'a str,
+        source_type: SourceType,
+        options: ParseOptions,
+        config: C,
+    ) -> Result<Self, NoMemory>
+        requires short { length source_text.now ≤ MAX_LEN }
+        requires named { is_goal source_type ≢ Unambiguous }
+        ensures { IfOk result (λ p. Starts source_text.now source_type options (C.asks_for_tokens config) p) }
+    {
+        let mut lexer = Lexer::new(alloc, source_text, source_type, config.lexer_config());
+        let token = lexer.first_token()?;
+        let ast = ParserAstBuilder::new(alloc)?;
+        Ok(ParserImpl {
+            alloc,
+            source_text,
+            source_type,
+            options,
+            lexer,
+            ast,
+            module_record_builder: ModuleRecordBuilder::new(alloc, source_type),
+            ctx: context_at_start(source_type, options),
+            errors: Diagnostics::new(alloc),
+            token,
+            cut: is_kind(token.kind(), Kind::RAngle),
+            prev_token_end: 0,
+            depth: MAX_DEPTH,
+        })
+    }
+
     /// The current lexeme.
     pub fn cur_token(&self) -> Token
         ensures { result ≡ self.now.token }
@@ -141,6 +192,40 @@ impl<'a, C: ParserConfig> ParserImpl<'a, C> {
             return Ok(());
         }
         self.pass()?;
+        Ok(())
+    }
+
+    /// What stands behind the current token, as the lexer's `peek_token` gives it; behind a `>` that begins a longer
+    /// punctuator, what stands behind this sign. Nothing moves, and nothing is kept. Never `Fatal`.
+    pub fn peek_token(&mut self) -> Result<Token, Stop>
+        requires { IsAt self.old }
+        ensures answer { MatchResult result (λ t. Peeks self.old t) OnlyMemory }
+        ensures same { self.new ≡ self.old }
+    {
+        Ok(self.lexer.peek_token()?)
+    }
+
+    /// Reads the current slash or `/=` as a regular expression, whose token becomes the current one. The answer is the
+    /// place at which its pattern ends, the one behind the second slash; where none stands, the token is undetermined,
+    /// and the answer is its end. Never `Fatal`.
+    pub fn re_lex_regex(&mut self) -> Result<u32, Stop>
+        requires at { IsAt self.old }
+        requires kind { (self.old.token.kind ≡ Slash) ⊎ (self.old.token.kind ≡ SlashEq) }
+        ensures { MatchResult result (λ end. IsRegularExpression end self.old self.new) OnlyMemory }
+    {
+        let (token, pattern_end) = self.lexer.re_lex_regex(self.token)?;
+        self.token = token;
+        Ok(pattern_end)
+    }
+
+    /// Reads the current `}` as the beginning of a template part, whose token becomes the current one; where none
+    /// stands, it is undetermined. Never `Fatal`.
+    pub fn re_lex_template_tail(&mut self) -> Result<(), Stop>
+        requires at { IsAt self.old }
+        requires kind { self.old.token.kind ≡ RCurly }
+        ensures { MatchResult result (λ _. ReadAgain template_tail self.old self.new) OnlyMemory }
+    {
+        self.token = self.lexer.re_lex_template_tail(self.token)?;
         Ok(())
     }
 }
