@@ -4,3 +4,4 @@ mod KindTests
 mod Standing
 mod Rereading
 mod Starting
+mod Firsts

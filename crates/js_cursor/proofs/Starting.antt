@@ -39,14 +39,14 @@ commonjs_same s b h = go s.goal b h
 pub at_start : {s : SourceType} {o : ParseOptions} {none one two three : Context} (in_module body returns : Bool) → none.0 ≡ 1 → IsTrue in_module ↔ (s.goal ≡ source.Module) → IsTrue body ↔ (s.goal ≡ source.CommonJs) → returns ≡ (body || o.allow_return_outside_function)
     → SetsFlag await_flag in_module none one → SetsFlag return_flag returns one two → SetsFlag new_target_flag body two three → AtStart s o three
 at_start {s} {o} {none} {one} {two} {three} in_module body returns z m b r x y w = record {
-  in_ = other 0 cc cc cc;
-  yield = other 1 cc cc cc;
-  await = w.others 2 cc ∙ y.others 2 cc ∙ x.flag ∙ module_same s in_module m;
-  return = w.others 3 cc ∙ y.flag ∙ r ∙ ap (λ (v : Bool). v || o.allow_return_outside_function) (commonjs_same s body b);
-  decorator = other 4 cc cc cc;
-  disallow_conditional_types = other 5 cc cc cc;
-  ambient = other 6 cc cc cc;
-  top_level = other 7 cc cc cc;
+  in_ = other 0 (omega arith) (omega arith) (omega arith);
+  yield = other 1 (omega arith) (omega arith) (omega arith);
+  await = w.others 2 (omega arith) ∙ y.others 2 (omega arith) ∙ x.flag ∙ module_same s in_module m;
+  return = w.others 3 (omega arith) ∙ y.flag ∙ r ∙ ap (λ (v : Bool). v || o.allow_return_outside_function) (commonjs_same s body b);
+  decorator = other 4 (omega arith) (omega arith) (omega arith);
+  disallow_conditional_types = other 5 (omega arith) (omega arith) (omega arith);
+  ambient = other 6 (omega arith) (omega arith) (omega arith);
+  top_level = other 7 (omega arith) (omega arith) (omega arith);
   new_target = w.flag ∙ commonjs_same s body b;
 }
   where
