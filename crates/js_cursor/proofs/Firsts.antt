@@ -168,9 +168,9 @@ module _ {first l : State} {t : Token} {b : Bool} where
   first_token i n z (inl h) = hashbang_first i n h
   first_token i n z (inr h) = next_first i n z h.0 h.1
 
-module _ {source : List ℕ} {read_as : SourceType} {asked : ParseOptions} {first l : State} {t : Token} {b : Bool} {ctx : Context} {depth : ℕ} where
+module _ {source : List ℕ} {read_as : SourceType} {asked : ParseOptions} {first l : State} {t : Token} {b : Bool} {ctx : Context} where
   pub starts_at : {asks : Bool} {nodes : List Node} {visits : List Visit} {errors : List Diagnostic} → IsUtf8 source → first.text ≡ source → first.goal ≡ goal_of read_as → first.keeps_tokens ≡ asks → first.place ≡ 0 → IsEmpty first.kept → GivesFirst first l t → (IsTrue b ↔ (t.kind ≡ RAngle)) → nodes ≡ empty_program ∷ [] → visits ≡ [] → AtStart read_as asked ctx → errors ≡ []
-      → Starts source read_as asked asks (record { text = source; source_type = read_as; options = asked; lexer = l; token = t; cut = b; prev_token_end = 0; nodes = nodes; visits = visits; ctx = ctx; errors = errors; depth = depth })
+      → Starts source read_as asked asks (record { text = source; source_type = read_as; options = asked; lexer = l; token = t; cut = b; prev_token_end = 0; nodes = nodes; visits = visits; ctx = ctx; errors = errors; depth = 0 })
   starts_at {asks} {nodes} {visits} {errors} u text as_goal keeps z n g i ns vs c es = record {
     text = refl;
     source_type = refl;
@@ -187,6 +187,7 @@ module _ {source : List ℕ} {read_as : SourceType} {asked : ParseOptions} {firs
     visits = vs;
     ctx = c;
     errors = es;
+    depth = refl;
     at = record {
       reads = f.text ∙ text;
       reads_for = f.read_for ∙ as_goal;

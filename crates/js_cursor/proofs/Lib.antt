@@ -5,3 +5,4 @@ mod Standing
 mod Rereading
 mod Starting
 mod Firsts
+mod Returning

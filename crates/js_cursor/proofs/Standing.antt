@@ -25,7 +25,7 @@ use Rattle.js_lex.proofs.Again.{cut_same}
 use Rattle.js_cursor.specs.Parsers.{Parser}
 use Rattle.js_cursor.specs.Tokens.{IsToken, whole, sign, nothing}
 use Rattle.js_cursor.specs.Places.{IsAt, IsFault, goal}
-use Rattle.js_cursor.specs.Moves.{StandsHere, at_lexeme, at_fault, IsHere, MayTell, Keeps, GivesUp}
+use Rattle.js_cursor.specs.Moves.{StandsHere, at_lexeme, at_fault, IsHere, IsUnexpected, a_fault as of_fault, a_lexeme as of_lexeme, MayTell, Keeps, GivesUp}
 use Rattle.js_cursor.specs.declared.stop.Stop.{Stop}
 use Rattle.js_cursor.specs.declared.stop.Stop.TheVariants.{Fatal, NoMemory}
 
@@ -179,3 +179,56 @@ mark_here {p} k s first a h m =
 pub gave_up : {p : Parser} (q : Parser) (k : DiagnosticKind) (s : Span) (first : Option Span) (e : Stop) → StandsHere p s → GivesUp (λ d. d ≡ record { kind = k; span = s; first = first; second = None }) p q e → GivesUp (IsHere k p first) p q e
 gave_up {p} q k s first Fatal h (d, e, x) = (d, record { kind = ap (λ (z : Diagnostic). z.kind) e; span = subst (StandsHere p) (sym (ap (λ (z : Diagnostic). z.span) e)) h; is_first = ap (λ (z : Diagnostic). z.first) e; no_second = ap (λ (z : Diagnostic). z.second) e }, x)
 gave_up q k s first NoMemory h x = x
+
+-- ---- what can't stand here
+
+fault_stands : (k : DiagnosticKind) (source : Goal) (text : List ℕ) (i : ℕ) (s : Span) (first second : Option Span) → Stopping k text i s.start s.end → Faulty k source text s.start s.end → first ≡ None → second ≡ None → StandsAt k source text s first second
+fault_stands fault.InvalidCharacter source text i s first second h f n m = (f, (n, m))
+fault_stands fault.BinaryFile source text i s first second h f n m = (f, (n, m))
+fault_stands fault.UnterminatedString source text i s first second h f n m = (f, (n, m))
+fault_stands fault.UnterminatedTemplate source text i s first second h f n m = (f, (n, m))
+fault_stands fault.UnterminatedRegexp source text i s first second h f n m = (f, (n, m))
+fault_stands fault.UnterminatedComment source text i s first second h f n m = (f, (n, m))
+fault_stands fault.InvalidEscape source text i s first second h f n m = (f, (n, m))
+fault_stands fault.InvalidNumber source text i s first second h f n m = (f, (n, m))
+fault_stands _ source text i s first second h f n m = absurd h
+
+fault_mark : {p : Parser} → IsAt p → (f : LastFault p) → Mark (goal p) p.text f.fault
+fault_mark {p} a f =
+    let x : IsFault (goal p) p.text f.fault = All-last (IsFault (goal p) p.text) f.before f.fault f.is_last a.faulty in
+    record {
+      ordered = let o = x.faulty.ordered in omega arith;
+      within = x.faulty.ends_between.0;
+      begins_between = x.faulty.begins_between;
+      ends_between = x.faulty.ends_between;
+      stands = fault_stands f.fault.kind (goal p) p.text p.token.span.start f.fault.span f.fault.first f.fault.second f.none.stops (faulty x) f.none.no_first f.none.no_second;
+    }
+
+diagnostic_same : (d : Diagnostic) {k : DiagnosticKind} {first second : Option Span} → d.kind ≡ k → d.first ≡ first → d.second ≡ second → d ≡ record { kind = k; span = d.span; first = first; second = second }
+diagnostic_same d a b c = λ i. record { kind = a i; span = d.span; first = b i; second = c i }
+
+pub unexpected_mark : {p : Parser} {d : Diagnostic} → IsAt p → IsUnexpected p d → Mark (goal p) p.text d
+unexpected_mark {p} {d} a (of_fault before u r) =
+    let f = last_fault a u in
+    let one : slice_get p.lexer.kept.errors (length p.lexer.kept.errors - 1) ≡ Some f.fault = last_is f.before f.fault f.is_last in
+    let two : slice_get p.lexer.kept.errors (length p.lexer.kept.errors - 1) ≡ Some d = last_is before d r in
+    let same : f.fault ≡ d = cc in
+    subst (Mark (goal p) p.text) same (fault_mark a f)
+unexpected_mark {p} {d} a (of_lexeme n h) =
+    let same : d ≡ record { kind = fault.UnexpectedToken; span = d.span; first = None; second = None } = diagnostic_same d h.kind h.is_first h.no_second in
+    subst (Mark (goal p) p.text) (sym same) (mark_here fault.UnexpectedToken d.span None a h.span (λ s x b. (x, (refl, refl))))
+
+pub fault_unexpected : {p q : Parser} → p ≡ q → IsAt q → q.token.kind ≡ Undetermined → (d : Diagnostic) → Some d ≡ slice_get p.lexer.kept.errors (length p.lexer.kept.errors - 1) → IsUnexpected q d
+fault_unexpected {p} {q} v a u d e =
+    let f = last_fault a u in
+    let l : slice_get q.lexer.kept.errors (length q.lexer.kept.errors - 1) ≡ Some f.fault = last_is f.before f.fault f.is_last in
+    let k : Some d ≡ slice_get q.lexer.kept.errors (length q.lexer.kept.errors - 1) = subst (λ (r : Parser). Some d ≡ slice_get r.lexer.kept.errors (length r.lexer.kept.errors - 1)) v e in
+    let s : f.fault ≡ d = cc in
+    subst (IsUnexpected q) s (of_fault f.before u f.is_last)
+
+pub lexeme_unexpected : {q : Parser} (d : Diagnostic) (s : Span) → (q.token.kind ≡ Undetermined → ⊥) → s ≡ q.token.span → d ≡ record { kind = fault.UnexpectedToken; span = s; first = None; second = None } → IsUnexpected q d
+lexeme_unexpected {q} d s n e r = of_lexeme n (record { kind = ap (λ (z : Diagnostic). z.kind) r; span = at_lexeme n (ap (λ (z : Diagnostic). z.span) r ∙ e); is_first = ap (λ (z : Diagnostic). z.first) r; no_second = ap (λ (z : Diagnostic). z.second) r })
+
+pub unexpected_gave_up : {p : Parser} (q : Parser) {d : Diagnostic} (e : Stop) → IsUnexpected p d → GivesUp (λ x. x ≡ d) p q e → GivesUp (IsUnexpected p) p q e
+unexpected_gave_up {p} q {d} Fatal h (x, e, k) = (x, subst (IsUnexpected p) (sym e) h, k)
+unexpected_gave_up q NoMemory h x = x

@@ -3,3 +3,4 @@ pub mod Tokens
 pub mod Places
 pub mod Moves
 pub mod Starts
+pub mod Checkpoints

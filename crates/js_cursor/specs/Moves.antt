@@ -1,5 +1,5 @@
 -- What the moves over lexemes do (ECMA-262, chapter 12; 12.10 for omitted semicolons).
-use Rattle.std.specs.Prelude.{ℕ, ◌≡◌, ◌≤◌, ◌⊎◌, Bool, true, false, not, ◌&&◌, ◌||◌, List, [], ◌∷◌, ◌++◌, Option, Some, None, Result, Ok, Err}
+use Rattle.std.specs.Prelude.{ℕ, ◌+◌, ◌≡◌, ◌≤◌, ◌⊎◌, Bool, true, false, not, ◌&&◌, ◌||◌, List, [], ◌∷◌, ◌++◌, Option, Some, None, Result, Ok, Err}
 use Rattle.js_base.specs.declared.diagnostic.Diagnostic.{Diagnostic}
 use Rattle.js_base.specs.declared.diagnostic.DiagnosticKind.{DiagnosticKind}
 use Rattle.js_base.specs.declared.kind.Kind.{Kind}
@@ -16,7 +16,7 @@ use Rattle.js_cursor.specs.declared.stop.Stop.{Stop}
 use Rattle.js_cursor.specs.declared.stop.Stop.TheVariants.{Fatal, NoMemory}
 use Rattle.js_cursor.specs.declared.stop.ListStep.{ListStep}
 use Rattle.js_cursor.specs.declared.stop.ListStep.TheVariants.{Element, End, EndAfterComma}
-use Rattle.js_base.specs.declared.diagnostic.DiagnosticKind.TheVariants.{ExpectToken, ExpectClosingOrSeparator}
+use Rattle.js_base.specs.declared.diagnostic.DiagnosticKind.TheVariants.{UnexpectedToken, ExpectToken, ExpectClosingOrSeparator}
 use Rattle.js_cursor.specs.Parsers.{Parser}
 use Rattle.js_grammar.specs.Marks.{LexemeAt, any_lexeme, opens, StandsAt}
 use Rattle.js_cursor.specs.Places.{IsAt, goal}
@@ -122,6 +122,21 @@ pub record IsHere (k : DiagnosticKind) (p : Parser) (first : Option Span) (d : D
   pub span : StandsHere p d.span
   pub is_first : d.first ≡ first
   pub no_second : d.second ≡ None
+
+-- What is told of what can't stand here: the fault, where no lexeme does; else the lexeme.
+pub data IsUnexpected (p : Parser) (d : Diagnostic) : Type 0 where
+  a_fault : (before : List Diagnostic) → p.token.kind ≡ Undetermined → p.lexer.kept.errors ≡ before ++ d ∷ [] → IsUnexpected p d
+  a_lexeme : (p.token.kind ≡ Undetermined → ⊥) → IsHere UnexpectedToken p None d → IsUnexpected p d
+
+-- one level deeper, and one less deep; nothing else changes
+pub record Enters (old new : Parser) : Type 0 where
+  pub is : new ≡ record old { depth = old.depth + 1 }
+  pub at : IsAt new
+
+pub record Leaves (old new : Parser) : Type 0 where
+  pub depth : new.depth + 1 ≡ old.depth
+  pub is : new ≡ record old { depth = new.depth }
+  pub at : IsAt new
 
 -- This kind of diagnostic, with this related place, may be told of whatever lexeme stands behind the place of p.
 abbrev pub MayTell : DiagnosticKind → Parser → Option Span → Type 0

@@ -25,5 +25,5 @@ pub record Parser : Type 0 where
   -- the parameters that are in force
   pub ctx : Context
   pub errors : List Diagnostic
-  -- how much deeper productions may be nested
+  -- how deep the production that is read is nested
   pub depth : ℕ

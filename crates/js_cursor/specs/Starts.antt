@@ -30,7 +30,7 @@ pub record AtStart (source_type : SourceType) (options : ParseOptions) (c : Cont
   pub top_level : has_flag top_level_flag c ≡ false
   pub new_target : has_flag new_target_flag c ≡ is_commonjs source_type
 
--- A parser at the start of a text: its first token is the current lexeme, and beyond the node of Program nothing was made or kept. How deep productions may be nested is the crate's own.
+-- A parser at the start of a text: its first token is the current lexeme, and beyond the node of Program nothing was made or kept.
 pub record Starts (source : List ℕ) (read_as : SourceType) (asked : ParseOptions) (asks_for_tokens : Bool) (p : Parser) : Type 0 where
   pub text : p.text ≡ source
   pub source_type : p.source_type ≡ read_as
@@ -47,4 +47,5 @@ pub record Starts (source : List ℕ) (read_as : SourceType) (asked : ParseOptio
   pub visits : p.visits ≡ []
   pub ctx : AtStart read_as asked p.ctx
   pub errors : p.errors ≡ []
+  pub depth : p.depth ≡ 0
   pub at : IsAt p

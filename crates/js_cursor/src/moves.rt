@@ -1,16 +1,28 @@
 //! Moves over lexemes of a kind that is due.
 
 ghost use Rattle.std.specs.Prelude.{◌≡◌, ◌↔◌, Bool, IsTrue, None, Some, MatchResult, IfOk};
-ghost use Rattle.js_base.specs.declared.diagnostic.DiagnosticKind.TheVariants.{ExpectToken, ExpectClosing};
+ghost use Rattle.js_base.specs.declared.diagnostic.DiagnosticKind.TheVariants.{UnexpectedToken, ExpectToken, ExpectClosing};
 ghost use Rattle.js_grammar.specs.Marks.{Mark};
 ghost use Rattle.js_cursor.specs.Places.{IsAt, goal};
-ghost use Rattle.js_cursor.specs.Moves.{IsKind, Eats, Keeps, GivesUp, OnlyMemory, StandsHere, IsHere, MayTell, Opened, Expects, MayEnd, EndsOr, Steps};
+ghost use Rattle.js_cursor.specs.Moves.{IsKind, Eats, Keeps, GivesUp, OnlyMemory, StandsHere, IsHere, IsUnexpected, MayTell, Opened, Expects, MayEnd, EndsOr, Steps};
 
 use crate::kinds::{ends_statement, is_kind};
 use crate::parser::ParserImpl;
 use crate::stop::{ListStep, Stop};
 use js_base::{Diagnostic, DiagnosticKind, Kind, NoMemory, Span};
 use js_lex::ParserConfig;
+
+/// A lexeme that can't stand there.
+fn unexpected_token(span: Span) -> Diagnostic
+    ensures { result ≡ record { kind = UnexpectedToken; span = span; first = None; second = None } }
+{
+    Diagnostic {
+        kind: DiagnosticKind::UnexpectedToken,
+        span,
+        first: None,
+        second: None,
+    }
+}
 
 impl<'a, C: ParserConfig> ParserImpl<'a, C> {
     /// Whether the current lexeme is of this kind, and no word with an escape.
@@ -138,6 +150,30 @@ impl<'a, C: ParserConfig> ParserImpl<'a, C> {
             return Ok(());
         }
         Err(self.refuse(DiagnosticKind::ExpectToken, None))
+    }
+
+    /// Gives up with what is told of what can't stand here: a copy of the fault, where no lexeme stands; else
+    /// `UnexpectedToken` at the current lexeme.
+    pub fn set_unexpected(&mut self) -> Stop
+        requires { IsAt self.old }
+        ensures { GivesUp (IsUnexpected self.old) self.old self.new result }
+    {
+        let found = self.unexpected();
+        self.set_fatal_error(found)
+    }
+
+    /// What is told of what can't stand here.
+    fn unexpected(&self) -> Diagnostic
+        requires { IsAt self.now }
+        ensures { IsUnexpected self.now result }
+    {
+        if !self.at(Kind::Undetermined) {
+            return unexpected_token(self.cur_token().span());
+        }
+        match self.lexer.last_fault() {
+            Some(fault) => fault,
+            None => unexpected_token(self.cur_token().span()),
+        }
     }
 
     /// The span of what stands here.

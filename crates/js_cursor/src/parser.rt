@@ -1,13 +1,13 @@
 //! The parser's state.
 
-ghost use Rattle.std.specs.Prelude.{◌≡◌, length, ◌≢◌, ◌≤◌, ◌⊎◌, ◌↔◌, IsTrue, IfOk, MatchResult};
+ghost use Rattle.std.specs.Prelude.{◌≡◌, length, ◌≢◌, ◌≤◌, ◌⊎◌, ◌↔◌, IsTrue, IfOk, OnOk, OnErr, MatchResult, ◌+◌, ◌<◌};
 ghost use Rattle.js_base.specs.declared.kind.Kind.TheVariants.{RAngle, RCurly, Slash, SlashEq, Eof, Undetermined};
 ghost use Rattle.js_grammar.specs.Lexemes.{template_tail};
 ghost use Rattle.js_base.specs.Sources.{is_goal};
 ghost use Rattle.js_base.specs.declared.source_type.Goal.TheVariants.{Unambiguous};
 ghost use Rattle.js_cursor.specs.Starts.{AtStart, Starts};
 ghost use Rattle.js_cursor.specs.Places.{IsAt};
-ghost use Rattle.js_cursor.specs.Moves.{IsWhole, Passed, Completed, ReadAgain, IsRegularExpression, Peeks, Told, MovesOn, OnlyMemory};
+ghost use Rattle.js_cursor.specs.Moves.{IsWhole, Passed, Completed, ReadAgain, IsRegularExpression, Peeks, Told, MovesOn, OnlyMemory, Enters, Leaves};
 
 use crate::kinds::{is_kind, is_last};
 use crate::stop::Stop;
@@ -39,10 +39,23 @@ pub struct ParserImpl<'a, C: ParserConfig> {
     pub ctx: Context,
     /// What was found wrong.
     pub errors: Diagnostics,
-    token: Token,
-    cut: bool,
-    prev_token_end: u32,
-    depth: u32,
+    pub(crate) token: Token,
+    pub(crate) cut: bool,
+    pub(crate) prev_token_end: u32,
+    pub(crate) depth: u32,
+}
+
+/// What a parser has made and kept.
+#[derive(Drop)]
+pub struct ParserParts<'a, C: ParserConfig> {
+    /// The lexer.
+    pub lexer: Lexer<'a, C::LexerConfig>,
+    /// The nodes.
+    pub ast: ParserAstBuilder,
+    /// What the declarations of a module add to its record.
+    pub module_record_builder: ModuleRecordBuilder,
+    /// What was found wrong.
+    pub errors: Diagnostics,
 }
 
 impl<'a, C: ParserConfig> Model for ParserImpl<'a, C> {
@@ -53,8 +66,8 @@ impl<'a, C: ParserConfig> Model for ParserImpl<'a, C> {
     ghost view = { λ p. record { text = p.source_text.now; source_type = p.source_type; options = p.options; lexer = p.lexer; token = p.token; cut = p.cut; prev_token_end = p.prev_token_end; nodes = p.ast; visits = p.module_record_builder; ctx = p.ctx; errors = p.errors; depth = p.depth } };
 }
 
-/// How deep productions may be nested.
-const MAX_DEPTH: u32 = 2000;
+/// How deep productions may be nested: at this depth `enter` answers `NoMemory`, so that no text overflows the stack.
+pub const MAX_DEPTH: u32 = 2000;
 
 /// The parameters in force where a text begins.
 fn context_at_start(source_type: SourceType, options: ParseOptions) -> Context
@@ -97,7 +110,7 @@ impl<'a, C: ParserConfig> ParserImpl<'a, C> {
             token,
             cut: is_kind(token.kind(), Kind::RAngle),
             prev_token_end: 0,
-            depth: MAX_DEPTH,
+            depth: 0,
         })
     }
 
@@ -227,5 +240,42 @@ impl<'a, C: ParserConfig> ParserImpl<'a, C> {
     {
         self.token = self.lexer.re_lex_template_tail(self.token)?;
         Ok(())
+    }
+
+    /// Goes one production deeper. `NoMemory` exactly at the depth `MAX_DEPTH`, and all then stays.
+    pub fn enter(&mut self) -> Result<(), NoMemory>
+        requires { IsAt self.old }
+        ensures ok { OnOk result ((self.old.depth < MAX_DEPTH) × Enters self.old self.new) }
+        ensures err { OnErr result ((MAX_DEPTH ≤ self.old.depth) × (self.new ≡ self.old)) }
+    {
+        if self.depth >= MAX_DEPTH {
+            return Err(NoMemory);
+        }
+        self.depth += 1;
+        Ok(())
+    }
+
+    /// Comes back from a production that was entered.
+    pub fn leave(&mut self)
+        requires at { IsAt self.old }
+        requires entered { 0 < self.old.depth }
+        ensures { Leaves self.old self.new }
+    {
+        self.depth -= 1;
+    }
+
+    /// Takes the parser apart; it takes no memory.
+    pub fn into_parts(self) -> ParserParts<'a, C>
+        ensures lexer { result.lexer ≡ self.entry.lexer }
+        ensures ast { result.ast ≡ self.entry.nodes }
+        ensures visits { result.module_record_builder ≡ self.entry.visits }
+        ensures errors { result.errors ≡ self.entry.errors }
+    {
+        ParserParts {
+            lexer: self.lexer,
+            ast: self.ast,
+            module_record_builder: self.module_record_builder,
+            errors: self.errors,
+        }
     }
 }
