@@ -6,3 +6,4 @@ mod Rereading
 mod Starting
 mod Firsts
 mod Returning
+mod Later

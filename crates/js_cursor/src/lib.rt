@@ -10,3 +10,6 @@ mod stop;
 pub use checkpoint::ParserCheckpoint;
 pub use parser::{MAX_DEPTH, ParserImpl, ParserParts};
 pub use stop::{ListStep, Stop};
+
+#[cfg(test)]
+mod tests;

@@ -13,7 +13,7 @@ pub enum Stop {
 }
 
 /// What comes next in a list between brackets.
-#[derive(Debug, Drop)]
+#[derive(Debug, Clone, Copy, PartialEq, Eq)]
 pub enum ListStep {
     /// An item.
     Element,
