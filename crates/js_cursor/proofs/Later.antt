@@ -201,3 +201,9 @@ pub opened : {p q : Parser} → IsAt p → is_opening p.token.kind ≡ true → 
 opened {p} {q} a o (mid, inr c, h) = absurd (not_cut a o c.0)
 opened {p} {q} a o (mid, inl c, inl h) = absurd (open_not_last p.token.kind o (sym (ap (λ (r : Parser). is_last r.token.kind) c.1) ∙ h.0))
 opened {p} {q} a o (mid, inl c, inr h) = passed_opened a o (subst (λ (r : Parser). Passed r q) c.1 h.1)
+
+pub opened_at : {p q : Parser} {s : Span} → s ≡ p.token.span → IsAt p → p.token.kind ≡ LParen → MovesOn p q → Opened q s
+opened_at {p} {q} {s} e a k m = subst (Opened q) (sym e) (opened a (ap is_opening k) m)
+
+pub may_turn_back : {p here q : Parser} {c : ParserCheckpoint} → IsAt p → Remembers p c → here ≡ p → MovesOn here q → MayGoBack c q
+may_turn_back {p} {here} {q} {c} a r e m = may_go_back a r (subst (λ (x : Parser). Follows x q) e (moves_on_follow m))

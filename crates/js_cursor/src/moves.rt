@@ -105,7 +105,12 @@ impl<'a, C: ParserConfig> ParserImpl<'a, C> {
     /// this kind, which stays, behind a comma or not. A comma is passed. `Fatal` exactly where behind an item neither a
     /// comma nor the closing bracket stands, with the kind `ExpectClosingOrSeparator` and the opening bracket as the
     /// related place.
-    pub fn delimited_step(&mut self, close: Kind, opening: Span, first: bool) -> Result<ListStep, Stop>
+    pub fn delimited_step(
+        &mut self,
+        close: Kind,
+        opening: Span,
+        first: bool,
+    ) -> Result<ListStep, Stop>
         requires at { IsAt self.old }
         requires opened { Opened self.old opening }
         ensures { Steps close opening first self.old self.new result }
