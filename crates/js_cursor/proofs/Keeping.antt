@@ -1,0 +1,28 @@
+-- What holds when a diagnostic has been kept; what stands at the current lexeme.
+use Rattle.std.proofs.Common.{ℕ, ◌≡◌, ◌+◌, ◌≤◌, Bool, true, false, List, [], ◌∷◌, ◌++◌, refl, sym, ap, subst, ◌∙◌, inl, inr, ◌⊎◌}
+use Rattle.std.specs.List.{All}
+use Rattle.std.proofs.lemmas.List.Elements.{All-same, All-push}
+use Rattle.js_base.specs.declared.diagnostic.Diagnostic.{Diagnostic}
+use Rattle.js_grammar.specs.Marks.{Mark}
+use Rattle.js_cursor.specs.Parsers.{Parser}
+use Rattle.js_cursor.specs.Places.{IsAt, goal}
+use Rattle.js_cursor.specs.Moves.{Keeps}
+
+kept : {p : Parser} {d : Diagnostic} {ds : List Diagnostic} → IsAt p → Mark (goal p) p.text d → ds ≡ p.errors ++ d ∷ [] → Keeps d p (record p { errors = ds })
+kept {p} {d} {ds} a m e = record {
+  is = ap (λ v. record p { errors = v }) e;
+  at = record {
+    reads = a.reads;
+    reads_for = a.reads_for;
+    reached = a.reached;
+    between = a.between;
+    token = a.token;
+    lies = a.lies;
+    last = a.last;
+    marked = All-same (Mark (goal p) p.text) ds (p.errors ++ d ∷ []) e (All-push (Mark (goal p) p.text) p.errors d a.marked m);
+    faulty = a.faulty;
+  };
+}
+
+pub kept_seen : {p q : Parser} → p ≡ q → {d : Diagnostic} → IsAt q → Mark (goal q) q.text d → {ds : List Diagnostic} → ds ≡ p.errors ++ d ∷ [] → Keeps d q (record p { errors = ds })
+kept_seen {p} {q} v {d} a m {ds} e = subst (λ r. Keeps d r (record p { errors = ds })) v (kept (subst IsAt (sym v) a) (subst (λ r. Mark (goal r) r.text d) (sym v) m) e)

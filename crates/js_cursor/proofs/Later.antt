@@ -1,0 +1,209 @@
+-- Later places: what was kept is still there, so that the parser may go back; and a bracket that was passed was opened.
+use Rattle.std.proofs.Common.{ℕ, ◌+◌, ◌≡◌, ◌≤◌, ◌<◌, ◌⊎◌, inl, inr, Bool, true, false, List, [], ◌∷◌, ◌++◌, length, take, refl, sym, ap, subst, arith, ◌∙◌, length-append, append_assoc, append-nil, cond, ◌&&◌}
+use Rattle.std.specs.Prelude.{IsCharBoundary, IsTrue}
+use Rattle.std.proofs.Math.Seq.{take-append_seam}
+use Rattle.std.proofs.lemmas.Bool.{false≢true}
+use Rattle.js_base.specs.Spans.{LiesIn}
+use Rattle.js_base.specs.Kinds.{one_of_kinds}
+use Rattle.js_base.specs.Lists.{replaced}
+use Rattle.js_base.specs.declared.kind.Kind.{Kind}
+use Rattle.js_base.specs.declared.kind.Kind.TheVariants.{LParen, LBrack, LCurly, TemplateHead, TemplateMiddle, RAngle}
+use Rattle.js_base.specs.declared.diagnostic.Diagnostic.{Diagnostic}
+use Rattle.js_base.specs.declared.span.Span.{Span}
+use Rattle.js_base.specs.declared.token.Token.{Token}
+use Rattle.js_grammar.specs.Grammar.{Lexeme}
+use Rattle.js_grammar.specs.LexicalFaults.{Reached}
+use Rattle.js_grammar.specs.Marks.{LexemeAt, a_lexeme, opens}
+use Rattle.js_grammar.specs.ModuleRecords.{Part as Visit}
+use Rattle.js_grammar.specs.Settings.{Goal}
+use Rattle.js_lex.specs.Kept.{lengths_of, AreAtMost}
+use Rattle.js_lex.specs.Reading.{relexed, is_kept}
+use Rattle.js_lex.specs.States.{goal_of}
+use Rattle.js_lex.specs.declared.output.LexerOutput.{LexerOutput}
+use Rattle.js_cursor.specs.declared.checkpoint.ParserCheckpoint.{ParserCheckpoint}
+use Rattle.js_cursor.specs.Checkpoints.{Remembers, MayGoBack, Follows}
+use Rattle.js_cursor.specs.Parsers.{Parser}
+use Rattle.js_cursor.specs.Tokens.{IsToken, whole, sign, nothing}
+use Rattle.js_cursor.specs.Places.{IsAt, goal}
+use Rattle.js_cursor.specs.Moves.{Stays, Passed, ReadAgain, Completed, MovesOn, Keeps, Opened, is_last}
+
+pub follows_itself : (p : Parser) → Follows p p
+follows_itself p = record {
+  text = refl;
+  source_type = refl;
+  later_errors = [];
+  errors = sym (append-nil p.errors);
+  later_visits = [];
+  visits = sym (append-nil p.visits);
+  later_faults = [];
+  faults = sym (append-nil p.lexer.kept.errors);
+  longer = record { comments = omega arith; irregular_whitespaces = omega arith; tokens = omega arith; errors = omega arith };
+}
+
+then : {X : Type 0} (a b c x y : List X) → b ≡ a ++ x → c ≡ b ++ y → c ≡ a ++ (x ++ y)
+then a b c x y e f = f ∙ ap (λ v. v ++ y) e ∙ append_assoc a x y
+
+pub follows_on : {p q r : Parser} → Follows p q → Follows q r → Follows p r
+follows_on {p} {q} {r} f g = record {
+  text = g.text ∙ f.text;
+  source_type = g.source_type ∙ f.source_type;
+  later_errors = f.later_errors ++ g.later_errors;
+  errors = then p.errors q.errors r.errors f.later_errors g.later_errors f.errors g.errors;
+  later_visits = f.later_visits ++ g.later_visits;
+  visits = then p.visits q.visits r.visits f.later_visits g.later_visits f.visits g.visits;
+  later_faults = f.later_faults ++ g.later_faults;
+  faults = then p.lexer.kept.errors q.lexer.kept.errors r.lexer.kept.errors f.later_faults g.later_faults f.faults g.faults;
+  longer = record {
+    comments = let a = f.longer.comments in let b = g.longer.comments in omega arith;
+    irregular_whitespaces = let a = f.longer.irregular_whitespaces in let b = g.longer.irregular_whitespaces in omega arith;
+    tokens = let a = f.longer.tokens in let b = g.longer.tokens in omega arith;
+    errors = let a = f.longer.errors in let b = g.longer.errors in omega arith;
+  };
+}
+
+grown : {X : Type 0} (a b x : List X) → b ≡ a ++ x → length a ≤ length b
+grown a b x e = omega (arith, ap length e, length-append a x)
+
+pub passed_follows : {p q : Parser} → Passed p q → Follows p q
+passed_follows {p} {q} h = record {
+  text = h.stays.text;
+  source_type = h.stays.source_type;
+  later_errors = [];
+  errors = h.stays.errors ∙ sym (append-nil p.errors);
+  later_visits = [];
+  visits = h.stays.visits ∙ sym (append-nil p.visits);
+  later_faults = _;
+  faults = h.next.grows.faults_grow;
+  longer = record {
+    comments = grown _ _ _ h.next.grows.comments_grow;
+    irregular_whitespaces = grown _ _ _ h.next.grows.blanks_grow;
+    tokens = grown _ _ _ h.next.grows.tokens_grow;
+    errors = grown _ _ _ h.next.grows.faults_grow;
+  };
+}
+
+as_long : (ts : List Token) (t : Token) → length ts ≤ length (replaced ts t)
+as_long [] t = omega arith
+as_long (x ∷ []) t = omega arith
+as_long (x ∷ y ∷ ts) t = let h = as_long (y ∷ ts) t in omega arith
+
+relexed_long : (b : Bool) (ts : List Token) (t : Token) → length ts ≤ length (elim b as (λ _. List Token) [ true ↦ replaced ts t | false ↦ ts ])
+relexed_long true ts t = as_long ts t
+relexed_long false ts t = omega arith
+
+same_length : {X : Type 0} (a b : List X) → b ≡ a → length a ≤ length b
+same_length a b e = omega (arith, ap length e)
+
+pub read_again_follows : {g : _} {p q : Parser} → ReadAgain g p q → Follows p q
+read_again_follows {g} {p} {q} h = record {
+  text = h.stays.text;
+  source_type = h.stays.source_type;
+  later_errors = [];
+  errors = h.stays.errors ∙ sym (append-nil p.errors);
+  later_visits = [];
+  visits = h.stays.visits ∙ sym (append-nil p.visits);
+  later_faults = h.faults;
+  faults = h.again.errors;
+  longer = record {
+    comments = same_length _ _ h.again.comments;
+    irregular_whitespaces = same_length _ _ h.again.blanks;
+    tokens = let l = relexed_long (p.lexer.keeps_tokens && is_kept q.token.kind) p.lexer.kept.tokens q.token in omega (arith, l, ap length h.again.tokens);
+    errors = grown _ _ _ h.again.errors;
+  };
+}
+
+pub completed_follows : {p q : Parser} → Completed p q → Follows p q
+completed_follows {p} {q} (inl h) = subst (Follows p) (sym h.1) (follows_itself p)
+completed_follows {p} {q} (inr h) = read_again_follows h.1
+
+pub moves_on_follow : {p q : Parser} → MovesOn p q → Follows p q
+moves_on_follow {p} {q} (mid, c, inl h) = subst (Follows p) (sym h.1) (completed_follows c)
+moves_on_follow {p} {q} (mid, c, inr h) = follows_on (completed_follows c) (passed_follows h.1)
+
+pub moved_at : {p q : Parser} → MovesOn p q → IsAt q
+moved_at {p} {q} (mid, c, inl h) = h.2
+moved_at {p} {q} (mid, c, inr h) = h.1.at
+
+pub keeps_follows : {d : Diagnostic} {p q : Parser} → Keeps d p q → Follows p q
+keeps_follows {d} {p} {q} h = subst (Follows p) (sym h.is) (record {
+  text = refl;
+  source_type = refl;
+  later_errors = d ∷ [];
+  errors = refl;
+  later_visits = [];
+  visits = sym (append-nil p.visits);
+  later_faults = [];
+  faults = sym (append-nil p.lexer.kept.errors);
+  longer = record { comments = omega arith; irregular_whitespaces = omega arith; tokens = omega arith; errors = omega arith };
+})
+
+first_part : {X : Type 0} (a b x : List X) (n : ℕ) → b ≡ a ++ x → n ≡ length a → take n b ≡ a
+first_part a b x n e f = ap (λ v. take n v) e ∙ ap (λ (m : ℕ). take m (a ++ x)) f ∙ take-append_seam a x
+
+-- the parser may go back to a place that was remembered
+pub may_go_back : {p q : Parser} {c : ParserCheckpoint} → IsAt p → Remembers p c → Follows p q → MayGoBack c q
+may_go_back {p} {q} {c} a r f = record {
+  reached = subst (λ (t : List ℕ). Reached t c.prev_token_end) (sym f.text) (subst (Reached p.text) (sym r.prev_token_end) a.reached);
+  between = subst (λ (t : List ℕ). IsCharBoundary t c.prev_token_end) (sym f.text) (subst (IsCharBoundary p.text) (sym r.prev_token_end) a.between);
+  token =
+      subst (λ (s : Goal). IsToken s q.text c.prev_token_end faults c.token c.cut) (sym (ap goal_of f.source_type))
+      (subst (λ (t : List ℕ). IsToken (goal p) t c.prev_token_end faults c.token c.cut) (sym f.text)
+      (subst (λ (n : ℕ). IsToken (goal p) p.text n faults c.token c.cut) (sym r.prev_token_end)
+      (subst (λ (ds : List Diagnostic). IsToken (goal p) p.text p.prev_token_end ds c.token c.cut) (sym same)
+      (subst (λ (t : Token). IsToken (goal p) p.text p.prev_token_end p.lexer.kept.errors t c.cut) (sym r.token)
+      (subst (λ (b : Bool). IsToken (goal p) p.text p.prev_token_end p.lexer.kept.errors p.token b) (sym r.cut) a.token)))));
+  lies = subst (λ (t : List ℕ). LiesIn c.token.span t) (sym f.text) (subst (λ (t : Token). LiesIn t.span p.text) (sym r.token) a.lies);
+  last = r.place ∙ a.last ∙ ap (λ (t : Token). t.span.end) (sym r.token);
+  errors = let g = grown p.errors q.errors f.later_errors f.errors in let e = r.errors in omega arith;
+  visits = let g = grown p.visits q.visits f.later_visits f.visits in let e = r.visits in omega arith;
+  longer = subst (λ l. AreAtMost l (lengths_of q.lexer.kept)) (sym r.lengths) f.longer;
+}
+  where
+    faults : List Diagnostic
+    faults = take c.lexer.lengths.errors q.lexer.kept.errors
+
+    same : take c.lexer.lengths.errors q.lexer.kept.errors ≡ p.lexer.kept.errors
+    same = first_part p.lexer.kept.errors q.lexer.kept.errors f.later_faults c.lexer.lengths.errors f.faults (ap (λ l. l.errors) r.lengths)
+
+-- ---- brackets
+
+abbrev pub is_opening : Kind → Bool
+is_opening k = one_of_kinds (LParen ∷ LBrack ∷ LCurly ∷ TemplateHead ∷ TemplateMiddle ∷ []) k
+
+not_cut : {p : Parser} → IsAt p → is_opening p.token.kind ≡ true → p.cut ≡ true → ⊥
+not_cut {p} a o e = go p.cut a.token e
+  where
+    go : (b : Bool) → IsToken (goal p) p.text p.prev_token_end p.lexer.kept.errors p.token b → b ≡ true → ⊥
+    go true (sign k x) z = false≢true (sym (ap is_opening k) ∙ o)
+    go false x z = false≢true z
+
+open_not_last : (k : Kind) → is_opening k ≡ true → is_last k ≡ true → ⊥
+open_not_last LParen o l = false≢true l
+open_not_last LBrack o l = false≢true l
+open_not_last LCurly o l = false≢true l
+open_not_last TemplateHead o l = false≢true l
+open_not_last TemplateMiddle o l = false≢true l
+open_not_last _ o l = false≢true o
+
+passed_opened : {p q : Parser} → IsAt p → is_opening p.token.kind ≡ true → Passed p q → Opened q p.token.span
+passed_opened {p} {q} a o h = record {
+  bracket = subst (λ (s : Goal). LexemeAt opens s q.text p.token.span) (sym (ap goal_of h.stays.source_type)) (subst (λ (t : List ℕ). LexemeAt opens (goal p) t p.token.span) (sym h.stays.text) (record {
+    lexeme = h.lexeme;
+    of_text = a_lexeme a.reached h.stood;
+    is = (sym h.tells.start, sym h.tells.end);
+    passes = sym (ap is_opening h.tells.kind) ∙ o;
+  }));
+  before = let e = h.tells.end in let m = h.moved in omega arith;
+}
+
+-- a bracket that was passed was opened
+pub opened : {p q : Parser} → IsAt p → is_opening p.token.kind ≡ true → MovesOn p q → Opened q p.token.span
+opened {p} {q} a o (mid, inr c, h) = absurd (not_cut a o c.0)
+opened {p} {q} a o (mid, inl c, inl h) = absurd (open_not_last p.token.kind o (sym (ap (λ (r : Parser). is_last r.token.kind) c.1) ∙ h.0))
+opened {p} {q} a o (mid, inl c, inr h) = passed_opened a o (subst (λ (r : Parser). Passed r q) c.1 h.1)
+
+pub opened_at : {p q : Parser} {s : Span} → s ≡ p.token.span → IsAt p → p.token.kind ≡ LParen → MovesOn p q → Opened q s
+opened_at {p} {q} {s} e a k m = subst (Opened q) (sym e) (opened a (ap is_opening k) m)
+
+pub may_turn_back : {p here q : Parser} {c : ParserCheckpoint} → IsAt p → Remembers p c → here ≡ p → MovesOn here q → MayGoBack c q
+may_turn_back {p} {here} {q} {c} a r e m = may_go_back a r (subst (λ (x : Parser). Follows x q) e (moves_on_follow m))

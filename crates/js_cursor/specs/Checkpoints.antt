@@ -1,0 +1,65 @@
+-- To go back to a place that was read before.
+use Rattle.std.specs.Prelude.{ℕ, ◌≡◌, ◌≤◌, List, ◌++◌, length, take, IsCharBoundary}
+use Rattle.js_base.specs.Spans.{LiesIn}
+use Rattle.js_base.specs.declared.diagnostic.Diagnostic.{Diagnostic}
+use Rattle.js_grammar.specs.LexicalFaults.{Reached}
+use Rattle.js_grammar.specs.ModuleRecords.{Part as Visit}
+use Rattle.js_lex.specs.Kept.{lengths_of, first_kept, AreAtMost}
+use Rattle.js_lex.specs.States.{SameText}
+use Rattle.js_cursor.specs.declared.checkpoint.ParserCheckpoint.{ParserCheckpoint}
+use Rattle.js_cursor.specs.Parsers.{Parser}
+use Rattle.js_cursor.specs.Tokens.{IsToken}
+use Rattle.js_cursor.specs.Places.{IsAt, goal}
+
+-- The checkpoint tells where the parser is, its parameters and how deep it is, and how much it and its lexer have kept.
+pub record Remembers (p : Parser) (c : ParserCheckpoint) : Type 0 where
+  pub token : c.token ≡ p.token
+  pub cut : c.cut ≡ p.cut
+  pub prev_token_end : c.prev_token_end ≡ p.prev_token_end
+  pub ctx : c.ctx ≡ p.ctx
+  pub depth : c.depth ≡ p.depth
+  pub place : c.lexer.place ≡ p.lexer.place
+  pub lengths : c.lexer.lengths ≡ lengths_of p.lexer.kept
+  pub errors : c.errors ≡ length p.errors
+  pub visits : c.visits ≡ length p.visits
+
+-- The parser may go back to the checkpoint: its token stands in this text where it says, which lexemes lead to, a lexer at its place gave it last, and no list is shorter than it says.
+pub record MayGoBack (c : ParserCheckpoint) (p : Parser) : Type 0 where
+  pub reached : Reached p.text c.prev_token_end
+  pub between : IsCharBoundary p.text c.prev_token_end
+  pub token : IsToken (goal p) p.text c.prev_token_end (take c.lexer.lengths.errors p.lexer.kept.errors) c.token c.cut
+  pub lies : LiesIn c.token.span p.text
+  pub last : c.lexer.place ≡ c.token.span.end
+  pub errors : c.errors ≤ length p.errors
+  pub visits : c.visits ≤ length p.visits
+  pub longer : AreAtMost c.lexer.lengths (lengths_of p.lexer.kept)
+
+-- The parser went back: what the checkpoint tells holds again, diagnostics, visits and what the lexer has kept are cut, and all else, the nodes among it, stays.
+pub record GoesBack (c : ParserCheckpoint) (old new : Parser) : Type 0 where
+  pub token : new.token ≡ c.token
+  pub cut : new.cut ≡ c.cut
+  pub prev_token_end : new.prev_token_end ≡ c.prev_token_end
+  pub ctx : new.ctx ≡ c.ctx
+  pub depth : new.depth ≡ c.depth
+  pub same : SameText old.lexer new.lexer
+  pub place : new.lexer.place ≡ c.lexer.place
+  pub kept : new.lexer.kept ≡ first_kept c.lexer.lengths old.lexer.kept
+  pub errors : new.errors ≡ take c.errors old.errors
+  pub visits : new.visits ≡ take c.visits old.visits
+  pub text : new.text ≡ old.text
+  pub source_type : new.source_type ≡ old.source_type
+  pub options : new.options ≡ old.options
+  pub nodes : new.nodes ≡ old.nodes
+  pub at : IsAt new
+
+-- What holds of a parser at a later time, if it went back no further in between: it reads the same text, and what was kept is still there, but for the lexer's last token, which may have been read again.
+pub record Follows (old new : Parser) : Type 0 where
+  pub text : new.text ≡ old.text
+  pub source_type : new.source_type ≡ old.source_type
+  pub later_errors : List Diagnostic
+  pub errors : new.errors ≡ old.errors ++ later_errors
+  pub later_visits : List Visit
+  pub visits : new.visits ≡ old.visits ++ later_visits
+  pub later_faults : List Diagnostic
+  pub faults : new.lexer.kept.errors ≡ old.lexer.kept.errors ++ later_faults
+  pub longer : AreAtMost (lengths_of old.lexer.kept) (lengths_of new.lexer.kept)

@@ -1,0 +1,34 @@
+-- What holds of a parser between calls: where it is, and that all that it has kept was found on the way there.
+use Rattle.std.specs.Prelude.{ℕ, ◌≡◌, true, List, codes, IsCharBoundary}
+use Rattle.std.specs.List.{All}
+use Rattle.js_base.specs.Spans.{LiesIn}
+use Rattle.js_base.specs.declared.diagnostic.Diagnostic.{Diagnostic}
+use Rattle.js_grammar.specs.CoreTexts.{starts}
+use Rattle.js_grammar.specs.LexicalFaults.{Reached, FaultyBehind, is_invalid_character}
+use Rattle.js_grammar.specs.Marks.{Mark}
+use Rattle.js_grammar.specs.Settings.{Goal}
+use Rattle.js_lex.specs.States.{goal_of}
+use Rattle.js_cursor.specs.Parsers.{Parser}
+use Rattle.js_cursor.specs.Tokens.{IsToken}
+
+abbrev pub goal : Parser → Goal
+goal p = goal_of p.source_type
+
+-- A fault of the text, behind a place that lexemes lead to.
+pub record IsFault (source : Goal) (text : List ℕ) (d : Diagnostic) : Type 0 where
+  pub place : ℕ
+  pub reached : Reached text place
+  pub faulty : FaultyBehind d.kind source text place d.span.start d.span.end
+  pub no_hashbang : is_invalid_character d.kind ≡ true → d.span.start ≡ 0 → starts (codes "#!") text ≡ true → ⊥
+
+-- The lexer reads the text, and gave the current lexeme last, which stands behind the end of the one before; lexemes lead there from the text's start. Each diagnostic has its mark.
+pub record IsAt (p : Parser) : Type 0 where
+  pub reads : p.lexer.text ≡ p.text
+  pub reads_for : p.lexer.goal ≡ goal p
+  pub reached : Reached p.text p.prev_token_end
+  pub between : IsCharBoundary p.text p.prev_token_end
+  pub token : IsToken (goal p) p.text p.prev_token_end p.lexer.kept.errors p.token p.cut
+  pub lies : LiesIn p.token.span p.text
+  pub last : p.lexer.place ≡ p.token.span.end
+  pub marked : All (Mark (goal p) p.text) p.errors
+  pub faulty : All (IsFault (goal p) p.text) p.lexer.kept.errors
