@@ -12,7 +12,13 @@ use Rattle.js_grammar.specs.Trivia.{after, within_line, closes_comment, is_blank
 use Rattle.js_grammar.specs.CoreTexts.{starts}
 use Rattle.js_grammar.specs.LexicalFaults.{behind}
 use Rattle.js_grammar.proofs.LongestLemmas.{both-left, both-right, both, not-true, none_longer-at}
-use Rattle.js_grammar.proofs.Finding.{neither}
+use Rattle.js_grammar.proofs.Finding.{neither, neither-left, neither-right}
+use Rattle.js_grammar.proofs.CoreFirst.{lt-true}
+use Rattle.js_base.specs.Characters.{one_of}
+use Rattle.js_grammar.specs.Trivia.{is_irregular}
+use Rattle.js_lex.specs.declared.byte_class.ByteClass.{ByteClass}
+use Rattle.js_lex.specs.ByteClasses.{IsOf, is_trivia_class, begins_no_trivia}
+use Rattle.js_lex.proofs.ByteClasses.{agree}
 use Rattle.js_grammar.proofs.CoreLemmas.{none_longer-from}
 use Rattle.js_lex.specs.Places.{Word, Peeks}
 use Rattle.std.specs.Char.{len_utf8}
@@ -337,3 +343,36 @@ visible c h k = ascii (λ e. nat_lt 32 e && nat_lt e 127) (λ e. not (is_blank (
   where
     between : (c : ℕ) → 32 < c → c < 127 → (nat_lt 32 c && nat_lt c 127) ≡ true
     between c h k = grind (arith, nat_tests)
+
+-- a space, tab, CR or LF, by its byte
+abbrev plain : ℕ → Bool
+plain b = one_of (32 ∷ 9 ∷ 10 ∷ 13 ∷ []) b
+
+plain_ascii : (b : ℕ) → plain b ≡ true → b < 128
+plain_ascii b h = grind (arith, nat_tests)
+
+pub plain_byte : {text : List ℕ} {at b : ℕ} (newline : Bool) → Peeks text at b → plain b ≡ true → newline ≡ one_of (10 ∷ 13 ∷ []) b → PlainBlankAt text at (Some newline)
+plain_byte {text = text} {at = at} {b = b} newline p h e =
+    let l = plain_ascii b h in
+    plain_blank b newline (ascii_there b (p.ascii l) l) (other 47 refl) (other 60 refl) (other 45 refl) (record {
+      blank = ascii plain (λ c. is_blank (c ∷ [])) b refl l h;
+      end = ap (λ (n : ℕ). at + n) (sym (len_utf8_ascii b l));
+      comment = refl;
+      html = refl;
+      irregular = sym (not-true (is_irregular (b ∷ [])) (ascii plain (λ c. not (is_irregular (c ∷ []))) b refl l h));
+      newline = e ∙ agree 128 (one_of (10 ∷ 13 ∷ [])) is_line_terminator refl b l;
+    })
+  where
+    other : (a : ℕ) → plain a ≡ false → b ≡ a → ⊥
+    other a n q = let k : plain a ≡ true = subst (λ (x : ℕ). plain x ≡ true) q h in let z : false ≡ true = sym n ∙ k in cc
+
+-- a byte with which no trivia begins
+pub no_trivia : {text : List ℕ} {at b : ℕ} {k : ByteClass} → Peeks text at b → IsOf b k → is_trivia_class k ≡ false → (first : Bool) → PieceAt first text at None
+no_trivia {text = text} {at = at} {b = b} {k = k} p o n first =
+    let t : begins_no_trivia b ≡ true = subst (λ (x : Bool). (x || begins_no_trivia b) ≡ true) n o.trivia in
+    let l = lt-true b 128 (both-left (nat_lt b 128) (not (is_blank (b ∷ [])) && not ((47 == b) || ((60 == b) || (45 == b)))) t) in
+    let r = both-right (nat_lt b 128) (not (is_blank (b ∷ [])) && not ((47 == b) || ((60 == b) || (45 == b)))) t in
+    let blank = not-true (is_blank (b ∷ [])) (both-left (not (is_blank (b ∷ []))) (not ((47 == b) || ((60 == b) || (45 == b)))) r) in
+    let c = not-true ((47 == b) || ((60 == b) || (45 == b))) (both-right (not (is_blank (b ∷ []))) (not ((47 == b) || ((60 == b) || (45 == b)))) r) in
+    let d = neither-right (47 == b) ((60 == b) || (45 == b)) c in
+    none_there (p.ascii l) first (none_piece first b (behind text (at + 1)) blank (neither-left (47 == b) ((60 == b) || (45 == b)) c, neither-left (60 == b) (45 == b) d, neither-right (60 == b) (45 == b) d))

@@ -1,6 +1,6 @@
 //! The plain lexical goal: InputElementDiv (ECMA-262, chapter 12).
 
-ghost use Rattle.std.specs.Prelude.{◌≡◌, Bool, IsTrue, IsCharBoundary};
+ghost use Rattle.std.specs.Prelude.{◌≡◌, ◌<◌, ◌≤◌, Bool, IsTrue, IsCharBoundary};
 ghost use Rattle.js_grammar.specs.Longest.{none_begins};
 ghost use Rattle.js_grammar.specs.Trivia.{is_trivia_piece};
 ghost use Rattle.js_grammar.specs.Lexemes.{division};
@@ -9,6 +9,7 @@ ghost use Rattle.js_grammar.specs.LexicalFaults.{behind};
 ghost use Rattle.js_lex.specs.Scans.{Scans};
 ghost use Rattle.js_lex.specs.Openings.{end_at, opening_told};
 
+use crate::byte_class::{ByteClass, class_of};
 use crate::character::next_character;
 use crate::class::is_identifier_start;
 use crate::name::{name_at, private_name_at};
@@ -65,19 +66,44 @@ fn end_of_text(at: usize) -> Scanned
 }
 
 /// What a character begins, a dot before a digit or not.
+#[inline]
 fn opening_of(c: char, before_digit: bool) -> Opening
     ensures { opening_told result ≡ lexemes.opening c before_digit }
 {
-    if is_identifier_start(c) || c == '\\' {
-        return Opening::Name;
+    if c.is_ascii() {
+        ascii_opening(c as u8, before_digit)
+    } else {
+        high_opening(c)
     }
-    if c.is_digit(10) || (c == '.' && before_digit) {
-        return Opening::Number;
+}
+
+/// What an ASCII character begins, a dot before a digit or not.
+#[inline]
+fn ascii_opening(byte: u8, before_digit: bool) -> Opening
+    requires { byte < 128 }
+    ensures { opening_told result ≡ lexemes.opening byte before_digit }
+{
+    match class_of(byte) {
+        ByteClass::Letter | ByteClass::Backslash => Opening::Name,
+        ByteClass::Digit => Opening::Number,
+        ByteClass::Quote => Opening::String,
+        ByteClass::Backquote => Opening::Template,
+        ByteClass::Hash => Opening::PrivateName,
+        ByteClass::Dot if before_digit => Opening::Number,
+        ByteClass::Dot | ByteClass::Trivia | ByteClass::Sign | ByteClass::High => {
+            Opening::Punctuator
+        }
     }
-    match c {
-        '"' | '\'' => Opening::String,
-        '`' => Opening::Template,
-        '#' => Opening::PrivateName,
-        _ => Opening::Punctuator,
+}
+
+/// What a character above ASCII begins.
+fn high_opening(c: char) -> Opening
+    requires { 128 ≤ c }
+    ensures { (digit : Bool) → opening_told result ≡ lexemes.opening c digit }
+{
+    if is_identifier_start(c) {
+        Opening::Name
+    } else {
+        Opening::Punctuator
     }
 }

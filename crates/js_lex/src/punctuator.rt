@@ -1,12 +1,12 @@
 //! Punctuators (ECMA-262, section 12.8), and characters at which no token begins.
 
-ghost use Rattle.std.specs.Prelude.{◌≡◌, ◌+◌, true, false, [], ◌∷◌, Some, IsCharBoundary, IsTrue, codes};
+ghost use Rattle.std.specs.Prelude.{◌≡◌, ◌+◌, true, false, [], ◌∷◌, Some, IfSome, IsCharBoundary, IsTrue, codes};
 ghost use Rattle.js_base.specs.Characters.{one_of};
 ghost use Rattle.js_grammar.specs.CoreTexts.{starts};
 ghost use Rattle.js_grammar.specs.LexicalFaults.{behind};
 ghost use Rattle.js_grammar.specs.Lexemes.{division};
-ghost use Rattle.js_lex.specs.Places.{Word};
-ghost use Rattle.js_lex.specs.Punctuators.{punctuator_of, OpensPunctuator, BeginsNone, begins_no_comment, opens_no_comment, is_free, IsPunctuator, ReadsPunctuator};
+ghost use Rattle.js_lex.specs.Places.{Word, Peeks};
+ghost use Rattle.js_lex.specs.Punctuators.{punctuator_of, OpensPunctuator, BeginsNone, begins_no_comment, opens_no_comment, is_free, IsPunctuator, ReadsPunctuator, StandsAlone};
 ghost use Rattle.js_lex.specs.Scans.{Scans, IsStopped};
 
 use crate::place::{byte_at, char_at, digit_at, is_at};
@@ -57,10 +57,24 @@ fn read_punctuator(text: &str, at: usize) -> Option<Punctuator>
         Some(b'.') => Some(dots_at(text, at)),
         Some(b'?') => Some(question_at(text, at)),
         Some(b'/') => Some(slash_at(text, at)),
-        Some(first) => match single(first) {
-            Some(kind) => Some(longer_than_one(text, at, first, kind)),
-            None => None,
+        Some(first) => match alone(first) {
+            Some(kind) => Some(Punctuator { kind, end: at + 1 }),
+            None => other_punctuator(text, at, first),
         },
+        None => None,
+    }
+}
+
+/// The longest punctuator that begins with a byte at a place, or none where none does.
+#[inline]
+fn other_punctuator(text: &str, at: usize, first: u8) -> Option<Punctuator>
+    requires boundary { IsCharBoundary text.now at }
+    requires first { Peeks text.now at first }
+    requires free { one_of (46 ∷ 47 ∷ 63 ∷ []) first ≡ false }
+    ensures { ReadsPunctuator text.now at result }
+{
+    match single(first) {
+        Some(kind) => Some(longer_than_one(text, at, first, kind)),
         None => None,
     }
 }
@@ -210,6 +224,26 @@ fn longer_than_three(
             None => alone,
         },
         None => alone,
+    }
+}
+
+/// The punctuator that is written as one character, where no other one begins with it.
+#[inline]
+#[tactic(auto, unfolding(js_base::specs::Texts::punctuators))]
+fn alone(byte: u8) -> Option<Kind>
+    ensures { IfSome result (λ k. StandsAlone byte k) }
+{
+    match byte {
+        b'(' => Some(Kind::LParen),
+        b')' => Some(Kind::RParen),
+        b'{' => Some(Kind::LCurly),
+        b'}' => Some(Kind::RCurly),
+        b'[' => Some(Kind::LBrack),
+        b']' => Some(Kind::RBrack),
+        b';' => Some(Kind::Semicolon),
+        b',' => Some(Kind::Comma),
+        b':' => Some(Kind::Colon),
+        _ => None,
     }
 }
 

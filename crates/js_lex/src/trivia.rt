@@ -1,12 +1,14 @@
 //! Trivia: white space, line terminators and comments (ECMA-262, sections 12.2 to 12.4, and B.1.1 for the HTML-like
 //! comments).
 
-ghost use Rattle.std.specs.Prelude.{◌≡◌, ◌≤◌, ◌+◌, [], ◌∷◌, Bool, ◌&&◌, false, length, IfOk, OnErr, OnOk, Some, IsCharBoundary};
+ghost use Rattle.std.specs.Prelude.{◌≡◌, ◌≤◌, ◌+◌, [], ◌∷◌, Bool, ◌&&◌, false, length, IfOk, OnErr, OnOk, Some, None, IsTrue, IsCharBoundary};
+ghost use Rattle.js_base.specs.Characters.{one_of};
 ghost use Rattle.js_lex.specs.Places.{Word};
 ghost use Rattle.js_lex.specs.Kept.{Grows, Extends};
 ghost use Rattle.js_lex.specs.TriviaPassed.{PieceAt, BlankAt, PlainBlankAt, BlockEnd, IsLineEnd, block_kind, told, comment_told, blank_told, fault_told, IsPassed};
 ghost use Rattle.js_lex.specs.declared.comment.CommentKind.TheVariants.{Line};
 
+use crate::byte_class::class_of;
 use crate::character::next_character;
 use crate::class::{is_line_terminator, is_white_space};
 use crate::comment::{Comment, CommentKind, attach};
@@ -78,6 +80,9 @@ fn pass_pieces(
             end += 1;
             continue;
         }
+        if begins_no_trivia(text, end) {
+            return Ok(Trivia { end, has_newline });
+        }
         let Some(piece) = piece_at(text, end, (at == 0) | has_newline) else {
             return Ok(Trivia { end, has_newline });
         };
@@ -94,11 +99,36 @@ fn plain_blank_at(text: &str, at: usize) -> Option<bool>
     ensures { PlainBlankAt text.now at result }
 {
     match byte_at(text, at) {
-        Some(b' ') => Some(false),
-        Some(b'\t') => Some(false),
-        Some(b'\n') => Some(true),
-        Some(b'\r') => Some(true),
+        Some(byte) if is_plain_blank(byte) => Some(ends_line(byte)),
         _ => None,
+    }
+}
+
+/// Whether a byte is a space, tab, CR or LF.
+#[inline]
+fn is_plain_blank(byte: u8) -> bool
+    ensures { result ≡ one_of (32 ∷ 9 ∷ 10 ∷ 13 ∷ []) byte }
+{
+    byte == b' ' || byte == b'\t' || byte == b'\n' || byte == b'\r'
+}
+
+/// Whether a byte is an LF or a CR.
+#[inline]
+fn ends_line(byte: u8) -> bool
+    ensures { result ≡ one_of (10 ∷ 13 ∷ []) byte }
+{
+    byte == b'\n' || byte == b'\r'
+}
+
+/// Whether it is known at once that no trivia begins at a place.
+#[inline]
+fn begins_no_trivia(text: &str, at: usize) -> bool
+    requires { IsCharBoundary text.now at }
+    ensures { IsTrue result → (first : Bool) → PieceAt first text.now at None }
+{
+    match byte_at(text, at) {
+        Some(byte) => !class_of(byte).may_begin_trivia(),
+        None => true,
     }
 }
 
@@ -163,6 +193,7 @@ fn keep_html_fault(kept: &mut LexerOutput, is_fault: bool, span: Span) -> Result
 
 /// The longest piece of trivia that begins at a place. `is_first`: only trivia stands before it on its line, or in the
 /// text; there alone `-->` begins a comment.
+#[inline(never)]
 fn piece_at(text: &str, at: usize, is_first: bool) -> Option<Piece>
     requires boundary { IsCharBoundary text.now at }
     requires short { length text.now ≤ MAX_LEN }

@@ -59,7 +59,7 @@ pub(crate) fn lex(alloc: Global, text: &str) -> Result<Pass, NoMemory>
     let mut before = Kind::Semicolon;
     for _ in 0..text.len() {
         let ends_substitution = braces.open == 0 && !braces.outer.is_empty();
-        let token = next(&mut lexer, ends_operand(before), ends_substitution)?;
+        let token = next(&mut lexer, before, ends_substitution)?;
         count_braces(&mut braces, token.kind)?;
         before = token.kind;
         if matches!(before, Kind::Eof) {
@@ -96,12 +96,12 @@ fn tell(token: Token) -> Told {
 /// template part.
 fn next(
     lexer: &mut Lexer<'_, NoTokensLexerConfig>,
-    behind_operand: bool,
+    before: Kind,
     ends_substitution: bool,
 ) -> Result<Told, NoMemory> {
     let token = lexer.next_token()?;
     match token.kind() {
-        Kind::Slash | Kind::SlashEq if !behind_operand => match lexer.re_lex_regex(token) {
+        Kind::Slash | Kind::SlashEq if !ends_operand(before) => match lexer.re_lex_regex(token) {
             Ok((again, _)) => Ok(tell(again)),
             Err(error) => Err(error),
         },

@@ -13,3 +13,6 @@ pieces-preserved c = passed_more c.in-Some-piece_at.piece c.pieces.invariant c.i
 
 pub returns-in_default-piece_at-clause-ok : goal.returns-in_default-piece_at-clause-ok
 returns-in_default-piece_at-clause-ok c = passed_all c.pieces.invariant c.in_default-piece_at.ensures
+
+pub returns-then-begins_no_trivia-clause-ok : goal.returns-then-begins_no_trivia-clause-ok
+returns-then-begins_no_trivia-clause-ok c = passed_all c.pieces.invariant (c.begins_no_trivia.ensures c.if-begins_no_trivia.true _)
