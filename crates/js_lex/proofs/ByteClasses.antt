@@ -6,7 +6,8 @@ use Rattle.js_lex.specs.Names.{is_ascii_part}
 use Rattle.js_lex.specs.declared.byte_class.ByteClass.{ByteClass}
 use Rattle.js_lex.specs.declared.byte_class.ByteClass.TheVariants.{Letter}
 use Rattle.js_lex.specs.declared.byte_class.TheConstants.{CLASSES}
-use Rattle.js_lex.specs.ByteClasses.{IsOf, is_letter_class, is_name_class, is_trivia_class, opens, begins_no_trivia}
+use Rattle.js_lex.specs.ByteClasses.{IsOf, is_letter_class, is_name_class, is_trivia_class, opens, begins_no_trivia, is_line_class, is_comment_class, stays_on_line, stays_in_comment, Stays}
+use Rattle.js_lex.specs.Places.{Peeks}
 
 -- what a function gives for the numbers below n, the greatest first
 abbrev row : {A : Type 0} → ℕ → (ℕ → A) → List A
@@ -37,4 +38,12 @@ is_of b l = record {
   part = agree 256 (λ c. is_name_class (class c)) is_ascii_part refl b l;
   opening = opening_of b;
   trivia = agree 256 (λ c. is_trivia_class (class c) || begins_no_trivia c) (λ c. true) refl b l;
+  line = agree 256 (λ c. is_line_class (class c) || stays_on_line c) (λ c. true) refl b l;
+  comment = agree 256 (λ c. is_comment_class (class c) || stays_in_comment c) (λ c. true) refl b l;
 }
+
+-- a byte of which the class tells that a character that passes stands there
+pub stays : {text : List ℕ} {i b : ℕ} (p : ℕ → Bool) (k : Bool) → Peeks text i b → (k || p b) ≡ true → k ≡ false → (p b ≡ true → b < 128) → Stays p text i
+stays {b = b} p k h o n low =
+    let t : p b ≡ true = subst (λ (x : Bool). (x || p b) ≡ true) n o in
+    record { character = b; word = h.ascii (low t); passes = t }

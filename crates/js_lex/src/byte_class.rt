@@ -1,7 +1,7 @@
 //! What a byte of a text is to the scans, by one look into a table.
 
 ghost use Rattle.std.specs.Prelude.{◌≡◌};
-ghost use Rattle.js_lex.specs.ByteClasses.{IsOf, is_name_class, is_trivia_class, is_letter_class};
+ghost use Rattle.js_lex.specs.ByteClasses.{IsOf, is_name_class, is_trivia_class, is_letter_class, is_line_class, is_comment_class};
 
 use crate::byte_class::ByteClass::*;
 
@@ -22,10 +22,18 @@ pub(crate) enum ByteClass {
     Hash,
     /// A dot.
     Dot,
-    /// What trivia may begin with: a space, a control character, `/`, `<` or `-`.
-    Trivia,
+    /// What is a punctuator and begins no longer one.
+    Alone,
     /// Any other ASCII character.
     Sign,
+    /// What trivia may begin with: a space, a control character, `<` or `-`.
+    Trivia,
+    /// An asterisk.
+    Star,
+    /// A slash.
+    Solidus,
+    /// LF or CR.
+    LineEnd,
     /// A byte of a character above ASCII.
     High,
 }
@@ -41,10 +49,10 @@ static CLASSES: [ByteClass; 256] = [
     Trivia,
     Trivia,
     Trivia,
+    LineEnd,
     Trivia,
     Trivia,
-    Trivia,
-    Trivia,
+    LineEnd,
     Trivia,
     Trivia,
     Trivia,
@@ -71,27 +79,27 @@ static CLASSES: [ByteClass; 256] = [
     Sign,
     Sign,
     Quote,
+    Alone,
+    Alone,
+    Star,
     Sign,
-    Sign,
-    Sign,
-    Sign,
-    Sign,
+    Alone,
     Trivia,
     Dot,
+    Solidus,
+    Digit,
+    Digit,
+    Digit,
+    Digit,
+    Digit,
+    Digit,
+    Digit,
+    Digit,
+    Digit,
+    Digit,
+    Alone,
+    Alone,
     Trivia,
-    Digit,
-    Digit,
-    Digit,
-    Digit,
-    Digit,
-    Digit,
-    Digit,
-    Digit,
-    Digit,
-    Digit,
-    Sign,
-    Sign,
-    Trivia,
     Sign,
     Sign,
     Sign,
@@ -122,9 +130,9 @@ static CLASSES: [ByteClass; 256] = [
     Letter,
     Letter,
     Letter,
-    Sign,
+    Alone,
     Backslash,
-    Sign,
+    Alone,
     Sign,
     Letter,
     Backquote,
@@ -154,9 +162,9 @@ static CLASSES: [ByteClass; 256] = [
     Letter,
     Letter,
     Letter,
+    Alone,
     Sign,
-    Sign,
-    Sign,
+    Alone,
     Sign,
     Trivia,
     High,
@@ -319,6 +327,28 @@ impl ByteClass {
     pub(crate) fn may_begin_trivia(self) -> bool
         ensures { result ≡ is_trivia_class self }
     {
-        matches!(self, ByteClass::Trivia | ByteClass::High)
+        matches!(
+            self,
+            ByteClass::Trivia | ByteClass::Solidus | ByteClass::LineEnd | ByteClass::High
+        )
+    }
+
+    /// Whether a line terminator may begin with such a byte.
+    #[inline]
+    pub(crate) fn may_end_line(self) -> bool
+        ensures { result ≡ is_line_class self }
+    {
+        matches!(self, ByteClass::LineEnd | ByteClass::High)
+    }
+
+    /// Whether such a byte may tell something of a block comment that it stands in.
+    #[inline]
+    pub(crate) fn may_end_comment(self) -> bool
+        ensures { result ≡ is_comment_class self }
+    {
+        matches!(
+            self,
+            ByteClass::Star | ByteClass::Solidus | ByteClass::LineEnd | ByteClass::High
+        )
     }
 }

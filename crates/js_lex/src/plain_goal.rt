@@ -15,7 +15,7 @@ use crate::class::is_identifier_start;
 use crate::name::{name_at, private_name_at};
 use crate::number::number_at;
 use crate::place::digit_at;
-use crate::punctuator::punctuator_at;
+use crate::punctuator::{alone_at, punctuator_at};
 use crate::scan::{Scan, Scanned};
 use crate::string::string_at;
 use crate::template::template_at;
@@ -29,6 +29,8 @@ enum Opening {
     String,
     Template,
     PrivateName,
+    /// A punctuator that begins no longer one.
+    Alone,
     Punctuator,
 }
 
@@ -49,6 +51,7 @@ pub(crate) fn plain_at(text: &str, at: usize) -> Scan
         Opening::String => string_at(text, at),
         Opening::Template => template_at(text, at),
         Opening::PrivateName => private_name_at(text, at),
+        Opening::Alone => alone_at(text, at),
         Opening::Punctuator => punctuator_at(text, at),
     }
 }
@@ -90,9 +93,14 @@ fn ascii_opening(byte: u8, before_digit: bool) -> Opening
         ByteClass::Backquote => Opening::Template,
         ByteClass::Hash => Opening::PrivateName,
         ByteClass::Dot if before_digit => Opening::Number,
-        ByteClass::Dot | ByteClass::Trivia | ByteClass::Sign | ByteClass::High => {
-            Opening::Punctuator
-        }
+        ByteClass::Alone => Opening::Alone,
+        ByteClass::Dot
+        | ByteClass::Sign
+        | ByteClass::Trivia
+        | ByteClass::Star
+        | ByteClass::Solidus
+        | ByteClass::LineEnd
+        | ByteClass::High => Opening::Punctuator,
     }
 }
 

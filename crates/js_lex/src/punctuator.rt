@@ -1,7 +1,8 @@
 //! Punctuators (ECMA-262, section 12.8), and characters at which no token begins.
 
-ghost use Rattle.std.specs.Prelude.{◌≡◌, ◌+◌, true, false, [], ◌∷◌, Some, IfSome, IsCharBoundary, IsTrue, codes};
+ghost use Rattle.std.specs.Prelude.{◌≡◌, ◌+◌, true, false, [], ◌∷◌, Some, IsCharBoundary, IsTrue, codes};
 ghost use Rattle.js_base.specs.Characters.{one_of};
+ghost use Rattle.js_base.specs.declared.kind.Kind.TheVariants.{Undetermined};
 ghost use Rattle.js_grammar.specs.CoreTexts.{starts};
 ghost use Rattle.js_grammar.specs.LexicalFaults.{behind};
 ghost use Rattle.js_grammar.specs.Lexemes.{division};
@@ -22,6 +23,7 @@ struct Punctuator {
 }
 
 /// The longest punctuator (12.8), or `@`, at a place at which no comment begins that ends.
+#[inline(never)]
 pub(crate) fn punctuator_at(text: &str, at: usize) -> Scan
     requires boundary { IsCharBoundary text.now at }
     requires opens { OpensPunctuator (behind text.now at) }
@@ -46,6 +48,28 @@ pub(crate) fn punctuator_at(text: &str, at: usize) -> Scan
     }
 }
 
+/// The punctuator at a place, where it begins no longer one; else whatever `punctuator_at` tells.
+#[inline]
+pub(crate) fn alone_at(text: &str, at: usize) -> Scan
+    requires boundary { IsCharBoundary text.now at }
+    requires opens { OpensPunctuator (behind text.now at) }
+    requires no_comment { begins_no_comment (behind text.now at) ≡ true }
+    ensures { Scans division text.now at result }
+{
+    let Some(byte) = byte_at(text, at) else {
+        return punctuator_at(text, at);
+    };
+    match alone(byte) {
+        Kind::Undetermined => punctuator_at(text, at),
+        kind => Ok(Scanned {
+            kind,
+            end: at + 1,
+            escaped: false,
+            has_separator: false,
+        }),
+    }
+}
+
 /// The longest punctuator at a place, or none where no punctuator begins with the character there.
 fn read_punctuator(text: &str, at: usize) -> Option<Punctuator>
     requires boundary { IsCharBoundary text.now at }
@@ -57,10 +81,7 @@ fn read_punctuator(text: &str, at: usize) -> Option<Punctuator>
         Some(b'.') => Some(dots_at(text, at)),
         Some(b'?') => Some(question_at(text, at)),
         Some(b'/') => Some(slash_at(text, at)),
-        Some(first) => match alone(first) {
-            Some(kind) => Some(Punctuator { kind, end: at + 1 }),
-            None => other_punctuator(text, at, first),
-        },
+        Some(first) => other_punctuator(text, at, first),
         None => None,
     }
 }
@@ -227,23 +248,23 @@ fn longer_than_three(
     }
 }
 
-/// The punctuator that is written as one character, where no other one begins with it.
+/// The punctuator that is written as one character, where no other one begins with it; else `Undetermined`.
 #[inline]
 #[tactic(auto, unfolding(js_base::specs::Texts::punctuators))]
-fn alone(byte: u8) -> Option<Kind>
-    ensures { IfSome result (λ k. StandsAlone byte k) }
+fn alone(byte: u8) -> Kind
+    ensures { (result ≡ Undetermined → ⊥) → StandsAlone byte result }
 {
     match byte {
-        b'(' => Some(Kind::LParen),
-        b')' => Some(Kind::RParen),
-        b'{' => Some(Kind::LCurly),
-        b'}' => Some(Kind::RCurly),
-        b'[' => Some(Kind::LBrack),
-        b']' => Some(Kind::RBrack),
-        b';' => Some(Kind::Semicolon),
-        b',' => Some(Kind::Comma),
-        b':' => Some(Kind::Colon),
-        _ => None,
+        b'(' => Kind::LParen,
+        b')' => Kind::RParen,
+        b'{' => Kind::LCurly,
+        b'}' => Kind::RCurly,
+        b'[' => Kind::LBrack,
+        b']' => Kind::RBrack,
+        b';' => Kind::Semicolon,
+        b',' => Kind::Comma,
+        b':' => Kind::Colon,
+        _ => Kind::Undetermined,
     }
 }
 

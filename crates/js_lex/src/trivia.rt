@@ -3,6 +3,8 @@
 
 ghost use Rattle.std.specs.Prelude.{◌≡◌, ◌≤◌, ◌+◌, [], ◌∷◌, Bool, ◌&&◌, false, length, IfOk, OnErr, OnOk, Some, None, IsTrue, IsCharBoundary};
 ghost use Rattle.js_base.specs.Characters.{one_of};
+ghost use Rattle.js_lex.specs.ByteClasses as classes;
+ghost use Rattle.js_lex.specs.ByteClasses.{Stays};
 ghost use Rattle.js_lex.specs.Places.{Word};
 ghost use Rattle.js_lex.specs.Kept.{Grows, Extends};
 ghost use Rattle.js_lex.specs.TriviaPassed.{PieceAt, BlankAt, PlainBlankAt, BlockEnd, IsLineEnd, block_kind, told, comment_told, blank_told, fault_told, IsPassed};
@@ -75,6 +77,10 @@ fn pass_pieces(
     let mut end = at;
     let mut has_newline = false;
     'pieces: loop {
+        if is_space_at(text, end) {
+            end += 1;
+            continue;
+        }
         if let Some(is_newline) = plain_blank_at(text, end) {
             has_newline |= is_newline;
             end += 1;
@@ -89,6 +95,18 @@ fn pass_pieces(
         keep_piece(kept, is_module, end, piece)?;
         has_newline |= piece.has_newline;
         end = piece.end;
+    }
+}
+
+/// Whether a space stands at a place.
+#[inline]
+fn is_space_at(text: &str, at: usize) -> bool
+    requires { IsCharBoundary text.now at }
+    ensures { IsTrue result → PlainBlankAt text.now at (Some false) }
+{
+    match byte_at(text, at) {
+        Some(byte) => byte == b' ',
+        None => false,
     }
 }
 
@@ -318,13 +336,43 @@ pub(crate) fn line_end(text: &str, at: usize) -> usize
     ensures { IsLineEnd text.now at result }
 {
     let mut end = at;
-    'line: while let Some(next) = next_character(text, end) {
+    'line: loop {
+        if stays_on_line(text, end) {
+            end += 1;
+            continue;
+        }
+        let Some(next) = next_character(text, end) else {
+            return end;
+        };
         if is_line_terminator(next.value) {
             return end;
         }
         end = next.end;
     }
-    end
+}
+
+/// Whether an ASCII character that ends no line stands at a place.
+#[inline]
+fn stays_on_line(text: &str, at: usize) -> bool
+    requires { IsCharBoundary text.now at }
+    ensures { IsTrue result → Stays classes.stays_on_line text.now at }
+{
+    match byte_at(text, at) {
+        Some(byte) => !class_of(byte).may_end_line(),
+        None => false,
+    }
+}
+
+/// Whether an ASCII character that ends neither a line nor a block comment stands at a place.
+#[inline]
+fn stays_in_comment(text: &str, at: usize) -> bool
+    requires { IsCharBoundary text.now at }
+    ensures { IsTrue result → Stays classes.stays_in_comment text.now at }
+{
+    match byte_at(text, at) {
+        Some(byte) => !class_of(byte).may_end_comment(),
+        None => false,
+    }
 }
 
 /// The end of a block comment from behind its opening on, and whether a line terminator stands before it; none where
@@ -336,7 +384,15 @@ fn block_comment_end(text: &str, at: usize) -> Option<Trivia>
     let mut end = at;
     let mut star = false;
     let mut has_newline = false;
-    'block: while let Some(next) = next_character(text, end) {
+    'block: loop {
+        if stays_in_comment(text, end) {
+            star = false;
+            end += 1;
+            continue;
+        }
+        let Some(next) = next_character(text, end) else {
+            return None;
+        };
         if star && next.value == '/' {
             return Some(Trivia {
                 end: next.end,
@@ -347,5 +403,4 @@ fn block_comment_end(text: &str, at: usize) -> Option<Trivia>
         has_newline |= is_line_terminator(next.value);
         end = next.end;
     }
-    None
 }
