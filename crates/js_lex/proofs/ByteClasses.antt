@@ -1,7 +1,7 @@
 -- The table of the classes of bytes tells what the characters are.
-use Rattle.std.proofs.Common.{◌≡◌, ◌<◌, ℕ, Bool, true, false, List, [], ◌∷◌, zero, suc, refl, sym, ap, subst, ◌∙◌, not, ◌&&◌, ◌||◌, nat_lt, arith, ◌⊎◌, inl, inr, slice_index_or}
+use Rattle.std.proofs.Common.{◌≡◌, ◌<◌, ℕ, Bool, true, false, List, [], ◌∷◌, zero, suc, refl, sym, subst, ◌&&◌, ◌||◌, nat_lt, arith, ◌⊎◌, inl, inr, slice_index_or}
 use Rattle.js_grammar.specs.Characters.{is_identifier_start}
-use Rattle.js_grammar.specs.Lexemes.{Opening, opening}
+use Rattle.js_grammar.specs.Lexemes.{opening}
 use Rattle.js_lex.specs.Names.{is_ascii_part}
 use Rattle.js_lex.specs.declared.byte_class.ByteClass.{ByteClass}
 use Rattle.js_lex.specs.declared.byte_class.ByteClass.TheVariants.{Letter}

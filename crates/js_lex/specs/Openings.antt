@@ -12,7 +12,6 @@ opening_told opens.Number = lexemes.a_number
 opening_told opens.String = lexemes.a_string
 opening_told opens.Template = lexemes.a_template
 opening_told opens.PrivateName = lexemes.a_private_name
-opening_told opens.Alone = lexemes.a_punctuator
 opening_told opens.Punctuator = lexemes.a_punctuator
 
 abbrev pub end_at : ℕ → Scanned

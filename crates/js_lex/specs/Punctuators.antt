@@ -41,6 +41,7 @@ pub record StandsAlone (c : ℕ) (k : Kind) : Type 0 where
   pub free : one_of (46 ∷ 47 ∷ 63 ∷ []) c ≡ false
   pub ascii : c < 128
   pub none : (d : ℕ) → punctuator_of (c ∷ d ∷ []) ≡ None
+  pub opens : (digit : Bool) → opening c digit ≡ a_punctuator
 
 -- the longest punctuator at the place i
 pub record IsPunctuator (text : List ℕ) (i : ℕ) (p : Punctuator) : Type 0 where

@@ -10,7 +10,7 @@ ghost use Rattle.js_lex.specs.Names as names;
 ghost use Rattle.js_base.specs.declared.diagnostic.DiagnosticKind.TheVariants.{InvalidEscape};
 ghost use Rattle.js_lex.specs.Faults.{PartsEnd};
 ghost use Rattle.js_lex.specs.Places.{Word, High};
-ghost use Rattle.js_lex.specs.Scans.{Scans, IsStopped};
+ghost use Rattle.js_lex.specs.Scans.{Scans, IsScanned, IsStopped};
 ghost use Rattle.js_lex.specs.declared.name.State.TheVariants.{Due, Braced};
 
 use crate::byte_class::class_of;
@@ -86,12 +86,28 @@ const NO_LETTERS: Letters = Letters {
 
 /// The lengths of the words of the keyword table that begin with a byte, each as a bit.
 static LENGTHS: [u16; 256] = [
-    0, 0, 0, 0, 0, 0, 0, 0, 0, 0, 0, 0, 0, 0, 0, 0, 0, 0, 0, 0, 0, 0, 0, 0, 0, 0, 0, 0, 0, 0, 0, 0, 0, 0, 0, 0, 0, 0, 0, 0, 0, 0, 0, 0, 0, 0, 0, 0, 0, 0, 0, 0, 0, 0, 0, 0, 0, 0, 0, 0, 0, 0, 0, 0, 0, 0, 0, 0, 0, 0, 0, 0, 0, 0, 0, 0, 0, 0, 0, 0, 0, 0, 0, 0, 0, 0, 0, 0, 0, 0, 0, 0, 0, 0, 0, 0, 0, 356, 32, 2352, 484, 208, 440, 8, 0, 1604, 0, 0, 8, 16, 24, 4, 704, 0, 64, 616, 120, 32, 24, 48, 0, 32, 0, 0, 0, 0, 0, 0, 0, 0, 0, 0, 0, 0, 0, 0, 0, 0, 0, 0, 0, 0, 0, 0, 0, 0, 0, 0, 0, 0, 0, 0, 0, 0, 0, 0, 0, 0, 0, 0, 0, 0, 0, 0, 0, 0, 0, 0, 0, 0, 0, 0, 0, 0, 0, 0, 0, 0, 0, 0, 0, 0, 0, 0, 0, 0, 0, 0, 0, 0, 0, 0, 0, 0, 0, 0, 0, 0, 0, 0, 0, 0, 0, 0, 0, 0, 0, 0, 0, 0, 0, 0, 0, 0, 0, 0, 0, 0, 0, 0, 0, 0, 0, 0, 0, 0, 0, 0, 0, 0, 0, 0, 0, 0, 0, 0, 0, 0, 0, 0, 0, 0, 0, 0, 0, 0, 0, 0, 0, 0, 0, 0, 0, 0, 0, 0,
+    0, 0, 0, 0, 0, 0, 0, 0, 0, 0, 0, 0, 0, 0, 0, 0, 0, 0, 0, 0, 0, 0, 0, 0, 0, 0, 0, 0, 0, 0, 0, 0,
+    0, 0, 0, 0, 0, 0, 0, 0, 0, 0, 0, 0, 0, 0, 0, 0, 0, 0, 0, 0, 0, 0, 0, 0, 0, 0, 0, 0, 0, 0, 0, 0,
+    0, 0, 0, 0, 0, 0, 0, 0, 0, 0, 0, 0, 0, 0, 0, 0, 0, 0, 0, 0, 0, 0, 0, 0, 0, 0, 0, 0, 0, 0, 0, 0,
+    0, 356, 32, 2352, 484, 208, 440, 8, 0, 1604, 0, 0, 8, 16, 24, 4, 704, 0, 64, 616, 120, 32, 24,
+    48, 0, 32, 0, 0, 0, 0, 0, 0, 0, 0, 0, 0, 0, 0, 0, 0, 0, 0, 0, 0, 0, 0, 0, 0, 0, 0, 0, 0, 0, 0,
+    0, 0, 0, 0, 0, 0, 0, 0, 0, 0, 0, 0, 0, 0, 0, 0, 0, 0, 0, 0, 0, 0, 0, 0, 0, 0, 0, 0, 0, 0, 0, 0,
+    0, 0, 0, 0, 0, 0, 0, 0, 0, 0, 0, 0, 0, 0, 0, 0, 0, 0, 0, 0, 0, 0, 0, 0, 0, 0, 0, 0, 0, 0, 0, 0,
+    0, 0, 0, 0, 0, 0, 0, 0, 0, 0, 0, 0, 0, 0, 0, 0, 0, 0, 0, 0, 0, 0, 0, 0, 0, 0, 0, 0, 0, 0, 0, 0,
+    0, 0, 0, 0, 0, 0, 0, 0, 0, 0,
 ];
 
 /// The second bytes of the words of the keyword table that begin with a byte, each modulo 32 as a bit.
 static SECONDS: [u32; 256] = [
-    0, 0, 0, 0, 0, 0, 0, 0, 0, 0, 0, 0, 0, 0, 0, 0, 0, 0, 0, 0, 0, 0, 0, 0, 0, 0, 0, 0, 0, 0, 0, 0, 0, 0, 0, 0, 0, 0, 0, 0, 0, 0, 0, 0, 0, 0, 0, 0, 0, 0, 0, 0, 0, 0, 0, 0, 0, 0, 0, 0, 0, 0, 0, 0, 0, 0, 0, 0, 0, 0, 0, 0, 0, 0, 0, 0, 0, 0, 0, 0, 0, 0, 0, 0, 0, 0, 0, 0, 0, 0, 0, 0, 0, 0, 0, 0, 0, 8912904, 262144, 36866, 32800, 16797696, 2392578, 32, 0, 24640, 0, 0, 32, 32, 2097184, 64, 2359298, 0, 32, 11567138, 33816834, 524288, 32770, 768, 0, 512, 0, 0, 0, 0, 0, 0, 0, 0, 0, 0, 0, 0, 0, 0, 0, 0, 0, 0, 0, 0, 0, 0, 0, 0, 0, 0, 0, 0, 0, 0, 0, 0, 0, 0, 0, 0, 0, 0, 0, 0, 0, 0, 0, 0, 0, 0, 0, 0, 0, 0, 0, 0, 0, 0, 0, 0, 0, 0, 0, 0, 0, 0, 0, 0, 0, 0, 0, 0, 0, 0, 0, 0, 0, 0, 0, 0, 0, 0, 0, 0, 0, 0, 0, 0, 0, 0, 0, 0, 0, 0, 0, 0, 0, 0, 0, 0, 0, 0, 0, 0, 0, 0, 0, 0, 0, 0, 0, 0, 0, 0, 0, 0, 0, 0, 0, 0, 0, 0, 0, 0, 0, 0, 0, 0, 0, 0, 0, 0, 0, 0, 0, 0, 0, 0,
+    0, 0, 0, 0, 0, 0, 0, 0, 0, 0, 0, 0, 0, 0, 0, 0, 0, 0, 0, 0, 0, 0, 0, 0, 0, 0, 0, 0, 0, 0, 0, 0,
+    0, 0, 0, 0, 0, 0, 0, 0, 0, 0, 0, 0, 0, 0, 0, 0, 0, 0, 0, 0, 0, 0, 0, 0, 0, 0, 0, 0, 0, 0, 0, 0,
+    0, 0, 0, 0, 0, 0, 0, 0, 0, 0, 0, 0, 0, 0, 0, 0, 0, 0, 0, 0, 0, 0, 0, 0, 0, 0, 0, 0, 0, 0, 0, 0,
+    0, 8912904, 262144, 36866, 32800, 16797696, 2392578, 32, 0, 24640, 0, 0, 32, 32, 2097184, 64,
+    2359298, 0, 32, 11567138, 33816834, 524288, 32770, 768, 0, 512, 0, 0, 0, 0, 0, 0, 0, 0, 0, 0,
+    0, 0, 0, 0, 0, 0, 0, 0, 0, 0, 0, 0, 0, 0, 0, 0, 0, 0, 0, 0, 0, 0, 0, 0, 0, 0, 0, 0, 0, 0, 0, 0,
+    0, 0, 0, 0, 0, 0, 0, 0, 0, 0, 0, 0, 0, 0, 0, 0, 0, 0, 0, 0, 0, 0, 0, 0, 0, 0, 0, 0, 0, 0, 0, 0,
+    0, 0, 0, 0, 0, 0, 0, 0, 0, 0, 0, 0, 0, 0, 0, 0, 0, 0, 0, 0, 0, 0, 0, 0, 0, 0, 0, 0, 0, 0, 0, 0,
+    0, 0, 0, 0, 0, 0, 0, 0, 0, 0, 0, 0, 0, 0, 0, 0, 0, 0, 0, 0, 0, 0, 0, 0, 0, 0, 0, 0,
 ];
 
 /// A name that stands at a place: the kind of its word, the place behind it, and whether an escape sequence is in it.
@@ -103,29 +119,7 @@ struct Name {
 }
 
 /// The name at a place (ECMA-262, section 12.7), with the kind of the word that it stands for.
-#[inline]
 pub(crate) fn name_at(text: &str, at: usize) -> Scan
-    requires boundary { IsCharBoundary text.now at }
-    requires first { begins (λ c. is_identifier_start c || (c == 92)) (behind text.now at) ≡ true }
-    ensures { Scans division text.now at result }
-{
-    match ascii_name_end(text, at) {
-        Some(end) => {
-            let name = ascii_name(text, at, end);
-            Ok(Scanned {
-                kind: name.kind,
-                end: name.end,
-                escaped: name.escaped,
-                has_separator: false,
-            })
-        }
-        None => any_name_at(text, at),
-    }
-}
-
-/// The name at a place, of whichever characters.
-#[inline(never)]
-fn any_name_at(text: &str, at: usize) -> Scan
     requires boundary { IsCharBoundary text.now at }
     requires first { begins (λ c. is_identifier_start c || (c == 92)) (behind text.now at) ≡ true }
     ensures { Scans division text.now at result }
@@ -141,9 +135,29 @@ fn any_name_at(text: &str, at: usize) -> Scan
     }
 }
 
+/// The name at a place where all of it is ASCII characters, none of them escaped; none where that is not known at once.
+#[inline(always)]
+pub(crate) fn ascii_name_at(text: &str, at: usize) -> Option<Scanned>
+    requires { IsCharBoundary text.now at }
+    ensures { IfSome result (λ s. IsScanned division text.now at s) }
+{
+    match ascii_name_end(text, at) {
+        Some(end) => {
+            let name = ascii_name(text, at, end);
+            Some(Scanned {
+                kind: name.kind,
+                end: name.end,
+                escaped: name.escaped,
+                has_separator: false,
+            })
+        }
+        None => None,
+    }
+}
+
 /// The end of the name at a place where all of it is ASCII characters, none of them escaped; none where that is not
 /// known at once.
-#[inline]
+#[inline(always)]
 fn ascii_name_end(text: &str, at: usize) -> Option<usize>
     requires { IsCharBoundary text.now at }
     ensures { IfSome result (λ end. names.IsAsciiName text.now at end) }
@@ -162,7 +176,7 @@ fn ascii_name_end(text: &str, at: usize) -> Option<usize>
 }
 
 /// Whether the text ends at a place, or goes on with an ASCII character that is no backslash.
-#[inline]
+#[inline(always)]
 fn ends_ascii(text: &str, at: usize) -> bool
     requires boundary { IsCharBoundary text.now at }
     requires stops { begins names.is_ascii_part (behind text.now at) ≡ false }
@@ -388,7 +402,7 @@ fn kind_of_letters(letters: Letters) -> Kind
 }
 
 /// The kind of a word. Most words that are none of the keyword table are known so by their length and first bytes.
-#[inline]
+#[inline(always)]
 fn kind_of_word(word: &[u8]) -> Kind
     ensures { result ≡ keyword_of word.now }
 {
@@ -400,7 +414,7 @@ fn kind_of_word(word: &[u8]) -> Kind
 }
 
 /// Whether a word of the keyword table may have as many bytes and such first ones.
-#[inline]
+#[inline(always)]
 fn may_be_keyword(word: &[u8]) -> bool
     ensures { result ≡ names.may_be_keyword word.now }
 {
@@ -411,7 +425,7 @@ fn may_be_keyword(word: &[u8]) -> bool
 }
 
 /// Whether a word of the keyword table that begins with a byte has so many bytes.
-#[inline]
+#[inline(always)]
 fn is_length(first: u8, len: usize) -> bool
     requires { len ≤ 11 }
     ensures { result ≡ names.is_length first len }
@@ -420,7 +434,7 @@ fn is_length(first: u8, len: usize) -> bool
 }
 
 /// Whether a word of the keyword table that begins with a byte may have such a second one.
-#[inline]
+#[inline(always)]
 fn is_second(first: u8, second: u8) -> bool
     ensures { result ≡ names.is_second first second }
 {

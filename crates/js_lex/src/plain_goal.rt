@@ -1,20 +1,20 @@
 //! The plain lexical goal: InputElementDiv (ECMA-262, chapter 12).
 
-ghost use Rattle.std.specs.Prelude.{◌≡◌, ◌<◌, ◌≤◌, Bool, IsTrue, IsCharBoundary};
+ghost use Rattle.std.specs.Prelude.{◌≡◌, ◌<◌, ◌≤◌, Bool, IsTrue, IfSome, IsCharBoundary};
 ghost use Rattle.js_grammar.specs.Longest.{none_begins};
 ghost use Rattle.js_grammar.specs.Trivia.{is_trivia_piece};
 ghost use Rattle.js_grammar.specs.Lexemes.{division};
 ghost use Rattle.js_grammar.specs.Lexemes as lexemes;
 ghost use Rattle.js_grammar.specs.LexicalFaults.{behind};
-ghost use Rattle.js_lex.specs.Scans.{Scans};
+ghost use Rattle.js_lex.specs.Scans.{Scans, IsScanned};
 ghost use Rattle.js_lex.specs.Openings.{end_at, opening_told};
 
 use crate::byte_class::{ByteClass, class_of};
 use crate::character::next_character;
 use crate::class::is_identifier_start;
-use crate::name::{name_at, private_name_at};
+use crate::name::{ascii_name_at, name_at, private_name_at};
 use crate::number::number_at;
-use crate::place::digit_at;
+use crate::place::{byte_at, digit_at};
 use crate::punctuator::{alone_at, punctuator_at};
 use crate::scan::{Scan, Scanned};
 use crate::string::string_at;
@@ -29,13 +29,26 @@ enum Opening {
     String,
     Template,
     PrivateName,
-    /// A punctuator that begins no longer one.
-    Alone,
     Punctuator,
+}
+
+/// The lexeme of the plain goal that stands at a place, where its first byte tells that it is one of the frequent ones:
+/// a name of ASCII characters, or a punctuator that begins no longer one.
+#[inline(always)]
+pub(crate) fn frequent_at(text: &str, at: usize) -> Option<Scanned>
+    requires { IsCharBoundary text.now at }
+    ensures { IfSome result (λ s. IsScanned division text.now at s) }
+{
+    match class_of(byte_at(text, at)?) {
+        ByteClass::Letter => ascii_name_at(text, at),
+        ByteClass::Alone => alone_at(text, at),
+        _ => None,
+    }
 }
 
 /// The lexeme of the plain goal that stands at a place, where no trivia does. Of the punctuators that begin with `>` it
 /// is the longest one.
+#[inline(never)]
 pub(crate) fn plain_at(text: &str, at: usize) -> Scan
     requires boundary { IsCharBoundary text.now at }
     requires no_trivia { (first : Bool) × IsTrue (none_begins (is_trivia_piece first) (behind text.now at)) }
@@ -51,7 +64,6 @@ pub(crate) fn plain_at(text: &str, at: usize) -> Scan
         Opening::String => string_at(text, at),
         Opening::Template => template_at(text, at),
         Opening::PrivateName => private_name_at(text, at),
-        Opening::Alone => alone_at(text, at),
         Opening::Punctuator => punctuator_at(text, at),
     }
 }
@@ -93,8 +105,8 @@ fn ascii_opening(byte: u8, before_digit: bool) -> Opening
         ByteClass::Backquote => Opening::Template,
         ByteClass::Hash => Opening::PrivateName,
         ByteClass::Dot if before_digit => Opening::Number,
-        ByteClass::Alone => Opening::Alone,
         ByteClass::Dot
+        | ByteClass::Alone
         | ByteClass::Sign
         | ByteClass::Trivia
         | ByteClass::Star

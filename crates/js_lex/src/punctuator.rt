@@ -1,6 +1,6 @@
 //! Punctuators (ECMA-262, section 12.8), and characters at which no token begins.
 
-ghost use Rattle.std.specs.Prelude.{◌≡◌, ◌+◌, true, false, [], ◌∷◌, Some, IsCharBoundary, IsTrue, codes};
+ghost use Rattle.std.specs.Prelude.{◌≡◌, ◌+◌, true, false, [], ◌∷◌, Some, IfSome, IsCharBoundary, IsTrue, codes};
 ghost use Rattle.js_base.specs.Characters.{one_of};
 ghost use Rattle.js_base.specs.declared.kind.Kind.TheVariants.{Undetermined};
 ghost use Rattle.js_grammar.specs.CoreTexts.{starts};
@@ -8,7 +8,7 @@ ghost use Rattle.js_grammar.specs.LexicalFaults.{behind};
 ghost use Rattle.js_grammar.specs.Lexemes.{division};
 ghost use Rattle.js_lex.specs.Places.{Word, Peeks};
 ghost use Rattle.js_lex.specs.Punctuators.{punctuator_of, OpensPunctuator, BeginsNone, begins_no_comment, opens_no_comment, is_free, IsPunctuator, ReadsPunctuator, StandsAlone};
-ghost use Rattle.js_lex.specs.Scans.{Scans, IsStopped};
+ghost use Rattle.js_lex.specs.Scans.{Scans, IsScanned, IsStopped};
 
 use crate::place::{byte_at, char_at, digit_at, is_at};
 use crate::scan::{Fault, Scan, Scanned};
@@ -23,7 +23,6 @@ struct Punctuator {
 }
 
 /// The longest punctuator (12.8), or `@`, at a place at which no comment begins that ends.
-#[inline(never)]
 pub(crate) fn punctuator_at(text: &str, at: usize) -> Scan
     requires boundary { IsCharBoundary text.now at }
     requires opens { OpensPunctuator (behind text.now at) }
@@ -48,20 +47,16 @@ pub(crate) fn punctuator_at(text: &str, at: usize) -> Scan
     }
 }
 
-/// The punctuator at a place, where it begins no longer one; else whatever `punctuator_at` tells.
-#[inline]
-pub(crate) fn alone_at(text: &str, at: usize) -> Scan
+/// The punctuator at a place where it begins no longer one; none where that is not known at once.
+#[inline(always)]
+pub(crate) fn alone_at(text: &str, at: usize) -> Option<Scanned>
     requires boundary { IsCharBoundary text.now at }
-    requires opens { OpensPunctuator (behind text.now at) }
-    requires no_comment { begins_no_comment (behind text.now at) ≡ true }
-    ensures { Scans division text.now at result }
+    ensures { IfSome result (λ s. IsScanned division text.now at s) }
 {
-    let Some(byte) = byte_at(text, at) else {
-        return punctuator_at(text, at);
-    };
+    let byte = byte_at(text, at)?;
     match alone(byte) {
-        Kind::Undetermined => punctuator_at(text, at),
-        kind => Ok(Scanned {
+        Kind::Undetermined => None,
+        kind => Some(Scanned {
             kind,
             end: at + 1,
             escaped: false,

@@ -83,7 +83,7 @@ struct Told {
 }
 
 /// What is told of a token.
-fn tell(token: Token) -> Told {
+fn tell(token: &Token) -> Told {
     Told {
         kind: token.kind(),
         len: token.end().saturating_sub(token.start()),
@@ -100,29 +100,29 @@ fn next(
     let token = lexer.next_token()?;
     match token.kind() {
         Kind::Slash | Kind::SlashEq if !ends_operand(before) => match lexer.re_lex_regex(token) {
-            Ok((again, _)) => Ok(tell(again)),
+            Ok((again, _)) => Ok(tell(&again)),
             Err(error) => Err(error),
         },
         Kind::RCurly if braces.open == 0 && !braces.outer.is_empty() => {
             match lexer.re_lex_template_tail(token) {
-                Ok(again) => Ok(close(braces, tell(again))),
+                Ok(again) => Ok(close(braces, tell(&again))),
                 Err(error) => Err(error),
             }
         }
         Kind::RCurly => {
             braces.open = braces.open.saturating_sub(1);
-            Ok(tell(token))
+            Ok(tell(&token))
         }
         Kind::LCurly => {
             braces.open = braces.open.saturating_add(1);
-            Ok(tell(token))
+            Ok(tell(&token))
         }
         Kind::TemplateHead => {
             braces.outer.push(braces.open)?;
             braces.open = 0;
-            Ok(tell(token))
+            Ok(tell(&token))
         }
-        _ => Ok(tell(token)),
+        _ => Ok(tell(&token)),
     }
 }
 

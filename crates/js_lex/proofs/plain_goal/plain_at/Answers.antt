@@ -10,6 +10,3 @@ template_at-requires-clause-opening c = backquote_there c.in-Some.first.value c.
 
 pub punctuator_at-requires-clause-no_comment : goal.punctuator_at-requires-clause-no_comment
 punctuator_at-requires-clause-no_comment c = comment_free c.requires.no_trivia.0 (behind c.args.text.now c.args.at) c.requires.no_trivia.1
-
-pub alone_at-requires-clause-no_comment : goal.alone_at-requires-clause-no_comment
-alone_at-requires-clause-no_comment c = comment_free c.requires.no_trivia.0 (behind c.args.text.now c.args.at) c.requires.no_trivia.1
