@@ -42,3 +42,4 @@ pub mod Settled
 pub mod Lying
 pub mod Ordered
 pub mod Marked
+pub mod ByteClasses

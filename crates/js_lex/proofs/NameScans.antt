@@ -16,7 +16,7 @@ use Rattle.js_grammar.specs.Numbers.{stops_number}
 use Rattle.js_grammar.specs.Lexemes.{Opening, opening, a_name, a_number, a_string, a_template, a_private_name, a_punctuator, lexemes_in, division, is_word, is_escaped}
 use Rattle.js_grammar.specs.Lexed.{IsLexeme}
 use Rattle.js_grammar.specs.LexicalFaults.{behind, begins_nothing, Stopping}
-use Rattle.js_grammar.proofs.LongestLemmas.{both, not-true}
+use Rattle.js_grammar.proofs.LongestLemmas.{both, both-left, not-true}
 use Rattle.js_grammar.proofs.CoreLemmas.{none_longer-from}
 use Rattle.js_grammar.proofs.CorePlain.{no_backslash, points-plain}
 use Rattle.std.proofs.lemmas.Bool.{eqb-true, cases_lt}
@@ -26,7 +26,7 @@ use Rattle.js_lex.specs.Places.{Word, Peeks}
 use Rattle.js_lex.specs.Scans.{IsScanned, IsStopped, NoLexeme}
 use Rattle.js_lex.specs.Faults.{PartsEnd, Reaches, fault_kind, kind_of_fault}
 use Rattle.js_lex.specs.declared.scan.Fault.{Fault}
-use Rattle.js_lex.specs.Names.{Spells, Refuses, is_refused, IsName}
+use Rattle.js_lex.specs.Names.{AsciiName, Spells, Refuses, is_refused, IsName}
 use Rattle.js_lex.proofs.Places.{then, one_character}
 use Rattle.js_lex.proofs.Plain.{Opens, plain_is, is_lexeme, no_lexeme}
 use Rattle.js_lex.proofs.Names.{spells-some, name-longest, name-kind, private-longest, private-kind, no-name, never-name, no-private}
@@ -242,3 +242,11 @@ private-nothing {text = text} {i = i} {j = j} u m g n =
       told = sym (ap fault_kind m.splits ∙ ap (λ (b : Bool). elim b [ true ↦ InvalidEscape | false ↦ InvalidCharacter ]) g);
       reaches = tt;
     }
+
+-- a name of ASCII characters begins as a name
+pub ascii-opens : {text : List ℕ} {i j : ℕ} → AsciiName text i j → begins opens_name (behind text i) ≡ true
+ascii-opens {text = text} {i = i} {j = j} a = subst (λ (v : List ℕ). begins opens_name v ≡ true) (sym a.stands.splits) (by a.word a.is)
+  where
+    by : (w : List ℕ) → is_plain_name w ≡ true → begins opens_name (w ++ behind text j) ≡ true
+    by [] h = absurd (cc)
+    by (c ∷ w) h = ap (λ (b : Bool). b || (c == 92)) (both-left (is_identifier_start c) (Rattle.std.specs.List.list_all Rattle.js_grammar.specs.Characters.is_identifier_part w) h)

@@ -1,5 +1,5 @@
 -- Names at places of a text: the letters that are kept of them, and names of ASCII characters.
-use Rattle.std.proofs.Common.{◌≡◌, ◌<◌, ◌≤◌, ℕ, ◌+◌, ◌-◌, ◌==◌, Bool, true, false, List, [], ◌∷◌, ◌++◌, refl, sym, ap, subst, ◌∙◌, not, ◌||◌, append_assoc, nat_lt, arith, length, length-append, take, drop}
+use Rattle.std.proofs.Common.{◌≡◌, ◌<◌, ◌≤◌, ℕ, ◌+◌, ◌-◌, ◌==◌, Bool, true, false, List, [], ◌∷◌, ◌++◌, refl, sym, ap, subst, ◌∙◌, not, ◌&&◌, ◌||◌, append_assoc, nat_lt, arith, length, length-append, take, drop}
 use Rattle.std.specs.Prelude.{IsCharBoundary, IsUtf8, encode_utf8_all, slice_range}
 use Rattle.std.specs.List.{list_all}
 use Rattle.std.proofs.Math.Seq.{take-append_seam}
@@ -111,6 +111,19 @@ ascii-whole {text = text} {i = i} {j = j} {first = first} f l n a =
       is = both (is_identifier_start first.code_point) (list_all is_identifier_part a.word) f.passes
           (all-mono is_ascii_part is_identifier_part a.word (λ c h. both-right (nat_lt c 128) (is_identifier_part c) h) a.parts);
       ascii = both (nat_lt first.code_point 128) (list_all (λ c. nat_lt c 128) a.word) (lt-is first.code_point 128 l)
+          (all-mono is_ascii_part (λ c. nat_lt c 128) a.word (λ c h. both-left (nat_lt c 128) (is_identifier_part c) h) a.parts);
+    }
+
+-- a name that begins with an ASCII character
+pub ascii-opened : {text : List ℕ} {i j b : ℕ} → Peeks text i b → (nat_lt b 128 && is_identifier_start b) ≡ true → AsciiParts text (i + 1) j → AsciiName text i j
+ascii-opened {b = b} p h a =
+    let low = both-left (nat_lt b 128) (is_identifier_start b) h in
+    record {
+      word = b ∷ a.word;
+      stands = then (p.ascii (lt-true b 128 low)) a.stands;
+      is = both (is_identifier_start b) (list_all is_identifier_part a.word) (both-right (nat_lt b 128) (is_identifier_start b) h)
+          (all-mono is_ascii_part is_identifier_part a.word (λ c h. both-right (nat_lt c 128) (is_identifier_part c) h) a.parts);
+      ascii = both (nat_lt b 128) (list_all (λ c. nat_lt c 128) a.word) low
           (all-mono is_ascii_part (λ c. nat_lt c 128) a.word (λ c h. both-left (nat_lt c 128) (is_identifier_part c) h) a.parts);
     }
 

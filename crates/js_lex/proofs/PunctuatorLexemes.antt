@@ -1,4 +1,6 @@
 -- What the longest punctuator, or none, tells of lexemes.
+use Rattle.js_lex.proofs.Punctuators.{alone_there}
+use Rattle.js_lex.specs.Punctuators.{StandsAlone}
 use Rattle.std.proofs.Common.{◌≡◌, ◌≤◌, ℕ, ◌+◌, ◌==◌, Bool, true, false, List, [], ◌∷◌, ◌++◌, refl, sym, ap, subst, ◌∙◌, not, ◌&&◌, ◌||◌, append_assoc, arith, Some, None, length, length-append, length-drop, drop}
 use Rattle.std.specs.Prelude.{is_some, IsCharBoundary, IsUtf8, bytes_eq, codes, encode_utf8, encode_utf8_all}
 use Rattle.std.specs.Char.{len_utf8}
@@ -24,7 +26,7 @@ use Rattle.js_grammar.proofs.LongestLemmas.{both-left, both-right, both, not-tru
 use Rattle.js_grammar.proofs.Finding.{neither-left, neither-right, found-all}
 use Rattle.js_grammar.proofs.CoreLemmas.{none_longer-from, plain_of}
 use Rattle.js_lex.specs.declared.punctuator.Punctuator.{Punctuator}
-use Rattle.js_lex.specs.Places.{Word}
+use Rattle.js_lex.specs.Places.{Word, Peeks}
 use Rattle.js_lex.specs.Faults.{fault_kind, kind_of_fault, stray_kind}
 use Rattle.js_lex.specs.Punctuators.{punctuator_of, OpensPunctuator, BeginsNone, begins_no_comment, IsPunctuator}
 use Rattle.js_lex.specs.Scans.{IsScanned, IsStopped, NoLexeme}
@@ -274,3 +276,7 @@ unterminated {text = text} {i = i} u b h n =
       told = sym (ap fault_kind g.is);
       reaches = tt;
     }
+
+-- a punctuator that begins no longer one
+pub alone_scanned : {text : List ℕ} {i b : ℕ} {k : Kind} → Peeks text i b → StandsAlone b k → IsScanned division text i (record { kind = k; end = i + 1; escaped = false; has_separator = false })
+alone_scanned {text = text} {i = i} {b = b} p s = scanned (subst OpensPunctuator (sym (p.ascii s.ascii).splits) (s.opens (begins is_decimal (behind text (i + 1))))) (alone_there p s)

@@ -17,7 +17,7 @@ use Rattle.js_grammar.proofs.Finding.{neither-left, neither-right, found-test, f
 use Rattle.js_grammar.proofs.CoreLemmas.{implies, implied}
 use Rattle.js_grammar.proofs.CoreFirst.{lt-true}
 use Rattle.js_lex.specs.Places.{Word, Peeks}
-use Rattle.js_lex.specs.Punctuators.{punctuator_of, is_free, opens_no_comment, IsPunctuator}
+use Rattle.js_lex.specs.Punctuators.{punctuator_of, is_free, opens_no_comment, IsPunctuator, StandsAlone}
 use Rattle.js_lex.proofs.Places.{then}
 
 -- what is found where fewer pass
@@ -214,3 +214,7 @@ begins_none {text = text} {i = i} {b = b} p e = go (cases_lt b 128)
     go : (b < 128) ⊎ (128 ≤ b) → Rattle.js_lex.specs.Punctuators.BeginsNone (behind text i)
     go (inl l) = subst Rattle.js_lex.specs.Punctuators.BeginsNone (sym (p.ascii l).splits) e
     go (inr h) = let q = p.high h in subst Rattle.js_lex.specs.Punctuators.BeginsNone (sym q.word.splits) (high_none [] q.character [] q.high)
+
+-- a character that is a punctuator and begins no longer one
+pub alone_there : {text : List ℕ} {i b : ℕ} {k : Kind} → Peeks text i b → StandsAlone b k → IsPunctuator text i (record { kind = k; end = i + 1 })
+alone_there {text = text} {i = i} {b = b} p s = alone (p.ascii s.ascii) s.kind (first_free b [] s.free) (record { none = λ d r e. s.none d })

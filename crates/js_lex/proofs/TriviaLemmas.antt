@@ -12,7 +12,14 @@ use Rattle.js_grammar.specs.Trivia.{after, within_line, closes_comment, is_blank
 use Rattle.js_grammar.specs.CoreTexts.{starts}
 use Rattle.js_grammar.specs.LexicalFaults.{behind}
 use Rattle.js_grammar.proofs.LongestLemmas.{both-left, both-right, both, not-true, none_longer-at}
-use Rattle.js_grammar.proofs.Finding.{neither}
+use Rattle.js_grammar.proofs.Finding.{neither, neither-left, neither-right}
+use Rattle.js_grammar.proofs.CoreFirst.{lt-true}
+use Rattle.js_base.specs.Characters.{one_of}
+use Rattle.js_grammar.specs.Trivia.{is_irregular}
+use Rattle.js_lex.specs.declared.byte_class.ByteClass.{ByteClass}
+use Rattle.js_lex.specs.ByteClasses.{IsOf, Stays, is_trivia_class, begins_no_trivia, is_line_class, is_comment_class, stays_on_line, stays_in_comment}
+use Rattle.std.proofs.lemmas.Bool.{eqb-true}
+use Rattle.js_lex.proofs.ByteClasses.{agree, stays}
 use Rattle.js_grammar.proofs.CoreLemmas.{none_longer-from}
 use Rattle.js_lex.specs.Places.{Word, Peeks}
 use Rattle.std.specs.Char.{len_utf8}
@@ -337,3 +344,71 @@ visible c h k = ascii (λ e. nat_lt 32 e && nat_lt e 127) (λ e. not (is_blank (
   where
     between : (c : ℕ) → 32 < c → c < 127 → (nat_lt 32 c && nat_lt c 127) ≡ true
     between c h k = grind (arith, nat_tests)
+
+-- a space, tab, CR or LF, by its byte
+abbrev plain : ℕ → Bool
+plain b = one_of (32 ∷ 9 ∷ 10 ∷ 13 ∷ []) b
+
+plain_ascii : (b : ℕ) → plain b ≡ true → b < 128
+plain_ascii b h = grind (arith, nat_tests)
+
+pub plain_byte : {text : List ℕ} {at b : ℕ} (newline : Bool) → Peeks text at b → plain b ≡ true → newline ≡ one_of (10 ∷ 13 ∷ []) b → PlainBlankAt text at (Some newline)
+plain_byte {text = text} {at = at} {b = b} newline p h e =
+    let l = plain_ascii b h in
+    plain_blank b newline (ascii_there b (p.ascii l) l) (other 47 refl) (other 60 refl) (other 45 refl) (record {
+      blank = ascii plain (λ c. is_blank (c ∷ [])) b refl l h;
+      end = ap (λ (n : ℕ). at + n) (sym (len_utf8_ascii b l));
+      comment = refl;
+      html = refl;
+      irregular = sym (not-true (is_irregular (b ∷ [])) (ascii plain (λ c. not (is_irregular (c ∷ []))) b refl l h));
+      newline = e ∙ agree 128 (one_of (10 ∷ 13 ∷ [])) is_line_terminator refl b l;
+    })
+  where
+    other : (a : ℕ) → plain a ≡ false → b ≡ a → ⊥
+    other a n q = let k : plain a ≡ true = subst (λ (x : ℕ). plain x ≡ true) q h in let z : false ≡ true = sym n ∙ k in cc
+
+-- a byte with which no trivia begins
+pub no_trivia : {text : List ℕ} {at b : ℕ} {k : ByteClass} → Peeks text at b → IsOf b k → is_trivia_class k ≡ false → (first : Bool) → PieceAt first text at None
+no_trivia {text = text} {at = at} {b = b} {k = k} p o n first =
+    let t : begins_no_trivia b ≡ true = subst (λ (x : Bool). (x || begins_no_trivia b) ≡ true) n o.trivia in
+    let l = lt-true b 128 (both-left (nat_lt b 128) (not (is_blank (b ∷ [])) && not ((47 == b) || ((60 == b) || (45 == b)))) t) in
+    let r = both-right (nat_lt b 128) (not (is_blank (b ∷ [])) && not ((47 == b) || ((60 == b) || (45 == b)))) t in
+    let blank = not-true (is_blank (b ∷ [])) (both-left (not (is_blank (b ∷ []))) (not ((47 == b) || ((60 == b) || (45 == b)))) r) in
+    let c = not-true ((47 == b) || ((60 == b) || (45 == b))) (both-right (not (is_blank (b ∷ []))) (not ((47 == b) || ((60 == b) || (45 == b)))) r) in
+    let d = neither-right (47 == b) ((60 == b) || (45 == b)) c in
+    none_there (p.ascii l) first (none_piece first b (behind text (at + 1)) blank (neither-left (47 == b) ((60 == b) || (45 == b)) c, neither-left (60 == b) (45 == b) d, neither-right (60 == b) (45 == b) d))
+
+pub space_byte : {text : List ℕ} {at b : ℕ} → Peeks text at b → (b == 32) ≡ true → PlainBlankAt text at (Some false)
+space_byte {text = text} {at = at} {b = b} p t =
+    let e : b ≡ 32 = eqb-true b 32 t in
+    plain_byte {b = 32} false (subst (λ (x : ℕ). Peeks text at x) e p) refl refl
+
+-- characters of lines and comments, by their bytes
+on_line_low : (b : ℕ) → stays_on_line b ≡ true → b < 128
+on_line_low b h = lt-true b 128 (both-left (nat_lt b 128) (not (is_line_terminator b)) h)
+
+pub on_line : {text : List ℕ} {at b : ℕ} {k : ByteClass} → Peeks text at b → IsOf b k → is_line_class k ≡ false → Stays stays_on_line text at
+on_line {b = b} {k = k} p o n = stays stays_on_line (is_line_class k) p o.line n (on_line_low b)
+
+pub in_comment : {text : List ℕ} {at b : ℕ} {k : ByteClass} → Peeks text at b → IsOf b k → is_comment_class k ≡ false → Stays stays_in_comment text at
+in_comment {b = b} {k = k} p o n = stays stays_in_comment (is_comment_class k) p o.comment n (λ h. on_line_low b (both-left (stays_on_line b) (not ((47 == b) || (b == 42))) h))
+
+on_line_no : (c : ℕ) → stays_on_line c ≡ true → is_line_terminator c ≡ false
+on_line_no c h = not-true (is_line_terminator c) (both-right (nat_lt c 128) (not (is_line_terminator c)) h)
+
+pub line_on : {text : List ℕ} {i j : ℕ} (w : List ℕ) → Word text i j w → within_line w ≡ true → Stays stays_on_line text j → (v : List ℕ) × Word text i (j + 1) v × (within_line v ≡ true)
+line_on w a h s = (w ++ s.character ∷ [], then a s.word, line_more w s.character h (on_line_no s.character s.passes))
+
+pub block_on : {text : List ℕ} {i j : ℕ} {star newline : Bool} (w : List ℕ) → Word text i j w → ((v : List ℕ) → closes_comment false (w ++ v) ≡ closes_comment star v) → newline ≡ has_line_terminator w → Stays stays_in_comment text j
+    → (u : List ℕ) × Word text i (j + 1) u × ((v : List ℕ) → closes_comment false (u ++ v) ≡ closes_comment false v) × (newline ≡ has_line_terminator u)
+block_on {star = star} {newline = newline} w a f n s =
+    let c = s.character in
+    let l = on_line_no c (both-left (stays_on_line c) (not ((47 == c) || (c == 42))) s.passes) in
+    let q = not-true ((47 == c) || (c == 42)) (both-right (stays_on_line c) (not ((47 == c) || (c == 42))) s.passes) in
+    let slash = neither-left (47 == c) (c == 42) q in
+    let asterisk = neither-right (47 == c) (c == 42) q in
+    (w ++ c ∷ [], then a s.word, (λ v. block_more w star c f (either star c slash) v ∙ ap (λ (b : Bool). closes_comment b v) asterisk), sym (or-false newline) ∙ newline_more w c newline false n (sym l))
+  where
+    either : (star : Bool) (c : ℕ) → (47 == c) ≡ false → (star ≡ true × (c ≡ 47 → ⊥)) ⊎ (star ≡ false)
+    either true c h = inl (refl, λ e. let k : (47 == 47) ≡ false = subst (λ (x : ℕ). (47 == x) ≡ false) e h in cc)
+    either false c h = inr refl

@@ -16,3 +16,4 @@ pub mod TemplateParts
 pub mod RegularExpressionParts
 pub mod Hashbangs
 pub mod Strings
+pub mod ByteClasses

@@ -1,5 +1,5 @@
 -- Punctuators at a place.
-use Rattle.std.specs.Prelude.{ℕ, ◌≡◌, ◌==◌, Bool, true, false, not, ◌&&◌, ◌||◌, List, [], ◌∷◌, ◌++◌, Option, Some, None, bytes_eq, codes, IsTrue, MatchOption}
+use Rattle.std.specs.Prelude.{ℕ, ◌≡◌, ◌<◌, ◌==◌, Bool, true, false, not, ◌&&◌, ◌||◌, List, [], ◌∷◌, ◌++◌, Option, Some, None, bytes_eq, codes, IsTrue, MatchOption}
 use Rattle.std.specs.List.{find}
 use Rattle.js_base.specs.declared.kind.Kind.{Kind}
 use Rattle.js_base.specs.Texts.{text_of, punctuators}
@@ -34,6 +34,14 @@ punctuator_of w = find (λ k. bytes_eq (text_of k) w) punctuators
 abbrev pub is_free : List ℕ → Bool
 is_free [] = false
 is_free (c ∷ cs) = not (one_of (46 ∷ 47 ∷ []) c || (one_of (63 ∷ []) c && begins (one_of (46 ∷ [])) cs))
+
+-- the punctuator that is written as the character, and no longer one begins with it
+pub record StandsAlone (c : ℕ) (k : Kind) : Type 0 where
+  pub kind : punctuator_of (c ∷ []) ≡ Some k
+  pub free : one_of (46 ∷ 47 ∷ 63 ∷ []) c ≡ false
+  pub ascii : c < 128
+  pub none : (d : ℕ) → punctuator_of (c ∷ d ∷ []) ≡ None
+  pub opens : (digit : Bool) → opening c digit ≡ a_punctuator
 
 -- the longest punctuator at the place i
 pub record IsPunctuator (text : List ℕ) (i : ℕ) (p : Punctuator) : Type 0 where

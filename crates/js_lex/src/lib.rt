@@ -1,6 +1,7 @@
 //! The lexer (ECMA-262, chapter 12): one token at a time, by the lexical goal that the parser asks for.
 #![tactic(auto)]
 
+mod byte_class;
 mod character;
 mod checkpoint;
 mod class;

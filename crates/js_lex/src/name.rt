@@ -1,6 +1,6 @@
 //! Names and private names (ECMA-262, section 12.7).
 
-ghost use Rattle.std.specs.Prelude.{◌≡◌, ◌<◌, ◌≤◌, ℕ, ◌+◌, ◌||◌, ◌==◌, List, [], ◌∷◌, ◌++◌, true, false, length, MatchResult, IsCharBoundary, IsTrue};
+ghost use Rattle.std.specs.Prelude.{◌≡◌, ◌<◌, ◌≤◌, ℕ, ◌+◌, ◌||◌, ◌==◌, List, [], ◌∷◌, ◌++◌, true, false, length, MatchResult, IfSome, IsCharBoundary, IsTrue};
 ghost use Rattle.js_base.specs.Escapes.{in_name, unicode, step as escape_step};
 ghost use Rattle.js_base.specs.Keywords.{keyword_of};
 ghost use Rattle.js_grammar.specs.Characters.{begins, is_identifier_start, is_identifier_part};
@@ -10,9 +10,10 @@ ghost use Rattle.js_lex.specs.Names as names;
 ghost use Rattle.js_base.specs.declared.diagnostic.DiagnosticKind.TheVariants.{InvalidEscape};
 ghost use Rattle.js_lex.specs.Faults.{PartsEnd};
 ghost use Rattle.js_lex.specs.Places.{Word, High};
-ghost use Rattle.js_lex.specs.Scans.{Scans, IsStopped};
+ghost use Rattle.js_lex.specs.Scans.{Scans, IsScanned, IsStopped};
 ghost use Rattle.js_lex.specs.declared.name.State.TheVariants.{Due, Braced};
 
+use crate::byte_class::class_of;
 use crate::class;
 use crate::part::parts_end;
 use crate::place::{byte_at, char_at};
@@ -83,6 +84,32 @@ const NO_LETTERS: Letters = Letters {
     is_other: false,
 };
 
+/// The lengths of the words of the keyword table that begin with a byte, each as a bit.
+static LENGTHS: [u16; 256] = [
+    0, 0, 0, 0, 0, 0, 0, 0, 0, 0, 0, 0, 0, 0, 0, 0, 0, 0, 0, 0, 0, 0, 0, 0, 0, 0, 0, 0, 0, 0, 0, 0,
+    0, 0, 0, 0, 0, 0, 0, 0, 0, 0, 0, 0, 0, 0, 0, 0, 0, 0, 0, 0, 0, 0, 0, 0, 0, 0, 0, 0, 0, 0, 0, 0,
+    0, 0, 0, 0, 0, 0, 0, 0, 0, 0, 0, 0, 0, 0, 0, 0, 0, 0, 0, 0, 0, 0, 0, 0, 0, 0, 0, 0, 0, 0, 0, 0,
+    0, 356, 32, 2352, 484, 208, 440, 8, 0, 1604, 0, 0, 8, 16, 24, 4, 704, 0, 64, 616, 120, 32, 24,
+    48, 0, 32, 0, 0, 0, 0, 0, 0, 0, 0, 0, 0, 0, 0, 0, 0, 0, 0, 0, 0, 0, 0, 0, 0, 0, 0, 0, 0, 0, 0,
+    0, 0, 0, 0, 0, 0, 0, 0, 0, 0, 0, 0, 0, 0, 0, 0, 0, 0, 0, 0, 0, 0, 0, 0, 0, 0, 0, 0, 0, 0, 0, 0,
+    0, 0, 0, 0, 0, 0, 0, 0, 0, 0, 0, 0, 0, 0, 0, 0, 0, 0, 0, 0, 0, 0, 0, 0, 0, 0, 0, 0, 0, 0, 0, 0,
+    0, 0, 0, 0, 0, 0, 0, 0, 0, 0, 0, 0, 0, 0, 0, 0, 0, 0, 0, 0, 0, 0, 0, 0, 0, 0, 0, 0, 0, 0, 0, 0,
+    0, 0, 0, 0, 0, 0, 0, 0, 0, 0,
+];
+
+/// The second bytes of the words of the keyword table that begin with a byte, each modulo 32 as a bit.
+static SECONDS: [u32; 256] = [
+    0, 0, 0, 0, 0, 0, 0, 0, 0, 0, 0, 0, 0, 0, 0, 0, 0, 0, 0, 0, 0, 0, 0, 0, 0, 0, 0, 0, 0, 0, 0, 0,
+    0, 0, 0, 0, 0, 0, 0, 0, 0, 0, 0, 0, 0, 0, 0, 0, 0, 0, 0, 0, 0, 0, 0, 0, 0, 0, 0, 0, 0, 0, 0, 0,
+    0, 0, 0, 0, 0, 0, 0, 0, 0, 0, 0, 0, 0, 0, 0, 0, 0, 0, 0, 0, 0, 0, 0, 0, 0, 0, 0, 0, 0, 0, 0, 0,
+    0, 8912904, 262144, 36866, 32800, 16797696, 2392578, 32, 0, 24640, 0, 0, 32, 32, 2097184, 64,
+    2359298, 0, 32, 11567138, 33816834, 524288, 32770, 768, 0, 512, 0, 0, 0, 0, 0, 0, 0, 0, 0, 0,
+    0, 0, 0, 0, 0, 0, 0, 0, 0, 0, 0, 0, 0, 0, 0, 0, 0, 0, 0, 0, 0, 0, 0, 0, 0, 0, 0, 0, 0, 0, 0, 0,
+    0, 0, 0, 0, 0, 0, 0, 0, 0, 0, 0, 0, 0, 0, 0, 0, 0, 0, 0, 0, 0, 0, 0, 0, 0, 0, 0, 0, 0, 0, 0, 0,
+    0, 0, 0, 0, 0, 0, 0, 0, 0, 0, 0, 0, 0, 0, 0, 0, 0, 0, 0, 0, 0, 0, 0, 0, 0, 0, 0, 0, 0, 0, 0, 0,
+    0, 0, 0, 0, 0, 0, 0, 0, 0, 0, 0, 0, 0, 0, 0, 0, 0, 0, 0, 0, 0, 0, 0, 0, 0, 0, 0, 0,
+];
+
 /// A name that stands at a place: the kind of its word, the place behind it, and whether an escape sequence is in it.
 #[derive(Debug, Clone, Copy)]
 struct Name {
@@ -105,6 +132,59 @@ pub(crate) fn name_at(text: &str, at: usize) -> Scan
             has_separator: false,
         }),
         Err(_) => Err(invalid_escape(text, at)),
+    }
+}
+
+/// The name at a place where all of it is ASCII characters, none of them escaped; none where that is not known at once.
+#[inline(always)]
+pub(crate) fn ascii_name_at(text: &str, at: usize) -> Option<Scanned>
+    requires { IsCharBoundary text.now at }
+    ensures { IfSome result (λ s. IsScanned division text.now at s) }
+{
+    match ascii_name_end(text, at) {
+        Some(end) => {
+            let name = ascii_name(text, at, end);
+            Some(Scanned {
+                kind: name.kind,
+                end: name.end,
+                escaped: name.escaped,
+                has_separator: false,
+            })
+        }
+        None => None,
+    }
+}
+
+/// The end of the name at a place where all of it is ASCII characters, none of them escaped; none where that is not
+/// known at once.
+#[inline(always)]
+fn ascii_name_end(text: &str, at: usize) -> Option<usize>
+    requires { IsCharBoundary text.now at }
+    ensures { IfSome result (λ end. names.IsAsciiName text.now at end) }
+{
+    match byte_at(text, at) {
+        Some(byte) if class_of(byte).is_letter() => {
+            let end = ascii_parts_end(text, at + 1);
+            if ends_ascii(text, end) {
+                Some(end)
+            } else {
+                None
+            }
+        }
+        _ => None,
+    }
+}
+
+/// Whether the text ends at a place, or goes on with an ASCII character that is no backslash.
+#[inline(always)]
+fn ends_ascii(text: &str, at: usize) -> bool
+    requires boundary { IsCharBoundary text.now at }
+    requires stops { begins names.is_ascii_part (behind text.now at) ≡ false }
+    ensures { IsTrue result → names.Refuses is_identifier_part (behind text.now at) }
+{
+    match byte_at(text, at) {
+        Some(byte) => byte < 128 && byte != b'\\',
+        None => true,
     }
 }
 
@@ -227,13 +307,8 @@ fn is_at_end(text: &str, at: usize) -> bool
     requires stops { begins names.is_ascii_part (behind text.now at) ≡ false }
     ensures { IsTrue result → names.Refuses is_identifier_part (behind text.now at) }
 {
-    match byte_at(text, at) {
-        Some(byte) => {
-            if byte < 128 && byte != b'\\' {
-                return true;
-            }
-        }
-        None => return true,
+    if ends_ascii(text, at) {
+        return true;
     }
     match piece_at(text, at, Position::Part) {
         Ok(_) => false,
@@ -261,10 +336,11 @@ fn ascii_parts_end(text: &str, at: usize) -> usize
 }
 
 /// Whether a byte is an ASCII character of a name.
+#[inline]
 fn is_ascii_part(byte: u8) -> bool
     ensures { result ≡ names.is_ascii_part byte }
 {
-    byte.is_ascii_alphanumeric() || byte == b'_' || byte == b'$'
+    class_of(byte).is_in_name()
 }
 
 /// The longest name whose first code point is known, each character of it taken for what it stands for.
@@ -325,15 +401,44 @@ fn kind_of_letters(letters: Letters) -> Kind
     }
 }
 
-/// The kind of a word: the words of the keyword table have two to eleven bytes.
+/// The kind of a word. Most words that are none of the keyword table are known so by their length and first bytes.
+#[inline(always)]
 fn kind_of_word(word: &[u8]) -> Kind
     ensures { result ≡ keyword_of word.now }
 {
-    if word.len() < 2 || word.len() > 11 {
-        Kind::Ident
-    } else {
+    if may_be_keyword(word) {
         keyword_kind(word)
+    } else {
+        Kind::Ident
     }
+}
+
+/// Whether a word of the keyword table may have as many bytes and such first ones.
+#[inline(always)]
+fn may_be_keyword(word: &[u8]) -> bool
+    ensures { result ≡ names.may_be_keyword word.now }
+{
+    word.len() >= 2
+        && word.len() <= 11
+        && is_length(word[0], word.len())
+        && is_second(word[0], word[1])
+}
+
+/// Whether a word of the keyword table that begins with a byte has so many bytes.
+#[inline(always)]
+fn is_length(first: u8, len: usize) -> bool
+    requires { len ≤ 11 }
+    ensures { result ≡ names.is_length first len }
+{
+    (LENGTHS[first as usize] >> len) & 1 == 1
+}
+
+/// Whether a word of the keyword table that begins with a byte may have such a second one.
+#[inline(always)]
+fn is_second(first: u8, second: u8) -> bool
+    ensures { result ≡ names.is_second first second }
+{
+    (SECONDS[first as usize] >> (second % 32)) & 1 == 1
 }
 
 /// The character or the escape sequence at a place, if its code point may stand there in a name; else, where a

@@ -1,20 +1,21 @@
 //! The plain lexical goal: InputElementDiv (ECMA-262, chapter 12).
 
-ghost use Rattle.std.specs.Prelude.{◌≡◌, Bool, IsTrue, IsCharBoundary};
+ghost use Rattle.std.specs.Prelude.{◌≡◌, ◌<◌, ◌≤◌, Bool, IsTrue, IfSome, IsCharBoundary};
 ghost use Rattle.js_grammar.specs.Longest.{none_begins};
 ghost use Rattle.js_grammar.specs.Trivia.{is_trivia_piece};
 ghost use Rattle.js_grammar.specs.Lexemes.{division};
 ghost use Rattle.js_grammar.specs.Lexemes as lexemes;
 ghost use Rattle.js_grammar.specs.LexicalFaults.{behind};
-ghost use Rattle.js_lex.specs.Scans.{Scans};
+ghost use Rattle.js_lex.specs.Scans.{Scans, IsScanned};
 ghost use Rattle.js_lex.specs.Openings.{end_at, opening_told};
 
+use crate::byte_class::{ByteClass, class_of};
 use crate::character::next_character;
 use crate::class::is_identifier_start;
-use crate::name::{name_at, private_name_at};
+use crate::name::{ascii_name_at, name_at, private_name_at};
 use crate::number::number_at;
-use crate::place::digit_at;
-use crate::punctuator::punctuator_at;
+use crate::place::{byte_at, digit_at};
+use crate::punctuator::{alone_at, punctuator_at};
 use crate::scan::{Scan, Scanned};
 use crate::string::string_at;
 use crate::template::template_at;
@@ -31,8 +32,23 @@ enum Opening {
     Punctuator,
 }
 
+/// The lexeme of the plain goal that stands at a place, where its first byte tells that it is one of the frequent ones:
+/// a name of ASCII characters, or a punctuator that begins no longer one.
+#[inline(always)]
+pub(crate) fn frequent_at(text: &str, at: usize) -> Option<Scanned>
+    requires { IsCharBoundary text.now at }
+    ensures { IfSome result (λ s. IsScanned division text.now at s) }
+{
+    match class_of(byte_at(text, at)?) {
+        ByteClass::Letter => ascii_name_at(text, at),
+        ByteClass::Alone => alone_at(text, at),
+        _ => None,
+    }
+}
+
 /// The lexeme of the plain goal that stands at a place, where no trivia does. Of the punctuators that begin with `>` it
 /// is the longest one.
+#[inline(never)]
 pub(crate) fn plain_at(text: &str, at: usize) -> Scan
     requires boundary { IsCharBoundary text.now at }
     requires no_trivia { (first : Bool) × IsTrue (none_begins (is_trivia_piece first) (behind text.now at)) }
@@ -65,19 +81,49 @@ fn end_of_text(at: usize) -> Scanned
 }
 
 /// What a character begins, a dot before a digit or not.
+#[inline]
 fn opening_of(c: char, before_digit: bool) -> Opening
     ensures { opening_told result ≡ lexemes.opening c before_digit }
 {
-    if is_identifier_start(c) || c == '\\' {
-        return Opening::Name;
+    if c.is_ascii() {
+        ascii_opening(c as u8, before_digit)
+    } else {
+        high_opening(c)
     }
-    if c.is_digit(10) || (c == '.' && before_digit) {
-        return Opening::Number;
+}
+
+/// What an ASCII character begins, a dot before a digit or not.
+#[inline]
+fn ascii_opening(byte: u8, before_digit: bool) -> Opening
+    requires { byte < 128 }
+    ensures { opening_told result ≡ lexemes.opening byte before_digit }
+{
+    match class_of(byte) {
+        ByteClass::Letter | ByteClass::Backslash => Opening::Name,
+        ByteClass::Digit => Opening::Number,
+        ByteClass::Quote => Opening::String,
+        ByteClass::Backquote => Opening::Template,
+        ByteClass::Hash => Opening::PrivateName,
+        ByteClass::Dot if before_digit => Opening::Number,
+        ByteClass::Dot
+        | ByteClass::Alone
+        | ByteClass::Sign
+        | ByteClass::Trivia
+        | ByteClass::Star
+        | ByteClass::Solidus
+        | ByteClass::LineEnd
+        | ByteClass::High => Opening::Punctuator,
     }
-    match c {
-        '"' | '\'' => Opening::String,
-        '`' => Opening::Template,
-        '#' => Opening::PrivateName,
-        _ => Opening::Punctuator,
+}
+
+/// What a character above ASCII begins.
+fn high_opening(c: char) -> Opening
+    requires { 128 ≤ c }
+    ensures { (digit : Bool) → opening_told result ≡ lexemes.opening c digit }
+{
+    if is_identifier_start(c) {
+        Opening::Name
+    } else {
+        Opening::Punctuator
     }
 }

@@ -1,13 +1,14 @@
 //! Punctuators (ECMA-262, section 12.8), and characters at which no token begins.
 
-ghost use Rattle.std.specs.Prelude.{◌≡◌, ◌+◌, true, false, [], ◌∷◌, Some, IsCharBoundary, IsTrue, codes};
+ghost use Rattle.std.specs.Prelude.{◌≡◌, ◌+◌, true, false, [], ◌∷◌, Some, IfSome, IsCharBoundary, IsTrue, codes};
 ghost use Rattle.js_base.specs.Characters.{one_of};
+ghost use Rattle.js_base.specs.declared.kind.Kind.TheVariants.{Undetermined};
 ghost use Rattle.js_grammar.specs.CoreTexts.{starts};
 ghost use Rattle.js_grammar.specs.LexicalFaults.{behind};
 ghost use Rattle.js_grammar.specs.Lexemes.{division};
-ghost use Rattle.js_lex.specs.Places.{Word};
-ghost use Rattle.js_lex.specs.Punctuators.{punctuator_of, OpensPunctuator, BeginsNone, begins_no_comment, opens_no_comment, is_free, IsPunctuator, ReadsPunctuator};
-ghost use Rattle.js_lex.specs.Scans.{Scans, IsStopped};
+ghost use Rattle.js_lex.specs.Places.{Word, Peeks};
+ghost use Rattle.js_lex.specs.Punctuators.{punctuator_of, OpensPunctuator, BeginsNone, begins_no_comment, opens_no_comment, is_free, IsPunctuator, ReadsPunctuator, StandsAlone};
+ghost use Rattle.js_lex.specs.Scans.{Scans, IsScanned, IsStopped};
 
 use crate::place::{byte_at, char_at, digit_at, is_at};
 use crate::scan::{Fault, Scan, Scanned};
@@ -46,6 +47,24 @@ pub(crate) fn punctuator_at(text: &str, at: usize) -> Scan
     }
 }
 
+/// The punctuator at a place where it begins no longer one; none where that is not known at once.
+#[inline(always)]
+pub(crate) fn alone_at(text: &str, at: usize) -> Option<Scanned>
+    requires boundary { IsCharBoundary text.now at }
+    ensures { IfSome result (λ s. IsScanned division text.now at s) }
+{
+    let byte = byte_at(text, at)?;
+    match alone(byte) {
+        Kind::Undetermined => None,
+        kind => Some(Scanned {
+            kind,
+            end: at + 1,
+            escaped: false,
+            has_separator: false,
+        }),
+    }
+}
+
 /// The longest punctuator at a place, or none where no punctuator begins with the character there.
 fn read_punctuator(text: &str, at: usize) -> Option<Punctuator>
     requires boundary { IsCharBoundary text.now at }
@@ -57,10 +76,21 @@ fn read_punctuator(text: &str, at: usize) -> Option<Punctuator>
         Some(b'.') => Some(dots_at(text, at)),
         Some(b'?') => Some(question_at(text, at)),
         Some(b'/') => Some(slash_at(text, at)),
-        Some(first) => match single(first) {
-            Some(kind) => Some(longer_than_one(text, at, first, kind)),
-            None => None,
-        },
+        Some(first) => other_punctuator(text, at, first),
+        None => None,
+    }
+}
+
+/// The longest punctuator that begins with a byte at a place, or none where none does.
+#[inline]
+fn other_punctuator(text: &str, at: usize, first: u8) -> Option<Punctuator>
+    requires boundary { IsCharBoundary text.now at }
+    requires first { Peeks text.now at first }
+    requires free { one_of (46 ∷ 47 ∷ 63 ∷ []) first ≡ false }
+    ensures { ReadsPunctuator text.now at result }
+{
+    match single(first) {
+        Some(kind) => Some(longer_than_one(text, at, first, kind)),
         None => None,
     }
 }
@@ -210,6 +240,26 @@ fn longer_than_three(
             None => alone,
         },
         None => alone,
+    }
+}
+
+/// The punctuator that is written as one character, where no other one begins with it; else `Undetermined`.
+#[inline]
+#[tactic(auto, unfolding(js_base::specs::Texts::punctuators))]
+fn alone(byte: u8) -> Kind
+    ensures { (result ≡ Undetermined → ⊥) → StandsAlone byte result }
+{
+    match byte {
+        b'(' => Kind::LParen,
+        b')' => Kind::RParen,
+        b'{' => Kind::LCurly,
+        b'}' => Kind::RCurly,
+        b'[' => Kind::LBrack,
+        b']' => Kind::RBrack,
+        b';' => Kind::Semicolon,
+        b',' => Kind::Comma,
+        b':' => Kind::Colon,
+        _ => Kind::Undetermined,
     }
 }
 

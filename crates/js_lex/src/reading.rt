@@ -1,6 +1,6 @@
 //! How a token is made of what a scan answers, and what is kept of it.
 
-ghost use Rattle.std.specs.Prelude.{◌≡◌, ◌≤◌, ◌<◌, ◌+◌, [], ◌∷◌, true, length, IfOk, OnOk, OnErr, IsCharBoundary};
+ghost use Rattle.std.specs.Prelude.{Ok, ◌≡◌, ◌≤◌, ◌<◌, ◌+◌, [], ◌∷◌, true, length, IfOk, OnOk, OnErr, IsCharBoundary};
 ghost use Rattle.js_grammar.specs.Lexemes.{division};
 ghost use Rattle.js_lex.specs.Scans.{Scans};
 ghost use Rattle.js_lex.specs.Kept.{Grows, Extends};
@@ -11,7 +11,7 @@ ghost use Rattle.js_lex.specs.Settling as settling;
 ghost use Rattle.js_lex.specs.Settling.{Fits, Settled};
 
 use crate::output::LexerOutput;
-use crate::plain_goal::plain_at;
+use crate::plain_goal::{frequent_at, plain_at};
 use crate::scan::{Fault, Scan, Scanned};
 use crate::trivia::pass_trivia;
 use js_base::{Kind, MAX_LEN, NoMemory, SourceType, Span, Token};
@@ -32,27 +32,46 @@ pub(crate) fn read_plain(
     ensures err { OnErr result (Extends kept.old kept.new) }
 {
     let trivia = pass_trivia(text, source_type.is_module(), at, kept)?;
+    if let Some(scanned) = frequent_at(text, trivia.end) {
+        let shown = first_sign(trivia.end, scanned);
+        return settle_lexeme(kept, keeps_tokens, trivia.end, trivia.has_newline, shown);
+    }
     let scan = first_angle(trivia.end, plain_at(text, trivia.end));
     settle(kept, keeps_tokens, trivia.end, trivia.has_newline, scan)
 }
 
 /// Of a punctuator that begins with `>`, the sign alone; else what was scanned.
+#[inline(always)]
+fn first_sign(start: usize, scanned: Scanned) -> Scanned
+    requires { start < MAX_LEN + 1 }
+    ensures { Ok result ≡ settling.shown_scan start (Ok scanned) }
+{
+    if is_right_angle(scanned.kind) {
+        Scanned {
+            kind: Kind::RAngle,
+            end: start + 1,
+            escaped: scanned.escaped,
+            has_separator: scanned.has_separator,
+        }
+    } else {
+        scanned
+    }
+}
+
+/// Of a punctuator that begins with `>`, the sign alone; else what was scanned.
+#[inline(always)]
 fn first_angle(start: usize, scan: Scan) -> Scan
     requires { start < MAX_LEN + 1 }
     ensures { result ≡ settling.shown_scan start scan }
 {
     match scan {
-        Ok(scanned) if is_right_angle(scanned.kind) => Ok(Scanned {
-            kind: Kind::RAngle,
-            end: start + 1,
-            escaped: scanned.escaped,
-            has_separator: scanned.has_separator,
-        }),
-        other => other,
+        Ok(scanned) => Ok(first_sign(start, scanned)),
+        Err(fault) => Err(fault),
     }
 }
 
 /// Whether it is a punctuator that begins with `>`.
+#[inline(always)]
 fn is_right_angle(kind: Kind) -> bool
     ensures { result ≡ reading.is_right_angle kind }
 {
@@ -68,6 +87,7 @@ fn is_right_angle(kind: Kind) -> bool
 }
 
 /// The token of what a scan at a place answers, which is kept, as is its fault.
+#[inline(always)]
 pub(crate) fn settle(
     kept: &mut LexerOutput,
     keeps_tokens: bool,
@@ -80,11 +100,7 @@ pub(crate) fn settle(
     ensures err { OnErr result (Extends kept.old kept.new) }
 {
     match scan {
-        Ok(scanned) => {
-            let token = token_of(scanned, start, is_on_new_line);
-            keep_token(kept, keeps_tokens, token)?;
-            Ok(token)
-        }
+        Ok(scanned) => settle_lexeme(kept, keeps_tokens, start, is_on_new_line, scanned),
         Err(fault) => {
             keep_fault(kept, fault)?;
             Ok(undetermined(fault, start, is_on_new_line))
@@ -92,7 +108,26 @@ pub(crate) fn settle(
     }
 }
 
+/// The token of a lexeme, which is kept.
+#[inline(always)]
+fn settle_lexeme(
+    kept: &mut LexerOutput,
+    keeps_tokens: bool,
+    start: usize,
+    is_on_new_line: bool,
+    scanned: Scanned,
+) -> Result<Token, NoMemory>
+    requires { Fits MAX_LEN start (Ok scanned) }
+    ensures ok { IfOk result (λ t. Settled keeps_tokens start is_on_new_line (Ok scanned) kept.old kept.new t) }
+    ensures err { OnErr result (Extends kept.old kept.new) }
+{
+    let token = token_of(scanned, start, is_on_new_line);
+    keep_token(kept, keeps_tokens, token)?;
+    Ok(token)
+}
+
 /// The token of a lexeme.
+#[inline(always)]
 pub(crate) fn token_of(scanned: Scanned, start: usize, is_on_new_line: bool) -> Token
     requires ordered { start ≤ scanned.end }
     requires short { scanned.end ≤ MAX_LEN }

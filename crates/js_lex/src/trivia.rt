@@ -1,12 +1,16 @@
 //! Trivia: white space, line terminators and comments (ECMA-262, sections 12.2 to 12.4, and B.1.1 for the HTML-like
 //! comments).
 
-ghost use Rattle.std.specs.Prelude.{◌≡◌, ◌≤◌, ◌+◌, [], ◌∷◌, Bool, ◌&&◌, false, length, IfOk, OnErr, OnOk, Some, IsCharBoundary};
+ghost use Rattle.std.specs.Prelude.{◌≡◌, ◌≤◌, ◌+◌, [], ◌∷◌, Bool, ◌&&◌, false, length, IfOk, OnErr, OnOk, Some, None, IsTrue, IsCharBoundary};
+ghost use Rattle.js_base.specs.Characters.{one_of};
+ghost use Rattle.js_lex.specs.ByteClasses as classes;
+ghost use Rattle.js_lex.specs.ByteClasses.{Stays};
 ghost use Rattle.js_lex.specs.Places.{Word};
 ghost use Rattle.js_lex.specs.Kept.{Grows, Extends};
 ghost use Rattle.js_lex.specs.TriviaPassed.{PieceAt, BlankAt, PlainBlankAt, BlockEnd, IsLineEnd, block_kind, told, comment_told, blank_told, fault_told, IsPassed};
 ghost use Rattle.js_lex.specs.declared.comment.CommentKind.TheVariants.{Line};
 
+use crate::byte_class::class_of;
 use crate::character::next_character;
 use crate::class::{is_line_terminator, is_white_space};
 use crate::comment::{Comment, CommentKind, attach};
@@ -73,10 +77,17 @@ fn pass_pieces(
     let mut end = at;
     let mut has_newline = false;
     'pieces: loop {
+        if is_space_at(text, end) {
+            end += 1;
+            continue;
+        }
         if let Some(is_newline) = plain_blank_at(text, end) {
             has_newline |= is_newline;
             end += 1;
             continue;
+        }
+        if begins_no_trivia(text, end) {
+            return Ok(Trivia { end, has_newline });
         }
         let Some(piece) = piece_at(text, end, (at == 0) | has_newline) else {
             return Ok(Trivia { end, has_newline });
@@ -87,6 +98,18 @@ fn pass_pieces(
     }
 }
 
+/// Whether a space stands at a place.
+#[inline]
+fn is_space_at(text: &str, at: usize) -> bool
+    requires { IsCharBoundary text.now at }
+    ensures { IsTrue result → PlainBlankAt text.now at (Some false) }
+{
+    match byte_at(text, at) {
+        Some(byte) => byte == b' ',
+        None => false,
+    }
+}
+
 /// Whether the space, tab, CR or LF at a place is a line terminator; none where no such character stands there.
 #[inline]
 fn plain_blank_at(text: &str, at: usize) -> Option<bool>
@@ -94,11 +117,36 @@ fn plain_blank_at(text: &str, at: usize) -> Option<bool>
     ensures { PlainBlankAt text.now at result }
 {
     match byte_at(text, at) {
-        Some(b' ') => Some(false),
-        Some(b'\t') => Some(false),
-        Some(b'\n') => Some(true),
-        Some(b'\r') => Some(true),
+        Some(byte) if is_plain_blank(byte) => Some(ends_line(byte)),
         _ => None,
+    }
+}
+
+/// Whether a byte is a space, tab, CR or LF.
+#[inline]
+fn is_plain_blank(byte: u8) -> bool
+    ensures { result ≡ one_of (32 ∷ 9 ∷ 10 ∷ 13 ∷ []) byte }
+{
+    byte == b' ' || byte == b'\t' || byte == b'\n' || byte == b'\r'
+}
+
+/// Whether a byte is an LF or a CR.
+#[inline]
+fn ends_line(byte: u8) -> bool
+    ensures { result ≡ one_of (10 ∷ 13 ∷ []) byte }
+{
+    byte == b'\n' || byte == b'\r'
+}
+
+/// Whether it is known at once that no trivia begins at a place.
+#[inline]
+fn begins_no_trivia(text: &str, at: usize) -> bool
+    requires { IsCharBoundary text.now at }
+    ensures { IsTrue result → (first : Bool) → PieceAt first text.now at None }
+{
+    match byte_at(text, at) {
+        Some(byte) => !class_of(byte).may_begin_trivia(),
+        None => true,
     }
 }
 
@@ -163,6 +211,7 @@ fn keep_html_fault(kept: &mut LexerOutput, is_fault: bool, span: Span) -> Result
 
 /// The longest piece of trivia that begins at a place. `is_first`: only trivia stands before it on its line, or in the
 /// text; there alone `-->` begins a comment.
+#[inline(never)]
 fn piece_at(text: &str, at: usize, is_first: bool) -> Option<Piece>
     requires boundary { IsCharBoundary text.now at }
     requires short { length text.now ≤ MAX_LEN }
@@ -287,13 +336,43 @@ pub(crate) fn line_end(text: &str, at: usize) -> usize
     ensures { IsLineEnd text.now at result }
 {
     let mut end = at;
-    'line: while let Some(next) = next_character(text, end) {
+    'line: loop {
+        if stays_on_line(text, end) {
+            end += 1;
+            continue;
+        }
+        let Some(next) = next_character(text, end) else {
+            return end;
+        };
         if is_line_terminator(next.value) {
             return end;
         }
         end = next.end;
     }
-    end
+}
+
+/// Whether an ASCII character that ends no line stands at a place.
+#[inline]
+fn stays_on_line(text: &str, at: usize) -> bool
+    requires { IsCharBoundary text.now at }
+    ensures { IsTrue result → Stays classes.stays_on_line text.now at }
+{
+    match byte_at(text, at) {
+        Some(byte) => !class_of(byte).may_end_line(),
+        None => false,
+    }
+}
+
+/// Whether an ASCII character that ends neither a line nor a block comment stands at a place.
+#[inline]
+fn stays_in_comment(text: &str, at: usize) -> bool
+    requires { IsCharBoundary text.now at }
+    ensures { IsTrue result → Stays classes.stays_in_comment text.now at }
+{
+    match byte_at(text, at) {
+        Some(byte) => !class_of(byte).may_end_comment(),
+        None => false,
+    }
 }
 
 /// The end of a block comment from behind its opening on, and whether a line terminator stands before it; none where
@@ -305,7 +384,15 @@ fn block_comment_end(text: &str, at: usize) -> Option<Trivia>
     let mut end = at;
     let mut star = false;
     let mut has_newline = false;
-    'block: while let Some(next) = next_character(text, end) {
+    'block: loop {
+        if stays_in_comment(text, end) {
+            star = false;
+            end += 1;
+            continue;
+        }
+        let Some(next) = next_character(text, end) else {
+            return None;
+        };
         if star && next.value == '/' {
             return Some(Trivia {
                 end: next.end,
@@ -316,5 +403,4 @@ fn block_comment_end(text: &str, at: usize) -> Option<Trivia>
         has_newline |= is_line_terminator(next.value);
         end = next.end;
     }
-    None
 }

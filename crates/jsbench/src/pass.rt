@@ -58,9 +58,7 @@ pub(crate) fn lex(alloc: Global, text: &str) -> Result<Pass, NoMemory>
     let mut bytes = 0u64;
     let mut before = Kind::Semicolon;
     for _ in 0..text.len() {
-        let ends_substitution = braces.open == 0 && !braces.outer.is_empty();
-        let token = next(&mut lexer, ends_operand(before), ends_substitution)?;
-        count_braces(&mut braces, token.kind)?;
+        let token = next(&mut lexer, &mut braces, before)?;
         before = token.kind;
         if matches!(before, Kind::Eof) {
             break;
@@ -85,7 +83,7 @@ struct Told {
 }
 
 /// What is told of a token.
-fn tell(token: Token) -> Told {
+fn tell(token: &Token) -> Told {
     Told {
         kind: token.kind(),
         len: token.end().saturating_sub(token.start()),
@@ -93,37 +91,45 @@ fn tell(token: Token) -> Told {
 }
 
 /// The next token: a slash behind no operand read as a regular expression, and a brace that ends a substitution as a
-/// template part.
+/// template part. Braces are counted, and substitutions opened and closed.
 fn next(
     lexer: &mut Lexer<'_, NoTokensLexerConfig>,
-    behind_operand: bool,
-    ends_substitution: bool,
+    braces: &mut Braces,
+    before: Kind,
 ) -> Result<Told, NoMemory> {
     let token = lexer.next_token()?;
     match token.kind() {
-        Kind::Slash | Kind::SlashEq if !behind_operand => match lexer.re_lex_regex(token) {
-            Ok((again, _)) => Ok(tell(again)),
+        Kind::Slash | Kind::SlashEq if !ends_operand(before) => match lexer.re_lex_regex(token) {
+            Ok((again, _)) => Ok(tell(&again)),
             Err(error) => Err(error),
         },
-        Kind::RCurly if ends_substitution => match lexer.re_lex_template_tail(token) {
-            Ok(again) => Ok(tell(again)),
-            Err(error) => Err(error),
-        },
-        _ => Ok(tell(token)),
-    }
-}
-
-/// Counts a brace, and opens or closes a substitution.
-fn count_braces(braces: &mut Braces, kind: Kind) -> Result<(), NoMemory> {
-    match kind {
-        Kind::LCurly => braces.open = braces.open.saturating_add(1),
-        Kind::RCurly => braces.open = braces.open.saturating_sub(1),
+        Kind::RCurly if braces.open == 0 && !braces.outer.is_empty() => {
+            match lexer.re_lex_template_tail(token) {
+                Ok(again) => Ok(close(braces, tell(&again))),
+                Err(error) => Err(error),
+            }
+        }
+        Kind::RCurly => {
+            braces.open = braces.open.saturating_sub(1);
+            Ok(tell(&token))
+        }
+        Kind::LCurly => {
+            braces.open = braces.open.saturating_add(1);
+            Ok(tell(&token))
+        }
         Kind::TemplateHead => {
             braces.outer.push(braces.open)?;
             braces.open = 0;
+            Ok(tell(&token))
         }
-        Kind::TemplateTail => braces.open = braces.outer.pop().unwrap_or(0),
-        _ => {}
+        _ => Ok(tell(&token)),
     }
-    Ok(())
+}
+
+/// Closes a substitution where a token ends its template.
+fn close(braces: &mut Braces, token: Told) -> Told {
+    if matches!(token.kind, Kind::TemplateTail) {
+        braces.open = braces.outer.pop().unwrap_or(0);
+    }
+    token
 }

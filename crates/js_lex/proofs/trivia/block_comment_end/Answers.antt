@@ -1,6 +1,6 @@
 use Rattle.std.proofs.Common.{◌++◌, sym, ◌∙◌, ap, append-nil}
 use Rattle.js_lex.proofs.Places.{then}
-use Rattle.js_lex.proofs.TriviaLemmas.{block_more, block_closed, newline_more, newline_same, never_closed}
+use Rattle.js_lex.proofs.TriviaLemmas.{block_on, block_more, block_closed, newline_more, newline_same, never_closed}
 use Rattle.js_lex.proofs.trivia.block_comment_end.Goals as goal
 
 pub returns-then-next-eq47 : goal.returns-then-next-eq47
@@ -18,7 +18,12 @@ block-preserved c =
     let i = c.block.invariant in
     (_, then i.1 c.in-Some.ensures, block_more i.0 c.block.star c.in-Some.next.value i.2 c.else-star.either, newline_more i.0 c.in-Some.next.value c.block.has_newline _ i.3 c.is_line_terminator-has_newline.ensures)
 
-pub returns : goal.returns
-returns c =
+pub block-preserved-then-stays_in_comment : goal.block-preserved-then-stays_in_comment
+block-preserved-then-stays_in_comment c =
+    let i = c.block.invariant in
+    block_on i.0 i.1 i.2 i.3 (c.stays_in_comment.ensures c.if-stays_in_comment.true)
+
+pub returns-in_default : goal.returns-in_default
+returns-in_default c =
     let i = c.block.invariant in
     λ w rest e. never_closed c.block.star i.0 i.2 w rest (sym (i.1.splits ∙ ap (λ v. i.0 ++ v) c.in_default.ensures ∙ append-nil i.0) ∙ e)

@@ -1,0 +1,117 @@
+//! What a byte of a text is to the scans, by one look into a table.
+
+ghost use Rattle.std.specs.Prelude.{◌≡◌};
+ghost use Rattle.js_lex.specs.ByteClasses.{IsOf, is_name_class, is_trivia_class, is_letter_class, is_line_class, is_comment_class};
+
+use crate::byte_class::ByteClass::*;
+
+/// What the bytes of characters begin, or are part of.
+#[derive(Debug, Clone, Copy)]
+pub(crate) enum ByteClass {
+    /// An ASCII letter, `$` or `_`: a name may begin with it.
+    Letter,
+    /// An ASCII digit: a number may begin with it, and it may stand in a name.
+    Digit,
+    /// A backslash.
+    Backslash,
+    /// A quote of a string.
+    Quote,
+    /// A backquote.
+    Backquote,
+    /// The character `#`.
+    Hash,
+    /// A dot.
+    Dot,
+    /// What is a punctuator and begins no longer one.
+    Alone,
+    /// Any other ASCII character.
+    Sign,
+    /// What trivia may begin with: a space, a control character, `<` or `-`.
+    Trivia,
+    /// An asterisk.
+    Star,
+    /// A slash.
+    Solidus,
+    /// LF or CR.
+    LineEnd,
+    /// A byte of a character above ASCII.
+    High,
+}
+
+static CLASSES: [ByteClass; 256] = [
+    Trivia, Trivia, Trivia, Trivia, Trivia, Trivia, Trivia, Trivia, Trivia, Trivia, LineEnd,
+    Trivia, Trivia, LineEnd, Trivia, Trivia, Trivia, Trivia, Trivia, Trivia, Trivia, Trivia,
+    Trivia, Trivia, Trivia, Trivia, Trivia, Trivia, Trivia, Trivia, Trivia, Trivia, Trivia, Sign,
+    Quote, Hash, Letter, Sign, Sign, Quote, Alone, Alone, Star, Sign, Alone, Trivia, Dot, Solidus,
+    Digit, Digit, Digit, Digit, Digit, Digit, Digit, Digit, Digit, Digit, Alone, Alone, Trivia,
+    Sign, Sign, Sign, Sign, Letter, Letter, Letter, Letter, Letter, Letter, Letter, Letter, Letter,
+    Letter, Letter, Letter, Letter, Letter, Letter, Letter, Letter, Letter, Letter, Letter, Letter,
+    Letter, Letter, Letter, Letter, Letter, Alone, Backslash, Alone, Sign, Letter, Backquote,
+    Letter, Letter, Letter, Letter, Letter, Letter, Letter, Letter, Letter, Letter, Letter, Letter,
+    Letter, Letter, Letter, Letter, Letter, Letter, Letter, Letter, Letter, Letter, Letter, Letter,
+    Letter, Letter, Alone, Sign, Alone, Sign, Trivia, High, High, High, High, High, High, High,
+    High, High, High, High, High, High, High, High, High, High, High, High, High, High, High, High,
+    High, High, High, High, High, High, High, High, High, High, High, High, High, High, High, High,
+    High, High, High, High, High, High, High, High, High, High, High, High, High, High, High, High,
+    High, High, High, High, High, High, High, High, High, High, High, High, High, High, High, High,
+    High, High, High, High, High, High, High, High, High, High, High, High, High, High, High, High,
+    High, High, High, High, High, High, High, High, High, High, High, High, High, High, High, High,
+    High, High, High, High, High, High, High, High, High, High, High, High, High, High, High, High,
+    High, High, High, High, High, High, High, High, High,
+];
+
+/// What a byte is.
+#[inline]
+pub(crate) fn class_of(byte: u8) -> ByteClass
+    ensures { IsOf byte result }
+{
+    CLASSES[byte as usize]
+}
+
+impl ByteClass {
+    /// Whether such a byte is an ASCII character with which a name may begin.
+    #[inline]
+    pub(crate) fn is_letter(self) -> bool
+        ensures { result ≡ is_letter_class self }
+    {
+        matches!(self, ByteClass::Letter)
+    }
+
+    /// Whether such a byte is an ASCII character that may stand in a name.
+    #[inline]
+    pub(crate) fn is_in_name(self) -> bool
+        ensures { result ≡ is_name_class self }
+    {
+        matches!(self, ByteClass::Letter | ByteClass::Digit)
+    }
+
+    /// Whether trivia may begin with such a byte.
+    #[inline]
+    pub(crate) fn may_begin_trivia(self) -> bool
+        ensures { result ≡ is_trivia_class self }
+    {
+        matches!(
+            self,
+            ByteClass::Trivia | ByteClass::Solidus | ByteClass::LineEnd | ByteClass::High
+        )
+    }
+
+    /// Whether a line terminator may begin with such a byte.
+    #[inline]
+    pub(crate) fn may_end_line(self) -> bool
+        ensures { result ≡ is_line_class self }
+    {
+        matches!(self, ByteClass::LineEnd | ByteClass::High)
+    }
+
+    /// Whether such a byte may tell something of a block comment that it stands in.
+    #[inline]
+    pub(crate) fn may_end_comment(self) -> bool
+        ensures { result ≡ is_comment_class self }
+    {
+        matches!(
+            self,
+            ByteClass::Star | ByteClass::Solidus | ByteClass::LineEnd | ByteClass::High
+        )
+    }
+}
