@@ -158,7 +158,8 @@ impl<'a, C: ParserConfig> ParserImpl<'a, C> {
     }
 
     /// Gives up with what is told of what can't stand here: a copy of the fault, where no lexeme stands; else
-    /// `UnexpectedToken` at the current lexeme.
+    /// `UnexpectedToken` at the current lexeme. The lines of a merge conflict aren't looked for yet: they are told as
+    /// unexpected tokens.
     pub fn set_unexpected(&mut self) -> Stop
         requires { IsAt self.old }
         ensures { GivesUp (IsUnexpected self.old) self.old self.new result }
