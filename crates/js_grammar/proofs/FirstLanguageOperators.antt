@@ -5,7 +5,7 @@ use Rattle.js_base.specs.declared.kind.Kind.TheVariants.{Plus, Minus, Star, LPar
 use Rattle.js_grammar.specs.Trees.{NodeKind, Slots, end, binary_expression, call_expression}
 use Rattle.js_grammar.specs.Grammar.{Lexemes, here, seen, is, alt, such, never, is_lexeme, is_seq, is_left, is_right, is_such, is_node, ◌▸◌, ◌◇◌}
 use Rattle.js_grammar.specs.FirstLanguageLevels.{level_at}
-use Rattle.js_grammar.specs.FirstLanguageTable.{Flags, Symbol, G, rule, rule_of, at, always, sym as symbol, args, mk, callable, Expression, Additive, Multiply, Unary, Member, Call}
+use Rattle.js_grammar.specs.FirstLanguageTable.{Flags, Symbol, G, rule, rule_of, at, always, sym as symbol, args, mk, Expression, Additive, Multiply, Unary, Member, Call}
 use Rattle.js_grammar.specs.FirstLanguageParsing.{T}
 use Rattle.js_grammar.proofs.Towers.{branches, Same, without_feet, unroll, Link, Links, one, Tower, level_tower, chain, chain_foot, operation, operation_link}
 
@@ -54,7 +54,7 @@ operates f p o = operation_link (level_at f) kind_at p o
 
 -- a call: a member with arguments, and arguments behind a call
 abbrev pub first_call : Flags → G
-first_call f = mk call_expression (such (at Member f) callable ▸ args f)
+first_call f = mk call_expression (symbol Member f ▸ args f)
 
 abbrev pub more_call : Flags → G
 more_call f = mk call_expression (symbol Call f ▸ args f)
@@ -63,11 +63,11 @@ pub call_climbs : (f : Flags) → Same rule (rule (at Call f)) (alt (first_call 
 unfolding rule rule_of
 call_climbs f = record { to = λ ts us i j ls rest d. go d; back = λ ts us i j ls rest d. come d }
   where
-    go : {ts us : Slots} {i j : ℕ} {ls rest : Lexemes} → T (mk call_expression ((such (at Member f) callable ◇ symbol Call f) ▸ args f)) end ts i ls us j rest → T (alt (first_call f) (more_call f)) end ts i ls us j rest
+    go : {ts us : Slots} {i j : ℕ} {ls rest : Lexemes} → T (mk call_expression ((symbol Member f ◇ symbol Call f) ▸ args f)) end ts i ls us j rest → T (alt (first_call f) (more_call f)) end ts i ls us j rest
     go (is_node (is_seq (is_left d) e)) = is_left (is_node (is_seq d e))
     go (is_node (is_seq (is_right d) e)) = is_right (is_node (is_seq d e))
 
-    come : {ts us : Slots} {i j : ℕ} {ls rest : Lexemes} → T (alt (first_call f) (more_call f)) end ts i ls us j rest → T (mk call_expression ((such (at Member f) callable ◇ symbol Call f) ▸ args f)) end ts i ls us j rest
+    come : {ts us : Slots} {i j : ℕ} {ls rest : Lexemes} → T (alt (first_call f) (more_call f)) end ts i ls us j rest → T (mk call_expression ((symbol Member f ◇ symbol Call f) ▸ args f)) end ts i ls us j rest
     come (is_left (is_node (is_seq d e))) = is_node (is_seq (is_left d) e)
     come (is_right (is_node (is_seq d e))) = is_node (is_seq (is_right d) e)
 
@@ -79,10 +79,7 @@ calls f = chain (at Call f) (first_call f) (more_call f) (call_climbs f) (call_l
 
 -- Members and calls, up to the parenthesis that a call has behind its member.
 first_begins : (f : Flags) {ts us : Slots} {i j : ℕ} {ls rest : Lexemes} → T (first_call f) end ts i ls us j rest → (ws : Slots) × (vs : Slots) × (k : ℕ) × (mid : Lexemes) × T (symbol Member f) end ws i ls vs k mid × IsTrue (seen (is LParen) (here mid))
-first_begins f (is_node (is_seq {us = vs} {j = k} d (is_seq (is_lexeme {x = x} p) e))) = (_, vs, k, _, any d, p)
-  where
-    any : {ts us : Slots} {i j : ℕ} {ls rest : Lexemes} → T (such (at Member f) callable) end ts i ls us j rest → T (symbol Member f) end ts i ls us j rest
-    any (is_such d c) = is_such d refl
+first_begins f (is_node (is_seq {us = vs} {j = k} d (is_seq (is_lexeme {x = x} p) e))) = (_, vs, k, _, d, p)
 
 -- A call begins with a member and a parenthesis behind it.
 pub call_begins : (f : Flags) {ks ts us : Slots} {i j : ℕ} {ls rest : Lexemes} → T (symbol Call f) ks ts i ls us j rest → (ws : Slots) × (vs : Slots) × (k : ℕ) × (mid : Lexemes) × T (symbol Member f) end ws i ls vs k mid × IsTrue (seen (is LParen) (here mid))

@@ -9,13 +9,13 @@ use Rattle.js_grammar.specs.Trees.{NodeKind, Op, of, no_op, unary_expression, up
 use Rattle.js_grammar.specs.FirstLanguageEdges.{Edge, as_expression, as_postfix, edge_of, first_edge, last_edge, is_postfix}
 use Rattle.js_grammar.specs.FirstLanguageInsertion.{continues, by_edge}
 use Rattle.js_grammar.specs.Grammar.{Lexeme, Lexemes, here, Look, seen, is, exact, may_omit, look, seq, such, nothing, ended, semicolon, ◌▸◌, is_nothing, is_lexeme, is_look, is_seq, is_left, is_right, is_such, is_node}
-use Rattle.js_grammar.specs.FirstLanguageTable.{Flags, Symbol, G, rule, rule_of, at, always, callable_kind, make, sym as symbol, tok, args, on_the_line, Expression, Additive, Unary, Update, LeftHandSide, Member, Call, Primary, IdentifierReference, ExprStmt}
+use Rattle.js_grammar.specs.FirstLanguageTable.{Flags, Symbol, G, rule, rule_of, at, always, make, sym as symbol, tok, args, on_the_line, Expression, Additive, Unary, Update, LeftHandSide, Member, Call, Primary, IdentifierReference, ExprStmt}
 use Rattle.js_grammar.specs.FirstLanguageLevels.{level_at, strength, tight, looser, follow, widest, after}
 use Rattle.js_grammar.specs.Lexed.{Lexes}
 use Rattle.js_grammar.specs.FirstLanguageParsing.{T, Goes, Reads, Fails}
 use Rattle.js_grammar.specs.Parsing.{Reaches, Way, still, passing, joined, Test, plain, Admits}
 use Rattle.js_grammar.proofs.Looks.{full, covers, covered, same_self}
-use Rattle.js_grammar.proofs.Calculus.{Inside, by_plain, inside_plain, here_at, ends, ◌▹◌, ◌▹✗◌, left, right, then_by, makes_by, by_rule, fails_rule, fails_node, ends_by, reads_lexeme, looks, tested, weaken, weaken_fails, weaken_on}
+use Rattle.js_grammar.proofs.Calculus.{Inside, by_plain, inside_plain, here_at, ends, ◌▹◌, ◌▹✗◌, left, right, then_by, makes_by, by_rule, fails_rule, fails_node, ends_by, reads_lexeme, looks, weaken, weaken_fails, weaken_on}
 use Rattle.js_grammar.proofs.FirstRules.{by_first, fails_here, picks, pick, unless}
 use Rattle.js_grammar.proofs.Towers.{OneOf, head, later, this}
 use Rattle.js_grammar.proofs.Loops.{Follows, Around, Alone, start, step, step_fails, operators_follow, one_operator, operators_end, Chained, chain_start, chain_step, chain_end, unfollowed}
@@ -289,9 +289,9 @@ module _ {Lex : ℕ → Lexeme → Type 0} where
     unfolding rule rule_of
     member_reads r = by_rule {X' = plain full} (λ l cs vs y e. e) (weaken r.reads (λ ts y e. admits (at Primary f) ts y refl)) refl
 
-    first_around : {s o q : ℕ} {rn : Way} {x : Lexeme} {h : Slots → Slots} → Stands Lex s x → (r : Answer Lex (at Primary f) s o) → callable_kind r.label.kind ≡ true → Reads Lex (plain full) end (args f) o q h rn → Calling f Lex s x.from (label_at call_expression no_op x.from q) (tree r.label r.slots (h end)) q (joined r.way rn)
+    first_around : {s o q : ℕ} {rn : Way} {x : Lexeme} {h : Slots → Slots} → Stands Lex s x → (r : Answer Lex (at Primary f) s o) → Reads Lex (plain full) end (args f) o q h rn → Calling f Lex s x.from (label_at call_expression no_op x.from q) (tree r.label r.slots (h end)) q (joined r.way rn)
     unfolding covers
-    first_around t r b a = chain_start firsts (call_climbs f) (call_links f) {F' = full} (makes_by _ (inside_plain refl) (then_by (tested (member_reads r) b) (by_first firsts (by_plain full) refl) ▹ a) (labelled t)) refl refl (λ y l. ap (λ v. v.from) (t.alone y l))
+    first_around t r a = chain_start firsts (call_climbs f) (call_links f) {F' = full} (makes_by _ (inside_plain refl) (then_by (member_reads r) (by_first firsts (by_plain full) refl) ▹ a) (labelled t)) refl refl (λ y l. ap (λ v. v.from) (t.alone y l))
 
     more_around : {s from o q : ℕ} {rn rm : Way} {l : Label} {cs : Slots} {y : Lexeme} {h : Slots → Slots} → Calling f Lex s from l cs o rn → Stands Lex o y → y.kind ≡ LParen → Reads Lex (plain full) end (args f) o q h rm → Calling f Lex s from (label_at call_expression no_op from q) (tree l cs (h end)) q (joined rn rm)
     unfolding covers

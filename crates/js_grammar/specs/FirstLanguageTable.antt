@@ -77,14 +77,6 @@ level here tighter ks k f = sym tighter f ◇ branches ks (λ o. op k o (sym her
 abbrev pub args : Flags → G
 args f = parens (opt (sym Expression f))
 
--- An early rule of the lab: a number is no callee.
-abbrev pub callable_kind : NodeKind → Bool
-callable_kind numeric_literal = false
-callable_kind _ = true
-
-abbrev pub callable : Tree → Bool
-callable t = callable_kind t.label.kind
-
 unfoldable pub rule_of : Name → Flags → G
 -- Scripts (16.1) and statements (14.4, 14.5)
 rule_of Program f = node (record { kind = program; op = no_op; flags = 0; extent = whole_text }) (many (sym Item f))
@@ -99,7 +91,7 @@ rule_of Unary f = sym Update f ◇ branches (Minus ∷ Plus ∷ []) (λ o. op un
 rule_of Update f = sym LeftHandSide f ◇ op update_expression Plus2 (sym IdentifierReference f ▸ look on_the_line ▸ tok Plus2)
 rule_of LeftHandSide f = sym Member f ◇ sym Call f
 rule_of Member f = sym Primary f
-rule_of Call f = mk call_expression ((such (at Member f) callable ◇ sym Call f) ▸ args f)
+rule_of Call f = mk call_expression ((sym Member f ◇ sym Call f) ▸ args f)
 rule_of Primary f = sym IdentifierReference f ◇ op numeric_literal Decimal (tok Decimal) ◇ mk parenthesized_expression (parens (sym Expression f))
 rule_of IdentifierReference f = mk identifier_reference (lexeme (λ k w e. same_kind Ident k))
 

@@ -9,7 +9,7 @@ use Rattle.js_base.specs.Kinds.{same_kind, one_of_kinds}
 use Rattle.js_base.proofs.KindLemmas.{kind_of_same}
 use Rattle.js_grammar.specs.Trees.{Slots, end, hole, tree, append, Label, Tree, no_op, of, unary_expression, update_expression, call_expression, parenthesized_expression, identifier_reference, numeric_literal}
 use Rattle.js_grammar.specs.Grammar.{Lexeme, Lexemes, here, seen, is, such, nothing, look, ◌▸◌, is_nothing, is_node, is_seq, is_look, is_lexeme}
-use Rattle.js_grammar.specs.FirstLanguageTable.{Symbol, rule, rule_of, at, script_flags, sym as symbol, make, tok, on_the_line, args, always, callable, callable_kind, Expression, Additive, Unary, Update, LeftHandSide, Member, Call, Primary, IdentifierReference}
+use Rattle.js_grammar.specs.FirstLanguageTable.{Symbol, rule, rule_of, at, script_flags, sym as symbol, make, tok, on_the_line, args, always, Expression, Additive, Unary, Update, LeftHandSide, Member, Call, Primary, IdentifierReference}
 use Rattle.js_grammar.specs.FirstLanguageLexing.{Lex, first_punctuators, a_name, a_number, a_punctuator, the_end}
 use Rattle.js_grammar.specs.Lexed.{Lexes}
 use Rattle.js_grammar.specs.FirstLanguageLevels.{full, level_at, tight, follow, after}
@@ -31,7 +31,7 @@ use Rattle.jsparse.specs.declared.cursor.Stop.{Stop}
 use Rattle.jsparse.specs.declared.cursor.Stop.TheVariants.{Fatal, NoMemory}
 use Rattle.jsparse.specs.declared.tree.Node.{Node}
 use Rattle.jsparse.specs.declared.tree.NodeId.{NodeId}
-use Rattle.jsparse.specs.Answers.{At, Passed, Stops, Grown, Verdict, clean, Stretch, Underived, Answer, Answers, Numbered, NumberedPart, CalleeChecked}
+use Rattle.jsparse.specs.Answers.{At, Passed, Stops, Grown, Verdict, clean, Stretch, Underived, Answer, Answers, Numbered, NumberedPart}
 use Rattle.jsparse.proofs.Verdicts.{verdict_of, either_way, and_then}
 use Rattle.js_base.specs.declared.span.Span.{Span}
 use Rattle.jsparse.specs.declared.tree.NodeKind.{NodeKind}
@@ -195,7 +195,7 @@ left_hand_side = at LeftHandSide script_flags
 -- A callee as it was read: a member, or a call around one.
 pub data Callee (text : List ℕ) (p q : Cursor) (l : Label) (cs : Slots) (pass : Lexemes → Lexemes) : Type 0 where
   a_member : Stretch text (plain full) (symbol Primary script_flags) p.prev_token_end nothing q.prev_token_end (tree l cs) pass → Callee text p q l cs pass
-  a_call : callable_kind l.kind ≡ true → Fails (Lex text) (after (at LeftHandSide script_flags)) end (symbol Member script_flags) p.prev_token_end → Ring text (after (at LeftHandSide script_flags)) (calls script_flags) 0 p.prev_token_end p.token.span.start 1 l cs q.prev_token_end pass → Callee text p q l cs pass
+  a_call : Fails (Lex text) (after (at LeftHandSide script_flags)) end (symbol Member script_flags) p.prev_token_end → Ring text (after (at LeftHandSide script_flags)) (calls script_flags) 0 p.prev_token_end p.token.span.start 1 l cs q.prev_token_end pass → Callee text p q l cs pass
 
 -- A callee, as far as it has been taken.
 pub record Calling (text : List ℕ) (p q : Cursor) (ns ms : List Node) (id : NodeId) : Type 0 where
@@ -209,15 +209,15 @@ pub record Calling (text : List ℕ) (p q : Cursor) (ns ms : List Node) (id : No
   pub verdict : Verdict p.diagnostics q.diagnostics (Callee text p q label slots pass) (Underived text left_hand_side p.prev_token_end)
 
 module _ {text : List ℕ} where
-  -- a member is a primary; as a callee it passes a test
+  -- a member is a primary
   member_rule : {s s' : ℕ} {f : Slots → Slots} {pass : Lexemes → Lexemes} → Stretch text (plain full) (symbol Primary script_flags) s nothing s' f pass → Stretch text (plain full) (rule (at Member script_flags)) s nothing s' f pass
   unfolding rule rule_of
   member_rule x = x
 
-  member : {s s' : ℕ} {l : Label} {cs : Slots} {pass : Lexemes → Lexemes} (c : Tree → Bool) → Stretch text (plain full) (symbol Primary script_flags) s nothing s' (tree l cs) pass → c (record { label = l; slots = cs }) ≡ true → Stretch text (plain full) (such (at Member script_flags) c) s nothing s' (tree l cs) pass
-  member c x t = let y = member_rule x in record { reach = y.reach; near = y.near; goes = by_rule {X' = plain full} (λ l cs vs y e. e) y.goes t }
+  member : {s s' : ℕ} {l : Label} {cs : Slots} {pass : Lexemes → Lexemes} → Stretch text (plain full) (symbol Primary script_flags) s nothing s' (tree l cs) pass → Stretch text (plain full) (symbol Member script_flags) s nothing s' (tree l cs) pass
+  member x = let y = member_rule x in record { reach = y.reach; near = y.near; goes = by_rule {X' = plain full} (λ l cs vs y e. e) y.goes refl }
 
-  member_none : {c : Tree → Bool} (place : ℕ) → Fails (Lex text) (after (at Primary script_flags)) end (symbol Primary script_flags) place → Fails (Lex text) (plain full) end (such (at Member script_flags) c) place
+  member_none : (place : ℕ) → Fails (Lex text) (after (at Primary script_flags)) end (symbol Primary script_flags) place → Fails (Lex text) (plain full) end (symbol Member script_flags) place
   unfolding rule rule_of covers
   member_none place x = fails_rule {X' = plain full} (λ l cs vs y e. e) (weaken_fails x (λ ts y e. admits (at Primary script_flags) ts y refl))
 
@@ -234,51 +234,38 @@ module _ {text : List ℕ} where
   module _ {p q : Cursor} {l : Label} {cs : Slots} {pass : Lexemes → Lexemes} (a : At text p) (b : At text q) (k : q.token.kind ≡ LParen) where
     member_fails : Stretch text (plain full) (symbol Primary script_flags) p.prev_token_end nothing q.prev_token_end (tree l cs) pass → Fails (Lex text) (after (at LeftHandSide script_flags)) end (symbol Member script_flags) p.prev_token_end
     unfolding covers
-    member_fails x = unfollowed (member always x refl).goes (record { admits = λ ts vs k ls rest d e. (refl, refl) }) (λ us y i h. no_paren_follows b k (tree l cs us) y i h)
+    member_fails x = unfollowed (member x).goes (record { admits = λ ts vs k ls rest d e. (refl, refl) }) (λ us y i h. no_paren_follows b k (tree l cs us) y i h)
 
-    -- no call has this callee
-    no_callee : Callee text p q l cs pass → callable_kind l.kind ≡ false → Underived text left_hand_side p.prev_token_end
+    no_arguments_there : Callee text p q l cs pass → Fails (Lex text) (plain full) end (args script_flags) q.prev_token_end → Underived text left_hand_side p.prev_token_end
     unfolding rule rule_of covers
-    no_callee (a_member x) h = fails_by (fails_alt (member_fails x) (chain_start_fails firsts (call_climbs script_flags) (call_links script_flags) {F' = full} (fails_node inside_full (fails_part firsts {F' = full} (fails_such {X' = plain full} (λ l cs vs y e. e) (member_rule x).goes h) refl)) refl refl))
-    no_callee (a_call t m g) h = absurd (false≢true (sym h ∙ t))
+    no_arguments_there (a_member x) n = fails_by (fails_alt (member_fails x) (chain_start_fails firsts (call_climbs script_flags) (call_links script_flags) {F' = full} (fails_node inside_full (then_by {X' = plain full} (member x).goes (record { admits = λ ts us vs j k ls mid rest d d' e. (refl, refl) }) ▹✗ n)) refl refl))
+    no_arguments_there (a_call m g) n = fails_by (fails_alt m (chain_step_fails firsts (call_climbs script_flags) (call_links script_flags) {F' = full} LParen g.around (kind_here b k) this refl refl (λ l cs vs y e. e) n refl refl))
 
-    no_arguments_there : Callee text p q l cs pass → callable_kind l.kind ≡ true → Fails (Lex text) (plain full) end (args script_flags) q.prev_token_end → Underived text left_hand_side p.prev_token_end
-    unfolding rule rule_of covers
-    no_arguments_there (a_member x) t n = fails_by (fails_alt (member_fails x) (chain_start_fails firsts (call_climbs script_flags) (call_links script_flags) {F' = full} (fails_node inside_full (then_by {X' = plain full} (member callable x t).goes (record { admits = λ ts us vs j k ls mid rest d d' e. (refl, refl) }) ▹✗ n)) refl refl))
-    no_arguments_there (a_call t' m g) t n = fails_by (fails_alt m (chain_step_fails firsts (call_climbs script_flags) (call_links script_flags) {F' = full} LParen g.around (kind_here b k) this refl refl (λ l cs vs y e. e) n refl refl))
-
-    called_so : {r : Cursor} {f : Slots → Slots} {more : Lexemes → Lexemes} → Callee text p q l cs pass → callable_kind l.kind ≡ true → q.prev_token_end ≤ r.prev_token_end → Stretch text (plain full) (args script_flags) q.prev_token_end nothing r.prev_token_end f more → Callee text p r (label_here call_expression no_op p r) (tree l cs (f end)) (λ ls. pass (more ls))
+    called_so : {r : Cursor} {f : Slots → Slots} {more : Lexemes → Lexemes} → Callee text p q l cs pass → q.prev_token_end ≤ r.prev_token_end → Stretch text (plain full) (args script_flags) q.prev_token_end nothing r.prev_token_end f more → Callee text p r (label_here call_expression no_op p r) (tree l cs (f end)) (λ ls. pass (more ls))
     unfolding covers
-    called_so {r} {f} {more} (a_member x) t o y =
-        let m = member callable x t in
+    called_so {r} {f} {more} (a_member x) o y =
+        let m = member x in
         let z : Stretch text (plain full) (first_call script_flags) p.prev_token_end nothing r.prev_token_end (tree (label_here call_expression no_op p r) (tree l cs (f end))) (λ ls. pass (more ls)) = noding r a inside_full (record { reach = max m.reach y.reach; near = let i = m.near in let j = y.near in omega arith; goes = then_by {X' = plain full} m.goes (record { admits = λ ts us vs j k ls mid rest d d' e. (refl, refl) }) ▹ y.goes }) in
-        a_call refl (member_fails x) (record { reach = z.reach; near = z.near; around = chain_start firsts (call_climbs script_flags) (call_links script_flags) z.goes refl refl (begins_here a) })
-    called_so {r} {f} (a_call t' m g) t o y = a_call refl m (record { reach = max g.reach y.reach; near = let i = g.near in let j = y.near in omega arith; around = chain_step firsts (call_climbs script_flags) (call_links script_flags) {F' = full} LParen g.around (kind_here b k) this refl refl y.goes refl refl })
+        a_call (member_fails x) (record { reach = z.reach; near = z.near; around = chain_start firsts (call_climbs script_flags) (call_links script_flags) z.goes refl refl (begins_here a) })
+    called_so {r} {f} (a_call m g) o y = a_call m (record { reach = max g.reach y.reach; near = let i = g.near in let j = y.near in omega arith; around = chain_step firsts (call_climbs script_flags) (call_links script_flags) {F' = full} LParen g.around (kind_here b k) this refl refl y.goes refl refl })
 
-  -- the callee, and the test of it
-  callee_verdict : {p q r : Cursor} {ns ms : List Node} {left : NodeId} → At text p → (c : Calling text p q ns ms left) → q.token.kind ≡ LParen → CalleeChecked text ms left q r → Verdict p.diagnostics r.diagnostics (Callee text p q c.label c.slots c.pass × (callable_kind c.label.kind ≡ true)) (Underived text left_hand_side p.prev_token_end)
-  callee_verdict {ns = ns} {ms = ms} a c e k = and_then c.verdict k.verdict (λ x h. (x, h (length ns) (length ms) c.label c.slots c.held.holds)) (λ n. n) (λ x h. no_callee a c.at e x (h (length ns) (length ms) c.label c.slots c.held.holds))
+  pub calling_fails : {p q : Cursor} {ns ms : List Node} {left : NodeId} → At text p → Calling text p q ns ms left → q.token.kind ≡ LParen → Fails (Lex text) (plain full) end (args script_flags) q.prev_token_end → Underived text left_hand_side p.prev_token_end
+  calling_fails a c e n = either_way c.verdict (λ x. no_arguments_there a c.at e x n) (λ m. m)
 
-  pub calling_fails : {p q r : Cursor} {ns ms : List Node} {left : NodeId} → At text p → Calling text p q ns ms left → q.token.kind ≡ LParen → CalleeChecked text ms left q r → Fails (Lex text) (plain full) end (args script_flags) r.prev_token_end → Underived text left_hand_side p.prev_token_end
-  calling_fails a c e k n = either_way (callee_verdict a c e k) (λ x. no_arguments_there a c.at e x.0 x.1 (subst (λ v. Fails (Lex text) (plain full) end (args script_flags) v) k.place n)) (λ m. m)
-
-  pub calling_step : {p q r t : Cursor} {ns ms os ps : List Node} {left id : NodeId} {ids js : List (Option NodeId)} {k : NodeKind} {sp : Span} {o : Option Kind} → At text p → Calling text p q ns ms left → q.token.kind ≡ LParen → CalleeChecked text ms left q r → ids ≡ Some left ∷ [] → (y : NumberedPart text full (args script_flags) r t ms os ids js) → Made k sp o js os ps id → label_of k o sp ≡ label_here call_expression no_op p t → Calling text p t ns ps id
-  calling_step {p} {q} {r} {t} {ns = ns} {ms = ms} {left = before} a c e k j y d f = record {
+  pub calling_step : {p q t : Cursor} {ns ms os ps : List Node} {left id : NodeId} {ids js : List (Option NodeId)} {k : NodeKind} {sp : Span} {o : Option Kind} → At text p → Calling text p q ns ms left → q.token.kind ≡ LParen → ids ≡ Some left ∷ [] → (y : NumberedPart text full (args script_flags) q t ms os ids js) → Made k sp o js os ps id → label_of k o sp ≡ label_here call_expression no_op p t → Calling text p t ns ps id
+  calling_step {p} {q} {t} {ns = ns} {ms = ms} {left = before} a c e j y d f = record {
     at = y.part.at;
     further = let g = c.further in let h = further in omega arith;
     label = label_here call_expression no_op p t;
     slots = tree c.label c.slots (y.part.slots end);
     held = node_held (y.holds (length ns) (tree c.label c.slots end) (subst (λ v. HoldsAll ms (length ns) (length ms) v (tree c.label c.slots end)) (sym j) (HoldsAll-one before c.held.holds))) (Keeps-trans c.held.keeps y.keeps) d f;
     pass = λ ls. c.pass (y.part.pass ls);
-    walked = walked_both c.walked (subst (λ v. Walked text v t.prev_token_end y.part.pass) k.place y.part.walked);
-    verdict = and_then (callee_verdict a c e k) y.part.verdict
-        (λ x g. called_so a c.at e x.0 x.1 further (subst (λ v. Stretch text (plain full) (args script_flags) v nothing t.prev_token_end y.part.slots y.part.pass) k.place g))
-        (λ n. n)
-        (λ x n. no_arguments_there a c.at e x.0 x.1 (subst (λ v. Fails (Lex text) (plain full) end (args script_flags) v) k.place n));
+    walked = walked_both c.walked y.part.walked;
+    verdict = and_then c.verdict y.part.verdict (λ x g. called_so a c.at e x further g) (λ n. n) (λ x n. no_arguments_there a c.at e x n);
   }
     where
       further : q.prev_token_end ≤ t.prev_token_end
-      further = let z : r.token.span.start ≡ q.token.span.start = ap (λ v. v.span.start) k.token in let g = c.at.here.behind in let h = y.part.further in omega arith
+      further = let g = c.at.here.behind in let h = y.part.further in omega arith
 
   -- behind a member with no parenthesis behind it no call begins
   no_call : {s : ℕ} {q : Cursor} {f : Slots → Slots} {pass : Lexemes → Lexemes} → Stretch text (plain full) (symbol Member script_flags) s nothing q.prev_token_end f pass → At text q → (q.token.kind ≡ LParen → ⊥) → Fails (Lex text) (after (at LeftHandSide script_flags)) end (symbol Call script_flags) s
@@ -295,8 +282,8 @@ module _ {text : List ℕ} where
 
   callee_answers : {p q : Cursor} {l : Label} {cs : Slots} {pass : Lexemes → Lexemes} → At text q → (q.token.kind ≡ LParen → ⊥) → Callee text p q l cs pass → Stretch text (after (at LeftHandSide script_flags)) (symbol LeftHandSide script_flags) p.prev_token_end nothing q.prev_token_end (tree l cs) pass
   unfolding rule rule_of covers
-  callee_answers a n (a_member x) = let m = member always x refl in let y = narrow {X = after (at LeftHandSide script_flags)} m in record { reach = max 0 y.reach; near = let i = y.near in omega arith; goes = by_rule {X' = after (at LeftHandSide script_flags)} (λ l cs vs y e. e) (left (no_call m a n) ▹ y.goes) refl }
-  callee_answers a n (a_call t m g) = record { reach = max 0 g.reach; near = let i = g.near in omega arith; goes = by_rule {X' = after (at LeftHandSide script_flags)} (λ l cs vs y e. e) (right m ▹ chain_end firsts (call_climbs script_flags) (call_links script_flags) {X' = after (at LeftHandSide script_flags)} (λ l cs vs y e. e) g.around (λ y l t. n (sym (a.here.is y l).kind ∙ sym (kind_of_same LParen y.kind (and_parts _ _ t).0)))) refl }
+  callee_answers a n (a_member x) = let m = member x in let y = narrow {X = after (at LeftHandSide script_flags)} m in record { reach = max 0 y.reach; near = let i = y.near in omega arith; goes = by_rule {X' = after (at LeftHandSide script_flags)} (λ l cs vs y e. e) (left (no_call m a n) ▹ y.goes) refl }
+  callee_answers a n (a_call m g) = record { reach = max 0 g.reach; near = let i = g.near in omega arith; goes = by_rule {X' = after (at LeftHandSide script_flags)} (λ l cs vs y e. e) (right m ▹ chain_end firsts (call_climbs script_flags) (call_links script_flags) {X' = after (at LeftHandSide script_flags)} (λ l cs vs y e. e) g.around (λ y l t. n (sym (a.here.is y l).kind ∙ sym (kind_of_same LParen y.kind (and_parts _ _ t).0)))) refl }
 
   pub calling_answers : {p q : Cursor} {ns ms : List Node} {id : NodeId} → Calling text p q ns ms id → (q.token.kind ≡ LParen → ⊥) → Numbered text (at LeftHandSide script_flags) p q ns ms id
   calling_answers c n = record { answer = record { at = c.at; further = c.further; label = c.label; slots = c.slots; stops = call_ends c.at n; pass = c.pass; walked = c.walked; verdict = verdict_of c.verdict (λ x. callee_answers c.at n x) (λ m. m) }; holds = c.held.holds; keeps = c.held.keeps }

@@ -5,7 +5,7 @@ use Rattle.js_base.specs.declared.kind.Kind.{Kind}
 use Rattle.js_base.specs.declared.kind.Kind.TheVariants.{Semicolon, Eof}
 use Rattle.js_grammar.specs.Trees.{Slots, end as no_slots, tree, Label, append, Tree}
 use Rattle.js_grammar.specs.Grammar.{Lexeme, Lexemes, Look, seen, such, nothing}
-use Rattle.js_grammar.specs.FirstLanguageTable.{G, Symbol, always, callable_kind}
+use Rattle.js_grammar.specs.FirstLanguageTable.{G, Symbol, always}
 use Rattle.js_grammar.specs.FirstLanguageLexing.{Lex}
 use Rattle.js_grammar.specs.FirstLanguageEdges.{edge_of}
 use Rattle.js_grammar.specs.FirstLanguageLevels.{full, follow, after}
@@ -140,14 +140,3 @@ pub record ProgramRead (text : List ℕ) (ns : List Node) (ids : List (Option No
 pub record ProgramTaken (text : List ℕ) (old new : Cursor) (ns : List Node) (ids : List (Option NodeId)) : Type 0 where
   pub at : At text new
   pub verdict : Verdict old.diagnostics new.diagnostics (ProgramRead text ns ids) (HasNoReading text)
-
--- what is said of each tree that a number stands for, by its label
-abbrev pub Standing : List Node → NodeId → (Label → Type 0) → Type 0
-Standing ns id P = (lo hi : ℕ) (l : Label) (cs : Slots) → Holds ns lo hi id.0 l cs → P l
-
--- A diagnostic is kept exactly where the number stands for what is no callee.
-pub record CalleeChecked (text : List ℕ) (ns : List Node) (id : NodeId) (old new : Cursor) : Type 0 where
-  pub at : At text new
-  pub token : new.token ≡ old.token
-  pub place : new.prev_token_end ≡ old.prev_token_end
-  pub verdict : Verdict old.diagnostics new.diagnostics (Standing ns id (λ l. callable_kind l.kind ≡ true)) (Standing ns id (λ l. callable_kind l.kind ≡ false))

@@ -1,13 +1,13 @@
 //! Expressions (ECMA-262, chapter 13): sums and products, signs, calls, parentheses, names and numbers.
 
-ghost use Rattle.std.specs.Prelude.{◌≡◌, ◌<◌, ◌≤◌, length, not, ◌++◌, ◌∷◌, [], Some, IfOk, MatchResult};
+ghost use Rattle.std.specs.Prelude.{◌≡◌, ◌≤◌, ◌++◌, ◌∷◌, [], Some, IfOk, MatchResult};
 ghost use Rattle.js_base.specs.declared.kind.Kind.TheVariants.{LParen, Plus, Minus};
 ghost use Rattle.js_base.specs.Kinds.{one_of_kinds};
-ghost use Rattle.js_grammar.specs.FirstLanguageTable.{at, args, callable_kind, script_flags, Expression, Unary, LeftHandSide, Primary};
+ghost use Rattle.js_grammar.specs.FirstLanguageTable.{at, args, script_flags, Expression, Unary, LeftHandSide, Primary};
 ghost use Rattle.js_grammar.specs.FirstLanguageLevels.{full, level_at};
-ghost use Rattle.jsparse.specs.Answers.{At, Answers, NumberedPart, PartStops, Standing, CalleeChecked};
+ghost use Rattle.jsparse.specs.Answers.{At, Answers, NumberedPart, PartStops};
 
-use crate::cursor::{Cursor, Stop, bump, expect, give_up, is_at, keep, unexpected_token};
+use crate::cursor::{Cursor, Stop, bump, expect, give_up, is_at};
 use crate::tree::{NodeId, NodeKind, ParserAstBuilder};
 use js_base::{Kind, NoMemory, Span};
 use std::alloc::Global;
@@ -141,43 +141,12 @@ fn parse_lhs_expression(
     let start = p.token.start();
     let mut left = parse_primary_expression(text, p, ast)?;
     'calls: while is_at(p, Kind::LParen) {
-        check_callee(text, p, ast, left)?;
         let callee = one_child(ast.alloc, left)?;
         let children = parse_arguments(text, p, ast, callee)?;
         let span = Span::new(start, p.prev_token_end);
         left = ast.node(NodeKind::CallExpression, span, None, children)?;
     }
     Ok(left)
-}
-
-/// Whether a node is a number.
-fn is_number(ast: &ParserAstBuilder, id: NodeId) -> bool
-    requires { id.0 < length ast.now.nodes.items }
-    ensures { Standing ast.now.nodes.items id (λ l. callable_kind l.kind ≡ not result) }
-{
-    match ast.nodes[id.0].kind {
-        NodeKind::NumericLiteral => true,
-        _ => false,
-    }
-}
-
-/// Keeps a diagnostic where the callee of a call is a number, and lets the parser go on.
-fn check_callee(
-    text: &[u8],
-    p: &mut Cursor,
-    ast: &ParserAstBuilder,
-    callee: NodeId,
-) -> Result<(), NoMemory>
-    requires at { At text.now p.old }
-    requires made { callee.0 < length ast.now.nodes.items }
-    ensures { IfOk result (λ _. CalleeChecked text.now ast.now.nodes.items callee p.old p.new) }
-{
-    if is_number(ast, callee) {
-        let found = unexpected_token(text, p.token.span());
-        keep(text, p, found)?;
-        return Ok(());
-    }
-    Ok(())
 }
 
 /// The arguments of a call, none or one, put behind the children given.
