@@ -58,7 +58,7 @@ kind_is None k h = absurd (false≢true h)
 kind_is (Some j) k h = ap Some (kind_of_same j k h)
 
 -- the lexeme stands before these characters, at a place
-abbrev stands : Passing → ℕ → Written → List ℕ → Bool
+abbrev pub stands : Passing → ℕ → Written → List ℕ → Bool
 stands p s x rest =
     is_kind (kind_in x.goal x.word rest) x.kind
     && (trivia_stands (s == 0) x.trivia (x.word ++ rest)
@@ -66,7 +66,7 @@ stands p s x rest =
     && (may_begin x.goal (s + width (joined x.trivia))
     && ((not (is_number x.kind) || stops_number rest) && (comments_pass p x.trivia && flags_right p x.kind x.word)))))
 
-stands_right : (p : Passing) (text : List ℕ) (s : ℕ) (x : Written) (rest : List ℕ) → At text s (joined x.trivia ++ (x.word ++ rest)) → stands p s x rest ≡ true → Lex p text s (lexeme_at s x)
+pub stands_right : (p : Passing) (text : List ℕ) (s : ℕ) (x : Written) (rest : List ℕ) → At text s (joined x.trivia ++ (x.word ++ rest)) → stands p s x rest ≡ true → Lex p text s (lexeme_at s x)
 stands_right p text s x rest place h =
     let a = and_parts (is_kind (kind_in x.goal x.word rest) x.kind) _ h in
     let b = and_parts (trivia_stands (s == 0) x.trivia (x.word ++ rest)) _ a.1 in
@@ -91,7 +91,7 @@ all_right p text s x (y ∷ ys) place h =
 abbrev spells : List ℕ → List ℕ → Bool
 spells text cs = all_scalars cs && bytes_eq (encode_utf8_all cs) text
 
-spells_right : (text cs : List ℕ) → spells text cs ≡ true → At text 0 cs
+pub spells_right : (text cs : List ℕ) → spells text cs ≡ true → At text 0 cs
 spells_right text cs h = let a = and_parts (all_scalars cs) _ h in record { within = omega arith; bytes = sym ((bytes_eq-Decides (encode_utf8_all cs) text).0 a.1); scalars = a.0 }
 
 -- the text is made of these lexemes
