@@ -17,7 +17,7 @@ use Rattle.js_grammar.specs.Lexemes.{LexicalGoal, kind_in, lexemes_in, may_begin
 use Rattle.js_grammar.specs.Lexed.{Passing, Lex, Lexes, Lexed, passing_of, comments_pass, flags_right, ends_once}
 use Rattle.js_grammar.specs.Settings.{Goal}
 use Rattle.js_grammar.specs.Options.{program_flags}
-use Rattle.js_grammar.specs.Productions.{Symbol, Program, at}
+use Rattle.js_grammar.specs.Productions.{Symbol, Program, Expression, at}
 use Rattle.js_grammar.specs.Readings.{IsDerived}
 use Rattle.js_grammar.specs.Table.{rule}
 use Rattle.js_grammar.proofs.LongestLemmas.{both, append-nil}
@@ -141,9 +141,16 @@ label kind op flags from to = record { kind = kind; op = op; flags = flags; span
 abbrev pub program_at : Goal → Bool → Bool → Symbol
 program_at goal allow_return v8 = at Program (program_flags goal (record { allow_return = allow_return; preserve_parens = true; allow_v8 = v8 }))
 
+abbrev pub expression_at : Goal → Symbol
+expression_at goal = at Expression (program_flags goal (record { allow_return = false; preserve_parens = true; allow_v8 = false }))
+
 -- the text has these lexemes, and Program derives the tree from them
 abbrev pub example : Goal → Bool → Bool → List ℕ → Written → List Written → Label → Slots → Bool
 example goal r v text x ys l cs = lexes goal text x ys && derives (program_at goal r v) (lexemes_at 0 x ys) l cs
+
+-- the same, of an expression that is the whole text
+abbrev pub expression_example : Goal → List ℕ → Written → List Written → Label → Slots → Bool
+expression_example goal text x ys l cs = lexes goal text x ys && derives (expression_at goal) (lexemes_at 0 x ys) l cs
 
 -- Program derives the tree from these lexemes
 abbrev pub tree_alone : Goal → Bool → Bool → Written → List Written → Label → Slots → Bool
