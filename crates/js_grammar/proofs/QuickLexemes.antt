@@ -1,7 +1,7 @@
 -- Whether no longer front is a lexeme or a piece of trivia, by the next character alone where that is enough. What these tests say yes to holds.
 use Rattle.std.proofs.Common.{ℕ, ◌≡◌, ◌==◌, Bool, true, false, not, ◌&&◌, ◌||◌, List, [], ◌∷◌, ◌++◌, Option, Some, None, refl, sym, ap, subst, ◌∙◌, append_assoc}
 use Rattle.std.specs.Prelude.{codes, bytes_eq, is_some, cond}
-use Rattle.std.specs.List.{list_all, list_any, find}
+use Rattle.std.specs.List.{list_all, find}
 use Rattle.js_base.specs.declared.kind.Kind.{Kind}
 use Rattle.js_base.specs.declared.kind.Kind.TheVariants.{RegExp, Str, NoSubstitutionTemplate, TemplateHead, TemplateMiddle, TemplateTail}
 use Rattle.js_base.specs.Texts.{text_of, punctuators}
@@ -15,10 +15,10 @@ use Rattle.js_grammar.specs.Strings.{nothing_left, closes_string, string_inside}
 use Rattle.js_base.specs.Decoding.{string_points}
 use Rattle.js_grammar.specs.Templates.{closes_template, part_kind}
 use Rattle.js_grammar.specs.RegularExpressions.{behind_pattern, flags, flagged}
-use Rattle.js_grammar.specs.Lexemes.{LexicalGoal, division, regular_expression, template_tail, hashbang, lexemes_in, plain_kind, punctuator_kind, may_precede, Opening, a_name, a_number, a_string, a_template, a_private_name, a_punctuator, opening}
+use Rattle.js_grammar.specs.Lexemes.{LexicalGoal, division, regular_expression, template_tail, hashbang, lexemes_in, punctuator_kind, may_precede, Opening, a_name, a_number, a_string, a_template, a_private_name, a_punctuator, opening}
 use Rattle.js_grammar.specs.CoreTexts.{is_core_number, starts}
 use Rattle.js_grammar.proofs.LongestLemmas.{both-left, both-right, both, not-true}
-use Rattle.js_grammar.proofs.Finding.{neither, neither-left, neither-right}
+use Rattle.js_grammar.proofs.Finding.{neither}
 use Rattle.js_grammar.proofs.CoreLemmas.{none_longer-from, plain_of, opens, opens-same}
 use Rattle.js_grammar.proofs.CorePlain.{no_backslash, no_return, feeds-append}
 use Rattle.js_grammar.proofs.CoreNames.{longer_name, parts_stop}

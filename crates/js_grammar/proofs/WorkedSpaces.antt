@@ -1,10 +1,10 @@
 -- A text of spaces alone, however many: one lexeme, the end, and a Program without a child.
-use Rattle.std.proofs.Common.{ℕ, zero, suc, ◌+◌, ◌≡◌, Bool, true, false, ◌&&◌, List, [], ◌∷◌, ◌++◌, refl, sym, ap, subst, arith, length}
+use Rattle.std.proofs.Common.{ℕ, zero, suc, ◌≡◌, Bool, true, false, ◌&&◌, List, [], ◌∷◌, ◌++◌, refl, sym, ap, subst, arith}
 use Rattle.std.specs.Prelude.{encode_utf8_all, replicate}
 use Rattle.std.specs.Str.{all_scalars}
 use Rattle.js_base.specs.declared.kind.Kind.TheVariants.{Eof}
-use Rattle.js_grammar.specs.Trees.{Tree, program, no_op, end}
-use Rattle.js_grammar.specs.Grammar.{Lexeme, last, Derives, is_node, is_seq, is_left, is_right, is_nothing, is_many}
+use Rattle.js_grammar.specs.Trees.{program, no_op, end}
+use Rattle.js_grammar.specs.Grammar.{Lexeme, last, Derives, is_node, is_seq, is_right, is_nothing, is_many}
 use Rattle.js_grammar.specs.Characters.{width}
 use Rattle.js_grammar.specs.Longest.{joined}
 use Rattle.js_grammar.specs.Lexemes.{division}
