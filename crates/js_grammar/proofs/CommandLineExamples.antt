@@ -1,8 +1,8 @@
 -- What the command line admits: examples.
-use Rattle.std.specs.Prelude.{ℕ, true, false, [], ◌∷◌, ◌≡◌, codes, length, None, Some}
+use Rattle.std.specs.Prelude.{true, false, [], ◌∷◌, codes, None, Some}
 use Rattle.std.proofs.Common.{refl}
 use Rattle.js_grammar.specs.Settings.{module_goal, script, prints_tree, prints_record}
-use Rattle.js_grammar.specs.CommandLine.{Admits, AllWritten, none, more, alone, apart, joined, a_goal, a_print, v8, a_number, number_of}
+use Rattle.js_grammar.specs.CommandLine.{Admits, none, more, alone, apart, joined, a_goal, a_print, v8, a_number}
 
 two_options : Admits (codes "--goal=module" ∷ codes "--print=record" ∷ []) (record { goal = module_goal; print = prints_record; preserve_parens = true; allow_return = false; allow_v8 = false; generate = None })
 two_options = record { choices = a_goal module_goal ∷ a_print prints_record ∷ []; written = more (joined refl) (more (joined refl) none); agree = refl; sets = refl }

@@ -75,7 +75,7 @@ pub name-of-plain : (c : ℕ) (cs : List ℕ) → is_ascii_name (c ∷ cs) ≡ t
 name-of-plain c cs h = ap named (points-plain in_name (c ∷ cs) (name_no_backslash c cs h)) ∙ named-plain (c ∷ cs) (both-left (is_plain_name (c ∷ cs)) (list_all (λ d. nat_lt d 128) (c ∷ cs)) h)
 
 -- a character that no name goes on with
-parts_stop : (xs : List ℕ) (d : ℕ) (ys : List ℕ) → is_identifier_part d ≡ false → list_all is_identifier_part (xs ++ d ∷ ys) ≡ false
+pub parts_stop : (xs : List ℕ) (d : ℕ) (ys : List ℕ) → is_identifier_part d ≡ false → list_all is_identifier_part (xs ++ d ∷ ys) ≡ false
 parts_stop [] d ys h = rw h refl
 parts_stop (x ∷ xs) d ys h = let r = parts_stop xs d ys h in and-false (is_identifier_part x) (list_all is_identifier_part (xs ++ d ∷ ys)) r
   where
@@ -90,7 +90,7 @@ plain_stops c cs d ys h = and-false (is_identifier_start c) (list_all is_identif
     and-false true b e = e
     and-false false b e = refl
 
-longer_name : (c : ℕ) (cs : List ℕ) (d : ℕ) (ys : List ℕ) → list_all no_backslash (c ∷ cs) ≡ true → no_backslash d ≡ true → is_identifier_part d ≡ false → name_of (c ∷ cs ++ d ∷ ys) ≡ None
+pub longer_name : (c : ℕ) (cs : List ℕ) (d : ℕ) (ys : List ℕ) → list_all no_backslash (c ∷ cs) ≡ true → no_backslash d ≡ true → is_identifier_part d ≡ false → name_of (c ∷ cs ++ d ∷ ys) ≡ None
 longer_name c cs d ys h n e =
     let a = points-append in_name (c ∷ cs) (d ∷ ys) h in
     let b = points-one in_name d ys n in

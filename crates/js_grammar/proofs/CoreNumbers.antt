@@ -25,7 +25,7 @@ nothing-nil (c ∷ cs) h = cc
 abbrev pub ends_digits : ℕ → Bool
 ends_digits d = not (is_decimal d || one_of (95 ∷ 110 ∷ 46 ∷ 69 ∷ 101 ∷ 88 ∷ 120 ∷ 79 ∷ 111 ∷ 66 ∷ 98 ∷ []) d)
 
-record Ends (d : ℕ) : Type 0 where
+pub record Ends (d : ℕ) : Type 0 where
   pub digit : is_decimal d ≡ false
   pub underscore : (d == 95) ≡ false
   pub big : (d == 110) ≡ false
@@ -97,7 +97,7 @@ number-itself c cs h = go (c == 48) refl
         zero-number c cs (no-dot c d) e ∙ ap zero_rest (nothing-nil cs n)
     go false e = digit-number c cs (no-dot c d) e d ∙ digits-all integer_rest cs (both-left (list_all is_decimal cs) (not (c == 48) || nothing_left cs) ds)
 
-number-longer : (c : ℕ) (cs : List ℕ) (y : ℕ) (ys : List ℕ) → is_core_number (c ∷ cs) ≡ true → Ends y → number_kind (c ∷ cs ++ y ∷ ys) ≡ None
+pub number-longer : (c : ℕ) (cs : List ℕ) (y : ℕ) (ys : List ℕ) → is_core_number (c ∷ cs) ≡ true → Ends y → number_kind (c ∷ cs ++ y ∷ ys) ≡ None
 number-longer c cs y ys h s = go (c == 48) refl
   where
     d : is_decimal c ≡ true
@@ -112,7 +112,7 @@ number-longer c cs y ys h s = go (c == 48) refl
         zero-number c (cs ++ y ∷ ys) (no-dot c d) e ∙ ap (λ (v : List ℕ). zero_rest (v ++ y ∷ ys)) (nothing-nil cs n) ∙ zero-ends y ys s
     go false e = digit-number c (cs ++ y ∷ ys) (no-dot c d) e d ∙ digits-run integer_rest cs (y ∷ ys) (both-left (list_all is_decimal cs) (not (c == 48) || nothing_left cs) ds) ∙ digits-end y ys s
 
-number-opens : (c : ℕ) (digit : Bool) → is_decimal c ≡ true → opening c digit ≡ a_number
+pub number-opens : (c : ℕ) (digit : Bool) → is_decimal c ≡ true → opening c digit ≡ a_number
 number-opens c true h = opens-same _ _ (ascii is_decimal (λ a. opens (opening a true) a_number) c refl (decimal-ascii c h) h)
 number-opens c false h = opens-same _ _ (ascii is_decimal (λ a. opens (opening a false) a_number) c refl (decimal-ascii c h) h)
 

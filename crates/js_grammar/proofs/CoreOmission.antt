@@ -1,5 +1,5 @@
 -- In core texts the two rules for leaving a semicolon out say the same: an expression ends with `++` or `--` exactly where its right edge is a postfix operator.
-use Rattle.std.proofs.Common.{ℕ, zero, suc, ◌≡◌, ◌≤◌, ◌+◌, Bool, true, false, not, cond, ◌&&◌, ◌||◌, IsTrue, List, [], ◌∷◌, nat_eq, refl, sym, ◌∙◌, subst, arith}
+use Rattle.std.proofs.Common.{ℕ, zero, suc, ◌≡◌, ◌≤◌, Bool, true, false, not, cond, ◌&&◌, ◌||◌, [], ◌∷◌, refl, sym, ◌∙◌, subst, arith}
 use Rattle.std.proofs.lemmas.Bool.{false≢true, and_parts, and_from}
 use Rattle.js_base.specs.declared.kind.Kind.TheVariants.{LParen, LBrack, Semicolon, Comma, Dot, Arrow, Question, QuestionDot, Plus2, Minus2, Eof}
 use Rattle.js_base.specs.Kinds.{same_kind, one_of_kinds}
@@ -9,7 +9,7 @@ use Rattle.js_grammar.specs.Grammar.{Make, Lexeme, Lexemes, last, next, here, Lo
 use Rattle.js_grammar.specs.Productions.{Flags, Name, Symbol, G, at, always, Program, Expression, Assignment, Conditional, Short, Coalesce, Or, And, BitOr, BitXor, BitAnd, Equality, Relational, Shift, Additive, Multiply, Exponent, Unary, Update, Arrow', LeftHandSide, New, Member, Call, Chain, Links, Primary, IdentifierReference, IdentifierName, SimpleTarget}
 use Rattle.js_grammar.specs.Table.{string}
 use Rattle.js_grammar.specs.CoreGrammar.{core_kinds, core_of, core_rule}
-use Rattle.js_grammar.specs.CoreReadings.{EndsWith, at_last, later, core_lexeme, permitted_core, SameOmission}
+use Rattle.js_grammar.specs.CoreReadings.{EndsWith, at_last, later, core_lexeme, SameOmission}
 use Rattle.js_grammar.proofs.Frame.{puts}
 use Rattle.js_grammar.proofs.RightEdges.{edge_append}
 use Rattle.js_grammar.proofs.Looks.{covers, covered, apart, not_both}

@@ -24,7 +24,6 @@ use Rattle.js_grammar.specs.Longest.{none_longer as no_longer_front}
 use Rattle.js_grammar.specs.Trivia.{are_trivia, lack_html_comments, is_trivia_piece, is_html_comment}
 use Rattle.js_base.specs.Escapes.{code_units}
 use Rattle.js_grammar.specs.Lexemes.{plain_kind, lexemes_in, division, a_punctuator, opening, may_precede, punctuator_kind, is_escaped, units_of}
-use Rattle.js_grammar.specs.Names.{has_backslash}
 use Rattle.js_grammar.specs.CoreGrammar.{core_kinds}
 use Rattle.js_grammar.specs.CoreTexts.{is_ascii_name, is_core_number, core_words, is_glue, starts}
 use Rattle.js_grammar.specs.Strings.{nothing_left}

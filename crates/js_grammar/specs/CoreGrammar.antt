@@ -7,7 +7,7 @@ use Rattle.js_grammar.specs.Trees.{array_expression, array_pattern, arrow_functi
 use Rattle.js_grammar.specs.Grammar.{commas, empty_slot, ended, lexeme, many, node, nothing, when, whole_text, ◌▸◌, ◌◇◌}
 use Rattle.js_grammar.specs.Insertion.{by_edge, is_word}
 use Rattle.js_grammar.specs.Productions.{Additive, And, Argument, ArrayTarget, Arrow', Assignment, Attrs, BElement, Binding, BindingIdentifier, BindingRest, BitAnd, BitOr, BitXor, Block, Body, Break, Call, Case, Catch, Chain, Class, ClassBody, ClassExpr, Coalesce, Conditional, Continue, Debugger, Decorator, Directive, Do, Empty, Equality, Exponent, ExportDecl, ExprStmt, Expression, Flags, For, ForIn, ForOf, FuncExpr, Function, G, IdentifierName, IdentifierReference, If, ImportDecl, Init, Item, LabelIdentifier, Labeled, LeftHandSide, Lexical, Links, ListItem, Member, Multiply, Name, New, Object, ObjectTarget, Or, Param, Params, Pattern, Primary, PrivateName, Program, Relational, Rest, Return, Shift, Short, SimpleTarget, Statement, Sub, Super, Switch, Symbol, Target, Template, Throw, Try, Unary, Update, Var, While, With, Yield, any_of, branches, make, mk, no_newline, op, opt, optional_flag, parens, plus_in, prefix_flag, slot, sym, tok}
-use Rattle.js_grammar.specs.Table.{args, directives_then, identifier, level, name, paren_expression, rule_of, string}
+use Rattle.js_grammar.specs.Table.{args, directives_then, identifier, level, paren_expression, rule_of, string}
 use Rattle.js_grammar.specs.Pruning.{pruned}
 
 -- The kinds of lexemes of core texts, and the end.

@@ -1,6 +1,7 @@
 -- Core texts: those of which every part of the parser can speak exactly. A part of the lexical grammar in which no lexical goal makes a difference.
 use Rattle.std.specs.Prelude.{ℕ, ◌≡◌, ◌≤◌, Bool, true, false, not, ◌&&◌, ◌||◌, List, [], ◌∷◌, ◌==◌, nat_lt, codes, bytes_eq, chars, length, IsTrue, is_some}
 use Rattle.std.specs.List.{list_all, find}
+use Rattle.std.specs.Str.{byte}
 use Rattle.js_base.specs.declared.kind.Kind.{Kind}
 use Rattle.js_base.specs.declared.kind.Kind.TheVariants.{Ident, This, Null, True, False, New, Typeof, Void, Delete, In, Instanceof, LParen, RParen, LBrack, RBrack, Semicolon, Comma, Colon, Dot, Dot3, Arrow, Tilde, Bang, Question, QuestionDot, Question2, Question2Eq, Plus, Plus2, PlusEq, Minus, Minus2, MinusEq, Star, Star2, StarEq, Star2Eq, Percent, PercentEq, Eq, Eq2, Eq3, Neq, Neq2, LAngle, LtEq, RAngle, GtEq, ShiftLeft, ShiftLeftEq, ShiftRight, ShiftRightEq, ShiftRight3, ShiftRight3Eq, Amp, Amp2, AmpEq, Amp2Eq, Pipe, Pipe2, PipeEq, Pipe2Eq, Caret, CaretEq}
 use Rattle.js_base.specs.Kinds.{one_of_kinds}
@@ -17,7 +18,7 @@ use Rattle.js_grammar.specs.Lexemes.{may_precede}
 -- one space, tab, CR or LF
 abbrev pub is_core_blank : List ℕ → Bool
 is_core_blank [] = false
-is_core_blank (c ∷ cs) = one_of (32 ∷ 9 ∷ 13 ∷ 10 ∷ []) c && nothing_left cs
+is_core_blank (c ∷ cs) = one_of (codes " \t\r\n") c && nothing_left cs
 
 -- a name of ASCII characters, without escapes
 abbrev pub is_ascii_name : List ℕ → Bool
@@ -30,16 +31,16 @@ core_words = Ident ∷ This ∷ Null ∷ True ∷ False ∷ New ∷ Typeof ∷ V
 -- `0`, or digits of which the first isn't `0`
 abbrev pub is_core_number : List ℕ → Bool
 is_core_number [] = false
-is_core_number (c ∷ cs) = is_decimal c && (list_all is_decimal cs && (not (c == 48) || nothing_left cs))
+is_core_number (c ∷ cs) = is_decimal c && (list_all is_decimal cs && (not (c == byte "0") || nothing_left cs))
 
 -- behind a quote: up to the equal one at the end, without backslash, CR and LF
 abbrev pub closes_core_string : ℕ → List ℕ → Bool
 closes_core_string q [] = false
-closes_core_string q (c ∷ cs) = elim (c == q) [ true ↦ nothing_left cs | false ↦ not (one_of (92 ∷ 13 ∷ 10 ∷ []) c) && closes_core_string q cs ]
+closes_core_string q (c ∷ cs) = elim (c == q) [ true ↦ nothing_left cs | false ↦ not (one_of (codes "\\\r\n") c) && closes_core_string q cs ]
 
 abbrev pub is_core_string : List ℕ → Bool
 is_core_string [] = false
-is_core_string (q ∷ cs) = one_of (34 ∷ 39 ∷ []) q && closes_core_string q cs
+is_core_string (q ∷ cs) = one_of (codes "\"'") q && closes_core_string q cs
 
 -- the punctuators without slash, brace and `@`
 unfoldable pub core_punctuators : List Kind
@@ -53,7 +54,7 @@ is_core_piece w rest = is_core_blank w || (is_ascii_name w || (is_core_number w 
 
 -- a name character or a dot; one at the end
 abbrev pub is_glue : ℕ → Bool
-is_glue c = is_identifier_part c || (c == 46)
+is_glue c = is_identifier_part c || (c == byte ".")
 
 abbrev pub ends_in_glue : List ℕ → Bool
 ends_in_glue [] = false

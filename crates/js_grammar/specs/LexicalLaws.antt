@@ -1,5 +1,6 @@
 -- Laws of the lexemes of a text.
-use Rattle.std.specs.Prelude.{ℕ, List, [], ◌∷◌, ◌≡◌, ◌||◌, ◌⊎◌, IsUtf8, IsTrue}
+use Rattle.std.specs.Prelude.{ℕ, List, [], ◌∷◌, ◌≡◌, ◌||◌, ◌⊎◌, IsUtf8, IsTrue, codes}
+use Rattle.std.specs.Str.{byte}
 use Rattle.unicode.specs.Binary.{is_id_start, is_id_continue}
 use Rattle.ucd_category.specs.GeneralCategory.{general_category, general_category_eq}
 use Rattle.ucd_category.specs.declared.GeneralCategory.TheVariants.{SpaceSeparator}
@@ -32,9 +33,9 @@ CoreText = (text : List ℕ) → IsUtf8 text → CoreSource text → OneList tex
 
 -- the classes of characters in the standard's words, by the tables of Unicode alone
 pub record CharacterClasses : Type 0 where
-  pub white_space : (c : ℕ) → is_white_space c ≡ (one_of (9 ∷ 11 ∷ 12 ∷ 0xFEFF ∷ []) c || general_category_eq (general_category c) SpaceSeparator)
-  pub identifier_start : (c : ℕ) → is_identifier_start c ≡ (is_id_start c || one_of (36 ∷ 95 ∷ []) c)
-  pub identifier_part : (c : ℕ) → is_identifier_part c ≡ (is_id_continue c || one_of (36 ∷ 0x200C ∷ 0x200D ∷ []) c)
+  pub white_space : (c : ℕ) → is_white_space c ≡ (one_of (byte "\t" ∷ byte "\u{b}" ∷ byte "\u{c}" ∷ 0xFEFF ∷ []) c || general_category_eq (general_category c) SpaceSeparator)
+  pub identifier_start : (c : ℕ) → is_identifier_start c ≡ (is_id_start c || one_of (codes "$_") c)
+  pub identifier_part : (c : ℕ) → is_identifier_part c ≡ (is_id_continue c || one_of (byte "$" ∷ 0x200C ∷ 0x200D ∷ []) c)
 
 -- faults aside, the marks of diagnostics allow what texts allow
 abbrev pub Leniency : Type 0
@@ -54,7 +55,7 @@ pub record AtSlashOrBrace (text : List ℕ) (s : ℕ) : Type 0 where
   pub first : ℕ
   pub others : List ℕ
   pub stands : Stands text s pieces [] (first ∷ others)
-  pub is : IsTrue (one_of (47 ∷ 125 ∷ []) first)
+  pub is : IsTrue (one_of (codes "/}") first)
 
 -- nothing else is left to choice, whichever faults pass
 abbrev pub Choice : Type 0

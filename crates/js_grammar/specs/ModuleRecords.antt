@@ -3,7 +3,6 @@ use Rattle.std.specs.Prelude.{ℕ, Bool, false, ◌||◌, bytes_eq, codes, List,
 use Rattle.std.specs.List.{find, flat_map}
 use Rattle.std.specs.Map.{lookup}
 use Rattle.js_base.specs.declared.diagnostic.Diagnostic.{Diagnostic}
-use Rattle.js_base.specs.declared.diagnostic.DiagnosticKind.{DiagnosticKind}
 use Rattle.js_base.specs.declared.diagnostic.DiagnosticKind.TheVariants.{DuplicateExport, DuplicateDefaultExport}
 use Rattle.js_base.specs.declared.span.Span.{Span}
 

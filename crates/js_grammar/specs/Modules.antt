@@ -1,13 +1,14 @@
 -- What the declarations of a module add to its record (ECMA-262, 16.2.1.5 to 16.2.3), and the record of a text with its tree.
-use Rattle.std.specs.Prelude.{ℕ, ◌+◌, Bool, true, false, ◌&&◌, ◌||◌, List, [], ◌∷◌, ◌++◌, Option, Some, None, ◌==◌, cond, chars, drop, nat_le, map}
+use Rattle.std.specs.Prelude.{ℕ, ◌+◌, Bool, true, false, List, [], ◌∷◌, ◌++◌, Option, Some, None, ◌==◌, cond, chars, drop, nat_le, map}
 use Rattle.std.specs.List.{flat_map}
+use Rattle.std.specs.Str.{byte}
 use Rattle.std.specs.Char.{len_utf8}
 use Rattle.js_base.specs.Characters.{is_line_terminator}
 use Rattle.js_base.specs.declared.diagnostic.Diagnostic.{Diagnostic}
 use Rattle.js_base.specs.declared.span.Span.{Span}
 use Rattle.js_grammar.specs.BoundNames.{bound_names}
 use Rattle.js_grammar.specs.NodeNames.{name_at, string_by, span_of}
-use Rattle.js_grammar.specs.ModuleRecords.{NameSpan, ImportImportName, imported, namespace_object, imported_default, ImportEntry, taken, all, all_but_default, no_import, exported, exported_default, no_export, ExportLocalName, local, local_default, no_local, ExportEntry, RequestedModule, DynamicImport, ModuleRecord, Request, Part, nothing, record_of_parts, errors_of_parts, default_places}
+use Rattle.js_grammar.specs.ModuleRecords.{NameSpan, ImportImportName, imported, namespace_object, imported_default, ImportEntry, taken, all, all_but_default, no_import, exported, exported_default, no_export, ExportLocalName, local, local_default, no_local, ExportEntry, ModuleRecord, Request, Part, nothing, record_of_parts, errors_of_parts, default_places}
 use Rattle.js_grammar.specs.Trees.{NodeKind, import_declaration, import_namespace_specifier, import_default_specifier, export_all_declaration, export_from_declaration, export_named_declaration, export_declaration, export_default_declaration, import_expression, import_meta, identifier_reference, function_declaration, class_declaration, Label, Slots, end, hole, tree, Tree}
 
 -- a name, decoded, and its place
@@ -213,11 +214,11 @@ pub data Between : Type 0 where
 
 abbrev pub default_from : Between → ℕ → List ℕ → ℕ
 default_from b at [] = at
-default_from outside at (c ∷ cs) = elim (c == 100) [ true ↦ at | false ↦ default_from (elim (c == 47) [ true ↦ slash | false ↦ outside ]) (at + len_utf8 c) cs ]
-default_from slash at (c ∷ cs) = default_from (elim (c == 42) [ true ↦ in_block | false ↦ in_line ]) (at + len_utf8 c) cs
+default_from outside at (c ∷ cs) = elim (c == byte "d") [ true ↦ at | false ↦ default_from (elim (c == byte "/") [ true ↦ slash | false ↦ outside ]) (at + len_utf8 c) cs ]
+default_from slash at (c ∷ cs) = default_from (elim (c == byte "*") [ true ↦ in_block | false ↦ in_line ]) (at + len_utf8 c) cs
 default_from in_line at (c ∷ cs) = default_from (elim (is_line_terminator c) [ true ↦ outside | false ↦ in_line ]) (at + len_utf8 c) cs
-default_from in_block at (c ∷ cs) = default_from (elim (c == 42) [ true ↦ behind_star | false ↦ in_block ]) (at + len_utf8 c) cs
-default_from behind_star at (c ∷ cs) = default_from (elim (c == 47) [ true ↦ outside | false ↦ elim (c == 42) [ true ↦ behind_star | false ↦ in_block ] ]) (at + len_utf8 c) cs
+default_from in_block at (c ∷ cs) = default_from (elim (c == byte "*") [ true ↦ behind_star | false ↦ in_block ]) (at + len_utf8 c) cs
+default_from behind_star at (c ∷ cs) = default_from (elim (c == byte "/") [ true ↦ outside | false ↦ elim (c == byte "*") [ true ↦ behind_star | false ↦ in_block ] ]) (at + len_utf8 c) cs
 
 abbrev pub default_word : List ℕ → Label → Span
 default_word text l =

@@ -1,11 +1,10 @@
 -- The mark `pure` of a call, a function or an arrow: which comments before it give it. No part of the standard; bundlers read such comments.
-use Rattle.std.specs.Prelude.{ℕ, ◌≡◌, ◌⊎◌, ◌↔◌, ⊤, Bool, true, false, ◌&&◌, ◌||◌, List, [], ◌∷◌, ◌==◌, Option, Some, None, cond, IsTrue}
+use Rattle.std.specs.Prelude.{ℕ, ◌≡◌, ◌⊎◌, ◌↔◌, ⊤, Bool, true, false, ◌&&◌, ◌||◌, List, [], ◌==◌, Option, Some, None, cond, IsTrue}
 use Rattle.std.specs.List.{list_any}
-use Rattle.js_base.specs.declared.kind.Kind.{Kind}
 use Rattle.js_base.specs.Kinds.{same_kind}
 use Rattle.js_grammar.specs.Words.{'const'}
 use Rattle.js_grammar.specs.Trees.{NodeKind, parenthesized_expression, chain_expression, static_member_expression, computed_member_expression, private_field_expression, call_expression, new_expression, function_expression, function_declaration, arrow_function_expression, variable_declaration, export_declaration, export_default_declaration, Op, of, Label, Slots, end, hole, tree, Tree}
-use Rattle.js_grammar.specs.Grammar.{Lexeme, Lexemes, last, next, here}
+use Rattle.js_grammar.specs.Grammar.{Lexemes, last, next, here}
 use Rattle.js_grammar.specs.Productions.{Name, Symbol, LeftHandSide, SimpleTarget, Assignment, Item, ListItem, Sub, Statement, ExportDecl, pure_flag, has_flag}
 use Rattle.js_grammar.specs.Lexed.{Passing, Lex, Lexes}
 use Rattle.js_grammar.specs.Trivia.{is_single_line_comment, is_multi_line_comment, is_html_comment}

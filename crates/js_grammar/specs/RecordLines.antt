@@ -1,5 +1,5 @@
 -- What the program prints of a module record: one line for each member, each ended by LF.
-use Rattle.std.specs.Prelude.{ℕ, Bool, true, false, List, [], ◌∷◌, ◌++◌, cond, codes, Option, Some, None}
+use Rattle.std.specs.Prelude.{ℕ, Bool, List, ◌++◌, cond, codes, Option, Some, None}
 use Rattle.std.specs.List.{flat_map}
 use Rattle.js_base.specs.declared.span.Span.{Span}
 use Rattle.js_grammar.specs.Lines.{span_text}

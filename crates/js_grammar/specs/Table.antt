@@ -183,7 +183,7 @@ rule_of While f = mk while_statement (tok 'while' ▸ parens (sym Expression f) 
 rule_of With f = mk with_statement (tok 'with' ▸ parens (sym Expression f) ▸ sym Sub f)
 -- ForStatement (14.7.4)
 rule_of For f = mk for_statement (tok 'for' ▸ parens (slot (sym ForInit f) ▸ tok Semicolon ▸ slot (sym Expression f) ▸ tok Semicolon ▸ slot (sym Expression f)) ▸ sym Sub f)
--- its first part
+-- the first part of a ForStatement (14.7.4)
 rule_of ForInit f = not_then (is 'let') (word_or (LBrack ∷ LCurly ∷ [])) ▸ sym Expression (minus_in f) ◇ branches words_of_declarations (λ w. op variable_declaration w (declarators w (minus_in f)))
 -- ForInOfStatement with `in` (14.7.5, B.3.5)
 rule_of ForIn f = mk for_in_statement (tok 'for' ▸ parens ((not_then (is 'let') (word_or (LBrack ∷ LCurly ∷ [])) ▸ sym Target f ◇ for_binding f
@@ -242,9 +242,9 @@ rule_of Element f = each (λ st. each (λ c. element method_definition method_op
     ◇ element accessor_property no_op st c f (tok 'accessor' ▸ no_newline ▸ field c false false f)))
     ◇ element method_definition constructor_op false false f (plain_method named_constructor false true f)
     ◇ mk static_block (tok 'static' ▸ braces (many (sym ListItem (static_of f))))
--- a decorator (of the proposal)
+-- Decorator (of the proposal Decorators; no section of ECMA-262)
 rule_of Decorator f = mk decorator (tok At ▸ (sym DecoratorMember f ◇ mk call_expression (sym DecoratorMember f ▸ args f) ◇ paren_expression f))
--- its names
+-- DecoratorMemberExpression (of the proposal)
 rule_of DecoratorMember f = sym IdentifierReference f ◇ mk static_member_expression (sym DecoratorMember f ▸ tok Dot ▸ sym IdentifierName f) ◇ mk private_field_expression (sym DecoratorMember f ▸ tok Dot ▸ sym PrivateName f)
 -- ObjectLiteral (13.2.5)
 rule_of Object f = mk object_expression (braces (opt (commas true (sym Property f))))
