@@ -36,6 +36,8 @@ use Rattle.js_lex.specs.States.{State, goal_of}
 use Rattle.js_lex.proofs.Fronts.{not_all}
 use Rattle.js_lex.proofs.KindsOfLexemes.{hashbang_is}
 use Rattle.js_tree.specs.Nodes.{Node, empty_program}
+use Rattle.js_cursor.specs.Histories.{StandBefore}
+use Rattle.js_cursor.specs.Notes.{Notes, HasNone}
 use Rattle.js_cursor.specs.Parsers.{Parser}
 use Rattle.js_cursor.specs.Tokens.{IsToken, whole}
 use Rattle.js_cursor.specs.Places.{IsAt, IsFault, goal}
@@ -113,6 +115,9 @@ stopping_fault {source} {text} {s} t faults o = go (same_kind Undetermined t.kin
 
 -- ---- the parser
 
+none_before : {V : Type 0} {cs : List (ℕ × Option V)} {place : ℕ} → cs ≡ [] → StandBefore cs place
+none_before {V} {cs} {place} e = subst (λ (v : List (ℕ × Option V)). StandBefore v place) (sym e) (λ k h. absurd (false≢true h))
+
 record FirstToken (first l : State) (t : Token) (b : Bool) : Type 0 where
   text : l.text ≡ first.text
   read_for : l.goal ≡ first.goal
@@ -169,9 +174,9 @@ module _ {first l : State} {t : Token} {b : Bool} where
   first_token i n z (inr h) = next_first i n z h.0 h.1
 
 module _ {source : List ℕ} {read_as : SourceType} {asked : ParseOptions} {first l : State} {t : Token} {b : Bool} {ctx : Context} where
-  pub starts_at : {asks : Bool} {nodes : List Node} {visits : List Visit} {errors : List Diagnostic} → IsUtf8 source → first.text ≡ source → first.goal ≡ goal_of read_as → first.keeps_tokens ≡ asks → first.place ≡ 0 → IsEmpty first.kept → GivesFirst first l t → (IsTrue b ↔ (t.kind ≡ RAngle)) → nodes ≡ empty_program ∷ [] → visits ≡ [] → AtStart read_as asked ctx → errors ≡ []
-      → Starts source read_as asked asks (record { text = source; source_type = read_as; options = asked; lexer = l; token = t; cut = b; prev_token_end = 0; nodes = nodes; visits = visits; ctx = ctx; errors = errors; depth = 0 })
-  starts_at {asks} {nodes} {visits} {errors} u text as_goal keeps z n g i ns vs c es = record {
+  pub starts_at : {asks : Bool} {nodes : List Node} {visits : List Visit} {state : Notes} {errors : List Diagnostic} → IsUtf8 source → first.text ≡ source → first.goal ≡ goal_of read_as → first.keeps_tokens ≡ asks → first.place ≡ 0 → IsEmpty first.kept → GivesFirst first l t → (IsTrue b ↔ (t.kind ≡ RAngle)) → nodes ≡ empty_program ∷ [] → visits ≡ [] → HasNone state → AtStart read_as asked ctx → errors ≡ []
+      → Starts source read_as asked asks (record { text = source; source_type = read_as; options = asked; lexer = l; token = t; cut = b; prev_token_end = 0; nodes = nodes; visits = visits; state = state; ctx = ctx; errors = errors; depth = 0 })
+  starts_at {asks} {nodes} {visits} {state} {errors} u text as_goal keeps z n g i ns vs notes c es = record {
     text = refl;
     source_type = refl;
     options = refl;
@@ -185,6 +190,7 @@ module _ {source : List ℕ} {read_as : SourceType} {asked : ParseOptions} {firs
     prev_token_end = refl;
     nodes = ns;
     visits = vs;
+    state = notes;
     ctx = c;
     errors = es;
     depth = refl;
@@ -198,6 +204,7 @@ module _ {source : List ℕ} {read_as : SourceType} {asked : ParseOptions} {firs
       last = f.last;
       marked = All-same (Mark (goal_of read_as) source) errors [] es (All-nil (Mark (goal_of read_as) source));
       faulty = there (λ v w. All (IsFault v w) l.kept.errors) f.faulty;
+      noted = record { covers = none_before notes.covers; commas = none_before notes.commas };
     };
   }
     where

@@ -21,6 +21,7 @@ kept {p} {d} {ds} a m e = record {
     last = a.last;
     marked = All-same (Mark (goal p) p.text) ds (p.errors ++ d ∷ []) e (All-push (Mark (goal p) p.text) p.errors d a.marked m);
     faulty = a.faulty;
+    noted = a.noted;
   };
 }
 

@@ -1,5 +1,5 @@
 -- Later places: what was kept is still there, so that the parser may go back; and a bracket that was passed was opened.
-use Rattle.std.proofs.Common.{ℕ, ◌+◌, ◌≡◌, ◌≤◌, ◌<◌, ◌⊎◌, inl, inr, Bool, true, false, List, [], ◌∷◌, ◌++◌, length, take, refl, sym, ap, subst, arith, ◌∙◌, length-append, append_assoc, append-nil, cond, ◌&&◌}
+use Rattle.std.proofs.Common.{ℕ, ◌+◌, ◌≡◌, ◌≤◌, ◌<◌, ◌⊎◌, inl, inr, Bool, true, false, List, [], ◌∷◌, ◌++◌, length, take, refl, sym, ap, subst, arith, ◌∙◌, length-append, append_assoc, append-nil, cond, ◌&&◌, Option}
 use Rattle.std.specs.Prelude.{IsCharBoundary, IsTrue}
 use Rattle.std.proofs.Math.Seq.{take-append_seam}
 use Rattle.std.proofs.lemmas.Bool.{false≢true}
@@ -22,6 +22,7 @@ use Rattle.js_lex.specs.States.{goal_of}
 use Rattle.js_lex.specs.declared.output.LexerOutput.{LexerOutput}
 use Rattle.js_cursor.specs.declared.checkpoint.ParserCheckpoint.{ParserCheckpoint}
 use Rattle.js_cursor.specs.Checkpoints.{Remembers, MayGoBack, Follows}
+use Rattle.js_cursor.specs.Histories.{StandBefore}
 use Rattle.js_cursor.specs.Parsers.{Parser}
 use Rattle.js_cursor.specs.Tokens.{IsToken, whole, sign, nothing}
 use Rattle.js_cursor.specs.Places.{IsAt, goal}
@@ -35,6 +36,10 @@ follows_itself p = record {
   errors = sym (append-nil p.errors);
   later_visits = [];
   visits = sym (append-nil p.visits);
+  later_covers = [];
+  covers = sym (append-nil p.state.covers);
+  later_commas = [];
+  commas = sym (append-nil p.state.commas);
   later_faults = [];
   faults = sym (append-nil p.lexer.kept.errors);
   longer = record { comments = omega arith; irregular_whitespaces = omega arith; tokens = omega arith; errors = omega arith };
@@ -51,6 +56,10 @@ follows_on {p} {q} {r} f g = record {
   errors = then p.errors q.errors r.errors f.later_errors g.later_errors f.errors g.errors;
   later_visits = f.later_visits ++ g.later_visits;
   visits = then p.visits q.visits r.visits f.later_visits g.later_visits f.visits g.visits;
+  later_covers = f.later_covers ++ g.later_covers;
+  covers = then p.state.covers q.state.covers r.state.covers f.later_covers g.later_covers f.covers g.covers;
+  later_commas = f.later_commas ++ g.later_commas;
+  commas = then p.state.commas q.state.commas r.state.commas f.later_commas g.later_commas f.commas g.commas;
   later_faults = f.later_faults ++ g.later_faults;
   faults = then p.lexer.kept.errors q.lexer.kept.errors r.lexer.kept.errors f.later_faults g.later_faults f.faults g.faults;
   longer = record {
@@ -72,6 +81,10 @@ passed_follows {p} {q} h = record {
   errors = h.stays.errors ∙ sym (append-nil p.errors);
   later_visits = [];
   visits = h.stays.visits ∙ sym (append-nil p.visits);
+  later_covers = [];
+  covers = ap (λ n. n.covers) h.stays.state ∙ sym (append-nil p.state.covers);
+  later_commas = [];
+  commas = ap (λ n. n.commas) h.stays.state ∙ sym (append-nil p.state.commas);
   later_faults = _;
   faults = h.next.grows.faults_grow;
   longer = record {
@@ -102,6 +115,10 @@ read_again_follows {g} {p} {q} h = record {
   errors = h.stays.errors ∙ sym (append-nil p.errors);
   later_visits = [];
   visits = h.stays.visits ∙ sym (append-nil p.visits);
+  later_covers = [];
+  covers = ap (λ n. n.covers) h.stays.state ∙ sym (append-nil p.state.covers);
+  later_commas = [];
+  commas = ap (λ n. n.commas) h.stays.state ∙ sym (append-nil p.state.commas);
   later_faults = h.faults;
   faults = h.again.errors;
   longer = record {
@@ -132,6 +149,10 @@ keeps_follows {d} {p} {q} h = subst (Follows p) (sym h.is) (record {
   errors = refl;
   later_visits = [];
   visits = sym (append-nil p.visits);
+  later_covers = [];
+  covers = sym (append-nil p.state.covers);
+  later_commas = [];
+  commas = sym (append-nil p.state.commas);
   later_faults = [];
   faults = sym (append-nil p.lexer.kept.errors);
   longer = record { comments = omega arith; irregular_whitespaces = omega arith; tokens = omega arith; errors = omega arith };
@@ -139,6 +160,9 @@ keeps_follows {d} {p} {q} h = subst (Follows p) (sym h.is) (record {
 
 first_part : {X : Type 0} (a b x : List X) (n : ℕ) → b ≡ a ++ x → n ≡ length a → take n b ≡ a
 first_part a b x n e f = ap (λ v. take n v) e ∙ ap (λ (m : ℕ). take m (a ++ x)) f ∙ take-append_seam a x
+
+as_then : {V : Type 0} {cs ds : List (ℕ × Option V)} {i j : ℕ} → StandBefore cs i → ds ≡ cs → i ≡ j → StandBefore ds j
+as_then {V} {cs} {ds} {i} {j} h e s = subst (λ (n : ℕ). StandBefore ds n) s (subst (λ (v : List (ℕ × Option V)). StandBefore v i) (sym e) h)
 
 -- the parser may go back to a place that was remembered
 pub may_go_back : {p q : Parser} {c : ParserCheckpoint} → IsAt p → Remembers p c → Follows p q → MayGoBack c q
@@ -156,9 +180,15 @@ may_go_back {p} {q} {c} a r f = record {
   last = r.place ∙ a.last ∙ ap (λ (t : Token). t.span.end) (sym r.token);
   errors = let g = grown p.errors q.errors f.later_errors f.errors in let e = r.errors in omega arith;
   visits = let g = grown p.visits q.visits f.later_visits f.visits in let e = r.visits in omega arith;
+  covers = let g = grown p.state.covers q.state.covers f.later_covers f.covers in let e = r.covers in omega arith;
+  commas = let g = grown p.state.commas q.state.commas f.later_commas f.commas in let e = r.commas in omega arith;
+  noted = record { covers = as_then a.noted.covers (first_part p.state.covers q.state.covers f.later_covers c.covers f.covers r.covers) start; commas = as_then a.noted.commas (first_part p.state.commas q.state.commas f.later_commas c.commas f.commas r.commas) start };
   longer = subst (λ l. AreAtMost l (lengths_of q.lexer.kept)) (sym r.lengths) f.longer;
 }
   where
+    start : p.token.span.start ≡ c.token.span.start
+    start = ap (λ (t : Token). t.span.start) (sym r.token)
+
     faults : List Diagnostic
     faults = take c.lexer.lengths.errors q.lexer.kept.errors
 

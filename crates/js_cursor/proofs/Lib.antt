@@ -1,3 +1,4 @@
+mod Recording
 mod Moving
 mod Keeping
 mod KindTests

@@ -33,7 +33,8 @@ use Rattle.js_lex.specs.Reading.{cut, is_right_angle, Tells, LexemeBehind, Gives
 use Rattle.js_lex.specs.States.{State, SameText}
 use Rattle.js_cursor.specs.Parsers.{Parser}
 use Rattle.js_cursor.specs.Tokens.{IsToken, whole, sign, nothing}
-use Rattle.js_cursor.specs.Places.{IsAt, IsFault, goal}
+use Rattle.js_cursor.specs.Notes.{Notes}
+use Rattle.js_cursor.specs.Places.{IsAt, IsFault, KeptBefore, goal}
 use Rattle.js_cursor.specs.Moves.{Stays, Passed, IsWhole, ReadAgain, Completed, Told, is_last}
 
 end_of-join : (ls : Lexemes) (x : Lexeme) → end_of (join ls (last x)) ≡ x.to
@@ -109,9 +110,13 @@ next_faults {source} {text} {s} t faults r p o = go (same_kind Undetermined t.ki
     go true x = All-same (IsFault source text) faults (x.0 ∷ []) x.1 (All-cons (IsFault source text) x.0 [] (is_fault x.0 r p x.2.faulty) (All-nil (IsFault source text)))
     go false x = All-same (IsFault source text) faults [] x.0 (All-nil (IsFault source text))
 
+-- what is noted starts before each later place
+pub still_before : {n : Notes} {i j : ℕ} → KeptBefore n i → i ≤ j → KeptBefore n j
+still_before h l = record { covers = λ k s. let z = h.covers k s in omega arith; commas = λ k s. let z = h.commas k s in omega arith }
+
 -- all but the place, the token and the lexer stays
 pub stays : {p : Parser} {l : State} {t : Token} {b : Bool} {e : ℕ} → SameText p.lexer l → Stays p (record p { lexer = l; token = t; cut = b; prev_token_end = e })
-stays h = record { text = refl; source_type = refl; options = refl; same = h; nodes = refl; visits = refl; ctx = refl; errors = refl; depth = refl }
+stays h = record { text = refl; source_type = refl; options = refl; same = h; nodes = refl; visits = refl; state = refl; ctx = refl; errors = refl; depth = refl }
 
 module _ {p : Parser} {l : State} {t : Token} {b : Bool} {e : ℕ} where
   -- The lexer gave the next token behind a lexeme that the current one told whole.
@@ -132,6 +137,7 @@ module _ {p : Parser} {l : State} {t : Token} {b : Bool} {e : ℕ} where
       lies = subst (λ v. LiesIn t.span v) a.reads g.lies;
       last = g.place;
       marked = a.marked;
+      noted = still_before a.noted (let s = g.start in let o = a.lies.ordered in let h = a.last in omega arith);
       faulty = All-same (IsFault (goal p) p.text) l.kept.errors _ g.grows.faults_grow (All-append (IsFault (goal p) p.text) p.lexer.kept.errors _ a.faulty (All-append (IsFault (goal p) p.text) _ g.faults passing stopping));
     };
   }
@@ -218,6 +224,7 @@ completed {p} {l} {t} a e g = record { completed = inr (e, record { going_on = [
       lies = subst (λ v. LiesIn t.span v) a.reads g.lies;
       last = g.place;
       marked = a.marked;
+      noted = still_before a.noted (let s = g.start in omega arith);
       faulty = All-same (IsFault (goal p) p.text) l.kept.errors _ g.errors (All-append (IsFault (goal p) p.text) p.lexer.kept.errors [] a.faulty (All-nil (IsFault (goal p) p.text)));
     }
 

@@ -31,7 +31,7 @@ use Rattle.js_cursor.specs.Parsers.{Parser}
 use Rattle.js_cursor.specs.Tokens.{IsToken, whole, sign, nothing}
 use Rattle.js_cursor.specs.Places.{IsAt, IsFault, goal}
 use Rattle.js_cursor.specs.Moves.{ReadAgain, IsRegularExpression, Peeks}
-use Rattle.js_cursor.proofs.Moving.{stays}
+use Rattle.js_cursor.proofs.Moving.{stays, still_before}
 
 -- the signs in whose place a regular expression or a template part may be read
 abbrev pub may_be_more : Kind → Bool
@@ -164,6 +164,7 @@ module _ {p : Parser} {g : LexicalGoal} {l : State} {t : Token} {going_on faults
       lies = subst (λ (v : List ℕ). LiesIn t.span v) a.reads x.lies;
       last = x.place;
       marked = a.marked;
+      noted = still_before a.noted (let s = x.start in omega arith);
       faulty = All-same (IsFault (goal p) p.text) l.kept.errors (p.lexer.kept.errors ++ faults) x.errors (All-append (IsFault (goal p) p.text) p.lexer.kept.errors faults a.faulty (faults_again a sg faults (found_again g t going_on faults (goal p) p.text p.prev_token_end outcome marked)));
     };
   }

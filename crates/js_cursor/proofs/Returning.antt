@@ -16,14 +16,14 @@ use Rattle.js_lex.specs.declared.checkpoint.Lengths.{Lengths}
 use Rattle.js_lex.specs.Kept.{lengths_of, first_kept, AreAtMost}
 use Rattle.js_lex.specs.States.{State, SameText, goal_of}
 use Rattle.js_cursor.specs.declared.checkpoint.ParserCheckpoint.{ParserCheckpoint}
-use Rattle.js_cursor.specs.Checkpoints.{Remembers, MayGoBack, GoesBack, Follows}
+use Rattle.js_cursor.specs.Checkpoints.{Remembers, MayGoBack, GoesBack, Follows, notes_at}
 use Rattle.js_cursor.specs.Parsers.{Parser}
 use Rattle.js_cursor.specs.Tokens.{IsToken}
 use Rattle.js_cursor.specs.Places.{IsAt, IsFault, goal}
 use Rattle.js_cursor.specs.Moves.{Enters, Leaves}
 
 at_depth : {p : Parser} (n : ℕ) → IsAt p → IsAt (record p { depth = n })
-at_depth {p} n a = record { reads = a.reads; reads_for = a.reads_for; reached = a.reached; between = a.between; token = a.token; lies = a.lies; last = a.last; marked = a.marked; faulty = a.faulty }
+at_depth {p} n a = record { reads = a.reads; reads_for = a.reads_for; reached = a.reached; between = a.between; token = a.token; lies = a.lies; last = a.last; marked = a.marked; faulty = a.faulty; noted = a.noted }
 
 pub entered_seen : {p q : Parser} → p ≡ q → IsAt q → (n : ℕ) → p.depth < n → (q.depth < n) × Enters q (record p { depth = p.depth + 1 })
 entered_seen {p} {q} v a n l = subst (λ (r : Parser). (r.depth < n) × Enters r (record p { depth = p.depth + 1 })) v (l, record { is = refl; at = at_depth (p.depth + 1) (subst IsAt (sym v) a) })
@@ -36,7 +36,7 @@ left_seen {p} {q} v a l =
 -- ---- back
 
 went_back : {p : Parser} {c : ParserCheckpoint} {l : State} {ds : List Diagnostic} {vs : List Visit} → IsAt p → MayGoBack c p → SameText p.lexer l → l.place ≡ c.lexer.place → l.kept ≡ first_kept c.lexer.lengths p.lexer.kept → ds ≡ take c.errors p.errors → vs ≡ take c.visits p.visits
-    → GoesBack c p (record p { lexer = l; token = c.token; cut = c.cut; prev_token_end = c.prev_token_end; ctx = c.ctx; depth = c.depth; errors = ds; visits = vs })
+    → GoesBack c p (record p { lexer = l; token = c.token; cut = c.cut; prev_token_end = c.prev_token_end; ctx = c.ctx; depth = c.depth; errors = ds; visits = vs; state = notes_at c p })
 went_back {p} {c} {l} {ds} {vs} a m s place kept e v = record {
   token = refl;
   cut = refl;
@@ -48,6 +48,7 @@ went_back {p} {c} {l} {ds} {vs} a m s place kept e v = record {
   kept = kept;
   errors = e;
   visits = v;
+  state = refl;
   text = refl;
   source_type = refl;
   options = refl;
@@ -61,6 +62,7 @@ went_back {p} {c} {l} {ds} {vs} a m s place kept e v = record {
     lies = m.lies;
     last = place ∙ m.last;
     marked = All-same (Mark (goal p) p.text) ds (take c.errors p.errors) e (All-take (Mark (goal p) p.text) c.errors p.errors a.marked);
+    noted = m.noted;
     faulty = All-same (IsFault (goal p) p.text) l.kept.errors (take c.lexer.lengths.errors p.lexer.kept.errors) faults (All-take (IsFault (goal p) p.text) c.lexer.lengths.errors p.lexer.kept.errors a.faulty);
   };
 }
@@ -69,8 +71,8 @@ went_back {p} {c} {l} {ds} {vs} a m s place kept e v = record {
     faults = ap (λ x. x.errors) kept
 
 pub went_back_seen : {p q : Parser} → p ≡ q → {c : ParserCheckpoint} {l : State} {ds : List Diagnostic} {vs : List Visit} → IsAt q → MayGoBack c q → SameText p.lexer l → l.place ≡ c.lexer.place → l.kept ≡ first_kept c.lexer.lengths p.lexer.kept → ds ≡ take c.errors p.errors → vs ≡ take c.visits p.visits
-    → GoesBack c q (record p { lexer = l; token = c.token; cut = c.cut; prev_token_end = c.prev_token_end; ctx = c.ctx; depth = c.depth; errors = ds; visits = vs })
-went_back_seen {p} {q} v {c} {l} {ds} {vs} a m s place kept e w = subst (λ (r : Parser). GoesBack c r (record p { lexer = l; token = c.token; cut = c.cut; prev_token_end = c.prev_token_end; ctx = c.ctx; depth = c.depth; errors = ds; visits = vs })) v (went_back (subst IsAt (sym v) a) (subst (MayGoBack c) (sym v) m) s place kept e w)
+    → GoesBack c q (record p { lexer = l; token = c.token; cut = c.cut; prev_token_end = c.prev_token_end; ctx = c.ctx; depth = c.depth; errors = ds; visits = vs; state = notes_at c p })
+went_back_seen {p} {q} v {c} {l} {ds} {vs} a m s place kept e w = subst (λ (r : Parser). GoesBack c r (record p { lexer = l; token = c.token; cut = c.cut; prev_token_end = c.prev_token_end; ctx = c.ctx; depth = c.depth; errors = ds; visits = vs; state = notes_at c p })) v (went_back (subst IsAt (sym v) a) (subst (MayGoBack c) (sym v) m) s place kept e w)
 
 -- the lexer's two conditions
 pub lexer_between : {p q : Parser} {c : ParserCheckpoint} → p ≡ q → IsAt q → MayGoBack c q → IsCharBoundary p.lexer.text c.lexer.place

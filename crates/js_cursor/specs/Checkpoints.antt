@@ -1,15 +1,18 @@
 -- To go back to a place that was read before.
-use Rattle.std.specs.Prelude.{ℕ, ◌≡◌, ◌≤◌, List, ◌++◌, length, take, IsCharBoundary}
+use Rattle.std.specs.Prelude.{ℕ, ◌≡◌, ◌≤◌, List, ◌++◌, length, take, Option, IsCharBoundary}
 use Rattle.js_base.specs.Spans.{LiesIn}
 use Rattle.js_base.specs.declared.diagnostic.Diagnostic.{Diagnostic}
+use Rattle.js_base.specs.declared.span.Span.{Span}
 use Rattle.js_grammar.specs.LexicalFaults.{Reached}
 use Rattle.js_grammar.specs.ModuleRecords.{Part as Visit}
 use Rattle.js_lex.specs.Kept.{lengths_of, first_kept, AreAtMost}
 use Rattle.js_lex.specs.States.{SameText}
 use Rattle.js_cursor.specs.declared.checkpoint.ParserCheckpoint.{ParserCheckpoint}
+use Rattle.js_cursor.specs.declared.state.CoverInitializer.{CoverInitializer}
+use Rattle.js_cursor.specs.Notes.{Notes}
 use Rattle.js_cursor.specs.Parsers.{Parser}
 use Rattle.js_cursor.specs.Tokens.{IsToken}
-use Rattle.js_cursor.specs.Places.{IsAt, goal}
+use Rattle.js_cursor.specs.Places.{IsAt, KeptBefore, goal}
 
 -- The checkpoint tells where the parser is, its parameters and how deep it is, and how much it and its lexer have kept.
 pub record Remembers (p : Parser) (c : ParserCheckpoint) : Type 0 where
@@ -22,8 +25,14 @@ pub record Remembers (p : Parser) (c : ParserCheckpoint) : Type 0 where
   pub lengths : c.lexer.lengths ≡ lengths_of p.lexer.kept
   pub errors : c.errors ≡ length p.errors
   pub visits : c.visits ≡ length p.visits
+  pub covers : c.covers ≡ length p.state.covers
+  pub commas : c.commas ≡ length p.state.commas
 
--- The parser may go back to the checkpoint: its token stands in this text where it says, which lexemes lead to, a lexer at its place gave it last, and no list is shorter than it says.
+-- What was noted at the checkpoint: later shorthands and commas are gone, and those that were taken out since are back. Where no head was found stays.
+abbrev pub notes_at : ParserCheckpoint → Parser → Notes
+notes_at c p = record p.state { covers = take c.covers p.state.covers; commas = take c.commas p.state.commas }
+
+-- The parser may go back to the checkpoint: its token stands in this text where it says, which lexemes lead to, a lexer at its place gave it last, what was noted there starts before it, and no list is shorter than it says.
 pub record MayGoBack (c : ParserCheckpoint) (p : Parser) : Type 0 where
   pub reached : Reached p.text c.prev_token_end
   pub between : IsCharBoundary p.text c.prev_token_end
@@ -32,9 +41,12 @@ pub record MayGoBack (c : ParserCheckpoint) (p : Parser) : Type 0 where
   pub last : c.lexer.place ≡ c.token.span.end
   pub errors : c.errors ≤ length p.errors
   pub visits : c.visits ≤ length p.visits
+  pub covers : c.covers ≤ length p.state.covers
+  pub commas : c.commas ≤ length p.state.commas
+  pub noted : KeptBefore (notes_at c p) c.token.span.start
   pub longer : AreAtMost c.lexer.lengths (lengths_of p.lexer.kept)
 
--- The parser went back: what the checkpoint tells holds again, diagnostics, visits and what the lexer has kept are cut, and all else, the nodes among it, stays.
+-- The parser went back: what the checkpoint tells holds again, with the shorthands and commas that were kept there; diagnostics, visits and what the lexer has kept are cut; and all else, the nodes and the heads that failed among it, stays.
 pub record GoesBack (c : ParserCheckpoint) (old new : Parser) : Type 0 where
   pub token : new.token ≡ c.token
   pub cut : new.cut ≡ c.cut
@@ -46,6 +58,7 @@ pub record GoesBack (c : ParserCheckpoint) (old new : Parser) : Type 0 where
   pub kept : new.lexer.kept ≡ first_kept c.lexer.lengths old.lexer.kept
   pub errors : new.errors ≡ take c.errors old.errors
   pub visits : new.visits ≡ take c.visits old.visits
+  pub state : new.state ≡ notes_at c old
   pub text : new.text ≡ old.text
   pub source_type : new.source_type ≡ old.source_type
   pub options : new.options ≡ old.options
@@ -60,6 +73,10 @@ pub record Follows (old new : Parser) : Type 0 where
   pub errors : new.errors ≡ old.errors ++ later_errors
   pub later_visits : List Visit
   pub visits : new.visits ≡ old.visits ++ later_visits
+  pub later_covers : List (ℕ × Option CoverInitializer)
+  pub covers : new.state.covers ≡ old.state.covers ++ later_covers
+  pub later_commas : List (ℕ × Option Span)
+  pub commas : new.state.commas ≡ old.state.commas ++ later_commas
   pub later_faults : List Diagnostic
   pub faults : new.lexer.kept.errors ≡ old.lexer.kept.errors ++ later_faults
   pub longer : AreAtMost (lengths_of old.lexer.kept) (lengths_of new.lexer.kept)

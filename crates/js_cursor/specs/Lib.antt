@@ -1,3 +1,6 @@
+pub mod Histories
+pub mod Recorded
+pub mod Notes
 pub mod Parsers
 pub mod Tokens
 pub mod Places

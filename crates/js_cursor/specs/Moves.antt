@@ -17,6 +17,8 @@ use Rattle.js_cursor.specs.declared.stop.Stop.TheVariants.{Fatal, NoMemory}
 use Rattle.js_cursor.specs.declared.stop.ListStep.{ListStep}
 use Rattle.js_cursor.specs.declared.stop.ListStep.TheVariants.{Element, End, EndAfterComma}
 use Rattle.js_base.specs.declared.diagnostic.DiagnosticKind.TheVariants.{UnexpectedToken, ExpectToken, ExpectClosingOrSeparator}
+use Rattle.js_base.specs.Contexts.{has_flag, await_flag, yield_flag}
+use Rattle.js_cursor.specs.Notes.{NotesFailed}
 use Rattle.js_cursor.specs.Parsers.{Parser}
 use Rattle.js_grammar.specs.Marks.{LexemeAt, any_lexeme, opens, StandsAt}
 use Rattle.js_cursor.specs.Places.{IsAt, goal}
@@ -29,6 +31,7 @@ pub record Stays (old new : Parser) : Type 0 where
   pub same : SameText old.lexer new.lexer
   pub nodes : new.nodes ≡ old.nodes
   pub visits : new.visits ≡ old.visits
+  pub state : new.state ≡ old.state
   pub ctx : new.ctx ≡ old.ctx
   pub errors : new.errors ≡ old.errors
   pub depth : new.depth ≡ old.depth
@@ -136,6 +139,12 @@ pub record Enters (old new : Parser) : Type 0 where
 pub record Leaves (old new : Parser) : Type 0 where
   pub depth : new.depth + 1 ≡ old.depth
   pub is : new ≡ record old { depth = new.depth }
+  pub at : IsAt new
+
+-- It was noted that no head of an arrow function stands at a place, under the parameters that are in force; nothing else changes.
+pub record NotesArrow (place : ℕ) (old new : Parser) : Type 0 where
+  pub is : new ≡ record old { state = new.state }
+  pub noted : NotesFailed (has_flag await_flag old.ctx) (has_flag yield_flag old.ctx) place old.state new.state
   pub at : IsAt new
 
 -- This kind of diagnostic, with this related place, may be told of whatever lexeme stands behind the place of p.

@@ -7,6 +7,7 @@ use Rattle.js_base.specs.declared.source_type.SourceType.{SourceType}
 use Rattle.js_base.specs.declared.token.Token.{Token}
 use Rattle.js_grammar.specs.ModuleRecords.{Part as Visit}
 use Rattle.js_lex.specs.States.{State}
+use Rattle.js_cursor.specs.Notes.{Notes}
 use Rattle.js_tree.specs.Nodes.{Node}
 
 pub record Parser : Type 0 where
@@ -22,6 +23,7 @@ pub record Parser : Type 0 where
   -- the nodes by number, and what the declarations of a module add to its record
   pub nodes : List Node
   pub visits : List Visit
+  pub state : Notes
   -- the parameters that are in force
   pub ctx : Context
   pub errors : List Diagnostic

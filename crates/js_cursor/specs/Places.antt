@@ -8,6 +8,8 @@ use Rattle.js_grammar.specs.LexicalFaults.{Reached, FaultyBehind, is_invalid_cha
 use Rattle.js_grammar.specs.Marks.{Mark}
 use Rattle.js_grammar.specs.Settings.{Goal}
 use Rattle.js_lex.specs.States.{goal_of}
+use Rattle.js_cursor.specs.Histories.{StandBefore}
+use Rattle.js_cursor.specs.Notes.{Notes}
 use Rattle.js_cursor.specs.Parsers.{Parser}
 use Rattle.js_cursor.specs.Tokens.{IsToken}
 
@@ -21,7 +23,12 @@ pub record IsFault (source : Goal) (text : List ℕ) (d : Diagnostic) : Type 0 w
   pub faulty : FaultyBehind d.kind source text place d.span.start d.span.end
   pub no_hashbang : is_invalid_character d.kind ≡ true → d.span.start ≡ 0 → starts (codes "#!") text ≡ true → ⊥
 
--- The lexer reads the text, and gave the current lexeme last, which stands behind the end of the one before; lexemes lead there from the text's start. Each diagnostic has its mark.
+-- every shorthand with `=` and every comma that is kept starts before this place
+pub record KeptBefore (n : Notes) (place : ℕ) : Type 0 where
+  pub covers : StandBefore n.covers place
+  pub commas : StandBefore n.commas place
+
+-- The lexer reads the text, and gave the current lexeme last, which stands behind the end of the one before; lexemes lead there from the text's start. Each diagnostic has its mark, and what is noted to be judged later starts before the token.
 pub record IsAt (p : Parser) : Type 0 where
   pub reads : p.lexer.text ≡ p.text
   pub reads_for : p.lexer.goal ≡ goal p
@@ -32,3 +39,4 @@ pub record IsAt (p : Parser) : Type 0 where
   pub last : p.lexer.place ≡ p.token.span.end
   pub marked : All (Mark (goal p) p.text) p.errors
   pub faulty : All (IsFault (goal p) p.text) p.lexer.kept.errors
+  pub noted : KeptBefore p.state p.token.span.start

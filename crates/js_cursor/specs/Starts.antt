@@ -9,6 +9,7 @@ use Rattle.js_tree.specs.Nodes.{empty_program}
 use Rattle.js_lex.specs.Kept.{IsEmpty}
 use Rattle.js_lex.specs.Reading.{GivesFirst}
 use Rattle.js_lex.specs.States.{State, goal_of}
+use Rattle.js_cursor.specs.Notes.{HasNone}
 use Rattle.js_cursor.specs.Parsers.{Parser}
 use Rattle.js_cursor.specs.Places.{IsAt}
 
@@ -45,6 +46,7 @@ pub record Starts (source : List ℕ) (read_as : SourceType) (asked : ParseOptio
   pub prev_token_end : p.prev_token_end ≡ 0
   pub nodes : p.nodes ≡ empty_program ∷ []
   pub visits : p.visits ≡ []
+  pub state : HasNone p.state
   pub ctx : AtStart read_as asked p.ctx
   pub errors : p.errors ≡ []
   pub depth : p.depth ≡ 0

@@ -8,7 +8,8 @@ use crate::parser::ParserImpl;
 use js_base::{Context, NoMemory, Token};
 use js_lex::{LexerCheckpoint, ParserConfig};
 
-/// A place of a parser, with the parameters in force there, how deep it was, and how much it and its lexer had kept.
+/// A place of a parser, with the parameters in force there, how deep it was, and how much it and its lexer had kept and
+/// noted.
 #[derive(Debug, Drop)]
 pub struct ParserCheckpoint {
     pub(crate) token: Token,
@@ -19,6 +20,8 @@ pub struct ParserCheckpoint {
     pub(crate) lexer: LexerCheckpoint,
     pub(crate) errors: usize,
     pub(crate) visits: usize,
+    pub(crate) covers: usize,
+    pub(crate) commas: usize,
 }
 
 impl<'a, C: ParserConfig> ParserImpl<'a, C> {
@@ -37,11 +40,14 @@ impl<'a, C: ParserConfig> ParserImpl<'a, C> {
             lexer: self.lexer.checkpoint(),
             errors: self.errors.len(),
             visits: self.module_record_builder.mark(),
+            covers: self.state.covers_len(),
+            commas: self.state.commas_len(),
         })
     }
 
     /// Goes back to a checkpoint of this text: puts back the current lexeme, the place, the parameters and the depth, and
-    /// cuts diagnostics, visits and the lexer's lists to the lengths that they had there. The nodes stay.
+    /// cuts diagnostics, visits and the lexer's lists to the lengths that they had there. The shorthands and commas that
+    /// were kept there are kept again, and no others. The nodes stay, and what is known of heads of arrow functions.
     pub fn rewind(&mut self, c: ParserCheckpoint)
         requires at { IsAt self.old }
         requires may { MayGoBack c self.old }
@@ -50,6 +56,7 @@ impl<'a, C: ParserConfig> ParserImpl<'a, C> {
         self.lexer.rewind(c.lexer);
         self.errors.truncate(c.errors);
         self.module_record_builder.cut(c.visits);
+        self.state.truncate(c.covers, c.commas);
         self.ctx = c.ctx;
         self.token = c.token;
         self.cut = c.cut;

@@ -2,13 +2,16 @@
 #![tactic(auto)]
 
 mod checkpoint;
+mod history;
 mod kinds;
 mod moves;
 mod parser;
+mod state;
 mod stop;
 
 pub use checkpoint::ParserCheckpoint;
 pub use parser::{MAX_DEPTH, ParserImpl, ParserParts};
+pub use state::{CoverInitializer, ParserState};
 pub use stop::{ListStep, Stop};
 
 #[cfg(test)]

@@ -5,11 +5,14 @@ ghost use Rattle.js_base.specs.declared.kind.Kind.TheVariants.{RAngle, RCurly, S
 ghost use Rattle.js_grammar.specs.Lexemes.{template_tail};
 ghost use Rattle.js_base.specs.Sources.{is_goal};
 ghost use Rattle.js_base.specs.declared.source_type.Goal.TheVariants.{Unambiguous};
+ghost use Rattle.js_base.specs.Contexts.{has_flag, await_flag, yield_flag};
+ghost use Rattle.js_cursor.specs.Notes.{is_failed};
 ghost use Rattle.js_cursor.specs.Starts.{AtStart, Starts};
 ghost use Rattle.js_cursor.specs.Places.{IsAt};
-ghost use Rattle.js_cursor.specs.Moves.{IsWhole, Passed, Completed, ReadAgain, IsRegularExpression, Peeks, Told, MovesOn, OnlyMemory, Enters, Leaves};
+ghost use Rattle.js_cursor.specs.Moves.{IsWhole, Passed, Completed, ReadAgain, IsRegularExpression, Peeks, Told, MovesOn, OnlyMemory, Enters, Leaves, NotesArrow};
 
 use crate::kinds::{is_kind, is_last};
+use crate::state::ParserState;
 use crate::stop::Stop;
 use js_base::{
     Context, Diagnostics, Kind, MAX_LEN, NoMemory, ParseOptions, SourceType, Span, Token,
@@ -37,6 +40,8 @@ pub struct ParserImpl<'a, C: ParserConfig> {
     pub ast: ParserAstBuilder,
     /// What the declarations of a module add to its record.
     pub module_record_builder: ModuleRecordBuilder,
+    /// What is noted on the way, to be judged later or not to be tried again.
+    pub state: ParserState,
     /// The grammar parameters in force.
     pub ctx: Context,
     /// What was found wrong.
@@ -56,6 +61,8 @@ pub struct ParserParts<'a, C: ParserConfig> {
     pub ast: ParserAstBuilder,
     /// What the declarations of a module add to its record.
     pub module_record_builder: ModuleRecordBuilder,
+    /// What is noted still.
+    pub state: ParserState,
     /// What was found wrong.
     pub errors: Diagnostics,
 }
@@ -65,7 +72,7 @@ impl<'a, C: ParserConfig> Model for ParserImpl<'a, C> {
 
     ghost Value = { Parser };
 
-    ghost view = { λ p. record { text = p.source_text.now; source_type = p.source_type; options = p.options; lexer = p.lexer; token = p.token; cut = p.cut; prev_token_end = p.prev_token_end; nodes = p.ast; visits = p.module_record_builder; ctx = p.ctx; errors = p.errors; depth = p.depth } };
+    ghost view = { λ p. record { text = p.source_text.now; source_type = p.source_type; options = p.options; lexer = p.lexer; token = p.token; cut = p.cut; prev_token_end = p.prev_token_end; nodes = p.ast; visits = p.module_record_builder; state = p.state; ctx = p.ctx; errors = p.errors; depth = p.depth } };
 }
 
 /// How deep productions may be nested: at this depth `enter` answers `NoMemory`, so that no text overflows the stack.
@@ -107,6 +114,7 @@ impl<'a, C: ParserConfig> ParserImpl<'a, C> {
             lexer,
             ast,
             module_record_builder: ModuleRecordBuilder::new(alloc, source_type),
+            state: ParserState::new(alloc),
             ctx: context_at_start(source_type, options),
             errors: Diagnostics::new(alloc),
             token,
@@ -244,6 +252,26 @@ impl<'a, C: ParserConfig> ParserImpl<'a, C> {
         Ok(())
     }
 
+    /// Whether it is known that no head of an arrow function stands at a place, under the parameters Await and Yield that
+    /// are in force.
+    pub fn arrow_failed(&self, place: u32) -> bool
+        ensures { result ≡ is_failed self.now.state.failed (has_flag await_flag self.now.ctx) (has_flag yield_flag self.now.ctx) place }
+    {
+        self.state
+            .arrow_failed(self.ctx.has_await(), self.ctx.has_yield(), place)
+    }
+
+    /// Notes that none stands there, under the parameters that are in force. It stays noted when the parser goes back. The
+    /// only error is want of memory, and then all stays.
+    pub fn note_arrow_failed(&mut self, place: u32) -> Result<(), NoMemory>
+        requires { IsAt self.old }
+        ensures ok { OnOk result (NotesArrow place self.old self.new) }
+        ensures err { OnErr result (self.new ≡ self.old) }
+    {
+        self.state
+            .note_arrow_failed(self.ctx.has_await(), self.ctx.has_yield(), place)
+    }
+
     /// Goes one production deeper. `NoMemory` exactly at the depth `MAX_DEPTH`, and all then stays.
     pub fn enter(&mut self) -> Result<(), NoMemory>
         requires { IsAt self.old }
@@ -271,12 +299,14 @@ impl<'a, C: ParserConfig> ParserImpl<'a, C> {
         ensures lexer { result.lexer ≡ self.entry.lexer }
         ensures ast { result.ast ≡ self.entry.nodes }
         ensures visits { result.module_record_builder ≡ self.entry.visits }
+        ensures state { result.state ≡ self.entry.state }
         ensures errors { result.errors ≡ self.entry.errors }
     {
         ParserParts {
             lexer: self.lexer,
             ast: self.ast,
             module_record_builder: self.module_record_builder,
+            state: self.state,
             errors: self.errors,
         }
     }

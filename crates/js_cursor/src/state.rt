@@ -1,0 +1,194 @@
+//! What a parser notes on its way.
+
+ghost use Rattle.std.specs.Prelude.{◌≡◌, ℕ, Bool, false, [], ◌∷◌, ◌++◌, length, take, Some, OnOk, OnErr};
+ghost use Rattle.js_cursor.specs.Histories.{standing, without, Pops};
+ghost use Rattle.js_cursor.specs.Notes.{HasNone, NotesFailed, NotesHead, is_failed};
+
+use crate::history::History;
+use js_base::{NoMemory, Span};
+use js_tree::NodeId;
+use std::alloc::Global;
+use std::collections::BTreeSet;
+use std::marker::Model;
+
+/// A shorthand property with `=`, which is right in a target alone.
+#[derive(Debug, Clone, Copy, PartialEq, Eq)]
+pub struct CoverInitializer {
+    /// Where it stands.
+    pub span: Span,
+    /// The node of its initialiser.
+    pub init: NodeId,
+}
+
+/// The places at which no head of an arrow function was found, by the parameters Await and Yield.
+#[derive(Drop)]
+pub(crate) struct FailedHeads {
+    neither: BTreeSet<u32>,
+    awaits: BTreeSet<u32>,
+    yields: BTreeSet<u32>,
+    both: BTreeSet<u32>,
+}
+
+impl Model for FailedHeads {
+    ghost use Rattle.js_cursor.specs.Notes.{Heads};
+
+    ghost Value = { Heads };
+
+    ghost view = { λ f. record { neither = f.neither.keys; awaits = f.awaits.keys; yields = f.yields.keys; both = f.both.keys } };
+}
+
+impl FailedHeads {
+    fn new(alloc: Global) -> Self
+        ensures { (awaits : Bool) (yields : Bool) (place : ℕ) → is_failed result awaits yields place ≡ false }
+    {
+        FailedHeads {
+            neither: BTreeSet::new(alloc),
+            awaits: BTreeSet::new(alloc),
+            yields: BTreeSet::new(alloc),
+            both: BTreeSet::new(alloc),
+        }
+    }
+
+    fn contains(&self, awaits: bool, yields: bool, place: u32) -> bool
+        ensures { result ≡ is_failed self.now awaits yields place }
+    {
+        match (awaits, yields) {
+            (true, true) => self.both.contains(&place),
+            (true, false) => self.awaits.contains(&place),
+            (false, true) => self.yields.contains(&place),
+            (false, false) => self.neither.contains(&place),
+        }
+    }
+
+    fn insert(&mut self, awaits: bool, yields: bool, place: u32) -> Result<(), NoMemory>
+        ensures ok { OnOk result (NotesHead awaits yields place self.old self.new) }
+        ensures err { OnErr result (self.new ≡ self.old) }
+    {
+        match (awaits, yields) {
+            (true, true) => self.both.insert(place)?,
+            (true, false) => self.awaits.insert(place)?,
+            (false, true) => self.yields.insert(place)?,
+            (false, false) => self.neither.insert(place)?,
+        };
+        Ok(())
+    }
+}
+
+/// What a parser notes on its way: where no head of an arrow function was found, and the shorthands with `=` and the
+/// commas at the end of a list that are judged once it is known whether a target stands there. Contracts see it as
+/// `Notes`.
+#[derive(Drop)]
+pub struct ParserState {
+    failed: FailedHeads,
+    covers: History<CoverInitializer>,
+    commas: History<Span>,
+}
+
+impl Model for ParserState {
+    ghost use Rattle.js_cursor.specs.Notes.{Notes};
+
+    ghost Value = { Notes };
+
+    ghost view = { λ s. record { failed = s.failed; covers = s.covers; commas = s.commas } };
+}
+
+impl ParserState {
+    /// Nothing is noted. It takes no memory.
+    pub fn new(alloc: Global) -> Self
+        ensures { HasNone result }
+    {
+        ParserState {
+            failed: FailedHeads::new(alloc),
+            covers: History::new(alloc),
+            commas: History::new(alloc),
+        }
+    }
+
+    /// Keeps a shorthand with `=`, by the place at which it is looked for: its span and the node of its initialiser. One
+    /// that stands at this place is replaced. The only error is want of memory, and then all stays.
+    pub fn add_cover_initializer(
+        &mut self,
+        start: u32,
+        span: Span,
+        init: NodeId,
+    ) -> Result<(), NoMemory>
+        ensures ok { OnOk result (self.new ≡ record self.old { covers = self.old.covers ++ (start, Some (record { span = span; init = init })) ∷ [] }) }
+        ensures err { OnErr result (self.new ≡ self.old) }
+    {
+        self.covers.set(start, CoverInitializer { span, init })
+    }
+
+    /// Takes out the shorthand that is kept for a place; `None` exactly where none is.
+    pub fn take_cover_initializer(&mut self, start: u32) -> Option<CoverInitializer>
+        ensures value { result ≡ standing self.old.covers start }
+        ensures taken { self.new ≡ record self.old { covers = without self.old.covers start } }
+    {
+        self.covers.take(start)
+    }
+
+    /// Takes out the shorthand with the least place; `None` exactly where there is none.
+    pub fn pop_cover_initializer(&mut self) -> Option<CoverInitializer>
+        ensures popped { Pops self.old.covers self.new.covers result }
+        ensures others { self.new ≡ record self.old { covers = self.new.covers } }
+    {
+        self.covers.pop()
+    }
+
+    /// Keeps the comma that ends the list which begins at a place. One that stands there is replaced. The only error is
+    /// want of memory, and then all stays.
+    pub fn add_trailing_comma(&mut self, start: u32, comma: Span) -> Result<(), NoMemory>
+        ensures ok { OnOk result (self.new ≡ record self.old { commas = self.old.commas ++ (start, Some comma) ∷ [] }) }
+        ensures err { OnErr result (self.new ≡ self.old) }
+    {
+        self.commas.set(start, comma)
+    }
+
+    /// The comma that ends the list which begins at a place; `None` exactly where none is kept.
+    pub fn trailing_comma(&self, start: u32) -> Option<Span>
+        ensures { result ≡ standing self.now.commas start }
+    {
+        self.commas.get(start)
+    }
+
+    /// Whether no head of an arrow function was found at a place, under these parameters.
+    pub(crate) fn arrow_failed(&self, awaits: bool, yields: bool, place: u32) -> bool
+        ensures { result ≡ is_failed self.now.failed awaits yields place }
+    {
+        self.failed.contains(awaits, yields, place)
+    }
+
+    /// Notes that none was. The only error is want of memory, and then all stays.
+    pub(crate) fn note_arrow_failed(
+        &mut self,
+        awaits: bool,
+        yields: bool,
+        place: u32,
+    ) -> Result<(), NoMemory>
+        ensures ok { OnOk result (NotesFailed awaits yields place self.old self.new) }
+        ensures err { OnErr result (self.new ≡ self.old) }
+    {
+        self.failed.insert(awaits, yields, place)
+    }
+
+    /// How many changes made the shorthands.
+    pub(crate) fn covers_len(&self) -> usize
+        ensures { result ≡ length self.now.covers }
+    {
+        self.covers.len()
+    }
+
+    /// How many changes made the commas.
+    pub(crate) fn commas_len(&self) -> usize
+        ensures { result ≡ length self.now.commas }
+    {
+        self.commas.len()
+    }
+
+    /// Takes back all changes but the first ones of each kind; where no head was found stays.
+    pub(crate) fn truncate(&mut self, covers: usize, commas: usize)
+        ensures { self.new ≡ record self.old { covers = take covers self.old.covers; commas = take commas self.old.commas } }
+    {
+        self.covers.truncate(covers);
+        self.commas.truncate(commas);
+    }
+}
