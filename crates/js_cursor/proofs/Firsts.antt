@@ -1,6 +1,6 @@
 -- What holds of the first token of a text.
-use Rattle.std.proofs.Common.{ℕ, ◌+◌, ◌≡◌, ◌≢◌, ◌≤◌, ◌<◌, ◌⊎◌, inl, inr, Bool, true, false, List, [], ◌∷◌, ◌++◌, refl, sym, ap, subst, arith, ◌∙◌, not, ◌&&◌, ◌||◌, ◌==◌, Some, None, Option, lit<}
-use Rattle.std.specs.Prelude.{IsTrue, ◌↔◌, IsCharBoundary, IsUtf8, codes, is_some, chars, drop}
+use Rattle.std.proofs.Common.{ℕ, ◌≡◌, ◌≤◌, inl, inr, Bool, true, false, List, [], ◌∷◌, ◌++◌, refl, sym, ap, subst, arith, ◌∙◌, not, ◌&&◌, ◌==◌, Some, None, Option}
+use Rattle.std.specs.Prelude.{IsTrue, ◌↔◌, IsUtf8, codes, is_some, chars, length}
 use Rattle.std.specs.List.{All}
 use Rattle.std.proofs.lemmas.Bool.{false≢true, eqb-true}
 use Rattle.std.proofs.lemmas.List.Elements.{All-append, All-same, All-cons, All-nil, All-weaker}
@@ -14,18 +14,17 @@ use Rattle.js_base.specs.declared.kind.Kind.TheVariants.{HashbangComment, RAngle
 use Rattle.js_base.specs.declared.token.Token.{Token}
 use Rattle.js_base.specs.Characters.{is_line_terminator}
 use Rattle.js_base.specs.Kinds.{same_kind}
+use Rattle.js_base.specs.declared.TheConstants.{MAX_LEN}
 use Rattle.js_base.specs.Spans.{LiesIn}
-use Rattle.js_base.specs.declared.diagnostic.DiagnosticKind.{DiagnosticKind}
 use Rattle.js_grammar.specs.Characters.{begins}
 use Rattle.js_grammar.specs.CoreTexts.{starts}
-use Rattle.js_grammar.specs.Lexed.{IsLexeme}
 use Rattle.js_grammar.specs.Lexemes.{division, hashbang, hashbang_kind, lexemes_in, kind_in}
-use Rattle.js_grammar.specs.LexicalFaults.{behind, FaultyBehind, is_invalid_character}
+use Rattle.js_grammar.specs.LexicalFaults.{behind, FaultyBehind}
 use Rattle.js_grammar.specs.Longest.{longest, none_longer}
 use Rattle.js_grammar.specs.Marks.{Mark}
 use Rattle.js_grammar.specs.ModuleRecords.{Part as Visit}
 use Rattle.js_grammar.specs.Settings.{Goal}
-use Rattle.js_grammar.specs.Trivia.{within_line, after}
+use Rattle.js_grammar.specs.Trivia.{within_line}
 use Rattle.js_grammar.proofs.CoreLemmas.{none_longer-from}
 use Rattle.js_grammar.proofs.LongestLemmas.{both, both-left, both-right}
 use Rattle.js_lex.specs.Comments.{each_at, html_fault_at}
@@ -38,9 +37,8 @@ use Rattle.js_lex.proofs.KindsOfLexemes.{hashbang_is}
 use Rattle.js_tree.specs.Nodes.{Node, empty_program}
 use Rattle.js_cursor.specs.Histories.{StandBefore}
 use Rattle.js_cursor.specs.Notes.{Notes, HasNone}
-use Rattle.js_cursor.specs.Parsers.{Parser}
 use Rattle.js_cursor.specs.Tokens.{IsToken, whole}
-use Rattle.js_cursor.specs.Places.{IsAt, IsFault, goal}
+use Rattle.js_cursor.specs.Places.{IsFault}
 use Rattle.js_cursor.specs.Starts.{AtStart, Starts}
 use Rattle.js_cursor.proofs.Moving.{token_given}
 
@@ -174,9 +172,9 @@ module _ {first l : State} {t : Token} {b : Bool} where
   first_token i n z (inr h) = next_first i n z h.0 h.1
 
 module _ {source : List ℕ} {read_as : SourceType} {asked : ParseOptions} {first l : State} {t : Token} {b : Bool} {ctx : Context} where
-  pub starts_at : {asks : Bool} {nodes : List Node} {visits : List Visit} {state : Notes} {errors : List Diagnostic} → IsUtf8 source → first.text ≡ source → first.goal ≡ goal_of read_as → first.keeps_tokens ≡ asks → first.place ≡ 0 → IsEmpty first.kept → GivesFirst first l t → (IsTrue b ↔ (t.kind ≡ RAngle)) → nodes ≡ empty_program ∷ [] → visits ≡ [] → HasNone state → AtStart read_as asked ctx → errors ≡ []
+  pub starts_at : {asks : Bool} {nodes : List Node} {visits : List Visit} {state : Notes} {errors : List Diagnostic} → IsUtf8 source → length source ≤ MAX_LEN → first.text ≡ source → first.goal ≡ goal_of read_as → first.keeps_tokens ≡ asks → first.place ≡ 0 → IsEmpty first.kept → GivesFirst first l t → (IsTrue b ↔ (t.kind ≡ RAngle)) → nodes ≡ empty_program ∷ [] → visits ≡ [] → HasNone state → AtStart read_as asked ctx → errors ≡ []
       → Starts source read_as asked asks (record { text = source; source_type = read_as; options = asked; lexer = l; token = t; cut = b; prev_token_end = 0; nodes = nodes; visits = visits; state = state; ctx = ctx; errors = errors; depth = 0 })
-  starts_at {asks} {nodes} {visits} {state} {errors} u text as_goal keeps z n g i ns vs notes c es = record {
+  starts_at {asks} {nodes} {visits} {state} {errors} u few text as_goal keeps z n g i ns vs notes c es = record {
     text = refl;
     source_type = refl;
     options = refl;
@@ -197,6 +195,8 @@ module _ {source : List ℕ} {read_as : SourceType} {asked : ParseOptions} {firs
     at = record {
       reads = f.text ∙ text;
       reads_for = f.read_for ∙ as_goal;
+      utf8 = u;
+      short = few;
       reached = inl refl;
       between = IsCharBoundary-start source u;
       token = there (λ v w. IsToken v w 0 l.kept.errors t b) f.token;

@@ -1,6 +1,5 @@
 -- What holds when a diagnostic has been kept; what stands at the current lexeme.
-use Rattle.std.proofs.Common.{ℕ, ◌≡◌, ◌+◌, ◌≤◌, Bool, true, false, List, [], ◌∷◌, ◌++◌, refl, sym, ap, subst, ◌∙◌, inl, inr, ◌⊎◌}
-use Rattle.std.specs.List.{All}
+use Rattle.std.proofs.Common.{◌≡◌, List, [], ◌∷◌, ◌++◌, sym, ap, subst}
 use Rattle.std.proofs.lemmas.List.Elements.{All-same, All-push}
 use Rattle.js_base.specs.declared.diagnostic.Diagnostic.{Diagnostic}
 use Rattle.js_grammar.specs.Marks.{Mark}
@@ -14,6 +13,8 @@ kept {p} {d} {ds} a m e = record {
   at = record {
     reads = a.reads;
     reads_for = a.reads_for;
+    utf8 = a.utf8;
+    short = a.short;
     reached = a.reached;
     between = a.between;
     token = a.token;

@@ -1,32 +1,29 @@
 -- Later places: what was kept is still there, so that the parser may go back; and a bracket that was passed was opened.
-use Rattle.std.proofs.Common.{ℕ, ◌+◌, ◌≡◌, ◌≤◌, ◌<◌, ◌⊎◌, inl, inr, Bool, true, false, List, [], ◌∷◌, ◌++◌, length, take, refl, sym, ap, subst, arith, ◌∙◌, length-append, append_assoc, append-nil, cond, ◌&&◌, Option}
-use Rattle.std.specs.Prelude.{IsCharBoundary, IsTrue}
+use Rattle.std.proofs.Common.{ℕ, ◌≡◌, ◌≤◌, inl, inr, Bool, true, false, List, [], ◌∷◌, ◌++◌, length, take, refl, sym, ap, subst, arith, ◌∙◌, length-append, append_assoc, append-nil, ◌&&◌, Option}
+use Rattle.std.specs.Prelude.{IsCharBoundary}
 use Rattle.std.proofs.Math.Seq.{take-append_seam}
 use Rattle.std.proofs.lemmas.Bool.{false≢true}
 use Rattle.js_base.specs.Spans.{LiesIn}
 use Rattle.js_base.specs.Kinds.{one_of_kinds}
 use Rattle.js_base.specs.Lists.{replaced}
 use Rattle.js_base.specs.declared.kind.Kind.{Kind}
-use Rattle.js_base.specs.declared.kind.Kind.TheVariants.{LParen, LBrack, LCurly, TemplateHead, TemplateMiddle, RAngle}
+use Rattle.js_base.specs.declared.kind.Kind.TheVariants.{LParen, LBrack, LCurly, TemplateHead, TemplateMiddle}
 use Rattle.js_base.specs.declared.diagnostic.Diagnostic.{Diagnostic}
 use Rattle.js_base.specs.declared.span.Span.{Span}
 use Rattle.js_base.specs.declared.token.Token.{Token}
-use Rattle.js_grammar.specs.Grammar.{Lexeme}
 use Rattle.js_grammar.specs.LexicalFaults.{Reached}
 use Rattle.js_grammar.specs.Marks.{LexemeAt, a_lexeme, opens}
-use Rattle.js_grammar.specs.ModuleRecords.{Part as Visit}
 use Rattle.js_grammar.specs.Settings.{Goal}
 use Rattle.js_lex.specs.Kept.{lengths_of, AreAtMost}
-use Rattle.js_lex.specs.Reading.{relexed, is_kept}
+use Rattle.js_lex.specs.Reading.{is_kept}
 use Rattle.js_lex.specs.States.{goal_of}
-use Rattle.js_lex.specs.declared.output.LexerOutput.{LexerOutput}
 use Rattle.js_cursor.specs.declared.checkpoint.ParserCheckpoint.{ParserCheckpoint}
 use Rattle.js_cursor.specs.Checkpoints.{Remembers, MayGoBack, Follows}
 use Rattle.js_cursor.specs.Histories.{StandBefore}
 use Rattle.js_cursor.specs.Parsers.{Parser}
-use Rattle.js_cursor.specs.Tokens.{IsToken, whole, sign, nothing}
+use Rattle.js_cursor.specs.Tokens.{IsToken, sign}
 use Rattle.js_cursor.specs.Places.{IsAt, goal}
-use Rattle.js_cursor.specs.Moves.{Stays, Passed, ReadAgain, Completed, MovesOn, Keeps, Opened, is_last}
+use Rattle.js_cursor.specs.Moves.{Passed, ReadAgain, Completed, MovesOn, Keeps, Opened, is_last}
 
 pub follows_itself : (p : Parser) → Follows p p
 follows_itself p = record {

@@ -8,3 +8,5 @@ mod Starting
 mod Firsts
 mod Returning
 mod Later
+mod Plains
+mod Partnering

@@ -1,5 +1,5 @@
 -- What holds at a place when the lexer has given the next token.
-use Rattle.std.proofs.Common.{ℕ, zero, suc, ◌+◌, ◌≡◌, ◌≤◌, ◌<◌, ◌⊎◌, inl, inr, Bool, true, false, List, [], ◌∷◌, ◌++◌, refl, sym, ap, subst, arith, ◌∙◌}
+use Rattle.std.proofs.Common.{ℕ, ◌+◌, ◌≡◌, ◌≤◌, ◌<◌, inl, inr, Bool, true, false, List, [], ◌∷◌, ◌++◌, refl, sym, ap, subst, arith, ◌∙◌}
 use Rattle.std.specs.List.{All}
 use Rattle.std.specs.Prelude.{IsCharBoundary, IsTrue, Some, ◌↔◌}
 use Rattle.js_lex.proofs.Again.{cut_same}
@@ -12,20 +12,17 @@ use Rattle.js_lex.specs.Comments.{each_at, html_fault_at}
 use Rattle.js_base.specs.declared.kind.Kind.{Kind}
 use Rattle.js_base.specs.declared.kind.Kind.TheVariants.{Undetermined, RAngle, Eof}
 use Rattle.js_base.specs.declared.token.Token.{Token}
-use Rattle.js_base.specs.Kinds.{same_kind, one_of_kinds}
+use Rattle.js_base.specs.Kinds.{same_kind}
 use Rattle.js_base.specs.Spans.{LiesIn}
 use Rattle.js_base.proofs.KindLemmas.{kind_of_same}
 use Rattle.js_grammar.specs.Grammar.{Lexeme, Lexemes, last, next}
 use Rattle.js_grammar.specs.Lexemes.{LexicalGoal, division}
-use Rattle.js_grammar.specs.Lexed.{Lex, Lexes, all_faults, end_of, join}
-use Rattle.js_grammar.specs.LexicalFaults.{Reached, FaultyBehind, is_invalid_character, Condition, Stopping}
-use Rattle.js_grammar.specs.CoreTexts.{starts}
+use Rattle.js_grammar.specs.Lexed.{Lex, all_faults, end_of, join}
+use Rattle.js_grammar.specs.LexicalFaults.{Reached, FaultyBehind, is_invalid_character, Condition}
 use Rattle.js_grammar.specs.Characters.{width}
-use Rattle.js_grammar.specs.Longest.{joined}
 use Rattle.js_grammar.specs.Lexemes.{regular_expression, template_tail, hashbang, kind_in}
 use Rattle.js_lex.proofs.KindsOfLexemes.{plain_end}
 use Rattle.js_lex.proofs.TriviaLemmas.{some_width}
-use Rattle.js_lex.specs.Kept.{Grows}
 use Rattle.std.proofs.lemmas.List.Elements.{All-weaker, All-same, All-cons, All-nil}
 use Rattle.js_grammar.specs.Settings.{Goal}
 use Rattle.js_grammar.proofs.Parts.{joins}
@@ -35,9 +32,9 @@ use Rattle.js_cursor.specs.Parsers.{Parser}
 use Rattle.js_cursor.specs.Tokens.{IsToken, whole, sign, nothing}
 use Rattle.js_cursor.specs.Notes.{Notes}
 use Rattle.js_cursor.specs.Places.{IsAt, IsFault, KeptBefore, goal}
-use Rattle.js_cursor.specs.Moves.{Stays, Passed, IsWhole, ReadAgain, Completed, Told, is_last}
+use Rattle.js_cursor.specs.Moves.{Stays, Passed, IsWhole, Told, is_last}
 
-end_of-join : (ls : Lexemes) (x : Lexeme) → end_of (join ls (last x)) ≡ x.to
+pub end_of-join : (ls : Lexemes) (x : Lexeme) → end_of (join ls (last x)) ≡ x.to
 end_of-join (last y) x = refl
 end_of-join (next y ls) x = end_of-join ls x
 
@@ -47,7 +44,7 @@ reached_next {text} {s} {x} (inl e) h = inr (last x, subst (λ v. Lex all_faults
 reached_next {text} {s} {x} (inr r) h = inr (join r.0 (last x), joins (Lex all_faults text) 0 r.0 (last x) r.1 (subst (λ v. Lex all_faults text v x) (sym r.2) h), end_of-join r.0 x)
 
 -- a sign that begins with `>` is shown as `>`
-cut_sign : (y : Lexeme) → is_right_angle y.kind ≡ true → (cut y).kind ≡ RAngle
+pub cut_sign : (y : Lexeme) → is_right_angle y.kind ≡ true → (cut y).kind ≡ RAngle
 cut_sign y e = rw (e, cut) refl
 
 same_is : (k : Kind) → same_kind Undetermined k ≡ false → k ≡ Undetermined → ⊥
@@ -131,6 +128,8 @@ module _ {p : Parser} {l : State} {t : Token} {b : Bool} {e : ℕ} where
     at = record {
       reads = g.same.text ∙ a.reads;
       reads_for = g.same.goal ∙ a.reads_for;
+      utf8 = a.utf8;
+      short = a.short;
       reached = reached;
       between = subst (λ v. IsCharBoundary p.text v) (sym q) a.lies.ends_whole;
       token = at_place (λ v x s. IsToken v x s l.kept.errors t b) (token_given g.faults (p.lexer.kept.errors ++ each_at (html_fault_at (in_a_module p.lexer.goal)) p.lexer.place g.pieces) b i (g.grows.faults_grow ∙ sym (joined_lists p.lexer.kept.errors (each_at (html_fault_at (in_a_module p.lexer.goal)) p.lexer.place g.pieces) g.faults)) g.outcome);
@@ -189,7 +188,7 @@ sign_given {p} a e = go p.cut a.token e
     go true (sign k x) q = given x
 
 -- what is given in its place, where no fault comes with it, is the whole of a lexeme
-whole_again : (source : Goal) {text : List ℕ} {s : ℕ} {t : Token} → Outcome division (λ z. z) source text s t [] [] → (t.kind ≡ Undetermined → ⊥) × GivesLexeme division (λ z. z) text s t
+pub whole_again : (source : Goal) {text : List ℕ} {s : ℕ} {t : Token} → Outcome division (λ z. z) source text s t [] [] → (t.kind ≡ Undetermined → ⊥) × GivesLexeme division (λ z. z) text s t
 whole_again source {text} {s} {t} o = go (same_kind Undetermined t.kind) refl o
   where
     go : (r : Bool) → same_kind Undetermined t.kind ≡ r → elim r as (λ _. Type 0) [ true ↦ (d : Diagnostic) × ([] ≡ d ∷ []) × GivesNone division source text s t d | false ↦ (◌≡◌ {A = List Diagnostic} [] []) × GivesLexeme division (λ z. z) text s t ] → (t.kind ≡ Undetermined → ⊥) × GivesLexeme division (λ z. z) text s t
@@ -218,6 +217,8 @@ completed {p} {l} {t} a e g = record { completed = inr (e, record { going_on = [
     at = record {
       reads = g.same.text ∙ a.reads;
       reads_for = g.same.goal ∙ a.reads_for;
+      utf8 = a.utf8;
+      short = a.short;
       reached = a.reached;
       between = a.between;
       token = whole given.0 given.1;

@@ -1,6 +1,6 @@
 -- What holds when the current token was read again by another lexical goal.
-use Rattle.std.proofs.Common.{ℕ, ◌+◌, ◌≡◌, ◌≤◌, ◌<◌, ◌⊎◌, inl, inr, Bool, true, false, List, [], ◌∷◌, ◌++◌, refl, sym, ap, subst, arith, ◌∙◌, not, ◌&&◌, ◌||◌, Some}
-use Rattle.std.specs.Prelude.{IsTrue, IsCharBoundary}
+use Rattle.std.proofs.Common.{ℕ, ◌≡◌, ◌⊎◌, inl, inr, Bool, true, false, List, [], ◌∷◌, ◌++◌, refl, sym, ap, subst, arith, ◌∙◌, not, ◌&&◌, Some}
+use Rattle.std.specs.Prelude.{IsCharBoundary}
 use Rattle.std.specs.List.{All}
 use Rattle.std.proofs.lemmas.Bool.{false≢true}
 use Rattle.std.proofs.lemmas.List.Elements.{All-append, All-same, All-cons, All-nil, All-weaker}
@@ -8,18 +8,15 @@ use Rattle.js_base.specs.declared.diagnostic.Diagnostic.{Diagnostic}
 use Rattle.js_base.specs.declared.diagnostic.DiagnosticKind.{DiagnosticKind}
 use Rattle.js_base.specs.declared.diagnostic.DiagnosticKind.TheVariants as fault
 use Rattle.js_base.specs.declared.kind.Kind.{Kind}
-use Rattle.js_base.specs.declared.kind.Kind.TheVariants.{Slash, SlashEq, RCurly, Undetermined, RAngle, Eof}
+use Rattle.js_base.specs.declared.kind.Kind.TheVariants.{Slash, SlashEq, RCurly, Undetermined}
 use Rattle.js_base.specs.declared.token.Token.{Token}
 use Rattle.js_base.specs.Kinds.{same_kind, one_of_kinds}
 use Rattle.js_base.specs.Spans.{LiesIn}
 use Rattle.js_base.proofs.KindLemmas.{kind_of_same}
 use Rattle.js_grammar.specs.Grammar.{Lexeme}
-use Rattle.js_grammar.specs.Lexed.{Lex, Stands, all_faults}
 use Rattle.js_grammar.specs.Lexemes.{LexicalGoal, division, regular_expression, template_tail, hashbang, kind_in, lexemes_in}
 use Rattle.js_grammar.specs.Longest.{none_begins}
-use Rattle.js_base.specs.Characters.{is_decimal, one_of}
-use Rattle.js_grammar.specs.Characters.{begins}
-use Rattle.js_grammar.specs.LexicalFaults.{Reached, FaultyBehind, Condition, Stopping, Due, InvalidCharacter, behind, is_invalid_character, begins_nothing}
+use Rattle.js_grammar.specs.LexicalFaults.{FaultyBehind, Condition, Due, InvalidCharacter, is_invalid_character, begins_nothing}
 use Rattle.js_grammar.specs.Settings.{Goal}
 use Rattle.js_grammar.proofs.Alike.{stands-same}
 use Rattle.js_grammar.proofs.LongestLemmas.{both-right}
@@ -158,6 +155,8 @@ module _ {p : Parser} {g : LexicalGoal} {l : State} {t : Token} {going_on faults
     at = record {
       reads = x.same.text ∙ a.reads;
       reads_for = x.same.goal ∙ a.reads_for;
+      utf8 = a.utf8;
+      short = a.short;
       reached = a.reached;
       between = a.between;
       token = subst (λ (b : Bool). IsToken (goal p) p.text p.prev_token_end l.kept.errors t b) (sym sg.uncut) (token_again g t going_on faults (goal p) p.text p.prev_token_end l.kept.errors p.lexer.kept.errors x.errors outcome);

@@ -1,29 +1,21 @@
 -- What holds at another depth, and when a parser went back.
-use Rattle.std.proofs.Common.{ℕ, ◌+◌, ◌-◌, ◌≡◌, ◌≤◌, ◌<◌, Bool, List, [], ◌∷◌, ◌++◌, length, take, refl, sym, ap, subst, arith, ◌∙◌, length-append}
+use Rattle.std.proofs.Common.{ℕ, ◌+◌, ◌-◌, ◌≡◌, ◌≤◌, ◌<◌, List, length, take, refl, sym, ap, subst, arith, ◌∙◌}
 use Rattle.std.specs.Prelude.{IsCharBoundary}
-use Rattle.std.specs.List.{All}
-use Rattle.std.proofs.Math.Seq.{take-append_seam}
 use Rattle.std.proofs.lemmas.List.Elements.{All-take, All-same}
-use Rattle.js_base.specs.Spans.{LiesIn}
 use Rattle.js_base.specs.declared.diagnostic.Diagnostic.{Diagnostic}
-use Rattle.js_base.specs.declared.context.Context.{Context}
-use Rattle.js_base.specs.declared.source_type.SourceType.{SourceType}
-use Rattle.js_base.specs.declared.token.Token.{Token}
-use Rattle.js_grammar.specs.LexicalFaults.{Reached}
 use Rattle.js_grammar.specs.Marks.{Mark}
 use Rattle.js_grammar.specs.ModuleRecords.{Part as Visit}
-use Rattle.js_lex.specs.declared.checkpoint.Lengths.{Lengths}
 use Rattle.js_lex.specs.Kept.{lengths_of, first_kept, AreAtMost}
-use Rattle.js_lex.specs.States.{State, SameText, goal_of}
+use Rattle.js_lex.specs.States.{State, SameText}
 use Rattle.js_cursor.specs.declared.checkpoint.ParserCheckpoint.{ParserCheckpoint}
-use Rattle.js_cursor.specs.Checkpoints.{Remembers, MayGoBack, GoesBack, Follows, notes_at}
+use Rattle.js_cursor.specs.Checkpoints.{MayGoBack, GoesBack, notes_at}
 use Rattle.js_cursor.specs.Parsers.{Parser}
 use Rattle.js_cursor.specs.Tokens.{IsToken}
 use Rattle.js_cursor.specs.Places.{IsAt, IsFault, goal}
 use Rattle.js_cursor.specs.Moves.{Enters, Leaves}
 
 at_depth : {p : Parser} (n : ℕ) → IsAt p → IsAt (record p { depth = n })
-at_depth {p} n a = record { reads = a.reads; reads_for = a.reads_for; reached = a.reached; between = a.between; token = a.token; lies = a.lies; last = a.last; marked = a.marked; faulty = a.faulty; noted = a.noted }
+at_depth {p} n a = record { reads = a.reads; reads_for = a.reads_for; utf8 = a.utf8; short = a.short; reached = a.reached; between = a.between; token = a.token; lies = a.lies; last = a.last; marked = a.marked; faulty = a.faulty; noted = a.noted }
 
 pub entered_seen : {p q : Parser} → p ≡ q → IsAt q → (n : ℕ) → p.depth < n → (q.depth < n) × Enters q (record p { depth = p.depth + 1 })
 entered_seen {p} {q} v a n l = subst (λ (r : Parser). (r.depth < n) × Enters r (record p { depth = p.depth + 1 })) v (l, record { is = refl; at = at_depth (p.depth + 1) (subst IsAt (sym v) a) })
@@ -56,6 +48,8 @@ went_back {p} {c} {l} {ds} {vs} a m s place kept e v = record {
   at = record {
     reads = s.text ∙ a.reads;
     reads_for = s.goal ∙ a.reads_for;
+    utf8 = a.utf8;
+    short = a.short;
     reached = m.reached;
     between = m.between;
     token = subst (λ (x : List Diagnostic). IsToken (goal p) p.text c.prev_token_end x c.token c.cut) (sym faults) m.token;

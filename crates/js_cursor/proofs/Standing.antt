@@ -1,11 +1,13 @@
 -- What stands here counts as a lexeme of the text.
-use Rattle.std.proofs.Common.{ℕ, ◌+◌, ◌-◌, ◌≡◌, ◌≤◌, ◌<◌, ◌⊎◌, inl, inr, Bool, true, false, List, [], ◌∷◌, ◌++◌, length, refl, sym, ap, subst, arith, ◌∙◌, Option, Some, None, length-append, not, ◌&&◌, ◌==◌}
+use Rattle.std.proofs.Common.{ℕ, ◌+◌, ◌-◌, ◌≡◌, ◌≤◌, ◌<◌, ◌⊎◌, inl, inr, Bool, true, false, List, [], ◌∷◌, ◌++◌, length, refl, sym, ap, subst, arith, ◌∙◌, Option, Some, None, length-append, not, ◌&&◌, ◌||◌, ◌==◌, take, drop, get_or}
 use Rattle.std.proofs.Math.Seq.{get_or-append_seam}
-use Rattle.std.specs.Prelude.{IsTrue, codes, IsCharBoundary}
+use Rattle.std.specs.Prelude.{IsTrue, IsUtf8, codes, bytes_eq, IsCharBoundary}
 use Rattle.std.specs.List.{All, slice_get}
 use Rattle.std.proofs.lemmas.Option.{slice_get_read}
 use Rattle.std.proofs.lemmas.Bool.{false≢true, eqb-true}
+use Rattle.std.proofs.lemmas.List.{length-take, length-drop, get_or-take, get_or-drop}
 use Rattle.std.proofs.lemmas.List.Elements.{All-get_or, All-same}
+use Rattle.std.proofs.lemmas.Str.{IsCharBoundary-after_ascii}
 use Rattle.js_base.specs.declared.diagnostic.Diagnostic.{Diagnostic}
 use Rattle.js_base.specs.declared.diagnostic.DiagnosticKind.{DiagnosticKind}
 use Rattle.js_base.specs.declared.diagnostic.DiagnosticKind.TheVariants as fault
@@ -15,17 +17,21 @@ use Rattle.js_base.specs.declared.token.Token.{Token}
 use Rattle.js_base.specs.Spans.{LiesIn}
 use Rattle.js_grammar.specs.CoreTexts.{starts}
 use Rattle.js_grammar.specs.Grammar.{Lexeme}
-use Rattle.js_grammar.specs.Lexed.{Lex, all_faults}
 use Rattle.js_grammar.specs.Lexemes.{LexicalGoal, division}
-use Rattle.js_grammar.specs.LexicalFaults.{Reached, Faulty, FaultyBehind, Stopping, is_invalid_character}
-use Rattle.js_grammar.specs.Marks.{Mark, StandsAt, LexemeAt, IsLexemeOf, a_lexeme, a_sign, a_fault, any_lexeme, cut_sign, begins_with_greater, goes_on, faulty_lexeme}
+use Rattle.js_grammar.specs.LexicalFaults.{Faulty, Stopping, is_invalid_character}
+use Rattle.js_grammar.specs.Marks.{Mark, StandsAt, LexemeAt, IsLexemeOf, a_lexeme, a_sign, a_fault, any_lexeme, cut_sign, goes_on, faulty_lexeme, begins_some_marker, begins_marker, begins_middle, begins_closing, seven_from}
+use Rattle.js_cursor.specs.Markers.{lexeme_of, Related, Scanned}
+use Rattle.js_cursor.specs.declared.marker.Partners.{Partners}
+use Rattle.js_lex.specs.States.{State}
+use Rattle.js_cursor.proofs.Partnering.{same_bytes}
+use Rattle.js_grammar.proofs.LongestLemmas.{both-right}
 use Rattle.js_grammar.specs.Settings.{Goal}
 use Rattle.js_lex.specs.Reading.{cut, is_right_angle, Tells, GivesLexeme, GivesNone}
-use Rattle.js_lex.proofs.Again.{cut_same}
+use Rattle.js_lex.proofs.Again.{cut_same, cut_newline}
 use Rattle.js_cursor.specs.Parsers.{Parser}
 use Rattle.js_cursor.specs.Tokens.{IsToken, whole, sign, nothing}
 use Rattle.js_cursor.specs.Places.{IsAt, IsFault, goal}
-use Rattle.js_cursor.specs.Moves.{StandsHere, at_lexeme, at_fault, IsHere, IsUnexpected, a_fault as of_fault, a_lexeme as of_lexeme, MayTell, Keeps, GivesUp}
+use Rattle.js_cursor.specs.Moves.{StandsHere, at_lexeme, at_fault, IsHere, IsUnexpected, IsMarker, a_fault as of_fault, a_marker as of_marker, a_lexeme as of_lexeme, MayTell, GivesUp}
 use Rattle.js_cursor.specs.declared.stop.Stop.{Stop}
 use Rattle.js_cursor.specs.declared.stop.Stop.TheVariants.{Fatal, NoMemory}
 
@@ -207,6 +213,80 @@ fault_mark {p} a f =
 diagnostic_same : (d : Diagnostic) {k : DiagnosticKind} {first second : Option Span} → d.kind ≡ k → d.first ≡ first → d.second ≡ second → d ≡ record { kind = k; span = d.span; first = first; second = second }
 diagnostic_same d a b c = λ i. record { kind = a i; span = d.span; first = b i; second = c i }
 
+-- the lexeme that the current token tells
+record Stood (p : Parser) : Type 0 where
+  lexeme : Lexeme
+  of_text : IsLexemeOf (goal p) p.text lexeme
+  from : p.token.span.start ≡ lexeme.from
+  to : p.token.span.end ≡ lexeme.to
+  newline : p.token.is_on_new_line ≡ lexeme.newline
+
+stood : {p : Parser} → IsAt p → (p.token.kind ≡ Undetermined → ⊥) → Stood p
+stood {p} a n = go p.cut a.token
+  where
+    go : (b : Bool) → IsToken (goal p) p.text p.prev_token_end p.lexer.kept.errors p.token b → Stood p
+    go true (sign k x) =
+        let g = greater x.lexeme p.token x.tells k in
+        record { lexeme = cut_sign x.lexeme; of_text = a_sign a.reached x.stands.lex g.begins; from = sym g.start; to = sym g.end; newline = x.tells.newline ∙ cut_newline x.lexeme }
+    go false (whole u x) = record { lexeme = x.lexeme; of_text = a_lexeme a.reached x.stands.lex; from = x.tells.start; to = x.tells.end; newline = x.tells.newline }
+    go false (nothing before k r x) = absurd (n k)
+
+marker_same : (text : List ℕ) (x : Lexeme) (t : Token) → t.span.start ≡ x.from → t.is_on_new_line ≡ x.newline → begins_some_marker text (lexeme_of t) ≡ begins_some_marker text x
+marker_same text x t f n = λ i. begins_some_marker text (record { kind = x.kind; from = f i; to = x.to; newline = n i; escaped = x.escaped; units = x.units })
+
+-- seven ASCII signs end between characters
+ends_signs : (signs text : List ℕ) (i : ℕ) → IsUtf8 text → length signs ≡ 7 → get_or signs 6 0 < 128 → bytes_eq (take 7 (drop i text)) signs ≡ true → (i + 7 ≤ length text) × IsCharBoundary text (i + 7)
+ends_signs signs text i u l h e =
+    let same : take 7 (drop i text) ≡ signs = same_bytes (take 7 (drop i text)) signs e in
+    let taken = length-take 7 (drop i text) in
+    let dropped = length-drop i text in
+    let long : i + 7 ≤ length text = omega (arith, taken, dropped, l, ap length same) in
+    let last : get_or text (i + 6) 0 < 128 = subst (λ (n : ℕ). n < 128) (sym (ap (λ (v : List ℕ). get_or v 6 0) same) ∙ get_or-take 7 (drop i text) 6 0 (omega arith) ∙ get_or-drop i text 6 0) h in
+    let there : IsCharBoundary text (i + 6 + 1) = IsCharBoundary-after_ascii text (i + 6) u (omega arith) last in
+    (long, subst (IsCharBoundary text) (omega arith) there)
+
+either : (a b : Bool) → (a || b) ≡ true → (a ≡ true) ⊎ (b ≡ true)
+either true b h = inl refl
+either false b h = inr h
+
+marker_ends : (text : List ℕ) (x : Lexeme) → IsUtf8 text → begins_some_marker text x ≡ true → (x.from + 7 ≤ length text) × IsCharBoundary text (x.from + 7)
+marker_ends text x u h = first (either (begins_marker (codes "<<<<<<<") text x) (begins_middle text x || (begins_closing text x || begins_marker (codes "|||||||") text x)) h)
+  where
+    ends : (signs : List ℕ) → length signs ≡ 7 → get_or signs 6 0 < 128 → begins_marker signs text x ≡ true → (x.from + 7 ≤ length text) × IsCharBoundary text (x.from + 7)
+    ends signs l c e = ends_signs signs text x.from u l c (both-right (x.newline || (x.from == 0)) (bytes_eq (take 7 (drop x.from text)) signs) e)
+
+    third : (begins_closing text x ≡ true) ⊎ (begins_marker (codes "|||||||") text x ≡ true) → (x.from + 7 ≤ length text) × IsCharBoundary text (x.from + 7)
+    third (inl e) = let c : 62 < 128 = omega arith in ends (codes ">>>>>>>") refl c e
+    third (inr e) = let c : 124 < 128 = omega arith in ends (codes "|||||||") refl c e
+
+    second : (begins_middle text x ≡ true) ⊎ ((begins_closing text x || begins_marker (codes "|||||||") text x) ≡ true) → (x.from + 7 ≤ length text) × IsCharBoundary text (x.from + 7)
+    second (inl e) = let c : 61 < 128 = omega arith in ends (codes "=======") refl c e
+    second (inr e) = third (either (begins_closing text x) (begins_marker (codes "|||||||") text x) e)
+
+    first : (begins_marker (codes "<<<<<<<") text x ≡ true) ⊎ ((begins_middle text x || (begins_closing text x || begins_marker (codes "|||||||") text x)) ≡ true) → (x.from + 7 ≤ length text) × IsCharBoundary text (x.from + 7)
+    first (inl e) = let c : 60 < 128 = omega arith in ends (codes "<<<<<<<") refl c e
+    first (inr e) = second (either (begins_middle text x) (begins_closing text x || begins_marker (codes "|||||||") text x) e)
+
+marker_mark : {p : Parser} {d : Diagnostic} → IsAt p → (p.token.kind ≡ Undetermined → ⊥) → IsMarker p d → Mark (goal p) p.text d
+marker_mark {p} {d} a n m =
+    let s = stood a n in
+    let e = marker_ends p.text (lexeme_of p.token) a.utf8 m.begins in
+    let from : p.token.span.start ≡ d.span.start = ap (λ (z : Span). z.start) (sym m.span) in
+    let to : p.token.span.start + 7 ≡ d.span.end = ap (λ (z : Span). z.end) (sym m.span) in
+    record {
+      ordered = omega (arith, from, to);
+      within = omega (arith, to, e.0);
+      begins_between = subst (IsCharBoundary p.text) from a.lies.starts_whole;
+      ends_between = subst (IsCharBoundary p.text) to e.1;
+      stands = subst (λ (k : DiagnosticKind). StandsAt k (goal p) p.text d.span d.first d.second) (sym m.kind) (record {
+        lexeme = s.lexeme;
+        of_text = s.of_text;
+        marker = sym (marker_same p.text s.lexeme p.token s.from s.newline) ∙ m.begins;
+        is = m.span ∙ ap seven_from s.from;
+        related = subst (λ (i : ℕ). Related p.text i d.first d.second) s.to m.related;
+      });
+    }
+
 pub unexpected_mark : {p : Parser} {d : Diagnostic} → IsAt p → IsUnexpected p d → Mark (goal p) p.text d
 unexpected_mark {p} {d} a (of_fault before u r) =
     let f = last_fault a u in
@@ -214,7 +294,8 @@ unexpected_mark {p} {d} a (of_fault before u r) =
     let two : slice_get p.lexer.kept.errors (length p.lexer.kept.errors - 1) ≡ Some d = last_is before d r in
     let same : f.fault ≡ d = cc in
     subst (Mark (goal p) p.text) same (fault_mark a f)
-unexpected_mark {p} {d} a (of_lexeme n h) =
+unexpected_mark {p} {d} a (of_marker n m) = marker_mark a n m
+unexpected_mark {p} {d} a (of_lexeme n b h) =
     let same : d ≡ record { kind = fault.UnexpectedToken; span = d.span; first = None; second = None } = diagnostic_same d h.kind h.is_first h.no_second in
     subst (Mark (goal p) p.text) (sym same) (mark_here fault.UnexpectedToken d.span None a h.span (λ s x b. (x, (refl, refl))))
 
@@ -226,9 +307,24 @@ fault_unexpected {p} {q} v a u d e =
     let s : f.fault ≡ d = cc in
     subst (IsUnexpected q) s (of_fault f.before u f.is_last)
 
-pub lexeme_unexpected : {q : Parser} (d : Diagnostic) (s : Span) → (q.token.kind ≡ Undetermined → ⊥) → s ≡ q.token.span → d ≡ record { kind = fault.UnexpectedToken; span = s; first = None; second = None } → IsUnexpected q d
-lexeme_unexpected {q} d s n e r = of_lexeme n (record { kind = ap (λ (z : Diagnostic). z.kind) r; span = at_lexeme n (ap (λ (z : Diagnostic). z.span) r ∙ e); is_first = ap (λ (z : Diagnostic). z.first) r; no_second = ap (λ (z : Diagnostic). z.second) r })
+pub lexeme_unexpected : {q : Parser} (d : Diagnostic) (s : Span) → (q.token.kind ≡ Undetermined → ⊥) → begins_some_marker q.text (lexeme_of q.token) ≡ false → s ≡ q.token.span → d ≡ record { kind = fault.UnexpectedToken; span = s; first = None; second = None } → IsUnexpected q d
+lexeme_unexpected {q} d s n b e r = of_lexeme n b (record { kind = ap (λ (z : Diagnostic). z.kind) r; span = at_lexeme n (ap (λ (z : Diagnostic). z.span) r ∙ e); is_first = ap (λ (z : Diagnostic). z.first) r; no_second = ap (λ (z : Diagnostic). z.second) r })
 
 pub unexpected_gave_up : {p : Parser} (q : Parser) {d : Diagnostic} (e : Stop) → IsUnexpected p d → GivesUp (λ x. x ≡ d) p q e → GivesUp (IsUnexpected p) p q e
 unexpected_gave_up {p} q {d} Fatal h (x, e, k) = (x, subst (IsUnexpected p) (sym e) h, k)
 unexpected_gave_up q NoMemory h x = x
+
+pub related_seen : {p q : Parser} {l : State} {r : Partners} → p ≡ q → IsAt q → Scanned p.lexer l r → Related q.text q.token.span.end r.middle r.closing
+related_seen {p} {q} {l} {r} v a s =
+    let one : Related q.lexer.text q.lexer.place r.middle r.closing = subst (λ (z : Parser). Related z.lexer.text z.lexer.place r.middle r.closing) v s.related in
+    subst (λ (i : ℕ). Related q.text i r.middle r.closing) a.last (subst (λ (w : List ℕ). Related w q.lexer.place r.middle r.closing) a.reads one)
+
+pub marker_told : {q : Parser} (s : Span) {first second : Option Span} → (q.token.kind ≡ Undetermined → ⊥) → begins_some_marker q.text (lexeme_of q.token) ≡ true → s.start ≡ q.token.span.start → s.end ≡ q.token.span.start + 7 → Related q.text q.token.span.end first second → IsUnexpected q (record { kind = fault.MergeConflictMarker; span = s; first = first; second = second })
+marker_told {q} s n b x y r = of_marker n (record { kind = refl; span = λ i. record { start = x i; end = y i }; begins = b; related = r })
+
+-- the token is the parser's
+pub marker_seen : {p q : Parser} → p ≡ q → (t : Token) (b : Bool) → t ≡ q.token → b ≡ begins_some_marker p.text (lexeme_of t) → b ≡ begins_some_marker q.text (lexeme_of q.token)
+marker_seen v t b e h = h ∙ (λ i. begins_some_marker (v i).text (lexeme_of (e i)))
+
+pub mark_after : {p q : Parser} {d : Diagnostic} → q ≡ p → IsAt p → IsUnexpected p d → Mark (goal q) q.text d
+mark_after {p} {q} {d} v a h = subst (λ (z : Parser). Mark (goal z) z.text d) (sym v) (unexpected_mark a h)

@@ -1,15 +1,12 @@
 -- What holds where a text begins.
-use Rattle.std.proofs.Common.{ℕ, ◌+◌, ◌≡◌, ◌≢◌, ◌≤◌, ◌<◌, ◌⊎◌, inl, inr, Bool, true, false, List, [], ◌∷◌, ◌++◌, refl, sym, ap, subst, arith, ◌∙◌, not, ◌&&◌, ◌||◌, ◌==◌, Some, None, Option, lit<}
-use Rattle.std.specs.Prelude.{IsTrue, ◌↔◌, IsCharBoundary, codes, is_some, chars, drop}
+use Rattle.std.proofs.Common.{ℕ, ◌≡◌, ◌≢◌, Bool, true, false, refl, ap, arith, ◌∙◌, ◌||◌, ◌==◌}
+use Rattle.std.specs.Prelude.{IsTrue, ◌↔◌}
 use Rattle.std.specs.Int.{bit_at}
-use Rattle.std.specs.List.{All}
-use Rattle.std.proofs.lemmas.Bool.{false≢true, eqb-true}
-use Rattle.std.proofs.lemmas.List.Elements.{All-append, All-same, All-cons, All-nil, All-weaker}
 use Rattle.js_base.specs.declared.context.Context.{Context}
 use Rattle.js_base.specs.declared.options.ParseOptions.{ParseOptions}
 use Rattle.js_base.specs.declared.source_type.SourceType.{SourceType}
 use Rattle.js_base.specs.declared.source_type.Goal.TheVariants as source
-use Rattle.js_base.specs.Contexts.{SetsFlag, has_flag, in_flag, yield_flag, await_flag, return_flag, decorator_flag, disallow_conditional_types_flag, ambient_flag, top_level_flag, new_target_flag}
+use Rattle.js_base.specs.Contexts.{SetsFlag, has_flag, await_flag, return_flag, new_target_flag}
 use Rattle.js_cursor.specs.Starts.{is_module, is_commonjs, AtStart}
 
 module_same : (s : SourceType) (b : Bool) → IsTrue b ↔ (s.goal ≡ source.Module) → b ≡ is_module s

@@ -1,5 +1,5 @@
 -- Values by place, as the list of the changes that made them.
-use Rattle.std.specs.Prelude.{ℕ, ◌≡◌, ◌≤◌, ◌<◌, ◌==◌, Bool, true, false, cond, List, [], ◌∷◌, ◌++◌, Option, Some, None, IsSome, is_some, take, length}
+use Rattle.std.specs.Prelude.{ℕ, ◌≡◌, ◌≤◌, ◌<◌, ◌==◌, cond, List, [], ◌∷◌, ◌++◌, Option, Some, None, IsSome, is_some}
 
 module _ {V : Type 0} where
   abbrev pub nowhere : ℕ → Option V

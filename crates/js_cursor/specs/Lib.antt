@@ -4,6 +4,7 @@ pub mod Notes
 pub mod Parsers
 pub mod Tokens
 pub mod Places
+pub mod Markers
 pub mod Moves
 pub mod Starts
 pub mod Checkpoints

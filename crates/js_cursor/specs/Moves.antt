@@ -1,5 +1,5 @@
 -- What the moves over lexemes do (ECMA-262, chapter 12; 12.10 for omitted semicolons).
-use Rattle.std.specs.Prelude.{ℕ, ◌+◌, ◌≡◌, ◌≤◌, ◌⊎◌, Bool, true, false, not, ◌&&◌, ◌||◌, List, [], ◌∷◌, ◌++◌, Option, Some, None, Result, Ok, Err}
+use Rattle.std.specs.Prelude.{ℕ, ◌+◌, ◌≡◌, ◌≤◌, ◌⊎◌, Bool, true, false, ◌||◌, List, [], ◌∷◌, ◌++◌, Option, Some, None, Result, Ok, Err}
 use Rattle.js_base.specs.declared.diagnostic.Diagnostic.{Diagnostic}
 use Rattle.js_base.specs.declared.diagnostic.DiagnosticKind.{DiagnosticKind}
 use Rattle.js_base.specs.declared.kind.Kind.{Kind}
@@ -16,11 +16,12 @@ use Rattle.js_cursor.specs.declared.stop.Stop.{Stop}
 use Rattle.js_cursor.specs.declared.stop.Stop.TheVariants.{Fatal, NoMemory}
 use Rattle.js_cursor.specs.declared.stop.ListStep.{ListStep}
 use Rattle.js_cursor.specs.declared.stop.ListStep.TheVariants.{Element, End, EndAfterComma}
-use Rattle.js_base.specs.declared.diagnostic.DiagnosticKind.TheVariants.{UnexpectedToken, ExpectToken, ExpectClosingOrSeparator}
+use Rattle.js_base.specs.declared.diagnostic.DiagnosticKind.TheVariants.{UnexpectedToken, ExpectToken, ExpectClosingOrSeparator, MergeConflictMarker}
 use Rattle.js_base.specs.Contexts.{has_flag, await_flag, yield_flag}
 use Rattle.js_cursor.specs.Notes.{NotesFailed}
 use Rattle.js_cursor.specs.Parsers.{Parser}
-use Rattle.js_grammar.specs.Marks.{LexemeAt, any_lexeme, opens, StandsAt}
+use Rattle.js_grammar.specs.Marks.{LexemeAt, any_lexeme, opens, StandsAt, begins_some_marker, seven_from}
+use Rattle.js_cursor.specs.Markers.{lexeme_of, Related}
 use Rattle.js_cursor.specs.Places.{IsAt, goal}
 
 -- All but the place and the lexer stays.
@@ -126,10 +127,18 @@ pub record IsHere (k : DiagnosticKind) (p : Parser) (first : Option Span) (d : D
   pub is_first : d.first ≡ first
   pub no_second : d.second ≡ None
 
--- What is told of what can't stand here: the fault, where no lexeme does; else the lexeme.
+-- A merge conflict marker begins with the current token: seven signs, and the markers behind it, where they stand.
+pub record IsMarker (p : Parser) (d : Diagnostic) : Type 0 where
+  pub kind : d.kind ≡ MergeConflictMarker
+  pub span : d.span ≡ seven_from p.token.span.start
+  pub begins : begins_some_marker p.text (lexeme_of p.token) ≡ true
+  pub related : Related p.text p.token.span.end d.first d.second
+
+-- What is told of what can't stand here: the fault, where no lexeme does; a merge conflict marker, where one begins; else the lexeme.
 pub data IsUnexpected (p : Parser) (d : Diagnostic) : Type 0 where
   a_fault : (before : List Diagnostic) → p.token.kind ≡ Undetermined → p.lexer.kept.errors ≡ before ++ d ∷ [] → IsUnexpected p d
-  a_lexeme : (p.token.kind ≡ Undetermined → ⊥) → IsHere UnexpectedToken p None d → IsUnexpected p d
+  a_marker : (p.token.kind ≡ Undetermined → ⊥) → IsMarker p d → IsUnexpected p d
+  a_lexeme : (p.token.kind ≡ Undetermined → ⊥) → begins_some_marker p.text (lexeme_of p.token) ≡ false → IsHere UnexpectedToken p None d → IsUnexpected p d
 
 -- one level deeper, and one less deep; nothing else changes
 pub record Enters (old new : Parser) : Type 0 where

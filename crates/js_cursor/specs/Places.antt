@@ -1,6 +1,7 @@
 -- What holds of a parser between calls: where it is, and that all that it has kept was found on the way there.
-use Rattle.std.specs.Prelude.{ℕ, ◌≡◌, true, List, codes, IsCharBoundary}
+use Rattle.std.specs.Prelude.{ℕ, ◌≡◌, ◌≤◌, true, List, length, codes, IsUtf8, IsCharBoundary}
 use Rattle.std.specs.List.{All}
+use Rattle.js_base.specs.declared.TheConstants.{MAX_LEN}
 use Rattle.js_base.specs.Spans.{LiesIn}
 use Rattle.js_base.specs.declared.diagnostic.Diagnostic.{Diagnostic}
 use Rattle.js_grammar.specs.CoreTexts.{starts}
@@ -32,6 +33,8 @@ pub record KeptBefore (n : Notes) (place : ℕ) : Type 0 where
 pub record IsAt (p : Parser) : Type 0 where
   pub reads : p.lexer.text ≡ p.text
   pub reads_for : p.lexer.goal ≡ goal p
+  pub utf8 : IsUtf8 p.text
+  pub short : length p.text ≤ MAX_LEN
   pub reached : Reached p.text p.prev_token_end
   pub between : IsCharBoundary p.text p.prev_token_end
   pub token : IsToken (goal p) p.text p.prev_token_end p.lexer.kept.errors p.token p.cut

@@ -1,5 +1,5 @@
 -- How a history is recorded: what stands at each place in a map, and the changes in a list.
-use Rattle.std.specs.Prelude.{ℕ, ◌≡◌, ◌≤◌, ◌<◌, ◌+◌, ◌==◌, Bool, cond, List, [], ◌∷◌, ◌++◌, Option, Some, None, IsSome, is_some, length, map}
+use Rattle.std.specs.Prelude.{ℕ, ◌≡◌, ◌≤◌, ◌<◌, ◌+◌, cond, List, [], ◌∷◌, Option, Some, None, IsSome, is_some, length, map}
 use Rattle.std.specs.List.{All, count_by}
 use Rattle.std.specs.Ordering.{nat_cmp}
 use Rattle.std.specs.BTreeMap.{BTreeMap, get, values, Updates}

@@ -4,6 +4,7 @@
 mod checkpoint;
 mod history;
 mod kinds;
+mod marker;
 mod moves;
 mod parser;
 mod state;

@@ -1,12 +1,15 @@
 //! Moves over lexemes of a kind that is due.
 
 ghost use Rattle.std.specs.Prelude.{◌≡◌, ◌↔◌, Bool, IsTrue, None, Some, MatchResult, IfOk};
+ghost use Rattle.js_base.specs.declared.kind.Kind.TheVariants.{Undetermined};
 ghost use Rattle.js_base.specs.declared.diagnostic.DiagnosticKind.TheVariants.{UnexpectedToken, ExpectToken, ExpectClosing};
 ghost use Rattle.js_grammar.specs.Marks.{Mark};
 ghost use Rattle.js_cursor.specs.Places.{IsAt, goal};
 ghost use Rattle.js_cursor.specs.Moves.{IsKind, Eats, Keeps, GivesUp, OnlyMemory, StandsHere, IsHere, IsUnexpected, MayTell, Opened, Expects, MayEnd, EndsOr, Steps};
+ghost use Rattle.js_cursor.specs.Markers.{Related};
 
 use crate::kinds::{ends_statement, is_kind};
+use crate::marker::{Partners, is_marker, scan};
 use crate::parser::ParserImpl;
 use crate::stop::{ListStep, Stop};
 use js_base::{Diagnostic, DiagnosticKind, Kind, NoMemory, Span};
@@ -157,29 +160,63 @@ impl<'a, C: ParserConfig> ParserImpl<'a, C> {
         Err(self.refuse(DiagnosticKind::ExpectToken, None))
     }
 
-    /// Gives up with what is told of what can't stand here: a copy of the fault, where no lexeme stands; else
-    /// `UnexpectedToken` at the current lexeme. The lines of a merge conflict aren't looked for yet: they are told as
-    /// unexpected tokens.
+    /// Gives up with what is told of what can't stand here: a copy of the fault, where no lexeme stands; a merge conflict
+    /// marker, where one begins with the current lexeme, with those behind it as related places; else `UnexpectedToken` at
+    /// the current lexeme. For the markers the rest of the text is passed once.
     pub fn set_unexpected(&mut self) -> Stop
         requires { IsAt self.old }
         ensures { GivesUp (IsUnexpected self.old) self.old self.new result }
     {
-        let found = self.unexpected();
-        self.set_fatal_error(found)
+        match self.unexpected() {
+            Ok(found) => self.set_fatal_error(found),
+            Err(NoMemory) => Stop::NoMemory,
+        }
     }
 
     /// What is told of what can't stand here.
-    fn unexpected(&self) -> Diagnostic
-        requires { IsAt self.now }
+    fn unexpected(&mut self) -> Result<Diagnostic, NoMemory>
+        requires { IsAt self.old }
+        ensures told { IfOk result (IsUnexpected self.old) }
+        ensures same { IfOk result (λ _. self.new ≡ self.old) }
+    {
+        let token = self.cur_token();
+        if self.at(Kind::Undetermined) {
+            return Ok(self.fault());
+        }
+        if !is_marker(self.source_text, token) {
+            return Ok(unexpected_token(token.span()));
+        }
+        let partners = self.partners()?;
+        Ok(Diagnostic {
+            kind: DiagnosticKind::MergeConflictMarker,
+            span: Span::sized(token.start(), 7),
+            first: partners.middle,
+            second: partners.closing,
+        })
+    }
+
+    /// The fault for which no lexeme stands here.
+    fn fault(&self) -> Diagnostic
+        requires at { IsAt self.now }
+        requires none { self.now.token.kind ≡ Undetermined }
         ensures { IsUnexpected self.now result }
     {
-        if !self.at(Kind::Undetermined) {
-            return unexpected_token(self.cur_token().span());
-        }
         match self.lexer.last_fault() {
             Some(fault) => fault,
-            None => unexpected_token(self.cur_token().span()),
+            None => unexpected_token(self.token.span()),
         }
+    }
+
+    /// The markers of a merge conflict that stand behind the current lexeme.
+    fn partners(&mut self) -> Result<Partners, NoMemory>
+        requires { IsAt self.old }
+        ensures related { IfOk result (λ r. Related self.old.text self.old.token.span.end r.middle r.closing) }
+        ensures same { IfOk result (λ _. self.new ≡ self.old) }
+    {
+        let here = self.lexer.checkpoint();
+        let partners = scan(&mut self.lexer, self.source_text)?;
+        self.lexer.rewind(here);
+        Ok(partners)
     }
 
     /// The span of what stands here.

@@ -1,4 +1,4 @@
-use Rattle.std.proofs.Common.{ℕ, ◌≤◌, ◌-◌, ◌^◌}
+use Rattle.std.proofs.Common.{ℕ, ◌≤◌, ◌-◌}
 use Rattle.std.specs.Prelude.{IsSome}
 use Rattle.js_cursor.specs.Recorded.{found}
 use Rattle.js_cursor.proofs.history.first_from.Given as goal

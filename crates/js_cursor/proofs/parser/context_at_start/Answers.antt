@@ -1,4 +1,4 @@
-use Rattle.std.proofs.Common.{refl, sym, ap, ◌∙◌, ◌||◌, Bool, ◌≡◌}
+use Rattle.std.proofs.Common.{sym, ap, ◌∙◌, ◌||◌, Bool}
 use Rattle.js_cursor.proofs.Starting.{at_start}
 use Rattle.js_cursor.proofs.parser.context_at_start.Goals as goal
 use Rattle.js_cursor.proofs.parser.context_at_start.Goals.{then-is_body, else-is_body}

@@ -1,4 +1,4 @@
-use Rattle.std.proofs.Common.{◌≤◌, refl, arith}
+use Rattle.std.proofs.Common.{refl, arith}
 use Rattle.std.proofs.lemmas.Bool.{false≢true}
 use Rattle.js_cursor.proofs.Recording.{recorded-push, room-without}
 use Rattle.js_cursor.proofs.history.History.take.Goals as goal

@@ -1,5 +1,4 @@
-use Rattle.std.proofs.Common.{◌≤◌, ◌≡◌, ◌∙◌, ◌++◌, sym, ap, arith}
-use Rattle.std.specs.Option.{option_to_list}
+use Rattle.std.proofs.Common.{arith}
 use Rattle.js_cursor.proofs.Recording.{recorded-back, known-last}
 use Rattle.js_cursor.proofs.history.History.undo.Goals as goal
 

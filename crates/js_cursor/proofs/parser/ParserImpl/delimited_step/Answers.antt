@@ -1,4 +1,4 @@
-use Rattle.std.proofs.Common.{◌≡◌, refl, sym, ap, true, false, inr, ◌∙◌}
+use Rattle.std.proofs.Common.{sym, inr, ◌∙◌}
 use Rattle.std.proofs.lemmas.Bool.{false≢true}
 use Rattle.js_cursor.proofs.parser.ParserImpl.delimited_step.Goals as goal
 
