@@ -17,7 +17,7 @@ use Rattle.js_grammar.proofs.CoreFirst.{lt-true}
 use Rattle.js_base.specs.Characters.{one_of}
 use Rattle.js_grammar.specs.Trivia.{is_irregular}
 use Rattle.js_lex.specs.declared.byte_class.ByteClass.{ByteClass}
-use Rattle.js_lex.specs.ByteClasses.{IsOf, Stays, is_trivia_class, begins_no_trivia, is_line_class, is_comment_class, stays_on_line, stays_in_comment}
+use Rattle.js_lex.specs.ByteClasses.{IsOf, Stays, is_trivia_class, begins_no_trivia, is_line_class, is_comment_class, stays_on_line, stays_in_comment, is_blank_class, is_feed_class}
 use Rattle.std.proofs.lemmas.Bool.{eqb-true}
 use Rattle.js_lex.proofs.ByteClasses.{agree, stays}
 use Rattle.js_grammar.proofs.CoreLemmas.{none_longer-from}
@@ -382,6 +382,29 @@ pub space_byte : {text : List ℕ} {at b : ℕ} → Peeks text at b → (b == 32
 space_byte {text = text} {at = at} {b = b} p t =
     let e : b ≡ 32 = eqb-true b 32 t in
     plain_byte {b = 32} false (subst (λ (x : ℕ). Peeks text at x) e p) refl refl
+
+-- one of two characters
+either : {A : Type 0} (a c b : ℕ) → one_of (a ∷ c ∷ []) b ≡ true → (b ≡ a → A) → (b ≡ c → A) → A
+either {A = A} a c b h f g = go (a == b) refl
+  where
+    go : (x : Bool) → (a == b) ≡ x → A
+    go true e = f (sym (eqb-true a b e))
+    go false e = g (sym (eqb-true c b (last (c == b) (subst (λ (x : Bool). (x || ((c == b) || false)) ≡ true) e h))))
+      where
+        last : (x : Bool) → (x || false) ≡ true → x ≡ true
+        last true k = refl
+        last false k = k
+
+-- a byte whose class is that of a space or a tab, or of an LF or a CR
+pub blank_byte : {text : List ℕ} {at b : ℕ} {k : ByteClass} → Peeks text at b → IsOf b k → is_blank_class k ≡ true → PlainBlankAt text at (Some false)
+blank_byte {text = text} {at = at} {b = b} p o h = either {A = PlainBlankAt text at (Some false)} 32 9 b (sym o.blank ∙ h)
+    (λ e. plain_byte {b = 32} false (subst (λ (x : ℕ). Peeks text at x) e p) refl refl)
+    (λ e. plain_byte {b = 9} false (subst (λ (x : ℕ). Peeks text at x) e p) refl refl)
+
+pub feed_byte : {text : List ℕ} {at b : ℕ} {k : ByteClass} → Peeks text at b → IsOf b k → is_feed_class k ≡ true → PlainBlankAt text at (Some true)
+feed_byte {text = text} {at = at} {b = b} p o h = either {A = PlainBlankAt text at (Some true)} 10 13 b (sym o.feed ∙ h)
+    (λ e. plain_byte {b = 10} true (subst (λ (x : ℕ). Peeks text at x) e p) refl refl)
+    (λ e. plain_byte {b = 13} true (subst (λ (x : ℕ). Peeks text at x) e p) refl refl)
 
 -- characters of lines and comments, by their bytes
 on_line_low : (b : ℕ) → stays_on_line b ≡ true → b < 128

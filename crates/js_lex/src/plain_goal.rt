@@ -15,7 +15,7 @@ use crate::class::is_identifier_start;
 use crate::name::{ascii_name_at, name_at, private_name_at};
 use crate::number::number_at;
 use crate::place::{byte_at, digit_at};
-use crate::punctuator::{alone_at, punctuator_at};
+use crate::punctuator::{lone_at, punctuator_at};
 use crate::scan::{Scan, Scanned};
 use crate::string::string_at;
 use crate::template::template_at;
@@ -33,16 +33,17 @@ enum Opening {
 }
 
 /// The lexeme of the plain goal that stands at a place, where its first byte tells that it is one of the frequent ones:
-/// a name of ASCII characters, or a punctuator that begins no longer one.
+/// a name of ASCII characters, or a punctuator of one character with which no longer one begins there.
 #[inline(always)]
 pub(crate) fn frequent_at(text: &str, at: usize) -> Option<Scanned>
     requires { IsCharBoundary text.now at }
     ensures { IfSome result (λ s. IsScanned division text.now at s) }
 {
-    match class_of(byte_at(text, at)?) {
-        ByteClass::Letter => ascii_name_at(text, at),
-        ByteClass::Alone => alone_at(text, at),
-        _ => None,
+    let byte = byte_at(text, at)?;
+    if class_of(byte).is_letter() {
+        ascii_name_at(text, at)
+    } else {
+        lone_at(text, at, byte)
     }
 }
 
@@ -108,7 +109,9 @@ fn ascii_opening(byte: u8, before_digit: bool) -> Opening
         ByteClass::Dot
         | ByteClass::Alone
         | ByteClass::Sign
-        | ByteClass::Trivia
+        | ByteClass::Blank
+        | ByteClass::Control
+        | ByteClass::Angle
         | ByteClass::Star
         | ByteClass::Solidus
         | ByteClass::LineEnd

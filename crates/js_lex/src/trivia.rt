@@ -1,13 +1,13 @@
 //! Trivia: white space, line terminators and comments (ECMA-262, sections 12.2 to 12.4, and B.1.1 for the HTML-like
 //! comments).
 
-ghost use Rattle.std.specs.Prelude.{◌≡◌, ◌≤◌, ◌+◌, [], ◌∷◌, Bool, ◌&&◌, false, length, IfOk, OnErr, OnOk, Some, None, IsTrue, IsCharBoundary};
+ghost use Rattle.std.specs.Prelude.{◌≡◌, ◌≤◌, ◌+◌, [], ◌∷◌, Bool, ◌&&◌, false, length, IfOk, OnErr, OnOk, Some, None, IfSome, IsTrue, IsCharBoundary};
 ghost use Rattle.js_base.specs.Characters.{one_of};
 ghost use Rattle.js_lex.specs.ByteClasses as classes;
 ghost use Rattle.js_lex.specs.ByteClasses.{Stays};
 ghost use Rattle.js_lex.specs.Places.{Word};
 ghost use Rattle.js_lex.specs.Kept.{Grows, Extends};
-ghost use Rattle.js_lex.specs.TriviaPassed.{PieceAt, BlankAt, PlainBlankAt, BlockEnd, IsLineEnd, block_kind, told, comment_told, blank_told, fault_told, IsPassed};
+ghost use Rattle.js_lex.specs.TriviaPassed.{PieceAt, BlankAt, PlainBlankAt, BlockEnd, IsLineEnd, block_kind, told, comment_told, blank_told, fault_told, IsPassed, PassesBlanks};
 ghost use Rattle.js_lex.specs.declared.comment.CommentKind.TheVariants.{Line};
 
 use crate::byte_class::class_of;
@@ -60,6 +60,33 @@ pub(crate) fn pass_trivia(
     let trivia = pass_pieces(text, is_module, at, kept)?;
     attach(&mut kept.comments, first_comment, trivia.end as u32);
     Ok(trivia)
+}
+
+/// Passes spaces, tabs, CR and LF from a place on; none where other trivia may stand behind them.
+#[inline(always)]
+pub(crate) fn pass_blanks(text: &str, at: usize) -> Option<Trivia>
+    requires { IsCharBoundary text.now at }
+    ensures { IfSome result (λ t. PassesBlanks text.now at t) }
+{
+    let mut end = at;
+    let mut has_newline = false;
+    'blanks: while let Some(byte) = byte_at(text, end) {
+        let class = class_of(byte);
+        if class.is_blank() {
+            end += 1;
+            continue;
+        }
+        if class.is_feed() {
+            has_newline = true;
+            end += 1;
+            continue;
+        }
+        if class.may_begin_trivia() {
+            return None;
+        }
+        return Some(Trivia { end, has_newline });
+    }
+    None
 }
 
 /// Passes all trivia from a place on; the comments are attached to nothing yet.

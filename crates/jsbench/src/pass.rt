@@ -98,6 +98,9 @@ fn next(
     before: Kind,
 ) -> Result<Told, NoMemory> {
     let token = lexer.next_token()?;
+    if is_plain(token.kind()) {
+        return Ok(tell(&token));
+    }
     match token.kind() {
         Kind::Slash | Kind::SlashEq if !ends_operand(before) => match lexer.re_lex_regex(token) {
             Ok((again, _)) => Ok(tell(&again)),
@@ -124,6 +127,14 @@ fn next(
         }
         _ => Ok(tell(&token)),
     }
+}
+
+/// Whether a token is neither a brace, a slash nor a template part, so that it is told as it is.
+fn is_plain(kind: Kind) -> bool {
+    !matches!(
+        kind,
+        Kind::Slash | Kind::SlashEq | Kind::RCurly | Kind::LCurly | Kind::TemplateHead
+    )
 }
 
 /// Closes a substitution where a token ends its template.
