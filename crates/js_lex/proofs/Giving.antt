@@ -30,7 +30,7 @@ use Rattle.js_lex.specs.declared.output.LexerOutput.{LexerOutput}
 use Rattle.js_lex.specs.Places.{Word}
 use Rattle.js_lex.specs.Kept.{Grows, Extends}
 use Rattle.js_lex.specs.Scans.{IsScanned, IsStopped, NoLexeme, Scans}
-use Rattle.js_lex.specs.TriviaPassed.{IsPassed, PassesBlanks}
+use Rattle.js_lex.specs.TriviaPassed.{IsPassed, PassesBlanks, NoTrivia}
 use Rattle.js_lex.specs.Comments.{comment_at, irregular_at, html_fault_at, each_at}
 use Rattle.js_lex.proofs.Keeping.{grow_on, extend_on}
 use Rattle.js_lex.proofs.Marks.{html_marked}
@@ -270,18 +270,15 @@ err_next new (Err x) p k = extend_on p.grows k
 
 -- ---- the token that is known at once
 
-pub quick_between : {text : List ℕ} {s : ℕ} {tr : Trivia} → PassesBlanks text s tr → IsCharBoundary text tr.end
-quick_between p = (p false 0 nothing).stands.boundary
-
 -- the token of what is shown is the one of which nothing more is kept
 settled_quick : (start : ℕ) (newline : Bool) (sc shown_one : Scanned) (t : Token) (kept : LexerOutput) → ◌≡◌ {A = Result Scanned Fault} (Ok shown_one) (shown_scan start (Ok sc)) → t ≡ token_of shown_one start newline → Settled false start newline (shown_scan start (Ok sc)) kept kept t
 settled_quick start newline sc shown_one t kept e f = subst (λ (z : Result Scanned Fault). Settled false start newline z kept kept t) e (f, record { comments_grow = sym (append-nil kept.comments); blanks_grow = sym (append-nil kept.irregular_whitespaces); tokens_grow = sym (append-nil kept.tokens); faults_grow = sym (append-nil kept.errors) })
 
-pub quick_next : (text : List ℕ) (s : ℕ) (tr : Trivia) (sc shown_one : Scanned) (t : Token) → IsUtf8 text → IsCharBoundary text s → PassesBlanks text s tr → IsScanned division text tr.end sc → ◌≡◌ {A = Result Scanned Fault} (Ok shown_one) (shown_scan tr.end (Ok sc)) → t ≡ token_of shown_one tr.end tr.has_newline → GivesAtOnce text s t
-quick_next text s tr sc shown_one t u b p h e f source kept = gives_next text source false s kept kept kept tr (Ok sc) t u b (p (in_a_module source) tr.end kept) h (settled_quick tr.end tr.has_newline sc shown_one t kept e f)
+pub quick_next : (text : List ℕ) (s : ℕ) (tr : Trivia) (sc shown_one : Scanned) (t : Token) → IsUtf8 text → IsCharBoundary text s → NoTrivia text tr.end → PassesBlanks text s tr → IsScanned division text tr.end sc → ◌≡◌ {A = Result Scanned Fault} (Ok shown_one) (shown_scan tr.end (Ok sc)) → t ≡ token_of shown_one tr.end tr.has_newline → GivesAtOnce text s t
+quick_next text s tr sc shown_one t u b n p h e f source kept = gives_next text source false s kept kept kept tr (Ok sc) t u b (p n (in_a_module source) tr.end kept) h (settled_quick tr.end tr.has_newline sc shown_one t kept e f)
 
-pub quick_boundary : {text : List ℕ} {s : ℕ} (tr : Trivia) (sc shown_one : Scanned) (t : Token) → IsUtf8 text → PassesBlanks text s tr → IsScanned division text tr.end sc → ◌≡◌ {A = Result Scanned Fault} (Ok shown_one) (shown_scan tr.end (Ok sc)) → t ≡ token_of shown_one tr.end tr.has_newline → IsCharBoundary text t.span.end
-quick_boundary {text = text} tr sc shown_one t u p h e f = ok_boundary text false tr.has_newline tr.end nothing nothing (Ok sc) (Ok shown_one) {E = Fault} (Ok t) u (quick_between p) h e (f, record { comments_grow = refl; blanks_grow = refl; tokens_grow = refl; faults_grow = refl })
+pub quick_boundary : {text : List ℕ} (i : ℕ) (newline : Bool) (sc shown_one : Scanned) (t : Token) → IsUtf8 text → IsCharBoundary text i → IsScanned division text i sc → ◌≡◌ {A = Result Scanned Fault} (Ok shown_one) (shown_scan i (Ok sc)) → t ≡ token_of shown_one i newline → IsCharBoundary text t.span.end
+quick_boundary {text = text} i newline sc shown_one t u b h e f = ok_boundary text false newline i nothing nothing (Ok sc) (Ok shown_one) {E = Fault} (Ok t) u b h e (f, record { comments_grow = refl; blanks_grow = refl; tokens_grow = refl; faults_grow = refl })
 
 -- whatever a call answers, the text stays
 pub text_stays : (old new : State) {E : Type 0} (r : Result Token E) → IfOk r (λ t. GivesNext division old new t) → OnErr r (new ≡ old) → new.text ≡ old.text

@@ -169,20 +169,10 @@ blanks_between b = (b false nothing).stands.boundary
 pub blank_more : {text : List ℕ} {s end : ℕ} {newline : Bool} (more : Bool) → Blanks text s end newline → PlainBlankAt text end (Some more) → Blanks text s (end + 1) (newline || more)
 blank_more {end = end} more b p m kept = passed_more (record { end = end + 1; comment = None; is_html = false; is_irregular = false; has_newline = more }) (b m kept) (p _) (nothing_grows m kept _)
 
-pub blank_same_line : {text : List ℕ} {s end : ℕ} {newline : Bool} → Blanks text s end newline → PlainBlankAt text end (Some false) → Blanks text s (end + 1) newline
-blank_same_line {text = text} {s = s} {end = end} {newline = newline} b p = subst (λ (x : Bool). Blanks text s (end + 1) x) (or-false newline) (blank_more false b p)
+pub space_more : {text : List ℕ} {s end : ℕ} {newline : Bool} → Blanks text s end newline → PlainBlankAt text end (Some false) → Blanks text s (end + 1) newline
+space_more {text = text} {s = s} {end = end} {newline = newline} b p = subst (λ (x : Bool). Blanks text s (end + 1) x) (or-false newline) (blank_more false b p)
 
-pub blank_new_line : {text : List ℕ} {s end : ℕ} {newline : Bool} → Blanks text s end newline → PlainBlankAt text end (Some true) → Blanks text s (end + 1) true
-blank_new_line {text = text} {s = s} {end = end} {newline = newline} b p = subst (λ (x : Bool). Blanks text s (end + 1) x) (or-true newline) (blank_more true b p)
-  where
-    or-true : (x : Bool) → (x || true) ≡ true
-    or-true true = refl
-    or-true false = refl
-
-pub blank_smaller : {text : List ℕ} {end : ℕ} {more : Bool} → PlainBlankAt text end (Some more) → end < length text
-blank_smaller p = let b = (p false).stands.boundary.0 in omega arith
-
-pub blanks_passed : {text : List ℕ} {s end : ℕ} {newline : Bool} → Blanks text s end newline → ((first : Bool) → none_begins (is_trivia_piece first) (behind text end) ≡ true) → PassesBlanks text s (record { end = end; has_newline = newline })
+pub blanks_passed : {text : List ℕ} {s end : ℕ} {newline : Bool} → Blanks text s end newline → PassesBlanks text s (record { end = end; has_newline = newline })
 blanks_passed b n m a kept = attached_all kept.comments (length kept.comments) a refl (passed_all (b m kept) (n _)) (all_kept kept.comments)
   where
     all_kept : (cs : List Comment) → cs ≡ take (length cs) cs ++ map (attached a) (drop (length cs) cs)

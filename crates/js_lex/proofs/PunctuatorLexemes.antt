@@ -26,7 +26,7 @@ use Rattle.js_grammar.proofs.LongestLemmas.{both-left, both-right, both, not-tru
 use Rattle.js_grammar.proofs.Finding.{neither-left, neither-right, found-all}
 use Rattle.js_grammar.proofs.CoreLemmas.{none_longer-from, plain_of}
 use Rattle.js_lex.specs.declared.punctuator.Punctuator.{Punctuator}
-use Rattle.js_lex.specs.Places.{Word, Peeks}
+use Rattle.js_lex.specs.Places.{Word}
 use Rattle.js_lex.specs.Faults.{fault_kind, kind_of_fault, stray_kind}
 use Rattle.js_lex.specs.Punctuators.{punctuator_of, OpensPunctuator, BeginsNone, begins_no_comment, IsPunctuator}
 use Rattle.js_lex.specs.Scans.{IsScanned, IsStopped, NoLexeme}

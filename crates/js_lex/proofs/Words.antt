@@ -1,5 +1,5 @@
 -- A word is the candidate that the table tells, or no word of the keyword table.
-use Rattle.std.proofs.Common.{◌≡◌, ◌<◌, ◌≤◌, ℕ, ◌+◌, ◌*◌, Bool, true, false, List, refl, sym, ap, subst, ◌∙◌, not, ◌&&◌, length, arith, slice_index}
+use Rattle.std.proofs.Common.{◌≡◌, ◌<◌, ◌≤◌, ℕ, ◌+◌, ◌*◌, Bool, true, false, List, refl, sym, ap, ◌∙◌, not, ◌&&◌, length, arith, slice_index}
 use Rattle.std.specs.Prelude.{nat_le, ◌%◌, if◌then◌else◌}
 use Rattle.std.specs.Str.{bytes_eq}
 use Rattle.std.proofs.lemmas.Bool.Decides.{nat_tests}

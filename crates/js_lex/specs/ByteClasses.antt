@@ -1,6 +1,6 @@
 -- What a byte of a text is to the scans.
 use Rattle.std.specs.Prelude.{ℕ, ◌≡◌, ◌<◌, ◌+◌, ◌==◌, List, Bool, true, false, not, ◌&&◌, ◌||◌, [], ◌∷◌, nat_lt}
-use Rattle.js_base.specs.Characters.{is_line_terminator, one_of}
+use Rattle.js_base.specs.Characters.{is_line_terminator}
 use Rattle.js_lex.specs.Punctuators.{is_lone, ends_sign}
 use Rattle.js_grammar.specs.Characters.{is_identifier_start}
 use Rattle.js_lex.specs.Places.{Word}
@@ -39,14 +39,6 @@ is_comment_class class.Solidus = true
 is_comment_class class.LineEnd = true
 is_comment_class class.High = true
 is_comment_class _ = false
-
-abbrev pub is_blank_class : ByteClass → Bool
-is_blank_class class.Blank = true
-is_blank_class _ = false
-
-abbrev pub is_feed_class : ByteClass → Bool
-is_feed_class class.LineEnd = true
-is_feed_class _ = false
 
 abbrev pub is_alone_class : ByteClass → Bool
 is_alone_class class.Alone = true
@@ -95,8 +87,6 @@ pub record IsOf (byte : ℕ) (k : ByteClass) : Type 0 where
   pub trivia : (is_trivia_class k || begins_no_trivia byte) ≡ true
   pub line : (is_line_class k || stays_on_line byte) ≡ true
   pub comment : (is_comment_class k || stays_in_comment byte) ≡ true
-  pub blank : is_blank_class k ≡ one_of (32 ∷ 9 ∷ []) byte
-  pub feed : is_feed_class k ≡ one_of (10 ∷ 13 ∷ []) byte
   pub alone : (not (is_alone_class k) || is_lone byte) ≡ true
   pub ends : (not (is_end_class k) || ends_sign byte) ≡ true
 

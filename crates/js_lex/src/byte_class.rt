@@ -1,7 +1,7 @@
 //! What a byte of a text is to the scans, by one look into a table.
 
 ghost use Rattle.std.specs.Prelude.{◌≡◌};
-ghost use Rattle.js_lex.specs.ByteClasses.{IsOf, is_name_class, is_trivia_class, is_letter_class, is_line_class, is_comment_class, is_blank_class, is_feed_class, is_alone_class, is_end_class};
+ghost use Rattle.js_lex.specs.ByteClasses.{IsOf, is_name_class, is_trivia_class, is_letter_class, is_line_class, is_comment_class, is_alone_class, is_end_class};
 
 use crate::byte_class::ByteClass::*;
 
@@ -104,22 +104,6 @@ impl ByteClass {
                 | ByteClass::LineEnd
                 | ByteClass::High
         )
-    }
-
-    /// Whether such a byte is a space or a tab.
-    #[inline]
-    pub(crate) fn is_blank(self) -> bool
-        ensures { result ≡ is_blank_class self }
-    {
-        matches!(self, ByteClass::Blank)
-    }
-
-    /// Whether such a byte is an LF or a CR.
-    #[inline]
-    pub(crate) fn is_feed(self) -> bool
-        ensures { result ≡ is_feed_class self }
-    {
-        matches!(self, ByteClass::LineEnd)
     }
 
     /// Whether such a byte is a punctuator that begins no longer one.

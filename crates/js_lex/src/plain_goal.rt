@@ -1,9 +1,11 @@
 //! The plain lexical goal: InputElementDiv (ECMA-262, chapter 12).
 
-ghost use Rattle.std.specs.Prelude.{◌≡◌, ◌<◌, ◌≤◌, Bool, IsTrue, IfSome, IsCharBoundary};
+ghost use Rattle.std.specs.Prelude.{◌≡◌, ◌<◌, ◌≤◌, Bool, IsTrue, IfSome, IsCharBoundary, codes};
 ghost use Rattle.js_grammar.specs.Longest.{none_begins};
 ghost use Rattle.js_grammar.specs.Trivia.{is_trivia_piece};
+ghost use Rattle.js_base.specs.Characters.{one_of};
 ghost use Rattle.js_grammar.specs.Lexemes.{division};
+ghost use Rattle.js_lex.specs.TriviaPassed.{NoTrivia};
 ghost use Rattle.js_grammar.specs.Lexemes as lexemes;
 ghost use Rattle.js_grammar.specs.LexicalFaults.{behind};
 ghost use Rattle.js_lex.specs.Scans.{Scans, IsScanned};
@@ -32,19 +34,30 @@ enum Opening {
     Punctuator,
 }
 
-/// The lexeme of the plain goal that stands at a place, where its first byte tells that it is one of the frequent ones:
-/// a name of ASCII characters, or a punctuator of one character with which no longer one begins there.
+/// The lexeme of the plain goal that stands at a place, where its first bytes tell that it is one of the frequent ones:
+/// a name of ASCII characters, or a punctuator of one character with which neither a comment nor a longer one begins.
 #[inline(always)]
 pub(crate) fn frequent_at(text: &str, at: usize) -> Option<Scanned>
     requires { IsCharBoundary text.now at }
-    ensures { IfSome result (λ s. IsScanned division text.now at s) }
+    ensures lexeme { IfSome result (λ s. IsScanned division text.now at s) }
+    ensures no_trivia { IfSome result (λ s. NoTrivia text.now at) }
 {
     let byte = byte_at(text, at)?;
     if class_of(byte).is_letter() {
         ascii_name_at(text, at)
+    } else if may_begin_comment(byte) {
+        None
     } else {
         lone_at(text, at, byte)
     }
+}
+
+/// Whether a comment may begin with a byte.
+#[inline(always)]
+fn may_begin_comment(byte: u8) -> bool
+    ensures { result ≡ one_of (codes "/<-") byte }
+{
+    byte == b'/' || byte == b'<' || byte == b'-'
 }
 
 /// The lexeme of the plain goal that stands at a place, where no trivia does. Of the punctuators that begin with `>` it

@@ -52,7 +52,8 @@ pub(crate) fn punctuator_at(text: &str, at: usize) -> Scan
 #[inline(always)]
 pub(crate) fn lone_at(text: &str, at: usize, byte: u8) -> Option<Scanned>
     requires { Peeks text.now at byte }
-    ensures { IfSome result (λ s. IsScanned division text.now at s) }
+    ensures lexeme { IfSome result (λ s. IsScanned division text.now at s) }
+    ensures written { IfSome result (λ s. punctuator_of (byte ∷ []) ≡ Some s.kind) }
 {
     let kind = single(byte)?;
     if stands_alone(text, at, byte) {

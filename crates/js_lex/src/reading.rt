@@ -49,7 +49,7 @@ pub(crate) fn quick_at(text: &str, at: usize) -> Option<Token>
     ensures gives { IfSome result (λ t. GivesAtOnce text.now at t) }
     ensures boundary { IfSome result (λ t. IsCharBoundary text.now t.span.end) }
 {
-    let blanks = pass_blanks(text, at)?;
+    let blanks = pass_blanks(text, at);
     let scanned = frequent_at(text, blanks.end)?;
     let shown = first_sign(blanks.end, scanned);
     Some(token_of(shown, blanks.end, blanks.has_newline))

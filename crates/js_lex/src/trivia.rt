@@ -1,7 +1,7 @@
 //! Trivia: white space, line terminators and comments (ECMA-262, sections 12.2 to 12.4, and B.1.1 for the HTML-like
 //! comments).
 
-ghost use Rattle.std.specs.Prelude.{◌≡◌, ◌≤◌, ◌+◌, [], ◌∷◌, Bool, ◌&&◌, false, length, IfOk, OnErr, OnOk, Some, None, IfSome, IsTrue, IsCharBoundary};
+ghost use Rattle.std.specs.Prelude.{◌≡◌, ◌≤◌, ◌+◌, [], ◌∷◌, Bool, ◌&&◌, false, length, IfOk, OnErr, OnOk, Some, None, IsTrue, IsCharBoundary};
 ghost use Rattle.js_base.specs.Characters.{one_of};
 ghost use Rattle.js_lex.specs.ByteClasses as classes;
 ghost use Rattle.js_lex.specs.ByteClasses.{Stays};
@@ -62,31 +62,27 @@ pub(crate) fn pass_trivia(
     Ok(trivia)
 }
 
-/// Passes spaces, tabs, CR and LF from a place on; none where other trivia may stand behind them.
+/// Passes spaces, tabs, CR and LF from a place on.
 #[inline(always)]
-pub(crate) fn pass_blanks(text: &str, at: usize) -> Option<Trivia>
-    requires { IsCharBoundary text.now at }
-    ensures { IfSome result (λ t. PassesBlanks text.now at t) }
+pub(crate) fn pass_blanks(text: &str, at: usize) -> Trivia
+    requires boundary { IsCharBoundary text.now at }
+    requires short { length text.now ≤ MAX_LEN }
+    ensures boundary { IsCharBoundary text.now result.end }
+    ensures passes { PassesBlanks text.now at result }
 {
     let mut end = at;
     let mut has_newline = false;
-    'blanks: while let Some(byte) = byte_at(text, end) {
-        let class = class_of(byte);
-        if class.is_blank() {
+    'blanks: loop {
+        if is_space_at(text, end) {
             end += 1;
             continue;
         }
-        if class.is_feed() {
-            has_newline = true;
-            end += 1;
-            continue;
-        }
-        if class.may_begin_trivia() {
-            return None;
-        }
-        return Some(Trivia { end, has_newline });
+        let Some(is_newline) = plain_blank_at(text, end) else {
+            return Trivia { end, has_newline };
+        };
+        has_newline |= is_newline;
+        end += 1;
     }
-    None
 }
 
 /// Passes all trivia from a place on; the comments are attached to nothing yet.

@@ -1,6 +1,9 @@
 //! One pass of the lexer over a text.
 
-ghost use Rattle.std.specs.Prelude.{◌≤◌, length};
+ghost use Rattle.std.specs.Prelude.{◌≡◌, ◌≤◌, false, length};
+ghost use Rattle.js_base.specs.Kinds.{same_kind};
+ghost use Rattle.js_base.specs.declared.kind.Kind.TheVariants as kinds;
+ghost use Rattle.js_lex.specs.Reading.{WasGiven};
 
 use js_base::{Kind, MAX_LEN, NoMemory, SourceType, Token};
 use js_lex::{Lexer, NoTokensLexerConfig};
@@ -91,7 +94,8 @@ fn tell(token: &Token) -> Told {
 }
 
 /// The next token: a slash behind no operand read as a regular expression, and a brace that ends a substitution as a
-/// template part. Braces are counted, and substitutions opened and closed.
+/// template part.
+#[inline(always)]
 fn next(
     lexer: &mut Lexer<'_, NoTokensLexerConfig>,
     braces: &mut Braces,
@@ -99,8 +103,23 @@ fn next(
 ) -> Result<Told, NoMemory> {
     let token = lexer.next_token()?;
     if is_plain(token.kind()) {
-        return Ok(tell(&token));
+        Ok(tell(&token))
+    } else {
+        read_again(lexer, braces, before, token)
     }
+}
+
+/// What a slash, a brace or a template part is that was given last. Braces are counted, and substitutions opened and
+/// closed.
+#[inline(never)]
+fn read_again(
+    lexer: &mut Lexer<'_, NoTokensLexerConfig>,
+    braces: &mut Braces,
+    before: Kind,
+    token: Token,
+) -> Result<Told, NoMemory>
+    requires { same_kind kinds.Undetermined token.kind ≡ false → WasGiven lexer.old token }
+{
     match token.kind() {
         Kind::Slash | Kind::SlashEq if !ends_operand(before) => match lexer.re_lex_regex(token) {
             Ok((again, _)) => Ok(tell(&again)),

@@ -1,4 +1,4 @@
-use Rattle.std.proofs.Common.{ℕ, Bool, ◌≡◌, true, ap, sym, subst, ◌∙◌, arith}
+use Rattle.std.proofs.Common.{sym, ◌∙◌}
 use Rattle.js_lex.proofs.Words.{short_enough}
 use Rattle.js_lex.proofs.word.candidate.Goals as goal
 
