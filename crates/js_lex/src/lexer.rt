@@ -24,7 +24,7 @@ use crate::hashbang::hashbang_at;
 use crate::mark::{Sort, is_marked};
 use crate::output::LexerOutput;
 use crate::plain_goal::plain_at;
-use crate::reading::{quick_at, read_plain, token_of};
+use crate::reading::{copy_of, quick_at, read_plain, token_of};
 use crate::relexing::{read_regular_expression, settle_again};
 use crate::scan::Scan;
 use crate::template::template_tail_at;
@@ -92,7 +92,8 @@ impl<'a, C: LexerConfig> Lexer<'a, C> {
                 return Ok(token);
             }
         }
-        self.read_next()
+        let token = self.read_next()?;
+        Ok(copy_of(&token))
     }
 
     /// The first token: a hashbang comment where the text begins with `#!` (ECMA-262, section 12.5), else what

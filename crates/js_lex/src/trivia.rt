@@ -163,7 +163,7 @@ fn ends_line(byte: u8) -> bool
 
 /// Whether it is known at once that no trivia begins at a place.
 #[inline]
-fn begins_no_trivia(text: &str, at: usize) -> bool
+pub(crate) fn begins_no_trivia(text: &str, at: usize) -> bool
     requires { IsCharBoundary text.now at }
     ensures { IsTrue result → (first : Bool) → PieceAt first text.now at None }
 {

@@ -61,13 +61,20 @@ pub(crate) fn lex(alloc: Global, text: &str) -> Result<Pass, NoMemory>
     let mut bytes = 0u64;
     let mut before = Kind::Semicolon;
     for _ in 0..text.len() {
-        let token = next(&mut lexer, &mut braces, before)?;
-        before = token.kind;
-        if matches!(before, Kind::Eof) {
+        let token = lexer.next_token()?;
+        let kind = token.kind();
+        if kind == Kind::Eof {
             break;
         }
         tokens = tokens.saturating_add(1);
-        bytes = bytes.saturating_add(u64::from(token.len));
+        if is_read_again(kind) {
+            let again = read_again(&mut lexer, &mut braces, before, token)?;
+            bytes = bytes.saturating_add(u64::from(again.len));
+            before = again.kind;
+        } else {
+            bytes = bytes.saturating_add(u64::from(tell(&token).len));
+            before = kind;
+        }
     }
     let output = lexer.finish();
     Ok(Pass {
@@ -90,22 +97,6 @@ fn tell(token: &Token) -> Told {
     Told {
         kind: token.kind(),
         len: token.end().saturating_sub(token.start()),
-    }
-}
-
-/// The next token: a slash behind no operand read as a regular expression, and a brace that ends a substitution as a
-/// template part.
-#[inline(always)]
-fn next(
-    lexer: &mut Lexer<'_, NoTokensLexerConfig>,
-    braces: &mut Braces,
-    before: Kind,
-) -> Result<Told, NoMemory> {
-    let token = lexer.next_token()?;
-    if is_plain(token.kind()) {
-        Ok(tell(&token))
-    } else {
-        read_again(lexer, braces, before, token)
     }
 }
 
@@ -148,12 +139,13 @@ fn read_again(
     }
 }
 
-/// Whether a token is neither a brace, a slash nor a template part, so that it is told as it is.
-fn is_plain(kind: Kind) -> bool {
-    !matches!(
-        kind,
-        Kind::Slash | Kind::SlashEq | Kind::RCurly | Kind::LCurly | Kind::TemplateHead
-    )
+/// Whether a token is a slash, a brace or a template part, which may be read again or counts.
+fn is_read_again(kind: Kind) -> bool {
+    kind == Kind::Slash
+        || kind == Kind::SlashEq
+        || kind == Kind::RCurly
+        || kind == Kind::LCurly
+        || kind == Kind::TemplateHead
 }
 
 /// Closes a substitution where a token ends its template.
