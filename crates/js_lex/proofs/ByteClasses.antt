@@ -1,12 +1,13 @@
 -- The table of the classes of bytes tells what the characters are.
-use Rattle.std.proofs.Common.{◌≡◌, ◌<◌, ℕ, Bool, true, false, List, [], ◌∷◌, zero, suc, refl, sym, subst, ◌&&◌, ◌||◌, nat_lt, arith, ◌⊎◌, inl, inr, slice_index_or}
+use Rattle.std.proofs.Common.{◌≡◌, ◌<◌, ℕ, Bool, true, false, List, [], ◌∷◌, zero, suc, refl, sym, subst, ◌&&◌, ◌||◌, not, nat_lt, arith, ◌⊎◌, inl, inr, slice_index_or}
 use Rattle.js_grammar.specs.Characters.{is_identifier_start}
 use Rattle.js_grammar.specs.Lexemes.{opening}
 use Rattle.js_lex.specs.Names.{is_ascii_part}
 use Rattle.js_lex.specs.declared.byte_class.ByteClass.{ByteClass}
 use Rattle.js_lex.specs.declared.byte_class.ByteClass.TheVariants.{Letter}
 use Rattle.js_lex.specs.declared.byte_class.TheConstants.{CLASSES}
-use Rattle.js_lex.specs.ByteClasses.{IsOf, is_letter_class, is_name_class, is_trivia_class, opens, begins_no_trivia, is_line_class, is_comment_class, stays_on_line, stays_in_comment, Stays}
+use Rattle.js_lex.specs.ByteClasses.{IsOf, is_letter_class, is_name_class, is_trivia_class, opens, begins_no_trivia, is_line_class, is_comment_class, stays_on_line, stays_in_comment, Stays, is_alone_class, is_end_class}
+use Rattle.js_lex.specs.Punctuators.{is_lone, ends_sign}
 use Rattle.js_lex.specs.Places.{Peeks}
 
 -- what a function gives for the numbers below n, the greatest first
@@ -40,6 +41,8 @@ is_of b l = record {
   trivia = agree 256 (λ c. is_trivia_class (class c) || begins_no_trivia c) (λ c. true) refl b l;
   line = agree 256 (λ c. is_line_class (class c) || stays_on_line c) (λ c. true) refl b l;
   comment = agree 256 (λ c. is_comment_class (class c) || stays_in_comment c) (λ c. true) refl b l;
+  alone = agree 256 (λ c. not (is_alone_class (class c)) || is_lone c) (λ c. true) refl b l;
+  ends = agree 256 (λ c. not (is_end_class (class c)) || ends_sign c) (λ c. true) refl b l;
 }
 
 -- a byte of which the class tells that a character that passes stands there

@@ -1,6 +1,6 @@
 -- From trivia, a scan and what is kept of them to what a call of the lexer answers.
-use Rattle.std.proofs.Common.{◌≡◌, ◌<◌, ◌≤◌, ℕ, ◌+◌, ◌==◌, Bool, true, false, List, [], ◌∷◌, ◌++◌, refl, sym, ap, subst, ◌∙◌, ◌||◌, length, arith, append-nil, Some}
-use Rattle.std.specs.Prelude.{IsTrue, IsCharBoundary, IsUtf8, ◌↔◌, IfOk, OnErr, Result, Ok, Err, encode_utf8, encode_utf8_all, drop}
+use Rattle.std.proofs.Common.{◌≡◌, ◌<◌, ◌≤◌, ℕ, ◌+◌, ◌==◌, Bool, true, false, List, [], ◌∷◌, ◌++◌, refl, sym, ap, subst, ◌∙◌, ◌||◌, length, arith, append-nil, Option, Some, None}
+use Rattle.std.specs.Prelude.{IsTrue, IsCharBoundary, IsUtf8, ◌↔◌, IfOk, IfSome, OnErr, Result, Ok, Err, encode_utf8, encode_utf8_all, drop}
 use Rattle.std.proofs.lemmas.Str.{IsUtf8-drop, encodes-chars, len_utf8_ascii, IsCharBoundary-past_char}
 use Rattle.js_base.specs.declared.kind.Kind.{Kind}
 use Rattle.js_base.specs.declared.kind.Kind.TheVariants.{RAngle, Eof, Undetermined}
@@ -30,14 +30,14 @@ use Rattle.js_lex.specs.declared.output.LexerOutput.{LexerOutput}
 use Rattle.js_lex.specs.Places.{Word}
 use Rattle.js_lex.specs.Kept.{Grows, Extends}
 use Rattle.js_lex.specs.Scans.{IsScanned, IsStopped, NoLexeme, Scans}
-use Rattle.js_lex.specs.TriviaPassed.{IsPassed}
+use Rattle.js_lex.specs.TriviaPassed.{IsPassed, PassesBlanks, NoTrivia}
 use Rattle.js_lex.specs.Comments.{comment_at, irregular_at, html_fault_at, each_at}
 use Rattle.js_lex.proofs.Keeping.{grow_on, extend_on}
 use Rattle.js_lex.proofs.Marks.{html_marked}
 use Rattle.js_lex.specs.States.{State, goal_of}
 use Rattle.js_lex.specs.Reading.{is_right_angle, cut, Tells, LexemeBehind, GivesLexeme, GivesNone, Outcome, GivesNext, in_a_module, kept_token}
 use Rattle.js_lex.proofs.KindsOfLexemes.{determined, plain_end, greater_word}
-use Rattle.js_lex.specs.Settling.{shown, shown_scan, token_of, undetermined_of, diagnostic_of, Fits, Settled, SettledAgain, ScanEnds}
+use Rattle.js_lex.specs.Settling.{shown, shown_scan, token_of, undetermined_of, diagnostic_of, Fits, Settled, SettledAgain, ScanEnds, GivesAtOnce, TellsLexeme}
 
 -- behind trivia no further piece begins
 pub trivia_ends : (first : Bool) (ps : List (List ℕ)) (rest : List ℕ) → are_trivia first ps rest ≡ true → (f : Bool) × (none_begins (is_trivia_piece f) rest ≡ true)
@@ -266,6 +266,28 @@ ok_boundary text keeps newline i mid new scan shown_one (Ok t) u b h e k = by sc
 pub err_next : {m : Bool} {text : List ℕ} {s a : ℕ} {old mid : LexerOutput} {tr : Trivia} (new : LexerOutput) {T E : Type 0} (r : Result T E) → IsPassed m text s a old mid tr → OnErr r (Extends mid new) → OnErr r (Extends old new)
 err_next new (Ok t) p k = k
 err_next new (Err x) p k = extend_on p.grows k
+
+-- ---- the token that is known at once
+
+-- the token of a lexeme, of which nothing is kept
+settled_quick : (start : ℕ) (newline : Bool) (sc : Scanned) (t : Token) (kept : LexerOutput) → t ≡ token_of (shown start sc) start newline → Settled false start newline (shown_scan start (Ok sc)) kept kept t
+settled_quick start newline sc t kept e = (e, record { comments_grow = sym (append-nil kept.comments); blanks_grow = sym (append-nil kept.irregular_whitespaces); tokens_grow = sym (append-nil kept.tokens); faults_grow = sym (append-nil kept.errors) })
+
+pub quick_next : (text : List ℕ) (s : ℕ) (passed : Trivia) (r : Option Token) → IsUtf8 text → IsCharBoundary text s → PassesBlanks text s passed → IfSome r (λ t. TellsLexeme text passed.end passed.has_newline t) → IfSome r (λ t. GivesAtOnce text s t)
+quick_next text s passed None u b p h = tt
+quick_next text s passed (Some t) u b p h = λ source kept. gives_next text source false s kept kept kept passed (Ok h.scanned) t u b (p h.no_trivia (in_a_module source) passed.end kept) h.is (settled_quick passed.end passed.has_newline h.scanned t kept h.token)
+
+pub quick_boundary : {text : List ℕ} (i : ℕ) (newline : Bool) (r : Option Token) → IsUtf8 text → IsCharBoundary text i → IfSome r (λ t. TellsLexeme text i newline t) → IfSome r (λ t. IsCharBoundary text t.span.end)
+quick_boundary i newline None u b h = tt
+quick_boundary {text = text} i newline (Some t) u b h = subst (λ (z : Token). IsCharBoundary text z.span.end) (sym h.token) (shown_end text i h.scanned u b h.is).1
+
+-- a token of what was scanned and shown
+pub tells_scanned : {text : List ℕ} {i : ℕ} {newline : Bool} (sc shown_one : Scanned) (t : Token) → IsScanned division text i sc → NoTrivia text i → ◌≡◌ {A = Result Scanned Fault} (Ok shown_one) (shown_scan i (Ok sc)) → t ≡ token_of shown_one i newline → TellsLexeme text i newline t
+tells_scanned {i = i} {newline = newline} sc shown_one t h n e f = record { scanned = sc; is = h; no_trivia = n; token = f ∙ ap (λ (z : Scanned). token_of z i newline) (let g : shown_one ≡ shown i sc = cc in g) }
+
+pub tells_shown : {text : List ℕ} {i : ℕ} {newline : Bool} (r : Result Scanned Fault) (shown_one : Scanned) (t : Token) → Scans division text i r → NoTrivia text i → ◌≡◌ {A = Result Scanned Fault} (Ok shown_one) (shown_scan i r) → t ≡ token_of shown_one i newline → TellsLexeme text i newline t
+tells_shown (Ok sc) shown_one t h n e f = tells_scanned sc shown_one t h n e f
+tells_shown (Err x) shown_one t h n e f = cc
 
 -- whatever a call answers, the text stays
 pub text_stays : (old new : State) {E : Type 0} (r : Result Token E) → IfOk r (λ t. GivesNext division old new t) → OnErr r (new ≡ old) → new.text ≡ old.text

@@ -22,14 +22,14 @@ use Rattle.js_lex.proofs.Fronts.{not_all}
 abbrev if_line : Bool → Option Kind
 if_line b = elim b [ true ↦ Some HashbangComment | false ↦ None ]
 
-comment_is : (w : List ℕ) → within_line w ≡ true → hashbang_kind (35 ∷ 33 ∷ w) ≡ Some HashbangComment
+pub comment_is : (w : List ℕ) → within_line w ≡ true → hashbang_kind (35 ∷ 33 ∷ w) ≡ Some HashbangComment
 comment_is w h = ap if_line h
 
-no_comment : (w : List ℕ) → within_line w ≡ false → hashbang_kind (35 ∷ 33 ∷ w) ≡ None
+pub no_comment : (w : List ℕ) → within_line w ≡ false → hashbang_kind (35 ∷ 33 ∷ w) ≡ None
 no_comment w h = ap if_line h
 
 -- a hashbang comment goes up to the end of its line
-longest_line : (w rest : List ℕ) → within_line w ≡ true → begins (λ c. not (is_line_terminator c)) rest ≡ false → longest (lexemes_in hashbang) (35 ∷ 33 ∷ w) rest ≡ true
+pub longest_line : (w rest : List ℕ) → within_line w ≡ true → begins (λ c. not (is_line_terminator c)) rest ≡ false → longest (lexemes_in hashbang) (35 ∷ 33 ∷ w) rest ≡ true
 longest_line w rest h l =
     both (lexemes_in hashbang (35 ∷ 33 ∷ w) rest) (none_longer (lexemes_in hashbang) (35 ∷ 33 ∷ w) rest) (ap is_some (comment_is w h))
     (none_longer-from (lexemes_in hashbang) (35 ∷ 33 ∷ w) rest (λ d x more e. ap is_some (no_comment (w ++ d ∷ x) (not_all (λ c. not (is_line_terminator c)) w d x (sym (ap (begins (λ c. not (is_line_terminator c))) e) ∙ l)))))

@@ -43,3 +43,4 @@ pub mod Lying
 pub mod Ordered
 pub mod Marked
 pub mod ByteClasses
+pub mod Words

@@ -11,14 +11,13 @@ use Rattle.js_base.specs.Kinds.{code, same_kind, one_of_kinds}
 use Rattle.js_base.specs.Texts.{text_of, words}
 use Rattle.js_base.specs.Keywords.{keyword_of, first_with_text}
 use Rattle.js_grammar.specs.Numbers.{is_number}
-use Rattle.js_lex.specs.Names.{may_be_keyword}
 use Rattle.js_grammar.specs.Names.{has_backslash}
 use Rattle.js_grammar.specs.Lexemes.{is_word, is_escaped, is_separated}
 use Rattle.js_grammar.proofs.LongestLemmas.{both-left, both-right}
 use Rattle.js_grammar.proofs.CoreNames.{is_number_code}
 
 -- A word that lacks what each text of the kinds has is none of them.
-unlike : (t : List ℕ → Bool) (ks : List Kind) (w : List ℕ) → list_all (λ k. t (text_of k)) ks ≡ true → t w ≡ false → first_with_text ks w ≡ Ident
+pub unlike : (t : List ℕ → Bool) (ks : List Kind) (w : List ℕ) → list_all (λ k. t (text_of k)) ks ≡ true → t w ≡ false → first_with_text ks w ≡ Ident
 unlike t [] w h e = refl
 unlike t (k ∷ ks) w h e = go (unlike t ks w (both-right (t (text_of k)) (list_all (λ a. t (text_of a)) ks) h) e) (bytes_eq (text_of k) w) refl
   where
@@ -45,10 +44,6 @@ short-word w l = no_length w (grind (arith, nat_tests))
 
 pub long-word : (w : List ℕ) → 11 < length w → keyword_of w ≡ Ident
 long-word w l = no_length w (grind (arith, nat_tests))
-
-pub no-keyword : (w : List ℕ) → may_be_keyword w ≡ false → keyword_of w ≡ Ident
-unfolding keyword_of words
-no-keyword w h = unlike may_be_keyword words w refl h
 
 pub long-front : (ps qs : List ℕ) → 11 < length ps → keyword_of (ps ++ qs) ≡ Ident
 long-front ps qs l = let e = length-append ps qs in long-word (ps ++ qs) (omega arith)

@@ -1,5 +1,5 @@
 -- Trivia, one piece after the other.
-use Rattle.std.proofs.Common.{◌≡◌, ℕ, ◌+◌, ◌==◌, Bool, true, false, List, [], ◌∷◌, ◌++◌, refl, sym, ap, subst, ◌∙◌, ◌&&◌, ◌||◌, length, arith, append_assoc, append-nil, Option, Some, None, map, take, drop}
+use Rattle.std.proofs.Common.{◌≡◌, ◌<◌, ℕ, ◌+◌, ◌==◌, Bool, true, false, List, [], ◌∷◌, ◌++◌, refl, sym, ap, subst, ◌∙◌, ◌&&◌, ◌||◌, length, arith, append_assoc, append-nil, Option, Some, None, map, take, drop}
 use Rattle.std.specs.Prelude.{IsCharBoundary}
 use Rattle.std.proofs.lemmas.List.Folds.{list_any-append}
 use Rattle.std.proofs.Math.Bool.{or-false, or_assoc}
@@ -20,7 +20,7 @@ use Rattle.js_lex.specs.declared.output.LexerOutput.{LexerOutput}
 use Rattle.js_lex.specs.Places.{Word}
 use Rattle.js_lex.specs.Kept.{Grows}
 use Rattle.js_lex.specs.Comments.{comment_kind, comment_at, irregular_at, html_fault_at, each_at, span_at, attached}
-use Rattle.js_lex.specs.TriviaPassed.{IsPiece, IsPassed, told, comment_told, blank_told, fault_told}
+use Rattle.js_lex.specs.TriviaPassed.{IsPiece, IsPassed, PlainBlankAt, PassesBlanks, told, comment_told, blank_told, fault_told}
 use Rattle.js_lex.proofs.Places.{then, none_passed, width-append}
 use Rattle.js_lex.proofs.Keeping.{grow_on}
 
@@ -152,3 +152,29 @@ nothing_grows m o span = subst (λ (b : Bool). Grows o o [] [] [] (fault_told b 
     no : (b : Bool) → (b && false) ≡ false
     no true = refl
     no false = refl
+
+-- ---- blanks alone
+
+-- lists of nothing
+abbrev pub nothing : LexerOutput
+nothing = record { comments = []; irregular_whitespaces = []; tokens = []; errors = [] }
+
+-- pieces that are passed and of which nothing is kept
+abbrev pub Blanks : List ℕ → ℕ → ℕ → Bool → Type 0
+Blanks text s end newline = (m : Bool) (kept : LexerOutput) → Passing m text s end newline kept kept
+
+pub blanks_between : {text : List ℕ} {s end : ℕ} {newline : Bool} → Blanks text s end newline → IsCharBoundary text end
+blanks_between b = (b false nothing).stands.boundary
+
+pub blank_more : {text : List ℕ} {s end : ℕ} {newline : Bool} (more : Bool) → Blanks text s end newline → PlainBlankAt text end (Some more) → Blanks text s (end + 1) (newline || more)
+blank_more {end = end} more b p m kept = passed_more (record { end = end + 1; comment = None; is_html = false; is_irregular = false; has_newline = more }) (b m kept) (p _) (nothing_grows m kept _)
+
+pub space_more : {text : List ℕ} {s end : ℕ} {newline : Bool} → Blanks text s end newline → PlainBlankAt text end (Some false) → Blanks text s (end + 1) newline
+space_more {text = text} {s = s} {end = end} {newline = newline} b p = subst (λ (x : Bool). Blanks text s (end + 1) x) (or-false newline) (blank_more false b p)
+
+pub blanks_passed : {text : List ℕ} {s end : ℕ} {newline : Bool} → Blanks text s end newline → PassesBlanks text s (record { end = end; has_newline = newline })
+blanks_passed b n m a kept = attached_all kept.comments (length kept.comments) a refl (passed_all (b m kept) (n _)) (all_kept kept.comments)
+  where
+    all_kept : (cs : List Comment) → cs ≡ take (length cs) cs ++ map (attached a) (drop (length cs) cs)
+    all_kept [] = refl
+    all_kept (c ∷ cs) = ap (λ v. c ∷ v) (all_kept cs)

@@ -1,5 +1,5 @@
 -- What the longest punctuator, or none, tells of lexemes.
-use Rattle.js_lex.proofs.Punctuators.{alone_there}
+use Rattle.js_lex.proofs.Punctuators.{lone_there, lone_opens}
 use Rattle.js_lex.specs.Punctuators.{StandsAlone}
 use Rattle.std.proofs.Common.{◌≡◌, ◌≤◌, ℕ, ◌+◌, ◌==◌, Bool, true, false, List, [], ◌∷◌, ◌++◌, refl, sym, ap, subst, ◌∙◌, not, ◌&&◌, ◌||◌, append_assoc, arith, Some, None, length, length-append, length-drop, drop}
 use Rattle.std.specs.Prelude.{is_some, IsCharBoundary, IsUtf8, bytes_eq, codes, encode_utf8, encode_utf8_all}
@@ -26,7 +26,7 @@ use Rattle.js_grammar.proofs.LongestLemmas.{both-left, both-right, both, not-tru
 use Rattle.js_grammar.proofs.Finding.{neither-left, neither-right, found-all}
 use Rattle.js_grammar.proofs.CoreLemmas.{none_longer-from, plain_of}
 use Rattle.js_lex.specs.declared.punctuator.Punctuator.{Punctuator}
-use Rattle.js_lex.specs.Places.{Word, Peeks}
+use Rattle.js_lex.specs.Places.{Word}
 use Rattle.js_lex.specs.Faults.{fault_kind, kind_of_fault, stray_kind}
 use Rattle.js_lex.specs.Punctuators.{punctuator_of, OpensPunctuator, BeginsNone, begins_no_comment, IsPunctuator}
 use Rattle.js_lex.specs.Scans.{IsScanned, IsStopped, NoLexeme}
@@ -277,6 +277,6 @@ unterminated {text = text} {i = i} u b h n =
       reaches = tt;
     }
 
--- a punctuator that begins no longer one
-pub alone_scanned : {text : List ℕ} {i b : ℕ} {k : Kind} → Peeks text i b → StandsAlone b k → IsScanned division text i (record { kind = k; end = i + 1; escaped = false; has_separator = false })
-alone_scanned {text = text} {i = i} {b = b} p s = scanned (subst OpensPunctuator (sym (p.ascii s.ascii).splits) (s.opens (begins is_decimal (behind text (i + 1))))) (alone_there p s)
+-- a punctuator of one character that is the longest one
+pub lone_scanned : {text : List ℕ} {i b : ℕ} {k : Kind} → Word text i (i + 1) (b ∷ []) → punctuator_of (b ∷ []) ≡ Some k → StandsAlone text i b → IsScanned division text i (record { kind = k; end = i + 1; escaped = false; has_separator = false })
+lone_scanned s e a = scanned (lone_opens s e a) (lone_there s e a)

@@ -1,6 +1,6 @@
 -- Which punctuators there are, and that a front of one is one.
-use Rattle.std.proofs.Common.{◌≡◌, ◌<◌, ◌≤◌, ℕ, ◌+◌, ◌==◌, Bool, true, false, List, [], ◌∷◌, ◌++◌, refl, sym, ap, subst, ◌∙◌, not, ◌&&◌, ◌||◌, append_assoc, arith, Option, Some, None, ◌⊎◌, inl, inr}
-use Rattle.std.specs.Prelude.{is_some, nat_lt, bytes_eq, cond}
+use Rattle.std.proofs.Common.{◌≡◌, ◌<◌, ◌≤◌, ℕ, ◌+◌, ◌==◌, Bool, true, false, List, [], ◌∷◌, ◌++◌, refl, sym, ap, subst, ◌∙◌, not, ◌&&◌, ◌||◌, append_assoc, arith, Option, Some, None, ◌⊎◌, inl, inr, slice_index_or}
+use Rattle.std.specs.Prelude.{is_some, nat_lt, bytes_eq, cond, codes}
 use Rattle.std.specs.List.{list_all, find}
 use Rattle.std.proofs.lemmas.Bool.{cases_lt}
 use Rattle.std.proofs.lemmas.Slice.Eq.{bytes_eq-Decides}
@@ -8,16 +8,20 @@ use Rattle.js_base.specs.declared.kind.Kind.{Kind}
 use Rattle.js_base.specs.declared.kind.Kind.TheVariants.{QuestionDot, Slash}
 use Rattle.js_base.specs.Kinds.{same_kind}
 use Rattle.js_base.specs.Texts.{text_of, punctuators}
-use Rattle.js_base.specs.Characters.{one_of}
+use Rattle.js_base.specs.Characters.{one_of, is_decimal}
 use Rattle.js_grammar.specs.Characters.{begins}
-use Rattle.js_grammar.specs.Lexemes.{may_precede, punctuator_kind}
+use Rattle.js_grammar.specs.Lexemes.{may_precede, punctuator_kind, Opening, opening, a_name, a_number, a_string, a_template, a_private_name, a_punctuator}
 use Rattle.js_grammar.specs.LexicalFaults.{behind}
 use Rattle.js_grammar.proofs.LongestLemmas.{both-left, both-right, both, not-true}
 use Rattle.js_grammar.proofs.Finding.{neither-left, neither-right, found-test, found-all}
 use Rattle.js_grammar.proofs.CoreLemmas.{implies, implied}
 use Rattle.js_grammar.proofs.CoreFirst.{lt-true}
 use Rattle.js_lex.specs.Places.{Word, Peeks}
-use Rattle.js_lex.specs.Punctuators.{punctuator_of, is_free, opens_no_comment, IsPunctuator, StandsAlone}
+use Rattle.js_lex.specs.Punctuators.{punctuator_of, is_free, opens_no_comment, IsPunctuator, OpensPunctuator, StandsAlone, EndsSign, is_lone, ends_sign}
+use Rattle.js_lex.specs.declared.punctuator.TheConstants.{SINGLES}
+use Rattle.js_lex.specs.ByteClasses.{IsOf, is_end_class, is_alone_class}
+use Rattle.js_lex.specs.declared.byte_class.ByteClass.{ByteClass}
+use Rattle.js_lex.proofs.ByteClasses.{agree}
 use Rattle.js_lex.proofs.Places.{then}
 
 -- what is found where fewer pass
@@ -215,6 +219,121 @@ begins_none {text = text} {i = i} {b = b} p e = go (cases_lt b 128)
     go (inl l) = subst Rattle.js_lex.specs.Punctuators.BeginsNone (sym (p.ascii l).splits) e
     go (inr h) = let q = p.high h in subst Rattle.js_lex.specs.Punctuators.BeginsNone (sym q.word.splits) (high_none [] q.character [] q.high)
 
--- a character that is a punctuator and begins no longer one
-pub alone_there : {text : List ℕ} {i b : ℕ} {k : Kind} → Peeks text i b → StandsAlone b k → IsPunctuator text i (record { kind = k; end = i + 1 })
-alone_there {text = text} {i = i} {b = b} p s = alone (p.ascii s.ascii) s.kind (first_free b [] s.free) (record { none = λ d r e. s.none d })
+-- ---- a punctuator of one character, told by the character or by the next one
+
+-- no punctuator has a character behind a lone one, nor one that ends a sign behind its first
+abbrev lone_or_short : List ℕ → Bool
+lone_or_short (c ∷ d ∷ x) = not (is_lone c)
+lone_or_short _ = true
+
+lone_all : list_all (λ k. lone_or_short (text_of k)) punctuators ≡ true
+unfolding punctuators
+lone_all = refl
+
+abbrev goes_on_or_short : List ℕ → Bool
+goes_on_or_short (c ∷ d ∷ x) = not (ends_sign d)
+goes_on_or_short _ = true
+
+goes_on_all : list_all (λ k. goes_on_or_short (text_of k)) punctuators ≡ true
+unfolding punctuators
+goes_on_all = refl
+
+-- whether it is no name, no number and so on
+abbrev is_punctuator_opening : Opening → Bool
+is_punctuator_opening a_punctuator = true
+is_punctuator_opening _ = false
+
+opens_punctuator : (o : Opening) → is_punctuator_opening o ≡ true → o ≡ a_punctuator
+opens_punctuator a_punctuator h = refl
+opens_punctuator a_name h = cc
+opens_punctuator a_number h = cc
+opens_punctuator a_string h = cc
+opens_punctuator a_template h = cc
+opens_punctuator a_private_name h = cc
+
+singles_open : list_all (λ k. begins (λ c. is_punctuator_opening (opening c false)) (text_of k)) punctuators ≡ true
+unfolding punctuators
+singles_open = refl
+
+single_opens : (c : ℕ) (k : Kind) → punctuator_of (c ∷ []) ≡ Some k → opening c false ≡ a_punctuator
+single_opens c k e = opens_punctuator (opening c false) (passes (begins (λ d. is_punctuator_opening (opening d false))) (c ∷ []) k e singles_open)
+
+-- what the characters tell that are lone
+record IsLone (c : ℕ) : Type 0 where
+  free : one_of (46 ∷ 47 ∷ 63 ∷ []) c ≡ false
+  opens : opening c true ≡ a_punctuator
+
+lone_told : (c : ℕ) → c < 128 → is_lone c ≡ true → IsLone c
+lone_told c l h = record {
+  free = implied-not (is_lone c) (one_of (46 ∷ 47 ∷ 63 ∷ []) c) (agree 128 (λ d. implies (is_lone d) (not (one_of (46 ∷ 47 ∷ 63 ∷ []) d))) (λ d. true) refl c l) h;
+  opens = opens_punctuator (opening c true) (implied (is_lone c) (is_punctuator_opening (opening c true)) (agree 128 (λ d. implies (is_lone d) (is_punctuator_opening (opening d true))) (λ d. true) refl c l) h);
+}
+  where
+    implied-not : (a b : Bool) → implies a (not b) ≡ true → a ≡ true → b ≡ false
+    implied-not a b h e = not-true b (implied a (not b) h e)
+
+-- what ends a sign is no digit, and opens no comment
+ends_told : (d : ℕ) → ends_sign d ≡ true → (is_decimal d ≡ false) × (one_of (codes "*/") d ≡ false)
+ends_told d h =
+    let a = both-right (nat_lt d 128) (not (is_decimal d) && not (one_of (codes "=>.?+-*<&|/") d)) h in
+    let n = not-true (one_of (codes "=>.?+-*<&|/") d) (both-right (not (is_decimal d)) (not (one_of (codes "=>.?+-*<&|/") d)) a) in
+    (not-true (is_decimal d) (both-left (not (is_decimal d)) (not (one_of (codes "=>.?+-*<&|/") d)) a), fewer d (lt-true d 128 (both-left (nat_lt d 128) (not (is_decimal d) && not (one_of (codes "=>.?+-*<&|/") d)) h)) n)
+  where
+    fewer : (c : ℕ) → c < 128 → one_of (codes "=>.?+-*<&|/") c ≡ false → one_of (codes "*/") c ≡ false
+    fewer c l n = not-true (one_of (codes "*/") c) (implied (not (one_of (codes "=>.?+-*<&|/") c)) (not (one_of (codes "*/") c)) (agree 128 (λ d. implies (not (one_of (codes "=>.?+-*<&|/") d)) (not (one_of (codes "*/") d))) (λ d. true) refl c l) (ap not n))
+
+begins_no : (p : ℕ → Bool) (cs : List ℕ) → ((d : ℕ) (r : List ℕ) → cs ≡ d ∷ r → p d ≡ false) → begins p cs ≡ false
+begins_no p [] h = refl
+begins_no p (d ∷ r) h = h d r refl
+
+pub lone_there : {text : List ℕ} {i b : ℕ} {k : Kind} → Word text i (i + 1) (b ∷ []) → punctuator_of (b ∷ []) ≡ Some k → StandsAlone text i b → IsPunctuator text i (record { kind = k; end = i + 1 })
+lone_there {b = b} s e (inl h) = alone s e (first_free b [] (lone_told b (ascii_of [] b [] _ e) h).free) (record { none = λ d r f. fails lone_or_short (b ∷ d ∷ []) lone_all (ap not h) })
+lone_there {text = text} {i = i} {b = b} {k = k} s e (inr h) = record {
+  first = b;
+  others = [];
+  stands = s;
+  kind = e;
+  precedes = (
+      let d = begins_no is_decimal (behind text (i + 1)) (λ d r f. (ends_told d (h d r f)).0) in
+      let c = begins_no (one_of (codes "*/")) (behind text (i + 1)) (λ d r f. (ends_told d (h d r f)).1) in
+      precedes-all (same_kind QuestionDot k) (same_kind Slash k) (begins is_decimal (behind text (i + 1))) (begins (one_of (codes "*/")) (behind text (i + 1))) d c);
+  never = λ d x more f. kind_none (b ∷ d ∷ x) more (fails goes_on_or_short (b ∷ d ∷ x) goes_on_all (ap not (h d (x ++ more) f)));
+}
+  where
+    precedes-all : (a b c d : Bool) → c ≡ false → d ≡ false → (not (a && c) && not (b && d)) ≡ true
+    precedes-all true true c d f g = rw (f, g) refl
+    precedes-all true false c d f g = rw f refl
+    precedes-all false true c d f g = rw g refl
+    precedes-all false false c d f g = refl
+
+-- and it opens a punctuator
+pub lone_opens : {text : List ℕ} {i b : ℕ} {k : Kind} → Word text i (i + 1) (b ∷ []) → punctuator_of (b ∷ []) ≡ Some k → StandsAlone text i b → OpensPunctuator (behind text i)
+lone_opens {text = text} {i = i} {b = b} {k = k} s e a = subst OpensPunctuator (sym s.splits) (go a)
+  where
+    both_ways : (x : Bool) → opening b true ≡ a_punctuator → opening b x ≡ a_punctuator
+    both_ways true h = h
+    both_ways false h = single_opens b k e
+
+    go : StandsAlone text i b → opening b (begins is_decimal (behind text (i + 1))) ≡ a_punctuator
+    go (inl h) = both_ways (begins is_decimal (behind text (i + 1))) (lone_told b (ascii_of [] b [] k e) h).opens
+    go (inr h) = ap (opening b) (begins_no is_decimal (behind text (i + 1)) (λ d r f. (ends_told d (h d r f)).0)) ∙ single_opens b k e
+
+-- the table of the punctuators of one character
+pub single_is : (b : ℕ) → b < 256 → slice_index_or SINGLES b None ≡ punctuator_of (b ∷ [])
+unfolding punctuators
+single_is b l = agree 256 (λ c. slice_index_or SINGLES c None) (λ c. punctuator_of (c ∷ [])) refl b l
+
+-- a byte that ends a sign, and the end of the text
+pub ends_at_byte : {text : List ℕ} {i b : ℕ} {k : ByteClass} → Peeks text i b → IsOf b k → is_end_class k ≡ true → EndsSign text i
+ends_at_byte {b = b} {k = k} p o h c cs e =
+    let t : ends_sign b ≡ true = subst (λ (x : Bool). (not x || ends_sign b) ≡ true) h o.ends in
+    let low = lt-true b 128 (both-left (nat_lt b 128) (not (is_decimal b) && not (one_of (codes "=>.?+-*<&|/") b)) t) in
+    let f = sym (p.ascii low).splits ∙ e in
+    let same : b ≡ c = cc in
+    subst (λ (x : ℕ). ends_sign x ≡ true) same t
+
+pub ends_at_end : (text : List ℕ) (i : ℕ) → behind text i ≡ [] → EndsSign text i
+ends_at_end text i n c cs e = absurd (let f = sym n ∙ e in cc)
+
+pub alone_told : {b : ℕ} {k : ByteClass} → IsOf b k → is_alone_class k ≡ true → is_lone b ≡ true
+alone_told {b = b} o h = subst (λ (x : Bool). (not x || is_lone b) ≡ true) h o.alone

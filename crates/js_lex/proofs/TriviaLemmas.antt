@@ -24,13 +24,21 @@ use Rattle.js_grammar.proofs.CoreLemmas.{none_longer-from}
 use Rattle.js_lex.specs.Places.{Word, Peeks}
 use Rattle.std.specs.Char.{len_utf8}
 use Rattle.std.proofs.lemmas.Str.{len_utf8_ascii, len_utf8_bounds}
-use Rattle.js_lex.specs.TriviaPassed.{IsPiece, PieceAt, BlankAt, IsBlankPiece, IsLineEnd, IsBlockEnd, block_kind, PlainBlankAt}
+use Rattle.js_lex.specs.TriviaPassed.{IsPiece, PieceAt, BlankAt, IsBlankPiece, IsLineEnd, IsBlockEnd, block_kind, PlainBlankAt, NoTrivia}
 use Rattle.js_lex.specs.Comments.{comment_kind}
 use Rattle.js_lex.specs.declared.comment.CommentKind.TheVariants.{Line, SingleLineBlock, MultiLineBlock}
 use Rattle.js_lex.specs.declared.trivia.Piece.{Piece}
 use Rattle.js_lex.specs.declared.trivia.Trivia.{Trivia}
 use Rattle.js_lex.proofs.Places.{then}
 use Rattle.js_lex.proofs.Fronts.{not_all, onwards}
+use Rattle.js_lex.proofs.Punctuators.{passes, ascii_of}
+use Rattle.js_lex.specs.Punctuators.{punctuator_of}
+use Rattle.js_base.specs.declared.kind.Kind.{Kind}
+use Rattle.js_lex.specs.declared.scan.Scanned.{Scanned}
+use Rattle.std.specs.Prelude.{IfSome}
+use Rattle.js_base.specs.Texts.{text_of, punctuators}
+use Rattle.js_lex.specs.ByteClasses.{is_letter_class}
+use Rattle.js_lex.specs.declared.byte_class.ByteClass.TheVariants.{Letter}
 use Rattle.js_grammar.proofs.CoreNames.{ascii}
 use Rattle.std.proofs.lemmas.Bool.Decides.{nat_tests}
 
@@ -382,6 +390,32 @@ pub space_byte : {text : List ℕ} {at b : ℕ} → Peeks text at b → (b == 32
 space_byte {text = text} {at = at} {b = b} p t =
     let e : b ≡ 32 = eqb-true b 32 t in
     plain_byte {b = 32} false (subst (λ (x : ℕ). Peeks text at x) e p) refl refl
+
+no_blanks : list_all (λ k. not (is_blank (text_of k))) punctuators ≡ true
+unfolding punctuators
+no_blanks = refl
+
+-- a letter, and a punctuator with which no comment begins
+pub letter_no_trivia : {text : List ℕ} {at b : ℕ} {k : ByteClass} (r : Option Scanned) → Peeks text at b → IsOf b k → is_letter_class k ≡ true → IfSome r (λ s. NoTrivia text at)
+letter_no_trivia None p o h = tt
+letter_no_trivia {k = k} (Some s) p o h = no_trivia p o (by k h)
+  where
+    by : (k : ByteClass) → is_letter_class k ≡ true → is_trivia_class k ≡ false
+    by Letter h = refl
+    by _ h = cc
+
+punctuator_no_trivia : {text : List ℕ} {at b : ℕ} {k : Kind} → Word text at (at + 1) (b ∷ []) → punctuator_of (b ∷ []) ≡ Some k → one_of (codes "/<-") b ≡ false → NoTrivia text at
+punctuator_no_trivia {text = text} {at = at} {b = b} {k = k} p e n first =
+    let l = ascii_of [] b [] k e in
+    let one = neither-left (47 == b) ((60 == b) || ((45 == b) || false)) n in
+    let r = neither-right (47 == b) ((60 == b) || ((45 == b) || false)) n in
+    let two = neither-left (60 == b) ((45 == b) || false) r in
+    let three = neither-left (45 == b) false (neither-right (60 == b) ((45 == b) || false) r) in
+    none_there p first (none_piece first b (behind text (at + 1)) (not-true (is_blank (b ∷ [])) (passes (λ w. not (is_blank w)) (b ∷ []) k e no_blanks)) (one, two, three))
+
+pub lone_no_trivia : {text : List ℕ} {at b : ℕ} (r : Option Scanned) → Peeks text at b → IfSome r (λ s. punctuator_of (b ∷ []) ≡ Some s.kind) → one_of (codes "/<-") b ≡ false → IfSome r (λ s. NoTrivia text at)
+lone_no_trivia None p e n = tt
+lone_no_trivia {b = b} (Some s) p e n = punctuator_no_trivia (p.ascii (ascii_of [] b [] s.kind e)) e n
 
 -- characters of lines and comments, by their bytes
 on_line_low : (b : ℕ) → stays_on_line b ≡ true → b < 128

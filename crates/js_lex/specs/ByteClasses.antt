@@ -1,6 +1,7 @@
 -- What a byte of a text is to the scans.
 use Rattle.std.specs.Prelude.{ℕ, ◌≡◌, ◌<◌, ◌+◌, ◌==◌, List, Bool, true, false, not, ◌&&◌, ◌||◌, [], ◌∷◌, nat_lt}
 use Rattle.js_base.specs.Characters.{is_line_terminator}
+use Rattle.js_lex.specs.Punctuators.{is_lone, ends_sign}
 use Rattle.js_grammar.specs.Characters.{is_identifier_start}
 use Rattle.js_lex.specs.Places.{Word}
 use Rattle.js_grammar.specs.Trivia.{is_blank}
@@ -19,7 +20,9 @@ is_name_class class.Digit = true
 is_name_class _ = false
 
 abbrev pub is_trivia_class : ByteClass → Bool
-is_trivia_class class.Trivia = true
+is_trivia_class class.Blank = true
+is_trivia_class class.Control = true
+is_trivia_class class.Angle = true
 is_trivia_class class.Solidus = true
 is_trivia_class class.LineEnd = true
 is_trivia_class class.High = true
@@ -36,6 +39,22 @@ is_comment_class class.Solidus = true
 is_comment_class class.LineEnd = true
 is_comment_class class.High = true
 is_comment_class _ = false
+
+abbrev pub is_alone_class : ByteClass → Bool
+is_alone_class class.Alone = true
+is_alone_class _ = false
+
+abbrev pub is_end_class : ByteClass → Bool
+is_end_class class.Letter = true
+is_end_class class.Backslash = true
+is_end_class class.Quote = true
+is_end_class class.Backquote = true
+is_end_class class.Hash = true
+is_end_class class.Alone = true
+is_end_class class.Blank = true
+is_end_class class.Control = true
+is_end_class class.LineEnd = true
+is_end_class _ = false
 
 -- what an ASCII character begins, a dot before a digit or not
 abbrev pub opens : ByteClass → Bool → Opening
@@ -68,6 +87,8 @@ pub record IsOf (byte : ℕ) (k : ByteClass) : Type 0 where
   pub trivia : (is_trivia_class k || begins_no_trivia byte) ≡ true
   pub line : (is_line_class k || stays_on_line byte) ≡ true
   pub comment : (is_comment_class k || stays_in_comment byte) ≡ true
+  pub alone : (not (is_alone_class k) || is_lone byte) ≡ true
+  pub ends : (not (is_end_class k) || ends_sign byte) ≡ true
 
 -- such a character stands at the place
 pub record Stays (p : ℕ → Bool) (text : List ℕ) (i : ℕ) : Type 0 where

@@ -17,3 +17,4 @@ pub mod RegularExpressionParts
 pub mod Hashbangs
 pub mod Strings
 pub mod ByteClasses
+pub mod Words

@@ -1,5 +1,5 @@
 -- How a name is read, one code point after the other (ECMA-262, 12.7).
-use Rattle.std.specs.Prelude.{ℕ, ◌≡◌, ◌<◌, ◌≤◌, Bool, true, false, not, ◌&&◌, List, [], ◌∷◌, ◌++◌, Option, Some, None, IsCharBoundary, length, take, nat_lt, nat_le, ◌||◌, ◌==◌, ◌/◌, ◌%◌, ◌^◌, bit_and, slice_index_or, slice_index}
+use Rattle.std.specs.Prelude.{ℕ, ◌≡◌, ◌<◌, ◌≤◌, Bool, true, false, not, ◌&&◌, List, [], ◌∷◌, ◌++◌, Option, Some, None, IsCharBoundary, length, take, nat_lt, nat_le, ◌||◌, ◌==◌}
 use Rattle.std.specs.List.{list_all}
 use Rattle.js_base.specs.declared.kind.Kind.TheVariants.{Ident}
 use Rattle.js_base.specs.Escapes.{in_name, code_points, Stage, outside, backslash, unicode, due, braced, Step, go, before_all}
@@ -17,7 +17,6 @@ use Rattle.js_lex.specs.declared.name.Escape.{Escape}
 use Rattle.js_lex.specs.declared.name.Piece.{Piece}
 use Rattle.js_lex.specs.declared.name.Letters.{Letters}
 use Rattle.js_lex.specs.declared.name.Name.{Name}
-use Rattle.js_lex.specs.declared.name.TheConstants.{LENGTHS, SECONDS}
 use Rattle.js_lex.specs.Places.{Word}
 
 -- IdentifierStartChar, IdentifierPartChar (12.7)
@@ -138,14 +137,3 @@ pub record IsName (text : List ℕ) (i : ℕ) (n : Name) : Type 0 where
   pub ends : Refuses is_identifier_part (behind text n.end)
   pub kind : n.kind ≡ keyword_of points
   pub escaped : n.escaped ≡ has_backslash word
-
--- whether a word of the keyword table that begins with the byte has so many bytes, by the table of lengths
-abbrev pub is_length : ℕ → ℕ → Bool
-is_length first n = bit_and (slice_index_or LENGTHS first 0 / 2 ^ n) 1 == 1
-
--- and whether one may have such a second byte
-abbrev pub is_second : ℕ → ℕ → Bool
-is_second first second = bit_and (slice_index_or SECONDS first 0 / 2 ^ (second % 32)) 1 == 1
-
-abbrev pub may_be_keyword : List ℕ → Bool
-may_be_keyword w = nat_le 2 (length w) && (nat_le (length w) 11 && (is_length (slice_index w 0) (length w) && is_second (slice_index w 0) (slice_index w 1)))

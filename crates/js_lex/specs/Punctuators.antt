@@ -1,5 +1,5 @@
 -- Punctuators at a place.
-use Rattle.std.specs.Prelude.{ℕ, ◌≡◌, ◌<◌, ◌==◌, Bool, true, false, not, ◌&&◌, ◌||◌, List, [], ◌∷◌, ◌++◌, Option, Some, None, bytes_eq, codes, IsTrue, MatchOption}
+use Rattle.std.specs.Prelude.{ℕ, ◌≡◌, ◌+◌, ◌⊎◌, nat_lt, ◌==◌, Bool, true, false, not, ◌&&◌, ◌||◌, List, [], ◌∷◌, ◌++◌, Option, Some, None, bytes_eq, codes, IsTrue, MatchOption}
 use Rattle.std.specs.List.{find}
 use Rattle.js_base.specs.declared.kind.Kind.{Kind}
 use Rattle.js_base.specs.Texts.{text_of, punctuators}
@@ -35,13 +35,21 @@ abbrev pub is_free : List ℕ → Bool
 is_free [] = false
 is_free (c ∷ cs) = not (one_of (46 ∷ 47 ∷ []) c || (one_of (63 ∷ []) c && begins (one_of (46 ∷ [])) cs))
 
--- the punctuator that is written as the character, and no longer one begins with it
-pub record StandsAlone (c : ℕ) (k : Kind) : Type 0 where
-  pub kind : punctuator_of (c ∷ []) ≡ Some k
-  pub free : one_of (46 ∷ 47 ∷ 63 ∷ []) c ≡ false
-  pub ascii : c < 128
-  pub none : (d : ℕ) → punctuator_of (c ∷ d ∷ []) ≡ None
-  pub opens : (digit : Bool) → opening c digit ≡ a_punctuator
+-- a punctuator with which no longer one begins
+abbrev pub is_lone : ℕ → Bool
+is_lone = one_of (codes "(){}[];,:")
+
+-- no punctuator has the character behind its first one, nor does one ask for it there
+abbrev pub ends_sign : ℕ → Bool
+ends_sign c = nat_lt c 128 && (not (is_decimal c) && not (one_of (codes "=>.?+-*<&|/") c))
+
+-- such a character stands at the place, or none
+abbrev pub EndsSign : List ℕ → ℕ → Type 0
+EndsSign text i = (c : ℕ) (cs : List ℕ) → behind text i ≡ c ∷ cs → ends_sign c ≡ true
+
+-- a punctuator of the one character at the place i is the longest one there
+abbrev pub StandsAlone : List ℕ → ℕ → ℕ → Type 0
+StandsAlone text i c = (is_lone c ≡ true) ⊎ EndsSign text (i + 1)
 
 -- the longest punctuator at the place i
 pub record IsPunctuator (text : List ℕ) (i : ℕ) (p : Punctuator) : Type 0 where

@@ -9,9 +9,11 @@ use Rattle.js_lex.specs.declared.scan.Scanned.{Scanned}
 use Rattle.js_lex.specs.declared.scan.Fault.{Fault}
 use Rattle.js_lex.specs.declared.output.LexerOutput.{LexerOutput}
 use Rattle.js_lex.specs.Kept.{Grows, fault_at}
-use Rattle.js_lex.specs.Reading.{is_right_angle, kept_token, relexed, flag_faults}
-use Rattle.js_grammar.specs.Lexemes.{regular_expression}
-use Rattle.js_lex.specs.Scans.{IsStopped}
+use Rattle.js_lex.specs.Reading.{is_right_angle, kept_token, relexed, flag_faults, GivesNext}
+use Rattle.js_grammar.specs.Settings.{Goal}
+use Rattle.js_grammar.specs.Lexemes.{regular_expression, division}
+use Rattle.js_lex.specs.Scans.{IsScanned, IsStopped}
+use Rattle.js_lex.specs.TriviaPassed.{NoTrivia}
 use Rattle.js_lex.specs.RegularExpressionParts.{IsRegularExpression}
 use Rattle.js_lex.specs.declared.regular_expression.RegularExpression.{RegularExpression}
 
@@ -74,3 +76,14 @@ flag_told false span = []
 abbrev pub ScanEnds : List ℕ → Result Scanned Fault → Type 0
 ScanEnds text (Ok s) = IsCharBoundary text s.end
 ScanEnds text (Err f) = IsCharBoundary text f.start × IsCharBoundary text f.end
+
+-- the token that follows a place, of which nothing is kept where no tokens are
+abbrev pub GivesAtOnce : List ℕ → ℕ → Token → Type 0
+GivesAtOnce text s t = (goal : Goal) (kept : LexerOutput) → GivesNext division (record { text = text; goal = goal; keeps_tokens = false; place = s; kept = kept }) (record { text = text; goal = goal; keeps_tokens = false; place = t.span.end; kept = kept }) t
+
+-- the token tells the lexeme at the place i, where no trivia begins
+pub record TellsLexeme (text : List ℕ) (i : ℕ) (newline : Bool) (t : Token) : Type 0 where
+  pub scanned : Scanned
+  pub is : IsScanned division text i scanned
+  pub no_trivia : NoTrivia text i
+  pub token : t ≡ token_of (shown i scanned) i newline

@@ -97,3 +97,11 @@ pub record IsPassed (in_a_module : Bool) (text : List ℕ) (s a : ℕ) (old new 
   pub trivia : IsTrue (are_trivia (s == 0) pieces (behind text t.end))
   pub newline : t.has_newline ≡ has_line_terminator (joined pieces)
   pub grows : Grows old new (each_at (comment_at a) s pieces) (each_at irregular_at s pieces) [] (each_at (html_fault_at in_a_module) s pieces)
+
+-- no trivia begins at the place
+abbrev pub NoTrivia : List ℕ → ℕ → Type 0
+NoTrivia text i = (first : Bool) → PieceAt first text i None
+
+-- all trivia from the place s on, if none begins behind it; nothing is kept of it
+abbrev pub PassesBlanks : List ℕ → ℕ → Trivia → Type 0
+PassesBlanks text s t = NoTrivia text t.end → (in_a_module : Bool) (a : ℕ) (kept : LexerOutput) → IsPassed in_a_module text s a kept kept t

@@ -1,7 +1,7 @@
 //! What a byte of a text is to the scans, by one look into a table.
 
 ghost use Rattle.std.specs.Prelude.{◌≡◌};
-ghost use Rattle.js_lex.specs.ByteClasses.{IsOf, is_name_class, is_trivia_class, is_letter_class, is_line_class, is_comment_class};
+ghost use Rattle.js_lex.specs.ByteClasses.{IsOf, is_name_class, is_trivia_class, is_letter_class, is_line_class, is_comment_class, is_alone_class, is_end_class};
 
 use crate::byte_class::ByteClass::*;
 
@@ -26,8 +26,12 @@ pub(crate) enum ByteClass {
     Alone,
     /// Any other ASCII character.
     Sign,
-    /// What trivia may begin with: a space, a control character, `<` or `-`.
-    Trivia,
+    /// A space or a tab.
+    Blank,
+    /// Any other control character of ASCII.
+    Control,
+    /// `<` or `-`: an HTML-like comment may begin with it.
+    Angle,
     /// An asterisk.
     Star,
     /// A slash.
@@ -39,17 +43,18 @@ pub(crate) enum ByteClass {
 }
 
 static CLASSES: [ByteClass; 256] = [
-    Trivia, Trivia, Trivia, Trivia, Trivia, Trivia, Trivia, Trivia, Trivia, Trivia, LineEnd,
-    Trivia, Trivia, LineEnd, Trivia, Trivia, Trivia, Trivia, Trivia, Trivia, Trivia, Trivia,
-    Trivia, Trivia, Trivia, Trivia, Trivia, Trivia, Trivia, Trivia, Trivia, Trivia, Trivia, Sign,
-    Quote, Hash, Letter, Sign, Sign, Quote, Alone, Alone, Star, Sign, Alone, Trivia, Dot, Solidus,
-    Digit, Digit, Digit, Digit, Digit, Digit, Digit, Digit, Digit, Digit, Alone, Alone, Trivia,
-    Sign, Sign, Sign, Sign, Letter, Letter, Letter, Letter, Letter, Letter, Letter, Letter, Letter,
+    Control, Control, Control, Control, Control, Control, Control, Control, Control, Blank,
+    LineEnd, Control, Control, LineEnd, Control, Control, Control, Control, Control, Control,
+    Control, Control, Control, Control, Control, Control, Control, Control, Control, Control,
+    Control, Control, Blank, Sign, Quote, Hash, Letter, Sign, Sign, Quote, Alone, Alone, Star,
+    Sign, Alone, Angle, Dot, Solidus, Digit, Digit, Digit, Digit, Digit, Digit, Digit, Digit,
+    Digit, Digit, Alone, Alone, Angle, Sign, Sign, Sign, Sign, Letter, Letter, Letter, Letter,
     Letter, Letter, Letter, Letter, Letter, Letter, Letter, Letter, Letter, Letter, Letter, Letter,
-    Letter, Letter, Letter, Letter, Letter, Alone, Backslash, Alone, Sign, Letter, Backquote,
+    Letter, Letter, Letter, Letter, Letter, Letter, Letter, Letter, Letter, Letter, Alone,
+    Backslash, Alone, Sign, Letter, Backquote, Letter, Letter, Letter, Letter, Letter, Letter,
     Letter, Letter, Letter, Letter, Letter, Letter, Letter, Letter, Letter, Letter, Letter, Letter,
-    Letter, Letter, Letter, Letter, Letter, Letter, Letter, Letter, Letter, Letter, Letter, Letter,
-    Letter, Letter, Alone, Sign, Alone, Sign, Trivia, High, High, High, High, High, High, High,
+    Letter, Letter, Letter, Letter, Letter, Letter, Letter, Letter, Alone, Sign, Alone, Sign,
+    Control, High, High, High, High, High, High, High, High, High, High, High, High, High, High,
     High, High, High, High, High, High, High, High, High, High, High, High, High, High, High, High,
     High, High, High, High, High, High, High, High, High, High, High, High, High, High, High, High,
     High, High, High, High, High, High, High, High, High, High, High, High, High, High, High, High,
@@ -57,7 +62,7 @@ static CLASSES: [ByteClass; 256] = [
     High, High, High, High, High, High, High, High, High, High, High, High, High, High, High, High,
     High, High, High, High, High, High, High, High, High, High, High, High, High, High, High, High,
     High, High, High, High, High, High, High, High, High, High, High, High, High, High, High, High,
-    High, High, High, High, High, High, High, High, High,
+    High, High,
 ];
 
 /// What a byte is.
@@ -92,7 +97,39 @@ impl ByteClass {
     {
         matches!(
             self,
-            ByteClass::Trivia | ByteClass::Solidus | ByteClass::LineEnd | ByteClass::High
+            ByteClass::Blank
+                | ByteClass::Control
+                | ByteClass::Angle
+                | ByteClass::Solidus
+                | ByteClass::LineEnd
+                | ByteClass::High
+        )
+    }
+
+    /// Whether such a byte is a punctuator that begins no longer one.
+    #[inline]
+    pub(crate) fn is_alone(self) -> bool
+        ensures { result ≡ is_alone_class self }
+    {
+        matches!(self, ByteClass::Alone)
+    }
+
+    /// Whether each punctuator of one character ends before such a byte.
+    #[inline]
+    pub(crate) fn ends_sign(self) -> bool
+        ensures { result ≡ is_end_class self }
+    {
+        matches!(
+            self,
+            ByteClass::Letter
+                | ByteClass::Backslash
+                | ByteClass::Quote
+                | ByteClass::Backquote
+                | ByteClass::Hash
+                | ByteClass::Alone
+                | ByteClass::Blank
+                | ByteClass::Control
+                | ByteClass::LineEnd
         )
     }
 

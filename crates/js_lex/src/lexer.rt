@@ -24,7 +24,7 @@ use crate::hashbang::hashbang_at;
 use crate::mark::{Sort, is_marked};
 use crate::output::LexerOutput;
 use crate::plain_goal::plain_at;
-use crate::reading::{read_plain, token_of};
+use crate::reading::{copy_of, quick_at, read_plain, token_of};
 use crate::relexing::{read_regular_expression, settle_again};
 use crate::scan::Scan;
 use crate::template::template_tail_at;
@@ -86,24 +86,14 @@ impl<'a, C: LexerConfig> Lexer<'a, C> {
         ensures ok { IfOk result (λ t. GivesNext division self.old self.new t) }
         ensures err { OnErr result (self.new ≡ self.old) }
     {
-        let lengths = self.kept.lengths();
-        match read_plain(
-            self.source_text,
-            self.source_type,
-            self.config.tokens(),
-            self.place,
-            &mut self.kept,
-        ) {
-            Ok(token) => {
+        if !self.config.tokens() {
+            if let Some(token) = quick_at(self.source_text, self.place) {
                 self.place = token.end() as usize;
-                self.in_order = self.in_order && follow(&self.kept.comments, lengths.comments);
-                Ok(token)
-            }
-            Err(error) => {
-                self.kept.truncate(lengths);
-                Err(error)
+                return Ok(token);
             }
         }
+        let token = self.read_next()?;
+        Ok(copy_of(&token))
     }
 
     /// The first token: a hashbang comment where the text begins with `#!` (ECMA-262, section 12.5), else what
@@ -274,6 +264,32 @@ impl<'a, C: LexerConfig> Lexer<'a, C> {
         ensures lies { LieIn self.entry.text result }
     {
         self.kept
+    }
+
+    /// What `next_token` gives, whatever stands there.
+    #[inline(never)]
+    fn read_next(&mut self) -> Result<Token, NoMemory>
+        ensures ok { IfOk result (λ t. GivesNext division self.old self.new t) }
+        ensures err { OnErr result (self.new ≡ self.old) }
+    {
+        let lengths = self.kept.lengths();
+        match read_plain(
+            self.source_text,
+            self.source_type,
+            self.config.tokens(),
+            self.place,
+            &mut self.kept,
+        ) {
+            Ok(token) => {
+                self.place = token.end() as usize;
+                self.in_order = self.in_order && follow(&self.kept.comments, lengths.comments);
+                Ok(token)
+            }
+            Err(error) => {
+                self.kept.truncate(lengths);
+                Err(error)
+            }
+        }
     }
 
     /// The token of what a scan at the start of the token given last answers, in place of that one.

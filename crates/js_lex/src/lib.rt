@@ -24,6 +24,7 @@ mod scan;
 mod string;
 mod template;
 mod trivia;
+mod word;
 
 pub use checkpoint::LexerCheckpoint;
 pub use comment::{Comment, CommentKind, Comments};

@@ -18,7 +18,8 @@ use crate::class;
 use crate::part::parts_end;
 use crate::place::{byte_at, char_at};
 use crate::scan::{Fault, Scan, Scanned};
-use js_base::{DiagnosticKind, Kind, keyword_kind};
+use crate::word::kind_of_word;
+use js_base::{DiagnosticKind, Kind};
 
 /// Where a code point stands in a name.
 #[derive(Debug, Clone, Copy)]
@@ -83,32 +84,6 @@ const NO_LETTERS: Letters = Letters {
     len: 0,
     is_other: false,
 };
-
-/// The lengths of the words of the keyword table that begin with a byte, each as a bit.
-static LENGTHS: [u16; 256] = [
-    0, 0, 0, 0, 0, 0, 0, 0, 0, 0, 0, 0, 0, 0, 0, 0, 0, 0, 0, 0, 0, 0, 0, 0, 0, 0, 0, 0, 0, 0, 0, 0,
-    0, 0, 0, 0, 0, 0, 0, 0, 0, 0, 0, 0, 0, 0, 0, 0, 0, 0, 0, 0, 0, 0, 0, 0, 0, 0, 0, 0, 0, 0, 0, 0,
-    0, 0, 0, 0, 0, 0, 0, 0, 0, 0, 0, 0, 0, 0, 0, 0, 0, 0, 0, 0, 0, 0, 0, 0, 0, 0, 0, 0, 0, 0, 0, 0,
-    0, 356, 32, 2352, 484, 208, 440, 8, 0, 1604, 0, 0, 8, 16, 24, 4, 704, 0, 64, 616, 120, 32, 24,
-    48, 0, 32, 0, 0, 0, 0, 0, 0, 0, 0, 0, 0, 0, 0, 0, 0, 0, 0, 0, 0, 0, 0, 0, 0, 0, 0, 0, 0, 0, 0,
-    0, 0, 0, 0, 0, 0, 0, 0, 0, 0, 0, 0, 0, 0, 0, 0, 0, 0, 0, 0, 0, 0, 0, 0, 0, 0, 0, 0, 0, 0, 0, 0,
-    0, 0, 0, 0, 0, 0, 0, 0, 0, 0, 0, 0, 0, 0, 0, 0, 0, 0, 0, 0, 0, 0, 0, 0, 0, 0, 0, 0, 0, 0, 0, 0,
-    0, 0, 0, 0, 0, 0, 0, 0, 0, 0, 0, 0, 0, 0, 0, 0, 0, 0, 0, 0, 0, 0, 0, 0, 0, 0, 0, 0, 0, 0, 0, 0,
-    0, 0, 0, 0, 0, 0, 0, 0, 0, 0,
-];
-
-/// The second bytes of the words of the keyword table that begin with a byte, each modulo 32 as a bit.
-static SECONDS: [u32; 256] = [
-    0, 0, 0, 0, 0, 0, 0, 0, 0, 0, 0, 0, 0, 0, 0, 0, 0, 0, 0, 0, 0, 0, 0, 0, 0, 0, 0, 0, 0, 0, 0, 0,
-    0, 0, 0, 0, 0, 0, 0, 0, 0, 0, 0, 0, 0, 0, 0, 0, 0, 0, 0, 0, 0, 0, 0, 0, 0, 0, 0, 0, 0, 0, 0, 0,
-    0, 0, 0, 0, 0, 0, 0, 0, 0, 0, 0, 0, 0, 0, 0, 0, 0, 0, 0, 0, 0, 0, 0, 0, 0, 0, 0, 0, 0, 0, 0, 0,
-    0, 8912904, 262144, 36866, 32800, 16797696, 2392578, 32, 0, 24640, 0, 0, 32, 32, 2097184, 64,
-    2359298, 0, 32, 11567138, 33816834, 524288, 32770, 768, 0, 512, 0, 0, 0, 0, 0, 0, 0, 0, 0, 0,
-    0, 0, 0, 0, 0, 0, 0, 0, 0, 0, 0, 0, 0, 0, 0, 0, 0, 0, 0, 0, 0, 0, 0, 0, 0, 0, 0, 0, 0, 0, 0, 0,
-    0, 0, 0, 0, 0, 0, 0, 0, 0, 0, 0, 0, 0, 0, 0, 0, 0, 0, 0, 0, 0, 0, 0, 0, 0, 0, 0, 0, 0, 0, 0, 0,
-    0, 0, 0, 0, 0, 0, 0, 0, 0, 0, 0, 0, 0, 0, 0, 0, 0, 0, 0, 0, 0, 0, 0, 0, 0, 0, 0, 0, 0, 0, 0, 0,
-    0, 0, 0, 0, 0, 0, 0, 0, 0, 0, 0, 0, 0, 0, 0, 0, 0, 0, 0, 0, 0, 0, 0, 0, 0, 0, 0, 0,
-];
 
 /// A name that stands at a place: the kind of its word, the place behind it, and whether an escape sequence is in it.
 #[derive(Debug, Clone, Copy)]
@@ -399,46 +374,6 @@ fn kind_of_letters(letters: Letters) -> Kind
     } else {
         kind_of_word(&letters.letters[..letters.len])
     }
-}
-
-/// The kind of a word. Most words that are none of the keyword table are known so by their length and first bytes.
-#[inline(always)]
-fn kind_of_word(word: &[u8]) -> Kind
-    ensures { result ≡ keyword_of word.now }
-{
-    if may_be_keyword(word) {
-        keyword_kind(word)
-    } else {
-        Kind::Ident
-    }
-}
-
-/// Whether a word of the keyword table may have as many bytes and such first ones.
-#[inline(always)]
-fn may_be_keyword(word: &[u8]) -> bool
-    ensures { result ≡ names.may_be_keyword word.now }
-{
-    word.len() >= 2
-        && word.len() <= 11
-        && is_length(word[0], word.len())
-        && is_second(word[0], word[1])
-}
-
-/// Whether a word of the keyword table that begins with a byte has so many bytes.
-#[inline(always)]
-fn is_length(first: u8, len: usize) -> bool
-    requires { len ≤ 11 }
-    ensures { result ≡ names.is_length first len }
-{
-    (LENGTHS[first as usize] >> len) & 1 == 1
-}
-
-/// Whether a word of the keyword table that begins with a byte may have such a second one.
-#[inline(always)]
-fn is_second(first: u8, second: u8) -> bool
-    ensures { result ≡ names.is_second first second }
-{
-    (SECONDS[first as usize] >> (second % 32)) & 1 == 1
 }
 
 /// The character or the escape sequence at a place, if its code point may stand there in a name; else, where a

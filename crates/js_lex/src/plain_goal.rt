@@ -1,9 +1,11 @@
 //! The plain lexical goal: InputElementDiv (ECMA-262, chapter 12).
 
-ghost use Rattle.std.specs.Prelude.{◌≡◌, ◌<◌, ◌≤◌, Bool, IsTrue, IfSome, IsCharBoundary};
+ghost use Rattle.std.specs.Prelude.{◌≡◌, ◌<◌, ◌≤◌, Bool, IsTrue, IfSome, IsCharBoundary, codes};
 ghost use Rattle.js_grammar.specs.Longest.{none_begins};
 ghost use Rattle.js_grammar.specs.Trivia.{is_trivia_piece};
+ghost use Rattle.js_base.specs.Characters.{one_of};
 ghost use Rattle.js_grammar.specs.Lexemes.{division};
+ghost use Rattle.js_lex.specs.TriviaPassed.{NoTrivia};
 ghost use Rattle.js_grammar.specs.Lexemes as lexemes;
 ghost use Rattle.js_grammar.specs.LexicalFaults.{behind};
 ghost use Rattle.js_lex.specs.Scans.{Scans, IsScanned};
@@ -15,7 +17,7 @@ use crate::class::is_identifier_start;
 use crate::name::{ascii_name_at, name_at, private_name_at};
 use crate::number::number_at;
 use crate::place::{byte_at, digit_at};
-use crate::punctuator::{alone_at, punctuator_at};
+use crate::punctuator::{lone_at, punctuator_at};
 use crate::scan::{Scan, Scanned};
 use crate::string::string_at;
 use crate::template::template_at;
@@ -32,18 +34,30 @@ enum Opening {
     Punctuator,
 }
 
-/// The lexeme of the plain goal that stands at a place, where its first byte tells that it is one of the frequent ones:
-/// a name of ASCII characters, or a punctuator that begins no longer one.
+/// The lexeme of the plain goal that stands at a place, where its first bytes tell that it is one of the frequent ones:
+/// a name of ASCII characters, or a punctuator of one character with which neither a comment nor a longer one begins.
 #[inline(always)]
 pub(crate) fn frequent_at(text: &str, at: usize) -> Option<Scanned>
     requires { IsCharBoundary text.now at }
-    ensures { IfSome result (λ s. IsScanned division text.now at s) }
+    ensures lexeme { IfSome result (λ s. IsScanned division text.now at s) }
+    ensures no_trivia { IfSome result (λ s. NoTrivia text.now at) }
 {
-    match class_of(byte_at(text, at)?) {
-        ByteClass::Letter => ascii_name_at(text, at),
-        ByteClass::Alone => alone_at(text, at),
-        _ => None,
+    let byte = byte_at(text, at)?;
+    if class_of(byte).is_letter() {
+        ascii_name_at(text, at)
+    } else if may_begin_comment(byte) {
+        None
+    } else {
+        lone_at(text, at, byte)
     }
+}
+
+/// Whether a comment may begin with a byte.
+#[inline(always)]
+fn may_begin_comment(byte: u8) -> bool
+    ensures { result ≡ one_of (codes "/<-") byte }
+{
+    byte == b'/' || byte == b'<' || byte == b'-'
 }
 
 /// The lexeme of the plain goal that stands at a place, where no trivia does. Of the punctuators that begin with `>` it
@@ -108,7 +122,9 @@ fn ascii_opening(byte: u8, before_digit: bool) -> Opening
         ByteClass::Dot
         | ByteClass::Alone
         | ByteClass::Sign
-        | ByteClass::Trivia
+        | ByteClass::Blank
+        | ByteClass::Control
+        | ByteClass::Angle
         | ByteClass::Star
         | ByteClass::Solidus
         | ByteClass::LineEnd

@@ -2,16 +2,17 @@
 
 ghost use Rattle.std.specs.Prelude.{◌≡◌, ◌+◌, true, false, [], ◌∷◌, Some, IfSome, IsCharBoundary, IsTrue, codes};
 ghost use Rattle.js_base.specs.Characters.{one_of};
-ghost use Rattle.js_base.specs.declared.kind.Kind.TheVariants.{Undetermined};
 ghost use Rattle.js_grammar.specs.CoreTexts.{starts};
 ghost use Rattle.js_grammar.specs.LexicalFaults.{behind};
 ghost use Rattle.js_grammar.specs.Lexemes.{division};
 ghost use Rattle.js_lex.specs.Places.{Word, Peeks};
-ghost use Rattle.js_lex.specs.Punctuators.{punctuator_of, OpensPunctuator, BeginsNone, begins_no_comment, opens_no_comment, is_free, IsPunctuator, ReadsPunctuator, StandsAlone};
+ghost use Rattle.js_lex.specs.Punctuators.{punctuator_of, OpensPunctuator, BeginsNone, begins_no_comment, opens_no_comment, is_free, IsPunctuator, ReadsPunctuator, StandsAlone, EndsSign};
 ghost use Rattle.js_lex.specs.Scans.{Scans, IsScanned, IsStopped};
 
+use crate::byte_class::class_of;
 use crate::place::{byte_at, char_at, digit_at, is_at};
 use crate::scan::{Fault, Scan, Scanned};
+use js_base::Kind::*;
 use js_base::{DiagnosticKind, Kind};
 
 /// A punctuator at a place.
@@ -47,21 +48,44 @@ pub(crate) fn punctuator_at(text: &str, at: usize) -> Scan
     }
 }
 
-/// The punctuator at a place where it begins no longer one; none where that is not known at once.
+/// The punctuator of one character at a place where no longer one begins; none where that is not known at once.
 #[inline(always)]
-pub(crate) fn alone_at(text: &str, at: usize) -> Option<Scanned>
-    requires boundary { IsCharBoundary text.now at }
-    ensures { IfSome result (λ s. IsScanned division text.now at s) }
+pub(crate) fn lone_at(text: &str, at: usize, byte: u8) -> Option<Scanned>
+    requires { Peeks text.now at byte }
+    ensures lexeme { IfSome result (λ s. IsScanned division text.now at s) }
+    ensures written { IfSome result (λ s. punctuator_of (byte ∷ []) ≡ Some s.kind) }
 {
-    let byte = byte_at(text, at)?;
-    match alone(byte) {
-        Kind::Undetermined => None,
-        kind => Some(Scanned {
+    let kind = single(byte)?;
+    if stands_alone(text, at, byte) {
+        Some(Scanned {
             kind,
             end: at + 1,
             escaped: false,
             has_separator: false,
-        }),
+        })
+    } else {
+        None
+    }
+}
+
+/// Whether it is known at once that a punctuator of one character is the longest one at a place.
+#[inline(always)]
+fn stands_alone(text: &str, at: usize, byte: u8) -> bool
+    requires { Word text.now at (at + 1) (byte ∷ []) }
+    ensures { IsTrue result → StandsAlone text.now at byte }
+{
+    class_of(byte).is_alone() || ends_sign_at(text, at + 1)
+}
+
+/// Whether it is known at once that a punctuator of one character ends at a place behind it.
+#[inline(always)]
+fn ends_sign_at(text: &str, at: usize) -> bool
+    requires { IsCharBoundary text.now at }
+    ensures { IsTrue result → EndsSign text.now at }
+{
+    match byte_at(text, at) {
+        Some(byte) => class_of(byte).ends_sign(),
+        None => true,
     }
 }
 
@@ -243,59 +267,272 @@ fn longer_than_three(
     }
 }
 
-/// The punctuator that is written as one character, where no other one begins with it; else `Undetermined`.
-#[inline]
-#[tactic(auto, unfolding(js_base::specs::Texts::punctuators))]
-fn alone(byte: u8) -> Kind
-    ensures { (result ≡ Undetermined → ⊥) → StandsAlone byte result }
-{
-    match byte {
-        b'(' => Kind::LParen,
-        b')' => Kind::RParen,
-        b'{' => Kind::LCurly,
-        b'}' => Kind::RCurly,
-        b'[' => Kind::LBrack,
-        b']' => Kind::RBrack,
-        b';' => Kind::Semicolon,
-        b',' => Kind::Comma,
-        b':' => Kind::Colon,
-        _ => Kind::Undetermined,
-    }
-}
+/// The punctuators that are written as one character.
+static SINGLES: [Option<Kind>; 256] = [
+    None,
+    None,
+    None,
+    None,
+    None,
+    None,
+    None,
+    None,
+    None,
+    None,
+    None,
+    None,
+    None,
+    None,
+    None,
+    None,
+    None,
+    None,
+    None,
+    None,
+    None,
+    None,
+    None,
+    None,
+    None,
+    None,
+    None,
+    None,
+    None,
+    None,
+    None,
+    None,
+    None,
+    Some(Bang),
+    None,
+    None,
+    None,
+    Some(Percent),
+    Some(Amp),
+    None,
+    Some(LParen),
+    Some(RParen),
+    Some(Star),
+    Some(Plus),
+    Some(Comma),
+    Some(Minus),
+    Some(Dot),
+    Some(Slash),
+    None,
+    None,
+    None,
+    None,
+    None,
+    None,
+    None,
+    None,
+    None,
+    None,
+    Some(Colon),
+    Some(Semicolon),
+    Some(LAngle),
+    Some(Eq),
+    Some(RAngle),
+    Some(Question),
+    Some(At),
+    None,
+    None,
+    None,
+    None,
+    None,
+    None,
+    None,
+    None,
+    None,
+    None,
+    None,
+    None,
+    None,
+    None,
+    None,
+    None,
+    None,
+    None,
+    None,
+    None,
+    None,
+    None,
+    None,
+    None,
+    None,
+    None,
+    Some(LBrack),
+    None,
+    Some(RBrack),
+    Some(Caret),
+    None,
+    None,
+    None,
+    None,
+    None,
+    None,
+    None,
+    None,
+    None,
+    None,
+    None,
+    None,
+    None,
+    None,
+    None,
+    None,
+    None,
+    None,
+    None,
+    None,
+    None,
+    None,
+    None,
+    None,
+    None,
+    None,
+    None,
+    None,
+    Some(LCurly),
+    Some(Pipe),
+    Some(RCurly),
+    Some(Tilde),
+    None,
+    None,
+    None,
+    None,
+    None,
+    None,
+    None,
+    None,
+    None,
+    None,
+    None,
+    None,
+    None,
+    None,
+    None,
+    None,
+    None,
+    None,
+    None,
+    None,
+    None,
+    None,
+    None,
+    None,
+    None,
+    None,
+    None,
+    None,
+    None,
+    None,
+    None,
+    None,
+    None,
+    None,
+    None,
+    None,
+    None,
+    None,
+    None,
+    None,
+    None,
+    None,
+    None,
+    None,
+    None,
+    None,
+    None,
+    None,
+    None,
+    None,
+    None,
+    None,
+    None,
+    None,
+    None,
+    None,
+    None,
+    None,
+    None,
+    None,
+    None,
+    None,
+    None,
+    None,
+    None,
+    None,
+    None,
+    None,
+    None,
+    None,
+    None,
+    None,
+    None,
+    None,
+    None,
+    None,
+    None,
+    None,
+    None,
+    None,
+    None,
+    None,
+    None,
+    None,
+    None,
+    None,
+    None,
+    None,
+    None,
+    None,
+    None,
+    None,
+    None,
+    None,
+    None,
+    None,
+    None,
+    None,
+    None,
+    None,
+    None,
+    None,
+    None,
+    None,
+    None,
+    None,
+    None,
+    None,
+    None,
+    None,
+    None,
+    None,
+    None,
+    None,
+    None,
+    None,
+    None,
+    None,
+    None,
+    None,
+    None,
+    None,
+    None,
+    None,
+    None,
+    None,
+    None,
+    None,
+    None,
+];
 
 /// The punctuator that is written as one character.
-#[tactic(auto, unfolding(js_base::specs::Texts::punctuators))]
+#[inline(always)]
 fn single(byte: u8) -> Option<Kind>
     ensures { result ≡ punctuator_of (byte ∷ []) }
 {
-    match byte {
-        b'(' => Some(Kind::LParen),
-        b')' => Some(Kind::RParen),
-        b'{' => Some(Kind::LCurly),
-        b'}' => Some(Kind::RCurly),
-        b'[' => Some(Kind::LBrack),
-        b']' => Some(Kind::RBrack),
-        b';' => Some(Kind::Semicolon),
-        b',' => Some(Kind::Comma),
-        b':' => Some(Kind::Colon),
-        b'.' => Some(Kind::Dot),
-        b'@' => Some(Kind::At),
-        b'~' => Some(Kind::Tilde),
-        b'!' => Some(Kind::Bang),
-        b'?' => Some(Kind::Question),
-        b'+' => Some(Kind::Plus),
-        b'-' => Some(Kind::Minus),
-        b'*' => Some(Kind::Star),
-        b'/' => Some(Kind::Slash),
-        b'%' => Some(Kind::Percent),
-        b'=' => Some(Kind::Eq),
-        b'<' => Some(Kind::LAngle),
-        b'>' => Some(Kind::RAngle),
-        b'&' => Some(Kind::Amp),
-        b'|' => Some(Kind::Pipe),
-        b'^' => Some(Kind::Caret),
-        _ => None,
-    }
+    SINGLES[byte as usize]
 }
 
 /// The punctuator that is written as two characters.

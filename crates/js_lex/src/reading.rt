@@ -1,6 +1,6 @@
 //! How a token is made of what a scan answers, and what is kept of it.
 
-ghost use Rattle.std.specs.Prelude.{Ok, ◌≡◌, ◌≤◌, ◌<◌, ◌+◌, [], ◌∷◌, true, length, IfOk, OnOk, OnErr, IsCharBoundary};
+ghost use Rattle.std.specs.Prelude.{Ok, ◌≡◌, ◌≤◌, ◌<◌, ◌+◌, [], ◌∷◌, true, length, IfOk, IfSome, OnOk, OnErr, IsCharBoundary};
 ghost use Rattle.js_grammar.specs.Lexemes.{division};
 ghost use Rattle.js_lex.specs.Scans.{Scans};
 ghost use Rattle.js_lex.specs.Kept.{Grows, Extends};
@@ -8,12 +8,12 @@ ghost use Rattle.js_lex.specs.States.{goal_of};
 ghost use Rattle.js_lex.specs.Reading as reading;
 ghost use Rattle.js_lex.specs.Reading.{GivesNext, kept_token};
 ghost use Rattle.js_lex.specs.Settling as settling;
-ghost use Rattle.js_lex.specs.Settling.{Fits, Settled};
+ghost use Rattle.js_lex.specs.Settling.{Fits, Settled, GivesAtOnce, TellsLexeme};
 
 use crate::output::LexerOutput;
 use crate::plain_goal::{frequent_at, plain_at};
 use crate::scan::{Fault, Scan, Scanned};
-use crate::trivia::pass_trivia;
+use crate::trivia::{begins_no_trivia, pass_blanks, pass_trivia};
 use js_base::{Kind, MAX_LEN, NoMemory, SourceType, Span, Token};
 
 /// The next token of the plain goal from a place on; of a punctuator that begins with `>` this sign alone. What is
@@ -38,6 +38,65 @@ pub(crate) fn read_plain(
     }
     let scan = first_angle(trivia.end, plain_at(text, trivia.end));
     settle(kept, keeps_tokens, trivia.end, trivia.has_newline, scan)
+}
+
+/// The next token of the plain goal from a place on, where a lexeme stands behind spaces, tabs, CR and LF alone. Nothing
+/// is kept, as where no tokens are.
+#[inline(always)]
+pub(crate) fn quick_at(text: &str, at: usize) -> Option<Token>
+    requires boundary { IsCharBoundary text.now at }
+    requires short { length text.now ≤ MAX_LEN }
+    ensures gives { IfSome result (λ t. GivesAtOnce text.now at t) }
+    ensures boundary { IfSome result (λ t. IsCharBoundary text.now t.span.end) }
+{
+    let blanks = pass_blanks(text, at);
+    quick_behind(text, blanks.end, blanks.has_newline)
+}
+
+/// The token of the lexeme of the plain goal at a place; none where that is not known at once.
+#[inline(always)]
+fn quick_behind(text: &str, at: usize, is_on_new_line: bool) -> Option<Token>
+    requires boundary { IsCharBoundary text.now at }
+    requires short { length text.now ≤ MAX_LEN }
+    ensures { IfSome result (λ t. TellsLexeme text.now at is_on_new_line t) }
+{
+    match frequent_at(text, at) {
+        Some(scanned) => {
+            let shown = first_sign(at, scanned);
+            Some(token_of(shown, at, is_on_new_line))
+        }
+        None => other_behind(text, at, is_on_new_line),
+    }
+}
+
+/// The token of the lexeme of the plain goal at a place; none where trivia may stand, or no lexeme does.
+#[inline(never)]
+fn other_behind(text: &str, at: usize, is_on_new_line: bool) -> Option<Token>
+    requires boundary { IsCharBoundary text.now at }
+    requires short { length text.now ≤ MAX_LEN }
+    ensures { IfSome result (λ t. TellsLexeme text.now at is_on_new_line t) }
+{
+    if !begins_no_trivia(text, at) {
+        return None;
+    }
+    match first_angle(at, plain_at(text, at)) {
+        Ok(shown) => Some(token_of(shown, at, is_on_new_line)),
+        Err(_) => None,
+    }
+}
+
+/// A token, field by field, so that the one that a call answers in memory slows nothing else.
+#[inline(always)]
+pub(crate) fn copy_of(token: &Token) -> Token
+    ensures { result ≡ token.now }
+{
+    Token::new(
+        token.kind(),
+        token.span(),
+        token.is_on_new_line(),
+        token.escaped(),
+        token.has_separator(),
+    )
 }
 
 /// Of a punctuator that begins with `>`, the sign alone; else what was scanned.

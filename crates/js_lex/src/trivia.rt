@@ -7,7 +7,7 @@ ghost use Rattle.js_lex.specs.ByteClasses as classes;
 ghost use Rattle.js_lex.specs.ByteClasses.{Stays};
 ghost use Rattle.js_lex.specs.Places.{Word};
 ghost use Rattle.js_lex.specs.Kept.{Grows, Extends};
-ghost use Rattle.js_lex.specs.TriviaPassed.{PieceAt, BlankAt, PlainBlankAt, BlockEnd, IsLineEnd, block_kind, told, comment_told, blank_told, fault_told, IsPassed};
+ghost use Rattle.js_lex.specs.TriviaPassed.{PieceAt, BlankAt, PlainBlankAt, BlockEnd, IsLineEnd, block_kind, told, comment_told, blank_told, fault_told, IsPassed, PassesBlanks};
 ghost use Rattle.js_lex.specs.declared.comment.CommentKind.TheVariants.{Line};
 
 use crate::byte_class::class_of;
@@ -60,6 +60,29 @@ pub(crate) fn pass_trivia(
     let trivia = pass_pieces(text, is_module, at, kept)?;
     attach(&mut kept.comments, first_comment, trivia.end as u32);
     Ok(trivia)
+}
+
+/// Passes spaces, tabs, CR and LF from a place on.
+#[inline(always)]
+pub(crate) fn pass_blanks(text: &str, at: usize) -> Trivia
+    requires boundary { IsCharBoundary text.now at }
+    requires short { length text.now ≤ MAX_LEN }
+    ensures boundary { IsCharBoundary text.now result.end }
+    ensures passes { PassesBlanks text.now at result }
+{
+    let mut end = at;
+    let mut has_newline = false;
+    'blanks: loop {
+        if is_space_at(text, end) {
+            end += 1;
+            continue;
+        }
+        let Some(is_newline) = plain_blank_at(text, end) else {
+            return Trivia { end, has_newline };
+        };
+        has_newline |= is_newline;
+        end += 1;
+    }
 }
 
 /// Passes all trivia from a place on; the comments are attached to nothing yet.
@@ -140,7 +163,7 @@ fn ends_line(byte: u8) -> bool
 
 /// Whether it is known at once that no trivia begins at a place.
 #[inline]
-fn begins_no_trivia(text: &str, at: usize) -> bool
+pub(crate) fn begins_no_trivia(text: &str, at: usize) -> bool
     requires { IsCharBoundary text.now at }
     ensures { IsTrue result → (first : Bool) → PieceAt first text.now at None }
 {

@@ -1,6 +1,9 @@
 //! One pass of the lexer over a text.
 
-ghost use Rattle.std.specs.Prelude.{◌≤◌, length};
+ghost use Rattle.std.specs.Prelude.{◌≡◌, ◌≤◌, false, length};
+ghost use Rattle.js_base.specs.Kinds.{same_kind};
+ghost use Rattle.js_base.specs.declared.kind.Kind.TheVariants as kinds;
+ghost use Rattle.js_lex.specs.Reading.{WasGiven};
 
 use js_base::{Kind, MAX_LEN, NoMemory, SourceType, Token};
 use js_lex::{Lexer, NoTokensLexerConfig};
@@ -58,13 +61,20 @@ pub(crate) fn lex(alloc: Global, text: &str) -> Result<Pass, NoMemory>
     let mut bytes = 0u64;
     let mut before = Kind::Semicolon;
     for _ in 0..text.len() {
-        let token = next(&mut lexer, &mut braces, before)?;
-        before = token.kind;
-        if matches!(before, Kind::Eof) {
+        let token = lexer.next_token()?;
+        let kind = token.kind();
+        if kind == Kind::Eof {
             break;
         }
         tokens = tokens.saturating_add(1);
-        bytes = bytes.saturating_add(u64::from(token.len));
+        if is_read_again(kind) {
+            let again = read_again(&mut lexer, &mut braces, before, token)?;
+            bytes = bytes.saturating_add(u64::from(again.len));
+            before = again.kind;
+        } else {
+            bytes = bytes.saturating_add(u64::from(tell(&token).len));
+            before = kind;
+        }
     }
     let output = lexer.finish();
     Ok(Pass {
@@ -90,14 +100,17 @@ fn tell(token: &Token) -> Told {
     }
 }
 
-/// The next token: a slash behind no operand read as a regular expression, and a brace that ends a substitution as a
-/// template part. Braces are counted, and substitutions opened and closed.
-fn next(
+/// What a slash, a brace or a template part is that was given last. Braces are counted, and substitutions opened and
+/// closed.
+#[inline(never)]
+fn read_again(
     lexer: &mut Lexer<'_, NoTokensLexerConfig>,
     braces: &mut Braces,
     before: Kind,
-) -> Result<Told, NoMemory> {
-    let token = lexer.next_token()?;
+    token: Token,
+) -> Result<Told, NoMemory>
+    requires { same_kind kinds.Undetermined token.kind ≡ false → WasGiven lexer.old token }
+{
     match token.kind() {
         Kind::Slash | Kind::SlashEq if !ends_operand(before) => match lexer.re_lex_regex(token) {
             Ok((again, _)) => Ok(tell(&again)),
@@ -124,6 +137,15 @@ fn next(
         }
         _ => Ok(tell(&token)),
     }
+}
+
+/// Whether a token is a slash, a brace or a template part, which may be read again or counts.
+fn is_read_again(kind: Kind) -> bool {
+    kind == Kind::Slash
+        || kind == Kind::SlashEq
+        || kind == Kind::RCurly
+        || kind == Kind::LCurly
+        || kind == Kind::TemplateHead
 }
 
 /// Closes a substitution where a token ends its template.

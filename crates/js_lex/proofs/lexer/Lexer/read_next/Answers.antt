@@ -6,8 +6,8 @@ use Rattle.js_lex.specs.Comments.{Follow}
 use Rattle.js_lex.specs.States.{IsReady}
 use Rattle.js_lex.proofs.Lying.{lie_next, cut_back}
 use Rattle.js_lex.proofs.Ordered.{order_next}
-use Rattle.js_lex.proofs.lexer.Lexer.next_token.Goals.{then-self, else-self}
-use Rattle.js_lex.proofs.lexer.Lexer.next_token.Goals as goal
+use Rattle.js_lex.proofs.lexer.Lexer.read_next.Goals.{then-self, else-self}
+use Rattle.js_lex.proofs.lexer.Lexer.read_next.Goals as goal
 
 pub invariant_of-self : goal.invariant_of-self
 invariant_of-self g c = record {
