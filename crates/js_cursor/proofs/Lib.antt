@@ -1,9 +1,9 @@
-mod Moving
-mod Keeping
-mod KindTests
-mod Standing
-mod Rereading
-mod Starting
-mod Firsts
-mod Returning
-mod Later
+pub mod Moving
+pub mod Keeping
+pub mod KindTests
+pub mod Standing
+pub mod Rereading
+pub mod Starting
+pub mod Firsts
+pub mod Returning
+pub mod Later
