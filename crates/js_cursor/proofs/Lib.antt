@@ -1,12 +1,12 @@
-mod Recording
-mod Moving
-mod Keeping
-mod KindTests
-mod Standing
-mod Rereading
-mod Starting
-mod Firsts
-mod Returning
-mod Later
-mod Plains
-mod Partnering
+pub mod Recording
+pub mod Moving
+pub mod Keeping
+pub mod KindTests
+pub mod Standing
+pub mod Rereading
+pub mod Starting
+pub mod Firsts
+pub mod Returning
+pub mod Later
+pub mod Plains
+pub mod Partnering

@@ -199,7 +199,7 @@ is_whole_of : {p : Parser} {g : LexicalGoal} → GivesLexeme g (λ z. z) p.text 
 is_whole_of x = record { lexeme = x.lexeme; stood = x.stands.lex; tells = x.tells }
 
 completed : {p : Parser} {l : State} {t : Token} → IsAt p → p.cut ≡ true → GivesAgain division p.lexer l p.token t [] [] → Told p (record p { lexer = l; token = t; cut = false })
-completed {p} {l} {t} a e g = record { completed = inr (e, record { going_on = []; faults = []; again = g; place = refl; stays = stays g.same; at = at }); at = at; whole = λ n. is_whole_of given.1 }
+completed {p} {l} {t} a e g = record { completed = inr (e, record { going_on = []; faults = []; again = g; place = refl; stays = stays g.same; at = at }, refl); at = at; whole = λ n. is_whole_of given.1 }
   where
     w : WasGiven p.lexer p.token
     w = sign_given a e

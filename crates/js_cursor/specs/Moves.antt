@@ -75,7 +75,7 @@ pub record Peeks (p : Parser) (t : Token) : Type 0 where
 
 -- a sign that begins with `>` is told whole now
 abbrev pub Completed : Parser → Parser → Type 0
-Completed old new = ((old.cut ≡ false) × (new ≡ old)) ⊎ ((old.cut ≡ true) × ReadAgain division old new)
+Completed old new = ((old.cut ≡ false) × (new ≡ old)) ⊎ ((old.cut ≡ true) × ReadAgain division old new × (new.cut ≡ false))
 
 -- It is, and stands as it did.
 pub record Told (old new : Parser) : Type 0 where

@@ -1,0 +1,11 @@
+pub mod Dead
+pub mod Here
+pub mod Moving
+pub mod Verdicts
+pub mod Paths
+pub mod Tight
+pub mod MadeNodes
+pub mod Operations
+pub mod Phrases
+pub mod Operands
+pub mod Giving

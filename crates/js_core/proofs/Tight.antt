@@ -1,0 +1,172 @@
+-- How tight the lexemes that are read bind what stands before them: as their power as operators says, or hardly at all.
+use Rattle.std.proofs.Common.{ℕ, zero, suc, ◌≡◌, ◌≤◌, ◌<◌, ◌+◌, Bool, true, false, not, cond, ◌&&◌, ◌||◌, IsTrue, List, [], ◌∷◌, refl, sym, ap, subst, arith, ◌∙◌, nat_lt}
+use Rattle.std.proofs.lemmas.Bool.{false≢true, and_parts, and_from, or_left, or_right, ltb-true, lt-ltb, eqb-true}
+use Rattle.std.specs.Prelude.{nat_eq}
+use Rattle.js_base.specs.declared.kind.Kind.{Kind}
+use Rattle.js_base.specs.declared.kind.Kind.TheVariants.{Plus, Minus, Star, Percent, Eq2, Eq3, Neq, Neq2, LAngle, LtEq, RAngle, GtEq, ShiftLeft, ShiftRight, ShiftRight3, Amp, Amp2, Pipe, Pipe2, Caret, In, Instanceof}
+use Rattle.js_base.specs.Kinds.{one_of_kinds}
+use Rattle.js_grammar.specs.Grammar.{Lexeme, Look, seen}
+use Rattle.js_grammar.specs.Insertion.{Row, after_expression, after_postfix, after_body, after_yield, after_declarator, after_word}
+use Rattle.js_grammar.specs.Follow.{tight, larger, looser}
+use Rattle.js_grammar.specs.Levels.{operators_of, node_at, binds as binding}
+use Rattle.js_grammar.specs.Trees.{binary_expression, logical_expression}
+use Rattle.js_grammar.proofs.RightEdges.{of_operand}
+use Rattle.js_grammar.proofs.Looks.{covers, covered}
+use Rattle.js_grammar.proofs.Towers.{OneOf, head, later}
+use Rattle.js_core.specs.Lexemes.{is_read, read_kinds}
+use Rattle.js_core.specs.Answers.{beside}
+use Rattle.js_core.specs.Operators.{power_of}
+use Rattle.js_core.proofs.Paths.{reads}
+
+-- no tighter than its power; or it may stand behind `async` alone
+abbrev by_power : Bool → Row → Look
+by_power b r k w e = not (nat_lt (power_of b k) (tight b r k w e)) || beside k w e
+
+by_power_at : (b : Bool) (r : Row) → of_operand r ≡ true → covers reads (by_power b r) ≡ true
+unfolding covers
+by_power_at true after_expression h = refl
+by_power_at true after_postfix h = refl
+by_power_at false after_expression h = refl
+by_power_at false after_postfix h = refl
+by_power_at b after_body h = absurd (false≢true h)
+by_power_at b after_yield h = absurd (false≢true h)
+by_power_at b after_declarator h = absurd (false≢true h)
+by_power_at b after_word h = absurd (false≢true h)
+
+less_or : (n m p : ℕ) (c : Bool) → (not (nat_lt n m) || c) ≡ true → n < p → (nat_lt m p || c) ≡ true
+less_or n m p true h l = or_right (nat_lt m p) true refl
+less_or n m p false h l = go (nat_lt n m) refl h
+  where
+    go : (a : Bool) → nat_lt n m ≡ a → (not a || false) ≡ true → (nat_lt m p || false) ≡ true
+    go true e z = absurd (false≢true z)
+    go false e z = or_left (nat_lt m p) false (lt-ltb m p (let i : m ≤ n = grind (arith, e) in omega arith))
+
+-- what binds by less than n as an operator, stands behind an operand of that level
+pub stops_by_power : (n : ℕ) (b : Bool) (r : Row) → of_operand r ≡ true → (y : Lexeme) → IsTrue (is_read y) → power_of b y.kind < n → IsTrue (seen (looser n b r) y || seen beside y)
+stops_by_power n b r o y h l = less_or (power_of b y.kind) (tight b r y.kind y.newline y.escaped) n (beside y.kind y.newline y.escaped) (covered reads (by_power b r) (by_power_at b r o) y.kind y.newline y.escaped h) l
+
+-- no power is above that of `*`
+pub power_low : (b : Bool) (k : Kind) → power_of b k ≤ 14
+power_low b Pipe2 = omega arith
+power_low b Amp2 = omega arith
+power_low b Pipe = omega arith
+power_low b Caret = omega arith
+power_low b Amp = omega arith
+power_low b Eq2 = omega arith
+power_low b Neq = omega arith
+power_low b Eq3 = omega arith
+power_low b Neq2 = omega arith
+power_low b LAngle = omega arith
+power_low b RAngle = omega arith
+power_low b LtEq = omega arith
+power_low b GtEq = omega arith
+power_low b Instanceof = omega arith
+power_low true In = omega arith
+power_low false In = omega arith
+power_low b ShiftLeft = omega arith
+power_low b ShiftRight = omega arith
+power_low b ShiftRight3 = omega arith
+power_low b Plus = omega arith
+power_low b Minus = omega arith
+power_low b Star = omega arith
+power_low b Percent = omega arith
+power_low b _ = omega arith
+
+-- The level of an operator.
+pub record Level (b : Bool) (k : Kind) : Type 0 where
+  pub level : ℕ
+  pub is : power_of b k ≡ level + 5
+  pub top : level ≤ 9
+  pub among : OneOf k (operators_of b level)
+  pub node : node_at level ≡ cond (one_of_kinds (Pipe2 ∷ Amp2 ∷ []) k) logical_expression binary_expression
+
+level_by : (b : Bool) (k : Kind) (q : ℕ) → power_of b k ≡ q + 5 → q ≤ 9 → node_at q ≡ cond (one_of_kinds (Pipe2 ∷ Amp2 ∷ []) k) logical_expression binary_expression → OneOf k (operators_of b q) → Level b k
+level_by b k q e t n i = record { level = q; is = e; top = t; among = i; node = n }
+
+pub level_of : (b : Bool) (k : Kind) → 1 ≤ power_of b k → Level b k
+level_of b Pipe2 h = level_by b Pipe2 0 refl (omega arith) refl head
+level_of b Amp2 h = level_by b Amp2 1 refl (omega arith) refl head
+level_of b Pipe h = level_by b Pipe 2 refl (omega arith) refl head
+level_of b Caret h = level_by b Caret 3 refl (omega arith) refl head
+level_of b Amp h = level_by b Amp 4 refl (omega arith) refl head
+level_of b Eq2 h = level_by b Eq2 5 refl (omega arith) refl head
+level_of b Neq h = level_by b Neq 5 refl (omega arith) refl (later head)
+level_of b Eq3 h = level_by b Eq3 5 refl (omega arith) refl (later (later head))
+level_of b Neq2 h = level_by b Neq2 5 refl (omega arith) refl (later (later (later head)))
+level_of b LAngle h = level_by b LAngle 6 refl (omega arith) refl head
+level_of b RAngle h = level_by b RAngle 6 refl (omega arith) refl (later head)
+level_of b LtEq h = level_by b LtEq 6 refl (omega arith) refl (later (later head))
+level_of b GtEq h = level_by b GtEq 6 refl (omega arith) refl (later (later (later head)))
+level_of b Instanceof h = level_by b Instanceof 6 refl (omega arith) refl (later (later (later (later head))))
+level_of true In h = level_by true In 6 refl (omega arith) refl (later (later (later (later (later head)))))
+level_of false In h = absurd (omega arith)
+level_of b ShiftLeft h = level_by b ShiftLeft 7 refl (omega arith) refl head
+level_of b ShiftRight h = level_by b ShiftRight 7 refl (omega arith) refl (later head)
+level_of b ShiftRight3 h = level_by b ShiftRight3 7 refl (omega arith) refl (later (later head))
+level_of b Plus h = level_by b Plus 8 refl (omega arith) refl head
+level_of b Minus h = level_by b Minus 8 refl (omega arith) refl (later head)
+level_of b Star h = level_by b Star 9 refl (omega arith) refl head
+level_of b Percent h = level_by b Percent 9 refl (omega arith) refl (later (later head))
+level_of b _ h = absurd (omega arith)
+
+-- what is read has no escape
+pub read_plain : (y : Lexeme) → IsTrue (is_read y) → y.escaped ≡ false
+read_plain y h = go y.escaped (and_parts (one_of_kinds read_kinds y.kind) (not y.escaped) h).1
+  where
+    go : (x : Bool) → not x ≡ true → x ≡ false
+    go true q = absurd (false≢true q)
+    go false q = refl
+
+-- operators are read, and none is what may stand behind `async` alone
+abbrev binds : Bool → Look
+binds b k w e = nat_lt 0 (power_of b k) && not e
+
+abbrev is_operator : Look
+is_operator k w e = one_of_kinds read_kinds k && not (beside k w e)
+
+binds_at : (b : Bool) → covers (binds b) is_operator ≡ true
+unfolding covers
+binds_at true = refl
+binds_at false = refl
+
+pub operator_read : (b : Bool) (k : Kind) (w : Bool) → 1 ≤ power_of b k → (one_of_kinds read_kinds k ≡ true) × (not (beside k w false) ≡ true)
+operator_read b k w h = and_parts _ _ (covered (binds b) is_operator (binds_at b) k w false (and_from _ _ (lt-ltb 0 (power_of b k) (omega arith)) refl))
+
+-- of what is read, only operators of a level bind
+abbrev as_listed : Bool → Look
+as_listed b k w e = nat_eq (binding b k) (power_of b k)
+
+listed_at : (b : Bool) → covers reads (as_listed b) ≡ true
+unfolding covers
+listed_at true = refl
+listed_at false = refl
+
+pub power_listed : (b : Bool) (y : Lexeme) → IsTrue (is_read y) → binding b y.kind ≡ power_of b y.kind
+power_listed b y h = eqb-true (binding b y.kind) (power_of b y.kind) (covered reads (as_listed b) (listed_at b) y.kind y.newline y.escaped h)
+
+-- what is an operator where `in` is none is one where it is
+pub power_anywhere : (b : Bool) (k : Kind) → 1 ≤ power_of b k → 1 ≤ power_of true k
+power_anywhere true k h = h
+power_anywhere false Pipe2 h = h
+power_anywhere false Amp2 h = h
+power_anywhere false Pipe h = h
+power_anywhere false Caret h = h
+power_anywhere false Amp h = h
+power_anywhere false Eq2 h = h
+power_anywhere false Neq h = h
+power_anywhere false Eq3 h = h
+power_anywhere false Neq2 h = h
+power_anywhere false LAngle h = h
+power_anywhere false RAngle h = h
+power_anywhere false LtEq h = h
+power_anywhere false GtEq h = h
+power_anywhere false Instanceof h = h
+power_anywhere false In h = omega arith
+power_anywhere false ShiftLeft h = h
+power_anywhere false ShiftRight h = h
+power_anywhere false ShiftRight3 h = h
+power_anywhere false Plus h = h
+power_anywhere false Minus h = h
+power_anywhere false Star h = h
+power_anywhere false Percent h = h
+power_anywhere false _ h = absurd (omega arith)

@@ -1,0 +1,5 @@
+pub mod Lexemes
+pub mod States
+pub mod Answers
+pub mod Operators
+pub mod Moves

@@ -1,0 +1,53 @@
+//! What stands at a parser's place.
+
+ghost use Rattle.std.specs.Prelude.{◌≡◌, ◌↔◌, IsTrue, MatchResult};
+ghost use Rattle.js_cursor.specs.Moves.{OnlyMemory};
+ghost use Rattle.js_core.specs.States.{Standing};
+ghost use Rattle.js_base.specs.Contexts.{has_flag, in_flag};
+ghost use Rattle.js_core.specs.Moves.{IsCompleted, IsWholeHere, Moves, OperatorHere};
+
+use crate::operators::binding_power;
+use js_base::Kind;
+use js_cursor::{ParserImpl, Stop};
+use js_lex::ParserConfig;
+
+/// Moves one lexeme on, which is none of those that can't be passed, and no part of a longer one.
+pub fn advance<C: ParserConfig>(p: &mut ParserImpl<'_, C>) -> Result<(), Stop>
+    requires at { Standing p.old }
+    requires whole { IsWholeHere p.old }
+    ensures { MatchResult result (λ _. Moves p.old p.new) OnlyMemory }
+{
+    p.bump_any()
+}
+
+/// The whole of a punctuator that begins with `>` becomes the current token; any other token stays.
+fn complete_here<C: ParserConfig>(p: &mut ParserImpl<'_, C>) -> Result<(), Stop>
+    requires { Standing p.old }
+    ensures { MatchResult result (λ _. IsCompleted p.old p.new) OnlyMemory }
+{
+    if p.at(Kind::RAngle) {
+        return p.re_lex_right_angle();
+    }
+    Ok(())
+}
+
+/// Whether `in` is an operator here.
+fn allows_in<C: ParserConfig>(p: &ParserImpl<'_, C>) -> bool
+    ensures { result ≡ has_flag in_flag p.now.ctx }
+{
+    p.ctx.has_in()
+}
+
+/// How tight the operator binds that stands here; 0 where none does. A punctuator that begins with `>` is then the
+/// whole of it.
+pub fn operator_here<C: ParserConfig>(p: &mut ParserImpl<'_, C>) -> Result<u8, Stop>
+    requires { Standing p.old }
+    ensures { MatchResult result (λ power. OperatorHere p.old p.new power) OnlyMemory }
+{
+    complete_here(p)?;
+    let token = p.cur_token();
+    if token.escaped() {
+        return Ok(0);
+    }
+    Ok(binding_power(token.kind(), allows_in(p)))
+}

@@ -1,0 +1,72 @@
+//! Nodes without flags, made at a parser's place.
+
+ghost use Rattle.std.specs.Prelude.{◌≡◌, ◌∷◌, [], Some, IfOk};
+ghost use Rattle.js_tree.specs.Labels.{number_of};
+ghost use Rattle.js_core.specs.Moves.{MadeHere, plain_label};
+
+use js_base::{NoMemory, Span};
+use js_cursor::ParserImpl;
+use js_lex::ParserConfig;
+use js_tree::{NodeFlags, NodeId, NodeKind, Op};
+
+/// No flag at all.
+fn no_flags() -> NodeFlags
+    ensures { number_of result ≡ 0 }
+{
+    NodeFlags {
+        prefix: false,
+        optional: false,
+        computed: false,
+        shorthand: false,
+        method: false,
+        is_async: false,
+        generator: false,
+        delegate: false,
+        is_static: false,
+        is_await: false,
+        tail: false,
+        bare: false,
+        pure: false,
+        pife: false,
+    }
+}
+
+/// A node without children.
+pub fn make_leaf<C: ParserConfig>(
+    p: &mut ParserImpl<'_, C>,
+    kind: NodeKind,
+    op: Op,
+    span: Span,
+) -> Result<NodeId, NoMemory>
+    ensures { IfOk result (λ id. MadeHere (plain_label kind op span) [] p.old p.new id) }
+{
+    p.ast.leaf(kind, span, op, no_flags(), None)
+}
+
+/// A node of one child.
+pub fn make_one<C: ParserConfig>(
+    p: &mut ParserImpl<'_, C>,
+    kind: NodeKind,
+    op: Op,
+    span: Span,
+    child: NodeId,
+) -> Result<NodeId, NoMemory>
+    ensures { IfOk result (λ id. MadeHere (plain_label kind op span) (Some child ∷ []) p.old p.new id) }
+{
+    p.ast.node_of_one(kind, span, op, no_flags(), Some(child))
+}
+
+/// A node of two children.
+pub fn make_two<C: ParserConfig>(
+    p: &mut ParserImpl<'_, C>,
+    kind: NodeKind,
+    op: Op,
+    span: Span,
+    first: NodeId,
+    second: NodeId,
+) -> Result<NodeId, NoMemory>
+    ensures { IfOk result (λ id. MadeHere (plain_label kind op span) (Some first ∷ Some second ∷ []) p.old p.new id) }
+{
+    p.ast
+        .node_of_two(kind, span, op, no_flags(), Some(first), Some(second))
+}
