@@ -80,7 +80,7 @@ abbrev pub all_stand : Passing → ℕ → Written → List Written → Bool
 all_stand p s x [] = stands p s x []
 all_stand p s x (y ∷ ys) = stands p s x (characters y ys) && all_stand p (s + width (joined x.trivia) + width x.word) y ys
 
-all_right : (p : Passing) (text : List ℕ) (s : ℕ) (x : Written) (ys : List Written) → At text s (characters x ys) → all_stand p s x ys ≡ true → Lexes (Lex p text) s (lexemes_at s x ys)
+pub all_right : (p : Passing) (text : List ℕ) (s : ℕ) (x : Written) (ys : List Written) → At text s (characters x ys) → all_stand p s x ys ≡ true → Lexes (Lex p text) s (lexemes_at s x ys)
 all_right p text s x [] place h = stands_right p text s x [] (subst (λ (v : List ℕ). At text s (joined x.trivia ++ v)) (sym (append-nil x.word)) place) h
 all_right p text s x (y ∷ ys) place h =
     let a = and_parts (stands p s x (characters y ys)) _ h in
@@ -88,7 +88,7 @@ all_right p text s x (y ∷ ys) place h =
     (stands_right p text s x (characters y ys) place a.0, all_right p text (lexeme_at s x).to y ys next a.1)
 
 -- the text is these characters
-abbrev spells : List ℕ → List ℕ → Bool
+abbrev pub spells : List ℕ → List ℕ → Bool
 spells text cs = all_scalars cs && bytes_eq (encode_utf8_all cs) text
 
 pub spells_right : (text cs : List ℕ) → spells text cs ≡ true → At text 0 cs

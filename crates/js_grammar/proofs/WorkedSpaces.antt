@@ -73,3 +73,7 @@ spaces_derived n = subst (λ (m : ℕ). IsDerived (program_at script false false
 
     e : (lexeme_at 0 (the_end n)).to ≡ n
     e = let w = ap width (pieces_join n) in let v = width_of n in omega arith
+
+-- as many as the program reads
+most_spaces : IsDerived (program_at script false false) script (spaces 67_108_864) (record { label = label program no_op 0 0 67_108_864; slots = end })
+most_spaces = spaces_derived 67_108_864

@@ -5,7 +5,7 @@ use Rattle.js_base.specs.declared.kind.Kind.TheVariants.{Arrow, Bang, Colon, Com
 use Rattle.js_base.specs.Texts.{words, punctuators}
 use Rattle.js_base.specs.Keywords.{keyword_of}
 use Rattle.js_grammar.specs.Words.{'as', 'async', 'await', 'break', 'case', 'catch', 'class', 'const', 'continue', 'default', 'export', 'extends', 'finally', 'for', 'from', 'get', 'if', 'import', 'let', 'new', 'of', 'return', 'static', 'switch', 'this', 'throw', 'try', 'var', 'while'}
-use Rattle.js_grammar.specs.Trees.{array_assignment_target, array_expression, array_pattern, arrow_function_expression, assignment_expression, assignment_pattern, await_expression, binary_expression, binding_identifier, binding_property, binding_rest_element, block_statement, break_statement, call_expression, catch_clause, chain_expression, class_body, class_declaration, computed_member_expression, continue_statement, directive, export_all_declaration, export_declaration, export_default_declaration, export_named_declaration, export_specifier, expression_statement, for_of_statement, formal_parameter, formal_parameters, function_body, function_expression, identifier_name, identifier_reference, if_statement, import_declaration, import_default_specifier, import_namespace_specifier, import_specifier, label_identifier, labeled_statement, logical_expression, method_definition, new_expression, numeric_literal, object_expression, object_pattern, parenthesized_expression, private_field_expression, private_identifier, program, property_definition, reg_exp_literal, return_statement, static_member_expression, string_literal, switch_case, switch_statement, template_element, template_literal, this_expression, throw_statement, try_statement, unary_expression, update_expression, variable_declaration, variable_declarator, while_statement, method_op, no_op, of, end, hole, tree}
+use Rattle.js_grammar.specs.Trees.{spread_element, array_assignment_target, array_expression, array_pattern, arrow_function_expression, assignment_expression, assignment_pattern, await_expression, binary_expression, binding_identifier, binding_property, binding_rest_element, block_statement, break_statement, call_expression, catch_clause, chain_expression, class_body, class_declaration, computed_member_expression, continue_statement, directive, export_all_declaration, export_declaration, export_default_declaration, export_named_declaration, export_specifier, expression_statement, for_of_statement, formal_parameter, formal_parameters, function_body, function_expression, identifier_name, identifier_reference, if_statement, import_declaration, import_default_specifier, import_namespace_specifier, import_specifier, label_identifier, labeled_statement, logical_expression, method_definition, new_expression, numeric_literal, object_expression, object_pattern, parenthesized_expression, private_field_expression, private_identifier, program, property_definition, reg_exp_literal, return_statement, static_member_expression, string_literal, switch_case, switch_statement, template_element, template_literal, this_expression, throw_statement, try_statement, unary_expression, update_expression, variable_declaration, variable_declarator, while_statement, method_op, no_op, of, end, hole, tree}
 use Rattle.js_grammar.specs.Settings.{script, module_goal, commonjs}
 use Rattle.js_grammar.specs.Lexemes.{division, regular_expression, template_tail}
 use Rattle.js_grammar.specs.Table.{rule, rule_of}
@@ -230,3 +230,20 @@ text_213 = refl
 changed_213 : expression_example script (codes "a") (lexeme [] division (codes "a") Ident) ((lexeme [] division [] Eof) ∷ []) (label expression_statement no_op 0 0 1) (tree (label identifier_reference no_op 0 0 1) end end) ≡ false
 unfolding rule rule_of words punctuators lib.Utf8.encode keyword_of
 changed_213 = refl
+
+-- Other changes of trees above.
+
+-- "a - b - c", grouped to the right
+grouped_right : tree_alone script false false (lexeme [] division (codes "a") Ident) ((lexeme ((codes " ") ∷ []) division (codes "-") Minus) ∷ (lexeme ((codes " ") ∷ []) division (codes "b") Ident) ∷ (lexeme ((codes " ") ∷ []) division (codes "-") Minus) ∷ (lexeme ((codes " ") ∷ []) division (codes "c") Ident) ∷ (lexeme [] division [] Eof) ∷ []) (label program no_op 0 0 9) (tree (label expression_statement no_op 0 0 9) (tree (label binary_expression (of Minus) 0 0 9) (tree (label identifier_reference no_op 0 0 1) end (tree (label binary_expression (of Minus) 0 4 9) (tree (label identifier_reference no_op 0 4 5) end (tree (label identifier_reference no_op 0 8 9) end end)) end)) end) end) ≡ false
+unfolding rule rule_of words punctuators lib.Utf8.encode keyword_of
+grouped_right = refl
+
+-- "a ** b ** c", grouped to the left
+grouped_left : tree_alone script false false (lexeme [] division (codes "a") Ident) ((lexeme ((codes " ") ∷ []) division (codes "**") Star2) ∷ (lexeme ((codes " ") ∷ []) division (codes "b") Ident) ∷ (lexeme ((codes " ") ∷ []) division (codes "**") Star2) ∷ (lexeme ((codes " ") ∷ []) division (codes "c") Ident) ∷ (lexeme [] division [] Eof) ∷ []) (label program no_op 0 0 11) (tree (label expression_statement no_op 0 0 11) (tree (label binary_expression (of Star2) 0 0 11) (tree (label binary_expression (of Star2) 0 0 6) (tree (label identifier_reference no_op 0 0 1) end (tree (label identifier_reference no_op 0 5 6) end end)) (tree (label identifier_reference no_op 0 10 11) end end)) end) end) ≡ false
+unfolding rule rule_of words punctuators lib.Utf8.encode keyword_of
+grouped_left = refl
+
+-- "[a, , ...b, ]", without its Elision
+no_elision : tree_alone script false false (lexeme [] division (codes "[") LBrack) ((lexeme [] division (codes "a") Ident) ∷ (lexeme [] division (codes ",") Comma) ∷ (lexeme ((codes " ") ∷ []) division (codes ",") Comma) ∷ (lexeme ((codes " ") ∷ []) division (codes "...") Dot3) ∷ (lexeme [] division (codes "b") Ident) ∷ (lexeme [] division (codes ",") Comma) ∷ (lexeme ((codes " ") ∷ []) division (codes "]") RBrack) ∷ (lexeme [] division [] Eof) ∷ []) (label program no_op 0 0 13) (tree (label expression_statement no_op 0 0 13) (tree (label array_expression no_op 0 0 13) (tree (label identifier_reference no_op 0 1 2) end (tree (label spread_element no_op 0 6 10) (tree (label identifier_reference no_op 0 9 10) end end) end)) end) end) ≡ false
+unfolding rule rule_of words punctuators lib.Utf8.encode keyword_of
+no_elision = refl
