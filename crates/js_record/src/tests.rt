@@ -460,15 +460,14 @@ fn slots_of(
     Ok(taken)
 }
 
-/// The record of the nodes of a row, each visited when it is made, and its errors; none where a node isn't read from the
-/// text.
-fn record_of(
+/// Visits the nodes of a row, each when it is made; whether each is read from the text.
+fn visit_all(
     alloc: Global,
+    record: &mut ModuleRecordBuilder,
     source: &str,
     steps: &[Step],
-) -> Result<Option<(ModuleRecord, Diagnostics)>, NoMemory> {
+) -> Result<bool, NoMemory> {
     let mut tree = ParserAstBuilder::new(alloc)?;
-    let mut record = ModuleRecordBuilder::new(alloc, SourceType::module());
     let mut free = Vec::new(alloc);
     for Step(kind, start, end, slots) in steps {
         let span = Span {
@@ -478,12 +477,12 @@ fn record_of(
         let children = slots_of(alloc, &mut free, slots)?;
         let id = tree.node(*kind, span, Op::None, NodeFlags::default(), None, children)?;
         if !is_visited(&tree, source, id) {
-            return Ok(None);
+            return Ok(false);
         }
-        visit(&mut record, &tree, source, id, *kind)?;
+        visit(record, &tree, source, id, *kind)?;
         free.push(id)?;
     }
-    Ok(Some(record.build()?))
+    Ok(true)
 }
 
 /// Whether these are the errors: this one alone, or none.
@@ -503,8 +502,31 @@ fn has_lines(alloc: Global, record: &ModuleRecord, lines: &str) -> Result<bool, 
     Ok(given.as_slice() == lines.as_bytes())
 }
 
-/// Whether a row holds: its nodes are read from its text, its record has its lines, the errors are its error, and a name
-/// is exported twice exactly where it has one.
+/// Whether the record has these lines and the errors are this one or none, and a name is exported twice exactly where
+/// there is one.
+fn is_right(
+    alloc: Global,
+    record: &ModuleRecord,
+    errors: &Diagnostics,
+    lines: &str,
+    fault: Option<Fault>,
+) -> Result<bool, NoMemory> {
+    let distinct = record.exports_distinct();
+    Ok(has_lines(alloc, record, lines)? && is_fault(errors, fault) && distinct == fault.is_none())
+}
+
+/// Whether the record and the errors of the visits are right, as `is_right` says.
+fn builds(
+    alloc: Global,
+    builder: ModuleRecordBuilder,
+    lines: &str,
+    fault: Option<Fault>,
+) -> Result<bool, NoMemory> {
+    let built = builder.build()?;
+    is_right(alloc, &built.0, &built.1, lines, fault)
+}
+
+/// Whether a row holds: its nodes are read from its text, and its record and its errors are right.
 fn holds(
     alloc: Global,
     source: &str,
@@ -512,14 +534,11 @@ fn holds(
     lines: &str,
     fault: Option<Fault>,
 ) -> Result<bool, NoMemory> {
-    let Some((record, errors)) = record_of(alloc, source, steps)? else {
-        return Ok(false);
-    };
-    if !has_lines(alloc, &record, lines)? {
+    let mut builder = ModuleRecordBuilder::new(alloc, SourceType::module());
+    if !visit_all(alloc, &mut builder, source, steps)? {
         return Ok(false);
     }
-    let distinct = record.exports_distinct();
-    Ok(is_fault(&errors, fault) && distinct == fault.is_none())
+    builds(alloc, builder, lines, fault)
 }
 
 #[test]
