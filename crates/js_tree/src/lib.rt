@@ -19,6 +19,7 @@ pub use flags::NodeFlags;
 pub use id::NodeId;
 pub use kind::NodeKind;
 pub use op::{BigintBase, ClauseWord, DeclarationKind, MethodKind, NumberBase, Op, PropertyKind};
+pub use reading::without_sign;
 pub use tree::Tree;
 
 #[cfg(test)]

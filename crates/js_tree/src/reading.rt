@@ -25,8 +25,9 @@ fn slice_at(source: &str, span: Span) -> &str
     &source[span.start as usize..span.end as usize]
 }
 
-/// A name without the `#` before it.
-fn without_sign(name: &str) -> &str
+/// The name of a PrivateIdentifier (ECMA-262, section 12.7) without the `#` before it, without copying; any other name
+/// begins with no `#` and stays.
+pub fn without_sign(name: &str) -> &str
     ensures { result.now ≡ without_sign name.now }
 {
     name.strip_prefix('#').unwrap_or(name)

@@ -184,23 +184,51 @@ fn slots_of(
     Ok(taken)
 }
 
-/// The tree that steps make; the nodes that are in no slot then are Program's.
-fn built(alloc: Global, steps: &[Step], end: u32) -> Result<Tree, NoMemory> {
-    let mut builder = ParserAstBuilder::new(alloc)?;
+/// Makes the node of a step, by the call for its number of slots.
+fn step_made(
+    alloc: Global,
+    builder: &mut ParserAstBuilder,
+    free: &mut Vec<NodeId>,
+    step: &Step,
+) -> Result<NodeId, NoMemory> {
+    let Step(kind, start, end, op, bits, slots) = step;
+    let span = Span {
+        start: *start,
+        end: *end,
+    };
+    let flags = flags_of(*bits);
+    let children = slots_of(alloc, free, slots)?;
+    match children.as_slice() {
+        [] => builder.leaf(*kind, span, *op, flags, None),
+        [child] => builder.node_of_one(*kind, span, *op, flags, *child),
+        [first, second] => builder.node_of_two(*kind, span, *op, flags, *first, *second),
+        [a, b, c] => builder.node_of_three(*kind, span, *op, flags, [*a, *b, *c]),
+        _ => builder.node(*kind, span, *op, flags, None, children),
+    }
+}
+
+/// Makes the nodes of the steps, and tells those that are in no slot then.
+fn made(
+    alloc: Global,
+    builder: &mut ParserAstBuilder,
+    steps: &[Step],
+) -> Result<Vec<Option<NodeId>>, NoMemory> {
     let mut free = Vec::new(alloc);
-    for Step(kind, start, end, op, bits, slots) in steps {
-        let span = Span {
-            start: *start,
-            end: *end,
-        };
-        let children = slots_of(alloc, &mut free, slots)?;
-        let id = builder.node(*kind, span, *op, flags_of(*bits), None, children)?;
+    for step in steps {
+        let id = step_made(alloc, builder, &mut free, step)?;
         free.push(id)?;
     }
     let mut children = Vec::new(alloc);
     for id in &free {
         children.push(Some(*id))?;
     }
+    Ok(children)
+}
+
+/// The tree that steps make; the nodes that are in no slot then are Program's.
+fn built(alloc: Global, steps: &[Step], end: u32) -> Result<Tree, NoMemory> {
+    let mut builder = ParserAstBuilder::new(alloc)?;
+    let children = made(alloc, &mut builder, steps)?;
     builder.finish(Span { start: 0, end }, children)
 }
 
@@ -244,20 +272,37 @@ fn children_of_a_target(rt: HostRuntime) -> Result<(), Fail> {
     Ok(())
 }
 
-/// The names that a nested pattern binds, the rest's too.
+/// Nodes of the pattern, and those of the names that each binds.
+static BOUND: [(usize, &[usize]); 4] = [(16, &[1, 3, 7, 10]), (9, &[3, 7]), (5, &[3]), (14, &[])];
+
+/// Whether the nodes have these numbers.
+fn are_numbered(ids: &[NodeId], numbers: &[usize]) -> bool {
+    for (id, number) in ids.iter().zip(numbers) {
+        if id.0 != *number {
+            return false;
+        }
+    }
+    ids.len() == numbers.len()
+}
+
+/// The names that a nested pattern binds, the rest's too, before and after the tree is finished.
 #[test]
 fn bound_names_of_a_pattern(rt: HostRuntime) -> Result<(), Fail> {
     let alloc = rt.alloc();
-    let tree = built(alloc, &PATTERN, 39)?;
-    let rows: [(usize, &[usize]); 4] = [(16, &[1, 3, 7, 10]), (9, &[3, 7]), (5, &[3]), (14, &[])];
-    for (number, wanted) in rows {
-        let id = NodeId(number);
+    let mut builder = ParserAstBuilder::new(alloc)?;
+    let children = made(alloc, &mut builder, &PATTERN)?;
+    for (number, wanted) in &BOUND {
+        let id = NodeId(*number);
+        assert!(rt; builder.contains(id));
+        let found = builder.bound_names(alloc, id)?;
+        assert!(rt; are_numbered(found.as_slice(), wanted), "at {number}");
+    }
+    let tree = builder.finish(Span { start: 0, end: 39 }, children)?;
+    for (number, wanted) in &BOUND {
+        let id = NodeId(*number);
         assert!(rt; tree.contains(id));
         let found = tree.bound_names(alloc, id)?;
-        assert_eq!(rt; found.len(), wanted.len());
-        for (one, number) in found.iter().zip(wanted) {
-            assert_eq!(rt; one.0, *number);
-        }
+        assert!(rt; are_numbered(found.as_slice(), wanted), "at {number}");
     }
     Ok(())
 }
@@ -335,7 +380,37 @@ fn read(
     }
 }
 
-/// What each reader gives.
+/// What a reader of a finished tree gives, as text.
+fn read_finished(
+    alloc: Global,
+    tree: &Tree,
+    id: NodeId,
+    source: &str,
+    reader: Reader,
+) -> Result<Option<Text>, NoMemory> {
+    if !tree.contains(id) || !lies_in(source, tree.span(id)) {
+        return Ok(None);
+    }
+    if tree.kind(id) == NodeKind::StringLiteral && !is_quoted(tree.text(id, source)) {
+        return Ok(None);
+    }
+    match reader {
+        Reader::Name => Ok(Some(Text::from_str(alloc, tree.name(id, source))?)),
+        Reader::Raw => Ok(Some(tree.raw(alloc, id, source)?)),
+        Reader::Digits => Ok(Some(tree.digits(alloc, id, source)?)),
+        Reader::Key => tree.prop_name(alloc, id, source),
+    }
+}
+
+/// Whether what was read is this text, or none.
+fn is_wanted(found: &Option<Text>, wanted: &str) -> bool {
+    match found {
+        Some(text) => text.as_str() == wanted,
+        None => wanted == "none",
+    }
+}
+
+/// What each reader gives, before and after the tree is finished.
 #[test]
 fn readings(rt: HostRuntime) -> Result<(), Fail> {
     let alloc = rt.alloc();
@@ -346,10 +421,11 @@ fn readings(rt: HostRuntime) -> Result<(), Fail> {
             end: u32::try_from(source.len()).unwrap_or(0),
         };
         let id = builder.leaf(*kind, span, Op::None, flags_of(0), None)?;
-        match read(alloc, &builder, id, source, *reader)? {
-            Some(text) => assert_eq!(rt; text.as_str(), *wanted),
-            None => assert_eq!(rt; "none", *wanted),
-        }
+        let found = read(alloc, &builder, id, source, *reader)?;
+        assert!(rt; is_wanted(&found, wanted), "at {source}");
+        let tree = builder.finish(span, vec![in alloc; Some(id)]?)?;
+        let found = read_finished(alloc, &tree, id, source, *reader)?;
+        assert!(rt; is_wanted(&found, wanted), "at {source}");
     }
     Ok(())
 }
@@ -380,6 +456,22 @@ fn units_of(
     builder.cooked(alloc, id, source)
 }
 
+/// The same of a finished tree.
+fn units_finished(
+    alloc: Global,
+    tree: &Tree,
+    id: NodeId,
+    source: &str,
+) -> Result<Option<JsStr>, NoMemory> {
+    if !tree.contains(id) || !lies_in(source, tree.span(id)) {
+        return Ok(None);
+    }
+    if is_quoted(tree.text(id, source)) {
+        return Ok(Some(tree.string_value(alloc, id, source)?));
+    }
+    tree.cooked(alloc, id, source)
+}
+
 /// Whether the code units are those of a text of ASCII.
 fn are_spelled(units: &JsStr, text: &str) -> bool {
     for (i, byte) in text.bytes().enumerate() {
@@ -390,19 +482,29 @@ fn are_spelled(units: &JsStr, text: &str) -> bool {
     units.len() == text.len()
 }
 
-/// The code units of each.
+/// Whether there are code units, and those of this text, or none.
+fn is_value(found: &Option<JsStr>, wanted: Option<&str>) -> bool {
+    match (found, wanted) {
+        (Some(units), Some(text)) => are_spelled(units, text),
+        (None, None) => true,
+        _ => false,
+    }
+}
+
+/// The code units of each, before and after the tree is finished.
 #[test]
 fn values(rt: HostRuntime) -> Result<(), Fail> {
     let alloc = rt.alloc();
     for (source, kind, wanted) in &VALUES {
         let mut builder = ParserAstBuilder::new(alloc)?;
         let end = u32::try_from(source.len()).unwrap_or(0);
-        let id = builder.leaf(*kind, Span { start: 0, end }, Op::None, flags_of(0), None)?;
-        match (units_of(alloc, &builder, id, source)?, wanted) {
-            (Some(units), Some(text)) => assert!(rt; are_spelled(&units, text), "at {source}"),
-            (None, None) => {}
-            _ => assert!(rt; false, "at {source}"),
-        }
+        let span = Span { start: 0, end };
+        let id = builder.leaf(*kind, span, Op::None, flags_of(0), None)?;
+        let found = units_of(alloc, &builder, id, source)?;
+        assert!(rt; is_value(&found, *wanted), "at {source}");
+        let tree = builder.finish(span, vec![in alloc; Some(id)]?)?;
+        let found = units_finished(alloc, &tree, id, source)?;
+        assert!(rt; is_value(&found, *wanted), "at {source}");
     }
     Ok(())
 }
