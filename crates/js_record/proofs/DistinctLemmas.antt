@@ -1,16 +1,11 @@
 -- Names that stand twice.
-use Rattle.std.proofs.Common.{◌≡◌, ℕ, ◌+◌, ◌<◌, ◌≤◌, suc, Bool, true, false, ◌&&◌, ◌||◌, not, List, [], ◌∷◌, ◌++◌, drop, length, get_or, refl, sym, ap, ◌∙◌, arith, true≢false, ◌↔◌, add-one}
+use Rattle.std.proofs.Common.{◌≡◌, ℕ, Bool, true, false, ◌&&◌, ◌||◌, not, List, [], ◌∷◌, ◌++◌, refl, sym, ap, ◌∙◌, true≢false, ◌↔◌}
 use Rattle.std.specs.Prelude.{bytes_eq, IsTrue}
 use Rattle.std.specs.List.{flat_map, list_any, IsDistinct, AllByRecursion}
 use Rattle.std.proofs.lemmas.List.Folds.{list_any-append}
 use Rattle.std.proofs.lemmas.Grind.{flat_map-append}
-use Rattle.std.proofs.Math.Seq.{drop-cons}
 use Rattle.js_grammar.specs.ModuleRecords.{ExportEntry, asked_names}
 use Rattle.js_record.specs.Distinct.{names_of, no_two, none_shared}
-
--- the names from a place on: those of the entry there, then those behind it
-pub names-drop : (es : List ExportEntry) (i : ℕ) (d : ExportEntry) → i < length es → names_of (drop i es) ≡ asked_names (get_or es i d).export_name ++ names_of (drop (i + 1) es)
-names-drop es i d h = ap names_of (drop-cons es i d h ∙ ap (λ k. get_or es i d ∷ drop k es) (sym (add-one i)))
 
 -- two lists put together
 pub no_two-append : (xs ys : List (List ℕ)) → no_two (xs ++ ys) ≡ (no_two xs && (no_two ys && none_shared xs ys))

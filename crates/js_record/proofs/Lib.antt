@@ -6,7 +6,6 @@ pub mod CheckedLemmas
 pub mod PartLemmas
 pub mod LineLemmas
 pub mod KindLemmas
-pub mod SignLemmas
 pub mod ShownLemmas
 pub mod TreeLemmas
 pub mod ResultLemmas

@@ -1,7 +1,9 @@
 -- Stores in which every node is read from the text and stands above its children.
 use Rattle.std.specs.Prelude.{ℕ, ◌<◌, List, Option, Some, None, length, get_or}
-use Rattle.js_grammar.specs.NodeNames.{IsReadFrom}
+use Rattle.js_grammar.specs.NodeNames.{IsReadFrom, AreReadFrom}
+use Rattle.js_grammar.specs.Trees.{Slots}
 use Rattle.js_tree.specs.declared.id.NodeId.{NodeId}
+use Rattle.js_tree.specs.Holding.{HoldsAll}
 use Rattle.js_tree.specs.Nodes.{Node, label, empty_program}
 
 -- the slot is empty, or its child has a number below this one
@@ -19,3 +21,9 @@ pub record IsSound (ns : List Node) (text : List ℕ) (i : ℕ) : Type 0 where
 
 abbrev pub AreSound : List Node → List ℕ → Type 0
 AreSound ns text = (i : ℕ) → i < length ns → IsSound ns text i
+
+-- The slots hold trees, no number twice, of which every node is read from the text: what is known of children that were made before.
+pub record AreHeld (ns : List Node) (text : List ℕ) (ids : List (Option NodeId)) : Type 0 where
+  pub slots : Slots
+  pub holds : HoldsAll ns 1 (length ns) ids slots
+  pub read : AreReadFrom text slots

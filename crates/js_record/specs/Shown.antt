@@ -7,7 +7,7 @@ use Rattle.js_grammar.specs.Modules.{named, no_name, specifier, syntax, import_e
 use Rattle.js_grammar.specs.NodeNames.{span_of, IsReadFrom, AreReadFrom}
 use Rattle.js_grammar.specs.Trees.{Label, Slots}
 use Rattle.js_tree.specs.declared.id.NodeId.{NodeId}
-use Rattle.js_tree.specs.Holding.{Stands, Holds}
+use Rattle.js_tree.specs.Holding.{Stands}
 use Rattle.js_tree.specs.Nodes.{Node, label, node_at}
 
 -- The number stands for a tree.
@@ -31,14 +31,6 @@ pub record IsReadWhole (ns : List Node) (text : List ℕ) (id : NodeId) : Type 0
   pub slots : Slots
   pub numbers : List ℕ
   pub stands : Stands ns id.0 label slots numbers
-  pub itself : IsReadFrom text label
-  pub read : AreReadFrom text slots
-
--- The number stands for a tree, no number of it twice, of which every node is read from the text: what is known of a child that was made before.
-pub record IsHeld (ns : List Node) (text : List ℕ) (id : NodeId) : Type 0 where
-  pub label : Label
-  pub slots : Slots
-  pub holds : Holds ns 1 (length ns) id.0 label slots
   pub itself : IsReadFrom text label
   pub read : AreReadFrom text slots
 

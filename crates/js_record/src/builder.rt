@@ -51,7 +51,7 @@ impl ModuleRecordBuilder {
         Ok(())
     }
 
-    /// An `import.meta` (ECMA-262, 13.3.12) at this span. On an error all stays as it was.
+    /// An `import.meta` (ECMA-262, 13.3.12) at this span. The only error is want of memory; all then stays as it was.
     pub fn visit_import_meta(&mut self, span: Span) -> Result<(), NoMemory>
         ensures ok { OnOk result (self.new ≡ self.old ++ of_import_meta span ∷ []) }
         ensures err { OnErr result (self.new ≡ self.old) }
@@ -61,8 +61,8 @@ impl ModuleRecordBuilder {
         self.keep(visit)
     }
 
-    /// An `import()` (ECMA-262, 13.3.10), when all of it was read, so that an inner one comes first. On an error all
-    /// stays as it was. Condition: the number stands for a tree.
+    /// An `import()` (ECMA-262, 13.3.10), visited when all of it was read, so that an inner one comes first. The number
+    /// has to stand for a tree. The only error is want of memory; all then stays as it was.
     pub fn visit_import_expression(
         &mut self,
         tree: &ParserAstBuilder,
@@ -76,8 +76,9 @@ impl ModuleRecordBuilder {
         self.keep(visit)
     }
 
-    /// An import declaration (ECMA-262, 16.2.2). On an error all stays as it was. Condition: the number stands
-    /// for a tree, of which every node below the first is read from the source.
+    /// An import declaration (ECMA-262, 16.2.2): an import entry for each specifier, and a request of its module. The
+    /// number has to stand for a tree, of which every node below the first is read from the source. The only error is
+    /// want of memory; all then stays as it was.
     pub fn visit_import_declaration(
         &mut self,
         tree: &ParserAstBuilder,
@@ -92,8 +93,9 @@ impl ModuleRecordBuilder {
         self.keep(visit)
     }
 
-    /// `export *` (ECMA-262, 16.2.3). On an error all stays as it was. Condition: the number stands
-    /// for a tree, of which every node below the first is read from the source.
+    /// `export *` (ECMA-262, 16.2.3), with a name or without: an export entry, and a request of its module. The number
+    /// has to stand for a tree, of which every node below the first is read from the source. The only error is want of
+    /// memory; all then stays as it was.
     pub fn visit_export_all_declaration(
         &mut self,
         tree: &ParserAstBuilder,
@@ -108,8 +110,9 @@ impl ModuleRecordBuilder {
         self.keep(visit)
     }
 
-    /// `export` of a declaration (ECMA-262, 16.2.3). On an error all stays as it was. Condition: the number stands
-    /// for a tree, of which every node below the first is read from the source.
+    /// `export` of a declaration (ECMA-262, 16.2.3): an export entry for each name that it binds. The number has to stand
+    /// for a tree, of which every node below the first is read from the source. The only error is want of memory; all then
+    /// stays as it was.
     pub fn visit_export_declaration(
         &mut self,
         tree: &ParserAstBuilder,
@@ -124,8 +127,9 @@ impl ModuleRecordBuilder {
         self.keep(visit)
     }
 
-    /// `export` of names (ECMA-262, 16.2.3). On an error all stays as it was. Condition: the number stands
-    /// for a tree, of which every node below the first is read from the source.
+    /// `export` of names that the module has (ECMA-262, 16.2.3): an export entry for each specifier. The number has to
+    /// stand for a tree, of which every node below the first is read from the source. The only error is want of memory;
+    /// all then stays as it was.
     pub fn visit_export_named_declaration(
         &mut self,
         tree: &ParserAstBuilder,
@@ -140,8 +144,9 @@ impl ModuleRecordBuilder {
         self.keep(visit)
     }
 
-    /// `export` of names of another module (ECMA-262, 16.2.3). On an error all stays as it was. Condition: the number stands
-    /// for a tree, of which every node below the first is read from the source.
+    /// `export` of names of another module (ECMA-262, 16.2.3): an export entry for each specifier, and a request of that
+    /// module. The number has to stand for a tree, of which every node below the first is read from the source. The only
+    /// error is want of memory; all then stays as it was.
     pub fn visit_export_from_declaration(
         &mut self,
         tree: &ParserAstBuilder,
@@ -156,8 +161,9 @@ impl ModuleRecordBuilder {
         self.keep(visit)
     }
 
-    /// `export default` (ECMA-262, 16.2.3), with the place of the word `default`. On an error all stays as it was. Condition: the number stands
-    /// for a tree, of which every node below the first is read from the source.
+    /// `export default` (ECMA-262, 16.2.3): an export entry, whose name is `default` at the place that is given. The number
+    /// has to stand for a tree, of which every node below the first is read from the source. The only error is want of
+    /// memory; all then stays as it was.
     pub fn visit_export_default_declaration(
         &mut self,
         tree: &ParserAstBuilder,
@@ -179,7 +185,8 @@ impl ModuleRecordBuilder {
         self.keep(visit)
     }
 
-    /// Notes that the text has what modules alone have; a visit too. On an error all stays as it was.
+    /// Notes that the text has what modules alone have. It is a visit too, and adds nothing else. The only error is want of
+    /// memory; all then stays as it was.
     pub fn set_module_syntax(&mut self) -> Result<(), NoMemory>
         ensures ok { OnOk result (self.new ≡ self.old ++ syntax ∷ []) }
         ensures err { OnErr result (self.new ≡ self.old) }
@@ -187,8 +194,8 @@ impl ModuleRecordBuilder {
         self.keep(Part::syntax(self.alloc))
     }
 
-    #[tactic(auto, using(crate::proofs::PartLemmas::whole_syntax))]
     /// Whether the text has an import or export declaration or `import.meta` so far, or `set_module_syntax` was called.
+    #[tactic(auto, using(crate::proofs::PartLemmas::whole_syntax))]
     pub fn has_module_syntax(&self) -> bool
         ensures { result ≡ (record_of_parts self.now).has_module_syntax }
     {
@@ -216,7 +223,7 @@ impl ModuleRecordBuilder {
     }
 
     /// The early errors of the imports and exports so far (ECMA-262, 16.2.1.1): the names that are exported twice, in
-    /// the order in which they come again, then `default`.
+    /// the order in which they come again, then `default`. The only error is want of memory.
     pub fn errors(&self) -> Result<Diagnostics, NoMemory>
         ensures { IfOk result (λ ds. ds ≡ errors_of_parts self.now) }
     {
@@ -227,7 +234,7 @@ impl ModuleRecordBuilder {
     }
 
     /// The record of all visits, with its export entries told apart (ECMA-262, 16.2.1.7.1, step 10), and the early
-    /// errors of `errors`.
+    /// errors as `errors` tells them. The only error is want of memory.
     pub fn build(self) -> Result<(ModuleRecord, Diagnostics), NoMemory>
         ensures { IfOk result (λ r. r ≡ (record_of_parts self, errors_of_parts self)) }
     {

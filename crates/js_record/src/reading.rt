@@ -2,7 +2,7 @@
 
 ghost use Rattle.std.specs.Prelude.{◌≡◌, ◌<◌, length, true, IfOk, Some, All, IsSome};
 ghost use Rattle.js_base.specs.Spans.{LiesIn};
-ghost use Rattle.js_grammar.specs.NodeNames.{without_sign, word_at, string_at, name_at, IsReadFrom};
+ghost use Rattle.js_grammar.specs.NodeNames.{word_at, string_at, name_at, IsReadFrom};
 ghost use Rattle.js_grammar.specs.Modules.{named, no_name, specifier as specified};
 ghost use Rattle.js_tree.specs.declared.kind.NodeKind.TheVariants as node;
 ghost use Rattle.js_tree.specs.Nodes.{node_at};
@@ -11,7 +11,7 @@ ghost use Rattle.js_record.specs.Shown.{label_at, IsNear, first_shown, second_sh
 
 use crate::name::NameSpan;
 use js_base::{NoMemory, Span, Text, decode_name};
-use js_tree::{NodeId, NodeKind, ParserAstBuilder};
+use js_tree::{NodeId, NodeKind, ParserAstBuilder, without_sign};
 use std::alloc::Global;
 
 /// Whether a node of this kind is a name.
@@ -33,13 +33,6 @@ pub(crate) fn is_string(kind: NodeKind) -> bool
     ensures { result ≡ is_string kind }
 {
     matches!(kind, NodeKind::StringLiteral)
-}
-
-/// A name without the `#` before it.
-fn without_sign(name: &str) -> &str
-    ensures { result.now ≡ without_sign name.now }
-{
-    name.strip_prefix('#').unwrap_or(name)
 }
 
 /// The StringValue of a name (ECMA-262, 12.7.1), a `#` aside.

@@ -6,31 +6,30 @@ ghost use Rattle.js_base.specs.Spans.{LiesIn};
 ghost use Rattle.js_base.specs.declared.kind.Kind.TheVariants.{Str};
 ghost use Rattle.js_grammar.specs.NodeNames.{without_sign, IsReadFrom};
 ghost use Rattle.js_grammar.specs.Strings.{string_kind};
-ghost use Rattle.js_record.specs.Checked.{AreUnder, IsSound, AreSound};
-ghost use Rattle.js_record.specs.Shown.{IsHeld, IsRead, label_at};
+ghost use Rattle.js_record.specs.Checked.{AreUnder, AreHeld, IsSound, AreSound};
+ghost use Rattle.js_record.specs.Shown.{IsRead, label_at};
 
 use crate::builder::ModuleRecordBuilder;
 use crate::reading::{is_string, is_word};
 use crate::record::ModuleRecord;
-use js_base::{DiagnosticKind, Diagnostics, NoMemory, SourceType, Span};
+use js_base::{Diagnostics, NoMemory, SourceType, Span};
 use js_tree::{NodeFlags, NodeId, NodeKind, Op, ParserAstBuilder};
 use std::alloc::Global;
 use std::test::Fail;
 
-/// Makes the node of `import` and a module specifier and visits it, as a parse function does.
-fn import_bare(
+/// Makes the node of a declaration over slots that were made before, and visits it, as a parse function does.
+fn declare(
     tree: &mut ParserAstBuilder,
     record: &mut ModuleRecordBuilder,
     source: &str,
+    kind: NodeKind,
     span: Span,
-    specifier: NodeId,
+    slots: Vec<Option<NodeId>>,
 ) -> Result<NodeId, NoMemory>
-    requires { IsHeld tree.old source.now specifier }
+    requires { AreHeld tree.old source.now slots.items }
 {
-    let flags = NodeFlags::default();
-    let kind = NodeKind::ImportDeclaration;
-    let id = tree.node_of_two(kind, span, Op::None, flags, Some(specifier), None)?;
-    record.visit_import_declaration(tree, source, id)?;
+    let id = tree.node(kind, span, Op::None, NodeFlags::default(), None, slots)?;
+    visit(record, tree, source, id, kind)?;
     Ok(id)
 }
 
@@ -52,8 +51,11 @@ fn import_call(
 /// empty slot.
 struct Step(NodeKind, u32, u32, &'static str);
 
-/// A text, its nodes, and the lines of its record.
-type Row = (&'static str, &'static [Step], &'static str);
+/// The place of an error and the other place.
+type Fault = (Span, Span);
+
+/// A text, its nodes, the lines of its record, and its error.
+type Row = (&'static str, &'static [Step], &'static str, Option<Fault>);
 
 static DEFAULT_IMPORT: [Step; 4] = [
     Step(NodeKind::StringLiteral, 14, 19, ""),
@@ -194,99 +196,137 @@ static TWICE: [Step; 7] = [
     Step(NodeKind::ExportNamedDeclaration, 0, 16, "nn"),
 ];
 
-/// Texts, the nodes of their declarations, and the lines of their records.
-fn rows() -> [Row; 19] {
+static TWO_DEFAULTS: [Step; 6] = [
+    Step(NodeKind::NumericLiteral, 15, 16, ""),
+    Step(NodeKind::ExportDefaultDeclaration, 0, 17, "n"),
+    Step(NodeKind::IdentifierReference, 27, 28, ""),
+    Step(NodeKind::IdentifierName, 32, 39, ""),
+    Step(NodeKind::ExportSpecifier, 27, 39, "nn"),
+    Step(NodeKind::ExportNamedDeclaration, 18, 42, "n"),
+];
+
+/// The rows.
+fn rows() -> [Row; 20] {
     [
         (
             "import v from 'mod'",
             &DEFAULT_IMPORT,
             "syntax yes\nrequest 14..19 0..19 import\nimport 0..19 request 14..19 default 7..8 local 7..8\n",
+            None,
         ),
         (
             "import * as ns from 'mod'",
             &NAMESPACE_IMPORT,
             "syntax yes\nrequest 20..25 0..25 import\nimport 0..25 request 20..25 namespace local 12..14\n",
+            None,
         ),
         (
             "import { x as v } from 'mod'",
             &NAMED_IMPORT,
             "syntax yes\nrequest 23..28 0..28 import\nimport 0..28 request 23..28 name 9..10 local 14..15\n",
+            None,
         ),
         (
             "import 'mod'",
             &BARE_IMPORT,
             "syntax yes\nrequest 7..12 0..12 import\n",
+            None,
         ),
         (
             "export * from 'mod'",
             &EXPORT_ALL,
             "syntax yes\nrequest 14..19 0..19 export\nstar 0..19 0..19 request 14..19 import all-but-default export null local null\n",
+            None,
         ),
         (
             "export { x }; var x",
             &EXPORT_NAME,
             "syntax yes\nexported 9..10\nlocal 0..13 9..10 request null import null export name 9..10 local name 9..10\n",
+            None,
         ),
         (
             "export { x as v }; var x",
             &EXPORT_UNDER_A_NAME,
             "syntax yes\nexported 14..15\nlocal 0..18 9..15 request null import null export name 14..15 local name 9..10\n",
+            None,
         ),
         (
             "export { x as v } from 'mod'",
             &EXPORT_FROM,
             "syntax yes\nrequest 23..28 0..28 export\nexported 14..15\nindirect 0..28 9..15 request 23..28 import name 9..10 export name 14..15 local null\n",
+            None,
         ),
         (
             "export var v",
             &EXPORT_VARIABLE,
             "syntax yes\nexported 11..12\nlocal 0..12 7..12 request null import null export name 11..12 local name 11..12\n",
+            None,
         ),
         (
             "export default function f() {}",
             &EXPORT_DEFAULT_FUNCTION,
             "syntax yes\nlocal 0..30 15..30 request null import null export default 7..14 local name 24..25\n",
+            None,
         ),
         (
             "export default 42",
             &EXPORT_DEFAULT_NUMBER,
             "syntax yes\nlocal 0..17 15..17 request null import null export default 7..14 local null\n",
+            None,
         ),
         (
             "export { default } from 'mod'",
             &EXPORT_DEFAULT_FROM,
             "syntax yes\nrequest 24..29 0..29 export\nexported 9..16\nindirect 0..29 9..16 request 24..29 import name 9..16 export name 9..16 local null\n",
+            None,
         ),
         (
             "import.meta.foo; import.meta.bar",
             &IMPORT_META,
             "syntax yes\nmeta 0..11\nmeta 17..28\n",
+            None,
         ),
         (
             "import source from 'source'",
             &IMPORT_SOURCE,
             "syntax yes\nrequest 19..27 0..27 import\nimport 0..27 request 19..27 default 7..13 local 7..13\n",
+            None,
         ),
-        ("export * from '\\uD800'", &LONE_SURROGATE, "syntax yes\n"),
+        (
+            "export * from '\\uD800'",
+            &LONE_SURROGATE,
+            "syntax yes\n",
+            None,
+        ),
         (
             "(a = import('x'))",
             &IMPORT_CALL,
             "syntax no\ndynamic 5..16 request 12..15\n",
+            None,
         ),
         (
             "import(import('x'))",
             &INNER_CALL,
             "syntax no\ndynamic 7..18 request 14..17\ndynamic 0..19 request 7..18\n",
+            None,
         ),
         (
             "import { x } from 'mod';export { x };export * as ns from 'mod';",
             &RE_EXPORT,
             "syntax yes\nrequest 18..23 0..24 import\nrequest 57..62 37..63 export\nexported 33..34\nexported 49..51\nimport 0..24 request 18..23 name 9..10 local 9..10\nindirect 0..24 33..34 request 18..23 import name 9..10 export name 33..34 local null\nindirect 37..63 37..63 request 57..62 import all export name 49..51 local null\n",
+            None,
         ),
         (
             "export { a, a }; var a",
             &TWICE,
             "syntax yes\nexported 12..13\nlocal 0..16 9..10 request null import null export name 9..10 local name 9..10\nlocal 0..16 12..13 request null import null export name 12..13 local name 12..13\n",
+            Some((Span { start: 9, end: 10 }, Span { start: 12, end: 13 })),
+        ),
+        (
+            "export default 1; export { a as default }; var a",
+            &TWO_DEFAULTS,
+            "syntax yes\nexported 32..39\nlocal 0..17 15..16 request null import null export default 7..14 local null\nlocal 18..42 27..39 request null import null export name 32..39 local name 27..28\n",
+            Some((Span { start: 7, end: 14 }, Span { start: 32, end: 39 })),
         ),
     ]
 }
@@ -381,33 +421,29 @@ fn is_visited(tree: &ParserAstBuilder, source: &str, id: NodeId) -> bool
     are_read(tree, source)
 }
 
-/// Visits a node of a kind that adds something; whether its tree is read from the text.
+/// Visits a node of a kind that adds something.
 fn visit(
     record: &mut ModuleRecordBuilder,
     tree: &ParserAstBuilder,
     source: &str,
     id: NodeId,
     kind: NodeKind,
-) -> Result<bool, NoMemory> {
-    if !is_visited(tree, source, id) {
-        return Ok(false);
-    }
+) -> Result<(), NoMemory>
+    requires { IsRead tree.now source.now id }
+{
     match kind {
-        NodeKind::ImportDeclaration => record.visit_import_declaration(tree, source, id)?,
-        NodeKind::ExportAllDeclaration => record.visit_export_all_declaration(tree, source, id)?,
-        NodeKind::ExportFromDeclaration => record.visit_export_from_declaration(tree, source, id)?,
-        NodeKind::ExportNamedDeclaration => {
-            record.visit_export_named_declaration(tree, source, id)?
-        }
-        NodeKind::ExportDeclaration => record.visit_export_declaration(tree, source, id)?,
+        NodeKind::ImportDeclaration => record.visit_import_declaration(tree, source, id),
+        NodeKind::ExportAllDeclaration => record.visit_export_all_declaration(tree, source, id),
+        NodeKind::ExportFromDeclaration => record.visit_export_from_declaration(tree, source, id),
+        NodeKind::ExportNamedDeclaration => record.visit_export_named_declaration(tree, source, id),
+        NodeKind::ExportDeclaration => record.visit_export_declaration(tree, source, id),
         NodeKind::ExportDefaultDeclaration => {
-            record.visit_export_default_declaration(tree, source, id, DEFAULT_WORD)?
+            record.visit_export_default_declaration(tree, source, id, DEFAULT_WORD)
         }
-        NodeKind::ImportExpression => record.visit_import_expression(tree, id)?,
-        NodeKind::ImportMeta => record.visit_import_meta(tree.span(id))?,
-        _ => {}
+        NodeKind::ImportExpression => record.visit_import_expression(tree, id),
+        NodeKind::ImportMeta => record.visit_import_meta(tree.span(id)),
+        _ => Ok(()),
     }
-    Ok(true)
 }
 
 /// The slots of a step, taken from the end of the nodes that are in none yet.
@@ -424,15 +460,14 @@ fn slots_of(
     Ok(taken)
 }
 
-/// The record of the nodes of a row, each visited when it is made, and its errors; none where a node isn't read from the
-/// text.
-fn record_of(
+/// Visits the nodes of a row, each when it is made; whether each is read from the text.
+fn visit_all(
     alloc: Global,
+    record: &mut ModuleRecordBuilder,
     source: &str,
     steps: &[Step],
-) -> Result<Option<(ModuleRecord, Diagnostics)>, NoMemory> {
+) -> Result<bool, NoMemory> {
     let mut tree = ParserAstBuilder::new(alloc)?;
-    let mut record = ModuleRecordBuilder::new(alloc, SourceType::module());
     let mut free = Vec::new(alloc);
     for Step(kind, start, end, slots) in steps {
         let span = Span {
@@ -441,33 +476,76 @@ fn record_of(
         };
         let children = slots_of(alloc, &mut free, slots)?;
         let id = tree.node(*kind, span, Op::None, NodeFlags::default(), None, children)?;
-        if !visit(&mut record, &tree, source, id, *kind)? {
-            return Ok(None);
+        if !is_visited(&tree, source, id) {
+            return Ok(false);
         }
+        visit(record, &tree, source, id, *kind)?;
         free.push(id)?;
     }
-    Ok(Some(record.build()?))
+    Ok(true)
 }
 
-/// The lines of each record, and whether its names differ: in each row but the last, which has the one error.
+/// Whether these are the errors: this one alone, or none.
+fn is_fault(errors: &Diagnostics, fault: Option<Fault>) -> bool {
+    let Some((span, first)) = fault else {
+        return errors.is_empty();
+    };
+    let Some(error) = errors.get(0) else {
+        return false;
+    };
+    errors.len() == 1 && error.span == span && error.first == Some(first)
+}
+
+/// Whether the record has these lines.
+fn has_lines(alloc: Global, record: &ModuleRecord, lines: &str) -> Result<bool, NoMemory> {
+    let given = record.record_lines(alloc)?;
+    Ok(given.as_slice() == lines.as_bytes())
+}
+
+/// Whether the record has these lines and the errors are this one or none, and a name is exported twice exactly where
+/// there is one.
+fn is_right(
+    alloc: Global,
+    record: &ModuleRecord,
+    errors: &Diagnostics,
+    lines: &str,
+    fault: Option<Fault>,
+) -> Result<bool, NoMemory> {
+    let distinct = record.exports_distinct();
+    Ok(has_lines(alloc, record, lines)? && is_fault(errors, fault) && distinct == fault.is_none())
+}
+
+/// Whether the record and the errors of the visits are right, as `is_right` says.
+fn builds(
+    alloc: Global,
+    builder: ModuleRecordBuilder,
+    lines: &str,
+    fault: Option<Fault>,
+) -> Result<bool, NoMemory> {
+    let built = builder.build()?;
+    is_right(alloc, &built.0, &built.1, lines, fault)
+}
+
+/// Whether a row holds: its nodes are read from its text, and its record and its errors are right.
+fn holds(
+    alloc: Global,
+    source: &str,
+    steps: &[Step],
+    lines: &str,
+    fault: Option<Fault>,
+) -> Result<bool, NoMemory> {
+    let mut builder = ModuleRecordBuilder::new(alloc, SourceType::module());
+    if !visit_all(alloc, &mut builder, source, steps)? {
+        return Ok(false);
+    }
+    builds(alloc, builder, lines, fault)
+}
+
 #[test]
 fn records_of_rows(rt: HostRuntime) -> Result<(), Fail> {
     let alloc = rt.alloc();
-    for (source, steps, want) in rows() {
-        let Some((record, errors)) = record_of(alloc, source, steps)? else {
-            assert!(rt; false, "at {source}");
-            return Ok(());
-        };
-        let lines = record.record_lines(alloc)?;
-        assert_eq!(rt; lines.as_slice(), want.as_bytes(), "at {source}");
-        let twice = source == "export { a, a }; var a";
-        assert_eq!(rt; record.exports_distinct(), !twice, "at {source}");
-        assert_eq!(rt; errors.is_empty(), !twice, "at {source}");
-        if let Some(error) = errors.get(0) {
-            assert_eq!(rt; error.kind, DiagnosticKind::DuplicateExport);
-            assert_eq!(rt; error.span, Span { start: 9, end: 10 });
-            assert_eq!(rt; error.first, Some(Span { start: 12, end: 13 }));
-        }
+    for (source, steps, lines, fault) in rows() {
+        assert!(rt; holds(alloc, source, steps, lines, fault)?, "at {source}");
     }
     Ok(())
 }
