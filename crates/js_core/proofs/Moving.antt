@@ -189,7 +189,7 @@ pub beside_nodes : {text : List ℕ} {f : Flags} {p : Parser} (ns : List Node) �
 beside_nodes ns a = record { text_is = a.text_is; flags_are = a.flags_are; at = at_of a.at; plain = plain_of a.plain; behind = a.behind }
   where
     at_of : {p : Parser} → IsAt p → IsAt (record p { nodes = ns })
-    at_of a = record { reads = a.reads; reads_for = a.reads_for; reached = a.reached; between = a.between; token = a.token; lies = a.lies; last = a.last; marked = a.marked; faulty = a.faulty }
+    at_of a = record { reads = a.reads; reads_for = a.reads_for; utf8 = a.utf8; short = a.short; reached = a.reached; between = a.between; token = a.token; lies = a.lies; last = a.last; marked = a.marked; faulty = a.faulty; noted = a.noted }
 
     plain_of : {text : List ℕ} {p : Parser} → IsPlain text p → IsPlain text (record p { nodes = ns })
     plain_of (whole c n x) = whole c n x
@@ -197,14 +197,14 @@ beside_nodes ns a = record { text_is = a.text_is; flags_are = a.flags_are; at = 
     plain_of (nothing c k n) = nothing c k n
 
 pub same_nodes : {p : Parser} (ns : List Node) → Same p (record p { nodes = ns })
-same_nodes {p} ns = record { follows = let g = follows_itself p in record { text = g.text; source_type = g.source_type; later_errors = g.later_errors; errors = g.errors; later_visits = g.later_visits; visits = g.visits; later_faults = g.later_faults; faults = g.faults; longer = g.longer }; options = refl; ctx = refl; depth = refl; visits = refl }
+same_nodes {p} ns = record { follows = let g = follows_itself p in record { text = g.text; source_type = g.source_type; later_errors = g.later_errors; errors = g.errors; later_visits = g.later_visits; visits = g.visits; later_covers = g.later_covers; covers = g.covers; later_commas = g.later_commas; commas = g.commas; later_faults = g.later_faults; faults = g.faults; longer = g.longer }; options = refl; ctx = refl; depth = refl; visits = refl }
 
 -- at another depth
 depth_at : {text : List ℕ} {f : Flags} {p : Parser} (k : ℕ) → At text f p → At text f (record p { depth = k })
 depth_at {text} {f} {p} k a = record { text_is = a.text_is; flags_are = a.flags_are; at = at_of a.at; plain = plain_of a.plain; behind = a.behind }
   where
     at_of : IsAt p → IsAt (record p { depth = k })
-    at_of a = record { reads = a.reads; reads_for = a.reads_for; reached = a.reached; between = a.between; token = a.token; lies = a.lies; last = a.last; marked = a.marked; faulty = a.faulty }
+    at_of a = record { reads = a.reads; reads_for = a.reads_for; utf8 = a.utf8; short = a.short; reached = a.reached; between = a.between; token = a.token; lies = a.lies; last = a.last; marked = a.marked; faulty = a.faulty; noted = a.noted }
 
     plain_of : IsPlain text p → IsPlain text (record p { depth = k })
     plain_of (whole c n x) = whole c n x
@@ -212,7 +212,7 @@ depth_at {text} {f} {p} k a = record { text_is = a.text_is; flags_are = a.flags_
     plain_of (nothing c k n) = nothing c k n
 
 follows_depth : {p q : Parser} (k j : ℕ) → Follows (record p { depth = k }) q → Follows p (record q { depth = j })
-follows_depth k j g = record { text = g.text; source_type = g.source_type; later_errors = g.later_errors; errors = g.errors; later_visits = g.later_visits; visits = g.visits; later_faults = g.later_faults; faults = g.faults; longer = g.longer }
+follows_depth k j g = record { text = g.text; source_type = g.source_type; later_errors = g.later_errors; errors = g.errors; later_visits = g.later_visits; visits = g.visits; later_covers = g.later_covers; covers = g.covers; later_commas = g.later_commas; commas = g.commas; later_faults = g.later_faults; faults = g.faults; longer = g.longer }
 
 out_of : {text : List ℕ} {f : Flags} {n : Symbol} {p q : Parser} {id : NodeId} (k j : ℕ) → j ≡ p.depth → Numbered text f n (record p { depth = k }) q id → Numbered text f n p (record q { depth = j }) id
 out_of k j e x = record {
