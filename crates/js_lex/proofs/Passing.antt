@@ -1,5 +1,5 @@
 -- Trivia, one piece after the other.
-use Rattle.std.proofs.Common.{◌≡◌, ◌<◌, ℕ, ◌+◌, ◌==◌, Bool, true, false, List, [], ◌∷◌, ◌++◌, refl, sym, ap, subst, ◌∙◌, ◌&&◌, ◌||◌, length, arith, append_assoc, append-nil, Option, Some, None, map, take, drop}
+use Rattle.std.proofs.Common.{◌≡◌, ℕ, ◌+◌, ◌==◌, Bool, true, false, List, [], ◌∷◌, ◌++◌, refl, sym, ap, subst, ◌∙◌, ◌&&◌, ◌||◌, length, arith, append_assoc, append-nil, Option, Some, None, map, take, drop}
 use Rattle.std.specs.Prelude.{IsCharBoundary}
 use Rattle.std.proofs.lemmas.List.Folds.{list_any-append}
 use Rattle.std.proofs.Math.Bool.{or-false, or_assoc}

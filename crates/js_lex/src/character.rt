@@ -1,6 +1,6 @@
 //! One character of a text, where a byte of ASCII costs no decoding.
 
-ghost use Rattle.std.specs.Prelude.{◌≡◌, IsCharBoundary};
+ghost use Rattle.std.specs.Prelude.{◌≡◌, ◌≤◌, ◌⊎◌, IsCharBoundary};
 ghost use Rattle.js_lex.specs.Places.{Peeks};
 ghost use Rattle.js_lex.specs.NextCharacters.{NextAt, IsNext};
 
@@ -28,10 +28,11 @@ pub(crate) fn next_character(text: &str, at: usize) -> Option<Character>
 
 /// The character at a place that a byte begins.
 #[inline]
-fn character_of(text: &str, at: usize, byte: u8) -> Character
+pub(crate) fn character_of(text: &str, at: usize, byte: u8) -> Character
     requires boundary { IsCharBoundary text.now at }
     requires byte { Peeks text.now at byte }
-    ensures { IsNext text.now at result }
+    ensures next { IsNext text.now at result }
+    ensures same { (result.value ≡ byte) ⊎ (128 ≤ result.value) }
 {
     if byte < 128 {
         return Character {

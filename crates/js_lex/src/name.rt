@@ -14,9 +14,10 @@ ghost use Rattle.js_lex.specs.Scans.{Scans, IsScanned, IsStopped};
 ghost use Rattle.js_lex.specs.declared.name.State.TheVariants.{Due, Braced};
 
 use crate::byte_class::class_of;
+use crate::character::next_character;
 use crate::class;
 use crate::part::parts_end;
-use crate::place::{byte_at, char_at};
+use crate::place::byte_at;
 use crate::scan::{Fault, Scan, Scanned};
 use crate::word::kind_of_word;
 use js_base::{DiagnosticKind, Kind};
@@ -415,12 +416,12 @@ fn other_piece(text: &str, at: usize, position: Position) -> Result<Piece, usize
     requires high { High text.now at }
     ensures { MatchResult result (λ p. names.IsPiece (names.may_stand position) text.now at p) (λ end. names.NoPiece (names.may_stand position) text.now at end) }
 {
-    match char_at(text, at) {
-        Some(c) => {
-            if may_stand(c, position) {
+    match next_character(text, at) {
+        Some(next) => {
+            if may_stand(next.value, position) {
                 Ok(Piece {
-                    code_point: c as u32,
-                    end: at + c.len_utf8(),
+                    code_point: next.value as u32,
+                    end: next.end,
                     escaped: false,
                 })
             } else {

@@ -13,9 +13,10 @@ ghost use Rattle.js_lex.specs.Numbers.{begins_number, AreDigits, AreLegacy, Read
 ghost use Rattle.js_lex.specs.Faults.{PartsEnd};
 ghost use Rattle.js_lex.specs.Scans.{Scans};
 
+use crate::character::next_character;
 use crate::class::is_identifier_start;
 use crate::part::parts_end;
-use crate::place::{byte_at, char_at, digit_at, is_at, is_either_at};
+use crate::place::{digit_at, is_at, is_either_at};
 use crate::scan::{Fault, Scan, Scanned};
 use js_base::{DiagnosticKind, Kind};
 
@@ -94,14 +95,10 @@ fn stops_at(text: &str, at: usize) -> bool
     requires { IsCharBoundary text.now at }
     ensures { result ≡ stops_number (behind text.now at) }
 {
-    match byte_at(text, at) {
-        Some(byte) if byte < 128 => !(byte.is_ascii_digit()
-            || byte == b'\\'
-            || is_identifier_start(char::from(byte))),
-        Some(_) => match char_at(text, at) {
-            Some(c) => !is_identifier_start(c),
-            None => true,
-        },
+    match next_character(text, at) {
+        Some(next) => {
+            !(next.value.is_ascii_digit() || next.value == '\\' || is_identifier_start(next.value))
+        }
         None => true,
     }
 }

@@ -1,6 +1,6 @@
 //! How a token is made of what a scan answers, and what is kept of it.
 
-ghost use Rattle.std.specs.Prelude.{Ok, ◌≡◌, ◌≤◌, ◌<◌, ◌+◌, [], ◌∷◌, true, length, IfOk, IfSome, OnOk, OnErr, IsCharBoundary};
+ghost use Rattle.std.specs.Prelude.{Ok, Err, ◌≡◌, ◌≤◌, ◌<◌, ◌+◌, [], ◌∷◌, true, length, IfOk, IfSome, OnOk, OnErr, IsCharBoundary, false};
 ghost use Rattle.js_grammar.specs.Lexemes.{division};
 ghost use Rattle.js_lex.specs.Scans.{Scans};
 ghost use Rattle.js_lex.specs.Kept.{Grows, Extends};
@@ -160,10 +160,7 @@ pub(crate) fn settle(
 {
     match scan {
         Ok(scanned) => settle_lexeme(kept, keeps_tokens, start, is_on_new_line, scanned),
-        Err(fault) => {
-            keep_fault(kept, fault)?;
-            Ok(undetermined(fault, start, is_on_new_line))
-        }
+        Err(fault) => settle_fault(kept, start, is_on_new_line, fault),
     }
 }
 
@@ -185,6 +182,21 @@ fn settle_lexeme(
     Ok(token)
 }
 
+/// The token that stands for a fault, which is kept.
+pub(crate) fn settle_fault(
+    kept: &mut LexerOutput,
+    start: usize,
+    is_on_new_line: bool,
+    fault: Fault,
+) -> Result<Token, NoMemory>
+    requires { Fits MAX_LEN start (Err fault) }
+    ensures ok { IfOk result (λ t. Settled false start is_on_new_line (Err fault) kept.old kept.new t) }
+    ensures err { OnErr result (Extends kept.old kept.new) }
+{
+    kept.keep_fault(fault.kind, Span::new(fault.start as u32, fault.end as u32))?;
+    Ok(undetermined(fault, start, is_on_new_line))
+}
+
 /// The token of a lexeme.
 #[inline(always)]
 pub(crate) fn token_of(scanned: Scanned, start: usize, is_on_new_line: bool) -> Token
@@ -203,7 +215,7 @@ pub(crate) fn token_of(scanned: Scanned, start: usize, is_on_new_line: bool) -> 
 }
 
 /// The token that stands for a fault.
-pub(crate) fn undetermined(fault: Fault, start: usize, is_on_new_line: bool) -> Token
+fn undetermined(fault: Fault, start: usize, is_on_new_line: bool) -> Token
     requires ordered { start ≤ fault.end }
     requires short { fault.end ≤ MAX_LEN }
     ensures { result ≡ settling.undetermined_of fault start is_on_new_line }
@@ -228,14 +240,4 @@ pub(crate) fn is_kept(kind: Kind) -> bool
     ensures { result ≡ reading.is_kept kind }
 {
     !matches!(kind, Kind::HashbangComment | Kind::Eof | Kind::Undetermined)
-}
-
-/// Keeps a fault.
-pub(crate) fn keep_fault(kept: &mut LexerOutput, fault: Fault) -> Result<(), NoMemory>
-    requires ordered { fault.start ≤ fault.end }
-    requires short { fault.end ≤ MAX_LEN }
-    ensures ok { OnOk result (Grows kept.old kept.new [] [] [] (settling.diagnostic_of fault ∷ [])) }
-    ensures err { OnErr result (Extends kept.old kept.new) }
-{
-    kept.keep_fault(fault.kind, Span::new(fault.start as u32, fault.end as u32))
 }

@@ -12,7 +12,7 @@ ghost use Rattle.js_grammar.specs.Characters.{begins};
 ghost use Rattle.js_grammar.specs.LexicalFaults.{behind};
 
 use crate::output::LexerOutput;
-use crate::reading::{is_kept, keep_fault, token_of, undetermined};
+use crate::reading::{is_kept, settle_fault, token_of};
 use crate::regular_expression::{NONE_SEEN, RegularExpression, flag_at, regular_expression_at};
 use crate::scan::{Scan, Scanned};
 use js_base::{DiagnosticKind, Kind, MAX_LEN, NoMemory, Span, Token};
@@ -38,10 +38,7 @@ pub(crate) fn settle_again(
             }
             Ok(token)
         }
-        Err(fault) => {
-            keep_fault(kept, fault)?;
-            Ok(undetermined(fault, start, given.is_on_new_line()))
-        }
+        Err(fault) => settle_fault(kept, start, given.is_on_new_line(), fault),
     }
 }
 

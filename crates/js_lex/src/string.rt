@@ -10,8 +10,9 @@ ghost use Rattle.js_lex.specs.Places.{Peeks};
 ghost use Rattle.js_lex.specs.Scans.{Scans};
 ghost use Rattle.js_lex.specs.Strings.{IsInner, Passes, OneCharacter, Escapes, EndsLine, IsInside, StandsBetween};
 
+use crate::character::character_of;
 use crate::part::parts_end;
-use crate::place::{byte_at, char_at};
+use crate::place::byte_at;
 use crate::scan::{Fault, Scan, Scanned};
 use js_base::{DiagnosticKind, Kind, invalid_escape};
 
@@ -120,13 +121,7 @@ fn character_end(text: &str, at: usize, byte: u8) -> usize
     requires byte { Peeks text.now at byte }
     ensures { OneCharacter text.now at byte result }
 {
-    if byte < 128 {
-        return at + 1;
-    }
-    match char_at(text, at) {
-        Some(c) => at + c.len_utf8(),
-        None => unreachable!(),
-    }
+    character_of(text, at, byte).end
 }
 
 /// The place behind what a backslash directly before a place escapes: a character, or CR LF, which counts as one
