@@ -1,5 +1,5 @@
 -- In a store in which every node is read from the text and stands above its children, each number stands for a tree.
-use Rattle.std.proofs.Common.{◌≡◌, ℕ, zero, suc, ◌<◌, ◌≤◌, true, false, List, [], ◌∷◌, ◌++◌, Option, Some, None, length, get_or, arith, refl, sym, ap, ◌∙◌, subst, true≢false}
+use Rattle.std.proofs.Common.{◌≡◌, ℕ, zero, suc, ◌<◌, true, false, List, [], ◌∷◌, ◌++◌, Option, Some, None, length, get_or, arith, sym, ap, ◌∙◌, subst, true≢false}
 use Rattle.std.specs.Prelude.{IsSome, chars}
 use Rattle.js_base.specs.Decoding.{name_text}
 use Rattle.js_base.specs.Spans.{LiesIn}
