@@ -1,12 +1,13 @@
-mod Recording
-mod Moving
-mod Keeping
+pub mod Recording
+pub mod Moving
+pub mod Keeping
 mod KindTests
-mod Standing
-mod Rereading
+pub mod Standing
+pub mod Rereading
 mod Starting
 mod Firsts
 mod Returning
-mod Later
-mod Plains
-mod Partnering
+pub mod Later
+pub mod Changing
+pub mod Plains
+pub mod Partnering
