@@ -155,7 +155,7 @@ keeps_follows {d} {p} {q} h = subst (Follows p) (sym h.is) (record {
   longer = record { comments = omega arith; irregular_whitespaces = omega arith; tokens = omega arith; errors = omega arith };
 })
 
-first_part : {X : Type 0} (a b x : List X) (n : ℕ) → b ≡ a ++ x → n ≡ length a → take n b ≡ a
+pub first_part : {X : Type 0} (a b x : List X) (n : ℕ) → b ≡ a ++ x → n ≡ length a → take n b ≡ a
 first_part a b x n e f = ap (λ v. take n v) e ∙ ap (λ (m : ℕ). take m (a ++ x)) f ∙ take-append_seam a x
 
 as_then : {V : Type 0} {cs ds : List (ℕ × Option V)} {i j : ℕ} → StandBefore cs i → ds ≡ cs → i ≡ j → StandBefore ds j

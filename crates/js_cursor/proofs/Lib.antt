@@ -8,5 +8,6 @@ pub mod Starting
 pub mod Firsts
 pub mod Returning
 pub mod Later
+pub mod Changing
 pub mod Plains
 pub mod Partnering

@@ -80,3 +80,7 @@ pub record Follows (old new : Parser) : Type 0 where
   pub later_faults : List Diagnostic
   pub faults : new.lexer.kept.errors ≡ old.lexer.kept.errors ++ later_faults
   pub longer : AreAtMost (lengths_of old.lexer.kept) (lengths_of new.lexer.kept)
+
+-- The parser stands where lexemes lead to, and what was kept is still there.
+abbrev pub GoesOn : Parser → Parser → Type 0
+GoesOn old new = Follows old new × IsAt new
