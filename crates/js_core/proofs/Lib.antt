@@ -9,3 +9,4 @@ pub mod Operations
 pub mod Phrases
 pub mod Operands
 pub mod Giving
+pub mod Beginning
