@@ -1,6 +1,7 @@
 // No text is slow: makes long texts of one form each, 6 and 12 megabytes, runs the lexer over both, and prints how many
 // times the time twice the text takes. It fails where that is more than 2.3.
-//   node bench/long.mjs [MEGABYTES]
+//   node bench/long.mjs [MEGABYTES [WORD]]
+// With a word it takes the forms alone whose names have it.
 import { execFileSync } from 'node:child_process'
 import { existsSync, openSync, closeSync, writeFileSync, mkdtempSync, rmSync } from 'node:fs'
 import { dirname, join } from 'node:path'
@@ -63,7 +64,8 @@ const forms = {
   'block comments': ['', '/**/', ''],
   'one block comment of asterisks': ['/*', '*', '*/'],
   'one block comment without end': ['/*', 'comment\n', ''],
-  'openings of block comments': ['', '/*', ''],
+  'openings of block comments': ['', '/* ', ''],
+  'comments and asterisks': ['', '/*', ''],
   'HTML-like comments': ['', '<!--\n-->\n', ''],
   'less and hyphens': ['', '<!-', ''],
   'closings of HTML-like comments': ['', '-->', ''],
@@ -116,9 +118,10 @@ function time([first, again, last], bytes, passes) {
 }
 
 const bytes = Number(process.argv[2] ?? '6') * 1e6
+const asked = Object.entries(forms).filter(([name]) => name.includes(process.argv[3] ?? ''))
 const slow = []
 let most = 0
-for (const [name, form] of Object.entries(forms)) {
+for (const [name, form] of asked) {
   let ratio = Infinity
   let once = 0
   // A machine that does other work too may be slow at one of both: such a form is measured again.
@@ -131,5 +134,5 @@ for (const [name, form] of Object.entries(forms)) {
   if (ratio > 2.3) slow.push(name)
 }
 rmSync(folder, { recursive: true })
-console.log(`${Object.keys(forms).length} forms, ${most.toFixed(2)} times at most${slow.length ? ', too slow: ' + slow.join(', ') : ''}`)
+console.log(`${asked.length} forms, ${most.toFixed(2)} times at most${slow.length ? ', too slow: ' + slow.join(', ') : ''}`)
 process.exitCode = slow.length ? 1 : 0

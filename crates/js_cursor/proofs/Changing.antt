@@ -16,8 +16,8 @@ use Rattle.js_cursor.specs.Histories.{put, nowhere, after, standing, without, St
 use Rattle.js_cursor.specs.Notes.{Notes, NotesFailed}
 use Rattle.js_cursor.specs.Parsers.{Parser}
 use Rattle.js_cursor.specs.Places.{IsAt, KeptBefore}
-use Rattle.js_cursor.specs.Moves.{Enters, Leaves, NotesArrow, GivesUp}
-use Rattle.js_cursor.proofs.Later.{follows_itself, keeps_follows, first_part}
+use Rattle.js_cursor.specs.Moves.{MovesOn, Enters, Leaves, NotesArrow, GivesUp}
+use Rattle.js_cursor.proofs.Later.{keeps_follows, first_part, moves_on_follow, moved_at, may_go_back}
 
 -- ---- what stands after one change more
 
@@ -166,3 +166,34 @@ came_back {p} {q} {r} {c} m f g = record {
   faults = ap (λ o. o.errors) g.kept ∙ first_part p.lexer.kept.errors q.lexer.kept.errors f.later_faults c.lexer.lengths.errors f.faults (ap (λ l. l.errors) m.lengths);
   place = g.place ∙ m.place;
 }
+
+-- ---- the same, of a parser seen as p
+
+module _ {p q : Parser} where
+  pub ctx_seen : p ≡ q → (c : Context) → IsAt q → GoesOn q (record p { ctx = c })
+  ctx_seen v c a = subst (λ (z : Parser). GoesOn z (record p { ctx = c })) v (ctx_set c (subst IsAt (sym v) a))
+
+  pub visits_seen : p ≡ q → (vs more : List Visit) → IsAt q → vs ≡ p.visits ++ more → GoesOn q (record p { visits = vs })
+  visits_seen v vs more a e = subst (λ (z : Parser). GoesOn z (record p { visits = vs })) v (visited vs more (subst IsAt (sym v) a) e)
+
+  changed : p ≡ q → (s t : Notes) → s ≡ t → GoesOn p (record p { state = t }) → GoesOn q (record p { state = s })
+  changed v s t e h = subst (λ (z : Parser). GoesOn z (record p { state = s })) v (subst (λ (x : Notes). GoesOn p (record p { state = x })) (sym e) h)
+
+  pub cover_added_seen : p ≡ q → (s : Notes) (k : ℕ) (c : CoverInitializer) → IsAt q → k < q.token.span.start → s ≡ record p.state { covers = p.state.covers ++ (k, Some c) ∷ [] } → GoesOn q (record p { state = s })
+  cover_added_seen v s k c a l e = changed v s _ e (cover_added k c (subst IsAt (sym v) a) (subst (λ (z : Parser). k < z.token.span.start) (sym v) l))
+
+  pub comma_added_seen : p ≡ q → (s : Notes) (k : ℕ) (c : Span) → IsAt q → k < q.token.span.start → s ≡ record p.state { commas = p.state.commas ++ (k, Some c) ∷ [] } → GoesOn q (record p { state = s })
+  comma_added_seen v s k c a l e = changed v s _ e (comma_added k c (subst IsAt (sym v) a) (subst (λ (z : Parser). k < z.token.span.start) (sym v) l))
+
+  pub cover_taken_seen : p ≡ q → (s : Notes) (k : ℕ) → IsAt q → s ≡ record p.state { covers = without p.state.covers k } → GoesOn q (record p { state = s })
+  cover_taken_seen v s k a e = changed v s _ e (cover_taken k (subst IsAt (sym v) a))
+
+  pub cover_popped_seen : p ≡ q → (s : Notes) (r : Option CoverInitializer) → IsAt q → Pops p.state.covers s.covers r → s ≡ record p.state { covers = s.covers } → GoesOn q (record p { state = s })
+  cover_popped_seen v s r a h e = changed v s _ e (cover_popped r s.covers (subst IsAt (sym v) a) h)
+
+pub moved_on : {p q : Parser} → MovesOn p q → GoesOn p q
+moved_on h = (moves_on_follow h, moved_at h)
+
+-- the parser may go back to where it was remembered
+pub may_return : {p here q : Parser} {c : ParserCheckpoint} → IsAt p → Remembers p c → here ≡ p → Follows here q → MayGoBack c q
+may_return {p} {here} {q} {c} a r e f = may_go_back a r (subst (λ (x : Parser). Follows x q) e f)

@@ -550,7 +550,7 @@ fn records_of_rows(rt: HostRuntime) -> Result<(), Fail> {
     Ok(())
 }
 
-/// The record of calls alone has no module syntax, and `set_module_syntax` gives it.
+/// The record of calls alone has no module syntax, and `set_module_syntax` gives it. Neither is an error.
 #[test]
 fn module_syntax_is_set(rt: HostRuntime) -> Result<(), Fail> {
     let alloc = rt.alloc();
@@ -565,5 +565,6 @@ fn module_syntax_is_set(rt: HostRuntime) -> Result<(), Fail> {
     assert!(rt; !record.has_module_syntax());
     record.set_module_syntax()?;
     assert!(rt; record.has_module_syntax());
+    assert!(rt; record.errors()?.is_empty());
     Ok(())
 }
