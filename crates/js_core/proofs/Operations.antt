@@ -135,7 +135,7 @@ module _ {text : List ℕ} {f : Flags} where
     holds = x.holds;
     keeps = x.keeps;
   }
-      where
+    where
       wider : (y : Lexeme) → IsTrue (seen (looser 15 f.in_ (row_of x.answer.label x.answer.slots)) y || seen beside y) → IsTrue (seen (looser 16 f.in_ (row_of x.answer.label x.answer.slots)) y || seen beside y)
       wider y h = looser_or 15 16 (tight f.in_ (row_of x.answer.label x.answer.slots) y.kind y.newline y.escaped) (seen beside y) (omega arith) h
 

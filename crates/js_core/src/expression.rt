@@ -12,9 +12,7 @@ ghost use Rattle.js_core.specs.States.{Standing};
 
 use crate::lexemes::{advance, operator_here};
 use crate::nodes::{make_leaf, make_one, make_two};
-use js_base::{
-    Kind, NoMemory, map_binary_operator, map_logical_operator, map_unary_operator,
-};
+use js_base::{Kind, NoMemory, map_binary_operator, map_logical_operator, map_unary_operator};
 use js_cursor::{ParserImpl, Stop};
 use js_lex::ParserConfig;
 use js_tree::{NodeId, NodeKind, NumberBase, Op};
@@ -34,10 +32,7 @@ pub fn parse_assignment_expression_or_higher<C: ParserConfig>(
 
 /// Operands, and operators between them that bind at least as tight as `least`, grouped to the left (ECMA-262, sections
 /// 13.6 to 13.13).
-fn parse_operators<C: ParserConfig>(
-    p: &mut ParserImpl<'_, C>,
-    least: u8,
-) -> Result<NodeId, Stop>
+fn parse_operators<C: ParserConfig>(p: &mut ParserImpl<'_, C>, least: u8) -> Result<NodeId, Stop>
     requires at { Standing p.old }
     requires low { 5 ≤ least }
     requires high { least ≤ 15 }

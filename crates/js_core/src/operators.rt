@@ -18,13 +18,7 @@ pub fn binding_power(kind: Kind, allows_in: bool) -> u8
         Kind::Amp => 9,
         Kind::Eq2 | Kind::Neq | Kind::Eq3 | Kind::Neq2 => 10,
         Kind::LAngle | Kind::RAngle | Kind::LtEq | Kind::GtEq | Kind::Instanceof => 11,
-        Kind::In => {
-            if allows_in {
-                11
-            } else {
-                0
-            }
-        }
+        Kind::In => { if allows_in { 11 } else { 0 } }
         Kind::ShiftLeft | Kind::ShiftRight | Kind::ShiftRight3 => 12,
         Kind::Plus | Kind::Minus => 13,
         Kind::Star | Kind::Percent => 14,

@@ -1,48 +1,26 @@
 //! Rows of expressions: their trees, and what is told of texts that have none.
 
-ghost use Rattle.std.specs.Prelude.{◌≡◌, ◌≤◌, length};
-ghost use Rattle.js_base.specs.declared.TheConstants.{MAX_LEN};
+ghost use Rattle.std.specs.Prelude.{IfSome};
 ghost use Rattle.js_core.specs.States.{Standing};
 
 use crate::parse_assignment_expression_or_higher;
-use js_base::{DiagnosticKind, Kind, MAX_LEN, ParseOptions, SourceType, Span};
+use js_base::{Kind, MAX_LEN, ParseOptions, SourceType, Span};
 use js_cursor::{ParserImpl, Stop};
 use js_lex::NoTokensParserConfig;
 use js_tree::NodeId;
-use std::test::Fail;
+use std::alloc::Global;
 
 type Parser<'a> = ParserImpl<'a, NoTokensParserConfig>;
 
 /// A text, and the lines of its tree, whose statement is left out.
 static READ: [(&str, &str); 20] = [
-    (
-        "a",
-        "Program 0..1\n  IdentifierReference 0..1\n",
-    ),
-    (
-        "1",
-        "Program 0..1\n  NumericLiteral 0..1 Decimal\n",
-    ),
-    (
-        "this",
-        "Program 0..4\n  ThisExpression 0..4\n",
-    ),
-    (
-        "null",
-        "Program 0..4\n  NullLiteral 0..4\n",
-    ),
-    (
-        "true",
-        "Program 0..4\n  BooleanLiteral 0..4\n",
-    ),
-    (
-        "false",
-        "Program 0..5\n  BooleanLiteral 0..5\n",
-    ),
-    (
-        "'x'",
-        "Program 0..3\n  StringLiteral 0..3\n",
-    ),
+    ("a", "Program 0..1\n  IdentifierReference 0..1\n"),
+    ("1", "Program 0..1\n  NumericLiteral 0..1 Decimal\n"),
+    ("this", "Program 0..4\n  ThisExpression 0..4\n"),
+    ("null", "Program 0..4\n  NullLiteral 0..4\n"),
+    ("true", "Program 0..4\n  BooleanLiteral 0..4\n"),
+    ("false", "Program 0..5\n  BooleanLiteral 0..5\n"),
+    ("'x'", "Program 0..3\n  StringLiteral 0..3\n"),
     (
         "1 + 2 * 3",
         "Program 0..9\n  BinaryExpression 0..9 +\n    NumericLiteral 0..1 Decimal\n    BinaryExpression 4..9 *\n      NumericLiteral 4..5 Decimal\n      NumericLiteral 8..9 Decimal\n",
@@ -98,96 +76,99 @@ static READ: [(&str, &str); 20] = [
 ];
 
 /// A text that has no tree, and the kind and the span of what is told of it.
-static REFUSED: [(&str, DiagnosticKind, u32, u32); 9] = [
-    ("", DiagnosticKind::UnexpectedToken, 0, 0),
-    ("a +", DiagnosticKind::UnexpectedToken, 3, 3),
-    ("*", DiagnosticKind::UnexpectedToken, 0, 1),
-    ("- ;", DiagnosticKind::UnexpectedToken, 2, 3),
-    ("a >> >> b", DiagnosticKind::UnexpectedToken, 5, 6),
-    ("'a", DiagnosticKind::UnterminatedString, 0, 2),
-    ("a + 'b", DiagnosticKind::UnterminatedString, 4, 6),
-    ("typ\\u0065of a", DiagnosticKind::UnexpectedToken, 0, 11),
-    ("a && in", DiagnosticKind::UnexpectedToken, 5, 7),
+static REFUSED: [(&str, &str, u32, u32); 9] = [
+    ("", "unexpected_token", 0, 0),
+    ("a +", "unexpected_token", 3, 3),
+    ("*", "unexpected_token", 0, 1),
+    ("- ;", "unexpected_token", 2, 3),
+    ("a >> >> b", "unexpected_token", 5, 6),
+    ("'a", "unterminated_string", 0, 2),
+    ("a + 'b", "unterminated_string", 4, 6),
+    ("typ\\u0065of a", "unexpected_token", 0, 11),
+    ("a && in", "unexpected_token", 5, 7),
 ];
 
-/// The expression at the text's start, or why there is none.
-fn parse(p: &mut Parser<'_>) -> Result<NodeId, Stop>
+/// A parser at the text's start.
+fn start(alloc: Global, source: &str) -> Option<Parser<'_>>
+    ensures { IfSome result (λ p. Standing p) }
+{
+    if source.len() > MAX_LEN {
+        return None;
+    }
+    let made = Parser::new(
+        alloc,
+        source,
+        SourceType::script(),
+        ParseOptions::default(),
+        NoTokensParserConfig,
+    );
+    let Ok(p) = made else {
+        return None;
+    };
+    if p.at(Kind::HashbangComment) {
+        return None;
+    }
+    Some(p)
+}
+
+/// The expression up to the end of the text.
+fn whole(p: &mut Parser<'_>) -> Option<NodeId>
     requires { Standing p.old }
 {
-    parse_assignment_expression_or_higher(p)
+    let id = parse_assignment_expression_or_higher(p).ok()?;
+    if p.at(Kind::Eof) { Some(id) } else { None }
+}
+
+/// The lines of the tree that has this one child.
+fn written(alloc: Global, p: Parser<'_>, id: NodeId) -> Option<Vec<u8>> {
+    let span = Span::new(0, p.prev_token_end());
+    let mut children = Vec::new(alloc);
+    children.push(Some(id)).ok()?;
+    let tree = p.into_parts().ast.finish(span, children).ok()?;
+    tree.tree_lines(alloc).ok()
+}
+
+/// The lines of the tree of a text.
+fn lines(alloc: Global, source: &str) -> Option<Vec<u8>> {
+    let mut p = start(alloc, source)?;
+    let id = whole(&mut p)?;
+    written(alloc, p, id)
+}
+
+/// What is told of a text that is refused, where that is one diagnostic.
+fn told(alloc: Global, source: &str) -> Option<(&'static str, u32, u32)> {
+    let mut p = start(alloc, source)?;
+    match parse_assignment_expression_or_higher(&mut p) {
+        Err(Stop::Fatal) => {}
+        _ => return None,
+    }
+    if p.errors.len() != 1 {
+        return None;
+    }
+    let found = p.errors[0];
+    Some((found.kind.name(), found.span.start, found.span.end))
 }
 
 #[test]
-fn reads(rt: HostRuntime) -> Result<(), Fail> {
-    let alloc = rt.alloc();
+fn reads(rt: HostRuntime) {
     for &(source, want) in &READ {
-        assert!(rt; source.len() <= MAX_LEN);
-        let made = Parser::new(
-            alloc,
-            source,
-            SourceType::script(),
-            ParseOptions::default(),
-            NoTokensParserConfig,
-        );
-        let Ok(mut p) = made else {
-            assert!(rt; false);
-            continue;
-        };
-        if p.at(Kind::HashbangComment) {
-            continue;
+        match lines(rt.alloc(), source) {
+            Some(given) => assert!(rt; given.as_slice() == want.as_bytes(), "at {source:?}"),
+            None => assert!(rt; false, "at {source:?}"),
         }
-        let Ok(id) = parse(&mut p) else {
-            assert!(rt; false, "at {source:?}");
-            continue;
-        };
-        assert_eq!(rt; p.cur_kind(), Kind::Eof, "at {source:?}");
-        let span = Span::new(0, source.len() as u32);
-        let ast = p.into_parts().ast;
-        let mut children = Vec::new(alloc);
-        children.push(Some(id))?;
-        let Ok(tree) = ast.finish(span, children) else {
-            assert!(rt; false);
-            continue;
-        };
-        let Ok(lines) = tree.tree_lines(alloc) else {
-            assert!(rt; false);
-            continue;
-        };
-        assert!(rt; lines.as_slice() == want.as_bytes(), "at {source:?}");
     }
-    Ok(())
 }
 
 #[test]
 fn refuses(rt: HostRuntime) {
     for &(source, kind, start, end) in &REFUSED {
-        assert!(rt; source.len() <= MAX_LEN);
-        let made = Parser::new(
-            rt.alloc(),
-            source,
-            SourceType::script(),
-            ParseOptions::default(),
-            NoTokensParserConfig,
-        );
-        let Ok(mut p) = made else {
-            assert!(rt; false);
-            continue;
-        };
-        if p.at(Kind::HashbangComment) {
-            continue;
-        }
-        match parse(&mut p) {
-            Err(Stop::Fatal) => {
-                let len = p.errors.len();
-                assert_eq!(rt; len, 1);
-                if len == 1 {
-                    let told = p.errors[0];
-                    assert_eq!(rt; told.kind, kind, "at {source:?}");
-                    assert_eq!(rt; told.span.start, start, "at {source:?}");
-                    assert_eq!(rt; told.span.end, end, "at {source:?}");
-                }
+        match told(rt.alloc(), source) {
+            Some(given) => {
+                assert!(rt; given.0 == kind, "at {source:?}");
+                assert_eq!(rt; given.1, start, "at {source:?}");
+                assert_eq!(rt; given.2, end, "at {source:?}");
             }
-            _ => assert!(rt; false, "at {source:?}"),
+            None => assert!(rt; false, "at {source:?}"),
         }
     }
 }
