@@ -1,17 +1,15 @@
 -- A parser at the start of a text may read a production, where no hashbang comment stands.
-use Rattle.std.proofs.Common.{ℕ, ◌≡◌, ◌≤◌, ◌⊎◌, inl, inr, Bool, List, [], refl, sym, ap, subst, arith, ◌∙◌}
+use Rattle.std.proofs.Common.{ℕ, ◌≡◌, inl, inr, Bool, List, [], refl, sym, ap, subst, arith, ◌∙◌}
 use Rattle.std.specs.Prelude.{Some}
 use Rattle.js_base.specs.declared.kind.Kind.TheVariants.{HashbangComment}
 use Rattle.js_base.specs.declared.options.ParseOptions.{ParseOptions}
 use Rattle.js_base.specs.declared.source_type.SourceType.{SourceType}
 use Rattle.js_grammar.specs.Lexemes.{LexicalGoal, division, hashbang, kind_in}
 use Rattle.js_grammar.specs.Settings.{Goal}
-use Rattle.js_lex.specs.Reading.{cut, GivesLexeme, GivesFirst, GivesHashbang, GivesNext, Outcome}
-use Rattle.js_lex.specs.Scans.{NoLexeme}
+use Rattle.js_lex.specs.Reading.{cut, GivesLexeme, GivesFirst, GivesNext, Outcome}
 use Rattle.js_lex.specs.States.{goal_of}
 use Rattle.js_lex.proofs.KindsOfLexemes.{hashbang_is}
 use Rattle.js_cursor.specs.Parsers.{Parser}
-use Rattle.js_cursor.specs.Places.{goal}
 use Rattle.js_cursor.specs.Starts.{Starts}
 use Rattle.js_core.specs.States.{IsPlain, Standing}
 use Rattle.js_core.proofs.Moving.{plain_given}

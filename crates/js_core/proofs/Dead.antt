@@ -1,14 +1,12 @@
 -- What needs a lexeme that isn't read derives nothing, and falls away from a choice.
-use Rattle.std.proofs.Common.{ℕ, ◌≡◌, Bool, true, false, not, cond, ◌&&◌, ◌||◌, List, [], ◌∷◌, IsTrue, refl, sym, subst}
-use Rattle.std.proofs.lemmas.Bool.{false≢true, or_left, or_right, and_parts}
-use Rattle.js_base.specs.declared.kind.Kind.{Kind}
+use Rattle.std.proofs.Common.{ℕ, ◌≡◌, Bool, true, false, not, cond, ◌&&◌, ◌||◌, List, IsTrue, refl}
+use Rattle.std.proofs.lemmas.Bool.{false≢true, and_parts}
 use Rattle.js_grammar.specs.Trees.{Slots}
-use Rattle.js_grammar.specs.Grammar.{Lexeme, Lexemes, last, next, here, Look, seen, nothing, never, lexeme, look, text, ahead, empty_slot, seq, alt, when, many, commas, such, marked, node, ended, keep, kept, Takes, is_nothing, is_lexeme, is_look, is_text, is_ahead, is_empty_slot, is_seq, is_left, is_right, is_when, is_many, is_commas, is_such, is_marked, is_node, is_ended, is_keep, is_kept}
+use Rattle.js_grammar.specs.Grammar.{Lexeme, Lexemes, last, next, here, Look, seen, never, lexeme, look, ahead, seq, alt, when, commas, such, marked, node, ended, keep, Takes, is_nothing, is_lexeme, is_look, is_text, is_ahead, is_empty_slot, is_seq, is_left, is_right, is_when, is_many, is_commas, is_such, is_marked, is_node, is_ended, is_keep, is_kept}
 use Rattle.js_grammar.specs.Lexed.{Lexes}
-use Rattle.js_grammar.specs.Parsing.{Test, Goes, Fails, still, Admits}
+use Rattle.js_grammar.specs.Parsing.{Test, Goes, Fails, still}
 use Rattle.js_grammar.specs.Productions.{G, Flags, Name, Symbol, Coalesce, Call, Chain, Links, Arrow'}
 use Rattle.js_grammar.specs.Table.{rule, rule_of}
-use Rattle.js_grammar.specs.Trees.{end, tree}
 use Rattle.js_grammar.specs.FirstSets.{first}
 use Rattle.js_grammar.proofs.Looks.{apart, not_both}
 use Rattle.js_grammar.proofs.FirstClaims.{begins}

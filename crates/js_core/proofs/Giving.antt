@@ -1,8 +1,7 @@
 -- What is said where a parse function gives up, and where nothing is read.
-use Rattle.std.proofs.Common.{ℕ, ◌≡◌, Bool, true, false, not, ◌&&◌, List, [], ◌∷◌, IsTrue, refl, sym, ap, ◌∙◌, subst}
-use Rattle.std.proofs.lemmas.Bool.{false≢true, and_parts}
+use Rattle.std.proofs.Common.{ℕ, ◌≡◌, true, List, [], ◌∷◌, sym, ap, ◌∙◌}
+use Rattle.std.proofs.lemmas.Bool.{false≢true}
 use Rattle.js_base.specs.declared.diagnostic.Diagnostic.{Diagnostic}
-use Rattle.js_base.specs.Kinds.{one_of_kinds}
 use Rattle.js_grammar.specs.Trees.{Slots}
 use Rattle.js_grammar.specs.Grammar.{Lexeme, here}
 use Rattle.js_grammar.specs.Parsing.{Test, Fails}
@@ -14,9 +13,9 @@ use Rattle.js_cursor.specs.Moves.{Keeps, GivesUp}
 use Rattle.js_cursor.specs.declared.stop.Stop.{Stop}
 use Rattle.js_cursor.specs.declared.stop.Stop.TheVariants.{Fatal, NoMemory}
 use Rattle.js_cursor.proofs.Later.{keeps_follows}
-use Rattle.js_core.specs.Lexemes.{Lex, is_read, read_kinds}
+use Rattle.js_core.specs.Lexemes.{Lex}
 use Rattle.js_core.specs.States.{At}
-use Rattle.js_core.specs.Answers.{Grown, Refuses, Stops}
+use Rattle.js_core.specs.Answers.{Grown, Stops}
 use Rattle.js_core.proofs.Here.{escaped_here}
 use Rattle.js_core.proofs.Tight.{read_plain}
 

@@ -1,18 +1,17 @@
 -- What the current token says of every lexeme that may stand at its place.
-use Rattle.std.proofs.Common.{ℕ, ◌+◌, ◌≡◌, ◌≤◌, ◌⊎◌, inl, inr, Bool, true, false, not, ◌&&◌, List, [], ◌∷◌, IsTrue, refl, sym, ap, subst, arith, ◌∙◌}
-use Rattle.std.specs.Prelude.{Some, codes}
+use Rattle.std.proofs.Common.{ℕ, ◌≡◌, ◌⊎◌, inl, inr, Bool, true, false, not, List, IsTrue, refl, sym, ap, subst, ◌∙◌}
+use Rattle.std.specs.Prelude.{Some}
 use Rattle.std.proofs.lemmas.Bool.{false≢true, and_parts}
 use Rattle.js_base.specs.declared.kind.Kind.{Kind}
-use Rattle.js_base.specs.declared.kind.Kind.TheVariants.{RAngle, RegExp, TemplateMiddle, TemplateTail, HashbangComment, Undetermined, Eof}
+use Rattle.js_base.specs.declared.kind.Kind.TheVariants.{RAngle, RegExp, TemplateMiddle, TemplateTail, HashbangComment}
 use Rattle.js_base.specs.declared.token.Token.{Token}
 use Rattle.js_base.specs.Kinds.{same_kind, one_of_kinds}
-use Rattle.js_base.proofs.KindLemmas.{kind_of_same}
 use Rattle.js_grammar.specs.Grammar.{Lexeme}
 use Rattle.js_grammar.specs.Lexemes.{LexicalGoal, division, regular_expression, template_tail, hashbang, kind_in}
 use Rattle.js_grammar.specs.Lexed.{Lex as StandsBehind, all_faults}
 use Rattle.js_grammar.specs.Productions.{Flags}
 use Rattle.js_grammar.proofs.Alike.{lex-same}
-use Rattle.js_lex.specs.Reading.{cut, is_right_angle, Tells, GivesLexeme, LexemeBehind}
+use Rattle.js_lex.specs.Reading.{cut, is_right_angle, Tells, GivesLexeme}
 use Rattle.js_lex.proofs.Again.{cut_same}
 use Rattle.js_lex.proofs.KindsOfLexemes.{pattern_is, tail_is, hashbang_is}
 use Rattle.js_cursor.specs.Parsers.{Parser}

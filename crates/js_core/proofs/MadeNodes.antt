@@ -1,9 +1,9 @@
 -- Nodes that were just made, and the trees that they stand for.
-use Rattle.std.proofs.Common.{ℕ, ◌≡◌, List, [], ◌∷◌, length, Option, Some, refl, sym, subst, arith}
+use Rattle.std.proofs.Common.{ℕ, List, [], ◌∷◌, length, Option, Some, sym, subst}
 use Rattle.js_grammar.specs.Trees.{Label, Slots, end, tree}
 use Rattle.js_tree.specs.declared.id.NodeId.{NodeId}
-use Rattle.js_tree.specs.Nodes.{Node, label}
-use Rattle.js_tree.specs.Holding.{Holds, HoldsAll, Keeps, Made}
+use Rattle.js_tree.specs.Nodes.{Node}
+use Rattle.js_tree.specs.Holding.{Holds, HoldsAll, Keeps}
 use Rattle.js_tree.proofs.HoldingLemmas.{HoldsAll-none, HoldsAll-one, HoldsAll-two, Made-holds, Keeps-longer}
 use Rattle.js_cursor.specs.Parsers.{Parser}
 use Rattle.js_core.specs.Moves.{MadeHere}

@@ -1,22 +1,20 @@
 -- What moves over lexemes do to a state.
-use Rattle.std.proofs.Common.{ℕ, ◌+◌, ◌≡◌, ◌≤◌, ◌<◌, ◌⊎◌, inl, inr, Bool, true, false, not, List, [], ◌∷◌, ◌++◌, length, IsTrue, cond, refl, sym, ap, subst, arith, ◌∙◌, append-nil, length-append}
+use Rattle.std.proofs.Common.{ℕ, ◌+◌, ◌≡◌, ◌<◌, ◌⊎◌, inl, inr, Bool, true, false, List, [], ◌∷◌, cond, refl, sym, ap, subst, arith, ◌∙◌}
 use Rattle.std.specs.Prelude.{IsCharBoundary, Result, Ok, Err, MatchResult}
 use Rattle.js_base.specs.Contexts.{has_flag, in_flag}
 use Rattle.std.proofs.lemmas.Bool.{false≢true}
 use Rattle.js_base.specs.declared.diagnostic.Diagnostic.{Diagnostic}
 use Rattle.js_base.specs.declared.kind.Kind.{Kind}
-use Rattle.js_base.specs.declared.kind.Kind.TheVariants.{RAngle, Undetermined, Eof}
+use Rattle.js_base.specs.declared.kind.Kind.TheVariants.{RAngle, Undetermined}
 use Rattle.js_base.specs.declared.token.Token.{Token}
 use Rattle.js_base.specs.Kinds.{same_kind, one_of_kinds}
 use Rattle.js_base.proofs.KindLemmas.{kind_of_same}
 use Rattle.js_grammar.specs.Grammar.{Lexeme}
 use Rattle.js_grammar.specs.Lexemes.{LexicalGoal, division}
-use Rattle.js_grammar.specs.Lexed.{Lex as StandsBehind, all_faults, Stands}
+use Rattle.js_grammar.specs.Lexed.{Lex as StandsBehind, all_faults}
 use Rattle.js_grammar.specs.Productions.{Flags, Symbol}
 use Rattle.js_grammar.specs.Settings.{Goal}
-use Rattle.js_lex.specs.Kept.{lengths_of}
-use Rattle.js_lex.specs.Reading.{cut, is_right_angle, Tells, GivesLexeme, GivesNone, GivesNext, LexemeBehind, Outcome}
-use Rattle.js_lex.specs.States.{State}
+use Rattle.js_lex.specs.Reading.{cut, is_right_angle, Tells, GivesLexeme, GivesNone, LexemeBehind, Outcome}
 use Rattle.js_lex.proofs.Again.{cut_same}
 use Rattle.js_cursor.specs.Parsers.{Parser}
 use Rattle.js_cursor.specs.Places.{IsAt, goal}
@@ -34,7 +32,7 @@ use Rattle.js_core.specs.Lexemes.{read_kinds}
 use Rattle.js_core.specs.States.{At, Standing, IsPlain, whole, sign, nothing, Same, flags_of}
 use Rattle.js_core.specs.Moves.{IsCompleted, IsWholeHere, Moved, Moves, Tightness}
 use Rattle.js_core.specs.Operators.{power_of}
-use Rattle.js_core.proofs.Here.{plain_kind, found, uncut}
+use Rattle.js_core.proofs.Here.{plain_kind, uncut}
 
 -- What is given behind a place is what the plain goal gives, if it was asked for by that.
 pub plain_given : {text : List ℕ} {p : Parser} {source : Goal} (faults : List Diagnostic) → IsToken source text p.prev_token_end p.lexer.kept.errors p.token p.cut → Outcome division cut source text p.prev_token_end p.token [] faults → IsPlain text p

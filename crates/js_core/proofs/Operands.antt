@@ -1,26 +1,23 @@
 -- Names, literals, and what a unary operator stands before.
-use Rattle.std.proofs.Common.{ℕ, ◌≡◌, ◌<◌, ◌≤◌, ◌+◌, max, List, [], ◌∷◌, length, Bool, true, false, not, ◌&&◌, ◌||◌, IsTrue, Some, None, refl, sym, ap, subst, arith, ◌∙◌}
+use Rattle.std.proofs.Common.{ℕ, ◌≡◌, List, [], ◌∷◌, length, Bool, true, false, not, ◌&&◌, ◌||◌, IsTrue, Some, refl, sym, ap, subst, arith, ◌∙◌}
 use Rattle.std.specs.Prelude.{Result, Ok, Err, MatchResult, Option, is_some, if◌then◌else◌}
-use Rattle.std.proofs.lemmas.Bool.{false≢true, and_parts, and_from, or_left}
+use Rattle.std.proofs.lemmas.Bool.{false≢true, or_left}
 use Rattle.js_base.specs.declared.kind.Kind.{Kind}
 use Rattle.js_base.specs.declared.kind.Kind.TheVariants.{Ident, This, Null, True, False, Decimal, Str, Minus, Plus, Bang, Tilde, Typeof, Void, Delete, Yield, Await, Function}
 use Rattle.js_base.specs.declared.operator.UnaryOperator.{UnaryOperator}
-use Rattle.js_base.specs.declared.operator.UnaryOperator.TheVariants as unary
 use Rattle.js_base.specs.Kinds.{same_kind, one_of_kinds}
 use Rattle.js_base.proofs.KindLemmas.{kind_of_same}
 use Rattle.js_base.specs.Operators.{row_of as row_in, unary_operators}
 use Rattle.js_grammar.specs.Trees.{Slots, end, tree, Label, Op, NodeKind, no_op, of, identifier_reference, this_expression, null_literal, boolean_literal, numeric_literal, string_literal, unary_expression}
 use Rattle.js_grammar.specs.Grammar.{Lexeme, Lexemes, Look, here, seen, lexeme, such, nothing, exact, is_seq, is_lexeme, is_such, Takes, ◌▸◌}
 use Rattle.js_grammar.specs.Parsing.{Test, plain, always, full, Admits}
-use Rattle.js_grammar.specs.Productions.{G, Flags, Symbol, at, tok, Unary, Primary, IdentifierReference}
+use Rattle.js_grammar.specs.Productions.{Flags, Symbol, at, tok, Unary, Primary}
 use Rattle.js_grammar.specs.Productions.{sym as symbol}
 use Rattle.js_grammar.specs.Table.{rule, rule_of}
-use Rattle.js_grammar.specs.FirstSets.{first}
 use Rattle.js_grammar.specs.Follow.{edge_of, row_of, follow, follow_of, after, widest, first_edge}
 use Rattle.js_grammar.specs.Insertion.{may_bind, after_expression}
 use Rattle.js_grammar.proofs.Looks.{covers, covered, apart}
-use Rattle.js_grammar.proofs.FirstRules.{pick}
-use Rattle.js_grammar.proofs.Calculus.{Inside, inside_full, on_itself, ◌▹✗◌, fails_node}
+use Rattle.js_grammar.proofs.Calculus.{Inside, on_itself, ◌▹✗◌, fails_node}
 use Rattle.js_grammar.proofs.RightEdges.{may_end, same_row}
 use Rattle.js_grammar.proofs.FollowLaws.{fails_by}
 use Rattle.js_grammar.proofs.Lexemes.{first_or}
@@ -41,12 +38,12 @@ use Rattle.js_cursor.specs.declared.stop.Stop.TheVariants.{Fatal, NoMemory}
 use Rattle.js_core.specs.Lexemes.{Lex, is_read, read_kinds}
 use Rattle.js_core.specs.States.{At, Same}
 use Rattle.js_core.specs.Moves.{Moved, MadeHere, LeafTaken, TakesLeaf, plain_label}
-use Rattle.js_core.specs.Answers.{Stretch, Underived, Answer, Numbered, Outcome, beside}
+use Rattle.js_core.specs.Answers.{Underived, Answer, Numbered, Outcome, beside}
 use Rattle.js_core.specs.Operators.{unary_kinds}
 use Rattle.js_core.proofs.Moving.{same_both, same_nodes, beside_nodes, left}
 use Rattle.js_core.proofs.Dead.{live, lives}
 use Rattle.js_core.proofs.MadeNodes.{leaf_held, one_held}
-use Rattle.js_core.proofs.Paths.{reads, begins_by, Path, ◌⟼◌, ◌⟶◌, ◌⟶✗◌, at_kind, fails_at, token, last_token, last_called, passes_test, noded, noded_by, by_symbol_as, label_here, read_of, walked_one}
+use Rattle.js_core.proofs.Paths.{reads, Path, ◌⟼◌, ◌⟶◌, ◌⟶✗◌, at_kind, fails_at, token, last_token, last_called, passes_test, noded, noded_by, by_symbol_as, label_here, read_of, walked_one}
 use Rattle.js_core.specs.Answers.{clean}
 
 -- a claim on each unary operator

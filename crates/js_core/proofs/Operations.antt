@@ -1,18 +1,18 @@
 -- Operators and their operands: the start, a step, the end, and failures of the loop over binding power.
-use Rattle.std.proofs.Common.{ℕ, zero, suc, ◌≡◌, ◌<◌, ◌≤◌, ◌+◌, ◌-◌, max, ◌⊎◌, inl, inr, Some, Option, List, [], ◌∷◌, length, Bool, true, false, cond, not, ◌&&◌, ◌||◌, IsTrue, refl, sym, ap, subst, arith, ◌∙◌, nat_lt}
+use Rattle.std.proofs.Common.{ℕ, zero, suc, ◌≡◌, ◌<◌, ◌≤◌, ◌+◌, ◌-◌, max, Some, Option, List, [], ◌∷◌, length, Bool, true, false, cond, not, ◌||◌, IsTrue, refl, sym, ap, subst, arith, ◌∙◌, nat_lt}
 use Rattle.std.proofs.lemmas.Bool.{false≢true, and_parts, or_left, or_right, ltb-true, lt-ltb}
 use Rattle.js_base.specs.declared.diagnostic.Diagnostic.{Diagnostic}
 use Rattle.js_base.specs.declared.kind.Kind.{Kind}
 use Rattle.js_base.specs.declared.kind.Kind.TheVariants.{PrivateIdentifier, Eof, Undetermined}
 use Rattle.js_base.specs.Kinds.{one_of_kinds}
-use Rattle.js_grammar.specs.Trees.{Label, Slots, end, tree, of}
-use Rattle.js_grammar.specs.Grammar.{Lexeme, Lexemes, last, next, seen, seq, such, nothing, is_nothing}
+use Rattle.js_grammar.specs.Trees.{Label, Slots, end, tree}
+use Rattle.js_grammar.specs.Grammar.{Lexeme, Lexemes, next, seen, seq, such, nothing}
 use Rattle.js_grammar.specs.Insertion.{Row, edge_is_last}
 use Rattle.js_grammar.specs.Parsing.{Test, Goes, always, passing}
 use Rattle.js_grammar.specs.Productions.{G, Flags, Symbol, at, tok, Exponent}
 use Rattle.js_grammar.specs.Table.{rule}
 use Rattle.js_grammar.specs.Levels.{level_at, node_at, operators_at}
-use Rattle.js_grammar.specs.Follow.{edge_of, row_of, tight, looser, follow, after}
+use Rattle.js_grammar.specs.Follow.{row_of, tight, looser, after}
 use Rattle.js_grammar.proofs.Calculus.{◌▹◌, ◌▹✗◌}
 use Rattle.js_grammar.proofs.Towers.{OneOf, linked_label}
 use Rattle.js_grammar.proofs.Loops.{Around}
@@ -29,11 +29,11 @@ use Rattle.js_cursor.specs.Moves.{is_last}
 use Rattle.js_cursor.specs.declared.stop.Stop.{Stop}
 use Rattle.js_cursor.specs.Parsers.{Parser}
 use Rattle.std.specs.Prelude.{Result}
-use Rattle.js_core.specs.Lexemes.{Lex, Walked, is_read, read_kinds}
+use Rattle.js_core.specs.Lexemes.{Lex, Walked, read_kinds}
 use Rattle.js_core.specs.States.{At, Same, flags_of}
 use Rattle.js_core.specs.Moves.{Moved, Tightness, MadeHere, operation_label}
 use Rattle.js_core.specs.Operators.{power_of}
-use Rattle.js_core.specs.Answers.{Grown, Verdict, Stretch, Underived, Answer, Numbered, Outcome, beside}
+use Rattle.js_core.specs.Answers.{Grown, Verdict, Stretch, Underived, Numbered, Outcome, beside}
 use Rattle.js_core.proofs.Here.{told, begins_here, found}
 use Rattle.js_core.proofs.Paths.{skips, read_of, walked_both, walked_one, walked_to, walked_from}
 use Rattle.js_core.proofs.Tight.{stops_by_power, power_listed, Level, level_of, read_plain, operator_read, power_anywhere}

@@ -1,17 +1,16 @@
 -- Readings between two states of a parser.
-use Rattle.std.proofs.Common.{ℕ, ◌≡◌, ◌<◌, ◌≤◌, max, List, [], ◌∷◌, Bool, true, false, not, ◌&&◌, ◌||◌, IsTrue, refl, sym, ap, subst, arith, ◌∙◌}
+use Rattle.std.proofs.Common.{ℕ, ◌≡◌, ◌<◌, max, List, [], ◌∷◌, Bool, true, false, not, ◌&&◌, IsTrue, refl, sym, ap, subst, arith, ◌∙◌}
 use Rattle.std.proofs.lemmas.Bool.{false≢true, and_parts, and_from}
 use Rattle.js_base.specs.declared.kind.Kind.{Kind}
 use Rattle.js_base.specs.declared.kind.Kind.TheVariants.{RAngle}
 use Rattle.js_base.specs.Kinds.{same_kind, one_of_kinds}
-use Rattle.js_base.proofs.KindLemmas.{kind_of_same}
-use Rattle.js_grammar.specs.Trees.{Slots, end, tree, Label, Tree, Op, NodeKind}
+use Rattle.js_grammar.specs.Trees.{Slots, end, tree, Label, Op, NodeKind}
 use Rattle.js_grammar.specs.Grammar.{Lexeme, Lexemes, Look, seen, exact, is, here, lexeme, next, seq, such, nothing}
 use Rattle.js_grammar.specs.Parsing.{still, passing, Test, plain, behind, full, always, Goes, Reads, Fails}
 use Rattle.js_grammar.specs.Productions.{G, Flags, Symbol, tok, make}
 use Rattle.js_grammar.specs.Table.{rule}
 use Rattle.js_grammar.specs.FirstSets.{first}
-use Rattle.js_grammar.specs.Follow.{edge_of, follow, surest, after}
+use Rattle.js_grammar.specs.Follow.{surest, after}
 use Rattle.js_grammar.proofs.Looks.{covers, covered, same_self, apart, not_both}
 use Rattle.js_grammar.proofs.Calculus.{On, Inside, Heads, here_at, ◌▹◌, ◌▹✗◌, then_by, weaken_on, weaken_fails_on, makes_by, by_rule, fails_rule, part_fails, fails_node, reads_lexeme}
 use Rattle.js_grammar.proofs.First.{starts}
@@ -25,7 +24,7 @@ use Rattle.js_core.specs.Lexemes.{Lex, Walked, nowhere, one_more, is_read, read_
 use Rattle.js_core.specs.States.{At}
 use Rattle.js_core.specs.Moves.{Moved}
 use Rattle.js_core.specs.Answers.{Verdict, clean, Stretch, Answer}
-use Rattle.js_core.proofs.Here.{told, angled, begins_here, kind_here, uncut, plain_kind}
+use Rattle.js_core.proofs.Here.{told, angled, begins_here, kind_here, plain_kind}
 use Rattle.js_core.proofs.Verdicts.{verdict_of, either_way, and_then}
 
 -- a walk, and another behind it

@@ -1,15 +1,13 @@
 -- What the parse functions of operands answer, from what the calls in them answer.
-use Rattle.std.proofs.Common.{ℕ, ◌≡◌, ◌<◌, ◌≤◌, ◌+◌, max, List, [], ◌∷◌, length, Bool, true, false, not, ◌&&◌, ◌||◌, IsTrue, Some, refl, sym, ap, subst, arith, ◌∙◌, nat_lt}
+use Rattle.std.proofs.Common.{ℕ, ◌≡◌, ◌≤◌, max, List, [], ◌∷◌, Bool, true, false, not, ◌&&◌, ◌||◌, IsTrue, refl, sym, subst, arith, nat_lt}
 use Rattle.std.specs.Prelude.{Result, Ok, Err}
-use Rattle.std.proofs.lemmas.Bool.{false≢true, and_parts, and_from, or_left, or_right, ltb-true, lt-ltb}
-use Rattle.js_base.specs.declared.kind.Kind.{Kind}
+use Rattle.std.proofs.lemmas.Bool.{false≢true, or_left, or_right, ltb-true, lt-ltb}
 use Rattle.js_base.specs.declared.kind.Kind.TheVariants.{LBrack, Dot, NoSubstitutionTemplate, TemplateHead, Function, Minus, Plus, Bang, Tilde, Typeof, Void, Delete}
 use Rattle.js_base.specs.Kinds.{same_kind, one_of_kinds}
-use Rattle.js_grammar.specs.Trees.{Slots, end, tree, Label, Op, NodeKind, no_op, of, identifier_reference, this_expression, null_literal, boolean_literal, numeric_literal, string_literal, unary_expression}
+use Rattle.js_grammar.specs.Trees.{Slots, end, tree, Label, unary_expression}
 use Rattle.js_grammar.specs.Grammar.{Lexeme, Lexemes, Look, seen, such, nothing, alt, ◌▸◌}
-use Rattle.js_grammar.specs.Insertion.{may_bind}
-use Rattle.js_grammar.specs.Parsing.{Test, plain, always, Goes, still}
-use Rattle.js_grammar.specs.Productions.{G, Flags, Symbol, at, tok, op, branches, Assignment, Conditional, Short, Or, Exponent, Unary, Update, LeftHandSide, New, Member, Primary, IdentifierReference}
+use Rattle.js_grammar.specs.Parsing.{always, Goes, still}
+use Rattle.js_grammar.specs.Productions.{G, Flags, Symbol, at, tok, op, branches, Assignment, Conditional, Short, Or, Exponent, Unary, Update, LeftHandSide, New, Member, Primary}
 use Rattle.js_grammar.specs.Productions.{sym as symbol}
 use Rattle.js_grammar.specs.Table.{rule, rule_of}
 use Rattle.js_grammar.specs.Follow.{edge_of, row_of, follow, follow_of, after, looser, tight}
@@ -21,24 +19,15 @@ use Rattle.js_core.proofs.Verdicts.{verdict_of}
 use Rattle.js_grammar.proofs.RightEdges.{may_end, of_operand, of_assignment, same_row}
 use Rattle.js_grammar.proofs.FollowLaws.{passes_on, same_read, fails_by}
 use Rattle.js_tree.specs.declared.id.NodeId.{NodeId}
-use Rattle.js_tree.specs.Nodes.{Node}
-use Rattle.js_tree.specs.Holding.{Holds, Keeps}
-use Rattle.js_tree.proofs.HoldingLemmas.{Keeps-refl, Keeps-trans, Keeps-made}
 use Rattle.js_cursor.specs.Parsers.{Parser}
-use Rattle.js_cursor.specs.Checkpoints.{Follows}
-use Rattle.js_cursor.specs.Moves.{Keeps as KeepsOne, Enters, Leaves}
 use Rattle.js_cursor.specs.declared.stop.Stop.{Stop}
 use Rattle.js_cursor.specs.declared.stop.Stop.TheVariants.{Fatal, NoMemory}
-use Rattle.js_core.specs.Lexemes.{Lex, is_read, read_kinds, Walked}
-use Rattle.js_core.specs.States.{At, Same}
-use Rattle.js_core.specs.Moves.{Moved, MadeHere, LeafTaken, plain_label}
-use Rattle.js_core.specs.Answers.{Verdict, clean, unclean, Stretch, Underived, Answer, Numbered, Refuses, Stops, Outcome, beside}
+use Rattle.js_core.specs.Lexemes.{Lex}
+use Rattle.js_core.specs.States.{At}
+use Rattle.js_core.specs.Answers.{Verdict, Stretch, Underived, Numbered, Outcome, beside}
 use Rattle.js_core.proofs.Dead.{live, lives}
-use Rattle.js_core.proofs.Here.{told}
-use Rattle.js_core.proofs.Moving.{same_both, same_nodes, beside_nodes}
-use Rattle.js_core.proofs.MadeNodes.{leaf_held, one_held}
-use Rattle.js_core.proofs.Paths.{reads, Path, ◌⟼◌, ◌⟶◌, ◌⟶✗◌, at_kind, fails_at, token, last_token, last_called, passes_test, noded, noded_by, by_symbol_as, label_here, read_of, walked_one}
-use Rattle.js_core.proofs.Tight.{stops_by_power, power_low, read_plain}
+use Rattle.js_core.proofs.Paths.{reads, fails_at}
+use Rattle.js_core.proofs.Tight.{stops_by_power, power_low}
 
 -- what is left of a line, where that is another symbol
 pub by_left : (n m : Symbol) → live (rule n) ≡ such m always → (text : List ℕ) (s : ℕ) → Goes rule (Lex text) (after n) end (rule n) s (such m always) s (λ us. us) (still 0)

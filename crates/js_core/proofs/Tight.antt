@@ -1,13 +1,13 @@
 -- How tight the lexemes that are read bind what stands before them: as their power as operators says, or hardly at all.
-use Rattle.std.proofs.Common.{ℕ, zero, suc, ◌≡◌, ◌≤◌, ◌<◌, ◌+◌, Bool, true, false, not, cond, ◌&&◌, ◌||◌, IsTrue, List, [], ◌∷◌, refl, sym, ap, subst, arith, ◌∙◌, nat_lt}
-use Rattle.std.proofs.lemmas.Bool.{false≢true, and_parts, and_from, or_left, or_right, ltb-true, lt-ltb, eqb-true}
+use Rattle.std.proofs.Common.{ℕ, ◌≡◌, ◌≤◌, ◌<◌, ◌+◌, Bool, true, false, not, cond, ◌&&◌, ◌||◌, IsTrue, [], ◌∷◌, refl, arith, nat_lt}
+use Rattle.std.proofs.lemmas.Bool.{false≢true, and_parts, and_from, or_left, or_right, lt-ltb, eqb-true}
 use Rattle.std.specs.Prelude.{nat_eq}
 use Rattle.js_base.specs.declared.kind.Kind.{Kind}
 use Rattle.js_base.specs.declared.kind.Kind.TheVariants.{Plus, Minus, Star, Percent, Eq2, Eq3, Neq, Neq2, LAngle, LtEq, RAngle, GtEq, ShiftLeft, ShiftRight, ShiftRight3, Amp, Amp2, Pipe, Pipe2, Caret, In, Instanceof}
 use Rattle.js_base.specs.Kinds.{one_of_kinds}
 use Rattle.js_grammar.specs.Grammar.{Lexeme, Look, seen}
 use Rattle.js_grammar.specs.Insertion.{Row, after_expression, after_postfix, after_body, after_yield, after_declarator, after_word}
-use Rattle.js_grammar.specs.Follow.{tight, larger, looser}
+use Rattle.js_grammar.specs.Follow.{tight, looser}
 use Rattle.js_grammar.specs.Levels.{operators_of, node_at, binds as binding}
 use Rattle.js_grammar.specs.Trees.{binary_expression, logical_expression}
 use Rattle.js_grammar.proofs.RightEdges.{of_operand}

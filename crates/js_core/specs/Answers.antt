@@ -8,7 +8,6 @@ use Rattle.js_grammar.proofs.RightEdges.{may_end}
 use Rattle.js_grammar.specs.Productions.{G, Flags, Symbol}
 use Rattle.js_grammar.specs.Table.{rule}
 use Rattle.js_tree.specs.declared.id.NodeId.{NodeId}
-use Rattle.js_tree.specs.Nodes.{Node}
 use Rattle.js_tree.specs.Holding.{Holds, Keeps}
 use Rattle.js_cursor.specs.Checkpoints.{Follows}
 use Rattle.js_cursor.specs.Parsers.{Parser}

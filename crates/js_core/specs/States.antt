@@ -1,10 +1,6 @@
 -- The state of a parser at the beginning of a production: the grammar parameters in force, and what stands at its place.
 use Rattle.std.specs.Prelude.{ℕ, ◌≡◌, ◌≤◌, true, false, List}
-use Rattle.js_base.specs.declared.context.Context.{Context}
-use Rattle.js_base.specs.declared.diagnostic.Diagnostic.{Diagnostic}
 use Rattle.js_base.specs.declared.kind.Kind.TheVariants.{RAngle, Undetermined}
-use Rattle.js_base.specs.declared.options.ParseOptions.{ParseOptions}
-use Rattle.js_base.specs.declared.source_type.SourceType.{SourceType}
 use Rattle.js_base.specs.Contexts.{has_flag, in_flag, yield_flag, await_flag, return_flag, new_target_flag}
 use Rattle.js_grammar.specs.Grammar.{Lexeme}
 use Rattle.js_grammar.specs.Lexemes.{division}

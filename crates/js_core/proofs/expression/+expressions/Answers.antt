@@ -1,9 +1,7 @@
-use Rattle.std.proofs.Common.{◌∙◌, sym, refl, arith, ap, length, true, ◌≡◌, ◌<◌, ◌≤◌}
+use Rattle.std.proofs.Common.{◌∙◌, refl, arith, ap, length, true, ◌≡◌}
 use Rattle.std.proofs.lemmas.Result.{err_from_is_err_and}
-use Rattle.js_base.specs.Kinds.{one_of_kinds}
 use Rattle.js_cursor.specs.Parsers.{Parser}
 use Rattle.js_grammar.specs.Productions.{at, Unary}
-use Rattle.js_core.specs.Operators.{unary_kinds}
 use Rattle.js_core.proofs.Moving.{standing, deeper, stops_behind, stops_in, entered_place, entered_text, entered_none}
 use Rattle.js_core.proofs.Verdicts.{grown_then}
 use Rattle.js_core.proofs.Operands.{row_here, unary_outcome, unary_fails, unary_listed}

@@ -1,11 +1,10 @@
-use Rattle.std.proofs.Common.{◌∙◌, sym, refl, arith, ap, subst, ℕ, ◌+◌, ◌-◌, ◌≡◌, ◌≤◌, ◌<◌, ◌∷◌, [], Some, Ok, Err, true}
+use Rattle.std.proofs.Common.{sym, arith, subst, ℕ, ◌+◌, ◌-◌, ◌≤◌, Ok, true}
 use Rattle.std.proofs.lemmas.Result.{err_from_is_err_and}
 use Rattle.js_grammar.specs.Levels.{level_at}
-use Rattle.js_cursor.specs.Parsers.{Parser}
 use Rattle.js_core.specs.States.{flags_of}
 use Rattle.js_base.specs.declared.kind.Kind.{Kind}
 use Rattle.js_core.specs.Operators.{power_of}
-use Rattle.js_core.specs.Answers.{Numbered, Stops, Underived}
+use Rattle.js_core.specs.Answers.{Underived}
 use Rattle.js_core.proofs.Moving.{standing, stops_so, stops_behind}
 use Rattle.js_core.proofs.Phrases.{operand_of, operand_fails}
 use Rattle.js_core.proofs.Operations.{fails_at_level, operand_init, next_level, as_next, right_less, smaller, made_link, small, is_operator, not_last, follows_so, grown_so, step_fails, start_before, operand_step, operands_answer, fixed}

@@ -1,4 +1,4 @@
-use Rattle.std.proofs.Common.{◌+◌, ◌*◌, ◌-◌, length}
+use Rattle.std.proofs.Common.{◌+◌, ◌-◌, length}
 use Rattle.js_core.specs.States.{flags_of}
 use Rattle.js_core.proofs.Operations.{Operand}
 use Rattle.js_core.proofs.expression.+parse_operators.Given as goal

@@ -1,4 +1,4 @@
-use Rattle.std.proofs.Common.{◌≡◌, [], subst, sym, ap, ◌∙◌}
+use Rattle.std.proofs.Common.{◌≡◌, [], subst}
 use Rattle.js_base.specs.declared.span.Span.{Span}
 use Rattle.js_core.specs.Moves.{MadeHere, plain_label}
 use Rattle.js_core.proofs.expression.parse_leaf.Goals as goal

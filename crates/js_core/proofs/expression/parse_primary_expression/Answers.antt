@@ -1,4 +1,4 @@
-use Rattle.std.proofs.Common.{◌∙◌, sym, refl, ◌⊎◌, inl, inr}
+use Rattle.std.proofs.Common.{◌∙◌, sym, refl, inl, inr}
 use Rattle.js_base.specs.declared.kind.Kind.TheVariants.{Ident, This, Null, True, False, Decimal, Str}
 use Rattle.js_tree.specs.declared.kind.NodeKind.TheVariants as node
 use Rattle.js_tree.specs.declared.op.Op.TheVariants as op

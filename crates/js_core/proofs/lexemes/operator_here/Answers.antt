@@ -1,4 +1,4 @@
-use Rattle.std.proofs.Common.{◌≡◌, true, false, ap, sym, ◌∙◌, refl}
+use Rattle.std.proofs.Common.{◌≡◌, true, false, ap, ◌∙◌, refl}
 use Rattle.js_base.specs.declared.token.Token.{Token}
 use Rattle.js_core.proofs.Moving.{tightness, powered}
 use Rattle.js_core.proofs.lexemes.operator_here.Goals as goal
