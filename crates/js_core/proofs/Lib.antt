@@ -1,6 +1,7 @@
 pub mod Dead
 pub mod Here
 pub mod Moving
+pub mod Nesting
 pub mod Verdicts
 pub mod Paths
 pub mod Tight

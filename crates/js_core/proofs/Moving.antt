@@ -1,5 +1,5 @@
 -- What moves over lexemes do to a state.
-use Rattle.std.proofs.Common.{ℕ, ◌+◌, ◌≡◌, ◌<◌, ◌⊎◌, inl, inr, Bool, true, false, List, [], ◌∷◌, cond, refl, sym, ap, subst, arith, ◌∙◌}
+use Rattle.std.proofs.Common.{ℕ, ◌+◌, ◌≡◌, ◌<◌, ◌⊎◌, inl, inr, Bool, true, false, List, [], ◌∷◌, cond, refl, sym, ap, subst, arith, ◌∙◌, append-nil}
 use Rattle.std.specs.Prelude.{IsCharBoundary, Result, Ok, Err, MatchResult}
 use Rattle.js_base.specs.Contexts.{has_flag, in_flag}
 use Rattle.std.proofs.lemmas.Bool.{false≢true}
@@ -28,6 +28,7 @@ use Rattle.js_tree.specs.declared.id.NodeId.{NodeId}
 use Rattle.js_core.specs.Answers.{Grown, Numbered, Stops, Underived}
 use Rattle.js_cursor.proofs.Moving.{lexeme_some}
 use Rattle.js_cursor.proofs.Later.{passed_follows, read_again_follows, follows_itself, follows_on}
+use Rattle.js_cursor.proofs.Changing.{fields_set, nodes_set, entered_on}
 use Rattle.js_core.specs.Lexemes.{read_kinds}
 use Rattle.js_core.specs.States.{At, Standing, IsPlain, whole, sign, nothing, Same, flags_of}
 use Rattle.js_core.specs.Moves.{IsCompleted, IsWholeHere, Moved, Moves, Tightness}
@@ -182,41 +183,29 @@ advances p q (Err e) w m = m
 
 -- ---- what is changed beside the place
 
--- whatever stays but for the nodes, the parameters and the depth
+-- other nodes, and another depth
+elsewhere : {text : List ℕ} {f : Flags} {p : Parser} (ns : List Node) (k : ℕ) → At text f p → At text f (record p { nodes = ns; depth = k })
+elsewhere {text} {f} {p} ns k a = record { text_is = a.text_is; flags_are = a.flags_are; at = (fields_set ns p.visits [] p.ctx k a.at (sym (append-nil p.visits))).1; plain = plain_of a.plain; behind = a.behind }
+  where
+    plain_of : IsPlain text p → IsPlain text (record p { nodes = ns; depth = k })
+    plain_of (whole c n x) = whole c n x
+    plain_of (sign c k x) = sign c k x
+    plain_of (nothing c k n) = nothing c k n
+
 pub beside_nodes : {text : List ℕ} {f : Flags} {p : Parser} (ns : List Node) → At text f p → At text f (record p { nodes = ns })
-beside_nodes ns a = record { text_is = a.text_is; flags_are = a.flags_are; at = at_of a.at; plain = plain_of a.plain; behind = a.behind }
-  where
-    at_of : {p : Parser} → IsAt p → IsAt (record p { nodes = ns })
-    at_of a = record { reads = a.reads; reads_for = a.reads_for; utf8 = a.utf8; short = a.short; reached = a.reached; between = a.between; token = a.token; lies = a.lies; last = a.last; marked = a.marked; faulty = a.faulty; noted = a.noted }
+beside_nodes {p = p} ns a = elsewhere ns p.depth a
 
-    plain_of : {text : List ℕ} {p : Parser} → IsPlain text p → IsPlain text (record p { nodes = ns })
-    plain_of (whole c n x) = whole c n x
-    plain_of (sign c k x) = sign c k x
-    plain_of (nothing c k n) = nothing c k n
+pub same_nodes : {p : Parser} (ns : List Node) → IsAt p → Same p (record p { nodes = ns })
+same_nodes ns a = record { follows = (nodes_set ns a).0; options = refl; ctx = refl; depth = refl; visits = refl }
 
-pub same_nodes : {p : Parser} (ns : List Node) → Same p (record p { nodes = ns })
-same_nodes {p} ns = record { follows = let g = follows_itself p in record { text = g.text; source_type = g.source_type; later_errors = g.later_errors; errors = g.errors; later_visits = g.later_visits; visits = g.visits; later_covers = g.later_covers; covers = g.covers; later_commas = g.later_commas; commas = g.commas; later_faults = g.later_faults; faults = g.faults; longer = g.longer }; options = refl; ctx = refl; depth = refl; visits = refl }
+at_depth : {p : Parser} (k : ℕ) → IsAt p → Follows p (record p { depth = k })
+at_depth {p} k a = (fields_set p.nodes p.visits [] p.ctx k a (sym (append-nil p.visits))).0
 
--- at another depth
-depth_at : {text : List ℕ} {f : Flags} {p : Parser} (k : ℕ) → At text f p → At text f (record p { depth = k })
-depth_at {text} {f} {p} k a = record { text_is = a.text_is; flags_are = a.flags_are; at = at_of a.at; plain = plain_of a.plain; behind = a.behind }
-  where
-    at_of : IsAt p → IsAt (record p { depth = k })
-    at_of a = record { reads = a.reads; reads_for = a.reads_for; utf8 = a.utf8; short = a.short; reached = a.reached; between = a.between; token = a.token; lies = a.lies; last = a.last; marked = a.marked; faulty = a.faulty; noted = a.noted }
-
-    plain_of : IsPlain text p → IsPlain text (record p { depth = k })
-    plain_of (whole c n x) = whole c n x
-    plain_of (sign c k x) = sign c k x
-    plain_of (nothing c k n) = nothing c k n
-
-follows_depth : {p q : Parser} (k j : ℕ) → Follows (record p { depth = k }) q → Follows p (record q { depth = j })
-follows_depth k j g = record { text = g.text; source_type = g.source_type; later_errors = g.later_errors; errors = g.errors; later_visits = g.later_visits; visits = g.visits; later_covers = g.later_covers; covers = g.covers; later_commas = g.later_commas; commas = g.commas; later_faults = g.later_faults; faults = g.faults; longer = g.longer }
-
-out_of : {text : List ℕ} {f : Flags} {n : Symbol} {p q : Parser} {id : NodeId} (k j : ℕ) → j ≡ p.depth → Numbered text f n (record p { depth = k }) q id → Numbered text f n p (record q { depth = j }) id
-out_of k j e x = record {
+out_of : {text : List ℕ} {f : Flags} {n : Symbol} {p q : Parser} {id : NodeId} (k j : ℕ) → j ≡ p.depth → IsAt p → Numbered text f n (record p { depth = k }) q id → Numbered text f n p (record q { depth = j }) id
+out_of {q = q} k j e a x = record {
   answer = record {
-    at = depth_at j x.answer.at;
-    same = record { follows = follows_depth k j x.answer.same.follows; options = x.answer.same.options; ctx = x.answer.same.ctx; depth = e; visits = x.answer.same.visits };
+    at = elsewhere q.nodes j x.answer.at;
+    same = record { follows = follows_on (at_depth k a) (follows_on x.answer.same.follows (at_depth j x.answer.at.at)); options = x.answer.same.options; ctx = x.answer.same.ctx; depth = e; visits = x.answer.same.visits };
     further = x.answer.further;
     label = x.answer.label;
     slots = x.answer.slots;
@@ -232,23 +221,20 @@ out_of k j e x = record {
 
 -- one level deeper, and back
 pub deeper : {text : List ℕ} {f : Flags} {p q : Parser} → At text f p → Enters p q → At text f q
-deeper {text} {f} {p} a h = subst (At text f) (sym h.is) (depth_at (p.depth + 1) a)
+deeper {text} {f} {p} a h = subst (At text f) (sym h.is) (elsewhere p.nodes (p.depth + 1) a)
 
-pub left : {text : List ℕ} {f : Flags} {n : Symbol} {p e q w : Parser} {id : NodeId} → Enters p e → Leaves q w → Numbered text f n e q id → Numbered text f n p w id
-left {text} {f} {n} {p} {e} {q} {w} {id} h l x =
+pub left : {text : List ℕ} {f : Flags} {n : Symbol} {p e q w : Parser} {id : NodeId} → IsAt p → Enters p e → Leaves q w → Numbered text f n e q id → Numbered text f n p w id
+left {text} {f} {n} {p} {e} {q} {w} {id} a h l x =
     let d : w.depth ≡ p.depth = (let a = l.depth in let b = x.answer.same.depth in let c = ap (λ (r : Parser). r.depth) h.is in omega arith) in
-    subst (λ (r : Parser). Numbered text f n p r id) (sym l.is) (out_of (p.depth + 1) w.depth d (subst (λ (r : Parser). Numbered text f n r q id) h.is x))
+    subst (λ (r : Parser). Numbered text f n p r id) (sym l.is) (out_of (p.depth + 1) w.depth d a (subst (λ (r : Parser). Numbered text f n r q id) h.is x))
 
 -- what a call said, of the state before
 pub stops_behind : {p q : Parser} (r : Parser) {F H : Type 0} (e : Stop) → Follows p q → (Grown q.errors r.errors → Grown p.errors r.errors) → (F → H) → Stops q r e F → Stops p r e H
 stops_behind r Fatal g h i s = record { at = s.at; follows = follows_on g s.follows; grown = h s.grown; none = i s.none }
 stops_behind r NoMemory g h i s = tt
 
-follows_in : {p q : Parser} → Enters p q → Follows p q
-follows_in {p} {q} h = subst (Follows p) (sym h.is) (follows_depth p.depth (p.depth + 1) (follows_itself p))
-
-pub stops_in : {p q : Parser} (r : Parser) {F H : Type 0} (e : Stop) → Enters p q → (F → H) → Stops q r e F → Stops p r e H
-stops_in {p} {q} r e h i s = stops_behind r e (follows_in h) (λ g. subst (λ (x : Parser). Grown x.errors r.errors) h.is g) i s
+pub stops_in : {p q : Parser} (r : Parser) {F H : Type 0} (e : Stop) → IsAt p → Enters p q → (F → H) → Stops q r e F → Stops p r e H
+stops_in {p} {q} r e a h i s = stops_behind r e (entered_on a h).0 (λ g. subst (λ (x : Parser). Grown x.errors r.errors) h.is g) i s
 
 -- whatever the text and the parameters are called
 pub standing : {text : List ℕ} {f : Flags} {p : Parser} → At text f p → Standing p

@@ -32,7 +32,7 @@ use Rattle.js_tree.specs.Nodes.{Node}
 use Rattle.js_tree.specs.Holding.{Holds, Keeps}
 use Rattle.js_base.specs.declared.span.Span.{Span}
 use Rattle.js_cursor.specs.Parsers.{Parser}
-use Rattle.js_cursor.specs.Moves.{OnlyMemory, Enters, Leaves}
+use Rattle.js_cursor.specs.Moves.{OnlyMemory}
 use Rattle.js_cursor.specs.declared.stop.Stop.{Stop}
 use Rattle.js_cursor.specs.declared.stop.Stop.TheVariants.{Fatal, NoMemory}
 use Rattle.js_core.specs.Lexemes.{Lex, is_read, read_kinds}
@@ -40,7 +40,7 @@ use Rattle.js_core.specs.States.{At, Same}
 use Rattle.js_core.specs.Moves.{Moved, MadeHere, LeafTaken, TakesLeaf, plain_label}
 use Rattle.js_core.specs.Answers.{Underived, Answer, Numbered, Outcome, beside}
 use Rattle.js_core.specs.Operators.{unary_kinds}
-use Rattle.js_core.proofs.Moving.{same_both, same_nodes, beside_nodes, left}
+use Rattle.js_core.proofs.Moving.{same_both, same_nodes, beside_nodes}
 use Rattle.js_core.proofs.Dead.{live, lives}
 use Rattle.js_core.proofs.MadeNodes.{leaf_held, one_held}
 use Rattle.js_core.proofs.Paths.{reads, Path, ◌⟼◌, ◌⟶◌, ◌⟶✗◌, at_kind, fails_at, token, last_token, last_called, passes_test, noded, noded_by, by_symbol_as, label_here, read_of, walked_one}
@@ -72,7 +72,7 @@ by_path {text} {f} {n} {p} {q} {w} {l} {cs} {id} a b e s r h k = go w.nodes e h 
     go ns e h k =
         let y : Path text f (after n) (such n always) p nothing q (tree l cs) = by_symbol_as {X' = after n} (λ l cs vs y d. d) a in
         subst (λ (r : Parser). Numbered text f n p r id) (sym e) (record {
-          answer = record { at = beside_nodes ns y.at; same = same_both b (same_nodes ns); further = y.further; label = l; slots = cs; stops = s; row = r; pass = y.pass; walked = y.walked; verdict = y.verdict };
+          answer = record { at = beside_nodes ns y.at; same = same_both b (same_nodes ns y.at.at); further = y.further; label = l; slots = cs; stops = s; row = r; pass = y.pass; walked = y.walked; verdict = y.verdict };
           holds = subst (λ (r : Parser). Holds r.nodes (length p.nodes) (length r.nodes) id.0 l cs) e h;
           keeps = subst (λ (r : Parser). Keeps p.nodes r.nodes) e k;
         })
@@ -208,9 +208,9 @@ listed (row ∷ rows) k = some_row (same_kind row.0 k) row.1 (row_in rows k) ∙
 pub unary_listed : {k l : Kind} {b c : Bool} → k ≡ l → b ≡ is_some (row_in unary_operators k) → b ≡ c → one_of_kinds unary_kinds l ≡ c
 unary_listed {k} {c = c} e h g = subst (λ (j : Kind). one_of_kinds unary_kinds j ≡ c) e (sym (listed unary_operators k) ∙ (sym h ∙ g))
 
--- an operator that was passed, its operand, one level deeper, and the node
-pub unary_outcome : {text : List ℕ} {f : Flags} {p q e r v w : Parser} {id arg : NodeId} (o : UnaryOperator) (s : Span) → one_of_kinds unary_kinds p.token.kind ≡ true → row_in unary_operators p.token.kind ≡ Some o → At text f p → p.token.escaped ≡ false → (m : Moved text f p q) → Enters q e → Numbered text f (at Unary f) e r arg → Leaves r v → s.start ≡ p.token.span.start → s.end ≡ v.prev_token_end → MadeHere (plain_label node.UnaryExpression (op.Unary o) s) (Some arg ∷ []) v w id → Numbered text f (at Unary f) p w id
-unary_outcome {p = p} o s h u a z m i x l b c d = unary_answers p.token.kind o s h (unary_named p.token.kind o h u) a refl z m (left i l x) b c d
+-- an operator that was passed, its operand, and the node
+pub unary_outcome : {text : List ℕ} {f : Flags} {p q v w : Parser} {id arg : NodeId} (o : UnaryOperator) (s : Span) → one_of_kinds unary_kinds p.token.kind ≡ true → row_in unary_operators p.token.kind ≡ Some o → At text f p → p.token.escaped ≡ false → (m : Moved text f p q) → Numbered text f (at Unary f) q v arg → s.start ≡ p.token.span.start → s.end ≡ v.prev_token_end → MadeHere (plain_label node.UnaryExpression (op.Unary o) s) (Some arg ∷ []) v w id → Numbered text f (at Unary f) p w id
+unary_outcome {p = p} o s h u a z m x b c d = unary_answers p.token.kind o s h (unary_named p.token.kind o h u) a refl z m x b c d
 
 pub row_here : {k l : Kind} {o : UnaryOperator} → k ≡ l → row_in unary_operators k ≡ Some o → row_in unary_operators l ≡ Some o
 row_here {o = o} e h = subst (λ (j : Kind). row_in unary_operators j ≡ Some o) e h

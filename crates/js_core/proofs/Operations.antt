@@ -70,31 +70,18 @@ no_hash : {text : List ℕ} {s : ℕ} (y : Lexeme) → Lex text s y → y.kind �
 no_hash y l e = false≢true (subst (λ (k : Kind). one_of_kinds read_kinds k ≡ true) e (and_parts (one_of_kinds read_kinds y.kind) (not y.escaped) l.1).0)
 
 -- the rows of operands
-operand_row : (f : Flags) (q : ℕ) (r : Row) → may_end (level_at f q).name r ≡ true → of_operand r ≡ true
-operand_row f zero r h = h
-operand_row f (suc zero) r h = h
-operand_row f (suc (suc zero)) r h = h
-operand_row f (suc (suc (suc zero))) r h = h
-operand_row f (suc (suc (suc (suc zero)))) r h = h
-operand_row f (suc (suc (suc (suc (suc zero))))) r h = h
-operand_row f (suc (suc (suc (suc (suc (suc zero)))))) r h = h
-operand_row f (suc (suc (suc (suc (suc (suc (suc zero))))))) r h = h
-operand_row f (suc (suc (suc (suc (suc (suc (suc (suc zero)))))))) r h = h
-operand_row f (suc (suc (suc (suc (suc (suc (suc (suc (suc zero))))))))) r h = h
-operand_row f (suc (suc (suc (suc (suc (suc (suc (suc (suc (suc n)))))))))) r h = h
-
-level_row : (f : Flags) (q : ℕ) (r : Row) → of_operand r ≡ true → may_end (level_at f q).name r ≡ true
-level_row f zero r h = h
-level_row f (suc zero) r h = h
-level_row f (suc (suc zero)) r h = h
-level_row f (suc (suc (suc zero))) r h = h
-level_row f (suc (suc (suc (suc zero)))) r h = h
-level_row f (suc (suc (suc (suc (suc zero))))) r h = h
-level_row f (suc (suc (suc (suc (suc (suc zero)))))) r h = h
-level_row f (suc (suc (suc (suc (suc (suc (suc zero))))))) r h = h
-level_row f (suc (suc (suc (suc (suc (suc (suc (suc zero)))))))) r h = h
-level_row f (suc (suc (suc (suc (suc (suc (suc (suc (suc zero))))))))) r h = h
-level_row f (suc (suc (suc (suc (suc (suc (suc (suc (suc (suc n)))))))))) r h = h
+level_rows : (f : Flags) (q : ℕ) (r : Row) → may_end (level_at f q).name r ≡ of_operand r
+level_rows f zero r = refl
+level_rows f (suc zero) r = refl
+level_rows f (suc (suc zero)) r = refl
+level_rows f (suc (suc (suc zero))) r = refl
+level_rows f (suc (suc (suc (suc zero)))) r = refl
+level_rows f (suc (suc (suc (suc (suc zero))))) r = refl
+level_rows f (suc (suc (suc (suc (suc (suc zero)))))) r = refl
+level_rows f (suc (suc (suc (suc (suc (suc (suc zero))))))) r = refl
+level_rows f (suc (suc (suc (suc (suc (suc (suc (suc zero)))))))) r = refl
+level_rows f (suc (suc (suc (suc (suc (suc (suc (suc (suc zero))))))))) r = refl
+level_rows f (suc (suc (suc (suc (suc (suc (suc (suc (suc (suc n)))))))))) r = refl
 
 -- the right edge of an operation is its right operand's
 edge_last : (q : ℕ) → edge_is_last (node_at q) ≡ true
@@ -125,7 +112,7 @@ module _ {text : List ℕ} {f : Flags} where
     further = x.answer.further;
     label = x.answer.label;
     slots = x.answer.slots;
-    row = operand_row f 10 _ x.answer.row;
+    row = sym (level_rows f 10 _) ∙ x.answer.row;
     pass = x.answer.pass;
     walked = x.answer.walked;
     cap = 10;
@@ -267,7 +254,7 @@ module _ {text : List ℕ} {f : Flags} where
         made_link {w} {made} e g n = subst (λ (l : Label). MadeHere l (Some id ∷ Some right ∷ []) v w made) (rw (e, g) link_is) n
 
         step_row : of_operand (row_of (link_label v.prev_token_end) (tree s.label s.slots (tree x.answer.label x.answer.slots end))) ≡ true
-        step_row = rw (edge_last it.level) (operand_row f (it.level + 1) _ x.answer.row)
+        step_row = rw (edge_last it.level) (sym (level_rows f (it.level + 1) _) ∙ x.answer.row)
 
         ring_step : (y : Stretch text (after (level_at f (it.level + 1))) (such (level_at f (it.level + 1)) always) r.prev_token_end nothing v.prev_token_end (tree x.answer.label x.answer.slots) x.answer.pass) → Ring text f m p.prev_token_end p.token.span.start s.cap s.label s.slots q.prev_token_end s.pass
             → Ring text f m p.prev_token_end p.token.span.start it.level (link_label v.prev_token_end) (tree s.label s.slots (tree x.answer.label x.answer.slots end)) v.prev_token_end (λ ls. s.pass (next d.lexeme (x.answer.pass ls)))
@@ -283,7 +270,7 @@ module _ {text : List ℕ} {f : Flags} where
         pub operand_step : {w : Parser} {made : NodeId} → MadeHere (link_label v.prev_token_end) (Some id ∷ Some right ∷ []) v w made → Operand text f m p w made
         operand_step {w} {made} n = subst (λ (z : Parser). Operand text f m p z made) (sym n.stays) (record {
           at = beside_nodes w.nodes x.answer.at;
-          same = same_both s.same (same_both o.same (same_both d.same (same_both x.answer.same (same_nodes w.nodes))));
+          same = same_both s.same (same_both o.same (same_both d.same (same_both x.answer.same (same_nodes w.nodes x.answer.at.at))));
           further = let a = s.further in let b = forward in omega arith;
           label = link_label v.prev_token_end;
           slots = tree s.label s.slots (tree x.answer.label x.answer.slots end);
@@ -308,7 +295,10 @@ module _ {text : List ℕ} {f : Flags} where
         let k : power_of f.in_ t.token.kind ≡ power_of f.in_ y.kind = ap (power_of f.in_) z.kind in omega arith
 
     no_operator : (q' : ℕ) → m ≤ q' → q' ≤ s.cap → (y : Lexeme) → Lex text q.prev_token_end y → OneOf y.kind (operators_at f q') → ⊥
-    no_operator q' a b y l i = let h = operator_level f q' i in let k = power_listed f.in_ y l.1 in let w = weak y l in absurd (omega arith)
+    no_operator q' a b y l i = let h = operator_level f q' i in let k = power_listed f.in_ y l.1 (omega arith) in let w = weak y l in absurd (omega arith)
+
+    no_link : (y : Lexeme) → Lex text q.prev_token_end y → IsTrue (seen (looser 16 f.in_ (row_of s.label s.slots)) y || seen beside y)
+    no_link y l = looser_or (s.cap + 6) 16 (tight f.in_ (row_of s.label s.slots) y.kind y.newline y.escaped) (seen beside y) (let h = s.low in omega arith) (s.stops y l)
 
     pub operands_answer : m ≤ 10 → Numbered text f (level_at f m) p t id
     operands_answer h = record {
@@ -318,8 +308,8 @@ module _ {text : List ℕ} {f : Flags} where
         further = let a = s.further in let b = o.place in omega arith;
         label = s.label;
         slots = s.slots;
-        stops = λ y l. let k = subst (λ (v : ℕ). Lex text v y) o.place l in subst (λ b. (b || seen beside y) ≡ true) (sym (level_looser f m (tree s.label s.slots end) y h)) (stops_by_power (m + 5) f.in_ (row_of s.label s.slots) s.row y l.1 (weak y k));
-        row = level_row f m _ s.row;
+        stops = λ y l. let k = subst (λ (v : ℕ). Lex text v y) o.place l in subst (λ b. (b || seen beside y) ≡ true) (sym (level_looser f m (tree s.label s.slots end) y h)) (stops_by_power (m + 5) f.in_ (row_of s.label s.slots) s.row y l.1 (no_link y k) (weak y k) (omega arith));
+        row = level_rows f m _ ∙ s.row;
         pass = s.pass;
         walked = walked_to (sym o.place) s.walked;
         verdict = subst (λ (v : ℕ). Verdict p.errors t.errors (Stretch text (after (level_at f m)) (such (level_at f m) always) p.prev_token_end nothing v (tree s.label s.slots) s.pass) (Underived text (level_at f m) p.prev_token_end)) (sym o.place)

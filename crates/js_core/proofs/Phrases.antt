@@ -7,7 +7,7 @@ use Rattle.js_base.specs.Kinds.{same_kind, one_of_kinds}
 use Rattle.js_grammar.specs.Trees.{Slots, end, tree, Label, unary_expression}
 use Rattle.js_grammar.specs.Grammar.{Lexeme, Lexemes, Look, seen, such, nothing, alt, ◌▸◌}
 use Rattle.js_grammar.specs.Parsing.{always, Goes, still}
-use Rattle.js_grammar.specs.Productions.{G, Flags, Symbol, at, tok, op, branches, Assignment, Conditional, Short, Or, Exponent, Unary, Update, LeftHandSide, New, Member, Primary}
+use Rattle.js_grammar.specs.Productions.{G, Flags, Symbol, at, tok, op, branches, Expression, Assignment, Conditional, Short, Or, Exponent, Unary, Update, LeftHandSide, New, Member, Primary}
 use Rattle.js_grammar.specs.Productions.{sym as symbol}
 use Rattle.js_grammar.specs.Table.{rule, rule_of}
 use Rattle.js_grammar.specs.Follow.{edge_of, row_of, follow, follow_of, after, looser, tight}
@@ -27,7 +27,7 @@ use Rattle.js_core.specs.States.{At}
 use Rattle.js_core.specs.Answers.{Verdict, Stretch, Underived, Numbered, Outcome, beside}
 use Rattle.js_core.proofs.Dead.{live, lives}
 use Rattle.js_core.proofs.Paths.{reads, fails_at}
-use Rattle.js_core.proofs.Tight.{stops_by_power, power_low}
+use Rattle.js_core.proofs.Tight.{narrowing, narrows}
 
 -- what is left of a line, where that is another symbol
 pub by_left : (n m : Symbol) → live (rule n) ≡ such m always → (text : List ℕ) (s : ℕ) → Goes rule (Lex text) (after n) end (rule n) s (such m always) s (λ us. us) (still 0)
@@ -60,33 +60,45 @@ module _ (n m : Symbol) (h : passes_on n.name m.name ≡ true) (i : n.flags.in_ 
     keeps = x.keeps;
   }
 
--- what is read binds no tighter than `*`
-stops_high : (n : ℕ) (b : Bool) (r : Row) → of_operand r ≡ true → 15 ≤ n → (text : List ℕ) (s : ℕ) (y : Lexeme) → Lex text s y → IsTrue (seen (looser n b r) y || seen beside y)
-stops_high n b r o h text s y l = stops_by_power n b r o y l.1 (let k = power_low b y.kind in omega arith)
+-- what the call answered, as an answer of n
+module _ (n m : Symbol) (h : passes_on n.name m.name ≡ true) (i : n.flags.in_ ≡ m.flags.in_) where
+  pub lift_result : {text : List ℕ} {f : Flags} {p : Parser} (q : Parser) (r : Result NodeId Stop) → Goes rule (Lex text) (after n) end (rule n) p.prev_token_end (such m always) p.prev_token_end (λ us. us) (still 0)
+      → ({id : NodeId} (x : Numbered text f m p q id) → may_end n.name (row_of x.answer.label x.answer.slots) ≡ true)
+      → ({id : NodeId} (x : Numbered text f m p q id) (y : Lexeme) → Lex text q.prev_token_end y → IsTrue (seen (follow n (edge_of x.answer.label x.answer.slots)) y || seen beside y))
+      → Outcome text f m p q r → Outcome text f n p q r
+  lift_result {text} {p = p} q (Ok id) g r k x = lift n m h i text p.prev_token_end g refl x (r x) (k x)
+  lift_result {text} {p = p} q (Err Fatal) g r k x = record { at = x.at; follows = x.follows; grown = x.grown; none = lift_fails n m h i text p.prev_token_end g x.none }
+  lift_result q (Err NoMemory) g r k x = tt
 
--- and what is no operator between two operands, not at all
-abbrev hardly : Bool → Row → Look
-hardly b r k w e = not (nat_lt (tight b r k w e) 5) || (nat_lt (tight b r k w e) 2 || beside k w e)
+-- What binds an operand less than n, binds it less than m, if it is none of these kinds; the checks compute.
+pub narrow_operand : (n m : ℕ) (ks : List Kind) → covers reads (narrowing n m ks true after_expression) ≡ true → covers reads (narrowing n m ks false after_expression) ≡ true → covers reads (narrowing n m ks true after_postfix) ≡ true → covers reads (narrowing n m ks false after_postfix) ≡ true → (b : Bool) (r : Row) → of_operand r ≡ true → covers reads (narrowing n m ks b r) ≡ true
+narrow_operand n m ks c d g h true after_expression o = c
+narrow_operand n m ks c d g h false after_expression o = d
+narrow_operand n m ks c d g h true after_postfix o = g
+narrow_operand n m ks c d g h false after_postfix o = h
+narrow_operand n m ks c d g h b after_body o = absurd (false≢true o)
+narrow_operand n m ks c d g h b after_yield o = absurd (false≢true o)
+narrow_operand n m ks c d g h b after_declarator o = absurd (false≢true o)
+narrow_operand n m ks c d g h b after_word o = absurd (false≢true o)
 
-hardly_at : (b : Bool) (r : Row) → of_operand r ≡ true → covers reads (hardly b r) ≡ true
-unfolding covers
-hardly_at true after_expression h = refl
-hardly_at true after_postfix h = refl
-hardly_at false after_expression h = refl
-hardly_at false after_postfix h = refl
-hardly_at b after_body h = absurd (false≢true h)
-hardly_at b after_yield h = absurd (false≢true h)
-hardly_at b after_declarator h = absurd (false≢true h)
-hardly_at b after_word h = absurd (false≢true h)
+-- and so an assignment, which may be a function or a `yield` as well
+pub narrow_assignment : (n m : ℕ) (ks : List Kind) → ((b : Bool) (r : Row) → of_operand r ≡ true → covers reads (narrowing n m ks b r) ≡ true) → covers reads (narrowing n m ks true after_body) ≡ true → covers reads (narrowing n m ks false after_body) ≡ true → covers reads (narrowing n m ks true after_yield) ≡ true → covers reads (narrowing n m ks false after_yield) ≡ true → (b : Bool) (r : Row) → of_assignment r ≡ true → covers reads (narrowing n m ks b r) ≡ true
+narrow_assignment n m ks a c d g h b after_expression o = a b after_expression refl
+narrow_assignment n m ks a c d g h b after_postfix o = a b after_postfix refl
+narrow_assignment n m ks a c d g h true after_body o = c
+narrow_assignment n m ks a c d g h false after_body o = d
+narrow_assignment n m ks a c d g h true after_yield o = g
+narrow_assignment n m ks a c d g h false after_yield o = h
+narrow_assignment n m ks a c d g h b after_declarator o = absurd (false≢true o)
+narrow_assignment n m ks a c d g h b after_word o = absurd (false≢true o)
 
-stops_low : (n : ℕ) (b : Bool) (r : Row) → of_operand r ≡ true → 2 ≤ n → (text : List ℕ) (s : ℕ) (y : Lexeme) → Lex text s y → IsTrue (seen (looser 5 b r) y || seen beside y) → IsTrue (seen (looser n b r) y || seen beside y)
-stops_low n b r o h text s y l g = go (seen (looser 5 b r) y) (seen (looser 2 b r) y) (seen beside y) refl g (covered reads (hardly b r) (hardly_at b r o) y.kind y.newline y.escaped l.1)
-  where
-    go : (a c d : Bool) → seen (looser 2 b r) y ≡ c → (a || d) ≡ true → (not a || (c || d)) ≡ true → (seen (looser n b r) y || d) ≡ true
-    go a c true q u v = or_right (seen (looser n b r) y) true refl
-    go true true false q u v = or_left (seen (looser n b r) y) false (lt-ltb (tight b r y.kind y.newline y.escaped) n (let i = ltb-true (tight b r y.kind y.newline y.escaped) 2 q in omega arith))
-    go true false false q u v = absurd (false≢true v)
-    go false c false q u v = absurd (false≢true u)
+plain_row : (r : Row) → same_row after_expression r ≡ true → r ≡ after_expression
+plain_row after_expression h = refl
+plain_row after_postfix h = absurd (false≢true h)
+plain_row after_body h = absurd (false≢true h)
+plain_row after_yield h = absurd (false≢true h)
+plain_row after_declarator h = absurd (false≢true h)
+plain_row after_word h = absurd (false≢true h)
 
 operand_assigned : (r : Row) → of_operand r ≡ true → of_assignment r ≡ true
 operand_assigned after_expression h = refl
@@ -144,38 +156,54 @@ unary_left : (f : Flags) → live (rule (at Unary f)) ≡ alt (such (at Update f
 unfolding rule rule_of apart
 unary_left f = refl
 
--- an expression of operators is an AssignmentExpression
-pub assignment_of : {text : List ℕ} {f : Flags} {p q : Parser} {id : NodeId} → Numbered text f (at Or f) p q id → Numbered text f (at Assignment f) p q id
-unfolding covers lift
-assignment_of {text} {f} {p} {q} x =
-    let r = row_of x.answer.label x.answer.slots in
-    let o : of_operand r ≡ true = x.answer.row in
-    let s = p.prev_token_end in
-    let t = q.prev_token_end in
-    let a = lift (at Short f) (at Or f) refl refl text s (by_left (at Short f) (at Or f) (short_left f) text s) refl x o (λ y l. stops_low 4 f.in_ r o (omega arith) text t y l (x.answer.stops y l)) in
-    let b = lift (at Conditional f) (at Short f) refl refl text s (by_left (at Conditional f) (at Short f) (conditional_left f) text s) refl a (operand_assigned r o) (λ y l. stops_low 3 f.in_ r o (omega arith) text t y l (x.answer.stops y l)) in
-    lift (at Assignment f) (at Conditional f) refl refl text s (by_left (at Assignment f) (at Conditional f) (assignment_left f) text s) refl b (operand_assigned r o) (λ y l. stops_low 2 f.in_ r o (omega arith) text t y l (x.answer.stops y l))
+expression_left : (f : Flags) → live (rule (at Expression f)) ≡ such (at Assignment f) always
+unfolding rule rule_of apart
+expression_left f = refl
 
-pub assignment_fails : (text : List ℕ) (f : Flags) (s : ℕ) → Underived text (at Or f) s → Underived text (at Assignment f) s
+-- Answers of a symbol of which only another one is left.
+
+-- an Expression
+pub expression_result : {text : List ℕ} {f : Flags} {p : Parser} (q : Parser) (r : Result NodeId Stop) → Outcome text f (at Assignment f) p q r → Outcome text f (at Expression f) p q r
 unfolding covers
-assignment_fails text f s x = lift_fails (at Assignment f) (at Conditional f) refl refl text s (by_left (at Assignment f) (at Conditional f) (assignment_left f) text s)
-    (lift_fails (at Conditional f) (at Short f) refl refl text s (by_left (at Conditional f) (at Short f) (conditional_left f) text s)
-    (lift_fails (at Short f) (at Or f) refl refl text s (by_left (at Short f) (at Or f) (short_left f) text s) x))
+expression_result {text} {f} {p} q r x = lift_result (at Expression f) (at Assignment f) refl refl q r (by_left (at Expression f) (at Assignment f) (expression_left f) text p.prev_token_end) (λ y. y.answer.row)
+    (λ y z l. narrows 2 1 [] f.in_ (row_of y.answer.label y.answer.slots) (narrow_assignment 2 1 [] (narrow_operand 2 1 [] refl refl refl refl) refl refl refl refl f.in_ (row_of y.answer.label y.answer.slots) y.answer.row) z l.1 refl (y.answer.stops z l)) x
 
--- a UnaryExpression is an operand of operators
-pub operand_of : {text : List ℕ} {f : Flags} {p q : Parser} {id : NodeId} → Numbered text f (at Unary f) p q id → Numbered text f (at Exponent f) p q id
+-- an AssignmentExpression, which is a ShortCircuitExpression
+pub assignment_result : {text : List ℕ} {f : Flags} {p : Parser} (q : Parser) (r : Result NodeId Stop) → Outcome text f (at Short f) p q r → Outcome text f (at Assignment f) p q r
 unfolding covers
-operand_of {text} {f} {p} {q} x = lift (at Exponent f) (at Unary f) refl refl text p.prev_token_end (by_left (at Exponent f) (at Unary f) (exponent_left f) text p.prev_token_end) refl x x.answer.row (stops_high 15 f.in_ (row_of x.answer.label x.answer.slots) x.answer.row (omega arith) text q.prev_token_end)
+assignment_result {text} {f} {p} q r x = lift_result (at Assignment f) (at Conditional f) refl refl q r (by_left (at Assignment f) (at Conditional f) (assignment_left f) text p.prev_token_end) (λ y. y.answer.row)
+    (λ y z l. narrows 3 2 [] f.in_ (row_of y.answer.label y.answer.slots) (narrow_assignment 3 2 [] (narrow_operand 3 2 [] refl refl refl refl) refl refl refl refl f.in_ (row_of y.answer.label y.answer.slots) y.answer.row) z l.1 refl (y.answer.stops z l))
+    (lift_result (at Conditional f) (at Short f) refl refl q r (by_left (at Conditional f) (at Short f) (conditional_left f) text p.prev_token_end) (λ y. operand_assigned _ y.answer.row)
+    (λ y z l. narrows 4 3 [] f.in_ (row_of y.answer.label y.answer.slots) (narrow_operand 4 3 [] refl refl refl refl f.in_ (row_of y.answer.label y.answer.slots) y.answer.row) z l.1 refl (y.answer.stops z l)) x)
 
-pub operand_fails : (text : List ℕ) (f : Flags) (s : ℕ) → Underived text (at Unary f) s → Underived text (at Exponent f) s
+-- a ShortCircuitExpression, which is a LogicalORExpression
+pub short_result : {text : List ℕ} {f : Flags} {p : Parser} (q : Parser) (r : Result NodeId Stop) → Outcome text f (at Or f) p q r → Outcome text f (at Short f) p q r
 unfolding covers
-operand_fails text f s x = lift_fails (at Exponent f) (at Unary f) refl refl text s (by_left (at Exponent f) (at Unary f) (exponent_left f) text s) x
+short_result {text} {f} {p} q r x = lift_result (at Short f) (at Or f) refl refl q r (by_left (at Short f) (at Or f) (short_left f) text p.prev_token_end) (λ y. y.answer.row)
+    (λ y z l. narrows 5 4 [] f.in_ (row_of y.answer.label y.answer.slots) (narrow_operand 5 4 [] refl refl refl refl f.in_ (row_of y.answer.label y.answer.slots) y.answer.row) z l.1 refl (y.answer.stops z l)) x
 
--- a PrimaryExpression is a UnaryExpression, where no unary operator stands
+-- an operand of operators, which is a UnaryExpression
+pub operand_result : {text : List ℕ} {f : Flags} {p : Parser} (q : Parser) (r : Result NodeId Stop) → Outcome text f (at Unary f) p q r → Outcome text f (at Exponent f) p q r
+unfolding covers
+operand_result {text} {f} {p} q r x = lift_result (at Exponent f) (at Unary f) refl refl q r (by_left (at Exponent f) (at Unary f) (exponent_left f) text p.prev_token_end) (λ y. y.answer.row)
+    (λ y z l. narrows 16 15 [] f.in_ (row_of y.answer.label y.answer.slots) (narrow_operand 16 15 [] refl refl refl refl f.in_ (row_of y.answer.label y.answer.slots) y.answer.row) z l.1 refl (y.answer.stops z l)) x
+
+-- where no unary operator stands
 no_operator : {text : List ℕ} {f : Flags} {p : Parser} → At text f p → one_of_kinds unary_kinds p.token.kind ≡ false → Goes rule (Lex text) (after (at Unary f)) end (rule (at Unary f)) p.prev_token_end (such (at Update f) always) p.prev_token_end (λ us. us) (still 0)
 unfolding covers apart
 no_operator {text} {f} {p} a n = subst (λ (g : G). Goes rule (Lex text) (after (at Unary f)) end (rule (at Unary f)) p.prev_token_end g p.prev_token_end (λ us. us) (still 0)) (unary_left f) (lives (rule (at Unary f))) ▹ left (fails_at a {X = after (at Unary f)} (unary_part f) unary_kinds refl n)
 
+pub unary_result : {text : List ℕ} {f : Flags} {p : Parser} (q : Parser) (r : Result NodeId Stop) → At text f p → one_of_kinds unary_kinds p.token.kind ≡ false → Outcome text f (at Update f) p q r → Outcome text f (at Unary f) p q r
+unfolding covers
+unary_result {f = f} q r a n x = lift_result (at Unary f) (at Update f) refl refl q r (no_operator a n) (λ y. y.answer.row) (λ y z l. y.answer.stops z l) x
+
+-- an UpdateExpression, which is a LeftHandSideExpression
+pub update_result : {text : List ℕ} {f : Flags} {p : Parser} (q : Parser) (r : Result NodeId Stop) → Outcome text f (at LeftHandSide f) p q r → Outcome text f (at Update f) p q r
+unfolding covers
+update_result {text} {f} {p} q r x = lift_result (at Update f) (at LeftHandSide f) refl refl q r (by_left (at Update f) (at LeftHandSide f) (update_left f) text p.prev_token_end) (λ y. primary_operand _ y.answer.row)
+    (λ y z l. subst (λ (w : Row). IsTrue (seen (looser 16 f.in_ w) z || seen beside z)) (sym (plain_row (row_of y.answer.label y.answer.slots) y.answer.row)) (narrows 17 16 [] f.in_ after_expression (narrow_operand 17 16 [] refl refl refl refl f.in_ after_expression refl) z l.1 refl (y.answer.stops z l))) x
+
+-- a LeftHandSideExpression, which is a PrimaryExpression
 abbrev behind_member : Look
 behind_member k w e = not (one_of_kinds (LBrack ∷ Dot ∷ NoSubstitutionTemplate ∷ TemplateHead ∷ []) k && not e) && not (not w && (same_kind Function k && not e))
 
@@ -183,31 +211,16 @@ stops_member : (b : Bool) (l : Label) (cs : Slots) (text : List ℕ) (s : ℕ) (
 unfolding covers
 stops_member b l cs text s y h = or_left (seen behind_member y) (seen beside y) (covered reads behind_member refl y.kind y.newline y.escaped h.1)
 
-pub unary_of : {text : List ℕ} {f : Flags} {p q : Parser} {id : NodeId} → At text f p → one_of_kinds unary_kinds p.token.kind ≡ false → Numbered text f (at Primary f) p q id → Numbered text f (at Unary f) p q id
-unfolding covers lift
-unary_of {text} {f} {p} {q} a z x =
-    let r = row_of x.answer.label x.answer.slots in
-    let c : same_row after_expression r ≡ true = x.answer.row in
-    let o = primary_operand r c in
-    let s = p.prev_token_end in
-    let t = q.prev_token_end in
-    let m = lift (at Member f) (at Primary f) refl refl text s (by_left (at Member f) (at Primary f) (member_left f) text s) refl x c (stops_member f.in_ x.answer.label x.answer.slots text t) in
-    let n = lift (at New f) (at Member f) refl refl text s (by_left (at New f) (at Member f) (new_left f) text s) refl m c (stops_high 17 f.in_ after_expression refl (omega arith) text t) in
-    let l = lift (at LeftHandSide f) (at New f) refl refl text s (by_left (at LeftHandSide f) (at New f) (lefthandside_left f) text s) refl n c (stops_high 17 f.in_ after_expression refl (omega arith) text t) in
-    let u = lift (at Update f) (at LeftHandSide f) refl refl text s (by_left (at Update f) (at LeftHandSide f) (update_left f) text s) refl l o (stops_high 16 f.in_ r o (omega arith) text t) in
-    lift (at Unary f) (at Update f) refl refl text s (no_operator a z) refl u o (stops_high 16 f.in_ r o (omega arith) text t)
+abbrev no_link : Bool → Look
+no_link b k w e = nat_lt (tight b after_expression k w e) 17 || beside k w e
 
-pub unary_none : {text : List ℕ} {f : Flags} {p : Parser} → At text f p → one_of_kinds unary_kinds p.token.kind ≡ false → Underived text (at Primary f) p.prev_token_end → Underived text (at Unary f) p.prev_token_end
+no_links : (b : Bool) → covers reads (no_link b) ≡ true
 unfolding covers
-unary_none {text} {f} {p} a z x =
-    let s = p.prev_token_end in
-    lift_fails (at Unary f) (at Update f) refl refl text s (no_operator a z)
-    (lift_fails (at Update f) (at LeftHandSide f) refl refl text s (by_left (at Update f) (at LeftHandSide f) (update_left f) text s)
-    (lift_fails (at LeftHandSide f) (at New f) refl refl text s (by_left (at LeftHandSide f) (at New f) (lefthandside_left f) text s)
-    (lift_fails (at New f) (at Member f) refl refl text s (by_left (at New f) (at Member f) (new_left f) text s)
-    (lift_fails (at Member f) (at Primary f) refl refl text s (by_left (at Member f) (at Primary f) (member_left f) text s) x))))
+no_links true = refl
+no_links false = refl
 
-pub unary_result : {text : List ℕ} {f : Flags} {p : Parser} (q : Parser) (r : Result NodeId Stop) → At text f p → one_of_kinds unary_kinds p.token.kind ≡ false → Outcome text f (at Primary f) p q r → Outcome text f (at Unary f) p q r
-unary_result q (Ok id) a z x = unary_of a z x
-unary_result q (Err Fatal) a z x = record { at = x.at; follows = x.follows; grown = x.grown; none = unary_none a z x.none }
-unary_result q (Err NoMemory) a z x = tt
+pub lhs_result : {text : List ℕ} {f : Flags} {p : Parser} (q : Parser) (r : Result NodeId Stop) → Outcome text f (at Primary f) p q r → Outcome text f (at LeftHandSide f) p q r
+unfolding covers
+lhs_result {text} {f} {p} q r x = lift_result (at LeftHandSide f) (at New f) refl refl q r (by_left (at LeftHandSide f) (at New f) (lefthandside_left f) text p.prev_token_end) (λ y. y.answer.row) (λ y z l. y.answer.stops z l)
+    (lift_result (at New f) (at Member f) refl refl q r (by_left (at New f) (at Member f) (new_left f) text p.prev_token_end) (λ y. y.answer.row) (λ y z l. covered reads (no_link f.in_) (no_links f.in_) z.kind z.newline z.escaped l.1)
+    (lift_result (at Member f) (at Primary f) refl refl q r (by_left (at Member f) (at Primary f) (member_left f) text p.prev_token_end) (λ y. y.answer.row) (λ y z l. stops_member f.in_ y.answer.label y.answer.slots text q.prev_token_end z l) x))

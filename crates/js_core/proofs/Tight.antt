@@ -1,6 +1,6 @@
 -- How tight the lexemes that are read bind what stands before them: as their power as operators says, or hardly at all.
-use Rattle.std.proofs.Common.{ℕ, ◌≡◌, ◌≤◌, ◌<◌, ◌+◌, Bool, true, false, not, cond, ◌&&◌, ◌||◌, IsTrue, [], ◌∷◌, refl, arith, nat_lt}
-use Rattle.std.proofs.lemmas.Bool.{false≢true, and_parts, and_from, or_left, or_right, lt-ltb, eqb-true}
+use Rattle.std.proofs.Common.{ℕ, ◌≡◌, ◌≤◌, ◌<◌, ◌+◌, Bool, true, false, not, cond, ◌&&◌, ◌||◌, IsTrue, List, [], ◌∷◌, refl, sym, arith, nat_lt, ◌∙◌}
+use Rattle.std.proofs.lemmas.Bool.{false≢true, and_parts, and_from, or_left, or_right, lt-ltb, ltb-true, eqb-true}
 use Rattle.std.specs.Prelude.{nat_eq}
 use Rattle.js_base.specs.declared.kind.Kind.{Kind}
 use Rattle.js_base.specs.declared.kind.Kind.TheVariants.{Plus, Minus, Star, Percent, Eq2, Eq3, Neq, Neq2, LAngle, LtEq, RAngle, GtEq, ShiftLeft, ShiftRight, ShiftRight3, Amp, Amp2, Pipe, Pipe2, Caret, In, Instanceof}
@@ -18,9 +18,22 @@ use Rattle.js_core.specs.Answers.{beside}
 use Rattle.js_core.specs.Operators.{power_of}
 use Rattle.js_core.proofs.Paths.{reads}
 
--- no tighter than its power; or it may stand behind `async` alone
+-- What binds less than n, and more than m at most by these kinds, binds less than m; or it may stand behind `async` alone.
+abbrev pub narrowing : ℕ → ℕ → List Kind → Bool → Row → Look
+narrowing n m ks b r k w e = not (nat_lt (tight b r k w e) n) || (nat_lt (tight b r k w e) m || (beside k w e || one_of_kinds ks k))
+
+narrowed : (a c d o : Bool) → (not a || (c || (d || o))) ≡ true → o ≡ false → (a || d) ≡ true → (c || d) ≡ true
+narrowed a c true o h n x = or_right c true refl
+narrowed true true false o h n x = refl
+narrowed true false false o h n x = absurd (false≢true (sym n ∙ h))
+narrowed false c false o h n x = absurd (false≢true x)
+
+pub narrows : (n m : ℕ) (ks : List Kind) (b : Bool) (r : Row) → covers reads (narrowing n m ks b r) ≡ true → (y : Lexeme) → IsTrue (is_read y) → one_of_kinds ks y.kind ≡ false → IsTrue (seen (looser n b r) y || seen beside y) → IsTrue (seen (looser m b r) y || seen beside y)
+narrows n m ks b r c y h o x = narrowed (seen (looser n b r) y) (seen (looser m b r) y) (seen beside y) (one_of_kinds ks y.kind) (covered reads (narrowing n m ks b r) c y.kind y.newline y.escaped h) o x
+
+-- What is no link binds by its power as an operator between two operands, or hardly at all.
 abbrev by_power : Bool → Row → Look
-by_power b r k w e = not (nat_lt (power_of b k) (tight b r k w e)) || beside k w e
+by_power b r k w e = not (nat_lt (tight b r k w e) 16) || (not (nat_lt (power_of b k) (tight b r k w e)) || (nat_lt (tight b r k w e) 5 || beside k w e))
 
 by_power_at : (b : Bool) (r : Row) → of_operand r ≡ true → covers reads (by_power b r) ≡ true
 unfolding covers
@@ -33,44 +46,19 @@ by_power_at b after_yield h = absurd (false≢true h)
 by_power_at b after_declarator h = absurd (false≢true h)
 by_power_at b after_word h = absurd (false≢true h)
 
-less_or : (n m p : ℕ) (c : Bool) → (not (nat_lt n m) || c) ≡ true → n < p → (nat_lt m p || c) ≡ true
-less_or n m p true h l = or_right (nat_lt m p) true refl
-less_or n m p false h l = go (nat_lt n m) refl h
+less_or : (t p n : ℕ) (c d : Bool) → nat_lt t 5 ≡ d → (not (nat_lt t 16) || (not (nat_lt p t) || (d || c))) ≡ true → (nat_lt t 16 || c) ≡ true → p < n → 5 ≤ n → (nat_lt t n || c) ≡ true
+less_or t p n true d q h x l k = or_right (nat_lt t n) true refl
+less_or t p n false true q h x l k = or_left (nat_lt t n) false (lt-ltb t n (let i = ltb-true t 5 q in omega arith))
+less_or t p n false false q h x l k = go (nat_lt t 16) (nat_lt p t) refl h x
   where
-    go : (a : Bool) → nat_lt n m ≡ a → (not a || false) ≡ true → (nat_lt m p || false) ≡ true
-    go true e z = absurd (false≢true z)
-    go false e z = or_left (nat_lt m p) false (lt-ltb m p (let i : m ≤ n = grind (arith, e) in omega arith))
+    go : (a b : Bool) → nat_lt p t ≡ b → (not a || (not b || false)) ≡ true → (a || false) ≡ true → (nat_lt t n || false) ≡ true
+    go true true e h x = absurd (false≢true h)
+    go true false e h x = or_left (nat_lt t n) false (lt-ltb t n (let i : t ≤ p = grind (arith, e) in omega arith))
+    go false b e h x = absurd (false≢true x)
 
--- what binds by less than n as an operator, stands behind an operand of that level
-pub stops_by_power : (n : ℕ) (b : Bool) (r : Row) → of_operand r ≡ true → (y : Lexeme) → IsTrue (is_read y) → power_of b y.kind < n → IsTrue (seen (looser n b r) y || seen beside y)
-stops_by_power n b r o y h l = less_or (power_of b y.kind) (tight b r y.kind y.newline y.escaped) n (beside y.kind y.newline y.escaped) (covered reads (by_power b r) (by_power_at b r o) y.kind y.newline y.escaped h) l
-
--- no power is above that of `*`
-pub power_low : (b : Bool) (k : Kind) → power_of b k ≤ 14
-power_low b Pipe2 = omega arith
-power_low b Amp2 = omega arith
-power_low b Pipe = omega arith
-power_low b Caret = omega arith
-power_low b Amp = omega arith
-power_low b Eq2 = omega arith
-power_low b Neq = omega arith
-power_low b Eq3 = omega arith
-power_low b Neq2 = omega arith
-power_low b LAngle = omega arith
-power_low b RAngle = omega arith
-power_low b LtEq = omega arith
-power_low b GtEq = omega arith
-power_low b Instanceof = omega arith
-power_low true In = omega arith
-power_low false In = omega arith
-power_low b ShiftLeft = omega arith
-power_low b ShiftRight = omega arith
-power_low b ShiftRight3 = omega arith
-power_low b Plus = omega arith
-power_low b Minus = omega arith
-power_low b Star = omega arith
-power_low b Percent = omega arith
-power_low b _ = omega arith
+-- what is no link, and binds by less than n as an operator, stands behind an operand of that level
+pub stops_by_power : (n : ℕ) (b : Bool) (r : Row) → of_operand r ≡ true → (y : Lexeme) → IsTrue (is_read y) → IsTrue (seen (looser 16 b r) y || seen beside y) → power_of b y.kind < n → 5 ≤ n → IsTrue (seen (looser n b r) y || seen beside y)
+stops_by_power n b r o y h x l k = less_or (tight b r y.kind y.newline y.escaped) (power_of b y.kind) n (beside y.kind y.newline y.escaped) (nat_lt (tight b r y.kind y.newline y.escaped) 5) refl (covered reads (by_power b r) (by_power_at b r o) y.kind y.newline y.escaped h) x l k
 
 -- The level of an operator.
 pub record Level (b : Bool) (k : Kind) : Type 0 where
@@ -132,41 +120,33 @@ binds_at false = refl
 pub operator_read : (b : Bool) (k : Kind) (w : Bool) → 1 ≤ power_of b k → (one_of_kinds read_kinds k ≡ true) × (not (beside k w false) ≡ true)
 operator_read b k w h = and_parts _ _ (covered (binds b) is_operator (binds_at b) k w false (and_from _ _ (lt-ltb 0 (power_of b k) (omega arith)) refl))
 
--- of what is read, only operators of a level bind
+-- of what is read, only operators of a level bind, or what binds less than all of them
 abbrev as_listed : Bool → Look
-as_listed b k w e = nat_eq (binding b k) (power_of b k)
+as_listed b k w e = nat_lt (binding b k) 5 || nat_eq (binding b k) (power_of b k)
 
 listed_at : (b : Bool) → covers reads (as_listed b) ≡ true
 unfolding covers
 listed_at true = refl
 listed_at false = refl
 
-pub power_listed : (b : Bool) (y : Lexeme) → IsTrue (is_read y) → binding b y.kind ≡ power_of b y.kind
-power_listed b y h = eqb-true (binding b y.kind) (power_of b y.kind) (covered reads (as_listed b) (listed_at b) y.kind y.newline y.escaped h)
+pub power_listed : (b : Bool) (y : Lexeme) → IsTrue (is_read y) → 5 ≤ binding b y.kind → binding b y.kind ≡ power_of b y.kind
+power_listed b y h l = go (nat_lt (binding b y.kind) 5) refl (covered reads (as_listed b) (listed_at b) y.kind y.newline y.escaped h)
+  where
+    go : (c : Bool) → nat_lt (binding b y.kind) 5 ≡ c → (c || nat_eq (binding b y.kind) (power_of b y.kind)) ≡ true → binding b y.kind ≡ power_of b y.kind
+    go true e x = absurd (let i = ltb-true (binding b y.kind) 5 e in omega arith)
+    go false e x = eqb-true (binding b y.kind) (power_of b y.kind) x
 
 -- what is an operator where `in` is none is one where it is
+abbrev binds_anywhere : Look
+binds_anywhere k w e = nat_lt 0 (power_of true k)
+
+abbrev binds_here : Bool → Look
+binds_here b k w e = nat_lt 0 (power_of b k)
+
+anywhere_at : (b : Bool) → covers (binds_here b) binds_anywhere ≡ true
+unfolding covers
+anywhere_at true = refl
+anywhere_at false = refl
+
 pub power_anywhere : (b : Bool) (k : Kind) → 1 ≤ power_of b k → 1 ≤ power_of true k
-power_anywhere true k h = h
-power_anywhere false Pipe2 h = h
-power_anywhere false Amp2 h = h
-power_anywhere false Pipe h = h
-power_anywhere false Caret h = h
-power_anywhere false Amp h = h
-power_anywhere false Eq2 h = h
-power_anywhere false Neq h = h
-power_anywhere false Eq3 h = h
-power_anywhere false Neq2 h = h
-power_anywhere false LAngle h = h
-power_anywhere false RAngle h = h
-power_anywhere false LtEq h = h
-power_anywhere false GtEq h = h
-power_anywhere false Instanceof h = h
-power_anywhere false In h = omega arith
-power_anywhere false ShiftLeft h = h
-power_anywhere false ShiftRight h = h
-power_anywhere false ShiftRight3 h = h
-power_anywhere false Plus h = h
-power_anywhere false Minus h = h
-power_anywhere false Star h = h
-power_anywhere false Percent h = h
-power_anywhere false _ h = absurd (omega arith)
+power_anywhere b k h = let i = ltb-true 0 (power_of true k) (covered (binds_here b) binds_anywhere (anywhere_at b) k false false (lt-ltb 0 (power_of b k) (omega arith))) in omega arith

@@ -1,5 +1,6 @@
 pub mod Lexemes
 pub mod States
 pub mod Answers
+pub mod Nesting
 pub mod Operators
 pub mod Moves

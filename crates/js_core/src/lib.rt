@@ -1,12 +1,18 @@
 //! The parse functions: one for each production, which call each other.
 #![tactic(auto)]
 
-mod expression;
+mod assignment;
+mod left_hand_side;
 mod lexemes;
+mod nested;
 mod nodes;
 mod operators;
+mod parse;
+mod primary;
+mod sequence;
+mod unary;
 
-pub use expression::parse_assignment_expression_or_higher;
+pub use parse::{parse_assignment_expression_or_higher, parse_expression};
 
 #[cfg(test)]
 mod tests;

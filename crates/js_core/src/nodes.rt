@@ -13,22 +13,7 @@ use js_tree::{NodeFlags, NodeId, NodeKind, Op};
 fn no_flags() -> NodeFlags
     ensures { number_of result ≡ 0 }
 {
-    NodeFlags {
-        prefix: false,
-        optional: false,
-        computed: false,
-        shorthand: false,
-        method: false,
-        is_async: false,
-        generator: false,
-        delegate: false,
-        is_static: false,
-        is_await: false,
-        tail: false,
-        bare: false,
-        pure: false,
-        pife: false,
-    }
+    NodeFlags::default()
 }
 
 /// A node without children.

@@ -1,9 +1,87 @@
-//! Which lexemes are operators, and how tight they bind.
+//! Operators between two operands (ECMA-262, sections 13.6 to 13.13).
 
-ghost use Rattle.std.specs.Prelude.{◌≡◌};
+ghost use Rattle.std.specs.Prelude.{◌≡◌, ◌≤◌, ◌-◌, ◌∷◌, [], Some, IfOk};
+ghost use Rattle.js_grammar.specs.Levels.{level_at};
+ghost use Rattle.js_grammar.specs.Productions.{at, Short};
+ghost use Rattle.js_core.specs.Answers.{Answers};
+ghost use Rattle.js_core.specs.Moves.{MadeHere, operation_label};
+ghost use Rattle.js_core.specs.Nesting.{CanNest, room};
 ghost use Rattle.js_core.specs.Operators.{power_of};
+ghost use Rattle.js_core.specs.States.{Standing};
 
-use js_base::Kind;
+use crate::lexemes::{advance, operator_here};
+use crate::nested::Nested;
+use crate::nodes::make_two;
+use crate::unary::parse_unary_expression_or_higher;
+use js_base::{Kind, NoMemory, map_binary_operator, map_logical_operator};
+use js_cursor::{ParserImpl, Stop};
+use js_lex::ParserConfig;
+use js_tree::{NodeId, NodeKind, Op};
+
+/// A ShortCircuitExpression (ECMA-262, section 13.13).
+pub fn parse_binary_expression_or_higher<C: ParserConfig, N: Nested<C>>(
+    p: &mut ParserImpl<'_, C>,
+    nested: &N,
+) -> Result<NodeId, Stop>
+    requires at { Standing p.old }
+    requires nests { CanNest (N.can nested.now) (room p.old) }
+    ensures { Answers (at Short) p.old p.new result }
+{
+    parse_operators(p, nested, 5)
+}
+
+/// Operands, and operators between them that bind at least as tight as `least`, grouped to the left (ECMA-262, sections
+/// 13.6 to 13.13).
+fn parse_operators<C: ParserConfig, N: Nested<C>>(
+    p: &mut ParserImpl<'_, C>,
+    nested: &N,
+    least: u8,
+) -> Result<NodeId, Stop>
+    requires at { Standing p.old }
+    requires nests { CanNest (N.can nested.now) (room p.old) }
+    requires low { 5 ≤ least }
+    requires high { least ≤ 15 }
+    ensures { Answers (λ f. level_at f (least - 5)) p.old p.new result }
+{
+    let start = p.cur_start();
+    let mut left = parse_unary_expression_or_higher(p, nested)?;
+    'operators: loop {
+        let power = operator_here(p)?;
+        if power < least {
+            break;
+        }
+        let operator = p.cur_kind();
+        advance(p)?;
+        let right = parse_operators(p, nested, power + 1)?;
+        left = make_operation(p, start, operator, left, right)?;
+    }
+    Ok(left)
+}
+
+/// The node of two operands and the operator between them.
+fn make_operation<C: ParserConfig>(
+    p: &mut ParserImpl<'_, C>,
+    start: u32,
+    operator: Kind,
+    left: NodeId,
+    right: NodeId,
+) -> Result<NodeId, NoMemory>
+    requires start { start ≤ p.old.prev_token_end }
+    requires operator { 1 ≤ power_of true operator }
+    ensures { IfOk result (λ id. MadeHere (operation_label operator start p.old.prev_token_end) (Some left ∷ Some right ∷ []) p.old p.new id) }
+{
+    let span = p.end_span(start);
+    match operator {
+        Kind::Pipe2 | Kind::Amp2 => {
+            let op = Op::Logical(map_logical_operator(operator));
+            make_two(p, NodeKind::LogicalExpression, op, span, left, right)
+        }
+        _ => {
+            let op = Op::Binary(map_binary_operator(operator));
+            make_two(p, NodeKind::BinaryExpression, op, span, left, right)
+        }
+    }
+}
 
 /// How tight a lexeme binds as an operator between two operands that groups to the left (ECMA-262, sections 13.6 to
 /// 13.13), from 5 for `||` to 14 for `*`; 0 for what is none. `in` is one where it is allowed.

@@ -1,7 +1,7 @@
 use Rattle.std.proofs.Common.{◌+◌, ◌-◌, length}
 use Rattle.js_core.specs.States.{flags_of}
 use Rattle.js_core.proofs.Operations.{Operand}
-use Rattle.js_core.proofs.expression.+parse_operators.Given as goal
+use Rattle.js_core.proofs.operators.+parse_operators.Given as goal
 
 abbrev pub decreases-parse_operators : goal.decreases-parse_operators
 decreases-parse_operators g l = length l.p.now.text + 1 - l.p.now.prev_token_end

@@ -1,7 +1,7 @@
 use Rattle.std.proofs.Common.{◌≡◌, [], subst}
 use Rattle.js_base.specs.declared.span.Span.{Span}
 use Rattle.js_core.specs.Moves.{MadeHere, plain_label}
-use Rattle.js_core.proofs.expression.parse_leaf.Goals as goal
+use Rattle.js_core.proofs.primary.parse_leaf.Goals as goal
 
 pub returns : goal.returns
 returns t c = λ text f a. record {

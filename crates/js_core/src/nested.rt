@@ -1,0 +1,58 @@
+//! What parse functions call where a production nests.
+
+ghost use Rattle.std.specs.Prelude.{◌≡◌};
+ghost use Rattle.js_grammar.specs.Productions.{at, Assignment, Unary};
+ghost use Rattle.js_core.specs.Answers.{Answers};
+ghost use Rattle.js_core.specs.Nesting.{Reads};
+
+use js_cursor::{ParserImpl, Stop};
+use js_lex::ParserConfig;
+use js_tree::NodeId;
+
+/// What is to be read where a production nests.
+#[derive(Clone, Copy)]
+pub enum Goal {
+    /// An AssignmentExpression.
+    Assignment,
+    /// A UnaryExpression.
+    Unary,
+}
+
+/// What may be read one level deeper, once a lexeme was passed. So each parse function is proved alone, and one alone
+/// recurses.
+pub trait Nested<C: ParserConfig> {
+    ghost use Rattle.js_cursor.specs.Parsers.{Parser};
+    ghost use Rattle.js_core.specs.declared.nested.Goal.{Goal};
+
+    ghost can: { Self → Parser → Goal → Type 0 };
+
+    /// An AssignmentExpression (ECMA-262, section 13.15).
+    fn assignment(&self, p: &mut ParserImpl<'_, C>) -> Result<NodeId, Stop>
+        requires { can self.now p.old Goal.Assignment }
+        ensures { Answers (at Assignment) p.old p.new result };
+
+    /// A UnaryExpression (ECMA-262, section 13.5).
+    fn unary(&self, p: &mut ParserImpl<'_, C>) -> Result<NodeId, Stop>
+        requires { can self.now p.old Goal.Unary }
+        ensures { Answers (at Unary) p.old p.new result };
+}
+
+/// A function that reads whatever is asked for.
+#[derive(Clone, Copy)]
+pub struct By<F>(pub F);
+
+impl<C: ParserConfig, F: Fn(&mut ParserImpl<'_, C>, Goal) -> Result<NodeId, Stop>> Nested<C>
+    for By<F>
+{
+    ghost can = { λ s p goal. Reads (F.pre s.0) (F.post s.0) p goal };
+
+    #[inline(always)]
+    fn assignment(&self, p: &mut ParserImpl<'_, C>) -> Result<NodeId, Stop> {
+        (self.0)(p, Goal::Assignment)
+    }
+
+    #[inline(always)]
+    fn unary(&self, p: &mut ParserImpl<'_, C>) -> Result<NodeId, Stop> {
+        (self.0)(p, Goal::Unary)
+    }
+}

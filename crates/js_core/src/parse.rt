@@ -1,0 +1,60 @@
+//! The one function that recurses, and the calls for others.
+
+ghost use Rattle.std.specs.Prelude.{◌≡◌};
+ghost use Rattle.js_grammar.specs.Productions.{at, Assignment, Expression};
+ghost use Rattle.js_core.specs.Answers.{Answers};
+ghost use Rattle.js_core.specs.Nesting.{CanNest, room, symbol_of};
+ghost use Rattle.js_core.specs.States.{Standing};
+
+use crate::assignment::parse_assignment_expression;
+use crate::nested::{By, Goal, Nested};
+use crate::sequence::parse_sequence_expression;
+use crate::unary::parse_unary_expression_or_higher;
+use js_cursor::{ParserImpl, Stop};
+use js_lex::ParserConfig;
+use js_tree::NodeId;
+
+/// Reads what is asked for, where productions nest by `nested`.
+fn parse_goal<C: ParserConfig, N: Nested<C>>(
+    p: &mut ParserImpl<'_, C>,
+    nested: &N,
+    goal: Goal,
+) -> Result<NodeId, Stop>
+    requires at { Standing p.old }
+    requires nests { CanNest (N.can nested.now) (room p.old) }
+    ensures { Answers (symbol_of goal) p.old p.new result }
+{
+    match goal {
+        Goal::Assignment => parse_assignment_expression(p, nested),
+        Goal::Unary => parse_unary_expression_or_higher(p, nested),
+    }
+}
+
+/// Reads what is asked for, one level deeper.
+fn parse<C: ParserConfig>(p: &mut ParserImpl<'_, C>, goal: Goal) -> Result<NodeId, Stop>
+    requires { Standing p.old }
+    ensures { Answers (symbol_of goal) p.old p.new result }
+{
+    p.enter()?;
+    let node = parse_goal(p, &By(parse::<C>), goal)?;
+    p.leave();
+    Ok(node)
+}
+
+/// An AssignmentExpression (ECMA-262, section 13.15).
+pub fn parse_assignment_expression_or_higher<C: ParserConfig>(
+    p: &mut ParserImpl<'_, C>,
+) -> Result<NodeId, Stop>
+    requires { Standing p.old }
+    ensures { Answers (at Assignment) p.old p.new result }
+{
+    parse(p, Goal::Assignment)
+}
+
+/// An Expression (ECMA-262, section 13.16).
+pub fn parse_expression<C: ParserConfig>(p: &mut ParserImpl<'_, C>) -> Result<NodeId, Stop>
+    requires { Standing p.old }
+    ensures { Answers (at Expression) p.old p.new result }
+{
+    parse_sequence_expression(p, &By(parse::<C>))
+}
