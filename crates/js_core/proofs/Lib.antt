@@ -11,3 +11,5 @@ pub mod Phrases
 pub mod Operands
 pub mod Giving
 pub mod Beginning
+pub mod Contexts
+pub mod Conditionals

@@ -2,6 +2,7 @@
 #![tactic(auto)]
 
 mod assignment;
+mod context;
 mod left_hand_side;
 mod lexemes;
 mod nested;
