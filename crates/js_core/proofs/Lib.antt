@@ -13,3 +13,4 @@ pub mod Giving
 pub mod Beginning
 pub mod Contexts
 pub mod Conditionals
+pub mod Sequences
