@@ -10,4 +10,6 @@ pub mod Operations
 pub mod Phrases
 pub mod Operands
 pub mod Giving
+pub mod Links
+pub mod Members
 pub mod Beginning
