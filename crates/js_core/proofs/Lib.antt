@@ -13,3 +13,4 @@ pub mod Giving
 pub mod Links
 pub mod Members
 pub mod Beginning
+pub mod Contexts

@@ -1,5 +1,5 @@
 -- Members, `new` and optional chains, from what the calls that read them answer.
-use Rattle.std.proofs.Common.{ℕ, ◌≡◌, ◌≤◌, ◌<◌, ◌+◌, ◌⊎◌, inl, inr, max, List, [], ◌∷◌, length, Option, Some, Bool, true, false, not, ◌&&◌, ◌||◌, IsTrue, cond, refl, sym, ap, subst, arith, ◌∙◌, nat_lt}
+use Rattle.std.proofs.Common.{ℕ, ◌≡◌, ◌≤◌, ◌<◌, ◌+◌, ◌⊎◌, inl, inr, max, List, [], ◌∷◌, length, Option, Some, None, Bool, true, false, not, ◌&&◌, ◌||◌, IsTrue, cond, refl, sym, ap, subst, arith, ◌∙◌, nat_lt}
 use Rattle.std.specs.Prelude.{Result, Ok, Err, MatchResult}
 use Rattle.std.proofs.lemmas.Bool.{false≢true, and_parts, and_from}
 use Rattle.js_base.specs.declared.diagnostic.Diagnostic.{Diagnostic}
@@ -42,7 +42,7 @@ use Rattle.js_core.specs.States.{At, Same, Standing}
 use Rattle.js_core.specs.Nesting.{room}
 use Rattle.js_core.specs.Moves.{Moved, MadeHere, LeafTaken, TakesLeaf, IsWholeHere, plain_label}
 use Rattle.js_core.specs.Answers.{Grown, Verdict, clean, Stretch, Underived, Numbered, Outcome, Stops, beside}
-use Rattle.js_core.specs.Members.{StandsHere, Taken, Looped, NoBareNew, NoMember, Headed, a_member, a_new, MemberSoFar, NoDot, HeadOutcome, ChainSoFar, without_arguments, link_kinds, sign_of, member_label, NameLinked, NoName, LinksName}
+use Rattle.js_core.specs.Members.{StandsHere, Taken, Looped, NoBareNew, NoMember, Headed, a_member, a_new, MemberSoFar, NoDot, HeadOutcome, ChainSoFar, without_arguments, link_kinds, sign_of, member_label, NameLinked, NoName, LinksName, SignHere}
 use Rattle.js_core.proofs.Here.{told, angled, begins_here, kind_here, escaped_here, uncut}
 use Rattle.js_core.proofs.Tight.{read_plain}
 use Rattle.js_core.proofs.Verdicts.{verdict_of, either_way, and_then, behind_none, grown_then}
@@ -452,3 +452,15 @@ chain_started a b s y = record {
   before = let i = link_behind a (y _ _ a) in omega arith;
   goes = λ text f o c e x n. chain_first c x s e (y text f x.at);
 }
+
+pub stands_so : (p : Parser) (k : Kind) {b r : Bool} → r ≡ b → StandsHere p k r → StandsHere p k b
+stands_so p k e s = subst (λ (c : Bool). StandsHere p k c) e s
+
+pub no_sign : (p : Parser) {r : Option Bool} → r ≡ None → SignHere p r → StandsHere p QuestionDot false × StandsHere p Dot false
+no_sign p e s = subst (λ (c : Option Bool). SignHere p c) e s
+
+pub some_sign : (p : Parser) {r : Option Bool} {b : Bool} → r ≡ Some b → SignHere p r → StandsHere p (sign_of b) true
+some_sign p e s = subst (λ (c : Option Bool). SignHere p c) e s
+
+pub no_head : {text : List ℕ} {f : Flags} {p : Parser} → At text f p → StandsHere p New false → Underived text (at Primary f) p.prev_token_end → NoMember text f p.prev_token_end
+no_head {f = f} a s n = (no_member f n, no_bare_new a s)

@@ -2,6 +2,7 @@
 #![tactic(auto)]
 
 mod assignment;
+mod context;
 mod left_hand_side;
 mod lexemes;
 mod nested;
@@ -12,7 +13,7 @@ mod primary;
 mod sequence;
 mod unary;
 
-pub use parse::{parse_assignment_expression_or_higher, parse_expression};
+pub use parse::{Parser, parse_assignment_expression_or_higher, parse_expression};
 
 #[cfg(test)]
 mod tests;

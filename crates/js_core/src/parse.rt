@@ -11,11 +11,14 @@ use crate::nested::{By, Goal, Nested};
 use crate::sequence::parse_sequence_expression;
 use crate::unary::parse_unary_expression_or_higher;
 use js_cursor::{ParserImpl, Stop};
-use js_lex::ParserConfig;
+use js_lex::{ParserConfig, RuntimeParserConfig};
 use js_tree::NodeId;
 
+/// A parser that is told when the program runs whether it keeps the tokens.
+pub type Parser<'a> = ParserImpl<'a, RuntimeParserConfig>;
+
 /// Reads what is asked for, where productions nest by `nested`.
-fn parse_goal<C: ParserConfig, N: Nested<C>>(
+pub(crate) fn parse_goal<C: ParserConfig, N: Nested<C>>(
     p: &mut ParserImpl<'_, C>,
     nested: &N,
     goal: Goal,
@@ -31,20 +34,18 @@ fn parse_goal<C: ParserConfig, N: Nested<C>>(
 }
 
 /// Reads what is asked for, one level deeper.
-fn parse<C: ParserConfig>(p: &mut ParserImpl<'_, C>, goal: Goal) -> Result<NodeId, Stop>
+fn parse(p: &mut Parser<'_>, goal: Goal) -> Result<NodeId, Stop>
     requires { Standing p.old }
     ensures { Answers (symbol_of goal) p.old p.new result }
 {
     p.enter()?;
-    let node = parse_goal(p, &By(parse::<C>), goal)?;
+    let node = parse_goal(p, &By(parse), goal)?;
     p.leave();
     Ok(node)
 }
 
 /// An AssignmentExpression (ECMA-262, section 13.15).
-pub fn parse_assignment_expression_or_higher<C: ParserConfig>(
-    p: &mut ParserImpl<'_, C>,
-) -> Result<NodeId, Stop>
+pub fn parse_assignment_expression_or_higher(p: &mut Parser<'_>) -> Result<NodeId, Stop>
     requires { Standing p.old }
     ensures { Answers (at Assignment) p.old p.new result }
 {
@@ -52,9 +53,9 @@ pub fn parse_assignment_expression_or_higher<C: ParserConfig>(
 }
 
 /// An Expression (ECMA-262, section 13.16).
-pub fn parse_expression<C: ParserConfig>(p: &mut ParserImpl<'_, C>) -> Result<NodeId, Stop>
+pub fn parse_expression(p: &mut Parser<'_>) -> Result<NodeId, Stop>
     requires { Standing p.old }
     ensures { Answers (at Expression) p.old p.new result }
 {
-    parse_sequence_expression(p, &By(parse::<C>))
+    parse_sequence_expression(p, &By(parse))
 }
