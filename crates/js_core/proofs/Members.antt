@@ -228,8 +228,8 @@ pub link_taken : {text : List ℕ} {f : Flags} {C D : Label → Slots → (Lexem
 link_taken {o = o} {p = p} {w = w} {left = left} {id = id} {b = b} x e k n y good bad =
     let r = y.moved.nodes in
     step_taken x (link_path b x.at k n y) (same_both y.moved.same y.named.answer.same) (subst (λ (ns : List Node). Keeps ns y.behind.nodes) r y.named.keeps)
-      (HoldsAll-two left y.name (subst (λ (ns : List Node). Keeps ns y.behind.nodes) r y.named.keeps) x.holds (subst (λ (ns : List Node). Holds y.behind.nodes (length ns) (length y.behind.nodes) y.name.0 y.named.answer.label y.named.answer.slots) r y.named.holds))
-      (subst (λ (v : ℕ). MadeHere (member_label b v y.behind.prev_token_end) (Some left ∷ Some y.name ∷ []) y.behind w id) e y.made) (link_row b o.token.span.start y.behind.prev_token_end (tree x.label x.slots (tree y.named.answer.label y.named.answer.slots end))) good bad
+    (HoldsAll-two left y.name (subst (λ (ns : List Node). Keeps ns y.behind.nodes) r y.named.keeps) x.holds (subst (λ (ns : List Node). Holds y.behind.nodes (length ns) (length y.behind.nodes) y.name.0 y.named.answer.label y.named.answer.slots) r y.named.holds))
+    (subst (λ (v : ℕ). MadeHere (member_label b v y.behind.prev_token_end) (Some left ∷ Some y.name ∷ []) y.behind w id) e y.made) (link_row b o.token.span.start y.behind.prev_token_end (tree x.label x.slots (tree y.named.answer.label y.named.answer.slots end))) good bad
 
 -- ---- members
 
@@ -312,19 +312,22 @@ module _ {text : List ℕ} {f : Flags} {p q : Parser} (a : At text f p) (k : p.t
     new_taken {v} {id} {s} g b c d =
         let made : MadeHere (label_here new_expression no_op p w) (Some callee ∷ []) w v id = subst (λ (z : Label). MadeHere z (Some callee ∷ []) w v id) (rw (b, c) refl) d in
         let nothing_behind : (y : Lexeme) → Lex text w.prev_token_end y → one_of_kinds link_kinds y.kind ≡ false = no_link_kind no_dot (stands_not newed.at refl g) in
-        subst (λ (z : Parser). HeadOutcome text f p z (Ok id)) (sym made.stays) (record {
-          at = beside_nodes v.nodes new_path.at;
-          same = same_both m.same (same_both newed.same (same_nodes v.nodes newed.at.at));
-          further = new_path.further;
-          label = label_here new_expression no_op p w;
-          slots = tree newed.label newed.slots end;
-          row = refl;
-          pass = new_path.pass;
-          walked = new_path.walked;
-          verdict = verdict_of new_path.verdict (λ z. a_new none_there (new_bare f none_there z) nothing_behind) (λ z. (none_there, z));
-          holds = node_held made (HoldsAll-one callee (subst (λ (ns : List Node). Holds w.nodes (length ns) (length w.nodes) callee.0 newed.label newed.slots) m.nodes newed.holds));
-          keeps = Keeps-trans (subst (λ (ns : List Node). Keeps ns w.nodes) m.nodes newed.keeps) (Keeps-made made.made);
-        }, no_dot)
+        subst (λ (z : Parser). HeadOutcome text f p z (Ok id)) (sym made.stays) (
+          record {
+            at = beside_nodes v.nodes new_path.at;
+            same = same_both m.same (same_both newed.same (same_nodes v.nodes newed.at.at));
+            further = new_path.further;
+            label = label_here new_expression no_op p w;
+            slots = tree newed.label newed.slots end;
+            row = refl;
+            pass = new_path.pass;
+            walked = new_path.walked;
+            verdict = verdict_of new_path.verdict (λ z. a_new none_there (new_bare f none_there z) nothing_behind) (λ z. (none_there, z));
+            holds = node_held made (HoldsAll-one callee (subst (λ (ns : List Node). Holds w.nodes (length ns) (length w.nodes) callee.0 newed.label newed.slots) m.nodes newed.holds));
+            keeps = Keeps-trans (subst (λ (ns : List Node). Keeps ns w.nodes) m.nodes newed.keeps) (Keeps-made made.made);
+          },
+          no_dot,
+        )
 
 -- what was said one level deeper
 pub entered_stops : {text : List ℕ} {f : Flags} {p q e : Parser} (r : Parser) (i : Stop) → (a : At text f p) → p.token.kind ≡ New → p.token.escaped ≡ false → (m : Moved text f p q) → Enters q e → Stops e r i (NoMember text f e.prev_token_end) → Stops p r i (NoMember text f p.prev_token_end)

@@ -44,7 +44,7 @@ returns-then-stands-2 g t c = λ text f a.
     let h = c.in_ok-enter.ensures.ok.1 in
     let x = c.in_ok-callee.ensures text f (deeper m.at h) in
     stops_behind _ c.set_unexpected.result (new_follows a s.0 s.1 m h c.leave.ensures x) (λ i. new_grown a s.0 s.1 m h c.leave.ensures x i) (λ z. z)
-        (gives_up _ _ _ c.set_unexpected.result c.set_unexpected.ensures (new_refused a s.0 s.1 m h c.leave.ensures x (stands_so c.leave.new.self QuestionDot c.if-stands-2.true c.stands-then-stands.ensures)))
+    (gives_up _ _ _ c.set_unexpected.result c.set_unexpected.ensures (new_refused a s.0 s.1 m h c.leave.ensures x (stands_so c.leave.new.self QuestionDot c.if-stands-2.true c.stands-then-stands.ensures)))
 
 pub end_span-span-requires : goal.end_span-span-requires
 end_span-span-requires g t c =
