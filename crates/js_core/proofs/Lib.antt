@@ -14,3 +14,4 @@ pub mod Links
 pub mod Members
 pub mod Beginning
 pub mod Contexts
+pub mod Conditionals

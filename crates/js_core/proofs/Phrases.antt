@@ -39,10 +39,10 @@ module _ (n m : Symbol) (h : passes_on n.name m.name ≡ true) (i : n.flags.in_ 
   pub lift_fails : Underived text m s → Underived text n s
   lift_fails x = fails_by (g ▹✗ weaken_fails_on x (same_read n m h i))
 
-  lift_stretch : {s' : ℕ} {l : Label} {cs : Slots} {pass : Lexemes → Lexemes} → Stretch text (after m) (such m always) s nothing s' (tree l cs) pass → Stretch text (after n) (such n always) s nothing s' (tree l cs) pass
+  pub lift_stretch : {s' : ℕ} {l : Label} {cs : Slots} {pass : Lexemes → Lexemes} → Stretch text (after m) (such m always) s nothing s' (tree l cs) pass → Stretch text (after n) (such n always) s nothing s' (tree l cs) pass
   lift_stretch y = record { reach = max 0 y.reach; near = let k = y.near in omega arith; goes = by_rule {X' = after n} (λ l cs vs z d. d) (g ▹ weaken_on y.goes (same_read n m h i)) refl }
 
-  pub lift : {f : Flags} {p q : Parser} {id : NodeId} → p.prev_token_end ≡ s → (x : Numbered text f m p q id) → may_end n.name (row_of x.answer.label x.answer.slots) ≡ true → ((y : Lexeme) → Lex text q.prev_token_end y → IsTrue (seen (follow n (edge_of x.answer.label x.answer.slots)) y || seen beside y)) → Numbered text f n p q id
+  unfoldable pub lift : {f : Flags} {p q : Parser} {id : NodeId} → p.prev_token_end ≡ s → (x : Numbered text f m p q id) → may_end n.name (row_of x.answer.label x.answer.slots) ≡ true → ((y : Lexeme) → Lex text q.prev_token_end y → IsTrue (seen (follow n (edge_of x.answer.label x.answer.slots)) y || seen beside y)) → Numbered text f n p q id
   lift {p = p} {q = q} e x r k = record {
     answer = record {
       at = x.answer.at;
@@ -101,7 +101,7 @@ plain_row after_yield h = absurd (false≢true h)
 plain_row after_declarator h = absurd (false≢true h)
 plain_row after_word h = absurd (false≢true h)
 
-operand_assigned : (r : Row) → of_operand r ≡ true → of_assignment r ≡ true
+pub operand_assigned : (r : Row) → of_operand r ≡ true → of_assignment r ≡ true
 operand_assigned after_expression h = refl
 operand_assigned after_postfix h = refl
 operand_assigned after_body h = absurd (false≢true h)
@@ -122,11 +122,7 @@ short_left : (f : Flags) → live (rule (at Short f)) ≡ such (at Or f) always
 unfolding rule rule_of apart
 short_left f = refl
 
-conditional_left : (f : Flags) → live (rule (at Conditional f)) ≡ such (at Short f) always
-unfolding rule rule_of apart
-conditional_left f = refl
-
-assignment_left : (f : Flags) → live (rule (at Assignment f)) ≡ such (at Conditional f) always
+pub assignment_left : (f : Flags) → live (rule (at Assignment f)) ≡ such (at Conditional f) always
 unfolding rule rule_of apart
 assignment_left f = refl
 
@@ -156,23 +152,6 @@ pub expression_result : (text : List ℕ) (f : Flags) (p q : Parser) (r : Result
 unfolding covers
 expression_result text f p q r x = lift_result (at Expression f) (at Assignment f) refl refl text f p q r (by_left (at Expression f) (at Assignment f) (expression_left f) text p.prev_token_end) (λ i y. y.answer.row)
     (λ i y z l. narrows 2 1 [] f.in_ (row_of y.answer.label y.answer.slots) (narrow_assignment 2 1 [] (narrow_operand 2 1 [] refl refl refl refl) refl refl refl refl f.in_ (row_of y.answer.label y.answer.slots) y.answer.row) z l.1 refl (y.answer.stops z l)) x
-
--- an AssignmentExpression, which is a ShortCircuitExpression
-assignment_of : {text : List ℕ} {f : Flags} {p q : Parser} {id : NodeId} → Numbered text f (at Short f) p q id → Numbered text f (at Assignment f) p q id
-unfolding covers lift
-assignment_of {text} {f} {p} {q} x =
-    let r = row_of x.answer.label x.answer.slots in
-    let o : of_operand r ≡ true = x.answer.row in
-    let s = p.prev_token_end in
-    lift (at Assignment f) (at Conditional f) refl refl text s (by_left (at Assignment f) (at Conditional f) (assignment_left f) text s) refl
-    (lift (at Conditional f) (at Short f) refl refl text s (by_left (at Conditional f) (at Short f) (conditional_left f) text s) refl x (operand_assigned r o) (λ y l. narrows 4 3 [] f.in_ r (narrow_operand 4 3 [] refl refl refl refl f.in_ r o) y l.1 refl (x.answer.stops y l)))
-    (operand_assigned r o) (λ y l. narrows 4 2 [] f.in_ r (narrow_operand 4 2 [] refl refl refl refl f.in_ r o) y l.1 refl (x.answer.stops y l))
-
-pub assignment_result : (text : List ℕ) (f : Flags) (p q : Parser) (r : Result NodeId Stop) → Outcome text f (at Short f) p q r → Outcome text f (at Assignment f) p q r
-unfolding covers
-assignment_result text f p q (Ok id) x = assignment_of x
-assignment_result text f p q (Err Fatal) x = record { at = x.at; follows = x.follows; grown = x.grown; none = lift_fails (at Assignment f) (at Conditional f) refl refl text p.prev_token_end (by_left (at Assignment f) (at Conditional f) (assignment_left f) text p.prev_token_end) (lift_fails (at Conditional f) (at Short f) refl refl text p.prev_token_end (by_left (at Conditional f) (at Short f) (conditional_left f) text p.prev_token_end) x.none) }
-assignment_result text f p q (Err NoMemory) x = tt
 
 -- a ShortCircuitExpression, which is a LogicalORExpression
 pub short_result : (text : List ℕ) (f : Flags) (p q : Parser) (r : Result NodeId Stop) → Outcome text f (at Or f) p q r → Outcome text f (at Short f) p q r

@@ -11,7 +11,7 @@ use js_tree::NodeId;
 use std::alloc::Global;
 
 /// A text, and the lines of its tree, whose statement is left out.
-static READ: [(&str, &str); 28] = [
+static READ: [(&str, &str); 32] = [
     ("a", "Program 0..1\n  IdentifierReference 0..1\n"),
     ("1", "Program 0..1\n  NumericLiteral 0..1 Decimal\n"),
     ("this", "Program 0..4\n  ThisExpression 0..4\n"),
@@ -72,6 +72,22 @@ static READ: [(&str, &str); 28] = [
         "Program 0..10\n  BinaryExpression 0..10 <=\n    BinaryExpression 0..5 <\n      IdentifierReference 0..1\n      IdentifierReference 4..5\n    IdentifierReference 9..10\n",
     ),
     (
+        "a ? b : c",
+        "Program 0..9\n  ConditionalExpression 0..9\n    IdentifierReference 0..1\n    IdentifierReference 4..5\n    IdentifierReference 8..9\n",
+    ),
+    (
+        "a ? b : c ? d : e",
+        "Program 0..17\n  ConditionalExpression 0..17\n    IdentifierReference 0..1\n    IdentifierReference 4..5\n    ConditionalExpression 8..17\n      IdentifierReference 8..9\n      IdentifierReference 12..13\n      IdentifierReference 16..17\n",
+    ),
+    (
+        "a ? b ? c : d : e",
+        "Program 0..17\n  ConditionalExpression 0..17\n    IdentifierReference 0..1\n    ConditionalExpression 4..13\n      IdentifierReference 4..5\n      IdentifierReference 8..9\n      IdentifierReference 12..13\n    IdentifierReference 16..17\n",
+    ),
+    (
+        "a || b ? c in d : -e",
+        "Program 0..20\n  ConditionalExpression 0..20\n    LogicalExpression 0..6 ||\n      IdentifierReference 0..1\n      IdentifierReference 5..6\n    BinaryExpression 9..15 in\n      IdentifierReference 9..10\n      IdentifierReference 14..15\n    UnaryExpression 18..20 -\n      IdentifierReference 19..20\n",
+    ),
+    (
         "a.b.c",
         "Program 0..5\n  StaticMemberExpression 0..5\n    StaticMemberExpression 0..3\n      IdentifierReference 0..1\n      IdentifierName 2..3\n    IdentifierName 4..5\n",
     ),
@@ -106,7 +122,7 @@ static READ: [(&str, &str); 28] = [
 ];
 
 /// A text that has no tree, and the kind and the span of what is told of it.
-static REFUSED: [(&str, &str, u32, u32); 14] = [
+static REFUSED: [(&str, &str, u32, u32); 19] = [
     ("", "unexpected_token", 0, 0),
     ("a +", "unexpected_token", 3, 3),
     ("*", "unexpected_token", 0, 1),
@@ -116,6 +132,11 @@ static REFUSED: [(&str, &str, u32, u32); 14] = [
     ("a + 'b", "unterminated_string", 4, 6),
     ("typ\\u0065of a", "unexpected_token", 0, 11),
     ("a && in", "unexpected_token", 5, 7),
+    ("a ? b", "expect_conditional_alternative", 5, 5),
+    ("a ? b ; c", "expect_conditional_alternative", 6, 7),
+    ("a ? : b", "unexpected_token", 4, 5),
+    ("a ? b : ?", "unexpected_token", 8, 9),
+    ("a ? b 'c", "unterminated_string", 6, 8),
     ("a.", "unexpected_token", 2, 2),
     ("a . + b", "unexpected_token", 4, 5),
     ("new", "unexpected_token", 3, 3),
