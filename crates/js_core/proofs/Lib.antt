@@ -10,6 +10,8 @@ pub mod Operations
 pub mod Phrases
 pub mod Operands
 pub mod Giving
+pub mod Links
+pub mod Members
 pub mod Beginning
 pub mod Contexts
 pub mod Conditionals

@@ -130,18 +130,6 @@ exponent_left : (f : Flags) → live (rule (at Exponent f)) ≡ such (at Unary f
 unfolding rule rule_of apart
 exponent_left f = refl
 
-member_left : (f : Flags) → live (rule (at Member f)) ≡ such (at Primary f) always
-unfolding rule rule_of apart
-member_left f = refl
-
-new_left : (f : Flags) → live (rule (at New f)) ≡ such (at Member f) always
-unfolding rule rule_of apart
-new_left f = refl
-
-lefthandside_left : (f : Flags) → live (rule (at LeftHandSide f)) ≡ such (at New f) always
-unfolding rule rule_of apart
-lefthandside_left f = refl
-
 update_left : (f : Flags) → live (rule (at Update f)) ≡ such (at LeftHandSide f) always
 unfolding rule rule_of apart
 update_left f = refl
@@ -181,25 +169,3 @@ pub update_result : (text : List ℕ) (f : Flags) (p q : Parser) (r : Result Nod
 unfolding covers
 update_result text f p q r x = lift_result (at Update f) (at LeftHandSide f) refl refl text f p q r (by_left (at Update f) (at LeftHandSide f) (update_left f) text p.prev_token_end) (λ i y. primary_operand _ y.answer.row)
     (λ i y z l. subst (λ (w : Row). IsTrue (seen (looser 16 f.in_ w) z || seen beside z)) (sym (plain_row (row_of y.answer.label y.answer.slots) y.answer.row)) (narrows 17 16 [] f.in_ after_expression (narrow_operand 17 16 [] refl refl refl refl f.in_ after_expression refl) z l.1 refl (y.answer.stops z l))) x
-
--- a LeftHandSideExpression, which is a PrimaryExpression
-abbrev behind_member : Look
-behind_member k w e = not (one_of_kinds (LBrack ∷ Dot ∷ NoSubstitutionTemplate ∷ TemplateHead ∷ []) k && not e) && not (not w && (same_kind Function k && not e))
-
-stops_member : (b : Bool) (l : Label) (cs : Slots) (text : List ℕ) (s : ℕ) (y : Lexeme) → Lex text s y → IsTrue (seen (follow_of Member b (edge_of l cs)) y || seen beside y)
-unfolding covers
-stops_member b l cs text s y h = or_left (seen behind_member y) (seen beside y) (covered reads behind_member refl y.kind y.newline y.escaped h.1)
-
-abbrev no_link : Bool → Look
-no_link b k w e = nat_lt (tight b after_expression k w e) 17 || beside k w e
-
-no_links : (b : Bool) → covers reads (no_link b) ≡ true
-unfolding covers
-no_links true = refl
-no_links false = refl
-
-pub lhs_result : (text : List ℕ) (f : Flags) (p q : Parser) (r : Result NodeId Stop) → Outcome text f (at Primary f) p q r → Outcome text f (at LeftHandSide f) p q r
-unfolding covers
-lhs_result text f p q r x = lift_result (at LeftHandSide f) (at New f) refl refl text f p q r (by_left (at LeftHandSide f) (at New f) (lefthandside_left f) text p.prev_token_end) (λ i y. y.answer.row) (λ i y z l. y.answer.stops z l)
-    (lift_result (at New f) (at Member f) refl refl text f p q r (by_left (at New f) (at Member f) (new_left f) text p.prev_token_end) (λ i y. y.answer.row) (λ i y z l. covered reads (no_link f.in_) (no_links f.in_) z.kind z.newline z.escaped l.1)
-    (lift_result (at Member f) (at Primary f) refl refl text f p q r (by_left (at Member f) (at Primary f) (member_left f) text p.prev_token_end) (λ i y. y.answer.row) (λ i y z l. stops_member f.in_ y.answer.label y.answer.slots text q.prev_token_end z l) x))

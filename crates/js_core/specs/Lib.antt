@@ -4,4 +4,5 @@ pub mod Answers
 pub mod Nesting
 pub mod Operators
 pub mod Moves
+pub mod Members
 pub mod Rests

@@ -11,7 +11,7 @@ use js_tree::NodeId;
 use std::alloc::Global;
 
 /// A text, and the lines of its tree, whose statement is left out.
-static READ: [(&str, &str); 24] = [
+static READ: [(&str, &str); 32] = [
     ("a", "Program 0..1\n  IdentifierReference 0..1\n"),
     ("1", "Program 0..1\n  NumericLiteral 0..1 Decimal\n"),
     ("this", "Program 0..4\n  ThisExpression 0..4\n"),
@@ -87,10 +87,42 @@ static READ: [(&str, &str); 24] = [
         "a || b ? c in d : -e",
         "Program 0..20\n  ConditionalExpression 0..20\n    LogicalExpression 0..6 ||\n      IdentifierReference 0..1\n      IdentifierReference 5..6\n    BinaryExpression 9..15 in\n      IdentifierReference 9..10\n      IdentifierReference 14..15\n    UnaryExpression 18..20 -\n      IdentifierReference 19..20\n",
     ),
+    (
+        "a.b.c",
+        "Program 0..5\n  StaticMemberExpression 0..5\n    StaticMemberExpression 0..3\n      IdentifierReference 0..1\n      IdentifierName 2..3\n    IdentifierName 4..5\n",
+    ),
+    (
+        "a.new.in",
+        "Program 0..8\n  StaticMemberExpression 0..8\n    StaticMemberExpression 0..5\n      IdentifierReference 0..1\n      IdentifierName 2..5\n    IdentifierName 6..8\n",
+    ),
+    (
+        "new a",
+        "Program 0..5\n  NewExpression 0..5\n    IdentifierReference 4..5\n",
+    ),
+    (
+        "new new a.b",
+        "Program 0..11\n  NewExpression 0..11\n    NewExpression 4..11\n      StaticMemberExpression 8..11\n        IdentifierReference 8..9\n        IdentifierName 10..11\n",
+    ),
+    (
+        "new this\n.x",
+        "Program 0..11\n  NewExpression 0..11\n    StaticMemberExpression 4..11\n      ThisExpression 4..8\n      IdentifierName 10..11\n",
+    ),
+    (
+        "a?.b",
+        "Program 0..4\n  ChainExpression 0..4\n    StaticMemberExpression 0..4 optional\n      IdentifierReference 0..1\n      IdentifierName 3..4\n",
+    ),
+    (
+        "a?.b.c?.this",
+        "Program 0..12\n  ChainExpression 0..12\n    StaticMemberExpression 0..12 optional\n      StaticMemberExpression 0..6\n        StaticMemberExpression 0..4 optional\n          IdentifierReference 0..1\n          IdentifierName 3..4\n        IdentifierName 5..6\n      IdentifierName 8..12\n",
+    ),
+    (
+        "- a.b?.true * new c",
+        "Program 0..19\n  BinaryExpression 0..19 *\n    UnaryExpression 0..11 -\n      ChainExpression 2..11\n        StaticMemberExpression 2..11 optional\n          StaticMemberExpression 2..5\n            IdentifierReference 2..3\n            IdentifierName 4..5\n          IdentifierName 7..11\n    NewExpression 14..19\n      IdentifierReference 18..19\n",
+    ),
 ];
 
 /// A text that has no tree, and the kind and the span of what is told of it.
-static REFUSED: [(&str, &str, u32, u32); 14] = [
+static REFUSED: [(&str, &str, u32, u32); 19] = [
     ("", "unexpected_token", 0, 0),
     ("a +", "unexpected_token", 3, 3),
     ("*", "unexpected_token", 0, 1),
@@ -105,6 +137,11 @@ static REFUSED: [(&str, &str, u32, u32); 14] = [
     ("a ? : b", "unexpected_token", 4, 5),
     ("a ? b : ?", "unexpected_token", 8, 9),
     ("a ? b 'c", "unterminated_string", 6, 8),
+    ("a.", "unexpected_token", 2, 2),
+    ("a . + b", "unexpected_token", 4, 5),
+    ("new", "unexpected_token", 3, 3),
+    ("new a?.b", "unexpected_token", 5, 7),
+    ("a?.b.", "unexpected_token", 5, 5),
 ];
 
 /// A parser at the text's start.
