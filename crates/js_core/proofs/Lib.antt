@@ -16,3 +16,4 @@ pub mod Beginning
 pub mod Contexts
 pub mod Conditionals
 pub mod Sequences
+pub mod Exponents

@@ -1,7 +1,7 @@
 //! What parse functions call where a production nests.
 
 ghost use Rattle.std.specs.Prelude.{◌≡◌};
-ghost use Rattle.js_grammar.specs.Productions.{at, Assignment, Unary};
+ghost use Rattle.js_grammar.specs.Productions.{at, Assignment, Exponent, Unary};
 ghost use Rattle.js_core.specs.Answers.{Answers};
 ghost use Rattle.js_core.specs.Nesting.{Reads};
 
@@ -16,6 +16,8 @@ pub enum Goal {
     Assignment,
     /// A UnaryExpression.
     Unary,
+    /// An ExponentiationExpression.
+    Exponentiation,
 }
 
 /// What may be read one level deeper, once a lexeme was passed. So each parse function is proved alone, and one alone
@@ -35,6 +37,11 @@ pub trait Nested<C: ParserConfig> {
     fn unary(&self, p: &mut ParserImpl<'_, C>) -> Result<NodeId, Stop>
         requires { can self.now p.old Goal.Unary }
         ensures { Answers (at Unary) p.old p.new result };
+
+    /// An ExponentiationExpression (ECMA-262, section 13.6).
+    fn exponentiation(&self, p: &mut ParserImpl<'_, C>) -> Result<NodeId, Stop>
+        requires { can self.now p.old Goal.Exponentiation }
+        ensures { Answers (at Exponent) p.old p.new result };
 }
 
 /// A function that reads whatever is asked for. It is one over the config that is told when the program runs: a bound on
@@ -55,5 +62,10 @@ impl<F: Fn(&mut ParserImpl<'_, RuntimeParserConfig>, Goal) -> Result<NodeId, Sto
     #[inline(always)]
     fn unary(&self, p: &mut ParserImpl<'_, RuntimeParserConfig>) -> Result<NodeId, Stop> {
         (self.0)(p, Goal::Unary)
+    }
+
+    #[inline(always)]
+    fn exponentiation(&self, p: &mut ParserImpl<'_, RuntimeParserConfig>) -> Result<NodeId, Stop> {
+        (self.0)(p, Goal::Exponentiation)
     }
 }

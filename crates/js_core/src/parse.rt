@@ -8,6 +8,7 @@ ghost use Rattle.js_core.specs.States.{Standing};
 
 use crate::assignment::parse_assignment_expression;
 use crate::nested::{By, Goal, Nested};
+use crate::operators::parse_exponentiation_expression;
 use crate::sequence::parse_sequence_expression;
 use crate::unary::parse_unary_expression_or_higher;
 use js_cursor::{ParserImpl, Stop};
@@ -30,6 +31,7 @@ pub(crate) fn parse_goal<C: ParserConfig, N: Nested<C>>(
     match goal {
         Goal::Assignment => parse_assignment_expression(p, nested),
         Goal::Unary => parse_unary_expression_or_higher(p, nested),
+        Goal::Exponentiation => parse_exponentiation_expression(p, nested),
     }
 }
 
