@@ -23,6 +23,10 @@ use Rattle.js_grammar.proofs.FirstClaims.{firsts}
 use Rattle.js_grammar.proofs.FirstRules.{fails_here}
 use Rattle.js_grammar.proofs.FollowLaws.{fails_by}
 use Rattle.js_grammar.proofs.RightEdges.{may_end, same_row}
+use Rattle.js_base.specs.declared.diagnostic.DiagnosticKind.TheVariants as fault
+use Rattle.js_grammar.specs.Lexed.{all_faults}
+use Rattle.js_grammar.specs.Lexed.{Lex as StandsBehind}
+use Rattle.js_grammar.specs.Marks.{Mark, a_lexeme}
 use Rattle.js_lex.specs.Reading.{is_right_angle}
 use Rattle.js_tree.specs.declared.id.NodeId.{NodeId}
 use Rattle.js_tree.specs.declared.kind.NodeKind.TheVariants as node
@@ -32,8 +36,8 @@ use Rattle.js_tree.specs.Holding.{Holds, HoldsAll, Keeps}
 use Rattle.js_tree.proofs.HoldingLemmas.{HoldsAll-one, HoldsAll-two, Keeps-refl, Keeps-trans, Keeps-made}
 use Rattle.js_cursor.specs.Checkpoints.{Follows}
 use Rattle.js_cursor.specs.Parsers.{Parser}
-use Rattle.js_cursor.specs.Places.{IsAt}
-use Rattle.js_cursor.specs.Moves.{Enters, Leaves, OnlyMemory, is_last}
+use Rattle.js_cursor.specs.Places.{IsAt, goal}
+use Rattle.js_cursor.specs.Moves.{Enters, GivesUp, Leaves, OnlyMemory, is_last}
 use Rattle.js_cursor.specs.declared.stop.Stop.{Stop}
 use Rattle.js_cursor.specs.declared.stop.Stop.TheVariants.{Fatal, NoMemory}
 use Rattle.js_cursor.proofs.Later.{follows_on}
@@ -42,8 +46,8 @@ use Rattle.js_core.specs.States.{At, Same, Standing}
 use Rattle.js_core.specs.Nesting.{room}
 use Rattle.js_core.specs.Moves.{Moved, MadeHere, LeafTaken, TakesLeaf, IsWholeHere, plain_label}
 use Rattle.js_core.specs.Answers.{Grown, Verdict, clean, Stretch, Underived, Numbered, Outcome, Stops, beside}
-use Rattle.js_core.specs.Members.{StandsHere, Taken, Looped, NoBareNew, NoMember, Headed, a_member, a_new, MemberSoFar, NoDot, HeadOutcome, ChainSoFar, without_arguments, link_kinds, sign_of, member_label, NameLinked, NoName, LinksName, SignHere}
-use Rattle.js_core.proofs.Here.{told, angled, begins_here, kind_here, escaped_here, uncut}
+use Rattle.js_core.specs.Members.{StandsHere, Taken, Looped, NoBareNew, NoMember, Headed, a_member, a_new, MemberSoFar, NoDot, HeadOutcome, ChainSoFar, without_arguments, link_kinds, sign_of, member_label, NameLinked, NoName, LinksName, SignHere, TellsChain}
+use Rattle.js_core.proofs.Here.{told, angled, begins_here, kind_here, escaped_here, uncut, found}
 use Rattle.js_core.proofs.Tight.{read_plain}
 use Rattle.js_core.proofs.Verdicts.{verdict_of, either_way, and_then, behind_none, grown_then}
 use Rattle.js_core.proofs.Verdicts.{after as grown_behind}
@@ -467,3 +471,20 @@ some_sign p e s = subst (λ (c : Option Bool). SignHere p c) e s
 
 pub no_head : {text : List ℕ} {f : Flags} {p : Parser} → At text f p → StandsHere p New false → Underived text (at Primary f) p.prev_token_end → NoMember text f p.prev_token_end
 no_head {f = f} a s n = (no_member f n, no_bare_new a s)
+
+-- what is told of a `?.` that can't stand behind `new`
+pub sign_marked : {text : List ℕ} {f : Flags} {p : Parser} (s : Span) → At text f p → StandsHere p QuestionDot true → s ≡ p.token.span → Mark (goal p) p.text (record { kind = fault.InvalidNewOptionalChain; span = s; first = None; second = None })
+sign_marked {text} {f} {p} s a h e =
+    let y = found a (uncut a (ap (same_kind RAngle) h.0)) (ap is_last h.0) in
+    let m : Mark (goal p) p.text (record { kind = fault.InvalidNewOptionalChain; span = p.token.span; first = None; second = None }) = record {
+      ordered = a.at.lies.ordered;
+      within = a.at.lies.ends_whole.0;
+      begins_between = a.at.lies.starts_whole;
+      ends_between = a.at.lies.ends_whole;
+      stands = (record { lexeme = y.0; of_text = a_lexeme a.at.reached (subst (λ (t : List ℕ). StandsBehind all_faults t p.prev_token_end y.0) (sym a.text_is) y.1); is = (sym y.2.start, sym y.2.end); passes = and_from (one_of_kinds (QuestionDot ∷ []) y.0.kind) (not y.0.escaped) (subst (λ (v : Kind). one_of_kinds (QuestionDot ∷ []) v ≡ true) (sym (sym y.2.kind ∙ h.0)) refl) (ap not (sym y.2.escaped ∙ h.1)) }, (refl, refl));
+    } in
+    subst (λ (v : Span). Mark (goal p) p.text (record { kind = fault.InvalidNewOptionalChain; span = v; first = None; second = None })) (sym e) m
+
+pub chain_told : (p q : Parser) (e : Stop) {s : Span} → s ≡ p.token.span → GivesUp (λ d. d ≡ record { kind = fault.InvalidNewOptionalChain; span = s; first = None; second = None }) p q e → GivesUp (TellsChain p.token.span) p q e
+chain_told p q Fatal e (d, h, k) = (d, (ap (λ (z : Diagnostic). z.kind) h, ap (λ (z : Diagnostic). z.span) h ∙ e), k)
+chain_told p q NoMemory e h = h

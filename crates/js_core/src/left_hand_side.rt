@@ -1,10 +1,12 @@
 //! Members, `new` and optional chains (ECMA-262, section 13.3).
 
-ghost use Rattle.std.specs.Prelude.{◌≡◌, ◌≤◌, ◌∷◌, [], Some, IfOk, cond, false};
+ghost use Rattle.std.specs.Prelude.{◌≡◌, ◌≤◌, ◌∷◌, [], Some, IfOk, cond, true, false};
+ghost use Rattle.js_base.specs.declared.kind.Kind.TheVariants.{QuestionDot};
+ghost use Rattle.js_cursor.specs.Moves.{GivesUp};
 ghost use Rattle.js_tree.specs.Labels.{number_of};
 ghost use Rattle.js_grammar.specs.Productions.{at, optional_flag, IdentifierName, LeftHandSide};
 ghost use Rattle.js_core.specs.Answers.{Answers};
-ghost use Rattle.js_core.specs.Members.{ChainsMember, GoesOnMember, Heads, LinksName, SignHere, member_label, sign_of};
+ghost use Rattle.js_core.specs.Members.{ChainsMember, GoesOnMember, Heads, LinksName, SignHere, StandsHere, TellsChain, member_label, sign_of};
 ghost use Rattle.js_core.specs.Moves.{MadeHere};
 ghost use Rattle.js_core.specs.Nesting.{CanNest, room};
 ghost use Rattle.js_core.specs.States.{Standing};
@@ -13,7 +15,7 @@ use crate::lexemes::{advance, is_read_word, stands};
 use crate::nested::Nested;
 use crate::nodes::make_one;
 use crate::primary::{parse_leaf, parse_primary_expression};
-use js_base::{Kind, NoMemory};
+use js_base::{Diagnostic, DiagnosticKind, Kind, NoMemory};
 use js_cursor::{ParserImpl, Stop};
 use js_lex::ParserConfig;
 use js_tree::{NodeFlags, NodeId, NodeKind, Op};
@@ -48,7 +50,7 @@ fn parse_member_expression_or_higher<C: ParserConfig, N: Nested<C>>(
         let callee = parse_member_expression_or_higher(p, nested)?;
         p.leave();
         if stands(p, Kind::QuestionDot) {
-            return Err(p.set_unexpected());
+            return Err(refuse_chain(p));
         }
         let span = p.end_span(start);
         let node = make_one(p, NodeKind::NewExpression, Op::None, span, callee)?;
@@ -56,6 +58,20 @@ fn parse_member_expression_or_higher<C: ParserConfig, N: Nested<C>>(
     }
     let primary = parse_primary_expression(p, nested)?;
     parse_member_expression_rest(p, start, primary)
+}
+
+/// Gives up at a `?.` behind what `new` stands before.
+fn refuse_chain<C: ParserConfig>(p: &mut ParserImpl<'_, C>) -> Stop
+    requires at { Standing p.old }
+    requires sign { StandsHere p.old QuestionDot true }
+    ensures { GivesUp (TellsChain p.old.token.span) p.old p.new result }
+{
+    p.set_fatal_error(Diagnostic {
+        kind: DiagnosticKind::InvalidNewOptionalChain,
+        span: p.cur_token().span(),
+        first: None,
+        second: None,
+    })
 }
 
 /// The links behind a member.

@@ -160,7 +160,7 @@ static REFUSED: [(&str, &str, u32, u32); 25] = [
     ("a.", "unexpected_token", 2, 2),
     ("a . + b", "unexpected_token", 4, 5),
     ("new", "unexpected_token", 3, 3),
-    ("new a?.b", "unexpected_token", 5, 7),
+    ("new a?.b", "invalid_new_optional_chain", 5, 7),
     ("a?.b.", "unexpected_token", 5, 5),
     ("-a ** b", "unary_exponentiation_left_operand", 0, 2),
     (
