@@ -1,7 +1,7 @@
 //! What parse functions call where a production nests.
 
 ghost use Rattle.std.specs.Prelude.{◌≡◌};
-ghost use Rattle.js_grammar.specs.Productions.{at, Assignment, Exponent, Unary};
+ghost use Rattle.js_grammar.specs.Productions.{at, Assignment, Exponent, Expression, Unary};
 ghost use Rattle.js_core.specs.Answers.{Answers};
 ghost use Rattle.js_core.specs.Nesting.{Reads};
 
@@ -12,6 +12,8 @@ use js_tree::NodeId;
 /// What is to be read where a production nests.
 #[derive(Clone, Copy)]
 pub enum Goal {
+    /// An Expression.
+    Expression,
     /// An AssignmentExpression.
     Assignment,
     /// A UnaryExpression.
@@ -27,6 +29,11 @@ pub trait Nested<C: ParserConfig> {
     ghost use Rattle.js_core.specs.declared.nested.Goal.{Goal};
 
     ghost can: { Self → Parser → Goal → Type 0 };
+
+    /// An Expression (ECMA-262, section 13.16).
+    fn expression(&self, p: &mut ParserImpl<'_, C>) -> Result<NodeId, Stop>
+        requires { can self.now p.old Goal.Expression }
+        ensures { Answers (at Expression) p.old p.new result };
 
     /// An AssignmentExpression (ECMA-262, section 13.15).
     fn assignment(&self, p: &mut ParserImpl<'_, C>) -> Result<NodeId, Stop>
@@ -53,6 +60,11 @@ impl<F: Fn(&mut ParserImpl<'_, RuntimeParserConfig>, Goal) -> Result<NodeId, Sto
     RuntimeParserConfig,
 > for By<F> {
     ghost can = { λ s p goal. Reads (F.pre s.0) (F.post s.0) p goal };
+
+    #[inline(always)]
+    fn expression(&self, p: &mut ParserImpl<'_, RuntimeParserConfig>) -> Result<NodeId, Stop> {
+        (self.0)(p, Goal::Expression)
+    }
 
     #[inline(always)]
     fn assignment(&self, p: &mut ParserImpl<'_, RuntimeParserConfig>) -> Result<NodeId, Stop> {

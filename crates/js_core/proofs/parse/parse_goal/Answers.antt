@@ -8,3 +8,6 @@ returns-in-Unary t c = rw (c.in-Unary.is) c.parse_unary_expression_or_higher.ens
 
 pub returns-in-Exponentiation : goal.returns-in-Exponentiation
 returns-in-Exponentiation t c = rw (c.in-Exponentiation.is) c.parse_exponentiation_expression.ensures
+
+pub returns-in-Expression : goal.returns-in-Expression
+returns-in-Expression t c = rw (c.in-Expression.is) c.parse_sequence_expression.ensures
