@@ -13,3 +13,6 @@ pub mod Giving
 pub mod Beginning
 pub mod Contexts
 pub mod Conditionals
+pub mod Related
+pub mod FreeOfIn
+pub mod Targets

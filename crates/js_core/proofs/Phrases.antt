@@ -1,7 +1,7 @@
 -- What the parse functions of operands answer, from what the calls in them answer.
-use Rattle.std.proofs.Common.{ℕ, ◌≡◌, ◌≤◌, max, List, [], ◌∷◌, Bool, true, false, not, ◌&&◌, ◌||◌, IsTrue, refl, sym, subst, arith, nat_lt}
+use Rattle.std.proofs.Common.{ℕ, ◌≡◌, max, List, [], ◌∷◌, Bool, true, false, not, ◌&&◌, ◌||◌, IsTrue, refl, sym, subst, arith, nat_lt}
 use Rattle.std.specs.Prelude.{Result, Ok, Err}
-use Rattle.std.proofs.lemmas.Bool.{false≢true, or_left, or_right, ltb-true, lt-ltb}
+use Rattle.std.proofs.lemmas.Bool.{false≢true, or_left}
 use Rattle.js_base.specs.declared.kind.Kind.TheVariants.{LBrack, Dot, NoSubstitutionTemplate, TemplateHead, Function, Minus, Plus, Bang, Tilde, Typeof, Void, Delete}
 use Rattle.js_base.specs.declared.kind.Kind.{Kind}
 use Rattle.js_base.specs.Kinds.{same_kind, one_of_kinds}
