@@ -16,3 +16,4 @@ pub mod Conditionals
 pub mod Related
 pub mod FreeOfIn
 pub mod Targets
+pub mod CoveredNodes

@@ -1,6 +1,5 @@
 -- A simple target is a left-hand side whose tree, with its outer parentheses taken off, is the target's (ECMA-262, 8.6.4).
 use Rattle.std.proofs.Common.{ℕ, ◌≡◌, Bool, true, false, not, cond, ◌&&◌, ◌||◌, IsTrue, Option, Some, None, refl, ap, sym, subst, ◌∙◌}
-use Rattle.std.specs.Prelude.{nat_eq}
 use Rattle.std.proofs.lemmas.Bool.{false≢true, and_parts}
 use Rattle.js_grammar.specs.Trees.{NodeKind, Op, Span, Label, Slots, end, hole, tree, Tree, function_expression, arrow_function_expression}
 use Rattle.js_base.specs.declared.kind.Kind.TheVariants.{LParen, RParen}
@@ -364,15 +363,15 @@ marked_kind _ o fl p cs t e = refl
 marked_same : (l : Label) (cs : Slots) (t : Tree) → target_of l cs ≡ Some t → with_pife l ≡ l
 marked_same l cs t e = marked_kind l.kind l.op l.flags l.span cs t e
 
-may : (p n m z : Bool) (a : Option Tree) (b t : Tree) → cond p a (cond (n || (m && z)) (Some b) None) ≡ Some t → (p || (n || m)) ≡ true
-may true n m z a b t e = refl
-may false true m z a b t e = refl
-may false false true z a b t e = refl
-may false false false z a b t e = absurd (cc)
+may : (p n m : Bool) (a : Option Tree) (b t : Tree) → cond p a (cond (n || m) (Some b) None) ≡ Some t → (p || (n || m)) ≡ true
+may true n m a b t e = refl
+may false true m a b t e = refl
+may false false true a b t e = refl
+may false false false a b t e = absurd (cc)
 
 -- what has a target may be one
 pub may_target : (l : Label) (cs : Slots) (t : Tree) → target_of l cs ≡ Some t → may_be l.kind ≡ true
-may_target l cs t e = may (is_parens l.kind) (is_name l.kind) (is_member l.kind) (nat_eq l.flags 0) (target_in cs) (alone l cs) t e
+may_target l cs t e = may (is_parens l.kind) (is_name l.kind) (is_member l.kind) (target_in cs) (alone l cs) t e
 
 module _ {f : Flags} {i j : ℕ} {ls rest : Lexemes} where
   as_name : {t : Tree} → Takes rule (such (at IdentifierReference f) always) end (tree t.label t.slots end) i ls end j rest → Takes rule (such (at SimpleTarget f) always) end (tree t.label t.slots end) i ls end j rest

@@ -3,6 +3,7 @@
 
 mod assignment;
 mod context;
+mod cover;
 mod left_hand_side;
 mod lexemes;
 mod nested;
