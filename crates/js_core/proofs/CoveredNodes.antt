@@ -1,8 +1,7 @@
 -- The node of a target: that of the expression, or what stands in its parentheses.
-use Rattle.std.proofs.Common.{ℕ, ◌≡◌, ◌<◌, ◌+◌, Bool, true, false, ◌||◌, cond, List, [], ◌∷◌, ◌++◌, length, Option, Some, None, refl, sym, ap, subst, arith, ◌∙◌, append-nil}
+use Rattle.std.proofs.Common.{ℕ, ◌≡◌, ◌<◌, Bool, true, false, cond, List, [], ◌∷◌, length, Option, Some, None, refl, ap, subst, arith, ◌∙◌, append-nil}
 use Rattle.std.specs.Prelude.{get_or, slice_get}
-use Rattle.std.proofs.lemmas.Bool.{false≢true}
-use Rattle.js_grammar.specs.Trees.{Label, Slots, end, hole, tree, Tree}
+use Rattle.js_grammar.specs.Trees.{Label, Slots, end, tree}
 use Rattle.js_tree.specs.declared.id.NodeId.{NodeId}
 use Rattle.js_tree.specs.Nodes.{Node, label, node_at, empty_program}
 use Rattle.js_tree.specs.Holding.{Stands, stands, StandsAll, no_slots, next_child, next_hole, AreWithin, AreDistinct, Holds}

@@ -17,3 +17,6 @@ pub mod Related
 pub mod FreeOfIn
 pub mod Targets
 pub mod CoveredNodes
+pub mod Covers
+pub mod Updates
+pub mod Refusals

@@ -149,6 +149,9 @@ pub record Passes (n m : Symbol) : Type 0 where
   pub down : {ks us vs : Slots} {l : Label} {cs : Slots} {i j : ℕ} {ls rest : Lexemes} → may_be l.kind ≡ true → Takes rule (such n always) ks (tree l cs us) i ls vs j rest → Takes rule (such m always) ks (tree l cs us) i ls vs j rest
   pub up : {ks us vs : Slots} {l : Label} {cs : Slots} {i j : ℕ} {ls rest : Lexemes} → Takes rule (such m always) ks (tree l cs us) i ls vs j rest → Takes rule (such n always) ks (tree l cs us) i ls vs j rest
 
+pub passes_itself : {n : Symbol} → Passes n n
+passes_itself = record { down = λ h d. d; up = λ d. d }
+
 pub passes_both : {n m o : Symbol} → Passes n m → Passes m o → Passes n o
 passes_both a b = record { down = λ h d. b.down h (a.down h d); up = λ d. a.up (b.up d) }
 

@@ -4,6 +4,7 @@ ghost use Rattle.std.specs.Prelude.{◌≡◌, ◌↔◌, IsTrue, MatchResult};
 ghost use Rattle.js_cursor.specs.Moves.{OnlyMemory};
 ghost use Rattle.js_core.specs.States.{Standing};
 ghost use Rattle.js_base.specs.Contexts.{has_flag, in_flag};
+ghost use Rattle.js_core.specs.Rests.{EndsOperand};
 ghost use Rattle.js_core.specs.Moves.{IsCompleted, IsWholeHere, Moves, OperatorHere};
 
 use crate::operators::binding_power;
@@ -50,4 +51,17 @@ pub fn operator_here<C: ParserConfig>(p: &mut ParserImpl<'_, C>) -> Result<u8, S
         return Ok(0);
     }
     Ok(binding_power(token.kind(), allows_in(p)))
+}
+
+/// Whether what stands here is known to end an operand: an operator that groups to the left, a part of a conditional
+/// expression, or the end of the text.
+pub fn ends_operand<C: ParserConfig>(p: &mut ParserImpl<'_, C>) -> Result<bool, Stop>
+    requires { Standing p.old }
+    ensures { MatchResult result (λ b. EndsOperand p.old p.new b) OnlyMemory }
+{
+    let power = operator_here(p)?;
+    match p.cur_kind() {
+        Kind::Eof | Kind::Question | Kind::Colon => Ok(true),
+        _ => Ok(power > 0),
+    }
 }

@@ -13,6 +13,7 @@ mod parse;
 mod primary;
 mod sequence;
 mod unary;
+mod update;
 
 pub use parse::{Parser, parse_assignment_expression_or_higher, parse_expression};
 

@@ -1,4 +1,4 @@
-use Rattle.std.proofs.Common.{◌≡◌, arith, ap, sym, subst, ◌∙◌, Option}
+use Rattle.std.proofs.Common.{arith, ap, sym, subst, ◌∙◌, Option}
 use Rattle.js_tree.specs.declared.id.NodeId.{NodeId}
 use Rattle.js_tree.specs.Labels.{kind_of}
 use Rattle.js_core.specs.Targets.{is_parens, is_target, IsTarget}
