@@ -1,7 +1,7 @@
 -- Conditional expressions (ECMA-262, 13.14), and an AssignmentExpression that is none.
-use Rattle.std.proofs.Common.{ℕ, ◌≡◌, ◌≤◌, ◌<◌, ◌+◌, List, [], ◌∷◌, length, Bool, true, false, not, ◌&&◌, ◌||◌, IsTrue, Option, Some, None, refl, sym, ap, subst, arith, ◌∙◌}
-use Rattle.std.specs.Prelude.{Result, Ok, Err}
-use Rattle.std.proofs.lemmas.Bool.{false≢true, or_left, or_right, and_parts}
+use Rattle.std.proofs.Common.{ℕ, ◌≡◌, ◌≤◌, List, [], ◌∷◌, length, Bool, true, false, not, ◌&&◌, ◌||◌, IsTrue, Some, None, refl, sym, ap, subst, arith, ◌∙◌}
+use Rattle.std.specs.Prelude.{Err}
+use Rattle.std.proofs.lemmas.Bool.{false≢true}
 use Rattle.js_base.specs.declared.kind.Kind.{Kind}
 use Rattle.js_base.specs.declared.kind.Kind.TheVariants.{Question, Colon, PrivateIdentifier, RAngle, Undetermined}
 use Rattle.js_base.specs.declared.span.Span.{Span}
@@ -12,22 +12,22 @@ use Rattle.js_grammar.specs.Grammar.{Lexeme, Lexemes, Look, here, seen, such, no
 use Rattle.js_grammar.specs.Insertion.{Row, after_expression, after_postfix, after_body, after_yield, after_declarator, after_word}
 use Rattle.js_grammar.specs.Lexemes.{is_word, is_escaped}
 use Rattle.js_grammar.specs.Names.{has_backslash}
-use Rattle.js_grammar.specs.Parsing.{Test, plain, full, always, Admits, Goes, Fails, still}
-use Rattle.js_grammar.specs.Productions.{G, Flags, Symbol, at, tok, mk, plus_in, Assignment, Conditional, Short}
+use Rattle.js_grammar.specs.Parsing.{Test, always, Admits, Goes, Fails, still}
+use Rattle.js_grammar.specs.Productions.{G, Flags, at, tok, mk, plus_in, Assignment, Conditional, Short}
 use Rattle.js_grammar.specs.Productions.{sym as symbol}
 use Rattle.js_grammar.specs.Table.{rule, rule_of}
-use Rattle.js_grammar.specs.Follow.{edge_of, row_of, follow, after, looser, tight, widest}
+use Rattle.js_grammar.specs.Follow.{edge_of, row_of, follow, after, looser, widest}
 use Rattle.js_grammar.proofs.Looks.{covers, covered, apart}
-use Rattle.js_grammar.proofs.Calculus.{On, Inside, inside_full, ◌▹◌, ◌▹✗◌, left, right, fails_node, fails_rule, fails_nothing, part_fails, weaken_fails_on}
+use Rattle.js_grammar.proofs.Calculus.{On, Inside, inside_full, ◌▹✗◌, left, right, fails_node, fails_rule, fails_nothing, part_fails, weaken_fails_on}
 use Rattle.js_grammar.proofs.FirstClaims.{firsts}
 use Rattle.js_grammar.proofs.FirstRules.{by_first}
 use Rattle.js_grammar.proofs.FollowLaws.{passes_on, surely, same_read, fails_by}
-use Rattle.js_grammar.proofs.RightEdges.{may_end, of_operand, of_assignment}
+use Rattle.js_grammar.proofs.RightEdges.{of_operand}
 use Rattle.js_tree.specs.declared.id.NodeId.{NodeId}
 use Rattle.js_tree.specs.declared.kind.NodeKind.TheVariants as node
 use Rattle.js_tree.specs.declared.op.Op.TheVariants as op
 use Rattle.js_tree.specs.Nodes.{Node}
-use Rattle.js_tree.specs.Holding.{Holds, HoldsAll, Keeps}
+use Rattle.js_tree.specs.Holding.{Holds, Keeps}
 use Rattle.js_tree.proofs.HoldingLemmas.{HoldsAll-two, HoldsAll-next, Keeps-trans, Keeps-made}
 use Rattle.js_cursor.specs.Parsers.{Parser}
 use Rattle.js_cursor.specs.Moves.{is_last, at_lexeme}
@@ -47,12 +47,12 @@ use Rattle.js_core.proofs.Giving.{gives_up}
 use Rattle.js_core.specs.Lexemes.{Lex}
 use Rattle.js_core.specs.States.{At, Same}
 use Rattle.js_core.specs.Moves.{Moved, MadeHere, plain_label}
-use Rattle.js_core.specs.Answers.{Underived, Answer, Numbered, Outcome, Stops, Refuses, beside}
+use Rattle.js_core.specs.Answers.{Underived, Answer, Numbered, Stops, beside}
 use Rattle.js_core.proofs.Here.{found, uncut, kind_here}
 use Rattle.js_core.proofs.MadeNodes.{node_held}
 use Rattle.js_core.proofs.Moving.{same_both}
 use Rattle.js_core.proofs.Operands.{by_path}
-use Rattle.js_core.proofs.Paths.{reads, Path, ◌⟼◌, ◌⟶◌, ◌⟶✗◌, fails_at, not_here, token, called, last_called, noded_by, by_symbol_as, label_here}
+use Rattle.js_core.proofs.Paths.{Path, ◌⟼◌, ◌⟶◌, ◌⟶✗◌, fails_at, not_here, token, called, last_called, noded_by, by_symbol_as, label_here}
 use Rattle.js_core.proofs.Phrases.{by_left, lift, lift_fails, narrow_operand, operand_assigned, assignment_left}
 use Rattle.js_core.proofs.Tight.{narrows, read_plain}
 

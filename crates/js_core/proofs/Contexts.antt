@@ -1,10 +1,9 @@
 -- What is read under other parameters, and those from before again.
-use Rattle.std.proofs.Common.{ℕ, ◌≡◌, Bool, true, List, [], refl, sym, ap, subst, ◌∙◌, append-nil}
+use Rattle.std.proofs.Common.{ℕ, ◌≡◌, true, List, refl, sym, ap, subst, ◌∙◌}
 use Rattle.js_base.specs.declared.context.Context.{Context}
-use Rattle.js_base.specs.Contexts.{SetsFlag, has_flag, in_flag, yield_flag, await_flag, return_flag, new_target_flag}
+use Rattle.js_base.specs.Contexts.{SetsFlag, in_flag, yield_flag, await_flag, return_flag, new_target_flag}
 use Rattle.js_grammar.specs.Productions.{Flags, Symbol, plus_in}
 use Rattle.js_tree.specs.declared.id.NodeId.{NodeId}
-use Rattle.js_cursor.specs.Checkpoints.{Follows}
 use Rattle.js_cursor.specs.Parsers.{Parser}
 use Rattle.js_cursor.specs.Places.{IsAt}
 use Rattle.js_cursor.specs.declared.stop.Stop.{Stop}

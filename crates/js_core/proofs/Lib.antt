@@ -17,3 +17,10 @@ pub mod Contexts
 pub mod Conditionals
 pub mod Sequences
 pub mod Exponents
+pub mod Related
+pub mod FreeOfIn
+pub mod Targets
+pub mod CoveredNodes
+pub mod Covers
+pub mod Updates
+pub mod Refusals

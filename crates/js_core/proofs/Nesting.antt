@@ -1,5 +1,5 @@
 -- Where less of the text is left, productions may nest.
-use Rattle.std.proofs.Common.{ℕ, ◌≡◌, ◌<◌, ◌≤◌, List, length, ap, arith}
+use Rattle.std.proofs.Common.{ℕ, ◌<◌, ◌≤◌, List, length, ap, arith}
 use Rattle.js_grammar.specs.Productions.{Flags}
 use Rattle.js_cursor.specs.Parsers.{Parser}
 use Rattle.js_core.specs.declared.nested.Goal.{Goal}

@@ -1,7 +1,7 @@
 -- What the parse functions of operands answer, from what the calls in them answer.
-use Rattle.std.proofs.Common.{ℕ, ◌≡◌, ◌≤◌, max, List, [], ◌∷◌, Bool, true, false, not, ◌&&◌, ◌||◌, IsTrue, refl, sym, subst, arith, nat_lt}
+use Rattle.std.proofs.Common.{ℕ, ◌≡◌, max, List, [], ◌∷◌, Bool, true, false, not, ◌&&◌, ◌||◌, IsTrue, refl, sym, subst, arith, nat_lt}
 use Rattle.std.specs.Prelude.{Result, Ok, Err}
-use Rattle.std.proofs.lemmas.Bool.{false≢true, or_left, or_right, ltb-true, lt-ltb}
+use Rattle.std.proofs.lemmas.Bool.{false≢true, or_left}
 use Rattle.js_base.specs.declared.kind.Kind.TheVariants.{LBrack, Dot, NoSubstitutionTemplate, TemplateHead, Function, Minus, Plus, Bang, Tilde, Typeof, Void, Delete}
 use Rattle.js_base.specs.declared.kind.Kind.{Kind}
 use Rattle.js_base.specs.Kinds.{same_kind, one_of_kinds}
@@ -11,7 +11,7 @@ use Rattle.js_grammar.specs.Parsing.{always, Goes, still}
 use Rattle.js_grammar.specs.Productions.{G, Flags, Symbol, at, tok, op, branches, Expression, Assignment, Conditional, Short, Or, Exponent, Unary, Update, LeftHandSide, New, Member, Primary}
 use Rattle.js_grammar.specs.Productions.{sym as symbol}
 use Rattle.js_grammar.specs.Table.{rule, rule_of}
-use Rattle.js_grammar.specs.Follow.{edge_of, row_of, follow, follow_of, after, looser, tight}
+use Rattle.js_grammar.specs.Follow.{edge_of, row_of, follow, follow_of, after, tight}
 use Rattle.js_grammar.specs.Insertion.{Row, after_expression, after_postfix, after_body, after_yield, after_declarator, after_word}
 use Rattle.js_grammar.proofs.Looks.{covers, covered, apart}
 use Rattle.js_grammar.proofs.Calculus.{◌▹◌, ◌▹✗◌, left, by_rule, weaken_on, weaken_fails_on}
@@ -93,7 +93,7 @@ narrow_assignment n m ks a c d g h false after_yield o = h
 narrow_assignment n m ks a c d g h b after_declarator o = absurd (false≢true o)
 narrow_assignment n m ks a c d g h b after_word o = absurd (false≢true o)
 
-plain_row : (r : Row) → same_row after_expression r ≡ true → r ≡ after_expression
+pub plain_row : (r : Row) → same_row after_expression r ≡ true → r ≡ after_expression
 plain_row after_expression h = refl
 plain_row after_postfix h = absurd (false≢true h)
 plain_row after_body h = absurd (false≢true h)
@@ -109,7 +109,7 @@ operand_assigned after_yield h = absurd (false≢true h)
 operand_assigned after_declarator h = absurd (false≢true h)
 operand_assigned after_word h = absurd (false≢true h)
 
-primary_operand : (r : Row) → same_row after_expression r ≡ true → of_operand r ≡ true
+pub primary_operand : (r : Row) → same_row after_expression r ≡ true → of_operand r ≡ true
 primary_operand after_expression h = refl
 primary_operand after_postfix h = absurd (false≢true h)
 primary_operand after_body h = absurd (false≢true h)
@@ -125,10 +125,6 @@ short_left f = refl
 pub assignment_left : (f : Flags) → live (rule (at Assignment f)) ≡ such (at Conditional f) always
 unfolding rule rule_of apart
 assignment_left f = refl
-
-update_left : (f : Flags) → live (rule (at Update f)) ≡ such (at LeftHandSide f) always
-unfolding rule rule_of apart
-update_left f = refl
 
 abbrev pub unary_part : Flags → G
 unary_part f = branches (Minus ∷ Plus ∷ Bang ∷ Tilde ∷ Typeof ∷ Void ∷ Delete ∷ []) (λ o. op unary_expression o (tok o ▸ symbol Unary f))
@@ -153,9 +149,3 @@ no_operator {text} {f} {p} a n = subst (λ (g : G). Goes rule (Lex text) (after 
 pub unary_result : {text : List ℕ} {f : Flags} {p : Parser} (q : Parser) (r : Result NodeId Stop) → At text f p → one_of_kinds unary_kinds p.token.kind ≡ false → Outcome text f (at Update f) p q r → Outcome text f (at Unary f) p q r
 unfolding covers
 unary_result {text} {f} {p} q r a n x = lift_result (at Unary f) (at Update f) refl refl text f p q r (no_operator a n) (λ i y. y.answer.row) (λ i y z l. y.answer.stops z l) x
-
--- an UpdateExpression, which is a LeftHandSideExpression
-pub update_result : (text : List ℕ) (f : Flags) (p q : Parser) (r : Result NodeId Stop) → Outcome text f (at LeftHandSide f) p q r → Outcome text f (at Update f) p q r
-unfolding covers
-update_result text f p q r x = lift_result (at Update f) (at LeftHandSide f) refl refl text f p q r (by_left (at Update f) (at LeftHandSide f) (update_left f) text p.prev_token_end) (λ i y. primary_operand _ y.answer.row)
-    (λ i y z l. subst (λ (w : Row). IsTrue (seen (looser 16 f.in_ w) z || seen beside z)) (sym (plain_row (row_of y.answer.label y.answer.slots) y.answer.row)) (narrows 17 16 [] f.in_ after_expression (narrow_operand 17 16 [] refl refl refl refl f.in_ after_expression refl) z l.1 refl (y.answer.stops z l))) x

@@ -7,3 +7,4 @@ pub mod Moves
 pub mod Members
 pub mod Rests
 pub mod Exponents
+pub mod Targets

@@ -1,5 +1,5 @@
 -- What may be read where a production nests: by a function that is called with less of the text left.
-use Rattle.std.specs.Prelude.{ℕ, ◌+◌, ◌-◌, ◌<◌, ◌≡◌, List, length, Result}
+use Rattle.std.specs.Prelude.{ℕ, ◌+◌, ◌-◌, ◌<◌, ◌≡◌, length, Result}
 use denote.Ref.{MutBor}
 use Rattle.js_grammar.specs.Productions.{Flags, Symbol, at, Assignment, Exponent, Expression, Unary}
 use Rattle.js_tree.specs.declared.id.NodeId.{NodeId}

@@ -1,8 +1,12 @@
 -- What is read behind something that was read before.
-use Rattle.std.specs.Prelude.{ℕ, ◌≡◌, ◌≤◌, List, [], ◌∷◌, Result, Ok, Err}
+use Rattle.std.specs.Prelude.{ℕ, ◌≡◌, ◌≤◌, ◌⊎◌, ◌||◌, Bool, IsTrue, nat_lt, List, [], ◌∷◌, length, None, Result, Ok, Err}
+use Rattle.js_base.specs.declared.diagnostic.Diagnostic.{Diagnostic}
+use Rattle.js_base.specs.declared.diagnostic.DiagnosticKind.TheVariants as fault
+use Rattle.js_base.specs.Kinds.{one_of_kinds}
 use Rattle.js_base.specs.declared.kind.Kind.{Kind}
-use Rattle.js_base.specs.declared.kind.Kind.TheVariants.{Question}
+use Rattle.js_base.specs.declared.kind.Kind.TheVariants.{Question, Colon, Plus2, Minus2, Eof}
 use Rattle.js_base.specs.declared.span.Span.{Span}
+use Rattle.js_grammar.specs.Grammar.{Lexeme}
 use Rattle.js_grammar.specs.Marks.{LexemeAt, of_kinds}
 use Rattle.js_grammar.specs.Productions.{Flags, Symbol}
 use Rattle.js_tree.specs.declared.id.NodeId.{NodeId}
@@ -13,7 +17,9 @@ use Rattle.js_cursor.specs.declared.stop.Stop.{Stop}
 use Rattle.js_cursor.specs.declared.stop.Stop.TheVariants.{Fatal}
 use Rattle.js_core.specs.Answers.{Numbered, Outcome}
 use Rattle.js_core.specs.Moves.{Moves}
-use Rattle.js_core.specs.States.{At}
+use Rattle.js_core.specs.Lexemes.{Lex}
+use Rattle.js_core.specs.Operators.{power_of}
+use Rattle.js_core.specs.States.{At, Same}
 
 -- One nonterminal was read up to the old state, as this node; with what is read now it is another. So the answer is of the state where the first one began, whichever that was.
 abbrev pub ReadsOn : (Flags → Symbol) → (Flags → Symbol) → ℕ → NodeId → Parser → Parser → Result NodeId Stop → Type 0
@@ -28,3 +34,30 @@ pub record Asked (p : Parser) (question : Span) : Type 0 where
 abbrev pub Passes : Kind → Parser → Parser → Result (Unit {0}) Stop → Type 0
 Passes k old new (Ok x) = (old.token.kind ≡ k) × Moves old new
 Passes k old new (Err e) = (e ≡ Fatal → old.token.kind ≡ k → ⊥) × GivesUp (λ d. Unit {0}) old new e
+
+abbrev pub update_kinds : List Kind
+update_kinds = Plus2 ∷ Minus2 ∷ []
+
+-- what is told of a text up to a place that is no target
+abbrev pub no_target_at : ℕ → ℕ → Diagnostic
+no_target_at from to = record { kind = fault.InvalidAssignment; span = record { start = from; end = to }; first = None; second = None }
+
+-- A call gave up: there are not so many diagnostics as said, and all stays, or one was kept.
+abbrev pub Refused : ℕ → Parser → Parser → Stop → Type 0
+Refused kept old new e = ((length old.errors ≡ kept → ⊥) × (new ≡ old) × (e ≡ Fatal)) ⊎ GivesUp (λ d. Unit {0}) old new e
+
+-- What may stand behind an operand that no link and no update goes on with.
+abbrev pub ending_kinds : List Kind
+ending_kinds = Eof ∷ Question ∷ Colon ∷ []
+
+-- The place is the same; if it is true, a lexeme stands there that ends an operand.
+pub record Ended (text : List ℕ) (f : Flags) (old new : Parser) (b : Bool) : Type 0 where
+  pub at : At text f new
+  pub same : Same old new
+  pub nodes : new.nodes ≡ old.nodes
+  pub kept : new.errors ≡ old.errors
+  pub place : new.prev_token_end ≡ old.prev_token_end
+  pub lexeme : IsTrue b → (y : Lexeme) × Lex text new.prev_token_end y × IsTrue (one_of_kinds ending_kinds y.kind || nat_lt 0 (power_of f.in_ y.kind))
+
+abbrev pub EndsOperand : Parser → Parser → Bool → Type 0
+EndsOperand old new b = (text : List ℕ) (f : Flags) → At text f old → Ended text f old new b

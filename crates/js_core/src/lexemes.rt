@@ -6,6 +6,7 @@ ghost use Rattle.js_core.specs.States.{Standing};
 ghost use Rattle.js_base.specs.Contexts.{has_flag, in_flag};
 ghost use Rattle.js_core.specs.Lexemes.{read_word};
 ghost use Rattle.js_core.specs.Members.{StandsHere};
+ghost use Rattle.js_core.specs.Rests.{EndsOperand};
 ghost use Rattle.js_core.specs.Moves.{IsCompleted, IsWholeHere, Moves, OperatorHere};
 
 use crate::operators::binding_power;
@@ -79,4 +80,17 @@ pub fn is_read_word(kind: Kind) -> bool
             | Kind::Instanceof
             | Kind::New
     )
+}
+
+/// Whether what stands here is known to end an operand: an operator that groups to the left, a part of a conditional
+/// expression, or the end of the text.
+pub fn ends_operand<C: ParserConfig>(p: &mut ParserImpl<'_, C>) -> Result<bool, Stop>
+    requires { Standing p.old }
+    ensures { MatchResult result (λ b. EndsOperand p.old p.new b) OnlyMemory }
+{
+    let power = operator_here(p)?;
+    match p.cur_kind() {
+        Kind::Eof | Kind::Question | Kind::Colon => Ok(true),
+        _ => Ok(power > 0),
+    }
 }

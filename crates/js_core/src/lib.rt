@@ -3,6 +3,7 @@
 
 mod assignment;
 mod context;
+mod cover;
 mod left_hand_side;
 mod lexemes;
 mod nested;
@@ -12,6 +13,7 @@ mod parse;
 mod primary;
 mod sequence;
 mod unary;
+mod update;
 
 pub use parse::{Parser, parse_assignment_expression_or_higher, parse_expression};
 

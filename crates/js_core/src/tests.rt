@@ -11,7 +11,7 @@ use js_tree::NodeId;
 use std::alloc::Global;
 
 /// A text, and the lines of its tree, whose statement is left out.
-static READ: [(&str, &str); 37] = [
+static READ: [(&str, &str); 41] = [
     ("a", "Program 0..1\n  IdentifierReference 0..1\n"),
     ("1", "Program 0..1\n  NumericLiteral 0..1 Decimal\n"),
     ("this", "Program 0..4\n  ThisExpression 0..4\n"),
@@ -139,10 +139,26 @@ static READ: [(&str, &str); 37] = [
         "- - a * b ** c, d in e",
         "Program 0..22\n  SequenceExpression 0..22\n    BinaryExpression 0..14 *\n      UnaryExpression 0..5 -\n        UnaryExpression 2..5 -\n          IdentifierReference 4..5\n      BinaryExpression 8..14 **\n        IdentifierReference 8..9\n        IdentifierReference 13..14\n    BinaryExpression 16..22 in\n      IdentifierReference 16..17\n      IdentifierReference 21..22\n",
     ),
+    (
+        "a++",
+        "Program 0..3\n  UpdateExpression 0..3 ++\n    IdentifierReference 0..1\n",
+    ),
+    (
+        "--a",
+        "Program 0..3\n  UpdateExpression 0..3 -- prefix\n    IdentifierReference 2..3\n",
+    ),
+    (
+        "- ++a * b--",
+        "Program 0..11\n  BinaryExpression 0..11 *\n    UnaryExpression 0..5 -\n      UpdateExpression 2..5 ++ prefix\n        IdentifierReference 4..5\n    UpdateExpression 8..11 --\n      IdentifierReference 8..9\n",
+    ),
+    (
+        "a-- ? ++b : c++",
+        "Program 0..15\n  ConditionalExpression 0..15\n    UpdateExpression 0..3 --\n      IdentifierReference 0..1\n    UpdateExpression 6..9 ++ prefix\n      IdentifierReference 8..9\n    UpdateExpression 12..15 ++\n      IdentifierReference 12..13\n",
+    ),
 ];
 
 /// A text that has no tree, and the kind and the span of what is told of it.
-static REFUSED: [(&str, &str, u32, u32); 25] = [
+static REFUSED: [(&str, &str, u32, u32); 32] = [
     ("", "unexpected_token", 0, 0),
     ("a +", "unexpected_token", 3, 3),
     ("*", "unexpected_token", 0, 1),
@@ -173,6 +189,13 @@ static REFUSED: [(&str, &str, u32, u32); 25] = [
     ("a, ", "unexpected_token", 3, 3),
     (", a", "unexpected_token", 0, 1),
     ("a,, b", "unexpected_token", 2, 3),
+    ("++1", "invalid_assignment", 2, 3),
+    ("1--", "invalid_assignment", 0, 1),
+    ("++a++", "invalid_assignment", 2, 5),
+    ("--this", "invalid_assignment", 2, 6),
+    ("++ - a + b", "invalid_assignment", 3, 6),
+    ("++1 'a", "unterminated_string", 4, 6),
+    ("++ +", "unexpected_token", 4, 4),
 ];
 
 /// A parser at the text's start.

@@ -1,17 +1,17 @@
-//! Unary operators and updates (ECMA-262, sections 13.4 and 13.5).
+//! Unary operators (ECMA-262, section 13.5).
 
 ghost use Rattle.std.specs.Prelude.{◌≡◌, true, false};
 ghost use Rattle.js_base.specs.Kinds.{one_of_kinds};
-ghost use Rattle.js_grammar.specs.Productions.{at, Unary, Update};
+ghost use Rattle.js_grammar.specs.Productions.{at, Unary};
 ghost use Rattle.js_core.specs.Answers.{Answers};
 ghost use Rattle.js_core.specs.Nesting.{CanNest, room};
 ghost use Rattle.js_core.specs.Operators.{unary_kinds};
 ghost use Rattle.js_core.specs.States.{Standing};
 
-use crate::left_hand_side::parse_lhs_expression_or_higher;
 use crate::lexemes::advance;
 use crate::nested::Nested;
 use crate::nodes::make_one;
+use crate::update::parse_update_expression;
 use js_base::map_unary_operator;
 use js_cursor::{ParserImpl, Stop};
 use js_lex::ParserConfig;
@@ -54,16 +54,4 @@ fn parse_unary_expression<C: ParserConfig, N: Nested<C>>(
     let op = Op::Unary(operator);
     let node = make_one(p, NodeKind::UnaryExpression, op, span, argument)?;
     Ok(node)
-}
-
-/// An UpdateExpression (ECMA-262, section 13.4).
-fn parse_update_expression<C: ParserConfig, N: Nested<C>>(
-    p: &mut ParserImpl<'_, C>,
-    nested: &N,
-) -> Result<NodeId, Stop>
-    requires at { Standing p.old }
-    requires nests { CanNest (N.can nested.now) (room p.old) }
-    ensures { Answers (at Update) p.old p.new result }
-{
-    parse_lhs_expression_or_higher(p, nested)
 }
