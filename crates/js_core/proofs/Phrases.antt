@@ -122,10 +122,6 @@ short_left : (f : Flags) → live (rule (at Short f)) ≡ such (at Or f) always
 unfolding rule rule_of apart
 short_left f = refl
 
-pub assignment_left : (f : Flags) → live (rule (at Assignment f)) ≡ such (at Conditional f) always
-unfolding rule rule_of apart
-assignment_left f = refl
-
 exponent_left : (f : Flags) → live (rule (at Exponent f)) ≡ such (at Unary f) always
 unfolding rule rule_of apart
 exponent_left f = refl
