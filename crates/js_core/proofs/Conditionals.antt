@@ -1,7 +1,7 @@
 -- Conditional expressions (ECMA-262, 13.14), and an AssignmentExpression that is none.
 use Rattle.std.proofs.Common.{ℕ, ◌≡◌, ◌≤◌, List, [], ◌∷◌, length, Bool, true, false, not, ◌&&◌, ◌||◌, IsTrue, Some, None, refl, sym, ap, subst, arith, ◌∙◌}
 use Rattle.std.specs.Prelude.{Err}
-use Rattle.std.proofs.lemmas.Bool.{false≢true}
+use Rattle.std.proofs.lemmas.Bool.{false≢true, and_from, and_parts}
 use Rattle.js_base.specs.declared.kind.Kind.{Kind}
 use Rattle.js_base.specs.declared.kind.Kind.TheVariants.{Question, Colon, PrivateIdentifier, RAngle, Undetermined}
 use Rattle.js_base.specs.declared.span.Span.{Span}
@@ -9,7 +9,7 @@ use Rattle.js_base.specs.Kinds.{same_kind, one_of_kinds}
 use Rattle.js_base.specs.Texts.{words}
 use Rattle.js_grammar.specs.Trees.{Span as TreeSpan, Slots, end, tree, Label, no_op, conditional_expression}
 use Rattle.js_grammar.specs.Grammar.{Lexeme, Lexemes, Look, here, seen, such, nothing, exact, is_seq, is_lexeme, is_such, alt, Takes, ◌▸◌}
-use Rattle.js_grammar.specs.Insertion.{Row, after_expression, after_postfix, after_body, after_yield, after_declarator, after_word}
+use Rattle.js_grammar.specs.Insertion.{Row, after_expression, after_postfix, after_body, after_yield, after_declarator, after_word, assign_operators}
 use Rattle.js_grammar.specs.Lexemes.{is_word, is_escaped}
 use Rattle.js_grammar.specs.Names.{has_backslash}
 use Rattle.js_grammar.specs.Parsing.{Test, always, Admits, Goes, Fails, still}
@@ -18,7 +18,7 @@ use Rattle.js_grammar.specs.Productions.{sym as symbol}
 use Rattle.js_grammar.specs.Table.{rule, rule_of}
 use Rattle.js_grammar.specs.Follow.{edge_of, row_of, follow, after, looser, widest}
 use Rattle.js_grammar.proofs.Looks.{covers, covered, apart}
-use Rattle.js_grammar.proofs.Calculus.{On, Inside, inside_full, ◌▹✗◌, left, right, fails_node, fails_rule, fails_nothing, part_fails, weaken_fails_on}
+use Rattle.js_grammar.proofs.Calculus.{On, Inside, inside_full, ◌▹✗◌, left, right, fails_alt, fails_node, fails_rule, fails_nothing, part_fails, weaken_fails_on}
 use Rattle.js_grammar.proofs.FirstClaims.{firsts}
 use Rattle.js_grammar.proofs.FirstRules.{by_first}
 use Rattle.js_grammar.proofs.FollowLaws.{passes_on, surely, same_read, fails_by}
@@ -48,12 +48,13 @@ use Rattle.js_core.specs.Lexemes.{Lex}
 use Rattle.js_core.specs.States.{At, Same}
 use Rattle.js_core.specs.Moves.{Moved, MadeHere, plain_label}
 use Rattle.js_core.specs.Answers.{Underived, Answer, Numbered, Stops, beside}
-use Rattle.js_core.proofs.Here.{found, uncut, kind_here}
+use Rattle.js_core.proofs.Assigned.{an_assign, unassigned, nothing_assigned}
+use Rattle.js_core.proofs.Here.{found, told, uncut, kind_here}
 use Rattle.js_core.proofs.MadeNodes.{node_held}
 use Rattle.js_core.proofs.Moving.{same_both}
 use Rattle.js_core.proofs.Operands.{by_path}
 use Rattle.js_core.proofs.Paths.{Path, ◌⟼◌, ◌⟶◌, ◌⟶✗◌, fails_at, not_here, token, called, last_called, noded_by, by_symbol_as, label_here}
-use Rattle.js_core.proofs.Phrases.{by_left, lift, lift_fails, narrow_operand, operand_assigned, assignment_left}
+use Rattle.js_core.proofs.Phrases.{by_left, lift, lift_fails, narrow_operand, operand_assigned}
 use Rattle.js_core.proofs.Tight.{narrows, read_plain}
 
 unescaped : (k : Kind) (u : List ℕ) → (is_word k || same_kind PrivateIdentifier k) ≡ false → is_escaped k u ≡ false
@@ -161,7 +162,7 @@ short_none {f = f} x = left (fails_node inside_full (part_fails x (by_first firs
 
 pub test_none : {text : List ℕ} (f : Flags) {s : ℕ} → Underived text (at Short f) s → Underived text (at Assignment f) s
 unfolding covers
-test_none {text} f {s} x = lift_fails (at Assignment f) (at Conditional f) refl refl text s (by_left (at Assignment f) (at Conditional f) (assignment_left f) text s) (lift_fails (at Conditional f) (at Short f) refl refl text s (short_none x) x)
+test_none {text} f {s} x = lift_fails (at Assignment f) (at Conditional f) refl refl text s (nothing_assigned f x) (lift_fails (at Conditional f) (at Short f) refl refl text s (short_none x) x)
 
 module _ {text : List ℕ} {f : Flags} {p q : Parser} (x : Answer text f (at Short f) p q) where
   no_branches : one_of_kinds (Question ∷ []) q.token.kind ≡ false → Goes rule (Lex text) (after (at Conditional f)) end (rule (at Conditional f)) p.prev_token_end (such (at Short f) always) p.prev_token_end (λ us. us) (still 0)
@@ -172,9 +173,13 @@ module _ {text : List ℕ} {f : Flags} {p q : Parser} (x : Answer text f (at Sho
   unfolding covers apart
   behind_test n y l = narrows 4 3 (Question ∷ []) f.in_ (row_of x.label x.slots) (narrow_operand 4 3 (Question ∷ []) refl refl refl refl f.in_ (row_of x.label x.slots) x.row) y l.1 (none_here (Question ∷ []) x.at y (λ h. not_here x.at (Question ∷ []) refl n y l h)) (x.stops y l)
 
-  behind_alone : one_of_kinds (Question ∷ []) q.token.kind ≡ false → (y : Lexeme) → Lex text q.prev_token_end y → IsTrue (seen (looser 2 f.in_ (row_of x.label x.slots)) y || seen beside y)
+  behind_alone : one_of_kinds (Question ∷ []) q.token.kind ≡ false → ((y : Lexeme) → Lex text q.prev_token_end y → IsTrue (seen an_assign y) → ⊥) → (y : Lexeme) → Lex text q.prev_token_end y → IsTrue (seen (looser 2 f.in_ (row_of x.label x.slots)) y || seen beside y)
   unfolding covers
-  behind_alone n y l = narrows 3 2 [] f.in_ (row_of x.label x.slots) (narrow_operand 3 2 [] refl refl refl refl f.in_ (row_of x.label x.slots) x.row) y l.1 refl (behind_test n y l)
+  behind_alone n z y l = narrows 3 2 assign_operators f.in_ (row_of x.label x.slots) (narrow_operand 3 2 assign_operators refl refl refl refl f.in_ (row_of x.label x.slots) x.row) y l.1 (none_here assign_operators x.at y (λ h. z y l (and_from _ _ h (ap not (read_plain y l.1))))) (behind_test n y l)
+
+  -- a `?` is no assignment operator
+  no_sign : q.token.kind ≡ Question → (y : Lexeme) → Lex text q.prev_token_end y → IsTrue (seen an_assign y) → ⊥
+  no_sign e y l s = false≢true (subst (λ (k : Kind). one_of_kinds assign_operators k ≡ true) (kind_here x.at e refl y l) (and_parts (one_of_kinds assign_operators y.kind) (not y.escaped) s).0)
 
   -- where a `?` stands behind the test
   no_end : q.token.kind ≡ Question → Fails rule (Lex text) (record { base = widest Assignment; by = λ us. follow (at Assignment f) (edge_of x.label x.slots) }) end nothing q.prev_token_end
@@ -191,10 +196,10 @@ module _ {text : List ℕ} {f : Flags} {p q : Parser} (x : Answer text f (at Sho
   branches_only e = right (last_called x (same_read (at Assignment f) (at Short f) short_passes refl) ⟶✗ no_end e)
 
   wrapped : {w : Parser} {l : Label} {cs : Slots} → q.token.kind ≡ Question → Path text f (after (at Assignment f)) (conditional_part f) p nothing w (tree l cs) → Path text f (after (at Assignment f)) (rule (at Assignment f)) p nothing w (tree l cs)
-  wrapped e r = by_left (at Assignment f) (at Conditional f) (assignment_left f) text p.prev_token_end ⟼ by_symbol_as (λ l cs vs y d. d) (branches_only e ⟼ r)
+  wrapped e r = unassigned x (no_sign e) ⟼ by_symbol_as (λ l cs vs y d. d) (branches_only e ⟼ r)
 
   wrapped_fails : q.token.kind ≡ Question → Fails rule (Lex text) (third f) end (conditional_slots f) p.prev_token_end → Underived text (at Assignment f) p.prev_token_end
-  wrapped_fails e n = fails_by (by_left (at Assignment f) (at Conditional f) (assignment_left f) text p.prev_token_end ▹✗ fails_rule {X' = after (at Assignment f)} (λ l cs vs y d. d) (branches_only e ▹✗ fails_node (inside_third f p.prev_token_end) n))
+  wrapped_fails e n = fails_by (unassigned x (no_sign e) ▹✗ fails_rule {X' = after (at Assignment f)} (λ l cs vs y d. d) (branches_only e ▹✗ fails_node (inside_third f p.prev_token_end) n))
 
   module _ {r : Parser} (e : q.token.kind ≡ Question) (m : Moved text f q r) where
     asked : Path text f (third f) (conditional_slots f) p (symbol Assignment (plus_in f) ▸ tok Colon ▸ symbol Assignment f) r (tree x.label x.slots)
@@ -226,14 +231,33 @@ module _ {text : List ℕ} {f : Flags} {p q : Parser} (x : Answer text f (at Sho
         conditional_path : {w : Parser} → At text f p → (y : Answer text f (at Assignment f) v w) → Path text f (after (at Assignment f)) (rule (at Assignment f)) p nothing w (tree (label_here conditional_expression no_op p w) (tree x.label x.slots (tree c.label c.slots (tree y.label y.slots end))))
         conditional_path a y = wrapped e (noded_by a (inside_third f p.prev_token_end) (colon_passed ⟶ last_called y (on_third f x.label c.label x.slots c.slots v.prev_token_end)))
 
+-- before an assignment operator it is none
+assign_binds : (b : Bool) (r : Row) → of_operand r ≡ true → covers an_assign (λ k w e. not (looser 2 b r k w e)) ≡ true
+unfolding covers
+assign_binds true after_expression h = refl
+assign_binds true after_postfix h = refl
+assign_binds false after_expression h = refl
+assign_binds false after_postfix h = refl
+assign_binds b after_body h = absurd (false≢true h)
+assign_binds b after_yield h = absurd (false≢true h)
+assign_binds b after_declarator h = absurd (false≢true h)
+assign_binds b after_word h = absurd (false≢true h)
+
+pub no_conditional : {text : List ℕ} {f : Flags} {p q : Parser} → Answer text f (at Short f) p q → one_of_kinds (Question ∷ []) q.token.kind ≡ false → ((y : Lexeme) → Lex text q.prev_token_end y → IsTrue (seen an_assign y)) → Fails rule (Lex text) (after (at Assignment f)) end (such (at Conditional f) always) p.prev_token_end
+unfolding rule rule_of covers apart
+no_conditional {text} {f} {p} {q} x n s = fails_rule {X' = after (at Assignment f)} (λ l cs vs y d. d) (fails_alt (last_called x (same_read (at Assignment f) (at Short f) short_passes refl) ⟶✗ fails_nothing (λ ts y l h. no y l h.1)) (fails_node inside_full (called x refl ⟶✗ fails_at x.at (branches_behind f) (Question ∷ []) refl n)))
+  where
+    no : (y : Lexeme) → Lex text q.prev_token_end y → IsTrue (seen (looser 2 f.in_ (row_of x.label x.slots)) y) → ⊥
+    no y l h = contrary (seen (looser 2 f.in_ (row_of x.label x.slots)) y) (covered an_assign (λ k w e. not (looser 2 f.in_ (row_of x.label x.slots) k w e)) (assign_binds f.in_ (row_of x.label x.slots) x.row) y.kind y.newline y.escaped (s y l)) h
+
 -- ---- answers
 
 -- the test alone
-pub test_alone : {text : List ℕ} {f : Flags} {p q : Parser} {id : NodeId} → Numbered text f (at Short f) p q id → one_of_kinds (Question ∷ []) q.token.kind ≡ false → Numbered text f (at Assignment f) p q id
+pub test_alone : {text : List ℕ} {f : Flags} {p q : Parser} {id : NodeId} → Numbered text f (at Short f) p q id → one_of_kinds (Question ∷ []) q.token.kind ≡ false → ((y : Lexeme) → Lex text q.prev_token_end y → IsTrue (seen an_assign y) → ⊥) → Numbered text f (at Assignment f) p q id
 unfolding covers lift
-test_alone {text} {f} {p} x n = lift (at Assignment f) (at Conditional f) refl refl text p.prev_token_end (by_left (at Assignment f) (at Conditional f) (assignment_left f) text p.prev_token_end) refl
+test_alone {text} {f} {p} x n z = lift (at Assignment f) (at Conditional f) refl refl text p.prev_token_end (unassigned x.answer z) refl
     (lift (at Conditional f) (at Short f) refl refl text p.prev_token_end (no_branches x.answer n) refl x (operand_assigned (row_of x.answer.label x.answer.slots) x.answer.row) (behind_test x.answer n))
-    (operand_assigned (row_of x.answer.label x.answer.slots) x.answer.row) (behind_alone x.answer n)
+    (operand_assigned (row_of x.answer.label x.answer.slots) x.answer.row) (behind_alone x.answer n z)
 
 three_held : (o p q r w : Parser) {l a b c : Label} {ds es cs : Slots} {id x y z : NodeId} → MadeHere l (Some x ∷ Some y ∷ Some z ∷ []) r w id → Holds p.nodes (length o.nodes) (length p.nodes) x.0 a ds → Holds q.nodes (length p.nodes) (length q.nodes) y.0 b es → Keeps p.nodes q.nodes → Holds r.nodes (length q.nodes) (length r.nodes) z.0 c cs → Keeps q.nodes r.nodes → Holds w.nodes (length o.nodes) (length w.nodes) id.0 l (tree a ds (tree b es (tree c cs end)))
 three_held o p q r w {x = x} {y = y} {z = z} n h i j k m = node_held n (HoldsAll-next z m (HoldsAll-two x y j h i) k)
@@ -278,3 +302,6 @@ alternative_marked {p} {question} a q s e n = mark_here fault.ExpectConditionalA
 pub colon_missing : (p q : Parser) (e : Stop) → Passes Colon p q (Err e) → Stops p q e (one_of_kinds (Colon ∷ []) p.token.kind ≡ false)
 colon_missing p q Fatal h = gives_up (λ d. Unit {0}) p q Fatal h.1 (other_kind Colon p.token.kind (h.0 refl))
 colon_missing p q NoMemory h = tt
+
+pub no_assign_here : {text : List ℕ} {f : Flags} {q : Parser} → At text f q → q.cut ≡ false → one_of_kinds assign_operators q.token.kind ≡ false → (y : Lexeme) → Lex text q.prev_token_end y → IsTrue (seen an_assign y) → ⊥
+no_assign_here a c n y l s = false≢true (sym n ∙ subst (λ (k : Kind). one_of_kinds assign_operators k ≡ true) (sym (told a c y l).kind) (and_parts (one_of_kinds assign_operators y.kind) (not y.escaped) s).0)

@@ -15,7 +15,7 @@ use Rattle.js_grammar.proofs.Calculus.{ends, here_at, label_is, slots_are}
 use Rattle.js_grammar.proofs.FollowLaws.{admits}
 use Rattle.js_cursor.specs.Parsers.{Parser}
 use Rattle.js_core.specs.Answers.{Answer, Stretch}
-use Rattle.js_core.specs.Lexemes.{Lex, Walked, nowhere, one_more}
+use Rattle.js_core.specs.Lexemes.{Lex, is_read, Walked, nowhere, one_more}
 use Rattle.js_core.specs.States.{At}
 use Rattle.js_core.specs.Targets.{target_of}
 use Rattle.js_core.proofs.Here.{begins_here}
@@ -128,6 +128,7 @@ pub record Untargeted (text : List ℕ) (s : Span) (place : ℕ) (y : Lexeme) : 
   pub there : UnderivedAt SimpleTarget text s
   pub place_is : there.place ≡ place
   pub rest_is : there.rest ≡ last y
+  pub first_read : IsTrue (is_read (here there.lexemes))
 
 -- What was read is no target, under the parameters in force, where y stands behind it.
 pub no_target_there : {text : List ℕ} {f g : Flags} {n : Symbol} {p q : Parser} (w : Passes n (at LeftHandSide f)) (x : Answer text g n p q) → At text g p → Stretch text (after n) (such n always) p.prev_token_end nothing q.prev_token_end (tree x.label x.slots) x.pass
@@ -145,6 +146,7 @@ no_target_there {text} {f} {g} {n} {p} {q} w x a z e y l h s b c = record {
   };
   place_is = refl;
   rest_is = refl;
+  first_read = (here_at (Lex text) (x.pass (last y)) there).1;
 }
   where
     there : Lexes (Lex text) p.prev_token_end (x.pass (last y))

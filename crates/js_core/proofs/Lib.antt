@@ -24,3 +24,5 @@ pub mod CoveredNodes
 pub mod Covers
 pub mod Updates
 pub mod Refusals
+pub mod Assigned
+pub mod Assignments

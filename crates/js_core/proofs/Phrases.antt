@@ -122,10 +122,6 @@ short_left : (f : Flags) → live (rule (at Short f)) ≡ such (at Or f) always
 unfolding rule rule_of apart
 short_left f = refl
 
-pub assignment_left : (f : Flags) → live (rule (at Assignment f)) ≡ such (at Conditional f) always
-unfolding rule rule_of apart
-assignment_left f = refl
-
 abbrev pub unary_part : Flags → G
 unary_part f = branches (Minus ∷ Plus ∷ Bang ∷ Tilde ∷ Typeof ∷ Void ∷ Delete ∷ []) (λ o. op unary_expression o (tok o ▸ symbol Unary f))
 

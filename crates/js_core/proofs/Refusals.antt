@@ -63,7 +63,7 @@ there {text} {p = p} a c n = go a.plain
     go (sign q k x) = absurd (false≢true (sym c ∙ q))
     go (no_lexeme q k m) = absurd (n k)
 
-plain_of : (k : Kind) (u : List ℕ) (b : Bool) → b ≡ is_escaped k u → (is_word k || same_kind PrivateIdentifier k) ≡ false → b ≡ false
+pub plain_of : (k : Kind) (u : List ℕ) (b : Bool) → b ≡ is_escaped k u → (is_word k || same_kind PrivateIdentifier k) ≡ false → b ≡ false
 plain_of k u b e w = e ∙ ap (λ (z : Bool). z && has_backslash u) w
 
 ending_there : {text : List ℕ} {f : Flags} {p : Parser} → At text f p → p.cut ≡ false → one_of_kinds ending_kinds p.token.kind ≡ true → (y : Lexeme) × Lex text p.prev_token_end y × (y.kind ≡ p.token.kind)
@@ -102,7 +102,7 @@ grown_length {K} {old} {new} g = let a = ap length g.kept in let b = length-appe
     positive (x ∷ l) n = omega arith
 
 -- no more diagnostics than before: none was kept
-none_kept : {K : Type 0} {old new : List K} {C B : Type 0} → Verdict old new C B → length new ≡ length old → C
+pub none_kept : {K : Type 0} {old new : List K} {C B : Type 0} → Verdict old new C B → length new ≡ length old → C
 none_kept (clean e c) l = c
 none_kept (unclean g b) l = let h = grown_length g in absurd (omega arith)
 

@@ -1,6 +1,8 @@
 //! Assignments and conditional expressions (ECMA-262, sections 13.14 and 13.15).
 
-ghost use Rattle.std.specs.Prelude.{◌≤◌};
+ghost use Rattle.std.specs.Prelude.{◌≡◌, ◌≤◌, false};
+ghost use Rattle.js_base.specs.Kinds.{one_of_kinds};
+ghost use Rattle.js_grammar.specs.Insertion.{assign_operators};
 ghost use Rattle.js_base.specs.declared.kind.Kind.TheVariants.{Colon};
 ghost use Rattle.js_grammar.specs.Productions.{at, Assignment, Short};
 ghost use Rattle.js_core.specs.Answers.{Answers};
@@ -9,11 +11,12 @@ ghost use Rattle.js_core.specs.Rests.{Asked, Passes, ReadsOn};
 ghost use Rattle.js_core.specs.States.{Standing};
 
 use crate::context::assignment_with_in;
-use crate::lexemes::advance;
+use crate::cover::{cover, kept_so_far, refuse_target};
+use crate::lexemes::{advance, operator_here};
 use crate::nested::Nested;
-use crate::nodes::make_three;
+use crate::nodes::{make_three, make_two};
 use crate::operators::parse_binary_expression_or_higher;
-use js_base::{Diagnostic, DiagnosticKind, Kind, Span};
+use js_base::{Diagnostic, DiagnosticKind, Kind, Span, map_assignment_operator};
 use js_cursor::{ParserImpl, Stop};
 use js_lex::ParserConfig;
 use js_tree::{NodeId, NodeKind, Op};
@@ -28,8 +31,22 @@ pub fn parse_assignment_expression<C: ParserConfig, N: Nested<C>>(
     ensures { Answers (at Assignment) p.old p.new result }
 {
     let start = p.cur_start();
+    let kept = kept_so_far(p);
     let left = parse_binary_expression_or_higher(p, nested)?;
-    parse_conditional_expression_rest(p, nested, start, left)
+    let _power = operator_here(p)?;
+    if !p.cur_kind().is_assignment_operator() {
+        return parse_conditional_expression_rest(p, nested, start, left);
+    }
+    let operator = map_assignment_operator(p.cur_kind());
+    let Some(target) = cover(p, left) else {
+        return Err(refuse_target(p, start, kept));
+    };
+    advance(p)?;
+    let right = nested.assignment(p)?;
+    let span = p.end_span(start);
+    let op = Op::Assignment(operator);
+    let node = make_two(p, NodeKind::AssignmentExpression, op, span, target, right)?;
+    Ok(node)
 }
 
 /// The branches of a conditional expression behind its test, which begins at a place, or the test alone (ECMA-262,
@@ -43,6 +60,8 @@ fn parse_conditional_expression_rest<C: ParserConfig, N: Nested<C>>(
     requires at { Standing p.old }
     requires nests { CanNest (N.can nested.now) (room p.old) }
     requires start { start ≤ p.old.prev_token_end }
+    requires whole { p.old.cut ≡ false }
+    requires unassigned { one_of_kinds assign_operators p.old.token.kind ≡ false }
     ensures { ReadsOn (at Short) (at Assignment) start test p.old p.new result }
 {
     if !p.at(Kind::Question) {

@@ -11,7 +11,7 @@ use js_tree::NodeId;
 use std::alloc::Global;
 
 /// A text, and the lines of its tree, whose statement is left out.
-static READ: [(&str, &str); 41] = [
+static READ: [(&str, &str); 47] = [
     ("a", "Program 0..1\n  IdentifierReference 0..1\n"),
     ("1", "Program 0..1\n  NumericLiteral 0..1 Decimal\n"),
     ("this", "Program 0..4\n  ThisExpression 0..4\n"),
@@ -155,10 +155,34 @@ static READ: [(&str, &str); 41] = [
         "a-- ? ++b : c++",
         "Program 0..15\n  ConditionalExpression 0..15\n    UpdateExpression 0..3 --\n      IdentifierReference 0..1\n    UpdateExpression 6..9 ++ prefix\n      IdentifierReference 8..9\n    UpdateExpression 12..15 ++\n      IdentifierReference 12..13\n",
     ),
+    (
+        "a = b = c",
+        "Program 0..9\n  AssignmentExpression 0..9 =\n    IdentifierReference 0..1\n    AssignmentExpression 4..9 =\n      IdentifierReference 4..5\n      IdentifierReference 8..9\n",
+    ),
+    (
+        "a += b ? c -= 1 : d",
+        "Program 0..19\n  AssignmentExpression 0..19 +=\n    IdentifierReference 0..1\n    ConditionalExpression 5..19\n      IdentifierReference 5..6\n      AssignmentExpression 9..15 -=\n        IdentifierReference 9..10\n        NumericLiteral 14..15 Decimal\n      IdentifierReference 18..19\n",
+    ),
+    (
+        "a *= b /= c %= d",
+        "Program 0..16\n  AssignmentExpression 0..16 *=\n    IdentifierReference 0..1\n    AssignmentExpression 5..16 /=\n      IdentifierReference 5..6\n      AssignmentExpression 10..16 %=\n        IdentifierReference 10..11\n        IdentifierReference 15..16\n",
+    ),
+    (
+        "a <<= b >>= c >>>= d",
+        "Program 0..20\n  AssignmentExpression 0..20 <<=\n    IdentifierReference 0..1\n    AssignmentExpression 6..20 >>=\n      IdentifierReference 6..7\n      AssignmentExpression 12..20 >>>=\n        IdentifierReference 12..13\n        IdentifierReference 19..20\n",
+    ),
+    (
+        "a |= b ^= c &= d",
+        "Program 0..16\n  AssignmentExpression 0..16 |=\n    IdentifierReference 0..1\n    AssignmentExpression 5..16 ^=\n      IdentifierReference 5..6\n      AssignmentExpression 10..16 &=\n        IdentifierReference 10..11\n        IdentifierReference 15..16\n",
+    ),
+    (
+        "a &&= b ||= c ??= d **= e",
+        "Program 0..25\n  AssignmentExpression 0..25 &&=\n    IdentifierReference 0..1\n    AssignmentExpression 6..25 ||=\n      IdentifierReference 6..7\n      AssignmentExpression 12..25 ??=\n        IdentifierReference 12..13\n        AssignmentExpression 18..25 **=\n          IdentifierReference 18..19\n          IdentifierReference 24..25\n",
+    ),
 ];
 
 /// A text that has no tree, and the kind and the span of what is told of it.
-static REFUSED: [(&str, &str, u32, u32); 32] = [
+static REFUSED: [(&str, &str, u32, u32); 37] = [
     ("", "unexpected_token", 0, 0),
     ("a +", "unexpected_token", 3, 3),
     ("*", "unexpected_token", 0, 1),
@@ -196,6 +220,11 @@ static REFUSED: [(&str, &str, u32, u32); 32] = [
     ("++ - a + b", "invalid_assignment", 3, 6),
     ("++1 'a", "unterminated_string", 4, 6),
     ("++ +", "unexpected_token", 4, 4),
+    ("1 = a", "invalid_assignment", 0, 1),
+    ("a + b = c", "invalid_assignment", 0, 5),
+    ("a++ = 1", "invalid_assignment", 0, 3),
+    ("a = ", "unexpected_token", 4, 4),
+    ("a >>>= b += - 1 -= c", "invalid_assignment", 12, 15),
 ];
 
 /// A parser at the text's start.

@@ -5,14 +5,14 @@ use Rattle.js_base.specs.declared.kind.Kind.TheVariants.{Question}
 use Rattle.js_base.specs.declared.span.Span.{Span}
 use Rattle.js_base.specs.declared.token.Token.{Token}
 use Rattle.js_core.specs.Rests.{Asked}
-use Rattle.js_core.proofs.Conditionals.{test_alone, other_kind, plain_sign, question_plain, asked_here, asked_later, first_fails, colon_fails, colon_missing, second_fails, conditional_answers}
+use Rattle.js_core.proofs.Conditionals.{test_alone, no_assign_here, other_kind, plain_sign, question_plain, asked_here, asked_later, first_fails, colon_fails, colon_missing, second_fails, conditional_answers}
 use Rattle.js_core.proofs.Moving.{standing, stops_behind, same_both}
 use Rattle.js_core.proofs.Nesting.{nested_room, nests_later, later_room}
 use Rattle.js_core.proofs.Verdicts.{after, grown_then}
 use Rattle.js_core.proofs.assignment.parse_conditional_expression_rest.Goals as goal
 
 pub returns-then-not-at : goal.returns-then-not-at
-returns-then-not-at t c = λ text f first a e x. test_alone x (other_kind Question _ (λ k. false≢true (sym c.if-not-at.true ∙ c.at.ensures.1 k)))
+returns-then-not-at t c = λ text f first a e x. test_alone x (other_kind Question _ (λ k. false≢true (sym c.if-not-at.true ∙ c.at.ensures.1 k))) (no_assign_here x.answer.at c.requires.whole c.requires.unassigned)
 
 pub assignment_with_in-requires-clause-at : goal.assignment_with_in-requires-clause-at
 assignment_with_in-requires-clause-at t c = standing (c.in_ok-advance.ensures _ _ c.requires.at).at
