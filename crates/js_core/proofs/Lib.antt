@@ -11,3 +11,4 @@ pub mod Phrases
 pub mod Operands
 pub mod Giving
 pub mod Beginning
+pub mod Statements

@@ -4,3 +4,4 @@ pub mod Answers
 pub mod Nesting
 pub mod Operators
 pub mod Moves
+pub mod Statements

@@ -10,6 +10,7 @@ mod operators;
 mod parse;
 mod primary;
 mod sequence;
+mod statement;
 mod unary;
 
 pub use parse::{parse_assignment_expression_or_higher, parse_expression};

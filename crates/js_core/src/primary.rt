@@ -40,7 +40,7 @@ pub fn parse_primary_expression<C: ParserConfig, N: Nested<C>>(
 }
 
 /// A node of one lexeme.
-fn parse_leaf<C: ParserConfig>(
+pub fn parse_leaf<C: ParserConfig>(
     p: &mut ParserImpl<'_, C>,
     kind: NodeKind,
     op: Op,
