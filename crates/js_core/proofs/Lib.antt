@@ -12,3 +12,4 @@ pub mod Operands
 pub mod Giving
 pub mod Beginning
 pub mod Statements
+pub mod Strings

@@ -5,3 +5,4 @@ pub mod Nesting
 pub mod Operators
 pub mod Moves
 pub mod Statements
+pub mod StatementLists

@@ -11,9 +11,10 @@ mod parse;
 mod primary;
 mod sequence;
 mod statement;
+mod statement_list;
 mod unary;
 
-pub use parse::{parse_assignment_expression_or_higher, parse_expression};
+pub use parse::{parse_assignment_expression_or_higher, parse_expression, parse_statements};
 
 #[cfg(test)]
 mod tests;

@@ -71,7 +71,7 @@ fn parse_expression_statement<C: ParserConfig, N: Nested<C>>(
 }
 
 /// The semicolon of a statement, or none where the grammar permits that (12.10).
-fn end_statement<C: ParserConfig>(p: &mut ParserImpl<'_, C>) -> Result<(), Stop>
+pub fn end_statement<C: ParserConfig>(p: &mut ParserImpl<'_, C>) -> Result<(), Stop>
     requires { Standing p.old }
     ensures { MatchResult result (λ _. EndsStatement p.old p.new) (λ e. Stops p.old p.new e (NoEnd p.old)) }
 {
