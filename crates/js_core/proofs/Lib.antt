@@ -13,3 +13,4 @@ pub mod Giving
 pub mod Beginning
 pub mod Statements
 pub mod Strings
+pub mod Contexts

@@ -59,7 +59,7 @@ plain_given {text} {p} {source} faults k o = go p.cut refl k (same_kind Undeterm
     go false q (no_token before e d x) true h y = nothing q e y.2.none
     go false q (no_token before e d x) false h y = absurd (false≢true (sym h ∙ ap (same_kind Undetermined) e))
 
-flags_same : (p q : Parser) → q.ctx ≡ p.ctx → q.source_type ≡ p.source_type → q.options ≡ p.options → flags_of q ≡ flags_of p
+pub flags_same : (p q : Parser) → q.ctx ≡ p.ctx → q.source_type ≡ p.source_type → q.options ≡ p.options → flags_of q ≡ flags_of p
 flags_same p q c s o = rw (c, s, o) refl
 
 pub same_itself : {p : Parser} → Same p p

@@ -3,6 +3,7 @@ use Rattle.std.proofs.Common.{ℕ, ◌≡◌, ◌≤◌, max, List, [], ◌∷�
 use Rattle.std.specs.Prelude.{Result, Ok, Err}
 use Rattle.std.proofs.lemmas.Bool.{false≢true, or_left, or_right, ltb-true, lt-ltb}
 use Rattle.js_base.specs.declared.kind.Kind.TheVariants.{LBrack, Dot, NoSubstitutionTemplate, TemplateHead, Function, Minus, Plus, Bang, Tilde, Typeof, Void, Delete}
+use Rattle.js_base.specs.declared.kind.Kind.{Kind}
 use Rattle.js_base.specs.Kinds.{same_kind, one_of_kinds}
 use Rattle.js_grammar.specs.Trees.{Slots, end, tree, Label, unary_expression}
 use Rattle.js_grammar.specs.Grammar.{Lexeme, Lexemes, Look, seen, such, nothing, alt, ◌▸◌}
@@ -62,13 +63,13 @@ module _ (n m : Symbol) (h : passes_on n.name m.name ≡ true) (i : n.flags.in_ 
 
 -- what the call answered, as an answer of n
 module _ (n m : Symbol) (h : passes_on n.name m.name ≡ true) (i : n.flags.in_ ≡ m.flags.in_) where
-  pub lift_result : {text : List ℕ} {f : Flags} {p : Parser} (q : Parser) (r : Result NodeId Stop) → Goes rule (Lex text) (after n) end (rule n) p.prev_token_end (such m always) p.prev_token_end (λ us. us) (still 0)
-      → ({id : NodeId} (x : Numbered text f m p q id) → may_end n.name (row_of x.answer.label x.answer.slots) ≡ true)
-      → ({id : NodeId} (x : Numbered text f m p q id) (y : Lexeme) → Lex text q.prev_token_end y → IsTrue (seen (follow n (edge_of x.answer.label x.answer.slots)) y || seen beside y))
+  pub lift_result : (text : List ℕ) (f : Flags) (p q : Parser) (r : Result NodeId Stop) → Goes rule (Lex text) (after n) end (rule n) p.prev_token_end (such m always) p.prev_token_end (λ us. us) (still 0)
+      → ((id : NodeId) (x : Numbered text f m p q id) → may_end n.name (row_of x.answer.label x.answer.slots) ≡ true)
+      → ((id : NodeId) (x : Numbered text f m p q id) (y : Lexeme) → Lex text q.prev_token_end y → IsTrue (seen (follow n (edge_of x.answer.label x.answer.slots)) y || seen beside y))
       → Outcome text f m p q r → Outcome text f n p q r
-  lift_result {text} {p = p} q (Ok id) g r k x = lift n m h i text p.prev_token_end g refl x (r x) (k x)
-  lift_result {text} {p = p} q (Err Fatal) g r k x = record { at = x.at; follows = x.follows; grown = x.grown; none = lift_fails n m h i text p.prev_token_end g x.none }
-  lift_result q (Err NoMemory) g r k x = tt
+  lift_result text f p q (Ok id) g r k x = lift n m h i text p.prev_token_end g refl x (r id x) (k id x)
+  lift_result text f p q (Err Fatal) g r k x = record { at = x.at; follows = x.follows; grown = x.grown; none = lift_fails n m h i text p.prev_token_end g x.none }
+  lift_result text f p q (Err NoMemory) g r k x = tt
 
 -- What binds an operand less than n, binds it less than m, if it is none of these kinds; the checks compute.
 pub narrow_operand : (n m : ℕ) (ks : List Kind) → covers reads (narrowing n m ks true after_expression) ≡ true → covers reads (narrowing n m ks false after_expression) ≡ true → covers reads (narrowing n m ks true after_postfix) ≡ true → covers reads (narrowing n m ks false after_postfix) ≡ true → (b : Bool) (r : Row) → of_operand r ≡ true → covers reads (narrowing n m ks b r) ≡ true
@@ -163,30 +164,39 @@ expression_left f = refl
 -- Answers of a symbol of which only another one is left.
 
 -- an Expression
-pub expression_result : {text : List ℕ} {f : Flags} {p : Parser} (q : Parser) (r : Result NodeId Stop) → Outcome text f (at Assignment f) p q r → Outcome text f (at Expression f) p q r
+pub expression_result : (text : List ℕ) (f : Flags) (p q : Parser) (r : Result NodeId Stop) → Outcome text f (at Assignment f) p q r → Outcome text f (at Expression f) p q r
 unfolding covers
-expression_result {text} {f} {p} q r x = lift_result (at Expression f) (at Assignment f) refl refl q r (by_left (at Expression f) (at Assignment f) (expression_left f) text p.prev_token_end) (λ y. y.answer.row)
-    (λ y z l. narrows 2 1 [] f.in_ (row_of y.answer.label y.answer.slots) (narrow_assignment 2 1 [] (narrow_operand 2 1 [] refl refl refl refl) refl refl refl refl f.in_ (row_of y.answer.label y.answer.slots) y.answer.row) z l.1 refl (y.answer.stops z l)) x
+expression_result text f p q r x = lift_result (at Expression f) (at Assignment f) refl refl text f p q r (by_left (at Expression f) (at Assignment f) (expression_left f) text p.prev_token_end) (λ i y. y.answer.row)
+    (λ i y z l. narrows 2 1 [] f.in_ (row_of y.answer.label y.answer.slots) (narrow_assignment 2 1 [] (narrow_operand 2 1 [] refl refl refl refl) refl refl refl refl f.in_ (row_of y.answer.label y.answer.slots) y.answer.row) z l.1 refl (y.answer.stops z l)) x
 
 -- an AssignmentExpression, which is a ShortCircuitExpression
-pub assignment_result : {text : List ℕ} {f : Flags} {p : Parser} (q : Parser) (r : Result NodeId Stop) → Outcome text f (at Short f) p q r → Outcome text f (at Assignment f) p q r
+assignment_of : {text : List ℕ} {f : Flags} {p q : Parser} {id : NodeId} → Numbered text f (at Short f) p q id → Numbered text f (at Assignment f) p q id
+unfolding covers lift
+assignment_of {text} {f} {p} {q} x =
+    let r = row_of x.answer.label x.answer.slots in
+    let o : of_operand r ≡ true = x.answer.row in
+    let s = p.prev_token_end in
+    lift (at Assignment f) (at Conditional f) refl refl text s (by_left (at Assignment f) (at Conditional f) (assignment_left f) text s) refl
+    (lift (at Conditional f) (at Short f) refl refl text s (by_left (at Conditional f) (at Short f) (conditional_left f) text s) refl x (operand_assigned r o) (λ y l. narrows 4 3 [] f.in_ r (narrow_operand 4 3 [] refl refl refl refl f.in_ r o) y l.1 refl (x.answer.stops y l)))
+    (operand_assigned r o) (λ y l. narrows 4 2 [] f.in_ r (narrow_operand 4 2 [] refl refl refl refl f.in_ r o) y l.1 refl (x.answer.stops y l))
+
+pub assignment_result : (text : List ℕ) (f : Flags) (p q : Parser) (r : Result NodeId Stop) → Outcome text f (at Short f) p q r → Outcome text f (at Assignment f) p q r
 unfolding covers
-assignment_result {text} {f} {p} q r x = lift_result (at Assignment f) (at Conditional f) refl refl q r (by_left (at Assignment f) (at Conditional f) (assignment_left f) text p.prev_token_end) (λ y. y.answer.row)
-    (λ y z l. narrows 3 2 [] f.in_ (row_of y.answer.label y.answer.slots) (narrow_assignment 3 2 [] (narrow_operand 3 2 [] refl refl refl refl) refl refl refl refl f.in_ (row_of y.answer.label y.answer.slots) y.answer.row) z l.1 refl (y.answer.stops z l))
-    (lift_result (at Conditional f) (at Short f) refl refl q r (by_left (at Conditional f) (at Short f) (conditional_left f) text p.prev_token_end) (λ y. operand_assigned _ y.answer.row)
-    (λ y z l. narrows 4 3 [] f.in_ (row_of y.answer.label y.answer.slots) (narrow_operand 4 3 [] refl refl refl refl f.in_ (row_of y.answer.label y.answer.slots) y.answer.row) z l.1 refl (y.answer.stops z l)) x)
+assignment_result text f p q (Ok id) x = assignment_of x
+assignment_result text f p q (Err Fatal) x = record { at = x.at; follows = x.follows; grown = x.grown; none = lift_fails (at Assignment f) (at Conditional f) refl refl text p.prev_token_end (by_left (at Assignment f) (at Conditional f) (assignment_left f) text p.prev_token_end) (lift_fails (at Conditional f) (at Short f) refl refl text p.prev_token_end (by_left (at Conditional f) (at Short f) (conditional_left f) text p.prev_token_end) x.none) }
+assignment_result text f p q (Err NoMemory) x = tt
 
 -- a ShortCircuitExpression, which is a LogicalORExpression
-pub short_result : {text : List ℕ} {f : Flags} {p : Parser} (q : Parser) (r : Result NodeId Stop) → Outcome text f (at Or f) p q r → Outcome text f (at Short f) p q r
+pub short_result : (text : List ℕ) (f : Flags) (p q : Parser) (r : Result NodeId Stop) → Outcome text f (at Or f) p q r → Outcome text f (at Short f) p q r
 unfolding covers
-short_result {text} {f} {p} q r x = lift_result (at Short f) (at Or f) refl refl q r (by_left (at Short f) (at Or f) (short_left f) text p.prev_token_end) (λ y. y.answer.row)
-    (λ y z l. narrows 5 4 [] f.in_ (row_of y.answer.label y.answer.slots) (narrow_operand 5 4 [] refl refl refl refl f.in_ (row_of y.answer.label y.answer.slots) y.answer.row) z l.1 refl (y.answer.stops z l)) x
+short_result text f p q r x = lift_result (at Short f) (at Or f) refl refl text f p q r (by_left (at Short f) (at Or f) (short_left f) text p.prev_token_end) (λ i y. y.answer.row)
+    (λ i y z l. narrows 5 4 [] f.in_ (row_of y.answer.label y.answer.slots) (narrow_operand 5 4 [] refl refl refl refl f.in_ (row_of y.answer.label y.answer.slots) y.answer.row) z l.1 refl (y.answer.stops z l)) x
 
 -- an operand of operators, which is a UnaryExpression
-pub operand_result : {text : List ℕ} {f : Flags} {p : Parser} (q : Parser) (r : Result NodeId Stop) → Outcome text f (at Unary f) p q r → Outcome text f (at Exponent f) p q r
+pub operand_result : (text : List ℕ) (f : Flags) (p q : Parser) (r : Result NodeId Stop) → Outcome text f (at Unary f) p q r → Outcome text f (at Exponent f) p q r
 unfolding covers
-operand_result {text} {f} {p} q r x = lift_result (at Exponent f) (at Unary f) refl refl q r (by_left (at Exponent f) (at Unary f) (exponent_left f) text p.prev_token_end) (λ y. y.answer.row)
-    (λ y z l. narrows 16 15 [] f.in_ (row_of y.answer.label y.answer.slots) (narrow_operand 16 15 [] refl refl refl refl f.in_ (row_of y.answer.label y.answer.slots) y.answer.row) z l.1 refl (y.answer.stops z l)) x
+operand_result text f p q r x = lift_result (at Exponent f) (at Unary f) refl refl text f p q r (by_left (at Exponent f) (at Unary f) (exponent_left f) text p.prev_token_end) (λ i y. y.answer.row)
+    (λ i y z l. narrows 16 15 [] f.in_ (row_of y.answer.label y.answer.slots) (narrow_operand 16 15 [] refl refl refl refl f.in_ (row_of y.answer.label y.answer.slots) y.answer.row) z l.1 refl (y.answer.stops z l)) x
 
 -- where no unary operator stands
 no_operator : {text : List ℕ} {f : Flags} {p : Parser} → At text f p → one_of_kinds unary_kinds p.token.kind ≡ false → Goes rule (Lex text) (after (at Unary f)) end (rule (at Unary f)) p.prev_token_end (such (at Update f) always) p.prev_token_end (λ us. us) (still 0)
@@ -195,13 +205,13 @@ no_operator {text} {f} {p} a n = subst (λ (g : G). Goes rule (Lex text) (after 
 
 pub unary_result : {text : List ℕ} {f : Flags} {p : Parser} (q : Parser) (r : Result NodeId Stop) → At text f p → one_of_kinds unary_kinds p.token.kind ≡ false → Outcome text f (at Update f) p q r → Outcome text f (at Unary f) p q r
 unfolding covers
-unary_result {f = f} q r a n x = lift_result (at Unary f) (at Update f) refl refl q r (no_operator a n) (λ y. y.answer.row) (λ y z l. y.answer.stops z l) x
+unary_result {text} {f} {p} q r a n x = lift_result (at Unary f) (at Update f) refl refl text f p q r (no_operator a n) (λ i y. y.answer.row) (λ i y z l. y.answer.stops z l) x
 
 -- an UpdateExpression, which is a LeftHandSideExpression
-pub update_result : {text : List ℕ} {f : Flags} {p : Parser} (q : Parser) (r : Result NodeId Stop) → Outcome text f (at LeftHandSide f) p q r → Outcome text f (at Update f) p q r
+pub update_result : (text : List ℕ) (f : Flags) (p q : Parser) (r : Result NodeId Stop) → Outcome text f (at LeftHandSide f) p q r → Outcome text f (at Update f) p q r
 unfolding covers
-update_result {text} {f} {p} q r x = lift_result (at Update f) (at LeftHandSide f) refl refl q r (by_left (at Update f) (at LeftHandSide f) (update_left f) text p.prev_token_end) (λ y. primary_operand _ y.answer.row)
-    (λ y z l. subst (λ (w : Row). IsTrue (seen (looser 16 f.in_ w) z || seen beside z)) (sym (plain_row (row_of y.answer.label y.answer.slots) y.answer.row)) (narrows 17 16 [] f.in_ after_expression (narrow_operand 17 16 [] refl refl refl refl f.in_ after_expression refl) z l.1 refl (y.answer.stops z l))) x
+update_result text f p q r x = lift_result (at Update f) (at LeftHandSide f) refl refl text f p q r (by_left (at Update f) (at LeftHandSide f) (update_left f) text p.prev_token_end) (λ i y. primary_operand _ y.answer.row)
+    (λ i y z l. subst (λ (w : Row). IsTrue (seen (looser 16 f.in_ w) z || seen beside z)) (sym (plain_row (row_of y.answer.label y.answer.slots) y.answer.row)) (narrows 17 16 [] f.in_ after_expression (narrow_operand 17 16 [] refl refl refl refl f.in_ after_expression refl) z l.1 refl (y.answer.stops z l))) x
 
 -- a LeftHandSideExpression, which is a PrimaryExpression
 abbrev behind_member : Look
@@ -219,8 +229,8 @@ unfolding covers
 no_links true = refl
 no_links false = refl
 
-pub lhs_result : {text : List ℕ} {f : Flags} {p : Parser} (q : Parser) (r : Result NodeId Stop) → Outcome text f (at Primary f) p q r → Outcome text f (at LeftHandSide f) p q r
+pub lhs_result : (text : List ℕ) (f : Flags) (p q : Parser) (r : Result NodeId Stop) → Outcome text f (at Primary f) p q r → Outcome text f (at LeftHandSide f) p q r
 unfolding covers
-lhs_result {text} {f} {p} q r x = lift_result (at LeftHandSide f) (at New f) refl refl q r (by_left (at LeftHandSide f) (at New f) (lefthandside_left f) text p.prev_token_end) (λ y. y.answer.row) (λ y z l. y.answer.stops z l)
-    (lift_result (at New f) (at Member f) refl refl q r (by_left (at New f) (at Member f) (new_left f) text p.prev_token_end) (λ y. y.answer.row) (λ y z l. covered reads (no_link f.in_) (no_links f.in_) z.kind z.newline z.escaped l.1)
-    (lift_result (at Member f) (at Primary f) refl refl q r (by_left (at Member f) (at Primary f) (member_left f) text p.prev_token_end) (λ y. y.answer.row) (λ y z l. stops_member f.in_ y.answer.label y.answer.slots text q.prev_token_end z l) x))
+lhs_result text f p q r x = lift_result (at LeftHandSide f) (at New f) refl refl text f p q r (by_left (at LeftHandSide f) (at New f) (lefthandside_left f) text p.prev_token_end) (λ i y. y.answer.row) (λ i y z l. y.answer.stops z l)
+    (lift_result (at New f) (at Member f) refl refl text f p q r (by_left (at New f) (at Member f) (new_left f) text p.prev_token_end) (λ i y. y.answer.row) (λ i y z l. covered reads (no_link f.in_) (no_links f.in_) z.kind z.newline z.escaped l.1)
+    (lift_result (at Member f) (at Primary f) refl refl text f p q r (by_left (at Member f) (at Primary f) (member_left f) text p.prev_token_end) (λ i y. y.answer.row) (λ i y z l. stops_member f.in_ y.answer.label y.answer.slots text q.prev_token_end z l) x))

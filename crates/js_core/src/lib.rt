@@ -2,6 +2,7 @@
 #![tactic(auto)]
 
 mod assignment;
+mod context;
 mod left_hand_side;
 mod lexemes;
 mod nested;
@@ -14,7 +15,7 @@ mod statement;
 mod statement_list;
 mod unary;
 
-pub use parse::{parse_assignment_expression_or_higher, parse_expression, parse_statements};
+pub use parse::{Parser, parse_assignment_expression_or_higher, parse_expression, parse_statements};
 
 #[cfg(test)]
 mod tests;

@@ -6,7 +6,7 @@ ghost use Rattle.js_core.specs.Answers.{Answers};
 ghost use Rattle.js_core.specs.Nesting.{Reads};
 
 use js_cursor::{ParserImpl, Stop};
-use js_lex::ParserConfig;
+use js_lex::{ParserConfig, RuntimeParserConfig};
 use js_tree::NodeId;
 
 /// What is to be read where a production nests.
@@ -37,22 +37,23 @@ pub trait Nested<C: ParserConfig> {
         ensures { Answers (at Unary) p.old p.new result };
 }
 
-/// A function that reads whatever is asked for.
+/// A function that reads whatever is asked for. It is one over the config that is told when the program runs: a bound on
+/// a function over any config can't be stated yet.
 #[derive(Clone, Copy)]
 pub struct By<F>(pub F);
 
-impl<C: ParserConfig, F: Fn(&mut ParserImpl<'_, C>, Goal) -> Result<NodeId, Stop>> Nested<C>
-    for By<F>
-{
+impl<F: Fn(&mut ParserImpl<'_, RuntimeParserConfig>, Goal) -> Result<NodeId, Stop>> Nested<
+    RuntimeParserConfig,
+> for By<F> {
     ghost can = { λ s p goal. Reads (F.pre s.0) (F.post s.0) p goal };
 
     #[inline(always)]
-    fn assignment(&self, p: &mut ParserImpl<'_, C>) -> Result<NodeId, Stop> {
+    fn assignment(&self, p: &mut ParserImpl<'_, RuntimeParserConfig>) -> Result<NodeId, Stop> {
         (self.0)(p, Goal::Assignment)
     }
 
     #[inline(always)]
-    fn unary(&self, p: &mut ParserImpl<'_, C>) -> Result<NodeId, Stop> {
+    fn unary(&self, p: &mut ParserImpl<'_, RuntimeParserConfig>) -> Result<NodeId, Stop> {
         (self.0)(p, Goal::Unary)
     }
 }

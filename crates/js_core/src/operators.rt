@@ -1,6 +1,6 @@
 //! Operators between two operands (ECMA-262, sections 13.6 to 13.13).
 
-ghost use Rattle.std.specs.Prelude.{◌≡◌, ◌≤◌, ◌-◌, ◌∷◌, [], Some, IfOk};
+ghost use Rattle.std.specs.Prelude.{◌≡◌, ◌≤◌, ◌-◌, ◌∷◌, [], true, Some, IfOk};
 ghost use Rattle.js_grammar.specs.Levels.{level_at};
 ghost use Rattle.js_grammar.specs.Productions.{at, Short};
 ghost use Rattle.js_core.specs.Answers.{Answers};

@@ -14,11 +14,14 @@ use crate::sequence::parse_sequence_expression;
 use crate::statement_list::parse_directives_and_statements;
 use crate::unary::parse_unary_expression_or_higher;
 use js_cursor::{ParserImpl, Stop};
-use js_lex::ParserConfig;
+use js_lex::{ParserConfig, RuntimeParserConfig};
 use js_tree::NodeId;
 
+/// A parser that is told when the program runs whether it keeps the tokens.
+pub type Parser<'a> = ParserImpl<'a, RuntimeParserConfig>;
+
 /// Reads what is asked for, where productions nest by `nested`.
-fn parse_goal<C: ParserConfig, N: Nested<C>>(
+pub(crate) fn parse_goal<C: ParserConfig, N: Nested<C>>(
     p: &mut ParserImpl<'_, C>,
     nested: &N,
     goal: Goal,
@@ -34,20 +37,18 @@ fn parse_goal<C: ParserConfig, N: Nested<C>>(
 }
 
 /// Reads what is asked for, one level deeper.
-fn parse<C: ParserConfig>(p: &mut ParserImpl<'_, C>, goal: Goal) -> Result<NodeId, Stop>
+fn parse(p: &mut Parser<'_>, goal: Goal) -> Result<NodeId, Stop>
     requires { Standing p.old }
     ensures { Answers (symbol_of goal) p.old p.new result }
 {
     p.enter()?;
-    let node = parse_goal(p, &By(parse::<C>), goal)?;
+    let node = parse_goal(p, &By(parse), goal)?;
     p.leave();
     Ok(node)
 }
 
 /// An AssignmentExpression (ECMA-262, section 13.15).
-pub fn parse_assignment_expression_or_higher<C: ParserConfig>(
-    p: &mut ParserImpl<'_, C>,
-) -> Result<NodeId, Stop>
+pub fn parse_assignment_expression_or_higher(p: &mut Parser<'_>) -> Result<NodeId, Stop>
     requires { Standing p.old }
     ensures { Answers (at Assignment) p.old p.new result }
 {
@@ -55,20 +56,18 @@ pub fn parse_assignment_expression_or_higher<C: ParserConfig>(
 }
 
 /// An Expression (ECMA-262, section 13.16).
-pub fn parse_expression<C: ParserConfig>(p: &mut ParserImpl<'_, C>) -> Result<NodeId, Stop>
+pub fn parse_expression(p: &mut Parser<'_>) -> Result<NodeId, Stop>
     requires { Standing p.old }
     ensures { Answers (at Expression) p.old p.new result }
 {
-    parse_sequence_expression(p, &By(parse::<C>))
+    parse_sequence_expression(p, &By(parse))
 }
 
 /// The directives and the statements of a text, up to its end (ECMA-262, sections 16.1 and 16.2).
-pub fn parse_statements<C: ParserConfig>(
-    p: &mut ParserImpl<'_, C>,
-) -> Result<Vec<Option<NodeId>>, Stop>
+pub fn parse_statements(p: &mut Parser<'_>) -> Result<Vec<Option<NodeId>>, Stop>
     requires at { Standing p.old }
     requires allows_in { has_flag in_flag p.old.ctx ≡ true }
     ensures { MatchResult result (λ v. AllTaken p.old p.new v.items) (λ e. AllRefused p.old p.new e) }
 {
-    parse_directives_and_statements(p, &By(parse::<C>))
+    parse_directives_and_statements(p, &By(parse))
 }

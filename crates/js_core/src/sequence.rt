@@ -5,8 +5,8 @@ ghost use Rattle.js_core.specs.Answers.{Answers};
 ghost use Rattle.js_core.specs.Nesting.{CanNest, room};
 ghost use Rattle.js_core.specs.States.{Standing};
 
-use crate::nested::Nested;
 use crate::assignment::parse_assignment_expression;
+use crate::nested::Nested;
 use js_cursor::{ParserImpl, Stop};
 use js_lex::ParserConfig;
 use js_tree::NodeId;

@@ -3,14 +3,12 @@
 ghost use Rattle.std.specs.Prelude.{IfSome};
 ghost use Rattle.js_core.specs.States.{Standing};
 
-use crate::parse_assignment_expression_or_higher;
+use crate::{Parser, parse_assignment_expression_or_higher};
 use js_base::{Kind, MAX_LEN, ParseOptions, SourceType, Span};
-use js_cursor::{ParserImpl, Stop};
-use js_lex::NoTokensParserConfig;
+use js_cursor::Stop;
+use js_lex::RuntimeParserConfig;
 use js_tree::NodeId;
 use std::alloc::Global;
-
-type Parser<'a> = ParserImpl<'a, NoTokensParserConfig>;
 
 /// A text, and the lines of its tree, whose statement is left out.
 static READ: [(&str, &str); 20] = [
@@ -100,7 +98,7 @@ fn start(alloc: Global, source: &str) -> Option<Parser<'_>>
         source,
         SourceType::script(),
         ParseOptions::default(),
-        NoTokensParserConfig,
+        RuntimeParserConfig::default(),
     );
     let Ok(p) = made else {
         return None;

@@ -2,4 +2,4 @@ use Rattle.js_core.specs.Nesting.{room}
 use Rattle.js_core.proofs.parse.+parse.Given as goal
 
 abbrev pub decreases-parse : goal.decreases-parse
-decreases-parse g l = room l.p.now
+decreases-parse l = room l.p.now

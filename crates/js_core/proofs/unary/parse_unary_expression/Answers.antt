@@ -1,4 +1,4 @@
-use Rattle.std.proofs.Common.{◌∙◌, arith}
+use Rattle.std.proofs.Common.{◌∙◌, refl, arith}
 use Rattle.std.proofs.lemmas.Result.{err_from_is_err_and}
 use Rattle.js_core.proofs.Moving.{standing, stops_behind}
 use Rattle.js_core.proofs.Nesting.{nested_room}
@@ -6,8 +6,8 @@ use Rattle.js_core.proofs.Verdicts.{grown_then}
 use Rattle.js_core.proofs.Operands.{row_here, unary_outcome, unary_fails}
 use Rattle.js_core.proofs.unary.parse_unary_expression.Goals as goal
 
-pub unary-argument-requires : goal.unary-argument-requires
-unary-argument-requires t c = let m = c.in_ok-advance.ensures _ _ c.requires.at in c.requires.nests _ _ (standing m.at) (nested_room c.requires.at m)
+pub unary-requires : goal.unary-requires
+unary-requires t c = let m = c.in_ok-advance.ensures _ _ c.requires.at in c.requires.nests _ _ (standing m.at) (nested_room c.requires.at m)
 
 pub returns-in_err-argument : goal.returns-in_err-argument
 returns-in_err-argument t c = λ text f a.
