@@ -14,3 +14,4 @@ pub mod Beginning
 pub mod Statements
 pub mod Strings
 pub mod Contexts
+pub mod StatementLists

@@ -11,7 +11,7 @@ use Rattle.js_base.proofs.KindLemmas.{kind_of_same}
 use Rattle.js_base.specs.Texts.{words}
 use Rattle.js_grammar.specs.Words.{'let', 'async', 'function', 'class'}
 use Rattle.js_grammar.specs.Trees.{Label, Slots, end, tree, no_op, empty_statement, expression_statement}
-use Rattle.js_grammar.specs.Grammar.{Lexeme, Lexemes, Look, here, seen, is, may_omit, lexeme, look, ahead, seq, alt, such, ended, semicolon, nothing, ◌▸◌}
+use Rattle.js_grammar.specs.Grammar.{Lexeme, Lexemes, Look, here, seen, is, may_omit, lexeme, look, ahead, seq, alt, such, ended, semicolon, nothing, ◌▸◌, Takes}
 use Rattle.js_grammar.specs.Insertion.{Row, goes_on, by_edge}
 use Rattle.js_grammar.specs.Lexemes.{is_escaped}
 use Rattle.js_grammar.specs.Parsing.{Test, plain, behind, full, always, still, Goes, Reads, Fails}
@@ -211,7 +211,7 @@ module _ {text : List ℕ} {f : Flags} {q : Parser} (a : At text f q) where
       omitted y l true e h = closed y l e
       omitted y l false e h = m (inr (sym (newline_here a y l) ∙ h))
 
-  unended : (p : Look) → NoEnd q → Fails rule (Lex text) (plain no_link) end (semicolon p) q.prev_token_end
+  pub unended : (p : Look) → NoEnd q → Fails rule (Lex text) (plain no_link) end (semicolon p) q.prev_token_end
   unended p (inl v) = linked p v
   unended p (inr m) = not_ended p m
 
@@ -229,24 +229,33 @@ ended_so {text} {f} {q} {r} a (v, inr (n, m, e)) = subst (λ (v : Parser). Ended
 -- ---- expressions, up to their semicolon
 
 module _ {text : List ℕ} {f : Flags} where
-  to_semicolon : {p q : Parser} → (x : Answer text f (at Expression f) p q) → Path text f (plain no_link) (ended by_edge (symbol Expression f)) p (semicolon (goes_on (row_of x.label x.slots))) q (tree x.label x.slots)
-  to_semicolon x = record {
+  -- of an expression, or of what is one
+  pub to_semicolon : {g : G} {p q : Parser} {l : Label} {cs : Slots} → ((ds : Slots) (i j : ℕ) (ls mid : Lexemes) → Takes rule g end ds i ls end j mid → Takes rule (symbol Expression f) end ds i ls end j mid) → Path text f (after (at Expression f)) g p nothing q (tree l cs) → Path text f (plain no_link) (ended by_edge g) p (semicolon (goes_on (row_of l cs))) q (tree l cs)
+  to_semicolon {g} {p} up x = record {
     at = x.at;
     further = x.further;
     pass = x.pass;
     walked = x.walked;
     verdict = verdict_of x.verdict
-        (λ y. record { reach = y.reach; near = y.near; goes = ends_by y.goes (λ us. refl) (λ y l. refl) (λ cs j ls mid l d h. expression_ended f no_link d (here ls) h) })
-        (λ n. fails_ended n (λ cs j ls mid l d h. expression_ended f no_link d (here ls) h));
+        (λ y. record { reach = y.reach; near = y.near; goes = ends_by y.goes (λ us. refl) (λ y l. refl) (λ ds j ls mid l d h. expression_ended f no_link (up ds p.prev_token_end j ls mid d) (here ls) h) })
+        (λ n. fails_ended n (λ ds j ls mid l d h. expression_ended f no_link (up ds p.prev_token_end j ls mid d) (here ls) h));
   }
+
+  -- the expression that was read
+  pub expression_path : {p q : Parser} → (x : Answer text f (at Expression f) p q) → Path text f (after (at Expression f)) (symbol Expression f) p nothing q (tree x.label x.slots)
+  expression_path x = record { at = x.at; further = x.further; pass = x.pass; walked = x.walked; verdict = x.verdict }
 
   -- where `in` is an operator, as in every statement
   line_stops : {p q : Parser} → f.in_ ≡ true → (x : Answer text f (at Expression f) p q) → (y : Lexeme) → Lex text q.prev_token_end y → IsTrue (seen (looser 1 true (row_of x.label x.slots)) y || seen beside y)
   line_stops i x y l = subst (λ (b : Bool). IsTrue (seen (looser 1 b (row_of x.label x.slots)) y || seen beside y)) i (x.stops y l)
 
+  -- and its end
+  pub end_path : {g : G} {p q r : Parser} → f.in_ ≡ true → (x : Answer text f (at Expression f) p q) → EndsStatement q r → Path text f (plain no_link) g p (semicolon (goes_on (row_of x.label x.slots))) q (tree x.label x.slots) → Path text f (plain no_link) g p nothing r (tree x.label x.slots)
+  end_path i x (v, inl (k, m)) t = t ⟶ semicolon_path x.at (goes_on (row_of x.label x.slots)) k (moves (whole_semicolon x.at k) m x.at)
+  end_path {g} {p} i x (v, inr (n, m, e)) t = subst (λ (w : Parser). Path text f (plain no_link) g p nothing w (tree x.label x.slots)) (sym e) (t ⟝ by_omission (goes_on (row_of x.label x.slots)) (omits x.at (row_of x.label x.slots) (line_stops i x) v m n))
+
   ended_path : {p q r : Parser} → f.in_ ≡ true → (x : Answer text f (at Expression f) p q) → EndsStatement q r → Path text f (plain no_link) (ended by_edge (symbol Expression f)) p nothing r (tree x.label x.slots)
-  ended_path i x (v, inl (k, m)) = to_semicolon x ⟶ semicolon_path x.at (goes_on (row_of x.label x.slots)) k (moves (whole_semicolon x.at k) m x.at)
-  ended_path {p} i x (v, inr (n, m, e)) = subst (λ (w : Parser). Path text f (plain no_link) (ended by_edge (symbol Expression f)) p nothing w (tree x.label x.slots)) (sym e) (to_semicolon x ⟝ by_omission (goes_on (row_of x.label x.slots)) (omits x.at (row_of x.label x.slots) (line_stops i x) v m n))
+  ended_path i x e = end_path i x e (to_semicolon (λ ds i j ls mid d. d) (expression_path x))
 
 -- ---- what stands before
 
@@ -307,7 +316,14 @@ by_statement {text} {f} {n} {p} {q} {w} {l} {cs} {id} a b e h k = go w.nodes e h
     go ns e h k =
         let y : Path text f (after_statement n) (such n always) p nothing q (tree l cs) = by_symbol_as {X' = after_statement n} (λ l cs vs y d. d) a in
         subst (λ (r : Parser). Statement text f n p r id) (sym e) (record {
-          at = beside_nodes ns y.at; same = same_both b (same_nodes ns y.at.at); further = y.further; label = l; slots = cs; pass = y.pass; walked = y.walked; verdict = y.verdict;
+          at = beside_nodes ns y.at;
+          same = same_both b (same_nodes ns y.at.at);
+          further = y.further;
+          label = l;
+          slots = cs;
+          pass = y.pass;
+          walked = y.walked;
+          verdict = y.verdict;
           holds = subst (λ (r : Parser). Holds r.nodes (length p.nodes) (length r.nodes) id.0 l cs) e h;
           keeps = subst (λ (r : Parser). Keeps p.nodes r.nodes) e k;
         })
@@ -329,7 +345,7 @@ module _ {text : List ℕ} {f : Flags} {p : Parser} (a : At text f p) where
   empty_outcome q (Err NoMemory) e m = tt
 
   module _ (n : p.token.kind ≡ Semicolon → ⊥) where
-    statement_path : {q r : Parser} → f.in_ ≡ true → (x : Answer text f (at Expression f) p q) → EndsStatement q r → Path text f (after_statement (at ListItem f)) (rule (at ListItem f)) p nothing r (tree (label_here expression_statement no_op p r) (tree x.label x.slots end))
+    pub statement_path : {q r : Parser} → f.in_ ≡ true → (x : Answer text f (at Expression f) p q) → EndsStatement q r → Path text f (after_statement (at ListItem f)) (rule (at ListItem f)) p nothing r (tree (label_here expression_statement no_op p r) (tree x.label x.slots end))
     unfolding rule rule_of covers
     statement_path i x e = to_statement a n ⟼ by_symbol_as {X' = plain no_link} (λ l cs vs y d. ((and_parts _ _ d.0).0, refl)) (noded_by a (inside_plain refl) (to_expression f p.prev_token_end ⟼ ended_path i x e))
 
@@ -348,7 +364,7 @@ module _ {text : List ℕ} {f : Flags} {p : Parser} (a : At text f p) where
 
     pub statement_unended : {q : Parser} → Answer text f (at Expression f) p q → NoEnd q → NoStatement text (at ListItem f) p.prev_token_end
     unfolding rule rule_of covers
-    statement_unended {q} x m = no_symbol (to_statement a n ▹✗ fails_rule {X' = plain no_link} (λ l cs vs y e. ((and_parts _ _ e.0).0, refl)) (fails_node (inside_plain refl) (to_expression f p.prev_token_end ▹✗ (to_semicolon x ⟶✗ unended x.at (goes_on (row_of x.label x.slots)) m))))
+    statement_unended {q} x m = no_symbol (to_statement a n ▹✗ fails_rule {X' = plain no_link} (λ l cs vs y e. ((and_parts _ _ e.0).0, refl)) (fails_node (inside_plain refl) (to_expression f p.prev_token_end ▹✗ (to_semicolon (λ ds i j ls mid d. d) (expression_path x) ⟶✗ unended x.at (goes_on (row_of x.label x.slots)) m))))
 
 -- `in` is an operator by the parameters
 pub in_of : {text : List ℕ} {f : Flags} {p : Parser} → At text f p → has_flag in_flag p.ctx ≡ true → f.in_ ≡ true

@@ -1,11 +1,12 @@
 -- A string alone: an expression that is a string is nothing else, and a string is an expression.
 use Rattle.std.proofs.Common.{ℕ, ◌≡◌, Bool, true, false, not, ◌&&◌, ◌||◌, IsTrue, nat_eq, refl, sym, ap, subst, ◌∙◌}
 use Rattle.std.proofs.lemmas.Bool.{false≢true, and_parts, eqb-true}
+use Rattle.js_grammar.specs.Conditions.{not_string}
 use Rattle.js_base.specs.declared.kind.Kind.TheVariants.{Str}
-use Rattle.js_grammar.specs.Trees.{NodeKind, string_literal, Op, no_op, Label, Slots, end, hole, tree}
-use Rattle.js_grammar.specs.Grammar.{Lexemes, Look, Make, Extent, exact, label_of, is, lexeme, alt, when, such, node, Takes, is_lexeme, is_left, is_right, is_when, is_such, is_node}
+use Rattle.js_grammar.specs.Trees.{Span, NodeKind, string_literal, expression_statement, Op, no_op, Label, Slots, end, hole, tree, append, Tree}
+use Rattle.js_grammar.specs.Grammar.{Lexemes, Look, Make, Extent, exact, label_of, here, seen, semicolon, is, lexeme, look, ahead, seq, alt, when, such, node, ended, keep, Takes, is_lexeme, is_look, is_ahead, is_seq, is_left, is_right, is_when, is_such, is_node, is_ended, is_keep}
 use Rattle.js_grammar.specs.Parsing.{always}
-use Rattle.js_grammar.specs.Productions.{G, Flags, Name, Symbol, at, Expression, Assignment, Yield, Arrow', Conditional, Short, Coalesce, Or, And, BitOr, BitXor, BitAnd, Equality, Relational, Shift, Additive, Multiply, Exponent, Unary, Update, LeftHandSide, New, Member, Call, Chain, Primary, Template, IdentifierReference, Object, FuncExpr, ClassExpr}
+use Rattle.js_grammar.specs.Productions.{G, Flags, Name, Symbol, at, Item, ListItem, Statement, ExprStmt, Block, Empty, Var, If, Do, While, With, For, ForIn, ForOf, Continue, Break, Return, Throw, Switch, Try, Debugger, Labeled, Function, Class, Lexical, ImportDecl, ExportDecl, Expression, Assignment, Yield, Arrow', Conditional, Short, Coalesce, Or, And, BitOr, BitXor, BitAnd, Equality, Relational, Shift, Additive, Multiply, Exponent, Unary, Update, LeftHandSide, New, Member, Call, Chain, Primary, Template, IdentifierReference, Object, FuncExpr, ClassExpr}
 use Rattle.js_grammar.specs.Productions.{sym as symbol}
 use Rattle.js_grammar.specs.Table.{rule, rule_of, string}
 use Rattle.js_grammar.proofs.Looks.{covers, covered}
@@ -29,7 +30,7 @@ string_node = record { kind = string_literal; op = no_op; flags = 0; extent = ex
 abbrev is_string_node : Make → Bool
 is_string_node m = is_literal m.kind && (has_no_op m.op && (nat_eq m.flags 0 && is_exact m.extent))
 
-literal_kind : (k : NodeKind) → is_literal k ≡ true → k ≡ string_literal
+pub literal_kind : (k : NodeKind) → is_literal k ≡ true → k ≡ string_literal
 literal_kind string_literal h = refl
 literal_kind _ h = absurd (false≢true h)
 
@@ -189,3 +190,194 @@ string_expression {f} (is_node (is_lexeme p)) = is_such (is_left (is_such (is_le
 
 pub first_is_string : {ks ts us : Slots} {i j : ℕ} {ls rest : Lexemes} → Takes rule string ks ts i ls us j rest → string_first ts ≡ true
 first_is_string (is_node d) = refl
+
+-- ---- statements of a string alone
+
+abbrev is_statement : NodeKind → Bool
+is_statement expression_statement = true
+is_statement _ = false
+
+-- it takes lexemes alone
+abbrev quiet : G → Bool
+quiet (lexeme p) = true
+quiet (look p) = true
+quiet (seq a b) = quiet a && quiet b
+quiet g = false
+
+-- it takes nothing
+abbrev skips : G → Bool
+skips (look p) = true
+skips (ahead a) = quiet a
+skips (alt a b) = skips a && skips b
+skips g = false
+
+-- it begins with an expression that a semicolon ends
+abbrev ends_expression : G → Bool
+ends_expression (seq a b) = skips a && ends_expression b
+ends_expression (ended rows a) = simple a
+ends_expression g = false
+
+abbrev in_statement : Name → Bool
+in_statement Item = true
+in_statement ListItem = true
+in_statement Statement = true
+in_statement ExprStmt = true
+in_statement Block = true
+in_statement Empty = true
+in_statement Var = true
+in_statement If = true
+in_statement Do = true
+in_statement While = true
+in_statement With = true
+in_statement For = true
+in_statement ForIn = true
+in_statement ForOf = true
+in_statement Continue = true
+in_statement Break = true
+in_statement Return = true
+in_statement Throw = true
+in_statement Switch = true
+in_statement Try = true
+in_statement Debugger = true
+in_statement Labeled = true
+in_statement Function = true
+in_statement Class = true
+in_statement Lexical = true
+in_statement ImportDecl = true
+in_statement ExportDecl = true
+in_statement _ = false
+
+-- a node that is no statement of an expression
+abbrev no_statement : G → Bool
+no_statement (node m a) = not (is_statement m.kind)
+no_statement g = false
+
+-- Each choice is a node, or a statement; one of an expression begins with that.
+abbrev stating : G → Bool
+stating (seq a b) = skips a && stating b
+stating (alt a b) = stating a && stating b
+stating (when c a) = stating a
+stating (such n c) = in_statement n.name
+stating (node m a) = not (is_statement m.kind) || ends_expression a
+stating (keep a b) = no_statement b
+stating g = false
+
+stating_at : (n : Name) (f : Flags) → in_statement n ≡ true → stating (rule_of n f) ≡ true
+unfolding rule_of covers
+stating_at Item f h = refl
+stating_at ListItem f h = refl
+stating_at Statement f h = refl
+stating_at ExprStmt f h = refl
+stating_at Block f h = refl
+stating_at Empty f h = refl
+stating_at Var f h = refl
+stating_at If f h = refl
+stating_at Do f h = refl
+stating_at While f h = refl
+stating_at With f h = refl
+stating_at For f h = refl
+stating_at ForIn f h = refl
+stating_at ForOf f h = refl
+stating_at Continue f h = refl
+stating_at Break f h = refl
+stating_at Return f h = refl
+stating_at Throw f h = refl
+stating_at Switch f h = refl
+stating_at Try f h = refl
+stating_at Debugger f h = refl
+stating_at Labeled f h = refl
+stating_at Function f h = refl
+stating_at Class f h = refl
+stating_at Lexical f h = refl
+stating_at ImportDecl f h = refl
+stating_at ExportDecl f h = refl
+stating_at _ f h = absurd (false≢true h)
+
+stating_line : (n : Symbol) → in_statement n.name ≡ true → stating (rule n) ≡ true
+unfolding rule
+stating_line n h = stating_at n.name n.flags h
+
+quietly : (g : G) {ks ts us : Slots} {i j : ℕ} {ls rest : Lexemes} → Takes rule g ks ts i ls us j rest → quiet g ≡ true → ts ≡ us
+quietly (lexeme p) (is_lexeme q) h = refl
+quietly (look p) (is_look q) h = refl
+quietly (seq a b) (is_seq d e) h = let z = and_parts (quiet a) (quiet b) h in quietly a d z.0 ∙ quietly b e z.1
+quietly _ d h = absurd (false≢true h)
+
+skipped : (g : G) {ks ts us : Slots} {i j : ℕ} {ls rest : Lexemes} → Takes rule g ks ts i ls us j rest → skips g ≡ true → (ts ≡ us) × (ls ≡ rest)
+skipped (look p) (is_look q) h = (refl, refl)
+skipped (ahead a) (is_ahead d) h = (quietly a d h, refl)
+skipped (alt a b) (is_left d) h = skipped a d (and_parts (skips a) (skips b) h).0
+skipped (alt a b) (is_right d) h = skipped b d (and_parts (skips a) (skips b) h).1
+skipped _ d h = absurd (false≢true h)
+
+abbrev begins_string : Lexemes → Type 0
+begins_string ls = IsTrue (seen (is Str) (here ls))
+
+string_begins : {ks ts us : Slots} {i j : ℕ} {ls rest : Lexemes} → Takes rule string ks ts i ls us j rest → begins_string ls
+string_begins (is_node (is_lexeme p)) = p
+
+ended_string : (g : G) {ks ts us : Slots} {i j : ℕ} {ls rest : Lexemes} → Takes rule g ks ts i ls us j rest → ends_expression g ≡ true → string_first ts ≡ true → begins_string ls
+ended_string (seq a b) (is_seq d e) h q = let z = and_parts (skips a) (ends_expression b) h in let s = skipped a d z.0 in subst (λ (v : Lexemes). begins_string v) (sym s.1) (ended_string b e z.1 (subst (λ (v : Slots). string_first v ≡ true) s.0 q))
+ended_string (ended rows a) (is_ended {cs = cs} {us = us} p d e) h q = by_slots a cs us _ d h (subst (λ (v : Slots). string_first v ≡ true) p q) e
+  where
+    by_slots : (a : G) (cs us : Slots) {ks vs : Slots} {i j k : ℕ} {ls mid rest : Lexemes} (w : Look) → Takes rule a ks cs i ls end j mid → simple a ≡ true → string_first (append cs us) ≡ true → Takes rule (semicolon w) ks us j mid vs k rest → begins_string ls
+    by_slots a (tree l ds us') us w d h q e = string_begins (alone a d h q)
+    by_slots a end us w d h q e = absurd (takes_some a d h)
+      where
+        takes_some : (a : G) {ks : Slots} {i j : ℕ} {ls mid : Lexemes} → Takes rule a ks end i ls end j mid → simple a ≡ true → ⊥
+        takes_some (alt a b) (is_left d) h = takes_some a d (and_parts (simple a) (simple b) h).0
+        takes_some (alt a b) (is_right d) h = takes_some b d (and_parts (simple a) (simple b) h).1
+        takes_some (when c a) (is_when t d) h = takes_some a d h
+        takes_some (such n c) d h = elim d [ ]
+        takes_some (node m a) d h = elim d [ ]
+        takes_some _ d h = absurd (false≢true h)
+    by_slots a (hole ds) us w d h q e = absurd (false≢true q)
+ended_string _ d h q = absurd (false≢true h)
+
+-- the first slot is a statement of a string alone
+abbrev pub string_stated : Slots → Bool
+string_stated (tree l cs us) = not (not_string (record { label = l; slots = cs }))
+string_stated us = false
+
+literal_first : (k : NodeKind) (o : Op) (fl : ℕ) (sp : Span) (m : Label) (ds : Slots) → not_string (record { label = record { kind = expression_statement; op = m.op; flags = m.flags; span = m.span }; slots = tree (record { kind = k; op = o; flags = fl; span = sp }) ds end }) ≡ false → is_literal k ≡ true
+literal_first string_literal o fl sp m ds h = refl
+literal_first _ o fl sp m ds h = absurd (false≢true (sym h))
+
+parts_of : (k : NodeKind) (o : Op) (fl : ℕ) (sp : Span) (cs : Slots) → not_string (record { label = record { kind = k; op = o; flags = fl; span = sp }; slots = cs }) ≡ false → (is_statement k ≡ true) × (string_first cs ≡ true)
+parts_of expression_statement o fl sp (tree l ds end) h = (refl, literal_first l.kind l.op l.flags l.span (record { kind = expression_statement; op = o; flags = fl; span = sp }) ds h)
+parts_of expression_statement o fl sp (tree l ds (hole us)) h = absurd (false≢true (sym h))
+parts_of expression_statement o fl sp (tree l ds (tree m es us)) h = absurd (false≢true (sym h))
+parts_of expression_statement o fl sp end h = absurd (false≢true (sym h))
+parts_of expression_statement o fl sp (hole us) h = absurd (false≢true (sym h))
+parts_of _ o fl sp cs h = absurd (false≢true (sym h))
+
+not_not : (b : Bool) → not b ≡ true → b ≡ false
+not_not true h = absurd (false≢true h)
+not_not false h = refl
+
+never_stated : (g : G) {ks ts us : Slots} {i j : ℕ} {ls rest : Lexemes} → Takes rule g ks ts i ls us j rest → no_statement g ≡ true → string_stated ts ≡ true → ⊥
+never_stated (node m a) (is_node {cs = cs} {j = j} {ls = ls} {rest = rest} d) h q = let z = parts_of m.kind m.op m.flags (label_of m ls j rest).span cs (not_not _ q) in false≢true (sym (ap not z.0) ∙ h)
+never_stated _ d h q = absurd (false≢true h)
+
+-- A statement of a string alone begins with it.
+pub stated : (g : G) {ks ts us : Slots} {i j : ℕ} {ls rest : Lexemes} → Takes rule g ks ts i ls us j rest → stating g ≡ true → string_stated ts ≡ true → begins_string ls
+stated (seq a b) (is_seq d e) h q = let z = and_parts (skips a) (stating b) h in let s = skipped a d z.0 in subst (λ (v : Lexemes). begins_string v) (sym s.1) (stated b e z.1 (subst (λ (v : Slots). string_stated v ≡ true) s.0 q))
+stated (alt a b) (is_left d) h q = stated a d (and_parts (stating a) (stating b) h).0 q
+stated (alt a b) (is_right d) h q = stated b d (and_parts (stating a) (stating b) h).1 q
+stated (when c a) (is_when t d) h q = stated a d h q
+stated (such n c) (is_such d t) h q = stated (rule n) d (stating_line n h) q
+stated (node m a) (is_node {cs = cs} {j = j} {ls = ls} {rest = rest} d) h q =
+    let l = label_of m ls j rest in
+    let z = parts_of m.kind m.op m.flags l.span cs (not_not _ q) in
+    ended_string a d (second (is_statement m.kind) _ h z.0) z.1
+stated (keep a b) (is_keep d e) h q = absurd (never_stated b e h q)
+stated _ d h q = absurd (false≢true h)
+
+-- with the string's node in place, it is one; with another, it is none
+pub string_statement : (l m : Label) (ds : Slots) (k : NodeKind) → m.kind ≡ expression_statement → is_literal k ≡ true → not_string (record { label = m; slots = tree (record { kind = k; op = l.op; flags = l.flags; span = l.span }) ds end }) ≡ false
+string_statement l m ds string_literal e h = subst (λ (v : NodeKind). not_string (record { label = record { kind = v; op = m.op; flags = m.flags; span = m.span }; slots = tree (record { kind = string_literal; op = l.op; flags = l.flags; span = l.span }) ds end }) ≡ false) (sym e) refl
+string_statement l m ds _ e h = absurd (false≢true h)
+
+pub other_statement : (l m : Label) (ds : Slots) (k : NodeKind) → m.kind ≡ expression_statement → is_literal k ≡ false → not_string (record { label = m; slots = tree (record { kind = k; op = l.op; flags = l.flags; span = l.span }) ds end }) ≡ true
+other_statement l m ds string_literal e h = absurd (false≢true (sym h))
+other_statement l m ds k e h = subst (λ (v : NodeKind). not_string (record { label = record { kind = v; op = m.op; flags = m.flags; span = m.span }; slots = tree (record { kind = k; op = l.op; flags = l.flags; span = l.span }) ds end }) ≡ true) (sym e) refl

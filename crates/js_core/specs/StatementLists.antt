@@ -1,5 +1,5 @@
 -- What is taken of directives and statements, one behind the other, up to the text's end (ECMA-262, 11.2.1, 14.2, 16.1).
-use Rattle.std.specs.Prelude.{ℕ, ◌≡◌, ◌<◌, Bool, true, false, List, length, Option}
+use Rattle.std.specs.Prelude.{ℕ, ◌≡◌, ◌<◌, ◌≤◌, Bool, true, false, List, length, Option}
 use Rattle.js_base.specs.declared.kind.Kind.TheVariants.{Eof}
 use Rattle.js_base.specs.Kinds.{same_kind}
 use Rattle.js_grammar.specs.Trees.{Label, Slots, end as no_slots, tree, append}
@@ -46,6 +46,7 @@ pub record OneTaken (text : List ℕ) (f : Flags) (g g' : G) (old new : Parser) 
 pub record Taken (text : List ℕ) (f : Flags) (g g' : G) (old new : Parser) (ids : List (Option NodeId)) : Type 0 where
   pub at : At text f new
   pub same : Same old new
+  pub further : old.prev_token_end ≤ new.prev_token_end
   pub slots : Slots → Slots
   pub appends : (us : Slots) → slots us ≡ append (slots no_slots) us
   pub pass : Lexemes → Lexemes

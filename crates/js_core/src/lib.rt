@@ -15,7 +15,9 @@ mod statement;
 mod statement_list;
 mod unary;
 
-pub use parse::{Parser, parse_assignment_expression_or_higher, parse_expression, parse_statements};
+pub use parse::{
+    Parser, parse_assignment_expression_or_higher, parse_expression, parse_statements,
+};
 
 #[cfg(test)]
 mod tests;

@@ -60,13 +60,7 @@ fn parse_expression_statement<C: ParserConfig, N: Nested<C>>(
     let expression = parse_sequence_expression(p, nested)?;
     end_statement(p)?;
     let span = p.end_span(start);
-    let node = make_one(
-        p,
-        NodeKind::ExpressionStatement,
-        Op::None,
-        span,
-        expression,
-    )?;
+    let node = make_one(p, NodeKind::ExpressionStatement, Op::None, span, expression)?;
     Ok(node)
 }
 
