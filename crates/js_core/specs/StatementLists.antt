@@ -10,6 +10,7 @@ use Rattle.js_grammar.specs.Table.{rule, directives_then}
 use Rattle.js_tree.specs.declared.id.NodeId.{NodeId}
 use Rattle.js_tree.specs.Holding.{Holds, HoldsAll, Keeps}
 use Rattle.js_cursor.specs.Parsers.{Parser}
+use Rattle.js_cursor.specs.Moves.{is_last}
 use Rattle.js_cursor.specs.declared.stop.Stop.{Stop}
 use Rattle.js_core.specs.Lexemes.{Lex, Walked}
 use Rattle.js_core.specs.States.{At, Same}
@@ -64,9 +65,9 @@ OpeningTaken old new id false = (text : List ℕ) (f : Flags) → At text f old 
 abbrev pub DirectivesTaken : Parser → Parser → List (Option NodeId) → Type 0
 DirectivesTaken old new ids = (text : List ℕ) (f : Flags) → At text f old → Taken text f (with_directives f) (statements f) old new ids
 
--- all was taken up to the text's end
+-- all was taken up to the text's end, or to where no lexeme stands
 abbrev pub AllTaken : Parser → Parser → List (Option NodeId) → Type 0
-AllTaken old new ids = (new.token.kind ≡ Eof) × DirectivesTaken old new ids
+AllTaken old new ids = (is_last new.token.kind ≡ true) × DirectivesTaken old new ids
 
 -- it can't be taken
 abbrev pub AllRefused : Parser → Parser → Stop → Type 0

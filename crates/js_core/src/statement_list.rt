@@ -3,6 +3,7 @@
 ghost use Rattle.std.specs.Prelude.{◌≡◌, ◌<◌, ◌↔◌, IsTrue, true, cond, length, MatchResult};
 ghost use Rattle.js_base.specs.Contexts.{has_flag, in_flag};
 ghost use Rattle.js_base.specs.declared.kind.Kind.TheVariants.{Str};
+ghost use Rattle.js_cursor.specs.Moves.{is_last};
 ghost use Rattle.js_tree.specs.Nodes.{node_at};
 ghost use Rattle.js_tree.specs.declared.kind.NodeKind.TheVariants.{Directive, ExpressionStatement, StringLiteral};
 ghost use Rattle.js_core.specs.Nesting.{CanNest, room};
@@ -18,7 +19,7 @@ use js_cursor::{ParserImpl, Stop};
 use js_lex::ParserConfig;
 use js_tree::{NodeId, NodeKind, Op};
 
-/// The directives and the statements of a text, up to its end.
+/// The directives and the statements of a text, up to its end; or as far as a statement may begin where no lexeme stands.
 pub fn parse_directives_and_statements<C: ParserConfig, N: Nested<C>>(
     p: &mut ParserImpl<'_, C>,
     nested: &N,
@@ -29,11 +30,18 @@ pub fn parse_directives_and_statements<C: ParserConfig, N: Nested<C>>(
     ensures { MatchResult result (λ v. AllTaken p.old p.new v.items) (λ e. AllRefused p.old p.new e) }
 {
     let mut items = parse_directives(p, nested)?;
-    'statements: while !p.at(Kind::Eof) {
+    'statements: while !at_last(p) {
         let statement = parse_statement_list_item(p, nested)?;
         items.push(Some(statement))?;
     }
     Ok(items)
+}
+
+/// Whether the end of the text stands here, or no lexeme.
+fn at_last<C: ParserConfig>(p: &ParserImpl<'_, C>) -> bool
+    ensures { result ≡ is_last p.now.token.kind }
+{
+    matches!(p.cur_kind(), Kind::Eof | Kind::Undetermined)
 }
 
 /// Directives, as long as a string alone is a statement; and a statement that begins with a string and is none.
