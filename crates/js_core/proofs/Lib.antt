@@ -10,8 +10,13 @@ pub mod Operations
 pub mod Phrases
 pub mod Operands
 pub mod Giving
+pub mod Links
+pub mod Members
 pub mod Beginning
 pub mod Statements
 pub mod Strings
 pub mod Contexts
 pub mod StatementLists
+pub mod Conditionals
+pub mod Sequences
+pub mod Exponents

@@ -184,7 +184,7 @@ advances p q (Err e) w m = m
 -- ---- what is changed beside the place
 
 -- other nodes, and another depth
-elsewhere : {text : List ℕ} {f : Flags} {p : Parser} (ns : List Node) (k : ℕ) → At text f p → At text f (record p { nodes = ns; depth = k })
+pub elsewhere : {text : List ℕ} {f : Flags} {p : Parser} (ns : List Node) (k : ℕ) → At text f p → At text f (record p { nodes = ns; depth = k })
 elsewhere {text} {f} {p} ns k a = record { text_is = a.text_is; flags_are = a.flags_are; at = (fields_set ns p.visits [] p.ctx k a.at (sym (append-nil p.visits))).1; plain = plain_of a.plain; behind = a.behind }
   where
     plain_of : IsPlain text p → IsPlain text (record p { nodes = ns; depth = k })
@@ -198,7 +198,7 @@ beside_nodes {p = p} ns a = elsewhere ns p.depth a
 pub same_nodes : {p : Parser} (ns : List Node) → IsAt p → Same p (record p { nodes = ns })
 same_nodes ns a = record { follows = (nodes_set ns a).0; options = refl; ctx = refl; depth = refl; visits = refl }
 
-at_depth : {p : Parser} (k : ℕ) → IsAt p → Follows p (record p { depth = k })
+pub at_depth : {p : Parser} (k : ℕ) → IsAt p → Follows p (record p { depth = k })
 at_depth {p} k a = (fields_set p.nodes p.visits [] p.ctx k a (sym (append-nil p.visits))).0
 
 out_of : {text : List ℕ} {f : Flags} {n : Symbol} {p q : Parser} {id : NodeId} (k j : ℕ) → j ≡ p.depth → IsAt p → Numbered text f n (record p { depth = k }) q id → Numbered text f n p (record q { depth = j }) id

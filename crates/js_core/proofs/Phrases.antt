@@ -39,10 +39,10 @@ module _ (n m : Symbol) (h : passes_on n.name m.name ≡ true) (i : n.flags.in_ 
   pub lift_fails : Underived text m s → Underived text n s
   lift_fails x = fails_by (g ▹✗ weaken_fails_on x (same_read n m h i))
 
-  lift_stretch : {s' : ℕ} {l : Label} {cs : Slots} {pass : Lexemes → Lexemes} → Stretch text (after m) (such m always) s nothing s' (tree l cs) pass → Stretch text (after n) (such n always) s nothing s' (tree l cs) pass
+  pub lift_stretch : {s' : ℕ} {l : Label} {cs : Slots} {pass : Lexemes → Lexemes} → Stretch text (after m) (such m always) s nothing s' (tree l cs) pass → Stretch text (after n) (such n always) s nothing s' (tree l cs) pass
   lift_stretch y = record { reach = max 0 y.reach; near = let k = y.near in omega arith; goes = by_rule {X' = after n} (λ l cs vs z d. d) (g ▹ weaken_on y.goes (same_read n m h i)) refl }
 
-  pub lift : {f : Flags} {p q : Parser} {id : NodeId} → p.prev_token_end ≡ s → (x : Numbered text f m p q id) → may_end n.name (row_of x.answer.label x.answer.slots) ≡ true → ((y : Lexeme) → Lex text q.prev_token_end y → IsTrue (seen (follow n (edge_of x.answer.label x.answer.slots)) y || seen beside y)) → Numbered text f n p q id
+  unfoldable pub lift : {f : Flags} {p q : Parser} {id : NodeId} → p.prev_token_end ≡ s → (x : Numbered text f m p q id) → may_end n.name (row_of x.answer.label x.answer.slots) ≡ true → ((y : Lexeme) → Lex text q.prev_token_end y → IsTrue (seen (follow n (edge_of x.answer.label x.answer.slots)) y || seen beside y)) → Numbered text f n p q id
   lift {p = p} {q = q} e x r k = record {
     answer = record {
       at = x.answer.at;
@@ -101,7 +101,7 @@ plain_row after_yield h = absurd (false≢true h)
 plain_row after_declarator h = absurd (false≢true h)
 plain_row after_word h = absurd (false≢true h)
 
-operand_assigned : (r : Row) → of_operand r ≡ true → of_assignment r ≡ true
+pub operand_assigned : (r : Row) → of_operand r ≡ true → of_assignment r ≡ true
 operand_assigned after_expression h = refl
 operand_assigned after_postfix h = refl
 operand_assigned after_body h = absurd (false≢true h)
@@ -122,81 +122,28 @@ short_left : (f : Flags) → live (rule (at Short f)) ≡ such (at Or f) always
 unfolding rule rule_of apart
 short_left f = refl
 
-conditional_left : (f : Flags) → live (rule (at Conditional f)) ≡ such (at Short f) always
-unfolding rule rule_of apart
-conditional_left f = refl
-
-assignment_left : (f : Flags) → live (rule (at Assignment f)) ≡ such (at Conditional f) always
+pub assignment_left : (f : Flags) → live (rule (at Assignment f)) ≡ such (at Conditional f) always
 unfolding rule rule_of apart
 assignment_left f = refl
-
-exponent_left : (f : Flags) → live (rule (at Exponent f)) ≡ such (at Unary f) always
-unfolding rule rule_of apart
-exponent_left f = refl
-
-member_left : (f : Flags) → live (rule (at Member f)) ≡ such (at Primary f) always
-unfolding rule rule_of apart
-member_left f = refl
-
-new_left : (f : Flags) → live (rule (at New f)) ≡ such (at Member f) always
-unfolding rule rule_of apart
-new_left f = refl
-
-lefthandside_left : (f : Flags) → live (rule (at LeftHandSide f)) ≡ such (at New f) always
-unfolding rule rule_of apart
-lefthandside_left f = refl
 
 update_left : (f : Flags) → live (rule (at Update f)) ≡ such (at LeftHandSide f) always
 unfolding rule rule_of apart
 update_left f = refl
 
-abbrev unary_part : Flags → G
+abbrev pub unary_part : Flags → G
 unary_part f = branches (Minus ∷ Plus ∷ Bang ∷ Tilde ∷ Typeof ∷ Void ∷ Delete ∷ []) (λ o. op unary_expression o (tok o ▸ symbol Unary f))
 
 unary_left : (f : Flags) → live (rule (at Unary f)) ≡ alt (such (at Update f) always) (unary_part f)
 unfolding rule rule_of apart
 unary_left f = refl
 
-expression_left : (f : Flags) → live (rule (at Expression f)) ≡ such (at Assignment f) always
-unfolding rule rule_of apart
-expression_left f = refl
-
 -- Answers of a symbol of which only another one is left.
-
--- an Expression
-pub expression_result : (text : List ℕ) (f : Flags) (p q : Parser) (r : Result NodeId Stop) → Outcome text f (at Assignment f) p q r → Outcome text f (at Expression f) p q r
-unfolding covers
-expression_result text f p q r x = lift_result (at Expression f) (at Assignment f) refl refl text f p q r (by_left (at Expression f) (at Assignment f) (expression_left f) text p.prev_token_end) (λ i y. y.answer.row)
-    (λ i y z l. narrows 2 1 [] f.in_ (row_of y.answer.label y.answer.slots) (narrow_assignment 2 1 [] (narrow_operand 2 1 [] refl refl refl refl) refl refl refl refl f.in_ (row_of y.answer.label y.answer.slots) y.answer.row) z l.1 refl (y.answer.stops z l)) x
-
--- an AssignmentExpression, which is a ShortCircuitExpression
-assignment_of : {text : List ℕ} {f : Flags} {p q : Parser} {id : NodeId} → Numbered text f (at Short f) p q id → Numbered text f (at Assignment f) p q id
-unfolding covers lift
-assignment_of {text} {f} {p} {q} x =
-    let r = row_of x.answer.label x.answer.slots in
-    let o : of_operand r ≡ true = x.answer.row in
-    let s = p.prev_token_end in
-    lift (at Assignment f) (at Conditional f) refl refl text s (by_left (at Assignment f) (at Conditional f) (assignment_left f) text s) refl
-    (lift (at Conditional f) (at Short f) refl refl text s (by_left (at Conditional f) (at Short f) (conditional_left f) text s) refl x (operand_assigned r o) (λ y l. narrows 4 3 [] f.in_ r (narrow_operand 4 3 [] refl refl refl refl f.in_ r o) y l.1 refl (x.answer.stops y l)))
-    (operand_assigned r o) (λ y l. narrows 4 2 [] f.in_ r (narrow_operand 4 2 [] refl refl refl refl f.in_ r o) y l.1 refl (x.answer.stops y l))
-
-pub assignment_result : (text : List ℕ) (f : Flags) (p q : Parser) (r : Result NodeId Stop) → Outcome text f (at Short f) p q r → Outcome text f (at Assignment f) p q r
-unfolding covers
-assignment_result text f p q (Ok id) x = assignment_of x
-assignment_result text f p q (Err Fatal) x = record { at = x.at; follows = x.follows; grown = x.grown; none = lift_fails (at Assignment f) (at Conditional f) refl refl text p.prev_token_end (by_left (at Assignment f) (at Conditional f) (assignment_left f) text p.prev_token_end) (lift_fails (at Conditional f) (at Short f) refl refl text p.prev_token_end (by_left (at Conditional f) (at Short f) (conditional_left f) text p.prev_token_end) x.none) }
-assignment_result text f p q (Err NoMemory) x = tt
 
 -- a ShortCircuitExpression, which is a LogicalORExpression
 pub short_result : (text : List ℕ) (f : Flags) (p q : Parser) (r : Result NodeId Stop) → Outcome text f (at Or f) p q r → Outcome text f (at Short f) p q r
 unfolding covers
 short_result text f p q r x = lift_result (at Short f) (at Or f) refl refl text f p q r (by_left (at Short f) (at Or f) (short_left f) text p.prev_token_end) (λ i y. y.answer.row)
     (λ i y z l. narrows 5 4 [] f.in_ (row_of y.answer.label y.answer.slots) (narrow_operand 5 4 [] refl refl refl refl f.in_ (row_of y.answer.label y.answer.slots) y.answer.row) z l.1 refl (y.answer.stops z l)) x
-
--- an operand of operators, which is a UnaryExpression
-pub operand_result : (text : List ℕ) (f : Flags) (p q : Parser) (r : Result NodeId Stop) → Outcome text f (at Unary f) p q r → Outcome text f (at Exponent f) p q r
-unfolding covers
-operand_result text f p q r x = lift_result (at Exponent f) (at Unary f) refl refl text f p q r (by_left (at Exponent f) (at Unary f) (exponent_left f) text p.prev_token_end) (λ i y. y.answer.row)
-    (λ i y z l. narrows 16 15 [] f.in_ (row_of y.answer.label y.answer.slots) (narrow_operand 16 15 [] refl refl refl refl f.in_ (row_of y.answer.label y.answer.slots) y.answer.row) z l.1 refl (y.answer.stops z l)) x
 
 -- where no unary operator stands
 no_operator : {text : List ℕ} {f : Flags} {p : Parser} → At text f p → one_of_kinds unary_kinds p.token.kind ≡ false → Goes rule (Lex text) (after (at Unary f)) end (rule (at Unary f)) p.prev_token_end (such (at Update f) always) p.prev_token_end (λ us. us) (still 0)
@@ -212,25 +159,3 @@ pub update_result : (text : List ℕ) (f : Flags) (p q : Parser) (r : Result Nod
 unfolding covers
 update_result text f p q r x = lift_result (at Update f) (at LeftHandSide f) refl refl text f p q r (by_left (at Update f) (at LeftHandSide f) (update_left f) text p.prev_token_end) (λ i y. primary_operand _ y.answer.row)
     (λ i y z l. subst (λ (w : Row). IsTrue (seen (looser 16 f.in_ w) z || seen beside z)) (sym (plain_row (row_of y.answer.label y.answer.slots) y.answer.row)) (narrows 17 16 [] f.in_ after_expression (narrow_operand 17 16 [] refl refl refl refl f.in_ after_expression refl) z l.1 refl (y.answer.stops z l))) x
-
--- a LeftHandSideExpression, which is a PrimaryExpression
-abbrev behind_member : Look
-behind_member k w e = not (one_of_kinds (LBrack ∷ Dot ∷ NoSubstitutionTemplate ∷ TemplateHead ∷ []) k && not e) && not (not w && (same_kind Function k && not e))
-
-stops_member : (b : Bool) (l : Label) (cs : Slots) (text : List ℕ) (s : ℕ) (y : Lexeme) → Lex text s y → IsTrue (seen (follow_of Member b (edge_of l cs)) y || seen beside y)
-unfolding covers
-stops_member b l cs text s y h = or_left (seen behind_member y) (seen beside y) (covered reads behind_member refl y.kind y.newline y.escaped h.1)
-
-abbrev no_link : Bool → Look
-no_link b k w e = nat_lt (tight b after_expression k w e) 17 || beside k w e
-
-no_links : (b : Bool) → covers reads (no_link b) ≡ true
-unfolding covers
-no_links true = refl
-no_links false = refl
-
-pub lhs_result : (text : List ℕ) (f : Flags) (p q : Parser) (r : Result NodeId Stop) → Outcome text f (at Primary f) p q r → Outcome text f (at LeftHandSide f) p q r
-unfolding covers
-lhs_result text f p q r x = lift_result (at LeftHandSide f) (at New f) refl refl text f p q r (by_left (at LeftHandSide f) (at New f) (lefthandside_left f) text p.prev_token_end) (λ i y. y.answer.row) (λ i y z l. y.answer.stops z l)
-    (lift_result (at New f) (at Member f) refl refl text f p q r (by_left (at New f) (at Member f) (new_left f) text p.prev_token_end) (λ i y. y.answer.row) (λ i y z l. covered reads (no_link f.in_) (no_links f.in_) z.kind z.newline z.escaped l.1)
-    (lift_result (at Member f) (at Primary f) refl refl text f p q r (by_left (at Member f) (at Primary f) (member_left f) text p.prev_token_end) (λ i y. y.answer.row) (λ i y z l. stops_member f.in_ y.answer.label y.answer.slots text q.prev_token_end z l) x))

@@ -1,28 +1,30 @@
 -- Statements, and the semicolons that end them or are left out.
 use Rattle.std.proofs.Common.{ℕ, ◌≡◌, ◌≤◌, max, ◌⊎◌, inl, inr, List, [], ◌∷◌, length, Bool, true, false, not, ◌&&◌, ◌||◌, IsTrue, Some, refl, sym, ap, subst, arith, ◌∙◌}
-use Rattle.std.specs.Prelude.{Result, Ok, Err, MatchResult}
+use Rattle.std.specs.Prelude.{◌↔◌, Result, Ok, Err, MatchResult}
+use Rattle.js_base.specs.declared.token.Token.{Token}
 use Rattle.std.proofs.lemmas.Bool.{false≢true, or_left, and_from, and_parts}
 use Rattle.js_base.specs.declared.kind.Kind.{Kind}
-use Rattle.js_base.specs.declared.kind.Kind.TheVariants.{Semicolon, RCurly, Eof, RAngle, LCurly, LBrack, At as at_sign}
+use Rattle.js_base.specs.declared.kind.Kind.TheVariants.{Colon, Ident, Yield, Await, Semicolon, RCurly, Eof, RAngle, LCurly, LBrack, At as at_sign}
 use Rattle.js_base.specs.declared.span.Span.{Span}
 use Rattle.js_base.specs.Contexts.{has_flag, in_flag}
 use Rattle.js_base.specs.Kinds.{same_kind, one_of_kinds}
 use Rattle.js_base.proofs.KindLemmas.{kind_of_same}
 use Rattle.js_base.specs.Texts.{words}
 use Rattle.js_grammar.specs.Words.{'let', 'async', 'function', 'class'}
-use Rattle.js_grammar.specs.Trees.{Label, Slots, end, tree, no_op, empty_statement, expression_statement}
-use Rattle.js_grammar.specs.Grammar.{Lexeme, Lexemes, Look, here, seen, is, may_omit, lexeme, look, ahead, seq, alt, such, ended, semicolon, nothing, ◌▸◌, Takes}
-use Rattle.js_grammar.specs.Insertion.{Row, goes_on, by_edge}
+use Rattle.js_grammar.specs.Trees.{Label, Slots, end, tree, no_op, empty_statement, expression_statement, label_identifier}
+use Rattle.js_grammar.specs.Grammar.{Lexeme, Lexemes, Look, here, seen, is, may_omit, lexeme, look, ahead, seq, alt, such, ended, semicolon, nothing, next, label_of, ◌▸◌, Takes, is_seq, is_lexeme, is_such, is_node}
+use Rattle.js_grammar.specs.Insertion.{Row, after_expression, may_bind, goes_on, by_edge}
+use Rattle.js_grammar.specs.Lexed.{Lexes}
 use Rattle.js_grammar.specs.Lexemes.{is_escaped}
 use Rattle.js_grammar.specs.Parsing.{Test, plain, behind, full, always, still, Goes, Reads, Fails}
-use Rattle.js_grammar.specs.Productions.{G, Flags, Symbol, at, other, if_next, not_then, is_one_of, word_or, function_on_line, ListItem, Empty, ExprStmt, Expression}
+use Rattle.js_grammar.specs.Productions.{G, Flags, Symbol, at, other, if_next, not_then, is_one_of, word_or, function_on_line, tok, ListItem, Empty, ExprStmt, Expression, Labeled, LabelIdentifier, Sub}
 use Rattle.js_grammar.specs.Productions.{Statement as AStatement}
 use Rattle.js_grammar.specs.Productions.{sym as symbol}
-use Rattle.js_grammar.specs.Table.{rule, rule_of}
+use Rattle.js_grammar.specs.Table.{rule, rule_of, identifier}
 use Rattle.js_grammar.specs.Follow.{row_of, looser, after}
 use Rattle.js_grammar.proofs.Looks.{covers, covered, apart, not_both}
-use Rattle.js_grammar.proofs.Calculus.{Between, ◌▹◌, ◌▹✗◌, left, right, looks, then_by, ends_by, by_omission, fails_ended, fails_semicolon, fails_rule, fails_node, inside_plain}
-use Rattle.js_grammar.proofs.FollowLaws.{expression_ended}
+use Rattle.js_grammar.proofs.Calculus.{Between, ◌▹◌, ◌▹✗◌, left, right, looks, then_by, ends_by, by_omission, fails_ended, fails_semicolon, fails_rule, fails_node, fails_alt, inside_plain, ends}
+use Rattle.js_grammar.proofs.FollowLaws.{admits, expression_ended}
 use Rattle.js_grammar.proofs.RightEdges.{each_row, at_row}
 use Rattle.js_grammar.proofs.First.{starts}
 use Rattle.js_grammar.proofs.FirstClaims.{firsts}
@@ -42,14 +44,15 @@ use Rattle.js_core.specs.Lexemes.{Lex, is_read}
 use Rattle.js_core.specs.States.{At, Same, flags_of}
 use Rattle.js_core.specs.Moves.{IsWholeHere, Moved, MadeHere, LeafTaken, TakesLeaf, plain_label}
 use Rattle.js_core.specs.Answers.{Underived, Answer, Numbered, Stops, beside}
-use Rattle.js_core.specs.Statements.{link_kinds, no_link, after_statement, NoStatement, Statement, StatementOutcome, EndsStatement, NoEnd}
-use Rattle.js_core.proofs.Verdicts.{verdict_of}
+use Rattle.js_core.specs.Statements.{link_kinds, no_link, after_statement, NoStatement, Statement, StatementOutcome, EndsStatement, NoEnd, IsLabel}
+use Rattle.js_core.proofs.Verdicts.{verdict_of, either_way}
 use Rattle.js_core.proofs.Moving.{moves, same_both, same_itself, same_nodes, beside_nodes}
-use Rattle.js_core.proofs.Here.{kind_here, newline_here, uncut}
+use Rattle.js_core.proofs.Here.{kind_here, newline_here, told, uncut}
 use Rattle.js_core.proofs.Dead.{live, lives, unread, fails_dead}
 use Rattle.js_core.proofs.MadeNodes.{leaf_held, one_held}
 use Rattle.js_core.proofs.Paths.{reads, Path, ◌⟼◌, ◌⟶◌, ◌⟶✗◌, at_kind, not_here, fails_at, last_token, noded, noded_by, by_symbol_as, label_here}
 use Rattle.js_core.proofs.Tight.{read_plain}
+use Rattle.js_core.proofs.Strings.{name_look, name_node, name_expression}
 use Rattle.js_core.proofs.Giving.{gives_up}
 
 -- a path, and a choice at its end
@@ -61,7 +64,7 @@ a ⟝ b = record { at = a.at; further = a.further; pass = a.pass; walked = a.wal
 
 -- what goes on with no expression on a new line, and is no semicolon and no link: before it one may be left out
 abbrev on_a_line : Row → Look
-on_a_line r k w e = not e && ((looser 1 true r k w e || beside k w e) && (w && (no_link k w e && not (same_kind Semicolon k))))
+on_a_line r k w e = not e && ((looser 1 true r k w e || beside k w e) && (w && (not (one_of_kinds link_kinds k) && not (same_kind Semicolon k))))
 
 line_omits : (r : Row) → covers (on_a_line r) (may_omit (goes_on r)) ≡ true
 unfolding covers
@@ -187,7 +190,7 @@ module _ {text : List ℕ} {f : Flags} {q : Parser} (a : At text f q) where
           by false h = h
 
       go : (y : Lexeme) → one_of_kinds link_kinds y.kind ≡ true → IsTrue (seen (starts first (semicolon p) no_link) y) → ⊥
-      go y v h = either_of (seen semicolon_look y) _ h (λ s. not_both a_link semicolon_look no_linked_semicolon y.kind y.newline y.escaped v s) (λ s. false≢true (sym (ap not v) ∙ (and_parts (seen (may_omit p) y) (seen no_link y) s).1))
+      go y v h = either_of (seen semicolon_look y) _ h (λ s. not_both a_link semicolon_look no_linked_semicolon y.kind y.newline y.escaped v s) (λ s. false≢true (sym (ap not v) ∙ (and_parts (not (same_kind Colon y.kind)) _ (and_parts (seen (may_omit p) y) (seen no_link y) s).1).1))
 
   -- neither stands it here, nor may it be left out
   not_ended : {X : Test} (p : Look) → (MayEnd q → ⊥) → Fails rule (Lex text) X end (semicolon p) q.prev_token_end
@@ -278,7 +281,7 @@ module _ {text : List ℕ} {s : ℕ} where
   reads_not_then : {X : Test} (p q : Look) → unread p ≡ true → Reads rule (Lex text) X end (not_then p q) s s (λ us. us) (still 0)
   reads_not_then p q h = left (fails_dead (ahead (lexeme p ▸ look (other q))) (or_left (unread p) _ h)) ▹ looks (other p) (passes_other p h)
 
-statement_left : (f : Flags) → live (rule (at AStatement f)) ≡ such (at Empty f) always
+statement_left : (f : Flags) → live (rule (at AStatement f)) ≡ alt (such (at Empty f) always) (such (at Labeled f) always)
 unfolding rule rule_of apart
 statement_left f = refl
 
@@ -293,10 +296,83 @@ no_expression = LCurly ∷ 'function' ∷ 'class' ∷ at_sign ∷ []
 pub no_symbol : {text : List ℕ} {n : Symbol} {s : ℕ} → Fails rule (Lex text) (after_statement n) end (rule n) s → NoStatement text n s
 no_symbol {n = n} r = fails_rule {X' = after_statement n} (λ l cs vs y e. e) r
 
-module _ {text : List ℕ} {f : Flags} {p : Parser} (a : At text f p) (n : p.token.kind ≡ Semicolon → ⊥) where
+-- a colon ends an expression
+colon_ends : (b : Bool) → covers (is Colon) (looser 1 b after_expression) ≡ true
+unfolding covers
+colon_ends true = refl
+colon_ends false = refl
+
+-- the two lexemes that a label begins with
+name_first : (f : Flags) {ks ts us : Slots} {i j : ℕ} {ls rest : Lexemes} → Takes rule (identifier label_identifier f) ks ts i ls us j rest → (y : Lexeme) × (ls ≡ next y rest) × (j ≡ y.to) × IsTrue (seen (name_look f) y)
+name_first f (is_node (is_lexeme {x = y} t)) = (y, refl, refl, t)
+
+module _ {text : List ℕ} {f : Flags} {s : ℕ} where
+  labels_fail : {X : Test} → ((y z : Lexeme) (rest : Lexemes) → Lex text s y → Lexes (Lex text) y.to (next z rest) → IsTrue (seen (name_look f) y) → IsTrue (seen (is Colon) z) → ⊥) → Fails rule (Lex text) X end (symbol Labeled f) s
+  unfolding rule rule_of
+  labels_fail r = record { no = λ ts vs k ls rest l d e. by_symbol d l }
+    where
+      in_slots : {ks ts us : Slots} {k : ℕ} {ls rest : Lexemes} → Takes rule (symbol LabelIdentifier f ▸ tok Colon ▸ symbol Sub f) ks ts s ls us k rest → Lexes (Lex text) s ls → ⊥
+      in_slots (is_seq (is_such d t) (is_seq (is_lexeme {x = z} {ls = after} c) e)) l = let y = name_first f d in let h = subst (λ (v : Lexemes). Lexes (Lex text) s v) y.1 l in r y.0 z after h.0 h.1 y.3 c
+
+      by_symbol : {ks ts us : Slots} {k : ℕ} {ls rest : Lexemes} → Takes rule (symbol Labeled f) ks ts s ls us k rest → Lexes (Lex text) s ls → ⊥
+      by_symbol (is_such (is_node d) t) l = in_slots d l
+
+-- where the expression is no name with a colon behind it, no label stands
+module _ {text : List ℕ} {f : Flags} {p q : Parser} (a : At text f p) (x : Answer text f (at Expression f) p q) (m : IsLabel p.token q → ⊥) where
+  -- the two lexemes of a label
+  two_stand : (y z : Lexeme) (rest : Lexemes) → Lex text p.prev_token_end y → Lex text y.to z → Lexes (Lex text) y.to (next z rest) → IsTrue (seen (name_look f) y) → IsTrue (seen (is Colon) z) → ⊥
+  unfolding covers apart
+  two_stand y z rest l i ls t c =
+      let cs = label_of name_node (next y (next z rest)) y.to (next z rest) in
+      let d : Takes rule (symbol Expression f) end (tree cs end end) p.prev_token_end (next y (next z rest)) end y.to (next z rest) = name_expression t in
+      let e = admits (at Expression f) (tree cs end end) z (covered (is Colon) (looser 1 f.in_ after_expression) (colon_ends f.in_) z.kind z.newline z.escaped c) in
+      either_way x.verdict
+          (λ u. let w = u.goes.only (tree cs end end) end y.to (next y (next z rest)) (next z rest) (l, ls) d e in let n = ends w.4 in m (label (subst (λ (v : Lexemes). Lexes (Lex text) q.prev_token_end v) n.2 w.3) (sym n.1)))
+          (λ n. n.no (tree cs end end) end y.to (next y (next z rest)) (next z rest) (l, ls) d e)
+    where
+      name_kind : y.kind ≡ Ident
+      name_kind = by_name (covered (λ k w e. may_bind k && reads k w e) (λ k w e. one_of_kinds (Ident ∷ []) k) refl y.kind y.newline y.escaped (and_from _ _ (and_parts (may_bind y.kind) _ (and_parts (may_bind y.kind && not (same_kind Yield y.kind && f.yield_)) _ t).0).0 l.1))
+        where
+          by_name : one_of_kinds (Ident ∷ []) y.kind ≡ true → y.kind ≡ Ident
+          by_name h = go (same_kind Ident y.kind) refl h
+            where
+              go : (b : Bool) → same_kind Ident y.kind ≡ b → (b || false) ≡ true → y.kind ≡ Ident
+              go true e h = sym (kind_of_same Ident y.kind e)
+              go false e h = absurd (false≢true h)
+
+      token_kind : p.token.kind ≡ Ident
+      token_kind = go (same_kind Ident p.token.kind) refl
+        where
+          go : (b : Bool) → same_kind Ident p.token.kind ≡ b → p.token.kind ≡ Ident
+          go true e = sym (kind_of_same Ident p.token.kind e)
+          go false e = absurd (not_here a (Ident ∷ []) refl (rw e refl) y l (subst (λ (k : Kind). one_of_kinds (Ident ∷ []) k ≡ true) (sym name_kind) refl))
+
+      colon_kind : Lex text q.prev_token_end z → q.token.kind ≡ Colon
+      colon_kind h = go (same_kind Colon q.token.kind) refl
+        where
+          go : (b : Bool) → same_kind Colon q.token.kind ≡ b → q.token.kind ≡ Colon
+          go true e = sym (kind_of_same Colon q.token.kind e)
+          go false e = absurd (not_here x.at (Colon ∷ []) refl (rw e refl) z h (or_left (same_kind Colon z.kind) false (and_parts (same_kind Colon z.kind) _ c).0))
+
+      label : Lexes (Lex text) q.prev_token_end (next z rest) → y.to ≡ q.prev_token_end → IsLabel p.token q
+      label h e = let k = told a (uncut a (ap (same_kind RAngle) token_kind)) y l in record { colon = colon_kind h.0; name = token_kind; plain = k.escaped ∙ read_plain y l.1; place = k.end ∙ e }
+
+  pub no_label : (X : Test) → Fails rule (Lex text) X end (symbol Labeled f) p.prev_token_end
+  no_label X = labels_fail (λ y z rest l i t c. two_stand y z rest l i.0 i t c)
+
+-- where no expression stands
+pub no_label_here : {text : List ℕ} {f : Flags} {s : ℕ} → Underived text (at Expression f) s → (X : Test) → Fails rule (Lex text) X end (symbol Labeled f) s
+no_label_here {text} {f} n X = labels_fail (λ y z rest l i t c. n.no (tree (label_of name_node (next y (next z rest)) y.to (next z rest)) end end) end y.to (next y (next z rest)) (next z rest) (l, i) (name_expression t) (admits (at Expression f) (tree (label_of name_node (next y (next z rest)) y.to (next z rest)) end end) z (covered (is Colon) (looser 1 f.in_ after_expression) (colon_ends f.in_) z.kind z.newline z.escaped c)))
+
+-- at another kind than a name
+pub no_label_at : {text : List ℕ} {f : Flags} {p : Parser} → At text f p → (p.token.kind ≡ Ident → ⊥) → (X : Test) → Fails rule (Lex text) X end (symbol Labeled f) p.prev_token_end
+unfolding covers apart
+no_label_at {f = f} {p = p} a n X = fails_at a {X = X} (symbol Labeled f) (Ident ∷ []) refl (none_of_one Ident p.token.kind n)
+
+module _ {text : List ℕ} {f : Flags} {p : Parser} (a : At text f p) (n : p.token.kind ≡ Semicolon → ⊥) (nl : (X : Test) → Fails rule (Lex text) X end (symbol Labeled f) p.prev_token_end) where
   no_statement : {X : Test} → Fails rule (Lex text) X end (symbol AStatement f) p.prev_token_end
   unfolding covers apart
-  no_statement = fails_rule {X' = plain full} (λ l cs vs y e. (refl, refl)) (subst (λ (g : G). Goes rule (Lex text) (plain full) end (rule (at AStatement f)) p.prev_token_end g p.prev_token_end (λ us. us) (still 0)) (statement_left f) (lives (rule (at AStatement f))) ▹✗ fails_at a {X = plain full} (symbol Empty f) (Semicolon ∷ []) refl (none_of_one Semicolon p.token.kind n))
+  no_statement = fails_rule {X' = plain full} (λ l cs vs y e. (refl, refl)) (subst (λ (g : G). Goes rule (Lex text) (plain full) end (rule (at AStatement f)) p.prev_token_end g p.prev_token_end (λ us. us) (still 0)) (statement_left f) (lives (rule (at AStatement f))) ▹✗ fails_alt (fails_at a {X = plain full} (symbol Empty f) (Semicolon ∷ []) refl (none_of_one Semicolon p.token.kind n)) (nl (plain full)))
 
   to_statement : Goes rule (Lex text) (after_statement (at ListItem f)) end (rule (at ListItem f)) p.prev_token_end (symbol ExprStmt f) p.prev_token_end (λ us. us) (still 0)
   unfolding apart
@@ -344,10 +420,10 @@ module _ {text : List ℕ} {f : Flags} {p : Parser} (a : At text f p) where
   empty_outcome q (Err Fatal) e m = absurd m
   empty_outcome q (Err NoMemory) e m = tt
 
-  module _ (n : p.token.kind ≡ Semicolon → ⊥) where
+  module _ (n : p.token.kind ≡ Semicolon → ⊥) (nl : (X : Test) → Fails rule (Lex text) X end (symbol Labeled f) p.prev_token_end) where
     pub statement_path : {q r : Parser} → f.in_ ≡ true → (x : Answer text f (at Expression f) p q) → EndsStatement q r → Path text f (after_statement (at ListItem f)) (rule (at ListItem f)) p nothing r (tree (label_here expression_statement no_op p r) (tree x.label x.slots end))
     unfolding rule rule_of covers
-    statement_path i x e = to_statement a n ⟼ by_symbol_as {X' = plain no_link} (λ l cs vs y d. ((and_parts _ _ d.0).0, refl)) (noded_by a (inside_plain refl) (to_expression f p.prev_token_end ⟼ ended_path i x e))
+    statement_path i x e = to_statement a n nl ⟼ by_symbol_as {X' = plain no_link} (λ l cs vs y d. ((and_parts _ _ d.0).0, refl)) (noded_by a (inside_plain refl) (to_expression f p.prev_token_end ⟼ ended_path i x e))
 
     pub statement_answers : {q r w : Parser} {child id : NodeId} (s : Span) → f.in_ ≡ true → (x : Numbered text f (at Expression f) p q child) → EndsStatement q r → s.start ≡ p.token.span.start → s.end ≡ r.prev_token_end → MadeHere (plain_label node.ExpressionStatement op.None s) (Some child ∷ []) r w id → Statement text f (at ListItem f) p w id
     statement_answers {q} {r} {w} {child} {id} s i x e b c d =
@@ -360,11 +436,11 @@ module _ {text : List ℕ} {f : Flags} {p : Parser} (a : At text f p) where
 
     pub statement_fails : Underived text (at Expression f) p.prev_token_end → NoStatement text (at ListItem f) p.prev_token_end
     unfolding rule rule_of covers
-    statement_fails x = no_symbol (to_statement a n ▹✗ fails_rule {X' = plain no_link} (λ l cs vs y e. ((and_parts _ _ e.0).0, refl)) (fails_node (inside_plain refl) (to_expression f p.prev_token_end ▹✗ fails_ended x (λ cs j ls mid l d h. expression_ended f no_link d (here ls) h))))
+    statement_fails x = no_symbol (to_statement a n nl ▹✗ fails_rule {X' = plain no_link} (λ l cs vs y e. ((and_parts _ _ e.0).0, refl)) (fails_node (inside_plain refl) (to_expression f p.prev_token_end ▹✗ fails_ended x (λ cs j ls mid l d h. expression_ended f no_link d (here ls) h))))
 
     pub statement_unended : {q : Parser} → Answer text f (at Expression f) p q → NoEnd q → NoStatement text (at ListItem f) p.prev_token_end
     unfolding rule rule_of covers
-    statement_unended {q} x m = no_symbol (to_statement a n ▹✗ fails_rule {X' = plain no_link} (λ l cs vs y e. ((and_parts _ _ e.0).0, refl)) (fails_node (inside_plain refl) (to_expression f p.prev_token_end ▹✗ (to_semicolon (λ ds i j ls mid d. d) (expression_path x) ⟶✗ unended x.at (goes_on (row_of x.label x.slots)) m))))
+    statement_unended {q} x m = no_symbol (to_statement a n nl ▹✗ fails_rule {X' = plain no_link} (λ l cs vs y e. ((and_parts _ _ e.0).0, refl)) (fails_node (inside_plain refl) (to_expression f p.prev_token_end ▹✗ (to_semicolon (λ ds i j ls mid d. d) (expression_path x) ⟶✗ unended x.at (goes_on (row_of x.label x.slots)) m))))
 
 -- `in` is an operator by the parameters
 pub in_of : {text : List ℕ} {f : Flags} {p : Parser} → At text f p → has_flag in_flag p.ctx ≡ true → f.in_ ≡ true
@@ -378,3 +454,7 @@ end_answers p q (Err NoMemory) v e = tt
 
 pub link_ends : (p q : Parser) (e : Stop) → (p.token.is_on_new_line && one_of_kinds link_kinds p.token.kind) ≡ true → GivesUp (IsUnexpected p) p q e → Stops p q e (NoEnd p)
 link_ends p q e v g = gives_up _ p q e g (inl (and_parts p.token.is_on_new_line _ v).1)
+
+-- the code found no label
+pub no_colon : (p q : Parser) {t : Token} {b : Bool} → t ≡ p.token → IsTrue b ↔ IsLabel t q → b ≡ false → IsLabel p.token q → ⊥
+no_colon p q e i f h = false≢true (sym f ∙ i.1 (subst (λ (v : Token). IsLabel v q) (sym e) h))

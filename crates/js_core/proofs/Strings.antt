@@ -2,9 +2,11 @@
 use Rattle.std.proofs.Common.{ℕ, ◌≡◌, Bool, true, false, not, ◌&&◌, ◌||◌, IsTrue, nat_eq, refl, sym, ap, subst, ◌∙◌}
 use Rattle.std.proofs.lemmas.Bool.{false≢true, and_parts, eqb-true}
 use Rattle.js_grammar.specs.Conditions.{not_string}
-use Rattle.js_base.specs.declared.kind.Kind.TheVariants.{Str}
-use Rattle.js_grammar.specs.Trees.{Span, NodeKind, string_literal, expression_statement, Op, no_op, Label, Slots, end, hole, tree, append, Tree}
-use Rattle.js_grammar.specs.Grammar.{Lexemes, Look, Make, Extent, exact, label_of, here, seen, semicolon, is, lexeme, look, ahead, seq, alt, when, such, node, ended, keep, Takes, is_lexeme, is_look, is_ahead, is_seq, is_left, is_right, is_when, is_such, is_node, is_ended, is_keep}
+use Rattle.js_base.specs.declared.kind.Kind.TheVariants.{Str, Yield, Await}
+use Rattle.js_base.specs.Kinds.{same_kind}
+use Rattle.js_grammar.specs.Insertion.{may_bind}
+use Rattle.js_grammar.specs.Trees.{Span, NodeKind, identifier_reference, string_literal, expression_statement, Op, no_op, Label, Slots, end, hole, tree, append, Tree}
+use Rattle.js_grammar.specs.Grammar.{Lexeme, Lexemes, next, Look, Make, Extent, exact, label_of, here, seen, semicolon, is, lexeme, look, ahead, seq, alt, when, such, node, ended, keep, Takes, is_lexeme, is_look, is_ahead, is_seq, is_left, is_right, is_when, is_such, is_node, is_ended, is_keep}
 use Rattle.js_grammar.specs.Parsing.{always}
 use Rattle.js_grammar.specs.Productions.{G, Flags, Name, Symbol, at, Item, ListItem, Statement, ExprStmt, Block, Empty, Var, If, Do, While, With, For, ForIn, ForOf, Continue, Break, Return, Throw, Switch, Try, Debugger, Labeled, Function, Class, Lexical, ImportDecl, ExportDecl, Expression, Assignment, Yield, Arrow', Conditional, Short, Coalesce, Or, And, BitOr, BitXor, BitAnd, Equality, Relational, Shift, Additive, Multiply, Exponent, Unary, Update, LeftHandSide, New, Member, Call, Chain, Primary, Template, IdentifierReference, Object, FuncExpr, ClassExpr}
 use Rattle.js_grammar.specs.Productions.{sym as symbol}
@@ -168,25 +170,37 @@ alone _ d h q = absurd (false≢true h)
 pub string_alone : {f : Flags} {ks ts us : Slots} {i j : ℕ} {ls rest : Lexemes} → Takes rule (symbol Expression f) ks ts i ls us j rest → string_first ts ≡ true → Takes rule string ks ts i ls us j rest
 string_alone {f} d q = alone (symbol Expression f) d refl q
 
--- A string is an expression.
-as_primary : (f : Flags) {l : Label} {cs : Slots} {i j : ℕ} {ls rest : Lexemes} → Takes rule string end (tree l cs end) i ls end j rest → Takes rule (symbol Primary f) end (tree l cs end) i ls end j rest
+-- A primary expression is an expression.
+as_operand : (f : Flags) {l : Label} {cs : Slots} {i j : ℕ} {ls rest : Lexemes} → Takes rule (symbol Primary f) end (tree l cs end) i ls end j rest → Takes rule (symbol Exponent f) end (tree l cs end) i ls end j rest
 unfolding rule rule_of
-as_primary f d = is_such (is_right (is_right (is_right (is_right (is_right (is_left d)))))) refl
+as_operand f d = is_such (is_left (is_such (is_left (is_such (is_left (is_such (is_left (is_such (is_left (is_such (is_left d) refl)) refl)) refl)) refl)) refl)) refl
 
-as_operand : (f : Flags) {l : Label} {cs : Slots} {i j : ℕ} {ls rest : Lexemes} → Takes rule string end (tree l cs end) i ls end j rest → Takes rule (symbol Exponent f) end (tree l cs end) i ls end j rest
-unfolding rule rule_of
-as_operand f d = is_such (is_left (is_such (is_left (is_such (is_left (is_such (is_left (is_such (is_left (is_such (is_left (as_primary f d)) refl)) refl)) refl)) refl)) refl)) refl
-
-as_short : (f : Flags) {l : Label} {cs : Slots} {i j : ℕ} {ls rest : Lexemes} → Takes rule string end (tree l cs end) i ls end j rest → Takes rule (symbol Short f) end (tree l cs end) i ls end j rest
+as_short : (f : Flags) {l : Label} {cs : Slots} {i j : ℕ} {ls rest : Lexemes} → Takes rule (symbol Primary f) end (tree l cs end) i ls end j rest → Takes rule (symbol Short f) end (tree l cs end) i ls end j rest
 unfolding rule rule_of
 as_short f d =
     let shift : Takes rule (symbol Shift f) end _ _ _ end _ _ = is_such (is_left (is_such (is_left (is_such (is_left (as_operand f d)) refl)) refl)) refl in
     let relational : Takes rule (symbol Relational f) end _ _ _ end _ _ = is_such (is_left (is_left shift)) refl in
     is_such (is_left (is_such (is_left (is_such (is_left (is_such (is_left (is_such (is_left (is_such (is_left (is_such (is_left relational) refl)) refl)) refl)) refl)) refl)) refl)) refl
 
+as_expression : (f : Flags) {ks : Slots} {l : Label} {cs us : Slots} {i j : ℕ} {ls rest : Lexemes} → Takes rule (symbol Primary f) end (tree l cs end) i ls end j rest → Takes rule (symbol Expression f) ks (tree l cs us) i ls us j rest
+unfolding rule rule_of
+as_expression f d = is_such (is_left (is_such (is_left (is_such (is_left (as_short f d)) refl)) refl)) refl
+
+-- A string is an expression.
 pub string_expression : {f : Flags} {ks ts us : Slots} {i j : ℕ} {ls rest : Lexemes} → Takes rule string ks ts i ls us j rest → Takes rule (symbol Expression f) ks ts i ls us j rest
 unfolding rule rule_of
-string_expression {f} (is_node (is_lexeme p)) = is_such (is_left (is_such (is_left (is_such (is_left (as_short f (is_node (is_lexeme p)))) refl)) refl)) refl
+string_expression {f} (is_node (is_lexeme p)) = as_expression f (is_such (is_right (is_right (is_right (is_right (is_right (is_left (is_node (is_lexeme p)))))))) refl)
+
+-- a name is one
+abbrev pub name_look : Flags → Look
+name_look f a w e = may_bind a && not (same_kind Yield a && f.yield_) && not (same_kind Await a && f.await_)
+
+abbrev pub name_node : Make
+name_node = record { kind = identifier_reference; op = no_op; flags = 0; extent = exact }
+
+pub name_expression : {f : Flags} {ks us : Slots} {i : ℕ} {y : Lexeme} {rest : Lexemes} → IsTrue (seen (name_look f) y) → Takes rule (symbol Expression f) ks (tree (label_of name_node (next y rest) y.to rest) end us) i (next y rest) us y.to rest
+unfolding rule rule_of
+name_expression {f} h = as_expression f (is_such (is_right (is_left (is_such (is_node (is_lexeme h)) refl))) refl)
 
 pub first_is_string : {ks ts us : Slots} {i j : ℕ} {ls rest : Lexemes} → Takes rule string ks ts i ls us j rest → string_first ts ≡ true
 first_is_string (is_node d) = refl

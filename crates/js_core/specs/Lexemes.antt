@@ -1,17 +1,32 @@
 -- The lexemes that the parse functions read so far. Of a text with another one nothing is said: as soon as every kind is among them, this is the whole language.
-use Rattle.std.specs.Prelude.{ℕ, Bool, not, ◌&&◌, List, [], ◌∷◌, IsTrue}
+use Rattle.std.specs.Prelude.{ℕ, Bool, true, false, not, ◌&&◌, List, [], ◌∷◌, IsTrue}
 use Rattle.js_base.specs.declared.kind.Kind.{Kind}
-use Rattle.js_base.specs.declared.kind.Kind.TheVariants.{Ident, This, Null, True, False, Typeof, Void, Delete, In, Instanceof, Decimal, Str, Tilde, Bang, Plus, Minus, Star, Percent, Eq2, Eq3, Neq, Neq2, LAngle, LtEq, RAngle, GtEq, ShiftLeft, ShiftRight, ShiftRight3, Amp, Amp2, Pipe, Pipe2, Caret, Semicolon, Eof}
+use Rattle.js_base.specs.declared.kind.Kind.TheVariants.{Ident, This, Null, True, False, Typeof, Void, Delete, In, Instanceof, Decimal, Str, Tilde, Bang, Plus, Minus, Star, Star2, Percent, Eq2, Eq3, Neq, Neq2, LAngle, LtEq, RAngle, GtEq, ShiftLeft, ShiftRight, ShiftRight3, Amp, Amp2, Pipe, Pipe2, Caret, Semicolon, Question, Colon, Comma, Eof, Dot, QuestionDot, New}
 use Rattle.js_base.specs.Kinds.{one_of_kinds}
 use Rattle.js_grammar.specs.Grammar.{Lexeme, Lexemes, next}
 use Rattle.js_grammar.specs.Lexed.{Lex as StandsBehind, all_faults}
 
 abbrev pub read_kinds : List Kind
-read_kinds = Eof ∷ Ident ∷ This ∷ Null ∷ True ∷ False ∷ Typeof ∷ Void ∷ Delete ∷ In ∷ Instanceof ∷ Decimal ∷ Str ∷ Tilde ∷ Bang ∷ Plus ∷ Minus ∷ Star ∷ Percent ∷ Eq2 ∷ Eq3 ∷ Neq ∷ Neq2 ∷ LAngle ∷ LtEq ∷ RAngle ∷ GtEq ∷ ShiftLeft ∷ ShiftRight ∷ ShiftRight3 ∷ Amp ∷ Amp2 ∷ Pipe ∷ Pipe2 ∷ Caret ∷ Semicolon ∷ []
+read_kinds = Eof ∷ Ident ∷ This ∷ Null ∷ True ∷ False ∷ Typeof ∷ Void ∷ Delete ∷ In ∷ Instanceof ∷ Decimal ∷ Str ∷ Tilde ∷ Bang ∷ Plus ∷ Minus ∷ Star ∷ Star2 ∷ Percent ∷ Eq2 ∷ Eq3 ∷ Neq ∷ Neq2 ∷ LAngle ∷ LtEq ∷ RAngle ∷ GtEq ∷ ShiftLeft ∷ ShiftRight ∷ ShiftRight3 ∷ Amp ∷ Amp2 ∷ Pipe ∷ Pipe2 ∷ Caret ∷ Semicolon ∷ Question ∷ Colon ∷ Comma ∷ Dot ∷ QuestionDot ∷ New ∷ []
 
 -- a lexeme of these kinds, without an escape
 abbrev pub is_read : Lexeme → Bool
 is_read y = one_of_kinds read_kinds y.kind && not y.escaped
+
+-- the words among them
+abbrev pub read_word : Kind → Bool
+read_word Ident = true
+read_word This = true
+read_word Null = true
+read_word True = true
+read_word False = true
+read_word Typeof = true
+read_word Void = true
+read_word Delete = true
+read_word In = true
+read_word Instanceof = true
+read_word New = true
+read_word _ = false
 
 -- y may be the next lexeme behind the place s, and is one of those
 abbrev pub Lex : List ℕ → ℕ → Lexeme → Type 0

@@ -6,3 +6,6 @@ pub mod Operators
 pub mod Moves
 pub mod Statements
 pub mod StatementLists
+pub mod Members
+pub mod Rests
+pub mod Exponents

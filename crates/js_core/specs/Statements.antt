@@ -1,8 +1,9 @@
 -- What the parse functions of statements answer (ECMA-262, chapter 14).
 use Rattle.std.specs.Prelude.{ℕ, ◌≡◌, ◌<◌, ◌⊎◌, Bool, true, false, not, ◌&&◌, List, [], ◌∷◌, length, Result, Ok, Err}
 use Rattle.js_base.specs.declared.kind.Kind.{Kind}
-use Rattle.js_base.specs.declared.kind.Kind.TheVariants.{Dot, QuestionDot}
-use Rattle.js_base.specs.Kinds.{one_of_kinds}
+use Rattle.js_base.specs.declared.kind.Kind.TheVariants.{Colon, Dot, Ident, QuestionDot}
+use Rattle.js_base.specs.Kinds.{same_kind, one_of_kinds}
+use Rattle.js_base.specs.declared.token.Token.{Token}
 use Rattle.js_grammar.specs.Trees.{Label, Slots, end as no_slots, tree}
 use Rattle.js_grammar.specs.Grammar.{Lexemes, Look, such, nothing}
 use Rattle.js_grammar.specs.Follow.{widest, by_tree}
@@ -22,8 +23,9 @@ use Rattle.js_core.specs.Answers.{Verdict, Stretch, Stops}
 abbrev pub link_kinds : List Kind
 link_kinds = Dot ∷ QuestionDot ∷ []
 
+-- nor does a colon: behind a name it makes a label
 abbrev pub no_link : Look
-no_link k w e = not (one_of_kinds link_kinds k)
+no_link k w e = not (same_kind Colon k) && not (one_of_kinds link_kinds k)
 
 -- what may stand behind a statement, by the tree that it was read as
 abbrev pub after_statement : Symbol → Test
@@ -57,6 +59,13 @@ TakesStatement n old new r = (text : List ℕ) (f : Flags) → At text f old →
 -- a statement's semicolon was passed or left out, and no link stands on a new line
 abbrev pub EndsStatement : Parser → Parser → Type 0
 EndsStatement old new = (old.token.is_on_new_line ≡ true → one_of_kinds link_kinds old.token.kind ≡ false) × Ends old new
+
+-- Behind a token a colon stands, and the token is a name: a label.
+pub record IsLabel (t : Token) (p : Parser) : Type 0 where
+  pub colon : p.token.kind ≡ Colon
+  pub name : t.kind ≡ Ident
+  pub plain : t.escaped ≡ false
+  pub place : t.span.end ≡ p.prev_token_end
 
 -- a statement doesn't end here
 abbrev pub NoEnd : Parser → Type 0

@@ -1,15 +1,22 @@
 //! Assignments and conditional expressions (ECMA-262, sections 13.14 and 13.15).
 
-ghost use Rattle.js_grammar.specs.Productions.{at, Assignment};
+ghost use Rattle.std.specs.Prelude.{◌≤◌};
+ghost use Rattle.js_base.specs.declared.kind.Kind.TheVariants.{Colon};
+ghost use Rattle.js_grammar.specs.Productions.{at, Assignment, Short};
 ghost use Rattle.js_core.specs.Answers.{Answers};
 ghost use Rattle.js_core.specs.Nesting.{CanNest, room};
+ghost use Rattle.js_core.specs.Rests.{Asked, Passes, ReadsOn};
 ghost use Rattle.js_core.specs.States.{Standing};
 
+use crate::context::assignment_with_in;
+use crate::lexemes::advance;
 use crate::nested::Nested;
+use crate::nodes::make_three;
 use crate::operators::parse_binary_expression_or_higher;
+use js_base::{Diagnostic, DiagnosticKind, Kind, Span};
 use js_cursor::{ParserImpl, Stop};
 use js_lex::ParserConfig;
-use js_tree::NodeId;
+use js_tree::{NodeId, NodeKind, Op};
 
 /// An AssignmentExpression (ECMA-262, section 13.15).
 pub fn parse_assignment_expression<C: ParserConfig, N: Nested<C>>(
@@ -20,5 +27,57 @@ pub fn parse_assignment_expression<C: ParserConfig, N: Nested<C>>(
     requires nests { CanNest (N.can nested.now) (room p.old) }
     ensures { Answers (at Assignment) p.old p.new result }
 {
-    parse_binary_expression_or_higher(p, nested)
+    let start = p.cur_start();
+    let left = parse_binary_expression_or_higher(p, nested)?;
+    parse_conditional_expression_rest(p, nested, start, left)
+}
+
+/// The branches of a conditional expression behind its test, which begins at a place, or the test alone (ECMA-262,
+/// section 13.14).
+fn parse_conditional_expression_rest<C: ParserConfig, N: Nested<C>>(
+    p: &mut ParserImpl<'_, C>,
+    nested: &N,
+    start: u32,
+    test: NodeId,
+) -> Result<NodeId, Stop>
+    requires at { Standing p.old }
+    requires nests { CanNest (N.can nested.now) (room p.old) }
+    requires start { start ≤ p.old.prev_token_end }
+    ensures { ReadsOn (at Short) (at Assignment) start test p.old p.new result }
+{
+    if !p.at(Kind::Question) {
+        return Ok(test);
+    }
+    let question = p.cur_token().span();
+    advance(p)?;
+    let consequent = assignment_with_in(p, nested)?;
+    expect_conditional_alternative(p, question)?;
+    let alternate = nested.assignment(p)?;
+    let span = p.end_span(start);
+    let kind = NodeKind::ConditionalExpression;
+    let node = make_three(p, kind, Op::None, span, test, consequent, alternate)?;
+    Ok(node)
+}
+
+/// Moves on over the colon of a conditional expression, whose `?` stood at a span.
+fn expect_conditional_alternative<C: ParserConfig>(
+    p: &mut ParserImpl<'_, C>,
+    question: Span,
+) -> Result<(), Stop>
+    requires at { Standing p.old }
+    requires asked { Asked p.old question }
+    ensures { Passes Colon p.old p.new result }
+{
+    if p.at(Kind::Colon) {
+        return advance(p);
+    }
+    if p.at(Kind::Undetermined) {
+        return Err(p.set_unexpected());
+    }
+    Err(p.set_fatal_error(Diagnostic {
+        kind: DiagnosticKind::ExpectConditionalAlternative,
+        span: p.cur_token().span(),
+        first: Some(question),
+        second: None,
+    }))
 }

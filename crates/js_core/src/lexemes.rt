@@ -4,6 +4,8 @@ ghost use Rattle.std.specs.Prelude.{◌≡◌, ◌↔◌, IsTrue, MatchResult};
 ghost use Rattle.js_cursor.specs.Moves.{OnlyMemory};
 ghost use Rattle.js_core.specs.States.{Standing};
 ghost use Rattle.js_base.specs.Contexts.{has_flag, in_flag};
+ghost use Rattle.js_core.specs.Lexemes.{read_word};
+ghost use Rattle.js_core.specs.Members.{StandsHere};
 ghost use Rattle.js_core.specs.Moves.{IsCompleted, IsWholeHere, Moves, OperatorHere};
 
 use crate::operators::binding_power;
@@ -50,4 +52,31 @@ pub fn operator_here<C: ParserConfig>(p: &mut ParserImpl<'_, C>) -> Result<u8, S
         return Ok(0);
     }
     Ok(binding_power(token.kind(), allows_in(p)))
+}
+
+/// Whether this lexeme stands here, without an escape.
+pub fn stands<C: ParserConfig>(p: &ParserImpl<'_, C>, kind: Kind) -> bool
+    ensures { StandsHere p.now kind result }
+{
+    p.at(kind) && !p.cur_token().escaped()
+}
+
+/// Whether it is a word that is read.
+pub fn is_read_word(kind: Kind) -> bool
+    ensures { result ≡ read_word kind }
+{
+    matches!(
+        kind,
+        Kind::Ident
+            | Kind::This
+            | Kind::Null
+            | Kind::True
+            | Kind::False
+            | Kind::Typeof
+            | Kind::Void
+            | Kind::Delete
+            | Kind::In
+            | Kind::Instanceof
+            | Kind::New
+    )
 }

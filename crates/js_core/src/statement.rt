@@ -1,6 +1,6 @@
 //! Statements (ECMA-262, chapter 14).
 
-ghost use Rattle.std.specs.Prelude.{◌≡◌, ◌&&◌, true, MatchResult};
+ghost use Rattle.std.specs.Prelude.{◌≡◌, ◌&&◌, ◌↔◌, IsTrue, true, MatchResult};
 ghost use Rattle.js_base.specs.Kinds.{one_of_kinds};
 ghost use Rattle.js_base.specs.Contexts.{has_flag, in_flag};
 ghost use Rattle.js_base.specs.declared.kind.Kind.TheVariants.{Semicolon};
@@ -8,13 +8,13 @@ ghost use Rattle.js_grammar.specs.Productions.{at, ListItem};
 ghost use Rattle.js_core.specs.Answers.{Stops};
 ghost use Rattle.js_core.specs.Nesting.{CanNest, room};
 ghost use Rattle.js_core.specs.States.{Standing};
-ghost use Rattle.js_core.specs.Statements.{TakesStatement, EndsStatement, NoEnd, link_kinds};
+ghost use Rattle.js_core.specs.Statements.{TakesStatement, EndsStatement, IsLabel, NoEnd, link_kinds};
 
 use crate::nested::Nested;
 use crate::nodes::make_one;
 use crate::primary::parse_leaf;
 use crate::sequence::parse_sequence_expression;
-use js_base::Kind;
+use js_base::{Kind, Token};
 use js_cursor::{ParserImpl, Stop};
 use js_lex::ParserConfig;
 use js_tree::{NodeId, NodeKind, Op};
@@ -45,7 +45,7 @@ fn parse_empty_statement<C: ParserConfig>(p: &mut ParserImpl<'_, C>) -> Result<N
 }
 
 /// An ExpressionStatement (ECMA-262, section 14.5): an expression and its semicolon, which may be left out where the
-/// grammar permits that (12.10).
+/// grammar permits that (12.10). A LabelledStatement isn't read yet: at a label nothing is answered but want of memory.
 fn parse_expression_statement<C: ParserConfig, N: Nested<C>>(
     p: &mut ParserImpl<'_, C>,
     nested: &N,
@@ -57,11 +57,25 @@ fn parse_expression_statement<C: ParserConfig, N: Nested<C>>(
     ensures { TakesStatement (at ListItem) p.old p.new result }
 {
     let start = p.cur_start();
+    let first = p.cur_token();
     let expression = parse_sequence_expression(p, nested)?;
+    if is_label(p, first) {
+        return Err(Stop::NoMemory);
+    }
     end_statement(p)?;
     let span = p.end_span(start);
     let node = make_one(p, NodeKind::ExpressionStatement, Op::None, span, expression)?;
     Ok(node)
+}
+
+/// Whether the token that was passed last is this one, a name, and a colon stands behind it.
+fn is_label<C: ParserConfig>(p: &ParserImpl<'_, C>, first: Token) -> bool
+    ensures { IsTrue result ↔ IsLabel first p.now }
+{
+    p.at(Kind::Colon)
+        && matches!(first.kind(), Kind::Ident)
+        && !first.escaped()
+        && first.end() == p.prev_token_end()
 }
 
 /// The semicolon of a statement, or none where the grammar permits that (12.10).

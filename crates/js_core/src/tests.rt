@@ -3,7 +3,7 @@
 ghost use Rattle.std.specs.Prelude.{IfSome};
 ghost use Rattle.js_core.specs.States.{Standing};
 
-use crate::{Parser, parse_assignment_expression_or_higher};
+use crate::{Parser, parse_expression};
 use js_base::{Kind, MAX_LEN, ParseOptions, SourceType, Span};
 use js_cursor::Stop;
 use js_lex::RuntimeParserConfig;
@@ -11,7 +11,7 @@ use js_tree::NodeId;
 use std::alloc::Global;
 
 /// A text, and the lines of its tree, whose statement is left out.
-static READ: [(&str, &str); 20] = [
+static READ: [(&str, &str); 37] = [
     ("a", "Program 0..1\n  IdentifierReference 0..1\n"),
     ("1", "Program 0..1\n  NumericLiteral 0..1 Decimal\n"),
     ("this", "Program 0..4\n  ThisExpression 0..4\n"),
@@ -71,10 +71,78 @@ static READ: [(&str, &str); 20] = [
         "a < b <= c",
         "Program 0..10\n  BinaryExpression 0..10 <=\n    BinaryExpression 0..5 <\n      IdentifierReference 0..1\n      IdentifierReference 4..5\n    IdentifierReference 9..10\n",
     ),
+    (
+        "a ? b : c",
+        "Program 0..9\n  ConditionalExpression 0..9\n    IdentifierReference 0..1\n    IdentifierReference 4..5\n    IdentifierReference 8..9\n",
+    ),
+    (
+        "a ? b : c ? d : e",
+        "Program 0..17\n  ConditionalExpression 0..17\n    IdentifierReference 0..1\n    IdentifierReference 4..5\n    ConditionalExpression 8..17\n      IdentifierReference 8..9\n      IdentifierReference 12..13\n      IdentifierReference 16..17\n",
+    ),
+    (
+        "a ? b ? c : d : e",
+        "Program 0..17\n  ConditionalExpression 0..17\n    IdentifierReference 0..1\n    ConditionalExpression 4..13\n      IdentifierReference 4..5\n      IdentifierReference 8..9\n      IdentifierReference 12..13\n    IdentifierReference 16..17\n",
+    ),
+    (
+        "a || b ? c in d : -e",
+        "Program 0..20\n  ConditionalExpression 0..20\n    LogicalExpression 0..6 ||\n      IdentifierReference 0..1\n      IdentifierReference 5..6\n    BinaryExpression 9..15 in\n      IdentifierReference 9..10\n      IdentifierReference 14..15\n    UnaryExpression 18..20 -\n      IdentifierReference 19..20\n",
+    ),
+    (
+        "a.b.c",
+        "Program 0..5\n  StaticMemberExpression 0..5\n    StaticMemberExpression 0..3\n      IdentifierReference 0..1\n      IdentifierName 2..3\n    IdentifierName 4..5\n",
+    ),
+    (
+        "a.new.in",
+        "Program 0..8\n  StaticMemberExpression 0..8\n    StaticMemberExpression 0..5\n      IdentifierReference 0..1\n      IdentifierName 2..5\n    IdentifierName 6..8\n",
+    ),
+    (
+        "new a",
+        "Program 0..5\n  NewExpression 0..5\n    IdentifierReference 4..5\n",
+    ),
+    (
+        "new new a.b",
+        "Program 0..11\n  NewExpression 0..11\n    NewExpression 4..11\n      StaticMemberExpression 8..11\n        IdentifierReference 8..9\n        IdentifierName 10..11\n",
+    ),
+    (
+        "new this\n.x",
+        "Program 0..11\n  NewExpression 0..11\n    StaticMemberExpression 4..11\n      ThisExpression 4..8\n      IdentifierName 10..11\n",
+    ),
+    (
+        "a?.b",
+        "Program 0..4\n  ChainExpression 0..4\n    StaticMemberExpression 0..4 optional\n      IdentifierReference 0..1\n      IdentifierName 3..4\n",
+    ),
+    (
+        "a?.b.c?.this",
+        "Program 0..12\n  ChainExpression 0..12\n    StaticMemberExpression 0..12 optional\n      StaticMemberExpression 0..6\n        StaticMemberExpression 0..4 optional\n          IdentifierReference 0..1\n          IdentifierName 3..4\n        IdentifierName 5..6\n      IdentifierName 8..12\n",
+    ),
+    (
+        "- a.b?.true * new c",
+        "Program 0..19\n  BinaryExpression 0..19 *\n    UnaryExpression 0..11 -\n      ChainExpression 2..11\n        StaticMemberExpression 2..11 optional\n          StaticMemberExpression 2..5\n            IdentifierReference 2..3\n            IdentifierName 4..5\n          IdentifierName 7..11\n    NewExpression 14..19\n      IdentifierReference 18..19\n",
+    ),
+    (
+        "a, b, c",
+        "Program 0..7\n  SequenceExpression 0..7\n    IdentifierReference 0..1\n    IdentifierReference 3..4\n    IdentifierReference 6..7\n",
+    ),
+    (
+        "a ** b ** c",
+        "Program 0..11\n  BinaryExpression 0..11 **\n    IdentifierReference 0..1\n    BinaryExpression 5..11 **\n      IdentifierReference 5..6\n      IdentifierReference 10..11\n",
+    ),
+    (
+        "a ** -b * c",
+        "Program 0..11\n  BinaryExpression 0..11 *\n    BinaryExpression 0..7 **\n      IdentifierReference 0..1\n      UnaryExpression 5..7 -\n        IdentifierReference 6..7\n    IdentifierReference 10..11\n",
+    ),
+    (
+        "a, b ? c : d, -e",
+        "Program 0..16\n  SequenceExpression 0..16\n    IdentifierReference 0..1\n    ConditionalExpression 3..12\n      IdentifierReference 3..4\n      IdentifierReference 7..8\n      IdentifierReference 11..12\n    UnaryExpression 14..16 -\n      IdentifierReference 15..16\n",
+    ),
+    (
+        "- - a * b ** c, d in e",
+        "Program 0..22\n  SequenceExpression 0..22\n    BinaryExpression 0..14 *\n      UnaryExpression 0..5 -\n        UnaryExpression 2..5 -\n          IdentifierReference 4..5\n      BinaryExpression 8..14 **\n        IdentifierReference 8..9\n        IdentifierReference 13..14\n    BinaryExpression 16..22 in\n      IdentifierReference 16..17\n      IdentifierReference 21..22\n",
+    ),
 ];
 
 /// A text that has no tree, and the kind and the span of what is told of it.
-static REFUSED: [(&str, &str, u32, u32); 9] = [
+static REFUSED: [(&str, &str, u32, u32); 25] = [
     ("", "unexpected_token", 0, 0),
     ("a +", "unexpected_token", 3, 3),
     ("*", "unexpected_token", 0, 1),
@@ -84,6 +152,27 @@ static REFUSED: [(&str, &str, u32, u32); 9] = [
     ("a + 'b", "unterminated_string", 4, 6),
     ("typ\\u0065of a", "unexpected_token", 0, 11),
     ("a && in", "unexpected_token", 5, 7),
+    ("a ? b", "expect_conditional_alternative", 5, 5),
+    ("a ? b ; c", "expect_conditional_alternative", 6, 7),
+    ("a ? : b", "unexpected_token", 4, 5),
+    ("a ? b : ?", "unexpected_token", 8, 9),
+    ("a ? b 'c", "unterminated_string", 6, 8),
+    ("a.", "unexpected_token", 2, 2),
+    ("a . + b", "unexpected_token", 4, 5),
+    ("new", "unexpected_token", 3, 3),
+    ("new a?.b", "invalid_new_optional_chain", 5, 7),
+    ("a?.b.", "unexpected_token", 5, 5),
+    ("-a ** b", "unary_exponentiation_left_operand", 0, 2),
+    (
+        "typeof a.b ** c ** d, e",
+        "unary_exponentiation_left_operand",
+        0,
+        10,
+    ),
+    ("a ** ", "unexpected_token", 5, 5),
+    ("a, ", "unexpected_token", 3, 3),
+    (", a", "unexpected_token", 0, 1),
+    ("a,, b", "unexpected_token", 2, 3),
 ];
 
 /// A parser at the text's start.
@@ -113,7 +202,7 @@ fn start(alloc: Global, source: &str) -> Option<Parser<'_>>
 fn whole(p: &mut Parser<'_>) -> Option<NodeId>
     requires { Standing p.old }
 {
-    let id = parse_assignment_expression_or_higher(p).ok()?;
+    let id = parse_expression(p).ok()?;
     if p.at(Kind::Eof) { Some(id) } else { None }
 }
 
@@ -136,9 +225,8 @@ fn lines(alloc: Global, source: &str) -> Option<Vec<u8>> {
 /// What is told of a text that is refused, where that is one diagnostic.
 fn told(alloc: Global, source: &str) -> Option<(&'static str, u32, u32)> {
     let mut p = start(alloc, source)?;
-    match parse_assignment_expression_or_higher(&mut p) {
-        Err(Stop::Fatal) => {}
-        _ => return None,
+    if let Err(Stop::NoMemory) = parse_expression(&mut p) {
+        return None;
     }
     if p.errors.len() != 1 {
         return None;

@@ -1,5 +1,21 @@
-use Rattle.js_core.proofs.Phrases.{lhs_result}
+use Rattle.std.proofs.Common.{arith}
+use Rattle.std.proofs.lemmas.Result.{err_from_is_err_and}
+use Rattle.js_core.proofs.Moving.{standing, stops_so}
+use Rattle.js_core.proofs.Members.{no_lhs_here}
 use Rattle.js_core.proofs.left_hand_side.parse_lhs_expression_or_higher.Goals as goal
 
+pub parse_optional_chain-requires-clause-at : goal.parse_optional_chain-requires-clause-at
+parse_optional_chain-requires-clause-at t c = standing (c.in_ok-member.ensures _ _ c.requires.at).0.at
+
+pub parse_optional_chain-requires-clause-start : goal.parse_optional_chain-requires-clause-start
+parse_optional_chain-requires-clause-start t c = let i = (c.in_ok-member.ensures _ _ c.requires.at).0.further in let s = c.cur_start-start.ensures in omega arith
+
+pub returns-in_err-member : goal.returns-in_err-member
+returns-in_err-member t c = λ text f a.
+    let p = err_from_is_err_and c.from_residual.result c.from_residual.ensures.1 in
+    rw (p.1, p.2) (stops_so _ _ _ (λ n. no_lhs_here f n) (c.in_err-member.ensures text f a))
+
 pub returns : goal.returns
-returns t c = λ text f a. lhs_result text f _ _ c.parse_primary_expression.result (c.parse_primary_expression.ensures text f a)
+returns t c = λ text f a.
+    let x = c.in_ok-member.ensures text f a in
+    c.parse_optional_chain.ensures text f c.args.p.now a c.cur_start-start.ensures x.0 x.1

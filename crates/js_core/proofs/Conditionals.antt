@@ -1,0 +1,280 @@
+-- Conditional expressions (ECMA-262, 13.14), and an AssignmentExpression that is none.
+use Rattle.std.proofs.Common.{ℕ, ◌≡◌, ◌≤◌, ◌<◌, ◌+◌, List, [], ◌∷◌, length, Bool, true, false, not, ◌&&◌, ◌||◌, IsTrue, Option, Some, None, refl, sym, ap, subst, arith, ◌∙◌}
+use Rattle.std.specs.Prelude.{Result, Ok, Err}
+use Rattle.std.proofs.lemmas.Bool.{false≢true, or_left, or_right, and_parts}
+use Rattle.js_base.specs.declared.kind.Kind.{Kind}
+use Rattle.js_base.specs.declared.kind.Kind.TheVariants.{Question, Colon, PrivateIdentifier, RAngle, Undetermined}
+use Rattle.js_base.specs.declared.span.Span.{Span}
+use Rattle.js_base.specs.Kinds.{same_kind, one_of_kinds}
+use Rattle.js_base.specs.Texts.{words}
+use Rattle.js_grammar.specs.Trees.{Span as TreeSpan, Slots, end, tree, Label, no_op, conditional_expression}
+use Rattle.js_grammar.specs.Grammar.{Lexeme, Lexemes, Look, here, seen, such, nothing, exact, is_seq, is_lexeme, is_such, alt, Takes, ◌▸◌}
+use Rattle.js_grammar.specs.Insertion.{Row, after_expression, after_postfix, after_body, after_yield, after_declarator, after_word}
+use Rattle.js_grammar.specs.Lexemes.{is_word, is_escaped}
+use Rattle.js_grammar.specs.Names.{has_backslash}
+use Rattle.js_grammar.specs.Parsing.{Test, plain, full, always, Admits, Goes, Fails, still}
+use Rattle.js_grammar.specs.Productions.{G, Flags, Symbol, at, tok, mk, plus_in, Assignment, Conditional, Short}
+use Rattle.js_grammar.specs.Productions.{sym as symbol}
+use Rattle.js_grammar.specs.Table.{rule, rule_of}
+use Rattle.js_grammar.specs.Follow.{edge_of, row_of, follow, after, looser, tight, widest}
+use Rattle.js_grammar.proofs.Looks.{covers, covered, apart}
+use Rattle.js_grammar.proofs.Calculus.{On, Inside, inside_full, ◌▹◌, ◌▹✗◌, left, right, fails_node, fails_rule, fails_nothing, part_fails, weaken_fails_on}
+use Rattle.js_grammar.proofs.FirstClaims.{firsts}
+use Rattle.js_grammar.proofs.FirstRules.{by_first}
+use Rattle.js_grammar.proofs.FollowLaws.{passes_on, surely, same_read, fails_by}
+use Rattle.js_grammar.proofs.RightEdges.{may_end, of_operand, of_assignment}
+use Rattle.js_tree.specs.declared.id.NodeId.{NodeId}
+use Rattle.js_tree.specs.declared.kind.NodeKind.TheVariants as node
+use Rattle.js_tree.specs.declared.op.Op.TheVariants as op
+use Rattle.js_tree.specs.Nodes.{Node}
+use Rattle.js_tree.specs.Holding.{Holds, HoldsAll, Keeps}
+use Rattle.js_tree.proofs.HoldingLemmas.{HoldsAll-two, HoldsAll-next, Keeps-trans, Keeps-made}
+use Rattle.js_cursor.specs.Parsers.{Parser}
+use Rattle.js_cursor.specs.Moves.{is_last, at_lexeme}
+use Rattle.js_cursor.specs.declared.stop.Stop.{Stop}
+use Rattle.js_cursor.specs.declared.stop.Stop.TheVariants.{Fatal, NoMemory}
+use Rattle.js_base.specs.declared.diagnostic.DiagnosticKind.TheVariants as fault
+use Rattle.js_base.specs.declared.source_type.SourceType.{SourceType}
+use Rattle.js_base.proofs.KindLemmas.{kind_of_same}
+use Rattle.js_grammar.specs.LexicalFaults.{Reached}
+use Rattle.js_grammar.specs.Lexed.{Lex as StandsBehind, all_faults}
+use Rattle.js_grammar.specs.Marks.{Mark, LexemeAt, a_lexeme, of_kinds}
+use Rattle.js_lex.specs.States.{goal_of}
+use Rattle.js_cursor.specs.Places.{IsAt, goal}
+use Rattle.js_cursor.proofs.Standing.{mark_here}
+use Rattle.js_core.specs.Rests.{Asked, Passes}
+use Rattle.js_core.proofs.Giving.{gives_up}
+use Rattle.js_core.specs.Lexemes.{Lex}
+use Rattle.js_core.specs.States.{At, Same}
+use Rattle.js_core.specs.Moves.{Moved, MadeHere, plain_label}
+use Rattle.js_core.specs.Answers.{Underived, Answer, Numbered, Outcome, Stops, Refuses, beside}
+use Rattle.js_core.proofs.Here.{found, uncut, kind_here}
+use Rattle.js_core.proofs.MadeNodes.{node_held}
+use Rattle.js_core.proofs.Moving.{same_both}
+use Rattle.js_core.proofs.Operands.{by_path}
+use Rattle.js_core.proofs.Paths.{reads, Path, ◌⟼◌, ◌⟶◌, ◌⟶✗◌, fails_at, not_here, token, called, last_called, noded_by, by_symbol_as, label_here}
+use Rattle.js_core.proofs.Phrases.{by_left, lift, lift_fails, narrow_operand, operand_assigned, assignment_left}
+use Rattle.js_core.proofs.Tight.{narrows, read_plain}
+
+unescaped : (k : Kind) (u : List ℕ) → (is_word k || same_kind PrivateIdentifier k) ≡ false → is_escaped k u ≡ false
+unescaped k u w = ap (λ (b : Bool). b && has_backslash u) w
+
+-- a punctuator has no escape
+pub plain_sign : {text : List ℕ} {f : Flags} {p : Parser} (k : Kind) → At text f p → p.token.kind ≡ k → same_kind RAngle k ≡ false → is_last k ≡ false → (is_word k || same_kind PrivateIdentifier k) ≡ false → p.token.escaped ≡ false
+plain_sign k a e r l w =
+    let z = found a (uncut a (ap (same_kind RAngle) e ∙ r)) (ap is_last e ∙ l) in
+    let i = sym z.2.kind ∙ e in
+    z.2.escaped ∙ (z.1.escaped ∙ (ap (λ (v : Kind). is_escaped v z.1.word) i ∙ unescaped k z.1.word w))
+
+pub question_plain : (is_word Question || same_kind PrivateIdentifier Question) ≡ false
+unfolding words
+question_plain = refl
+
+pub colon_plain : (is_word Colon || same_kind PrivateIdentifier Colon) ≡ false
+unfolding words
+colon_plain = refl
+
+-- it may be passed
+pub whole_sign : {text : List ℕ} {f : Flags} {p : Parser} (k : Kind) → At text f p → p.token.kind ≡ k → same_kind RAngle k ≡ false → is_last k ≡ false → (p.cut ≡ false) × (is_last p.token.kind ≡ false)
+whole_sign k a e r l = (uncut a (ap (same_kind RAngle) e ∙ r), ap is_last e ∙ l)
+
+-- none of these kinds stands here
+pub none_here : {text : List ℕ} {f : Flags} {p : Parser} (ks : List Kind) → At text f p → (y : Lexeme) → (one_of_kinds ks y.kind ≡ true → ⊥) → one_of_kinds ks y.kind ≡ false
+none_here ks a y n = go (one_of_kinds ks y.kind) refl
+  where
+    go : (b : Bool) → one_of_kinds ks y.kind ≡ b → one_of_kinds ks y.kind ≡ false
+    go true e = absurd (n e)
+    go false e = e
+
+pub other_kind : (a k : Kind) → (k ≡ a → ⊥) → one_of_kinds (a ∷ []) k ≡ false
+other_kind a k n = go (same_kind a k) refl
+  where
+    go : (b : Bool) → same_kind a k ≡ b → (b || false) ≡ false
+    go true e = absurd (n (sym (kind_of_same a k e)))
+    go false e = refl
+
+-- ---- the slots of a conditional expression
+
+abbrev branches_behind : Flags → G
+branches_behind f = tok Question ▸ symbol Assignment (plus_in f) ▸ tok Colon ▸ symbol Assignment f
+
+abbrev conditional_slots : Flags → G
+conditional_slots f = symbol Short f ▸ branches_behind f
+
+abbrev conditional_part : Flags → G
+conditional_part f = mk conditional_expression (conditional_slots f)
+
+conditional_line : (f : Flags) → rule (at Conditional f) ≡ alt (such (at Short f) always) (conditional_part f)
+unfolding rule rule_of
+conditional_line f = refl
+
+-- behind three slots may stand what may stand behind the third one
+abbrev by_third : Flags → Slots → Look
+by_third f (tree a ds (tree b es (tree c cs end))) k w e = follow (at Assignment f) (edge_of c cs) k w e
+by_third f _ k w e = false
+
+abbrev third : Flags → Test
+third f = record { base = widest Assignment; by = λ ts. by_third f ts }
+
+inside_third : (f : Flags) (s : ℕ) → Inside rule (record { kind = conditional_expression; op = no_op; flags = 0; extent = exact }) (after (at Assignment f)) (third f) end (conditional_slots f) s
+inside_third f s = record { ends = λ p cs vs j ls mid d e. go p cs vs d e }
+  where
+    go : (p : TreeSpan) (cs vs : Slots) {i j : ℕ} {ls mid : Lexemes} → Takes rule (conditional_slots f) end cs i ls end j mid → Admits (after (at Assignment f)) (tree (record { kind = conditional_expression; op = no_op; flags = 0; span = p }) cs vs) (here mid) → Admits (third f) cs (here mid)
+    go p cs vs (is_seq (is_such a b) (is_seq (is_lexeme c) (is_seq (is_such d e) (is_seq (is_lexeme g) (is_such h i))))) x = x
+
+on_third : (f : Flags) (a b : Label) (ds es : Slots) (s : ℕ) → On rule (record { base = widest Assignment; by = λ us. by_third f (tree a ds (tree b es us)) }) (after (at Assignment f)) end (such (at Assignment f) always) s
+on_third f a b ds es s = record { admits = λ ts vs k ls rest d e. go ts vs d e }
+  where
+    go : (ts vs : Slots) {i k : ℕ} {ls rest : Lexemes} → Takes rule (such (at Assignment f) always) end ts i ls vs k rest → Admits (record { base = widest Assignment; by = λ us. by_third f (tree a ds (tree b es us)) }) ts (here rest) → Admits (after (at Assignment f)) ts (here rest)
+    go ts end (is_such d h) x = x
+    go ts vs (is_such d h) x = absurd (false≢true x.1)
+
+-- ---- which of the two it is
+
+-- a `?` may stand behind the test, and not behind an AssignmentExpression that is an operand
+abbrev a_question : Look
+a_question k w e = same_kind Question k && not e
+
+question_binds : (b : Bool) (r : Row) → of_operand r ≡ true → covers a_question (λ k w e. not (looser 2 b r k w e)) ≡ true
+unfolding covers
+question_binds true after_expression h = refl
+question_binds true after_postfix h = refl
+question_binds false after_expression h = refl
+question_binds false after_postfix h = refl
+question_binds b after_body h = absurd (false≢true h)
+question_binds b after_yield h = absurd (false≢true h)
+question_binds b after_declarator h = absurd (false≢true h)
+question_binds b after_word h = absurd (false≢true h)
+
+contrary : (b : Bool) → not b ≡ true → b ≡ true → ⊥
+contrary true h e = false≢true h
+contrary false h e = false≢true e
+
+short_passes : passes_on Assignment Short ≡ true
+unfolding covers
+short_passes = refl
+
+-- the test alone
+short_none : {text : List ℕ} {f : Flags} {s : ℕ} → Underived text (at Short f) s → Goes rule (Lex text) (after (at Conditional f)) end (rule (at Conditional f)) s (such (at Short f) always) s (λ us. us) (still 0)
+unfolding rule rule_of covers
+short_none {f = f} x = left (fails_node inside_full (part_fails x (by_first firsts (surely (at Short f)) refl)))
+
+pub test_none : {text : List ℕ} (f : Flags) {s : ℕ} → Underived text (at Short f) s → Underived text (at Assignment f) s
+unfolding covers
+test_none {text} f {s} x = lift_fails (at Assignment f) (at Conditional f) refl refl text s (by_left (at Assignment f) (at Conditional f) (assignment_left f) text s) (lift_fails (at Conditional f) (at Short f) refl refl text s (short_none x) x)
+
+module _ {text : List ℕ} {f : Flags} {p q : Parser} (x : Answer text f (at Short f) p q) where
+  no_branches : one_of_kinds (Question ∷ []) q.token.kind ≡ false → Goes rule (Lex text) (after (at Conditional f)) end (rule (at Conditional f)) p.prev_token_end (such (at Short f) always) p.prev_token_end (λ us. us) (still 0)
+  unfolding rule rule_of covers apart
+  no_branches n = left (fails_node inside_full (called x refl ⟶✗ fails_at x.at (branches_behind f) (Question ∷ []) refl n))
+
+  behind_test : one_of_kinds (Question ∷ []) q.token.kind ≡ false → (y : Lexeme) → Lex text q.prev_token_end y → IsTrue (seen (looser 3 f.in_ (row_of x.label x.slots)) y || seen beside y)
+  unfolding covers apart
+  behind_test n y l = narrows 4 3 (Question ∷ []) f.in_ (row_of x.label x.slots) (narrow_operand 4 3 (Question ∷ []) refl refl refl refl f.in_ (row_of x.label x.slots) x.row) y l.1 (none_here (Question ∷ []) x.at y (λ h. not_here x.at (Question ∷ []) refl n y l h)) (x.stops y l)
+
+  behind_alone : one_of_kinds (Question ∷ []) q.token.kind ≡ false → (y : Lexeme) → Lex text q.prev_token_end y → IsTrue (seen (looser 2 f.in_ (row_of x.label x.slots)) y || seen beside y)
+  unfolding covers
+  behind_alone n y l = narrows 3 2 [] f.in_ (row_of x.label x.slots) (narrow_operand 3 2 [] refl refl refl refl f.in_ (row_of x.label x.slots) x.row) y l.1 refl (behind_test n y l)
+
+  -- where a `?` stands behind the test
+  no_end : q.token.kind ≡ Question → Fails rule (Lex text) (record { base = widest Assignment; by = λ us. follow (at Assignment f) (edge_of x.label x.slots) }) end nothing q.prev_token_end
+  no_end e = fails_nothing (λ ts y l h. no y l h.1)
+    where
+      asked : (y : Lexeme) → Lex text q.prev_token_end y → (same_kind Question y.kind && not y.escaped) ≡ true
+      asked y l = rw (kind_here x.at e refl y l, read_plain y l.1) refl
+
+      no : (y : Lexeme) → Lex text q.prev_token_end y → IsTrue (seen (looser 2 f.in_ (row_of x.label x.slots)) y) → ⊥
+      no y l h = contrary (seen (looser 2 f.in_ (row_of x.label x.slots)) y) (covered a_question (λ k w e. not (looser 2 f.in_ (row_of x.label x.slots) k w e)) (question_binds f.in_ (row_of x.label x.slots) x.row) y.kind y.newline y.escaped (asked y l)) h
+
+  branches_only : q.token.kind ≡ Question → Goes rule (Lex text) (after (at Assignment f)) end (rule (at Conditional f)) p.prev_token_end (conditional_part f) p.prev_token_end (λ us. us) (still 0)
+  unfolding rule rule_of
+  branches_only e = right (last_called x (same_read (at Assignment f) (at Short f) short_passes refl) ⟶✗ no_end e)
+
+  wrapped : {w : Parser} {l : Label} {cs : Slots} → q.token.kind ≡ Question → Path text f (after (at Assignment f)) (conditional_part f) p nothing w (tree l cs) → Path text f (after (at Assignment f)) (rule (at Assignment f)) p nothing w (tree l cs)
+  wrapped e r = by_left (at Assignment f) (at Conditional f) (assignment_left f) text p.prev_token_end ⟼ by_symbol_as (λ l cs vs y d. d) (branches_only e ⟼ r)
+
+  wrapped_fails : q.token.kind ≡ Question → Fails rule (Lex text) (third f) end (conditional_slots f) p.prev_token_end → Underived text (at Assignment f) p.prev_token_end
+  wrapped_fails e n = fails_by (by_left (at Assignment f) (at Conditional f) (assignment_left f) text p.prev_token_end ▹✗ fails_rule {X' = after (at Assignment f)} (λ l cs vs y d. d) (branches_only e ▹✗ fails_node (inside_third f p.prev_token_end) n))
+
+  module _ {r : Parser} (e : q.token.kind ≡ Question) (m : Moved text f q r) where
+    asked : Path text f (third f) (conditional_slots f) p (symbol Assignment (plus_in f) ▸ tok Colon ▸ symbol Assignment f) r (tree x.label x.slots)
+    unfolding covers
+    asked = called x refl ⟶ token Question x.at e (plain_sign Question x.at e refl refl question_plain) refl m
+
+    -- the first branch can't be read
+    pub first_fails : Underived text (at Assignment (plus_in f)) r.prev_token_end → Underived text (at Assignment f) p.prev_token_end
+    unfolding covers
+    first_fails n = wrapped_fails e (asked ⟶✗ part_fails n (by_first firsts (surely (at Assignment (plus_in f))) refl))
+
+    module _ {u : Parser} (c : Answer text f (at Assignment (plus_in f)) r u) where
+      first_read : Path text f (third f) (conditional_slots f) p (tok Colon ▸ symbol Assignment f) u (λ us. tree x.label x.slots (tree c.label c.slots us))
+      unfolding covers
+      first_read = asked ⟶ called c refl
+
+      -- no colon stands behind it
+      pub colon_fails : one_of_kinds (Colon ∷ []) u.token.kind ≡ false → Underived text (at Assignment f) p.prev_token_end
+      unfolding covers apart
+      colon_fails n = wrapped_fails e (first_read ⟶✗ fails_at c.at (tok Colon ▸ symbol Assignment f) (Colon ∷ []) refl n)
+
+      module _ {v : Parser} (k : u.token.kind ≡ Colon) (d : Moved text f u v) where
+        colon_passed : Path text f (third f) (conditional_slots f) p (symbol Assignment f) v (λ us. tree x.label x.slots (tree c.label c.slots us))
+        colon_passed = first_read ⟶ token Colon c.at k (plain_sign Colon c.at k refl refl colon_plain) refl d
+
+        pub second_fails : Underived text (at Assignment f) v.prev_token_end → Underived text (at Assignment f) p.prev_token_end
+        second_fails n = wrapped_fails e (colon_passed ⟶✗ weaken_fails_on n (on_third f x.label c.label x.slots c.slots v.prev_token_end))
+
+        conditional_path : {w : Parser} → At text f p → (y : Answer text f (at Assignment f) v w) → Path text f (after (at Assignment f)) (rule (at Assignment f)) p nothing w (tree (label_here conditional_expression no_op p w) (tree x.label x.slots (tree c.label c.slots (tree y.label y.slots end))))
+        conditional_path a y = wrapped e (noded_by a (inside_third f p.prev_token_end) (colon_passed ⟶ last_called y (on_third f x.label c.label x.slots c.slots v.prev_token_end)))
+
+-- ---- answers
+
+-- the test alone
+pub test_alone : {text : List ℕ} {f : Flags} {p q : Parser} {id : NodeId} → Numbered text f (at Short f) p q id → one_of_kinds (Question ∷ []) q.token.kind ≡ false → Numbered text f (at Assignment f) p q id
+unfolding covers lift
+test_alone {text} {f} {p} x n = lift (at Assignment f) (at Conditional f) refl refl text p.prev_token_end (by_left (at Assignment f) (at Conditional f) (assignment_left f) text p.prev_token_end) refl
+    (lift (at Conditional f) (at Short f) refl refl text p.prev_token_end (no_branches x.answer n) refl x (operand_assigned (row_of x.answer.label x.answer.slots) x.answer.row) (behind_test x.answer n))
+    (operand_assigned (row_of x.answer.label x.answer.slots) x.answer.row) (behind_alone x.answer n)
+
+three_held : (o p q r w : Parser) {l a b c : Label} {ds es cs : Slots} {id x y z : NodeId} → MadeHere l (Some x ∷ Some y ∷ Some z ∷ []) r w id → Holds p.nodes (length o.nodes) (length p.nodes) x.0 a ds → Holds q.nodes (length p.nodes) (length q.nodes) y.0 b es → Keeps p.nodes q.nodes → Holds r.nodes (length q.nodes) (length r.nodes) z.0 c cs → Keeps q.nodes r.nodes → Holds w.nodes (length o.nodes) (length w.nodes) id.0 l (tree a ds (tree b es (tree c cs end)))
+three_held o p q r w {x = x} {y = y} {z = z} n h i j k m = node_held n (HoldsAll-next z m (HoldsAll-two x y j h i) k)
+
+-- both branches were read
+pub conditional_answers : {text : List ℕ} {f : Flags} {p q r u v w z : Parser} {test first second id : NodeId} (s : Span) → At text f p → (x : Numbered text f (at Short f) p q test) → (e : q.token.kind ≡ Question) → (m : Moved text f q r) → (c : Numbered text f (at Assignment (plus_in f)) r u first) → (k : u.token.kind ≡ Colon) → (d : Moved text f u v) → (y : Numbered text f (at Assignment f) v w second) → s.start ≡ p.token.span.start → s.end ≡ w.prev_token_end
+    → MadeHere (plain_label node.ConditionalExpression op.None s) (Some test ∷ Some first ∷ Some second ∷ []) w z id → Numbered text f (at Assignment f) p z id
+conditional_answers {text} {f} {p} {q} {r} {u} {v} {w} {z} {test} {first} {second} {id} s a x e m c k d y g h n =
+    let l : plain_label node.ConditionalExpression op.None s ≡ label_here conditional_expression no_op p w = rw (g, h) refl in
+    let made : MadeHere (label_here conditional_expression no_op p w) (Some test ∷ Some first ∷ Some second ∷ []) w z id = subst (λ (v : Label). MadeHere v (Some test ∷ Some first ∷ Some second ∷ []) w z id) l n in
+    let b : Holds u.nodes (length q.nodes) (length u.nodes) first.0 c.answer.label c.answer.slots = subst (λ (ns : List Node). Holds u.nodes (length ns) (length u.nodes) first.0 c.answer.label c.answer.slots) m.nodes c.holds in
+    let kb : Keeps q.nodes u.nodes = subst (λ (ns : List Node). Keeps ns u.nodes) m.nodes c.keeps in
+    let t : Holds w.nodes (length u.nodes) (length w.nodes) second.0 y.answer.label y.answer.slots = subst (λ (ns : List Node). Holds w.nodes (length ns) (length w.nodes) second.0 y.answer.label y.answer.slots) d.nodes y.holds in
+    let kt : Keeps u.nodes w.nodes = subst (λ (ns : List Node). Keeps ns w.nodes) d.nodes y.keeps in
+    by_path (conditional_path x.answer e m c.answer k d a y.answer) (same_both x.answer.same (same_both m.same (same_both c.answer.same (same_both d.same y.answer.same)))) n.stays (λ o i. y.answer.stops o i) y.answer.row
+    (three_held p q u w z made x.holds b kb t kt) (Keeps-trans x.keeps (Keeps-trans kb (Keeps-trans kt (Keeps-made n.made))))
+
+-- ---- the colon
+
+-- the `?` that was passed
+pub asked_here : {text : List ℕ} {f : Flags} {p q : Parser} → At text f p → p.token.kind ≡ Question → p.token.escaped ≡ false → Moved text f p q → Asked q p.token.span
+asked_here {text} {f} {p} {q} a k e m = record {
+  sign = record {
+    lexeme = m.lexeme;
+    of_text = a_lexeme (subst (λ (v : List ℕ). Reached v p.prev_token_end) (a.text_is ∙ sym m.at.text_is) a.at.reached) (subst (λ (v : List ℕ). StandsBehind all_faults v p.prev_token_end m.lexeme) (sym m.at.text_is) m.stood);
+    is = (sym m.tells.start, sym m.tells.end);
+    passes = rw (sym m.tells.kind ∙ k, sym m.tells.escaped ∙ e) refl;
+  };
+  before = let t = m.tells.end in let u = m.ends in omega arith;
+}
+
+pub asked_later : {p q : Parser} {question : Span} → Same p q → p.prev_token_end ≤ q.prev_token_end → Asked p question → Asked q question
+asked_later {p} {q} {question} s l a = record {
+  sign = subst (λ (v : List ℕ). LexemeAt (of_kinds (Question ∷ [])) (goal q) v question) (sym s.follows.text) (subst (λ (v : SourceType). LexemeAt (of_kinds (Question ∷ [])) (goal_of v) p.text question) (sym s.follows.source_type) a.sign);
+  before = let b = a.before in omega arith;
+}
+
+-- a diagnostic of what stands in its place has its mark
+pub alternative_marked : {p : Parser} {question : Span} → IsAt p → Asked p question → (s : Span) → s ≡ p.token.span → (p.token.kind ≡ Undetermined → ⊥) → Mark (goal p) p.text (record { kind = fault.ExpectConditionalAlternative; span = s; first = Some question; second = None })
+alternative_marked {p} {question} a q s e n = mark_here fault.ExpectConditionalAlternative s (Some question) a (at_lexeme n e) (λ v x b. (x, record { place = question; is_first = refl; no_second = refl; lexeme = q.sign; earlier = let c = q.before in omega arith }))
+
+pub colon_missing : (p q : Parser) (e : Stop) → Passes Colon p q (Err e) → Stops p q e (one_of_kinds (Colon ∷ []) p.token.kind ≡ false)
+colon_missing p q Fatal h = gives_up (λ d. Unit {0}) p q Fatal h.1 (other_kind Colon p.token.kind (h.0 refl))
+colon_missing p q NoMemory h = tt
