@@ -64,6 +64,13 @@ cut_escaped y = go (is_right_angle y.kind) refl
     go true q = rw (q, cut) refl
     go false q = ap (λ (z : Lexeme). z.escaped) (cut_same y q)
 
+cut_newline : (y : Lexeme) → (cut y).newline ≡ y.newline
+cut_newline y = go (is_right_angle y.kind) refl
+  where
+    go : (b : Bool) → is_right_angle y.kind ≡ b → (cut y).newline ≡ y.newline
+    go true q = rw (q, cut) refl
+    go false q = ap (λ (z : Lexeme). z.newline) (cut_same y q)
+
 module _ {text : List ℕ} {f : Flags} {p : Parser} (a : At text f p) where
   -- the token tells the lexeme, whichever stands there
   pub told : p.cut ≡ false → (y : Lexeme) → Lex text p.prev_token_end y → Tells y p.token
@@ -99,6 +106,15 @@ module _ {text : List ℕ} {f : Flags} {p : Parser} (a : At text f p) where
       go : IsPlain text p → y.escaped ≡ p.token.escaped
       go (whole q n x) = sym (subst (λ (z : Lexeme). Tells z p.token) (sym (one_plain l x)) x.tells).escaped
       go (sign q k x) = ap (λ (z : Lexeme). z.escaped) (one_plain l x) ∙ (sym (cut_escaped x.lexeme) ∙ sym x.tells.escaped)
+      go (nothing q k n) = absurd (n y (record { lex = l.0; of_goal = plainly l.0 l.1 }))
+
+  -- it stands on a new line where the token does
+  pub newline_here : (y : Lexeme) → Lex text p.prev_token_end y → y.newline ≡ p.token.is_on_new_line
+  newline_here y l = go a.plain
+    where
+      go : IsPlain text p → y.newline ≡ p.token.is_on_new_line
+      go (whole q n x) = sym (subst (λ (z : Lexeme). Tells z p.token) (sym (one_plain l x)) x.tells).newline
+      go (sign q k x) = ap (λ (z : Lexeme). z.newline) (one_plain l x) ∙ (sym (cut_newline x.lexeme) ∙ sym x.tells.newline)
       go (nothing q k n) = absurd (n y (record { lex = l.0; of_goal = plainly l.0 l.1 }))
 
   -- only `>` is cut off

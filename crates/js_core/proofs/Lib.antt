@@ -13,7 +13,10 @@ pub mod Giving
 pub mod Links
 pub mod Members
 pub mod Beginning
+pub mod Statements
+pub mod Strings
 pub mod Contexts
+pub mod StatementLists
 pub mod Conditionals
 pub mod Sequences
 pub mod Exponents

@@ -4,6 +4,8 @@ pub mod Answers
 pub mod Nesting
 pub mod Operators
 pub mod Moves
+pub mod Statements
+pub mod StatementLists
 pub mod Members
 pub mod Rests
 pub mod Exponents

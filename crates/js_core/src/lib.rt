@@ -12,10 +12,14 @@ mod operators;
 mod parse;
 mod primary;
 mod sequence;
+mod statement;
+mod statement_list;
 mod unary;
 mod update;
 
-pub use parse::{Parser, parse_assignment_expression_or_higher, parse_expression};
+pub use parse::{
+    Parser, parse_assignment_expression_or_higher, parse_expression, parse_statements,
+};
 
 #[cfg(test)]
 mod tests;

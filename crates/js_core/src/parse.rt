@@ -1,15 +1,18 @@
 //! The one function that recurses, and the calls for others.
 
-ghost use Rattle.std.specs.Prelude.{◌≡◌};
+ghost use Rattle.std.specs.Prelude.{◌≡◌, true, MatchResult};
+ghost use Rattle.js_base.specs.Contexts.{has_flag, in_flag};
 ghost use Rattle.js_grammar.specs.Productions.{at, Assignment, Expression};
 ghost use Rattle.js_core.specs.Answers.{Answers};
 ghost use Rattle.js_core.specs.Nesting.{CanNest, room, symbol_of};
+ghost use Rattle.js_core.specs.StatementLists.{AllRefused, AllTaken};
 ghost use Rattle.js_core.specs.States.{Standing};
 
 use crate::assignment::parse_assignment_expression;
 use crate::nested::{By, Goal, Nested};
 use crate::operators::parse_exponentiation_expression;
 use crate::sequence::parse_sequence_expression;
+use crate::statement_list::parse_directives_and_statements;
 use crate::unary::parse_unary_expression_or_higher;
 use js_cursor::{ParserImpl, Stop};
 use js_lex::{ParserConfig, RuntimeParserConfig};
@@ -61,4 +64,13 @@ pub fn parse_expression(p: &mut Parser<'_>) -> Result<NodeId, Stop>
     ensures { Answers (at Expression) p.old p.new result }
 {
     parse(p, Goal::Expression)
+}
+
+/// The directives and the statements of a text, up to its end (ECMA-262, sections 16.1 and 16.2).
+pub fn parse_statements(p: &mut Parser<'_>) -> Result<Vec<Option<NodeId>>, Stop>
+    requires at { Standing p.old }
+    requires allows_in { has_flag in_flag p.old.ctx ≡ true }
+    ensures { MatchResult result (λ v. AllTaken p.old p.new v.items) (λ e. AllRefused p.old p.new e) }
+{
+    parse_directives_and_statements(p, &By(parse))
 }

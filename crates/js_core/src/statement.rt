@@ -1,0 +1,104 @@
+//! Statements (ECMA-262, chapter 14).
+
+ghost use Rattle.std.specs.Prelude.{◌≡◌, ◌&&◌, ◌↔◌, IsTrue, true, MatchResult};
+ghost use Rattle.js_base.specs.Kinds.{one_of_kinds};
+ghost use Rattle.js_base.specs.Contexts.{has_flag, in_flag};
+ghost use Rattle.js_base.specs.declared.kind.Kind.TheVariants.{Semicolon};
+ghost use Rattle.js_grammar.specs.Productions.{at, ListItem};
+ghost use Rattle.js_core.specs.Answers.{Stops};
+ghost use Rattle.js_core.specs.Nesting.{CanNest, room};
+ghost use Rattle.js_core.specs.States.{Standing};
+ghost use Rattle.js_core.specs.Statements.{TakesStatement, EndsStatement, IsLabel, NoEnd, link_kinds};
+
+use crate::nested::Nested;
+use crate::nodes::make_one;
+use crate::primary::parse_leaf;
+use crate::sequence::parse_sequence_expression;
+use js_base::{Kind, Token};
+use js_cursor::{ParserImpl, Stop};
+use js_lex::ParserConfig;
+use js_tree::{NodeId, NodeKind, Op};
+
+/// A StatementListItem (ECMA-262, section 14.2): an EmptyStatement or an ExpressionStatement.
+pub fn parse_statement_list_item<C: ParserConfig, N: Nested<C>>(
+    p: &mut ParserImpl<'_, C>,
+    nested: &N,
+) -> Result<NodeId, Stop>
+    requires at { Standing p.old }
+    requires nests { CanNest (N.can nested.now) (room p.old) }
+    requires allows_in { has_flag in_flag p.old.ctx ≡ true }
+    ensures { TakesStatement (at ListItem) p.old p.new result }
+{
+    if p.at(Kind::Semicolon) {
+        return parse_empty_statement(p);
+    }
+    parse_expression_statement(p, nested)
+}
+
+/// An EmptyStatement (ECMA-262, section 14.4).
+fn parse_empty_statement<C: ParserConfig>(p: &mut ParserImpl<'_, C>) -> Result<NodeId, Stop>
+    requires at { Standing p.old }
+    requires here { p.old.token.kind ≡ Semicolon }
+    ensures { TakesStatement (at ListItem) p.old p.new result }
+{
+    parse_leaf(p, NodeKind::EmptyStatement, Op::None)
+}
+
+/// An ExpressionStatement (ECMA-262, section 14.5): an expression and its semicolon, which may be left out where the
+/// grammar permits that (12.10). A LabelledStatement isn't read yet: at a label nothing is answered but want of memory.
+fn parse_expression_statement<C: ParserConfig, N: Nested<C>>(
+    p: &mut ParserImpl<'_, C>,
+    nested: &N,
+) -> Result<NodeId, Stop>
+    requires at { Standing p.old }
+    requires nests { CanNest (N.can nested.now) (room p.old) }
+    requires allows_in { has_flag in_flag p.old.ctx ≡ true }
+    requires other { p.old.token.kind ≡ Semicolon → ⊥ }
+    ensures { TakesStatement (at ListItem) p.old p.new result }
+{
+    let start = p.cur_start();
+    let first = p.cur_token();
+    let expression = parse_sequence_expression(p, nested)?;
+    if is_label(p, first) {
+        return Err(Stop::NoMemory);
+    }
+    end_statement(p)?;
+    let span = p.end_span(start);
+    let node = make_one(p, NodeKind::ExpressionStatement, Op::None, span, expression)?;
+    Ok(node)
+}
+
+/// Whether the token that was passed last is this one, a name, and a colon stands behind it.
+fn is_label<C: ParserConfig>(p: &ParserImpl<'_, C>, first: Token) -> bool
+    ensures { IsTrue result ↔ IsLabel first p.now }
+{
+    p.at(Kind::Colon)
+        && matches!(first.kind(), Kind::Ident)
+        && !first.escaped()
+        && first.end() == p.prev_token_end()
+}
+
+/// The semicolon of a statement, or none where the grammar permits that (12.10).
+pub fn end_statement<C: ParserConfig>(p: &mut ParserImpl<'_, C>) -> Result<(), Stop>
+    requires { Standing p.old }
+    ensures { MatchResult result (λ _. EndsStatement p.old p.new) (λ e. Stops p.old p.new e (NoEnd p.old)) }
+{
+    if has_link_on_new_line(p) {
+        return Err(p.set_unexpected());
+    }
+    p.asi()
+}
+
+/// Whether a new line begins with what goes on with a member or an optional chain: no statement begins so.
+fn has_link_on_new_line<C: ParserConfig>(p: &ParserImpl<'_, C>) -> bool
+    ensures { result ≡ (p.now.token.is_on_new_line && one_of_kinds link_kinds p.now.token.kind) }
+{
+    p.cur_token().is_on_new_line() && begins_link(p.cur_kind())
+}
+
+/// A dot, or the sign of an optional chain.
+fn begins_link(kind: Kind) -> bool
+    ensures { result ≡ one_of_kinds link_kinds kind }
+{
+    matches!(kind, Kind::Dot | Kind::QuestionDot)
+}

@@ -1,0 +1,172 @@
+//! What a parse answers.
+
+ghost use Rattle.std.specs.Prelude.{ℕ, ◌≡◌, ◌++◌, List, IfOk, take};
+ghost use Rattle.js_base.specs.declared.options.ParseOptions.{ParseOptions};
+ghost use Rattle.js_base.specs.declared.source_type.SourceType.{SourceType};
+ghost use Rattle.js_cursor.specs.Places.{IsAt};
+ghost use Rattle.js_parser.specs.Parsed.{IsAnswer, IsOverlong};
+ghost use Rattle.js_parser.specs.Taken.{ProgramTaken, ProgramRefused};
+
+use js_base::{
+    Diagnostic, DiagnosticClass, DiagnosticKind, Diagnostics, Kind, NoMemory, SourceType, Span,
+    Spans, Tokens,
+};
+use js_core::Parser;
+use js_lex::Comments;
+use js_record::{ModuleRecord, ModuleRecordBuilder};
+use js_tree::{NodeId, ParserAstBuilder, Tree};
+use std::alloc::Global;
+
+/// A program.
+#[derive(Drop)]
+pub struct Program {
+    /// Its tree; after a fatal diagnostic a node without children.
+    pub tree: Tree,
+    /// How its text was read: never unambiguous.
+    pub source_type: SourceType,
+    /// The comments.
+    pub comments: Comments,
+}
+
+/// What a parse answers.
+#[derive(Drop)]
+pub struct ParserReturn {
+    pub program: Program,
+    /// What the import and export declarations tell.
+    pub module_record: ModuleRecord,
+    /// What was found: faults of lexemes, then what the parser found, a fatal one last.
+    pub diagnostics: Diagnostics,
+    /// White space and line terminators other than space, tab, CR and LF.
+    pub irregular_whitespaces: Spans,
+    /// The tokens, where the config asks for them; none after a fatal diagnostic.
+    pub tokens: Tokens,
+    /// Whether a fatal diagnostic ended the parse.
+    pub fatal_error: bool,
+    /// Whether the text is one of the language Flow; it isn't looked for yet.
+    pub is_flow_language: bool,
+}
+
+/// The answer for a text that was taken to its end, or to where no lexeme stands.
+pub fn taken(
+    source_type: SourceType,
+    p: Parser<'_>,
+    items: Vec<Option<NodeId>>,
+) -> Result<ParserReturn, NoMemory>
+    ensures answer { IfOk result (λ r. (text : List ℕ) (s : SourceType) (o : ParseOptions) → ProgramTaken text s o p.entry items.items → IsAnswer text s o r.program.tree r.diagnostics r.fatal_error) }
+    ensures source_type { IfOk result (λ r. r.program.source_type ≡ source_type) }
+{
+    let span = Span::new(0, p.cur_token().end());
+    let parts = p.into_parts();
+    let kept = parts.lexer.finish();
+    let tree = parts.ast.finish(span, items)?;
+    let diagnostics = joined(kept.errors, parts.errors)?;
+    let (module_record, _) = parts.module_record_builder.build()?;
+    Ok(ParserReturn {
+        program: Program {
+            tree,
+            source_type,
+            comments: kept.comments,
+        },
+        module_record,
+        diagnostics,
+        irregular_whitespaces: kept.irregular_whitespaces,
+        tokens: kept.tokens,
+        fatal_error: false,
+        is_flow_language: false,
+    })
+}
+
+/// The answer for a text whose parse a fatal diagnostic ended: a program without children.
+pub fn refused(source_type: SourceType, p: Parser<'_>) -> Result<ParserReturn, NoMemory>
+    requires { IsAt p }
+    ensures answer { IfOk result (λ r. (text : List ℕ) (s : SourceType) (o : ParseOptions) → ProgramRefused text s o p.entry → IsAnswer text s o r.program.tree r.diagnostics r.fatal_error) }
+    ensures source_type { IfOk result (λ r. r.program.source_type ≡ source_type) }
+{
+    let alloc = p.alloc;
+    let span = Span::new(0, p.source_text.len() as u32);
+    let tells_fault = p.at(Kind::Undetermined) && ends_with_fault(&p.errors);
+    let parts = p.into_parts();
+    let kept = parts.lexer.finish();
+    let tree = parts.ast.finish(span, Vec::new(alloc))?;
+    let faults = fewer_faults(tells_fault, kept.errors);
+    let diagnostics = joined(faults, parts.errors)?;
+    let (module_record, _) = parts.module_record_builder.build()?;
+    Ok(ParserReturn {
+        program: Program {
+            tree,
+            source_type,
+            comments: kept.comments,
+        },
+        module_record,
+        diagnostics,
+        irregular_whitespaces: kept.irregular_whitespaces,
+        tokens: Tokens::new(alloc),
+        fatal_error: true,
+        is_flow_language: false,
+    })
+}
+
+/// The answer for a text that is too long.
+pub fn overlong(alloc: Global, source_type: SourceType) -> Result<ParserReturn, NoMemory>
+    ensures answer { IfOk result (λ r. IsOverlong r.program.tree r.diagnostics r.fatal_error) }
+    ensures source_type { IfOk result (λ r. r.program.source_type ≡ source_type) }
+{
+    let mut diagnostics = Diagnostics::new(alloc);
+    let span = Span::empty(0);
+    diagnostics.push(Diagnostic {
+        kind: DiagnosticKind::OverlongSource,
+        span,
+        first: None,
+        second: None,
+    })?;
+    let ast = ParserAstBuilder::new(alloc)?;
+    let tree = ast.finish(span, Vec::new(alloc))?;
+    let (module_record, _) = ModuleRecordBuilder::new(alloc, source_type).build()?;
+    Ok(ParserReturn {
+        program: Program {
+            tree,
+            source_type,
+            comments: Comments::new(alloc),
+        },
+        module_record,
+        diagnostics,
+        irregular_whitespaces: Spans::new(alloc),
+        tokens: Tokens::new(alloc),
+        fatal_error: true,
+        is_flow_language: false,
+    })
+}
+
+/// Whether the last diagnostic is a fault of lexemes.
+fn ends_with_fault(found: &Diagnostics) -> bool {
+    let count = found.len();
+    if count == 0 {
+        return false;
+    }
+    matches!(found[count - 1].kind.class(), DiagnosticClass::Lexical)
+}
+
+/// The faults that are told beside a fatal diagnostic: without the last one, where that is the fatal one itself.
+fn fewer_faults(tells_fault: bool, faults: Diagnostics) -> Diagnostics
+    ensures { (n : ℕ) × (result ≡ take n faults) }
+{
+    let mut faults = faults;
+    let count = faults.len();
+    if tells_fault && count > 0 {
+        faults.truncate(count - 1);
+    }
+    faults
+}
+
+/// One list behind another.
+fn joined(first: Diagnostics, second: Diagnostics) -> Result<Diagnostics, NoMemory>
+    ensures { IfOk result (λ all. all ≡ first ++ second) }
+{
+    let mut all = first;
+    let mut i = 0;
+    'second: while i < second.len() {
+        all.push(second[i])?;
+        i += 1;
+    }
+    Ok(all)
+}

@@ -1,0 +1,12 @@
+//! The parser of a whole text: its tree, or what is wrong with it.
+#![tactic(auto)]
+
+mod answer;
+mod parser;
+mod program;
+
+pub use answer::{ParserReturn, Program};
+pub use parser::Parser;
+
+#[cfg(test)]
+mod tests;

@@ -1,0 +1,120 @@
+//! The public call.
+
+ghost use Rattle.std.specs.Prelude.{◌≡◌, ◌≢◌, ◌≤◌, length, IfOk};
+ghost use Rattle.js_base.specs.declared.TheConstants.{MAX_LEN};
+ghost use Rattle.js_base.specs.declared.source_type.Goal.TheVariants.{Unambiguous};
+ghost use Rattle.js_base.specs.Sources.{is_goal};
+ghost use Rattle.js_parser.specs.Parsed.{Answers, IsAnswer, Settles};
+
+use crate::answer::{ParserReturn, overlong, refused, taken};
+use crate::program::parse_program;
+use js_base::{MAX_LEN, NoMemory, ParseOptions, SourceType};
+use js_cursor::{ParserImpl, Stop};
+use js_lex::{LexerConfig, NoTokensParserConfig, ParserConfig, RuntimeParserConfig};
+use std::alloc::Global;
+
+/// The parser of one text.
+#[derive(Drop)]
+pub struct Parser<'a, C: ParserConfig> {
+    alloc: Global,
+    source_text: &'a str,
+    source_type: SourceType,
+    options: ParseOptions,
+    config: C,
+}
+
+impl<'a> Parser<'a, NoTokensParserConfig> {
+    /// The parser of a text, by default options, that keeps no tokens; it takes no memory.
+    pub fn new(alloc: Global, source_text: &'a str, source_type: SourceType) -> Self
+        ensures source_text { result.source_text.now ≡ source_text.now }
+        ensures source_type { result.source_type ≡ source_type }
+    {
+        Parser {
+            alloc,
+            source_text,
+            source_type,
+            options: ParseOptions::default(),
+            config: NoTokensParserConfig,
+        }
+    }
+}
+
+impl<'a, C: ParserConfig> Parser<'a, C> {
+    /// The same with other options.
+    pub fn with_options(self, options: ParseOptions) -> Self
+        ensures source_text { result.source_text.now ≡ self.entry.source_text.now }
+        ensures source_type { result.source_type ≡ self.entry.source_type }
+        ensures options { result.options ≡ options }
+    {
+        Parser { options, ..self }
+    }
+
+    /// The same with another config, which may ask for the tokens.
+    pub fn with_config<D: ParserConfig>(self, config: D) -> Parser<'a, D>
+        ensures source_text { result.source_text.now ≡ self.entry.source_text.now }
+        ensures source_type { result.source_type ≡ self.entry.source_type }
+        ensures options { result.options ≡ self.entry.options }
+    {
+        Parser {
+            alloc: self.alloc,
+            source_text: self.source_text,
+            source_type: self.source_type,
+            options: self.options,
+            config,
+        }
+    }
+
+    /// Reads the text. Without diagnostics the tree is the only one that Program derives from the text's lexemes; where
+    /// something was found that isn't just a fault that lexemes pass, Program derives none. All this of lexemes of the kinds
+    /// that are read so far.
+    pub fn parse(self) -> Result<ParserReturn, NoMemory>
+        ensures { IfOk result (λ r. Answers self.entry.source_text.now self.entry.source_type r.program.source_type self.entry.options r.program.tree r.diagnostics r.fatal_error) }
+    {
+        let source_type = settled(self.source_type);
+        if self.source_text.len() > MAX_LEN {
+            return overlong(self.alloc, source_type);
+        }
+        let tokens = self.config.lexer_config().tokens();
+        parse_as(
+            self.alloc,
+            self.source_text,
+            source_type,
+            self.options,
+            tokens,
+        )
+    }
+}
+
+/// How a text is read: an unambiguous one as a script, since what shows a module isn't read yet.
+fn settled(source_type: SourceType) -> SourceType
+    ensures settles { Settles source_type result }
+    ensures named { is_goal result ≢ Unambiguous }
+{
+    if source_type.is_unambiguous() {
+        SourceType::script()
+    } else {
+        source_type
+    }
+}
+
+/// Reads a text at a named goal.
+fn parse_as(
+    alloc: Global,
+    source_text: &str,
+    source_type: SourceType,
+    options: ParseOptions,
+    tokens: bool,
+) -> Result<ParserReturn, NoMemory>
+    requires short { length source_text.now ≤ MAX_LEN }
+    requires named { is_goal source_type ≢ Unambiguous }
+    ensures answer { IfOk result (λ r. IsAnswer source_text.now source_type options r.program.tree r.diagnostics r.fatal_error) }
+    ensures source_type { IfOk result (λ r. r.program.source_type ≡ source_type) }
+{
+    let config = RuntimeParserConfig::new(tokens);
+    let mut p = ParserImpl::new(alloc, source_text, source_type, options, config)?;
+    match parse_program(&mut p) {
+        Ok(items) => taken(source_type, p, items),
+        Err(Stop::Fatal) => refused(source_type, p),
+        Err(Stop::NoMemory) => Err(NoMemory),
+    }
+}
