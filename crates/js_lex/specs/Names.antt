@@ -2,17 +2,13 @@
 use Rattle.std.specs.Prelude.{ℕ, ◌≡◌, ◌<◌, ◌≤◌, Bool, true, false, not, ◌&&◌, List, [], ◌∷◌, ◌++◌, Option, Some, None, IsCharBoundary, length, take, nat_lt, nat_le, ◌||◌, ◌==◌}
 use Rattle.std.specs.List.{list_all}
 use Rattle.js_base.specs.declared.kind.Kind.TheVariants.{Ident}
-use Rattle.js_base.specs.Escapes.{in_name, code_points, Stage, outside, backslash, unicode, due, braced, Step, go, before_all}
+use Rattle.js_base.specs.Escapes.{in_name, code_points, before_all}
 use Rattle.js_base.specs.Keywords.{keyword_of}
 use Rattle.js_grammar.specs.Characters.{is_identifier_start, is_identifier_part, begins}
 use Rattle.js_grammar.specs.Names.{is_plain_name, has_backslash}
 use Rattle.js_grammar.specs.LexicalFaults.{behind}
 use Rattle.js_lex.specs.declared.name.Position.{Position}
 use Rattle.js_lex.specs.declared.name.Position.TheVariants.{Start, Part}
-use Rattle.js_lex.specs.declared.name.State.{State}
-use Rattle.js_lex.specs.declared.name.State.TheVariants.{Backslash, Unicode, Due, Braced}
-use Rattle.js_lex.specs.declared.name.Progress.{Progress}
-use Rattle.js_lex.specs.declared.name.Progress.TheVariants.{Goes, Names, Fails}
 use Rattle.js_lex.specs.declared.name.Escape.{Escape}
 use Rattle.js_lex.specs.declared.name.Piece.{Piece}
 use Rattle.js_lex.specs.declared.name.Letters.{Letters}
@@ -41,31 +37,6 @@ Refuses test cs = (c : ℕ) (x more : List ℕ) → cs ≡ c ∷ x ++ more → i
 -- No front of the characters but the empty one and the whole stands for code points.
 abbrev pub Unfinished : List ℕ → Type 0
 Unfinished w = (c : ℕ) (x : List ℕ) (d : ℕ) (more : List ℕ) → w ≡ c ∷ x ++ d ∷ more → code_points in_name (c ∷ x) ≡ None
-
--- the stage that a state of the scan stands for
-abbrev pub stage_of : State → Stage
-stage_of Backslash = backslash
-stage_of Unicode = unicode
-stage_of (Due n v) = due n v
-stage_of (Braced any v) = braced any v
-
--- what a character does to a stage, as the scan tells it
-abbrev pub step_of : Progress → Option Step
-step_of (Goes s) = go (stage_of s) []
-step_of (Names p) = go outside (p ∷ [])
-step_of Fails = None
-
--- the value so far is that of the digits read
-abbrev pub fits : State → Bool
-fits Backslash = true
-fits Unicode = true
-fits (Due n v) = (nat_le n 1 && nat_lt v 4096) || ((nat_le n 2 && nat_lt v 256) || (nat_le n 3 && nat_lt v 16))
-fits (Braced any v) = nat_le v 0x10_FFFF
-
--- the value fits where the escape sequence goes on
-abbrev pub step_fits : Progress → Bool
-step_fits (Goes s) = fits s
-step_fits _ = true
 
 -- an escape sequence stands at the place
 pub record IsEscape (text : List ℕ) (i : ℕ) (e : Escape) : Type 0 where

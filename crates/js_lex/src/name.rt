@@ -1,7 +1,6 @@
 //! Names and private names (ECMA-262, section 12.7).
 
 ghost use Rattle.std.specs.Prelude.{◌≡◌, ◌<◌, ◌≤◌, ℕ, ◌+◌, ◌||◌, ◌==◌, List, [], ◌∷◌, ◌++◌, true, false, length, MatchResult, IfSome, IsCharBoundary, IsTrue};
-ghost use Rattle.js_base.specs.Escapes.{in_name, unicode, step as escape_step};
 ghost use Rattle.js_base.specs.Keywords.{keyword_of};
 ghost use Rattle.js_grammar.specs.Characters.{begins, is_identifier_start, is_identifier_part};
 ghost use Rattle.js_grammar.specs.LexicalFaults.{behind};
@@ -11,16 +10,15 @@ ghost use Rattle.js_base.specs.declared.diagnostic.DiagnosticKind.TheVariants.{I
 ghost use Rattle.js_lex.specs.Faults.{PartsEnd};
 ghost use Rattle.js_lex.specs.Places.{Word, High};
 ghost use Rattle.js_lex.specs.Scans.{Scans, IsScanned, IsStopped};
-ghost use Rattle.js_lex.specs.declared.name.State.TheVariants.{Due, Braced};
 
 use crate::byte_class::class_of;
 use crate::character::next_character;
 use crate::class;
 use crate::part::parts_end;
-use crate::place::byte_at;
+use crate::place::{byte_at, is_at};
 use crate::scan::{Fault, Scan, Scanned};
 use crate::word::kind_of_word;
-use js_base::{DiagnosticKind, Kind};
+use js_base::{CodePointEscape, CodePointStep, DiagnosticKind, Kind};
 
 /// Where a code point stands in a name.
 #[derive(Debug, Clone, Copy)]
@@ -29,30 +27,6 @@ enum Position {
     Start,
     /// Behind that: IdentifierPart.
     Part,
-}
-
-/// What stands before a character of an escape sequence.
-#[derive(Debug, Clone, Copy)]
-enum State {
-    /// A backslash.
-    Backslash,
-    /// A backslash and `u`.
-    Unicode,
-    /// `\u` and digits: how many more are due, and the value of those before.
-    Due(u32, u32),
-    /// `\u{`, whether a digit stands behind it, and the value of the digits.
-    Braced(bool, u32),
-}
-
-/// What a character of an escape sequence does.
-#[derive(Debug, Clone, Copy)]
-enum Progress {
-    /// The escape sequence goes on.
-    Goes(State),
-    /// It ends, and names a code point.
-    Names(u32),
-    /// No escape sequence goes on so.
-    Fails,
 }
 
 /// An escape sequence: the code point that it names, and the place behind it.
@@ -479,102 +453,27 @@ fn escape_at(text: &str, at: usize) -> Result<Escape, usize>
     requires { Word text.now at (at + 1) (92 ∷ []) }
     ensures { MatchResult result (λ e. names.IsEscape text.now at e) (λ end. names.NoEscape text.now at end) }
 {
-    let mut end = at + 1;
-    let mut state = State::Backslash;
+    if !is_at(text, at + 1, b'u') {
+        return Err(at + 1);
+    }
+    let mut end = at + 2;
+    let mut escape = CodePointEscape::Unicode;
     'escape: loop {
         match byte_at(text, end) {
-            Some(byte) => match step(state, byte) {
-                Progress::Goes(next) => {
-                    state = next;
+            Some(byte) => match escape.step(char::from(byte)) {
+                CodePointStep::Goes(next) => {
+                    escape = next;
                     end += 1;
                 }
-                Progress::Names(code_point) => {
+                CodePointStep::Names(code_point) => {
                     return Ok(Escape {
                         code_point,
                         end: end + 1,
                     });
                 }
-                Progress::Fails => return Err(end),
+                CodePointStep::Fails => return Err(end),
             },
             None => return Err(end),
-        }
-    }
-}
-
-/// What a byte of an escape sequence does.
-fn step(state: State, byte: u8) -> Progress
-    requires { names.fits state ≡ true }
-    ensures step { names.step_of result ≡ escape_step in_name (names.stage_of state) byte }
-    ensures fits { names.step_fits result ≡ true }
-{
-    match state {
-        State::Backslash => {
-            if byte == b'u' {
-                Progress::Goes(State::Unicode)
-            } else {
-                Progress::Fails
-            }
-        }
-        State::Unicode => unicode_step(byte),
-        State::Due(due, value) => due_step(due, value, byte),
-        State::Braced(any, value) => braced_step(any, value, byte),
-    }
-}
-
-/// A byte behind `\u`.
-fn unicode_step(byte: u8) -> Progress
-    ensures step { names.step_of result ≡ escape_step in_name unicode byte }
-    ensures fits { names.step_fits result ≡ true }
-{
-    if byte == b'{' {
-        return Progress::Goes(State::Braced(false, 0));
-    }
-    match (byte as char).to_digit(16) {
-        Some(digit) => Progress::Goes(State::Due(3, digit)),
-        None => Progress::Fails,
-    }
-}
-
-/// A byte where hexadecimal digits are due.
-fn due_step(due: u32, value: u32, byte: u8) -> Progress
-    requires { names.fits (Due due value) ≡ true }
-    ensures step { names.step_of result ≡ escape_step in_name (names.stage_of (Due due value)) byte }
-    ensures fits { names.step_fits result ≡ true }
-{
-    match (byte as char).to_digit(16) {
-        Some(digit) => {
-            let more = value * 16 + digit;
-            if due <= 1 {
-                Progress::Names(more)
-            } else {
-                Progress::Goes(State::Due(due - 1, more))
-            }
-        }
-        None => Progress::Fails,
-    }
-}
-
-/// A byte behind `\u{` and the digits there.
-fn braced_step(any: bool, value: u32, byte: u8) -> Progress
-    requires { names.fits (Braced any value) ≡ true }
-    ensures step { names.step_of result ≡ escape_step in_name (names.stage_of (Braced any value)) byte }
-    ensures fits { names.step_fits result ≡ true }
-{
-    match (byte as char).to_digit(16) {
-        Some(digit) => {
-            let more = value * 16 + digit;
-            if more <= 0x10_FFFF {
-                Progress::Goes(State::Braced(true, more))
-            } else {
-                Progress::Fails
-            }
-        }
-        None => {
-            if any && byte == b'}' {
-                Progress::Names(value)
-            } else {
-                Progress::Fails
-            }
         }
     }
 }
