@@ -2,6 +2,7 @@
 use Rattle.std.proofs.Common.{◌≡◌, ◌<◌, ◌≤◌, ◌==◌, ℕ, ◌+◌, Bool, true, false, List, [], ◌∷◌, ◌++◌, refl, sym, ap, subst, ◌∙◌, ◌||◌, append_assoc, Option, Some, None, ◌⊎◌, inl, inr, arith}
 use Rattle.std.proofs.lemmas.Bool.{cases_lt}
 use Rattle.std.proofs.lemmas.Bool.Decides.{nat_tests}
+use Rattle.std.specs.Char.{len_utf8}
 use Rattle.js_base.specs.CodePointEscapes.{stage_of, fits}
 use Rattle.js_base.specs.declared.code_point_escape.CodePointEscape.{CodePointEscape}
 use Rattle.js_base.specs.declared.code_point_escape.CodePointEscape.TheVariants.{Unicode, Due, Braced}
@@ -172,8 +173,8 @@ begun-unicode {text = text} {i = i} s f =
 word_here : {text : List ℕ} {j b : ℕ} (s : Stage) (t : Step) → finish s ≡ None → Peeks text j b → step in_name s b ≡ Some t → Word text j (j + 1) (b ∷ [])
 word_here {b = b} s t f p e = p.ascii (low s b t f e)
 
-pub begun-more : {text : List ℕ} {i j b : ℕ} {s : Stage} {e : CodePointEscape} → Begun text i j s → Peeks text j b → step in_name s b ≡ go (stage_of e) [] → fits (stage_of e) ≡ true → Begun text i (j + 1) (stage_of e)
-begun-more {s = s} {e = e} a p h f = begun-on a (word_here s (record { stage = stage_of e; gives = [] }) a.inside.cut p h) h (no-finish e) f
+pub begun-more : {text : List ℕ} {i j b : ℕ} {s : Stage} (e : CodePointEscape) → Begun text i j s → Peeks text j b → step in_name s b ≡ go (stage_of e) [] → fits (stage_of e) ≡ true → Begun text i (j + 1) (stage_of e)
+begun-more {s = s} e a p h f = begun-on a (word_here s (record { stage = stage_of e; gives = [] }) a.inside.cut p h) h (no-finish e) f
 
 pub escape-ends : {text : List ℕ} {i j b p : ℕ} {s : Stage} → Begun text i j s → Peeks text j b → step in_name s b ≡ go outside (p ∷ []) → IsEscape text i (record { code_point = p; end = j + 1 })
 escape-ends {b = b} {p = p} {s = s} a k h = record {
@@ -201,9 +202,9 @@ fails-with {text = text} {i = i} {j = j} {c = c} {s = s} rest a b h = record {
 }
 
 pub escape-fails : {text : List ℕ} {i j b : ℕ} {s : Stage} → Begun text i j s → Peeks text j b → step in_name s b ≡ None → NoEscape text i j
-escape-fails {b = b} {s = s} a p h = elim (cases_lt b 128) [
-  | inl l ↦ fails-with (behind _ _) a (p.ascii l).splits h
-  | inr g ↦ (let t = p.high g in fails-with (behind _ _) a t.word.splits (high-fails s t.character a.inside.cut t.high))
+escape-fails {text = text} {j = j} {b = b} {s = s} a p h = elim (cases_lt b 128) [
+  | inl l ↦ fails-with (behind text (j + 1)) a (p.ascii l).splits h
+  | inr g ↦ (let t = p.high g in fails-with (behind text (j + len_utf8 t.character)) a t.word.splits (high-fails s t.character a.inside.cut t.high))
 ]
 
 -- behind a backslash no `u` stands

@@ -1,14 +1,12 @@
 -- The token that is made of what a scan answers, and what is kept of it.
 use Rattle.std.specs.Prelude.{ℕ, ◌+◌, ◌≡◌, ◌<◌, ◌≤◌, ◌⊎◌, Bool, true, false, List, [], ◌∷◌, Result, Ok, Err, None, IsCharBoundary}
 use Rattle.js_base.specs.declared.kind.Kind.TheVariants.{RAngle, RegExp, Undetermined}
-use Rattle.js_base.specs.declared.span.Span.{Span}
 use Rattle.js_base.specs.declared.token.Token.{Token}
-use Rattle.js_base.specs.declared.diagnostic.DiagnosticKind.TheVariants.{RegExpFlag}
 use Rattle.js_base.specs.declared.diagnostic.Diagnostic.{Diagnostic}
 use Rattle.js_lex.specs.declared.scan.Scanned.{Scanned}
 use Rattle.js_lex.specs.declared.scan.Fault.{Fault}
 use Rattle.js_lex.specs.declared.output.LexerOutput.{LexerOutput}
-use Rattle.js_lex.specs.Kept.{Grows, fault_at}
+use Rattle.js_lex.specs.Kept.{Grows}
 use Rattle.js_lex.specs.Reading.{is_right_angle, kept_token, relexed, flag_faults, GivesNext}
 use Rattle.js_grammar.specs.Settings.{Goal}
 use Rattle.js_grammar.specs.Lexemes.{regular_expression, division}
@@ -66,11 +64,6 @@ pub record IsStoppedAgain (text : List ℕ) (keeps : Bool) (given : Token) (old 
 
 abbrev pub IsReadAgain : List ℕ → Bool → Token → LexerOutput → LexerOutput → Token → ℕ → Type 0
 IsReadAgain text keeps given old new t pattern_end = IsFoundAgain text keeps given old new t pattern_end ⊎ IsStoppedAgain text keeps given old new t pattern_end
-
--- the fault that a flag is, if it is wrong
-abbrev pub flag_told : Bool → Span → List Diagnostic
-flag_told true span = fault_at RegExpFlag span ∷ []
-flag_told false span = []
 
 -- what was scanned ends between characters, and a fault begins so
 abbrev pub ScanEnds : List ℕ → Result Scanned Fault → Type 0

@@ -460,7 +460,7 @@ fn escape_at(text: &str, at: usize) -> Result<Escape, usize>
     let mut escape = CodePointEscape::Unicode;
     'escape: loop {
         match byte_at(text, end) {
-            Some(byte) => match escape.step(char::from(byte)) {
+            Some(byte) => match escape.step(byte as char) {
                 CodePointStep::Goes(next) => {
                     escape = next;
                     end += 1;

@@ -6,7 +6,7 @@ ghost use Rattle.js_base.specs.declared.kind.Kind.TheVariants.{RegExp};
 ghost use Rattle.js_lex.specs.Places.{Word};
 ghost use Rattle.js_lex.specs.Kept.{Grows, Extends};
 ghost use Rattle.js_lex.specs.Reading.{flag_faults};
-ghost use Rattle.js_lex.specs.Settling.{Fits, SettledAgain, IsReadAgain, flag_told};
+ghost use Rattle.js_lex.specs.Settling.{Fits, SettledAgain, IsReadAgain};
 ghost use Rattle.js_base.specs.Characters.{one_of};
 ghost use Rattle.js_grammar.specs.Characters.{begins};
 ghost use Rattle.js_grammar.specs.LexicalFaults.{behind};
@@ -103,20 +103,12 @@ pub(crate) fn keep_wrong_flags(
         let Some(flag) = flag_at(text, at, seen) else {
             return Ok(());
         };
-        keep_flag_fault(kept, flag.is_wrong, Span::new(at as u32, flag.end as u32))?;
+        if flag.is_wrong {
+            let span = Span::new(at as u32, flag.end as u32);
+            kept.keep_fault(DiagnosticKind::RegExpFlag, span)?;
+        }
         at = flag.end;
         seen = flag.seen;
-    }
-    Ok(())
-}
-
-/// Keeps the fault that a flag is, if it is wrong.
-fn keep_flag_fault(kept: &mut LexerOutput, is_wrong: bool, span: Span) -> Result<(), NoMemory>
-    ensures ok { OnOk result (Grows kept.old kept.new [] [] [] (flag_told is_wrong span)) }
-    ensures err { OnErr result (Extends kept.old kept.new) }
-{
-    if is_wrong {
-        kept.keep_fault(DiagnosticKind::RegExpFlag, span)?;
     }
     Ok(())
 }

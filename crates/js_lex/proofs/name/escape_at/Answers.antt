@@ -11,7 +11,7 @@ pub escape-init : goal.escape-init
 escape-init c = begun-unicode c.requires (subst (Finds (λ d. d == 117) c.args.text.now (_)) c.if-not-is_at.false c.is_at.ensures)
 
 pub escape-preserved : goal.escape-preserved
-escape-preserved c = begun-more c.escape.invariant c.in-Some.ensures (sym (c.in-Goes.ensures.step in_name)) c.in-Goes.ensures.fits
+escape-preserved c = begun-more c.in-Goes.next c.escape.invariant c.in-Some.ensures (sym (c.in-Goes.ensures.step in_name)) c.in-Goes.ensures.fits
 
 pub returns-in-Names : goal.returns-in-Names
 returns-in-Names c = escape-ends c.escape.invariant c.in-Some.ensures (sym (c.in-Names.ensures.step in_name))
