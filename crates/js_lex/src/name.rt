@@ -14,7 +14,7 @@ ghost use Rattle.js_lex.specs.Scans.{Scans, IsScanned, IsStopped};
 use crate::byte_class::class_of;
 use crate::character::next_character;
 use crate::class;
-use crate::part::parts_end;
+use crate::part::{ascii_parts_end, parts_end};
 use crate::place::{byte_at, is_at};
 use crate::scan::{Fault, Scan, Scanned};
 use crate::word::kind_of_word;
@@ -264,33 +264,6 @@ fn is_at_end(text: &str, at: usize) -> bool
         Ok(_) => false,
         Err(_) => true,
     }
-}
-
-/// The place behind the ASCII characters of a name from a place on.
-fn ascii_parts_end(text: &str, at: usize) -> usize
-    requires { IsCharBoundary text.now at }
-    ensures { names.AsciiParts text.now at result }
-{
-    let mut end = at;
-    'parts: loop {
-        match byte_at(text, end) {
-            Some(byte) => {
-                if !is_ascii_part(byte) {
-                    return end;
-                }
-                end += 1;
-            }
-            None => return end,
-        }
-    }
-}
-
-/// Whether a byte is an ASCII character of a name.
-#[inline]
-fn is_ascii_part(byte: u8) -> bool
-    ensures { result ≡ names.is_ascii_part byte }
-{
-    class_of(byte).is_in_name()
 }
 
 /// The longest name whose first code point is known, each character of it taken for what it stands for.

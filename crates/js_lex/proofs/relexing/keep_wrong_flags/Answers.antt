@@ -19,7 +19,7 @@ returns-in_err-keep_fault-clause-err c = on_err c.from_residual.result (extend_o
 
 pub flags-preserved : goal.flags-preserved
 flags-preserved c = elim c.if-flag.branch [
-  | then-flag+in_ok-keep_fault w ↦ subst (λ (o : LexerOutput). FlaggedSo c.args.text.now c.args.found.pattern_end c.args.found.end c.in-Some.flag.end c.in-Some.flag.seen c.args.kept.now o) (sym w.kept-is) (flagged_wrong w.keep_fault.new.kept c.in-Some.flag w.new-span.result c.flags.invariant c.in-Some.ensures c.flags-test.true w.if-flag.true w.new-span.ensures.start w.new-span.ensures.end w.in_ok-keep_fault.ensures.ok)
+  | then-flag+in_ok-keep_fault w ↦ subst (λ (o : LexerOutput). FlaggedSo c.args.text.now c.args.found.pattern_end c.args.found.end c.in-Some.flag.end c.in-Some.flag.seen c.args.kept.now o) (sym w.kept-is) (flagged_wrong w.keep_fault.new.self c.in-Some.flag w.new-span.result c.flags.invariant c.in-Some.ensures c.flags-test.true w.if-flag.true w.new-span.ensures.start w.new-span.ensures.end w.in_ok-keep_fault.ensures.ok)
   | else-flag w ↦ subst (λ (o : LexerOutput). FlaggedSo c.args.text.now c.args.found.pattern_end c.args.found.end c.in-Some.flag.end c.in-Some.flag.seen c.args.kept.now o) (sym w.kept-is) (flagged_right c.in-Some.flag c.flags.invariant c.in-Some.ensures c.flags-test.true w.if-flag.false)
 ]
 
