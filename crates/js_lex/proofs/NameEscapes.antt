@@ -14,7 +14,7 @@ use Rattle.js_grammar.proofs.LongestLemmas.{append-nil}
 use Rattle.js_lex.specs.declared.name.Escape.{Escape}
 use Rattle.js_lex.specs.Places.{Word, Peeks, Finds}
 use Rattle.js_lex.specs.Names.{Spells, Refuses, is_refused, Unfinished, IsEscape, NoEscape, NoPiece}
-use Rattle.js_lex.proofs.Places.{then}
+use Rattle.js_lex.proofs.Places.{then, found}
 use Rattle.js_lex.proofs.Names.{backslash-append}
 
 -- Behind the characters an escape sequence is at a stage.
@@ -167,8 +167,7 @@ begun-on {b = b} {s = s} {t = t} a w h n f = record {
 -- behind a backslash and `u`
 pub begun-unicode : {text : List ℕ} {i : ℕ} → Word text i (i + 1) (92 ∷ []) → Finds (λ c. c == 117) text (i + 1) true → Begun text i (i + 2) unicode
 begun-unicode {text = text} {i = i} s f =
-    let w : Word text (i + 1) ((i + 1) + 1) (117 ∷ []) = subst (λ (c : ℕ). Word text (i + 1) ((i + 1) + 1) (c ∷ [])) (let e = f.2 in grind (arith, nat_tests)) f.1 in
-    subst (λ (n : ℕ). Begun text i n unicode) (let z : (i + 1) + 1 ≡ i + 2 = omega arith in z) (begun-on (begun-first text i s) w refl refl refl)
+    subst (λ (n : ℕ). Begun text i n unicode) (let z : (i + 1) + 1 ≡ i + 2 = omega arith in z) (begun-on (begun-first text i s) (found 117 f) refl refl refl)
 
 word_here : {text : List ℕ} {j b : ℕ} (s : Stage) (t : Step) → finish s ≡ None → Peeks text j b → step in_name s b ≡ Some t → Word text j (j + 1) (b ∷ [])
 word_here {b = b} s t f p e = p.ascii (low s b t f e)

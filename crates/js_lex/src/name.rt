@@ -177,7 +177,7 @@ fn fault_behind_mark(text: &str, at: usize, place: usize) -> Fault
     requires none { names.Refuses is_identifier_start (behind text.now place) }
     ensures { IsStopped division text.now at result }
 {
-    if is_backslash_at(text, place) {
+    if is_at(text, place, b'\\') {
         invalid_escape(text, place)
     } else {
         Fault {
@@ -185,17 +185,6 @@ fn fault_behind_mark(text: &str, at: usize, place: usize) -> Fault
             start: at,
             end: place,
         }
-    }
-}
-
-/// Whether a backslash stands at a place.
-fn is_backslash_at(text: &str, at: usize) -> bool
-    requires { IsCharBoundary text.now at }
-    ensures { result ≡ begins (λ c. c == 92) (behind text.now at) }
-{
-    match byte_at(text, at) {
-        Some(byte) => byte == b'\\',
-        None => false,
     }
 }
 
