@@ -193,21 +193,9 @@ fn longest_name(text: &str, at: usize) -> Result<Name, usize>
     requires { IsCharBoundary text.now at }
     ensures { MatchResult result (λ n. names.IsName text.now at n) (λ end. names.NoPiece is_identifier_start text.now at end) }
 {
-    match first_piece(text, at) {
+    match piece_at(text, at, Position::Start) {
         Ok(first) => Ok(name_from(text, at, first)),
         Err(end) => Err(end),
-    }
-}
-
-/// The character or the escape sequence at a place, if a name may begin with it.
-#[inline]
-fn first_piece(text: &str, at: usize) -> Result<Piece, usize>
-    requires { IsCharBoundary text.now at }
-    ensures { MatchResult result (λ p. names.IsPiece is_identifier_start text.now at p) (λ end. names.NoPiece is_identifier_start text.now at end) }
-{
-    match byte_at(text, at) {
-        Some(byte) if byte < 128 && byte != b'\\' => ascii_piece(text, at, byte, Position::Start),
-        _ => piece_at(text, at, Position::Start),
     }
 }
 
@@ -319,52 +307,16 @@ fn piece_at(text: &str, at: usize, position: Position) -> Result<Piece, usize>
     requires { IsCharBoundary text.now at }
     ensures { MatchResult result (λ p. names.IsPiece (names.may_stand position) text.now at p) (λ end. names.NoPiece (names.may_stand position) text.now at end) }
 {
-    match byte_at(text, at) {
-        Some(b'\\') => escaped_piece(text, at, position),
-        Some(byte) if byte < 128 => ascii_piece(text, at, byte, position),
-        Some(_) => other_piece(text, at, position),
-        None => Err(at),
+    if is_at(text, at, b'\\') {
+        return escaped_piece(text, at, position);
     }
-}
-
-/// An ASCII character, if it may stand in a name.
-fn ascii_piece(text: &str, at: usize, byte: u8, position: Position) -> Result<Piece, usize>
-    requires word { Word text.now at (at + 1) (byte ∷ []) }
-    requires plain { (byte == 92) ≡ false }
-    requires within { at < length text.now }
-    requires ascii { byte < 128 }
-    ensures { MatchResult result (λ p. names.IsPiece (names.may_stand position) text.now at p) (λ end. names.NoPiece (names.may_stand position) text.now at end) }
-{
-    if may_stand(byte as char, position) {
-        Ok(Piece {
-            code_point: byte as u32,
-            end: at + 1,
-            escaped: false,
-        })
-    } else {
-        Err(at)
-    }
-}
-
-/// A character above ASCII, if it may stand in a name.
-fn other_piece(text: &str, at: usize, position: Position) -> Result<Piece, usize>
-    requires boundary { IsCharBoundary text.now at }
-    requires high { High text.now at }
-    ensures { MatchResult result (λ p. names.IsPiece (names.may_stand position) text.now at p) (λ end. names.NoPiece (names.may_stand position) text.now at end) }
-{
     match next_character(text, at) {
-        Some(next) => {
-            if may_stand(next.value, position) {
-                Ok(Piece {
-                    code_point: next.value as u32,
-                    end: next.end,
-                    escaped: false,
-                })
-            } else {
-                Err(at)
-            }
-        }
-        None => Err(at),
+        Some(next) if may_stand(next.value, position) => Ok(Piece {
+            code_point: next.value as u32,
+            end: next.end,
+            escaped: false,
+        }),
+        _ => Err(at),
     }
 }
 
