@@ -13,7 +13,7 @@ use Rattle.js_grammar.specs.LexicalFaults.{behind}
 use Rattle.js_grammar.proofs.LongestLemmas.{append-nil}
 use Rattle.js_lex.specs.declared.name.Escape.{Escape}
 use Rattle.js_lex.specs.Places.{Word, Peeks, Finds}
-use Rattle.js_lex.specs.Names.{Spells, Refuses, is_refused, Unfinished, IsEscape, NoEscape, NoPiece}
+use Rattle.js_lex.specs.Names.{Spells, Refuses, is_refused, Unfinished, IsEscape}
 use Rattle.js_lex.proofs.Places.{then, found}
 use Rattle.js_lex.proofs.Names.{backslash-append}
 
@@ -185,38 +185,29 @@ escape-ends {b = b} {p = p} {s = s} a k h = record {
   some = let l = a.some in omega arith;
 }
 
-pub escape-cut : {text : List ℕ} {i j : ℕ} {s : Stage} → Begun text i j s → behind text j ≡ [] → NoEscape text i j
-escape-cut {text = text} {i = i} {j = j} {s = s} a e = record {
-  refuses = λ test. subst (λ (v : List ℕ). Refuses test v) (sym a.stands.splits) (refuses-inside test a.word (behind text j) s a.inside (λ y more q. fails-none s (behind text j) y more a.inside.cut e q));
-  some = a.some;
-  between = a.stands.boundary;
-}
+-- whatever a name asks of a code point, no escape sequence stands there
+abbrev NoEscape : List ℕ → ℕ → Type 0
+NoEscape text i = (test : ℕ → Bool) → Refuses test (behind text i)
 
-fails-with : {text : List ℕ} {i j c : ℕ} {s : Stage} (rest : List ℕ) → Begun text i j s → behind text j ≡ c ∷ rest → step in_name s c ≡ None → NoEscape text i j
-fails-with {text = text} {i = i} {j = j} {c = c} {s = s} rest a b h = record {
-  refuses = λ test. subst (λ (v : List ℕ). Refuses test v) (sym a.stands.splits)
-      (refuses-inside test a.word (behind text j) s a.inside (λ y more q. fails-at s c rest y more a.inside.cut h (sym b ∙ q)));
-  some = a.some;
-  between = a.stands.boundary;
-}
+pub escape-cut : {text : List ℕ} {i j : ℕ} {s : Stage} → Begun text i j s → behind text j ≡ [] → NoEscape text i
+escape-cut {text = text} {j = j} {s = s} a e test = subst (λ (v : List ℕ). Refuses test v) (sym a.stands.splits) (refuses-inside test a.word (behind text j) s a.inside (λ y more q. fails-none s (behind text j) y more a.inside.cut e q))
 
-pub escape-fails : {text : List ℕ} {i j b : ℕ} {s : Stage} → Begun text i j s → Peeks text j b → step in_name s b ≡ None → NoEscape text i j
+fails-with : {text : List ℕ} {i j c : ℕ} {s : Stage} (rest : List ℕ) → Begun text i j s → behind text j ≡ c ∷ rest → step in_name s c ≡ None → NoEscape text i
+fails-with {text = text} {j = j} {c = c} {s = s} rest a b h test = subst (λ (v : List ℕ). Refuses test v) (sym a.stands.splits) (refuses-inside test a.word (behind text j) s a.inside (λ y more q. fails-at s c rest y more a.inside.cut h (sym b ∙ q)))
+
+pub escape-fails : {text : List ℕ} {i j b : ℕ} {s : Stage} → Begun text i j s → Peeks text j b → step in_name s b ≡ None → NoEscape text i
 escape-fails {text = text} {j = j} {b = b} {s = s} a p h = elim (cases_lt b 128) [
   | inl l ↦ fails-with (behind text (j + 1)) a (p.ascii l).splits h
   | inr g ↦ (let t = p.high g in fails-with (behind text (j + len_utf8 t.character)) a t.word.splits (high-fails s t.character a.inside.cut t.high))
 ]
 
 -- behind a backslash no `u` stands
-pub escape-unbegun : {text : List ℕ} {i : ℕ} → Word text i (i + 1) (92 ∷ []) → Finds (λ c. c == 117) text (i + 1) false → NoEscape text i (i + 1)
+pub escape-unbegun : {text : List ℕ} {i : ℕ} → Word text i (i + 1) (92 ∷ []) → Finds (λ c. c == 117) text (i + 1) false → NoEscape text i
 escape-unbegun {text = text} {i = i} s f = by (behind text (i + 1)) refl
   where
-    by : (v : List ℕ) → behind text (i + 1) ≡ v → NoEscape text i (i + 1)
+    by : (v : List ℕ) → behind text (i + 1) ≡ v → NoEscape text i
     by [] e = escape-cut (begun-first text i s) e
     by (c ∷ rest) e = let n : (c == 117) ≡ false = sym (ap (begins (λ d. d == 117)) e) ∙ f in fails-with rest (begun-first text i s) e (grind (arith, nat_tests))
 
-pub escape-refused : {text : List ℕ} {i : ℕ} {e : Escape} {test : ℕ → Bool} → IsEscape text i e → test e.code_point ≡ false → NoPiece test text i e.end
-escape-refused {text = text} {i = i} {e = e} {test = test} a n = record {
-  refuses = subst (λ (v : List ℕ). Refuses test v) (sym a.stands.splits) (refuses-escape test a.word (behind text e.end) e.code_point a.spells a.unfinished n);
-  some = λ b. a.some;
-  between = λ b. a.stands.boundary;
-}
+pub escape-refused : {text : List ℕ} {i : ℕ} {e : Escape} (test : ℕ → Bool) → IsEscape text i e → test e.code_point ≡ false → Refuses test (behind text i)
+escape-refused {text = text} {e = e} test a n = subst (λ (v : List ℕ). Refuses test v) (sym a.stands.splits) (refuses-escape test a.word (behind text e.end) e.code_point a.spells a.unfinished n)

@@ -47,12 +47,6 @@ pub record IsEscape (text : List ℕ) (i : ℕ) (e : Escape) : Type 0 where
   pub escaped : has_backslash word ≡ true
   pub some : i < e.end
 
--- No escape sequence stands at the place; up to the place j the characters may be the beginning of one.
-pub record NoEscape (text : List ℕ) (i j : ℕ) : Type 0 where
-  pub refuses : (test : ℕ → Bool) → Refuses test (behind text i)
-  pub some : i < j
-  pub between : IsCharBoundary text j
-
 -- a character or an escape sequence stands at the place, and its code point passes
 pub record IsPiece (test : ℕ → Bool) (text : List ℕ) (i : ℕ) (p : Piece) : Type 0 where
   pub word : List ℕ
@@ -61,12 +55,6 @@ pub record IsPiece (test : ℕ → Bool) (text : List ℕ) (i : ℕ) (p : Piece)
   pub passes : test p.code_point ≡ true
   pub escaped : p.escaped ≡ has_backslash word
   pub some : i < p.end
-
--- No such character or escape sequence stands at the place; where a backslash does, j is behind it.
-pub record NoPiece (test : ℕ → Bool) (text : List ℕ) (i j : ℕ) : Type 0 where
-  pub refuses : Refuses test (behind text i)
-  pub some : begins (λ c. c == 92) (behind text i) ≡ true → i < j
-  pub between : begins (λ c. c == 92) (behind text i) ≡ true → IsCharBoundary text j
 
 -- an ASCII character of a name
 abbrev pub is_ascii_part : ℕ → Bool

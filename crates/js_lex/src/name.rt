@@ -1,6 +1,6 @@
 //! Names and private names (ECMA-262, section 12.7).
 
-ghost use Rattle.std.specs.Prelude.{◌≡◌, ◌<◌, ◌≤◌, ℕ, ◌+◌, ◌||◌, ◌==◌, List, [], ◌∷◌, ◌++◌, true, false, length, MatchResult, IfSome, IsCharBoundary, IsTrue};
+ghost use Rattle.std.specs.Prelude.{◌≡◌, ◌<◌, ◌≤◌, ℕ, ◌+◌, Bool, ◌||◌, ◌==◌, List, [], ◌∷◌, ◌++◌, true, false, length, MatchOption, IfSome, IsCharBoundary, IsTrue};
 ghost use Rattle.js_base.specs.Keywords.{keyword_of};
 ghost use Rattle.js_grammar.specs.Characters.{begins, is_identifier_start, is_identifier_part};
 ghost use Rattle.js_grammar.specs.LexicalFaults.{behind};
@@ -75,13 +75,13 @@ pub(crate) fn name_at(text: &str, at: usize) -> Scan
     ensures { Scans division text.now at result }
 {
     match longest_name(text, at) {
-        Ok(name) => Ok(Scanned {
+        Some(name) => Ok(Scanned {
             kind: name.kind,
             end: name.end,
             escaped: name.escaped,
             has_separator: false,
         }),
-        Err(_) => Err(invalid_escape(text, at)),
+        None => Err(invalid_escape(text, at)),
     }
 }
 
@@ -146,13 +146,13 @@ pub(crate) fn private_name_at(text: &str, at: usize) -> Scan
 {
     let place = at + 1;
     match longest_name(text, place) {
-        Ok(name) => Ok(Scanned {
+        Some(name) => Ok(Scanned {
             kind: Kind::PrivateIdentifier,
             end: name.end,
             escaped: name.escaped,
             has_separator: false,
         }),
-        Err(_) => Err(fault_behind_mark(text, at, place)),
+        None => Err(fault_behind_mark(text, at, place)),
     }
 }
 
@@ -188,14 +188,14 @@ fn fault_behind_mark(text: &str, at: usize, place: usize) -> Fault
     }
 }
 
-/// The longest name at a place; where none stands, the place behind what may be the beginning of an escape sequence.
-fn longest_name(text: &str, at: usize) -> Result<Name, usize>
+/// The longest name at a place.
+fn longest_name(text: &str, at: usize) -> Option<Name>
     requires { IsCharBoundary text.now at }
-    ensures { MatchResult result (λ n. names.IsName text.now at n) (λ end. names.NoPiece is_identifier_start text.now at end) }
+    ensures { MatchOption result (names.Refuses is_identifier_start (behind text.now at)) (λ n. names.IsName text.now at n) }
 {
     match piece_at(text, at, Position::Start) {
-        Ok(first) => Ok(name_from(text, at, first)),
-        Err(end) => Err(end),
+        Some(first) => Some(name_from(text, at, first)),
+        None => None,
     }
 }
 
@@ -238,8 +238,8 @@ fn is_at_end(text: &str, at: usize) -> bool
         return true;
     }
     match piece_at(text, at, Position::Part) {
-        Ok(_) => false,
-        Err(_) => true,
+        Some(_) => false,
+        None => true,
     }
 }
 
@@ -251,21 +251,15 @@ fn name_by_pieces(text: &str, at: usize, first: Piece) -> Name
     let mut letters = with_letter(NO_LETTERS, first.code_point);
     let mut end = first.end;
     let mut escaped = first.escaped;
-    'pieces: loop {
-        match piece_at(text, end, Position::Part) {
-            Ok(piece) => {
-                letters = with_letter(letters, piece.code_point);
-                end = piece.end;
-                escaped = escaped || piece.escaped;
-            }
-            Err(_) => {
-                return Name {
-                    kind: kind_of_letters(letters),
-                    end,
-                    escaped,
-                };
-            }
-        }
+    'pieces: while let Some(piece) = piece_at(text, end, Position::Part) {
+        letters = with_letter(letters, piece.code_point);
+        end = piece.end;
+        escaped = escaped || piece.escaped;
+    }
+    Name {
+        kind: kind_of_letters(letters),
+        end,
+        escaped,
     }
 }
 
@@ -301,43 +295,36 @@ fn kind_of_letters(letters: Letters) -> Kind
     }
 }
 
-/// The character or the escape sequence at a place, if its code point may stand there in a name; else, where a
-/// backslash stands, the place behind what may be the beginning of an escape sequence.
-fn piece_at(text: &str, at: usize, position: Position) -> Result<Piece, usize>
+/// The character or the escape sequence at a place, if its code point may stand there in a name.
+fn piece_at(text: &str, at: usize, position: Position) -> Option<Piece>
     requires { IsCharBoundary text.now at }
-    ensures { MatchResult result (λ p. names.IsPiece (names.may_stand position) text.now at p) (λ end. names.NoPiece (names.may_stand position) text.now at end) }
+    ensures { MatchOption result (names.Refuses (names.may_stand position) (behind text.now at)) (λ p. names.IsPiece (names.may_stand position) text.now at p) }
 {
     if is_at(text, at, b'\\') {
         return escaped_piece(text, at, position);
     }
     match next_character(text, at) {
-        Some(next) if may_stand(next.value, position) => Ok(Piece {
+        Some(next) if may_stand(next.value, position) => Some(Piece {
             code_point: next.value as u32,
             end: next.end,
             escaped: false,
         }),
-        _ => Err(at),
+        _ => None,
     }
 }
 
 /// An escape sequence, if the code point that it names may stand in a name.
-fn escaped_piece(text: &str, at: usize, position: Position) -> Result<Piece, usize>
+fn escaped_piece(text: &str, at: usize, position: Position) -> Option<Piece>
     requires { Word text.now at (at + 1) (92 ∷ []) }
-    ensures { MatchResult result (λ p. names.IsPiece (names.may_stand position) text.now at p) (λ end. names.NoPiece (names.may_stand position) text.now at end) }
+    ensures { MatchOption result (names.Refuses (names.may_stand position) (behind text.now at)) (λ p. names.IsPiece (names.may_stand position) text.now at p) }
 {
     match escape_at(text, at) {
-        Ok(escape) => {
-            if may_code_point_stand(escape.code_point, position) {
-                Ok(Piece {
-                    code_point: escape.code_point,
-                    end: escape.end,
-                    escaped: true,
-                })
-            } else {
-                Err(escape.end)
-            }
-        }
-        Err(end) => Err(end),
+        Some(escape) if may_code_point_stand(escape.code_point, position) => Some(Piece {
+            code_point: escape.code_point,
+            end: escape.end,
+            escaped: true,
+        }),
+        _ => None,
     }
 }
 
@@ -361,14 +348,13 @@ fn may_code_point_stand(code_point: u32, position: Position) -> bool
     }
 }
 
-/// The escape sequence that begins with the backslash at a place (UnicodeEscapeSequence, ECMA-262, section 12.9.4);
-/// where none stands, the place behind the characters that may be the beginning of one.
-fn escape_at(text: &str, at: usize) -> Result<Escape, usize>
+/// The escape sequence that begins with the backslash at a place (UnicodeEscapeSequence, ECMA-262, section 12.9.4).
+fn escape_at(text: &str, at: usize) -> Option<Escape>
     requires { Word text.now at (at + 1) (92 ∷ []) }
-    ensures { MatchResult result (λ e. names.IsEscape text.now at e) (λ end. names.NoEscape text.now at end) }
+    ensures { MatchOption result ((test : ℕ → Bool) → names.Refuses test (behind text.now at)) (λ e. names.IsEscape text.now at e) }
 {
     if !is_at(text, at + 1, b'u') {
-        return Err(at + 1);
+        return None;
     }
     let mut end = at + 2;
     let mut escape = CodePointEscape::Unicode;
@@ -380,14 +366,14 @@ fn escape_at(text: &str, at: usize) -> Result<Escape, usize>
                     end += 1;
                 }
                 CodePointStep::Names(code_point) => {
-                    return Ok(Escape {
+                    return Some(Escape {
                         code_point,
                         end: end + 1,
                     });
                 }
-                CodePointStep::Fails => return Err(end),
+                CodePointStep::Fails => return None,
             },
-            None => return Err(end),
+            None => return None,
         }
     }
 }
