@@ -16,7 +16,7 @@ use Rattle.js_grammar.specs.Settings.{Goal}
 use Rattle.js_grammar.specs.Characters.{width}
 use Rattle.js_grammar.specs.Longest.{joined}
 use Rattle.js_grammar.specs.Trivia.{is_irregular}
-use Rattle.js_grammar.specs.Lexemes.{LexicalGoal, division, regular_expression}
+use Rattle.js_grammar.specs.Lexemes.{LexicalGoal, division}
 use Rattle.js_grammar.specs.LexicalFaults.{behind, FaultyBehind}
 use Rattle.js_lex.specs.declared.comment.Comment.{Comment}
 use Rattle.js_lex.specs.declared.comment.CommentKind.{CommentKind}
@@ -26,7 +26,7 @@ use Rattle.js_lex.specs.Comments.{comment_kind, comment_at, irregular_at, html_f
 use Rattle.js_lex.specs.Kept.{IsEmpty, LieIn, Extends, lengths_of, first_kept}
 use Rattle.js_lex.specs.Places.{Word}
 use Rattle.js_lex.specs.States.{State}
-use Rattle.js_lex.specs.Reading.{cut, GivesLexeme, GivesNone, Outcome, GivesNext, GivesAgain, WasGiven, in_a_module, is_kept, kept_token, relexed}
+use Rattle.js_lex.specs.Reading.{cut, GivesLexeme, GivesNone, Outcome, GivesNext, in_a_module, is_kept, kept_token, relexed}
 use Rattle.js_lex.specs.declared.scan.Scanned.{Scanned}
 use Rattle.js_lex.specs.declared.scan.Fault.{Fault}
 use Rattle.js_lex.specs.declared.regular_expression.RegularExpression.{RegularExpression}
@@ -126,14 +126,6 @@ lie_next old new t g h =
       errors = subst (All (λ (d : Diagnostic). LiesIn d.span old.text)) (sym g.grows.faults_grow) (All-append (λ (d : Diagnostic). LiesIn d.span old.text) old.kept.errors (each_at (html_fault_at (in_a_module old.goal)) old.place g.pieces ++ g.faults) h.errors
           (All-append (λ (d : Diagnostic). LiesIn d.span old.text) (each_at (html_fault_at (in_a_module old.goal)) old.place g.pieces) g.faults (all_lie old.goal old.text old.place (each_at (html_fault_at (in_a_module old.goal)) old.place g.pieces) g.marked) (outcome_lies division cut old.goal old.text old.place t [] g.faults (All-nil (λ (d : Diagnostic). LiesIn d.span old.text)) g.outcome)));
     }
-
-pub lie_again : (goal : LexicalGoal) (old new : State) (given t : Token) (going_on faults : List Diagnostic) → WasGiven old given → GivesAgain goal old new given t going_on faults → LieIn old.text old.kept → LieIn old.text new.kept
-lie_again goal old new given t going_on faults w g h = record {
-  comments = subst (All (λ (c : Comment). LiesIn c.span old.text)) (sym g.comments) h.comments;
-  irregular_whitespaces = subst (All (λ (s : Span). LiesIn s old.text)) (sym g.blanks) h.irregular_whitespaces;
-  tokens = subst (All (λ (u : Token). LiesIn u.span old.text)) (sym g.tokens) (relexed_lies old.text old.keeps_tokens old.kept.tokens t g.lies h.tokens);
-  errors = subst (All (λ (d : Diagnostic). LiesIn d.span old.text)) (sym g.errors) (All-append (λ (d : Diagnostic). LiesIn d.span old.text) old.kept.errors faults h.errors (outcome_lies goal (λ z. z) old.goal old.text w.before t going_on faults (all_lie old.goal old.text w.before going_on (g.marked w.before w.lexeme w.between w.stands w.tells)) (g.outcome w.before w.lexeme w.between w.stands w.tells)));
-}
 
 -- ---- a token that is read again
 

@@ -1,5 +1,5 @@
 -- Names and private names as lexemes of a text, and the faults where none stands.
-use Rattle.std.proofs.Common.{◌≡◌, ◌≤◌, ℕ, ◌+◌, ◌==◌, Bool, true, false, List, [], ◌∷◌, ◌++◌, refl, sym, ap, subst, ◌∙◌, not, ◌&&◌, ◌||◌, Some, None, inl, inr, arith}
+use Rattle.std.proofs.Common.{◌≡◌, ℕ, ◌+◌, ◌==◌, Bool, true, false, List, [], ◌∷◌, ◌++◌, refl, sym, ap, subst, ◌∙◌, not, ◌&&◌, ◌||◌, Some, None, inl, arith}
 use Rattle.std.specs.Prelude.{is_some, IsCharBoundary, IsUtf8, drop, encode_utf8_all}
 use Rattle.std.proofs.lemmas.Str.{IsUtf8-drop, encodes-chars}
 use Rattle.js_base.specs.declared.kind.Kind.{Kind}
@@ -19,10 +19,9 @@ use Rattle.js_grammar.specs.LexicalFaults.{behind, begins_nothing, Stopping}
 use Rattle.js_grammar.proofs.LongestLemmas.{both, both-left, not-true}
 use Rattle.js_grammar.proofs.CoreLemmas.{none_longer-from}
 use Rattle.js_grammar.proofs.CorePlain.{no_backslash, points-plain}
-use Rattle.std.proofs.lemmas.Bool.{eqb-true, cases_lt}
-use Rattle.std.proofs.lemmas.Bool.Decides.{nat_tests}
+use Rattle.std.proofs.lemmas.Bool.{eqb-true}
 use Rattle.js_lex.specs.declared.name.Name.{Name}
-use Rattle.js_lex.specs.Places.{Word, Peeks}
+use Rattle.js_lex.specs.Places.{Word}
 use Rattle.js_lex.specs.Scans.{IsScanned, IsStopped, NoLexeme}
 use Rattle.js_lex.specs.Faults.{PartsEnd, Reaches, fault_kind, kind_of_fault}
 use Rattle.js_lex.specs.declared.scan.Fault.{Fault}

@@ -16,7 +16,7 @@ use Rattle.js_lex.specs.declared.scan.Scanned.{Scanned}
 use Rattle.js_lex.specs.declared.scan.Fault.{Fault}
 use Rattle.js_lex.specs.declared.regular_expression.RegularExpression.{RegularExpression}
 use Rattle.js_lex.specs.Places.{Word}
-use Rattle.js_lex.specs.Kept.{Grows, Extends, LieIn, fault_at}
+use Rattle.js_lex.specs.Kept.{Extends, LieIn, fault_at}
 use Rattle.js_lex.specs.Reading.{is_wrong_flag, flag_faults}
 use Rattle.js_lex.specs.Settling.{SettledAgain, HasFlags, FlagsKept, SettledBehind}
 use Rattle.js_lex.proofs.Keeping.{extend_on}

@@ -22,8 +22,7 @@ use Rattle.std.proofs.lemmas.Bool.{eqb-true}
 use Rattle.js_lex.proofs.ByteClasses.{agree, stays}
 use Rattle.js_grammar.proofs.CoreLemmas.{none_longer-from}
 use Rattle.js_lex.specs.Places.{Word, Peeks}
-use Rattle.std.specs.Char.{len_utf8}
-use Rattle.std.proofs.lemmas.Str.{len_utf8_ascii, len_utf8_bounds}
+use Rattle.std.proofs.lemmas.Str.{len_utf8_bounds}
 use Rattle.js_lex.specs.TriviaPassed.{IsPiece, PieceAt, BlankAt, IsBlankPiece, IsLineEnd, IsBlockEnd, block_kind, PlainBlankAt, NoTrivia}
 use Rattle.js_lex.specs.Comments.{comment_kind}
 use Rattle.js_lex.specs.declared.comment.CommentKind.TheVariants.{Line, SingleLineBlock, MultiLineBlock}

@@ -1,5 +1,5 @@
 -- How a name is read, one code point after the other (ECMA-262, 12.7).
-use Rattle.std.specs.Prelude.{ℕ, ◌≡◌, ◌<◌, ◌≤◌, Bool, true, false, not, ◌&&◌, List, [], ◌∷◌, ◌++◌, Option, Some, None, IsCharBoundary, length, take, nat_lt, nat_le, ◌||◌, ◌==◌}
+use Rattle.std.specs.Prelude.{ℕ, ◌≡◌, ◌<◌, ◌≤◌, Bool, true, false, not, ◌&&◌, List, [], ◌∷◌, ◌++◌, Option, Some, None, length, take, nat_lt}
 use Rattle.std.specs.List.{list_all}
 use Rattle.js_base.specs.declared.kind.Kind.TheVariants.{Ident}
 use Rattle.js_base.specs.Escapes.{in_name, code_points, before_all}

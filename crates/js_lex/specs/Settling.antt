@@ -1,5 +1,5 @@
 -- The token that is made of what a scan answers, and what is kept of it.
-use Rattle.std.specs.Prelude.{ℕ, ◌+◌, ◌≡◌, ◌<◌, ◌≤◌, ◌⊎◌, Bool, true, false, List, [], ◌∷◌, Option, Some, None, Result, Ok, Err, IsCharBoundary}
+use Rattle.std.specs.Prelude.{ℕ, ◌+◌, ◌≡◌, ◌<◌, ◌≤◌, Bool, true, false, List, [], ◌∷◌, Option, Some, None, Result, Ok, Err, IsCharBoundary}
 use Rattle.js_base.specs.declared.kind.Kind.TheVariants.{RAngle, Undetermined}
 use Rattle.js_base.specs.declared.token.Token.{Token}
 use Rattle.js_base.specs.declared.diagnostic.Diagnostic.{Diagnostic}

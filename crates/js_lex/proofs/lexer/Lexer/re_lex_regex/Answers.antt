@@ -1,4 +1,4 @@
-use Rattle.std.proofs.Common.{◌≡◌, ◌+◌, ℕ, List, [], ◌∷◌, false, subst, ap, sym, Some, None}
+use Rattle.std.proofs.Common.{◌≡◌, ◌+◌, ℕ, List, [], ◌∷◌, false, subst, ap, sym, Some}
 use Rattle.std.specs.Prelude.{IsUtf8, codes, Ok}
 use Rattle.js_base.specs.Characters.{one_of}
 use Rattle.js_base.specs.declared.diagnostic.Diagnostic.{Diagnostic}
