@@ -15,7 +15,8 @@ use Rattle.js_base.specs.declared.decode.State.{State}
 use Rattle.js_base.specs.Characters.{is_scalar}
 use Rattle.js_base.specs.Decoding.{only_if, utf8_of}
 use Rattle.js_base.specs.Escapes.{Where, in_name, in_string, in_template, Stage, Step, outside, backslash, unicode, nul, due, braced, octal, plainly, begun, begun_unicode, single_escape, step, read_from, before_all, code_units, finish, line_feeds_after}
-use Rattle.js_base.specs.DecodingSteps.{fits, is_point, state_of, points_of, progress_of, units_from, utf8_from}
+use Rattle.js_base.specs.CodePointEscapes.{fits, is_point}
+use Rattle.js_base.specs.DecodingSteps.{state_of, points_of, progress_of, units_from, utf8_from}
 
 and-left : (a b : Bool) → (a && b) ≡ true → a ≡ true
 and-left true b h = refl

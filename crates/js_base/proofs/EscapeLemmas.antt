@@ -7,7 +7,10 @@ use Rattle.std.specs.declared.str.CharIndices.{CharIndices}
 use Rattle.std.specs.Str.Iter.{char_indices_rest, char_indices_offset, char_indices_steps}
 use Rattle.std.proofs.lemmas.Str.{chars_past_char, IsUtf8-past_char, chars-nil, encodes-chars}
 use Rattle.js_base.specs.declared.decode.State.{State}
-use Rattle.js_base.specs.declared.decode.State.TheVariants.{Outside, Backslash, Unicode, Nul, Due, Braced, Octal}
+use Rattle.js_base.specs.declared.decode.State.TheVariants.{Outside, Backslash, Nul, Point, Octal}
+use Rattle.js_base.specs.declared.code_point_escape.CodePointEscape.{CodePointEscape}
+use Rattle.js_base.specs.declared.code_point_escape.CodePointEscape.TheVariants.{Unicode, Due, Braced}
+use Rattle.js_base.specs.CodePointEscapes.{stage_of}
 use Rattle.js_base.specs.declared.escape.Reading.{Reading}
 use Rattle.js_base.specs.Escapes.{in_string, Stage, Step, outside, backslash, unicode, nul, due, braced, octal, step, read_from, before_all, finish, line_feeds_after}
 use Rattle.js_base.specs.DecodingSteps.{state_of}
@@ -330,13 +333,16 @@ cut_off w s a p place r e q =
 pub well_formed : (w : List ℕ) (s : Stage) (a : Bool) (p : ℕ) (ps : List ℕ) → Reads w s a p → finish s ≡ Some ps → is_right w ≡ true
 well_formed w s a p ps r e = now w s a r.goes_on ∙ ap is_some e
 
+named_not_backslash : (e : CodePointEscape) → is_backslash (stage_of e) ≡ false
+named_not_backslash Unicode = refl
+named_not_backslash (Due n v) = refl
+named_not_backslash (Braced any v) = refl
+
 pub not_backslash : (s : State) → (s ≡ Backslash → ⊥) → is_backslash (state_of s) ≡ false
 not_backslash Outside h = refl
 not_backslash Backslash h = absurd (h refl)
-not_backslash Unicode h = refl
 not_backslash Nul h = refl
-not_backslash (Due n v) h = refl
-not_backslash (Braced any v) h = refl
+not_backslash (Point e) h = named_not_backslash e
 not_backslash (Octal n v) h = refl
 
 -- a character counts as itself, where it is no CR and no LF behind one

@@ -13,5 +13,6 @@ pub mod Diagnostics
 pub mod Characters
 pub mod Escapes
 pub mod Decoding
+pub mod CodePointEscapes
 pub mod DecodingSteps
 pub mod InvalidEscapes

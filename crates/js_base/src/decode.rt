@@ -1,13 +1,16 @@
 //! What the inside of a string literal, the inside of a template part, and a name stand for.
 
-ghost use Rattle.std.specs.Prelude.{◌≡◌, ◌≤◌, ℕ, List, [], ◌∷◌, ◌++◌, ◌==◌, if◌then◌else◌, IfOk, OnOk, IfSome, IsSome, Some, IsTrue, option_map, chars};
+ghost use Rattle.std.specs.Prelude.{◌≡◌, ◌≤◌, ℕ, List, [], ◌∷◌, ◌++◌, ◌==◌, if◌then◌else◌, true, IfOk, OnOk, IfSome, IsSome, Some, IsTrue, option_map, chars};
 ghost use Rattle.std.specs.List.{list_all, flat_map};
 ghost use Rattle.std.specs.Char.{encode_utf8};
 ghost use Rattle.js_base.specs.Characters.{is_scalar};
 ghost use Rattle.js_base.specs.Escapes as escape;
+ghost use Rattle.js_base.specs.Escapes.{Where};
 ghost use Rattle.js_base.specs.Decoding.{string_points, string_units, cooked, name_text};
-ghost use Rattle.js_base.specs.DecodingSteps.{form_of, state_of, progress_of, points_of, fits, is_point, units_from, utf8_from};
+ghost use Rattle.js_base.specs.CodePointEscapes.{stage_of, fits, is_point};
+ghost use Rattle.js_base.specs.DecodingSteps.{form_of, state_of, progress_of, points_of, units_from, utf8_from};
 
+use crate::code_point_escape::{CodePointEscape, CodePointStep};
 use crate::no_memory::NoMemory;
 use crate::text::{JsStr, Text};
 use std::alloc::Global;
@@ -30,14 +33,10 @@ pub(crate) enum State {
     Outside,
     /// A backslash.
     Backslash,
-    /// A backslash and `u`.
-    Unicode,
     /// In a template, a backslash and `0`.
     Nul,
-    /// An escape of which so many hexadecimal digits are due, and the value of those before.
-    Due(u32, u32),
-    /// `\u{`, whether a digit stands behind it, and the value of the digits.
-    Braced(bool, u32),
+    /// An escape that names a code point by hexadecimal digits.
+    Point(CodePointEscape),
     /// A backslash and an octal digit or two, how many more may follow, and the value of those before.
     Octal(u32, u32),
 }
@@ -237,7 +236,7 @@ pub(crate) fn finish(state: State) -> Option<Points>
         State::Outside => Some(Points::Nothing),
         State::Nul => Some(Points::One(0)),
         State::Octal(_, value) => Some(Points::One(value)),
-        State::Backslash | State::Unicode | State::Due(_, _) | State::Braced(_, _) => None,
+        State::Backslash | State::Point(_) => None,
     }
 }
 
@@ -249,10 +248,8 @@ pub(crate) fn step(form: Form, state: State, c: char) -> Option<Progress>
     match state {
         State::Outside => plainly(c),
         State::Backslash => begun(form, c),
-        State::Unicode => unicode(c),
         State::Nul => nul(c),
-        State::Due(due, value) => hexadecimal(due, value, c),
-        State::Braced(any, value) => braced(any, value, c),
+        State::Point(before) => point(before, c),
         State::Octal(more, value) => octal(more, value, c),
     }
 }
@@ -312,7 +309,7 @@ fn begun(form: Form, c: char) -> Option<Progress>
     match form {
         Form::Name => {
             if c == 'u' {
-                goes_on(State::Unicode)
+                goes_on(State::Point(CodePointEscape::Unicode))
             } else {
                 None
             }
@@ -338,8 +335,8 @@ fn begun_other(c: char) -> Option<Progress>
     ensures { option_map progress_of result ≡ escape.begun_unicode c }
 {
     match c {
-        'u' => goes_on(State::Unicode),
-        'x' => goes_on(State::Due(2, 0)),
+        'u' => goes_on(State::Point(CodePointEscape::Unicode)),
+        'x' => goes_on(State::Point(CodePointEscape::Due(2, 0))),
         '\n' | '\r' | '\u{2028}' | '\u{2029}' => goes_on(State::Outside),
         _ => completes(single_escape(c)),
     }
@@ -360,16 +357,15 @@ fn single_escape(c: char) -> u32
     }
 }
 
-/// A character behind `\u`.
-fn unicode(c: char) -> Option<Progress>
-    ensures { option_map progress_of result ≡ escape.step escape.in_string escape.unicode c }
+/// A character of an escape that names a code point.
+fn point(before: CodePointEscape, c: char) -> Option<Progress>
+    requires { fits (stage_of before) ≡ true }
+    ensures { (w : Where) → option_map progress_of result ≡ escape.step w (stage_of before) c }
 {
-    if c == '{' {
-        return goes_on(State::Braced(false, 0));
-    }
-    match c.to_digit(16) {
-        Some(digit) => goes_on(State::Due(3, digit)),
-        None => None,
+    match before.step(c) {
+        CodePointStep::Goes(next) => goes_on(State::Point(next)),
+        CodePointStep::Names(code_point) => completes(code_point),
+        CodePointStep::Fails => None,
     }
 }
 
@@ -378,46 +374,6 @@ fn nul(c: char) -> Option<Progress>
     ensures { option_map progress_of result ≡ escape.step escape.in_template escape.nul c }
 {
     if c.is_digit(10) { None } else { after(0, c) }
-}
-
-/// A character where hexadecimal digits are due.
-fn hexadecimal(due: u32, value: u32, c: char) -> Option<Progress>
-    requires { value ≤ 0x10_FFFF }
-    ensures { option_map progress_of result ≡ escape.step escape.in_string (escape.due due value) c }
-{
-    match c.to_digit(16) {
-        Some(digit) => {
-            if due <= 1 {
-                completes(value * 16 + digit)
-            } else {
-                goes_on(State::Due(due - 1, value * 16 + digit))
-            }
-        }
-        None => None,
-    }
-}
-
-/// A character behind `\u{` and the digits there.
-fn braced(any: bool, value: u32, c: char) -> Option<Progress>
-    requires { value ≤ 0x10_FFFF }
-    ensures { option_map progress_of result ≡ escape.step escape.in_string (escape.braced any value) c }
-{
-    match c.to_digit(16) {
-        Some(digit) => {
-            if value * 16 + digit <= 0x10_FFFF {
-                goes_on(State::Braced(true, value * 16 + digit))
-            } else {
-                None
-            }
-        }
-        None => {
-            if any && c == '}' {
-                completes(value)
-            } else {
-                None
-            }
-        }
-    }
 }
 
 /// A character behind a backslash and octal digits.

@@ -1,7 +1,8 @@
 //! The first ill-formed escape in the inside of a string literal.
 
 ghost use Rattle.std.specs.Prelude.{◌≡◌, ◌++◌, ◌∷◌, [], List, ℕ, IsTrue, IfSome, chars};
-ghost use Rattle.js_base.specs.DecodingSteps.{state_of, fits};
+ghost use Rattle.js_base.specs.CodePointEscapes.{fits};
+ghost use Rattle.js_base.specs.DecodingSteps.{state_of};
 ghost use Rattle.js_base.specs.InvalidEscapes.{TellsEscape, IsRead, ReadsOn, ReadsAs, bytes_of};
 
 use crate::decode::{Form, State, finish, step};

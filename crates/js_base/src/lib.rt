@@ -2,6 +2,7 @@
 //! diagnostics and want of memory.
 #![tactic(auto)]
 
+mod code_point_escape;
 mod context;
 mod decode;
 mod diagnostic;
@@ -25,6 +26,7 @@ mod steps;
 mod text;
 mod token;
 
+pub use code_point_escape::{CodePointEscape, CodePointStep};
 pub use context::Context;
 pub use decode::{decode_name, decode_string, decode_template};
 pub use diagnostic::{Diagnostic, DiagnosticClass, DiagnosticKind, Diagnostics};

@@ -1,5 +1,5 @@
 -- A token that is read again by another lexical goal.
-use Rattle.std.proofs.Common.{◌≡◌, ◌≤◌, ℕ, ◌+◌, ◌==◌, Bool, true, false, List, [], ◌∷◌, ◌++◌, refl, sym, ap, subst, ◌∙◌, length, arith, append-nil, Some}
+use Rattle.std.proofs.Common.{◌≡◌, ◌≤◌, ℕ, ◌+◌, ◌==◌, Bool, true, false, List, [], ◌∷◌, ◌++◌, refl, sym, ap, subst, ◌∙◌, length, arith, append-nil, Some, None}
 use Rattle.std.specs.Prelude.{IsTrue, IsCharBoundary, IsUtf8, IfOk, Result, Ok, Err}
 use Rattle.js_base.specs.declared.kind.Kind.{Kind}
 use Rattle.js_base.specs.declared.kind.Kind.TheVariants.{RAngle, RCurly}
@@ -20,7 +20,8 @@ use Rattle.js_lex.specs.Places.{Word}
 use Rattle.js_lex.specs.Scans.{IsScanned, IsStopped, Scans}
 use Rattle.js_lex.specs.States.{State, SameText}
 use Rattle.js_lex.specs.Reading.{is_right_angle, cut, Tells, LexemeBehind, GivesLexeme, GivesNone, WasGiven, GivesAgain, relexed}
-use Rattle.js_lex.specs.Settling.{token_of, undetermined_of, diagnostic_of, Fits, SettledAgain, ScanEnds}
+use Rattle.js_lex.specs.Settling.{token_of, undetermined_of, diagnostic_of, Fits, SettledAgain, SettledBehind, ScanEnds}
+use Rattle.js_lex.proofs.ReadAgain.{unflagged}
 use Rattle.js_lex.proofs.KindsOfLexemes.{determined, plain_end, brace_word}
 use Rattle.js_lex.proofs.StringPlaces.{front_word}
 use Rattle.js_lex.proofs.Giving.{lexeme_of, lexeme_behind, gives_none, determined_outcome, trivia_ends}
@@ -154,8 +155,8 @@ gives_again {goal = goal} old new given t (Err f) u b h same place k = (
     stays true = refl
     stays false = refl
 
-pub ok_again : (goal : LexicalGoal) (old new : State) (given : Token) (scan : Result Scanned Fault) {E : Type 0} (r : Result Token E) → IsUtf8 old.text → IsCharBoundary old.text given.span.start → Scans goal old.text given.span.start scan → SameText old new → IfOk r (λ t. (new.place ≡ t.span.end) × SettledAgain old.keeps_tokens given scan old.kept new.kept t) → IfOk r (λ t. (faults : List Diagnostic) × GivesAgain goal old new given t [] faults)
-ok_again goal old new given scan (Ok t) u b h same k = gives_again old new given t scan u b h same k.0 k.1
+pub ok_again : (goal : LexicalGoal) (old new : State) (given : Token) (scan : Result Scanned Fault) {E : Type 0} (r : Result Token E) → IsUtf8 old.text → IsCharBoundary old.text given.span.start → Scans goal old.text given.span.start scan → SameText old new → IfOk r (λ t. (new.place ≡ t.span.end) × SettledBehind old.text old.keeps_tokens given scan None old.kept new.kept t) → IfOk r (λ t. (faults : List Diagnostic) × GivesAgain goal old new given t [] faults)
+ok_again goal old new given scan (Ok t) u b h same k = gives_again old new given t scan u b h same k.0 (unflagged k.1)
 ok_again goal old new given scan (Err e) u b h same k = tt
 
 -- ---- what the lexer has to know before
@@ -208,8 +209,8 @@ stands_again old given f u g h =
     let j : given.span.start ≡ g.lexeme.from = given_start g.lexeme g.tells in
     h.none q.word q.rest g.lexeme.kind (ap (behind old.text) j ∙ q.here) (subst (λ (n : ℕ). IsLexeme division n q.word q.rest g.lexeme.kind) (sym j) q.lexeme)
 
-pub ok_angle : (old new : State) (given : Token) (scan : Result Scanned Fault) {E : Type 0} (r : Result Token E) → IsUtf8 old.text → WasGiven old given → Scans division old.text given.span.start scan → SameText old new → IfOk r (λ t. (new.place ≡ t.span.end) × SettledAgain old.keeps_tokens given scan old.kept new.kept t) → IfOk r (λ t. GivesAgain division old new given t [] [])
+pub ok_angle : (old new : State) (given : Token) (scan : Result Scanned Fault) {E : Type 0} (r : Result Token E) → IsUtf8 old.text → WasGiven old given → Scans division old.text given.span.start scan → SameText old new → IfOk r (λ t. (new.place ≡ t.span.end) × SettledBehind old.text old.keeps_tokens given scan None old.kept new.kept t) → IfOk r (λ t. GivesAgain division old new given t [] [])
 unfolding gives_again
-ok_angle old new given (Ok sc) (Ok t) u g h same k = (gives_again old new given t (Ok sc) u g.lies.starts_whole h same k.0 k.1).1
+ok_angle old new given (Ok sc) (Ok t) u g h same k = (gives_again old new given t (Ok sc) u g.lies.starts_whole h same k.0 (unflagged k.1)).1
 ok_angle old new given (Ok sc) (Err e) u g h same k = tt
 ok_angle old new given (Err f) r u g h same k = absurd (stands_again old given f u g h)

@@ -11,9 +11,8 @@ use Rattle.js_grammar.specs.LexicalFaults.{behind}
 use Rattle.js_lex.specs.declared.output.LexerOutput.{LexerOutput}
 use Rattle.js_lex.specs.declared.regular_expression.Flag.{Flag}
 use Rattle.js_lex.specs.Places.{Word}
-use Rattle.js_lex.specs.Kept.{Grows}
+use Rattle.js_lex.specs.Kept.{Grows, fault_at}
 use Rattle.js_lex.specs.Reading.{is_wrong_flag, flag_faults}
-use Rattle.js_lex.specs.Settling.{flag_told}
 use Rattle.js_lex.specs.declared.regular_expression.Seen.{Seen}
 use Rattle.js_lex.specs.RegularExpressionParts.{SeenIn, IsFlag}
 use Rattle.js_lex.proofs.Places.{none_passed, then}
@@ -35,6 +34,9 @@ pub record Flagged (text : List ℕ) (first end at : ℕ) (old new : LexerOutput
   pub grows : Grows old new [] [] [] faults
   pub faults_are : flag_faults first [] (before ++ others) ≡ faults ++ flag_faults at before others
 
+nothing_grows : (o : LexerOutput) → Grows o o [] [] [] []
+nothing_grows o = record { comments_grow = sym (append-nil o.comments); blanks_grow = sym (append-nil o.irregular_whitespaces); tokens_grow = sym (append-nil o.tokens); faults_grow = sym (append-nil o.errors) }
+
 pub flagged_none : (text : List ℕ) (first end : ℕ) (old : LexerOutput) → IsCharBoundary text first → ((fs : List ℕ) × Word text first end fs) → Flagged text first end first old old
 flagged_none text first end old b f = record {
   before = [];
@@ -42,7 +44,7 @@ flagged_none text first end old b f = record {
   passed = none_passed text first b;
   left = f.1;
   faults = [];
-  grows = record { comments_grow = sym (append-nil old.comments); blanks_grow = sym (append-nil old.irregular_whitespaces); tokens_grow = sym (append-nil old.tokens); faults_grow = sym (append-nil old.errors) };
+  grows = nothing_grows old;
   faults_are = refl;
 }
 
@@ -128,12 +130,12 @@ flagged_more {text = text} {first = first} {end = end} {at = at} {seen = seen} {
           seen_in = subst (λ (c : ℕ). SeenIn f.seen (h.before ++ c ∷ [])) r.0 told.1;
         }
 
--- a flag is kept, if it is wrong
-pub flagged_kept : {text : List ℕ} {first end at : ℕ} {seen : Seen} {old mid : LexerOutput} (new : LexerOutput) (f : Flag) (s : Span) → FlaggedSo text first end at seen old mid → IsFlag text at seen f → at < end → s.start ≡ at → s.end ≡ f.end → Grows mid new [] [] [] (flag_told f.is_wrong s) → FlaggedSo text first end f.end f.seen old new
-flagged_kept {at = at} {mid = mid} new f s h g l a b k =
+-- a wrong flag is kept
+pub flagged_wrong : {text : List ℕ} {first end at : ℕ} {seen : Seen} {old mid : LexerOutput} (new : LexerOutput) (f : Flag) (s : Span) → FlaggedSo text first end at seen old mid → IsFlag text at seen f → at < end → f.is_wrong ≡ true → s.start ≡ at → s.end ≡ f.end → Grows mid new [] [] [] (fault_at RegExpFlag s ∷ []) → FlaggedSo text first end f.end f.seen old new
+flagged_wrong {at = at} {mid = mid} new f s h g l w a b k =
     let sp : s ≡ record { start = at; end = f.end } = ap (λ (n : ℕ). record { start = n; end = s.end }) a ∙ ap (λ (n : ℕ). record { start = at; end = n }) b in
-    flagged_more new f h g l (subst (λ (v : List Diagnostic). Grows mid new [] [] [] v) (told f.is_wrong ∙ ap (fault_of f.is_wrong) sp) k)
-  where
-    told : (w : Bool) → flag_told w s ≡ fault_of w s
-    told true = refl
-    told false = refl
+    flagged_more new f h g l (subst (λ (v : List Diagnostic). Grows mid new [] [] [] v) (ap (fault_of true) sp ∙ ap (λ (x : Bool). fault_of x (record { start = at; end = f.end })) (sym w)) k)
+
+-- nothing is kept of any other
+pub flagged_right : {text : List ℕ} {first end at : ℕ} {seen : Seen} {old mid : LexerOutput} (f : Flag) → FlaggedSo text first end at seen old mid → IsFlag text at seen f → at < end → f.is_wrong ≡ false → FlaggedSo text first end f.end f.seen old mid
+flagged_right {at = at} {mid = mid} f h g l w = flagged_more mid f h g l (subst (λ (x : Bool). Grows mid mid [] [] [] (fault_of x (record { start = at; end = f.end }))) (sym w) (nothing_grows mid))

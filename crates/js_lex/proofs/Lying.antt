@@ -16,7 +16,7 @@ use Rattle.js_grammar.specs.Settings.{Goal}
 use Rattle.js_grammar.specs.Characters.{width}
 use Rattle.js_grammar.specs.Longest.{joined}
 use Rattle.js_grammar.specs.Trivia.{is_irregular}
-use Rattle.js_grammar.specs.Lexemes.{LexicalGoal, division, regular_expression}
+use Rattle.js_grammar.specs.Lexemes.{LexicalGoal, division}
 use Rattle.js_grammar.specs.LexicalFaults.{behind, FaultyBehind}
 use Rattle.js_lex.specs.declared.comment.Comment.{Comment}
 use Rattle.js_lex.specs.declared.comment.CommentKind.{CommentKind}
@@ -26,12 +26,13 @@ use Rattle.js_lex.specs.Comments.{comment_kind, comment_at, irregular_at, html_f
 use Rattle.js_lex.specs.Kept.{IsEmpty, LieIn, Extends, lengths_of, first_kept}
 use Rattle.js_lex.specs.Places.{Word}
 use Rattle.js_lex.specs.States.{State}
-use Rattle.js_lex.specs.Reading.{cut, GivesLexeme, GivesNone, Outcome, GivesNext, GivesAgain, WasGiven, in_a_module, is_kept, kept_token, relexed}
+use Rattle.js_lex.specs.Reading.{cut, GivesLexeme, GivesNone, Outcome, GivesNext, in_a_module, is_kept, kept_token, relexed}
 use Rattle.js_lex.specs.declared.scan.Scanned.{Scanned}
 use Rattle.js_lex.specs.declared.scan.Fault.{Fault}
-use Rattle.js_lex.specs.Settling.{Fits, SettledAgain, IsReadAgain, ScanEnds, diagnostic_of}
+use Rattle.js_lex.specs.declared.regular_expression.RegularExpression.{RegularExpression}
+use Rattle.js_lex.specs.Settling.{Fits, SettledAgain, HasFlags, SettledBehind, ScanEnds, diagnostic_of}
 use Rattle.js_lex.proofs.StringPlaces.{front_word}
-use Rattle.js_lex.proofs.Expressions.{regex_again}
+use Rattle.js_lex.proofs.ReadAgain.{lie_flags}
 use Rattle.std.proofs.Math.Seq.{take-append_seam}
 
 -- nothing is kept
@@ -126,17 +127,9 @@ lie_next old new t g h =
           (All-append (λ (d : Diagnostic). LiesIn d.span old.text) (each_at (html_fault_at (in_a_module old.goal)) old.place g.pieces) g.faults (all_lie old.goal old.text old.place (each_at (html_fault_at (in_a_module old.goal)) old.place g.pieces) g.marked) (outcome_lies division cut old.goal old.text old.place t [] g.faults (All-nil (λ (d : Diagnostic). LiesIn d.span old.text)) g.outcome)));
     }
 
-pub lie_again : (goal : LexicalGoal) (old new : State) (given t : Token) (going_on faults : List Diagnostic) → WasGiven old given → GivesAgain goal old new given t going_on faults → LieIn old.text old.kept → LieIn old.text new.kept
-lie_again goal old new given t going_on faults w g h = record {
-  comments = subst (All (λ (c : Comment). LiesIn c.span old.text)) (sym g.comments) h.comments;
-  irregular_whitespaces = subst (All (λ (s : Span). LiesIn s old.text)) (sym g.blanks) h.irregular_whitespaces;
-  tokens = subst (All (λ (u : Token). LiesIn u.span old.text)) (sym g.tokens) (relexed_lies old.text old.keeps_tokens old.kept.tokens t g.lies h.tokens);
-  errors = subst (All (λ (d : Diagnostic). LiesIn d.span old.text)) (sym g.errors) (All-append (λ (d : Diagnostic). LiesIn d.span old.text) old.kept.errors faults h.errors (outcome_lies goal (λ z. z) old.goal old.text w.before t going_on faults (all_lie old.goal old.text w.before going_on (g.marked w.before w.lexeme w.between w.stands w.tells)) (g.outcome w.before w.lexeme w.between w.stands w.tells)));
-}
-
 -- ---- a token that is read again
 
-pub lie_settled : (text : List ℕ) (most : ℕ) (keeps : Bool) (given : Token) (scan : Result Scanned Fault) (old new : LexerOutput) (t : Token) → IsCharBoundary text given.span.start → Fits most given.span.start scan → ScanEnds text scan → SettledAgain keeps given scan old new t → LieIn text old → LieIn text new
+lie_settled : (text : List ℕ) (most : ℕ) (keeps : Bool) (given : Token) (scan : Result Scanned Fault) (old new : LexerOutput) (t : Token) → IsCharBoundary text given.span.start → Fits most given.span.start scan → ScanEnds text scan → SettledAgain keeps given scan old new t → LieIn text old → LieIn text new
 lie_settled text most keeps given (Ok s) old new t b f e k h =
     let lies : LiesIn t.span text = subst (λ (u : Token). LiesIn u.span text) (sym k.0) (record { ordered = f.0; starts_whole = b; ends_whole = e }) in
     subst (LieIn text) (sym k.1) (record { comments = h.comments; irregular_whitespaces = h.irregular_whitespaces; tokens = relexed_lies text keeps old.tokens t lies h.tokens; errors = h.errors })
@@ -150,15 +143,15 @@ lie_settled text most keeps given (Err x) old new t b f e k h =
       errors = subst (All (λ (d : Diagnostic). LiesIn d.span text)) (sym g.faults_grow) (All-append (λ (d : Diagnostic). LiesIn d.span text) old.errors (diagnostic_of x ∷ []) h.errors (All-cons (λ (d : Diagnostic). LiesIn d.span text) (diagnostic_of x) [] lies (All-nil (λ (d : Diagnostic). LiesIn d.span text))));
     }
 
-pub comments_settled : (keeps : Bool) (given : Token) (scan : Result Scanned Fault) (old new : LexerOutput) (t : Token) → SettledAgain keeps given scan old new t → new.comments ≡ old.comments
+comments_settled : (keeps : Bool) (given : Token) (scan : Result Scanned Fault) (old new : LexerOutput) (t : Token) → SettledAgain keeps given scan old new t → new.comments ≡ old.comments
 comments_settled keeps given (Ok s) old new t k = ap (λ (o : LexerOutput). o.comments) k.1
 comments_settled keeps given (Err x) old new t k = k.1.comments_grow ∙ append-nil old.comments
 
-pub lie_read_again : (old : State) (given t : Token) (pattern_end : ℕ) (new : LexerOutput) → IsUtf8 old.text → WasGiven old given → IsReadAgain old.text old.keeps_tokens given old.kept new t pattern_end → LieIn old.text old.kept → LieIn old.text new × (new.comments ≡ old.kept.comments)
-lie_read_again old given t pattern_end new u w r h =
-    let n : State = record { text = old.text; goal = old.goal; keeps_tokens = old.keeps_tokens; place = t.span.end; kept = new } in
-    let g = regex_again old n given t pattern_end u w.lies.starts_whole (record { text = refl; goal = refl; keeps_tokens = refl }) refl r in
-    (lie_again regular_expression old n given t g.0 g.1 w g.2 h, g.2.comments)
+-- the same behind the flags of a regular expression
+pub lie_behind : (text : List ℕ) (most : ℕ) (keeps : Bool) (given : Token) (scan : Result Scanned Fault) (flags : Option RegularExpression) (old new : LexerOutput) (t : Token) → IsUtf8 text → IsCharBoundary text given.span.start → Fits most given.span.start scan → ScanEnds text scan → HasFlags text flags → SettledBehind text keeps given scan flags old new t → LieIn text old → LieIn text new × (new.comments ≡ old.comments)
+lie_behind text most keeps given scan flags old new t u b f e h k l =
+    let m = lie_flags text flags old k.mid u h k.flags_kept l in
+    (lie_settled text most keeps given scan k.mid new t b f e k.settled m.0, comments_settled keeps given scan k.mid new t k.settled ∙ m.1)
 
 -- what was kept before, again, once what came behind it is cut off
 pub cut_back : (n : Lengths) (old new : LexerOutput) → n ≡ lengths_of old → Extends old new → first_kept n new ≡ old

@@ -1,5 +1,5 @@
 -- Names and private names as lexemes of a text, and the faults where none stands.
-use Rattle.std.proofs.Common.{◌≡◌, ◌≤◌, ℕ, ◌+◌, ◌==◌, Bool, true, false, List, [], ◌∷◌, ◌++◌, refl, sym, ap, subst, ◌∙◌, not, ◌&&◌, ◌||◌, Some, None, inl, inr, arith}
+use Rattle.std.proofs.Common.{◌≡◌, ℕ, ◌+◌, ◌==◌, Bool, true, false, List, [], ◌∷◌, ◌++◌, refl, sym, ap, subst, ◌∙◌, not, ◌&&◌, ◌||◌, Some, None, inl, arith}
 use Rattle.std.specs.Prelude.{is_some, IsCharBoundary, IsUtf8, drop, encode_utf8_all}
 use Rattle.std.proofs.lemmas.Str.{IsUtf8-drop, encodes-chars}
 use Rattle.js_base.specs.declared.kind.Kind.{Kind}
@@ -19,10 +19,9 @@ use Rattle.js_grammar.specs.LexicalFaults.{behind, begins_nothing, Stopping}
 use Rattle.js_grammar.proofs.LongestLemmas.{both, both-left, not-true}
 use Rattle.js_grammar.proofs.CoreLemmas.{none_longer-from}
 use Rattle.js_grammar.proofs.CorePlain.{no_backslash, points-plain}
-use Rattle.std.proofs.lemmas.Bool.{eqb-true, cases_lt}
-use Rattle.std.proofs.lemmas.Bool.Decides.{nat_tests}
+use Rattle.std.proofs.lemmas.Bool.{eqb-true}
 use Rattle.js_lex.specs.declared.name.Name.{Name}
-use Rattle.js_lex.specs.Places.{Word, Peeks}
+use Rattle.js_lex.specs.Places.{Word}
 use Rattle.js_lex.specs.Scans.{IsScanned, IsStopped, NoLexeme}
 use Rattle.js_lex.specs.Faults.{PartsEnd, Reaches, fault_kind, kind_of_fault}
 use Rattle.js_lex.specs.declared.scan.Fault.{Fault}
@@ -176,16 +175,6 @@ nothing_begins rest r = both (none_begins (lexemes_in division) (35 ∷ rest)) t
         let left : rest ≡ x ++ more = cc in
         subst (λ (a : ℕ). lexemes_in division (a ∷ x) more ≡ false) same (ap is_some (plain_is a_private_name 35 x more private-opens ∙ no-private rest x more r left))
 
--- the first byte tells whether a backslash stands at the place
-pub backslash-here : {text : List ℕ} {i b : ℕ} → Peeks text i b → (b == 92) ≡ begins (λ c. c == 92) (behind text i)
-backslash-here {text = text} {i = i} {b = b} p = elim (cases_lt b 128) [
-  | inl l ↦ (let s = (p.ascii l).splits in sym (ap (begins (λ c. c == 92)) s))
-  | inr h ↦ (let t = p.high h in let s = t.word.splits in high-no-backslash b h ∙ sym (high-no-backslash t.character t.high) ∙ sym (ap (begins (λ c. c == 92)) s))
-]
-  where
-    high-no-backslash : (c : ℕ) → 128 ≤ c → (c == 92) ≡ false
-    high-no-backslash c h = grind (arith, nat_tests)
-
 -- a `#` that stands first at the place
 pub mark-here : (text : List ℕ) (i : ℕ) → IsUtf8 text → IsCharBoundary text i → begins (λ c. c == 35) (behind text i) ≡ true → Word text i (i + 1) (35 ∷ [])
 mark-here text i u b h = by (behind text i) refl h
@@ -197,34 +186,29 @@ mark-here text i u b h = by (behind text i) refl h
         let q : behind text i ≡ 35 ∷ cs = e ∙ ap (λ (x : ℕ). x ∷ cs) same in
         one_character text i 35 (encode_utf8_all cs) u b (sym (encodes-chars (drop i text) (IsUtf8-drop text i u b)) ∙ ap encode_utf8_all q)
 
-first-backslash : (cs : List ℕ) → begins (λ c. c == 92) cs ≡ true → (rest : List ℕ) × (cs ≡ 92 ∷ rest)
-first-backslash [] h = absurd (cc)
-first-backslash (c ∷ cs) h = (cs, ap (λ (x : ℕ). x ∷ cs) (eqb-true c 92 h))
-
-pub private-escape : {text : List ℕ} {i j : ℕ} {fault : Fault} → Word text i j (35 ∷ []) → begins (λ c. c == 92) (behind text j) ≡ true → Refuses is_identifier_start (behind text j) → fault.kind ≡ InvalidEscape → fault.start ≡ j → PartsEnd false text (j + 1) fault.end
+pub private-escape : {text : List ℕ} {i j : ℕ} {fault : Fault} → Word text i j (35 ∷ []) → Word text j (j + 1) (92 ∷ []) → Refuses is_identifier_start (behind text j) → fault.kind ≡ InvalidEscape → fault.start ≡ j → PartsEnd false text (j + 1) fault.end
     → IsStopped division text i fault
-private-escape {text = text} {i = i} {j = j} {fault = fault} m f n kd st p =
-    let s = first-backslash (behind text j) f in
+private-escape {text = text} {i = i} {j = j} {fault = fault} m w n kd st p =
     let l = p.stands.end in
-    let e : behind text j ≡ 92 ∷ s.0 = s.1 in
+    let e : behind text j ≡ 92 ∷ behind text (j + 1) = w.splits in
     let z = m.end in
     record {
       none = no_private_lexeme text i (behind text j) m.splits n;
       condition = subst (λ (d : DiagnosticKind). Stopping d text i fault.start fault.end) (sym kd) (inl (record {
         mark = 35 ∷ [];
         name = [];
-        rest = s.0;
+        rest = behind text (j + 1);
         here = m.splits ∙ ap (λ (v : List ℕ). 35 ∷ v) e;
         marked = refl;
         named = refl;
-        never = never-name (92 ∷ s.0) (subst (λ (v : List ℕ). Refuses is_identifier_start v) e n);
+        never = never-name (92 ∷ behind text (j + 1)) (subst (λ (v : List ℕ). Refuses is_identifier_start v) e n);
         begin = omega arith;
       }));
       follows = omega arith;
       ordered = omega arith;
       begins_between = subst (λ (x : ℕ). IsCharBoundary text x) (sym st) m.boundary;
       ends_between = p.stands.boundary;
-      told = kd ∙ sym (ap fault_kind m.splits ∙ ap (λ (b : Bool). elim b [ true ↦ InvalidEscape | false ↦ InvalidCharacter ]) f);
+      told = kd ∙ sym (ap fault_kind m.splits ∙ ap (λ (b : Bool). elim b [ true ↦ InvalidEscape | false ↦ InvalidCharacter ]) (ap (begins (λ c. c == 92)) e));
       reaches = escape-reaches kd st p;
     }
 

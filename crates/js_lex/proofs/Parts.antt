@@ -1,13 +1,14 @@
 -- Runs of the characters of names: what a scan of one has read, and that one run alone begins at a place.
 use Rattle.std.proofs.Common.{◌≡◌, ◌+◌, ℕ, Bool, true, false, List, [], ◌∷◌, ◌++◌, refl, sym, ap, subst, ◌∙◌}
-use Rattle.std.specs.Prelude.{IsCharBoundary}
+use Rattle.std.specs.Prelude.{IsCharBoundary, nat_lt}
 use Rattle.std.specs.List.{list_all}
-use Rattle.js_grammar.specs.Characters.{width, begins}
+use Rattle.js_grammar.specs.Characters.{width, begins, is_identifier_part}
 use Rattle.js_grammar.specs.LexicalFaults.{behind}
 use Rattle.js_grammar.proofs.LongestLemmas.{both, both-left, both-right}
 use Rattle.js_grammar.proofs.Finding.{all-append}
 use Rattle.js_lex.specs.Places.{Word}
 use Rattle.js_lex.specs.Faults.{is_part, PartsEnd}
+use Rattle.js_lex.specs.Names.{is_ascii_part, AsciiParts}
 use Rattle.js_lex.proofs.Places.{none_passed, then}
 
 -- such characters stand between the places
@@ -31,6 +32,22 @@ parts_stop {dots = dots} r w e = record { word = r.word; stands = r.stands; pass
 
 pub parts_all : {dots : Bool} {text : List ℕ} {i j : ℕ} → PartsRead dots text i j → behind text j ≡ [] → PartsEnd dots text i j
 parts_all {dots = dots} r e = record { word = r.word; stands = r.stands; pass = r.pass; no_more = ap (begins (is_part dots)) e }
+
+is_part_ascii : (dots : Bool) (c : ℕ) → is_ascii_part c ≡ true → is_part dots c ≡ true
+is_part_ascii true c h = let e = both-right (nat_lt c 128) (is_identifier_part c) h in rw e refl
+is_part_ascii false c h = both-right (nat_lt c 128) (is_identifier_part c) h
+
+are_parts_ascii : (dots : Bool) (w : List ℕ) → list_all is_ascii_part w ≡ true → list_all (is_part dots) w ≡ true
+are_parts_ascii dots [] h = refl
+are_parts_ascii dots (c ∷ w) h = both (is_part dots c) (list_all (is_part dots) w) (is_part_ascii dots c (both-left (is_ascii_part c) (list_all is_ascii_part w) h)) (are_parts_ascii dots w (both-right (is_ascii_part c) (list_all is_ascii_part w) h))
+
+-- the ASCII characters behind them, too
+pub parts_ascii : {dots : Bool} {text : List ℕ} {i j k : ℕ} → PartsRead dots text i j → AsciiParts text j k → PartsRead dots text i k
+parts_ascii {dots = dots} r a = record {
+  word = r.word ++ a.word;
+  stands = then r.stands a.stands;
+  pass = all-append (is_part dots) r.word a.word r.pass (are_parts_ascii dots a.word a.parts);
+}
 
 -- of two runs from one place both end alike
 run-same : (p : ℕ → Bool) (w rest v more : List ℕ) → w ++ rest ≡ v ++ more → list_all p w ≡ true → begins p rest ≡ false → list_all p v ≡ true → begins p more ≡ false → w ≡ v

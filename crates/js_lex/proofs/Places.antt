@@ -1,5 +1,5 @@
 -- Words between places of a text, and the characters that bytes tell.
-use Rattle.std.proofs.Common.{◌≡◌, ◌≤◌, ◌<◌, ℕ, ◌+◌, List, [], ◌∷◌, ◌++◌, refl, sym, ap, subst, ◌∙◌, length, drop, arith, length-drop, Option, Some, None, ◌⊎◌, inl, inr, append_assoc, take, nat_lt, false, true}
+use Rattle.std.proofs.Common.{◌≡◌, ◌≤◌, ◌<◌, ℕ, ◌+◌, List, [], ◌∷◌, ◌++◌, refl, sym, ap, subst, ◌∙◌, length, drop, arith, length-drop, Option, Some, None, ◌⊎◌, inl, inr, append_assoc, take, nat_lt, false, true, ◌==◌}
 use Rattle.std.specs.Prelude.{chars, encode_utf8, encode_utf8_all, IsUtf8, IsCharBoundary, slice_index, slice_get}
 use Rattle.std.specs.Char.{len_utf8}
 use Rattle.std.proofs.lemmas.Str.{IsUtf8-drop, IsCharBoundary-past_char, drop_past_char, chars_past_char, chars-nil, encode_ascii, len_utf8_ascii, encodes-chars, byte_from_char}
@@ -7,10 +7,10 @@ use Rattle.std.specs.List.{list_all}
 use Rattle.std.proofs.lemmas.List.{drop_more, take_more, take_all, get_or-drop}
 use Rattle.js_grammar.specs.CoreTexts.{starts}
 use Rattle.js_grammar.proofs.Runs.{is_ascii_list, ascii_width}
-use Rattle.std.proofs.lemmas.Bool.{cases_lt}
+use Rattle.std.proofs.lemmas.Bool.{cases_lt, eqb-true}
 use Rattle.js_grammar.specs.Characters.{width}
 use Rattle.js_grammar.specs.LexicalFaults.{behind}
-use Rattle.js_lex.specs.Places.{Word, High, Peeks, PeeksAt, ReadsAt}
+use Rattle.js_lex.specs.Places.{Word, High, Peeks, PeeksAt, ReadsAt, Finds}
 
 pub width-append : (u v : List ℕ) → width (u ++ v) ≡ width u + width v
 width-append [] v = omega arith
@@ -82,6 +82,10 @@ reads text i r u b e = by (behind text i) refl r e
         let v : IsUtf8 (drop i text) = IsUtf8-drop text i u b in
         let s : drop i text ≡ encode_utf8 c ++ encode_utf8_all cs = sym (encodes-chars (drop i text) v) ∙ ap encode_utf8_all q in
         subst (λ (x : ℕ). Word text i (i + len_utf8 x) (x ∷ [])) (sym same) (one_character text i c (encode_utf8_all cs) u b s)
+
+-- the character that was asked for stands there
+pub found : {text : List ℕ} {i : ℕ} (b : ℕ) → Finds (λ c. c == b) text i true → Word text i (i + 1) (b ∷ [])
+found {text = text} {i = i} b f = subst (λ (c : ℕ). Word text i (i + 1) (c ∷ [])) (eqb-true f.0 b f.2) f.1
 
 -- ---- to go on with some ASCII characters
 

@@ -125,17 +125,20 @@ no_lexeme text i o n w more k e l = by w more e l
         let b = l.kind in
         cc
 
-pub binary : {text : List ℕ} {i : ℕ} → IsCharBoundary text i → OpensPunctuator (behind text i) → BeginsNone (behind text i) → Word text i (i + 3) (65533 ∷ []) → IsStopped division text i (record { kind = fault.BinaryFile; start = i; end = i + 3 })
-binary {text = text} {i = i} b o n w = record {
+binary_there : {text : List ℕ} {i j : ℕ} → IsCharBoundary text i → OpensPunctuator (behind text i) → BeginsNone (behind text i) → Word text i j (65533 ∷ []) → IsStopped division text i (record { kind = fault.BinaryFile; start = i; end = j })
+binary_there {text = text} {i = i} {j = j} b o n w = record {
   none = no_lexeme text i o n;
-  condition = (refl, record { rest = behind text (i + 3); here = w.splits; end = refl });
+  condition = (refl, record { rest = behind text j; here = w.splits; end = let e = w.end in omega arith });
   follows = omega arith;
-  ordered = omega arith;
+  ordered = let e = w.end in omega arith;
   begins_between = b;
   ends_between = w.boundary;
-  told = sym (ap fault_kind w.splits ∙ ap (λ (p : Opening). kind_of_fault p 65533 (behind text (i + 3))) (subst OpensPunctuator w.splits o));
+  told = sym (ap fault_kind w.splits ∙ ap (λ (p : Opening). kind_of_fault p 65533 (behind text j)) (subst OpensPunctuator w.splits o));
   reaches = tt;
 }
+
+pub binary : {text : List ℕ} {i j c : ℕ} → IsCharBoundary text i → OpensPunctuator (behind text i) → BeginsNone (behind text i) → Word text i j (c ∷ []) → c ≡ 65533 → IsStopped division text i (record { kind = fault.BinaryFile; start = i; end = j })
+binary {text = text} {i = i} {j = j} b o n w e = binary_there b o n (subst (λ (d : ℕ). Word text i j (d ∷ [])) e w)
 
 not_in : (c d : ℕ) (k : Kind) → punctuator_of (d ∷ []) ≡ Some k → punctuator_of (c ∷ []) ≡ None → (d == c) ≡ false
 not_in c d k e n = go (d == c) refl
@@ -170,7 +173,7 @@ nothing_begins c cs h n r =
     not_any : (a b d e f g h i j : Bool) → a ≡ false → b ≡ false → d ≡ false → e ≡ false → f ≡ false → g ≡ false → h ≡ false → i ≡ false → j ≡ false → not (a || ((b || (d || (e || (f || (g || (h || (i || false))))))) || j)) ≡ true
     not_any a b d e f g h i j p1 p2 p3 p4 p5 p6 p7 p8 p9 = rw (p1, p2, p3, p4, p5, p6, p7, p8, p9) refl
 
-pub differs : (c d : ℕ) → (c ≡ d → ⊥) → (d == c) ≡ false
+differs : (c d : ℕ) → (c ≡ d → ⊥) → (d == c) ≡ false
 differs c d f = go (d == c) refl
   where
     go : (b : Bool) → (d == c) ≡ b → (d == c) ≡ false
@@ -183,15 +186,15 @@ stray_told c cs n r = by (c == 47) (c == 125) (c == 0xFFFD) (turned 47 c (slash_
     by : (a b d : Bool) → a ≡ false → b ≡ false → d ≡ false → elim a [ true ↦ elim (begins (λ x. x == 42) cs) [ true ↦ fault.UnterminatedComment | false ↦ fault.UnterminatedRegexp ] | false ↦ elim b [ true ↦ fault.UnterminatedTemplate | false ↦ elim d [ true ↦ fault.BinaryFile | false ↦ fault.InvalidCharacter ] ] ] ≡ fault.InvalidCharacter
     by a b d e f g = rw (e, f, g) refl
 
-pub stray : {text : List ℕ} {i c n : ℕ} → IsCharBoundary text i → OpensPunctuator (behind text i) → BeginsNone (behind text i) → Word text i (i + len_utf8 c) (c ∷ []) → (0xFFFD == c) ≡ false → n ≡ len_utf8 c → IsStopped division text i (record { kind = fault.InvalidCharacter; start = i; end = i + n })
-stray {text = text} {i = i} {c = c} {n = n} b o z w r e = record {
+pub stray : {text : List ℕ} {i j c : ℕ} → IsCharBoundary text i → OpensPunctuator (behind text i) → BeginsNone (behind text i) → Word text i j (c ∷ []) → (c ≡ 0xFFFD → ⊥) → IsStopped division text i (record { kind = fault.InvalidCharacter; start = i; end = j })
+stray {text = text} {i = i} {j = j} {c = c} b o z w n = record {
   none = no_lexeme text i o z;
-  condition = (refl, record { character = c; rest = behind text (i + len_utf8 c); here = w.splits; nothing = nothing_begins c (behind text (i + len_utf8 c)) (subst OpensPunctuator w.splits o) (subst BeginsNone w.splits z) r; end = omega arith });
+  condition = (refl, record { character = c; rest = behind text j; here = w.splits; nothing = nothing_begins c (behind text j) (subst OpensPunctuator w.splits o) (subst BeginsNone w.splits z) (differs c 0xFFFD n); end = let e = w.end in omega arith });
   follows = omega arith;
-  ordered = let l = (len_utf8_bounds c).0 in omega arith;
+  ordered = let e = w.end in let l = (len_utf8_bounds c).0 in omega arith;
   begins_between = b;
-  ends_between = subst (λ (m : ℕ). IsCharBoundary text (i + m)) (sym e) w.boundary;
-  told = sym (ap fault_kind w.splits ∙ ap (λ (p : Opening). kind_of_fault p c (behind text (i + len_utf8 c))) (subst OpensPunctuator w.splits o) ∙ stray_told c (behind text (i + len_utf8 c)) (subst BeginsNone w.splits z) r);
+  ends_between = w.boundary;
+  told = sym (ap fault_kind w.splits ∙ ap (λ (p : Opening). kind_of_fault p c (behind text j)) (subst OpensPunctuator w.splits o) ∙ stray_told c (behind text j) (subst BeginsNone w.splits z) (differs c 0xFFFD n));
   reaches = tt;
 }
 

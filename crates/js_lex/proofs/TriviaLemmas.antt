@@ -22,8 +22,7 @@ use Rattle.std.proofs.lemmas.Bool.{eqb-true}
 use Rattle.js_lex.proofs.ByteClasses.{agree, stays}
 use Rattle.js_grammar.proofs.CoreLemmas.{none_longer-from}
 use Rattle.js_lex.specs.Places.{Word, Peeks}
-use Rattle.std.specs.Char.{len_utf8}
-use Rattle.std.proofs.lemmas.Str.{len_utf8_ascii, len_utf8_bounds}
+use Rattle.std.proofs.lemmas.Str.{len_utf8_bounds}
 use Rattle.js_lex.specs.TriviaPassed.{IsPiece, PieceAt, BlankAt, IsBlankPiece, IsLineEnd, IsBlockEnd, block_kind, PlainBlankAt, NoTrivia}
 use Rattle.js_lex.specs.Comments.{comment_kind}
 use Rattle.js_lex.specs.declared.comment.CommentKind.TheVariants.{Line, SingleLineBlock, MultiLineBlock}
@@ -286,7 +285,7 @@ closed_piece {b = b} w l first = let h : closes_comment false l.word ≡ true = 
     kind true = refl
     kind false = refl
 
-pub blank_piece : {text : List ℕ} {at c : ℕ} {p : Piece} → Word text at p.end (c ∷ []) → IsBlankPiece c at p → (first : Bool) → IsPiece first text at p
+pub blank_piece : {text : List ℕ} {at j c : ℕ} {p : Piece} → Word text at p.end (c ∷ []) → IsBlankPiece c j p → (first : Bool) → IsPiece first text at p
 blank_piece {c = c} w b first = let k = blank_no_comment c b.blank in record { word = c ∷ []; stands = w; longest = blank_longest first c _ b.blank; comment = b.comment ∙ sym k.0; html = b.html ∙ sym k.1; irregular = b.irregular; newline = b.newline ∙ sym (or-false (is_line_terminator c)) }
 
 -- ---- at a place of a text
@@ -307,24 +306,17 @@ pub minus_there : {text : List ℕ} {at : ℕ} → Word text at (at + 1) (45 ∷
 minus_there {text = text} {at = at} w first h = none_there w first (lone_minus first (behind text (at + 1)) (subst (λ (v : List ℕ). (first && starts (codes "-->") v) ≡ false) w.splits h))
 
 -- a character that begins no comment, as a piece or none
-pub blank_there : {text : List ℕ} {at : ℕ} (c : ℕ) (r : Option Piece) (first : Bool) → Word text at (at + len_utf8 c) (c ∷ []) → (c ≡ 47 → ⊥) → (c ≡ 60 → ⊥) → (c ≡ 45 → ⊥) → BlankAt c at r → PieceAt first text at r
-blank_there {text = text} {at = at} c None first w n m k b = subst (λ (v : List ℕ). none_begins (is_trivia_piece first) v ≡ true) (sym w.splits) (none_piece first c (behind text (at + len_utf8 c)) (not-true (is_blank (c ∷ [])) b) (other 47 n, other 60 m, other 45 k))
+pub blank_there : {text : List ℕ} {at j : ℕ} (c : ℕ) (r : Option Piece) (first : Bool) → Word text at j (c ∷ []) → (c ≡ 47 → ⊥) → (c ≡ 60 → ⊥) → (c ≡ 45 → ⊥) → BlankAt c j r → PieceAt first text at r
+blank_there {text = text} {at = at} {j = j} c None first w n m k b = subst (λ (v : List ℕ). none_begins (is_trivia_piece first) v ≡ true) (sym w.splits) (none_piece first c (behind text j) (not-true (is_blank (c ∷ [])) b) (other 47 n, other 60 m, other 45 k))
   where
     other : (a : ℕ) → (c ≡ a → ⊥) → (a == c) ≡ false
     other a n = Rattle.std.proofs.lemmas.Bool.ne_eqb a c (λ e. n (sym e))
-blank_there {text = text} {at = at} c (Some p) first w n m k b = blank_piece (subst (λ (j : ℕ). Word text at j (c ∷ [])) (sym b.end) w) b first
+blank_there {text = text} {at = at} c (Some p) first w n m k b = blank_piece (subst (λ (n : ℕ). Word text at n (c ∷ [])) (sym b.ends) w) b first
 
--- the character that begins with a byte above ASCII is above ASCII
-pub high_there : {text : List ℕ} {at j b : ℕ} (c : ℕ) → Peeks text at b → 128 ≤ b → Word text at j (c ∷ []) → 128 ≤ c
-high_there {text = text} {at = at} {j = j} c p h w =
-    let g = p.high h in
-    let e : g.character ∷ behind text (at + len_utf8 g.character) ≡ c ∷ behind text j = sym g.word.splits ∙ w.splits in
-    let same : g.character ≡ c = cc in
-    let above = g.high in
-    omega arith
-
-pub ascii_there : {text : List ℕ} {at : ℕ} (c : ℕ) → Word text at (at + 1) (c ∷ []) → c < 128 → Word text at (at + len_utf8 c) (c ∷ [])
-ascii_there {text = text} {at = at} c w h = subst (λ (n : ℕ). Word text at (at + n) (c ∷ [])) (sym (len_utf8_ascii c h)) w
+-- a character that its byte tells, or one above ASCII, is none of ASCII that the byte isn't
+pub apart : (a c b : ℕ) → a < 128 → (b ≡ a → ⊥) → (c ≡ b) ⊎ (128 ≤ c) → c ≡ a → ⊥
+apart a c b l n (inl e) k = n (sym e ∙ k)
+apart a c b l n (inr h) k = omega arith
 
 -- ---- progress
 
@@ -343,7 +335,7 @@ piece_moves {first = first} {text = text} {i = i} {p = p} h = (by h.word h.stand
     by (c ∷ w) e k = let z = some_width c w in omega arith
 
 -- a space, tab, CR or LF, as a piece
-pub plain_blank : {text : List ℕ} {at : ℕ} (c : ℕ) (newline : Bool) → Word text at (at + len_utf8 c) (c ∷ []) → (c ≡ 47 → ⊥) → (c ≡ 60 → ⊥) → (c ≡ 45 → ⊥) → IsBlankPiece c at (record { end = at + 1; comment = None; is_html = false; is_irregular = false; has_newline = newline }) → PlainBlankAt text at (Some newline)
+pub plain_blank : {text : List ℕ} {at : ℕ} (c : ℕ) (newline : Bool) → Word text at (at + 1) (c ∷ []) → (c ≡ 47 → ⊥) → (c ≡ 60 → ⊥) → (c ≡ 45 → ⊥) → IsBlankPiece c (at + 1) (record { end = at + 1; comment = None; is_html = false; is_irregular = false; has_newline = newline }) → PlainBlankAt text at (Some newline)
 plain_blank {text = text} {at = at} c newline w n m k b first = blank_there c (Some (record { end = at + 1; comment = None; is_html = false; is_irregular = false; has_newline = newline })) first w n m k b
 
 -- a visible ASCII character is neither white space nor a line terminator
@@ -363,9 +355,9 @@ plain_ascii b h = grind (arith, nat_tests)
 pub plain_byte : {text : List ℕ} {at b : ℕ} (newline : Bool) → Peeks text at b → plain b ≡ true → newline ≡ one_of (10 ∷ 13 ∷ []) b → PlainBlankAt text at (Some newline)
 plain_byte {text = text} {at = at} {b = b} newline p h e =
     let l = plain_ascii b h in
-    plain_blank b newline (ascii_there b (p.ascii l) l) (other 47 refl) (other 60 refl) (other 45 refl) (record {
+    plain_blank b newline (p.ascii l) (other 47 refl) (other 60 refl) (other 45 refl) (record {
       blank = ascii plain (λ c. is_blank (c ∷ [])) b refl l h;
-      end = ap (λ (n : ℕ). at + n) (sym (len_utf8_ascii b l));
+      ends = refl;
       comment = refl;
       html = refl;
       irregular = sym (not-true (is_irregular (b ∷ [])) (ascii plain (λ c. not (is_irregular (c ∷ []))) b refl l h));

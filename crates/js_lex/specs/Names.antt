@@ -1,18 +1,14 @@
 -- How a name is read, one code point after the other (ECMA-262, 12.7).
-use Rattle.std.specs.Prelude.{ℕ, ◌≡◌, ◌<◌, ◌≤◌, Bool, true, false, not, ◌&&◌, List, [], ◌∷◌, ◌++◌, Option, Some, None, IsCharBoundary, length, take, nat_lt, nat_le, ◌||◌, ◌==◌}
+use Rattle.std.specs.Prelude.{ℕ, ◌≡◌, ◌<◌, ◌≤◌, Bool, true, false, not, ◌&&◌, List, [], ◌∷◌, ◌++◌, Option, Some, None, length, take, nat_lt}
 use Rattle.std.specs.List.{list_all}
 use Rattle.js_base.specs.declared.kind.Kind.TheVariants.{Ident}
-use Rattle.js_base.specs.Escapes.{in_name, code_points, Stage, outside, backslash, unicode, due, braced, Step, go, before_all}
+use Rattle.js_base.specs.Escapes.{in_name, code_points, before_all}
 use Rattle.js_base.specs.Keywords.{keyword_of}
 use Rattle.js_grammar.specs.Characters.{is_identifier_start, is_identifier_part, begins}
 use Rattle.js_grammar.specs.Names.{is_plain_name, has_backslash}
 use Rattle.js_grammar.specs.LexicalFaults.{behind}
 use Rattle.js_lex.specs.declared.name.Position.{Position}
 use Rattle.js_lex.specs.declared.name.Position.TheVariants.{Start, Part}
-use Rattle.js_lex.specs.declared.name.State.{State}
-use Rattle.js_lex.specs.declared.name.State.TheVariants.{Backslash, Unicode, Due, Braced}
-use Rattle.js_lex.specs.declared.name.Progress.{Progress}
-use Rattle.js_lex.specs.declared.name.Progress.TheVariants.{Goes, Names, Fails}
 use Rattle.js_lex.specs.declared.name.Escape.{Escape}
 use Rattle.js_lex.specs.declared.name.Piece.{Piece}
 use Rattle.js_lex.specs.declared.name.Letters.{Letters}
@@ -42,31 +38,6 @@ Refuses test cs = (c : ℕ) (x more : List ℕ) → cs ≡ c ∷ x ++ more → i
 abbrev pub Unfinished : List ℕ → Type 0
 Unfinished w = (c : ℕ) (x : List ℕ) (d : ℕ) (more : List ℕ) → w ≡ c ∷ x ++ d ∷ more → code_points in_name (c ∷ x) ≡ None
 
--- the stage that a state of the scan stands for
-abbrev pub stage_of : State → Stage
-stage_of Backslash = backslash
-stage_of Unicode = unicode
-stage_of (Due n v) = due n v
-stage_of (Braced any v) = braced any v
-
--- what a character does to a stage, as the scan tells it
-abbrev pub step_of : Progress → Option Step
-step_of (Goes s) = go (stage_of s) []
-step_of (Names p) = go outside (p ∷ [])
-step_of Fails = None
-
--- the value so far is that of the digits read
-abbrev pub fits : State → Bool
-fits Backslash = true
-fits Unicode = true
-fits (Due n v) = (nat_le n 1 && nat_lt v 4096) || ((nat_le n 2 && nat_lt v 256) || (nat_le n 3 && nat_lt v 16))
-fits (Braced any v) = nat_le v 0x10_FFFF
-
--- the value fits where the escape sequence goes on
-abbrev pub step_fits : Progress → Bool
-step_fits (Goes s) = fits s
-step_fits _ = true
-
 -- an escape sequence stands at the place
 pub record IsEscape (text : List ℕ) (i : ℕ) (e : Escape) : Type 0 where
   pub word : List ℕ
@@ -76,12 +47,6 @@ pub record IsEscape (text : List ℕ) (i : ℕ) (e : Escape) : Type 0 where
   pub escaped : has_backslash word ≡ true
   pub some : i < e.end
 
--- No escape sequence stands at the place; up to the place j the characters may be the beginning of one.
-pub record NoEscape (text : List ℕ) (i j : ℕ) : Type 0 where
-  pub refuses : (test : ℕ → Bool) → Refuses test (behind text i)
-  pub some : i < j
-  pub between : IsCharBoundary text j
-
 -- a character or an escape sequence stands at the place, and its code point passes
 pub record IsPiece (test : ℕ → Bool) (text : List ℕ) (i : ℕ) (p : Piece) : Type 0 where
   pub word : List ℕ
@@ -90,12 +55,6 @@ pub record IsPiece (test : ℕ → Bool) (text : List ℕ) (i : ℕ) (p : Piece)
   pub passes : test p.code_point ≡ true
   pub escaped : p.escaped ≡ has_backslash word
   pub some : i < p.end
-
--- No such character or escape sequence stands at the place; where a backslash does, j is behind it.
-pub record NoPiece (test : ℕ → Bool) (text : List ℕ) (i j : ℕ) : Type 0 where
-  pub refuses : Refuses test (behind text i)
-  pub some : begins (λ c. c == 92) (behind text i) ≡ true → i < j
-  pub between : begins (λ c. c == 92) (behind text i) ≡ true → IsCharBoundary text j
 
 -- an ASCII character of a name
 abbrev pub is_ascii_part : ℕ → Bool

@@ -1,20 +1,18 @@
 -- The token that is made of what a scan answers, and what is kept of it.
-use Rattle.std.specs.Prelude.{ℕ, ◌+◌, ◌≡◌, ◌<◌, ◌≤◌, ◌⊎◌, Bool, true, false, List, [], ◌∷◌, Result, Ok, Err, None, IsCharBoundary}
-use Rattle.js_base.specs.declared.kind.Kind.TheVariants.{RAngle, RegExp, Undetermined}
-use Rattle.js_base.specs.declared.span.Span.{Span}
+use Rattle.std.specs.Prelude.{ℕ, ◌+◌, ◌≡◌, ◌<◌, ◌≤◌, Bool, true, false, List, [], ◌∷◌, Option, Some, None, Result, Ok, Err, IsCharBoundary}
+use Rattle.js_base.specs.declared.kind.Kind.TheVariants.{RAngle, Undetermined}
 use Rattle.js_base.specs.declared.token.Token.{Token}
-use Rattle.js_base.specs.declared.diagnostic.DiagnosticKind.TheVariants.{RegExpFlag}
 use Rattle.js_base.specs.declared.diagnostic.Diagnostic.{Diagnostic}
 use Rattle.js_lex.specs.declared.scan.Scanned.{Scanned}
 use Rattle.js_lex.specs.declared.scan.Fault.{Fault}
 use Rattle.js_lex.specs.declared.output.LexerOutput.{LexerOutput}
-use Rattle.js_lex.specs.Kept.{Grows, fault_at}
+use Rattle.js_lex.specs.Kept.{Grows}
 use Rattle.js_lex.specs.Reading.{is_right_angle, kept_token, relexed, flag_faults, GivesNext}
 use Rattle.js_grammar.specs.Settings.{Goal}
-use Rattle.js_grammar.specs.Lexemes.{regular_expression, division}
-use Rattle.js_lex.specs.Scans.{IsScanned, IsStopped}
+use Rattle.js_grammar.specs.Lexemes.{division}
+use Rattle.js_lex.specs.Places.{Word}
+use Rattle.js_lex.specs.Scans.{IsScanned}
 use Rattle.js_lex.specs.TriviaPassed.{NoTrivia}
-use Rattle.js_lex.specs.RegularExpressionParts.{IsRegularExpression}
 use Rattle.js_lex.specs.declared.regular_expression.RegularExpression.{RegularExpression}
 
 -- of a punctuator that begins with `>`, the sign alone
@@ -49,28 +47,21 @@ abbrev pub SettledAgain : Bool → Token → Result Scanned Fault → LexerOutpu
 SettledAgain keeps given (Ok s) old new t = (t ≡ token_of s given.span.start given.is_on_new_line) × (new ≡ record { comments = old.comments; irregular_whitespaces = old.irregular_whitespaces; tokens = relexed keeps old.tokens t; errors = old.errors })
 SettledAgain keeps given (Err f) old new t = (t ≡ undetermined_of f given.span.start given.is_on_new_line) × Grows old new [] [] [] (diagnostic_of f ∷ [])
 
--- A regular expression, or none, in place of the slash that was given: what is kept, and where the pattern ends.
-pub record IsFoundAgain (text : List ℕ) (keeps : Bool) (given : Token) (old new : LexerOutput) (t : Token) (pattern_end : ℕ) : Type 0 where
-  pub found : RegularExpression
-  pub is : IsRegularExpression text given.span.start found
-  pub pattern_ends : pattern_end ≡ found.pattern_end
+-- behind the pattern of a regular expression its flags stand
+abbrev pub HasFlags : List ℕ → Option RegularExpression → Type 0
+HasFlags text None = Unit {0}
+HasFlags text (Some r) = IsCharBoundary text r.pattern_end × ((fs : List ℕ) × Word text r.pattern_end r.end fs)
+
+-- what is kept of them: the fault that each wrong one is
+abbrev pub FlagsKept : List ℕ → Option RegularExpression → LexerOutput → LexerOutput → Type 0
+FlagsKept text None old new = new ≡ old
+FlagsKept text (Some r) old new = (fs : List ℕ) → Word text r.pattern_end r.end fs → Grows old new [] [] [] (flag_faults r.pattern_end [] fs)
+
+-- behind them what a scan answers is settled
+pub record SettledBehind (text : List ℕ) (keeps : Bool) (given : Token) (scan : Result Scanned Fault) (flags : Option RegularExpression) (old new : LexerOutput) (t : Token) : Type 0 where
   pub mid : LexerOutput
-  pub flags_kept : Grows old mid [] [] [] (flag_faults found.pattern_end [] is.flags_word)
-  pub settled : SettledAgain keeps given (Ok (record { kind = RegExp; end = found.end; escaped = false; has_separator = false })) mid new t
-
-pub record IsStoppedAgain (text : List ℕ) (keeps : Bool) (given : Token) (old new : LexerOutput) (t : Token) (pattern_end : ℕ) : Type 0 where
-  pub fault : Fault
-  pub stopped : IsStopped regular_expression text given.span.start fault
-  pub pattern_ends : pattern_end ≡ fault.end
-  pub settled : SettledAgain keeps given (Err fault) old new t
-
-abbrev pub IsReadAgain : List ℕ → Bool → Token → LexerOutput → LexerOutput → Token → ℕ → Type 0
-IsReadAgain text keeps given old new t pattern_end = IsFoundAgain text keeps given old new t pattern_end ⊎ IsStoppedAgain text keeps given old new t pattern_end
-
--- the fault that a flag is, if it is wrong
-abbrev pub flag_told : Bool → Span → List Diagnostic
-flag_told true span = fault_at RegExpFlag span ∷ []
-flag_told false span = []
+  pub flags_kept : FlagsKept text flags old mid
+  pub settled : SettledAgain keeps given scan mid new t
 
 -- what was scanned ends between characters, and a fault begins so
 abbrev pub ScanEnds : List ℕ → Result Scanned Fault → Type 0

@@ -1,6 +1,5 @@
 -- The trivia that a lexer passes, and what is kept of it.
 use Rattle.std.specs.Prelude.{ℕ, ◌+◌, ◌≡◌, ◌==◌, Bool, true, false, not, List, [], ◌∷◌, ◌++◌, Option, Some, None, IsTrue}
-use Rattle.std.specs.Char.{len_utf8}
 use Rattle.js_base.specs.Characters.{is_line_terminator}
 use Rattle.js_base.specs.declared.span.Span.{Span}
 use Rattle.js_base.specs.declared.diagnostic.Diagnostic.{Diagnostic}
@@ -29,18 +28,18 @@ pub record IsPiece (first : Bool) (text : List ℕ) (i : ℕ) (p : Piece) : Type
   pub irregular : p.is_irregular ≡ is_irregular word
   pub newline : p.has_newline ≡ has_line_terminator word
 
--- the character as a piece that begins at a place, or none where it is neither white space nor a line terminator
-pub record IsBlankPiece (c at : ℕ) (p : Piece) : Type 0 where
+-- the character as a piece that ends at a place, or none where it is neither white space nor a line terminator
+pub record IsBlankPiece (c end : ℕ) (p : Piece) : Type 0 where
   pub blank : IsTrue (is_blank (c ∷ []))
-  pub end : p.end ≡ at + len_utf8 c
+  pub ends : p.end ≡ end
   pub comment : p.comment ≡ None
   pub html : p.is_html ≡ false
   pub irregular : p.is_irregular ≡ is_irregular (c ∷ [])
   pub newline : p.has_newline ≡ is_line_terminator c
 
 abbrev pub BlankAt : ℕ → ℕ → Option Piece → Type 0
-BlankAt c at None = IsTrue (not (is_blank (c ∷ [])))
-BlankAt c at (Some p) = IsBlankPiece c at p
+BlankAt c end None = IsTrue (not (is_blank (c ∷ [])))
+BlankAt c end (Some p) = IsBlankPiece c end p
 
 -- up to the place j all is on one line, and there the line ends
 pub record IsLineEnd (text : List ℕ) (i j : ℕ) : Type 0 where

@@ -1,10 +1,10 @@
 //! One character of a text, where a byte of ASCII costs no decoding.
 
 ghost use Rattle.std.specs.Prelude.{◌≡◌, ◌≤◌, ◌⊎◌, IsCharBoundary};
-ghost use Rattle.js_lex.specs.Places.{Peeks};
+ghost use Rattle.js_lex.specs.Places.{Peeks, ReadsAt};
 ghost use Rattle.js_lex.specs.NextCharacters.{NextAt, IsNext};
 
-use crate::place::{byte_at, char_at};
+use crate::place::byte_at;
 
 /// A character of a text.
 #[derive(Debug, Clone, Copy)]
@@ -47,4 +47,12 @@ pub(crate) fn character_of(text: &str, at: usize, byte: u8) -> Character
         },
         None => unreachable!(),
     }
+}
+
+/// The character at a place, decoded; none at the end of the text.
+fn char_at(text: &str, at: usize) -> Option<char>
+    requires { IsCharBoundary text.now at }
+    ensures { ReadsAt text.now at result }
+{
+    text[at..].chars().next()
 }

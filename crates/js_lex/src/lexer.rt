@@ -15,7 +15,7 @@ ghost use Rattle.js_lex.specs.Comments.{has_before};
 ghost use Rattle.js_lex.specs.Kept.{IsEmpty, LieIn, lengths_of, first_kept, AreAtMost};
 ghost use Rattle.js_lex.specs.States.{State, goal_of, SameText};
 ghost use Rattle.js_lex.specs.Reading.{GivesNext, GivesFirst, GivesAgain, WasGiven, FlagsStand};
-ghost use Rattle.js_lex.specs.Settling.{Fits, SettledAgain, ScanEnds};
+ghost use Rattle.js_lex.specs.Settling.{Fits, HasFlags, SettledBehind, ScanEnds};
 
 use crate::checkpoint::LexerCheckpoint;
 use crate::comment::follow;
@@ -25,7 +25,8 @@ use crate::mark::{Sort, is_marked};
 use crate::output::LexerOutput;
 use crate::plain_goal::plain_at;
 use crate::reading::{copy_of, quick_at, read_plain, token_of};
-use crate::relexing::{read_regular_expression, settle_again};
+use crate::regular_expression::{RegularExpression, regular_expression_at};
+use crate::relexing::{scanned_regular_expression, settle_again};
 use crate::scan::Scan;
 use crate::template::template_tail_at;
 use js_base::{Diagnostic, JsStr, MAX_LEN, NoMemory, SourceType, Token, decode_string};
@@ -133,20 +134,15 @@ impl<'a, C: LexerConfig> Lexer<'a, C> {
         ensures ok { IfOk result (λ r. (going_on : List Diagnostic) × (faults : List Diagnostic) × GivesAgain regular_expression self.old self.new token r.0 going_on faults × FlagsStand self.old.text r.1 r.0 going_on) }
         ensures err { OnErr result (self.new ≡ self.old) }
     {
-        let lengths = self.kept.lengths();
-        match read_regular_expression(
-            self.source_text,
-            self.config.tokens(),
-            token,
-            &mut self.kept,
-        ) {
-            Ok((again, pattern_end)) => {
-                self.place = again.end() as usize;
-                Ok((again, pattern_end as u32))
+        match regular_expression_at(self.source_text, token.start() as usize) {
+            Ok(found) => {
+                let scan = Ok(scanned_regular_expression(found));
+                let again = self.settle_again(token, scan, Some(found))?;
+                Ok((again, found.pattern_end as u32))
             }
-            Err(error) => {
-                self.kept.truncate(lengths);
-                Err(error)
+            Err(fault) => {
+                let again = self.settle_again(token, Err(fault), None)?;
+                Ok((again, again.end()))
             }
         }
     }
@@ -160,7 +156,7 @@ impl<'a, C: LexerConfig> Lexer<'a, C> {
         ensures err { OnErr result (self.new ≡ self.old) }
     {
         let scan = plain_at(self.source_text, token.start() as usize);
-        self.settle_again(token, scan)
+        self.settle_again(token, scan, None)
     }
 
     /// Reads the `}` that was given last as the beginning of a template part: `TemplateMiddle` up to `${`,
@@ -172,7 +168,7 @@ impl<'a, C: LexerConfig> Lexer<'a, C> {
         ensures err { OnErr result (self.new ≡ self.old) }
     {
         let scan = template_tail_at(self.source_text, token.start() as usize);
-        self.settle_again(token, scan)
+        self.settle_again(token, scan, None)
     }
 
     /// Where the lexer is, and how much it has kept.
@@ -292,17 +288,31 @@ impl<'a, C: LexerConfig> Lexer<'a, C> {
         }
     }
 
-    /// The token of what a scan at the start of the token given last answers, in place of that one.
-    fn settle_again(&mut self, token: Token, scan: Scan) -> Result<Token, NoMemory>
+    /// The token of what a scan at the start of the token given last answers, in place of that one; of a regular
+    /// expression each wrong flag is kept before it.
+    fn settle_again(
+        &mut self,
+        token: Token,
+        scan: Scan,
+        flags: Option<RegularExpression>,
+    ) -> Result<Token, NoMemory>
         requires starts { IsCharBoundary self.old.text token.span.start }
         requires fits { Fits MAX_LEN token.span.start scan }
         requires ends { ScanEnds self.old.text scan }
+        requires flags { HasFlags self.old.text flags }
         ensures same { SameText self.old self.new }
-        ensures ok { IfOk result (λ t. (self.new.place ≡ t.span.end) × SettledAgain self.old.keeps_tokens token scan self.old.kept self.new.kept t) }
+        ensures ok { IfOk result (λ t. (self.new.place ≡ t.span.end) × SettledBehind self.old.text self.old.keeps_tokens token scan flags self.old.kept self.new.kept t) }
         ensures err { OnErr result (self.new ≡ self.old) }
     {
         let lengths = self.kept.lengths();
-        match settle_again(&mut self.kept, self.config.tokens(), token, scan) {
+        match settle_again(
+            self.source_text,
+            self.config.tokens(),
+            token,
+            scan,
+            flags,
+            &mut self.kept,
+        ) {
             Ok(again) => {
                 self.place = again.end() as usize;
                 Ok(again)

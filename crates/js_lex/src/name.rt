@@ -1,7 +1,6 @@
 //! Names and private names (ECMA-262, section 12.7).
 
-ghost use Rattle.std.specs.Prelude.{◌≡◌, ◌<◌, ◌≤◌, ℕ, ◌+◌, ◌||◌, ◌==◌, List, [], ◌∷◌, ◌++◌, true, false, length, MatchResult, IfSome, IsCharBoundary, IsTrue};
-ghost use Rattle.js_base.specs.Escapes.{in_name, unicode, step as escape_step};
+ghost use Rattle.std.specs.Prelude.{◌≡◌, ◌<◌, ◌≤◌, ℕ, ◌+◌, Bool, ◌||◌, ◌==◌, List, [], ◌∷◌, ◌++◌, true, false, length, MatchOption, IfSome, IsCharBoundary, IsTrue};
 ghost use Rattle.js_base.specs.Keywords.{keyword_of};
 ghost use Rattle.js_grammar.specs.Characters.{begins, is_identifier_start, is_identifier_part};
 ghost use Rattle.js_grammar.specs.LexicalFaults.{behind};
@@ -11,16 +10,15 @@ ghost use Rattle.js_base.specs.declared.diagnostic.DiagnosticKind.TheVariants.{I
 ghost use Rattle.js_lex.specs.Faults.{PartsEnd};
 ghost use Rattle.js_lex.specs.Places.{Word, High};
 ghost use Rattle.js_lex.specs.Scans.{Scans, IsScanned, IsStopped};
-ghost use Rattle.js_lex.specs.declared.name.State.TheVariants.{Due, Braced};
 
 use crate::byte_class::class_of;
 use crate::character::next_character;
 use crate::class;
-use crate::part::parts_end;
-use crate::place::byte_at;
+use crate::part::{ascii_parts_end, parts_end};
+use crate::place::{byte_at, is_at};
 use crate::scan::{Fault, Scan, Scanned};
 use crate::word::kind_of_word;
-use js_base::{DiagnosticKind, Kind};
+use js_base::{CodePointEscape, CodePointStep, DiagnosticKind, Kind};
 
 /// Where a code point stands in a name.
 #[derive(Debug, Clone, Copy)]
@@ -29,30 +27,6 @@ enum Position {
     Start,
     /// Behind that: IdentifierPart.
     Part,
-}
-
-/// What stands before a character of an escape sequence.
-#[derive(Debug, Clone, Copy)]
-enum State {
-    /// A backslash.
-    Backslash,
-    /// A backslash and `u`.
-    Unicode,
-    /// `\u` and digits: how many more are due, and the value of those before.
-    Due(u32, u32),
-    /// `\u{`, whether a digit stands behind it, and the value of the digits.
-    Braced(bool, u32),
-}
-
-/// What a character of an escape sequence does.
-#[derive(Debug, Clone, Copy)]
-enum Progress {
-    /// The escape sequence goes on.
-    Goes(State),
-    /// It ends, and names a code point.
-    Names(u32),
-    /// No escape sequence goes on so.
-    Fails,
 }
 
 /// An escape sequence: the code point that it names, and the place behind it.
@@ -101,13 +75,13 @@ pub(crate) fn name_at(text: &str, at: usize) -> Scan
     ensures { Scans division text.now at result }
 {
     match longest_name(text, at) {
-        Ok(name) => Ok(Scanned {
+        Some(name) => Ok(Scanned {
             kind: name.kind,
             end: name.end,
             escaped: name.escaped,
             has_separator: false,
         }),
-        Err(_) => Err(invalid_escape(text, at)),
+        None => Err(invalid_escape(text, at)),
     }
 }
 
@@ -172,13 +146,13 @@ pub(crate) fn private_name_at(text: &str, at: usize) -> Scan
 {
     let place = at + 1;
     match longest_name(text, place) {
-        Ok(name) => Ok(Scanned {
+        Some(name) => Ok(Scanned {
             kind: Kind::PrivateIdentifier,
             end: name.end,
             escaped: name.escaped,
             has_separator: false,
         }),
-        Err(_) => Err(fault_behind_mark(text, at, place)),
+        None => Err(fault_behind_mark(text, at, place)),
     }
 }
 
@@ -203,7 +177,7 @@ fn fault_behind_mark(text: &str, at: usize, place: usize) -> Fault
     requires none { names.Refuses is_identifier_start (behind text.now place) }
     ensures { IsStopped division text.now at result }
 {
-    if is_backslash_at(text, place) {
+    if is_at(text, place, b'\\') {
         invalid_escape(text, place)
     } else {
         Fault {
@@ -214,37 +188,14 @@ fn fault_behind_mark(text: &str, at: usize, place: usize) -> Fault
     }
 }
 
-/// Whether a backslash stands at a place.
-fn is_backslash_at(text: &str, at: usize) -> bool
+/// The longest name at a place.
+fn longest_name(text: &str, at: usize) -> Option<Name>
     requires { IsCharBoundary text.now at }
-    ensures { result ≡ begins (λ c. c == 92) (behind text.now at) }
+    ensures { MatchOption result (names.Refuses is_identifier_start (behind text.now at)) (λ n. names.IsName text.now at n) }
 {
-    match byte_at(text, at) {
-        Some(byte) => byte == b'\\',
-        None => false,
-    }
-}
-
-/// The longest name at a place; where none stands, the place behind what may be the beginning of an escape sequence.
-fn longest_name(text: &str, at: usize) -> Result<Name, usize>
-    requires { IsCharBoundary text.now at }
-    ensures { MatchResult result (λ n. names.IsName text.now at n) (λ end. names.NoPiece is_identifier_start text.now at end) }
-{
-    match first_piece(text, at) {
-        Ok(first) => Ok(name_from(text, at, first)),
-        Err(end) => Err(end),
-    }
-}
-
-/// The character or the escape sequence at a place, if a name may begin with it.
-#[inline]
-fn first_piece(text: &str, at: usize) -> Result<Piece, usize>
-    requires { IsCharBoundary text.now at }
-    ensures { MatchResult result (λ p. names.IsPiece is_identifier_start text.now at p) (λ end. names.NoPiece is_identifier_start text.now at end) }
-{
-    match byte_at(text, at) {
-        Some(byte) if byte < 128 && byte != b'\\' => ascii_piece(text, at, byte, Position::Start),
-        _ => piece_at(text, at, Position::Start),
+    match piece_at(text, at, Position::Start) {
+        Some(first) => Some(name_from(text, at, first)),
+        None => None,
     }
 }
 
@@ -287,36 +238,9 @@ fn is_at_end(text: &str, at: usize) -> bool
         return true;
     }
     match piece_at(text, at, Position::Part) {
-        Ok(_) => false,
-        Err(_) => true,
+        Some(_) => false,
+        None => true,
     }
-}
-
-/// The place behind the ASCII characters of a name from a place on.
-fn ascii_parts_end(text: &str, at: usize) -> usize
-    requires { IsCharBoundary text.now at }
-    ensures { names.AsciiParts text.now at result }
-{
-    let mut end = at;
-    'parts: loop {
-        match byte_at(text, end) {
-            Some(byte) => {
-                if !is_ascii_part(byte) {
-                    return end;
-                }
-                end += 1;
-            }
-            None => return end,
-        }
-    }
-}
-
-/// Whether a byte is an ASCII character of a name.
-#[inline]
-fn is_ascii_part(byte: u8) -> bool
-    ensures { result ≡ names.is_ascii_part byte }
-{
-    class_of(byte).is_in_name()
 }
 
 /// The longest name whose first code point is known, each character of it taken for what it stands for.
@@ -327,21 +251,15 @@ fn name_by_pieces(text: &str, at: usize, first: Piece) -> Name
     let mut letters = with_letter(NO_LETTERS, first.code_point);
     let mut end = first.end;
     let mut escaped = first.escaped;
-    'pieces: loop {
-        match piece_at(text, end, Position::Part) {
-            Ok(piece) => {
-                letters = with_letter(letters, piece.code_point);
-                end = piece.end;
-                escaped = escaped || piece.escaped;
-            }
-            Err(_) => {
-                return Name {
-                    kind: kind_of_letters(letters),
-                    end,
-                    escaped,
-                };
-            }
-        }
+    'pieces: while let Some(piece) = piece_at(text, end, Position::Part) {
+        letters = with_letter(letters, piece.code_point);
+        end = piece.end;
+        escaped = escaped || piece.escaped;
+    }
+    Name {
+        kind: kind_of_letters(letters),
+        end,
+        escaped,
     }
 }
 
@@ -377,79 +295,36 @@ fn kind_of_letters(letters: Letters) -> Kind
     }
 }
 
-/// The character or the escape sequence at a place, if its code point may stand there in a name; else, where a
-/// backslash stands, the place behind what may be the beginning of an escape sequence.
-fn piece_at(text: &str, at: usize, position: Position) -> Result<Piece, usize>
+/// The character or the escape sequence at a place, if its code point may stand there in a name.
+fn piece_at(text: &str, at: usize, position: Position) -> Option<Piece>
     requires { IsCharBoundary text.now at }
-    ensures { MatchResult result (λ p. names.IsPiece (names.may_stand position) text.now at p) (λ end. names.NoPiece (names.may_stand position) text.now at end) }
+    ensures { MatchOption result (names.Refuses (names.may_stand position) (behind text.now at)) (λ p. names.IsPiece (names.may_stand position) text.now at p) }
 {
-    match byte_at(text, at) {
-        Some(b'\\') => escaped_piece(text, at, position),
-        Some(byte) if byte < 128 => ascii_piece(text, at, byte, position),
-        Some(_) => other_piece(text, at, position),
-        None => Err(at),
+    if is_at(text, at, b'\\') {
+        return escaped_piece(text, at, position);
     }
-}
-
-/// An ASCII character, if it may stand in a name.
-fn ascii_piece(text: &str, at: usize, byte: u8, position: Position) -> Result<Piece, usize>
-    requires word { Word text.now at (at + 1) (byte ∷ []) }
-    requires plain { (byte == 92) ≡ false }
-    requires within { at < length text.now }
-    requires ascii { byte < 128 }
-    ensures { MatchResult result (λ p. names.IsPiece (names.may_stand position) text.now at p) (λ end. names.NoPiece (names.may_stand position) text.now at end) }
-{
-    if may_stand(byte as char, position) {
-        Ok(Piece {
-            code_point: byte as u32,
-            end: at + 1,
-            escaped: false,
-        })
-    } else {
-        Err(at)
-    }
-}
-
-/// A character above ASCII, if it may stand in a name.
-fn other_piece(text: &str, at: usize, position: Position) -> Result<Piece, usize>
-    requires boundary { IsCharBoundary text.now at }
-    requires high { High text.now at }
-    ensures { MatchResult result (λ p. names.IsPiece (names.may_stand position) text.now at p) (λ end. names.NoPiece (names.may_stand position) text.now at end) }
-{
     match next_character(text, at) {
-        Some(next) => {
-            if may_stand(next.value, position) {
-                Ok(Piece {
-                    code_point: next.value as u32,
-                    end: next.end,
-                    escaped: false,
-                })
-            } else {
-                Err(at)
-            }
-        }
-        None => Err(at),
+        Some(next) if may_stand(next.value, position) => Some(Piece {
+            code_point: next.value as u32,
+            end: next.end,
+            escaped: false,
+        }),
+        _ => None,
     }
 }
 
 /// An escape sequence, if the code point that it names may stand in a name.
-fn escaped_piece(text: &str, at: usize, position: Position) -> Result<Piece, usize>
+fn escaped_piece(text: &str, at: usize, position: Position) -> Option<Piece>
     requires { Word text.now at (at + 1) (92 ∷ []) }
-    ensures { MatchResult result (λ p. names.IsPiece (names.may_stand position) text.now at p) (λ end. names.NoPiece (names.may_stand position) text.now at end) }
+    ensures { MatchOption result (names.Refuses (names.may_stand position) (behind text.now at)) (λ p. names.IsPiece (names.may_stand position) text.now at p) }
 {
     match escape_at(text, at) {
-        Ok(escape) => {
-            if may_code_point_stand(escape.code_point, position) {
-                Ok(Piece {
-                    code_point: escape.code_point,
-                    end: escape.end,
-                    escaped: true,
-                })
-            } else {
-                Err(escape.end)
-            }
-        }
-        Err(end) => Err(end),
+        Some(escape) if may_code_point_stand(escape.code_point, position) => Some(Piece {
+            code_point: escape.code_point,
+            end: escape.end,
+            escaped: true,
+        }),
+        _ => None,
     }
 }
 
@@ -473,108 +348,32 @@ fn may_code_point_stand(code_point: u32, position: Position) -> bool
     }
 }
 
-/// The escape sequence that begins with the backslash at a place (UnicodeEscapeSequence, ECMA-262, section 12.9.4);
-/// where none stands, the place behind the characters that may be the beginning of one.
-fn escape_at(text: &str, at: usize) -> Result<Escape, usize>
+/// The escape sequence that begins with the backslash at a place (UnicodeEscapeSequence, ECMA-262, section 12.9.4).
+fn escape_at(text: &str, at: usize) -> Option<Escape>
     requires { Word text.now at (at + 1) (92 ∷ []) }
-    ensures { MatchResult result (λ e. names.IsEscape text.now at e) (λ end. names.NoEscape text.now at end) }
+    ensures { MatchOption result ((test : ℕ → Bool) → names.Refuses test (behind text.now at)) (λ e. names.IsEscape text.now at e) }
 {
-    let mut end = at + 1;
-    let mut state = State::Backslash;
+    if !is_at(text, at + 1, b'u') {
+        return None;
+    }
+    let mut end = at + 2;
+    let mut escape = CodePointEscape::Unicode;
     'escape: loop {
         match byte_at(text, end) {
-            Some(byte) => match step(state, byte) {
-                Progress::Goes(next) => {
-                    state = next;
+            Some(byte) => match escape.step(byte as char) {
+                CodePointStep::Goes(next) => {
+                    escape = next;
                     end += 1;
                 }
-                Progress::Names(code_point) => {
-                    return Ok(Escape {
+                CodePointStep::Names(code_point) => {
+                    return Some(Escape {
                         code_point,
                         end: end + 1,
                     });
                 }
-                Progress::Fails => return Err(end),
+                CodePointStep::Fails => return None,
             },
-            None => return Err(end),
-        }
-    }
-}
-
-/// What a byte of an escape sequence does.
-fn step(state: State, byte: u8) -> Progress
-    requires { names.fits state ≡ true }
-    ensures step { names.step_of result ≡ escape_step in_name (names.stage_of state) byte }
-    ensures fits { names.step_fits result ≡ true }
-{
-    match state {
-        State::Backslash => {
-            if byte == b'u' {
-                Progress::Goes(State::Unicode)
-            } else {
-                Progress::Fails
-            }
-        }
-        State::Unicode => unicode_step(byte),
-        State::Due(due, value) => due_step(due, value, byte),
-        State::Braced(any, value) => braced_step(any, value, byte),
-    }
-}
-
-/// A byte behind `\u`.
-fn unicode_step(byte: u8) -> Progress
-    ensures step { names.step_of result ≡ escape_step in_name unicode byte }
-    ensures fits { names.step_fits result ≡ true }
-{
-    if byte == b'{' {
-        return Progress::Goes(State::Braced(false, 0));
-    }
-    match (byte as char).to_digit(16) {
-        Some(digit) => Progress::Goes(State::Due(3, digit)),
-        None => Progress::Fails,
-    }
-}
-
-/// A byte where hexadecimal digits are due.
-fn due_step(due: u32, value: u32, byte: u8) -> Progress
-    requires { names.fits (Due due value) ≡ true }
-    ensures step { names.step_of result ≡ escape_step in_name (names.stage_of (Due due value)) byte }
-    ensures fits { names.step_fits result ≡ true }
-{
-    match (byte as char).to_digit(16) {
-        Some(digit) => {
-            let more = value * 16 + digit;
-            if due <= 1 {
-                Progress::Names(more)
-            } else {
-                Progress::Goes(State::Due(due - 1, more))
-            }
-        }
-        None => Progress::Fails,
-    }
-}
-
-/// A byte behind `\u{` and the digits there.
-fn braced_step(any: bool, value: u32, byte: u8) -> Progress
-    requires { names.fits (Braced any value) ≡ true }
-    ensures step { names.step_of result ≡ escape_step in_name (names.stage_of (Braced any value)) byte }
-    ensures fits { names.step_fits result ≡ true }
-{
-    match (byte as char).to_digit(16) {
-        Some(digit) => {
-            let more = value * 16 + digit;
-            if more <= 0x10_FFFF {
-                Progress::Goes(State::Braced(true, more))
-            } else {
-                Progress::Fails
-            }
-        }
-        None => {
-            if any && byte == b'}' {
-                Progress::Names(value)
-            } else {
-                Progress::Fails
-            }
+            None => return None,
         }
     }
 }

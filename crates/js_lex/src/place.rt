@@ -5,7 +5,7 @@ ghost use Rattle.std.specs.List.{list_all};
 ghost use Rattle.js_base.specs.Characters.{one_of};
 ghost use Rattle.js_grammar.specs.CoreTexts.{starts};
 ghost use Rattle.js_grammar.specs.LexicalFaults.{behind};
-ghost use Rattle.js_lex.specs.Places.{Word, PeeksAt, ReadsAt, Finds, in_radix};
+ghost use Rattle.js_lex.specs.Places.{Word, PeeksAt, Finds, in_radix};
 
 /// The byte at a place, or none at the end of the text.
 #[inline]
@@ -19,14 +19,6 @@ pub(crate) fn byte_at(text: &str, at: usize) -> Option<u8>
     } else {
         None
     }
-}
-
-/// The character at a place, or none at the end of the text.
-pub(crate) fn char_at(text: &str, at: usize) -> Option<char>
-    requires { IsCharBoundary text.now at }
-    ensures { ReadsAt text.now at result }
-{
-    text[at..].chars().next()
 }
 
 /// Whether the text goes on at a place with some ASCII characters.

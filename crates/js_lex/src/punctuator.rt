@@ -10,7 +10,8 @@ ghost use Rattle.js_lex.specs.Punctuators.{punctuator_of, OpensPunctuator, Begin
 ghost use Rattle.js_lex.specs.Scans.{Scans, IsScanned, IsStopped};
 
 use crate::byte_class::class_of;
-use crate::place::{byte_at, char_at, digit_at, is_at};
+use crate::character::next_character;
+use crate::place::{byte_at, digit_at, is_at};
 use crate::scan::{Fault, Scan, Scanned};
 use js_base::Kind::*;
 use js_base::{DiagnosticKind, Kind};
@@ -134,16 +135,16 @@ fn stray_at(text: &str, at: usize) -> Fault
     requires none { BeginsNone (behind text.now at) }
     ensures { IsStopped division text.now at result }
 {
-    match char_at(text, at) {
-        Some('\u{fffd}') => Fault {
+    match next_character(text, at) {
+        Some(next) if next.value == '\u{fffd}' => Fault {
             kind: DiagnosticKind::BinaryFile,
             start: at,
-            end: at + 3,
+            end: next.end,
         },
-        Some(c) => Fault {
+        Some(next) => Fault {
             kind: DiagnosticKind::InvalidCharacter,
             start: at,
-            end: at + c.len_utf8(),
+            end: next.end,
         },
         None => unreachable!(),
     }

@@ -6,20 +6,37 @@ ghost use Rattle.js_base.specs.declared.kind.Kind.TheVariants.{RegExp};
 ghost use Rattle.js_lex.specs.Places.{Word};
 ghost use Rattle.js_lex.specs.Kept.{Grows, Extends};
 ghost use Rattle.js_lex.specs.Reading.{flag_faults};
-ghost use Rattle.js_lex.specs.Settling.{Fits, SettledAgain, IsReadAgain, flag_told};
-ghost use Rattle.js_base.specs.Characters.{one_of};
-ghost use Rattle.js_grammar.specs.Characters.{begins};
-ghost use Rattle.js_grammar.specs.LexicalFaults.{behind};
+ghost use Rattle.js_lex.specs.Settling.{Fits, SettledAgain, HasFlags, FlagsKept, SettledBehind};
 
 use crate::output::LexerOutput;
 use crate::reading::{is_kept, settle_fault, token_of};
-use crate::regular_expression::{NONE_SEEN, RegularExpression, flag_at, regular_expression_at};
+use crate::regular_expression::{NONE_SEEN, RegularExpression, flag_at};
 use crate::scan::{Scan, Scanned};
 use js_base::{DiagnosticKind, Kind, MAX_LEN, NoMemory, Span, Token};
 
 /// The token of what a scan at the start of a token answers. It is put in place of the token kept last, where tokens are
-/// asked for, unless no lexeme stands there; then the fault is kept.
+/// asked for, unless no lexeme stands there; then the fault is kept. Before it each wrong flag of a regular expression is
+/// kept as a fault.
 pub(crate) fn settle_again(
+    text: &str,
+    keeps_tokens: bool,
+    given: Token,
+    scan: Scan,
+    flags: Option<RegularExpression>,
+    kept: &mut LexerOutput,
+) -> Result<Token, NoMemory>
+    requires short { length text.now ≤ MAX_LEN }
+    requires fits { Fits MAX_LEN given.span.start scan }
+    requires flags { HasFlags text.now flags }
+    ensures ok { IfOk result (λ t. SettledBehind text.now keeps_tokens given scan flags kept.old kept.new t) }
+    ensures err { OnErr result (Extends kept.old kept.new) }
+{
+    keep_flags(text, flags, kept)?;
+    put_again(kept, keeps_tokens, given, scan)
+}
+
+/// The token of what a scan at the start of a token answers, in place of the one kept last; or the fault, which is kept.
+fn put_again(
     kept: &mut LexerOutput,
     keeps_tokens: bool,
     given: Token,
@@ -42,37 +59,6 @@ pub(crate) fn settle_again(
     }
 }
 
-/// Reads the regular expression that begins at a slash: its token, and the place at which its pattern ends; or, where
-/// none stands, an undetermined token and that token's end. Faults are kept, and the token is put in place of the one
-/// kept last.
-pub(crate) fn read_regular_expression(
-    text: &str,
-    keeps_tokens: bool,
-    given: Token,
-    kept: &mut LexerOutput,
-) -> Result<(Token, usize), NoMemory>
-    requires boundary { IsCharBoundary text.now given.span.start }
-    requires short { length text.now ≤ MAX_LEN }
-    requires slash { Word text.now given.span.start (given.span.start + 1) (47 ∷ []) }
-    requires no_comment { begins (one_of (codes "*/")) (behind text.now (given.span.start + 1)) ≡ false }
-    ensures ok { IfOk result (λ r. IsReadAgain text.now keeps_tokens given kept.old kept.new r.0 r.1) }
-    ensures boundary { IfOk result (λ r. IsCharBoundary text.now r.0.span.end) }
-    ensures err { OnErr result (Extends kept.old kept.new) }
-{
-    match regular_expression_at(text, given.start() as usize) {
-        Ok(found) => {
-            keep_wrong_flags(text, found, kept)?;
-            let scan = Ok(scanned_regular_expression(found));
-            let token = settle_again(kept, keeps_tokens, given, scan)?;
-            Ok((token, found.pattern_end))
-        }
-        Err(fault) => {
-            let token = settle_again(kept, keeps_tokens, given, Err(fault))?;
-            Ok((token, fault.end))
-        }
-    }
-}
-
 /// The lexeme that a regular expression is.
 pub(crate) fn scanned_regular_expression(found: RegularExpression) -> Scanned
     ensures { result ≡ record { kind = RegExp; end = found.end; escaped = false; has_separator = false } }
@@ -85,8 +71,25 @@ pub(crate) fn scanned_regular_expression(found: RegularExpression) -> Scanned
     }
 }
 
+/// Keeps the fault that each wrong flag is, where a regular expression has been found.
+fn keep_flags(
+    text: &str,
+    flags: Option<RegularExpression>,
+    kept: &mut LexerOutput,
+) -> Result<(), NoMemory>
+    requires short { length text.now ≤ MAX_LEN }
+    requires flags { HasFlags text.now flags }
+    ensures ok { OnOk result (FlagsKept text.now flags kept.old kept.new) }
+    ensures err { OnErr result (Extends kept.old kept.new) }
+{
+    match flags {
+        Some(found) => keep_wrong_flags(text, found, kept),
+        None => Ok(()),
+    }
+}
+
 /// Keeps the fault that each wrong flag of a regular expression is: one that is none of the eight, or stood before.
-pub(crate) fn keep_wrong_flags(
+fn keep_wrong_flags(
     text: &str,
     found: RegularExpression,
     kept: &mut LexerOutput,
@@ -103,20 +106,12 @@ pub(crate) fn keep_wrong_flags(
         let Some(flag) = flag_at(text, at, seen) else {
             return Ok(());
         };
-        keep_flag_fault(kept, flag.is_wrong, Span::new(at as u32, flag.end as u32))?;
+        if flag.is_wrong {
+            let span = Span::new(at as u32, flag.end as u32);
+            kept.keep_fault(DiagnosticKind::RegExpFlag, span)?;
+        }
         at = flag.end;
         seen = flag.seen;
-    }
-    Ok(())
-}
-
-/// Keeps the fault that a flag is, if it is wrong.
-fn keep_flag_fault(kept: &mut LexerOutput, is_wrong: bool, span: Span) -> Result<(), NoMemory>
-    ensures ok { OnOk result (Grows kept.old kept.new [] [] [] (flag_told is_wrong span)) }
-    ensures err { OnErr result (Extends kept.old kept.new) }
-{
-    if is_wrong {
-        kept.keep_fault(DiagnosticKind::RegExpFlag, span)?;
     }
     Ok(())
 }

@@ -11,11 +11,11 @@ ghost use Rattle.js_lex.specs.TriviaPassed.{PieceAt, BlankAt, PlainBlankAt, Bloc
 ghost use Rattle.js_lex.specs.declared.comment.CommentKind.TheVariants.{Line};
 
 use crate::byte_class::class_of;
-use crate::character::next_character;
+use crate::character::{Character, character_of, next_character};
 use crate::class::{is_line_terminator, is_white_space};
 use crate::comment::{Comment, CommentKind, attach};
 use crate::output::LexerOutput;
-use crate::place::{byte_at, char_at, goes_on};
+use crate::place::{byte_at, goes_on};
 use js_base::{DiagnosticKind, MAX_LEN, NoMemory, Span};
 
 /// A piece of trivia: one white space or line terminator, or one comment.
@@ -188,7 +188,10 @@ fn keep_piece(
     let span = Span::new(start as u32, piece.end as u32);
     keep_comment(kept, piece.comment, span)?;
     keep_blank(kept, piece.is_irregular, span)?;
-    keep_html_fault(kept, is_module && piece.is_html, span)
+    if is_module && piece.is_html {
+        kept.keep_fault(DiagnosticKind::HtmlCommentInModule, span)?;
+    }
+    Ok(())
 }
 
 /// Keeps a comment, if there is one.
@@ -221,17 +224,6 @@ fn keep_blank(kept: &mut LexerOutput, is_irregular: bool, span: Span) -> Result<
     Ok(())
 }
 
-/// Keeps the fault that an HTML-like comment in a module is.
-fn keep_html_fault(kept: &mut LexerOutput, is_fault: bool, span: Span) -> Result<(), NoMemory>
-    ensures ok { OnOk result (Grows kept.old kept.new [] [] [] (fault_told is_fault span)) }
-    ensures err { OnErr result (Extends kept.old kept.new) }
-{
-    if is_fault {
-        kept.keep_fault(DiagnosticKind::HtmlCommentInModule, span)?;
-    }
-    Ok(())
-}
-
 /// The longest piece of trivia that begins at a place. `is_first`: only trivia stands before it on its line, or in the
 /// text; there alone `-->` begins a comment.
 #[inline(never)]
@@ -246,25 +238,21 @@ fn piece_at(text: &str, at: usize, is_first: bool) -> Option<Piece>
         Some(b'<') => html_open_at(text, at),
         Some(b'-') => html_close_at(text, at, is_first),
         Some(byte) if b' ' < byte && byte < 127 => None,
-        Some(byte) if byte < 128 => blank(byte as char, at),
-        Some(_) => match char_at(text, at) {
-            Some(c) => blank(c, at),
-            None => None,
-        },
+        Some(byte) => blank(character_of(text, at, byte)),
     }
 }
 
-/// The character at a place as a piece, if it is white space or a line terminator.
-fn blank(c: char, at: usize) -> Option<Piece>
-    requires { at ≤ MAX_LEN }
-    ensures { BlankAt c at result }
+/// A character as a piece, if it is white space or a line terminator.
+fn blank(character: Character) -> Option<Piece>
+    ensures { BlankAt character.value character.end result }
 {
+    let c = character.value;
     let has_newline = is_line_terminator(c);
     if !(has_newline || is_white_space(c)) {
         return None;
     }
     Some(Piece {
-        end: at + c.len_utf8(),
+        end: character.end,
         comment: None,
         is_html: false,
         is_irregular: !(c == ' ' || c == '\t' || c == '\r' || c == '\n'),

@@ -2,7 +2,8 @@ use Rattle.std.proofs.Common.{◌≡◌, drop, length}
 use Rattle.std.specs.Prelude.{Some, option_map, IsTrue}
 use Rattle.std.specs.Str.{chars}
 use Rattle.js_base.specs.Escapes.{code_units, code_points, line_feeds, line_feeds_after}
-use Rattle.js_base.specs.DecodingSteps.{form_of, state_of, fits, units_from}
+use Rattle.js_base.specs.CodePointEscapes.{fits}
+use Rattle.js_base.specs.DecodingSteps.{form_of, state_of, units_from}
 use Rattle.js_base.proofs.decode.cook.Given as goal
 
 -- what is read and the rest give what the whole gives

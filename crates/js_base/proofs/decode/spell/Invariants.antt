@@ -2,7 +2,8 @@ use Rattle.std.proofs.Common.{◌≡◌, drop, length}
 use Rattle.std.specs.Prelude.{Some, IsTrue}
 use Rattle.std.specs.Str.{chars}
 use Rattle.js_base.specs.Decoding.{name_text}
-use Rattle.js_base.specs.DecodingSteps.{state_of, fits, utf8_from}
+use Rattle.js_base.specs.CodePointEscapes.{fits}
+use Rattle.js_base.specs.DecodingSteps.{state_of, utf8_from}
 use Rattle.js_base.proofs.decode.spell.Given as goal
 
 -- what is read and the rest give what the whole gives

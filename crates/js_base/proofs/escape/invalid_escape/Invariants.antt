@@ -1,5 +1,6 @@
 use Rattle.std.specs.Prelude.{IsTrue}
-use Rattle.js_base.specs.DecodingSteps.{state_of, fits}
+use Rattle.js_base.specs.CodePointEscapes.{fits}
+use Rattle.js_base.specs.DecodingSteps.{state_of}
 use Rattle.js_base.proofs.EscapeLemmas.{Along}
 use Rattle.js_base.proofs.escape.invalid_escape.Given as goal
 

@@ -1,14 +1,16 @@
-use Rattle.std.proofs.Common.{sym, ◌∙◌}
-use Rattle.js_lex.proofs.NameScans.{backslash-there, private-escape, private-nothing}
+use Rattle.std.proofs.Common.{◌==◌, subst}
+use Rattle.js_lex.specs.Places.{Finds}
+use Rattle.js_lex.proofs.Places.{found}
+use Rattle.js_lex.proofs.NameScans.{private-escape, private-nothing}
 use Rattle.js_lex.proofs.name.fault_behind_mark.Goals as goal
 
 pub invalid_escape-requires : goal.invalid_escape-requires
-invalid_escape-requires c = backslash-there c.args.text.now c.args.place c.utf8.text c.requires.mark.boundary (sym c.is_backslash_at.ensures ∙ c.if-is_backslash_at.true)
+invalid_escape-requires c = found 92 (subst (Finds (λ d. d == 92) c.args.text.now c.args.place) c.if-is_at.true c.is_at.ensures)
 
-pub returns-then-is_backslash_at : goal.returns-then-is_backslash_at
-returns-then-is_backslash_at c =
+pub returns-then-is_at : goal.returns-then-is_at
+returns-then-is_at c =
     let e = c.invalid_escape.ensures in
-    private-escape c.requires.mark (sym c.is_backslash_at.ensures ∙ c.if-is_backslash_at.true) c.requires.none e.kind e.start e.end
+    private-escape c.requires.mark (found 92 (subst (Finds (λ d. d == 92) c.args.text.now c.args.place) c.if-is_at.true c.is_at.ensures)) c.requires.none e.kind e.start e.end
 
-pub returns-else-is_backslash_at : goal.returns-else-is_backslash_at
-returns-else-is_backslash_at c = private-nothing c.requires.boundary c.requires.mark (sym c.is_backslash_at.ensures ∙ c.if-is_backslash_at.false) c.requires.none
+pub returns-else-is_at : goal.returns-else-is_at
+returns-else-is_at c = private-nothing c.requires.boundary c.requires.mark (subst (Finds (λ d. d == 92) c.args.text.now c.args.place) c.if-is_at.false c.is_at.ensures) c.requires.none

@@ -8,7 +8,7 @@ pub fault_behind_mark-requires-clause-mark : goal.fault_behind_mark-requires-cla
 fault_behind_mark-requires-clause-mark c = mark-here c.args.text.now c.args.at c.utf8.text c.requires.boundary c.requires.first
 
 pub fault_behind_mark-requires-clause-none : goal.fault_behind_mark-requires-clause-none
-fault_behind_mark-requires-clause-none c = c.in-Err.ensures.refuses
+fault_behind_mark-requires-clause-none c = c.in-None.ensures
 
-pub returns-in-Ok : goal.returns-in-Ok
-returns-in-Ok c = private-scanned (mark-here c.args.text.now c.args.at c.utf8.text c.requires.boundary c.requires.first) c.in-Ok.ensures
+pub returns-in-Some : goal.returns-in-Some
+returns-in-Some c = private-scanned (mark-here c.args.text.now c.args.at c.utf8.text c.requires.boundary c.requires.first) c.in-Some.ensures

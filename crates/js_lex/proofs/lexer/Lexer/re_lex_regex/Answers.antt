@@ -1,40 +1,45 @@
-use Rattle.std.proofs.Common.{ℕ, List, subst, ap, sym, ◌∙◌}
-use Rattle.std.specs.Prelude.{IsUtf8, IsCharBoundary}
-use Rattle.js_lex.specs.declared.output.LexerOutput.{LexerOutput}
-use Rattle.js_lex.specs.Comments.{AreInOrder}
-use Rattle.js_lex.specs.Kept.{LieIn}
-use Rattle.js_lex.specs.States.{State, IsReady}
-use Rattle.js_lex.proofs.Lying.{lie_read_again, cut_back}
-use Rattle.js_lex.specs.Settling.{IsReadAgain}
-use Rattle.js_lex.proofs.Expressions.{slash_for, regex_again}
+use Rattle.std.proofs.Common.{◌≡◌, ◌+◌, ℕ, List, [], ◌∷◌, false, subst, ap, sym, Some}
+use Rattle.std.specs.Prelude.{IsUtf8, codes, Ok}
+use Rattle.js_base.specs.Characters.{one_of}
+use Rattle.js_base.specs.declared.diagnostic.Diagnostic.{Diagnostic}
+use Rattle.js_grammar.specs.Characters.{begins}
+use Rattle.js_grammar.specs.LexicalFaults.{behind}
+use Rattle.js_grammar.specs.Lexemes.{regular_expression}
+use Rattle.js_lex.specs.States.{State}
+use Rattle.js_lex.specs.Places.{Word}
+use Rattle.js_lex.specs.Reading.{GivesAgain, FlagsStand}
+use Rattle.js_lex.specs.Settling.{SettledBehind}
+use Rattle.js_lex.specs.declared.scan.Scanned.{Scanned}
+use Rattle.js_lex.proofs.Marks.{pattern_boundary}
+use Rattle.js_lex.proofs.Expressions.{slash_for, found_again, stopped_again, found_for, stopped_for}
 use Rattle.js_lex.proofs.lexer.Lexer.re_lex_regex.Goals as goal
 
-pub read_regular_expression-requires-clause-slash : goal.read_regular_expression-requires-clause-slash
-read_regular_expression-requires-clause-slash g c = (slash_for c.args.self.now c.args.token c.self.inside.source_text.now (ap (λ (s : State). s.text) c.self.view_is) c.self.invariant.utf8 c.requires.given c.requires.kind).slash
+pub regular_expression_at-requires-clause-opening : goal.regular_expression_at-requires-clause-opening
+regular_expression_at-requires-clause-opening g c = subst (λ (n : ℕ). Word c.self.inside.source_text.now n (n + 1) (47 ∷ [])) (sym c.start.ensures) (slash_for c.args.self.now c.args.token c.self.inside.source_text.now (ap (λ (s : State). s.text) c.self.view_is) c.self.invariant.utf8 c.requires.given c.requires.kind).slash
 
-pub read_regular_expression-requires-clause-no_comment : goal.read_regular_expression-requires-clause-no_comment
-read_regular_expression-requires-clause-no_comment g c = (slash_for c.args.self.now c.args.token c.self.inside.source_text.now (ap (λ (s : State). s.text) c.self.view_is) c.self.invariant.utf8 c.requires.given c.requires.kind).no_comment
+pub regular_expression_at-requires-clause-no_comment : goal.regular_expression_at-requires-clause-no_comment
+regular_expression_at-requires-clause-no_comment g c = subst (λ (n : ℕ). begins (one_of (codes "*/")) (behind c.self.inside.source_text.now (n + 1)) ≡ false) (sym c.start.ensures) (slash_for c.args.self.now c.args.token c.self.inside.source_text.now (ap (λ (s : State). s.text) c.self.view_is) c.self.invariant.utf8 c.requires.given c.requires.kind).no_comment
 
-pub returns-in-Ok-clause-ok : goal.returns-in-Ok-clause-ok
-returns-in-Ok-clause-ok g c =
+pub settle_again-requires-clause-flags : goal.settle_again-requires-clause-flags
+settle_again-requires-clause-flags g c =
     let e = ap (λ (s : State). s.text) c.self.view_is in
-    let read = subst (λ (s : State). IsReadAgain s.text s.keeps_tokens c.args.token s.kept c.read_regular_expression.new.kept c.in-Ok.again c.in-Ok.pattern_end) c.self.view_is (subst (λ b. IsReadAgain c.self.inside.source_text.now b c.args.token c.self.inside.kept c.read_regular_expression.new.kept c.in-Ok.again c.in-Ok.pattern_end) c.tokens.ensures c.in-Ok.ensures.ok) in
-    regex_again c.args.self.now _ c.args.token c.in-Ok.again c.in-Ok.pattern_end (subst IsUtf8 e c.self.invariant.utf8) c.requires.given.lies.starts_whole (record { text = e; goal = ap (λ (s : State). s.goal) c.self.view_is; keeps_tokens = ap (λ (s : State). s.keeps_tokens) c.self.view_is }) c.end.ensures read
+    let is = found_for c.args.self.now c.args.token c.self.inside.source_text.now c.start.result c.in-Ok.found e c.start.ensures c.in-Ok.ensures in
+    (pattern_boundary (subst IsUtf8 e c.self.invariant.utf8) c.requires.given.lies.starts_whole is, (is.flags_word, is.flags_stand))
 
-pub invariant_of-self : goal.invariant_of-self
-invariant_of-self g c =
+pub returns-in_ok-again-in-Ok-clause-ok : goal.returns-in_ok-again-in-Ok-clause-ok
+returns-in_ok-again-in-Ok-clause-ok g c =
     let e = ap (λ (s : State). s.text) c.self.view_is in
-    let read = subst (λ (s : State). IsReadAgain s.text s.keeps_tokens c.args.token s.kept c.read_regular_expression.new.kept c.in-Ok.again c.in-Ok.pattern_end) c.self.view_is (subst (λ b. IsReadAgain c.self.inside.source_text.now b c.args.token c.self.inside.kept c.read_regular_expression.new.kept c.in-Ok.again c.in-Ok.pattern_end) c.tokens.ensures c.in-Ok.ensures.ok) in
-    let kept = lie_read_again c.args.self.now c.args.token c.in-Ok.again c.in-Ok.pattern_end c.read_regular_expression.new.kept (subst IsUtf8 e c.self.invariant.utf8) c.requires.given read (subst (λ (s : State). LieIn s.text s.kept) c.self.view_is c.self.invariant.lie) in
-    record {
-      utf8 = c.self.invariant.utf8;
-      short = c.self.invariant.short;
-      between = subst (λ (n : ℕ). IsCharBoundary c.self.inside.source_text.now n) (sym c.end.ensures) c.in-Ok.ensures.boundary;
-      lie = subst (λ (v : List ℕ). LieIn v c.read_regular_expression.new.kept) (sym e) kept.0;
-      order = λ t. subst AreInOrder (sym (kept.1 ∙ sym (ap (λ (s : State). s.kept.comments) c.self.view_is))) (c.self.invariant.order t);
-    }
+    let is = found_for c.args.self.now c.args.token c.self.inside.source_text.now c.start.result c.in-Ok.found e c.start.ensures c.in-Ok.ensures in
+    let k = c.in_ok-again-in-Ok.ensures.ok in
+    found_again c.args.self.now c.settle_again.new.self c.args.token c.in_ok-again-in-Ok.again c.in-Ok.found (subst IsUtf8 e c.self.invariant.utf8) c.requires.given.lies.starts_whole c.in_ok-again-in-Ok.ensures.same k.0 is
+    (subst (λ (z : Scanned). SettledBehind c.args.self.now.text c.args.self.now.keeps_tokens c.args.token (Ok z) (Some c.in-Ok.found) c.args.self.now.kept c.settle_again.new.self.kept c.in_ok-again-in-Ok.again) c.scanned_regular_expression.ensures k.1)
 
-pub invariant_of-self-in-Err : goal.invariant_of-self-in-Err
-invariant_of-self-in-Err g c =
-    let e = c.truncate.ensures ∙ cut_back c.lengths-lengths.result c.self.inside.kept c.read_regular_expression.new.kept c.lengths-lengths.ensures c.in-Err.ensures.err in
-    subst (λ (o : LexerOutput). IsReady c.self.inside.source_text.now c.self.inside.place o c.self.inside.in_order) (sym e) c.self.invariant
+pub returns-in_ok-again-in-Err-clause-ok : goal.returns-in_ok-again-in-Err-clause-ok
+returns-in_ok-again-in-Err-clause-ok g c =
+    let e = ap (λ (s : State). s.text) c.self.view_is in
+    let stopped = stopped_for c.args.self.now c.args.token c.self.inside.source_text.now c.start.result c.in-Err.fault e c.start.ensures c.in-Err.ensures in
+    let k = c.in_ok-again-in-Err.ensures.ok in
+    let new = c.settle_again-in-Err.new.self in
+    let t = c.in_ok-again-in-Err.again in
+    subst (λ (n : ℕ). (going_on : List Diagnostic) × (faults : List Diagnostic) × GivesAgain regular_expression c.args.self.now new c.args.token t going_on faults × FlagsStand c.args.self.now.text n t going_on) (sym c.end.ensures)
+    (stopped_again c.args.self.now new c.args.token t c.in-Err.fault (subst IsUtf8 e c.self.invariant.utf8) c.requires.given.lies.starts_whole c.in_ok-again-in-Err.ensures.same k.0 stopped k.1)

@@ -1,6 +1,6 @@
 use Rattle.std.proofs.Common.{length, ◌-◌}
 use Rattle.js_lex.proofs.NameWords.{AsciiRead}
-use Rattle.js_lex.proofs.name.ascii_parts_end.Given as goal
+use Rattle.js_lex.proofs.part.ascii_parts_end.Given as goal
 
 abbrev pub invariant-parts : goal.invariant-parts
 invariant-parts l = AsciiRead l.text l.at l.end
