@@ -15,3 +15,4 @@ pub mod Members
 pub mod Beginning
 pub mod Contexts
 pub mod Conditionals
+pub mod ArgumentLists

@@ -6,3 +6,4 @@ pub mod Operators
 pub mod Moves
 pub mod Members
 pub mod Rests
+pub mod Arguments
