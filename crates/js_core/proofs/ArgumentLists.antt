@@ -181,10 +181,10 @@ module _ {text : List ℕ} {f : Flags} {p q : Parser} (a : At text f p) (k : p.t
       let m = comma_moved in
       let n = plain_sign Comma a k refl refl comma_plain in
       let kind : m.lexeme.kind ≡ Comma = sym m.tells.kind ∙ k in
-      let plain : m.lexeme.escaped ≡ false = sym m.tells.escaped ∙ n in
-      let l : Lex text p.prev_token_end m.lexeme = (m.stood, read_of m.lexeme kind plain refl) in
+      let bare : m.lexeme.escaped ≡ false = sym m.tells.escaped ∙ n in
+      let l : Lex text p.prev_token_end m.lexeme = (m.stood, read_of m.lexeme kind bare refl) in
       record { reach = 0; near = omega arith; goes = subst (λ (v : ℕ). Goes rule (Lex text) (plain full) end (rest_of false (item_of i f)) p.prev_token_end (seq (after_comma true (such (item_of i f) always)) (tok RParen)) v (λ us. us) (passing m.lexeme)) m.ends
-          (part firsts (is RParen) (comma_here true (such (item_of i f) always) (not_closed f i (is_one (stands_there a k refl) (λ e. cc))) l (is_that Comma m.lexeme (kind, plain)) (λ y z h. one_read a z l)) refl) }
+          (part firsts (is RParen) (comma_here true (such (item_of i f) always) (not_closed f i (is_one (stands_there a k refl) (λ e. cc))) l (is_that Comma m.lexeme (kind, bare)) (λ y z h. one_read a z l)) refl) }
 
 module _ {text : List ℕ} {f : Flags} {p q : Parser} (a : At text f p) where
   pub due_end : (first : Bool) → (p.token.kind ≡ RParen) × (q ≡ p) → Due text f first p q false

@@ -15,4 +15,5 @@ pub mod Members
 pub mod Beginning
 pub mod Contexts
 pub mod Conditionals
+pub mod Sequences
 pub mod ArgumentLists

@@ -141,17 +141,7 @@ unary_left : (f : Flags) → live (rule (at Unary f)) ≡ alt (such (at Update f
 unfolding rule rule_of apart
 unary_left f = refl
 
-expression_left : (f : Flags) → live (rule (at Expression f)) ≡ such (at Assignment f) always
-unfolding rule rule_of apart
-expression_left f = refl
-
 -- Answers of a symbol of which only another one is left.
-
--- an Expression
-pub expression_result : (text : List ℕ) (f : Flags) (p q : Parser) (r : Result NodeId Stop) → Outcome text f (at Assignment f) p q r → Outcome text f (at Expression f) p q r
-unfolding covers
-expression_result text f p q r x = lift_result (at Expression f) (at Assignment f) refl refl text f p q r (by_left (at Expression f) (at Assignment f) (expression_left f) text p.prev_token_end) (λ i y. y.answer.row)
-    (λ i y z l. narrows 2 1 [] f.in_ (row_of y.answer.label y.answer.slots) (narrow_assignment 2 1 [] (narrow_operand 2 1 [] refl refl refl refl) refl refl refl refl f.in_ (row_of y.answer.label y.answer.slots) y.answer.row) z l.1 refl (y.answer.stops z l)) x
 
 -- a ShortCircuitExpression, which is a LogicalORExpression
 pub short_result : (text : List ℕ) (f : Flags) (p q : Parser) (r : Result NodeId Stop) → Outcome text f (at Or f) p q r → Outcome text f (at Short f) p q r

@@ -71,3 +71,16 @@ pub fn make_three<C: ParserConfig>(
     let children = [Some(first), Some(second), Some(third)];
     p.ast.node_of_three(kind, span, op, no_flags(), children)
 }
+
+/// A node of a list of children.
+pub fn make_list<C: ParserConfig>(
+    p: &mut ParserImpl<'_, C>,
+    kind: NodeKind,
+    op: Op,
+    span: Span,
+    children: Vec<Option<NodeId>>,
+) -> Result<NodeId, NoMemory>
+    ensures { IfOk result (λ id. MadeHere (plain_label kind op span) children.items p.old p.new id) }
+{
+    p.ast.node(kind, span, op, no_flags(), None, children)
+}

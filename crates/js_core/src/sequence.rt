@@ -1,15 +1,20 @@
 //! The comma operator (ECMA-262, section 13.16).
 
+ghost use Rattle.std.specs.Prelude.{◌≡◌, ◌≤◌, ◌∷◌, [], Some};
+ghost use Rattle.js_base.specs.declared.kind.Kind.TheVariants.{Comma};
 ghost use Rattle.js_grammar.specs.Productions.{at, Expression};
 ghost use Rattle.js_core.specs.Answers.{Answers};
 ghost use Rattle.js_core.specs.Nesting.{CanNest, room};
 ghost use Rattle.js_core.specs.States.{Standing};
 
 use crate::assignment::parse_assignment_expression;
+use crate::lexemes::advance;
 use crate::nested::Nested;
+use crate::nodes::make_list;
+use js_base::Kind;
 use js_cursor::{ParserImpl, Stop};
 use js_lex::ParserConfig;
-use js_tree::NodeId;
+use js_tree::{NodeId, NodeKind, Op};
 
 /// An Expression (ECMA-262, section 13.16).
 pub fn parse_sequence_expression<C: ParserConfig, N: Nested<C>>(
@@ -20,5 +25,22 @@ pub fn parse_sequence_expression<C: ParserConfig, N: Nested<C>>(
     requires nests { CanNest (N.can nested.now) (room p.old) }
     ensures { Answers (at Expression) p.old p.new result }
 {
-    parse_assignment_expression(p, nested)
+    let start = p.cur_start();
+    let first = parse_assignment_expression(p, nested)?;
+    if !p.at(Kind::Comma) {
+        return Ok(first);
+    }
+    let mut items = Vec::new(p.alloc);
+    items.push(Some(first))?;
+    'items: loop {
+        advance(p)?;
+        let item = nested.assignment(p)?;
+        items.push(Some(item))?;
+        if !p.at(Kind::Comma) {
+            break;
+        }
+    }
+    let span = p.end_span(start);
+    let node = make_list(p, NodeKind::SequenceExpression, Op::None, span, items)?;
+    Ok(node)
 }
