@@ -347,13 +347,13 @@ abbrev pub is_due : ListStep → Bool
 is_due Element = true
 is_due _ = false
 
-pub due_step : {text : List ℕ} {f : Flags} {p q : Parser} {opening : Span} {first : Bool} (s : ListStep) (r : Result ListStep Stop) → r ≡ Ok s → At text f p → Steps RParen opening first p q r → Due text f first p q (is_due s)
-due_step {text} {f} {p} {q} {opening} {first} s r e a z = go s (subst (λ (v : Result ListStep Stop). Steps RParen opening first p q v) e z)
+pub due_step : {text : List ℕ} {f : Flags} {p q : Parser} (opening : Span) (first : Bool) (s : ListStep) (r : Result ListStep Stop) → r ≡ Ok s → At text f p → Steps RParen opening first p q r → Due text f first p q (is_due s)
+due_step {text} {f} {p} {q} opening first s r e a z = go s (subst (λ (v : Result ListStep Stop). Steps RParen opening first p q v) e z)
   where
     go : (s : ListStep) → Steps RParen opening first p q (Ok s) → Due text f first p q (is_due s)
     go Element z = due_element a first z
     go End z = due_end a first z
-    go (EndAfterComma at) z = due_after a first at z
+    go (EndAfterComma n) z = due_after a first n z
 
 pub not_due : {s : ListStep} → (s ≡ End) ⊎ ((n : ℕ) × (s ≡ EndAfterComma n)) → is_due s ≡ false
 not_due (inl e) = ap is_due e
