@@ -48,6 +48,7 @@ use Rattle.js_core.specs.Moves.{Moved, Moves}
 use Rattle.js_core.specs.Answers.{Grown, Verdict, clean, Stretch, Underived, Numbered, Outcome, Answers, Stops}
 use Rattle.js_core.specs.Arguments.{item_of, items, list_of, rest_of, due_of, Partway, Due, FindsDue}
 use Rattle.js_core.proofs.Conditionals.{plain_sign, other_kind}
+use Rattle.js_core.proofs.Stretches.{stretches}
 use Rattle.js_core.proofs.Dead.{live, lives}
 use Rattle.js_core.proofs.Here.{kind_here, uncut}
 use Rattle.js_core.proofs.Links.{AllAre, NoneIs}
@@ -57,10 +58,6 @@ use Rattle.js_core.proofs.Nesting.{nested_room, later_room}
 use Rattle.js_core.proofs.Paths.{angles, walked_both, walked_one, one_read, passes, skips, read_of, not_here}
 use Rattle.js_core.proofs.Verdicts.{verdict_of, either_way, and_then, behind_none, grown_then}
 use Rattle.js_core.proofs.Verdicts.{after as grown_behind}
-
--- one stretch behind another
-pub stretches : {text : List ℕ} {g g' g'' : G} {s s' s'' : ℕ} {h i : Slots → Slots} {pass more : Lexemes → Lexemes} → Stretch text (plain full) g s g' s' h pass → Stretch text (plain full) g' s' g'' s'' i more → s' ≤ s'' → Stretch text (plain full) g s g'' s'' (λ us. h (i us)) (λ ls. pass (more ls))
-stretches a b o = record { reach = max a.reach b.reach; near = let i = a.near in let j = b.near in omega arith; goes = a.goes ▹ b.goes }
 
 no_paren : {text : List ℕ} {s : ℕ} {k : Kind} → NoneIs text s k → (y : Lexeme) → Lex text s y → IsTrue (seen (is k) y) → ⊥
 no_paren {k = k} n y l h = n y l (sym (kind_of_same k y.kind (and_parts (same_kind k y.kind) _ h).0))

@@ -11,6 +11,7 @@ pub mod Phrases
 pub mod Operands
 pub mod Giving
 pub mod Links
+pub mod Stretches
 pub mod Members
 pub mod Beginning
 pub mod Contexts

@@ -11,6 +11,7 @@ use Rattle.js_grammar.specs.Parsing.{Test, plain, full, always, still, joined, W
 use Rattle.js_grammar.specs.Productions.{G, Flags, Symbol, at, tok, mk, make, optional_flag, Primary, Member, Call, Chain, Links, Super, LeftHandSide, IdentifierName}
 use Rattle.js_grammar.specs.Productions.{New as new_symbol, sym as symbol}
 use Rattle.js_grammar.specs.Table.{rule, rule_of, args}
+use Rattle.js_grammar.specs.Insertion.{after_expression}
 use Rattle.js_grammar.specs.Follow.{Edge, edge_of, follow_of, after}
 use Rattle.js_grammar.proofs.Looks.{covers, covered, apart}
 use Rattle.js_grammar.proofs.Calculus.{Inside, Heads, on_itself, here_at, ◌▹◌, ◌▹✗◌, left, right, then_by, makes_by, inside_full, by_plain, by_rule, fails_node, fails_alt, fails_never, part_fails, weaken, weaken_fails, weaken_on, weaken_fails_on}
@@ -24,7 +25,7 @@ use Rattle.js_grammar.proofs.Chains.{is_member, is_call, is_links, base_of, clim
 use Rattle.js_grammar.proofs.LinkLoops.{OfMember, named, private, member_name}
 use Rattle.js_core.specs.Lexemes.{Lex}
 use Rattle.js_core.specs.Answers.{Stretch, Underived}
-use Rattle.js_core.specs.Members.{Looped, NoBareNew, NoMember, without_arguments, link_kinds, sign_of, link_label}
+use Rattle.js_core.specs.Members.{Looped, NoBareNew, NoMember, without_arguments, link_kinds, chained, OnlyLink, sign_of, link_label}
 use Rattle.js_core.proofs.Dead.{dead, fails_dead, live, lives}
 use Rattle.js_core.proofs.Paths.{reads}
 
@@ -44,6 +45,14 @@ before_call = plain (is LParen)
 -- and behind a call
 abbrev behind_call : Look
 behind_call k w e = not (one_of_kinds (LParen ∷ LBrack ∷ Dot ∷ NoSubstitutionTemplate ∷ TemplateHead ∷ []) k && not e) && not (not w && (same_kind Function k && not e))
+
+abbrev lhs_follow : Bool → Look
+lhs_follow b k w e = follow_of LeftHandSide b (record { row = after_expression; open_if = false }) k w e
+
+below_call : (b : Bool) → covers (lhs_follow b) behind_call ≡ true
+unfolding covers
+below_call true = refl
+below_call false = refl
 
 -- what stands there is of this kind, without an escape
 abbrev pub AllAre : List ℕ → ℕ → Kind → Type 0
@@ -69,13 +78,6 @@ module _ (f : Flags) where
   unfolding member_links rule_of covers
   member_starts = refl
 
-  -- the links of chains: calls or names, with `?.` or not
-  abbrev pub chained : Bool → Bool → Link Symbol
-  chained true true = link call_expression no_op optional_flag (tok QuestionDot ▸ args f)
-  chained true false = link call_expression no_op 0 (args f)
-  chained false true = link static_member_expression no_op optional_flag (tok QuestionDot ▸ symbol IdentifierName f)
-  chained false false = link static_member_expression no_op 0 (tok Dot ▸ symbol IdentifierName f)
-
   -- what may stand before the first arguments, and before the first `?.`
   abbrev callees : G
   callees = alt (such (at Member f) always) (alt (such (at Super f) always) never)
@@ -87,7 +89,7 @@ module _ (f : Flags) where
   first_call = node (make_of call_expression no_op 0) (seq callees (args f))
 
   abbrev first_links : G
-  first_links = alt (node (make_of call_expression no_op optional_flag) (seq bases (chained true true).part)) (node (make_of static_member_expression no_op optional_flag) (seq bases (chained false true).part))
+  first_links = alt (node (make_of call_expression no_op optional_flag) (seq bases (chained f true true).part)) (node (make_of static_member_expression no_op optional_flag) (seq bases (chained f false true).part))
 
   call_left : live (base_of is_call Call f) ≡ first_call
   unfolding rule_of apart
@@ -113,16 +115,15 @@ module _ (f : Flags) where
   unfolding chain_links rule_of covers
   chain_starts = refl
 
--- of these links no other one begins at the place
-abbrev pub OnlyLink : List ℕ → Flags → ℕ → Bool → Bool → Type 0
-OnlyLink text f s c o = (c' o' : Bool) → ((c' ≡ c) × (o' ≡ o)) ⊎ Fails rule (Lex text) (plain full) end (chained f c' o').part s
-
 -- no such call is read before what may stand behind a LeftHandSideExpression
 abbrev pub NotCall : List ℕ → Flags → ℕ → Type 0
 NotCall text f s = Fails rule (Lex text) (after (at LeftHandSide f)) end (such (at Call f) always) s
 
 no_kind : {text : List ℕ} {s : ℕ} {k : Kind} → NoneIs text s k → (y : Lexeme) → Lex text s y → IsTrue (seen (is k) y) → ⊥
 no_kind {k = k} n y l h = n y l (sym (kind_of_same k y.kind (and_parts (same_kind k y.kind) _ h).0))
+
+parens_differ : LParen ≡ QuestionDot → ⊥
+parens_differ e = cc
 
 another : {text : List ℕ} {s : ℕ} {j k : Kind} → AllAre text s k → (k ≡ j → ⊥) → NoneIs text s j
 another a n y l e = n (sym (a y l).0 ∙ e)
@@ -206,7 +207,7 @@ module _ {text : List ℕ} (f : Flags) where
   -- the member alone is no callee before `?.`
   pub member_before_chain : {s s' : ℕ} {l : Label} {cs : Slots} {pass : Lexemes → Lexemes} → Stretch text (after (at Member f)) (such (at Member f) always) s nothing s' (tree l cs) pass → AllAre text s' LParen → Fails rule (Lex text) before_chain end (such (at Member f) always) s
   unfolding covers
-  member_before_chain x z = unfollowed x.goes (record { admits = λ ts vs k ls rest d e. admits (at Member f) ts (here rest) (covered (is QuestionDot) behind_member refl (here rest).kind (here rest).newline (here rest).escaped e.0) }) (λ us y i e. no_kind (another z (λ e. cc)) y i e.0)
+  member_before_chain x z = unfollowed x.goes (record { admits = λ ts vs k ls rest d e. admits (at Member f) ts (here rest) (covered (is QuestionDot) behind_member refl (here rest).kind (here rest).newline (here rest).escaped e.0) }) (λ us y i e. no_kind (another z parens_differ) y i e.0)
 
   call_foot : {X : Test} {s : ℕ} → Goes rule (Lex text) X end (base_of is_call Call f) s (first_call f) s (λ us. us) (still 0)
   call_foot {X} {s} = subst (λ (g : G). Goes rule (Lex text) X end (base_of is_call Call f) s g s (λ us. us) (still 0)) (call_left f) (lives (base_of is_call Call f))
@@ -266,9 +267,9 @@ module _ {text : List ℕ} (f : Flags) where
   call_step_fails {l = l} {cs = cs} false p x z r = chain_step_fails_by firsts (climbs is_call Call f) (call_links f) {F' = full} {x = chained f false false} Dot x.around (λ y i. (z y i).0) (search (this, of_left, of_right) depth 14) dot_call (not_before_call Dot l cs (λ w. refl) z) p r refl refl
 
   pub call_ends : {s s' from : ℕ} {l : Label} {cs : Slots} {pass : Lexemes → Lexemes} → Looped text (calls f) (after (at Call f)) s from l cs pass s' → NoneIs text s' Dot → NoneIs text s' LParen → Stretch text (after (at Call f)) (such (at Call f) always) s nothing s' (tree l cs) pass
-  call_ends a n m = record { reach = a.reach; near = a.near; goes = chain_end firsts (climbs is_call Call f) (call_links f) (λ l cs vs y e. e) a.around (λ y l t. none y l (covered (λ k w e. linked_starts firsts (call_links f) k w e && reads k w e) (λ k w e. one_of_kinds (Dot ∷ LParen ∷ []) k) (call_starts f) y.kind y.newline y.escaped (and_from _ _ t l.1))) }
+  call_ends {s' = s'} a n m = record { reach = a.reach; near = a.near; goes = chain_end firsts (climbs is_call Call f) (call_links f) (λ l cs vs y e. e) a.around (λ y l t. none y l (covered (λ k w e. linked_starts firsts (call_links f) k w e && reads k w e) (λ k w e. one_of_kinds (Dot ∷ LParen ∷ []) k) (call_starts f) y.kind y.newline y.escaped (and_from _ _ t l.1))) }
     where
-      none : (y : Lexeme) → Lex text _ y → one_of_kinds (Dot ∷ LParen ∷ []) y.kind ≡ true → ⊥
+      none : (y : Lexeme) → Lex text s' y → one_of_kinds (Dot ∷ LParen ∷ []) y.kind ≡ true → ⊥
       none y l h = go (same_kind Dot y.kind) (same_kind LParen y.kind) refl refl h
         where
           go : (b c : Bool) → same_kind Dot y.kind ≡ b → same_kind LParen y.kind ≡ c → (b || (c || false)) ≡ true → ⊥
@@ -424,3 +425,27 @@ module _ {text : List ℕ} (f : Flags) where
   pub call_unfollowed : {s s' : ℕ} {l : Label} {cs : Slots} {pass : Lexemes → Lexemes} → Stretch text (after (at Call f)) (such (at Call f) always) s nothing s' (tree l cs) pass → AllAre text s' QuestionDot → NotCall text f s
   unfolding covers
   call_unfollowed {l = l} {cs = cs} x z = unfollowed x.goes (same_read (at LeftHandSide f) (at Call f) refl refl) (λ us y i e. false≢true (subst (λ v. follow_of LeftHandSide f.in_ (edge_of l cs) QuestionDot y.newline v ≡ true) (z y i).1 (subst (λ v. follow_of LeftHandSide f.in_ (edge_of l cs) v y.newline y.escaped ≡ true) (z y i).0 e.1)))
+
+  -- nothing stands before `?.` where none follows
+  pub member_before : {s : ℕ} → Underived text (at Member f) s → Fails rule (Lex text) before_chain end (such (at Member f) always) s
+  unfolding covers
+  member_before x = weaken_fails x (λ ts y e. admits (at Member f) ts y (covered (is QuestionDot) behind_member refl y.kind y.newline y.escaped e.0))
+
+  pub member_alone : {s s' : ℕ} {l : Label} {cs : Slots} {pass : Lexemes → Lexemes} → Stretch text (after (at Member f)) (such (at Member f) always) s nothing s' (tree l cs) pass → NoneIs text s' QuestionDot → Fails rule (Lex text) before_chain end (such (at Member f) always) s
+  unfolding covers
+  member_alone x n = unfollowed x.goes (record { admits = λ ts vs k ls rest d e. admits (at Member f) ts (here rest) (covered (is QuestionDot) behind_member refl (here rest).kind (here rest).newline (here rest).escaped e.0) }) (λ us y i e. no_kind n y i e.0)
+
+  pub call_alone : {s s' : ℕ} {l : Label} {cs : Slots} {pass : Lexemes → Lexemes} → Stretch text (after (at Call f)) (such (at Call f) always) s nothing s' (tree l cs) pass → NoneIs text s' QuestionDot → Fails rule (Lex text) before_chain end (such (at Call f) always) s
+  unfolding covers
+  call_alone x n = unfollowed x.goes (record { admits = λ ts vs k ls rest d e. admits (at Call f) ts (here rest) (covered (is QuestionDot) behind_call refl (here rest).kind (here rest).newline (here rest).escaped e.0) }) (λ us y i e. no_kind n y i e.0)
+
+  -- where no member is, no LeftHandSideExpression is
+  pub no_lhs_here : {s : ℕ} → NoMember text f s → Underived text (at LeftHandSide f) s
+  no_lhs_here n = no_lhs (no_new n) (no_call_at_all n.0) (no_first (base_none (member_before n.0) (no_call_at_all n.0)))
+
+pub call_heads : (f : Flags) → Heads (after (at LeftHandSide f)) (after (at Call f))
+call_heads f l cs vs y e = admits (at Call f) (tree l cs end) y (covered (lhs_follow f.in_) behind_call (below_call f.in_) y.kind y.newline y.escaped e.1)
+
+pub chain_heads : (f : Flags) → Heads before_chain (after (at Call f))
+unfolding covers
+chain_heads f l cs vs y e = admits (at Call f) (tree l cs end) y (covered (is QuestionDot) behind_call refl y.kind y.newline y.escaped e.0)
