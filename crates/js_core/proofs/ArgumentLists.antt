@@ -355,3 +355,19 @@ due_step {text} {f} {p} {q} opening first s r e a z = go s (subst (λ (v : Resul
 pub not_due : {s : ListStep} → (s ≡ End) ⊎ ((n : ℕ) × (s ≡ EndAfterComma n)) → is_due s ≡ false
 not_due (inl e) = ap is_due e
 not_due (inr z) = ap is_due z.1
+
+-- behind an item there is less of the text left
+pub item_less : {s : Span} {first due : Bool} {ids js : List (Option NodeId)} {p q r v : Parser} {id : NodeId} → ArgumentLoop s first ids js p q → FindsDue first q r (Ok due) → Answers (λ f. at Assignment (plus_in f)) r v (Ok id) → room v < room q
+item_less l d y =
+    let x = d _ _ l.at in
+    let u = standing x.at in
+    let z = (y _ _ u).answer in
+    let a = x.forward in let b = z.further in let c = u.behind in let e = u.at.between.0 in let g = z.same.follows.text in let h = x.same.follows.text in let i = z.at.at.between.0 in omega (arith, ap length g, ap length h)
+
+-- the closing parenthesis
+pub closing_moved : {text : List ℕ} {f : Flags} {p q : Parser} → At text f p → p.token.kind ≡ RParen → MovesOn p q → Moved text f p q
+closing_moved a k v = moves (uncut a (ap (same_kind RAngle) k), ap is_last k) v a
+
+pub closing_stops : (o p q : Parser) (e : Stop) (F : Type 0) (P : Diagnostic → Type 0) → p.token.kind ≡ RParen → (e ≡ Fatal → p.token.kind ≡ RParen → ⊥) × GivesUp P p q e → Stops o q e F
+closing_stops o p q Fatal F P k z = absurd (z.0 refl k)
+closing_stops o p q NoMemory F P k z = tt

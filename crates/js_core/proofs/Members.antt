@@ -27,6 +27,7 @@ use Rattle.js_lex.specs.Reading.{is_right_angle}
 use Rattle.js_tree.specs.declared.id.NodeId.{NodeId}
 use Rattle.js_tree.specs.declared.kind.NodeKind.TheVariants as node
 use Rattle.js_tree.specs.declared.op.Op.TheVariants as op
+use Rattle.js_tree.specs.declared.kind.NodeKind.{NodeKind as NodeKindMade}
 use Rattle.js_tree.specs.Nodes.{Node}
 use Rattle.js_tree.specs.Holding.{Holds, HoldsAll, Keeps}
 use Rattle.js_tree.proofs.HoldingLemmas.{HoldsAll-one, HoldsAll-next, Keeps-refl, Keeps-trans, Keeps-made}
@@ -40,9 +41,10 @@ use Rattle.js_cursor.proofs.Later.{follows_on}
 use Rattle.js_core.specs.Lexemes.{Lex, is_read, read_kinds, read_word}
 use Rattle.js_core.specs.States.{At, Same, Standing}
 use Rattle.js_core.specs.Nesting.{room}
+use Rattle.js_core.proofs.Nesting.{nested_room, later_room}
 use Rattle.js_core.specs.Moves.{Moved, MadeHere, LeafTaken, TakesLeaf, IsWholeHere, plain_label}
 use Rattle.js_core.specs.Answers.{Grown, Verdict, clean, Stretch, Underived, Numbered, Outcome, Stops, beside}
-use Rattle.js_core.specs.Members.{StandsHere, Taken, Looped, NoBareNew, NoMember, Headed, a_member, a_new, MemberSoFar, NoDot, NoParen, NoLhs, HeadOutcome, without_arguments, link_kinds, chained, sign_of, link_label, NoLink, OnlyLink, Linked, LinkHere, a_link, no_link, ReadsLink, WithArguments, Beyond, CallSoFar, ChainSoFar, Callee, a_head, a_call, CalleeOutcome}
+use Rattle.js_core.specs.Members.{StandsHere, Taken, Looped, NoBareNew, NoMember, Headed, a_member, a_new, MemberSoFar, NoDot, NoParen, NoLhs, HeadOutcome, without_arguments, link_kinds, chained, sign_of, link_label, NoLink, OnlyLink, Linked, LinkHere, a_link, no_link, ReadsLink, WithArguments, MakesWithArguments, LinkOutcome, Beyond, CallSoFar, ChainSoFar, Callee, a_head, a_call, CalleeOutcome}
 use Rattle.js_core.specs.Arguments.{Partway, Arguments}
 use Rattle.js_core.proofs.Here.{told, angled, begins_here, kind_here, escaped_here, uncut, found}
 use Rattle.js_core.proofs.Tight.{read_plain}
@@ -358,6 +360,9 @@ module _ {text : List ℕ} {f : Flags} {p q : Parser} (a : At text f p) (k : p.t
     pub at_callee : At text f w
     at_callee = callee_taken.at
 
+    pub callee_room : room w ≤ room p
+    callee_room = let i = later_room (let j = callee_taken.further in let d = m.at.behind in omega arith) callee_taken.same in let r = nested_room a m in omega arith
+
     no_dot : NoDot text w
     no_dot = subst (λ (v : ℕ). NoneIs text v Dot) (sym (ap (λ (z : Parser). z.prev_token_end) l.is)) x.1
 
@@ -668,8 +673,8 @@ module _ {text : List ℕ} {f : Flags} {p : Parser} (a : At text f p) where
   no_word : {q : Parser} → At text f q → StandsHere q LParen true → Underived text (at IdentifierName f) q.prev_token_end
   no_word b s = no_name b (ap read_word s.0)
 
-  pub no_call_link : {q : Parser} {e : Stop} → StandsHere p LParen true → Stops p q e (Fails rule (Lex text) (plain full) end (args f) p.prev_token_end) → Stops p q e ((c o : Bool) → NoLink text f p.prev_token_end c o)
-  no_call_link {q} {e} s z = stops_so p q e (λ n. none_of_links true false (paren_only f (stands_there a s.0 refl)) n) z
+  pub no_call_link : (q : Parser) (e : Stop) → StandsHere p LParen true → Stops p q e (Fails rule (Lex text) (plain full) end (args f) p.prev_token_end) → Stops p q e ((c o : Bool) → NoLink text f p.prev_token_end c o)
+  no_call_link q e s z = stops_so p q e (λ n. none_of_links true false (paren_only f (stands_there a s.0 refl)) n) z
 
   -- behind `?.`
   module _ (s : StandsHere p QuestionDot true) {mid : Parser} (m : Moved text f p mid) where
@@ -686,8 +691,8 @@ module _ {text : List ℕ} {f : Flags} {p : Parser} (a : At text f p) where
         others true n = absurd (n refl)
         others false n = name_lacks (no_word m.at t)
 
-    pub no_optional_call : {q : Parser} {e : Stop} → StandsHere mid LParen true → Stops mid q e (Fails rule (Lex text) (plain full) end (args f) mid.prev_token_end) → Stops p q e ((c o : Bool) → NoLink text f p.prev_token_end c o)
-    no_optional_call {q} {e} t z = stops_behind q e m.same.follows (λ g. grown_then m.kept g) (λ n. none_of_links true true (chain_only f true (λ d h. other d h) (stands_there a s.0 refl)) (call_lacks n)) z
+    pub no_optional_call : (q : Parser) (e : Stop) → StandsHere mid LParen true → Stops mid q e (Fails rule (Lex text) (plain full) end (args f) mid.prev_token_end) → Stops p q e ((c o : Bool) → NoLink text f p.prev_token_end c o)
+    no_optional_call q e t z = stops_behind q e m.same.follows (λ g. grown_then m.kept g) (λ n. none_of_links true true (chain_only f true (λ d h. other d h) (stands_there a s.0 refl)) (call_lacks n)) z
       where
         other : (d : Bool) → (d ≡ true → ⊥) → NoLink text f p.prev_token_end d true
         other true n = absurd (n refl)
@@ -700,8 +705,8 @@ module _ {text : List ℕ} {f : Flags} {p : Parser} (a : At text f p) where
         others false n = absurd (n refl)
         others true n = call_lacks (no_arguments_here f (stands_not m.at refl t))
 
-    pub no_optional_name : {q : Parser} {e : Stop} → StandsHere mid LParen false → Stops mid q e (Underived text (at IdentifierName f) mid.prev_token_end) → Stops p q e ((c o : Bool) → NoLink text f p.prev_token_end c o)
-    no_optional_name {q} {e} t z = stops_behind q e m.same.follows (λ g. grown_then m.kept g) (λ n. none_of_links false true (chain_only f false (λ d h. other d h) (stands_there a s.0 refl)) (name_lacks n)) z
+    pub no_optional_name : (q : Parser) (e : Stop) → StandsHere mid LParen false → Stops mid q e (Underived text (at IdentifierName f) mid.prev_token_end) → Stops p q e ((c o : Bool) → NoLink text f p.prev_token_end c o)
+    no_optional_name q e t z = stops_behind q e m.same.follows (λ g. grown_then m.kept g) (λ n. none_of_links false true (chain_only f false (λ d h. other d h) (stands_there a s.0 refl)) (name_lacks n)) z
       where
         other : (d : Bool) → (d ≡ false → ⊥) → NoLink text f p.prev_token_end d true
         other false n = absurd (n refl)
@@ -712,8 +717,8 @@ module _ {text : List ℕ} {f : Flags} {p : Parser} (a : At text f p) where
     pub name_link : {v q : Parser} {id left name : NodeId} {start : ℕ} → Numbered text f (at IdentifierName f) mid v name → MadeHere (link_label false false start v.prev_token_end) (Some left ∷ Some name ∷ []) v q id → Linked text f start left p q id
     name_link {v} x y = record { call = false; optional = false; sign = s; only = dot_only f (stands_there a s.0 refl); behind = v; children = _; part = part_behind Dot a s.0 s.1 refl m (part_name x); made = y }
 
-    pub no_name_link : {q : Parser} {e : Stop} → Stops mid q e (Underived text (at IdentifierName f) mid.prev_token_end) → Stops p q e ((c o : Bool) → NoLink text f p.prev_token_end c o)
-    no_name_link {q} {e} z = stops_behind q e m.same.follows (λ g. grown_then m.kept g) (λ n. none_of_links false false (dot_only f (stands_there a s.0 refl)) (skips a Dot s.0 s.1 refl m ▹✗ weaken_fails n (λ ts y e. (refl, refl)))) z
+    pub no_name_link : (q : Parser) (e : Stop) → Stops mid q e (Underived text (at IdentifierName f) mid.prev_token_end) → Stops p q e ((c o : Bool) → NoLink text f p.prev_token_end c o)
+    no_name_link q e z = stops_behind q e m.same.follows (λ g. grown_then m.kept g) (λ n. none_of_links false false (dot_only f (stands_there a s.0 refl)) (skips a Dot s.0 s.1 refl m ▹✗ weaken_fails n (λ ts y e. (refl, refl)))) z
 
 -- ---- what the loops keep
 
@@ -776,3 +781,31 @@ pub dot_left : {p : Parser} → LinkHere p true true → StandsHere p LParen fal
 dot_left (a_link c true s e) n m = absurd (m s.0 s.1)
 dot_left (a_link true false s e) n m = absurd (n s.0 s.1)
 dot_left (a_link false false s e) n m = s
+
+pub start_loop : {start : ℕ} {p : Parser} → Standing p → start ≤ p.prev_token_end → LinkLoop start p p (Unit {0})
+start_loop a b = record { at = a; before = b; later = omega arith; goes = tt }
+
+pub call_outcome : {text : List ℕ} {f : Flags} (start : ℕ) (left : NodeId) {p : Parser} (q : Parser) (r : Result NodeId Stop) → At text f p → StandsHere p LParen true → MakesWithArguments node.CallExpression false start left p q r → LinkOutcome text f start left p q r
+call_outcome start left q (Ok id) a s y = call_link a s y
+call_outcome {text} {f} start left q (Err e) a s y = no_call_link a q e s (y text f a true)
+
+pub optional_outcome : {text : List ℕ} {f : Flags} (start : ℕ) (left : NodeId) {p mid : Parser} (q : Parser) (r : Result NodeId Stop) → At text f p → StandsHere p QuestionDot true → Moved text f p mid → StandsHere mid LParen true → MakesWithArguments node.CallExpression true start left mid q r → LinkOutcome text f start left p q r
+optional_outcome start left q (Ok id) a s m t y = optional_call a s m t y
+optional_outcome {text} {f} start left q (Err e) a s m t y = no_optional_call a s m q e t (y text f m.at true)
+
+-- what was said one level deeper
+pub entered_stops : {text : List ℕ} {f : Flags} {p q e : Parser} (r : Parser) (i : Stop) → (a : At text f p) → p.token.kind ≡ New → p.token.escaped ≡ false → (m : Moved text f p q) → Enters q e → Stops e r i (NoMember text f e.prev_token_end) → Stops p r i (NoMember text f p.prev_token_end)
+entered_stops {text} {f} {p} {q} {e} r i a k n m h s = stops_behind r i m.same.follows (λ g. grown_then m.kept g) (λ z. new_fails a k n m z) (stops_in r i m.at.at h (λ z. subst (λ (v : ℕ). NoMember text f v) (ap (λ (z : Parser). z.prev_token_end) h.is) z) s)
+
+pub chain_or_none : (p : Parser) (h b : Bool) → h ≡ true → StandsHere p LParen false → StandsHere p Dot false → StandsHere p QuestionDot b → LinkHere p h b
+chain_or_none p h true e s d z = a_link false true z (λ u. e)
+chain_or_none p h false e s d z = no_link s d (λ u. z)
+
+pub plain_none : (p : Parser) (h : Bool) → h ≡ false → StandsHere p LParen false → StandsHere p Dot false → LinkHere p h false
+plain_none p h e s d = no_link s d (λ u. absurd (false≢true (sym e ∙ u)))
+
+pub begun_at : {k : NodeKindMade} {b : Bool} {from start : ℕ} {left id : NodeId} {p q : Parser} → from ≡ start → WithArguments k b from left p q id → WithArguments k b start left p q id
+begun_at {k} {b} {left = left} {id} {p} {q} e y = subst (λ (v : ℕ). WithArguments k b v left p q id) e y
+
+pub taken_room : {text : List ℕ} {f : Flags} {C : Label → Slots → (Lexemes → Lexemes) → ℕ → Type 0} {A : Type 0} {o p : Parser} {id : NodeId} → At text f o → Taken text f o p id C A → room p ≤ room o
+taken_room a x = later_room (let j = x.further in let d = a.behind in omega arith) x.same

@@ -140,12 +140,15 @@ pub data LinkHere (p : Parser) (chain : Bool) : Bool → Type 0 where
   a_link : (call optional : Bool) → StandsHere p (sign_of call optional) true → (optional ≡ true → chain ≡ true) → LinkHere p chain true
   no_link : StandsHere p LParen false → StandsHere p Dot false → (chain ≡ true → StandsHere p QuestionDot false) → LinkHere p chain false
 
+abbrev pub arguments_label : NodeKind → Bool → ℕ → ℕ → Label
+arguments_label k optional from to = record { kind = kind_of k; op = no_op; flags = cond optional optional_flag 0; span = record { from = from; to = to } }
+
 -- what a node of a callee and its arguments was made of
 pub record WithArguments (k : NodeKind) (optional : Bool) (start : ℕ) (left : NodeId) (p q : Parser) (id : NodeId) : Type 0 where
   pub behind : Parser
   pub children : List (Option NodeId)
   pub arguments : Arguments (Some left ∷ []) children p behind
-  pub made : MadeHere (record { kind = kind_of k; op = no_op; flags = cond optional optional_flag 0; span = record { from = start; to = behind.prev_token_end } }) children behind q id
+  pub made : MadeHere (arguments_label k optional start behind.prev_token_end) children behind q id
 
 abbrev pub MakesWithArguments : NodeKind → Bool → ℕ → NodeId → Parser → Parser → Result NodeId Stop → Type 0
 MakesWithArguments k optional start left p q (Ok id) = WithArguments k optional start left p q id

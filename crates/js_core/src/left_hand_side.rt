@@ -1,11 +1,11 @@
 //! Members, `new`, calls and optional chains (ECMA-262, section 13.3).
 
 ghost use Rattle.std.specs.Prelude.{◌≡◌, ◌≤◌, ◌∷◌, [], Some, IfOk, cond, true, false};
-ghost use Rattle.js_base.specs.declared.kind.Kind.TheVariants.{LParen, QuestionDot};
+ghost use Rattle.js_base.specs.declared.kind.Kind.TheVariants.{Dot, LParen, QuestionDot};
 ghost use Rattle.js_grammar.specs.Productions.{at, optional_flag, IdentifierName, LeftHandSide};
 ghost use Rattle.js_tree.specs.Labels.{number_of};
 ghost use Rattle.js_core.specs.Answers.{Answers};
-ghost use Rattle.js_core.specs.Members.{CallsMember, ChainsCallee, GoesOnMember, Heads, LinkHere, MakesWithArguments, ReadsLink, StandsHere, link_label};
+ghost use Rattle.js_core.specs.Members.{CallsMember, ChainsCallee, GoesOnMember, Heads, LinkHere, MakesWithArguments, ReadsLink, StandsHere, arguments_label, link_label};
 ghost use Rattle.js_core.specs.Moves.{MadeHere};
 ghost use Rattle.js_core.specs.Nesting.{CanNest, room};
 ghost use Rattle.js_core.specs.States.{Standing};
@@ -141,7 +141,10 @@ fn link_here<C: ParserConfig>(p: &ParserImpl<'_, C>, chain: bool) -> bool
     if stands(p, Kind::Dot) {
         return true;
     }
-    chain && stands(p, Kind::QuestionDot)
+    if chain {
+        return stands(p, Kind::QuestionDot);
+    }
+    false
 }
 
 /// The link that stands here, behind what was read.
@@ -160,13 +163,48 @@ fn parse_link<C: ParserConfig, N: Nested<C>>(
     if stands(p, Kind::LParen) {
         return parse_with_arguments(p, nested, start, NodeKind::CallExpression, false, left);
     }
-    let optional = stands(p, Kind::QuestionDot);
+    if stands(p, Kind::QuestionDot) {
+        return parse_optional_link(p, nested, start, left);
+    }
+    parse_named_link(p, start, left)
+}
+
+/// `?.` and arguments or a name, behind what was read.
+fn parse_optional_link<C: ParserConfig, N: Nested<C>>(
+    p: &mut ParserImpl<'_, C>,
+    nested: &N,
+    start: u32,
+    left: NodeId,
+) -> Result<NodeId, Stop>
+    requires at { Standing p.old }
+    requires nests { CanNest (N.can nested.now) (room p.old) }
+    requires start { start ≤ p.old.prev_token_end }
+    requires sign { StandsHere p.old QuestionDot true }
+    ensures { ReadsLink start left p.old p.new result }
+{
     advance(p)?;
-    if optional && stands(p, Kind::LParen) {
+    if stands(p, Kind::LParen) {
         return parse_with_arguments(p, nested, start, NodeKind::CallExpression, true, left);
     }
     let name = parse_identifier_name(p)?;
-    let node = make_member(p, start, left, name, optional)?;
+    let node = make_member(p, start, left, name, true)?;
+    Ok(node)
+}
+
+/// `.` and a name, behind what was read.
+fn parse_named_link<C: ParserConfig>(
+    p: &mut ParserImpl<'_, C>,
+    start: u32,
+    left: NodeId,
+) -> Result<NodeId, Stop>
+    requires at { Standing p.old }
+    requires start { start ≤ p.old.prev_token_end }
+    requires sign { StandsHere p.old Dot true }
+    ensures { ReadsLink start left p.old p.new result }
+{
+    advance(p)?;
+    let name = parse_identifier_name(p)?;
+    let node = make_member(p, start, left, name, false)?;
     Ok(node)
 }
 
@@ -188,9 +226,7 @@ fn parse_with_arguments<C: ParserConfig, N: Nested<C>>(
     let mut children = Vec::new(p.alloc);
     children.push(Some(callee))?;
     let arguments = parse_call_arguments(p, nested, children)?;
-    let span = p.end_span(start);
-    let flags = link_flags(optional);
-    let node = p.ast.node(kind, span, Op::None, flags, None, arguments)?;
+    let node = make_with_arguments(p, start, kind, optional, arguments)?;
     Ok(node)
 }
 
@@ -238,4 +274,20 @@ fn make_member<C: ParserConfig>(
         Some(left),
         Some(name),
     )
+}
+
+/// The node of a callee and its arguments.
+fn make_with_arguments<C: ParserConfig>(
+    p: &mut ParserImpl<'_, C>,
+    start: u32,
+    kind: NodeKind,
+    optional: bool,
+    children: Vec<Option<NodeId>>,
+) -> Result<NodeId, NoMemory>
+    requires start { start ≤ p.old.prev_token_end }
+    ensures { IfOk result (λ id. MadeHere (arguments_label kind optional start p.old.prev_token_end) children.items p.old p.new id) }
+{
+    let span = p.end_span(start);
+    let flags = link_flags(optional);
+    p.ast.node(kind, span, Op::None, flags, None, children)
 }

@@ -1,7 +1,7 @@
 use Rattle.std.proofs.Common.{◌∙◌, true, false}
 use Rattle.js_base.specs.declared.kind.Kind.TheVariants.{LParen, QuestionDot}
 use Rattle.std.proofs.lemmas.Result.{err_from_is_err_and}
-use Rattle.js_core.proofs.Members.{chain_done, chain_first, chain_first_stops, chain_here, chain_linked, chain_stops, first_loop, here_so, lhs_callee, link_less, next_loop, stands_so}
+use Rattle.js_core.proofs.Members.{chain_done, chain_first, chain_first_stops, chain_here, chain_linked, chain_stops, here_so, lhs_callee, link_less, next_loop, stands_so, start_loop}
 use Rattle.js_core.proofs.Nesting.{nests_later}
 use Rattle.js_core.proofs.left_hand_side.parse_optional_chain.Goals as goal
 
@@ -17,19 +17,19 @@ returns-in_err-left t c = λ text f o a e x n m.
     rw (p.1, p.2) (chain_first_stops a x (stands_so c.args.p.now QuestionDot c.if-not-stands.false c.stands.ensures) _ _ (c.in_err-left.ensures text f x.at))
 
 pub links-init : goal.links-init
-links-init t c = next_loop (first_loop c.requires.at c.requires.start tt) c.in_ok-left.ensures (λ text f o a e x. chain_first a x (stands_so c.args.p.now QuestionDot c.if-not-stands.false c.stands.ensures) e (c.in_ok-left.ensures text f x.at))
+links-init t c = next_loop (start_loop c.requires.at c.requires.start) c.in_ok-left.ensures (λ text f o a e x. chain_first a x (stands_so c.args.p.now QuestionDot c.if-not-stands.false c.stands.ensures) e (c.in_ok-left.ensures text f x.at))
 
-pub parse_link-in-links-requires-clause-at : goal.parse_link-in-links-requires-clause-at
-parse_link-in-links-requires-clause-at t c = c.links.invariant.at
+pub parse_link-requires-in-links-clause-at : goal.parse_link-requires-in-links-clause-at
+parse_link-requires-in-links-clause-at t c = c.links.invariant.at
 
-pub parse_link-in-links-requires-clause-nests : goal.parse_link-in-links-requires-clause-nests
-parse_link-in-links-requires-clause-nests t c = nests_later c.requires.nests c.links.invariant.later
+pub parse_link-requires-in-links-clause-nests : goal.parse_link-requires-in-links-clause-nests
+parse_link-requires-in-links-clause-nests t c = nests_later c.requires.nests c.links.invariant.later
 
-pub parse_link-in-links-requires-clause-start : goal.parse_link-in-links-requires-clause-start
-parse_link-in-links-requires-clause-start t c = c.links.invariant.before
+pub parse_link-requires-in-links-clause-start : goal.parse_link-requires-in-links-clause-start
+parse_link-requires-in-links-clause-start t c = c.links.invariant.before
 
-pub parse_link-in-links-requires-clause-link : goal.parse_link-in-links-requires-clause-link
-parse_link-in-links-requires-clause-link t c = (here_so c.links.p true c.links-test.true c.link_here.ensures)
+pub parse_link-requires-in-links-clause-link : goal.parse_link-requires-in-links-clause-link
+parse_link-requires-in-links-clause-link t c = (here_so c.links.p true c.links-test.true c.link_here.ensures)
 
 pub returns-in_err-left-2 : goal.returns-in_err-left-2
 returns-in_err-left-2 t c = λ text f o a e x n m.
