@@ -17,3 +17,6 @@ pub mod Contexts
 pub mod Conditionals
 pub mod Sequences
 pub mod Exponents
+pub mod Tame
+pub mod Bracketed
+pub mod Parentheses
