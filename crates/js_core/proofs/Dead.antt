@@ -48,7 +48,7 @@ abbrev pub AllRead : Lexemes → Type 0
 AllRead (last x) = IsTrue (is_read x)
 AllRead (next x ls) = IsTrue (is_read x) × AllRead ls
 
-all_read : (t : List ℕ) (s : ℕ) (ls : Lexemes) → Lexes (Lex t) s ls → AllRead ls
+pub all_read : (t : List ℕ) (s : ℕ) (ls : Lexemes) → Lexes (Lex t) s ls → AllRead ls
 all_read t s (last x) l = l.1
 all_read t s (next x ls) l = (l.0.1, all_read t x.to ls l.1)
 
@@ -96,7 +96,7 @@ dead_line : (n : Symbol) → dead_name n.name ≡ true → dead (rule n) ≡ tru
 unfolding rule
 dead_line n h = dead_at n.name n.flags h
 
-none : {g : G} {ks ts us : Slots} {i j : ℕ} {ls rest : Lexemes} → Takes rule g ks ts i ls us j rest → dead g ≡ true → AllRead ls → ⊥
+pub none : {g : G} {ks ts us : Slots} {i j : ℕ} {ls rest : Lexemes} → Takes rule g ks ts i ls us j rest → dead g ≡ true → AllRead ls → ⊥
 none is_nothing h c = false≢true h
 none (is_lexeme {p = p} {x = x} q) h c = unseen p x h q c.0
 none (is_look {p = p} {ls = ls} q) h c = unseen p (here ls) h q (read_here ls c)

@@ -19,7 +19,7 @@ use Rattle.js_core.specs.Answers.{Grown, Stops}
 use Rattle.js_core.proofs.Here.{escaped_here}
 use Rattle.js_core.proofs.Tight.{read_plain}
 
-kept_one : {d : Diagnostic} {p q : Parser} → Keeps d p q → Grown p.errors q.errors
+pub kept_one : {d : Diagnostic} {p q : Parser} → Keeps d p q → Grown p.errors q.errors
 kept_one {d} k = record { more = d ∷ []; kept = ap (λ (r : Parser). r.errors) k.is; some = λ e. cc }
 
 pub gives_up : (P : Diagnostic → Type 0) (p q : Parser) {F : Type 0} (e : Stop) → GivesUp P p q e → F → Stops p q e F

@@ -17,4 +17,9 @@ pub mod Beginning
 pub mod Contexts
 pub mod Conditionals
 pub mod Sequences
+pub mod Exponents
+pub mod Tame
+pub mod Bracketed
+pub mod Parentheses
 pub mod ArgumentLists
+pub mod Intrinsics

@@ -23,6 +23,10 @@ use Rattle.js_grammar.proofs.FirstClaims.{firsts}
 use Rattle.js_grammar.proofs.FirstRules.{by_first, fails_here}
 use Rattle.js_grammar.proofs.FollowLaws.{fails_by, surely}
 use Rattle.js_grammar.proofs.RightEdges.{may_end, same_row}
+use Rattle.js_base.specs.declared.diagnostic.DiagnosticKind.TheVariants as fault
+use Rattle.js_grammar.specs.Lexed.{all_faults}
+use Rattle.js_grammar.specs.Lexed.{Lex as StandsBehind}
+use Rattle.js_grammar.specs.Marks.{Mark, a_lexeme}
 use Rattle.js_lex.specs.Reading.{is_right_angle}
 use Rattle.js_tree.specs.declared.id.NodeId.{NodeId}
 use Rattle.js_tree.specs.declared.kind.NodeKind.TheVariants as node
@@ -33,8 +37,8 @@ use Rattle.js_tree.specs.Holding.{Holds, HoldsAll, Keeps}
 use Rattle.js_tree.proofs.HoldingLemmas.{HoldsAll-one, HoldsAll-next, Keeps-refl, Keeps-trans, Keeps-made}
 use Rattle.js_cursor.specs.Checkpoints.{Follows}
 use Rattle.js_cursor.specs.Parsers.{Parser}
-use Rattle.js_cursor.specs.Places.{IsAt}
-use Rattle.js_cursor.specs.Moves.{Enters, Leaves, OnlyMemory, is_last}
+use Rattle.js_cursor.specs.Places.{IsAt, goal}
+use Rattle.js_cursor.specs.Moves.{Enters, GivesUp, Leaves, OnlyMemory, is_last}
 use Rattle.js_cursor.specs.declared.stop.Stop.{Stop}
 use Rattle.js_cursor.specs.declared.stop.Stop.TheVariants.{Fatal, NoMemory}
 use Rattle.js_cursor.proofs.Later.{follows_on}
@@ -44,7 +48,7 @@ use Rattle.js_core.specs.Nesting.{room}
 use Rattle.js_core.proofs.Nesting.{nested_room, later_room}
 use Rattle.js_core.specs.Moves.{Moved, MadeHere, LeafTaken, TakesLeaf, IsWholeHere, plain_label}
 use Rattle.js_core.specs.Answers.{Grown, Verdict, clean, Stretch, Underived, Numbered, Outcome, Stops, beside}
-use Rattle.js_core.specs.Members.{StandsHere, Taken, Looped, NoBareNew, NoMember, Headed, a_member, a_new, MemberSoFar, NoDot, NoParen, NoLhs, HeadOutcome, without_arguments, link_kinds, chained, sign_of, link_label, NoLink, OnlyLink, Linked, LinkHere, a_link, no_link, ReadsLink, WithArguments, MakesWithArguments, LinkOutcome, Beyond, CallSoFar, ChainSoFar, Callee, a_head, a_call, CalleeOutcome}
+use Rattle.js_core.specs.Members.{StandsHere, Taken, Looped, NoBareNew, NoMember, Headed, a_member, a_new, MemberSoFar, NoDot, NoParen, NoLhs, HeadOutcome, without_arguments, link_kinds, chained, sign_of, link_label, NoLink, OnlyLink, Linked, LinkHere, a_link, no_link, ReadsLink, WithArguments, MakesWithArguments, LinkOutcome, Beyond, CallSoFar, ChainSoFar, Callee, a_head, a_call, CalleeOutcome, TellsChain}
 use Rattle.js_core.specs.Arguments.{Partway, Arguments}
 use Rattle.js_core.proofs.Here.{told, angled, begins_here, kind_here, escaped_here, uncut, found}
 use Rattle.js_core.proofs.Tight.{read_plain}
@@ -220,7 +224,7 @@ link_row : (c o : Bool) (from to : ℕ) (cs : Slots) → same_row after_expressi
 link_row true o from to cs = refl
 link_row false o from to cs = refl
 
-part_path : {text : List ℕ} {f : Flags} {g : G} {p q : Parser} {ids js : List (Option NodeId)} (x : Partway text f g nothing p q ids js) → Path text f (plain full) g p nothing q x.slots
+pub part_path : {text : List ℕ} {f : Flags} {g : G} {p q : Parser} {ids js : List (Option NodeId)} (x : Partway text f g nothing p q ids js) → Path text f (plain full) g p nothing q x.slots
 part_path x = record { at = x.at; further = x.further; pass = x.pass; walked = x.walked; verdict = x.verdict }
 
 pub link_taken : {text : List ℕ} {f : Flags} {C D : Label → Slots → (Lexemes → Lexemes) → ℕ → Type 0} {A : Type 0} {o p w : Parser} {left id : NodeId} {start : ℕ} (x : Taken text f o p left C A) → start ≡ o.token.span.start → (y : Linked text f start left p w id)
@@ -328,7 +332,7 @@ no_called : {text : List ℕ} (f : Flags) {s s' : ℕ} {l : Label} {cs : Slots} 
 no_called f (a_member m b) n = (member_then f m).goes ▹✗ n
 no_called f (a_new z s k) n = member_lacks f z
 
-no_arguments_here : {text : List ℕ} (f : Flags) {s : ℕ} → NoneIs text s LParen → Fails rule (Lex text) (plain full) end (args f) s
+pub no_arguments_here : {text : List ℕ} (f : Flags) {s : ℕ} → NoneIs text s LParen → Fails rule (Lex text) (plain full) end (args f) s
 no_arguments_here f n = fails_here firsts (λ y l h. n y l (sym (kind_of_same LParen y.kind (and_parts _ _ h).0)))
 
 module _ {text : List ℕ} {f : Flags} {p q : Parser} (a : At text f p) (k : p.token.kind ≡ New) (n : p.token.escaped ≡ false) (m : Moved text f p q) where
@@ -809,3 +813,20 @@ begun_at {k} {b} {left = left} {id} {p} {q} e y = subst (λ (v : ℕ). WithArgum
 
 pub taken_room : {text : List ℕ} {f : Flags} {C : Label → Slots → (Lexemes → Lexemes) → ℕ → Type 0} {A : Type 0} {o p : Parser} {id : NodeId} → At text f o → Taken text f o p id C A → room p ≤ room o
 taken_room a x = later_room (let j = x.further in let d = a.behind in omega arith) x.same
+
+-- what is told of a `?.` that can't stand behind `new`
+pub sign_marked : {text : List ℕ} {f : Flags} {p : Parser} (s : Span) → At text f p → StandsHere p QuestionDot true → s ≡ p.token.span → Mark (goal p) p.text (record { kind = fault.InvalidNewOptionalChain; span = s; first = None; second = None })
+sign_marked {text} {f} {p} s a h e =
+    let y = found a (uncut a (ap (same_kind RAngle) h.0)) (ap is_last h.0) in
+    let m : Mark (goal p) p.text (record { kind = fault.InvalidNewOptionalChain; span = p.token.span; first = None; second = None }) = record {
+      ordered = a.at.lies.ordered;
+      within = a.at.lies.ends_whole.0;
+      begins_between = a.at.lies.starts_whole;
+      ends_between = a.at.lies.ends_whole;
+      stands = (record { lexeme = y.0; of_text = a_lexeme a.at.reached (subst (λ (t : List ℕ). StandsBehind all_faults t p.prev_token_end y.0) (sym a.text_is) y.1); is = (sym y.2.start, sym y.2.end); passes = and_from (one_of_kinds (QuestionDot ∷ []) y.0.kind) (not y.0.escaped) (subst (λ (v : Kind). one_of_kinds (QuestionDot ∷ []) v ≡ true) (sym (sym y.2.kind ∙ h.0)) refl) (ap not (sym y.2.escaped ∙ h.1)) }, (refl, refl));
+    } in
+    subst (λ (v : Span). Mark (goal p) p.text (record { kind = fault.InvalidNewOptionalChain; span = v; first = None; second = None })) (sym e) m
+
+pub chain_told : (p q : Parser) (e : Stop) {s : Span} → s ≡ p.token.span → GivesUp (λ d. d ≡ record { kind = fault.InvalidNewOptionalChain; span = s; first = None; second = None }) p q e → GivesUp (TellsChain p.token.span) p q e
+chain_told p q Fatal e (d, h, k) = (d, (ap (λ (z : Diagnostic). z.kind) h, ap (λ (z : Diagnostic). z.span) h ∙ e), k)
+chain_told p q NoMemory e h = h

@@ -47,7 +47,7 @@ use Rattle.js_core.proofs.Paths.{reads, Path, ◌⟼◌, ◌⟶◌, ◌⟶✗◌
 use Rattle.js_core.specs.Answers.{clean}
 
 -- a claim on each unary operator
-of_unary : (P : Kind → Type 0) (k : Kind) → one_of_kinds unary_kinds k ≡ true → P Minus → P Plus → P Bang → P Tilde → P Typeof → P Void → P Delete → P k
+pub of_unary : (P : Kind → Type 0) (k : Kind) → one_of_kinds unary_kinds k ≡ true → P Minus → P Plus → P Bang → P Tilde → P Typeof → P Void → P Delete → P k
 of_unary P k h a b c d e f g = first_or P Minus k _ _ refl h a (λ h. first_or P Plus k _ _ refl h b (λ h. first_or P Bang k _ _ refl h c (λ h. first_or P Tilde k _ _ refl h d (λ h. first_or P Typeof k _ _ refl h e (λ h. first_or P Void k _ _ refl h f (λ h. first_or P Delete k _ _ refl h g (λ h. absurd (false≢true h))))))))
 
 abbrev names : Kind → UnaryOperator → Type 0
@@ -154,7 +154,7 @@ name_path text f p q a e n s = at_kind a Ident e refl ⟼ by_symbol_as {X' = pla
 abbrev no_function : Look
 no_function k w e = not (not w && (same_kind Function k && not e))
 
-behind_primary : (b : Bool) (l : Label) (cs : Slots) (text : List ℕ) (s : ℕ) (y : Lexeme) → Lex text s y → IsTrue (seen (follow_of Primary b (edge_of l cs)) y || seen beside y)
+pub behind_primary : (b : Bool) (l : Label) (cs : Slots) (text : List ℕ) (s : ℕ) (y : Lexeme) → Lex text s y → IsTrue (seen (follow_of Primary b (edge_of l cs)) y || seen beside y)
 unfolding covers
 behind_primary b l cs text s y h = or_left (seen no_function y) (seen beside y) (covered reads no_function refl y.kind y.newline y.escaped h.1)
 
@@ -211,6 +211,10 @@ listed (row ∷ rows) k = some_row (same_kind row.0 k) row.1 (row_in rows k) ∙
 
 pub unary_listed : {k l : Kind} {b c : Bool} → k ≡ l → b ≡ is_some (row_in unary_operators k) → b ≡ c → one_of_kinds unary_kinds l ≡ c
 unary_listed {k} {c = c} e h g = subst (λ (j : Kind). one_of_kinds unary_kinds j ≡ c) e (sym (listed unary_operators k) ∙ (sym h ∙ g))
+
+-- whether a token is of a kind of unary operators
+pub is_operator : {k l : Kind} {b : Bool} → k ≡ l → b ≡ is_some (row_in unary_operators k) → b ≡ one_of_kinds unary_kinds l
+is_operator {k} {l} {b} e h = h ∙ (listed unary_operators k ∙ ap (one_of_kinds unary_kinds) e)
 
 -- an operator that was passed, its operand, and the node
 pub unary_outcome : {text : List ℕ} {f : Flags} {p q v w : Parser} {id arg : NodeId} (o : UnaryOperator) (s : Span) → one_of_kinds unary_kinds p.token.kind ≡ true → row_in unary_operators p.token.kind ≡ Some o → At text f p → p.token.escaped ≡ false → (m : Moved text f p q) → Numbered text f (at Unary f) q v arg → s.start ≡ p.token.span.start → s.end ≡ v.prev_token_end → MadeHere (plain_label node.UnaryExpression (op.Unary o) s) (Some arg ∷ []) v w id → Numbered text f (at Unary f) p w id

@@ -11,10 +11,10 @@ use Rattle.js_grammar.specs.Insertion.{Row, edge_is_last}
 use Rattle.js_grammar.specs.Parsing.{Test, Goes, always, passing}
 use Rattle.js_grammar.specs.Productions.{G, Flags, Symbol, at, tok, Exponent}
 use Rattle.js_grammar.specs.Table.{rule}
-use Rattle.js_grammar.specs.Levels.{level_at, node_at, operators_at}
+use Rattle.js_grammar.specs.Levels.{level_at, node_at, operators_at, operators_of}
 use Rattle.js_grammar.specs.Follow.{row_of, tight, looser, after}
 use Rattle.js_grammar.proofs.Calculus.{◌▹◌, ◌▹✗◌}
-use Rattle.js_grammar.proofs.Towers.{OneOf, linked_label}
+use Rattle.js_grammar.proofs.Towers.{OneOf, head, later, linked_label}
 use Rattle.js_grammar.proofs.Loops.{Around}
 use Rattle.js_grammar.proofs.Operators.{levels, operates}
 use Rattle.js_grammar.proofs.OperatorEdges.{level_looser, operator_exactly, operator_level}
@@ -62,6 +62,7 @@ pub record Operand (text : List ℕ) (f : Flags) (m : ℕ) (p q : Parser) (id : 
   pub low : cap ≤ 10
   pub verdict : Verdict p.errors q.errors (Ring text f m p.prev_token_end p.token.span.start cap label slots q.prev_token_end pass) (Underived text (level_at f m) p.prev_token_end)
   pub stops : (y : Lexeme) → Lex text q.prev_token_end y → IsTrue (seen (looser (cap + 6) f.in_ (row_of label slots)) y || seen beside y)
+  pub loose : (y : Lexeme) → Lex text q.prev_token_end y → IsTrue (seen (looser 15 f.in_ (row_of label slots)) y || seen beside y)
   pub holds : Holds q.nodes (length p.nodes) (length q.nodes) id.0 label slots
   pub keeps : Keeps p.nodes q.nodes
 
@@ -82,6 +83,24 @@ level_rows f (suc (suc (suc (suc (suc (suc (suc zero))))))) r = refl
 level_rows f (suc (suc (suc (suc (suc (suc (suc (suc zero)))))))) r = refl
 level_rows f (suc (suc (suc (suc (suc (suc (suc (suc (suc zero))))))))) r = refl
 level_rows f (suc (suc (suc (suc (suc (suc (suc (suc (suc (suc n)))))))))) r = refl
+
+-- the levels that have operators
+none_listed : {k : Kind} {ks : List Kind} → OneOf k ks → ks ≡ [] → ⊥
+none_listed head e = cc
+none_listed (later i) e = cc
+
+listed_low : (b : Bool) (q : ℕ) {k : Kind} → OneOf k (operators_of b q) → q ≤ 9
+listed_low b zero i = omega arith
+listed_low b (suc zero) i = omega arith
+listed_low b (suc (suc zero)) i = omega arith
+listed_low b (suc (suc (suc zero))) i = omega arith
+listed_low b (suc (suc (suc (suc zero)))) i = omega arith
+listed_low b (suc (suc (suc (suc (suc zero))))) i = omega arith
+listed_low b (suc (suc (suc (suc (suc (suc zero)))))) i = omega arith
+listed_low b (suc (suc (suc (suc (suc (suc (suc zero))))))) i = omega arith
+listed_low b (suc (suc (suc (suc (suc (suc (suc (suc zero)))))))) i = omega arith
+listed_low b (suc (suc (suc (suc (suc (suc (suc (suc (suc zero))))))))) i = omega arith
+listed_low b (suc (suc (suc (suc (suc (suc (suc (suc (suc (suc n)))))))))) i = absurd (none_listed i refl)
 
 -- the right edge of an operation is its right operand's
 edge_last : (q : ℕ) → edge_is_last (node_at q) ≡ true
@@ -119,6 +138,7 @@ module _ {text : List ℕ} {f : Flags} where
     low = omega arith;
     verdict = verdict_of x.answer.verdict (λ y. record { reach = y.reach; near = y.near; around = loop_start f h no_hash y.goes (begins_here a) }) (λ n. fails_at_level m h n);
     stops = λ y l. wider y (x.answer.stops y l);
+    loose = λ y l. x.answer.stops y l;
     holds = x.holds;
     keeps = x.keeps;
   }
@@ -281,6 +301,7 @@ module _ {text : List ℕ} {f : Flags} where
           low = let h = it.top in omega arith;
           verdict = and_then s.verdict (behind_none (d.kept ∙ o.kept) x.answer.verdict) (λ u y. ring_step y u) (λ z. z) (λ u z. ring_fails u z);
           stops = step_stops;
+          loose = λ y l. looser_or (it.level + 6) 15 (tight f.in_ (row_of (link_label v.prev_token_end) (tree s.label s.slots (tree x.answer.label x.answer.slots end))) y.kind y.newline y.escaped) (seen beside y) (let h = it.top in omega arith) (step_stops y l);
           holds = two_held n s.holds s.keeps (subst (λ (ns : List Node). Holds v.nodes (length ns) (length v.nodes) right.0 x.answer.label x.answer.slots) (d.nodes ∙ o.nodes) x.holds) (subst (λ (ns : List Node). Keeps ns v.nodes) (d.nodes ∙ o.nodes) x.keeps);
           keeps = Keeps-trans s.keeps (Keeps-trans (subst (λ (ns : List Node). Keeps ns v.nodes) (d.nodes ∙ o.nodes) x.keeps) (Keeps-made n.made));
         })
@@ -295,10 +316,7 @@ module _ {text : List ℕ} {f : Flags} where
         let k : power_of f.in_ t.token.kind ≡ power_of f.in_ y.kind = ap (power_of f.in_) z.kind in omega arith
 
     no_operator : (q' : ℕ) → m ≤ q' → q' ≤ s.cap → (y : Lexeme) → Lex text q.prev_token_end y → OneOf y.kind (operators_at f q') → ⊥
-    no_operator q' a b y l i = let h = operator_level f q' i in let k = power_listed f.in_ y l.1 (omega arith) in let w = weak y l in absurd (omega arith)
-
-    no_link : (y : Lexeme) → Lex text q.prev_token_end y → IsTrue (seen (looser 16 f.in_ (row_of s.label s.slots)) y || seen beside y)
-    no_link y l = looser_or (s.cap + 6) 16 (tight f.in_ (row_of s.label s.slots) y.kind y.newline y.escaped) (seen beside y) (let h = s.low in omega arith) (s.stops y l)
+    no_operator q' a b y l i = let h = operator_level f q' i in let o = listed_low f.in_ q' i in let k = power_listed f.in_ y l.1 (omega arith) (omega arith) in let w = weak y l in absurd (omega arith)
 
     pub operands_answer : m ≤ 10 → Numbered text f (level_at f m) p t id
     operands_answer h = record {
@@ -308,7 +326,7 @@ module _ {text : List ℕ} {f : Flags} where
         further = let a = s.further in let b = o.place in omega arith;
         label = s.label;
         slots = s.slots;
-        stops = λ y l. let k = subst (λ (v : ℕ). Lex text v y) o.place l in subst (λ b. (b || seen beside y) ≡ true) (sym (level_looser f m (tree s.label s.slots end) y h)) (stops_by_power (m + 5) f.in_ (row_of s.label s.slots) s.row y l.1 (no_link y k) (weak y k) (omega arith));
+        stops = λ y l. let k = subst (λ (v : ℕ). Lex text v y) o.place l in subst (λ b. (b || seen beside y) ≡ true) (sym (level_looser f m (tree s.label s.slots end) y h)) (stops_by_power (m + 5) f.in_ (row_of s.label s.slots) s.row y l.1 (s.loose y k) (weak y k) (omega arith));
         row = level_rows f m _ ∙ s.row;
         pass = s.pass;
         walked = walked_to (sym o.place) s.walked;

@@ -126,15 +126,11 @@ pub assignment_left : (f : Flags) → live (rule (at Assignment f)) ≡ such (at
 unfolding rule rule_of apart
 assignment_left f = refl
 
-exponent_left : (f : Flags) → live (rule (at Exponent f)) ≡ such (at Unary f) always
-unfolding rule rule_of apart
-exponent_left f = refl
-
 update_left : (f : Flags) → live (rule (at Update f)) ≡ such (at LeftHandSide f) always
 unfolding rule rule_of apart
 update_left f = refl
 
-abbrev unary_part : Flags → G
+abbrev pub unary_part : Flags → G
 unary_part f = branches (Minus ∷ Plus ∷ Bang ∷ Tilde ∷ Typeof ∷ Void ∷ Delete ∷ []) (λ o. op unary_expression o (tok o ▸ symbol Unary f))
 
 unary_left : (f : Flags) → live (rule (at Unary f)) ≡ alt (such (at Update f) always) (unary_part f)
@@ -148,12 +144,6 @@ pub short_result : (text : List ℕ) (f : Flags) (p q : Parser) (r : Result Node
 unfolding covers
 short_result text f p q r x = lift_result (at Short f) (at Or f) refl refl text f p q r (by_left (at Short f) (at Or f) (short_left f) text p.prev_token_end) (λ i y. y.answer.row)
     (λ i y z l. narrows 5 4 [] f.in_ (row_of y.answer.label y.answer.slots) (narrow_operand 5 4 [] refl refl refl refl f.in_ (row_of y.answer.label y.answer.slots) y.answer.row) z l.1 refl (y.answer.stops z l)) x
-
--- an operand of operators, which is a UnaryExpression
-pub operand_result : (text : List ℕ) (f : Flags) (p q : Parser) (r : Result NodeId Stop) → Outcome text f (at Unary f) p q r → Outcome text f (at Exponent f) p q r
-unfolding covers
-operand_result text f p q r x = lift_result (at Exponent f) (at Unary f) refl refl text f p q r (by_left (at Exponent f) (at Unary f) (exponent_left f) text p.prev_token_end) (λ i y. y.answer.row)
-    (λ i y z l. narrows 16 15 [] f.in_ (row_of y.answer.label y.answer.slots) (narrow_operand 16 15 [] refl refl refl refl f.in_ (row_of y.answer.label y.answer.slots) y.answer.row) z l.1 refl (y.answer.stops z l)) x
 
 -- where no unary operator stands
 no_operator : {text : List ℕ} {f : Flags} {p : Parser} → At text f p → one_of_kinds unary_kinds p.token.kind ≡ false → Goes rule (Lex text) (after (at Unary f)) end (rule (at Unary f)) p.prev_token_end (such (at Update f) always) p.prev_token_end (λ us. us) (still 0)

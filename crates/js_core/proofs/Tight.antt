@@ -33,7 +33,7 @@ narrows n m ks b r c y h o x = narrowed (seen (looser n b r) y) (seen (looser m 
 
 -- What is no link binds by its power as an operator between two operands, or hardly at all.
 abbrev by_power : Bool → Row → Look
-by_power b r k w e = not (nat_lt (tight b r k w e) 16) || (not (nat_lt (power_of b k) (tight b r k w e)) || (nat_lt (tight b r k w e) 5 || beside k w e))
+by_power b r k w e = not (nat_lt (tight b r k w e) 15) || (not (nat_lt (power_of b k) (tight b r k w e)) || (nat_lt (tight b r k w e) 5 || beside k w e))
 
 by_power_at : (b : Bool) (r : Row) → of_operand r ≡ true → covers reads (by_power b r) ≡ true
 unfolding covers
@@ -46,10 +46,10 @@ by_power_at b after_yield h = absurd (false≢true h)
 by_power_at b after_declarator h = absurd (false≢true h)
 by_power_at b after_word h = absurd (false≢true h)
 
-less_or : (t p n : ℕ) (c d : Bool) → nat_lt t 5 ≡ d → (not (nat_lt t 16) || (not (nat_lt p t) || (d || c))) ≡ true → (nat_lt t 16 || c) ≡ true → p < n → 5 ≤ n → (nat_lt t n || c) ≡ true
+less_or : (t p n : ℕ) (c d : Bool) → nat_lt t 5 ≡ d → (not (nat_lt t 15) || (not (nat_lt p t) || (d || c))) ≡ true → (nat_lt t 15 || c) ≡ true → p < n → 5 ≤ n → (nat_lt t n || c) ≡ true
 less_or t p n true d q h x l k = or_right (nat_lt t n) true refl
 less_or t p n false true q h x l k = or_left (nat_lt t n) false (lt-ltb t n (let i = ltb-true t 5 q in omega arith))
-less_or t p n false false q h x l k = go (nat_lt t 16) (nat_lt p t) refl h x
+less_or t p n false false q h x l k = go (nat_lt t 15) (nat_lt p t) refl h x
   where
     go : (a b : Bool) → nat_lt p t ≡ b → (not a || (not b || false)) ≡ true → (a || false) ≡ true → (nat_lt t n || false) ≡ true
     go true true e h x = absurd (false≢true h)
@@ -57,7 +57,7 @@ less_or t p n false false q h x l k = go (nat_lt t 16) (nat_lt p t) refl h x
     go false b e h x = absurd (false≢true x)
 
 -- what is no link, and binds by less than n as an operator, stands behind an operand of that level
-pub stops_by_power : (n : ℕ) (b : Bool) (r : Row) → of_operand r ≡ true → (y : Lexeme) → IsTrue (is_read y) → IsTrue (seen (looser 16 b r) y || seen beside y) → power_of b y.kind < n → 5 ≤ n → IsTrue (seen (looser n b r) y || seen beside y)
+pub stops_by_power : (n : ℕ) (b : Bool) (r : Row) → of_operand r ≡ true → (y : Lexeme) → IsTrue (is_read y) → IsTrue (seen (looser 15 b r) y || seen beside y) → power_of b y.kind < n → 5 ≤ n → IsTrue (seen (looser n b r) y || seen beside y)
 stops_by_power n b r o y h x l k = less_or (tight b r y.kind y.newline y.escaped) (power_of b y.kind) n (beside y.kind y.newline y.escaped) (nat_lt (tight b r y.kind y.newline y.escaped) 5) refl (covered reads (by_power b r) (by_power_at b r o) y.kind y.newline y.escaped h) x l k
 
 -- The level of an operator.
@@ -120,21 +120,22 @@ binds_at false = refl
 pub operator_read : (b : Bool) (k : Kind) (w : Bool) → 1 ≤ power_of b k → (one_of_kinds read_kinds k ≡ true) × (not (beside k w false) ≡ true)
 operator_read b k w h = and_parts _ _ (covered (binds b) is_operator (binds_at b) k w false (and_from _ _ (lt-ltb 0 (power_of b k) (omega arith)) refl))
 
--- of what is read, only operators of a level bind, or what binds less than all of them
+-- of what is read, only operators of a level bind, or what binds less or more than all of them
 abbrev as_listed : Bool → Look
-as_listed b k w e = nat_lt (binding b k) 5 || nat_eq (binding b k) (power_of b k)
+as_listed b k w e = nat_lt (binding b k) 5 || (nat_lt 14 (binding b k) || nat_eq (binding b k) (power_of b k))
 
 listed_at : (b : Bool) → covers reads (as_listed b) ≡ true
 unfolding covers
 listed_at true = refl
 listed_at false = refl
 
-pub power_listed : (b : Bool) (y : Lexeme) → IsTrue (is_read y) → 5 ≤ binding b y.kind → binding b y.kind ≡ power_of b y.kind
-power_listed b y h l = go (nat_lt (binding b y.kind) 5) refl (covered reads (as_listed b) (listed_at b) y.kind y.newline y.escaped h)
+pub power_listed : (b : Bool) (y : Lexeme) → IsTrue (is_read y) → 5 ≤ binding b y.kind → binding b y.kind ≤ 14 → binding b y.kind ≡ power_of b y.kind
+power_listed b y h l m = go (nat_lt (binding b y.kind) 5) (nat_lt 14 (binding b y.kind)) refl refl (covered reads (as_listed b) (listed_at b) y.kind y.newline y.escaped h)
   where
-    go : (c : Bool) → nat_lt (binding b y.kind) 5 ≡ c → (c || nat_eq (binding b y.kind) (power_of b y.kind)) ≡ true → binding b y.kind ≡ power_of b y.kind
-    go true e x = absurd (let i = ltb-true (binding b y.kind) 5 e in omega arith)
-    go false e x = eqb-true (binding b y.kind) (power_of b y.kind) x
+    go : (c d : Bool) → nat_lt (binding b y.kind) 5 ≡ c → nat_lt 14 (binding b y.kind) ≡ d → (c || (d || nat_eq (binding b y.kind) (power_of b y.kind))) ≡ true → binding b y.kind ≡ power_of b y.kind
+    go true d e g x = absurd (let i = ltb-true (binding b y.kind) 5 e in omega arith)
+    go false true e g x = absurd (let i = ltb-true 14 (binding b y.kind) g in omega arith)
+    go false false e g x = eqb-true (binding b y.kind) (power_of b y.kind) x
 
 -- what is an operator where `in` is none is one where it is
 abbrev binds_anywhere : Look

@@ -6,4 +6,5 @@ pub mod Operators
 pub mod Moves
 pub mod Members
 pub mod Rests
+pub mod Exponents
 pub mod Arguments

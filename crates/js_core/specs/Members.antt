@@ -1,5 +1,8 @@
 -- What the parse functions of members, `new` and optional chains answer (ECMA-262, 13.3): how much was taken, and which nonterminals that is.
-use Rattle.std.specs.Prelude.{ℕ, ◌≡◌, ◌<◌, ◌≤◌, ◌⊎◌, Bool, true, false, cond, List, [], ◌∷◌, Option, Some, length, Result, Ok, Err}
+use Rattle.std.specs.Prelude.{ℕ, ◌≡◌, ◌<◌, ◌≤◌, ◌⊎◌, Bool, true, false, cond, List, [], ◌∷◌, Option, Some, None, length, Result, Ok, Err}
+use Rattle.js_base.specs.declared.diagnostic.Diagnostic.{Diagnostic}
+use Rattle.js_base.specs.declared.diagnostic.DiagnosticKind.TheVariants.{InvalidNewOptionalChain}
+use Rattle.js_base.specs.declared.span.Span.{Span}
 use Rattle.js_base.specs.declared.kind.Kind.{Kind}
 use Rattle.js_base.specs.declared.kind.Kind.TheVariants.{New, Dot, QuestionDot, LParen}
 use Rattle.js_base.specs.Kinds.{one_of_kinds}
@@ -31,6 +34,10 @@ use Rattle.js_core.specs.Answers.{Verdict, Stretch, Underived, Numbered, Outcome
 abbrev pub StandsHere : Parser → Kind → Bool → Type 0
 StandsHere p k true = (p.token.kind ≡ k) × (p.token.escaped ≡ false)
 StandsHere p k false = p.token.kind ≡ k → p.token.escaped ≡ false → ⊥
+
+-- what is told of a `?.` behind what `new` stands before
+abbrev pub TellsChain : Span → Diagnostic → Type 0
+TellsChain s d = (d.kind ≡ InvalidNewOptionalChain) × (d.span ≡ s)
 
 -- A node was made for what stands between two states: of its tree, the lexemes passed and the place behind them Clean holds; or nothing is derived, and Unclean says of what.
 pub record Taken (text : List ℕ) (f : Flags) (p q : Parser) (id : NodeId) (Clean : Label → Slots → (Lexemes → Lexemes) → ℕ → Type 0) (Unclean : Type 0) : Type 0 where

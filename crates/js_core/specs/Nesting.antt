@@ -1,7 +1,7 @@
 -- What may be read where a production nests: by a function that is called with less of the text left.
 use Rattle.std.specs.Prelude.{ℕ, ◌+◌, ◌-◌, ◌<◌, ◌≡◌, List, length, Result}
 use denote.Ref.{MutBor}
-use Rattle.js_grammar.specs.Productions.{Flags, Symbol, at, Assignment, Unary}
+use Rattle.js_grammar.specs.Productions.{Flags, Symbol, at, Assignment, Exponent, Expression, Unary}
 use Rattle.js_tree.specs.declared.id.NodeId.{NodeId}
 use Rattle.js_cursor.specs.Parsers.{Parser}
 use Rattle.js_cursor.specs.declared.stop.Stop.{Stop}
@@ -11,8 +11,10 @@ use Rattle.js_core.specs.Answers.{Answers}
 use Rattle.js_core.specs.States.{Standing}
 
 abbrev pub symbol_of : Goal → Flags → Symbol
+symbol_of goal.Expression f = at Expression f
 symbol_of goal.Assignment f = at Assignment f
 symbol_of goal.Unary f = at Unary f
+symbol_of goal.Exponentiation f = at Exponent f
 
 -- how much of the text is left
 abbrev pub room : Parser → ℕ

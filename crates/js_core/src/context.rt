@@ -7,7 +7,6 @@ ghost use Rattle.js_core.specs.Nesting.{CanNest, room};
 ghost use Rattle.js_core.specs.States.{Standing};
 
 use crate::nested::Nested;
-use crate::sequence::parse_sequence_expression;
 use js_base::Context;
 use js_cursor::{ParserImpl, Stop};
 use js_lex::ParserConfig;
@@ -43,18 +42,18 @@ pub fn assignment_with_in<C: ParserConfig, N: Nested<C>>(
     Ok(assignment)
 }
 
-/// An Expression under In.
+/// An Expression under In, one level deeper.
 pub fn expression_with_in<C: ParserConfig, N: Nested<C>>(
     p: &mut ParserImpl<'_, C>,
     nested: &N,
 ) -> Result<NodeId, Stop>
     requires at { Standing p.old }
-    requires nests { CanNest (N.can nested.now) (room p.old) }
+    requires nests { CanNest (N.can nested.now) (room p.old + 1) }
     ensures { Answers (λ f. at Expression (plus_in f)) p.old p.new result }
 {
     let outer = context(p);
     set_context(p, outer.and_in(true));
-    let expression = parse_sequence_expression(p, nested)?;
+    let expression = nested.expression(p)?;
     set_context(p, outer);
     Ok(expression)
 }

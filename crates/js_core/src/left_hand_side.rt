@@ -2,10 +2,11 @@
 
 ghost use Rattle.std.specs.Prelude.{◌≡◌, ◌≤◌, ◌∷◌, [], Some, IfOk, cond, true, false};
 ghost use Rattle.js_base.specs.declared.kind.Kind.TheVariants.{Dot, LParen, QuestionDot};
+ghost use Rattle.js_cursor.specs.Moves.{GivesUp};
 ghost use Rattle.js_grammar.specs.Productions.{at, optional_flag, IdentifierName, LeftHandSide};
 ghost use Rattle.js_tree.specs.Labels.{number_of};
 ghost use Rattle.js_core.specs.Answers.{Answers};
-ghost use Rattle.js_core.specs.Members.{CallsMember, ChainsCallee, GoesOnMember, Heads, LinkHere, MakesWithArguments, ReadsLink, StandsHere, arguments_label, link_label};
+ghost use Rattle.js_core.specs.Members.{CallsMember, ChainsCallee, GoesOnMember, Heads, LinkHere, MakesWithArguments, ReadsLink, StandsHere, TellsChain, arguments_label, link_label};
 ghost use Rattle.js_core.specs.Moves.{MadeHere};
 ghost use Rattle.js_core.specs.Nesting.{CanNest, room};
 ghost use Rattle.js_core.specs.States.{Standing};
@@ -15,7 +16,7 @@ use crate::lexemes::{advance, is_read_word, stands};
 use crate::nested::Nested;
 use crate::nodes::make_one;
 use crate::primary::{parse_leaf, parse_primary_expression};
-use js_base::{Kind, NoMemory};
+use js_base::{Diagnostic, DiagnosticKind, Kind, NoMemory};
 use js_cursor::{ParserImpl, Stop};
 use js_lex::ParserConfig;
 use js_tree::{NodeFlags, NodeId, NodeKind, Op};
@@ -51,7 +52,7 @@ fn parse_member_expression_or_higher<C: ParserConfig, N: Nested<C>>(
         let callee = parse_member_expression_or_higher(p, nested)?;
         p.leave();
         if stands(p, Kind::QuestionDot) {
-            return Err(p.set_unexpected());
+            return Err(refuse_chain(p));
         }
         if stands(p, Kind::LParen) {
             let kind = NodeKind::NewExpression;
@@ -64,6 +65,20 @@ fn parse_member_expression_or_higher<C: ParserConfig, N: Nested<C>>(
     }
     let primary = parse_primary_expression(p, nested)?;
     parse_member_expression_rest(p, nested, start, primary)
+}
+
+/// Gives up at a `?.` behind what `new` stands before.
+fn refuse_chain<C: ParserConfig>(p: &mut ParserImpl<'_, C>) -> Stop
+    requires at { Standing p.old }
+    requires sign { StandsHere p.old QuestionDot true }
+    ensures { GivesUp (TellsChain p.old.token.span) p.old p.new result }
+{
+    p.set_fatal_error(Diagnostic {
+        kind: DiagnosticKind::InvalidNewOptionalChain,
+        span: p.cur_token().span(),
+        first: None,
+        second: None,
+    })
 }
 
 /// The names behind a member.
@@ -209,7 +224,7 @@ fn parse_named_link<C: ParserConfig>(
 }
 
 /// Arguments, and the node of these and the callee before them.
-fn parse_with_arguments<C: ParserConfig, N: Nested<C>>(
+pub fn parse_with_arguments<C: ParserConfig, N: Nested<C>>(
     p: &mut ParserImpl<'_, C>,
     nested: &N,
     start: u32,
@@ -231,7 +246,7 @@ fn parse_with_arguments<C: ParserConfig, N: Nested<C>>(
 }
 
 /// An IdentifierName (ECMA-262, section 12.7).
-fn parse_identifier_name<C: ParserConfig>(p: &mut ParserImpl<'_, C>) -> Result<NodeId, Stop>
+pub fn parse_identifier_name<C: ParserConfig>(p: &mut ParserImpl<'_, C>) -> Result<NodeId, Stop>
     requires { Standing p.old }
     ensures { Answers (at IdentifierName) p.old p.new result }
 {

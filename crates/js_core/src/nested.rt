@@ -1,7 +1,7 @@
 //! What parse functions call where a production nests.
 
 ghost use Rattle.std.specs.Prelude.{◌≡◌};
-ghost use Rattle.js_grammar.specs.Productions.{at, Assignment, Unary};
+ghost use Rattle.js_grammar.specs.Productions.{at, Assignment, Exponent, Expression, Unary};
 ghost use Rattle.js_core.specs.Answers.{Answers};
 ghost use Rattle.js_core.specs.Nesting.{Reads};
 
@@ -12,10 +12,14 @@ use js_tree::NodeId;
 /// What is to be read where a production nests.
 #[derive(Clone, Copy)]
 pub enum Goal {
+    /// An Expression.
+    Expression,
     /// An AssignmentExpression.
     Assignment,
     /// A UnaryExpression.
     Unary,
+    /// An ExponentiationExpression.
+    Exponentiation,
 }
 
 /// What may be read one level deeper, once a lexeme was passed. So each parse function is proved alone, and one alone
@@ -26,6 +30,11 @@ pub trait Nested<C: ParserConfig> {
 
     ghost can: { Self → Parser → Goal → Type 0 };
 
+    /// An Expression (ECMA-262, section 13.16).
+    fn expression(&self, p: &mut ParserImpl<'_, C>) -> Result<NodeId, Stop>
+        requires { can self.now p.old Goal.Expression }
+        ensures { Answers (at Expression) p.old p.new result };
+
     /// An AssignmentExpression (ECMA-262, section 13.15).
     fn assignment(&self, p: &mut ParserImpl<'_, C>) -> Result<NodeId, Stop>
         requires { can self.now p.old Goal.Assignment }
@@ -35,6 +44,11 @@ pub trait Nested<C: ParserConfig> {
     fn unary(&self, p: &mut ParserImpl<'_, C>) -> Result<NodeId, Stop>
         requires { can self.now p.old Goal.Unary }
         ensures { Answers (at Unary) p.old p.new result };
+
+    /// An ExponentiationExpression (ECMA-262, section 13.6).
+    fn exponentiation(&self, p: &mut ParserImpl<'_, C>) -> Result<NodeId, Stop>
+        requires { can self.now p.old Goal.Exponentiation }
+        ensures { Answers (at Exponent) p.old p.new result };
 }
 
 /// A function that reads whatever is asked for. It is one over the config that is told when the program runs: a bound on
@@ -48,6 +62,11 @@ impl<F: Fn(&mut ParserImpl<'_, RuntimeParserConfig>, Goal) -> Result<NodeId, Sto
     ghost can = { λ s p goal. Reads (F.pre s.0) (F.post s.0) p goal };
 
     #[inline(always)]
+    fn expression(&self, p: &mut ParserImpl<'_, RuntimeParserConfig>) -> Result<NodeId, Stop> {
+        (self.0)(p, Goal::Expression)
+    }
+
+    #[inline(always)]
     fn assignment(&self, p: &mut ParserImpl<'_, RuntimeParserConfig>) -> Result<NodeId, Stop> {
         (self.0)(p, Goal::Assignment)
     }
@@ -55,5 +74,10 @@ impl<F: Fn(&mut ParserImpl<'_, RuntimeParserConfig>, Goal) -> Result<NodeId, Sto
     #[inline(always)]
     fn unary(&self, p: &mut ParserImpl<'_, RuntimeParserConfig>) -> Result<NodeId, Stop> {
         (self.0)(p, Goal::Unary)
+    }
+
+    #[inline(always)]
+    fn exponentiation(&self, p: &mut ParserImpl<'_, RuntimeParserConfig>) -> Result<NodeId, Stop> {
+        (self.0)(p, Goal::Exponentiation)
     }
 }

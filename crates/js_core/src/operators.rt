@@ -1,8 +1,11 @@
 //! Operators between two operands (ECMA-262, sections 13.6 to 13.13).
 
-ghost use Rattle.std.specs.Prelude.{◌≡◌, ◌≤◌, ◌-◌, ◌∷◌, [], true, Some, IfOk};
+ghost use Rattle.std.specs.Prelude.{◌≡◌, ◌≤◌, ◌-◌, ◌∷◌, [], length, true, Some, IfOk};
 ghost use Rattle.js_grammar.specs.Levels.{level_at};
-ghost use Rattle.js_grammar.specs.Productions.{at, Short};
+ghost use Rattle.js_grammar.specs.Marks.{Mark};
+ghost use Rattle.js_cursor.specs.Places.{IsAt, goal};
+ghost use Rattle.js_core.specs.Exponents.{ChecksBase, unary_base};
+ghost use Rattle.js_grammar.specs.Productions.{at, Exponent, Short};
 ghost use Rattle.js_core.specs.Answers.{Answers};
 ghost use Rattle.js_core.specs.Moves.{MadeHere, operation_label};
 ghost use Rattle.js_core.specs.Nesting.{CanNest, room};
@@ -13,7 +16,10 @@ use crate::lexemes::{advance, operator_here};
 use crate::nested::Nested;
 use crate::nodes::make_two;
 use crate::unary::parse_unary_expression_or_higher;
-use js_base::{Kind, NoMemory, map_binary_operator, map_logical_operator};
+use js_base::{
+    BinaryOperator, Diagnostic, DiagnosticKind, Kind, NoMemory, map_binary_operator,
+    map_logical_operator,
+};
 use js_cursor::{ParserImpl, Stop};
 use js_lex::ParserConfig;
 use js_tree::{NodeId, NodeKind, Op};
@@ -44,7 +50,7 @@ fn parse_operators<C: ParserConfig, N: Nested<C>>(
     ensures { Answers (λ f. level_at f (least - 5)) p.old p.new result }
 {
     let start = p.cur_start();
-    let mut left = parse_unary_expression_or_higher(p, nested)?;
+    let mut left = parse_exponentiation_expression(p, nested)?;
     'operators: loop {
         let power = operator_here(p)?;
         if power < least {
@@ -56,6 +62,63 @@ fn parse_operators<C: ParserConfig, N: Nested<C>>(
         left = make_operation(p, start, operator, left, right)?;
     }
     Ok(left)
+}
+
+/// An ExponentiationExpression (ECMA-262, section 13.6), which groups to the right. Its left operand is an
+/// UpdateExpression: an operator before it is told, and reading goes on.
+pub fn parse_exponentiation_expression<C: ParserConfig, N: Nested<C>>(
+    p: &mut ParserImpl<'_, C>,
+    nested: &N,
+) -> Result<NodeId, Stop>
+    requires at { Standing p.old }
+    requires nests { CanNest (N.can nested.now) (room p.old) }
+    ensures { Answers (at Exponent) p.old p.new result }
+{
+    let start = p.cur_start();
+    let is_unary = p.cur_kind().is_unary_operator();
+    let found = found_so_far(p);
+    let base = parse_unary_expression_or_higher(p, nested)?;
+    if !p.at(Kind::Star2) {
+        return Ok(base);
+    }
+    check_base(p, start, is_unary, found)?;
+    advance(p)?;
+    let exponent = nested.exponentiation(p)?;
+    let span = p.end_span(start);
+    let op = Op::Binary(BinaryOperator::Exponential);
+    let node = make_two(p, NodeKind::BinaryExpression, op, span, base, exponent)?;
+    Ok(node)
+}
+
+/// How many diagnostics were kept so far.
+fn found_so_far<C: ParserConfig>(p: &ParserImpl<'_, C>) -> usize
+    ensures { result ≡ length p.now.errors }
+{
+    p.errors.len()
+}
+
+/// Tells of a base before `**` that begins with a unary operator, unless something was found in it: then it is no
+/// expression.
+fn check_base<C: ParserConfig>(
+    p: &mut ParserImpl<'_, C>,
+    start: u32,
+    is_unary: bool,
+    found: usize,
+) -> Result<(), NoMemory>
+    requires at { IsAt p.old }
+    requires start { start ≤ p.old.prev_token_end }
+    requires mark { is_unary ≡ true → found ≡ length p.old.errors → Mark (goal p.old) p.old.text (unary_base start p.old.prev_token_end) }
+    ensures { IfOk result (λ _. ChecksBase start is_unary found p.old p.new) }
+{
+    if is_unary && found_so_far(p) == found {
+        p.error(Diagnostic {
+            kind: DiagnosticKind::UnaryExponentiationLeftOperand,
+            span: p.end_span(start),
+            first: None,
+            second: None,
+        })?;
+    }
+    Ok(())
 }
 
 /// The node of two operands and the operator between them.

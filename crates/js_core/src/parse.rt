@@ -8,6 +8,7 @@ ghost use Rattle.js_core.specs.States.{Standing};
 
 use crate::assignment::parse_assignment_expression;
 use crate::nested::{By, Goal, Nested};
+use crate::operators::parse_exponentiation_expression;
 use crate::sequence::parse_sequence_expression;
 use crate::unary::parse_unary_expression_or_higher;
 use js_cursor::{ParserImpl, Stop};
@@ -28,8 +29,10 @@ pub(crate) fn parse_goal<C: ParserConfig, N: Nested<C>>(
     ensures { Answers (symbol_of goal) p.old p.new result }
 {
     match goal {
+        Goal::Expression => parse_sequence_expression(p, nested),
         Goal::Assignment => parse_assignment_expression(p, nested),
         Goal::Unary => parse_unary_expression_or_higher(p, nested),
+        Goal::Exponentiation => parse_exponentiation_expression(p, nested),
     }
 }
 
@@ -57,5 +60,5 @@ pub fn parse_expression(p: &mut Parser<'_>) -> Result<NodeId, Stop>
     requires { Standing p.old }
     ensures { Answers (at Expression) p.old p.new result }
 {
-    parse_sequence_expression(p, &By(parse))
+    parse(p, Goal::Expression)
 }

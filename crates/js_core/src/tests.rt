@@ -3,7 +3,7 @@
 ghost use Rattle.std.specs.Prelude.{IfSome};
 ghost use Rattle.js_core.specs.States.{Standing};
 
-use crate::{Parser, parse_assignment_expression_or_higher};
+use crate::{Parser, parse_expression};
 use js_base::{Kind, MAX_LEN, ParseOptions, SourceType, Span};
 use js_cursor::Stop;
 use js_lex::RuntimeParserConfig;
@@ -11,7 +11,7 @@ use js_tree::NodeId;
 use std::alloc::Global;
 
 /// A text, and the lines of its tree, whose statement is left out.
-static READ: [(&str, &str); 32] = [
+static READ: [(&str, &str); 37] = [
     ("a", "Program 0..1\n  IdentifierReference 0..1\n"),
     ("1", "Program 0..1\n  NumericLiteral 0..1 Decimal\n"),
     ("this", "Program 0..4\n  ThisExpression 0..4\n"),
@@ -119,10 +119,30 @@ static READ: [(&str, &str); 32] = [
         "- a.b?.true * new c",
         "Program 0..19\n  BinaryExpression 0..19 *\n    UnaryExpression 0..11 -\n      ChainExpression 2..11\n        StaticMemberExpression 2..11 optional\n          StaticMemberExpression 2..5\n            IdentifierReference 2..3\n            IdentifierName 4..5\n          IdentifierName 7..11\n    NewExpression 14..19\n      IdentifierReference 18..19\n",
     ),
+    (
+        "a, b, c",
+        "Program 0..7\n  SequenceExpression 0..7\n    IdentifierReference 0..1\n    IdentifierReference 3..4\n    IdentifierReference 6..7\n",
+    ),
+    (
+        "a ** b ** c",
+        "Program 0..11\n  BinaryExpression 0..11 **\n    IdentifierReference 0..1\n    BinaryExpression 5..11 **\n      IdentifierReference 5..6\n      IdentifierReference 10..11\n",
+    ),
+    (
+        "a ** -b * c",
+        "Program 0..11\n  BinaryExpression 0..11 *\n    BinaryExpression 0..7 **\n      IdentifierReference 0..1\n      UnaryExpression 5..7 -\n        IdentifierReference 6..7\n    IdentifierReference 10..11\n",
+    ),
+    (
+        "a, b ? c : d, -e",
+        "Program 0..16\n  SequenceExpression 0..16\n    IdentifierReference 0..1\n    ConditionalExpression 3..12\n      IdentifierReference 3..4\n      IdentifierReference 7..8\n      IdentifierReference 11..12\n    UnaryExpression 14..16 -\n      IdentifierReference 15..16\n",
+    ),
+    (
+        "- - a * b ** c, d in e",
+        "Program 0..22\n  SequenceExpression 0..22\n    BinaryExpression 0..14 *\n      UnaryExpression 0..5 -\n        UnaryExpression 2..5 -\n          IdentifierReference 4..5\n      BinaryExpression 8..14 **\n        IdentifierReference 8..9\n        IdentifierReference 13..14\n    BinaryExpression 16..22 in\n      IdentifierReference 16..17\n      IdentifierReference 21..22\n",
+    ),
 ];
 
 /// A text that has no tree, and the kind and the span of what is told of it.
-static REFUSED: [(&str, &str, u32, u32); 19] = [
+static REFUSED: [(&str, &str, u32, u32); 25] = [
     ("", "unexpected_token", 0, 0),
     ("a +", "unexpected_token", 3, 3),
     ("*", "unexpected_token", 0, 1),
@@ -140,8 +160,19 @@ static REFUSED: [(&str, &str, u32, u32); 19] = [
     ("a.", "unexpected_token", 2, 2),
     ("a . + b", "unexpected_token", 4, 5),
     ("new", "unexpected_token", 3, 3),
-    ("new a?.b", "unexpected_token", 5, 7),
+    ("new a?.b", "invalid_new_optional_chain", 5, 7),
     ("a?.b.", "unexpected_token", 5, 5),
+    ("-a ** b", "unary_exponentiation_left_operand", 0, 2),
+    (
+        "typeof a.b ** c ** d, e",
+        "unary_exponentiation_left_operand",
+        0,
+        10,
+    ),
+    ("a ** ", "unexpected_token", 5, 5),
+    ("a, ", "unexpected_token", 3, 3),
+    (", a", "unexpected_token", 0, 1),
+    ("a,, b", "unexpected_token", 2, 3),
 ];
 
 /// A parser at the text's start.
@@ -171,7 +202,7 @@ fn start(alloc: Global, source: &str) -> Option<Parser<'_>>
 fn whole(p: &mut Parser<'_>) -> Option<NodeId>
     requires { Standing p.old }
 {
-    let id = parse_assignment_expression_or_higher(p).ok()?;
+    let id = parse_expression(p).ok()?;
     if p.at(Kind::Eof) { Some(id) } else { None }
 }
 
@@ -194,9 +225,8 @@ fn lines(alloc: Global, source: &str) -> Option<Vec<u8>> {
 /// What is told of a text that is refused, where that is one diagnostic.
 fn told(alloc: Global, source: &str) -> Option<(&'static str, u32, u32)> {
     let mut p = start(alloc, source)?;
-    match parse_assignment_expression_or_higher(&mut p) {
-        Err(Stop::Fatal) => {}
-        _ => return None,
+    if let Err(Stop::NoMemory) = parse_expression(&mut p) {
+        return None;
     }
     if p.errors.len() != 1 {
         return None;

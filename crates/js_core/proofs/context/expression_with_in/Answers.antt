@@ -1,17 +1,13 @@
-use Rattle.std.proofs.Common.{ap, arith}
+use Rattle.std.proofs.Common.{◌+◌, ◌<◌, ap, arith}
 use Rattle.std.proofs.lemmas.Result.{err_from_is_err_and}
 use Rattle.js_grammar.specs.Productions.{at, plus_in, Expression}
 use Rattle.js_core.specs.Nesting.{room}
 use Rattle.js_core.proofs.Contexts.{in_at, out_of_context, stops_in_context}
 use Rattle.js_core.proofs.Moving.{standing}
-use Rattle.js_core.proofs.Nesting.{nests_later}
 use Rattle.js_core.proofs.context.expression_with_in.Goals as goal
 
-pub parse_sequence_expression-requires-clause-at : goal.parse_sequence_expression-requires-clause-at
-parse_sequence_expression-requires-clause-at t c = standing (in_at c.requires.at c.context-outer.ensures c.and_in.ensures c.set_context.ensures)
-
-pub parse_sequence_expression-requires-clause-nests : goal.parse_sequence_expression-requires-clause-nests
-parse_sequence_expression-requires-clause-nests t c = nests_later c.requires.nests (let e = ap room c.set_context.ensures in omega arith)
+pub expression-requires : goal.expression-requires
+expression-requires t c = c.requires.nests _ _ (standing (in_at c.requires.at c.context-outer.ensures c.and_in.ensures c.set_context.ensures)) (let e = ap room c.set_context.ensures in omega arith)
 
 pub returns-in_err-expression : goal.returns-in_err-expression
 returns-in_err-expression t c = λ text f a. let p = err_from_is_err_and c.from_residual.result c.from_residual.ensures.1 in rw (p.1, p.2) (stops_in_context text (at Expression (plus_in f)) _ _ _ _ _ a.at c.set_context.ensures (c.in_err-expression.ensures text _ (in_at a c.context-outer.ensures c.and_in.ensures c.set_context.ensures)))

@@ -43,8 +43,8 @@ returns-then-stands-2 g t c = λ text f a.
     let m = c.in_ok-advance.ensures text f a in
     let h = c.in_ok-enter.ensures.ok.1 in
     let x = c.in_ok-callee.ensures text f (deeper m.at h) in
-    stops_behind _ c.set_unexpected.result (new_follows a s.0 s.1 m h c.leave.ensures x) (λ i. new_grown a s.0 s.1 m h c.leave.ensures x i) (λ z. z)
-    (gives_up _ _ _ c.set_unexpected.result c.set_unexpected.ensures (new_refused a s.0 s.1 m h c.leave.ensures x (stands_so c.leave.new.self QuestionDot c.if-stands-2.true c.stands-then-stands.ensures)))
+    stops_behind _ c.refuse_chain.result (new_follows a s.0 s.1 m h c.leave.ensures x) (λ i. new_grown a s.0 s.1 m h c.leave.ensures x i) (λ z. z)
+    (gives_up _ _ _ c.refuse_chain.result c.refuse_chain.ensures (new_refused a s.0 s.1 m h c.leave.ensures x (stands_so c.leave.new.self QuestionDot c.if-stands-2.true c.stands-then-stands.ensures)))
 
 pub end_span-span-requires : goal.end_span-span-requires
 end_span-span-requires g t c =
@@ -145,3 +145,13 @@ parse_member_expression_rest-requires-2-clause-start g t c = let i = (c.in_ok-pr
 
 pub returns : goal.returns
 returns g t c = λ text f a. c.parse_member_expression_rest-2.ensures text f c.args.p.now c.cur_start-start.ensures (member_init a (stands_so c.args.p.now New c.if-stands.false c.stands.ensures) (c.in_ok-primary.ensures text f a))
+
+pub refuse_chain-requires-clause-at : goal.refuse_chain-requires-clause-at
+refuse_chain-requires-clause-at g t c =
+    let s = stands_so c.args.p.now New c.if-stands.true c.stands.ensures in
+    let m = c.in_ok-advance.ensures _ _ c.requires.at in
+    let h = c.in_ok-enter.ensures.ok.1 in
+    standing (at_callee c.requires.at s.0 s.1 m h c.leave.ensures (c.in_ok-callee.ensures _ _ (deeper m.at h)))
+
+pub refuse_chain-requires-clause-sign : goal.refuse_chain-requires-clause-sign
+refuse_chain-requires-clause-sign g t c = stands_so c.leave.new.self QuestionDot c.if-stands-2.true c.stands-then-stands.ensures

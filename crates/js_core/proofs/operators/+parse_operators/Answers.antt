@@ -1,4 +1,4 @@
-use Rattle.std.proofs.Common.{sym, arith, subst, ℕ, ◌+◌, ◌-◌, ◌≤◌, Ok, Err, true}
+use Rattle.std.proofs.Common.{sym, arith, subst, ℕ, ◌+◌, ◌-◌, ◌≤◌, Ok, true}
 use Rattle.std.proofs.lemmas.Result.{err_from_is_err_and}
 use Rattle.js_grammar.specs.Levels.{level_at}
 use Rattle.js_core.specs.States.{flags_of}
@@ -7,15 +7,14 @@ use Rattle.js_core.specs.Operators.{power_of}
 use Rattle.js_core.specs.Answers.{Underived}
 use Rattle.js_core.proofs.Moving.{standing, stops_so, stops_behind}
 use Rattle.js_core.proofs.Nesting.{nests_later}
-use Rattle.js_core.proofs.Phrases.{operand_result}
 use Rattle.js_core.proofs.Operations.{fails_at_level, operand_init, next_level, as_next, right_less, smaller, made_link, small, is_operator, not_last, follows_so, grown_so, step_fails, start_before, operand_step, operands_answer, fixed}
 use Rattle.js_core.proofs.operators.+parse_operators.Goals as goal
 
 pub returns-in_err-left : goal.returns-in_err-left
-returns-in_err-left t n c = λ text f a. let p = err_from_is_err_and c.from_residual.result c.from_residual.ensures.1 in rw (p.1, p.2) (stops_so _ _ _ (λ z. fails_at_level (c.args.least - 5) (let h = c.requires.high in omega arith) z) (operand_result text f _ _ (Err _) (c.in_err-left.ensures text f a)))
+returns-in_err-left t n c = λ text f a. let p = err_from_is_err_and c.from_residual.result c.from_residual.ensures.1 in rw (p.1, p.2) (stops_so _ _ _ (λ z. fails_at_level (c.args.least - 5) (let h = c.requires.high in omega arith) z) (c.in_err-left.ensures text f a))
 
 pub operators-init : goal.operators-init
-operators-init t n c = operand_init (let h = c.requires.high in omega arith) c.requires.at (operand_result _ _ _ _ (Ok _) (c.in_ok-left.ensures _ _ c.requires.at))
+operators-init t n c = operand_init (let h = c.requires.high in omega arith) c.requires.at (c.in_ok-left.ensures _ _ c.requires.at)
 
 pub advance-requires-clause-at : goal.advance-requires-clause-at
 advance-requires-clause-at t n c = standing (c.in_ok-power.ensures _ _ c.operators.invariant.at).at

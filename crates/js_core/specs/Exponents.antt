@@ -1,0 +1,14 @@
+-- What stands before `**` (ECMA-262, 13.6): no unary operator.
+use Rattle.std.specs.Prelude.{ℕ, ◌≡◌, ◌⊎◌, Bool, true, None, length}
+use Rattle.js_base.specs.declared.diagnostic.Diagnostic.{Diagnostic}
+use Rattle.js_base.specs.declared.diagnostic.DiagnosticKind.TheVariants.{UnaryExponentiationLeftOperand}
+use Rattle.js_cursor.specs.Moves.{Keeps}
+use Rattle.js_cursor.specs.Parsers.{Parser}
+
+-- a unary expression there is no base
+abbrev pub unary_base : ℕ → ℕ → Diagnostic
+unary_base from to = record { kind = UnaryExponentiationLeftOperand; span = record { start = from; end = to }; first = None; second = None }
+
+-- That was told; or nothing was, of a base without an operator, or where more diagnostics are kept than before the base.
+abbrev pub ChecksBase : ℕ → Bool → ℕ → Parser → Parser → Type 0
+ChecksBase start is_unary found old new = ((is_unary ≡ true) × Keeps (unary_base start old.prev_token_end) old new) ⊎ ((new ≡ old) × (is_unary ≡ true → found ≡ length old.errors → ⊥))
