@@ -5,7 +5,7 @@ use Rattle.js_grammar.specs.Trees.{Slots}
 use Rattle.js_grammar.specs.Grammar.{Lexeme, Lexemes, last, next, here, Look, seen, never, lexeme, look, ahead, seq, alt, when, commas, such, marked, node, ended, keep, Takes, is_nothing, is_lexeme, is_look, is_text, is_ahead, is_empty_slot, is_seq, is_left, is_right, is_when, is_many, is_commas, is_such, is_marked, is_node, is_ended, is_keep, is_kept}
 use Rattle.js_grammar.specs.Lexed.{Lexes}
 use Rattle.js_grammar.specs.Parsing.{Test, Goes, Fails, still}
-use Rattle.js_grammar.specs.Productions.{G, Flags, Name, Symbol, Coalesce, Call, Arrow'}
+use Rattle.js_grammar.specs.Productions.{G, Flags, Name, Symbol, Coalesce, Arrow'}
 use Rattle.js_grammar.specs.Table.{rule, rule_of}
 use Rattle.js_grammar.specs.FirstSets.{first}
 use Rattle.js_grammar.proofs.Looks.{apart, not_both}
@@ -24,7 +24,6 @@ unread p = apart p reads
 -- the nonterminals whose line needs an unread lexeme
 abbrev pub dead_name : Name → Bool
 dead_name Coalesce = true
-dead_name Call = true
 dead_name Arrow' = true
 dead_name _ = false
 
@@ -49,7 +48,7 @@ abbrev pub AllRead : Lexemes → Type 0
 AllRead (last x) = IsTrue (is_read x)
 AllRead (next x ls) = IsTrue (is_read x) × AllRead ls
 
-all_read : (t : List ℕ) (s : ℕ) (ls : Lexemes) → Lexes (Lex t) s ls → AllRead ls
+pub all_read : (t : List ℕ) (s : ℕ) (ls : Lexemes) → Lexes (Lex t) s ls → AllRead ls
 all_read t s (last x) l = l.1
 all_read t s (next x ls) l = (l.0.1, all_read t x.to ls l.1)
 
@@ -90,7 +89,6 @@ unseen p x u h r = not_both p reads u x.kind x.newline x.escaped h r
 dead_at : (n : Name) (f : Flags) → dead_name n ≡ true → dead (rule_of n f) ≡ true
 unfolding rule_of apart
 dead_at Coalesce f h = refl
-dead_at Call f h = refl
 dead_at Arrow' f h = refl
 dead_at _ f h = absurd (false≢true h)
 
@@ -98,7 +96,7 @@ dead_line : (n : Symbol) → dead_name n.name ≡ true → dead (rule n) ≡ tru
 unfolding rule
 dead_line n h = dead_at n.name n.flags h
 
-none : {g : G} {ks ts us : Slots} {i j : ℕ} {ls rest : Lexemes} → Takes rule g ks ts i ls us j rest → dead g ≡ true → AllRead ls → ⊥
+pub none : {g : G} {ks ts us : Slots} {i j : ℕ} {ls rest : Lexemes} → Takes rule g ks ts i ls us j rest → dead g ≡ true → AllRead ls → ⊥
 none is_nothing h c = false≢true h
 none (is_lexeme {p = p} {x = x} q) h c = unseen p x h q c.0
 none (is_look {p = p} {ls = ls} q) h c = unseen p (here ls) h q (read_here ls c)

@@ -11,6 +11,7 @@ pub mod Phrases
 pub mod Operands
 pub mod Giving
 pub mod Links
+pub mod Stretches
 pub mod Members
 pub mod Beginning
 pub mod Statements
@@ -29,3 +30,8 @@ pub mod Updates
 pub mod Refusals
 pub mod Assigned
 pub mod Assignments
+pub mod Tame
+pub mod Bracketed
+pub mod Parentheses
+pub mod ArgumentLists
+pub mod Intrinsics

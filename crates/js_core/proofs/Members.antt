@@ -4,24 +4,24 @@ use Rattle.std.specs.Prelude.{Result, Ok, Err, MatchResult}
 use Rattle.std.proofs.lemmas.Bool.{false≢true, and_parts, and_from}
 use Rattle.js_base.specs.declared.diagnostic.Diagnostic.{Diagnostic}
 use Rattle.js_base.specs.declared.kind.Kind.{Kind}
-use Rattle.js_base.specs.declared.kind.Kind.TheVariants.{RAngle, New, Dot, QuestionDot, Ident, This, Null, True, False, Decimal, Str}
+use Rattle.js_base.specs.declared.kind.Kind.TheVariants.{RAngle, New, Dot, QuestionDot, LParen, Ident, This, Null, True, False, Decimal, Str}
 use Rattle.js_base.specs.declared.span.Span.{Span}
 use Rattle.js_base.specs.Kinds.{same_kind, one_of_kinds}
 use Rattle.js_base.proofs.KindLemmas.{kind_of_same}
 use Rattle.js_grammar.specs.Trees.{Slots, end, tree, Label, no_op, identifier_name, new_expression, chain_expression}
-use Rattle.js_grammar.specs.Grammar.{Lexeme, Lexemes, Look, seen, is, exact, lexeme, such, nothing, ◌▸◌}
+use Rattle.js_grammar.specs.Grammar.{Lexeme, Lexemes, Look, next, seen, is, exact, lexeme, seq, such, nothing, ◌▸◌}
 use Rattle.js_grammar.specs.Insertion.{after_expression, is_word}
 use Rattle.js_grammar.specs.Parsing.{Test, plain, full, always, behind, Fails, Way, still, passing}
-use Rattle.js_grammar.specs.Productions.{G, Flags, Symbol, at, tok, mk, IdentifierName, Primary, Member, Chain, Links, LeftHandSide}
+use Rattle.js_grammar.specs.Productions.{G, Flags, Symbol, at, tok, mk, IdentifierName, Primary, Member, Call, Chain, Links, LeftHandSide}
 use Rattle.js_grammar.specs.Productions.{New as new_symbol, sym as symbol}
-use Rattle.js_grammar.specs.Table.{rule, rule_of}
+use Rattle.js_grammar.specs.Table.{rule, rule_of, args}
 use Rattle.js_grammar.specs.Follow.{Edge, row_of, edge_of, follow, follow_of, after, tight}
 use Rattle.js_grammar.proofs.Looks.{covers, covered, apart, not_both}
-use Rattle.js_grammar.proofs.Calculus.{Inside, On, on_itself, inside_full, fails_node, fails_lexeme, weaken_fails}
+use Rattle.js_grammar.proofs.Calculus.{Inside, On, on_itself, inside_full, weaken, ◌▹◌, ◌▹✗◌, then_by, part_fails, fails_node, fails_lexeme, weaken_fails}
 use Rattle.js_grammar.proofs.Chains.{members, chains}
 use Rattle.js_grammar.proofs.FirstClaims.{firsts}
-use Rattle.js_grammar.proofs.FirstRules.{fails_here}
-use Rattle.js_grammar.proofs.FollowLaws.{fails_by}
+use Rattle.js_grammar.proofs.FirstRules.{by_first, fails_here}
+use Rattle.js_grammar.proofs.FollowLaws.{fails_by, surely}
 use Rattle.js_grammar.proofs.RightEdges.{may_end, same_row}
 use Rattle.js_base.specs.declared.diagnostic.DiagnosticKind.TheVariants as fault
 use Rattle.js_grammar.specs.Lexed.{all_faults}
@@ -31,9 +31,10 @@ use Rattle.js_lex.specs.Reading.{is_right_angle}
 use Rattle.js_tree.specs.declared.id.NodeId.{NodeId}
 use Rattle.js_tree.specs.declared.kind.NodeKind.TheVariants as node
 use Rattle.js_tree.specs.declared.op.Op.TheVariants as op
+use Rattle.js_tree.specs.declared.kind.NodeKind.{NodeKind as NodeKindMade}
 use Rattle.js_tree.specs.Nodes.{Node}
 use Rattle.js_tree.specs.Holding.{Holds, HoldsAll, Keeps}
-use Rattle.js_tree.proofs.HoldingLemmas.{HoldsAll-one, HoldsAll-two, Keeps-refl, Keeps-trans, Keeps-made}
+use Rattle.js_tree.proofs.HoldingLemmas.{HoldsAll-one, HoldsAll-next, Keeps-refl, Keeps-trans, Keeps-made}
 use Rattle.js_cursor.specs.Checkpoints.{Follows}
 use Rattle.js_cursor.specs.Parsers.{Parser}
 use Rattle.js_cursor.specs.Places.{IsAt, goal}
@@ -44,19 +45,23 @@ use Rattle.js_cursor.proofs.Later.{follows_on}
 use Rattle.js_core.specs.Lexemes.{Lex, is_read, read_kinds, read_word}
 use Rattle.js_core.specs.States.{At, Same, Standing}
 use Rattle.js_core.specs.Nesting.{room}
+use Rattle.js_core.proofs.Nesting.{nested_room, later_room}
 use Rattle.js_core.specs.Moves.{Moved, MadeHere, LeafTaken, TakesLeaf, IsWholeHere, plain_label}
 use Rattle.js_core.specs.Answers.{Grown, Verdict, clean, Stretch, Underived, Numbered, Outcome, Stops, beside}
-use Rattle.js_core.specs.Members.{StandsHere, Taken, Looped, NoBareNew, NoMember, Headed, a_member, a_new, MemberSoFar, NoDot, HeadOutcome, ChainSoFar, without_arguments, link_kinds, sign_of, member_label, NameLinked, NoName, LinksName, SignHere, TellsChain}
+use Rattle.js_core.specs.Members.{StandsHere, Taken, Looped, NoBareNew, NoMember, Headed, a_member, a_new, MemberSoFar, NoDot, NoParen, NoLhs, HeadOutcome, without_arguments, link_kinds, chained, sign_of, link_label, NoLink, OnlyLink, Linked, LinkHere, a_link, no_link, ReadsLink, WithArguments, MakesWithArguments, LinkOutcome, Beyond, CallSoFar, ChainSoFar, Callee, a_head, a_call, CalleeOutcome, TellsChain}
+use Rattle.js_core.specs.Arguments.{Partway, Arguments}
 use Rattle.js_core.proofs.Here.{told, angled, begins_here, kind_here, escaped_here, uncut, found}
 use Rattle.js_core.proofs.Tight.{read_plain}
 use Rattle.js_core.proofs.Verdicts.{verdict_of, either_way, and_then, behind_none, grown_then}
 use Rattle.js_core.proofs.Verdicts.{after as grown_behind}
-use Rattle.js_core.proofs.Moving.{same_both, same_nodes, beside_nodes, elsewhere, at_depth, stops_behind, stops_in, standing}
+use Rattle.js_core.proofs.Moving.{same_both, same_nodes, beside_nodes, elsewhere, at_depth, stops_behind, stops_in, stops_so, standing}
 use Rattle.js_core.proofs.MadeNodes.{leaf_held, node_held}
-use Rattle.js_core.proofs.Paths.{reads, Path, ◌⟶◌, ◌⟶✗◌, token, last_called, passes_test, read_of, walked_both, walked_one, noded, noded_by, noding, label_here, by_symbol_as}
-use Rattle.js_core.proofs.Operands.{by_path, primary_fails}
+use Rattle.js_core.proofs.Paths.{reads, Path, ◌⟶◌, ◌⟶✗◌, skips, token, last_called, passes_test, read_of, walked_both, walked_one, noded, noded_by, noding, label_here, by_symbol_as}
+use Rattle.js_core.proofs.Operands.{by_path, primary_fails, primary_kinds}
 use Rattle.js_core.proofs.Giving.{fails_none}
-use Rattle.js_core.proofs.Links.{AllAre, NoneIs, chained, member_start, no_member, member_step, member_step_fails, member_end, no_new_before, new_unfollowed, no_new, new_member, new_bare, chain_begin, no_first, no_link, chain_step, chain_step_fails, chain_ends, no_lhs, lhs_new, lhs_chain}
+use Rattle.js_core.proofs.Links.{AllAre, NoneIs, NotCall, bases, before_chain, with_arguments, member_start, no_member, member_new, no_member_new, member_step, member_step_fails, member_end, no_new_before, new_unfollowed, no_new, new_member, new_bare, member_before_chain, no_call_at_all, no_call_behind, call_begin, call_step, call_step_fails, call_ends, base_member, base_call, base_none, chain_begin, no_first, chain_step, chain_step_fails, chain_ends, no_lhs, lhs_new, lhs_call, lhs_chain, call_unfollowed, member_before, member_alone, call_alone, no_lhs_here, call_heads, chain_heads}
+use Rattle.js_core.proofs.Links.{no_link as no_chain_link}
+use Rattle.js_core.proofs.Stretches.{stretches}
 
 -- ---- which lexeme stands here
 
@@ -71,13 +76,14 @@ module _ {text : List ℕ} {f : Flags} {p : Parser} (a : At text f p) where
       go true c = false≢true (sym n ∙ subst (λ v. is_right_angle v ≡ true) e (angled a c y l))
       go false c = s ((told a c y l).kind ∙ e) (sym (escaped_here a y l) ∙ read_plain y l.1)
 
-no_link_kind : {text : List ℕ} {s : ℕ} → NoneIs text s Dot → NoneIs text s QuestionDot → (y : Lexeme) → Lex text s y → one_of_kinds link_kinds y.kind ≡ false
-no_link_kind n m y l = go (same_kind Dot y.kind) (same_kind QuestionDot y.kind) refl refl
+no_link_kind : {text : List ℕ} {s : ℕ} → NoneIs text s Dot → NoneIs text s QuestionDot → NoneIs text s LParen → (y : Lexeme) → Lex text s y → one_of_kinds link_kinds y.kind ≡ false
+no_link_kind n m o y l = go (same_kind Dot y.kind) (same_kind QuestionDot y.kind) (same_kind LParen y.kind) refl refl refl
   where
-    go : (a b : Bool) → same_kind Dot y.kind ≡ a → same_kind QuestionDot y.kind ≡ b → (a || (b || false)) ≡ false
-    go true b e h = absurd (n y l (sym (kind_of_same Dot y.kind e)))
-    go false true e h = absurd (m y l (sym (kind_of_same QuestionDot y.kind h)))
-    go false false e h = refl
+    go : (a b c : Bool) → same_kind Dot y.kind ≡ a → same_kind QuestionDot y.kind ≡ b → same_kind LParen y.kind ≡ c → (a || (b || (c || false))) ≡ false
+    go true b c e h i = absurd (n y l (sym (kind_of_same Dot y.kind e)))
+    go false true c e h i = absurd (m y l (sym (kind_of_same QuestionDot y.kind h)))
+    go false false true e h i = absurd (o y l (sym (kind_of_same LParen y.kind i)))
+    go false false false e h i = refl
 
 -- ---- names behind a sign
 
@@ -214,26 +220,46 @@ taken_back {text} {f} {C} {A} {p} {e} {q} {w} {id} a h l x =
 
 -- ---- links
 
--- a sign and a name
-link_path : {text : List ℕ} {f : Flags} {start : ℕ} {left id : NodeId} (o : Bool) {p q : Parser} → At text f p → p.token.kind ≡ sign_of o → p.token.escaped ≡ false → (x : NameLinked text f start left o p q id) → Path text f (plain full) (chained f o).part p nothing x.behind (tree x.named.answer.label x.named.answer.slots)
-link_path true a k n x = token QuestionDot a k n refl x.moved ⟶ last_called x.named.answer (record { admits = λ ts vs k ls rest d e. (refl, refl) })
-link_path false a k n x = token Dot a k n refl x.moved ⟶ last_called x.named.answer (record { admits = λ ts vs k ls rest d e. (refl, refl) })
+link_row : (c o : Bool) (from to : ℕ) (cs : Slots) → same_row after_expression (row_of (link_label c o from to) cs) ≡ true
+link_row true o from to cs = refl
+link_row false o from to cs = refl
 
-link_fails : {text : List ℕ} {f : Flags} (o : Bool) {p : Parser} → At text f p → p.token.kind ≡ sign_of o → p.token.escaped ≡ false → NoName text f p → Fails rule (Lex text) (plain full) end (chained f o).part p.prev_token_end
-link_fails true a k n x = token QuestionDot a k n refl x.moved ⟶✗ weaken_fails x.none (λ ts y e. (refl, refl))
-link_fails false a k n x = token Dot a k n refl x.moved ⟶✗ weaken_fails x.none (λ ts y e. (refl, refl))
+pub part_path : {text : List ℕ} {f : Flags} {g : G} {p q : Parser} {ids js : List (Option NodeId)} (x : Partway text f g nothing p q ids js) → Path text f (plain full) g p nothing q x.slots
+part_path x = record { at = x.at; further = x.further; pass = x.pass; walked = x.walked; verdict = x.verdict }
 
-link_row : (o : Bool) (from to : ℕ) (cs : Slots) → same_row after_expression (row_of (member_label o from to) cs) ≡ true
-link_row o from to cs = refl
+pub link_taken : {text : List ℕ} {f : Flags} {C D : Label → Slots → (Lexemes → Lexemes) → ℕ → Type 0} {A : Type 0} {o p w : Parser} {left id : NodeId} {start : ℕ} (x : Taken text f o p left C A) → start ≡ o.token.span.start → (y : Linked text f start left p w id)
+    → ((pass : Lexemes → Lexemes) → C x.label x.slots x.pass p.prev_token_end → p.prev_token_end ≤ y.behind.prev_token_end → Stretch text (plain full) (chained f y.call y.optional).part p.prev_token_end nothing y.behind.prev_token_end y.part.slots pass → D (link_label y.call y.optional o.token.span.start y.behind.prev_token_end) (tree x.label x.slots (y.part.slots end)) (λ ls. x.pass (pass ls)) y.behind.prev_token_end)
+    → (C x.label x.slots x.pass p.prev_token_end → NoLink text f p.prev_token_end y.call y.optional → A) → Taken text f o w id D A
+link_taken {o = o} {p = p} {w = w} {left = left} {id = id} x e y good bad =
+    step_taken x (part_path y.part) y.part.same y.part.keeps (y.part.holds (length o.nodes) (tree x.label x.slots end) (HoldsAll-one left x.holds))
+    (subst (λ (v : ℕ). MadeHere (link_label y.call y.optional v y.behind.prev_token_end) y.children y.behind w id) e y.made) (link_row y.call y.optional o.token.span.start y.behind.prev_token_end (tree x.label x.slots (y.part.slots end))) good bad
 
-pub link_taken : {text : List ℕ} {f : Flags} {C D : Label → Slots → (Lexemes → Lexemes) → ℕ → Type 0} {A : Type 0} {o p w : Parser} {left id : NodeId} {b : Bool} {start : ℕ} (x : Taken text f o p left C A) → start ≡ o.token.span.start → p.token.kind ≡ sign_of b → p.token.escaped ≡ false → (y : NameLinked text f start left b p w id)
-    → ((pass : Lexemes → Lexemes) → C x.label x.slots x.pass p.prev_token_end → p.prev_token_end ≤ y.behind.prev_token_end → Stretch text (plain full) (chained f b).part p.prev_token_end nothing y.behind.prev_token_end (tree y.named.answer.label y.named.answer.slots) pass → D (member_label b o.token.span.start y.behind.prev_token_end) (tree x.label x.slots (tree y.named.answer.label y.named.answer.slots end)) (λ ls. x.pass (pass ls)) y.behind.prev_token_end)
-    → (C x.label x.slots x.pass p.prev_token_end → Fails rule (Lex text) (plain full) end (chained f b).part p.prev_token_end → A) → Taken text f o w id D A
-link_taken {o = o} {p = p} {w = w} {left = left} {id = id} {b = b} x e k n y good bad =
-    let r = y.moved.nodes in
-    step_taken x (link_path b x.at k n y) (same_both y.moved.same y.named.answer.same) (subst (λ (ns : List Node). Keeps ns y.behind.nodes) r y.named.keeps)
-    (HoldsAll-two left y.name (subst (λ (ns : List Node). Keeps ns y.behind.nodes) r y.named.keeps) x.holds (subst (λ (ns : List Node). Holds y.behind.nodes (length ns) (length y.behind.nodes) y.name.0 y.named.answer.label y.named.answer.slots) r y.named.holds))
-    (subst (λ (v : ℕ). MadeHere (member_label b v y.behind.prev_token_end) (Some left ∷ Some y.name ∷ []) y.behind w id) e y.made) (link_row b o.token.span.start y.behind.prev_token_end (tree x.label x.slots (tree y.named.answer.label y.named.answer.slots end))) good bad
+-- which sign stands here
+all_signs : {text : List ℕ} {f : Flags} {p : Parser} → At text f p → (c o : Bool) → StandsHere p (sign_of c o) true → AllAre text p.prev_token_end (sign_of c o)
+all_signs a true true s = stands_there a s.0 refl
+all_signs a false true s = stands_there a s.0 refl
+all_signs a true false s = stands_there a s.0 refl
+all_signs a false false s = stands_there a s.0 refl
+
+not_dot : (p : Parser) (c o : Bool) → StandsHere p Dot true → StandsHere p (sign_of c o) true → (c ≡ false) × (o ≡ false)
+not_dot p true true s z = absurd (let e : Dot ≡ QuestionDot = sym s.0 ∙ z.0 in cc)
+not_dot p false true s z = absurd (let e : Dot ≡ QuestionDot = sym s.0 ∙ z.0 in cc)
+not_dot p true false s z = absurd (let e : Dot ≡ LParen = sym s.0 ∙ z.0 in cc)
+not_dot p false false s z = (refl, refl)
+
+not_optional : (p : Parser) (c d : Bool) → StandsHere p (sign_of d false) true → StandsHere p (sign_of c true) true → ⊥
+not_optional p c true s z = let e : LParen ≡ QuestionDot = sym s.0 ∙ z.0 in cc
+not_optional p c false s z = let e : Dot ≡ QuestionDot = sym s.0 ∙ z.0 in cc
+
+optional_here : (p : Parser) (c o : Bool) → StandsHere p QuestionDot true → StandsHere p (sign_of c o) true → o ≡ true
+optional_here p c true s z = refl
+optional_here p true false s z = absurd (let e : LParen ≡ QuestionDot = sym z.0 ∙ s.0 in cc)
+optional_here p false false s z = absurd (let e : Dot ≡ QuestionDot = sym z.0 ∙ s.0 in cc)
+
+call_here : (p : Parser) (c o : Bool) → StandsHere p LParen true → StandsHere p (sign_of c o) true → (c ≡ true) × (o ≡ false)
+call_here p c true s z = absurd (let e : LParen ≡ QuestionDot = sym s.0 ∙ z.0 in cc)
+call_here p true false s z = (refl, refl)
+call_here p false false s z = absurd (let e : LParen ≡ Dot = sym s.0 ∙ z.0 in cc)
 
 -- ---- members
 
@@ -247,16 +273,35 @@ no_bare_new : {text : List ℕ} {f : Flags} {p : Parser} → At text f p → Sta
 no_bare_new a s = fails_here firsts (λ y l h. stands_not a refl s y l (sym (kind_of_same New y.kind (and_parts _ _ h).0)))
 
 pub member_init : {text : List ℕ} {f : Flags} {p q : Parser} {id : NodeId} → At text f p → StandsHere p New false → Numbered text f (at Primary f) p q id → Membered text f p q id
-member_init {f = f} a s x = retake (taken x x.answer.row) (λ l cs pass c. (member_start f c (begins_here a), no_bare_new a s)) (λ n. (no_member f n, no_bare_new a s))
+member_init {f = f} a s x = retake (taken x x.answer.row) (λ l cs pass c. (member_start f (stands_not a refl s) c (begins_here a), no_bare_new a s)) (λ n. (no_member f (stands_not a refl s) n, no_bare_new a s))
 
-pub member_linked : {text : List ℕ} {f : Flags} {o p w : Parser} {left id : NodeId} {start : ℕ} → start ≡ o.token.span.start → (x : Membered text f o p left) → StandsHere p Dot true → NameLinked text f start left false p w id → Membered text f o w id
-member_linked {f = f} e x s y = link_taken x e s.0 s.1 y (λ pass c i z. (member_step f c.0 (stands_there x.at s.0 refl) i z, c.1)) (λ c z. (member_step_fails f c.0 (stands_there x.at s.0 refl) z, c.1))
+pub no_head : {text : List ℕ} {f : Flags} {p : Parser} → At text f p → StandsHere p New false → Underived text (at Primary f) p.prev_token_end → NoMember text f p.prev_token_end
+no_head {f = f} a s n = (no_member f (stands_not a refl s) n, no_bare_new a s)
 
-pub member_stops : {text : List ℕ} {f : Flags} {o p : Parser} {left : NodeId} (w : Parser) (e : Stop) (x : Membered text f o p left) → StandsHere p Dot true → Stops p w e (NoName text f p) → Stops o w e (NoMember text f o.prev_token_end)
-member_stops {f = f} w e x s z = stops_behind w e x.same.follows (λ g. grown_behind x.verdict g) (λ n. either_way x.verdict (λ c. (member_step_fails f c.0 (stands_there x.at s.0 refl) (link_fails false x.at s.0 s.1 n), c.1)) (λ n. n)) z
+member_good : {text : List ℕ} {f : Flags} (o p : Parser) (c d : Bool) → (c ≡ false) × (d ≡ false) → AllAre text p.prev_token_end Dot → {l : Label} {cs : Slots} {pass more : Lexemes → Lexemes} {h : Slots → Slots} {s'' : ℕ} → MemberSoFar text f o.prev_token_end o.token.span.start l cs pass p.prev_token_end → p.prev_token_end ≤ s'' → Stretch text (plain full) (chained f c d).part p.prev_token_end nothing s'' h more → MemberSoFar text f o.prev_token_end o.token.span.start (link_label c d o.token.span.start s'') (tree l cs (h end)) (λ ls. pass (more ls)) s''
+member_good {f = f} o p false false e z c i y = (member_step f c.0 z i y, c.1)
+member_good o p true d e z c i y = absurd (false≢true (sym e.0))
+member_good o p false true e z c i y = absurd (false≢true (sym e.1))
+
+member_bad : {text : List ℕ} {f : Flags} (o p : Parser) (c d : Bool) → (c ≡ false) × (d ≡ false) → AllAre text p.prev_token_end Dot → {l : Label} {cs : Slots} {pass : Lexemes → Lexemes} → MemberSoFar text f o.prev_token_end o.token.span.start l cs pass p.prev_token_end → NoLink text f p.prev_token_end c d → NoMember text f o.prev_token_end
+member_bad {f = f} o p false false e z c n = (member_step_fails f c.0 z n, c.1)
+member_bad o p true d e z c n = absurd (false≢true (sym e.0))
+member_bad o p false true e z c n = absurd (false≢true (sym e.1))
+
+pub member_linked : {text : List ℕ} {f : Flags} {o p w : Parser} {left id : NodeId} {start : ℕ} → start ≡ o.token.span.start → (x : Membered text f o p left) → StandsHere p Dot true → Linked text f start left p w id → Membered text f o w id
+member_linked {text} {f} {o} {p} e x s y = link_taken x e y (λ pass c i z. member_good o p y.call y.optional (not_dot p y.call y.optional s y.sign) (stands_there x.at s.0 refl) c i z) (λ c n. member_bad o p y.call y.optional (not_dot p y.call y.optional s y.sign) (stands_there x.at s.0 refl) c n)
+
+pub member_stops : {text : List ℕ} {f : Flags} {o p : Parser} {left : NodeId} (w : Parser) (e : Stop) (x : Membered text f o p left) → StandsHere p Dot true → Stops p w e ((c d : Bool) → NoLink text f p.prev_token_end c d) → Stops o w e (NoMember text f o.prev_token_end)
+member_stops {f = f} w e x s z = stops_behind w e x.same.follows (λ g. grown_behind x.verdict g) (λ n. either_way x.verdict (λ c. (member_step_fails f c.0 (stands_there x.at s.0 refl) (n false false), c.1)) (λ n. n)) z
 
 pub member_closed : {text : List ℕ} {f : Flags} {o p : Parser} {id : NodeId} → (x : Membered text f o p id) → StandsHere p Dot false → HeadOutcome text f o p (Ok id)
 member_closed {f = f} x s = (retake x (λ l cs pass c. a_member (member_end f c.0 (stands_not x.at refl s)) c.1) (λ n. n), stands_not x.at refl s)
+
+-- a lexeme stands here
+lexeme_there : {text : List ℕ} {f : Flags} {p : Parser} {k : Kind} → At text f p → StandsHere p k true → same_kind RAngle k ≡ false → is_last k ≡ false → one_of_kinds read_kinds k ≡ true → (y : Lexeme) × Lex text p.prev_token_end y × (y.kind ≡ k)
+lexeme_there {k = k} a s n l r =
+    let z = found a (uncut a (ap (same_kind RAngle) s.0 ∙ n)) (ap is_last s.0 ∙ l) in
+    (z.0, (z.1, read_of z.0 (sym z.2.kind ∙ s.0) (sym z.2.escaped ∙ s.1) r), sym z.2.kind ∙ s.0)
 
 -- ---- `new`
 
@@ -270,12 +315,41 @@ headed_new f (a_new n s z) = s
 taken_path : {text : List ℕ} {f : Flags} {n : Symbol} {p q : Parser} {id : NodeId} (x : Taken text f p q id (λ l cs pass s'. Stretch text (after n) (such n always) p.prev_token_end nothing s' (tree l cs) pass) (Underived text n p.prev_token_end)) → Path text f (after n) (such n always) p nothing q (tree x.label x.slots)
 taken_path x = record { at = x.at; further = x.further; pass = x.pass; walked = x.walked; verdict = x.verdict }
 
-module _ {text : List ℕ} {f : Flags} {p q : Parser} (a : At text f p) (k : p.token.kind ≡ New) (n : p.token.escaped ≡ false) (m : Moved text f p q) where
-  none_there : Underived text (at Member f) p.prev_token_end
-  none_there = no_member f (primary_fails a (subst (λ v. one_of_kinds (Ident ∷ This ∷ Null ∷ True ∷ False ∷ Decimal ∷ Str ∷ []) v ≡ false) (sym k) refl))
+abbrev called_member : Flags → G
+called_member f = seq (such (at Member f) always) (args f)
 
-  pub new_fails : Underived text (at new_symbol f) q.prev_token_end → NoMember text f p.prev_token_end
-  new_fails z = (none_there, fails_node (new_edge f p.prev_token_end) (token New a k n refl m ⟶✗ z))
+-- a member and its arguments
+member_then : {text : List ℕ} (f : Flags) {s s' : ℕ} {l : Label} {cs : Slots} {pass : Lexemes → Lexemes} (x : Stretch text (after (at Member f)) (such (at Member f) always) s nothing s' (tree l cs) pass) → Stretch text (plain full) (called_member f) s (args f) s' (tree l cs) pass
+unfolding covers
+member_then f x = record { reach = x.reach; near = x.near; goes = then_by x.goes (by_first firsts (surely (at Member f)) refl) }
+
+member_lacks : {text : List ℕ} (f : Flags) {s : ℕ} → Underived text (at Member f) s → Fails rule (Lex text) (plain full) end (called_member f) s
+unfolding covers
+member_lacks f x = part_fails x (by_first firsts (surely (at Member f)) refl)
+
+-- no arguments stand behind it
+no_called : {text : List ℕ} (f : Flags) {s s' : ℕ} {l : Label} {cs : Slots} {pass : Lexemes → Lexemes} → Headed text f s l cs pass s' → Fails rule (Lex text) (plain full) end (args f) s' → Fails rule (Lex text) (plain full) end (called_member f) s
+no_called f (a_member m b) n = (member_then f m).goes ▹✗ n
+no_called f (a_new z s k) n = member_lacks f z
+
+pub no_arguments_here : {text : List ℕ} (f : Flags) {s : ℕ} → NoneIs text s LParen → Fails rule (Lex text) (plain full) end (args f) s
+no_arguments_here f n = fails_here firsts (λ y l h. n y l (sym (kind_of_same LParen y.kind (and_parts _ _ h).0)))
+
+module _ {text : List ℕ} {f : Flags} {p q : Parser} (a : At text f p) (k : p.token.kind ≡ New) (n : p.token.escaped ≡ false) (m : Moved text f p q) where
+  no_primary : Underived text (at Primary f) p.prev_token_end
+  no_primary = primary_fails a (subst (λ v. one_of_kinds primary_kinds v ≡ false) (sym k) refl)
+
+  bare_fails : Underived text (at new_symbol f) q.prev_token_end → NoBareNew text f p.prev_token_end
+  bare_fails z = fails_node (new_edge f p.prev_token_end) (token New a k n refl m ⟶✗ z)
+
+  new_skips : Stretch text (plain full) (with_arguments f) p.prev_token_end (called_member f) q.prev_token_end (λ us. us) (λ ls. next m.lexeme ls)
+  new_skips = record { reach = 0; near = omega arith; goes = skips a New k n refl m }
+
+  none_called : Fails rule (Lex text) (plain full) end (called_member f) q.prev_token_end → Underived text (at Member f) p.prev_token_end
+  none_called z = no_member_new f no_primary (new_skips.goes ▹✗ z)
+
+  pub new_fails : NoMember text f q.prev_token_end → NoMember text f p.prev_token_end
+  new_fails z = (none_called (member_lacks f z.0), bare_fails (no_new f z))
 
   module _ {e r w : Parser} {callee : NodeId} (h : Enters q e) (l : Leaves r w) (x : HeadOutcome text f e r (Ok callee)) where
     same_place : e.prev_token_end ≡ q.prev_token_end
@@ -284,27 +358,17 @@ module _ {text : List ℕ} {f : Flags} {p q : Parser} (a : At text f p) (k : p.t
     callee_taken : HeadTaken text f q w callee
     callee_taken = subst (λ (v : ℕ). Taken text f q w callee (λ l cs pass s'. Headed text f v l cs pass s') (NoMember text f v)) same_place (taken_back m.at.at h l x.0)
 
-    newed : Taken text f q w callee (λ l cs pass s'. Stretch text (after (at new_symbol f)) (such (at new_symbol f) always) q.prev_token_end nothing s' (tree l cs) pass) (Underived text (at new_symbol f) q.prev_token_end)
-    newed = retake callee_taken (λ l cs pass c. headed_new f c) (λ z. no_new f z)
-
-    new_path : Path text f (after (at new_symbol f)) (without_arguments f) p nothing w (tree (label_here new_expression no_op p w) (tree newed.label newed.slots end))
-    new_path = noded_by a (new_edge f p.prev_token_end) (token New a k n refl m ⟶ taken_path newed)
-
     pub start_before : p.token.span.start ≤ w.prev_token_end
-    start_before = let i = new_path.further in omega arith
+    start_before = let i = m.further in let j = callee_taken.further in let d = m.at.behind in omega arith
 
     pub at_callee : At text f w
-    at_callee = newed.at
+    at_callee = callee_taken.at
+
+    pub callee_room : room w ≤ room p
+    callee_room = let i = later_room (let j = callee_taken.further in let d = m.at.behind in omega arith) callee_taken.same in let r = nested_room a m in omega arith
 
     no_dot : NoDot text w
     no_dot = subst (λ (v : ℕ). NoneIs text v Dot) (sym (ap (λ (z : Parser). z.prev_token_end) l.is)) x.1
-
-    pub new_refused : StandsHere w QuestionDot true → NoMember text f p.prev_token_end
-    new_refused s = new_fails (either_way callee_taken.verdict (λ c. refused c) (λ z. no_new f z))
-      where
-        refused : Headed text f q.prev_token_end callee_taken.label callee_taken.slots callee_taken.pass w.prev_token_end → Underived text (at new_symbol f) q.prev_token_end
-        refused (a_member c b) = no_new_before f c b (stands_there callee_taken.at s.0 refl)
-        refused (a_new z c b) = new_unfollowed f c (stands_there callee_taken.at s.0 refl)
 
     pub new_grown : {ds : List Diagnostic} → Grown w.errors ds → Grown p.errors ds
     new_grown g = grown_then m.kept (grown_behind callee_taken.verdict g)
@@ -312,35 +376,163 @@ module _ {text : List ℕ} {f : Flags} {p q : Parser} (a : At text f p) (k : p.t
     pub new_follows : Follows p w
     new_follows = follows_on m.same.follows callee_taken.same.follows
 
-    pub new_taken : {v : Parser} {id : NodeId} {s : Span} → StandsHere w QuestionDot false → s.start ≡ p.token.span.start → s.end ≡ w.prev_token_end → MadeHere (plain_label node.NewExpression op.None s) (Some callee ∷ []) w v id → HeadOutcome text f p v (Ok id)
-    new_taken {v} {id} {s} g b c d =
+    -- `?.` stands behind the callee
+    pub new_refused : StandsHere w QuestionDot true → NoMember text f p.prev_token_end
+    new_refused s = either_way callee_taken.verdict (λ c. (none_called (no_called f c (no_arguments_here f (λ y l e. let z = (stands_there callee_taken.at s.0 refl) y l in (let u : QuestionDot ≡ LParen = sym z.0 ∙ e in cc)))), bare_fails (refused c))) (λ z. new_fails z)
+      where
+        refused : {l : Label} {cs : Slots} {pass : Lexemes → Lexemes} → Headed text f q.prev_token_end l cs pass w.prev_token_end → Underived text (at new_symbol f) q.prev_token_end
+        refused (a_member c b) = no_new_before f QuestionDot (λ d v. refl) c b (stands_there callee_taken.at s.0 refl)
+        refused (a_new z c b) = new_unfollowed f c (stands_there callee_taken.at s.0 refl)
+
+    -- neither `?.` nor arguments
+    pub new_taken : {v : Parser} {id : NodeId} {s : Span} → StandsHere w QuestionDot false → StandsHere w LParen false → s.start ≡ p.token.span.start → s.end ≡ w.prev_token_end → MadeHere (plain_label node.NewExpression op.None s) (Some callee ∷ []) w v id → HeadOutcome text f p v (Ok id)
+    new_taken {v} {id} {s} g j b c d =
         let made : MadeHere (label_here new_expression no_op p w) (Some callee ∷ []) w v id = subst (λ (z : Label). MadeHere z (Some callee ∷ []) w v id) (rw (b, c) refl) d in
-        let nothing_behind : (y : Lexeme) → Lex text w.prev_token_end y → one_of_kinds link_kinds y.kind ≡ false = no_link_kind no_dot (stands_not newed.at refl g) in
+        let none = stands_not callee_taken.at refl j in
+        let nothing_behind : (y : Lexeme) → Lex text w.prev_token_end y → one_of_kinds link_kinds y.kind ≡ false = no_link_kind no_dot (stands_not callee_taken.at refl g) none in
         subst (λ (z : Parser). HeadOutcome text f p z (Ok id)) (sym made.stays) (
           record {
-            at = beside_nodes v.nodes new_path.at;
-            same = same_both m.same (same_both newed.same (same_nodes v.nodes newed.at.at));
-            further = new_path.further;
+            at = beside_nodes v.nodes callee_taken.at;
+            same = same_both m.same (same_both callee_taken.same (same_nodes v.nodes callee_taken.at.at));
+            further = start_before_less;
             label = label_here new_expression no_op p w;
-            slots = tree newed.label newed.slots end;
+            slots = tree callee_taken.label callee_taken.slots end;
             row = refl;
-            pass = new_path.pass;
-            walked = new_path.walked;
-            verdict = verdict_of new_path.verdict (λ z. a_new none_there (new_bare f none_there z) nothing_behind) (λ z. (none_there, z));
-            holds = node_held made (HoldsAll-one callee (subst (λ (ns : List Node). Holds w.nodes (length ns) (length w.nodes) callee.0 newed.label newed.slots) m.nodes newed.holds));
-            keeps = Keeps-trans (subst (λ (ns : List Node). Keeps ns w.nodes) m.nodes newed.keeps) (Keeps-made made.made);
+            pass = λ ls. next m.lexeme (callee_taken.pass ls);
+            walked = walked_both (walked_one m) callee_taken.walked;
+            verdict = bare_verdict nothing_behind none;
+            holds = node_held made (HoldsAll-one callee (subst (λ (ns : List Node). Holds w.nodes (length ns) (length w.nodes) callee.0 callee_taken.label callee_taken.slots) m.nodes callee_taken.holds));
+            keeps = Keeps-trans (subst (λ (ns : List Node). Keeps ns w.nodes) m.nodes callee_taken.keeps) (Keeps-made made.made);
           },
           no_dot,
         )
+      where
+        start_before_less : p.token.span.start < w.prev_token_end
+        start_before_less = let i = m.further in let j = callee_taken.further in let d = m.at.behind in omega arith
 
--- what was said one level deeper
-pub entered_stops : {text : List ℕ} {f : Flags} {p q e : Parser} (r : Parser) (i : Stop) → (a : At text f p) → p.token.kind ≡ New → p.token.escaped ≡ false → (m : Moved text f p q) → Enters q e → Stops e r i (NoMember text f e.prev_token_end) → Stops p r i (NoMember text f p.prev_token_end)
-entered_stops {text} {f} {p} {q} {e} r i a k n m h s = stops_behind r i m.same.follows (λ g. grown_then m.kept g) (λ z. new_fails a k n m (no_new f z)) (stops_in r i m.at.at h (λ z. subst (λ (v : ℕ). NoMember text f v) (ap (λ (z : Parser). z.prev_token_end) h.is) z) s)
+        bare_verdict : ((y : Lexeme) → Lex text w.prev_token_end y → one_of_kinds link_kinds y.kind ≡ false) → NoneIs text w.prev_token_end LParen → Verdict p.errors w.errors (Headed text f p.prev_token_end (label_here new_expression no_op p w) (tree callee_taken.label callee_taken.slots end) (λ ls. next m.lexeme (callee_taken.pass ls)) w.prev_token_end) (NoMember text f p.prev_token_end)
+        bare_verdict u none = behind_none m.kept (verdict_of callee_taken.verdict (λ c. bare c) (λ z. new_fails z))
+          where
+            bare : Headed text f q.prev_token_end callee_taken.label callee_taken.slots callee_taken.pass w.prev_token_end → Headed text f p.prev_token_end (label_here new_expression no_op p w) (tree callee_taken.label callee_taken.slots end) (λ ls. next m.lexeme (callee_taken.pass ls)) w.prev_token_end
+            bare c =
+                let z = none_called (no_called f c (no_arguments_here f none)) in
+                let y = headed_new f c in
+                a_new z (new_bare f z (noding w a (new_edge f p.prev_token_end) (record { reach = max 0 y.reach; near = let i = y.near in omega arith; goes = skips a New k n refl m ▹ y.goes }))) u
+
+    -- arguments stand there
+    module _ (s : StandsHere w LParen true) where
+      bare_none : {l : Label} {cs : Slots} {pass : Lexemes → Lexemes} → Headed text f q.prev_token_end l cs pass w.prev_token_end → NoBareNew text f p.prev_token_end
+      bare_none (a_member c b) = bare_fails (no_new_before f LParen (λ d v. refl) c b (stands_there callee_taken.at s.0 refl))
+      bare_none (a_new z c b) = let y = lexeme_there callee_taken.at s refl refl refl in absurd (false≢true (sym (b y.0 y.1) ∙ subst (λ (v : Kind). one_of_kinds link_kinds v ≡ true) (sym y.2) refl))
+
+      pub new_arguments_stop : (v : Parser) (i : Stop) → Stops w v i (Fails rule (Lex text) (plain full) end (args f) w.prev_token_end) → Stops p v i (NoMember text f p.prev_token_end)
+      new_arguments_stop v i z = stops_behind v i new_follows (λ g. new_grown g) (λ n. either_way callee_taken.verdict (λ c. (none_called (no_called f c n), bare_none c)) (λ y. new_fails y)) z
+
+      pub new_with_arguments : {v : Parser} {id : NodeId} → (y : WithArguments node.NewExpression false p.token.span.start callee w v id) → Membered text f p v id
+      new_with_arguments {v} {id} y =
+          let part = y.arguments text f callee_taken.at true in
+          let forward : w.prev_token_end ≤ y.behind.prev_token_end = (let b = callee_taken.at.behind in let c = part.further in omega arith) in
+          subst (λ (z : Parser). Membered text f p z id) (sym y.made.stays) (record {
+            at = beside_nodes v.nodes part.at;
+            same = same_both m.same (same_both callee_taken.same (same_both part.same (same_nodes v.nodes part.at.at)));
+            further = let b = m.further in let c = callee_taken.further in let d = m.at.behind in omega arith;
+            label = label_here new_expression no_op p y.behind;
+            slots = tree callee_taken.label callee_taken.slots (part.slots end);
+            row = refl;
+            pass = λ ls. next m.lexeme (callee_taken.pass (part.pass ls));
+            walked = walked_both (walked_one m) (walked_both callee_taken.walked part.walked);
+            verdict = behind_none m.kept (and_then callee_taken.verdict part.verdict (λ c z. whole c z forward) (λ z. new_fails z) (λ c z. (none_called (no_called f c z), bare_none c)));
+            holds = node_held y.made (part.holds (length p.nodes) (tree callee_taken.label callee_taken.slots end) (HoldsAll-one callee (subst (λ (ns : List Node). Holds w.nodes (length ns) (length w.nodes) callee.0 callee_taken.label callee_taken.slots) m.nodes callee_taken.holds)));
+            keeps = Keeps-trans (subst (λ (ns : List Node). Keeps ns w.nodes) m.nodes callee_taken.keeps) (Keeps-trans part.keeps (Keeps-made y.made.made));
+          })
+        where
+          whole : {l : Label} {cs : Slots} {pass more : Lexemes → Lexemes} {h : Slots → Slots} {s'' : ℕ} → Headed text f q.prev_token_end l cs pass w.prev_token_end → Stretch text (plain full) (args f) w.prev_token_end nothing s'' h more → w.prev_token_end ≤ s'' → MemberSoFar text f p.prev_token_end p.token.span.start (record { kind = new_expression; op = no_op; flags = 0; span = record { from = p.token.span.start; to = s'' } }) (tree l cs (h end)) (λ ls. next m.lexeme (pass (more ls))) s''
+          whole (a_member c b) z i = (member_new f no_primary (stretches new_skips (stretches (member_then f c) z i) (let d = m.at.behind in let e = callee_taken.further in omega arith)) (begins_here a), bare_none (a_member c b))
+          whole (a_new z c b) u i = absurd (let y = lexeme_there callee_taken.at s refl refl refl in false≢true (sym (b y.0 y.1) ∙ subst (λ (v : Kind). one_of_kinds link_kinds v ≡ true) (sym y.2) refl))
+
+-- ---- calls
+
+abbrev pub Called : List ℕ → Flags → Parser → Parser → NodeId → Type 0
+Called text f o p id = Taken text f o p id (λ l cs pass s'. CallSoFar text f o.prev_token_end o.token.span.start l cs pass s') (NoLhs text f o.prev_token_end)
+
+abbrev pub CalleeTaken : List ℕ → Flags → Parser → Parser → NodeId → Type 0
+CalleeTaken text f o p id = Taken text f o p id (λ l cs pass s'. Callee text f o.prev_token_end l cs pass s') (NoLhs text f o.prev_token_end)
+
+-- if one link can't be read, none can
+none_of_links : {text : List ℕ} {f : Flags} {s : ℕ} (c o : Bool) → OnlyLink text f s c o → NoLink text f s c o → (c' o' : Bool) → NoLink text f s c' o'
+none_of_links {text} {f} {s} c o u n c' o' = go (u c' o')
+  where
+    go : ((c' ≡ c) × (o' ≡ o)) ⊎ NoLink text f s c' o' → NoLink text f s c' o'
+    go (inl z) = subst (λ (v : Bool). NoLink text f s v o') (sym z.0) (subst (λ (v : Bool). NoLink text f s c v) (sym z.1) n)
+    go (inr z) = z
+
+pub head_closed : {text : List ℕ} {f : Flags} {o p : Parser} {id : NodeId} → HeadTaken text f o p id → NoDot text p → StandsHere p LParen false → CalleeOutcome text f o p (Ok id)
+head_closed {f = f} x n s = (retake x (λ l cs pass c. a_head c) (λ z. no_lhs_here f z), n, stands_not x.at refl s)
+
+module _ {text : List ℕ} {f : Flags} {o p : Parser} {left : NodeId} (a : At text f o) (x : HeadTaken text f o p left) (s : StandsHere p LParen true) where
+  parens : AllAre text p.prev_token_end LParen
+  parens = stands_there x.at s.0 refl
+
+  beyond : {l : Label} {cs : Slots} {pass : Lexemes → Lexemes} → Stretch text (after (at Member f)) (such (at Member f) always) o.prev_token_end nothing p.prev_token_end (tree l cs) pass → NoBareNew text f o.prev_token_end → Beyond text f o.prev_token_end
+  beyond c b = record { no_new = no_new_before f LParen (λ d v. refl) c b parens; no_member = member_before_chain f c parens }
+
+  never_new : {C : Type 0} → ((y : Lexeme) → Lex text p.prev_token_end y → one_of_kinds link_kinds y.kind ≡ false) → C
+  never_new b = let y = lexeme_there x.at s refl refl refl in absurd (false≢true (sym (b y.0 y.1) ∙ subst (λ (v : Kind). one_of_kinds link_kinds v ≡ true) (sym y.2) refl))
+
+  first_good : (c d : Bool) → (c ≡ true) × (d ≡ false) → {l : Label} {cs : Slots} {pass more : Lexemes → Lexemes} {h : Slots → Slots} {s'' : ℕ} → Headed text f o.prev_token_end l cs pass p.prev_token_end → p.prev_token_end ≤ s'' → Stretch text (plain full) (chained f c d).part p.prev_token_end nothing s'' h more → CallSoFar text f o.prev_token_end o.token.span.start (link_label c d o.token.span.start s'') (tree l cs (h end)) (λ ls. pass (more ls)) s''
+  first_good true false e (a_member c b) i y = (call_begin f c i (begins_here a) y, beyond c b)
+  first_good true false e (a_new n c b) i y = never_new b
+  first_good false d e c i y = absurd (false≢true e.0)
+  first_good true true e c i y = absurd (false≢true (sym e.1))
+
+  first_bad : (c d : Bool) → (c ≡ true) × (d ≡ false) → {l : Label} {cs : Slots} {pass : Lexemes → Lexemes} → Headed text f o.prev_token_end l cs pass p.prev_token_end → NoLink text f p.prev_token_end c d → NoLhs text f o.prev_token_end
+  first_bad true false e (a_member c b) n = no_lhs f (beyond c b).no_new (no_call_behind f c n) (no_first f (base_none f (member_before_chain f c parens) (no_call_behind f c n)))
+  first_bad true false e (a_new z c b) n = never_new b
+  first_bad false d e c n = absurd (false≢true e.0)
+  first_bad true true e c n = absurd (false≢true (sym e.1))
+
+  begun : Taken text f o p left (λ l cs pass s'. Headed text f o.prev_token_end l cs pass s') (NoLhs text f o.prev_token_end)
+  begun = retake x (λ l cs pass c. c) (λ z. no_lhs_here f z)
+
+  pub call_first : {w : Parser} {id : NodeId} {start : ℕ} → start ≡ o.token.span.start → Linked text f start left p w id → Called text f o w id
+  call_first e y = link_taken begun e y (λ pass c i z. first_good y.call y.optional (call_here p y.call y.optional s y.sign) c i z) (λ c n. first_bad y.call y.optional (call_here p y.call y.optional s y.sign) c n)
+
+  pub call_first_stops : (w : Parser) (e : Stop) → Stops p w e ((c d : Bool) → NoLink text f p.prev_token_end c d) → Stops o w e (NoLhs text f o.prev_token_end)
+  call_first_stops w e z = stops_behind w e x.same.follows (λ g. grown_behind x.verdict g) (λ n. either_way x.verdict (λ c. first_bad true false (refl, refl) c (n true false)) (λ n. no_lhs_here f n)) z
+
+module _ {text : List ℕ} {f : Flags} {o p : Parser} {left : NodeId} (x : Called text f o p left) (k : LinkHere p false true) where
+  plain_link : (c d : Bool) → StandsHere p (sign_of c d) true → d ≡ false
+  plain_link c d s = go d s k
+    where
+      go : (d : Bool) → StandsHere p (sign_of c d) true → LinkHere p false true → d ≡ false
+      go false s k = refl
+      go true s (a_link c' true z e) = absurd (false≢true (e refl))
+      go true s (a_link c' false z e) = absurd (not_optional p c c' z s)
+
+  call_good : (c d : Bool) → d ≡ false → StandsHere p (sign_of c d) true → {l : Label} {cs : Slots} {pass more : Lexemes → Lexemes} {h : Slots → Slots} {s'' : ℕ} → CallSoFar text f o.prev_token_end o.token.span.start l cs pass p.prev_token_end → p.prev_token_end ≤ s'' → Stretch text (plain full) (chained f c d).part p.prev_token_end nothing s'' h more → CallSoFar text f o.prev_token_end o.token.span.start (link_label c d o.token.span.start s'') (tree l cs (h end)) (λ ls. pass (more ls)) s''
+  call_good c false e s u i y = (call_step f c u.0 (all_signs x.at c false s) i y, u.1)
+  call_good c true e s u i y = absurd (false≢true (sym e))
+
+  call_bad : (c d : Bool) → d ≡ false → StandsHere p (sign_of c d) true → {l : Label} {cs : Slots} {pass : Lexemes → Lexemes} → CallSoFar text f o.prev_token_end o.token.span.start l cs pass p.prev_token_end → NoLink text f p.prev_token_end c d → NoLhs text f o.prev_token_end
+  call_bad c false e s u n = no_lhs f u.1.no_new (call_step_fails f c (λ l cs vs y e. call_heads f l cs vs y e) u.0 (all_signs x.at c false s) n) (no_first f (base_none f u.1.no_member (call_step_fails f c (λ l cs vs y e. chain_heads f l cs vs y e) u.0 (all_signs x.at c false s) n)))
+  call_bad c true e s u n = absurd (false≢true (sym e))
+
+  pub call_linked : {w : Parser} {id : NodeId} {start : ℕ} → start ≡ o.token.span.start → Linked text f start left p w id → Called text f o w id
+  call_linked e y = link_taken x e y (λ pass c i z. call_good y.call y.optional (plain_link y.call y.optional y.sign) y.sign c i z) (λ c n. call_bad y.call y.optional (plain_link y.call y.optional y.sign) y.sign c n)
+
+  pub call_stops : (w : Parser) (e : Stop) → Stops p w e ((c d : Bool) → NoLink text f p.prev_token_end c d) → Stops o w e (NoLhs text f o.prev_token_end)
+  call_stops w e z = stops_behind w e x.same.follows (λ g. grown_behind x.verdict g) (λ n. either_way x.verdict (λ u. at_link k u n) (λ n. n)) z
+    where
+      at_link : LinkHere p false true → {l : Label} {cs : Slots} {pass : Lexemes → Lexemes} → CallSoFar text f o.prev_token_end o.token.span.start l cs pass p.prev_token_end → ((c d : Bool) → NoLink text f p.prev_token_end c d) → NoLhs text f o.prev_token_end
+      at_link (a_link c d s e) u n = call_bad c d (plain_link c d s) s u (n c d)
+
+pub call_closed : {text : List ℕ} {f : Flags} {o p : Parser} {id : NodeId} → (x : Called text f o p id) → LinkHere p false false → CalleeOutcome text f o p (Ok id)
+call_closed {f = f} x (no_link s d e) = (retake x (λ l cs pass c. a_call (call_ends f c.0 (stands_not x.at refl d) (stands_not x.at refl s)) c.1) (λ n. n), stands_not x.at refl d, stands_not x.at refl s)
 
 -- ---- LeftHandSideExpressions
 
 abbrev pub Chained : List ℕ → Flags → Parser → Parser → NodeId → Type 0
-Chained text f o p id = Taken text f o p id (λ l cs pass s'. ChainSoFar text f o.prev_token_end o.token.span.start l cs pass s') (Underived text (at LeftHandSide f) o.prev_token_end)
+Chained text f o p id = Taken text f o p id (λ l cs pass s'. ChainSoFar text f o.prev_token_end o.token.span.start l cs pass s') (NoLhs text f o.prev_token_end)
 
 abbrev no_more : Bool → Look
 no_more b k w e = one_of_kinds link_kinds k || (nat_lt (tight b after_expression k w e) 17 || beside k w e)
@@ -357,120 +549,273 @@ lhs_stops b n d y l = go (one_of_kinds link_kinds y.kind) refl (covered reads (n
     go true e h = absurd (false≢true (sym (n y l) ∙ e))
     go false e h = h
 
-pub no_lhs_here : {text : List ℕ} (f : Flags) {s : ℕ} → NoMember text f s → Underived text (at LeftHandSide f) s
-no_lhs_here f n = no_lhs f (no_new f n) (no_first f n.0)
-
--- no chain stands behind the member
-no_chain_part : {text : List ℕ} (f : Flags) {s : ℕ} → NoneIs text s QuestionDot → Fails rule (Lex text) (plain full) end (chained f true).part s
-no_chain_part f n = fails_here firsts (λ y l h. n y l (sym (kind_of_same QuestionDot y.kind (and_parts _ _ h).0)))
-
-pub lhs_member : {text : List ℕ} {f : Flags} {o p : Parser} {id : NodeId} → (x : HeadTaken text f o p id) → NoDot text p → StandsHere p QuestionDot false → Numbered text f (at LeftHandSide f) o p id
-lhs_member {text} {f} {o} {p} x n s =
-    let y = retake x (λ l cs pass c. whole c) (λ z. no_lhs_here f z) in
-    numbered y y.row (lhs_stops f.in_ (no_link_kind n (stands_not x.at refl s)) (edge_of y.label y.slots))
+pub lhs_callee : {text : List ℕ} {f : Flags} {o p : Parser} {id : NodeId} → (x : CalleeTaken text f o p id) → NoDot text p → NoParen text p → StandsHere p QuestionDot false → Numbered text f (at LeftHandSide f) o p id
+lhs_callee {text} {f} {o} {p} x n m s =
+    let y = retake x (λ l cs pass c. whole c) (λ z. z) in
+    numbered y y.row (lhs_stops f.in_ (no_link_kind n none m) (edge_of y.label y.slots))
   where
-    whole : {l : Label} {cs : Slots} {pass : Lexemes → Lexemes} → Headed text f o.prev_token_end l cs pass p.prev_token_end → Stretch text (after (at LeftHandSide f)) (such (at LeftHandSide f) always) o.prev_token_end nothing p.prev_token_end (tree l cs) pass
-    whole (a_member c b) = lhs_new f (new_member f c b) (no_link f c (no_chain_part f (stands_not x.at refl s)))
-    whole (a_new z c b) = lhs_new f c (no_first f z)
+    none : NoneIs text p.prev_token_end QuestionDot
+    none = stands_not x.at refl s
 
--- a lexeme that was passed stood there
-stood : {text : List ℕ} {f : Flags} {p q : Parser} (k : Kind) → p.token.kind ≡ k → p.token.escaped ≡ false → one_of_kinds read_kinds k ≡ true → (m : Moved text f p q) → Lex text p.prev_token_end m.lexeme × (m.lexeme.kind ≡ k)
-stood k e n r m = ((m.stood, read_of m.lexeme (sym m.tells.kind ∙ e) (sym m.tells.escaped ∙ n) r), sym m.tells.kind ∙ e)
+    whole : {l : Label} {cs : Slots} {pass : Lexemes → Lexemes} → Callee text f o.prev_token_end l cs pass p.prev_token_end → Stretch text (after (at LeftHandSide f)) (such (at LeftHandSide f) always) o.prev_token_end nothing p.prev_token_end (tree l cs) pass
+    whole (a_head (a_member c b)) = lhs_new f (new_member f c b) (no_call_behind f c (no_arguments_here f m)) (no_first f (base_none f (member_alone f c none) (no_call_behind f c (no_arguments_here f m))))
+    whole (a_head (a_new z c b)) = lhs_new f c (no_call_at_all f z) (no_first f (base_none f (member_before f z) (no_call_at_all f z)))
+    whole (a_call c b) = lhs_call f b.no_new c (no_first f (base_none f b.no_member (call_alone f c none)))
 
-module _ {text : List ℕ} {f : Flags} {o p : Parser} {left : NodeId} (a : At text f o) (x : HeadTaken text f o p left) (s : StandsHere p QuestionDot true) where
-  chain_none : {q : Parser} → Moved text f p q → {l : Label} {cs : Slots} {pass : Lexemes → Lexemes} → Headed text f o.prev_token_end l cs pass p.prev_token_end → Fails rule (Lex text) (plain full) end (chained f true).part p.prev_token_end → Underived text (at LeftHandSide f) o.prev_token_end
-  chain_none m (a_member c b) z = no_lhs f (no_new_before f c b (stands_there x.at s.0 refl)) (no_link f c z)
-  chain_none m (a_new n c b) z = let y = stood QuestionDot s.0 s.1 refl m in absurd (false≢true (sym (b m.lexeme y.0) ∙ rw (y.1) refl))
+module _ {text : List ℕ} {f : Flags} {o p : Parser} {left : NodeId} (a : At text f o) (x : CalleeTaken text f o p left) (s : StandsHere p QuestionDot true) where
+  chains_here : AllAre text p.prev_token_end QuestionDot
+  chains_here = stands_there x.at s.0 refl
 
-  readied : Taken text f o p left (λ l cs pass s'. Headed text f o.prev_token_end l cs pass s') (Underived text (at LeftHandSide f) o.prev_token_end)
-  readied = retake x (λ l cs pass c. c) (λ z. no_lhs_here f z)
+  no_parens : NoneIs text p.prev_token_end LParen
+  no_parens y l e = let u : QuestionDot ≡ LParen = sym (chains_here y l).0 ∙ e in cc
 
-  pub chain_first : {w : Parser} {id : NodeId} {start : ℕ} → start ≡ o.token.span.start → NameLinked text f start left true p w id → Chained text f o w id
-  chain_first e y = link_taken readied e s.0 s.1 y (λ pass c i z. begun c i z) (λ c z. chain_none y.moved c z)
+  -- what a chain hangs on, and that it is nothing else
+  record Base (l : Label) (cs : Slots) (pass : Lexemes → Lexemes) : Type 0 where
+    base : Stretch text before_chain (bases f) o.prev_token_end nothing p.prev_token_end (tree l cs) pass
+    no_bare : Underived text (at new_symbol f) o.prev_token_end
+    no_call : NotCall text f o.prev_token_end
+
+  based : {l : Label} {cs : Slots} {pass : Lexemes → Lexemes} → Callee text f o.prev_token_end l cs pass p.prev_token_end → Base l cs pass
+  based (a_head (a_member c b)) = record { base = base_member f c chains_here; no_bare = no_new_before f QuestionDot (λ d v. refl) c b chains_here; no_call = no_call_behind f c (no_arguments_here f no_parens) }
+  based (a_head (a_new z c b)) = let y = lexeme_there x.at s refl refl refl in absurd (false≢true (sym (b y.0 y.1) ∙ subst (λ (v : Kind). one_of_kinds link_kinds v ≡ true) (sym y.2) refl))
+  based (a_call c b) = record { base = base_call f c b.no_member; no_bare = b.no_new; no_call = call_unfollowed f c chains_here }
+
+  chain_good : (c d : Bool) → d ≡ true → OnlyLink text f p.prev_token_end c d → {l : Label} {cs : Slots} {pass more : Lexemes → Lexemes} {h : Slots → Slots} {s'' : ℕ} → Callee text f o.prev_token_end l cs pass p.prev_token_end → p.prev_token_end ≤ s'' → Stretch text (plain full) (chained f c d).part p.prev_token_end nothing s'' h more → ChainSoFar text f o.prev_token_end o.token.span.start (link_label c d o.token.span.start s'') (tree l cs (h end)) (λ ls. pass (more ls)) s''
+  chain_good c true e u k i y = let b = based k in (chain_begin f c b.base i (begins_here a) u y, b.no_bare, b.no_call)
+  chain_good c false e u k i y = absurd (false≢true e)
+
+  chain_bad : {l : Label} {cs : Slots} {pass : Lexemes → Lexemes} → Callee text f o.prev_token_end l cs pass p.prev_token_end → ((c d : Bool) → NoLink text f p.prev_token_end c d) → NoLhs text f o.prev_token_end
+  chain_bad k n = let b = based k in no_lhs f b.no_bare b.no_call (no_chain_link f b.base (λ c. n c true))
+
+  pub chain_first : {w : Parser} {id : NodeId} {start : ℕ} → start ≡ o.token.span.start → Linked text f start left p w id → Chained text f o w id
+  chain_first e y = link_taken x e y (λ pass c i z. chain_good y.call y.optional (optional_here p y.call y.optional s y.sign) y.only c i z) (λ c n. chain_bad c (none_of_links y.call y.optional y.only n))
+
+  pub chain_first_stops : (w : Parser) (e : Stop) → Stops p w e ((c d : Bool) → NoLink text f p.prev_token_end c d) → Stops o w e (NoLhs text f o.prev_token_end)
+  chain_first_stops w e z = stops_behind w e x.same.follows (λ g. grown_behind x.verdict g) (λ n. either_way x.verdict (λ c. chain_bad c n) (λ n. n)) z
+
+module _ {text : List ℕ} {f : Flags} {o p : Parser} {left : NodeId} (x : Chained text f o p left) (k : LinkHere p true true) where
+  chain_none : {l : Label} {cs : Slots} {pass : Lexemes → Lexemes} → ChainSoFar text f o.prev_token_end o.token.span.start l cs pass p.prev_token_end → ((c d : Bool) → NoLink text f p.prev_token_end c d) → NoLhs text f o.prev_token_end
+  chain_none u n = go k
     where
-      begun : {s'' : ℕ} {l : Label} {cs : Slots} {pass more : Lexemes → Lexemes} {h : Slots → Slots} → Headed text f o.prev_token_end l cs pass p.prev_token_end → p.prev_token_end ≤ s'' → Stretch text (plain full) (chained f true).part p.prev_token_end nothing s'' h more → ChainSoFar text f o.prev_token_end o.token.span.start (member_label true o.token.span.start s'') (tree l cs (h end)) (λ ls. pass (more ls)) s''
-      begun (a_member c b) i z = (chain_begin f c i (begins_here a) z, no_new_before f c b (stands_there x.at s.0 refl))
-      begun (a_new n c b) i z = let y = stood QuestionDot s.0 s.1 refl y.moved in absurd (false≢true (sym (b _ y.0) ∙ rw (y.1) refl))
+      go : LinkHere p true true → NoLhs text f o.prev_token_end
+      go (a_link c d s e) = no_lhs f u.1 u.2 (chain_step_fails f u.0 c d (all_signs x.at c d s) n)
 
-  pub first_stops : (w : Parser) (e : Stop) → Stops p w e (NoName text f p) → Stops o w e (Underived text (at LeftHandSide f) o.prev_token_end)
-  first_stops w e z = stops_behind w e x.same.follows (λ g. grown_behind x.verdict g) (λ n. either_way x.verdict (λ c. chain_none n.moved c (link_fails true x.at s.0 s.1 n)) (λ n. no_lhs_here f n)) z
+  pub chain_linked : {w : Parser} {id : NodeId} {start : ℕ} → start ≡ o.token.span.start → Linked text f start left p w id → Chained text f o w id
+  chain_linked e y = link_taken x e y (λ pass c i z. (chain_step f y.call y.optional c.0 (all_signs x.at y.call y.optional y.sign) y.only i z, c.1, c.2)) (λ c n. chain_none c (none_of_links y.call y.optional y.only n))
 
-module _ {text : List ℕ} {f : Flags} {o p : Parser} {left : NodeId} (b : Bool) (x : Chained text f o p left) (s : StandsHere p (sign_of b) true) where
-  all_signs : AllAre text p.prev_token_end (sign_of b)
-  all_signs = by b s.0
-    where
-      by : (b : Bool) → p.token.kind ≡ sign_of b → AllAre text p.prev_token_end (sign_of b)
-      by true e = stands_there x.at e refl
-      by false e = stands_there x.at e refl
+  pub chain_stops : (w : Parser) (e : Stop) → Stops p w e ((c d : Bool) → NoLink text f p.prev_token_end c d) → Stops o w e (NoLhs text f o.prev_token_end)
+  chain_stops w e z = stops_behind w e x.same.follows (λ g. grown_behind x.verdict g) (λ n. either_way x.verdict (λ c. chain_none c n) (λ n. n)) z
 
-  pub chain_linked : {w : Parser} {id : NodeId} {start : ℕ} → start ≡ o.token.span.start → NameLinked text f start left b p w id → Chained text f o w id
-  chain_linked e y = link_taken x e s.0 s.1 y (λ pass c i z. (chain_step f b c.0 all_signs i z, c.1)) (λ c z. no_lhs f c.1 (chain_step_fails f b c.0 all_signs z))
-
-  pub chain_stops : (w : Parser) (e : Stop) → Stops p w e (NoName text f p) → Stops o w e (Underived text (at LeftHandSide f) o.prev_token_end)
-  chain_stops w e z = stops_behind w e x.same.follows (λ g. grown_behind x.verdict g) (λ n. either_way x.verdict (λ c. no_lhs f c.1 (chain_step_fails f b c.0 all_signs (link_fails b x.at s.0 s.1 n))) (λ n. n)) z
-
-pub chain_done : {text : List ℕ} {f : Flags} {o p w : Parser} {left id : NodeId} {s : Span} → At text f o → (x : Chained text f o p left) → StandsHere p QuestionDot false → StandsHere p Dot false → s.start ≡ o.token.span.start → s.end ≡ p.prev_token_end → MadeHere (plain_label node.ChainExpression op.None s) (Some left ∷ []) p w id → Numbered text f (at LeftHandSide f) o w id
+pub chain_done : {text : List ℕ} {f : Flags} {o p w : Parser} {left id : NodeId} {s : Span} → At text f o → (x : Chained text f o p left) → LinkHere p true false → s.start ≡ o.token.span.start → s.end ≡ p.prev_token_end → MadeHere (plain_label node.ChainExpression op.None s) (Some left ∷ []) p w id → Numbered text f (at LeftHandSide f) o w id
 unfolding rule rule_of
-chain_done {text} {f} {o} {p} {w} {left} {id} {s} a x g h b c d =
+chain_done {text} {f} {o} {p} {w} {left} {id} {s} a x (no_link g h j) b c d =
     let made : MadeHere (label_here chain_expression no_op o p) (Some left ∷ []) p w id = subst (λ (z : Label). MadeHere z (Some left ∷ []) p w id) (rw (b, c) refl) d in
-    let none = no_link_kind (stands_not x.at refl h) (stands_not x.at refl g) in
-    let y = wrap_taken x made refl (λ c. lhs_chain f c.1 (noding p a (record { ends = λ q cs vs j ls mid d e. e }) (chain_ends f c.0 none))) (λ n. n) in
+    let none = no_link_kind (stands_not x.at refl h) (stands_not x.at refl (j refl)) (stands_not x.at refl g) in
+    let y = wrap_taken x made refl (λ c. lhs_chain f c.1 c.2 (noding p a (record { ends = λ q cs vs j ls mid d e. e }) (chain_ends f c.0 none))) (λ n. n) in
     numbered y y.row (lhs_stops f.in_ (subst (λ (v : ℕ). (y : Lexeme) → Lex text v y → one_of_kinds link_kinds y.kind ≡ false) (sym (ap (λ (z : Parser). z.prev_token_end) made.stays)) none) (edge_of y.label y.slots))
+
+-- ---- reading a link
+
+module _ {text : List ℕ} (f : Flags) where
+  not_sign : (c o : Bool) (k : Kind) {s : ℕ} → (k ≡ sign_of c o → ⊥) → AllAre text s k → NoLink text f s c o
+  not_sign true true k n z = fails_here firsts (λ y l h. n (sym (z y l).0 ∙ sym (kind_of_same QuestionDot y.kind (and_parts _ _ h).0)))
+  not_sign false true k n z = fails_here firsts (λ y l h. n (sym (z y l).0 ∙ sym (kind_of_same QuestionDot y.kind (and_parts _ _ h).0)))
+  not_sign true false k n z = fails_here firsts (λ y l h. n (sym (z y l).0 ∙ sym (kind_of_same LParen y.kind (and_parts _ _ h).0)))
+  not_sign false false k n z = fails_here firsts (λ y l h. n (sym (z y l).0 ∙ sym (kind_of_same Dot y.kind (and_parts _ _ h).0)))
+
+  paren_only : {s : ℕ} → AllAre text s LParen → OnlyLink text f s true false
+  paren_only z true false = inl (refl, refl)
+  paren_only z true true = inr (not_sign true true LParen (λ e. cc) z)
+  paren_only z false true = inr (not_sign false true LParen (λ e. cc) z)
+  paren_only z false false = inr (not_sign false false LParen (λ e. cc) z)
+
+  dot_only : {s : ℕ} → AllAre text s Dot → OnlyLink text f s false false
+  dot_only z false false = inl (refl, refl)
+  dot_only z true true = inr (not_sign true true Dot (λ e. cc) z)
+  dot_only z false true = inr (not_sign false true Dot (λ e. cc) z)
+  dot_only z true false = inr (not_sign true false Dot (λ e. cc) z)
+
+  chain_only : (c : Bool) {s : ℕ} → ((d : Bool) → (d ≡ c → ⊥) → NoLink text f s d true) → AllAre text s QuestionDot → OnlyLink text f s c true
+  chain_only true n z true true = inl (refl, refl)
+  chain_only true n z false true = inr (n false (λ e. false≢true e))
+  chain_only false n z false true = inl (refl, refl)
+  chain_only false n z true true = inr (n true (λ e. false≢true (sym e)))
+  chain_only c n z true false = inr (not_sign true false QuestionDot (λ e. cc) z)
+  chain_only c n z false false = inr (not_sign false false QuestionDot (λ e. cc) z)
+
+-- the sign was passed
+part_behind : {text : List ℕ} {f : Flags} {p mid v : Parser} {g : G} {ids js : List (Option NodeId)} (k : Kind) → At text f p → p.token.kind ≡ k → p.token.escaped ≡ false → one_of_kinds read_kinds k ≡ true → (m : Moved text f p mid) → Partway text f g nothing mid v ids js → Partway text f (seq (tok k) g) nothing p v ids js
+part_behind {p = p} {mid} {v} {ids = ids} k a e n r m x = record {
+  at = x.at;
+  same = same_both m.same x.same;
+  further = let i = m.further in let j = x.further in let d = m.at.behind in omega arith;
+  slots = x.slots;
+  puts = x.puts;
+  pass = λ ls. next m.lexeme (x.pass ls);
+  walked = walked_both (walked_one m) x.walked;
+  verdict = behind_none m.kept (verdict_of x.verdict (λ y. stretches (record { reach = 0; near = omega arith; goes = skips a k e n r m }) y (let j = x.further in let d = m.at.behind in omega arith)) (λ z. skips a k e n r m ▹✗ z));
+  holds = λ lo us h. x.holds lo us (subst (λ (ns : List Node). HoldsAll ns lo (length ns) ids us) (sym m.nodes) h);
+  keeps = subst (λ (ns : List Node). Keeps ns v.nodes) m.nodes x.keeps;
+}
+
+-- a name as such a part
+part_name : {text : List ℕ} {f : Flags} {mid v : Parser} {left name : NodeId} → Numbered text f (at IdentifierName f) mid v name → Partway text f (symbol IdentifierName f) nothing mid v (Some left ∷ []) (Some left ∷ Some name ∷ [])
+part_name {text} {f} {mid} {v} {left} {name} x = record {
+  at = x.answer.at;
+  same = x.answer.same;
+  further = x.answer.further;
+  slots = tree x.answer.label x.answer.slots;
+  puts = λ us. refl;
+  pass = x.answer.pass;
+  walked = x.answer.walked;
+  verdict = verdict_of x.answer.verdict (λ y. record { reach = y.reach; near = y.near; goes = weaken y.goes (λ ts y e. (refl, refl)) }) (λ z. weaken_fails z (λ ts y e. (refl, refl)));
+  holds = λ lo us h. HoldsAll-next name x.keeps h x.holds;
+  keeps = x.keeps;
+}
+
+module _ {text : List ℕ} {f : Flags} {p : Parser} (a : At text f p) where
+  pub call_link : {q : Parser} {id left : NodeId} {start : ℕ} → StandsHere p LParen true → WithArguments node.CallExpression false start left p q id → Linked text f start left p q id
+  call_link s y = record { call = true; optional = false; sign = s; only = paren_only f (stands_there a s.0 refl); behind = y.behind; children = y.children; part = y.arguments text f a true; made = y.made }
+
+  no_word : {q : Parser} → At text f q → StandsHere q LParen true → Underived text (at IdentifierName f) q.prev_token_end
+  no_word b s = no_name b (ap read_word s.0)
+
+  pub no_call_link : (q : Parser) (e : Stop) → StandsHere p LParen true → Stops p q e (Fails rule (Lex text) (plain full) end (args f) p.prev_token_end) → Stops p q e ((c o : Bool) → NoLink text f p.prev_token_end c o)
+  no_call_link q e s z = stops_so p q e (λ n. none_of_links true false (paren_only f (stands_there a s.0 refl)) n) z
+
+  -- behind `?.`
+  module _ (s : StandsHere p QuestionDot true) {mid : Parser} (m : Moved text f p mid) where
+    call_lacks : Fails rule (Lex text) (plain full) end (args f) mid.prev_token_end → NoLink text f p.prev_token_end true true
+    call_lacks n = skips a QuestionDot s.0 s.1 refl m ▹✗ n
+
+    name_lacks : Underived text (at IdentifierName f) mid.prev_token_end → NoLink text f p.prev_token_end false true
+    name_lacks n = skips a QuestionDot s.0 s.1 refl m ▹✗ weaken_fails n (λ ts y e. (refl, refl))
+
+    pub optional_call : {q : Parser} {id left : NodeId} {start : ℕ} → StandsHere mid LParen true → WithArguments node.CallExpression true start left mid q id → Linked text f start left p q id
+    optional_call t y = record { call = true; optional = true; sign = s; only = chain_only f true others (stands_there a s.0 refl); behind = y.behind; children = y.children; part = part_behind QuestionDot a s.0 s.1 refl m (y.arguments text f m.at true); made = y.made }
+      where
+        others : (d : Bool) → (d ≡ true → ⊥) → NoLink text f p.prev_token_end d true
+        others true n = absurd (n refl)
+        others false n = name_lacks (no_word m.at t)
+
+    pub no_optional_call : (q : Parser) (e : Stop) → StandsHere mid LParen true → Stops mid q e (Fails rule (Lex text) (plain full) end (args f) mid.prev_token_end) → Stops p q e ((c o : Bool) → NoLink text f p.prev_token_end c o)
+    no_optional_call q e t z = stops_behind q e m.same.follows (λ g. grown_then m.kept g) (λ n. none_of_links true true (chain_only f true (λ d h. other d h) (stands_there a s.0 refl)) (call_lacks n)) z
+      where
+        other : (d : Bool) → (d ≡ true → ⊥) → NoLink text f p.prev_token_end d true
+        other true n = absurd (n refl)
+        other false n = name_lacks (no_word m.at t)
+
+    pub optional_name : {v q : Parser} {id left name : NodeId} {start : ℕ} → StandsHere mid LParen false → Numbered text f (at IdentifierName f) mid v name → MadeHere (link_label false true start v.prev_token_end) (Some left ∷ Some name ∷ []) v q id → Linked text f start left p q id
+    optional_name {v} t x y = record { call = false; optional = true; sign = s; only = chain_only f false others (stands_there a s.0 refl); behind = v; children = _; part = part_behind QuestionDot a s.0 s.1 refl m (part_name x); made = y }
+      where
+        others : (d : Bool) → (d ≡ false → ⊥) → NoLink text f p.prev_token_end d true
+        others false n = absurd (n refl)
+        others true n = call_lacks (no_arguments_here f (stands_not m.at refl t))
+
+    pub no_optional_name : (q : Parser) (e : Stop) → StandsHere mid LParen false → Stops mid q e (Underived text (at IdentifierName f) mid.prev_token_end) → Stops p q e ((c o : Bool) → NoLink text f p.prev_token_end c o)
+    no_optional_name q e t z = stops_behind q e m.same.follows (λ g. grown_then m.kept g) (λ n. none_of_links false true (chain_only f false (λ d h. other d h) (stands_there a s.0 refl)) (name_lacks n)) z
+      where
+        other : (d : Bool) → (d ≡ false → ⊥) → NoLink text f p.prev_token_end d true
+        other false n = absurd (n refl)
+        other true n = call_lacks (no_arguments_here f (stands_not m.at refl t))
+
+  -- behind `.`
+  module _ (s : StandsHere p Dot true) {mid : Parser} (m : Moved text f p mid) where
+    pub name_link : {v q : Parser} {id left name : NodeId} {start : ℕ} → Numbered text f (at IdentifierName f) mid v name → MadeHere (link_label false false start v.prev_token_end) (Some left ∷ Some name ∷ []) v q id → Linked text f start left p q id
+    name_link {v} x y = record { call = false; optional = false; sign = s; only = dot_only f (stands_there a s.0 refl); behind = v; children = _; part = part_behind Dot a s.0 s.1 refl m (part_name x); made = y }
+
+    pub no_name_link : (q : Parser) (e : Stop) → Stops mid q e (Underived text (at IdentifierName f) mid.prev_token_end) → Stops p q e ((c o : Bool) → NoLink text f p.prev_token_end c o)
+    no_name_link q e z = stops_behind q e m.same.follows (λ g. grown_then m.kept g) (λ n. none_of_links false false (dot_only f (stands_there a s.0 refl)) (skips a Dot s.0 s.1 refl m ▹✗ weaken_fails n (λ ts y e. (refl, refl)))) z
 
 -- ---- what the loops keep
 
-pub record MemberLoop (start : ℕ) (member : NodeId) (p q : Parser) (left : NodeId) : Type 0 where
+pub record LinkLoop (start : ℕ) (p q : Parser) (G : Type 0) : Type 0 where
   pub at : Standing q
   pub before : start ≤ q.prev_token_end
-  pub goes : (text : List ℕ) (f : Flags) (o : Parser) → start ≡ o.token.span.start → Membered text f o p member → Membered text f o q left
+  pub later : room q ≤ room p
+  pub goes : G
 
-pub record ChainLoop (start : ℕ) (member : NodeId) (p q : Parser) (left : NodeId) : Type 0 where
-  pub at : Standing q
-  pub before : start ≤ q.prev_token_end
-  pub goes : (text : List ℕ) (f : Flags) (o : Parser) → At text f o → start ≡ o.token.span.start → HeadTaken text f o p member → NoDot text p → Chained text f o q left
+abbrev pub MemberGoes : NodeId → ℕ → Parser → Parser → NodeId → Type 0
+MemberGoes member start p q left = (text : List ℕ) (f : Flags) (o : Parser) → start ≡ o.token.span.start → Membered text f o p member → Membered text f o q left
 
--- behind a link there is less of the text left
-pub link_less : {text : List ℕ} {f : Flags} {start : ℕ} {left id : NodeId} {o : Bool} {p w : Parser} → At text f p → NameLinked text f start left o p w id → room w < room p
-link_less {p = p} {w = w} a y = let m = y.moved.further in let n = y.named.answer.further in let b = y.moved.at.behind in let c = a.behind in let d = a.at.between.0 in let e = ap (λ (z : Parser). z.prev_token_end) y.made.stays in let g = ap (λ (z : Parser). length z.text) y.made.stays in let h = y.moved.same.follows.text in let i = y.named.answer.same.follows.text in omega (arith, ap length h, ap length i)
+abbrev pub CallGoes : NodeId → ℕ → Parser → Parser → NodeId → Type 0
+CallGoes member start p q left = (text : List ℕ) (f : Flags) (o : Parser) → At text f o → start ≡ o.token.span.start → HeadTaken text f o p member → Called text f o q left
 
-pub link_behind : {text : List ℕ} {f : Flags} {start : ℕ} {left id : NodeId} {o : Bool} {p w : Parser} → At text f p → NameLinked text f start left o p w id → p.prev_token_end ≤ w.prev_token_end
-link_behind {p = p} {w = w} a y = let m = y.moved.further in let n = y.named.answer.further in let b = y.moved.at.behind in let c = a.behind in let e = ap (λ (z : Parser). z.prev_token_end) y.made.stays in omega arith
+abbrev pub ChainGoes : NodeId → ℕ → Parser → Parser → NodeId → Type 0
+ChainGoes callee start p q left = (text : List ℕ) (f : Flags) (o : Parser) → At text f o → start ≡ o.token.span.start → CalleeTaken text f o p callee → Chained text f o q left
 
-pub link_at : {text : List ℕ} {f : Flags} {start : ℕ} {left id : NodeId} {o : Bool} {p w : Parser} → NameLinked text f start left o p w id → At text f w
-link_at {text} {f} {w = w} y = subst (λ (z : Parser). At text f z) (sym y.made.stays) (beside_nodes w.nodes y.named.answer.at)
+module _ {text : List ℕ} {f : Flags} {start : ℕ} {left id : NodeId} {p w : Parser} (a : At text f p) (y : Linked text f start left p w id) where
+  link_place : w.prev_token_end ≡ y.behind.prev_token_end
+  link_place = ap (λ (z : Parser). z.prev_token_end) y.made.stays
 
-pub member_preserved : {start : ℕ} {member left id : NodeId} {p q w : Parser} → MemberLoop start member p q left → StandsHere q Dot true → LinksName start left false q w (Ok id) → MemberLoop start member p w id
-member_preserved {w = w} l s y = record {
-  at = standing (link_at (y _ _ l.at));
-  before = let a = l.before in let b = link_behind l.at (y _ _ l.at) in omega arith;
-  goes = λ text f o e x. let z = l.goes text f o e x in member_linked e z s (y text f z.at);
-}
+  link_behind : p.prev_token_end < w.prev_token_end
+  link_behind = let b = a.behind in let c = y.part.further in let d = link_place in omega arith
 
-pub chain_preserved : {start : ℕ} {member left id : NodeId} (b : Bool) {p q w : Parser} → ChainLoop start member p q left → StandsHere q (sign_of b) true → LinksName start left b q w (Ok id) → ChainLoop start member p w id
-chain_preserved b {w = w} l s y = record {
-  at = standing (link_at (y _ _ l.at));
-  before = let a = l.before in let b = link_behind l.at (y _ _ l.at) in omega arith;
-  goes = λ text f o a e x n. let z = l.goes text f o a e x n in chain_linked b z s e (y text f z.at);
-}
+  link_at : At text f w
+  link_at = subst (λ (z : Parser). At text f z) (sym y.made.stays) (beside_nodes w.nodes y.part.at)
 
-pub chain_started : {start : ℕ} {member id : NodeId} {p w : Parser} → Standing p → start ≤ p.prev_token_end → StandsHere p QuestionDot true → LinksName start member true p w (Ok id) → ChainLoop start member p w id
-chain_started a b s y = record {
-  at = standing (link_at (y _ _ a));
-  before = let i = link_behind a (y _ _ a) in omega arith;
-  goes = λ text f o c e x n. chain_first c x s e (y text f x.at);
-}
+  pub link_less : room w < room p
+  link_less = let b = link_behind in let c = link_at.at.between.0 in let d = link_at.text_is in let e = a.text_is in omega (arith, ap length d, ap length e)
+
+pub next_loop : {start : ℕ} {p q w : Parser} {left id : NodeId} {G H : Type 0} → LinkLoop start p q G → ReadsLink start left q w (Ok id) → H → LinkLoop start p w H
+next_loop l y h =
+    let x = y _ _ l.at in
+    record { at = standing (link_at l.at x); before = let a = l.before in let b = link_behind l.at x in omega arith; later = let a = l.later in let b = link_less l.at x in omega arith; goes = h }
+
+pub first_loop : {start : ℕ} {p : Parser} {G : Type 0} → Standing p → start ≤ p.prev_token_end → G → LinkLoop start p p G
+first_loop a b g = record { at = a; before = b; later = omega arith; goes = g }
+
+pub dot_here : {p : Parser} → StandsHere p Dot true → LinkHere p true true
+dot_here s = a_link false false s (λ e. absurd (false≢true e))
+
+pub paren_here : {p : Parser} → StandsHere p LParen true → LinkHere p true true
+paren_here s = a_link true false s (λ e. absurd (false≢true e))
+
+pub chain_here : {p : Parser} → StandsHere p QuestionDot true → LinkHere p true true
+chain_here s = a_link false true s (λ e. refl)
+
+pub any_here : {p : Parser} → LinkHere p false true → LinkHere p true true
+any_here (a_link c o s e) = a_link c o s (λ z. refl)
 
 pub stands_so : (p : Parser) (k : Kind) {b r : Bool} → r ≡ b → StandsHere p k r → StandsHere p k b
 stands_so p k e s = subst (λ (c : Bool). StandsHere p k c) e s
 
-pub no_sign : (p : Parser) {r : Option Bool} → r ≡ None → SignHere p r → StandsHere p QuestionDot false × StandsHere p Dot false
-no_sign p e s = subst (λ (c : Option Bool). SignHere p c) e s
+pub here_so : (p : Parser) (h : Bool) {b r : Bool} → r ≡ b → LinkHere p h r → LinkHere p h b
+here_so p h e s = subst (λ (c : Bool). LinkHere p h c) e s
 
-pub some_sign : (p : Parser) {r : Option Bool} {b : Bool} → r ≡ Some b → SignHere p r → StandsHere p (sign_of b) true
-some_sign p e s = subst (λ (c : Option Bool). SignHere p c) e s
+-- neither a parenthesis nor `?.`: a dot
+pub dot_left : {p : Parser} → LinkHere p true true → StandsHere p LParen false → StandsHere p QuestionDot false → StandsHere p Dot true
+dot_left (a_link c true s e) n m = absurd (m s.0 s.1)
+dot_left (a_link true false s e) n m = absurd (n s.0 s.1)
+dot_left (a_link false false s e) n m = s
 
-pub no_head : {text : List ℕ} {f : Flags} {p : Parser} → At text f p → StandsHere p New false → Underived text (at Primary f) p.prev_token_end → NoMember text f p.prev_token_end
-no_head {f = f} a s n = (no_member f n, no_bare_new a s)
+pub start_loop : {start : ℕ} {p : Parser} → Standing p → start ≤ p.prev_token_end → LinkLoop start p p (Unit {0})
+start_loop a b = record { at = a; before = b; later = omega arith; goes = tt }
+
+pub call_outcome : {text : List ℕ} {f : Flags} (start : ℕ) (left : NodeId) {p : Parser} (q : Parser) (r : Result NodeId Stop) → At text f p → StandsHere p LParen true → MakesWithArguments node.CallExpression false start left p q r → LinkOutcome text f start left p q r
+call_outcome start left q (Ok id) a s y = call_link a s y
+call_outcome {text} {f} start left q (Err e) a s y = no_call_link a q e s (y text f a true)
+
+pub optional_outcome : {text : List ℕ} {f : Flags} (start : ℕ) (left : NodeId) {p mid : Parser} (q : Parser) (r : Result NodeId Stop) → At text f p → StandsHere p QuestionDot true → Moved text f p mid → StandsHere mid LParen true → MakesWithArguments node.CallExpression true start left mid q r → LinkOutcome text f start left p q r
+optional_outcome start left q (Ok id) a s m t y = optional_call a s m t y
+optional_outcome {text} {f} start left q (Err e) a s m t y = no_optional_call a s m q e t (y text f m.at true)
+
+-- what was said one level deeper
+pub entered_stops : {text : List ℕ} {f : Flags} {p q e : Parser} (r : Parser) (i : Stop) → (a : At text f p) → p.token.kind ≡ New → p.token.escaped ≡ false → (m : Moved text f p q) → Enters q e → Stops e r i (NoMember text f e.prev_token_end) → Stops p r i (NoMember text f p.prev_token_end)
+entered_stops {text} {f} {p} {q} {e} r i a k n m h s = stops_behind r i m.same.follows (λ g. grown_then m.kept g) (λ z. new_fails a k n m z) (stops_in r i m.at.at h (λ z. subst (λ (v : ℕ). NoMember text f v) (ap (λ (z : Parser). z.prev_token_end) h.is) z) s)
+
+pub chain_or_none : (p : Parser) (h b : Bool) → h ≡ true → StandsHere p LParen false → StandsHere p Dot false → StandsHere p QuestionDot b → LinkHere p h b
+chain_or_none p h true e s d z = a_link false true z (λ u. e)
+chain_or_none p h false e s d z = no_link s d (λ u. z)
+
+pub plain_none : (p : Parser) (h : Bool) → h ≡ false → StandsHere p LParen false → StandsHere p Dot false → LinkHere p h false
+plain_none p h e s d = no_link s d (λ u. absurd (false≢true (sym e ∙ u)))
+
+pub begun_at : {k : NodeKindMade} {b : Bool} {from start : ℕ} {left id : NodeId} {p q : Parser} → from ≡ start → WithArguments k b from left p q id → WithArguments k b start left p q id
+begun_at {k} {b} {left = left} {id} {p} {q} e y = subst (λ (v : ℕ). WithArguments k b v left p q id) e y
+
+pub taken_room : {text : List ℕ} {f : Flags} {C : Label → Slots → (Lexemes → Lexemes) → ℕ → Type 0} {A : Type 0} {o p : Parser} {id : NodeId} → At text f o → Taken text f o p id C A → room p ≤ room o
+taken_room a x = later_room (let j = x.further in let d = a.behind in omega arith) x.same
 
 -- what is told of a `?.` that can't stand behind `new`
 pub sign_marked : {text : List ℕ} {f : Flags} {p : Parser} (s : Span) → At text f p → StandsHere p QuestionDot true → s ≡ p.token.span → Mark (goal p) p.text (record { kind = fault.InvalidNewOptionalChain; span = s; first = None; second = None })

@@ -3,7 +3,7 @@ use Rattle.std.proofs.Common.{ℕ, ◌≡◌, List, [], ◌∷◌, length, Bool,
 use Rattle.std.specs.Prelude.{Result, Ok, Err, MatchResult, Option, is_some, if◌then◌else◌}
 use Rattle.std.proofs.lemmas.Bool.{false≢true, or_left}
 use Rattle.js_base.specs.declared.kind.Kind.{Kind}
-use Rattle.js_base.specs.declared.kind.Kind.TheVariants.{Ident, This, Null, True, False, Decimal, Str, Minus, Plus, Bang, Tilde, Typeof, Void, Delete, Yield, Await, Function}
+use Rattle.js_base.specs.declared.kind.Kind.TheVariants.{Ident, This, Null, True, False, Decimal, Str, LParen, Percent, Minus, Plus, Bang, Tilde, Typeof, Void, Delete, Yield, Await, Function}
 use Rattle.js_base.specs.declared.operator.UnaryOperator.{UnaryOperator}
 use Rattle.js_base.specs.Kinds.{same_kind, one_of_kinds}
 use Rattle.js_base.proofs.KindLemmas.{kind_of_same}
@@ -154,7 +154,7 @@ name_path text f p q a e n s = at_kind a Ident e refl ⟼ by_symbol_as {X' = pla
 abbrev no_function : Look
 no_function k w e = not (not w && (same_kind Function k && not e))
 
-behind_primary : (b : Bool) (l : Label) (cs : Slots) (text : List ℕ) (s : ℕ) (y : Lexeme) → Lex text s y → IsTrue (seen (follow_of Primary b (edge_of l cs)) y || seen beside y)
+pub behind_primary : (b : Bool) (l : Label) (cs : Slots) (text : List ℕ) (s : ℕ) (y : Lexeme) → Lex text s y → IsTrue (seen (follow_of Primary b (edge_of l cs)) y || seen beside y)
 unfolding covers
 behind_primary b l cs text s y h = or_left (seen no_function y) (seen beside y) (covered reads no_function refl y.kind y.newline y.escaped h.1)
 
@@ -173,9 +173,13 @@ unary_answers {text} {f} {p} {q} {r} {w} {id} {arg} k o s h u a e n m x b c d =
     let ks : Keeps p.nodes r.nodes = subst (λ (ns : List Node). Keeps ns r.nodes) m.nodes x.keeps in
     by_path (unary_path text f k h p q r a e n m x.answer) (same_both m.same x.answer.same) made.stays x.answer.stops x.answer.row (one_held p.nodes made (subst (λ (ns : List Node). Holds r.nodes (length ns) (length r.nodes) arg.0 x.answer.label x.answer.slots) m.nodes x.holds)) (Keeps-trans ks (Keeps-made made.made))
 
-pub primary_fails : {text : List ℕ} {f : Flags} {p : Parser} → At text f p → one_of_kinds (Ident ∷ This ∷ Null ∷ True ∷ False ∷ Decimal ∷ Str ∷ []) p.token.kind ≡ false → Underived text (at Primary f) p.prev_token_end
+-- what a PrimaryExpression begins with
+abbrev pub primary_kinds : List Kind
+primary_kinds = Ident ∷ This ∷ Null ∷ True ∷ False ∷ Decimal ∷ Str ∷ LParen ∷ Percent ∷ []
+
+pub primary_fails : {text : List ℕ} {f : Flags} {p : Parser} → At text f p → one_of_kinds primary_kinds p.token.kind ≡ false → Underived text (at Primary f) p.prev_token_end
 unfolding rule rule_of covers apart
-primary_fails {f = f} a n = fails_by (lives (rule (at Primary f)) ▹✗ fails_at a {X = after (at Primary f)} (live (rule (at Primary f))) (Ident ∷ This ∷ Null ∷ True ∷ False ∷ Decimal ∷ Str ∷ []) refl n)
+primary_fails {f = f} a n = fails_by (lives (rule (at Primary f)) ▹✗ fails_at a {X = after (at Primary f)} (live (rule (at Primary f))) primary_kinds refl n)
 
 pub leaf_outcome : (text : List ℕ) (f : Flags) (p q : Parser) (nk : NodeKindMade) (o : OpMade) (k : Kind) (r : Result NodeId Stop) → same_row after_expression (row_of (plain_label nk o p.token.span) end) ≡ true → Leaf (kind_of nk) (op_of o) k → At text f p → p.token.kind ≡ k → p.token.escaped ≡ false → MatchResult r (λ id. TakesLeaf nk o p q id) OnlyMemory → Outcome text f (at Primary f) p q r
 leaf_outcome text f p q nk o k (Ok id) r path a e n m = leaf_answers k r path a e n (m text f a)
@@ -189,8 +193,8 @@ not_same a k b n = go (same_kind a k) refl
     go true e = absurd (n (sym (kind_of_same a k e)))
     go false e = refl
 
-pub none_of_these : (k : Kind) → (k ≡ Ident → ⊥) → (k ≡ This → ⊥) → (k ≡ Null → ⊥) → (k ≡ True → ⊥) → (k ≡ False → ⊥) → (k ≡ Decimal → ⊥) → (k ≡ Str → ⊥) → one_of_kinds (Ident ∷ This ∷ Null ∷ True ∷ False ∷ Decimal ∷ Str ∷ []) k ≡ false
-none_of_these k a b c d e f g = not_same Ident k _ a ∙ (not_same This k _ b ∙ (not_same Null k _ c ∙ (not_same True k _ d ∙ (not_same False k _ e ∙ (not_same Decimal k _ f ∙ not_same Str k _ g)))))
+pub none_of_these : (k : Kind) → (k ≡ Ident → ⊥) → (k ≡ This → ⊥) → (k ≡ Null → ⊥) → (k ≡ True → ⊥) → (k ≡ False → ⊥) → (k ≡ Decimal → ⊥) → (k ≡ Str → ⊥) → (k ≡ LParen → ⊥) → (k ≡ Percent → ⊥) → one_of_kinds primary_kinds k ≡ false
+none_of_these k a b c d e f g h i = not_same Ident k _ a ∙ (not_same This k _ b ∙ (not_same Null k _ c ∙ (not_same True k _ d ∙ (not_same False k _ e ∙ (not_same Decimal k _ f ∙ (not_same Str k _ g ∙ (not_same LParen k _ h ∙ not_same Percent k _ i)))))))
 
 -- the table of unary operators has these kinds
 abbrev kinds_in : List (Kind × UnaryOperator) → List Kind

@@ -77,7 +77,7 @@ module _ {text : List ℕ} {f : Flags} {p : Parser} (a : At text f p) where
       one_kind k = rw (same_self k) refl
 
   -- two lexemes that are read are one
-  one_read : {y z : Lexeme} → Lex text p.prev_token_end y → Lex text p.prev_token_end z → y ≡ z
+  pub one_read : {y z : Lexeme} → Lex text p.prev_token_end y → Lex text p.prev_token_end z → y ≡ z
   one_read l m = lex-same l.0 m.0 (plain_kind l.0 (and_parts _ _ l.1).0 ∙ sym (plain_kind m.0 (and_parts _ _ m.1).0))
 
   -- a lexeme that passes a test was passed

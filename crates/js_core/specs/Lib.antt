@@ -10,3 +10,4 @@ pub mod Members
 pub mod Rests
 pub mod Exponents
 pub mod Targets
+pub mod Arguments

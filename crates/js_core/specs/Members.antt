@@ -1,23 +1,23 @@
 -- What the parse functions of members, `new` and optional chains answer (ECMA-262, 13.3): how much was taken, and which nonterminals that is.
-use Rattle.std.specs.Prelude.{ℕ, ◌≡◌, ◌<◌, ◌≤◌, Bool, true, false, cond, List, [], ◌∷◌, Option, Some, None, length, Result, Ok, Err}
+use Rattle.std.specs.Prelude.{ℕ, ◌≡◌, ◌<◌, ◌≤◌, ◌⊎◌, Bool, true, false, cond, List, [], ◌∷◌, Option, Some, None, length, Result, Ok, Err}
 use Rattle.js_base.specs.declared.diagnostic.Diagnostic.{Diagnostic}
 use Rattle.js_base.specs.declared.diagnostic.DiagnosticKind.TheVariants.{InvalidNewOptionalChain}
 use Rattle.js_base.specs.declared.span.Span.{Span}
 use Rattle.js_base.specs.declared.kind.Kind.{Kind}
-use Rattle.js_base.specs.declared.kind.Kind.TheVariants.{New, Dot, QuestionDot}
+use Rattle.js_base.specs.declared.kind.Kind.TheVariants.{New, Dot, QuestionDot, LParen}
 use Rattle.js_base.specs.Kinds.{one_of_kinds}
-use Rattle.js_grammar.specs.Trees.{Slots, end, tree, Label, no_op, static_member_expression, new_expression}
-use Rattle.js_grammar.specs.Grammar.{Lexeme, Lexemes, such, nothing, ◌▸◌}
+use Rattle.js_grammar.specs.Trees.{Slots, end, tree, Label, no_op, static_member_expression, call_expression, new_expression}
+use Rattle.js_grammar.specs.Grammar.{Lexeme, Lexemes, is, such, nothing, ◌▸◌}
 use Rattle.js_grammar.specs.Follow.{row_of, after}
 use Rattle.js_grammar.specs.Insertion.{after_expression}
-use Rattle.js_grammar.specs.Parsing.{Test, Fails, always}
-use Rattle.js_grammar.specs.Productions.{G, Flags, at, mk, tok, optional_flag, Member, Links, LeftHandSide, IdentifierName}
+use Rattle.js_grammar.specs.Parsing.{Test, Fails, always, plain, full}
+use Rattle.js_grammar.specs.Productions.{G, Flags, Symbol, at, mk, tok, optional_flag, Member, Call, Links, LeftHandSide, IdentifierName}
 use Rattle.js_grammar.specs.Productions.{New as new_symbol, sym as symbol}
-use Rattle.js_grammar.specs.Table.{rule}
-use Rattle.js_grammar.proofs.Chains.{members, chains}
+use Rattle.js_grammar.specs.Table.{rule, args}
+use Rattle.js_grammar.proofs.Chains.{members, calls, chains}
 use Rattle.js_grammar.proofs.Loops.{Around}
 use Rattle.js_grammar.proofs.RightEdges.{same_row}
-use Rattle.js_grammar.proofs.Towers.{Tower}
+use Rattle.js_grammar.proofs.Towers.{Tower, Link, link}
 use Rattle.js_tree.specs.declared.id.NodeId.{NodeId}
 use Rattle.js_tree.specs.Holding.{Holds, Keeps}
 use Rattle.js_cursor.specs.Parsers.{Parser}
@@ -25,6 +25,9 @@ use Rattle.js_cursor.specs.declared.stop.Stop.{Stop}
 use Rattle.js_core.specs.Lexemes.{Lex, Walked}
 use Rattle.js_core.specs.States.{At, Same}
 use Rattle.js_core.specs.Moves.{Moved, MadeHere}
+use Rattle.js_core.specs.Arguments.{Partway, Arguments, NoArguments}
+use Rattle.js_tree.specs.declared.kind.NodeKind.{NodeKind}
+use Rattle.js_tree.specs.Labels.{kind_of}
 use Rattle.js_core.specs.Answers.{Verdict, Stretch, Underived, Numbered, Outcome, Stops}
 
 -- whether this lexeme stands here, without an escape
@@ -69,7 +72,7 @@ abbrev pub NoMember : List ℕ → Flags → ℕ → Type 0
 NoMember text f s = Underived text (at Member f) s × NoBareNew text f s
 
 abbrev pub link_kinds : List Kind
-link_kinds = Dot ∷ QuestionDot ∷ []
+link_kinds = Dot ∷ QuestionDot ∷ LParen ∷ []
 
 -- A MemberExpression; or a NewExpression that is none, behind which no link stands.
 pub data Headed (text : List ℕ) (f : Flags) (s : ℕ) (l : Label) (cs : Slots) (pass : Lexemes → Lexemes) (s' : ℕ) : Type 0 where
@@ -95,44 +98,102 @@ Heads p q r = (text : List ℕ) (f : Flags) → At text f p → HeadOutcome text
 abbrev pub GoesOnMember : ℕ → NodeId → Parser → Parser → Result NodeId Stop → Type 0
 GoesOnMember start left p q r = (text : List ℕ) (f : Flags) (o : Parser) → start ≡ o.token.span.start → Taken text f o p left (λ l cs pass s'. MemberSoFar text f o.prev_token_end o.token.span.start l cs pass s') (NoMember text f o.prev_token_end) → HeadOutcome text f o q r
 
--- ---- a name behind a sign
+-- ---- links
 
-abbrev pub sign_of : Bool → Kind
-sign_of optional = cond optional QuestionDot Dot
+-- the part behind what a link hangs on: arguments or a name, with `?.` or not
+abbrev pub chained : Flags → Bool → Bool → Link Symbol
+chained f true true = link call_expression no_op optional_flag (tok QuestionDot ▸ args f)
+chained f true false = link call_expression no_op 0 (args f)
+chained f false true = link static_member_expression no_op optional_flag (tok QuestionDot ▸ symbol IdentifierName f)
+chained f false false = link static_member_expression no_op 0 (tok Dot ▸ symbol IdentifierName f)
 
-abbrev pub SignHere : Parser → Option Bool → Type 0
-SignHere p (Some b) = StandsHere p (sign_of b) true
-SignHere p None = StandsHere p QuestionDot false × StandsHere p Dot false
+-- its first lexeme
+abbrev pub sign_of : Bool → Bool → Kind
+sign_of call true = QuestionDot
+sign_of true false = LParen
+sign_of false false = Dot
 
-abbrev pub member_label : Bool → ℕ → ℕ → Label
-member_label optional from to = record { kind = static_member_expression; op = no_op; flags = cond optional optional_flag 0; span = record { from = from; to = to } }
+abbrev pub link_label : Bool → Bool → ℕ → ℕ → Label
+link_label call optional from to = record { kind = cond call call_expression static_member_expression; op = no_op; flags = cond optional optional_flag 0; span = record { from = from; to = to } }
 
--- The sign was passed and a name, and a node was made around what stood before.
-pub record NameLinked (text : List ℕ) (f : Flags) (start : ℕ) (left : NodeId) (optional : Bool) (p q : Parser) (id : NodeId) : Type 0 where
-  pub mid : Parser
-  pub moved : Moved text f p mid
+-- no such link can be read here
+abbrev pub NoLink : List ℕ → Flags → ℕ → Bool → Bool → Type 0
+NoLink text f s call optional = Fails rule (Lex text) (plain full) end (chained f call optional).part s
+
+-- of these links no other one can be
+abbrev pub OnlyLink : List ℕ → Flags → ℕ → Bool → Bool → Type 0
+OnlyLink text f s c o = (c' o' : Bool) → ((c' ≡ c) × (o' ≡ o)) ⊎ NoLink text f s c' o'
+
+-- A link was read, and a node was made around what stood before.
+pub record Linked (text : List ℕ) (f : Flags) (start : ℕ) (left : NodeId) (p q : Parser) (id : NodeId) : Type 0 where
+  pub call : Bool
+  pub optional : Bool
+  pub sign : StandsHere p (sign_of call optional) true
+  pub only : OnlyLink text f p.prev_token_end call optional
   pub behind : Parser
-  pub name : NodeId
-  pub named : Numbered text f (at IdentifierName f) mid behind name
-  pub made : MadeHere (member_label optional start behind.prev_token_end) (Some left ∷ Some name ∷ []) behind q id
+  pub children : List (Option NodeId)
+  pub part : Partway text f (chained f call optional).part nothing p behind (Some left ∷ []) children
+  pub made : MadeHere (link_label call optional start behind.prev_token_end) children behind q id
 
--- behind the sign no name stands
-pub record NoName (text : List ℕ) (f : Flags) (p : Parser) : Type 0 where
-  pub mid : Parser
-  pub moved : Moved text f p mid
-  pub none : Underived text (at IdentifierName f) mid.prev_token_end
+abbrev pub LinkOutcome : List ℕ → Flags → ℕ → NodeId → Parser → Parser → Result NodeId Stop → Type 0
+LinkOutcome text f start left p q (Ok id) = Linked text f start left p q id
+LinkOutcome text f start left p q (Err e) = Stops p q e ((c o : Bool) → NoLink text f p.prev_token_end c o)
 
-abbrev pub LinkOutcome : List ℕ → Flags → ℕ → NodeId → Bool → Parser → Parser → Result NodeId Stop → Type 0
-LinkOutcome text f start left optional p q (Ok id) = NameLinked text f start left optional p q id
-LinkOutcome text f start left optional p q (Err e) = Stops p q e (NoName text f p)
+abbrev pub ReadsLink : ℕ → NodeId → Parser → Parser → Result NodeId Stop → Type 0
+ReadsLink start left p q r = (text : List ℕ) (f : Flags) → At text f p → LinkOutcome text f start left p q r
 
-abbrev pub LinksName : ℕ → NodeId → Bool → Parser → Parser → Result NodeId Stop → Type 0
-LinksName start left optional p q r = (text : List ℕ) (f : Flags) → At text f p → LinkOutcome text f start left optional p q r
+-- whether a link stands here, with `?.` only where a chain may begin or go on
+pub data LinkHere (p : Parser) (chain : Bool) : Bool → Type 0 where
+  a_link : (call optional : Bool) → StandsHere p (sign_of call optional) true → (optional ≡ true → chain ≡ true) → LinkHere p chain true
+  no_link : StandsHere p LParen false → StandsHere p Dot false → (chain ≡ true → StandsHere p QuestionDot false) → LinkHere p chain false
+
+abbrev pub arguments_label : NodeKind → Bool → ℕ → ℕ → Label
+arguments_label k optional from to = record { kind = kind_of k; op = no_op; flags = cond optional optional_flag 0; span = record { from = from; to = to } }
+
+-- what a node of a callee and its arguments was made of
+pub record WithArguments (k : NodeKind) (optional : Bool) (start : ℕ) (left : NodeId) (p q : Parser) (id : NodeId) : Type 0 where
+  pub behind : Parser
+  pub children : List (Option NodeId)
+  pub arguments : Arguments (Some left ∷ []) children p behind
+  pub made : MadeHere (arguments_label k optional start behind.prev_token_end) children behind q id
+
+abbrev pub MakesWithArguments : NodeKind → Bool → ℕ → NodeId → Parser → Parser → Result NodeId Stop → Type 0
+MakesWithArguments k optional start left p q (Ok id) = WithArguments k optional start left p q id
+MakesWithArguments k optional start left p q (Err e) = NoArguments p q e
+
+-- ---- calls and chains
+
+-- behind the member stands no `?.`, and it is no NewExpression alone
+pub record Beyond (text : List ℕ) (f : Flags) (s : ℕ) : Type 0 where
+  pub no_new : Underived text (at new_symbol f) s
+  pub no_member : Fails rule (Lex text) (plain (is QuestionDot)) end (such (at Member f) always) s
+
+abbrev pub CallSoFar : List ℕ → Flags → ℕ → ℕ → Label → Slots → (Lexemes → Lexemes) → ℕ → Type 0
+CallSoFar text f s from l cs pass s' = Looped text (calls f) (after (at Call f)) s from l cs pass s' × Beyond text f s
+
+-- A callee: what stands before a chain, or is none.
+pub data Callee (text : List ℕ) (f : Flags) (s : ℕ) (l : Label) (cs : Slots) (pass : Lexemes → Lexemes) (s' : ℕ) : Type 0 where
+  a_head : Headed text f s l cs pass s' → Callee text f s l cs pass s'
+  a_call : Stretch text (after (at Call f)) (such (at Call f) always) s nothing s' (tree l cs) pass → Beyond text f s → Callee text f s l cs pass s'
+
+abbrev pub NoLhs : List ℕ → Flags → ℕ → Type 0
+NoLhs text f s = Underived text (at LeftHandSide f) s
+
+abbrev pub NoParen : List ℕ → Parser → Type 0
+NoParen text q = (y : Lexeme) → Lex text q.prev_token_end y → y.kind ≡ LParen → ⊥
+
+-- a call reads what goes on with a member that was read from the state o on, up to an optional chain
+abbrev pub CalleeOutcome : List ℕ → Flags → Parser → Parser → Result NodeId Stop → Type 0
+CalleeOutcome text f o q (Ok id) = Taken text f o q id (λ l cs pass s'. Callee text f o.prev_token_end l cs pass s') (NoLhs text f o.prev_token_end) × NoDot text q × NoParen text q
+CalleeOutcome text f o q (Err e) = Stops o q e (NoLhs text f o.prev_token_end)
+
+abbrev pub CallsMember : ℕ → NodeId → Parser → Parser → Result NodeId Stop → Type 0
+CallsMember start left p q r = (text : List ℕ) (f : Flags) (o : Parser) → At text f o → start ≡ o.token.span.start → Taken text f o p left (λ l cs pass s'. Headed text f o.prev_token_end l cs pass s') (NoMember text f o.prev_token_end) → NoDot text p → CalleeOutcome text f o q r
 
 -- a chain, as far as it was read
 abbrev pub ChainSoFar : List ℕ → Flags → ℕ → ℕ → Label → Slots → (Lexemes → Lexemes) → ℕ → Type 0
-ChainSoFar text f s from l cs pass s' = Looped text (chains f) (after (at Links f)) s from l cs pass s' × Underived text (at new_symbol f) s
+ChainSoFar text f s from l cs pass s' = Looped text (chains f) (after (at Links f)) s from l cs pass s' × Underived text (at new_symbol f) s × Fails rule (Lex text) (after (at LeftHandSide f)) end (such (at Call f) always) s
 
--- A call reads the optional chain behind a member that was read from the state o on.
-abbrev pub ChainsMember : ℕ → NodeId → Parser → Parser → Result NodeId Stop → Type 0
-ChainsMember start left p q r = (text : List ℕ) (f : Flags) (o : Parser) → At text f o → start ≡ o.token.span.start → Taken text f o p left (λ l cs pass s'. Headed text f o.prev_token_end l cs pass s') (NoMember text f o.prev_token_end) → NoDot text p → Outcome text f (at LeftHandSide f) o q r
+-- a call reads the optional chain behind a callee that was read from the state o on
+abbrev pub ChainsCallee : ℕ → NodeId → Parser → Parser → Result NodeId Stop → Type 0
+ChainsCallee start left p q r = (text : List ℕ) (f : Flags) (o : Parser) → At text f o → start ≡ o.token.span.start → Taken text f o p left (λ l cs pass s'. Callee text f o.prev_token_end l cs pass s') (NoLhs text f o.prev_token_end) → NoDot text p → NoParen text p → Outcome text f (at LeftHandSide f) o q r

@@ -1,16 +1,17 @@
-//! Members, `new` and optional chains (ECMA-262, section 13.3).
+//! Members, `new`, calls and optional chains (ECMA-262, section 13.3).
 
 ghost use Rattle.std.specs.Prelude.{◌≡◌, ◌≤◌, ◌∷◌, [], Some, IfOk, cond, true, false};
-ghost use Rattle.js_base.specs.declared.kind.Kind.TheVariants.{QuestionDot};
+ghost use Rattle.js_base.specs.declared.kind.Kind.TheVariants.{Dot, LParen, QuestionDot};
 ghost use Rattle.js_cursor.specs.Moves.{GivesUp};
-ghost use Rattle.js_tree.specs.Labels.{number_of};
 ghost use Rattle.js_grammar.specs.Productions.{at, optional_flag, IdentifierName, LeftHandSide};
+ghost use Rattle.js_tree.specs.Labels.{number_of};
 ghost use Rattle.js_core.specs.Answers.{Answers};
-ghost use Rattle.js_core.specs.Members.{ChainsMember, GoesOnMember, Heads, LinksName, SignHere, StandsHere, TellsChain, member_label, sign_of};
+ghost use Rattle.js_core.specs.Members.{CallsMember, ChainsCallee, GoesOnMember, Heads, LinkHere, MakesWithArguments, ReadsLink, StandsHere, TellsChain, arguments_label, link_label};
 ghost use Rattle.js_core.specs.Moves.{MadeHere};
 ghost use Rattle.js_core.specs.Nesting.{CanNest, room};
 ghost use Rattle.js_core.specs.States.{Standing};
 
+use crate::arguments::parse_call_arguments;
 use crate::lexemes::{advance, is_read_word, stands};
 use crate::nested::Nested;
 use crate::nodes::make_one;
@@ -31,7 +32,8 @@ pub fn parse_lhs_expression_or_higher<C: ParserConfig, N: Nested<C>>(
 {
     let start = p.cur_start();
     let member = parse_member_expression_or_higher(p, nested)?;
-    parse_optional_chain(p, start, member)
+    let callee = parse_call_expression_rest(p, nested, start, member)?;
+    parse_optional_chain(p, nested, start, callee)
 }
 
 /// A MemberExpression, or a NewExpression that is none.
@@ -52,12 +54,17 @@ fn parse_member_expression_or_higher<C: ParserConfig, N: Nested<C>>(
         if stands(p, Kind::QuestionDot) {
             return Err(refuse_chain(p));
         }
+        if stands(p, Kind::LParen) {
+            let kind = NodeKind::NewExpression;
+            let node = parse_with_arguments(p, nested, start, kind, false, callee)?;
+            return parse_member_expression_rest(p, nested, start, node);
+        }
         let span = p.end_span(start);
         let node = make_one(p, NodeKind::NewExpression, Op::None, span, callee)?;
         return Ok(node);
     }
     let primary = parse_primary_expression(p, nested)?;
-    parse_member_expression_rest(p, start, primary)
+    parse_member_expression_rest(p, nested, start, primary)
 }
 
 /// Gives up at a `?.` behind what `new` stands before.
@@ -74,79 +81,172 @@ fn refuse_chain<C: ParserConfig>(p: &mut ParserImpl<'_, C>) -> Stop
     })
 }
 
-/// The links behind a member.
-fn parse_member_expression_rest<C: ParserConfig>(
+/// The names behind a member.
+fn parse_member_expression_rest<C: ParserConfig, N: Nested<C>>(
     p: &mut ParserImpl<'_, C>,
+    nested: &N,
     start: u32,
     member: NodeId,
 ) -> Result<NodeId, Stop>
     requires at { Standing p.old }
+    requires nests { CanNest (N.can nested.now) (room p.old) }
     requires start { start ≤ p.old.prev_token_end }
     ensures { GoesOnMember start member p.old p.new result }
 {
     let mut left = member;
     'links: while stands(p, Kind::Dot) {
-        left = parse_named_link(p, start, left, false)?;
+        left = parse_link(p, nested, start, left)?;
     }
     Ok(left)
 }
 
-/// The optional chain behind a member, where one stands.
-fn parse_optional_chain<C: ParserConfig>(
+/// The calls behind a member, where one stands, and the names behind them.
+fn parse_call_expression_rest<C: ParserConfig, N: Nested<C>>(
     p: &mut ParserImpl<'_, C>,
+    nested: &N,
     start: u32,
     member: NodeId,
 ) -> Result<NodeId, Stop>
     requires at { Standing p.old }
+    requires nests { CanNest (N.can nested.now) (room p.old) }
     requires start { start ≤ p.old.prev_token_end }
-    ensures { ChainsMember start member p.old p.new result }
+    ensures { CallsMember start member p.old p.new result }
 {
-    if !stands(p, Kind::QuestionDot) {
+    if !stands(p, Kind::LParen) {
         return Ok(member);
     }
-    let mut left = parse_named_link(p, start, member, true)?;
-    'links: while let Some(optional) = link_sign(p) {
-        left = parse_named_link(p, start, left, optional)?;
+    let mut left = parse_link(p, nested, start, member)?;
+    'links: while link_here(p, false) {
+        left = parse_link(p, nested, start, left)?;
+    }
+    Ok(left)
+}
+
+/// The optional chain behind a callee, where one stands.
+fn parse_optional_chain<C: ParserConfig, N: Nested<C>>(
+    p: &mut ParserImpl<'_, C>,
+    nested: &N,
+    start: u32,
+    callee: NodeId,
+) -> Result<NodeId, Stop>
+    requires at { Standing p.old }
+    requires nests { CanNest (N.can nested.now) (room p.old) }
+    requires start { start ≤ p.old.prev_token_end }
+    ensures { ChainsCallee start callee p.old p.new result }
+{
+    if !stands(p, Kind::QuestionDot) {
+        return Ok(callee);
+    }
+    let mut left = parse_link(p, nested, start, callee)?;
+    'links: while link_here(p, true) {
+        left = parse_link(p, nested, start, left)?;
     }
     let span = p.end_span(start);
     let chain = make_one(p, NodeKind::ChainExpression, Op::None, span, left)?;
     Ok(chain)
 }
 
-/// The sign of a link that stands here: `?.` (true) or `.`.
-fn link_sign<C: ParserConfig>(p: &ParserImpl<'_, C>) -> Option<bool>
-    ensures { SignHere p.now result }
+/// Whether a link stands here: arguments, `.`, or in a chain `?.`.
+fn link_here<C: ParserConfig>(p: &ParserImpl<'_, C>, chain: bool) -> bool
+    ensures { LinkHere p.now chain result }
 {
-    if stands(p, Kind::QuestionDot) {
-        return Some(true);
+    if stands(p, Kind::LParen) {
+        return true;
     }
     if stands(p, Kind::Dot) {
-        return Some(false);
+        return true;
     }
-    None
+    if chain {
+        return stands(p, Kind::QuestionDot);
+    }
+    false
 }
 
-/// `.` or `?.` and a name, behind what was read.
+/// The link that stands here, behind what was read.
+fn parse_link<C: ParserConfig, N: Nested<C>>(
+    p: &mut ParserImpl<'_, C>,
+    nested: &N,
+    start: u32,
+    left: NodeId,
+) -> Result<NodeId, Stop>
+    requires at { Standing p.old }
+    requires nests { CanNest (N.can nested.now) (room p.old) }
+    requires start { start ≤ p.old.prev_token_end }
+    requires link { LinkHere p.old true true }
+    ensures { ReadsLink start left p.old p.new result }
+{
+    if stands(p, Kind::LParen) {
+        return parse_with_arguments(p, nested, start, NodeKind::CallExpression, false, left);
+    }
+    if stands(p, Kind::QuestionDot) {
+        return parse_optional_link(p, nested, start, left);
+    }
+    parse_named_link(p, start, left)
+}
+
+/// `?.` and arguments or a name, behind what was read.
+fn parse_optional_link<C: ParserConfig, N: Nested<C>>(
+    p: &mut ParserImpl<'_, C>,
+    nested: &N,
+    start: u32,
+    left: NodeId,
+) -> Result<NodeId, Stop>
+    requires at { Standing p.old }
+    requires nests { CanNest (N.can nested.now) (room p.old) }
+    requires start { start ≤ p.old.prev_token_end }
+    requires sign { StandsHere p.old QuestionDot true }
+    ensures { ReadsLink start left p.old p.new result }
+{
+    advance(p)?;
+    if stands(p, Kind::LParen) {
+        return parse_with_arguments(p, nested, start, NodeKind::CallExpression, true, left);
+    }
+    let name = parse_identifier_name(p)?;
+    let node = make_member(p, start, left, name, true)?;
+    Ok(node)
+}
+
+/// `.` and a name, behind what was read.
 fn parse_named_link<C: ParserConfig>(
     p: &mut ParserImpl<'_, C>,
     start: u32,
     left: NodeId,
-    optional: bool,
 ) -> Result<NodeId, Stop>
     requires at { Standing p.old }
     requires start { start ≤ p.old.prev_token_end }
-    requires sign { p.old.token.kind ≡ sign_of optional }
-    requires plain { p.old.token.escaped ≡ false }
-    ensures { LinksName start left optional p.old p.new result }
+    requires sign { StandsHere p.old Dot true }
+    ensures { ReadsLink start left p.old p.new result }
 {
     advance(p)?;
     let name = parse_identifier_name(p)?;
-    let node = make_member(p, start, left, name, optional)?;
+    let node = make_member(p, start, left, name, false)?;
+    Ok(node)
+}
+
+/// Arguments, and the node of these and the callee before them.
+pub fn parse_with_arguments<C: ParserConfig, N: Nested<C>>(
+    p: &mut ParserImpl<'_, C>,
+    nested: &N,
+    start: u32,
+    kind: NodeKind,
+    optional: bool,
+    callee: NodeId,
+) -> Result<NodeId, Stop>
+    requires at { Standing p.old }
+    requires nests { CanNest (N.can nested.now) (room p.old) }
+    requires start { start ≤ p.old.prev_token_end }
+    requires open { p.old.token.kind ≡ LParen }
+    ensures { MakesWithArguments kind optional start callee p.old p.new result }
+{
+    let mut children = Vec::new(p.alloc);
+    children.push(Some(callee))?;
+    let arguments = parse_call_arguments(p, nested, children)?;
+    let node = make_with_arguments(p, start, kind, optional, arguments)?;
     Ok(node)
 }
 
 /// An IdentifierName (ECMA-262, section 12.7).
-fn parse_identifier_name<C: ParserConfig>(p: &mut ParserImpl<'_, C>) -> Result<NodeId, Stop>
+pub fn parse_identifier_name<C: ParserConfig>(p: &mut ParserImpl<'_, C>) -> Result<NodeId, Stop>
     requires { Standing p.old }
     ensures { Answers (at IdentifierName) p.old p.new result }
 {
@@ -177,7 +277,7 @@ fn make_member<C: ParserConfig>(
     optional: bool,
 ) -> Result<NodeId, NoMemory>
     requires start { start ≤ p.old.prev_token_end }
-    ensures { IfOk result (λ id. MadeHere (member_label optional start p.old.prev_token_end) (Some left ∷ Some name ∷ []) p.old p.new id) }
+    ensures { IfOk result (λ id. MadeHere (link_label false optional start p.old.prev_token_end) (Some left ∷ Some name ∷ []) p.old p.new id) }
 {
     let span = p.end_span(start);
     let flags = link_flags(optional);
@@ -189,4 +289,20 @@ fn make_member<C: ParserConfig>(
         Some(left),
         Some(name),
     )
+}
+
+/// The node of a callee and its arguments.
+fn make_with_arguments<C: ParserConfig>(
+    p: &mut ParserImpl<'_, C>,
+    start: u32,
+    kind: NodeKind,
+    optional: bool,
+    children: Vec<Option<NodeId>>,
+) -> Result<NodeId, NoMemory>
+    requires start { start ≤ p.old.prev_token_end }
+    ensures { IfOk result (λ id. MadeHere (arguments_label kind optional start p.old.prev_token_end) children.items p.old p.new id) }
+{
+    let span = p.end_span(start);
+    let flags = link_flags(optional);
+    p.ast.node(kind, span, Op::None, flags, None, children)
 }

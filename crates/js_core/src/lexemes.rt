@@ -10,7 +10,7 @@ ghost use Rattle.js_core.specs.Rests.{EndsOperand};
 ghost use Rattle.js_core.specs.Moves.{IsCompleted, IsWholeHere, Moves, OperatorHere};
 
 use crate::operators::binding_power;
-use js_base::Kind;
+use js_base::{Kind, Span};
 use js_cursor::{ParserImpl, Stop};
 use js_lex::ParserConfig;
 

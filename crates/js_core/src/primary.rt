@@ -1,22 +1,26 @@
 //! Names, literals and parentheses (ECMA-262, section 13.2).
 
 ghost use Rattle.std.specs.Prelude.{◌≡◌, MatchResult};
+ghost use Rattle.js_base.specs.declared.kind.Kind.TheVariants.{LParen, Percent, RParen};
 ghost use Rattle.js_grammar.specs.Productions.{at, Primary};
-ghost use Rattle.js_cursor.specs.Moves.{OnlyMemory};
+ghost use Rattle.js_cursor.specs.Moves.{OnlyMemory, Opened};
 ghost use Rattle.js_core.specs.Answers.{Answers};
 ghost use Rattle.js_core.specs.Moves.{IsWholeHere, TakesLeaf};
 ghost use Rattle.js_core.specs.Nesting.{CanNest, room};
+ghost use Rattle.js_core.specs.Rests.{Passes};
 ghost use Rattle.js_core.specs.States.{Standing};
 
-use crate::lexemes::advance;
+use crate::context::expression_with_in;
+use crate::left_hand_side::{parse_identifier_name, parse_with_arguments};
+use crate::lexemes::{advance, stands};
 use crate::nested::Nested;
-use crate::nodes::make_leaf;
-use js_base::Kind;
+use crate::nodes::{make_leaf, make_one};
+use js_base::{Kind, Span};
 use js_cursor::{ParserImpl, Stop};
 use js_lex::ParserConfig;
 use js_tree::{NodeId, NodeKind, NumberBase, Op};
 
-/// A PrimaryExpression (ECMA-262, section 13.2): a name or a literal.
+/// A PrimaryExpression (ECMA-262, section 13.2): a name, a literal, parentheses or a call of V8.
 pub fn parse_primary_expression<C: ParserConfig, N: Nested<C>>(
     p: &mut ParserImpl<'_, C>,
     nested: &N,
@@ -35,8 +39,72 @@ pub fn parse_primary_expression<C: ParserConfig, N: Nested<C>>(
         Kind::True | Kind::False => parse_leaf(p, NodeKind::BooleanLiteral, Op::None),
         Kind::Decimal => parse_leaf(p, NodeKind::NumericLiteral, Op::Number(NumberBase::Decimal)),
         Kind::Str => parse_leaf(p, NodeKind::StringLiteral, Op::None),
+        Kind::LParen => parse_parenthesized_expression(p, nested),
+        Kind::Percent => parse_v8_intrinsic_expression(p, nested),
         _ => Err(p.set_unexpected()),
     }
+}
+
+/// An Expression in parentheses (ECMA-262, section 13.2.9).
+fn parse_parenthesized_expression<C: ParserConfig, N: Nested<C>>(
+    p: &mut ParserImpl<'_, C>,
+    nested: &N,
+) -> Result<NodeId, Stop>
+    requires at { Standing p.old }
+    requires nests { CanNest (N.can nested.now) (room p.old) }
+    requires kind { p.old.token.kind ≡ LParen }
+    ensures { Answers (at Primary) p.old p.new result }
+{
+    let opening = p.cur_token().span();
+    advance(p)?;
+    let expression = expression_with_in(p, nested)?;
+    close_parentheses(p, opening)?;
+    let span = p.end_span(opening.start);
+    let kind = NodeKind::ParenthesizedExpression;
+    let node = make_one(p, kind, Op::None, span, expression)?;
+    Ok(node)
+}
+
+/// Moves on over the closing parenthesis, whose opening one stood at a span.
+pub fn close_parentheses<C: ParserConfig>(
+    p: &mut ParserImpl<'_, C>,
+    opening: Span,
+) -> Result<(), Stop>
+    requires at { Standing p.old }
+    requires opened { Opened p.old opening }
+    ensures { Passes RParen p.old p.new result }
+{
+    p.expect_closing(Kind::RParen, opening)
+}
+
+/// Whether calls of V8 are read.
+fn allows_v8<C: ParserConfig>(p: &ParserImpl<'_, C>) -> bool
+    ensures { result ≡ p.now.options.allow_v8_intrinsics }
+{
+    p.options.allow_v8_intrinsics
+}
+
+/// A call of V8, `%name(..)`, where the options allow it.
+fn parse_v8_intrinsic_expression<C: ParserConfig, N: Nested<C>>(
+    p: &mut ParserImpl<'_, C>,
+    nested: &N,
+) -> Result<NodeId, Stop>
+    requires at { Standing p.old }
+    requires nests { CanNest (N.can nested.now) (room p.old) }
+    requires kind { p.old.token.kind ≡ Percent }
+    ensures { Answers (at Primary) p.old p.new result }
+{
+    if !allows_v8(p) {
+        return Err(p.set_unexpected());
+    }
+    let start = p.cur_start();
+    advance(p)?;
+    let name = parse_identifier_name(p)?;
+    if !stands(p, Kind::LParen) {
+        return Err(p.set_unexpected());
+    }
+    let kind = NodeKind::V8IntrinsicExpression;
+    parse_with_arguments(p, nested, start, kind, false, name)
 }
 
 /// A node of one lexeme.

@@ -1,8 +1,15 @@
-use Rattle.std.proofs.Common.{arith}
+use Rattle.std.proofs.Common.{◌≤◌, arith, ap, ◌∙◌}
 use Rattle.std.proofs.lemmas.Result.{err_from_is_err_and}
-use Rattle.js_core.proofs.Moving.{standing, stops_behind}
-use Rattle.js_core.proofs.Verdicts.{grown_then}
+use Rattle.js_base.specs.declared.kind.Kind.TheVariants.{RAngle}
+use Rattle.js_base.specs.Kinds.{same_kind}
+use Rattle.js_cursor.specs.Moves.{is_last}
+use Rattle.js_core.proofs.Here.{uncut}
+use Rattle.js_core.proofs.Moving.{standing}
+use Rattle.js_core.proofs.Members.{name_link, no_name_link}
 use Rattle.js_core.proofs.left_hand_side.parse_named_link.Goals as goal
+
+pub advance-requires-clause-whole : goal.advance-requires-clause-whole
+advance-requires-clause-whole g c = (uncut c.requires.at (ap (same_kind RAngle) c.requires.sign.0), ap is_last c.requires.sign.0)
 
 pub parse_identifier_name-requires : goal.parse_identifier_name-requires
 parse_identifier_name-requires g c = standing (c.in_ok-advance.ensures _ _ c.requires.at).at
@@ -11,7 +18,7 @@ pub returns-in_err-name : goal.returns-in_err-name
 returns-in_err-name g c = λ text f a.
     let p = err_from_is_err_and c.from_residual-in_err-name.result c.from_residual-in_err-name.ensures.1 in
     let m = c.in_ok-advance.ensures text f a in
-    rw (p.1, p.2) (stops_behind _ _ m.same.follows (λ g. grown_then m.kept g) (λ n. record { mid = c.advance.new.p; moved = m; none = n }) (c.in_err-name.ensures text f m.at))
+    rw (p.1, p.2) (no_name_link a c.requires.sign m _ _ (c.in_err-name.ensures text f m.at))
 
 pub make_member-requires : goal.make_member-requires
 make_member-requires g c = record {
@@ -24,4 +31,4 @@ make_member-requires g c = record {
 pub returns : goal.returns
 returns g c = λ text f a.
     let m = c.in_ok-advance.ensures text f a in
-    record { mid = c.advance.new.p; moved = m; behind = c.parse_identifier_name.new.p; name = c.in_ok-name.name; named = c.in_ok-name.ensures text f m.at; made = c.in_ok-node.ensures }
+    name_link a c.requires.sign m (c.in_ok-name.ensures text f m.at) c.in_ok-node.ensures
