@@ -82,7 +82,6 @@ module _ {text : List ℕ} {f : Flags} {p : Parser} (a : At text f p) (k : p.tok
     v8_name_fails n = v8_fails (sign ⟶✗ part_none n)
       where
         part_none : Underived text (at IdentifierName f) q.prev_token_end → Fails rule (Lex text) (plain full) end (name_and_list f) q.prev_token_end
-        unfolding covers
         part_none n = fails_part firsts {F' = full} (weaken_fails n (λ ts y e. (refl, refl))) refl
 
     module _ {r : Parser} {name : NodeId} (x : Numbered text f (at IdentifierName f) q r name) where

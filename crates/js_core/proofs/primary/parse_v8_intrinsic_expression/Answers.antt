@@ -50,3 +50,6 @@ pub returns : goal.returns
 returns t c = λ text f a.
     let m = c.in_ok-advance.ensures text f a in
     v8_outcome a c.requires.kind m (c.in_ok-name.ensures text f m.at) _ c.parse_with_arguments.result (sym (v8_option a c.allows_v8.ensures) ∙ c.if-not-allows_v8.false) c.cur_start-start.ensures c.parse_with_arguments.ensures
+
+pub set_unexpected-requires-then-not-stands : goal.set_unexpected-requires-then-not-stands
+set_unexpected-requires-then-not-stands t c = (c.in_ok-name.ensures _ _ (c.in_ok-advance.ensures _ _ c.requires.at).at).answer.at.at
