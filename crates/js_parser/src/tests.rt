@@ -8,19 +8,55 @@ use std::alloc::Global;
 /// A text, and the lines of its tree.
 static READ: [(&str, &str); 14] = [
     ("", "Program 0..0\n"),
-    ("a; b", "Program 0..4\n  ExpressionStatement 0..2\n    IdentifierReference 0..1\n  ExpressionStatement 3..4\n    IdentifierReference 3..4\n"),
+    (
+        "a; b",
+        "Program 0..4\n  ExpressionStatement 0..2\n    IdentifierReference 0..1\n  ExpressionStatement 3..4\n    IdentifierReference 3..4\n",
+    ),
     (";", "Program 0..1\n  EmptyStatement 0..1\n"),
-    ("a\nb", "Program 0..3\n  ExpressionStatement 0..1\n    IdentifierReference 0..1\n  ExpressionStatement 2..3\n    IdentifierReference 2..3\n"),
-    ("a\n+ b", "Program 0..5\n  ExpressionStatement 0..5\n    BinaryExpression 0..5 +\n      IdentifierReference 0..1\n      IdentifierReference 4..5\n"),
-    ("'use strict'; a", "Program 0..15\n  Directive 0..13\n    StringLiteral 0..12\n  ExpressionStatement 14..15\n    IdentifierReference 14..15\n"),
-    ("'a'\n'b'\n'c' + d; 'e'", "Program 0..20\n  Directive 0..3\n    StringLiteral 0..3\n  Directive 4..7\n    StringLiteral 4..7\n  ExpressionStatement 8..16\n    BinaryExpression 8..15 +\n      StringLiteral 8..11\n      IdentifierReference 14..15\n  ExpressionStatement 17..20\n    StringLiteral 17..20\n"),
-    ("1; ; 2", "Program 0..6\n  ExpressionStatement 0..2\n    NumericLiteral 0..1 Decimal\n  EmptyStatement 3..4\n  ExpressionStatement 5..6\n    NumericLiteral 5..6 Decimal\n"),
-    ("'a'\n.b", "Program 0..6\n  ExpressionStatement 0..6\n    StaticMemberExpression 0..6\n      StringLiteral 0..3\n      IdentifierName 5..6\n"),
-    ("a;;", "Program 0..3\n  ExpressionStatement 0..2\n    IdentifierReference 0..1\n  EmptyStatement 2..3\n"),
-    ("  /* 1 */ a // 2\n", "Program 0..17\n  ExpressionStatement 10..11\n    IdentifierReference 10..11\n"),
-    ("#!x\na", "Program 0..5\n  Hashbang 0..3\n  ExpressionStatement 4..5\n    IdentifierReference 4..5\n"),
-    ("'x'; -a\n'y'", "Program 0..11\n  Directive 0..4\n    StringLiteral 0..3\n  ExpressionStatement 5..7\n    UnaryExpression 5..7 -\n      IdentifierReference 6..7\n  ExpressionStatement 8..11\n    StringLiteral 8..11\n"),
-    ("a ? b : c; d, e", "Program 0..15\n  ExpressionStatement 0..10\n    ConditionalExpression 0..9\n      IdentifierReference 0..1\n      IdentifierReference 4..5\n      IdentifierReference 8..9\n  ExpressionStatement 11..15\n    SequenceExpression 11..15\n      IdentifierReference 11..12\n      IdentifierReference 14..15\n"),
+    (
+        "a\nb",
+        "Program 0..3\n  ExpressionStatement 0..1\n    IdentifierReference 0..1\n  ExpressionStatement 2..3\n    IdentifierReference 2..3\n",
+    ),
+    (
+        "a\n+ b",
+        "Program 0..5\n  ExpressionStatement 0..5\n    BinaryExpression 0..5 +\n      IdentifierReference 0..1\n      IdentifierReference 4..5\n",
+    ),
+    (
+        "'use strict'; a",
+        "Program 0..15\n  Directive 0..13\n    StringLiteral 0..12\n  ExpressionStatement 14..15\n    IdentifierReference 14..15\n",
+    ),
+    (
+        "'a'\n'b'\n'c' + d; 'e'",
+        "Program 0..20\n  Directive 0..3\n    StringLiteral 0..3\n  Directive 4..7\n    StringLiteral 4..7\n  ExpressionStatement 8..16\n    BinaryExpression 8..15 +\n      StringLiteral 8..11\n      IdentifierReference 14..15\n  ExpressionStatement 17..20\n    StringLiteral 17..20\n",
+    ),
+    (
+        "1; ; 2",
+        "Program 0..6\n  ExpressionStatement 0..2\n    NumericLiteral 0..1 Decimal\n  EmptyStatement 3..4\n  ExpressionStatement 5..6\n    NumericLiteral 5..6 Decimal\n",
+    ),
+    (
+        "'a'\n.b",
+        "Program 0..6\n  ExpressionStatement 0..6\n    StaticMemberExpression 0..6\n      StringLiteral 0..3\n      IdentifierName 5..6\n",
+    ),
+    (
+        "a;;",
+        "Program 0..3\n  ExpressionStatement 0..2\n    IdentifierReference 0..1\n  EmptyStatement 2..3\n",
+    ),
+    (
+        "  /* 1 */ a // 2\n",
+        "Program 0..17\n  ExpressionStatement 10..11\n    IdentifierReference 10..11\n",
+    ),
+    (
+        "#!x\na",
+        "Program 0..5\n  Hashbang 0..3\n  ExpressionStatement 4..5\n    IdentifierReference 4..5\n",
+    ),
+    (
+        "'x'; -a\n'y'",
+        "Program 0..11\n  Directive 0..4\n    StringLiteral 0..3\n  ExpressionStatement 5..7\n    UnaryExpression 5..7 -\n      IdentifierReference 6..7\n  ExpressionStatement 8..11\n    StringLiteral 8..11\n",
+    ),
+    (
+        "a ? b : c; d, e",
+        "Program 0..15\n  ExpressionStatement 0..10\n    ConditionalExpression 0..9\n      IdentifierReference 0..1\n      IdentifierReference 4..5\n      IdentifierReference 8..9\n  ExpressionStatement 11..15\n    SequenceExpression 11..15\n      IdentifierReference 11..12\n      IdentifierReference 14..15\n",
+    ),
 ];
 
 /// A text that has no tree, the kind and the span of the last of its diagnostics, how many there are, and whether the last
@@ -39,7 +75,9 @@ static REFUSED: [(&str, &str, u32, u32, usize, bool); 9] = [
 
 /// The answer for a script.
 fn parsed(alloc: Global, source: &str) -> Option<ParserReturn> {
-    Parser::new(alloc, source, SourceType::script()).parse().ok()
+    Parser::new(alloc, source, SourceType::script())
+        .parse()
+        .ok()
 }
 
 /// The lines of the tree of a text that has no fault.
