@@ -21,6 +21,3 @@ mod update;
 pub use parse::{
     Parser, parse_assignment_expression_or_higher, parse_expression, parse_statements,
 };
-
-#[cfg(test)]
-mod tests;

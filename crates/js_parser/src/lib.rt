@@ -7,6 +7,3 @@ mod program;
 
 pub use answer::{ParserReturn, Program};
 pub use parser::Parser;
-
-#[cfg(test)]
-mod tests;
