@@ -36,7 +36,7 @@ plain_kind {y = y} h kinds = go h.goal refl h.lexeme.kind
     go template_tail e q = absurd (tail (tail_is h.word y.kind (subst (λ (v : LexicalGoal). kind_in v h.word h.rest ≡ Some y.kind) e q)))
     go hashbang e q = absurd (is_none HashbangComment refl (hashbang_is h.word y.kind (subst (λ (v : LexicalGoal). kind_in v h.word h.rest ≡ Some y.kind) e q)))
 
-plainly : {text : List ℕ} {s : ℕ} {y : Lexeme} (h : StandsBehind all_faults text s y) → IsTrue (is_read y) → h.goal ≡ division
+pub plainly : {text : List ℕ} {s : ℕ} {y : Lexeme} (h : StandsBehind all_faults text s y) → IsTrue (is_read y) → h.goal ≡ division
 plainly {y = y} h r = plain_kind h (and_parts (one_of_kinds read_kinds y.kind) (not y.escaped) r).0
 
 -- two lexemes of the plain goal behind one place are one
