@@ -6,7 +6,7 @@ import { writeFileSync } from 'node:fs'
 const lines = [
   (i) => `x${i} = x${i} + ${i} * (y - 1);`,
   (i) => `total.count${i}(a, b, "text").next = found ? item.value : null;`,
-  () => 'a = b || c && d | e ^ f & g == h < i >> j - k * -l ** m;',
+  () => 'a = b || c && d | e ^ f & g == h < i >> j - k * l ** -m;',
   (i) => `new Store(name, ${i}).load(key).then(done, failed);`,
   () => 'left?.right?.(one, two).three; ++counter; other--;',
   () => 'typeof value !== "undefined" && (value instanceof Thing, key in table);',
