@@ -227,7 +227,13 @@ none_of_these k a b c d e f g h n = not_same Ident k _ a ∙ (not_same This k _ 
 
 -- a number, read so
 pub number_outcome : (text : List ℕ) (f : Flags) (p q : Parser) (nk : NodeKindMade) (o : OpMade) (k : Kind) (r : Result NodeId Stop) → one_of_kinds number_kinds p.token.kind ≡ true → k ≡ p.token.kind → nk ≡ node_of_number k → o ≡ op_of_number k → At text f p → p.token.escaped ≡ false → MatchResult r (λ id. TakesLeaf nk o p q id) OnlyMemory → Outcome text f (at Primary f) p q r
-number_outcome text f p q nk o k r h refl refl refl a n m = leaf_outcome text f p q _ _ k r (number_row p.token.span k h) (number_path k h) a refl n m
+number_outcome text f p q nk o k r h e u v a n m = leaf_outcome text f p q nk o p.token.kind r (subst (λ (x : NodeKindMade). same_row after_expression (row_of (plain_label x o p.token.span) end) ≡ true) (sym node_is) (subst (λ (x : OpMade). same_row after_expression (row_of (plain_label (node_of_number p.token.kind) x p.token.span) end) ≡ true) (sym op_is) (number_row p.token.span p.token.kind h))) (subst (λ (x : NodeKindMade). Leaf (kind_of x) (op_of o) p.token.kind) (sym node_is) (subst (λ (x : OpMade). Leaf (kind_of (node_of_number p.token.kind)) (op_of x) p.token.kind) (sym op_is) (number_path p.token.kind h))) a refl n m
+  where
+    node_is : nk ≡ node_of_number p.token.kind
+    node_is = u ∙ ap node_of_number e
+
+    op_is : o ≡ op_of_number p.token.kind
+    op_is = v ∙ ap op_of_number e
 
 -- the table of unary operators has these kinds
 abbrev kinds_in : List (Kind × UnaryOperator) → List Kind
