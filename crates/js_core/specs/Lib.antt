@@ -11,3 +11,4 @@ pub mod Rests
 pub mod Exponents
 pub mod Targets
 pub mod Arguments
+pub mod Coalescing
