@@ -36,3 +36,5 @@ pub mod Bracketed
 pub mod Parentheses
 pub mod ArgumentLists
 pub mod Intrinsics
+pub mod Coalescing
+pub mod CoalesceOperands

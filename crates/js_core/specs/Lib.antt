@@ -12,3 +12,4 @@ pub mod Exponents
 pub mod Targets
 pub mod Arguments
 pub mod Numbers
+pub mod Coalescing
