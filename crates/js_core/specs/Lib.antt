@@ -11,4 +11,4 @@ pub mod Rests
 pub mod Exponents
 pub mod Targets
 pub mod Arguments
-pub mod Numbers
+pub mod Arrays
