@@ -40,7 +40,8 @@ use Rattle.js_core.specs.Moves.{Moved, MadeHere, IsWholeHere}
 use Rattle.js_core.specs.States.{At, Same}
 use Rattle.js_core.proofs.Coalescing.{Begun, operand, operands, coalesced, part, PartReads, AllSigns, NoSign, as_bit_or, no_bit_or, unread_operand, no_short, kind_of_or, begun_alone, begun_fails, begun_step}
 use Rattle.js_core.proofs.Conditionals.{plain_sign, whole_sign, other_kind}
-use Rattle.js_core.proofs.Exponents.{beside_errors, lexes_all}
+use Rattle.js_core.proofs.Exponents.{lexes_all}
+use Rattle.js_core.proofs.Told.{beside_errors}
 use Rattle.js_core.proofs.Giving.{gives_up, kept_one}
 use Rattle.js_core.proofs.Here.{kind_here, begins_here}
 use Rattle.js_core.proofs.MadeNodes.{two_held}

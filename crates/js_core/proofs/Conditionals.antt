@@ -160,9 +160,9 @@ short_none : {text : List ℕ} {f : Flags} {s : ℕ} → Underived text (at Shor
 unfolding rule rule_of covers
 short_none {f = f} x = left (fails_node inside_full (part_fails x (by_first firsts (surely (at Short f)) refl)))
 
-pub test_none : {text : List ℕ} (f : Flags) {s : ℕ} → Underived text (at Short f) s → Underived text (at Assignment f) s
+pub test_none : {text : List ℕ} (f : Flags) {s : ℕ} → f.wide ≡ false → Underived text (at Short f) s → Underived text (at Assignment f) s
 unfolding covers
-test_none {text} f {s} x = lift_fails (at Assignment f) (at Conditional f) refl refl text s (nothing_assigned f x) (lift_fails (at Conditional f) (at Short f) refl refl text s (short_none x) x)
+test_none {text} f {s} w x = lift_fails (at Assignment f) (at Conditional f) refl refl text s (nothing_assigned f w x) (lift_fails (at Conditional f) (at Short f) refl refl text s (short_none x) x)
 
 module _ {text : List ℕ} {f : Flags} {p q : Parser} (x : Answer text f (at Short f) p q) where
   no_branches : one_of_kinds (Question ∷ []) q.token.kind ≡ false → Goes rule (Lex text) (after (at Conditional f)) end (rule (at Conditional f)) p.prev_token_end (such (at Short f) always) p.prev_token_end (λ us. us) (still 0)

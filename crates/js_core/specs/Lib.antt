@@ -13,3 +13,4 @@ pub mod Targets
 pub mod Arguments
 pub mod Numbers
 pub mod Coalescing
+pub mod Arrays

@@ -2,6 +2,7 @@
 #![tactic(auto)]
 
 mod arguments;
+mod array;
 mod assignment;
 mod context;
 mod cover;
