@@ -35,3 +35,6 @@ pub mod Bracketed
 pub mod Parentheses
 pub mod ArgumentLists
 pub mod Intrinsics
+pub mod ParameterLists
+pub mod Arrows
+pub mod Marking

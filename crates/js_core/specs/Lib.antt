@@ -11,3 +11,6 @@ pub mod Rests
 pub mod Exponents
 pub mod Targets
 pub mod Arguments
+pub mod Parameters
+pub mod Arrows
+pub mod Marked

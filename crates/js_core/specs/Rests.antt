@@ -8,22 +8,22 @@ use Rattle.js_base.specs.declared.kind.Kind.TheVariants.{Question, Colon, Plus2,
 use Rattle.js_base.specs.declared.span.Span.{Span}
 use Rattle.js_grammar.specs.Grammar.{Lexeme}
 use Rattle.js_grammar.specs.Marks.{LexemeAt, of_kinds}
-use Rattle.js_grammar.specs.Productions.{Flags, Symbol}
+use Rattle.js_grammar.specs.Productions.{Flags, Symbol, at, Arrow', Assignment, Short}
 use Rattle.js_tree.specs.declared.id.NodeId.{NodeId}
 use Rattle.js_cursor.specs.Moves.{GivesUp}
 use Rattle.js_cursor.specs.Parsers.{Parser}
 use Rattle.js_cursor.specs.Places.{goal}
 use Rattle.js_cursor.specs.declared.stop.Stop.{Stop}
 use Rattle.js_cursor.specs.declared.stop.Stop.TheVariants.{Fatal}
-use Rattle.js_core.specs.Answers.{Numbered, Outcome}
+use Rattle.js_core.specs.Answers.{Numbered, Outcome, Underived}
 use Rattle.js_core.specs.Moves.{Moves}
 use Rattle.js_core.specs.Lexemes.{Lex}
 use Rattle.js_core.specs.Operators.{power_of}
 use Rattle.js_core.specs.States.{At, Same}
 
--- One nonterminal was read up to the old state, as this node; with what is read now it is another. So the answer is of the state where the first one began, whichever that was.
-abbrev pub ReadsOn : (Flags → Symbol) → (Flags → Symbol) → ℕ → NodeId → Parser → Parser → Result NodeId Stop → Type 0
-ReadsOn n m start id old new r = (text : List ℕ) (f : Flags) (first : Parser) → At text f first → start ≡ first.token.span.start → Numbered text f (n f) first old id → Outcome text f (m f) first new r
+-- A ShortCircuitExpression was read up to the old state, where no arrow function is derived; what is read now makes an AssignmentExpression of it.
+abbrev pub ReadsConditional : ℕ → NodeId → Parser → Parser → Result NodeId Stop → Type 0
+ReadsConditional start id old new r = (text : List ℕ) (f : Flags) (first : Parser) → At text f first → Underived text (at Arrow' f) first.prev_token_end → start ≡ first.token.span.start → Numbered text f (at Short f) first old id → Outcome text f (at Assignment f) first new r
 
 -- the `?` of a conditional expression stood there, before the current lexeme
 pub record Asked (p : Parser) (question : Span) : Type 0 where

@@ -2,6 +2,7 @@
 #![tactic(auto)]
 
 mod arguments;
+mod arrow;
 mod assignment;
 mod context;
 mod cover;
@@ -10,6 +11,7 @@ mod lexemes;
 mod nested;
 mod nodes;
 mod operators;
+mod parameters;
 mod parse;
 mod primary;
 mod sequence;

@@ -5,10 +5,14 @@ ghost use Rattle.js_base.specs.declared.kind.Kind.TheVariants.{LParen, Percent, 
 ghost use Rattle.js_grammar.specs.Productions.{at, Primary};
 ghost use Rattle.js_cursor.specs.Moves.{OnlyMemory, Opened};
 ghost use Rattle.js_core.specs.Answers.{Answers};
+ghost use Rattle.js_tree.specs.Labels.{kind_of};
+ghost use Rattle.js_core.specs.Marked.{Marks};
+ghost use Rattle.js_core.specs.Marked as marked;
 ghost use Rattle.js_core.specs.Moves.{IsWholeHere, TakesLeaf};
 ghost use Rattle.js_core.specs.Nesting.{CanNest, room};
 ghost use Rattle.js_core.specs.Rests.{Passes};
 ghost use Rattle.js_core.specs.States.{Standing};
+ghost use Rattle.js_core.specs.Targets.{Stood};
 
 use crate::context::expression_with_in;
 use crate::left_hand_side::{parse_identifier_name, parse_with_arguments};
@@ -18,7 +22,7 @@ use crate::nodes::{make_leaf, make_one};
 use js_base::{Kind, Span};
 use js_cursor::{ParserImpl, Stop};
 use js_lex::ParserConfig;
-use js_tree::{NodeId, NodeKind, NumberBase, Op};
+use js_tree::{NodeFlags, NodeId, NodeKind, NumberBase, Op};
 
 /// A PrimaryExpression (ECMA-262, section 13.2): a name, a literal, parentheses or a call of V8.
 pub fn parse_primary_expression<C: ParserConfig, N: Nested<C>>(
@@ -59,10 +63,36 @@ fn parse_parenthesized_expression<C: ParserConfig, N: Nested<C>>(
     advance(p)?;
     let expression = expression_with_in(p, nested)?;
     close_parentheses(p, opening)?;
+    mark_in_parentheses(p, expression);
     let span = p.end_span(opening.start);
     let kind = NodeKind::ParenthesizedExpression;
     let node = make_one(p, kind, Op::None, span, expression)?;
     Ok(node)
+}
+
+/// Whether it is a function expression or an arrow function.
+fn is_function(kind: NodeKind) -> bool
+    ensures { result ≡ marked.is_function (kind_of kind) }
+{
+    match kind {
+        NodeKind::FunctionExpression | NodeKind::ArrowFunctionExpression => true,
+        _ => false,
+    }
+}
+
+/// Marks a function that stands directly in parentheses: it is probably called at once.
+fn mark_in_parentheses<C: ParserConfig>(p: &mut ParserImpl<'_, C>, expression: NodeId)
+    requires { Stood p.old.nodes expression }
+    ensures { Marks expression p.old p.new }
+{
+    if !is_function(p.ast.kind(expression)) {
+        return;
+    }
+    let flags = NodeFlags {
+        pife: true,
+        ..p.ast.flags(expression)
+    };
+    p.ast.set_flags(expression, flags);
 }
 
 /// Moves on over the closing parenthesis, whose opening one stood at a span.
