@@ -33,6 +33,7 @@ use Rattle.js_grammar.proofs.Calculus.{fails_alt, fails_rule, weaken_fails_on, r
 use Rattle.js_grammar.proofs.FollowLaws.{same_read}
 use Rattle.js_lex.specs.Reading.{cut, is_right_angle, GivesLexeme, GivesNone, LexemeBehind, Outcome as Given}
 use Rattle.js_lex.proofs.Again.{cut_same}
+use Rattle.js_lex.specs.States.{goal_of}
 use Rattle.js_base.specs.declared.diagnostic.Diagnostic.{Diagnostic}
 use Rattle.js_base.specs.declared.kind.Kind.TheVariants.{Undetermined}
 use Rattle.js_grammar.specs.Lexed.{Lex as StandsBehind, all_faults}
@@ -59,7 +60,7 @@ use Rattle.js_cursor.proofs.Changing.{came_back, back_follows}
 use Rattle.js_cursor.proofs.Later.{keeps_follows}
 use Rattle.js_core.specs.Answers.{Underived, Answer, Answers, Numbered, Outcome, Refuses, Stretch, Stops, Grown, Verdict, clean, unclean}
 use Rattle.js_core.specs.Arrows.{arrow_body, head_of, late_arrow, ArrowBehind, ChecksLine, FindsHead, Head, LooksForHead, IsHead, IsHeadHere, NoArrowHere, Single, Unmoved}
-use Rattle.js_core.specs.Lexemes.{Lex, is_read, read_kinds}
+use Rattle.js_core.specs.Lexemes.{Lex, is_read, read_kinds, spot}
 use Rattle.js_core.specs.Moves.{Moved, MadeHere, LeafTaken, TakesLeaf, plain_label}
 use Rattle.js_core.specs.States.{At, Same, Standing, flags_of, IsPlain, whole, sign, nothing as nothing_here}
 use Rattle.js_core.proofs.Assigned.{arrow_passes, only_arrow}
@@ -320,7 +321,7 @@ pub behind_so : (p q : Parser) {b r : Bool} → r ≡ b → ArrowBehind p q r �
 behind_so p q e h = subst (λ (v : Bool). ArrowBehind p q v) e h
 
 pub unmoved : {p q : Parser} → q ≡ p → Unmoved p q
-unmoved {p} e = subst (Unmoved p) (sym e) (record { at = λ text f a. a; same = same_itself; kept = refl; place = refl; start = refl; keeps = Keeps-refl p.nodes })
+unmoved {p} e = subst (Unmoved p) (sym e) (record { at = λ text f a. a; same = same_itself; kept = refl; place = refl; spot_is = refl; start = refl; keeps = Keeps-refl p.nodes })
 
 -- the node of a name stands before the arrow
 pub name_found : {p q w : Parser} {id : NodeId} → Standing p → ArrowBehind p q true → p.token.escaped ≡ false → Single q w id → IsHeadHere p w id
@@ -420,7 +421,7 @@ from_unmoved text f n {p} {q} w (Ok id) u x = record {
     stops = x.answer.stops;
     row = x.answer.row;
     pass = x.answer.pass;
-    walked = walked_from u.place x.answer.walked;
+    walked = walked_from u.spot_is x.answer.walked;
     verdict = subst (λ (s : ℕ). Verdict p.errors w.errors (Stretch text (after n) (such n always) s nothing w.prev_token_end (tree x.answer.label x.answer.slots) x.answer.pass) (Underived text n s)) u.place
         (subst (λ (ds : List Diagnostic). Verdict ds w.errors (Stretch text (after n) (such n always) q.prev_token_end nothing w.prev_token_end (tree x.answer.label x.answer.slots) x.answer.pass) (Underived text n q.prev_token_end)) u.kept x.answer.verdict);
   };
@@ -445,6 +446,7 @@ went_back {p} {q} {r} m f g =
       same = s;
       kept = b.errors;
       place = b.prev_token_end;
+      spot_is = λ i. record { source = goal_of (b.source_type i); place = b.prev_token_end i; faults = b.faults i };
       start = ap (λ z. z.span.start) b.token;
       keeps = s.follows.nodes;
     }
@@ -525,6 +527,10 @@ pub line_place : {p q : Parser} → ChecksLine p q → q.prev_token_end ≡ p.pr
 line_place (inl (e, c)) = ap (λ (z : Parser). z.prev_token_end) c.is
 line_place (inr (e, i)) = ap (λ (z : Parser). z.prev_token_end) i
 
+line_spot : {p q : Parser} → ChecksLine p q → spot q ≡ spot p
+line_spot (inl (e, c)) = ap spot c.is
+line_spot (inr (e, i)) = ap spot i
+
 pub line_token : {p q : Parser} → ChecksLine p q → q.token ≡ p.token
 line_token (inl (e, c)) = ap (λ (z : Parser). z.token) c.is
 line_token (inr (e, i)) = ap (λ (z : Parser). z.token) i
@@ -551,7 +557,7 @@ module _ {text : List ℕ} {f : Flags} {o p q r : Parser} {id : NodeId} (h : Hea
         at = y.at;
         further = let b = h.further in let d = line_place (inl (l, c)) in let e = (line_at h.at (inl (l, c))).behind in let g = m.further in let i = m.at.behind in let j = y.further in omega arith;
         pass = λ ls. h.pass (next m.lexeme (y.pass ls));
-        walked = walked_both h.walked (walked_both (walked_from (line_place (inl (l, c))) (walked_one m)) y.walked);
+        walked = walked_both h.walked (walked_both (walked_from (line_spot (inl (l, c))) (walked_one m)) y.walked);
         verdict = unclean (grown_then h.kept (behind (grown_first (kept_one c) m.kept) y.verdict)) (late_rule h k l);
       }
 

@@ -65,7 +65,7 @@ shifted {text} {f} {n} {p} {q} {t} {id} x o = record {
     stops = λ y l. x.answer.stops y (subst (λ (v : ℕ). Lex text v y) o.place l);
     row = x.answer.row;
     pass = x.answer.pass;
-    walked = walked_to (sym o.place) x.answer.walked;
+    walked = walked_to (sym o.spot_is) x.answer.walked;
     verdict = subst (λ (v : ℕ). Verdict p.errors t.errors (Stretch text (after n) (such n always) p.prev_token_end nothing v (tree x.answer.label x.answer.slots) x.answer.pass) (Underived text n p.prev_token_end)) (sym o.place)
         (subst (λ (ds : List Diagnostic). Verdict p.errors ds (Stretch text (after n) (such n always) p.prev_token_end nothing q.prev_token_end (tree x.answer.label x.answer.slots) x.answer.pass) (Underived text n p.prev_token_end)) (sym o.kept) x.answer.verdict);
   };

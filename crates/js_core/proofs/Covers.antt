@@ -15,7 +15,7 @@ use Rattle.js_grammar.proofs.Calculus.{ends, here_at, label_is, slots_are}
 use Rattle.js_grammar.proofs.FollowLaws.{admits}
 use Rattle.js_cursor.specs.Parsers.{Parser}
 use Rattle.js_core.specs.Answers.{Answer, Stretch}
-use Rattle.js_core.specs.Lexemes.{Lex, is_read, Walked, nowhere, one_more}
+use Rattle.js_core.specs.Lexemes.{Lex, is_read, Walked, Spot, nowhere, one_more}
 use Rattle.js_core.specs.States.{At}
 use Rattle.js_core.specs.Targets.{target_of}
 use Rattle.js_core.proofs.Here.{begins_here}
@@ -112,13 +112,13 @@ module _ {text : List ℕ} {f : Flags} {n : Symbol} {p q : Parser} (w : Passes n
 
 -- ---- that a text holds no target: what is told of it
 
-front_of : {text : List ℕ} {s s' : ℕ} {pass : Lexemes → Lexemes} → Walked text s s' pass → {to : ℕ} {ms rest : Lexemes} → Front to ms rest → Front to (pass ms) rest
+front_of : {text : List ℕ} {s s' : Spot} {pass : Lexemes → Lexemes} → Walked text s s' pass → {to : ℕ} {ms rest : Lexemes} → Front to ms rest → Front to (pass ms) rest
 front_of nowhere h = h
-front_of (one_more w l) h = front_of w (more h)
+front_of (one_more w l k) h = front_of w (more h)
 
-front : {text : List ℕ} {s s' : ℕ} {pass : Lexemes → Lexemes} → Walked text s s' pass → s < s' → (ms : Lexemes) → Front s' (pass ms) ms
+front : {text : List ℕ} {s s' : Spot} {pass : Lexemes → Lexemes} → Walked text s s' pass → s.place < s'.place → (ms : Lexemes) → Front s'.place (pass ms) ms
 front nowhere h ms = absurd (omega arith)
-front (one_more w l) h ms = front_of w (one refl)
+front (one_more w l k) h ms = front_of w (one refl)
 
 all_stand : (text : List ℕ) (s : ℕ) (ls : Lexemes) → Lexes (Lex text) s ls → Lexes (StandsBehind all_faults text) s ls
 all_stand text s (last x) l = l.0

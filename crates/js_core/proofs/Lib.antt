@@ -1,5 +1,6 @@
 pub mod Dead
 pub mod Here
+pub mod Kept
 pub mod Moving
 pub mod Nesting
 pub mod Verdicts

@@ -1,5 +1,5 @@
 -- What moves over lexemes do to a state.
-use Rattle.std.proofs.Common.{ℕ, ◌+◌, ◌≡◌, ◌<◌, ◌⊎◌, inl, inr, Bool, true, false, List, [], ◌∷◌, cond, refl, sym, ap, subst, arith, ◌∙◌, append-nil}
+use Rattle.std.proofs.Common.{ℕ, ◌+◌, ◌≡◌, ◌<◌, ◌⊎◌, inl, inr, Bool, true, false, List, [], ◌∷◌, ◌++◌, cond, refl, sym, ap, subst, arith, ◌∙◌, append-nil}
 use Rattle.std.specs.Prelude.{IsCharBoundary, Result, Ok, Err, MatchResult}
 use Rattle.js_base.specs.Contexts.{has_flag, in_flag}
 use Rattle.std.proofs.lemmas.Bool.{false≢true}
@@ -14,7 +14,7 @@ use Rattle.js_grammar.specs.Lexemes.{LexicalGoal, division}
 use Rattle.js_grammar.specs.Lexed.{Lex as StandsBehind, all_faults}
 use Rattle.js_grammar.specs.Productions.{Flags, Symbol}
 use Rattle.js_grammar.specs.Settings.{Goal}
-use Rattle.js_lex.specs.Reading.{cut, is_right_angle, Tells, GivesLexeme, GivesNone, LexemeBehind, Outcome}
+use Rattle.js_lex.specs.Reading.{cut, is_right_angle, in_a_module, Tells, GivesLexeme, GivesNone, LexemeBehind, Outcome}
 use Rattle.js_lex.proofs.Again.{cut_same}
 use Rattle.js_cursor.specs.Parsers.{Parser}
 use Rattle.js_cursor.specs.Places.{IsAt, goal}
@@ -31,11 +31,14 @@ use Rattle.js_core.specs.Answers.{Grown, Numbered, Stops, Underived}
 use Rattle.js_cursor.proofs.Moving.{lexeme_some}
 use Rattle.js_cursor.proofs.Later.{passed_follows, read_again_follows, follows_itself, follows_on}
 use Rattle.js_cursor.proofs.Changing.{fields_at, fields_set, entered_on}
-use Rattle.js_core.specs.Lexemes.{read_kinds}
+use Rattle.js_core.specs.Lexemes.{KeptFor, read_kinds}
 use Rattle.js_core.specs.States.{At, Standing, IsPlain, whole, sign, nothing, Same, flags_of}
 use Rattle.js_core.specs.Moves.{IsCompleted, IsWholeHere, Moved, Moves, Tightness}
 use Rattle.js_core.specs.Operators.{power_of}
 use Rattle.js_core.proofs.Here.{plain_kind, uncut}
+use Rattle.js_core.proofs.Kept.{kept_for}
+use Rattle.js_lex.specs.Comments.{each_at, html_fault_at}
+use Rattle.js_lex.specs.States.{goal_of}
 
 -- What is given behind a place is what the plain goal gives, if it was asked for by that.
 pub plain_given : {text : List ℕ} {p : Parser} {source : Goal} (faults : List Diagnostic) → IsToken source text p.prev_token_end p.lexer.kept.errors p.token p.cut → Outcome division cut source text p.prev_token_end p.token [] faults → IsPlain text p
@@ -114,7 +117,13 @@ module _ {text : List ℕ} {f : Flags} {p : Parser} where
     tells = s.tells;
     ends = sym s.moved;
     further = further n s;
+    faults = each_at (html_fault_at (in_a_module p.lexer.goal)) p.lexer.place s.next.pieces ++ s.next.faults;
+    kept_for = subst (λ (v : Goal). KeptFor v text s.lexeme.to s_faults) a.at.reads_for (subst (λ (v : List ℕ). KeptFor p.lexer.goal v s.lexeme.to s_faults) (a.at.reads ∙ a.text_is) (subst (λ (i : ℕ). KeptFor p.lexer.goal p.lexer.text i s_faults) (a.at.last ∙ s.tells.end) (kept_for s.next)));
+    spot_is = λ i. record { source = goal_of (s.stays.source_type i); place = s.moved i; faults = s.next.grows.faults_grow i };
   }
+    where
+      s_faults : List Diagnostic
+      s_faults = each_at (html_fault_at (in_a_module p.lexer.goal)) p.lexer.place s.next.pieces ++ s.next.faults
 
   by_moving : {mid q : Parser} → At text f p → IsWholeHere p → Completed p mid → ((is_last mid.token.kind ≡ true) × (q ≡ mid) × IsAt q) ⊎ ((is_last mid.token.kind ≡ false) × Passed mid q) → Moved text f p q
   by_moving a w (inr e) k = absurd (false≢true (sym w.0 ∙ e.0))
@@ -134,7 +143,7 @@ whole_outcome source {text} {s} {t} going_on faults {y} o l = go (same_kind Unde
 
 -- A sign that begins with `>` is told whole.
 completes : {text : List ℕ} {f : Flags} {p q : Parser} → Completed p q → IsAt q → (power : ℕ) → At text f p → power ≡ cond q.token.escaped 0 (power_of f.in_ q.token.kind) → Tightness text f p q power
-completes {text} {f} {p} {q} (inl e) b n a h = subst (λ (r : Parser). Tightness text f p r n) (sym e.1) (record { at = a; same = same_itself; nodes = refl; kept = refl; place = refl; start = refl; uncut = e.0; is = subst (λ (r : Parser). n ≡ cond r.token.escaped 0 (power_of f.in_ r.token.kind)) e.1 h })
+completes {text} {f} {p} {q} (inl e) b n a h = subst (λ (r : Parser). Tightness text f p r n) (sym e.1) (record { at = a; same = same_itself; nodes = refl; kept = refl; place = refl; spot_is = refl; start = refl; uncut = e.0; is = subst (λ (r : Parser). n ≡ cond r.token.escaped 0 (power_of f.in_ r.token.kind)) e.1 h })
 completes {text} {f} {p} {q} (inr e) b n a h = record {
   at = record {
     text_is = text_is;
@@ -147,6 +156,7 @@ completes {text} {f} {p} {q} (inr e) b n a h = record {
   nodes = e.1.stays.nodes;
   kept = e.1.stays.errors;
   place = e.1.place;
+  spot_is = λ i. record { source = goal_of (e.1.stays.source_type i); place = e.1.place i; faults = e.3 i };
   start = e.1.again.start;
   uncut = e.2;
   is = h;
@@ -168,7 +178,7 @@ completes {text} {f} {p} {q} (inr e) b n a h = record {
             whole e.2 z.0 (subst (λ (v : ℕ). GivesLexeme division (λ y. y) text v q.token) (sym e.1.place) (subst (λ (v : List ℕ). GivesLexeme division (λ y. y) v p.prev_token_end q.token) (sym reads) z.1))
 
 pub tightness : {text : List ℕ} {f : Flags} {p q : Parser} (power : ℕ) → IsCompleted p q → At text f p → power ≡ cond q.token.escaped 0 (power_of (has_flag in_flag q.ctx) q.token.kind) → Tightness text f p q power
-tightness {text} {f} {p} {q} n (inl c) a h = subst (λ (r : Parser). Tightness text f p r n) (sym c.1) (record { at = a; same = same_itself; nodes = refl; kept = refl; place = refl; start = refl; uncut = uncut a c.0; is = subst (λ (b : Bool). n ≡ cond p.token.escaped 0 (power_of b p.token.kind)) (ap (λ (g : Flags). g.in_) a.flags_are) (subst (λ (r : Parser). n ≡ cond r.token.escaped 0 (power_of (has_flag in_flag r.ctx) r.token.kind)) c.1 h) })
+tightness {text} {f} {p} {q} n (inl c) a h = subst (λ (r : Parser). Tightness text f p r n) (sym c.1) (record { at = a; same = same_itself; nodes = refl; kept = refl; place = refl; spot_is = refl; start = refl; uncut = uncut a c.0; is = subst (λ (b : Bool). n ≡ cond p.token.escaped 0 (power_of b p.token.kind)) (ap (λ (g : Flags). g.in_) a.flags_are) (subst (λ (r : Parser). n ≡ cond r.token.escaped 0 (power_of (has_flag in_flag r.ctx) r.token.kind)) c.1 h) })
 tightness {text} {f} {p} {q} n (inr c) a h = completes c.0 c.1 n a (subst (λ (b : Bool). n ≡ cond q.token.escaped 0 (power_of b q.token.kind)) (in_of c.0) h)
   where
     in_of : Completed p q → has_flag in_flag q.ctx ≡ f.in_

@@ -29,7 +29,7 @@ use Rattle.js_cursor.specs.Moves.{is_last}
 use Rattle.js_cursor.specs.declared.stop.Stop.{Stop}
 use Rattle.js_cursor.specs.Parsers.{Parser}
 use Rattle.std.specs.Prelude.{Result}
-use Rattle.js_core.specs.Lexemes.{Lex, Walked, read_kinds}
+use Rattle.js_core.specs.Lexemes.{Lex, Walked, spot, read_kinds}
 use Rattle.js_core.specs.States.{At, Same, flags_of}
 use Rattle.js_core.specs.Moves.{Moved, Tightness, MadeHere, operation_label}
 use Rattle.js_core.specs.Operators.{power_of}
@@ -57,7 +57,7 @@ pub record Operand (text : List ℕ) (f : Flags) (m : ℕ) (p q : Parser) (id : 
   pub slots : Slots
   pub row : of_operand (row_of label slots) ≡ true
   pub pass : Lexemes → Lexemes
-  pub walked : Walked text p.prev_token_end q.prev_token_end pass
+  pub walked : Walked text (spot p) (spot q) pass
   pub cap : ℕ
   pub low : cap ≤ 10
   pub verdict : Verdict p.errors q.errors (Ring text f m p.prev_token_end p.token.span.start cap label slots q.prev_token_end pass) (Underived text (level_at f m) p.prev_token_end)
@@ -296,7 +296,7 @@ module _ {text : List ℕ} {f : Flags} where
           slots = tree s.label s.slots (tree x.answer.label x.answer.slots end);
           row = step_row;
           pass = λ ls. s.pass (next d.lexeme (x.answer.pass ls));
-          walked = walked_both s.walked (walked_both (walked_from o.place (walked_one d)) x.answer.walked);
+          walked = walked_both s.walked (walked_both (walked_from o.spot_is (walked_one d)) x.answer.walked);
           cap = it.level;
           low = let h = it.top in omega arith;
           verdict = and_then s.verdict (behind_none (d.kept ∙ o.kept) x.answer.verdict) (λ u y. ring_step y u) (λ z. z) (λ u z. ring_fails u z);
@@ -329,7 +329,7 @@ module _ {text : List ℕ} {f : Flags} where
         stops = λ y l. let k = subst (λ (v : ℕ). Lex text v y) o.place l in subst (λ b. (b || seen beside y) ≡ true) (sym (level_looser f m (tree s.label s.slots end) y h)) (stops_by_power (m + 5) f.in_ (row_of s.label s.slots) s.row y l.1 (s.loose y k) (weak y k) (omega arith));
         row = level_rows f m _ ∙ s.row;
         pass = s.pass;
-        walked = walked_to (sym o.place) s.walked;
+        walked = walked_to (sym o.spot_is) s.walked;
         verdict = subst (λ (v : ℕ). Verdict p.errors t.errors (Stretch text (after (level_at f m)) (such (level_at f m) always) p.prev_token_end nothing v (tree s.label s.slots) s.pass) (Underived text (level_at f m) p.prev_token_end)) (sym o.place)
             (subst (λ (ds : List Diagnostic). Verdict p.errors ds (Stretch text (after (level_at f m)) (such (level_at f m) always) p.prev_token_end nothing q.prev_token_end (tree s.label s.slots) s.pass) (Underived text (level_at f m) p.prev_token_end)) (sym o.kept)
             (verdict_of s.verdict (λ z. record { reach = z.reach; near = z.near; goes = loop_end f z.around no_operator }) (λ n. n)));

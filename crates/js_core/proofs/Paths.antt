@@ -20,7 +20,7 @@ use Rattle.js_grammar.proofs.FollowLaws.{surely}
 use Rattle.js_grammar.proofs.Alike.{lex-same}
 use Rattle.js_lex.specs.Reading.{is_right_angle}
 use Rattle.js_cursor.specs.Parsers.{Parser}
-use Rattle.js_core.specs.Lexemes.{Lex, Walked, nowhere, one_more, is_read, read_kinds}
+use Rattle.js_core.specs.Lexemes.{Lex, Walked, Spot, spot, nowhere, one_more, is_read, read_kinds}
 use Rattle.js_core.specs.States.{At}
 use Rattle.js_core.specs.Moves.{Moved}
 use Rattle.js_core.specs.Answers.{Verdict, clean, Stretch, Answer}
@@ -28,18 +28,18 @@ use Rattle.js_core.proofs.Here.{told, angled, begins_here, kind_here, plain_kind
 use Rattle.js_core.proofs.Verdicts.{verdict_of, either_way, and_then}
 
 -- a walk, and another behind it
-pub walked_both : {text : List ℕ} {s s' s'' : ℕ} {f h : Lexemes → Lexemes} → Walked text s s' f → Walked text s' s'' h → Walked text s s'' (λ ls. f (h ls))
+pub walked_both : {text : List ℕ} {s s' s'' : Spot} {f h : Lexemes → Lexemes} → Walked text s s' f → Walked text s' s'' h → Walked text s s'' (λ ls. f (h ls))
 walked_both a nowhere = a
-walked_both a (one_more b l) = one_more (walked_both a b) l
+walked_both a (one_more b l k) = one_more (walked_both a b) l k
 
-pub walked_to : {text : List ℕ} {s e e' : ℕ} {f : Lexemes → Lexemes} → e ≡ e' → Walked text s e f → Walked text s e' f
+pub walked_to : {text : List ℕ} {s e e' : Spot} {f : Lexemes → Lexemes} → e ≡ e' → Walked text s e f → Walked text s e' f
 walked_to {text} {s} {f = f} q w = subst (λ v. Walked text s v f) q w
 
-pub walked_from : {text : List ℕ} {s s' e : ℕ} {f : Lexemes → Lexemes} → s ≡ s' → Walked text s e f → Walked text s' e f
+pub walked_from : {text : List ℕ} {s s' e : Spot} {f : Lexemes → Lexemes} → s ≡ s' → Walked text s e f → Walked text s' e f
 walked_from {text} {e = e} {f = f} q w = subst (λ v. Walked text v e f) q w
 
-pub walked_one : {text : List ℕ} {f : Flags} {p q : Parser} → (s : Moved text f p q) → Walked text p.prev_token_end q.prev_token_end (λ ls. next s.lexeme ls)
-walked_one s = walked_to s.ends (one_more nowhere s.stood)
+pub walked_one : {text : List ℕ} {f : Flags} {p q : Parser} → (s : Moved text f p q) → Walked text (spot p) (spot q) (λ ls. next s.lexeme ls)
+walked_one s = walked_to (sym s.spot_is) (one_more nowhere s.stood s.kept_for)
 
 -- the lexemes that are read
 abbrev pub reads : Look
@@ -99,7 +99,7 @@ pub record Path (text : List ℕ) (f : Flags) (X : Test) (g : G) (p : Parser) (g
   pub at : At text f q
   pub further : p.token.span.start < q.prev_token_end
   pub pass : Lexemes → Lexemes
-  pub walked : Walked text p.prev_token_end q.prev_token_end pass
+  pub walked : Walked text (spot p) (spot q) pass
   pub verdict : Verdict p.errors q.errors (Stretch text X g p.prev_token_end g' q.prev_token_end h pass) (Fails rule (Lex text) X end g p.prev_token_end)
 
 module _ {text : List ℕ} {X : Test} where

@@ -28,7 +28,7 @@ use Rattle.js_tree.specs.Holding.{Holds, HoldsAll, Keeps}
 use Rattle.js_tree.proofs.HoldingLemmas.{HoldsAll-one, HoldsAll-next, Keeps-trans, Keeps-made}
 use Rattle.js_cursor.specs.Checkpoints.{Follows}
 use Rattle.js_cursor.specs.Parsers.{Parser}
-use Rattle.js_core.specs.Lexemes.{Lex, Walked}
+use Rattle.js_core.specs.Lexemes.{Lex, Walked, spot}
 use Rattle.js_core.specs.States.{At, Same}
 use Rattle.js_core.specs.Moves.{Moved, MadeHere, plain_label}
 use Rattle.js_core.specs.Nesting.{room}
@@ -309,7 +309,7 @@ pub record Listing (text : List ℕ) (f : Flags) (p q : Parser) (ids : List (Opt
   pub further : p.token.span.start < q.prev_token_end
   pub prefix : Slots
   pub pass : Lexemes → Lexemes
-  pub walked : Walked text p.prev_token_end q.prev_token_end pass
+  pub walked : Walked text (spot p) (spot q) pass
   pub verdict : Verdict p.errors q.errors (Continues text f p q prefix pass) (Nothing text f (operands f) p.prev_token_end)
   pub holds : HoldsAll q.nodes (length p.nodes) (length q.nodes) ids prefix
   pub keeps : Keeps p.nodes q.nodes

@@ -16,7 +16,7 @@ use Rattle.js_cursor.specs.Parsers.{Parser}
 use Rattle.js_cursor.specs.Places.{IsAt}
 use Rattle.js_cursor.specs.declared.stop.Stop.{Stop}
 use Rattle.js_cursor.specs.declared.stop.Stop.TheVariants.{Fatal, NoMemory}
-use Rattle.js_core.specs.Lexemes.{Lex, Walked}
+use Rattle.js_core.specs.Lexemes.{Lex, Walked, spot}
 use Rattle.js_core.specs.States.{At, Same}
 
 -- items were kept, one at least, behind those from before
@@ -54,7 +54,7 @@ pub record Answer (text : List ℕ) (f : Flags) (n : Symbol) (old new : Parser) 
   pub stops : (y : Lexeme) → Lex text new.prev_token_end y → IsTrue (seen (follow n (edge_of label slots)) y || seen beside y)
   pub row : may_end n.name (row_of label slots) ≡ true
   pub pass : Lexemes → Lexemes
-  pub walked : Walked text old.prev_token_end new.prev_token_end pass
+  pub walked : Walked text (spot old) (spot new) pass
   pub verdict : Verdict old.errors new.errors (Stretch text (after n) (such n always) old.prev_token_end nothing new.prev_token_end (tree label slots) pass) (Underived text n old.prev_token_end)
 
 -- And a node made in the call stands for the tree, clean or not, and reaches no number twice; the nodes from before keep their trees.

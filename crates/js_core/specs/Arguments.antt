@@ -11,7 +11,7 @@ use Rattle.js_tree.specs.declared.id.NodeId.{NodeId}
 use Rattle.js_tree.specs.Holding.{HoldsAll, Keeps}
 use Rattle.js_cursor.specs.Parsers.{Parser}
 use Rattle.js_cursor.specs.declared.stop.Stop.{Stop}
-use Rattle.js_core.specs.Lexemes.{Lex, Walked}
+use Rattle.js_core.specs.Lexemes.{Lex, Walked, spot}
 use Rattle.js_core.specs.States.{At, Same}
 use Rattle.js_core.specs.Answers.{Verdict, Stretch, Stops}
 
@@ -45,7 +45,7 @@ pub record Partway (text : List ℕ) (f : Flags) (g g' : G) (p q : Parser) (ids 
   pub slots : Slots → Slots
   pub puts : (us : Slots) → slots us ≡ append (slots end) us
   pub pass : Lexemes → Lexemes
-  pub walked : Walked text p.prev_token_end q.prev_token_end pass
+  pub walked : Walked text (spot p) (spot q) pass
   pub verdict : Verdict p.errors q.errors (Stretch text (plain full) g p.prev_token_end g' q.prev_token_end slots pass) (Fails rule (Lex text) (plain full) end g p.prev_token_end)
   pub holds : (lo : ℕ) (us : Slots) → HoldsAll p.nodes lo (length p.nodes) ids us → HoldsAll q.nodes lo (length q.nodes) js (append us (slots end))
   pub keeps : Keeps p.nodes q.nodes
@@ -58,7 +58,7 @@ pub record Due (text : List ℕ) (f : Flags) (first : Bool) (p q : Parser) (due 
   pub kept : q.errors ≡ p.errors
   pub forward : p.prev_token_end ≤ q.prev_token_end
   pub pass : Lexemes → Lexemes
-  pub walked : Walked text p.prev_token_end q.prev_token_end pass
+  pub walked : Walked text (spot p) (spot q) pass
   pub goes : (i : Bool) → Stretch text (plain full) (rest_of first (item_of i f)) p.prev_token_end (due_of due (item_of i f)) q.prev_token_end (λ us. us) pass
   pub closes : due ≡ false → q.token.kind ≡ RParen
 

@@ -15,7 +15,7 @@ use Rattle.js_cursor.specs.Moves.{Keeps}
 use Rattle.js_cursor.specs.Parsers.{Parser}
 use Rattle.js_cursor.specs.declared.stop.Stop.{Stop}
 use Rattle.js_core.specs.Answers.{Outcome, Stretch, Underived}
-use Rattle.js_core.specs.Lexemes.{Lex, Walked}
+use Rattle.js_core.specs.Lexemes.{Lex, Walked, spot}
 use Rattle.js_core.specs.States.{At, Same}
 
 -- the parameters under which an arrow function's body is read
@@ -39,7 +39,7 @@ pub record Head (text : List ℕ) (f : Flags) (p q : Parser) (id : NodeId) : Typ
   pub label : Label
   pub slots : Slots
   pub pass : Lexemes → Lexemes
-  pub walked : Walked text p.prev_token_end q.prev_token_end pass
+  pub walked : Walked text (spot p) (spot q) pass
   pub read : Stretch text (plain full) (head_of f) p.prev_token_end nothing q.prev_token_end (tree label slots) pass
   pub holds : Holds q.nodes (length p.nodes) (length q.nodes) id.0 label slots
   pub keeps : KeepsNodes p.nodes q.nodes
@@ -53,6 +53,7 @@ pub record Unmoved (p q : Parser) : Type 0 where
   pub same : Same p q
   pub kept : q.errors ≡ p.errors
   pub place : q.prev_token_end ≡ p.prev_token_end
+  pub spot_is : spot q ≡ spot p
   pub start : q.token.span.start ≡ p.token.span.start
   pub keeps : KeepsNodes p.nodes q.nodes
 

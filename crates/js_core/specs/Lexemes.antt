@@ -1,10 +1,14 @@
 -- The lexemes that the parse functions read so far. Of a text with another one nothing is said: as soon as every kind is among them, this is the whole language.
-use Rattle.std.specs.Prelude.{ℕ, Bool, true, false, not, ◌&&◌, List, [], ◌∷◌, IsTrue}
+use Rattle.std.specs.Prelude.{ℕ, ◌≡◌, Bool, true, false, not, ◌&&◌, List, [], ◌∷◌, ◌++◌, IsTrue}
+use Rattle.js_base.specs.declared.diagnostic.Diagnostic.{Diagnostic}
 use Rattle.js_base.specs.declared.kind.Kind.{Kind}
 use Rattle.js_base.specs.declared.kind.Kind.TheVariants.{Ident, This, Null, True, False, Typeof, Void, Delete, In, Instanceof, Decimal, Str, Tilde, Bang, Plus, Minus, Star, Star2, Percent, Eq2, Eq3, Neq, Neq2, LAngle, LtEq, RAngle, GtEq, ShiftLeft, ShiftRight, ShiftRight3, Amp, Amp2, Pipe, Pipe2, Caret, Question, Colon, Comma, Eof, Dot, QuestionDot, New, Plus2, Minus2, Eq, PlusEq, MinusEq, StarEq, SlashEq, PercentEq, ShiftLeftEq, ShiftRightEq, ShiftRight3Eq, PipeEq, CaretEq, AmpEq, Amp2Eq, Pipe2Eq, Question2Eq, Star2Eq, Semicolon, LParen, RParen, Arrow}
 use Rattle.js_base.specs.Kinds.{one_of_kinds}
 use Rattle.js_grammar.specs.Grammar.{Lexeme, Lexemes, next}
-use Rattle.js_grammar.specs.Lexed.{Lex as StandsBehind, all_faults}
+use Rattle.js_grammar.specs.Lexed.{Lex as StandsBehind, all_faults, passing_of}
+use Rattle.js_grammar.specs.Settings.{Goal}
+use Rattle.js_cursor.specs.Parsers.{Parser}
+use Rattle.js_cursor.specs.Places.{goal}
 
 abbrev pub read_kinds : List Kind
 read_kinds = Eof ∷ Ident ∷ This ∷ Null ∷ True ∷ False ∷ Typeof ∷ Void ∷ Delete ∷ In ∷ Instanceof ∷ Decimal ∷ Str ∷ Tilde ∷ Bang ∷ Plus ∷ Minus ∷ Star ∷ Star2 ∷ Percent ∷ Eq2 ∷ Eq3 ∷ Neq ∷ Neq2 ∷ LAngle ∷ LtEq ∷ RAngle ∷ GtEq ∷ ShiftLeft ∷ ShiftRight ∷ ShiftRight3 ∷ Amp ∷ Amp2 ∷ Pipe ∷ Pipe2 ∷ Caret ∷ Question ∷ Colon ∷ Comma ∷ Dot ∷ QuestionDot ∷ New ∷ Plus2 ∷ Minus2 ∷ Eq ∷ PlusEq ∷ MinusEq ∷ StarEq ∷ SlashEq ∷ PercentEq ∷ ShiftLeftEq ∷ ShiftRightEq ∷ ShiftRight3Eq ∷ PipeEq ∷ CaretEq ∷ AmpEq ∷ Amp2Eq ∷ Pipe2Eq ∷ Question2Eq ∷ Star2Eq ∷ Semicolon ∷ LParen ∷ RParen ∷ Arrow ∷ []
@@ -32,7 +36,25 @@ read_word _ = false
 abbrev pub Lex : List ℕ → ℕ → Lexeme → Type 0
 Lex text s y = StandsBehind all_faults text s y × IsTrue (is_read y)
 
--- Lexemes, one behind the other, lead from one place to another: `pass` puts them before those from there on.
-pub data Walked (text : List ℕ) (s : ℕ) : ℕ → (Lexemes → Lexemes) → Type 0 where
+-- the same, with no fault: in a module no HTML-like comment stands before it (ECMA-262, B.1.1)
+abbrev pub Faultless : Goal → List ℕ → ℕ → Lexeme → Type 0
+Faultless source text s y = StandsBehind (passing_of source) text s y × IsTrue (is_read y)
+
+-- These faults were kept for what stands behind the place: none, where the lexeme that stands there has none; some, where it has one, or where none stands.
+pub record KeptFor (source : Goal) (text : List ℕ) (place : ℕ) (faults : List Diagnostic) : Type 0 where
+  pub none : faults ≡ [] → (y : Lexeme) → Lex text place y → Faultless source text place y
+  pub some : (faults ≡ [] → ⊥) → (y : Lexeme) → Faultless source text place y → ⊥
+
+-- A place in a text that is read for a goal, and the faults of lexemes that were kept on the way there, those of what stands behind it among them.
+pub record Spot : Type 0 where
+  pub source : Goal
+  pub place : ℕ
+  pub faults : List Diagnostic
+
+abbrev pub spot : Parser → Spot
+spot p = record { source = goal p; place = p.prev_token_end; faults = p.lexer.kept.errors }
+
+-- Lexemes, one behind the other, lead from one place to another, with the faults that were kept for what stands behind each: `pass` puts them before those from there on.
+pub data Walked (text : List ℕ) (s : Spot) : Spot → (Lexemes → Lexemes) → Type 0 where
   nowhere : Walked text s s (λ ls. ls)
-  one_more : {s' : ℕ} {pass : Lexemes → Lexemes} {x : Lexeme} → Walked text s s' pass → StandsBehind all_faults text s' x → Walked text s x.to (λ ls. pass (next x ls))
+  one_more : {s' : Spot} {pass : Lexemes → Lexemes} {x : Lexeme} {kept : List Diagnostic} → Walked text s s' pass → StandsBehind all_faults text s'.place x → KeptFor s'.source text x.to kept → Walked text s (record { source = s'.source; place = x.to; faults = s'.faults ++ kept }) (λ ls. pass (next x ls))

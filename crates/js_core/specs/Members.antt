@@ -22,7 +22,7 @@ use Rattle.js_tree.specs.declared.id.NodeId.{NodeId}
 use Rattle.js_tree.specs.Holding.{Holds, Keeps}
 use Rattle.js_cursor.specs.Parsers.{Parser}
 use Rattle.js_cursor.specs.declared.stop.Stop.{Stop}
-use Rattle.js_core.specs.Lexemes.{Lex, Walked}
+use Rattle.js_core.specs.Lexemes.{Lex, Walked, spot}
 use Rattle.js_core.specs.States.{At, Same}
 use Rattle.js_core.specs.Moves.{Moved, MadeHere}
 use Rattle.js_core.specs.Arguments.{Partway, Arguments, NoArguments}
@@ -48,7 +48,7 @@ pub record Taken (text : List ℕ) (f : Flags) (p q : Parser) (id : NodeId) (Cle
   pub slots : Slots
   pub row : same_row after_expression (row_of label slots) ≡ true
   pub pass : Lexemes → Lexemes
-  pub walked : Walked text p.prev_token_end q.prev_token_end pass
+  pub walked : Walked text (spot p) (spot q) pass
   pub verdict : Verdict p.errors q.errors (Clean label slots pass q.prev_token_end) Unclean
   pub holds : Holds q.nodes (length p.nodes) (length q.nodes) id.0 label slots
   pub keeps : Keeps p.nodes q.nodes

@@ -1,5 +1,5 @@
 -- One lexeme on, the operator that stands at a place, and a node made there.
-use Rattle.std.specs.Prelude.{ℕ, ◌≡◌, ◌<◌, ◌⊎◌, false, cond, List, [], ◌∷◌, Option}
+use Rattle.std.specs.Prelude.{ℕ, ◌≡◌, ◌<◌, ◌⊎◌, false, cond, List, [], ◌∷◌, ◌++◌, Option}
 use Rattle.js_grammar.specs.Grammar.{Lexeme}
 use Rattle.js_grammar.specs.Lexed.{Lex as StandsBehind, all_faults}
 use Rattle.js_grammar.specs.Productions.{Flags}
@@ -9,6 +9,7 @@ use Rattle.js_base.specs.Kinds.{same_kind, one_of_kinds}
 use Rattle.js_grammar.specs.Trees.{Label, of, binary_expression, logical_expression}
 use Rattle.js_lex.specs.Reading.{Tells}
 use Rattle.js_base.specs.declared.span.Span.{Span}
+use Rattle.js_base.specs.declared.diagnostic.Diagnostic.{Diagnostic}
 use Rattle.js_tree.specs.declared.id.NodeId.{NodeId}
 use Rattle.js_tree.specs.declared.kind.NodeKind.{NodeKind}
 use Rattle.js_tree.specs.declared.op.Op.{Op}
@@ -17,7 +18,8 @@ use Rattle.js_tree.specs.Nodes.{Node, label}
 use Rattle.js_tree.specs.Holding.{Made}
 use Rattle.js_cursor.specs.Parsers.{Parser}
 use Rattle.js_cursor.specs.Moves.{Completed, is_last}
-use Rattle.js_cursor.specs.Places.{IsAt}
+use Rattle.js_cursor.specs.Places.{IsAt, goal}
+use Rattle.js_core.specs.Lexemes.{KeptFor, spot}
 use Rattle.js_core.specs.Operators.{power_of}
 use Rattle.js_core.specs.States.{At, Same}
 
@@ -36,6 +38,10 @@ pub record Moved (text : List ℕ) (f : Flags) (old new : Parser) : Type 0 where
   pub tells : Tells lexeme old.token
   pub ends : lexeme.to ≡ new.prev_token_end
   pub further : old.token.span.start < new.prev_token_end
+  -- the faults that were kept for what stands behind it
+  pub faults : List Diagnostic
+  pub kept_for : KeptFor (goal old) text lexeme.to faults
+  pub spot_is : spot new ≡ record { source = goal old; place = lexeme.to; faults = old.lexer.kept.errors ++ faults }
 
 abbrev pub Moves : Parser → Parser → Type 0
 Moves old new = (text : List ℕ) (f : Flags) → At text f old → Moved text f old new
@@ -47,6 +53,7 @@ pub record Tightness (text : List ℕ) (f : Flags) (old new : Parser) (power : �
   pub nodes : new.nodes ≡ old.nodes
   pub kept : new.errors ≡ old.errors
   pub place : new.prev_token_end ≡ old.prev_token_end
+  pub spot_is : spot new ≡ spot old
   pub start : new.token.span.start ≡ old.token.span.start
   pub uncut : new.cut ≡ false
   pub is : power ≡ cond new.token.escaped 0 (power_of f.in_ new.token.kind)

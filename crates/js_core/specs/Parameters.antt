@@ -11,7 +11,7 @@ use Rattle.js_tree.specs.declared.id.NodeId.{NodeId}
 use Rattle.js_tree.specs.Holding.{Holds, HoldsAll, Keeps}
 use Rattle.js_cursor.specs.Parsers.{Parser}
 use Rattle.js_cursor.specs.declared.stop.Stop.{Stop}
-use Rattle.js_core.specs.Lexemes.{Lex, Walked}
+use Rattle.js_core.specs.Lexemes.{Lex, Walked, spot}
 use Rattle.js_core.specs.States.{At, Same}
 use Rattle.js_core.specs.Answers.{Verdict, Stretch, Stops}
 
@@ -38,7 +38,7 @@ pub record Parameter (text : List ℕ) (f : Flags) (p q : Parser) (id : NodeId) 
   pub label : Label
   pub slots : Slots
   pub pass : Lexemes → Lexemes
-  pub walked : Walked text p.prev_token_end q.prev_token_end pass
+  pub walked : Walked text (spot p) (spot q) pass
   pub verdict : Verdict p.errors q.errors (Stretch text (plain ends_parameter) (sym Param f) p.prev_token_end nothing q.prev_token_end (tree label slots) pass) (NoParameter text f p.prev_token_end)
   pub holds : Holds q.nodes (length p.nodes) (length q.nodes) id.0 label slots
   pub keeps : Keeps p.nodes q.nodes
@@ -67,7 +67,7 @@ pub record OneMore (text : List ℕ) (f : Flags) (p q : Parser) (ids js : List (
   pub slots : Slots → Slots
   pub puts : (us : Slots) → slots us ≡ append (slots end) us
   pub pass : Lexemes → Lexemes
-  pub walked : Walked text p.prev_token_end q.prev_token_end pass
+  pub walked : Walked text (spot p) (spot q) pass
   pub verdict : Verdict p.errors q.errors (Stretch text (plain full) (list_left f) p.prev_token_end (left_when more f) q.prev_token_end slots pass) (NoListLeft text f p.prev_token_end)
   pub holds : (lo : ℕ) (us : Slots) → HoldsAll p.nodes lo (length p.nodes) ids us → HoldsAll q.nodes lo (length q.nodes) js (append us (slots end))
   pub keeps : Keeps p.nodes q.nodes

@@ -12,7 +12,7 @@ use Rattle.js_tree.specs.Holding.{Holds, HoldsAll, Keeps}
 use Rattle.js_cursor.specs.Parsers.{Parser}
 use Rattle.js_cursor.specs.Moves.{is_last}
 use Rattle.js_cursor.specs.declared.stop.Stop.{Stop}
-use Rattle.js_core.specs.Lexemes.{Lex, Walked}
+use Rattle.js_core.specs.Lexemes.{Lex, Walked, spot}
 use Rattle.js_core.specs.States.{At, Same}
 use Rattle.js_core.specs.Answers.{Verdict, Stretch, Stops}
 
@@ -38,7 +38,7 @@ pub record OneTaken (text : List ℕ) (f : Flags) (g g' : G) (old new : Parser) 
   pub label : Label
   pub slots : Slots
   pub pass : Lexemes → Lexemes
-  pub walked : Walked text old.prev_token_end new.prev_token_end pass
+  pub walked : Walked text (spot old) (spot new) pass
   pub verdict : Verdict old.errors new.errors (Stretch text (plain at_text_end) g old.prev_token_end g' new.prev_token_end (tree label slots) pass) (NoList text g old.prev_token_end)
   pub holds : Holds new.nodes (length old.nodes) (length new.nodes) id.0 label slots
   pub keeps : Keeps old.nodes new.nodes
@@ -51,7 +51,7 @@ pub record Taken (text : List ℕ) (f : Flags) (g g' : G) (old new : Parser) (id
   pub slots : Slots → Slots
   pub appends : (us : Slots) → slots us ≡ append (slots no_slots) us
   pub pass : Lexemes → Lexemes
-  pub walked : Walked text old.prev_token_end new.prev_token_end pass
+  pub walked : Walked text (spot old) (spot new) pass
   pub verdict : Verdict old.errors new.errors (Stretch text (plain at_text_end) g old.prev_token_end g' new.prev_token_end slots pass) (NoList text g old.prev_token_end)
   pub holds : HoldsAll new.nodes (length old.nodes) (length new.nodes) ids (slots no_slots)
   pub keeps : Keeps old.nodes new.nodes

@@ -15,7 +15,7 @@ use Rattle.js_tree.specs.Holding.{Holds, Keeps}
 use Rattle.js_cursor.specs.Parsers.{Parser}
 use Rattle.js_cursor.specs.Moves.{Ends, MayEnd}
 use Rattle.js_cursor.specs.declared.stop.Stop.{Stop}
-use Rattle.js_core.specs.Lexemes.{Lex, Walked}
+use Rattle.js_core.specs.Lexemes.{Lex, Walked, spot}
 use Rattle.js_core.specs.States.{At, Same}
 use Rattle.js_core.specs.Answers.{Verdict, Stretch, Stops}
 
@@ -43,7 +43,7 @@ pub record Statement (text : List ℕ) (f : Flags) (n : Symbol) (old new : Parse
   pub label : Label
   pub slots : Slots
   pub pass : Lexemes → Lexemes
-  pub walked : Walked text old.prev_token_end new.prev_token_end pass
+  pub walked : Walked text (spot old) (spot new) pass
   pub verdict : Verdict old.errors new.errors (Stretch text (after_statement n) (such n always) old.prev_token_end nothing new.prev_token_end (tree label slots) pass) (NoStatement text n old.prev_token_end)
   pub holds : Holds new.nodes (length old.nodes) (length new.nodes) id.0 label slots
   pub keeps : Keeps old.nodes new.nodes

@@ -1,5 +1,5 @@
 -- What holds at a place when the lexer has given the next token.
-use Rattle.std.proofs.Common.{ℕ, ◌+◌, ◌≡◌, ◌≤◌, ◌<◌, inl, inr, Bool, true, false, List, [], ◌∷◌, ◌++◌, refl, sym, ap, subst, arith, ◌∙◌}
+use Rattle.std.proofs.Common.{ℕ, ◌+◌, ◌≡◌, ◌≤◌, ◌<◌, inl, inr, Bool, true, false, List, [], ◌∷◌, ◌++◌, refl, sym, ap, subst, arith, ◌∙◌, append-nil}
 use Rattle.std.specs.List.{All}
 use Rattle.std.specs.Prelude.{IsCharBoundary, IsTrue, Some, ◌↔◌}
 use Rattle.js_lex.proofs.Again.{cut_same}
@@ -199,7 +199,7 @@ is_whole_of : {p : Parser} {g : LexicalGoal} → GivesLexeme g (λ z. z) p.text 
 is_whole_of x = record { lexeme = x.lexeme; stood = x.stands.lex; tells = x.tells }
 
 completed : {p : Parser} {l : State} {t : Token} → IsAt p → p.cut ≡ true → GivesAgain division p.lexer l p.token t [] [] → Told p (record p { lexer = l; token = t; cut = false })
-completed {p} {l} {t} a e g = record { completed = inr (e, record { going_on = []; faults = []; again = g; place = refl; stays = stays g.same; at = at }, refl); at = at; whole = λ n. is_whole_of given.1 }
+completed {p} {l} {t} a e g = record { completed = inr (e, record { going_on = []; faults = []; again = g; place = refl; stays = stays g.same; at = at }, refl, g.errors ∙ append-nil p.lexer.kept.errors); at = at; whole = λ n. is_whole_of given.1 }
   where
     w : WasGiven p.lexer p.token
     w = sign_given a e

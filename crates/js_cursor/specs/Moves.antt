@@ -73,9 +73,9 @@ pub record Peeks (p : Parser) (t : Token) : Type 0 where
   pub next : GivesNext division p.lexer after t
   pub only : (other : State) (u : Token) → GivesNext division p.lexer other u → u ≡ t
 
--- a sign that begins with `>` is told whole now
+-- a sign that begins with `>` is told whole now, and no fault came with it
 abbrev pub Completed : Parser → Parser → Type 0
-Completed old new = ((old.cut ≡ false) × (new ≡ old)) ⊎ ((old.cut ≡ true) × ReadAgain division old new × (new.cut ≡ false))
+Completed old new = ((old.cut ≡ false) × (new ≡ old)) ⊎ ((old.cut ≡ true) × ReadAgain division old new × (new.cut ≡ false) × (new.lexer.kept.errors ≡ old.lexer.kept.errors))
 
 -- It is, and stands as it did.
 pub record Told (old new : Parser) : Type 0 where

@@ -17,19 +17,25 @@ use Rattle.js_tree.specs.Holding.{HoldsAll, IsTree, program_tree, with_program}
 use Rattle.js_tree.proofs.HoldingLemmas.{HoldsAll-none}
 use Rattle.js_cursor.specs.Parsers.{Parser}
 use Rattle.js_cursor.specs.Places.{IsFault, goal}
-use Rattle.js_parser.specs.Parsed.{parameters, Outcome, read, unread, HasNoReading, HasHashbang, IsMarked, IsAnswer, IsOverlong}
-use Rattle.js_parser.specs.Taken.{IsOf, ReadSo, ProgramTaken, ProgramRefused, ProgramStops}
+use Rattle.std.proofs.lemmas.Bool.{false≢true}
+use Rattle.js_base.specs.Spans.{LiesIn}
+use Rattle.js_parser.specs.Readings.{HasNoReading, IsOnlyReading, IsMarked, AreOf}
+use Rattle.js_parser.specs.Parsed.{options_of, IsAnswer, IsOverlong}
+use Rattle.js_parser.specs.Taken.{IsOf, FoundNothing, ReadOrNot, ProgramTaken, ProgramRefused, ProgramStops}
 use Rattle.js_cursor.specs.declared.stop.Stop.{Stop}
 use Rattle.js_cursor.specs.declared.stop.Stop.TheVariants.{Fatal}
 
 -- both lists are empty
-first_empty : {K : Type 0} (a b : List K) → a ++ b ≡ [] → a ≡ []
+pub first_empty : {K : Type 0} (a b : List K) → a ++ b ≡ [] → a ≡ []
 first_empty [] b e = refl
 first_empty (x ∷ a) b e = cc
 
-second_empty : {K : Type 0} (a b : List K) → a ++ b ≡ [] → b ≡ []
+pub second_empty : {K : Type 0} (a b : List K) → a ++ b ≡ [] → b ≡ []
 second_empty [] b e = e
 second_empty (x ∷ a) b e = cc
+
+none_of_two : {K : Type 0} (a b : List K) → a ≡ [] → b ≡ [] → a ++ b ≡ []
+none_of_two a b e f = λ i. e i ++ f i
 
 span_is : (sp : Span) {a b : ℕ} → sp.start ≡ a → sp.end ≡ b → sp ≡ record { start = a; end = b }
 span_is sp x y = λ i. record { start = x i; end = y i }
@@ -45,20 +51,31 @@ module _ {text : List ℕ} {s : SourceType} {p : Parser} (t : IsOf text s p) whe
   marked_all : (kept : List Diagnostic) → All (IsFault (goal_of s) text) kept → All (IsMarked (goal_of s) text) (kept ++ p.errors)
   marked_all kept h = All-append (IsMarked (goal_of s) text) kept p.errors (All-weaker (IsFault (goal_of s) text) (IsMarked (goal_of s) text) (λ d f. inr f) kept h) (All-weaker (Mark (goal_of s) text) (IsMarked (goal_of s) text) (λ d f. inl f) p.errors marks)
 
-pub taken_answer : {text : List ℕ} {s : SourceType} {o : ParseOptions} {p : Parser} {ids : List (Option NodeId)} (span : Span) (nodes : List Node) (found : List Diagnostic) → span.start ≡ 0 → span.end ≡ p.token.span.end → ((cs : Slots) → HoldsAll p.nodes 1 (length p.nodes) ids cs → IsTree nodes (program_tree span cs)) → found ≡ p.lexer.kept.errors ++ p.errors → ProgramTaken text s o p ids → IsAnswer text s o nodes found false
-taken_answer {text} {s} {o} {p} {ids} span nodes found a b t e h = record {
-  marked = subst (λ (ds : List Diagnostic). All (IsMarked (goal_of s) text) ds) (sym e) (marked_all h.is_of p.lexer.kept.errors (faults h.is_of));
-  tree = program_tree span h.slots;
-  is_tree = t h.slots h.holds;
-  outcome = λ n. subst (λ (ds : List Diagnostic). Outcome text (goal_of s) (parameters s o) nodes ds false) (sym e) (go (h.outcome n));
-}
-  where
-    is_tree : IsTree nodes (program_tree (record { start = 0; end = p.token.span.end }) h.slots)
-    is_tree = subst (λ (v : Span). IsTree nodes (program_tree v h.slots)) (span_is span a b) (t h.slots h.holds)
+  -- and lies in the text
+  marks_lie : All (λ d. LiesIn d.span text) p.errors
+  marks_lie = All-weaker (Mark (goal_of s) text) (λ d. LiesIn d.span text) (λ d m. record { ordered = m.ordered; starts_whole = m.begins_between; ends_whole = m.ends_between }) p.errors marks
 
-    go : ((p.errors ≡ []) × ReadSo text (parameters s o) p.token.span.end h.slots) ⊎ (HasNoReading text (parameters s o) × ((p.errors ≡ []) → (p.lexer.kept.errors ≡ []) → ⊥)) → Outcome text (goal_of s) (parameters s o) nodes (p.lexer.kept.errors ++ p.errors) false
-    go (inl (z, r)) = read (record { tree = program_tree (record { start = 0; end = p.token.span.end }) h.slots; is_tree = is_tree; reading = r.reading; only = r.only }) (All-append (IsFault (goal_of s) text) p.lexer.kept.errors p.errors (faults h.is_of) (subst (λ (ds : List Diagnostic). All (IsFault (goal_of s) text) ds) (sym z) (All-nil (IsFault (goal_of s) text))))
-    go (inr (n, k)) = unread n (λ z. k (second_empty p.lexer.kept.errors p.errors z) (first_empty p.lexer.kept.errors p.errors z))
+  faults_lie : (kept : List Diagnostic) → All (IsFault (goal_of s) text) kept → All (λ d. LiesIn d.span text) kept
+  faults_lie kept h = All-weaker (IsFault (goal_of s) text) (λ d. LiesIn d.span text) (λ d f. record { ordered = (let l = f.faulty.ordered in omega arith); starts_whole = f.faulty.begins_between; ends_whole = f.faulty.ends_between }) kept h
+
+  told_all : (kept found : List Diagnostic) → found ≡ kept ++ p.errors → All (IsFault (goal_of s) text) kept → AreOf (goal_of s) text found
+  told_all kept found e h = subst (AreOf (goal_of s) text) (sym e) (record { marked = marked_all kept h; lie = All-append (λ d. LiesIn d.span text) kept p.errors (faults_lie kept h) marks_lie })
+
+-- nothing was found, or something was
+by_found : (text : List ℕ) (s : SourceType) (o : ParseOptions) (p : Parser) (cs : Slots) (found : List Diagnostic) → found ≡ p.lexer.kept.errors ++ p.errors → ReadOrNot text s o p cs
+    → (found ≡ [] → IsOnlyReading text (goal_of s) (options_of o) (program_tree (record { start = 0; end = p.token.span.end }) cs)) × ((found ≡ [] → ⊥) → HasNoReading text (goal_of s) (options_of o))
+by_found text s o p cs found e (inl (z, r)) = (λ x. r, λ n. absurd (n (e ∙ none_of_two p.lexer.kept.errors p.errors z.faults z.errors)))
+by_found text s o p cs found e (inr (z, r)) = (λ x. absurd (z (let k = sym e ∙ x in record { faults = first_empty p.lexer.kept.errors p.errors k; errors = second_empty p.lexer.kept.errors p.errors k })), λ n. r)
+
+pub taken_answer : {text : List ℕ} {s : SourceType} {o : ParseOptions} {p : Parser} {ids : List (Option NodeId)} (span : Span) (nodes : List Node) (found : List Diagnostic) → span.start ≡ 0 → span.end ≡ p.token.span.end → ((cs : Slots) → HoldsAll p.nodes 1 (length p.nodes) ids cs → IsTree nodes (program_tree span cs)) → found ≡ p.lexer.kept.errors ++ p.errors → ProgramTaken text s o p ids → IsAnswer text (goal_of s) (options_of o) nodes found false
+taken_answer {text} {s} {o} {p} {ids} span nodes found a b t e h = record {
+  told = told_all h.is_of p.lexer.kept.errors found e (faults h.is_of);
+  tree = program_tree (record { start = 0; end = p.token.span.end }) h.slots;
+  is_tree = subst (λ (v : Span). IsTree nodes (program_tree v h.slots)) (span_is span a b) (t h.slots h.holds);
+  clean = λ z n. (by_found text s o p h.slots found e (h.outcome n)).0 z;
+  unclean = λ z n. (by_found text s o p h.slots found e (h.outcome n)).1 z;
+  ended = λ q z. false≢true q;
+}
 
 -- a program without children
 childless : {nodes : List Node} {ids : List (Option NodeId)} (ns : List Node) (span : Span) → ids ≡ [] → nodes ≡ with_program (program_node span ids) ns → IsTree nodes (program_tree span end)
@@ -69,13 +86,18 @@ childless {nodes} {ids} ns span z e = subst (λ (ms : List Node). IsTree ms (pro
   children = HoldsAll-none (with_program (program_node span []) ns) 1 (length (with_program (program_node span []) ns)) (omega arith);
 })
 
-pub refused_answer : {text : List ℕ} {s : SourceType} {o : ParseOptions} {p : Parser} {ids : List (Option NodeId)} (ns : List Node) (span : Span) (nodes : List Node) (kept found : List Diagnostic) (n : ℕ) → kept ≡ take n p.lexer.kept.errors → ids ≡ [] → nodes ≡ with_program (program_node span ids) ns → found ≡ kept ++ p.errors → ProgramRefused text s o p → IsAnswer text s o nodes found true
+pub refused_answer : {text : List ℕ} {s : SourceType} {o : ParseOptions} {p : Parser} {ids : List (Option NodeId)} (ns : List Node) (span : Span) (nodes : List Node) (kept found : List Diagnostic) (n : ℕ) → kept ≡ take n p.lexer.kept.errors → ids ≡ [] → nodes ≡ with_program (program_node span ids) ns → found ≡ kept ++ p.errors → ProgramRefused text s o p → IsAnswer text (goal_of s) (options_of o) nodes found true
 refused_answer {text} {s} {o} {p} {ids} ns span nodes kept found n k z t e h = record {
-  marked = subst (λ (ds : List Diagnostic). All (IsMarked (goal_of s) text) ds) (sym e) (marked_all h.is_of kept (subst (λ (ds : List Diagnostic). All (IsFault (goal_of s) text) ds) (sym k) (All-take (IsFault (goal_of s) text) n p.lexer.kept.errors (faults h.is_of))));
+  told = told_all h.is_of kept found e (subst (λ (ds : List Diagnostic). All (IsFault (goal_of s) text) ds) (sym k) (All-take (IsFault (goal_of s) text) n p.lexer.kept.errors (faults h.is_of)));
   tree = program_tree span end;
   is_tree = childless ns span z t;
-  outcome = λ x. unread (h.none x) (λ y. h.some (second_empty kept p.errors (sym e ∙ y)));
+  clean = λ y x. absurd (some y);
+  unclean = λ y x. h.none x;
+  ended = λ q y. some y;
 }
+  where
+    some : found ≡ [] → ⊥
+    some y = h.some (second_empty kept p.errors (sym e ∙ y))
 
 pub overlong_answer : {found old : List Diagnostic} {ids : List (Option NodeId)} (span : Span) (nodes ns : List Node) → old ≡ [] → found ≡ old ++ record { kind = OverlongSource; span = span; first = None; second = None } ∷ [] → span.start ≡ 0 → span.end ≡ 0 → ids ≡ [] → ns ≡ empty_program ∷ [] → ((cs : Slots) → HoldsAll ns 1 (length ns) ids cs → IsTree nodes (program_tree span cs)) → IsOverlong nodes found true
 overlong_answer {found} {old} {ids} span nodes ns o e a b z n t = record {

@@ -10,7 +10,7 @@ use Rattle.js_base.specs.Kinds.{same_kind, one_of_kinds}
 use Rattle.js_base.specs.Texts.{words}
 use Rattle.js_base.proofs.KindLemmas.{kind_of_same}
 use Rattle.js_grammar.specs.Trees.{Label, Slots, end, tree, Tree, no_op, hashbang, program}
-use Rattle.js_grammar.specs.Grammar.{Lexeme, Lexemes, last, here, seen, Make, whole_text, label_of, nothing, seq, alt, such, is_nothing, lexeme}
+use Rattle.js_grammar.specs.Grammar.{Lexeme, Lexemes, last, next, here, seen, Make, whole_text, label_of, nothing, seq, alt, such, is_nothing, lexeme}
 use Rattle.js_grammar.specs.Lexed.{Lexes, Lex as StandsBehind, all_faults}
 use Rattle.js_grammar.specs.Lexemes.{is_escaped}
 use Rattle.js_grammar.specs.Parsing.{Test, plain, full, still, Goes, Reads, Fails}
@@ -41,7 +41,7 @@ use Rattle.js_core.proofs.Here.{told, plain_kind, kind_here}
 use Rattle.js_core.proofs.Paths.{at_kind}
 use Rattle.js_core.proofs.StatementLists.{none_left}
 use Rattle.js_core.proofs.Verdicts.{grown_some}
-use Rattle.js_cursor.specs.Starts.{is_module}
+use Rattle.js_cursor.specs.Starts.{is_module, is_commonjs}
 use Rattle.js_tree.specs.Nodes.{Node}
 use Rattle.js_tree.proofs.HoldingLemmas.{HoldsAll-wider, HoldsAll-append, HoldsAll-one, Holds-kept, Holds-wider, Keeps-refl}
 use Rattle.std.specs.Prelude.{Result, Ok, Err, MatchResult}
@@ -51,8 +51,20 @@ use Rattle.js_cursor.specs.Moves.{Passed}
 use Rattle.js_core.specs.Moves.{MadeHere}
 use Rattle.js_core.proofs.MadeNodes.{leaf_held}
 use Rattle.js_core.proofs.Moving.{standing, beside_nodes}
-use Rattle.js_parser.specs.Parsed.{parameters, Reading, HasNoReading, HasHashbang, IsAnswer}
-use Rattle.js_parser.specs.Taken.{IsOf, ReadSo, ProgramTaken, ProgramRefused, ProgramStops}
+use Rattle.js_parser.specs.Parsed.{options_of, IsAnswer}
+use Rattle.js_parser.specs.Readings.{parameters, Reading, IsOnlyReading, HasNoReading, HasHashbang}
+use Rattle.js_parser.specs.Taken.{IsOf, FoundNothing, ReadOrNot, ProgramTaken, ProgramRefused, ProgramStops}
+use Rattle.js_parser.proofs.Answering.{first_empty, second_empty}
+use Rattle.js_base.specs.declared.source_type.Goal.TheVariants as source
+use Rattle.js_grammar.specs.Grammar.{Derives}
+use Rattle.js_grammar.specs.Lexemes.{hashbang as hashbang_goal}
+use Rattle.js_grammar.specs.Options.{Options, is_module as in_module, is_commonjs as in_commonjs}
+use Rattle.js_grammar.specs.Settings.{Goal, script, module_goal, commonjs, unambiguous}
+use Rattle.js_lex.specs.Comments.{each_at, html_fault_at}
+use Rattle.js_lex.specs.Reading.{in_a_module, LexemeBehind, GivesFirst}
+use Rattle.js_core.specs.Lexemes.{Faultless, KeptFor, Spot, spot, Walked, nowhere, one_more}
+use Rattle.js_core.proofs.Kept.{kept_for, faults_aside}
+use Rattle.js_core.proofs.Paths.{walked_from}
 
 abbrev program_make : Make
 program_make = record { kind = program; op = no_op; flags = 0; extent = whole_text }
@@ -86,6 +98,14 @@ end_here {text} {q = q} a e = go a.plain
     go (sign c k x) = let z : RAngle ≡ Eof = sym k ∙ e in absurd (cc)
     go (no_lexeme c k n) = let z : Undetermined ≡ Eof = sym k ∙ e in absurd (cc)
 
+-- Program derives the tree from these lexemes of the text, whichever of their faults pass.
+record AnyReading (text : List ℕ) (f : Flags) (t : Tree) (ls : Lexemes) : Type 0 where
+  lexed : Lexes (Lex text) 0 ls
+  place : ℕ
+  final : Lexeme
+  is_end : final.kind ≡ Eof
+  derived : Derives rule (at Program f) t 0 ls place (last final)
+
 module _ {text : List ℕ} {f : Flags} {q : Parser} (a : At text f q) (e : q.token.kind ≡ Eof) where
   end_kind : (y : Lexeme) → Lex text q.prev_token_end y → y.kind ≡ Eof
   end_kind y l = kind_here a e refl y l
@@ -106,23 +126,98 @@ module _ {text : List ℕ} {f : Flags} {q : Parser} (a : At text f q) (e : q.tok
     unfolding rule rule_of covers
     program_reads = makes_by (whole_label q.token.span.end) (inside_plain refl) (without_hashbang f ▹ u.goes ▹ more_of ▹ at_kind a Eof e refl) program_label
 
-    pub read_so : ReadSo text f q.token.span.end (slots end)
-    read_so = let y = end_here a e in record {
-      reading = record { lexemes = pass (last y.0); lexed = program_reads.passes.lexed (last y.0) y.1; place = q.prev_token_end; final = y.0; is_end = y.2; derived = program_reads.sound end end q.prev_token_end (last y.0) (last y.0) y.1 (inr y.2) is_nothing };
-      only = λ t i. let x = program_reads.only (tree t.label t.slots end) end i.place i.lexemes (last i.final) i.lexed i.derived (rw i.is_end refl, refl) in
-          (same_tree x.2, x.5 ∙ ap pass (up_to_end x.1 y.0 y.1 (ends x.4).2 x.3));
+    any_so : AnyReading text f (program_tree (record { start = 0; end = q.token.span.end }) (slots end)) (pass (last (end_here a e).0))
+    any_so = let y = end_here a e in record {
+      lexed = program_reads.passes.lexed (last y.0) y.1;
+      place = q.prev_token_end;
+      final = y.0;
+      is_end = y.2;
+      derived = program_reads.sound end end q.prev_token_end (last y.0) (last y.0) y.1 (inr y.2) is_nothing;
     }
+
+    only_so : (t : Tree) (ls : Lexemes) → AnyReading text f t ls → (t ≡ program_tree (record { start = 0; end = q.token.span.end }) (slots end)) × (ls ≡ pass (last (end_here a e).0))
+    only_so t ls i = let y = end_here a e in let x = program_reads.only (tree t.label t.slots end) end i.place ls (last i.final) i.lexed i.derived (rw i.is_end refl, refl) in
+        (same_tree x.2, x.5 ∙ ap pass (up_to_end x.1 y.0 y.1 (ends x.4).2 x.3))
       where
         up_to_end : {z : Lexeme} (ls : Lexemes) (y : Lexeme) → Lex text q.prev_token_end y → ls ≡ last z → Lexes (Lex text) q.prev_token_end ls → ls ≡ last y
         up_to_end {z} ls y l same i = let m : Lex text q.prev_token_end z = subst (λ (v : Lexemes). Lexes (Lex text) q.prev_token_end v) same i in same ∙ ap (λ (v : Lexeme). last v) (lex-same m.0 l.0 (plain_kind m.0 (and_parts (one_of_kinds read_kinds z.kind) _ m.1).0 ∙ sym (plain_kind l.0 (and_parts (one_of_kinds read_kinds y.kind) _ l.1).0)))
 
 -- a text whose statements can't be taken has no reading
-no_reading : {text : List ℕ} {f : Flags} → NoList text (with_directives f) 0 → HasNoReading text f
+no_reading : {text : List ℕ} {f : Flags} → NoList text (with_directives f) 0 → (t : Tree) (ls : Lexemes) → AnyReading text f t ls → ⊥
 unfolding rule rule_of covers
-no_reading {text} {f} n t r = (program_fails).no (tree t.label t.slots end) end r.place r.lexemes (last r.final) r.lexed r.derived (rw r.is_end refl, refl)
+no_reading {text} {f} n t ls r = (program_fails).no (tree t.label t.slots end) end r.place ls (last r.final) r.lexed r.derived (rw r.is_end refl, refl)
   where
     program_fails : Fails rule (Lex text) (plain at_text_end) end (rule (at Program f)) 0
     program_fails = fails_node (inside_plain refl) (without_hashbang f ▹✗ n)
+
+-- ---- faults
+
+-- a reading is one whichever faults pass
+any_reading : {text : List ℕ} {goal : Goal} {o : Options} {t : Tree} (r : Reading text goal o t) → AnyReading text (parameters goal o) t r.lexemes
+any_reading {text} {goal} r = record { lexed = all_aside 0 r.lexemes r.lexed; place = r.place; final = r.final; is_end = r.is_end; derived = r.derived }
+  where
+    all_aside : (s : ℕ) (ls : Lexemes) → Lexes (Faultless goal text) s ls → Lexes (Lex text) s ls
+    all_aside s (last x) l = faults_aside goal l
+    all_aside s (next x ls) l = (faults_aside goal l.0, all_aside x.to ls l.1)
+
+none_at_all : {text : List ℕ} {f : Flags} {source : Goal} {o : Options} → f ≡ parameters source o → NoList text (with_directives f) 0 → HasNoReading text source o
+none_at_all {text} k n t r = no_reading n t r.lexemes (subst (λ (g : Flags). AnyReading text g t r.lexemes) (sym k) (any_reading r))
+
+cons_some : {K : Type 0} (x : K) (xs : List K) → x ∷ xs ≡ [] → ⊥
+cons_some x xs e = cc
+
+-- lexemes behind those that were passed
+behind_walk : (L : ℕ → Lexeme → Type 0) {text : List ℕ} {s s' : Spot} {pass : Lexemes → Lexemes} → Walked text s s' pass → (ms : Lexemes) → Lexes L s.place (pass ms) → Lexes L s'.place ms
+behind_walk L nowhere ms l = l
+behind_walk L (one_more {x = x} w h k) ms l = (behind_walk L w (next x ms) l).1
+
+-- the lexeme that stands there has no fault
+abbrev Right : List ℕ → Spot → Type 0
+Right text s = (y : Lexeme) → Lex text s.place y → Faultless s.source text s.place y
+
+module _ {text : List ℕ} where
+  -- where no fault was kept, none stands anywhere on the way
+  right_there : {s s' : Spot} {pass : Lexemes → Lexemes} → Walked text s s' pass → s'.faults ≡ [] → ((s.faults ≡ []) → Right text s) → Right text s'
+  right_there nowhere e h = h e
+  right_there (one_more {s' = m} {kept = kept} w l k) e h = k.none (second_empty m.faults kept e)
+
+  source_kept : {s s' : Spot} {pass : Lexemes → Lexemes} → Walked text s s' pass → s'.source ≡ s.source
+  source_kept nowhere = refl
+  source_kept (one_more w l k) = source_kept w
+
+  all_right : {s s' : Spot} {pass : Lexemes → Lexemes} (w : Walked text s s' pass) → s'.faults ≡ [] → ((s.faults ≡ []) → Right text s) → (ms : Lexemes) → Lexes (Lex text) s.place (pass ms) → Lexes (Faultless s'.source text) s'.place ms → Lexes (Faultless s.source text) s.place (pass ms)
+  all_right nowhere e h ms l r = r
+  all_right (one_more {s' = m} {x = x} {kept = kept} w i k) e h ms l r =
+      let none = first_empty m.faults kept e in
+      all_right w none h (next x ms) l (right_there w none h x (behind_walk (Lex text) w (next x ms) l).0, r)
+
+  -- where some fault was kept, one stands on the way, or here
+  some_wrong : {s s' : Spot} {pass : Lexemes → Lexemes} (w : Walked text s s' pass) → (s'.faults ≡ [] → ⊥) → ((s.faults ≡ [] → ⊥) → (y : Lexeme) → Faultless s.source text s.place y → ⊥) → (ms : Lexemes) → Lexes (Faultless s.source text) s.place (pass ms) → ⊥
+  some_wrong {s} nowhere n h ms r = h n (here ms) (here_at (Faultless s.source text) ms r)
+  some_wrong {s} (one_more {s' = m} {x = x} {kept = kept} w i k) n h ms r = go kept refl (λ o. some_wrong w o h (next x ms) r)
+    where
+      go : (ds : List Diagnostic) → kept ≡ ds → ((m.faults ≡ [] → ⊥) → ⊥) → ⊥
+      go [] e again = again (λ z. n (λ j. z j ++ e j))
+      go (d ∷ ds) e again = k.some (λ z. cons_some d ds (sym e ∙ z)) (here ms) (here_at (Faultless m.source text) ms (subst (λ (v : Goal). Lexes (Faultless v text) x.to ms) (sym (source_kept w)) (behind_walk (Faultless s.source text) w (next x ms) r).1))
+
+-- The statements that were taken up to the text's end, by the faults that were kept.
+module _ {text : List ℕ} {f : Flags} {q : Parser} (a : At text f q) (e : q.token.kind ≡ Eof) {slots : Slots → Slots} {pass : Lexemes → Lexemes} (u : Stretch text (plain at_text_end) (with_directives f) 0 (statements f) q.prev_token_end slots pass) {source : Goal} {o : Options} (k : f ≡ parameters source o)
+    {faults : List Diagnostic} (w : Walked text (record { source = source; place = 0; faults = faults }) (spot q) pass) (first : KeptFor source text 0 faults) where
+  one_reading : q.lexer.kept.errors ≡ [] → IsOnlyReading text source o (program_tree (record { start = 0; end = q.token.span.end }) (slots end))
+  one_reading z = let x = any_so a e u in let y = end_here a e in record {
+    reading = record {
+      lexemes = pass (last y.0);
+      lexed = all_right w z (λ v. first.none v) (last y.0) x.lexed (right_there w z (λ v. first.none v) y.0 y.1);
+      place = x.place;
+      final = x.final;
+      is_end = x.is_end;
+      derived = subst (λ (g : Flags). Derives rule (at Program g) (program_tree (record { start = 0; end = q.token.span.end }) (slots end)) 0 (pass (last y.0)) x.place (last x.final)) k x.derived;
+    };
+    only = λ t r. only_so a e u t r.lexemes (subst (λ (g : Flags). AnyReading text g t r.lexemes) (sym k) (any_reading r));
+  }
+
+  faulty_so : (q.lexer.kept.errors ≡ [] → ⊥) → HasNoReading text source o
+  faulty_so n t r = let x = only_so a e u t r.lexemes (subst (λ (g : Flags). AnyReading text g t r.lexemes) (sym k) (any_reading r)) in some_wrong w n first.some (last (end_here a e).0) (subst (λ (ls : Lexemes). Lexes (Faultless source text) 0 ls) x.1 r.lexed)
 
 -- where no lexeme stands, no statement does, and a fault was kept
 module _ {text : List ℕ} {f : Flags} {q : Parser} (a : At text f q) (e : q.token.kind ≡ Undetermined) where
@@ -156,8 +251,26 @@ last_kind k h = go (same_kind Eof k) refl h
 -- ---- the children of Program
 
 -- the parameters in force at the start
-at_start : {source : List ℕ} {b : Bool} {p : Parser} → Starts source p.source_type p.options b p → flags_of p ≡ parameters p.source_type p.options
-at_start {p = p} s = let c = s.ctx in λ i. record { in_ = c.in_ i; yield_ = c.yield i; await_ = c.await i; return_ = c.return i; new_target = c.new_target i; module_goal = is_module p.source_type; v8 = p.options.allow_v8_intrinsics; cover = true; wide = false }
+module_goal_is : (s : SourceType) → is_module s ≡ in_module (goal_of s)
+module_goal_is s = go s.goal
+  where
+    go : (g : source.the_data) → elim g as (λ _. Bool) [ source.Module ↦ true | _ ↦ false ] ≡ in_module (elim g as (λ _. Goal) [ source.Script ↦ script | source.Module ↦ module_goal | source.CommonJs ↦ commonjs | source.Unambiguous ↦ unambiguous ])
+    go source.Script = refl
+    go source.Module = refl
+    go source.CommonJs = refl
+    go source.Unambiguous = refl
+
+commonjs_is : (s : SourceType) → is_commonjs s ≡ in_commonjs (goal_of s)
+commonjs_is s = go s.goal
+  where
+    go : (g : source.the_data) → elim g as (λ _. Bool) [ source.CommonJs ↦ true | _ ↦ false ] ≡ in_commonjs (elim g as (λ _. Goal) [ source.Script ↦ script | source.Module ↦ module_goal | source.CommonJs ↦ commonjs | source.Unambiguous ↦ unambiguous ])
+    go source.Script = refl
+    go source.Module = refl
+    go source.CommonJs = refl
+    go source.Unambiguous = refl
+
+at_start : {text : List ℕ} {b : Bool} {p : Parser} → Starts text p.source_type p.options b p → flags_of p ≡ parameters (goal_of p.source_type) (options_of p.options)
+at_start {p = p} s = let c = s.ctx in let m = module_goal_is p.source_type in let j = commonjs_is p.source_type in λ i. record { in_ = c.in_ i; yield_ = c.yield i; await_ = (c.await ∙ m) i; return_ = (c.return ∙ ap (λ (v : Bool). v || p.options.allow_return_outside_function) j) i; new_target = (c.new_target ∙ j) i; module_goal = m i; v8 = p.options.allow_v8_intrinsics; cover = true; wide = false }
 
 module _ {b : Bool} {p : Parser} (s : Starts p.text p.source_type p.options b p) where
   one_node : length p.nodes ≡ 1
@@ -167,33 +280,53 @@ module _ {b : Bool} {p : Parser} (s : Starts p.text p.source_type p.options b p)
   from_start : (F : ℕ → Type 0) → F p.prev_token_end → F 0
   from_start F h = subst F s.prev_token_end h
 
+  -- what was kept for the first lexeme
+  kept_first : (HasHashbang p.text → ⊥) → KeptFor (goal p) p.text 0 p.lexer.kept.errors
+  kept_first n = go s.first
+    where
+      go : GivesFirst s.lexer p.lexer p.token → KeptFor (goal p) p.text 0 p.lexer.kept.errors
+      go (inl b) = absurd (n (b.gives.lexeme, subst (λ (t : List ℕ). LexemeBehind hashbang_goal t 0 b.gives.lexeme) s.reads b.gives.stands))
+      go (inr (z, g)) =
+          let same : p.lexer.kept.errors ≡ each_at (html_fault_at (in_a_module s.lexer.goal)) s.lexer.place g.pieces ++ g.faults = g.grows.faults_grow ∙ ap (λ (ds : List Diagnostic). ds ++ (each_at (html_fault_at (in_a_module s.lexer.goal)) s.lexer.place g.pieces ++ g.faults)) s.kept_none.errors in
+          subst (λ (ds : List Diagnostic). KeptFor (goal p) p.text 0 ds) (sym same)
+          (subst (λ (i : ℕ). KeptFor (goal p) p.text i (each_at (html_fault_at (in_a_module s.lexer.goal)) s.lexer.place g.pieces ++ g.faults)) s.at_start
+          (subst (λ (t : List ℕ). KeptFor (goal p) t s.lexer.place (each_at (html_fault_at (in_a_module s.lexer.goal)) s.lexer.place g.pieces ++ g.faults)) s.reads
+          (subst (λ (v : Goal). KeptFor v s.lexer.text s.lexer.place (each_at (html_fault_at (in_a_module s.lexer.goal)) s.lexer.place g.pieces ++ g.faults)) s.reads_for (kept_for g))))
+
   program_taken : {q : Parser} {ids : List (Option NodeId)} → Standing p → AllTaken p q ids → ProgramTaken p.text p.source_type p.options q ids
   program_taken {q} {ids} a (k, h) = record {
     is_of = record { at = t.at.at; text_is = t.same.follows.text; source_type = t.same.follows.source_type };
     slots = t.slots end;
     holds = HoldsAll-wider 1 (length q.nodes) (let n = one_node in omega arith) (omega arith) t.holds;
-    outcome = λ n. subst (λ (f : Flags). ((q.errors ≡ []) × ReadSo p.text f q.token.span.end (t.slots end)) ⊎ (HasNoReading p.text f × ((q.errors ≡ []) → (q.lexer.kept.errors ≡ []) → ⊥))) (at_start s) (by_kind (last_kind q.token.kind k));
+    outcome = λ n. by_kind n (last_kind q.token.kind k);
   }
     where
       t : Taken p.text (flags_of p) (with_directives (flags_of p)) (statements (flags_of p)) p q ids
       t = h p.text (flags_of p) a
 
-      none : NoList p.text (with_directives (flags_of p)) p.prev_token_end → HasNoReading p.text (flags_of p)
-      none n = no_reading (from_start (λ (i : ℕ). NoList p.text (with_directives (flags_of p)) i) n)
+      walk : Walked p.text (record { source = goal p; place = 0; faults = p.lexer.kept.errors }) (spot q) t.pass
+      walk = walked_from (λ i. record { source = goal p; place = s.prev_token_end i; faults = p.lexer.kept.errors }) t.walked
 
-      by_kind : (q.token.kind ≡ Eof) ⊎ (q.token.kind ≡ Undetermined) → ((q.errors ≡ []) × ReadSo p.text (flags_of p) q.token.span.end (t.slots end)) ⊎ (HasNoReading p.text (flags_of p) × ((q.errors ≡ []) → (q.lexer.kept.errors ≡ []) → ⊥))
-      by_kind (inl e) = go t.verdict
+      none : NoList p.text (with_directives (flags_of p)) p.prev_token_end → HasNoReading p.text (goal_of p.source_type) (options_of p.options)
+      none n = none_at_all (at_start s) (from_start (λ (i : ℕ). NoList p.text (with_directives (flags_of p)) i) n)
+
+      by_kind : (HasHashbang p.text → ⊥) → (q.token.kind ≡ Eof) ⊎ (q.token.kind ≡ Undetermined) → ReadOrNot p.text p.source_type p.options q (t.slots end)
+      by_kind n (inl e) = go t.verdict
         where
-          go : Verdict p.errors q.errors (Stretch p.text (plain at_text_end) (with_directives (flags_of p)) p.prev_token_end (statements (flags_of p)) q.prev_token_end t.slots t.pass) (NoList p.text (with_directives (flags_of p)) p.prev_token_end) → ((q.errors ≡ []) × ReadSo p.text (flags_of p) q.token.span.end (t.slots end)) ⊎ (HasNoReading p.text (flags_of p) × ((q.errors ≡ []) → (q.lexer.kept.errors ≡ []) → ⊥))
-          go (clean h u) = inl (h ∙ s.errors, read_so t.at e (from_start (λ (i : ℕ). Stretch p.text (plain at_text_end) (with_directives (flags_of p)) i (statements (flags_of p)) q.prev_token_end t.slots t.pass) u))
-          go (unclean g n) = inr (none n, λ e k. grown_some g e)
-      by_kind (inr e) = inr (none (none_left t (nothing_here t.at e)), λ z k. fault_kept t.at e k)
+          read : q.errors ≡ [] → Stretch p.text (plain at_text_end) (with_directives (flags_of p)) 0 (statements (flags_of p)) q.prev_token_end t.slots t.pass → (ds : List Diagnostic) → q.lexer.kept.errors ≡ ds → ReadOrNot p.text p.source_type p.options q (t.slots end)
+          read h u [] z = inl (record { faults = z; errors = h }, one_reading t.at e u (at_start s) walk (kept_first n) z)
+          read h u (d ∷ ds) z = inr (λ x. cons_some d ds (sym z ∙ x.faults), faulty_so t.at e u (at_start s) walk (kept_first n) (λ x. cons_some d ds (sym z ∙ x)))
+
+          go : Verdict p.errors q.errors (Stretch p.text (plain at_text_end) (with_directives (flags_of p)) p.prev_token_end (statements (flags_of p)) q.prev_token_end t.slots t.pass) (NoList p.text (with_directives (flags_of p)) p.prev_token_end) → ReadOrNot p.text p.source_type p.options q (t.slots end)
+          go (clean h u) = read (h ∙ s.errors) (from_start (λ (i : ℕ). Stretch p.text (plain at_text_end) (with_directives (flags_of p)) i (statements (flags_of p)) q.prev_token_end t.slots t.pass) u) q.lexer.kept.errors refl
+          go (unclean g m) = inr (λ x. grown_some g x.errors, none m)
+      by_kind n (inr e) = inr (λ x. fault_kept t.at e x.faults, none (none_left t (nothing_here t.at e)))
 
   pub program_stops : (q : Parser) (e : Stop) → Standing p → AllRefused p q e → ProgramStops p.text p.source_type p.options q e
   program_stops q Fatal a h = let r = h p.text (flags_of p) a in record {
     is_of = record { at = r.at; text_is = r.follows.text; source_type = r.follows.source_type };
     some = grown_some r.grown;
-    none = λ n. subst (λ (f : Flags). HasNoReading p.text f) (at_start s) (no_reading (from_start (λ (i : ℕ). NoList p.text (with_directives (flags_of p)) i) r.none));
+    none = λ n. none_at_all (at_start s) (from_start (λ (i : ℕ). NoList p.text (with_directives (flags_of p)) i) r.none);
   }
   program_stops q NoMemory a h = tt
 
@@ -238,5 +371,5 @@ module _ {b : Bool} {p : Parser} (s : Starts p.text p.source_type p.options b p)
 pub starts_itself : {source : List ℕ} {st : SourceType} {o : ParseOptions} {b : Bool} {p : Parser} → Starts source st o b p → (b : Bool) × Starts p.text p.source_type p.options b p
 starts_itself {source} {st} {o} {b} {p} s = (b, subst (λ (t : List ℕ). Starts t p.source_type p.options b p) (sym s.text) (subst (λ (x : SourceType). Starts source x p.options b p) (sym s.source_type) (subst (λ (y : ParseOptions). Starts source st y b p) (sym s.options) s)))
 
-pub answer_for : {source : List ℕ} {st : SourceType} {o : ParseOptions} {b : Bool} {p : Parser} {nodes : List Node} {found : List Diagnostic} {fatal : Bool} → Starts source st o b p → IsAnswer p.text p.source_type p.options nodes found fatal → IsAnswer source st o nodes found fatal
-answer_for {source} {st} {o} {p = p} {nodes} {found} {fatal} s h = subst (λ (t : List ℕ). IsAnswer t st o nodes found fatal) s.text (subst (λ (x : SourceType). IsAnswer p.text x o nodes found fatal) s.source_type (subst (λ (y : ParseOptions). IsAnswer p.text p.source_type y nodes found fatal) s.options h))
+pub answer_for : {source : List ℕ} {st : SourceType} {o : ParseOptions} {b : Bool} {p : Parser} {nodes : List Node} {found : List Diagnostic} {fatal : Bool} → Starts source st o b p → IsAnswer p.text (goal_of p.source_type) (options_of p.options) nodes found fatal → IsAnswer source (goal_of st) (options_of o) nodes found fatal
+answer_for {source} {st} {o} {p = p} {nodes} {found} {fatal} s h = subst (λ (t : List ℕ). IsAnswer t (goal_of st) (options_of o) nodes found fatal) s.text (subst (λ (x : SourceType). IsAnswer p.text (goal_of x) (options_of o) nodes found fatal) s.source_type (subst (λ (y : ParseOptions). IsAnswer p.text (goal_of p.source_type) (options_of y) nodes found fatal) s.options h))

@@ -1,16 +1,17 @@
 -- What holds of a parser where a parse of a whole text has ended.
-use Rattle.std.specs.Prelude.{ℕ, ◌≡◌, ◌⊎◌, List, [], length, Option, Result}
+use Rattle.std.specs.Prelude.{ℕ, ◌≡◌, ◌⊎◌, List, [], length, Option}
 use Rattle.js_base.specs.declared.options.ParseOptions.{ParseOptions}
 use Rattle.js_base.specs.declared.source_type.SourceType.{SourceType}
-use Rattle.js_grammar.specs.Trees.{Slots, Tree}
-use Rattle.js_grammar.specs.Productions.{Flags}
+use Rattle.js_grammar.specs.Trees.{Slots}
+use Rattle.js_lex.specs.States.{goal_of}
 use Rattle.js_tree.specs.declared.id.NodeId.{NodeId}
 use Rattle.js_tree.specs.Holding.{HoldsAll, program_tree}
 use Rattle.js_cursor.specs.Parsers.{Parser}
 use Rattle.js_cursor.specs.Places.{IsAt}
 use Rattle.js_cursor.specs.declared.stop.Stop.{Stop}
 use Rattle.js_cursor.specs.declared.stop.Stop.TheVariants.{Fatal, NoMemory}
-use Rattle.js_parser.specs.Parsed.{parameters, Reading, HasNoReading, HasHashbang}
+use Rattle.js_parser.specs.Readings.{HasNoReading, IsOnlyReading, HasHashbang}
+use Rattle.js_parser.specs.Parsed.{options_of}
 
 -- it stands in a text of this source type
 pub record IsOf (text : List ℕ) (s : SourceType) (p : Parser) : Type 0 where
@@ -18,23 +19,27 @@ pub record IsOf (text : List ℕ) (s : SourceType) (p : Parser) : Type 0 where
   pub text_is : p.text ≡ text
   pub source_type : p.source_type ≡ s
 
--- The tree of a program up to a place, with these slots, is a reading and the only one.
-pub record ReadSo (text : List ℕ) (f : Flags) (to : ℕ) (cs : Slots) : Type 0 where
-  pub reading : Reading text f (program_tree (record { start = 0; end = to }) cs)
-  pub only : (t : Tree) (r : Reading text f t) → (t ≡ program_tree (record { start = 0; end = to }) cs) × (r.lexemes ≡ reading.lexemes)
+-- neither the parser nor its lexer has found anything
+pub record FoundNothing (p : Parser) : Type 0 where
+  pub faults : p.lexer.kept.errors ≡ []
+  pub errors : p.errors ≡ []
 
--- These are the children of the program; it is the only reading, or there is none and something was found.
+-- The program up to a place, with these slots, is the only reading, and nothing was found; or there is none, and something was.
+abbrev pub ReadOrNot : List ℕ → SourceType → ParseOptions → Parser → Slots → Type 0
+ReadOrNot text s o p cs = (FoundNothing p × IsOnlyReading text (goal_of s) (options_of o) (program_tree (record { start = 0; end = p.token.span.end }) cs)) ⊎ ((FoundNothing p → ⊥) × HasNoReading text (goal_of s) (options_of o))
+
+-- These are the children of the program.
 pub record ProgramTaken (text : List ℕ) (s : SourceType) (o : ParseOptions) (p : Parser) (ids : List (Option NodeId)) : Type 0 where
   pub is_of : IsOf text s p
   pub slots : Slots
   pub holds : HoldsAll p.nodes 1 (length p.nodes) ids slots
-  pub outcome : (HasHashbang text → ⊥) → ((p.errors ≡ []) × ReadSo text (parameters s o) p.token.span.end slots) ⊎ (HasNoReading text (parameters s o) × ((p.errors ≡ []) → (p.lexer.kept.errors ≡ []) → ⊥))
+  pub outcome : (HasHashbang text → ⊥) → ReadOrNot text s o p slots
 
 -- A fatal diagnostic ended the parse.
 pub record ProgramRefused (text : List ℕ) (s : SourceType) (o : ParseOptions) (p : Parser) : Type 0 where
   pub is_of : IsOf text s p
   pub some : p.errors ≡ [] → ⊥
-  pub none : (HasHashbang text → ⊥) → HasNoReading text (parameters s o)
+  pub none : (HasHashbang text → ⊥) → HasNoReading text (goal_of s) (options_of o)
 
 abbrev pub ProgramStops : List ℕ → SourceType → ParseOptions → Parser → Stop → Type 0
 ProgramStops text s o p Fatal = ProgramRefused text s o p

@@ -4,7 +4,9 @@ ghost use Rattle.std.specs.Prelude.{◌≡◌, ◌≢◌, ◌≤◌, length, IfO
 ghost use Rattle.js_base.specs.declared.TheConstants.{MAX_LEN};
 ghost use Rattle.js_base.specs.declared.source_type.Goal.TheVariants.{Unambiguous};
 ghost use Rattle.js_base.specs.Sources.{is_goal};
-ghost use Rattle.js_parser.specs.Parsed.{Answers, IsAnswer, Settles};
+ghost use Rattle.js_lex.specs.States.{goal_of};
+ghost use Rattle.js_parser.specs.Readings.{read_at};
+ghost use Rattle.js_parser.specs.Parsed.{options_of, Answers, IsAnswer};
 
 use crate::answer::{ParserReturn, overlong, refused, taken};
 use crate::program::parse_program;
@@ -65,8 +67,7 @@ impl<'a, C: ParserConfig> Parser<'a, C> {
     }
 
     /// Reads the text. Without diagnostics the tree is the only one that Program derives from the text's lexemes; where
-    /// something was found that isn't just a fault that lexemes pass, Program derives none. All this of lexemes of the kinds
-    /// that are read so far.
+    /// something was found, Program derives none. All this of lexemes of the kinds that are read so far.
     pub fn parse(self) -> Result<ParserReturn, NoMemory>
         ensures { IfOk result (λ r. Answers self.entry.source_text.now self.entry.source_type r.program.source_type self.entry.options r.program.tree r.diagnostics r.fatal_error) }
     {
@@ -87,7 +88,7 @@ impl<'a, C: ParserConfig> Parser<'a, C> {
 
 /// How a text is read: an unambiguous one as a script, since what shows a module isn't read yet.
 fn settled(source_type: SourceType) -> SourceType
-    ensures settles { Settles source_type result }
+    ensures settled { goal_of result ≡ read_at (goal_of source_type) }
     ensures named { is_goal result ≢ Unambiguous }
 {
     if source_type.is_unambiguous() {
@@ -107,7 +108,7 @@ fn parse_as(
 ) -> Result<ParserReturn, NoMemory>
     requires short { length source_text.now ≤ MAX_LEN }
     requires named { is_goal source_type ≢ Unambiguous }
-    ensures answer { IfOk result (λ r. IsAnswer source_text.now source_type options r.program.tree r.diagnostics r.fatal_error) }
+    ensures answer { IfOk result (λ r. IsAnswer source_text.now (goal_of source_type) (options_of options) r.program.tree r.diagnostics r.fatal_error) }
     ensures source_type { IfOk result (λ r. r.program.source_type ≡ source_type) }
 {
     let config = RuntimeParserConfig::new(tokens);

@@ -1,0 +1,68 @@
+-- What it is that a tree is a reading of a text, and what diagnostics tell of it.
+use Rattle.std.specs.Prelude.{ℕ, ◌≡◌, ◌⊎◌, Bool, true, false, ◌||◌, List, []}
+use Rattle.std.specs.List.{All}
+use Rattle.js_base.specs.declared.diagnostic.Diagnostic.{Diagnostic}
+use Rattle.js_base.specs.declared.kind.Kind.TheVariants.{Eof}
+use Rattle.js_base.specs.Spans.{LiesIn}
+use Rattle.js_grammar.specs.Trees.{Tree}
+use Rattle.js_grammar.specs.Grammar.{Lexeme, Lexemes, last, Derives}
+use Rattle.js_grammar.specs.Lexed.{Lexes}
+use Rattle.js_grammar.specs.Lexemes.{hashbang}
+use Rattle.js_grammar.specs.Marks.{Mark}
+use Rattle.js_grammar.specs.Options.{Options, is_module, is_commonjs}
+use Rattle.js_grammar.specs.Productions.{Flags, at, Program}
+use Rattle.js_grammar.specs.Settings.{Goal, script, unambiguous}
+use Rattle.js_grammar.specs.Table.{rule}
+use Rattle.js_lex.specs.Reading.{LexemeBehind}
+use Rattle.js_cursor.specs.Places.{IsFault}
+use Rattle.js_core.specs.Lexemes.{Faultless}
+
+-- The goal at which a text is read: an unambiguous one as a script, since what shows a module isn't read yet.
+abbrev pub read_at : Goal → Goal
+read_at unambiguous = script
+read_at goal = goal
+
+-- The parameters at the top of a text (ECMA-262, 16.1 and 16.2): `return` and `new.target` may stand in a text of CommonJS, which is the body of a function. Expressions are read as a cover grammar (13.2.5).
+abbrev pub parameters : Goal → Options → Flags
+parameters goal o = record {
+  in_ = true;
+  yield_ = false;
+  await_ = is_module goal;
+  return_ = is_commonjs goal || o.allow_return;
+  new_target = is_commonjs goal;
+  module_goal = is_module goal;
+  v8 = o.allow_v8;
+  cover = true;
+  wide = false;
+}
+
+-- Program derives the tree from lexemes of the text, from its start to its end: lexemes of the kinds that are read so far, none of which has a fault.
+pub record Reading (text : List ℕ) (goal : Goal) (o : Options) (t : Tree) : Type 0 where
+  pub lexemes : Lexemes
+  pub lexed : Lexes (Faultless goal text) 0 lexemes
+  pub place : ℕ
+  pub final : Lexeme
+  pub is_end : final.kind ≡ Eof
+  pub derived : Derives rule (at Program (parameters goal o)) t 0 lexemes place (last final)
+
+-- no lexemes of those kinds are a program
+abbrev pub HasNoReading : List ℕ → Goal → Options → Type 0
+HasNoReading text goal o = (t : Tree) → Reading text goal o t → ⊥
+
+-- The tree is a reading; every reading is this tree, over the same lexemes.
+pub record IsOnlyReading (text : List ℕ) (goal : Goal) (o : Options) (tree : Tree) : Type 0 where
+  pub reading : Reading text goal o tree
+  pub only : (t : Tree) (r : Reading text goal o t) → (t ≡ tree) × (r.lexemes ≡ reading.lexemes)
+
+-- a hashbang comment stands at the text's start (12.5)
+abbrev pub HasHashbang : List ℕ → Type 0
+HasHashbang text = (y : Lexeme) × LexemeBehind hashbang text 0 y
+
+-- what a diagnostic says of its span
+abbrev pub IsMarked : Goal → List ℕ → Diagnostic → Type 0
+IsMarked goal text d = Mark goal text d ⊎ IsFault goal text d
+
+-- Diagnostics of a text: each has what its kind says at its span, which lies in the text and splits no character.
+pub record AreOf (goal : Goal) (text : List ℕ) (found : List Diagnostic) : Type 0 where
+  pub marked : All (IsMarked goal text) found
+  pub lie : All (λ d. LiesIn d.span text) found
