@@ -11,7 +11,7 @@ use Rattle.js_tree.specs.Holding.{Holds, Keeps}
 use Rattle.js_tree.proofs.HoldingLemmas.{Holds-flagged, Keeps-flags}
 use Rattle.std.proofs.lemmas.List.{length-set}
 use Rattle.js_cursor.specs.Parsers.{Parser}
-use Rattle.js_core.specs.Marked.{is_function, MarkedTree, Marks}
+use Rattle.js_core.specs.Marked.{is_function, MarkedTree, MarksNode}
 use Rattle.js_core.proofs.StatementLists.{held_label}
 
 more_bit : (b : Bool) (n k : ℕ) → with_bit b (n + k) ≡ with_bit b n + 2 * k
@@ -73,27 +73,25 @@ unmarked_label l h = by l.kind refl h
     by k e h = rw e refl
 
 -- no function
-pub not_marked : {p : Parser} {id : NodeId} {b : Bool} → b ≡ is_function (kind_of (node_at p.nodes id).kind) → b ≡ false → Marks id p p
-not_marked {p} {id} e h = record {
-  stays = refl;
+pub not_marked : {ns : List Node} {id : NodeId} {b : Bool} → b ≡ is_function (kind_of (node_at ns id).kind) → b ≡ false → MarksNode id ns ns
+not_marked {ns} {id} e h = record {
   long = refl;
   holds = λ lo hi l cs k. record { label = l; holds = k; is = λ u. sym (unmarked_label l (ap (λ (m : Label). is_function m.kind) (held_label id k) ∙ (sym e ∙ h))) };
-  keeps = λ ns k w. k;
+  keeps = λ os k w. k;
 }
 
 -- a function
-pub marks : {p q : Parser} {id : NodeId} {b : Bool} → b ≡ is_function (kind_of (node_at p.nodes id).kind) → b ≡ true → q ≡ record p { nodes = flags_set p.nodes id (record (node_at p.nodes id).flags { pife = true }) } → Marks id p q
-marks {p} {q} {id} e h s = subst (Marks id p) (sym s) (record {
-  stays = refl;
-  long = length-set p.nodes id.0 (with_flags (record (node_at p.nodes id).flags { pife = true }) (node_at p.nodes id));
-  holds = λ lo hi l cs k. record { label = _; holds = Holds-flagged id (record (node_at p.nodes id).flags { pife = true }) k; is = λ u. so l (held_label id k) u };
-  keeps = λ ns k w. Keeps-flags id (record (node_at p.nodes id).flags { pife = true }) k w;
+pub marks : {ns ms : List Node} {id : NodeId} {b : Bool} → b ≡ is_function (kind_of (node_at ns id).kind) → b ≡ true → ms ≡ flags_set ns id (record (node_at ns id).flags { pife = true }) → MarksNode id ns ms
+marks {ns} {ms} {id} e h s = subst (MarksNode id ns) (sym s) (record {
+  long = length-set ns id.0 (with_flags (record f { pife = true }) (node_at ns id));
+  holds = λ lo hi l cs k. record { label = _; holds = Holds-flagged id (record f { pife = true }) k; is = λ u. so l (held_label id k) u };
+  keeps = λ os k w. Keeps-flags id (record f { pife = true }) k w;
 })
   where
     f : NodeFlags
-    f = (node_at p.nodes id).flags
+    f = (node_at ns id).flags
 
-    so : (l : Label) → l ≡ label (node_at p.nodes id) → (is_function l.kind ≡ true → l.flags < pife_flag) → record l { flags = number_of (record f { pife = true }) } ≡ with_pife l
+    so : (l : Label) → l ≡ label (node_at ns id) → (is_function l.kind ≡ true → l.flags < pife_flag) → record l { flags = number_of (record f { pife = true }) } ≡ with_pife l
     so l i u =
         let k : is_function l.kind ≡ true = ap (λ (m : Label). is_function m.kind) i ∙ (sym e ∙ h) in
         let n : l.flags ≡ number_of f = ap (λ (m : Label). m.flags) i in

@@ -4,7 +4,7 @@ use Rattle.std.specs.Prelude.{Result, Ok, Err, MatchResult}
 use Rattle.std.proofs.lemmas.Bool.{false≢true, and_parts, and_from, or_left}
 use Rattle.js_base.specs.declared.diagnostic.Diagnostic.{Diagnostic}
 use Rattle.js_base.specs.declared.kind.Kind.{Kind}
-use Rattle.js_base.specs.declared.kind.Kind.TheVariants.{RAngle, LParen, RParen, LBrack, LCurly, Comma, Eq, Ident, PrivateIdentifier}
+use Rattle.js_base.specs.declared.kind.Kind.TheVariants.{RAngle, LParen, RParen, LBrack, LCurly, Dot3, Comma, Eq, Ident, PrivateIdentifier}
 use Rattle.js_base.specs.declared.span.Span.{Span}
 use Rattle.js_base.specs.Kinds.{same_kind, one_of_kinds}
 use Rattle.js_base.specs.Texts.{words}
@@ -40,7 +40,7 @@ use Rattle.js_core.specs.Answers.{Verdict, Stretch, Underived, Answer, Numbered,
 use Rattle.js_core.specs.Arguments.{Partway}
 use Rattle.js_core.specs.Lexemes.{Lex, Walked, nowhere, read_kinds}
 use Rattle.js_core.specs.Moves.{Moved, MadeHere, LeafTaken, TakesLeaf, plain_label}
-use Rattle.js_core.specs.Parameters.{ends_parameter, parameters_of, list_left, left_when, NoParameter, NoListLeft, NoParameterList, Parameter, ParameterList, OneMore, ReadsOneMore}
+use Rattle.js_core.specs.Parameters.{ends_parameter, unread_kinds, parameters_of, list_left, left_when, NoParameter, NoListLeft, NoParameterList, Parameter, ParameterList, OneMore, ReadsOneMore}
 use Rattle.js_core.specs.Members.{StandsHere}
 use Rattle.js_core.specs.Nesting.{room}
 use Rattle.js_core.proofs.Nesting.{later_room}
@@ -77,6 +77,13 @@ pub bound_path : {text : List ℕ} {f : Flags} {X : Test} {p q : Parser} → At 
 unfolding rule rule_of
 bound_path {f = f} a k e m = by_symbol_as {X' = plain full} (λ l cs vs y d. (refl, refl)) (noded a (one_path (name_test f) a m (plain_leaf Ident k e refl m) (rw (sym m.tells.kind ∙ k) refl)))
 
+neither_kind : (a : Kind) (ks : List Kind) (k : Kind) → (k ≡ a → ⊥) → one_of_kinds ks k ≡ false → one_of_kinds (a ∷ ks) k ≡ false
+neither_kind a ks k n m = go (same_kind a k) refl
+  where
+    go : (b : Bool) → same_kind a k ≡ b → (b || one_of_kinds ks k) ≡ false
+    go true e = absurd (n (sym (kind_of_same a k e)))
+    go false e = m
+
 module _ {text : List ℕ} {f : Flags} {p : Parser} (a : At text f p) where
   binding_path : {q : Parser} → p.token.kind ≡ Ident → p.token.escaped ≡ false → Moved text f p q → Path text f (after (at Binding f)) (rule (at Binding f)) p nothing q (tree (label_here binding_identifier no_op p q) end)
   unfolding rule rule_of covers apart
@@ -89,13 +96,13 @@ module _ {text : List ℕ} {f : Flags} {p : Parser} (a : At text f p) where
       by_path (subst (λ (v : Label). Path text f (after (at Binding f)) (rule (at Binding f)) p nothing t.mid (tree v end)) (sym l) (binding_path k e t.moved)) t.moved.same t.made.stays (λ y i. refl) refl (leaf_held t.made ks) (Keeps-trans ks (Keeps-made t.made.made))
 
   -- no name stands here
-  pub no_binding : (p.token.kind ≡ Ident → p.token.escaped ≡ false → ⊥) → Underived text (at Binding f) p.prev_token_end
+  pub no_binding : one_of_kinds unread_kinds p.token.kind ≡ false → (p.token.kind ≡ Ident → p.token.escaped ≡ false → ⊥) → Underived text (at Binding f) p.prev_token_end
   unfolding rule rule_of covers apart
-  no_binding n = by p.token.escaped refl
+  no_binding u n = by p.token.escaped refl
     where
       by : (b : Bool) → p.token.escaped ≡ b → Underived text (at Binding f) p.prev_token_end
       by true e = fails_escaped a e
-      by false e = fails_by (fails_at a (rule (at Binding f)) (Ident ∷ []) refl (other_kind Ident p.token.kind (λ k. n k e)))
+      by false e = fails_by (fails_at a (rule (at Binding f)) (Ident ∷ unread_kinds) refl (neither_kind Ident unread_kinds p.token.kind (λ k. n k e) u))
 
 -- ---- one parameter
 
@@ -248,21 +255,22 @@ module _ {text : List ℕ} (f : Flags) {s : ℕ} where
     list_ended = record { reach = max 0 0; near = omega arith; goes = part firsts (is RParen) empty_list refl ▹ done }
 
   -- none stands here, and no rest: one parameter at least is due
-  module _ (n : NoneIs text s RParen) where
+  module _ (n : NoneIs text s RParen) (d : NoneIs text s Dot3) where
+    no_rest : {X : Test} → Fails rule (Lex text) X end (symbol Rest f) s
+    no_rest = fails_here firsts (λ y l h. d y l (sym (kind_of_same Dot3 y.kind (and_parts (same_kind Dot3 y.kind) _ h).0)))
+
     no_end : Fails rule (Lex text) (plain (is RParen)) end nothing s
     no_end = fails_nothing (λ ts y l e. none_so n y l e.0)
 
     no_tail : Fails rule (Lex text) (plain (is RParen)) end (symbol Param f) s → Fails rule (Lex text) (plain (is RParen)) end (tail_of f) s
-    unfolding apart
-    no_tail m = fails_alt m (fails_alt (fails_dead (symbol Rest f) refl) no_end)
+    no_tail m = fails_alt m (fails_alt no_rest no_end)
 
     -- only a parameter with a comma, or only the last one
     one_way : Fails rule (Lex text) (plain (is RParen)) end (symbol Param f) s → Goes rule (Lex text) (plain (is RParen)) end (parameters_of f) s (seq (symbol Param f) (seq (tok Comma) (parameters_of f))) s (λ us. us) (still 0)
     one_way m = unrolled f ▹ (first_way (done ▹✗ no_tail m) ▹ one_and_list f)
 
     last_way : Fails rule (Lex text) (plain (is RParen)) end (seq (symbol Param f) (seq (tok Comma) (parameters_of f))) s → Goes rule (Lex text) (plain (is RParen)) end (parameters_of f) s (symbol Param f) s (λ us. us) (still 0)
-    unfolding apart
-    last_way m = unrolled f ▹ (second_way (one_and_list f ▹✗ m) ▹ (done ▹ left (fails_alt (fails_dead (symbol Rest f) refl) no_end)))
+    last_way m = unrolled f ▹ (second_way (one_and_list f ▹✗ m) ▹ (done ▹ left (fails_alt no_rest no_end)))
 
     no_list : NoParameter text f s → NoListLeft text f s
     unfolding covers
@@ -324,13 +332,17 @@ module _ {text : List ℕ} {f : Flags} {p q : Parser} {bound : NodeId} (a : At t
     no_initialiser w e z = stops_behind w e (same_both x.answer.same m.same).follows (λ g. grown_behind x.answer.verdict (grown_then m.kept g)) (λ n. initialiser_fails a x.answer k m n) z
 
 -- what is said of a parameter, of the list
-module _ {text : List ℕ} {f : Flags} {p : Parser} (a : At text f p) (n : p.token.kind ≡ RParen → ⊥) where
+module _ {text : List ℕ} {f : Flags} {p : Parser} (a : At text f p) (n : p.token.kind ≡ RParen → ⊥) (u : one_of_kinds unread_kinds p.token.kind ≡ false) where
   none_closes : NoneIs text p.prev_token_end RParen
   unfolding apart
   none_closes = none_there RParen a refl n
 
+  no_dots : NoneIs text p.prev_token_end Dot3
+  unfolding apart
+  no_dots = none_there Dot3 a refl (λ k. false≢true (sym u ∙ ap (one_of_kinds unread_kinds) k))
+
   pub parameter_stops : (q : Parser) (e : Stop) → Stops p q e (NoParameter text f p.prev_token_end) → Stops p q e (NoListLeft text f p.prev_token_end)
-  parameter_stops q e s = stops_so p q e (λ m. no_list f none_closes m) s
+  parameter_stops q e s = stops_so p q e (λ m. no_list f none_closes no_dots m) s
 
   module _ {q : Parser} {id : NodeId} {ids js : List (Option NodeId)} (x : Parameter text f p q id) (g : js ≡ ids ++ Some id ∷ []) where
     held_more : (lo : ℕ) (us : Slots) → HoldsAll p.nodes lo (length p.nodes) ids us → HoldsAll q.nodes lo (length q.nodes) js (append us (tree x.label x.slots end))
@@ -347,7 +359,7 @@ module _ {text : List ℕ} {f : Flags} {p : Parser} (a : At text f p) (n : p.tok
       puts = λ us. refl;
       pass = x.pass;
       walked = x.walked;
-      verdict = verdict_of x.verdict (λ y. last_next f none_closes y (none_there Comma x.at refl m)) (λ z. no_list f none_closes z);
+      verdict = verdict_of x.verdict (λ y. last_next f none_closes no_dots y (none_there Comma x.at refl m)) (λ z. no_list f none_closes no_dots z);
       holds = held_more;
       keeps = x.keeps;
     }
@@ -362,7 +374,7 @@ module _ {text : List ℕ} {f : Flags} {p : Parser} (a : At text f p) (n : p.tok
       puts = λ us. refl;
       pass = λ ls. x.pass (next m.lexeme ls);
       walked = walked_both x.walked (walked_one m);
-      verdict = subst (λ (ds : List Diagnostic). Verdict p.errors ds (Stretch text (plain full) (list_left f) p.prev_token_end (list_left f) r.prev_token_end (λ us. tree x.label x.slots us) (λ ls. x.pass (next m.lexeme ls))) (NoListLeft text f p.prev_token_end)) (sym m.kept) (verdict_of x.verdict (λ y. stretches (comma_next f none_closes y (stands_there x.at k refl)) over (let i = x.at.behind in let j = m.further in omega arith)) (λ z. no_list f none_closes z));
+      verdict = subst (λ (ds : List Diagnostic). Verdict p.errors ds (Stretch text (plain full) (list_left f) p.prev_token_end (list_left f) r.prev_token_end (λ us. tree x.label x.slots us) (λ ls. x.pass (next m.lexeme ls))) (NoListLeft text f p.prev_token_end)) (sym m.kept) (verdict_of x.verdict (λ y. stretches (comma_next f none_closes no_dots y (stands_there x.at k refl)) over (let i = x.at.behind in let j = m.further in omega arith)) (λ z. no_list f none_closes no_dots z));
       holds = λ lo us h. subst (λ (ns : List Node). HoldsAll ns lo (length ns) js (append us (tree x.label x.slots end))) (sym m.nodes) (held_more lo us h);
       keeps = subst (λ (ns : List Node). Keeps p.nodes ns) (sym m.nodes) x.keeps;
     }

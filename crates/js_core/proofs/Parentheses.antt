@@ -142,11 +142,11 @@ paren_answers {text} {f} {p} {q} {r} {u} {v} {w} {inside} {id} s a k m x c d g b
     let l : plain_label node.ParenthesizedExpression made.None s ≡ label_here parenthesized_expression no_op p u = rw (b, e) refl in
     let z : MadeHere (label_here parenthesized_expression no_op p u) (Some inside ∷ []) v w id = subst (λ (x : Label). MadeHere x (Some inside ∷ []) v w id) l n in
     let h : Holds u.nodes (length p.nodes) (length u.nodes) inside.0 x.answer.label x.answer.slots = subst (λ (ns : List Node). Holds ns (length p.nodes) (length ns) inside.0 x.answer.label x.answer.slots) (sym d.nodes) (subst (λ (ns : List Node). Holds r.nodes (length ns) (length r.nodes) inside.0 x.answer.label x.answer.slots) m.nodes x.holds) in
-    let t = g.holds (length p.nodes) (length u.nodes) x.answer.label x.answer.slots h in
-    let hv : Holds v.nodes (length p.nodes) (length v.nodes) inside.0 t.label x.answer.slots = subst (λ (i : ℕ). Holds v.nodes (length p.nodes) i inside.0 t.label x.answer.slots) (sym g.long) t.holds in
+    let t = g.1.holds (length p.nodes) (length u.nodes) x.answer.label x.answer.slots h in
+    let hv : Holds v.nodes (length p.nodes) (length v.nodes) inside.0 t.label x.answer.slots = subst (λ (i : ℕ). Holds v.nodes (length p.nodes) i inside.0 t.label x.answer.slots) (sym g.1.long) t.holds in
     let ks : Keeps p.nodes u.nodes = subst (λ (ns : List Node). Keeps p.nodes ns) (sym d.nodes) (subst (λ (ns : List Node). Keeps ns r.nodes) m.nodes x.keeps) in
-    let kv : Keeps p.nodes v.nodes = g.keeps p.nodes ks (Holds-range h).0 in
-    by_path (paren_path a k m x.answer c d t.label t.is) (same_both m.same (same_both x.answer.same d.same)) (z.stays ∙ ap (λ (y : Parser). record y { nodes = w.nodes }) g.stays) (behind_primary f.in_ (label_here parenthesized_expression no_op p u) (tree t.label x.answer.slots end) text u.prev_token_end) refl (one_held p.nodes z hv) (Keeps-trans kv (Keeps-made z.made))
+    let kv : Keeps p.nodes v.nodes = g.1.keeps p.nodes ks (Holds-range h).0 in
+    by_path (paren_path a k m x.answer c d t.label t.is) (same_both m.same (same_both x.answer.same d.same)) (z.stays ∙ ap (λ (y : Parser). record y { nodes = w.nodes }) g.0) (behind_primary f.in_ (label_here parenthesized_expression no_op p u) (tree t.label x.answer.slots end) text u.prev_token_end) refl (one_held p.nodes z hv) (Keeps-trans kv (Keeps-made z.made))
 
 -- what `expect_closing` answers
 pub closes : (p q : Parser) (opening : Span) (r : Result (Unit {0}) Stop) → Expects (λ p. p.token.kind ≡ RParen) ExpectClosing (Some opening) p q r → Passes RParen p q r

@@ -18,8 +18,10 @@ pub record MarkedTree (ns : List Node) (lo hi : ℕ) (id : NodeId) (l : Label) (
   pub holds : Holds ns lo hi id.0 label cs
   pub is : (is_function l.kind ≡ true → l.flags < pife_flag) → label ≡ with_pife l
 
-pub record Marks (id : NodeId) (p q : Parser) : Type 0 where
-  pub stays : q ≡ record p { nodes = q.nodes }
-  pub long : length q.nodes ≡ length p.nodes
-  pub holds : (lo hi : ℕ) (l : Label) (cs : Slots) → Holds p.nodes lo hi id.0 l cs → MarkedTree q.nodes lo hi id l cs
-  pub keeps : (ns : List Node) → Keeps ns p.nodes → length ns ≤ id.0 → Keeps ns q.nodes
+pub record MarksNode (id : NodeId) (ns ms : List Node) : Type 0 where
+  pub long : length ms ≡ length ns
+  pub holds : (lo hi : ℕ) (l : Label) (cs : Slots) → Holds ns lo hi id.0 l cs → MarkedTree ms lo hi id l cs
+  pub keeps : (os : List Node) → Keeps os ns → length os ≤ id.0 → Keeps os ms
+
+abbrev pub Marks : NodeId → Parser → Parser → Type 0
+Marks id p q = (q ≡ record p { nodes = q.nodes }) × MarksNode id p.nodes q.nodes

@@ -1,6 +1,7 @@
 -- What the parse functions of formal parameters answer (ECMA-262, 15.1).
 use Rattle.std.specs.Prelude.{ℕ, ◌≡◌, ◌<◌, ◌≤◌, Bool, true, false, not, ◌&&◌, List, [], ◌∷◌, Option, length, Result, Ok, Err}
-use Rattle.js_base.specs.declared.kind.Kind.TheVariants.{Comma, RParen}
+use Rattle.js_base.specs.declared.kind.Kind.TheVariants.{Comma, Dot3, LBrack, LCurly, RParen}
+use Rattle.js_base.specs.declared.kind.Kind.{Kind}
 use Rattle.js_base.specs.Kinds.{one_of_kinds}
 use Rattle.js_grammar.specs.Trees.{Label, Slots, end, tree, append}
 use Rattle.js_grammar.specs.Grammar.{Lexemes, Look, seq, nothing, never}
@@ -14,6 +15,10 @@ use Rattle.js_cursor.specs.declared.stop.Stop.{Stop}
 use Rattle.js_core.specs.Lexemes.{Lex, Walked, spot}
 use Rattle.js_core.specs.States.{At, Same}
 use Rattle.js_core.specs.Answers.{Verdict, Stretch, Stops}
+
+-- what begins a rest or a pattern, which aren't read yet
+abbrev pub unread_kinds : List Kind
+unread_kinds = Dot3 ∷ LBrack ∷ LCurly ∷ []
 
 -- what may stand behind a parameter
 abbrev pub ends_parameter : Look

@@ -1,11 +1,12 @@
 //! Formal parameters (ECMA-262, section 15.1) and what they bind (section 14.3.3).
 
-ghost use Rattle.std.specs.Prelude.{◌≡◌, ◌+◌, MatchResult};
+ghost use Rattle.std.specs.Prelude.{false, ◌≡◌, ◌+◌, MatchResult};
+ghost use Rattle.js_base.specs.Kinds.{one_of_kinds};
 ghost use Rattle.js_base.specs.declared.kind.Kind.TheVariants.{LParen};
 ghost use Rattle.js_grammar.specs.Productions.{at, Binding, Params};
 ghost use Rattle.js_core.specs.Answers.{Answers};
 ghost use Rattle.js_core.specs.Nesting.{CanNest, room};
-ghost use Rattle.js_core.specs.Parameters.{NoParameterList, ParameterList, ReadsOneMore, ReadsParameter};
+ghost use Rattle.js_core.specs.Parameters.{NoParameterList, ParameterList, ReadsOneMore, ReadsParameter, unread_kinds};
 ghost use Rattle.js_core.specs.States.{Standing};
 
 use crate::context::assignment_with_in;
@@ -70,6 +71,9 @@ fn parse_next_parameter<C: ParserConfig, N: Nested<C>>(
     if p.at(Kind::RParen) {
         return Ok(false);
     }
+    if begins_unread(p) {
+        return Err(Stop::NoMemory);
+    }
     let parameter = parse_formal_parameter(p, nested)?;
     parameters.push(Some(parameter))?;
     if !p.at(Kind::Comma) {
@@ -79,6 +83,13 @@ fn parse_next_parameter<C: ParserConfig, N: Nested<C>>(
     Ok(true)
 }
 
+/// Whether a rest or a pattern begins here. These aren't read yet, so nothing is said of them.
+fn begins_unread<C: ParserConfig>(p: &ParserImpl<'_, C>) -> bool
+    ensures { result ≡ one_of_kinds unread_kinds p.now.token.kind }
+{
+    matches!(p.cur_kind(), Kind::Dot3 | Kind::LBrack | Kind::LCurly)
+}
+
 /// A FormalParameter: what it binds, and an initialiser or none.
 fn parse_formal_parameter<C: ParserConfig, N: Nested<C>>(
     p: &mut ParserImpl<'_, C>,
@@ -86,6 +97,7 @@ fn parse_formal_parameter<C: ParserConfig, N: Nested<C>>(
 ) -> Result<NodeId, Stop>
     requires at { Standing p.old }
     requires nests { CanNest (N.can nested.now) (room p.old + 1) }
+    requires no_pattern { one_of_kinds unread_kinds p.old.token.kind ≡ false }
     ensures { ReadsParameter p.old p.new result }
 {
     let start = p.cur_start();
@@ -105,7 +117,8 @@ fn parse_formal_parameter<C: ParserConfig, N: Nested<C>>(
 
 /// What a parameter binds: a BindingIdentifier (ECMA-262, sections 13.1 and 14.3.3).
 fn parse_binding<C: ParserConfig>(p: &mut ParserImpl<'_, C>) -> Result<NodeId, Stop>
-    requires { Standing p.old }
+    requires at { Standing p.old }
+    requires no_pattern { one_of_kinds unread_kinds p.old.token.kind ≡ false }
     ensures { Answers (at Binding) p.old p.new result }
 {
     if !stands(p, Kind::Ident) {

@@ -1,18 +1,17 @@
 //! Names, literals and parentheses (ECMA-262, section 13.2).
 
-ghost use Rattle.std.specs.Prelude.{◌≡◌, MatchResult};
+ghost use Rattle.std.specs.Prelude.{◌≡◌, ◌<◌, length, MatchResult};
 ghost use Rattle.js_base.specs.declared.kind.Kind.TheVariants.{LParen, Percent, RParen};
 ghost use Rattle.js_grammar.specs.Productions.{at, Primary};
 ghost use Rattle.js_cursor.specs.Moves.{OnlyMemory, Opened};
 ghost use Rattle.js_core.specs.Answers.{Answers};
 ghost use Rattle.js_tree.specs.Labels.{kind_of};
-ghost use Rattle.js_core.specs.Marked.{Marks};
+ghost use Rattle.js_core.specs.Marked.{Marks, MarksNode};
 ghost use Rattle.js_core.specs.Marked as marked;
 ghost use Rattle.js_core.specs.Moves.{IsWholeHere, TakesLeaf};
 ghost use Rattle.js_core.specs.Nesting.{CanNest, room};
 ghost use Rattle.js_core.specs.Rests.{Passes};
 ghost use Rattle.js_core.specs.States.{Standing};
-ghost use Rattle.js_core.specs.Targets.{Stood};
 
 use crate::context::expression_with_in;
 use crate::left_hand_side::{parse_identifier_name, parse_with_arguments};
@@ -22,7 +21,7 @@ use crate::nodes::{make_leaf, make_one};
 use js_base::{Kind, Span};
 use js_cursor::{ParserImpl, Stop};
 use js_lex::ParserConfig;
-use js_tree::{NodeFlags, NodeId, NodeKind, NumberBase, Op};
+use js_tree::{NodeFlags, NodeId, NodeKind, NumberBase, Op, ParserAstBuilder};
 
 /// A PrimaryExpression (ECMA-262, section 13.2): a name, a literal, parentheses or a call of V8.
 pub fn parse_primary_expression<C: ParserConfig, N: Nested<C>>(
@@ -80,19 +79,27 @@ fn is_function(kind: NodeKind) -> bool
     }
 }
 
-/// Marks a function that stands directly in parentheses: it is probably called at once.
-fn mark_in_parentheses<C: ParserConfig>(p: &mut ParserImpl<'_, C>, expression: NodeId)
-    requires { Stood p.old.nodes expression }
-    ensures { Marks expression p.old p.new }
+/// Marks the node of a function.
+fn mark_function(ast: &mut ParserAstBuilder, id: NodeId)
+    requires { id.0 < length ast.old }
+    ensures { MarksNode id ast.old ast.new }
 {
-    if !is_function(p.ast.kind(expression)) {
+    if !is_function(ast.kind(id)) {
         return;
     }
     let flags = NodeFlags {
         pife: true,
-        ..p.ast.flags(expression)
+        ..ast.flags(id)
     };
-    p.ast.set_flags(expression, flags);
+    ast.set_flags(id, flags);
+}
+
+/// Marks a function that stands directly in parentheses: it is probably called at once.
+fn mark_in_parentheses<C: ParserConfig>(p: &mut ParserImpl<'_, C>, expression: NodeId)
+    requires { expression.0 < length p.old.nodes }
+    ensures { Marks expression p.old p.new }
+{
+    mark_function(&mut p.ast, expression);
 }
 
 /// Moves on over the closing parenthesis, whose opening one stood at a span.

@@ -1,5 +1,4 @@
-use Rattle.std.proofs.Common.{ap, ◌∙◌, true}
-use Rattle.js_base.specs.declared.token.Token.{Token}
+use Rattle.std.proofs.Common.{◌≡◌, true}
 use Rattle.js_core.proofs.Arrows.{late_marked}
 use Rattle.js_core.proofs.arrow.check_line.Goals as goal
 
