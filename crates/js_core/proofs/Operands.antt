@@ -3,12 +3,13 @@ use Rattle.std.proofs.Common.{ℕ, ◌≡◌, List, [], ◌∷◌, length, Bool,
 use Rattle.std.specs.Prelude.{Result, Ok, Err, MatchResult, Option, is_some, if◌then◌else◌}
 use Rattle.std.proofs.lemmas.Bool.{false≢true, or_left}
 use Rattle.js_base.specs.declared.kind.Kind.{Kind}
-use Rattle.js_base.specs.declared.kind.Kind.TheVariants.{Ident, This, Null, True, False, Decimal, Str, LParen, Percent, Minus, Plus, Bang, Tilde, Typeof, Void, Delete, Yield, Await, Function}
+use Rattle.js_base.specs.declared.kind.Kind.TheVariants.{Ident, This, Null, True, False, Decimal, Float, Binary, Octal, Hex, PositiveExponential, NegativeExponential, DecimalBigInt, BinaryBigInt, OctalBigInt, HexBigInt, Str, LParen, Percent, Minus, Plus, Bang, Tilde, Typeof, Void, Delete, Yield, Await, Function}
 use Rattle.js_base.specs.declared.operator.UnaryOperator.{UnaryOperator}
 use Rattle.js_base.specs.Kinds.{same_kind, one_of_kinds}
+use Rattle.js_base.specs.KindSets.{number_kinds}
 use Rattle.js_base.proofs.KindLemmas.{kind_of_same}
 use Rattle.js_base.specs.Operators.{row_of as row_in, unary_operators}
-use Rattle.js_grammar.specs.Trees.{Slots, end, tree, Label, Op, NodeKind, no_op, of, identifier_reference, this_expression, null_literal, boolean_literal, numeric_literal, string_literal, unary_expression}
+use Rattle.js_grammar.specs.Trees.{Slots, end, tree, Label, Op, NodeKind, no_op, of, identifier_reference, this_expression, null_literal, boolean_literal, numeric_literal, big_int_literal, string_literal, exponential, unary_expression}
 use Rattle.js_grammar.specs.Grammar.{Lexeme, Lexemes, Look, here, seen, lexeme, such, nothing, exact, is_seq, is_lexeme, is_such, Takes, ◌▸◌}
 use Rattle.js_grammar.specs.Parsing.{Test, plain, always, full, Admits}
 use Rattle.js_grammar.specs.Productions.{Flags, Symbol, at, tok, Unary, Primary}
@@ -39,6 +40,7 @@ use Rattle.js_core.specs.Lexemes.{Lex, is_read, read_kinds}
 use Rattle.js_core.specs.States.{At, Same}
 use Rattle.js_core.specs.Moves.{Moved, MadeHere, LeafTaken, TakesLeaf, plain_label}
 use Rattle.js_core.specs.Answers.{Underived, Answer, Numbered, Outcome, beside}
+use Rattle.js_core.specs.Numbers.{node_of_number, op_of_number}
 use Rattle.js_core.specs.Operators.{unary_kinds}
 use Rattle.js_core.proofs.Moving.{same_both, same_with, beside_nodes}
 use Rattle.js_core.proofs.Dead.{live, lives}
@@ -135,9 +137,36 @@ pub false_path : Leaf boolean_literal no_op False
 unfolding rule rule_of covers
 false_path text f p q a e n s = at_kind a False e refl ⟼ noded a (one_path boolean_test a s (plain_leaf False e n refl s) (rw (sym s.tells.kind ∙ e, sym s.tells.escaped ∙ n) refl))
 
-pub number_path : Leaf numeric_literal (of Decimal) Decimal
+-- numbers
+of_number : (P : Kind → Type 0) (k : Kind) → one_of_kinds number_kinds k ≡ true → P Decimal → P Float → P Binary → P Octal → P Hex → P PositiveExponential → P NegativeExponential → P DecimalBigInt → P BinaryBigInt → P OctalBigInt → P HexBigInt → P k
+of_number P k h a b c d e f g i j l m = first_or P Decimal k _ _ refl h a (λ h. first_or P Float k _ _ refl h b (λ h. first_or P Binary k _ _ refl h c (λ h. first_or P Octal k _ _ refl h d (λ h. first_or P Hex k _ _ refl h e (λ h. first_or P PositiveExponential k _ _ refl h f (λ h. first_or P NegativeExponential k _ _ refl h g (λ h. first_or P DecimalBigInt k _ _ refl h i (λ h. first_or P BinaryBigInt k _ _ refl h j (λ h. first_or P OctalBigInt k _ _ refl h l (λ h. first_or P HexBigInt k _ _ refl h m (λ h. absurd (false≢true h))))))))))))
+
+abbrev exponential_test : Look
+exponential_test k w e = one_of_kinds (PositiveExponential ∷ NegativeExponential ∷ []) k && not e
+
+abbrev NumberPath : Kind → Type 0
+NumberPath k = Leaf (kind_of (node_of_number k)) (op_of (op_of_number k)) k
+
+pub number_path : (k : Kind) → one_of_kinds number_kinds k ≡ true → NumberPath k
 unfolding rule rule_of covers
-number_path text f p q a e n s = at_kind a Decimal e refl ⟼ noded a (last_token Decimal a e n refl s)
+number_path k h = of_number NumberPath k h
+    (λ text f p q a e n s. at_kind a Decimal e refl ⟼ noded a (last_token Decimal a e n refl s))
+    (λ text f p q a e n s. at_kind a Float e refl ⟼ noded a (last_token Float a e n refl s))
+    (λ text f p q a e n s. at_kind a Binary e refl ⟼ noded a (last_token Binary a e n refl s))
+    (λ text f p q a e n s. at_kind a Octal e refl ⟼ noded a (last_token Octal a e n refl s))
+    (λ text f p q a e n s. at_kind a Hex e refl ⟼ noded a (last_token Hex a e n refl s))
+    (λ text f p q a e n s. at_kind a PositiveExponential e refl ⟼ noded a (one_path exponential_test a s (plain_leaf PositiveExponential e n refl s) (rw (sym s.tells.kind ∙ e, sym s.tells.escaped ∙ n) refl)))
+    (λ text f p q a e n s. at_kind a NegativeExponential e refl ⟼ noded a (one_path exponential_test a s (plain_leaf NegativeExponential e n refl s) (rw (sym s.tells.kind ∙ e, sym s.tells.escaped ∙ n) refl)))
+    (λ text f p q a e n s. at_kind a DecimalBigInt e refl ⟼ noded a (last_token DecimalBigInt a e n refl s))
+    (λ text f p q a e n s. at_kind a BinaryBigInt e refl ⟼ noded a (last_token BinaryBigInt a e n refl s))
+    (λ text f p q a e n s. at_kind a OctalBigInt e refl ⟼ noded a (last_token OctalBigInt a e n refl s))
+    (λ text f p q a e n s. at_kind a HexBigInt e refl ⟼ noded a (last_token HexBigInt a e n refl s))
+
+abbrev NumberRow : Span → Kind → Type 0
+NumberRow s k = same_row after_expression (row_of (plain_label (node_of_number k) (op_of_number k) s) end) ≡ true
+
+number_row : (s : Span) (k : Kind) → one_of_kinds number_kinds k ≡ true → NumberRow s k
+number_row s k h = of_number (NumberRow s) k h refl refl refl refl refl refl refl refl refl refl refl
 
 pub string_path : Leaf string_literal no_op Str
 unfolding rule rule_of covers
@@ -175,7 +204,7 @@ unary_answers {text} {f} {p} {q} {r} {w} {id} {arg} k o s h u a e n m x b c d =
 
 -- what a PrimaryExpression begins with
 abbrev pub primary_kinds : List Kind
-primary_kinds = Ident ∷ This ∷ Null ∷ True ∷ False ∷ Decimal ∷ Str ∷ LParen ∷ Percent ∷ []
+primary_kinds = Ident ∷ This ∷ Null ∷ True ∷ False ∷ Str ∷ LParen ∷ Percent ∷ number_kinds
 
 pub primary_fails : {text : List ℕ} {f : Flags} {p : Parser} → At text f p → one_of_kinds primary_kinds p.token.kind ≡ false → Underived text (at Primary f) p.prev_token_end
 unfolding rule rule_of covers apart
@@ -193,8 +222,18 @@ not_same a k b n = go (same_kind a k) refl
     go true e = absurd (n (sym (kind_of_same a k e)))
     go false e = refl
 
-pub none_of_these : (k : Kind) → (k ≡ Ident → ⊥) → (k ≡ This → ⊥) → (k ≡ Null → ⊥) → (k ≡ True → ⊥) → (k ≡ False → ⊥) → (k ≡ Decimal → ⊥) → (k ≡ Str → ⊥) → (k ≡ LParen → ⊥) → (k ≡ Percent → ⊥) → one_of_kinds primary_kinds k ≡ false
-none_of_these k a b c d e f g h i = not_same Ident k _ a ∙ (not_same This k _ b ∙ (not_same Null k _ c ∙ (not_same True k _ d ∙ (not_same False k _ e ∙ (not_same Decimal k _ f ∙ (not_same Str k _ g ∙ (not_same LParen k _ h ∙ not_same Percent k _ i)))))))
+pub none_of_these : (k : Kind) → (k ≡ Ident → ⊥) → (k ≡ This → ⊥) → (k ≡ Null → ⊥) → (k ≡ True → ⊥) → (k ≡ False → ⊥) → (k ≡ Str → ⊥) → (k ≡ LParen → ⊥) → (k ≡ Percent → ⊥) → one_of_kinds number_kinds k ≡ false → one_of_kinds primary_kinds k ≡ false
+none_of_these k a b c d e f g h n = not_same Ident k _ a ∙ (not_same This k _ b ∙ (not_same Null k _ c ∙ (not_same True k _ d ∙ (not_same False k _ e ∙ (not_same Str k _ f ∙ (not_same LParen k _ g ∙ (not_same Percent k _ h ∙ n)))))))
+
+-- a number, read so
+pub number_outcome : (text : List ℕ) (f : Flags) (p q : Parser) (nk : NodeKindMade) (o : OpMade) (k : Kind) (r : Result NodeId Stop) → one_of_kinds number_kinds p.token.kind ≡ true → k ≡ p.token.kind → nk ≡ node_of_number k → o ≡ op_of_number k → At text f p → p.token.escaped ≡ false → MatchResult r (λ id. TakesLeaf nk o p q id) OnlyMemory → Outcome text f (at Primary f) p q r
+number_outcome text f p q nk o k r h e u v a n m = leaf_outcome text f p q nk o p.token.kind r (subst (λ (x : NodeKindMade). same_row after_expression (row_of (plain_label x o p.token.span) end) ≡ true) (sym node_is) (subst (λ (x : OpMade). same_row after_expression (row_of (plain_label (node_of_number p.token.kind) x p.token.span) end) ≡ true) (sym op_is) (number_row p.token.span p.token.kind h))) (subst (λ (x : NodeKindMade). Leaf (kind_of x) (op_of o) p.token.kind) (sym node_is) (subst (λ (x : OpMade). Leaf (kind_of (node_of_number p.token.kind)) (op_of x) p.token.kind) (sym op_is) (number_path p.token.kind h))) a refl n m
+  where
+    node_is : nk ≡ node_of_number p.token.kind
+    node_is = u ∙ ap node_of_number e
+
+    op_is : o ≡ op_of_number p.token.kind
+    op_is = v ∙ ap op_of_number e
 
 -- the table of unary operators has these kinds
 abbrev kinds_in : List (Kind × UnaryOperator) → List Kind

@@ -1,6 +1,8 @@
 //! Names, literals and parentheses (ECMA-262, section 13.2).
 
-ghost use Rattle.std.specs.Prelude.{◌≡◌, ◌<◌, length, MatchResult};
+ghost use Rattle.std.specs.Prelude.{◌≡◌, true, false, MatchResult, ◌<◌, length};
+ghost use Rattle.js_base.specs.KindSets.{number_kinds};
+ghost use Rattle.js_base.specs.Kinds.{one_of_kinds};
 ghost use Rattle.js_base.specs.declared.kind.Kind.TheVariants.{LParen, Percent, RParen};
 ghost use Rattle.js_grammar.specs.Productions.{at, Primary};
 ghost use Rattle.js_cursor.specs.Moves.{OnlyMemory, Opened};
@@ -10,6 +12,7 @@ ghost use Rattle.js_core.specs.Marked.{Marks, MarksNode};
 ghost use Rattle.js_core.specs.Marked as marked;
 ghost use Rattle.js_core.specs.Moves.{IsWholeHere, TakesLeaf};
 ghost use Rattle.js_core.specs.Nesting.{CanNest, room};
+ghost use Rattle.js_core.specs.Numbers.{node_of_number, op_of_number};
 ghost use Rattle.js_core.specs.Rests.{Passes};
 ghost use Rattle.js_core.specs.States.{Standing};
 
@@ -21,7 +24,7 @@ use crate::nodes::{make_leaf, make_one};
 use js_base::{Kind, Span};
 use js_cursor::{ParserImpl, Stop};
 use js_lex::ParserConfig;
-use js_tree::{NodeFlags, NodeId, NodeKind, NumberBase, Op, ParserAstBuilder};
+use js_tree::{BigintBase, NodeId, NodeKind, NumberBase, Op, NodeFlags, ParserAstBuilder};
 
 /// A PrimaryExpression (ECMA-262, section 13.2): a name, a literal, parentheses or a call of V8.
 pub fn parse_primary_expression<C: ParserConfig, N: Nested<C>>(
@@ -35,16 +38,61 @@ pub fn parse_primary_expression<C: ParserConfig, N: Nested<C>>(
     if p.cur_token().escaped() {
         return Err(p.set_unexpected());
     }
+    if p.cur_kind().is_number() {
+        return parse_number(p);
+    }
     match p.cur_kind() {
         Kind::Ident => parse_leaf(p, NodeKind::IdentifierReference, Op::None),
         Kind::This => parse_leaf(p, NodeKind::ThisExpression, Op::None),
         Kind::Null => parse_leaf(p, NodeKind::NullLiteral, Op::None),
         Kind::True | Kind::False => parse_leaf(p, NodeKind::BooleanLiteral, Op::None),
-        Kind::Decimal => parse_leaf(p, NodeKind::NumericLiteral, Op::Number(NumberBase::Decimal)),
         Kind::Str => parse_leaf(p, NodeKind::StringLiteral, Op::None),
         Kind::LParen => parse_parenthesized_expression(p, nested),
         Kind::Percent => parse_v8_intrinsic_expression(p, nested),
         _ => Err(p.set_unexpected()),
+    }
+}
+
+/// A NumericLiteral (ECMA-262, section 12.9.3), or one of a BigInt, which has a node of its own.
+fn parse_number<C: ParserConfig>(p: &mut ParserImpl<'_, C>) -> Result<NodeId, Stop>
+    requires at { Standing p.old }
+    requires number { one_of_kinds number_kinds p.old.token.kind ≡ true }
+    requires plain { p.old.token.escaped ≡ false }
+    ensures { Answers (at Primary) p.old p.new result }
+{
+    let kind = p.cur_kind();
+    parse_leaf(p, number_node(kind), number_op(kind))
+}
+
+/// The kind of the node of a number.
+fn number_node(kind: Kind) -> NodeKind
+    ensures { result ≡ node_of_number kind }
+{
+    match kind {
+        Kind::DecimalBigInt | Kind::BinaryBigInt | Kind::OctalBigInt | Kind::HexBigInt => {
+            NodeKind::BigIntLiteral
+        }
+        _ => NodeKind::NumericLiteral,
+    }
+}
+
+/// How a number is written.
+fn number_op(kind: Kind) -> Op
+    ensures { result ≡ op_of_number kind }
+{
+    match kind {
+        Kind::Float => Op::Number(NumberBase::Float),
+        Kind::Binary => Op::Number(NumberBase::Binary),
+        Kind::Octal => Op::Number(NumberBase::Octal),
+        Kind::Hex => Op::Number(NumberBase::Hex),
+        Kind::PositiveExponential | Kind::NegativeExponential => Op::Number(
+            NumberBase::Exponential,
+        ),
+        Kind::DecimalBigInt => Op::Bigint(BigintBase::Decimal),
+        Kind::BinaryBigInt => Op::Bigint(BigintBase::Binary),
+        Kind::OctalBigInt => Op::Bigint(BigintBase::Octal),
+        Kind::HexBigInt => Op::Bigint(BigintBase::Hex),
+        _ => Op::Number(NumberBase::Decimal),
     }
 }
 
