@@ -1,11 +1,11 @@
 -- The operator `**` (ECMA-262, 13.6): a base that begins with no unary operator, and behind it an exponent.
-use Rattle.std.proofs.Common.{ℕ, ◌≡◌, ◌≤◌, ◌⊎◌, inl, inr, Bool, true, false, not, ◌&&◌, ◌||◌, IsTrue, List, [], ◌∷◌, ◌++◌, length, Some, Option, refl, sym, ap, subst, arith, ◌∙◌, length-append}
+use Rattle.std.proofs.Common.{ℕ, ◌≡◌, inl, inr, Bool, true, false, not, IsTrue, List, [], ◌∷◌, length, Some, refl, sym, ap, subst, arith, ◌∙◌, length-append}
 use Rattle.std.proofs.lemmas.Bool.{false≢true, and_from, and_parts, or_left}
 use Rattle.std.specs.Prelude.{IsCharBoundary, None}
 use Rattle.js_base.specs.declared.diagnostic.Diagnostic.{Diagnostic}
 use Rattle.js_base.specs.declared.diagnostic.DiagnosticKind.TheVariants.{UnaryExponentiationLeftOperand}
 use Rattle.js_base.specs.declared.kind.Kind.{Kind}
-use Rattle.js_base.specs.declared.kind.Kind.TheVariants.{RAngle, Star2, Minus, Plus, Bang, Tilde, Typeof, Void, Delete}
+use Rattle.js_base.specs.declared.kind.Kind.TheVariants.{RAngle, Star2}
 use Rattle.js_base.specs.declared.span.Span.{Span}
 use Rattle.js_base.specs.Kinds.{same_kind, one_of_kinds}
 use Rattle.js_base.specs.Texts.{words}
@@ -19,16 +19,16 @@ use Rattle.js_grammar.specs.Marks.{Mark, StandsAt, Part}
 use Rattle.js_grammar.specs.Settings.{Goal}
 use Rattle.js_grammar.proofs.Loose.{strict_is_loose}
 use Rattle.js_grammar.specs.Parsing.{Test, plain, full, always, Admits, Goes, Fails, still}
-use Rattle.js_grammar.specs.Productions.{G, Flags, Symbol, at, tok, op, Exponent, Unary, Update}
+use Rattle.js_grammar.specs.Productions.{G, Flags, at, tok, op, Exponent, Unary, Update}
 use Rattle.js_grammar.specs.Productions.{sym as symbol}
 use Rattle.js_grammar.specs.Table.{rule, rule_of}
 use Rattle.js_grammar.specs.FirstSets.{first}
 use Rattle.js_grammar.specs.Follow.{edge_of, row_of, follow, after, widest, looser, surest}
 use Rattle.js_grammar.proofs.Looks.{covers, covered, apart, not_both}
-use Rattle.js_grammar.proofs.Calculus.{On, Inside, here_at, ends, inside_full, ◌▹◌, ◌▹✗◌, left, right, fails_alt, fails_nothing, fails_node, part_fails, weaken_fails_on}
+use Rattle.js_grammar.proofs.Calculus.{On, Inside, here_at, ends, inside_full, ◌▹✗◌, left, right, fails_alt, fails_nothing, fails_node, weaken_fails_on}
 use Rattle.js_grammar.proofs.First.{starts}
 use Rattle.js_grammar.proofs.FirstClaims.{firsts}
-use Rattle.js_grammar.proofs.FirstRules.{by_first, fails_here}
+use Rattle.js_grammar.proofs.FirstRules.{fails_here}
 use Rattle.js_grammar.proofs.FollowLaws.{passes_on, same_read, fails_by, surely}
 use Rattle.js_grammar.proofs.RightEdges.{of_operand}
 use Rattle.js_tree.specs.declared.id.NodeId.{NodeId}
@@ -47,20 +47,20 @@ use Rattle.js_cursor.proofs.Later.{keeps_follows, follows_on}
 use Rattle.js_core.specs.Exponents.{ChecksBase, unary_base}
 use Rattle.js_core.specs.Lexemes.{Lex}
 use Rattle.js_core.specs.Operators.{unary_kinds}
-use Rattle.js_core.specs.States.{At, Same, IsPlain, whole, sign, nothing as none_stands}
+use Rattle.js_core.specs.States.{At, IsPlain, whole, sign, nothing as none_stands}
 use Rattle.js_core.specs.Moves.{Moved, MadeHere, IsWholeHere, plain_label}
-use Rattle.js_core.specs.Answers.{Grown, Verdict, clean, unclean, Stretch, Underived, Answer, Numbered, beside}
+use Rattle.js_core.specs.Answers.{Grown, Verdict, clean, unclean, Stretch, Underived, Answer, Numbered}
 use Rattle.js_core.proofs.Conditionals.{plain_sign, other_kind}
 use Rattle.js_core.proofs.Dead.{fails_dead}
 use Rattle.js_core.proofs.Giving.{kept_one}
 use Rattle.js_core.proofs.Here.{kind_here, found, uncut, begins_here}
 use Rattle.js_core.proofs.MadeNodes.{two_held}
-use Rattle.js_core.proofs.Moving.{same_both, same_itself}
+use Rattle.js_core.proofs.Moving.{same_both}
 use Rattle.js_core.proofs.Operands.{by_path, of_unary}
 use Rattle.js_core.proofs.Paths.{Path, ◌⟼◌, ◌⟶◌, ◌⟶✗◌, fails_at, not_here, token, called, last_called, noded_by, label_here, read_of}
 use Rattle.js_core.proofs.Phrases.{lift, narrow_operand, unary_part}
 use Rattle.js_core.proofs.Tight.{narrows, read_plain}
-use Rattle.js_core.proofs.Verdicts.{verdict_of, either_way, grown_then, grown_first, grown_both}
+use Rattle.js_core.proofs.Verdicts.{verdict_of, either_way}
 use Rattle.js_core.proofs.Verdicts.{after as grown_behind}
 
 abbrev power_behind : Flags → G
@@ -238,7 +238,7 @@ operator_node f (is_right (is_right (is_right (is_right (is_left (is_node d)))))
 operator_node f (is_right (is_right (is_right (is_right (is_right (is_left (is_node d))))))) = refl
 operator_node f (is_right (is_right (is_right (is_right (is_right (is_right (is_node d))))))) = refl
 
-lexes_all : (text : List ℕ) (s : ℕ) (ls : Lexemes) → Lexes (Lex text) s ls → Lexes (StandsBehind all_faults text) s ls
+pub lexes_all : (text : List ℕ) (s : ℕ) (ls : Lexemes) → Lexes (Lex text) s ls → Lexes (StandsBehind all_faults text) s ls
 lexes_all text s (last x) l = l.0
 lexes_all text s (next x ls) l = (l.0.0, lexes_all text x.to ls l.1)
 

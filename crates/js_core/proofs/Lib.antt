@@ -36,6 +36,8 @@ pub mod Bracketed
 pub mod Parentheses
 pub mod ArgumentLists
 pub mod Intrinsics
+pub mod Coalescing
+pub mod CoalesceOperands
 pub mod ParameterLists
 pub mod Arrows
 pub mod Marking

@@ -1,24 +1,24 @@
 -- Members, `new` and optional chains, from what the calls that read them answer.
-use Rattle.std.proofs.Common.{ℕ, ◌≡◌, ◌≤◌, ◌<◌, ◌+◌, ◌⊎◌, inl, inr, max, List, [], ◌∷◌, length, Option, Some, None, Bool, true, false, not, ◌&&◌, ◌||◌, IsTrue, cond, refl, sym, ap, subst, arith, ◌∙◌, nat_lt}
+use Rattle.std.proofs.Common.{ℕ, ◌≡◌, ◌≤◌, ◌<◌, ◌+◌, ◌⊎◌, inl, inr, max, List, [], ◌∷◌, length, Option, Some, None, Bool, true, false, not, ◌&&◌, ◌||◌, IsTrue, refl, sym, ap, subst, arith, ◌∙◌, nat_lt}
 use Rattle.std.specs.Prelude.{Result, Ok, Err, MatchResult}
 use Rattle.std.proofs.lemmas.Bool.{false≢true, and_parts, and_from}
 use Rattle.js_base.specs.declared.diagnostic.Diagnostic.{Diagnostic}
 use Rattle.js_base.specs.declared.kind.Kind.{Kind}
-use Rattle.js_base.specs.declared.kind.Kind.TheVariants.{RAngle, New, Dot, QuestionDot, LParen, Ident, This, Null, True, False, Decimal, Str}
+use Rattle.js_base.specs.declared.kind.Kind.TheVariants.{RAngle, New, Dot, QuestionDot, LParen}
 use Rattle.js_base.specs.declared.span.Span.{Span}
 use Rattle.js_base.specs.Kinds.{same_kind, one_of_kinds}
+use Rattle.js_base.specs.KindSets.{identifier_name_kinds}
 use Rattle.js_base.proofs.KindLemmas.{kind_of_same}
 use Rattle.js_grammar.specs.Trees.{Slots, end, tree, Label, no_op, identifier_name, new_expression, chain_expression}
-use Rattle.js_grammar.specs.Grammar.{Lexeme, Lexemes, Look, next, seen, is, exact, lexeme, seq, such, nothing, ◌▸◌}
+use Rattle.js_grammar.specs.Grammar.{Lexeme, Lexemes, Look, next, seen, exact, seq, such, nothing, ◌▸◌}
 use Rattle.js_grammar.specs.Insertion.{after_expression, is_word}
-use Rattle.js_grammar.specs.Parsing.{Test, plain, full, always, behind, Fails, Way, still, passing}
-use Rattle.js_grammar.specs.Productions.{G, Flags, Symbol, at, tok, mk, IdentifierName, Primary, Member, Call, Chain, Links, LeftHandSide}
+use Rattle.js_grammar.specs.Parsing.{plain, full, always, Fails}
+use Rattle.js_grammar.specs.Productions.{G, Flags, Symbol, at, tok, IdentifierName, Primary, Member, LeftHandSide}
 use Rattle.js_grammar.specs.Productions.{New as new_symbol, sym as symbol}
 use Rattle.js_grammar.specs.Table.{rule, rule_of, args}
 use Rattle.js_grammar.specs.Follow.{Edge, row_of, edge_of, follow, follow_of, after, tight}
 use Rattle.js_grammar.proofs.Looks.{covers, covered, apart, not_both}
-use Rattle.js_grammar.proofs.Calculus.{Inside, On, on_itself, inside_full, weaken, ◌▹◌, ◌▹✗◌, then_by, part_fails, fails_node, fails_lexeme, weaken_fails}
-use Rattle.js_grammar.proofs.Chains.{members, chains}
+use Rattle.js_grammar.proofs.Calculus.{Inside, inside_full, weaken, ◌▹◌, ◌▹✗◌, then_by, part_fails, fails_node, fails_lexeme, weaken_fails}
 use Rattle.js_grammar.proofs.FirstClaims.{firsts}
 use Rattle.js_grammar.proofs.FirstRules.{by_first, fails_here}
 use Rattle.js_grammar.proofs.FollowLaws.{fails_by, surely}
@@ -26,7 +26,10 @@ use Rattle.js_grammar.proofs.RightEdges.{may_end, same_row}
 use Rattle.js_base.specs.declared.diagnostic.DiagnosticKind.TheVariants as fault
 use Rattle.js_grammar.specs.Lexed.{all_faults}
 use Rattle.js_grammar.specs.Lexed.{Lex as StandsBehind}
-use Rattle.js_grammar.specs.Marks.{Mark, a_lexeme}
+use Rattle.js_base.specs.declared.diagnostic.DiagnosticKind.{DiagnosticKind}
+use Rattle.js_base.specs.declared.source_type.SourceType.{SourceType}
+use Rattle.js_grammar.specs.Marks.{Mark, StandsAt, LexemeAt, of_kinds, a_lexeme}
+use Rattle.js_lex.specs.States.{goal_of}
 use Rattle.js_lex.specs.Reading.{is_right_angle}
 use Rattle.js_tree.specs.declared.id.NodeId.{NodeId}
 use Rattle.js_tree.specs.declared.kind.NodeKind.TheVariants as node
@@ -46,19 +49,18 @@ use Rattle.js_core.specs.Lexemes.{Lex, is_read, read_kinds, read_word}
 use Rattle.js_core.specs.States.{At, Same, Standing}
 use Rattle.js_core.specs.Nesting.{room}
 use Rattle.js_core.proofs.Nesting.{nested_room, later_room}
-use Rattle.js_core.specs.Moves.{Moved, MadeHere, LeafTaken, TakesLeaf, IsWholeHere, plain_label}
+use Rattle.js_core.specs.Moves.{Moved, MadeHere, TakesLeaf, IsWholeHere, plain_label}
 use Rattle.js_core.specs.Answers.{Grown, Verdict, clean, Stretch, Underived, Numbered, Outcome, Stops, beside}
-use Rattle.js_core.specs.Members.{StandsHere, Taken, Looped, NoBareNew, NoMember, Headed, a_member, a_new, MemberSoFar, NoDot, NoParen, NoLhs, HeadOutcome, without_arguments, link_kinds, chained, sign_of, link_label, NoLink, OnlyLink, Linked, LinkHere, a_link, no_link, ReadsLink, WithArguments, MakesWithArguments, LinkOutcome, Beyond, CallSoFar, ChainSoFar, Callee, a_head, a_call, CalleeOutcome, TellsChain}
-use Rattle.js_core.specs.Arguments.{Partway, Arguments}
+use Rattle.js_core.specs.Members.{StandsHere, no_link_behind, Taken, NoBareNew, NoMember, Headed, a_member, a_new, MemberSoFar, NoDot, NoParen, NoLhs, HeadOutcome, link_kinds, chained, sign_of, link_label, NoLink, OnlyLink, Linked, LinkHere, a_link, no_link, ReadsLink, WithArguments, MakesWithArguments, LinkOutcome, Beyond, CallSoFar, ChainSoFar, Callee, a_head, a_call, CalleeOutcome, TellsChain}
+use Rattle.js_core.specs.Arguments.{Partway}
 use Rattle.js_core.proofs.Here.{told, angled, begins_here, kind_here, escaped_here, uncut, found}
 use Rattle.js_core.proofs.Tight.{read_plain}
 use Rattle.js_core.proofs.Verdicts.{verdict_of, either_way, and_then, behind_none, grown_then}
 use Rattle.js_core.proofs.Verdicts.{after as grown_behind}
 use Rattle.js_core.proofs.Moving.{same_both, same_with, beside_nodes, elsewhere, at_depth, stops_behind, stops_in, stops_so, standing}
 use Rattle.js_core.proofs.MadeNodes.{leaf_held, node_held}
-use Rattle.js_core.proofs.Paths.{reads, Path, ◌⟶◌, ◌⟶✗◌, skips, token, last_called, passes_test, read_of, walked_both, walked_one, noded, noded_by, noding, label_here, by_symbol_as}
+use Rattle.js_core.proofs.Paths.{reads, Path, ◌⟶✗◌, skips, token, passes_test, read_of, walked_both, walked_one, noded, noding, label_here}
 use Rattle.js_core.proofs.Operands.{by_path, primary_fails, primary_kinds}
-use Rattle.js_core.proofs.Giving.{fails_none}
 use Rattle.js_core.proofs.Links.{AllAre, NoneIs, NotCall, bases, before_chain, with_arguments, member_start, no_member, member_new, no_member_new, member_step, member_step_fails, member_end, no_new_before, new_unfollowed, no_new, new_member, new_bare, member_before_chain, no_call_at_all, no_call_behind, call_begin, call_step, call_step_fails, call_ends, base_member, base_call, base_none, chain_begin, no_first, chain_step, chain_step_fails, chain_ends, no_lhs, lhs_new, lhs_call, lhs_chain, call_unfollowed, member_before, member_alone, call_alone, no_lhs_here, call_heads, chain_heads}
 use Rattle.js_core.proofs.Links.{no_link as no_chain_link}
 use Rattle.js_core.proofs.Stretches.{stretches}
@@ -818,17 +820,34 @@ pub taken_room : {text : List ℕ} {f : Flags} {C : Label → Slots → (Lexemes
 taken_room a x = later_room (let j = x.further in let d = a.behind in omega arith) x.same
 
 -- what is told of a `?.` that can't stand behind `new`
-pub sign_marked : {text : List ℕ} {f : Flags} {p : Parser} (s : Span) → At text f p → StandsHere p QuestionDot true → s ≡ p.token.span → Mark (goal p) p.text (record { kind = fault.InvalidNewOptionalChain; span = s; first = None; second = None })
-sign_marked {text} {f} {p} s a h e =
+-- where a `?.` stands, what is told of it has its mark
+pub sign_marked : {text : List ℕ} {f : Flags} {p : Parser} (k : DiagnosticKind) (s : Span) → ((s : Span) → LexemeAt (of_kinds (QuestionDot ∷ [])) (goal p) p.text s → StandsAt k (goal p) p.text s None None) → At text f p → StandsHere p QuestionDot true → s ≡ p.token.span → Mark (goal p) p.text (record { kind = k; span = s; first = None; second = None })
+sign_marked {text} {f} {p} k s t a h e =
     let y = found a (uncut a (ap (same_kind RAngle) h.0)) (ap is_last h.0) in
-    let m : Mark (goal p) p.text (record { kind = fault.InvalidNewOptionalChain; span = p.token.span; first = None; second = None }) = record {
+    let m : Mark (goal p) p.text (record { kind = k; span = p.token.span; first = None; second = None }) = record {
       ordered = a.at.lies.ordered;
       within = a.at.lies.ends_whole.0;
       begins_between = a.at.lies.starts_whole;
       ends_between = a.at.lies.ends_whole;
-      stands = (record { lexeme = y.0; of_text = a_lexeme a.at.reached (subst (λ (t : List ℕ). StandsBehind all_faults t p.prev_token_end y.0) (sym a.text_is) y.1); is = (sym y.2.start, sym y.2.end); passes = and_from (one_of_kinds (QuestionDot ∷ []) y.0.kind) (not y.0.escaped) (subst (λ (v : Kind). one_of_kinds (QuestionDot ∷ []) v ≡ true) (sym (sym y.2.kind ∙ h.0)) refl) (ap not (sym y.2.escaped ∙ h.1)) }, (refl, refl));
+      stands = t p.token.span (record { lexeme = y.0; of_text = a_lexeme a.at.reached (subst (λ (t : List ℕ). StandsBehind all_faults t p.prev_token_end y.0) (sym a.text_is) y.1); is = (sym y.2.start, sym y.2.end); passes = and_from (one_of_kinds (QuestionDot ∷ []) y.0.kind) (not y.0.escaped) (subst (λ (v : Kind). one_of_kinds (QuestionDot ∷ []) v ≡ true) (sym (sym y.2.kind ∙ h.0)) refl) (ap not (sym y.2.escaped ∙ h.1)) });
     } in
-    subst (λ (v : Span). Mark (goal p) p.text (record { kind = fault.InvalidNewOptionalChain; span = v; first = None; second = None })) (sym e) m
+    subst (λ (v : Span). Mark (goal p) p.text (record { kind = k; span = v; first = None; second = None })) (sym e) m
+
+-- a word that is read may be any name's
+read_names : covers (λ k w e. read_word k) (λ k w e. one_of_kinds identifier_name_kinds k) ≡ true
+unfolding covers
+read_names = refl
+
+pub no_word_read : (k : Kind) → one_of_kinds identifier_name_kinds k ≡ false → read_word k ≡ false
+no_word_read k n = go (read_word k) refl
+  where
+    go : (b : Bool) → read_word k ≡ b → b ≡ false
+    go true e = absurd (false≢true (sym n ∙ covered (λ k w e. read_word k) (λ k w e. one_of_kinds identifier_name_kinds k) read_names k false false e))
+    go false e = refl
+
+-- and so it is behind it
+pub link_marked : {text : List ℕ} {f : Flags} {p q : Parser} (s : Span) → At text f p → StandsHere p QuestionDot true → s ≡ p.token.span → Moved text f p q → Mark (goal q) q.text (no_link_behind s)
+link_marked {p = p} {q = q} s a h e m = subst (λ (t : List ℕ). Mark (goal q) t (no_link_behind s)) (sym m.same.follows.text) (subst (λ (v : SourceType). Mark (goal_of v) p.text (no_link_behind s)) (sym m.same.follows.source_type) (sign_marked fault.IdentifierExpectedAfterQuestionDot s (λ s x. (x, (refl, refl))) a h e))
 
 pub chain_told : (p q : Parser) (e : Stop) {s : Span} → s ≡ p.token.span → GivesUp (λ d. d ≡ record { kind = fault.InvalidNewOptionalChain; span = s; first = None; second = None }) p q e → GivesUp (TellsChain p.token.span) p q e
 chain_told p q Fatal e (d, h, k) = (d, (ap (λ (z : Diagnostic). z.kind) h, ap (λ (z : Diagnostic). z.span) h ∙ e), k)

@@ -1,19 +1,19 @@
 -- What the parse functions of operands answer, from what the calls in them answer.
-use Rattle.std.proofs.Common.{ℕ, ◌≡◌, max, List, [], ◌∷◌, Bool, true, false, not, ◌&&◌, ◌||◌, IsTrue, refl, sym, subst, arith, nat_lt}
+use Rattle.std.proofs.Common.{ℕ, ◌≡◌, max, List, [], ◌∷◌, Bool, true, false, ◌||◌, IsTrue, refl, sym, subst, arith}
 use Rattle.std.specs.Prelude.{Result, Ok, Err}
-use Rattle.std.proofs.lemmas.Bool.{false≢true, or_left}
-use Rattle.js_base.specs.declared.kind.Kind.TheVariants.{LBrack, Dot, NoSubstitutionTemplate, TemplateHead, Function, Minus, Plus, Bang, Tilde, Typeof, Void, Delete}
+use Rattle.std.proofs.lemmas.Bool.{false≢true}
+use Rattle.js_base.specs.declared.kind.Kind.TheVariants.{Minus, Plus, Bang, Tilde, Typeof, Void, Delete}
 use Rattle.js_base.specs.declared.kind.Kind.{Kind}
-use Rattle.js_base.specs.Kinds.{same_kind, one_of_kinds}
+use Rattle.js_base.specs.Kinds.{one_of_kinds}
 use Rattle.js_grammar.specs.Trees.{Slots, end, tree, Label, unary_expression}
-use Rattle.js_grammar.specs.Grammar.{Lexeme, Lexemes, Look, seen, such, nothing, alt, ◌▸◌}
+use Rattle.js_grammar.specs.Grammar.{Lexeme, Lexemes, seen, such, nothing, alt, ◌▸◌}
 use Rattle.js_grammar.specs.Parsing.{always, Goes, still}
-use Rattle.js_grammar.specs.Productions.{G, Flags, Symbol, at, tok, op, branches, Expression, Assignment, Conditional, Short, Or, Exponent, Unary, Update, LeftHandSide, New, Member, Primary}
+use Rattle.js_grammar.specs.Productions.{G, Flags, Symbol, at, tok, op, branches, Unary, Update}
 use Rattle.js_grammar.specs.Productions.{sym as symbol}
 use Rattle.js_grammar.specs.Table.{rule, rule_of}
-use Rattle.js_grammar.specs.Follow.{edge_of, row_of, follow, follow_of, after, tight}
+use Rattle.js_grammar.specs.Follow.{edge_of, row_of, follow, after}
 use Rattle.js_grammar.specs.Insertion.{Row, after_expression, after_postfix, after_body, after_yield, after_declarator, after_word}
-use Rattle.js_grammar.proofs.Looks.{covers, covered, apart}
+use Rattle.js_grammar.proofs.Looks.{covers, apart}
 use Rattle.js_grammar.proofs.Calculus.{◌▹◌, ◌▹✗◌, left, by_rule, weaken_on, weaken_fails_on}
 use Rattle.js_core.specs.Operators.{unary_kinds}
 use Rattle.js_core.proofs.Verdicts.{verdict_of}
@@ -28,7 +28,7 @@ use Rattle.js_core.specs.States.{At}
 use Rattle.js_core.specs.Answers.{Verdict, Stretch, Underived, Numbered, Outcome, beside}
 use Rattle.js_core.proofs.Dead.{live, lives}
 use Rattle.js_core.proofs.Paths.{reads, fails_at}
-use Rattle.js_core.proofs.Tight.{narrowing, narrows}
+use Rattle.js_core.proofs.Tight.{narrowing}
 
 -- what is left of a line, where that is another symbol
 pub by_left : (n m : Symbol) → live (rule n) ≡ such m always → (text : List ℕ) (s : ℕ) → Goes rule (Lex text) (after n) end (rule n) s (such m always) s (λ us. us) (still 0)
@@ -117,11 +117,6 @@ primary_operand after_yield h = absurd (false≢true h)
 primary_operand after_declarator h = absurd (false≢true h)
 primary_operand after_word h = absurd (false≢true h)
 
--- what is left of the lines
-short_left : (f : Flags) → live (rule (at Short f)) ≡ such (at Or f) always
-unfolding rule rule_of apart
-short_left f = refl
-
 abbrev pub unary_part : Flags → G
 unary_part f = branches (Minus ∷ Plus ∷ Bang ∷ Tilde ∷ Typeof ∷ Void ∷ Delete ∷ []) (λ o. op unary_expression o (tok o ▸ symbol Unary f))
 
@@ -130,12 +125,6 @@ unfolding rule rule_of apart
 unary_left f = refl
 
 -- Answers of a symbol of which only another one is left.
-
--- a ShortCircuitExpression, which is a LogicalORExpression
-pub short_result : (text : List ℕ) (f : Flags) (p q : Parser) (r : Result NodeId Stop) → Outcome text f (at Or f) p q r → Outcome text f (at Short f) p q r
-unfolding covers
-short_result text f p q r x = lift_result (at Short f) (at Or f) refl refl text f p q r (by_left (at Short f) (at Or f) (short_left f) text p.prev_token_end) (λ i y. y.answer.row)
-    (λ i y z l. narrows 5 4 [] f.in_ (row_of y.answer.label y.answer.slots) (narrow_operand 5 4 [] refl refl refl refl f.in_ (row_of y.answer.label y.answer.slots) y.answer.row) z l.1 refl (y.answer.stops z l)) x
 
 -- where no unary operator stands
 no_operator : {text : List ℕ} {f : Flags} {p : Parser} → At text f p → one_of_kinds unary_kinds p.token.kind ≡ false → Goes rule (Lex text) (after (at Unary f)) end (rule (at Unary f)) p.prev_token_end (such (at Update f) always) p.prev_token_end (λ us. us) (still 0)

@@ -8,7 +8,7 @@ use Rattle.js_tree.specs.declared.id.NodeId.{NodeId}
 use Rattle.std.proofs.lemmas.Bool.{false≢true, and_from, and_parts, or_left, or_right, lt-ltb}
 use Rattle.js_base.specs.declared.diagnostic.Diagnostic.{Diagnostic}
 use Rattle.js_base.specs.declared.kind.Kind.{Kind}
-use Rattle.js_base.specs.declared.kind.Kind.TheVariants.{Eof, Question, Colon, Plus2, Minus2, PrivateIdentifier, Undetermined}
+use Rattle.js_base.specs.declared.kind.Kind.TheVariants.{Eof, Question, Colon, Plus2, Minus2, PrivateIdentifier, RAngle, Undetermined}
 use Rattle.js_base.specs.declared.span.Span.{Span}
 use Rattle.js_base.specs.Kinds.{same_kind, one_of_kinds}
 use Rattle.js_base.specs.Texts.{words}
@@ -29,11 +29,11 @@ use Rattle.js_cursor.specs.Places.{goal}
 use Rattle.js_cursor.specs.declared.stop.Stop.{Stop}
 use Rattle.js_cursor.specs.declared.stop.Stop.TheVariants.{Fatal}
 use Rattle.js_core.specs.Answers.{Answer, Numbered, Grown, Verdict, clean, unclean, Stops}
-use Rattle.js_core.specs.Lexemes.{Lex, read_kinds}
+use Rattle.js_core.specs.Lexemes.{Lex, read_kinds, read_sign, read_word}
 use Rattle.js_core.specs.Moves.{Moved, Tightness}
 use Rattle.js_core.specs.Operators.{power_of}
-use Rattle.js_core.specs.Rests.{update_kinds, ending_kinds, no_target_at, Refused, Ended}
-use Rattle.js_core.specs.States.{At, Same, IsPlain, whole, sign, nothing as no_lexeme}
+use Rattle.js_core.specs.Rests.{update_kinds, ending_kinds, no_target_at, ReadsHere, Refused, Ended}
+use Rattle.js_core.specs.States.{At, Same, Standing, IsPlain, whole, sign, nothing as no_lexeme}
 use Rattle.js_core.specs.Targets.{target_of, Stood}
 use Rattle.js_core.proofs.Covers.{row_of_target, Untargeted, no_target_there}
 use Rattle.js_core.proofs.Giving.{gives_up}
@@ -72,6 +72,32 @@ ending_there {text} {p = p} a c h =
     let z = there a c k.2 in
     let e : z.0.kind ≡ p.token.kind = sym z.2.kind in
     (z.0, (z.1, read_of z.0 e (plain_of p.token.kind z.1.word z.0.escaped (subst (λ (v : Kind). z.0.escaped ≡ is_escaped v z.1.word) e z.1.escaped) k.0) k.1), e)
+
+-- what is known to be read is read
+abbrev known : Look
+known k w e = read_word k || read_sign k
+
+abbrev read_whole : Look
+read_whole k w e = one_of_kinds read_kinds k && (not (same_kind RAngle k) && not (same_kind Undetermined k))
+
+known_read : covers known read_whole ≡ true
+unfolding covers
+known_read = refl
+
+pub known_there : {text : List ℕ} {f : Flags} {p : Parser} → At text f p → (read_word p.token.kind || read_sign p.token.kind) ≡ true → p.token.escaped ≡ false → (y : Lexeme) × Lex text p.prev_token_end y
+known_there {text} {p = p} a h e =
+    let k = and_parts (one_of_kinds read_kinds p.token.kind) _ (covered known read_whole known_read p.token.kind false false h) in
+    let n = and_parts (not (same_kind RAngle p.token.kind)) _ k.1 in
+    let z = there a (uncut a (is_not (same_kind RAngle p.token.kind) n.0)) (λ q. false≢true (sym (is_not (same_kind Undetermined p.token.kind) n.1) ∙ subst (λ (v : Kind). same_kind Undetermined v ≡ true) (sym q) refl)) in
+    (z.0, (z.1, read_of z.0 (sym z.2.kind) (sym z.2.escaped ∙ e) k.0))
+  where
+    is_not : (b : Bool) → not b ≡ true → b ≡ false
+    is_not true h = absurd (false≢true h)
+    is_not false h = refl
+
+pub reads_so : {p : Parser} (b : Bool) → Standing p → p.token.escaped ≡ false → b ≡ (read_word p.token.kind || read_sign p.token.kind) → ReadsHere p b
+reads_so true a e h = known_there a (sym h) e
+reads_so false a e h = tt
 
 strong : (power : ℕ) (e : Bool) (k : ℕ) → power ≡ cond e 0 k → 1 ≤ power → (e ≡ false) × (1 ≤ k)
 strong power true k h l = absurd (omega arith)

@@ -11,6 +11,7 @@ pub mod Rests
 pub mod Exponents
 pub mod Targets
 pub mod Arguments
+pub mod Coalescing
 pub mod Numbers
 pub mod Parameters
 pub mod Arrows

@@ -1,7 +1,7 @@
 -- What the parse functions of members, `new` and optional chains answer (ECMA-262, 13.3): how much was taken, and which nonterminals that is.
 use Rattle.std.specs.Prelude.{ℕ, ◌≡◌, ◌<◌, ◌≤◌, ◌⊎◌, Bool, true, false, cond, List, [], ◌∷◌, Option, Some, None, length, Result, Ok, Err}
 use Rattle.js_base.specs.declared.diagnostic.Diagnostic.{Diagnostic}
-use Rattle.js_base.specs.declared.diagnostic.DiagnosticKind.TheVariants.{InvalidNewOptionalChain}
+use Rattle.js_base.specs.declared.diagnostic.DiagnosticKind.TheVariants.{InvalidNewOptionalChain, IdentifierExpectedAfterQuestionDot}
 use Rattle.js_base.specs.declared.span.Span.{Span}
 use Rattle.js_base.specs.declared.kind.Kind.{Kind}
 use Rattle.js_base.specs.declared.kind.Kind.TheVariants.{New, Dot, QuestionDot, LParen}
@@ -24,11 +24,11 @@ use Rattle.js_cursor.specs.Parsers.{Parser}
 use Rattle.js_cursor.specs.declared.stop.Stop.{Stop}
 use Rattle.js_core.specs.Lexemes.{Lex, Walked, spot}
 use Rattle.js_core.specs.States.{At, Same}
-use Rattle.js_core.specs.Moves.{Moved, MadeHere}
+use Rattle.js_core.specs.Moves.{MadeHere}
 use Rattle.js_core.specs.Arguments.{Partway, Arguments, NoArguments}
 use Rattle.js_tree.specs.declared.kind.NodeKind.{NodeKind}
 use Rattle.js_tree.specs.Labels.{kind_of}
-use Rattle.js_core.specs.Answers.{Verdict, Stretch, Underived, Numbered, Outcome, Stops}
+use Rattle.js_core.specs.Answers.{Verdict, Stretch, Underived, Outcome, Stops}
 
 -- whether this lexeme stands here, without an escape
 abbrev pub StandsHere : Parser → Kind → Bool → Type 0
@@ -38,6 +38,10 @@ StandsHere p k false = p.token.kind ≡ k → p.token.escaped ≡ false → ⊥
 -- what is told of a `?.` behind what `new` stands before
 abbrev pub TellsChain : Span → Diagnostic → Type 0
 TellsChain s d = (d.kind ≡ InvalidNewOptionalChain) × (d.span ≡ s)
+
+-- what is told of a `?.` that no link goes on with
+abbrev pub no_link_behind : Span → Diagnostic
+no_link_behind s = record { kind = IdentifierExpectedAfterQuestionDot; span = s; first = None; second = None }
 
 -- A node was made for what stands between two states: of its tree, the lexemes passed and the place behind them Clean holds; or nothing is derived, and Unclean says of what.
 pub record Taken (text : List ℕ) (f : Flags) (p q : Parser) (id : NodeId) (Clean : Label → Slots → (Lexemes → Lexemes) → ℕ → Type 0) (Unclean : Type 0) : Type 0 where

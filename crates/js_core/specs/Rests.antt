@@ -1,5 +1,5 @@
 -- What is read behind something that was read before.
-use Rattle.std.specs.Prelude.{ℕ, ◌≡◌, ◌≤◌, ◌⊎◌, ◌||◌, Bool, IsTrue, nat_lt, List, [], ◌∷◌, length, None, Result, Ok, Err}
+use Rattle.std.specs.Prelude.{ℕ, ◌≡◌, ◌≤◌, ◌⊎◌, ◌||◌, Bool, true, false, IsTrue, nat_lt, List, [], ◌∷◌, length, None, Result, Ok, Err}
 use Rattle.js_base.specs.declared.diagnostic.Diagnostic.{Diagnostic}
 use Rattle.js_base.specs.declared.diagnostic.DiagnosticKind.TheVariants as fault
 use Rattle.js_base.specs.Kinds.{one_of_kinds}
@@ -61,3 +61,8 @@ pub record Ended (text : List ℕ) (f : Flags) (old new : Parser) (b : Bool) : T
 
 abbrev pub EndsOperand : Parser → Parser → Bool → Type 0
 EndsOperand old new b = (text : List ℕ) (f : Flags) → At text f old → Ended text f old new b
+
+-- if it is true, a lexeme that is read stands here
+abbrev pub ReadsHere : Parser → Bool → Type 0
+ReadsHere p true = (y : Lexeme) × Lex p.text p.prev_token_end y
+ReadsHere p false = Unit {0}

@@ -6,7 +6,10 @@ ghost use Rattle.js_cursor.specs.Moves.{GivesUp};
 ghost use Rattle.js_grammar.specs.Productions.{at, optional_flag, IdentifierName, LeftHandSide};
 ghost use Rattle.js_tree.specs.Labels.{number_of};
 ghost use Rattle.js_core.specs.Answers.{Answers};
-ghost use Rattle.js_core.specs.Members.{CallsMember, ChainsCallee, GoesOnMember, Heads, LinkHere, MakesWithArguments, ReadsLink, StandsHere, TellsChain, arguments_label, link_label};
+ghost use Rattle.js_grammar.specs.Marks.{Mark};
+ghost use Rattle.js_cursor.specs.Places.{goal};
+ghost use Rattle.js_core.specs.Lexemes.{read_word};
+ghost use Rattle.js_core.specs.Members.{CallsMember, ChainsCallee, GoesOnMember, Heads, LinkHere, MakesWithArguments, ReadsLink, StandsHere, TellsChain, arguments_label, link_label, no_link_behind};
 ghost use Rattle.js_core.specs.Moves.{MadeHere};
 ghost use Rattle.js_core.specs.Nesting.{CanNest, room};
 ghost use Rattle.js_core.specs.States.{Standing};
@@ -16,7 +19,7 @@ use crate::lexemes::{advance, is_read_word, stands};
 use crate::nested::Nested;
 use crate::nodes::make_one;
 use crate::primary::{parse_leaf, parse_primary_expression};
-use js_base::{Diagnostic, DiagnosticKind, Kind, NoMemory};
+use js_base::{Diagnostic, DiagnosticKind, Kind, NoMemory, Span};
 use js_cursor::{ParserImpl, Stop};
 use js_lex::ParserConfig;
 use js_tree::{NodeFlags, NodeId, NodeKind, Op};
@@ -197,13 +200,48 @@ fn parse_optional_link<C: ParserConfig, N: Nested<C>>(
     requires sign { StandsHere p.old QuestionDot true }
     ensures { ReadsLink start left p.old p.new result }
 {
+    let sign = p.cur_token().span();
     advance(p)?;
     if stands(p, Kind::LParen) {
         return parse_with_arguments(p, nested, start, NodeKind::CallExpression, true, left);
     }
+    if lacks_link(p.cur_kind()) {
+        return Err(refuse_optional_link(p, sign));
+    }
     let name = parse_identifier_name(p)?;
     let node = make_member(p, start, left, name, true)?;
     Ok(node)
+}
+
+/// Whether no optional link goes on with this behind its `?.`: it is no word and no private name, begins no arguments, no
+/// brackets and no template, and is a lexeme.
+fn lacks_link(kind: Kind) -> bool
+    ensures { result ≡ true → read_word kind ≡ false }
+{
+    !kind.is_identifier_name()
+        && !matches!(
+            kind,
+            Kind::PrivateIdentifier
+                | Kind::LParen
+                | Kind::LBrack
+                | Kind::NoSubstitutionTemplate
+                | Kind::TemplateHead
+                | Kind::Undetermined
+        )
+}
+
+/// Gives up behind a `?.` that stood at a span, where no link goes on with what stands here.
+fn refuse_optional_link<C: ParserConfig>(p: &mut ParserImpl<'_, C>, sign: Span) -> Stop
+    requires at { Standing p.old }
+    requires mark { Mark (goal p.old) p.old.text (no_link_behind sign) }
+    ensures { GivesUp (λ d. d ≡ no_link_behind sign) p.old p.new result }
+{
+    p.set_fatal_error(Diagnostic {
+        kind: DiagnosticKind::IdentifierExpectedAfterQuestionDot,
+        span: sign,
+        first: None,
+        second: None,
+    })
 }
 
 /// `.` and a name, behind what was read.

@@ -4,9 +4,9 @@ ghost use Rattle.std.specs.Prelude.{◌≡◌, ◌↔◌, IsTrue, MatchResult};
 ghost use Rattle.js_cursor.specs.Moves.{OnlyMemory};
 ghost use Rattle.js_core.specs.States.{Standing};
 ghost use Rattle.js_base.specs.Contexts.{has_flag, in_flag};
-ghost use Rattle.js_core.specs.Lexemes.{read_word};
+ghost use Rattle.js_core.specs.Lexemes.{read_sign, read_word};
+ghost use Rattle.js_core.specs.Rests.{EndsOperand, ReadsHere};
 ghost use Rattle.js_core.specs.Members.{StandsHere};
-ghost use Rattle.js_core.specs.Rests.{EndsOperand};
 ghost use Rattle.js_core.specs.Moves.{IsCompleted, IsWholeHere, Moves, OperatorHere};
 
 use crate::operators::binding_power;
@@ -93,4 +93,50 @@ pub fn ends_operand<C: ParserConfig>(p: &mut ParserImpl<'_, C>) -> Result<bool, 
         Kind::Eof | Kind::Question | Kind::Colon => Ok(true),
         _ => Ok(power > 0),
     }
+}
+
+/// Whether it is a lexeme that is read, and neither a word nor an operator that groups to the left.
+fn is_read_sign(kind: Kind) -> bool
+    ensures { result ≡ read_sign kind }
+{
+    matches!(
+        kind,
+        Kind::Eof
+            | Kind::Decimal
+            | Kind::Str
+            | Kind::Tilde
+            | Kind::Bang
+            | Kind::Question
+            | Kind::Question2
+            | Kind::Colon
+            | Kind::Comma
+            | Kind::Plus2
+            | Kind::Minus2
+            | Kind::Eq
+            | Kind::PlusEq
+            | Kind::MinusEq
+            | Kind::StarEq
+            | Kind::SlashEq
+            | Kind::PercentEq
+            | Kind::ShiftLeftEq
+            | Kind::PipeEq
+            | Kind::CaretEq
+            | Kind::AmpEq
+            | Kind::Amp2Eq
+            | Kind::Pipe2Eq
+            | Kind::Question2Eq
+            | Kind::Star2Eq
+            | Kind::Semicolon
+            | Kind::RParen
+            | Kind::Arrow
+    )
+}
+
+/// Whether what stands here is known to be a lexeme that is read: a word, or a sign.
+pub fn reads_here<C: ParserConfig>(p: &ParserImpl<'_, C>) -> bool
+    requires { Standing p.now }
+    ensures { ReadsHere p.now result }
+{
+    let token = p.cur_token();
+    !token.escaped() && (is_read_word(token.kind()) || is_read_sign(token.kind()))
 }

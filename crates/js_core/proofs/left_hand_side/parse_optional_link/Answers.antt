@@ -1,12 +1,15 @@
-use Rattle.std.proofs.Common.{◌≤◌, arith, ap, ◌∙◌}
+use Rattle.std.proofs.Common.{arith, ap, sym, ◌∙◌}
 use Rattle.std.proofs.lemmas.Result.{err_from_is_err_and}
 use Rattle.js_base.specs.declared.kind.Kind.TheVariants.{LParen, RAngle}
 use Rattle.js_base.specs.Kinds.{same_kind}
 use Rattle.js_cursor.specs.Moves.{is_last}
+use Rattle.js_base.specs.declared.token.Token.{Token}
+use Rattle.js_core.specs.Lexemes.{read_word}
+use Rattle.js_core.proofs.Giving.{gives_up}
 use Rattle.js_core.proofs.Here.{uncut}
 use Rattle.js_core.proofs.Moving.{standing}
 use Rattle.js_core.proofs.Nesting.{nested_room, nests_later}
-use Rattle.js_core.proofs.Members.{no_optional_name, optional_name, optional_outcome, stands_so}
+use Rattle.js_core.proofs.Members.{link_marked, no_name, no_optional_name, optional_name, optional_outcome, stands_so}
 use Rattle.js_core.proofs.left_hand_side.parse_optional_link.Goals as goal
 
 pub advance-requires-clause-whole : goal.advance-requires-clause-whole
@@ -48,3 +51,14 @@ pub returns : goal.returns
 returns t c = λ text f a.
     let m = c.in_ok-advance.ensures text f a in
     optional_name a c.requires.sign m (stands_so c.advance.new.p LParen c.if-stands.false c.stands.ensures) (c.in_ok-name.ensures text f m.at) c.in_ok-node.ensures
+
+pub refuse_optional_link-requires-clause-at : goal.refuse_optional_link-requires-clause-at
+refuse_optional_link-requires-clause-at t c = standing (c.in_ok-advance.ensures _ _ c.requires.at).at
+
+pub refuse_optional_link-requires-clause-mark : goal.refuse_optional_link-requires-clause-mark
+refuse_optional_link-requires-clause-mark t c = link_marked _ c.requires.at c.requires.sign (c.span-sign.ensures ∙ ap (λ (t : Token). t.span) c.cur_token.ensures) (c.in_ok-advance.ensures _ _ c.requires.at)
+
+pub returns-then-lacks_link : goal.returns-then-lacks_link
+returns-then-lacks_link t c = λ text f a.
+    let m = c.in_ok-advance.ensures text f a in
+    no_optional_name a c.requires.sign m _ c.refuse_optional_link.result (stands_so c.advance.new.p LParen c.if-stands.false c.stands.ensures) (gives_up _ _ _ c.refuse_optional_link.result c.refuse_optional_link.ensures (no_name m.at (ap read_word (sym c.cur_kind.ensures) ∙ c.lacks_link.ensures c.if-lacks_link.true)))
