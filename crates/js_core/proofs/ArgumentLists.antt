@@ -4,7 +4,7 @@ use Rattle.std.specs.Prelude.{Result, Ok, Err}
 use Rattle.std.proofs.lemmas.Bool.{false≢true, and_parts, and_from, or_left}
 use Rattle.js_base.specs.declared.diagnostic.Diagnostic.{Diagnostic}
 use Rattle.js_base.specs.declared.kind.Kind.{Kind}
-use Rattle.js_base.specs.declared.kind.Kind.TheVariants.{RAngle, LParen, RParen, LBrack, LCurly, TemplateHead, TemplateMiddle, Comma, PrivateIdentifier}
+use Rattle.js_base.specs.declared.kind.Kind.TheVariants.{RAngle, LParen, RParen, LBrack, RBrack, LCurly, TemplateHead, TemplateMiddle, Comma, PrivateIdentifier}
 use Rattle.js_base.specs.declared.span.Span.{Span}
 use Rattle.js_base.specs.Kinds.{same_kind, one_of_kinds}
 use Rattle.js_base.proofs.KindLemmas.{kind_of_same}
@@ -46,7 +46,7 @@ use Rattle.js_core.specs.States.{At, Same, Standing, flags_of}
 use Rattle.js_core.specs.Nesting.{room}
 use Rattle.js_core.specs.Moves.{Moved, Moves}
 use Rattle.js_core.specs.Answers.{Grown, Verdict, clean, Stretch, Underived, Numbered, Outcome, Answers, Stops}
-use Rattle.js_core.specs.Arguments.{item_of, items, list_of, rest_of, due_of, Partway, Due, FindsDue}
+use Rattle.js_core.specs.Arguments.{item_of, items, list_of, rest_of, due_of, behind_item, NoItem, ItemTaken, TakesItem, Partway, Due, FindsDue}
 use Rattle.js_core.proofs.Conditionals.{plain_sign, other_kind}
 use Rattle.js_core.proofs.Stretches.{stretches}
 use Rattle.js_core.proofs.Dead.{live, lives}
@@ -62,7 +62,7 @@ use Rattle.js_core.proofs.Verdicts.{after as grown_behind}
 no_paren : {text : List ℕ} {s : ℕ} {k : Kind} → NoneIs text s k → (y : Lexeme) → Lex text s y → IsTrue (seen (is k) y) → ⊥
 no_paren {k = k} n y l h = n y l (sym (kind_of_same k y.kind (and_parts (same_kind k y.kind) _ h).0))
 
-is_that : (k : Kind) (y : Lexeme) → (y.kind ≡ k) × (y.escaped ≡ false) → IsTrue (seen (is k) y)
+pub is_that : (k : Kind) (y : Lexeme) → (y.kind ≡ k) × (y.escaped ≡ false) → IsTrue (seen (is k) y)
 is_that k y z = and_from (same_kind k y.kind) (not y.escaped) (subst (λ v. same_kind k v ≡ true) (sym z.0) (same_self k)) (ap not z.1)
 
 is_one : {text : List ℕ} {s : ℕ} {j k : Kind} → AllAre text s k → (k ≡ j → ⊥) → NoneIs text s j
@@ -71,7 +71,7 @@ is_one a n y l e = n (sym (a y l).0 ∙ e)
 -- ---- items
 
 -- an item may be followed by a comma or the closing parenthesis, and begins with neither
-item_ends : (i : Bool) (f : Flags) → covers (starts first_of (after_item true (such (item_of i f) always)) (is RParen)) (surest (item_of i f).name) ≡ true
+item_ends : (i : Bool) (f : Flags) → covers (starts first_of (after_item true (such (item_of i f) always)) (is RParen)) (λ k w e. one_of_kinds (Comma ∷ RParen ∷ RBrack ∷ []) k) ≡ true
 unfolding covers
 item_ends true f = refl
 item_ends false f = refl
@@ -81,22 +81,7 @@ unfolding apart
 item_begins true f = refl
 item_begins false f = refl
 
-argument_left : (f : Flags) → live (rule (at Argument f)) ≡ such (at Assignment (plus_in f)) always
-unfolding rule rule_of apart
-argument_left f = refl
-
 module _ {text : List ℕ} (f : Flags) where
-  argument_goes : {s : ℕ} → Goes rule (Lex text) (after (at Argument f)) end (rule (at Argument f)) s (such (at Assignment (plus_in f)) always) s (λ us. us) (still 0)
-  argument_goes {s} = subst (λ (g : G). Goes rule (Lex text) (after (at Argument f)) end (rule (at Argument f)) s g s (λ us. us) (still 0)) (argument_left f) (lives (rule (at Argument f)))
-
-  item_read : (i : Bool) {s s' : ℕ} {l : Label} {cs : Slots} {pass : Lexemes → Lexemes} → Stretch text (after (at Assignment (plus_in f))) (such (at Assignment (plus_in f)) always) s nothing s' (tree l cs) pass → Stretch text (after (item_of i f)) (such (item_of i f) always) s nothing s' (tree l cs) pass
-  item_read true x = record { reach = max 0 x.reach; near = let i = x.near in omega arith; goes = by_rule {X' = after (at Argument f)} (λ l cs vs y e. e) (argument_goes ▹ weaken_on x.goes (record { admits = λ ts vs k ls rest d e. admits (at Assignment (plus_in f)) ts (here rest) e.1 })) refl }
-  item_read false x = x
-
-  no_item : (i : Bool) {s : ℕ} → Underived text (at Assignment (plus_in f)) s → Underived text (item_of i f) s
-  no_item true x = fails_by (argument_goes ▹✗ weaken_fails_on x (record { admits = λ ts vs k ls rest d e. admits (at Assignment (plus_in f)) ts (here rest) e.1 }))
-  no_item false x = x
-
   module _ (i : Bool) {s : ℕ} where
     no_items : AllAre text s RParen → Fails rule (Lex text) (plain (is RParen)) end (items (item_of i f)) s
     no_items a = fails_here firsts (λ y l h. not_both (first_of (item_of i f)) (is RParen) (item_begins i f) y.kind y.newline y.escaped h (is_that RParen y (a y l)))
@@ -130,13 +115,13 @@ module _ {text : List ℕ} (f : Flags) where
     comma_closed a = record { reach = max 0 0; near = omega arith; goes = part firsts (is RParen) (last_comma (no_items a)) refl ▹ done }
 
     -- an item was read, or none can be
-    item_goes : {s' : ℕ} {l : Label} {cs : Slots} {pass : Lexemes → Lexemes} → Stretch text (after (item_of i f)) (such (item_of i f) always) s nothing s' (tree l cs) pass → Stretch text (plain full) (due_of true (item_of i f)) s (rest_of false (item_of i f)) s' (tree l cs) pass
+    item_goes : {s' : ℕ} {l : Label} {cs : Slots} {pass : Lexemes → Lexemes} → Stretch text behind_item (such (item_of i f) always) s nothing s' (tree l cs) pass → Stretch text (plain full) (due_of true (item_of i f)) s (rest_of false (item_of i f)) s' (tree l cs) pass
     unfolding covers
-    item_goes x = record { reach = max 0 x.reach; near = let i = x.near in omega arith; goes = part firsts (is RParen) (commas_item x.goes (by_first firsts (surely (item_of i f)) (item_ends i f))) refl }
+    item_goes x = record { reach = max 0 x.reach; near = let i = x.near in omega arith; goes = part firsts (is RParen) (commas_item x.goes (by_first firsts (by_plain (λ k w e. one_of_kinds (Comma ∷ RParen ∷ RBrack ∷ []) k)) (item_ends i f))) refl }
 
-    item_fails : Underived text (item_of i f) s → Fails rule (Lex text) (plain full) end (due_of true (item_of i f)) s
+    item_fails : NoItem text (item_of i f) s → Fails rule (Lex text) (plain full) end (due_of true (item_of i f)) s
     unfolding covers
-    item_fails n = part_fails (fails_commas n (by_first firsts (surely (item_of i f)) (item_ends i f))) (by_first firsts (by_plain (is RParen)) refl)
+    item_fails n = part_fails (fails_commas n (by_first firsts (by_plain (λ k w e. one_of_kinds (Comma ∷ RParen ∷ RBrack ∷ []) k)) (item_ends i f))) (by_first firsts (by_plain (is RParen)) refl)
 
 -- ---- a step of the list
 
@@ -244,29 +229,29 @@ module _ {text : List ℕ} {f : Flags} (i : Bool) where
       keeps = subst (λ (ns : List Node). Keeps o.nodes ns) (sym d.nodes) x.keeps;
     }
 
-    pub part_item : {id : NodeId} {ks : List (Option NodeId)} → Partway text f g (due_of true (item_of i f)) o p ids js → Numbered text f (at Assignment (plus_in f)) p q id → ks ≡ js ++ Some id ∷ [] → Partway text f g (rest_of false (item_of i f)) o q ids ks
+    pub part_item : {id : NodeId} {ks : List (Option NodeId)} → Partway text f g (due_of true (item_of i f)) o p ids js → ItemTaken text f (item_of i f) p q id → ks ≡ js ++ Some id ∷ [] → Partway text f g (rest_of false (item_of i f)) o q ids ks
     part_item {id} {ks} x y e = record {
-      at = y.answer.at;
-      same = same_both x.same y.answer.same;
+      at = y.at;
+      same = same_both x.same y.same;
       further = let a = x.further in let b = further in omega arith;
       slots = λ us. x.slots (tree l cs us);
       puts = λ us. x.puts (tree l cs us) ∙ (sym (append_assoc (x.slots end) (tree l cs end) us) ∙ ap (λ (vs : Slots). append vs us) (sym (x.puts (tree l cs end))));
-      pass = λ ls. x.pass (y.answer.pass ls);
-      walked = walked_both x.walked y.answer.walked;
-      verdict = and_then x.verdict y.answer.verdict (λ u v. stretches u (item_goes f i (item_read f i v)) further) (λ n. n) (λ u n. u.goes ▹✗ item_fails f i (no_item f i n));
+      pass = λ ls. x.pass (y.pass ls);
+      walked = walked_both x.walked y.walked;
+      verdict = and_then x.verdict y.verdict (λ u v. stretches u (item_goes f i v) further) (λ n. n) (λ u n. u.goes ▹✗ item_fails f i n);
       holds = λ lo us h. subst (λ (zs : List (Option NodeId)). HoldsAll q.nodes lo (length q.nodes) zs (append us (x.slots (tree l cs end)))) (sym e)
           (subst (λ (vs : Slots). HoldsAll q.nodes lo (length q.nodes) (js ++ Some id ∷ []) vs) (append_assoc us (x.slots end) (tree l cs end) ∙ ap (λ (vs : Slots). append us vs) (sym (x.puts (tree l cs end)))) (HoldsAll-next id y.keeps (x.holds lo us h) y.holds));
       keeps = Keeps-trans x.keeps y.keeps;
     }
       where
         l : Label
-        l = y.answer.label
+        l = y.label
 
         cs : Slots
-        cs = y.answer.slots
+        cs = y.slots
 
         further : p.prev_token_end ≤ q.prev_token_end
-        further = let a = x.at.behind in let b = y.answer.further in omega arith
+        further = let a = x.at.behind in let b = y.further in omega arith
 
     pub part_end : Partway text f g (due_of false (item_of i f)) o p ids js → p.token.kind ≡ RParen → Moved text f p q → Partway text f g nothing o q ids js
     part_end x k m = record {
@@ -285,8 +270,8 @@ module _ {text : List ℕ} {f : Flags} (i : Bool) where
         further : p.prev_token_end ≤ q.prev_token_end
         further = let a = x.at.behind in let b = m.further in omega arith
 
-pub item_stops : {text : List ℕ} {f : Flags} (i : Bool) {g : G} {o p : Parser} {ids js : List (Option NodeId)} (q : Parser) (e : Stop) → Partway text f g (due_of true (item_of i f)) o p ids js → Stops p q e (Underived text (at Assignment (plus_in f)) p.prev_token_end) → Stops o q e (Fails rule (Lex text) (plain full) end g o.prev_token_end)
-item_stops {f = f} i q e x s = stops_behind q e x.same.follows (λ d. grown_behind x.verdict d) (λ n. either_way x.verdict (λ u. u.goes ▹✗ item_fails f i (no_item f i n)) (λ m. m)) s
+pub item_stops : {text : List ℕ} {f : Flags} (i : Bool) {g : G} {o p : Parser} {ids js : List (Option NodeId)} (q : Parser) (e : Stop) → Partway text f g (due_of true (item_of i f)) o p ids js → Stops p q e (NoItem text (item_of i f) p.prev_token_end) → Stops o q e (Fails rule (Lex text) (plain full) end g o.prev_token_end)
+item_stops {f = f} i q e x s = stops_behind q e x.same.follows (λ d. grown_behind x.verdict d) (λ n. either_way x.verdict (λ u. u.goes ▹✗ item_fails f i n) (λ m. m)) s
 
 pub rest_stops : {text : List ℕ} {f : Flags} (i first : Bool) {g : G} {o p : Parser} {ids js : List (Option NodeId)} (q : Parser) (e : Stop) → Partway text f g (rest_of first (item_of i f)) o p ids js → Stops p q e (Fails rule (Lex text) (plain full) end (rest_of first (item_of i f)) p.prev_token_end) → Stops o q e (Fails rule (Lex text) (plain full) end g o.prev_token_end)
 rest_stops i first q e x s = stops_behind q e x.same.follows (λ d. grown_behind x.verdict d) (λ n. either_way x.verdict (λ u. u.goes ▹✗ n) (λ m. m)) s
@@ -311,36 +296,36 @@ still_opened {p} {q} {s} m l o = record {
   before = let b = o.before in omega arith;
 }
 
-pub record ArgumentLoop (opening : Span) (first : Bool) (ids js : List (Option NodeId)) (p q : Parser) : Type 0 where
+pub record ArgumentLoop (i : Bool) (opening : Span) (first : Bool) (ids js : List (Option NodeId)) (p q : Parser) : Type 0 where
   pub at : Standing q
   pub opened : Opened q opening
   pub less : room q < room p
-  pub goes : (text : List ℕ) (f : Flags) → At text f p → (i : Bool) → Partway text f (list_of (item_of i f)) (rest_of first (item_of i f)) p q ids js
+  pub goes : (text : List ℕ) (f : Flags) → At text f p → Partway text f (list_of (item_of i f)) (rest_of first (item_of i f)) p q ids js
 
-pub loop_start : {s : Span} {p q : Parser} (ids : List (Option NodeId)) → s ≡ p.token.span → Standing p → p.token.kind ≡ LParen → Moves p q → ArgumentLoop s true ids ids p q
-loop_start ids e a k m = record {
+pub loop_start : (i : Bool) {s : Span} {p q : Parser} (ids : List (Option NodeId)) → s ≡ p.token.span → Standing p → p.token.kind ≡ LParen → Moves p q → ArgumentLoop i s true ids ids p q
+loop_start i ids e a k m = record {
   at = standing (m _ _ a).at;
   opened = paren_opened e a k (m _ _ a);
   less = nested_room a (m _ _ a);
-  goes = λ text f b i. part_start i ids b k (m text f b);
+  goes = λ text f b. part_start i ids b k (m text f b);
 }
 
 -- what was found due
-pub due_found : {s : Span} {first due : Bool} {ids js : List (Option NodeId)} {p q r : Parser} → ArgumentLoop s first ids js p q → FindsDue first q r (Ok due) → (Standing r) × (Opened r s) × (room r < room p)
+pub due_found : {i : Bool} {s : Span} {first due : Bool} {ids js : List (Option NodeId)} {p q r : Parser} → ArgumentLoop i s first ids js p q → FindsDue first q r (Ok due) → (Standing r) × (Opened r s) × (room r < room p)
 due_found l d =
     let x = d _ _ l.at in
     (standing x.at, still_opened x.same x.forward l.opened, let a = later_room x.forward x.same in let b = l.less in omega arith)
 
-pub loop_item : {s : Span} {first : Bool} {ids js ks : List (Option NodeId)} {p q r v : Parser} {id : NodeId} → ArgumentLoop s first ids js p q → FindsDue first q r (Ok true) → Answers (λ f. at Assignment (plus_in f)) r v (Ok id) → ks ≡ js ++ Some id ∷ [] → ArgumentLoop s false ids ks p v
-loop_item {r = r} {v = v} l d y e =
+pub loop_item : {i : Bool} {s : Span} {first : Bool} {ids js ks : List (Option NodeId)} {p q r v : Parser} {id : NodeId} → ArgumentLoop i s first ids js p q → FindsDue first q r (Ok true) → TakesItem i r v (Ok id) → ks ≡ js ++ Some id ∷ [] → ArgumentLoop i s false ids ks p v
+loop_item {i} {r = r} {v = v} l d y e =
     let z = due_found l d in
     let x = y _ _ z.0 in
-    let further : r.prev_token_end ≤ v.prev_token_end = (let a = z.0.behind in let b = x.answer.further in omega arith) in
+    let further : r.prev_token_end ≤ v.prev_token_end = (let a = z.0.behind in let b = x.further in omega arith) in
     record {
-      at = standing x.answer.at;
-      opened = still_opened x.answer.same further z.1;
-      less = let a = later_room further x.answer.same in let b = z.2 in omega arith;
-      goes = λ text f a i. let u = part_due i (l.goes text f a i) (d text f (l.goes text f a i).at) in part_item i u (y text f u.at) e;
+      at = standing x.at;
+      opened = still_opened x.same further z.1;
+      less = let a = later_room further x.same in let b = z.2 in omega arith;
+      goes = λ text f a. let u = part_due i (l.goes text f a) (d text f (l.goes text f a).at) in part_item i u (y text f u.at) e;
     }
 
 abbrev pub is_due : ListStep → Bool
@@ -360,11 +345,11 @@ not_due (inl e) = ap is_due e
 not_due (inr z) = ap is_due z.1
 
 -- behind an item there is less of the text left
-pub item_less : {s : Span} {first due : Bool} {ids js : List (Option NodeId)} {p q r v : Parser} {id : NodeId} → ArgumentLoop s first ids js p q → FindsDue first q r (Ok due) → Answers (λ f. at Assignment (plus_in f)) r v (Ok id) → room v < room q
+pub item_less : {i : Bool} {s : Span} {first due : Bool} {ids js : List (Option NodeId)} {p q r v : Parser} {id : NodeId} → ArgumentLoop i s first ids js p q → FindsDue first q r (Ok due) → TakesItem i r v (Ok id) → room v < room q
 item_less l d y =
     let x = d _ _ l.at in
     let u = standing x.at in
-    let z = (y _ _ u).answer in
+    let z = y _ _ u in
     let a = x.forward in let b = z.further in let c = u.behind in let e = u.at.between.0 in let g = z.same.follows.text in let h = x.same.follows.text in let i = z.at.at.between.0 in omega (arith, ap length g, ap length h)
 
 -- the closing parenthesis

@@ -63,6 +63,7 @@ use Rattle.js_core.specs.Arrows.{arrow_body, head_of, late_arrow, ArrowBehind, C
 use Rattle.js_core.specs.Lexemes.{Lex, is_read, read_kinds, spot}
 use Rattle.js_core.specs.Moves.{Moved, MadeHere, LeafTaken, TakesLeaf, plain_label}
 use Rattle.js_core.specs.States.{At, Same, Standing, flags_of, IsPlain, whole, sign, nothing as nothing_here}
+use Rattle.js_core.proofs.ArraysBeforeSigns.{not_wide}
 use Rattle.js_core.proofs.Assigned.{arrow_passes, only_arrow}
 use Rattle.js_core.proofs.Assignments.{by_second, second}
 use Rattle.js_core.proofs.Conditionals.{conditional_none, other_kind, plain_sign}
@@ -474,7 +475,7 @@ module _ {text : List ℕ} {f : Flags} {o p : Parser} {id : NodeId} (h : Head te
       no_operand f (h.read.goes.passes.lexed (last y.0) y.1) z.1 z.2 y.2
 
   to_arrow : Goes rule (Lex text) (after (at Assignment f)) end (rule (at Assignment f)) o.prev_token_end (such (at Arrow' f) always) o.prev_token_end (λ us. us) (still 0)
-  to_arrow = only_arrow f (conditional_none f head_is_none) head_is_none
+  to_arrow = only_arrow f (not_wide h.at) (conditional_none f head_is_none) head_is_none
 
   -- behind two slots may stand what may stand behind the second one
   inside_arrow : Inside rule arrow_made (after (at Assignment f)) (second f) end (arrow_slots f) o.prev_token_end

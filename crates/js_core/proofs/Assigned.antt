@@ -1,5 +1,5 @@
 -- Assignments to simple targets (ECMA-262, 13.15), and where none stands.
-use Rattle.std.proofs.Common.{ℕ, ◌≡◌, ◌≤◌, ◌<◌, List, [], ◌∷◌, length, Bool, true, false, not, ◌&&◌, ◌||◌, IsTrue, Option, Some, None, refl, sym, ap, subst, arith, ◌∙◌}
+use Rattle.std.proofs.Common.{ℕ, ◌≡◌, ◌≤◌, ◌<◌, ◌⊎◌, inl, inr, List, [], ◌∷◌, length, Bool, true, false, not, ◌&&◌, ◌||◌, IsTrue, Option, Some, None, refl, sym, ap, subst, arith, ◌∙◌}
 use Rattle.std.proofs.lemmas.Bool.{false≢true, and_parts, and_from, or_left, or_right}
 use Rattle.js_base.specs.declared.kind.Kind.{Kind}
 use Rattle.js_base.specs.declared.kind.Kind.TheVariants.{Eq, RAngle, PrivateIdentifier}
@@ -24,6 +24,8 @@ use Rattle.js_core.specs.Answers.{Underived, Answer}
 use Rattle.js_core.specs.Lexemes.{Lex, read_kinds}
 use Rattle.js_core.specs.Targets.{target_of}
 use Rattle.js_core.proofs.Covers.{row_of_target, target_path, target_fails, target_unread}
+use Rattle.js_core.proofs.ArraysBeforeSigns.{array_part, no_array_part, no_array_unread}
+use Rattle.js_core.specs.Targets.{is_array}
 use Rattle.js_core.proofs.Dead.{live, lives}
 use Rattle.js_core.proofs.Paths.{Path, ◌⟶✗◌}
 use Rattle.js_core.proofs.Targets.{of_short}
@@ -101,11 +103,11 @@ assign_slots f o = symbol SimpleTarget f ▸ behind_target f o
 abbrev pub assign_part : Flags → Kind → G
 assign_part f o = op assignment_expression o (assign_slots f o)
 
-pub assignment_left : (f : Flags) → live (rule (at Assignment f)) ≡ alt (such (at Conditional f) always) (alt (such (at Arrow' f) always) (branches assign_operators (assign_part f)))
+pub assignment_left : (f : Flags) → live (rule (at Assignment f)) ≡ alt (such (at Conditional f) always) (alt (such (at Arrow' f) always) (alt (branches assign_operators (assign_part f)) (array_part f)))
 unfolding rule rule_of apart
 assignment_left f = refl
 
-pub to_choice : {text : List ℕ} (f : Flags) (s : ℕ) → Goes rule (Lex text) (after (at Assignment f)) end (rule (at Assignment f)) s (alt (such (at Conditional f) always) (alt (such (at Arrow' f) always) (branches assign_operators (assign_part f)))) s (λ us. us) (still 0)
+pub to_choice : {text : List ℕ} (f : Flags) (s : ℕ) → Goes rule (Lex text) (after (at Assignment f)) end (rule (at Assignment f)) s (alt (such (at Conditional f) always) (alt (such (at Arrow' f) always) (alt (branches assign_operators (assign_part f)) (array_part f)))) s (λ us. us) (still 0)
 to_choice {text} f s = subst (λ (g : G). Goes rule (Lex text) (after (at Assignment f)) end (rule (at Assignment f)) s g s (λ us. us) (still 0)) (assignment_left f) (lives (rule (at Assignment f)))
 
 pub arrow_passes : passes_on Assignment Arrow' ≡ true
@@ -113,7 +115,7 @@ unfolding covers
 arrow_passes = refl
 
 -- where no arrow function is derived
-to_parts : {text : List ℕ} (f : Flags) (s : ℕ) → Underived text (at Arrow' f) s → Goes rule (Lex text) (after (at Assignment f)) end (rule (at Assignment f)) s (alt (such (at Conditional f) always) (branches assign_operators (assign_part f))) s (λ us. us) (still 0)
+to_parts : {text : List ℕ} (f : Flags) (s : ℕ) → Underived text (at Arrow' f) s → Goes rule (Lex text) (after (at Assignment f)) end (rule (at Assignment f)) s (alt (such (at Conditional f) always) (alt (branches assign_operators (assign_part f)) (array_part f))) s (λ us. us) (still 0)
 to_parts f s n = to_choice f s ▹ both stay (right (weaken_fails_on n (same_read (at Assignment f) (at Arrow' f) arrow_passes refl)))
 
 assign_follows : (b : Bool) → covers an_assign (looser 4 b after_expression) ≡ true
@@ -151,21 +153,25 @@ is_sign o y h s = let z = and_parts (same_kind o y.kind) (not y.escaped) s in an
 
 -- no assignment operator stands behind a ShortCircuitExpression
 pub unassigned : {text : List ℕ} {f : Flags} {p q : Parser} → Underived text (at Arrow' f) p.prev_token_end → Answer text f (at Short f) p q → ((y : Lexeme) → Lex text q.prev_token_end y → IsTrue (seen an_assign y) → ⊥) → Goes rule (Lex text) (after (at Assignment f)) end (rule (at Assignment f)) p.prev_token_end (such (at Conditional f) always) p.prev_token_end (λ us. us) (still 0)
-unassigned {f = f} {p = p} a x n = to_parts f p.prev_token_end a ▹ left (no_branch (assign_part f) assign_operators (λ o h. fails_node inside_full (no_assign_slots x (plain full) o h (λ y l s. n y l (is_sign o y h s)))))
+unassigned {f = f} {p = p} a x n = to_parts f p.prev_token_end a ▹ left (fails_alt (no_branch (assign_part f) assign_operators (λ o h. fails_node inside_full (no_assign_slots x (plain full) o h (λ y l s. n y l (is_sign o y h s))))) (fails_node inside_full (no_array_part x (inr (λ y l s. n y l (is_sign Eq y refl s))))))
 
-no_assignment : {text : List ℕ} {X : Test} (f : Flags) {s : ℕ} → Underived text (at Short f) s → Fails rule (Lex text) X end (branches assign_operators (assign_part f)) s
-no_assignment f {s} x = no_branch (assign_part f) assign_operators (λ o h. fails_node inside_full (part_fails (target_unread (of_short f) (assign_heads f) x) (before_sign f o h (plain full) s)))
+no_assignment : {text : List ℕ} {X : Test} (f : Flags) {s : ℕ} → f.wide ≡ false → Underived text (at Short f) s → Fails rule (Lex text) X end (alt (branches assign_operators (assign_part f)) (array_part f)) s
+no_assignment f {s} w x = fails_alt (no_branch (assign_part f) assign_operators (λ o h. fails_node inside_full (part_fails (target_unread (of_short f) (assign_heads f) x) (before_sign f o h (plain full) s)))) (fails_node inside_full (no_array_unread w x))
 
 -- where neither a conditional expression nor a target begins, an arrow function is left
-pub only_arrow : {text : List ℕ} (f : Flags) {s : ℕ} → Fails rule (Lex text) (after (at Assignment f)) end (such (at Conditional f) always) s → Underived text (at Short f) s → Goes rule (Lex text) (after (at Assignment f)) end (rule (at Assignment f)) s (such (at Arrow' f) always) s (λ us. us) (still 0)
-only_arrow f {s} c x = to_choice f s ▹ (right c ▹ left (no_assignment f x))
+pub only_arrow : {text : List ℕ} (f : Flags) {s : ℕ} → f.wide ≡ false → Fails rule (Lex text) (after (at Assignment f)) end (such (at Conditional f) always) s → Underived text (at Short f) s → Goes rule (Lex text) (after (at Assignment f)) end (rule (at Assignment f)) s (such (at Arrow' f) always) s (λ us. us) (still 0)
+only_arrow f {s} w c x = to_choice f s ▹ (right c ▹ left (no_assignment f w x))
 
-pub nothing_assigned : {text : List ℕ} (f : Flags) {s : ℕ} → Underived text (at Arrow' f) s → Underived text (at Short f) s → Goes rule (Lex text) (after (at Assignment f)) end (rule (at Assignment f)) s (such (at Conditional f) always) s (λ us. us) (still 0)
-nothing_assigned f {s} a x = to_parts f s a ▹ left (no_assignment f x)
+pub nothing_assigned : {text : List ℕ} (f : Flags) {s : ℕ} → f.wide ≡ false → Underived text (at Arrow' f) s → Underived text (at Short f) s → Goes rule (Lex text) (after (at Assignment f)) end (rule (at Assignment f)) s (such (at Conditional f) always) s (λ us. us) (still 0)
+nothing_assigned f {s} w a x = to_parts f s a ▹ left (no_assignment f w x)
 
 -- one stands there
 all_distinct : distinct assign_operators ≡ true
 all_distinct = refl
 
-pub assigned : {text : List ℕ} {f : Flags} {p q : Parser} → Underived text (at Arrow' f) p.prev_token_end → Answer text f (at Short f) p q → (o : Kind) → one_of_kinds assign_operators o ≡ true → ((y : Lexeme) → Lex text q.prev_token_end y → y.kind ≡ o) → Fails rule (Lex text) (after (at Assignment f)) end (such (at Conditional f) always) p.prev_token_end → Goes rule (Lex text) (after (at Assignment f)) end (rule (at Assignment f)) p.prev_token_end (assign_part f o) p.prev_token_end (λ us. us) (still 0)
-assigned {f = f} {p = p} a x o h k n = to_parts f p.prev_token_end a ▹ (right n ▹ one_branch (assign_part f) assign_operators o h all_distinct (λ i m d. fails_node inside_full (no_assign_slots x (plain full) i m (λ y l s. false≢true (sym d ∙ subst (λ (v : Kind). same_kind i v ≡ true) (k y l) (and_parts (same_kind i y.kind) (not y.escaped) s).0)))))
+pub assigned : {text : List ℕ} {f : Flags} {p q : Parser} → Underived text (at Arrow' f) p.prev_token_end → (x : Answer text f (at Short f) p q) → (o : Kind) → one_of_kinds assign_operators o ≡ true → ((y : Lexeme) → Lex text q.prev_token_end y → y.kind ≡ o) → Fails rule (Lex text) (after (at Assignment f)) end (such (at Conditional f) always) p.prev_token_end → (is_array x.label.kind ≡ false) ⊎ (same_kind Eq o ≡ false) → Goes rule (Lex text) (after (at Assignment f)) end (rule (at Assignment f)) p.prev_token_end (assign_part f o) p.prev_token_end (λ us. us) (still 0)
+assigned {text} {f} {p} {q} a x o h k n b = to_parts f p.prev_token_end a ▹ (right n ▹ (left (fails_node inside_full (no_array_part x (other b))) ▹ one_branch (assign_part f) assign_operators o h all_distinct (λ i m d. fails_node inside_full (no_assign_slots x (plain full) i m (λ y l s. false≢true (sym d ∙ subst (λ (v : Kind). same_kind i v ≡ true) (k y l) (and_parts (same_kind i y.kind) (not y.escaped) s).0))))))
+  where
+    other : (is_array x.label.kind ≡ false) ⊎ (same_kind Eq o ≡ false) → (is_array x.label.kind ≡ false) ⊎ ((y : Lexeme) → Lex text q.prev_token_end y → IsTrue (seen (is Eq) y) → ⊥)
+    other (inl e) = inl e
+    other (inr e) = inr (λ y l s. false≢true (sym e ∙ subst (λ (v : Kind). same_kind Eq v ≡ true) (k y l) (and_parts (same_kind Eq y.kind) (not y.escaped) s).0))

@@ -1,17 +1,17 @@
 -- Answers of assignments (ECMA-262, 13.15).
-use Rattle.std.proofs.Common.{ℕ, ◌≡◌, ◌≤◌, ◌<◌, inl, inr, List, [], ◌∷◌, length, Bool, true, false, not, ◌&&◌, ◌||◌, IsTrue, Option, Some, None, refl, sym, ap, subst, arith, ◌∙◌}
+use Rattle.std.proofs.Common.{ℕ, ◌≡◌, ◌≤◌, ◌<◌, ◌⊎◌, inl, inr, List, [], ◌∷◌, length, Bool, true, false, not, ◌&&◌, ◌||◌, IsTrue, Option, Some, None, refl, sym, ap, subst, arith, ◌∙◌}
 use Rattle.std.specs.Prelude.{IsCharBoundary, IsSome, is_some, if◌then◌else◌}
 use Rattle.std.proofs.lemmas.Bool.{false≢true, and_parts, and_from, or_left}
 use Rattle.js_base.specs.declared.diagnostic.Diagnostic.{Diagnostic}
 use Rattle.js_base.specs.declared.kind.Kind.{Kind}
-use Rattle.js_base.specs.declared.kind.Kind.TheVariants.{Question, RAngle, LBrack, LCurly}
+use Rattle.js_base.specs.declared.kind.Kind.TheVariants.{Question, RAngle, Eq}
 use Rattle.js_base.specs.declared.operator.AssignmentOperator.{AssignmentOperator}
 use Rattle.js_base.specs.declared.span.Span.{Span}
 use Rattle.js_base.specs.Kinds.{same_kind, one_of_kinds}
 use Rattle.js_base.specs.Operators.{row_of as row_in, assignment_operators}
 use Rattle.js_base.proofs.KindLemmas.{kind_of_same}
 use Rattle.js_grammar.specs.Trees.{Span as TreeSpan, Label, Slots, end, tree, Tree, of, assignment_expression}
-use Rattle.js_grammar.specs.Grammar.{Lexeme, Lexemes, Look, here, seen, such, nothing, exact, Takes, Derives, is_seq, is_lexeme, is_such, is_left, is_right}
+use Rattle.js_grammar.specs.Grammar.{Lexeme, Lexemes, last, Look, here, seen, such, nothing, exact, Takes, Derives, is_seq, is_lexeme, is_such, is_left, is_right}
 use Rattle.js_grammar.specs.Insertion.{Row, after_expression, assign_operators}
 use Rattle.js_grammar.specs.Lexemes.{is_escaped}
 use Rattle.js_grammar.specs.Marks.{Mark, UnderivedAt}
@@ -43,7 +43,11 @@ use Rattle.js_core.specs.States.{At, Same}
 use Rattle.js_core.specs.Targets.{target_of, TargetNode}
 use Rattle.js_core.proofs.Assigned.{an_assign, Assigns, assigns, assign_slots, assign_part, then_assign, not_target, assigned}
 use Rattle.js_core.proofs.Conditionals.{no_conditional, other_kind}
-use Rattle.js_core.proofs.Covers.{row_of_target, Untargeted, no_target_there}
+use Rattle.js_core.proofs.ArrayTargets.{object_dead}
+use Rattle.js_core.proofs.ArraysBeforeSigns.{no_array_there, not_wide, target_no_array}
+use Rattle.js_core.proofs.Dead.{AllRead, all_read, none}
+use Rattle.js_core.specs.Targets.{is_array}
+use Rattle.js_core.proofs.Covers.{row_of_target, lexed_there, no_simple_there, underived_there}
 use Rattle.js_core.proofs.Here.{told, found}
 use Rattle.js_core.proofs.MadeNodes.{two_held}
 use Rattle.js_core.proofs.Moving.{same_both, same_itself}
@@ -107,22 +111,23 @@ module _ {text : List ℕ} {f : Flags} {p q : Parser} (x : Answer text f (at Sho
   no_question : one_of_kinds (Question ∷ []) q.token.kind ≡ false
   no_question = other_kind Question q.token.kind (λ e. false≢true (subst (λ (k : Kind). one_of_kinds assign_operators k ≡ true) e u))
 
-  to_assign : Goes rule (Lex text) (after (at Assignment f)) end (rule (at Assignment f)) p.prev_token_end (assign_part f q.token.kind) p.prev_token_end (λ us. us) (still 0)
-  to_assign = assigned na x q.token.kind u sign_here (no_conditional x no_question all_assign)
+  -- an array literal before `=` aside
+  to_assign : (is_array x.label.kind ≡ false) ⊎ (same_kind Eq q.token.kind ≡ false) → Goes rule (Lex text) (after (at Assignment f)) end (rule (at Assignment f)) p.prev_token_end (assign_part f q.token.kind) p.prev_token_end (λ us. us) (still 0)
+  to_assign b = assigned na x q.token.kind u sign_here (no_conditional x no_question all_assign) b
 
   -- the left side is no target
-  pub assign_refused : target_of x.label x.slots ≡ None → Underived text (at Assignment f) p.prev_token_end
-  assign_refused e = fails_by (to_assign ▹✗ fails_node (inside_second f q.token.kind p.prev_token_end) (not_target x (second f) q.token.kind u e))
+  pub assign_refused : (is_array x.label.kind ≡ false) ⊎ (same_kind Eq q.token.kind ≡ false) → target_of x.label x.slots ≡ None → Underived text (at Assignment f) p.prev_token_end
+  assign_refused b e = fails_by (to_assign b ▹✗ fails_node (inside_second f q.token.kind p.prev_token_end) (not_target x (second f) q.token.kind u e))
 
   module _ {r : Parser} (m : Moved text f q r) (t : Tree) (e : target_of x.label x.slots ≡ Some t) where
     sign_read : Path text f (second f) (assign_slots f q.token.kind) p (symbol Assignment f) r (tree t.label t.slots)
     sign_read = then_assign x (second f) q.token.kind u t e ⟶ token q.token.kind x.at refl plain_here (assigns q.token.kind u).is_read m
 
     pub right_fails : Underived text (at Assignment f) r.prev_token_end → Underived text (at Assignment f) p.prev_token_end
-    right_fails n = fails_by (to_assign ▹✗ fails_node (inside_second f q.token.kind p.prev_token_end) (sign_read ⟶✗ weaken_fails_on n (on_second f t.label t.slots r.prev_token_end)))
+    right_fails n = fails_by (to_assign (inl (target_no_array x.label x.slots t e)) ▹✗ fails_node (inside_second f q.token.kind p.prev_token_end) (sign_read ⟶✗ weaken_fails_on n (on_second f t.label t.slots r.prev_token_end)))
 
     assign_path : {w : Parser} → At text f p → (y : Answer text f (at Assignment f) r w) → Path text f (after (at Assignment f)) (rule (at Assignment f)) p nothing w (tree (label_here assignment_expression (of q.token.kind) p w) (tree t.label t.slots (tree y.label y.slots end)))
-    assign_path a y = to_assign ⟼ noded_by a (inside_second f q.token.kind p.prev_token_end) (sign_read ⟶ last_called y (on_second f t.label t.slots r.prev_token_end))
+    assign_path a y = to_assign (inl (target_no_array x.label x.slots t e)) ⟼ noded_by a (inside_second f q.token.kind p.prev_token_end) (sign_read ⟶ last_called y (on_second f t.label t.slots r.prev_token_end))
 
 -- ---- the tables
 
@@ -138,7 +143,7 @@ of_all : (P : Kind → Type 0) (ks : List Kind) (k : Kind) → AllOf P ks → on
 of_all P [] k a h = absurd (false≢true h)
 of_all P (j ∷ ks) k a h = here_or_later P j ks k (same_kind j k) refl h a.0 (λ m. of_all P ks k a.1 m)
 
-assign_named : (k : Kind) (o : AssignmentOperator) → one_of_kinds assign_operators k ≡ true → row_in assignment_operators k ≡ Some o → assignment_kind o ≡ k
+pub assign_named : (k : Kind) (o : AssignmentOperator) → one_of_kinds assign_operators k ≡ true → row_in assignment_operators k ≡ Some o → assignment_kind o ≡ k
 assign_named k o h = of_all (λ k. row_in assignment_operators k ≡ Some o → assignment_kind o ≡ k) assign_operators k (λ e. cc, (λ e. cc, (λ e. cc, (λ e. cc, (λ e. cc, (λ e. cc, (λ e. cc, (λ e. cc, (λ e. cc, (λ e. cc, (λ e. cc, (λ e. cc, (λ e. cc, (λ e. cc, (λ e. cc, (λ e. cc, tt)))))))))))))))) h
 
 kinds_in : List (Kind × AssignmentOperator) → List Kind
@@ -178,27 +183,19 @@ assign_answers {text} {f} {p} {q} {r} {w} {z} {left} {target} {second} {id} {o} 
 
 -- ---- what is told of a left side that is no target
 
-begins_array : (f : Flags) → apart (first (at ArrayTarget f)) reads ≡ true
-unfolding apart
-begins_array f = refl
-
-begins_object : (f : Flags) → apart (first (at ObjectTarget f)) reads ≡ true
-unfolding apart
-begins_object f = refl
-
-no_target : (f : Flags) {i j : ℕ} {ls rest : Lexemes} → IsTrue (is_read (here ls)) → ((t : Tree) → Derives rule (at SimpleTarget f) t i ls j rest → ⊥) → (t : Tree) → Derives rule (at Target f) t i ls j rest → ⊥
+no_target : (f : Flags) {i j : ℕ} {ls rest : Lexemes} → AllRead ls → ((t : Tree) → Derives rule (at SimpleTarget f) t i ls j rest → ⊥) → ((t : Tree) → Takes rule (symbol ArrayTarget f) end (tree t.label t.slots end) i ls end j rest → ⊥) → (t : Tree) → Derives rule (at Target f) t i ls j rest → ⊥
 unfolding rule rule_of
-no_target f r n t (is_left (is_such d c)) = n t d
-no_target f {ls = ls} r n t (is_right (is_left (is_such d c))) = not_both (first (at ArrayTarget f)) reads (begins_array f) (here ls).kind (here ls).newline (here ls).escaped (begins (at ArrayTarget f) t d) r
-no_target f {ls = ls} r n t (is_right (is_right (is_such d c))) = not_both (first (at ObjectTarget f)) reads (begins_object f) (here ls).kind (here ls).newline (here ls).escaped (begins (at ObjectTarget f) t d) r
+no_target f r n m t (is_left (is_such d c)) = n t d
+no_target f r n m t (is_right (is_left d)) = m t d
+no_target f r n m t (is_right (is_right d)) = none d (object_dead f) r
 
 short_follows : (b : Bool) → covers an_assign (looser 4 b after_expression) ≡ true
 unfolding covers
 short_follows true = refl
 short_follows false = refl
 
-pub assign_marked : {text : List ℕ} {f : Flags} {p q : Parser} → At text f p → (x : Answer text f (at Short f) p q) → q.cut ≡ false → one_of_kinds assign_operators q.token.kind ≡ true → target_of x.label x.slots ≡ None → (start : ℕ) → start ≡ p.token.span.start → length q.errors ≡ length p.errors → Mark (goal q) q.text (no_target_at start q.prev_token_end)
-assign_marked {text} {f} {p} {q} a x c u e start d k = subst (λ (v : List ℕ). Mark (goal q) v (no_target_at start q.prev_token_end)) (sym x.at.text_is) it
+pub assign_marked : {text : List ℕ} {f : Flags} {p q : Parser} → At text f p → (x : Answer text f (at Short f) p q) → q.cut ≡ false → one_of_kinds assign_operators q.token.kind ≡ true → is_array x.label.kind ≡ false → target_of x.label x.slots ≡ None → (start : ℕ) → start ≡ p.token.span.start → length q.errors ≡ length p.errors → Mark (goal q) q.text (no_target_at start q.prev_token_end)
+assign_marked {text} {f} {p} {q} a x c u b e start d k = subst (λ (v : List ℕ). Mark (goal q) v (no_target_at start q.prev_token_end)) (sym x.at.text_is) it
   where
     g : Assigns q.token.kind
     g = assigns q.token.kind u
@@ -214,13 +211,15 @@ assign_marked {text} {f} {p} {q} a x c u e start d k = subst (λ (v : List ℕ).
 
     it : Mark (goal q) text (no_target_at start q.prev_token_end)
     it =
-        let v = no_target_there (of_short f) x a (none_kept x.verdict k) e stood.0 stood.1 follows (record { start = start; end = q.prev_token_end }) d refl in
+        let z = none_kept x.verdict k in
+        let sign : IsTrue (seen an_assign stood.0) = and_from _ _ (subst (λ (v : Kind). one_of_kinds assign_operators v ≡ true) (sym stood.2) u) (ap not (read_plain stood.0 stood.1.1)) in
+        let m = lexed_there x a z stood.0 stood.1 in
         record {
           ordered = let i = x.further in omega arith;
           within = (subst (λ (v : List ℕ). IsCharBoundary v q.prev_token_end) x.at.text_is x.at.at.between).0;
           begins_between = subst (λ (v : ℕ). IsCharBoundary text v) (sym d) (subst (λ (v : List ℕ). IsCharBoundary v p.token.span.start) a.text_is a.at.lies.starts_whole);
           ends_between = subst (λ (v : List ℕ). IsCharBoundary v q.prev_token_end) x.at.text_is x.at.at.between;
-          stands = (inr (record { place = v.there.place; lexemes = v.there.lexemes; rest = v.there.rest; part = v.there.part; begins = v.there.begins; front = v.there.front; flags = v.there.flags; none = λ t h. no_target v.there.flags v.first_read v.there.none t h }), (refl, refl));
+          stands = (inr (underived_there x a z stood.0 stood.1 f Target (record { start = start; end = q.prev_token_end }) d refl (λ t h. no_target f (all_read text p.prev_token_end (x.pass (last stood.0)) m) (λ t h. no_simple_there x a z stood.0 stood.1 (of_short f) e follows t h) (λ t h. no_array_there (not_wide a) z b stood.0 m sign h) t h)), (refl, refl));
         }
 
 pub assign_whole : {text : List ℕ} {f : Flags} {p q : Parser} {power : ℕ} → Tightness text f p q power → one_of_kinds assign_operators q.token.kind ≡ true → (q.cut ≡ false) × (is_last q.token.kind ≡ false)

@@ -6,9 +6,9 @@ use Rattle.js_grammar.specs.Grammar.{Lexeme, Lexemes, last, next, here, seen, su
 use Rattle.js_grammar.specs.Insertion.{after_expression}
 use Rattle.js_grammar.specs.LexicalFaults.{Reached}
 use Rattle.js_grammar.specs.Lexed.{Lexes, Lex as StandsBehind, all_faults}
-use Rattle.js_grammar.specs.Marks.{Front, one, more, UnderivedAt}
+use Rattle.js_grammar.specs.Marks.{Front, Part, one, more, UnderivedAt}
 use Rattle.js_grammar.specs.Parsing.{Test, Admits, always, Way, Reads, Fails}
-use Rattle.js_grammar.specs.Productions.{Flags, Symbol, at, LeftHandSide, SimpleTarget}
+use Rattle.js_grammar.specs.Productions.{Flags, Name, Symbol, at, LeftHandSide, SimpleTarget}
 use Rattle.js_grammar.specs.Table.{rule}
 use Rattle.js_grammar.specs.Follow.{edge_of, row_of, follow, after}
 use Rattle.js_grammar.proofs.Calculus.{ends, here_at, label_is, slots_are}
@@ -116,7 +116,7 @@ front_of : {text : List ℕ} {s s' : Spot} {pass : Lexemes → Lexemes} → Walk
 front_of nowhere h = h
 front_of (one_more w l k) h = front_of w (more h)
 
-front : {text : List ℕ} {s s' : Spot} {pass : Lexemes → Lexemes} → Walked text s s' pass → s.place < s'.place → (ms : Lexemes) → Front s'.place (pass ms) ms
+pub front : {text : List ℕ} {s s' : Spot} {pass : Lexemes → Lexemes} → Walked text s s' pass → s.place < s'.place → (ms : Lexemes) → Front s'.place (pass ms) ms
 front nowhere h ms = absurd (omega arith)
 front (one_more w l k) h ms = front_of w (one refl)
 
@@ -124,36 +124,43 @@ all_stand : (text : List ℕ) (s : ℕ) (ls : Lexemes) → Lexes (Lex text) s ls
 all_stand text s (last x) l = l.0
 all_stand text s (next x ls) l = (l.0.0, all_stand text x.to ls l.1)
 
+-- the lexemes that were read, with the one behind them
+module _ {text : List ℕ} {g : Flags} {n : Symbol} {p q : Parser} (x : Answer text g n p q) (a : At text g p) (z : Stretch text (after n) (such n always) p.prev_token_end nothing q.prev_token_end (tree x.label x.slots) x.pass) (y : Lexeme) (l : Lex text q.prev_token_end y) where
+  pub lexed_there : Lexes (Lex text) p.prev_token_end (x.pass (last y))
+  lexed_there = z.goes.passes.lexed (last y) l
+
+  pub part_there : Part text p.prev_token_end (x.pass (last y))
+  part_there = record { reached = subst (λ (v : List ℕ). Reached v p.prev_token_end) a.text_is a.at.reached; lexed = all_stand text p.prev_token_end (x.pass (last y)) lexed_there }
+
+  pub begins_there : (here (x.pass (last y))).from ≡ p.token.span.start
+  begins_there = begins_here a (here (x.pass (last y))) (here_at (Lex text) (x.pass (last y)) lexed_there)
+
+  -- what isn't derived from them
+  abbrev pub underived_there : (f : Flags) (m : Name) (s : Span) → s.start ≡ p.token.span.start → s.end ≡ q.prev_token_end → ((t : Tree) → Derives rule (at m f) t p.prev_token_end (x.pass (last y)) q.prev_token_end (last y) → ⊥) → UnderivedAt m text s
+  underived_there f m s b c none = record {
+    place = p.prev_token_end;
+    lexemes = x.pass (last y);
+    rest = last y;
+    part = part_there;
+    begins = begins_there ∙ sym b;
+    front = subst (λ (v : ℕ). Front v (x.pass (last y)) (last y)) (sym c) (front x.walked (let i = x.further in let j = a.behind in omega arith) (last y));
+    flags = f;
+    none = λ t d. none t (subst (λ (v : ℕ). Derives rule (at m f) t p.prev_token_end (x.pass (last y)) v (last y)) c d);
+  }
+
+  -- no target is, where what was read has none
+  pub no_simple_there : {f : Flags} → Passes n (at LeftHandSide f) → target_of x.label x.slots ≡ None → ((l : Label) (cs : Slots) (t : Tree) → target_of l cs ≡ Some t → IsTrue (seen (follow n (edge_of l cs)) y)) → (t : Tree) → Derives rule (at SimpleTarget f) t p.prev_token_end (x.pass (last y)) q.prev_token_end (last y) → ⊥
+  no_simple_there w e h t d =
+      let u = of_derived w {ks = end} {us = end} t d in
+      let v = z.goes.only (tree u.label u.slots end) end q.prev_token_end (x.pass (last y)) (last y) lexed_there u.takes (admits n (tree u.label u.slots end) y (h u.label u.slots t u.has)) in
+      let k : None ≡ Some t = sym e ∙ (sym (λ i. target_of (label_is v.2 i) (slots_are v.2 i)) ∙ u.has) in cc
+
 pub record Untargeted (text : List ℕ) (s : Span) (place : ℕ) (y : Lexeme) : Type 0 where
   pub there : UnderivedAt SimpleTarget text s
   pub place_is : there.place ≡ place
   pub rest_is : there.rest ≡ last y
-  pub first_read : IsTrue (is_read (here there.lexemes))
 
 -- What was read is no target, under the parameters in force, where y stands behind it.
 pub no_target_there : {text : List ℕ} {f g : Flags} {n : Symbol} {p q : Parser} (w : Passes n (at LeftHandSide f)) (x : Answer text g n p q) → At text g p → Stretch text (after n) (such n always) p.prev_token_end nothing q.prev_token_end (tree x.label x.slots) x.pass
     → target_of x.label x.slots ≡ None → (y : Lexeme) → Lex text q.prev_token_end y → ((l : Label) (cs : Slots) (t : Tree) → target_of l cs ≡ Some t → IsTrue (seen (follow n (edge_of l cs)) y)) → (s : Span) → s.start ≡ p.token.span.start → s.end ≡ q.prev_token_end → Untargeted text s p.prev_token_end y
-no_target_there {text} {f} {g} {n} {p} {q} w x a z e y l h s b c = record {
-  there = record {
-    place = p.prev_token_end;
-    lexemes = x.pass (last y);
-    rest = last y;
-    part = record { reached = subst (λ (v : List ℕ). Reached v p.prev_token_end) a.text_is a.at.reached; lexed = all_stand text p.prev_token_end (x.pass (last y)) there };
-    begins = begins_here a (here (x.pass (last y))) (here_at (Lex text) (x.pass (last y)) there) ∙ sym b;
-    front = subst (λ (v : ℕ). Front v (x.pass (last y)) (last y)) (sym c) (front x.walked (let i = x.further in let j = a.behind in omega arith) (last y));
-    flags = f;
-    none = λ t d. none t (subst (λ (v : ℕ). Derives rule (at SimpleTarget f) t p.prev_token_end (x.pass (last y)) v (last y)) c d);
-  };
-  place_is = refl;
-  rest_is = refl;
-  first_read = (here_at (Lex text) (x.pass (last y)) there).1;
-}
-  where
-    there : Lexes (Lex text) p.prev_token_end (x.pass (last y))
-    there = z.goes.passes.lexed (last y) l
-
-    none : (t : Tree) → Derives rule (at SimpleTarget f) t p.prev_token_end (x.pass (last y)) q.prev_token_end (last y) → ⊥
-    none t d =
-        let u = of_derived w {ks = end} {us = end} t d in
-        let v = z.goes.only (tree u.label u.slots end) end q.prev_token_end (x.pass (last y)) (last y) there u.takes (admits n (tree u.label u.slots end) y (h u.label u.slots t u.has)) in
-        let k : None ≡ Some t = sym e ∙ (sym (λ i. target_of (label_is v.2 i) (slots_are v.2 i)) ∙ u.has) in cc
+no_target_there {f = f} w x a z e y l h s b c = record { there = underived_there x a z y l f SimpleTarget s b c (λ t d. no_simple_there x a z y l w e h t d); place_is = refl; rest_is = refl }

@@ -54,7 +54,7 @@ read_here : (ls : Lexemes) → AllRead ls → IsTrue (is_read (here ls))
 read_here (last x) c = c
 read_here (next x ls) c = c.0
 
-stays : {r : Symbol → G} {g : G} {ks ts us : Slots} {i j : ℕ} {ls rest : Lexemes} → Takes r g ks ts i ls us j rest → AllRead ls → AllRead rest
+pub stays : {r : Symbol → G} {g : G} {ks ts us : Slots} {i j : ℕ} {ls rest : Lexemes} → Takes r g ks ts i ls us j rest → AllRead ls → AllRead rest
 stays is_nothing c = c
 stays (is_lexeme p) c = c.1
 stays (is_look p) c = c

@@ -53,6 +53,7 @@ use Rattle.js_core.specs.Answers.{Grown, Verdict, clean, unclean, Stretch, Under
 use Rattle.js_core.proofs.Conditionals.{plain_sign, other_kind}
 use Rattle.js_core.proofs.Dead.{fails_dead}
 use Rattle.js_core.proofs.Giving.{kept_one}
+use Rattle.js_core.proofs.Told.{beside_errors}
 use Rattle.js_core.proofs.Here.{kind_here, found, uncut, begins_here}
 use Rattle.js_core.proofs.MadeNodes.{two_held}
 use Rattle.js_core.proofs.Moving.{same_both}
@@ -203,14 +204,6 @@ longer {p = p} g e = none g.more g.some (let i = length-append p g.more in let j
     none : {K : Type 0} (xs : List K) → (xs ≡ [] → ⊥) → length xs ≡ 0 → ⊥
     none [] n e = n refl
     none (x ∷ xs) n e = absurd (omega arith)
-
-pub beside_errors : {text : List ℕ} {f : Flags} {p : Parser} {ds : List Diagnostic} → At text f p → IsAt (record p { errors = ds }) → At text f (record p { errors = ds })
-beside_errors {text} {f} {p} {ds} a i = record { text_is = a.text_is; flags_are = a.flags_are; at = i; plain = plain_of a.plain; behind = a.behind }
-  where
-    plain_of : IsPlain text p → IsPlain text (record p { errors = ds })
-    plain_of (whole c n x) = whole c n x
-    plain_of (sign c k x) = sign c k x
-    plain_of (none_stands c k n) = none_stands c k n
 
 base_stands_there : (source : Goal) (text : List ℕ) (s s' from : ℕ) (f : Flags) (l : Label) (cs : Slots) (ls : Lexemes) (y : Lexeme) → Part text s ls → (here ls).from ≡ from → Takes rule (rule (at Unary f)) end (tree l cs end) s ls end s' (last y) → l.kind ≡ unary_expression → y.kind ≡ Star2 → StandsAt UnaryExponentiationLeftOperand source text (record { start = from; end = s' }) None None
 base_stands_there source text s s' from f l cs ls y part b d k e = (

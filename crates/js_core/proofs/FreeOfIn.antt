@@ -1,10 +1,10 @@
--- Members, calls and all that stands in them are read alike whether `in` is an operator around them or not (ECMA-262, 13.3).
+-- Members, calls, targets and all that stands in them are read alike whether `in` is an operator around them or not (ECMA-262, 13.3).
 use Rattle.std.proofs.Common.{ℕ, ◌≡◌, Bool, true, false, ◌||◌, refl, ap, sym, subst, rules}
 use Rattle.std.proofs.lemmas.Bool.{false≢true}
 use Rattle.js_grammar.specs.Trees.{Slots}
 use Rattle.js_grammar.specs.Grammar.{Lexemes, Takes, such}
 use Rattle.js_grammar.specs.Parsing.{always}
-use Rattle.js_grammar.specs.Productions.{Flags, Name, Symbol, at, plus_in, LeftHandSide, New, Member, Call, Chain, Links, Super, Argument, Primary, Template, Object, Property, FuncExpr, ClassExpr, ClassBody, Element, Decorator, DecoratorMember, IdentifierReference, BindingIdentifier, IdentifierName, PrivateName, SimpleTarget}
+use Rattle.js_grammar.specs.Productions.{Flags, Name, Symbol, at, plus_in, LeftHandSide, New, Member, Call, Chain, Links, Super, Argument, Primary, Template, Object, Property, FuncExpr, ClassExpr, ClassBody, Element, Decorator, DecoratorMember, IdentifierReference, BindingIdentifier, IdentifierName, PrivateName, SimpleTarget, Target, ArrayTarget, ObjectTarget, TargetElement, TargetProperty}
 use Rattle.js_grammar.specs.Table.{rule, rule_of}
 use Rattle.js_core.proofs.Related.{Like, like_itself, related}
 
@@ -32,6 +32,11 @@ free BindingIdentifier = true
 free IdentifierName = true
 free PrivateName = true
 free SimpleTarget = true
+free Target = true
+free ArrayTarget = true
+free ObjectTarget = true
+free TargetElement = true
+free TargetProperty = true
 free _ = false
 
 abbrev same_bool : Bool → Bool → Bool
@@ -68,6 +73,11 @@ free_at BindingIdentifier f a b h = search rules
 free_at IdentifierName f a b h = search rules
 free_at PrivateName f a b h = search rules
 free_at SimpleTarget f a b h = search rules
+free_at Target f a b h = search rules
+free_at ArrayTarget f a b h = search rules
+free_at ObjectTarget f a b h = search rules
+free_at TargetElement f a b h = search rules
+free_at TargetProperty f a b h = search rules
 free_at _ f a b h = absurd (false≢true h)
 
 same_true : (a b : Bool) → same_bool a b ≡ true → a ≡ b

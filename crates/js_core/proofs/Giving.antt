@@ -9,7 +9,7 @@ use Rattle.js_grammar.specs.Productions.{G, Flags}
 use Rattle.js_grammar.specs.Table.{rule}
 use Rattle.js_grammar.proofs.Calculus.{here_at}
 use Rattle.js_cursor.specs.Parsers.{Parser}
-use Rattle.js_cursor.specs.Moves.{Keeps, GivesUp}
+use Rattle.js_cursor.specs.Moves.{Keeps, GivesUp, OnlyMemory}
 use Rattle.js_cursor.specs.declared.stop.Stop.{Stop}
 use Rattle.js_cursor.specs.declared.stop.Stop.TheVariants.{Fatal, NoMemory}
 use Rattle.js_cursor.proofs.Later.{keeps_follows}
@@ -25,6 +25,10 @@ kept_one {d} k = record { more = d ∷ []; kept = ap (λ (r : Parser). r.errors)
 pub gives_up : (P : Diagnostic → Type 0) (p q : Parser) {F : Type 0} (e : Stop) → GivesUp P p q e → F → Stops p q e F
 gives_up P p q Fatal g x = record { at = g.2.at; follows = keeps_follows g.2; grown = kept_one g.2; none = x }
 gives_up P p q NoMemory g x = tt
+
+pub memory_stops : (p q : Parser) (e : Stop) (F : Type 0) → OnlyMemory e → Stops p q e F
+memory_stops p q Fatal F m = absurd m
+memory_stops p q NoMemory F m = tt
 
 -- where no lexeme that is read stands, nothing is derived
 pub fails_none : {text : List ℕ} {s : ℕ} {X : Test} {ks : Slots} {g : G} → ((y : Lexeme) → Lex text s y → ⊥) → Fails rule (Lex text) X ks g s

@@ -37,7 +37,8 @@ use Rattle.js_core.specs.Arguments.{item_of, list_of}
 use Rattle.js_core.specs.Members.{StandsHere, WithArguments, MakesWithArguments}
 use Rattle.js_core.proofs.Conditionals.{plain_sign}
 use Rattle.js_core.proofs.MadeNodes.{node_held}
-use Rattle.js_core.proofs.Members.{part_path, stands_not}
+use Rattle.js_core.proofs.Members.{stands_not}
+use Rattle.js_core.proofs.Parts.{part_path}
 use Rattle.js_core.proofs.Moving.{same_both, stops_behind}
 use Rattle.js_core.proofs.Nesting.{nested_room, later_room}
 use Rattle.js_core.proofs.Operands.{by_path, behind_primary}
@@ -112,11 +113,11 @@ module _ {text : List ℕ} {f : Flags} {p : Parser} (a : At text f p) (k : p.tok
 
       v8_answers : {w : Parser} {id : NodeId} → f.v8 ≡ true → WithArguments node.V8IntrinsicExpression false p.token.span.start name r w id → Numbered text f (at Primary f) p w id
       v8_answers o y =
-          let part = y.arguments text f x.answer.at false in
+          let part = y.arguments text f x.answer.at in
           by_path (v8_read o (named ⟶ part_path part)) (same_both m.same (same_both x.answer.same part.same)) y.made.stays (behind_primary f.in_ (label_here v8_intrinsic_expression no_op p y.behind) (tree x.answer.label x.answer.slots (part.slots end)) text y.behind.prev_token_end) refl
           (node_held y.made (part.holds (length p.nodes) (tree x.answer.label x.answer.slots end) (HoldsAll-one name (subst (λ (ns : List Node). Holds r.nodes (length ns) (length r.nodes) name.0 x.answer.label x.answer.slots) m.nodes x.holds))))
           (Keeps-trans (subst (λ (ns : List Node). Keeps ns r.nodes) m.nodes x.keeps) (Keeps-trans part.keeps (Keeps-made y.made.made)))
 
       pub v8_outcome : {start : ℕ} (w : Parser) (t : Result NodeId Stop) → f.v8 ≡ true → start ≡ p.token.span.start → MakesWithArguments node.V8IntrinsicExpression false start name r w t → Outcome text f (at Primary f) p w t
       v8_outcome w (Ok id) o e y = v8_answers o (subst (λ (v : ℕ). WithArguments node.V8IntrinsicExpression false v name r w id) e y)
-      v8_outcome w (Err i) o e y = stops_behind w i v8_follows (λ g. v8_grown g) (λ n. v8_list_fails n) (y text f x.answer.at false)
+      v8_outcome w (Err i) o e y = stops_behind w i v8_follows (λ g. v8_grown g) (λ n. v8_list_fails n) (y text f x.answer.at)

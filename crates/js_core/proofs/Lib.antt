@@ -13,6 +13,10 @@ pub mod Operands
 pub mod Giving
 pub mod Links
 pub mod Stretches
+pub mod Parts
+pub mod Told
+pub mod Spreads
+pub mod Arrays
 pub mod Members
 pub mod Beginning
 pub mod Statements
@@ -27,10 +31,13 @@ pub mod FreeOfIn
 pub mod Targets
 pub mod CoveredNodes
 pub mod Covers
+pub mod ArrayTargets
+pub mod ArraysBeforeSigns
 pub mod Updates
 pub mod Refusals
 pub mod Assigned
 pub mod Assignments
+pub mod ArraysAssigned
 pub mod Tame
 pub mod Bracketed
 pub mod Parentheses

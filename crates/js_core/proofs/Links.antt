@@ -5,7 +5,7 @@ use Rattle.js_base.specs.declared.kind.Kind.{Kind}
 use Rattle.js_base.specs.declared.kind.Kind.TheVariants.{Dot, QuestionDot, New, LParen, LBrack, NoSubstitutionTemplate, TemplateHead, Function}
 use Rattle.js_base.specs.Kinds.{same_kind, one_of_kinds}
 use Rattle.js_base.proofs.KindLemmas.{kind_of_same}
-use Rattle.js_grammar.specs.Trees.{Slots, end, tree, Label, no_op, static_member_expression, call_expression, new_expression}
+use Rattle.js_grammar.specs.Trees.{Slots, end, tree, Label, no_op, static_member_expression, computed_member_expression, call_expression, new_expression}
 use Rattle.js_grammar.specs.Grammar.{Lexeme, Lexemes, Look, here, is, exact, seen, such, alt, never, node, seq, nothing, ◌▸◌}
 use Rattle.js_grammar.specs.Parsing.{Test, plain, full, always, still, joined, Way, Goes, Reads, Fails, Admits}
 use Rattle.js_grammar.specs.Productions.{G, Flags, Symbol, at, tok, mk, make, optional_flag, Primary, Member, Call, Chain, Links, Super, LeftHandSide, IdentifierName}
@@ -22,10 +22,11 @@ use Rattle.js_grammar.proofs.Loops.{Around, chain_start, chain_start_fails, chai
 use Rattle.js_grammar.proofs.Towers.{Link, link, linked_label, make_of, this, of_left, of_right, OneOf, head, later}
 use Rattle.js_grammar.proofs.Split.{other_heads}
 use Rattle.js_grammar.proofs.Chains.{is_member, is_call, is_links, base_of, climbs, member_links, call_links, chain_links, members, calls, chains}
-use Rattle.js_grammar.proofs.LinkLoops.{OfMember, named, private, member_name}
+use Rattle.js_grammar.proofs.LinkLoops.{OfMember, private, member_name, member_index}
 use Rattle.js_core.specs.Lexemes.{Lex}
 use Rattle.js_core.specs.Answers.{Stretch, Underived}
-use Rattle.js_core.specs.Members.{Looped, NoBareNew, NoMember, without_arguments, link_kinds, chained, OnlyLink, sign_of, link_label}
+use Rattle.js_core.specs.Members.{Looped, NoBareNew, NoMember, without_arguments, link_kinds, LinkForm, by_name, by_call, by_index, chained, admits as admits_link, OnlyLink, sign_of, node_of, link_label}
+use Rattle.js_core.specs.declared.left_hand_side.LinkBase.TheVariants.{Member as OfMember'}
 use Rattle.js_core.proofs.Dead.{dead, fails_dead, live, lives}
 use Rattle.js_core.proofs.Paths.{reads}
 
@@ -61,6 +62,10 @@ AllAre text s k = (y : Lexeme) → Lex text s y → (y.kind ≡ k) × (y.escaped
 abbrev pub NoneIs : List ℕ → ℕ → Kind → Type 0
 NoneIs text s k = (y : Lexeme) → Lex text s y → y.kind ≡ k → ⊥
 
+-- what begins an access
+abbrev access_kinds : List Kind
+access_kinds = Dot ∷ LBrack ∷ []
+
 module _ (f : Flags) where
   -- `new` with arguments
   abbrev pub with_arguments : G
@@ -74,7 +79,7 @@ module _ (f : Flags) where
   unfolding rule_of apart
   member_left = refl
 
-  member_starts : covers (λ k w e. linked_starts firsts (member_links f) k w e && reads k w e) (λ k w e. same_kind Dot k) ≡ true
+  member_starts : covers (λ k w e. linked_starts firsts (member_links f) k w e && reads k w e) (λ k w e. one_of_kinds access_kinds k) ≡ true
   unfolding member_links rule_of covers
   member_starts = refl
 
@@ -88,8 +93,11 @@ module _ (f : Flags) where
   abbrev first_call : G
   first_call = node (make_of call_expression no_op 0) (seq callees (args f))
 
+  abbrev first_link : LinkForm → G
+  first_link c = node (make_of (node_of c) no_op optional_flag) (seq bases (chained f c true).part)
+
   abbrev first_links : G
-  first_links = alt (node (make_of call_expression no_op optional_flag) (seq bases (chained f true true).part)) (node (make_of static_member_expression no_op optional_flag) (seq bases (chained f false true).part))
+  first_links = alt (first_link by_call) (alt (first_link by_name) (first_link by_index))
 
   call_left : live (base_of is_call Call f) ≡ first_call
   unfolding rule_of apart
@@ -107,7 +115,7 @@ module _ (f : Flags) where
   unfolding rule rule_of apart
   lhs_left = refl
 
-  call_starts : covers (λ k w e. linked_starts firsts (call_links f) k w e && reads k w e) (λ k w e. one_of_kinds (Dot ∷ LParen ∷ []) k) ≡ true
+  call_starts : covers (λ k w e. linked_starts firsts (call_links f) k w e && reads k w e) (λ k w e. one_of_kinds (Dot ∷ LBrack ∷ LParen ∷ []) k) ≡ true
   unfolding call_links rule_of covers
   call_starts = refl
 
@@ -155,26 +163,37 @@ module _ {text : List ℕ} (f : Flags) where
   unfolding member_links rule_of covers
   no_member_new x n = chain_start_fails firsts (climbs is_member Member f) (member_links f) {F' = no_function} (member_foot ▹✗ fails_alt (weaken_fails x (λ ts y e. admits (at Primary f) ts y e.0)) (fails_node inside_full n)) refl refl
 
-  -- a dot and a name behind it
-  pub member_step : {s s' s'' from : ℕ} {l : Label} {cs : Slots} {pass more : Lexemes → Lexemes} {h : Slots → Slots} → Looped text (members f) (after (at Member f)) s from l cs pass s' → AllAre text s' Dot → s' ≤ s'' → Stretch text (plain full) (named f).part s' nothing s'' h more → Looped text (members f) (after (at Member f)) s from (linked_label (named f) from s'') (tree l cs (h end)) (λ ls. pass (more ls)) s''
+  -- a name or an expression in brackets behind it
+  pub member_step : {s s' s'' from : ℕ} {l : Label} {cs : Slots} {pass more : Lexemes → Lexemes} {h : Slots → Slots} (c : LinkForm) → admits_link OfMember' c false ≡ true → Looped text (members f) (after (at Member f)) s from l cs pass s' → AllAre text s' (sign_of c false) → s' ≤ s'' → Stretch text (plain full) (chained f c false).part s' nothing s'' h more
+      → Looped text (members f) (after (at Member f)) s from (link_label c false from s'') (tree l cs (h end)) (λ ls. pass (more ls)) s''
   unfolding apart
-  member_step {s' = s'} x z o y = record { reach = max x.reach y.reach; near = let i = x.near in let j = y.near in omega arith; around = member_name f x.around z (fails_dead (private f).part refl) y.goes }
+  member_step {s' = s'} by_name q x z o y = record { reach = max x.reach y.reach; near = let i = x.near in let j = y.near in omega arith; around = member_name f x.around z (fails_dead (private f).part refl) y.goes }
+  member_step {s' = s'} by_index q x z o y = record { reach = max x.reach y.reach; near = let i = x.near in let j = y.near in omega arith; around = member_index f x.around z y.goes }
+  member_step by_call q x z o y = absurd (false≢true q)
 
-  not_before_dot : {s' : ℕ} (l : Label) (cs : Slots) → AllAre text s' Dot → (y : Lexeme) → Lex text s' y → Admits (after (at Member f)) (tree l cs end) y → ⊥
-  not_before_dot l cs z y i e = false≢true (subst (λ v. follow_of Member f.in_ (edge_of l cs) v y.newline false ≡ true) (z y i).0 (subst (λ v. follow_of Member f.in_ (edge_of l cs) y.kind y.newline v ≡ true) (z y i).1 e.1))
+  not_before_access : (k : Kind) {s' : ℕ} (l : Label) (cs : Slots) → ((w : Bool) → follow_of Member f.in_ (edge_of l cs) k w false ≡ false) → AllAre text s' k → (y : Lexeme) → Lex text s' y → Admits (after (at Member f)) (tree l cs end) y → ⊥
+  not_before_access k l cs h z y i e = false≢true (sym (h y.newline) ∙ subst (λ v. follow_of Member f.in_ (edge_of l cs) v y.newline false ≡ true) (z y i).0 (subst (λ v. follow_of Member f.in_ (edge_of l cs) y.kind y.newline v ≡ true) (z y i).1 e.1))
 
-  pub member_step_fails : {s s' from : ℕ} {l : Label} {cs : Slots} {pass : Lexemes → Lexemes} → Looped text (members f) (after (at Member f)) s from l cs pass s' → AllAre text s' Dot → Fails rule (Lex text) (plain full) end (named f).part s' → Underived text (at Member f) s
-  unfolding member_links rule_of covers apart
-  member_step_fails {s' = s'} {l = l} {cs = cs} a z r = chain_step_fails_by firsts (climbs is_member Member f) (member_links f) {F' = full} {x = named f} Dot a.around (λ y i. (z y i).0) (search (this, of_left, of_right) depth 14) others (not_before_dot l cs z) (λ l cs vs y e. e) r refl refl
-    where
-      others : (x' : Link Symbol) → OneOf x' (beginning firsts (member_links f) Dot) → (x' ≡ named f) ⊎ Fails rule (Lex text) (plain full) end x'.part s'
-      others x' head = inl refl
-      others x' (later head) = inr (fails_dead (private f).part refl)
-      others x' (later (later i)) = elim i [ ]
+  dot_access : {s : ℕ} (x' : Link Symbol) → OneOf x' (beginning firsts (member_links f) Dot) → (x' ≡ chained f by_name false) ⊎ Fails rule (Lex text) (plain full) end x'.part s
+  unfolding member_links rule_of apart
+  dot_access x' head = inl refl
+  dot_access x' (later head) = inr (fails_dead (private f).part refl)
+  dot_access x' (later (later i)) = elim i [ ]
 
-  -- no dot stands here
-  pub member_end : {s s' from : ℕ} {l : Label} {cs : Slots} {pass : Lexemes → Lexemes} → Looped text (members f) (after (at Member f)) s from l cs pass s' → NoneIs text s' Dot → Stretch text (after (at Member f)) (such (at Member f) always) s nothing s' (tree l cs) pass
-  member_end a n = record { reach = a.reach; near = a.near; goes = chain_end firsts (climbs is_member Member f) (member_links f) (λ l cs vs y e. e) a.around (λ y l t. n y l (sym (kind_of_same Dot y.kind (covered (λ k w e. linked_starts firsts (member_links f) k w e && reads k w e) (λ k w e. same_kind Dot k) (member_starts f) y.kind y.newline y.escaped (and_from _ _ t l.1))))) }
+  bracket_access : {s : ℕ} (x' : Link Symbol) → OneOf x' (beginning firsts (member_links f) LBrack) → (x' ≡ chained f by_index false) ⊎ Fails rule (Lex text) (plain full) end x'.part s
+  unfolding member_links rule_of apart
+  bracket_access x' head = inl refl
+  bracket_access x' (later i) = elim i [ ]
+
+  pub member_step_fails : {s s' from : ℕ} {l : Label} {cs : Slots} {pass : Lexemes → Lexemes} (c : LinkForm) → admits_link OfMember' c false ≡ true → Looped text (members f) (after (at Member f)) s from l cs pass s' → AllAre text s' (sign_of c false) → Fails rule (Lex text) (plain full) end (chained f c false).part s' → Underived text (at Member f) s
+  unfolding member_links rule_of covers
+  member_step_fails {l = l} {cs = cs} by_name q a z r = chain_step_fails_by firsts (climbs is_member Member f) (member_links f) {F' = full} {x = chained f by_name false} Dot a.around (λ y i. (z y i).0) (search (this, of_left, of_right) depth 14) dot_access (not_before_access Dot l cs (λ w. refl) z) (λ l cs vs y e. e) r refl refl
+  member_step_fails {l = l} {cs = cs} by_index q a z r = chain_step_fails_by firsts (climbs is_member Member f) (member_links f) {F' = full} {x = chained f by_index false} LBrack a.around (λ y i. (z y i).0) (search (this, of_left, of_right) depth 14) bracket_access (not_before_access LBrack l cs (λ w. refl) z) (λ l cs vs y e. e) r refl refl
+  member_step_fails by_call q a z r = absurd (false≢true q)
+
+  -- no access stands here
+  pub member_end : {s s' from : ℕ} {l : Label} {cs : Slots} {pass : Lexemes → Lexemes} → Looped text (members f) (after (at Member f)) s from l cs pass s' → ((y : Lexeme) → Lex text s' y → one_of_kinds access_kinds y.kind ≡ false) → Stretch text (after (at Member f)) (such (at Member f) always) s nothing s' (tree l cs) pass
+  member_end a n = record { reach = a.reach; near = a.near; goes = chain_end firsts (climbs is_member Member f) (member_links f) (λ l cs vs y e. e) a.around (λ y l t. false≢true (sym (n y l) ∙ covered (λ k w e. linked_starts firsts (member_links f) k w e && reads k w e) (λ k w e. one_of_kinds access_kinds k) (member_starts f) y.kind y.newline y.escaped (and_from _ _ t l.1))) }
 
   -- ---- `new` without arguments, and NewExpressions
 
@@ -233,49 +252,48 @@ module _ {text : List ℕ} (f : Flags) where
 
   -- arguments were read behind a member
   pub call_begin : {s s' s'' from : ℕ} {l : Label} {cs : Slots} {pass more : Lexemes → Lexemes} {h : Slots → Slots} → Stretch text (after (at Member f)) (such (at Member f) always) s nothing s' (tree l cs) pass → s' ≤ s'' → ((y : Lexeme) → Lex text s y → y.from ≡ from) → Stretch text (plain full) (args f) s' nothing s'' h more
-      → Looped text (calls f) (after (at Call f)) s from (linked_label (chained f true false) from s'') (tree l cs (h end)) (λ ls. pass (more ls)) s''
+      → Looped text (calls f) (after (at Call f)) s from (link_label by_call false from s'') (tree l cs (h end)) (λ ls. pass (more ls)) s''
   unfolding call_links rule_of covers
   call_begin {s = s} {s'' = s''} {from = from} x o b y = record {
     reach = max 0 (max (max 0 x.reach) y.reach);
     near = let i = x.near in let j = y.near in omega arith;
-    around = chain_start firsts (climbs is_call Call f) (call_links f) {F' = full} (call_foot ▹ makes_by (linked_label (chained f true false) from s'') inside_full (callee_goes x ▹ y.goes) (λ ls ls' i j. ap (λ v. linked_label (chained f true false) v s'') (b (here ls) (here_at (Lex text) ls i)))) refl refl b;
+    around = chain_start firsts (climbs is_call Call f) (call_links f) {F' = full} (call_foot ▹ makes_by (link_label by_call false from s'') inside_full (callee_goes x ▹ y.goes) (λ ls ls' i j. ap (λ v. link_label by_call false v s'') (b (here ls) (here_at (Lex text) ls i)))) refl refl b;
   }
 
   not_before_call : (k : Kind) {s' : ℕ} (l : Label) (cs : Slots) → ((w : Bool) → follow_of Call f.in_ (edge_of l cs) k w false ≡ false) → AllAre text s' k → (y : Lexeme) → Lex text s' y → Admits (after (at Call f)) (tree l cs end) y → ⊥
   not_before_call k l cs h z y i e = false≢true (sym (h y.newline) ∙ subst (λ v. follow_of Call f.in_ (edge_of l cs) v y.newline false ≡ true) (z y i).0 (subst (λ v. follow_of Call f.in_ (edge_of l cs) y.kind y.newline v ≡ true) (z y i).1 e.1))
 
-  dot_call : {s : ℕ} (x' : Link Symbol) → OneOf x' (beginning firsts (call_links f) Dot) → (x' ≡ chained f false false) ⊎ Fails rule (Lex text) (plain full) end x'.part s
+  dot_call : {s : ℕ} (x' : Link Symbol) → OneOf x' (beginning firsts (call_links f) Dot) → (x' ≡ chained f by_name false) ⊎ Fails rule (Lex text) (plain full) end x'.part s
   unfolding call_links rule_of apart
   dot_call x' head = inl refl
   dot_call x' (later head) = inr (fails_dead (private f).part refl)
   dot_call x' (later (later i)) = elim i [ ]
 
-  paren_call : {s : ℕ} (x' : Link Symbol) → OneOf x' (beginning firsts (call_links f) LParen) → (x' ≡ chained f true false) ⊎ Fails rule (Lex text) (plain full) end x'.part s
+  paren_call : {s : ℕ} (x' : Link Symbol) → OneOf x' (beginning firsts (call_links f) LParen) → (x' ≡ chained f by_call false) ⊎ Fails rule (Lex text) (plain full) end x'.part s
   unfolding call_links rule_of apart
   paren_call x' head = inl refl
   paren_call x' (later i) = elim i [ ]
 
-  pub call_step : {s s' s'' from : ℕ} {l : Label} {cs : Slots} {pass more : Lexemes → Lexemes} {h : Slots → Slots} (c : Bool) → Looped text (calls f) (after (at Call f)) s from l cs pass s' → AllAre text s' (sign_of c false) → s' ≤ s'' → Stretch text (plain full) (chained f c false).part s' nothing s'' h more
+  bracket_call : {s : ℕ} (x' : Link Symbol) → OneOf x' (beginning firsts (call_links f) LBrack) → (x' ≡ chained f by_index false) ⊎ Fails rule (Lex text) (plain full) end x'.part s
+  unfolding call_links rule_of apart
+  bracket_call x' head = inl refl
+  bracket_call x' (later i) = elim i [ ]
+
+  pub call_step : {s s' s'' from : ℕ} {l : Label} {cs : Slots} {pass more : Lexemes → Lexemes} {h : Slots → Slots} (c : LinkForm) → Looped text (calls f) (after (at Call f)) s from l cs pass s' → AllAre text s' (sign_of c false) → s' ≤ s'' → Stretch text (plain full) (chained f c false).part s' nothing s'' h more
       → Looped text (calls f) (after (at Call f)) s from (link_label c false from s'') (tree l cs (h end)) (λ ls. pass (more ls)) s''
   unfolding call_links rule_of covers
-  call_step {l = l} {cs = cs} true x z o y = record { reach = max x.reach y.reach; near = let i = x.near in let j = y.near in omega arith; around = chain_step_by firsts (climbs is_call Call f) (call_links f) {F' = full} LParen x.around (λ y i. (z y i).0) (search (this, of_left, of_right) depth 14) paren_call (not_before_call LParen l cs (λ w. refl) z) y.goes refl refl }
-  call_step {l = l} {cs = cs} false x z o y = record { reach = max x.reach y.reach; near = let i = x.near in let j = y.near in omega arith; around = chain_step_by firsts (climbs is_call Call f) (call_links f) {F' = full} Dot x.around (λ y i. (z y i).0) (search (this, of_left, of_right) depth 14) dot_call (not_before_call Dot l cs (λ w. refl) z) y.goes refl refl }
+  call_step {l = l} {cs = cs} by_call x z o y = record { reach = max x.reach y.reach; near = let i = x.near in let j = y.near in omega arith; around = chain_step_by firsts (climbs is_call Call f) (call_links f) {F' = full} LParen x.around (λ y i. (z y i).0) (search (this, of_left, of_right) depth 14) paren_call (not_before_call LParen l cs (λ w. refl) z) y.goes refl refl }
+  call_step {l = l} {cs = cs} by_name x z o y = record { reach = max x.reach y.reach; near = let i = x.near in let j = y.near in omega arith; around = chain_step_by firsts (climbs is_call Call f) (call_links f) {F' = full} Dot x.around (λ y i. (z y i).0) (search (this, of_left, of_right) depth 14) dot_call (not_before_call Dot l cs (λ w. refl) z) y.goes refl refl }
+  call_step {l = l} {cs = cs} by_index x z o y = record { reach = max x.reach y.reach; near = let i = x.near in let j = y.near in omega arith; around = chain_step_by firsts (climbs is_call Call f) (call_links f) {F' = full} LBrack x.around (λ y i. (z y i).0) (search (this, of_left, of_right) depth 14) bracket_call (not_before_call LBrack l cs (λ w. refl) z) y.goes refl refl }
 
-  pub call_step_fails : {X : Test} {s s' from : ℕ} {l : Label} {cs : Slots} {pass : Lexemes → Lexemes} (c : Bool) → Heads X (after (at Call f)) → Looped text (calls f) (after (at Call f)) s from l cs pass s' → AllAre text s' (sign_of c false) → Fails rule (Lex text) (plain full) end (chained f c false).part s' → Fails rule (Lex text) X end (such (at Call f) always) s
+  pub call_step_fails : {X : Test} {s s' from : ℕ} {l : Label} {cs : Slots} {pass : Lexemes → Lexemes} (c : LinkForm) → Heads X (after (at Call f)) → Looped text (calls f) (after (at Call f)) s from l cs pass s' → AllAre text s' (sign_of c false) → Fails rule (Lex text) (plain full) end (chained f c false).part s' → Fails rule (Lex text) X end (such (at Call f) always) s
   unfolding call_links rule_of covers
-  call_step_fails {l = l} {cs = cs} true p x z r = chain_step_fails_by firsts (climbs is_call Call f) (call_links f) {F' = full} {x = chained f true false} LParen x.around (λ y i. (z y i).0) (search (this, of_left, of_right) depth 14) paren_call (not_before_call LParen l cs (λ w. refl) z) p r refl refl
-  call_step_fails {l = l} {cs = cs} false p x z r = chain_step_fails_by firsts (climbs is_call Call f) (call_links f) {F' = full} {x = chained f false false} Dot x.around (λ y i. (z y i).0) (search (this, of_left, of_right) depth 14) dot_call (not_before_call Dot l cs (λ w. refl) z) p r refl refl
+  call_step_fails {l = l} {cs = cs} by_call p x z r = chain_step_fails_by firsts (climbs is_call Call f) (call_links f) {F' = full} {x = chained f by_call false} LParen x.around (λ y i. (z y i).0) (search (this, of_left, of_right) depth 14) paren_call (not_before_call LParen l cs (λ w. refl) z) p r refl refl
+  call_step_fails {l = l} {cs = cs} by_name p x z r = chain_step_fails_by firsts (climbs is_call Call f) (call_links f) {F' = full} {x = chained f by_name false} Dot x.around (λ y i. (z y i).0) (search (this, of_left, of_right) depth 14) dot_call (not_before_call Dot l cs (λ w. refl) z) p r refl refl
+  call_step_fails {l = l} {cs = cs} by_index p x z r = chain_step_fails_by firsts (climbs is_call Call f) (call_links f) {F' = full} {x = chained f by_index false} LBrack x.around (λ y i. (z y i).0) (search (this, of_left, of_right) depth 14) bracket_call (not_before_call LBrack l cs (λ w. refl) z) p r refl refl
 
-  pub call_ends : {s s' from : ℕ} {l : Label} {cs : Slots} {pass : Lexemes → Lexemes} → Looped text (calls f) (after (at Call f)) s from l cs pass s' → NoneIs text s' Dot → NoneIs text s' LParen → Stretch text (after (at Call f)) (such (at Call f) always) s nothing s' (tree l cs) pass
-  call_ends {s' = s'} a n m = record { reach = a.reach; near = a.near; goes = chain_end firsts (climbs is_call Call f) (call_links f) (λ l cs vs y e. e) a.around (λ y l t. none y l (covered (λ k w e. linked_starts firsts (call_links f) k w e && reads k w e) (λ k w e. one_of_kinds (Dot ∷ LParen ∷ []) k) (call_starts f) y.kind y.newline y.escaped (and_from _ _ t l.1))) }
-    where
-      none : (y : Lexeme) → Lex text s' y → one_of_kinds (Dot ∷ LParen ∷ []) y.kind ≡ true → ⊥
-      none y l h = go (same_kind Dot y.kind) (same_kind LParen y.kind) refl refl h
-        where
-          go : (b c : Bool) → same_kind Dot y.kind ≡ b → same_kind LParen y.kind ≡ c → (b || (c || false)) ≡ true → ⊥
-          go true c e g h = n y l (sym (kind_of_same Dot y.kind e))
-          go false true e g h = m y l (sym (kind_of_same LParen y.kind g))
-          go false false e g h = false≢true h
+  pub call_ends : {s s' from : ℕ} {l : Label} {cs : Slots} {pass : Lexemes → Lexemes} → Looped text (calls f) (after (at Call f)) s from l cs pass s' → ((y : Lexeme) → Lex text s' y → one_of_kinds (Dot ∷ LBrack ∷ LParen ∷ []) y.kind ≡ false) → Stretch text (after (at Call f)) (such (at Call f) always) s nothing s' (tree l cs) pass
+  call_ends a n = record { reach = a.reach; near = a.near; goes = chain_end firsts (climbs is_call Call f) (call_links f) (λ l cs vs y e. e) a.around (λ y l t. false≢true (sym (n y l) ∙ covered (λ k w e. linked_starts firsts (call_links f) k w e && reads k w e) (λ k w e. one_of_kinds (Dot ∷ LBrack ∷ LParen ∷ []) k) (call_starts f) y.kind y.newline y.escaped (and_from _ _ t l.1))) }
 
   -- ---- optional chains
 
@@ -297,97 +315,117 @@ module _ {text : List ℕ} (f : Flags) where
   pub base_none : {s : ℕ} → Fails rule (Lex text) before_chain end (such (at Member f) always) s → Fails rule (Lex text) before_chain end (such (at Call f) always) s → Fails rule (Lex text) before_chain end (bases f) s
   base_none m c = fails_alt m (fails_alt c fails_never)
 
-  headed : {s s' : ℕ} {l : Label} {cs : Slots} {pass : Lexemes → Lexemes} (c : Bool) (x : Stretch text before_chain (bases f) s nothing s' (tree l cs) pass) → Goes rule (Lex text) (plain full) end (seq (bases f) (chained f c true).part) s (chained f c true).part s' (tree l cs) (record { reach = x.reach; pass = pass })
+  headed : {s s' : ℕ} {l : Label} {cs : Slots} {pass : Lexemes → Lexemes} (c : LinkForm) (x : Stretch text before_chain (bases f) s nothing s' (tree l cs) pass) → Goes rule (Lex text) (plain full) end (seq (bases f) (chained f c true).part) s (chained f c true).part s' (tree l cs) (record { reach = x.reach; pass = pass })
   unfolding covers
-  headed true x = then_by {X' = before_chain} x.goes (by_first firsts (by_plain (is QuestionDot)) refl)
-  headed false x = then_by {X' = before_chain} x.goes (by_first firsts (by_plain (is QuestionDot)) refl)
+  headed by_call x = then_by {X' = before_chain} x.goes (by_first firsts (by_plain (is QuestionDot)) refl)
+  headed by_name x = then_by {X' = before_chain} x.goes (by_first firsts (by_plain (is QuestionDot)) refl)
+  headed by_index x = then_by {X' = before_chain} x.goes (by_first firsts (by_plain (is QuestionDot)) refl)
 
-  headless : {s : ℕ} (c : Bool) → Fails rule (Lex text) before_chain end (bases f) s → Fails rule (Lex text) (plain full) end (seq (bases f) (chained f c true).part) s
+  headless : {s : ℕ} (c : LinkForm) → Fails rule (Lex text) before_chain end (bases f) s → Fails rule (Lex text) (plain full) end (seq (bases f) (chained f c true).part) s
   unfolding covers
-  headless true x = part_fails {X' = before_chain} x (by_first firsts (by_plain (is QuestionDot)) refl)
-  headless false x = part_fails {X' = before_chain} x (by_first firsts (by_plain (is QuestionDot)) refl)
+  headless by_call x = part_fails {X' = before_chain} x (by_first firsts (by_plain (is QuestionDot)) refl)
+  headless by_name x = part_fails {X' = before_chain} x (by_first firsts (by_plain (is QuestionDot)) refl)
+  headless by_index x = part_fails {X' = before_chain} x (by_first firsts (by_plain (is QuestionDot)) refl)
 
-  other_link : {s : ℕ} (c o d e : Bool) → ((c ≡ d) × (o ≡ e) → ⊥) → OnlyLink text f s d e → Fails rule (Lex text) (plain full) end (chained f c o).part s
-  other_link {s} c o d e n u = go (u c o)
+  other_link : {s : ℕ} (c d : LinkForm) → (c ≡ d → ⊥) → OnlyLink text f s d true → Fails rule (Lex text) (plain full) end (chained f c true).part s
+  other_link {s} c d n u = go (u c true)
     where
-      go : ((c ≡ d) × (o ≡ e)) ⊎ Fails rule (Lex text) (plain full) end (chained f c o).part s → Fails rule (Lex text) (plain full) end (chained f c o).part s
-      go (inl z) = absurd (n z)
+      go : ((c ≡ d) × (true ≡ true)) ⊎ Fails rule (Lex text) (plain full) end (chained f c true).part s → Fails rule (Lex text) (plain full) end (chained f c true).part s
+      go (inl z) = absurd (n z.0)
       go (inr z) = z
 
-  -- the first link was read
-  pub chain_begin : {s s' s'' from : ℕ} {l : Label} {cs : Slots} {pass more : Lexemes → Lexemes} {h : Slots → Slots} (c : Bool) → Stretch text before_chain (bases f) s nothing s' (tree l cs) pass → s' ≤ s'' → ((y : Lexeme) → Lex text s y → y.from ≡ from) → OnlyLink text f s' c true → Stretch text (plain full) (chained f c true).part s' nothing s'' h more
-      → Looped text (chains f) (after (at Links f)) s from (link_label c true from s'') (tree l cs (h end)) (λ ls. pass (more ls)) s''
-  unfolding chain_links rule_of covers
-  chain_begin {s = s} {s'' = s''} {from = from} true x o b u y = record {
-    reach = max 0 (max 0 (max x.reach y.reach));
-    near = let i = x.near in let j = y.near in omega arith;
-    around = chain_start firsts (climbs is_links Links f) (chain_links f) {F' = full} (chain_foot ▹ (left (fails_node inside_full (headed false x ▹✗ other_link false true true true (λ e. false≢true e.0) u)) ▹ makes_by (linked_label (chained f true true) from s'') inside_full (headed true x ▹ y.goes) (λ ls ls' i j. ap (λ v. linked_label (chained f true true) v s'') (b (here ls) (here_at (Lex text) ls i))))) refl refl b;
-  }
-  chain_begin {s = s} {s'' = s''} {from = from} false x o b u y = record {
-    reach = max 0 (max 0 (max x.reach y.reach));
-    near = let i = x.near in let j = y.near in omega arith;
-    around = chain_start firsts (climbs is_links Links f) (chain_links f) {F' = full} (chain_foot ▹ (right (fails_node inside_full (headed true x ▹✗ other_link true true false true (λ e. false≢true (sym e.0)) u)) ▹ makes_by (linked_label (chained f false true) from s'') inside_full (headed false x ▹ y.goes) (λ ls ls' i j. ap (λ v. linked_label (chained f false true) v s'') (b (here ls) (here_at (Lex text) ls i))))) refl refl b;
-  }
+  -- the first link was read, and it is no other one
+  another_first : {s s' : ℕ} {l : Label} {cs : Slots} {pass : Lexemes → Lexemes} (x : Stretch text before_chain (bases f) s nothing s' (tree l cs) pass) (c d : LinkForm) → (c ≡ d → ⊥) → OnlyLink text f s' d true → Fails rule (Lex text) (plain full) end (first_link f c) s
+  another_first x c d n u = fails_node inside_full (headed c x ▹✗ other_link c d n u)
+
+  module _ {s s' s'' from : ℕ} {l : Label} {cs : Slots} {pass more : Lexemes → Lexemes} {h : Slots → Slots} (x : Stretch text before_chain (bases f) s nothing s' (tree l cs) pass) (o : s' ≤ s'') (b : (y : Lexeme) → Lex text s y → y.from ≡ from) where
+    the_first : {X : Test} (c : LinkForm) (y : Stretch text (plain full) (chained f c true).part s' nothing s'' h more) → Reads rule (Lex text) X end (first_link f c) s s'' (tree (link_label c true from s'') (tree l cs (h end))) (joined (record { reach = x.reach; pass = pass }) (record { reach = y.reach; pass = more }))
+    the_first c y = makes_by (link_label c true from s'') inside_full (headed c x ▹ y.goes) (λ ls ls' i j. ap (λ v. link_label c true v s'') (b (here ls) (here_at (Lex text) ls i)))
+
+    pub chain_begin : (c : LinkForm) → OnlyLink text f s' c true → Stretch text (plain full) (chained f c true).part s' nothing s'' h more → Looped text (chains f) (after (at Links f)) s from (link_label c true from s'') (tree l cs (h end)) (λ ls. pass (more ls)) s''
+    unfolding chain_links rule_of covers
+    chain_begin by_call u y = record {
+      reach = max 0 (max 0 (max x.reach y.reach));
+      near = let i = x.near in let j = y.near in omega arith;
+      around = chain_start firsts (climbs is_links Links f) (chain_links f) {F' = full} (chain_foot ▹ (left (fails_alt (another_first x by_name by_call (λ e. cc) u) (another_first x by_index by_call (λ e. cc) u)) ▹ the_first by_call y)) refl refl b;
+    }
+    chain_begin by_name u y = record {
+      reach = max 0 (max 0 (max 0 (max x.reach y.reach)));
+      near = let i = x.near in let j = y.near in omega arith;
+      around = chain_start firsts (climbs is_links Links f) (chain_links f) {F' = full} (chain_foot ▹ (right (another_first x by_call by_name (λ e. cc) u) ▹ (left (another_first x by_index by_name (λ e. cc) u) ▹ the_first by_name y))) refl refl b;
+    }
+    chain_begin by_index u y = record {
+      reach = max 0 (max 0 (max 0 (max x.reach y.reach)));
+      near = let i = x.near in let j = y.near in omega arith;
+      around = chain_start firsts (climbs is_links Links f) (chain_links f) {F' = full} (chain_foot ▹ (right (another_first x by_call by_index (λ e. cc) u) ▹ (right (another_first x by_name by_index (λ e. cc) u) ▹ the_first by_index y))) refl refl b;
+    }
 
   no_chain : {s : ℕ} → Underived text (at Links f) s → Underived text (at Chain f) s
   unfolding rule rule_of
   no_chain x = fails_by (fails_node (record { ends = λ p cs vs j ls mid d e. e }) x)
 
-  first_fails : {s : ℕ} → ((c : Bool) → Fails rule (Lex text) (plain full) end (seq (bases f) (chained f c true).part) s) → Underived text (at Chain f) s
+  first_fails : {s : ℕ} → ((c : LinkForm) → Fails rule (Lex text) (plain full) end (seq (bases f) (chained f c true).part) s) → Underived text (at Chain f) s
   unfolding chain_links rule_of covers
-  first_fails x = no_chain (chain_start_fails firsts (climbs is_links Links f) (chain_links f) {F' = full} (chain_foot ▹✗ fails_alt (fails_node inside_full (x true)) (fails_node inside_full (x false))) refl refl)
+  first_fails x = no_chain (chain_start_fails firsts (climbs is_links Links f) (chain_links f) {F' = full} (chain_foot ▹✗ fails_alt (fails_node inside_full (x by_call)) (fails_alt (fails_node inside_full (x by_name)) (fails_node inside_full (x by_index)))) refl refl)
 
   pub no_first : {s : ℕ} → Fails rule (Lex text) before_chain end (bases f) s → Underived text (at Chain f) s
   no_first x = first_fails (λ c. headless c x)
 
   -- behind a base stands no link
-  pub no_link : {s s' : ℕ} {l : Label} {cs : Slots} {pass : Lexemes → Lexemes} → Stretch text before_chain (bases f) s nothing s' (tree l cs) pass → ((c : Bool) → Fails rule (Lex text) (plain full) end (chained f c true).part s') → Underived text (at Chain f) s
+  pub no_link : {s s' : ℕ} {l : Label} {cs : Slots} {pass : Lexemes → Lexemes} → Stretch text before_chain (bases f) s nothing s' (tree l cs) pass → ((c : LinkForm) → Fails rule (Lex text) (plain full) end (chained f c true).part s') → Underived text (at Chain f) s
   no_link x n = first_fails (λ c. headed c x ▹✗ n c)
 
   not_before_link : (k : Kind) {s' : ℕ} (l : Label) (cs : Slots) → ((w : Bool) → follow_of Links f.in_ (edge_of l cs) k w false ≡ false) → AllAre text s' k → (y : Lexeme) → Lex text s' y → Admits (after (at Links f)) (tree l cs end) y → ⊥
   not_before_link k l cs h z y i e = false≢true (sym (h y.newline) ∙ subst (λ v. follow_of Links f.in_ (edge_of l cs) v y.newline false ≡ true) (z y i).0 (subst (λ v. follow_of Links f.in_ (edge_of l cs) y.kind y.newline v ≡ true) (z y i).1 e.1))
 
-  dot_link : {s : ℕ} (x' : Link Symbol) → OneOf x' (beginning firsts (chain_links f) Dot) → (x' ≡ chained f false false) ⊎ Fails rule (Lex text) (plain full) end x'.part s
+  dot_link : {s : ℕ} (x' : Link Symbol) → OneOf x' (beginning firsts (chain_links f) Dot) → (x' ≡ chained f by_name false) ⊎ Fails rule (Lex text) (plain full) end x'.part s
   unfolding chain_links rule_of apart
   dot_link x' head = inl refl
   dot_link x' (later head) = inr (fails_dead (private f).part refl)
   dot_link x' (later (later i)) = elim i [ ]
 
-  paren_link : {s : ℕ} (x' : Link Symbol) → OneOf x' (beginning firsts (chain_links f) LParen) → (x' ≡ chained f true false) ⊎ Fails rule (Lex text) (plain full) end x'.part s
+  paren_link : {s : ℕ} (x' : Link Symbol) → OneOf x' (beginning firsts (chain_links f) LParen) → (x' ≡ chained f by_call false) ⊎ Fails rule (Lex text) (plain full) end x'.part s
   unfolding chain_links rule_of apart
   paren_link x' head = inl refl
   paren_link x' (later i) = elim i [ ]
 
-  call_link : {s : ℕ} → OnlyLink text f s true true → (x' : Link Symbol) → OneOf x' (beginning firsts (chain_links f) QuestionDot) → (x' ≡ chained f true true) ⊎ Fails rule (Lex text) (plain full) end x'.part s
+  bracket_link : {s : ℕ} (x' : Link Symbol) → OneOf x' (beginning firsts (chain_links f) LBrack) → (x' ≡ chained f by_index false) ⊎ Fails rule (Lex text) (plain full) end x'.part s
   unfolding chain_links rule_of apart
-  call_link u x' head = inl refl
-  call_link u x' (later head) = inr (other_link false true true true (λ e. false≢true e.0) u)
-  call_link u x' (later (later head)) = inr (fails_dead x'.part refl)
-  call_link u x' (later (later (later head))) = inr (fails_dead x'.part refl)
-  call_link u x' (later (later (later (later i)))) = elim i [ ]
+  bracket_link x' head = inl refl
+  bracket_link x' (later i) = elim i [ ]
 
-  name_link : {s : ℕ} → OnlyLink text f s false true → (x' : Link Symbol) → OneOf x' (beginning firsts (chain_links f) QuestionDot) → (x' ≡ chained f false true) ⊎ Fails rule (Lex text) (plain full) end x'.part s
+  optional_one : {s : ℕ} (c : LinkForm) → OnlyLink text f s c true → (x' : Link Symbol) → OneOf x' (beginning firsts (chain_links f) QuestionDot) → (x' ≡ chained f c true) ⊎ Fails rule (Lex text) (plain full) end x'.part s
   unfolding chain_links rule_of apart
-  name_link u x' head = inr (other_link true true false true (λ e. false≢true (sym e.0)) u)
-  name_link u x' (later head) = inl refl
-  name_link u x' (later (later head)) = inr (fails_dead x'.part refl)
-  name_link u x' (later (later (later head))) = inr (fails_dead x'.part refl)
-  name_link u x' (later (later (later (later i)))) = elim i [ ]
+  optional_one by_call u x' head = inl refl
+  optional_one by_call u x' (later head) = inr (other_link by_name by_call (λ e. cc) u)
+  optional_one by_call u x' (later (later (later head))) = inr (other_link by_index by_call (λ e. cc) u)
+  optional_one by_name u x' head = inr (other_link by_call by_name (λ e. cc) u)
+  optional_one by_name u x' (later head) = inl refl
+  optional_one by_name u x' (later (later (later head))) = inr (other_link by_index by_name (λ e. cc) u)
+  optional_one by_index u x' head = inr (other_link by_call by_index (λ e. cc) u)
+  optional_one by_index u x' (later head) = inr (other_link by_name by_index (λ e. cc) u)
+  optional_one by_index u x' (later (later (later head))) = inl refl
+  optional_one c u x' (later (later head)) = inr (fails_dead x'.part refl)
+  optional_one c u x' (later (later (later (later i)))) = elim i [ ]
 
-  pub chain_step : {s s' s'' from : ℕ} {l : Label} {cs : Slots} {pass more : Lexemes → Lexemes} {h : Slots → Slots} (c o : Bool) → Looped text (chains f) (after (at Links f)) s from l cs pass s' → AllAre text s' (sign_of c o) → OnlyLink text f s' c o → s' ≤ s'' → Stretch text (plain full) (chained f c o).part s' nothing s'' h more
-      → Looped text (chains f) (after (at Links f)) s from (link_label c o from s'') (tree l cs (h end)) (λ ls. pass (more ls)) s''
-  unfolding chain_links rule_of covers
-  chain_step {l = l} {cs = cs} true true x z u o y = record { reach = max x.reach y.reach; near = let i = x.near in let j = y.near in omega arith; around = chain_step_by firsts (climbs is_links Links f) (chain_links f) {F' = full} QuestionDot x.around (λ y i. (z y i).0) (search (this, of_left, of_right) depth 14) (call_link u) (not_before_link QuestionDot l cs (λ w. refl) z) y.goes refl refl }
-  chain_step {l = l} {cs = cs} false true x z u o y = record { reach = max x.reach y.reach; near = let i = x.near in let j = y.near in omega arith; around = chain_step_by firsts (climbs is_links Links f) (chain_links f) {F' = full} QuestionDot x.around (λ y i. (z y i).0) (search (this, of_left, of_right) depth 14) (name_link u) (not_before_link QuestionDot l cs (λ w. refl) z) y.goes refl refl }
-  chain_step {l = l} {cs = cs} true false x z u o y = record { reach = max x.reach y.reach; near = let i = x.near in let j = y.near in omega arith; around = chain_step_by firsts (climbs is_links Links f) (chain_links f) {F' = full} LParen x.around (λ y i. (z y i).0) (search (this, of_left, of_right) depth 14) paren_link (not_before_link LParen l cs (λ w. refl) z) y.goes refl refl }
-  chain_step {l = l} {cs = cs} false false x z u o y = record { reach = max x.reach y.reach; near = let i = x.near in let j = y.near in omega arith; around = chain_step_by firsts (climbs is_links Links f) (chain_links f) {F' = full} Dot x.around (λ y i. (z y i).0) (search (this, of_left, of_right) depth 14) dot_link (not_before_link Dot l cs (λ w. refl) z) y.goes refl refl }
+  module _ {s s' from : ℕ} {l : Label} {cs : Slots} {pass : Lexemes → Lexemes} (x : Looped text (chains f) (after (at Links f)) s from l cs pass s') where
+    pub chain_step : {s'' : ℕ} {more : Lexemes → Lexemes} {h : Slots → Slots} (c : LinkForm) (o : Bool) → AllAre text s' (sign_of c o) → OnlyLink text f s' c o → s' ≤ s'' → Stretch text (plain full) (chained f c o).part s' nothing s'' h more
+        → Looped text (chains f) (after (at Links f)) s from (link_label c o from s'') (tree l cs (h end)) (λ ls. pass (more ls)) s''
+    unfolding chain_links rule_of covers
+    chain_step by_call true z u o y = record { reach = max x.reach y.reach; near = let i = x.near in let j = y.near in omega arith; around = chain_step_by firsts (climbs is_links Links f) (chain_links f) {F' = full} QuestionDot x.around (λ y i. (z y i).0) (search (this, of_left, of_right) depth 14) (optional_one by_call u) (not_before_link QuestionDot l cs (λ w. refl) z) y.goes refl refl }
+    chain_step by_name true z u o y = record { reach = max x.reach y.reach; near = let i = x.near in let j = y.near in omega arith; around = chain_step_by firsts (climbs is_links Links f) (chain_links f) {F' = full} QuestionDot x.around (λ y i. (z y i).0) (search (this, of_left, of_right) depth 14) (optional_one by_name u) (not_before_link QuestionDot l cs (λ w. refl) z) y.goes refl refl }
+    chain_step by_index true z u o y = record { reach = max x.reach y.reach; near = let i = x.near in let j = y.near in omega arith; around = chain_step_by firsts (climbs is_links Links f) (chain_links f) {F' = full} QuestionDot x.around (λ y i. (z y i).0) (search (this, of_left, of_right) depth 14) (optional_one by_index u) (not_before_link QuestionDot l cs (λ w. refl) z) y.goes refl refl }
+    chain_step by_call false z u o y = record { reach = max x.reach y.reach; near = let i = x.near in let j = y.near in omega arith; around = chain_step_by firsts (climbs is_links Links f) (chain_links f) {F' = full} LParen x.around (λ y i. (z y i).0) (search (this, of_left, of_right) depth 14) paren_link (not_before_link LParen l cs (λ w. refl) z) y.goes refl refl }
+    chain_step by_name false z u o y = record { reach = max x.reach y.reach; near = let i = x.near in let j = y.near in omega arith; around = chain_step_by firsts (climbs is_links Links f) (chain_links f) {F' = full} Dot x.around (λ y i. (z y i).0) (search (this, of_left, of_right) depth 14) dot_link (not_before_link Dot l cs (λ w. refl) z) y.goes refl refl }
+    chain_step by_index false z u o y = record { reach = max x.reach y.reach; near = let i = x.near in let j = y.near in omega arith; around = chain_step_by firsts (climbs is_links Links f) (chain_links f) {F' = full} LBrack x.around (λ y i. (z y i).0) (search (this, of_left, of_right) depth 14) bracket_link (not_before_link LBrack l cs (λ w. refl) z) y.goes refl refl }
 
-  -- no link can be read here
-  pub chain_step_fails : {s s' from : ℕ} {l : Label} {cs : Slots} {pass : Lexemes → Lexemes} → Looped text (chains f) (after (at Links f)) s from l cs pass s' → (c o : Bool) → AllAre text s' (sign_of c o) → ((c o : Bool) → Fails rule (Lex text) (plain full) end (chained f c o).part s') → Underived text (at Chain f) s
-  unfolding chain_links rule_of covers
-  chain_step_fails {l = l} {cs = cs} x c true z r = no_chain (chain_step_fails_by firsts (climbs is_links Links f) (chain_links f) {F' = full} {x = chained f false true} QuestionDot x.around (λ y i. (z y i).0) (search (this, of_left, of_right) depth 14) (name_link (λ c' o'. inr (r c' o'))) (not_before_link QuestionDot l cs (λ w. refl) z) (λ l cs vs y e. e) (r false true) refl refl)
-  chain_step_fails {l = l} {cs = cs} x true false z r = no_chain (chain_step_fails_by firsts (climbs is_links Links f) (chain_links f) {F' = full} {x = chained f true false} LParen x.around (λ y i. (z y i).0) (search (this, of_left, of_right) depth 14) paren_link (not_before_link LParen l cs (λ w. refl) z) (λ l cs vs y e. e) (r true false) refl refl)
-  chain_step_fails {l = l} {cs = cs} x false false z r = no_chain (chain_step_fails_by firsts (climbs is_links Links f) (chain_links f) {F' = full} {x = chained f false false} Dot x.around (λ y i. (z y i).0) (search (this, of_left, of_right) depth 14) dot_link (not_before_link Dot l cs (λ w. refl) z) (λ l cs vs y e. e) (r false false) refl refl)
+    -- no link can be read here
+    pub chain_step_fails : (c : LinkForm) (o : Bool) → AllAre text s' (sign_of c o) → ((c : LinkForm) (o : Bool) → Fails rule (Lex text) (plain full) end (chained f c o).part s') → Underived text (at Chain f) s
+    unfolding chain_links rule_of covers
+    chain_step_fails c true z r = no_chain (chain_step_fails_by firsts (climbs is_links Links f) (chain_links f) {F' = full} {x = chained f by_name true} QuestionDot x.around (λ y i. (z y i).0) (search (this, of_left, of_right) depth 14) (optional_one by_name (λ c' o'. inr (r c' o'))) (not_before_link QuestionDot l cs (λ w. refl) z) (λ l cs vs y e. e) (r by_name true) refl refl)
+    chain_step_fails by_call false z r = no_chain (chain_step_fails_by firsts (climbs is_links Links f) (chain_links f) {F' = full} {x = chained f by_call false} LParen x.around (λ y i. (z y i).0) (search (this, of_left, of_right) depth 14) paren_link (not_before_link LParen l cs (λ w. refl) z) (λ l cs vs y e. e) (r by_call false) refl refl)
+    chain_step_fails by_name false z r = no_chain (chain_step_fails_by firsts (climbs is_links Links f) (chain_links f) {F' = full} {x = chained f by_name false} Dot x.around (λ y i. (z y i).0) (search (this, of_left, of_right) depth 14) dot_link (not_before_link Dot l cs (λ w. refl) z) (λ l cs vs y e. e) (r by_name false) refl refl)
+    chain_step_fails by_index false z r = no_chain (chain_step_fails_by firsts (climbs is_links Links f) (chain_links f) {F' = full} {x = chained f by_index false} LBrack x.around (λ y i. (z y i).0) (search (this, of_left, of_right) depth 14) bracket_link (not_before_link LBrack l cs (λ w. refl) z) (λ l cs vs y e. e) (r by_index false) refl refl)
 
   -- no link stands here
   pub chain_ends : {s s' from : ℕ} {l : Label} {cs : Slots} {pass : Lexemes → Lexemes} → Looped text (chains f) (after (at Links f)) s from l cs pass s' → ((y : Lexeme) → Lex text s' y → one_of_kinds link_kinds y.kind ≡ false) → Stretch text (after (at Links f)) (such (at Links f) always) s nothing s' (tree l cs) pass

@@ -1,10 +1,10 @@
 -- Members, `new` and optional chains, from what the calls that read them answer.
-use Rattle.std.proofs.Common.{ℕ, ◌≡◌, ◌≤◌, ◌<◌, ◌+◌, ◌⊎◌, inl, inr, max, List, [], ◌∷◌, length, Option, Some, None, Bool, true, false, not, ◌&&◌, ◌||◌, IsTrue, refl, sym, ap, subst, arith, ◌∙◌, nat_lt}
+use Rattle.std.proofs.Common.{ℕ, ◌≡◌, ◌≤◌, ◌<◌, ◌+◌, ◌⊎◌, inl, inr, max, List, [], ◌∷◌, length, Option, Some, None, Bool, true, false, not, ◌&&◌, ◌||◌, IsTrue, refl, sym, ap, subst, arith, ◌∙◌, nat_lt, ◌++◌, cond}
 use Rattle.std.specs.Prelude.{Result, Ok, Err, MatchResult}
 use Rattle.std.proofs.lemmas.Bool.{false≢true, and_parts, and_from}
 use Rattle.js_base.specs.declared.diagnostic.Diagnostic.{Diagnostic}
 use Rattle.js_base.specs.declared.kind.Kind.{Kind}
-use Rattle.js_base.specs.declared.kind.Kind.TheVariants.{RAngle, New, Dot, QuestionDot, LParen}
+use Rattle.js_base.specs.declared.kind.Kind.TheVariants.{RAngle, New, Dot, QuestionDot, LParen, LBrack, RBrack, PrivateIdentifier, Ident, This, Null, True, False, Decimal, Str}
 use Rattle.js_base.specs.declared.span.Span.{Span}
 use Rattle.js_base.specs.Kinds.{same_kind, one_of_kinds}
 use Rattle.js_base.specs.KindSets.{identifier_name_kinds}
@@ -12,8 +12,8 @@ use Rattle.js_base.proofs.KindLemmas.{kind_of_same}
 use Rattle.js_grammar.specs.Trees.{Slots, end, tree, Label, no_op, identifier_name, new_expression, chain_expression}
 use Rattle.js_grammar.specs.Grammar.{Lexeme, Lexemes, Look, next, seen, exact, seq, such, nothing, ◌▸◌}
 use Rattle.js_grammar.specs.Insertion.{after_expression, is_word}
-use Rattle.js_grammar.specs.Parsing.{plain, full, always, Fails}
-use Rattle.js_grammar.specs.Productions.{G, Flags, Symbol, at, tok, IdentifierName, Primary, Member, LeftHandSide}
+use Rattle.js_grammar.specs.Parsing.{Test, plain, full, always, behind, Fails, Way, still, passing}
+use Rattle.js_grammar.specs.Productions.{G, Flags, Symbol, at, tok, mk, plus_in, IdentifierName, Expression, Primary, Member, Call, Chain, Links, LeftHandSide}
 use Rattle.js_grammar.specs.Productions.{New as new_symbol, sym as symbol}
 use Rattle.js_grammar.specs.Table.{rule, rule_of, args}
 use Rattle.js_grammar.specs.Follow.{Edge, row_of, edge_of, follow, follow_of, after, tight}
@@ -22,6 +22,7 @@ use Rattle.js_grammar.proofs.Calculus.{Inside, inside_full, weaken, ◌▹◌, �
 use Rattle.js_grammar.proofs.FirstClaims.{firsts}
 use Rattle.js_grammar.proofs.FirstRules.{by_first, fails_here}
 use Rattle.js_grammar.proofs.FollowLaws.{fails_by, surely}
+use Rattle.js_grammar.proofs.Lexemes.{first_or}
 use Rattle.js_grammar.proofs.RightEdges.{may_end, same_row}
 use Rattle.js_base.specs.declared.diagnostic.DiagnosticKind.TheVariants as fault
 use Rattle.js_grammar.specs.Lexed.{all_faults}
@@ -41,7 +42,7 @@ use Rattle.js_tree.proofs.HoldingLemmas.{HoldsAll-one, HoldsAll-next, Keeps-refl
 use Rattle.js_cursor.specs.Checkpoints.{Follows}
 use Rattle.js_cursor.specs.Parsers.{Parser}
 use Rattle.js_cursor.specs.Places.{IsAt, goal}
-use Rattle.js_cursor.specs.Moves.{Enters, GivesUp, Leaves, OnlyMemory, is_last}
+use Rattle.js_cursor.specs.Moves.{Enters, GivesUp, Leaves, MovesOn, OnlyMemory, is_last}
 use Rattle.js_cursor.specs.declared.stop.Stop.{Stop}
 use Rattle.js_cursor.specs.declared.stop.Stop.TheVariants.{Fatal, NoMemory}
 use Rattle.js_cursor.proofs.Later.{follows_on}
@@ -51,19 +52,27 @@ use Rattle.js_core.specs.Nesting.{room}
 use Rattle.js_core.proofs.Nesting.{nested_room, later_room}
 use Rattle.js_core.specs.Moves.{Moved, MadeHere, TakesLeaf, IsWholeHere, plain_label}
 use Rattle.js_core.specs.Answers.{Grown, Verdict, clean, Stretch, Underived, Numbered, Outcome, Stops, beside}
-use Rattle.js_core.specs.Members.{StandsHere, no_link_behind, Taken, NoBareNew, NoMember, Headed, a_member, a_new, MemberSoFar, NoDot, NoParen, NoLhs, HeadOutcome, link_kinds, chained, sign_of, link_label, NoLink, OnlyLink, Linked, LinkHere, a_link, no_link, ReadsLink, WithArguments, MakesWithArguments, LinkOutcome, Beyond, CallSoFar, ChainSoFar, Callee, a_head, a_call, CalleeOutcome, TellsChain}
-use Rattle.js_core.specs.Arguments.{Partway}
+use Rattle.js_core.specs.Members.{StandsHere, no_link_behind, Taken, Looped, NoBareNew, NoMember, Headed, a_member, a_new, MemberSoFar, NoAccess, NoParen, NoLhs, HeadOutcome, without_arguments, link_kinds, LinkForm, by_name, by_call, by_index, indexed, admits, chained, sign_of, link_label, NoLink, OnlyLink, Linked, LinkHere, a_link, no_link, ReadsLink, WithArguments, MakesWithArguments, WithIndex, MakesWithIndex, LinkOutcome, Beyond, CallSoFar, ChainSoFar, Callee, a_head, a_call, CalleeOutcome, TellsChain}
+use Rattle.js_core.specs.Arguments.{Partway, Arguments}
 use Rattle.js_core.proofs.Here.{told, angled, begins_here, kind_here, escaped_here, uncut, found}
 use Rattle.js_core.proofs.Tight.{read_plain}
 use Rattle.js_core.proofs.Verdicts.{verdict_of, either_way, and_then, behind_none, grown_then}
 use Rattle.js_core.proofs.Verdicts.{after as grown_behind}
-use Rattle.js_core.proofs.Moving.{same_both, same_with, beside_nodes, elsewhere, at_depth, stops_behind, stops_in, stops_so, standing}
+use Rattle.js_core.proofs.Moving.{moves, same_both, beside_nodes, elsewhere, at_depth, stops_behind, stops_in, stops_so, standing, same_with}
 use Rattle.js_core.proofs.MadeNodes.{leaf_held, node_held}
-use Rattle.js_core.proofs.Paths.{reads, Path, ◌⟶✗◌, skips, token, passes_test, read_of, walked_both, walked_one, noded, noding, label_here}
+use Rattle.js_core.proofs.Paths.{reads, Path, ◌⟶◌, ◌⟶✗◌, skips, token, last_called, passes_test, read_of, walked_both, walked_one, noded, noded_by, noding, label_here, by_symbol_as, fails_at}
 use Rattle.js_core.proofs.Operands.{by_path, primary_fails, primary_kinds}
+use Rattle.js_core.proofs.Giving.{fails_none, gives_up}
 use Rattle.js_core.proofs.Links.{AllAre, NoneIs, NotCall, bases, before_chain, with_arguments, member_start, no_member, member_new, no_member_new, member_step, member_step_fails, member_end, no_new_before, new_unfollowed, no_new, new_member, new_bare, member_before_chain, no_call_at_all, no_call_behind, call_begin, call_step, call_step_fails, call_ends, base_member, base_call, base_none, chain_begin, no_first, chain_step, chain_step_fails, chain_ends, no_lhs, lhs_new, lhs_call, lhs_chain, call_unfollowed, member_before, member_alone, call_alone, no_lhs_here, call_heads, chain_heads}
 use Rattle.js_core.proofs.Links.{no_link as no_chain_link}
 use Rattle.js_core.proofs.Stretches.{stretches}
+use Rattle.js_core.proofs.Told.{lexeme_marked}
+use Rattle.js_core.proofs.Parts.{part_path, part_path_fails, parts, part_sign, part_last, part_called}
+use Rattle.js_core.proofs.Conditionals.{plain_sign, other_kind}
+use Rattle.js_core.specs.declared.left_hand_side.LinkBase.{LinkBase}
+use Rattle.js_core.specs.declared.left_hand_side.LinkBase.TheVariants as base
+use Rattle.js_base.specs.Texts.{words}
+use Rattle.js_grammar.specs.Lexemes.{is_word as is_name_word}
 
 -- ---- which lexeme stands here
 
@@ -78,14 +87,22 @@ module _ {text : List ℕ} {f : Flags} {p : Parser} (a : At text f p) where
       go true c = false≢true (sym n ∙ subst (λ v. is_right_angle v ≡ true) e (angled a c y l))
       go false c = s ((told a c y l).kind ∙ e) (sym (escaped_here a y l) ∙ read_plain y l.1)
 
-no_link_kind : {text : List ℕ} {s : ℕ} → NoneIs text s Dot → NoneIs text s QuestionDot → NoneIs text s LParen → (y : Lexeme) → Lex text s y → one_of_kinds link_kinds y.kind ≡ false
-no_link_kind n m o y l = go (same_kind Dot y.kind) (same_kind QuestionDot y.kind) (same_kind LParen y.kind) refl refl refl
+-- of these kinds none stands here
+none_of : {text : List ℕ} {s : ℕ} (ks : List Kind) → ((k : Kind) → one_of_kinds ks k ≡ true → NoneIs text s k) → (y : Lexeme) → Lex text s y → one_of_kinds ks y.kind ≡ false
+none_of ks n y l = go (one_of_kinds ks y.kind) refl
   where
-    go : (a b c : Bool) → same_kind Dot y.kind ≡ a → same_kind QuestionDot y.kind ≡ b → same_kind LParen y.kind ≡ c → (a || (b || (c || false))) ≡ false
-    go true b c e h i = absurd (n y l (sym (kind_of_same Dot y.kind e)))
-    go false true c e h i = absurd (m y l (sym (kind_of_same QuestionDot y.kind h)))
-    go false false true e h i = absurd (o y l (sym (kind_of_same LParen y.kind i)))
-    go false false false e h i = refl
+    go : (b : Bool) → one_of_kinds ks y.kind ≡ b → b ≡ false
+    go true e = absurd (n y.kind e y l refl)
+    go false e = refl
+
+no_access_kind : {text : List ℕ} {s : ℕ} → NoneIs text s Dot × NoneIs text s LBrack → (y : Lexeme) → Lex text s y → one_of_kinds (Dot ∷ LBrack ∷ []) y.kind ≡ false
+no_access_kind {text} {s} n = none_of (Dot ∷ LBrack ∷ []) (λ k h. first_or (λ k. NoneIs text s k) Dot k _ _ refl h n.0 (λ h. first_or (λ k. NoneIs text s k) LBrack k _ _ refl h n.1 (λ h. absurd (false≢true h))))
+
+no_call_kind : {text : List ℕ} {s : ℕ} → NoneIs text s Dot × NoneIs text s LBrack → NoneIs text s LParen → (y : Lexeme) → Lex text s y → one_of_kinds (Dot ∷ LBrack ∷ LParen ∷ []) y.kind ≡ false
+no_call_kind {text} {s} n m = none_of (Dot ∷ LBrack ∷ LParen ∷ []) (λ k h. first_or (λ k. NoneIs text s k) Dot k _ _ refl h n.0 (λ h. first_or (λ k. NoneIs text s k) LBrack k _ _ refl h n.1 (λ h. first_or (λ k. NoneIs text s k) LParen k _ _ refl h m (λ h. absurd (false≢true h)))))
+
+no_link_kind : {text : List ℕ} {s : ℕ} → NoneIs text s Dot × NoneIs text s LBrack → NoneIs text s QuestionDot → NoneIs text s LParen → (y : Lexeme) → Lex text s y → one_of_kinds link_kinds y.kind ≡ false
+no_link_kind {text} {s} n m o = none_of link_kinds (λ k h. first_or (λ k. NoneIs text s k) Dot k _ _ refl h n.0 (λ h. first_or (λ k. NoneIs text s k) LBrack k _ _ refl h n.1 (λ h. first_or (λ k. NoneIs text s k) QuestionDot k _ _ refl h m (λ h. first_or (λ k. NoneIs text s k) LParen k _ _ refl h o (λ h. absurd (false≢true h))))))
 
 -- ---- names behind a sign
 
@@ -222,46 +239,78 @@ taken_back {text} {f} {C} {A} {p} {e} {q} {w} {id} a h l x =
 
 -- ---- links
 
-link_row : (c o : Bool) (from to : ℕ) (cs : Slots) → same_row after_expression (row_of (link_label c o from to) cs) ≡ true
-link_row true o from to cs = refl
-link_row false o from to cs = refl
-
-pub part_path : {text : List ℕ} {f : Flags} {g : G} {p q : Parser} {ids js : List (Option NodeId)} (x : Partway text f g nothing p q ids js) → Path text f (plain full) g p nothing q x.slots
-part_path x = record { at = x.at; further = x.further; pass = x.pass; walked = x.walked; verdict = x.verdict }
+link_row : (c : LinkForm) (o : Bool) (from to : ℕ) (cs : Slots) → same_row after_expression (row_of (link_label c o from to) cs) ≡ true
+link_row by_call o from to cs = refl
+link_row by_name o from to cs = refl
+link_row by_index o from to cs = refl
 
 pub link_taken : {text : List ℕ} {f : Flags} {C D : Label → Slots → (Lexemes → Lexemes) → ℕ → Type 0} {A : Type 0} {o p w : Parser} {left id : NodeId} {start : ℕ} (x : Taken text f o p left C A) → start ≡ o.token.span.start → (y : Linked text f start left p w id)
-    → ((pass : Lexemes → Lexemes) → C x.label x.slots x.pass p.prev_token_end → p.prev_token_end ≤ y.behind.prev_token_end → Stretch text (plain full) (chained f y.call y.optional).part p.prev_token_end nothing y.behind.prev_token_end y.part.slots pass → D (link_label y.call y.optional o.token.span.start y.behind.prev_token_end) (tree x.label x.slots (y.part.slots end)) (λ ls. x.pass (pass ls)) y.behind.prev_token_end)
-    → (C x.label x.slots x.pass p.prev_token_end → NoLink text f p.prev_token_end y.call y.optional → A) → Taken text f o w id D A
+    → ((pass : Lexemes → Lexemes) → C x.label x.slots x.pass p.prev_token_end → p.prev_token_end ≤ y.behind.prev_token_end → Stretch text (plain full) (chained f y.form y.optional).part p.prev_token_end nothing y.behind.prev_token_end y.part.slots pass → D (link_label y.form y.optional o.token.span.start y.behind.prev_token_end) (tree x.label x.slots (y.part.slots end)) (λ ls. x.pass (pass ls)) y.behind.prev_token_end)
+    → (C x.label x.slots x.pass p.prev_token_end → NoLink text f p.prev_token_end y.form y.optional → A) → Taken text f o w id D A
 link_taken {o = o} {p = p} {w = w} {left = left} {id = id} x e y good bad =
     step_taken x (part_path y.part) y.part.same y.part.keeps (y.part.holds (length o.nodes) (tree x.label x.slots end) (HoldsAll-one left x.holds))
-    (subst (λ (v : ℕ). MadeHere (link_label y.call y.optional v y.behind.prev_token_end) y.children y.behind w id) e y.made) (link_row y.call y.optional o.token.span.start y.behind.prev_token_end (tree x.label x.slots (y.part.slots end))) good bad
+    (subst (λ (v : ℕ). MadeHere (link_label y.form y.optional v y.behind.prev_token_end) y.children y.behind w id) e y.made) (link_row y.form y.optional o.token.span.start y.behind.prev_token_end (tree x.label x.slots (y.part.slots end))) good bad
 
 -- which sign stands here
-all_signs : {text : List ℕ} {f : Flags} {p : Parser} → At text f p → (c o : Bool) → StandsHere p (sign_of c o) true → AllAre text p.prev_token_end (sign_of c o)
-all_signs a true true s = stands_there a s.0 refl
-all_signs a false true s = stands_there a s.0 refl
-all_signs a true false s = stands_there a s.0 refl
-all_signs a false false s = stands_there a s.0 refl
+all_signs : {text : List ℕ} {f : Flags} {p : Parser} → At text f p → (c : LinkForm) (o : Bool) → StandsHere p (sign_of c o) true → AllAre text p.prev_token_end (sign_of c o)
+all_signs a by_call true s = stands_there a s.0 refl
+all_signs a by_name true s = stands_there a s.0 refl
+all_signs a by_index true s = stands_there a s.0 refl
+all_signs a by_call false s = stands_there a s.0 refl
+all_signs a by_name false s = stands_there a s.0 refl
+all_signs a by_index false s = stands_there a s.0 refl
 
-not_dot : (p : Parser) (c o : Bool) → StandsHere p Dot true → StandsHere p (sign_of c o) true → (c ≡ false) × (o ≡ false)
-not_dot p true true s z = absurd (let e : Dot ≡ QuestionDot = sym s.0 ∙ z.0 in cc)
-not_dot p false true s z = absurd (let e : Dot ≡ QuestionDot = sym s.0 ∙ z.0 in cc)
-not_dot p true false s z = absurd (let e : Dot ≡ LParen = sym s.0 ∙ z.0 in cc)
-not_dot p false false s z = (refl, refl)
+-- without `?.` it tells the link
+decides : (c d : LinkForm) (o : Bool) → sign_of c false ≡ sign_of d o → (c ≡ d) × (o ≡ false)
+decides by_call by_call false e = (refl, refl)
+decides by_name by_name false e = (refl, refl)
+decides by_index by_index false e = (refl, refl)
+decides by_call by_name false e = absurd (cc)
+decides by_call by_index false e = absurd (cc)
+decides by_name by_call false e = absurd (cc)
+decides by_name by_index false e = absurd (cc)
+decides by_index by_call false e = absurd (cc)
+decides by_index by_name false e = absurd (cc)
+decides by_call by_call true e = absurd (cc)
+decides by_call by_name true e = absurd (cc)
+decides by_call by_index true e = absurd (cc)
+decides by_name by_call true e = absurd (cc)
+decides by_name by_name true e = absurd (cc)
+decides by_name by_index true e = absurd (cc)
+decides by_index by_call true e = absurd (cc)
+decides by_index by_name true e = absurd (cc)
+decides by_index by_index true e = absurd (cc)
 
-not_optional : (p : Parser) (c d : Bool) → StandsHere p (sign_of d false) true → StandsHere p (sign_of c true) true → ⊥
-not_optional p c true s z = let e : LParen ≡ QuestionDot = sym s.0 ∙ z.0 in cc
-not_optional p c false s z = let e : Dot ≡ QuestionDot = sym s.0 ∙ z.0 in cc
-
-optional_here : (p : Parser) (c o : Bool) → StandsHere p QuestionDot true → StandsHere p (sign_of c o) true → o ≡ true
+optional_here : (p : Parser) (c : LinkForm) (o : Bool) → StandsHere p QuestionDot true → StandsHere p (sign_of c o) true → o ≡ true
 optional_here p c true s z = refl
-optional_here p true false s z = absurd (let e : LParen ≡ QuestionDot = sym z.0 ∙ s.0 in cc)
-optional_here p false false s z = absurd (let e : Dot ≡ QuestionDot = sym z.0 ∙ s.0 in cc)
+optional_here p by_call false s z = absurd (let e : LParen ≡ QuestionDot = sym z.0 ∙ s.0 in cc)
+optional_here p by_name false s z = absurd (let e : Dot ≡ QuestionDot = sym z.0 ∙ s.0 in cc)
+optional_here p by_index false s z = absurd (let e : LBrack ≡ QuestionDot = sym z.0 ∙ s.0 in cc)
 
-call_here : (p : Parser) (c o : Bool) → StandsHere p LParen true → StandsHere p (sign_of c o) true → (c ≡ true) × (o ≡ false)
-call_here p c true s z = absurd (let e : LParen ≡ QuestionDot = sym s.0 ∙ z.0 in cc)
-call_here p true false s z = (refl, refl)
-call_here p false false s z = absurd (let e : LParen ≡ Dot = sym s.0 ∙ z.0 in cc)
+call_here : (p : Parser) (c : LinkForm) (o : Bool) → StandsHere p LParen true → StandsHere p (sign_of c o) true → (by_call ≡ c) × (o ≡ false)
+call_here p c o s z = decides by_call c o (sym s.0 ∙ z.0)
+
+-- of those that go on with a member or a call none has a `?.`
+of_member : (c : LinkForm) (o : Bool) → admits base.Member c o ≡ true → (admits base.Member c false ≡ true) × (o ≡ false)
+of_member by_name false e = (refl, refl)
+of_member by_index false e = (refl, refl)
+of_member by_call o e = absurd (false≢true e)
+of_member by_name true e = absurd (false≢true e)
+of_member by_index true e = absurd (false≢true e)
+
+of_call : (c : LinkForm) (o : Bool) → admits base.Call c o ≡ true → o ≡ false
+of_call c false e = refl
+of_call c true e = absurd (false≢true e)
+
+-- a link of the same sign is one of these too
+alike : (b : LinkBase) (c d : LinkForm) (o : Bool) → admits b c false ≡ true → sign_of c false ≡ sign_of d o → (admits b d false ≡ true) × (o ≡ false)
+alike b c d o h e = let z = decides c d o e in (subst (λ (v : LinkForm). admits b v false ≡ true) z.0 h, z.1)
+
+member_form : {p : Parser} (c : LinkForm) (o : Bool) → LinkHere p base.Member true → StandsHere p (sign_of c o) true → (admits base.Member c false ≡ true) × (o ≡ false)
+member_form {p} c o (a_link d e s h) z = let i = of_member d e h in alike base.Member d c o i.0 (sym (subst (λ (v : Bool). p.token.kind ≡ sign_of d v) i.1 s.0) ∙ z.0)
+
+call_form : {p : Parser} (c : LinkForm) (o : Bool) → LinkHere p base.Call true → StandsHere p (sign_of c o) true → o ≡ false
+call_form {p} c o (a_link d e s h) z = let i = of_call d e h in (decides d c o (sym (subst (λ (v : Bool). p.token.kind ≡ sign_of d v) i s.0) ∙ z.0)).1
 
 -- ---- members
 
@@ -280,24 +329,27 @@ member_init {f = f} a s x = retake (taken x x.answer.row) (λ l cs pass c. (memb
 pub no_head : {text : List ℕ} {f : Flags} {p : Parser} → At text f p → StandsHere p New false → Underived text (at Primary f) p.prev_token_end → NoMember text f p.prev_token_end
 no_head {f = f} a s n = (no_member f (stands_not a refl s) n, no_bare_new a s)
 
-member_good : {text : List ℕ} {f : Flags} (o p : Parser) (c d : Bool) → (c ≡ false) × (d ≡ false) → AllAre text p.prev_token_end Dot → {l : Label} {cs : Slots} {pass more : Lexemes → Lexemes} {h : Slots → Slots} {s'' : ℕ} → MemberSoFar text f o.prev_token_end o.token.span.start l cs pass p.prev_token_end → p.prev_token_end ≤ s'' → Stretch text (plain full) (chained f c d).part p.prev_token_end nothing s'' h more → MemberSoFar text f o.prev_token_end o.token.span.start (link_label c d o.token.span.start s'') (tree l cs (h end)) (λ ls. pass (more ls)) s''
-member_good {f = f} o p false false e z c i y = (member_step f c.0 z i y, c.1)
-member_good o p true d e z c i y = absurd (false≢true (sym e.0))
-member_good o p false true e z c i y = absurd (false≢true (sym e.1))
+member_good : {text : List ℕ} {f : Flags} (o p : Parser) (c : LinkForm) (d : Bool) → (admits base.Member c false ≡ true) × (d ≡ false) → AllAre text p.prev_token_end (sign_of c d) → {l : Label} {cs : Slots} {pass more : Lexemes → Lexemes} {h : Slots → Slots} {s'' : ℕ} → MemberSoFar text f o.prev_token_end o.token.span.start l cs pass p.prev_token_end → p.prev_token_end ≤ s'' → Stretch text (plain full) (chained f c d).part p.prev_token_end nothing s'' h more → MemberSoFar text f o.prev_token_end o.token.span.start (link_label c d o.token.span.start s'') (tree l cs (h end)) (λ ls. pass (more ls)) s''
+member_good {f = f} o p c false e z u i y = (member_step f c e.0 u.0 z i y, u.1)
+member_good o p c true e z u i y = absurd (false≢true (sym e.1))
 
-member_bad : {text : List ℕ} {f : Flags} (o p : Parser) (c d : Bool) → (c ≡ false) × (d ≡ false) → AllAre text p.prev_token_end Dot → {l : Label} {cs : Slots} {pass : Lexemes → Lexemes} → MemberSoFar text f o.prev_token_end o.token.span.start l cs pass p.prev_token_end → NoLink text f p.prev_token_end c d → NoMember text f o.prev_token_end
-member_bad {f = f} o p false false e z c n = (member_step_fails f c.0 z n, c.1)
-member_bad o p true d e z c n = absurd (false≢true (sym e.0))
-member_bad o p false true e z c n = absurd (false≢true (sym e.1))
+member_bad : {text : List ℕ} {f : Flags} (o p : Parser) (c : LinkForm) (d : Bool) → (admits base.Member c false ≡ true) × (d ≡ false) → AllAre text p.prev_token_end (sign_of c d) → {l : Label} {cs : Slots} {pass : Lexemes → Lexemes} → MemberSoFar text f o.prev_token_end o.token.span.start l cs pass p.prev_token_end → NoLink text f p.prev_token_end c d → NoMember text f o.prev_token_end
+member_bad {f = f} o p c false e z u n = (member_step_fails f c e.0 u.0 z n, u.1)
+member_bad o p c true e z u n = absurd (false≢true (sym e.1))
 
-pub member_linked : {text : List ℕ} {f : Flags} {o p w : Parser} {left id : NodeId} {start : ℕ} → start ≡ o.token.span.start → (x : Membered text f o p left) → StandsHere p Dot true → Linked text f start left p w id → Membered text f o w id
-member_linked {text} {f} {o} {p} e x s y = link_taken x e y (λ pass c i z. member_good o p y.call y.optional (not_dot p y.call y.optional s y.sign) (stands_there x.at s.0 refl) c i z) (λ c n. member_bad o p y.call y.optional (not_dot p y.call y.optional s y.sign) (stands_there x.at s.0 refl) c n)
+pub member_linked : {text : List ℕ} {f : Flags} {o p w : Parser} {left id : NodeId} {start : ℕ} → start ≡ o.token.span.start → (x : Membered text f o p left) → LinkHere p base.Member true → Linked text f start left p w id → Membered text f o w id
+member_linked {text} {f} {o} {p} e x k y = link_taken x e y (λ pass c i z. member_good o p y.form y.optional (member_form y.form y.optional k y.sign) (all_signs x.at y.form y.optional y.sign) c i z) (λ c n. member_bad o p y.form y.optional (member_form y.form y.optional k y.sign) (all_signs x.at y.form y.optional y.sign) c n)
 
-pub member_stops : {text : List ℕ} {f : Flags} {o p : Parser} {left : NodeId} (w : Parser) (e : Stop) (x : Membered text f o p left) → StandsHere p Dot true → Stops p w e ((c d : Bool) → NoLink text f p.prev_token_end c d) → Stops o w e (NoMember text f o.prev_token_end)
-member_stops {f = f} w e x s z = stops_behind w e x.same.follows (λ g. grown_behind x.verdict g) (λ n. either_way x.verdict (λ c. (member_step_fails f c.0 (stands_there x.at s.0 refl) (n false false), c.1)) (λ n. n)) z
+pub member_stops : {text : List ℕ} {f : Flags} {o p : Parser} {left : NodeId} (w : Parser) (e : Stop) (x : Membered text f o p left) → LinkHere p base.Member true → Stops p w e ((c : LinkForm) (d : Bool) → NoLink text f p.prev_token_end c d) → Stops o w e (NoMember text f o.prev_token_end)
+member_stops {text} {f} {o} {p} w e x k z = stops_behind w e x.same.follows (λ g. grown_behind x.verdict g) (λ n. either_way x.verdict (λ c. at_link k c n) (λ n. n)) z
+  where
+    at_link : LinkHere p base.Member true → {l : Label} {cs : Slots} {pass : Lexemes → Lexemes} → MemberSoFar text f o.prev_token_end o.token.span.start l cs pass p.prev_token_end → ((c : LinkForm) (d : Bool) → NoLink text f p.prev_token_end c d) → NoMember text f o.prev_token_end
+    at_link (a_link c d s h) u n = member_bad o p c d (of_member c d h) (all_signs x.at c d s) u (n c d)
 
-pub member_closed : {text : List ℕ} {f : Flags} {o p : Parser} {id : NodeId} → (x : Membered text f o p id) → StandsHere p Dot false → HeadOutcome text f o p (Ok id)
-member_closed {f = f} x s = (retake x (λ l cs pass c. a_member (member_end f c.0 (stands_not x.at refl s)) c.1) (λ n. n), stands_not x.at refl s)
+pub member_closed : {text : List ℕ} {f : Flags} {o p : Parser} {id : NodeId} → (x : Membered text f o p id) → LinkHere p base.Member false → HeadOutcome text f o p (Ok id)
+member_closed {text} {f} {o} {p} x (no_link g) =
+    let none : NoAccess text p = (stands_not x.at refl (g by_name false refl), stands_not x.at refl (g by_index false refl)) in
+    (retake x (λ l cs pass c. a_member (member_end f c.0 (no_access_kind none)) c.1) (λ n. n), none)
 
 -- a lexeme stands here
 lexeme_there : {text : List ℕ} {f : Flags} {p : Parser} {k : Kind} → At text f p → StandsHere p k true → same_kind RAngle k ≡ false → is_last k ≡ false → one_of_kinds read_kinds k ≡ true → (y : Lexeme) × Lex text p.prev_token_end y × (y.kind ≡ k)
@@ -369,8 +421,8 @@ module _ {text : List ℕ} {f : Flags} {p q : Parser} (a : At text f p) (k : p.t
     pub callee_room : room w ≤ room p
     callee_room = let i = later_room (let j = callee_taken.further in let d = m.at.behind in omega arith) callee_taken.same in let r = nested_room a m in omega arith
 
-    no_dot : NoDot text w
-    no_dot = subst (λ (v : ℕ). NoneIs text v Dot) (sym (ap (λ (z : Parser). z.prev_token_end) l.is)) x.1
+    no_access : NoAccess text w
+    no_access = subst (λ (v : ℕ). NoneIs text v Dot × NoneIs text v LBrack) (sym (ap (λ (z : Parser). z.prev_token_end) l.is)) x.1
 
     pub new_grown : {ds : List Diagnostic} → Grown w.errors ds → Grown p.errors ds
     new_grown g = grown_then m.kept (grown_behind callee_taken.verdict g)
@@ -391,7 +443,7 @@ module _ {text : List ℕ} {f : Flags} {p q : Parser} (a : At text f p) (k : p.t
     new_taken {v} {id} {s} g j b c d =
         let made : MadeHere (label_here new_expression no_op p w) (Some callee ∷ []) w v id = subst (λ (z : Label). MadeHere z (Some callee ∷ []) w v id) (rw (b, c) refl) d in
         let none = stands_not callee_taken.at refl j in
-        let nothing_behind : (y : Lexeme) → Lex text w.prev_token_end y → one_of_kinds link_kinds y.kind ≡ false = no_link_kind no_dot (stands_not callee_taken.at refl g) none in
+        let nothing_behind : (y : Lexeme) → Lex text w.prev_token_end y → one_of_kinds link_kinds y.kind ≡ false = no_link_kind no_access (stands_not callee_taken.at refl g) none in
         subst (λ (z : Parser). HeadOutcome text f p z (Ok id)) (sym made.stays) (
           record {
             at = beside_nodes v.nodes callee_taken.at;
@@ -406,7 +458,7 @@ module _ {text : List ℕ} {f : Flags} {p q : Parser} (a : At text f p) (k : p.t
             holds = node_held made (HoldsAll-one callee (subst (λ (ns : List Node). Holds w.nodes (length ns) (length w.nodes) callee.0 callee_taken.label callee_taken.slots) m.nodes callee_taken.holds));
             keeps = Keeps-trans (subst (λ (ns : List Node). Keeps ns w.nodes) m.nodes callee_taken.keeps) (Keeps-made made.made);
           },
-          no_dot,
+          no_access,
         )
       where
         start_before_less : p.token.span.start < w.prev_token_end
@@ -432,7 +484,7 @@ module _ {text : List ℕ} {f : Flags} {p q : Parser} (a : At text f p) (k : p.t
 
       pub new_with_arguments : {v : Parser} {id : NodeId} → (y : WithArguments node.NewExpression false p.token.span.start callee w v id) → Membered text f p v id
       new_with_arguments {v} {id} y =
-          let part = y.arguments text f callee_taken.at true in
+          let part = y.arguments text f callee_taken.at in
           let forward : w.prev_token_end ≤ y.behind.prev_token_end = (let b = callee_taken.at.behind in let c = part.further in omega arith) in
           subst (λ (z : Parser). Membered text f p z id) (sym y.made.stays) (record {
             at = beside_nodes v.nodes part.at;
@@ -461,14 +513,14 @@ abbrev pub CalleeTaken : List ℕ → Flags → Parser → Parser → NodeId →
 CalleeTaken text f o p id = Taken text f o p id (λ l cs pass s'. Callee text f o.prev_token_end l cs pass s') (NoLhs text f o.prev_token_end)
 
 -- if one link can't be read, none can
-none_of_links : {text : List ℕ} {f : Flags} {s : ℕ} (c o : Bool) → OnlyLink text f s c o → NoLink text f s c o → (c' o' : Bool) → NoLink text f s c' o'
+none_of_links : {text : List ℕ} {f : Flags} {s : ℕ} (c : LinkForm) (o : Bool) → OnlyLink text f s c o → NoLink text f s c o → (c' : LinkForm) (o' : Bool) → NoLink text f s c' o'
 none_of_links {text} {f} {s} c o u n c' o' = go (u c' o')
   where
     go : ((c' ≡ c) × (o' ≡ o)) ⊎ NoLink text f s c' o' → NoLink text f s c' o'
-    go (inl z) = subst (λ (v : Bool). NoLink text f s v o') (sym z.0) (subst (λ (v : Bool). NoLink text f s c v) (sym z.1) n)
+    go (inl z) = subst (λ (v : LinkForm). NoLink text f s v o') (sym z.0) (subst (λ (v : Bool). NoLink text f s c v) (sym z.1) n)
     go (inr z) = z
 
-pub head_closed : {text : List ℕ} {f : Flags} {o p : Parser} {id : NodeId} → HeadTaken text f o p id → NoDot text p → StandsHere p LParen false → CalleeOutcome text f o p (Ok id)
+pub head_closed : {text : List ℕ} {f : Flags} {o p : Parser} {id : NodeId} → HeadTaken text f o p id → NoAccess text p → StandsHere p LParen false → CalleeOutcome text f o p (Ok id)
 head_closed {f = f} x n s = (retake x (λ l cs pass c. a_head c) (λ z. no_lhs_here f z), n, stands_not x.at refl s)
 
 module _ {text : List ℕ} {f : Flags} {o p : Parser} {left : NodeId} (a : At text f o) (x : HeadTaken text f o p left) (s : StandsHere p LParen true) where
@@ -481,55 +533,52 @@ module _ {text : List ℕ} {f : Flags} {o p : Parser} {left : NodeId} (a : At te
   never_new : {C : Type 0} → ((y : Lexeme) → Lex text p.prev_token_end y → one_of_kinds link_kinds y.kind ≡ false) → C
   never_new b = let y = lexeme_there x.at s refl refl refl in absurd (false≢true (sym (b y.0 y.1) ∙ subst (λ (v : Kind). one_of_kinds link_kinds v ≡ true) (sym y.2) refl))
 
-  first_good : (c d : Bool) → (c ≡ true) × (d ≡ false) → {l : Label} {cs : Slots} {pass more : Lexemes → Lexemes} {h : Slots → Slots} {s'' : ℕ} → Headed text f o.prev_token_end l cs pass p.prev_token_end → p.prev_token_end ≤ s'' → Stretch text (plain full) (chained f c d).part p.prev_token_end nothing s'' h more → CallSoFar text f o.prev_token_end o.token.span.start (link_label c d o.token.span.start s'') (tree l cs (h end)) (λ ls. pass (more ls)) s''
-  first_good true false e (a_member c b) i y = (call_begin f c i (begins_here a) y, beyond c b)
-  first_good true false e (a_new n c b) i y = never_new b
-  first_good false d e c i y = absurd (false≢true e.0)
-  first_good true true e c i y = absurd (false≢true (sym e.1))
+  first_good : (c : LinkForm) (d : Bool) → (by_call ≡ c) × (d ≡ false) → {l : Label} {cs : Slots} {pass more : Lexemes → Lexemes} {h : Slots → Slots} {s'' : ℕ} → Headed text f o.prev_token_end l cs pass p.prev_token_end → p.prev_token_end ≤ s'' → Stretch text (plain full) (chained f c d).part p.prev_token_end nothing s'' h more → CallSoFar text f o.prev_token_end o.token.span.start (link_label c d o.token.span.start s'') (tree l cs (h end)) (λ ls. pass (more ls)) s''
+  first_good by_call false e (a_member c b) i y = (call_begin f c i (begins_here a) y, beyond c b)
+  first_good by_call false e (a_new n c b) i y = never_new b
+  first_good by_name d e c i y = absurd (let z : by_call ≡ by_name = e.0 in cc)
+  first_good by_index d e c i y = absurd (let z : by_call ≡ by_index = e.0 in cc)
+  first_good by_call true e c i y = absurd (false≢true (sym e.1))
 
-  first_bad : (c d : Bool) → (c ≡ true) × (d ≡ false) → {l : Label} {cs : Slots} {pass : Lexemes → Lexemes} → Headed text f o.prev_token_end l cs pass p.prev_token_end → NoLink text f p.prev_token_end c d → NoLhs text f o.prev_token_end
-  first_bad true false e (a_member c b) n = no_lhs f (beyond c b).no_new (no_call_behind f c n) (no_first f (base_none f (member_before_chain f c parens) (no_call_behind f c n)))
-  first_bad true false e (a_new z c b) n = never_new b
-  first_bad false d e c n = absurd (false≢true e.0)
-  first_bad true true e c n = absurd (false≢true (sym e.1))
+  no_first_call : {l : Label} {cs : Slots} {pass : Lexemes → Lexemes} → Headed text f o.prev_token_end l cs pass p.prev_token_end → NoLink text f p.prev_token_end by_call false → NoLhs text f o.prev_token_end
+  no_first_call (a_member c b) n = no_lhs f (beyond c b).no_new (no_call_behind f c n) (no_first f (base_none f (member_before_chain f c parens) (no_call_behind f c n)))
+  no_first_call (a_new z c b) n = never_new b
+
+  first_bad : (c : LinkForm) (d : Bool) → (by_call ≡ c) × (d ≡ false) → {l : Label} {cs : Slots} {pass : Lexemes → Lexemes} → Headed text f o.prev_token_end l cs pass p.prev_token_end → NoLink text f p.prev_token_end c d → NoLhs text f o.prev_token_end
+  first_bad c d e u n = no_first_call u (subst (λ (v : LinkForm). NoLink text f p.prev_token_end v false) (sym e.0) (subst (λ (v : Bool). NoLink text f p.prev_token_end c v) e.1 n))
 
   begun : Taken text f o p left (λ l cs pass s'. Headed text f o.prev_token_end l cs pass s') (NoLhs text f o.prev_token_end)
   begun = retake x (λ l cs pass c. c) (λ z. no_lhs_here f z)
 
   pub call_first : {w : Parser} {id : NodeId} {start : ℕ} → start ≡ o.token.span.start → Linked text f start left p w id → Called text f o w id
-  call_first e y = link_taken begun e y (λ pass c i z. first_good y.call y.optional (call_here p y.call y.optional s y.sign) c i z) (λ c n. first_bad y.call y.optional (call_here p y.call y.optional s y.sign) c n)
+  call_first e y = link_taken begun e y (λ pass c i z. first_good y.form y.optional (call_here p y.form y.optional s y.sign) c i z) (λ c n. first_bad y.form y.optional (call_here p y.form y.optional s y.sign) c n)
 
-  pub call_first_stops : (w : Parser) (e : Stop) → Stops p w e ((c d : Bool) → NoLink text f p.prev_token_end c d) → Stops o w e (NoLhs text f o.prev_token_end)
-  call_first_stops w e z = stops_behind w e x.same.follows (λ g. grown_behind x.verdict g) (λ n. either_way x.verdict (λ c. first_bad true false (refl, refl) c (n true false)) (λ n. no_lhs_here f n)) z
+  pub call_first_stops : (w : Parser) (e : Stop) → Stops p w e ((c : LinkForm) (d : Bool) → NoLink text f p.prev_token_end c d) → Stops o w e (NoLhs text f o.prev_token_end)
+  call_first_stops w e z = stops_behind w e x.same.follows (λ g. grown_behind x.verdict g) (λ n. either_way x.verdict (λ c. no_first_call c (n by_call false)) (λ n. no_lhs_here f n)) z
 
-module _ {text : List ℕ} {f : Flags} {o p : Parser} {left : NodeId} (x : Called text f o p left) (k : LinkHere p false true) where
-  plain_link : (c d : Bool) → StandsHere p (sign_of c d) true → d ≡ false
-  plain_link c d s = go d s k
-    where
-      go : (d : Bool) → StandsHere p (sign_of c d) true → LinkHere p false true → d ≡ false
-      go false s k = refl
-      go true s (a_link c' true z e) = absurd (false≢true (e refl))
-      go true s (a_link c' false z e) = absurd (not_optional p c c' z s)
-
-  call_good : (c d : Bool) → d ≡ false → StandsHere p (sign_of c d) true → {l : Label} {cs : Slots} {pass more : Lexemes → Lexemes} {h : Slots → Slots} {s'' : ℕ} → CallSoFar text f o.prev_token_end o.token.span.start l cs pass p.prev_token_end → p.prev_token_end ≤ s'' → Stretch text (plain full) (chained f c d).part p.prev_token_end nothing s'' h more → CallSoFar text f o.prev_token_end o.token.span.start (link_label c d o.token.span.start s'') (tree l cs (h end)) (λ ls. pass (more ls)) s''
+module _ {text : List ℕ} {f : Flags} {o p : Parser} {left : NodeId} (x : Called text f o p left) (k : LinkHere p base.Call true) where
+  call_good : (c : LinkForm) (d : Bool) → d ≡ false → StandsHere p (sign_of c d) true → {l : Label} {cs : Slots} {pass more : Lexemes → Lexemes} {h : Slots → Slots} {s'' : ℕ} → CallSoFar text f o.prev_token_end o.token.span.start l cs pass p.prev_token_end → p.prev_token_end ≤ s'' → Stretch text (plain full) (chained f c d).part p.prev_token_end nothing s'' h more → CallSoFar text f o.prev_token_end o.token.span.start (link_label c d o.token.span.start s'') (tree l cs (h end)) (λ ls. pass (more ls)) s''
   call_good c false e s u i y = (call_step f c u.0 (all_signs x.at c false s) i y, u.1)
   call_good c true e s u i y = absurd (false≢true (sym e))
 
-  call_bad : (c d : Bool) → d ≡ false → StandsHere p (sign_of c d) true → {l : Label} {cs : Slots} {pass : Lexemes → Lexemes} → CallSoFar text f o.prev_token_end o.token.span.start l cs pass p.prev_token_end → NoLink text f p.prev_token_end c d → NoLhs text f o.prev_token_end
+  call_bad : (c : LinkForm) (d : Bool) → d ≡ false → StandsHere p (sign_of c d) true → {l : Label} {cs : Slots} {pass : Lexemes → Lexemes} → CallSoFar text f o.prev_token_end o.token.span.start l cs pass p.prev_token_end → NoLink text f p.prev_token_end c d → NoLhs text f o.prev_token_end
   call_bad c false e s u n = no_lhs f u.1.no_new (call_step_fails f c (λ l cs vs y e. call_heads f l cs vs y e) u.0 (all_signs x.at c false s) n) (no_first f (base_none f u.1.no_member (call_step_fails f c (λ l cs vs y e. chain_heads f l cs vs y e) u.0 (all_signs x.at c false s) n)))
   call_bad c true e s u n = absurd (false≢true (sym e))
 
   pub call_linked : {w : Parser} {id : NodeId} {start : ℕ} → start ≡ o.token.span.start → Linked text f start left p w id → Called text f o w id
-  call_linked e y = link_taken x e y (λ pass c i z. call_good y.call y.optional (plain_link y.call y.optional y.sign) y.sign c i z) (λ c n. call_bad y.call y.optional (plain_link y.call y.optional y.sign) y.sign c n)
+  call_linked e y = link_taken x e y (λ pass c i z. call_good y.form y.optional (call_form y.form y.optional k y.sign) y.sign c i z) (λ c n. call_bad y.form y.optional (call_form y.form y.optional k y.sign) y.sign c n)
 
-  pub call_stops : (w : Parser) (e : Stop) → Stops p w e ((c d : Bool) → NoLink text f p.prev_token_end c d) → Stops o w e (NoLhs text f o.prev_token_end)
+  pub call_stops : (w : Parser) (e : Stop) → Stops p w e ((c : LinkForm) (d : Bool) → NoLink text f p.prev_token_end c d) → Stops o w e (NoLhs text f o.prev_token_end)
   call_stops w e z = stops_behind w e x.same.follows (λ g. grown_behind x.verdict g) (λ n. either_way x.verdict (λ u. at_link k u n) (λ n. n)) z
     where
-      at_link : LinkHere p false true → {l : Label} {cs : Slots} {pass : Lexemes → Lexemes} → CallSoFar text f o.prev_token_end o.token.span.start l cs pass p.prev_token_end → ((c d : Bool) → NoLink text f p.prev_token_end c d) → NoLhs text f o.prev_token_end
-      at_link (a_link c d s e) u n = call_bad c d (plain_link c d s) s u (n c d)
+      at_link : LinkHere p base.Call true → {l : Label} {cs : Slots} {pass : Lexemes → Lexemes} → CallSoFar text f o.prev_token_end o.token.span.start l cs pass p.prev_token_end → ((c : LinkForm) (d : Bool) → NoLink text f p.prev_token_end c d) → NoLhs text f o.prev_token_end
+      at_link (a_link c d s e) u n = call_bad c d (of_call c d e) s u (n c d)
 
-pub call_closed : {text : List ℕ} {f : Flags} {o p : Parser} {id : NodeId} → (x : Called text f o p id) → LinkHere p false false → CalleeOutcome text f o p (Ok id)
-call_closed {f = f} x (no_link s d e) = (retake x (λ l cs pass c. a_call (call_ends f c.0 (stands_not x.at refl d) (stands_not x.at refl s)) c.1) (λ n. n), stands_not x.at refl d, stands_not x.at refl s)
+pub call_closed : {text : List ℕ} {f : Flags} {o p : Parser} {id : NodeId} → (x : Called text f o p id) → LinkHere p base.Call false → CalleeOutcome text f o p (Ok id)
+call_closed {text} {f} {o} {p} x (no_link g) =
+    let none : NoAccess text p = (stands_not x.at refl (g by_name false refl), stands_not x.at refl (g by_index false refl)) in
+    let parens : NoParen text p = stands_not x.at refl (g by_call false refl) in
+    (retake x (λ l cs pass c. a_call (call_ends f c.0 (no_call_kind none parens)) c.1) (λ n. n), none, parens)
 
 -- ---- LeftHandSideExpressions
 
@@ -551,7 +600,7 @@ lhs_stops b n d y l = go (one_of_kinds link_kinds y.kind) refl (covered reads (n
     go true e h = absurd (false≢true (sym (n y l) ∙ e))
     go false e h = h
 
-pub lhs_callee : {text : List ℕ} {f : Flags} {o p : Parser} {id : NodeId} → (x : CalleeTaken text f o p id) → NoDot text p → NoParen text p → StandsHere p QuestionDot false → Numbered text f (at LeftHandSide f) o p id
+pub lhs_callee : {text : List ℕ} {f : Flags} {o p : Parser} {id : NodeId} → (x : CalleeTaken text f o p id) → NoAccess text p → NoParen text p → StandsHere p QuestionDot false → Numbered text f (at LeftHandSide f) o p id
 lhs_callee {text} {f} {o} {p} x n m s =
     let y = retake x (λ l cs pass c. whole c) (λ z. z) in
     numbered y y.row (lhs_stops f.in_ (no_link_kind n none m) (edge_of y.label y.slots))
@@ -582,83 +631,88 @@ module _ {text : List ℕ} {f : Flags} {o p : Parser} {left : NodeId} (a : At te
   based (a_head (a_new z c b)) = let y = lexeme_there x.at s refl refl refl in absurd (false≢true (sym (b y.0 y.1) ∙ subst (λ (v : Kind). one_of_kinds link_kinds v ≡ true) (sym y.2) refl))
   based (a_call c b) = record { base = base_call f c b.no_member; no_bare = b.no_new; no_call = call_unfollowed f c chains_here }
 
-  chain_good : (c d : Bool) → d ≡ true → OnlyLink text f p.prev_token_end c d → {l : Label} {cs : Slots} {pass more : Lexemes → Lexemes} {h : Slots → Slots} {s'' : ℕ} → Callee text f o.prev_token_end l cs pass p.prev_token_end → p.prev_token_end ≤ s'' → Stretch text (plain full) (chained f c d).part p.prev_token_end nothing s'' h more → ChainSoFar text f o.prev_token_end o.token.span.start (link_label c d o.token.span.start s'') (tree l cs (h end)) (λ ls. pass (more ls)) s''
-  chain_good c true e u k i y = let b = based k in (chain_begin f c b.base i (begins_here a) u y, b.no_bare, b.no_call)
+  chain_good : (c : LinkForm) (d : Bool) → d ≡ true → OnlyLink text f p.prev_token_end c d → {l : Label} {cs : Slots} {pass more : Lexemes → Lexemes} {h : Slots → Slots} {s'' : ℕ} → Callee text f o.prev_token_end l cs pass p.prev_token_end → p.prev_token_end ≤ s'' → Stretch text (plain full) (chained f c d).part p.prev_token_end nothing s'' h more → ChainSoFar text f o.prev_token_end o.token.span.start (link_label c d o.token.span.start s'') (tree l cs (h end)) (λ ls. pass (more ls)) s''
+  chain_good c true e u k i y = let b = based k in (chain_begin f b.base i (begins_here a) c u y, b.no_bare, b.no_call)
   chain_good c false e u k i y = absurd (false≢true e)
 
-  chain_bad : {l : Label} {cs : Slots} {pass : Lexemes → Lexemes} → Callee text f o.prev_token_end l cs pass p.prev_token_end → ((c d : Bool) → NoLink text f p.prev_token_end c d) → NoLhs text f o.prev_token_end
+  chain_bad : {l : Label} {cs : Slots} {pass : Lexemes → Lexemes} → Callee text f o.prev_token_end l cs pass p.prev_token_end → ((c : LinkForm) (d : Bool) → NoLink text f p.prev_token_end c d) → NoLhs text f o.prev_token_end
   chain_bad k n = let b = based k in no_lhs f b.no_bare b.no_call (no_chain_link f b.base (λ c. n c true))
 
   pub chain_first : {w : Parser} {id : NodeId} {start : ℕ} → start ≡ o.token.span.start → Linked text f start left p w id → Chained text f o w id
-  chain_first e y = link_taken x e y (λ pass c i z. chain_good y.call y.optional (optional_here p y.call y.optional s y.sign) y.only c i z) (λ c n. chain_bad c (none_of_links y.call y.optional y.only n))
+  chain_first e y = link_taken x e y (λ pass c i z. chain_good y.form y.optional (optional_here p y.form y.optional s y.sign) y.only c i z) (λ c n. chain_bad c (none_of_links y.form y.optional y.only n))
 
-  pub chain_first_stops : (w : Parser) (e : Stop) → Stops p w e ((c d : Bool) → NoLink text f p.prev_token_end c d) → Stops o w e (NoLhs text f o.prev_token_end)
+  pub chain_first_stops : (w : Parser) (e : Stop) → Stops p w e ((c : LinkForm) (d : Bool) → NoLink text f p.prev_token_end c d) → Stops o w e (NoLhs text f o.prev_token_end)
   chain_first_stops w e z = stops_behind w e x.same.follows (λ g. grown_behind x.verdict g) (λ n. either_way x.verdict (λ c. chain_bad c n) (λ n. n)) z
 
-module _ {text : List ℕ} {f : Flags} {o p : Parser} {left : NodeId} (x : Chained text f o p left) (k : LinkHere p true true) where
-  chain_none : {l : Label} {cs : Slots} {pass : Lexemes → Lexemes} → ChainSoFar text f o.prev_token_end o.token.span.start l cs pass p.prev_token_end → ((c d : Bool) → NoLink text f p.prev_token_end c d) → NoLhs text f o.prev_token_end
+module _ {text : List ℕ} {f : Flags} {o p : Parser} {left : NodeId} (x : Chained text f o p left) (k : LinkHere p base.Chain true) where
+  chain_none : {l : Label} {cs : Slots} {pass : Lexemes → Lexemes} → ChainSoFar text f o.prev_token_end o.token.span.start l cs pass p.prev_token_end → ((c : LinkForm) (d : Bool) → NoLink text f p.prev_token_end c d) → NoLhs text f o.prev_token_end
   chain_none u n = go k
     where
-      go : LinkHere p true true → NoLhs text f o.prev_token_end
+      go : LinkHere p base.Chain true → NoLhs text f o.prev_token_end
       go (a_link c d s e) = no_lhs f u.1 u.2 (chain_step_fails f u.0 c d (all_signs x.at c d s) n)
 
   pub chain_linked : {w : Parser} {id : NodeId} {start : ℕ} → start ≡ o.token.span.start → Linked text f start left p w id → Chained text f o w id
-  chain_linked e y = link_taken x e y (λ pass c i z. (chain_step f y.call y.optional c.0 (all_signs x.at y.call y.optional y.sign) y.only i z, c.1, c.2)) (λ c n. chain_none c (none_of_links y.call y.optional y.only n))
+  chain_linked e y = link_taken x e y (λ pass c i z. (chain_step f c.0 y.form y.optional (all_signs x.at y.form y.optional y.sign) y.only i z, c.1, c.2)) (λ c n. chain_none c (none_of_links y.form y.optional y.only n))
 
-  pub chain_stops : (w : Parser) (e : Stop) → Stops p w e ((c d : Bool) → NoLink text f p.prev_token_end c d) → Stops o w e (NoLhs text f o.prev_token_end)
+  pub chain_stops : (w : Parser) (e : Stop) → Stops p w e ((c : LinkForm) (d : Bool) → NoLink text f p.prev_token_end c d) → Stops o w e (NoLhs text f o.prev_token_end)
   chain_stops w e z = stops_behind w e x.same.follows (λ g. grown_behind x.verdict g) (λ n. either_way x.verdict (λ c. chain_none c n) (λ n. n)) z
 
-pub chain_done : {text : List ℕ} {f : Flags} {o p w : Parser} {left id : NodeId} {s : Span} → At text f o → (x : Chained text f o p left) → LinkHere p true false → s.start ≡ o.token.span.start → s.end ≡ p.prev_token_end → MadeHere (plain_label node.ChainExpression op.None s) (Some left ∷ []) p w id → Numbered text f (at LeftHandSide f) o w id
+pub chain_done : {text : List ℕ} {f : Flags} {o p w : Parser} {left id : NodeId} {s : Span} → At text f o → (x : Chained text f o p left) → LinkHere p base.Chain false → s.start ≡ o.token.span.start → s.end ≡ p.prev_token_end → MadeHere (plain_label node.ChainExpression op.None s) (Some left ∷ []) p w id → Numbered text f (at LeftHandSide f) o w id
 unfolding rule rule_of
-chain_done {text} {f} {o} {p} {w} {left} {id} {s} a x (no_link g h j) b c d =
+chain_done {text} {f} {o} {p} {w} {left} {id} {s} a x (no_link g) b c d =
     let made : MadeHere (label_here chain_expression no_op o p) (Some left ∷ []) p w id = subst (λ (z : Label). MadeHere z (Some left ∷ []) p w id) (rw (b, c) refl) d in
-    let none = no_link_kind (stands_not x.at refl h) (stands_not x.at refl (j refl)) (stands_not x.at refl g) in
+    let none = no_link_kind (stands_not x.at refl (g by_name false refl), stands_not x.at refl (g by_index false refl)) (stands_not x.at refl (g by_name true refl)) (stands_not x.at refl (g by_call false refl)) in
     let y = wrap_taken x made refl (λ c. lhs_chain f c.1 c.2 (noding p a (record { ends = λ q cs vs j ls mid d e. e }) (chain_ends f c.0 none))) (λ n. n) in
     numbered y y.row (lhs_stops f.in_ (subst (λ (v : ℕ). (y : Lexeme) → Lex text v y → one_of_kinds link_kinds y.kind ≡ false) (sym (ap (λ (z : Parser). z.prev_token_end) made.stays)) none) (edge_of y.label y.slots))
 
 -- ---- reading a link
 
 module _ {text : List ℕ} (f : Flags) where
-  not_sign : (c o : Bool) (k : Kind) {s : ℕ} → (k ≡ sign_of c o → ⊥) → AllAre text s k → NoLink text f s c o
-  not_sign true true k n z = fails_here firsts (λ y l h. n (sym (z y l).0 ∙ sym (kind_of_same QuestionDot y.kind (and_parts _ _ h).0)))
-  not_sign false true k n z = fails_here firsts (λ y l h. n (sym (z y l).0 ∙ sym (kind_of_same QuestionDot y.kind (and_parts _ _ h).0)))
-  not_sign true false k n z = fails_here firsts (λ y l h. n (sym (z y l).0 ∙ sym (kind_of_same LParen y.kind (and_parts _ _ h).0)))
-  not_sign false false k n z = fails_here firsts (λ y l h. n (sym (z y l).0 ∙ sym (kind_of_same Dot y.kind (and_parts _ _ h).0)))
+  not_sign : (c : LinkForm) (o : Bool) (k : Kind) {s : ℕ} → (k ≡ sign_of c o → ⊥) → AllAre text s k → NoLink text f s c o
+  not_sign by_call true k n z = fails_here firsts (λ y l h. n (sym (z y l).0 ∙ sym (kind_of_same QuestionDot y.kind (and_parts _ _ h).0)))
+  not_sign by_name true k n z = fails_here firsts (λ y l h. n (sym (z y l).0 ∙ sym (kind_of_same QuestionDot y.kind (and_parts _ _ h).0)))
+  not_sign by_index true k n z = fails_here firsts (λ y l h. n (sym (z y l).0 ∙ sym (kind_of_same QuestionDot y.kind (and_parts _ _ h).0)))
+  not_sign by_call false k n z = fails_here firsts (λ y l h. n (sym (z y l).0 ∙ sym (kind_of_same LParen y.kind (and_parts _ _ h).0)))
+  not_sign by_name false k n z = fails_here firsts (λ y l h. n (sym (z y l).0 ∙ sym (kind_of_same Dot y.kind (and_parts _ _ h).0)))
+  not_sign by_index false k n z = fails_here firsts (λ y l h. n (sym (z y l).0 ∙ sym (kind_of_same LBrack y.kind (and_parts _ _ h).0)))
 
-  paren_only : {s : ℕ} → AllAre text s LParen → OnlyLink text f s true false
-  paren_only z true false = inl (refl, refl)
-  paren_only z true true = inr (not_sign true true LParen (λ e. cc) z)
-  paren_only z false true = inr (not_sign false true LParen (λ e. cc) z)
-  paren_only z false false = inr (not_sign false false LParen (λ e. cc) z)
+  paren_only : {s : ℕ} → AllAre text s LParen → OnlyLink text f s by_call false
+  paren_only z by_call false = inl (refl, refl)
+  paren_only z by_name false = inr (not_sign by_name false LParen (λ e. cc) z)
+  paren_only z by_index false = inr (not_sign by_index false LParen (λ e. cc) z)
+  paren_only z by_call true = inr (not_sign by_call true LParen (λ e. cc) z)
+  paren_only z by_name true = inr (not_sign by_name true LParen (λ e. cc) z)
+  paren_only z by_index true = inr (not_sign by_index true LParen (λ e. cc) z)
 
-  dot_only : {s : ℕ} → AllAre text s Dot → OnlyLink text f s false false
-  dot_only z false false = inl (refl, refl)
-  dot_only z true true = inr (not_sign true true Dot (λ e. cc) z)
-  dot_only z false true = inr (not_sign false true Dot (λ e. cc) z)
-  dot_only z true false = inr (not_sign true false Dot (λ e. cc) z)
+  dot_only : {s : ℕ} → AllAre text s Dot → OnlyLink text f s by_name false
+  dot_only z by_name false = inl (refl, refl)
+  dot_only z by_call false = inr (not_sign by_call false Dot (λ e. cc) z)
+  dot_only z by_index false = inr (not_sign by_index false Dot (λ e. cc) z)
+  dot_only z by_call true = inr (not_sign by_call true Dot (λ e. cc) z)
+  dot_only z by_name true = inr (not_sign by_name true Dot (λ e. cc) z)
+  dot_only z by_index true = inr (not_sign by_index true Dot (λ e. cc) z)
 
-  chain_only : (c : Bool) {s : ℕ} → ((d : Bool) → (d ≡ c → ⊥) → NoLink text f s d true) → AllAre text s QuestionDot → OnlyLink text f s c true
-  chain_only true n z true true = inl (refl, refl)
-  chain_only true n z false true = inr (n false (λ e. false≢true e))
-  chain_only false n z false true = inl (refl, refl)
-  chain_only false n z true true = inr (n true (λ e. false≢true (sym e)))
-  chain_only c n z true false = inr (not_sign true false QuestionDot (λ e. cc) z)
-  chain_only c n z false false = inr (not_sign false false QuestionDot (λ e. cc) z)
+  bracket_only : {s : ℕ} → AllAre text s LBrack → OnlyLink text f s by_index false
+  bracket_only z by_index false = inl (refl, refl)
+  bracket_only z by_call false = inr (not_sign by_call false LBrack (λ e. cc) z)
+  bracket_only z by_name false = inr (not_sign by_name false LBrack (λ e. cc) z)
+  bracket_only z by_call true = inr (not_sign by_call true LBrack (λ e. cc) z)
+  bracket_only z by_name true = inr (not_sign by_name true LBrack (λ e. cc) z)
+  bracket_only z by_index true = inr (not_sign by_index true LBrack (λ e. cc) z)
 
--- the sign was passed
-part_behind : {text : List ℕ} {f : Flags} {p mid v : Parser} {g : G} {ids js : List (Option NodeId)} (k : Kind) → At text f p → p.token.kind ≡ k → p.token.escaped ≡ false → one_of_kinds read_kinds k ≡ true → (m : Moved text f p mid) → Partway text f g nothing mid v ids js → Partway text f (seq (tok k) g) nothing p v ids js
-part_behind {p = p} {mid} {v} {ids = ids} k a e n r m x = record {
-  at = x.at;
-  same = same_both m.same x.same;
-  further = let i = m.further in let j = x.further in let d = m.at.behind in omega arith;
-  slots = x.slots;
-  puts = x.puts;
-  pass = λ ls. next m.lexeme (x.pass ls);
-  walked = walked_both (walked_one m) x.walked;
-  verdict = behind_none m.kept (verdict_of x.verdict (λ y. stretches (record { reach = 0; near = omega arith; goes = skips a k e n r m }) y (let j = x.further in let d = m.at.behind in omega arith)) (λ z. skips a k e n r m ▹✗ z));
-  holds = λ lo us h. x.holds lo us (subst (λ (ns : List Node). HoldsAll ns lo (length ns) ids us) (sym m.nodes) h);
-  keeps = subst (λ (ns : List Node). Keeps ns v.nodes) m.nodes x.keeps;
-}
+  chain_only : (c : LinkForm) {s : ℕ} → ((d : LinkForm) → (d ≡ c → ⊥) → NoLink text f s d true) → AllAre text s QuestionDot → OnlyLink text f s c true
+  chain_only by_call n z by_call true = inl (refl, refl)
+  chain_only by_name n z by_name true = inl (refl, refl)
+  chain_only by_index n z by_index true = inl (refl, refl)
+  chain_only by_call n z by_name true = inr (n by_name (λ e. cc))
+  chain_only by_call n z by_index true = inr (n by_index (λ e. cc))
+  chain_only by_name n z by_call true = inr (n by_call (λ e. cc))
+  chain_only by_name n z by_index true = inr (n by_index (λ e. cc))
+  chain_only by_index n z by_call true = inr (n by_call (λ e. cc))
+  chain_only by_index n z by_name true = inr (n by_name (λ e. cc))
+  chain_only c n z by_call false = inr (not_sign by_call false QuestionDot (λ e. cc) z)
+  chain_only c n z by_name false = inr (not_sign by_name false QuestionDot (λ e. cc) z)
+  chain_only c n z by_index false = inr (not_sign by_index false QuestionDot (λ e. cc) z)
 
 -- a name as such a part
 part_name : {text : List ℕ} {f : Flags} {mid v : Parser} {left name : NodeId} → Numbered text f (at IdentifierName f) mid v name → Partway text f (symbol IdentifierName f) nothing mid v (Some left ∷ []) (Some left ∷ Some name ∷ [])
@@ -675,59 +729,127 @@ part_name {text} {f} {mid} {v} {left} {name} x = record {
   keeps = x.keeps;
 }
 
+-- an expression in brackets
+bracket_plain : (is_name_word LBrack || same_kind PrivateIdentifier LBrack) ≡ false
+unfolding words
+bracket_plain = refl
+
+closing_plain : (is_name_word RBrack || same_kind PrivateIdentifier RBrack) ≡ false
+unfolding words
+closing_plain = refl
+
+module _ {text : List ℕ} {f : Flags} {p q : Parser} (a : At text f p) (k : p.token.kind ≡ LBrack) (m : Moved text f p q) where
+  bracket_opened : {ids : List (Option NodeId)} {g : G} → Partway text f (seq (tok LBrack) g) g p q ids ids
+  bracket_opened = part_sign LBrack a k (plain_sign LBrack a k refl refl bracket_plain) refl m
+
+  pub no_index : Underived text (at Expression (plus_in f)) q.prev_token_end → Fails rule (Lex text) (plain full) end (indexed f) p.prev_token_end
+  unfolding covers
+  no_index n = part_path_fails (bracket_opened {ids = []}) (part_fails n (by_first firsts (surely (at Expression (plus_in f))) refl))
+
+  module _ {r : Parser} {index : NodeId} (x : Numbered text f (at Expression (plus_in f)) q r index) where
+    index_read : (ids : List (Option NodeId)) → Partway text f (indexed f) (tok RBrack) p r ids (ids ++ Some index ∷ [])
+    unfolding covers
+    index_read ids = parts bracket_opened (part_called ids x refl)
+
+    pub unclosed_index : (r.token.kind ≡ RBrack → ⊥) → Fails rule (Lex text) (plain full) end (indexed f) p.prev_token_end
+    unfolding covers apart
+    unclosed_index n = part_path_fails (index_read []) (fails_at x.answer.at {X = plain full} (tok RBrack) (RBrack ∷ []) refl (other_kind RBrack r.token.kind n))
+
+    pub unclosed_stops : (P : Diagnostic → Type 0) (o : Parser) (e : Stop) → (e ≡ Fatal → r.token.kind ≡ RBrack → ⊥) × GivesUp P r o e → Stops p o e (Fails rule (Lex text) (plain full) end (indexed f) p.prev_token_end)
+    unclosed_stops P o Fatal z = stops_behind o Fatal (same_both m.same x.answer.same).follows (λ g. grown_then m.kept (grown_behind x.answer.verdict g)) (λ n. n) (gives_up P r o Fatal z.1 (unclosed_index (z.0 refl)))
+    unclosed_stops P o NoMemory z = tt
+
+    pub index_closed : {u : Parser} → r.token.kind ≡ RBrack → MovesOn r u → Moved text f r u
+    index_closed c v = moves (uncut x.answer.at (ap (same_kind RAngle) c), ap is_last c) v x.answer.at
+
+    pub index_part : {u : Parser} (ids : List (Option NodeId)) → r.token.kind ≡ RBrack → Moved text f r u → Partway text f (indexed f) nothing p u ids (ids ++ Some index ∷ [])
+    index_part ids c d = parts (index_read ids) (part_last RBrack x.answer.at c (plain_sign RBrack x.answer.at c refl refl closing_plain) refl d)
+
 module _ {text : List ℕ} {f : Flags} {p : Parser} (a : At text f p) where
   pub call_link : {q : Parser} {id left : NodeId} {start : ℕ} → StandsHere p LParen true → WithArguments node.CallExpression false start left p q id → Linked text f start left p q id
-  call_link s y = record { call = true; optional = false; sign = s; only = paren_only f (stands_there a s.0 refl); behind = y.behind; children = y.children; part = y.arguments text f a true; made = y.made }
+  call_link s y = record { form = by_call; optional = false; sign = s; only = paren_only f (stands_there a s.0 refl); behind = y.behind; children = y.children; part = y.arguments text f a; made = y.made }
 
-  no_word : {q : Parser} → At text f q → StandsHere q LParen true → Underived text (at IdentifierName f) q.prev_token_end
-  no_word b s = no_name b (ap read_word s.0)
+  pub index_link : {q : Parser} {id left : NodeId} {start : ℕ} → StandsHere p LBrack true → WithIndex false start left p q id → Linked text f start left p q id
+  index_link s y = record { form = by_index; optional = false; sign = s; only = bracket_only f (stands_there a s.0 refl); behind = y.behind; children = y.children; part = y.part text f a; made = y.made }
 
-  pub no_call_link : (q : Parser) (e : Stop) → StandsHere p LParen true → Stops p q e (Fails rule (Lex text) (plain full) end (args f) p.prev_token_end) → Stops p q e ((c o : Bool) → NoLink text f p.prev_token_end c o)
-  no_call_link q e s z = stops_so p q e (λ n. none_of_links true false (paren_only f (stands_there a s.0 refl)) n) z
+  no_word : {q : Parser} {k : Kind} → read_word k ≡ false → At text f q → StandsHere q k true → Underived text (at IdentifierName f) q.prev_token_end
+  no_word h b s = no_name b (ap read_word s.0 ∙ h)
+
+  pub no_call_link : (q : Parser) (e : Stop) → StandsHere p LParen true → Stops p q e (Fails rule (Lex text) (plain full) end (args f) p.prev_token_end) → Stops p q e ((c : LinkForm) (o : Bool) → NoLink text f p.prev_token_end c o)
+  no_call_link q e s z = stops_so p q e (λ n. none_of_links by_call false (paren_only f (stands_there a s.0 refl)) n) z
+
+  pub no_index_link : (q : Parser) (e : Stop) → StandsHere p LBrack true → Stops p q e (Fails rule (Lex text) (plain full) end (indexed f) p.prev_token_end) → Stops p q e ((c : LinkForm) (o : Bool) → NoLink text f p.prev_token_end c o)
+  no_index_link q e s z = stops_so p q e (λ n. none_of_links by_index false (bracket_only f (stands_there a s.0 refl)) n) z
+
+  no_index_here : {s : ℕ} → NoneIs text s LBrack → Fails rule (Lex text) (plain full) end (indexed f) s
+  no_index_here n = fails_here firsts (λ y l h. n y l (sym (kind_of_same LBrack y.kind (and_parts _ _ h).0)))
 
   -- behind `?.`
   module _ (s : StandsHere p QuestionDot true) {mid : Parser} (m : Moved text f p mid) where
-    call_lacks : Fails rule (Lex text) (plain full) end (args f) mid.prev_token_end → NoLink text f p.prev_token_end true true
-    call_lacks n = skips a QuestionDot s.0 s.1 refl m ▹✗ n
+    -- what fails behind it
+    abbrev NotBehind : LinkForm → Type 0
+    NotBehind by_call = Fails rule (Lex text) (plain full) end (args f) mid.prev_token_end
+    NotBehind by_name = Underived text (at IdentifierName f) mid.prev_token_end
+    NotBehind by_index = Fails rule (Lex text) (plain full) end (indexed f) mid.prev_token_end
 
-    name_lacks : Underived text (at IdentifierName f) mid.prev_token_end → NoLink text f p.prev_token_end false true
-    name_lacks n = skips a QuestionDot s.0 s.1 refl m ▹✗ weaken_fails n (λ ts y e. (refl, refl))
+    lacks : (c : LinkForm) → NotBehind c → NoLink text f p.prev_token_end c true
+    lacks by_call n = skips a QuestionDot s.0 s.1 refl m ▹✗ n
+    lacks by_name n = skips a QuestionDot s.0 s.1 refl m ▹✗ weaken_fails n (λ ts y e. (refl, refl))
+    lacks by_index n = skips a QuestionDot s.0 s.1 refl m ▹✗ n
 
-    pub optional_call : {q : Parser} {id left : NodeId} {start : ℕ} → StandsHere mid LParen true → WithArguments node.CallExpression true start left mid q id → Linked text f start left p q id
-    optional_call t y = record { call = true; optional = true; sign = s; only = chain_only f true others (stands_there a s.0 refl); behind = y.behind; children = y.children; part = part_behind QuestionDot a s.0 s.1 refl m (y.arguments text f m.at true); made = y.made }
-      where
-        others : (d : Bool) → (d ≡ true → ⊥) → NoLink text f p.prev_token_end d true
-        others true n = absurd (n refl)
-        others false n = name_lacks (no_word m.at t)
+    -- the sign is passed before it
+    behind_sign : {v : Parser} {g : G} {ids js : List (Option NodeId)} → Partway text f g nothing mid v ids js → Partway text f (seq (tok QuestionDot) g) nothing p v ids js
+    behind_sign x = parts (part_sign QuestionDot a s.0 s.1 refl m) x
 
-    pub no_optional_call : (q : Parser) (e : Stop) → StandsHere mid LParen true → Stops mid q e (Fails rule (Lex text) (plain full) end (args f) mid.prev_token_end) → Stops p q e ((c o : Bool) → NoLink text f p.prev_token_end c o)
-    no_optional_call q e t z = stops_behind q e m.same.follows (λ g. grown_then m.kept g) (λ n. none_of_links true true (chain_only f true (λ d h. other d h) (stands_there a s.0 refl)) (call_lacks n)) z
-      where
-        other : (d : Bool) → (d ≡ true → ⊥) → NoLink text f p.prev_token_end d true
-        other true n = absurd (n refl)
-        other false n = name_lacks (no_word m.at t)
+    one_link : (c : LinkForm) → ((d : LinkForm) → (d ≡ c → ⊥) → NotBehind d) → OnlyLink text f p.prev_token_end c true
+    one_link c n = chain_only f c (λ d h. lacks d (n d h)) (stands_there a s.0 refl)
 
-    pub optional_name : {v q : Parser} {id left name : NodeId} {start : ℕ} → StandsHere mid LParen false → Numbered text f (at IdentifierName f) mid v name → MadeHere (link_label false true start v.prev_token_end) (Some left ∷ Some name ∷ []) v q id → Linked text f start left p q id
-    optional_name {v} t x y = record { call = false; optional = true; sign = s; only = chain_only f false others (stands_there a s.0 refl); behind = v; children = _; part = part_behind QuestionDot a s.0 s.1 refl m (part_name x); made = y }
-      where
-        others : (d : Bool) → (d ≡ false → ⊥) → NoLink text f p.prev_token_end d true
-        others false n = absurd (n refl)
-        others true n = call_lacks (no_arguments_here f (stands_not m.at refl t))
+    no_links : (q : Parser) (e : Stop) (c : LinkForm) → ((d : LinkForm) → (d ≡ c → ⊥) → NotBehind d) → Stops mid q e (NotBehind c) → Stops p q e ((c : LinkForm) (o : Bool) → NoLink text f p.prev_token_end c o)
+    no_links q e c n z = stops_behind q e m.same.follows (λ g. grown_then m.kept g) (λ i. none_of_links c true (one_link c n) (lacks c i)) z
 
-    pub no_optional_name : (q : Parser) (e : Stop) → StandsHere mid LParen false → Stops mid q e (Underived text (at IdentifierName f) mid.prev_token_end) → Stops p q e ((c o : Bool) → NoLink text f p.prev_token_end c o)
-    no_optional_name q e t z = stops_behind q e m.same.follows (λ g. grown_then m.kept g) (λ n. none_of_links false true (chain_only f false (λ d h. other d h) (stands_there a s.0 refl)) (name_lacks n)) z
-      where
-        other : (d : Bool) → (d ≡ false → ⊥) → NoLink text f p.prev_token_end d true
-        other false n = absurd (n refl)
-        other true n = call_lacks (no_arguments_here f (stands_not m.at refl t))
+    module _ (t : StandsHere mid LParen true) where
+      parens_alone : (d : LinkForm) → (d ≡ by_call → ⊥) → NotBehind d
+      parens_alone by_call n = absurd (n refl)
+      parens_alone by_name n = no_word {k = LParen} refl m.at t
+      parens_alone by_index n = no_index_here (λ y l e. let z : LParen ≡ LBrack = sym (stands_there m.at t.0 refl y l).0 ∙ e in cc)
+
+      pub optional_call : {q : Parser} {id left : NodeId} {start : ℕ} → WithArguments node.CallExpression true start left mid q id → Linked text f start left p q id
+      optional_call y = record { form = by_call; optional = true; sign = s; only = one_link by_call parens_alone; behind = y.behind; children = y.children; part = behind_sign (y.arguments text f m.at); made = y.made }
+
+      pub no_optional_call : (q : Parser) (e : Stop) → Stops mid q e (Fails rule (Lex text) (plain full) end (args f) mid.prev_token_end) → Stops p q e ((c : LinkForm) (o : Bool) → NoLink text f p.prev_token_end c o)
+      no_optional_call q e z = no_links q e by_call parens_alone z
+
+    module _ (t : StandsHere mid LBrack true) where
+      brackets_alone : (d : LinkForm) → (d ≡ by_index → ⊥) → NotBehind d
+      brackets_alone by_index n = absurd (n refl)
+      brackets_alone by_name n = no_word {k = LBrack} refl m.at t
+      brackets_alone by_call n = no_arguments_here f (λ y l e. let z : LBrack ≡ LParen = sym (stands_there m.at t.0 refl y l).0 ∙ e in cc)
+
+      pub optional_index : {q : Parser} {id left : NodeId} {start : ℕ} → WithIndex true start left mid q id → Linked text f start left p q id
+      optional_index y = record { form = by_index; optional = true; sign = s; only = one_link by_index brackets_alone; behind = y.behind; children = y.children; part = behind_sign (y.part text f m.at); made = y.made }
+
+      pub no_optional_index : (q : Parser) (e : Stop) → Stops mid q e (Fails rule (Lex text) (plain full) end (indexed f) mid.prev_token_end) → Stops p q e ((c : LinkForm) (o : Bool) → NoLink text f p.prev_token_end c o)
+      no_optional_index q e z = no_links q e by_index brackets_alone z
+
+    module _ (t : StandsHere mid LParen false) (u : StandsHere mid LBrack false) where
+      name_alone : (d : LinkForm) → (d ≡ by_name → ⊥) → NotBehind d
+      name_alone by_name n = absurd (n refl)
+      name_alone by_call n = no_arguments_here f (stands_not m.at refl t)
+      name_alone by_index n = no_index_here (stands_not m.at refl u)
+
+      pub optional_name : {v q : Parser} {id left name : NodeId} {start : ℕ} → Numbered text f (at IdentifierName f) mid v name → MadeHere (link_label by_name true start v.prev_token_end) (Some left ∷ Some name ∷ []) v q id → Linked text f start left p q id
+      optional_name {v} x y = record { form = by_name; optional = true; sign = s; only = one_link by_name name_alone; behind = v; children = _; part = behind_sign (part_name x); made = y }
+
+      pub no_optional_name : (q : Parser) (e : Stop) → Stops mid q e (Underived text (at IdentifierName f) mid.prev_token_end) → Stops p q e ((c : LinkForm) (o : Bool) → NoLink text f p.prev_token_end c o)
+      no_optional_name q e z = no_links q e by_name name_alone z
 
   -- behind `.`
   module _ (s : StandsHere p Dot true) {mid : Parser} (m : Moved text f p mid) where
-    pub name_link : {v q : Parser} {id left name : NodeId} {start : ℕ} → Numbered text f (at IdentifierName f) mid v name → MadeHere (link_label false false start v.prev_token_end) (Some left ∷ Some name ∷ []) v q id → Linked text f start left p q id
-    name_link {v} x y = record { call = false; optional = false; sign = s; only = dot_only f (stands_there a s.0 refl); behind = v; children = _; part = part_behind Dot a s.0 s.1 refl m (part_name x); made = y }
+    pub name_link : {v q : Parser} {id left name : NodeId} {start : ℕ} → Numbered text f (at IdentifierName f) mid v name → MadeHere (link_label by_name false start v.prev_token_end) (Some left ∷ Some name ∷ []) v q id → Linked text f start left p q id
+    name_link {v} x y = record { form = by_name; optional = false; sign = s; only = dot_only f (stands_there a s.0 refl); behind = v; children = _; part = parts (part_sign Dot a s.0 s.1 refl m) (part_name x); made = y }
 
-    pub no_name_link : (q : Parser) (e : Stop) → Stops mid q e (Underived text (at IdentifierName f) mid.prev_token_end) → Stops p q e ((c o : Bool) → NoLink text f p.prev_token_end c o)
-    no_name_link q e z = stops_behind q e m.same.follows (λ g. grown_then m.kept g) (λ n. none_of_links false false (dot_only f (stands_there a s.0 refl)) (skips a Dot s.0 s.1 refl m ▹✗ weaken_fails n (λ ts y e. (refl, refl)))) z
+    pub no_name_link : (q : Parser) (e : Stop) → Stops mid q e (Underived text (at IdentifierName f) mid.prev_token_end) → Stops p q e ((c : LinkForm) (o : Bool) → NoLink text f p.prev_token_end c o)
+    no_name_link q e z = stops_behind q e m.same.follows (λ g. grown_then m.kept g) (λ n. none_of_links by_name false (dot_only f (stands_there a s.0 refl)) (skips a Dot s.0 s.1 refl m ▹✗ weaken_fails n (λ ts y e. (refl, refl)))) z
 
 -- ---- what the loops keep
 
@@ -767,51 +889,96 @@ next_loop l y h =
 pub first_loop : {start : ℕ} {p : Parser} {G : Type 0} → Standing p → start ≤ p.prev_token_end → G → LinkLoop start p p G
 first_loop a b g = record { at = a; before = b; later = omega arith; goes = g }
 
-pub dot_here : {p : Parser} → StandsHere p Dot true → LinkHere p true true
-dot_here s = a_link false false s (λ e. absurd (false≢true e))
+pub paren_here : {p : Parser} → StandsHere p LParen true → LinkHere p base.Chain true
+paren_here s = a_link by_call false s refl
 
-pub paren_here : {p : Parser} → StandsHere p LParen true → LinkHere p true true
-paren_here s = a_link true false s (λ e. absurd (false≢true e))
+pub chain_here : {p : Parser} → StandsHere p QuestionDot true → LinkHere p base.Chain true
+chain_here s = a_link by_name true s refl
 
-pub chain_here : {p : Parser} → StandsHere p QuestionDot true → LinkHere p true true
-chain_here s = a_link false true s (λ e. refl)
-
-pub any_here : {p : Parser} → LinkHere p false true → LinkHere p true true
-any_here (a_link c o s e) = a_link c o s (λ z. refl)
+pub any_here : {p : Parser} {b : LinkBase} → LinkHere p b true → LinkHere p base.Chain true
+any_here (a_link c o s e) = a_link c o s refl
 
 pub stands_so : (p : Parser) (k : Kind) {b r : Bool} → r ≡ b → StandsHere p k r → StandsHere p k b
 stands_so p k e s = subst (λ (c : Bool). StandsHere p k c) e s
 
-pub here_so : (p : Parser) (h : Bool) {b r : Bool} → r ≡ b → LinkHere p h r → LinkHere p h b
+pub here_so : (p : Parser) (h : LinkBase) {b r : Bool} → r ≡ b → LinkHere p h r → LinkHere p h b
 here_so p h e s = subst (λ (c : Bool). LinkHere p h c) e s
 
--- neither a parenthesis nor `?.`: a dot
-pub dot_left : {p : Parser} → LinkHere p true true → StandsHere p LParen false → StandsHere p QuestionDot false → StandsHere p Dot true
-dot_left (a_link c true s e) n m = absurd (m s.0 s.1)
-dot_left (a_link true false s e) n m = absurd (n s.0 s.1)
-dot_left (a_link false false s e) n m = s
+-- neither a parenthesis nor a bracket nor `?.`: a dot
+pub dot_left : {p : Parser} → LinkHere p base.Chain true → StandsHere p LParen false → StandsHere p LBrack false → StandsHere p QuestionDot false → StandsHere p Dot true
+dot_left (a_link by_call true s e) n i m = absurd (m s.0 s.1)
+dot_left (a_link by_name true s e) n i m = absurd (m s.0 s.1)
+dot_left (a_link by_index true s e) n i m = absurd (m s.0 s.1)
+dot_left (a_link by_call false s e) n i m = absurd (n s.0 s.1)
+dot_left (a_link by_index false s e) n i m = absurd (i s.0 s.1)
+dot_left (a_link by_name false s e) n i m = s
 
 pub start_loop : {start : ℕ} {p : Parser} → Standing p → start ≤ p.prev_token_end → LinkLoop start p p (Unit {0})
 start_loop a b = record { at = a; before = b; later = omega arith; goes = tt }
 
 pub call_outcome : {text : List ℕ} {f : Flags} (start : ℕ) (left : NodeId) {p : Parser} (q : Parser) (r : Result NodeId Stop) → At text f p → StandsHere p LParen true → MakesWithArguments node.CallExpression false start left p q r → LinkOutcome text f start left p q r
 call_outcome start left q (Ok id) a s y = call_link a s y
-call_outcome {text} {f} start left q (Err e) a s y = no_call_link a q e s (y text f a true)
+call_outcome {text} {f} start left q (Err e) a s y = no_call_link a q e s (y text f a)
+
+pub index_outcome : {text : List ℕ} {f : Flags} (start : ℕ) (left : NodeId) {p : Parser} (q : Parser) (r : Result NodeId Stop) → At text f p → StandsHere p LBrack true → MakesWithIndex false start left p q r → LinkOutcome text f start left p q r
+index_outcome start left q (Ok id) a s y = index_link a s y
+index_outcome {text} {f} start left q (Err e) a s y = no_index_link a q e s (y text f a)
 
 pub optional_outcome : {text : List ℕ} {f : Flags} (start : ℕ) (left : NodeId) {p mid : Parser} (q : Parser) (r : Result NodeId Stop) → At text f p → StandsHere p QuestionDot true → Moved text f p mid → StandsHere mid LParen true → MakesWithArguments node.CallExpression true start left mid q r → LinkOutcome text f start left p q r
 optional_outcome start left q (Ok id) a s m t y = optional_call a s m t y
-optional_outcome {text} {f} start left q (Err e) a s m t y = no_optional_call a s m q e t (y text f m.at true)
+optional_outcome {text} {f} start left q (Err e) a s m t y = no_optional_call a s m t q e (y text f m.at)
+
+pub optional_index_outcome : {text : List ℕ} {f : Flags} (start : ℕ) (left : NodeId) {p mid : Parser} (q : Parser) (r : Result NodeId Stop) → At text f p → StandsHere p QuestionDot true → Moved text f p mid → StandsHere mid LBrack true → MakesWithIndex true start left mid q r → LinkOutcome text f start left p q r
+optional_index_outcome start left q (Ok id) a s m t y = optional_index a s m t y
+optional_index_outcome {text} {f} start left q (Err e) a s m t y = no_optional_index a s m t q e (y text f m.at)
 
 -- what was said one level deeper
 pub entered_stops : {text : List ℕ} {f : Flags} {p q e : Parser} (r : Parser) (i : Stop) → (a : At text f p) → p.token.kind ≡ New → p.token.escaped ≡ false → (m : Moved text f p q) → Enters q e → Stops e r i (NoMember text f e.prev_token_end) → Stops p r i (NoMember text f p.prev_token_end)
 entered_stops {text} {f} {p} {q} {e} r i a k n m h s = stops_behind r i m.same.follows (λ g. grown_then m.kept g) (λ z. new_fails a k n m z) (stops_in r i m.at.at h (λ z. subst (λ (v : ℕ). NoMember text f v) (ap (λ (z : Parser). z.prev_token_end) h.is) z) s)
 
-pub chain_or_none : (p : Parser) (h b : Bool) → h ≡ true → StandsHere p LParen false → StandsHere p Dot false → StandsHere p QuestionDot b → LinkHere p h b
-chain_or_none p h true e s d z = a_link false true z (λ u. e)
-chain_or_none p h false e s d z = no_link s d (λ u. z)
+-- whether a link stands here, by the signs
+pub name_here : {p : Parser} (b : LinkBase) → StandsHere p Dot true → LinkHere p b true
+name_here base.Member s = a_link by_name false s refl
+name_here base.Call s = a_link by_name false s refl
+name_here base.Chain s = a_link by_name false s refl
 
-pub plain_none : (p : Parser) (h : Bool) → h ≡ false → StandsHere p LParen false → StandsHere p Dot false → LinkHere p h false
-plain_none p h e s d = no_link s d (λ u. absurd (false≢true (sym e ∙ u)))
+pub bracket_here : {p : Parser} (b : LinkBase) → StandsHere p LBrack true → LinkHere p b true
+bracket_here base.Member s = a_link by_index false s refl
+bracket_here base.Call s = a_link by_index false s refl
+bracket_here base.Chain s = a_link by_index false s refl
+
+module _ {p : Parser} (d : StandsHere p Dot false) (i : StandsHere p LBrack false) where
+  pub no_access_here : LinkHere p base.Member false
+  no_access_here = no_link (λ c o e. go c o e)
+    where
+      go : (c : LinkForm) (o : Bool) → admits base.Member c o ≡ true → StandsHere p (sign_of c o) false
+      go by_name false e = d
+      go by_index false e = i
+      go by_call o e = absurd (false≢true e)
+      go by_name true e = absurd (false≢true e)
+      go by_index true e = absurd (false≢true e)
+
+  pub call_or_none : (b : Bool) → StandsHere p LParen b → LinkHere p base.Call b
+  call_or_none true s = a_link by_call false s refl
+  call_or_none false s = no_link (λ c o e. go c o e)
+    where
+      go : (c : LinkForm) (o : Bool) → admits base.Call c o ≡ true → StandsHere p (sign_of c o) false
+      go by_name false e = d
+      go by_index false e = i
+      go by_call false e = s
+      go c true e = absurd (false≢true e)
+
+  pub chain_or_none : (b : Bool) → StandsHere p LParen false → StandsHere p QuestionDot b → LinkHere p base.Chain b
+  chain_or_none true s z = a_link by_name true z refl
+  chain_or_none false s z = no_link (λ c o e. go c o)
+    where
+      go : (c : LinkForm) (o : Bool) → StandsHere p (sign_of c o) false
+      go by_name false = d
+      go by_index false = i
+      go by_call false = s
+      go by_name true = z
+      go by_index true = z
+      go by_call true = z
 
 pub begun_at : {k : NodeKindMade} {b : Bool} {from start : ℕ} {left id : NodeId} {p q : Parser} → from ≡ start → WithArguments k b from left p q id → WithArguments k b start left p q id
 begun_at {k} {b} {left = left} {id} {p} {q} e y = subst (λ (v : ℕ). WithArguments k b v left p q id) e y

@@ -3,7 +3,7 @@ use Rattle.std.proofs.Common.{ℕ, ◌≡◌, List, [], ◌∷◌, length, Bool,
 use Rattle.std.specs.Prelude.{Result, Ok, Err, MatchResult, Option, is_some, if◌then◌else◌}
 use Rattle.std.proofs.lemmas.Bool.{false≢true, or_left}
 use Rattle.js_base.specs.declared.kind.Kind.{Kind}
-use Rattle.js_base.specs.declared.kind.Kind.TheVariants.{Ident, This, Null, True, False, Decimal, Float, Binary, Octal, Hex, PositiveExponential, NegativeExponential, DecimalBigInt, BinaryBigInt, OctalBigInt, HexBigInt, Str, LParen, Percent, Minus, Plus, Bang, Tilde, Typeof, Void, Delete, Yield, Await, Function}
+use Rattle.js_base.specs.declared.kind.Kind.TheVariants.{Ident, This, Null, True, False, Decimal, Float, Binary, Octal, Hex, PositiveExponential, NegativeExponential, DecimalBigInt, BinaryBigInt, OctalBigInt, HexBigInt, Str, LParen, LBrack, Percent, Minus, Plus, Bang, Tilde, Typeof, Void, Delete, Yield, Await, Function}
 use Rattle.js_base.specs.declared.operator.UnaryOperator.{UnaryOperator}
 use Rattle.js_base.specs.Kinds.{same_kind, one_of_kinds}
 use Rattle.js_base.specs.KindSets.{number_kinds}
@@ -204,7 +204,7 @@ unary_answers {text} {f} {p} {q} {r} {w} {id} {arg} k o s h u a e n m x b c d =
 
 -- what a PrimaryExpression begins with
 abbrev pub primary_kinds : List Kind
-primary_kinds = Ident ∷ This ∷ Null ∷ True ∷ False ∷ Str ∷ LParen ∷ Percent ∷ number_kinds
+primary_kinds = Ident ∷ This ∷ Null ∷ True ∷ False ∷ Str ∷ LParen ∷ LBrack ∷ Percent ∷ number_kinds
 
 pub primary_fails : {text : List ℕ} {f : Flags} {p : Parser} → At text f p → one_of_kinds primary_kinds p.token.kind ≡ false → Underived text (at Primary f) p.prev_token_end
 unfolding rule rule_of covers apart
@@ -222,8 +222,8 @@ not_same a k b n = go (same_kind a k) refl
     go true e = absurd (n (sym (kind_of_same a k e)))
     go false e = refl
 
-pub none_of_these : (k : Kind) → (k ≡ Ident → ⊥) → (k ≡ This → ⊥) → (k ≡ Null → ⊥) → (k ≡ True → ⊥) → (k ≡ False → ⊥) → (k ≡ Str → ⊥) → (k ≡ LParen → ⊥) → (k ≡ Percent → ⊥) → one_of_kinds number_kinds k ≡ false → one_of_kinds primary_kinds k ≡ false
-none_of_these k a b c d e f g h n = not_same Ident k _ a ∙ (not_same This k _ b ∙ (not_same Null k _ c ∙ (not_same True k _ d ∙ (not_same False k _ e ∙ (not_same Str k _ f ∙ (not_same LParen k _ g ∙ (not_same Percent k _ h ∙ n)))))))
+pub none_of_these : (k : Kind) → (k ≡ Ident → ⊥) → (k ≡ This → ⊥) → (k ≡ Null → ⊥) → (k ≡ True → ⊥) → (k ≡ False → ⊥) → (k ≡ Str → ⊥) → (k ≡ LParen → ⊥) → (k ≡ LBrack → ⊥) → (k ≡ Percent → ⊥) → one_of_kinds number_kinds k ≡ false → one_of_kinds primary_kinds k ≡ false
+none_of_these k a b c d e f g j h n = not_same Ident k _ a ∙ (not_same This k _ b ∙ (not_same Null k _ c ∙ (not_same True k _ d ∙ (not_same False k _ e ∙ (not_same Str k _ f ∙ (not_same LParen k _ g ∙ (not_same LBrack k _ j ∙ (not_same Percent k _ h ∙ n))))))))
 
 -- a number, read so
 pub number_outcome : (text : List ℕ) (f : Flags) (p q : Parser) (nk : NodeKindMade) (o : OpMade) (k : Kind) (r : Result NodeId Stop) → one_of_kinds number_kinds p.token.kind ≡ true → k ≡ p.token.kind → nk ≡ node_of_number k → o ≡ op_of_number k → At text f p → p.token.escaped ≡ false → MatchResult r (λ id. TakesLeaf nk o p q id) OnlyMemory → Outcome text f (at Primary f) p q r

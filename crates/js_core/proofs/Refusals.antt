@@ -190,7 +190,7 @@ module _ {text : List ℕ} {f : Flags} {p q : Parser} (a : At text f p) where
       ending y l h = and_from _ _ h (ap not (read_plain y l.1))
 
 -- what is said where a call gave up
-grew : {K : Type 0} {old new : List K} {C B : Type 0} (kept : ℕ) → kept ≡ length old → (length new ≡ kept → ⊥) → Verdict old new C B → Grown old new
+pub grew : {K : Type 0} {old new : List K} {C B : Type 0} (kept : ℕ) → kept ≡ length old → (length new ≡ kept → ⊥) → Verdict old new C B → Grown old new
 grew kept k h (clean e c) = absurd (h (ap length e ∙ sym k))
 grew kept k h (unclean g b) = g
 

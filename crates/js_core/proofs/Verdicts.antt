@@ -52,5 +52,10 @@ pub after : {K : Type 0} {p q r : List K} {C B : Type 0} → Verdict p q C B →
 after (clean e c) g = grown_then e g
 after (unclean e n) g = grown_both e g
 
+-- and behind what an earlier one kept
+pub grown_on : {K : Type 0} {p q r : List K} {C B : Type 0} → Grown p q → Verdict q r C B → Grown p r
+grown_on g (clean e c) = grown_first g e
+grown_on g (unclean h n) = grown_both g h
+
 pub grown_some : {K : Type 0} {p q : List K} → Grown p q → q ≡ [] → ⊥
 grown_some {p = p} g e = g.some (ending p g.more (sym g.kept ∙ e))

@@ -1,14 +1,18 @@
 -- What the parse functions of arguments answer (ECMA-262, 13.3.8): a list in parentheses, as far as it was read.
-use Rattle.std.specs.Prelude.{ℕ, ◌≡◌, ◌<◌, ◌≤◌, Bool, true, false, List, Option, length, Result, Ok, Err}
-use Rattle.js_base.specs.declared.kind.Kind.TheVariants.{RParen}
-use Rattle.js_grammar.specs.Trees.{Slots, end, append}
+use Rattle.std.specs.Prelude.{ℕ, ◌≡◌, ◌<◌, ◌≤◌, Bool, true, false, List, [], ◌∷◌, Option, None, length, Result, Ok, Err}
+use Rattle.js_base.specs.declared.kind.Kind.TheVariants.{Comma, RParen, RBrack}
+use Rattle.js_base.specs.Kinds.{one_of_kinds}
+use Rattle.js_base.specs.declared.span.Span.{Span}
+use Rattle.js_base.specs.declared.diagnostic.Diagnostic.{Diagnostic}
+use Rattle.js_base.specs.declared.diagnostic.DiagnosticKind.TheVariants.{V8IntrinsicSpreadElem}
+use Rattle.js_grammar.specs.Trees.{Label, Slots, end, tree, append}
 use Rattle.js_grammar.specs.Grammar.{Lexemes, seq, such, commas, nothing}
-use Rattle.js_grammar.specs.Parsing.{plain, full, always, Fails}
+use Rattle.js_grammar.specs.Parsing.{Test, plain, full, always, Fails}
 use Rattle.js_grammar.specs.Productions.{G, Flags, Symbol, at, tok, parens, opt, plus_in, Argument, Assignment}
 use Rattle.js_grammar.specs.Table.{rule}
 use Rattle.js_grammar.proofs.Calculus.{after_item}
 use Rattle.js_tree.specs.declared.id.NodeId.{NodeId}
-use Rattle.js_tree.specs.Holding.{HoldsAll, Keeps}
+use Rattle.js_tree.specs.Holding.{Holds, HoldsAll, Keeps}
 use Rattle.js_cursor.specs.Parsers.{Parser}
 use Rattle.js_cursor.specs.declared.stop.Stop.{Stop}
 use Rattle.js_core.specs.Lexemes.{Lex, Walked, spot}
@@ -69,8 +73,41 @@ DueOutcome text f first p q (Err e) = (i : Bool) → Stops p q e (Fails rule (Le
 abbrev pub FindsDue : Bool → Parser → Parser → Result Bool Stop → Type 0
 FindsDue first p q r = (text : List ℕ) (f : Flags) → At text f p → DueOutcome text f first p q r
 
-abbrev pub Arguments : List (Option NodeId) → List (Option NodeId) → Parser → Parser → Type 0
-Arguments ids js p q = (text : List ℕ) (f : Flags) → At text f p → (i : Bool) → Partway text f (list_of (item_of i f)) nothing p q ids js
+abbrev pub Arguments : Bool → List (Option NodeId) → List (Option NodeId) → Parser → Parser → Type 0
+Arguments i ids js p q = (text : List ℕ) (f : Flags) → At text f p → Partway text f (list_of (item_of i f)) nothing p q ids js
 
-abbrev pub NoArguments : Parser → Parser → Stop → Type 0
-NoArguments p q e = (text : List ℕ) (f : Flags) → At text f p → (i : Bool) → Stops p q e (Fails rule (Lex text) (plain full) end (list_of (item_of i f)) p.prev_token_end)
+abbrev pub NoArguments : Bool → Parser → Parser → Stop → Type 0
+NoArguments i p q e = (text : List ℕ) (f : Flags) → At text f p → Stops p q e (Fails rule (Lex text) (plain full) end (list_of (item_of i f)) p.prev_token_end)
+
+-- ---- one item
+
+-- what may stand behind an item: a comma, or a closing bracket
+abbrev pub behind_item : Test
+behind_item = plain (λ k w e. one_of_kinds (Comma ∷ RParen ∷ RBrack ∷ []) k)
+
+abbrev pub NoItem : List ℕ → Symbol → ℕ → Type 0
+NoItem text n s = Fails rule (Lex text) behind_item end (such n always) s
+
+-- An item was taken. Clean: whatever is derived from its beginning before what may stand behind it is this; unclean: nothing is. A node made in the call stands for its tree.
+pub record ItemTaken (text : List ℕ) (f : Flags) (n : Symbol) (p q : Parser) (id : NodeId) : Type 0 where
+  pub at : At text f q
+  pub same : Same p q
+  pub further : p.token.span.start < q.prev_token_end
+  pub label : Label
+  pub slots : Slots
+  pub pass : Lexemes → Lexemes
+  pub walked : Walked text (spot p) (spot q) pass
+  pub verdict : Verdict p.errors q.errors (Stretch text behind_item (such n always) p.prev_token_end nothing q.prev_token_end (tree label slots) pass) (NoItem text n p.prev_token_end)
+  pub holds : Holds q.nodes (length p.nodes) (length q.nodes) id.0 label slots
+  pub keeps : Keeps p.nodes q.nodes
+
+abbrev pub ItemOutcome : List ℕ → Flags → Symbol → Parser → Parser → Result NodeId Stop → Type 0
+ItemOutcome text f n p q (Ok id) = ItemTaken text f n p q id
+ItemOutcome text f n p q (Err e) = Stops p q e (NoItem text n p.prev_token_end)
+
+abbrev pub TakesItem : Bool → Parser → Parser → Result NodeId Stop → Type 0
+TakesItem i p q r = (text : List ℕ) (f : Flags) → At text f p → ItemOutcome text f (item_of i f) p q r
+
+-- what is told of a spread argument of a call of V8
+abbrev pub spread_at : Span → Diagnostic
+spread_at s = record { kind = V8IntrinsicSpreadElem; span = s; first = None; second = None }

@@ -11,8 +11,9 @@ pub mod Rests
 pub mod Exponents
 pub mod Targets
 pub mod Arguments
-pub mod Coalescing
 pub mod Numbers
+pub mod Coalescing
+pub mod Arrays
 pub mod Parameters
 pub mod Arrows
 pub mod Marked

@@ -1,17 +1,17 @@
 -- What the parse functions of members, `new` and optional chains answer (ECMA-262, 13.3): how much was taken, and which nonterminals that is.
-use Rattle.std.specs.Prelude.{ℕ, ◌≡◌, ◌<◌, ◌≤◌, ◌⊎◌, Bool, true, false, cond, List, [], ◌∷◌, Option, Some, None, length, Result, Ok, Err}
+use Rattle.std.specs.Prelude.{ℕ, ◌≡◌, ◌<◌, ◌≤◌, ◌⊎◌, Bool, true, false, cond, List, [], ◌∷◌, Option, Some, None, not, length, Result, Ok, Err}
 use Rattle.js_base.specs.declared.diagnostic.Diagnostic.{Diagnostic}
 use Rattle.js_base.specs.declared.diagnostic.DiagnosticKind.TheVariants.{InvalidNewOptionalChain, IdentifierExpectedAfterQuestionDot}
 use Rattle.js_base.specs.declared.span.Span.{Span}
 use Rattle.js_base.specs.declared.kind.Kind.{Kind}
-use Rattle.js_base.specs.declared.kind.Kind.TheVariants.{New, Dot, QuestionDot, LParen}
+use Rattle.js_base.specs.declared.kind.Kind.TheVariants.{New, Dot, QuestionDot, LParen, LBrack, RBrack}
 use Rattle.js_base.specs.Kinds.{one_of_kinds}
-use Rattle.js_grammar.specs.Trees.{Slots, end, tree, Label, no_op, static_member_expression, call_expression, new_expression}
+use Rattle.js_grammar.specs.Trees.{NodeKind as TreeKind, Slots, end, tree, Label, no_op, static_member_expression, computed_member_expression, call_expression, new_expression}
 use Rattle.js_grammar.specs.Grammar.{Lexeme, Lexemes, is, such, nothing, ◌▸◌}
 use Rattle.js_grammar.specs.Follow.{row_of, after}
 use Rattle.js_grammar.specs.Insertion.{after_expression}
 use Rattle.js_grammar.specs.Parsing.{Test, Fails, always, plain, full}
-use Rattle.js_grammar.specs.Productions.{G, Flags, Symbol, at, mk, tok, optional_flag, Member, Call, Links, LeftHandSide, IdentifierName}
+use Rattle.js_grammar.specs.Productions.{G, Flags, Symbol, at, mk, tok, optional_flag, plus_in, Member, Call, Links, LeftHandSide, IdentifierName, Expression}
 use Rattle.js_grammar.specs.Productions.{New as new_symbol, sym as symbol}
 use Rattle.js_grammar.specs.Table.{rule, args}
 use Rattle.js_grammar.proofs.Chains.{members, calls, chains}
@@ -27,8 +27,11 @@ use Rattle.js_core.specs.States.{At, Same}
 use Rattle.js_core.specs.Moves.{MadeHere}
 use Rattle.js_core.specs.Arguments.{Partway, Arguments, NoArguments}
 use Rattle.js_tree.specs.declared.kind.NodeKind.{NodeKind}
+use Rattle.js_tree.specs.declared.kind.NodeKind.TheVariants.{V8IntrinsicExpression}
 use Rattle.js_tree.specs.Labels.{kind_of}
-use Rattle.js_core.specs.Answers.{Verdict, Stretch, Underived, Outcome, Stops}
+use Rattle.js_core.specs.declared.left_hand_side.LinkBase.{LinkBase}
+use Rattle.js_core.specs.declared.left_hand_side.LinkBase.TheVariants.{Member as OfMember, Call as OfCall, Chain as OfChain}
+use Rattle.js_core.specs.Answers.{Verdict, Stretch, Underived, Numbered, Outcome, Stops}
 
 -- whether this lexeme stands here, without an escape
 abbrev pub StandsHere : Parser → Kind → Bool → Type 0
@@ -76,7 +79,7 @@ abbrev pub NoMember : List ℕ → Flags → ℕ → Type 0
 NoMember text f s = Underived text (at Member f) s × NoBareNew text f s
 
 abbrev pub link_kinds : List Kind
-link_kinds = Dot ∷ QuestionDot ∷ LParen ∷ []
+link_kinds = Dot ∷ LBrack ∷ QuestionDot ∷ LParen ∷ []
 
 -- A MemberExpression; or a NewExpression that is none, behind which no link stands.
 pub data Headed (text : List ℕ) (f : Flags) (s : ℕ) (l : Label) (cs : Slots) (pass : Lexemes → Lexemes) (s' : ℕ) : Type 0 where
@@ -87,12 +90,13 @@ pub data Headed (text : List ℕ) (f : Flags) (s : ℕ) (l : Label) (cs : Slots)
 abbrev pub MemberSoFar : List ℕ → Flags → ℕ → ℕ → Label → Slots → (Lexemes → Lexemes) → ℕ → Type 0
 MemberSoFar text f s from l cs pass s' = Looped text (members f) (after (at Member f)) s from l cs pass s' × NoBareNew text f s
 
-abbrev pub NoDot : List ℕ → Parser → Type 0
-NoDot text q = (y : Lexeme) → Lex text q.prev_token_end y → y.kind ≡ Dot → ⊥
+-- neither `.` nor `[` stands here
+abbrev pub NoAccess : List ℕ → Parser → Type 0
+NoAccess text q = ((y : Lexeme) → Lex text q.prev_token_end y → y.kind ≡ Dot → ⊥) × ((y : Lexeme) → Lex text q.prev_token_end y → y.kind ≡ LBrack → ⊥)
 
--- what LeftHandSideExpressions begin with, behind which no `.` stands
+-- what LeftHandSideExpressions begin with, behind which no name and no expression in brackets stands
 abbrev pub HeadOutcome : List ℕ → Flags → Parser → Parser → Result NodeId Stop → Type 0
-HeadOutcome text f p q (Ok id) = Taken text f p q id (λ l cs pass s'. Headed text f p.prev_token_end l cs pass s') (NoMember text f p.prev_token_end) × NoDot text q
+HeadOutcome text f p q (Ok id) = Taken text f p q id (λ l cs pass s'. Headed text f p.prev_token_end l cs pass s') (NoMember text f p.prev_token_end) × NoAccess text q
 HeadOutcome text f p q (Err e) = Stops p q e (NoMember text f p.prev_token_end)
 
 abbrev pub Heads : Parser → Parser → Result NodeId Stop → Type 0
@@ -104,66 +108,106 @@ GoesOnMember start left p q r = (text : List ℕ) (f : Flags) (o : Parser) → s
 
 -- ---- links
 
--- the part behind what a link hangs on: arguments or a name, with `?.` or not
-abbrev pub chained : Flags → Bool → Bool → Link Symbol
-chained f true true = link call_expression no_op optional_flag (tok QuestionDot ▸ args f)
-chained f true false = link call_expression no_op 0 (args f)
-chained f false true = link static_member_expression no_op optional_flag (tok QuestionDot ▸ symbol IdentifierName f)
-chained f false false = link static_member_expression no_op 0 (tok Dot ▸ symbol IdentifierName f)
+-- what a link has behind its sign
+pub data LinkForm : Type 0 where
+  by_name by_call by_index : LinkForm
+
+-- an expression in brackets
+abbrev pub indexed : Flags → G
+indexed f = tok LBrack ▸ symbol Expression (plus_in f) ▸ tok RBrack
+
+-- the part behind what a link hangs on: a name, arguments or an expression in brackets, with `?.` or not
+abbrev pub chained : Flags → LinkForm → Bool → Link Symbol
+chained f by_call true = link call_expression no_op optional_flag (tok QuestionDot ▸ args f)
+chained f by_call false = link call_expression no_op 0 (args f)
+chained f by_name true = link static_member_expression no_op optional_flag (tok QuestionDot ▸ symbol IdentifierName f)
+chained f by_name false = link static_member_expression no_op 0 (tok Dot ▸ symbol IdentifierName f)
+chained f by_index true = link computed_member_expression no_op optional_flag (tok QuestionDot ▸ indexed f)
+chained f by_index false = link computed_member_expression no_op 0 (indexed f)
 
 -- its first lexeme
-abbrev pub sign_of : Bool → Bool → Kind
-sign_of call true = QuestionDot
-sign_of true false = LParen
-sign_of false false = Dot
+abbrev pub sign_of : LinkForm → Bool → Kind
+sign_of c true = QuestionDot
+sign_of by_call false = LParen
+sign_of by_name false = Dot
+sign_of by_index false = LBrack
 
-abbrev pub link_label : Bool → Bool → ℕ → ℕ → Label
-link_label call optional from to = record { kind = cond call call_expression static_member_expression; op = no_op; flags = cond optional optional_flag 0; span = record { from = from; to = to } }
+-- the node that it makes
+abbrev pub node_of : LinkForm → TreeKind
+node_of by_call = call_expression
+node_of by_name = static_member_expression
+node_of by_index = computed_member_expression
+
+abbrev pub link_label : LinkForm → Bool → ℕ → ℕ → Label
+link_label c optional from to = record { kind = node_of c; op = no_op; flags = cond optional optional_flag 0; span = record { from = from; to = to } }
 
 -- no such link can be read here
-abbrev pub NoLink : List ℕ → Flags → ℕ → Bool → Bool → Type 0
-NoLink text f s call optional = Fails rule (Lex text) (plain full) end (chained f call optional).part s
+abbrev pub NoLink : List ℕ → Flags → ℕ → LinkForm → Bool → Type 0
+NoLink text f s c optional = Fails rule (Lex text) (plain full) end (chained f c optional).part s
 
 -- of these links no other one can be
-abbrev pub OnlyLink : List ℕ → Flags → ℕ → Bool → Bool → Type 0
-OnlyLink text f s c o = (c' o' : Bool) → ((c' ≡ c) × (o' ≡ o)) ⊎ NoLink text f s c' o'
+abbrev pub OnlyLink : List ℕ → Flags → ℕ → LinkForm → Bool → Type 0
+OnlyLink text f s c o = (c' : LinkForm) (o' : Bool) → ((c' ≡ c) × (o' ≡ o)) ⊎ NoLink text f s c' o'
 
 -- A link was read, and a node was made around what stood before.
 pub record Linked (text : List ℕ) (f : Flags) (start : ℕ) (left : NodeId) (p q : Parser) (id : NodeId) : Type 0 where
-  pub call : Bool
+  pub form : LinkForm
   pub optional : Bool
-  pub sign : StandsHere p (sign_of call optional) true
-  pub only : OnlyLink text f p.prev_token_end call optional
+  pub sign : StandsHere p (sign_of form optional) true
+  pub only : OnlyLink text f p.prev_token_end form optional
   pub behind : Parser
   pub children : List (Option NodeId)
-  pub part : Partway text f (chained f call optional).part nothing p behind (Some left ∷ []) children
-  pub made : MadeHere (link_label call optional start behind.prev_token_end) children behind q id
+  pub part : Partway text f (chained f form optional).part nothing p behind (Some left ∷ []) children
+  pub made : MadeHere (link_label form optional start behind.prev_token_end) children behind q id
 
 abbrev pub LinkOutcome : List ℕ → Flags → ℕ → NodeId → Parser → Parser → Result NodeId Stop → Type 0
 LinkOutcome text f start left p q (Ok id) = Linked text f start left p q id
-LinkOutcome text f start left p q (Err e) = Stops p q e ((c o : Bool) → NoLink text f p.prev_token_end c o)
+LinkOutcome text f start left p q (Err e) = Stops p q e ((c : LinkForm) (o : Bool) → NoLink text f p.prev_token_end c o)
 
 abbrev pub ReadsLink : ℕ → NodeId → Parser → Parser → Result NodeId Stop → Type 0
 ReadsLink start left p q r = (text : List ℕ) (f : Flags) → At text f p → LinkOutcome text f start left p q r
 
--- whether a link stands here, with `?.` only where a chain may begin or go on
-pub data LinkHere (p : Parser) (chain : Bool) : Bool → Type 0 where
-  a_link : (call optional : Bool) → StandsHere p (sign_of call optional) true → (optional ≡ true → chain ≡ true) → LinkHere p chain true
-  no_link : StandsHere p LParen false → StandsHere p Dot false → (chain ≡ true → StandsHere p QuestionDot false) → LinkHere p chain false
+-- which links go on with a member, with a call and in an optional chain
+abbrev pub admits : LinkBase → LinkForm → Bool → Bool
+admits OfChain c o = true
+admits OfCall c o = not o
+admits OfMember by_call o = false
+admits OfMember c o = not o
 
-abbrev pub arguments_label : NodeKind → Bool → ℕ → ℕ → Label
-arguments_label k optional from to = record { kind = kind_of k; op = no_op; flags = cond optional optional_flag 0; span = record { from = from; to = to } }
+-- whether such a link stands here
+pub data LinkHere (p : Parser) (base : LinkBase) : Bool → Type 0 where
+  a_link : (c : LinkForm) (o : Bool) → StandsHere p (sign_of c o) true → admits base c o ≡ true → LinkHere p base true
+  no_link : ((c : LinkForm) (o : Bool) → admits base c o ≡ true → StandsHere p (sign_of c o) false) → LinkHere p base false
+
+abbrev pub flagged_label : NodeKind → Bool → ℕ → ℕ → Label
+flagged_label k optional from to = record { kind = kind_of k; op = no_op; flags = cond optional optional_flag 0; span = record { from = from; to = to } }
+
+-- an argument may be spread, but of a call of V8
+abbrev pub takes_spreads : NodeKind → Bool
+takes_spreads V8IntrinsicExpression = false
+takes_spreads _ = true
 
 -- what a node of a callee and its arguments was made of
 pub record WithArguments (k : NodeKind) (optional : Bool) (start : ℕ) (left : NodeId) (p q : Parser) (id : NodeId) : Type 0 where
   pub behind : Parser
   pub children : List (Option NodeId)
-  pub arguments : Arguments (Some left ∷ []) children p behind
-  pub made : MadeHere (arguments_label k optional start behind.prev_token_end) children behind q id
+  pub arguments : Arguments (takes_spreads k) (Some left ∷ []) children p behind
+  pub made : MadeHere (flagged_label k optional start behind.prev_token_end) children behind q id
 
 abbrev pub MakesWithArguments : NodeKind → Bool → ℕ → NodeId → Parser → Parser → Result NodeId Stop → Type 0
 MakesWithArguments k optional start left p q (Ok id) = WithArguments k optional start left p q id
-MakesWithArguments k optional start left p q (Err e) = NoArguments p q e
+MakesWithArguments k optional start left p q (Err e) = NoArguments (takes_spreads k) p q e
+
+-- what a node of an expression in brackets and what stands before was made of
+pub record WithIndex (optional : Bool) (start : ℕ) (left : NodeId) (p q : Parser) (id : NodeId) : Type 0 where
+  pub behind : Parser
+  pub children : List (Option NodeId)
+  pub part : (text : List ℕ) (f : Flags) → At text f p → Partway text f (indexed f) nothing p behind (Some left ∷ []) children
+  pub made : MadeHere (link_label by_index optional start behind.prev_token_end) children behind q id
+
+abbrev pub MakesWithIndex : Bool → ℕ → NodeId → Parser → Parser → Result NodeId Stop → Type 0
+MakesWithIndex optional start left p q (Ok id) = WithIndex optional start left p q id
+MakesWithIndex optional start left p q (Err e) = (text : List ℕ) (f : Flags) → At text f p → Stops p q e (Fails rule (Lex text) (plain full) end (indexed f) p.prev_token_end)
 
 -- ---- calls and chains
 
@@ -188,11 +232,11 @@ NoParen text q = (y : Lexeme) → Lex text q.prev_token_end y → y.kind ≡ LPa
 
 -- a call reads what goes on with a member that was read from the state o on, up to an optional chain
 abbrev pub CalleeOutcome : List ℕ → Flags → Parser → Parser → Result NodeId Stop → Type 0
-CalleeOutcome text f o q (Ok id) = Taken text f o q id (λ l cs pass s'. Callee text f o.prev_token_end l cs pass s') (NoLhs text f o.prev_token_end) × NoDot text q × NoParen text q
+CalleeOutcome text f o q (Ok id) = Taken text f o q id (λ l cs pass s'. Callee text f o.prev_token_end l cs pass s') (NoLhs text f o.prev_token_end) × NoAccess text q × NoParen text q
 CalleeOutcome text f o q (Err e) = Stops o q e (NoLhs text f o.prev_token_end)
 
 abbrev pub CallsMember : ℕ → NodeId → Parser → Parser → Result NodeId Stop → Type 0
-CallsMember start left p q r = (text : List ℕ) (f : Flags) (o : Parser) → At text f o → start ≡ o.token.span.start → Taken text f o p left (λ l cs pass s'. Headed text f o.prev_token_end l cs pass s') (NoMember text f o.prev_token_end) → NoDot text p → CalleeOutcome text f o q r
+CallsMember start left p q r = (text : List ℕ) (f : Flags) (o : Parser) → At text f o → start ≡ o.token.span.start → Taken text f o p left (λ l cs pass s'. Headed text f o.prev_token_end l cs pass s') (NoMember text f o.prev_token_end) → NoAccess text p → CalleeOutcome text f o q r
 
 -- a chain, as far as it was read
 abbrev pub ChainSoFar : List ℕ → Flags → ℕ → ℕ → Label → Slots → (Lexemes → Lexemes) → ℕ → Type 0
@@ -200,4 +244,4 @@ ChainSoFar text f s from l cs pass s' = Looped text (chains f) (after (at Links 
 
 -- a call reads the optional chain behind a callee that was read from the state o on
 abbrev pub ChainsCallee : ℕ → NodeId → Parser → Parser → Result NodeId Stop → Type 0
-ChainsCallee start left p q r = (text : List ℕ) (f : Flags) (o : Parser) → At text f o → start ≡ o.token.span.start → Taken text f o p left (λ l cs pass s'. Callee text f o.prev_token_end l cs pass s') (NoLhs text f o.prev_token_end) → NoDot text p → NoParen text p → Outcome text f (at LeftHandSide f) o q r
+ChainsCallee start left p q r = (text : List ℕ) (f : Flags) (o : Parser) → At text f o → start ≡ o.token.span.start → Taken text f o p left (λ l cs pass s'. Callee text f o.prev_token_end l cs pass s') (NoLhs text f o.prev_token_end) → NoAccess text p → NoParen text p → Outcome text f (at LeftHandSide f) o q r

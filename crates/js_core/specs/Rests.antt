@@ -10,7 +10,8 @@ use Rattle.js_grammar.specs.Grammar.{Lexeme}
 use Rattle.js_grammar.specs.Marks.{LexemeAt, of_kinds}
 use Rattle.js_grammar.specs.Productions.{Flags, Symbol, at, Arrow', Assignment, Short}
 use Rattle.js_tree.specs.declared.id.NodeId.{NodeId}
-use Rattle.js_cursor.specs.Moves.{GivesUp}
+use Rattle.js_cursor.specs.Moves.{GivesUp, Keeps}
+use Rattle.js_core.specs.Targets.{is_array}
 use Rattle.js_cursor.specs.Parsers.{Parser}
 use Rattle.js_cursor.specs.Places.{goal}
 use Rattle.js_cursor.specs.declared.stop.Stop.{Stop}
@@ -45,6 +46,18 @@ no_target_at from to = record { kind = fault.InvalidAssignment; span = record { 
 -- A call gave up: there are not so many diagnostics as said, and all stays, or one was kept.
 abbrev pub Refused : ℕ → Parser → Parser → Stop → Type 0
 Refused kept old new e = ((length old.errors ≡ kept → ⊥) × (new ≡ old) × (e ≡ Fatal)) ⊎ GivesUp (λ d. Unit {0}) old new e
+
+-- what is told of an array literal before an assignment operator that needs a simple target
+abbrev pub not_simple_at : ℕ → ℕ → Diagnostic
+not_simple_at from to = record { kind = fault.AssignmentIsNotSimple; span = record { start = from; end = to }; first = None; second = None }
+
+-- That was told; or there are not so many diagnostics as said, and all stays.
+abbrev pub TellsOnce : Diagnostic → ℕ → Parser → Parser → Type 0
+TellsOnce d kept old new = Keeps d old new ⊎ ((length old.errors ≡ kept → ⊥) × (new ≡ old))
+
+-- An array literal was read up to the old state, by a call before which so many diagnostics were kept; with what is read now it is an assignment.
+abbrev pub AssignsArray : ℕ → NodeId → ℕ → Parser → Parser → Result NodeId Stop → Type 0
+AssignsArray start id kept old new r = (text : List ℕ) (f : Flags) (first : Parser) → At text f first → Underived text (at Arrow' f) first.prev_token_end → start ≡ first.token.span.start → kept ≡ length first.errors → (x : Numbered text f (at Short f) first old id) → is_array x.answer.label.kind ≡ true → Outcome text f (at Assignment f) first new r
 
 -- What may stand behind an operand that no link and no update goes on with.
 abbrev pub ending_kinds : List Kind

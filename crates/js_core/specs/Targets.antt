@@ -3,7 +3,7 @@ use Rattle.std.specs.Prelude.{ℕ, Bool, true, false, cond, ◌||◌, Option, So
 use Rattle.js_tree.specs.declared.id.NodeId.{NodeId}
 use Rattle.js_tree.specs.Nodes.{Node}
 use Rattle.js_tree.specs.Holding.{Holds}
-use Rattle.js_grammar.specs.Trees.{NodeKind, Label, Slots, end, tree, Tree, identifier_reference, static_member_expression, computed_member_expression, private_field_expression, parenthesized_expression}
+use Rattle.js_grammar.specs.Trees.{NodeKind, Label, Slots, end, tree, Tree, identifier_reference, static_member_expression, computed_member_expression, private_field_expression, parenthesized_expression, array_expression}
 
 abbrev pub is_parens : NodeKind → Bool
 is_parens parenthesized_expression = true
@@ -18,6 +18,11 @@ is_member _ = false
 abbrev pub is_name : NodeKind → Bool
 is_name identifier_reference = true
 is_name _ = false
+
+-- an array literal, which is no simple target
+abbrev pub is_array : NodeKind → Bool
+is_array array_expression = true
+is_array _ = false
 
 abbrev pub is_target : NodeKind → Bool
 is_target k = is_name k || is_member k

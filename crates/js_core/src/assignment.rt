@@ -1,19 +1,22 @@
 //! Assignments and conditional expressions (ECMA-262, sections 13.14 and 13.15).
 
-ghost use Rattle.std.specs.Prelude.{◌≡◌, ◌≤◌, false};
-ghost use Rattle.js_base.specs.Kinds.{one_of_kinds};
+ghost use Rattle.std.specs.Prelude.{◌≡◌, ◌≤◌, true, false, length};
+ghost use Rattle.js_base.specs.Kinds.{one_of_kinds, same_kind};
 ghost use Rattle.js_grammar.specs.Insertion.{assign_operators};
-ghost use Rattle.js_base.specs.declared.kind.Kind.TheVariants.{Colon};
+ghost use Rattle.js_base.specs.declared.kind.Kind.TheVariants.{Colon, Eq};
+ghost use Rattle.js_grammar.specs.Marks.{Mark};
+ghost use Rattle.js_cursor.specs.Places.{goal};
+ghost use Rattle.js_cursor.specs.declared.stop.Stop.TheVariants.{NoMemory};
 ghost use Rattle.js_grammar.specs.Productions.{at, Assignment};
 ghost use Rattle.js_core.specs.Answers.{Answers};
 ghost use Rattle.js_core.specs.Arrows.{NoArrowHere};
 ghost use Rattle.js_core.specs.Nesting.{CanNest, room};
-ghost use Rattle.js_core.specs.Rests.{Asked, Passes, ReadsConditional};
+ghost use Rattle.js_core.specs.Rests.{AssignsArray, Asked, Passes, ReadsConditional, not_simple_at};
 ghost use Rattle.js_core.specs.States.{Standing};
 
 use crate::arrow::{parse_arrow_function_expression, parse_arrow_head};
 use crate::context::assignment_with_in;
-use crate::cover::{cover, kept_so_far, refuse_target};
+use crate::cover::{cover, is_array_literal, kept_so_far, refuse_target, tell_not_simple};
 use crate::lexemes::{advance, operator_here};
 use crate::nested::Nested;
 use crate::nodes::{make_three, make_two};
@@ -56,6 +59,9 @@ fn parse_assignment_without_arrow<C: ParserConfig, N: Nested<C>>(
     if !p.cur_kind().is_assignment_operator() {
         return parse_conditional_expression_rest(p, nested, start, left);
     }
+    if is_array_literal(p, left) {
+        return parse_array_assignment(p, nested, start, left, kept);
+    }
     let operator = map_assignment_operator(p.cur_kind());
     let Some(target) = cover(p, left) else {
         return Err(refuse_target(p, start, kept));
@@ -66,6 +72,44 @@ fn parse_assignment_without_arrow<C: ParserConfig, N: Nested<C>>(
     let op = Op::Assignment(operator);
     let node = make_two(p, NodeKind::AssignmentExpression, op, span, target, right)?;
     Ok(node)
+}
+
+/// The operator and the right side of an assignment behind an array literal, which begins at a place, when so many
+/// diagnostics were kept. Array targets (ECMA-262, section 13.15.5) aren't read yet; before another operator than `=`
+/// there is none.
+fn parse_array_assignment<C: ParserConfig, N: Nested<C>>(
+    p: &mut ParserImpl<'_, C>,
+    nested: &N,
+    start: u32,
+    left: NodeId,
+    kept: usize,
+) -> Result<NodeId, Stop>
+    requires at { Standing p.old }
+    requires nests { CanNest (N.can nested.now) (room p.old) }
+    requires start { start ≤ p.old.prev_token_end }
+    requires whole { p.old.cut ≡ false }
+    requires operator { one_of_kinds assign_operators p.old.token.kind ≡ true }
+    requires marked { same_kind Eq p.old.token.kind ≡ false → length p.old.errors ≡ kept → Mark (goal p.old) p.old.text (not_simple_at start p.old.prev_token_end) }
+    ensures { AssignsArray start left kept p.old p.new result }
+{
+    if p.at(Kind::Eq) {
+        return Err(unread_target());
+    }
+    let operator = map_assignment_operator(p.cur_kind());
+    tell_not_simple(p, start, kept)?;
+    advance(p)?;
+    let right = nested.assignment(p)?;
+    let span = p.end_span(start);
+    let op = Op::Assignment(operator);
+    let node = make_two(p, NodeKind::AssignmentExpression, op, span, left, right)?;
+    Ok(node)
+}
+
+/// What is answered where an array target stands: of it nothing is said yet.
+fn unread_target() -> Stop
+    ensures { result ≡ NoMemory }
+{
+    Stop::NoMemory
 }
 
 /// The branches of a conditional expression behind its test, which begins at a place, or the test alone (ECMA-262,

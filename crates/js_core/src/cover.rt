@@ -1,9 +1,9 @@
 //! Expressions read as targets (ECMA-262, sections 8.6.4 and 13.15).
 
-ghost use Rattle.std.specs.Prelude.{◌≡◌, ◌<◌, ◌≤◌, ℕ, length, List};
+ghost use Rattle.std.specs.Prelude.{◌≡◌, ◌<◌, ◌≤◌, ℕ, length, List, IfOk};
 ghost use Rattle.js_grammar.specs.Marks.{Mark};
-ghost use Rattle.js_cursor.specs.Places.{goal};
-ghost use Rattle.js_core.specs.Rests.{Refused, no_target_at};
+ghost use Rattle.js_cursor.specs.Places.{IsAt, goal};
+ghost use Rattle.js_core.specs.Rests.{Refused, TellsOnce, no_target_at, not_simple_at};
 ghost use Rattle.js_core.specs.States.{Standing};
 ghost use Rattle.js_grammar.specs.Trees.{Label, Slots};
 ghost use Rattle.js_tree.specs.Holding.{Holds};
@@ -12,7 +12,7 @@ ghost use Rattle.js_tree.specs.Nodes.{node_at};
 ghost use Rattle.js_core.specs.Targets.{IsTarget, Only, Stood};
 ghost use Rattle.js_core.specs.Targets as target;
 
-use js_base::{Diagnostic, DiagnosticKind};
+use js_base::{Diagnostic, DiagnosticKind, NoMemory};
 use js_cursor::{ParserImpl, Stop};
 use js_lex::ParserConfig;
 use js_tree::{NodeId, NodeKind, ParserAstBuilder};
@@ -38,6 +38,32 @@ fn is_target(kind: NodeKind) -> bool
         | NodeKind::PrivateFieldExpression => true,
         _ => false,
     }
+}
+
+/// Whether it is an array literal.
+fn is_array(kind: NodeKind) -> bool
+    ensures { result ≡ target.is_array (kind_of kind) }
+{
+    match kind {
+        NodeKind::ArrayExpression => true,
+        _ => false,
+    }
+}
+
+/// Whether an expression is an array literal, in no parentheses.
+fn is_array_node(ast: &ParserAstBuilder, id: NodeId) -> bool
+    requires { Stood ast.now id }
+    ensures { (lo hi : ℕ) (l : Label) (cs : Slots) → Holds ast.now lo hi id.0 l cs → result ≡ target.is_array l.kind }
+{
+    is_array(ast.kind(id))
+}
+
+/// Whether an expression of a parser's nodes is an array literal, in no parentheses.
+pub fn is_array_literal<C: ParserConfig>(p: &ParserImpl<'_, C>, id: NodeId) -> bool
+    requires { Stood p.now.nodes id }
+    ensures { (lo hi : ℕ) (l : Label) (cs : Slots) → Holds p.now.nodes lo hi id.0 l cs → result ≡ target.is_array l.kind }
+{
+    is_array_node(&p.ast, id)
 }
 
 /// The one child of a node, if it has one.
@@ -78,6 +104,29 @@ pub fn kept_so_far<C: ParserConfig>(p: &ParserImpl<'_, C>) -> usize
     ensures { result ≡ length p.now.errors }
 {
     p.errors.len()
+}
+
+/// Tells of an array literal before an assignment operator other than `=`, which was read from a place on (ECMA-262,
+/// section 13.15.1). Where a diagnostic was kept since, when there were so many, that is enough.
+pub fn tell_not_simple<C: ParserConfig>(
+    p: &mut ParserImpl<'_, C>,
+    start: u32,
+    kept: usize,
+) -> Result<(), NoMemory>
+    requires at { IsAt p.old }
+    requires start { start ≤ p.old.prev_token_end }
+    requires marked { length p.old.errors ≡ kept → Mark (goal p.old) p.old.text (not_simple_at start p.old.prev_token_end) }
+    ensures { IfOk result (λ _. TellsOnce (not_simple_at start p.old.prev_token_end) kept p.old p.new) }
+{
+    if kept_so_far(p) == kept {
+        p.error(Diagnostic {
+            kind: DiagnosticKind::AssignmentIsNotSimple,
+            span: p.end_span(start),
+            first: None,
+            second: None,
+        })?;
+    }
+    Ok(())
 }
 
 /// Gives up, since what was read from a place on is no target. Where a diagnostic was kept since, when there were so

@@ -1,7 +1,7 @@
 //! Members, `new`, calls and optional chains (ECMA-262, section 13.3).
 
 ghost use Rattle.std.specs.Prelude.{◌≡◌, ◌≤◌, ◌∷◌, [], Some, IfOk, cond, true, false};
-ghost use Rattle.js_base.specs.declared.kind.Kind.TheVariants.{Dot, LParen, QuestionDot};
+ghost use Rattle.js_base.specs.declared.kind.Kind.TheVariants.{Dot, LBrack, LParen, QuestionDot};
 ghost use Rattle.js_cursor.specs.Moves.{GivesUp};
 ghost use Rattle.js_grammar.specs.Productions.{at, optional_flag, IdentifierName, LeftHandSide};
 ghost use Rattle.js_tree.specs.Labels.{number_of};
@@ -9,12 +9,15 @@ ghost use Rattle.js_core.specs.Answers.{Answers};
 ghost use Rattle.js_grammar.specs.Marks.{Mark};
 ghost use Rattle.js_cursor.specs.Places.{goal};
 ghost use Rattle.js_core.specs.Lexemes.{read_word};
-ghost use Rattle.js_core.specs.Members.{CallsMember, ChainsCallee, GoesOnMember, Heads, LinkHere, MakesWithArguments, ReadsLink, StandsHere, TellsChain, arguments_label, link_label, no_link_behind};
+ghost use Rattle.js_core.specs.Members.{CallsMember, ChainsCallee, GoesOnMember, Heads, LinkHere, MakesWithArguments, MakesWithIndex, ReadsLink, StandsHere, TellsChain, flagged_label, no_link_behind};
+ghost use Rattle.js_core.specs.Members as members;
 ghost use Rattle.js_core.specs.Moves.{MadeHere};
 ghost use Rattle.js_core.specs.Nesting.{CanNest, room};
 ghost use Rattle.js_core.specs.States.{Standing};
+ghost use Rattle.js_core.specs.declared.left_hand_side.LinkBase.TheVariants as base;
 
 use crate::arguments::parse_call_arguments;
+use crate::context::expression_with_in;
 use crate::lexemes::{advance, is_read_word, stands};
 use crate::nested::Nested;
 use crate::nodes::make_one;
@@ -23,6 +26,17 @@ use js_base::{Diagnostic, DiagnosticKind, Kind, NoMemory, Span};
 use js_cursor::{ParserImpl, Stop};
 use js_lex::ParserConfig;
 use js_tree::{NodeFlags, NodeId, NodeKind, Op};
+
+/// What links go on with.
+#[derive(Clone, Copy)]
+enum LinkBase {
+    /// A MemberExpression: a name or an expression in brackets.
+    Member,
+    /// A CallExpression: these, or arguments.
+    Call,
+    /// An OptionalChain: these, or `?.`.
+    Chain,
+}
 
 /// A LeftHandSideExpression (ECMA-262, section 13.3).
 pub fn parse_lhs_expression_or_higher<C: ParserConfig, N: Nested<C>>(
@@ -84,7 +98,7 @@ fn refuse_chain<C: ParserConfig>(p: &mut ParserImpl<'_, C>) -> Stop
     })
 }
 
-/// The names behind a member.
+/// The names and the expressions in brackets behind a member.
 fn parse_member_expression_rest<C: ParserConfig, N: Nested<C>>(
     p: &mut ParserImpl<'_, C>,
     nested: &N,
@@ -97,13 +111,13 @@ fn parse_member_expression_rest<C: ParserConfig, N: Nested<C>>(
     ensures { GoesOnMember start member p.old p.new result }
 {
     let mut left = member;
-    'links: while stands(p, Kind::Dot) {
+    'links: while link_here(p, LinkBase::Member) {
         left = parse_link(p, nested, start, left)?;
     }
     Ok(left)
 }
 
-/// The calls behind a member, where one stands, and the names behind them.
+/// The calls behind a member, where one stands, and the names and expressions in brackets behind them.
 fn parse_call_expression_rest<C: ParserConfig, N: Nested<C>>(
     p: &mut ParserImpl<'_, C>,
     nested: &N,
@@ -119,7 +133,7 @@ fn parse_call_expression_rest<C: ParserConfig, N: Nested<C>>(
         return Ok(member);
     }
     let mut left = parse_link(p, nested, start, member)?;
-    'links: while link_here(p, false) {
+    'links: while link_here(p, LinkBase::Call) {
         left = parse_link(p, nested, start, left)?;
     }
     Ok(left)
@@ -141,7 +155,7 @@ fn parse_optional_chain<C: ParserConfig, N: Nested<C>>(
         return Ok(callee);
     }
     let mut left = parse_link(p, nested, start, callee)?;
-    'links: while link_here(p, true) {
+    'links: while link_here(p, LinkBase::Chain) {
         left = parse_link(p, nested, start, left)?;
     }
     let span = p.end_span(start);
@@ -149,20 +163,26 @@ fn parse_optional_chain<C: ParserConfig, N: Nested<C>>(
     Ok(chain)
 }
 
-/// Whether a link stands here: arguments, `.`, or in a chain `?.`.
-fn link_here<C: ParserConfig>(p: &ParserImpl<'_, C>, chain: bool) -> bool
-    ensures { LinkHere p.now chain result }
+/// Whether a link stands here that goes on with such a base.
+fn link_here<C: ParserConfig>(p: &ParserImpl<'_, C>, base: LinkBase) -> bool
+    ensures { LinkHere p.now base result }
 {
-    if stands(p, Kind::LParen) {
-        return true;
-    }
     if stands(p, Kind::Dot) {
         return true;
     }
-    if chain {
-        return stands(p, Kind::QuestionDot);
+    if stands(p, Kind::LBrack) {
+        return true;
     }
-    false
+    match base {
+        LinkBase::Member => false,
+        LinkBase::Call => stands(p, Kind::LParen),
+        LinkBase::Chain => {
+            if stands(p, Kind::LParen) {
+                return true;
+            }
+            stands(p, Kind::QuestionDot)
+        }
+    }
 }
 
 /// The link that stands here, behind what was read.
@@ -175,11 +195,14 @@ fn parse_link<C: ParserConfig, N: Nested<C>>(
     requires at { Standing p.old }
     requires nests { CanNest (N.can nested.now) (room p.old) }
     requires start { start ≤ p.old.prev_token_end }
-    requires link { LinkHere p.old true true }
+    requires link { LinkHere p.old base.Chain true }
     ensures { ReadsLink start left p.old p.new result }
 {
     if stands(p, Kind::LParen) {
         return parse_with_arguments(p, nested, start, NodeKind::CallExpression, false, left);
+    }
+    if stands(p, Kind::LBrack) {
+        return parse_with_index(p, nested, start, false, left);
     }
     if stands(p, Kind::QuestionDot) {
         return parse_optional_link(p, nested, start, left);
@@ -187,7 +210,7 @@ fn parse_link<C: ParserConfig, N: Nested<C>>(
     parse_named_link(p, start, left)
 }
 
-/// `?.` and arguments or a name, behind what was read.
+/// `?.` and arguments, an expression in brackets or a name, behind what was read.
 fn parse_optional_link<C: ParserConfig, N: Nested<C>>(
     p: &mut ParserImpl<'_, C>,
     nested: &N,
@@ -205,11 +228,14 @@ fn parse_optional_link<C: ParserConfig, N: Nested<C>>(
     if stands(p, Kind::LParen) {
         return parse_with_arguments(p, nested, start, NodeKind::CallExpression, true, left);
     }
+    if stands(p, Kind::LBrack) {
+        return parse_with_index(p, nested, start, true, left);
+    }
     if lacks_link(p.cur_kind()) {
         return Err(refuse_optional_link(p, sign));
     }
     let name = parse_identifier_name(p)?;
-    let node = make_member(p, start, left, name, true)?;
+    let node = make_member(p, start, NodeKind::StaticMemberExpression, true, left, name)?;
     Ok(node)
 }
 
@@ -257,7 +283,43 @@ fn parse_named_link<C: ParserConfig>(
 {
     advance(p)?;
     let name = parse_identifier_name(p)?;
-    let node = make_member(p, start, left, name, false)?;
+    let node = make_member(
+        p,
+        start,
+        NodeKind::StaticMemberExpression,
+        false,
+        left,
+        name,
+    )?;
+    Ok(node)
+}
+
+/// An Expression in brackets, and the node of what stands before and this.
+fn parse_with_index<C: ParserConfig, N: Nested<C>>(
+    p: &mut ParserImpl<'_, C>,
+    nested: &N,
+    start: u32,
+    optional: bool,
+    left: NodeId,
+) -> Result<NodeId, Stop>
+    requires at { Standing p.old }
+    requires nests { CanNest (N.can nested.now) (room p.old) }
+    requires start { start ≤ p.old.prev_token_end }
+    requires open { p.old.token.kind ≡ LBrack }
+    ensures { MakesWithIndex optional start left p.old p.new result }
+{
+    let opening = p.cur_token().span();
+    advance(p)?;
+    let index = expression_with_in(p, nested)?;
+    p.expect_closing(Kind::RBrack, opening)?;
+    let node = make_member(
+        p,
+        start,
+        NodeKind::ComputedMemberExpression,
+        optional,
+        left,
+        index,
+    )?;
     Ok(node)
 }
 
@@ -278,9 +340,19 @@ pub fn parse_with_arguments<C: ParserConfig, N: Nested<C>>(
 {
     let mut children = Vec::new(p.alloc);
     children.push(Some(callee))?;
-    let arguments = parse_call_arguments(p, nested, children)?;
+    let arguments = parse_call_arguments(p, nested, takes_spreads(kind), children)?;
     let node = make_with_arguments(p, start, kind, optional, arguments)?;
     Ok(node)
+}
+
+/// Whether an argument may be spread: not of a call of V8.
+fn takes_spreads(kind: NodeKind) -> bool
+    ensures { result ≡ members.takes_spreads kind }
+{
+    match kind {
+        NodeKind::V8IntrinsicExpression => false,
+        _ => true,
+    }
 }
 
 /// An IdentifierName (ECMA-262, section 12.7).
@@ -306,27 +378,22 @@ fn link_flags(optional: bool) -> NodeFlags
     flags
 }
 
-/// The node of a member and a name behind it.
+/// The node of a member and what stands behind it.
 fn make_member<C: ParserConfig>(
     p: &mut ParserImpl<'_, C>,
     start: u32,
-    left: NodeId,
-    name: NodeId,
+    kind: NodeKind,
     optional: bool,
+    left: NodeId,
+    right: NodeId,
 ) -> Result<NodeId, NoMemory>
     requires start { start ≤ p.old.prev_token_end }
-    ensures { IfOk result (λ id. MadeHere (link_label false optional start p.old.prev_token_end) (Some left ∷ Some name ∷ []) p.old p.new id) }
+    ensures { IfOk result (λ id. MadeHere (flagged_label kind optional start p.old.prev_token_end) (Some left ∷ Some right ∷ []) p.old p.new id) }
 {
     let span = p.end_span(start);
     let flags = link_flags(optional);
-    p.ast.node_of_two(
-        NodeKind::StaticMemberExpression,
-        span,
-        Op::None,
-        flags,
-        Some(left),
-        Some(name),
-    )
+    p.ast
+        .node_of_two(kind, span, Op::None, flags, Some(left), Some(right))
 }
 
 /// The node of a callee and its arguments.
@@ -338,7 +405,7 @@ fn make_with_arguments<C: ParserConfig>(
     children: Vec<Option<NodeId>>,
 ) -> Result<NodeId, NoMemory>
     requires start { start ≤ p.old.prev_token_end }
-    ensures { IfOk result (λ id. MadeHere (arguments_label kind optional start p.old.prev_token_end) children.items p.old p.new id) }
+    ensures { IfOk result (λ id. MadeHere (flagged_label kind optional start p.old.prev_token_end) children.items p.old p.new id) }
 {
     let span = p.end_span(start);
     let flags = link_flags(optional);

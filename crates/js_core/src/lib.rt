@@ -2,6 +2,7 @@
 #![tactic(auto)]
 
 mod arguments;
+mod array;
 mod arrow;
 mod assignment;
 mod context;

@@ -16,6 +16,7 @@ ghost use Rattle.js_core.specs.Numbers.{node_of_number, op_of_number};
 ghost use Rattle.js_core.specs.Rests.{Passes};
 ghost use Rattle.js_core.specs.States.{Standing};
 
+use crate::array::parse_array_expression;
 use crate::context::expression_with_in;
 use crate::left_hand_side::{parse_identifier_name, parse_with_arguments};
 use crate::lexemes::{advance, stands};
@@ -26,7 +27,7 @@ use js_cursor::{ParserImpl, Stop};
 use js_lex::ParserConfig;
 use js_tree::{BigintBase, NodeId, NodeKind, NumberBase, Op, NodeFlags, ParserAstBuilder};
 
-/// A PrimaryExpression (ECMA-262, section 13.2): a name, a literal, parentheses or a call of V8.
+/// A PrimaryExpression (ECMA-262, section 13.2): a name, a literal, an array, parentheses or a call of V8.
 pub fn parse_primary_expression<C: ParserConfig, N: Nested<C>>(
     p: &mut ParserImpl<'_, C>,
     nested: &N,
@@ -48,6 +49,7 @@ pub fn parse_primary_expression<C: ParserConfig, N: Nested<C>>(
         Kind::True | Kind::False => parse_leaf(p, NodeKind::BooleanLiteral, Op::None),
         Kind::Str => parse_leaf(p, NodeKind::StringLiteral, Op::None),
         Kind::LParen => parse_parenthesized_expression(p, nested),
+        Kind::LBrack => parse_array_expression(p, nested),
         Kind::Percent => parse_v8_intrinsic_expression(p, nested),
         _ => Err(p.set_unexpected()),
     }

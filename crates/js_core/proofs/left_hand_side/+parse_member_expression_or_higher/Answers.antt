@@ -84,7 +84,7 @@ returns-in_err-node g t c = λ text f a.
     let m = c.in_ok-advance.ensures text f a in
     let h = c.in_ok-enter.ensures.ok.1 in
     let x = c.in_ok-callee.ensures text f (deeper m.at h) in
-    rw (p.1, p.2) (new_arguments_stop a s.0 s.1 m h c.leave.ensures x (stands_so c.leave.new.self LParen c.if-stands-3.true c.stands-then-stands-2.ensures) _ _ (c.in_err-node.ensures text f (at_callee a s.0 s.1 m h c.leave.ensures x) true))
+    rw (p.1, p.2) (new_arguments_stop a s.0 s.1 m h c.leave.ensures x (stands_so c.leave.new.self LParen c.if-stands-3.true c.stands-then-stands-2.ensures) _ _ (c.in_err-node.ensures text f (at_callee a s.0 s.1 m h c.leave.ensures x)))
 
 pub parse_member_expression_rest-requires-clause-at : goal.parse_member_expression_rest-requires-clause-at
 parse_member_expression_rest-requires-clause-at g t c =

@@ -1,6 +1,6 @@
 use Rattle.std.proofs.Common.{arith, ap, sym, ◌∙◌}
 use Rattle.std.proofs.lemmas.Result.{err_from_is_err_and}
-use Rattle.js_base.specs.declared.kind.Kind.TheVariants.{LParen, RAngle}
+use Rattle.js_base.specs.declared.kind.Kind.TheVariants.{LBrack, LParen, RAngle}
 use Rattle.js_base.specs.Kinds.{same_kind}
 use Rattle.js_cursor.specs.Moves.{is_last}
 use Rattle.js_base.specs.declared.token.Token.{Token}
@@ -9,7 +9,7 @@ use Rattle.js_core.proofs.Giving.{gives_up}
 use Rattle.js_core.proofs.Here.{uncut}
 use Rattle.js_core.proofs.Moving.{standing}
 use Rattle.js_core.proofs.Nesting.{nested_room, nests_later}
-use Rattle.js_core.proofs.Members.{link_marked, no_name, no_optional_name, optional_name, optional_outcome, stands_so}
+use Rattle.js_core.proofs.Members.{link_marked, no_name, no_optional_name, optional_name, optional_outcome, stands_so, optional_index_outcome}
 use Rattle.js_core.proofs.left_hand_side.parse_optional_link.Goals as goal
 
 pub advance-requires-clause-whole : goal.advance-requires-clause-whole
@@ -30,6 +30,21 @@ parse_with_arguments-requires-clause-open t c = (stands_so c.advance.new.p LPare
 pub returns-then-stands : goal.returns-then-stands
 returns-then-stands t c = λ text f a. optional_outcome _ _ _ c.parse_with_arguments.result a c.requires.sign (c.in_ok-advance.ensures text f a) (stands_so c.advance.new.p LParen c.if-stands.true c.stands.ensures) c.parse_with_arguments.ensures
 
+pub parse_with_index-requires-clause-at : goal.parse_with_index-requires-clause-at
+parse_with_index-requires-clause-at t c = standing (c.in_ok-advance.ensures _ _ c.requires.at).at
+
+pub parse_with_index-requires-clause-nests : goal.parse_with_index-requires-clause-nests
+parse_with_index-requires-clause-nests t c = nests_later c.requires.nests (let r = nested_room c.requires.at (c.in_ok-advance.ensures _ _ c.requires.at) in omega arith)
+
+pub parse_with_index-requires-clause-start : goal.parse_with_index-requires-clause-start
+parse_with_index-requires-clause-start t c = let m = (c.in_ok-advance.ensures _ _ c.requires.at).further in let b = c.requires.at.behind in let s = c.requires.start in omega arith
+
+pub parse_with_index-requires-clause-open : goal.parse_with_index-requires-clause-open
+parse_with_index-requires-clause-open t c = (stands_so c.advance.new.p LBrack c.if-stands-2.true c.stands-2.ensures).0
+
+pub returns-then-stands-2 : goal.returns-then-stands-2
+returns-then-stands-2 t c = λ text f a. optional_index_outcome _ _ _ c.parse_with_index.result a c.requires.sign (c.in_ok-advance.ensures text f a) (stands_so c.advance.new.p LBrack c.if-stands-2.true c.stands-2.ensures) c.parse_with_index.ensures
+
 pub parse_identifier_name-requires : goal.parse_identifier_name-requires
 parse_identifier_name-requires t c = standing (c.in_ok-advance.ensures _ _ c.requires.at).at
 
@@ -37,7 +52,7 @@ pub returns-in_err-name : goal.returns-in_err-name
 returns-in_err-name t c = λ text f a.
     let p = err_from_is_err_and c.from_residual-in_err-name.result c.from_residual-in_err-name.ensures.1 in
     let m = c.in_ok-advance.ensures text f a in
-    rw (p.1, p.2) (no_optional_name a c.requires.sign m _ _ (stands_so c.advance.new.p LParen c.if-stands.false c.stands.ensures) (c.in_err-name.ensures text f m.at))
+    rw (p.1, p.2) (no_optional_name a c.requires.sign m (stands_so c.advance.new.p LParen c.if-stands.false c.stands.ensures) (stands_so c.advance.new.p LBrack c.if-stands-2.false c.stands-2.ensures) _ _ (c.in_err-name.ensures text f m.at))
 
 pub make_member-requires : goal.make_member-requires
 make_member-requires t c = record {
@@ -50,7 +65,7 @@ make_member-requires t c = record {
 pub returns : goal.returns
 returns t c = λ text f a.
     let m = c.in_ok-advance.ensures text f a in
-    optional_name a c.requires.sign m (stands_so c.advance.new.p LParen c.if-stands.false c.stands.ensures) (c.in_ok-name.ensures text f m.at) c.in_ok-node.ensures
+    optional_name a c.requires.sign m (stands_so c.advance.new.p LParen c.if-stands.false c.stands.ensures) (stands_so c.advance.new.p LBrack c.if-stands-2.false c.stands-2.ensures) (c.in_ok-name.ensures text f m.at) c.in_ok-node.ensures
 
 pub refuse_optional_link-requires-clause-at : goal.refuse_optional_link-requires-clause-at
 refuse_optional_link-requires-clause-at t c = standing (c.in_ok-advance.ensures _ _ c.requires.at).at
@@ -61,4 +76,4 @@ refuse_optional_link-requires-clause-mark t c = link_marked _ c.requires.at c.re
 pub returns-then-lacks_link : goal.returns-then-lacks_link
 returns-then-lacks_link t c = λ text f a.
     let m = c.in_ok-advance.ensures text f a in
-    no_optional_name a c.requires.sign m _ c.refuse_optional_link.result (stands_so c.advance.new.p LParen c.if-stands.false c.stands.ensures) (gives_up _ _ _ c.refuse_optional_link.result c.refuse_optional_link.ensures (no_name m.at (ap read_word (sym c.cur_kind.ensures) ∙ c.lacks_link.ensures c.if-lacks_link.true)))
+    no_optional_name a c.requires.sign m (stands_so c.advance.new.p LParen c.if-stands.false c.stands.ensures) (stands_so c.advance.new.p LBrack c.if-stands-2.false c.stands-2.ensures) _ c.refuse_optional_link.result (gives_up _ _ _ c.refuse_optional_link.result c.refuse_optional_link.ensures (no_name m.at (ap read_word (sym c.cur_kind.ensures) ∙ c.lacks_link.ensures c.if-lacks_link.true)))
