@@ -74,10 +74,10 @@ right_number (a_number ds) = is_count ds
 right_number _ = true
 
 -- a goal is named; numbers are right; what is generated isn't printed
-abbrev agree : List Choice → Bool
+abbrev pub agree : List Choice → Bool
 agree cs = each_once cs && (has 0 cs && (list_all right_number cs && not (has 1 cs && has 5 cs)))
 
-abbrev set_by : Settings → Choice → Settings
+abbrev pub set_by : Settings → Choice → Settings
 set_by s (a_goal g) = record s { goal = g }
 set_by s (a_print p) = record s { print = p }
 set_by s v8 = record s { allow_v8 = true }
@@ -94,3 +94,14 @@ pub record Admits (words : List (List ℕ)) (s : Settings) : Type 0 where
   pub written : AllWritten choices words
   pub agree : IsTrue (agree choices)
   pub sets : s ≡ fold set_by unset choices
+
+-- the options that the program reads so far
+abbrev pub is_read_so_far : Choice → Bool
+is_read_so_far (a_goal g) = true
+is_read_so_far v8 = true
+is_read_so_far _ = false
+
+-- The words are admitted, with options that are read so far, and set this.
+pub record Admitted (words : List (List ℕ)) (s : Settings) : Type 0 where
+  pub admits : Admits words s
+  pub so_far : IsTrue (list_all is_read_so_far admits.choices)

@@ -8,8 +8,7 @@ use Rattle.js_base.specs.Characters.{one_of}
 use Rattle.js_grammar.specs.Characters.{is_white_space, is_identifier_start, is_identifier_part}
 use Rattle.js_grammar.specs.Grammar.{Lexeme, Lexemes}
 use Rattle.js_grammar.specs.Lexed.{Lexes}
-use Rattle.js_grammar.specs.FirstLanguageLexing.{Lex as FirstLex}
-use Rattle.js_grammar.specs.Lexed.{Passing, all_faults, Lex, Stands, Lexed, end_of, join, ends_once}
+use Rattle.js_grammar.specs.Lexed.{Passing, all_faults, Lex, Stands, Lexed, end_of, join}
 use Rattle.js_grammar.specs.Settings.{Goal}
 use Rattle.js_grammar.specs.CoreTexts.{CoreSource}
 
@@ -40,14 +39,6 @@ pub record CharacterClasses : Type 0 where
 -- faults aside, the marks of diagnostics allow what texts allow
 abbrev pub Leniency : Type 0
 Leniency = (passing : Passing) (text : List ℕ) (s : ℕ) (y : Lexeme) → Lex passing text s y → Lex all_faults text s y
-
--- The list of lexemes that a text has in the first language is the one that it has in the whole language, at every goal.
-pub record IsInstance (text : List ℕ) (ls : Lexemes) : Type 0 where
-  pub lexed : (goal : Goal) → Lexed goal text ls
-  pub only : (goal : Goal) (ms : Lexemes) → Lexed goal text ms → ms ≡ ls
-
-abbrev pub FirstLanguage : Type 0
-FirstLanguage = (text : List ℕ) (ls : Lexemes) → Lexes (FirstLex text) 0 ls → IsTrue (ends_once ls) → IsInstance text ls
 
 -- behind trivia, a slash or a right brace stands
 pub record AtSlashOrBrace (text : List ℕ) (s : ℕ) : Type 0 where

@@ -1,5 +1,4 @@
 pub mod Trees
-pub mod FirstLanguageEdges
 pub mod Grammar
 pub mod Words
 pub mod Insertion
@@ -9,16 +8,10 @@ pub mod Table
 pub mod FirstSets
 pub mod Levels
 pub mod Follow
-pub mod FirstLanguageInsertion
-pub mod FirstLanguageTable
-pub mod FirstLanguageLexing
 pub mod Parsing
-pub mod FirstLanguageParsing
-pub mod FirstLanguageLevels
 pub mod Lines
 pub mod BoundNames
 pub mod Settings
-pub mod FirstLanguageReadings
 pub mod Characters
 pub mod Longest
 pub mod Trivia
@@ -33,10 +26,7 @@ pub mod Lexed
 pub mod LexicalLaws
 pub mod CoreTexts
 pub mod LexicalFaults
-pub mod FirstLanguageFirstSets
 pub mod Brackets
-pub mod FirstLanguageExamples
-pub mod FirstLanguageLaws
 pub mod NodeNames
 pub mod ModuleRecords
 pub mod Modules

@@ -1,5 +1,5 @@
--- The words of the program that are admitted, and what they set.
-use Rattle.std.specs.Prelude.{ℕ, ◌≡◌, Bool, List, [], ◌∷◌, codes, Option, None, false, true}
+-- What the words of the program set.
+use Rattle.std.specs.Prelude.{ℕ, Bool, Option}
 
 pub data Goal : Type 0 where
   script module_goal commonjs unambiguous : Goal
@@ -15,12 +15,3 @@ pub record Settings : Type 0 where
   pub allow_return : Bool
   pub allow_v8 : Bool
   pub generate : Option ℕ
-
--- a script's tree, with its parentheses
-abbrev pub script_settings : Settings
-script_settings = record { goal = script; print = prints_tree; preserve_parens = true; allow_return = false; allow_v8 = false; generate = None }
-
--- The words after the program's name: `--goal script`, and no others.
-pub record Admitted (words : List (List ℕ)) (s : Settings) : Type 0 where
-  pub words_are : words ≡ codes "--goal" ∷ codes "script" ∷ []
-  pub sets : s ≡ script_settings

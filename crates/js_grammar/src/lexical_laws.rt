@@ -1,6 +1,6 @@
 //! Laws of the lexemes of a text.
 
-ghost use Rattle.js_grammar.specs.LexicalLaws.{CharacterClasses, Choice, CoreText, Cutting, FirstLanguage, Joining, Leniency};
+ghost use Rattle.js_grammar.specs.LexicalLaws.{CharacterClasses, Choice, CoreText, Cutting, Joining, Leniency};
 
 /// A part, and another from its end on, are one part together.
 pub fn law_of_joining()
@@ -25,11 +25,6 @@ pub fn law_of_character_classes()
 /// What may be next at a goal may be next where faults pass that don't stop.
 pub fn law_of_leniency()
     ensures { Leniency }
-{}
-
-/// The lexemes of a text of the first language are its lexemes in the whole language, and its only ones.
-pub fn law_of_first_language()
-    ensures { FirstLanguage }
 {}
 
 /// Behind a place one lexeme stands, but at a slash and at a right brace.

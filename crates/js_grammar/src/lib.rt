@@ -4,6 +4,5 @@
 #![tactic(auto)]
 
 pub mod grammar_laws;
-pub mod laws;
 pub mod lexical_laws;
 pub mod table_laws;

@@ -1,25 +1,30 @@
 -- What a parse answers, as what the program puts out.
-use Rattle.std.proofs.Common.{ℕ, ◌≡◌, List, [], length, Bool, true, false, IsTrue, sym, ◌∙◌}
-use Rattle.std.proofs.lemmas.List.Elements.{All-weaker}
+use Rattle.std.proofs.Common.{ℕ, ◌≡◌, ◌≤◌, List, [], length, Bool, true, false, IsTrue, sym, subst, ◌∙◌}
 use Rattle.std.proofs.Math.Logic.{◌↔◌}
 use Rattle.std.proofs.lemmas.Bool.{false≢true}
+use Rattle.js_base.specs.declared.TheConstants.{MAX_LEN}
 use Rattle.js_base.specs.declared.diagnostic.Diagnostic.{Diagnostic}
-use Rattle.js_grammar.specs.Trees.{Label, Slots}
+use Rattle.js_base.specs.declared.source_type.SourceType.{SourceType}
+use Rattle.js_base.specs.declared.options.ParseOptions.{ParseOptions}
+use Rattle.js_grammar.specs.Trees.{Tree}
 use Rattle.js_grammar.specs.Lines.{tree_text, diagnostic_text}
-use Rattle.js_grammar.specs.FirstLanguageReadings.{Accepts, Refuses, IsInside}
-use Rattle.jsparse.specs.declared.tree.Tree.{Tree as Nodes}
-use Rattle.jsparse.specs.Holding.{IsTree}
-use Rattle.jsparse.specs.Marks.{IsUnexpected}
-use Rattle.jsparse.specs.Parsed.{Parsed}
+use Rattle.js_tree.specs.Nodes.{Node}
+use Rattle.js_tree.specs.Holding.{IsTree}
+use Rattle.js_parser.specs.Parsed.{Answers}
+use Rattle.jsparse.specs.declared.words.Settings.{Settings}
+use Rattle.jsparse.specs.Outputs.{Accepts, Refuses}
+use Rattle.jsparse.specs.Words.{settings_of}
 
-pub accepts : {text out : List ℕ} {nodes : Nodes} {found : List Diagnostic} → Parsed text nodes found → found ≡ [] → ((l : Label) (cs : Slots) → IsTree nodes l cs → out ≡ tree_text (record { label = l; slots = cs })) → Accepts text out
-accepts p e f = let r = p.reads e in record { tree = record { label = r.label; slots = r.slots }; reading = r.reading; only = λ t i. (r.only t i).0; lines = f r.label r.slots r.is_tree }
+module _ (s : Settings) {text : List ℕ} {taken : SourceType} {nodes : List Node} {found : List Diagnostic} {fatal : Bool} (a : Answers text s.goal taken s.options nodes found fatal) (short : length text ≤ MAX_LEN) where
+  pub accepts : {out : List ℕ} → found ≡ [] → ((t : Tree) → IsTree nodes t → out ≡ tree_text t) → Accepts (settings_of s) text out
+  accepts z f = let r = a.short short in record { tree = r.tree; only = λ n. r.clean z n; lines = f r.tree r.is_tree }
 
-inside : {text : List ℕ} {d : Diagnostic} → IsUnexpected text d → IsInside (length text) d
-inside u = let p = u.place in record { ordered = let a = p.at.ordered in rw p.span a; within = let a = p.at.within in rw p.span a }
+  pub refuses : {out : List ℕ} → (found ≡ [] → ⊥) → out ≡ diagnostic_text found → Refuses (settings_of s) text out
+  refuses n e = let r = a.short short in record { found = found; some = n; told = r.told; lines = e; none = λ x. r.unclean n x }
 
-pub refuses : {text out : List ℕ} {nodes : Nodes} {found : List Diagnostic} → Parsed text nodes found → (found ≡ [] → ⊥) → out ≡ diagnostic_text found → Refuses text out
-refuses {text} {found = found} p n e = let r = p.refuses n in record { found = _; some = n; inside = All-weaker (IsUnexpected text) (IsInside (length text)) (λ d u. inside u) found r.marked; lines = e; none = r.none }
+-- the parser's own text, goal and options are those that were given
+pub answered : {text source : List ℕ} {given goal taken : SourceType} {asked o : ParseOptions} {nodes : List Node} {found : List Diagnostic} {fatal : Bool} → source ≡ text → goal ≡ given → o ≡ asked → Answers source goal taken o nodes found fatal → Answers text given taken asked nodes found fatal
+answered {text} {given = given} {goal} {taken} {o = o} {nodes} {found} {fatal} e g q a = subst (λ (v : ParseOptions). Answers text given taken v nodes found fatal) q (subst (λ (v : SourceType). Answers text v taken o nodes found fatal) g (subst (λ (v : List ℕ). Answers v goal taken o nodes found fatal) e a))
 
 pub true_of : {b : Bool} {P : Type 0} → IsTrue b ↔ P → b ≡ true → P
 true_of i e = i.0 e

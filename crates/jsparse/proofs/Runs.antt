@@ -9,9 +9,11 @@ use Rattle.jsparse.specs.declared.status.Status.{Status}
 use Rattle.jsparse.specs.declared.status.Status.TheVariants.{Ok, Refused, Usage, ReadFault, WriteFault, NoMemory, NotUtf8, TooLong}
 use Rattle.jsparse.specs.Ends.{IsFault}
 use Rattle.std.specs.Str.{IsUtf8}
-use Rattle.js_grammar.specs.FirstLanguageReadings.{Accepts, Refuses, Gives}
-use Rattle.js_grammar.specs.Settings.{Settings, Admitted}
-use Rattle.jsparse.specs.Runs.{limit, Gave, IsText, IsLong, ReadsUpTo, Told, HasCause, FitsWords, LeavesSink, LeavesSource, ComesBefore, IsAnswerTo}
+use Rattle.jsparse.specs.Outputs.{Accepts, Refuses, Gives}
+use Rattle.js_grammar.specs.Settings.{Settings}
+use Rattle.js_grammar.specs.CommandLine.{Admitted}
+use Rattle.jsparse.specs.Words.{Sets}
+use Rattle.jsparse.specs.Runs.{limit, Gave, IsText, IsLong, ReadsUpTo, Told, Answers, HasCause, FitsWords, LeavesSink, LeavesSource, ComesBefore, IsAnswerTo}
 use Rattle.jsparse.specs.Steps.{Made, ReadPiece, ReadCause, StopCause, TookFront, PutCause}
 
 -- A fault of a part of a time is one of the whole.
@@ -45,27 +47,27 @@ cause_later TooLong given mid left old k a b c e few read p q r = absurd r
 
 -- ---- from the steps of a run to its clauses
 
-pub stop_has_cause : (status : Status) (t : Told) → StopCause status t.given t.left t.read_faults t.read_faults_after → HasCause status t
-stop_has_cause Ok t h = absurd h
-stop_has_cause Refused t h = absurd h
-stop_has_cause Usage t h = absurd h
-stop_has_cause ReadFault t h = h
-stop_has_cause WriteFault t h = absurd h
-stop_has_cause NoMemory t h = tt
-stop_has_cause NotUtf8 t h = h
-stop_has_cause TooLong t h = h
+pub stop_has_cause : (status : Status) (words : List (List ℕ)) (t : Told) → StopCause status t.given t.left t.read_faults t.read_faults_after → HasCause status words t
+stop_has_cause Ok words t h = absurd h
+stop_has_cause Refused words t h = absurd h
+stop_has_cause Usage words t h = absurd h
+stop_has_cause ReadFault words t h = h
+stop_has_cause WriteFault words t h = absurd h
+stop_has_cause NoMemory words t h = tt
+stop_has_cause NotUtf8 words t h = h
+stop_has_cause TooLong words t h = h
 
-pub put_has_cause : (status : Status) (refused : Bool) (out : List ℕ) (t : Told) → Made t.given t.left refused out → PutCause status refused out t.before t.after t.write_faults t.write_faults_after → HasCause status t
-put_has_cause Ok refused out t m h = record { text = m.text; out = out; gave = m.gave; is_text = m.is_text; puts = subst (λ (r : Bool). Gives m.text r out) h.0 m.gives; written = h.1 }
-put_has_cause Refused refused out t m h = record { text = m.text; out = out; gave = m.gave; is_text = m.is_text; puts = subst (λ (r : Bool). Gives m.text r out) h.0 m.gives; written = h.1 }
-put_has_cause Usage refused out t m h = absurd h
-put_has_cause ReadFault refused out t m h = absurd h
-put_has_cause WriteFault refused out t m h =
-    let gives : (r : Bool) → Gives m.text r out → Accepts m.text (h.0.front ++ h.0.rest) ⊎ Refuses m.text (h.0.front ++ h.0.rest) = λ r. elim r as (λ r. Gives m.text r out → Accepts m.text (h.0.front ++ h.0.rest) ⊎ Refuses m.text (h.0.front ++ h.0.rest)) [ true ↦ λ g. inr (subst (Refuses m.text) h.0.parts g) | false ↦ λ g. inl (subst (Accepts m.text) h.0.parts g) ] in
-    record { text = m.text; front = h.0.front; rest = h.0.rest; gave = m.gave; is_text = m.is_text; puts = gives refused m.gives; written = h.0.took; fault = h.1 }
-put_has_cause NoMemory refused out t m h = absurd h
-put_has_cause NotUtf8 refused out t m h = absurd h
-put_has_cause TooLong refused out t m h = absurd h
+pub put_has_cause : (status : Status) (words : List (List ℕ)) (s : Settings) (refused : Bool) (out : List ℕ) (t : Told) → Sets words s → Made s t.given t.left refused out → PutCause status refused out t.before t.after t.write_faults t.write_faults_after → HasCause status words t
+put_has_cause Ok words s refused out t a m h = (s, a, record { text = m.text; out = out; gave = m.gave; is_text = m.is_text; puts = subst (λ (r : Bool). Gives s m.text r out) h.0 m.gives; written = h.1 })
+put_has_cause Refused words s refused out t a m h = (s, a, record { text = m.text; out = out; gave = m.gave; is_text = m.is_text; puts = subst (λ (r : Bool). Gives s m.text r out) h.0 m.gives; written = h.1 })
+put_has_cause Usage words s refused out t a m h = absurd h
+put_has_cause ReadFault words s refused out t a m h = absurd h
+put_has_cause WriteFault words s refused out t a m h =
+    let gives : (r : Bool) → Gives s m.text r out → Answers s m.text (h.0.front ++ h.0.rest) = λ r. elim r as (λ r. Gives s m.text r out → Answers s m.text (h.0.front ++ h.0.rest)) [ true ↦ λ g. inr (subst (Refuses s m.text) h.0.parts g) | false ↦ λ g. inl (subst (Accepts s m.text) h.0.parts g) ] in
+    (s, a, record { text = m.text; front = h.0.front; rest = h.0.rest; gave = m.gave; is_text = m.is_text; puts = gives refused m.gives; written = h.0.took; fault = h.1 })
+put_has_cause NoMemory words s refused out t a m h = absurd h
+put_has_cause NotUtf8 words s refused out t a m h = absurd h
+put_has_cause TooLong words s refused out t a m h = absurd h
 
 gave_some : (left : Option (List ℕ)) (all text : List ℕ) → Consumes (Some all) left text → IsAtEnd left → (text ≡ all) × (left ≡ Some [])
 gave_some None all text r e = absurd r
@@ -87,18 +89,21 @@ not_long t bytes e h short =
     let long = h.long in
     omega arith
 
-answer_to_text : (status : Status) (words : List (List ℕ)) (t : Told) (text : List ℕ) (s : Settings) → t.given ≡ Some text → IsText text → Admitted words s → FitsWords status words → HasCause status t → IsAnswerTo text t status
-answer_to_text Ok words t text s e is a f h = let g = gave_all _ _ text h.text e h.gave in (h.out, subst (λ (x : List ℕ). Accepts x h.out) g.0 h.puts, h.written, g.1)
-answer_to_text Refused words t text s e is a f h = let g = gave_all _ _ text h.text e h.gave in (h.out, subst (λ (x : List ℕ). Refuses x h.out) g.0 h.puts, h.written, g.1)
+same_settings : {words : List (List ℕ)} {s t : Settings} → Sets words s → Admitted words t → s ≡ t
+same_settings a b = sym (a.only _ b)
+
+answer_to_text : (status : Status) (words : List (List ℕ)) (t : Told) (text : List ℕ) (s : Settings) → t.given ≡ Some text → IsText text → Admitted words s → FitsWords status words → HasCause status words t → IsAnswerTo s text t status
+answer_to_text Ok words t text s e is a f (r, b, h) = let g = gave_all _ _ text h.text e h.gave in (h.out, subst (λ (v : Settings). Accepts v text h.out) (same_settings b a) (subst (λ (x : List ℕ). Accepts r x h.out) g.0 h.puts), h.written, g.1)
+answer_to_text Refused words t text s e is a f (r, b, h) = let g = gave_all _ _ text h.text e h.gave in (h.out, subst (λ (v : Settings). Refuses v text h.out) (same_settings b a) (subst (λ (x : List ℕ). Refuses r x h.out) g.0 h.puts), h.written, g.1)
 answer_to_text Usage words t text s e is a f h = f s a
 answer_to_text ReadFault words t text s e is a f h = h.fault
-answer_to_text WriteFault words t text s e is a f h = let g = gave_all _ _ text h.text e h.gave in (h.front, h.rest, subst (λ (x : List ℕ). Accepts x (h.front ++ h.rest) ⊎ Refuses x (h.front ++ h.rest)) g.0 h.puts, h.written, g.1, h.fault)
+answer_to_text WriteFault words t text s e is a f (r, b, h) = let g = gave_all _ _ text h.text e h.gave in (h.front, h.rest, subst (λ (v : Settings). Answers v text (h.front ++ h.rest)) (same_settings b a) (subst (λ (x : List ℕ). Answers r x (h.front ++ h.rest)) g.0 h.puts), h.written, g.1, h.fault)
 answer_to_text NoMemory words t text s e is a f h = tt
 answer_to_text NotUtf8 words t text s e is a f h = let g = gave_all _ _ text h.bytes e h.gave in h.not_utf8 (subst IsUtf8 (sym g.0) is.utf8)
 answer_to_text TooLong words t text s e is a f h = not_long t text e h is.short
 
 -- what a run answers to a text that the source tells, or may not tell
-pub answer_if_told : (status : Status) (words : List (List ℕ)) (t : Told) (given : Option (List ℕ)) → t.given ≡ given → FitsWords status words → HasCause status t → IfSome given (λ text. IsText text → (s : Settings) → Admitted words s → IsAnswerTo text t status)
+pub answer_if_told : (status : Status) (words : List (List ℕ)) (t : Told) (given : Option (List ℕ)) → t.given ≡ given → FitsWords status words → HasCause status words t → IfSome given (λ text. IsText text → (s : Settings) → Admitted words s → IsAnswerTo s text t status)
 answer_if_told status words t None e f h = tt
 answer_if_told status words t (Some text) e f h = λ is s a. answer_to_text status words t text s e is a f h
 
@@ -166,43 +171,43 @@ stop_leaves_source TooLong a b f g old new h = tt
 
 -- ---- bytes that are no text
 
-pub long_or_before : (status : Status) (t : Told) (bytes : List ℕ) → t.given ≡ Some bytes → HasCause status t → limit < length bytes → (status ≡ TooLong) ⊎ ComesBefore status
-long_or_before Ok t bytes e h long = let same : length h.text ≡ length bytes = ap length (gave_all _ _ bytes h.text e h.gave).0 in let short : length h.text ≤ limit = h.is_text.short in absurd (omega arith)
-long_or_before Refused t bytes e h long = let same : length h.text ≡ length bytes = ap length (gave_all _ _ bytes h.text e h.gave).0 in let short : length h.text ≤ limit = h.is_text.short in absurd (omega arith)
-long_or_before Usage t bytes e h long = inr tt
-long_or_before ReadFault t bytes e h long = inr tt
-long_or_before WriteFault t bytes e h long = let same : length h.text ≡ length bytes = ap length (gave_all _ _ bytes h.text e h.gave).0 in let short : length h.text ≤ limit = h.is_text.short in absurd (omega arith)
-long_or_before NoMemory t bytes e h long = inr tt
-long_or_before NotUtf8 t bytes e h long = let same : length h.bytes ≡ length bytes = ap length (gave_all _ _ bytes h.bytes e h.gave).0 in let short : length h.bytes ≤ limit = h.short in absurd (omega arith)
-long_or_before TooLong t bytes e h long = inl refl
+pub long_or_before : (status : Status) (words : List (List ℕ)) (t : Told) (bytes : List ℕ) → t.given ≡ Some bytes → HasCause status words t → limit < length bytes → (status ≡ TooLong) ⊎ ComesBefore status
+long_or_before Ok words t bytes e (r, b, h) long = let same : length h.text ≡ length bytes = ap length (gave_all _ _ bytes h.text e h.gave).0 in let short : length h.text ≤ limit = h.is_text.short in absurd (omega arith)
+long_or_before Refused words t bytes e (r, b, h) long = let same : length h.text ≡ length bytes = ap length (gave_all _ _ bytes h.text e h.gave).0 in let short : length h.text ≤ limit = h.is_text.short in absurd (omega arith)
+long_or_before Usage words t bytes e h long = inr tt
+long_or_before ReadFault words t bytes e h long = inr tt
+long_or_before WriteFault words t bytes e (r, b, h) long = let same : length h.text ≡ length bytes = ap length (gave_all _ _ bytes h.text e h.gave).0 in let short : length h.text ≤ limit = h.is_text.short in absurd (omega arith)
+long_or_before NoMemory words t bytes e h long = inr tt
+long_or_before NotUtf8 words t bytes e h long = let same : length h.bytes ≡ length bytes = ap length (gave_all _ _ bytes h.bytes e h.gave).0 in let short : length h.bytes ≤ limit = h.short in absurd (omega arith)
+long_or_before TooLong words t bytes e h long = inl refl
 
-pub no_text_or_before : (status : Status) (t : Told) (bytes : List ℕ) → t.given ≡ Some bytes → HasCause status t → length bytes ≤ limit → (IsUtf8 bytes → ⊥) → (status ≡ NotUtf8) ⊎ ComesBefore status
-no_text_or_before Ok t bytes e h short bad = absurd (bad (subst IsUtf8 (gave_all _ _ bytes h.text e h.gave).0 h.is_text.utf8))
-no_text_or_before Refused t bytes e h short bad = absurd (bad (subst IsUtf8 (gave_all _ _ bytes h.text e h.gave).0 h.is_text.utf8))
-no_text_or_before Usage t bytes e h short bad = inr tt
-no_text_or_before ReadFault t bytes e h short bad = inr tt
-no_text_or_before WriteFault t bytes e h short bad = absurd (bad (subst IsUtf8 (gave_all _ _ bytes h.text e h.gave).0 h.is_text.utf8))
-no_text_or_before NoMemory t bytes e h short bad = inr tt
-no_text_or_before NotUtf8 t bytes e h short bad = inl refl
-no_text_or_before TooLong t bytes e h short bad = absurd (not_long t bytes e h short)
+pub no_text_or_before : (status : Status) (words : List (List ℕ)) (t : Told) (bytes : List ℕ) → t.given ≡ Some bytes → HasCause status words t → length bytes ≤ limit → (IsUtf8 bytes → ⊥) → (status ≡ NotUtf8) ⊎ ComesBefore status
+no_text_or_before Ok words t bytes e (r, b, h) short bad = absurd (bad (subst IsUtf8 (gave_all _ _ bytes h.text e h.gave).0 h.is_text.utf8))
+no_text_or_before Refused words t bytes e (r, b, h) short bad = absurd (bad (subst IsUtf8 (gave_all _ _ bytes h.text e h.gave).0 h.is_text.utf8))
+no_text_or_before Usage words t bytes e h short bad = inr tt
+no_text_or_before ReadFault words t bytes e h short bad = inr tt
+no_text_or_before WriteFault words t bytes e (r, b, h) short bad = absurd (bad (subst IsUtf8 (gave_all _ _ bytes h.text e h.gave).0 h.is_text.utf8))
+no_text_or_before NoMemory words t bytes e h short bad = inr tt
+no_text_or_before NotUtf8 words t bytes e h short bad = inl refl
+no_text_or_before TooLong words t bytes e h short bad = absurd (not_long t bytes e h short)
 
-pub long_if_told : (status : Status) (t : Told) (given : Option (List ℕ)) → t.given ≡ given → HasCause status t → IfSome given (λ bytes. limit < length bytes → (status ≡ TooLong) ⊎ ComesBefore status)
-long_if_told status t None e h = tt
-long_if_told status t (Some bytes) e h = long_or_before status t bytes e h
+pub long_if_told : (status : Status) (words : List (List ℕ)) (t : Told) (given : Option (List ℕ)) → t.given ≡ given → HasCause status words t → IfSome given (λ bytes. limit < length bytes → (status ≡ TooLong) ⊎ ComesBefore status)
+long_if_told status words t None e h = tt
+long_if_told status words t (Some bytes) e h = long_or_before status words t bytes e h
 
-pub no_text_if_told : (status : Status) (t : Told) (given : Option (List ℕ)) → t.given ≡ given → HasCause status t → IfSome given (λ bytes. length bytes ≤ limit → (IsUtf8 bytes → ⊥) → (status ≡ NotUtf8) ⊎ ComesBefore status)
-no_text_if_told status t None e h = tt
-no_text_if_told status t (Some bytes) e h = no_text_or_before status t bytes e h
+pub no_text_if_told : (status : Status) (words : List (List ℕ)) (t : Told) (given : Option (List ℕ)) → t.given ≡ given → HasCause status words t → IfSome given (λ bytes. length bytes ≤ limit → (IsUtf8 bytes → ⊥) → (status ≡ NotUtf8) ⊎ ComesBefore status)
+no_text_if_told status words t None e h = tt
+no_text_if_told status words t (Some bytes) e h = no_text_or_before status words t bytes e h
 
 no_fault : (a b : ℕ) → a ≡ 0 → b ≡ 0 → IsFault a b → ⊥
 no_fault a b p q f = elim f [ inl lt ↦ omega arith | inr e ↦ omega arith ]
 
-pub no_read_fault : (status : Status) (t : Told) → t.read_faults ≡ 0 → t.read_faults_after ≡ 0 → HasCause status t → status ≡ ReadFault → ⊥
-no_read_fault Ok t p q h e = cc
-no_read_fault Refused t p q h e = cc
-no_read_fault Usage t p q h e = cc
-no_read_fault ReadFault t p q h e = no_fault t.read_faults t.read_faults_after p q h.fault
-no_read_fault WriteFault t p q h e = cc
-no_read_fault NoMemory t p q h e = cc
-no_read_fault NotUtf8 t p q h e = cc
-no_read_fault TooLong t p q h e = cc
+pub no_read_fault : (status : Status) (words : List (List ℕ)) (t : Told) → t.read_faults ≡ 0 → t.read_faults_after ≡ 0 → HasCause status words t → status ≡ ReadFault → ⊥
+no_read_fault Ok words t p q h e = cc
+no_read_fault Refused words t p q h e = cc
+no_read_fault Usage words t p q h e = cc
+no_read_fault ReadFault words t p q h e = no_fault t.read_faults t.read_faults_after p q h.fault
+no_read_fault WriteFault words t p q h e = cc
+no_read_fault NoMemory words t p q h e = cc
+no_read_fault NotUtf8 words t p q h e = cc
+no_read_fault TooLong words t p q h e = cc

@@ -5,9 +5,10 @@ use Rattle.std.specs.Io.KnownBytes.{Consumes, Appends, IsAtEnd}
 use Rattle.jsparse.specs.declared.status.Status.{Status}
 use Rattle.jsparse.specs.declared.status.Status.TheVariants.{Ok, Refused, Usage, ReadFault, WriteFault, NoMemory, NotUtf8, TooLong}
 use Rattle.jsparse.specs.Ends.{IsFault}
-use Rattle.jsparse.specs.Words.{NoneAdmitted}
-use Rattle.js_grammar.specs.Settings.{Settings, Admitted}
-use Rattle.js_grammar.specs.FirstLanguageReadings.{Accepts, Refuses}
+use Rattle.jsparse.specs.Words.{NoneAdmitted, Sets}
+use Rattle.js_grammar.specs.Settings.{Settings}
+use Rattle.js_grammar.specs.CommandLine.{Admitted}
+use Rattle.jsparse.specs.Outputs.{Accepts, Refuses}
 
 -- the greatest number of bytes of a text
 abbrev pub limit : ℕ
@@ -33,13 +34,13 @@ pub record Answered (Puts : List ℕ → List ℕ → Type 0) (given left before
   pub written : Appends before after out
 
 -- The source gave a text, and the sink failed after a front of what is put out for it.
-pub record BrokeOff (given left before after : Option (List ℕ)) (faults faults_after : ℕ) : Type 0 where
+pub record BrokeOff (Puts : List ℕ → List ℕ → Type 0) (given left before after : Option (List ℕ)) (faults faults_after : ℕ) : Type 0 where
   pub text : List ℕ
   pub front : List ℕ
   pub rest : List ℕ
   pub gave : Gave given left text
   pub is_text : IsText text
-  pub puts : Accepts text (front ++ rest) ⊎ Refuses text (front ++ rest)
+  pub puts : Puts text (front ++ rest)
   pub written : Appends before after front
   pub fault : IsFault faults faults_after
 
@@ -82,16 +83,24 @@ pub record Told : Type 0 where
 abbrev pub told : {S K : Type 0} → (S → Option (List ℕ)) → (S → ℕ) → (K → Option (List ℕ)) → (K → ℕ) → S → S → K → K → Told
 told remaining read_faults taken write_faults source source_after sink sink_after = record { given = remaining source; left = remaining source_after; read_faults = read_faults source; read_faults_after = read_faults source_after; before = taken sink; after = taken sink_after; write_faults = write_faults sink; write_faults_after = write_faults sink_after }
 
+-- what is put out for a text, accepted or refused
+abbrev pub Answers : Settings → List ℕ → List ℕ → Type 0
+Answers s text out = Accepts s text out ⊎ Refuses s text out
+
+-- the words set one thing, of which this holds
+abbrev pub SetBy : List (List ℕ) → (Settings → Type 0) → Type 0
+SetBy words P = (s : Settings) × Sets words s × P s
+
 -- Each status has its cause.
-abbrev pub HasCause : Status → Told → Type 0
-HasCause Ok t = Answered Accepts t.given t.left t.before t.after
-HasCause Refused t = Answered Refuses t.given t.left t.before t.after
-HasCause Usage t = Unit {0}
-HasCause ReadFault t = ReadFailed t.given t.left t.read_faults t.read_faults_after
-HasCause WriteFault t = BrokeOff t.given t.left t.before t.after t.write_faults t.write_faults_after
-HasCause NoMemory t = Unit {0}
-HasCause NotUtf8 t = IsNoText t.given t.left
-HasCause TooLong t = IsLong t.given t.left
+abbrev pub HasCause : Status → List (List ℕ) → Told → Type 0
+HasCause Ok words t = SetBy words (λ s. Answered (Accepts s) t.given t.left t.before t.after)
+HasCause Refused words t = SetBy words (λ s. Answered (Refuses s) t.given t.left t.before t.after)
+HasCause Usage words t = Unit {0}
+HasCause ReadFault words t = ReadFailed t.given t.left t.read_faults t.read_faults_after
+HasCause WriteFault words t = SetBy words (λ s. BrokeOff (Answers s) t.given t.left t.before t.after t.write_faults t.write_faults_after)
+HasCause NoMemory words t = Unit {0}
+HasCause NotUtf8 words t = IsNoText t.given t.left
+HasCause TooLong words t = IsLong t.given t.left
 
 -- `Usage` comes exactly where no settings are admitted.
 abbrev pub FitsWords : Status → List (List ℕ) → Type 0
@@ -117,13 +126,13 @@ ComesBefore ReadFault = Unit {0}
 ComesBefore NoMemory = Unit {0}
 ComesBefore _ = ⊥
 
--- What a run answers where some settings are admitted and the source tells this text: 0 with the lines of its one reading, 1 with diagnostics where it has none, 3 or 4 at a fault of the source or of the sink, 5 where memory is refused, and nothing else.
-abbrev pub IsAnswerTo : List ℕ → Told → Status → Type 0
-IsAnswerTo text t Ok = (out : List ℕ) × Accepts text out × Appends t.before t.after out × (t.left ≡ Some [])
-IsAnswerTo text t Refused = (out : List ℕ) × Refuses text out × Appends t.before t.after out × (t.left ≡ Some [])
-IsAnswerTo text t Usage = ⊥
-IsAnswerTo text t ReadFault = IsFault t.read_faults t.read_faults_after
-IsAnswerTo text t WriteFault = (front : List ℕ) × (rest : List ℕ) × (Accepts text (front ++ rest) ⊎ Refuses text (front ++ rest)) × Appends t.before t.after front × (t.left ≡ Some []) × IsFault t.write_faults t.write_faults_after
-IsAnswerTo text t NoMemory = Unit {0}
-IsAnswerTo text t NotUtf8 = ⊥
-IsAnswerTo text t TooLong = ⊥
+-- What a run answers where the words set this and the source tells this text: 0 with the lines of its one reading, 1 with diagnostics where it has none, 3 or 4 at a fault of the source or of the sink, 5 where memory is refused, and nothing else.
+abbrev pub IsAnswerTo : Settings → List ℕ → Told → Status → Type 0
+IsAnswerTo s text t Ok = (out : List ℕ) × Accepts s text out × Appends t.before t.after out × (t.left ≡ Some [])
+IsAnswerTo s text t Refused = (out : List ℕ) × Refuses s text out × Appends t.before t.after out × (t.left ≡ Some [])
+IsAnswerTo s text t Usage = ⊥
+IsAnswerTo s text t ReadFault = IsFault t.read_faults t.read_faults_after
+IsAnswerTo s text t WriteFault = (front : List ℕ) × (rest : List ℕ) × Answers s text (front ++ rest) × Appends t.before t.after front × (t.left ≡ Some []) × IsFault t.write_faults t.write_faults_after
+IsAnswerTo s text t NoMemory = Unit {0}
+IsAnswerTo s text t NotUtf8 = ⊥
+IsAnswerTo s text t TooLong = ⊥

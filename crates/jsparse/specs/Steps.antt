@@ -5,7 +5,8 @@ use Rattle.jsparse.specs.declared.status.Status.{Status}
 use Rattle.jsparse.specs.declared.status.Status.TheVariants.{Ok, Refused, ReadFault, WriteFault, NoMemory, NotUtf8, TooLong}
 use Rattle.jsparse.specs.Ends.{IsFault}
 use Rattle.jsparse.specs.Runs.{limit, Gave, IsText, ReadFailed, IsNoText, IsLong}
-use Rattle.js_grammar.specs.FirstLanguageReadings.{Gives}
+use Rattle.js_grammar.specs.Settings.{Settings}
+use Rattle.jsparse.specs.Outputs.{Gives}
 
 -- One read put its bytes behind those that were there: n of them, and none only at the end.
 pub record ReadPiece (given left : Option (List ℕ)) (old new : List ℕ) (n : ℕ) : Type 0 where
@@ -31,11 +32,11 @@ StopCause TooLong given left faults faults_after = IsLong given left
 StopCause _ given left faults faults_after = ⊥
 
 -- A text was read, and this is what is put out for it.
-pub record Made (given left : Option (List ℕ)) (refused : Bool) (out : List ℕ) : Type 0 where
+pub record Made (s : Settings) (given left : Option (List ℕ)) (refused : Bool) (out : List ℕ) : Type 0 where
   pub text : List ℕ
   pub gave : Gave given left text
   pub is_text : IsText text
-  pub gives : Gives text refused out
+  pub gives : Gives s text refused out
 
 -- The sink took a front of these bytes, and failed.
 pub record TookFront (before after : Option (List ℕ)) (out : List ℕ) : Type 0 where

@@ -2,11 +2,13 @@
 
 ghost use Rattle.std.specs.Prelude.{◌≤◌, length, IfOk};
 ghost use Rattle.js_base.specs.declared.TheConstants.{MAX_LEN};
-ghost use Rattle.js_grammar.specs.FirstLanguageReadings.{Gives};
+ghost use Rattle.jsparse.specs.Outputs.{Gives};
+ghost use Rattle.jsparse.specs.Words.{settings_of};
 
 use crate::lines::diagnostic_lines;
-use crate::parser::Parser;
-use js_base::{NoMemory, SourceType};
+use crate::words::Settings;
+use js_base::NoMemory;
+use js_parser::Parser;
 use std::alloc::Global;
 
 /// What is put out for a text, and whether it is refused.
@@ -18,23 +20,23 @@ pub struct Answer {
     pub refused: bool,
 }
 
-/// Reads a text as a script, and makes what is put out for it: the lines of its tree, or of its diagnostics.
-pub fn answer_to(alloc: Global, text: &str) -> Result<Answer, NoMemory>
+/// Reads a text, and makes what is put out for it: the lines of its tree, or of its diagnostics.
+pub fn answer_to(alloc: Global, text: &str, settings: &Settings) -> Result<Answer, NoMemory>
     requires { length text.now ≤ MAX_LEN }
-    ensures { IfOk result (λ a. Gives text.now a.refused a.output.items) }
+    ensures { IfOk result (λ a. Gives (settings_of settings.now) text.now a.refused a.output.items) }
 {
-    let parsed = Parser::new(alloc, text, SourceType::script()).parse()?;
+    let parser = Parser::new(alloc, text, settings.goal).with_options(settings.options);
+    let parsed = parser.parse()?;
     if parsed.diagnostics.is_empty() {
-        let output = parsed.program.tree.lines(alloc)?;
-        Ok(Answer {
+        let output = parsed.program.tree.tree_lines(alloc)?;
+        return Ok(Answer {
             output,
             refused: false,
-        })
-    } else {
-        let output = diagnostic_lines(alloc, &parsed.diagnostics)?;
-        Ok(Answer {
-            output,
-            refused: true,
-        })
+        });
     }
+    let output = diagnostic_lines(alloc, &parsed.diagnostics)?;
+    Ok(Answer {
+        output,
+        refused: true,
+    })
 }

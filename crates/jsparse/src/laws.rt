@@ -16,7 +16,7 @@ pub fn run_steady<K: Sink>(
     source: &mut SteadySource,
     sink: &mut K,
 ) -> Status
-    ensures cause { HasCause result (record {
+    ensures cause { HasCause result (map string_bytes words.now.items) (record {
       given = Some source.old.left;
       left = Some source.new.left;
       read_faults = 0;

@@ -2,25 +2,19 @@
 #![tactic(auto)]
 
 mod answer;
-mod cursor;
 mod ends;
-mod expression;
 mod failing;
 mod laws;
-mod lexer;
 mod lines;
-mod parser;
 mod room;
 #[cfg(test)]
 mod row_tests;
 mod run;
 mod standard;
-mod statement;
 mod status;
 mod steady;
 #[cfg(test)]
 mod tests;
-mod tree;
 mod words;
 
 use crate::standard::{StdinSource, StdoutSink};

@@ -3,15 +3,17 @@
 ghost use Rattle.std.specs.Prelude.{◌≡◌, ◌+◌, ◌-◌, ◌<◌, ◌≤◌, ◌⊎◌, length, map, string_bytes, IfOk, IfErr, OnOk, OnErr, IfSome, vec_len};
 ghost use Rattle.std.specs.Str.{IsUtf8};
 ghost use Rattle.std.specs.Io.KnownBytes.{Appends};
-ghost use Rattle.js_grammar.specs.Settings.{Settings, Admitted};
+ghost use Rattle.js_grammar.specs.CommandLine.{Admitted};
+ghost use Rattle.js_grammar.specs.Settings.{Settings as Set};
 ghost use Rattle.jsparse.specs.Ends.{IsFault};
 ghost use Rattle.jsparse.specs.Runs.{limit, ReadsUpTo, Gave, told, HasCause, FitsWords, LeavesSink, LeavesSource, ComesBefore, IsAnswerTo, IsText};
 ghost use Rattle.jsparse.specs.Steps.{ReadPiece, ReadCause, StopCause, Made, TookFront, PutCause};
+ghost use Rattle.jsparse.specs.Words.{settings_of};
 
 use crate::answer::{Answer, answer_to};
 use crate::ends::{Failed, Sink, Source};
 use crate::status::Status;
-use crate::words::{WordsError, read_words};
+use crate::words::{Settings, WordsError, read_words};
 use std::alloc::{AllocError, Global};
 
 /// The greatest number of bytes of a text.
@@ -72,8 +74,8 @@ fn read_all<S: Source>(alloc: Global, source: &mut S) -> Result<Vec<u8>, Status>
 }
 
 /// Reads the source's text, and makes what is put out for it.
-fn make<S: Source>(alloc: Global, source: &mut S) -> Result<Answer, Status>
-    ensures ok { IfOk result (λ a. Made (S.remaining source.old) (S.remaining source.new) a.refused a.output.items) }
+fn make<S: Source>(alloc: Global, settings: &Settings, source: &mut S) -> Result<Answer, Status>
+    ensures ok { IfOk result (λ a. Made (settings_of settings.now) (S.remaining source.old) (S.remaining source.new) a.refused a.output.items) }
     ensures stopped { IfErr result (λ status. StopCause status (S.remaining source.old) (S.remaining source.new) (S.faults source.old) (S.faults source.new)) }
     ensures reads { ReadsUpTo (limit + 1) (S.remaining source.old) (S.remaining source.new) }
     ensures counts { S.faults source.old ≤ S.faults source.new }
@@ -82,7 +84,7 @@ fn make<S: Source>(alloc: Global, source: &mut S) -> Result<Answer, Status>
     let Ok(text) = str::from_utf8(&bytes) else {
         return Err(Status::NotUtf8);
     };
-    match answer_to(alloc, text) {
+    match answer_to(alloc, text, settings) {
         Ok(made) => Ok(made),
         Err(_) => Err(Status::NoMemory),
     }
@@ -128,19 +130,19 @@ fn steps<S: Source, K: Sink>(
     sink: &mut K,
 ) -> Status
     ensures words { FitsWords result (map string_bytes words.now.items) }
-    ensures cause { HasCause result (told S.remaining S.faults K.taken K.faults source.old source.new sink.old sink.new) }
+    ensures cause { HasCause result (map string_bytes words.now.items) (told S.remaining S.faults K.taken K.faults source.old source.new sink.old sink.new) }
     ensures leaves_source { LeavesSource result source.old source.new }
     ensures leaves_sink { LeavesSink result sink.old sink.new }
     ensures reads { ReadsUpTo (limit + 1) (S.remaining source.old) (S.remaining source.new) }
     ensures read_counts { S.faults source.old ≤ S.faults source.new }
     ensures write_counts { K.faults sink.old ≤ K.faults sink.new }
 {
-    match read_words(alloc, words) {
-        Ok(_) => {}
+    let settings = match read_words(alloc, words) {
+        Ok(settings) => settings,
         Err(WordsError::Usage) => return Status::Usage,
         Err(WordsError::NoMemory) => return Status::NoMemory,
-    }
-    match make(alloc, source) {
+    };
+    match make(alloc, &settings, source) {
         Ok(made) => put(sink, &made),
         Err(status) => status,
     }
@@ -153,13 +155,14 @@ pub fn run<S: Source, K: Sink>(
     source: &mut S,
     sink: &mut K,
 ) -> Status
-    // Where the words are admitted and the source tells its bytes, and these are a text: its reading is written
-    // and 0 answered, or it has none, diagnostics are written and 1 answered; faults and want of memory aside.
-    ensures headline { IfSome (S.remaining source.old) (λ text. IsText text → (s : Settings) → Admitted (map string_bytes words.now.items) s →
-        IsAnswerTo text (told S.remaining S.faults K.taken K.faults source.old source.new sink.old sink.new) result) }
+    // Where the words are admitted and the source tells its bytes, and these are a text: its only reading is written
+    // and 0 answered, or it has none, diagnostics with their marks are written and 1 answered; faults and want of
+    // memory aside. Readings are over lexemes of the kinds that are read so far.
+    ensures headline { IfSome (S.remaining source.old) (λ text. IsText text → (s : Set) → Admitted (map string_bytes words.now.items) s →
+        IsAnswerTo s text (told S.remaining S.faults K.taken K.faults source.old source.new sink.old sink.new) result) }
 
     // Each status has its cause.
-    ensures cause { HasCause result (told S.remaining S.faults K.taken K.faults source.old source.new sink.old sink.new) }
+    ensures cause { HasCause result (map string_bytes words.now.items) (told S.remaining S.faults K.taken K.faults source.old source.new sink.old sink.new) }
 
     // `Usage` comes exactly where no settings are admitted, and leaves the source as it was.
     ensures words { FitsWords result (map string_bytes words.now.items) }

@@ -9,4 +9,4 @@ pub returns-clause-words : goal.returns-clause-words
 returns-clause-words g c = c.run.ensures.words
 
 pub returns-clause-no_read_fault : goal.returns-clause-no_read_fault
-returns-clause-no_read_fault g c = no_read_fault c.run.result _ refl refl c.run.ensures.cause
+returns-clause-no_read_fault g c = no_read_fault c.run.result _ _ refl refl c.run.ensures.cause

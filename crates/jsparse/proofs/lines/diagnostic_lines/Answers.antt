@@ -1,5 +1,5 @@
 use Rattle.std.proofs.Common.{sym, arith, add-one}
-use Rattle.jsparse.proofs.Walks.{diagnostics_more, diagnostics_within}
+use Rattle.jsparse.proofs.DiagnosticLines.{diagnostics_more, diagnostics_within}
 use Rattle.jsparse.proofs.lines.diagnostic_lines.Goals as goal
 use Rattle.jsparse.proofs.lines.diagnostic_lines.Goals.{in-Some+in_ok-write_diagnostic, in_default}
 

@@ -14,13 +14,13 @@ returns-clause-cause g c = c.steps.ensures.cause
 
 pub returns-clause-too_long : goal.returns-clause-too_long
 returns-clause-too_long g c =
-    long_if_told c.steps.result
+    long_if_told c.steps.result (map (string_bytes {Z = Global}) c.args.words.now.items)
     (told g.S.Source.remaining g.S.Source.faults g.K.Sink.taken g.K.Sink.faults c.args.source.now c.steps.new.source c.args.sink.now c.steps.new.sink)
     (g.S.Source.remaining c.args.source.now) refl c.steps.ensures.cause
 
 pub returns-clause-not_utf8 : goal.returns-clause-not_utf8
 returns-clause-not_utf8 g c =
-    no_text_if_told c.steps.result
+    no_text_if_told c.steps.result (map (string_bytes {Z = Global}) c.args.words.now.items)
     (told g.S.Source.remaining g.S.Source.faults g.K.Sink.taken g.K.Sink.faults c.args.source.now c.steps.new.source c.args.sink.now c.steps.new.sink)
     (g.S.Source.remaining c.args.source.now) refl c.steps.ensures.cause
 

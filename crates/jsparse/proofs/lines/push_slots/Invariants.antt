@@ -1,9 +1,0 @@
-use Rattle.std.proofs.Common.{◌≡◌, ◌≤◌, ◌++◌, drop, length}
-use Rattle.jsparse.specs.Walking.{pending}
-use Rattle.jsparse.proofs.lines.push_slots.Given as goal
-
-abbrev pub invariant-loop-i : goal.invariant-loop-i
-invariant-loop-i l = record { within : l.i ≤ length l.slots; pushed : l.stack.items ≡ l.initial.stack.items ++ pending l.depth l.below (drop l.i l.slots) }
-
-abbrev pub decreases-loop-i : goal.decreases-loop-i
-decreases-loop-i l = l.i

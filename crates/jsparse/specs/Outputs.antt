@@ -1,0 +1,27 @@
+-- What is put out for a text: the lines of its only reading, or of diagnostics, where it has none.
+use Rattle.std.specs.Prelude.{ℕ, ◌≡◌, Bool, true, false, List, []}
+use Rattle.js_base.specs.declared.diagnostic.Diagnostic.{Diagnostic}
+use Rattle.js_grammar.specs.Trees.{Tree}
+use Rattle.js_grammar.specs.Lines.{tree_text, diagnostic_text}
+use Rattle.js_grammar.specs.Options.{options_of}
+use Rattle.js_grammar.specs.Settings.{Settings}
+use Rattle.js_parser.specs.Readings.{read_at, HasNoReading, IsOnlyReading, HasHashbang, AreOf}
+
+-- The output is the lines of the text's only reading. Of a text that begins with a hashbang comment no reading is claimed.
+pub record Accepts (s : Settings) (text out : List ℕ) : Type 0 where
+  pub tree : Tree
+  pub only : (HasHashbang text → ⊥) → IsOnlyReading text (read_at s.goal) (options_of s) tree
+  pub lines : out ≡ tree_text tree
+
+-- The text has no reading; the output is the lines of diagnostics, one at least. Each has its mark, and a span in the text.
+pub record Refuses (s : Settings) (text out : List ℕ) : Type 0 where
+  pub found : List Diagnostic
+  pub some : found ≡ [] → ⊥
+  pub told : AreOf (read_at s.goal) text found
+  pub lines : out ≡ diagnostic_text found
+  pub none : (HasHashbang text → ⊥) → HasNoReading text (read_at s.goal) (options_of s)
+
+-- true, where the text is refused
+abbrev pub Gives : Settings → List ℕ → Bool → List ℕ → Type 0
+Gives s text false out = Accepts s text out
+Gives s text true out = Refuses s text out
