@@ -51,7 +51,7 @@ use Rattle.js_core.proofs.Here.{uncut}
 use Rattle.js_core.proofs.Links.{NoneIs}
 use Rattle.js_core.proofs.MadeNodes.{leaf_held, node_held}
 use Rattle.js_core.proofs.Members.{stands_not}
-use Rattle.js_core.proofs.Moving.{same_both, same_itself, same_nodes, beside_nodes, moves, standing, stops_behind, stops_so}
+use Rattle.js_core.proofs.Moving.{same_both, same_itself, same_with, beside_nodes, moves, standing, stops_behind, stops_so}
 use Rattle.js_core.proofs.Nesting.{nested_room, later_room}
 use Rattle.js_core.proofs.Operands.{by_path, behind_primary}
 use Rattle.js_core.proofs.Parts.{part_path, part_from, part_goes, part_path_fails, parts, part_sign, part_last}
@@ -194,7 +194,7 @@ module _ {text : List ℕ} {f : Flags} {p : Parser} (a : At text f p) where
         let kept : Keeps p.nodes q.nodes = Keeps-trans ks (Keeps-made t.made.made) in
         part_from gap_here (subst (λ (z : Parser). Partway text f (seq gap (elements f)) (elements f) p z ids (ids ++ Some id ∷ [])) (sym t.made.stays) (record {
           at = beside_nodes q.nodes m.at;
-          same = same_both m.same (same_nodes q.nodes m.at.at);
+          same = same_with q.nodes m.same kept;
           further = m.further;
           slots = tree (label_here elision no_op p t.mid) end;
           puts = λ us. refl;

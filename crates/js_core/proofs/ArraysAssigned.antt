@@ -20,7 +20,7 @@ use Rattle.js_grammar.specs.Marks.{Mark, StandsAt, Part}
 use Rattle.js_base.specs.declared.diagnostic.DiagnosticKind.TheVariants.{AssignmentIsNotSimple}
 use Rattle.js_grammar.specs.Settings.{Goal}
 use Rattle.js_grammar.specs.Parsing.{always}
-use Rattle.js_grammar.specs.Productions.{Flags, Symbol, at, Assignment, Short, Primary}
+use Rattle.js_grammar.specs.Productions.{Flags, Symbol, at, Arrow', Assignment, Short, Primary}
 use Rattle.js_grammar.specs.Table.{rule}
 use Rattle.js_grammar.specs.Follow.{after}
 use Rattle.js_grammar.proofs.Loose.{strict_is_loose}
@@ -48,7 +48,7 @@ use Rattle.js_core.proofs.Covers.{begins_there, lexed_there, part_there}
 use Rattle.js_core.proofs.Giving.{kept_one}
 use Rattle.js_core.proofs.Here.{found}
 use Rattle.js_core.proofs.MadeNodes.{two_held}
-use Rattle.js_core.proofs.Moving.{same_both, same_itself, same_nodes, beside_nodes, stops_behind}
+use Rattle.js_core.proofs.Moving.{same_both, same_itself, same_with, beside_nodes, stops_behind}
 use Rattle.js_core.proofs.Paths.{label_here, read_of, walked_both, walked_from, walked_one}
 use Rattle.js_core.proofs.Refusals.{grew, none_kept, plain_of}
 use Rattle.js_core.proofs.Targets.{array_shape, by_brackets, may_array, of_short}
@@ -157,11 +157,11 @@ module _ {text : List ℕ} {f : Flags} {p q : Parser} (a : At text f p) (x : Ans
             (literal (z.goes.sound end end q.prev_token_end (last stood.0) (last stood.0) stood.1 (inl z.near) is_nothing)) (array_is x.label.kind h) (subst (λ (v : Kind). one_of_kinds assign_operators v ≡ true) (sym stood.2) u) (subst (λ (v : Kind). same_kind Eq v ≡ false) (sym stood.2) n);
       }
 
-  pub array_refused : Underived text (at Assignment f) p.prev_token_end
-  array_refused = assign_refused x c u (inr n) (array_no_target x.label x.slots h)
+  pub array_refused : Underived text (at Arrow' f) p.prev_token_end → Underived text (at Assignment f) p.prev_token_end
+  array_refused na = assign_refused x na c u (inr n) (array_no_target x.label x.slots h)
 
   -- behind what was told, or was told before
-  module _ {o : Parser} {start kept : ℕ} (i : kept ≡ length p.errors) (t : TellsOnce (not_simple_at start q.prev_token_end) kept q o) where
+  module _ {o : Parser} {start kept : ℕ} (na : Underived text (at Arrow' f) p.prev_token_end) (i : kept ≡ length p.errors) (t : TellsOnce (not_simple_at start q.prev_token_end) kept q o) where
     once_grown : Grown p.errors o.errors
     once_grown = by t
       where
@@ -174,7 +174,7 @@ module _ {text : List ℕ} {f : Flags} {p q : Parser} (a : At text f p) (x : Ans
       passed_grown g = grown_both once_grown (grown_then m.kept g)
 
       pub array_stops : (w : Parser) (e : Stop) (F : Type 0) → Stops r w e F → Stops p w e (Underived text (at Assignment f) p.prev_token_end)
-      array_stops w e F s = stops_behind w e (same_both x.same (same_both (once_same t) m.same)).follows (λ g. passed_grown g) (λ i. array_refused) s
+      array_stops w e F s = stops_behind w e (same_both x.same (same_both (once_same t) m.same)).follows (λ g. passed_grown g) (λ i. array_refused na) s
 
       pub array_assigned : {w z : Parser} {left second id : NodeId} {operator : AssignmentOperator} (s : Span) → row_in assignment_operators q.token.kind ≡ Some operator → Holds q.nodes (length p.nodes) (length q.nodes) left.0 x.label x.slots → Keeps p.nodes q.nodes → (y : Numbered text f (at Assignment f) r w second) → s.start ≡ p.token.span.start → s.end ≡ w.prev_token_end
           → MadeHere (plain_label node.AssignmentExpression (op_made.Assignment operator) s) (Some left ∷ Some second ∷ []) w z id → Numbered text f (at Assignment f) p z id
@@ -187,7 +187,7 @@ module _ {text : List ℕ} {f : Flags} {p q : Parser} (a : At text f p) (x : Ans
           subst (λ (v : Parser). Numbered text f (at Assignment f) p v id) (sym j.stays) (record {
             answer = record {
               at = beside_nodes z.nodes y.answer.at;
-              same = same_both x.same (same_both (once_same t) (same_both m.same (same_both y.answer.same (same_nodes z.nodes y.answer.at.at))));
+              same = same_with z.nodes (same_both x.same (same_both (once_same t) (same_both m.same y.answer.same))) (Keeps-trans ks (Keeps-trans k (Keeps-made j.made)));
               further = let i = x.further in let o = once_place t in let g = m.further in let h = m.at.behind in let k = y.answer.further in let l = (once_at t x.at).behind in omega arith;
               label = label_here assignment_expression (of q.token.kind) p w;
               slots = tree x.label x.slots (tree y.answer.label y.answer.slots end);
@@ -195,7 +195,7 @@ module _ {text : List ℕ} {f : Flags} {p q : Parser} (a : At text f p) (x : Ans
               row = y.answer.row;
               pass = _;
               walked = walked_both x.walked (walked_from (once_spot t) (walked_both (walked_one m) y.answer.walked));
-              verdict = unclean (grown_on (grown_first once_grown m.kept) y.answer.verdict) array_refused;
+              verdict = unclean (grown_on (grown_first once_grown m.kept) y.answer.verdict) (array_refused na);
             };
             holds = two_held j l ks held k;
             keeps = Keeps-trans ks (Keeps-trans k (Keeps-made j.made));

@@ -11,13 +11,13 @@ use Rattle.js_grammar.specs.Grammar.{Lexeme, Lexemes, Look, here, seen, such, no
 use Rattle.js_grammar.specs.Insertion.{Row, after_expression, assign_operators}
 use Rattle.js_grammar.specs.Lexemes.{is_word}
 use Rattle.js_grammar.specs.Parsing.{Test, plain, full, always, Admits, Goes, Fails, still}
-use Rattle.js_grammar.specs.Productions.{G, Flags, Symbol, at, tok, op, branches, Assignment, Conditional, Short, SimpleTarget}
+use Rattle.js_grammar.specs.Productions.{G, Flags, Symbol, at, tok, op, branches, Arrow', Assignment, Conditional, Short, SimpleTarget}
 use Rattle.js_grammar.specs.Productions.{sym as symbol}
 use Rattle.js_grammar.specs.Table.{rule, rule_of}
 use Rattle.js_grammar.specs.Follow.{edge_of, row_of, follow, after, looser, widest}
 use Rattle.js_grammar.proofs.Looks.{covers, covered, apart, same_self}
-use Rattle.js_grammar.proofs.Calculus.{Between, Inside, inside_full, On, ◌▹◌, ◌▹✗◌, stay, left, right, then_by, part_fails, fails_node, fails_alt, fails_lexeme}
-use Rattle.js_grammar.proofs.FollowLaws.{admits}
+use Rattle.js_grammar.proofs.Calculus.{Between, Inside, inside_full, On, ◌▹◌, ◌▹✗◌, both, stay, left, right, then_by, part_fails, weaken_fails_on, fails_node, fails_alt, fails_lexeme}
+use Rattle.js_grammar.proofs.FollowLaws.{admits, passes_on, same_read}
 use Rattle.js_cursor.specs.Parsers.{Parser}
 use Rattle.js_cursor.specs.Moves.{is_last}
 use Rattle.js_core.specs.Answers.{Underived, Answer}
@@ -103,12 +103,20 @@ assign_slots f o = symbol SimpleTarget f ▸ behind_target f o
 abbrev pub assign_part : Flags → Kind → G
 assign_part f o = op assignment_expression o (assign_slots f o)
 
-pub assignment_left : (f : Flags) → live (rule (at Assignment f)) ≡ alt (such (at Conditional f) always) (alt (branches assign_operators (assign_part f)) (array_part f))
+pub assignment_left : (f : Flags) → live (rule (at Assignment f)) ≡ alt (such (at Conditional f) always) (alt (such (at Arrow' f) always) (alt (branches assign_operators (assign_part f)) (array_part f)))
 unfolding rule rule_of apart
 assignment_left f = refl
 
-to_parts : {text : List ℕ} (f : Flags) (s : ℕ) → Goes rule (Lex text) (after (at Assignment f)) end (rule (at Assignment f)) s (alt (such (at Conditional f) always) (alt (branches assign_operators (assign_part f)) (array_part f))) s (λ us. us) (still 0)
-to_parts {text} f s = subst (λ (g : G). Goes rule (Lex text) (after (at Assignment f)) end (rule (at Assignment f)) s g s (λ us. us) (still 0)) (assignment_left f) (lives (rule (at Assignment f)))
+pub to_choice : {text : List ℕ} (f : Flags) (s : ℕ) → Goes rule (Lex text) (after (at Assignment f)) end (rule (at Assignment f)) s (alt (such (at Conditional f) always) (alt (such (at Arrow' f) always) (alt (branches assign_operators (assign_part f)) (array_part f)))) s (λ us. us) (still 0)
+to_choice {text} f s = subst (λ (g : G). Goes rule (Lex text) (after (at Assignment f)) end (rule (at Assignment f)) s g s (λ us. us) (still 0)) (assignment_left f) (lives (rule (at Assignment f)))
+
+pub arrow_passes : passes_on Assignment Arrow' ≡ true
+unfolding covers
+arrow_passes = refl
+
+-- where no arrow function is derived
+to_parts : {text : List ℕ} (f : Flags) (s : ℕ) → Underived text (at Arrow' f) s → Goes rule (Lex text) (after (at Assignment f)) end (rule (at Assignment f)) s (alt (such (at Conditional f) always) (alt (branches assign_operators (assign_part f)) (array_part f))) s (λ us. us) (still 0)
+to_parts f s n = to_choice f s ▹ both stay (right (weaken_fails_on n (same_read (at Assignment f) (at Arrow' f) arrow_passes refl)))
 
 assign_follows : (b : Bool) → covers an_assign (looser 4 b after_expression) ≡ true
 unfolding covers
@@ -144,18 +152,25 @@ is_sign : (o : Kind) (y : Lexeme) → one_of_kinds assign_operators o ≡ true �
 is_sign o y h s = let z = and_parts (same_kind o y.kind) (not y.escaped) s in and_from _ _ (subst (λ (k : Kind). one_of_kinds assign_operators k ≡ true) (kind_of_same o y.kind z.0) h) z.1
 
 -- no assignment operator stands behind a ShortCircuitExpression
-pub unassigned : {text : List ℕ} {f : Flags} {p q : Parser} → Answer text f (at Short f) p q → ((y : Lexeme) → Lex text q.prev_token_end y → IsTrue (seen an_assign y) → ⊥) → Goes rule (Lex text) (after (at Assignment f)) end (rule (at Assignment f)) p.prev_token_end (such (at Conditional f) always) p.prev_token_end (λ us. us) (still 0)
-unassigned {f = f} {p = p} x n = to_parts f p.prev_token_end ▹ left (fails_alt (no_branch (assign_part f) assign_operators (λ o h. fails_node inside_full (no_assign_slots x (plain full) o h (λ y l s. n y l (is_sign o y h s))))) (fails_node inside_full (no_array_part x (inr (λ y l s. n y l (is_sign Eq y refl s))))))
+pub unassigned : {text : List ℕ} {f : Flags} {p q : Parser} → Underived text (at Arrow' f) p.prev_token_end → Answer text f (at Short f) p q → ((y : Lexeme) → Lex text q.prev_token_end y → IsTrue (seen an_assign y) → ⊥) → Goes rule (Lex text) (after (at Assignment f)) end (rule (at Assignment f)) p.prev_token_end (such (at Conditional f) always) p.prev_token_end (λ us. us) (still 0)
+unassigned {f = f} {p = p} a x n = to_parts f p.prev_token_end a ▹ left (fails_alt (no_branch (assign_part f) assign_operators (λ o h. fails_node inside_full (no_assign_slots x (plain full) o h (λ y l s. n y l (is_sign o y h s))))) (fails_node inside_full (no_array_part x (inr (λ y l s. n y l (is_sign Eq y refl s))))))
 
-pub nothing_assigned : {text : List ℕ} (f : Flags) {s : ℕ} → f.wide ≡ false → Underived text (at Short f) s → Goes rule (Lex text) (after (at Assignment f)) end (rule (at Assignment f)) s (such (at Conditional f) always) s (λ us. us) (still 0)
-nothing_assigned f {s} w x = to_parts f s ▹ left (fails_alt (no_branch (assign_part f) assign_operators (λ o h. fails_node inside_full (part_fails (target_unread (of_short f) (assign_heads f) x) (before_sign f o h (plain full) s)))) (fails_node inside_full (no_array_unread w x)))
+no_assignment : {text : List ℕ} {X : Test} (f : Flags) {s : ℕ} → f.wide ≡ false → Underived text (at Short f) s → Fails rule (Lex text) X end (alt (branches assign_operators (assign_part f)) (array_part f)) s
+no_assignment f {s} w x = fails_alt (no_branch (assign_part f) assign_operators (λ o h. fails_node inside_full (part_fails (target_unread (of_short f) (assign_heads f) x) (before_sign f o h (plain full) s)))) (fails_node inside_full (no_array_unread w x))
+
+-- where neither a conditional expression nor a target begins, an arrow function is left
+pub only_arrow : {text : List ℕ} (f : Flags) {s : ℕ} → f.wide ≡ false → Fails rule (Lex text) (after (at Assignment f)) end (such (at Conditional f) always) s → Underived text (at Short f) s → Goes rule (Lex text) (after (at Assignment f)) end (rule (at Assignment f)) s (such (at Arrow' f) always) s (λ us. us) (still 0)
+only_arrow f {s} w c x = to_choice f s ▹ (right c ▹ left (no_assignment f w x))
+
+pub nothing_assigned : {text : List ℕ} (f : Flags) {s : ℕ} → f.wide ≡ false → Underived text (at Arrow' f) s → Underived text (at Short f) s → Goes rule (Lex text) (after (at Assignment f)) end (rule (at Assignment f)) s (such (at Conditional f) always) s (λ us. us) (still 0)
+nothing_assigned f {s} w a x = to_parts f s a ▹ left (no_assignment f w x)
 
 -- one stands there
 all_distinct : distinct assign_operators ≡ true
 all_distinct = refl
 
-pub assigned : {text : List ℕ} {f : Flags} {p q : Parser} (x : Answer text f (at Short f) p q) → (o : Kind) → one_of_kinds assign_operators o ≡ true → ((y : Lexeme) → Lex text q.prev_token_end y → y.kind ≡ o) → Fails rule (Lex text) (after (at Assignment f)) end (such (at Conditional f) always) p.prev_token_end → (is_array x.label.kind ≡ false) ⊎ (same_kind Eq o ≡ false) → Goes rule (Lex text) (after (at Assignment f)) end (rule (at Assignment f)) p.prev_token_end (assign_part f o) p.prev_token_end (λ us. us) (still 0)
-assigned {text} {f} {p} {q} x o h k n b = to_parts f p.prev_token_end ▹ (right n ▹ (left (fails_node inside_full (no_array_part x (other b))) ▹ one_branch (assign_part f) assign_operators o h all_distinct (λ i m d. fails_node inside_full (no_assign_slots x (plain full) i m (λ y l s. false≢true (sym d ∙ subst (λ (v : Kind). same_kind i v ≡ true) (k y l) (and_parts (same_kind i y.kind) (not y.escaped) s).0))))))
+pub assigned : {text : List ℕ} {f : Flags} {p q : Parser} → Underived text (at Arrow' f) p.prev_token_end → (x : Answer text f (at Short f) p q) → (o : Kind) → one_of_kinds assign_operators o ≡ true → ((y : Lexeme) → Lex text q.prev_token_end y → y.kind ≡ o) → Fails rule (Lex text) (after (at Assignment f)) end (such (at Conditional f) always) p.prev_token_end → (is_array x.label.kind ≡ false) ⊎ (same_kind Eq o ≡ false) → Goes rule (Lex text) (after (at Assignment f)) end (rule (at Assignment f)) p.prev_token_end (assign_part f o) p.prev_token_end (λ us. us) (still 0)
+assigned {text} {f} {p} {q} a x o h k n b = to_parts f p.prev_token_end a ▹ (right n ▹ (left (fails_node inside_full (no_array_part x (other b))) ▹ one_branch (assign_part f) assign_operators o h all_distinct (λ i m d. fails_node inside_full (no_assign_slots x (plain full) i m (λ y l s. false≢true (sym d ∙ subst (λ (v : Kind). same_kind i v ≡ true) (k y l) (and_parts (same_kind i y.kind) (not y.escaped) s).0))))))
   where
     other : (is_array x.label.kind ≡ false) ⊎ (same_kind Eq o ≡ false) → (is_array x.label.kind ≡ false) ⊎ ((y : Lexeme) → Lex text q.prev_token_end y → IsTrue (seen (is Eq) y) → ⊥)
     other (inl e) = inl e

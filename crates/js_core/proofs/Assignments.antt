@@ -16,7 +16,7 @@ use Rattle.js_grammar.specs.Insertion.{Row, after_expression, assign_operators}
 use Rattle.js_grammar.specs.Lexemes.{is_escaped}
 use Rattle.js_grammar.specs.Marks.{Mark, UnderivedAt}
 use Rattle.js_grammar.specs.Parsing.{Test, plain, full, always, Admits, Goes, Fails, still}
-use Rattle.js_grammar.specs.Productions.{G, Flags, Symbol, at, tok, Assignment, Short, SimpleTarget, ArrayTarget, ObjectTarget, Target}
+use Rattle.js_grammar.specs.Productions.{G, Flags, Symbol, at, tok, Arrow', Assignment, Short, SimpleTarget, ArrayTarget, ObjectTarget, Target}
 use Rattle.js_grammar.specs.Productions.{sym as symbol}
 use Rattle.js_grammar.specs.Table.{rule, rule_of}
 use Rattle.js_grammar.specs.FirstSets.{first}
@@ -78,11 +78,11 @@ shifted {text} {f} {n} {p} {q} {t} {id} x o = record {
 }
 
 -- behind two slots may stand what may stand behind the second one
-abbrev by_second : Flags → Slots → Look
+abbrev pub by_second : Flags → Slots → Look
 by_second f (tree a ds (tree b es end)) k w e = follow (at Assignment f) (edge_of b es) k w e
 by_second f _ k w e = false
 
-abbrev second : Flags → Test
+abbrev pub second : Flags → Test
 second f = record { base = widest Assignment; by = λ ts. by_second f ts }
 
 inside_second : (f : Flags) (o : Kind) (s : ℕ) → Inside rule (record { kind = assignment_expression; op = of o; flags = 0; extent = exact }) (after (at Assignment f)) (second f) end (assign_slots f o) s
@@ -98,7 +98,7 @@ on_second f a ds s = record { admits = λ ts vs k ls rest d e. go ts vs d e }
     go ts end (is_such d h) x = x
     go ts vs (is_such d h) x = absurd (false≢true x.1)
 
-module _ {text : List ℕ} {f : Flags} {p q : Parser} (x : Answer text f (at Short f) p q) (c : q.cut ≡ false) (u : one_of_kinds assign_operators q.token.kind ≡ true) where
+module _ {text : List ℕ} {f : Flags} {p q : Parser} (x : Answer text f (at Short f) p q) (na : Underived text (at Arrow' f) p.prev_token_end) (c : q.cut ≡ false) (u : one_of_kinds assign_operators q.token.kind ≡ true) where
   sign_here : (y : Lexeme) → Lex text q.prev_token_end y → y.kind ≡ q.token.kind
   sign_here y l = sym (told x.at c y l).kind
 
@@ -113,7 +113,7 @@ module _ {text : List ℕ} {f : Flags} {p q : Parser} (x : Answer text f (at Sho
 
   -- an array literal before `=` aside
   to_assign : (is_array x.label.kind ≡ false) ⊎ (same_kind Eq q.token.kind ≡ false) → Goes rule (Lex text) (after (at Assignment f)) end (rule (at Assignment f)) p.prev_token_end (assign_part f q.token.kind) p.prev_token_end (λ us. us) (still 0)
-  to_assign b = assigned x q.token.kind u sign_here (no_conditional x no_question all_assign) b
+  to_assign b = assigned na x q.token.kind u sign_here (no_conditional x no_question all_assign) b
 
   -- the left side is no target
   pub assign_refused : (is_array x.label.kind ≡ false) ⊎ (same_kind Eq q.token.kind ≡ false) → target_of x.label x.slots ≡ None → Underived text (at Assignment f) p.prev_token_end
@@ -171,14 +171,14 @@ row_assign {o = o} e h = subst (λ (j : Kind). row_in assignment_operators j ≡
 
 -- ---- answers
 
-pub assign_answers : {text : List ℕ} {f : Flags} {p q r w z : Parser} {left target second id : NodeId} {o : AssignmentOperator} (s : Span) → At text f p → (x : Numbered text f (at Short f) p q left) → q.cut ≡ false → (u : one_of_kinds assign_operators q.token.kind ≡ true) → row_in assignment_operators q.token.kind ≡ Some o → (m : Moved text f q r)
+pub assign_answers : {text : List ℕ} {f : Flags} {p q r w z : Parser} {left target second id : NodeId} {o : AssignmentOperator} (s : Span) → At text f p → Underived text (at Arrow' f) p.prev_token_end → (x : Numbered text f (at Short f) p q left) → q.cut ≡ false → (u : one_of_kinds assign_operators q.token.kind ≡ true) → row_in assignment_operators q.token.kind ≡ Some o → (m : Moved text f q r)
     → TargetNode q.nodes (length p.nodes) (length q.nodes) x.answer.label x.answer.slots target → (y : Numbered text f (at Assignment f) r w second) → s.start ≡ p.token.span.start → s.end ≡ w.prev_token_end → MadeHere (plain_label node.AssignmentExpression (op_made.Assignment o) s) (Some target ∷ Some second ∷ []) w z id → Numbered text f (at Assignment f) p z id
-assign_answers {text} {f} {p} {q} {r} {w} {z} {left} {target} {second} {id} {o} s a x c u v m t y b d n =
+assign_answers {text} {f} {p} {q} {r} {w} {z} {left} {target} {second} {id} {o} s a na x c u v m t y b d n =
     let l : plain_label node.AssignmentExpression (op_made.Assignment o) s ≡ label_here assignment_expression (of q.token.kind) p w = rw (assign_named q.token.kind o u v, b, d) refl in
     let made : MadeHere (label_here assignment_expression (of q.token.kind) p w) (Some target ∷ Some second ∷ []) w z id = subst (λ (v : Label). MadeHere v (Some target ∷ Some second ∷ []) w z id) l n in
     let h : Holds w.nodes (length q.nodes) (length w.nodes) second.0 y.answer.label y.answer.slots = subst (λ (ns : List Node). Holds w.nodes (length ns) (length w.nodes) second.0 y.answer.label y.answer.slots) m.nodes y.holds in
     let k : Keeps q.nodes w.nodes = subst (λ (ns : List Node). Keeps ns w.nodes) m.nodes y.keeps in
-    by_path (assign_path x.answer c u m t.tree t.is a y.answer) (same_both x.answer.same (same_both m.same y.answer.same)) made.stays (λ i j. y.answer.stops i j) y.answer.row
+    by_path (assign_path x.answer na c u m t.tree t.is a y.answer) (same_both x.answer.same (same_both m.same y.answer.same)) made.stays (λ i j. y.answer.stops i j) y.answer.row
     (two_held made t.holds x.keeps h k) (Keeps-trans x.keeps (Keeps-trans k (Keeps-made made.made)))
 
 -- ---- what is told of a left side that is no target

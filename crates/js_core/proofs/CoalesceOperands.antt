@@ -45,7 +45,7 @@ use Rattle.js_core.proofs.Told.{beside_errors}
 use Rattle.js_core.proofs.Giving.{gives_up, kept_one}
 use Rattle.js_core.proofs.Here.{kind_here, begins_here}
 use Rattle.js_core.proofs.MadeNodes.{two_held}
-use Rattle.js_core.proofs.Moving.{stops_behind, same_both, same_itself, same_nodes, beside_nodes}
+use Rattle.js_core.proofs.Moving.{stops_behind, same_both, same_itself, same_with, beside_nodes}
 use Rattle.js_core.proofs.Paths.{skips, not_here, read_of, walked_both, walked_one, walked_to}
 use Rattle.js_core.proofs.Phrases.{narrow_operand}
 use Rattle.js_core.proofs.Refusals.{none_kept}
@@ -351,7 +351,7 @@ module _ {text : List ℕ} {f : Flags} where
         pub operands_step : {z : Parser} {made : NodeId} → MadeHere pair_label (Some left ∷ Some right ∷ []) w z made → Operands text f p z made
         operands_step {z} {made} n = subst (λ (u : Parser). Operands text f p u made) (sym n.stays) (record {
           at = beside_nodes z.nodes c.at;
-          same = same_both s.same (same_both m.same (same_both x.answer.same (same_both c.same (same_nodes z.nodes c.at.at))));
+          same = same_with z.nodes (same_both s.same (same_both m.same (same_both x.answer.same c.same))) (Keeps-trans s.keeps (Keeps-trans right_keeps (Keeps-made n.made)));
           further = let a = s.further in let b = forward in let e = c.place in omega arith;
           label = pair_label;
           slots = pair_slots;

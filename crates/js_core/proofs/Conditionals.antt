@@ -13,7 +13,7 @@ use Rattle.js_grammar.specs.Insertion.{Row, after_expression, after_postfix, aft
 use Rattle.js_grammar.specs.Lexemes.{is_word, is_escaped}
 use Rattle.js_grammar.specs.Names.{has_backslash}
 use Rattle.js_grammar.specs.Parsing.{Test, always, Admits, Goes, Fails, still}
-use Rattle.js_grammar.specs.Productions.{G, Flags, at, tok, mk, plus_in, Assignment, Conditional, Short}
+use Rattle.js_grammar.specs.Productions.{G, Flags, at, tok, mk, plus_in, Arrow', Assignment, Conditional, Short}
 use Rattle.js_grammar.specs.Productions.{sym as symbol}
 use Rattle.js_grammar.specs.Table.{rule, rule_of}
 use Rattle.js_grammar.specs.Follow.{edge_of, row_of, follow, after, looser, widest}
@@ -160,9 +160,17 @@ short_none : {text : List ℕ} {f : Flags} {s : ℕ} → Underived text (at Shor
 unfolding rule rule_of covers
 short_none {f = f} x = left (fails_node inside_full (part_fails x (by_first firsts (surely (at Short f)) refl)))
 
-pub test_none : {text : List ℕ} (f : Flags) {s : ℕ} → f.wide ≡ false → Underived text (at Short f) s → Underived text (at Assignment f) s
+conditional_passes : passes_on Assignment Conditional ≡ true
 unfolding covers
-test_none {text} f {s} w x = lift_fails (at Assignment f) (at Conditional f) refl refl text s (nothing_assigned f w x) (lift_fails (at Conditional f) (at Short f) refl refl text s (short_none x) x)
+conditional_passes = refl
+
+pub conditional_none : {text : List ℕ} (f : Flags) {s : ℕ} → Underived text (at Short f) s → Fails rule (Lex text) (after (at Assignment f)) end (such (at Conditional f) always) s
+unfolding covers
+conditional_none {text} f {s} x = weaken_fails_on (lift_fails (at Conditional f) (at Short f) refl refl text s (short_none x) x) (same_read (at Assignment f) (at Conditional f) conditional_passes refl)
+
+pub test_none : {text : List ℕ} (f : Flags) {s : ℕ} → f.wide ≡ false → Underived text (at Arrow' f) s → Underived text (at Short f) s → Underived text (at Assignment f) s
+unfolding covers
+test_none {text} f {s} w a x = lift_fails (at Assignment f) (at Conditional f) refl refl text s (nothing_assigned f w a x) (lift_fails (at Conditional f) (at Short f) refl refl text s (short_none x) x)
 
 module _ {text : List ℕ} {f : Flags} {p q : Parser} (x : Answer text f (at Short f) p q) where
   no_branches : one_of_kinds (Question ∷ []) q.token.kind ≡ false → Goes rule (Lex text) (after (at Conditional f)) end (rule (at Conditional f)) p.prev_token_end (such (at Short f) always) p.prev_token_end (λ us. us) (still 0)
@@ -195,13 +203,13 @@ module _ {text : List ℕ} {f : Flags} {p q : Parser} (x : Answer text f (at Sho
   unfolding rule rule_of
   branches_only e = right (last_called x (same_read (at Assignment f) (at Short f) short_passes refl) ⟶✗ no_end e)
 
-  wrapped : {w : Parser} {l : Label} {cs : Slots} → q.token.kind ≡ Question → Path text f (after (at Assignment f)) (conditional_part f) p nothing w (tree l cs) → Path text f (after (at Assignment f)) (rule (at Assignment f)) p nothing w (tree l cs)
-  wrapped e r = unassigned x (no_sign e) ⟼ by_symbol_as (λ l cs vs y d. d) (branches_only e ⟼ r)
+  wrapped : {w : Parser} {l : Label} {cs : Slots} → Underived text (at Arrow' f) p.prev_token_end → q.token.kind ≡ Question → Path text f (after (at Assignment f)) (conditional_part f) p nothing w (tree l cs) → Path text f (after (at Assignment f)) (rule (at Assignment f)) p nothing w (tree l cs)
+  wrapped na e r = unassigned na x (no_sign e) ⟼ by_symbol_as (λ l cs vs y d. d) (branches_only e ⟼ r)
 
-  wrapped_fails : q.token.kind ≡ Question → Fails rule (Lex text) (third f) end (conditional_slots f) p.prev_token_end → Underived text (at Assignment f) p.prev_token_end
-  wrapped_fails e n = fails_by (unassigned x (no_sign e) ▹✗ fails_rule {X' = after (at Assignment f)} (λ l cs vs y d. d) (branches_only e ▹✗ fails_node (inside_third f p.prev_token_end) n))
+  wrapped_fails : Underived text (at Arrow' f) p.prev_token_end → q.token.kind ≡ Question → Fails rule (Lex text) (third f) end (conditional_slots f) p.prev_token_end → Underived text (at Assignment f) p.prev_token_end
+  wrapped_fails na e n = fails_by (unassigned na x (no_sign e) ▹✗ fails_rule {X' = after (at Assignment f)} (λ l cs vs y d. d) (branches_only e ▹✗ fails_node (inside_third f p.prev_token_end) n))
 
-  module _ {r : Parser} (e : q.token.kind ≡ Question) (m : Moved text f q r) where
+  module _ {r : Parser} (na : Underived text (at Arrow' f) p.prev_token_end) (e : q.token.kind ≡ Question) (m : Moved text f q r) where
     asked : Path text f (third f) (conditional_slots f) p (symbol Assignment (plus_in f) ▸ tok Colon ▸ symbol Assignment f) r (tree x.label x.slots)
     unfolding covers
     asked = called x refl ⟶ token Question x.at e (plain_sign Question x.at e refl refl question_plain) refl m
@@ -209,7 +217,7 @@ module _ {text : List ℕ} {f : Flags} {p q : Parser} (x : Answer text f (at Sho
     -- the first branch can't be read
     pub first_fails : Underived text (at Assignment (plus_in f)) r.prev_token_end → Underived text (at Assignment f) p.prev_token_end
     unfolding covers
-    first_fails n = wrapped_fails e (asked ⟶✗ part_fails n (by_first firsts (surely (at Assignment (plus_in f))) refl))
+    first_fails n = wrapped_fails na e (asked ⟶✗ part_fails n (by_first firsts (surely (at Assignment (plus_in f))) refl))
 
     module _ {u : Parser} (c : Answer text f (at Assignment (plus_in f)) r u) where
       first_read : Path text f (third f) (conditional_slots f) p (tok Colon ▸ symbol Assignment f) u (λ us. tree x.label x.slots (tree c.label c.slots us))
@@ -219,17 +227,17 @@ module _ {text : List ℕ} {f : Flags} {p q : Parser} (x : Answer text f (at Sho
       -- no colon stands behind it
       pub colon_fails : one_of_kinds (Colon ∷ []) u.token.kind ≡ false → Underived text (at Assignment f) p.prev_token_end
       unfolding covers apart
-      colon_fails n = wrapped_fails e (first_read ⟶✗ fails_at c.at (tok Colon ▸ symbol Assignment f) (Colon ∷ []) refl n)
+      colon_fails n = wrapped_fails na e (first_read ⟶✗ fails_at c.at (tok Colon ▸ symbol Assignment f) (Colon ∷ []) refl n)
 
       module _ {v : Parser} (k : u.token.kind ≡ Colon) (d : Moved text f u v) where
         colon_passed : Path text f (third f) (conditional_slots f) p (symbol Assignment f) v (λ us. tree x.label x.slots (tree c.label c.slots us))
         colon_passed = first_read ⟶ token Colon c.at k (plain_sign Colon c.at k refl refl colon_plain) refl d
 
         pub second_fails : Underived text (at Assignment f) v.prev_token_end → Underived text (at Assignment f) p.prev_token_end
-        second_fails n = wrapped_fails e (colon_passed ⟶✗ weaken_fails_on n (on_third f x.label c.label x.slots c.slots v.prev_token_end))
+        second_fails n = wrapped_fails na e (colon_passed ⟶✗ weaken_fails_on n (on_third f x.label c.label x.slots c.slots v.prev_token_end))
 
         conditional_path : {w : Parser} → At text f p → (y : Answer text f (at Assignment f) v w) → Path text f (after (at Assignment f)) (rule (at Assignment f)) p nothing w (tree (label_here conditional_expression no_op p w) (tree x.label x.slots (tree c.label c.slots (tree y.label y.slots end))))
-        conditional_path a y = wrapped e (noded_by a (inside_third f p.prev_token_end) (colon_passed ⟶ last_called y (on_third f x.label c.label x.slots c.slots v.prev_token_end)))
+        conditional_path a y = wrapped na e (noded_by a (inside_third f p.prev_token_end) (colon_passed ⟶ last_called y (on_third f x.label c.label x.slots c.slots v.prev_token_end)))
 
 -- before an assignment operator it is none
 assign_binds : (b : Bool) (r : Row) → of_operand r ≡ true → covers an_assign (λ k w e. not (looser 2 b r k w e)) ≡ true
@@ -253,9 +261,9 @@ no_conditional {text} {f} {p} {q} x n s = fails_rule {X' = after (at Assignment 
 -- ---- answers
 
 -- the test alone
-pub test_alone : {text : List ℕ} {f : Flags} {p q : Parser} {id : NodeId} → Numbered text f (at Short f) p q id → one_of_kinds (Question ∷ []) q.token.kind ≡ false → ((y : Lexeme) → Lex text q.prev_token_end y → IsTrue (seen an_assign y) → ⊥) → Numbered text f (at Assignment f) p q id
+pub test_alone : {text : List ℕ} {f : Flags} {p q : Parser} {id : NodeId} → Underived text (at Arrow' f) p.prev_token_end → Numbered text f (at Short f) p q id → one_of_kinds (Question ∷ []) q.token.kind ≡ false → ((y : Lexeme) → Lex text q.prev_token_end y → IsTrue (seen an_assign y) → ⊥) → Numbered text f (at Assignment f) p q id
 unfolding covers lift
-test_alone {text} {f} {p} x n z = lift (at Assignment f) (at Conditional f) refl refl text p.prev_token_end (unassigned x.answer z) refl
+test_alone {text} {f} {p} a x n z = lift (at Assignment f) (at Conditional f) refl refl text p.prev_token_end (unassigned a x.answer z) refl
     (lift (at Conditional f) (at Short f) refl refl text p.prev_token_end (no_branches x.answer n) refl x (operand_assigned (row_of x.answer.label x.answer.slots) x.answer.row) (behind_test x.answer n))
     (operand_assigned (row_of x.answer.label x.answer.slots) x.answer.row) (behind_alone x.answer n z)
 
@@ -263,16 +271,16 @@ three_held : (o p q r w : Parser) {l a b c : Label} {ds es cs : Slots} {id x y z
 three_held o p q r w {x = x} {y = y} {z = z} n h i j k m = node_held n (HoldsAll-next z m (HoldsAll-two x y j h i) k)
 
 -- both branches were read
-pub conditional_answers : {text : List ℕ} {f : Flags} {p q r u v w z : Parser} {test first second id : NodeId} (s : Span) → At text f p → (x : Numbered text f (at Short f) p q test) → (e : q.token.kind ≡ Question) → (m : Moved text f q r) → (c : Numbered text f (at Assignment (plus_in f)) r u first) → (k : u.token.kind ≡ Colon) → (d : Moved text f u v) → (y : Numbered text f (at Assignment f) v w second) → s.start ≡ p.token.span.start → s.end ≡ w.prev_token_end
+pub conditional_answers : {text : List ℕ} {f : Flags} {p q r u v w z : Parser} {test first second id : NodeId} (s : Span) → At text f p → Underived text (at Arrow' f) p.prev_token_end → (x : Numbered text f (at Short f) p q test) → (e : q.token.kind ≡ Question) → (m : Moved text f q r) → (c : Numbered text f (at Assignment (plus_in f)) r u first) → (k : u.token.kind ≡ Colon) → (d : Moved text f u v) → (y : Numbered text f (at Assignment f) v w second) → s.start ≡ p.token.span.start → s.end ≡ w.prev_token_end
     → MadeHere (plain_label node.ConditionalExpression op.None s) (Some test ∷ Some first ∷ Some second ∷ []) w z id → Numbered text f (at Assignment f) p z id
-conditional_answers {text} {f} {p} {q} {r} {u} {v} {w} {z} {test} {first} {second} {id} s a x e m c k d y g h n =
+conditional_answers {text} {f} {p} {q} {r} {u} {v} {w} {z} {test} {first} {second} {id} s a na x e m c k d y g h n =
     let l : plain_label node.ConditionalExpression op.None s ≡ label_here conditional_expression no_op p w = rw (g, h) refl in
     let made : MadeHere (label_here conditional_expression no_op p w) (Some test ∷ Some first ∷ Some second ∷ []) w z id = subst (λ (v : Label). MadeHere v (Some test ∷ Some first ∷ Some second ∷ []) w z id) l n in
     let b : Holds u.nodes (length q.nodes) (length u.nodes) first.0 c.answer.label c.answer.slots = subst (λ (ns : List Node). Holds u.nodes (length ns) (length u.nodes) first.0 c.answer.label c.answer.slots) m.nodes c.holds in
     let kb : Keeps q.nodes u.nodes = subst (λ (ns : List Node). Keeps ns u.nodes) m.nodes c.keeps in
     let t : Holds w.nodes (length u.nodes) (length w.nodes) second.0 y.answer.label y.answer.slots = subst (λ (ns : List Node). Holds w.nodes (length ns) (length w.nodes) second.0 y.answer.label y.answer.slots) d.nodes y.holds in
     let kt : Keeps u.nodes w.nodes = subst (λ (ns : List Node). Keeps ns w.nodes) d.nodes y.keeps in
-    by_path (conditional_path x.answer e m c.answer k d a y.answer) (same_both x.answer.same (same_both m.same (same_both c.answer.same (same_both d.same y.answer.same)))) n.stays (λ o i. y.answer.stops o i) y.answer.row
+    by_path (conditional_path x.answer na e m c.answer k d a y.answer) (same_both x.answer.same (same_both m.same (same_both c.answer.same (same_both d.same y.answer.same)))) n.stays (λ o i. y.answer.stops o i) y.answer.row
     (three_held p q u w z made x.holds b kb t kt) (Keeps-trans x.keeps (Keeps-trans kb (Keeps-trans kt (Keeps-made n.made))))
 
 -- ---- the colon

@@ -1,5 +1,5 @@
 -- What is read under other parameters, and those from before again.
-use Rattle.std.proofs.Common.{ℕ, ◌≡◌, true, List, refl, sym, ap, subst, ◌∙◌}
+use Rattle.std.proofs.Common.{ℕ, ◌≡◌, true, false, List, refl, sym, ap, subst, ◌∙◌}
 use Rattle.js_base.specs.declared.context.Context.{Context}
 use Rattle.js_base.specs.Contexts.{SetsFlag, in_flag, yield_flag, await_flag, return_flag, new_target_flag}
 use Rattle.js_grammar.specs.Productions.{Flags, Symbol, plus_in}
@@ -10,6 +10,7 @@ use Rattle.js_cursor.specs.declared.stop.Stop.{Stop}
 use Rattle.js_cursor.proofs.Later.{follows_on}
 use Rattle.js_cursor.proofs.Changing.{ctx_set}
 use Rattle.js_core.specs.Answers.{Numbered, Stops, Underived}
+use Rattle.js_core.specs.Arrows.{arrow_body}
 use Rattle.js_core.specs.States.{At, IsPlain, whole, sign, nothing, flags_of}
 use Rattle.js_core.proofs.Moving.{flags_same, stops_behind}
 
@@ -28,6 +29,13 @@ module _ {text : List ℕ} where
 
   pub in_at : {f : Flags} {p q : Parser} {c d : Context} → At text f p → d ≡ p.ctx → SetsFlag in_flag true d c → q ≡ record p { ctx = c } → At text (plus_in f) q
   in_at {f} {p} {q} {c} {d} a e s h = subst (At text (plus_in f)) (sym h) (at_under c (with_in a (subst (λ (v : Context). SetsFlag in_flag true v c) e s)) a)
+
+  -- without Yield and Await
+  in_arrow : {f : Flags} {p : Parser} {c d : Context} → At text f p → SetsFlag yield_flag false p.ctx c → SetsFlag await_flag false c d → flags_of (record p { ctx = d }) ≡ arrow_body f
+  in_arrow {f} {p} {c} {d} a s t = rw (t.others in_flag (λ e. cc), s.others in_flag (λ e. cc), t.others yield_flag (λ e. cc), s.flag, t.flag, t.others return_flag (λ e. cc), s.others return_flag (λ e. cc), t.others new_target_flag (λ e. cc), s.others new_target_flag (λ e. cc)) (ap arrow_body a.flags_are)
+
+  pub arrow_at : {f : Flags} {p q : Parser} {b c d : Context} → At text f p → b ≡ p.ctx → SetsFlag yield_flag false b c → SetsFlag await_flag false c d → q ≡ record p { ctx = d } → At text (arrow_body f) q
+  arrow_at {f} {p} {q} {b} {c} {d} a e s t h = subst (At text (arrow_body f)) (sym h) (at_under d (in_arrow a (subst (λ (v : Context). SetsFlag yield_flag false v c) e s) t) a)
 
   -- and back
   out_of : {f g : Flags} {n : Symbol} {p q : Parser} {c : Context} {id : NodeId} → At text f p → Numbered text g n (record p { ctx = c }) q id → Numbered text f n p (record q { ctx = p.ctx }) id

@@ -5,7 +5,7 @@ use Rattle.js_grammar.specs.Trees.{Slots}
 use Rattle.js_grammar.specs.Grammar.{Lexeme, Lexemes, last, next, here, Look, seen, never, lexeme, look, ahead, seq, alt, when, commas, such, marked, node, ended, keep, Takes, is_nothing, is_lexeme, is_look, is_text, is_ahead, is_empty_slot, is_seq, is_left, is_right, is_when, is_many, is_commas, is_such, is_marked, is_node, is_ended, is_keep, is_kept}
 use Rattle.js_grammar.specs.Lexed.{Lexes}
 use Rattle.js_grammar.specs.Parsing.{Test, Goes, Fails, still}
-use Rattle.js_grammar.specs.Productions.{G, Flags, Name, Symbol, Arrow'}
+use Rattle.js_grammar.specs.Productions.{G, Flags, Name, Symbol}
 use Rattle.js_grammar.specs.Table.{rule, rule_of}
 use Rattle.js_grammar.specs.FirstSets.{first}
 use Rattle.js_grammar.proofs.Looks.{apart, not_both}
@@ -23,7 +23,6 @@ unread p = apart p reads
 
 -- the nonterminals whose line needs an unread lexeme
 abbrev pub dead_name : Name → Bool
-dead_name Arrow' = true
 dead_name _ = false
 
 abbrev pub dead : G → Bool
@@ -87,7 +86,6 @@ unseen p x u h r = not_both p reads u x.kind x.newline x.escaped h r
 
 dead_at : (n : Name) (f : Flags) → dead_name n ≡ true → dead (rule_of n f) ≡ true
 unfolding rule_of apart
-dead_at Arrow' f h = refl
 dead_at _ f h = absurd (false≢true h)
 
 dead_line : (n : Symbol) → dead_name n.name ≡ true → dead (rule n) ≡ true

@@ -198,7 +198,7 @@ module _ {text : List ℕ} {f : Flags} {p : Parser} (a : At text f p) where
   unfolding apart
   no_update h = fails_here firsts (λ y l s. not_both (starts first (symbol Update f) (widest Update)) (λ k w e. one_of_kinds unary_kinds k) refl y.kind y.newline y.escaped s (subst (λ (v : Kind). one_of_kinds unary_kinds v ≡ true) (sym (kind_here a refl (not_angle p.token.kind h) y l)) h))
 
-longer : {K : Type 0} {p q : List K} → Grown p q → length p ≡ length q → ⊥
+pub longer : {K : Type 0} {p q : List K} → Grown p q → length p ≡ length q → ⊥
 longer {p = p} g e = none g.more g.some (let i = length-append p g.more in let j = ap length g.kept in omega arith)
   where
     none : {K : Type 0} (xs : List K) → (xs ≡ [] → ⊥) → length xs ≡ 0 → ⊥

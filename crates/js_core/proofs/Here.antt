@@ -39,8 +39,12 @@ plain_kind {y = y} h kinds = go h.goal refl h.lexeme.kind
 pub plainly : {text : List ℕ} {s : ℕ} {y : Lexeme} (h : StandsBehind all_faults text s y) → IsTrue (is_read y) → h.goal ≡ division
 plainly {y = y} h r = plain_kind h (and_parts (one_of_kinds read_kinds y.kind) (not y.escaped) r).0
 
+-- two lexemes that are read behind one place are one
+pub alike : {text : List ℕ} {s : ℕ} {y z : Lexeme} → Lex text s y → Lex text s z → y ≡ z
+alike l m = lex-same l.0 m.0 (plainly l.0 l.1 ∙ sym (plainly m.0 m.1))
+
 -- two lexemes of the plain goal behind one place are one
-one_plain : {text : List ℕ} {s : ℕ} {y : Lexeme} {shown : Lexeme → Lexeme} {t : Token} → Lex text s y → (x : GivesLexeme division shown text s t) → y ≡ x.lexeme
+pub one_plain : {text : List ℕ} {s : ℕ} {y : Lexeme} {shown : Lexeme → Lexeme} {t : Token} → Lex text s y → (x : GivesLexeme division shown text s t) → y ≡ x.lexeme
 one_plain h x = lex-same h.0 x.stands.lex (plainly h.0 h.1 ∙ sym x.stands.of_goal)
 
 cut_angle : (y : Lexeme) → (cut y).kind ≡ RAngle → is_right_angle y.kind ≡ true

@@ -47,3 +47,6 @@ pub mod Coalescing
 pub mod CoalesceOperands
 pub mod Labels
 pub mod Deeper
+pub mod ParameterLists
+pub mod Arrows
+pub mod Marking

@@ -58,7 +58,7 @@ use Rattle.js_core.proofs.Here.{told, angled, begins_here, kind_here, escaped_he
 use Rattle.js_core.proofs.Tight.{read_plain}
 use Rattle.js_core.proofs.Verdicts.{verdict_of, either_way, and_then, behind_none, grown_then}
 use Rattle.js_core.proofs.Verdicts.{after as grown_behind}
-use Rattle.js_core.proofs.Moving.{moves, same_both, same_nodes, beside_nodes, elsewhere, at_depth, stops_behind, stops_in, stops_so, standing}
+use Rattle.js_core.proofs.Moving.{moves, same_both, beside_nodes, elsewhere, at_depth, stops_behind, stops_in, stops_so, standing, same_with}
 use Rattle.js_core.proofs.MadeNodes.{leaf_held, node_held}
 use Rattle.js_core.proofs.Paths.{reads, Path, ◌⟶◌, ◌⟶✗◌, skips, token, last_called, passes_test, read_of, walked_both, walked_one, noded, noded_by, noding, label_here, by_symbol_as, fails_at}
 use Rattle.js_core.proofs.Operands.{by_path, primary_fails, primary_kinds}
@@ -184,7 +184,7 @@ pub step_taken : {text : List ℕ} {f : Flags} {C D : Label → Slots → (Lexem
     → (C x.label x.slots x.pass p.prev_token_end → Fails rule (Lex text) (plain full) end g p.prev_token_end → A) → Taken text f o w id D A
 step_taken {text} {f} {C} {D} {A} {o} {p} {v} {w} {id = id} {l = l} {h = h} x y s k m n r good bad = subst (λ (z : Parser). Taken text f o z id D A) (sym n.stays) (record {
   at = beside_nodes w.nodes y.at;
-  same = same_both x.same (same_both s (same_nodes w.nodes y.at.at));
+  same = same_with w.nodes (same_both x.same s) (Keeps-trans x.keeps (Keeps-trans k (Keeps-made n.made)));
   further = let a = x.further in let b = further in omega arith;
   label = l;
   slots = tree x.label x.slots (h end);
@@ -204,7 +204,7 @@ pub wrap_taken : {text : List ℕ} {f : Flags} {C D : Label → Slots → (Lexem
     → (C x.label x.slots x.pass p.prev_token_end → D l (tree x.label x.slots end) x.pass p.prev_token_end) → (A → B) → Taken text f o w id D B
 wrap_taken {text} {f} {C} {D} {A} {B} {o} {p} {w} {left} {id} {l} x n r good bad = subst (λ (z : Parser). Taken text f o z id D B) (sym n.stays) (record {
   at = beside_nodes w.nodes x.at;
-  same = same_both x.same (same_nodes w.nodes x.at.at);
+  same = same_with w.nodes x.same (Keeps-trans x.keeps (Keeps-made n.made));
   further = x.further;
   label = l;
   slots = tree x.label x.slots end;
@@ -447,7 +447,7 @@ module _ {text : List ℕ} {f : Flags} {p q : Parser} (a : At text f p) (k : p.t
         subst (λ (z : Parser). HeadOutcome text f p z (Ok id)) (sym made.stays) (
           record {
             at = beside_nodes v.nodes callee_taken.at;
-            same = same_both m.same (same_both callee_taken.same (same_nodes v.nodes callee_taken.at.at));
+            same = same_with v.nodes (same_both m.same callee_taken.same) (Keeps-trans (subst (λ (ns : List Node). Keeps ns w.nodes) m.nodes callee_taken.keeps) (Keeps-made made.made));
             further = start_before_less;
             label = label_here new_expression no_op p w;
             slots = tree callee_taken.label callee_taken.slots end;
@@ -488,7 +488,7 @@ module _ {text : List ℕ} {f : Flags} {p q : Parser} (a : At text f p) (k : p.t
           let forward : w.prev_token_end ≤ y.behind.prev_token_end = (let b = callee_taken.at.behind in let c = part.further in omega arith) in
           subst (λ (z : Parser). Membered text f p z id) (sym y.made.stays) (record {
             at = beside_nodes v.nodes part.at;
-            same = same_both m.same (same_both callee_taken.same (same_both part.same (same_nodes v.nodes part.at.at)));
+            same = same_with v.nodes (same_both m.same (same_both callee_taken.same part.same)) (Keeps-trans (subst (λ (ns : List Node). Keeps ns w.nodes) m.nodes callee_taken.keeps) (Keeps-trans part.keeps (Keeps-made y.made.made)));
             further = let b = m.further in let c = callee_taken.further in let d = m.at.behind in omega arith;
             label = label_here new_expression no_op p y.behind;
             slots = tree callee_taken.label callee_taken.slots (part.slots end);

@@ -21,6 +21,8 @@ use Rattle.js_cursor.specs.Places.{IsAt, goal}
 use Rattle.js_cursor.specs.Tokens.{IsToken, whole as whole_token, sign as sign_token, nothing as no_token}
 use Rattle.js_cursor.specs.Moves.{Passed, Completed, MovesOn, OnlyMemory, Enters, Leaves, is_last}
 use Rattle.js_tree.specs.Nodes.{Node}
+use Rattle.js_tree.specs.Holding.{Keeps}
+use Rattle.js_tree.proofs.HoldingLemmas.{Keeps-refl}
 use Rattle.js_cursor.specs.Checkpoints.{Follows}
 use Rattle.js_cursor.specs.declared.stop.Stop.{Stop}
 use Rattle.js_cursor.specs.declared.stop.Stop.TheVariants.{Fatal, NoMemory}
@@ -28,7 +30,7 @@ use Rattle.js_tree.specs.declared.id.NodeId.{NodeId}
 use Rattle.js_core.specs.Answers.{Grown, Numbered, Stops, Underived}
 use Rattle.js_cursor.proofs.Moving.{lexeme_some}
 use Rattle.js_cursor.proofs.Later.{passed_follows, read_again_follows, follows_itself, follows_on}
-use Rattle.js_cursor.proofs.Changing.{fields_set, nodes_set, entered_on}
+use Rattle.js_cursor.proofs.Changing.{fields_at, fields_set, entered_on}
 use Rattle.js_core.specs.Lexemes.{KeptFor, read_kinds}
 use Rattle.js_core.specs.States.{At, Standing, IsPlain, whole, sign, nothing, Same, flags_of}
 use Rattle.js_core.specs.Moves.{IsCompleted, IsWholeHere, Moved, Moves, Tightness}
@@ -195,7 +197,7 @@ advances p q (Err e) w m = m
 
 -- other nodes, and another depth
 pub elsewhere : {text : List ℕ} {f : Flags} {p : Parser} (ns : List Node) (k : ℕ) → At text f p → At text f (record p { nodes = ns; depth = k })
-elsewhere {text} {f} {p} ns k a = record { text_is = a.text_is; flags_are = a.flags_are; at = (fields_set ns p.visits [] p.ctx k a.at (sym (append-nil p.visits))).1; plain = plain_of a.plain; behind = a.behind }
+elsewhere {text} {f} {p} ns k a = record { text_is = a.text_is; flags_are = a.flags_are; at = fields_at ns p.visits p.ctx k a.at; plain = plain_of a.plain; behind = a.behind }
   where
     plain_of : IsPlain text p → IsPlain text (record p { nodes = ns; depth = k })
     plain_of (whole c n x) = whole c n x
@@ -205,11 +207,20 @@ elsewhere {text} {f} {p} ns k a = record { text_is = a.text_is; flags_are = a.fl
 pub beside_nodes : {text : List ℕ} {f : Flags} {p : Parser} (ns : List Node) → At text f p → At text f (record p { nodes = ns })
 beside_nodes {p = p} ns a = elsewhere ns p.depth a
 
-pub same_nodes : {p : Parser} (ns : List Node) → IsAt p → Same p (record p { nodes = ns })
-same_nodes ns a = record { follows = (nodes_set ns a).0; options = refl; ctx = refl; depth = refl; visits = refl }
+-- with nodes that were made since
+pub same_with : {p q : Parser} (ns : List Node) → Same p q → Keeps p.nodes ns → Same p (record q { nodes = ns })
+same_with ns s k =
+    let f = s.follows in
+    record {
+      follows = record { text = f.text; source_type = f.source_type; options = f.options; nodes = k; later_errors = f.later_errors; errors = f.errors; later_visits = f.later_visits; visits = f.visits; later_covers = f.later_covers; covers = f.covers; later_commas = f.later_commas; commas = f.commas; later_faults = f.later_faults; faults = f.faults; longer = f.longer };
+      options = s.options;
+      ctx = s.ctx;
+      depth = s.depth;
+      visits = s.visits;
+    }
 
 pub at_depth : {p : Parser} (k : ℕ) → IsAt p → Follows p (record p { depth = k })
-at_depth {p} k a = (fields_set p.nodes p.visits [] p.ctx k a (sym (append-nil p.visits))).0
+at_depth {p} k a = (fields_set p.nodes p.visits [] p.ctx k a (Keeps-refl p.nodes) (sym (append-nil p.visits))).0
 
 out_of : {text : List ℕ} {f : Flags} {n : Symbol} {p q : Parser} {id : NodeId} (k j : ℕ) → j ≡ p.depth → IsAt p → Numbered text f n (record p { depth = k }) q id → Numbered text f n p (record q { depth = j }) id
 out_of {q = q} k j e a x = record {

@@ -42,7 +42,7 @@ use Rattle.js_core.specs.Moves.{Moved, MadeHere, LeafTaken, TakesLeaf, plain_lab
 use Rattle.js_core.specs.Answers.{Underived, Answer, Numbered, Outcome, beside}
 use Rattle.js_core.specs.Numbers.{node_of_number, op_of_number}
 use Rattle.js_core.specs.Operators.{unary_kinds}
-use Rattle.js_core.proofs.Moving.{same_both, same_nodes, beside_nodes}
+use Rattle.js_core.proofs.Moving.{same_both, same_with, beside_nodes}
 use Rattle.js_core.proofs.Dead.{live, lives}
 use Rattle.js_core.proofs.MadeNodes.{leaf_held, one_held}
 use Rattle.js_core.proofs.Paths.{reads, Path, ◌⟼◌, ◌⟶◌, ◌⟶✗◌, at_kind, fails_at, token, last_token, last_called, passes_test, noded, noded_by, by_symbol_as, label_here, read_of, walked_one}
@@ -74,7 +74,7 @@ by_path {text} {f} {n} {p} {q} {w} {l} {cs} {id} a b e s r h k = go w.nodes e h 
     go ns e h k =
         let y : Path text f (after n) (such n always) p nothing q (tree l cs) = by_symbol_as {X' = after n} (λ l cs vs y d. d) a in
         subst (λ (r : Parser). Numbered text f n p r id) (sym e) (record {
-          answer = record { at = beside_nodes ns y.at; same = same_both b (same_nodes ns y.at.at); further = y.further; label = l; slots = cs; stops = s; row = r; pass = y.pass; walked = y.walked; verdict = y.verdict };
+          answer = record { at = beside_nodes ns y.at; same = same_with ns b (subst (λ (r : Parser). Keeps p.nodes r.nodes) e k); further = y.further; label = l; slots = cs; stops = s; row = r; pass = y.pass; walked = y.walked; verdict = y.verdict };
           holds = subst (λ (r : Parser). Holds r.nodes (length p.nodes) (length r.nodes) id.0 l cs) e h;
           keeps = subst (λ (r : Parser). Keeps p.nodes r.nodes) e k;
         })
@@ -109,10 +109,10 @@ unary_fails text f k h = of_unary (NoOperand text f) k h
 
 -- ---- one lexeme
 
-one_path : {text : List ℕ} {f : Flags} {X : Test} {p q : Parser} (test : Look) → At text f p → (s : Moved text f p q) → IsTrue (is_read s.lexeme) → IsTrue (seen test s.lexeme) → Path text f X (lexeme test) p nothing q (λ us. us)
+pub one_path : {text : List ℕ} {f : Flags} {X : Test} {p q : Parser} (test : Look) → At text f p → (s : Moved text f p q) → IsTrue (is_read s.lexeme) → IsTrue (seen test s.lexeme) → Path text f X (lexeme test) p nothing q (λ us. us)
 one_path test a s r h = record { at = s.at; further = s.further; pass = _; walked = walked_one s; verdict = clean s.kept (record { reach = 0; near = omega arith; goes = passes_test a test s r h }) }
 
-plain_leaf : {text : List ℕ} {f : Flags} {p q : Parser} (k : Kind) → p.token.kind ≡ k → p.token.escaped ≡ false → one_of_kinds read_kinds k ≡ true → (s : Moved text f p q) → IsTrue (is_read s.lexeme)
+pub plain_leaf : {text : List ℕ} {f : Flags} {p q : Parser} (k : Kind) → p.token.kind ≡ k → p.token.escaped ≡ false → one_of_kinds read_kinds k ≡ true → (s : Moved text f p q) → IsTrue (is_read s.lexeme)
 plain_leaf k e n r s = read_of s.lexeme (sym s.tells.kind ∙ e) (sym s.tells.escaped ∙ n) r
 
 abbrev pub Leaf : NodeKind → Op → Kind → Type 0
@@ -172,7 +172,7 @@ pub string_path : Leaf string_literal no_op Str
 unfolding rule rule_of covers
 string_path text f p q a e n s = at_kind a Str e refl ⟼ noded a (last_token Str a e n refl s)
 
-abbrev name_test : Flags → Look
+abbrev pub name_test : Flags → Look
 name_test f a w e = may_bind a && not (same_kind Yield a && f.yield_) && not (same_kind Await a && f.await_)
 
 pub name_path : Leaf identifier_reference no_op Ident

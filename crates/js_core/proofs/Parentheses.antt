@@ -1,5 +1,5 @@
 -- An Expression in parentheses (ECMA-262, 13.2.9).
-use Rattle.std.proofs.Common.{ℕ, ◌≡◌, ◌≤◌, inl, Bool, true, false, not, ◌&&◌, IsTrue, List, [], ◌∷◌, length, Some, refl, sym, ap, subst, arith, ◌∙◌}
+use Rattle.std.proofs.Common.{ℕ, ◌≡◌, ◌<◌, ◌≤◌, inl, Bool, true, false, not, ◌&&◌, IsTrue, List, [], ◌∷◌, length, Some, refl, sym, ap, subst, arith, ◌∙◌}
 use Rattle.std.specs.Prelude.{Result, Ok, Err}
 use Rattle.std.proofs.lemmas.Bool.{false≢true}
 use Rattle.js_base.specs.declared.kind.Kind.TheVariants.{RAngle, LParen, RParen}
@@ -11,7 +11,7 @@ use Rattle.js_grammar.specs.Trees.{Label, Slots, end, tree, parenthesized_expres
 use Rattle.js_grammar.specs.Grammar.{Lexeme, Lexemes, last, here, is, seen, such, marked, nothing, Takes, is_such, is_marked, is_nothing, ◌▸◌}
 use Rattle.js_grammar.specs.Lexed.{Lexes}
 use Rattle.js_grammar.specs.Parsing.{Test, plain, full, behind, always, Admits, Goes, Reads, Fails, Way, still}
-use Rattle.js_grammar.specs.Productions.{G, Flags, Symbol, at, tok, mk, plus_in, with_pife, Expression, Primary}
+use Rattle.js_grammar.specs.Productions.{G, Flags, Symbol, at, tok, mk, pife_flag, plus_in, with_pife, Expression, Primary}
 use Rattle.js_grammar.specs.Table.{rule, rule_of}
 use Rattle.js_grammar.specs.Follow.{after, surest, edge_of, follow_of}
 use Rattle.js_grammar.proofs.Looks.{covers, covered, apart}
@@ -24,7 +24,7 @@ use Rattle.js_tree.specs.declared.kind.NodeKind.TheVariants as node
 use Rattle.js_tree.specs.declared.op.Op.TheVariants as made
 use Rattle.js_tree.specs.Nodes.{Node}
 use Rattle.js_tree.specs.Holding.{Holds, Keeps}
-use Rattle.js_tree.proofs.HoldingLemmas.{Keeps-trans, Keeps-made}
+use Rattle.js_tree.proofs.HoldingLemmas.{Holds-range, Keeps-trans, Keeps-made}
 use Rattle.js_cursor.specs.Parsers.{Parser}
 use Rattle.js_cursor.specs.Moves.{MovesOn, Expects, GivesUp, IsKind, is_last}
 use Rattle.js_cursor.specs.declared.stop.Stop.{Stop}
@@ -32,6 +32,7 @@ use Rattle.js_cursor.specs.declared.stop.Stop.TheVariants.{Fatal, NoMemory}
 use Rattle.js_core.specs.Lexemes.{Lex}
 use Rattle.js_core.specs.States.{At}
 use Rattle.js_core.specs.Rests.{Passes}
+use Rattle.js_core.specs.Marked.{is_function, Marks}
 use Rattle.js_core.specs.Moves.{Moved, Moves, MadeHere, IsWholeHere, plain_label}
 use Rattle.js_core.specs.Answers.{Verdict, clean, unclean, Stretch, Underived, Answer, Numbered, Stops}
 use Rattle.js_core.proofs.Conditionals.{plain_sign, other_kind}
@@ -112,36 +113,40 @@ module _ {text : List ℕ} {f : Flags} {p q : Parser} (a : At text f p) (k : p.t
       unfolding words
       close_plain = plain_sign RParen x.at c refl refl refl
 
-      -- it is no function
-      no_flag : Stretch text (after (at Expression (plus_in f))) (such (at Expression (plus_in f)) always) q.prev_token_end nothing r.prev_token_end (tree x.label x.slots) x.pass → with_pife x.label ≡ x.label
-      no_flag y =
+      -- a function in it has no mark yet
+      no_mark : Stretch text (after (at Expression (plus_in f))) (such (at Expression (plus_in f)) always) q.prev_token_end nothing r.prev_token_end (tree x.label x.slots) x.pass → is_function x.label.kind ≡ true → x.label.flags < pife_flag
+      no_mark y =
           let z = found x.at (uncut x.at (ap (same_kind RAngle) c)) (ap is_last c) in
           let l : Lexes (Lex text) r.prev_token_end (last z.0) = (z.1, read_of z.0 (sym z.2.kind ∙ c) (sym z.2.escaped ∙ close_plain) refl) in
           unmarked (y.goes.sound end end r.prev_token_end (last z.0) (last z.0) l (inl y.near) is_nothing) refl (all_read text q.prev_token_end (x.pass (last z.0)) (y.goes.passes.lexed (last z.0) l))
 
-      expression_read : Path text f (plain full) (inner f ▸ tok RParen) q (tok RParen) r (tree x.label x.slots)
-      unfolding covers
-      expression_read = record {
-        at = x.at;
-        further = x.further;
-        pass = x.pass;
-        walked = x.walked;
-        verdict = verdict_of x.verdict (λ y. subst (λ (v : Label). Stretch text (plain full) (inner f ▸ tok RParen) q.prev_token_end (tok RParen) r.prev_token_end (tree v x.slots) x.pass) (no_flag y) (record { reach = y.reach; near = y.near; goes = then_by {X' = plain (is RParen)} (marked_read (before_paren f) y.goes) (by_first firsts (by_plain (is RParen)) refl) }))
-            (λ z. part_fails {X' = plain (is RParen)} (marked_fails (before_paren f) z) (by_first firsts (by_plain (is RParen)) refl));
-      }
+      module _ (v : Label) (g : (is_function x.label.kind ≡ true → x.label.flags < pife_flag) → v ≡ with_pife x.label) where
+        expression_read : Path text f (plain full) (inner f ▸ tok RParen) q (tok RParen) r (tree v x.slots)
+        unfolding covers
+        expression_read = record {
+          at = x.at;
+          further = x.further;
+          pass = x.pass;
+          walked = x.walked;
+          verdict = verdict_of x.verdict (λ y. subst (λ (v : Label). Stretch text (plain full) (inner f ▸ tok RParen) q.prev_token_end (tok RParen) r.prev_token_end (tree v x.slots) x.pass) (sym (g (no_mark y))) (record { reach = y.reach; near = y.near; goes = then_by {X' = plain (is RParen)} (marked_read (before_paren f) y.goes) (by_first firsts (by_plain (is RParen)) refl) }))
+              (λ z. part_fails {X' = plain (is RParen)} (marked_fails (before_paren f) z) (by_first firsts (by_plain (is RParen)) refl));
+        }
 
-      paren_path : Path text f (after (at Primary f)) (rule (at Primary f)) p nothing u (tree (label_here parenthesized_expression no_op p u) (tree x.label x.slots end))
-      paren_path = alone ⟼ noded a (opening ⟶ (expression_read ⟶ last_token RParen x.at c close_plain refl d))
+        paren_path : Path text f (after (at Primary f)) (rule (at Primary f)) p nothing u (tree (label_here parenthesized_expression no_op p u) (tree v x.slots end))
+        paren_path = alone ⟼ noded a (opening ⟶ (expression_read ⟶ last_token RParen x.at c close_plain refl d))
 
 -- the parentheses and what stands in them
-pub paren_answers : {text : List ℕ} {f : Flags} {p q r u w : Parser} {inside id : NodeId} (s : Span) → At text f p → p.token.kind ≡ LParen → (m : Moved text f p q) → (x : Numbered text f (at Expression (plus_in f)) q r inside) → r.token.kind ≡ RParen → (d : Moved text f r u) → s.start ≡ p.token.span.start → s.end ≡ u.prev_token_end
-    → MadeHere (plain_label node.ParenthesizedExpression made.None s) (Some inside ∷ []) u w id → Numbered text f (at Primary f) p w id
-paren_answers {text} {f} {p} {q} {r} {u} {w} {inside} {id} s a k m x c d b e n =
+pub paren_answers : {text : List ℕ} {f : Flags} {p q r u v w : Parser} {inside id : NodeId} (s : Span) → At text f p → p.token.kind ≡ LParen → (m : Moved text f p q) → (x : Numbered text f (at Expression (plus_in f)) q r inside) → r.token.kind ≡ RParen → (d : Moved text f r u) → Marks inside u v → s.start ≡ p.token.span.start → s.end ≡ u.prev_token_end
+    → MadeHere (plain_label node.ParenthesizedExpression made.None s) (Some inside ∷ []) v w id → Numbered text f (at Primary f) p w id
+paren_answers {text} {f} {p} {q} {r} {u} {v} {w} {inside} {id} s a k m x c d g b e n =
     let l : plain_label node.ParenthesizedExpression made.None s ≡ label_here parenthesized_expression no_op p u = rw (b, e) refl in
-    let z : MadeHere (label_here parenthesized_expression no_op p u) (Some inside ∷ []) u w id = subst (λ (v : Label). MadeHere v (Some inside ∷ []) u w id) l n in
+    let z : MadeHere (label_here parenthesized_expression no_op p u) (Some inside ∷ []) v w id = subst (λ (x : Label). MadeHere x (Some inside ∷ []) v w id) l n in
     let h : Holds u.nodes (length p.nodes) (length u.nodes) inside.0 x.answer.label x.answer.slots = subst (λ (ns : List Node). Holds ns (length p.nodes) (length ns) inside.0 x.answer.label x.answer.slots) (sym d.nodes) (subst (λ (ns : List Node). Holds r.nodes (length ns) (length r.nodes) inside.0 x.answer.label x.answer.slots) m.nodes x.holds) in
+    let t = g.1.holds (length p.nodes) (length u.nodes) x.answer.label x.answer.slots h in
+    let hv : Holds v.nodes (length p.nodes) (length v.nodes) inside.0 t.label x.answer.slots = subst (λ (i : ℕ). Holds v.nodes (length p.nodes) i inside.0 t.label x.answer.slots) (sym g.1.long) t.holds in
     let ks : Keeps p.nodes u.nodes = subst (λ (ns : List Node). Keeps p.nodes ns) (sym d.nodes) (subst (λ (ns : List Node). Keeps ns r.nodes) m.nodes x.keeps) in
-    by_path (paren_path a k m x.answer c d) (same_both m.same (same_both x.answer.same d.same)) z.stays (behind_primary f.in_ (label_here parenthesized_expression no_op p u) (tree x.answer.label x.answer.slots end) text u.prev_token_end) refl (one_held p.nodes z h) (Keeps-trans ks (Keeps-made z.made))
+    let kv : Keeps p.nodes v.nodes = g.1.keeps p.nodes ks (Holds-range h).0 in
+    by_path (paren_path a k m x.answer c d t.label t.is) (same_both m.same (same_both x.answer.same d.same)) (z.stays ∙ ap (λ (y : Parser). record y { nodes = w.nodes }) g.0) (behind_primary f.in_ (label_here parenthesized_expression no_op p u) (tree t.label x.answer.slots end) text u.prev_token_end) refl (one_held p.nodes z hv) (Keeps-trans kv (Keeps-made z.made))
 
 -- what `expect_closing` answers
 pub closes : (p q : Parser) (opening : Span) (r : Result (Unit {0}) Stop) → Expects (λ p. p.token.kind ≡ RParen) ExpectClosing (Some opening) p q r → Passes RParen p q r

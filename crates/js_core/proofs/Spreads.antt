@@ -48,7 +48,7 @@ use Rattle.js_core.proofs.Links.{NoneIs, AllAre}
 use Rattle.js_core.proofs.ArgumentLists.{is_that}
 use Rattle.js_core.proofs.MadeNodes.{one_held}
 use Rattle.js_core.proofs.Members.{stands_not, stands_there}
-use Rattle.js_core.proofs.Moving.{same_both, same_nodes, beside_nodes, stops_so, stops_behind}
+use Rattle.js_core.proofs.Moving.{same_both, same_with, beside_nodes, stops_so, stops_behind}
 use Rattle.js_core.proofs.Paths.{Path, ◌⟼◌, ◌⟶◌, ◌⟶✗◌, token, last_called, noded_by, by_symbol_as, label_here, walked_both, walked_one, walked_from}
 use Rattle.js_core.proofs.Refusals.{none_kept}
 use Rattle.js_core.proofs.Verdicts.{verdict_of, grown_then, grown_both, grown_on}
@@ -152,7 +152,7 @@ module _ {text : List ℕ} {f : Flags} {p : Parser} (a : At text f p) (k : Stand
       item_of_spread : {n : Symbol} (pass : Lexemes → Lexemes) → Walked text (spot p) (spot r) pass → Verdict p.errors r.errors (Stretch text behind_item (such n always) p.prev_token_end nothing r.prev_token_end (tree (label_here spread_element no_op p r) (tree x.answer.label x.answer.slots end)) pass) (NoItem text n p.prev_token_end) → ItemTaken text f n p w id
       item_of_spread {n} pass walked v = subst (λ (z : Parser). ItemTaken text f n p z id) (sym made.stays) (record {
         at = beside_nodes w.nodes x.answer.at;
-        same = same_both m.same (same_both x.answer.same (same_nodes w.nodes x.answer.at.at));
+        same = same_with w.nodes (same_both m.same x.answer.same) (Keeps-trans (subst (λ (ns : List Node). Keeps ns r.nodes) m.nodes x.keeps) (Keeps-made made.made));
         further = let i = m.further in let j = x.answer.further in let d = m.at.behind in omega arith;
         label = label_here spread_element no_op p r;
         slots = tree x.answer.label x.answer.slots end;

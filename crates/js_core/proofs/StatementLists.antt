@@ -41,7 +41,7 @@ use Rattle.js_core.specs.Answers.{Grown, Verdict, clean, unclean, Stretch, Under
 use Rattle.js_core.specs.Statements.{no_link, after_statement, NoStatement, Statement, EndsStatement, NoEnd}
 use Rattle.js_core.specs.StatementLists.{at_text_end, with_directives, statements, NoList, OneTaken, Taken, OpeningTaken}
 use Rattle.js_core.proofs.Verdicts.{verdict_of, either_way, and_then}
-use Rattle.js_core.proofs.Moving.{same_both, same_itself, same_nodes, beside_nodes}
+use Rattle.js_core.proofs.Moving.{same_both, same_itself, same_with, beside_nodes}
 use Rattle.js_core.proofs.Dead.{fails_dead}
 use Rattle.js_core.proofs.MadeNodes.{one_held}
 use Rattle.js_core.proofs.Paths.{Path, ◌⟼◌, ◌⟶◌, ◌⟶✗◌, at_kind, not_here, fails_at, noded_by, by_symbol_as, label_here, walked_both}
@@ -196,7 +196,7 @@ one_taken {text} {f} {g} {g'} {p} {q} {w} {l} {cs} {id} y b e h k = go w.nodes e
     go : (ns : List Node) → w ≡ record q { nodes = ns } → Holds w.nodes (length p.nodes) (length w.nodes) id.0 l cs → Keeps p.nodes w.nodes → OneTaken text f g g' p w id
     go ns e h k = subst (λ (r : Parser). OneTaken text f g g' p r id) (sym e) (record {
       at = beside_nodes ns y.at;
-      same = same_both b (same_nodes ns y.at.at);
+      same = same_with ns b (subst (λ (r : Parser). Keeps p.nodes r.nodes) e k);
       further = y.further;
       label = l;
       slots = cs;
@@ -208,7 +208,7 @@ one_taken {text} {f} {g} {g'} {p} {q} {w} {l} {cs} {id} y b e h k = go w.nodes e
     })
 
 -- the label of a node that is held
-held_label : {ns : List Node} {lo hi : ℕ} {l : Label} {cs : Slots} (id : NodeId) → Holds ns lo hi id.0 l cs → l ≡ label (node_at ns id)
+pub held_label : {ns : List Node} {lo hi : ℕ} {l : Label} {cs : Slots} (id : NodeId) → Holds ns lo hi id.0 l cs → l ≡ label (node_at ns id)
 held_label {ns} {l = l} id h = go id.0 h.stands
   where
     go : (n : ℕ) {m : Label} {cs : Slots} {rs : List ℕ} → Stands ns n m cs rs → m ≡ label (get_or ns n empty_program)

@@ -46,7 +46,7 @@ use Rattle.js_core.specs.Moves.{IsWholeHere, Moved, MadeHere, LeafTaken, TakesLe
 use Rattle.js_core.specs.Answers.{Underived, Answer, Numbered, Stops, beside}
 use Rattle.js_core.specs.Statements.{placed, link_kinds, no_link, after_statement, NoStatement, Statement, StatementOutcome, EndsStatement, NoEnd, IsLabel}
 use Rattle.js_core.proofs.Verdicts.{verdict_of, either_way}
-use Rattle.js_core.proofs.Moving.{moves, same_both, same_itself, same_nodes, beside_nodes}
+use Rattle.js_core.proofs.Moving.{moves, same_both, same_itself, same_with, beside_nodes}
 use Rattle.js_core.proofs.Here.{kind_here, newline_here, told, uncut}
 use Rattle.js_core.proofs.Dead.{live, lives, unread, fails_dead}
 use Rattle.js_core.proofs.MadeNodes.{leaf_held, one_held}
@@ -290,7 +290,7 @@ module _ {text : List ℕ} {s : ℕ} where
       go false e = ap not e
 
   -- none of these stands here
-  reads_other : {X : Test} (p : Look) → unread p ≡ true → Reads rule (Lex text) X end (if_next (other p)) s s (λ us. us) (still 0)
+  pub reads_other : {X : Test} (p : Look) → unread p ≡ true → Reads rule (Lex text) X end (if_next (other p)) s s (λ us. us) (still 0)
   reads_other p h = looks (other p) (passes_other p h)
 
   pub reads_not_then : {X : Test} (p q : Look) → unread p ≡ true → Reads rule (Lex text) X end (not_then p q) s s (λ us. us) (still 0)
@@ -418,7 +418,7 @@ by_statement {text} {f} {n} {p} {q} {w} {l} {cs} {id} a b e h k = go w.nodes e h
         let y : Path text f (after_statement n) (such n always) p nothing q (tree l cs) = by_symbol_as {X' = after_statement n} (λ l cs vs y d. d) a in
         subst (λ (r : Parser). Statement text f n p r id) (sym e) (record {
           at = beside_nodes ns y.at;
-          same = same_both b (same_nodes ns y.at.at);
+          same = same_with ns b (subst (λ (r : Parser). Keeps p.nodes r.nodes) e k);
           further = y.further;
           label = l;
           slots = cs;

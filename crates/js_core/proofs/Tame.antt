@@ -1,17 +1,13 @@
--- An expression whose lexemes are read is no function, so parentheses around it set no flag.
-use Rattle.std.proofs.Common.{ℕ, ◌≡◌, Bool, true, false, not, ◌&&◌, ◌||◌, refl, sym, ap, ◌∙◌}
-use Rattle.std.proofs.lemmas.Bool.{false≢true, and_parts}
-use Rattle.js_grammar.specs.Trees.{NodeKind, function_expression, arrow_function_expression, Label, Slots, tree}
+-- Where an expression is a function, its tree has no mark of parentheses around it.
+use Rattle.std.proofs.Common.{ℕ, ◌≡◌, ◌<◌, nat_lt, Bool, true, false, not, ◌&&◌, ◌||◌, refl, sym, ap, ◌∙◌}
+use Rattle.std.proofs.lemmas.Bool.{false≢true, and_parts, ltb-true}
+use Rattle.js_grammar.specs.Trees.{NodeKind, Label, Slots, tree}
 use Rattle.js_grammar.specs.Grammar.{Lexemes, never, such, alt, when, node, Takes, is_left, is_right, is_when, is_node, is_such}
-use Rattle.js_grammar.specs.Productions.{G, Flags, Name, Symbol, with_pife, Expression, Assignment, Conditional, Short, Coalesce, Or, And, BitOr, BitXor, BitAnd, Equality, Relational, Shift, Additive, Multiply, Exponent, Unary, Update, LeftHandSide, New, Member, Call, Chain, Primary, IdentifierReference}
+use Rattle.js_grammar.specs.Productions.{G, Flags, Name, Symbol, pife_flag, Arrow', Expression, Assignment, Conditional, Short, Coalesce, Or, And, BitOr, BitXor, BitAnd, Equality, Relational, Shift, Additive, Multiply, Exponent, Unary, Update, LeftHandSide, New, Member, Call, Chain, Primary, IdentifierReference}
 use Rattle.js_grammar.specs.Table.{rule, rule_of}
 use Rattle.js_grammar.proofs.Looks.{apart}
+use Rattle.js_core.specs.Marked.{is_function}
 use Rattle.js_core.proofs.Dead.{AllRead, dead, none}
-
-abbrev is_function : NodeKind → Bool
-is_function function_expression = true
-is_function arrow_function_expression = true
-is_function _ = false
 
 abbrev passes_on : Name → Bool
 passes_on Expression = true
@@ -38,15 +34,20 @@ passes_on Member = true
 passes_on Call = true
 passes_on Chain = true
 passes_on Primary = true
+passes_on Arrow' = true
 passes_on IdentifierReference = true
 passes_on _ = false
 
--- each alternative that is left makes another node, or passes on one
+-- it makes no function, or one without the mark
+abbrev low : NodeKind → ℕ → Bool
+low k n = not (is_function k) || nat_lt n pife_flag
+
+-- each alternative that is left makes such a node, or passes on one
 abbrev tame : G → Bool
 tame never = true
 tame (alt a b) = tame a && tame b
 tame (when c a) = tame a
-tame (node m a) = not (is_function m.kind) || dead a
+tame (node m a) = low m.kind m.flags || dead a
 tame (such n c) = passes_on n.name || dead (such n c)
 tame g = dead g
 
@@ -76,6 +77,7 @@ tame_at Member f h = refl
 tame_at Call f h = refl
 tame_at Chain f h = refl
 tame_at Primary f h = refl
+tame_at Arrow' f h = refl
 tame_at IdentifierReference f h = refl
 tame_at _ f h = absurd (false≢true h)
 
@@ -83,26 +85,22 @@ tame_line : (n : Symbol) → passes_on n.name ≡ true → tame (rule n) ≡ tru
 unfolding rule
 tame_line n h = tame_at n.name n.flags h
 
-not_so : (b : Bool) → not b ≡ true → b ≡ false
-not_so true h = absurd (false≢true h)
-not_so false h = refl
-
 which : (a b : Bool) (X : Type 0) → (a || b) ≡ true → (a ≡ true → X) → (b ≡ true → X) → X
 which true b X h f g = f refl
 which false b X h f g = g h
 
-no_function : {g : G} {ks : Slots} {l : Label} {cs us vs : Slots} {i j : ℕ} {ls rest : Lexemes} → Takes rule g ks (tree l cs us) i ls vs j rest → tame g ≡ true → AllRead ls → is_function l.kind ≡ false
-no_function (is_left {a = a} {b = b} d) h c = no_function d (and_parts (tame a) (tame b) h).0 c
-no_function (is_right {a = a} {b = b} d) h c = no_function d (and_parts (tame a) (tame b) h).1 c
-no_function (is_when q d) h c = no_function d h c
-no_function (is_node {m = m} {a = a} d) h c = which (not (is_function m.kind)) (dead a) (is_function m.kind ≡ false) h (λ e. not_so (is_function m.kind) e) (λ e. absurd (none d e c))
-no_function (is_such {n = n} {c = t} {ks = ks} {l = l} {cs = cs} {us = us} d q) h c = which (passes_on n.name) (dead (such n t)) (is_function l.kind ≡ false) h (λ e. no_function d (tame_line n e) c) (λ e. absurd (none (is_such {c = t} {ks = ks} {us = us} d q) e c))
-no_function d h c = absurd (none d h c)
+low_flags : {g : G} {ks : Slots} {l : Label} {cs us vs : Slots} {i j : ℕ} {ls rest : Lexemes} → Takes rule g ks (tree l cs us) i ls vs j rest → tame g ≡ true → AllRead ls → low l.kind l.flags ≡ true
+low_flags (is_left {a = a} {b = b} d) h c = low_flags d (and_parts (tame a) (tame b) h).0 c
+low_flags (is_right {a = a} {b = b} d) h c = low_flags d (and_parts (tame a) (tame b) h).1 c
+low_flags (is_when q d) h c = low_flags d h c
+low_flags (is_node {m = m} {a = a} d) h c = which (low m.kind m.flags) (dead a) (low m.kind m.flags ≡ true) h (λ e. e) (λ e. absurd (none d e c))
+low_flags (is_such {n = n} {c = t} {ks = ks} {l = l} {cs = cs} {us = us} d q) h c = which (passes_on n.name) (dead (such n t)) (low l.kind l.flags ≡ true) h (λ e. low_flags d (tame_line n e) c) (λ e. absurd (none (is_such {c = t} {ks = ks} {us = us} d q) e c))
+low_flags d h c = absurd (none d h c)
 
-pub unmarked : {n : Symbol} {t : _} {ks : Slots} {l : Label} {cs us vs : Slots} {i j : ℕ} {ls rest : Lexemes} → Takes rule (such n t) ks (tree l cs us) i ls vs j rest → passes_on n.name ≡ true → AllRead ls → with_pife l ≡ l
-unmarked {l = l} (is_such d q) h c = by l.kind l refl (no_function d (tame_line _ h) c)
+pub unmarked : {n : Symbol} {t : _} {ks : Slots} {l : Label} {cs us vs : Slots} {i j : ℕ} {ls rest : Lexemes} → Takes rule (such n t) ks (tree l cs us) i ls vs j rest → passes_on n.name ≡ true → AllRead ls → is_function l.kind ≡ true → l.flags < pife_flag
+unmarked {l = l} (is_such d q) h c e = by (is_function l.kind) (nat_lt l.flags pife_flag) refl e (low_flags d (tame_line _ h) c)
   where
-    by : (k : NodeKind) (l : Label) → l.kind ≡ k → is_function l.kind ≡ false → with_pife l ≡ l
-    by function_expression l e h = absurd (false≢true (sym h ∙ ap is_function e))
-    by arrow_function_expression l e h = absurd (false≢true (sym h ∙ ap is_function e))
-    by k l e h = rw e refl
+    by : (a b : Bool) → nat_lt l.flags pife_flag ≡ b → a ≡ true → (not a || b) ≡ true → l.flags < pife_flag
+    by true true q e h = ltb-true l.flags pife_flag q
+    by true false q e h = absurd (false≢true h)
+    by false b q e h = absurd (false≢true e)

@@ -1,5 +1,7 @@
 -- What the parse functions answer: which nonterminal was read, by which node; or that nothing is derived.
 use Rattle.std.specs.Prelude.{ℕ, ◌≡◌, ◌<◌, ◌≤◌, true, not, ◌||◌, nat_eq, IsTrue, List, [], ◌++◌, length, Result, Ok, Err}
+use Rattle.js_base.specs.declared.kind.Kind.TheVariants.{Arrow}
+use Rattle.js_base.specs.Kinds.{same_kind}
 use Rattle.js_grammar.specs.Trees.{Slots, end as no_slots, tree, Label}
 use Rattle.js_grammar.specs.Grammar.{Lexeme, Lexemes, Look, seen, such, nothing}
 use Rattle.js_grammar.specs.Follow.{edge_of, row_of, follow, after, on_line}
@@ -38,9 +40,9 @@ pub record Stretch (text : List ℕ) (X : Test) (g : G) (s : ℕ) (g' : G) (s' :
 abbrev pub Underived : List ℕ → Symbol → ℕ → Type 0
 Underived text n s = Fails rule (Lex text) (after n) no_slots (such n always) s
 
--- a name or `function` on the same line, which may stand behind the name `async` alone
+-- What nothing goes on with, though it stands behind some head: a name or `function` on the same line, behind the name `async` alone; `=>`, behind parameters.
 abbrev pub beside : Look
-beside k w e = not (nat_eq (on_line k w e) 0)
+beside k w e = not (nat_eq (on_line k w e) 0) || same_kind Arrow k
 
 -- As much of the symbol as can be was taken, from the current lexeme of the old state up to that of the new one. Clean: whatever is derived from there, over any lexemes, and stops where it may, by the tree that it is, is this; and it is derived over any lexemes that go on at least to the current one. Unclean: nothing is derived from there.
 pub record Answer (text : List ℕ) (f : Flags) (n : Symbol) (old new : Parser) : Type 0 where

@@ -14,3 +14,6 @@ pub mod Arguments
 pub mod Numbers
 pub mod Coalescing
 pub mod Arrays
+pub mod Parameters
+pub mod Arrows
+pub mod Marked

@@ -8,7 +8,7 @@ use Rattle.js_base.specs.declared.kind.Kind.TheVariants.{Question, Colon, Comma,
 use Rattle.js_base.specs.declared.span.Span.{Span}
 use Rattle.js_grammar.specs.Grammar.{Lexeme}
 use Rattle.js_grammar.specs.Marks.{LexemeAt, of_kinds}
-use Rattle.js_grammar.specs.Productions.{Flags, Symbol, at, Assignment, Short}
+use Rattle.js_grammar.specs.Productions.{Flags, Symbol, at, Arrow', Assignment, Short}
 use Rattle.js_tree.specs.declared.id.NodeId.{NodeId}
 use Rattle.js_cursor.specs.Moves.{GivesUp, Keeps}
 use Rattle.js_core.specs.Targets.{is_array}
@@ -16,15 +16,15 @@ use Rattle.js_cursor.specs.Parsers.{Parser}
 use Rattle.js_cursor.specs.Places.{goal}
 use Rattle.js_cursor.specs.declared.stop.Stop.{Stop}
 use Rattle.js_cursor.specs.declared.stop.Stop.TheVariants.{Fatal}
-use Rattle.js_core.specs.Answers.{Numbered, Outcome}
+use Rattle.js_core.specs.Answers.{Numbered, Outcome, Underived}
 use Rattle.js_core.specs.Moves.{Moves}
 use Rattle.js_core.specs.Lexemes.{Lex}
 use Rattle.js_core.specs.Operators.{power_of}
 use Rattle.js_core.specs.States.{At, Same}
 
--- One nonterminal was read up to the old state, as this node; with what is read now it is another. So the answer is of the state where the first one began, whichever that was.
-abbrev pub ReadsOn : (Flags → Symbol) → (Flags → Symbol) → ℕ → NodeId → Parser → Parser → Result NodeId Stop → Type 0
-ReadsOn n m start id old new r = (text : List ℕ) (f : Flags) (first : Parser) → At text f first → start ≡ first.token.span.start → Numbered text f (n f) first old id → Outcome text f (m f) first new r
+-- A ShortCircuitExpression was read up to the old state, where no arrow function is derived; what is read now makes an AssignmentExpression of it.
+abbrev pub ReadsConditional : ℕ → NodeId → Parser → Parser → Result NodeId Stop → Type 0
+ReadsConditional start id old new r = (text : List ℕ) (f : Flags) (first : Parser) → At text f first → Underived text (at Arrow' f) first.prev_token_end → start ≡ first.token.span.start → Numbered text f (at Short f) first old id → Outcome text f (at Assignment f) first new r
 
 -- the `?` of a conditional expression stood there, before the current lexeme
 pub record Asked (p : Parser) (question : Span) : Type 0 where
@@ -57,7 +57,7 @@ TellsOnce d kept old new = Keeps d old new ⊎ ((length old.errors ≡ kept → 
 
 -- An array literal was read up to the old state, by a call before which so many diagnostics were kept; with what is read now it is an assignment.
 abbrev pub AssignsArray : ℕ → NodeId → ℕ → Parser → Parser → Result NodeId Stop → Type 0
-AssignsArray start id kept old new r = (text : List ℕ) (f : Flags) (first : Parser) → At text f first → start ≡ first.token.span.start → kept ≡ length first.errors → (x : Numbered text f (at Short f) first old id) → is_array x.answer.label.kind ≡ true → Outcome text f (at Assignment f) first new r
+AssignsArray start id kept old new r = (text : List ℕ) (f : Flags) (first : Parser) → At text f first → Underived text (at Arrow' f) first.prev_token_end → start ≡ first.token.span.start → kept ≡ length first.errors → (x : Numbered text f (at Short f) first old id) → is_array x.answer.label.kind ≡ true → Outcome text f (at Assignment f) first new r
 
 -- What may stand behind an operand that no link and no update goes on with.
 abbrev pub ending_kinds : List Kind

@@ -1,7 +1,7 @@
 -- What the parse functions of statements answer (ECMA-262, chapter 14).
 use Rattle.std.specs.Prelude.{ℕ, ◌≡◌, ◌<◌, ◌⊎◌, Bool, true, false, not, ◌&&◌, List, [], ◌∷◌, length, Result, Ok, Err}
 use Rattle.js_base.specs.declared.kind.Kind.{Kind}
-use Rattle.js_base.specs.declared.kind.Kind.TheVariants.{Colon, Dot, Ident, QuestionDot, Semicolon}
+use Rattle.js_base.specs.declared.kind.Kind.TheVariants.{Colon, Dot, Ident, QuestionDot, Semicolon, Arrow}
 use Rattle.js_base.specs.Kinds.{same_kind, one_of_kinds}
 use Rattle.js_base.specs.declared.span.Span.{Span}
 use Rattle.js_base.specs.declared.token.Token.{Token}
@@ -20,9 +20,9 @@ use Rattle.js_core.specs.Lexemes.{Lex, Walked, spot}
 use Rattle.js_core.specs.States.{At, Same}
 use Rattle.js_core.specs.Answers.{Verdict, Stretch, Stops, Numbered}
 
--- These begin no statement. Behind `++` and `--` they are no links either, and yet no semicolon is left out before them (12.10).
+-- These begin no statement. Behind `++` and `--` they go on with nothing either, and yet no semicolon is left out before them (12.10).
 abbrev pub link_kinds : List Kind
-link_kinds = Dot ∷ QuestionDot ∷ []
+link_kinds = Dot ∷ QuestionDot ∷ Arrow ∷ []
 
 -- nor does a colon: behind a name it makes a label
 abbrev pub no_link : Look

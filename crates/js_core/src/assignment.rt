@@ -7,12 +7,14 @@ ghost use Rattle.js_base.specs.declared.kind.Kind.TheVariants.{Colon, Eq};
 ghost use Rattle.js_grammar.specs.Marks.{Mark};
 ghost use Rattle.js_cursor.specs.Places.{goal};
 ghost use Rattle.js_cursor.specs.declared.stop.Stop.TheVariants.{NoMemory};
-ghost use Rattle.js_grammar.specs.Productions.{at, Assignment, Short};
+ghost use Rattle.js_grammar.specs.Productions.{at, Assignment};
 ghost use Rattle.js_core.specs.Answers.{Answers};
+ghost use Rattle.js_core.specs.Arrows.{NoArrowHere};
 ghost use Rattle.js_core.specs.Nesting.{CanNest, room};
-ghost use Rattle.js_core.specs.Rests.{AssignsArray, Asked, Passes, ReadsOn, not_simple_at};
+ghost use Rattle.js_core.specs.Rests.{AssignsArray, Asked, Passes, ReadsConditional, not_simple_at};
 ghost use Rattle.js_core.specs.States.{Standing};
 
+use crate::arrow::{parse_arrow_function_expression, parse_arrow_head};
 use crate::context::assignment_with_in;
 use crate::cover::{cover, is_array_literal, kept_so_far, refuse_target, tell_not_simple};
 use crate::lexemes::{advance, operator_here};
@@ -31,6 +33,23 @@ pub fn parse_assignment_expression<C: ParserConfig, N: Nested<C>>(
 ) -> Result<NodeId, Stop>
     requires at { Standing p.old }
     requires nests { CanNest (N.can nested.now) (room p.old) }
+    ensures { Answers (at Assignment) p.old p.new result }
+{
+    let start = p.cur_start();
+    if let Some(parameters) = parse_arrow_head(p, nested)? {
+        return parse_arrow_function_expression(p, nested, start, parameters);
+    }
+    parse_assignment_without_arrow(p, nested)
+}
+
+/// An assignment or a conditional expression, where no arrow function stands (ECMA-262, sections 13.14 and 13.15).
+fn parse_assignment_without_arrow<C: ParserConfig, N: Nested<C>>(
+    p: &mut ParserImpl<'_, C>,
+    nested: &N,
+) -> Result<NodeId, Stop>
+    requires at { Standing p.old }
+    requires nests { CanNest (N.can nested.now) (room p.old) }
+    requires no_arrow { NoArrowHere p.old }
     ensures { Answers (at Assignment) p.old p.new result }
 {
     let start = p.cur_start();
@@ -106,7 +125,7 @@ fn parse_conditional_expression_rest<C: ParserConfig, N: Nested<C>>(
     requires start { start ≤ p.old.prev_token_end }
     requires whole { p.old.cut ≡ false }
     requires unassigned { one_of_kinds assign_operators p.old.token.kind ≡ false }
-    ensures { ReadsOn (at Short) (at Assignment) start test p.old p.new result }
+    ensures { ReadsConditional start test p.old p.new result }
 {
     if !p.at(Kind::Question) {
         return Ok(test);

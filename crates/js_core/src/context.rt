@@ -3,6 +3,7 @@
 ghost use Rattle.std.specs.Prelude.{◌≡◌, ◌+◌};
 ghost use Rattle.js_grammar.specs.Productions.{at, plus_in, Assignment, Expression};
 ghost use Rattle.js_core.specs.Answers.{Answers};
+ghost use Rattle.js_core.specs.Arrows.{arrow_body};
 ghost use Rattle.js_core.specs.Nesting.{CanNest, room};
 ghost use Rattle.js_core.specs.States.{Standing};
 
@@ -37,6 +38,23 @@ pub fn assignment_with_in<C: ParserConfig, N: Nested<C>>(
 {
     let outer = context(p);
     set_context(p, outer.and_in(true));
+    let assignment = nested.assignment(p)?;
+    set_context(p, outer);
+    Ok(assignment)
+}
+
+/// The expression that is an arrow function's body: an AssignmentExpression without Yield and Await, one level deeper
+/// (ECMA-262, section 15.3).
+pub fn assignment_in_arrow<C: ParserConfig, N: Nested<C>>(
+    p: &mut ParserImpl<'_, C>,
+    nested: &N,
+) -> Result<NodeId, Stop>
+    requires at { Standing p.old }
+    requires nests { CanNest (N.can nested.now) (room p.old + 1) }
+    ensures { Answers (λ f. at Assignment (arrow_body f)) p.old p.new result }
+{
+    let outer = context(p);
+    set_context(p, outer.and_yield(false).and_await(false));
     let assignment = nested.assignment(p)?;
     set_context(p, outer);
     Ok(assignment)

@@ -135,6 +135,7 @@ fn is_read_sign(kind: Kind) -> bool
             | Kind::Semicolon
             | Kind::RParen
             | Kind::RBrack
+            | Kind::Arrow
     )
 }
 

@@ -3,6 +3,7 @@
 
 mod arguments;
 mod array;
+mod arrow;
 mod assignment;
 mod context;
 mod cover;
@@ -11,6 +12,7 @@ mod lexemes;
 mod nested;
 mod nodes;
 mod operators;
+mod parameters;
 mod parse;
 mod primary;
 mod sequence;

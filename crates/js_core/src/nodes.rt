@@ -2,6 +2,7 @@
 
 ghost use Rattle.std.specs.Prelude.{◌≡◌, ◌∷◌, [], Some, IfOk};
 ghost use Rattle.js_tree.specs.Labels.{number_of};
+ghost use Rattle.js_tree.specs.declared.op.Op.TheVariants as op;
 ghost use Rattle.js_core.specs.Moves.{MadeHere, plain_label};
 
 use js_base::{NoMemory, Span};
@@ -54,6 +55,20 @@ pub fn make_two<C: ParserConfig>(
 {
     p.ast
         .node_of_two(kind, span, op, no_flags(), Some(first), Some(second))
+}
+
+/// A node of a child and a second one, or an empty slot.
+pub fn make_with_optional<C: ParserConfig>(
+    p: &mut ParserImpl<'_, C>,
+    kind: NodeKind,
+    span: Span,
+    first: NodeId,
+    second: Option<NodeId>,
+) -> Result<NodeId, NoMemory>
+    ensures { IfOk result (λ id. MadeHere (plain_label kind op.None span) (Some first ∷ second ∷ []) p.old p.new id) }
+{
+    p.ast
+        .node_of_two(kind, span, Op::None, no_flags(), Some(first), second)
 }
 
 /// A node of three children.

@@ -1,12 +1,15 @@
 //! Names, literals and parentheses (ECMA-262, section 13.2).
 
-ghost use Rattle.std.specs.Prelude.{◌≡◌, true, false, MatchResult};
+ghost use Rattle.std.specs.Prelude.{◌≡◌, true, false, MatchResult, ◌<◌, length};
 ghost use Rattle.js_base.specs.KindSets.{number_kinds};
 ghost use Rattle.js_base.specs.Kinds.{one_of_kinds};
 ghost use Rattle.js_base.specs.declared.kind.Kind.TheVariants.{LParen, Percent, RParen};
 ghost use Rattle.js_grammar.specs.Productions.{at, Primary};
 ghost use Rattle.js_cursor.specs.Moves.{OnlyMemory, Opened};
 ghost use Rattle.js_core.specs.Answers.{Answers};
+ghost use Rattle.js_tree.specs.Labels.{kind_of};
+ghost use Rattle.js_core.specs.Marked.{Marks, MarksNode};
+ghost use Rattle.js_core.specs.Marked as marked;
 ghost use Rattle.js_core.specs.Moves.{IsWholeHere, TakesLeaf};
 ghost use Rattle.js_core.specs.Nesting.{CanNest, room};
 ghost use Rattle.js_core.specs.Numbers.{node_of_number, op_of_number};
@@ -22,7 +25,7 @@ use crate::nodes::{make_leaf, make_one};
 use js_base::{Kind, Span};
 use js_cursor::{ParserImpl, Stop};
 use js_lex::ParserConfig;
-use js_tree::{BigintBase, NodeId, NodeKind, NumberBase, Op};
+use js_tree::{BigintBase, NodeFlags, NodeId, NodeKind, NumberBase, Op, ParserAstBuilder};
 
 /// A PrimaryExpression (ECMA-262, section 13.2): a name, a literal, an array, parentheses or a call of V8.
 pub fn parse_primary_expression<C: ParserConfig, N: Nested<C>>(
@@ -109,10 +112,44 @@ fn parse_parenthesized_expression<C: ParserConfig, N: Nested<C>>(
     advance(p)?;
     let expression = expression_with_in(p, nested)?;
     close_parentheses(p, opening)?;
+    mark_in_parentheses(p, expression);
     let span = p.end_span(opening.start);
     let kind = NodeKind::ParenthesizedExpression;
     let node = make_one(p, kind, Op::None, span, expression)?;
     Ok(node)
+}
+
+/// Whether it is a function expression or an arrow function.
+fn is_function(kind: NodeKind) -> bool
+    ensures { result ≡ marked.is_function (kind_of kind) }
+{
+    match kind {
+        NodeKind::FunctionExpression | NodeKind::ArrowFunctionExpression => true,
+        _ => false,
+    }
+}
+
+/// Marks the node of a function.
+fn mark_function(ast: &mut ParserAstBuilder, id: NodeId)
+    requires { id.0 < length ast.old }
+    ensures { MarksNode id ast.old ast.new }
+{
+    if !is_function(ast.kind(id)) {
+        return;
+    }
+    let flags = NodeFlags {
+        pife: true,
+        ..ast.flags(id)
+    };
+    ast.set_flags(id, flags);
+}
+
+/// Marks a function that stands directly in parentheses: it is probably called at once.
+fn mark_in_parentheses<C: ParserConfig>(p: &mut ParserImpl<'_, C>, expression: NodeId)
+    requires { expression.0 < length p.old.nodes }
+    ensures { Marks expression p.old p.new }
+{
+    mark_function(&mut p.ast, expression);
 }
 
 /// Moves on over the closing parenthesis, whose opening one stood at a span.

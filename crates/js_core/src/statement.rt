@@ -137,16 +137,16 @@ pub fn end_statement<C: ParserConfig>(p: &mut ParserImpl<'_, C>) -> Result<(), S
     p.asi()
 }
 
-/// Whether a new line begins with what goes on with a member or an optional chain: no statement begins so.
+/// Whether a new line begins with what goes on with a member, an optional chain or parameters: no statement begins so.
 fn has_link_on_new_line<C: ParserConfig>(p: &ParserImpl<'_, C>) -> bool
     ensures { result ≡ (p.now.token.is_on_new_line && one_of_kinds link_kinds p.now.token.kind) }
 {
     p.cur_token().is_on_new_line() && begins_link(p.cur_kind())
 }
 
-/// A dot, or the sign of an optional chain.
+/// A dot, the sign of an optional chain, or `=>`.
 fn begins_link(kind: Kind) -> bool
     ensures { result ≡ one_of_kinds link_kinds kind }
 {
-    matches!(kind, Kind::Dot | Kind::QuestionDot)
+    matches!(kind, Kind::Dot | Kind::QuestionDot | Kind::Arrow)
 }

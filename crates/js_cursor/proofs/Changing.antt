@@ -2,11 +2,14 @@
 use Rattle.std.proofs.Common.{ℕ, ◌+◌, ◌≡◌, ◌≤◌, ◌<◌, ◌==◌, Bool, true, false, cond, List, [], ◌∷◌, ◌++◌, length, take, refl, sym, ap, subst, arith, ◌∙◌, append-nil, Option, Some, None, inl, inr, ◌⊎◌}
 use Rattle.std.specs.Prelude.{IsSome, is_some}
 use Rattle.std.proofs.lemmas.Bool.{false≢true, eqb-true}
+use Rattle.std.proofs.lemmas.List.{length-take-le}
 use Rattle.js_base.specs.declared.context.Context.{Context}
 use Rattle.js_base.specs.declared.diagnostic.Diagnostic.{Diagnostic}
 use Rattle.js_base.specs.declared.span.Span.{Span}
 use Rattle.js_grammar.specs.ModuleRecords.{Part as Visit}
 use Rattle.js_tree.specs.Nodes.{Node}
+use Rattle.js_tree.specs.Holding.{Keeps as KeepsNodes}
+use Rattle.js_tree.proofs.HoldingLemmas.{Keeps-refl}
 use Rattle.js_cursor.specs.declared.checkpoint.ParserCheckpoint.{ParserCheckpoint}
 use Rattle.js_cursor.specs.declared.state.CoverInitializer.{CoverInitializer}
 use Rattle.js_cursor.specs.declared.stop.Stop.{Stop}
@@ -67,10 +70,12 @@ module _ {p : Parser} where
   at_with : (ns : List Node) (vs : List Visit) (s : Notes) (c : Context) (d : ℕ) → IsAt p → KeptBefore s p.token.span.start → IsAt (record p { nodes = ns; visits = vs; state = s; ctx = c; depth = d })
   at_with ns vs s c d a k = record { reads = a.reads; reads_for = a.reads_for; utf8 = a.utf8; short = a.short; reached = a.reached; between = a.between; token = a.token; lies = a.lies; last = a.last; marked = a.marked; faulty = a.faulty; noted = k }
 
-  follows_with : (ns : List Node) (vs more : List Visit) (s : Notes) (c : Context) (d : ℕ) (covers : List (ℕ × Option CoverInitializer)) (commas : List (ℕ × Option Span)) → vs ≡ p.visits ++ more → s.covers ≡ p.state.covers ++ covers → s.commas ≡ p.state.commas ++ commas → Follows p (record p { nodes = ns; visits = vs; state = s; ctx = c; depth = d })
-  follows_with ns vs more s c d covers commas v e f = record {
+  follows_with : (ns : List Node) (vs more : List Visit) (s : Notes) (c : Context) (d : ℕ) (covers : List (ℕ × Option CoverInitializer)) (commas : List (ℕ × Option Span)) → KeepsNodes p.nodes ns → vs ≡ p.visits ++ more → s.covers ≡ p.state.covers ++ covers → s.commas ≡ p.state.commas ++ commas → Follows p (record p { nodes = ns; visits = vs; state = s; ctx = c; depth = d })
+  follows_with ns vs more s c d covers commas k v e f = record {
     text = refl;
     source_type = refl;
+    options = refl;
+    nodes = k;
     later_errors = [];
     errors = sym (append-nil p.errors);
     later_visits = more;
@@ -85,20 +90,23 @@ module _ {p : Parser} where
   }
 
   -- the notes stay
-  pub fields_set : (ns : List Node) (vs more : List Visit) (c : Context) (d : ℕ) → IsAt p → vs ≡ p.visits ++ more → GoesOn p (record p { nodes = ns; visits = vs; ctx = c; depth = d })
-  fields_set ns vs more c d a v = (follows_with ns vs more p.state c d [] [] v (sym (append-nil p.state.covers)) (sym (append-nil p.state.commas)), at_with ns vs p.state c d a a.noted)
+  pub fields_at : (ns : List Node) (vs : List Visit) (c : Context) (d : ℕ) → IsAt p → IsAt (record p { nodes = ns; visits = vs; ctx = c; depth = d })
+  fields_at ns vs c d a = at_with ns vs p.state c d a a.noted
+
+  pub fields_set : (ns : List Node) (vs more : List Visit) (c : Context) (d : ℕ) → IsAt p → KeepsNodes p.nodes ns → vs ≡ p.visits ++ more → GoesOn p (record p { nodes = ns; visits = vs; ctx = c; depth = d })
+  fields_set ns vs more c d a k v = (follows_with ns vs more p.state c d [] [] k v (sym (append-nil p.state.covers)) (sym (append-nil p.state.commas)), fields_at ns vs c d a)
 
   pub ctx_set : (c : Context) → IsAt p → GoesOn p (record p { ctx = c })
-  ctx_set c a = fields_set p.nodes p.visits [] c p.depth a (sym (append-nil p.visits))
+  ctx_set c a = fields_set p.nodes p.visits [] c p.depth a (Keeps-refl p.nodes) (sym (append-nil p.visits))
 
-  pub nodes_set : (ns : List Node) → IsAt p → GoesOn p (record p { nodes = ns })
-  nodes_set ns a = fields_set ns p.visits [] p.ctx p.depth a (sym (append-nil p.visits))
+  pub nodes_set : (ns : List Node) → IsAt p → KeepsNodes p.nodes ns → GoesOn p (record p { nodes = ns })
+  nodes_set ns a k = fields_set ns p.visits [] p.ctx p.depth a k (sym (append-nil p.visits))
 
   pub visited : (vs more : List Visit) → IsAt p → vs ≡ p.visits ++ more → GoesOn p (record p { visits = vs })
-  visited vs more a v = fields_set p.nodes vs more p.ctx p.depth a v
+  visited vs more a v = fields_set p.nodes vs more p.ctx p.depth a (Keeps-refl p.nodes) v
 
   notes_set : (s : Notes) (covers : List (ℕ × Option CoverInitializer)) (commas : List (ℕ × Option Span)) → IsAt p → s.covers ≡ p.state.covers ++ covers → s.commas ≡ p.state.commas ++ commas → KeptBefore s p.token.span.start → GoesOn p (record p { state = s })
-  notes_set s covers commas a e f k = (follows_with p.nodes p.visits [] s p.ctx p.depth covers commas (sym (append-nil p.visits)) e f, at_with p.nodes p.visits s p.ctx p.depth a k)
+  notes_set s covers commas a e f k = (follows_with p.nodes p.visits [] s p.ctx p.depth covers commas (Keeps-refl p.nodes) (sym (append-nil p.visits)) e f, at_with p.nodes p.visits s p.ctx p.depth a k)
 
   -- a shorthand or a comma is kept that starts before the current token
   pub cover_added : (k : ℕ) (c : CoverInitializer) → IsAt p → k < p.token.span.start → GoesOn p (record p { state = record p.state { covers = p.state.covers ++ (k, Some c) ∷ [] } })
@@ -120,10 +128,10 @@ module _ {p : Parser} where
   -- ---- calls
 
   pub entered_on : {q : Parser} → IsAt p → Enters p q → GoesOn p q
-  entered_on {q} a h = subst (GoesOn p) (sym h.is) (fields_set p.nodes p.visits [] p.ctx (p.depth + 1) a (sym (append-nil p.visits)))
+  entered_on {q} a h = subst (GoesOn p) (sym h.is) (fields_set p.nodes p.visits [] p.ctx (p.depth + 1) a (Keeps-refl p.nodes) (sym (append-nil p.visits)))
 
   pub left_on : {q : Parser} → IsAt p → Leaves p q → GoesOn p q
-  left_on {q} a h = subst (GoesOn p) (sym h.is) (fields_set p.nodes p.visits [] p.ctx q.depth a (sym (append-nil p.visits)))
+  left_on {q} a h = subst (GoesOn p) (sym h.is) (fields_set p.nodes p.visits [] p.ctx q.depth a (Keeps-refl p.nodes) (sym (append-nil p.visits)))
 
   pub noted_on : {place : ℕ} {q : Parser} → IsAt p → NotesArrow place p q → GoesOn p q
   noted_on {place} {q} a h = subst (GoesOn p) (sym h.is) (notes_set q.state [] [] a (h.noted.covers ∙ sym (append-nil p.state.covers)) (h.noted.commas ∙ sym (append-nil p.state.commas)) (record { covers = subst (λ v. StandBefore v p.token.span.start) (sym h.noted.covers) a.noted.covers; commas = subst (λ v. StandBefore v p.token.span.start) (sym h.noted.commas) a.noted.commas }))
@@ -166,6 +174,36 @@ came_back {p} {q} {r} {c} m f g = record {
   faults = ap (λ o. o.errors) g.kept ∙ first_part p.lexer.kept.errors q.lexer.kept.errors f.later_faults c.lexer.lengths.errors f.faults (ap (λ l. l.errors) m.lengths);
   place = g.place ∙ m.place;
 }
+
+as_long : {X : Type 0} (m n : ℕ) (xs ys : List X) → m ≡ n → m ≤ length xs → ys ≡ take n xs → m ≤ length ys
+as_long m n xs ys e h q = let a = length-take-le n xs (omega arith) in let b = ap length q in omega arith
+
+-- so it follows where it was
+pub back_follows : {p q r : Parser} {c : ParserCheckpoint} → Remembers p c → Follows p q → GoesBack c q r → Follows p r
+back_follows {p} {q} {r} {c} m f g =
+    let b = came_back m f g in
+    record {
+      text = b.text;
+      source_type = b.source_type;
+      options = g.options ∙ f.options;
+      nodes = subst (λ (ns : List Node). KeepsNodes p.nodes ns) (sym g.nodes) f.nodes;
+      later_errors = [];
+      errors = b.errors ∙ sym (append-nil p.errors);
+      later_visits = [];
+      visits = b.visits ∙ sym (append-nil p.visits);
+      later_covers = [];
+      covers = b.covers ∙ sym (append-nil p.state.covers);
+      later_commas = [];
+      commas = b.commas ∙ sym (append-nil p.state.commas);
+      later_faults = [];
+      faults = b.faults ∙ sym (append-nil p.lexer.kept.errors);
+      longer = record {
+        comments = as_long _ c.lexer.lengths.comments q.lexer.kept.comments _ (sym (ap (λ l. l.comments) m.lengths)) f.longer.comments (ap (λ o. o.comments) g.kept);
+        irregular_whitespaces = as_long _ c.lexer.lengths.irregular_whitespaces q.lexer.kept.irregular_whitespaces _ (sym (ap (λ l. l.irregular_whitespaces) m.lengths)) f.longer.irregular_whitespaces (ap (λ o. o.irregular_whitespaces) g.kept);
+        tokens = as_long _ c.lexer.lengths.tokens q.lexer.kept.tokens _ (sym (ap (λ l. l.tokens) m.lengths)) f.longer.tokens (ap (λ o. o.tokens) g.kept);
+        errors = as_long _ c.lexer.lengths.errors q.lexer.kept.errors _ (sym (ap (λ l. l.errors) m.lengths)) f.longer.errors (ap (λ o. o.errors) g.kept);
+      };
+    }
 
 -- ---- the same, of a parser seen as p
 

@@ -17,6 +17,9 @@ use Rattle.js_grammar.specs.Settings.{Goal}
 use Rattle.js_lex.specs.Kept.{lengths_of, AreAtMost}
 use Rattle.js_lex.specs.Reading.{is_kept}
 use Rattle.js_lex.specs.States.{goal_of}
+use Rattle.js_tree.specs.Nodes.{Node}
+use Rattle.js_tree.specs.Holding.{Keeps as KeepsNodes}
+use Rattle.js_tree.proofs.HoldingLemmas.{Keeps-refl, Keeps-trans}
 use Rattle.js_cursor.specs.declared.checkpoint.ParserCheckpoint.{ParserCheckpoint}
 use Rattle.js_cursor.specs.Checkpoints.{Remembers, MayGoBack, Follows}
 use Rattle.js_cursor.specs.Histories.{StandBefore}
@@ -25,10 +28,16 @@ use Rattle.js_cursor.specs.Tokens.{IsToken, sign}
 use Rattle.js_cursor.specs.Places.{IsAt, goal}
 use Rattle.js_cursor.specs.Moves.{Passed, ReadAgain, Completed, MovesOn, Keeps, Opened, is_last}
 
+-- the same nodes
+pub nodes_stay : {ns ms : List Node} → ms ≡ ns → KeepsNodes ns ms
+nodes_stay {ns} e = record { more = []; whole = e ∙ sym (append-nil ns) }
+
 pub follows_itself : (p : Parser) → Follows p p
 follows_itself p = record {
   text = refl;
   source_type = refl;
+  options = refl;
+  nodes = Keeps-refl p.nodes;
   later_errors = [];
   errors = sym (append-nil p.errors);
   later_visits = [];
@@ -49,6 +58,8 @@ pub follows_on : {p q r : Parser} → Follows p q → Follows q r → Follows p 
 follows_on {p} {q} {r} f g = record {
   text = g.text ∙ f.text;
   source_type = g.source_type ∙ f.source_type;
+  options = g.options ∙ f.options;
+  nodes = Keeps-trans f.nodes g.nodes;
   later_errors = f.later_errors ++ g.later_errors;
   errors = then p.errors q.errors r.errors f.later_errors g.later_errors f.errors g.errors;
   later_visits = f.later_visits ++ g.later_visits;
@@ -74,6 +85,8 @@ pub passed_follows : {p q : Parser} → Passed p q → Follows p q
 passed_follows {p} {q} h = record {
   text = h.stays.text;
   source_type = h.stays.source_type;
+  options = h.stays.options;
+  nodes = nodes_stay h.stays.nodes;
   later_errors = [];
   errors = h.stays.errors ∙ sym (append-nil p.errors);
   later_visits = [];
@@ -108,6 +121,8 @@ pub read_again_follows : {g : _} {p q : Parser} → ReadAgain g p q → Follows 
 read_again_follows {g} {p} {q} h = record {
   text = h.stays.text;
   source_type = h.stays.source_type;
+  options = h.stays.options;
+  nodes = nodes_stay h.stays.nodes;
   later_errors = [];
   errors = h.stays.errors ∙ sym (append-nil p.errors);
   later_visits = [];
@@ -142,6 +157,8 @@ pub keeps_follows : {d : Diagnostic} {p q : Parser} → Keeps d p q → Follows 
 keeps_follows {d} {p} {q} h = subst (Follows p) (sym h.is) (record {
   text = refl;
   source_type = refl;
+  options = refl;
+  nodes = Keeps-refl p.nodes;
   later_errors = d ∷ [];
   errors = refl;
   later_visits = [];

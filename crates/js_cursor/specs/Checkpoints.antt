@@ -7,6 +7,7 @@ use Rattle.js_grammar.specs.LexicalFaults.{Reached}
 use Rattle.js_grammar.specs.ModuleRecords.{Part as Visit}
 use Rattle.js_lex.specs.Kept.{lengths_of, first_kept, AreAtMost}
 use Rattle.js_lex.specs.States.{SameText}
+use Rattle.js_tree.specs.Holding.{Keeps as KeepsNodes}
 use Rattle.js_cursor.specs.declared.checkpoint.ParserCheckpoint.{ParserCheckpoint}
 use Rattle.js_cursor.specs.declared.state.CoverInitializer.{CoverInitializer}
 use Rattle.js_cursor.specs.Notes.{Notes}
@@ -65,10 +66,12 @@ pub record GoesBack (c : ParserCheckpoint) (old new : Parser) : Type 0 where
   pub nodes : new.nodes ≡ old.nodes
   pub at : IsAt new
 
--- What holds of a parser at a later time, if it went back no further in between: it reads the same text, and what was kept is still there, but for the lexer's last token, which may have been read again.
+-- What holds of a parser at a later time, if it went back no further in between: it reads the same text by the same options, and what was kept is still there, but for the lexer's last token, which may have been read again.
 pub record Follows (old new : Parser) : Type 0 where
   pub text : new.text ≡ old.text
   pub source_type : new.source_type ≡ old.source_type
+  pub options : new.options ≡ old.options
+  pub nodes : KeepsNodes old.nodes new.nodes
   pub later_errors : List Diagnostic
   pub errors : new.errors ≡ old.errors ++ later_errors
   pub later_visits : List Visit

@@ -15,7 +15,7 @@ use Rattle.js_core.proofs.Nesting.{nested_room}
 use Rattle.js_core.proofs.assignment.parse_array_assignment.Goals as goal
 
 pub returns-then-at : goal.returns-then-at
-returns-then-at t c = λ text f o a e k x h. unread _ _ _ c.unread_target.ensures
+returns-then-at t c = λ text f o a na e k x h. unread _ _ _ c.unread_target.ensures
 
 pub tell_not_simple-requires-clause-marked : goal.tell_not_simple-requires-clause-marked
 tell_not_simple-requires-clause-marked t c = c.requires.marked (no_equals c.at.ensures c.if-at.false)
@@ -27,7 +27,7 @@ pub advance-requires-clause-whole : goal.advance-requires-clause-whole
 advance-requires-clause-whole t c = (once_cut c.in_ok-tell_not_simple.ensures ∙ c.requires.whole, ap is_last (once_kind c.in_ok-tell_not_simple.ensures) ∙ (assigns c.args.p.now.token.kind c.requires.operator).no_end)
 
 pub returns-in_err-advance : goal.returns-in_err-advance
-returns-in_err-advance t c = λ text f o a e k x h.
+returns-in_err-advance t c = λ text f o a na e k x h.
     let p = err_from_is_err_and c.from_residual-in_err-advance.result c.from_residual-in_err-advance.ensures.1 in
     rw (p.1, p.2) (memory_stops _ _ _ _ c.in_err-advance.ensures)
 
@@ -40,10 +40,10 @@ assignment-requires t c =
     c.requires.nests _ _ (standing m.at) (omega arith)
 
 pub returns-in_err-right : goal.returns-in_err-right
-returns-in_err-right t c = λ text f o a e k x h.
+returns-in_err-right t c = λ text f o a na e k x h.
     let p = err_from_is_err_and c.from_residual-in_err-right.result c.from_residual-in_err-right.ensures.1 in
     let m = c.in_ok-advance.ensures text f (once_at c.in_ok-tell_not_simple.ensures x.answer.at) in
-    rw (p.1, p.2) (array_stops a x.answer c.requires.whole c.requires.operator h (no_equals c.at.ensures c.if-at.false) k c.in_ok-tell_not_simple.ensures m _ _ _ (c.in_err-right.ensures text f m.at))
+    rw (p.1, p.2) (array_stops a x.answer c.requires.whole c.requires.operator h (no_equals c.at.ensures c.if-at.false) na k c.in_ok-tell_not_simple.ensures m _ _ _ (c.in_err-right.ensures text f m.at))
 
 pub end_span-span-requires : goal.end_span-span-requires
 end_span-span-requires t c =
@@ -54,6 +54,6 @@ end_span-span-requires t c =
     let g = b.behind in let d = m.further in let h = m.at.behind in let i = r.further in let s = c.requires.start in omega arith
 
 pub returns : goal.returns
-returns t c = λ text f o a e k x h.
+returns t c = λ text f o a na e k x h.
     let m = c.in_ok-advance.ensures text f (once_at c.in_ok-tell_not_simple.ensures x.answer.at) in
-    array_assigned a x.answer c.requires.whole c.requires.operator h (no_equals c.at.ensures c.if-at.false) k c.in_ok-tell_not_simple.ensures m _ (row_assign c.cur_kind.ensures c.map_assignment_operator-operator.ensures.row) x.holds x.keeps (c.in_ok-right.ensures text f m.at) (c.end_span-span.ensures.start ∙ e) c.end_span-span.ensures.end c.in_ok-node.ensures
+    array_assigned a x.answer c.requires.whole c.requires.operator h (no_equals c.at.ensures c.if-at.false) na k c.in_ok-tell_not_simple.ensures m _ (row_assign c.cur_kind.ensures c.map_assignment_operator-operator.ensures.row) x.holds x.keeps (c.in_ok-right.ensures text f m.at) (c.end_span-span.ensures.start ∙ e) c.end_span-span.ensures.end c.in_ok-node.ensures

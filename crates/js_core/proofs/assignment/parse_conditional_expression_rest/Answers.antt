@@ -12,7 +12,7 @@ use Rattle.js_core.proofs.Verdicts.{after, grown_then}
 use Rattle.js_core.proofs.assignment.parse_conditional_expression_rest.Goals as goal
 
 pub returns-then-not-at : goal.returns-then-not-at
-returns-then-not-at t c = λ text f first a e x. test_alone x (other_kind Question _ (λ k. false≢true (sym c.if-not-at.true ∙ c.at.ensures.1 k))) (no_assign_here x.answer.at c.requires.whole c.requires.unassigned)
+returns-then-not-at t c = λ text f first a na e x. test_alone na x (other_kind Question _ (λ k. false≢true (sym c.if-not-at.true ∙ c.at.ensures.1 k))) (no_assign_here x.answer.at c.requires.whole c.requires.unassigned)
 
 pub assignment_with_in-requires-clause-at : goal.assignment_with_in-requires-clause-at
 assignment_with_in-requires-clause-at t c = standing (c.in_ok-advance.ensures _ _ c.requires.at).at
@@ -21,10 +21,10 @@ pub assignment_with_in-requires-clause-nests : goal.assignment_with_in-requires-
 assignment_with_in-requires-clause-nests t c = nests_later c.requires.nests (let r = nested_room c.requires.at (c.in_ok-advance.ensures _ _ c.requires.at) in omega arith)
 
 pub returns-in_err-consequent : goal.returns-in_err-consequent
-returns-in_err-consequent t c = λ text f first a e x.
+returns-in_err-consequent t c = λ text f first a na e x.
     let p = err_from_is_err_and c.from_residual-in_err-consequent.result c.from_residual-in_err-consequent.ensures.1 in
     let m = c.in_ok-advance.ensures text f x.answer.at in
-    rw (p.1, p.2) (stops_behind _ _ (same_both x.answer.same m.same).follows (λ g. after x.answer.verdict (grown_then m.kept g)) (λ n. first_fails x.answer (c.at.ensures.0 c.if-not-at.false) m n) (c.in_err-consequent.ensures text f m.at))
+    rw (p.1, p.2) (stops_behind _ _ (same_both x.answer.same m.same).follows (λ g. after x.answer.verdict (grown_then m.kept g)) (λ n. first_fails x.answer na (c.at.ensures.0 c.if-not-at.false) m n) (c.in_err-consequent.ensures text f m.at))
 
 pub expect_conditional_alternative-requires-clause-at : goal.expect_conditional_alternative-requires-clause-at
 expect_conditional_alternative-requires-clause-at t c =
@@ -39,11 +39,11 @@ expect_conditional_alternative-requires-clause-asked t c =
     asked_later x.same (let a = x.further in let b = m.at.behind in omega arith) (subst (λ (s : Span). Asked c.advance.new.p s) (sym (c.span-question.ensures ∙ ap (λ (t : Token). t.span) c.cur_token.ensures)) (asked_here c.requires.at k (plain_sign Question c.requires.at k refl refl question_plain) m))
 
 pub returns-in_err-expect_conditional_alternative : goal.returns-in_err-expect_conditional_alternative
-returns-in_err-expect_conditional_alternative t c = λ text f first a e x.
+returns-in_err-expect_conditional_alternative t c = λ text f first a na e x.
     let p = err_from_is_err_and c.from_residual-in_err-expect_conditional_alternative.result c.from_residual-in_err-expect_conditional_alternative.ensures.1 in
     let m = c.in_ok-advance.ensures text f x.answer.at in
     let y = c.in_ok-consequent.ensures text f m.at in
-    rw (p.1, p.2) (stops_behind _ _ (same_both x.answer.same (same_both m.same y.answer.same)).follows (λ g. after x.answer.verdict (grown_then m.kept (after y.answer.verdict g))) (λ n. colon_fails x.answer (c.at.ensures.0 c.if-not-at.false) m y.answer n) (colon_missing _ _ _ c.in_err-expect_conditional_alternative.ensures))
+    rw (p.1, p.2) (stops_behind _ _ (same_both x.answer.same (same_both m.same y.answer.same)).follows (λ g. after x.answer.verdict (grown_then m.kept (after y.answer.verdict g))) (λ n. colon_fails x.answer na (c.at.ensures.0 c.if-not-at.false) m y.answer n) (colon_missing _ _ _ c.in_err-expect_conditional_alternative.ensures))
 
 pub assignment-requires : goal.assignment-requires
 assignment-requires t c =
@@ -56,13 +56,13 @@ assignment-requires t c =
     c.requires.nests _ _ (standing d.at) (omega arith)
 
 pub returns-in_err-alternate : goal.returns-in_err-alternate
-returns-in_err-alternate t c = λ text f first a e x.
+returns-in_err-alternate t c = λ text f first a na e x.
     let p = err_from_is_err_and c.from_residual-in_err-alternate.result c.from_residual-in_err-alternate.ensures.1 in
     let m = c.in_ok-advance.ensures text f x.answer.at in
     let y = c.in_ok-consequent.ensures text f m.at in
     let k = c.in_ok-expect_conditional_alternative.ensures in
     let d = k.1 text f y.answer.at in
-    rw (p.1, p.2) (stops_behind _ _ (same_both x.answer.same (same_both m.same (same_both y.answer.same d.same))).follows (λ g. after x.answer.verdict (grown_then m.kept (after y.answer.verdict (grown_then d.kept g)))) (λ n. second_fails x.answer (c.at.ensures.0 c.if-not-at.false) m y.answer k.0 d n) (c.in_err-alternate.ensures text f d.at))
+    rw (p.1, p.2) (stops_behind _ _ (same_both x.answer.same (same_both m.same (same_both y.answer.same d.same))).follows (λ g. after x.answer.verdict (grown_then m.kept (after y.answer.verdict (grown_then d.kept g)))) (λ n. second_fails x.answer na (c.at.ensures.0 c.if-not-at.false) m y.answer k.0 d n) (c.in_err-alternate.ensures text f d.at))
 
 pub end_span-span-requires : goal.end_span-span-requires
 end_span-span-requires t c =
@@ -73,9 +73,9 @@ end_span-span-requires t c =
     let s = c.requires.start in let b = c.requires.at.behind in let e = m.further in let g = m.at.behind in let h = y.further in let i = y.at.behind in let j = d.further in let k = d.at.behind in let l = z.further in omega arith
 
 pub returns : goal.returns
-returns t c = λ text f first a e x.
+returns t c = λ text f first a na e x.
     let m = c.in_ok-advance.ensures text f x.answer.at in
     let y = c.in_ok-consequent.ensures text f m.at in
     let k = c.in_ok-expect_conditional_alternative.ensures in
     let d = k.1 text f y.answer.at in
-    conditional_answers _ a x (c.at.ensures.0 c.if-not-at.false) m y k.0 d (c.in_ok-alternate.ensures text f d.at) (c.end_span-span.ensures.start ∙ e) c.end_span-span.ensures.end c.in_ok-node.ensures
+    conditional_answers _ a na x (c.at.ensures.0 c.if-not-at.false) m y k.0 d (c.in_ok-alternate.ensures text f d.at) (c.end_span-span.ensures.start ∙ e) c.end_span-span.ensures.end c.in_ok-node.ensures

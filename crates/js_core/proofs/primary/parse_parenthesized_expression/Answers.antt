@@ -11,6 +11,10 @@ use Rattle.js_core.proofs.Bracketed.{opened_here, opened_later}
 use Rattle.js_core.proofs.Moving.{standing, stops_behind, same_both}
 use Rattle.js_core.proofs.Nesting.{nested_room, nests_later}
 use Rattle.js_core.proofs.Parentheses.{expression_fails, close_fails, paren_answers, unclosed, paren_whole}
+use Rattle.js_tree.specs.Nodes.{Node}
+use Rattle.js_cursor.specs.Parsers.{Parser}
+use Rattle.std.proofs.Common.{List, ◌<◌, length}
+use Rattle.js_tree.proofs.HoldingLemmas.{Holds-below}
 use Rattle.js_core.proofs.Verdicts.{after, grown_then}
 use Rattle.js_core.proofs.primary.parse_parenthesized_expression.Goals as goal
 
@@ -51,6 +55,7 @@ end_span-span-requires t c =
     let x = (c.in_ok-expression.ensures _ _ m.at).answer in
     let d = c.in_ok-close_parentheses.ensures.1 _ _ x.at in
     let s = ap (λ (s : Span). s.start) (c.span-opening.ensures ∙ ap (λ (t : Token). t.span) c.cur_token.ensures) in
+    let v = ap (λ (z : Parser). z.prev_token_end) c.mark_in_parentheses.ensures.0 in
     let i = m.further in let j = m.at.behind in let k = x.further in let l = x.at.behind in let n = d.further in omega arith
 
 pub returns : goal.returns
@@ -58,4 +63,11 @@ returns t c = λ text f a.
     let m = c.in_ok-advance.ensures text f a in
     let x = c.in_ok-expression.ensures text f m.at in
     let d = c.in_ok-close_parentheses.ensures.1 text f x.answer.at in
-    paren_answers _ a c.requires.kind m x c.in_ok-close_parentheses.ensures.0 d (c.end_span-span.ensures.start ∙ ap (λ (s : Span). s.start) (c.span-opening.ensures ∙ ap (λ (t : Token). t.span) c.cur_token.ensures)) c.end_span-span.ensures.end c.in_ok-node.ensures
+    paren_answers _ a c.requires.kind m x c.in_ok-close_parentheses.ensures.0 d c.mark_in_parentheses.ensures (c.end_span-span.ensures.start ∙ ap (λ (s : Span). s.start) (c.span-opening.ensures ∙ ap (λ (t : Token). t.span) c.cur_token.ensures)) (c.end_span-span.ensures.end ∙ ap (λ (z : Parser). z.prev_token_end) c.mark_in_parentheses.ensures.0) c.in_ok-node.ensures
+
+pub mark_in_parentheses-requires : goal.mark_in_parentheses-requires
+mark_in_parentheses-requires t c =
+    let m = c.in_ok-advance.ensures _ _ c.requires.at in
+    let x = c.in_ok-expression.ensures _ _ m.at in
+    let d = c.in_ok-close_parentheses.ensures.1 _ _ x.answer.at in
+    subst (λ (ns : List Node). c.in_ok-expression.expression.0 < length ns) (sym d.nodes) (Holds-below x.holds)
