@@ -68,7 +68,8 @@ use Rattle.js_core.proofs.Assigned.{arrow_passes, only_arrow}
 use Rattle.js_core.proofs.Assignments.{by_second, second}
 use Rattle.js_core.proofs.Conditionals.{conditional_none, other_kind, plain_sign}
 use Rattle.js_core.proofs.Dead.{live, lives, unread, fails_dead}
-use Rattle.js_core.proofs.Exponents.{beside_errors, longer}
+use Rattle.js_core.proofs.Exponents.{longer}
+use Rattle.js_core.proofs.Told.{beside_errors}
 use Rattle.js_core.proofs.Giving.{kept_one}
 use Rattle.js_core.proofs.Here.{alike, angled, found, plainly, one_plain, newline_here, told, uncut}
 use Rattle.js_core.proofs.MadeNodes.{leaf_held, node_held, two_held}
