@@ -45,3 +45,5 @@ pub mod ArgumentLists
 pub mod Intrinsics
 pub mod Coalescing
 pub mod CoalesceOperands
+pub mod Labels
+pub mod Deeper

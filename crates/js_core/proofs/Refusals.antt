@@ -8,7 +8,7 @@ use Rattle.js_tree.specs.declared.id.NodeId.{NodeId}
 use Rattle.std.proofs.lemmas.Bool.{false≢true, and_from, and_parts, or_left, or_right, lt-ltb}
 use Rattle.js_base.specs.declared.diagnostic.Diagnostic.{Diagnostic}
 use Rattle.js_base.specs.declared.kind.Kind.{Kind}
-use Rattle.js_base.specs.declared.kind.Kind.TheVariants.{Eof, Question, Colon, Plus2, Minus2, PrivateIdentifier, RAngle, Undetermined}
+use Rattle.js_base.specs.declared.kind.Kind.TheVariants.{Eof, Question, Colon, Plus2, Minus2, PrivateIdentifier, RAngle, Undetermined, Comma, Semicolon, RParen, RBrack}
 use Rattle.js_base.specs.declared.span.Span.{Span}
 use Rattle.js_base.specs.Kinds.{same_kind, one_of_kinds}
 use Rattle.js_base.specs.Texts.{words}
@@ -47,12 +47,12 @@ use Rattle.js_core.proofs.Verdicts.{after as grown_behind}
 
 -- ---- what ends an operand
 
-of_ending : (P : Kind → Type 0) (k : Kind) → one_of_kinds ending_kinds k ≡ true → P Eof → P Question → P Colon → P k
-of_ending P k h a b c = first_or P Eof k _ _ refl h a (λ h. first_or P Question k _ _ refl h b (λ h. first_or P Colon k _ _ refl h c (λ h. absurd (false≢true h))))
+of_ending : (P : Kind → Type 0) (k : Kind) → one_of_kinds ending_kinds k ≡ true → P Eof → P Question → P Colon → P Comma → P Semicolon → P RParen → P RBrack → P k
+of_ending P k h a b c d e f g = first_or P Eof k _ _ refl h a (λ h. first_or P Question k _ _ refl h b (λ h. first_or P Colon k _ _ refl h c (λ h. first_or P Comma k _ _ refl h d (λ h. first_or P Semicolon k _ _ refl h e (λ h. first_or P RParen k _ _ refl h f (λ h. first_or P RBrack k _ _ refl h g (λ h. absurd (false≢true h))))))))
 
 ending_plain : (k : Kind) → one_of_kinds ending_kinds k ≡ true → ((is_word k || same_kind PrivateIdentifier k) ≡ false) × (one_of_kinds read_kinds k ≡ true) × (k ≡ Undetermined → ⊥)
 unfolding words
-ending_plain k h = of_ending (λ k. ((is_word k || same_kind PrivateIdentifier k) ≡ false) × (one_of_kinds read_kinds k ≡ true) × (k ≡ Undetermined → ⊥)) k h (refl, refl, λ e. cc) (refl, refl, λ e. cc) (refl, refl, λ e. cc)
+ending_plain k h = of_ending (λ k. ((is_word k || same_kind PrivateIdentifier k) ≡ false) × (one_of_kinds read_kinds k ≡ true) × (k ≡ Undetermined → ⊥)) k h (refl, refl, λ e. cc) (refl, refl, λ e. cc) (refl, refl, λ e. cc) (refl, refl, λ e. cc) (refl, refl, λ e. cc) (refl, refl, λ e. cc) (refl, refl, λ e. cc)
 
 -- a lexeme stands there, be it the end
 there : {text : List ℕ} {f : Flags} {p : Parser} → At text f p → p.cut ≡ false → (p.token.kind ≡ Undetermined → ⊥) → (y : Lexeme) × StandsBehind all_faults text p.prev_token_end y × Tells y p.token

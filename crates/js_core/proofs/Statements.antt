@@ -1,10 +1,10 @@
 -- Statements, and the semicolons that end them or are left out.
-use Rattle.std.proofs.Common.{ℕ, ◌≡◌, ◌≤◌, max, ◌⊎◌, inl, inr, List, [], ◌∷◌, length, Bool, true, false, not, ◌&&◌, ◌||◌, IsTrue, Some, refl, sym, ap, subst, arith, ◌∙◌}
+use Rattle.std.proofs.Common.{ℕ, ◌≡◌, ◌≤◌, max, inl, inr, List, [], ◌∷◌, length, Bool, true, false, not, ◌&&◌, ◌||◌, IsTrue, Some, refl, sym, ap, subst, arith, ◌∙◌}
 use Rattle.std.specs.Prelude.{◌↔◌, Result, Ok, Err, MatchResult}
 use Rattle.js_base.specs.declared.token.Token.{Token}
 use Rattle.std.proofs.lemmas.Bool.{false≢true, or_left, and_from, and_parts}
 use Rattle.js_base.specs.declared.kind.Kind.{Kind}
-use Rattle.js_base.specs.declared.kind.Kind.TheVariants.{Colon, Ident, Yield, Await, Semicolon, RCurly, Eof, RAngle, LCurly, LBrack, At as at_sign}
+use Rattle.js_base.specs.declared.kind.Kind.TheVariants.{Colon, Ident, Yield, Semicolon, RCurly, Eof, RAngle, LCurly, LBrack, At as at_sign}
 use Rattle.js_base.specs.declared.span.Span.{Span}
 use Rattle.js_base.specs.Contexts.{has_flag, in_flag}
 use Rattle.js_base.specs.Kinds.{same_kind, one_of_kinds}
@@ -23,9 +23,9 @@ use Rattle.js_grammar.specs.Productions.{sym as symbol}
 use Rattle.js_grammar.specs.Table.{rule, rule_of, identifier}
 use Rattle.js_grammar.specs.Follow.{row_of, looser, after}
 use Rattle.js_grammar.proofs.Looks.{covers, covered, apart, not_both}
-use Rattle.js_grammar.proofs.Calculus.{Between, ◌▹◌, ◌▹✗◌, left, right, looks, then_by, ends_by, by_omission, fails_ended, fails_semicolon, fails_rule, fails_node, fails_alt, inside_plain, ends}
+use Rattle.js_grammar.proofs.Calculus.{◌▹◌, ◌▹✗◌, left, right, looks, then_by, ends_by, by_omission, fails_ended, fails_semicolon, fails_rule, fails_node, fails_alt, inside_plain, ends}
 use Rattle.js_grammar.proofs.FollowLaws.{admits, expression_ended}
-use Rattle.js_grammar.proofs.RightEdges.{each_row, at_row}
+use Rattle.js_grammar.proofs.RightEdges.{at_row}
 use Rattle.js_grammar.proofs.First.{starts}
 use Rattle.js_grammar.proofs.FirstClaims.{firsts}
 use Rattle.js_grammar.proofs.FirstRules.{fails_here}
@@ -37,14 +37,14 @@ use Rattle.js_tree.specs.Nodes.{Node}
 use Rattle.js_tree.specs.Holding.{Holds, Keeps}
 use Rattle.js_tree.proofs.HoldingLemmas.{Keeps-refl, Keeps-trans, Keeps-made}
 use Rattle.js_cursor.specs.Parsers.{Parser}
-use Rattle.js_cursor.specs.Moves.{MovesOn, MayEnd, EndsOr, GivesUp, IsUnexpected, OnlyMemory, ends_statement, is_last}
+use Rattle.js_cursor.specs.Moves.{MayEnd, EndsOr, GivesUp, IsUnexpected, OnlyMemory, ends_statement, is_last}
 use Rattle.js_cursor.specs.declared.stop.Stop.{Stop}
 use Rattle.js_cursor.specs.declared.stop.Stop.TheVariants.{Fatal, NoMemory}
-use Rattle.js_core.specs.Lexemes.{Lex, is_read}
-use Rattle.js_core.specs.States.{At, Same, flags_of}
+use Rattle.js_core.specs.Lexemes.{Lex}
+use Rattle.js_core.specs.States.{At, Same}
 use Rattle.js_core.specs.Moves.{IsWholeHere, Moved, MadeHere, LeafTaken, TakesLeaf, plain_label}
 use Rattle.js_core.specs.Answers.{Underived, Answer, Numbered, Stops, beside}
-use Rattle.js_core.specs.Statements.{link_kinds, no_link, after_statement, NoStatement, Statement, StatementOutcome, EndsStatement, NoEnd, IsLabel}
+use Rattle.js_core.specs.Statements.{placed, link_kinds, no_link, after_statement, NoStatement, Statement, StatementOutcome, EndsStatement, NoEnd, IsLabel}
 use Rattle.js_core.proofs.Verdicts.{verdict_of, either_way}
 use Rattle.js_core.proofs.Moving.{moves, same_both, same_itself, same_nodes, beside_nodes}
 use Rattle.js_core.proofs.Here.{kind_here, newline_here, told, uncut}
@@ -113,6 +113,13 @@ no_angled_link = refl
 no_linked_semicolon : apart a_link semicolon_look ≡ true
 unfolding apart
 no_linked_semicolon = refl
+
+abbrev a_colon : Look
+a_colon k w e = same_kind Colon k
+
+no_coloned_semicolon : apart a_colon semicolon_look ≡ true
+unfolding apart
+no_coloned_semicolon = refl
 
 either_of : {T : Type 0} (b c : Bool) → (b || c) ≡ true → (b ≡ true → T) → (c ≡ true → T) → T
 either_of true c h g i = g refl
@@ -192,6 +199,14 @@ module _ {text : List ℕ} {f : Flags} {q : Parser} (a : At text f q) where
       go : (y : Lexeme) → one_of_kinds link_kinds y.kind ≡ true → IsTrue (seen (starts first (semicolon p) no_link) y) → ⊥
       go y v h = either_of (seen semicolon_look y) _ h (λ s. not_both a_link semicolon_look no_linked_semicolon y.kind y.newline y.escaped v s) (λ s. false≢true (sym (ap not v) ∙ (and_parts (not (same_kind Colon y.kind)) _ (and_parts (seen (may_omit p) y) (seen no_link y) s).1).1))
 
+  -- nor before a colon
+  pub before_colon : (p : Look) → q.token.kind ≡ Colon → Fails rule (Lex text) (plain no_link) end (semicolon p) q.prev_token_end
+  unfolding apart
+  before_colon p e = fails_here firsts (λ y l h. go y (subst (λ (k : Kind). same_kind Colon k ≡ true) (sym (kind_here a e refl y l)) refl) h)
+    where
+      go : (y : Lexeme) → same_kind Colon y.kind ≡ true → IsTrue (seen (starts first (semicolon p) no_link) y) → ⊥
+      go y v h = either_of (seen semicolon_look y) _ h (λ s. not_both a_colon semicolon_look no_coloned_semicolon y.kind y.newline y.escaped v s) (λ s. false≢true (sym (ap not v) ∙ (and_parts (not (same_kind Colon y.kind)) _ (and_parts (seen (may_omit p) y) (seen no_link y) s).1).0))
+
   -- neither stands it here, nor may it be left out
   not_ended : {X : Test} (p : Look) → (MayEnd q → ⊥) → Fails rule (Lex text) X end (semicolon p) q.prev_token_end
   unfolding apart
@@ -264,7 +279,7 @@ module _ {text : List ℕ} {f : Flags} where
 
 module _ {text : List ℕ} {s : ℕ} where
   -- a lookahead that each lexeme passes
-  pass_over : {X : Test} {a b : G} → Reads rule (Lex text) (plain full) end a s s (λ us. us) (still 0) → Goes rule (Lex text) X end (seq a b) s b s (λ us. us) (still 0)
+  pub pass_over : {X : Test} {a b : G} → Reads rule (Lex text) (plain full) end a s s (λ us. us) (still 0) → Goes rule (Lex text) X end (seq a b) s b s (λ us. us) (still 0)
   pass_over r = then_by r (record { admits = λ ts us vs j k ls mid rest d d' h. (refl, refl) })
 
   passes_other : (p : Look) → unread p ≡ true → (y : Lexeme) → Lex text s y → IsTrue (seen (other p) y)
@@ -278,14 +293,18 @@ module _ {text : List ℕ} {s : ℕ} where
   reads_other : {X : Test} (p : Look) → unread p ≡ true → Reads rule (Lex text) X end (if_next (other p)) s s (λ us. us) (still 0)
   reads_other p h = looks (other p) (passes_other p h)
 
-  reads_not_then : {X : Test} (p q : Look) → unread p ≡ true → Reads rule (Lex text) X end (not_then p q) s s (λ us. us) (still 0)
+  pub reads_not_then : {X : Test} (p q : Look) → unread p ≡ true → Reads rule (Lex text) X end (not_then p q) s s (λ us. us) (still 0)
   reads_not_then p q h = left (fails_dead (ahead (lexeme p ▸ look (other q))) (or_left (unread p) _ h)) ▹ looks (other p) (passes_other p h)
 
-statement_left : (f : Flags) → live (rule (at AStatement f)) ≡ alt (such (at Empty f) always) (such (at Labeled f) always)
+pub statement_left : (f : Flags) → live (rule (at AStatement f)) ≡ alt (such (at Empty f) always) (such (at Labeled f) always)
 unfolding rule rule_of apart
 statement_left f = refl
 
-item_left : (f : Flags) → live (rule (at ListItem f)) ≡ alt (such (at AStatement f) always) (not_then (is 'let') (word_or (LCurly ∷ [])) ▸ symbol ExprStmt f)
+pub sub_left : (f : Flags) → live (rule (at Sub f)) ≡ alt (such (at AStatement f) always) (symbol ExprStmt f)
+unfolding rule rule_of apart
+sub_left f = refl
+
+pub item_left : (f : Flags) → live (rule (at ListItem f)) ≡ alt (such (at AStatement f) always) (not_then (is 'let') (word_or (LCurly ∷ [])) ▸ symbol ExprStmt f)
 unfolding rule rule_of apart
 item_left f = refl
 
@@ -297,7 +316,7 @@ pub no_symbol : {text : List ℕ} {n : Symbol} {s : ℕ} → Fails rule (Lex tex
 no_symbol {n = n} r = fails_rule {X' = after_statement n} (λ l cs vs y e. e) r
 
 -- a colon ends an expression
-colon_ends : (b : Bool) → covers (is Colon) (looser 1 b after_expression) ≡ true
+pub colon_ends : (b : Bool) → covers (is Colon) (looser 1 b after_expression) ≡ true
 unfolding covers
 colon_ends true = refl
 colon_ends false = refl
@@ -374,13 +393,19 @@ module _ {text : List ℕ} {f : Flags} {p : Parser} (a : At text f p) (n : p.tok
   unfolding covers apart
   no_statement = fails_rule {X' = plain full} (λ l cs vs y e. (refl, refl)) (subst (λ (g : G). Goes rule (Lex text) (plain full) end (rule (at AStatement f)) p.prev_token_end g p.prev_token_end (λ us. us) (still 0)) (statement_left f) (lives (rule (at AStatement f))) ▹✗ fails_alt (fails_at a {X = plain full} (symbol Empty f) (Semicolon ∷ []) refl (none_of_one Semicolon p.token.kind n)) (nl (plain full)))
 
-  to_statement : Goes rule (Lex text) (after_statement (at ListItem f)) end (rule (at ListItem f)) p.prev_token_end (symbol ExprStmt f) p.prev_token_end (λ us. us) (still 0)
+  pub to_statement : (b : Bool) → Goes rule (Lex text) (after_statement (placed b f)) end (rule (placed b f)) p.prev_token_end (symbol ExprStmt f) p.prev_token_end (λ us. us) (still 0)
   unfolding apart
-  to_statement = subst (λ (g : G). Goes rule (Lex text) (after_statement (at ListItem f)) end (rule (at ListItem f)) p.prev_token_end g p.prev_token_end (λ us. us) (still 0)) (item_left f) (lives (rule (at ListItem f))) ▹ right no_statement ▹ pass_over (reads_not_then (is 'let') (word_or (LCurly ∷ [])) refl)
+  to_statement true = subst (λ (g : G). Goes rule (Lex text) (after_statement (at ListItem f)) end (rule (at ListItem f)) p.prev_token_end g p.prev_token_end (λ us. us) (still 0)) (item_left f) (lives (rule (at ListItem f))) ▹ right no_statement ▹ pass_over (reads_not_then (is 'let') (word_or (LCurly ∷ [])) refl)
+  to_statement false = subst (λ (g : G). Goes rule (Lex text) (after_statement (at Sub f)) end (rule (at Sub f)) p.prev_token_end g p.prev_token_end (λ us. us) (still 0)) (sub_left f) (lives (rule (at Sub f))) ▹ right no_statement
 
 to_expression : {text : List ℕ} (f : Flags) (s : ℕ) → Goes rule (Lex text) (plain no_link) end (if_next (other (is_one_of no_expression)) ▸ not_then (is 'async') function_on_line ▸ not_then (is 'let') (is LBrack) ▸ ended by_edge (symbol Expression f)) s (ended by_edge (symbol Expression f)) s (λ us. us) (still 0)
 unfolding apart
 to_expression f s = pass_over (reads_other (is_one_of no_expression) refl) ▹ pass_over (reads_not_then (is 'async') function_on_line refl) ▹ pass_over (reads_not_then (is 'let') (is LBrack) refl)
+
+-- an expression that was read, where no statement ends behind it
+pub no_expression_ends : {text : List ℕ} {f : Flags} {p q : Parser} (b : Bool) → (x : Answer text f (at Expression f) p q) → Fails rule (Lex text) (plain no_link) end (semicolon (goes_on (row_of x.label x.slots))) q.prev_token_end → Fails rule (Lex text) (after_statement (placed b f)) end (symbol ExprStmt f) p.prev_token_end
+unfolding rule rule_of covers
+no_expression_ends {f = f} {p = p} b x m = fails_rule {X' = plain no_link} (λ l cs vs y e. ((and_parts _ _ e.0).0, refl)) (fails_node (inside_plain refl) (to_expression f p.prev_token_end ▹✗ (to_semicolon (λ ds i j ls mid d. d) (expression_path x) ⟶✗ m)))
 
 -- ---- statements
 
@@ -405,42 +430,47 @@ by_statement {text} {f} {n} {p} {q} {w} {l} {cs} {id} a b e h k = go w.nodes e h
         })
 
 module _ {text : List ℕ} {f : Flags} {p : Parser} (a : At text f p) where
-  empty_path : {q : Parser} → p.token.kind ≡ Semicolon → Moved text f p q → Path text f (after_statement (at ListItem f)) (rule (at ListItem f)) p nothing q (tree (label_here empty_statement no_op p q) end)
+  empty_alone : {X : Test} {q : Parser} → p.token.kind ≡ Semicolon → Moved text f p q → Path text f X (symbol AStatement f) p nothing q (tree (label_here empty_statement no_op p q) end)
   unfolding rule rule_of covers
-  empty_path e s = at_kind a Semicolon e refl ⟼ by_symbol_as {X' = plain full} (λ l cs vs y d. (refl, refl)) (at_kind a Semicolon e refl ⟼ by_symbol_as {X' = plain full} (λ l cs vs y d. (refl, refl)) (noded a (last_token Semicolon a e (plain_semicolon a e s) refl s)))
+  empty_alone e s = by_symbol_as {X' = plain full} (λ l cs vs y d. (refl, refl)) (at_kind a Semicolon e refl ⟼ by_symbol_as {X' = plain full} (λ l cs vs y d. (refl, refl)) (noded a (last_token Semicolon a e (plain_semicolon a e s) refl s)))
 
-  empty_answers : {q : Parser} {id : NodeId} → p.token.kind ≡ Semicolon → LeafTaken node.EmptyStatement op.None text f p q id → Statement text f (at ListItem f) p q id
-  empty_answers {q} {id} e t =
+  empty_path : (b : Bool) {q : Parser} → p.token.kind ≡ Semicolon → Moved text f p q → Path text f (after_statement (placed b f)) (rule (placed b f)) p nothing q (tree (label_here empty_statement no_op p q) end)
+  unfolding rule rule_of covers
+  empty_path true e s = at_kind a Semicolon e refl ⟼ empty_alone e s
+  empty_path false e s = at_kind a Semicolon e refl ⟼ empty_alone e s
+
+  empty_answers : (b : Bool) {q : Parser} {id : NodeId} → p.token.kind ≡ Semicolon → LeafTaken node.EmptyStatement op.None text f p q id → Statement text f (placed b f) p q id
+  empty_answers b {q} {id} e t =
       let l : plain_label node.EmptyStatement op.None p.token.span ≡ label_here empty_statement no_op p t.mid = ap (λ (v : ℕ). record { kind = empty_statement; op = no_op; flags = 0; span = record { from = p.token.span.start; to = v } }) (t.moved.tells.end ∙ t.moved.ends) in
       let ks : Keeps p.nodes t.mid.nodes = subst (λ (ns : List Node). Keeps p.nodes ns) (sym t.moved.nodes) (Keeps-refl p.nodes) in
-      by_statement (subst (λ (v : Label). Path text f (after_statement (at ListItem f)) (rule (at ListItem f)) p nothing t.mid (tree v end)) (sym l) (empty_path e t.moved)) t.moved.same t.made.stays (leaf_held t.made ks) (Keeps-trans ks (Keeps-made t.made.made))
+      by_statement (subst (λ (v : Label). Path text f (after_statement (placed b f)) (rule (placed b f)) p nothing t.mid (tree v end)) (sym l) (empty_path b e t.moved)) t.moved.same t.made.stays (leaf_held t.made ks) (Keeps-trans ks (Keeps-made t.made.made))
 
-  pub empty_outcome : (q : Parser) (r : Result NodeId Stop) → p.token.kind ≡ Semicolon → MatchResult r (λ id. TakesLeaf node.EmptyStatement op.None p q id) OnlyMemory → StatementOutcome text f (at ListItem f) p q r
-  empty_outcome q (Ok id) e m = empty_answers e (m text f a)
-  empty_outcome q (Err Fatal) e m = absurd m
-  empty_outcome q (Err NoMemory) e m = tt
+  pub empty_outcome : (b : Bool) (q : Parser) (r : Result NodeId Stop) → p.token.kind ≡ Semicolon → MatchResult r (λ id. TakesLeaf node.EmptyStatement op.None p q id) OnlyMemory → StatementOutcome text f (placed b f) p q r
+  empty_outcome b q (Ok id) e m = empty_answers b e (m text f a)
+  empty_outcome b q (Err Fatal) e m = absurd m
+  empty_outcome b q (Err NoMemory) e m = tt
 
   module _ (n : p.token.kind ≡ Semicolon → ⊥) (nl : (X : Test) → Fails rule (Lex text) X end (symbol Labeled f) p.prev_token_end) where
-    pub statement_path : {q r : Parser} → f.in_ ≡ true → (x : Answer text f (at Expression f) p q) → EndsStatement q r → Path text f (after_statement (at ListItem f)) (rule (at ListItem f)) p nothing r (tree (label_here expression_statement no_op p r) (tree x.label x.slots end))
+    pub statement_path : (b : Bool) {q r : Parser} → f.in_ ≡ true → (x : Answer text f (at Expression f) p q) → EndsStatement q r → Path text f (after_statement (placed b f)) (rule (placed b f)) p nothing r (tree (label_here expression_statement no_op p r) (tree x.label x.slots end))
     unfolding rule rule_of covers
-    statement_path i x e = to_statement a n nl ⟼ by_symbol_as {X' = plain no_link} (λ l cs vs y d. ((and_parts _ _ d.0).0, refl)) (noded_by a (inside_plain refl) (to_expression f p.prev_token_end ⟼ ended_path i x e))
+    statement_path b i x e = to_statement a n nl b ⟼ by_symbol_as {X' = plain no_link} (λ l cs vs y d. ((and_parts _ _ d.0).0, refl)) (noded_by a (inside_plain refl) (to_expression f p.prev_token_end ⟼ ended_path i x e))
 
-    pub statement_answers : {q r w : Parser} {child id : NodeId} (s : Span) → f.in_ ≡ true → (x : Numbered text f (at Expression f) p q child) → EndsStatement q r → s.start ≡ p.token.span.start → s.end ≡ r.prev_token_end → MadeHere (plain_label node.ExpressionStatement op.None s) (Some child ∷ []) r w id → Statement text f (at ListItem f) p w id
-    statement_answers {q} {r} {w} {child} {id} s i x e b c d =
+    pub statement_answers : (b : Bool) {q r w : Parser} {child id : NodeId} (s : Span) → f.in_ ≡ true → (x : Numbered text f (at Expression f) p q child) → EndsStatement q r → s.start ≡ p.token.span.start → s.end ≡ r.prev_token_end → MadeHere (plain_label node.ExpressionStatement op.None s) (Some child ∷ []) r w id → Statement text f (placed b f) p w id
+    statement_answers k {q} {r} {w} {child} {id} s i x e b c d =
         let l : plain_label node.ExpressionStatement op.None s ≡ label_here expression_statement no_op p r = rw (b, c) refl in
         let made : MadeHere (label_here expression_statement no_op p r) (Some child ∷ []) r w id = subst (λ (v : Label). MadeHere v (Some child ∷ []) r w id) l d in
         let z = ended_so x.answer.at e in
         let ks : Keeps p.nodes r.nodes = subst (λ (ns : List Node). Keeps p.nodes ns) (sym z.nodes) x.keeps in
-        by_statement (statement_path i x.answer e) (same_both x.answer.same z.same) made.stays
+        by_statement (statement_path k i x.answer e) (same_both x.answer.same z.same) made.stays
         (one_held p.nodes made (subst (λ (ns : List Node). Holds ns (length p.nodes) (length ns) child.0 x.answer.label x.answer.slots) (sym z.nodes) x.holds)) (Keeps-trans ks (Keeps-made made.made))
 
-    pub statement_fails : Underived text (at Expression f) p.prev_token_end → NoStatement text (at ListItem f) p.prev_token_end
+    pub statement_fails : (b : Bool) → Underived text (at Expression f) p.prev_token_end → NoStatement text (placed b f) p.prev_token_end
     unfolding rule rule_of covers
-    statement_fails x = no_symbol (to_statement a n nl ▹✗ fails_rule {X' = plain no_link} (λ l cs vs y e. ((and_parts _ _ e.0).0, refl)) (fails_node (inside_plain refl) (to_expression f p.prev_token_end ▹✗ fails_ended x (λ cs j ls mid l d h. expression_ended f no_link d (here ls) h))))
+    statement_fails b x = no_symbol (to_statement a n nl b ▹✗ fails_rule {X' = plain no_link} (λ l cs vs y e. ((and_parts _ _ e.0).0, refl)) (fails_node (inside_plain refl) (to_expression f p.prev_token_end ▹✗ fails_ended x (λ cs j ls mid l d h. expression_ended f no_link d (here ls) h))))
 
-    pub statement_unended : {q : Parser} → Answer text f (at Expression f) p q → NoEnd q → NoStatement text (at ListItem f) p.prev_token_end
+    pub statement_unended : (b : Bool) {q : Parser} → Answer text f (at Expression f) p q → NoEnd q → NoStatement text (placed b f) p.prev_token_end
     unfolding rule rule_of covers
-    statement_unended {q} x m = no_symbol (to_statement a n nl ▹✗ fails_rule {X' = plain no_link} (λ l cs vs y e. ((and_parts _ _ e.0).0, refl)) (fails_node (inside_plain refl) (to_expression f p.prev_token_end ▹✗ (to_semicolon (λ ds i j ls mid d. d) (expression_path x) ⟶✗ unended x.at (goes_on (row_of x.label x.slots)) m))))
+    statement_unended b x m = no_symbol (to_statement a n nl b ▹✗ no_expression_ends b x (unended x.at (goes_on (row_of x.label x.slots)) m))
 
 -- `in` is an operator by the parameters
 pub in_of : {text : List ℕ} {f : Flags} {p : Parser} → At text f p → has_flag in_flag p.ctx ≡ true → f.in_ ≡ true

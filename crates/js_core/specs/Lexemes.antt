@@ -61,6 +61,7 @@ read_sign Question2Eq = true
 read_sign Star2Eq = true
 read_sign Semicolon = true
 read_sign RParen = true
+read_sign RBrack = true
 read_sign _ = false
 
 -- y may be the next lexeme behind the place s, and is one of those

@@ -4,7 +4,7 @@ use Rattle.js_base.specs.declared.diagnostic.Diagnostic.{Diagnostic}
 use Rattle.js_base.specs.declared.diagnostic.DiagnosticKind.TheVariants as fault
 use Rattle.js_base.specs.Kinds.{one_of_kinds}
 use Rattle.js_base.specs.declared.kind.Kind.{Kind}
-use Rattle.js_base.specs.declared.kind.Kind.TheVariants.{Question, Colon, Plus2, Minus2, Eof}
+use Rattle.js_base.specs.declared.kind.Kind.TheVariants.{Question, Colon, Comma, Semicolon, RParen, RBrack, Plus2, Minus2, Eof}
 use Rattle.js_base.specs.declared.span.Span.{Span}
 use Rattle.js_grammar.specs.Grammar.{Lexeme}
 use Rattle.js_grammar.specs.Marks.{LexemeAt, of_kinds}
@@ -61,7 +61,7 @@ AssignsArray start id kept old new r = (text : List ℕ) (f : Flags) (first : Pa
 
 -- What may stand behind an operand that no link and no update goes on with.
 abbrev pub ending_kinds : List Kind
-ending_kinds = Eof ∷ Question ∷ Colon ∷ []
+ending_kinds = Eof ∷ Question ∷ Colon ∷ Comma ∷ Semicolon ∷ RParen ∷ RBrack ∷ []
 
 -- The place is the same; if it is true, a lexeme stands there that ends an operand.
 pub record Ended (text : List ℕ) (f : Flags) (old new : Parser) (b : Bool) : Type 0 where

@@ -1,14 +1,15 @@
 -- What the parse functions of statements answer (ECMA-262, chapter 14).
 use Rattle.std.specs.Prelude.{ℕ, ◌≡◌, ◌<◌, ◌⊎◌, Bool, true, false, not, ◌&&◌, List, [], ◌∷◌, length, Result, Ok, Err}
 use Rattle.js_base.specs.declared.kind.Kind.{Kind}
-use Rattle.js_base.specs.declared.kind.Kind.TheVariants.{Colon, Dot, Ident, QuestionDot}
+use Rattle.js_base.specs.declared.kind.Kind.TheVariants.{Colon, Dot, Ident, QuestionDot, Semicolon}
 use Rattle.js_base.specs.Kinds.{same_kind, one_of_kinds}
+use Rattle.js_base.specs.declared.span.Span.{Span}
 use Rattle.js_base.specs.declared.token.Token.{Token}
 use Rattle.js_grammar.specs.Trees.{Label, Slots, end as no_slots, tree}
 use Rattle.js_grammar.specs.Grammar.{Lexemes, Look, such, nothing}
 use Rattle.js_grammar.specs.Follow.{widest, by_tree}
 use Rattle.js_grammar.specs.Parsing.{Test, Fails, always}
-use Rattle.js_grammar.specs.Productions.{Flags, Symbol}
+use Rattle.js_grammar.specs.Productions.{Flags, Symbol, at, Expression, ListItem, Sub}
 use Rattle.js_grammar.specs.Table.{rule}
 use Rattle.js_tree.specs.declared.id.NodeId.{NodeId}
 use Rattle.js_tree.specs.Holding.{Holds, Keeps}
@@ -17,7 +18,7 @@ use Rattle.js_cursor.specs.Moves.{Ends, MayEnd}
 use Rattle.js_cursor.specs.declared.stop.Stop.{Stop}
 use Rattle.js_core.specs.Lexemes.{Lex, Walked, spot}
 use Rattle.js_core.specs.States.{At, Same}
-use Rattle.js_core.specs.Answers.{Verdict, Stretch, Stops}
+use Rattle.js_core.specs.Answers.{Verdict, Stretch, Stops, Numbered}
 
 -- These begin no statement. Behind `++` and `--` they are no links either, and yet no semicolon is left out before them (12.10).
 abbrev pub link_kinds : List Kind
@@ -56,6 +57,15 @@ StatementOutcome text f n old new (Err e) = Stops old new e (NoStatement text n 
 abbrev pub TakesStatement : (Flags → Symbol) → Parser → Parser → Result NodeId Stop → Type 0
 TakesStatement n old new r = (text : List ℕ) (f : Flags) → At text f old → StatementOutcome text f (n f) old new r
 
+-- a Statement, as an item of a list or as the body of another one: a variable for both
+abbrev pub placed : Bool → Flags → Symbol
+placed true f = at ListItem f
+placed false f = at Sub f
+
+-- the answer of a parse function of what is a Statement wherever it stands
+abbrev pub TakesAnywhere : Parser → Parser → Result NodeId Stop → Type 0
+TakesAnywhere old new r = (b : Bool) → TakesStatement (placed b) old new r
+
 -- a statement's semicolon was passed or left out, and no link stands on a new line
 abbrev pub EndsStatement : Parser → Parser → Type 0
 EndsStatement old new = (old.token.is_on_new_line ≡ true → one_of_kinds link_kinds old.token.kind ≡ false) × Ends old new
@@ -70,3 +80,7 @@ pub record IsLabel (t : Token) (p : Parser) : Type 0 where
 -- a statement doesn't end here
 abbrev pub NoEnd : Parser → Type 0
 NoEnd p = (one_of_kinds link_kinds p.token.kind ≡ true) ⊎ (MayEnd p → ⊥)
+
+-- A label was read as an expression from some state on, up to the old one; with what is read now it is a LabelledStatement. So the answer is of the state where the label began.
+abbrev pub LabelsStatement : Span → Parser → Parser → Result NodeId Stop → Type 0
+LabelsStatement name old new r = (text : List ℕ) (f : Flags) (first : Parser) (id : NodeId) → At text f first → (first.token.kind ≡ Semicolon → ⊥) → name ≡ first.token.span → Numbered text f (at Expression f) first old id → IsLabel first.token old → (b : Bool) → StatementOutcome text f (placed b f) first new r

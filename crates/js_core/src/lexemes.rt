@@ -83,14 +83,20 @@ pub fn is_read_word(kind: Kind) -> bool
 }
 
 /// Whether what stands here is known to end an operand: an operator that groups to the left, a part of a conditional
-/// expression, or the end of the text.
+/// expression, a comma, a semicolon, a closing bracket, or the end of the text.
 pub fn ends_operand<C: ParserConfig>(p: &mut ParserImpl<'_, C>) -> Result<bool, Stop>
     requires { Standing p.old }
     ensures { MatchResult result (λ b. EndsOperand p.old p.new b) OnlyMemory }
 {
     let power = operator_here(p)?;
     match p.cur_kind() {
-        Kind::Eof | Kind::Question | Kind::Colon => Ok(true),
+        Kind::Eof
+        | Kind::Question
+        | Kind::Colon
+        | Kind::Comma
+        | Kind::Semicolon
+        | Kind::RParen
+        | Kind::RBrack => Ok(true),
         _ => Ok(power > 0),
     }
 }
@@ -128,6 +134,7 @@ fn is_read_sign(kind: Kind) -> bool
             | Kind::Star2Eq
             | Kind::Semicolon
             | Kind::RParen
+            | Kind::RBrack
     )
 }
 

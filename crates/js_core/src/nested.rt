@@ -1,9 +1,10 @@
 //! What parse functions call where a production nests.
 
 ghost use Rattle.std.specs.Prelude.{◌≡◌};
-ghost use Rattle.js_grammar.specs.Productions.{at, Assignment, Exponent, Expression, Unary};
+ghost use Rattle.js_grammar.specs.Productions.{at, Assignment, Exponent, Expression, Sub, Unary};
 ghost use Rattle.js_core.specs.Answers.{Answers};
 ghost use Rattle.js_core.specs.Nesting.{Reads};
+ghost use Rattle.js_core.specs.Statements.{TakesStatement};
 
 use js_cursor::{ParserImpl, Stop};
 use js_lex::{ParserConfig, RuntimeParserConfig};
@@ -20,6 +21,8 @@ pub enum Goal {
     Unary,
     /// An ExponentiationExpression.
     Exponentiation,
+    /// A Statement that is the body of another one.
+    Statement,
 }
 
 /// What may be read one level deeper, once a lexeme was passed. So each parse function is proved alone, and one alone
@@ -49,6 +52,11 @@ pub trait Nested<C: ParserConfig> {
     fn exponentiation(&self, p: &mut ParserImpl<'_, C>) -> Result<NodeId, Stop>
         requires { can self.now p.old Goal.Exponentiation }
         ensures { Answers (at Exponent) p.old p.new result };
+
+    /// A Statement that is the body of another one (ECMA-262, chapter 14).
+    fn statement(&self, p: &mut ParserImpl<'_, C>) -> Result<NodeId, Stop>
+        requires { can self.now p.old Goal.Statement }
+        ensures { TakesStatement (at Sub) p.old p.new result };
 }
 
 /// A function that reads whatever is asked for. It is one over the config that is told when the program runs: a bound on
@@ -79,5 +87,10 @@ impl<F: Fn(&mut ParserImpl<'_, RuntimeParserConfig>, Goal) -> Result<NodeId, Sto
     #[inline(always)]
     fn exponentiation(&self, p: &mut ParserImpl<'_, RuntimeParserConfig>) -> Result<NodeId, Stop> {
         (self.0)(p, Goal::Exponentiation)
+    }
+
+    #[inline(always)]
+    fn statement(&self, p: &mut ParserImpl<'_, RuntimeParserConfig>) -> Result<NodeId, Stop> {
+        (self.0)(p, Goal::Statement)
     }
 }

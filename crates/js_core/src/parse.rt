@@ -4,7 +4,7 @@ ghost use Rattle.std.specs.Prelude.{◌≡◌, true, MatchResult};
 ghost use Rattle.js_base.specs.Contexts.{has_flag, in_flag};
 ghost use Rattle.js_grammar.specs.Productions.{at, Assignment, Expression};
 ghost use Rattle.js_core.specs.Answers.{Answers};
-ghost use Rattle.js_core.specs.Nesting.{CanNest, room, symbol_of};
+ghost use Rattle.js_core.specs.Nesting.{CanNest, Reading, Ready, room};
 ghost use Rattle.js_core.specs.StatementLists.{AllRefused, AllTaken};
 ghost use Rattle.js_core.specs.States.{Standing};
 
@@ -12,6 +12,7 @@ use crate::assignment::parse_assignment_expression;
 use crate::nested::{By, Goal, Nested};
 use crate::operators::parse_exponentiation_expression;
 use crate::sequence::parse_sequence_expression;
+use crate::statement::parse_statement;
 use crate::statement_list::parse_directives_and_statements;
 use crate::unary::parse_unary_expression_or_higher;
 use js_cursor::{ParserImpl, Stop};
@@ -27,22 +28,23 @@ pub(crate) fn parse_goal<C: ParserConfig, N: Nested<C>>(
     nested: &N,
     goal: Goal,
 ) -> Result<NodeId, Stop>
-    requires at { Standing p.old }
+    requires at { Ready goal p.old }
     requires nests { CanNest (N.can nested.now) (room p.old) }
-    ensures { Answers (symbol_of goal) p.old p.new result }
+    ensures { Reading goal p.old p.new result }
 {
     match goal {
         Goal::Expression => parse_sequence_expression(p, nested),
         Goal::Assignment => parse_assignment_expression(p, nested),
         Goal::Unary => parse_unary_expression_or_higher(p, nested),
         Goal::Exponentiation => parse_exponentiation_expression(p, nested),
+        Goal::Statement => parse_statement(p, nested),
     }
 }
 
 /// Reads what is asked for, one level deeper.
 fn parse(p: &mut Parser<'_>, goal: Goal) -> Result<NodeId, Stop>
-    requires { Standing p.old }
-    ensures { Answers (symbol_of goal) p.old p.new result }
+    requires { Ready goal p.old }
+    ensures { Reading goal p.old p.new result }
 {
     p.enter()?;
     let node = parse_goal(p, &By(parse), goal)?;

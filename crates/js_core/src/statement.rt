@@ -1,25 +1,26 @@
 //! Statements (ECMA-262, chapter 14).
 
-ghost use Rattle.std.specs.Prelude.{◌≡◌, ◌&&◌, ◌↔◌, IsTrue, true, MatchResult};
+ghost use Rattle.std.specs.Prelude.{◌≡◌, ◌≤◌, ◌&&◌, ◌↔◌, IsTrue, true, MatchResult};
 ghost use Rattle.js_base.specs.Kinds.{one_of_kinds};
 ghost use Rattle.js_base.specs.Contexts.{has_flag, in_flag};
-ghost use Rattle.js_base.specs.declared.kind.Kind.TheVariants.{Semicolon};
-ghost use Rattle.js_grammar.specs.Productions.{at, ListItem};
+ghost use Rattle.js_base.specs.declared.kind.Kind.TheVariants.{Colon, Semicolon};
+ghost use Rattle.js_grammar.specs.Productions.{at, ListItem, Sub};
 ghost use Rattle.js_core.specs.Answers.{Stops};
 ghost use Rattle.js_core.specs.Nesting.{CanNest, room};
 ghost use Rattle.js_core.specs.States.{Standing};
-ghost use Rattle.js_core.specs.Statements.{TakesStatement, EndsStatement, IsLabel, NoEnd, link_kinds};
+ghost use Rattle.js_core.specs.Statements.{EndsStatement, IsLabel, LabelsStatement, NoEnd, TakesAnywhere, TakesStatement, link_kinds};
 
+use crate::lexemes::advance;
 use crate::nested::Nested;
-use crate::nodes::make_one;
+use crate::nodes::{make_leaf, make_one, make_two};
 use crate::primary::parse_leaf;
 use crate::sequence::parse_sequence_expression;
-use js_base::{Kind, Token};
+use js_base::{Kind, Span, Token};
 use js_cursor::{ParserImpl, Stop};
 use js_lex::ParserConfig;
 use js_tree::{NodeId, NodeKind, Op};
 
-/// A StatementListItem (ECMA-262, section 14.2): an EmptyStatement or an ExpressionStatement.
+/// A StatementListItem (ECMA-262, section 14.2), as far as it is a Statement.
 pub fn parse_statement_list_item<C: ParserConfig, N: Nested<C>>(
     p: &mut ParserImpl<'_, C>,
     nested: &N,
@@ -29,24 +30,50 @@ pub fn parse_statement_list_item<C: ParserConfig, N: Nested<C>>(
     requires allows_in { has_flag in_flag p.old.ctx ≡ true }
     ensures { TakesStatement (at ListItem) p.old p.new result }
 {
+    parse_any_statement(p, nested)
+}
+
+/// A Statement that is the body of another one (ECMA-262, chapter 14).
+pub fn parse_statement<C: ParserConfig, N: Nested<C>>(
+    p: &mut ParserImpl<'_, C>,
+    nested: &N,
+) -> Result<NodeId, Stop>
+    requires at { Standing p.old }
+    requires nests { CanNest (N.can nested.now) (room p.old) }
+    requires allows_in { has_flag in_flag p.old.ctx ≡ true }
+    ensures { TakesStatement (at Sub) p.old p.new result }
+{
+    parse_any_statement(p, nested)
+}
+
+/// A Statement, wherever it stands: an EmptyStatement, a LabelledStatement or an ExpressionStatement.
+fn parse_any_statement<C: ParserConfig, N: Nested<C>>(
+    p: &mut ParserImpl<'_, C>,
+    nested: &N,
+) -> Result<NodeId, Stop>
+    requires at { Standing p.old }
+    requires nests { CanNest (N.can nested.now) (room p.old) }
+    requires allows_in { has_flag in_flag p.old.ctx ≡ true }
+    ensures { TakesAnywhere p.old p.new result }
+{
     if p.at(Kind::Semicolon) {
         return parse_empty_statement(p);
     }
-    parse_expression_statement(p, nested)
+    parse_expression_or_labeled_statement(p, nested)
 }
 
 /// An EmptyStatement (ECMA-262, section 14.4).
 fn parse_empty_statement<C: ParserConfig>(p: &mut ParserImpl<'_, C>) -> Result<NodeId, Stop>
     requires at { Standing p.old }
     requires here { p.old.token.kind ≡ Semicolon }
-    ensures { TakesStatement (at ListItem) p.old p.new result }
+    ensures { TakesAnywhere p.old p.new result }
 {
     parse_leaf(p, NodeKind::EmptyStatement, Op::None)
 }
 
 /// An ExpressionStatement (ECMA-262, section 14.5): an expression and its semicolon, which may be left out where the
-/// grammar permits that (12.10). A LabelledStatement isn't read yet: at a label nothing is answered but want of memory.
-fn parse_expression_statement<C: ParserConfig, N: Nested<C>>(
+/// grammar permits that (12.10). Where the expression is a name and a colon stands behind it, it is a label (14.13).
+fn parse_expression_or_labeled_statement<C: ParserConfig, N: Nested<C>>(
     p: &mut ParserImpl<'_, C>,
     nested: &N,
 ) -> Result<NodeId, Stop>
@@ -54,17 +81,38 @@ fn parse_expression_statement<C: ParserConfig, N: Nested<C>>(
     requires nests { CanNest (N.can nested.now) (room p.old) }
     requires allows_in { has_flag in_flag p.old.ctx ≡ true }
     requires other { p.old.token.kind ≡ Semicolon → ⊥ }
-    ensures { TakesStatement (at ListItem) p.old p.new result }
+    ensures { TakesAnywhere p.old p.new result }
 {
     let start = p.cur_start();
     let first = p.cur_token();
     let expression = parse_sequence_expression(p, nested)?;
     if is_label(p, first) {
-        return Err(Stop::NoMemory);
+        return parse_labeled_statement_rest(p, nested, first.span());
     }
     end_statement(p)?;
     let span = p.end_span(start);
     let node = make_one(p, NodeKind::ExpressionStatement, Op::None, span, expression)?;
+    Ok(node)
+}
+
+/// The rest of a LabelledStatement (ECMA-262, section 14.13), behind the name that is its label.
+fn parse_labeled_statement_rest<C: ParserConfig, N: Nested<C>>(
+    p: &mut ParserImpl<'_, C>,
+    nested: &N,
+    name: Span,
+) -> Result<NodeId, Stop>
+    requires at { Standing p.old }
+    requires nests { CanNest (N.can nested.now) (room p.old) }
+    requires allows_in { has_flag in_flag p.old.ctx ≡ true }
+    requires colon { p.old.token.kind ≡ Colon }
+    requires start { name.start ≤ p.old.prev_token_end }
+    ensures { LabelsStatement name p.old p.new result }
+{
+    let label = make_leaf(p, NodeKind::LabelIdentifier, Op::None, name)?;
+    advance(p)?;
+    let body = nested.statement(p)?;
+    let span = p.end_span(name.start);
+    let node = make_two(p, NodeKind::LabeledStatement, Op::None, span, label, body)?;
     Ok(node)
 }
 

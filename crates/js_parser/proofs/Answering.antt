@@ -19,6 +19,10 @@ use Rattle.js_cursor.specs.Parsers.{Parser}
 use Rattle.js_cursor.specs.Places.{IsFault, goal}
 use Rattle.std.proofs.lemmas.Bool.{false≢true}
 use Rattle.js_base.specs.Spans.{LiesIn}
+use Rattle.js_base.specs.declared.token.Token.{Token}
+use Rattle.js_lex.specs.Kept.{LieIn}
+use Rattle.js_lex.specs.declared.comment.Comment.{Comment}
+use Rattle.js_lex.specs.declared.output.LexerOutput.{LexerOutput}
 use Rattle.js_parser.specs.Readings.{HasNoReading, IsOnlyReading, IsMarked, AreOf}
 use Rattle.js_parser.specs.Parsed.{options_of, IsAnswer, IsOverlong}
 use Rattle.js_parser.specs.Taken.{IsOf, FoundNothing, ReadOrNot, ProgramTaken, ProgramRefused, ProgramStops}
@@ -61,20 +65,35 @@ module _ {text : List ℕ} {s : SourceType} {p : Parser} (t : IsOf text s p) whe
   told_all : (kept found : List Diagnostic) → found ≡ kept ++ p.errors → All (IsFault (goal_of s) text) kept → AreOf (goal_of s) text found
   told_all kept found e h = subst (AreOf (goal_of s) text) (sym e) (record { marked = marked_all kept h; lie = All-append (λ d. LiesIn d.span text) kept p.errors (faults_lie kept h) marks_lie })
 
+  -- so do the comments, the white space and the tokens that were kept
+  lies : (kept out : LexerOutput) (told : List Diagnostic) → out ≡ record kept { errors = told ++ p.errors } → LieIn p.lexer.text kept → All (IsFault (goal_of s) text) told → LieIn text out
+  lies kept out told e l h = subst (λ (x : LexerOutput). LieIn text x) (sym e) (record {
+    comments = subst (λ (v : List ℕ). All (λ (c : Comment). LiesIn c.span v) kept.comments) same l.comments;
+    irregular_whitespaces = subst (λ (v : List ℕ). All (λ (c : Span). LiesIn c v) kept.irregular_whitespaces) same l.irregular_whitespaces;
+    tokens = subst (λ (v : List ℕ). All (λ (c : Token). LiesIn c.span v) kept.tokens) same l.tokens;
+    errors = All-append (λ d. LiesIn d.span text) told p.errors (faults_lie told h) marks_lie;
+  })
+    where
+      same : p.lexer.text ≡ text
+      same = t.at.reads ∙ t.text_is
+
 -- nothing was found, or something was
 by_found : (text : List ℕ) (s : SourceType) (o : ParseOptions) (p : Parser) (cs : Slots) (found : List Diagnostic) → found ≡ p.lexer.kept.errors ++ p.errors → ReadOrNot text s o p cs
     → (found ≡ [] → IsOnlyReading text (goal_of s) (options_of o) (program_tree (record { start = 0; end = p.token.span.end }) cs)) × ((found ≡ [] → ⊥) → HasNoReading text (goal_of s) (options_of o))
 by_found text s o p cs found e (inl (z, r)) = (λ x. r, λ n. absurd (n (e ∙ none_of_two p.lexer.kept.errors p.errors z.faults z.errors)))
 by_found text s o p cs found e (inr (z, r)) = (λ x. absurd (z (let k = sym e ∙ x in record { faults = first_empty p.lexer.kept.errors p.errors k; errors = second_empty p.lexer.kept.errors p.errors k })), λ n. r)
 
-pub taken_answer : {text : List ℕ} {s : SourceType} {o : ParseOptions} {p : Parser} {ids : List (Option NodeId)} (span : Span) (nodes : List Node) (found : List Diagnostic) → span.start ≡ 0 → span.end ≡ p.token.span.end → ((cs : Slots) → HoldsAll p.nodes 1 (length p.nodes) ids cs → IsTree nodes (program_tree span cs)) → found ≡ p.lexer.kept.errors ++ p.errors → ProgramTaken text s o p ids → IsAnswer text (goal_of s) (options_of o) nodes found false
-taken_answer {text} {s} {o} {p} {ids} span nodes found a b t e h = record {
-  told = told_all h.is_of p.lexer.kept.errors found e (faults h.is_of);
+pub taken_answer : {text : List ℕ} {s : SourceType} {o : ParseOptions} {p : Parser} {ids : List (Option NodeId)} (span : Span) (nodes : List Node) (out kept : LexerOutput) → span.start ≡ 0 → span.end ≡ p.token.span.end → ((cs : Slots) → HoldsAll p.nodes 1 (length p.nodes) ids cs → IsTree nodes (program_tree span cs)) → out ≡ record kept { errors = p.lexer.kept.errors ++ p.errors } → LieIn p.lexer.text kept → ProgramTaken text s o p ids → IsAnswer text (goal_of s) (options_of o) nodes out false
+taken_answer {text} {s} {o} {p} {ids} span nodes out kept a b t e l h = record {
+  told = told_all h.is_of p.lexer.kept.errors out.errors (ap (λ (x : LexerOutput). x.errors) e) (faults h.is_of);
+  lie = lies h.is_of kept out p.lexer.kept.errors e l (faults h.is_of);
   tree = program_tree (record { start = 0; end = p.token.span.end }) h.slots;
   is_tree = subst (λ (v : Span). IsTree nodes (program_tree v h.slots)) (span_is span a b) (t h.slots h.holds);
-  clean = λ z n. (by_found text s o p h.slots found e (h.outcome n)).0 z;
-  unclean = λ z n. (by_found text s o p h.slots found e (h.outcome n)).1 z;
+  clean = λ z n. (by_found text s o p h.slots out.errors (ap (λ (x : LexerOutput). x.errors) e) (h.outcome n)).0 z;
+  unclean = λ z n. (by_found text s o p h.slots out.errors (ap (λ (x : LexerOutput). x.errors) e) (h.outcome n)).1 z;
   ended = λ q z. false≢true q;
+  childless = λ q. absurd (false≢true q);
+  no_tokens = λ q. absurd (false≢true q);
 }
 
 -- a program without children
@@ -86,18 +105,24 @@ childless {nodes} {ids} ns span z e = subst (λ (ms : List Node). IsTree ms (pro
   children = HoldsAll-none (with_program (program_node span []) ns) 1 (length (with_program (program_node span []) ns)) (omega arith);
 })
 
-pub refused_answer : {text : List ℕ} {s : SourceType} {o : ParseOptions} {p : Parser} {ids : List (Option NodeId)} (ns : List Node) (span : Span) (nodes : List Node) (kept found : List Diagnostic) (n : ℕ) → kept ≡ take n p.lexer.kept.errors → ids ≡ [] → nodes ≡ with_program (program_node span ids) ns → found ≡ kept ++ p.errors → ProgramRefused text s o p → IsAnswer text (goal_of s) (options_of o) nodes found true
-refused_answer {text} {s} {o} {p} {ids} ns span nodes kept found n k z t e h = record {
-  told = told_all h.is_of kept found e (subst (λ (ds : List Diagnostic). All (IsFault (goal_of s) text) ds) (sym k) (All-take (IsFault (goal_of s) text) n p.lexer.kept.errors (faults h.is_of)));
-  tree = program_tree span end;
-  is_tree = childless ns span z t;
+pub refused_answer : {text : List ℕ} {s : SourceType} {o : ParseOptions} {p : Parser} {ids : List (Option NodeId)} (ns : List Node) (span : Span) (nodes : List Node) (faults_told : List Diagnostic) (out kept : LexerOutput) (n : ℕ) → span.start ≡ 0 → span.end ≡ length p.text → faults_told ≡ take n p.lexer.kept.errors → ids ≡ [] → nodes ≡ with_program (program_node span ids) ns → out ≡ record kept { tokens = []; errors = faults_told ++ p.errors } → LieIn p.lexer.text kept → ProgramRefused text s o p → IsAnswer text (goal_of s) (options_of o) nodes out true
+refused_answer {text} {s} {o} {p} {ids} ns span nodes told out kept n a b k z t e l h = record {
+  told = told_all h.is_of told out.errors (ap (λ (x : LexerOutput). x.errors) e) are_faults;
+  lie = lies h.is_of (record kept { tokens = [] }) out told e (record { comments = l.comments; irregular_whitespaces = l.irregular_whitespaces; tokens = All-nil (λ (d : Token). LiesIn d.span p.lexer.text); errors = l.errors }) are_faults;
+  tree = program_tree (record { start = 0; end = length text }) end;
+  is_tree = subst (λ (v : Span). IsTree nodes (program_tree v end)) (span_is span a (b ∙ ap (λ (v : List ℕ). length v) h.is_of.text_is)) (childless ns span z t);
   clean = λ y x. absurd (some y);
   unclean = λ y x. h.none x;
   ended = λ q y. some y;
+  childless = λ q. refl;
+  no_tokens = λ q. ap (λ (x : LexerOutput). x.tokens) e;
 }
   where
-    some : found ≡ [] → ⊥
-    some y = h.some (second_empty kept p.errors (sym e ∙ y))
+    are_faults : All (IsFault (goal_of s) text) told
+    are_faults = subst (λ (ds : List Diagnostic). All (IsFault (goal_of s) text) ds) (sym k) (All-take (IsFault (goal_of s) text) n p.lexer.kept.errors (faults h.is_of))
+
+    some : out.errors ≡ [] → ⊥
+    some y = h.some (second_empty told p.errors (sym (ap (λ (x : LexerOutput). x.errors) e) ∙ y))
 
 pub overlong_answer : {found old : List Diagnostic} {ids : List (Option NodeId)} (span : Span) (nodes ns : List Node) → old ≡ [] → found ≡ old ++ record { kind = OverlongSource; span = span; first = None; second = None } ∷ [] → span.start ≡ 0 → span.end ≡ 0 → ids ≡ [] → ns ≡ empty_program ∷ [] → ((cs : Slots) → HoldsAll ns 1 (length ns) ids cs → IsTree nodes (program_tree span cs)) → IsOverlong nodes found true
 overlong_answer {found} {old} {ids} span nodes ns o e a b z n t = record {

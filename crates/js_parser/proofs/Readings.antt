@@ -21,6 +21,7 @@ use Rattle.js_grammar.proofs.Calculus.{◌▹◌, ◌▹✗◌, right, then_by, 
 use Rattle.js_grammar.proofs.Alike.{lex-same}
 use Rattle.js_lex.specs.Reading.{Tells}
 use Rattle.js_lex.specs.States.{goal_of}
+use Rattle.js_lex.specs.declared.output.LexerOutput.{LexerOutput}
 use Rattle.js_tree.specs.declared.id.NodeId.{NodeId}
 use Rattle.js_tree.specs.Holding.{HoldsAll, program_tree}
 use Rattle.js_cursor.specs.Parsers.{Parser}
@@ -371,5 +372,5 @@ module _ {b : Bool} {p : Parser} (s : Starts p.text p.source_type p.options b p)
 pub starts_itself : {source : List ℕ} {st : SourceType} {o : ParseOptions} {b : Bool} {p : Parser} → Starts source st o b p → (b : Bool) × Starts p.text p.source_type p.options b p
 starts_itself {source} {st} {o} {b} {p} s = (b, subst (λ (t : List ℕ). Starts t p.source_type p.options b p) (sym s.text) (subst (λ (x : SourceType). Starts source x p.options b p) (sym s.source_type) (subst (λ (y : ParseOptions). Starts source st y b p) (sym s.options) s)))
 
-pub answer_for : {source : List ℕ} {st : SourceType} {o : ParseOptions} {b : Bool} {p : Parser} {nodes : List Node} {found : List Diagnostic} {fatal : Bool} → Starts source st o b p → IsAnswer p.text (goal_of p.source_type) (options_of p.options) nodes found fatal → IsAnswer source (goal_of st) (options_of o) nodes found fatal
-answer_for {source} {st} {o} {p = p} {nodes} {found} {fatal} s h = subst (λ (t : List ℕ). IsAnswer t (goal_of st) (options_of o) nodes found fatal) s.text (subst (λ (x : SourceType). IsAnswer p.text (goal_of x) (options_of o) nodes found fatal) s.source_type (subst (λ (y : ParseOptions). IsAnswer p.text (goal_of p.source_type) (options_of y) nodes found fatal) s.options h))
+pub answer_for : {source : List ℕ} {st : SourceType} {o : ParseOptions} {b : Bool} {p : Parser} {nodes : List Node} {out : LexerOutput} {fatal : Bool} → Starts source st o b p → IsAnswer p.text (goal_of p.source_type) (options_of p.options) nodes out fatal → IsAnswer source (goal_of st) (options_of o) nodes out fatal
+answer_for {source} {st} {o} {p = p} {nodes} {out} {fatal} s h = subst (λ (t : List ℕ). IsAnswer t (goal_of st) (options_of o) nodes out fatal) s.text (subst (λ (x : SourceType). IsAnswer p.text (goal_of x) (options_of o) nodes out fatal) s.source_type (subst (λ (y : ParseOptions). IsAnswer p.text (goal_of p.source_type) (options_of y) nodes out fatal) s.options h))

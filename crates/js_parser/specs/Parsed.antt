@@ -5,26 +5,31 @@ use Rattle.js_base.specs.declared.diagnostic.Diagnostic.{Diagnostic}
 use Rattle.js_base.specs.declared.diagnostic.DiagnosticKind.TheVariants.{OverlongSource}
 use Rattle.js_base.specs.declared.options.ParseOptions.{ParseOptions}
 use Rattle.js_base.specs.declared.source_type.SourceType.{SourceType}
-use Rattle.js_grammar.specs.Trees.{Tree}
+use Rattle.js_grammar.specs.Trees.{Tree, end}
 use Rattle.js_grammar.specs.Options.{Options}
 use Rattle.js_grammar.specs.Settings.{Goal}
+use Rattle.js_lex.specs.Kept.{LieIn}
 use Rattle.js_lex.specs.States.{goal_of}
+use Rattle.js_lex.specs.declared.output.LexerOutput.{LexerOutput}
 use Rattle.js_tree.specs.Nodes.{Node}
-use Rattle.js_tree.specs.Holding.{IsTree}
+use Rattle.js_tree.specs.Holding.{IsTree, program_tree}
 use Rattle.js_parser.specs.Readings.{read_at, HasNoReading, IsOnlyReading, HasHashbang, AreOf}
 
 -- options as the grammar speaks of them
 abbrev pub options_of : ParseOptions → Options
 options_of o = record { allow_return = o.allow_return_outside_function; preserve_parens = o.preserve_parens; allow_v8 = o.allow_v8_intrinsics }
 
--- The answer for a text at a goal. Where nothing was found the tree is its only reading; where something was, it has none. Of a text that begins with a hashbang comment neither is claimed.
-pub record IsAnswer (text : List ℕ) (goal : Goal) (o : Options) (nodes : List Node) (found : List Diagnostic) (fatal : Bool) : Type 0 where
-  pub told : AreOf goal text found
+-- The answer for a text at a goal. Where nothing was found the tree is its only reading; where something was, it has none. Of a text that begins with a hashbang comment neither is claimed. All spans of what was kept lie in the text and split no character. After a fatal diagnostic Program has the whole text and no child, and no token was kept.
+pub record IsAnswer (text : List ℕ) (goal : Goal) (o : Options) (nodes : List Node) (out : LexerOutput) (fatal : Bool) : Type 0 where
+  pub told : AreOf goal text out.errors
+  pub lie : LieIn text out
   pub tree : Tree
   pub is_tree : IsTree nodes tree
-  pub clean : found ≡ [] → (HasHashbang text → ⊥) → IsOnlyReading text goal o tree
-  pub unclean : (found ≡ [] → ⊥) → (HasHashbang text → ⊥) → HasNoReading text goal o
-  pub ended : fatal ≡ true → found ≡ [] → ⊥
+  pub clean : out.errors ≡ [] → (HasHashbang text → ⊥) → IsOnlyReading text goal o tree
+  pub unclean : (out.errors ≡ [] → ⊥) → (HasHashbang text → ⊥) → HasNoReading text goal o
+  pub ended : fatal ≡ true → out.errors ≡ [] → ⊥
+  pub childless : fatal ≡ true → tree ≡ program_tree (record { start = 0; end = length text }) end
+  pub no_tokens : fatal ≡ true → out.tokens ≡ []
 
 -- The answer for a text that is too long: nothing of it was read.
 pub record IsOverlong (nodes : List Node) (found : List Diagnostic) (fatal : Bool) : Type 0 where
@@ -33,7 +38,7 @@ pub record IsOverlong (nodes : List Node) (found : List Diagnostic) (fatal : Boo
   pub is_tree : IsTree nodes tree
   pub is_fatal : fatal ≡ true
 
-pub record Answers (text : List ℕ) (given taken : SourceType) (o : ParseOptions) (nodes : List Node) (found : List Diagnostic) (fatal : Bool) : Type 0 where
+pub record Answers (text : List ℕ) (given taken : SourceType) (o : ParseOptions) (nodes : List Node) (out : LexerOutput) (fatal : Bool) : Type 0 where
   pub settled : goal_of taken ≡ read_at (goal_of given)
-  pub short : length text ≤ MAX_LEN → IsAnswer text (read_at (goal_of given)) (options_of o) nodes found fatal
-  pub long : MAX_LEN < length text → IsOverlong nodes found fatal
+  pub short : length text ≤ MAX_LEN → IsAnswer text (read_at (goal_of given)) (options_of o) nodes out fatal
+  pub long : MAX_LEN < length text → IsOverlong nodes out.errors fatal

@@ -53,7 +53,7 @@ pub fn taken(
     p: Parser<'_>,
     items: Vec<Option<NodeId>>,
 ) -> Result<ParserReturn, NoMemory>
-    ensures answer { IfOk result (λ r. (text : List ℕ) (s : SourceType) (o : ParseOptions) → ProgramTaken text s o p.entry items.items → IsAnswer text (goal_of s) (options_of o) r.program.tree r.diagnostics r.fatal_error) }
+    ensures answer { IfOk result (λ r. (text : List ℕ) (s : SourceType) (o : ParseOptions) → ProgramTaken text s o p.entry items.items → IsAnswer text (goal_of s) (options_of o) r.program.tree (record { comments = r.program.comments; irregular_whitespaces = r.irregular_whitespaces; tokens = r.tokens; errors = r.diagnostics }) r.fatal_error) }
     ensures source_type { IfOk result (λ r. r.program.source_type ≡ source_type) }
 {
     let span = Span::new(0, p.cur_token().end());
@@ -80,7 +80,7 @@ pub fn taken(
 /// The answer for a text whose parse a fatal diagnostic ended: a program without children.
 pub fn refused(source_type: SourceType, p: Parser<'_>) -> Result<ParserReturn, NoMemory>
     requires { IsAt p }
-    ensures answer { IfOk result (λ r. (text : List ℕ) (s : SourceType) (o : ParseOptions) → ProgramRefused text s o p.entry → IsAnswer text (goal_of s) (options_of o) r.program.tree r.diagnostics r.fatal_error) }
+    ensures answer { IfOk result (λ r. (text : List ℕ) (s : SourceType) (o : ParseOptions) → ProgramRefused text s o p.entry → IsAnswer text (goal_of s) (options_of o) r.program.tree (record { comments = r.program.comments; irregular_whitespaces = r.irregular_whitespaces; tokens = r.tokens; errors = r.diagnostics }) r.fatal_error) }
     ensures source_type { IfOk result (λ r. r.program.source_type ≡ source_type) }
 {
     let alloc = p.alloc;

@@ -69,7 +69,7 @@ impl<'a, C: ParserConfig> Parser<'a, C> {
     /// Reads the text. Without diagnostics the tree is the only one that Program derives from the text's lexemes; where
     /// something was found, Program derives none. All this of lexemes of the kinds that are read so far.
     pub fn parse(self) -> Result<ParserReturn, NoMemory>
-        ensures { IfOk result (λ r. Answers self.entry.source_text.now self.entry.source_type r.program.source_type self.entry.options r.program.tree r.diagnostics r.fatal_error) }
+        ensures { IfOk result (λ r. Answers self.entry.source_text.now self.entry.source_type r.program.source_type self.entry.options r.program.tree (record { comments = r.program.comments; irregular_whitespaces = r.irregular_whitespaces; tokens = r.tokens; errors = r.diagnostics }) r.fatal_error) }
     {
         let source_type = settled(self.source_type);
         if self.source_text.len() > MAX_LEN {
@@ -108,7 +108,7 @@ fn parse_as(
 ) -> Result<ParserReturn, NoMemory>
     requires short { length source_text.now ≤ MAX_LEN }
     requires named { is_goal source_type ≢ Unambiguous }
-    ensures answer { IfOk result (λ r. IsAnswer source_text.now (goal_of source_type) (options_of options) r.program.tree r.diagnostics r.fatal_error) }
+    ensures answer { IfOk result (λ r. IsAnswer source_text.now (goal_of source_type) (options_of options) r.program.tree (record { comments = r.program.comments; irregular_whitespaces = r.irregular_whitespaces; tokens = r.tokens; errors = r.diagnostics }) r.fatal_error) }
     ensures source_type { IfOk result (λ r. r.program.source_type ≡ source_type) }
 {
     let config = RuntimeParserConfig::new(tokens);

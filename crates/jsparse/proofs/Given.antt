@@ -3,11 +3,11 @@ use Rattle.std.proofs.Common.{ℕ, ◌≡◌, ◌≤◌, List, [], length, Bool,
 use Rattle.std.proofs.Math.Logic.{◌↔◌}
 use Rattle.std.proofs.lemmas.Bool.{false≢true}
 use Rattle.js_base.specs.declared.TheConstants.{MAX_LEN}
-use Rattle.js_base.specs.declared.diagnostic.Diagnostic.{Diagnostic}
 use Rattle.js_base.specs.declared.source_type.SourceType.{SourceType}
 use Rattle.js_base.specs.declared.options.ParseOptions.{ParseOptions}
 use Rattle.js_grammar.specs.Trees.{Tree}
 use Rattle.js_grammar.specs.Lines.{tree_text, diagnostic_text}
+use Rattle.js_lex.specs.declared.output.LexerOutput.{LexerOutput}
 use Rattle.js_tree.specs.Nodes.{Node}
 use Rattle.js_tree.specs.Holding.{IsTree}
 use Rattle.js_parser.specs.Parsed.{Answers}
@@ -15,16 +15,16 @@ use Rattle.jsparse.specs.declared.words.Settings.{Settings}
 use Rattle.jsparse.specs.Outputs.{Accepts, Refuses}
 use Rattle.jsparse.specs.Words.{settings_of}
 
-module _ (s : Settings) {text : List ℕ} {taken : SourceType} {nodes : List Node} {found : List Diagnostic} {fatal : Bool} (a : Answers text s.goal taken s.options nodes found fatal) (short : length text ≤ MAX_LEN) where
-  pub accepts : {out : List ℕ} → found ≡ [] → ((t : Tree) → IsTree nodes t → out ≡ tree_text t) → Accepts (settings_of s) text out
+module _ (s : Settings) {text : List ℕ} {taken : SourceType} {nodes : List Node} {out : LexerOutput} {fatal : Bool} (a : Answers text s.goal taken s.options nodes out fatal) (short : length text ≤ MAX_LEN) where
+  pub accepts : {lines : List ℕ} → out.errors ≡ [] → ((t : Tree) → IsTree nodes t → lines ≡ tree_text t) → Accepts (settings_of s) text lines
   accepts z f = let r = a.short short in record { tree = r.tree; only = λ n. r.clean z n; lines = f r.tree r.is_tree }
 
-  pub refuses : {out : List ℕ} → (found ≡ [] → ⊥) → out ≡ diagnostic_text found → Refuses (settings_of s) text out
-  refuses n e = let r = a.short short in record { found = found; some = n; told = r.told; lines = e; none = λ x. r.unclean n x }
+  pub refuses : {lines : List ℕ} → (out.errors ≡ [] → ⊥) → lines ≡ diagnostic_text out.errors → Refuses (settings_of s) text lines
+  refuses n e = let r = a.short short in record { found = out.errors; some = n; told = r.told; lines = e; none = λ x. r.unclean n x }
 
 -- the parser's own text, goal and options are those that were given
-pub answered : {text source : List ℕ} {given goal taken : SourceType} {asked o : ParseOptions} {nodes : List Node} {found : List Diagnostic} {fatal : Bool} → source ≡ text → goal ≡ given → o ≡ asked → Answers source goal taken o nodes found fatal → Answers text given taken asked nodes found fatal
-answered {text} {given = given} {goal} {taken} {o = o} {nodes} {found} {fatal} e g q a = subst (λ (v : ParseOptions). Answers text given taken v nodes found fatal) q (subst (λ (v : SourceType). Answers text v taken o nodes found fatal) g (subst (λ (v : List ℕ). Answers v goal taken o nodes found fatal) e a))
+pub answered : {text source : List ℕ} {given goal taken : SourceType} {asked o : ParseOptions} {nodes : List Node} {out : LexerOutput} {fatal : Bool} → source ≡ text → goal ≡ given → o ≡ asked → Answers source goal taken o nodes out fatal → Answers text given taken asked nodes out fatal
+answered {text} {given = given} {goal} {taken} {o = o} {nodes} {out} {fatal} e g q a = subst (λ (v : ParseOptions). Answers text given taken v nodes out fatal) q (subst (λ (v : SourceType). Answers text v taken o nodes out fatal) g (subst (λ (v : List ℕ). Answers v goal taken o nodes out fatal) e a))
 
 pub true_of : {b : Bool} {P : Type 0} → IsTrue b ↔ P → b ≡ true → P
 true_of i e = i.0 e

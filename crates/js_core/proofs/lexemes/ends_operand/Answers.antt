@@ -10,7 +10,11 @@ pub returns-in-Eof : goal.returns-in-Eof
 returns-in-Eof t c = λ text f a. ended true (c.in_ok-power.ensures text f a) (λ s. inl (subst (λ (k : Kind). one_of_kinds ending_kinds k ≡ true) c.cur_kind.ensures (elim c.in-Eof.is [
   | inl e ↦ rw e refl
   | inr (inl e) ↦ rw e refl
-  | inr (inr e) ↦ rw e refl
+  | inr (inr (inl e)) ↦ rw e refl
+  | inr (inr (inr (inl e))) ↦ rw e refl
+  | inr (inr (inr (inr (inl e)))) ↦ rw e refl
+  | inr (inr (inr (inr (inr (inl e))))) ↦ rw e refl
+  | inr (inr (inr (inr (inr (inr e))))) ↦ rw e refl
 ])))
 
 pub returns-in_default : goal.returns-in_default

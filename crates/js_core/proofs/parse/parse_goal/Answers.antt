@@ -1,3 +1,7 @@
+use Rattle.std.proofs.Common.{subst}
+use Rattle.js_core.specs.declared.nested.Goal.{Goal}
+use Rattle.js_core.specs.Nesting.{Ready}
+use Rattle.js_core.proofs.Deeper.{ready_at}
 use Rattle.js_core.proofs.parse.parse_goal.Goals as goal
 
 pub returns-in-Assignment : goal.returns-in-Assignment
@@ -11,3 +15,24 @@ returns-in-Exponentiation t c = rw (c.in-Exponentiation.is) c.parse_exponentiati
 
 pub returns-in-Expression : goal.returns-in-Expression
 returns-in-Expression t c = rw (c.in-Expression.is) c.parse_sequence_expression.ensures
+
+pub returns-in-Statement : goal.returns-in-Statement
+returns-in-Statement t c = rw (c.in-Statement.is) c.parse_statement.ensures
+
+pub parse_sequence_expression-requires-clause-at : goal.parse_sequence_expression-requires-clause-at
+parse_sequence_expression-requires-clause-at t c = ready_at c.args.goal c.requires.at
+
+pub parse_assignment_expression-requires-clause-at : goal.parse_assignment_expression-requires-clause-at
+parse_assignment_expression-requires-clause-at t c = ready_at c.args.goal c.requires.at
+
+pub parse_unary_expression_or_higher-requires-clause-at : goal.parse_unary_expression_or_higher-requires-clause-at
+parse_unary_expression_or_higher-requires-clause-at t c = ready_at c.args.goal c.requires.at
+
+pub parse_exponentiation_expression-requires-clause-at : goal.parse_exponentiation_expression-requires-clause-at
+parse_exponentiation_expression-requires-clause-at t c = ready_at c.args.goal c.requires.at
+
+pub parse_statement-requires-clause-at : goal.parse_statement-requires-clause-at
+parse_statement-requires-clause-at t c = ready_at c.args.goal c.requires.at
+
+pub parse_statement-requires-clause-allows_in : goal.parse_statement-requires-clause-allows_in
+parse_statement-requires-clause-allows_in t c = (subst (λ (g : Goal). Ready g c.args.p.now) c.in-Statement.is c.requires.at).1

@@ -5,4 +5,4 @@ pub parse_leaf-requires-clause-whole : goal.parse_leaf-requires-clause-whole
 parse_leaf-requires-clause-whole t c = whole_semicolon c.requires.at c.requires.here
 
 pub returns : goal.returns
-returns t c = λ text f a. empty_outcome a _ c.parse_leaf.result c.requires.here c.parse_leaf.ensures
+returns t c = λ b text f a. empty_outcome a b _ c.parse_leaf.result c.requires.here c.parse_leaf.ensures

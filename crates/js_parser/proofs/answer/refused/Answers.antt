@@ -1,6 +1,8 @@
-use Rattle.std.proofs.Common.{List, [], length, take, ap, subst, ◌++◌, ◌∙◌}
+use Rattle.std.proofs.Common.{List, [], length, take, ap, subst, arith, ◌++◌, ◌∙◌}
+use Rattle.js_cursor.specs.Parsers.{Parser}
 use Rattle.js_base.specs.declared.diagnostic.Diagnostic.{Diagnostic}
 use Rattle.js_grammar.specs.Trees.{Slots}
+use Rattle.js_lex.specs.Kept.{LieIn}
 use Rattle.js_lex.specs.States.{State}
 use Rattle.js_tree.specs.Nodes.{Node}
 use Rattle.js_tree.specs.Holding.{HoldsAll, IsTree, program_tree}
@@ -8,9 +10,12 @@ use Rattle.js_parser.proofs.Answering.{refused_answer}
 use Rattle.js_parser.proofs.answer.refused.Goals as goal
 
 pub returns-clause-answer : goal.returns-clause-answer
-returns-clause-answer c = λ text s o h. refused_answer c.into_parts-parts.result.ast c.new-span.result _ c.fewer_faults-faults.result _ c.fewer_faults-faults.ensures.0
+returns-clause-answer c = λ text s o h. refused_answer c.into_parts-parts.result.ast c.new-span.result _ c.fewer_faults-faults.result _ c.finish-kept.result c.fewer_faults-faults.ensures.0
+    c.new-span.ensures.start
+    (c.new-span.ensures.end ∙ ap (λ (q : Parser). length q.text) c.p.view_is)
     (c.fewer_faults-faults.ensures.1 ∙ (λ i. take c.fewer_faults-faults.ensures.0 ((c.finish-kept.ensures.kept ∙ ap (λ (l : State). l.kept) c.into_parts-parts.ensures.lexer) i).errors))
     c.new.ensures.items
     c.in_ok-tree.ensures.nodes
-    (c.in_ok-diagnostics.ensures ∙ (λ i. c.fewer_faults-faults.result ++ c.into_parts-parts.ensures.errors i))
+    (λ i. record { comments = c.finish-kept.result.comments; irregular_whitespaces = c.finish-kept.result.irregular_whitespaces; tokens = c.new-2.ensures i; errors = (c.in_ok-diagnostics.ensures ∙ (λ j. c.fewer_faults-faults.result ++ c.into_parts-parts.ensures.errors j)) i })
+    (subst (λ (v : State). LieIn v.text c.finish-kept.result) c.into_parts-parts.ensures.lexer c.finish-kept.ensures.lies)
     h
