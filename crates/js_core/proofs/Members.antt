@@ -232,10 +232,10 @@ taken_out {p = p} {q = q} k j e a x = record {
   keeps = x.keeps;
 }
 
-pub taken_back : {text : List ℕ} {f : Flags} {C : Label → Slots → (Lexemes → Lexemes) → ℕ → Type 0} {A : Type 0} {p e q w : Parser} {id : NodeId} → IsAt p → Enters p e → Leaves q w → Taken text f e q id C A → Taken text f p w id C A
-taken_back {text} {f} {C} {A} {p} {e} {q} {w} {id} a h l x =
+pub taken_back : {text : List ℕ} {f : Flags} {C : Label → Slots → (Lexemes → Lexemes) → ℕ → Type 0} {A : Type 0} {k : ℕ} {p e q w : Parser} {id : NodeId} → IsAt p → Enters k p e → Leaves k q w → Taken text f e q id C A → Taken text f p w id C A
+taken_back {text} {f} {C} {A} {k} {p} {e} {q} {w} {id} a h l x =
     let d : w.depth ≡ p.depth = (let a = l.depth in let b = x.same.depth in let c = ap (λ (r : Parser). r.depth) h.is in omega arith) in
-    subst (λ (r : Parser). Taken text f p r id C A) (sym l.is) (taken_out (p.depth + 1) w.depth d a (subst (λ (r : Parser). Taken text f r q id C A) h.is x))
+    subst (λ (r : Parser). Taken text f p r id C A) (sym l.is) (taken_out (p.depth + k) w.depth d a (subst (λ (r : Parser). Taken text f r q id C A) h.is x))
 
 -- ---- links
 
@@ -405,7 +405,7 @@ module _ {text : List ℕ} {f : Flags} {p q : Parser} (a : At text f p) (k : p.t
   pub new_fails : NoMember text f q.prev_token_end → NoMember text f p.prev_token_end
   new_fails z = (none_called (member_lacks f z.0), bare_fails (no_new f z))
 
-  module _ {e r w : Parser} {callee : NodeId} (h : Enters q e) (l : Leaves r w) (x : HeadOutcome text f e r (Ok callee)) where
+  module _ {k : ℕ} {e r w : Parser} {callee : NodeId} (h : Enters k q e) (l : Leaves k r w) (x : HeadOutcome text f e r (Ok callee)) where
     same_place : e.prev_token_end ≡ q.prev_token_end
     same_place = ap (λ (z : Parser). z.prev_token_end) h.is
 
@@ -933,8 +933,8 @@ optional_index_outcome start left q (Ok id) a s m t y = optional_index a s m t y
 optional_index_outcome {text} {f} start left q (Err e) a s m t y = no_optional_index a s m t q e (y text f m.at)
 
 -- what was said one level deeper
-pub entered_stops : {text : List ℕ} {f : Flags} {p q e : Parser} (r : Parser) (i : Stop) → (a : At text f p) → p.token.kind ≡ New → p.token.escaped ≡ false → (m : Moved text f p q) → Enters q e → Stops e r i (NoMember text f e.prev_token_end) → Stops p r i (NoMember text f p.prev_token_end)
-entered_stops {text} {f} {p} {q} {e} r i a k n m h s = stops_behind r i m.same.follows (λ g. grown_then m.kept g) (λ z. new_fails a k n m z) (stops_in r i m.at.at h (λ z. subst (λ (v : ℕ). NoMember text f v) (ap (λ (z : Parser). z.prev_token_end) h.is) z) s)
+pub entered_stops : {k : ℕ} {text : List ℕ} {f : Flags} {p q e : Parser} (r : Parser) (i : Stop) → (a : At text f p) → p.token.kind ≡ New → p.token.escaped ≡ false → (m : Moved text f p q) → Enters k q e → Stops e r i (NoMember text f e.prev_token_end) → Stops p r i (NoMember text f p.prev_token_end)
+entered_stops {text = text} {f = f} {p = p} {q = q} {e = e} r i a k n m h s = stops_behind r i m.same.follows (λ g. grown_then m.kept g) (λ z. new_fails a k n m z) (stops_in r i m.at.at h (λ z. subst (λ (v : ℕ). NoMember text f v) (ap (λ (z : Parser). z.prev_token_end) h.is) z) s)
 
 -- whether a link stands here, by the signs
 pub name_here : {p : Parser} (b : LinkBase) → StandsHere p Dot true → LinkHere p b true

@@ -241,34 +241,34 @@ out_of {q = q} k j e a x = record {
 }
 
 -- one level deeper, and back
-pub deeper : {text : List ℕ} {f : Flags} {p q : Parser} → At text f p → Enters p q → At text f q
-deeper {text} {f} {p} a h = subst (At text f) (sym h.is) (elsewhere p.nodes (p.depth + 1) a)
+pub deeper : {k : ℕ} {text : List ℕ} {f : Flags} {p q : Parser} → At text f p → Enters k p q → At text f q
+deeper {k} {text} {f} {p} a h = subst (At text f) (sym h.is) (elsewhere p.nodes (p.depth + k) a)
 
-pub left : {text : List ℕ} {f : Flags} {n : Symbol} {p e q w : Parser} {id : NodeId} → IsAt p → Enters p e → Leaves q w → Numbered text f n e q id → Numbered text f n p w id
-left {text} {f} {n} {p} {e} {q} {w} {id} a h l x =
+pub left : {k : ℕ} {text : List ℕ} {f : Flags} {n : Symbol} {p e q w : Parser} {id : NodeId} → IsAt p → Enters k p e → Leaves k q w → Numbered text f n e q id → Numbered text f n p w id
+left {k} {text} {f} {n} {p} {e} {q} {w} {id} a h l x =
     let d : w.depth ≡ p.depth = (let a = l.depth in let b = x.answer.same.depth in let c = ap (λ (r : Parser). r.depth) h.is in omega arith) in
-    subst (λ (r : Parser). Numbered text f n p r id) (sym l.is) (out_of (p.depth + 1) w.depth d a (subst (λ (r : Parser). Numbered text f n r q id) h.is x))
+    subst (λ (r : Parser). Numbered text f n p r id) (sym l.is) (out_of (p.depth + k) w.depth d a (subst (λ (r : Parser). Numbered text f n r q id) h.is x))
 
 -- what a call said, of the state before
 pub stops_behind : {p q : Parser} (r : Parser) {F H : Type 0} (e : Stop) → Follows p q → (Grown q.errors r.errors → Grown p.errors r.errors) → (F → H) → Stops q r e F → Stops p r e H
 stops_behind r Fatal g h i s = record { at = s.at; follows = follows_on g s.follows; grown = h s.grown; none = i s.none }
 stops_behind r NoMemory g h i s = tt
 
-pub stops_in : {p q : Parser} (r : Parser) {F H : Type 0} (e : Stop) → IsAt p → Enters p q → (F → H) → Stops q r e F → Stops p r e H
-stops_in {p} {q} r e a h i s = stops_behind r e (entered_on a h).0 (λ g. subst (λ (x : Parser). Grown x.errors r.errors) h.is g) i s
+pub stops_in : {k : ℕ} {p q : Parser} (r : Parser) {F H : Type 0} (e : Stop) → IsAt p → Enters k p q → (F → H) → Stops q r e F → Stops p r e H
+stops_in {p = p} {q = q} r e a h i s = stops_behind r e (entered_on a h).0 (λ g. subst (λ (x : Parser). Grown x.errors r.errors) h.is g) i s
 
 -- whatever the text and the parameters are called
 pub standing : {text : List ℕ} {f : Flags} {p : Parser} → At text f p → Standing p
 standing {text} {f} {p} a = subst (λ (g : Flags). At p.text g p) (sym a.flags_are) (subst (λ (t : List ℕ). At t f p) (sym a.text_is) a)
 
-pub entered_place : {p q : Parser} → Enters p q → q.prev_token_end ≡ p.prev_token_end
+pub entered_place : {k : ℕ} {p q : Parser} → Enters k p q → q.prev_token_end ≡ p.prev_token_end
 entered_place h = ap (λ (r : Parser). r.prev_token_end) h.is
 
-pub entered_text : {p q : Parser} → Enters p q → q.text ≡ p.text
+pub entered_text : {k : ℕ} {p q : Parser} → Enters k p q → q.text ≡ p.text
 entered_text h = ap (λ (r : Parser). r.text) h.is
 
-pub entered_none : {text : List ℕ} {n : Symbol} {p q : Parser} → Enters p q → Underived text n q.prev_token_end → Underived text n p.prev_token_end
-entered_none {text} {n} h x = subst (λ (s : ℕ). Underived text n s) (entered_place h) x
+pub entered_none : {k : ℕ} {text : List ℕ} {n : Symbol} {p q : Parser} → Enters k p q → Underived text n q.prev_token_end → Underived text n p.prev_token_end
+entered_none {text = text} {n = n} h x = subst (λ (s : ℕ). Underived text n s) (entered_place h) x
 
 pub stops_so : (p r : Parser) {F H : Type 0} (e : Stop) → (F → H) → Stops p r e F → Stops p r e H
 stops_so p r e i s = stops_behind r e (follows_itself p) (λ g. g) i s

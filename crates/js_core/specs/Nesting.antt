@@ -17,6 +17,7 @@ abbrev pub Ready : Goal → Parser → Type 0
 Ready goal.Statement p = Standing p × (has_flag in_flag p.ctx ≡ true)
 Ready goal.Expression p = Standing p
 Ready goal.Assignment p = Standing p
+Ready goal.Element p = Standing p
 Ready goal.Unary p = Standing p
 Ready goal.Exponentiation p = Standing p
 
@@ -25,8 +26,18 @@ abbrev pub Reading : Goal → Parser → Parser → Result NodeId Stop → Type 
 Reading goal.Statement old new r = TakesStatement (at Sub) old new r
 Reading goal.Expression old new r = Answers (at Expression) old new r
 Reading goal.Assignment old new r = Answers (at Assignment) old new r
+Reading goal.Element old new r = Answers (at Assignment) old new r
 Reading goal.Unary old new r = Answers (at Unary) old new r
 Reading goal.Exponentiation old new r = Answers (at Exponent) old new r
+
+-- How many levels of depth it takes: what stands between brackets is read through all levels of operators again.
+abbrev pub levels_of : Goal → ℕ
+levels_of goal.Expression = 4
+levels_of goal.Element = 4
+levels_of goal.Assignment = 1
+levels_of goal.Unary = 1
+levels_of goal.Exponentiation = 1
+levels_of goal.Statement = 1
 
 -- how much of the text is left
 abbrev pub room : Parser → ℕ

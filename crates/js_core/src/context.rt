@@ -27,7 +27,7 @@ fn set_context<C: ParserConfig>(p: &mut ParserImpl<'_, C>, ctx: Context)
     p.ctx = ctx;
 }
 
-/// An AssignmentExpression under In, one level deeper.
+/// An AssignmentExpression between brackets, under In.
 pub fn assignment_with_in<C: ParserConfig, N: Nested<C>>(
     p: &mut ParserImpl<'_, C>,
     nested: &N,
@@ -38,7 +38,7 @@ pub fn assignment_with_in<C: ParserConfig, N: Nested<C>>(
 {
     let outer = context(p);
     set_context(p, outer.and_in(true));
-    let assignment = nested.assignment(p)?;
+    let assignment = nested.element(p)?;
     set_context(p, outer);
     Ok(assignment)
 }

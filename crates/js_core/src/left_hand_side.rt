@@ -65,9 +65,9 @@ fn parse_member_expression_or_higher<C: ParserConfig, N: Nested<C>>(
     let start = p.cur_start();
     if stands(p, Kind::New) {
         advance(p)?;
-        p.enter()?;
+        p.enter(1)?;
         let callee = parse_member_expression_or_higher(p, nested)?;
-        p.leave();
+        p.leave(1);
         if stands(p, Kind::QuestionDot) {
             return Err(refuse_chain(p));
         }

@@ -3,7 +3,7 @@
 ghost use Rattle.std.specs.Prelude.{◌≡◌};
 ghost use Rattle.js_grammar.specs.Productions.{at, Assignment, Exponent, Expression, Sub, Unary};
 ghost use Rattle.js_core.specs.Answers.{Answers};
-ghost use Rattle.js_core.specs.Nesting.{Reads};
+ghost use Rattle.js_core.specs.Nesting.{Reads, levels_of};
 ghost use Rattle.js_core.specs.Statements.{TakesStatement};
 
 use js_cursor::{ParserImpl, Stop};
@@ -17,6 +17,8 @@ pub enum Goal {
     Expression,
     /// An AssignmentExpression.
     Assignment,
+    /// An AssignmentExpression between brackets.
+    Element,
     /// A UnaryExpression.
     Unary,
     /// An ExponentiationExpression.
@@ -25,7 +27,20 @@ pub enum Goal {
     Statement,
 }
 
-/// What may be read one level deeper, once a lexeme was passed. So each parse function is proved alone, and one alone
+impl Goal {
+    /// How many levels of depth it takes: what stands between brackets is read through all levels of operators again, and
+    /// takes four times the stack of the others and more.
+    pub(crate) fn levels(self) -> u32
+        ensures { result ≡ levels_of self }
+    {
+        match self {
+            Goal::Expression | Goal::Element => 4,
+            Goal::Assignment | Goal::Unary | Goal::Exponentiation | Goal::Statement => 1,
+        }
+    }
+}
+
+/// What may be read deeper, once a lexeme was passed. So each parse function is proved alone, and one alone
 /// recurses.
 pub trait Nested<C: ParserConfig> {
     ghost use Rattle.js_cursor.specs.Parsers.{Parser};
@@ -41,6 +56,11 @@ pub trait Nested<C: ParserConfig> {
     /// An AssignmentExpression (ECMA-262, section 13.15).
     fn assignment(&self, p: &mut ParserImpl<'_, C>) -> Result<NodeId, Stop>
         requires { can self.now p.old Goal.Assignment }
+        ensures { Answers (at Assignment) p.old p.new result };
+
+    /// An AssignmentExpression between brackets: an argument, an element, the consequent of a conditional expression.
+    fn element(&self, p: &mut ParserImpl<'_, C>) -> Result<NodeId, Stop>
+        requires { can self.now p.old Goal.Element }
         ensures { Answers (at Assignment) p.old p.new result };
 
     /// A UnaryExpression (ECMA-262, section 13.5).
@@ -77,6 +97,11 @@ impl<F: Fn(&mut ParserImpl<'_, RuntimeParserConfig>, Goal) -> Result<NodeId, Sto
     #[inline(always)]
     fn assignment(&self, p: &mut ParserImpl<'_, RuntimeParserConfig>) -> Result<NodeId, Stop> {
         (self.0)(p, Goal::Assignment)
+    }
+
+    #[inline(always)]
+    fn element(&self, p: &mut ParserImpl<'_, RuntimeParserConfig>) -> Result<NodeId, Stop> {
+        (self.0)(p, Goal::Element)
     }
 
     #[inline(always)]

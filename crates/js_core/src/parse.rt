@@ -34,21 +34,22 @@ pub(crate) fn parse_goal<C: ParserConfig, N: Nested<C>>(
 {
     match goal {
         Goal::Expression => parse_sequence_expression(p, nested),
-        Goal::Assignment => parse_assignment_expression(p, nested),
+        Goal::Assignment | Goal::Element => parse_assignment_expression(p, nested),
         Goal::Unary => parse_unary_expression_or_higher(p, nested),
         Goal::Exponentiation => parse_exponentiation_expression(p, nested),
         Goal::Statement => parse_statement(p, nested),
     }
 }
 
-/// Reads what is asked for, one level deeper.
+/// Reads what is asked for, as many levels deeper as that takes.
 fn parse(p: &mut Parser<'_>, goal: Goal) -> Result<NodeId, Stop>
     requires { Ready goal p.old }
     ensures { Reading goal p.old p.new result }
 {
-    p.enter()?;
+    let levels = goal.levels();
+    p.enter(levels)?;
     let node = parse_goal(p, &By(parse), goal)?;
-    p.leave();
+    p.leave(levels);
     Ok(node)
 }
 

@@ -127,11 +127,11 @@ module _ {p : Parser} where
 
   -- ---- calls
 
-  pub entered_on : {q : Parser} → IsAt p → Enters p q → GoesOn p q
-  entered_on {q} a h = subst (GoesOn p) (sym h.is) (fields_set p.nodes p.visits [] p.ctx (p.depth + 1) a (Keeps-refl p.nodes) (sym (append-nil p.visits)))
+  pub entered_on : {k : ℕ} {q : Parser} → IsAt p → Enters k p q → GoesOn p q
+  entered_on {k} {q} a h = subst (GoesOn p) (sym h.is) (fields_set p.nodes p.visits [] p.ctx (p.depth + k) a (Keeps-refl p.nodes) (sym (append-nil p.visits)))
 
-  pub left_on : {q : Parser} → IsAt p → Leaves p q → GoesOn p q
-  left_on {q} a h = subst (GoesOn p) (sym h.is) (fields_set p.nodes p.visits [] p.ctx q.depth a (Keeps-refl p.nodes) (sym (append-nil p.visits)))
+  pub left_on : {k : ℕ} {q : Parser} → IsAt p → Leaves k p q → GoesOn p q
+  left_on {q = q} a h = subst (GoesOn p) (sym h.is) (fields_set p.nodes p.visits [] p.ctx q.depth a (Keeps-refl p.nodes) (sym (append-nil p.visits)))
 
   pub noted_on : {place : ℕ} {q : Parser} → IsAt p → NotesArrow place p q → GoesOn p q
   noted_on {place} {q} a h = subst (GoesOn p) (sym h.is) (notes_set q.state [] [] a (h.noted.covers ∙ sym (append-nil p.state.covers)) (h.noted.commas ∙ sym (append-nil p.state.commas)) (record { covers = subst (λ v. StandBefore v p.token.span.start) (sym h.noted.covers) a.noted.covers; commas = subst (λ v. StandBefore v p.token.span.start) (sym h.noted.commas) a.noted.commas }))

@@ -17,13 +17,13 @@ use Rattle.js_cursor.specs.Moves.{Enters, Leaves}
 at_depth : {p : Parser} (n : ℕ) → IsAt p → IsAt (record p { depth = n })
 at_depth {p} n a = record { reads = a.reads; reads_for = a.reads_for; utf8 = a.utf8; short = a.short; reached = a.reached; between = a.between; token = a.token; lies = a.lies; last = a.last; marked = a.marked; faulty = a.faulty; noted = a.noted }
 
-pub entered_seen : {p q : Parser} → p ≡ q → IsAt q → (n : ℕ) → p.depth < n → (q.depth < n) × Enters q (record p { depth = p.depth + 1 })
-entered_seen {p} {q} v a n l = subst (λ (r : Parser). (r.depth < n) × Enters r (record p { depth = p.depth + 1 })) v (l, record { is = refl; at = at_depth (p.depth + 1) (subst IsAt (sym v) a) })
+pub entered_seen : {p q : Parser} → p ≡ q → IsAt q → (k d n : ℕ) → d ≡ p.depth + k → d ≤ n → (q.depth + k ≤ n) × Enters k q (record p { depth = d })
+entered_seen {p} {q} v a k d n e l = subst (λ (r : Parser). (r.depth + k ≤ n) × Enters k r (record p { depth = d })) v (omega (arith, e), record { is = ap (λ (d : ℕ). record p { depth = d }) e; at = at_depth d (subst IsAt (sym v) a) })
 
-pub left_seen : {p q : Parser} → p ≡ q → IsAt q → 0 < q.depth → Leaves q (record p { depth = p.depth - 1 })
-left_seen {p} {q} v a l =
-    let m : 0 < p.depth = subst (λ (r : Parser). 0 < r.depth) (sym v) l in
-    subst (λ (r : Parser). Leaves r (record p { depth = p.depth - 1 })) v (record { depth = omega arith; is = refl; at = at_depth (p.depth - 1) (subst IsAt (sym v) a) })
+pub left_seen : {p q : Parser} → p ≡ q → IsAt q → (k : ℕ) → k ≤ q.depth → Leaves k q (record p { depth = p.depth - k })
+left_seen {p} {q} v a k l =
+    let m : k ≤ p.depth = subst (λ (r : Parser). k ≤ r.depth) (sym v) l in
+    subst (λ (r : Parser). Leaves k r (record p { depth = p.depth - k })) v (record { depth = omega arith; is = refl; at = at_depth (p.depth - k) (subst IsAt (sym v) a) })
 
 -- ---- back
 

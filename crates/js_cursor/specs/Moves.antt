@@ -140,13 +140,13 @@ pub data IsUnexpected (p : Parser) (d : Diagnostic) : Type 0 where
   a_marker : (p.token.kind ≡ Undetermined → ⊥) → IsMarker p d → IsUnexpected p d
   a_lexeme : (p.token.kind ≡ Undetermined → ⊥) → begins_some_marker p.text (lexeme_of p.token) ≡ false → IsHere UnexpectedToken p None d → IsUnexpected p d
 
--- one level deeper, and one less deep; nothing else changes
-pub record Enters (old new : Parser) : Type 0 where
-  pub is : new ≡ record old { depth = old.depth + 1 }
+-- so many levels deeper, and as many less deep; nothing else changes
+pub record Enters (levels : ℕ) (old new : Parser) : Type 0 where
+  pub is : new ≡ record old { depth = old.depth + levels }
   pub at : IsAt new
 
-pub record Leaves (old new : Parser) : Type 0 where
-  pub depth : new.depth + 1 ≡ old.depth
+pub record Leaves (levels : ℕ) (old new : Parser) : Type 0 where
+  pub depth : new.depth + levels ≡ old.depth
   pub is : new ≡ record old { depth = new.depth }
   pub at : IsAt new
 

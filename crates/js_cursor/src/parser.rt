@@ -75,8 +75,9 @@ impl<'a, C: ParserConfig> Model for ParserImpl<'a, C> {
     ghost view = { λ p. record { text = p.source_text.now; source_type = p.source_type; options = p.options; lexer = p.lexer; token = p.token; cut = p.cut; prev_token_end = p.prev_token_end; nodes = p.ast; visits = p.module_record_builder; state = p.state; ctx = p.ctx; errors = p.errors; depth = p.depth } };
 }
 
-/// How deep productions may be nested: at this depth `enter` answers `NoMemory`, so that no text overflows the stack.
-pub const MAX_DEPTH: u32 = 2000;
+/// How many levels deep productions may be nested: where more are asked for, `enter` answers `NoMemory`, so that no text
+/// overflows the stack.
+pub const MAX_DEPTH: u32 = 16_000;
 
 /// The parameters in force where a text begins.
 fn context_at_start(source_type: SourceType, options: ParseOptions) -> Context
@@ -272,26 +273,27 @@ impl<'a, C: ParserConfig> ParserImpl<'a, C> {
             .note_arrow_failed(self.ctx.has_await(), self.ctx.has_yield(), place)
     }
 
-    /// Goes one production deeper. `NoMemory` exactly at the depth `MAX_DEPTH`, and all then stays.
-    pub fn enter(&mut self) -> Result<(), NoMemory>
+    /// Goes so many levels deeper. `NoMemory` exactly where that is deeper than `MAX_DEPTH`, and all then stays.
+    pub fn enter(&mut self, levels: u32) -> Result<(), NoMemory>
         requires { IsAt self.old }
-        ensures ok { OnOk result ((self.old.depth < MAX_DEPTH) × Enters self.old self.new) }
-        ensures err { OnErr result ((MAX_DEPTH ≤ self.old.depth) × (self.new ≡ self.old)) }
+        ensures ok { OnOk result ((self.old.depth + levels ≤ MAX_DEPTH) × Enters levels self.old self.new) }
+        ensures err { OnErr result ((MAX_DEPTH < self.old.depth + levels) × (self.new ≡ self.old)) }
     {
-        if self.depth >= MAX_DEPTH {
+        let depth = self.depth.saturating_add(levels);
+        if depth > MAX_DEPTH {
             return Err(NoMemory);
         }
-        self.depth += 1;
+        self.depth = depth;
         Ok(())
     }
 
-    /// Comes back from a production that was entered.
-    pub fn leave(&mut self)
+    /// Comes back from so many levels that were entered.
+    pub fn leave(&mut self, levels: u32)
         requires at { IsAt self.old }
-        requires entered { 0 < self.old.depth }
-        ensures { Leaves self.old self.new }
+        requires entered { levels ≤ self.old.depth }
+        ensures { Leaves levels self.old self.new }
     {
-        self.depth -= 1;
+        self.depth -= levels;
     }
 
     /// Takes the parser apart; it takes no memory.

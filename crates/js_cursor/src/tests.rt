@@ -570,7 +570,7 @@ fn go_deeper(p: &mut Parser<'_>) -> Result<(), Stop>
     requires { IsAt p.old }
     ensures { IfOk result (λ _. GoesOn p.old p.new) }
 {
-    p.enter()?;
+    p.enter(1)?;
     Ok(())
 }
 

@@ -6,8 +6,8 @@ use Rattle.js_core.proofs.Contexts.{in_at, out_of_context, stops_in_context}
 use Rattle.js_core.proofs.Moving.{standing}
 use Rattle.js_core.proofs.context.assignment_with_in.Goals as goal
 
-pub assignment-requires : goal.assignment-requires
-assignment-requires t c = c.requires.nests _ _ (standing (in_at c.requires.at c.context-outer.ensures c.and_in.ensures c.set_context.ensures)) (let e = ap room c.set_context.ensures in omega arith)
+pub element-requires : goal.element-requires
+element-requires t c = c.requires.nests _ _ (standing (in_at c.requires.at c.context-outer.ensures c.and_in.ensures c.set_context.ensures)) (let e = ap room c.set_context.ensures in omega arith)
 
 pub returns-in_err-assignment : goal.returns-in_err-assignment
 returns-in_err-assignment t c = λ text f a. let p = err_from_is_err_and c.from_residual.result c.from_residual.ensures.1 in rw (p.1, p.2) (stops_in_context text (at Assignment (plus_in f)) _ _ _ _ _ a.at c.set_context.ensures (c.in_err-assignment.ensures text _ (in_at a c.context-outer.ensures c.and_in.ensures c.set_context.ensures)))

@@ -1,11 +1,14 @@
-use Rattle.std.proofs.Common.{subst}
+use Rattle.std.proofs.Common.{subst, inl, inr}
 use Rattle.js_core.specs.declared.nested.Goal.{Goal}
 use Rattle.js_core.specs.Nesting.{Ready}
 use Rattle.js_core.proofs.Deeper.{ready_at}
 use Rattle.js_core.proofs.parse.parse_goal.Goals as goal
 
 pub returns-in-Assignment : goal.returns-in-Assignment
-returns-in-Assignment t c = rw (c.in-Assignment.is) c.parse_assignment_expression.ensures
+returns-in-Assignment t c = elim c.in-Assignment.is [
+  | inl e ↦ rw e c.parse_assignment_expression.ensures
+  | inr e ↦ rw e c.parse_assignment_expression.ensures
+]
 
 pub returns-in-Unary : goal.returns-in-Unary
 returns-in-Unary t c = rw (c.in-Unary.is) c.parse_unary_expression_or_higher.ensures
