@@ -37,7 +37,7 @@ use Rattle.js_core.proofs.Conditionals.{plain_sign, colon_plain}
 use Rattle.js_core.proofs.Dead.{lives}
 use Rattle.js_core.proofs.Here.{found, uncut}
 use Rattle.js_core.proofs.MadeNodes.{leaf_held, two_held}
-use Rattle.js_core.proofs.Moving.{same_both, same_nodes, beside_nodes, stops_behind}
+use Rattle.js_core.proofs.Moving.{same_both, same_itself, same_with, beside_nodes, stops_behind}
 use Rattle.js_core.proofs.Paths.{Path, ◌⟼◌, ◌⟶◌, ◌⟶✗◌, fails_at, one_read, read_of, token, noded, noded_by, by_symbol_as, label_here}
 use Rattle.js_core.proofs.Statements.{by_statement, no_symbol, none_of_one, no_expression_ends, before_colon, statement_left, item_left, sub_left, pass_over, reads_not_then, colon_ends}
 use Rattle.js_core.proofs.Strings.{name_look, name_node, name_expression}
@@ -223,7 +223,7 @@ module _ {text : List ℕ} {f : Flags} {p q : Parser} {id : NodeId} (a : At text
     labeled = subst (λ (l : Label). MadeHere l [] q w label) (same_label e) made
 
     same_made : Same q w
-    same_made = subst (λ (v : Parser). Same q v) (sym made.stays) (same_nodes w.nodes x.answer.at.at)
+    same_made = subst (λ (v : Parser). Same q v) (sym made.stays) (same_with w.nodes same_itself (Keeps-made made.made))
 
     errors_made : w.errors ≡ q.errors
     errors_made = ap (λ (v : Parser). v.errors) made.stays

@@ -405,7 +405,7 @@ module _ {text : List ℕ} {f : Flags} {p q : Parser} (a : At text f p) (k : p.t
   pub new_fails : NoMember text f q.prev_token_end → NoMember text f p.prev_token_end
   new_fails z = (none_called (member_lacks f z.0), bare_fails (no_new f z))
 
-  module _ {k : ℕ} {e r w : Parser} {callee : NodeId} (h : Enters k q e) (l : Leaves k r w) (x : HeadOutcome text f e r (Ok callee)) where
+  module _ {levels : ℕ} {e r w : Parser} {callee : NodeId} (h : Enters levels q e) (l : Leaves levels r w) (x : HeadOutcome text f e r (Ok callee)) where
     same_place : e.prev_token_end ≡ q.prev_token_end
     same_place = ap (λ (z : Parser). z.prev_token_end) h.is
 
