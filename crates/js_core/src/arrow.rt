@@ -3,6 +3,8 @@
 ghost use Rattle.std.specs.Prelude.{false, ◌≡◌, ◌≤◌, MatchResult, IfOk};
 ghost use Rattle.js_base.specs.declared.kind.Kind.TheVariants.{Arrow, Ident, LParen};
 ghost use Rattle.js_cursor.specs.Moves.{OnlyMemory};
+ghost use Rattle.js_grammar.specs.Productions.{at, Params};
+ghost use Rattle.js_core.specs.Answers.{Answers};
 ghost use Rattle.js_core.specs.Arrows.{ArrowBehind, ChecksLine, FindsHead, Head, IsHead, LooksForHead, NoArrowHere, ReadsBody, Single};
 ghost use Rattle.js_core.specs.Nesting.{CanNest, room};
 ghost use Rattle.js_core.specs.States.{Standing};
@@ -103,7 +105,7 @@ fn parse_parenthesized_head<C: ParserConfig, N: Nested<C>>(
     ensures { MatchResult result (λ found. LooksForHead p.old p.new found) OnlyMemory }
 {
     let kept = kept_so_far(p);
-    match parse_formal_parameters(p, nested) {
+    match attempt_formal_parameters(p, nested) {
         Ok(parameters) => {
             if is_head(p, kept) {
                 Ok(Some(parameters))
@@ -114,6 +116,26 @@ fn parse_parenthesized_head<C: ParserConfig, N: Nested<C>>(
         Err(Stop::Fatal) => Ok(None),
         Err(Stop::NoMemory) => Err(Stop::NoMemory),
     }
+}
+
+/// How many levels of depth an attempt takes. What is read in an attempt that fails is read again, so each attempt within
+/// another one may double the time: four of them fit.
+const ATTEMPT_LEVELS: u32 = 3_500;
+
+/// FormalParameters in parentheses, read as an attempt.
+fn attempt_formal_parameters<C: ParserConfig, N: Nested<C>>(
+    p: &mut ParserImpl<'_, C>,
+    nested: &N,
+) -> Result<NodeId, Stop>
+    requires at { Standing p.old }
+    requires nests { CanNest (N.can nested.now) (room p.old) }
+    requires open { p.old.token.kind ≡ LParen }
+    ensures { Answers (at Params) p.old p.new result }
+{
+    p.enter(ATTEMPT_LEVELS)?;
+    let parameters = parse_formal_parameters(p, nested)?;
+    p.leave(ATTEMPT_LEVELS);
+    Ok(parameters)
 }
 
 /// Whether nothing was told since there were so many diagnostics, and `=>` stands here.
