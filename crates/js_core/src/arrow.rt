@@ -120,7 +120,7 @@ fn parse_parenthesized_head<C: ParserConfig, N: Nested<C>>(
 
 /// How many levels of depth an attempt takes. What is read in an attempt that fails is read again, so each attempt within
 /// another one may double the time: four of them fit.
-const ATTEMPT_LEVELS: u32 = 3_500;
+const ATTEMPT_LEVELS: u32 = 1_700;
 
 /// FormalParameters in parentheses, read as an attempt.
 fn attempt_formal_parameters<C: ParserConfig, N: Nested<C>>(
