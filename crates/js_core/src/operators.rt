@@ -21,6 +21,7 @@ ghost use Rattle.js_core.specs.Nesting.{CanNest, room};
 ghost use Rattle.js_core.specs.Operators.{power_of};
 ghost use Rattle.js_core.specs.States.{Standing};
 
+use crate::cover::kept_so_far;
 use crate::lexemes::{advance, operator_here, reads_here};
 use crate::nested::Nested;
 use crate::nodes::make_two;
@@ -44,7 +45,7 @@ pub fn parse_binary_expression_or_higher<C: ParserConfig, N: Nested<C>>(
     ensures { Answers (at Short) p.old p.new result }
 {
     let start = p.cur_start();
-    let found = found_so_far(p);
+    let found = kept_so_far(p);
     let mut left = parse_operators(p, nested, 5)?;
     'operands: while p.at(Kind::Question2) {
         advance(p)?;
@@ -98,7 +99,7 @@ fn check_mixed<C: ParserConfig>(
     requires mark { mixed ≡ true → found ≡ length p.old.errors → (y : Lexeme) → Lex p.old.text p.old.prev_token_end y → Mark (goal p.old) p.old.text (mixed_at start p.old.prev_token_end) }
     ensures { ChecksMixed start mixed found p.old p.new result }
 {
-    if !mixed || found_so_far(p) != found {
+    if !mixed || kept_so_far(p) != found {
         return Ok(());
     }
     if !reads_here(p) {
@@ -168,7 +169,7 @@ pub fn parse_exponentiation_expression<C: ParserConfig, N: Nested<C>>(
 {
     let start = p.cur_start();
     let is_unary = p.cur_kind().is_unary_operator();
-    let found = found_so_far(p);
+    let found = kept_so_far(p);
     let base = parse_unary_expression_or_higher(p, nested)?;
     if !p.at(Kind::Star2) {
         return Ok(base);
@@ -180,13 +181,6 @@ pub fn parse_exponentiation_expression<C: ParserConfig, N: Nested<C>>(
     let op = Op::Binary(BinaryOperator::Exponential);
     let node = make_two(p, NodeKind::BinaryExpression, op, span, base, exponent)?;
     Ok(node)
-}
-
-/// How many diagnostics were kept so far.
-fn found_so_far<C: ParserConfig>(p: &ParserImpl<'_, C>) -> usize
-    ensures { result ≡ length p.now.errors }
-{
-    p.errors.len()
 }
 
 /// Tells of a base before `**` that begins with a unary operator, unless something was found in it: then it is no
@@ -202,7 +196,7 @@ fn check_base<C: ParserConfig>(
     requires mark { is_unary ≡ true → found ≡ length p.old.errors → Mark (goal p.old) p.old.text (unary_base start p.old.prev_token_end) }
     ensures { IfOk result (λ _. ChecksBase start is_unary found p.old p.new) }
 {
-    if is_unary && found_so_far(p) == found {
+    if is_unary && kept_so_far(p) == found {
         p.error(Diagnostic {
             kind: DiagnosticKind::UnaryExponentiationLeftOperand,
             span: p.end_span(start),

@@ -69,7 +69,7 @@ check_mixed-requires-clause-mark g c =
       | then-is_or_and w ↦ mixed_then s k m x (c.is_or_and.ensures _ _ _ _ (left_held s k m x)) w.if-is_or_and.true w.mixed-is
       | else-is_or_and w ↦ mixed_else s k m x (c.is_or_and.ensures _ _ _ _ (left_held s k m x)) w.if-is_or_and.false w.mixed-is (w.is_or_and-mixed.ensures _ _ _ _ x.holds)
     ] in
-    mixed_marked_so s k m x c.requires.at e c.cur_start-start.ensures c.found_so_far-found.ensures
+    mixed_marked_so s k m x c.requires.at e c.cur_start-start.ensures c.kept_so_far-found.ensures
 
 pub returns-in_err-check_mixed : goal.returns-in_err-check_mixed
 returns-in_err-check_mixed g c = λ text f a.
@@ -82,7 +82,7 @@ returns-in_err-check_mixed g c = λ text f a.
       | then-is_or_and w ↦ mixed_then s k m x (c.is_or_and.ensures _ _ _ _ (left_held s k m x)) w.if-is_or_and.true w.mixed-is
       | else-is_or_and w ↦ mixed_else s k m x (c.is_or_and.ensures _ _ _ _ (left_held s k m x)) w.if-is_or_and.false w.mixed-is (w.is_or_and-mixed.ensures _ _ _ _ x.holds)
     ] in
-    fixed (at Short) _ _ a (rw (p.1, p.2) (mixed_stops s k m x c.cur_start-start.result c.found_so_far-found.result _ _ e c.in_err-check_mixed.ensures))
+    fixed (at Short) _ _ a (rw (p.1, p.2) (mixed_stops s k m x c.cur_start-start.result c.kept_so_far-found.result _ _ e c.in_err-check_mixed.ensures))
 
 pub make_coalesce-requires : goal.make_coalesce-requires
 make_coalesce-requires g c =
@@ -94,7 +94,7 @@ make_coalesce-requires g c =
       | then-is_or_and w ↦ mixed_then s k m x (c.is_or_and.ensures _ _ _ _ (left_held s k m x)) w.if-is_or_and.true w.mixed-is
       | else-is_or_and w ↦ mixed_else s k m x (c.is_or_and.ensures _ _ _ _ (left_held s k m x)) w.if-is_or_and.false w.mixed-is (w.is_or_and-mixed.ensures _ _ _ _ x.holds)
     ] in
-    let d = checked s k m x c.requires.at e c.found_so_far-found.ensures c.in_ok-check_mixed.ensures in
+    let d = checked s k m x c.requires.at e c.kept_so_far-found.ensures c.in_ok-check_mixed.ensures in
     let h = d.place in let i = start_before s k m x in let j = c.cur_start-start.ensures in omega arith
 
 pub operands-smaller : goal.operands-smaller
@@ -107,7 +107,7 @@ operands-smaller g c =
       | then-is_or_and w ↦ mixed_then s k m x (c.is_or_and.ensures _ _ _ _ (left_held s k m x)) w.if-is_or_and.true w.mixed-is
       | else-is_or_and w ↦ mixed_else s k m x (c.is_or_and.ensures _ _ _ _ (left_held s k m x)) w.if-is_or_and.false w.mixed-is (w.is_or_and-mixed.ensures _ _ _ _ x.holds)
     ] in
-    let d = checked s k m x c.requires.at e c.found_so_far-found.ensures c.in_ok-check_mixed.ensures in
+    let d = checked s k m x c.requires.at e c.kept_so_far-found.ensures c.in_ok-check_mixed.ensures in
     smaller s k m x d c.in_ok-left-2.ensures
 
 pub operands-preserved : goal.operands-preserved
@@ -120,7 +120,7 @@ operands-preserved g c =
       | then-is_or_and w ↦ mixed_then s k m x (c.is_or_and.ensures _ _ _ _ (left_held s k m x)) w.if-is_or_and.true w.mixed-is
       | else-is_or_and w ↦ mixed_else s k m x (c.is_or_and.ensures _ _ _ _ (left_held s k m x)) w.if-is_or_and.false w.mixed-is (w.is_or_and-mixed.ensures _ _ _ _ x.holds)
     ] in
-    let d = checked s k m x c.requires.at e c.found_so_far-found.ensures c.in_ok-check_mixed.ensures in
+    let d = checked s k m x c.requires.at e c.kept_so_far-found.ensures c.in_ok-check_mixed.ensures in
     operands_step s k m x d (made_pair s k m x d c.cur_start-start.ensures c.in_ok-left-2.ensures)
 
 pub returns : goal.returns
