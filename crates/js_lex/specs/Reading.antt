@@ -107,6 +107,14 @@ pub record GivesNext (goal : LexicalGoal) (old new : State) (t : Token) : Type 0
   pub grows : Grows old.kept new.kept (each_at (comment_at t.span.start) old.place pieces) (each_at irregular_at old.place pieces) (kept_token old.keeps_tokens t) (each_at (html_fault_at (in_a_module old.goal)) old.place pieces ++ faults)
   pub marked : All (λ d. FaultyBehind d.kind old.goal old.text old.place d.span.start d.span.end) (each_at (html_fault_at (in_a_module old.goal)) old.place pieces)
 
+-- the token that stands behind a place of a text, as the next one there
+pub record GivesBehind (text : List ℕ) (place : ℕ) (t : Token) : Type 0 where
+  pub before : State
+  pub after : State
+  pub text_is : before.text ≡ text
+  pub place_is : before.place ≡ place
+  pub next : GivesNext division before after t
+
 -- The first token: a hashbang comment, behind which nothing is kept, where one stands at the text's start; else the next token.
 pub record GivesHashbang (old new : State) (t : Token) : Type 0 where
   pub same : SameText old new

@@ -14,7 +14,7 @@ ghost use Rattle.js_grammar.specs.CommentMarks.{is_pure_comment, is_no_side_effe
 ghost use Rattle.js_lex.specs.Comments.{has_before};
 ghost use Rattle.js_lex.specs.Kept.{IsEmpty, LieIn, lengths_of, first_kept, AreAtMost};
 ghost use Rattle.js_lex.specs.States.{State, goal_of, SameText};
-ghost use Rattle.js_lex.specs.Reading.{GivesNext, GivesFirst, GivesAgain, WasGiven, FlagsStand};
+ghost use Rattle.js_lex.specs.Reading.{GivesNext, GivesFirst, GivesBehind, GivesAgain, WasGiven, FlagsStand};
 ghost use Rattle.js_lex.specs.Settling.{Fits, HasFlags, SettledBehind, ScanEnds};
 
 use crate::checkpoint::LexerCheckpoint;
@@ -123,6 +123,17 @@ impl<'a, C: LexerConfig> Lexer<'a, C> {
         let token = self.next_token();
         self.rewind(here);
         token
+    }
+
+    /// What stands behind a place between characters, as `next_token` would give it there; nothing moves and nothing is
+    /// kept.
+    pub fn token_behind(&self, place: u32) -> Result<Token, NoMemory>
+        requires { IsCharBoundary self.now.text place }
+        ensures { IfOk result (λ t. GivesBehind self.now.text place t) }
+    {
+        let mut kept = LexerOutput::new(self.alloc);
+        let at = place as usize;
+        read_plain(self.source_text, self.source_type, false, at, &mut kept)
     }
 
     /// Reads the slash or `/=` that was given last as a regular expression. The answer is its token and the place at
