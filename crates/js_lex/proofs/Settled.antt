@@ -24,6 +24,7 @@ use Rattle.js_grammar.proofs.Alike.{stands-same, lex-same}
 use Rattle.js_grammar.proofs.CorePlain.{no_backslash, points-append}
 use Rattle.js_grammar.proofs.Finding.{member}
 use Rattle.js_lex.specs.Faults.{fault_kind, Reaches}
+use Rattle.js_lex.specs.Settling.{GivesAtOnce}
 use Rattle.js_lex.specs.States.{State}
 use Rattle.js_lex.specs.Reading.{cut, LexemeBehind, GivesLexeme, GivesNone, Outcome, GivesNext}
 use Rattle.js_lex.proofs.Parts.{parts_same}
@@ -270,3 +271,7 @@ next_same old a b t u g h = by (same_kind Undetermined t.kind) (same_kind Undete
 pub ok_only : (old mid : State) {E : Type 0} (r : Result Token E) → IfOk r (λ t. GivesNext division old mid t) → IfOk r (λ t. (after : State) (u : Token) → GivesNext division old after u → u ≡ t)
 ok_only old mid (Ok t) h = λ after u g. next_same old after mid u t g h
 ok_only old mid (Err e) h = tt
+
+-- where a token is given at once, nothing is kept
+pub at_once : (q : State) (text : List ℕ) (s : ℕ) (t : Token) → q.text ≡ text → q.place ≡ s → GivesAtOnce text s t → q.keeps_tokens ≡ false → GivesNext division q (record q { place = t.span.end }) t
+at_once q text s t w p h e = subst (λ (b : Bool). GivesNext division (record q { keeps_tokens = b }) (record q { keeps_tokens = b; place = t.span.end }) t) (sym e) (subst (λ (v : List ℕ). GivesNext division (record q { keeps_tokens = false; text = v }) (record q { keeps_tokens = false; text = v; place = t.span.end }) t) (sym w) (subst (λ (v : ℕ). GivesNext division (record q { keeps_tokens = false; text = text; place = v }) (record q { keeps_tokens = false; text = text; place = t.span.end }) t) (sym p) (h q.goal q.kept)))

@@ -119,6 +119,11 @@ impl<'a, C: LexerConfig> Lexer<'a, C> {
         ensures only { IfOk result (λ t. (after : State) (u : Token) → GivesNext division self.old after u → u ≡ t) }
         ensures same { self.new ≡ self.old }
     {
+        if !self.config.tokens() {
+            if let Some(token) = quick_at(self.source_text, self.place) {
+                return Ok(token);
+            }
+        }
         let here = self.checkpoint();
         let token = self.next_token();
         self.rewind(here);

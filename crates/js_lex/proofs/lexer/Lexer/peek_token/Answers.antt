@@ -1,7 +1,8 @@
-use Rattle.std.proofs.Common.{sym, subst}
+use Rattle.std.proofs.Common.{sym, subst, ap, ◌∙◌}
+use Rattle.js_lex.specs.States.{State}
 use Rattle.std.specs.Prelude.{IsCharBoundary}
 use Rattle.js_lex.proofs.Giving.{text_stays}
-use Rattle.js_lex.proofs.Settled.{ok_only}
+use Rattle.js_lex.proofs.Settled.{at_once, next_same, ok_only}
 use Rattle.js_lex.proofs.lexer.Lexer.peek_token.Goals as goal
 
 pub rewind-requires-clause-between : goal.rewind-requires-clause-between
@@ -9,3 +10,9 @@ rewind-requires-clause-between g c = subst (λ (v : Rattle.std.specs.Prelude.Lis
 
 pub returns-clause-only : goal.returns-clause-only
 returns-clause-only g c = ok_only _ _ c.next_token-token.result c.next_token-token.ensures.ok
+
+pub returns-in-Some-clause-ok : goal.returns-in-Some-clause-ok
+returns-in-Some-clause-ok g c = (record c.args.self.now { place = c.in-Some.token.span.end }, at_once c.args.self.now _ _ c.in-Some.token (sym (ap (λ (q : State). q.text) c.self.view_is)) (sym (ap (λ (q : State). q.place) c.self.view_is)) c.in-Some.ensures.gives (sym (ap (λ (q : State). q.keeps_tokens) c.self.view_is) ∙ (sym c.tokens.ensures ∙ c.if-not-tokens.true)))
+
+pub returns-in-Some-clause-only : goal.returns-in-Some-clause-only
+returns-in-Some-clause-only g c = λ after u h. next_same c.args.self.now after (let x = returns-in-Some-clause-ok g c in x.0) u c.in-Some.token h (let x = returns-in-Some-clause-ok g c in x.1)
