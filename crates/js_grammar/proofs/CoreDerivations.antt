@@ -33,7 +33,7 @@ some_at p (c ∷ cs) k h e = go (same_kind c k) refl h (λ r. some_at p cs k r e
     go true q r f = or_left _ _ (subst (λ v. p v ≡ true) (sym (kind_of_same c k q)) e)
     go false q r f = or_right _ _ (f r)
 
-every_at : (p : Kind → Bool) (ks : List Kind) (k : Kind) → one_of_kinds ks k ≡ true → every_kind p ks ≡ true → p k ≡ true
+pub every_at : (p : Kind → Bool) (ks : List Kind) (k : Kind) → one_of_kinds ks k ≡ true → every_kind p ks ≡ true → p k ≡ true
 every_at p [] k h e = absurd (false≢true h)
 every_at p (c ∷ cs) k h e = go (same_kind c k) refl h (λ r. every_at p cs k r (and_parts _ _ e).1)
   where
@@ -62,7 +62,7 @@ core_here (last x) c = c
 core_here (next x ls) c = c.0
 
 -- what is left is core lexemes still
-stays : {r : Symbol → G} {g : G} {ks ts us : Slots} {i j : ℕ} {ls rest : Lexemes} → Takes r g ks ts i ls us j rest → AllCore ls → AllCore rest
+pub stays : {r : Symbol → G} {g : G} {ks ts us : Slots} {i j : ℕ} {ls rest : Lexemes} → Takes r g ks ts i ls us j rest → AllCore ls → AllCore rest
 stays is_nothing c = c
 stays (is_lexeme p) c = c.1
 stays (is_look p) c = c

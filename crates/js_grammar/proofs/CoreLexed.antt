@@ -4,7 +4,7 @@ use Rattle.std.specs.Prelude.{chars, codes, IsUtf8}
 use Rattle.js_base.specs.declared.kind.Kind.{Kind}
 use Rattle.js_base.specs.declared.kind.Kind.TheVariants.{Eof, RegExp}
 use Rattle.js_base.specs.Kinds.{code, same_kind, one_of_kinds}
-use Rattle.js_grammar.specs.Grammar.{Lexeme, Lexemes, last, next}
+use Rattle.js_grammar.specs.Grammar.{Lexeme, Lexemes, last, next, here}
 use Rattle.js_base.specs.Texts.{words}
 use Rattle.js_base.specs.Characters.{one_of}
 use Rattle.js_grammar.specs.Characters.{width}
@@ -102,6 +102,7 @@ pub record Tail (text : List ℕ) (s : ℕ) : Type 0 where
   pub lexes : (p : Passing) → Lexes (Lex p text) s list
   pub once : ends_once list ≡ true
   pub only : (p : Passing) (ms : Lexemes) → Lexes (Lex p text) s ms → ends_once ms ≡ true → ms ≡ list
+  pub first : (p : Passing) (y : Lexeme) → Lex p text s y → y ≡ here list
 
 -- one lexeme stands there, whichever faults pass
 pub record Single (text : List ℕ) (s : ℕ) (x : Lexeme) : Type 0 where
@@ -109,7 +110,7 @@ pub record Single (text : List ℕ) (s : ℕ) (x : Lexeme) : Type 0 where
   pub only : (p : Passing) (y : Lexeme) → Lex p text s y → y ≡ x
 
 pub tail_end : (text : List ℕ) (s : ℕ) (x : Lexeme) → Single text s x → same_kind Eof x.kind ≡ true → Tail text s
-tail_end text s x h e = record { list = last x; lexes = h.stands; once = e; only = go }
+tail_end text s x h e = record { list = last x; lexes = h.stands; once = e; only = go; first = h.only }
   where
     go : (p : Passing) (ms : Lexemes) → Lexes (Lex p text) s ms → ends_once ms ≡ true → ms ≡ last x
     go p (last y) l o = ap (λ (a : Lexeme). last a) (h.only p y l)
@@ -120,7 +121,7 @@ tail_end text s x h e = record { list = last x; lexes = h.stands; once = e; only
         absurd (let a = k in let b = n in cc)
 
 pub tail_next : (text : List ℕ) (s : ℕ) (x : Lexeme) → Single text s x → same_kind Eof x.kind ≡ false → Tail text x.to → Tail text s
-tail_next text s x h e t = record { list = next x t.list; lexes = λ p. (h.stands p, t.lexes p); once = both (not (same_kind Eof x.kind)) (ends_once t.list) (rw e refl) t.once; only = go }
+tail_next text s x h e t = record { list = next x t.list; lexes = λ p. (h.stands p, t.lexes p); once = both (not (same_kind Eof x.kind)) (ends_once t.list) (rw e refl) t.once; only = go; first = h.only }
   where
     go : (p : Passing) (ms : Lexemes) → Lexes (Lex p text) s ms → ends_once ms ≡ true → ms ≡ next x t.list
     go p (last y) l o =
@@ -216,3 +217,11 @@ core_text text u c =
 
 pub core_lexemes : CoreLexemes
 core_lexemes text u c g ls h = let t = built text u c in subst AllCore (sym (t.0.only (passing_of g) ls h.lexes h.ends)) t.1
+
+-- at the text's start stands a core lexeme alone
+pub core_first : (text : List ℕ) → IsUtf8 text → CoreSource text → (p : Passing) (y : Lexeme) → Lex p text 0 y → core_lexeme y ≡ true
+core_first text u c p y l = let t = built text u c in subst (λ (x : Lexeme). core_lexeme x ≡ true) (sym (t.0.first p y l)) (first_of t.0.list t.1)
+  where
+    first_of : (ls : Lexemes) → AllCore ls → core_lexeme (here ls) ≡ true
+    first_of (last x) a = a
+    first_of (next x ls) a = a.0

@@ -88,7 +88,7 @@ abbrev is_template : NodeKind → Bool
 is_template template_literal = true
 is_template _ = false
 
-abbrev cooked_at : List ℕ → Place → Slots → Bool
+abbrev pub cooked_at : List ℕ → Place → Slots → Bool
 cooked_at text p end = true
 cooked_at text p (hole us) = cooked_at text p us
 cooked_at text p (tree l cs us) = (is_tagged p || (not (is_template l.kind) || parts_cooked text cs)) && (cooked_at text (within l.kind) cs && cooked_at text (past p) us)

@@ -38,6 +38,7 @@ pub mod Pruning
 pub mod CoreGrammar
 pub mod CoreReadings
 pub mod Readings
+pub mod CoreLaws
 pub mod Marks
 pub mod Derivations
 pub mod PureMarks

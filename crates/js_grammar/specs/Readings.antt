@@ -33,7 +33,7 @@ pub record IsWholeWithoutParens (n : Name) (text : List ℕ) (goal : Goal) (o : 
   pub whole : IsWhole n text goal o kept
   pub dropped : without_pure t ≡ without_pure (lacks_parens kept)
 
-abbrev whole_by : Bool → Name → List ℕ → Goal → Options → Tree → Type 0
+abbrev pub whole_by : Bool → Name → List ℕ → Goal → Options → Tree → Type 0
 whole_by true n text goal o t = IsWhole n text goal o t
 whole_by false n text goal o t = IsWholeWithoutParens n text goal o t
 

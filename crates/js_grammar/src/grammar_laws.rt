@@ -1,6 +1,7 @@
 //! Laws about the grammar of the whole language.
 
 ghost use Rattle.js_grammar.specs.CoreReadings.{CoreLines, CoreOmission, CoreDerivations, CoreLexemes, CoreReading};
+ghost use Rattle.js_grammar.specs.CoreLaws.{CoreParameters, CoreValidity};
 
 /// Each line of the core grammar is the line of the whole one, cut down to core lexemes.
 pub fn law_of_core_lines()
@@ -25,4 +26,14 @@ pub fn law_of_core_derivations()
 /// A tree is a reading of a core text exactly where the whole grammar derives it from the text's lexemes.
 pub fn law_of_core_readings()
     ensures { CoreReading }
+{}
+
+/// What parameters Program is read under makes no difference to core lexemes, but for In and the option for V8's functions.
+pub fn law_of_core_parameters()
+    ensures { CoreParameters }
+{}
+
+/// For a core text the trees that are valid at a goal are the readings by the core grammar.
+pub fn law_core()
+    ensures { CoreValidity }
 {}
