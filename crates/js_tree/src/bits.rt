@@ -7,6 +7,7 @@ ghost use Rattle.js_tree.specs.Labels as labels;
 use crate::flags::NodeFlags;
 
 /// A bit before the bits of a number.
+#[inline(always)]
 fn with_bit(bit: bool, rest: u16) -> u16
     requires { rest < 2 ^ 15 }
     ensures value { result ≡ labels.with_bit bit rest }
@@ -16,6 +17,7 @@ fn with_bit(bit: bool, rest: u16) -> u16
 }
 
 /// The number of flags, the first the lowest bit.
+#[inline(always)]
 pub(crate) fn bits_of(flags: NodeFlags) -> u16
     ensures number { result ≡ labels.number_of flags }
     ensures flags { bits.flags_of result ≡ flags }

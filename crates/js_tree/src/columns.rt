@@ -62,6 +62,7 @@ impl Model for Columns {
 }
 
 /// One more entry in a column that has room for it.
+#[inline(always)]
 fn put<T: Drop>(column: &mut Vec<T>, entry: T)
     requires { vec_len column.old < vec_capacity column.old }
     ensures { column.new.items ≡ column.old.items ++ entry ∷ [] }
@@ -73,6 +74,7 @@ fn put<T: Drop>(column: &mut Vec<T>, entry: T)
 }
 
 /// The slots of a node, at the end of a column that has room for them.
+#[inline(always)]
 fn put_all(column: &mut Vec<Option<NodeId>>, slots: &[Option<NodeId>])
     requires { vec_len column.old + length slots.now ≤ vec_capacity column.old }
     ensures { column.new.items ≡ column.old.items ++ slots.now }
@@ -84,6 +86,7 @@ fn put_all(column: &mut Vec<Option<NodeId>>, slots: &[Option<NodeId>])
 }
 
 /// Makes room for one more entry in each of these columns.
+#[inline(always)]
 fn make_room(
     kinds: &mut Vec<NodeKind>,
     ops: &mut Vec<Op>,
@@ -103,6 +106,7 @@ fn make_room(
 }
 
 /// Makes room for the children of one more node.
+#[inline(always)]
 fn make_child_room(
     starts: &mut Vec<u32>,
     counts: &mut Vec<u32>,
@@ -120,6 +124,7 @@ fn make_child_room(
 }
 
 /// A place in the column of slots, or a number of slots. It has to fit 32 bits, else it counts as want of memory.
+#[inline(always)]
 fn place_of(n: usize) -> Result<u32, NoMemory>
     ensures { IfOk result (λ place. place ≡ n) }
 {
@@ -130,6 +135,7 @@ fn place_of(n: usize) -> Result<u32, NoMemory>
 }
 
 /// Keeps the name of a number that has none yet, where there is one.
+#[inline(always)]
 fn keep_name(
     names: &mut BTreeMap<usize, Text>,
     number: usize,
@@ -174,6 +180,7 @@ impl Columns {
     }
 
     /// One more node. All room is made first, so after `NoMemory` every column is as before.
+    #[inline(always)]
     pub(crate) fn append(
         &mut self,
         kind: NodeKind,
