@@ -10,7 +10,8 @@ use Rattle.js_core.proofs.Bracketed.{opened_here, opened_later}
 use Rattle.js_core.proofs.Moving.{standing, stops_behind, same_both}
 use Rattle.js_core.proofs.Nesting.{nested_room, nests_later}
 use Rattle.js_core.proofs.Parentheses.{paren_whole, unclosed}
-use Rattle.js_core.proofs.ParameterLists.{list_answers, list_begins, list_goes_on, list_stops, no_params, unclosed_list}
+use Rattle.js_core.proofs.Lists.{list_goes_on, list_stops}
+use Rattle.js_core.proofs.ParameterLists.{list_answers, list_begins, no_params, unclosed_list}
 use Rattle.js_core.proofs.Verdicts.{after, grown_then}
 use Rattle.js_core.proofs.Moving.{stops_so}
 use Rattle.js_core.proofs.parameters.parse_formal_parameters.Goals as goal
