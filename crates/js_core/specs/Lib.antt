@@ -17,3 +17,4 @@ pub mod Arrays
 pub mod Parameters
 pub mod Arrows
 pub mod Marked
+pub mod Heads
