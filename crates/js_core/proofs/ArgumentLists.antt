@@ -194,7 +194,7 @@ pub due_fails : {text : List ℕ} {f : Flags} {p : Parser} → At text f p → (
 due_fails {text} {f} {p} a first z i = subst (λ (b : Bool). Fails rule (Lex text) (plain full) end (rest_of b (item_of i f)) p.prev_token_end) (sym z.0) (later_fails f i (no_comma_here a z.2) (no_right_paren a z.1))
 
 pub due_stops : {text : List ℕ} {f : Flags} {p : Parser} (q : Parser) (e : Stop) (first : Bool) (P : Diagnostic → Type 0) → At text f p → (i : Bool) → (e ≡ Fatal → (first ≡ false) × (p.token.kind ≡ RParen → ⊥) × (p.token.kind ≡ Comma → ⊥)) × GivesUp P p q e → Stops p q e (Fails rule (Lex text) (plain full) end (rest_of first (item_of i f)) p.prev_token_end)
-due_stops {p = p} q Fatal first P a i z = gives_up P p q Fatal z.1 (due_fails a first (z.0 refl) i)
+due_stops {p = p} q Fatal first P a i z = gives_up P p q Fatal a z.1 (due_fails a first (z.0 refl) i)
 due_stops q NoMemory first P a i z = tt
 
 -- ---- the list so far

@@ -234,7 +234,7 @@ pub step_stops : {text : List ℕ} {f : Flags} {o p : Parser} {ids js : List (Op
 unfolding apart
 step_stops {f = f} q Fatal P x z =
     let n = z.0 refl in
-    stops_behind q Fatal x.same.follows (λ g. grown_behind x.verdict g) (λ i. part_path_fails x i) (gives_up P _ q Fatal z.1 (rest_fails f (none_there Comma x.at refl n.2) (none_there RBrack x.at refl n.1)))
+    stops_behind q Fatal x.same.follows (λ g. grown_behind x.verdict g) (λ i. part_path_fails x i) (gives_up P _ q Fatal x.at z.1 (rest_fails f (none_there Comma x.at refl n.2) (none_there RBrack x.at refl n.1)))
 step_stops q NoMemory P x z = tt
 
 pub item_stops : {text : List ℕ} {f : Flags} {p : Parser} (q : Parser) (e : Stop) → At text f p → StandsHere p Comma false → StandsHere p RBrack false → Stops p q e (NoItem text (at Argument f) p.prev_token_end) → Stops p q e (Fails rule (Lex text) (plain full) end (elements f) p.prev_token_end)

@@ -59,7 +59,9 @@ use Rattle.js_cursor.specs.Places.{IsAt}
 use Rattle.js_cursor.proofs.Changing.{came_back, back_follows}
 use Rattle.js_cursor.proofs.Later.{keeps_follows}
 use Rattle.js_core.specs.Answers.{Underived, Answer, Answers, Numbered, Outcome, Refuses, Stretch, Stops, Grown, Verdict, clean, unclean}
-use Rattle.js_core.specs.Arrows.{arrow_body, head_of, late_arrow, ArrowBehind, ChecksLine, FindsHead, Head, LooksForHead, IsHead, IsHeadHere, NoArrowHere, Single, Unmoved}
+use Rattle.js_cursor.specs.Notes.{Notes}
+use Rattle.js_core.specs.Arrows.{arrow_body, head_of, late_arrow, ArrowBehind, BeforeArrow, a_head, refused, ChecksLine, FindsHead, Head, LooksForHead, IsHead, IsHeadHere, IsRefusedHead, NoArrowHere, NoHeadHere, Single, Unmoved}
+use Rattle.js_core.specs.Heads.{NoHead, NotedHeads}
 use Rattle.js_core.specs.Lexemes.{Lex, is_read, read_kinds, spot}
 use Rattle.js_core.specs.Moves.{Moved, MadeHere, LeafTaken, TakesLeaf, plain_label}
 use Rattle.js_core.specs.States.{At, Same, Standing, flags_of, IsPlain, whole, sign, nothing as nothing_here}
@@ -73,8 +75,8 @@ use Rattle.js_core.proofs.Told.{beside_errors}
 use Rattle.js_core.proofs.Giving.{kept_one}
 use Rattle.js_core.proofs.Here.{alike, angled, found, plainly, one_plain, newline_here, told, uncut}
 use Rattle.js_core.proofs.MadeNodes.{leaf_held, node_held, two_held}
-use Rattle.js_core.proofs.Moving.{beside_nodes, flags_same, same_both, same_itself, same_with, stops_behind}
-use Rattle.js_core.proofs.Operands.{by_path, name_test}
+use Rattle.js_core.proofs.Moving.{beside_nodes, flags_same, heads_kept, same_both, same_itself, same_with, stops_behind}
+use Rattle.js_core.proofs.Operands.{by_path, by_such, name_test}
 use Rattle.js_core.proofs.Bindings.{bound_path, ended_by, then_any}
 use Rattle.js_core.proofs.Paths.{reads, Path, ◌⟼◌, ◌⟶◌, ◌⟶✗◌, fails_at, token, last_called, noded, noded_by, by_symbol_as, label_here, read_of, walked_both, walked_from, walked_one}
 use Rattle.js_core.proofs.Refusals.{none_kept, plain_of}
@@ -238,23 +240,35 @@ module _ {text : List ℕ} {f : Flags} {p : Parser} (a : At text f p) where
   unfolding covers apart
   no_name k = fails_at a (mk formal_parameters (mk formal_parameter (symbol BindingIdentifier f ▸ empty_slot))) (Ident ∷ []) refl (ap (one_of_kinds (Ident ∷ [])) k)
 
-  pub no_parameters : p.token.kind ≡ LParen → Underived text (at Params f) p.prev_token_end → Underived text (at Arrow' f) p.prev_token_end
-  no_parameters k n = no_arrow f (part_fails {X' = plain full} (fails_alt (no_name k) (weaken_fails_on n (record { admits = λ ts vs k ls rest d e. (refl, refl) }))) (record { admits = λ ts us vs j k ls mid rest d d' e. (refl, refl) }))
+  no_parameters : Underived text (at Params f) p.prev_token_end → NoHead text f p.prev_token_end
+  no_parameters n = part_fails {X' = plain full} (weaken_fails_on n (record { admits = λ ts vs k ls rest d e. (refl, refl) })) (record { admits = λ ts us vs j k ls mid rest d d' e. (refl, refl) })
+
+  -- where no head in parentheses stands, no arrow function begins with a parenthesis
+  pub no_head_no_arrow : p.token.kind ≡ LParen → NoHead text f p.prev_token_end → Underived text (at Arrow' f) p.prev_token_end
+  no_head_no_arrow k n = no_arrow f (record { no = λ ts vs j ls rest l d e. go ts vs j ls rest l d })
+    where
+      go : (ts vs : Slots) (j : ℕ) (ls rest : Lexemes) → Lexes (Lex text) p.prev_token_end ls → Takes rule (head_of f ▸ behind_head f) end ts p.prev_token_end ls vs j rest → ⊥
+      go ts vs j ls rest l (is_seq {us = us} {j = i} {mid = mid} (is_left d) e) = (no_name {X = plain full} k).no ts us i ls mid l d (refl, refl)
+      go ts vs j ls rest l (is_seq {us = us} (is_right d) (is_seq (is_look w) (is_seq {j = i} {mid = mid} (is_lexeme q) e))) = n.no ts us i ls mid l (is_seq d (is_lexeme q)) (refl, refl)
 
   module _ {q : Parser} (k : p.token.kind ≡ LParen) (x : Answer text f (at Params f) p q) where
     parameters_path : Path text f (plain full) (head_of f) p nothing q (tree x.label x.slots)
     parameters_path = right (no_name k) ⟼ last_called x (record { admits = λ ts vs k ls rest d e. (refl, refl) })
 
+  module _ {q : Parser} (x : Answer text f (at Params f) p q) where
+    parameters_alone : Path text f (plain full) (symbol Params f) p nothing q (tree x.label x.slots)
+    parameters_alone = last_called x (record { admits = λ ts vs k ls rest d e. (refl, refl) })
+
     -- no `=>` stands behind them
-    pub unarrowed : (q.token.kind ≡ Arrow → ⊥) → Underived text (at Arrow' f) p.prev_token_end
+    unarrowed : (q.token.kind ≡ Arrow → ⊥) → NoHead text f p.prev_token_end
     unfolding covers apart
-    unarrowed n = no_arrow f (then_any parameters_path ⟶✗ fails_at x.at (behind_head f) (Arrow ∷ []) refl (other_kind Arrow q.token.kind n))
+    unarrowed n = then_any parameters_alone ⟶✗ fails_at x.at {X = plain full} (tok Arrow) (Arrow ∷ []) refl (other_kind Arrow q.token.kind n)
 
     -- something was told of them
-    pub unclean_head : (length q.errors ≡ length p.errors → ⊥) → Underived text (at Arrow' f) p.prev_token_end
+    unclean_head : (length q.errors ≡ length p.errors → ⊥) → NoHead text f p.prev_token_end
     unclean_head n = elim x.verdict [
       | clean e y ↦ absurd (n (ap length e))
-      | unclean g z ↦ no_parameters k z
+      | unclean g z ↦ no_parameters z
     ]
 
 arrow_plain : (is_word Arrow || same_kind PrivateIdentifier Arrow) ≡ false
@@ -364,18 +378,18 @@ module _ {p q : Parser} {kept : ℕ} (a : Standing p) (k : p.token.kind ≡ LPar
   pub head_read : {id : NodeId} → Answers (at Params) p q (Ok id) → IsHead kept q true → IsHeadHere p q id
   head_read x h = (h.1, λ text f a. parenthesized_head a k (x text f a) (h.0 ∙ n))
 
-  pub head_unread : {id : NodeId} → Answers (at Params) p q (Ok id) → IsHead kept q false → GoesOn p q × NoArrowHere p
-  head_unread x h = let y = (x _ _ a).answer in ((y.same.follows, y.at.at), λ text f a. by h (x text f a).answer a)
+  pub head_unread : {id : NodeId} → Answers (at Params) p q (Ok id) → IsHead kept q false → GoesOn p q × NotedHeads q × NoHeadHere p
+  head_unread x h = let y = (x _ _ a).answer in ((y.same.follows, y.at.at), y.at.heads, λ text f a. by h (x text f a).answer a)
     where
-      by : {text : List ℕ} {f : Flags} → (length q.errors ≡ kept → ⊥) ⊎ (q.token.kind ≡ Arrow → ⊥) → Answer text f (at Params f) p q → At text f p → Underived text (at Arrow' f) p.prev_token_end
-      by (inl m) x a = unclean_head a k x (λ e. m (e ∙ sym n))
-      by (inr m) x a = unarrowed a k x m
+      by : {text : List ℕ} {f : Flags} → (length q.errors ≡ kept → ⊥) ⊎ (q.token.kind ≡ Arrow → ⊥) → Answer text f (at Params f) p q → At text f p → NoHead text f p.prev_token_end
+      by (inl m) x a = unclean_head a x (λ e. m (e ∙ sym n))
+      by (inr m) x a = unarrowed a x m
 
-pub head_refused : {p q : Parser} (e : Stop) → Standing p → p.token.kind ≡ LParen → e ≡ Fatal → ((text : List ℕ) (f : Flags) → At text f p → Stops p q e (Underived text (at Params f) p.prev_token_end)) → GoesOn p q × NoArrowHere p
-head_refused {p} {q} e a k i s = go (λ text f b. subst (λ (v : Stop). Stops p q v (Underived text (at Params f) p.prev_token_end)) i (s text f b))
+pub head_refused : {p q : Parser} (e : Stop) → Standing p → e ≡ Fatal → ((text : List ℕ) (f : Flags) → At text f p → Stops p q e (Underived text (at Params f) p.prev_token_end)) → GoesOn p q × NotedHeads q × NoHeadHere p
+head_refused {p} {q} e a i s = go (λ text f b. subst (λ (v : Stop). Stops p q v (Underived text (at Params f) p.prev_token_end)) i (s text f b))
   where
-    go : ((text : List ℕ) (f : Flags) → At text f p → Refuses p q (Underived text (at Params f) p.prev_token_end)) → GoesOn p q × NoArrowHere p
-    go x = let y = x _ _ a in ((y.follows, y.at), λ text f b. no_parameters b k (x text f b).none)
+    go : ((text : List ℕ) (f : Flags) → At text f p → Refuses p q (Underived text (at Params f) p.prev_token_end)) → GoesOn p q × NotedHeads q × NoHeadHere p
+    go x = let y = x _ _ a in ((y.follows, y.at), y.heads, λ text f b. no_parameters b (x text f b).none)
 
 pub some_found : (p q : Parser) (id : NodeId) (r : Option NodeId) → r ≡ Some id → FindsHead p q r → IsHeadHere p q id
 some_found p q id r e h = subst (FindsHead p q) e h
@@ -383,7 +397,7 @@ some_found p q id r e h = subst (FindsHead p q) e h
 pub none_found : (p q : Parser) (r : Option NodeId) → r ≡ None → FindsHead p q r → Unmoved p q × NoArrowHere p
 none_found p q r e h = subst (FindsHead p q) e h
 
-pub none_looked : (p q : Parser) (r : Option NodeId) → r ≡ None → LooksForHead p q r → GoesOn p q × NoArrowHere p
+pub none_looked : (p q : Parser) (r : Option NodeId) → r ≡ None → LooksForHead p q r → GoesOn p q × NotedHeads q × NoHeadHere p
 none_looked p q r e h = subst (LooksForHead p q) e h
 
 pub some_looked : (p o q : Parser) (id : NodeId) (r : Option NodeId) → o ≡ p → r ≡ Some id → LooksForHead o q r → IsHeadHere p q id
@@ -391,6 +405,9 @@ some_looked p o q id r s e h = subst (λ (z : Parser). IsHeadHere z q id) s (sub
 
 pub head_so : (kept : ℕ) (q : Parser) {b r : Bool} → r ≡ b → IsHead kept q r → IsHead kept q b
 head_so kept q e h = subst (λ (v : Bool). IsHead kept q v) e h
+
+pub refused_so : (kept : ℕ) (p : Parser) {r : Bool} → r ≡ true → IsRefusedHead kept p r → (length p.errors ≡ kept → ⊥) × (p.token.kind ≡ Arrow)
+refused_so kept p e h = subst (λ (b : Bool). IsRefusedHead kept p b) e h
 
 two_kinds : (k : Kind) → (k ≡ Ident → ⊥) → (k ≡ LParen → ⊥) → one_of_kinds (Ident ∷ LParen ∷ []) k ≡ false
 two_kinds k n m = go (same_kind Ident k) refl
@@ -439,12 +456,12 @@ plain_back {text} {p} {r} t c e (whole d n x) = whole (c ∙ d) (λ k. n (sym (a
 plain_back {text} {p} {r} t c e (sign d k x) = sign (c ∙ d) (ap (λ z. z.kind) t ∙ k) (subst (λ (v : ℕ). GivesLexeme division cut text v r.token) (sym e) (subst (λ (v : Token). GivesLexeme division cut text p.prev_token_end v) (sym t) x))
 plain_back {text} {p} {r} t c e (nothing_here d k n) = nothing_here (c ∙ d) (ap (λ z. z.kind) t ∙ k) (subst (λ (v : ℕ). (y : Lexeme) → LexemeBehind division text v y → ⊥) (sym e) n)
 
-pub went_back : {p q r : Parser} {c : ParserCheckpoint} → Remembers p c → GoesOn p q → GoesBack c q r → Unmoved p r
-went_back {p} {q} {r} m f g =
+pub went_back : {p q r : Parser} {c : ParserCheckpoint} → Remembers p c → GoesOn p q → NotedHeads q → GoesBack c q r → Unmoved p r
+went_back {p} {q} {r} m f n g =
     let b = came_back m f.0 g in
     let s : Same p r = record { follows = back_follows m f.0 g; options = g.options ∙ f.0.options; ctx = b.ctx; depth = b.depth; visits = b.visits } in
     record {
-      at = λ text f a. record { text_is = b.text ∙ a.text_is; flags_are = flags_same p r b.ctx b.source_type s.options ∙ a.flags_are; at = g.at; plain = plain_back b.token b.cut b.prev_token_end a.plain; behind = let i = b.prev_token_end in let j = ap (λ z. z.span.start) b.token in let k = a.behind in omega arith };
+      at = λ text f a. record { text_is = b.text ∙ a.text_is; flags_are = flags_same p r b.ctx b.source_type s.options ∙ a.flags_are; at = g.at; plain = plain_back b.token b.cut b.prev_token_end a.plain; behind = let i = b.prev_token_end in let j = ap (λ z. z.span.start) b.token in let k = a.behind in omega arith; heads = heads_kept q r g.text g.source_type g.options (ap (λ (z : Notes). z.failed) g.state) n };
       same = s;
       kept = b.errors;
       place = b.prev_token_end;
@@ -571,6 +588,46 @@ module _ {text : List ℕ} {f : Flags} {o p q r : Parser} {id : NodeId} (h : Hea
       let g : Holds w.nodes (length p.nodes) (length w.nodes) body.0 y.answer.label y.answer.slots = subst (λ (ns : List Node). Holds w.nodes (length ns) (length w.nodes) body.0 y.answer.label y.answer.slots) e y.holds in
       let i : Keeps p.nodes w.nodes = subst (λ (ns : List Node). Keeps ns w.nodes) e y.keeps in
       by_path (arrow_path a y.answer) (same_both h.same (same_both (line_same c) (same_both m.same y.answer.same))) x.stays (λ j u. y.answer.stops j u) y.answer.row (two_held x h.holds h.keeps g i) (Keeps-trans h.keeps (Keeps-trans i (Keeps-made x.made)))
+
+-- ---- and behind what was no head
+
+told_of : {text : List ℕ} {f : Flags} {o p : Parser} {id : NodeId} → Numbered text f (at Assignment f) o p id → (length p.errors ≡ length o.errors → ⊥) → Grown o.errors p.errors × Underived text (at Assignment f) o.prev_token_end
+told_of x n = elim x.answer.verdict [
+  | clean e y ↦ absurd (n (ap length e))
+  | unclean g z ↦ (g, z)
+]
+
+line_grown : {p q : Parser} {ds : List Diagnostic} → ChecksLine p q → Grown ds p.errors → Grown ds q.errors
+line_grown (inl (e, c)) g = grown_both g (kept_one c)
+line_grown (inr (e, i)) g = grown_first g (ap (λ (z : Parser). z.errors) i)
+
+pub before_at : {text : List ℕ} {f : Flags} {o p : Parser} {id : NodeId} → BeforeArrow text f o p id → At text f p
+before_at (a_head h) = h.at
+before_at (refused x n) = x.answer.at
+
+pub before_stops : {text : List ℕ} {f : Flags} {o p q r : Parser} {id : NodeId} → BeforeArrow text f o p id → p.token.kind ≡ Arrow → ChecksLine p q → Moved text f q r → (w : Parser) (e : Stop) → Stops r w e (Underived text (at Assignment (arrow_body f)) r.prev_token_end) → Stops o w e (Underived text (at Assignment f) o.prev_token_end)
+before_stops (a_head h) k c m w e s = arrow_stops h k c m w e s
+before_stops (refused x n) k c m w e s =
+    let t = told_of x n in
+    stops_behind w e (same_both x.answer.same (same_both (line_same c) m.same)).follows (λ g. grown_both (grown_first (line_grown c t.0) m.kept) g) (λ z. t.1) s
+
+pub before_answers : {text : List ℕ} {f : Flags} {o p q r w z : Parser} {id body made : NodeId} → BeforeArrow text f o p id → p.token.kind ≡ Arrow → ChecksLine p q → Moved text f q r → (s : Span) → At text f o → Numbered text f (at Assignment (arrow_body f)) r w body → s.start ≡ o.token.span.start → s.end ≡ w.prev_token_end → MadeHere (plain_label node_kind.ArrowFunctionExpression op_made.None s) (Some id ∷ Some body ∷ []) w z made → Numbered text f (at Assignment f) o z made
+before_answers (a_head h) k c m s a y b d n = arrow_answers h k c m s a y b d n
+before_answers {text} {f} {o} {p} {q} {r} {w} {z} {id} {body} {made} (refused v u) k c m s a y b d n =
+    let t = told_of v u in
+    let l : plain_label node_kind.ArrowFunctionExpression op_made.None s ≡ label_here arrow_function_expression no_op o w = rw (b, d) refl in
+    let x : MadeHere (label_here arrow_function_expression no_op o w) (Some id ∷ Some body ∷ []) w z made = subst (λ (j : Label). MadeHere j (Some id ∷ Some body ∷ []) w z made) l n in
+    let e : r.nodes ≡ p.nodes = m.nodes ∙ line_nodes c in
+    let g : Holds w.nodes (length p.nodes) (length w.nodes) body.0 y.answer.label y.answer.slots = subst (λ (ns : List Node). Holds w.nodes (length ns) (length w.nodes) body.0 y.answer.label y.answer.slots) e y.holds in
+    let i : Keeps p.nodes w.nodes = subst (λ (ns : List Node). Keeps ns w.nodes) e y.keeps in
+    let path : Path text f (after (at Assignment f)) (such (at Assignment f) always) o nothing w (tree (label_here arrow_function_expression no_op o w) (tree v.answer.label v.answer.slots (tree y.answer.label y.answer.slots end))) = record {
+      at = y.answer.at;
+      further = let b = v.answer.further in let d = line_place c in let e = (line_at v.answer.at c).behind in let g = m.further in let i = m.at.behind in let j = y.answer.further in omega arith;
+      pass = λ ls. v.answer.pass (next m.lexeme (y.answer.pass ls));
+      walked = walked_both v.answer.walked (walked_both (walked_from (line_spot c) (walked_one m)) y.answer.walked);
+      verdict = unclean (behind (grown_first (line_grown c t.0) m.kept) y.answer.verdict) t.1;
+    } in
+    by_such path (same_both v.answer.same (same_both (line_same c) (same_both m.same y.answer.same))) x.stays (λ j u. y.answer.stops j u) y.answer.row (two_held x v.holds v.keeps g i) (Keeps-trans v.keeps (Keeps-trans i (Keeps-made x.made)))
 
 -- what is told of `=>` on a new line
 pub late_marked : {text : List ℕ} {f : Flags} {p : Parser} (s : Span) → At text f p → p.token.kind ≡ Arrow → p.token.is_on_new_line ≡ true → s ≡ p.token.span → Mark (goal p) p.text (late_arrow s)

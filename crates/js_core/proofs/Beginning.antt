@@ -18,7 +18,9 @@ use Rattle.js_cursor.specs.Places.{IsAt, goal}
 use Rattle.js_cursor.specs.Tokens.{IsToken, whole as whole_token, sign as sign_token, nothing as no_token}
 use Rattle.js_cursor.specs.Moves.{Passed, Completed, MovesOn, is_last}
 use Rattle.js_core.specs.States.{IsPlain, whole, sign, nothing as no_lexeme, Standing}
-use Rattle.js_core.proofs.Moving.{plain_given}
+use Rattle.js_cursor.specs.Notes.{HasNone, Notes}
+use Rattle.js_core.specs.Heads.{NotedHeads}
+use Rattle.js_core.proofs.Moving.{heads_kept, plain_given}
 
 hashbang_kind : {text : List ℕ} {s : ℕ} {t : _} → GivesLexeme hashbang (λ y. y) text s t → t.kind ≡ HashbangComment
 hashbang_kind x = x.tells.kind ∙ hashbang_is x.stands.lex.word x.lexeme.kind (subst (λ (g : LexicalGoal). kind_in g x.stands.lex.word x.stands.lex.rest ≡ Some x.lexeme.kind) x.stands.of_goal x.stands.lex.lexeme.kind)
@@ -34,9 +36,13 @@ no_plain_hashbang (whole c n x) h = go x.stands.lex.word x.stands.lex.rest (subs
 no_plain_hashbang (sign c k x) h = let z : RAngle ≡ HashbangComment = sym k ∙ h in cc
 no_plain_hashbang (no_lexeme c k n) h = let z : Undetermined ≡ HashbangComment = sym k ∙ h in cc
 
+-- nothing is noted where a text begins
+pub none_noted : (p : Parser) → HasNone p.state → NotedHeads p
+none_noted p n = λ f s k. absurd (false≢true (sym (n.failed f.await_ f.yield_ s) ∙ k))
+
 -- Behind a lexeme of whichever goal the plain goal gives the next token.
-pub behind_first : {p q : Parser} → IsAt p → Passed p q → Standing q
-behind_first {p} {q} b h = record { text_is = refl; flags_are = refl; at = h.at; plain = plain_given h.next.faults h.at.token outcome; behind = let s = h.next.start in let e = place in omega arith }
+pub behind_first : {p q : Parser} → IsAt p → NotedHeads p → Passed p q → Standing q
+behind_first {p} {q} b n h = record { text_is = refl; flags_are = refl; at = h.at; plain = plain_given h.next.faults h.at.token outcome; behind = let s = h.next.start in let e = place in omega arith; heads = heads_kept p q h.stays.text h.stays.source_type h.stays.options (ap (λ (m : Notes). m.failed) h.stays.state) n }
   where
     reads : p.lexer.text ≡ q.text
     reads = b.reads ∙ sym h.stays.text
@@ -87,4 +93,4 @@ module _ {source : List ℕ} {read_as : SourceType} {asked : ParseOptions} {toke
       go (inr n) = absurd (no_plain_hashbang (next_plain n.1) h)
 
   pub begins : (p.token.kind ≡ HashbangComment → ⊥) → Standing p
-  begins h = record { text_is = refl; flags_are = refl; at = s.at; plain = first_plain h s.first; behind = let z = s.prev_token_end in omega arith }
+  begins h = record { text_is = refl; flags_are = refl; at = s.at; plain = first_plain h s.first; behind = let z = s.prev_token_end in omega arith; heads = none_noted p s.state }

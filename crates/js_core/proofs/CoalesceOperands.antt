@@ -330,7 +330,7 @@ module _ {text : List ℕ} {f : Flags} where
       mixed_marked_so {start} {found} a e g h i j y l = subst (λ (n : ℕ). Mark (goal v) v.text (mixed_at n v.prev_token_end)) (sym g) (mixed_marked a (sym e ∙ i) (sym j ∙ h) y (subst (λ (t : List ℕ). Lex t v.prev_token_end y) x.answer.at.text_is l))
 
       pub mixed_stops : (start found : ℕ) {mixed : Bool} (w : Parser) (e : Stop) → mixed ≡ is_mixed → ChecksMixed start mixed found v w (Err e) → Stops p w e Nowhere
-      mixed_stops start found w e g c = stops_behind w e (same_both s.same (same_both m.same x.answer.same)).follows (λ h. grown_behind both h) (λ z. z) (gives_up (λ d. Unit {0}) v w e c.1 (mixed_none (sym g ∙ c.0)))
+      mixed_stops start found w e g c = stops_behind w e (same_both s.same (same_both m.same x.answer.same)).follows (λ h. grown_behind both h) (λ z. z) (gives_up (λ d. Unit {0}) v w e x.answer.at c.1 (mixed_none (sym g ∙ c.0)))
 
       pub left_held : Holds v.nodes (length p.nodes) (length q.nodes) left.0 s.label s.slots
       left_held = Holds-kept (subst (λ (ns : List Node). Keeps ns v.nodes) m.nodes x.keeps) s.holds

@@ -307,9 +307,9 @@ asked_later {p} {q} {question} s l a = record {
 pub alternative_marked : {p : Parser} {question : Span} → IsAt p → Asked p question → (s : Span) → s ≡ p.token.span → (p.token.kind ≡ Undetermined → ⊥) → Mark (goal p) p.text (record { kind = fault.ExpectConditionalAlternative; span = s; first = Some question; second = None })
 alternative_marked {p} {question} a q s e n = mark_here fault.ExpectConditionalAlternative s (Some question) a (at_lexeme n e) (λ v x b. (x, record { place = question; is_first = refl; no_second = refl; lexeme = q.sign; earlier = let c = q.before in omega arith }))
 
-pub colon_missing : (p q : Parser) (e : Stop) → Passes Colon p q (Err e) → Stops p q e (one_of_kinds (Colon ∷ []) p.token.kind ≡ false)
-colon_missing p q Fatal h = gives_up (λ d. Unit {0}) p q Fatal h.1 (other_kind Colon p.token.kind (h.0 refl))
-colon_missing p q NoMemory h = tt
+pub colon_missing : {text : List ℕ} {f : Flags} (p q : Parser) (e : Stop) → At text f p → Passes Colon p q (Err e) → Stops p q e (one_of_kinds (Colon ∷ []) p.token.kind ≡ false)
+colon_missing p q Fatal a h = gives_up (λ d. Unit {0}) p q Fatal a h.1 (other_kind Colon p.token.kind (h.0 refl))
+colon_missing p q NoMemory a h = tt
 
 pub no_assign_here : {text : List ℕ} {f : Flags} {q : Parser} → At text f q → q.cut ≡ false → one_of_kinds assign_operators q.token.kind ≡ false → (y : Lexeme) → Lex text q.prev_token_end y → IsTrue (seen an_assign y) → ⊥
 no_assign_here a c n y l s = false≢true (sym n ∙ subst (λ (k : Kind). one_of_kinds assign_operators k ≡ true) (sym (told a c y l).kind) (and_parts (one_of_kinds assign_operators y.kind) (not y.escaped) s).0)

@@ -1,5 +1,5 @@
 -- What is said where a parse function gives up, and where nothing is read.
-use Rattle.std.proofs.Common.{ℕ, ◌≡◌, true, List, [], ◌∷◌, sym, ap, ◌∙◌}
+use Rattle.std.proofs.Common.{ℕ, ◌≡◌, true, List, [], ◌∷◌, sym, ap, subst, ◌∙◌}
 use Rattle.std.proofs.lemmas.Bool.{false≢true}
 use Rattle.js_base.specs.declared.diagnostic.Diagnostic.{Diagnostic}
 use Rattle.js_grammar.specs.Trees.{Slots}
@@ -13,6 +13,7 @@ use Rattle.js_cursor.specs.Moves.{Keeps, GivesUp, OnlyMemory}
 use Rattle.js_cursor.specs.declared.stop.Stop.{Stop}
 use Rattle.js_cursor.specs.declared.stop.Stop.TheVariants.{Fatal, NoMemory}
 use Rattle.js_cursor.proofs.Later.{keeps_follows}
+use Rattle.js_core.specs.Heads.{NotedHeads}
 use Rattle.js_core.specs.Lexemes.{Lex}
 use Rattle.js_core.specs.States.{At}
 use Rattle.js_core.specs.Answers.{Grown, Stops}
@@ -22,9 +23,9 @@ use Rattle.js_core.proofs.Tight.{read_plain}
 pub kept_one : {d : Diagnostic} {p q : Parser} → Keeps d p q → Grown p.errors q.errors
 kept_one {d} k = record { more = d ∷ []; kept = ap (λ (r : Parser). r.errors) k.is; some = λ e. cc }
 
-pub gives_up : (P : Diagnostic → Type 0) (p q : Parser) {F : Type 0} (e : Stop) → GivesUp P p q e → F → Stops p q e F
-gives_up P p q Fatal g x = record { at = g.2.at; follows = keeps_follows g.2; grown = kept_one g.2; none = x }
-gives_up P p q NoMemory g x = tt
+pub gives_up : {text : List ℕ} {f : Flags} (P : Diagnostic → Type 0) (p q : Parser) {F : Type 0} (e : Stop) → At text f p → GivesUp P p q e → F → Stops p q e F
+gives_up P p q Fatal a g x = record { at = g.2.at; follows = keeps_follows g.2; grown = kept_one g.2; heads = subst NotedHeads (sym g.2.is) a.heads; none = x }
+gives_up P p q NoMemory a g x = tt
 
 pub memory_stops : (p q : Parser) (e : Stop) (F : Type 0) → OnlyMemory e → Stops p q e F
 memory_stops p q Fatal F m = absurd m

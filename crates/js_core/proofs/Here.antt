@@ -47,7 +47,7 @@ alike l m = lex-same l.0 m.0 (plainly l.0 l.1 ∙ sym (plainly m.0 m.1))
 pub one_plain : {text : List ℕ} {s : ℕ} {y : Lexeme} {shown : Lexeme → Lexeme} {t : Token} → Lex text s y → (x : GivesLexeme division shown text s t) → y ≡ x.lexeme
 one_plain h x = lex-same h.0 x.stands.lex (plainly h.0 h.1 ∙ sym x.stands.of_goal)
 
-cut_angle : (y : Lexeme) → (cut y).kind ≡ RAngle → is_right_angle y.kind ≡ true
+pub cut_angle : (y : Lexeme) → (cut y).kind ≡ RAngle → is_right_angle y.kind ≡ true
 cut_angle y e = go (is_right_angle y.kind) refl
   where
     go : (b : Bool) → is_right_angle y.kind ≡ b → is_right_angle y.kind ≡ true
@@ -61,7 +61,7 @@ cut_from y = go (is_right_angle y.kind) refl
     go true q = rw (q, cut) refl
     go false q = ap (λ (z : Lexeme). z.from) (cut_same y q)
 
-cut_escaped : (y : Lexeme) → (cut y).escaped ≡ y.escaped
+pub cut_escaped : (y : Lexeme) → (cut y).escaped ≡ y.escaped
 cut_escaped y = go (is_right_angle y.kind) refl
   where
     go : (b : Bool) → is_right_angle y.kind ≡ b → (cut y).escaped ≡ y.escaped

@@ -35,6 +35,7 @@ pub mod ArrayTargets
 pub mod ArraysBeforeSigns
 pub mod Updates
 pub mod Refusals
+pub mod ReadKinds
 pub mod Assigned
 pub mod Assignments
 pub mod ArraysAssigned
@@ -53,4 +54,6 @@ pub mod BehindRests
 pub mod PatternLists
 pub mod ParameterLists
 pub mod Arrows
+pub mod FreeOfContext
+pub mod NotedHeads
 pub mod Marking

@@ -756,7 +756,7 @@ module _ {text : List ℕ} {f : Flags} {p q : Parser} (a : At text f p) (k : p.t
     unclosed_index n = part_path_fails (index_read []) (fails_at x.answer.at {X = plain full} (tok RBrack) (RBrack ∷ []) refl (other_kind RBrack r.token.kind n))
 
     pub unclosed_stops : (P : Diagnostic → Type 0) (o : Parser) (e : Stop) → (e ≡ Fatal → r.token.kind ≡ RBrack → ⊥) × GivesUp P r o e → Stops p o e (Fails rule (Lex text) (plain full) end (indexed f) p.prev_token_end)
-    unclosed_stops P o Fatal z = stops_behind o Fatal (same_both m.same x.answer.same).follows (λ g. grown_then m.kept (grown_behind x.answer.verdict g)) (λ n. n) (gives_up P r o Fatal z.1 (unclosed_index (z.0 refl)))
+    unclosed_stops P o Fatal z = stops_behind o Fatal (same_both m.same x.answer.same).follows (λ g. grown_then m.kept (grown_behind x.answer.verdict g)) (λ n. n) (gives_up P r o Fatal x.answer.at z.1 (unclosed_index (z.0 refl)))
     unclosed_stops P o NoMemory z = tt
 
     pub index_closed : {u : Parser} → r.token.kind ≡ RBrack → MovesOn r u → Moved text f r u

@@ -31,6 +31,11 @@ use Rattle.js_core.specs.Answers.{Grown, Numbered, Stops, Underived}
 use Rattle.js_cursor.proofs.Moving.{lexeme_some}
 use Rattle.js_cursor.proofs.Later.{passed_follows, read_again_follows, follows_itself, follows_on}
 use Rattle.js_cursor.proofs.Changing.{fields_at, fields_set, entered_on}
+use Rattle.js_base.specs.declared.options.ParseOptions.{ParseOptions}
+use Rattle.js_base.specs.declared.source_type.SourceType.{SourceType}
+use Rattle.js_cursor.specs.Notes.{Heads, Notes, is_failed}
+use Rattle.js_cursor.specs.Starts.{is_module}
+use Rattle.js_core.specs.Heads.{NoHead, NotedHeads, throughout}
 use Rattle.js_core.specs.Lexemes.{KeptFor, read_kinds}
 use Rattle.js_core.specs.States.{At, Standing, IsPlain, whole, sign, nothing, Same, flags_of}
 use Rattle.js_core.specs.Moves.{IsCompleted, IsWholeHere, Moved, Moves, Tightness}
@@ -67,6 +72,14 @@ plain_given {text} {p} {source} faults k o = go p.cut refl k (same_kind Undeterm
 pub flags_same : (p q : Parser) → q.ctx ≡ p.ctx → q.source_type ≡ p.source_type → q.options ≡ p.options → flags_of q ≡ flags_of p
 flags_same p q c s o = rw (c, s, o) refl
 
+-- what is noted of heads stays right where the text and what is noted stay
+pub heads_kept : (p q : Parser) → q.text ≡ p.text → q.source_type ≡ p.source_type → q.options ≡ p.options → q.state.failed ≡ p.state.failed → NotedHeads p → NotedHeads q
+heads_kept p q t s o h n = λ f x k.
+    subst (λ (v : List ℕ). NoHead v (throughout q f) x) (sym t)
+    (subst (λ (v : SourceType). NoHead p.text (record f { module_goal = is_module v; v8 = q.options.allow_v8_intrinsics; cover = true; wide = false }) x) (sym s)
+    (subst (λ (v : ParseOptions). NoHead p.text (record f { module_goal = is_module p.source_type; v8 = v.allow_v8_intrinsics; cover = true; wide = false }) x) (sym o)
+    (n f x (subst (λ (v : Heads). is_failed v f.await_ f.yield_ x ≡ true) h k))))
+
 pub same_itself : {p : Parser} → Same p p
 same_itself {p} = record { follows = follows_itself p; options = refl; ctx = refl; depth = refl; visits = refl }
 
@@ -89,6 +102,7 @@ module _ {text : List ℕ} {f : Flags} {p : Parser} where
     at = h.at;
     plain = subst (λ (v : List ℕ). IsPlain v q) text_is (plain_given h.next.faults h.at.token outcome);
     behind = let s = h.next.start in let e = place in omega arith;
+    heads = heads_kept p q h.stays.text h.stays.source_type h.stays.options (ap (λ (n : Notes). n.failed) h.stays.state) a.heads;
   }
     where
       text_is : q.text ≡ text
@@ -151,6 +165,7 @@ completes {text} {f} {p} {q} (inr e) b n a h = record {
     at = b;
     plain = plain;
     behind = let s = e.1.again.start in let g = a.behind in let l = e.1.place in omega arith;
+    heads = heads_kept p q e.1.stays.text e.1.stays.source_type e.1.stays.options (ap (λ (n : Notes). n.failed) e.1.stays.state) a.heads;
   };
   same = same_of (read_again_follows e.1) e.1.stays.options e.1.stays.ctx e.1.stays.depth e.1.stays.visits;
   nodes = e.1.stays.nodes;
@@ -197,7 +212,7 @@ advances p q (Err e) w m = m
 
 -- other nodes, and another depth
 pub elsewhere : {text : List ℕ} {f : Flags} {p : Parser} (ns : List Node) (k : ℕ) → At text f p → At text f (record p { nodes = ns; depth = k })
-elsewhere {text} {f} {p} ns k a = record { text_is = a.text_is; flags_are = a.flags_are; at = fields_at ns p.visits p.ctx k a.at; plain = plain_of a.plain; behind = a.behind }
+elsewhere {text} {f} {p} ns k a = record { text_is = a.text_is; flags_are = a.flags_are; at = fields_at ns p.visits p.ctx k a.at; plain = plain_of a.plain; behind = a.behind; heads = a.heads }
   where
     plain_of : IsPlain text p → IsPlain text (record p { nodes = ns; depth = k })
     plain_of (whole c n x) = whole c n x
@@ -244,6 +259,9 @@ out_of {q = q} k j e a x = record {
 pub deeper : {k : ℕ} {text : List ℕ} {f : Flags} {p q : Parser} → At text f p → Enters k p q → At text f q
 deeper {k} {text} {f} {p} a h = subst (At text f) (sym h.is) (elsewhere p.nodes (p.depth + k) a)
 
+pub left_at : {k : ℕ} {text : List ℕ} {f : Flags} {p q : Parser} → At text f p → Leaves k p q → At text f q
+left_at {k} {text} {f} {p} {q} a h = subst (At text f) (sym h.is) (elsewhere p.nodes q.depth a)
+
 pub left : {k : ℕ} {text : List ℕ} {f : Flags} {n : Symbol} {p e q w : Parser} {id : NodeId} → IsAt p → Enters k p e → Leaves k q w → Numbered text f n e q id → Numbered text f n p w id
 left {k} {text} {f} {n} {p} {e} {q} {w} {id} a h l x =
     let d : w.depth ≡ p.depth = (let a = l.depth in let b = x.answer.same.depth in let c = ap (λ (r : Parser). r.depth) h.is in omega arith) in
@@ -251,7 +269,7 @@ left {k} {text} {f} {n} {p} {e} {q} {w} {id} a h l x =
 
 -- what a call said, of the state before
 pub stops_behind : {p q : Parser} (r : Parser) {F H : Type 0} (e : Stop) → Follows p q → (Grown q.errors r.errors → Grown p.errors r.errors) → (F → H) → Stops q r e F → Stops p r e H
-stops_behind r Fatal g h i s = record { at = s.at; follows = follows_on g s.follows; grown = h s.grown; none = i s.none }
+stops_behind r Fatal g h i s = record { at = s.at; follows = follows_on g s.follows; grown = h s.grown; heads = s.heads; none = i s.none }
 stops_behind r NoMemory g h i s = tt
 
 pub stops_in : {k : ℕ} {p q : Parser} (r : Parser) {F H : Type 0} (e : Stop) → IsAt p → Enters k p q → (F → H) → Stops q r e F → Stops p r e H

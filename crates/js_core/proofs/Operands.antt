@@ -65,19 +65,22 @@ unary_edge f k o s = record { ends = λ p cs vs j ls mid d e. go cs d e }
     go : (cs : Slots) {i j : ℕ} {ls mid : Lexemes} → Takes rule (tok k ▸ symbol Unary f) end cs i ls end j mid → IsTrue (seen (widest Unary) (here mid)) × IsTrue (seen (follow (at Unary f) (first_edge (tree (record { kind = unary_expression; op = of o; flags = 0; span = record { from = 0; to = 0 } }) cs end))) (here mid)) → Admits (after (at Unary f)) cs (here mid)
     go cs (is_seq (is_lexeme p) (is_such d c)) e = e
 
--- an answer by the rule of its symbol
-pub by_path : {text : List ℕ} {f : Flags} {n : Symbol} {p q w : Parser} {l : Label} {cs : Slots} {id : NodeId} → Path text f (after n) (rule n) p nothing q (tree l cs) → Same p q → w ≡ record q { nodes = w.nodes } → ((y : Lexeme) → Lex text q.prev_token_end y → IsTrue (seen (follow n (edge_of l cs)) y || seen beside y)) → may_end n.name (row_of l cs) ≡ true
+-- an answer by the path of its symbol
+pub by_such : {text : List ℕ} {f : Flags} {n : Symbol} {p q w : Parser} {l : Label} {cs : Slots} {id : NodeId} → Path text f (after n) (such n always) p nothing q (tree l cs) → Same p q → w ≡ record q { nodes = w.nodes } → ((y : Lexeme) → Lex text q.prev_token_end y → IsTrue (seen (follow n (edge_of l cs)) y || seen beside y)) → may_end n.name (row_of l cs) ≡ true
     → Holds w.nodes (length p.nodes) (length w.nodes) id.0 l cs → Keeps p.nodes w.nodes → Numbered text f n p w id
-by_path {text} {f} {n} {p} {q} {w} {l} {cs} {id} a b e s r h k = go w.nodes e h k
+by_such {text} {f} {n} {p} {q} {w} {l} {cs} {id} y b e s r h k = go w.nodes e h k
   where
     go : (ns : List Node) → w ≡ record q { nodes = ns } → Holds w.nodes (length p.nodes) (length w.nodes) id.0 l cs → Keeps p.nodes w.nodes → Numbered text f n p w id
-    go ns e h k =
-        let y : Path text f (after n) (such n always) p nothing q (tree l cs) = by_symbol_as {X' = after n} (λ l cs vs y d. d) a in
-        subst (λ (r : Parser). Numbered text f n p r id) (sym e) (record {
-          answer = record { at = beside_nodes ns y.at; same = same_with ns b (subst (λ (r : Parser). Keeps p.nodes r.nodes) e k); further = y.further; label = l; slots = cs; stops = s; row = r; pass = y.pass; walked = y.walked; verdict = y.verdict };
-          holds = subst (λ (r : Parser). Holds r.nodes (length p.nodes) (length r.nodes) id.0 l cs) e h;
-          keeps = subst (λ (r : Parser). Keeps p.nodes r.nodes) e k;
-        })
+    go ns e h k = subst (λ (r : Parser). Numbered text f n p r id) (sym e) (record {
+      answer = record { at = beside_nodes ns y.at; same = same_with ns b (subst (λ (r : Parser). Keeps p.nodes r.nodes) e k); further = y.further; label = l; slots = cs; stops = s; row = r; pass = y.pass; walked = y.walked; verdict = y.verdict };
+      holds = subst (λ (r : Parser). Holds r.nodes (length p.nodes) (length r.nodes) id.0 l cs) e h;
+      keeps = subst (λ (r : Parser). Keeps p.nodes r.nodes) e k;
+    })
+
+-- and by that of its rule
+pub by_path : {text : List ℕ} {f : Flags} {n : Symbol} {p q w : Parser} {l : Label} {cs : Slots} {id : NodeId} → Path text f (after n) (rule n) p nothing q (tree l cs) → Same p q → w ≡ record q { nodes = w.nodes } → ((y : Lexeme) → Lex text q.prev_token_end y → IsTrue (seen (follow n (edge_of l cs)) y || seen beside y)) → may_end n.name (row_of l cs) ≡ true
+    → Holds w.nodes (length p.nodes) (length w.nodes) id.0 l cs → Keeps p.nodes w.nodes → Numbered text f n p w id
+by_path {n = n} a b e s r h k = by_such (by_symbol_as {X' = after n} (λ l cs vs y d. d) a) b e s r h k
 
 abbrev Unarily : List ℕ → Flags → Kind → Type 0
 Unarily text f k = (p q r : Parser) → At text f p → p.token.kind ≡ k → p.token.escaped ≡ false → Moved text f p q → (x : Answer text f (at Unary f) q r) → Path text f (after (at Unary f)) (rule (at Unary f)) p nothing r (tree (label_here unary_expression (of k) p r) (tree x.label x.slots end))

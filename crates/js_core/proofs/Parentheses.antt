@@ -154,9 +154,9 @@ closes p q opening (Ok x) e = (e.0, λ text f a. moves (uncut a (ap (same_kind R
 closes p q opening (Err Fatal) e = (λ z k. e.0 refl k, (e.1.0, tt, e.1.2))
 closes p q opening (Err NoMemory) e = (λ z k. e.0 z k, tt)
 
-pub unclosed : (p q : Parser) (e : Stop) {F : Type 0} → (e ≡ Fatal → p.token.kind ≡ RParen → ⊥) × GivesUp (λ d. Unit {0}) p q e → (one_of_kinds (RParen ∷ []) p.token.kind ≡ false → F) → Stops p q e F
-unclosed p q Fatal h g = gives_up (λ d. Unit {0}) p q Fatal h.1 (g (other_kind RParen p.token.kind (h.0 refl)))
-unclosed p q NoMemory h g = tt
+pub unclosed : {text : List ℕ} {f : Flags} (p q : Parser) (e : Stop) {F : Type 0} → At text f p → (e ≡ Fatal → p.token.kind ≡ RParen → ⊥) × GivesUp (λ d. Unit {0}) p q e → (one_of_kinds (RParen ∷ []) p.token.kind ≡ false → F) → Stops p q e F
+unclosed p q Fatal a h g = gives_up (λ d. Unit {0}) p q Fatal a h.1 (g (other_kind RParen p.token.kind (h.0 refl)))
+unclosed p q NoMemory a h g = tt
 
 pub paren_whole : {text : List ℕ} {f : Flags} {p : Parser} → At text f p → p.token.kind ≡ LParen → IsWholeHere p
 paren_whole a k = (uncut a (ap (same_kind RAngle) k), ap is_last k)

@@ -29,10 +29,10 @@ use Rattle.js_cursor.specs.Places.{goal}
 use Rattle.js_cursor.specs.declared.stop.Stop.{Stop}
 use Rattle.js_cursor.specs.declared.stop.Stop.TheVariants.{Fatal}
 use Rattle.js_core.specs.Answers.{Answer, Numbered, Grown, Verdict, clean, unclean, Stops}
-use Rattle.js_core.specs.Lexemes.{Lex, read_kinds, read_sign, read_word}
+use Rattle.js_core.specs.Lexemes.{Lex, read_kinds}
 use Rattle.js_core.specs.Moves.{Moved, Tightness}
 use Rattle.js_core.specs.Operators.{power_of}
-use Rattle.js_core.specs.Rests.{update_kinds, ending_kinds, no_target_at, ReadsHere, Refused, Ended}
+use Rattle.js_core.specs.Rests.{update_kinds, ending_kinds, no_target_at, Refused, Ended}
 use Rattle.js_core.specs.States.{At, Same, Standing, IsPlain, whole, sign, nothing as no_lexeme}
 use Rattle.js_core.specs.Targets.{target_of, Stood}
 use Rattle.js_core.proofs.Covers.{row_of_target, Untargeted, no_target_there}
@@ -72,32 +72,6 @@ ending_there {text} {p = p} a c h =
     let z = there a c k.2 in
     let e : z.0.kind ≡ p.token.kind = sym z.2.kind in
     (z.0, (z.1, read_of z.0 e (plain_of p.token.kind z.1.word z.0.escaped (subst (λ (v : Kind). z.0.escaped ≡ is_escaped v z.1.word) e z.1.escaped) k.0) k.1), e)
-
--- what is known to be read is read
-abbrev known : Look
-known k w e = read_word k || read_sign k
-
-abbrev read_whole : Look
-read_whole k w e = one_of_kinds read_kinds k && (not (same_kind RAngle k) && not (same_kind Undetermined k))
-
-known_read : covers known read_whole ≡ true
-unfolding covers
-known_read = refl
-
-pub known_there : {text : List ℕ} {f : Flags} {p : Parser} → At text f p → (read_word p.token.kind || read_sign p.token.kind) ≡ true → p.token.escaped ≡ false → (y : Lexeme) × Lex text p.prev_token_end y
-known_there {text} {p = p} a h e =
-    let k = and_parts (one_of_kinds read_kinds p.token.kind) _ (covered known read_whole known_read p.token.kind false false h) in
-    let n = and_parts (not (same_kind RAngle p.token.kind)) _ k.1 in
-    let z = there a (uncut a (is_not (same_kind RAngle p.token.kind) n.0)) (λ q. false≢true (sym (is_not (same_kind Undetermined p.token.kind) n.1) ∙ subst (λ (v : Kind). same_kind Undetermined v ≡ true) (sym q) refl)) in
-    (z.0, (z.1, read_of z.0 (sym z.2.kind) (sym z.2.escaped ∙ e) k.0))
-  where
-    is_not : (b : Bool) → not b ≡ true → b ≡ false
-    is_not true h = absurd (false≢true h)
-    is_not false h = refl
-
-pub reads_so : {p : Parser} (b : Bool) → Standing p → p.token.escaped ≡ false → b ≡ (read_word p.token.kind || read_sign p.token.kind) → ReadsHere p b
-reads_so true a e h = known_there a (sym h) e
-reads_so false a e h = tt
 
 strong : (power : ℕ) (e : Bool) (k : ℕ) → power ≡ cond e 0 k → 1 ≤ power → (e ≡ false) × (1 ≤ k)
 strong power true k h l = absurd (omega arith)
@@ -195,8 +169,8 @@ grew kept k h (clean e c) = absurd (h (ap length e ∙ sym k))
 grew kept k h (unclean g b) = g
 
 pub refused : {text : List ℕ} {f : Flags} {p q : Parser} {C B F : Type 0} (r : Parser) (kept : ℕ) (e : Stop) → kept ≡ length p.errors → At text f q → Same p q → Verdict p.errors q.errors C B → Refused kept q r e → F → Stops p r e F
-refused {p = p} {q = q} {F = F} r kept e k a s v (inl h) n = subst (λ (x : Stop). Stops p r x F) (sym h.2) (subst (λ (x : Parser). Stops p x Fatal F) (sym h.1) (record { at = a.at; follows = s.follows; grown = grew kept k h.0 v; none = n }))
-refused {p = p} {q = q} r kept e k a s v (inr h) n = stops_behind r e s.follows (λ g. grown_behind v g) (λ x. x) (gives_up (λ d. Unit {0}) q r e h n)
+refused {p = p} {q = q} {F = F} r kept e k a s v (inl h) n = subst (λ (x : Stop). Stops p r x F) (sym h.2) (subst (λ (x : Parser). Stops p x Fatal F) (sym h.1) (record { at = a.at; follows = s.follows; grown = grew kept k h.0 v; heads = a.heads; none = n }))
+refused {p = p} {q = q} r kept e k a s v (inr h) n = stops_behind r e s.follows (λ g. grown_behind v g) (λ x. x) (gives_up (λ d. Unit {0}) q r e a h n)
 
 pub span_is : {from to : ℕ} (s : Span) → s.start ≡ from → s.end ≡ to → s ≡ record { start = from; end = to }
 span_is s a b = λ i. record { start = a i; end = b i }

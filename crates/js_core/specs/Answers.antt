@@ -17,6 +17,7 @@ use Rattle.js_cursor.specs.Places.{IsAt}
 use Rattle.js_cursor.specs.declared.stop.Stop.{Stop}
 use Rattle.js_cursor.specs.declared.stop.Stop.TheVariants.{Fatal, NoMemory}
 use Rattle.js_core.specs.Lexemes.{Lex, Walked, spot}
+use Rattle.js_core.specs.Heads.{NotedHeads}
 use Rattle.js_core.specs.States.{At, Same}
 
 -- items were kept, one at least, behind those from before
@@ -68,6 +69,7 @@ pub record Refuses (old new : Parser) (F : Type 0) : Type 0 where
   pub at : IsAt new
   pub follows : Follows old new
   pub grown : Grown old.errors new.errors
+  pub heads : NotedHeads new
   pub none : F
 
 abbrev pub Stops : Parser → Parser → Stop → Type 0 → Type 0

@@ -14,7 +14,8 @@ use Rattle.js_cursor.specs.Checkpoints.{GoesOn}
 use Rattle.js_cursor.specs.Moves.{Keeps}
 use Rattle.js_cursor.specs.Parsers.{Parser}
 use Rattle.js_cursor.specs.declared.stop.Stop.{Stop}
-use Rattle.js_core.specs.Answers.{Outcome, Stretch, Underived}
+use Rattle.js_core.specs.Answers.{Numbered, Outcome, Stretch, Underived}
+use Rattle.js_core.specs.Heads.{NoHead, NotedHeads}
 use Rattle.js_core.specs.Lexemes.{Lex, Walked, spot}
 use Rattle.js_core.specs.States.{At, Same}
 
@@ -62,10 +63,14 @@ abbrev pub FindsHead : Parser → Parser → Option NodeId → Type 0
 FindsHead p q (Some id) = IsHeadHere p q id
 FindsHead p q None = Unmoved p q × NoArrowHere p
 
+-- no parameters in parentheses with `=>` behind them are derived here
+abbrev pub NoHeadHere : Parser → Type 0
+NoHeadHere p = (text : List ℕ) (f : Flags) → At text f p → NoHead text f p.prev_token_end
+
 -- a head was read; or none stands here, and the parser went on
 abbrev pub LooksForHead : Parser → Parser → Option NodeId → Type 0
 LooksForHead p q (Some id) = IsHeadHere p q id
-LooksForHead p q None = GoesOn p q × NoArrowHere p
+LooksForHead p q None = GoesOn p q × NotedHeads q × NoHeadHere p
 
 -- whether `=>` stands behind the current lexeme
 abbrev pub ArrowBehind : Parser → Parser → Bool → Type 0
@@ -88,6 +93,16 @@ late_arrow s = record { kind = LineterminatorBeforeArrow; span = s; first = None
 abbrev pub ChecksLine : Parser → Parser → Type 0
 ChecksLine p q = ((p.token.is_on_new_line ≡ true) × Keeps (late_arrow p.token.span) p q) ⊎ ((p.token.is_on_new_line ≡ false) × (q ≡ p))
 
--- An arrow function is read on from its `=>`, whose head was read from the state o on.
+-- `=>` stands here, behind something of which more was told than so many diagnostics
+abbrev pub IsRefusedHead : ℕ → Parser → Bool → Type 0
+IsRefusedHead kept p true = (length p.errors ≡ kept → ⊥) × (p.token.kind ≡ Arrow)
+IsRefusedHead kept p false = Unit {0}
+
+-- What stands before `=>` was read: a head; or an AssignmentExpression of which something was told.
+pub data BeforeArrow (text : List ℕ) (f : Flags) (o p : Parser) (id : NodeId) : Type 0 where
+  a_head : Head text f o p id → BeforeArrow text f o p id
+  refused : Numbered text f (at Assignment f) o p id → (length p.errors ≡ length o.errors → ⊥) → BeforeArrow text f o p id
+
+-- An arrow function is read on from its `=>`: what stands before that was read from the state o on.
 abbrev pub ReadsBody : ℕ → NodeId → Parser → Parser → Result NodeId Stop → Type 0
-ReadsBody start head p q r = (text : List ℕ) (f : Flags) (o : Parser) → At text f o → start ≡ o.token.span.start → Head text f o p head → Outcome text f (at Assignment f) o q r
+ReadsBody start head p q r = (text : List ℕ) (f : Flags) (o : Parser) → At text f o → start ≡ o.token.span.start → BeforeArrow text f o p head → Outcome text f (at Assignment f) o q r

@@ -32,38 +32,53 @@ read_word Instanceof = true
 read_word New = true
 read_word _ = false
 
--- those among them that are no words, and no operators that group to the left
-abbrev pub read_sign : Kind → Bool
-read_sign Eof = true
-read_sign Decimal = true
-read_sign Str = true
-read_sign Tilde = true
-read_sign Bang = true
-read_sign Question = true
-read_sign Question2 = true
-read_sign Colon = true
-read_sign Comma = true
-read_sign Plus2 = true
-read_sign Minus2 = true
-read_sign Eq = true
-read_sign PlusEq = true
-read_sign MinusEq = true
-read_sign StarEq = true
-read_sign SlashEq = true
-read_sign PercentEq = true
-read_sign ShiftLeftEq = true
-read_sign PipeEq = true
-read_sign CaretEq = true
-read_sign AmpEq = true
-read_sign Amp2Eq = true
-read_sign Pipe2Eq = true
-read_sign Question2Eq = true
-read_sign Star2Eq = true
-read_sign Semicolon = true
-read_sign RParen = true
-read_sign RBrack = true
-read_sign Arrow = true
-read_sign _ = false
+-- the operators between two operands among them that are no words
+abbrev pub read_operator : Kind → Bool
+read_operator Question2 = true
+read_operator Plus = true
+read_operator Minus = true
+read_operator Star = true
+read_operator Star2 = true
+read_operator Percent = true
+read_operator Eq2 = true
+read_operator Eq3 = true
+read_operator Neq = true
+read_operator Neq2 = true
+read_operator LAngle = true
+read_operator LtEq = true
+read_operator RAngle = true
+read_operator GtEq = true
+read_operator ShiftLeft = true
+read_operator ShiftRight = true
+read_operator ShiftRight3 = true
+read_operator Amp = true
+read_operator Amp2 = true
+read_operator Pipe = true
+read_operator Pipe2 = true
+read_operator Caret = true
+read_operator _ = false
+
+-- the rest of them, but for numbers and the operators of assignments
+abbrev pub read_mark : Kind → Bool
+read_mark Eof = true
+read_mark Str = true
+read_mark Bang = true
+read_mark Tilde = true
+read_mark Plus2 = true
+read_mark Minus2 = true
+read_mark Question = true
+read_mark Colon = true
+read_mark Comma = true
+read_mark Dot = true
+read_mark QuestionDot = true
+read_mark Semicolon = true
+read_mark LParen = true
+read_mark RParen = true
+read_mark LBrack = true
+read_mark RBrack = true
+read_mark Dot3 = true
+read_mark Arrow = true
+read_mark _ = false
 
 -- y may be the next lexeme behind the place s, and is one of those
 abbrev pub Lex : List ℕ → ℕ → Lexeme → Type 0

@@ -19,3 +19,4 @@ pub mod Bindings
 pub mod Parameters
 pub mod Arrows
 pub mod Marked
+pub mod Heads

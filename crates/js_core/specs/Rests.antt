@@ -75,7 +75,7 @@ pub record Ended (text : List ℕ) (f : Flags) (old new : Parser) (b : Bool) : T
 abbrev pub EndsOperand : Parser → Parser → Bool → Type 0
 EndsOperand old new b = (text : List ℕ) (f : Flags) → At text f old → Ended text f old new b
 
--- if it is true, a lexeme that is read stands here
+-- whether a lexeme that is read stands here
 abbrev pub ReadsHere : Parser → Bool → Type 0
 ReadsHere p true = (y : Lexeme) × Lex p.text p.prev_token_end y
-ReadsHere p false = Unit {0}
+ReadsHere p false = (y : Lexeme) → Lex p.text p.prev_token_end y → ⊥

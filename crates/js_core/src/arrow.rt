@@ -75,7 +75,8 @@ fn parse_single_parameter<C: ParserConfig>(p: &mut ParserImpl<'_, C>) -> Result<
     Ok(parameters)
 }
 
-/// FormalParameters in parentheses, where `=>` stands behind them: an attempt, which is taken back where it fails.
+/// FormalParameters in parentheses, where `=>` stands behind them: an attempt, which is taken back where it fails. That is
+/// noted, and not tried again.
 fn try_parse_parenthesized_head<C: ParserConfig, N: Nested<C>>(
     p: &mut ParserImpl<'_, C>,
     nested: &N,
@@ -85,11 +86,16 @@ fn try_parse_parenthesized_head<C: ParserConfig, N: Nested<C>>(
     requires open { p.old.token.kind ≡ LParen }
     ensures { MatchResult result (λ found. FindsHead p.old p.new found) OnlyMemory }
 {
+    let place = p.prev_token_end();
+    if p.arrow_failed(place) {
+        return Ok(None);
+    }
     let here = p.checkpoint()?;
     if let Some(parameters) = parse_parenthesized_head(p, nested)? {
         return Ok(Some(parameters));
     }
     p.rewind(here);
+    p.note_arrow_failed(place)?;
     Ok(None)
 }
 
@@ -105,7 +111,7 @@ fn parse_parenthesized_head<C: ParserConfig, N: Nested<C>>(
     ensures { MatchResult result (λ found. LooksForHead p.old p.new found) OnlyMemory }
 {
     let kept = kept_so_far(p);
-    match attempt_formal_parameters(p, nested) {
+    match parse_formal_parameters(p, nested) {
         Ok(parameters) => {
             if is_head(p, kept) {
                 Ok(Some(parameters))
@@ -118,26 +124,6 @@ fn parse_parenthesized_head<C: ParserConfig, N: Nested<C>>(
     }
 }
 
-/// How many levels of depth an attempt takes. What is read in an attempt that fails is read again, so each attempt within
-/// another one may double the time: four of them fit.
-const ATTEMPT_LEVELS: u32 = 1_700;
-
-/// FormalParameters in parentheses, read as an attempt.
-fn attempt_formal_parameters<C: ParserConfig, N: Nested<C>>(
-    p: &mut ParserImpl<'_, C>,
-    nested: &N,
-) -> Result<NodeId, Stop>
-    requires at { Standing p.old }
-    requires nests { CanNest (N.can nested.now) (room p.old) }
-    requires open { p.old.token.kind ≡ LParen }
-    ensures { Answers (at Params) p.old p.new result }
-{
-    p.enter(ATTEMPT_LEVELS)?;
-    let parameters = parse_formal_parameters(p, nested)?;
-    p.leave(ATTEMPT_LEVELS);
-    Ok(parameters)
-}
-
 /// Whether nothing was told since there were so many diagnostics, and `=>` stands here.
 fn is_head<C: ParserConfig>(p: &ParserImpl<'_, C>, kept: usize) -> bool
     ensures { IsHead kept p.now result }
@@ -148,7 +134,8 @@ fn is_head<C: ParserConfig>(p: &ParserImpl<'_, C>, kept: usize) -> bool
     p.at(Kind::Arrow)
 }
 
-/// An arrow function, whose parameters were read from a place on (ECMA-262, section 15.3).
+/// An arrow function, whose parameters were read from a place on (ECMA-262, section 15.3), or parentheses in their place,
+/// of which something was told.
 pub fn parse_arrow_function_expression<C: ParserConfig, N: Nested<C>>(
     p: &mut ParserImpl<'_, C>,
     nested: &N,

@@ -1,6 +1,6 @@
 //! Assignments and conditional expressions (ECMA-262, sections 13.14 and 13.15).
 
-ghost use Rattle.std.specs.Prelude.{◌≡◌, ◌≤◌, true, false, length};
+ghost use Rattle.std.specs.Prelude.{◌≡◌, ◌≤◌, ◌<◌, true, false, length};
 ghost use Rattle.js_base.specs.Kinds.{one_of_kinds, same_kind};
 ghost use Rattle.js_grammar.specs.Insertion.{assign_operators};
 ghost use Rattle.js_base.specs.declared.kind.Kind.TheVariants.{Colon, Eq};
@@ -9,7 +9,7 @@ ghost use Rattle.js_cursor.specs.Places.{goal};
 ghost use Rattle.js_cursor.specs.declared.stop.Stop.TheVariants.{NoMemory};
 ghost use Rattle.js_grammar.specs.Productions.{at, Assignment};
 ghost use Rattle.js_core.specs.Answers.{Answers};
-ghost use Rattle.js_core.specs.Arrows.{NoArrowHere};
+ghost use Rattle.js_core.specs.Arrows.{IsRefusedHead, NoArrowHere};
 ghost use Rattle.js_core.specs.Nesting.{CanNest, room};
 ghost use Rattle.js_core.specs.Rests.{AssignsArray, Asked, Passes, ReadsConditional, not_simple_at};
 ghost use Rattle.js_core.specs.States.{Standing};
@@ -39,7 +39,23 @@ pub fn parse_assignment_expression<C: ParserConfig, N: Nested<C>>(
     if let Some(parameters) = parse_arrow_head(p, nested)? {
         return parse_arrow_function_expression(p, nested, start, parameters);
     }
-    parse_assignment_without_arrow(p, nested)
+    let kept = kept_so_far(p);
+    let operand = parse_assignment_without_arrow(p, nested)?;
+    if !is_refused_head(p, operand, kept) {
+        return Ok(operand);
+    }
+    parse_arrow_function_expression(p, nested, start, operand)
+}
+
+/// Whether `=>` stands behind parentheses in which something was told, since there were so many diagnostics.
+fn is_refused_head<C: ParserConfig>(p: &ParserImpl<'_, C>, operand: NodeId, kept: usize) -> bool
+    requires { operand.0 < length p.now.nodes }
+    ensures { IsRefusedHead kept p.now result }
+{
+    if !p.at(Kind::Arrow) || kept_so_far(p) == kept {
+        return false;
+    }
+    matches!(p.ast.kind(operand), NodeKind::ParenthesizedExpression)
 }
 
 /// An assignment or a conditional expression, where no arrow function stands (ECMA-262, sections 13.14 and 13.15).

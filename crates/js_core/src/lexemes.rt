@@ -4,7 +4,8 @@ ghost use Rattle.std.specs.Prelude.{◌≡◌, ◌↔◌, IsTrue, MatchResult};
 ghost use Rattle.js_cursor.specs.Moves.{OnlyMemory};
 ghost use Rattle.js_core.specs.States.{Standing};
 ghost use Rattle.js_base.specs.Contexts.{has_flag, in_flag};
-ghost use Rattle.js_core.specs.Lexemes.{read_sign, read_word};
+ghost use Rattle.js_base.specs.Kinds.{one_of_kinds};
+ghost use Rattle.js_core.specs.Lexemes.{read_kinds, read_mark, read_operator, read_word};
 ghost use Rattle.js_core.specs.Rests.{EndsOperand, ReadsHere};
 ghost use Rattle.js_core.specs.Members.{StandsHere};
 ghost use Rattle.js_core.specs.Moves.{IsCompleted, IsWholeHere, Moves, OperatorHere};
@@ -101,49 +102,80 @@ pub fn ends_operand<C: ParserConfig>(p: &mut ParserImpl<'_, C>) -> Result<bool, 
     }
 }
 
-/// Whether it is a lexeme that is read, and neither a word nor an operator that groups to the left.
-fn is_read_sign(kind: Kind) -> bool
-    ensures { result ≡ read_sign kind }
+/// Whether it is an operator between two operands that is read, and no word.
+fn is_read_operator(kind: Kind) -> bool
+    ensures { result ≡ read_operator kind }
+{
+    matches!(
+        kind,
+        Kind::Question2
+            | Kind::Plus
+            | Kind::Minus
+            | Kind::Star
+            | Kind::Star2
+            | Kind::Percent
+            | Kind::Eq2
+            | Kind::Eq3
+            | Kind::Neq
+            | Kind::Neq2
+            | Kind::LAngle
+            | Kind::LtEq
+            | Kind::RAngle
+            | Kind::GtEq
+            | Kind::ShiftLeft
+            | Kind::ShiftRight
+            | Kind::ShiftRight3
+            | Kind::Amp
+            | Kind::Amp2
+            | Kind::Pipe
+            | Kind::Pipe2
+            | Kind::Caret
+    )
+}
+
+/// Whether it is another sign that is read, a string or the end of the text; no operator of an assignment.
+fn is_read_mark(kind: Kind) -> bool
+    ensures { result ≡ read_mark kind }
 {
     matches!(
         kind,
         Kind::Eof
-            | Kind::Decimal
             | Kind::Str
-            | Kind::Tilde
             | Kind::Bang
-            | Kind::Question
-            | Kind::Question2
-            | Kind::Colon
-            | Kind::Comma
+            | Kind::Tilde
             | Kind::Plus2
             | Kind::Minus2
-            | Kind::Eq
-            | Kind::PlusEq
-            | Kind::MinusEq
-            | Kind::StarEq
-            | Kind::SlashEq
-            | Kind::PercentEq
-            | Kind::ShiftLeftEq
-            | Kind::PipeEq
-            | Kind::CaretEq
-            | Kind::AmpEq
-            | Kind::Amp2Eq
-            | Kind::Pipe2Eq
-            | Kind::Question2Eq
-            | Kind::Star2Eq
+            | Kind::Question
+            | Kind::Colon
+            | Kind::Comma
+            | Kind::Dot
+            | Kind::QuestionDot
             | Kind::Semicolon
+            | Kind::LParen
             | Kind::RParen
+            | Kind::LBrack
             | Kind::RBrack
+            | Kind::Dot3
             | Kind::Arrow
     )
 }
 
-/// Whether what stands here is known to be a lexeme that is read: a word, or a sign.
+/// Whether it is a lexeme that is read.
+fn is_read_kind(kind: Kind) -> bool
+    ensures { result ≡ one_of_kinds read_kinds kind }
+{
+    is_read_word(kind)
+        || kind.is_number()
+        || kind.is_assignment_operator()
+        || is_read_operator(kind)
+        || is_read_mark(kind)
+}
+
+/// Whether a lexeme that is read stands here.
 pub fn reads_here<C: ParserConfig>(p: &ParserImpl<'_, C>) -> bool
     requires { Standing p.now }
     ensures { ReadsHere p.now result }
 {
     let token = p.cur_token();
-    !token.escaped() && (is_read_word(token.kind()) || is_read_sign(token.kind()))
+    !token.escaped() && is_read_kind(token.kind())
 }

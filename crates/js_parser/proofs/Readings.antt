@@ -35,7 +35,7 @@ use Rattle.js_core.specs.Answers.{Stretch, Stops, Verdict, clean, unclean}
 use Rattle.js_core.specs.Lexemes.{Lex, is_read, read_kinds}
 use Rattle.js_core.specs.States.{At, IsPlain, whole, sign, nothing as no_lexeme, flags_of, Standing}
 use Rattle.js_core.specs.StatementLists.{at_text_end, with_directives, statements, NoList, Taken, AllTaken, AllRefused}
-use Rattle.js_core.proofs.Beginning.{begins, begins_with_hashbang, behind_first, hashbang_passed}
+use Rattle.js_core.proofs.Beginning.{begins, begins_with_hashbang, behind_first, hashbang_passed, none_noted}
 use Rattle.js_core.proofs.Dead.{fails_dead}
 use Rattle.js_core.proofs.Giving.{fails_none}
 use Rattle.js_core.proofs.Here.{told, plain_kind, kind_here}
@@ -341,7 +341,7 @@ module _ {b : Bool} {p : Parser} (s : Starts p.text p.source_type p.options b p)
     never n = n (begins_with_hashbang s k)
 
     node_stands : {v : Parser} {l : Label} {id : NodeId} → MadeHere l [] m v id → Standing v
-    node_stands {v} n = let a = behind_first s.at d in standing (subst (λ (r : Parser). At m.text (flags_of m) r) (sym n.stays) (beside_nodes v.nodes a))
+    node_stands {v} n = let a = behind_first s.at (none_noted p s.state) d in standing (subst (λ (r : Parser). At m.text (flags_of m) r) (sym n.stays) (beside_nodes v.nodes a))
 
     pub hashbang_stands : {v : Parser} {l : Label} {id : NodeId} → MadeHere l [] m v id → Standing v
     hashbang_stands n = node_stands n

@@ -1,7 +1,7 @@
-use Rattle.std.proofs.Common.{◌≡◌, ◌+◌, ◌≤◌, arith, refl, ap, ◌∙◌}
+use Rattle.std.proofs.Common.{arith, refl, ap, ◌∙◌}
 use Rattle.std.proofs.lemmas.Result.{err_from_is_err_and}
 use Rattle.js_base.specs.declared.kind.Kind.TheVariants.{Arrow}
-use Rattle.js_core.proofs.Arrows.{arrow_answers, arrow_stops, line_at, line_place, line_same, line_token}
+use Rattle.js_core.proofs.Arrows.{before_answers, before_at, before_stops, line_at, line_place, line_same, line_token}
 use Rattle.js_core.proofs.Conditionals.{whole_sign}
 use Rattle.js_core.proofs.Moving.{standing}
 use Rattle.js_core.proofs.Nesting.{nests_later, nested_room, later_room}
@@ -26,8 +26,8 @@ assignment_in_arrow-requires-clause-nests g c =
 pub returns-in_err-body : goal.returns-in_err-body
 returns-in_err-body g c = λ text f o a e h.
     let p = err_from_is_err_and c.from_residual-in_err-body.result c.from_residual-in_err-body.ensures.1 in
-    let m = c.in_ok-advance.ensures text f (line_at h.at c.in_ok-check_line.ensures) in
-    rw (p.1, p.2) (arrow_stops h c.requires.arrow c.in_ok-check_line.ensures m _ _ (c.in_err-body.ensures text f m.at))
+    let m = c.in_ok-advance.ensures text f (line_at (before_at h) c.in_ok-check_line.ensures) in
+    rw (p.1, p.2) (before_stops h c.requires.arrow c.in_ok-check_line.ensures m _ _ (c.in_err-body.ensures text f m.at))
 
 pub end_span-span-requires : goal.end_span-span-requires
 end_span-span-requires g c =
@@ -38,5 +38,5 @@ end_span-span-requires g c =
 
 pub returns : goal.returns
 returns g c = λ text f o a e h.
-    let m = c.in_ok-advance.ensures text f (line_at h.at c.in_ok-check_line.ensures) in
-    arrow_answers h c.requires.arrow c.in_ok-check_line.ensures m _ a (c.in_ok-body.ensures text f m.at) (c.end_span-span.ensures.start ∙ e) c.end_span-span.ensures.end c.in_ok-node.ensures
+    let m = c.in_ok-advance.ensures text f (line_at (before_at h) c.in_ok-check_line.ensures) in
+    before_answers h c.requires.arrow c.in_ok-check_line.ensures m _ a (c.in_ok-body.ensures text f m.at) (c.end_span-span.ensures.start ∙ e) c.end_span-span.ensures.end c.in_ok-node.ensures

@@ -1,4 +1,4 @@
-use Rattle.std.proofs.Common.{ap, sym, ◌∙◌}
+use Rattle.std.proofs.Common.{ap, ◌∙◌}
 use Rattle.js_base.specs.declared.token.Token.{Token}
 use Rattle.js_core.proofs.Arrows.{single_head, single_place}
 use Rattle.js_core.proofs.arrow.parse_single_parameter.Goals as goal

@@ -43,7 +43,7 @@ returns-in_err-expect_conditional_alternative t c = λ text f first a na e x.
     let p = err_from_is_err_and c.from_residual-in_err-expect_conditional_alternative.result c.from_residual-in_err-expect_conditional_alternative.ensures.1 in
     let m = c.in_ok-advance.ensures text f x.answer.at in
     let y = c.in_ok-consequent.ensures text f m.at in
-    rw (p.1, p.2) (stops_behind _ _ (same_both x.answer.same (same_both m.same y.answer.same)).follows (λ g. after x.answer.verdict (grown_then m.kept (after y.answer.verdict g))) (λ n. colon_fails x.answer na (c.at.ensures.0 c.if-not-at.false) m y.answer n) (colon_missing _ _ _ c.in_err-expect_conditional_alternative.ensures))
+    rw (p.1, p.2) (stops_behind _ _ (same_both x.answer.same (same_both m.same y.answer.same)).follows (λ g. after x.answer.verdict (grown_then m.kept (after y.answer.verdict g))) (λ n. colon_fails x.answer na (c.at.ensures.0 c.if-not-at.false) m y.answer n) (colon_missing _ _ _ y.answer.at c.in_err-expect_conditional_alternative.ensures))
 
 pub assignment-requires : goal.assignment-requires
 assignment-requires t c =

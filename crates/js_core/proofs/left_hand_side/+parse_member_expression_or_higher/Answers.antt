@@ -5,7 +5,7 @@ use Rattle.js_cursor.specs.Parsers.{Parser}
 use Rattle.js_core.specs.Nesting.{room}
 use Rattle.js_core.proofs.Giving.{gives_up}
 use Rattle.js_core.proofs.Members.{at_callee, begun_at, callee_room, entered_stops, member_init, new_arguments_stop, new_follows, new_grown, new_refused, new_taken, new_with_arguments, no_head, stands_so, start_before, taken_room}
-use Rattle.js_core.proofs.Moving.{deeper, standing, stops_behind, stops_so}
+use Rattle.js_core.proofs.Moving.{deeper, left_at, standing, stops_behind, stops_so}
 use Rattle.js_core.proofs.Nesting.{nested_room, nests_later, later_room}
 use Rattle.js_core.proofs.left_hand_side.+parse_member_expression_or_higher.Goals as goal
 
@@ -44,7 +44,7 @@ returns-then-stands-2 g t c = λ text f a.
     let h = c.in_ok-enter.ensures.ok.1 in
     let x = c.in_ok-callee.ensures text f (deeper m.at h) in
     stops_behind _ c.refuse_chain.result (new_follows a s.0 s.1 m h c.leave.ensures x) (λ i. new_grown a s.0 s.1 m h c.leave.ensures x i) (λ z. z)
-    (gives_up _ _ _ c.refuse_chain.result c.refuse_chain.ensures (new_refused a s.0 s.1 m h c.leave.ensures x (stands_so c.leave.new.self QuestionDot c.if-stands-2.true c.stands-then-stands.ensures)))
+    (gives_up _ _ _ c.refuse_chain.result (left_at x.0.at c.leave.ensures) c.refuse_chain.ensures (new_refused a s.0 s.1 m h c.leave.ensures x (stands_so c.leave.new.self QuestionDot c.if-stands-2.true c.stands-then-stands.ensures)))
 
 pub end_span-span-requires : goal.end_span-span-requires
 end_span-span-requires g t c =

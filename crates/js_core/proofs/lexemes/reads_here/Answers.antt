@@ -1,18 +1,17 @@
-use Rattle.std.proofs.Common.{◌≡◌, true, false, sym, ◌∙◌}
-use Rattle.std.proofs.lemmas.Bool.{or_left}
-use Rattle.js_core.specs.Lexemes.{read_sign, read_word}
-use Rattle.js_core.proofs.Refusals.{reads_so}
+use Rattle.std.proofs.Common.{◌≡◌, Bool, true, false, not, sym, ap, subst, ◌∙◌}
+use Rattle.js_base.specs.Kinds.{one_of_kinds}
+use Rattle.js_base.specs.declared.token.Token.{Token}
+use Rattle.js_core.specs.Lexemes.{read_kinds}
+use Rattle.js_core.specs.Rests.{ReadsHere}
+use Rattle.js_core.proofs.ReadKinds.{reads_escaped, reads_so}
 use Rattle.js_core.proofs.lexemes.reads_here.Goals as goal
 
-pub returns-then-is_read_word : goal.returns-then-is_read_word
-returns-then-is_read_word g c =
+pub returns-then-not-escaped : goal.returns-then-not-escaped
+returns-then-not-escaped g c =
     let e : c.args.p.now.token.escaped ≡ false = search in
-    let h : read_word c.args.p.now.token.kind ≡ true = search in
-    reads_so _ c.requires e (c.if-is_read_word.true ∙ sym (or_left _ _ h))
+    reads_so _ c.requires e (c.is_read_kind.ensures ∙ ap (one_of_kinds read_kinds) (c.kind.ensures ∙ ap (λ (t : Token). t.kind) c.cur_token-token.ensures))
 
-pub returns-else-is_read_word : goal.returns-else-is_read_word
-returns-else-is_read_word g c =
-    let e : c.args.p.now.token.escaped ≡ false = search in
-    let h : read_word c.args.p.now.token.kind ≡ false = search in
-    let i : c.is_read_sign.result ≡ read_sign c.args.p.now.token.kind = search in
-    reads_so _ c.requires e (rw h i)
+pub returns-else-not-escaped : goal.returns-else-not-escaped
+returns-else-not-escaped g c =
+    let e : c.args.p.now.token.escaped ≡ true = search in
+    subst (λ (b : Bool). ReadsHere c.args.p.now (not b)) (sym c.if-not-escaped.false) (reads_escaped c.requires e)

@@ -13,7 +13,7 @@ use Rattle.js_core.proofs.Verdicts.{grown_then}
 use Rattle.js_core.proofs.primary.parse_v8_intrinsic_expression.Goals as goal
 
 pub returns-then-not-allows_v8 : goal.returns-then-not-allows_v8
-returns-then-not-allows_v8 t c = λ text f a. gives_up _ _ _ c.set_unexpected.result c.set_unexpected.ensures (no_v8 a c.requires.kind (sym (v8_option a c.allows_v8.ensures) ∙ c.if-not-allows_v8.true))
+returns-then-not-allows_v8 t c = λ text f a. gives_up _ _ _ c.set_unexpected.result a c.set_unexpected.ensures (no_v8 a c.requires.kind (sym (v8_option a c.allows_v8.ensures) ∙ c.if-not-allows_v8.true))
 
 pub advance-requires-clause-whole : goal.advance-requires-clause-whole
 advance-requires-clause-whole t c = (uncut c.requires.at (ap (same_kind RAngle) c.requires.kind), ap is_last c.requires.kind)
@@ -32,7 +32,7 @@ returns-then-not-stands t c = λ text f a.
     let m = c.in_ok-advance.ensures text f a in
     let x = c.in_ok-name.ensures text f m.at in
     stops_behind _ c.set_unexpected-then-not-stands.result (v8_follows a c.requires.kind m x) (λ g. v8_grown a c.requires.kind m x g) (λ n. n)
-    (gives_up _ _ _ c.set_unexpected-then-not-stands.result c.set_unexpected-then-not-stands.ensures (v8_unopened a c.requires.kind m x (stands_so c.parse_identifier_name.new.p LParen c.if-not-stands.true c.stands.ensures)))
+    (gives_up _ _ _ c.set_unexpected-then-not-stands.result x.answer.at c.set_unexpected-then-not-stands.ensures (v8_unopened a c.requires.kind m x (stands_so c.parse_identifier_name.new.p LParen c.if-not-stands.true c.stands.ensures)))
 
 pub parse_with_arguments-requires-clause-at : goal.parse_with_arguments-requires-clause-at
 parse_with_arguments-requires-clause-at t c = standing (c.in_ok-name.ensures _ _ (c.in_ok-advance.ensures _ _ c.requires.at).at).answer.at

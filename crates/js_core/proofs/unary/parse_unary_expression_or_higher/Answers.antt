@@ -5,7 +5,7 @@ use Rattle.js_core.proofs.Phrases.{unary_result}
 use Rattle.js_core.proofs.unary.parse_unary_expression_or_higher.Goals as goal
 
 pub returns-then-escaped : goal.returns-then-escaped
-returns-then-escaped t c = λ text f a. gives_up _ _ _ c.set_unexpected.result c.set_unexpected.ensures (fails_escaped a (let e : c.args.p.now.token.escaped ≡ true = search in e))
+returns-then-escaped t c = λ text f a. gives_up _ _ _ c.set_unexpected.result a c.set_unexpected.ensures (fails_escaped a (let e : c.args.p.now.token.escaped ≡ true = search in e))
 
 pub parse_unary_expression-requires-clause-operator : goal.parse_unary_expression-requires-clause-operator
 parse_unary_expression-requires-clause-operator t c = unary_listed c.cur_kind.ensures c.is_unary_operator.ensures c.if-is_unary_operator.true

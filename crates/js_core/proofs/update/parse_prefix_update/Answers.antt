@@ -34,7 +34,7 @@ returns-then-not-branch t c = λ text f a.
     let x = c.in_ok-operand.ensures text f m.at in
     let o = c.in_ok-ends_operand.ensures text f x.answer.at in
     let u = update_plain _ c.requires.operator in
-    stops_behind _ _ (same_both m.same (same_both x.answer.same o.same)).follows (λ g. grown_then m.kept (after x.answer.verdict (grown_then o.kept g))) (λ n. n) (gives_up _ _ _ c.set_unexpected.result c.set_unexpected.ensures (wrong_operand a _ c.requires.operator refl (plain_sign _ a refl u.1 u.2 u.0) m x.answer (c.in_default.ensures _ _ _ _ x.holds)))
+    stops_behind _ _ (same_both m.same (same_both x.answer.same o.same)).follows (λ g. grown_then m.kept (after x.answer.verdict (grown_then o.kept g))) (λ n. n) (gives_up _ _ _ c.set_unexpected.result o.at c.set_unexpected.ensures (wrong_operand a _ c.requires.operator refl (plain_sign _ a refl u.1 u.2 u.0) m x.answer (c.in_default.ensures _ _ _ _ x.holds)))
 
 pub refuse_target-requires-clause-at : goal.refuse_target-requires-clause-at
 refuse_target-requires-clause-at t c = let m = c.in_ok-advance.ensures _ _ c.requires.at in standing (c.in_ok-ends_operand.ensures _ _ (c.in_ok-operand.ensures _ _ m.at).answer.at).at

@@ -1,8 +1,8 @@
 use Rattle.std.proofs.Common.{inl, inr, refl}
-use Rattle.js_core.proofs.lexemes.is_read_sign.Goals as goal
+use Rattle.js_core.proofs.lexemes.is_read_operator.Goals as goal
 
-pub returns-in-Eof : goal.returns-in-Eof
-returns-in-Eof c = elim c.in-Eof.is [
+pub returns-in-Question2 : goal.returns-in-Question2
+returns-in-Question2 c = elim c.in-Question2.is [
   | inl e ↦ rw e refl
   | inr (inl e) ↦ rw e refl
   | inr (inr (inl e)) ↦ rw e refl
@@ -24,12 +24,5 @@ returns-in-Eof c = elim c.in-Eof.is [
   | inr (inr (inr (inr (inr (inr (inr (inr (inr (inr (inr (inr (inr (inr (inr (inr (inr (inr (inl e)))))))))))))))))) ↦ rw e refl
   | inr (inr (inr (inr (inr (inr (inr (inr (inr (inr (inr (inr (inr (inr (inr (inr (inr (inr (inr (inl e))))))))))))))))))) ↦ rw e refl
   | inr (inr (inr (inr (inr (inr (inr (inr (inr (inr (inr (inr (inr (inr (inr (inr (inr (inr (inr (inr (inl e)))))))))))))))))))) ↦ rw e refl
-  | inr (inr (inr (inr (inr (inr (inr (inr (inr (inr (inr (inr (inr (inr (inr (inr (inr (inr (inr (inr (inr (inl e))))))))))))))))))))) ↦ rw e refl
-  | inr (inr (inr (inr (inr (inr (inr (inr (inr (inr (inr (inr (inr (inr (inr (inr (inr (inr (inr (inr (inr (inr (inl e)))))))))))))))))))))) ↦ rw e refl
-  | inr (inr (inr (inr (inr (inr (inr (inr (inr (inr (inr (inr (inr (inr (inr (inr (inr (inr (inr (inr (inr (inr (inr (inl e))))))))))))))))))))))) ↦ rw e refl
-  | inr (inr (inr (inr (inr (inr (inr (inr (inr (inr (inr (inr (inr (inr (inr (inr (inr (inr (inr (inr (inr (inr (inr (inr (inl e)))))))))))))))))))))))) ↦ rw e refl
-  | inr (inr (inr (inr (inr (inr (inr (inr (inr (inr (inr (inr (inr (inr (inr (inr (inr (inr (inr (inr (inr (inr (inr (inr (inr (inl e))))))))))))))))))))))))) ↦ rw e refl
-  | inr (inr (inr (inr (inr (inr (inr (inr (inr (inr (inr (inr (inr (inr (inr (inr (inr (inr (inr (inr (inr (inr (inr (inr (inr (inr (inl e)))))))))))))))))))))))))) ↦ rw e refl
-  | inr (inr (inr (inr (inr (inr (inr (inr (inr (inr (inr (inr (inr (inr (inr (inr (inr (inr (inr (inr (inr (inr (inr (inr (inr (inr (inr (inl e))))))))))))))))))))))))))) ↦ rw e refl
-  | inr (inr (inr (inr (inr (inr (inr (inr (inr (inr (inr (inr (inr (inr (inr (inr (inr (inr (inr (inr (inr (inr (inr (inr (inr (inr (inr (inr e))))))))))))))))))))))))))) ↦ rw e refl
+  | inr (inr (inr (inr (inr (inr (inr (inr (inr (inr (inr (inr (inr (inr (inr (inr (inr (inr (inr (inr (inr e)))))))))))))))))))) ↦ rw e refl
 ]
