@@ -21,6 +21,7 @@ use js_lex::ParserConfig;
 use js_tree::{NodeId, NodeKind, Op};
 
 /// An ArrayLiteral (ECMA-262, section 13.2.4).
+#[inline(never)]
 pub fn parse_array_expression<C: ParserConfig, N: Nested<C>>(
     p: &mut ParserImpl<'_, C>,
     nested: &N,

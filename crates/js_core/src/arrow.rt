@@ -63,6 +63,7 @@ fn is_arrow_behind<C: ParserConfig>(p: &mut ParserImpl<'_, C>) -> Result<bool, S
 }
 
 /// A name as FormalParameters.
+#[inline(never)]
 fn parse_single_parameter<C: ParserConfig>(p: &mut ParserImpl<'_, C>) -> Result<NodeId, Stop>
     requires at { Standing p.old }
     requires name { p.old.token.kind ≡ Ident }
@@ -77,6 +78,7 @@ fn parse_single_parameter<C: ParserConfig>(p: &mut ParserImpl<'_, C>) -> Result<
 
 /// FormalParameters in parentheses, where `=>` stands behind them: an attempt, which is taken back where it fails. That is
 /// noted, and not tried again.
+#[inline(never)]
 fn try_parse_parenthesized_head<C: ParserConfig, N: Nested<C>>(
     p: &mut ParserImpl<'_, C>,
     nested: &N,
@@ -136,6 +138,7 @@ fn is_head<C: ParserConfig>(p: &ParserImpl<'_, C>, kept: usize) -> bool
 
 /// An arrow function, whose parameters were read from a place on (ECMA-262, section 15.3), or parentheses in their place,
 /// of which something was told.
+#[inline(never)]
 pub fn parse_arrow_function_expression<C: ParserConfig, N: Nested<C>>(
     p: &mut ParserImpl<'_, C>,
     nested: &N,
@@ -158,6 +161,7 @@ pub fn parse_arrow_function_expression<C: ParserConfig, N: Nested<C>>(
 }
 
 /// Tells of `=>` on a new line.
+#[inline(never)]
 fn check_line<C: ParserConfig>(p: &mut ParserImpl<'_, C>) -> Result<(), NoMemory>
     requires at { Standing p.old }
     requires arrow { p.old.token.kind ≡ Arrow }

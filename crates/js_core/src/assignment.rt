@@ -93,6 +93,7 @@ fn parse_assignment_without_arrow<C: ParserConfig, N: Nested<C>>(
 /// The operator and the right side of an assignment behind an array literal, which begins at a place, when so many
 /// diagnostics were kept. Array targets (ECMA-262, section 13.15.5) aren't read yet; before another operator than `=`
 /// there is none.
+#[inline(never)]
 fn parse_array_assignment<C: ParserConfig, N: Nested<C>>(
     p: &mut ParserImpl<'_, C>,
     nested: &N,
@@ -130,6 +131,7 @@ fn unread_target() -> Stop
 
 /// The branches of a conditional expression behind its test, which begins at a place, or the test alone (ECMA-262,
 /// section 13.14).
+#[inline(never)]
 fn parse_conditional_expression_rest<C: ParserConfig, N: Nested<C>>(
     p: &mut ParserImpl<'_, C>,
     nested: &N,
@@ -158,6 +160,7 @@ fn parse_conditional_expression_rest<C: ParserConfig, N: Nested<C>>(
 }
 
 /// Moves on over the colon of a conditional expression, whose `?` stood at a span.
+#[inline(never)]
 fn expect_conditional_alternative<C: ParserConfig>(
     p: &mut ParserImpl<'_, C>,
     question: Span,

@@ -108,6 +108,7 @@ pub fn kept_so_far<C: ParserConfig>(p: &ParserImpl<'_, C>) -> usize
 
 /// Tells of an array literal before an assignment operator other than `=`, which was read from a place on (ECMA-262,
 /// section 13.15.1). Where a diagnostic was kept since, when there were so many, that is enough.
+#[inline(never)]
 pub fn tell_not_simple<C: ParserConfig>(
     p: &mut ParserImpl<'_, C>,
     start: u32,
@@ -131,6 +132,7 @@ pub fn tell_not_simple<C: ParserConfig>(
 
 /// Gives up, since what was read from a place on is no target. Where a diagnostic was kept since, when there were so
 /// many, that is enough.
+#[inline(never)]
 pub fn refuse_target<C: ParserConfig>(p: &mut ParserImpl<'_, C>, start: u32, kept: usize) -> Stop
     requires at { Standing p.old }
     requires start { start ≤ p.old.prev_token_end }

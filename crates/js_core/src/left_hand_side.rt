@@ -85,6 +85,7 @@ fn parse_member_expression_or_higher<C: ParserConfig, N: Nested<C>>(
 }
 
 /// Gives up at a `?.` behind what `new` stands before.
+#[inline(never)]
 fn refuse_chain<C: ParserConfig>(p: &mut ParserImpl<'_, C>) -> Stop
     requires at { Standing p.old }
     requires sign { StandsHere p.old QuestionDot true }
@@ -186,6 +187,7 @@ fn link_here<C: ParserConfig>(p: &ParserImpl<'_, C>, base: LinkBase) -> bool
 }
 
 /// The link that stands here, behind what was read.
+#[inline(never)]
 fn parse_link<C: ParserConfig, N: Nested<C>>(
     p: &mut ParserImpl<'_, C>,
     nested: &N,
@@ -257,6 +259,7 @@ fn lacks_link(kind: Kind) -> bool
 }
 
 /// Gives up behind a `?.` that stood at a span, where no link goes on with what stands here.
+#[inline(never)]
 fn refuse_optional_link<C: ParserConfig>(p: &mut ParserImpl<'_, C>, sign: Span) -> Stop
     requires at { Standing p.old }
     requires mark { Mark (goal p.old) p.old.text (no_link_behind sign) }
@@ -295,6 +298,7 @@ fn parse_named_link<C: ParserConfig>(
 }
 
 /// An Expression in brackets, and the node of what stands before and this.
+#[inline(never)]
 fn parse_with_index<C: ParserConfig, N: Nested<C>>(
     p: &mut ParserImpl<'_, C>,
     nested: &N,
@@ -324,6 +328,7 @@ fn parse_with_index<C: ParserConfig, N: Nested<C>>(
 }
 
 /// Arguments, and the node of these and the callee before them.
+#[inline(never)]
 pub fn parse_with_arguments<C: ParserConfig, N: Nested<C>>(
     p: &mut ParserImpl<'_, C>,
     nested: &N,

@@ -16,6 +16,7 @@ use js_cursor::{ParserImpl, Stop};
 use js_lex::ParserConfig;
 
 /// Moves one lexeme on, which is none of those that can't be passed, and no part of a longer one.
+#[inline(always)]
 pub fn advance<C: ParserConfig>(p: &mut ParserImpl<'_, C>) -> Result<(), Stop>
     requires at { Standing p.old }
     requires whole { IsWholeHere p.old }
@@ -36,6 +37,7 @@ fn complete_here<C: ParserConfig>(p: &mut ParserImpl<'_, C>) -> Result<(), Stop>
 }
 
 /// Whether `in` is an operator here.
+#[inline(always)]
 fn allows_in<C: ParserConfig>(p: &ParserImpl<'_, C>) -> bool
     ensures { result ≡ has_flag in_flag p.now.ctx }
 {
@@ -57,6 +59,7 @@ pub fn operator_here<C: ParserConfig>(p: &mut ParserImpl<'_, C>) -> Result<u8, S
 }
 
 /// Whether this lexeme stands here, without an escape.
+#[inline(always)]
 pub fn stands<C: ParserConfig>(p: &ParserImpl<'_, C>, kind: Kind) -> bool
     ensures { StandsHere p.now kind result }
 {

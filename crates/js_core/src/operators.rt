@@ -88,6 +88,7 @@ fn is_or_and_operator(operator: LogicalOperator) -> bool
 
 /// Tells of an operand beside `??` that may not stand there without parentheses, unless something was found since the
 /// first operand: then it is no expression.
+#[inline(never)]
 fn check_mixed<C: ParserConfig>(
     p: &mut ParserImpl<'_, C>,
     start: u32,
@@ -115,6 +116,7 @@ fn check_mixed<C: ParserConfig>(
 }
 
 /// The node of two operands with `??` between them.
+#[inline(never)]
 fn make_coalesce<C: ParserConfig>(
     p: &mut ParserImpl<'_, C>,
     start: u32,
@@ -185,6 +187,7 @@ pub fn parse_exponentiation_expression<C: ParserConfig, N: Nested<C>>(
 
 /// Tells of a base before `**` that begins with a unary operator, unless something was found in it: then it is no
 /// expression.
+#[inline(never)]
 fn check_base<C: ParserConfig>(
     p: &mut ParserImpl<'_, C>,
     start: u32,
@@ -208,6 +211,7 @@ fn check_base<C: ParserConfig>(
 }
 
 /// The node of two operands and the operator between them.
+#[inline(never)]
 fn make_operation<C: ParserConfig>(
     p: &mut ParserImpl<'_, C>,
     start: u32,

@@ -56,6 +56,7 @@ pub fn parse_primary_expression<C: ParserConfig, N: Nested<C>>(
 }
 
 /// A NumericLiteral (ECMA-262, section 12.9.3), or one of a BigInt, which has a node of its own.
+#[inline(never)]
 fn parse_number<C: ParserConfig>(p: &mut ParserImpl<'_, C>) -> Result<NodeId, Stop>
     requires at { Standing p.old }
     requires number { one_of_kinds number_kinds p.old.token.kind ≡ true }
@@ -172,6 +173,7 @@ fn allows_v8<C: ParserConfig>(p: &ParserImpl<'_, C>) -> bool
 }
 
 /// A call of V8, `%name(..)`, where the options allow it.
+#[inline(never)]
 fn parse_v8_intrinsic_expression<C: ParserConfig, N: Nested<C>>(
     p: &mut ParserImpl<'_, C>,
     nested: &N,

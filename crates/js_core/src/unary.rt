@@ -36,6 +36,7 @@ pub fn parse_unary_expression_or_higher<C: ParserConfig, N: Nested<C>>(
 }
 
 /// A unary operator, and what it stands before.
+#[inline(never)]
 fn parse_unary_expression<C: ParserConfig, N: Nested<C>>(
     p: &mut ParserImpl<'_, C>,
     nested: &N,

@@ -64,6 +64,7 @@ fn stands_behind<C: ParserConfig>(p: &ParserImpl<'_, C>) -> bool
 }
 
 /// An operator that stands before its operand.
+#[inline(never)]
 fn parse_prefix_update<C: ParserConfig, N: Nested<C>>(
     p: &mut ParserImpl<'_, C>,
     nested: &N,
@@ -91,6 +92,7 @@ fn parse_prefix_update<C: ParserConfig, N: Nested<C>>(
 }
 
 /// The node of an operator before its operand.
+#[inline(never)]
 fn make_prefix<C: ParserConfig>(
     p: &mut ParserImpl<'_, C>,
     operator: UpdateOperator,
