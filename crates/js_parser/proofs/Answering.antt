@@ -1,5 +1,5 @@
 -- What a parse answers, from what holds of the parser at its end.
-use Rattle.std.proofs.Common.{ℕ, ◌≡◌, ◌⊎◌, inl, inr, List, [], ◌∷◌, ◌++◌, length, take, Bool, true, false, Option, None, refl, sym, ap, subst, arith, ◌∙◌}
+use Rattle.std.proofs.Common.{ℕ, ◌≡◌, inl, inr, List, [], ◌∷◌, ◌++◌, length, take, true, false, Option, None, refl, sym, ap, subst, arith, ◌∙◌}
 use Rattle.std.specs.List.{All}
 use Rattle.std.specs.Prelude.{Result, Ok, Err, IfOk}
 use Rattle.std.proofs.lemmas.List.Elements.{All-append, All-take, All-weaker, All-nil}
@@ -8,7 +8,7 @@ use Rattle.js_base.specs.declared.diagnostic.DiagnosticKind.TheVariants.{Overlon
 use Rattle.js_base.specs.declared.options.ParseOptions.{ParseOptions}
 use Rattle.js_base.specs.declared.source_type.SourceType.{SourceType}
 use Rattle.js_base.specs.declared.span.Span.{Span}
-use Rattle.js_grammar.specs.Trees.{Slots, end, Tree}
+use Rattle.js_grammar.specs.Trees.{Slots, end}
 use Rattle.js_grammar.specs.Marks.{Mark}
 use Rattle.js_lex.specs.States.{goal_of}
 use Rattle.js_tree.specs.declared.id.NodeId.{NodeId}
@@ -16,7 +16,7 @@ use Rattle.js_tree.specs.Nodes.{Node, empty_program, program_node}
 use Rattle.js_tree.specs.Holding.{HoldsAll, IsTree, program_tree, with_program}
 use Rattle.js_tree.proofs.HoldingLemmas.{HoldsAll-none}
 use Rattle.js_cursor.specs.Parsers.{Parser}
-use Rattle.js_cursor.specs.Places.{IsFault, goal}
+use Rattle.js_cursor.specs.Places.{IsFault}
 use Rattle.std.proofs.lemmas.Bool.{false≢true}
 use Rattle.js_base.specs.Spans.{LiesIn}
 use Rattle.js_base.specs.declared.token.Token.{Token}
@@ -25,7 +25,7 @@ use Rattle.js_lex.specs.declared.comment.Comment.{Comment}
 use Rattle.js_lex.specs.declared.output.LexerOutput.{LexerOutput}
 use Rattle.js_parser.specs.Readings.{HasNoReading, IsOnlyReading, IsMarked, AreOf}
 use Rattle.js_parser.specs.Parsed.{options_of, IsAnswer, IsOverlong}
-use Rattle.js_parser.specs.Taken.{IsOf, FoundNothing, ReadOrNot, ProgramTaken, ProgramRefused, ProgramStops}
+use Rattle.js_parser.specs.Taken.{IsOf, ReadOrNot, ProgramTaken, ProgramRefused, ProgramStops}
 use Rattle.js_cursor.specs.declared.stop.Stop.{Stop}
 use Rattle.js_cursor.specs.declared.stop.Stop.TheVariants.{Fatal}
 
@@ -136,6 +136,10 @@ overlong_answer {found} {old} {ids} span nodes ns o e a b z n t = record {
 pub if_ok : {V E : Type 0} {P Q : V → Type 0} (r : Result V E) → ((v : V) → P v → Q v) → IfOk r P → IfOk r Q
 if_ok (Ok v) f h = f v h
 if_ok (Err e) f h = h
+
+pub both_ok : {V E : Type 0} {P Q R : V → Type 0} (r : Result V E) → ((v : V) → P v → Q v → R v) → IfOk r P → IfOk r Q → IfOk r R
+both_ok (Ok v) f h k = f v h k
+both_ok (Err e) f h k = h
 
 pub fatal_stop : {text : List ℕ} {s : SourceType} {o : ParseOptions} {p : Parser} (e : Stop) → e ≡ Fatal → ProgramStops text s o p e → ProgramRefused text s o p
 fatal_stop {text} {s} {o} {p} e q h = subst (λ (v : Stop). ProgramStops text s o p v) q h

@@ -1,6 +1,6 @@
 -- From the statements that were taken to the readings of the whole text.
-use Rattle.std.proofs.Common.{ℕ, ◌≡◌, ◌≤◌, max, ◌⊎◌, inl, inr, List, [], ◌∷◌, ◌++◌, length, Bool, true, false, not, ◌&&◌, ◌||◌, IsTrue, Option, refl, sym, ap, subst, arith, ◌∙◌}
-use Rattle.std.proofs.lemmas.Bool.{false≢true, and_parts, and_from}
+use Rattle.std.proofs.Common.{ℕ, ◌≡◌, max, ◌⊎◌, inl, inr, List, [], ◌∷◌, ◌++◌, length, Bool, true, false, not, ◌||◌, IsTrue, Option, refl, sym, ap, subst, arith, ◌∙◌}
+use Rattle.std.proofs.lemmas.Bool.{and_parts, and_from}
 use Rattle.js_base.specs.declared.diagnostic.Diagnostic.{Diagnostic}
 use Rattle.js_base.specs.declared.kind.Kind.{Kind}
 use Rattle.js_base.specs.declared.kind.Kind.TheVariants.{Eof, Undetermined, RAngle, HashbangComment}
@@ -10,32 +10,31 @@ use Rattle.js_base.specs.Kinds.{same_kind, one_of_kinds}
 use Rattle.js_base.specs.Texts.{words}
 use Rattle.js_base.proofs.KindLemmas.{kind_of_same}
 use Rattle.js_grammar.specs.Trees.{Label, Slots, end, tree, Tree, no_op, hashbang, program}
-use Rattle.js_grammar.specs.Grammar.{Lexeme, Lexemes, last, next, here, seen, Make, whole_text, label_of, nothing, seq, alt, such, is_nothing, lexeme}
+use Rattle.js_grammar.specs.Grammar.{Lexeme, Lexemes, last, next, here, Make, whole_text, label_of, seq, is_nothing}
 use Rattle.js_grammar.specs.Lexed.{Lexes, Lex as StandsBehind, all_faults}
 use Rattle.js_grammar.specs.Lexemes.{is_escaped}
 use Rattle.js_grammar.specs.Parsing.{Test, plain, full, still, Goes, Reads, Fails}
-use Rattle.js_grammar.specs.Productions.{G, Flags, at, opt, mk, tok, Program, Item}
+use Rattle.js_grammar.specs.Productions.{Flags, at, opt, mk, tok, Program}
 use Rattle.js_grammar.specs.Table.{rule, rule_of}
 use Rattle.js_grammar.proofs.Looks.{covers, apart}
 use Rattle.js_grammar.proofs.Calculus.{◌▹◌, ◌▹✗◌, right, then_by, more_of, makes_by, inside_plain, fails_node, here_at, ends, label_is, slots_are}
 use Rattle.js_grammar.proofs.Alike.{lex-same}
-use Rattle.js_lex.specs.Reading.{Tells}
 use Rattle.js_lex.specs.States.{goal_of}
 use Rattle.js_lex.specs.declared.output.LexerOutput.{LexerOutput}
 use Rattle.js_tree.specs.declared.id.NodeId.{NodeId}
 use Rattle.js_tree.specs.Holding.{HoldsAll, program_tree}
 use Rattle.js_cursor.specs.Parsers.{Parser}
-use Rattle.js_cursor.specs.Places.{IsAt, IsFault, goal}
+use Rattle.js_cursor.specs.Places.{goal}
 use Rattle.js_cursor.specs.Moves.{is_last}
 use Rattle.js_cursor.specs.Starts.{Starts}
 use Rattle.js_cursor.specs.Tokens.{IsToken, whole as whole_token, sign as sign_token, nothing as no_token}
 use Rattle.js_cursor.specs.declared.stop.Stop.{Stop}
 use Rattle.js_cursor.specs.declared.stop.Stop.TheVariants.{Fatal, NoMemory}
-use Rattle.js_core.specs.Answers.{Stretch, Stops, Verdict, clean, unclean}
+use Rattle.js_core.specs.Answers.{Stretch, Verdict, clean, unclean}
 use Rattle.js_core.specs.Lexemes.{Lex, is_read, read_kinds}
 use Rattle.js_core.specs.States.{At, IsPlain, whole, sign, nothing as no_lexeme, flags_of, Standing}
 use Rattle.js_core.specs.StatementLists.{at_text_end, with_directives, statements, NoList, Taken, AllTaken, AllRefused}
-use Rattle.js_core.proofs.Beginning.{begins, begins_with_hashbang, behind_first, hashbang_passed, none_noted}
+use Rattle.js_core.proofs.Beginning.{begins_with_hashbang, behind_first, hashbang_passed, none_noted}
 use Rattle.js_core.proofs.Dead.{fails_dead}
 use Rattle.js_core.proofs.Giving.{fails_none}
 use Rattle.js_core.proofs.Here.{told, plain_kind, kind_here}
@@ -54,7 +53,7 @@ use Rattle.js_core.proofs.MadeNodes.{leaf_held}
 use Rattle.js_core.proofs.Moving.{standing, beside_nodes}
 use Rattle.js_parser.specs.Parsed.{options_of, IsAnswer}
 use Rattle.js_parser.specs.Readings.{parameters, Reading, IsOnlyReading, HasNoReading, HasHashbang}
-use Rattle.js_parser.specs.Taken.{IsOf, FoundNothing, ReadOrNot, ProgramTaken, ProgramRefused, ProgramStops}
+use Rattle.js_parser.specs.Taken.{ReadOrNot, ProgramTaken, ProgramStops}
 use Rattle.js_parser.proofs.Answering.{first_empty, second_empty}
 use Rattle.js_base.specs.declared.source_type.Goal.TheVariants as source
 use Rattle.js_grammar.specs.Grammar.{Derives}

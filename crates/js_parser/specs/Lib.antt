@@ -1,3 +1,4 @@
 pub mod Readings
 pub mod Parsed
 pub mod Taken
+pub mod CoreAnswers

@@ -1,5 +1,5 @@
 -- What it is that a tree is a reading of a text, and what diagnostics tell of it.
-use Rattle.std.specs.Prelude.{ℕ, ◌≡◌, ◌⊎◌, Bool, true, false, ◌||◌, List, []}
+use Rattle.std.specs.Prelude.{ℕ, ◌≡◌, ◌⊎◌, true, false, ◌||◌, List}
 use Rattle.std.specs.List.{All}
 use Rattle.js_base.specs.declared.diagnostic.Diagnostic.{Diagnostic}
 use Rattle.js_base.specs.declared.kind.Kind.TheVariants.{Eof}

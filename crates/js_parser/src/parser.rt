@@ -1,10 +1,12 @@
 //! The public call.
 
-ghost use Rattle.std.specs.Prelude.{◌≡◌, ◌≢◌, ◌≤◌, length, IfOk};
+ghost use Rattle.std.specs.Prelude.{◌≡◌, ◌≢◌, ◌≤◌, length, true, IfOk, IsUtf8};
 ghost use Rattle.js_base.specs.declared.TheConstants.{MAX_LEN};
 ghost use Rattle.js_base.specs.declared.source_type.Goal.TheVariants.{Unambiguous};
 ghost use Rattle.js_base.specs.Sources.{is_goal};
+ghost use Rattle.js_grammar.specs.CoreTexts.{CoreSource};
 ghost use Rattle.js_lex.specs.States.{goal_of};
+ghost use Rattle.js_parser.specs.CoreAnswers.{IsCoreAnswer};
 ghost use Rattle.js_parser.specs.Readings.{read_at};
 ghost use Rattle.js_parser.specs.Parsed.{options_of, Answers, IsAnswer};
 
@@ -69,7 +71,10 @@ impl<'a, C: ParserConfig> Parser<'a, C> {
     /// Reads the text. Without diagnostics the tree is the only one that Program derives from the text's lexemes; where
     /// something was found, Program derives none. All this of lexemes of the kinds that are read so far.
     pub fn parse(self) -> Result<ParserReturn, NoMemory>
-        ensures { IfOk result (λ r. Answers self.entry.source_text.now self.entry.source_type r.program.source_type self.entry.options r.program.tree (record { comments = r.program.comments; irregular_whitespaces = r.irregular_whitespaces; tokens = r.tokens; errors = r.diagnostics }) r.fatal_error) }
+        // For a core text, with parentheses kept, at any goal and V8 setting: nothing is found exactly where the text
+        // has a reading, which is then the tree, and is the only one.
+        ensures core_headline { IfOk result (λ r. IsUtf8 self.entry.source_text.now → CoreSource self.entry.source_text.now → self.entry.options.preserve_parens ≡ true → IsCoreAnswer self.entry.source_text.now self.entry.source_type r.program.source_type self.entry.options.allow_v8_intrinsics r.program.tree r.diagnostics) }
+        ensures answers { IfOk result (λ r. Answers self.entry.source_text.now self.entry.source_type r.program.source_type self.entry.options r.program.tree (record { comments = r.program.comments; irregular_whitespaces = r.irregular_whitespaces; tokens = r.tokens; errors = r.diagnostics }) r.fatal_error) }
     {
         let source_type = settled(self.source_type);
         if self.source_text.len() > MAX_LEN {

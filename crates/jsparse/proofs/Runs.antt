@@ -9,11 +9,15 @@ use Rattle.jsparse.specs.declared.status.Status.{Status}
 use Rattle.jsparse.specs.declared.status.Status.TheVariants.{Ok, Refused, Usage, ReadFault, WriteFault, NoMemory, NotUtf8, TooLong}
 use Rattle.jsparse.specs.Ends.{IsFault}
 use Rattle.std.specs.Str.{IsUtf8}
-use Rattle.jsparse.specs.Outputs.{Accepts, Refuses, Gives}
+use Rattle.jsparse.specs.Outputs.{Accepts, Refuses, Gives, WritesReading, WritesDiagnostics, AsksForTree}
 use Rattle.js_grammar.specs.Settings.{Settings}
 use Rattle.js_grammar.specs.CommandLine.{Admitted}
+use Rattle.js_grammar.specs.CoreTexts.{CoreSource}
+use Rattle.js_grammar.specs.Options.{options_of}
+use Rattle.js_parser.specs.Readings.{read_at}
+use Rattle.js_parser.proofs.CoreTexts.{no_hashbang, only_core, none_core}
 use Rattle.jsparse.specs.Words.{Sets}
-use Rattle.jsparse.specs.Runs.{limit, Gave, IsText, IsLong, ReadsUpTo, Told, Answers, HasCause, FitsWords, LeavesSink, LeavesSource, ComesBefore, IsAnswerTo}
+use Rattle.jsparse.specs.Runs.{limit, Gave, IsText, IsLong, ReadsUpTo, Told, Answers, HasCause, FitsWords, LeavesSink, LeavesSource, ComesBefore, IsAnswerBy, IsAnswerTo, IsCoreAnswerTo}
 use Rattle.jsparse.specs.Steps.{Made, ReadPiece, ReadCause, StopCause, TookFront, PutCause}
 
 -- A fault of a part of a time is one of the whole.
@@ -211,3 +215,26 @@ no_read_fault WriteFault words t p q h e = cc
 no_read_fault NoMemory words t p q h e = cc
 no_read_fault NotUtf8 words t p q h e = cc
 no_read_fault TooLong words t p q h e = cc
+
+-- ---- core texts
+
+writes_reading : (s : Settings) (text out : List ℕ) → IsUtf8 text → CoreSource text → Accepts s text out → WritesReading s.allow_v8 text out
+writes_reading s text out u c a = record { tree = a.tree; only = only_core u c (read_at s.goal) (options_of s) a.tree (a.only (no_hashbang u c)); lines = a.lines }
+
+writes_diagnostics : (s : Settings) (text out : List ℕ) → IsUtf8 text → CoreSource text → Refuses s text out → WritesDiagnostics s.allow_v8 text out
+writes_diagnostics s text out u c r = record { none = none_core u c (read_at s.goal) (options_of s) (r.none (no_hashbang u c)); found = r.found; some = r.some; inside = r.told.lie; lines = r.lines }
+
+answer_by : {A B C D : List ℕ → Type 0} → ((out : List ℕ) → A out → C out) → ((out : List ℕ) → B out → D out) → (t : Told) (status : Status) → IsAnswerBy A B t status → IsAnswerBy C D t status
+answer_by f g t Ok (out, a, w, l) = (out, f out a, w, l)
+answer_by f g t Refused (out, b, w, l) = (out, g out b, w, l)
+answer_by f g t Usage h = h
+answer_by f g t ReadFault h = h
+answer_by f g t WriteFault (front, rest, inl a, w, l, h) = (front, rest, inl (f (front ++ rest) a), w, l, h)
+answer_by f g t WriteFault (front, rest, inr b, w, l, h) = (front, rest, inr (g (front ++ rest) b), w, l, h)
+answer_by f g t NoMemory h = h
+answer_by f g t NotUtf8 h = h
+answer_by f g t TooLong h = h
+
+pub core_answer_if_told : (status : Status) (words : List (List ℕ)) (t : Told) (given : Option (List ℕ)) → t.given ≡ given → FitsWords status words → HasCause status words t → IfSome given (λ text. IsText text → CoreSource text → (s : Settings) → Admitted words s → AsksForTree s → IsCoreAnswerTo s text t status)
+core_answer_if_told status words t None e f h = tt
+core_answer_if_told status words t (Some text) e f h = λ is c s a asks. answer_by (λ out x. writes_reading s text out is.utf8 c x) (λ out x. writes_diagnostics s text out is.utf8 c x) t status (answer_to_text status words t text s e is a f h)

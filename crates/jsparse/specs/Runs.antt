@@ -8,7 +8,7 @@ use Rattle.jsparse.specs.Ends.{IsFault}
 use Rattle.jsparse.specs.Words.{NoneAdmitted, Sets}
 use Rattle.js_grammar.specs.Settings.{Settings}
 use Rattle.js_grammar.specs.CommandLine.{Admitted}
-use Rattle.jsparse.specs.Outputs.{Accepts, Refuses}
+use Rattle.jsparse.specs.Outputs.{Accepts, Refuses, WritesReading, WritesDiagnostics}
 
 -- the greatest number of bytes of a text
 abbrev pub limit : ℕ
@@ -126,13 +126,21 @@ ComesBefore ReadFault = Unit {0}
 ComesBefore NoMemory = Unit {0}
 ComesBefore _ = ⊥
 
--- What a run answers where the words set this and the source tells this text: 0 with the lines of its one reading, 1 with diagnostics where it has none, 3 or 4 at a fault of the source or of the sink, 5 where memory is refused, and nothing else.
+-- What a run answers to a text that the source tells: 0 with what is put out for an accepted one, 1 with that for a refused one, 3 or 4 at a fault of the source or of the sink, 5 where memory is refused, and nothing else.
+abbrev pub IsAnswerBy : (List ℕ → Type 0) → (List ℕ → Type 0) → Told → Status → Type 0
+IsAnswerBy Accepted Rejected t Ok = (out : List ℕ) × Accepted out × Appends t.before t.after out × (t.left ≡ Some [])
+IsAnswerBy Accepted Rejected t Refused = (out : List ℕ) × Rejected out × Appends t.before t.after out × (t.left ≡ Some [])
+IsAnswerBy Accepted Rejected t Usage = ⊥
+IsAnswerBy Accepted Rejected t ReadFault = IsFault t.read_faults t.read_faults_after
+IsAnswerBy Accepted Rejected t WriteFault = (front : List ℕ) × (rest : List ℕ) × (Accepted (front ++ rest) ⊎ Rejected (front ++ rest)) × Appends t.before t.after front × (t.left ≡ Some []) × IsFault t.write_faults t.write_faults_after
+IsAnswerBy Accepted Rejected t NoMemory = Unit {0}
+IsAnswerBy Accepted Rejected t NotUtf8 = ⊥
+IsAnswerBy Accepted Rejected t TooLong = ⊥
+
+-- The same where the words set this, of the text's only reading and of diagnostics where it has none.
 abbrev pub IsAnswerTo : Settings → List ℕ → Told → Status → Type 0
-IsAnswerTo s text t Ok = (out : List ℕ) × Accepts s text out × Appends t.before t.after out × (t.left ≡ Some [])
-IsAnswerTo s text t Refused = (out : List ℕ) × Refuses s text out × Appends t.before t.after out × (t.left ≡ Some [])
-IsAnswerTo s text t Usage = ⊥
-IsAnswerTo s text t ReadFault = IsFault t.read_faults t.read_faults_after
-IsAnswerTo s text t WriteFault = (front : List ℕ) × (rest : List ℕ) × Answers s text (front ++ rest) × Appends t.before t.after front × (t.left ≡ Some []) × IsFault t.write_faults t.write_faults_after
-IsAnswerTo s text t NoMemory = Unit {0}
-IsAnswerTo s text t NotUtf8 = ⊥
-IsAnswerTo s text t TooLong = ⊥
+IsAnswerTo s text t status = IsAnswerBy (Accepts s text) (Refuses s text) t status
+
+-- The same of a core text.
+abbrev pub IsCoreAnswerTo : Settings → List ℕ → Told → Status → Type 0
+IsCoreAnswerTo s text t status = IsAnswerBy (WritesReading s.allow_v8 text) (WritesDiagnostics s.allow_v8 text) t status

@@ -4,9 +4,11 @@ ghost use Rattle.std.specs.Prelude.{◌≡◌, ◌+◌, ◌-◌, ◌<◌, ◌≤
 ghost use Rattle.std.specs.Str.{IsUtf8};
 ghost use Rattle.std.specs.Io.KnownBytes.{Appends};
 ghost use Rattle.js_grammar.specs.CommandLine.{Admitted};
+ghost use Rattle.js_grammar.specs.CoreTexts.{CoreSource};
 ghost use Rattle.js_grammar.specs.Settings.{Settings as Set};
 ghost use Rattle.jsparse.specs.Ends.{IsFault};
-ghost use Rattle.jsparse.specs.Runs.{limit, ReadsUpTo, Gave, told, HasCause, FitsWords, LeavesSink, LeavesSource, ComesBefore, IsAnswerTo, IsText};
+ghost use Rattle.jsparse.specs.Outputs.{AsksForTree};
+ghost use Rattle.jsparse.specs.Runs.{limit, ReadsUpTo, Gave, told, HasCause, FitsWords, LeavesSink, LeavesSource, ComesBefore, IsAnswerTo, IsCoreAnswerTo, IsText};
 ghost use Rattle.jsparse.specs.Steps.{ReadPiece, ReadCause, StopCause, Made, TookFront, PutCause};
 ghost use Rattle.jsparse.specs.Words.{settings_of};
 
@@ -155,6 +157,12 @@ pub fn run<S: Source, K: Sink>(
     source: &mut S,
     sink: &mut K,
 ) -> Status
+    // For every core text that the source gives, at any goal and V8 setting: 0 exactly where the text has a reading, and
+    // the lines of the reading, the only one, are written; else 1, and the lines of one diagnostic or more, each at a
+    // span inside the text; faults of source or sink and want of memory aside.
+    ensures core_headline { IfSome (S.remaining source.old) (λ text. IsText text → CoreSource text → (s : Set) → Admitted (map string_bytes words.now.items) s → AsksForTree s →
+        IsCoreAnswerTo s text (told S.remaining S.faults K.taken K.faults source.old source.new sink.old sink.new) result) }
+
     // Where the words are admitted and the source tells its bytes, and these are a text: its only reading is written
     // and 0 answered, or it has none, diagnostics with their marks are written and 1 answered; faults and want of
     // memory aside. Readings are over lexemes of the kinds that are read so far.

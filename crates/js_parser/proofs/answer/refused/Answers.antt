@@ -1,11 +1,7 @@
-use Rattle.std.proofs.Common.{List, [], length, take, ap, subst, arith, ◌++◌, ◌∙◌}
+use Rattle.std.proofs.Common.{length, take, ap, subst, ◌++◌, ◌∙◌}
 use Rattle.js_cursor.specs.Parsers.{Parser}
-use Rattle.js_base.specs.declared.diagnostic.Diagnostic.{Diagnostic}
-use Rattle.js_grammar.specs.Trees.{Slots}
 use Rattle.js_lex.specs.Kept.{LieIn}
 use Rattle.js_lex.specs.States.{State}
-use Rattle.js_tree.specs.Nodes.{Node}
-use Rattle.js_tree.specs.Holding.{HoldsAll, IsTree, program_tree}
 use Rattle.js_parser.proofs.Answering.{refused_answer}
 use Rattle.js_parser.proofs.answer.refused.Goals as goal
 

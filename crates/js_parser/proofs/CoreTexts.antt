@@ -1,0 +1,107 @@
+-- A core text's readings by the whole table, over the kinds of lexemes that are read so far, are its readings by the core grammar.
+use Rattle.std.proofs.Common.{ℕ, ◌≡◌, true, not, List, Some, None, refl, sym, subst, ap, ◌∙◌, Bool, false}
+use Rattle.std.specs.Prelude.{IsUtf8, codes, Option}
+use Rattle.std.proofs.lemmas.Bool.{false≢true, and_parts, and_from}
+use Rattle.js_base.specs.declared.kind.Kind.{Kind}
+use Rattle.js_base.specs.declared.kind.Kind.TheVariants.{Eof, HashbangComment}
+use Rattle.js_base.specs.declared.options.ParseOptions.{ParseOptions}
+use Rattle.js_base.specs.declared.source_type.SourceType.{SourceType}
+use Rattle.js_base.specs.Kinds.{same_kind, one_of_kinds}
+use Rattle.js_base.proofs.KindLemmas.{kind_of_same}
+use Rattle.js_grammar.specs.Trees.{Tree}
+use Rattle.js_grammar.specs.Grammar.{Lexeme, Lexemes, last, next}
+use Rattle.js_grammar.specs.Productions.{Program, at}
+use Rattle.js_grammar.specs.Lexemes.{LexicalGoal, kind_in, hashbang_kind}
+use Rattle.js_grammar.specs.Lexed.{Lex, Lexes, Lexed, all_faults, passing_of}
+use Rattle.js_grammar.specs.Trivia.{after, within_line}
+use Rattle.js_grammar.specs.Settings.{Goal, script}
+use Rattle.js_grammar.specs.Options.{Options}
+use Rattle.js_grammar.specs.CoreGrammar.{core_kinds}
+use Rattle.js_grammar.specs.CoreTexts.{CoreSource}
+use Rattle.js_grammar.specs.CoreReadings.{core_lexeme, AllCore, IsReading}
+use Rattle.js_grammar.proofs.CoreDerivations.{every_at}
+use Rattle.js_grammar.proofs.CoreLexed.{core_first, core_lexemes}
+use Rattle.js_grammar.proofs.CoreValid.{to_core, to_whole, lexed_at}
+use Rattle.js_grammar.proofs.NoEnd.{ends_once_by, ends_behind}
+use Rattle.js_lex.specs.declared.output.LexerOutput.{LexerOutput}
+use Rattle.js_lex.specs.States.{goal_of}
+use Rattle.js_core.specs.Lexemes.{Faultless, is_read, read_kinds}
+use Rattle.js_tree.specs.Nodes.{Node}
+use Rattle.js_parser.specs.Parsed.{options_of, IsAnswer}
+use Rattle.js_parser.specs.Readings.{parameters, read_at, Reading, IsOnlyReading, HasNoReading, HasHashbang}
+use Rattle.js_parser.specs.CoreAnswers.{IsOnlyCoreReading, HasNoCoreReading, IsCoreAnswer}
+
+-- a core lexeme is read
+read_so : (y : Lexeme) → core_lexeme y ≡ true → is_read y ≡ true
+read_so y h = let k = and_parts (one_of_kinds core_kinds y.kind) (not y.escaped) h in and_from _ _ (every_at (one_of_kinds read_kinds) core_kinds y.kind k.0 refl) k.1
+
+all_read : (text : List ℕ) (goal : Goal) (s : ℕ) (ls : Lexemes) → Lexes (Lex (passing_of goal) text) s ls → AllCore ls → Lexes (Faultless goal text) s ls
+all_read text goal s (last x) l c = (l, read_so x c)
+all_read text goal s (next x ls) l c = ((l.0, read_so x c.0), all_read text goal x.to ls l.1 c.1)
+
+plainly : (text : List ℕ) (goal : Goal) (s : ℕ) (ls : Lexemes) → Lexes (Faultless goal text) s ls → Lexes (Lex (passing_of goal) text) s ls
+plainly text goal s (last x) l = l.0
+plainly text goal s (next x ls) l = (l.0.0, plainly text goal x.to ls l.1)
+
+hashbang_is : (w : List ℕ) (k : Kind) → hashbang_kind w ≡ Some k → HashbangComment ≡ k
+hashbang_is w k e = go (after (codes "#!") within_line w) e
+  where
+    go : (b : Bool) → elim b as (λ _. Option Kind) [ true ↦ Some HashbangComment | false ↦ None ] ≡ Some k → HashbangComment ≡ k
+    go true e = cc
+    go false e = cc
+
+module _ {text : List ℕ} (u : IsUtf8 text) (s : CoreSource text) where
+  -- no hashbang comment begins it
+  pub no_hashbang : HasHashbang text → ⊥
+  no_hashbang (y, l) =
+      let k = hashbang_is l.lex.word y.kind (subst (λ (g : LexicalGoal). kind_in g l.lex.word l.lex.rest ≡ Some y.kind) l.of_goal l.lex.lexeme.kind) in
+      let c = and_parts (one_of_kinds core_kinds y.kind) _ (core_first text u s all_faults y l.lex) in
+      false≢true (subst (λ (a : Kind). one_of_kinds core_kinds a ≡ true) (sym k) c.0)
+
+  module _ (goal : Goal) (o : Options) where
+    lexed_whole : {t : Tree} (r : Reading text goal o t) → Lexed goal text r.lexemes
+    lexed_whole {t} r = record {
+      lexes = plainly text goal 0 r.lexemes r.lexed;
+      ends = ends_once_by (at Program (parameters goal o)) t r.derived (subst (λ (k : Kind). same_kind Eof k ≡ true) (sym r.is_end) refl);
+    }
+
+    pub to_core_reading : (t : Tree) → Reading text goal o t → IsReading text o.allow_v8 t
+    to_core_reading t r = let l = lexed_whole r in record {
+      core = s;
+      lexemes = r.lexemes;
+      lexed = lexed_at script u s l;
+      end = r.place;
+      final = r.final;
+      derived = to_core (record { in_ = refl; v8 = refl; wide = refl }) t (core_lexemes text u s goal r.lexemes l) r.derived;
+    }
+
+    pub to_reading : (t : Tree) → IsReading text o.allow_v8 t → Reading text goal o t
+    to_reading t r =
+        let c = core_lexemes text u s script r.lexemes r.lexed in
+        let l = lexed_at goal u s r.lexed in
+        let d = to_whole {g = parameters goal o} (record { in_ = refl; v8 = refl; wide = refl }) t c r.derived in
+        record {
+          lexemes = r.lexemes;
+          lexed = all_read text goal 0 r.lexemes l.lexes c;
+          place = r.end;
+          final = r.final;
+          is_end = sym (kind_of_same Eof r.final.kind (ends_behind (at Program (parameters goal o)) t d l.ends));
+          derived = d;
+        }
+
+    pub only_core : (t : Tree) → IsOnlyReading text goal o t → IsOnlyCoreReading text o.allow_v8 t
+    only_core t x = record { reading = to_core_reading t x.reading; only = λ v r. (x.only v (to_reading v r)).0 }
+
+    pub none_core : HasNoReading text goal o → HasNoCoreReading text o.allow_v8
+    none_core n t r = n t (to_reading t r)
+
+-- what is answered for a text, if it is a core text
+pub core_answer : {text : List ℕ} {given read taken : SourceType} {o : ParseOptions} {nodes : List Node} {out : LexerOutput} {fatal : Bool} → goal_of read ≡ read_at (goal_of given) → taken ≡ read → IsAnswer text (goal_of read) (options_of o) nodes out fatal → IsUtf8 text → CoreSource text → IsCoreAnswer text given taken o.allow_v8_intrinsics nodes out.errors
+core_answer {read = read} {o = o} settled same a u s = record {
+  tree = a.tree;
+  is_tree = a.is_tree;
+  clean = λ z. only_core u s (goal_of read) (options_of o) a.tree (a.clean z (no_hashbang u s));
+  unclean = λ n. none_core u s (goal_of read) (options_of o) (a.unclean n (no_hashbang u s));
+  inside = a.told.lie;
+  as_script = λ e. ap goal_of same ∙ (settled ∙ ap read_at e);
+}

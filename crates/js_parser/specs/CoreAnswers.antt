@@ -1,0 +1,29 @@
+-- What a parse of a core text answers, by the readings of core texts.
+use Rattle.std.specs.Prelude.{ℕ, ◌≡◌, Bool, List, []}
+use Rattle.std.specs.List.{All}
+use Rattle.js_base.specs.declared.diagnostic.Diagnostic.{Diagnostic}
+use Rattle.js_base.specs.declared.source_type.SourceType.{SourceType}
+use Rattle.js_base.specs.Spans.{LiesIn}
+use Rattle.js_grammar.specs.Trees.{Tree}
+use Rattle.js_grammar.specs.CoreReadings.{IsReading}
+use Rattle.js_grammar.specs.Settings.{script, unambiguous}
+use Rattle.js_lex.specs.States.{goal_of}
+use Rattle.js_tree.specs.Nodes.{Node}
+use Rattle.js_tree.specs.Holding.{IsTree}
+
+-- The tree is a reading of the core text, and no other is.
+pub record IsOnlyCoreReading (text : List ℕ) (v8 : Bool) (tree : Tree) : Type 0 where
+  pub reading : IsReading text v8 tree
+  pub only : (t : Tree) → IsReading text v8 t → t ≡ tree
+
+abbrev pub HasNoCoreReading : List ℕ → Bool → Type 0
+HasNoCoreReading text v8 = (t : Tree) → IsReading text v8 t → ⊥
+
+-- Nothing is found exactly where the core text has a reading, which is then the tree. Each diagnostic stands at a span inside the text. Where no goal is named the text is read as a script.
+pub record IsCoreAnswer (text : List ℕ) (given taken : SourceType) (v8 : Bool) (nodes : List Node) (found : List Diagnostic) : Type 0 where
+  pub tree : Tree
+  pub is_tree : IsTree nodes tree
+  pub clean : found ≡ [] → IsOnlyCoreReading text v8 tree
+  pub unclean : (found ≡ [] → ⊥) → HasNoCoreReading text v8
+  pub inside : All (λ d. LiesIn d.span text) found
+  pub as_script : goal_of given ≡ unambiguous → goal_of taken ≡ script
