@@ -1,5 +1,5 @@
 -- What stands behind a rest (ECMA-262, 14.3.3, 15.1): the closing bracket is due, and a comma is told of.
-use Rattle.std.proofs.Common.{ℕ, ◌≡◌, ◌≤◌, ◌<◌, List, [], ◌∷◌, length, Option, Some, None, Bool, true, false, not, ◌&&◌, ◌||◌, IsTrue, IsCharBoundary, refl, sym, ap, subst, arith, ◌∙◌}
+use Rattle.std.proofs.Common.{ℕ, ◌≡◌, ◌<◌, List, [], ◌∷◌, length, Option, None, true, false, ◌||◌, IsCharBoundary, refl, sym, ap, subst, arith, ◌∙◌}
 use Rattle.std.proofs.lemmas.Bool.{false≢true, and_parts, and_from}
 use Rattle.js_base.specs.declared.diagnostic.Diagnostic.{Diagnostic}
 use Rattle.js_base.specs.declared.diagnostic.DiagnosticKind.{DiagnosticKind}
@@ -32,7 +32,7 @@ use Rattle.js_cursor.specs.Places.{goal}
 use Rattle.js_cursor.specs.declared.stop.Stop.{Stop}
 use Rattle.js_core.specs.Answers.{Stops, unclean}
 use Rattle.js_core.specs.Bindings.{closers, unrelated_at}
-use Rattle.js_core.specs.Lexemes.{Lex, spot}
+use Rattle.js_core.specs.Lexemes.{spot}
 use Rattle.js_core.specs.Lists.{NoneLeft, OneMore}
 use Rattle.js_core.specs.Moves.{Moved}
 use Rattle.js_core.specs.States.{At, Same}
@@ -94,14 +94,17 @@ module _ {text : List ℕ} {f : Flags} {p m : Parser} (close : Kind) (a : At tex
             within = t.ends_whole.0;
             begins_between = t.starts_whole;
             ends_between = t.ends_whole;
-            stands = (record {
-              place = p.prev_token_end;
-              first = v.lexeme;
-              second = y.0;
-              part = record { reached = subst (λ (z : List ℕ). Reached z p.prev_token_end) a.text_is a.at.reached; lexed = (v.stood, subst (λ (z : ℕ). StandsBehind all_faults text z y.0) (sym v.ends) y.1) };
-              is = (sym v.tells.start, sym v.tells.end);
-              passes = and_from (same_kind Comma v.lexeme.kind) (one_of_kinds closers y.0.kind) (subst (λ (z : Kind). same_kind Comma z ≡ true) (sym (sym v.tells.kind ∙ k)) refl) (subst (λ (z : Kind). one_of_kinds closers z ≡ true) y.2.kind closer_kind);
-            }, (refl, refl));
+            stands = (
+              record {
+                place = p.prev_token_end;
+                first = v.lexeme;
+                second = y.0;
+                part = record { reached = subst (λ (z : List ℕ). Reached z p.prev_token_end) a.text_is a.at.reached; lexed = (v.stood, subst (λ (z : ℕ). StandsBehind all_faults text z y.0) (sym v.ends) y.1) };
+                is = (sym v.tells.start, sym v.tells.end);
+                passes = and_from (same_kind Comma v.lexeme.kind) (one_of_kinds closers y.0.kind) (subst (λ (z : Kind). same_kind Comma z ≡ true) (sym (sym v.tells.kind ∙ k)) refl) (subst (λ (z : Kind). one_of_kinds closers z ≡ true) y.2.kind closer_kind);
+              },
+              (refl, refl),
+            );
           }
 
   -- behind a comma that is told of nothing is derived
