@@ -62,14 +62,14 @@ use Rattle.js_core.proofs.Verdicts.{after as grown_behind}
 -- ---- items with commas between, by the first of them
 
 module _ (gap item z e : G) where
-  abbrev listed : G
+  abbrev pub listed : G
   listed = seq (items gap item z) e
 
   -- behind an item: a comma and more items, or the end
-  abbrev behind_one : G
+  abbrev pub behind_one : G
   behind_one = alt (seq (tok Comma) listed) e
 
-  abbrev by_first_item : G
+  abbrev pub by_first_item : G
   by_first_item = alt (seq gap listed) (alt (seq item behind_one) (alt (seq z e) e))
 
   pub unrolled : {rule' : Symbol → G} (ts us : Slots) {ks : Slots} (i j : ℕ) (ls rest : Lexemes) → Takes rule' listed ks ts i ls us j rest → Takes rule' by_first_item ks ts i ls us j rest

@@ -77,7 +77,7 @@ use Rattle.js_core.proofs.Here.{alike, angled, found, plainly, one_plain, newlin
 use Rattle.js_core.proofs.MadeNodes.{leaf_held, node_held, two_held}
 use Rattle.js_core.proofs.Moving.{beside_nodes, flags_same, heads_kept, same_both, same_itself, same_with, stops_behind}
 use Rattle.js_core.proofs.Operands.{by_path, by_such, name_test}
-use Rattle.js_core.proofs.ParameterLists.{bound_path, ended_by, then_any}
+use Rattle.js_core.proofs.Bindings.{bound_path, ended_by, then_any}
 use Rattle.js_core.proofs.Paths.{reads, Path, ◌⟼◌, ◌⟶◌, ◌⟶✗◌, fails_at, token, last_called, noded, noded_by, by_symbol_as, label_here, read_of, walked_both, walked_from, walked_one}
 use Rattle.js_core.proofs.Refusals.{none_kept, plain_of}
 use Rattle.js_core.proofs.Statements.{pass_over, reads_other}

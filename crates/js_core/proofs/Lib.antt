@@ -48,6 +48,10 @@ pub mod Coalescing
 pub mod CoalesceOperands
 pub mod Labels
 pub mod Deeper
+pub mod Lists
+pub mod Bindings
+pub mod BehindRests
+pub mod PatternLists
 pub mod ParameterLists
 pub mod Arrows
 pub mod FreeOfContext

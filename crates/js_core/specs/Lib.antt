@@ -14,6 +14,8 @@ pub mod Arguments
 pub mod Numbers
 pub mod Coalescing
 pub mod Arrays
+pub mod Lists
+pub mod Bindings
 pub mod Parameters
 pub mod Arrows
 pub mod Marked

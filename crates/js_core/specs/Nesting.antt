@@ -2,7 +2,7 @@
 use Rattle.std.specs.Prelude.{ℕ, ◌+◌, ◌-◌, ◌<◌, ◌≡◌, true, length, Result}
 use denote.Ref.{MutBor}
 use Rattle.js_base.specs.Contexts.{has_flag, in_flag}
-use Rattle.js_grammar.specs.Productions.{at, Assignment, Exponent, Expression, Sub, Unary}
+use Rattle.js_grammar.specs.Productions.{at, Assignment, Binding, Exponent, Expression, Sub, Unary}
 use Rattle.js_tree.specs.declared.id.NodeId.{NodeId}
 use Rattle.js_cursor.specs.Parsers.{Parser}
 use Rattle.js_cursor.specs.declared.stop.Stop.{Stop}
@@ -20,6 +20,7 @@ Ready goal.Assignment p = Standing p
 Ready goal.Element p = Standing p
 Ready goal.Unary p = Standing p
 Ready goal.Exponentiation p = Standing p
+Ready goal.Binding p = Standing p
 
 -- what its parse function answers
 abbrev pub Reading : Goal → Parser → Parser → Result NodeId Stop → Type 0
@@ -29,11 +30,13 @@ Reading goal.Assignment old new r = Answers (at Assignment) old new r
 Reading goal.Element old new r = Answers (at Assignment) old new r
 Reading goal.Unary old new r = Answers (at Unary) old new r
 Reading goal.Exponentiation old new r = Answers (at Exponent) old new r
+Reading goal.Binding old new r = Answers (at Binding) old new r
 
 -- How many levels of depth it takes: what stands between brackets is read through all levels of operators again.
 abbrev pub levels_of : Goal → ℕ
 levels_of goal.Expression = 4
 levels_of goal.Element = 4
+levels_of goal.Binding = 4
 levels_of goal.Assignment = 1
 levels_of goal.Unary = 1
 levels_of goal.Exponentiation = 1

@@ -5,6 +5,7 @@ mod arguments;
 mod array;
 mod arrow;
 mod assignment;
+mod binding;
 mod context;
 mod cover;
 mod left_hand_side;

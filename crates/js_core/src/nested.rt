@@ -1,7 +1,7 @@
 //! What parse functions call where a production nests.
 
 ghost use Rattle.std.specs.Prelude.{◌≡◌};
-ghost use Rattle.js_grammar.specs.Productions.{at, Assignment, Exponent, Expression, Sub, Unary};
+ghost use Rattle.js_grammar.specs.Productions.{at, Assignment, Binding, Exponent, Expression, Sub, Unary};
 ghost use Rattle.js_core.specs.Answers.{Answers};
 ghost use Rattle.js_core.specs.Nesting.{Reads, levels_of};
 ghost use Rattle.js_core.specs.Statements.{TakesStatement};
@@ -23,6 +23,8 @@ pub enum Goal {
     Unary,
     /// An ExponentiationExpression.
     Exponentiation,
+    /// A BindingIdentifier or a BindingPattern.
+    Binding,
     /// A Statement that is the body of another one.
     Statement,
 }
@@ -34,7 +36,7 @@ impl Goal {
         ensures { result ≡ levels_of self }
     {
         match self {
-            Goal::Expression | Goal::Element => 4,
+            Goal::Expression | Goal::Element | Goal::Binding => 4,
             Goal::Assignment | Goal::Unary | Goal::Exponentiation | Goal::Statement => 1,
         }
     }
@@ -72,6 +74,11 @@ pub trait Nested<C: ParserConfig> {
     fn exponentiation(&self, p: &mut ParserImpl<'_, C>) -> Result<NodeId, Stop>
         requires { can self.now p.old Goal.Exponentiation }
         ensures { Answers (at Exponent) p.old p.new result };
+
+    /// A BindingIdentifier or a BindingPattern (ECMA-262, section 14.3.3).
+    fn binding(&self, p: &mut ParserImpl<'_, C>) -> Result<NodeId, Stop>
+        requires { can self.now p.old Goal.Binding }
+        ensures { Answers (at Binding) p.old p.new result };
 
     /// A Statement that is the body of another one (ECMA-262, chapter 14).
     fn statement(&self, p: &mut ParserImpl<'_, C>) -> Result<NodeId, Stop>
@@ -112,6 +119,11 @@ impl<F: Fn(&mut ParserImpl<'_, RuntimeParserConfig>, Goal) -> Result<NodeId, Sto
     #[inline(always)]
     fn exponentiation(&self, p: &mut ParserImpl<'_, RuntimeParserConfig>) -> Result<NodeId, Stop> {
         (self.0)(p, Goal::Exponentiation)
+    }
+
+    #[inline(always)]
+    fn binding(&self, p: &mut ParserImpl<'_, RuntimeParserConfig>) -> Result<NodeId, Stop> {
+        (self.0)(p, Goal::Binding)
     }
 
     #[inline(always)]

@@ -1,20 +1,22 @@
-//! Formal parameters (ECMA-262, section 15.1) and what they bind (section 14.3.3).
+//! Formal parameters (ECMA-262, section 15.1).
 
-ghost use Rattle.std.specs.Prelude.{false, ◌≡◌, ◌+◌, MatchResult};
+ghost use Rattle.std.specs.Prelude.{false, ◌≡◌, ◌+◌, ◌∷◌, [], MatchResult};
 ghost use Rattle.js_base.specs.Kinds.{one_of_kinds};
-ghost use Rattle.js_base.specs.declared.kind.Kind.TheVariants.{LParen};
-ghost use Rattle.js_grammar.specs.Productions.{at, Binding, Params};
+ghost use Rattle.js_base.specs.declared.kind.Kind.TheVariants.{Dot3, LParen, RParen};
+ghost use Rattle.js_grammar.specs.Productions.{at, Param, Params, Rest};
 ghost use Rattle.js_core.specs.Answers.{Answers};
+ghost use Rattle.js_core.specs.Lists.{ListRead, ListStops, ReadsItem, ReadsOneMore};
 ghost use Rattle.js_core.specs.Nesting.{CanNest, room};
-ghost use Rattle.js_core.specs.Parameters.{NoParameterList, ParameterList, ReadsOneMore, ReadsParameter, unread_kinds};
+ghost use Rattle.js_core.specs.Parameters.{parameters_left};
 ghost use Rattle.js_core.specs.States.{Standing};
 
+use crate::binding::{check_behind_rest, diagnostic_at, parse_binding_pattern, parse_binding_rest};
 use crate::context::assignment_with_in;
-use crate::lexemes::{advance, stands};
+use crate::lexemes::advance;
 use crate::nested::Nested;
-use crate::nodes::{make_list, make_with_optional};
-use crate::primary::{close_parentheses, parse_leaf};
-use js_base::Kind;
+use crate::nodes::{make_list, make_one, make_with_optional};
+use crate::primary::close_parentheses;
+use js_base::{DiagnosticKind, Kind};
 use js_cursor::{ParserImpl, Stop};
 use js_lex::ParserConfig;
 use js_tree::{NodeId, NodeKind, Op};
@@ -46,7 +48,7 @@ fn parse_parameter_list<C: ParserConfig, N: Nested<C>>(
 ) -> Result<Vec<Option<NodeId>>, Stop>
     requires at { Standing p.old }
     requires nests { CanNest (N.can nested.now) (room p.old + 1) }
-    ensures { MatchResult result (λ v. ParameterList v.items p.old p.new) (λ e. NoParameterList p.old p.new e) }
+    ensures { MatchResult result (λ v. ListRead parameters_left RParen v.items p.old p.new) (λ e. ListStops parameters_left p.old p.new e) }
 {
     let mut parameters = Vec::new(p.alloc);
     'parameters: loop {
@@ -58,7 +60,7 @@ fn parse_parameter_list<C: ParserConfig, N: Nested<C>>(
     Ok(parameters)
 }
 
-/// A parameter, if one stands here, and the comma behind it: whether another may stand behind that.
+/// A parameter or a rest, if one stands here, and the comma behind it: whether another may stand behind that.
 fn parse_next_parameter<C: ParserConfig, N: Nested<C>>(
     p: &mut ParserImpl<'_, C>,
     nested: &N,
@@ -66,14 +68,26 @@ fn parse_next_parameter<C: ParserConfig, N: Nested<C>>(
 ) -> Result<bool, Stop>
     requires at { Standing p.old }
     requires nests { CanNest (N.can nested.now) (room p.old + 1) }
-    ensures { ReadsOneMore parameters.old.items parameters.new.items p.old p.new result }
+    ensures { ReadsOneMore parameters_left RParen parameters.old.items parameters.new.items p.old p.new result }
 {
-    if p.at(Kind::RParen) {
-        return Ok(false);
+    match p.cur_kind() {
+        Kind::RParen => Ok(false),
+        Kind::Dot3 => parse_last_parameter(p, nested, parameters),
+        _ => parse_parameter_and_comma(p, nested, parameters),
     }
-    if begins_unread(p) {
-        return Err(Stop::NoMemory);
-    }
+}
+
+/// A FormalParameter, and the comma behind it, where one stands there.
+fn parse_parameter_and_comma<C: ParserConfig, N: Nested<C>>(
+    p: &mut ParserImpl<'_, C>,
+    nested: &N,
+    parameters: &mut Vec<Option<NodeId>>,
+) -> Result<bool, Stop>
+    requires at { Standing p.old }
+    requires nests { CanNest (N.can nested.now) (room p.old + 1) }
+    requires parameter { one_of_kinds (RParen ∷ Dot3 ∷ []) p.old.token.kind ≡ false }
+    ensures { ReadsOneMore parameters_left RParen parameters.old.items parameters.new.items p.old p.new result }
+{
     let parameter = parse_formal_parameter(p, nested)?;
     parameters.push(Some(parameter))?;
     if !p.at(Kind::Comma) {
@@ -83,13 +97,6 @@ fn parse_next_parameter<C: ParserConfig, N: Nested<C>>(
     Ok(true)
 }
 
-/// Whether a rest or a pattern begins here. These aren't read yet, so nothing is said of them.
-fn begins_unread<C: ParserConfig>(p: &ParserImpl<'_, C>) -> bool
-    ensures { result ≡ one_of_kinds unread_kinds p.now.token.kind }
-{
-    matches!(p.cur_kind(), Kind::Dot3 | Kind::LBrack | Kind::LCurly)
-}
-
 /// A FormalParameter: what it binds, and an initialiser or none.
 fn parse_formal_parameter<C: ParserConfig, N: Nested<C>>(
     p: &mut ParserImpl<'_, C>,
@@ -97,11 +104,10 @@ fn parse_formal_parameter<C: ParserConfig, N: Nested<C>>(
 ) -> Result<NodeId, Stop>
     requires at { Standing p.old }
     requires nests { CanNest (N.can nested.now) (room p.old + 1) }
-    requires no_pattern { one_of_kinds unread_kinds p.old.token.kind ≡ false }
-    ensures { ReadsParameter p.old p.new result }
+    ensures { ReadsItem (at Param) p.old p.new result }
 {
     let start = p.cur_start();
-    let binding = parse_binding(p)?;
+    let binding = parse_binding_pattern(p, nested)?;
     if !p.at(Kind::Eq) {
         let span = p.end_span(start);
         let node = make_with_optional(p, NodeKind::FormalParameter, span, binding, None)?;
@@ -115,14 +121,39 @@ fn parse_formal_parameter<C: ParserConfig, N: Nested<C>>(
     Ok(node)
 }
 
-/// What a parameter binds: a BindingIdentifier (ECMA-262, sections 13.1 and 14.3.3).
-fn parse_binding<C: ParserConfig>(p: &mut ParserImpl<'_, C>) -> Result<NodeId, Stop>
+/// A rest as the last parameter.
+fn parse_last_parameter<C: ParserConfig, N: Nested<C>>(
+    p: &mut ParserImpl<'_, C>,
+    nested: &N,
+    parameters: &mut Vec<Option<NodeId>>,
+) -> Result<bool, Stop>
     requires at { Standing p.old }
-    requires no_pattern { one_of_kinds unread_kinds p.old.token.kind ≡ false }
-    ensures { Answers (at Binding) p.old p.new result }
+    requires nests { CanNest (N.can nested.now) (room p.old + 1) }
+    requires sign { p.old.token.kind ≡ Dot3 }
+    ensures { ReadsOneMore parameters_left RParen parameters.old.items parameters.new.items p.old p.new result }
 {
-    if !stands(p, Kind::Ident) {
-        return Err(p.set_unexpected());
-    }
-    parse_leaf(p, NodeKind::BindingIdentifier, Op::None)
+    let start = p.cur_start();
+    let rest = parse_rest_parameter(p, nested)?;
+    parameters.push(Some(rest))?;
+    let span = p.end_span(start);
+    let misplaced = diagnostic_at(DiagnosticKind::RestParameterLast, span);
+    check_behind_rest(p, Kind::RParen, misplaced)?;
+    Ok(false)
+}
+
+/// A FunctionRestParameter (ECMA-262, section 15.1).
+fn parse_rest_parameter<C: ParserConfig, N: Nested<C>>(
+    p: &mut ParserImpl<'_, C>,
+    nested: &N,
+) -> Result<NodeId, Stop>
+    requires at { Standing p.old }
+    requires nests { CanNest (N.can nested.now) (room p.old + 1) }
+    requires sign { p.old.token.kind ≡ Dot3 }
+    ensures { Answers (at Rest) p.old p.new result }
+{
+    let start = p.cur_start();
+    let rest = parse_binding_rest(p, nested)?;
+    let span = p.end_span(start);
+    let node = make_one(p, NodeKind::FormalParameterRest, Op::None, span, rest)?;
+    Ok(node)
 }

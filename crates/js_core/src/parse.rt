@@ -9,6 +9,7 @@ ghost use Rattle.js_core.specs.StatementLists.{AllRefused, AllTaken};
 ghost use Rattle.js_core.specs.States.{Standing};
 
 use crate::assignment::parse_assignment_expression;
+use crate::binding::parse_binding_pattern;
 use crate::nested::{By, Goal, Nested};
 use crate::operators::parse_exponentiation_expression;
 use crate::sequence::parse_sequence_expression;
@@ -37,6 +38,7 @@ pub(crate) fn parse_goal<C: ParserConfig, N: Nested<C>>(
         Goal::Assignment | Goal::Element => parse_assignment_expression(p, nested),
         Goal::Unary => parse_unary_expression_or_higher(p, nested),
         Goal::Exponentiation => parse_exponentiation_expression(p, nested),
+        Goal::Binding => parse_binding_pattern(p, nested),
         Goal::Statement => parse_statement(p, nested),
     }
 }

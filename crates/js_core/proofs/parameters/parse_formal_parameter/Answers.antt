@@ -1,4 +1,4 @@
-use Rattle.std.proofs.Common.{◌≡◌, ◌+◌, ◌≤◌, arith, refl, sym, ◌∙◌}
+use Rattle.std.proofs.Common.{arith, refl, sym, ◌∙◌}
 use Rattle.std.proofs.lemmas.Bool.{false≢true}
 use Rattle.std.proofs.lemmas.Result.{err_from_is_err_and}
 use Rattle.js_base.specs.declared.kind.Kind.TheVariants.{Eq}
@@ -7,6 +7,9 @@ use Rattle.js_core.proofs.Moving.{standing, stops_so}
 use Rattle.js_core.proofs.Nesting.{nests_later, nested_room, later_room}
 use Rattle.js_core.proofs.ParameterLists.{alone_answers, binding_fails, no_initialiser, with_initialiser}
 use Rattle.js_core.proofs.parameters.parse_formal_parameter.Goals as goal
+
+pub parse_binding_pattern-requires-clause-nests : goal.parse_binding_pattern-requires-clause-nests
+parse_binding_pattern-requires-clause-nests g c = nests_later c.requires.nests (omega arith)
 
 pub returns-in_err-binding : goal.returns-in_err-binding
 returns-in_err-binding g c = λ text f a. let p = err_from_is_err_and c.from_residual.result c.from_residual.ensures.1 in rw (p.1, p.2) (stops_so _ _ _ (λ n. binding_fails f n) (c.in_err-binding.ensures text f a))

@@ -1,9 +1,10 @@
 use Rattle.js_core.specs.Nesting.{room}
-use Rattle.js_core.proofs.ParameterLists.{ParameterLoop}
+use Rattle.js_core.specs.Parameters.{parameters_left}
+use Rattle.js_core.proofs.Lists.{ListLoop}
 use Rattle.js_core.proofs.parameters.parse_parameter_list.Given as goal
 
 abbrev pub invariant-parameters : goal.invariant-parameters
-invariant-parameters g l = ParameterLoop l.parameters.items l.fn.p l.p
+invariant-parameters g l = ListLoop parameters_left l.parameters.items l.fn.p l.p
 
 abbrev pub decreases-parameters : goal.decreases-parameters
 decreases-parameters g l = room l.p

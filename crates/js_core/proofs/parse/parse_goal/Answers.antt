@@ -19,6 +19,9 @@ returns-in-Exponentiation t c = rw (c.in-Exponentiation.is) c.parse_exponentiati
 pub returns-in-Expression : goal.returns-in-Expression
 returns-in-Expression t c = rw (c.in-Expression.is) c.parse_sequence_expression.ensures
 
+pub returns-in-Binding : goal.returns-in-Binding
+returns-in-Binding t c = rw (c.in-Binding.is) c.parse_binding_pattern.ensures
+
 pub returns-in-Statement : goal.returns-in-Statement
 returns-in-Statement t c = rw (c.in-Statement.is) c.parse_statement.ensures
 
@@ -33,6 +36,9 @@ parse_unary_expression_or_higher-requires-clause-at t c = ready_at c.args.goal c
 
 pub parse_exponentiation_expression-requires-clause-at : goal.parse_exponentiation_expression-requires-clause-at
 parse_exponentiation_expression-requires-clause-at t c = ready_at c.args.goal c.requires.at
+
+pub parse_binding_pattern-requires-clause-at : goal.parse_binding_pattern-requires-clause-at
+parse_binding_pattern-requires-clause-at t c = ready_at c.args.goal c.requires.at
 
 pub parse_statement-requires-clause-at : goal.parse_statement-requires-clause-at
 parse_statement-requires-clause-at t c = ready_at c.args.goal c.requires.at
