@@ -1,5 +1,5 @@
 -- What stands behind a rest (ECMA-262, 14.3.3, 15.1): the closing bracket is due, and a comma is told of.
-use Rattle.std.proofs.Common.{ℕ, ◌≡◌, ◌≤◌, ◌<◌, List, [], ◌∷◌, length, Option, Some, None, Bool, true, false, not, ◌&&◌, ◌||◌, IsTrue, IsCharBoundary, refl, sym, ap, subst, arith, ◌∙◌}
+use Rattle.std.proofs.Common.{ℕ, ◌≡◌, ◌<◌, List, [], ◌∷◌, length, Option, None, true, false, ◌||◌, IsCharBoundary, refl, sym, ap, subst, arith, ◌∙◌}
 use Rattle.std.proofs.lemmas.Bool.{false≢true, and_parts, and_from}
 use Rattle.js_base.specs.declared.diagnostic.Diagnostic.{Diagnostic}
 use Rattle.js_base.specs.declared.diagnostic.DiagnosticKind.{DiagnosticKind}
@@ -32,7 +32,7 @@ use Rattle.js_cursor.specs.Places.{goal}
 use Rattle.js_cursor.specs.declared.stop.Stop.{Stop}
 use Rattle.js_core.specs.Answers.{Stops, unclean}
 use Rattle.js_core.specs.Bindings.{closers, unrelated_at}
-use Rattle.js_core.specs.Lexemes.{Lex, spot}
+use Rattle.js_core.specs.Lexemes.{spot}
 use Rattle.js_core.specs.Lists.{NoneLeft, OneMore}
 use Rattle.js_core.specs.Moves.{Moved}
 use Rattle.js_core.specs.States.{At, Same}
@@ -128,4 +128,4 @@ module _ {text : List ℕ} {f : Flags} {p m : Parser} (close : Kind) (a : At tex
       }
 
   pub comma_stops : (P : Diagnostic → Type 0) (q : Parser) (e : Stop) → GivesUp P m q e → Stops p q e (NoneLeft text (tok close) p.prev_token_end)
-  comma_stops P q e g = stops_behind q e v.same.follows (λ i. grown_then v.kept i) (λ n. n) (gives_up P m q e g none_closes)
+  comma_stops P q e g = stops_behind q e v.same.follows (λ i. grown_then v.kept i) (λ n. n) (gives_up P m q e v.at g none_closes)

@@ -1,7 +1,7 @@
 -- What is bound (ECMA-262, 14.3.3): names and array patterns, elements of these, and rests.
-use Rattle.std.proofs.Common.{ℕ, ◌≡◌, ◌≤◌, ◌<◌, max, List, [], ◌∷◌, ◌++◌, length, Option, Some, None, Bool, true, false, not, ◌&&◌, ◌||◌, IsTrue, refl, sym, ap, subst, arith, ◌∙◌}
+use Rattle.std.proofs.Common.{ℕ, ◌≡◌, max, List, [], ◌∷◌, length, Option, Some, Bool, true, false, ◌||◌, refl, sym, ap, subst, arith, ◌∙◌}
 use Rattle.std.specs.Prelude.{Result, Ok, Err, MatchResult}
-use Rattle.std.proofs.lemmas.Bool.{false≢true, and_parts}
+use Rattle.std.proofs.lemmas.Bool.{false≢true}
 use Rattle.js_base.specs.declared.diagnostic.Diagnostic.{Diagnostic}
 use Rattle.js_base.specs.declared.kind.Kind.{Kind}
 use Rattle.js_base.specs.declared.kind.Kind.TheVariants.{RAngle, LBrack, RBrack, RParen, Comma, Dot3, Eq, Ident, PrivateIdentifier}
@@ -9,8 +9,8 @@ use Rattle.js_base.specs.declared.span.Span.{Span}
 use Rattle.js_base.specs.Kinds.{same_kind, one_of_kinds}
 use Rattle.js_base.specs.Texts.{words}
 use Rattle.js_grammar.specs.Lexemes.{is_word}
-use Rattle.js_grammar.specs.Trees.{Slots, end, tree, Label, NodeKind, no_op, array_pattern, assignment_pattern, binding_identifier, binding_rest_element, formal_parameter_rest}
-use Rattle.js_grammar.specs.Grammar.{Lexeme, Look, here, seq, alt, such, nothing, empty_slot, ◌▸◌}
+use Rattle.js_grammar.specs.Trees.{Slots, end, tree, Label, no_op, array_pattern, assignment_pattern, binding_identifier, binding_rest_element, formal_parameter_rest}
+use Rattle.js_grammar.specs.Grammar.{Look, here, alt, such, nothing, ◌▸◌}
 use Rattle.js_grammar.specs.Parsing.{Test, plain, full, always, behind, still, Goes, Fails}
 use Rattle.js_grammar.specs.Productions.{G, Flags, Symbol, at, tok, mk, plus_in, Assignment, BElement, Binding, BindingIdentifier, BindingRest, Pattern, Rest}
 use Rattle.js_grammar.specs.Productions.{sym as symbol}
@@ -18,7 +18,7 @@ use Rattle.js_grammar.specs.Table.{rule, rule_of}
 use Rattle.js_grammar.specs.Follow.{after, surest}
 use Rattle.js_base.proofs.KindLemmas.{kind_of_same}
 use Rattle.js_grammar.proofs.Looks.{covers, covered, apart}
-use Rattle.js_grammar.proofs.Calculus.{On, ◌▹◌, ◌▹✗◌, left, right, part_fails, then_by, weaken_on, weaken_fails_on, fails_alt, fails_node, fails_nothing, fails_rule, inside_full, inside_plain}
+use Rattle.js_grammar.proofs.Calculus.{On, ◌▹◌, ◌▹✗◌, left, right, part_fails, then_by, weaken_fails_on, fails_alt, fails_node, fails_nothing, fails_rule, inside_full, inside_plain}
 use Rattle.js_grammar.proofs.FollowLaws.{surely, fails_by}
 use Rattle.js_tree.specs.declared.id.NodeId.{NodeId}
 use Rattle.js_tree.specs.declared.kind.NodeKind.TheVariants as node_kind
@@ -34,7 +34,6 @@ use Rattle.js_core.specs.Answers.{Underived, Answer, Numbered, Outcome, Stops}
 use Rattle.js_core.specs.Arguments.{Partway, behind_item, ItemTaken, NoItem}
 use Rattle.js_core.specs.Bindings.{elements_left}
 use Rattle.js_core.specs.Lexemes.{Lex}
-use Rattle.js_core.specs.Lists.{NoneLeft}
 use Rattle.js_core.specs.Members.{StandsHere}
 use Rattle.js_core.specs.Moves.{Moved, MadeHere, LeafTaken, TakesLeaf, plain_label}
 use Rattle.js_core.specs.States.{At, Same}
@@ -172,9 +171,9 @@ module _ {text : List ℕ} {f : Flags} {o : Parser} (a : At text f o) (k : o.tok
 pub pattern_moved : {text : List ℕ} {f : Flags} {p q : Parser} → At text f p → (p.token.kind ≡ RBrack) × MovesOn p q → Moved text f p q
 pattern_moved a z = moves (uncut a (ap (same_kind RAngle) z.0), ap is_last z.0) z.1 a
 
-pub pattern_unclosed : (P : Diagnostic → Type 0) (p q : Parser) (e : Stop) {F : Type 0} → (e ≡ Fatal → p.token.kind ≡ RBrack → ⊥) × GivesUp P p q e → (one_of_kinds (RBrack ∷ []) p.token.kind ≡ false → F) → Stops p q e F
-pattern_unclosed P p q Fatal h g = gives_up P p q Fatal h.1 (g (other_kind RBrack p.token.kind (h.0 refl)))
-pattern_unclosed P p q NoMemory h g = tt
+pub pattern_unclosed : {text : List ℕ} {f : Flags} (P : Diagnostic → Type 0) (p q : Parser) (e : Stop) {F : Type 0} → At text f p → (e ≡ Fatal → p.token.kind ≡ RBrack → ⊥) × GivesUp P p q e → (one_of_kinds (RBrack ∷ []) p.token.kind ≡ false → F) → Stops p q e F
+pattern_unclosed P p q Fatal a h g = gives_up P p q Fatal a h.1 (g (other_kind RBrack p.token.kind (h.0 refl)))
+pattern_unclosed P p q NoMemory a h g = tt
 
 -- ---- an element of a pattern
 

@@ -1,17 +1,16 @@
 -- Lists between brackets: what is left of one behind each of its items, a gap, and what stands last.
-use Rattle.std.proofs.Common.{ℕ, ◌≡◌, ◌≤◌, ◌<◌, max, List, [], ◌∷◌, ◌++◌, length, Option, Some, None, Bool, true, false, not, ◌&&◌, ◌||◌, IsTrue, refl, sym, ap, subst, arith, ◌∙◌}
-use Rattle.std.specs.Prelude.{Ok, Err}
-use Rattle.std.proofs.lemmas.Bool.{false≢true, and_parts}
-use Rattle.js_base.specs.declared.diagnostic.Diagnostic.{Diagnostic}
+use Rattle.std.proofs.Common.{ℕ, ◌≡◌, ◌≤◌, ◌<◌, max, List, [], ◌∷◌, ◌++◌, length, Option, Some, None, Bool, true, false, ◌||◌, refl, sym, ap, subst, arith, ◌∙◌}
+use Rattle.std.specs.Prelude.{Ok}
+use Rattle.std.proofs.lemmas.Bool.{and_parts}
 use Rattle.js_base.specs.declared.kind.Kind.{Kind}
-use Rattle.js_base.specs.declared.kind.Kind.TheVariants.{RAngle, Comma, RParen, RBrack, PrivateIdentifier}
+use Rattle.js_base.specs.declared.kind.Kind.TheVariants.{Comma, RParen, RBrack, PrivateIdentifier}
 use Rattle.js_base.specs.Kinds.{same_kind, one_of_kinds}
 use Rattle.js_base.specs.Texts.{words}
 use Rattle.js_base.proofs.KindLemmas.{kind_of_same}
-use Rattle.js_grammar.specs.Trees.{Slots, end, hole, tree, Label, append}
-use Rattle.js_grammar.specs.Grammar.{Lexeme, Lexemes, Look, here, seen, is, next, seq, alt, such, empty_slot}
+use Rattle.js_grammar.specs.Trees.{Slots, end, hole, tree, append}
+use Rattle.js_grammar.specs.Grammar.{Lexeme, Look, here, is, next, seq, such, empty_slot}
 use Rattle.js_grammar.specs.Lexemes.{is_word}
-use Rattle.js_grammar.specs.Parsing.{plain, full, always, still, passing, joined, Admits, Goes, Reads, Fails}
+use Rattle.js_grammar.specs.Parsing.{plain, full, always, still, passing, Admits, Goes, Reads}
 use Rattle.js_grammar.specs.Productions.{G, Flags, Symbol, tok}
 use Rattle.js_grammar.specs.Table.{rule}
 use Rattle.js_grammar.specs.FirstSets.{first as first_of}
@@ -28,10 +27,10 @@ use Rattle.js_tree.specs.Holding.{HoldsAll, Keeps}
 use Rattle.js_tree.proofs.HoldingLemmas.{HoldsAll-hole, HoldsAll-next, Keeps-refl, Keeps-trans}
 use Rattle.js_cursor.specs.Parsers.{Parser}
 use Rattle.js_cursor.specs.declared.stop.Stop.{Stop}
-use Rattle.js_core.specs.Answers.{Stretch, Underived, Numbered, Stops, clean}
+use Rattle.js_core.specs.Answers.{Underived, Numbered, Stops, clean}
 use Rattle.js_core.specs.Arguments.{Partway, ItemTaken, NoItem}
 use Rattle.js_core.specs.Lexemes.{Lex, nowhere}
-use Rattle.js_core.specs.Lists.{left_when, NoneLeft, OneMore, ReadsOneMore, ListRead, ListStops}
+use Rattle.js_core.specs.Lists.{NoneLeft, OneMore, ReadsOneMore, ListRead, ListStops}
 use Rattle.js_core.specs.Moves.{Moved}
 use Rattle.js_core.specs.Nesting.{room}
 use Rattle.js_core.specs.States.{At, Standing}

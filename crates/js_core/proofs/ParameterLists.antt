@@ -1,14 +1,14 @@
 -- Formal parameters (ECMA-262, 15.1): one of them, and their list in parentheses.
-use Rattle.std.proofs.Common.{ℕ, ◌≡◌, ◌≤◌, ◌<◌, max, List, [], ◌∷◌, ◌++◌, length, Option, Some, None, Bool, true, false, not, ◌&&◌, ◌||◌, refl, sym, ap, subst, arith, ◌∙◌}
+use Rattle.std.proofs.Common.{ℕ, ◌≡◌, List, [], ◌∷◌, ◌++◌, length, Option, Some, None, true, false, ◌||◌, refl, ap, subst, arith}
 use Rattle.js_base.specs.declared.kind.Kind.{Kind}
-use Rattle.js_base.specs.declared.kind.Kind.TheVariants.{RAngle, LParen, RParen, LBrack, RBrack, Comma, Dot3, Eq, Ident, PrivateIdentifier}
+use Rattle.js_base.specs.declared.kind.Kind.TheVariants.{LParen, RParen, LBrack, RBrack, Comma, Dot3, Eq, Ident, PrivateIdentifier}
 use Rattle.js_base.specs.declared.span.Span.{Span}
 use Rattle.js_base.specs.Kinds.{same_kind, one_of_kinds}
 use Rattle.js_base.specs.Texts.{words}
 use Rattle.js_grammar.specs.Lexemes.{is_word}
 use Rattle.js_grammar.specs.Trees.{Slots, end, hole, tree, Label, no_op, formal_parameter, formal_parameters}
-use Rattle.js_grammar.specs.Grammar.{Look, here, seq, alt, nothing, never, empty_slot, ◌▸◌}
-use Rattle.js_grammar.specs.Parsing.{Test, plain, full, behind, still, Goes, Fails}
+use Rattle.js_grammar.specs.Grammar.{Look, seq, alt, nothing, never, empty_slot, ◌▸◌}
+use Rattle.js_grammar.specs.Parsing.{plain, full, still, Goes, Fails}
 use Rattle.js_grammar.specs.Productions.{G, Flags, at, tok, plus_in, Assignment, Binding, Init, Param, Params, Rest}
 use Rattle.js_grammar.specs.Productions.{sym as symbol}
 use Rattle.js_grammar.specs.Table.{rule, rule_of}
@@ -36,13 +36,13 @@ use Rattle.js_core.proofs.Arrays.{behind_one}
 use Rattle.js_core.proofs.Bindings.{binding_read, ended_by, item_answers, no_end_here, on_initialiser}
 use Rattle.js_core.proofs.Conditionals.{other_kind, plain_sign}
 use Rattle.js_core.proofs.Dead.{fails_dead}
-use Rattle.js_core.proofs.Lists.{end_due, item_comma, item_due, item_fails, item_last, item_more, last_due, last_fails, last_more, list_goes_on, more_from, none_yet}
+use Rattle.js_core.proofs.Lists.{end_due, item_comma, item_due, item_fails, item_last, item_more, last_due, last_fails, last_more, more_from, none_yet}
 use Rattle.js_core.proofs.MadeNodes.{node_held, two_held}
 use Rattle.js_core.proofs.Moving.{same_both, stops_behind, stops_so}
 use Rattle.js_core.proofs.Operands.{by_path}
 use Rattle.js_core.proofs.Parts.{part_path, part_path_fails, part_sign, part_last, parts}
 use Rattle.js_core.proofs.Paths.{Path, ◌⟼◌, ◌⟶◌, ◌⟶✗◌, fails_at, token, last_called, noded, noded_by, by_symbol_as, label_here}
-use Rattle.js_core.proofs.Verdicts.{verdict_of, grown_then}
+use Rattle.js_core.proofs.Verdicts.{grown_then}
 use Rattle.js_core.proofs.Verdicts.{after as grown_behind}
 
 open_plain : (is_word LParen || same_kind PrivateIdentifier LParen) ≡ false

@@ -1,5 +1,5 @@
 -- The list of an array pattern (ECMA-262, 14.3.3): what is left of it behind an element, a hole or a rest.
-use Rattle.std.proofs.Common.{ℕ, ◌≡◌, List, [], ◌∷◌, ◌++◌, Option, Some, None, Bool, false, refl, ap}
+use Rattle.std.proofs.Common.{ℕ, ◌≡◌, List, [], ◌∷◌, ◌++◌, Option, Some, None, false, refl, ap}
 use Rattle.js_base.specs.declared.kind.Kind.{Kind}
 use Rattle.js_base.specs.declared.kind.Kind.TheVariants.{LBrack, RBrack, Comma, Dot3, Ident}
 use Rattle.js_base.specs.Kinds.{one_of_kinds}
@@ -8,7 +8,7 @@ use Rattle.js_grammar.specs.Grammar.{seq, empty_slot}
 use Rattle.js_grammar.specs.Parsing.{plain, full, still, Goes}
 use Rattle.js_grammar.specs.Productions.{G, Flags, at, tok, BElement, BindingRest}
 use Rattle.js_grammar.specs.Productions.{sym as symbol}
-use Rattle.js_grammar.specs.Table.{rule, rule_of}
+use Rattle.js_grammar.specs.Table.{rule}
 use Rattle.js_grammar.proofs.Looks.{covers, apart}
 use Rattle.js_grammar.proofs.Calculus.{◌▹✗◌}
 use Rattle.js_tree.specs.declared.id.NodeId.{NodeId}

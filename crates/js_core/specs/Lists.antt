@@ -1,5 +1,5 @@
 -- Lists between brackets, as far as they were read: one item more with its comma, or the last one, and then the closing bracket is due.
-use Rattle.std.specs.Prelude.{ℕ, ◌≡◌, ◌<◌, ◌≤◌, Bool, true, false, List, [], ◌∷◌, Option, length, Result, Ok, Err}
+use Rattle.std.specs.Prelude.{ℕ, ◌≡◌, ◌<◌, ◌≤◌, Bool, true, false, List, [], Option, length, Result, Ok, Err}
 use Rattle.js_base.specs.declared.kind.Kind.{Kind}
 use Rattle.js_grammar.specs.Trees.{Slots, end, append}
 use Rattle.js_grammar.specs.Grammar.{Lexemes}

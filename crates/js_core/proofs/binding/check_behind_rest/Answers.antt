@@ -1,4 +1,4 @@
-use Rattle.std.proofs.Common.{◌≡◌, refl, sym, ap, subst, ◌∙◌}
+use Rattle.std.proofs.Common.{◌≡◌, refl}
 use Rattle.js_base.specs.declared.kind.Kind.TheVariants.{Comma}
 use Rattle.js_core.proofs.BehindRests.{comma_marked, comma_stops, comma_told, mark_later}
 use Rattle.js_core.proofs.Conditionals.{whole_sign}

@@ -1,9 +1,9 @@
-use Rattle.std.proofs.Common.{◌≡◌, ◌∙◌, refl, sym, ap, subst, arith}
+use Rattle.std.proofs.Common.{◌∙◌, refl, sym, ap, subst, arith}
 use Rattle.std.specs.Prelude.{◌∷◌, []}
 use Rattle.std.proofs.lemmas.Result.{err_from_is_err_and}
 use Rattle.js_base.specs.declared.span.Span.{Span}
 use Rattle.js_base.specs.declared.token.Token.{Token}
-use Rattle.js_base.specs.declared.kind.Kind.TheVariants.{LParen, LBrack, RBrack, LCurly, TemplateHead, TemplateMiddle}
+use Rattle.js_base.specs.declared.kind.Kind.TheVariants.{LParen, LBrack, LCurly, TemplateHead, TemplateMiddle}
 use Rattle.js_base.specs.Kinds.{one_of_kinds}
 use Rattle.js_cursor.specs.Moves.{Opened}
 use Rattle.js_core.proofs.Bindings.{no_pattern, pattern_answers, pattern_moved, pattern_opened, pattern_unclosed, unclosed_pattern}
@@ -45,7 +45,7 @@ returns-in_err-expect_closing g c = λ text f a.
     let m = c.in_ok-advance.ensures text f a in
     let y = c.in_ok-elements.ensures text f m.at in
     let x = list_goes_on (pattern_opened a c.requires.open.0 m) y in
-    rw (p.1, p.2) (stops_behind _ _ x.same.follows (λ e. after x.verdict e) (λ n. unclosed_pattern a c.requires.open.0 x n) (pattern_unclosed _ _ _ _ c.in_err-expect_closing.ensures (λ n. n)))
+    rw (p.1, p.2) (stops_behind _ _ x.same.follows (λ e. after x.verdict e) (λ n. unclosed_pattern a c.requires.open.0 x n) (pattern_unclosed _ _ _ _ x.at c.in_err-expect_closing.ensures (λ n. n)))
 
 pub end_span-span-requires : goal.end_span-span-requires
 end_span-span-requires g c =

@@ -1,4 +1,4 @@
-use Rattle.std.proofs.Common.{◌≤◌, arith}
+use Rattle.std.proofs.Common.{arith}
 use Rattle.js_base.specs.declared.kind.Kind.TheVariants.{LBrack}
 use Rattle.js_core.specs.declared.nested.Goal.TheVariants.{Binding}
 use Rattle.js_core.proofs.Members.{stands_so}

@@ -1,4 +1,4 @@
-use Rattle.std.proofs.Common.{◌≡◌, sym, ◌∙◌}
+use Rattle.std.proofs.Common.{sym, ◌∙◌}
 use Rattle.std.proofs.lemmas.Bool.{false≢true}
 use Rattle.js_core.proofs.PatternLists.{pattern_closed}
 use Rattle.js_core.proofs.binding.parse_next_element.Goals as goal

@@ -1,4 +1,4 @@
-use Rattle.std.proofs.Common.{◌≡◌, ◌<◌, refl, arith}
+use Rattle.std.proofs.Common.{refl, arith}
 use Rattle.js_base.specs.declared.kind.Kind.TheVariants.{Comma}
 use Rattle.js_core.proofs.Conditionals.{whole_sign}
 use Rattle.js_core.proofs.PatternLists.{hole_taken}

@@ -1,4 +1,4 @@
-use Rattle.std.proofs.Common.{◌≡◌, ◌∙◌, refl, sym, ap, subst, arith}
+use Rattle.std.proofs.Common.{◌∙◌, sym, ap, subst, arith}
 use Rattle.std.proofs.lemmas.Result.{err_from_is_err_and}
 use Rattle.js_base.specs.declared.span.Span.{Span}
 use Rattle.js_base.specs.declared.token.Token.{Token}
@@ -7,12 +7,12 @@ use Rattle.js_base.specs.Kinds.{one_of_kinds}
 use Rattle.std.specs.Prelude.{◌∷◌, []}
 use Rattle.js_cursor.specs.Moves.{Opened}
 use Rattle.js_core.proofs.Bracketed.{opened_here, opened_later}
-use Rattle.js_core.proofs.Moving.{standing, stops_behind, same_both}
+use Rattle.js_core.proofs.Moving.{standing, stops_behind}
 use Rattle.js_core.proofs.Nesting.{nested_room, nests_later}
 use Rattle.js_core.proofs.Parentheses.{paren_whole, unclosed}
 use Rattle.js_core.proofs.Lists.{list_goes_on, list_stops}
 use Rattle.js_core.proofs.ParameterLists.{list_answers, list_begins, no_params, unclosed_list}
-use Rattle.js_core.proofs.Verdicts.{after, grown_then}
+use Rattle.js_core.proofs.Verdicts.{after}
 use Rattle.js_core.proofs.Moving.{stops_so}
 use Rattle.js_core.proofs.parameters.parse_formal_parameters.Goals as goal
 

@@ -1,4 +1,4 @@
-use Rattle.std.proofs.Common.{◌≡◌, sym, ◌∙◌}
+use Rattle.std.proofs.Common.{sym, ◌∙◌}
 use Rattle.std.proofs.lemmas.Bool.{false≢true}
 use Rattle.js_core.proofs.ParameterLists.{list_closed}
 use Rattle.js_core.proofs.parameters.parse_next_parameter.Goals as goal
