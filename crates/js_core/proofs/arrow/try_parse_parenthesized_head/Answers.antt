@@ -1,4 +1,5 @@
-use Rattle.std.proofs.Common.{subst}
+use Rattle.std.proofs.Common.{ap, subst}
+use Rattle.js_cursor.specs.Tokens.{may_be_read_again}
 use Rattle.js_cursor.specs.Parsers.{Parser}
 use Rattle.js_cursor.specs.Checkpoints.{GoesOn}
 use Rattle.js_cursor.proofs.Changing.{may_return}
@@ -15,7 +16,7 @@ rewind-requires-clause-may g c = may_return c.requires.at.at c.in_ok-here.ensure
 pub returns : goal.returns
 returns g c =
     let n = none_looked _ c.parse_parenthesized_head.new.p _ c.in_default.is c.in_ok-parameters.ensures in
-    (went_back c.in_ok-here.ensures.remembers (subst (λ (z : Parser). GoesOn z c.parse_parenthesized_head.new.p) c.in_ok-here.ensures.same n.0) c.rewind.ensures, subst NoArrowHere c.in_ok-here.ensures.same n.1)
+    (went_back (ap may_be_read_again c.requires.open) c.in_ok-here.ensures.remembers (subst (λ (z : Parser). GoesOn z c.parse_parenthesized_head.new.p) c.in_ok-here.ensures.same n.0) c.rewind.ensures, subst NoArrowHere c.in_ok-here.ensures.same n.1)
 
 pub returns-in-Some : goal.returns-in-Some
 returns-in-Some g c = some_looked _ _ c.parse_parenthesized_head.new.p _ _ c.in_ok-here.ensures.same c.in-Some.is c.in_ok-parameters.ensures
