@@ -62,6 +62,8 @@ use Rattle.js_core.specs.Answers.{Underived, Answer, Answers, Numbered, Outcome,
 use Rattle.js_cursor.specs.Notes.{Notes}
 use Rattle.js_core.specs.Arrows.{arrow_body, head_of, late_arrow, ArrowBehind, BeforeArrow, a_head, refused, ChecksLine, FindsHead, Head, LooksForHead, IsHead, IsHeadHere, IsRefusedHead, NoArrowHere, NoHeadHere, Single, Unmoved}
 use Rattle.js_core.specs.Heads.{NoHead, NotedHeads}
+use Rattle.js_cursor.specs.Tokens.{may_be_read_again}
+use Rattle.js_core.proofs.KeptTokens.{before_back, last_back}
 use Rattle.js_core.specs.Lexemes.{Lex, is_read, read_kinds, spot}
 use Rattle.js_core.specs.Moves.{Moved, MadeHere, LeafTaken, TakesLeaf, plain_label}
 use Rattle.js_core.specs.States.{At, Same, Standing, flags_of, IsPlain, whole, sign, nothing as nothing_here}
@@ -456,16 +458,21 @@ plain_back {text} {p} {r} t c e (whole d n x) = whole (c ∙ d) (λ k. n (sym (a
 plain_back {text} {p} {r} t c e (sign d k x) = sign (c ∙ d) (ap (λ z. z.kind) t ∙ k) (subst (λ (v : ℕ). GivesLexeme division cut text v r.token) (sym e) (subst (λ (v : Token). GivesLexeme division cut text p.prev_token_end v) (sym t) x))
 plain_back {text} {p} {r} t c e (nothing_here d k n) = nothing_here (c ∙ d) (ap (λ z. z.kind) t ∙ k) (subst (λ (v : ℕ). (y : Lexeme) → LexemeBehind division text v y → ⊥) (sym e) n)
 
-pub went_back : {p q r : Parser} {c : ParserCheckpoint} → Remembers p c → GoesOn p q → NotedHeads q → GoesBack c q r → Unmoved p r
-went_back {p} {q} {r} m f n g =
+pub went_back : {p q r : Parser} {c : ParserCheckpoint} → may_be_read_again p.token.kind ≡ false → Remembers p c → GoesOn p q → NotedHeads q → GoesBack c q r → Unmoved p r
+went_back {p} {q} {r} o m f n g =
     let b = came_back m f.0 g in
     let s : Same p r = record { follows = back_follows m f.0 g; options = g.options ∙ f.0.options; ctx = b.ctx; depth = b.depth; visits = b.visits } in
     record {
-      at = λ text f a. record { text_is = b.text ∙ a.text_is; flags_are = flags_same p r b.ctx b.source_type s.options ∙ a.flags_are; at = g.at; plain = plain_back b.token b.cut b.prev_token_end a.plain; behind = let i = b.prev_token_end in let j = ap (λ z. z.span.start) b.token in let k = a.behind in omega arith; heads = heads_kept q r g.text g.source_type g.options (ap (λ (z : Notes). z.failed) g.state) n };
+      at = λ text f a. record { text_is = b.text ∙ a.text_is; flags_are = flags_same p r b.ctx b.source_type s.options ∙ a.flags_are; at = g.at; plain = plain_back b.token b.cut b.prev_token_end a.plain; behind = let i = b.prev_token_end in let j = ap (λ z. z.span.start) b.token in let k = a.behind in omega arith; heads = heads_kept q r g.text g.source_type g.options (ap (λ (z : Notes). z.failed) g.state) n; kept_last = last_back p.lexer r.lexer b.token b.keeps_tokens (b.tokens o) a.kept_last };
       same = s;
       kept = b.errors;
       place = b.prev_token_end;
-      spot_is = λ i. record { source = goal_of (b.source_type i); place = b.prev_token_end i; faults = b.faults i };
+      spot_is = λ i. record {
+        source = goal_of (b.source_type i);
+        keeps_tokens = b.keeps_tokens i;
+        place = b.prev_token_end i;
+        kept = record { comments = b.comments i; irregular_whitespaces = b.blanks i; tokens = before_back p.lexer r.lexer b.token b.keeps_tokens (b.tokens o) i; errors = b.faults i };
+      };
       start = ap (λ z. z.span.start) b.token;
       keeps = s.follows.nodes;
     }

@@ -20,21 +20,12 @@ use Rattle.js_cursor.specs.Moves.{Passed, Completed, MovesOn, is_last}
 use Rattle.js_core.specs.States.{IsPlain, whole, sign, nothing as no_lexeme, Standing}
 use Rattle.js_cursor.specs.Notes.{HasNone, Notes}
 use Rattle.js_core.specs.Heads.{NotedHeads}
+use Rattle.js_core.specs.Lexemes.{KeptLast}
+use Rattle.js_core.proofs.KeptTokens.{no_plain_hashbang, next_kept_last}
 use Rattle.js_core.proofs.Moving.{heads_kept, plain_given}
 
 hashbang_kind : {text : List ℕ} {s : ℕ} {t : _} → GivesLexeme hashbang (λ y. y) text s t → t.kind ≡ HashbangComment
 hashbang_kind x = x.tells.kind ∙ hashbang_is x.stands.lex.word x.lexeme.kind (subst (λ (g : LexicalGoal). kind_in g x.stands.lex.word x.stands.lex.rest ≡ Some x.lexeme.kind) x.stands.of_goal x.stands.lex.lexeme.kind)
-
--- no lexeme of the plain goal is a hashbang comment
-no_plain_hashbang : {text : List ℕ} {p : Parser} → IsPlain text p → p.token.kind ≡ HashbangComment → ⊥
-no_plain_hashbang (whole c n x) h = go x.stands.lex.word x.stands.lex.rest (subst (λ (g : LexicalGoal). kind_in g x.stands.lex.word x.stands.lex.rest ≡ Some HashbangComment) x.stands.of_goal (x.stands.lex.lexeme.kind ∙ ap Some (sym x.tells.kind ∙ h)))
-  where
-    go : (w rest : List ℕ) → plain_kind w rest ≡ Some HashbangComment → ⊥
-    go [] [] e = cc
-    go [] (c ∷ rest) e = cc
-    go (c ∷ cs) rest e = false≢true (sym (plain_no_hashbang c cs rest HashbangComment e))
-no_plain_hashbang (sign c k x) h = let z : RAngle ≡ HashbangComment = sym k ∙ h in cc
-no_plain_hashbang (no_lexeme c k n) h = let z : Undetermined ≡ HashbangComment = sym k ∙ h in cc
 
 -- nothing is noted where a text begins
 pub none_noted : (p : Parser) → HasNone p.state → NotedHeads p
@@ -42,7 +33,7 @@ none_noted p n = λ f s k. absurd (false≢true (sym (n.failed f.await_ f.yield_
 
 -- Behind a lexeme of whichever goal the plain goal gives the next token.
 pub behind_first : {p q : Parser} → IsAt p → NotedHeads p → Passed p q → Standing q
-behind_first {p} {q} b n h = record { text_is = refl; flags_are = refl; at = h.at; plain = plain_given h.next.faults h.at.token outcome; behind = let s = h.next.start in let e = place in omega arith; heads = heads_kept p q h.stays.text h.stays.source_type h.stays.options (ap (λ (m : Notes). m.failed) h.stays.state) n }
+behind_first {p} {q} b n h = record { text_is = refl; flags_are = refl; at = h.at; plain = plain_given h.next.faults h.at.token outcome; behind = let s = h.next.start in let e = place in omega arith; heads = heads_kept p q h.stays.text h.stays.source_type h.stays.options (ap (λ (m : Notes). m.failed) h.stays.state) n; kept_last = next_kept_last h.next }
   where
     reads : p.lexer.text ≡ q.text
     reads = b.reads ∙ sym h.stays.text
@@ -84,6 +75,10 @@ module _ {source : List ℕ} {read_as : SourceType} {asked : ParseOptions} {toke
   first_plain h (inl b) = absurd (h (hashbang_kind b.gives))
   first_plain h (inr n) = next_plain n.1
 
+  first_last : (p.token.kind ≡ HashbangComment → ⊥) → GivesFirst s.lexer p.lexer p.token → KeptLast p.lexer p.token
+  first_last h (inl b) = absurd (h (hashbang_kind b.gives))
+  first_last h (inr n) = next_kept_last n.1
+
   -- a token of a hashbang comment is the lexeme that stands at the text's start
   pub begins_with_hashbang : p.token.kind ≡ HashbangComment → (y : Lexeme) × LexemeBehind hashbang p.text 0 y
   begins_with_hashbang h = go s.first
@@ -93,4 +88,4 @@ module _ {source : List ℕ} {read_as : SourceType} {asked : ParseOptions} {toke
       go (inr n) = absurd (no_plain_hashbang (next_plain n.1) h)
 
   pub begins : (p.token.kind ≡ HashbangComment → ⊥) → Standing p
-  begins h = record { text_is = refl; flags_are = refl; at = s.at; plain = first_plain h s.first; behind = let z = s.prev_token_end in omega arith; heads = none_noted p s.state }
+  begins h = record { text_is = refl; flags_are = refl; at = s.at; plain = first_plain h s.first; behind = let z = s.prev_token_end in omega arith; heads = none_noted p s.state; kept_last = first_last h s.first }

@@ -114,11 +114,11 @@ module _ {text : List ℕ} {f : Flags} {n : Symbol} {p q : Parser} (w : Passes n
 
 front_of : {text : List ℕ} {s s' : Spot} {pass : Lexemes → Lexemes} → Walked text s s' pass → {to : ℕ} {ms rest : Lexemes} → Front to ms rest → Front to (pass ms) rest
 front_of nowhere h = h
-front_of (one_more w l k) h = front_of w (more h)
+front_of (one_more w i) h = front_of w (more h)
 
 pub front : {text : List ℕ} {s s' : Spot} {pass : Lexemes → Lexemes} → Walked text s s' pass → s.place < s'.place → (ms : Lexemes) → Front s'.place (pass ms) ms
 front nowhere h ms = absurd (omega arith)
-front (one_more w l k) h ms = front_of w (one refl)
+front (one_more w i) h ms = front_of w (one refl)
 
 all_stand : (text : List ℕ) (s : ℕ) (ls : Lexemes) → Lexes (Lex text) s ls → Lexes (StandsBehind all_faults text) s ls
 all_stand text s (last x) l = l.0

@@ -97,12 +97,12 @@ size (next x ls) = suc (size ls)
 
 walk_longer : {text : List ℕ} {s e : Spot} {pass : Lexemes → Lexemes} → Walked text s e pass → (ls : Lexemes) → size ls ≤ size (pass ls)
 walk_longer nowhere ls = omega arith
-walk_longer (one_more {x = x} w l k) ls = let h = walk_longer w (next x ls) in omega arith
+walk_longer (one_more {x = x} w i) ls = let h = walk_longer w (next x ls) in omega arith
 
 one_lexeme : {text : List ℕ} {s e : Spot} {pass : Lexemes → Lexemes} → Walked text s e pass → (y z : Lexeme) → pass (last z) ≡ next y (last z) → (ls : Lexemes) → pass ls ≡ next y ls
 one_lexeme nowhere y z h ls = let b = ap size h in absurd (omega arith)
-one_lexeme (one_more {x = x} nowhere l k) y z h ls = ap (λ (v : Lexeme). next v ls) (ap here h)
-one_lexeme (one_more {x = x} (one_more {x = x'} w l' k') l k) y z h ls = let a = walk_longer w (next x' (next x (last z))) in let b = ap size h in absurd (omega arith)
+one_lexeme (one_more {x = x} nowhere i) y z h ls = ap (λ (v : Lexeme). next v ls) (ap here h)
+one_lexeme (one_more {x = x} (one_more {x = x'} w i') i) y z h ls = let a = walk_longer w (next x' (next x (last z))) in let b = ap size h in absurd (omega arith)
 
 pub made_at : {text : List ℕ} {f : Flags} {q w : Parser} {l : Label} {ids : List (Option NodeId)} {id : NodeId} → At text f q → MadeHere l ids q w id → At text f w
 made_at {text} {f} {w = w} a n = subst (λ (v : Parser). At text f v) (sym n.stays) (beside_nodes w.nodes a)

@@ -1,6 +1,7 @@
 pub mod Dead
 pub mod Here
 pub mod Kept
+pub mod KeptTokens
 pub mod Moving
 pub mod Nesting
 pub mod Verdicts

@@ -14,7 +14,7 @@ use Rattle.js_grammar.specs.Lexemes.{LexicalGoal, division}
 use Rattle.js_grammar.specs.Lexed.{Lex as StandsBehind, all_faults}
 use Rattle.js_grammar.specs.Productions.{Flags, Symbol}
 use Rattle.js_grammar.specs.Settings.{Goal}
-use Rattle.js_lex.specs.Reading.{cut, is_right_angle, in_a_module, Tells, GivesLexeme, GivesNone, LexemeBehind, Outcome}
+use Rattle.js_lex.specs.Reading.{cut, is_kept, is_right_angle, in_a_module, Tells, GivesLexeme, GivesNone, LexemeBehind, Outcome}
 use Rattle.js_lex.proofs.Again.{cut_same}
 use Rattle.js_cursor.specs.Parsers.{Parser}
 use Rattle.js_cursor.specs.Places.{IsAt, goal}
@@ -36,13 +36,14 @@ use Rattle.js_base.specs.declared.source_type.SourceType.{SourceType}
 use Rattle.js_cursor.specs.Notes.{Heads, Notes, is_failed}
 use Rattle.js_cursor.specs.Starts.{is_module}
 use Rattle.js_core.specs.Heads.{NoHead, NotedHeads, throughout}
-use Rattle.js_core.specs.Lexemes.{KeptFor, read_kinds}
+use Rattle.js_core.specs.Lexemes.{KeptFor, TriviaKept, News, read_kinds}
+use Rattle.js_core.proofs.KeptTokens.{counts_here, completed_counts, before_next, next_kept_last, again_before, again_last, trivia_kept}
 use Rattle.js_core.specs.States.{At, Standing, IsPlain, whole, sign, nothing, Same, flags_of}
 use Rattle.js_core.specs.Moves.{IsCompleted, IsWholeHere, Moved, Moves, Tightness}
 use Rattle.js_core.specs.Operators.{power_of}
 use Rattle.js_core.proofs.Here.{plain_kind, uncut}
 use Rattle.js_core.proofs.Kept.{kept_for}
-use Rattle.js_lex.specs.Comments.{each_at, html_fault_at}
+use Rattle.js_lex.specs.Comments.{each_at, comment_at, irregular_at, html_fault_at}
 use Rattle.js_lex.specs.States.{goal_of}
 
 -- What is given behind a place is what the plain goal gives, if it was asked for by that.
@@ -103,6 +104,7 @@ module _ {text : List ℕ} {f : Flags} {p : Parser} where
     plain = subst (λ (v : List ℕ). IsPlain v q) text_is (plain_given h.next.faults h.at.token outcome);
     behind = let s = h.next.start in let e = place in omega arith;
     heads = heads_kept p q h.stays.text h.stays.source_type h.stays.options (ap (λ (n : Notes). n.failed) h.stays.state) a.heads;
+    kept_last = next_kept_last h.next;
   }
     where
       text_is : q.text ≡ text
@@ -131,13 +133,32 @@ module _ {text : List ℕ} {f : Flags} {p : Parser} where
     tells = s.tells;
     ends = sym s.moved;
     further = further n s;
-    faults = each_at (html_fault_at (in_a_module p.lexer.goal)) p.lexer.place s.next.pieces ++ s.next.faults;
-    kept_for = subst (λ (v : Goal). KeptFor v text s.lexeme.to s_faults) a.at.reads_for (subst (λ (v : List ℕ). KeptFor p.lexer.goal v s.lexeme.to s_faults) (a.at.reads ∙ a.text_is) (subst (λ (i : ℕ). KeptFor p.lexer.goal p.lexer.text i s_faults) (a.at.last ∙ s.tells.end) (kept_for s.next)));
-    spot_is = λ i. record { source = goal_of (s.stays.source_type i); place = s.moved i; faults = s.next.grows.faults_grow i };
+    news = news;
+    is_new = record {
+      stood = subst (λ (v : List ℕ). StandsBehind all_faults v p.prev_token_end s.lexeme) a.text_is s.stood;
+      tells = s.tells;
+      counts = counts_here a.plain n;
+      faults = subst (λ (v : Goal). KeptFor v text s.lexeme.to news.faults) a.at.reads_for (there (λ v i. KeptFor p.lexer.goal v i news.faults) (kept_for s.next));
+      trivia = there (λ v i. TriviaKept v i news.comments news.blanks) (trivia_kept s.next);
+    };
+    spot_is = λ i. record {
+      source = goal_of (s.stays.source_type i);
+      keeps_tokens = s.next.same.keeps_tokens i;
+      place = s.moved i;
+      kept = record { comments = s.next.grows.comments_grow i; irregular_whitespaces = s.next.grows.blanks_grow i; tokens = (before_next s.next ∙ a.kept_last) i; errors = s.next.grows.faults_grow i };
+    };
   }
     where
-      s_faults : List Diagnostic
-      s_faults = each_at (html_fault_at (in_a_module p.lexer.goal)) p.lexer.place s.next.pieces ++ s.next.faults
+      news : News
+      news = record {
+        token = p.token;
+        comments = each_at (comment_at q.token.span.start) p.lexer.place s.next.pieces;
+        blanks = each_at irregular_at p.lexer.place s.next.pieces;
+        faults = each_at (html_fault_at (in_a_module p.lexer.goal)) p.lexer.place s.next.pieces ++ s.next.faults;
+      }
+
+      there : (P : List ℕ → ℕ → Type 0) → P p.lexer.text p.lexer.place → P text s.lexeme.to
+      there P h = subst (λ (v : List ℕ). P v s.lexeme.to) (a.at.reads ∙ a.text_is) (subst (λ (i : ℕ). P p.lexer.text i) (a.at.last ∙ s.tells.end) h)
 
   by_moving : {mid q : Parser} → At text f p → IsWholeHere p → Completed p mid → ((is_last mid.token.kind ≡ true) × (q ≡ mid) × IsAt q) ⊎ ((is_last mid.token.kind ≡ false) × Passed mid q) → Moved text f p q
   by_moving a w (inr e) k = absurd (false≢true (sym w.0 ∙ e.0))
@@ -166,12 +187,18 @@ completes {text} {f} {p} {q} (inr e) b n a h = record {
     plain = plain;
     behind = let s = e.1.again.start in let g = a.behind in let l = e.1.place in omega arith;
     heads = heads_kept p q e.1.stays.text e.1.stays.source_type e.1.stays.options (ap (λ (n : Notes). n.failed) e.1.stays.state) a.heads;
+    kept_last = again_last p.lexer q.lexer p.token q.token e.1.again.same.keeps_tokens e.1.again.tokens counted.0 counted.1 a.kept_last;
   };
   same = same_of (read_again_follows e.1) e.1.stays.options e.1.stays.ctx e.1.stays.depth e.1.stays.visits;
   nodes = e.1.stays.nodes;
   kept = e.1.stays.errors;
   place = e.1.place;
-  spot_is = λ i. record { source = goal_of (e.1.stays.source_type i); place = e.1.place i; faults = e.3 i };
+  spot_is = λ i. record {
+    source = goal_of (e.1.stays.source_type i);
+    keeps_tokens = e.1.again.same.keeps_tokens i;
+    place = e.1.place i;
+    kept = record { comments = e.1.again.comments i; irregular_whitespaces = e.1.again.blanks i; tokens = again_before p.lexer q.lexer p.token q.token e.1.again.same.keeps_tokens e.1.again.tokens counted.0 counted.1 i; errors = e.3 i };
+  };
   start = e.1.again.start;
   uncut = e.2;
   is = h;
@@ -180,17 +207,24 @@ completes {text} {f} {p} {q} (inr e) b n a h = record {
     text_is : q.text ≡ text
     text_is = e.1.stays.text ∙ a.text_is
 
-    plain : IsPlain text q
-    plain = by a.plain
+    -- the old token is a sign that begins with `>`; the new one tells the whole lexeme
+    told : (p.token.kind ≡ RAngle) × GivesLexeme division cut text p.prev_token_end p.token × (q.token.kind ≡ Undetermined → ⊥) × GivesLexeme division (λ y. y) text p.prev_token_end q.token
+    told = by a.plain
       where
-        by : IsPlain text p → IsPlain text q
+        by : IsPlain text p → (p.token.kind ≡ RAngle) × GivesLexeme division cut text p.prev_token_end p.token × (q.token.kind ≡ Undetermined → ⊥) × GivesLexeme division (λ y. y) text p.prev_token_end q.token
         by (whole c n x) = absurd (false≢true (sym c ∙ e.0))
         by (nothing c k n) = absurd (false≢true (sym c ∙ e.0))
         by (sign c k x) =
             let reads : text ≡ p.lexer.text = sym a.text_is ∙ sym a.at.reads in
             let l : LexemeBehind division p.lexer.text p.prev_token_end x.lexeme = subst (λ (v : List ℕ). LexemeBehind division v p.prev_token_end x.lexeme) reads x.stands in
             let z = whole_outcome p.lexer.goal e.1.going_on e.1.faults (e.1.again.outcome p.prev_token_end x.lexeme (subst (λ (v : List ℕ). IsCharBoundary v p.prev_token_end) (sym a.at.reads) a.at.between) l x.tells) l in
-            whole e.2 z.0 (subst (λ (v : ℕ). GivesLexeme division (λ y. y) text v q.token) (sym e.1.place) (subst (λ (v : List ℕ). GivesLexeme division (λ y. y) v p.prev_token_end q.token) (sym reads) z.1))
+            (k, x, z.0, subst (λ (v : List ℕ). GivesLexeme division (λ y. y) v p.prev_token_end q.token) (sym reads) z.1)
+
+    counted : (is_kept p.token.kind ≡ true) × (is_kept q.token.kind ≡ true)
+    counted = (subst (λ (v : Kind). is_kept v ≡ true) (sym told.0) refl, completed_counts told.0 told.1 told.3)
+
+    plain : IsPlain text q
+    plain = whole e.2 told.2 (subst (λ (v : ℕ). GivesLexeme division (λ y. y) text v q.token) (sym e.1.place) told.3)
 
 pub tightness : {text : List ℕ} {f : Flags} {p q : Parser} (power : ℕ) → IsCompleted p q → At text f p → power ≡ cond q.token.escaped 0 (power_of (has_flag in_flag q.ctx) q.token.kind) → Tightness text f p q power
 tightness {text} {f} {p} {q} n (inl c) a h = subst (λ (r : Parser). Tightness text f p r n) (sym c.1) (record { at = a; same = same_itself; nodes = refl; kept = refl; place = refl; spot_is = refl; start = refl; uncut = uncut a c.0; is = subst (λ (b : Bool). n ≡ cond p.token.escaped 0 (power_of b p.token.kind)) (ap (λ (g : Flags). g.in_) a.flags_are) (subst (λ (r : Parser). n ≡ cond r.token.escaped 0 (power_of (has_flag in_flag r.ctx) r.token.kind)) c.1 h) })
@@ -212,7 +246,7 @@ advances p q (Err e) w m = m
 
 -- other nodes, and another depth
 pub elsewhere : {text : List ℕ} {f : Flags} {p : Parser} (ns : List Node) (k : ℕ) → At text f p → At text f (record p { nodes = ns; depth = k })
-elsewhere {text} {f} {p} ns k a = record { text_is = a.text_is; flags_are = a.flags_are; at = fields_at ns p.visits p.ctx k a.at; plain = plain_of a.plain; behind = a.behind; heads = a.heads }
+elsewhere {text} {f} {p} ns k a = record { text_is = a.text_is; flags_are = a.flags_are; at = fields_at ns p.visits p.ctx k a.at; plain = plain_of a.plain; behind = a.behind; heads = a.heads; kept_last = a.kept_last }
   where
     plain_of : IsPlain text p → IsPlain text (record p { nodes = ns; depth = k })
     plain_of (whole c n x) = whole c n x
@@ -227,7 +261,7 @@ pub same_with : {p q : Parser} (ns : List Node) → Same p q → Keeps p.nodes n
 same_with ns s k =
     let f = s.follows in
     record {
-      follows = record { text = f.text; source_type = f.source_type; options = f.options; nodes = k; later_errors = f.later_errors; errors = f.errors; later_visits = f.later_visits; visits = f.visits; later_covers = f.later_covers; covers = f.covers; later_commas = f.later_commas; commas = f.commas; later_faults = f.later_faults; faults = f.faults; longer = f.longer };
+      follows = record { text = f.text; source_type = f.source_type; options = f.options; nodes = k; later_errors = f.later_errors; errors = f.errors; later_visits = f.later_visits; visits = f.visits; later_covers = f.later_covers; covers = f.covers; later_commas = f.later_commas; commas = f.commas; later_faults = f.later_faults; faults = f.faults; longer = f.longer; still = f.still };
       options = s.options;
       ctx = s.ctx;
       depth = s.depth;

@@ -98,4 +98,4 @@ noted_here {p} {r} {q} {place} a u n k i h = (
     there = λ text f b. subst (λ (s : ℕ). NoHead text f s) (sym u.place) (subst (λ (t : List ℕ). NoHead t f p.prev_token_end) (sym u.same.follows.text ∙ b.text_is) (subst (λ (g : Flags). NoHead p.text g p.prev_token_end) (sym (flags_same p r u.same.ctx u.same.follows.source_type u.same.options) ∙ b.flags_are) (n _ _ a)))
 
     at_noted : (text : List ℕ) (f : Flags) → At text f r → At text f q
-    at_noted text f b = subst (At text f) (sym h.is) (record { text_is = b.text_is; flags_are = b.flags_are; at = subst IsAt h.is h.at; plain = plain_of q.state b.plain; behind = b.behind; heads = subst NotedHeads h.is (noted_so (standing b) (i ∙ sym u.place) there h) })
+    at_noted text f b = subst (At text f) (sym h.is) (record { text_is = b.text_is; flags_are = b.flags_are; at = subst IsAt h.is h.at; plain = plain_of q.state b.plain; behind = b.behind; kept_last = b.kept_last; heads = subst NotedHeads h.is (noted_so (standing b) (i ∙ sym u.place) there h) })

@@ -30,7 +30,7 @@ use Rattle.js_core.proofs.Verdicts.{verdict_of, either_way, and_then}
 -- a walk, and another behind it
 pub walked_both : {text : List ℕ} {s s' s'' : Spot} {f h : Lexemes → Lexemes} → Walked text s s' f → Walked text s' s'' h → Walked text s s'' (λ ls. f (h ls))
 walked_both a nowhere = a
-walked_both a (one_more b l k) = one_more (walked_both a b) l k
+walked_both a (one_more b i) = one_more (walked_both a b) i
 
 pub walked_to : {text : List ℕ} {s e e' : Spot} {f : Lexemes → Lexemes} → e ≡ e' → Walked text s e f → Walked text s e' f
 walked_to {text} {s} {f = f} q w = subst (λ v. Walked text s v f) q w
@@ -39,7 +39,7 @@ pub walked_from : {text : List ℕ} {s s' e : Spot} {f : Lexemes → Lexemes} �
 walked_from {text} {e = e} {f = f} q w = subst (λ v. Walked text v e f) q w
 
 pub walked_one : {text : List ℕ} {f : Flags} {p q : Parser} → (s : Moved text f p q) → Walked text (spot p) (spot q) (λ ls. next s.lexeme ls)
-walked_one s = walked_to (sym s.spot_is) (one_more nowhere s.stood s.kept_for)
+walked_one s = walked_to (sym s.spot_is) (one_more nowhere s.is_new)
 
 -- the lexemes that are read
 abbrev pub reads : Look

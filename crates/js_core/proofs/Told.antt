@@ -18,7 +18,7 @@ use Rattle.js_core.specs.States.{At, Same, IsPlain, whole, sign, nothing as none
 use Rattle.js_core.proofs.Here.{found, uncut}
 
 pub beside_errors : {text : List ℕ} {f : Flags} {p : Parser} {ds : List Diagnostic} → At text f p → IsAt (record p { errors = ds }) → At text f (record p { errors = ds })
-beside_errors {text} {f} {p} {ds} a i = record { text_is = a.text_is; flags_are = a.flags_are; at = i; plain = plain_of a.plain; behind = a.behind; heads = a.heads }
+beside_errors {text} {f} {p} {ds} a i = record { text_is = a.text_is; flags_are = a.flags_are; at = i; plain = plain_of a.plain; behind = a.behind; heads = a.heads; kept_last = a.kept_last }
   where
     plain_of : IsPlain text p → IsPlain text (record p { errors = ds })
     plain_of (whole c n x) = whole c n x

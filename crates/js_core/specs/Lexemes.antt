@@ -1,5 +1,5 @@
 -- The lexemes that the parse functions read so far. Of a text with another one nothing is said: as soon as every kind is among them, this is the whole language.
-use Rattle.std.specs.Prelude.{ℕ, ◌≡◌, Bool, true, false, not, ◌&&◌, List, [], ◌∷◌, ◌++◌, IsTrue}
+use Rattle.std.specs.Prelude.{ℕ, ◌-◌, ◌≡◌, Bool, true, false, not, cond, ◌&&◌, List, [], ◌∷◌, ◌++◌, length, take, IsTrue}
 use Rattle.js_base.specs.declared.diagnostic.Diagnostic.{Diagnostic}
 use Rattle.js_base.specs.declared.kind.Kind.{Kind}
 use Rattle.js_base.specs.declared.kind.Kind.TheVariants.{Ident, This, Null, True, False, Typeof, Void, Delete, In, Instanceof, Decimal, Float, Binary, Octal, Hex, PositiveExponential, NegativeExponential, DecimalBigInt, BinaryBigInt, OctalBigInt, HexBigInt, Str, Tilde, Bang, Plus, Minus, Star, Star2, Percent, Eq2, Eq3, Neq, Neq2, LAngle, LtEq, RAngle, GtEq, ShiftLeft, ShiftRight, ShiftRight3, Amp, Amp2, Pipe, Pipe2, Caret, Question, Colon, Comma, Eof, Dot, QuestionDot, New, Plus2, Minus2, Eq, PlusEq, MinusEq, StarEq, SlashEq, PercentEq, ShiftLeftEq, ShiftRightEq, ShiftRight3Eq, PipeEq, CaretEq, AmpEq, Amp2Eq, Pipe2Eq, Question2Eq, Star2Eq, Semicolon, LParen, RParen, Question2, LBrack, RBrack, Dot3, Arrow}
@@ -7,6 +7,13 @@ use Rattle.js_base.specs.Kinds.{one_of_kinds}
 use Rattle.js_grammar.specs.Grammar.{Lexeme, Lexemes, next}
 use Rattle.js_grammar.specs.Lexed.{Lex as StandsBehind, all_faults, passing_of}
 use Rattle.js_grammar.specs.Settings.{Goal}
+use Rattle.js_base.specs.declared.span.Span.{Span}
+use Rattle.js_base.specs.declared.token.Token.{Token}
+use Rattle.js_lex.specs.declared.comment.Comment.{Comment}
+use Rattle.js_lex.specs.declared.output.LexerOutput.{LexerOutput}
+use Rattle.js_lex.specs.Comments.{each_at, comment_at, irregular_at}
+use Rattle.js_lex.specs.Reading.{Tells, is_kept, kept_token}
+use Rattle.js_lex.specs.States.{State}
 use Rattle.js_cursor.specs.Parsers.{Parser}
 use Rattle.js_cursor.specs.Places.{goal}
 
@@ -93,16 +100,57 @@ pub record KeptFor (source : Goal) (text : List ℕ) (place : ℕ) (faults : Lis
   pub none : faults ≡ [] → (y : Lexeme) → Lex text place y → Faultless source text place y
   pub some : (faults ≡ [] → ⊥) → (y : Lexeme) → Faultless source text place y → ⊥
 
--- A place in a text that is read for a goal, and the faults of lexemes that were kept on the way there, those of what stands behind it among them.
+-- These comments and this white space were kept for the place: those of the trivia before the lexeme that stands there.
+abbrev pub TriviaKept : List ℕ → ℕ → List Comment → List Span → Type 0
+TriviaKept text place comments blanks = (y : Lexeme) (l : StandsBehind all_faults text place y) → (comments ≡ each_at (comment_at y.from) place l.trivia) × (blanks ≡ each_at irregular_at place l.trivia)
+
+-- The tokens that a lexer kept before the current one.
+abbrev pub kept_before : State → Token → List Token
+kept_before l t = take (length l.kept.tokens - cond (l.keeps_tokens && is_kept t.kind) 1 0) l.kept.tokens
+
+-- the current token was kept last, where any are kept
+abbrev pub KeptLast : State → Token → Type 0
+KeptLast l t = l.kept.tokens ≡ kept_before l t ++ kept_token l.keeps_tokens t
+
+-- A place in a text that is read for a goal, whether tokens are kept, and what was kept on the way there: the tokens of the lexemes before it; comments, white space and faults of what stands behind it too.
 pub record Spot : Type 0 where
   pub source : Goal
+  pub keeps_tokens : Bool
   pub place : ℕ
-  pub faults : List Diagnostic
+  pub kept : LexerOutput
 
 abbrev pub spot : Parser → Spot
-spot p = record { source = goal p; place = p.prev_token_end; faults = p.lexer.kept.errors }
+spot p = record { source = goal p; keeps_tokens = p.lexer.keeps_tokens; place = p.prev_token_end; kept = record p.lexer.kept { tokens = kept_before p.lexer p.token } }
 
--- Lexemes, one behind the other, lead from one place to another, with the faults that were kept for what stands behind each: `pass` puts them before those from there on.
+-- What is kept as one lexeme is passed: its token; and of what stands behind it comments, white space and faults.
+pub record News : Type 0 where
+  pub token : Token
+  pub comments : List Comment
+  pub blanks : List Span
+  pub faults : List Diagnostic
+
+abbrev pub onward : Spot → Lexeme → News → Spot
+onward s x n = record {
+  source = s.source;
+  keeps_tokens = s.keeps_tokens;
+  place = x.to;
+  kept = record {
+    comments = s.kept.comments ++ n.comments;
+    irregular_whitespaces = s.kept.irregular_whitespaces ++ n.blanks;
+    tokens = s.kept.tokens ++ kept_token s.keeps_tokens n.token;
+    errors = s.kept.errors ++ n.faults;
+  };
+}
+
+-- The lexeme stands there, the token tells it, and the rest is what is kept for what stands behind it.
+pub record IsNew (text : List ℕ) (s : Spot) (x : Lexeme) (n : News) : Type 0 where
+  pub stood : StandsBehind all_faults text s.place x
+  pub tells : Tells x n.token
+  pub counts : is_kept n.token.kind ≡ true
+  pub faults : KeptFor s.source text x.to n.faults
+  pub trivia : TriviaKept text x.to n.comments n.blanks
+
+-- Lexemes, one behind the other, lead from one place to another, with what was kept for each: `pass` puts them before those from there on.
 pub data Walked (text : List ℕ) (s : Spot) : Spot → (Lexemes → Lexemes) → Type 0 where
   nowhere : Walked text s s (λ ls. ls)
-  one_more : {s' : Spot} {pass : Lexemes → Lexemes} {x : Lexeme} {kept : List Diagnostic} → Walked text s s' pass → StandsBehind all_faults text s'.place x → KeptFor s'.source text x.to kept → Walked text s (record { source = s'.source; place = x.to; faults = s'.faults ++ kept }) (λ ls. pass (next x ls))
+  one_more : {s' : Spot} {pass : Lexemes → Lexemes} {x : Lexeme} {n : News} → Walked text s s' pass → IsNew text s' x n → Walked text s (onward s' x n) (λ ls. pass (next x ls))

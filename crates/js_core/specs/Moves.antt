@@ -9,7 +9,6 @@ use Rattle.js_base.specs.Kinds.{same_kind, one_of_kinds}
 use Rattle.js_grammar.specs.Trees.{Label, of, binary_expression, logical_expression}
 use Rattle.js_lex.specs.Reading.{Tells}
 use Rattle.js_base.specs.declared.span.Span.{Span}
-use Rattle.js_base.specs.declared.diagnostic.Diagnostic.{Diagnostic}
 use Rattle.js_tree.specs.declared.id.NodeId.{NodeId}
 use Rattle.js_tree.specs.declared.kind.NodeKind.{NodeKind}
 use Rattle.js_tree.specs.declared.op.Op.{Op}
@@ -18,8 +17,8 @@ use Rattle.js_tree.specs.Nodes.{Node, label}
 use Rattle.js_tree.specs.Holding.{Made}
 use Rattle.js_cursor.specs.Parsers.{Parser}
 use Rattle.js_cursor.specs.Moves.{Completed, is_last}
-use Rattle.js_cursor.specs.Places.{IsAt, goal}
-use Rattle.js_core.specs.Lexemes.{KeptFor, spot}
+use Rattle.js_cursor.specs.Places.{IsAt}
+use Rattle.js_core.specs.Lexemes.{News, IsNew, onward, spot}
 use Rattle.js_core.specs.Operators.{power_of}
 use Rattle.js_core.specs.States.{At, Same}
 
@@ -38,10 +37,10 @@ pub record Moved (text : List ℕ) (f : Flags) (old new : Parser) : Type 0 where
   pub tells : Tells lexeme old.token
   pub ends : lexeme.to ≡ new.prev_token_end
   pub further : old.token.span.start < new.prev_token_end
-  -- the faults that were kept for what stands behind it
-  pub faults : List Diagnostic
-  pub kept_for : KeptFor (goal old) text lexeme.to faults
-  pub spot_is : spot new ≡ record { source = goal old; place = lexeme.to; faults = old.lexer.kept.errors ++ faults }
+  -- what was kept with it, and for what stands behind it
+  pub news : News
+  pub is_new : IsNew text (spot old) lexeme news
+  pub spot_is : spot new ≡ onward (spot old) lexeme news
 
 abbrev pub Moves : Parser → Parser → Type 0
 Moves old new = (text : List ℕ) (f : Flags) → At text f old → Moved text f old new

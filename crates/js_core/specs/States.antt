@@ -11,6 +11,7 @@ use Rattle.js_cursor.specs.Parsers.{Parser}
 use Rattle.js_cursor.specs.Places.{IsAt}
 use Rattle.js_cursor.specs.Starts.{is_module}
 use Rattle.js_core.specs.Heads.{NotedHeads}
+use Rattle.js_core.specs.Lexemes.{KeptLast}
 
 -- The parameters of productions (ECMA-262, 5.1.5). Expressions are read as a cover grammar: an object literal may have a shorthand with an initialiser (13.2.5).
 abbrev pub flags_of : Parser → Flags
@@ -40,6 +41,7 @@ pub record At (text : List ℕ) (f : Flags) (p : Parser) : Type 0 where
   pub plain : IsPlain text p
   pub behind : p.prev_token_end ≤ p.token.span.start
   pub heads : NotedHeads p
+  pub kept_last : KeptLast p.lexer p.token
 
 -- it may, whatever the text and the parameters are
 abbrev pub Standing : Parser → Type 0

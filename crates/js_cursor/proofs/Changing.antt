@@ -1,5 +1,5 @@
 -- What holds after a parse function has set the fields that are its own: nodes, visits, notes, parameters and depth.
-use Rattle.std.proofs.Common.{ℕ, ◌+◌, ◌≡◌, ◌≤◌, ◌<◌, ◌==◌, Bool, true, false, cond, List, [], ◌∷◌, ◌++◌, length, take, refl, sym, ap, subst, arith, ◌∙◌, append-nil, Option, Some, None, inl, inr, ◌⊎◌}
+use Rattle.std.proofs.Common.{ℕ, ◌+◌, ◌≡◌, ◌≤◌, ◌<◌, ◌==◌, Bool, true, false, cond, List, [], ◌∷◌, ◌++◌, length, take, refl, sym, ap, subst, arith, ◌∙◌, append-nil, Option, Some, None}
 use Rattle.std.specs.Prelude.{IsSome, is_some}
 use Rattle.std.proofs.lemmas.Bool.{false≢true, eqb-true}
 use Rattle.std.proofs.lemmas.List.{length-take-le}
@@ -12,12 +12,15 @@ use Rattle.js_tree.specs.Holding.{Keeps as KeepsNodes}
 use Rattle.js_tree.proofs.HoldingLemmas.{Keeps-refl}
 use Rattle.js_cursor.specs.declared.checkpoint.ParserCheckpoint.{ParserCheckpoint}
 use Rattle.js_cursor.specs.declared.state.CoverInitializer.{CoverInitializer}
-use Rattle.js_cursor.specs.declared.stop.Stop.{Stop}
-use Rattle.js_cursor.specs.declared.stop.Stop.TheVariants.{Fatal, NoMemory}
-use Rattle.js_cursor.specs.Checkpoints.{Remembers, MayGoBack, GoesBack, Follows, GoesOn, notes_at}
-use Rattle.js_cursor.specs.Histories.{put, nowhere, after, standing, without, StandBefore, IsLeast, Pops}
-use Rattle.js_cursor.specs.Notes.{Notes, NotesFailed}
+use Rattle.js_cursor.specs.declared.stop.Stop.TheVariants.{Fatal}
+use Rattle.js_cursor.specs.Checkpoints.{Remembers, MayGoBack, GoesBack, Follows, GoesOn}
+use Rattle.js_cursor.specs.Histories.{put, nowhere, after, standing, without, StandBefore, Pops}
+use Rattle.js_cursor.specs.Notes.{Notes}
 use Rattle.js_cursor.specs.Parsers.{Parser}
+use Rattle.js_cursor.specs.Tokens.{may_be_read_again, StillKept}
+use Rattle.js_cursor.proofs.StillKept.{still_itself, still_back, comments_back, blanks_back, keeps_back, tokens_back}
+use Rattle.js_lex.specs.Kept.{lengths_of, first_kept}
+use Rattle.js_base.specs.declared.token.Token.{Token}
 use Rattle.js_cursor.specs.Places.{IsAt, KeptBefore}
 use Rattle.js_cursor.specs.Moves.{MovesOn, Enters, Leaves, NotesArrow, GivesUp}
 use Rattle.js_cursor.proofs.Later.{keeps_follows, first_part, moves_on_follow, moved_at, may_go_back}
@@ -87,6 +90,7 @@ module _ {p : Parser} where
     later_faults = [];
     faults = sym (append-nil p.lexer.kept.errors);
     longer = record { comments = omega arith; irregular_whitespaces = omega arith; tokens = omega arith; errors = omega arith };
+    still = still_itself p.lexer p.token;
   }
 
   -- the notes stay
@@ -157,6 +161,15 @@ pub record IsBack (p r : Parser) : Type 0 where
   pub commas : r.state.commas ≡ p.state.commas
   pub faults : r.lexer.kept.errors ≡ p.lexer.kept.errors
   pub place : r.lexer.place ≡ p.lexer.place
+  pub comments : r.lexer.kept.comments ≡ p.lexer.kept.comments
+  pub blanks : r.lexer.kept.irregular_whitespaces ≡ p.lexer.kept.irregular_whitespaces
+  pub keeps_tokens : r.lexer.keeps_tokens ≡ p.lexer.keeps_tokens
+  -- the current token may have been read again
+  pub tokens : may_be_read_again p.token.kind ≡ false → r.lexer.kept.tokens ≡ p.lexer.kept.tokens
+
+-- what the lexer kept at the checkpoint
+kept_then : {p q r : Parser} {c : ParserCheckpoint} → Remembers p c → GoesBack c q r → r.lexer.kept ≡ first_kept (lengths_of p.lexer.kept) q.lexer.kept
+kept_then {q = q} m g = g.kept ∙ ap (λ n. first_kept n q.lexer.kept) m.lengths
 
 pub came_back : {p q r : Parser} {c : ParserCheckpoint} → Remembers p c → Follows p q → GoesBack c q r → IsBack p r
 came_back {p} {q} {r} {c} m f g = record {
@@ -173,6 +186,10 @@ came_back {p} {q} {r} {c} m f g = record {
   commas = ap (λ (n : Notes). n.commas) g.state ∙ first_part p.state.commas q.state.commas f.later_commas c.commas f.commas m.commas;
   faults = ap (λ o. o.errors) g.kept ∙ first_part p.lexer.kept.errors q.lexer.kept.errors f.later_faults c.lexer.lengths.errors f.faults (ap (λ l. l.errors) m.lengths);
   place = g.place ∙ m.place;
+  comments = comments_back f.still f.longer g.same (kept_then m g);
+  blanks = blanks_back f.still f.longer g.same (kept_then m g);
+  keeps_tokens = keeps_back f.still f.longer g.same (kept_then m g);
+  tokens = tokens_back f.still f.longer g.same (kept_then m g);
 }
 
 as_long : {X : Type 0} (m n : ℕ) (xs ys : List X) → m ≡ n → m ≤ length xs → ys ≡ take n xs → m ≤ length ys
@@ -203,6 +220,7 @@ back_follows {p} {q} {r} {c} m f g =
         tokens = as_long _ c.lexer.lengths.tokens q.lexer.kept.tokens _ (sym (ap (λ l. l.tokens) m.lengths)) f.longer.tokens (ap (λ o. o.tokens) g.kept);
         errors = as_long _ c.lexer.lengths.errors q.lexer.kept.errors _ (sym (ap (λ l. l.errors) m.lengths)) f.longer.errors (ap (λ o. o.errors) g.kept);
       };
+      still = subst (λ (v : Token). StillKept p.lexer p.token r.lexer v) (sym b.token) (still_back f.still f.longer g.same (kept_then m g));
     }
 
 -- ---- the same, of a parser seen as p

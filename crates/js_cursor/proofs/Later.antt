@@ -26,6 +26,7 @@ use Rattle.js_cursor.specs.Histories.{StandBefore}
 use Rattle.js_cursor.specs.Parsers.{Parser}
 use Rattle.js_cursor.specs.Tokens.{IsToken, sign}
 use Rattle.js_cursor.specs.Places.{IsAt, goal}
+use Rattle.js_cursor.proofs.StillKept.{still_itself, still_on, still_next, still_again}
 use Rattle.js_cursor.specs.Moves.{Passed, ReadAgain, Completed, MovesOn, Keeps, Opened, is_last}
 
 -- the same nodes
@@ -49,6 +50,7 @@ follows_itself p = record {
   later_faults = [];
   faults = sym (append-nil p.lexer.kept.errors);
   longer = record { comments = omega arith; irregular_whitespaces = omega arith; tokens = omega arith; errors = omega arith };
+  still = still_itself p.lexer p.token;
 }
 
 then : {X : Type 0} (a b c x y : List X) → b ≡ a ++ x → c ≡ b ++ y → c ≡ a ++ (x ++ y)
@@ -76,6 +78,7 @@ follows_on {p} {q} {r} f g = record {
     tokens = let a = f.longer.tokens in let b = g.longer.tokens in omega arith;
     errors = let a = f.longer.errors in let b = g.longer.errors in omega arith;
   };
+  still = still_on f.still g.still;
 }
 
 grown : {X : Type 0} (a b x : List X) → b ≡ a ++ x → length a ≤ length b
@@ -103,6 +106,7 @@ passed_follows {p} {q} h = record {
     tokens = grown _ _ _ h.next.grows.tokens_grow;
     errors = grown _ _ _ h.next.grows.faults_grow;
   };
+  still = still_next p.token h.next;
 }
 
 as_long : (ts : List Token) (t : Token) → length ts ≤ length (replaced ts t)
@@ -139,6 +143,7 @@ read_again_follows {g} {p} {q} h = record {
     tokens = let l = relexed_long (p.lexer.keeps_tokens && is_kept q.token.kind) p.lexer.kept.tokens q.token in omega (arith, l, ap length h.again.tokens);
     errors = grown _ _ _ h.again.errors;
   };
+  still = still_again h.may_be h.again;
 }
 
 pub completed_follows : {p q : Parser} → Completed p q → Follows p q
@@ -170,6 +175,7 @@ keeps_follows {d} {p} {q} h = subst (Follows p) (sym h.is) (record {
   later_faults = [];
   faults = sym (append-nil p.lexer.kept.errors);
   longer = record { comments = omega arith; irregular_whitespaces = omega arith; tokens = omega arith; errors = omega arith };
+  still = still_itself p.lexer p.token;
 })
 
 pub first_part : {X : Type 0} (a b x : List X) (n : ℕ) → b ≡ a ++ x → n ≡ length a → take n b ≡ a

@@ -7,6 +7,7 @@ pub mod Rereading
 pub mod Starting
 pub mod Firsts
 pub mod Returning
+pub mod StillKept
 pub mod Later
 pub mod Changing
 pub mod Plains

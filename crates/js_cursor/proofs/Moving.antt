@@ -29,7 +29,7 @@ use Rattle.js_grammar.proofs.Parts.{joins}
 use Rattle.js_lex.specs.Reading.{cut, is_right_angle, Tells, LexemeBehind, GivesLexeme, GivesNone, Outcome, GivesNext, GivesAgain, WasGiven, in_a_module}
 use Rattle.js_lex.specs.States.{State, SameText}
 use Rattle.js_cursor.specs.Parsers.{Parser}
-use Rattle.js_cursor.specs.Tokens.{IsToken, whole, sign, nothing}
+use Rattle.js_cursor.specs.Tokens.{may_be_read_again, IsToken, whole, sign, nothing}
 use Rattle.js_cursor.specs.Notes.{Notes}
 use Rattle.js_cursor.specs.Places.{IsAt, IsFault, KeptBefore, goal}
 use Rattle.js_cursor.specs.Moves.{Stays, Passed, IsWhole, Told, is_last}
@@ -199,7 +199,7 @@ is_whole_of : {p : Parser} {g : LexicalGoal} → GivesLexeme g (λ z. z) p.text 
 is_whole_of x = record { lexeme = x.lexeme; stood = x.stands.lex; tells = x.tells }
 
 completed : {p : Parser} {l : State} {t : Token} → IsAt p → p.cut ≡ true → GivesAgain division p.lexer l p.token t [] [] → Told p (record p { lexer = l; token = t; cut = false })
-completed {p} {l} {t} a e g = record { completed = inr (e, record { going_on = []; faults = []; again = g; place = refl; stays = stays g.same; at = at }, refl, g.errors ∙ append-nil p.lexer.kept.errors); at = at; whole = λ n. is_whole_of given.1 }
+completed {p} {l} {t} a e g = record { completed = inr (e, record { going_on = []; faults = []; again = g; may_be = angle p.cut a.token e; place = refl; stays = stays g.same; at = at }, refl, g.errors ∙ append-nil p.lexer.kept.errors); at = at; whole = λ n. is_whole_of given.1 }
   where
     w : WasGiven p.lexer p.token
     w = sign_given a e
@@ -212,6 +212,10 @@ completed {p} {l} {t} a e g = record { completed = inr (e, record { going_on = [
 
     given : (t.kind ≡ Undetermined → ⊥) × GivesLexeme division (λ z. z) p.text p.prev_token_end t
     given = by p.cut a.token e
+
+    angle : (b : Bool) → IsToken (goal p) p.text p.prev_token_end p.lexer.kept.errors p.token b → b ≡ true → may_be_read_again p.token.kind ≡ true
+    angle false x q = absurd (false≢true q)
+    angle true (sign k x) q = ap may_be_read_again k
 
     at : IsAt (record p { lexer = l; token = t; cut = false })
     at = record {

@@ -23,6 +23,7 @@ use Rattle.js_cursor.specs.Parsers.{Parser}
 use Rattle.js_grammar.specs.Marks.{LexemeAt, any_lexeme, opens, StandsAt, begins_some_marker, seven_from}
 use Rattle.js_cursor.specs.Markers.{lexeme_of, Related}
 use Rattle.js_cursor.specs.Places.{IsAt, goal}
+use Rattle.js_cursor.specs.Tokens.{may_be_read_again}
 
 -- All but the place and the lexer stays.
 pub record Stays (old new : Parser) : Type 0 where
@@ -58,6 +59,7 @@ pub record ReadAgain (goal : LexicalGoal) (old new : Parser) : Type 0 where
   pub going_on : List Diagnostic
   pub faults : List Diagnostic
   pub again : GivesAgain goal old.lexer new.lexer old.token new.token going_on faults
+  pub may_be : may_be_read_again old.token.kind ≡ true
   pub place : new.prev_token_end ≡ old.prev_token_end
   pub stays : Stays old new
   pub at : IsAt new

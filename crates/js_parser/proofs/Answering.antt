@@ -1,5 +1,5 @@
 -- What a parse answers, from what holds of the parser at its end.
-use Rattle.std.proofs.Common.{ℕ, ◌≡◌, inl, inr, List, [], ◌∷◌, ◌++◌, length, take, true, false, Option, None, refl, sym, ap, subst, arith, ◌∙◌}
+use Rattle.std.proofs.Common.{Bool, ℕ, ◌≡◌, inl, inr, List, [], ◌∷◌, ◌++◌, length, take, true, false, Option, None, refl, sym, ap, subst, arith, ◌∙◌}
 use Rattle.std.specs.List.{All}
 use Rattle.std.specs.Prelude.{Result, Ok, Err, IfOk}
 use Rattle.std.proofs.lemmas.List.Elements.{All-append, All-take, All-weaker, All-nil}
@@ -24,6 +24,9 @@ use Rattle.js_lex.specs.Kept.{LieIn}
 use Rattle.js_lex.specs.declared.comment.Comment.{Comment}
 use Rattle.js_lex.specs.declared.output.LexerOutput.{LexerOutput}
 use Rattle.js_parser.specs.Readings.{HasNoReading, IsOnlyReading, IsMarked, AreOf}
+use Rattle.js_grammar.specs.Options.{Options}
+use Rattle.js_grammar.specs.Settings.{Goal}
+use Rattle.js_parser.specs.Kept.{TellsEach, KeepsRight}
 use Rattle.js_parser.specs.Parsed.{options_of, IsAnswer, IsOverlong}
 use Rattle.js_parser.specs.Taken.{IsOf, ReadOrNot, ProgramTaken, ProgramRefused, ProgramStops}
 use Rattle.js_cursor.specs.declared.stop.Stop.{Stop}
@@ -83,8 +86,8 @@ by_found : (text : List ℕ) (s : SourceType) (o : ParseOptions) (p : Parser) (c
 by_found text s o p cs found e (inl (z, r)) = (λ x. r, λ n. absurd (n (e ∙ none_of_two p.lexer.kept.errors p.errors z.faults z.errors)))
 by_found text s o p cs found e (inr (z, r)) = (λ x. absurd (z (let k = sym e ∙ x in record { faults = first_empty p.lexer.kept.errors p.errors k; errors = second_empty p.lexer.kept.errors p.errors k })), λ n. r)
 
-pub taken_answer : {text : List ℕ} {s : SourceType} {o : ParseOptions} {p : Parser} {ids : List (Option NodeId)} (span : Span) (nodes : List Node) (out kept : LexerOutput) → span.start ≡ 0 → span.end ≡ p.token.span.end → ((cs : Slots) → HoldsAll p.nodes 1 (length p.nodes) ids cs → IsTree nodes (program_tree span cs)) → out ≡ record kept { errors = p.lexer.kept.errors ++ p.errors } → LieIn p.lexer.text kept → ProgramTaken text s o p ids → IsAnswer text (goal_of s) (options_of o) nodes out false
-taken_answer {text} {s} {o} {p} {ids} span nodes out kept a b t e l h = record {
+pub taken_answer : {text : List ℕ} {s : SourceType} {o : ParseOptions} {asks : Bool} {p : Parser} {ids : List (Option NodeId)} (span : Span) (nodes : List Node) (out kept : LexerOutput) → span.start ≡ 0 → span.end ≡ p.token.span.end → ((cs : Slots) → HoldsAll p.nodes 1 (length p.nodes) ids cs → IsTree nodes (program_tree span cs)) → out ≡ record kept { errors = p.lexer.kept.errors ++ p.errors } → LieIn p.lexer.text kept → ProgramTaken text s o asks p ids → IsAnswer text (goal_of s) (options_of o) nodes out false
+taken_answer {text} {s} {o} {asks} {p} {ids} span nodes out kept a b t e l h = record {
   told = told_all h.is_of p.lexer.kept.errors out.errors (ap (λ (x : LexerOutput). x.errors) e) (faults h.is_of);
   lie = lies h.is_of kept out p.lexer.kept.errors e l (faults h.is_of);
   tree = program_tree (record { start = 0; end = p.token.span.end }) h.slots;
@@ -95,6 +98,28 @@ taken_answer {text} {s} {o} {p} {ids} span nodes out kept a b t e l h = record {
   childless = λ q. absurd (false≢true q);
   no_tokens = λ q. absurd (false≢true q);
 }
+
+-- and what was kept
+pub taken_kept : {text : List ℕ} {s : SourceType} {o : ParseOptions} {asks : Bool} {p : Parser} {ids : List (Option NodeId)} (out kept : LexerOutput) → out ≡ record kept { errors = p.lexer.kept.errors ++ p.errors } → kept ≡ p.lexer.kept → ProgramTaken text s o asks p ids → KeepsRight text (goal_of s) (options_of o) asks out
+taken_kept {text} {s} {o} {asks} {p} out kept e same h = record {
+  unasked = λ a. ap (λ (x : LexerOutput). x.tokens) e ∙ (ap (λ (x : LexerOutput). x.tokens) same ∙ h.unasked a);
+  kept = λ z n t r.
+      let none = sym (ap (λ (x : LexerOutput). x.errors) e) ∙ z in
+      let k = h.kept n (record { faults = first_empty p.lexer.kept.errors p.errors none; errors = second_empty p.lexer.kept.errors p.errors none }) t r in
+      record {
+        comments = ap (λ (x : LexerOutput). x.comments) e ∙ (ap (λ (x : LexerOutput). x.comments) same ∙ k.comments);
+        blanks = ap (λ (x : LexerOutput). x.irregular_whitespaces) e ∙ (ap (λ (x : LexerOutput). x.irregular_whitespaces) same ∙ k.blanks);
+        tokens = λ a. subst (λ (ts : List Token). TellsEach r.lexemes ts) (sym (ap (λ (x : LexerOutput). x.tokens) e ∙ ap (λ (x : LexerOutput). x.tokens) same)) (k.tokens a);
+      };
+}
+
+-- where something was found, only that no tokens are kept has to be shown
+pub found_kept : {text : List ℕ} {goal : Goal} {o : Options} {asks : Bool} {out : LexerOutput} → out.tokens ≡ [] → (out.errors ≡ [] → ⊥) → KeepsRight text goal o asks out
+found_kept n f = record { unasked = λ a. n; kept = λ z. absurd (f z) }
+
+-- of the goal and the config that were asked for
+pub kept_for : {text : List ℕ} {goal goal' : Goal} {o : Options} {asks asks' : Bool} {out : LexerOutput} → goal ≡ goal' → asks ≡ asks' → KeepsRight text goal o asks out → KeepsRight text goal' o asks' out
+kept_for {text} {goal} {goal'} {o} {asks} {asks'} {out} g a h = subst (λ (v : Goal). KeepsRight text v o asks' out) g (subst (λ (b : Bool). KeepsRight text goal o b out) a h)
 
 -- a program without children
 childless : {nodes : List Node} {ids : List (Option NodeId)} (ns : List Node) (span : Span) → ids ≡ [] → nodes ≡ with_program (program_node span ids) ns → IsTree nodes (program_tree span end)

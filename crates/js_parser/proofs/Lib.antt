@@ -1,3 +1,4 @@
+pub mod Walks
 pub mod Readings
 pub mod Answering
 pub mod CoreTexts

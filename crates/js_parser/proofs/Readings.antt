@@ -1,5 +1,5 @@
 -- From the statements that were taken to the readings of the whole text.
-use Rattle.std.proofs.Common.{ℕ, ◌≡◌, max, ◌⊎◌, inl, inr, List, [], ◌∷◌, ◌++◌, length, Bool, true, false, not, ◌||◌, IsTrue, Option, refl, sym, ap, subst, arith, ◌∙◌}
+use Rattle.std.proofs.Common.{ℕ, zero, suc, ◌-◌, ◌&&◌, cond, take, ◌≡◌, max, ◌⊎◌, inl, inr, List, [], ◌∷◌, ◌++◌, length, Bool, true, false, not, ◌||◌, IsTrue, Option, refl, sym, ap, subst, arith, ◌∙◌}
 use Rattle.std.proofs.lemmas.Bool.{and_parts, and_from}
 use Rattle.js_base.specs.declared.diagnostic.Diagnostic.{Diagnostic}
 use Rattle.js_base.specs.declared.kind.Kind.{Kind}
@@ -53,16 +53,20 @@ use Rattle.js_core.proofs.MadeNodes.{leaf_held}
 use Rattle.js_core.proofs.Moving.{standing, beside_nodes}
 use Rattle.js_parser.specs.Parsed.{options_of, IsAnswer}
 use Rattle.js_parser.specs.Readings.{parameters, Reading, IsOnlyReading, HasNoReading, HasHashbang}
-use Rattle.js_parser.specs.Taken.{ReadOrNot, ProgramTaken, ProgramStops}
+use Rattle.js_parser.specs.Taken.{FoundNothing, ReadOrNot, ProgramTaken, ProgramStops}
 use Rattle.js_parser.proofs.Answering.{first_empty, second_empty}
 use Rattle.js_base.specs.declared.source_type.Goal.TheVariants as source
 use Rattle.js_grammar.specs.Grammar.{Derives}
 use Rattle.js_grammar.specs.Lexemes.{hashbang as hashbang_goal}
 use Rattle.js_grammar.specs.Options.{Options, is_module as in_module, is_commonjs as in_commonjs}
 use Rattle.js_grammar.specs.Settings.{Goal, script, module_goal, commonjs, unambiguous}
-use Rattle.js_lex.specs.Comments.{each_at, html_fault_at}
-use Rattle.js_lex.specs.Reading.{in_a_module, LexemeBehind, GivesFirst}
-use Rattle.js_core.specs.Lexemes.{Faultless, KeptFor, Spot, spot, Walked, nowhere, one_more}
+use Rattle.js_lex.specs.Comments.{each_at, comment_at, irregular_at, html_fault_at}
+use Rattle.js_lex.specs.Reading.{in_a_module, is_kept, kept_token, LexemeBehind, GivesFirst}
+use Rattle.js_core.specs.Lexemes.{Faultless, KeptFor, TriviaKept, kept_before, Spot, spot, Walked, nowhere, one_more}
+use Rattle.js_core.proofs.KeptTokens.{before_next, trivia_kept}
+use Rattle.js_parser.specs.Kept.{KeepsRight, each_of, comments_before, blanks_before, TellsEach, IsKeptOf}
+use Rattle.js_parser.proofs.Walks.{behind_walk, first_comments, first_blanks, all_kept, walk_tells, walk_unasked, keeps_still, kept_none}
+use Rattle.js_base.specs.declared.token.Token.{Token}
 use Rattle.js_core.proofs.Kept.{kept_for, faults_aside}
 use Rattle.js_core.proofs.Paths.{walked_from}
 
@@ -163,13 +167,8 @@ any_reading {text} {goal} r = record { lexed = all_aside 0 r.lexemes r.lexed; pl
 none_at_all : {text : List ℕ} {f : Flags} {source : Goal} {o : Options} → f ≡ parameters source o → NoList text (with_directives f) 0 → HasNoReading text source o
 none_at_all {text} k n t r = no_reading n t r.lexemes (subst (λ (g : Flags). AnyReading text g t r.lexemes) (sym k) (any_reading r))
 
-cons_some : {K : Type 0} (x : K) (xs : List K) → x ∷ xs ≡ [] → ⊥
+pub cons_some : {K : Type 0} (x : K) (xs : List K) → x ∷ xs ≡ [] → ⊥
 cons_some x xs e = cc
-
--- lexemes behind those that were passed
-behind_walk : (L : ℕ → Lexeme → Type 0) {text : List ℕ} {s s' : Spot} {pass : Lexemes → Lexemes} → Walked text s s' pass → (ms : Lexemes) → Lexes L s.place (pass ms) → Lexes L s'.place ms
-behind_walk L nowhere ms l = l
-behind_walk L (one_more {x = x} w h k) ms l = (behind_walk L w (next x ms) l).1
 
 -- the lexeme that stands there has no fault
 abbrev Right : List ℕ → Spot → Type 0
@@ -177,32 +176,32 @@ Right text s = (y : Lexeme) → Lex text s.place y → Faultless s.source text s
 
 module _ {text : List ℕ} where
   -- where no fault was kept, none stands anywhere on the way
-  right_there : {s s' : Spot} {pass : Lexemes → Lexemes} → Walked text s s' pass → s'.faults ≡ [] → ((s.faults ≡ []) → Right text s) → Right text s'
+  right_there : {s s' : Spot} {pass : Lexemes → Lexemes} → Walked text s s' pass → s'.kept.errors ≡ [] → ((s.kept.errors ≡ []) → Right text s) → Right text s'
   right_there nowhere e h = h e
-  right_there (one_more {s' = m} {kept = kept} w l k) e h = k.none (second_empty m.faults kept e)
+  right_there (one_more {s' = m} {n = n} w i) e h = i.faults.none (second_empty m.kept.errors n.faults e)
 
   source_kept : {s s' : Spot} {pass : Lexemes → Lexemes} → Walked text s s' pass → s'.source ≡ s.source
   source_kept nowhere = refl
-  source_kept (one_more w l k) = source_kept w
+  source_kept (one_more w i) = source_kept w
 
-  all_right : {s s' : Spot} {pass : Lexemes → Lexemes} (w : Walked text s s' pass) → s'.faults ≡ [] → ((s.faults ≡ []) → Right text s) → (ms : Lexemes) → Lexes (Lex text) s.place (pass ms) → Lexes (Faultless s'.source text) s'.place ms → Lexes (Faultless s.source text) s.place (pass ms)
+  all_right : {s s' : Spot} {pass : Lexemes → Lexemes} (w : Walked text s s' pass) → s'.kept.errors ≡ [] → ((s.kept.errors ≡ []) → Right text s) → (ms : Lexemes) → Lexes (Lex text) s.place (pass ms) → Lexes (Faultless s'.source text) s'.place ms → Lexes (Faultless s.source text) s.place (pass ms)
   all_right nowhere e h ms l r = r
-  all_right (one_more {s' = m} {x = x} {kept = kept} w i k) e h ms l r =
-      let none = first_empty m.faults kept e in
+  all_right (one_more {s' = m} {x = x} {n = n} w i) e h ms l r =
+      let none = first_empty m.kept.errors n.faults e in
       all_right w none h (next x ms) l (right_there w none h x (behind_walk (Lex text) w (next x ms) l).0, r)
 
   -- where some fault was kept, one stands on the way, or here
-  some_wrong : {s s' : Spot} {pass : Lexemes → Lexemes} (w : Walked text s s' pass) → (s'.faults ≡ [] → ⊥) → ((s.faults ≡ [] → ⊥) → (y : Lexeme) → Faultless s.source text s.place y → ⊥) → (ms : Lexemes) → Lexes (Faultless s.source text) s.place (pass ms) → ⊥
+  some_wrong : {s s' : Spot} {pass : Lexemes → Lexemes} (w : Walked text s s' pass) → (s'.kept.errors ≡ [] → ⊥) → ((s.kept.errors ≡ [] → ⊥) → (y : Lexeme) → Faultless s.source text s.place y → ⊥) → (ms : Lexemes) → Lexes (Faultless s.source text) s.place (pass ms) → ⊥
   some_wrong {s} nowhere n h ms r = h n (here ms) (here_at (Faultless s.source text) ms r)
-  some_wrong {s} (one_more {s' = m} {x = x} {kept = kept} w i k) n h ms r = go kept refl (λ o. some_wrong w o h (next x ms) r)
+  some_wrong {s} (one_more {s' = m} {x = x} {n = news} w i) n h ms r = go news.faults refl (λ o. some_wrong w o h (next x ms) r)
     where
-      go : (ds : List Diagnostic) → kept ≡ ds → ((m.faults ≡ [] → ⊥) → ⊥) → ⊥
+      go : (ds : List Diagnostic) → news.faults ≡ ds → ((m.kept.errors ≡ [] → ⊥) → ⊥) → ⊥
       go [] e again = again (λ z. n (λ j. z j ++ e j))
-      go (d ∷ ds) e again = k.some (λ z. cons_some d ds (sym e ∙ z)) (here ms) (here_at (Faultless m.source text) ms (subst (λ (v : Goal). Lexes (Faultless v text) x.to ms) (sym (source_kept w)) (behind_walk (Faultless s.source text) w (next x ms) r).1))
+      go (d ∷ ds) e again = i.faults.some (λ z. cons_some d ds (sym e ∙ z)) (here ms) (here_at (Faultless m.source text) ms (subst (λ (v : Goal). Lexes (Faultless v text) x.to ms) (sym (source_kept w)) (behind_walk (Faultless s.source text) w (next x ms) r).1))
 
 -- The statements that were taken up to the text's end, by the faults that were kept.
 module _ {text : List ℕ} {f : Flags} {q : Parser} (a : At text f q) (e : q.token.kind ≡ Eof) {slots : Slots → Slots} {pass : Lexemes → Lexemes} (u : Stretch text (plain at_text_end) (with_directives f) 0 (statements f) q.prev_token_end slots pass) {source : Goal} {o : Options} (k : f ≡ parameters source o)
-    {faults : List Diagnostic} (w : Walked text (record { source = source; place = 0; faults = faults }) (spot q) pass) (first : KeptFor source text 0 faults) where
+    {keeps : Bool} {kept : LexerOutput} (w : Walked text (record { source = source; keeps_tokens = keeps; place = 0; kept = kept }) (spot q) pass) (first : KeptFor source text 0 kept.errors) where
   one_reading : q.lexer.kept.errors ≡ [] → IsOnlyReading text source o (program_tree (record { start = 0; end = q.token.span.end }) (slots end))
   one_reading z = let x = any_so a e u in let y = end_here a e in record {
     reading = record {
@@ -218,6 +217,33 @@ module _ {text : List ℕ} {f : Flags} {q : Parser} (a : At text f q) (e : q.tok
 
   faulty_so : (q.lexer.kept.errors ≡ [] → ⊥) → HasNoReading text source o
   faulty_so n t r = let x = only_so a e u t r.lexemes (subst (λ (g : Flags). AnyReading text g t r.lexemes) (sym k) (any_reading r)) in some_wrong w n first.some (last (end_here a e).0) (subst (λ (ls : Lexemes). Lexes (Faultless source text) 0 ls) x.1 r.lexed)
+
+  -- what was kept is of the lexemes of each reading
+  module _ (trivia : TriviaKept text 0 kept.comments kept.irregular_whitespaces) (no_tokens : kept.tokens ≡ []) where
+    of_lexemes : (P : (ls : Lexemes) → Lexes (Faultless source text) 0 ls → Type 0) → ((l : Lexes (Faultless source text) 0 (pass (last (end_here a e).0))) → P (pass (last (end_here a e).0)) l) → (t : Tree) (r : Reading text source o t) → P r.lexemes r.lexed
+    of_lexemes P h t r = subst (λ (ls : Lexemes). (l : Lexes (Faultless source text) 0 ls) → P ls l) (sym (only_so a e u t r.lexemes (subst (λ (g : Flags). AnyReading text g t r.lexemes) (sym k) (any_reading r))).1) h r.lexed
+
+    kept_so : (t : Tree) (r : Reading text source o t) → IsKeptOf r keeps q.lexer.kept
+    kept_so t r = record {
+      comments = of_lexemes (λ ls l. q.lexer.kept.comments ≡ each_of comments_before text source 0 ls l) (λ l. all_kept comments_before text source (λ s. s.kept.comments) (λ n. n.comments) (λ s x n. refl) (λ s x n i ms m. first_comments text source x.to i.trivia ms m) w (end_here a e).0 l (first_comments text source 0 trivia (pass (last (end_here a e).0)) l)) t r;
+      blanks = of_lexemes (λ ls l. q.lexer.kept.irregular_whitespaces ≡ each_of blanks_before text source 0 ls l) (λ l. all_kept blanks_before text source (λ s. s.kept.irregular_whitespaces) (λ n. n.blanks) (λ s x n. refl) (λ s x n i ms m. first_blanks text source x.to i.trivia ms m) w (end_here a e).0 l (first_blanks text source 0 trivia (pass (last (end_here a e).0)) l)) t r;
+      tokens = λ asks. of_lexemes (λ ls l. TellsEach ls q.lexer.kept.tokens) (λ l. told_tokens asks) t r;
+    }
+      where
+        told_tokens : keeps ≡ true → TellsEach (pass (last (end_here a e).0)) q.lexer.kept.tokens
+        told_tokens asks =
+            let z = walk_tells w asks in
+            let none : kept_token q.lexer.keeps_tokens q.token ≡ [] = λ i. elim ((keeps_still w ∙ asks) i && is_kept (e i)) as (λ _. List Token) [ true ↦ q.token ∷ [] | false ↦ [] ] in
+            let all : q.lexer.kept.tokens ≡ z.0 ++ [] = a.kept_last ∙ (λ i. (z.1 ∙ ap (λ (ts : List Token). ts ++ z.0) no_tokens) i ++ none i) in
+            subst (λ (ts : List Token). TellsEach (pass (last (end_here a e).0)) ts) (sym all) (z.2 (last (end_here a e).0) [] refl)
+
+-- where none are asked for, none are kept
+none_in : {A : Type 0} (n : ℕ) → ◌≡◌ {A = List A} (take n []) []
+none_in zero = refl
+none_in (suc n) = refl
+
+unasked_by : {text : List ℕ} {f : Flags} (v q : Parser) {pass : Lexemes → Lexemes} → At text f q → Walked text (spot v) (spot q) pass → v.lexer.keeps_tokens ≡ false → kept_before v.lexer v.token ≡ [] → q.lexer.kept.tokens ≡ []
+unasked_by v q a w e z = a.kept_last ∙ ((λ i. (walk_unasked w e ∙ z) i ++ kept_none q.lexer.keeps_tokens q.token (keeps_still w ∙ e) i))
 
 -- where no lexeme stands, no statement does, and a fault was kept
 module _ {text : List ℕ} {f : Flags} {q : Parser} (a : At text f q) (e : q.token.kind ≡ Undetermined) where
@@ -293,22 +319,64 @@ module _ {b : Bool} {p : Parser} (s : Starts p.text p.source_type p.options b p)
           (subst (λ (t : List ℕ). KeptFor (goal p) t s.lexer.place (each_at (html_fault_at (in_a_module s.lexer.goal)) s.lexer.place g.pieces ++ g.faults)) s.reads
           (subst (λ (v : Goal). KeptFor v s.lexer.text s.lexer.place (each_at (html_fault_at (in_a_module s.lexer.goal)) s.lexer.place g.pieces ++ g.faults)) s.reads_for (kept_for g))))
 
-  program_taken : {q : Parser} {ids : List (Option NodeId)} → Standing p → AllTaken p q ids → ProgramTaken p.text p.source_type p.options q ids
+  -- what was kept before the first token
+  trivia_first : (HasHashbang p.text → ⊥) → TriviaKept p.text 0 p.lexer.kept.comments p.lexer.kept.irregular_whitespaces
+  trivia_first n = go s.first
+    where
+      go : GivesFirst s.lexer p.lexer p.token → TriviaKept p.text 0 p.lexer.kept.comments p.lexer.kept.irregular_whitespaces
+      go (inl b) = absurd (n (b.gives.lexeme, subst (λ (t : List ℕ). LexemeBehind hashbang_goal t 0 b.gives.lexeme) s.reads b.gives.stands))
+      go (inr (z, g)) =
+          let comments = g.grows.comments_grow ∙ ap (λ cs. cs ++ each_at (comment_at p.token.span.start) s.lexer.place g.pieces) s.kept_none.comments in
+          let blanks = g.grows.blanks_grow ∙ ap (λ bs. bs ++ each_at irregular_at s.lexer.place g.pieces) s.kept_none.irregular_whitespaces in
+          subst (λ cs. TriviaKept p.text 0 cs p.lexer.kept.irregular_whitespaces) (sym comments)
+          (subst (λ bs. TriviaKept p.text 0 (each_at (comment_at p.token.span.start) s.lexer.place g.pieces) bs) (sym blanks)
+          (subst (λ (i : ℕ). TriviaKept p.text i (each_at (comment_at p.token.span.start) s.lexer.place g.pieces) (each_at irregular_at s.lexer.place g.pieces)) s.at_start
+          (subst (λ (t : List ℕ). TriviaKept t s.lexer.place (each_at (comment_at p.token.span.start) s.lexer.place g.pieces) (each_at irregular_at s.lexer.place g.pieces)) s.reads (trivia_kept g))))
+
+  tokens_first : kept_before p.lexer p.token ≡ []
+  tokens_first = go s.first
+    where
+      go : GivesFirst s.lexer p.lexer p.token → kept_before p.lexer p.token ≡ []
+      go (inl b) = let z : p.lexer.kept.tokens ≡ [] = ap (λ (o : LexerOutput). o.tokens) b.kept ∙ s.kept_none.tokens in ap (λ (ts : List Token). take (length p.lexer.kept.tokens - cond (p.lexer.keeps_tokens && is_kept p.token.kind) 1 0) ts) z ∙ none_in (length p.lexer.kept.tokens - cond (p.lexer.keeps_tokens && is_kept p.token.kind) 1 0)
+      go (inr (z, g)) = before_next g ∙ s.kept_none.tokens
+
+  unasked_first : p.lexer.keeps_tokens ≡ false → p.lexer.kept.tokens ≡ []
+  unasked_first e = go s.first
+    where
+      go : GivesFirst s.lexer p.lexer p.token → p.lexer.kept.tokens ≡ []
+      go (inl b) = ap (λ (o : LexerOutput). o.tokens) b.kept ∙ s.kept_none.tokens
+      go (inr (z, g)) = g.grows.tokens_grow ∙ (λ i. s.kept_none.tokens i ++ kept_none s.lexer.keeps_tokens p.token (sym g.same.keeps_tokens ∙ e) i)
+
+  program_taken : {q : Parser} {ids : List (Option NodeId)} → Standing p → AllTaken p q ids → ProgramTaken p.text p.source_type p.options p.lexer.keeps_tokens q ids
   program_taken {q} {ids} a (k, h) = record {
     is_of = record { at = t.at.at; text_is = t.same.follows.text; source_type = t.same.follows.source_type };
     slots = t.slots end;
     holds = HoldsAll-wider 1 (length q.nodes) (let n = one_node in omega arith) (omega arith) t.holds;
     outcome = λ n. by_kind n (last_kind q.token.kind k);
+    keeps = t.same.follows.still.keeps_tokens;
+    unasked = λ e. unasked_by p q t.at t.walked e tokens_first;
+    kept = λ n z v r. kept_by n z (last_kind q.token.kind k) v r;
   }
     where
       t : Taken p.text (flags_of p) (with_directives (flags_of p)) (statements (flags_of p)) p q ids
       t = h p.text (flags_of p) a
 
-      walk : Walked p.text (record { source = goal p; place = 0; faults = p.lexer.kept.errors }) (spot q) t.pass
-      walk = walked_from (λ i. record { source = goal p; place = s.prev_token_end i; faults = p.lexer.kept.errors }) t.walked
+      walk : Walked p.text (record { source = goal p; keeps_tokens = p.lexer.keeps_tokens; place = 0; kept = record p.lexer.kept { tokens = kept_before p.lexer p.token } }) (spot q) t.pass
+      walk = walked_from (λ i. record { source = goal p; keeps_tokens = p.lexer.keeps_tokens; place = s.prev_token_end i; kept = record p.lexer.kept { tokens = kept_before p.lexer p.token } }) t.walked
+
+      whole_stretch : Stretch p.text (plain at_text_end) (with_directives (flags_of p)) p.prev_token_end (statements (flags_of p)) q.prev_token_end t.slots t.pass → Stretch p.text (plain at_text_end) (with_directives (flags_of p)) 0 (statements (flags_of p)) q.prev_token_end t.slots t.pass
+      whole_stretch u = from_start (λ (i : ℕ). Stretch p.text (plain at_text_end) (with_directives (flags_of p)) i (statements (flags_of p)) q.prev_token_end t.slots t.pass) u
 
       none : NoList p.text (with_directives (flags_of p)) p.prev_token_end → HasNoReading p.text (goal_of p.source_type) (options_of p.options)
       none n = none_at_all (at_start s) (from_start (λ (i : ℕ). NoList p.text (with_directives (flags_of p)) i) n)
+
+      kept_by : (HasHashbang p.text → ⊥) → FoundNothing q → (q.token.kind ≡ Eof) ⊎ (q.token.kind ≡ Undetermined) → (v : Tree) (r : Reading p.text (goal_of p.source_type) (options_of p.options) v) → IsKeptOf r p.lexer.keeps_tokens q.lexer.kept
+      kept_by n z (inr e) v r = absurd (fault_kept t.at e z.faults)
+      kept_by n z (inl e) v r = go t.verdict
+        where
+          go : Verdict p.errors q.errors (Stretch p.text (plain at_text_end) (with_directives (flags_of p)) p.prev_token_end (statements (flags_of p)) q.prev_token_end t.slots t.pass) (NoList p.text (with_directives (flags_of p)) p.prev_token_end) → IsKeptOf r p.lexer.keeps_tokens q.lexer.kept
+          go (clean h u) = kept_so t.at e (whole_stretch u) (at_start s) walk (kept_first n) (trivia_first n) tokens_first v r
+          go (unclean g m) = absurd (none m v r)
 
       by_kind : (HasHashbang p.text → ⊥) → (q.token.kind ≡ Eof) ⊎ (q.token.kind ≡ Undetermined) → ReadOrNot p.text p.source_type p.options q (t.slots end)
       by_kind n (inl e) = go t.verdict
@@ -318,7 +386,7 @@ module _ {b : Bool} {p : Parser} (s : Starts p.text p.source_type p.options b p)
           read h u (d ∷ ds) z = inr (λ x. cons_some d ds (sym z ∙ x.faults), faulty_so t.at e u (at_start s) walk (kept_first n) (λ x. cons_some d ds (sym z ∙ x)))
 
           go : Verdict p.errors q.errors (Stretch p.text (plain at_text_end) (with_directives (flags_of p)) p.prev_token_end (statements (flags_of p)) q.prev_token_end t.slots t.pass) (NoList p.text (with_directives (flags_of p)) p.prev_token_end) → ReadOrNot p.text p.source_type p.options q (t.slots end)
-          go (clean h u) = read (h ∙ s.errors) (from_start (λ (i : ℕ). Stretch p.text (plain at_text_end) (with_directives (flags_of p)) i (statements (flags_of p)) q.prev_token_end t.slots t.pass) u) q.lexer.kept.errors refl
+          go (clean h u) = read (h ∙ s.errors) (whole_stretch u) q.lexer.kept.errors refl
           go (unclean g m) = inr (λ x. grown_some g x.errors, none m)
       by_kind n (inr e) = inr (λ x. fault_kept t.at e x.faults, none (none_left t (nothing_here t.at e)))
 
@@ -330,7 +398,7 @@ module _ {b : Bool} {p : Parser} (s : Starts p.text p.source_type p.options b p)
   }
   program_stops q NoMemory a h = tt
 
-  pub program_answers : {V : Type 0} (items_of : V → List (Option NodeId)) (q : Parser) (r : Result V Stop) → Standing p → MatchResult r (λ v. AllTaken p q (items_of v)) (λ e. AllRefused p q e) → MatchResult r (λ v. ProgramTaken p.text p.source_type p.options q (items_of v)) (λ e. ProgramStops p.text p.source_type p.options q e)
+  pub program_answers : {V : Type 0} (items_of : V → List (Option NodeId)) (q : Parser) (r : Result V Stop) → Standing p → MatchResult r (λ v. AllTaken p q (items_of v)) (λ e. AllRefused p q e) → MatchResult r (λ v. ProgramTaken p.text p.source_type p.options p.lexer.keeps_tokens q (items_of v)) (λ e. ProgramStops p.text p.source_type p.options q e)
   program_answers items_of q (Ok v) a h = program_taken a h
   program_answers items_of q (Err e) a h = program_stops q e a h
 
@@ -356,16 +424,22 @@ module _ {b : Bool} {p : Parser} (s : Starts p.text p.source_type p.options b p)
     }
     hashbang_refused q NoMemory n h = tt
 
-    pub hashbang_taken : {v q : Parser} {l : Label} {id : NodeId} {ids js : List (Option NodeId)} → MadeHere l [] m v id → AllTaken v q ids → js ≡ Some id ∷ ids → ProgramTaken p.text p.source_type p.options q js
+    pub hashbang_taken : {v q : Parser} {l : Label} {id : NodeId} {ids js : List (Option NodeId)} → MadeHere l [] m v id → AllTaken v q ids → js ≡ Some id ∷ ids → ProgramTaken p.text p.source_type p.options p.lexer.keeps_tokens q js
     hashbang_taken {v} {q} {l} {id} {ids} {js} n (z, h) e = record {
       is_of = record { at = t.at.at; text_is = t.same.follows.text ∙ (ap (λ (r : Parser). r.text) n.stays ∙ d.stays.text); source_type = t.same.follows.source_type ∙ (ap (λ (r : Parser). r.source_type) n.stays ∙ d.stays.source_type) };
       slots = tree l end (t.slots end);
       holds = subst (λ (ks : List (Option NodeId)). HoldsAll q.nodes 1 (length q.nodes) ks (tree l end (t.slots end))) (sym e) (HoldsAll-append (HoldsAll-one id (Holds-kept t.keeps (Holds-wider 1 (length v.nodes) (let x = one_node in let y = ap (λ (ns : List Node). length ns) d.stays.nodes in omega arith) (omega arith) (leaf_held n (Keeps-refl m.nodes))))) t.holds);
       outcome = λ x. absurd (never x);
+      keeps = t.same.follows.still.keeps_tokens ∙ keeps_made;
+      unasked = λ u. unasked_by v q t.at t.walked (keeps_made ∙ u) ((λ i. kept_before (n.stays i).lexer (n.stays i).token) ∙ (before_next d.next ∙ unasked_first u));
+      kept = λ x. absurd (never x);
     }
       where
         t : Taken v.text (flags_of v) (with_directives (flags_of v)) (statements (flags_of v)) v q ids
         t = h v.text (flags_of v) (node_stands n)
+
+        keeps_made : v.lexer.keeps_tokens ≡ p.lexer.keeps_tokens
+        keeps_made = ap (λ (r : Parser). r.lexer.keeps_tokens) n.stays ∙ d.stays.same.keeps_tokens
 
 -- a start, of what the parser itself says of its text
 pub starts_itself : {source : List ℕ} {st : SourceType} {o : ParseOptions} {b : Bool} {p : Parser} → Starts source st o b p → (b : Bool) × Starts p.text p.source_type p.options b p
@@ -373,3 +447,10 @@ starts_itself {source} {st} {o} {b} {p} s = (b, subst (λ (t : List ℕ). Starts
 
 pub answer_for : {source : List ℕ} {st : SourceType} {o : ParseOptions} {b : Bool} {p : Parser} {nodes : List Node} {out : LexerOutput} {fatal : Bool} → Starts source st o b p → IsAnswer p.text (goal_of p.source_type) (options_of p.options) nodes out fatal → IsAnswer source (goal_of st) (options_of o) nodes out fatal
 answer_for {source} {st} {o} {p = p} {nodes} {out} {fatal} s h = subst (λ (t : List ℕ). IsAnswer t (goal_of st) (options_of o) nodes out fatal) s.text (subst (λ (x : SourceType). IsAnswer p.text (goal_of x) (options_of o) nodes out fatal) s.source_type (subst (λ (y : ParseOptions). IsAnswer p.text (goal_of p.source_type) (options_of y) nodes out fatal) s.options h))
+
+pub kept_for_start : {source : List ℕ} {st : SourceType} {o : ParseOptions} {b asked : Bool} {p : Parser} {out : LexerOutput} → b ≡ asked → Starts source st o b p → KeepsRight p.text (goal_of p.source_type) (options_of p.options) p.lexer.keeps_tokens out → KeepsRight source (goal_of st) (options_of o) asked out
+kept_for_start {source} {st} {o} {b} {asked} {p} {out} e s h = subst (λ (t : List ℕ). KeepsRight t (goal_of st) (options_of o) asked out) s.text (subst (λ (x : SourceType). KeepsRight p.text (goal_of x) (options_of o) asked out) s.source_type (subst (λ (y : ParseOptions). KeepsRight p.text (goal_of p.source_type) (options_of y) asked out) s.options (subst (λ (a : Bool). KeepsRight p.text (goal_of p.source_type) (options_of p.options) a out) (asks s.first ∙ e) h)))
+  where
+    asks : GivesFirst s.lexer p.lexer p.token → p.lexer.keeps_tokens ≡ b
+    asks (inl h) = h.same.keeps_tokens ∙ s.keeps_tokens
+    asks (inr h) = h.1.same.keeps_tokens ∙ s.keeps_tokens

@@ -1,4 +1,5 @@
 pub mod Readings
+pub mod Kept
 pub mod Parsed
 pub mod Taken
 pub mod CoreAnswers

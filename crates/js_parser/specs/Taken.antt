@@ -1,8 +1,8 @@
 -- What holds of a parser where a parse of a whole text has ended.
-use Rattle.std.specs.Prelude.{ℕ, ◌≡◌, ◌⊎◌, List, [], length, Option}
+use Rattle.std.specs.Prelude.{ℕ, ◌≡◌, ◌⊎◌, Bool, false, List, [], length, Option}
 use Rattle.js_base.specs.declared.options.ParseOptions.{ParseOptions}
 use Rattle.js_base.specs.declared.source_type.SourceType.{SourceType}
-use Rattle.js_grammar.specs.Trees.{Slots}
+use Rattle.js_grammar.specs.Trees.{Slots, Tree}
 use Rattle.js_lex.specs.States.{goal_of}
 use Rattle.js_tree.specs.declared.id.NodeId.{NodeId}
 use Rattle.js_tree.specs.Holding.{HoldsAll, program_tree}
@@ -10,7 +10,8 @@ use Rattle.js_cursor.specs.Parsers.{Parser}
 use Rattle.js_cursor.specs.Places.{IsAt}
 use Rattle.js_cursor.specs.declared.stop.Stop.{Stop}
 use Rattle.js_cursor.specs.declared.stop.Stop.TheVariants.{Fatal, NoMemory}
-use Rattle.js_parser.specs.Readings.{HasNoReading, IsOnlyReading, HasHashbang}
+use Rattle.js_parser.specs.Kept.{IsKeptOf}
+use Rattle.js_parser.specs.Readings.{Reading, HasNoReading, IsOnlyReading, HasHashbang}
 use Rattle.js_parser.specs.Parsed.{options_of}
 
 -- it stands in a text of this source type
@@ -29,11 +30,15 @@ abbrev pub ReadOrNot : List ℕ → SourceType → ParseOptions → Parser → S
 ReadOrNot text s o p cs = (FoundNothing p × IsOnlyReading text (goal_of s) (options_of o) (program_tree (record { start = 0; end = p.token.span.end }) cs)) ⊎ ((FoundNothing p → ⊥) × HasNoReading text (goal_of s) (options_of o))
 
 -- These are the children of the program.
-pub record ProgramTaken (text : List ℕ) (s : SourceType) (o : ParseOptions) (p : Parser) (ids : List (Option NodeId)) : Type 0 where
+pub record ProgramTaken (text : List ℕ) (s : SourceType) (o : ParseOptions) (asks : Bool) (p : Parser) (ids : List (Option NodeId)) : Type 0 where
   pub is_of : IsOf text s p
   pub slots : Slots
   pub holds : HoldsAll p.nodes 1 (length p.nodes) ids slots
   pub outcome : (HasHashbang text → ⊥) → ReadOrNot text s o p slots
+  -- tokens are kept where they are asked for; without diagnostics all that was kept is of the lexemes of the reading
+  pub keeps : p.lexer.keeps_tokens ≡ asks
+  pub unasked : asks ≡ false → p.lexer.kept.tokens ≡ []
+  pub kept : (HasHashbang text → ⊥) → FoundNothing p → (t : Tree) (r : Reading text (goal_of s) (options_of o) t) → IsKeptOf r asks p.lexer.kept
 
 -- A fatal diagnostic ended the parse.
 pub record ProgramRefused (text : List ℕ) (s : SourceType) (o : ParseOptions) (p : Parser) : Type 0 where

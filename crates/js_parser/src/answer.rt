@@ -1,10 +1,11 @@
 //! What a parse answers.
 
-ghost use Rattle.std.specs.Prelude.{ℕ, ◌≡◌, ◌++◌, List, IfOk, take};
+ghost use Rattle.std.specs.Prelude.{ℕ, ◌≡◌, ◌++◌, Bool, List, [], IfOk, take};
 ghost use Rattle.js_base.specs.declared.options.ParseOptions.{ParseOptions};
 ghost use Rattle.js_base.specs.declared.source_type.SourceType.{SourceType};
 ghost use Rattle.js_cursor.specs.Places.{IsAt};
 ghost use Rattle.js_lex.specs.States.{goal_of};
+ghost use Rattle.js_parser.specs.Kept.{KeepsRight};
 ghost use Rattle.js_parser.specs.Parsed.{options_of, IsAnswer, IsOverlong};
 ghost use Rattle.js_parser.specs.Taken.{ProgramTaken, ProgramRefused};
 
@@ -53,7 +54,8 @@ pub fn taken(
     p: Parser<'_>,
     items: Vec<Option<NodeId>>,
 ) -> Result<ParserReturn, NoMemory>
-    ensures answer { IfOk result (λ r. (text : List ℕ) (s : SourceType) (o : ParseOptions) → ProgramTaken text s o p.entry items.items → IsAnswer text (goal_of s) (options_of o) r.program.tree (record { comments = r.program.comments; irregular_whitespaces = r.irregular_whitespaces; tokens = r.tokens; errors = r.diagnostics }) r.fatal_error) }
+    ensures answer { IfOk result (λ r. (text : List ℕ) (s : SourceType) (o : ParseOptions) (asks : Bool) → ProgramTaken text s o asks p.entry items.items → IsAnswer text (goal_of s) (options_of o) r.program.tree (record { comments = r.program.comments; irregular_whitespaces = r.irregular_whitespaces; tokens = r.tokens; errors = r.diagnostics }) r.fatal_error) }
+    ensures kept { IfOk result (λ r. (text : List ℕ) (s : SourceType) (o : ParseOptions) (asks : Bool) → ProgramTaken text s o asks p.entry items.items → KeepsRight text (goal_of s) (options_of o) asks (record { comments = r.program.comments; irregular_whitespaces = r.irregular_whitespaces; tokens = r.tokens; errors = r.diagnostics })) }
     ensures source_type { IfOk result (λ r. r.program.source_type ≡ source_type) }
 {
     let span = Span::new(0, p.cur_token().end());
@@ -81,6 +83,7 @@ pub fn taken(
 pub fn refused(source_type: SourceType, p: Parser<'_>) -> Result<ParserReturn, NoMemory>
     requires { IsAt p }
     ensures answer { IfOk result (λ r. (text : List ℕ) (s : SourceType) (o : ParseOptions) → ProgramRefused text s o p.entry → IsAnswer text (goal_of s) (options_of o) r.program.tree (record { comments = r.program.comments; irregular_whitespaces = r.irregular_whitespaces; tokens = r.tokens; errors = r.diagnostics }) r.fatal_error) }
+    ensures kept { IfOk result (λ r. (text : List ℕ) (s : SourceType) (o : ParseOptions) (asks : Bool) → ProgramRefused text s o p.entry → KeepsRight text (goal_of s) (options_of o) asks (record { comments = r.program.comments; irregular_whitespaces = r.irregular_whitespaces; tokens = r.tokens; errors = r.diagnostics })) }
     ensures source_type { IfOk result (λ r. r.program.source_type ≡ source_type) }
 {
     let alloc = p.alloc;
@@ -110,6 +113,7 @@ pub fn refused(source_type: SourceType, p: Parser<'_>) -> Result<ParserReturn, N
 /// The answer for a text that is too long.
 pub fn overlong(alloc: Global, source_type: SourceType) -> Result<ParserReturn, NoMemory>
     ensures answer { IfOk result (λ r. IsOverlong r.program.tree r.diagnostics r.fatal_error) }
+    ensures no_tokens { IfOk result (λ r. r.tokens ≡ []) }
     ensures source_type { IfOk result (λ r. r.program.source_type ≡ source_type) }
 {
     let mut diagnostics = Diagnostics::new(alloc);

@@ -7,6 +7,7 @@ ghost use Rattle.js_base.specs.Sources.{is_goal};
 ghost use Rattle.js_grammar.specs.CoreTexts.{CoreSource};
 ghost use Rattle.js_lex.specs.States.{goal_of};
 ghost use Rattle.js_parser.specs.CoreAnswers.{IsCoreAnswer};
+ghost use Rattle.js_parser.specs.Kept.{KeepsRight};
 ghost use Rattle.js_parser.specs.Readings.{read_at};
 ghost use Rattle.js_parser.specs.Parsed.{options_of, Answers, IsAnswer};
 
@@ -74,6 +75,9 @@ impl<'a, C: ParserConfig> Parser<'a, C> {
         // For a core text, with parentheses kept, at any goal and V8 setting: nothing is found exactly where the text
         // has a reading, which is then the tree, and is the only one.
         ensures core_headline { IfOk result (λ r. IsUtf8 self.entry.source_text.now → CoreSource self.entry.source_text.now → self.entry.options.preserve_parens ≡ true → IsCoreAnswer self.entry.source_text.now self.entry.source_type r.program.source_type self.entry.options.allow_v8_intrinsics r.program.tree r.diagnostics) }
+        // Without diagnostics, comments and white space are those of the lexemes of the reading, and so are the tokens,
+        // where the config asks for them; where it doesn't, there are none.
+        ensures kept { IfOk result (λ r. KeepsRight self.entry.source_text.now (read_at (goal_of self.entry.source_type)) (options_of self.entry.options) (C.asks_for_tokens self.entry.config) (record { comments = r.program.comments; irregular_whitespaces = r.irregular_whitespaces; tokens = r.tokens; errors = r.diagnostics })) }
         ensures answers { IfOk result (λ r. Answers self.entry.source_text.now self.entry.source_type r.program.source_type self.entry.options r.program.tree (record { comments = r.program.comments; irregular_whitespaces = r.irregular_whitespaces; tokens = r.tokens; errors = r.diagnostics }) r.fatal_error) }
     {
         let source_type = settled(self.source_type);
@@ -114,6 +118,7 @@ fn parse_as(
     requires short { length source_text.now ≤ MAX_LEN }
     requires named { is_goal source_type ≢ Unambiguous }
     ensures answer { IfOk result (λ r. IsAnswer source_text.now (goal_of source_type) (options_of options) r.program.tree (record { comments = r.program.comments; irregular_whitespaces = r.irregular_whitespaces; tokens = r.tokens; errors = r.diagnostics }) r.fatal_error) }
+    ensures kept { IfOk result (λ r. KeepsRight source_text.now (goal_of source_type) (options_of options) tokens (record { comments = r.program.comments; irregular_whitespaces = r.irregular_whitespaces; tokens = r.tokens; errors = r.diagnostics })) }
     ensures source_type { IfOk result (λ r. r.program.source_type ≡ source_type) }
 {
     let config = RuntimeParserConfig::new(tokens);

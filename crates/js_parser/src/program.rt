@@ -17,7 +17,7 @@ use js_tree::{NodeFlags, NodeId, NodeKind, Op};
 /// The children of Program.
 pub fn parse_program(p: &mut Parser<'_>) -> Result<Vec<Option<NodeId>>, Stop>
     requires { (b : Bool) × Starts p.old.text p.old.source_type p.old.options b p.old }
-    ensures { MatchResult result (λ v. ProgramTaken p.old.text p.old.source_type p.old.options p.new v.items) (λ e. ProgramStops p.old.text p.old.source_type p.old.options p.new e) }
+    ensures { MatchResult result (λ v. ProgramTaken p.old.text p.old.source_type p.old.options p.old.lexer.keeps_tokens p.new v.items) (λ e. ProgramStops p.old.text p.old.source_type p.old.options p.new e) }
 {
     if p.at(Kind::HashbangComment) {
         return parse_behind_hashbang(p);
@@ -29,7 +29,7 @@ pub fn parse_program(p: &mut Parser<'_>) -> Result<Vec<Option<NodeId>>, Stop>
 fn parse_behind_hashbang(p: &mut Parser<'_>) -> Result<Vec<Option<NodeId>>, Stop>
     requires starts { (b : Bool) × Starts p.old.text p.old.source_type p.old.options b p.old }
     requires here { p.old.token.kind ≡ HashbangComment }
-    ensures { MatchResult result (λ v. ProgramTaken p.old.text p.old.source_type p.old.options p.new v.items) (λ e. ProgramStops p.old.text p.old.source_type p.old.options p.new e) }
+    ensures { MatchResult result (λ v. ProgramTaken p.old.text p.old.source_type p.old.options p.old.lexer.keeps_tokens p.new v.items) (λ e. ProgramStops p.old.text p.old.source_type p.old.options p.new e) }
 {
     let span = p.cur_token().span();
     p.bump_any()?;

@@ -1,4 +1,5 @@
-use Rattle.std.proofs.Common.{refl, subst}
+use Rattle.std.proofs.Common.{ap, refl, subst}
+use Rattle.js_cursor.specs.Tokens.{may_be_read_again}
 use Rattle.js_cursor.specs.Parsers.{Parser}
 use Rattle.js_cursor.specs.Checkpoints.{GoesOn}
 use Rattle.js_cursor.proofs.Changing.{may_return}
@@ -22,5 +23,5 @@ returns-in-Some g c = some_looked _ _ c.parse_parenthesized_head.new.p _ _ c.in_
 pub returns : goal.returns
 returns g c =
     let n = none_looked _ c.parse_parenthesized_head.new.p _ c.in_default.is c.in_ok-parameters.ensures in
-    let w = went_back c.in_ok-here.ensures.remembers (subst (λ (z : Parser). GoesOn z c.parse_parenthesized_head.new.p) c.in_ok-here.ensures.same n.0) n.1 c.rewind.ensures in
+    let w = went_back (ap may_be_read_again c.requires.open) c.in_ok-here.ensures.remembers (subst (λ (z : Parser). GoesOn z c.parse_parenthesized_head.new.p) c.in_ok-here.ensures.same n.0) n.1 c.rewind.ensures in
     noted_here c.requires.at w (subst NoHeadHere c.in_ok-here.ensures.same n.2) c.requires.open c.prev_token_end-place.ensures c.in_ok-note_arrow_failed.ensures.ok

@@ -1,8 +1,8 @@
-use Rattle.std.proofs.Common.{length, take, ap, subst, ◌++◌, ◌∙◌}
+use Rattle.std.proofs.Common.{sym, length, take, ap, subst, ◌++◌, ◌∙◌}
 use Rattle.js_cursor.specs.Parsers.{Parser}
 use Rattle.js_lex.specs.Kept.{LieIn}
 use Rattle.js_lex.specs.States.{State}
-use Rattle.js_parser.proofs.Answering.{refused_answer}
+use Rattle.js_parser.proofs.Answering.{refused_answer, found_kept, second_empty}
 use Rattle.js_parser.proofs.answer.refused.Goals as goal
 
 pub returns-clause-answer : goal.returns-clause-answer
@@ -15,3 +15,6 @@ returns-clause-answer c = λ text s o h. refused_answer c.into_parts-parts.resul
     (λ i. record { comments = c.finish-kept.result.comments; irregular_whitespaces = c.finish-kept.result.irregular_whitespaces; tokens = c.new-2.ensures i; errors = (c.in_ok-diagnostics.ensures ∙ (λ j. c.fewer_faults-faults.result ++ c.into_parts-parts.ensures.errors j)) i })
     (subst (λ (v : State). LieIn v.text c.finish-kept.result) c.into_parts-parts.ensures.lexer c.finish-kept.ensures.lies)
     h
+
+pub returns-clause-kept : goal.returns-clause-kept
+returns-clause-kept c = λ text s o asks h. found_kept c.new-2.ensures (λ z. h.some (second_empty c.fewer_faults-faults.result _ (sym (c.in_ok-diagnostics.ensures ∙ (λ j. c.fewer_faults-faults.result ++ c.into_parts-parts.ensures.errors j)) ∙ z)))
