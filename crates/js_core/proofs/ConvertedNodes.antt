@@ -1,10 +1,11 @@
 -- What array literals are converted to, node by node (ECMA-262, 13.15.5).
-use Rattle.std.proofs.Common.{ℕ, ◌≡◌, ◌<◌, ◌≤◌, ◌⊎◌, inl, inr, suc, Bool, true, false, cond, ◌||◌, List, [], ◌∷◌, ◌++◌, length, drop, Option, Some, None, refl, sym, ap, subst, arith, ◌∙◌, append-nil, append_assoc}
-use Rattle.std.specs.Prelude.{get_or, slice_get}
+use Rattle.std.proofs.Common.{ℕ, ◌≡◌, ◌<◌, ◌≤◌, ◌⊎◌, inl, inr, zero, suc, ◌+◌, nat_eq, Bool, true, false, cond, ◌||◌, List, [], ◌∷◌, ◌++◌, length, drop, Option, Some, None, refl, sym, ap, subst, arith, ◌∙◌, append-nil, append_assoc}
+use Rattle.std.specs.Prelude.{get_or, slice_get, Result, Ok, Err, IfOk}
 use Rattle.std.specs.Option.{option_map}
 use Rattle.std.proofs.Math.Seq.{drop-cons}
-use Rattle.std.proofs.lemmas.Bool.{false≢true, or_left, or_right}
+use Rattle.std.proofs.lemmas.Bool.{false≢true, or_left, or_right, eqb-true, eq-eqb}
 use Rattle.std.proofs.lemmas.List.{get_or_append_left}
+use Rattle.std.proofs.lemmas.Option.{slice_get_within, get_or_from_slice_get}
 use Rattle.js_grammar.specs.Trees.{NodeKind, Op, Span, Label, Slots, end, hole, tree, Tree, append, elision, identifier_reference, static_member_expression, computed_member_expression, private_field_expression, parenthesized_expression, array_expression, array_assignment_target, assignment_target_rest, assignment_target_with_default}
 use Rattle.js_tree.specs.declared.id.NodeId.{NodeId}
 use Rattle.js_base.specs.declared.span.Span.{Span as MadeSpan}
@@ -71,6 +72,11 @@ pub record Halfway (os ns : List Node) (id : NodeId) (noted notes : List ℕ) (i
 
 abbrev pub ElementLoop : List Node → List Node → NodeId → List ℕ → List ℕ → List (Option NodeId) → List (Option NodeId) → ℕ → Type 0
 ElementLoop os ns id noted notes ids js at = OfNode os id (λ l cs rs. Halfway os ns id noted notes ids js at cs rs)
+
+pub record ElementsSoFar (os ns : List Node) (id : NodeId) (noted notes : List ℕ) (ids js : List (Option NodeId)) (at : ℕ) : Type 0 where
+  pub within : at ≤ length ids
+  pub children : ids ≡ (node_at os id).children
+  pub elements : ElementLoop os ns id noted notes ids js at
 
 joined_end : (r : Option Slots) → r ≡ joined end r
 joined_end (Some us) = refl
@@ -158,7 +164,7 @@ module _ {os ns : List Node} {id c : NodeId} {noted notes : List ℕ} {ids js mo
   refused_by {last} None e n k = refl
   refused_by {last} (Some us) e n k = ap (λ (b : Bool). joined h.done (followed (element_slot b child.label child.slots (elements_in child.slots)) us)) (lasts us child.stand e ∙ sym n) ∙ ap (λ (t : Option Slots). joined h.done (followed t us)) k
 
-  halfway_next : {ms : List Node} {notes' : List ℕ} {last : Bool} {slot : Option NodeId} → last ≡ is_nil more → more ≡ drop (suc at) ids → Converts ns ms child.numbers notes notes' (rests_of child.label (rests_in child.slots)) (slot ∷ []) (element_slot last child.label child.slots (elements_in child.slots)) → Halfway os ms id noted notes' ids (js ++ slot ∷ []) (suc at) cs rs
+  halfway_next : {ms : List Node} {notes' : List ℕ} {last : Bool} {slot : Option NodeId} → last ≡ is_nil more → more ≡ drop (at + 1) ids → Converts ns ms child.numbers notes notes' (rests_of child.label (rests_in child.slots)) (slot ∷ []) (element_slot last child.label child.slots (elements_in child.slots)) → Halfway os ms id noted notes' ids (js ++ slot ∷ []) (at + 1) cs rs
   halfway_next {ms} {notes'} {last} {slot} n m v = record {
     keeps = Keeps-trans h.keeps v.keeps;
     done = append h.done v.slots;
@@ -184,11 +190,11 @@ refused_of (refuses x) = x
 abbrev pub ElementAnswer : List Node → List Node → NodeId → Bool → List ℕ → List ℕ → Option (Option NodeId) → Type 0
 ElementAnswer ns ms c last notes notes' found = OfNode ns c (λ l cs rs. Converted ns ms rs notes notes' (rests_of l (rests_in cs)) (one_slot found) (element_slot last l cs (elements_in cs)))
 
-module _ {os ns : List Node} {id c : NodeId} {noted notes : List ℕ} {ids js : List (Option NodeId)} {at : ℕ} (z : ElementLoop os ns id noted notes ids js at) (q : drop at ids ≡ Some c ∷ drop (suc at) ids) where
-  pub loop_next : {ms : List Node} {notes' : List ℕ} (last : Bool) {slot : Option NodeId} → last ≡ is_nil (drop (suc at) ids) → ElementAnswer ns ms c last notes notes' (Some slot) → ElementLoop os ms id noted notes' ids (js ++ slot ∷ []) (suc at)
+module _ {os ns : List Node} {id c : NodeId} {noted notes : List ℕ} {ids js : List (Option NodeId)} {at : ℕ} (z : ElementLoop os ns id noted notes ids js at) (q : drop at ids ≡ Some c ∷ drop (at + 1) ids) where
+  pub loop_next : {ms : List Node} {notes' : List ℕ} (last : Bool) {slot : Option NodeId} → last ≡ is_nil (drop (at + 1) ids) → ElementAnswer ns ms c last notes notes' (Some slot) → ElementLoop os ms id noted notes' ids (js ++ slot ∷ []) (at + 1)
   loop_next last n v = λ l cs rs s d. let h = z l cs rs s d in let x = child s d h q in halfway_next s d h q n refl (made_of (v x.label x.slots x.numbers (child_stands s d h q) (child_distinct s d h q)))
 
-  pub loop_refuses : {ms : List Node} {notes' : List ℕ} (last : Bool) → last ≡ is_nil (drop (suc at) ids) → ElementAnswer ns ms c last notes notes' None → OfNode os id (λ l cs rs. Refuses os ms (elements_in cs))
+  pub loop_refuses : {ms : List Node} {notes' : List ℕ} (last : Bool) → last ≡ is_nil (drop (at + 1) ids) → ElementAnswer ns ms c last notes notes' None → OfNode os id (λ l cs rs. Refuses os ms (elements_in cs))
   loop_refuses last n v = λ l cs rs s d. let h = z l cs rs s d in let x = child s d h q in halfway_refused s d h q n (refused_of (v x.label x.slots x.numbers (child_stands s d h q) (child_distinct s d h q)))
 
   pub child_stood : Stood os id → Stood ns c
@@ -582,3 +588,68 @@ module _ {os : List Node} {id : NodeId} where
 
   pub simple_refused : is_parens (label (node_at os id)).kind ≡ false → is_target (label (node_at os id)).kind ≡ false → SimpleAnswer os id None
   simple_refused p t = λ l cs rs s d. refuses (record { keeps = Keeps-refl os; is = ap slot_of (directly l cs false (kind_here {id = id} is_parens p s) (kind_here {id = id} is_target t s)) })
+
+-- ---- answers of the calls
+
+abbrev pub ElementsAnswer : List Node → List Node → NodeId → List ℕ → List ℕ → Option (List (Option NodeId)) → Type 0
+ElementsAnswer os ns id noted notes ids = OfNode os id (λ l cs rs. Converted os ns rs noted notes (rests_in cs) ids (elements_in cs))
+
+abbrev pub ArrayAnswer : List Node → List Node → NodeId → List ℕ → List ℕ → Option NodeId → Type 0
+ArrayAnswer os ns id noted notes found = OfNode os id (λ l cs rs. Converted os ns rs noted notes (rests_in cs) (one_node found) (slot_of (array_tree l (elements_in cs))))
+
+abbrev pub TargetAnswer : List Node → List Node → NodeId → List ℕ → List ℕ → Option NodeId → Type 0
+TargetAnswer os ns id noted notes found = OfNode os id (λ l cs rs. Converted os ns rs noted notes (cond (is_array l.kind) (rests_in cs) []) (one_node found) (slot_of (target_by l cs (elements_in cs))))
+
+abbrev pub RestAnswer : List Node → List Node → NodeId → List ℕ → List ℕ → Bool → Option NodeId → Type 0
+RestAnswer os ns id noted notes last found = OfNode os id (λ l cs rs. Converted os ns rs noted notes (l.span.to ∷ rests_in cs) (one_node found) (rest_slot last l (elements_in cs)))
+
+pub array_none : {os ns : List Node} {id : NodeId} {noted notes : List ℕ} → ElementsAnswer os ns id noted notes None → ArrayAnswer os ns id noted notes None
+array_none v = λ l cs rs s d. let y = refused_of (v l cs rs s d) in refuses (record { keeps = y.keeps; is = ap (λ (r : Option Slots). slot_of (array_tree l r)) y.is })
+
+pub array_some : {os ns ms : List Node} {id made : NodeId} {noted notes : List ℕ} {ids : List (Option NodeId)} {k : Label} → ElementsAnswer os ns id noted notes (Some ids) → Noded ns ms k ids made → k ≡ relabelled array_assignment_target (label (node_at os id)) → ArrayAnswer os ms id noted notes (Some made)
+array_some {id = id} v n e = λ l cs rs s d. converts (array_made {id = id} (λ l cs rs s d. made_of (v l cs rs s d)) n e l cs rs s d)
+
+pub elements_keep : {os ns : List Node} {id : NodeId} {noted notes : List ℕ} {ids : List (Option NodeId)} → Stood os id → ElementsAnswer os ns id noted notes (Some ids) → (id.0 < length ns) × (node_at ns id ≡ node_at os id)
+elements_keep {id = id} w v =
+    let x = made_of (v w.label w.slots (w.holds).numbers (w.holds).stands (w.holds).distinct) in
+    let b = (children_of {id = id} (w.holds).stands).below in
+    let k = Keeps-longer x.keeps in
+    (omega arith, node_kept {id = id} x.keeps b)
+
+pub elements_none : {os ns : List Node} {id : NodeId} {noted notes : List ℕ} → OfNode os id (λ l cs rs. Refuses os ns (elements_in cs)) → ElementsAnswer os ns id noted notes None
+elements_none v = λ l cs rs s d. refuses (v l cs rs s d)
+
+pub elements_some : {os ns : List Node} {id : NodeId} {noted notes : List ℕ} {ids : List (Option NodeId)} → OfNode os id (λ l cs rs. Converts os ns rs noted notes (rests_in cs) ids (elements_in cs)) → ElementsAnswer os ns id noted notes (Some ids)
+elements_some v = λ l cs rs s d. converts (v l cs rs s d)
+
+-- ---- the loop over children
+
+pub next_child' : (ids : List (Option NodeId)) (at : ℕ) (x : Option NodeId) → slice_get ids at ≡ Some x → drop at ids ≡ x ∷ drop (at + 1) ids
+next_child' ids at x e =
+    let l = slice_get_within ids at x e in
+    let n : suc at ≡ at + 1 = omega arith in
+    drop-cons ids at x l ∙ (ap (λ (y : Option NodeId). y ∷ drop (suc at) ids) (get_or_from_slice_get ids at x x e) ∙ ap (λ (k : ℕ). x ∷ drop k ids) n)
+
+pub no_more : (ids : List (Option NodeId)) (at : ℕ) → length ids ≤ at → drop at ids ≡ []
+no_more [] zero l = refl
+no_more [] (suc at) l = refl
+no_more (x ∷ ids) zero l = absurd (omega arith)
+no_more (x ∷ ids) (suc at) l = no_more ids at (omega arith)
+
+pub last_child : (ids : List (Option NodeId)) (at : ℕ) (b : Bool) → at ≤ length ids → b ≡ nat_eq at (length ids) → b ≡ is_nil (drop at ids)
+last_child ids at b l e = by b e
+  where
+    some_more : (c : ℕ) → c ≡ at → (xs : List (Option NodeId)) → drop at ids ≡ xs → (at ≡ length ids → ⊥) → false ≡ is_nil xs
+    some_more c h (x ∷ xs) q n = refl
+    some_more c h [] q n = absurd (let k : (drop at ids) ≡ [] = q in no_cons (sym k ∙ drop-cons ids at None (omega arith)))
+      where
+        no_cons : {y : Option NodeId} {ys : List (Option NodeId)} → [] ≡ y ∷ ys → ⊥
+        no_cons e = cc
+
+    by : (b : Bool) → b ≡ nat_eq at (length ids) → b ≡ is_nil (drop at ids)
+    by true e = ap is_nil (sym (no_more ids at (let k = eqb-true at (length ids) (sym e) in omega arith)))
+    by false e = some_more at refl (drop at ids) refl (λ k. false≢true (e ∙ eq-eqb at (length ids) k))
+
+pub map_ok : {A E : Type 0} (r : Result A E) {P Q : A → Type 0} → ((x : A) → P x → Q x) → IfOk r P → IfOk r Q
+map_ok (Ok x) f h = f x h
+map_ok (Err e) f h = h

@@ -1,6 +1,6 @@
 //! Array literals read as array targets (ECMA-262, section 13.15.5).
 
-ghost use Rattle.std.specs.Prelude.{◌≡◌, ◌&&◌, IfOk, List, [], ◌∷◌, Some, None, cond};
+ghost use Rattle.std.specs.Prelude.{◌≡◌, ◌&&◌, IfOk, List, [], ◌∷◌, Some, None, false, cond};
 ghost use Rattle.std.specs.Option.{option_map};
 ghost use Rattle.js_grammar.specs.Trees.{assignment_target_with_default};
 ghost use Rattle.js_tree.specs.declared.kind.NodeKind.TheVariants as node;
