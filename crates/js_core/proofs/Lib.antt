@@ -37,6 +37,8 @@ pub mod LiteralsAsTargets
 pub mod TargetsAsLiterals
 pub mod ReusedNodes
 pub mod ConvertedNodes
+pub mod RestsTold
+pub mod ArraysConverted
 pub mod ArraysBeforeSigns
 pub mod Updates
 pub mod Refusals

@@ -18,7 +18,11 @@ use Rattle.js_grammar.proofs.Calculus.{here_at}
 use Rattle.js_cursor.proofs.Moving.{reached_next}
 use Rattle.js_core.specs.Arrays.{elements}
 use Rattle.js_core.specs.Lexemes.{Lex}
-use Rattle.js_core.specs.Targets.{Each, is_elision, is_spread, is_assignment, is_initialised, is_array, is_array_target, is_target, target_of, relabelled, array_tree, target_by, slot_of, rest_slot, element_slot, are_none, followed, before_all, elements_in, rests_of, rests_in}
+use Rattle.js_core.proofs.Here.{plainly}
+use Rattle.js_lex.proofs.Again.{passed}
+use Rattle.js_lex.proofs.StringPlaces.{front_word}
+use Rattle.std.specs.Prelude.{IsUtf8, IsCharBoundary}
+use Rattle.js_core.specs.Targets.{Each, Open, Closed, Ended, Followed, is_elision, is_spread, is_assignment, is_initialised, is_array, is_array_target, is_target, target_of, relabelled, array_tree, target_by, slot_of, rest_slot, element_slot, are_none, followed, before_all, elements_in, rests_of, rests_in}
 use Rattle.js_core.proofs.ArrayElements.{gap_label, no_gap, Initialised, initialised, Step, closes, gap, item, final, step_of, Element, an_expression, a_spread, element_of}
 use Rattle.js_core.proofs.ArrayTargets.{target_step, target_last}
 use Rattle.js_core.proofs.FreeOfIn.{any_in}
@@ -26,31 +30,16 @@ use Rattle.js_core.proofs.Targets.{array_line, may_array, array_shape, of_assign
 
 -- ---- what stands behind a rest
 
--- no comma
-abbrev pub Open : List ℕ → ℕ → Type 0
-Open text e = (y : Lexeme) → Lex text e y → y.kind ≡ Comma → ⊥
-
--- the closing bracket
-pub record Closed (text : List ℕ) (e : ℕ) : Type 0 where
-  pub bracket : Lexeme
-  pub stands : Lex text e bracket
-  pub is : bracket.kind ≡ RBrack
-
--- a comma, and behind it the closing bracket
-pub record Followed (text : List ℕ) (e : ℕ) : Type 0 where
-  pub comma : Lexeme
-  pub stands : Lex text e comma
-  pub is : comma.kind ≡ Comma
-  pub behind : Closed text comma.to
-
--- Lexemes lead there, and one of the two stands behind.
-pub record Ended (text : List ℕ) (e : ℕ) : Type 0 where
-  pub reached : Reached text e
-  pub either : Closed text e ⊎ Followed text e
+-- a lexeme begins and ends between characters
+pub lexeme_between : {text : List ℕ} {s : ℕ} {y : Lexeme} → IsUtf8 text → IsCharBoundary text s → Lex text s y → IsCharBoundary text y.from × IsCharBoundary text y.to
+lexeme_between {text} {s} {y} u b l =
+    let p = passed u b (record { lex = l.0; of_goal = plainly l.0 l.1 }) in
+    let w = front_word text y.from p.word p.rest u p.stands.boundary p.here in
+    (p.stands.boundary, subst (λ (v : ℕ). IsCharBoundary text v) (sym p.to) w.boundary)
 
 -- lexemes that are reached from the text's start
 abbrev pub Led : List ℕ → ℕ → Lexeme → Type 0
-Led text s y = Lex text s y × Reached text s
+Led text s y = Lex text s y × Reached text s × IsCharBoundary text s
 
 pub all_of : (P : ℕ → Type 0) (rs ss : List ℕ) → Each P rs → Each P ss → Each P (rs ++ ss)
 all_of P [] ss a b = b
@@ -296,7 +285,7 @@ module _ (text : List ℕ) where
       let w = c f x.to j mid rest p.behind h.1 r p.is in
       let u = is_end us (p.is ∙ ap Some t.last) in
       record {
-        ended = all_of (Ended text) (k ∷ rests_in (tree n xs end)) (rests_in us) (record { reached = h.0.1; either = inr (record { comma = x; stands = h.0.0; is = kind_is x q; behind = closed_behind u r h.1 }) }, all_of (Ended text) (rests_of n (rests_in xs)) [] v.ended tt) w.ended;
+        ended = all_of (Ended text) (k ∷ rests_in (tree n xs end)) (rests_in us) (record { reached = h.0.1; between = h.0.2; either = inr (record { comma = x; stands = h.0.0; is = kind_is x q; behind = closed_behind u r h.1 }) }, all_of (Ended text) (rests_of n (rests_in xs)) [] v.ended tt) w.ended;
         takes = λ o. absurd (o.0 x h.0.0 (kind_is x q));
       }
 
@@ -312,7 +301,7 @@ module _ (text : List ℕ) where
       let v = one_of f {us = end} b d m.1 t.is in
       let h = led_behind d m.1 in
       record {
-        ended = all_of (Ended text) (k ∷ rests_in (tree n xs end)) [] (record { reached = h.0.1; either = inl (record { bracket = x; stands = h.0.0; is = kind_is x q }) }, all_of (Ended text) (rests_of n (rests_in xs)) [] v.ended tt) tt;
+        ended = all_of (Ended text) (k ∷ rests_in (tree n xs end)) [] (record { reached = h.0.1; between = h.0.2; either = inl (record { bracket = x; stands = h.0.0; is = kind_is x q }) }, all_of (Ended text) (rests_of n (rests_in xs)) [] v.ended tt) tt;
         takes = λ o. subst (λ (w : Slots). Takes rule (target_items f) end w i ls end x.to rest) (sym t.whole) (the_last (is_right (is_left (is_seq (is_node (is_seq (is_lexeme z) (target_made t.target (v.takes (all_left (Open text) (rests_of n (rests_in xs)) [] (all_left (Open text) (rests_in (tree n xs end)) [] o.1)))))) (is_right is_nothing)))) (is_lexeme q));
       }
 
@@ -331,20 +320,20 @@ module _ (text : List ℕ) where
   converts (tree l (hole vs) us) f i j ls rest ds m d e = built (step_of d) m (converts (hole vs)) tt (converts us) e
   converts (tree l (tree n xs vs) us) f i j ls rest ds m d e = built (step_of d) m (converts (tree n xs vs)) (converts xs) (converts us) e
 
-  led : (s : ℕ) (ls : Lexemes) → Reached text s → Lexes (Lex text) s ls → Lexes (Led text) s ls
-  led s (last x) r l = (l, r)
-  led s (next x ls) r l = ((l.0, r), led x.to ls (reached_next r l.0.0) l.1)
+  led : (s : ℕ) (ls : Lexemes) → IsUtf8 text → Reached text s → IsCharBoundary text s → Lexes (Lex text) s ls → Lexes (Led text) s ls
+  led s (last x) u r b l = (l, r, b)
+  led s (next x ls) u r b l = ((l.0, r, b), led x.to ls u (reached_next r l.0.0) (lexeme_between u b l.0).1 l.1)
 
   -- A literal as a target.
   pub record Targeted (f : Flags) (l : Label) (cs ds : Slots) (i : ℕ) (ls : Lexemes) (j : ℕ) (rest : Lexemes) : Type 0 where
     pub ended : Each (Ended text) (rests_in cs)
     pub takes : Each (Open text) (rests_in cs) → Takes rule (such (at ArrayTarget f) always) end (tree (relabelled array_assignment_target l) ds end) i ls end j rest
 
-  pub literal_target : {f : Flags} {l : Label} {cs : Slots} (ds : Slots) {i j : ℕ} {ls rest : Lexemes} → is_array l.kind ≡ true → elements_in cs ≡ Some ds → Reached text i → Lexes (Lex text) i ls → Takes rule (such (at LeftHandSide f) always) end (tree l cs end) i ls end j rest → Targeted f l cs ds i ls j rest
+  pub literal_target : {f : Flags} {l : Label} {cs : Slots} (ds : Slots) {i j : ℕ} {ls rest : Lexemes} → is_array l.kind ≡ true → elements_in cs ≡ Some ds → IsUtf8 text → Reached text i → IsCharBoundary text i → Lexes (Lex text) i ls → Takes rule (such (at LeftHandSide f) always) end (tree l cs end) i ls end j rest → Targeted f l cs ds i ls j rest
   unfolding rule rule_of
-  literal_target {f} {l} {cs} ds h e r m d = go (array_shape {f = f} h d) m r
+  literal_target {f} {l} {cs} ds h e u r b m d = go (array_shape {f = f} h d) m r b
     where
-      go : {l : Label} {i j : ℕ} {ls rest : Lexemes} → Takes rule (array_line f) end (tree l cs end) i ls end j rest → Lexes (Lex text) i ls → Reached text i → Targeted f l cs ds i ls j rest
-      go (is_node (is_seq (is_lexeme {x = x} {ls = more} q) d)) m r =
-          let v = converts cs f x.to _ more _ ds (led x.to more (reached_next r m.0.0) m.1) d e in
+      go : {l : Label} {i j : ℕ} {ls rest : Lexemes} → Takes rule (array_line f) end (tree l cs end) i ls end j rest → Lexes (Lex text) i ls → Reached text i → IsCharBoundary text i → Targeted f l cs ds i ls j rest
+      go (is_node (is_seq (is_lexeme {x = x} {ls = more} q) d)) m r b =
+          let v = converts cs f x.to _ more _ ds (led x.to more u (reached_next r m.0.0) (lexeme_between u b m.0).1 m.1) d e in
           record { ended = v.ended; takes = λ o. is_such (is_node (is_seq (is_lexeme q) (v.takes o))) refl }

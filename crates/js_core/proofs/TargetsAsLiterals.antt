@@ -15,12 +15,12 @@ use Rattle.js_grammar.specs.Table.{rule, rule_of}
 use Rattle.js_grammar.proofs.Behind.{lexed_behind}
 use Rattle.js_grammar.proofs.Calculus.{label_is, slots_are}
 use Rattle.js_core.specs.Lexemes.{Lex}
-use Rattle.js_core.specs.Targets.{Each, is_elision, is_spread, is_initialised, is_array, is_array_target, is_target, is_parens, target_in, target_of, relabelled, array_tree, slot_of, rest_slot, followed, before_all, elements_in, rests_of, rests_in}
+use Rattle.js_core.specs.Targets.{Each, Closed, is_elision, is_spread, is_initialised, is_array, is_array_target, is_target, is_parens, target_in, target_of, relabelled, array_tree, slot_of, rest_slot, followed, before_all, elements_in, rests_of, rests_in}
 use Rattle.js_core.proofs.ArrayElements.{gap_label}
 use Rattle.js_core.proofs.ArrayTargets.{target_step, target_last, literal_step, literal_last, object_dead, no_other}
 use Rattle.js_core.proofs.Dead.{all_read, none}
 use Rattle.js_core.proofs.FreeOfIn.{any_in}
-use Rattle.js_core.proofs.LiteralsAsTargets.{Closed, all_of, rest_before, array_before, simple_before, element_before}
+use Rattle.js_core.proofs.LiteralsAsTargets.{all_of, rest_before, array_before, simple_before, element_before}
 use Rattle.js_core.proofs.Targets.{by_brackets, by_primary, of_assignment, target_left_hand_side}
 
 kind_is : {k : Kind} (x : Lexeme) → IsTrue (seen (is k) x) → x.kind ≡ k

@@ -1,7 +1,10 @@
 -- The simple target that an expression stands for (ECMA-262, 8.6.4): a name or a member, in parentheses or not; links of an optional chain stand in a node of their own. A target has no node for its parentheses.
-use Rattle.std.specs.Prelude.{ℕ, ◌≤◌, ◌<◌, ◌⊎◌, Bool, true, false, cond, ◌&&◌, ◌||◌, Option, Some, None, List, ◌≡◌, [], ◌∷◌, ◌++◌, length}
-use Rattle.js_base.specs.declared.kind.Kind.TheVariants.{Eq}
+use Rattle.std.specs.Prelude.{ℕ, ◌≤◌, ◌<◌, ◌⊎◌, Bool, true, false, cond, ◌&&◌, ◌||◌, Option, Some, None, List, ◌≡◌, [], ◌∷◌, ◌++◌, length, IsCharBoundary}
+use Rattle.js_base.specs.declared.kind.Kind.TheVariants.{Eq, Comma, RBrack}
 use Rattle.js_base.specs.Kinds.{same_kind}
+use Rattle.js_grammar.specs.Grammar.{Lexeme}
+use Rattle.js_grammar.specs.LexicalFaults.{Reached}
+use Rattle.js_core.specs.Lexemes.{Lex}
 use Rattle.js_tree.specs.declared.id.NodeId.{NodeId}
 use Rattle.js_tree.specs.Nodes.{Node, label}
 use Rattle.js_tree.specs.Holding.{Holds, Stands, StandsAll, Keeps, Made, AreDistinct}
@@ -137,6 +140,31 @@ rests_of l rs = cond (is_spread l.kind) (l.span.to ∷ rs) (cond (is_array l.kin
 abbrev pub rests_in : Slots → List ℕ
 rests_in (tree l cs us) = rests_of l (rests_in cs) ++ rests_in us
 rests_in _ = []
+
+-- ---- what stands behind a rest
+
+-- no comma
+abbrev pub Open : List ℕ → ℕ → Type 0
+Open text e = (y : Lexeme) → Lex text e y → y.kind ≡ Comma → ⊥
+
+-- the closing bracket
+pub record Closed (text : List ℕ) (e : ℕ) : Type 0 where
+  pub bracket : Lexeme
+  pub stands : Lex text e bracket
+  pub is : bracket.kind ≡ RBrack
+
+-- a comma, and behind it the closing bracket
+pub record Followed (text : List ℕ) (e : ℕ) : Type 0 where
+  pub comma : Lexeme
+  pub stands : Lex text e comma
+  pub is : comma.kind ≡ Comma
+  pub behind : Closed text comma.to
+
+-- Lexemes lead there, and one of the two stands behind.
+pub record Ended (text : List ℕ) (e : ℕ) : Type 0 where
+  pub reached : Reached text e
+  pub between : IsCharBoundary text e
+  pub either : Closed text e ⊎ Followed text e
 
 -- ---- nodes of array targets
 

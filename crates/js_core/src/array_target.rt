@@ -1,6 +1,6 @@
 //! Array literals read as array targets (ECMA-262, section 13.15.5).
 
-ghost use Rattle.std.specs.Prelude.{◌≡◌, ◌&&◌, IfOk, List, [], ◌∷◌, Some, None, false, cond};
+ghost use Rattle.std.specs.Prelude.{◌≡◌, ◌≤◌, ◌&&◌, IfOk, List, [], ◌∷◌, Some, None, false, cond};
 ghost use Rattle.std.specs.Option.{option_map};
 ghost use Rattle.js_grammar.specs.Trees.{assignment_target_with_default};
 ghost use Rattle.js_tree.specs.declared.kind.NodeKind.TheVariants as node;
@@ -8,12 +8,17 @@ ghost use Rattle.js_tree.specs.declared.op.Op.TheVariants as op;
 ghost use Rattle.js_core.specs.Moves.{plain_label};
 ghost use Rattle.js_tree.specs.Labels.{kind_of, op_of};
 ghost use Rattle.js_tree.specs.Nodes.{label, node_at};
-ghost use Rattle.js_core.specs.Targets.{Converted, OfNode, Stood, array_tree, element_slot, elements_in, one_node, one_slot, relabelled, rest_slot, rests_in, rests_of, slot_of, target_by, Noded};
+ghost use Rattle.js_base.specs.declared.kind.Kind.TheVariants.{Eq};
+ghost use Rattle.js_core.specs.Rests.{ArrayRead, RestTold, RestsTold, TakesTarget};
+ghost use Rattle.js_core.specs.States.{Standing};
+ghost use Rattle.js_core.specs.Targets.{Converted, Each, Ended, OfNode, Stood, array_tree, element_slot, elements_in, one_node, one_slot, relabelled, rest_slot, rests_in, rests_of, slot_of, target_by, Noded};
 ghost use Rattle.js_core.specs.Targets as target;
 
-use crate::cover::{is_array, only_child, simple_target};
+use crate::cover::{is_array, kept_so_far, only_child, refuse_target, simple_target};
 use crate::nodes::no_flags;
-use js_base::{AssignmentOperator, NoMemory, Span};
+use js_base::{AssignmentOperator, Diagnostic, DiagnosticKind, Kind, NoMemory, Span};
+use js_cursor::{ParserImpl, Stop};
+use js_lex::ParserConfig;
 use js_tree::{NodeId, NodeKind, Op, ParserAstBuilder};
 use std::alloc::Global;
 
@@ -92,7 +97,7 @@ fn is_initialised(ast: &ParserAstBuilder, id: NodeId) -> bool
 /// The node of the array target that an array literal stands for; none where it stands for none. The ends of its rests
 /// are noted.
 #[cycle(targets)]
-pub fn convert_array(
+fn convert_array(
     alloc: Global,
     ast: &mut ParserAstBuilder,
     id: NodeId,
@@ -244,4 +249,77 @@ fn convert_target(
         return convert_array(alloc, ast, id, rests);
     }
     Ok(simple_target(ast, id))
+}
+
+/// The node of the array target that an array literal of a parser's nodes stands for; none where it stands for none.
+fn convert<C: ParserConfig>(
+    p: &mut ParserImpl<'_, C>,
+    id: NodeId,
+    rests: &mut Vec<u32>,
+) -> Result<Option<NodeId>, NoMemory>
+    requires { Stood p.old.nodes id }
+    ensures stays { IfOk result (λ _. p.new ≡ record p.old { nodes = p.new.nodes }) }
+    ensures found { IfOk result (λ found. OfNode p.old.nodes id (λ l cs rs. Converted p.old.nodes p.new.nodes rs rests.old.items rests.new.items (rests_in cs) (one_node found) (slot_of (array_tree l (elements_in cs))))) }
+{
+    convert_array(p.alloc, &mut p.ast, id, rests)
+}
+
+/// Tells of a comma behind a rest that ends at a place (ECMA-262, section 13.15.5).
+fn tell_comma<C: ParserConfig>(p: &mut ParserImpl<'_, C>, place: u32) -> Result<(), NoMemory>
+    requires at { Standing p.old }
+    requires ended { Ended p.old.text place }
+    ensures { IfOk result (λ _. RestTold place p.old p.new) }
+{
+    let next = p.lexer.token_behind(place)?;
+    if let Kind::Comma = next.kind() {
+        p.error(Diagnostic {
+            kind: DiagnosticKind::RestElementTrailingComma,
+            span: next.span(),
+            first: None,
+            second: None,
+        })?;
+    }
+    Ok(())
+}
+
+/// Tells of each comma behind rests that end at these places.
+fn tell_commas<C: ParserConfig>(
+    p: &mut ParserImpl<'_, C>,
+    places: &Vec<u32>,
+) -> Result<(), NoMemory>
+    requires at { Standing p.old }
+    requires ended { Each (Ended p.old.text) places.now.items }
+    ensures { IfOk result (λ _. RestsTold places.now.items p.old p.new) }
+{
+    let mut next = 0;
+    'places: while next < places.len() {
+        tell_comma(p, places[next])?;
+        next += 1;
+    }
+    Ok(())
+}
+
+/// The target that an array literal is, which was read from a place on. Where a diagnostic was kept since, when there were
+/// so many, that is enough, whatever is wrong with it.
+pub fn array_target<C: ParserConfig>(
+    p: &mut ParserImpl<'_, C>,
+    start: u32,
+    id: NodeId,
+    kept: usize,
+) -> Result<NodeId, Stop>
+    requires at { Standing p.old }
+    requires start { start ≤ p.old.prev_token_end }
+    requires whole { p.old.cut ≡ false }
+    requires equals { p.old.token.kind ≡ Eq }
+    requires read { ArrayRead start id kept p.old }
+    ensures { TakesTarget start id kept p.old p.new result }
+{
+    let mut rests = Vec::new(p.alloc);
+    let Some(target) = convert(p, id, &mut rests)? else {
+        return Err(refuse_target(p, start, kept));
+    };
+    if kept_so_far(p) == kept {
+        tell_commas(p, &rests)?;
+    }
+    Ok(target)
 }
