@@ -39,6 +39,7 @@ pub mod ReusedNodes
 pub mod ConvertedNodes
 pub mod RestsTold
 pub mod ArraysConverted
+pub mod ArrayAnswers
 pub mod ArraysBeforeSigns
 pub mod Updates
 pub mod Refusals
