@@ -1,5 +1,5 @@
 -- Answers of assignments to array targets (ECMA-262, 13.15.5).
-use Rattle.std.proofs.Common.{ℕ, ◌≡◌, ◌≤◌, ◌<◌, ◌⊎◌, inl, inr, List, [], ◌∷◌, ◌++◌, length, Bool, true, false, not, ◌&&◌, ◌||◌, IsTrue, Option, Some, None, refl, sym, ap, subst, arith, ◌∙◌, append-nil}
+use Rattle.std.proofs.Common.{ℕ, ◌≡◌, ◌≤◌, ◌<◌, ◌⊎◌, inl, inr, List, [], ◌∷◌, ◌++◌, ◌+◌, ◌-◌, length, Bool, true, false, not, ◌&&◌, ◌||◌, IsTrue, Option, Some, None, refl, sym, ap, subst, arith, ◌∙◌, append-nil}
 use Rattle.std.specs.Prelude.{IsCharBoundary, IsUtf8}
 use Rattle.std.proofs.lemmas.Bool.{false≢true, and_parts, and_from}
 use Rattle.js_base.specs.declared.diagnostic.Diagnostic.{Diagnostic}
@@ -35,6 +35,7 @@ use Rattle.js_cursor.specs.declared.stop.Stop.{Stop}
 use Rattle.js_core.specs.Answers.{Answer, Grown, Numbered, Outcome, Stops, Stretch, Underived, Verdict, clean, unclean}
 use Rattle.js_core.specs.Lexemes.{Lex, Walked, spot}
 use Rattle.js_core.specs.Moves.{Moved, MadeHere, plain_label}
+use Rattle.js_core.specs.Nesting.{room}
 use Rattle.js_core.specs.Rests.{ArrayRead, Refused, RestsTold, TargetTaken, assigns_next, no_target_at}
 use Rattle.js_core.specs.States.{At, Same, Standing}
 use Rattle.js_core.specs.Targets.{Each, Open, Ended, IsIn, Reused, Slotted, Converts, Converted, converts, refuses, OfNode, is_array, relabelled, array_tree, slot_of, one_node, elements_in, rests_in}
@@ -58,6 +59,10 @@ use Rattle.js_core.proofs.Tight.{read_plain}
 use Rattle.js_core.proofs.Targets.{of_short}
 use Rattle.js_core.proofs.Verdicts.{and_then, either_way, grown_both, grown_then, verdict_of}
 use Rattle.js_core.proofs.Verdicts.{after as grown_behind}
+
+-- as much is left where the place is the same
+pub room_same : {text : List ℕ} {f g : Flags} {p q : Parser} → At text f p → At text g q → q.prev_token_end ≡ p.prev_token_end → room q ≡ room p
+room_same a b e = λ i. length ((b.text_is ∙ sym a.text_is) i) + 1 - e i
 
 -- ---- the paths
 

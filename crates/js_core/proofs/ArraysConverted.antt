@@ -88,17 +88,19 @@ module _ {text : List ℕ} {f : Flags} (w : f.wide ≡ false) {s s' : ℕ} {l : 
   there {a} {bs} {vs} {k} {ls} {rest} m d q =
       let x = sourced text f w {ks = end} {us = vs} m d in
       let y = z.goes.only (tree x.label x.slots vs) vs k ls rest m x.takes (sign_admitted f x.label x.slots vs (here rest) x.array q) in
-      let e = ends y.4 in
-      (y.0, record {
-        target = x.target ∙ ap (relabelled array_assignment_target) (label_is y.2);
-        covers = sym (ap elements_in (slots_are y.2)) ∙ x.covers;
-        opened = subst (λ (ds : Slots). Each (Open text) (rests_in ds)) (slots_are y.2) x.opened;
-        behind = y.1;
-        same = e.0;
-        lexed = y.3;
-        takes = y.4;
-        list = y.5;
-      })
+      let e = ends y.4 in (
+        y.0,
+        record {
+          target = x.target ∙ ap (relabelled array_assignment_target) (label_is y.2);
+          covers = sym (ap elements_in (slots_are y.2)) ∙ x.covers;
+          opened = subst (λ (ds : Slots). Each (Open text) (rests_in ds)) (slots_are y.2) x.opened;
+          behind = y.1;
+          same = e.0;
+          lexed = y.3;
+          takes = y.4;
+          list = y.5;
+        },
+      )
 
   -- none stands there, where the literal is converted to none, or a comma stands behind a rest
   pub no_target_there : (elements_in cs ≡ None) ⊎ (Each (Open text) (rests_in cs) → ⊥) → Fails rule (Lex text) signs end (such (at ArrayTarget f) always) s

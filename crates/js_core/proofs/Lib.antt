@@ -40,6 +40,7 @@ pub mod ConvertedNodes
 pub mod RestsTold
 pub mod ArraysConverted
 pub mod ArrayAnswers
+pub mod TargetsTaken
 pub mod ArraysBeforeSigns
 pub mod Updates
 pub mod Refusals

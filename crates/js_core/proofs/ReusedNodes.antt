@@ -24,7 +24,7 @@ pub in_right : (rs ss : List ℕ) (r : ℕ) → IsIn ss r → IsIn (rs ++ ss) r
 in_right [] ss r h = h
 in_right (q ∷ rs) ss r h = inr (in_right rs ss r h)
 
-below_in : (lo n : ℕ) (rs : List ℕ) (r : ℕ) → AreWithin lo n rs → IsIn rs r → (lo ≤ r) × (r < n)
+pub below_in : (lo n : ℕ) (rs : List ℕ) (r : ℕ) → AreWithin lo n rs → IsIn rs r → (lo ≤ r) × (r < n)
 below_in lo n [] r w h = absurd h
 below_in lo n (q ∷ rs) r w (inl e) = (subst (λ (v : ℕ). lo ≤ v) e w.0, subst (λ (v : ℕ). v < n) e w.1)
 below_in lo n (q ∷ rs) r w (inr h) = below_in lo n rs r w.2 h

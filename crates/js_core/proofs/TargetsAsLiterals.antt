@@ -140,18 +140,18 @@ module _ (text : List ℕ) where
 
   array_bare : (f : Flags) {ts us : Slots} {i j : ℕ} {ls rest : Lexemes} → Literal f ts us i ls j rest → Bare f ts us i ls j rest
   array_bare f x = record {
-      source = record {
-        label = x.label;
-        slots = x.slots;
-        target = relabelled array_assignment_target x.label;
-        inside = x.inside;
-        is_tree = x.is_tree;
-        derived = raised f (by_primary x.derived);
-        covers = λ vs. array_kind x.label.kind x.label.op x.label.flags x.label.span x.slots (elements_in x.slots) vs x.array ∙ ap (λ (r : Option Slots). array_before x.label r vs) x.covers;
-        closed = subst (λ (rs : List ℕ). Each (Closed text) rs) (sym (array_rests x.label.kind x.label.op x.label.flags x.label.span (rests_in x.slots) x.array)) x.closed;
-      };
-      is_target' = or_right (is_target array_assignment_target) _ refl;
-    }
+    source = record {
+      label = x.label;
+      slots = x.slots;
+      target = relabelled array_assignment_target x.label;
+      inside = x.inside;
+      is_tree = x.is_tree;
+      derived = raised f (by_primary x.derived);
+      covers = λ vs. array_kind x.label.kind x.label.op x.label.flags x.label.span x.slots (elements_in x.slots) vs x.array ∙ ap (λ (r : Option Slots). array_before x.label r vs) x.covers;
+      closed = subst (λ (rs : List ℕ). Each (Closed text) rs) (sym (array_rests x.label.kind x.label.op x.label.flags x.label.span (rests_in x.slots) x.array)) x.closed;
+    };
+    is_target' = or_right (is_target array_assignment_target) _ refl;
+  }
 
   as_argument : (f : Flags) {ts us : Slots} {i j : ℕ} {ls rest : Lexemes} → Source (at Assignment (plus_in f)) ts us i ls j rest → Source (at Argument f) ts us i ls j rest
   unfolding rule rule_of
@@ -164,15 +164,15 @@ module _ (text : List ℕ) where
   with_initialiser : (f : Flags) {cs us : Slots} {i j : ℕ} {ls rest : Lexemes} → Takes rule (symbol Target f ▸ tok Eq ▸ symbol Assignment (plus_in f)) end cs i ls end j rest → Source (at Assignment (plus_in f)) (tree (record { kind = assignment_target_with_default; op = no_op; flags = 0; span = record { from = (here ls).from; to = j } }) cs us) us i ls j rest
   unfolding rule rule_of
   with_initialiser f {cs} {us} {i} {j} {ls} {rest} d = record {
-      label = record { kind = assignment_expression; op = of Eq; flags = 0; span = record { from = (here ls).from; to = j } };
-      slots = cs;
-      target = record { kind = assignment_target_with_default; op = no_op; flags = 0; span = record { from = (here ls).from; to = j } };
-      inside = cs;
-      is_tree = refl;
-      derived = by d;
-      covers = λ vs. refl;
-      closed = tt;
-    }
+    label = record { kind = assignment_expression; op = of Eq; flags = 0; span = record { from = (here ls).from; to = j } };
+    slots = cs;
+    target = record { kind = assignment_target_with_default; op = no_op; flags = 0; span = record { from = (here ls).from; to = j } };
+    inside = cs;
+    is_tree = refl;
+    derived = by d;
+    covers = λ vs. refl;
+    closed = tt;
+  }
     where
       by : {cs : Slots} {i j : ℕ} {ls rest : Lexemes} → Takes rule (symbol Target f ▸ tok Eq ▸ symbol Assignment (plus_in f)) end cs i ls end j rest → Takes rule (rule (at Assignment (plus_in f))) end (tree (record { kind = assignment_expression; op = of Eq; flags = 0; span = record { from = (here ls).from; to = j } }) cs end) i ls end j rest
       by (is_seq (is_such (is_left (is_such d c)) g) e) = is_right (is_right (is_right (is_left (is_left (is_node (is_seq (any_in SimpleTarget f (plus_in f) refl refl (is_such d refl)) e))))))
@@ -187,19 +187,19 @@ module _ (text : List ℕ) where
   -- an element with its comma
   source_item : {f : Flags} {ts us : Slots} {i j : ℕ} {x : Lexeme} {ls rest : Lexemes} → IsTrue (seen (is Comma) x) → Source (at Argument f) ts us i ls j (next x rest) → Sources (symbol Argument f ▸ tok Comma) ts us i ls x.to rest
   source_item {us = us} q x = record {
-      trees = λ vs. tree x.label x.slots vs;
-      derived = λ vs. is_seq (is_such x.derived refl) (is_lexeme q);
-      covers = λ vs h. before_by x.label x.slots vs us _ h (x.covers us ∙ ap Some (sym x.is_tree));
-      closed = λ vs h. all_of (Closed text) (rests_of x.label (rests_in x.slots)) (rests_in vs) x.closed h;
-    }
+    trees = λ vs. tree x.label x.slots vs;
+    derived = λ vs. is_seq (is_such x.derived refl) (is_lexeme q);
+    covers = λ vs h. before_by x.label x.slots vs us _ h (x.covers us ∙ ap Some (sym x.is_tree));
+    closed = λ vs h. all_of (Closed text) (rests_of x.label (rests_in x.slots)) (rests_in vs) x.closed h;
+  }
 
   last_item : {f : Flags} {ts : Slots} {i j : ℕ} {ls rest : Lexemes} → Source (at Argument f) ts end i ls j rest → Last (literal_last f) ts i ls j rest
   last_item x = record {
-      slots = tree x.label x.slots end;
-      derived = is_left (is_such x.derived refl);
-      covers = x.covers end ∙ ap Some (sym x.is_tree);
-      closed = all_of (Closed text) (rests_of x.label (rests_in x.slots)) [] x.closed tt;
-    }
+    slots = tree x.label x.slots end;
+    derived = is_left (is_such x.derived refl);
+    covers = x.covers end ∙ ap Some (sym x.is_tree);
+    closed = all_of (Closed text) (rests_of x.label (rests_in x.slots)) [] x.closed tt;
+  }
 
   -- a rest
   spread_label : Lexeme → ℕ → Label
@@ -211,11 +211,11 @@ module _ (text : List ℕ) where
   rest_last : {f : Flags} {ts : Slots} {i j : ℕ} {x : Lexeme} {ls rest : Lexemes} → IsTrue (seen (is Dot3) x) → Closed text j → Bare f ts end x.to ls j rest → Last (literal_last f) (tree (record { kind = assignment_target_rest; op = no_op; flags = 0; span = record { from = x.from; to = j } }) ts end) i (next x ls) j rest
   unfolding rule rule_of
   rest_last {f} {ts} {i} {j} {x} {ls} {rest} q k b = record {
-      slots = tree (record { kind = spread_element; op = no_op; flags = 0; span = record { from = x.from; to = j } }) (tree y.label y.slots end) end;
-      derived = is_left (is_such (is_right (is_node (is_seq (is_lexeme q) (is_such y.derived refl)))) refl);
-      covers = ap (λ (r : Option Slots). rest_before l r end) (y.covers end) ∙ (rest_by l y.target y.inside b.is_target' ∙ ap (λ (v : Slots). Some (tree (relabelled assignment_target_rest l) v end)) (sym y.is_tree));
-      closed = all_of (Closed text) (j ∷ rests_in (tree y.label y.slots end)) [] (k, all_of (Closed text) (rests_of y.label (rests_in y.slots)) [] y.closed tt) tt;
-    }
+    slots = tree (record { kind = spread_element; op = no_op; flags = 0; span = record { from = x.from; to = j } }) (tree y.label y.slots end) end;
+    derived = is_left (is_such (is_right (is_node (is_seq (is_lexeme q) (is_such y.derived refl)))) refl);
+    covers = ap (λ (r : Option Slots). rest_before l r end) (y.covers end) ∙ (rest_by l y.target y.inside b.is_target' ∙ ap (λ (v : Slots). Some (tree (relabelled assignment_target_rest l) v end)) (sym y.is_tree));
+    closed = all_of (Closed text) (j ∷ rests_in (tree y.label y.slots end)) [] (k, all_of (Closed text) (rests_of y.label (rests_in y.slots)) [] y.closed tt) tt;
+  }
     where
       y : Source (at Assignment (plus_in f)) ts end x.to ls j rest
       y = b.source

@@ -35,11 +35,7 @@ fn make_target(
 }
 
 /// A rest of a target.
-fn make_rest(
-    ast: &mut ParserAstBuilder,
-    span: Span,
-    found: NodeId,
-) -> Result<NodeId, NoMemory>
+fn make_rest(ast: &mut ParserAstBuilder, span: Span, found: NodeId) -> Result<NodeId, NoMemory>
     ensures { IfOk result (λ id. Noded ast.old ast.new (plain_label node.AssignmentTargetRest op.None span) (Some found ∷ []) id) }
 {
     let kind = NodeKind::AssignmentTargetRest;

@@ -21,7 +21,9 @@ use crate::lexemes::{advance, operator_here};
 use crate::nested::Nested;
 use crate::nodes::{make_three, make_two};
 use crate::operators::parse_binary_expression_or_higher;
-use js_base::{AssignmentOperator, Diagnostic, DiagnosticKind, Kind, Span, map_assignment_operator};
+use js_base::{
+    AssignmentOperator, Diagnostic, DiagnosticKind, Kind, Span, map_assignment_operator,
+};
 use js_cursor::{ParserImpl, Stop};
 use js_lex::ParserConfig;
 use js_tree::{NodeId, NodeKind, Op};

@@ -1,6 +1,5 @@
 use Rattle.std.proofs.Common.{◌≡◌, ◌+◌, ◌<◌, refl, sym, ap, arith, length, ◌∙◌}
 use Rattle.std.proofs.lemmas.Option.{slice_get_read}
-use Rattle.js_core.proofs.ArrayAnswers.{array_answers}
 use Rattle.js_core.proofs.Moving.{standing}
 use Rattle.js_core.proofs.RestsTold.{next_place, places_begin, places_next}
 use Rattle.js_core.proofs.array_target.tell_commas.Goals as goal
