@@ -35,16 +35,16 @@ pub record Arrayed (f : Flags) (i : ℕ) (ls : Lexemes) (j : ℕ) (rest : Lexeme
   pub derived : Takes rule (rule (at Primary f)) end (tree label slots end) i ls end j rest
 
 -- the items of a target, and of a literal
-abbrev target_step : Flags → G
+abbrev pub target_step : Flags → G
 target_step f = empty_slot ▸ tok Comma ◇ symbol TargetElement f ▸ tok Comma
 
-abbrev target_last : Flags → G
+abbrev pub target_last : Flags → G
 target_last f = symbol TargetElement f ◇ rest_of f (mk assignment_target_rest (tok Dot3 ▸ symbol Target f)) ◇ nothing
 
-abbrev literal_step : Flags → G
+abbrev pub literal_step : Flags → G
 literal_step f = mk elision (tok Comma) ◇ symbol Argument f ▸ tok Comma
 
-abbrev literal_last : Flags → G
+abbrev pub literal_last : Flags → G
 literal_last f = symbol Argument f ◇ never ◇ nothing
 
 such_of : {n : Symbol} {l : Label} {cs us : Slots} {i j : ℕ} {ls rest : Lexemes} → Takes rule (rule n) end (tree l cs end) i ls end j rest → Takes rule (such n always) end (tree l cs us) i ls us j rest
@@ -100,7 +100,7 @@ module _ (f : Flags) (w : f.wide ≡ false) where
       go false h c = false≢true (sym w ∙ c)
 
   -- in targets that aren't wide no other operator gives a default
-  no_other : {ks ts us : Slots} {i j : ℕ} {ls rest : Lexemes} (ls' : List Kind) → never_eq ls' ≡ true → Takes rule (branches ls' (λ o. when (same_kind Eq o || f.wide) (with_default f o))) ks ts i ls us j rest → ⊥
+  pub no_other : {ks ts us : Slots} {i j : ℕ} {ls rest : Lexemes} (ls' : List Kind) → never_eq ls' ≡ true → Takes rule (branches ls' (λ o. when (same_kind Eq o || f.wide) (with_default f o))) ks ts i ls us j rest → ⊥
   no_other [] h d = elim d [ ]
   no_other (k ∷ []) h (is_when c d) = narrow k (both_of h).0 c
   no_other (k ∷ j ∷ ks) h (is_left (is_when c d)) = narrow k (both_of h).0 c

@@ -69,6 +69,10 @@ record Literal (f : Flags) (ks us : Slots) (i : ℕ) (ls : Lexemes) (j : ℕ) (r
   array : is_array label.kind ≡ true
   takes : Takes rule (such (at Short f) always) ks (tree label slots us) i ls us j rest
 
+-- before an assignment operator it may stand
+pub array_before_a_sign : (f : Flags) (l : Label) (cs us : Slots) → is_array l.kind ≡ true → (y : Lexeme) → IsTrue (seen signs y) → Admits (after (at Short f)) (tree l cs us) y
+array_before_a_sign f l cs us h y q = admits (at Short f) (tree l cs us) y (subst (λ (r : Row). IsTrue (seen (looser 4 f.in_ r) y)) (sym (array_row l.kind l.op l.flags l.span cs h)) (covered signs (looser 4 f.in_ after_expression) (signs_follow f.in_) y.kind y.newline y.escaped q))
+
 module _ {f : Flags} (w : f.wide ≡ false) where
   literal : {ks ts us vs : Slots} {i j : ℕ} {ls rest : Lexemes} → Takes rule (symbol ArrayTarget f) ks ts i ls us j rest → AllRead ls → Literal f ks vs i ls j rest
   literal {ks} {vs = vs} (is_such d h) c = let x = array_up f w d c in record { label = x.label; slots = x.slots; array = x.array; takes = anew ((of_short f).up (by_primary x.derived)) }
@@ -78,7 +82,7 @@ module _ {f : Flags} (w : f.wide ≡ false) where
 
   -- before an assignment operator it may stand
   before_a_sign : {ks us : Slots} {i j : ℕ} {ls rest : Lexemes} (x : Literal f ks us i ls j rest) → (y : Lexeme) → IsTrue (seen signs y) → Admits (after (at Short f)) (tree x.label x.slots us) y
-  before_a_sign {us = us} x y q = admits (at Short f) (tree x.label x.slots us) y (subst (λ (r : Row). IsTrue (seen (looser 4 f.in_ r) y)) (sym (array_row x.label.kind x.label.op x.label.flags x.label.span x.slots x.array)) (covered signs (looser 4 f.in_ after_expression) (signs_follow f.in_) y.kind y.newline y.escaped q))
+  before_a_sign {us = us} x y q = array_before_a_sign f x.label x.slots us x.array y q
 
   -- the lexemes of another tree are no array target
   pub no_array_there : {text : List ℕ} {s s' : ℕ} {l : Label} {cs : Slots} {pass : Lexemes → Lexemes} → Stretch text (after (at Short f)) (such (at Short f) always) s nothing s' (tree l cs) pass → is_array l.kind ≡ false → {ts : Slots} {j : ℕ} {ls : Lexemes} (y : Lexeme) → Lexes (Lex text) s ls → IsTrue (seen signs y) → Takes rule (symbol ArrayTarget f) end ts s ls end j (last y) → ⊥

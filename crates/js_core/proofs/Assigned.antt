@@ -115,7 +115,7 @@ unfolding covers
 arrow_passes = refl
 
 -- where no arrow function is derived
-to_parts : {text : List ℕ} (f : Flags) (s : ℕ) → Underived text (at Arrow' f) s → Goes rule (Lex text) (after (at Assignment f)) end (rule (at Assignment f)) s (alt (such (at Conditional f) always) (alt (branches assign_operators (assign_part f)) (array_part f))) s (λ us. us) (still 0)
+pub to_parts : {text : List ℕ} (f : Flags) (s : ℕ) → Underived text (at Arrow' f) s → Goes rule (Lex text) (after (at Assignment f)) end (rule (at Assignment f)) s (alt (such (at Conditional f) always) (alt (branches assign_operators (assign_part f)) (array_part f))) s (λ us. us) (still 0)
 to_parts f s n = to_choice f s ▹ both stay (right (weaken_fails_on n (same_read (at Assignment f) (at Arrow' f) arrow_passes refl)))
 
 assign_follows : (b : Bool) → covers an_assign (looser 4 b after_expression) ≡ true

@@ -91,7 +91,7 @@ inside_second f o s = record { ends = λ p cs vs j ls mid d e. go p cs vs d e }
     go : (p : TreeSpan) (cs vs : Slots) {i j : ℕ} {ls mid : Lexemes} → Takes rule (assign_slots f o) end cs i ls end j mid → Admits (after (at Assignment f)) (tree (record { kind = assignment_expression; op = of o; flags = 0; span = p }) cs vs) (here mid) → Admits (second f) cs (here mid)
     go p cs vs (is_seq (is_such a b) (is_seq (is_lexeme c) (is_such d e))) x = x
 
-on_second : (f : Flags) (a : Label) (ds : Slots) (s : ℕ) → On rule (record { base = widest Assignment; by = λ us. by_second f (tree a ds us) }) (after (at Assignment f)) end (such (at Assignment f) always) s
+pub on_second : (f : Flags) (a : Label) (ds : Slots) (s : ℕ) → On rule (record { base = widest Assignment; by = λ us. by_second f (tree a ds us) }) (after (at Assignment f)) end (such (at Assignment f) always) s
 on_second f a ds s = record { admits = λ ts vs k ls rest d e. go ts vs d e }
   where
     go : (ts vs : Slots) {i k : ℕ} {ls rest : Lexemes} → Takes rule (such (at Assignment f) always) end ts i ls vs k rest → Admits (record { base = widest Assignment; by = λ us. by_second f (tree a ds us) }) ts (here rest) → Admits (after (at Assignment f)) ts (here rest)
@@ -102,13 +102,13 @@ module _ {text : List ℕ} {f : Flags} {p q : Parser} (x : Answer text f (at Sho
   sign_here : (y : Lexeme) → Lex text q.prev_token_end y → y.kind ≡ q.token.kind
   sign_here y l = sym (told x.at c y l).kind
 
-  all_assign : (y : Lexeme) → Lex text q.prev_token_end y → IsTrue (seen an_assign y)
+  pub all_assign : (y : Lexeme) → Lex text q.prev_token_end y → IsTrue (seen an_assign y)
   all_assign y l = and_from _ _ (subst (λ (k : Kind). one_of_kinds assign_operators k ≡ true) (sym (sign_here y l)) u) (ap not (read_plain y l.1))
 
-  plain_here : q.token.escaped ≡ false
+  pub plain_here : q.token.escaped ≡ false
   plain_here = let z = found x.at c (assigns q.token.kind u).no_end in z.2.escaped ∙ plain_of q.token.kind z.1.word z.0.escaped (subst (λ (v : Kind). z.0.escaped ≡ is_escaped v z.1.word) (sym z.2.kind) z.1.escaped) (assigns q.token.kind u).unescaped
 
-  no_question : one_of_kinds (Question ∷ []) q.token.kind ≡ false
+  pub no_question : one_of_kinds (Question ∷ []) q.token.kind ≡ false
   no_question = other_kind Question q.token.kind (λ e. false≢true (subst (λ (k : Kind). one_of_kinds assign_operators k ≡ true) e u))
 
   -- an array literal before `=` aside
@@ -183,13 +183,13 @@ assign_answers {text} {f} {p} {q} {r} {w} {z} {left} {target} {second} {id} {o} 
 
 -- ---- what is told of a left side that is no target
 
-no_target : (f : Flags) {i j : ℕ} {ls rest : Lexemes} → AllRead ls → ((t : Tree) → Derives rule (at SimpleTarget f) t i ls j rest → ⊥) → ((t : Tree) → Takes rule (symbol ArrayTarget f) end (tree t.label t.slots end) i ls end j rest → ⊥) → (t : Tree) → Derives rule (at Target f) t i ls j rest → ⊥
+pub no_target : (f : Flags) {i j : ℕ} {ls rest : Lexemes} → AllRead ls → ((t : Tree) → Derives rule (at SimpleTarget f) t i ls j rest → ⊥) → ((t : Tree) → Takes rule (symbol ArrayTarget f) end (tree t.label t.slots end) i ls end j rest → ⊥) → (t : Tree) → Derives rule (at Target f) t i ls j rest → ⊥
 unfolding rule rule_of
 no_target f r n m t (is_left (is_such d c)) = n t d
 no_target f r n m t (is_right (is_left d)) = m t d
 no_target f r n m t (is_right (is_right d)) = none d (object_dead f) r
 
-short_follows : (b : Bool) → covers an_assign (looser 4 b after_expression) ≡ true
+pub short_follows : (b : Bool) → covers an_assign (looser 4 b after_expression) ≡ true
 unfolding covers
 short_follows true = refl
 short_follows false = refl

@@ -31,7 +31,16 @@ pub mod FreeOfIn
 pub mod Targets
 pub mod CoveredNodes
 pub mod Covers
+pub mod ArrayElements
 pub mod ArrayTargets
+pub mod LiteralsAsTargets
+pub mod TargetsAsLiterals
+pub mod ReusedNodes
+pub mod ConvertedNodes
+pub mod RestsTold
+pub mod ArraysConverted
+pub mod ArrayAnswers
+pub mod TargetsTaken
 pub mod ArraysBeforeSigns
 pub mod Updates
 pub mod Refusals

@@ -6,14 +6,14 @@ ghost use Rattle.js_grammar.specs.Insertion.{assign_operators};
 ghost use Rattle.js_base.specs.declared.kind.Kind.TheVariants.{Colon, Eq};
 ghost use Rattle.js_grammar.specs.Marks.{Mark};
 ghost use Rattle.js_cursor.specs.Places.{goal};
-ghost use Rattle.js_cursor.specs.declared.stop.Stop.TheVariants.{NoMemory};
 ghost use Rattle.js_grammar.specs.Productions.{at, Assignment};
 ghost use Rattle.js_core.specs.Answers.{Answers};
 ghost use Rattle.js_core.specs.Arrows.{NoArrowHere};
 ghost use Rattle.js_core.specs.Nesting.{CanNest, room};
-ghost use Rattle.js_core.specs.Rests.{AssignsArray, Asked, Passes, ReadsConditional, not_simple_at};
+ghost use Rattle.js_core.specs.Rests.{ArrayRead, AssignsArray, Asked, Passes, ReadsConditional, not_simple_at};
 ghost use Rattle.js_core.specs.States.{Standing};
 
+use crate::array_target::array_target;
 use crate::arrow::{parse_arrow_function_expression, parse_arrow_head};
 use crate::context::assignment_with_in;
 use crate::cover::{cover, is_array_literal, kept_so_far, refuse_target, tell_not_simple};
@@ -21,7 +21,9 @@ use crate::lexemes::{advance, operator_here};
 use crate::nested::Nested;
 use crate::nodes::{make_three, make_two};
 use crate::operators::parse_binary_expression_or_higher;
-use js_base::{Diagnostic, DiagnosticKind, Kind, Span, map_assignment_operator};
+use js_base::{
+    AssignmentOperator, Diagnostic, DiagnosticKind, Kind, Span, map_assignment_operator,
+};
 use js_cursor::{ParserImpl, Stop};
 use js_lex::ParserConfig;
 use js_tree::{NodeId, NodeKind, Op};
@@ -75,8 +77,7 @@ fn parse_assignment_without_arrow<C: ParserConfig, N: Nested<C>>(
 }
 
 /// The operator and the right side of an assignment behind an array literal, which begins at a place, when so many
-/// diagnostics were kept. Array targets (ECMA-262, section 13.15.5) aren't read yet; before another operator than `=`
-/// there is none.
+/// diagnostics were kept. Before another operator than `=` it is no target (ECMA-262, section 13.15.1).
 fn parse_array_assignment<C: ParserConfig, N: Nested<C>>(
     p: &mut ParserImpl<'_, C>,
     nested: &N,
@@ -89,11 +90,12 @@ fn parse_array_assignment<C: ParserConfig, N: Nested<C>>(
     requires start { start ≤ p.old.prev_token_end }
     requires whole { p.old.cut ≡ false }
     requires operator { one_of_kinds assign_operators p.old.token.kind ≡ true }
+    requires read { ArrayRead start left kept p.old }
     requires marked { same_kind Eq p.old.token.kind ≡ false → length p.old.errors ≡ kept → Mark (goal p.old) p.old.text (not_simple_at start p.old.prev_token_end) }
     ensures { AssignsArray start left kept p.old p.new result }
 {
     if p.at(Kind::Eq) {
-        return Err(unread_target());
+        return parse_destructuring_assignment(p, nested, start, left, kept);
     }
     let operator = map_assignment_operator(p.cur_kind());
     tell_not_simple(p, start, kept)?;
@@ -105,11 +107,30 @@ fn parse_array_assignment<C: ParserConfig, N: Nested<C>>(
     Ok(node)
 }
 
-/// What is answered where an array target stands: of it nothing is said yet.
-fn unread_target() -> Stop
-    ensures { result ≡ NoMemory }
+/// The `=` and the right side of an assignment behind an array literal, which begins at a place and is its target
+/// (ECMA-262, section 13.15.5), when so many diagnostics were kept.
+fn parse_destructuring_assignment<C: ParserConfig, N: Nested<C>>(
+    p: &mut ParserImpl<'_, C>,
+    nested: &N,
+    start: u32,
+    left: NodeId,
+    kept: usize,
+) -> Result<NodeId, Stop>
+    requires at { Standing p.old }
+    requires nests { CanNest (N.can nested.now) (room p.old) }
+    requires start { start ≤ p.old.prev_token_end }
+    requires whole { p.old.cut ≡ false }
+    requires equals { p.old.token.kind ≡ Eq }
+    requires read { ArrayRead start left kept p.old }
+    ensures { AssignsArray start left kept p.old p.new result }
 {
-    Stop::NoMemory
+    let target = array_target(p, start, left, kept)?;
+    advance(p)?;
+    let right = nested.assignment(p)?;
+    let span = p.end_span(start);
+    let op = Op::Assignment(AssignmentOperator::Assign);
+    let node = make_two(p, NodeKind::AssignmentExpression, op, span, target, right)?;
+    Ok(node)
 }
 
 /// The branches of a conditional expression behind its test, which begins at a place, or the test alone (ECMA-262,

@@ -1,6 +1,6 @@
 //! Expressions read as targets (ECMA-262, sections 8.6.4 and 13.15).
 
-ghost use Rattle.std.specs.Prelude.{◌≡◌, ◌<◌, ◌≤◌, ℕ, length, List, IfOk};
+ghost use Rattle.std.specs.Prelude.{◌≡◌, ◌<◌, ◌≤◌, ℕ, length, List, [], IfOk};
 ghost use Rattle.js_grammar.specs.Marks.{Mark};
 ghost use Rattle.js_cursor.specs.Places.{IsAt, goal};
 ghost use Rattle.js_core.specs.Rests.{Refused, TellsOnce, no_target_at, not_simple_at};
@@ -9,7 +9,7 @@ ghost use Rattle.js_grammar.specs.Trees.{Label, Slots};
 ghost use Rattle.js_tree.specs.Holding.{Holds};
 ghost use Rattle.js_tree.specs.Labels.{kind_of};
 ghost use Rattle.js_tree.specs.Nodes.{node_at};
-ghost use Rattle.js_core.specs.Targets.{IsTarget, Only, Stood};
+ghost use Rattle.js_core.specs.Targets.{Converted, IsTarget, OfNode, Only, Stood, one_node, slot_of, target_of};
 ghost use Rattle.js_core.specs.Targets as target;
 
 use js_base::{Diagnostic, DiagnosticKind, NoMemory};
@@ -41,7 +41,7 @@ fn is_target(kind: NodeKind) -> bool
 }
 
 /// Whether it is an array literal.
-fn is_array(kind: NodeKind) -> bool
+pub(crate) fn is_array(kind: NodeKind) -> bool
     ensures { result ≡ target.is_array (kind_of kind) }
 {
     match kind {
@@ -67,7 +67,7 @@ pub fn is_array_literal<C: ParserConfig>(p: &ParserImpl<'_, C>, id: NodeId) -> b
 }
 
 /// The one child of a node, if it has one.
-fn only_child(ast: &ParserAstBuilder, id: NodeId) -> Option<NodeId>
+pub(crate) fn only_child(ast: &ParserAstBuilder, id: NodeId) -> Option<NodeId>
     requires { id.0 < length ast.now }
     ensures { Only (node_at ast.now id).children result }
 {
@@ -79,9 +79,10 @@ fn only_child(ast: &ParserAstBuilder, id: NodeId) -> Option<NodeId>
 }
 
 /// The node of the simple target that an expression stands for; none where it is no target (ECMA-262, section 8.6.4).
-fn simple_target(ast: &ParserAstBuilder, id: NodeId) -> Option<NodeId>
+pub(crate) fn simple_target(ast: &ParserAstBuilder, id: NodeId) -> Option<NodeId>
     requires { Stood ast.now id }
-    ensures { (lo hi : ℕ) (l : Label) (cs : Slots) → Holds ast.now lo hi id.0 l cs → IsTarget ast.now lo hi l cs result }
+    ensures node { OfNode ast.now id (λ l cs rs. Converted ast.now ast.now rs [] [] [] (one_node result) (slot_of (target_of l cs))) }
+    ensures tree { (lo hi : ℕ) (l : Label) (cs : Slots) → Holds ast.now lo hi id.0 l cs → IsTarget ast.now lo hi l cs result }
 {
     let kind = ast.kind(id);
     if is_parens(kind) {

@@ -3,6 +3,7 @@
 
 mod arguments;
 mod array;
+mod array_target;
 mod arrow;
 mod assignment;
 mod context;

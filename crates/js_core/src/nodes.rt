@@ -11,7 +11,7 @@ use js_lex::ParserConfig;
 use js_tree::{NodeFlags, NodeId, NodeKind, Op};
 
 /// No flag at all.
-fn no_flags() -> NodeFlags
+pub(crate) fn no_flags() -> NodeFlags
     ensures { number_of result ≡ 0 }
 {
     NodeFlags::default()

@@ -6,7 +6,7 @@ use Rattle.js_base.specs.Kinds.{same_kind}
 use Rattle.js_cursor.specs.Moves.{is_last}
 use Rattle.js_cursor.specs.declared.stop.Stop.{Stop}
 use Rattle.js_core.specs.Answers.{Stops}
-use Rattle.js_core.proofs.ArraysAssigned.{array_assigned, array_stops, no_equals, once_at, once_cut, once_kind, once_place, once_room, once_start, unread}
+use Rattle.js_core.proofs.ArraysAssigned.{array_assigned, array_stops, no_equals, once_at, once_cut, once_kind, once_place, once_room, once_start}
 use Rattle.js_core.proofs.Assigned.{assigns}
 use Rattle.js_core.proofs.Assignments.{row_assign}
 use Rattle.js_core.proofs.Giving.{memory_stops}
@@ -15,7 +15,10 @@ use Rattle.js_core.proofs.Nesting.{nested_room}
 use Rattle.js_core.proofs.assignment.parse_array_assignment.Goals as goal
 
 pub returns-then-at : goal.returns-then-at
-returns-then-at t c = λ text f o a na e k x h. unread _ _ _ c.unread_target.ensures
+returns-then-at t c = c.parse_destructuring_assignment.ensures
+
+pub parse_destructuring_assignment-requires-clause-equals : goal.parse_destructuring_assignment-requires-clause-equals
+parse_destructuring_assignment-requires-clause-equals t c = c.at.ensures.0 c.if-at.true
 
 pub tell_not_simple-requires-clause-marked : goal.tell_not_simple-requires-clause-marked
 tell_not_simple-requires-clause-marked t c = c.requires.marked (no_equals c.at.ensures c.if-at.false)

@@ -59,6 +59,13 @@ parse_array_assignment-requires-clause-whole t c = (c.in_ok-_power.ensures _ _ (
 pub parse_array_assignment-requires-clause-operator : goal.parse_array_assignment-requires-clause-operator
 parse_array_assignment-requires-clause-operator t c = assign_listed c.cur_kind.ensures c.is_assignment_operator.ensures c.if-not-is_assignment_operator.false
 
+pub parse_array_assignment-requires-clause-read : goal.parse_array_assignment-requires-clause-read
+parse_array_assignment-requires-clause-read t c =
+    let y = c.in_ok-left.ensures _ _ c.requires.at in
+    let o = c.in_ok-_power.ensures _ _ y.answer.at in
+    let x = shifted y o in
+    record { text = _; flags = _; first = c.args.p.now; begins = c.requires.at; start_is = c.cur_start-start.ensures; kept_is = c.kept_so_far-kept.ensures; read = x; array = sym (c.is_array_literal.ensures _ _ _ _ x.holds) ∙ c.if-is_array_literal.true }
+
 pub parse_array_assignment-requires-clause-marked : goal.parse_array_assignment-requires-clause-marked
 parse_array_assignment-requires-clause-marked t c = λ n k.
     let y = c.in_ok-left.ensures _ _ c.requires.at in
