@@ -1,4 +1,6 @@
 use Rattle.std.proofs.Common.{◌≡◌, ℕ, List, [], Option, Some, None, length, sym, ap, subst, ◌∙◌}
+use Rattle.js_core.specs.States.{At, flags_of}
+use Rattle.js_core.proofs.Moving.{beside_nodes, standing}
 use Rattle.js_tree.specs.declared.id.NodeId.{NodeId}
 use Rattle.js_cursor.specs.Parsers.{Parser}
 use Rattle.js_core.specs.Rests.{TargetTaken}
@@ -31,3 +33,9 @@ returns g c = λ text f first a s k x h.
       | then-kept_so_far-kept+in_ok-tell_commas w ↦ subst (λ (z : Parser). TargetTaken text f first c.args.p.now z c.in-Some.target) (sym w.p-is) (taken_told a x c.requires.whole c.requires.equals h c.in_ok-target.ensures.stays v w.in_ok-tell_commas.ensures)
       | else-kept_so_far-kept w ↦ subst (λ (z : Parser). TargetTaken text f first c.args.p.now z c.in-Some.target) (sym w.p-is) (taken_kept a x c.requires.whole c.requires.equals h c.in_ok-target.ensures.stays v (λ e. w.if-kept_so_far-kept.false (c.kept_so_far.ensures ∙ (e ∙ sym k))))
     ]
+
+pub refuse_target-requires-clause-at : goal.refuse_target-requires-clause-at
+refuse_target-requires-clause-at g c = standing (subst (λ (z : Parser). At c.args.p.now.text (flags_of c.args.p.now) z) (sym c.in_ok-target.ensures.stays) (beside_nodes c.convert.new.p.nodes c.requires.at))
+
+pub tell_commas-requires-clause-at : goal.tell_commas-requires-clause-at
+tell_commas-requires-clause-at g c = standing (subst (λ (z : Parser). At c.args.p.now.text (flags_of c.args.p.now) z) (sym c.in_ok-target.ensures.stays) (beside_nodes c.convert.new.p.nodes c.requires.at))
