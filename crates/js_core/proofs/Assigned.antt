@@ -1,4 +1,6 @@
 -- Assignments to simple targets (ECMA-262, 13.15), and where none stands.
+use Rattle.js_base.specs.Operators.{row_of as row_in, assignment_operators}
+use Rattle.std.specs.Prelude.{IsSome, is_some}
 use Rattle.std.proofs.Common.{ℕ, ◌≡◌, ◌≤◌, ◌<◌, ◌⊎◌, inl, inr, List, [], ◌∷◌, length, Bool, true, false, not, ◌&&◌, ◌||◌, IsTrue, Option, Some, None, refl, sym, ap, subst, arith, ◌∙◌}
 use Rattle.std.proofs.lemmas.Bool.{false≢true, and_parts, and_from, or_left, or_right}
 use Rattle.js_base.specs.declared.kind.Kind.{Kind}
@@ -61,6 +63,16 @@ assigns k h =
     let a = and_parts (one_of_kinds read_kinds k) _ x.0 in
     let b = and_parts (not (same_kind RAngle k)) _ x.1 in
     record { is_read = a.0; unescaped = negated _ a.1; no_angle = negated _ b.0; no_end = negated _ b.1 }
+
+abbrev has_row : Look
+has_row k w e = is_some (row_in assignment_operators k)
+
+assign_rows : covers is_assign has_row ≡ true
+unfolding covers
+assign_rows = refl
+
+pub assign_some_at : {k l : Kind} → l ≡ k → one_of_kinds assign_operators k ≡ true → IsSome (row_in assignment_operators l)
+assign_some_at {k} e h = subst (λ (j : Kind). IsSome (row_in assignment_operators j)) (sym e) (covered is_assign has_row assign_rows k false false h)
 
 -- ---- one branch of many
 

@@ -7,7 +7,7 @@ use Rattle.js_cursor.specs.Moves.{is_last}
 use Rattle.js_cursor.specs.declared.stop.Stop.{Stop}
 use Rattle.js_core.specs.Answers.{Stops}
 use Rattle.js_core.proofs.ArraysAssigned.{array_assigned, array_stops, no_equals, once_at, once_cut, once_kind, once_place, once_room, once_start}
-use Rattle.js_core.proofs.Assigned.{assigns}
+use Rattle.js_core.proofs.Assigned.{assign_some_at, assigns}
 use Rattle.js_core.proofs.Assignments.{row_assign}
 use Rattle.js_core.proofs.Giving.{memory_stops}
 use Rattle.js_core.proofs.Moving.{standing}
@@ -60,3 +60,6 @@ pub returns : goal.returns
 returns t c = λ text f o a na e k x h.
     let m = c.in_ok-advance.ensures text f (once_at c.in_ok-tell_not_simple.ensures x.answer.at) in
     array_assigned a x.answer c.requires.whole c.requires.operator h (no_equals c.at.ensures c.if-at.false) na k c.in_ok-tell_not_simple.ensures m _ (row_assign c.cur_kind.ensures c.map_assignment_operator-operator.ensures.row) x.holds x.keeps (c.in_ok-right.ensures text f m.at) (c.end_span-span.ensures.start ∙ e) c.end_span-span.ensures.end c.in_ok-node.ensures
+
+pub map_assignment_operator-operator-requires : goal.map_assignment_operator-operator-requires
+map_assignment_operator-operator-requires t c = assign_some_at c.cur_kind.ensures c.requires.operator
