@@ -1,14 +1,17 @@
 -- Each node of a reading lies in the text.
-use Rattle.std.proofs.Common.{ℕ, ◌+◌, ◌≡◌, ◌≤◌, Bool, true, false, not, ◌&&◌, ◌||◌, List, ◌++◌, refl, sym, subst, arith, ◌∙◌, rules}
+use Rattle.std.proofs.Common.{ℕ, ◌+◌, ◌≡◌, ◌≤◌, ◌⊎◌, inl, inr, Bool, true, false, not, ◌&&◌, ◌||◌, List, ◌++◌, Some, refl, sym, subst, arith, ◌∙◌, rules}
 use Rattle.std.specs.Prelude.{IsUtf8, IsCharBoundary}
-use Rattle.std.proofs.lemmas.Bool.{false≢true, and_parts, and_from, or_left}
+use Rattle.std.proofs.lemmas.Bool.{false≢true, and_parts, and_from, or_left, or_right}
 use Rattle.std.proofs.lemmas.Str.{IsCharBoundary-start}
-use Rattle.js_base.specs.Kinds.{one_of_kinds}
+use Rattle.js_base.specs.declared.kind.Kind.{Kind}
+use Rattle.js_base.specs.declared.kind.Kind.TheVariants.{HashbangComment}
+use Rattle.js_base.specs.Kinds.{same_kind, one_of_kinds}
 use Rattle.js_base.specs.Spans.{LiesIn}
 use Rattle.js_grammar.specs.Trees.{NodeKind, function_expression, arrow_function_expression, Op, Span, Label, Slots, end, hole, tree, Tree, append}
-use Rattle.js_grammar.specs.Grammar.{Lexeme, Lexemes, last, next, here, Look, Extent, exact, whole_text, inside, span_of, label_of, never, lexeme, seq, alt, when, many, commas, such, marked, node, ended, keep, ahead, Takes, is_nothing, is_lexeme, is_look, is_text, is_ahead, is_empty_slot, is_seq, is_left, is_right, is_when, is_many, is_commas, is_such, is_marked, is_node, is_ended, is_keep, is_kept}
+use Rattle.js_grammar.specs.Grammar.{Lexeme, Lexemes, last, next, here, Look, seen, Extent, exact, whole_text, inside, span_of, label_of, never, lexeme, seq, alt, when, many, commas, such, marked, node, ended, keep, ahead, Takes, is_nothing, is_lexeme, is_look, is_text, is_ahead, is_empty_slot, is_seq, is_left, is_right, is_when, is_many, is_commas, is_such, is_marked, is_node, is_ended, is_keep, is_kept}
 use Rattle.js_grammar.specs.Lexed.{Passing, Lex as StandsBehind, Lexes}
 use Rattle.js_grammar.specs.LexicalFaults.{behind}
+use Rattle.js_grammar.specs.Lexemes.{LexicalGoal, kind_in, hashbang}
 use Rattle.js_grammar.specs.Longest.{joined}
 use Rattle.js_grammar.specs.Options.{Options}
 use Rattle.js_grammar.specs.Productions.{Flags, G, Name, Symbol, at, with_pife, Program, Primary, Decorator}
@@ -17,7 +20,9 @@ use Rattle.js_grammar.specs.Table.{rule, rule_of}
 use Rattle.js_grammar.proofs.Behind.{lexed_behind}
 use Rattle.js_grammar.proofs.Looks.{apart, not_both}
 use Rattle.js_lex.specs.Places.{Word}
+use Rattle.js_lex.specs.Reading.{LexemeBehind}
 use Rattle.js_lex.proofs.Again.{cancel}
+use Rattle.js_lex.proofs.KindsOfLexemes.{hashbang_is}
 use Rattle.js_lex.proofs.StringPlaces.{front_word}
 use Rattle.js_core.specs.Lexemes.{Faultless, read_kinds}
 use Rattle.js_parser.specs.NodeSpans.{NodeLies, SlotsLie}
@@ -43,9 +48,9 @@ lexeme_lies {text = text} {s = s} {y = y} u b l =
 
 -- ---- lines of the table
 
--- a lexeme of the kinds that are read
+-- a lexeme of the kinds that are read, or a hashbang comment
 abbrev reads : Look
-reads k w e = one_of_kinds read_kinds k && not e
+reads k w e = (one_of_kinds read_kinds k && not e) || same_kind HashbangComment k
 
 abbrev has_lexeme : Name → Bool
 has_lexeme Program = false
@@ -183,29 +188,45 @@ record Passes (text : List ℕ) (g : G) (ks ts us : Slots) (i : ℕ) (ls : Lexem
 stays : {text : List ℕ} {g : G} {ks ts us : Slots} {i : ℕ} {ls : Lexemes} → some_lexeme g ≡ false → IsCharBoundary text i → (SlotsLie text ks → SlotsLie text us → SlotsLie text ts) → Passes text g ks ts us i ls i ls
 stays n b f = record { between = b; onward = omega arith; beyond = λ e. absurd (false≢true (sym n ∙ e)); ahead = omega arith; lie = f }
 
+-- a lexeme of a reading, or a hashbang comment
+abbrev Read : Goal → List ℕ → ℕ → Lexeme → Type 0
+Read goal text s y = Faultless goal text s y ⊎ LexemeBehind hashbang text s y
+
+read_lies : (goal : Goal) {text : List ℕ} {s : ℕ} {y : Lexeme} → IsUtf8 text → IsCharBoundary text s → Read goal text s y → LexemeLies text s y
+read_lies goal u b (inl l) = lexeme_lies u b l.0
+read_lies goal u b (inr h) = lexeme_lies u b h.lex
+
+is_read : (goal : Goal) (text : List ℕ) {s : ℕ} {y : Lexeme} → Read goal text s y → seen reads y ≡ true
+is_read goal text (inl l) = or_left _ _ l.1
+is_read goal text {y = y} (inr h) = or_right (one_of_kinds read_kinds y.kind && not y.escaped) _ (subst (λ (k : Kind). same_kind HashbangComment k ≡ true) (sym (hashbang_is h.lex.word y.kind (subst (λ (g : LexicalGoal). kind_in g h.lex.word h.lex.rest ≡ Some y.kind) h.of_goal h.lex.lexeme.kind))) refl)
+
+all_read : (goal : Goal) (text : List ℕ) (s : ℕ) (ls : Lexemes) → Lexes (Faultless goal text) s ls → Lexes (Read goal text) s ls
+all_read goal text s (last x) l = inl l
+all_read goal text s (next x ls) l = (inl l.0, all_read goal text x.to ls l.1)
+
 module _ (goal : Goal) {text : List ℕ} (u : IsUtf8 text) where
-  first_lies : {i : ℕ} (ls : Lexemes) → IsCharBoundary text i → Lexes (Faultless goal text) i ls → LexemeLies text i (here ls)
-  first_lies (last x) b l = lexeme_lies u b l.0
-  first_lies (next x ls) b l = lexeme_lies u b l.0.0
+  first_lies : {i : ℕ} (ls : Lexemes) → IsCharBoundary text i → Lexes (Read goal text) i ls → LexemeLies text i (here ls)
+  first_lies (last x) b l = read_lies goal u b l
+  first_lies (next x ls) b l = read_lies goal u b l.0
 
   -- no such part is read
-  unread_part : {ks ts us : Slots} {i j : ℕ} {ls rest : Lexemes} (s t : ℕ) (g : G) → fits (inside s t) g ≡ true → Takes rule g ks ts i ls us j rest → Lexes (Faultless goal text) i ls → ⊥
-  unread_part s t (lexeme p) h (is_lexeme {x = x} c) l = not_both p reads h x.kind x.newline x.escaped c l.0.1
+  unread_part : {ks ts us : Slots} {i j : ℕ} {ls rest : Lexemes} (s t : ℕ) (g : G) → fits (inside s t) g ≡ true → Takes rule g ks ts i ls us j rest → Lexes (Read goal text) i ls → ⊥
+  unread_part s t (lexeme p) h (is_lexeme {x = x} c) l = not_both p reads h x.kind x.newline x.escaped c (is_read goal text l.0)
   unread_part s t g h d l = false≢true h
 
-  span_lies : {g : G} {ks ts us : Slots} {i j : ℕ} {ls rest : Lexemes} (e : Extent) → fits e g ≡ true → Takes rule g ks ts i ls us j rest → Passes text g ks ts us i ls j rest → IsCharBoundary text i → Lexes (Faultless goal text) i ls → LiesIn (record { start = (span_of e ls j rest).from; end = (span_of e ls j rest).to }) text
+  span_lies : {g : G} {ks ts us : Slots} {i j : ℕ} {ls rest : Lexemes} (e : Extent) → fits e g ≡ true → Takes rule g ks ts i ls us j rest → Passes text g ks ts us i ls j rest → IsCharBoundary text i → Lexes (Read goal text) i ls → LiesIn (record { start = (span_of e ls j rest).from; end = (span_of e ls j rest).to }) text
   span_lies {ls = ls} exact h d x b l = record { ordered = x.beyond h; starts_whole = (first_lies ls b l).starts_whole; ends_whole = x.between }
-  span_lies {rest = rest} whole_text h d x b l = record { ordered = omega arith; starts_whole = IsCharBoundary-start text u; ends_whole = (first_lies rest x.between (lexed_behind (Faultless goal text) d l)).ends_whole }
+  span_lies {rest = rest} whole_text h d x b l = record { ordered = omega arith; starts_whole = IsCharBoundary-start text u; ends_whole = (first_lies rest x.between (lexed_behind (Read goal text) d l)).ends_whole }
   span_lies {g = g} (inside s t) h d x b l = absurd (unread_part s t g h d l)
 
-  taken : {g : G} {ks ts us : Slots} {i j : ℕ} {ls rest : Lexemes} → Takes rule g ks ts i ls us j rest → fine g ≡ true → Marks g → IsCharBoundary text i → Lexes (Faultless goal text) i ls → Passes text g ks ts us i ls j rest
+  taken : {g : G} {ks ts us : Slots} {i j : ℕ} {ls rest : Lexemes} → Takes rule g ks ts i ls us j rest → fine g ≡ true → Marks g → IsCharBoundary text i → Lexes (Read goal text) i ls → Passes text g ks ts us i ls j rest
   taken is_nothing h m b l = stays refl b (λ k v. v)
   taken (is_lexeme {ls = ls} c) h m b l =
-      let y = lexeme_lies u b l.0.0 in
-      let z = first_lies ls y.ends_whole l.1 in
+      let y = read_lies goal u b l.0 in
+      let w = first_lies ls y.ends_whole l.1 in
       let o = y.ordered in
       let p = y.behind in
-      let q = z.behind in
+      let q = w.behind in
       record { between = y.ends_whole; onward = omega arith; beyond = λ e. o; ahead = omega arith; lie = λ k v. v }
   taken (is_look c) h m b l = stays refl b (λ k v. v)
   taken (is_text c) h m b l = stays refl b (λ k v. v)
@@ -214,7 +235,7 @@ module _ (goal : Goal) {text : List ℕ} (u : IsUtf8 text) where
   taken (is_seq {a = a} {b = c} d e) h m b l =
       let n = and_parts (fine a) (fine c) h in
       let x = taken d n.0 m.0 b l in
-      let y = taken e n.1 m.1 x.between (lexed_behind (Faultless goal text) d l) in
+      let y = taken e n.1 m.1 x.between (lexed_behind (Read goal text) d l) in
       let o = x.onward in
       let p = y.onward in
       let q = x.ahead in
@@ -248,7 +269,7 @@ module _ (goal : Goal) {text : List ℕ} (u : IsUtf8 text) where
       record { between = x.between; onward = x.onward; beyond = x.beyond; ahead = x.ahead; lie = λ k v. (span_lies made.extent n.0 d x b l, x.lie k tt, v) }
   taken (is_ended {cs = cs} {us = us} q d e) h m b l =
       let x = taken d h m b l in
-      let y = taken e refl (tt, tt) x.between (lexed_behind (Faultless goal text) d l) in
+      let y = taken e refl (tt, tt) x.between (lexed_behind (Read goal text) d l) in
       let o = x.onward in
       let p = y.onward in
       let r = x.ahead in
@@ -263,7 +284,7 @@ module _ (goal : Goal) {text : List ℕ} (u : IsUtf8 text) where
   taken (is_keep {a = a} {b = c} d e) h m b l =
       let n = and_parts (fine a) (fine c) h in
       let x = taken d n.0 m.0 b l in
-      let y = taken e n.1 m.1 x.between (lexed_behind (Faultless goal text) d l) in
+      let y = taken e n.1 m.1 x.between (lexed_behind (Read goal text) d l) in
       let o = x.onward in
       let p = y.onward in
       let q = x.ahead in
@@ -279,4 +300,4 @@ module _ (goal : Goal) {text : List ℕ} (u : IsUtf8 text) where
 
 -- All nodes of a reading lie in the text.
 pub reading_lies : {text : List ℕ} {goal : Goal} {o : Options} (t : Tree) → IsUtf8 text → Reading text goal o t → SlotsLie text (tree t.label t.slots end)
-reading_lies {text} {goal} {o} t u r = (taken goal u r.derived (fine_line (at Program (parameters goal o))) (marks_line (at Program (parameters goal o))) (IsCharBoundary-start text u) r.lexed).lie tt tt
+reading_lies {text} {goal} {o} t u r = (taken goal u r.derived (fine_line (at Program (parameters goal o))) (marks_line (at Program (parameters goal o))) (IsCharBoundary-start text u) (all_read goal text 0 r.lexemes r.lexed)).lie tt tt
