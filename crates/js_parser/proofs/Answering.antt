@@ -26,7 +26,7 @@ use Rattle.js_lex.specs.declared.output.LexerOutput.{LexerOutput}
 use Rattle.js_parser.specs.Readings.{HasNoReading, IsOnlyReading, IsMarked, AreOf}
 use Rattle.js_grammar.specs.Options.{Options}
 use Rattle.js_grammar.specs.Settings.{Goal}
-use Rattle.js_parser.specs.Kept.{TellsEach, KeepsRight}
+use Rattle.js_parser.specs.Kept.{TellsRead, KeepsRight}
 use Rattle.js_parser.specs.Parsed.{options_of, IsAnswer, IsOverlong}
 use Rattle.js_parser.specs.Taken.{IsOf, ReadOrNot, ProgramTaken, ProgramRefused, ProgramStops}
 use Rattle.js_cursor.specs.declared.stop.Stop.{Stop}
@@ -92,8 +92,8 @@ taken_answer {text} {s} {o} {asks} {p} {ids} span nodes out kept a b t e l h = r
   lie = lies h.is_of kept out p.lexer.kept.errors e l (faults h.is_of);
   tree = program_tree (record { start = 0; end = p.token.span.end }) h.slots;
   is_tree = subst (λ (v : Span). IsTree nodes (program_tree v h.slots)) (span_is span a b) (t h.slots h.holds);
-  clean = λ z n. (by_found text s o p h.slots out.errors (ap (λ (x : LexerOutput). x.errors) e) (h.outcome n)).0 z;
-  unclean = λ z n. (by_found text s o p h.slots out.errors (ap (λ (x : LexerOutput). x.errors) e) (h.outcome n)).1 z;
+  clean = λ z. (by_found text s o p h.slots out.errors (ap (λ (x : LexerOutput). x.errors) e) h.outcome).0 z;
+  unclean = λ z. (by_found text s o p h.slots out.errors (ap (λ (x : LexerOutput). x.errors) e) h.outcome).1 z;
   ended = λ q z. false≢true q;
   childless = λ q. absurd (false≢true q);
   no_tokens = λ q. absurd (false≢true q);
@@ -103,13 +103,13 @@ taken_answer {text} {s} {o} {asks} {p} {ids} span nodes out kept a b t e l h = r
 pub taken_kept : {text : List ℕ} {s : SourceType} {o : ParseOptions} {asks : Bool} {p : Parser} {ids : List (Option NodeId)} (out kept : LexerOutput) → out ≡ record kept { errors = p.lexer.kept.errors ++ p.errors } → kept ≡ p.lexer.kept → ProgramTaken text s o asks p ids → KeepsRight text (goal_of s) (options_of o) asks out
 taken_kept {text} {s} {o} {asks} {p} out kept e same h = record {
   unasked = λ a. ap (λ (x : LexerOutput). x.tokens) e ∙ (ap (λ (x : LexerOutput). x.tokens) same ∙ h.unasked a);
-  kept = λ z n t r.
+  kept = λ z t r.
       let none = sym (ap (λ (x : LexerOutput). x.errors) e) ∙ z in
-      let k = h.kept n (record { faults = first_empty p.lexer.kept.errors p.errors none; errors = second_empty p.lexer.kept.errors p.errors none }) t r in
+      let k = h.kept (record { faults = first_empty p.lexer.kept.errors p.errors none; errors = second_empty p.lexer.kept.errors p.errors none }) t r in
       record {
         comments = ap (λ (x : LexerOutput). x.comments) e ∙ (ap (λ (x : LexerOutput). x.comments) same ∙ k.comments);
         blanks = ap (λ (x : LexerOutput). x.irregular_whitespaces) e ∙ (ap (λ (x : LexerOutput). x.irregular_whitespaces) same ∙ k.blanks);
-        tokens = λ a. subst (λ (ts : List Token). TellsEach r.lexemes ts) (sym (ap (λ (x : LexerOutput). x.tokens) e ∙ ap (λ (x : LexerOutput). x.tokens) same)) (k.tokens a);
+        tokens = λ a. subst (λ (ts : List Token). TellsRead text (goal_of s) r.lexemes r.lexed ts) (sym (ap (λ (x : LexerOutput). x.tokens) e ∙ ap (λ (x : LexerOutput). x.tokens) same)) (k.tokens a);
       };
 }
 
@@ -136,8 +136,8 @@ refused_answer {text} {s} {o} {p} {ids} ns span nodes told out kept n a b k z t 
   lie = lies h.is_of (record kept { tokens = [] }) out told e (record { comments = l.comments; irregular_whitespaces = l.irregular_whitespaces; tokens = All-nil (λ (d : Token). LiesIn d.span p.lexer.text); errors = l.errors }) are_faults;
   tree = program_tree (record { start = 0; end = length text }) end;
   is_tree = subst (λ (v : Span). IsTree nodes (program_tree v end)) (span_is span a (b ∙ ap (λ (v : List ℕ). length v) h.is_of.text_is)) (childless ns span z t);
-  clean = λ y x. absurd (some y);
-  unclean = λ y x. h.none x;
+  clean = λ y. absurd (some y);
+  unclean = λ y. h.none;
   ended = λ q y. some y;
   childless = λ q. refl;
   no_tokens = λ q. ap (λ (x : LexerOutput). x.tokens) e;
