@@ -27,7 +27,7 @@ use Rattle.js_lex.specs.declared.output.LexerOutput.{LexerOutput}
 use Rattle.js_parser.specs.Readings.{HasNoReading, IsOnlyReading, IsMarked, AreOf}
 use Rattle.js_grammar.specs.Options.{Options}
 use Rattle.js_grammar.specs.Settings.{Goal}
-use Rattle.js_parser.specs.Kept.{TellsEach, KeepsRight}
+use Rattle.js_parser.specs.Kept.{TellsRead, KeepsRight}
 use Rattle.js_parser.specs.Parsed.{options_of, IsAnswer, IsOverlong}
 use Rattle.js_parser.proofs.NodeSpans.{reading_lies}
 use Rattle.js_parser.specs.Taken.{IsOf, ReadOrNot, ProgramTaken, ProgramRefused, ProgramStops}
@@ -103,9 +103,9 @@ taken_answer {text} {s} {o} {asks} {p} {ids} span nodes out kept a b t e l h = r
   tree = program_tree (record { start = 0; end = p.token.span.end }) h.slots;
   is_tree = subst (λ (v : Span). IsTree nodes (program_tree v h.slots)) (span_is span a b) (t h.slots h.holds);
   program_lies = up_to_token h.is_of;
-  inside = λ z n. (reading_lies (program_tree (record { start = 0; end = p.token.span.end }) h.slots) (characters h.is_of) ((by_found text s o p h.slots out.errors (ap (λ (x : LexerOutput). x.errors) e) (h.outcome n)).0 z).reading).1;
-  clean = λ z n. (by_found text s o p h.slots out.errors (ap (λ (x : LexerOutput). x.errors) e) (h.outcome n)).0 z;
-  unclean = λ z n. (by_found text s o p h.slots out.errors (ap (λ (x : LexerOutput). x.errors) e) (h.outcome n)).1 z;
+  inside = λ z. (reading_lies (program_tree (record { start = 0; end = p.token.span.end }) h.slots) (characters h.is_of) ((by_found text s o p h.slots out.errors (ap (λ (x : LexerOutput). x.errors) e) h.outcome).0 z).reading).1;
+  clean = λ z. (by_found text s o p h.slots out.errors (ap (λ (x : LexerOutput). x.errors) e) h.outcome).0 z;
+  unclean = λ z. (by_found text s o p h.slots out.errors (ap (λ (x : LexerOutput). x.errors) e) h.outcome).1 z;
   ended = λ q z. false≢true q;
   childless = λ q. absurd (false≢true q);
   no_tokens = λ q. absurd (false≢true q);
@@ -115,13 +115,13 @@ taken_answer {text} {s} {o} {asks} {p} {ids} span nodes out kept a b t e l h = r
 pub taken_kept : {text : List ℕ} {s : SourceType} {o : ParseOptions} {asks : Bool} {p : Parser} {ids : List (Option NodeId)} (out kept : LexerOutput) → out ≡ record kept { errors = p.lexer.kept.errors ++ p.errors } → kept ≡ p.lexer.kept → ProgramTaken text s o asks p ids → KeepsRight text (goal_of s) (options_of o) asks out
 taken_kept {text} {s} {o} {asks} {p} out kept e same h = record {
   unasked = λ a. ap (λ (x : LexerOutput). x.tokens) e ∙ (ap (λ (x : LexerOutput). x.tokens) same ∙ h.unasked a);
-  kept = λ z n t r.
+  kept = λ z t r.
       let none = sym (ap (λ (x : LexerOutput). x.errors) e) ∙ z in
-      let k = h.kept n (record { faults = first_empty p.lexer.kept.errors p.errors none; errors = second_empty p.lexer.kept.errors p.errors none }) t r in
+      let k = h.kept (record { faults = first_empty p.lexer.kept.errors p.errors none; errors = second_empty p.lexer.kept.errors p.errors none }) t r in
       record {
         comments = ap (λ (x : LexerOutput). x.comments) e ∙ (ap (λ (x : LexerOutput). x.comments) same ∙ k.comments);
         blanks = ap (λ (x : LexerOutput). x.irregular_whitespaces) e ∙ (ap (λ (x : LexerOutput). x.irregular_whitespaces) same ∙ k.blanks);
-        tokens = λ a. subst (λ (ts : List Token). TellsEach r.lexemes ts) (sym (ap (λ (x : LexerOutput). x.tokens) e ∙ ap (λ (x : LexerOutput). x.tokens) same)) (k.tokens a);
+        tokens = λ a. subst (λ (ts : List Token). TellsRead text (goal_of s) r.lexemes r.lexed ts) (sym (ap (λ (x : LexerOutput). x.tokens) e ∙ ap (λ (x : LexerOutput). x.tokens) same)) (k.tokens a);
       };
 }
 
@@ -149,9 +149,9 @@ refused_answer {text} {s} {o} {p} {ids} ns span nodes told out kept n a b k z t 
   tree = program_tree (record { start = 0; end = length text }) end;
   is_tree = subst (λ (v : Span). IsTree nodes (program_tree v end)) (span_is span a (b ∙ ap (λ (v : List ℕ). length v) h.is_of.text_is)) (childless ns span z t);
   program_lies = record { ordered = omega arith; starts_whole = IsCharBoundary-start text (characters h.is_of); ends_whole = IsCharBoundary-end text };
-  inside = λ y x. absurd (some y);
-  clean = λ y x. absurd (some y);
-  unclean = λ y x. h.none x;
+  inside = λ y. absurd (some y);
+  clean = λ y. absurd (some y);
+  unclean = λ y. h.none;
   ended = λ q y. some y;
   childless = λ q. refl;
   no_tokens = λ q. ap (λ (x : LexerOutput). x.tokens) e;

@@ -1,4 +1,6 @@
 pub mod Walks
+pub mod Hashbangs
+pub mod Fronts
 pub mod Readings
 pub mod NodeSpans
 pub mod Answering

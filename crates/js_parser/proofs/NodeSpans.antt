@@ -26,7 +26,7 @@ use Rattle.js_lex.proofs.KindsOfLexemes.{hashbang_is}
 use Rattle.js_lex.proofs.StringPlaces.{front_word}
 use Rattle.js_core.specs.Lexemes.{Faultless, read_kinds}
 use Rattle.js_parser.specs.NodeSpans.{NodeLies, SlotsLie}
-use Rattle.js_parser.specs.Readings.{Reading, parameters}
+use Rattle.js_parser.specs.Readings.{AreRead, from_text_start, behind_a_hashbang, Reading, parameters}
 
 -- ---- lexemes
 
@@ -188,7 +188,7 @@ record Passes (text : List ℕ) (g : G) (ks ts us : Slots) (i : ℕ) (ls : Lexem
 stays : {text : List ℕ} {g : G} {ks ts us : Slots} {i : ℕ} {ls : Lexemes} → some_lexeme g ≡ false → IsCharBoundary text i → (SlotsLie text ks → SlotsLie text us → SlotsLie text ts) → Passes text g ks ts us i ls i ls
 stays n b f = record { between = b; onward = omega arith; beyond = λ e. absurd (false≢true (sym n ∙ e)); ahead = omega arith; lie = f }
 
--- a lexeme of a reading, or a hashbang comment
+-- a lexeme that is read, or a hashbang comment
 abbrev Read : Goal → List ℕ → ℕ → Lexeme → Type 0
 Read goal text s y = Faultless goal text s y ⊎ LexemeBehind hashbang text s y
 
@@ -203,6 +203,10 @@ is_read goal text {y = y} (inr h) = or_right (one_of_kinds read_kinds y.kind && 
 all_read : (goal : Goal) (text : List ℕ) (s : ℕ) (ls : Lexemes) → Lexes (Faultless goal text) s ls → Lexes (Read goal text) s ls
 all_read goal text s (last x) l = inl l
 all_read goal text s (next x ls) l = (inl l.0, all_read goal text x.to ls l.1)
+
+of_reading : (goal : Goal) (text : List ℕ) (ls : Lexemes) → AreRead text goal ls → Lexes (Read goal text) 0 ls
+of_reading goal text ls (from_text_start l) = all_read goal text 0 ls l
+of_reading goal text ls (behind_a_hashbang b) = subst (λ (ks : Lexemes). Lexes (Read goal text) 0 ks) (sym b.is) (inr b.stands, all_read goal text b.comment.to b.others b.lexed)
 
 module _ (goal : Goal) {text : List ℕ} (u : IsUtf8 text) where
   first_lies : {i : ℕ} (ls : Lexemes) → IsCharBoundary text i → Lexes (Read goal text) i ls → LexemeLies text i (here ls)
@@ -300,4 +304,4 @@ module _ (goal : Goal) {text : List ℕ} (u : IsUtf8 text) where
 
 -- All nodes of a reading lie in the text.
 pub reading_lies : {text : List ℕ} {goal : Goal} {o : Options} (t : Tree) → IsUtf8 text → Reading text goal o t → SlotsLie text (tree t.label t.slots end)
-reading_lies {text} {goal} {o} t u r = (taken goal u r.derived (fine_line (at Program (parameters goal o))) (marks_line (at Program (parameters goal o))) (IsCharBoundary-start text u) (all_read goal text 0 r.lexemes r.lexed)).lie tt tt
+reading_lies {text} {goal} {o} t u r = (taken goal u r.derived (fine_line (at Program (parameters goal o))) (marks_line (at Program (parameters goal o))) (IsCharBoundary-start text u) (of_reading goal text r.lexemes r.lexed)).lie tt tt
