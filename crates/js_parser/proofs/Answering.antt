@@ -1,7 +1,7 @@
 -- What a parse answers, from what holds of the parser at its end.
 use Rattle.std.proofs.Common.{Bool, ℕ, ◌≡◌, inl, inr, List, [], ◌∷◌, ◌++◌, length, take, true, false, Option, None, refl, sym, ap, subst, arith, ◌∙◌}
 use Rattle.std.specs.List.{All}
-use Rattle.std.specs.Prelude.{Result, Ok, Err, IfOk}
+use Rattle.std.specs.Prelude.{IsCharBoundary, IsUtf8, Result, Ok, Err, IfOk}
 use Rattle.std.proofs.lemmas.List.Elements.{All-append, All-take, All-weaker, All-nil}
 use Rattle.js_base.specs.declared.diagnostic.Diagnostic.{Diagnostic}
 use Rattle.js_base.specs.declared.diagnostic.DiagnosticKind.TheVariants.{OverlongSource}
@@ -18,6 +18,7 @@ use Rattle.js_tree.proofs.HoldingLemmas.{HoldsAll-none}
 use Rattle.js_cursor.specs.Parsers.{Parser}
 use Rattle.js_cursor.specs.Places.{IsFault}
 use Rattle.std.proofs.lemmas.Bool.{false≢true}
+use Rattle.std.proofs.lemmas.Str.{IsCharBoundary-start, IsCharBoundary-end}
 use Rattle.js_base.specs.Spans.{LiesIn}
 use Rattle.js_base.specs.declared.token.Token.{Token}
 use Rattle.js_lex.specs.Kept.{LieIn}
@@ -26,8 +27,9 @@ use Rattle.js_lex.specs.declared.output.LexerOutput.{LexerOutput}
 use Rattle.js_parser.specs.Readings.{HasNoReading, IsOnlyReading, IsMarked, AreOf}
 use Rattle.js_grammar.specs.Options.{Options}
 use Rattle.js_grammar.specs.Settings.{Goal}
-use Rattle.js_parser.specs.Kept.{TellsEach, KeepsRight}
+use Rattle.js_parser.specs.Kept.{TellsRead, KeepsRight}
 use Rattle.js_parser.specs.Parsed.{options_of, IsAnswer, IsOverlong}
+use Rattle.js_parser.proofs.NodeSpans.{reading_lies}
 use Rattle.js_parser.specs.Taken.{IsOf, ReadOrNot, ProgramTaken, ProgramRefused, ProgramStops}
 use Rattle.js_cursor.specs.declared.stop.Stop.{Stop}
 use Rattle.js_cursor.specs.declared.stop.Stop.TheVariants.{Fatal}
@@ -48,6 +50,14 @@ span_is : (sp : Span) {a b : ℕ} → sp.start ≡ a → sp.end ≡ b → sp ≡
 span_is sp x y = λ i. record { start = x i; end = y i }
 
 module _ {text : List ℕ} {s : SourceType} {p : Parser} (t : IsOf text s p) where
+  -- it is one of characters
+  characters : IsUtf8 text
+  characters = subst IsUtf8 t.text_is t.at.utf8
+
+  -- what stands before the end of the current lexeme lies in it
+  up_to_token : LiesIn (record { start = 0; end = p.token.span.end }) text
+  up_to_token = record { ordered = omega arith; starts_whole = IsCharBoundary-start text characters; ends_whole = subst (λ (w : List ℕ). IsCharBoundary w p.token.span.end) t.text_is t.at.lies.ends_whole }
+
   -- what the lexer and the parser found has its marks
   faults : All (IsFault (goal_of s) text) p.lexer.kept.errors
   faults = subst (λ (w : List ℕ). All (IsFault (goal_of s) w) p.lexer.kept.errors) t.text_is (subst (λ (v : SourceType). All (IsFault (goal_of v) p.text) p.lexer.kept.errors) t.source_type t.at.faulty)
@@ -92,8 +102,10 @@ taken_answer {text} {s} {o} {asks} {p} {ids} span nodes out kept a b t e l h = r
   lie = lies h.is_of kept out p.lexer.kept.errors e l (faults h.is_of);
   tree = program_tree (record { start = 0; end = p.token.span.end }) h.slots;
   is_tree = subst (λ (v : Span). IsTree nodes (program_tree v h.slots)) (span_is span a b) (t h.slots h.holds);
-  clean = λ z n. (by_found text s o p h.slots out.errors (ap (λ (x : LexerOutput). x.errors) e) (h.outcome n)).0 z;
-  unclean = λ z n. (by_found text s o p h.slots out.errors (ap (λ (x : LexerOutput). x.errors) e) (h.outcome n)).1 z;
+  program_lies = up_to_token h.is_of;
+  inside = λ z. (reading_lies (program_tree (record { start = 0; end = p.token.span.end }) h.slots) (characters h.is_of) ((by_found text s o p h.slots out.errors (ap (λ (x : LexerOutput). x.errors) e) h.outcome).0 z).reading).1;
+  clean = λ z. (by_found text s o p h.slots out.errors (ap (λ (x : LexerOutput). x.errors) e) h.outcome).0 z;
+  unclean = λ z. (by_found text s o p h.slots out.errors (ap (λ (x : LexerOutput). x.errors) e) h.outcome).1 z;
   ended = λ q z. false≢true q;
   childless = λ q. absurd (false≢true q);
   no_tokens = λ q. absurd (false≢true q);
@@ -103,13 +115,13 @@ taken_answer {text} {s} {o} {asks} {p} {ids} span nodes out kept a b t e l h = r
 pub taken_kept : {text : List ℕ} {s : SourceType} {o : ParseOptions} {asks : Bool} {p : Parser} {ids : List (Option NodeId)} (out kept : LexerOutput) → out ≡ record kept { errors = p.lexer.kept.errors ++ p.errors } → kept ≡ p.lexer.kept → ProgramTaken text s o asks p ids → KeepsRight text (goal_of s) (options_of o) asks out
 taken_kept {text} {s} {o} {asks} {p} out kept e same h = record {
   unasked = λ a. ap (λ (x : LexerOutput). x.tokens) e ∙ (ap (λ (x : LexerOutput). x.tokens) same ∙ h.unasked a);
-  kept = λ z n t r.
+  kept = λ z t r.
       let none = sym (ap (λ (x : LexerOutput). x.errors) e) ∙ z in
-      let k = h.kept n (record { faults = first_empty p.lexer.kept.errors p.errors none; errors = second_empty p.lexer.kept.errors p.errors none }) t r in
+      let k = h.kept (record { faults = first_empty p.lexer.kept.errors p.errors none; errors = second_empty p.lexer.kept.errors p.errors none }) t r in
       record {
         comments = ap (λ (x : LexerOutput). x.comments) e ∙ (ap (λ (x : LexerOutput). x.comments) same ∙ k.comments);
         blanks = ap (λ (x : LexerOutput). x.irregular_whitespaces) e ∙ (ap (λ (x : LexerOutput). x.irregular_whitespaces) same ∙ k.blanks);
-        tokens = λ a. subst (λ (ts : List Token). TellsEach r.lexemes ts) (sym (ap (λ (x : LexerOutput). x.tokens) e ∙ ap (λ (x : LexerOutput). x.tokens) same)) (k.tokens a);
+        tokens = λ a. subst (λ (ts : List Token). TellsRead text (goal_of s) r.lexemes r.lexed ts) (sym (ap (λ (x : LexerOutput). x.tokens) e ∙ ap (λ (x : LexerOutput). x.tokens) same)) (k.tokens a);
       };
 }
 
@@ -136,8 +148,10 @@ refused_answer {text} {s} {o} {p} {ids} ns span nodes told out kept n a b k z t 
   lie = lies h.is_of (record kept { tokens = [] }) out told e (record { comments = l.comments; irregular_whitespaces = l.irregular_whitespaces; tokens = All-nil (λ (d : Token). LiesIn d.span p.lexer.text); errors = l.errors }) are_faults;
   tree = program_tree (record { start = 0; end = length text }) end;
   is_tree = subst (λ (v : Span). IsTree nodes (program_tree v end)) (span_is span a (b ∙ ap (λ (v : List ℕ). length v) h.is_of.text_is)) (childless ns span z t);
-  clean = λ y x. absurd (some y);
-  unclean = λ y x. h.none x;
+  program_lies = record { ordered = omega arith; starts_whole = IsCharBoundary-start text (characters h.is_of); ends_whole = IsCharBoundary-end text };
+  inside = λ y. absurd (some y);
+  clean = λ y. absurd (some y);
+  unclean = λ y. h.none;
   ended = λ q y. some y;
   childless = λ q. refl;
   no_tokens = λ q. ap (λ (x : LexerOutput). x.tokens) e;

@@ -11,7 +11,7 @@ use Rattle.js_base.proofs.KindLemmas.{kind_of_same}
 use Rattle.js_grammar.specs.Trees.{Tree}
 use Rattle.js_grammar.specs.Grammar.{Lexeme, Lexemes, last, next}
 use Rattle.js_grammar.specs.Productions.{Program, at}
-use Rattle.js_grammar.specs.Lexemes.{LexicalGoal, kind_in, hashbang_kind}
+use Rattle.js_grammar.specs.Lexemes.{LexicalGoal, kind_in, hashbang, hashbang_kind}
 use Rattle.js_grammar.specs.Lexed.{Lex, Lexes, Lexed, all_faults, passing_of}
 use Rattle.js_grammar.specs.Trivia.{after, within_line}
 use Rattle.js_grammar.specs.Settings.{Goal, script}
@@ -24,11 +24,12 @@ use Rattle.js_grammar.proofs.CoreLexed.{core_first, core_lexemes}
 use Rattle.js_grammar.proofs.CoreValid.{to_core, to_whole, lexed_at}
 use Rattle.js_grammar.proofs.NoEnd.{ends_once_by, ends_behind}
 use Rattle.js_lex.specs.declared.output.LexerOutput.{LexerOutput}
+use Rattle.js_lex.specs.Reading.{LexemeBehind}
 use Rattle.js_lex.specs.States.{goal_of}
 use Rattle.js_core.specs.Lexemes.{Faultless, is_read, read_kinds}
 use Rattle.js_tree.specs.Nodes.{Node}
 use Rattle.js_parser.specs.Parsed.{options_of, IsAnswer}
-use Rattle.js_parser.specs.Readings.{parameters, read_at, Reading, IsOnlyReading, HasNoReading, HasHashbang}
+use Rattle.js_parser.specs.Readings.{parameters, read_at, Reading, IsOnlyReading, HasNoReading, AreRead, from_text_start, behind_a_hashbang}
 use Rattle.js_parser.specs.CoreAnswers.{IsOnlyCoreReading, HasNoCoreReading, IsCoreAnswer}
 
 -- a core lexeme is read
@@ -52,16 +53,20 @@ hashbang_is w k e = go (after (codes "#!") within_line w) e
 
 module _ {text : List ℕ} (u : IsUtf8 text) (s : CoreSource text) where
   -- no hashbang comment begins it
-  pub no_hashbang : HasHashbang text → ⊥
-  no_hashbang (y, l) =
+  no_hashbang : (y : Lexeme) → LexemeBehind hashbang text 0 y → ⊥
+  no_hashbang y l =
       let k = hashbang_is l.lex.word y.kind (subst (λ (g : LexicalGoal). kind_in g l.lex.word l.lex.rest ≡ Some y.kind) l.of_goal l.lex.lexeme.kind) in
       let c = and_parts (one_of_kinds core_kinds y.kind) _ (core_first text u s all_faults y l.lex) in
       false≢true (subst (λ (a : Kind). one_of_kinds core_kinds a ≡ true) (sym k) c.0)
 
   module _ (goal : Goal) (o : Options) where
+    all_plain : (ls : Lexemes) → AreRead text goal ls → Lexes (Lex (passing_of goal) text) 0 ls
+    all_plain ls (from_text_start l) = plainly text goal 0 ls l
+    all_plain ls (behind_a_hashbang b) = absurd (no_hashbang b.comment b.stands)
+
     lexed_whole : {t : Tree} (r : Reading text goal o t) → Lexed goal text r.lexemes
     lexed_whole {t} r = record {
-      lexes = plainly text goal 0 r.lexemes r.lexed;
+      lexes = all_plain r.lexemes r.lexed;
       ends = ends_once_by (at Program (parameters goal o)) t r.derived (subst (λ (k : Kind). same_kind Eof k ≡ true) (sym r.is_end) refl);
     }
 
@@ -82,7 +87,7 @@ module _ {text : List ℕ} (u : IsUtf8 text) (s : CoreSource text) where
         let d = to_whole {g = parameters goal o} (record { in_ = refl; v8 = refl; wide = refl }) t c r.derived in
         record {
           lexemes = r.lexemes;
-          lexed = all_read text goal 0 r.lexemes l.lexes c;
+          lexed = from_text_start (all_read text goal 0 r.lexemes l.lexes c);
           place = r.end;
           final = r.final;
           is_end = sym (kind_of_same Eof r.final.kind (ends_behind (at Program (parameters goal o)) t d l.ends));
@@ -100,8 +105,8 @@ pub core_answer : {text : List ℕ} {given read taken : SourceType} {o : ParseOp
 core_answer {read = read} {o = o} settled same a u s = record {
   tree = a.tree;
   is_tree = a.is_tree;
-  clean = λ z. only_core u s (goal_of read) (options_of o) a.tree (a.clean z (no_hashbang u s));
-  unclean = λ n. none_core u s (goal_of read) (options_of o) (a.unclean n (no_hashbang u s));
+  clean = λ z. only_core u s (goal_of read) (options_of o) a.tree (a.clean z);
+  unclean = λ n. none_core u s (goal_of read) (options_of o) (a.unclean n);
   inside = a.told.lie;
   as_script = λ e. ap goal_of same ∙ (settled ∙ ap read_at e);
 }

@@ -1,5 +1,5 @@
 -- From the statements that were taken to the readings of the whole text.
-use Rattle.std.proofs.Common.{ℕ, zero, suc, ◌-◌, ◌&&◌, cond, take, ◌≡◌, max, ◌⊎◌, inl, inr, List, [], ◌∷◌, ◌++◌, length, Bool, true, false, not, ◌||◌, IsTrue, Option, refl, sym, ap, subst, arith, ◌∙◌}
+use Rattle.std.proofs.Common.{ℕ, zero, suc, ◌&&◌, take, ◌≡◌, max, ◌⊎◌, inl, inr, List, [], ◌∷◌, ◌++◌, length, Bool, true, false, not, ◌||◌, IsTrue, Option, refl, sym, ap, subst, arith, ◌∙◌}
 use Rattle.std.proofs.lemmas.Bool.{and_parts, and_from}
 use Rattle.js_base.specs.declared.diagnostic.Diagnostic.{Diagnostic}
 use Rattle.js_base.specs.declared.kind.Kind.{Kind}
@@ -9,15 +9,15 @@ use Rattle.js_base.specs.declared.source_type.SourceType.{SourceType}
 use Rattle.js_base.specs.Kinds.{same_kind, one_of_kinds}
 use Rattle.js_base.specs.Texts.{words}
 use Rattle.js_base.proofs.KindLemmas.{kind_of_same}
-use Rattle.js_grammar.specs.Trees.{Label, Slots, end, tree, Tree, no_op, hashbang, program}
-use Rattle.js_grammar.specs.Grammar.{Lexeme, Lexemes, last, next, here, Make, whole_text, label_of, seq, is_nothing}
+use Rattle.js_grammar.specs.Trees.{Label, Slots, end, tree, Tree, no_op, hashbang}
+use Rattle.js_grammar.specs.Grammar.{Lexeme, Lexemes, last, next, here, Takes, is_nothing}
 use Rattle.js_grammar.specs.Lexed.{Lexes, Lex as StandsBehind, all_faults}
-use Rattle.js_grammar.specs.Lexemes.{is_escaped}
-use Rattle.js_grammar.specs.Parsing.{Test, plain, full, still, Goes, Reads, Fails}
-use Rattle.js_grammar.specs.Productions.{Flags, at, opt, mk, tok, Program}
+use Rattle.js_grammar.specs.Lexemes.{is_escaped, division}
+use Rattle.js_grammar.specs.Parsing.{plain, Reads}
+use Rattle.js_grammar.specs.Productions.{Flags, at, Program}
 use Rattle.js_grammar.specs.Table.{rule, rule_of}
-use Rattle.js_grammar.proofs.Looks.{covers, apart}
-use Rattle.js_grammar.proofs.Calculus.{◌▹◌, ◌▹✗◌, right, then_by, more_of, makes_by, inside_plain, fails_node, here_at, ends, label_is, slots_are}
+use Rattle.js_grammar.proofs.Looks.{covers}
+use Rattle.js_grammar.proofs.Calculus.{◌▹◌, more_of, here_at, ends, label_is, slots_are}
 use Rattle.js_grammar.proofs.Alike.{lex-same}
 use Rattle.js_lex.specs.States.{goal_of}
 use Rattle.js_lex.specs.declared.output.LexerOutput.{LexerOutput}
@@ -34,8 +34,7 @@ use Rattle.js_core.specs.Answers.{Stretch, Verdict, clean, unclean}
 use Rattle.js_core.specs.Lexemes.{Lex, is_read, read_kinds}
 use Rattle.js_core.specs.States.{At, IsPlain, whole, sign, nothing as no_lexeme, flags_of, Standing}
 use Rattle.js_core.specs.StatementLists.{at_text_end, with_directives, statements, NoList, Taken, AllTaken, AllRefused}
-use Rattle.js_core.proofs.Beginning.{begins_with_hashbang, behind_first, hashbang_passed, none_noted}
-use Rattle.js_core.proofs.Dead.{fails_dead}
+use Rattle.js_core.proofs.Beginning.{begins, begins_with_hashbang, behind_first, none_noted}
 use Rattle.js_core.proofs.Giving.{fails_none}
 use Rattle.js_core.proofs.Here.{told, plain_kind, kind_here}
 use Rattle.js_core.proofs.Paths.{at_kind}
@@ -46,13 +45,21 @@ use Rattle.js_tree.specs.Nodes.{Node}
 use Rattle.js_tree.proofs.HoldingLemmas.{HoldsAll-wider, HoldsAll-append, HoldsAll-one, Holds-kept, Holds-wider, Keeps-refl}
 use Rattle.std.specs.Prelude.{Result, Ok, Err, MatchResult}
 use Rattle.std.specs.Prelude.{Some}
-use Rattle.js_base.specs.Contexts.{has_flag, in_flag}
+use Rattle.js_base.specs.Contexts.{has_flag, in_flag, yield_flag, await_flag, return_flag, new_target_flag}
 use Rattle.js_cursor.specs.Moves.{Passed}
-use Rattle.js_core.specs.Moves.{MadeHere}
+use Rattle.js_core.specs.Moves.{MadeHere, plain_label}
+use Rattle.js_tree.specs.declared.kind.NodeKind.TheVariants.{Hashbang}
+use Rattle.js_tree.specs.declared.op.Op.TheVariants as op
+use Rattle.js_base.specs.declared.span.Span.{Span}
+use Rattle.js_lex.specs.Kept.{IsEmpty}
+use Rattle.js_lex.specs.Scans.{NoLexeme}
+use Rattle.js_lex.specs.States.{State}
+use Rattle.js_parser.proofs.Hashbangs.{hashbang_label, program_label, behind_comment, alone}
+use Rattle.js_parser.proofs.Fronts.{Front, Parts, kind_of_hashbang, none_begins, at_the_start, behind_a_comment}
 use Rattle.js_core.proofs.MadeNodes.{leaf_held}
 use Rattle.js_core.proofs.Moving.{standing, beside_nodes}
 use Rattle.js_parser.specs.Parsed.{options_of, IsAnswer}
-use Rattle.js_parser.specs.Readings.{parameters, Reading, IsOnlyReading, HasNoReading, HasHashbang}
+use Rattle.js_parser.specs.Readings.{parameters, Reading, IsOnlyReading, HasNoReading}
 use Rattle.js_parser.specs.Taken.{FoundNothing, ReadOrNot, ProgramTaken, ProgramStops}
 use Rattle.js_parser.proofs.Answering.{first_empty, second_empty}
 use Rattle.js_base.specs.declared.source_type.Goal.TheVariants as source
@@ -61,7 +68,7 @@ use Rattle.js_grammar.specs.Lexemes.{hashbang as hashbang_goal}
 use Rattle.js_grammar.specs.Options.{Options, is_module as in_module, is_commonjs as in_commonjs}
 use Rattle.js_grammar.specs.Settings.{Goal, script, module_goal, commonjs, unambiguous}
 use Rattle.js_lex.specs.Comments.{each_at, comment_at, irregular_at, html_fault_at}
-use Rattle.js_lex.specs.Reading.{in_a_module, is_kept, kept_token, LexemeBehind, GivesFirst}
+use Rattle.js_lex.specs.Reading.{in_a_module, is_kept, kept_token, LexemeBehind, GivesFirst, GivesNext}
 use Rattle.js_core.specs.Lexemes.{Faultless, KeptFor, TriviaKept, kept_before, Spot, spot, Walked, nowhere, one_more}
 use Rattle.js_core.proofs.KeptTokens.{before_next, trivia_kept}
 use Rattle.js_parser.specs.Kept.{KeepsRight, each_of, comments_before, blanks_before, TellsEach, IsKeptOf}
@@ -69,17 +76,6 @@ use Rattle.js_parser.proofs.Walks.{behind_walk, first_comments, first_blanks, al
 use Rattle.js_base.specs.declared.token.Token.{Token}
 use Rattle.js_core.proofs.Kept.{kept_for, faults_aside}
 use Rattle.js_core.proofs.Paths.{walked_from}
-
-abbrev program_make : Make
-program_make = record { kind = program; op = no_op; flags = 0; extent = whole_text }
-
-abbrev whole_label : ℕ → Label
-whole_label v = record { kind = program; op = no_op; flags = 0; span = record { from = 0; to = v } }
-
--- no hashbang comment is read
-without_hashbang : {text : List ℕ} {X : Test} {s : ℕ} (f : Flags) → Goes rule (Lex text) X end (seq (opt (mk hashbang (tok HashbangComment))) (with_directives f)) s (with_directives f) s (λ us. us) (still 0)
-unfolding apart
-without_hashbang f = then_by {X' = plain full} (right (fails_dead (mk hashbang (tok HashbangComment)) refl)) (record { admits = λ ts us vs j k ls mid rest d d' h. (refl, refl) })
 
 abbrev tree_of : Label → Slots → Tree
 tree_of l cs = record { label = l; slots = cs }
@@ -102,13 +98,13 @@ end_here {text} {q = q} a e = go a.plain
     go (sign c k x) = let z : RAngle ≡ Eof = sym k ∙ e in absurd (cc)
     go (no_lexeme c k n) = let z : Undetermined ≡ Eof = sym k ∙ e in absurd (cc)
 
--- Program derives the tree from these lexemes of the text, whichever of their faults pass.
-record AnyReading (text : List ℕ) (f : Flags) (t : Tree) (ls : Lexemes) : Type 0 where
-  lexed : Lexes (Lex text) 0 ls
+-- A list of directives and items derives these slots from a place up to the text's end.
+record Body (L : ℕ → Lexeme → Type 0) (f : Flags) (s : ℕ) (slots : Slots) (ls : Lexemes) : Type 0 where
+  lexed : Lexes L s ls
   place : ℕ
   final : Lexeme
   is_end : final.kind ≡ Eof
-  derived : Derives rule (at Program f) t 0 ls place (last final)
+  derived : Takes rule (with_directives f) end slots s ls end place (last final)
 
 module _ {text : List ℕ} {f : Flags} {q : Parser} (a : At text f q) (e : q.token.kind ≡ Eof) where
   end_kind : (y : Lexeme) → Lex text q.prev_token_end y → y.kind ≡ Eof
@@ -122,50 +118,58 @@ module _ {text : List ℕ} {f : Flags} {q : Parser} (a : At text f q) (e : q.tok
       uncut_end (sign c k x) = let z : RAngle ≡ Eof = sym k ∙ e in absurd (cc)
       uncut_end (no_lexeme c k n) = c
 
-  program_label : (ls ls' : Lexemes) → Lexes (Lex text) 0 ls → Lexes (Lex text) q.prev_token_end ls' → label_of program_make ls q.prev_token_end ls' ≡ whole_label q.token.span.end
-  program_label ls ls' l l' = ap (λ (v : ℕ). whole_label v) (end_place (here ls') (here_at (Lex text) ls' l'))
+  same_end : {z : Lexeme} → Lex text q.prev_token_end z → z ≡ (end_here a e).0
+  same_end {z} m = let y = end_here a e in lex-same m.0 y.1.0 (plain_kind m.0 (and_parts (one_of_kinds read_kinds z.kind) _ m.1).0 ∙ sym (plain_kind y.1.0 (and_parts (one_of_kinds read_kinds y.0.kind) _ y.1.1).0))
 
-  module _ {slots : Slots → Slots} {pass : Lexemes → Lexemes} (u : Stretch text (plain at_text_end) (with_directives f) 0 (statements f) q.prev_token_end slots pass) where
-    program_reads : Reads rule (Lex text) (plain at_text_end) end (rule (at Program f)) 0 q.prev_token_end (tree (whole_label q.token.span.end) (slots end)) (record { reach = max 0 (max u.reach (max 0 0)); pass = pass })
+  module _ {s : ℕ} {slots : Slots → Slots} {pass : Lexemes → Lexemes} (u : Stretch text (plain at_text_end) (with_directives f) s (statements f) q.prev_token_end slots pass) where
+    list_reads : Reads rule (Lex text) (plain at_text_end) end (with_directives f) s q.prev_token_end slots (record { reach = max u.reach (max 0 0); pass = pass })
     unfolding rule rule_of covers
-    program_reads = makes_by (whole_label q.token.span.end) (inside_plain refl) (without_hashbang f ▹ u.goes ▹ more_of ▹ at_kind a Eof e refl) program_label
+    list_reads = u.goes ▹ more_of ▹ at_kind a Eof e refl
 
-    any_so : AnyReading text f (program_tree (record { start = 0; end = q.token.span.end }) (slots end)) (pass (last (end_here a e).0))
+    any_so : Body (Lex text) f s (slots end) (pass (last (end_here a e).0))
     any_so = let y = end_here a e in record {
-      lexed = program_reads.passes.lexed (last y.0) y.1;
+      lexed = list_reads.passes.lexed (last y.0) y.1;
       place = q.prev_token_end;
       final = y.0;
       is_end = y.2;
-      derived = program_reads.sound end end q.prev_token_end (last y.0) (last y.0) y.1 (inr y.2) is_nothing;
+      derived = list_reads.sound end end q.prev_token_end (last y.0) (last y.0) y.1 (inr y.2) is_nothing;
     }
 
-    only_so : (t : Tree) (ls : Lexemes) → AnyReading text f t ls → (t ≡ program_tree (record { start = 0; end = q.token.span.end }) (slots end)) × (ls ≡ pass (last (end_here a e).0))
-    only_so t ls i = let y = end_here a e in let x = program_reads.only (tree t.label t.slots end) end i.place ls (last i.final) i.lexed i.derived (rw i.is_end refl, refl) in
-        (same_tree x.2, x.5 ∙ ap pass (up_to_end x.1 y.0 y.1 (ends x.4).2 x.3))
-      where
-        up_to_end : {z : Lexeme} (ls : Lexemes) (y : Lexeme) → Lex text q.prev_token_end y → ls ≡ last z → Lexes (Lex text) q.prev_token_end ls → ls ≡ last y
-        up_to_end {z} ls y l same i = let m : Lex text q.prev_token_end z = subst (λ (v : Lexemes). Lexes (Lex text) q.prev_token_end v) same i in same ∙ ap (λ (v : Lexeme). last v) (lex-same m.0 l.0 (plain_kind m.0 (and_parts (one_of_kinds read_kinds z.kind) _ m.1).0 ∙ sym (plain_kind l.0 (and_parts (one_of_kinds read_kinds y.kind) _ l.1).0)))
+    only_so : {ts : Slots} {ls : Lexemes} (b : Body (Lex text) f s ts ls) → (ts ≡ slots end) × (ls ≡ pass (last (end_here a e).0)) × (b.final ≡ (end_here a e).0)
+    only_so {ts} {ls} b =
+        let x = list_reads.only ts end b.place ls (last b.final) b.lexed b.derived (rw b.is_end refl, refl) in
+        let z = ends x.4 in
+        let same : b.final ≡ (end_here a e).0 = same_end (subst (λ (v : Lexemes). Lexes (Lex text) q.prev_token_end v) z.2 x.3) in
+        (x.2 ∙ ap slots z.0, x.5 ∙ ap pass (z.2 ∙ ap (λ (v : Lexeme). last v) same), same)
 
--- a text whose statements can't be taken has no reading
-no_reading : {text : List ℕ} {f : Flags} → NoList text (with_directives f) 0 → (t : Tree) (ls : Lexemes) → AnyReading text f t ls → ⊥
-unfolding rule rule_of covers
-no_reading {text} {f} n t ls r = (program_fails).no (tree t.label t.slots end) end r.place ls (last r.final) r.lexed r.derived (rw r.is_end refl, refl)
-  where
-    program_fails : Fails rule (Lex text) (plain at_text_end) end (rule (at Program f)) 0
-    program_fails = fails_node (inside_plain refl) (without_hashbang f ▹✗ n)
+    -- a list that ends there ends where the last token does
+    ends_so : {ts : Slots} {ls : Lexemes} (b : Body (Lex text) f s ts ls) → b.final.to ≡ q.token.span.end
+    ends_so b = ap (λ (v : Lexeme). v.to) (only_so b).2 ∙ end_place (end_here a e).0 (end_here a e).1
+
+-- where statements can't be taken, no list is derived
+no_list : {text : List ℕ} {f : Flags} {s : ℕ} {ts : Slots} {ls : Lexemes} → NoList text (with_directives f) s → Body (Lex text) f s ts ls → ⊥
+no_list {ts = ts} {ls} n b = n.no ts end b.place ls (last b.final) b.lexed b.derived (rw b.is_end refl, refl)
 
 -- ---- faults
 
--- a reading is one whichever faults pass
-any_reading : {text : List ℕ} {goal : Goal} {o : Options} {t : Tree} (r : Reading text goal o t) → AnyReading text (parameters goal o) t r.lexemes
-any_reading {text} {goal} r = record { lexed = all_aside 0 r.lexemes r.lexed; place = r.place; final = r.final; is_end = r.is_end; derived = r.derived }
-  where
-    all_aside : (s : ℕ) (ls : Lexemes) → Lexes (Faultless goal text) s ls → Lexes (Lex text) s ls
-    all_aside s (last x) l = faults_aside goal l
-    all_aside s (next x ls) l = (faults_aside goal l.0, all_aside x.to ls l.1)
+-- a list is one whichever faults pass
+all_aside : (text : List ℕ) (source : Goal) (s : ℕ) (ls : Lexemes) → Lexes (Faultless source text) s ls → Lexes (Lex text) s ls
+all_aside text source s (last x) l = faults_aside source l
+all_aside text source s (next x ls) l = (faults_aside source l.0, all_aside text source x.to ls l.1)
 
-none_at_all : {text : List ℕ} {f : Flags} {source : Goal} {o : Options} → f ≡ parameters source o → NoList text (with_directives f) 0 → HasNoReading text source o
-none_at_all {text} k n t r = no_reading n t r.lexemes (subst (λ (g : Flags). AnyReading text g t r.lexemes) (sym k) (any_reading r))
+abbrev any_body : {text : List ℕ} (source : Goal) {f : Flags} {s : ℕ} {ts : Slots} {ls : Lexemes} → Body (Faultless source text) f s ts ls → Body (Lex text) f s ts ls
+any_body {text} source {s = s} {ls = ls} b = record { lexed = all_aside text source s ls b.lexed; place = b.place; final = b.final; is_end = b.is_end; derived = b.derived }
+
+-- readings are lists behind the text's front
+module _ {text : List ℕ} {source : Goal} {f : Flags} {s : ℕ} {front : Slots → Slots} {put : Lexemes → Lexemes} {o : Options} (k : f ≡ parameters source o) (opens : Front text source f s front put) where
+  parts_of : {t : Tree} (r : Reading text source o t) → Parts text source f s front put t r.lexemes r.lexed r.place r.final
+  parts_of {t} r = opens.parts t r.lexemes r.lexed r.place r.final (subst (λ (g : Flags). Derives rule (at Program g) t 0 r.lexemes r.place (last r.final)) (sym k) r.derived)
+
+  abbrev body_of : {t : Tree} (r : Reading text source o t) → Body (Faultless source text) f s (parts_of r).slots (parts_of r).others
+  body_of r = record { lexed = (parts_of r).lexed; place = r.place; final = r.final; is_end = r.is_end; derived = (parts_of r).derived }
+
+  none_at_all : NoList text (with_directives f) s → HasNoReading text source o
+  none_at_all n t r = no_list n (any_body source (body_of r))
 
 pub cons_some : {K : Type 0} (x : K) (xs : List K) → x ∷ xs ≡ [] → ⊥
 cons_some x xs e = cc
@@ -200,42 +204,75 @@ module _ {text : List ℕ} where
       go (d ∷ ds) e again = i.faults.some (λ z. cons_some d ds (sym e ∙ z)) (here ms) (here_at (Faultless m.source text) ms (subst (λ (v : Goal). Lexes (Faultless v text) x.to ms) (sym (source_kept w)) (behind_walk (Faultless s.source text) w (next x ms) r).1))
 
 -- The statements that were taken up to the text's end, by the faults that were kept.
-module _ {text : List ℕ} {f : Flags} {q : Parser} (a : At text f q) (e : q.token.kind ≡ Eof) {slots : Slots → Slots} {pass : Lexemes → Lexemes} (u : Stretch text (plain at_text_end) (with_directives f) 0 (statements f) q.prev_token_end slots pass) {source : Goal} {o : Options} (k : f ≡ parameters source o)
-    {keeps : Bool} {kept : LexerOutput} (w : Walked text (record { source = source; keeps_tokens = keeps; place = 0; kept = kept }) (spot q) pass) (first : KeptFor source text 0 kept.errors) where
-  one_reading : q.lexer.kept.errors ≡ [] → IsOnlyReading text source o (program_tree (record { start = 0; end = q.token.span.end }) (slots end))
-  one_reading z = let x = any_so a e u in let y = end_here a e in record {
-    reading = record {
-      lexemes = pass (last y.0);
-      lexed = all_right w z (λ v. first.none v) (last y.0) x.lexed (right_there w z (λ v. first.none v) y.0 y.1);
-      place = x.place;
-      final = x.final;
-      is_end = x.is_end;
-      derived = subst (λ (g : Flags). Derives rule (at Program g) (program_tree (record { start = 0; end = q.token.span.end }) (slots end)) 0 (pass (last y.0)) x.place (last x.final)) k x.derived;
-    };
-    only = λ t r. only_so a e u t r.lexemes (subst (λ (g : Flags). AnyReading text g t r.lexemes) (sym k) (any_reading r));
+module _ {text : List ℕ} {f : Flags} {q : Parser} (a : At text f q) (e : q.token.kind ≡ Eof) {s : ℕ} {slots : Slots → Slots} {pass : Lexemes → Lexemes} (u : Stretch text (plain at_text_end) (with_directives f) s (statements f) q.prev_token_end slots pass) {source : Goal}
+    {keeps : Bool} {kept : LexerOutput} (w : Walked text (record { source = source; keeps_tokens = keeps; place = s; kept = kept }) (spot q) pass) (first : KeptFor source text s kept.errors) where
+  right_body : q.lexer.kept.errors ≡ [] → Body (Faultless source text) f s (slots end) (pass (last (end_here a e).0))
+  right_body z = let x = any_so a e u in let y = end_here a e in record {
+    lexed = all_right w z (λ v. first.none v) (last y.0) x.lexed (right_there w z (λ v. first.none v) y.0 y.1);
+    place = x.place;
+    final = x.final;
+    is_end = x.is_end;
+    derived = x.derived;
   }
 
-  faulty_so : (q.lexer.kept.errors ≡ [] → ⊥) → HasNoReading text source o
-  faulty_so n t r = let x = only_so a e u t r.lexemes (subst (λ (g : Flags). AnyReading text g t r.lexemes) (sym k) (any_reading r)) in some_wrong w n first.some (last (end_here a e).0) (subst (λ (ls : Lexemes). Lexes (Faultless source text) 0 ls) x.1 r.lexed)
+  wrong_body : (q.lexer.kept.errors ≡ [] → ⊥) → {ts : Slots} {ls : Lexemes} → Body (Faultless source text) f s ts ls → ⊥
+  wrong_body n b = some_wrong w n first.some (last (end_here a e).0) (subst (λ (ls : Lexemes). Lexes (Faultless source text) s ls) (only_so a e u (any_body source b)).1 b.lexed)
 
-  -- what was kept is of the lexemes of each reading
-  module _ (trivia : TriviaKept text 0 kept.comments kept.irregular_whitespaces) (no_tokens : kept.tokens ≡ []) where
-    of_lexemes : (P : (ls : Lexemes) → Lexes (Faultless source text) 0 ls → Type 0) → ((l : Lexes (Faultless source text) 0 (pass (last (end_here a e).0))) → P (pass (last (end_here a e).0)) l) → (t : Tree) (r : Reading text source o t) → P r.lexemes r.lexed
-    of_lexemes P h t r = subst (λ (ls : Lexemes). (l : Lexes (Faultless source text) 0 ls) → P ls l) (sym (only_so a e u t r.lexemes (subst (λ (g : Flags). AnyReading text g t r.lexemes) (sym k) (any_reading r))).1) h r.lexed
+  -- what was kept is of the lexemes of each list
+  module _ (trivia : TriviaKept text s kept.comments kept.irregular_whitespaces) (no_tokens : kept.tokens ≡ []) {ts : Slots} {ls : Lexemes} (b : Body (Faultless source text) f s ts ls) where
+    of_lexemes : (P : (ls : Lexemes) → Lexes (Faultless source text) s ls → Type 0) → ((l : Lexes (Faultless source text) s (pass (last (end_here a e).0))) → P (pass (last (end_here a e).0)) l) → P ls b.lexed
+    of_lexemes P h = subst (λ (ls : Lexemes). (l : Lexes (Faultless source text) s ls) → P ls l) (sym (only_so a e u (any_body source b)).1) h b.lexed
 
-    kept_so : (t : Tree) (r : Reading text source o t) → IsKeptOf r keeps q.lexer.kept
-    kept_so t r = record {
-      comments = of_lexemes (λ ls l. q.lexer.kept.comments ≡ each_of comments_before text source 0 ls l) (λ l. all_kept comments_before text source (λ s. s.kept.comments) (λ n. n.comments) (λ s x n. refl) (λ s x n i ms m. first_comments text source x.to i.trivia ms m) w (end_here a e).0 l (first_comments text source 0 trivia (pass (last (end_here a e).0)) l)) t r;
-      blanks = of_lexemes (λ ls l. q.lexer.kept.irregular_whitespaces ≡ each_of blanks_before text source 0 ls l) (λ l. all_kept blanks_before text source (λ s. s.kept.irregular_whitespaces) (λ n. n.blanks) (λ s x n. refl) (λ s x n i ms m. first_blanks text source x.to i.trivia ms m) w (end_here a e).0 l (first_blanks text source 0 trivia (pass (last (end_here a e).0)) l)) t r;
-      tokens = λ asks. of_lexemes (λ ls l. TellsEach ls q.lexer.kept.tokens) (λ l. told_tokens asks) t r;
-    }
+    comments_so : q.lexer.kept.comments ≡ each_of comments_before text source s ls b.lexed
+    comments_so = of_lexemes (λ ls l. q.lexer.kept.comments ≡ each_of comments_before text source s ls l) (λ l. all_kept comments_before text source (λ s. s.kept.comments) (λ n. n.comments) (λ s x n. refl) (λ s x n i ms m. first_comments text source x.to i.trivia ms m) w (end_here a e).0 l (first_comments text source s trivia (pass (last (end_here a e).0)) l))
+
+    blanks_so : q.lexer.kept.irregular_whitespaces ≡ each_of blanks_before text source s ls b.lexed
+    blanks_so = of_lexemes (λ ls l. q.lexer.kept.irregular_whitespaces ≡ each_of blanks_before text source s ls l) (λ l. all_kept blanks_before text source (λ s. s.kept.irregular_whitespaces) (λ n. n.blanks) (λ s x n. refl) (λ s x n i ms m. first_blanks text source x.to i.trivia ms m) w (end_here a e).0 l (first_blanks text source s trivia (pass (last (end_here a e).0)) l))
+
+    tokens_so : keeps ≡ true → TellsEach ls q.lexer.kept.tokens
+    tokens_so asks = of_lexemes (λ ls l. TellsEach ls q.lexer.kept.tokens) (λ l. told_tokens)
       where
-        told_tokens : keeps ≡ true → TellsEach (pass (last (end_here a e).0)) q.lexer.kept.tokens
-        told_tokens asks =
+        told_tokens : TellsEach (pass (last (end_here a e).0)) q.lexer.kept.tokens
+        told_tokens =
             let z = walk_tells w asks in
             let none : kept_token q.lexer.keeps_tokens q.token ≡ [] = λ i. elim ((keeps_still w ∙ asks) i && is_kept (e i)) as (λ _. List Token) [ true ↦ q.token ∷ [] | false ↦ [] ] in
             let all : q.lexer.kept.tokens ≡ z.0 ++ [] = a.kept_last ∙ (λ i. (z.1 ∙ ap (λ (ts : List Token). ts ++ z.0) no_tokens) i ++ none i) in
             subst (λ (ts : List Token). TellsEach (pass (last (end_here a e).0)) ts) (sym all) (z.2 (last (end_here a e).0) [] refl)
+
+  -- and so the readings
+  module _ {o : Options} (k : f ≡ parameters source o) {front : Slots → Slots} {put : Lexemes → Lexemes} (opens : Front text source f s front put) where
+    one_reading : q.lexer.kept.errors ≡ [] → IsOnlyReading text source o (program_tree (record { start = 0; end = q.token.span.end }) (front (slots end)))
+    one_reading z =
+        let b = right_body z in
+        let ls = pass (last (end_here a e).0) in
+        record {
+          reading = record {
+            lexemes = put ls;
+            lexed = opens.joins ls b.lexed;
+            place = b.place;
+            final = b.final;
+            is_end = b.is_end;
+            derived = subst (λ (g : Flags). Derives rule (at Program g) (program_tree (record { start = 0; end = q.token.span.end }) (front (slots end))) 0 (put ls) b.place (last b.final)) k (subst (λ (n : ℕ). Takes rule (rule (at Program f)) end (tree (program_label n) (front (slots end)) end) 0 (put ls) end b.place (last b.final)) (ends_so a e u (any_body source b)) (opens.derives (slots end) ls b.place b.final b.derived));
+          };
+          only = λ t r. is_this t r;
+        }
+      where
+        is_this : (t : Tree) (r : Reading text source o t) → (t ≡ program_tree (record { start = 0; end = q.token.span.end }) (front (slots end))) × (r.lexemes ≡ put (pass (last (end_here a e).0)))
+        is_this t r =
+            let p = parts_of k opens r in
+            let b = any_body source (body_of k opens r) in
+            let x = only_so a e u b in
+            (same_tree (p.is ∙ (λ i. tree (program_label (ends_so a e u b i)) (front (x.0 i)) end)), p.lexemes ∙ ap put x.1)
+
+    faulty_so : (q.lexer.kept.errors ≡ [] → ⊥) → HasNoReading text source o
+    faulty_so n t r = wrong_body n (body_of k opens r)
+
+    kept_so : TriviaKept text s kept.comments kept.irregular_whitespaces → kept.tokens ≡ [] → (t : Tree) (r : Reading text source o t) → IsKeptOf r keeps q.lexer.kept
+    kept_so trivia none t r = let p = parts_of k opens r in let b = body_of k opens r in record {
+      comments = comments_so trivia none b ∙ sym p.comments;
+      blanks = blanks_so trivia none b ∙ sym p.blanks;
+      tokens = λ asks. p.tokens q.lexer.kept.tokens (tokens_so trivia none b asks);
+    }
 
 -- where none are asked for, none are kept
 none_in : {A : Type 0} (n : ℕ) → ◌≡◌ {A = List A} (take n []) []
@@ -298,148 +335,181 @@ commonjs_is s = go s.goal
 at_start : {text : List ℕ} {b : Bool} {p : Parser} → Starts text p.source_type p.options b p → flags_of p ≡ parameters (goal_of p.source_type) (options_of p.options)
 at_start {p = p} s = let c = s.ctx in let m = module_goal_is p.source_type in let j = commonjs_is p.source_type in λ i. record { in_ = c.in_ i; yield_ = c.yield i; await_ = (c.await ∙ m) i; return_ = (c.return ∙ ap (λ (v : Bool). v || p.options.allow_return_outside_function) j) i; new_target = (c.new_target ∙ j) i; module_goal = m i; v8 = p.options.allow_v8_intrinsics; cover = true; wide = false }
 
+-- what a lexer that has kept nothing keeps with a token
+module _ {old new : State} {t : Token} (g : GivesNext division old new t) (z : IsEmpty old.kept) {text : List ℕ} {source : Goal} {i : ℕ} (reads : old.text ≡ text) (reads_for : old.goal ≡ source) (place : old.place ≡ i) where
+  faults_first : KeptFor source text i new.kept.errors
+  faults_first =
+      let more = each_at (html_fault_at (in_a_module old.goal)) old.place g.pieces ++ g.faults in
+      subst (λ (ds : List Diagnostic). KeptFor source text i ds) (sym (g.grows.faults_grow ∙ ap (λ (ds : List Diagnostic). ds ++ more) z.errors))
+      (subst (λ (n : ℕ). KeptFor source text n more) place
+      (subst (λ (v : List ℕ). KeptFor source v old.place more) reads
+      (subst (λ (v : Goal). KeptFor v old.text old.place more) reads_for (kept_for g))))
+
+  trivia_first : TriviaKept text i new.kept.comments new.kept.irregular_whitespaces
+  trivia_first =
+      let comments = each_at (comment_at t.span.start) old.place g.pieces in
+      let blanks = each_at irregular_at old.place g.pieces in
+      subst (λ cs. TriviaKept text i cs new.kept.irregular_whitespaces) (sym (g.grows.comments_grow ∙ ap (λ cs. cs ++ comments) z.comments))
+      (subst (λ bs. TriviaKept text i comments bs) (sym (g.grows.blanks_grow ∙ ap (λ bs. bs ++ blanks) z.irregular_whitespaces))
+      (subst (λ (n : ℕ). TriviaKept text n comments blanks) place
+      (subst (λ (v : List ℕ). TriviaKept v old.place comments blanks) reads (trivia_kept g))))
+
+-- A parser stands where the list of directives and items begins, behind the text's front; nothing was found but in what stands before the current token.
+record Begun (text : List ℕ) (f : Flags) (source : SourceType) (o : ParseOptions) (s : ℕ) (front : Slots → Slots) (put : Lexemes → Lexemes) (v : Parser) : Type 0 where
+  stands : At text f v
+  parameters_are : f ≡ parameters (goal_of source) (options_of o)
+  opens : Front text (goal_of source) f s front put
+  read_as : v.source_type ≡ source
+  place : v.prev_token_end ≡ s
+  faults : KeptFor (goal_of source) text s v.lexer.kept.errors
+  trivia : TriviaKept text s v.lexer.kept.comments v.lexer.kept.irregular_whitespaces
+  tokens : kept_before v.lexer v.token ≡ []
+  errors : v.errors ≡ []
+
+module _ {text : List ℕ} {f : Flags} {source : SourceType} {o : ParseOptions} {s : ℕ} {front : Slots → Slots} {put : Lexemes → Lexemes} {v : Parser} (b : Begun text f source o s front put v) where
+  none : NoList text (with_directives f) v.prev_token_end → HasNoReading text (goal_of source) (options_of o)
+  none n = none_at_all b.parameters_are b.opens (subst (λ (i : ℕ). NoList text (with_directives f) i) b.place n)
+
+  module _ {q : Parser} {ids : List (Option NodeId)} (t : Taken text f (with_directives f) (statements f) v q ids) where
+    walk : Walked text (record { source = goal_of source; keeps_tokens = v.lexer.keeps_tokens; place = s; kept = record v.lexer.kept { tokens = kept_before v.lexer v.token } }) (spot q) t.pass
+    walk = walked_from (λ i. record { source = goal_of (b.read_as i); keeps_tokens = v.lexer.keeps_tokens; place = b.place i; kept = record v.lexer.kept { tokens = kept_before v.lexer v.token } }) t.walked
+
+    whole_stretch : Stretch text (plain at_text_end) (with_directives f) v.prev_token_end (statements f) q.prev_token_end t.slots t.pass → Stretch text (plain at_text_end) (with_directives f) s (statements f) q.prev_token_end t.slots t.pass
+    whole_stretch u = subst (λ (i : ℕ). Stretch text (plain at_text_end) (with_directives f) i (statements f) q.prev_token_end t.slots t.pass) b.place u
+
+    kept_by : FoundNothing q → (q.token.kind ≡ Eof) ⊎ (q.token.kind ≡ Undetermined) → (w : Tree) (r : Reading text (goal_of source) (options_of o) w) → IsKeptOf r v.lexer.keeps_tokens q.lexer.kept
+    kept_by z (inr e) w r = absurd (fault_kept t.at e z.faults)
+    kept_by z (inl e) w r = go t.verdict
+      where
+        go : Verdict v.errors q.errors (Stretch text (plain at_text_end) (with_directives f) v.prev_token_end (statements f) q.prev_token_end t.slots t.pass) (NoList text (with_directives f) v.prev_token_end) → IsKeptOf r v.lexer.keeps_tokens q.lexer.kept
+        go (clean h u) = kept_so t.at e (whole_stretch u) walk b.faults b.parameters_are b.opens b.trivia b.tokens w r
+        go (unclean g m) = absurd (none m w r)
+
+    by_kind : (q.token.kind ≡ Eof) ⊎ (q.token.kind ≡ Undetermined) → ReadOrNot text source o q (front (t.slots end))
+    by_kind (inl e) = go t.verdict
+      where
+        read : q.errors ≡ [] → Stretch text (plain at_text_end) (with_directives f) s (statements f) q.prev_token_end t.slots t.pass → (ds : List Diagnostic) → q.lexer.kept.errors ≡ ds → ReadOrNot text source o q (front (t.slots end))
+        read h u [] z = inl (record { faults = z; errors = h }, one_reading t.at e u walk b.faults b.parameters_are b.opens z)
+        read h u (d ∷ ds) z = inr (λ x. cons_some d ds (sym z ∙ x.faults), faulty_so t.at e u walk b.faults b.parameters_are b.opens (λ x. cons_some d ds (sym z ∙ x)))
+
+        go : Verdict v.errors q.errors (Stretch text (plain at_text_end) (with_directives f) v.prev_token_end (statements f) q.prev_token_end t.slots t.pass) (NoList text (with_directives f) v.prev_token_end) → ReadOrNot text source o q (front (t.slots end))
+        go (clean h u) = read (h ∙ b.errors) (whole_stretch u) q.lexer.kept.errors refl
+        go (unclean g m) = inr (λ x. grown_some g x.errors, none m)
+    by_kind (inr e) = inr (λ x. fault_kept t.at e x.faults, none (none_left t (nothing_here t.at e)))
+
+    -- the children of Program are those of the front and those that were taken
+    all_taken : {keeps : Bool} {js : List (Option NodeId)} → is_last q.token.kind ≡ true → v.lexer.keeps_tokens ≡ keeps → HoldsAll q.nodes 1 (length q.nodes) js (front (t.slots end)) → ProgramTaken text source o keeps q js
+    all_taken k same h = record {
+      is_of = record { at = t.at.at; text_is = t.at.text_is; source_type = t.same.follows.source_type ∙ b.read_as };
+      slots = front (t.slots end);
+      holds = h;
+      outcome = by_kind (last_kind q.token.kind k);
+      keeps = t.same.follows.still.keeps_tokens ∙ same;
+      unasked = λ u. unasked_by v q t.at t.walked (same ∙ u) b.tokens;
+      kept = λ z w r. subst (λ (c : Bool). IsKeptOf r c q.lexer.kept) same (kept_by z (last_kind q.token.kind k) w r);
+    }
+
+  stops_so : (q : Parser) (e : Stop) → AllRefused v q e → ProgramStops text source o q e
+  stops_so q Fatal h = let r = h text f b.stands in record {
+    is_of = record { at = r.at; text_is = r.follows.text ∙ b.stands.text_is; source_type = r.follows.source_type ∙ b.read_as };
+    some = grown_some r.grown;
+    none = none r.none;
+  }
+  stops_so q NoMemory h = tt
+
 module _ {b : Bool} {p : Parser} (s : Starts p.text p.source_type p.options b p) where
   one_node : length p.nodes ≡ 1
   one_node = ap (λ (ns : List Node). length ns) s.nodes
 
-  -- from the start of the text
-  from_start : (F : ℕ → Type 0) → F p.prev_token_end → F 0
-  from_start F h = subst F s.prev_token_end h
+  -- no hashbang comment stands here
+  module _ (n : p.token.kind ≡ HashbangComment → ⊥) where
+    first_next : NoLexeme hashbang_goal p.text 0 × GivesNext division s.lexer p.lexer p.token
+    first_next = go s.first
+      where
+        go : GivesFirst s.lexer p.lexer p.token → NoLexeme hashbang_goal p.text 0 × GivesNext division s.lexer p.lexer p.token
+        go (inl h) = absurd (n (h.gives.tells.kind ∙ kind_of_hashbang h.gives.stands))
+        go (inr (z, g)) = (subst (λ (t : List ℕ). NoLexeme hashbang_goal t 0) s.reads z, g)
 
-  -- what was kept for the first lexeme
-  kept_first : (HasHashbang p.text → ⊥) → KeptFor (goal p) p.text 0 p.lexer.kept.errors
-  kept_first n = go s.first
-    where
-      go : GivesFirst s.lexer p.lexer p.token → KeptFor (goal p) p.text 0 p.lexer.kept.errors
-      go (inl b) = absurd (n (b.gives.lexeme, subst (λ (t : List ℕ). LexemeBehind hashbang_goal t 0 b.gives.lexeme) s.reads b.gives.stands))
-      go (inr (z, g)) =
-          let same : p.lexer.kept.errors ≡ each_at (html_fault_at (in_a_module s.lexer.goal)) s.lexer.place g.pieces ++ g.faults = g.grows.faults_grow ∙ ap (λ (ds : List Diagnostic). ds ++ (each_at (html_fault_at (in_a_module s.lexer.goal)) s.lexer.place g.pieces ++ g.faults)) s.kept_none.errors in
-          subst (λ (ds : List Diagnostic). KeptFor (goal p) p.text 0 ds) (sym same)
-          (subst (λ (i : ℕ). KeptFor (goal p) p.text i (each_at (html_fault_at (in_a_module s.lexer.goal)) s.lexer.place g.pieces ++ g.faults)) s.at_start
-          (subst (λ (t : List ℕ). KeptFor (goal p) t s.lexer.place (each_at (html_fault_at (in_a_module s.lexer.goal)) s.lexer.place g.pieces ++ g.faults)) s.reads
-          (subst (λ (v : Goal). KeptFor v s.lexer.text s.lexer.place (each_at (html_fault_at (in_a_module s.lexer.goal)) s.lexer.place g.pieces ++ g.faults)) s.reads_for (kept_for g))))
-
-  -- what was kept before the first token
-  trivia_first : (HasHashbang p.text → ⊥) → TriviaKept p.text 0 p.lexer.kept.comments p.lexer.kept.irregular_whitespaces
-  trivia_first n = go s.first
-    where
-      go : GivesFirst s.lexer p.lexer p.token → TriviaKept p.text 0 p.lexer.kept.comments p.lexer.kept.irregular_whitespaces
-      go (inl b) = absurd (n (b.gives.lexeme, subst (λ (t : List ℕ). LexemeBehind hashbang_goal t 0 b.gives.lexeme) s.reads b.gives.stands))
-      go (inr (z, g)) =
-          let comments = g.grows.comments_grow ∙ ap (λ cs. cs ++ each_at (comment_at p.token.span.start) s.lexer.place g.pieces) s.kept_none.comments in
-          let blanks = g.grows.blanks_grow ∙ ap (λ bs. bs ++ each_at irregular_at s.lexer.place g.pieces) s.kept_none.irregular_whitespaces in
-          subst (λ cs. TriviaKept p.text 0 cs p.lexer.kept.irregular_whitespaces) (sym comments)
-          (subst (λ bs. TriviaKept p.text 0 (each_at (comment_at p.token.span.start) s.lexer.place g.pieces) bs) (sym blanks)
-          (subst (λ (i : ℕ). TriviaKept p.text i (each_at (comment_at p.token.span.start) s.lexer.place g.pieces) (each_at irregular_at s.lexer.place g.pieces)) s.at_start
-          (subst (λ (t : List ℕ). TriviaKept t s.lexer.place (each_at (comment_at p.token.span.start) s.lexer.place g.pieces) (each_at irregular_at s.lexer.place g.pieces)) s.reads (trivia_kept g))))
-
-  tokens_first : kept_before p.lexer p.token ≡ []
-  tokens_first = go s.first
-    where
-      go : GivesFirst s.lexer p.lexer p.token → kept_before p.lexer p.token ≡ []
-      go (inl b) = let z : p.lexer.kept.tokens ≡ [] = ap (λ (o : LexerOutput). o.tokens) b.kept ∙ s.kept_none.tokens in ap (λ (ts : List Token). take (length p.lexer.kept.tokens - cond (p.lexer.keeps_tokens && is_kept p.token.kind) 1 0) ts) z ∙ none_in (length p.lexer.kept.tokens - cond (p.lexer.keeps_tokens && is_kept p.token.kind) 1 0)
-      go (inr (z, g)) = before_next g ∙ s.kept_none.tokens
-
-  unasked_first : p.lexer.keeps_tokens ≡ false → p.lexer.kept.tokens ≡ []
-  unasked_first e = go s.first
-    where
-      go : GivesFirst s.lexer p.lexer p.token → p.lexer.kept.tokens ≡ []
-      go (inl b) = ap (λ (o : LexerOutput). o.tokens) b.kept ∙ s.kept_none.tokens
-      go (inr (z, g)) = g.grows.tokens_grow ∙ (λ i. s.kept_none.tokens i ++ kept_none s.lexer.keeps_tokens p.token (sym g.same.keeps_tokens ∙ e) i)
-
-  program_taken : {q : Parser} {ids : List (Option NodeId)} → Standing p → AllTaken p q ids → ProgramTaken p.text p.source_type p.options p.lexer.keeps_tokens q ids
-  program_taken {q} {ids} a (k, h) = record {
-    is_of = record { at = t.at.at; text_is = t.same.follows.text; source_type = t.same.follows.source_type };
-    slots = t.slots end;
-    holds = HoldsAll-wider 1 (length q.nodes) (let n = one_node in omega arith) (omega arith) t.holds;
-    outcome = λ n. by_kind n (last_kind q.token.kind k);
-    keeps = t.same.follows.still.keeps_tokens;
-    unasked = λ e. unasked_by p q t.at t.walked e tokens_first;
-    kept = λ n z v r. kept_by n z (last_kind q.token.kind k) v r;
-  }
-    where
-      t : Taken p.text (flags_of p) (with_directives (flags_of p)) (statements (flags_of p)) p q ids
-      t = h p.text (flags_of p) a
-
-      walk : Walked p.text (record { source = goal p; keeps_tokens = p.lexer.keeps_tokens; place = 0; kept = record p.lexer.kept { tokens = kept_before p.lexer p.token } }) (spot q) t.pass
-      walk = walked_from (λ i. record { source = goal p; keeps_tokens = p.lexer.keeps_tokens; place = s.prev_token_end i; kept = record p.lexer.kept { tokens = kept_before p.lexer p.token } }) t.walked
-
-      whole_stretch : Stretch p.text (plain at_text_end) (with_directives (flags_of p)) p.prev_token_end (statements (flags_of p)) q.prev_token_end t.slots t.pass → Stretch p.text (plain at_text_end) (with_directives (flags_of p)) 0 (statements (flags_of p)) q.prev_token_end t.slots t.pass
-      whole_stretch u = from_start (λ (i : ℕ). Stretch p.text (plain at_text_end) (with_directives (flags_of p)) i (statements (flags_of p)) q.prev_token_end t.slots t.pass) u
-
-      none : NoList p.text (with_directives (flags_of p)) p.prev_token_end → HasNoReading p.text (goal_of p.source_type) (options_of p.options)
-      none n = none_at_all (at_start s) (from_start (λ (i : ℕ). NoList p.text (with_directives (flags_of p)) i) n)
-
-      kept_by : (HasHashbang p.text → ⊥) → FoundNothing q → (q.token.kind ≡ Eof) ⊎ (q.token.kind ≡ Undetermined) → (v : Tree) (r : Reading p.text (goal_of p.source_type) (options_of p.options) v) → IsKeptOf r p.lexer.keeps_tokens q.lexer.kept
-      kept_by n z (inr e) v r = absurd (fault_kept t.at e z.faults)
-      kept_by n z (inl e) v r = go t.verdict
-        where
-          go : Verdict p.errors q.errors (Stretch p.text (plain at_text_end) (with_directives (flags_of p)) p.prev_token_end (statements (flags_of p)) q.prev_token_end t.slots t.pass) (NoList p.text (with_directives (flags_of p)) p.prev_token_end) → IsKeptOf r p.lexer.keeps_tokens q.lexer.kept
-          go (clean h u) = kept_so t.at e (whole_stretch u) (at_start s) walk (kept_first n) (trivia_first n) tokens_first v r
-          go (unclean g m) = absurd (none m v r)
-
-      by_kind : (HasHashbang p.text → ⊥) → (q.token.kind ≡ Eof) ⊎ (q.token.kind ≡ Undetermined) → ReadOrNot p.text p.source_type p.options q (t.slots end)
-      by_kind n (inl e) = go t.verdict
-        where
-          read : q.errors ≡ [] → Stretch p.text (plain at_text_end) (with_directives (flags_of p)) 0 (statements (flags_of p)) q.prev_token_end t.slots t.pass → (ds : List Diagnostic) → q.lexer.kept.errors ≡ ds → ReadOrNot p.text p.source_type p.options q (t.slots end)
-          read h u [] z = inl (record { faults = z; errors = h }, one_reading t.at e u (at_start s) walk (kept_first n) z)
-          read h u (d ∷ ds) z = inr (λ x. cons_some d ds (sym z ∙ x.faults), faulty_so t.at e u (at_start s) walk (kept_first n) (λ x. cons_some d ds (sym z ∙ x)))
-
-          go : Verdict p.errors q.errors (Stretch p.text (plain at_text_end) (with_directives (flags_of p)) p.prev_token_end (statements (flags_of p)) q.prev_token_end t.slots t.pass) (NoList p.text (with_directives (flags_of p)) p.prev_token_end) → ReadOrNot p.text p.source_type p.options q (t.slots end)
-          go (clean h u) = read (h ∙ s.errors) (whole_stretch u) q.lexer.kept.errors refl
-          go (unclean g m) = inr (λ x. grown_some g x.errors, none m)
-      by_kind n (inr e) = inr (λ x. fault_kept t.at e x.faults, none (none_left t (nothing_here t.at e)))
-
-  pub program_stops : (q : Parser) (e : Stop) → Standing p → AllRefused p q e → ProgramStops p.text p.source_type p.options q e
-  program_stops q Fatal a h = let r = h p.text (flags_of p) a in record {
-    is_of = record { at = r.at; text_is = r.follows.text; source_type = r.follows.source_type };
-    some = grown_some r.grown;
-    none = λ n. none_at_all (at_start s) (from_start (λ (i : ℕ). NoList p.text (with_directives (flags_of p)) i) r.none);
-  }
-  program_stops q NoMemory a h = tt
-
-  pub program_answers : {V : Type 0} (items_of : V → List (Option NodeId)) (q : Parser) (r : Result V Stop) → Standing p → MatchResult r (λ v. AllTaken p q (items_of v)) (λ e. AllRefused p q e) → MatchResult r (λ v. ProgramTaken p.text p.source_type p.options p.lexer.keeps_tokens q (items_of v)) (λ e. ProgramStops p.text p.source_type p.options q e)
-  program_answers items_of q (Ok v) a h = program_taken a h
-  program_answers items_of q (Err e) a h = program_stops q e a h
-
-  -- behind a hashbang comment, of which no reading is claimed
-  module _ (k : p.token.kind ≡ HashbangComment) {m : Parser} (d : Passed p m) where
-    never : (HasHashbang p.text → ⊥) → ⊥
-    never n = n (begins_with_hashbang s k)
-
-    node_stands : {v : Parser} {l : Label} {id : NodeId} → MadeHere l [] m v id → Standing v
-    node_stands {v} n = let a = behind_first s.at (none_noted p s.state) d in standing (subst (λ (r : Parser). At m.text (flags_of m) r) (sym n.stays) (beside_nodes v.nodes a))
-
-    pub hashbang_stands : {v : Parser} {l : Label} {id : NodeId} → MadeHere l [] m v id → Standing v
-    hashbang_stands n = node_stands n
-
-    pub hashbang_in : {v : Parser} {l : Label} {id : NodeId} → MadeHere l [] m v id → has_flag in_flag v.ctx ≡ true
-    hashbang_in n = ap (λ (r : Parser). has_flag in_flag r.ctx) n.stays ∙ (ap (has_flag in_flag) d.stays.ctx ∙ s.ctx.in_)
-
-    pub hashbang_refused : {v : Parser} {l : Label} {id : NodeId} (q : Parser) (e : Stop) → MadeHere l [] m v id → AllRefused v q e → ProgramStops p.text p.source_type p.options q e
-    hashbang_refused {v} q Fatal n h = let r = h v.text (flags_of v) (node_stands n) in record {
-      is_of = record { at = r.at; text_is = r.follows.text ∙ (ap (λ (r : Parser). r.text) n.stays ∙ d.stays.text); source_type = r.follows.source_type ∙ (ap (λ (r : Parser). r.source_type) n.stays ∙ d.stays.source_type) };
-      some = grown_some r.grown;
-      none = λ x. absurd (never x);
+    at_first : Begun p.text (flags_of p) p.source_type p.options 0 (λ us. us) (λ ls. ls) p
+    at_first = let g = first_next.1 in record {
+      stands = begins s n;
+      parameters_are = at_start s;
+      opens = at_the_start (none_begins first_next.0);
+      read_as = refl;
+      place = s.prev_token_end;
+      faults = faults_first g s.kept_none s.reads s.reads_for s.at_start;
+      trivia = trivia_first g s.kept_none s.reads s.reads_for s.at_start;
+      tokens = before_next g ∙ s.kept_none.tokens;
+      errors = s.errors;
     }
-    hashbang_refused q NoMemory n h = tt
 
-    pub hashbang_taken : {v q : Parser} {l : Label} {id : NodeId} {ids js : List (Option NodeId)} → MadeHere l [] m v id → AllTaken v q ids → js ≡ Some id ∷ ids → ProgramTaken p.text p.source_type p.options p.lexer.keeps_tokens q js
-    hashbang_taken {v} {q} {l} {id} {ids} {js} n (z, h) e = record {
-      is_of = record { at = t.at.at; text_is = t.same.follows.text ∙ (ap (λ (r : Parser). r.text) n.stays ∙ d.stays.text); source_type = t.same.follows.source_type ∙ (ap (λ (r : Parser). r.source_type) n.stays ∙ d.stays.source_type) };
-      slots = tree l end (t.slots end);
-      holds = subst (λ (ks : List (Option NodeId)). HoldsAll q.nodes 1 (length q.nodes) ks (tree l end (t.slots end))) (sym e) (HoldsAll-append (HoldsAll-one id (Holds-kept t.keeps (Holds-wider 1 (length v.nodes) (let x = one_node in let y = ap (λ (ns : List Node). length ns) d.stays.nodes in omega arith) (omega arith) (leaf_held n (Keeps-refl m.nodes))))) t.holds);
-      outcome = λ x. absurd (never x);
-      keeps = t.same.follows.still.keeps_tokens ∙ keeps_made;
-      unasked = λ u. unasked_by v q t.at t.walked (keeps_made ∙ u) ((λ i. kept_before (n.stays i).lexer (n.stays i).token) ∙ (before_next d.next ∙ unasked_first u));
-      kept = λ x. absurd (never x);
+    program_taken : {q : Parser} {ids : List (Option NodeId)} → AllTaken p q ids → ProgramTaken p.text p.source_type p.options p.lexer.keeps_tokens q ids
+    program_taken {q} {ids} (k, h) = let t = h p.text (flags_of p) at_first.stands in all_taken at_first t k refl (HoldsAll-wider 1 (length q.nodes) (let n = one_node in omega arith) (omega arith) t.holds)
+
+    pub program_answers : {V : Type 0} (items_of : V → List (Option NodeId)) (q : Parser) (r : Result V Stop) → MatchResult r (λ v. AllTaken p q (items_of v)) (λ e. AllRefused p q e) → MatchResult r (λ v. ProgramTaken p.text p.source_type p.options p.lexer.keeps_tokens q (items_of v)) (λ e. ProgramStops p.text p.source_type p.options q e)
+    program_answers items_of q (Ok v) h = program_taken h
+    program_answers items_of q (Err e) h = stops_so at_first q e h
+
+  -- behind a hashbang comment
+  module _ (k : p.token.kind ≡ HashbangComment) {m v : Parser} (d : Passed p m) {span : Span} {id : NodeId} (same_span : span ≡ p.token.span) (n : MadeHere (plain_label Hashbang op.None span) [] m v id) where
+    comment_stands : LexemeBehind hashbang_goal p.text 0 d.lexeme
+    comment_stands = let h = begins_with_hashbang s k in subst (λ (y : Lexeme). LexemeBehind hashbang_goal p.text 0 y) (alone h.1.lex h.1.of_goal (subst (λ (i : ℕ). StandsBehind all_faults p.text i d.lexeme) s.prev_token_end d.stood)) h.1
+
+    kept_nothing : IsEmpty p.lexer.kept
+    kept_nothing = go s.first
+      where
+        go : GivesFirst s.lexer p.lexer p.token → IsEmpty p.lexer.kept
+        go (inl h) = subst (λ (o : LexerOutput). IsEmpty o) (sym h.kept) s.kept_none
+        go (inr (z, g)) = absurd (none_begins (subst (λ (t : List ℕ). NoLexeme hashbang_goal t 0) s.reads z) (d.lexeme, comment_stands))
+
+    pub hashbang_stands : Standing v
+    hashbang_stands = let a = behind_first s.at (none_noted p s.state) d in standing (subst (λ (r : Parser). At m.text (flags_of m) r) (sym n.stays) (beside_nodes v.nodes a))
+
+    text_still : v.text ≡ p.text
+    text_still = ap (λ (r : Parser). r.text) n.stays ∙ d.stays.text
+
+    flags_still : flags_of v ≡ flags_of p
+    flags_still = ap flags_of n.stays ∙ (λ i. record {
+      in_ = has_flag in_flag (d.stays.ctx i);
+      yield_ = has_flag yield_flag (d.stays.ctx i);
+      await_ = has_flag await_flag (d.stays.ctx i);
+      return_ = has_flag return_flag (d.stays.ctx i);
+      new_target = has_flag new_target_flag (d.stays.ctx i);
+      module_goal = is_module (d.stays.source_type i);
+      v8 = (ap (λ (x : ParseOptions). x.allow_v8_intrinsics) d.stays.options) i;
+      cover = true;
+      wide = false;
+    })
+
+    label_still : plain_label Hashbang op.None span ≡ hashbang_label d.lexeme
+    label_still = λ i. record { kind = hashbang; op = no_op; flags = 0; span = record { from = (ap (λ (x : Span). x.start) same_span ∙ d.tells.start) i; to = (ap (λ (x : Span). x.end) same_span ∙ d.tells.end) i } }
+
+    begun_behind : Begun p.text (flags_of p) p.source_type p.options d.lexeme.to (behind_comment d.lexeme) (λ ls. next d.lexeme ls) v
+    begun_behind = record {
+      stands = subst (λ (g : Flags). At p.text g v) flags_still (subst (λ (t : List ℕ). At t (flags_of v) v) text_still hashbang_stands);
+      parameters_are = at_start s;
+      opens = behind_a_comment comment_stands;
+      read_as = ap (λ (r : Parser). r.source_type) n.stays ∙ d.stays.source_type;
+      place = ap (λ (r : Parser). r.prev_token_end) n.stays ∙ d.moved;
+      faults = subst (λ (r : Parser). KeptFor (goal p) p.text d.lexeme.to r.lexer.kept.errors) (sym n.stays) (faults_first d.next kept_nothing s.at.reads s.at.reads_for ends_there);
+      trivia = subst (λ (r : Parser). TriviaKept p.text d.lexeme.to r.lexer.kept.comments r.lexer.kept.irregular_whitespaces) (sym n.stays) (trivia_first d.next kept_nothing s.at.reads s.at.reads_for ends_there);
+      tokens = (λ i. kept_before (n.stays i).lexer (n.stays i).token) ∙ (before_next d.next ∙ kept_nothing.tokens);
+      errors = ap (λ (r : Parser). r.errors) n.stays ∙ (d.stays.errors ∙ s.errors);
     }
       where
-        t : Taken v.text (flags_of v) (with_directives (flags_of v)) (statements (flags_of v)) v q ids
-        t = h v.text (flags_of v) (node_stands n)
+        ends_there : p.lexer.place ≡ d.lexeme.to
+        ends_there = s.at.last ∙ d.tells.end
 
-        keeps_made : v.lexer.keeps_tokens ≡ p.lexer.keeps_tokens
-        keeps_made = ap (λ (r : Parser). r.lexer.keeps_tokens) n.stays ∙ d.stays.same.keeps_tokens
+    pub hashbang_refused : (q : Parser) (e : Stop) → AllRefused v q e → ProgramStops p.text p.source_type p.options q e
+    hashbang_refused q e h = stops_so begun_behind q e h
+
+    pub hashbang_taken : {q : Parser} {ids js : List (Option NodeId)} → AllTaken v q ids → js ≡ Some id ∷ ids → ProgramTaken p.text p.source_type p.options p.lexer.keeps_tokens q js
+    hashbang_taken {q} {ids} {js} (z, h) e =
+        let t = h p.text (flags_of p) begun_behind.stands in
+        let first = Holds-kept t.keeps (Holds-wider 1 (length v.nodes) (let x = one_node in let y = ap (λ (ns : List Node). length ns) d.stays.nodes in omega arith) (omega arith) (leaf_held n (Keeps-refl m.nodes))) in
+        all_taken begun_behind t z (ap (λ (r : Parser). r.lexer.keeps_tokens) n.stays ∙ d.stays.same.keeps_tokens)
+        (subst (λ (l : Label). HoldsAll q.nodes 1 (length q.nodes) js (tree l end (t.slots end))) label_still
+        (subst (λ (ks : List (Option NodeId)). HoldsAll q.nodes 1 (length q.nodes) ks (tree (plain_label Hashbang op.None span) end (t.slots end))) (sym e) (HoldsAll-append (HoldsAll-one id first) t.holds)))
 
 -- a start, of what the parser itself says of its text
 pub starts_itself : {source : List ℕ} {st : SourceType} {o : ParseOptions} {b : Bool} {p : Parser} → Starts source st o b p → (b : Bool) × Starts p.text p.source_type p.options b p

@@ -12,12 +12,17 @@ use Rattle.js_lex.specs.Reading.{Tells}
 use Rattle.js_lex.specs.declared.comment.Comment.{Comment}
 use Rattle.js_lex.specs.declared.output.LexerOutput.{LexerOutput}
 use Rattle.js_core.specs.Lexemes.{Faultless}
-use Rattle.js_parser.specs.Readings.{Reading, HasHashbang}
+use Rattle.js_parser.specs.Readings.{AreRead, from_text_start, behind_a_hashbang, Reading}
 
 -- what the trivia before each lexeme gives, one behind the other
 abbrev pub each_of : {A : Type 0} → (Lexeme → ℕ → List (List ℕ) → List A) → (text : List ℕ) (goal : Goal) (s : ℕ) (ls : Lexemes) → Lexes (Faultless goal text) s ls → List A
 each_of f text goal s (last x) l = f x s l.0.trivia
 each_of f text goal s (next x ls) l = f x s l.0.0.trivia ++ each_of f text goal x.to ls l.1
+
+-- the same of the lexemes of a reading: before a hashbang comment nothing stands
+abbrev pub each_read : {A : Type 0} → (Lexeme → ℕ → List (List ℕ) → List A) → (text : List ℕ) (goal : Goal) (ls : Lexemes) → AreRead text goal ls → List A
+each_read f text goal ls (from_text_start l) = each_of f text goal 0 ls l
+each_read f text goal ls (behind_a_hashbang b) = each_of f text goal b.comment.to b.others b.lexed
 
 -- comments, each attached to the lexeme behind it
 abbrev pub comments_before : Lexeme → ℕ → List (List ℕ) → List Comment
@@ -33,13 +38,18 @@ TellsEach (last x) ts = ts ≡ []
 TellsEach (next x ls) [] = ⊥
 TellsEach (next x ls) (t ∷ ts) = Tells x t × TellsEach ls ts
 
+-- of the lexemes of a reading: a hashbang comment has no token
+abbrev pub TellsRead : (text : List ℕ) (goal : Goal) (ls : Lexemes) → AreRead text goal ls → List Token → Type 0
+TellsRead text goal ls (from_text_start l) ts = TellsEach ls ts
+TellsRead text goal ls (behind_a_hashbang b) ts = TellsEach b.others ts
+
 -- What was kept is of the lexemes of this reading: their comments and white space; and their tokens, where these were asked for.
 pub record IsKeptOf {text : List ℕ} {goal : Goal} {o : Options} {t : Tree} (r : Reading text goal o t) (asks : Bool) (out : LexerOutput) : Type 0 where
-  pub comments : out.comments ≡ each_of comments_before text goal 0 r.lexemes r.lexed
-  pub blanks : out.irregular_whitespaces ≡ each_of blanks_before text goal 0 r.lexemes r.lexed
-  pub tokens : asks ≡ true → TellsEach r.lexemes out.tokens
+  pub comments : out.comments ≡ each_read comments_before text goal r.lexemes r.lexed
+  pub blanks : out.irregular_whitespaces ≡ each_read blanks_before text goal r.lexemes r.lexed
+  pub tokens : asks ≡ true → TellsRead text goal r.lexemes r.lexed out.tokens
 
 -- Tokens are kept only where they were asked for. Where nothing was found, what was kept is of the lexemes of each reading.
 pub record KeepsRight (text : List ℕ) (goal : Goal) (o : Options) (asks : Bool) (out : LexerOutput) : Type 0 where
   pub unasked : asks ≡ false → out.tokens ≡ []
-  pub kept : out.errors ≡ [] → (HasHashbang text → ⊥) → (t : Tree) (r : Reading text goal o t) → IsKeptOf r asks out
+  pub kept : out.errors ≡ [] → (t : Tree) (r : Reading text goal o t) → IsKeptOf r asks out

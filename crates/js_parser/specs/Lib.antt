@@ -2,4 +2,5 @@ pub mod Readings
 pub mod Kept
 pub mod Parsed
 pub mod Taken
+pub mod NodeSpans
 pub mod CoreAnswers

@@ -13,20 +13,23 @@ use Rattle.js_lex.specs.States.{goal_of}
 use Rattle.js_lex.specs.declared.output.LexerOutput.{LexerOutput}
 use Rattle.js_tree.specs.Nodes.{Node}
 use Rattle.js_tree.specs.Holding.{IsTree, program_tree}
-use Rattle.js_parser.specs.Readings.{read_at, HasNoReading, IsOnlyReading, HasHashbang, AreOf}
+use Rattle.js_parser.specs.NodeSpans.{NodeLies, SlotsLie}
+use Rattle.js_parser.specs.Readings.{read_at, HasNoReading, IsOnlyReading, AreOf}
 
 -- options as the grammar speaks of them
 abbrev pub options_of : ParseOptions → Options
 options_of o = record { allow_return = o.allow_return_outside_function; preserve_parens = o.preserve_parens; allow_v8 = o.allow_v8_intrinsics }
 
--- The answer for a text at a goal. Where nothing was found the tree is its only reading; where something was, it has none. Of a text that begins with a hashbang comment neither is claimed. All spans of what was kept lie in the text and split no character. After a fatal diagnostic Program has the whole text and no child, and no token was kept.
+-- The answer for a text at a goal. Where nothing was found the tree is its only reading; where something was, it has none. All spans of what was kept lie in the text and split no character, and so does Program's; where nothing was found, those of all nodes. After a fatal diagnostic Program has the whole text and no child, and no token was kept.
 pub record IsAnswer (text : List ℕ) (goal : Goal) (o : Options) (nodes : List Node) (out : LexerOutput) (fatal : Bool) : Type 0 where
   pub told : AreOf goal text out.errors
   pub lie : LieIn text out
   pub tree : Tree
   pub is_tree : IsTree nodes tree
-  pub clean : out.errors ≡ [] → (HasHashbang text → ⊥) → IsOnlyReading text goal o tree
-  pub unclean : (out.errors ≡ [] → ⊥) → (HasHashbang text → ⊥) → HasNoReading text goal o
+  pub program_lies : NodeLies text tree.label
+  pub inside : out.errors ≡ [] → SlotsLie text tree.slots
+  pub clean : out.errors ≡ [] → IsOnlyReading text goal o tree
+  pub unclean : (out.errors ≡ [] → ⊥) → HasNoReading text goal o
   pub ended : fatal ≡ true → out.errors ≡ [] → ⊥
   pub childless : fatal ≡ true → tree ≡ program_tree (record { start = 0; end = length text }) end
   pub no_tokens : fatal ≡ true → out.tokens ≡ []

@@ -5,7 +5,7 @@ use Rattle.js_base.specs.declared.diagnostic.Diagnostic.{Diagnostic}
 use Rattle.js_base.specs.declared.kind.Kind.TheVariants.{Eof}
 use Rattle.js_base.specs.Spans.{LiesIn}
 use Rattle.js_grammar.specs.Trees.{Tree}
-use Rattle.js_grammar.specs.Grammar.{Lexeme, Lexemes, last, Derives}
+use Rattle.js_grammar.specs.Grammar.{Lexeme, Lexemes, last, next, Derives}
 use Rattle.js_grammar.specs.Lexed.{Lexes}
 use Rattle.js_grammar.specs.Lexemes.{hashbang}
 use Rattle.js_grammar.specs.Marks.{Mark}
@@ -36,10 +36,23 @@ parameters goal o = record {
   wide = false;
 }
 
--- Program derives the tree from lexemes of the text, from its start to its end: lexemes of the kinds that are read so far, none of which has a fault.
+-- a hashbang comment at the text's start (ECMA-262, 12.5), and lexemes from its end on
+pub record BehindHashbang (text : List ℕ) (goal : Goal) (ls : Lexemes) : Type 0 where
+  pub comment : Lexeme
+  pub stands : LexemeBehind hashbang text 0 comment
+  pub others : Lexemes
+  pub is : ls ≡ next comment others
+  pub lexed : Lexes (Faultless goal text) comment.to others
+
+-- Lexemes of the text from its start on, of the kinds that are read so far, none of which has a fault; before them a hashbang comment may stand.
+pub data AreRead (text : List ℕ) (goal : Goal) (ls : Lexemes) : Type 0 where
+  from_text_start : Lexes (Faultless goal text) 0 ls → AreRead text goal ls
+  behind_a_hashbang : BehindHashbang text goal ls → AreRead text goal ls
+
+-- Program derives the tree from lexemes of the text, from its start to its end.
 pub record Reading (text : List ℕ) (goal : Goal) (o : Options) (t : Tree) : Type 0 where
   pub lexemes : Lexemes
-  pub lexed : Lexes (Faultless goal text) 0 lexemes
+  pub lexed : AreRead text goal lexemes
   pub place : ℕ
   pub final : Lexeme
   pub is_end : final.kind ≡ Eof
@@ -53,10 +66,6 @@ HasNoReading text goal o = (t : Tree) → Reading text goal o t → ⊥
 pub record IsOnlyReading (text : List ℕ) (goal : Goal) (o : Options) (tree : Tree) : Type 0 where
   pub reading : Reading text goal o tree
   pub only : (t : Tree) (r : Reading text goal o t) → (t ≡ tree) × (r.lexemes ≡ reading.lexemes)
-
--- a hashbang comment stands at the text's start (12.5)
-abbrev pub HasHashbang : List ℕ → Type 0
-HasHashbang text = (y : Lexeme) × LexemeBehind hashbang text 0 y
 
 -- what a diagnostic says of its span
 abbrev pub IsMarked : Goal → List ℕ → Diagnostic → Type 0

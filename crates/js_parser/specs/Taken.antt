@@ -11,7 +11,7 @@ use Rattle.js_cursor.specs.Places.{IsAt}
 use Rattle.js_cursor.specs.declared.stop.Stop.{Stop}
 use Rattle.js_cursor.specs.declared.stop.Stop.TheVariants.{Fatal, NoMemory}
 use Rattle.js_parser.specs.Kept.{IsKeptOf}
-use Rattle.js_parser.specs.Readings.{Reading, HasNoReading, IsOnlyReading, HasHashbang}
+use Rattle.js_parser.specs.Readings.{Reading, HasNoReading, IsOnlyReading}
 use Rattle.js_parser.specs.Parsed.{options_of}
 
 -- it stands in a text of this source type
@@ -34,17 +34,17 @@ pub record ProgramTaken (text : List ℕ) (s : SourceType) (o : ParseOptions) (a
   pub is_of : IsOf text s p
   pub slots : Slots
   pub holds : HoldsAll p.nodes 1 (length p.nodes) ids slots
-  pub outcome : (HasHashbang text → ⊥) → ReadOrNot text s o p slots
+  pub outcome : ReadOrNot text s o p slots
   -- tokens are kept where they are asked for; without diagnostics all that was kept is of the lexemes of the reading
   pub keeps : p.lexer.keeps_tokens ≡ asks
   pub unasked : asks ≡ false → p.lexer.kept.tokens ≡ []
-  pub kept : (HasHashbang text → ⊥) → FoundNothing p → (t : Tree) (r : Reading text (goal_of s) (options_of o) t) → IsKeptOf r asks p.lexer.kept
+  pub kept : FoundNothing p → (t : Tree) (r : Reading text (goal_of s) (options_of o) t) → IsKeptOf r asks p.lexer.kept
 
 -- A fatal diagnostic ended the parse.
 pub record ProgramRefused (text : List ℕ) (s : SourceType) (o : ParseOptions) (p : Parser) : Type 0 where
   pub is_of : IsOf text s p
   pub some : p.errors ≡ [] → ⊥
-  pub none : (HasHashbang text → ⊥) → HasNoReading text (goal_of s) (options_of o)
+  pub none : HasNoReading text (goal_of s) (options_of o)
 
 abbrev pub ProgramStops : List ℕ → SourceType → ParseOptions → Parser → Stop → Type 0
 ProgramStops text s o p Fatal = ProgramRefused text s o p

@@ -17,10 +17,10 @@ use Rattle.jsparse.specs.Words.{settings_of}
 
 module _ (s : Settings) {text : List ℕ} {taken : SourceType} {nodes : List Node} {out : LexerOutput} {fatal : Bool} (a : Answers text s.goal taken s.options nodes out fatal) (short : length text ≤ MAX_LEN) where
   pub accepts : {lines : List ℕ} → out.errors ≡ [] → ((t : Tree) → IsTree nodes t → lines ≡ tree_text t) → Accepts (settings_of s) text lines
-  accepts z f = let r = a.short short in record { tree = r.tree; only = λ n. r.clean z n; lines = f r.tree r.is_tree }
+  accepts z f = let r = a.short short in record { tree = r.tree; only = r.clean z; lines = f r.tree r.is_tree }
 
   pub refuses : {lines : List ℕ} → (out.errors ≡ [] → ⊥) → lines ≡ diagnostic_text out.errors → Refuses (settings_of s) text lines
-  refuses n e = let r = a.short short in record { found = out.errors; some = n; told = r.told; lines = e; none = λ x. r.unclean n x }
+  refuses n e = let r = a.short short in record { found = out.errors; some = n; told = r.told; lines = e; none = r.unclean n }
 
 -- the parser's own text, goal and options are those that were given
 pub answered : {text source : List ℕ} {given goal taken : SourceType} {asked o : ParseOptions} {nodes : List Node} {out : LexerOutput} {fatal : Bool} → source ≡ text → goal ≡ given → o ≡ asked → Answers source goal taken o nodes out fatal → Answers text given taken asked nodes out fatal

@@ -15,7 +15,7 @@ use Rattle.js_grammar.specs.CommandLine.{Admitted}
 use Rattle.js_grammar.specs.CoreTexts.{CoreSource}
 use Rattle.js_grammar.specs.Options.{options_of}
 use Rattle.js_parser.specs.Readings.{read_at}
-use Rattle.js_parser.proofs.CoreTexts.{no_hashbang, only_core, none_core}
+use Rattle.js_parser.proofs.CoreTexts.{only_core, none_core}
 use Rattle.jsparse.specs.Words.{Sets}
 use Rattle.jsparse.specs.Runs.{limit, Gave, IsText, IsLong, ReadsUpTo, Told, Answers, HasCause, FitsWords, LeavesSink, LeavesSource, ComesBefore, IsAnswerBy, IsAnswerTo, IsCoreAnswerTo}
 use Rattle.jsparse.specs.Steps.{Made, ReadPiece, ReadCause, StopCause, TookFront, PutCause}
@@ -219,10 +219,10 @@ no_read_fault TooLong words t p q h e = cc
 -- ---- core texts
 
 writes_reading : (s : Settings) (text out : List ℕ) → IsUtf8 text → CoreSource text → Accepts s text out → WritesReading s.allow_v8 text out
-writes_reading s text out u c a = record { tree = a.tree; only = only_core u c (read_at s.goal) (options_of s) a.tree (a.only (no_hashbang u c)); lines = a.lines }
+writes_reading s text out u c a = record { tree = a.tree; only = only_core u c (read_at s.goal) (options_of s) a.tree a.only; lines = a.lines }
 
 writes_diagnostics : (s : Settings) (text out : List ℕ) → IsUtf8 text → CoreSource text → Refuses s text out → WritesDiagnostics s.allow_v8 text out
-writes_diagnostics s text out u c r = record { none = none_core u c (read_at s.goal) (options_of s) (r.none (no_hashbang u c)); found = r.found; some = r.some; inside = r.told.lie; lines = r.lines }
+writes_diagnostics s text out u c r = record { none = none_core u c (read_at s.goal) (options_of s) r.none; found = r.found; some = r.some; inside = r.told.lie; lines = r.lines }
 
 answer_by : {A B C D : List ℕ → Type 0} → ((out : List ℕ) → A out → C out) → ((out : List ℕ) → B out → D out) → (t : Told) (status : Status) → IsAnswerBy A B t status → IsAnswerBy C D t status
 answer_by f g t Ok (out, a, w, l) = (out, f out a, w, l)

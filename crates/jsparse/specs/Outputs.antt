@@ -8,12 +8,12 @@ use Rattle.js_grammar.specs.Options.{options_of}
 use Rattle.js_grammar.specs.Settings.{Settings, prints_tree}
 use Rattle.js_base.specs.Spans.{LiesIn}
 use Rattle.js_parser.specs.CoreAnswers.{IsOnlyCoreReading, HasNoCoreReading}
-use Rattle.js_parser.specs.Readings.{read_at, HasNoReading, IsOnlyReading, HasHashbang, AreOf}
+use Rattle.js_parser.specs.Readings.{read_at, HasNoReading, IsOnlyReading, AreOf}
 
--- The output is the lines of the text's only reading. Of a text that begins with a hashbang comment no reading is claimed.
+-- The output is the lines of the text's only reading.
 pub record Accepts (s : Settings) (text out : List ℕ) : Type 0 where
   pub tree : Tree
-  pub only : (HasHashbang text → ⊥) → IsOnlyReading text (read_at s.goal) (options_of s) tree
+  pub only : IsOnlyReading text (read_at s.goal) (options_of s) tree
   pub lines : out ≡ tree_text tree
 
 -- The text has no reading; the output is the lines of diagnostics, one at least. Each has its mark, and a span in the text.
@@ -22,7 +22,7 @@ pub record Refuses (s : Settings) (text out : List ℕ) : Type 0 where
   pub some : found ≡ [] → ⊥
   pub told : AreOf (read_at s.goal) text found
   pub lines : out ≡ diagnostic_text found
-  pub none : (HasHashbang text → ⊥) → HasNoReading text (read_at s.goal) (options_of s)
+  pub none : HasNoReading text (read_at s.goal) (options_of s)
 
 -- true, where the text is refused
 abbrev pub Gives : Settings → List ℕ → Bool → List ℕ → Type 0

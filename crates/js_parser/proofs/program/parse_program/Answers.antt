@@ -8,4 +8,4 @@ pub parse_statements-requires-clause-at : goal.parse_statements-requires-clause-
 parse_statements-requires-clause-at c = begins c.requires.1 (λ e. false≢true (sym c.if-at.false ∙ c.at.ensures.1 e))
 
 pub returns : goal.returns
-returns c = program_answers c.requires.1 (λ v. v.items) _ c.parse_statements.result (begins c.requires.1 (λ e. false≢true (sym c.if-at.false ∙ c.at.ensures.1 e))) c.parse_statements.ensures
+returns c = program_answers c.requires.1 (λ e. false≢true (sym c.if-at.false ∙ c.at.ensures.1 e)) (λ v. v.items) _ c.parse_statements.result c.parse_statements.ensures
