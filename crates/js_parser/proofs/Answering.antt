@@ -4,7 +4,12 @@ use Rattle.std.specs.List.{All}
 use Rattle.std.specs.Prelude.{IsCharBoundary, IsUtf8, Result, Ok, Err, IfOk}
 use Rattle.std.proofs.lemmas.List.Elements.{All-append, All-take, All-weaker, All-nil}
 use Rattle.js_base.specs.declared.diagnostic.Diagnostic.{Diagnostic}
+use Rattle.js_base.specs.declared.diagnostic.DiagnosticKind.{DiagnosticKind}
 use Rattle.js_base.specs.declared.diagnostic.DiagnosticKind.TheVariants.{OverlongSource}
+use Rattle.js_base.specs.declared.diagnostic.DiagnosticKind.TheVariants as fault
+use Rattle.js_base.specs.declared.diagnostic.DiagnosticClass.TheVariants.{Lexical}
+use Rattle.js_base.specs.Diagnostics.{class_of}
+use Rattle.js_grammar.specs.LexicalFaults.{FaultyBehind}
 use Rattle.js_base.specs.declared.options.ParseOptions.{ParseOptions}
 use Rattle.js_base.specs.declared.source_type.SourceType.{SourceType}
 use Rattle.js_base.specs.declared.span.Span.{Span}
@@ -24,7 +29,7 @@ use Rattle.js_base.specs.declared.token.Token.{Token}
 use Rattle.js_lex.specs.Kept.{LieIn}
 use Rattle.js_lex.specs.declared.comment.Comment.{Comment}
 use Rattle.js_lex.specs.declared.output.LexerOutput.{LexerOutput}
-use Rattle.js_parser.specs.Readings.{HasNoReading, IsOnlyReading, IsMarked, AreOf}
+use Rattle.js_parser.specs.Readings.{HasNoReading, IsOnlyReading, AreOf}
 use Rattle.js_grammar.specs.Options.{Options}
 use Rattle.js_grammar.specs.Settings.{Goal}
 use Rattle.js_parser.specs.Kept.{TellsRead, KeepsRight}
@@ -49,6 +54,20 @@ none_of_two a b e f = λ i. e i ++ f i
 span_is : (sp : Span) {a b : ℕ} → sp.start ≡ a → sp.end ≡ b → sp ≡ record { start = a; end = b }
 span_is sp x y = λ i. record { start = x i; end = y i }
 
+-- what may be wrong with a lexeme is of the lexical class
+lexical_by : {goal : Goal} {text : List ℕ} {s from to : ℕ} (k : DiagnosticKind) → FaultyBehind k goal text s from to → class_of k ≡ Lexical
+lexical_by fault.InvalidCharacter f = refl
+lexical_by fault.BinaryFile f = refl
+lexical_by fault.UnterminatedString f = refl
+lexical_by fault.UnterminatedTemplate f = refl
+lexical_by fault.UnterminatedRegexp f = refl
+lexical_by fault.UnterminatedComment f = refl
+lexical_by fault.InvalidEscape f = refl
+lexical_by fault.InvalidNumber f = refl
+lexical_by fault.RegExpFlag f = refl
+lexical_by fault.HtmlCommentInModule f = refl
+lexical_by _ f = absurd f.condition.2
+
 module _ {text : List ℕ} {s : SourceType} {p : Parser} (t : IsOf text s p) where
   -- it is one of characters
   characters : IsUtf8 text
@@ -65,9 +84,6 @@ module _ {text : List ℕ} {s : SourceType} {p : Parser} (t : IsOf text s p) whe
   marks : All (Mark (goal_of s) text) p.errors
   marks = subst (λ (w : List ℕ). All (Mark (goal_of s) w) p.errors) t.text_is (subst (λ (v : SourceType). All (Mark (goal_of v) p.text) p.errors) t.source_type t.at.marked)
 
-  marked_all : (kept : List Diagnostic) → All (IsFault (goal_of s) text) kept → All (IsMarked (goal_of s) text) (kept ++ p.errors)
-  marked_all kept h = All-append (IsMarked (goal_of s) text) kept p.errors (All-weaker (IsFault (goal_of s) text) (IsMarked (goal_of s) text) (λ d f. inr f) kept h) (All-weaker (Mark (goal_of s) text) (IsMarked (goal_of s) text) (λ d f. inl f) p.errors marks)
-
   -- and lies in the text
   marks_lie : All (λ d. LiesIn d.span text) p.errors
   marks_lie = All-weaker (Mark (goal_of s) text) (λ d. LiesIn d.span text) (λ d m. record { ordered = m.ordered; starts_whole = m.begins_between; ends_whole = m.ends_between }) p.errors marks
@@ -76,7 +92,15 @@ module _ {text : List ℕ} {s : SourceType} {p : Parser} (t : IsOf text s p) whe
   faults_lie kept h = All-weaker (IsFault (goal_of s) text) (λ d. LiesIn d.span text) (λ d f. record { ordered = (let l = f.faulty.ordered in omega arith); starts_whole = f.faulty.begins_between; ends_whole = f.faulty.ends_between }) kept h
 
   told_all : (kept found : List Diagnostic) → found ≡ kept ++ p.errors → All (IsFault (goal_of s) text) kept → AreOf (goal_of s) text found
-  told_all kept found e h = subst (AreOf (goal_of s) text) (sym e) (record { marked = marked_all kept h; lie = All-append (λ d. LiesIn d.span text) kept p.errors (faults_lie kept h) marks_lie })
+  told_all kept found e h = record {
+    faults = kept;
+    told = p.errors;
+    in_order = e;
+    faulty = h;
+    lexical = All-weaker (IsFault (goal_of s) text) (λ d. class_of d.kind ≡ Lexical) (λ d f. lexical_by d.kind f.faulty) kept h;
+    marked = marks;
+    lie = subst (All (λ d. LiesIn d.span text)) (sym e) (All-append (λ d. LiesIn d.span text) kept p.errors (faults_lie kept h) marks_lie);
+  }
 
   -- so do the comments, the white space and the tokens that were kept
   lies : (kept out : LexerOutput) (told : List Diagnostic) → out ≡ record kept { errors = told ++ p.errors } → LieIn p.lexer.text kept → All (IsFault (goal_of s) text) told → LieIn text out

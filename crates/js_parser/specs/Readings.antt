@@ -1,8 +1,10 @@
 -- What it is that a tree is a reading of a text, and what diagnostics tell of it.
-use Rattle.std.specs.Prelude.{ℕ, ◌≡◌, ◌⊎◌, true, false, ◌||◌, List}
+use Rattle.std.specs.Prelude.{ℕ, ◌≡◌, true, false, ◌||◌, List, ◌++◌}
 use Rattle.std.specs.List.{All}
 use Rattle.js_base.specs.declared.diagnostic.Diagnostic.{Diagnostic}
+use Rattle.js_base.specs.declared.diagnostic.DiagnosticClass.TheVariants.{Lexical}
 use Rattle.js_base.specs.declared.kind.Kind.TheVariants.{Eof}
+use Rattle.js_base.specs.Diagnostics.{class_of}
 use Rattle.js_base.specs.Spans.{LiesIn}
 use Rattle.js_grammar.specs.Trees.{Tree}
 use Rattle.js_grammar.specs.Grammar.{Lexeme, Lexemes, last, next, Derives}
@@ -67,11 +69,12 @@ pub record IsOnlyReading (text : List ℕ) (goal : Goal) (o : Options) (tree : T
   pub reading : Reading text goal o tree
   pub only : (t : Tree) (r : Reading text goal o t) → (t ≡ tree) × (r.lexemes ≡ reading.lexemes)
 
--- what a diagnostic says of its span
-abbrev pub IsMarked : Goal → List ℕ → Diagnostic → Type 0
-IsMarked goal text d = Mark goal text d ⊎ IsFault goal text d
-
--- Diagnostics of a text: each has what its kind says at its span, which lies in the text and splits no character.
+-- Diagnostics of a text: faults of lexemes, of the class Lexical, and behind them what the parser found. Each has what its kind says at its span, which lies in the text and splits no character.
 pub record AreOf (goal : Goal) (text : List ℕ) (found : List Diagnostic) : Type 0 where
-  pub marked : All (IsMarked goal text) found
+  pub faults : List Diagnostic
+  pub told : List Diagnostic
+  pub in_order : found ≡ faults ++ told
+  pub faulty : All (IsFault goal text) faults
+  pub lexical : All (λ d. class_of d.kind ≡ Lexical) faults
+  pub marked : All (Mark goal text) told
   pub lie : All (λ d. LiesIn d.span text) found
