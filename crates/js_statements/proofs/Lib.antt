@@ -1,0 +1,4 @@
+pub mod Labels
+pub mod StatementLists
+pub mod Statements
+pub mod Strings
