@@ -8,16 +8,16 @@ ghost use Rattle.js_parsing.specs.Nesting.{CanNest, Reading, Ready, room};
 ghost use Rattle.js_statements.specs.StatementLists.{AllRefused, AllTaken};
 ghost use Rattle.js_parsing.specs.States.{Standing};
 
+use js_cursor::{ParserImpl, Stop};
 use js_expressions::assignment::parse_assignment_expression;
-use js_patterns::binding::parse_binding_pattern;
-use js_parsing::nested::{By, Goal, Nested};
 use js_expressions::operators::parse_exponentiation_expression;
 use js_expressions::sequence::parse_sequence_expression;
+use js_expressions::unary::parse_unary_expression_or_higher;
+use js_lex::{ParserConfig, RuntimeParserConfig};
+use js_parsing::nested::{By, Goal, Nested};
+use js_patterns::binding::parse_binding_pattern;
 use js_statements::statement::parse_statement;
 use js_statements::statement_list::parse_directives_and_statements;
-use js_expressions::unary::parse_unary_expression_or_higher;
-use js_cursor::{ParserImpl, Stop};
-use js_lex::{ParserConfig, RuntimeParserConfig};
 use js_tree::NodeId;
 
 /// A parser that is told when the program runs whether it keeps the tokens.

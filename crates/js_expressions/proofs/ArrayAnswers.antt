@@ -46,14 +46,11 @@ use Rattle.js_targets.proofs.ArraysConverted.{signs}
 use Rattle.js_targets.proofs.Assigned.{assign_part, no_branch, not_target, to_parts}
 use Rattle.js_expressions.proofs.Assignments.{all_assign, no_question, on_second, plain_here, second}
 use Rattle.js_expressions.proofs.Conditionals.{no_conditional}
-
 use Rattle.js_parsing.proofs.Dead.{fails_dead}
-
 use Rattle.js_parsing.proofs.MadeNodes.{two_held}
 use Rattle.js_parsing.proofs.Moving.{same_both}
 use Rattle.js_operands.proofs.Operands.{by_path}
 use Rattle.js_parsing.proofs.Paths.{Path, ◌⟼◌, ◌⟶◌, ◌⟶✗◌, label_here, last_called, noded_by, token}
-
 use Rattle.js_parsing.proofs.Verdicts.{verdict_of}
 
 -- as much is left where the place is the same

@@ -45,7 +45,6 @@ use Rattle.js_targets.specs.Targets.{target_of, TargetNode}
 use Rattle.js_targets.proofs.Assigned.{an_assign, Assigns, assigns, assign_slots, assign_part, then_assign, not_target, assigned}
 use Rattle.js_expressions.proofs.Conditionals.{no_conditional}
 use Rattle.js_parsing.proofs.Signs.{other_kind}
-
 use Rattle.js_targets.proofs.ArraysBeforeSigns.{no_array_there, not_wide, target_no_array}
 use Rattle.js_parsing.proofs.Dead.{all_read}
 use Rattle.js_targets.specs.Targets.{is_array}

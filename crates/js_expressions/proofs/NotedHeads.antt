@@ -14,7 +14,6 @@ use Rattle.js_cursor.specs.Notes.{Notes, is_failed}
 use Rattle.js_cursor.specs.Parsers.{Parser}
 use Rattle.js_cursor.specs.Places.{IsAt}
 use Rattle.js_cursor.proofs.Changing.{noted_on}
-
 use Rattle.js_expressions.specs.Arrows.{NoArrowHere, NoHeadHere, Unmoved}
 use Rattle.js_parsing.specs.Heads.{NoHead, NotedHeads, throughout}
 use Rattle.js_parsing.specs.Lexemes.{Lex, spot}

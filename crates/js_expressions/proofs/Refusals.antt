@@ -40,7 +40,6 @@ use Rattle.js_targets.specs.Taken.{no_target_at, Refused}
 use Rattle.js_parsing.specs.States.{At, Same}
 use Rattle.js_targets.specs.Targets.{target_of, Stood}
 use Rattle.js_targets.proofs.Covers.{row_of_target, Untargeted, no_target_there}
-
 use Rattle.js_parsing.proofs.Here.{found, uncut}
 use Rattle.js_parsing.proofs.Moving.{same_itself, same_both}
 use Rattle.js_parsing.proofs.Paths.{read_of, not_here, angles}

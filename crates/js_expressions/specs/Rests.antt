@@ -22,7 +22,6 @@ use Rattle.js_cursor.specs.Places.{goal}
 use Rattle.js_cursor.specs.declared.stop.Stop.{Stop}
 use Rattle.js_cursor.specs.declared.stop.Stop.TheVariants.{Fatal}
 use Rattle.js_parsing.specs.Answers.{Numbered, Outcome, Underived}
-
 use Rattle.js_parsing.specs.States.{At}
 
 -- A ShortCircuitExpression was read up to the old state, where no arrow function is derived; what is read now makes an AssignmentExpression of it.

@@ -9,16 +9,16 @@ ghost use Rattle.js_expressions.specs.Arrows.{ArrowBehind, ChecksLine, FindsHead
 ghost use Rattle.js_parsing.specs.Nesting.{CanNest, room};
 ghost use Rattle.js_parsing.specs.States.{Standing};
 
+use js_base::{Diagnostic, DiagnosticKind, Kind, NoMemory};
+use js_cursor::{ParserImpl, Stop};
+use js_lex::ParserConfig;
+use js_operands::primary::parse_leaf;
 use js_parsing::context::assignment_in_arrow;
 use js_parsing::diagnostics::kept_so_far;
 use js_parsing::lexemes::{advance, stands};
 use js_parsing::nested::Nested;
 use js_parsing::nodes::{make_one, make_two, make_with_optional};
 use js_patterns::parameters::parse_formal_parameters;
-use js_operands::primary::parse_leaf;
-use js_base::{Diagnostic, DiagnosticKind, Kind, NoMemory};
-use js_cursor::{ParserImpl, Stop};
-use js_lex::ParserConfig;
 use js_tree::{NodeId, NodeKind, Op};
 
 /// The parameters of an arrow function, where they stand here with `=>` behind them: a name, or a list in parentheses.

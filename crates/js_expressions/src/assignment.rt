@@ -15,20 +15,20 @@ ghost use Rattle.js_expressions.specs.Rests.{AssignsArray, Asked, ReadsCondition
 ghost use Rattle.js_parsing.specs.Moves.{Passes};
 ghost use Rattle.js_parsing.specs.States.{Standing};
 
-use js_targets::array_target::array_target;
 use crate::arrow::{parse_arrow_function_expression, parse_arrow_head};
-use js_parsing::context::assignment_with_in;
-use js_targets::cover::{cover, is_array_literal, refuse_target, tell_not_simple};
-use js_parsing::diagnostics::kept_so_far;
-use js_parsing::lexemes::{advance, operator_here};
-use js_parsing::nested::Nested;
-use js_parsing::nodes::{make_three, make_two};
 use crate::operators::parse_binary_expression_or_higher;
 use js_base::{
     AssignmentOperator, Diagnostic, DiagnosticKind, Kind, Span, map_assignment_operator,
 };
 use js_cursor::{ParserImpl, Stop};
 use js_lex::ParserConfig;
+use js_parsing::context::assignment_with_in;
+use js_parsing::diagnostics::kept_so_far;
+use js_parsing::lexemes::{advance, operator_here};
+use js_parsing::nested::Nested;
+use js_parsing::nodes::{make_three, make_two};
+use js_targets::array_target::array_target;
+use js_targets::cover::{cover, is_array_literal, refuse_target, tell_not_simple};
 use js_tree::{NodeId, NodeKind, Op};
 
 /// An AssignmentExpression (ECMA-262, section 13.15).

@@ -21,10 +21,6 @@ ghost use Rattle.js_parsing.specs.Nesting.{CanNest, room};
 ghost use Rattle.js_parsing.specs.Operators.{power_of};
 ghost use Rattle.js_parsing.specs.States.{Standing};
 
-use js_parsing::diagnostics::kept_so_far;
-use js_parsing::lexemes::{advance, operator_here, reads_here};
-use js_parsing::nested::Nested;
-use js_parsing::nodes::make_two;
 use crate::unary::parse_unary_expression_or_higher;
 use js_base::{
     BinaryOperator, Diagnostic, DiagnosticKind, Kind, LogicalOperator, NoMemory,
@@ -32,6 +28,10 @@ use js_base::{
 };
 use js_cursor::{ParserImpl, Stop};
 use js_lex::ParserConfig;
+use js_parsing::diagnostics::kept_so_far;
+use js_parsing::lexemes::{advance, operator_here, reads_here};
+use js_parsing::nested::Nested;
+use js_parsing::nodes::make_two;
 use js_tree::{NodeId, NodeKind, Op, ParserAstBuilder};
 
 /// A ShortCircuitExpression (ECMA-262, section 13.13): operands, and `??` between them, grouped to the left. An operand

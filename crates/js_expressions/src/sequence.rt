@@ -8,12 +8,12 @@ ghost use Rattle.js_parsing.specs.Nesting.{CanNest, room};
 ghost use Rattle.js_parsing.specs.States.{Standing};
 
 use crate::assignment::parse_assignment_expression;
-use js_parsing::lexemes::advance;
-use js_parsing::nested::Nested;
-use js_parsing::nodes::make_list;
 use js_base::Kind;
 use js_cursor::{ParserImpl, Stop};
 use js_lex::ParserConfig;
+use js_parsing::lexemes::advance;
+use js_parsing::nested::Nested;
+use js_parsing::nodes::make_list;
 use js_tree::{NodeId, NodeKind, Op};
 
 /// An Expression (ECMA-262, section 13.16).

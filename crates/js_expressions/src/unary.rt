@@ -8,13 +8,13 @@ ghost use Rattle.js_parsing.specs.Nesting.{CanNest, room};
 ghost use Rattle.js_parsing.specs.Operators.{unary_kinds};
 ghost use Rattle.js_parsing.specs.States.{Standing};
 
-use js_parsing::lexemes::advance;
-use js_parsing::nested::Nested;
-use js_parsing::nodes::make_one;
 use crate::update::parse_update_expression;
 use js_base::map_unary_operator;
 use js_cursor::{ParserImpl, Stop};
 use js_lex::ParserConfig;
+use js_parsing::lexemes::advance;
+use js_parsing::nested::Nested;
+use js_parsing::nodes::make_one;
 use js_tree::{NodeId, NodeKind, Op};
 
 /// A UnaryExpression (ECMA-262, section 13.5): an operator and what it stands before, or an UpdateExpression.

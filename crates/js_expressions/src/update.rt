@@ -11,15 +11,15 @@ ghost use Rattle.js_parsing.specs.Nesting.{CanNest, room};
 ghost use Rattle.js_expressions.specs.Rests.{update_kinds};
 ghost use Rattle.js_parsing.specs.States.{Standing};
 
-use js_targets::cover::{cover, refuse_target};
-use js_parsing::diagnostics::kept_so_far;
-use js_operands::left_hand_side::parse_lhs_expression_or_higher;
-use js_parsing::lexemes::{advance, ends_operand};
-use js_parsing::nested::Nested;
-use js_parsing::nodes::make_one;
 use js_base::{NoMemory, Span, UpdateOperator, map_update_operator};
 use js_cursor::{ParserImpl, Stop};
 use js_lex::ParserConfig;
+use js_operands::left_hand_side::parse_lhs_expression_or_higher;
+use js_parsing::diagnostics::kept_so_far;
+use js_parsing::lexemes::{advance, ends_operand};
+use js_parsing::nested::Nested;
+use js_parsing::nodes::make_one;
+use js_targets::cover::{cover, refuse_target};
 use js_tree::{NodeFlags, NodeId, NodeKind, Op};
 
 /// An UpdateExpression (ECMA-262, section 13.4).

@@ -49,7 +49,6 @@ use Rattle.js_parsing.specs.Answers.{Verdict, clean, Stretch, Stops}
 use Rattle.js_parsing.specs.Arguments.{item_of, items, list_of, rest_of, due_of, behind_item, NoItem, ItemTaken, TakesItem, Partway, Due, FindsDue}
 use Rattle.js_parsing.proofs.Signs.{plain_sign, other_kind}
 use Rattle.js_parsing.proofs.Stretches.{stretches}
-
 use Rattle.js_parsing.proofs.Here.{uncut}
 use Rattle.js_parsing.proofs.Signs.{AllAre, NoneIs}
 use Rattle.js_parsing.proofs.Signs.{stands_there}

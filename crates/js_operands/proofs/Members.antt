@@ -57,7 +57,6 @@ use Rattle.js_parsing.specs.Stands.{StandsHere}
 use Rattle.js_operands.specs.Members.{no_link_behind, Taken, NoBareNew, NoMember, Headed, a_member, a_new, MemberSoFar, NoAccess, NoParen, NoLhs, HeadOutcome, link_kinds, LinkForm, by_name, by_call, by_index, indexed, admits, chained, sign_of, link_label, NoLink, OnlyLink, Linked, LinkHere, a_link, no_link, ReadsLink, WithArguments, MakesWithArguments, WithIndex, MakesWithIndex, LinkOutcome, Beyond, CallSoFar, ChainSoFar, Callee, a_head, a_call, CalleeOutcome, TellsChain}
 use Rattle.js_parsing.specs.Arguments.{Partway}
 use Rattle.js_parsing.proofs.Here.{told, angled, begins_here, uncut, found}
-
 use Rattle.js_parsing.proofs.Verdicts.{verdict_of, either_way, and_then, behind_none, grown_then}
 use Rattle.js_parsing.proofs.Verdicts.{after as grown_behind}
 use Rattle.js_parsing.proofs.Moving.{moves, same_both, beside_nodes, elsewhere, at_depth, stops_behind, stops_in, stops_so, standing, same_with}
@@ -69,7 +68,6 @@ use Rattle.js_parsing.proofs.Signs.{AllAre, NoneIs}
 use Rattle.js_operands.proofs.Links.{NotCall, bases, before_chain, with_arguments, member_start, no_member, member_new, no_member_new, member_step, member_step_fails, member_end, no_new_before, new_unfollowed, no_new, new_member, new_bare, member_before_chain, no_call_at_all, no_call_behind, call_begin, call_step, call_step_fails, call_ends, base_member, base_call, base_none, chain_begin, no_first, chain_step, chain_step_fails, chain_ends, no_lhs, lhs_new, lhs_call, lhs_chain, call_unfollowed, member_before, member_alone, call_alone, no_lhs_here, call_heads, chain_heads}
 use Rattle.js_operands.proofs.Links.{no_link as no_chain_link}
 use Rattle.js_parsing.proofs.Stretches.{stretches}
-
 use Rattle.js_parsing.proofs.Parts.{part_path, part_path_fails, parts, part_sign, part_last, part_called}
 use Rattle.js_parsing.proofs.Signs.{plain_sign, other_kind}
 use Rattle.js_operands.specs.declared.left_hand_side.LinkBase.{LinkBase}

@@ -42,14 +42,12 @@ use Rattle.js_parsing.specs.Answers.{Answer, Verdict, unclean, Stretch, Underive
 use Rattle.js_parsing.specs.Arguments.{item_of, behind_item, NoItem, ItemTaken, ItemOutcome, spread_at}
 use Rattle.js_parsing.specs.Stands.{StandsHere}
 use Rattle.js_parsing.specs.Moves.{Moved, MadeHere, plain_label}
-
 use Rattle.js_parsing.proofs.Signs.{NoneIs, AllAre}
 use Rattle.js_operands.proofs.ArgumentLists.{is_that}
 use Rattle.js_parsing.proofs.MadeNodes.{one_held}
 use Rattle.js_parsing.proofs.Signs.{stands_not, stands_there}
 use Rattle.js_parsing.proofs.Moving.{same_both, same_with, beside_nodes, stops_so, stops_behind}
 use Rattle.js_parsing.proofs.Paths.{Path, ◌⟼◌, ◌⟶◌, ◌⟶✗◌, token, last_called, noded_by, by_symbol_as, label_here, walked_from}
-
 use Rattle.js_parsing.proofs.Verdicts.{verdict_of, grown_both, grown_on}
 use Rattle.js_parsing.proofs.Giving.{kept_one}
 use Rattle.js_parsing.proofs.Told.{told_same, lexeme_marked}

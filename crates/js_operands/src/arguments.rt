@@ -8,13 +8,13 @@ ghost use Rattle.js_parsing.specs.Stands.{StandsHere};
 ghost use Rattle.js_parsing.specs.Nesting.{CanNest, room};
 ghost use Rattle.js_parsing.specs.States.{Standing};
 
+use js_base::{Diagnostic, DiagnosticKind, Kind, NoMemory, Span};
+use js_cursor::{ListStep, ParserImpl, Stop};
+use js_lex::ParserConfig;
 use js_parsing::context::assignment_with_in;
 use js_parsing::lexemes::{advance, stands};
 use js_parsing::nested::Nested;
 use js_parsing::nodes::make_one;
-use js_base::{Diagnostic, DiagnosticKind, Kind, NoMemory, Span};
-use js_cursor::{ListStep, ParserImpl, Stop};
-use js_lex::ParserConfig;
 use js_tree::{NodeId, NodeKind, Op};
 
 /// Arguments in their parentheses, behind the children that the node has already. `spreads`: one may be spread.

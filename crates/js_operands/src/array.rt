@@ -11,13 +11,13 @@ ghost use Rattle.js_parsing.specs.Nesting.{CanNest, room};
 ghost use Rattle.js_parsing.specs.States.{Standing};
 
 use crate::arguments::parse_argument;
-use js_parsing::lexemes::{advance, stands};
-use js_parsing::nested::Nested;
-use js_parsing::nodes::make_list;
 use crate::primary::parse_leaf;
 use js_base::{Kind, Span};
 use js_cursor::{ParserImpl, Stop};
 use js_lex::ParserConfig;
+use js_parsing::lexemes::{advance, stands};
+use js_parsing::nested::Nested;
+use js_parsing::nodes::make_list;
 use js_tree::{NodeId, NodeKind, Op};
 
 /// An ArrayLiteral (ECMA-262, section 13.2.4).

@@ -18,14 +18,14 @@ ghost use Rattle.js_parsing.specs.States.{Standing};
 ghost use Rattle.js_operands.specs.declared.left_hand_side.LinkBase.TheVariants as base;
 
 use crate::arguments::parse_call_arguments;
-use js_parsing::context::expression_with_in;
-use js_parsing::lexemes::{advance, is_read_word, stands};
-use js_parsing::nested::Nested;
-use js_parsing::nodes::make_one;
 use crate::primary::{parse_leaf, parse_primary_expression};
 use js_base::{Diagnostic, DiagnosticKind, Kind, NoMemory, Span};
 use js_cursor::{ParserImpl, Stop};
 use js_lex::ParserConfig;
+use js_parsing::context::expression_with_in;
+use js_parsing::lexemes::{advance, is_read_word, stands};
+use js_parsing::nested::Nested;
+use js_parsing::nodes::make_one;
 use js_tree::{NodeFlags, NodeId, NodeKind, Op};
 
 /// What links go on with.

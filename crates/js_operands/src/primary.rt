@@ -17,14 +17,14 @@ ghost use Rattle.js_parsing.specs.Moves.{Passes};
 ghost use Rattle.js_parsing.specs.States.{Standing};
 
 use crate::array::parse_array_expression;
-use js_parsing::context::expression_with_in;
 use crate::left_hand_side::{parse_identifier_name, parse_with_arguments};
-use js_parsing::lexemes::{advance, stands};
-use js_parsing::nested::Nested;
-use js_parsing::nodes::{make_leaf, make_one};
 use js_base::{Kind, Span};
 use js_cursor::{ParserImpl, Stop};
 use js_lex::ParserConfig;
+use js_parsing::context::expression_with_in;
+use js_parsing::lexemes::{advance, stands};
+use js_parsing::nested::Nested;
+use js_parsing::nodes::{make_leaf, make_one};
 use js_tree::{BigintBase, NodeFlags, NodeId, NodeKind, NumberBase, Op, ParserAstBuilder};
 
 /// A PrimaryExpression (ECMA-262, section 13.2): a name, a literal, an array, parentheses or a call of V8.

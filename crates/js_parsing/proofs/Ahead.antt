@@ -41,9 +41,7 @@ use Rattle.js_cursor.specs.Moves.{MayEnd, EndsOr, GivesUp, IsUnexpected, OnlyMem
 use Rattle.js_cursor.specs.declared.stop.Stop.{Stop}
 use Rattle.js_cursor.specs.declared.stop.Stop.TheVariants.{Fatal, NoMemory}
 use Rattle.js_parsing.specs.Lexemes.{Lex}
-
 use Rattle.js_parsing.proofs.Dead.{unread, fails_dead}
-
 use Rattle.js_parsing.proofs.Paths.{reads}
 
 module _ {text : List ℕ} {s : ℕ} where

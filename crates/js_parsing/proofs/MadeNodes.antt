@@ -40,7 +40,6 @@ use Rattle.js_tree.specs.Holding.{Stands, stands, Holds, HoldsAll, Keeps}
 use Rattle.js_tree.proofs.HoldingLemmas.{HoldsAll-none, HoldsAll-next, HoldsAll-wider, Holds-below, Holds-wider, Keeps-refl, Keeps-trans, Keeps-made, Keeps-longer}
 use Rattle.js_cursor.specs.declared.stop.Stop.{Stop}
 
-
 module _ {v w : Parser} {l : Label} {ids : List (Option NodeId)} {id : NodeId} (n : MadeHere l ids v w id) where
   pub node_held : {lo : ℕ} {cs : Slots} → HoldsAll v.nodes lo (length v.nodes) ids cs → Holds w.nodes lo (length w.nodes) id.0 l cs
   node_held {lo} {cs} h = subst (λ (k : Label). Holds w.nodes lo (length w.nodes) id.0 k cs) n.label_is (Made-holds n.made (subst (λ (js : List (Option NodeId)). HoldsAll v.nodes lo (length v.nodes) js cs) (sym n.children) h))

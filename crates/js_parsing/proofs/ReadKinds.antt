@@ -19,7 +19,6 @@ use Rattle.js_parsing.specs.Stands.{ReadsHere}
 use Rattle.js_parsing.specs.States.{At, Standing, IsPlain, whole, sign, nothing as no_lexeme}
 use Rattle.js_parsing.proofs.Here.{cut_angle, cut_escaped, escaped_here, told}
 use Rattle.js_parsing.proofs.Paths.{angles, read_of}
-
 use Rattle.js_parsing.proofs.Tight.{read_plain}
 
 -- a sign that begins with `>` is read, and has no escape

@@ -42,14 +42,10 @@ use Rattle.js_grammar.specs.Marks.{Mark, LexemeAt, a_lexeme, of_kinds}
 use Rattle.js_lex.specs.States.{goal_of}
 use Rattle.js_cursor.specs.Places.{IsAt, goal}
 use Rattle.js_cursor.proofs.Standing.{mark_here}
-
 use Rattle.js_parsing.specs.Lexemes.{Lex}
 use Rattle.js_parsing.specs.States.{At}
-
 use Rattle.js_parsing.proofs.Here.{found, told, uncut, kind_here}
-
 use Rattle.js_parsing.proofs.Paths.{token}
-
 use Rattle.js_parsing.proofs.Tight.{read_plain}
 use Rattle.std.proofs.Common.{ℕ, ◌≡◌, ◌≤◌, ◌<◌, ◌⊎◌, inl, inr, List, [], ◌∷◌, length, length-append, Bool, true, false, not, cond, ◌&&◌, ◌||◌, IsTrue, Some, None, refl, sym, ap, subst, arith, ◌∙◌, nat_lt}
 use Rattle.std.specs.Prelude.{IsCharBoundary, IsSome, is_some, if◌then◌else◌}
@@ -74,13 +70,9 @@ use Rattle.js_parsing.specs.Moves.{Tightness}
 use Rattle.js_parsing.specs.Operators.{power_of}
 use Rattle.js_parsing.specs.Stands.{ending_kinds, Ended}
 use Rattle.js_parsing.specs.States.{At, IsPlain, whole, sign, nothing as no_lexeme}
-
 use Rattle.js_parsing.proofs.Here.{found, uncut}
-
 use Rattle.js_parsing.proofs.Paths.{read_of}
-
 use Rattle.js_parsing.proofs.Tight.{operator_read, read_plain}
-
 use Rattle.std.proofs.Common.{ℕ, ◌≡◌, ◌≤◌, ◌⊎◌, inl, inr, max, Bool, true, false, not, ◌&&◌, ◌||◌, IsTrue, List, [], ◌∷◌, refl, sym, ap, subst, arith, ◌∙◌}
 use Rattle.std.proofs.lemmas.Bool.{false≢true, and_parts, and_from, or_left}
 use Rattle.js_base.specs.declared.kind.Kind.TheVariants.{Dot, QuestionDot, New, LParen, LBrack, NoSubstitutionTemplate, TemplateHead, Function}
@@ -100,7 +92,6 @@ use Rattle.js_grammar.proofs.Towers.{Link, link, linked_label, make_of, this, of
 use Rattle.js_grammar.proofs.Split.{other_heads}
 use Rattle.js_grammar.proofs.Chains.{is_member, is_call, is_links, base_of, climbs, member_links, call_links, chain_links, members, calls, chains}
 use Rattle.js_grammar.proofs.LinkLoops.{OfMember, private, member_name, member_index}
-
 use Rattle.std.proofs.Common.{ℕ, ◌≡◌, ◌≤◌, ◌<◌, ◌+◌, ◌⊎◌, inl, inr, max, List, [], ◌∷◌, length, Option, Some, None, Bool, true, false, not, ◌&&◌, ◌||◌, IsTrue, refl, sym, ap, subst, arith, ◌∙◌, nat_lt, ◌++◌, cond}
 use Rattle.std.specs.Prelude.{Result, Ok, Err, MatchResult}
 use Rattle.std.proofs.lemmas.Bool.{false≢true, and_parts, and_from}
@@ -127,14 +118,10 @@ use Rattle.js_tree.proofs.HoldingLemmas.{HoldsAll-one, HoldsAll-next, Keeps-refl
 use Rattle.js_cursor.specs.Checkpoints.{Follows}
 use Rattle.js_cursor.specs.Moves.{Enters, GivesUp, Leaves, MovesOn, OnlyMemory, is_last}
 use Rattle.js_cursor.proofs.Later.{follows_on}
-
 use Rattle.js_parsing.specs.Answers.{Grown, Verdict, clean}
 use Rattle.js_parsing.specs.Stands.{StandsHere}
-
 use Rattle.js_parsing.proofs.Here.{told, angled, kind_here, escaped_here, uncut, found}
-
 use Rattle.js_parsing.proofs.Paths.{token, read_of}
-
 use Rattle.js_operands.specs.declared.left_hand_side.LinkBase.TheVariants as base
 use Rattle.js_grammar.specs.Lexemes.{is_word as is_name_word}
 

@@ -14,15 +14,15 @@ ghost use Rattle.js_parsing.specs.Stands.{StandsHere};
 ghost use Rattle.js_parsing.specs.Nesting.{CanNest, room};
 ghost use Rattle.js_parsing.specs.States.{Standing};
 
-use js_parsing::diagnostics::diagnostic_at;
-use js_parsing::context::assignment_with_in;
-use js_parsing::lexemes::{advance, stands};
-use js_parsing::nested::Nested;
-use js_parsing::nodes::{make_list, make_one, make_two};
-use js_operands::primary::parse_leaf;
 use js_base::{Diagnostic, DiagnosticKind, Kind, Span};
 use js_cursor::{ParserImpl, Stop};
 use js_lex::ParserConfig;
+use js_operands::primary::parse_leaf;
+use js_parsing::context::assignment_with_in;
+use js_parsing::diagnostics::diagnostic_at;
+use js_parsing::lexemes::{advance, stands};
+use js_parsing::nested::Nested;
+use js_parsing::nodes::{make_list, make_one, make_two};
 use js_tree::{NodeId, NodeKind, Op};
 
 /// A BindingIdentifier or a BindingPattern (ECMA-262, section 14.3.3).

@@ -11,15 +11,15 @@ ghost use Rattle.js_patterns.specs.Parameters.{parameters_left};
 ghost use Rattle.js_parsing.specs.States.{Standing};
 
 use crate::binding::{check_behind_rest, parse_binding_pattern, parse_binding_rest};
-use js_parsing::diagnostics::diagnostic_at;
-use js_parsing::context::assignment_with_in;
-use js_parsing::lexemes::advance;
-use js_parsing::nested::Nested;
-use js_parsing::nodes::{make_list, make_one, make_with_optional};
-use js_operands::primary::close_parentheses;
 use js_base::{DiagnosticKind, Kind};
 use js_cursor::{ParserImpl, Stop};
 use js_lex::ParserConfig;
+use js_operands::primary::close_parentheses;
+use js_parsing::context::assignment_with_in;
+use js_parsing::diagnostics::diagnostic_at;
+use js_parsing::lexemes::advance;
+use js_parsing::nested::Nested;
+use js_parsing::nodes::{make_list, make_one, make_with_optional};
 use js_tree::{NodeId, NodeKind, Op};
 
 /// FormalParameters in their parentheses (ECMA-262, section 15.1).

@@ -10,14 +10,14 @@ ghost use Rattle.js_parsing.specs.Nesting.{CanNest, room};
 ghost use Rattle.js_parsing.specs.States.{Standing};
 ghost use Rattle.js_parsing.specs.Statements.{EndsStatement, IsLabel, LabelsStatement, NoEnd, TakesAnywhere, TakesStatement, link_kinds};
 
+use js_base::{Kind, Span, Token};
+use js_cursor::{ParserImpl, Stop};
+use js_expressions::sequence::parse_sequence_expression;
+use js_lex::ParserConfig;
+use js_operands::primary::parse_leaf;
 use js_parsing::lexemes::advance;
 use js_parsing::nested::Nested;
 use js_parsing::nodes::{make_leaf, make_one, make_two};
-use js_operands::primary::parse_leaf;
-use js_expressions::sequence::parse_sequence_expression;
-use js_base::{Kind, Span, Token};
-use js_cursor::{ParserImpl, Stop};
-use js_lex::ParserConfig;
 use js_tree::{NodeId, NodeKind, Op};
 
 /// A StatementListItem (ECMA-262, section 14.2), as far as it is a Statement.

@@ -10,13 +10,13 @@ ghost use Rattle.js_parsing.specs.Nesting.{CanNest, room};
 ghost use Rattle.js_statements.specs.StatementLists.{AllRefused, AllTaken, DirectivesTaken, OpeningTaken};
 ghost use Rattle.js_parsing.specs.States.{Standing};
 
-use js_parsing::nested::Nested;
-use js_parsing::nodes::make_one;
-use js_expressions::sequence::parse_sequence_expression;
 use crate::statement::{end_statement, parse_statement_list_item};
 use js_base::Kind;
 use js_cursor::{ParserImpl, Stop};
+use js_expressions::sequence::parse_sequence_expression;
 use js_lex::ParserConfig;
+use js_parsing::nested::Nested;
+use js_parsing::nodes::make_one;
 use js_tree::{NodeId, NodeKind, Op};
 
 /// The directives and the statements of a text, up to its end; or as far as a statement may begin where no lexeme stands.

@@ -23,7 +23,6 @@ use Rattle.js_cursor.specs.Parsers.{Parser}
 use Rattle.js_parsing.specs.Answers.{Stretch, Underived}
 use Rattle.js_parsing.specs.Lexemes.{Lex}
 use Rattle.js_targets.specs.Taken.{assigns_next}
-
 use Rattle.js_targets.specs.Targets.{Each, Open, Closed, Ended, is_array, relabelled, elements_in, rests_in}
 use Rattle.js_targets.proofs.ArraysBeforeSigns.{array_before_a_sign}
 use Rattle.js_parsing.proofs.Here.{alike}

@@ -29,15 +29,11 @@ use Rattle.js_cursor.specs.Places.{goal}
 use Rattle.js_cursor.specs.declared.stop.Stop.{Stop}
 use Rattle.js_cursor.specs.declared.stop.Stop.TheVariants.{Fatal}
 use Rattle.js_parsing.specs.Answers.{Verdict, Stops}
-
 use Rattle.js_targets.specs.Taken.{Refused}
 use Rattle.js_parsing.specs.States.{At, Same}
 use Rattle.js_targets.specs.Targets.{target_of}
-
 use Rattle.js_parsing.proofs.Giving.{gives_up}
-
 use Rattle.js_parsing.proofs.Moving.{stops_behind}
-
 use Rattle.js_parsing.proofs.Verdicts.{after as grown_behind}
 use Rattle.std.proofs.Common.{ℕ, ◌≡◌, ◌≤◌, ◌<◌, ◌⊎◌, inl, inr, List, [], ◌∷◌, length, Bool, true, false, not, ◌&&◌, IsTrue, Some, None, refl, sym, ap, subst, arith, ◌∙◌}
 use Rattle.std.specs.Prelude.{IsCharBoundary, Result, Ok, Err, ◌↔◌}
@@ -68,12 +64,8 @@ use Rattle.js_tree.specs.Holding.{Holds, Keeps}
 use Rattle.js_tree.proofs.HoldingLemmas.{Keeps-trans, Keeps-made}
 use Rattle.js_cursor.specs.Moves.{Keeps as KeepsOne}
 use Rattle.js_cursor.specs.Places.{IsAt, goal}
-
 use Rattle.js_targets.specs.Targets.{is_array, target_of}
-
-
 use Rattle.js_parsing.proofs.Signs.{grew}
-
 use Rattle.std.proofs.Common.{ℕ, ◌≡◌, ◌≤◌, ◌<◌, ◌⊎◌, inl, inr, List, [], ◌∷◌, length, Bool, true, false, not, ◌&&◌, ◌||◌, IsTrue, Option, Some, None, refl, sym, ap, subst, arith, ◌∙◌}
 use Rattle.std.proofs.lemmas.Bool.{false≢true, and_parts, and_from, or_left}
 use Rattle.js_base.specs.declared.kind.Kind.TheVariants.{Question, RAngle, Eq}
@@ -93,14 +85,10 @@ use Rattle.js_grammar.proofs.Calculus.{On, Inside, ◌▹◌, ◌▹✗◌, fail
 use Rattle.js_grammar.proofs.FollowLaws.{fails_by}
 use Rattle.js_cursor.specs.Moves.{is_last}
 use Rattle.js_parsing.specs.Answers.{Verdict}
-
 use Rattle.js_targets.proofs.Assigned.{an_assign}
-
 use Rattle.js_targets.proofs.ArrayTargets.{object_dead}
-
 use Rattle.js_parsing.proofs.Dead.{AllRead, none}
 use Rattle.js_targets.specs.Targets.{is_array}
-
 use Rattle.js_parsing.proofs.Here.{told}
 
 pub refused : {text : List ℕ} {f : Flags} {p q : Parser} {C B F : Type 0} (r : Parser) (kept : ℕ) (e : Stop) → kept ≡ length p.errors → At text f q → Same p q → Verdict p.errors q.errors C B → Refused kept q r e → F → Stops p r e F

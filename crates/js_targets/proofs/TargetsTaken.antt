@@ -46,7 +46,6 @@ use Rattle.js_parsing.proofs.Signs.{none_kept, plain_of}
 use Rattle.js_targets.proofs.Refused.{refused}
 use Rattle.js_targets.proofs.ReusedNodes.{below_in}
 use Rattle.js_targets.proofs.Targets.{of_short}
-
 use Rattle.js_parsing.proofs.Verdicts.{and_then, either_way}
 
 -- ---- what the conversion says

@@ -22,9 +22,7 @@ use Rattle.js_cursor.specs.Places.{goal}
 use Rattle.js_cursor.specs.declared.stop.Stop.{Stop}
 use Rattle.js_cursor.specs.declared.stop.Stop.TheVariants.{Fatal}
 use Rattle.js_parsing.specs.Answers.{Numbered, Stops, Stretch, Verdict}
-
 use Rattle.js_parsing.specs.Lexemes.{Lex, Walked, spot}
-
 use Rattle.js_parsing.specs.States.{At, Same}
 
 -- what is told of a text up to a place that is no target

@@ -15,11 +15,11 @@ ghost use Rattle.js_targets.specs.Targets.{Converted, Each, Ended, OfNode, Stood
 ghost use Rattle.js_targets.specs.Targets as target;
 
 use crate::cover::{is_array, only_child, refuse_target, simple_target};
-use js_parsing::diagnostics::kept_so_far;
-use js_parsing::nodes::no_flags;
 use js_base::{AssignmentOperator, Diagnostic, DiagnosticKind, Kind, NoMemory, Span};
 use js_cursor::{ParserImpl, Stop};
 use js_lex::ParserConfig;
+use js_parsing::diagnostics::kept_so_far;
+use js_parsing::nodes::no_flags;
 use js_tree::{NodeId, NodeKind, Op, ParserAstBuilder};
 use std::alloc::Global;
 

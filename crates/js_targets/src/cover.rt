@@ -12,10 +12,10 @@ ghost use Rattle.js_tree.specs.Nodes.{node_at};
 ghost use Rattle.js_targets.specs.Targets.{Converted, IsTarget, OfNode, Only, Stood, one_node, slot_of, target_of};
 ghost use Rattle.js_targets.specs.Targets as target;
 
-use js_parsing::diagnostics::kept_so_far;
 use js_base::{Diagnostic, DiagnosticKind, NoMemory};
 use js_cursor::{ParserImpl, Stop};
 use js_lex::ParserConfig;
+use js_parsing::diagnostics::kept_so_far;
 use js_tree::{NodeId, NodeKind, ParserAstBuilder};
 
 /// Whether it is an expression in parentheses.

@@ -1,6 +1,5 @@
 use Rattle.std.proofs.Common.{◌∙◌, sym}
 use Rattle.std.proofs.lemmas.Bool.{false≢true}
-
 use Rattle.js_parsing.proofs.lexemes.stands.Goals as goal
 
 pub returns-else-at : goal.returns-else-at
