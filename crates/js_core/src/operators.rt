@@ -161,6 +161,7 @@ fn parse_operators<C: ParserConfig, N: Nested<C>>(
 
 /// An ExponentiationExpression (ECMA-262, section 13.6), which groups to the right. Its left operand is an
 /// UpdateExpression: an operator before it is told, and reading goes on.
+#[inline(always)]
 pub fn parse_exponentiation_expression<C: ParserConfig, N: Nested<C>>(
     p: &mut ParserImpl<'_, C>,
     nested: &N,
@@ -238,6 +239,7 @@ fn make_operation<C: ParserConfig>(
 
 /// How tight a lexeme binds as an operator between two operands that groups to the left (ECMA-262, sections 13.6 to
 /// 13.13), from 5 for `||` to 14 for `*`; 0 for what is none. `in` is one where it is allowed.
+#[inline(always)]
 pub fn binding_power(kind: Kind, allows_in: bool) -> u8
     ensures { result ≡ power_of allows_in kind }
 {
