@@ -239,7 +239,6 @@ fn make_operation<C: ParserConfig>(
 
 /// How tight a lexeme binds as an operator between two operands that groups to the left (ECMA-262, sections 13.6 to
 /// 13.13), from 5 for `||` to 14 for `*`; 0 for what is none. `in` is one where it is allowed.
-#[inline(always)]
 pub fn binding_power(kind: Kind, allows_in: bool) -> u8
     ensures { result ≡ power_of allows_in kind }
 {
