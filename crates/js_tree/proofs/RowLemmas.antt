@@ -17,7 +17,7 @@ use Rattle.js_tree.specs.Nodes.{Node, new_node, node_at, empty_program, program_
 use Rattle.js_tree.specs.Holding.{with_program}
 use Rattle.js_tree.specs.Names.{kept_name}
 use Rattle.js_tree.specs.Rows.{Entries, entry_of, no_entry, slots_of, table, row, rows, AreEntries}
-use Rattle.js_tree.proofs.TableLemmas.{length-table, get-table, table-same, table-more, table-set, set-first}
+use Rattle.js_tree.proofs.TableLemmas.{length-table, get-table, table-more, table-set, set-first}
 
 pub length-rows : (c : Entries) → length (rows c) ≡ length c.kinds
 unfolding rows

@@ -1,4 +1,4 @@
-use Rattle.std.proofs.Common.{◌∙◌, ap, refl, arith, List, ℕ, ◌≡◌, set, false, length}
+use Rattle.std.proofs.Common.{◌∙◌, ap, refl, arith, List, ℕ, ◌≡◌, false, length}
 use Rattle.std.proofs.lemmas.Grind.{common_steps}
 use Rattle.std.specs.Ordering.{nat_cmp}
 use Rattle.std.specs.BTreeMap.{is_at}

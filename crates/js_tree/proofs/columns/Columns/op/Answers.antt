@@ -1,5 +1,4 @@
 use Rattle.std.proofs.Common.{refl, arith}
-use Rattle.js_tree.specs.declared.op.Op.TheVariants as op
 use Rattle.js_tree.specs.Rows.{entries_of, no_entry}
 use Rattle.js_tree.proofs.RowLemmas.{number_below, read}
 use Rattle.js_tree.proofs.columns.Columns.op.Goals as goal
