@@ -106,7 +106,7 @@ impl<'a, C: ParserConfig> ParserImpl<'a, C> {
     {
         let mut lexer = Lexer::new(alloc, source_text, source_type, config.lexer_config());
         let token = lexer.first_token()?;
-        let ast = ParserAstBuilder::new(alloc)?;
+        let ast = ParserAstBuilder::for_text(alloc, source_text.len())?;
         Ok(ParserImpl {
             alloc,
             source_text,

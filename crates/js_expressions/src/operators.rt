@@ -161,6 +161,7 @@ fn parse_operators<C: ParserConfig, N: Nested<C>>(
 
 /// An ExponentiationExpression (ECMA-262, section 13.6), which groups to the right. Its left operand is an
 /// UpdateExpression: an operator before it is told, and reading goes on.
+#[inline(always)]
 pub fn parse_exponentiation_expression<C: ParserConfig, N: Nested<C>>(
     p: &mut ParserImpl<'_, C>,
     nested: &N,

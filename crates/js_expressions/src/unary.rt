@@ -18,6 +18,7 @@ use js_parsing::nodes::make_one;
 use js_tree::{NodeId, NodeKind, Op};
 
 /// A UnaryExpression (ECMA-262, section 13.5): an operator and what it stands before, or an UpdateExpression.
+#[inline(always)]
 pub fn parse_unary_expression_or_higher<C: ParserConfig, N: Nested<C>>(
     p: &mut ParserImpl<'_, C>,
     nested: &N,

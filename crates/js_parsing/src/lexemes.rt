@@ -25,6 +25,7 @@ pub fn advance<C: ParserConfig>(p: &mut ParserImpl<'_, C>) -> Result<(), Stop>
 }
 
 /// The whole of a punctuator that begins with `>` becomes the current token; any other token stays.
+#[inline(always)]
 fn complete_here<C: ParserConfig>(p: &mut ParserImpl<'_, C>) -> Result<(), Stop>
     requires { Standing p.old }
     ensures { MatchResult result (λ _. IsCompleted p.old p.new) OnlyMemory }
@@ -45,6 +46,7 @@ fn allows_in<C: ParserConfig>(p: &ParserImpl<'_, C>) -> bool
 
 /// How tight the operator binds that stands here; 0 where none does. A punctuator that begins with `>` is then the
 /// whole of it.
+#[inline(always)]
 pub fn operator_here<C: ParserConfig>(p: &mut ParserImpl<'_, C>) -> Result<u8, Stop>
     requires { Standing p.old }
     ensures { MatchResult result (λ power. OperatorHere p.old p.new power) OnlyMemory }

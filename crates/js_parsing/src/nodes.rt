@@ -18,6 +18,7 @@ pub fn no_flags() -> NodeFlags
 }
 
 /// A node without children.
+#[inline(always)]
 pub fn make_leaf<C: ParserConfig>(
     p: &mut ParserImpl<'_, C>,
     kind: NodeKind,

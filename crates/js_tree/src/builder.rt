@@ -22,6 +22,9 @@ use js_base::{JsStr, NoMemory, Span, Text, decode_template};
 use std::alloc::Global;
 use std::marker::Model;
 
+/// How many bytes of a dense text a node stands for.
+const BYTES_OF_A_NODE: usize = 3;
+
 /// The nodes made so far, seen as the list of them by number. Number 0 is Program's: at 0..0 without a child, until the
 /// tree is finished.
 #[derive(Drop)]
@@ -46,12 +49,24 @@ impl ParserAstBuilder {
     {
         Ok(ParserAstBuilder {
             alloc,
-            columns: Columns::new(alloc)?,
+            columns: Columns::new(alloc, 0)?,
+        })
+    }
+
+    /// Program's node alone, with room for the nodes of a text of so many bytes, as far as there is memory. The only error
+    /// is want of memory.
+    pub fn for_text(alloc: Global, bytes: usize) -> Result<Self, NoMemory>
+        ensures { IfOk result (λ ns. ns ≡ empty_program ∷ []) }
+    {
+        Ok(ParserAstBuilder {
+            alloc,
+            columns: Columns::new(alloc, bytes / BYTES_OF_A_NODE)?,
         })
     }
 
     /// Makes a node, whose number is one above the last one given; all other nodes stay. A name is kept where one is given.
     /// The children are numbers of nodes made before. The only error is want of memory, and all is then as before.
+    #[inline(always)]
     pub fn node(
         &mut self,
         kind: NodeKind,
@@ -68,6 +83,7 @@ impl ParserAstBuilder {
     }
 
     /// Makes a node as `node` does, without a child and without a list.
+    #[inline(always)]
     pub fn leaf(
         &mut self,
         kind: NodeKind,
@@ -82,6 +98,7 @@ impl ParserAstBuilder {
     }
 
     /// Makes a node as `node` does, with one slot and without a list.
+    #[inline(always)]
     pub fn node_of_one(
         &mut self,
         kind: NodeKind,
@@ -96,6 +113,7 @@ impl ParserAstBuilder {
     }
 
     /// Makes a node as `node` does, with two slots and without a list.
+    #[inline(always)]
     pub fn node_of_two(
         &mut self,
         kind: NodeKind,
@@ -112,6 +130,7 @@ impl ParserAstBuilder {
     }
 
     /// Makes a node as `node` does, with three slots, given in an array and without a list.
+    #[inline(always)]
     pub fn node_of_three(
         &mut self,
         kind: NodeKind,

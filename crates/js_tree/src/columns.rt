@@ -6,6 +6,8 @@ ghost use Rattle.std.specs.BTreeMap.{get};
 ghost use Rattle.std.specs.Option.{option_copied};
 ghost use Rattle.js_tree.specs.Names.{kept_name};
 ghost use Rattle.js_tree.specs.Rooms.{HasRoom};
+ghost use Rattle.js_tree.specs.Rows.{entry_of};
+ghost use Rattle.js_tree.specs.declared.op.Op.TheVariants as op;
 ghost use Rattle.std.specs.Vec.{vec_capacity};
 ghost use Rattle.js_tree.specs.Labels.{number_of};
 ghost use Rattle.js_tree.specs.Nodes.{node_at, no_flags, new_node, empty_program, flags_set, program_node};
@@ -21,28 +23,29 @@ use std::alloc::Global;
 use std::collections::BTreeMap;
 use std::marker::Model;
 
-/// The bytes of a node's entries, its slots aside.
-const ENTRY_SIZE: usize = size_of::<NodeKind>()
-    + size_of::<Op>()
-    + size_of::<u16>()
-    + size_of::<Span>()
-    + size_of::<u32>()
-    + size_of::<u32>();
+/// What is kept of a node beside its kind and its name.
+#[derive(Debug, Clone, Copy)]
+pub(crate) struct Entry {
+    span: Span,
+    /// Where the children begin in the column of slots.
+    start: u32,
+    /// How many slots there are.
+    count: u32,
+    /// The flags, each a bit.
+    flags: u16,
+    op: Op,
+}
 
-const _: () = prove!(ENTRY_SIZE == 21);
+/// The bytes of a node, its slots aside.
+const NODE_SIZE: usize = size_of::<NodeKind>() + size_of::<Entry>();
+
+const _: () = prove!(NODE_SIZE == 21);
 
 /// The nodes made so far, in columns.
 #[derive(Drop)]
 pub(crate) struct Columns {
     kinds: Vec<NodeKind>,
-    ops: Vec<Op>,
-    /// The flags of a node, each a bit.
-    flags: Vec<u16>,
-    spans: Vec<Span>,
-    /// Where the children of a node begin in the column of slots.
-    starts: Vec<u32>,
-    /// How many slots a node has.
-    counts: Vec<u32>,
+    entries: Vec<Entry>,
     slots: Vec<Option<NodeId>>,
     /// The names that are kept, by number.
     names: BTreeMap<usize, Text>,
@@ -61,15 +64,28 @@ impl Model for Columns {
     ghost invariant = { AreColumns };
 }
 
-/// One more entry in a column that has room for it.
-#[inline(always)]
-fn put<T: Drop>(column: &mut Vec<T>, entry: T)
-    requires { vec_len column.old < vec_capacity column.old }
-    ensures { column.new.items ≡ column.old.items ++ entry ∷ [] }
+impl Entry {
+    /// Program's, whose children begin at a place in the column of slots.
+    fn of_program(span: Span, start: u32, count: u32) -> Entry
+        ensures { result ≡ entry_of span start count 0 op.None }
+    {
+        Entry {
+            span,
+            start,
+            count,
+            flags: 0,
+            op: Op::None,
+        }
+    }
+}
+
+/// An empty column, with room for so many entries where there is that much memory.
+fn column_for<T>(alloc: Global, entries: usize) -> Vec<T>
+    ensures { result.items ≡ [] }
 {
-    match column.push(entry) {
-        Ok(()) => (),
-        Err(_) => unreachable!(),
+    match Vec::with_capacity(alloc, entries) {
+        Ok(column) => column,
+        Err(_) => Vec::new(alloc),
     }
 }
 
@@ -79,46 +95,25 @@ fn put_all(column: &mut Vec<Option<NodeId>>, slots: &[Option<NodeId>])
     requires { vec_len column.old + length slots.now ≤ vec_capacity column.old }
     ensures { column.new.items ≡ column.old.items ++ slots.now }
 {
-    match column.extend_from_slice(slots) {
-        Ok(()) => (),
-        Err(_) => unreachable!(),
+    for i in 0..slots.len() {
+        column.push_reserved(slots[i]);
     }
 }
 
-/// Makes room for one more entry in each of these columns.
+/// Makes room for one more node of so many slots.
 #[inline(always)]
 fn make_room(
     kinds: &mut Vec<NodeKind>,
-    ops: &mut Vec<Op>,
-    flags: &mut Vec<u16>,
-    spans: &mut Vec<Span>,
-) -> Result<(), NoMemory>
-    ensures kinds { HasRoom result kinds.old kinds.new 1 }
-    ensures ops { HasRoom result ops.old ops.new 1 }
-    ensures flags { HasRoom result flags.old flags.new 1 }
-    ensures spans { HasRoom result spans.old spans.new 1 }
-{
-    kinds.reserve(1)?;
-    ops.reserve(1)?;
-    flags.reserve(1)?;
-    spans.reserve(1)?;
-    Ok(())
-}
-
-/// Makes room for the children of one more node.
-#[inline(always)]
-fn make_child_room(
-    starts: &mut Vec<u32>,
-    counts: &mut Vec<u32>,
+    entries: &mut Vec<Entry>,
     slots: &mut Vec<Option<NodeId>>,
     children: usize,
 ) -> Result<(), NoMemory>
-    ensures starts { HasRoom result starts.old starts.new 1 }
-    ensures counts { HasRoom result counts.old counts.new 1 }
+    ensures kinds { HasRoom result kinds.old kinds.new 1 }
+    ensures entries { HasRoom result entries.old entries.new 1 }
     ensures slots { HasRoom result slots.old slots.new children }
 {
-    starts.reserve(1)?;
-    counts.reserve(1)?;
+    kinds.reserve(1)?;
+    entries.reserve(1)?;
     slots.reserve(children)?;
     Ok(())
 }
@@ -151,30 +146,19 @@ fn keep_name(
 }
 
 impl Columns {
-    /// Program's entries alone.
-    pub(crate) fn new(alloc: Global) -> Result<Self, NoMemory>
+    /// Program's entries alone, with room for so many nodes where there is that much memory.
+    pub(crate) fn new(alloc: Global, nodes: usize) -> Result<Self, NoMemory>
         ensures { IfOk result (λ ns. ns ≡ empty_program ∷ []) }
     {
-        let mut kinds = Vec::new(alloc);
-        let mut ops = Vec::new(alloc);
-        let mut flags = Vec::new(alloc);
-        let mut spans = Vec::new(alloc);
-        let mut starts = Vec::new(alloc);
-        let mut counts = Vec::new(alloc);
+        let mut kinds = column_for(alloc, nodes);
+        let mut entries = column_for(alloc, nodes);
+        let slots = column_for(alloc, nodes);
         kinds.push(NodeKind::Program)?;
-        ops.push(Op::None)?;
-        flags.push(0)?;
-        spans.push(Span::empty(0))?;
-        starts.push(0)?;
-        counts.push(0)?;
+        entries.push(Entry::of_program(Span::empty(0), 0, 0))?;
         Ok(Columns {
             kinds,
-            ops,
-            flags,
-            spans,
-            starts,
-            counts,
-            slots: Vec::new(alloc),
+            entries,
+            slots,
             names: BTreeMap::new(alloc),
         })
     }
@@ -197,23 +181,19 @@ impl Columns {
         let id = NodeId(self.kinds.len());
         make_room(
             &mut self.kinds,
-            &mut self.ops,
-            &mut self.flags,
-            &mut self.spans,
-        )?;
-        make_child_room(
-            &mut self.starts,
-            &mut self.counts,
+            &mut self.entries,
             &mut self.slots,
             children.len(),
         )?;
         keep_name(&mut self.names, id.0, name)?;
-        put(&mut self.kinds, kind);
-        put(&mut self.ops, op);
-        put(&mut self.flags, bits_of(flags));
-        put(&mut self.spans, span);
-        put(&mut self.starts, start);
-        put(&mut self.counts, count);
+        self.kinds.push_reserved(kind);
+        self.entries.push_reserved(Entry {
+            span,
+            start,
+            count,
+            flags: bits_of(flags),
+            op,
+        });
         put_all(&mut self.slots, children);
         Ok(id)
     }
@@ -223,7 +203,7 @@ impl Columns {
         requires { id.0 < length self.old }
         ensures { self.new ≡ flags_set self.old id flags }
     {
-        self.flags[id.0] = bits_of(flags);
+        self.entries[id.0].flags = bits_of(flags);
     }
 
     /// Program's span and children. All room is made first.
@@ -235,11 +215,7 @@ impl Columns {
         let count = place_of(children.len())?;
         columns.slots.extend_from_slice(children)?;
         columns.kinds[0] = NodeKind::Program;
-        columns.ops[0] = Op::None;
-        columns.flags[0] = 0;
-        columns.spans[0] = span;
-        columns.starts[0] = start;
-        columns.counts[0] = count;
+        columns.entries[0] = Entry::of_program(span, start, count);
         let _ = columns.names.remove(&0);
         Ok(columns)
     }
@@ -274,7 +250,7 @@ impl Columns {
         requires { id.0 < length self.now }
         ensures { result ≡ (node_at self.now id).op }
     {
-        self.ops[id.0]
+        self.entries[id.0].op
     }
 
     /// The flags of a node.
@@ -282,7 +258,7 @@ impl Columns {
         requires { id.0 < length self.now }
         ensures { result ≡ (node_at self.now id).flags }
     {
-        flags_of(self.flags[id.0])
+        flags_of(self.entries[id.0].flags)
     }
 
     /// Whether no flag of a node is set.
@@ -291,7 +267,7 @@ impl Columns {
         requires { id.0 < length self.now }
         ensures { IsTrue result → (node_at self.now id).flags ≡ no_flags }
     {
-        self.flags[id.0] == 0
+        self.entries[id.0].flags == 0
     }
 
     /// The span of a node.
@@ -300,7 +276,7 @@ impl Columns {
         requires { id.0 < length self.now }
         ensures { result ≡ (node_at self.now id).span }
     {
-        self.spans[id.0]
+        self.entries[id.0].span
     }
 
     /// The slots of a node, in order.
@@ -309,8 +285,9 @@ impl Columns {
         requires { id.0 < length self.now }
         ensures { result.now ≡ (node_at self.now id).children }
     {
-        let start = self.starts[id.0] as usize;
-        let count = self.counts[id.0] as usize;
+        let entry = self.entries[id.0];
+        let start = entry.start as usize;
+        let count = entry.count as usize;
         &self.slots[start..start + count]
     }
 

@@ -514,7 +514,7 @@ fn values(rt: HostRuntime) -> Result<(), Fail> {
 fn kept_names(rt: HostRuntime) -> Result<(), Fail> {
     let alloc = rt.alloc();
     let source = "a; \\u0061";
-    let mut builder = ParserAstBuilder::new(alloc)?;
+    let mut builder = ParserAstBuilder::for_text(alloc, source.len())?;
     let kind = NodeKind::IdentifierReference;
     let first = builder.leaf(kind, Span { start: 0, end: 1 }, Op::None, flags_of(0), None)?;
     let name = Some(Text::from_str(alloc, "a")?);

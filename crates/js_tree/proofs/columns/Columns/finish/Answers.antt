@@ -1,4 +1,4 @@
-use Rattle.std.proofs.Common.{◌∙◌, ap, refl, arith, List, ℕ, ◌≡◌, set, false}
+use Rattle.std.proofs.Common.{◌∙◌, ap, refl, arith, List, ℕ, ◌≡◌, false, length}
 use Rattle.std.proofs.lemmas.Grind.{common_steps}
 use Rattle.std.specs.Ordering.{nat_cmp}
 use Rattle.std.specs.BTreeMap.{is_at}
@@ -12,4 +12,6 @@ other : (i : ℕ) → (i ≡ 0 → ⊥) → is_at (nat_cmp 0) i ≡ false
 other i ne = grind (arith, common_steps)
 
 pub returns : goal.returns
-returns c = rows-finished (entries_of c.columns.inside) _ c.args.span c.args.children.now c.columns.invariant (record { kinds = refl; ops = refl; flags = refl; spans = refl; starts = ap (λ (n : ℕ). set c.columns.inside.starts.items 0 n) (omega (arith, c.in_ok-start.ensures, c.len.ensures, c.columns.inside.slots.ok.0)); counts = ap (λ (n : ℕ). set c.columns.inside.counts.items 0 n) (omega (arith, c.in_ok-count.ensures)); slots = c.in_ok-extend_from_slice.ensures.items; names = λ i ne. c.remove.ensures.updates.2 i (other i ne); name_is = c.remove.ensures.updates.1 }) ∙ ap (λ (ns : List Node). with_program (program_node c.args.span c.args.children.now) ns) c.columns.view_is
+returns c =
+    let start : c.in_ok-start.start ≡ length c.columns.inside.slots.items = omega (arith, c.in_ok-start.ensures, c.len.ensures, c.columns.inside.slots.ok.0) in
+    rows-finished (entries_of c.columns.inside) _ c.args.span c.args.children.now c.columns.invariant (record { kinds = refl; entries = rw (c.of_program.ensures, start, c.in_ok-count.ensures) refl; slots = c.in_ok-extend_from_slice.ensures.items; names = λ i ne. c.remove.ensures.updates.2 i (other i ne); name_is = c.remove.ensures.updates.1 }) ∙ ap (λ (ns : List Node). with_program (program_node c.args.span c.args.children.now) ns) c.columns.view_is

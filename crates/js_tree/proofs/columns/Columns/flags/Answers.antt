@@ -1,11 +1,11 @@
 use Rattle.std.proofs.Common.{refl, arith, ◌∙◌}
 use Rattle.js_tree.specs.Bits.{flags_of}
-use Rattle.js_tree.specs.Rows.{entries_of}
+use Rattle.js_tree.specs.Rows.{entries_of, no_entry}
 use Rattle.js_tree.proofs.RowLemmas.{number_below, read}
 use Rattle.js_tree.proofs.columns.Columns.flags.Goals as goal
 
 pub index-requires : goal.index-requires
-index-requires c = let b = number_below (entries_of c.self.inside) c.args.self.now c.args.id.0 c.self.view_is c.requires in let l = c.self.invariant.flags in omega (arith, c.self.inside.flags.ok.0)
+index-requires c = let b = number_below (entries_of c.self.inside) c.args.self.now c.args.id.0 c.self.view_is c.requires in let l = c.self.invariant.entries in omega (arith, c.self.inside.entries.ok.0)
 
 pub returns : goal.returns
-returns c = c.flags_of.ensures ∙ read (entries_of c.self.inside) c.args.self.now c.args.id (λ n. n.flags) c.self.inside.flags.items c.index.result.now 0 flags_of c.self.view_is c.requires c.self.invariant.flags refl c.index.ensures
+returns c = c.flags_of.ensures ∙ read (entries_of c.self.inside) c.args.self.now c.args.id (λ n. n.flags) c.self.inside.entries.items c.index.result.now no_entry (λ e. flags_of e.flags) c.self.view_is c.requires c.self.invariant.entries refl c.index.ensures

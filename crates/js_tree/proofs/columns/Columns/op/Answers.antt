@@ -1,11 +1,10 @@
 use Rattle.std.proofs.Common.{refl, arith}
-use Rattle.js_tree.specs.declared.op.Op.TheVariants as op
-use Rattle.js_tree.specs.Rows.{entries_of}
+use Rattle.js_tree.specs.Rows.{entries_of, no_entry}
 use Rattle.js_tree.proofs.RowLemmas.{number_below, read}
 use Rattle.js_tree.proofs.columns.Columns.op.Goals as goal
 
 pub index-requires : goal.index-requires
-index-requires c = let b = number_below (entries_of c.self.inside) c.args.self.now c.args.id.0 c.self.view_is c.requires in let l = c.self.invariant.ops in omega (arith, c.self.inside.ops.ok.0)
+index-requires c = let b = number_below (entries_of c.self.inside) c.args.self.now c.args.id.0 c.self.view_is c.requires in let l = c.self.invariant.entries in omega (arith, c.self.inside.entries.ok.0)
 
 pub returns : goal.returns
-returns c = read (entries_of c.self.inside) c.args.self.now c.args.id (λ n. n.op) c.self.inside.ops.items c.index.result.now op.None (λ x. x) c.self.view_is c.requires c.self.invariant.ops refl c.index.ensures
+returns c = read (entries_of c.self.inside) c.args.self.now c.args.id (λ n. n.op) c.self.inside.entries.items c.index.result.now no_entry (λ e. e.op) c.self.view_is c.requires c.self.invariant.entries refl c.index.ensures

@@ -1,10 +1,10 @@
 use Rattle.std.proofs.Common.{refl, arith}
-use Rattle.js_tree.specs.Rows.{entries_of}
+use Rattle.js_tree.specs.Rows.{entries_of, no_entry}
 use Rattle.js_tree.proofs.RowLemmas.{number_below, read}
 use Rattle.js_tree.proofs.columns.Columns.span.Goals as goal
 
 pub index-requires : goal.index-requires
-index-requires c = let b = number_below (entries_of c.self.inside) c.args.self.now c.args.id.0 c.self.view_is c.requires in let l = c.self.invariant.spans in omega (arith, c.self.inside.spans.ok.0)
+index-requires c = let b = number_below (entries_of c.self.inside) c.args.self.now c.args.id.0 c.self.view_is c.requires in let l = c.self.invariant.entries in omega (arith, c.self.inside.entries.ok.0)
 
 pub returns : goal.returns
-returns c = read (entries_of c.self.inside) c.args.self.now c.args.id (λ n. n.span) c.self.inside.spans.items c.index.result.now (record { start = 0; end = 0 }) (λ x. x) c.self.view_is c.requires c.self.invariant.spans refl c.index.ensures
+returns c = read (entries_of c.self.inside) c.args.self.now c.args.id (λ n. n.span) c.self.inside.entries.items c.index.result.now no_entry (λ e. e.span) c.self.view_is c.requires c.self.invariant.entries refl c.index.ensures
