@@ -23,7 +23,10 @@ use Rattle.js_cursor.specs.Parsers.{Parser}
 use Rattle.js_parsing.specs.Answers.{Stretch, Underived}
 use Rattle.js_parsing.specs.Lexemes.{Lex}
 use Rattle.js_targets.specs.Taken.{assigns_next}
-use Rattle.js_targets.specs.Targets.{Each, Open, Closed, Ended, is_array, relabelled, elements_in, rests_in}
+use Rattle.js_targets.specs.Targets.{Each, Closed, Fits, Narrow, Shut, Spotted, is_array, relabelled, elements_in, places_in}
+use Rattle.js_targets.specs.declared.widening.Widening.{Widening}
+use Rattle.js_targets.specs.declared.widening.Widening.TheVariants.{Rest, Operator}
+use Rattle.js_targets.proofs.Spots.{literal_spots}
 use Rattle.js_targets.proofs.ArraysBeforeSigns.{array_before_a_sign}
 use Rattle.js_parsing.proofs.Here.{alike}
 use Rattle.js_targets.proofs.LiteralsAsTargets.{Targeted, literal_target}
@@ -32,9 +35,10 @@ use Rattle.js_targets.proofs.TargetsAsLiterals.{array_back}
 
 -- ---- what the literal says of the target
 
-closed_open : (text : List ℕ) (rs : List ℕ) → Each (Closed text) rs → Each (Open text) rs
-closed_open text [] h = tt
-closed_open text (e ∷ rs) h = (λ y l k. let w : RBrack ≡ Comma = sym h.0.is ∙ (sym (ap (λ (z : Lexeme). z.kind) (alike l h.0.stands)) ∙ k) in absurd (cc), closed_open text rs h.1)
+shut_narrow : (text : List ℕ) (ws : List Widening) → Each (Shut text) ws → Each (Narrow text) ws
+shut_narrow text [] h = tt
+shut_narrow text (Rest s ∷ ws) h = (λ y l k. let w : RBrack ≡ Comma = sym h.0.is ∙ (sym (ap (λ (z : Lexeme). z.kind) (alike l h.0.stands)) ∙ k) in absurd (cc), shut_narrow text ws h.1)
+shut_narrow text (Operator s ∷ ws) h = absurd h.0
 
 anew : {n : Symbol} {ks vs : Slots} {l : Label} {cs : Slots} {i j : ℕ} {ls rest : Lexemes} → Takes rule (such n always) end (tree l cs end) i ls end j rest → Takes rule (such n always) ks (tree l cs vs) i ls vs j rest
 anew (is_such d h) = is_such d h
@@ -47,7 +51,7 @@ module _ (text : List ℕ) (f : Flags) (w : f.wide ≡ false) where
     array : is_array label.kind ≡ true
     target : a ≡ relabelled array_assignment_target label
     covers : elements_in slots ≡ Some bs
-    opened : Each (Open text) (rests_in slots)
+    opened : Each (Narrow text) (places_in slots)
     takes : Takes rule (such (at Short f) always) ks (tree label slots us) i ls us j rest
 
   sourced : {ks us : Slots} {a : Label} {bs : Slots} {i j : ℕ} {ls rest : Lexemes} → Lexes (Lex text) i ls → Takes rule (rule (at ArrayTarget f)) end (tree a bs end) i ls end j rest → Sourced ks us a bs i ls j rest
@@ -59,7 +63,7 @@ module _ (text : List ℕ) (f : Flags) (w : f.wide ≡ false) where
         array = x.array;
         target = label_is x.is_tree;
         covers = x.covers ∙ ap Some (sym (slots_are x.is_tree));
-        opened = closed_open text (rests_in x.slots) x.closed;
+        opened = shut_narrow text (places_in x.slots) x.closed;
         takes = anew ((of_short f).up (by_primary x.derived));
       }
 
@@ -76,7 +80,7 @@ module _ {text : List ℕ} {f : Flags} (w : f.wide ≡ false) {s s' : ℕ} {l : 
   record There (a : Label) (bs us : Slots) (vs : Slots) (ls : Lexemes) (k : ℕ) (rest : Lexemes) : Type 0 where
     target : a ≡ relabelled array_assignment_target l
     covers : elements_in cs ≡ Some bs
-    opened : Each (Open text) (rests_in cs)
+    opened : Each (Narrow text) (places_in cs)
     behind : Lexemes
     same : us ≡ vs
     lexed : Lexes (Lex text) s' behind
@@ -92,7 +96,7 @@ module _ {text : List ℕ} {f : Flags} (w : f.wide ≡ false) {s s' : ℕ} {l : 
         record {
           target = x.target ∙ ap (relabelled array_assignment_target) (label_is y.2);
           covers = sym (ap elements_in (slots_are y.2)) ∙ x.covers;
-          opened = subst (λ (ds : Slots). Each (Open text) (rests_in ds)) (slots_are y.2) x.opened;
+          opened = subst (λ (ds : Slots). Each (Narrow text) (places_in ds)) (slots_are y.2) x.opened;
           behind = y.1;
           same = e.0;
           lexed = y.3;
@@ -101,11 +105,11 @@ module _ {text : List ℕ} {f : Flags} (w : f.wide ≡ false) {s s' : ℕ} {l : 
         },
       )
 
-  -- none stands there, where the literal is converted to none, or a comma stands behind a rest
-  pub no_target_there : (elements_in cs ≡ None) ⊎ (Each (Open text) (rests_in cs) → ⊥) → Fails rule (Lex text) signs end (such (at ArrayTarget f) always) s
+  -- none stands there, where the literal is converted to none, or it is wider than one
+  pub no_target_there : (elements_in cs ≡ None) ⊎ (Each (Narrow text) (places_in cs) → ⊥) → Fails rule (Lex text) signs end (such (at ArrayTarget f) always) s
   no_target_there n = record { no = λ ts vs k ls rest m d q. go ts vs k ls rest m d q }
     where
-      by : {a : Label} {bs us vs : Slots} {ls : Lexemes} {k : ℕ} {rest : Lexemes} → There a bs us vs ls k rest → (elements_in cs ≡ None) ⊎ (Each (Open text) (rests_in cs) → ⊥) → ⊥
+      by : {a : Label} {bs us vs : Slots} {ls : Lexemes} {k : ℕ} {rest : Lexemes} → There a bs us vs ls k rest → (elements_in cs ≡ None) ⊎ (Each (Narrow text) (places_in cs) → ⊥) → ⊥
       by {bs = bs} x (inl e) = let c : None ≡ Some bs = sym e ∙ x.covers in cc
       by x (inr g) = g x.opened
 
@@ -121,7 +125,7 @@ module _ {text : List ℕ} {f : Flags} (w : f.wide ≡ false) {s s' : ℕ} {l : 
     targeted : {ls rest : Lexemes} {j : ℕ} → Lexes (Lex text) s ls → Takes rule (rule (at Short f)) end (tree l cs end) s ls end j rest → Targeted text f l cs ds s ls j rest
     targeted m d = literal_target text ds h e u r b m ((of_short f).down (may_array l.kind h) (is_such d refl))
 
-    pub target_there : Each (Open text) (rests_in cs) → Stretch text signs (such (at ArrayTarget f) always) s nothing s' (tree (relabelled array_assignment_target l) ds) pass
+    pub target_there : Each (Narrow text) (places_in cs) → Stretch text signs (such (at ArrayTarget f) always) s nothing s' (tree (relabelled array_assignment_target l) ds) pass
     target_there o = record {
       reach = z.reach;
       near = z.near;
@@ -143,11 +147,18 @@ module _ {text : List ℕ} {f : Flags} (w : f.wide ≡ false) {s s' : ℕ} {l : 
             (y.0, x.behind, (λ i. tree (x.target i) (v i) (sym x.same i)), x.lexed, x.takes, x.list)
 
     -- what stands behind each of its rests
-    pub ended_there : (y : Lexeme) → Lex text s' y → Each (Ended text) (rests_in cs)
+    pub ended_there : (y : Lexeme) → Lex text s' y → Each (Fits text) (places_in cs)
     ended_there y n = by (z.goes.passes.lexed (last y) n) (z.goes.sound end end s' (last y) (last y) n (inl z.near) is_nothing)
       where
-        by : {ls rest : Lexemes} {j : ℕ} → Lexes (Lex text) s ls → Takes rule (such (at Short f) always) end (tree l cs end) s ls end j rest → Each (Ended text) (rests_in cs)
+        by : {ls rest : Lexemes} {j : ℕ} → Lexes (Lex text) s ls → Takes rule (such (at Short f) always) end (tree l cs end) s ls end j rest → Each (Fits text) (places_in cs)
         by m (is_such d c) = (targeted m d).ended
+
+  -- what stands at its spreads and its assignments
+  pub spots_there : IsUtf8 text → Reached text s → IsCharBoundary text s → (y : Lexeme) → Lex text s' y → Each (Spotted text) (places_in cs)
+  spots_there u r b y n = by (z.goes.passes.lexed (last y) n) (z.goes.sound end end s' (last y) (last y) n (inl z.near) is_nothing)
+    where
+      by : {ls rest : Lexemes} {j : ℕ} → Lexes (Lex text) s ls → Takes rule (such (at Short f) always) end (tree l cs end) s ls end j rest → Each (Spotted text) (places_in cs)
+      by m (is_such d c) = literal_spots text u h r b m ((of_short f).down (may_array l.kind h) (is_such d refl))
 
 -- nothing was read there
 pub no_target_unread : {text : List ℕ} {f : Flags} → f.wide ≡ false → {s : ℕ} → Underived text (at Short f) s → Fails rule (Lex text) signs end (such (at ArrayTarget f) always) s

@@ -22,7 +22,9 @@ use Rattle.js_parsing.proofs.Here.{plainly}
 use Rattle.js_lex.proofs.Again.{passed}
 use Rattle.js_lex.proofs.StringPlaces.{front_word}
 use Rattle.std.specs.Prelude.{IsUtf8, IsCharBoundary}
-use Rattle.js_targets.specs.Targets.{Each, Open, Closed, Ended, is_elision, is_spread, is_assignment, is_initialised, is_array, is_array_target, is_target, target_of, relabelled, array_tree, slot_of, rest_slot, element_slot, are_none, followed, before_all, elements_in, rests_of, rests_in}
+use Rattle.js_targets.specs.Targets.{Each, IsIn, Closed, Narrow, Fits, is_elision, is_spread, is_assignment, is_equals, is_wide, is_array, is_array_target, is_target, target_of, relabelled, array_tree, slot_of, rest_slot, element_slot, are_none, followed, before_all, elements_in, places_of, places_in, made_span}
+use Rattle.js_targets.specs.declared.widening.Widening.{Widening}
+use Rattle.js_targets.specs.declared.widening.Widening.TheVariants.{Rest, Operator}
 use Rattle.js_targets.proofs.ArrayElements.{gap_label, no_gap, Initialised, initialised, Step, closes, gap, item, final, step_of, Element, an_expression, a_spread, element_of}
 use Rattle.js_targets.proofs.ArrayTargets.{target_step, target_last}
 use Rattle.js_parsing.proofs.FreeOfIn.{any_in}
@@ -41,17 +43,22 @@ lexeme_between {text} {s} {y} u b l =
 abbrev pub Led : List ℕ → ℕ → Lexeme → Type 0
 Led text s y = Lex text s y × Reached text s × IsCharBoundary text s
 
-pub all_of : (P : ℕ → Type 0) (rs ss : List ℕ) → Each P rs → Each P ss → Each P (rs ++ ss)
+pub all_of : {A : Type 0} (P : A → Type 0) (rs ss : List A) → Each P rs → Each P ss → Each P (rs ++ ss)
 all_of P [] ss a b = b
 all_of P (r ∷ rs) ss a b = (a.0, all_of P rs ss a.1 b)
 
-pub all_left : (P : ℕ → Type 0) (rs ss : List ℕ) → Each P (rs ++ ss) → Each P rs
+pub all_left : {A : Type 0} (P : A → Type 0) (rs ss : List A) → Each P (rs ++ ss) → Each P rs
 all_left P [] ss a = tt
 all_left P (r ∷ rs) ss a = (a.0, all_left P rs ss a.1)
 
-pub all_right : (P : ℕ → Type 0) (rs ss : List ℕ) → Each P (rs ++ ss) → Each P ss
+pub all_right : {A : Type 0} (P : A → Type 0) (rs ss : List A) → Each P (rs ++ ss) → Each P ss
 all_right P [] ss a = a
 all_right P (r ∷ rs) ss a = all_right P rs ss a.1
+
+pub one_of_each : {A : Type 0} (P : A → Type 0) (ws : List A) (w : A) → IsIn ws w → Each P ws → P w
+one_of_each P [] w i h = absurd i
+one_of_each P (v ∷ ws) w (inl e) h = subst P e h.0
+one_of_each P (v ∷ ws) w (inr i) h = one_of_each P ws w i h.1
 
 kind_is : {k : Kind} (x : Lexeme) → IsTrue (seen (is k) x) → x.kind ≡ k
 kind_is {k} x q = sym (kind_of_same k x.kind (and_parts (same_kind k x.kind) _ q).0)
@@ -128,7 +135,7 @@ rest_part l own (tree n ys us) ds e = absurd (cc)
 
 -- nothing is converted to no element
 pub no_end : (l : Label) (cs : Slots) (own : Option Slots) (us : Slots) → element_before l cs own us ≡ Some end → ⊥
-no_end l cs own us e = by (is_elision l.kind) (is_spread l.kind) (is_initialised l) (is_array l.kind) e
+no_end l cs own us e = by (is_elision l.kind) (is_spread l.kind) (is_assignment l.kind) (is_array l.kind) e
   where
     by : (a b g h : Bool) → by_tests a b g h l cs own us ≡ Some end → ⊥
     by true b g h e = cc
@@ -198,26 +205,36 @@ as_default f {l} {cs} {us} {i} {j} {ls} {rest} x = subst (λ (s : Span). Takes r
     made : Takes rule (symbol Target f ▸ tok Eq ▸ symbol Assignment (plus_in f)) end cs i ls end j rest → Takes rule (symbol TargetElement f) end (tree (record { kind = assignment_target_with_default; op = no_op; flags = 0; span = record { from = (here ls).from; to = j } }) cs us) i ls us j rest
     made d = is_such (is_right (is_left (is_when refl (is_node d)))) refl
 
-pub rests_none : (l : Label) (rs : List ℕ) → is_spread l.kind ≡ false → is_array l.kind ≡ false → rests_of l rs ≡ []
-rests_none l rs s a = rw (s, a) refl
+pub places_none : (l : Label) (ws : List Widening) → is_spread l.kind ≡ false → is_array l.kind ≡ false → is_wide l ≡ false → places_of l ws ≡ []
+places_none l ws s a w = rw (s, a, w) refl
 
-pub rests_array : (l : Label) (rs : List ℕ) → is_spread l.kind ≡ false → is_array l.kind ≡ true → rests_of l rs ≡ rs
-rests_array l rs s a = rw (s, a) refl
+pub assignment_no_array : (k : NodeKind) → is_assignment k ≡ true → is_array k ≡ false
+assignment_no_array assignment_expression h = refl
+assignment_no_array _ h = absurd (false≢true h)
 
-pub initialised_no_array : (l : Label) → is_initialised l ≡ true → is_array l.kind ≡ false
-initialised_no_array l h = go l.kind (and_parts (is_assignment l.kind) _ h).0
+pub no_assignment_narrow : (l : Label) → is_assignment l.kind ≡ false → is_wide l ≡ false
+no_assignment_narrow l h = rw h refl
+
+pub equals_narrow : (l : Label) → is_equals l.op ≡ true → is_wide l ≡ false
+equals_narrow l h = go (is_assignment l.kind)
   where
-    go : (k : NodeKind) → is_assignment k ≡ true → is_array k ≡ false
-    go assignment_expression h = refl
-    go _ h = absurd (false≢true h)
+    go : (a : Bool) → (a && not (is_equals l.op)) ≡ false
+    go true = rw h refl
+    go false = refl
+
+pub places_operator : (l : Label) (ws : List Widening) → is_spread l.kind ≡ false → is_array l.kind ≡ false → is_wide l ≡ true → places_of l ws ≡ Operator (made_span l.span) ∷ []
+places_operator l ws s a w = rw (s, a, w) refl
+
+pub other_operator : (l : Label) → is_assignment l.kind ≡ true → is_equals l.op ≡ false → is_wide l ≡ true
+other_operator l a e = rw (a, e) refl
 
 -- ---- the law
 
 module _ (text : List ℕ) where
   -- what follows of elements: what stands behind each rest, and the target's elements where no comma does
   record Converted (f : Flags) (cs ds : Slots) (i : ℕ) (ls : Lexemes) (j : ℕ) (rest : Lexemes) : Type 0 where
-    ended : Each (Ended text) (rests_in cs)
-    takes : Each (Open text) (rests_in cs) → Takes rule (target_items f) end ds i ls end j rest
+    ended : Each (Fits text) (places_in cs)
+    takes : Each (Narrow text) (places_in cs) → Takes rule (target_items f) end ds i ls end j rest
 
   abbrev Claim : Slots → Type 0
   Claim cs = (f : Flags) (i j : ℕ) (ls rest : Lexemes) (ds : Slots) → Lexes (Led text) i ls → Takes rule (elements f) end cs i ls end j rest → elements_in cs ≡ Some ds → Converted f cs ds i ls j rest
@@ -229,8 +246,8 @@ module _ (text : List ℕ) where
 
   -- one element that is an expression
   record One (f : Flags) (l : Label) (cs us ds : Slots) (i : ℕ) (ls : Lexemes) (j : ℕ) (rest : Lexemes) : Type 0 where
-    ended : Each (Ended text) (rests_of l (rests_in cs))
-    takes : Each (Open text) (rests_of l (rests_in cs)) → Made f ds i ls us j rest
+    ended : Each (Fits text) (places_of l (places_in cs))
+    takes : Each (Narrow text) (places_of l (places_in cs)) → Made f ds i ls us j rest
 
   module _ (f : Flags) where
     by_array : {i j : ℕ} {ls rest : Lexemes} {l : Label} {cs us ds : Slots} → Claim cs → Takes rule (array_line (plus_in f)) end (tree l cs end) i ls end j rest → Lexes (Led text) i ls → is_spread l.kind ≡ false → is_array l.kind ≡ true → array_before l (elements_in cs) us ≡ Some ds → One f l cs us ds i ls j rest
@@ -240,19 +257,25 @@ module _ (text : List ℕ) where
         record { ended = v.ended; takes = λ o. subst (λ (w : Slots). Made f w i (next x more) us j rest) (sym p.whole) (a_target (as_array f q (v.takes o))) }
 
     one_of : {i j : ℕ} {ls rest : Lexemes} {l : Label} {cs us ds : Slots} → Claim cs → Takes rule (rule (at Assignment (plus_in f))) end (tree l cs end) i ls end j rest → Lexes (Led text) i ls → element_before l cs (elements_in cs) us ≡ Some ds → One f l cs us ds i ls j rest
-    one_of {i} {j} {ls} {rest} {l} {cs} {us} {ds} c d m e = by (is_elision l.kind) (is_spread l.kind) (is_initialised l) (is_array l.kind) refl refl refl refl e
+    one_of {i} {j} {ls} {rest} {l} {cs} {us} {ds} c d m e = by (is_elision l.kind) (is_spread l.kind) (is_assignment l.kind) (is_array l.kind) refl refl refl refl e
       where
-        by : (a b g h : Bool) → is_elision l.kind ≡ a → is_spread l.kind ≡ b → is_initialised l ≡ g → is_array l.kind ≡ h → by_tests a b g h l cs (elements_in cs) us ≡ Some ds → One f l cs us ds i ls j rest
+        assigned : (b : Bool) → is_equals l.op ≡ b → is_spread l.kind ≡ false → is_assignment l.kind ≡ true → Some (tree (relabelled assignment_target_with_default l) cs us) ≡ Some ds → One f l cs us ds i ls j rest
+        assigned true h q r e =
+            let n = places_none l (places_in cs) q (assignment_no_array l.kind r) (equals_narrow l h) in
+            record { ended = subst (λ (v : List Widening). Each (Fits text) v) (sym n) tt; takes = λ o. subst (λ (w : Slots). Made f w i ls us j rest) (some_is e) (with_default refl (as_default f (initialised (plus_in f) d r h))) }
+        assigned false h q r e =
+            let n = places_operator l (places_in cs) q (assignment_no_array l.kind r) (other_operator l r h) in
+            record { ended = subst (λ (v : List Widening). Each (Fits text) v) (sym n) (tt, tt); takes = λ o. absurd (subst (λ (v : List Widening). Each (Narrow text) v) n o).0 }
+
+        by : (a b g h : Bool) → is_elision l.kind ≡ a → is_spread l.kind ≡ b → is_assignment l.kind ≡ g → is_array l.kind ≡ h → by_tests a b g h l cs (elements_in cs) us ≡ Some ds → One f l cs us ds i ls j rest
         by true b g h p q r s e = absurd (no_gap (plus_in f) d (or_left (is_elision l.kind) (is_spread l.kind) p))
         by false true g h p q r s e = absurd (no_gap (plus_in f) d (or_right (is_elision l.kind) (is_spread l.kind) q))
-        by false false true h p q r s e =
-            let n = rests_none l (rests_in cs) q (initialised_no_array l r) in
-            record { ended = subst (λ (v : List ℕ). Each (Ended text) v) (sym n) tt; takes = λ o. subst (λ (w : Slots). Made f w i ls us j rest) (some_is e) (with_default refl (as_default f (initialised (plus_in f) d r))) }
+        by false false true h p q r s e = assigned (is_equals l.op) refl q r e
         by false false false true p q r s e = by_array c (array_shape {f = plus_in f} s ((of_assignment (plus_in f)).down (may_array l.kind s) (is_such d refl))) m q s e
         by false false false false p q r s e =
-            let n = rests_none l (rests_in cs) q s in
+            let n = places_none l (places_in cs) q s (no_assignment_narrow l r) in
             let v = simple_of (target_of l cs) us ds e in
-            record { ended = subst (λ (v : List ℕ). Each (Ended text) v) (sym n) tt; takes = λ o. subst (λ (w : Slots). Made f w i ls us j rest) (sym v.whole) (a_target (by_simple f {t = v.target} (left_hand_side_target cs (plus_in f) l v.target v.is ((of_assignment (plus_in f)).down (may_target l cs v.target v.is) (is_such d refl))))) }
+            record { ended = subst (λ (v : List Widening). Each (Fits text) v) (sym n) tt; takes = λ o. subst (λ (w : Slots). Made f w i ls us j rest) (sym v.whole) (a_target (by_simple f {t = v.target} (left_hand_side_target cs (plus_in f) l v.target v.is ((of_assignment (plus_in f)).down (may_target l cs v.target v.is) (is_such d refl))))) }
 
   -- ---- the elements
 
@@ -274,8 +297,8 @@ module _ (text : List ℕ) where
       let v = one_of f a d m p.element in
       let w = c f x.to j mid rest p.behind (led_behind d m).1 r p.is in
       record {
-        ended = all_of (Ended text) (rests_of l (rests_in cs)) (rests_in us) v.ended w.ended;
-        takes = λ o. one_more (is_right (is_seq (element_made (v.takes (all_left (Open text) (rests_of l (rests_in cs)) (rests_in us) o))) (is_lexeme q))) (w.takes (all_right (Open text) (rests_of l (rests_in cs)) (rests_in us) o));
+        ended = all_of (Fits text) (places_of l (places_in cs)) (places_in us) v.ended w.ended;
+        takes = λ o. one_more (is_right (is_seq (element_made (v.takes (all_left (Narrow text) (places_of l (places_in cs)) (places_in us) o))) (is_lexeme q))) (w.takes (all_right (Narrow text) (places_of l (places_in cs)) (places_in us) o));
       }
   item_built {f} {l} {us = us} {ds} {i} {j} {k} {x} {ls} {mid} {rest} (a_spread {m = n} {ds = xs} z d) q r m a b c e =
       let p = before_of l (tree n xs end) (elements_in (tree n xs end)) (elements_in us) ds e in
@@ -285,24 +308,24 @@ module _ (text : List ℕ) where
       let w = c f x.to j mid rest p.behind h.1 r p.is in
       let u = is_end us (p.is ∙ ap Some t.last) in
       record {
-        ended = all_of (Ended text) (k ∷ rests_in (tree n xs end)) (rests_in us) (record { reached = h.0.1; between = h.0.2; either = inr (record { comma = x; stands = h.0.0; is = kind_is x q; behind = closed_behind u r h.1 }) }, all_of (Ended text) (rests_of n (rests_in xs)) [] v.ended tt) w.ended;
-        takes = λ o. absurd (o.0 x h.0.0 (kind_is x q));
+        ended = all_of (Fits text) (places_of l (places_in (tree n xs end))) (places_in us) (all_of (Fits text) (places_in (tree n xs end)) (Rest (made_span l.span) ∷ []) (all_of (Fits text) (places_of n (places_in xs)) [] v.ended tt) (record { reached = h.0.1; between = h.0.2; either = inr (record { comma = x; stands = h.0.0; is = kind_is x q; behind = closed_behind u r h.1 }) }, tt)) w.ended;
+        takes = λ o. absurd ((all_right (Narrow text) (places_in (tree n xs end)) (Rest (made_span l.span) ∷ []) (all_left (Narrow text) (places_of l (places_in (tree n xs end))) (places_in us) o)).0 x h.0.0 (kind_is x q));
       }
 
   final_built : {f : Flags} {l : Label} {cs ds : Slots} {i k : ℕ} {x : Lexeme} {ls rest : Lexemes} → Element f l cs i ls k (next x rest) → IsTrue (seen (is RBrack) x) → Lexes (Led text) i ls → Claim cs → Inner cs → elements_in (tree l cs end) ≡ Some ds → Converted f (tree l cs end) ds i ls x.to rest
   final_built {f} {l} {cs} {ds} {i} {k} {x} {ls} {rest} (an_expression d) q m a b e =
       let v = one_of f a d m e in
       record {
-        ended = all_of (Ended text) (rests_of l (rests_in cs)) [] v.ended tt;
-        takes = λ o. the_last (is_left (element_made (v.takes (all_left (Open text) (rests_of l (rests_in cs)) [] o)))) (is_lexeme q);
+        ended = all_of (Fits text) (places_of l (places_in cs)) [] v.ended tt;
+        takes = λ o. the_last (is_left (element_made (v.takes (all_left (Narrow text) (places_of l (places_in cs)) [] o)))) (is_lexeme q);
       }
   final_built {f} {l} {ds = ds} {i} {k} {x} {ls} {rest} (a_spread {m = n} {ds = xs} z d) q m a b e =
       let t = rest_part l (elements_in (tree n xs end)) end ds e in
       let v = one_of f {us = end} b d m.1 t.is in
       let h = led_behind d m.1 in
       record {
-        ended = all_of (Ended text) (k ∷ rests_in (tree n xs end)) [] (record { reached = h.0.1; between = h.0.2; either = inl (record { bracket = x; stands = h.0.0; is = kind_is x q }) }, all_of (Ended text) (rests_of n (rests_in xs)) [] v.ended tt) tt;
-        takes = λ o. subst (λ (w : Slots). Takes rule (target_items f) end w i ls end x.to rest) (sym t.whole) (the_last (is_right (is_left (is_seq (is_node (is_seq (is_lexeme z) (target_made t.target (v.takes (all_left (Open text) (rests_of n (rests_in xs)) [] (all_left (Open text) (rests_in (tree n xs end)) [] o.1)))))) (is_right is_nothing)))) (is_lexeme q));
+        ended = all_of (Fits text) (places_of l (places_in (tree n xs end))) [] (all_of (Fits text) (places_in (tree n xs end)) (Rest (made_span l.span) ∷ []) (all_of (Fits text) (places_of n (places_in xs)) [] v.ended tt) (record { reached = h.0.1; between = h.0.2; either = inl (record { bracket = x; stands = h.0.0; is = kind_is x q }) }, tt)) tt;
+        takes = λ o. subst (λ (w : Slots). Takes rule (target_items f) end w i ls end x.to rest) (sym t.whole) (the_last (is_right (is_left (is_seq (is_node (is_seq (is_lexeme z) (target_made t.target (v.takes (all_left (Narrow text) (places_of n (places_in xs)) [] (all_left (Narrow text) (places_in (tree n xs end)) (Rest (made_span l.span) ∷ []) (all_left (Narrow text) (places_of l (places_in (tree n xs end))) [] o))))))) (is_right is_nothing)))) (is_lexeme q));
       }
 
   built : {f : Flags} {l : Label} {cs us ds : Slots} {i j : ℕ} {ls rest : Lexemes} → Step f (tree l cs us) i ls j rest → Lexes (Led text) i ls → Claim cs → Inner cs → Claim us → elements_in (tree l cs us) ≡ Some ds → Converted f (tree l cs us) ds i ls j rest
@@ -320,14 +343,14 @@ module _ (text : List ℕ) where
   converts (tree l (hole vs) us) f i j ls rest ds m d e = built (step_of d) m (converts (hole vs)) tt (converts us) e
   converts (tree l (tree n xs vs) us) f i j ls rest ds m d e = built (step_of d) m (converts (tree n xs vs)) (converts xs) (converts us) e
 
-  led : (s : ℕ) (ls : Lexemes) → IsUtf8 text → Reached text s → IsCharBoundary text s → Lexes (Lex text) s ls → Lexes (Led text) s ls
+  pub led : (s : ℕ) (ls : Lexemes) → IsUtf8 text → Reached text s → IsCharBoundary text s → Lexes (Lex text) s ls → Lexes (Led text) s ls
   led s (last x) u r b l = (l, r, b)
   led s (next x ls) u r b l = ((l.0, r, b), led x.to ls u (reached_next r l.0.0) (lexeme_between u b l.0).1 l.1)
 
   -- A literal as a target.
   pub record Targeted (f : Flags) (l : Label) (cs ds : Slots) (i : ℕ) (ls : Lexemes) (j : ℕ) (rest : Lexemes) : Type 0 where
-    pub ended : Each (Ended text) (rests_in cs)
-    pub takes : Each (Open text) (rests_in cs) → Takes rule (such (at ArrayTarget f) always) end (tree (relabelled array_assignment_target l) ds end) i ls end j rest
+    pub ended : Each (Fits text) (places_in cs)
+    pub takes : Each (Narrow text) (places_in cs) → Takes rule (such (at ArrayTarget f) always) end (tree (relabelled array_assignment_target l) ds end) i ls end j rest
 
   pub literal_target : {f : Flags} {l : Label} {cs : Slots} (ds : Slots) {i j : ℕ} {ls rest : Lexemes} → is_array l.kind ≡ true → elements_in cs ≡ Some ds → IsUtf8 text → Reached text i → IsCharBoundary text i → Lexes (Lex text) i ls → Takes rule (such (at LeftHandSide f) always) end (tree l cs end) i ls end j rest → Targeted f l cs ds i ls j rest
   unfolding rule rule_of

@@ -1,5 +1,5 @@
 -- What is told of an expression that is no target, and what the conversion of an array literal to a target answers (ECMA-262, 13.15.5).
-use Rattle.std.specs.Prelude.{ℕ, ◌≡◌, ◌≤◌, ◌⊎◌, ◌||◌, ◌&&◌, not, Bool, true, false, IsTrue, nat_lt, List, [], ◌∷◌, length, None, Result, Ok, Err}
+use Rattle.std.specs.Prelude.{ℕ, ◌≡◌, ◌≤◌, ◌⊎◌, ◌||◌, ◌&&◌, not, Bool, true, false, IsTrue, nat_lt, List, [], ◌∷◌, length, Option, Some, None, Result, Ok, Err}
 use Rattle.js_base.specs.declared.diagnostic.Diagnostic.{Diagnostic}
 use Rattle.js_base.specs.declared.diagnostic.DiagnosticKind.TheVariants as fault
 use Rattle.js_base.specs.Kinds.{one_of_kinds}
@@ -16,7 +16,10 @@ use Rattle.js_grammar.specs.Productions.{Flags, Symbol, at, Arrow', ArrayTarget,
 use Rattle.js_tree.specs.declared.id.NodeId.{NodeId}
 use Rattle.js_tree.specs.Holding.{Holds, Keeps as KeepsNodes}
 use Rattle.js_cursor.specs.Moves.{GivesUp, Keeps}
-use Rattle.js_targets.specs.Targets.{Each, Open, is_array}
+use Rattle.js_parsing.specs.Told.{unrelated_at}
+use Rattle.js_targets.specs.declared.widening.Widening.{Widening}
+use Rattle.js_targets.specs.declared.widening.Widening.TheVariants.{Rest, Operator}
+use Rattle.js_targets.specs.Targets.{Each, Narrow, is_array}
 use Rattle.js_cursor.specs.Parsers.{Parser}
 use Rattle.js_cursor.specs.Places.{goal}
 use Rattle.js_cursor.specs.declared.stop.Stop.{Stop}
@@ -28,6 +31,11 @@ use Rattle.js_parsing.specs.States.{At, Same}
 -- what is told of a text up to a place that is no target
 abbrev pub no_target_at : ℕ → ℕ → Diagnostic
 no_target_at from to = record { kind = fault.InvalidAssignment; span = record { start = from; end = to }; first = None; second = None }
+
+-- what is told of a literal that is no target: of a spread that isn't its last element, if one was noted
+abbrev pub refusal_at : ℕ → ℕ → Option Span → Diagnostic
+refusal_at from to (Some s) = unrelated_at fault.SpreadLastElement s
+refusal_at from to None = no_target_at from to
 
 -- A call gave up: there are not so many diagnostics as said, and all stays, or one was kept.
 abbrev pub Refused : ℕ → Parser → Parser → Stop → Type 0
@@ -45,16 +53,21 @@ TellsOnce d kept old new = Keeps d old new ⊎ ((length old.errors ≡ kept → 
 abbrev pub assigns_next : Look
 assigns_next k w e = one_of_kinds assign_operators k && not e
 
--- A place behind a rest was looked at: no comma stands there; or one does, and a diagnostic was kept.
-abbrev pub RestTold : ℕ → Parser → Parser → Type 0
-RestTold place old new = (Open old.text place × (new ≡ old)) ⊎ ((Open old.text place → ⊥) × ((d : Diagnostic) × Keeps d old new))
+-- what is told of a place where the literal is wider
+abbrev pub TellsOf : Widening → Diagnostic → Type 0
+TellsOf (Rest s) d = d.kind ≡ fault.RestElementTrailingComma
+TellsOf (Operator s) d = d ≡ unrelated_at fault.InvalidAssignmentTargetDefaultValueOperator s
+
+-- A place was looked at: the literal is narrow there; or it isn't, and that was told.
+abbrev pub PlaceTold : Widening → Parser → Parser → Type 0
+PlaceTold w old new = (Narrow old.text w × (new ≡ old)) ⊎ ((Narrow old.text w → ⊥) × ((d : Diagnostic) × TellsOf w d × Keeps d old new))
 
 -- The same of each of these places.
-pub record RestsTold (places : List ℕ) (old new : Parser) : Type 0 where
+pub record PlacesTold (places : List Widening) (old new : Parser) : Type 0 where
   pub at : (text : List ℕ) (f : Flags) → At text f old → At text f new
   pub same : Same old new
   pub is : new ≡ record old { errors = new.errors }
-  pub verdict : Verdict old.errors new.errors (Each (Open old.text) places) (Each (Open old.text) places → ⊥)
+  pub verdict : Verdict old.errors new.errors (Each (Narrow old.text) places) (Each (Narrow old.text) places → ⊥)
 
 -- An array literal was read up to this state, by a call before which so many diagnostics were kept.
 pub record ArrayRead (start : ℕ) (id : NodeId) (kept : ℕ) (q : Parser) : Type 0 where
