@@ -61,9 +61,9 @@ abbrev is_nil : List (Option NodeId) → Bool
 is_nil [] = true
 is_nil (x ∷ xs) = false
 
-blames_wider : {old mid new : Noted} {ws vs : List Widening} → mid.misplaced ≡ old.misplaced → ((w : Widening) → IsIn ws w → IsIn vs w) → Blames ws mid new → Blames vs old new
-blames_wider e f (inl g) = inl (g ∙ e)
-blames_wider e f (inr g) = inr (g.0, g.1, f (Rest g.0) g.2)
+blames_wider : (old mid new : Noted) (ws vs : List Widening) → mid.misplaced ≡ old.misplaced → ((w : Widening) → IsIn ws w → IsIn vs w) → Blames ws mid new → Blames vs old new
+blames_wider old mid new ws vs e f (inl g) = inl (g ∙ e)
+blames_wider old mid new ws vs e f (inr g) = inr (g.0, g.1, f (Rest g.0) g.2)
 
 pub record Halfway (os ns : List Node) (id : NodeId) (noted notes : Noted) (ids js : List (Option NodeId)) (at : ℕ) (cs : Slots) (rs : List ℕ) : Type 0 where
   pub keeps : Keeps os ns
@@ -195,7 +195,7 @@ module _ {os ns : List Node} {id c : NodeId} {noted notes : Noted} {ids js more 
   }
 
   halfway_refused : {ms : List Node} {notes' : Noted} {last : Bool} → last ≡ is_nil more → Refuses ns ms notes notes' (places_of child.label (places_in child.slots)) (element_slot last child.label child.slots (elements_in child.slots)) → Refuses os ms noted notes' (places_in cs) (elements_in cs)
-  halfway_refused n v = record { keeps = Keeps-trans h.keeps v.keeps; is = elements_left ∙ refused_by (elements_in child.others) refl n v.is; blames = blames_wider h.unblamed (λ w i. among_left w (in_left (places_of child.label (places_in child.slots)) (places_in child.others) w i)) v.blames }
+  halfway_refused {notes' = notes'} n v = record { keeps = Keeps-trans h.keeps v.keeps; is = elements_left ∙ refused_by (elements_in child.others) refl n v.is; blames = blames_wider noted notes notes' (places_of child.label (places_in child.slots)) (places_in cs) h.unblamed (λ w i. among_left w (in_left (places_of child.label (places_in child.slots)) (places_in child.others) w i)) v.blames }
 
 made_of : {os ns : List Node} {rs : List ℕ} {noted notes : Noted} {ws : List Widening} {ids : List (Option NodeId)} {r : Option Slots} → Converted os ns rs noted notes ws (Some ids) r → Converts os ns rs noted notes ws ids r
 made_of (converts x) = x
@@ -422,6 +422,16 @@ tree_of None ts e = absurd (cc)
 
 -- ---- what is answered of a rest
 
+-- places of the argument are among those of the rest
+in_own : (l : Label) (ws : List Widening) (w : Widening) → IsIn (cond (is_array l.kind) ws []) w → IsIn (places_of l ws) w
+in_own l ws w i = by (is_spread l.kind) (is_array l.kind) i
+  where
+    by : (b h : Bool) → IsIn (cond h ws []) w → IsIn (cond b (ws ++ Rest (made_span l.span) ∷ []) (cond h ws (cond (is_wide l) (Operator (made_span l.span) ∷ []) []))) w
+    by true true i = in_left ws (Rest (made_span l.span) ∷ []) w i
+    by true false i = absurd i
+    by false true i = i
+    by false false i = absurd i
+
 module _ {os : List Node} {id : NodeId} where
   span_told : {l : Label} {cs : Slots} {rs : List ℕ} {m : MadeSpan} → Stands os id.0 l cs rs → m ≡ (node_at os id).span → m ≡ made_span l.span
   span_told s e = e ∙ ap (λ (k : Label). made_span k.span) (sym (children_of {id = id} s).label_is)
@@ -431,16 +441,6 @@ module _ {os : List Node} {id : NodeId} where
 
   pub rest_without : {noted : Noted} → Only (node_at os id).children None → OfNode os id (λ l cs rs. Converted os os rs noted noted (places_in cs ++ Rest (made_span l.span) ∷ []) (one_node None) (rest_slot true l (elements_in cs)))
   rest_without o = λ l cs rs s d. refuses (record { keeps = Keeps-refl os; is = no_one_child l o (children_of {id = id} s).stands; blames = inl refl })
-
-  -- places of the argument are among those of the rest
-  in_own : (l : Label) (ws : List Widening) (w : Widening) → IsIn (cond (is_array l.kind) ws []) w → IsIn (places_of l ws) w
-  in_own l ws w i = by (is_spread l.kind) (is_array l.kind) i
-    where
-      by : (b h : Bool) → IsIn (cond h ws []) w → IsIn (cond b (ws ++ Rest (made_span l.span) ∷ []) (cond h ws (cond (is_wide l) (Operator (made_span l.span) ∷ []) []))) w
-      by true true i = in_left ws (Rest (made_span l.span) ∷ []) w i
-      by true false i = absurd i
-      by false true i = i
-      by false false i = absurd i
 
   module _ {c : NodeId} (o : Only (node_at os id).children (Some c)) where
     argument : {l : Label} {cs : Slots} {rs : List ℕ} (s : Stands os id.0 l cs rs) → OneChild os id.0 c cs (children_of {id = id} s).numbers
@@ -464,7 +464,7 @@ module _ {os : List Node} {id : NodeId} where
           refuses (record {
             keeps = y.keeps;
             is = ap (λ (xs : Slots). rest_slot true l (elements_in xs)) x.is ∙ rest_none l x.label x.slots (elements_in x.slots) y.is;
-            blames = blames_wider refl (λ w i. in_left (places_in cs) (Rest (made_span l.span) ∷ []) w (subst (λ (xs : Slots). IsIn (places_in xs) w) (sym x.is) (in_left (places_of x.label (places_in x.slots)) [] w (in_own x.label (places_in x.slots) w i)))) y.blames;
+            blames = blames_wider noted noted notes (cond (is_array x.label.kind) (places_in x.slots) []) (places_in cs ++ Rest (made_span l.span) ∷ []) refl (λ w i. in_left (places_in cs) (Rest (made_span l.span) ∷ []) w (subst (λ (xs : Slots). IsIn (places_in xs) w) (sym x.is) (in_left (places_of x.label (places_in x.slots)) [] w (in_own x.label (places_in x.slots) w i)))) y.blames;
           })
 
     module _ {ns ms : List Node} {noted mid notes : Noted} {found made : NodeId} {k : Label} {m : MadeSpan} (v : OfNode os c (λ l cs rs. Converted os ns rs noted mid (cond (is_array l.kind) (places_in cs) []) (one_node (Some found)) (slot_of (target_by l cs (elements_in cs))))) (n : Noded ns ms k (Some found ∷ []) made) (e : k ≡ relabelled assignment_target_rest (label (node_at os id))) (g : m ≡ (node_at os id).span) (p : notes.places ≡ mid.places ++ Rest m ∷ []) (b : notes.misplaced ≡ mid.misplaced) where

@@ -13,7 +13,7 @@ pub first_led : {text : List ℕ} {i : ℕ} (ls : Lexemes) → Lexes (Led text) 
 first_led (last x) m = m
 first_led (next x ls) m = m.0
 
-module _ {text : List ℕ} where
+module _ (text : List ℕ) where
   -- The place is the end of a lexeme from those on, and not before the first of them ends.
   pub record Ends (ls : Lexemes) (j : ℕ) : Type 0 where
     pub place : ℕ
@@ -39,14 +39,14 @@ module _ {text : List ℕ} where
       let h = d.behind in
       record { place = d.place; final = d.final; led = d.led; ends = d.ends; behind = omega arith }
 
-  pub ends_then : {i j k : ℕ} {ls mid rest : Lexemes} → Ends ls j → Lexes (Led text) j mid → Taken j mid k rest → Ends ls k
+  pub ends_then : {j k : ℕ} {ls mid rest : Lexemes} → Ends ls j → Lexes (Led text) j mid → Taken j mid k rest → Ends ls k
   ends_then {ls = ls} e m (inl d) = subst (λ (v : ℕ). Ends ls v) (sym d.0) e
   ends_then {j = j} {ls = ls} {mid = mid} e m (inr d) = then_ends {i = j} {ls = ls} {mid = mid} (inr e) m d
 
   both_taken : {i j k : ℕ} {ls mid rest : Lexemes} → Taken i ls j mid → Lexes (Led text) j mid → Taken j mid k rest → Taken i ls k rest
   both_taken (inl d) m (inl e) = inl (e.0 ∙ d.0, e.1 ∙ d.1)
   both_taken {i = i} {j = j} {ls = ls} {mid = mid} (inl d) m (inr e) = inr (then_ends {i = i} {j = j} {ls = ls} {mid = mid} (inl d) m e)
-  both_taken {i = i} {ls = ls} {mid = mid} (inr d) m e = inr (ends_then {i = i} {ls = ls} {mid = mid} d m e)
+  both_taken {ls = ls} {mid = mid} (inr d) m e = inr (ends_then {ls = ls} {mid = mid} d m e)
 
   pub taken : {N : Type 0} {rules : N → Grammar N} {g : Grammar N} {ks ts us : Slots} {i j : ℕ} {ls rest : Lexemes} → Takes rules g ks ts i ls us j rest → Lexes (Led text) i ls → Taken i ls j rest
   taken is_nothing m = inl (refl, refl)
@@ -69,8 +69,8 @@ module _ {text : List ℕ} where
   taken (is_kept q) m = inl (refl, refl)
 
   -- the span of what was taken
-  pub spanned : {i j : ℕ} (ls : Lexemes) → IsUtf8 text → Lexes (Led text) i ls → Ends ls j → Spanned text (record { start = (here ls).from; end = j })
-  spanned {i} {j} ls u m e =
+  abbrev pub spanned : (i : ℕ) {j : ℕ} (ls : Lexemes) → IsUtf8 text → Lexes (Led text) i ls → Ends ls j → Spanned text (record { start = (here ls).from; end = j })
+  spanned i {j} ls u m e =
       let l = first_led ls m in
       let a = l.0.0.to in
       let b = e.behind in
