@@ -385,8 +385,8 @@ no_operand_there {text} {f} {p} a k h = record { no = λ ts vs j ls rest m d e. 
   where
     go : (ts : Slots) {vs : Slots} {j : ℕ} {ls rest : Lexemes} → Lexes (Lex text) p.prev_token_end ls → Takes rule (such (at Short f) always) end ts p.prev_token_end ls vs j rest → Admits (after (at Short f)) ts (here rest) → ⊥
     go ts {ls = ls} {rest = rest} m d e =
-        let open : (here ls).kind ≡ LParen = kind_here a k refl (here ls) (here_at (Lex text) ls m) in
-        let z = operand_taken (at Short f) refl d (or_right (may_bind (here ls).kind) (same_kind LParen (here ls).kind) (ap (same_kind LParen) open)) in
+        let paren : (here ls).kind ≡ LParen = kind_here a k refl (here ls) (here_at (Lex text) ls m) in
+        let z = operand_taken (at Short f) refl d (or_right (may_bind (here ls).kind) (same_kind LParen (here ls).kind) (ap (same_kind LParen) paren)) in
         let g = closes_alike text p.prev_token_end m z.2 h.closing in
         let l : Lex text z.0 (here z.1) = here_at (Lex text) z.1 g.1 in
         let w : here z.1 ≡ h.arrow = one_is l (subst (λ (v : ℕ). LexemeBehind division text v h.arrow) (sym g.0) h.stands) in

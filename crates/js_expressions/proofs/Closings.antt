@@ -31,7 +31,7 @@ some_behind : (b : ℕ) (st bs : List ℕ) → (c : ℕ) × (u : List ℕ) × (o
 some_behind b st [] = (b, st, refl)
 some_behind b st (c ∷ bs) = some_behind c (b ∷ st) bs
 
--- where some are open
+-- where some are old
 pub some_open : (bs : List ℕ) → (length bs ≡ 0 → ⊥) → (c : ℕ) × (u : List ℕ) × (open_behind [] bs ≡ c ∷ u)
 some_open [] n = absurd (n refl)
 some_open (b ∷ bs) n = some_behind b [] bs
@@ -125,7 +125,7 @@ module _ {text : List ℕ} {e : ℕ} {t : Token} (g : GivesBehind text e t) wher
   pub whole_behind : tells_whole t.kind ≡ true → (y : Lexeme) × LexemeBehind division text e y × Tells y t
   whole_behind w = go (same_kind Undetermined t.kind) refl behind_it
     where
-      both : (a b : Bool) → not (a || b || false) ≡ true → (a ≡ false) × (b ≡ false)
+      both : (a b : Bool) → not (a || (b || false)) ≡ true → (a ≡ false) × (b ≡ false)
       both true b h = absurd (false≢true h)
       both false true h = absurd (false≢true h)
       both false false h = (refl, refl)
@@ -153,27 +153,27 @@ plain_between {text} {s} {y} u b l =
 
 -- ---- the lexemes that were passed so far
 
-pub record PassedTo (text : List ℕ) (start : ℕ) (open : List ℕ) (place : ℕ) : Type 0 where
+pub record PassedTo (text : List ℕ) (start : ℕ) (old : List ℕ) (place : ℕ) : Type 0 where
   pub between : IsCharBoundary text place
-  pub leads : (e : ℕ) → Closing text (open_behind [] open) place e → Closing text [] start e
+  pub leads : (e : ℕ) → Closing text (open_behind [] old) place e → Closing text [] start e
 
-pub passed_none : {text : List ℕ} {start : ℕ} {open : List ℕ} → IsCharBoundary text start → open ≡ [] → PassedTo text start open start
-passed_none {text} {start} {open} b h = record { between = b; leads = λ e c. subst (λ (bs : List ℕ). Closing text (open_behind [] bs) start e) h c }
+pub passed_none : {text : List ℕ} {start : ℕ} {old : List ℕ} → IsCharBoundary text start → old ≡ [] → PassedTo text start old start
+passed_none {text} {start} {old} b h = record { between = b; leads = λ e c. subst (λ (bs : List ℕ). Closing text (open_behind [] bs) start e) h c }
 
-module _ {text : List ℕ} {start place : ℕ} {open new : List ℕ} {t : Token} {to : ℕ} (u : IsUtf8 text) (z : PassedTo text start open place) (g : GivesBehind text place t) (w : tells_whole t.kind ≡ true) (m : move (bracket t.kind) (open_behind [] open) ≡ Some (open_behind [] new)) (d : to ≡ t.span.end) where
+module _ {text : List ℕ} {start place : ℕ} {old : List ℕ} (new : List ℕ) {t : Token} {to : ℕ} (u : IsUtf8 text) (z : PassedTo text start old place) (g : GivesBehind text place t) (w : tells_whole t.kind ≡ true) (m : move (bracket t.kind) (open_behind [] old) ≡ Some (open_behind [] new)) (d : to ≡ t.span.end) where
   next_lexeme : (y : Lexeme) × LexemeBehind division text place y × Tells y t
   next_lexeme = whole_behind g w
 
   ends_there : to ≡ next_lexeme.0.to
   ends_there = d ∙ next_lexeme.2.end
 
-  moved : move (bracket next_lexeme.0.kind) (open_behind [] open) ≡ Some (open_behind [] new)
-  moved = ap (λ (k : Kind). move (bracket k) (open_behind [] open)) (sym next_lexeme.2.kind) ∙ m
+  moved : move (bracket next_lexeme.0.kind) (open_behind [] old) ≡ Some (open_behind [] new)
+  moved = ap (λ (k : Kind). move (bracket k) (open_behind [] old)) (sym next_lexeme.2.kind) ∙ m
 
   between_there : IsCharBoundary text to
   between_there = subst (λ (v : ℕ). IsCharBoundary text v) (sym ends_there) (plain_between u z.between next_lexeme.1)
 
-  -- some brackets are open behind it
+  -- some brackets are old behind it
   pub passed_on : (length new ≡ 0 → ⊥) → PassedTo text start new to
   passed_on n =
       let x = some_open new n in
@@ -211,7 +211,7 @@ closes_alike text s {st = st} {e = e} {e' = e'} l (and_more {b = b} {s = t} {x =
     let w : x ≡ y = one_is l.0 h in
     let g : Some (b ∷ t) ≡ Some (c ∷ v) = sym p ∙ (ap (λ (z : Lexeme). move (bracket z.kind) st) w ∙ q) in
     let z : b ∷ t ≡ c ∷ v = cc in
-    closes_alike text x.to l.1 (subst (λ (n : List ℕ). One n ls e r) z o) (subst (λ (k : ℕ). Closing text (c ∷ v) k e') (sym (ap (λ (z : Lexeme). z.to) w)) d)
+    closes_alike text y.to (subst (λ (k : Lexeme). Lexes (Lex text) k.to ls) w l.1) (subst (λ (n : List ℕ). One n ls e r) z o) d
 
 -- ---- what is answered of one lexeme
 
@@ -222,11 +222,11 @@ last_closed b c old new e = go (nat_eq c b) refl
     go true q = ap (λ (bs : List ℕ). pop b (open_behind [] bs)) e ∙ pops b c new (eqb-true c b q)
     go false q = tt
 
-pub opened_passed : {E : Type 0} (k : Kind) {j : Kind} (b : ℕ) (old : List ℕ) {new : List ℕ} (r : Result Bool E) → k ≡ j → tells_whole j ≡ true → ((st : List ℕ) → move (bracket j) st ≡ Some (b ∷ st)) → IfOk r (λ o. Opened b old new o) → IfOk r (λ o. BracketPassed k old new o)
-opened_passed k b old (Ok true) e w m o = (ap tells_whole e ∙ w, ap (λ (i : Kind). move (bracket i) (open_behind [] old)) e ∙ (m (open_behind [] old) ∙ ap Some (sym o)))
-opened_passed k b old (Ok false) e w m o = tt
-opened_passed k b old (Err x) e w m o = tt
+pub opened_passed : {E : Type 0} (k : Kind) {j : Kind} (b : ℕ) (old new : List ℕ) (r : Result Bool E) → k ≡ j → tells_whole j ≡ true → ((st : List ℕ) → move (bracket j) st ≡ Some (b ∷ st)) → IfOk r (λ o. Opened b old new o) → IfOk r (λ o. BracketPassed k old new o)
+opened_passed k b old new (Ok true) e w m o = (ap tells_whole e ∙ w, ap (λ (i : Kind). move (bracket i) (open_behind [] old)) e ∙ (m (open_behind [] old) ∙ ap Some (sym o)))
+opened_passed k b old new (Ok false) e w m o = tt
+opened_passed k b old new (Err x) e w m o = tt
 
-pub closed_passed : (k : Kind) {j : Kind} (b : ℕ) (old : List ℕ) {new : List ℕ} (r : Bool) → k ≡ j → tells_whole j ≡ true → ((st : List ℕ) → move (bracket j) st ≡ pop b st) → LastClosed b old new r → BracketPassed k old new r
-closed_passed k b old true e w m o = (ap tells_whole e ∙ w, ap (λ (i : Kind). move (bracket i) (open_behind [] old)) e ∙ (m (open_behind [] old) ∙ o))
-closed_passed k b old false e w m o = tt
+pub closed_passed : (k : Kind) {j : Kind} (b : ℕ) (old new : List ℕ) (r : Bool) → k ≡ j → tells_whole j ≡ true → ((st : List ℕ) → move (bracket j) st ≡ pop b st) → LastClosed b old new r → BracketPassed k old new r
+closed_passed k b old new true e w m o = (ap tells_whole e ∙ w, ap (λ (i : Kind). move (bracket i) (open_behind [] old)) e ∙ (m (open_behind [] old) ∙ o))
+closed_passed k b old new false e w m o = tt

@@ -18,15 +18,15 @@ pub fn is_arrow_behind_one<C: ParserConfig>(
     requires between { IsCharBoundary p.now.text start }
     ensures { IfOk result (λ found. ArrowFound p.now.text start found) }
 {
-    let mut open = Vec::new(p.alloc);
+    let mut brackets = Vec::new(p.alloc);
     let mut place = start;
     'lexemes: for _ in start..u32::MAX {
         let next = p.lexer.token_behind(place)?;
-        if !pass_bracket(&mut open, next.kind())? {
+        if !pass_bracket(&mut brackets, next.kind())? {
             return Ok(false);
         }
         place = next.span().end;
-        if open.is_empty() {
+        if brackets.is_empty() {
             return is_arrow_at(p, place);
         }
     }
@@ -45,16 +45,16 @@ fn is_arrow_at<C: ParserConfig>(p: &ParserImpl<'_, C>, place: u32) -> Result<boo
 
 /// Passes a lexeme: a bracket is opened, or closes the one that was opened last. False where it closes none, or where the
 /// lexeme isn't told whole. Brackets are told by 1 for `()`, 2 for `[]` and 3 for `{}`.
-fn pass_bracket(open: &mut Vec<u8>, kind: Kind) -> Result<bool, NoMemory>
-    ensures { IfOk result (λ passed. BracketPassed kind open.old.items open.new.items passed) }
+fn pass_bracket(brackets: &mut Vec<u8>, kind: Kind) -> Result<bool, NoMemory>
+    ensures { IfOk result (λ passed. BracketPassed kind brackets.old.items brackets.new.items passed) }
 {
     match kind {
-        Kind::LParen => open_one(open, 1),
-        Kind::LBrack => open_one(open, 2),
-        Kind::LCurly => open_one(open, 3),
-        Kind::RParen => Ok(close_last(open, 1)),
-        Kind::RBrack => Ok(close_last(open, 2)),
-        Kind::RCurly => Ok(close_last(open, 3)),
+        Kind::LParen => open_one(brackets, 1),
+        Kind::LBrack => open_one(brackets, 2),
+        Kind::LCurly => open_one(brackets, 3),
+        Kind::RParen => Ok(close_last(brackets, 1)),
+        Kind::RBrack => Ok(close_last(brackets, 2)),
+        Kind::RCurly => Ok(close_last(brackets, 3)),
         Kind::RAngle => Ok(false),
         Kind::Undetermined => Ok(false),
         _ => Ok(true),
@@ -62,18 +62,18 @@ fn pass_bracket(open: &mut Vec<u8>, kind: Kind) -> Result<bool, NoMemory>
 }
 
 /// Opens a bracket.
-fn open_one(open: &mut Vec<u8>, bracket: u8) -> Result<bool, NoMemory>
-    ensures { IfOk result (λ opened. Opened bracket open.old.items open.new.items opened) }
+fn open_one(brackets: &mut Vec<u8>, bracket: u8) -> Result<bool, NoMemory>
+    ensures { IfOk result (λ opened. Opened bracket brackets.old.items brackets.new.items opened) }
 {
-    open.push(bracket)?;
+    brackets.push(bracket)?;
     Ok(true)
 }
 
 /// Closes the bracket that was opened last, if it is such a one.
-fn close_last(open: &mut Vec<u8>, bracket: u8) -> bool
-    ensures { LastClosed bracket open.old.items open.new.items result }
+fn close_last(brackets: &mut Vec<u8>, bracket: u8) -> bool
+    ensures { LastClosed bracket brackets.old.items brackets.new.items result }
 {
-    match open.pop() {
+    match brackets.pop() {
         Some(last) => last == bracket,
         None => false,
     }

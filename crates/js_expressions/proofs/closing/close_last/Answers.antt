@@ -7,4 +7,4 @@ use Rattle.js_expressions.proofs.Closings.{last_closed}
 use Rattle.js_expressions.proofs.closing.close_last.Goals as goal
 
 pub returns-in-Some : goal.returns-in-Some
-returns-in-Some c = last_closed c.args.bracket c.in-Some.last c.args.open.now.items c.pop.new.self.items (c.pop.ensures.items ∙ ap (λ (o : Option ℕ). c.pop.new.self.items ++ option_to_list o) c.in-Some.is)
+returns-in-Some c = last_closed c.args.bracket c.in-Some.last c.args.brackets.now.items c.pop.new.self.items (c.pop.ensures.items ∙ ap (λ (o : Option ℕ). c.pop.new.self.items ++ option_to_list o) c.in-Some.is)

@@ -7,4 +7,4 @@ use Rattle.js_expressions.proofs.Closings.{passed_none, passed_on, passed_betwee
 use Rattle.js_expressions.proofs.closing.is_arrow_behind_one.Goals as goal
 
 pub lexemes-init : goal.lexemes-init
-lexemes-init g c = passed_none c.requires.between c.new-open.ensures.items
+lexemes-init g c = passed_none c.requires.between c.new-brackets.ensures.items
