@@ -8,8 +8,8 @@ pub mod CoveredNodes
 pub mod Covers
 pub mod Edges
 pub mod LiteralsAsTargets
+pub mod PlacesTold
 pub mod Refused
-pub mod RestsTold
 pub mod ReusedNodes
 pub mod Spots
 pub mod Targets

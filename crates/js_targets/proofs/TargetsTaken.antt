@@ -36,7 +36,7 @@ use Rattle.js_targets.specs.Targets.{Each, IsIn, Narrow, Fits, Spotted, Noted, u
 use Rattle.js_base.specs.declared.diagnostic.DiagnosticKind.TheVariants.{SpreadLastElement}
 use Rattle.js_parsing.specs.Told.{unrelated_at}
 use Rattle.js_targets.proofs.LiteralsAsTargets.{one_of_each}
-use Rattle.js_targets.proofs.RestsTold.{spread_marked}
+use Rattle.js_targets.proofs.PlacesTold.{spread_marked}
 use Rattle.js_targets.proofs.Refused.{array_no_target}
 use Rattle.js_targets.proofs.ArraysBeforeSigns.{not_wide}
 use Rattle.js_targets.proofs.ArraysConverted.{signs, no_target_there, no_target_unread, target_there, ended_there, spots_there, no_array_derived}

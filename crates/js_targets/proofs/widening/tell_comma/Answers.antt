@@ -6,7 +6,7 @@ use Rattle.js_lex.specs.Reading.{GivesBehind}
 use Rattle.js_lex.specs.States.{State}
 use Rattle.js_cursor.specs.Parsers.{Parser}
 use Rattle.js_cursor.specs.Places.{goal as source}
-use Rattle.js_targets.proofs.RestsTold.{comma_marked, not_open, open_behind}
+use Rattle.js_targets.proofs.PlacesTold.{comma_marked, not_open, open_behind}
 use Rattle.js_targets.proofs.widening.tell_comma.Goals as goal
 
 pub error-requires-clause-mark : goal.error-requires-clause-mark

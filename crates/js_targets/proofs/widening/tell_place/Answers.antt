@@ -2,7 +2,7 @@ use Rattle.std.proofs.Common.{◌≡◌, inr, refl, subst}
 use Rattle.js_cursor.specs.Places.{goal as source}
 use Rattle.js_targets.specs.Targets.{Spotted, Fits}
 use Rattle.js_targets.specs.declared.widening.Widening.{Widening}
-use Rattle.js_targets.proofs.RestsTold.{operator_marked}
+use Rattle.js_targets.proofs.PlacesTold.{operator_marked}
 use Rattle.js_targets.proofs.widening.tell_place.Goals as goal
 
 pub tell_comma-requires-clause-ended : goal.tell_comma-requires-clause-ended

@@ -1,7 +1,7 @@
 use Rattle.std.proofs.Common.{◌≡◌, ◌+◌, ◌<◌, refl, sym, ap, arith, length, ◌∙◌}
 use Rattle.std.proofs.lemmas.Option.{slice_get_read}
 use Rattle.js_parsing.proofs.Moving.{standing}
-use Rattle.js_targets.proofs.RestsTold.{next_place, place_fits, place_spotted, places_begin, places_end, places_next}
+use Rattle.js_targets.proofs.PlacesTold.{next_place, place_fits, place_spotted, places_begin, places_end, places_next}
 use Rattle.js_targets.proofs.widening.tell_places.Goals as goal
 
 pub places-init : goal.places-init

@@ -1,5 +1,5 @@
 use Rattle.std.proofs.Common.{◌-◌, length}
-use Rattle.js_targets.proofs.RestsTold.{ToldUpTo}
+use Rattle.js_targets.proofs.PlacesTold.{ToldUpTo}
 use Rattle.js_targets.proofs.widening.tell_places.Given as goal
 
 abbrev pub invariant-places : goal.invariant-places
