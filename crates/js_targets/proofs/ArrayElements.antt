@@ -132,10 +132,10 @@ not_even {l = l} d h o = contrary (odd l.kind) (rooted d h) o
 
 -- ---- an assignment
 
-abbrev a_slots : Flags → Kind → G
+abbrev pub a_slots : Flags → Kind → G
 a_slots f o = symbol SimpleTarget f ▸ tok o ▸ symbol Assignment f
 
-abbrev a_part : Flags → Kind → G
+abbrev pub a_part : Flags → Kind → G
 a_part f o = op assignment_expression o (a_slots f o)
 
 -- its operator, and its sides
@@ -206,16 +206,20 @@ pub record Operated (f : Flags) (l : Label) (cs : Slots) (i : ℕ) (ls : Lexemes
   pub span_is : l.span ≡ record { from = (here ls).from; to = j }
   pub sides : Takes rule (symbol SimpleTarget f ▸ tok operator ▸ symbol Assignment f) end cs i ls end j rest
 
-pub operated : (f : Flags) {l : Label} {cs : Slots} {i j : ℕ} {ls rest : Lexemes} → Takes rule (rule (at Assignment f)) end (tree l cs end) i ls end j rest → is_wide l ≡ true → Operated f l cs i ls j rest
+-- its line
+pub operated_line : (f : Flags) {l : Label} {cs : Slots} {i j : ℕ} {ls rest : Lexemes} → Takes rule (rule (at Assignment f)) end (tree l cs end) i ls end j rest → is_wide l ≡ true → Takes rule (branches assign_operators (a_part f)) end (tree l cs end) i ls end j rest
 unfolding rule rule_of
-operated f {l} {cs} {i} {j} {ls} {rest} d o = let h = and_parts (is_assignment l.kind) (not (is_equals l.op)) o in by d h.0 h.1
+operated_line f {l} d o = let h = and_parts (is_assignment l.kind) (not (is_equals l.op)) o in by d h.0 h.1
   where
-    by : {l : Label} {cs : Slots} {i j : ℕ} {ls rest : Lexemes} → Takes rule (rule (at Assignment f)) end (tree l cs end) i ls end j rest → is_assignment l.kind ≡ true → not (is_equals l.op) ≡ true → Operated f l cs i ls j rest
+    by : {l : Label} {cs : Slots} {i j : ℕ} {ls rest : Lexemes} → Takes rule (rule (at Assignment f)) end (tree l cs end) i ls end j rest → is_assignment l.kind ≡ true → not (is_equals l.op) ≡ true → Takes rule (branches assign_operators (a_part f)) end (tree l cs end) i ls end j rest
     by {l = l} (is_left d) a b = absurd (not_even d refl (odd_of l.kind a))
     by {l = l} (is_right (is_left d)) a b = absurd (not_even d refl (odd_of l.kind a))
     by {l = l} (is_right (is_right (is_left d))) a b = absurd (not_even d refl (odd_of l.kind a))
-    by (is_right (is_right (is_right (is_left d)))) a b = let x = in_branch assign_operators d in record { operator = x.operator; span_is = ap (λ (m : Label). m.span) x.label_is; sides = x.sides }
+    by (is_right (is_right (is_right (is_left d)))) a b = d
     by (is_right (is_right (is_right (is_right (is_node d))))) a b = absurd (false≢true b)
+
+pub operated : (f : Flags) {l : Label} {cs : Slots} {i j : ℕ} {ls rest : Lexemes} → Takes rule (rule (at Assignment f)) end (tree l cs end) i ls end j rest → is_wide l ≡ true → Operated f l cs i ls j rest
+operated f d o = let x = in_branch assign_operators (operated_line f d o) in record { operator = x.operator; span_is = ap (λ (m : Label). m.span) x.label_is; sides = x.sides }
 
 -- ---- an element with its comma, or the last one
 

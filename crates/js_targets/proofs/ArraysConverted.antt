@@ -17,6 +17,8 @@ use Rattle.js_grammar.specs.Productions.{G, Flags, Symbol, at, tok, op, Arrow', 
 use Rattle.js_grammar.specs.Productions.{sym as symbol}
 use Rattle.js_grammar.specs.Table.{rule}
 use Rattle.js_grammar.specs.Follow.{after, widest}
+use Rattle.js_grammar.specs.Marks.{loose}
+use Rattle.js_grammar.proofs.Loose.{strict_is_loose}
 use Rattle.js_grammar.proofs.Behind.{lexed_behind}
 use Rattle.js_grammar.proofs.Calculus.{Between, Inside, inside_full, ends, label_is, slots_are, ◌▹◌, left, right, fails_alt, fails_node, then_by, part_fails}
 use Rattle.js_cursor.specs.Parsers.{Parser}
@@ -137,7 +139,7 @@ module _ {text : List ℕ} {f : Flags} (w : f.wide ≡ false) {s s' : ℕ} {l : 
     }
       where
         sound : {us vs : Slots} {k : ℕ} {ls rest : Lexemes} → Lexes (Lex text) s ls → Takes rule (such (at Short f) always) end (tree l cs us) s ls vs k rest → Takes rule (such (at ArrayTarget f) always) end (tree (relabelled array_assignment_target l) ds us) s ls vs k rest
-        sound m (is_such d c) = anew ((targeted m d).takes o)
+        sound m (is_such d c) = anew ((targeted m d).takes (inr o))
 
         only : (ts vs : Slots) (k : ℕ) (ls rest : Lexemes) → Lexes (Lex text) s ls → Takes rule (such (at ArrayTarget f) always) end ts s ls vs k rest → Admits signs ts (here rest) → (us : Slots) × (ls' : Lexemes) × (ts ≡ tree (relabelled array_assignment_target l) ds us) × Lexes (Lex text) s' ls' × Takes rule nothing end us s' ls' vs k rest × (ls ≡ pass ls')
         only ts vs k ls rest m (is_such {l = a} {cs = bs} d c) q =
@@ -152,6 +154,18 @@ module _ {text : List ℕ} {f : Flags} (w : f.wide ≡ false) {s s' : ℕ} {l : 
       where
         by : {ls rest : Lexemes} {j : ℕ} → Lexes (Lex text) s ls → Takes rule (such (at Short f) always) end (tree l cs end) s ls end j rest → Each (Fits text) (places_in cs)
         by m (is_such d c) = (targeted m d).ended
+
+  -- it is derived in its wider form, whatever it has at its places
+  pub loose_there : (ds : Slots) → elements_in cs ≡ Some ds → IsUtf8 text → Reached text s → IsCharBoundary text s → (y : Lexeme) → Lex text s' y → Derives rule (at ArrayTarget (loose f)) (record { label = relabelled array_assignment_target l; slots = ds }) s (pass (last y)) s' (last y)
+  loose_there ds e u r b y n = by (z.goes.passes.lexed (last y) n) (z.goes.sound end end s' (last y) (last y) n (inl z.near) is_nothing)
+    where
+      within : {m : Symbol} {t : Label} {ts : Slots} {ls rest : Lexemes} {j : ℕ} → Takes rule (such m always) end (tree t ts end) s ls end j rest → Takes rule (rule m) end (tree t ts end) s ls end j rest
+      within (is_such d c) = d
+
+      by : {ls rest : Lexemes} {j : ℕ} → Lexes (Lex text) s ls → Takes rule (such (at Short f) always) end (tree l cs end) s ls end j rest → Derives rule (at ArrayTarget (loose f)) (record { label = relabelled array_assignment_target l; slots = ds }) s ls j rest
+      by m (is_such d c) =
+          let k = strict_is_loose (at LeftHandSide f) (record { label = l; slots = cs }) (within ((of_short f).down (may_array l.kind h) (is_such d refl))) in
+          within ((literal_target text ds h e u r b m (is_such k refl)).takes (inl refl))
 
   -- what stands at its spreads and its assignments
   pub spots_there : IsUtf8 text → Reached text s → IsCharBoundary text s → (y : Lexeme) → Lex text s' y → Each (Spotted text) (places_in cs)

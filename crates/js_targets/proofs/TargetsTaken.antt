@@ -9,11 +9,11 @@ use Rattle.js_base.specs.declared.span.Span.{Span}
 use Rattle.js_base.specs.declared.token.Token.{Token}
 use Rattle.js_base.specs.Kinds.{one_of_kinds}
 use Rattle.js_grammar.specs.Trees.{Label, Slots, end, tree, Tree, array_assignment_target}
-use Rattle.js_grammar.specs.Grammar.{Lexeme, Lexemes, last, seen, such, nothing}
+use Rattle.js_grammar.specs.Grammar.{Lexeme, Lexemes, last, seen, such, nothing, Derives}
 use Rattle.js_grammar.specs.Insertion.{Row, after_expression, assign_operators}
 use Rattle.js_grammar.specs.Lexemes.{is_escaped}
 use Rattle.js_grammar.specs.LexicalFaults.{Reached}
-use Rattle.js_grammar.specs.Marks.{Mark}
+use Rattle.js_grammar.specs.Marks.{loose, Mark}
 use Rattle.js_grammar.specs.Parsing.{always, Fails}
 use Rattle.js_grammar.specs.Productions.{Flags, at, Short, ArrayTarget, Target}
 use Rattle.js_grammar.specs.Table.{rule}
@@ -39,7 +39,7 @@ use Rattle.js_targets.proofs.LiteralsAsTargets.{one_of_each}
 use Rattle.js_targets.proofs.PlacesTold.{spread_marked}
 use Rattle.js_targets.proofs.Refused.{array_no_target}
 use Rattle.js_targets.proofs.ArraysBeforeSigns.{not_wide}
-use Rattle.js_targets.proofs.ArraysConverted.{signs, no_target_there, no_target_unread, target_there, ended_there, spots_there, no_array_derived}
+use Rattle.js_targets.proofs.ArraysConverted.{signs, no_target_there, no_target_unread, target_there, ended_there, loose_there, spots_there, no_array_derived}
 use Rattle.js_targets.proofs.Assigned.{an_assign, assigns}
 use Rattle.js_targets.proofs.Refused.{no_target, short_follows}
 use Rattle.js_targets.proofs.ConvertedNodes.{ArrayAnswer}
@@ -208,6 +208,7 @@ module _ {text : List ℕ} {f : Flags} {p q : Parser} {left : NodeId} (a : At te
             slots = parts.0;
             pass = x.answer.pass;
             walked = walked_to (sym (ap spot e ∙ ap spot e1)) x.answer.walked;
+            loosely = λ n y l. subst (λ (v : ℕ). Derives rule (at ArrayTarget (loose f)) (record { label = relabelled array_assignment_target x.answer.label; slots = parts.0 }) p.prev_token_end (x.answer.pass (last y)) v (last y)) (sym place) (loose_there (not_wide a) (none_kept x.answer.verdict n) h parts.0 parts.1 utf8_there reached_there between_there y (subst (λ (v : ℕ). Lex text v y) place l));
             verdict = subst (λ (v : ℕ). Verdict p.errors r.errors (Stretch text signs (such (at ArrayTarget f) always) p.prev_token_end nothing v (tree (relabelled array_assignment_target x.answer.label) parts.0) x.answer.pass) (Fails rule (Lex text) signs end (such (at ArrayTarget f) always) p.prev_token_end)) (sym place) g;
             holds = subst (λ (ns : List Node). Holds ns (length p.nodes) (length ns) target.0 (relabelled array_assignment_target x.answer.label) parts.0) (sym nodes) target_held;
             keeps = subst (λ (ns : List Node). Keeps p.nodes ns) (sym nodes) (Keeps-trans x.keeps made.keeps);

@@ -7,11 +7,11 @@ use Rattle.js_base.specs.declared.kind.Kind.{Kind}
 use Rattle.js_base.specs.declared.kind.Kind.TheVariants.{Question, Colon, Comma, Semicolon, RParen, RBrack, Plus2, Minus2, Eof}
 use Rattle.js_base.specs.declared.span.Span.{Span}
 use Rattle.js_grammar.specs.Trees.{Label, Slots, end as no_slots, tree}
-use Rattle.js_grammar.specs.Grammar.{Lexeme, Lexemes, Look, such, nothing}
+use Rattle.js_grammar.specs.Grammar.{Lexeme, Lexemes, last, Look, such, nothing, Derives}
 use Rattle.js_grammar.specs.Insertion.{assign_operators}
 use Rattle.js_grammar.specs.Parsing.{always, plain, Fails}
 use Rattle.js_grammar.specs.Table.{rule}
-use Rattle.js_grammar.specs.Marks.{LexemeAt, of_kinds}
+use Rattle.js_grammar.specs.Marks.{LexemeAt, of_kinds, loose}
 use Rattle.js_grammar.specs.Productions.{Flags, Symbol, at, Arrow', ArrayTarget, Assignment, Short}
 use Rattle.js_tree.specs.declared.id.NodeId.{NodeId}
 use Rattle.js_tree.specs.Holding.{Holds, Keeps as KeepsNodes}
@@ -80,7 +80,7 @@ pub record ArrayRead (start : ℕ) (id : NodeId) (kept : ℕ) (q : Parser) : Typ
   pub read : Numbered text flags (at Short flags) first q id
   pub array : is_array read.answer.label.kind ≡ true
 
--- It was converted to a target, which is read from the state `first` on. Clean: it is the only one there; unclean: there is none.
+-- It was converted to a target, which is read from the state `first` on. Clean: it is the only one there; unclean: there is none. Where nothing was told while the literal was read, its lexemes derive this target in the wider form, in which a comma may stand behind a rest and another operator before an initialiser.
 pub record TargetTaken (text : List ℕ) (f : Flags) (first old new : Parser) (id : NodeId) : Type 0 where
   pub stands_at : At text f new
   pub same : Same first new
@@ -92,6 +92,7 @@ pub record TargetTaken (text : List ℕ) (f : Flags) (first old new : Parser) (i
   pub pass : Lexemes → Lexemes
   pub walked : Walked text (spot first) (spot new) pass
   pub verdict : Verdict first.errors new.errors (Stretch text (plain assigns_next) (such (at ArrayTarget f) always) first.prev_token_end nothing new.prev_token_end (tree label slots) pass) (Fails rule (Lex text) (plain assigns_next) no_slots (such (at ArrayTarget f) always) first.prev_token_end)
+  pub loosely : length old.errors ≡ length first.errors → (y : Lexeme) → Lex text new.prev_token_end y → Derives rule (at ArrayTarget (loose f)) (record { label = label; slots = slots }) first.prev_token_end (pass (last y)) new.prev_token_end (last y)
   pub holds : Holds new.nodes (length first.nodes) (length new.nodes) id.0 label slots
   pub keeps : KeepsNodes first.nodes new.nodes
 
