@@ -44,11 +44,11 @@ pub record Head (text : List ℕ) (f : Flags) (p q : Parser) (id : NodeId) : Typ
 
 -- What stands before `=>` was read, and something was told of it: no assignment is derived from there, neither behind a head nor as an expression.
 pub record ToldHead (text : List ℕ) (f : Flags) (p q : Parser) (id : NodeId) : Type 0 where
+  pub none : Underived text (at Assignment f) p.prev_token_end
   pub at : At text f q
   pub same : Same p q
   pub further : p.token.span.start < q.prev_token_end
   pub grown : Grown p.errors q.errors
-  pub none : Underived text (at Assignment f) p.prev_token_end
   pub label : Label
   pub slots : Slots
   pub pass : Lexemes → Lexemes
