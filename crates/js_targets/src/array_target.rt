@@ -249,7 +249,7 @@ fn refuse_literal<C: ParserConfig>(
     requires at { Standing p.old }
     requires start { start ≤ p.old.prev_token_end }
     requires marked { length p.old.errors ≡ kept → Mark (goal p.old) p.old.text (refusal_at start p.old.prev_token_end misplaced) }
-    ensures { Refused (refusal_at start p.old.prev_token_end misplaced) kept p.old p.new result }
+    ensures { Refused kept p.old p.new result }
 {
     let Some(spread) = misplaced else {
         return refuse_target(p, start, kept);

@@ -24,8 +24,8 @@ convert_array-returns t c =
 pub convert_element-returns-in-Elision : goal.convert_element-returns-in-Elision
 convert_element-returns-in-Elision t c = element_hole {id = c.args.id} c.args.is_last (ap (λ k. is_elision (kind_of k)) (sym c.kind.ensures ∙ c.in-Elision.is))
 
-pub convert_element-returns-in_default : goal.convert_element-returns-in_default
-convert_element-returns-in_default t c = element_item {id = c.args.id} c.args.is_last c.in_ok-found.found c.some_slot.result (ap (λ k. is_elision (kind_of k)) (sym c.kind.ensures) ∙ no_elision c.kind.result c.in_default.not-Elision) c.some_slot.ensures c.in_ok-found.ensures
+pub convert_element-returns : goal.convert_element-returns
+convert_element-returns t c = element_item {id = c.args.id} c.args.is_last c.in_ok-found.found c.some_slot.result (ap (λ k. is_elision (kind_of k)) (sym c.kind.ensures) ∙ no_elision c.kind.result c.in_default.not-Elision) c.some_slot.ensures c.in_ok-found.ensures
 
 pub convert_elements-elements-init : goal.convert_elements-elements-init
 convert_elements-elements-init t c = record { within = omega arith; children = c.in_ok-children.ensures.items ∙ c.children.ensures; elements = loop_begins {id = c.args.id} (c.in_ok-children.ensures.items ∙ c.children.ensures) c.new-elements.ensures.items }
