@@ -416,10 +416,10 @@ told_parameters {text} {f} {p} a k x g n h =
       keeps = x.keeps;
     }
 
-module _ {p q : Parser} {kept start : ℕ} (a : Standing p) (k : p.token.kind ≡ LParen) (n : kept ≡ length p.errors) where
+module _ {p q : Parser} {kept : ℕ} (a : Standing p) (k : p.token.kind ≡ LParen) (n : kept ≡ length p.errors) where
   -- parameters, and whether they are a head
-  pub head_read : {id : NodeId} → start ≡ p.prev_token_end → Answers (at Params) p q (Ok id) → IsHead start kept q true → IsHeadHere p q id
-  head_read {id} t x h = (h.1, λ text f a. by h.0 a (x text f a))
+  pub head_read : {id : NodeId} {start : ℕ} → start ≡ p.prev_token_end → Answers (at Params) p q (Ok id) → IsHead start kept q true → IsHeadHere p q id
+  head_read {id} {start} t x h = (h.1, λ text f a. by h.0 a (x text f a))
     where
       by : {text : List ℕ} {f : Flags} → (length q.errors ≡ kept) ⊎ ArrowBehindOne q.text start → At text f p → Numbered text f (at Params f) p q id → BeforeArrow text f p q id
       by (inl e) a y = a_head (parenthesized_head a k y (e ∙ n))
@@ -428,7 +428,7 @@ module _ {p q : Parser} {kept start : ℕ} (a : Standing p) (k : p.token.kind �
         | unclean g z ↦ told_head (told_parameters a k y g z (subst (λ (v : ℕ). ArrowBehindOne text v) t (subst (λ (v : List ℕ). ArrowBehindOne v start) y.answer.at.text_is c)))
       ]
 
-  pub head_unread : {id : NodeId} → Answers (at Params) p q (Ok id) → IsHead start kept q false → GoesOn p q × NotedHeads q × NoHeadHere p
+  pub head_unread : {id : NodeId} → Answers (at Params) p q (Ok id) → (length q.errors ≡ kept → ⊥) ⊎ (q.token.kind ≡ Arrow → ⊥) → GoesOn p q × NotedHeads q × NoHeadHere p
   head_unread x h = let y = (x _ _ a).answer in ((y.same.follows, y.at.at), y.at.heads, λ text f a. by h (x text f a).answer a)
     where
       by : {text : List ℕ} {f : Flags} → (length q.errors ≡ kept → ⊥) ⊎ (q.token.kind ≡ Arrow → ⊥) → Answer text f (at Params f) p q → At text f p → NoHead text f p.prev_token_end

@@ -19,7 +19,7 @@ use Rattle.js_lex.proofs.Again.{cut_same, passed}
 use Rattle.js_lex.proofs.StringPlaces.{front_word}
 use Rattle.js_parsing.specs.Lexemes.{Lex}
 use Rattle.js_parsing.proofs.Here.{plainly}
-use Rattle.js_expressions.specs.Closings.{Closing, closed, inside, ArrowBehindOne, open_behind, tells_whole, BracketPassed, LastClosed, Opened}
+use Rattle.js_expressions.specs.Closings.{Closing, closed, inside, ArrowBehindOne, open_behind, tells_whole, BracketPassed, LastClosed, Opened, ArrowStands, ArrowFound}
 
 -- ---- lists of brackets
 
@@ -194,6 +194,10 @@ module _ {text : List ℕ} {start place : ℕ} {old : List ℕ} (new : List ℕ)
     stands = l;
     is = k;
   }
+
+  pub arrow_found : length new ≡ 0 → (found : Bool) → ArrowStands text to found → ArrowFound text start found
+  arrow_found n true y = closes_there n y.0 y.1 y.2
+  arrow_found n false y = tt
 
 -- ---- the lexemes of an operand go the same way
 
