@@ -42,19 +42,13 @@ fn tell_comma<C: ParserConfig>(p: &mut ParserImpl<'_, C>, rest: Span) -> Result<
 {
     let next = p.lexer.token_behind(rest.end)?;
     if let Kind::Comma = next.kind() {
-        p.error(diagnostic_at(
-            DiagnosticKind::RestElementTrailingComma,
-            next.span(),
-        ))?;
+        p.error(diagnostic_at(DiagnosticKind::RestElementTrailingComma, next.span()))?;
     }
     Ok(())
 }
 
 /// Tells of an element's operator before an initialiser that isn't `=`.
-fn tell_operator<C: ParserConfig>(
-    p: &mut ParserImpl<'_, C>,
-    element: Span,
-) -> Result<(), NoMemory>
+fn tell_operator<C: ParserConfig>(p: &mut ParserImpl<'_, C>, element: Span) -> Result<(), NoMemory>
     requires at { Standing p.old }
     requires mark { Mark (goal p.old) p.old.text (unrelated_at fault.InvalidAssignmentTargetDefaultValueOperator element) }
     ensures { IfOk result (λ _. Keeps (unrelated_at fault.InvalidAssignmentTargetDefaultValueOperator element) p.old p.new) }
@@ -64,10 +58,7 @@ fn tell_operator<C: ParserConfig>(
 }
 
 /// Tells of a place where an array literal is wider than a target, if it is.
-fn tell_place<C: ParserConfig>(
-    p: &mut ParserImpl<'_, C>,
-    place: Widening,
-) -> Result<(), NoMemory>
+fn tell_place<C: ParserConfig>(p: &mut ParserImpl<'_, C>, place: Widening) -> Result<(), NoMemory>
     requires at { Standing p.old }
     requires spotted { Spotted p.old.text place }
     requires fits { Fits p.old.text place }
