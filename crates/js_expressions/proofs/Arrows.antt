@@ -1,6 +1,6 @@
 -- Arrow functions (ECMA-262, 15.3), and where none is derived.
 use Rattle.std.proofs.Common.{ℕ, ◌≡◌, ◌≤◌, ◌<◌, ◌⊎◌, inl, inr, max, List, [], ◌∷◌, length, Bool, true, false, not, cond, ◌&&◌, ◌||◌, IsTrue, Option, Some, None, refl, sym, ap, subst, arith, ◌∙◌}
-use Rattle.std.specs.Prelude.{Result, Ok, Err}
+use Rattle.std.specs.Prelude.{IsCharBoundary, Result, Ok, Err}
 use Rattle.std.proofs.lemmas.Bool.{false≢true, and_parts, and_from, or_left, or_right}
 use Rattle.js_base.specs.declared.kind.Kind.{Kind}
 use Rattle.js_base.specs.declared.kind.Kind.TheVariants.{Arrow, Await, Ident, LParen, LCurly, RAngle, Yield}
@@ -61,8 +61,10 @@ use Rattle.js_cursor.proofs.Later.{keeps_follows}
 use Rattle.js_parsing.specs.Answers.{Underived, Answer, Answers, Numbered, Outcome, Refuses, Stretch, Stops, Grown, Verdict, clean, unclean}
 use Rattle.js_cursor.specs.Notes.{Notes}
 use Rattle.js_parsing.specs.Contexts.{arrow_body}
-use Rattle.js_expressions.specs.Arrows.{head_of, late_arrow, ArrowBehind, BeforeArrow, a_head, refused, ChecksLine, FindsHead, Head, LooksForHead, IsHead, IsHeadHere, IsRefusedHead, NoArrowHere, NoHeadHere, Single, Unmoved}
+use Rattle.js_expressions.specs.Arrows.{head_of, late_arrow, ArrowBehind, BeforeArrow, a_head, told_head, ToldHead, ChecksLine, FindsHead, Head, LooksForHead, IsHead, IsHeadHere, IsRefusedHead, NoArrowHere, NoHeadHere, Single, Unmoved}
 use Rattle.js_parsing.specs.Heads.{NoHead, NotedHeads}
+use Rattle.js_expressions.specs.Closings.{ArrowBehindOne}
+use Rattle.js_expressions.proofs.Closings.{closes_alike, one_is}
 use Rattle.js_cursor.specs.Tokens.{may_be_read_again}
 use Rattle.js_parsing.proofs.KeptTokens.{before_back, last_back}
 use Rattle.js_parsing.specs.Lexemes.{Lex, spot}
@@ -77,7 +79,7 @@ use Rattle.js_parsing.proofs.Dead.{live, lives, fails_dead}
 use Rattle.js_expressions.proofs.Exponents.{longer}
 use Rattle.js_parsing.proofs.Told.{beside_errors}
 use Rattle.js_parsing.proofs.Giving.{kept_one}
-use Rattle.js_parsing.proofs.Here.{alike, angled, found, plainly, one_plain, newline_here, told, uncut}
+use Rattle.js_parsing.proofs.Here.{alike, angled, found, plainly, one_plain, newline_here, kind_here, told, uncut}
 use Rattle.js_parsing.proofs.MadeNodes.{leaf_held, node_held, two_held}
 use Rattle.js_parsing.proofs.Moving.{beside_nodes, flags_same, heads_kept, same_both, same_itself, same_with, stops_behind}
 use Rattle.js_operands.proofs.Operands.{by_path, by_such, name_test}
@@ -348,7 +350,7 @@ pub name_found : {p q w : Parser} {id : NodeId} → Standing p → ArrowBehind p
 name_found {p} {q} {w} {id} a b e s =
     let z = subst (λ (v : Parser). Single v w id) b.0 s in
     let y = b.1 _ _ a in
-    (arrow_is_here (z.1 _ _ a e).at y.0 (subst (λ (v : ℕ). Lex p.text v y.0) (sym z.0) y.1) y.2, λ text f a. z.1 text f a e)
+    (arrow_is_here (z.1 _ _ a e).at y.0 (subst (λ (v : ℕ). Lex p.text v y.0) (sym z.0) y.1) y.2, λ text f a. a_head (z.1 text f a e))
 
 -- parameters in parentheses
 pub parenthesized_head : {text : List ℕ} {f : Flags} {p q : Parser} {id : NodeId} → At text f p → p.token.kind ≡ LParen → Numbered text f (at Params f) p q id → length q.errors ≡ length p.errors → Head text f p q id
@@ -377,17 +379,65 @@ single_head {text} {f} {p} {q} {v} {w} {name} {parameter} {id} s a k e b t n m =
 pub single_place : {p q v w : Parser} {k : _} {o : _} {l m : Label} {ids js : List (Option NodeId)} {name parameter id : NodeId} → Standing p → TakesLeaf k o p q name → MadeHere l ids q v parameter → MadeHere m js v w id → w.prev_token_end ≡ p.token.span.end
 single_place a t n m = let x = t _ _ a in ap (λ (z : Parser). z.prev_token_end) m.stays ∙ (ap (λ (z : Parser). z.prev_token_end) n.stays ∙ (ap (λ (z : Parser). z.prev_token_end) x.made.stays ∙ sym (x.moved.tells.end ∙ x.moved.ends)))
 
+-- nothing goes on from a parenthesis over `=>` behind the one that closes it
+no_operand_there : {text : List ℕ} {f : Flags} {p : Parser} → At text f p → p.token.kind ≡ LParen → ArrowBehindOne text p.prev_token_end → Underived text (at Short f) p.prev_token_end
+no_operand_there {text} {f} {p} a k h = record { no = λ ts vs j ls rest m d e. go ts m d e }
+  where
+    go : (ts : Slots) {vs : Slots} {j : ℕ} {ls rest : Lexemes} → Lexes (Lex text) p.prev_token_end ls → Takes rule (such (at Short f) always) end ts p.prev_token_end ls vs j rest → Admits (after (at Short f)) ts (here rest) → ⊥
+    go ts {ls = ls} {rest = rest} m d e =
+        let paren : (here ls).kind ≡ LParen = kind_here a k refl (here ls) (here_at (Lex text) ls m) in
+        let z = operand_taken (at Short f) refl d (or_right (may_bind (here ls).kind) (same_kind LParen (here ls).kind) (ap (same_kind LParen) paren)) in
+        let g = closes_alike text p.prev_token_end m z.2 h.closing in
+        let l : Lex text z.0 (here z.1) = here_at (Lex text) z.1 g.1 in
+        let w : here z.1 ≡ h.arrow = one_is l (subst (λ (v : ℕ). LexemeBehind division text v h.arrow) (sym g.0) h.stands) in
+        let arrow : same_kind Arrow (here z.1).kind ≡ true = ap (same_kind Arrow) (ap (λ (y : Lexeme). y.kind) w ∙ h.is) in
+        elim z.3 [
+          | inl q ↦
+              let t : here rest ≡ here z.1 = ap here q in
+              contrary (seen (looser 4 f.in_ (first_row ts)) (here rest)) (covered an_arrow (λ k w e. not (looser 4 f.in_ (first_row ts) k w e)) (arrow_binds f.in_ (first_row ts) (row_claimed d)) (here rest).kind (here rest).newline (here rest).escaped (subst (λ (y : Lexeme). IsTrue (seen an_arrow y)) (sym t) (and_from _ _ arrow (ap not (read_plain (here z.1) l.1))))) e.1
+          | inr n ↦ false≢true (sym n ∙ arrow)
+        ]
+
+-- parameters of which something was told, with `=>` behind their parentheses
+told_parameters : {text : List ℕ} {f : Flags} {p q : Parser} {id : NodeId} → At text f p → p.token.kind ≡ LParen → Numbered text f (at Params f) p q id → Grown p.errors q.errors → Underived text (at Params f) p.prev_token_end → ArrowBehindOne text p.prev_token_end → ToldHead text f p q id
+told_parameters {text} {f} {p} a k x g n h =
+    let s = no_operand_there a k h in
+    record {
+      at = x.answer.at;
+      same = x.answer.same;
+      further = x.answer.further;
+      grown = g;
+      none = fails_by (only_arrow f (not_wide a) (conditional_none f s) s ▹✗ weaken_fails_on (no_head_no_arrow a k (no_parameters a n)) (same_read (at Assignment f) (at Arrow' f) arrow_passes refl));
+      label = x.answer.label;
+      slots = x.answer.slots;
+      pass = x.answer.pass;
+      walked = x.answer.walked;
+      holds = x.holds;
+      keeps = x.keeps;
+    }
+
 module _ {p q : Parser} {kept : ℕ} (a : Standing p) (k : p.token.kind ≡ LParen) (n : kept ≡ length p.errors) where
   -- parameters, and whether they are a head
-  pub head_read : {id : NodeId} → Answers (at Params) p q (Ok id) → IsHead kept q true → IsHeadHere p q id
-  head_read x h = (h.1, λ text f a. parenthesized_head a k (x text f a) (h.0 ∙ n))
+  pub head_read : {id : NodeId} {start : ℕ} → start ≡ p.prev_token_end → Answers (at Params) p q (Ok id) → IsHead start kept q true → IsHeadHere p q id
+  head_read {id} {start} t x h = (h.1, λ text f a. by h.0 a (x text f a))
+    where
+      by : {text : List ℕ} {f : Flags} → (length q.errors ≡ kept) ⊎ ArrowBehindOne q.text start → At text f p → Numbered text f (at Params f) p q id → BeforeArrow text f p q id
+      by (inl e) a y = a_head (parenthesized_head a k y (e ∙ n))
+      by {text} {f} (inr c) a y = elim y.answer.verdict [
+        | clean e z ↦ a_head (parenthesized_head a k y (ap length e))
+        | unclean g z ↦ told_head (told_parameters a k y g z (subst (λ (v : ℕ). ArrowBehindOne text v) t (subst (λ (v : List ℕ). ArrowBehindOne v start) y.answer.at.text_is c)))
+      ]
 
-  pub head_unread : {id : NodeId} → Answers (at Params) p q (Ok id) → IsHead kept q false → GoesOn p q × NotedHeads q × NoHeadHere p
+  pub head_unread : {id : NodeId} → Answers (at Params) p q (Ok id) → (length q.errors ≡ kept → ⊥) ⊎ (q.token.kind ≡ Arrow → ⊥) → GoesOn p q × NotedHeads q × NoHeadHere p
   head_unread x h = let y = (x _ _ a).answer in ((y.same.follows, y.at.at), y.at.heads, λ text f a. by h (x text f a).answer a)
     where
       by : {text : List ℕ} {f : Flags} → (length q.errors ≡ kept → ⊥) ⊎ (q.token.kind ≡ Arrow → ⊥) → Answer text f (at Params f) p q → At text f p → NoHead text f p.prev_token_end
       by (inl m) x a = unclean_head a x (λ e. m (e ∙ sym n))
       by (inr m) x a = unarrowed a x m
+
+-- where they began is a place between characters
+pub start_between : {p q : Parser} {id : NodeId} {start : ℕ} → Standing p → Answers (at Params) p q (Ok id) → start ≡ p.prev_token_end → IsCharBoundary q.text start
+start_between {p} {q} a x e = let y = (x _ _ a).answer in subst (λ (v : ℕ). IsCharBoundary q.text v) (sym e) (subst (λ (t : List ℕ). IsCharBoundary t p.prev_token_end) (sym y.at.text_is) a.at.between)
 
 pub head_refused : {p q : Parser} (e : Stop) → Standing p → e ≡ Fatal → ((text : List ℕ) (f : Flags) → At text f p → Stops p q e (Underived text (at Params f) p.prev_token_end)) → GoesOn p q × NotedHeads q × NoHeadHere p
 head_refused {p} {q} e a i s = go (λ text f b. subst (λ (v : Stop). Stops p q v (Underived text (at Params f) p.prev_token_end)) i (s text f b))
@@ -407,8 +457,8 @@ none_looked p q r e h = subst (LooksForHead p q) e h
 pub some_looked : (p o q : Parser) (id : NodeId) (r : Option NodeId) → o ≡ p → r ≡ Some id → LooksForHead o q r → IsHeadHere p q id
 some_looked p o q id r s e h = subst (λ (z : Parser). IsHeadHere z q id) s (subst (LooksForHead o q) e h)
 
-pub head_so : (kept : ℕ) (q : Parser) {b r : Bool} → r ≡ b → IsHead kept q r → IsHead kept q b
-head_so kept q e h = subst (λ (v : Bool). IsHead kept q v) e h
+pub head_so : (start kept : ℕ) (q : Parser) {b r : Bool} → r ≡ b → IsHead start kept q r → IsHead start kept q b
+head_so start kept q e h = subst (λ (v : Bool). IsHead start kept q v) e h
 
 pub refused_so : (kept : ℕ) (p : Parser) {r : Bool} → r ≡ true → IsRefusedHead kept p r → (length p.errors ≡ kept → ⊥) × (p.token.kind ≡ Arrow)
 refused_so kept p e h = subst (λ (b : Bool). IsRefusedHead kept p b) e h
@@ -612,31 +662,52 @@ line_grown (inr (e, i)) g = grown_first g (ap (λ (z : Parser). z.errors) i)
 
 pub before_at : {text : List ℕ} {f : Flags} {o p : Parser} {id : NodeId} → BeforeArrow text f o p id → At text f p
 before_at (a_head h) = h.at
-before_at (refused x n) = x.answer.at
+before_at (told_head x) = x.at
+
+pub before_same : {text : List ℕ} {f : Flags} {o p : Parser} {id : NodeId} → BeforeArrow text f o p id → Same o p
+before_same (a_head h) = h.same
+before_same (told_head x) = x.same
+
+pub before_further : {text : List ℕ} {f : Flags} {o p : Parser} {id : NodeId} → BeforeArrow text f o p id → o.token.span.start < p.prev_token_end
+before_further (a_head h) = h.further
+before_further (told_head x) = x.further
+
+-- an AssignmentExpression of which something was told
+pub refused : {text : List ℕ} {f : Flags} {o p : Parser} {id : NodeId} → Numbered text f (at Assignment f) o p id → (length p.errors ≡ length o.errors → ⊥) → BeforeArrow text f o p id
+refused x n = let t = told_of x n in told_head (record {
+  at = x.answer.at;
+  same = x.answer.same;
+  further = x.answer.further;
+  grown = t.0;
+  none = t.1;
+  label = x.answer.label;
+  slots = x.answer.slots;
+  pass = x.answer.pass;
+  walked = x.answer.walked;
+  holds = x.holds;
+  keeps = x.keeps;
+})
 
 pub before_stops : {text : List ℕ} {f : Flags} {o p q r : Parser} {id : NodeId} → BeforeArrow text f o p id → p.token.kind ≡ Arrow → ChecksLine p q → Moved text f q r → (w : Parser) (e : Stop) → Stops r w e (Underived text (at Assignment (arrow_body f)) r.prev_token_end) → Stops o w e (Underived text (at Assignment f) o.prev_token_end)
 before_stops (a_head h) k c m w e s = arrow_stops h k c m w e s
-before_stops (refused x n) k c m w e s =
-    let t = told_of x n in
-    stops_behind w e (same_both x.answer.same (same_both (line_same c) m.same)).follows (λ g. grown_both (grown_first (line_grown c t.0) m.kept) g) (λ z. t.1) s
+before_stops (told_head x) k c m w e s = stops_behind w e (same_both x.same (same_both (line_same c) m.same)).follows (λ g. grown_both (grown_first (line_grown c x.grown) m.kept) g) (λ z. x.none) s
 
 pub before_answers : {text : List ℕ} {f : Flags} {o p q r w z : Parser} {id body made : NodeId} → BeforeArrow text f o p id → p.token.kind ≡ Arrow → ChecksLine p q → Moved text f q r → (s : Span) → At text f o → Numbered text f (at Assignment (arrow_body f)) r w body → s.start ≡ o.token.span.start → s.end ≡ w.prev_token_end → MadeHere (plain_label node_kind.ArrowFunctionExpression op_made.None s) (Some id ∷ Some body ∷ []) w z made → Numbered text f (at Assignment f) o z made
 before_answers (a_head h) k c m s a y b d n = arrow_answers h k c m s a y b d n
-before_answers {text} {f} {o} {p} {q} {r} {w} {z} {id} {body} {made} (refused v u) k c m s a y b d n =
-    let t = told_of v u in
+before_answers {text} {f} {o} {p} {q} {r} {w} {z} {id} {body} {made} (told_head v) k c m s a y b d n =
     let l : plain_label node_kind.ArrowFunctionExpression op_made.None s ≡ label_here arrow_function_expression no_op o w = rw (b, d) refl in
     let x : MadeHere (label_here arrow_function_expression no_op o w) (Some id ∷ Some body ∷ []) w z made = subst (λ (j : Label). MadeHere j (Some id ∷ Some body ∷ []) w z made) l n in
     let e : r.nodes ≡ p.nodes = m.nodes ∙ line_nodes c in
     let g : Holds w.nodes (length p.nodes) (length w.nodes) body.0 y.answer.label y.answer.slots = subst (λ (ns : List Node). Holds w.nodes (length ns) (length w.nodes) body.0 y.answer.label y.answer.slots) e y.holds in
     let i : Keeps p.nodes w.nodes = subst (λ (ns : List Node). Keeps ns w.nodes) e y.keeps in
-    let path : Path text f (after (at Assignment f)) (such (at Assignment f) always) o nothing w (tree (label_here arrow_function_expression no_op o w) (tree v.answer.label v.answer.slots (tree y.answer.label y.answer.slots end))) = record {
+    let path : Path text f (after (at Assignment f)) (such (at Assignment f) always) o nothing w (tree (label_here arrow_function_expression no_op o w) (tree v.label v.slots (tree y.answer.label y.answer.slots end))) = record {
       at = y.answer.at;
-      further = let b = v.answer.further in let d = line_place c in let e = (line_at v.answer.at c).behind in let g = m.further in let i = m.at.behind in let j = y.answer.further in omega arith;
-      pass = λ ls. v.answer.pass (next m.lexeme (y.answer.pass ls));
-      walked = walked_both v.answer.walked (walked_both (walked_from (line_spot c) (walked_one m)) y.answer.walked);
-      verdict = unclean (behind (grown_first (line_grown c t.0) m.kept) y.answer.verdict) t.1;
+      further = let b = v.further in let d = line_place c in let e = (line_at v.at c).behind in let g = m.further in let i = m.at.behind in let j = y.answer.further in omega arith;
+      pass = λ ls. v.pass (next m.lexeme (y.answer.pass ls));
+      walked = walked_both v.walked (walked_both (walked_from (line_spot c) (walked_one m)) y.answer.walked);
+      verdict = unclean (behind (grown_first (line_grown c v.grown) m.kept) y.answer.verdict) v.none;
     } in
-    by_such path (same_both v.answer.same (same_both (line_same c) (same_both m.same y.answer.same))) x.stays (λ j u. y.answer.stops j u) y.answer.row (two_held x v.holds v.keeps g i) (Keeps-trans v.keeps (Keeps-trans i (Keeps-made x.made)))
+    by_such path (same_both v.same (same_both (line_same c) (same_both m.same y.answer.same))) x.stays (λ j u. y.answer.stops j u) y.answer.row (two_held x v.holds v.keeps g i) (Keeps-trans v.keeps (Keeps-trans i (Keeps-made x.made)))
 
 -- what is told of `=>` on a new line
 pub late_marked : {text : List ℕ} {f : Flags} {p : Parser} (s : Span) → At text f p → p.token.kind ≡ Arrow → p.token.is_on_new_line ≡ true → s ≡ p.token.span → Mark (goal p) p.text (late_arrow s)

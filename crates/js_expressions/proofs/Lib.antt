@@ -2,6 +2,7 @@ pub mod ArrayAnswers
 pub mod ArraysAssigned
 pub mod Arrows
 pub mod Assignments
+pub mod Closings
 pub mod CoalesceOperands
 pub mod Coalescing
 pub mod Conditionals

@@ -3,6 +3,7 @@ use Rattle.std.specs.Prelude.{ℕ, ◌≡◌, ◌<◌, ◌⊎◌, Bool, true, fa
 use Rattle.js_base.specs.declared.diagnostic.Diagnostic.{Diagnostic}
 use Rattle.js_base.specs.declared.diagnostic.DiagnosticKind.TheVariants.{LineterminatorBeforeArrow}
 use Rattle.js_base.specs.declared.kind.Kind.TheVariants.{Arrow}
+use Rattle.js_expressions.specs.Closings.{ArrowBehindOne}
 use Rattle.js_base.specs.declared.span.Span.{Span}
 use Rattle.js_grammar.specs.Trees.{Label, Slots, end, hole, tree, formal_parameters, formal_parameter, binding_identifier, no_op}
 use Rattle.js_grammar.specs.Grammar.{Lexeme, Lexemes, empty_slot, nothing, ◌▸◌, ◌◇◌}
@@ -14,7 +15,7 @@ use Rattle.js_cursor.specs.Checkpoints.{GoesOn}
 use Rattle.js_cursor.specs.Moves.{Keeps}
 use Rattle.js_cursor.specs.Parsers.{Parser}
 use Rattle.js_cursor.specs.declared.stop.Stop.{Stop}
-use Rattle.js_parsing.specs.Answers.{Numbered, Outcome, Stretch, Underived}
+use Rattle.js_parsing.specs.Answers.{Grown, Outcome, Stretch, Underived}
 use Rattle.js_parsing.specs.Heads.{NoHead, NotedHeads}
 use Rattle.js_parsing.specs.Lexemes.{Lex, Walked, spot}
 use Rattle.js_parsing.specs.States.{At, Same}
@@ -41,8 +42,27 @@ pub record Head (text : List ℕ) (f : Flags) (p q : Parser) (id : NodeId) : Typ
   pub holds : Holds q.nodes (length p.nodes) (length q.nodes) id.0 label slots
   pub keeps : KeepsNodes p.nodes q.nodes
 
+-- What stands before `=>` was read, and something was told of it: no assignment is derived from there, neither behind a head nor as an expression.
+pub record ToldHead (text : List ℕ) (f : Flags) (p q : Parser) (id : NodeId) : Type 0 where
+  pub none : Underived text (at Assignment f) p.prev_token_end
+  pub at : At text f q
+  pub same : Same p q
+  pub further : p.token.span.start < q.prev_token_end
+  pub grown : Grown p.errors q.errors
+  pub label : Label
+  pub slots : Slots
+  pub pass : Lexemes → Lexemes
+  pub walked : Walked text (spot p) (spot q) pass
+  pub holds : Holds q.nodes (length p.nodes) (length q.nodes) id.0 label slots
+  pub keeps : KeepsNodes p.nodes q.nodes
+
+-- what stands before `=>`
+pub data BeforeArrow (text : List ℕ) (f : Flags) (o p : Parser) (id : NodeId) : Type 0 where
+  a_head : Head text f o p id → BeforeArrow text f o p id
+  told_head : ToldHead text f o p id → BeforeArrow text f o p id
+
 abbrev pub IsHeadHere : Parser → Parser → NodeId → Type 0
-IsHeadHere p q id = (q.token.kind ≡ Arrow) × ((text : List ℕ) (f : Flags) → At text f p → Head text f p q id)
+IsHeadHere p q id = (q.token.kind ≡ Arrow) × ((text : List ℕ) (f : Flags) → At text f p → BeforeArrow text f p q id)
 
 -- The parser is where it was; nodes may have been made.
 pub record Unmoved (p q : Parser) : Type 0 where
@@ -77,10 +97,10 @@ ArrowBehind p q false = (q ≡ p) × ((text : List ℕ) (f : Flags) → At text 
 abbrev pub Single : Parser → Parser → NodeId → Type 0
 Single p q id = (q.prev_token_end ≡ p.token.span.end) × ((text : List ℕ) (f : Flags) → At text f p → p.token.escaped ≡ false → Head text f p q id)
 
--- so many diagnostics are kept, and `=>` stands here
-abbrev pub IsHead : ℕ → Parser → Bool → Type 0
-IsHead kept q true = (length q.errors ≡ kept) × (q.token.kind ≡ Arrow)
-IsHead kept q false = (length q.errors ≡ kept → ⊥) ⊎ (q.token.kind ≡ Arrow → ⊥)
+-- Parameters were read up to here from a place on, and `=>` stands here; where there are not so many diagnostics, the parentheses from that place on close before `=>`.
+abbrev pub IsHead : ℕ → ℕ → Parser → Bool → Type 0
+IsHead start kept q true = ((length q.errors ≡ kept) ⊎ ArrowBehindOne q.text start) × (q.token.kind ≡ Arrow)
+IsHead start kept q false = (length q.errors ≡ kept → ⊥) ⊎ (q.token.kind ≡ Arrow → ⊥)
 
 -- of `=>` on a new line this is told
 abbrev pub late_arrow : Span → Diagnostic
@@ -93,11 +113,6 @@ ChecksLine p q = ((p.token.is_on_new_line ≡ true) × Keeps (late_arrow p.token
 abbrev pub IsRefusedHead : ℕ → Parser → Bool → Type 0
 IsRefusedHead kept p true = (length p.errors ≡ kept → ⊥) × (p.token.kind ≡ Arrow)
 IsRefusedHead kept p false = Unit {0}
-
--- What stands before `=>` was read: a head; or an AssignmentExpression of which something was told.
-pub data BeforeArrow (text : List ℕ) (f : Flags) (o p : Parser) (id : NodeId) : Type 0 where
-  a_head : Head text f o p id → BeforeArrow text f o p id
-  refused : Numbered text f (at Assignment f) o p id → (length p.errors ≡ length o.errors → ⊥) → BeforeArrow text f o p id
 
 -- An arrow function is read on from its `=>`: what stands before that was read from the state o on.
 abbrev pub ReadsBody : ℕ → NodeId → Parser → Parser → Result NodeId Stop → Type 0

@@ -1,6 +1,6 @@
 //! Arrow functions (ECMA-262, section 15.3).
 
-ghost use Rattle.std.specs.Prelude.{false, ◌≡◌, ◌≤◌, MatchResult, IfOk};
+ghost use Rattle.std.specs.Prelude.{false, ◌≡◌, ◌≤◌, MatchResult, IfOk, IsCharBoundary};
 ghost use Rattle.js_base.specs.declared.kind.Kind.TheVariants.{Arrow, Ident, LParen};
 ghost use Rattle.js_cursor.specs.Moves.{OnlyMemory};
 ghost use Rattle.js_grammar.specs.Productions.{at, Params};
@@ -12,6 +12,7 @@ ghost use Rattle.js_parsing.specs.States.{Standing};
 use js_base::{Diagnostic, DiagnosticKind, Kind, NoMemory};
 use js_cursor::{ParserImpl, Stop};
 use js_lex::ParserConfig;
+use crate::closing::is_arrow_behind_one;
 use js_operands::primary::parse_leaf;
 use js_parsing::context::assignment_in_arrow;
 use js_parsing::diagnostics::kept_so_far;
@@ -101,8 +102,8 @@ fn try_parse_parenthesized_head<C: ParserConfig, N: Nested<C>>(
     Ok(None)
 }
 
-/// FormalParameters in parentheses, where they can be read, nothing is told of them and `=>` stands behind them. None:
-/// no arrow function stands here, and the parser is somewhere behind.
+/// FormalParameters in parentheses, where they can be read and `=>` stands behind them, also where something is told of
+/// them. None: no arrow function stands here, and the parser is somewhere behind.
 fn parse_parenthesized_head<C: ParserConfig, N: Nested<C>>(
     p: &mut ParserImpl<'_, C>,
     nested: &N,
@@ -112,10 +113,11 @@ fn parse_parenthesized_head<C: ParserConfig, N: Nested<C>>(
     requires open { p.old.token.kind ≡ LParen }
     ensures { MatchResult result (λ found. LooksForHead p.old p.new found) OnlyMemory }
 {
+    let start = p.prev_token_end();
     let kept = kept_so_far(p);
     match parse_formal_parameters(p, nested) {
         Ok(parameters) => {
-            if is_head(p, kept) {
+            if is_head(p, start, kept)? {
                 Ok(Some(parameters))
             } else {
                 Ok(None)
@@ -126,14 +128,24 @@ fn parse_parenthesized_head<C: ParserConfig, N: Nested<C>>(
     }
 }
 
-/// Whether nothing was told since there were so many diagnostics, and `=>` stands here.
-fn is_head<C: ParserConfig>(p: &ParserImpl<'_, C>, kept: usize) -> bool
-    ensures { IsHead kept p.now result }
+/// Whether `=>` stands here behind parameters that were read from a place on. Where something was told since there were
+/// so many diagnostics, their parentheses have to close before it.
+fn is_head<C: ParserConfig>(
+    p: &ParserImpl<'_, C>,
+    start: u32,
+    kept: usize,
+) -> Result<bool, NoMemory>
+    requires at { Standing p.now }
+    requires between { IsCharBoundary p.now.text start }
+    ensures { IfOk result (λ b. IsHead start kept p.now b) }
 {
-    if kept_so_far(p) != kept {
-        return false;
+    if !p.at(Kind::Arrow) {
+        return Ok(false);
     }
-    p.at(Kind::Arrow)
+    if kept_so_far(p) == kept {
+        return Ok(true);
+    }
+    is_arrow_behind_one(p, start)
 }
 
 /// An arrow function, whose parameters were read from a place on (ECMA-262, section 15.3), or parentheses in their place,

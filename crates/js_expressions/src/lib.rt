@@ -3,6 +3,7 @@
 
 pub mod arrow;
 pub mod assignment;
+pub mod closing;
 pub mod operators;
 pub mod sequence;
 pub mod unary;

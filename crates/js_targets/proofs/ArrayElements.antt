@@ -13,7 +13,7 @@ use Rattle.js_grammar.specs.Productions.{G, Flags, Name, Symbol, at, tok, op, br
 use Rattle.js_grammar.specs.Productions.{sym as symbol}
 use Rattle.js_grammar.specs.Table.{rule, rule_of}
 use Rattle.js_operands.specs.Arrays.{elements}
-use Rattle.js_targets.specs.Targets.{is_elision, is_spread, is_assignment, is_equals, is_initialised}
+use Rattle.js_targets.specs.Targets.{is_elision, is_spread, is_assignment, is_equals, is_wide}
 
 -- ---- no operand is a gap, a spread or an assignment
 
@@ -132,10 +132,10 @@ not_even {l = l} d h o = contrary (odd l.kind) (rooted d h) o
 
 -- ---- an assignment
 
-abbrev a_slots : Flags → Kind → G
+abbrev pub a_slots : Flags → Kind → G
 a_slots f o = symbol SimpleTarget f ▸ tok o ▸ symbol Assignment f
 
-abbrev a_part : Flags → Kind → G
+abbrev pub a_part : Flags → Kind → G
 a_part f o = op assignment_expression o (a_slots f o)
 
 -- its operator, and its sides
@@ -186,22 +186,40 @@ by_equals f {cs = cs} {i = i} {j = j} {ls = ls} {rest = rest} h x =
     let e : Eq ≡ x.operator = kind_of_same Eq x.operator (sym (ap (λ (m : Label). is_equals m.op) x.label_is) ∙ h) in
     record { span_is = ap (λ (m : Label). m.span) x.label_is; sides = of_simple f (subst (λ (k : Kind). Takes rule (a_slots f k) end cs i ls end j rest) (sym e) x.sides) }
 
-pub initialised : (f : Flags) {l : Label} {cs : Slots} {i j : ℕ} {ls rest : Lexemes} → Takes rule (rule (at Assignment f)) end (tree l cs end) i ls end j rest → is_initialised l ≡ true → Initialised f l cs i ls j rest
+odd_of : (k : NodeKind) → is_assignment k ≡ true → odd k ≡ true
+odd_of k e = or_right (is_elision k) _ (or_right (is_spread k) _ e)
+
+pub initialised : (f : Flags) {l : Label} {cs : Slots} {i j : ℕ} {ls rest : Lexemes} → Takes rule (rule (at Assignment f)) end (tree l cs end) i ls end j rest → is_assignment l.kind ≡ true → is_equals l.op ≡ true → Initialised f l cs i ls j rest
 unfolding rule rule_of
-initialised f {l} {cs} {i} {j} {ls} {rest} d o = by d h.0 h.1
+initialised f d a b = by d a b
   where
-    h : (is_assignment l.kind ≡ true) × (is_equals l.op ≡ true)
-    h = and_parts (is_assignment l.kind) (is_equals l.op) o
-
-    odd_by : (k : NodeKind) → is_assignment k ≡ true → odd k ≡ true
-    odd_by k e = or_right (is_elision k) _ (or_right (is_spread k) _ e)
-
     by : {l : Label} {cs : Slots} {i j : ℕ} {ls rest : Lexemes} → Takes rule (rule (at Assignment f)) end (tree l cs end) i ls end j rest → is_assignment l.kind ≡ true → is_equals l.op ≡ true → Initialised f l cs i ls j rest
-    by {l = l} (is_left d) a b = absurd (not_even d refl (odd_by l.kind a))
-    by {l = l} (is_right (is_left d)) a b = absurd (not_even d refl (odd_by l.kind a))
-    by {l = l} (is_right (is_right (is_left d))) a b = absurd (not_even d refl (odd_by l.kind a))
+    by {l = l} (is_left d) a b = absurd (not_even d refl (odd_of l.kind a))
+    by {l = l} (is_right (is_left d)) a b = absurd (not_even d refl (odd_of l.kind a))
+    by {l = l} (is_right (is_right (is_left d))) a b = absurd (not_even d refl (odd_of l.kind a))
     by (is_right (is_right (is_right (is_left d)))) a b = by_equals f b (in_branch assign_operators d)
     by (is_right (is_right (is_right (is_right (is_node d))))) a b = record { span_is = refl; sides = of_array f d }
+
+-- its sides, by another operator
+pub record Operated (f : Flags) (l : Label) (cs : Slots) (i : ℕ) (ls : Lexemes) (j : ℕ) (rest : Lexemes) : Type 0 where
+  pub operator : Kind
+  pub span_is : l.span ≡ record { from = (here ls).from; to = j }
+  pub sides : Takes rule (symbol SimpleTarget f ▸ tok operator ▸ symbol Assignment f) end cs i ls end j rest
+
+-- its line
+pub operated_line : (f : Flags) {l : Label} {cs : Slots} {i j : ℕ} {ls rest : Lexemes} → Takes rule (rule (at Assignment f)) end (tree l cs end) i ls end j rest → is_wide l ≡ true → Takes rule (branches assign_operators (a_part f)) end (tree l cs end) i ls end j rest
+unfolding rule rule_of
+operated_line f {l} d o = let h = and_parts (is_assignment l.kind) (not (is_equals l.op)) o in by d h.0 h.1
+  where
+    by : {l : Label} {cs : Slots} {i j : ℕ} {ls rest : Lexemes} → Takes rule (rule (at Assignment f)) end (tree l cs end) i ls end j rest → is_assignment l.kind ≡ true → not (is_equals l.op) ≡ true → Takes rule (branches assign_operators (a_part f)) end (tree l cs end) i ls end j rest
+    by {l = l} (is_left d) a b = absurd (not_even d refl (odd_of l.kind a))
+    by {l = l} (is_right (is_left d)) a b = absurd (not_even d refl (odd_of l.kind a))
+    by {l = l} (is_right (is_right (is_left d))) a b = absurd (not_even d refl (odd_of l.kind a))
+    by (is_right (is_right (is_right (is_left d)))) a b = d
+    by (is_right (is_right (is_right (is_right (is_node d))))) a b = absurd (false≢true b)
+
+pub operated : (f : Flags) {l : Label} {cs : Slots} {i j : ℕ} {ls rest : Lexemes} → Takes rule (rule (at Assignment f)) end (tree l cs end) i ls end j rest → is_wide l ≡ true → Operated f l cs i ls j rest
+operated f d o = let x = in_branch assign_operators (operated_line f d o) in record { operator = x.operator; span_is = ap (λ (m : Label). m.span) x.label_is; sides = x.sides }
 
 -- ---- an element with its comma, or the last one
 

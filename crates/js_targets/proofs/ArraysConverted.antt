@@ -17,13 +17,18 @@ use Rattle.js_grammar.specs.Productions.{G, Flags, Symbol, at, tok, op, Arrow', 
 use Rattle.js_grammar.specs.Productions.{sym as symbol}
 use Rattle.js_grammar.specs.Table.{rule}
 use Rattle.js_grammar.specs.Follow.{after, widest}
+use Rattle.js_grammar.specs.Marks.{loose}
+use Rattle.js_grammar.proofs.Loose.{strict_is_loose}
 use Rattle.js_grammar.proofs.Behind.{lexed_behind}
 use Rattle.js_grammar.proofs.Calculus.{Between, Inside, inside_full, ends, label_is, slots_are, ◌▹◌, left, right, fails_alt, fails_node, then_by, part_fails}
 use Rattle.js_cursor.specs.Parsers.{Parser}
 use Rattle.js_parsing.specs.Answers.{Stretch, Underived}
 use Rattle.js_parsing.specs.Lexemes.{Lex}
 use Rattle.js_targets.specs.Taken.{assigns_next}
-use Rattle.js_targets.specs.Targets.{Each, Open, Closed, Ended, is_array, relabelled, elements_in, rests_in}
+use Rattle.js_targets.specs.Targets.{Each, Closed, Fits, Narrow, Shut, Spotted, is_array, relabelled, elements_in, places_in}
+use Rattle.js_targets.specs.declared.widening.Widening.{Widening}
+use Rattle.js_targets.specs.declared.widening.Widening.TheVariants.{Rest, Operator}
+use Rattle.js_targets.proofs.Spots.{literal_spots}
 use Rattle.js_targets.proofs.ArraysBeforeSigns.{array_before_a_sign}
 use Rattle.js_parsing.proofs.Here.{alike}
 use Rattle.js_targets.proofs.LiteralsAsTargets.{Targeted, literal_target}
@@ -32,9 +37,10 @@ use Rattle.js_targets.proofs.TargetsAsLiterals.{array_back}
 
 -- ---- what the literal says of the target
 
-closed_open : (text : List ℕ) (rs : List ℕ) → Each (Closed text) rs → Each (Open text) rs
-closed_open text [] h = tt
-closed_open text (e ∷ rs) h = (λ y l k. let w : RBrack ≡ Comma = sym h.0.is ∙ (sym (ap (λ (z : Lexeme). z.kind) (alike l h.0.stands)) ∙ k) in absurd (cc), closed_open text rs h.1)
+shut_narrow : (text : List ℕ) (ws : List Widening) → Each (Shut text) ws → Each (Narrow text) ws
+shut_narrow text [] h = tt
+shut_narrow text (Rest s ∷ ws) h = (λ y l k. let w : RBrack ≡ Comma = sym h.0.is ∙ (sym (ap (λ (z : Lexeme). z.kind) (alike l h.0.stands)) ∙ k) in absurd (cc), shut_narrow text ws h.1)
+shut_narrow text (Operator s ∷ ws) h = absurd h.0
 
 anew : {n : Symbol} {ks vs : Slots} {l : Label} {cs : Slots} {i j : ℕ} {ls rest : Lexemes} → Takes rule (such n always) end (tree l cs end) i ls end j rest → Takes rule (such n always) ks (tree l cs vs) i ls vs j rest
 anew (is_such d h) = is_such d h
@@ -47,7 +53,7 @@ module _ (text : List ℕ) (f : Flags) (w : f.wide ≡ false) where
     array : is_array label.kind ≡ true
     target : a ≡ relabelled array_assignment_target label
     covers : elements_in slots ≡ Some bs
-    opened : Each (Open text) (rests_in slots)
+    opened : Each (Narrow text) (places_in slots)
     takes : Takes rule (such (at Short f) always) ks (tree label slots us) i ls us j rest
 
   sourced : {ks us : Slots} {a : Label} {bs : Slots} {i j : ℕ} {ls rest : Lexemes} → Lexes (Lex text) i ls → Takes rule (rule (at ArrayTarget f)) end (tree a bs end) i ls end j rest → Sourced ks us a bs i ls j rest
@@ -59,7 +65,7 @@ module _ (text : List ℕ) (f : Flags) (w : f.wide ≡ false) where
         array = x.array;
         target = label_is x.is_tree;
         covers = x.covers ∙ ap Some (sym (slots_are x.is_tree));
-        opened = closed_open text (rests_in x.slots) x.closed;
+        opened = shut_narrow text (places_in x.slots) x.closed;
         takes = anew ((of_short f).up (by_primary x.derived));
       }
 
@@ -76,7 +82,7 @@ module _ {text : List ℕ} {f : Flags} (w : f.wide ≡ false) {s s' : ℕ} {l : 
   record There (a : Label) (bs us : Slots) (vs : Slots) (ls : Lexemes) (k : ℕ) (rest : Lexemes) : Type 0 where
     target : a ≡ relabelled array_assignment_target l
     covers : elements_in cs ≡ Some bs
-    opened : Each (Open text) (rests_in cs)
+    opened : Each (Narrow text) (places_in cs)
     behind : Lexemes
     same : us ≡ vs
     lexed : Lexes (Lex text) s' behind
@@ -92,7 +98,7 @@ module _ {text : List ℕ} {f : Flags} (w : f.wide ≡ false) {s s' : ℕ} {l : 
         record {
           target = x.target ∙ ap (relabelled array_assignment_target) (label_is y.2);
           covers = sym (ap elements_in (slots_are y.2)) ∙ x.covers;
-          opened = subst (λ (ds : Slots). Each (Open text) (rests_in ds)) (slots_are y.2) x.opened;
+          opened = subst (λ (ds : Slots). Each (Narrow text) (places_in ds)) (slots_are y.2) x.opened;
           behind = y.1;
           same = e.0;
           lexed = y.3;
@@ -101,11 +107,11 @@ module _ {text : List ℕ} {f : Flags} (w : f.wide ≡ false) {s s' : ℕ} {l : 
         },
       )
 
-  -- none stands there, where the literal is converted to none, or a comma stands behind a rest
-  pub no_target_there : (elements_in cs ≡ None) ⊎ (Each (Open text) (rests_in cs) → ⊥) → Fails rule (Lex text) signs end (such (at ArrayTarget f) always) s
+  -- none stands there, where the literal is converted to none, or it is wider than one
+  pub no_target_there : (elements_in cs ≡ None) ⊎ (Each (Narrow text) (places_in cs) → ⊥) → Fails rule (Lex text) signs end (such (at ArrayTarget f) always) s
   no_target_there n = record { no = λ ts vs k ls rest m d q. go ts vs k ls rest m d q }
     where
-      by : {a : Label} {bs us vs : Slots} {ls : Lexemes} {k : ℕ} {rest : Lexemes} → There a bs us vs ls k rest → (elements_in cs ≡ None) ⊎ (Each (Open text) (rests_in cs) → ⊥) → ⊥
+      by : {a : Label} {bs us vs : Slots} {ls : Lexemes} {k : ℕ} {rest : Lexemes} → There a bs us vs ls k rest → (elements_in cs ≡ None) ⊎ (Each (Narrow text) (places_in cs) → ⊥) → ⊥
       by {bs = bs} x (inl e) = let c : None ≡ Some bs = sym e ∙ x.covers in cc
       by x (inr g) = g x.opened
 
@@ -121,7 +127,7 @@ module _ {text : List ℕ} {f : Flags} (w : f.wide ≡ false) {s s' : ℕ} {l : 
     targeted : {ls rest : Lexemes} {j : ℕ} → Lexes (Lex text) s ls → Takes rule (rule (at Short f)) end (tree l cs end) s ls end j rest → Targeted text f l cs ds s ls j rest
     targeted m d = literal_target text ds h e u r b m ((of_short f).down (may_array l.kind h) (is_such d refl))
 
-    pub target_there : Each (Open text) (rests_in cs) → Stretch text signs (such (at ArrayTarget f) always) s nothing s' (tree (relabelled array_assignment_target l) ds) pass
+    pub target_there : Each (Narrow text) (places_in cs) → Stretch text signs (such (at ArrayTarget f) always) s nothing s' (tree (relabelled array_assignment_target l) ds) pass
     target_there o = record {
       reach = z.reach;
       near = z.near;
@@ -133,7 +139,7 @@ module _ {text : List ℕ} {f : Flags} (w : f.wide ≡ false) {s s' : ℕ} {l : 
     }
       where
         sound : {us vs : Slots} {k : ℕ} {ls rest : Lexemes} → Lexes (Lex text) s ls → Takes rule (such (at Short f) always) end (tree l cs us) s ls vs k rest → Takes rule (such (at ArrayTarget f) always) end (tree (relabelled array_assignment_target l) ds us) s ls vs k rest
-        sound m (is_such d c) = anew ((targeted m d).takes o)
+        sound m (is_such d c) = anew ((targeted m d).takes (inr o))
 
         only : (ts vs : Slots) (k : ℕ) (ls rest : Lexemes) → Lexes (Lex text) s ls → Takes rule (such (at ArrayTarget f) always) end ts s ls vs k rest → Admits signs ts (here rest) → (us : Slots) × (ls' : Lexemes) × (ts ≡ tree (relabelled array_assignment_target l) ds us) × Lexes (Lex text) s' ls' × Takes rule nothing end us s' ls' vs k rest × (ls ≡ pass ls')
         only ts vs k ls rest m (is_such {l = a} {cs = bs} d c) q =
@@ -143,11 +149,30 @@ module _ {text : List ℕ} {f : Flags} (w : f.wide ≡ false) {s s' : ℕ} {l : 
             (y.0, x.behind, (λ i. tree (x.target i) (v i) (sym x.same i)), x.lexed, x.takes, x.list)
 
     -- what stands behind each of its rests
-    pub ended_there : (y : Lexeme) → Lex text s' y → Each (Ended text) (rests_in cs)
+    pub ended_there : (y : Lexeme) → Lex text s' y → Each (Fits text) (places_in cs)
     ended_there y n = by (z.goes.passes.lexed (last y) n) (z.goes.sound end end s' (last y) (last y) n (inl z.near) is_nothing)
       where
-        by : {ls rest : Lexemes} {j : ℕ} → Lexes (Lex text) s ls → Takes rule (such (at Short f) always) end (tree l cs end) s ls end j rest → Each (Ended text) (rests_in cs)
+        by : {ls rest : Lexemes} {j : ℕ} → Lexes (Lex text) s ls → Takes rule (such (at Short f) always) end (tree l cs end) s ls end j rest → Each (Fits text) (places_in cs)
         by m (is_such d c) = (targeted m d).ended
+
+  -- it is derived in its wider form, whatever it has at its places
+  pub loose_there : (ds : Slots) → elements_in cs ≡ Some ds → IsUtf8 text → Reached text s → IsCharBoundary text s → (y : Lexeme) → Lex text s' y → Derives rule (at ArrayTarget (loose f)) (record { label = relabelled array_assignment_target l; slots = ds }) s (pass (last y)) s' (last y)
+  loose_there ds e u r b y n = by (z.goes.passes.lexed (last y) n) (z.goes.sound end end s' (last y) (last y) n (inl z.near) is_nothing)
+    where
+      within : {m : Symbol} {t : Label} {ts : Slots} {ls rest : Lexemes} {j : ℕ} → Takes rule (such m always) end (tree t ts end) s ls end j rest → Takes rule (rule m) end (tree t ts end) s ls end j rest
+      within (is_such d c) = d
+
+      by : {ls rest : Lexemes} {j : ℕ} → Lexes (Lex text) s ls → Takes rule (such (at Short f) always) end (tree l cs end) s ls end j rest → Derives rule (at ArrayTarget (loose f)) (record { label = relabelled array_assignment_target l; slots = ds }) s ls j rest
+      by m (is_such d c) =
+          let k = strict_is_loose (at LeftHandSide f) (record { label = l; slots = cs }) (within ((of_short f).down (may_array l.kind h) (is_such d refl))) in
+          within ((literal_target text ds h e u r b m (is_such k refl)).takes (inl refl))
+
+  -- what stands at its spreads and its assignments
+  pub spots_there : IsUtf8 text → Reached text s → IsCharBoundary text s → (y : Lexeme) → Lex text s' y → Each (Spotted text) (places_in cs)
+  spots_there u r b y n = by (z.goes.passes.lexed (last y) n) (z.goes.sound end end s' (last y) (last y) n (inl z.near) is_nothing)
+    where
+      by : {ls rest : Lexemes} {j : ℕ} → Lexes (Lex text) s ls → Takes rule (such (at Short f) always) end (tree l cs end) s ls end j rest → Each (Spotted text) (places_in cs)
+      by m (is_such d c) = literal_spots text u h r b m ((of_short f).down (may_array l.kind h) (is_such d refl))
 
 -- nothing was read there
 pub no_target_unread : {text : List ℕ} {f : Flags} → f.wide ≡ false → {s : ℕ} → Underived text (at Short f) s → Fails rule (Lex text) signs end (such (at ArrayTarget f) always) s

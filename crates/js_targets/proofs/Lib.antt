@@ -6,10 +6,12 @@ pub mod Assigned
 pub mod ConvertedNodes
 pub mod CoveredNodes
 pub mod Covers
+pub mod Edges
 pub mod LiteralsAsTargets
+pub mod PlacesTold
 pub mod Refused
-pub mod RestsTold
 pub mod ReusedNodes
+pub mod Spots
 pub mod Targets
 pub mod TargetsAsLiterals
 pub mod TargetsTaken

@@ -1,16 +1,17 @@
 -- An array literal whose elements are those of a target is derived as this array target, over the same lexemes, where no comma stands behind a rest (ECMA-262, 13.15.5).
-use Rattle.std.proofs.Common.{ℕ, ◌≡◌, ◌⊎◌, inl, inr, Bool, true, false, cond, ◌&&◌, ◌||◌, IsTrue, List, [], ◌∷◌, ◌++◌, Option, Some, None, refl, sym, ap, subst, ◌∙◌}
+use Rattle.std.proofs.Common.{ℕ, ◌≡◌, ◌⊎◌, inl, inr, Bool, true, false, cond, not, ◌&&◌, ◌||◌, IsTrue, List, [], ◌∷◌, ◌++◌, Option, Some, None, refl, sym, ap, subst, ◌∙◌}
 use Rattle.std.proofs.lemmas.Bool.{false≢true, and_parts, or_left, or_right}
 use Rattle.js_base.specs.declared.kind.Kind.{Kind}
 use Rattle.js_base.specs.declared.kind.Kind.TheVariants.{Eq, Comma, Dot3, LBrack, RBrack}
 use Rattle.js_base.specs.Kinds.{same_kind}
 use Rattle.js_base.proofs.KindLemmas.{kind_of_same}
 use Rattle.js_grammar.specs.Trees.{NodeKind, Span, Label, Slots, end, hole, tree, Tree, of, no_op, assignment_expression, array_assignment_target, assignment_target_rest, assignment_target_with_default}
-use Rattle.js_grammar.specs.Grammar.{Lexeme, Lexemes, last, next, here, seen, is, such, nothing, many, empty_slot, seq, ◌▸◌, ◌◇◌, Takes, is_nothing, is_lexeme, is_empty_slot, is_seq, is_left, is_right, is_when, is_many, is_such, is_node}
+use Rattle.js_grammar.specs.Grammar.{Lexeme, Lexemes, last, next, here, seen, is, such, when, nothing, many, empty_slot, seq, ◌▸◌, ◌◇◌, Takes, is_nothing, is_lexeme, is_empty_slot, is_seq, is_left, is_right, is_when, is_many, is_such, is_node}
+use Rattle.js_grammar.specs.Insertion.{assign_operators}
 use Rattle.js_grammar.specs.Lexed.{Lexes, Lex as StandsBehind, all_faults}
 use Rattle.js_grammar.specs.LexicalFaults.{Reached}
 use Rattle.js_grammar.specs.Parsing.{always}
-use Rattle.js_grammar.specs.Productions.{G, Flags, at, tok, mk, items, plus_in, Argument, Assignment, LeftHandSide, SimpleTarget, Target, ArrayTarget, TargetElement}
+use Rattle.js_grammar.specs.Productions.{G, branches, Flags, at, tok, mk, items, plus_in, Argument, Assignment, LeftHandSide, SimpleTarget, Target, ArrayTarget, TargetElement}
 use Rattle.js_grammar.specs.Productions.{sym as symbol}
 use Rattle.js_grammar.specs.Table.{rule, rule_of, rest_of}
 use Rattle.js_grammar.proofs.Behind.{lexed_behind}
@@ -22,8 +23,10 @@ use Rattle.js_parsing.proofs.Here.{plainly}
 use Rattle.js_lex.proofs.Again.{passed}
 use Rattle.js_lex.proofs.StringPlaces.{front_word}
 use Rattle.std.specs.Prelude.{IsUtf8, IsCharBoundary}
-use Rattle.js_targets.specs.Targets.{Each, Open, Closed, Ended, is_elision, is_spread, is_assignment, is_initialised, is_array, is_array_target, is_target, target_of, relabelled, array_tree, slot_of, rest_slot, element_slot, are_none, followed, before_all, elements_in, rests_of, rests_in}
-use Rattle.js_targets.proofs.ArrayElements.{gap_label, no_gap, Initialised, initialised, Step, closes, gap, item, final, step_of, Element, an_expression, a_spread, element_of}
+use Rattle.js_targets.specs.Targets.{Each, IsIn, Closed, Narrow, Fits, is_elision, is_spread, is_assignment, is_equals, is_wide, is_array, is_array_target, is_target, target_of, relabelled, array_tree, slot_of, rest_slot, element_slot, are_none, followed, before_all, elements_in, places_of, places_in, made_span}
+use Rattle.js_targets.specs.declared.widening.Widening.{Widening}
+use Rattle.js_targets.specs.declared.widening.Widening.TheVariants.{Rest, Operator}
+use Rattle.js_targets.proofs.ArrayElements.{a_slots, a_part, operated_line, gap_label, no_gap, Initialised, initialised, Step, closes, gap, item, final, step_of, Element, an_expression, a_spread, element_of}
 use Rattle.js_targets.proofs.ArrayTargets.{target_step, target_last}
 use Rattle.js_parsing.proofs.FreeOfIn.{any_in}
 use Rattle.js_targets.proofs.Targets.{array_line, may_array, array_shape, of_assignment, may_target, left_hand_side_target}
@@ -41,17 +44,22 @@ lexeme_between {text} {s} {y} u b l =
 abbrev pub Led : List ℕ → ℕ → Lexeme → Type 0
 Led text s y = Lex text s y × Reached text s × IsCharBoundary text s
 
-pub all_of : (P : ℕ → Type 0) (rs ss : List ℕ) → Each P rs → Each P ss → Each P (rs ++ ss)
+pub all_of : {A : Type 0} (P : A → Type 0) (rs ss : List A) → Each P rs → Each P ss → Each P (rs ++ ss)
 all_of P [] ss a b = b
 all_of P (r ∷ rs) ss a b = (a.0, all_of P rs ss a.1 b)
 
-pub all_left : (P : ℕ → Type 0) (rs ss : List ℕ) → Each P (rs ++ ss) → Each P rs
+pub all_left : {A : Type 0} (P : A → Type 0) (rs ss : List A) → Each P (rs ++ ss) → Each P rs
 all_left P [] ss a = tt
 all_left P (r ∷ rs) ss a = (a.0, all_left P rs ss a.1)
 
-pub all_right : (P : ℕ → Type 0) (rs ss : List ℕ) → Each P (rs ++ ss) → Each P ss
+pub all_right : {A : Type 0} (P : A → Type 0) (rs ss : List A) → Each P (rs ++ ss) → Each P ss
 all_right P [] ss a = a
 all_right P (r ∷ rs) ss a = all_right P rs ss a.1
+
+pub one_of_each : {A : Type 0} (P : A → Type 0) (ws : List A) (w : A) → IsIn ws w → Each P ws → P w
+one_of_each P [] w i h = absurd i
+one_of_each P (v ∷ ws) w (inl e) h = subst P e h.0
+one_of_each P (v ∷ ws) w (inr i) h = one_of_each P ws w i h.1
 
 kind_is : {k : Kind} (x : Lexeme) → IsTrue (seen (is k) x) → x.kind ≡ k
 kind_is {k} x q = sym (kind_of_same k x.kind (and_parts (same_kind k x.kind) _ q).0)
@@ -128,7 +136,7 @@ rest_part l own (tree n ys us) ds e = absurd (cc)
 
 -- nothing is converted to no element
 pub no_end : (l : Label) (cs : Slots) (own : Option Slots) (us : Slots) → element_before l cs own us ≡ Some end → ⊥
-no_end l cs own us e = by (is_elision l.kind) (is_spread l.kind) (is_initialised l) (is_array l.kind) e
+no_end l cs own us e = by (is_elision l.kind) (is_spread l.kind) (is_assignment l.kind) (is_array l.kind) e
   where
     by : (a b g h : Bool) → by_tests a b g h l cs own us ≡ Some end → ⊥
     by true b g h e = cc
@@ -198,26 +206,69 @@ as_default f {l} {cs} {us} {i} {j} {ls} {rest} x = subst (λ (s : Span). Takes r
     made : Takes rule (symbol Target f ▸ tok Eq ▸ symbol Assignment (plus_in f)) end cs i ls end j rest → Takes rule (symbol TargetElement f) end (tree (record { kind = assignment_target_with_default; op = no_op; flags = 0; span = record { from = (here ls).from; to = j } }) cs us) i ls us j rest
     made d = is_such (is_right (is_left (is_when refl (is_node d)))) refl
 
-pub rests_none : (l : Label) (rs : List ℕ) → is_spread l.kind ≡ false → is_array l.kind ≡ false → rests_of l rs ≡ []
-rests_none l rs s a = rw (s, a) refl
-
-pub rests_array : (l : Label) (rs : List ℕ) → is_spread l.kind ≡ false → is_array l.kind ≡ true → rests_of l rs ≡ rs
-rests_array l rs s a = rw (s, a) refl
-
-pub initialised_no_array : (l : Label) → is_initialised l ≡ true → is_array l.kind ≡ false
-initialised_no_array l h = go l.kind (and_parts (is_assignment l.kind) _ h).0
+-- in a wider form the operator is another one
+target_lowered : (f : Flags) {ts us : Slots} {i j : ℕ} {ls rest : Lexemes} → Takes rule (such (at SimpleTarget (plus_in f)) always) end ts i ls us j rest → Takes rule (symbol Target f) end ts i ls us j rest
+unfolding rule rule_of
+target_lowered f d = go (any_in SimpleTarget (plus_in f) f refl refl d)
   where
-    go : (k : NodeKind) → is_assignment k ≡ true → is_array k ≡ false
-    go assignment_expression h = refl
-    go _ h = absurd (false≢true h)
+    go : {ts us : Slots} {i j : ℕ} {ls rest : Lexemes} → Takes rule (such (at SimpleTarget f) always) end ts i ls us j rest → Takes rule (symbol Target f) end ts i ls us j rest
+    go (is_such d c) = is_such (is_left (is_such d refl)) refl
+
+sides_lowered : (f : Flags) (k : Kind) {cs : Slots} {i j : ℕ} {ls rest : Lexemes} → Takes rule (a_slots (plus_in f) k) end cs i ls end j rest → Takes rule (symbol Target f ▸ tok k ▸ symbol Assignment (plus_in f)) end cs i ls end j rest
+sides_lowered f k (is_seq d e) = is_seq (target_lowered f d) e
+
+wide_branch : (f : Flags) → f.wide ≡ true → (ks : List Kind) → {l : Label} {cs us : Slots} {i j : ℕ} {ls rest : Lexemes} → Takes rule (branches ks (a_part (plus_in f))) end (tree l cs end) i ls end j rest → Takes rule (branches ks (λ o. when (same_kind Eq o || f.wide) (mk assignment_target_with_default (symbol Target f ▸ tok o ▸ symbol Assignment (plus_in f))))) end (tree (relabelled assignment_target_with_default l) cs us) i ls us j rest
+wide_branch f w [] d = elim d [ ]
+wide_branch f w (k ∷ []) (is_node d) = is_when (or_right (same_kind Eq k) f.wide w) (is_node (sides_lowered f k d))
+wide_branch f w (k ∷ m ∷ ks) (is_left (is_node d)) = is_left (is_when (or_right (same_kind Eq k) f.wide w) (is_node (sides_lowered f k d)))
+wide_branch f w (k ∷ m ∷ ks) (is_right d) = is_right (wide_branch f w (m ∷ ks) d)
+
+as_wide : (f : Flags) → f.wide ≡ true → {l : Label} {cs us : Slots} {i j : ℕ} {ls rest : Lexemes} → Takes rule (branches assign_operators (a_part (plus_in f))) end (tree l cs end) i ls end j rest → Takes rule (symbol TargetElement f) end (tree (relabelled assignment_target_with_default l) cs us) i ls us j rest
+unfolding rule rule_of
+as_wide f w d = is_such (is_right (wide_branch f w assign_operators d)) refl
+
+pub places_none : (l : Label) (ws : List Widening) → is_spread l.kind ≡ false → is_array l.kind ≡ false → is_wide l ≡ false → places_of l ws ≡ []
+places_none l ws s a w = rw (s, a, w) refl
+
+pub assignment_no_array : (k : NodeKind) → is_assignment k ≡ true → is_array k ≡ false
+assignment_no_array assignment_expression h = refl
+assignment_no_array _ h = absurd (false≢true h)
+
+pub no_assignment_narrow : (l : Label) → is_assignment l.kind ≡ false → is_wide l ≡ false
+no_assignment_narrow l h = rw h refl
+
+pub equals_narrow : (l : Label) → is_equals l.op ≡ true → is_wide l ≡ false
+equals_narrow l h = go (is_assignment l.kind)
+  where
+    go : (a : Bool) → (a && not (is_equals l.op)) ≡ false
+    go true = rw h refl
+    go false = refl
+
+pub places_operator : (l : Label) (ws : List Widening) → is_spread l.kind ≡ false → is_array l.kind ≡ false → is_wide l ≡ true → places_of l ws ≡ Operator (made_span l.span) ∷ []
+places_operator l ws s a w = rw (s, a, w) refl
+
+pub other_operator : (l : Label) → is_assignment l.kind ≡ true → is_equals l.op ≡ false → is_wide l ≡ true
+other_operator l a e = rw (a, e) refl
 
 -- ---- the law
+
+-- targets are taken in their wider form, or the literal is narrow at its places
+abbrev pub Taken : List ℕ → Flags → List Widening → Type 0
+Taken text f ws = (f.wide ≡ true) ⊎ Each (Narrow text) ws
+
+taken_left : (text : List ℕ) (f : Flags) (ws vs : List Widening) → Taken text f (ws ++ vs) → Taken text f ws
+taken_left text f ws vs (inl w) = inl w
+taken_left text f ws vs (inr n) = inr (all_left (Narrow text) ws vs n)
+
+taken_right : (text : List ℕ) (f : Flags) (ws vs : List Widening) → Taken text f (ws ++ vs) → Taken text f vs
+taken_right text f ws vs (inl w) = inl w
+taken_right text f ws vs (inr n) = inr (all_right (Narrow text) ws vs n)
 
 module _ (text : List ℕ) where
   -- what follows of elements: what stands behind each rest, and the target's elements where no comma does
   record Converted (f : Flags) (cs ds : Slots) (i : ℕ) (ls : Lexemes) (j : ℕ) (rest : Lexemes) : Type 0 where
-    ended : Each (Ended text) (rests_in cs)
-    takes : Each (Open text) (rests_in cs) → Takes rule (target_items f) end ds i ls end j rest
+    ended : Each (Fits text) (places_in cs)
+    takes : Taken text f (places_in cs) → Takes rule (target_items f) end ds i ls end j rest
 
   abbrev Claim : Slots → Type 0
   Claim cs = (f : Flags) (i j : ℕ) (ls rest : Lexemes) (ds : Slots) → Lexes (Led text) i ls → Takes rule (elements f) end cs i ls end j rest → elements_in cs ≡ Some ds → Converted f cs ds i ls j rest
@@ -229,8 +280,8 @@ module _ (text : List ℕ) where
 
   -- one element that is an expression
   record One (f : Flags) (l : Label) (cs us ds : Slots) (i : ℕ) (ls : Lexemes) (j : ℕ) (rest : Lexemes) : Type 0 where
-    ended : Each (Ended text) (rests_of l (rests_in cs))
-    takes : Each (Open text) (rests_of l (rests_in cs)) → Made f ds i ls us j rest
+    ended : Each (Fits text) (places_of l (places_in cs))
+    takes : Taken text f (places_of l (places_in cs)) → Made f ds i ls us j rest
 
   module _ (f : Flags) where
     by_array : {i j : ℕ} {ls rest : Lexemes} {l : Label} {cs us ds : Slots} → Claim cs → Takes rule (array_line (plus_in f)) end (tree l cs end) i ls end j rest → Lexes (Led text) i ls → is_spread l.kind ≡ false → is_array l.kind ≡ true → array_before l (elements_in cs) us ≡ Some ds → One f l cs us ds i ls j rest
@@ -240,19 +291,29 @@ module _ (text : List ℕ) where
         record { ended = v.ended; takes = λ o. subst (λ (w : Slots). Made f w i (next x more) us j rest) (sym p.whole) (a_target (as_array f q (v.takes o))) }
 
     one_of : {i j : ℕ} {ls rest : Lexemes} {l : Label} {cs us ds : Slots} → Claim cs → Takes rule (rule (at Assignment (plus_in f))) end (tree l cs end) i ls end j rest → Lexes (Led text) i ls → element_before l cs (elements_in cs) us ≡ Some ds → One f l cs us ds i ls j rest
-    one_of {i} {j} {ls} {rest} {l} {cs} {us} {ds} c d m e = by (is_elision l.kind) (is_spread l.kind) (is_initialised l) (is_array l.kind) refl refl refl refl e
+    one_of {i} {j} {ls} {rest} {l} {cs} {us} {ds} c d m e = by (is_elision l.kind) (is_spread l.kind) (is_assignment l.kind) (is_array l.kind) refl refl refl refl e
       where
-        by : (a b g h : Bool) → is_elision l.kind ≡ a → is_spread l.kind ≡ b → is_initialised l ≡ g → is_array l.kind ≡ h → by_tests a b g h l cs (elements_in cs) us ≡ Some ds → One f l cs us ds i ls j rest
+        assigned : (b : Bool) → is_equals l.op ≡ b → is_spread l.kind ≡ false → is_assignment l.kind ≡ true → Some (tree (relabelled assignment_target_with_default l) cs us) ≡ Some ds → One f l cs us ds i ls j rest
+        assigned true h q r e =
+            let n = places_none l (places_in cs) q (assignment_no_array l.kind r) (equals_narrow l h) in
+            record { ended = subst (λ (v : List Widening). Each (Fits text) v) (sym n) tt; takes = λ o. subst (λ (w : Slots). Made f w i ls us j rest) (some_is e) (with_default refl (as_default f (initialised (plus_in f) d r h))) }
+        assigned false h q r e =
+            let n = places_operator l (places_in cs) q (assignment_no_array l.kind r) (other_operator l r h) in
+            record { ended = subst (λ (v : List Widening). Each (Fits text) v) (sym n) (tt, tt); takes = λ o. wider (subst (λ (v : List Widening). Taken text f v) n o) }
+          where
+            wider : Taken text f (Operator (made_span l.span) ∷ []) → Made f ds i ls us j rest
+            wider (inl w) = subst (λ (v : Slots). Made f v i ls us j rest) (some_is e) (with_default refl (as_wide f w (operated_line (plus_in f) d (other_operator l r h))))
+            wider (inr m) = absurd m.0
+
+        by : (a b g h : Bool) → is_elision l.kind ≡ a → is_spread l.kind ≡ b → is_assignment l.kind ≡ g → is_array l.kind ≡ h → by_tests a b g h l cs (elements_in cs) us ≡ Some ds → One f l cs us ds i ls j rest
         by true b g h p q r s e = absurd (no_gap (plus_in f) d (or_left (is_elision l.kind) (is_spread l.kind) p))
         by false true g h p q r s e = absurd (no_gap (plus_in f) d (or_right (is_elision l.kind) (is_spread l.kind) q))
-        by false false true h p q r s e =
-            let n = rests_none l (rests_in cs) q (initialised_no_array l r) in
-            record { ended = subst (λ (v : List ℕ). Each (Ended text) v) (sym n) tt; takes = λ o. subst (λ (w : Slots). Made f w i ls us j rest) (some_is e) (with_default refl (as_default f (initialised (plus_in f) d r))) }
+        by false false true h p q r s e = assigned (is_equals l.op) refl q r e
         by false false false true p q r s e = by_array c (array_shape {f = plus_in f} s ((of_assignment (plus_in f)).down (may_array l.kind s) (is_such d refl))) m q s e
         by false false false false p q r s e =
-            let n = rests_none l (rests_in cs) q s in
+            let n = places_none l (places_in cs) q s (no_assignment_narrow l r) in
             let v = simple_of (target_of l cs) us ds e in
-            record { ended = subst (λ (v : List ℕ). Each (Ended text) v) (sym n) tt; takes = λ o. subst (λ (w : Slots). Made f w i ls us j rest) (sym v.whole) (a_target (by_simple f {t = v.target} (left_hand_side_target cs (plus_in f) l v.target v.is ((of_assignment (plus_in f)).down (may_target l cs v.target v.is) (is_such d refl))))) }
+            record { ended = subst (λ (v : List Widening). Each (Fits text) v) (sym n) tt; takes = λ o. subst (λ (w : Slots). Made f w i ls us j rest) (sym v.whole) (a_target (by_simple f {t = v.target} (left_hand_side_target cs (plus_in f) l v.target v.is ((of_assignment (plus_in f)).down (may_target l cs v.target v.is) (is_such d refl))))) }
 
   -- ---- the elements
 
@@ -268,14 +329,22 @@ module _ (text : List ℕ) where
   closed_behind : {f : Flags} {us : Slots} {i j : ℕ} {ls rest : Lexemes} → us ≡ end → Takes rule (elements f) end us i ls end j rest → Lexes (Led text) i ls → Closed text i
   closed_behind {f} {us} {i} {j} {ls} {rest} e d m = bracket_of (step_of (subst (λ (v : Slots). Takes rule (elements f) end v i ls end j rest) e d)) m
 
+  closing : {f : Flags} {i j : ℕ} {ls rest : Lexemes} → Step f end i ls j rest → Takes rule (tok RBrack) end end i ls end j rest
+  closing (closes q) = is_lexeme q
+
+  -- a rest with a comma behind it
+  comma_taken : {f : Flags} {ts us ds : Slots} {i j k : ℕ} {y x : Lexeme} {ls mid rest : Lexemes} → IsTrue (seen (is Dot3) y) → Takes rule (symbol Target f) end ts y.to ls end k (next x mid) → f.wide ≡ true → IsTrue (seen (is Comma) x) → us ≡ end → Takes rule (elements f) end us x.to mid end j rest
+      → ds ≡ tree (record { kind = assignment_target_rest; op = no_op; flags = 0; span = record { from = y.from; to = k } }) ts end → Takes rule (target_items f) end ds i (next y ls) end j rest
+  comma_taken {f} {ts} {us} {ds} {i} {j} {k} {y} {x} {ls} {mid} {rest} z d w q e r g = subst (λ (v : Slots). Takes rule (target_items f) end v i (next y ls) end j rest) (sym g) (the_last (is_right (is_left (is_seq (is_node (is_seq (is_lexeme z) d)) (is_left (is_when w (is_lexeme q)))))) (closing (step_of (subst (λ (v : Slots). Takes rule (elements f) end v x.to mid end j rest) e r))))
+
   item_built : {f : Flags} {l : Label} {cs us ds : Slots} {i j k : ℕ} {x : Lexeme} {ls mid rest : Lexemes} → Element f l cs i ls k (next x mid) → IsTrue (seen (is Comma) x) → Takes rule (elements f) end us x.to mid end j rest → Lexes (Led text) i ls → Claim cs → Inner cs → Claim us → elements_in (tree l cs us) ≡ Some ds → Converted f (tree l cs us) ds i ls j rest
   item_built {f} {l} {cs} {us} {ds} {i} {j} {k} {x} {ls} {mid} {rest} (an_expression d) q r m a b c e =
       let p = before_of l cs (elements_in cs) (elements_in us) ds e in
       let v = one_of f a d m p.element in
       let w = c f x.to j mid rest p.behind (led_behind d m).1 r p.is in
       record {
-        ended = all_of (Ended text) (rests_of l (rests_in cs)) (rests_in us) v.ended w.ended;
-        takes = λ o. one_more (is_right (is_seq (element_made (v.takes (all_left (Open text) (rests_of l (rests_in cs)) (rests_in us) o))) (is_lexeme q))) (w.takes (all_right (Open text) (rests_of l (rests_in cs)) (rests_in us) o));
+        ended = all_of (Fits text) (places_of l (places_in cs)) (places_in us) v.ended w.ended;
+        takes = λ o. one_more (is_right (is_seq (element_made (v.takes (taken_left text f (places_of l (places_in cs)) (places_in us) o))) (is_lexeme q))) (w.takes (taken_right text f (places_of l (places_in cs)) (places_in us) o));
       }
   item_built {f} {l} {us = us} {ds} {i} {j} {k} {x} {ls} {mid} {rest} (a_spread {m = n} {ds = xs} z d) q r m a b c e =
       let p = before_of l (tree n xs end) (elements_in (tree n xs end)) (elements_in us) ds e in
@@ -285,24 +354,27 @@ module _ (text : List ℕ) where
       let w = c f x.to j mid rest p.behind h.1 r p.is in
       let u = is_end us (p.is ∙ ap Some t.last) in
       record {
-        ended = all_of (Ended text) (k ∷ rests_in (tree n xs end)) (rests_in us) (record { reached = h.0.1; between = h.0.2; either = inr (record { comma = x; stands = h.0.0; is = kind_is x q; behind = closed_behind u r h.1 }) }, all_of (Ended text) (rests_of n (rests_in xs)) [] v.ended tt) w.ended;
-        takes = λ o. absurd (o.0 x h.0.0 (kind_is x q));
+        ended = all_of (Fits text) (places_of l (places_in (tree n xs end))) (places_in us) (all_of (Fits text) (places_in (tree n xs end)) (Rest (made_span l.span) ∷ []) (all_of (Fits text) (places_of n (places_in xs)) [] v.ended tt) (record { reached = h.0.1; between = h.0.2; either = inr (record { comma = x; stands = h.0.0; is = kind_is x q; behind = closed_behind u r h.1 }) }, tt)) w.ended;
+        takes = λ o. elim o [
+          | inl w ↦ comma_taken z (target_made t.target (v.takes (inl w))) w q u r t.whole
+          | inr g ↦ absurd ((all_right (Narrow text) (places_in (tree n xs end)) (Rest (made_span l.span) ∷ []) (all_left (Narrow text) (places_of l (places_in (tree n xs end))) (places_in us) g)).0 x h.0.0 (kind_is x q))
+        ];
       }
 
   final_built : {f : Flags} {l : Label} {cs ds : Slots} {i k : ℕ} {x : Lexeme} {ls rest : Lexemes} → Element f l cs i ls k (next x rest) → IsTrue (seen (is RBrack) x) → Lexes (Led text) i ls → Claim cs → Inner cs → elements_in (tree l cs end) ≡ Some ds → Converted f (tree l cs end) ds i ls x.to rest
   final_built {f} {l} {cs} {ds} {i} {k} {x} {ls} {rest} (an_expression d) q m a b e =
       let v = one_of f a d m e in
       record {
-        ended = all_of (Ended text) (rests_of l (rests_in cs)) [] v.ended tt;
-        takes = λ o. the_last (is_left (element_made (v.takes (all_left (Open text) (rests_of l (rests_in cs)) [] o)))) (is_lexeme q);
+        ended = all_of (Fits text) (places_of l (places_in cs)) [] v.ended tt;
+        takes = λ o. the_last (is_left (element_made (v.takes (taken_left text f (places_of l (places_in cs)) [] o)))) (is_lexeme q);
       }
   final_built {f} {l} {ds = ds} {i} {k} {x} {ls} {rest} (a_spread {m = n} {ds = xs} z d) q m a b e =
       let t = rest_part l (elements_in (tree n xs end)) end ds e in
       let v = one_of f {us = end} b d m.1 t.is in
       let h = led_behind d m.1 in
       record {
-        ended = all_of (Ended text) (k ∷ rests_in (tree n xs end)) [] (record { reached = h.0.1; between = h.0.2; either = inl (record { bracket = x; stands = h.0.0; is = kind_is x q }) }, all_of (Ended text) (rests_of n (rests_in xs)) [] v.ended tt) tt;
-        takes = λ o. subst (λ (w : Slots). Takes rule (target_items f) end w i ls end x.to rest) (sym t.whole) (the_last (is_right (is_left (is_seq (is_node (is_seq (is_lexeme z) (target_made t.target (v.takes (all_left (Open text) (rests_of n (rests_in xs)) [] (all_left (Open text) (rests_in (tree n xs end)) [] o.1)))))) (is_right is_nothing)))) (is_lexeme q));
+        ended = all_of (Fits text) (places_of l (places_in (tree n xs end))) [] (all_of (Fits text) (places_in (tree n xs end)) (Rest (made_span l.span) ∷ []) (all_of (Fits text) (places_of n (places_in xs)) [] v.ended tt) (record { reached = h.0.1; between = h.0.2; either = inl (record { bracket = x; stands = h.0.0; is = kind_is x q }) }, tt)) tt;
+        takes = λ o. subst (λ (w : Slots). Takes rule (target_items f) end w i ls end x.to rest) (sym t.whole) (the_last (is_right (is_left (is_seq (is_node (is_seq (is_lexeme z) (target_made t.target (v.takes (taken_left text f (places_of n (places_in xs)) [] (taken_left text f (places_in (tree n xs end)) (Rest (made_span l.span) ∷ []) (taken_left text f (places_of l (places_in (tree n xs end))) [] o))))))) (is_right is_nothing)))) (is_lexeme q));
       }
 
   built : {f : Flags} {l : Label} {cs us ds : Slots} {i j : ℕ} {ls rest : Lexemes} → Step f (tree l cs us) i ls j rest → Lexes (Led text) i ls → Claim cs → Inner cs → Claim us → elements_in (tree l cs us) ≡ Some ds → Converted f (tree l cs us) ds i ls j rest
@@ -320,14 +392,14 @@ module _ (text : List ℕ) where
   converts (tree l (hole vs) us) f i j ls rest ds m d e = built (step_of d) m (converts (hole vs)) tt (converts us) e
   converts (tree l (tree n xs vs) us) f i j ls rest ds m d e = built (step_of d) m (converts (tree n xs vs)) (converts xs) (converts us) e
 
-  led : (s : ℕ) (ls : Lexemes) → IsUtf8 text → Reached text s → IsCharBoundary text s → Lexes (Lex text) s ls → Lexes (Led text) s ls
+  pub led : (s : ℕ) (ls : Lexemes) → IsUtf8 text → Reached text s → IsCharBoundary text s → Lexes (Lex text) s ls → Lexes (Led text) s ls
   led s (last x) u r b l = (l, r, b)
   led s (next x ls) u r b l = ((l.0, r, b), led x.to ls u (reached_next r l.0.0) (lexeme_between u b l.0).1 l.1)
 
   -- A literal as a target.
   pub record Targeted (f : Flags) (l : Label) (cs ds : Slots) (i : ℕ) (ls : Lexemes) (j : ℕ) (rest : Lexemes) : Type 0 where
-    pub ended : Each (Ended text) (rests_in cs)
-    pub takes : Each (Open text) (rests_in cs) → Takes rule (such (at ArrayTarget f) always) end (tree (relabelled array_assignment_target l) ds end) i ls end j rest
+    pub ended : Each (Fits text) (places_in cs)
+    pub takes : Taken text f (places_in cs) → Takes rule (such (at ArrayTarget f) always) end (tree (relabelled array_assignment_target l) ds end) i ls end j rest
 
   pub literal_target : {f : Flags} {l : Label} {cs : Slots} (ds : Slots) {i j : ℕ} {ls rest : Lexemes} → is_array l.kind ≡ true → elements_in cs ≡ Some ds → IsUtf8 text → Reached text i → IsCharBoundary text i → Lexes (Lex text) i ls → Takes rule (such (at LeftHandSide f) always) end (tree l cs end) i ls end j rest → Targeted f l cs ds i ls j rest
   unfolding rule rule_of

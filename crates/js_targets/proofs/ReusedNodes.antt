@@ -15,12 +15,12 @@ pub all_in : (rs ss : List ℕ) → ((r : ℕ) → IsIn rs r → IsIn ss r) → 
 all_in [] ss f = tt
 all_in (r ∷ rs) ss f = (f r (inl refl), all_in rs ss (λ q h. f q (inr h)))
 
-pub in_left : (rs ss : List ℕ) (r : ℕ) → IsIn rs r → IsIn (rs ++ ss) r
+pub in_left : {A : Type 0} (rs ss : List A) (r : A) → IsIn rs r → IsIn (rs ++ ss) r
 in_left [] ss r h = absurd h
 in_left (q ∷ rs) ss r (inl e) = inl e
 in_left (q ∷ rs) ss r (inr h) = inr (in_left rs ss r h)
 
-pub in_right : (rs ss : List ℕ) (r : ℕ) → IsIn ss r → IsIn (rs ++ ss) r
+pub in_right : {A : Type 0} (rs ss : List A) (r : A) → IsIn ss r → IsIn (rs ++ ss) r
 in_right [] ss r h = h
 in_right (q ∷ rs) ss r h = inr (in_right rs ss r h)
 

@@ -15,7 +15,9 @@ use Rattle.js_grammar.specs.Table.{rule, rule_of}
 use Rattle.js_grammar.proofs.Behind.{lexed_behind}
 use Rattle.js_grammar.proofs.Calculus.{label_is, slots_are}
 use Rattle.js_parsing.specs.Lexemes.{Lex}
-use Rattle.js_targets.specs.Targets.{Each, Closed, is_array, is_array_target, is_target, is_parens, target_in, target_of, relabelled, before_all, elements_in, rests_of, rests_in}
+use Rattle.js_targets.specs.declared.widening.Widening.{Widening}
+use Rattle.js_targets.specs.declared.widening.Widening.TheVariants.{Rest}
+use Rattle.js_targets.specs.Targets.{Each, Closed, Shut, is_array, is_array_target, is_target, is_parens, target_in, target_of, relabelled, before_all, elements_in, places_of, places_in}
 use Rattle.js_targets.proofs.ArrayElements.{gap_label}
 use Rattle.js_targets.proofs.ArrayTargets.{target_step, target_last, literal_step, literal_last, object_dead, no_other}
 use Rattle.js_parsing.proofs.Dead.{all_read, none}
@@ -40,14 +42,14 @@ simple_kind _ o fl p cs t own us e = absurd (cc)
 simple_element : (l : Label) (cs : Slots) (t : Tree) (own : Option Slots) (us : Slots) → target_of l cs ≡ Some t → element_before l cs own us ≡ Some (tree t.label t.slots us)
 simple_element l cs t own us e = simple_kind l.kind l.op l.flags l.span cs t own us e ∙ ap (λ (r : Option Tree). simple_before r us) e
 
--- and has no rest
-simple_rests : (k : NodeKind) (o : Op) (fl : ℕ) (p : Span) (cs : Slots) (t : Tree) (rs : List ℕ) → target_of (record { kind = k; op = o; flags = fl; span = p }) cs ≡ Some t → rests_of (record { kind = k; op = o; flags = fl; span = p }) rs ≡ []
-simple_rests identifier_reference o fl p cs t rs e = refl
-simple_rests static_member_expression o fl p cs t rs e = refl
-simple_rests computed_member_expression o fl p cs t rs e = refl
-simple_rests private_field_expression o fl p cs t rs e = refl
-simple_rests parenthesized_expression o fl p cs t rs e = refl
-simple_rests _ o fl p cs t rs e = absurd (cc)
+-- and is nowhere wide
+simple_places : (k : NodeKind) (o : Op) (fl : ℕ) (p : Span) (cs : Slots) (t : Tree) (rs : List Widening) → target_of (record { kind = k; op = o; flags = fl; span = p }) cs ≡ Some t → places_of (record { kind = k; op = o; flags = fl; span = p }) rs ≡ []
+simple_places identifier_reference o fl p cs t rs e = refl
+simple_places static_member_expression o fl p cs t rs e = refl
+simple_places computed_member_expression o fl p cs t rs e = refl
+simple_places private_field_expression o fl p cs t rs e = refl
+simple_places parenthesized_expression o fl p cs t rs e = refl
+simple_places _ o fl p cs t rs e = absurd (cc)
 
 target_label : (l : Label) (cs : Slots) (t : Tree) (a b : Bool) → is_parens l.kind ≡ a → is_target l.kind ≡ b → (target_in cs ≡ Some t → is_target t.label.kind ≡ true) → cond a (target_in cs) (cond b (Some (record { label = l; slots = cs })) None) ≡ Some t → is_target t.label.kind ≡ true
 target_label l cs t true b p q f e = f e
@@ -73,7 +75,7 @@ module _ (text : List ℕ) where
     is_tree : ts ≡ tree target inside us
     derived : Takes rule (rule n) end (tree label slots end) i ls end j rest
     covers : (vs : Slots) → element_before label slots (elements_in slots) vs ≡ Some (tree target inside vs)
-    closed : Each (Closed text) (rests_of label (rests_in slots))
+    closed : Each (Shut text) (places_of label (places_in slots))
 
   -- one whose target has no initialiser
   record Bare (f : Flags) (ts us : Slots) (i : ℕ) (ls : Lexemes) (j : ℕ) (rest : Lexemes) : Type 0 where
@@ -85,14 +87,14 @@ module _ (text : List ℕ) where
     trees : Slots → Slots
     derived : (vs : Slots) → Takes rule a end (trees vs) i ls vs j rest
     covers : (vs : Slots) → elements_in vs ≡ Some us → elements_in (trees vs) ≡ Some ts
-    closed : (vs : Slots) → Each (Closed text) (rests_in vs) → Each (Closed text) (rests_in (trees vs))
+    closed : (vs : Slots) → Each (Shut text) (places_in vs) → Each (Shut text) (places_in (trees vs))
 
   -- the last of them
   record Last (a : G) (ts : Slots) (i : ℕ) (ls : Lexemes) (j : ℕ) (rest : Lexemes) : Type 0 where
     slots : Slots
     derived : Takes rule a end slots i ls end j rest
     covers : elements_in slots ≡ Some ts
-    closed : Each (Closed text) (rests_in slots)
+    closed : Each (Shut text) (places_in slots)
 
   -- An array target, as a literal.
   pub record Literal (f : Flags) (ts us : Slots) (i : ℕ) (ls : Lexemes) (j : ℕ) (rest : Lexemes) : Type 0 where
@@ -102,7 +104,7 @@ module _ (text : List ℕ) where
     pub array : is_array label.kind ≡ true
     pub is_tree : ts ≡ tree (relabelled array_assignment_target label) inside us
     pub covers : elements_in slots ≡ Some inside
-    pub closed : Each (Closed text) (rests_in slots)
+    pub closed : Each (Shut text) (places_in slots)
     pub derived : Takes rule (rule (at Primary f)) end (tree label slots end) i ls end j rest
 
   of_such : {n : Symbol} {l : Label} {cs : Slots} {i j : ℕ} {ls rest : Lexemes} → Takes rule (such n always) end (tree l cs end) i ls end j rest → Takes rule (rule n) end (tree l cs end) i ls end j rest
@@ -114,7 +116,7 @@ module _ (text : List ℕ) where
   simple_bare : (f : Flags) (t : Tree) {us : Slots} {i j : ℕ} {ls rest : Lexemes} → Takes rule (rule (at SimpleTarget f)) end (tree t.label t.slots end) i ls end j rest → Bare f (tree t.label t.slots us) us i ls j rest
   simple_bare f t d =
       let x = target_left_hand_side t d in
-      let n = simple_rests x.label.kind x.label.op x.label.flags x.label.span x.slots t (rests_in x.slots) x.has in
+      let n = simple_places x.label.kind x.label.op x.label.flags x.label.span x.slots t (places_in x.slots) x.has in
       record {
         source = record {
           label = x.label;
@@ -124,7 +126,7 @@ module _ (text : List ℕ) where
           is_tree = refl;
           derived = raised f x.derived;
           covers = λ vs. simple_element x.label x.slots t (elements_in x.slots) vs x.has;
-          closed = subst (λ (rs : List ℕ). Each (Closed text) rs) (sym n) tt;
+          closed = subst (λ (rs : List Widening). Each (Shut text) rs) (sym n) tt;
         };
         is_target' = or_left (is_target t.label.kind) _ (target_kind (tree x.label x.slots end) t x.has);
       }
@@ -134,9 +136,9 @@ module _ (text : List ℕ) where
   array_kind array_expression o fl p cs own us h = refl
   array_kind _ o fl p cs own us h = absurd (false≢true h)
 
-  array_rests : (k : NodeKind) (o : Op) (fl : ℕ) (p : Span) (rs : List ℕ) → is_array k ≡ true → rests_of (record { kind = k; op = o; flags = fl; span = p }) rs ≡ rs
-  array_rests array_expression o fl p rs h = refl
-  array_rests _ o fl p rs h = absurd (false≢true h)
+  array_places : (k : NodeKind) (o : Op) (fl : ℕ) (p : Span) (rs : List Widening) → is_array k ≡ true → places_of (record { kind = k; op = o; flags = fl; span = p }) rs ≡ rs
+  array_places array_expression o fl p rs h = refl
+  array_places _ o fl p rs h = absurd (false≢true h)
 
   array_bare : (f : Flags) {ts us : Slots} {i j : ℕ} {ls rest : Lexemes} → Literal f ts us i ls j rest → Bare f ts us i ls j rest
   array_bare f x = record {
@@ -148,7 +150,7 @@ module _ (text : List ℕ) where
       is_tree = x.is_tree;
       derived = raised f (by_primary x.derived);
       covers = λ vs. array_kind x.label.kind x.label.op x.label.flags x.label.span x.slots (elements_in x.slots) vs x.array ∙ ap (λ (r : Option Slots). array_before x.label r vs) x.covers;
-      closed = subst (λ (rs : List ℕ). Each (Closed text) rs) (sym (array_rests x.label.kind x.label.op x.label.flags x.label.span (rests_in x.slots) x.array)) x.closed;
+      closed = subst (λ (rs : List Widening). Each (Shut text) rs) (sym (array_places x.label.kind x.label.op x.label.flags x.label.span (places_in x.slots) x.array)) x.closed;
     };
     is_target' = or_right (is_target array_assignment_target) _ refl;
   }
@@ -190,7 +192,7 @@ module _ (text : List ℕ) where
     trees = λ vs. tree x.label x.slots vs;
     derived = λ vs. is_seq (is_such x.derived refl) (is_lexeme q);
     covers = λ vs h. before_by x.label x.slots vs us _ h (x.covers us ∙ ap Some (sym x.is_tree));
-    closed = λ vs h. all_of (Closed text) (rests_of x.label (rests_in x.slots)) (rests_in vs) x.closed h;
+    closed = λ vs h. all_of (Shut text) (places_of x.label (places_in x.slots)) (places_in vs) x.closed h;
   }
 
   last_item : {f : Flags} {ts : Slots} {i j : ℕ} {ls rest : Lexemes} → Source (at Argument f) ts end i ls j rest → Last (literal_last f) ts i ls j rest
@@ -198,7 +200,7 @@ module _ (text : List ℕ) where
     slots = tree x.label x.slots end;
     derived = is_left (is_such x.derived refl);
     covers = x.covers end ∙ ap Some (sym x.is_tree);
-    closed = all_of (Closed text) (rests_of x.label (rests_in x.slots)) [] x.closed tt;
+    closed = all_of (Shut text) (places_of x.label (places_in x.slots)) [] x.closed tt;
   }
 
   -- a rest
@@ -214,7 +216,7 @@ module _ (text : List ℕ) where
     slots = tree (record { kind = spread_element; op = no_op; flags = 0; span = record { from = x.from; to = j } }) (tree y.label y.slots end) end;
     derived = is_left (is_such (is_right (is_node (is_seq (is_lexeme q) (is_such y.derived refl)))) refl);
     covers = ap (λ (r : Option Slots). rest_before l r end) (y.covers end) ∙ (rest_by l y.target y.inside b.is_target' ∙ ap (λ (v : Slots). Some (tree (relabelled assignment_target_rest l) v end)) (sym y.is_tree));
-    closed = all_of (Closed text) (j ∷ rests_in (tree y.label y.slots end)) [] (k, all_of (Closed text) (rests_of y.label (rests_in y.slots)) [] y.closed tt) tt;
+    closed = all_of (Shut text) (places_in (tree y.label y.slots end) ++ Rest (record { start = x.from; end = j }) ∷ []) [] (all_of (Shut text) (places_in (tree y.label y.slots end)) (Rest (record { start = x.from; end = j }) ∷ []) (all_of (Shut text) (places_of y.label (places_in y.slots)) [] y.closed tt) (k, tt)) tt;
   }
     where
       y : Source (at Assignment (plus_in f)) ts end x.to ls j rest

@@ -9,11 +9,11 @@ use Rattle.js_base.specs.declared.span.Span.{Span}
 use Rattle.js_base.specs.declared.token.Token.{Token}
 use Rattle.js_base.specs.Kinds.{one_of_kinds}
 use Rattle.js_grammar.specs.Trees.{Label, Slots, end, tree, Tree, array_assignment_target}
-use Rattle.js_grammar.specs.Grammar.{Lexeme, Lexemes, last, seen, such, nothing}
+use Rattle.js_grammar.specs.Grammar.{Lexeme, Lexemes, last, seen, such, nothing, Derives}
 use Rattle.js_grammar.specs.Insertion.{Row, after_expression, assign_operators}
 use Rattle.js_grammar.specs.Lexemes.{is_escaped}
 use Rattle.js_grammar.specs.LexicalFaults.{Reached}
-use Rattle.js_grammar.specs.Marks.{Mark}
+use Rattle.js_grammar.specs.Marks.{loose, Mark}
 use Rattle.js_grammar.specs.Parsing.{always, Fails}
 use Rattle.js_grammar.specs.Productions.{Flags, at, Short, ArrayTarget, Target}
 use Rattle.js_grammar.specs.Table.{rule}
@@ -28,12 +28,18 @@ use Rattle.js_cursor.specs.Places.{goal}
 use Rattle.js_cursor.specs.declared.stop.Stop.{Stop}
 use Rattle.js_parsing.specs.Answers.{Grown, Numbered, Stops, Stretch, Underived, Verdict, clean, unclean}
 use Rattle.js_parsing.specs.Lexemes.{Lex, spot}
-use Rattle.js_targets.specs.Taken.{Refused, RestsTold, TargetTaken, no_target_at}
+use Rattle.js_targets.specs.Taken.{Refused, PlacesTold, TargetTaken, no_target_at, refusal_at}
 use Rattle.js_parsing.specs.States.{At, Same}
-use Rattle.js_targets.specs.Targets.{Each, Open, Ended, Reused, Slotted, Converts, Converted, converts, refuses, is_array, relabelled, array_tree, slot_of, elements_in, rests_in, target_of}
+use Rattle.js_targets.specs.declared.widening.Widening.{Widening}
+use Rattle.js_targets.specs.declared.widening.Widening.TheVariants.{Rest}
+use Rattle.js_targets.specs.Targets.{Each, IsIn, Narrow, Fits, Spotted, Noted, unnoted, Blames, Reused, Slotted, Converts, Converted, converts, refuses, is_array, relabelled, array_tree, slot_of, elements_in, places_in, target_of}
+use Rattle.js_base.specs.declared.diagnostic.DiagnosticKind.TheVariants.{SpreadLastElement}
+use Rattle.js_parsing.specs.Told.{unrelated_at}
+use Rattle.js_targets.proofs.LiteralsAsTargets.{one_of_each}
+use Rattle.js_targets.proofs.PlacesTold.{spread_marked}
 use Rattle.js_targets.proofs.Refused.{array_no_target}
 use Rattle.js_targets.proofs.ArraysBeforeSigns.{not_wide}
-use Rattle.js_targets.proofs.ArraysConverted.{signs, no_target_there, no_target_unread, target_there, ended_there, no_array_derived}
+use Rattle.js_targets.proofs.ArraysConverted.{signs, no_target_there, no_target_unread, target_there, ended_there, loose_there, spots_there, no_array_derived}
 use Rattle.js_targets.proofs.Assigned.{an_assign, assigns}
 use Rattle.js_targets.proofs.Refused.{no_target, short_follows}
 use Rattle.js_targets.proofs.ConvertedNodes.{ArrayAnswer}
@@ -129,35 +135,59 @@ module _ {text : List ℕ} {f : Flags} {p q : Parser} {left : NodeId} (a : At te
     converted_at : At text f q1
     converted_at = subst (λ (z : Parser). At text f z) (sym e1) (beside_nodes q1.nodes x.answer.at)
 
-  module _ {q1 : Parser} (e1 : q1 ≡ record q { nodes = q1.nodes }) {notes : List ℕ} where
-    none_there : ArrayAnswer q.nodes q1.nodes left [] notes None → Keeps q.nodes q1.nodes × (elements_in x.answer.slots ≡ None)
+  module _ {q1 : Parser} (e1 : q1 ≡ record q { nodes = q1.nodes }) {notes : Noted} where
+    none_there : ArrayAnswer q.nodes q1.nodes left unnoted notes None → Keeps q.nodes q1.nodes × (elements_in x.answer.slots ≡ None) × Blames (places_in x.answer.slots) unnoted notes
     none_there v = by (v x.answer.label x.answer.slots (x.holds).numbers (x.holds).stands (x.holds).distinct)
       where
-        by : Converted q.nodes q1.nodes (x.holds).numbers [] notes (rests_in x.answer.slots) None (slot_of (array_tree x.answer.label (elements_in x.answer.slots))) → Keeps q.nodes q1.nodes × (elements_in x.answer.slots ≡ None)
-        by (refuses r) = (r.keeps, none_of x.answer.label (elements_in x.answer.slots) r.is)
+        by : Converted q.nodes q1.nodes (x.holds).numbers unnoted notes (places_in x.answer.slots) None (slot_of (array_tree x.answer.label (elements_in x.answer.slots))) → Keeps q.nodes q1.nodes × (elements_in x.answer.slots ≡ None) × Blames (places_in x.answer.slots) unnoted notes
+        by (refuses r) = (r.keeps, none_of x.answer.label (elements_in x.answer.slots) r.is, r.blames)
 
-    pub refused_marked : ArrayAnswer q.nodes q1.nodes left [] notes None → (start : ℕ) → start ≡ p.token.span.start → length q1.errors ≡ length p.errors → Mark (goal q1) q1.text (no_target_at start q1.prev_token_end)
-    refused_marked v start d n = subst (λ (z : Parser). Mark (goal z) z.text (no_target_at start z.prev_token_end)) (sym e1) (untargeted_marked (none_there v).1 start d (subst (λ (z : Parser). length z.errors ≡ length p.errors) e1 n))
+    -- of whatever is told of it
+    pub refused_marked : ArrayAnswer q.nodes q1.nodes left unnoted notes None → (start : ℕ) → start ≡ p.token.span.start → length q1.errors ≡ length p.errors → Mark (goal q1) q1.text (refusal_at start q1.prev_token_end notes.misplaced)
+    refused_marked v start d n = by notes.misplaced (none_there v).2
+      where
+        m : length q.errors ≡ length p.errors
+        m = subst (λ (z : Parser). length z.errors ≡ length p.errors) e1 n
 
-    pub array_refusal : ArrayAnswer q.nodes q1.nodes left [] notes None → (w : Parser) (kept : ℕ) (st : Stop) → kept ≡ length p.errors → Refused kept q1 w st → Stops p w st (Fails rule (Lex text) signs end (such (at ArrayTarget f) always) p.prev_token_end)
+        text_is : q1.text ≡ text
+        text_is = ap (λ (z : Parser). z.text) e1 ∙ x.answer.at.text_is
+
+        untargeted : Mark (goal q1) q1.text (no_target_at start q1.prev_token_end)
+        untargeted = subst (λ (z : Parser). Mark (goal z) z.text (no_target_at start z.prev_token_end)) (sym e1) (untargeted_marked (none_there v).1 start d m)
+
+        spread : (s : Span) → IsIn (places_in x.answer.slots) (Rest s) → Mark (goal q1) q1.text (unrelated_at SpreadLastElement s)
+        spread s i = subst (λ (t : List ℕ). Mark (goal q1) t (unrelated_at SpreadLastElement s)) (sym text_is) (spread_marked (goal q1) s (one_of_each (Spotted text) (places_in x.answer.slots) (Rest s) i (spots_there (not_wide a) (none_kept x.answer.verdict m) h utf8_there reached_there between_there equals_there.0 equals_there.1)))
+
+        by : (o : Option Span) → (o ≡ None) ⊎ ((s : Span) × (o ≡ Some s) × IsIn (places_in x.answer.slots) (Rest s)) → Mark (goal q1) q1.text (refusal_at start q1.prev_token_end o)
+        by None b = untargeted
+        by (Some s) (inl e) = absurd (cc)
+        by (Some s) (inr b) = let e : b.0 ≡ s = (let k : Some s ≡ Some b.0 = b.1 in cc) in spread s (subst (λ (t : Span). IsIn (places_in x.answer.slots) (Rest t)) e b.2)
+
+    pub array_refusal : ArrayAnswer q.nodes q1.nodes left unnoted notes None → (w : Parser) (kept : ℕ) (st : Stop) → kept ≡ length p.errors → Refused kept q1 w st → Stops p w st (Fails rule (Lex text) signs end (such (at ArrayTarget f) always) p.prev_token_end)
     array_refusal v w kept st i r = refused {q = record q { nodes = q1.nodes }} w kept st i (beside_nodes q1.nodes x.answer.at) (same_with q1.nodes x.answer.same (Keeps-trans x.keeps (none_there v).0)) x.answer.verdict (subst (λ (z : Parser). Refused kept z w st) e1 r) (no_target_fails (none_there v).1)
 
-    module _ {target : NodeId} (v : ArrayAnswer q.nodes q1.nodes left [] notes (Some target)) where
-      made : Converts q.nodes q1.nodes (x.holds).numbers [] notes (rests_in x.answer.slots) (Some target ∷ []) (slot_of (array_tree x.answer.label (elements_in x.answer.slots)))
+    module _ {target : NodeId} (v : ArrayAnswer q.nodes q1.nodes left unnoted notes (Some target)) where
+      made : Converts q.nodes q1.nodes (x.holds).numbers unnoted notes (places_in x.answer.slots) (Some target ∷ []) (slot_of (array_tree x.answer.label (elements_in x.answer.slots)))
       made = by (v x.answer.label x.answer.slots (x.holds).numbers (x.holds).stands (x.holds).distinct)
         where
-          by : Converted q.nodes q1.nodes (x.holds).numbers [] notes (rests_in x.answer.slots) (Some (Some target ∷ [])) (slot_of (array_tree x.answer.label (elements_in x.answer.slots))) → Converts q.nodes q1.nodes (x.holds).numbers [] notes (rests_in x.answer.slots) (Some target ∷ []) (slot_of (array_tree x.answer.label (elements_in x.answer.slots)))
+          by : Converted q.nodes q1.nodes (x.holds).numbers unnoted notes (places_in x.answer.slots) (Some (Some target ∷ [])) (slot_of (array_tree x.answer.label (elements_in x.answer.slots))) → Converts q.nodes q1.nodes (x.holds).numbers unnoted notes (places_in x.answer.slots) (Some target ∷ []) (slot_of (array_tree x.answer.label (elements_in x.answer.slots)))
           by (converts r) = r
 
       parts : (ds : Slots) × (elements_in x.answer.slots ≡ Some ds) × (made.slots ≡ tree (relabelled array_assignment_target x.answer.label) ds end)
       parts = some_of x.answer.label (elements_in x.answer.slots) made.slots made.is
 
-      notes_are : notes ≡ rests_in x.answer.slots
-      notes_are = made.notes_are
+      places_are : notes.places ≡ places_in x.answer.slots
+      places_are = made.places_are
 
-      -- the rests, where nothing was told
-      pub rests_ended : length q.errors ≡ length p.errors → Each (Ended q1.text) notes
-      rests_ended n = subst (λ (t : List ℕ). Each (Ended t) notes) (sym (ap (λ (z : Parser). z.text) e1 ∙ x.answer.at.text_is)) (subst (λ (rs : List ℕ). Each (Ended text) rs) (sym notes_are) (ended_there (not_wide a) (none_kept x.answer.verdict n) h parts.0 parts.1 utf8_there reached_there between_there equals_there.0 equals_there.1))
+      told_text : q1.text ≡ text
+      told_text = ap (λ (z : Parser). z.text) e1 ∙ x.answer.at.text_is
+
+      -- its places, where nothing was told
+      pub places_fit : length q.errors ≡ length p.errors → Each (Fits q1.text) notes.places
+      places_fit n = subst (λ (t : List ℕ). Each (Fits t) notes.places) (sym told_text) (subst (λ (ws : List Widening). Each (Fits text) ws) (sym places_are) (ended_there (not_wide a) (none_kept x.answer.verdict n) h parts.0 parts.1 utf8_there reached_there between_there equals_there.0 equals_there.1))
+
+      pub places_spotted : length q.errors ≡ length p.errors → Each (Spotted q1.text) notes.places
+      places_spotted n = subst (λ (t : List ℕ). Each (Spotted t) notes.places) (sym told_text) (subst (λ (ws : List Widening). Each (Spotted text) ws) (sym places_are) (spots_there (not_wide a) (none_kept x.answer.verdict n) h utf8_there reached_there between_there equals_there.0 equals_there.1))
 
       target_held : Holds q1.nodes (length p.nodes) (length q1.nodes) target.0 (relabelled array_assignment_target x.answer.label) parts.0
       target_held = held_of (x.holds).within (Keeps-longer x.keeps) (Keeps-longer made.keeps) (subst (λ (ts : Slots). Slotted q.nodes q1.nodes (x.holds).numbers (Some target ∷ []) ts) parts.2 made.slotted)
@@ -178,18 +208,19 @@ module _ {text : List ℕ} {f : Flags} {p q : Parser} {left : NodeId} (a : At te
             slots = parts.0;
             pass = x.answer.pass;
             walked = walked_to (sym (ap spot e ∙ ap spot e1)) x.answer.walked;
+            loosely = λ n y l. subst (λ (v : ℕ). Derives rule (at ArrayTarget (loose f)) (record { label = relabelled array_assignment_target x.answer.label; slots = parts.0 }) p.prev_token_end (x.answer.pass (last y)) v (last y)) (sym place) (loose_there (not_wide a) (none_kept x.answer.verdict n) h parts.0 parts.1 utf8_there reached_there between_there y (subst (λ (v : ℕ). Lex text v y) place l));
             verdict = subst (λ (v : ℕ). Verdict p.errors r.errors (Stretch text signs (such (at ArrayTarget f) always) p.prev_token_end nothing v (tree (relabelled array_assignment_target x.answer.label) parts.0) x.answer.pass) (Fails rule (Lex text) signs end (such (at ArrayTarget f) always) p.prev_token_end)) (sym place) g;
             holds = subst (λ (ns : List Node). Holds ns (length p.nodes) (length ns) target.0 (relabelled array_assignment_target x.answer.label) parts.0) (sym nodes) target_held;
             keeps = subst (λ (ns : List Node). Keeps p.nodes ns) (sym nodes) (Keeps-trans x.keeps made.keeps);
           }
 
-      -- its rests were looked at
-      pub taken_told : {r : Parser} → RestsTold notes q1 r → TargetTaken text f p q r target
-      taken_told {r} t = taken t.is (t.at text f (converted_at e1)) t.same (and_then x.answer.verdict (subst (λ (ds : List Diagnostic). Verdict ds r.errors (Each (Open text) (rests_in x.answer.slots)) (Each (Open text) (rests_in x.answer.slots) → ⊥)) (ap (λ (z : Parser). z.errors) e1) it)
+      -- its places were looked at
+      pub taken_told : {r : Parser} → PlacesTold notes.places q1 r → TargetTaken text f p q r target
+      taken_told {r} t = taken t.is (t.at text f (converted_at e1)) t.same (and_then x.answer.verdict (subst (λ (ds : List Diagnostic). Verdict ds r.errors (Each (Narrow text) (places_in x.answer.slots)) (Each (Narrow text) (places_in x.answer.slots) → ⊥)) (ap (λ (z : Parser). z.errors) e1) it)
           (λ z o. target_there (not_wide a) z h parts.0 parts.1 utf8_there reached_there between_there o) (λ n. no_target_unread (not_wide a) n) (λ z n. no_target_there (not_wide a) z h (inr n)))
         where
-          it : Verdict q1.errors r.errors (Each (Open text) (rests_in x.answer.slots)) (Each (Open text) (rests_in x.answer.slots) → ⊥)
-          it = subst (λ (rs : List ℕ). Verdict q1.errors r.errors (Each (Open text) rs) (Each (Open text) rs → ⊥)) notes_are (subst (λ (v : List ℕ). Verdict q1.errors r.errors (Each (Open v) notes) (Each (Open v) notes → ⊥)) (ap (λ (z : Parser). z.text) e1 ∙ x.answer.at.text_is) t.verdict)
+          it : Verdict q1.errors r.errors (Each (Narrow text) (places_in x.answer.slots)) (Each (Narrow text) (places_in x.answer.slots) → ⊥)
+          it = subst (λ (ws : List Widening). Verdict q1.errors r.errors (Each (Narrow text) ws) (Each (Narrow text) ws → ⊥)) places_are (subst (λ (v : List ℕ). Verdict q1.errors r.errors (Each (Narrow v) notes.places) (Each (Narrow v) notes.places → ⊥)) told_text t.verdict)
 
       -- a diagnostic was kept before
       pub taken_kept : (length q1.errors ≡ length p.errors → ⊥) → TargetTaken text f p q q1 target

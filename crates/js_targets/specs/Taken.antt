@@ -1,18 +1,23 @@
 -- What is told of an expression that is no target, and what the conversion of an array literal to a target answers (ECMA-262, 13.15.5).
-use Rattle.std.specs.Prelude.{ℕ, ◌≡◌, ◌⊎◌, ◌&&◌, not, true, List, length, None, Result, Ok, Err}
+use Rattle.std.specs.Prelude.{ℕ, ◌≡◌, ◌⊎◌, ◌&&◌, not, true, List, length, Option, Some, None, Result, Ok, Err}
 use Rattle.js_base.specs.declared.diagnostic.Diagnostic.{Diagnostic}
 use Rattle.js_base.specs.declared.diagnostic.DiagnosticKind.TheVariants as fault
 use Rattle.js_base.specs.Kinds.{one_of_kinds}
 use Rattle.js_grammar.specs.Trees.{Label, Slots, end as no_slots, tree}
-use Rattle.js_grammar.specs.Grammar.{Lexemes, Look, such, nothing}
+use Rattle.js_base.specs.declared.span.Span.{Span}
+use Rattle.js_grammar.specs.Grammar.{Lexeme, Lexemes, last, Look, such, nothing, Derives}
 use Rattle.js_grammar.specs.Insertion.{assign_operators}
 use Rattle.js_grammar.specs.Parsing.{always, plain, Fails}
 use Rattle.js_grammar.specs.Table.{rule}
+use Rattle.js_grammar.specs.Marks.{loose}
 use Rattle.js_grammar.specs.Productions.{Flags, at, ArrayTarget, Short}
 use Rattle.js_tree.specs.declared.id.NodeId.{NodeId}
 use Rattle.js_tree.specs.Holding.{Holds, Keeps as KeepsNodes}
 use Rattle.js_cursor.specs.Moves.{GivesUp, Keeps}
-use Rattle.js_targets.specs.Targets.{Each, Open, is_array}
+use Rattle.js_parsing.specs.Told.{unrelated_at}
+use Rattle.js_targets.specs.declared.widening.Widening.{Widening}
+use Rattle.js_targets.specs.declared.widening.Widening.TheVariants.{Rest, Operator}
+use Rattle.js_targets.specs.Targets.{Each, Narrow, is_array}
 use Rattle.js_cursor.specs.Parsers.{Parser}
 use Rattle.js_cursor.specs.declared.stop.Stop.{Stop}
 use Rattle.js_cursor.specs.declared.stop.Stop.TheVariants.{Fatal}
@@ -23,6 +28,11 @@ use Rattle.js_parsing.specs.States.{At, Same}
 -- what is told of a text up to a place that is no target
 abbrev pub no_target_at : ℕ → ℕ → Diagnostic
 no_target_at from to = record { kind = fault.InvalidAssignment; span = record { start = from; end = to }; first = None; second = None }
+
+-- what is told of a literal that is no target: of a spread that isn't its last element, if one was noted
+abbrev pub refusal_at : ℕ → ℕ → Option Span → Diagnostic
+refusal_at from to (Some s) = unrelated_at fault.SpreadLastElement s
+refusal_at from to None = no_target_at from to
 
 -- A call gave up: there are not so many diagnostics as said, and all stays, or one was kept.
 abbrev pub Refused : ℕ → Parser → Parser → Stop → Type 0
@@ -40,16 +50,21 @@ TellsOnce d kept old new = Keeps d old new ⊎ ((length old.errors ≡ kept → 
 abbrev pub assigns_next : Look
 assigns_next k w e = one_of_kinds assign_operators k && not e
 
--- A place behind a rest was looked at: no comma stands there; or one does, and a diagnostic was kept.
-abbrev pub RestTold : ℕ → Parser → Parser → Type 0
-RestTold place old new = (Open old.text place × (new ≡ old)) ⊎ ((Open old.text place → ⊥) × ((d : Diagnostic) × Keeps d old new))
+-- what is told of a place where the literal is wider
+abbrev pub TellsOf : Widening → Diagnostic → Type 0
+TellsOf (Rest s) d = d.kind ≡ fault.RestElementTrailingComma
+TellsOf (Operator s) d = d ≡ unrelated_at fault.InvalidAssignmentTargetDefaultValueOperator s
+
+-- A place was looked at: the literal is narrow there; or it isn't, and that was told.
+abbrev pub PlaceTold : Widening → Parser → Parser → Type 0
+PlaceTold w old new = (Narrow old.text w × (new ≡ old)) ⊎ ((Narrow old.text w → ⊥) × ((d : Diagnostic) × TellsOf w d × Keeps d old new))
 
 -- The same of each of these places.
-pub record RestsTold (places : List ℕ) (old new : Parser) : Type 0 where
+pub record PlacesTold (places : List Widening) (old new : Parser) : Type 0 where
   pub at : (text : List ℕ) (f : Flags) → At text f old → At text f new
   pub same : Same old new
   pub is : new ≡ record old { errors = new.errors }
-  pub verdict : Verdict old.errors new.errors (Each (Open old.text) places) (Each (Open old.text) places → ⊥)
+  pub verdict : Verdict old.errors new.errors (Each (Narrow old.text) places) (Each (Narrow old.text) places → ⊥)
 
 -- An array literal was read up to this state, by a call before which so many diagnostics were kept.
 pub record ArrayRead (start : ℕ) (id : NodeId) (kept : ℕ) (q : Parser) : Type 0 where
@@ -62,7 +77,7 @@ pub record ArrayRead (start : ℕ) (id : NodeId) (kept : ℕ) (q : Parser) : Typ
   pub read : Numbered text flags (at Short flags) first q id
   pub array : is_array read.answer.label.kind ≡ true
 
--- It was converted to a target, which is read from the state `first` on. Clean: it is the only one there; unclean: there is none.
+-- It was converted to a target, which is read from the state `first` on. Clean: it is the only one there; unclean: there is none. Where nothing was told while the literal was read, its lexemes derive this target in the wider form, in which a comma may stand behind a rest and another operator before an initialiser.
 pub record TargetTaken (text : List ℕ) (f : Flags) (first old new : Parser) (id : NodeId) : Type 0 where
   pub stands_at : At text f new
   pub same : Same first new
@@ -74,6 +89,7 @@ pub record TargetTaken (text : List ℕ) (f : Flags) (first old new : Parser) (i
   pub pass : Lexemes → Lexemes
   pub walked : Walked text (spot first) (spot new) pass
   pub verdict : Verdict first.errors new.errors (Stretch text (plain assigns_next) (such (at ArrayTarget f) always) first.prev_token_end nothing new.prev_token_end (tree label slots) pass) (Fails rule (Lex text) (plain assigns_next) no_slots (such (at ArrayTarget f) always) first.prev_token_end)
+  pub loosely : length old.errors ≡ length first.errors → (y : Lexeme) → Lex text new.prev_token_end y → Derives rule (at ArrayTarget (loose f)) (record { label = label; slots = slots }) first.prev_token_end (pass (last y)) new.prev_token_end (last y)
   pub holds : Holds new.nodes (length first.nodes) (length new.nodes) id.0 label slots
   pub keeps : KeepsNodes first.nodes new.nodes
 

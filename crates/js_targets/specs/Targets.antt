@@ -1,14 +1,18 @@
 -- The simple target that an expression stands for (ECMA-262, 8.6.4): a name or a member, in parentheses or not; links of an optional chain stand in a node of their own. A target has no node for its parentheses.
-use Rattle.std.specs.Prelude.{ℕ, ◌≤◌, ◌<◌, ◌⊎◌, Bool, true, false, cond, ◌&&◌, ◌||◌, Option, Some, None, List, ◌≡◌, [], ◌∷◌, ◌++◌, length, IsCharBoundary}
-use Rattle.js_base.specs.declared.kind.Kind.TheVariants.{Eq, Comma, RBrack}
+use Rattle.std.specs.Prelude.{ℕ, ◌≤◌, ◌<◌, ◌⊎◌, Bool, true, false, not, cond, ◌&&◌, ◌||◌, Option, Some, None, List, ◌≡◌, [], ◌∷◌, ◌++◌, length, IsCharBoundary}
+use Rattle.js_base.specs.declared.kind.Kind.TheVariants.{Eq, Comma, Dot3, RBrack}
+use Rattle.js_base.specs.declared.span.Span.{Span}
 use Rattle.js_base.specs.Kinds.{same_kind}
 use Rattle.js_grammar.specs.Grammar.{Lexeme}
 use Rattle.js_grammar.specs.LexicalFaults.{Reached}
 use Rattle.js_parsing.specs.Lexemes.{Lex}
+use Rattle.js_targets.specs.declared.widening.Widening.{Widening}
+use Rattle.js_targets.specs.declared.widening.Widening.TheVariants.{Rest, Operator}
+use Rattle.js_targets.specs.declared.widening.Notes.{Notes}
 use Rattle.js_tree.specs.declared.id.NodeId.{NodeId}
 use Rattle.js_tree.specs.Nodes.{Node, label}
 use Rattle.js_tree.specs.Holding.{Holds, Stands, StandsAll, Keeps, Made, AreDistinct}
-use Rattle.js_grammar.specs.Trees.{NodeKind, Op, no_op, of, Label, Slots, end, hole, tree, Tree, identifier_reference, static_member_expression, computed_member_expression, private_field_expression, parenthesized_expression, array_expression, elision, spread_element, assignment_expression, array_assignment_target, assignment_target_rest, assignment_target_with_default, append}
+use Rattle.js_grammar.specs.Trees.{Span as TreeSpan, NodeKind, Op, no_op, of, Label, Slots, end, hole, tree, Tree, identifier_reference, static_member_expression, computed_member_expression, private_field_expression, parenthesized_expression, array_expression, elision, spread_element, assignment_expression, array_assignment_target, assignment_target_rest, assignment_target_with_default, append}
 
 abbrev pub is_parens : NodeKind → Bool
 is_parens parenthesized_expression = true
@@ -81,9 +85,9 @@ abbrev pub is_equals : Op → Bool
 is_equals (of k) = same_kind Eq k
 is_equals _ = false
 
--- an assignment by `=`: as an element, a target and its initialiser
-abbrev pub is_initialised : Label → Bool
-is_initialised l = is_assignment l.kind && is_equals l.op
+-- an assignment by another operator, as which no initialiser stands in a target
+abbrev pub is_wide : Label → Bool
+is_wide l = is_assignment l.kind && not (is_equals l.op)
 
 abbrev pub is_array_target : NodeKind → Bool
 is_array_target array_assignment_target = true
@@ -110,9 +114,9 @@ abbrev pub rest_slot : Bool → Label → Option Slots → Option Slots
 rest_slot true l (Some (tree m ds end)) = cond (is_target m.kind || is_array_target m.kind) (Some (tree (relabelled assignment_target_rest l) (tree m ds end) end)) None
 rest_slot _ l own = None
 
--- an element, the last one or another
+-- An element, the last one or another. An assignment, whatever its operator, is a target and its initialiser.
 abbrev pub element_slot : Bool → Label → Slots → Option Slots → Option Slots
-element_slot last l cs own = cond (is_elision l.kind) (Some (hole end)) (cond (is_spread l.kind) (rest_slot last l own) (cond (is_initialised l) (Some (tree (relabelled assignment_target_with_default l) cs end)) (slot_of (target_by l cs own))))
+element_slot last l cs own = cond (is_elision l.kind) (Some (hole end)) (cond (is_spread l.kind) (rest_slot last l own) (cond (is_assignment l.kind) (Some (tree (relabelled assignment_target_with_default l) cs end)) (slot_of (target_by l cs own))))
 
 abbrev pub are_none : Slots → Bool
 are_none end = true
@@ -133,13 +137,22 @@ elements_in end = Some end
 elements_in (hole us) = None
 elements_in (tree l cs us) = before_all l cs (elements_in cs) (elements_in us)
 
--- where each spread in them ends that is a rest of a target
-abbrev pub rests_of : Label → List ℕ → List ℕ
-rests_of l rs = cond (is_spread l.kind) (l.span.to ∷ rs) (cond (is_array l.kind) rs [])
+-- ---- where a literal may be wider than a target
 
-abbrev pub rests_in : Slots → List ℕ
-rests_in (tree l cs us) = rests_of l (rests_in cs) ++ rests_in us
-rests_in _ = []
+abbrev pub made_span : TreeSpan → Span
+made_span s = record { start = s.from; end = s.to }
+
+-- of an assignment, by its operator
+abbrev pub operator_places : Op → Span → List Widening
+operator_places o s = cond (is_equals o) [] (Operator s ∷ [])
+
+-- in an element, whose own slots have these places
+abbrev pub places_of : Label → List Widening → List Widening
+places_of l ws = cond (is_spread l.kind) (ws ++ Rest (made_span l.span) ∷ []) (cond (is_array l.kind) ws (cond (is_wide l) (Operator (made_span l.span) ∷ []) []))
+
+abbrev pub places_in : Slots → List Widening
+places_in (tree l cs us) = places_of l (places_in cs) ++ places_in us
+places_in _ = []
 
 -- ---- what stands behind a rest
 
@@ -166,16 +179,71 @@ pub record Ended (text : List ℕ) (e : ℕ) : Type 0 where
   pub between : IsCharBoundary text e
   pub either : Closed text e ⊎ Followed text e
 
--- ---- nodes of array targets
+-- ---- what stands at such a place
 
--- each number of the list is so
-abbrev pub Each : (ℕ → Type 0) → List ℕ → Type 0
+-- each of the list is so
+abbrev pub Each : {A : Type 0} → (A → Type 0) → List A → Type 0
 Each P [] = Unit {0}
 Each P (r ∷ rs) = P r × Each P rs
 
-abbrev pub IsIn : List ℕ → ℕ → Type 0
+abbrev pub IsIn : {A : Type 0} → List A → A → Type 0
 IsIn [] r = ⊥
 IsIn (s ∷ ss) r = (s ≡ r) ⊎ IsIn ss r
+
+-- it is as narrow there as a target has to be
+abbrev pub Narrow : List ℕ → Widening → Type 0
+Narrow text (Rest s) = Open text s.end
+Narrow text (Operator s) = ⊥
+
+-- the same, and a bracket closes behind a rest
+abbrev pub Shut : List ℕ → Widening → Type 0
+Shut text (Rest s) = Closed text s.end
+Shut text (Operator s) = ⊥
+
+-- where the literal is a target, narrow or wide
+abbrev pub Fits : List ℕ → Widening → Type 0
+Fits text (Rest s) = Ended text s.end
+Fits text (Operator s) = Unit {0}
+
+-- A span of the text, from where a lexeme begins to where one ends.
+pub record Spanned (text : List ℕ) (s : Span) : Type 0 where
+  pub place : ℕ
+  pub reached : Reached text place
+  pub first : Lexeme
+  pub stands : Lex text place first
+  pub begins : first.from ≡ s.start
+  pub begins_between : IsCharBoundary text s.start
+  pub behind : ℕ
+  pub reached_behind : Reached text behind
+  pub final : Lexeme
+  pub stands_behind : Lex text behind final
+  pub ends : final.to ≡ s.end
+  pub ends_between : IsCharBoundary text s.end
+  pub ordered : s.start ≤ s.end
+
+-- A spread begins with `...`.
+abbrev pub Spotted : List ℕ → Widening → Type 0
+Spotted text (Rest s) = (x : Spanned text s) × (x.first.kind ≡ Dot3) × (x.first.escaped ≡ false)
+Spotted text (Operator s) = Spanned text s
+
+-- ---- what is noted of a conversion
+
+-- places, and a spread that is no rest
+pub record Noted : Type 0 where
+  pub places : List Widening
+  pub misplaced : Option Span
+
+abbrev pub unnoted : Noted
+unnoted = record { places = []; misplaced = None }
+
+abbrev pub noted_in : Notes → Noted
+noted_in n = record { places = n.places.items; misplaced = n.misplaced }
+
+-- A spread among these was noted, or none.
+abbrev pub Blames : List Widening → Noted → Noted → Type 0
+Blames ws old new = (new.misplaced ≡ old.misplaced) ⊎ ((s : Span) × (new.misplaced ≡ Some s) × IsIn ws (Rest s))
+
+-- ---- nodes of array targets
 
 -- it is one of these, or was given in the call
 abbrev pub Reused : List ℕ → ℕ → ℕ → ℕ → Type 0
@@ -188,22 +256,24 @@ pub record Slotted (os ns : List Node) (rs : List ℕ) (ids : List (Option NodeI
   pub reused : Each (Reused rs (length os) (length ns)) numbers
   pub distinct : AreDistinct numbers
 
--- What an expression is converted to: nodes were made, and the ends of its rests were noted.
-pub record Converts (os ns : List Node) (rs noted notes rests : List ℕ) (ids : List (Option NodeId)) (r : Option Slots) : Type 0 where
+-- What an expression is converted to: nodes were made, and its places were noted.
+pub record Converts (os ns : List Node) (rs : List ℕ) (noted notes : Noted) (ws : List Widening) (ids : List (Option NodeId)) (r : Option Slots) : Type 0 where
   pub keeps : Keeps os ns
   pub slots : Slots
   pub is : r ≡ Some slots
   pub slotted : Slotted os ns rs ids slots
-  pub notes_are : notes ≡ noted ++ rests
+  pub places_are : notes.places ≡ noted.places ++ ws
+  pub unblamed : notes.misplaced ≡ noted.misplaced
 
--- it is converted to nothing
-pub record Refuses (os ns : List Node) (r : Option Slots) : Type 0 where
+-- It is converted to nothing.
+pub record Refuses (os ns : List Node) (noted notes : Noted) (ws : List Widening) (r : Option Slots) : Type 0 where
   pub keeps : Keeps os ns
   pub is : r ≡ None
+  pub blames : Blames ws noted notes
 
-pub data Converted (os ns : List Node) (rs noted notes rests : List ℕ) : Option (List (Option NodeId)) → Option Slots → Type 0 where
-  converts : {ids : List (Option NodeId)} {r : Option Slots} → Converts os ns rs noted notes rests ids r → Converted os ns rs noted notes rests (Some ids) r
-  refuses : {r : Option Slots} → Refuses os ns r → Converted os ns rs noted notes rests None r
+pub data Converted (os ns : List Node) (rs : List ℕ) (noted notes : Noted) (ws : List Widening) : Option (List (Option NodeId)) → Option Slots → Type 0 where
+  converts : {ids : List (Option NodeId)} {r : Option Slots} → Converts os ns rs noted notes ws ids r → Converted os ns rs noted notes ws (Some ids) r
+  refuses : {r : Option Slots} → Refuses os ns noted notes ws r → Converted os ns rs noted notes ws None r
 
 abbrev pub one_slot : Option (Option NodeId) → Option (List (Option NodeId))
 one_slot (Some id) = Some (id ∷ [])

@@ -1,24 +1,28 @@
 //! Array literals read as array targets (ECMA-262, section 13.15.5).
 
-ghost use Rattle.std.specs.Prelude.{◌≡◌, ◌≤◌, ◌&&◌, IfOk, List, [], ◌∷◌, Some, None, false, cond};
+ghost use Rattle.std.specs.Prelude.{◌≡◌, ◌≤◌, ◌++◌, IfOk, List, [], ◌∷◌, Some, None, true, false, cond, length};
 ghost use Rattle.std.specs.Option.{option_map};
-ghost use Rattle.js_grammar.specs.Trees.{assignment_target_with_default};
+ghost use Rattle.js_grammar.specs.Trees.{assignment_target_with_default, end, tree};
 ghost use Rattle.js_tree.specs.declared.kind.NodeKind.TheVariants as node;
 ghost use Rattle.js_tree.specs.declared.op.Op.TheVariants as op;
 ghost use Rattle.js_parsing.specs.Moves.{plain_label};
 ghost use Rattle.js_tree.specs.Labels.{kind_of, op_of};
 ghost use Rattle.js_tree.specs.Nodes.{label, node_at};
 ghost use Rattle.js_base.specs.declared.kind.Kind.TheVariants.{Eq};
-ghost use Rattle.js_targets.specs.Taken.{ArrayRead, RestTold, RestsTold, TakesTarget};
+ghost use Rattle.js_cursor.specs.Places.{goal};
+ghost use Rattle.js_grammar.specs.Marks.{Mark};
+ghost use Rattle.js_targets.specs.Taken.{ArrayRead, Refused, TakesTarget, refusal_at};
 ghost use Rattle.js_parsing.specs.States.{Standing};
-ghost use Rattle.js_targets.specs.Targets.{Converted, Each, Ended, OfNode, Stood, array_tree, element_slot, elements_in, one_node, one_slot, relabelled, rest_slot, rests_in, rests_of, slot_of, target_by, Noded};
+ghost use Rattle.js_targets.specs.Targets.{Converted, OfNode, Stood, array_tree, element_slot, elements_in, made_span, noted_in, operator_places, one_node, one_slot, relabelled, rest_slot, places_in, places_of, slot_of, target_by, Noded};
+ghost use Rattle.js_targets.specs.declared.widening.Widening.TheVariants as widening;
 ghost use Rattle.js_targets.specs.Targets as target;
 
 use crate::cover::{is_array, only_child, refuse_target, simple_target};
-use js_base::{AssignmentOperator, Diagnostic, DiagnosticKind, Kind, NoMemory, Span};
+use crate::widening::{Notes, Widening, tell_places};
+use js_base::{AssignmentOperator, DiagnosticKind, NoMemory, Span};
 use js_cursor::{ParserImpl, Stop};
 use js_lex::ParserConfig;
-use js_parsing::diagnostics::kept_so_far;
+use js_parsing::diagnostics::{diagnostic_at, kept_so_far};
 use js_parsing::nodes::no_flags;
 use js_tree::{NodeId, NodeKind, Op, ParserAstBuilder};
 use std::alloc::Global;
@@ -43,36 +47,6 @@ fn make_rest(ast: &mut ParserAstBuilder, span: Span, found: NodeId) -> Result<No
     ast.node_of_one(kind, span, Op::None, no_flags(), Some(found))
 }
 
-/// Whether it is a gap between elements.
-fn is_elision(kind: NodeKind) -> bool
-    ensures { result ≡ target.is_elision (kind_of kind) }
-{
-    match kind {
-        NodeKind::Elision => true,
-        _ => false,
-    }
-}
-
-/// Whether it is a spread.
-fn is_spread(kind: NodeKind) -> bool
-    ensures { result ≡ target.is_spread (kind_of kind) }
-{
-    match kind {
-        NodeKind::SpreadElement => true,
-        _ => false,
-    }
-}
-
-/// Whether it is an assignment.
-fn is_assignment(kind: NodeKind) -> bool
-    ensures { result ≡ target.is_assignment (kind_of kind) }
-{
-    match kind {
-        NodeKind::AssignmentExpression => true,
-        _ => false,
-    }
-}
-
 /// Whether it is the operator `=`.
 fn is_equals(op: Op) -> bool
     ensures { result ≡ target.is_equals (op_of op) }
@@ -83,27 +57,19 @@ fn is_equals(op: Op) -> bool
     }
 }
 
-/// Whether an expression is an assignment by `=`, as an element a target with its initialiser.
-fn is_initialised(ast: &ParserAstBuilder, id: NodeId) -> bool
-    requires { Stood ast.now id }
-    ensures { result ≡ target.is_initialised (label (node_at ast.now id)) }
-{
-    is_assignment(ast.kind(id)) && is_equals(ast.op(id))
-}
-
-/// The node of the array target that an array literal stands for; none where it stands for none. The ends of its rests
-/// are noted.
+/// The node of the array target that an array literal stands for; none where it stands for none. The places where it may
+/// be wider than a target are noted.
 #[cycle(targets)]
 fn convert_array(
     alloc: Global,
     ast: &mut ParserAstBuilder,
     id: NodeId,
-    rests: &mut Vec<u32>,
+    notes: &mut Notes,
 ) -> Result<Option<NodeId>, NoMemory>
     requires { Stood ast.old id }
-    ensures { IfOk result (λ found. OfNode ast.old id (λ l cs rs. Converted ast.old ast.new rs rests.old.items rests.new.items (rests_in cs) (one_node found) (slot_of (array_tree l (elements_in cs))))) }
+    ensures { IfOk result (λ found. OfNode ast.old id (λ l cs rs. Converted ast.old ast.new rs (noted_in notes.old) (noted_in notes.new) (places_in cs) (one_node found) (slot_of (array_tree l (elements_in cs))))) }
 {
-    let Some(elements) = convert_elements(alloc, ast, id, rests)? else {
+    let Some(elements) = convert_elements(alloc, ast, id, notes)? else {
         return Ok(None);
     };
     let span = ast.span(id);
@@ -117,10 +83,10 @@ fn convert_elements(
     alloc: Global,
     ast: &mut ParserAstBuilder,
     id: NodeId,
-    rests: &mut Vec<u32>,
+    notes: &mut Notes,
 ) -> Result<Option<Vec<Option<NodeId>>>, NoMemory>
     requires { Stood ast.old id }
-    ensures { IfOk result (λ found. OfNode ast.old id (λ l cs rs. Converted ast.old ast.new rs rests.old.items rests.new.items (rests_in cs) (option_map (λ v. v.items) found) (elements_in cs))) }
+    ensures { IfOk result (λ found. OfNode ast.old id (λ l cs rs. Converted ast.old ast.new rs (noted_in notes.old) (noted_in notes.new) (places_in cs) (option_map (λ v. v.items) found) (elements_in cs))) }
 {
     let children = Vec::from_slice(alloc, ast.children(id))?;
     let mut elements = Vec::new(alloc);
@@ -131,7 +97,7 @@ fn convert_elements(
         };
         next += 1;
         let is_last = next == children.len();
-        let Some(element) = convert_element(alloc, ast, child, is_last, rests)? else {
+        let Some(element) = convert_element(alloc, ast, child, is_last, notes)? else {
             return Ok(None);
         };
         elements.push(element)?;
@@ -146,15 +112,15 @@ fn convert_element(
     ast: &mut ParserAstBuilder,
     id: NodeId,
     is_last: bool,
-    rests: &mut Vec<u32>,
+    notes: &mut Notes,
 ) -> Result<Option<Option<NodeId>>, NoMemory>
     requires { Stood ast.old id }
-    ensures { IfOk result (λ found. OfNode ast.old id (λ l cs rs. Converted ast.old ast.new rs rests.old.items rests.new.items (rests_of l (rests_in cs)) (one_slot found) (element_slot is_last l cs (elements_in cs)))) }
+    ensures { IfOk result (λ found. OfNode ast.old id (λ l cs rs. Converted ast.old ast.new rs (noted_in notes.old) (noted_in notes.new) (places_of l (places_in cs)) (one_slot found) (element_slot is_last l cs (elements_in cs)))) }
 {
-    if is_elision(ast.kind(id)) {
+    if let NodeKind::Elision = ast.kind(id) {
         return Ok(Some(None));
     }
-    let found = convert_item(alloc, ast, id, is_last, rests)?;
+    let found = convert_item(alloc, ast, id, is_last, notes)?;
     Ok(some_slot(found))
 }
 
@@ -175,19 +141,16 @@ fn convert_item(
     ast: &mut ParserAstBuilder,
     id: NodeId,
     is_last: bool,
-    rests: &mut Vec<u32>,
+    notes: &mut Notes,
 ) -> Result<Option<NodeId>, NoMemory>
     requires { Stood ast.old id }
-    ensures { IfOk result (λ found. OfNode ast.old id (λ l cs rs. target.is_elision l.kind ≡ false → Converted ast.old ast.new rs rests.old.items rests.new.items (rests_of l (rests_in cs)) (one_node found) (element_slot is_last l cs (elements_in cs)))) }
+    ensures { IfOk result (λ found. OfNode ast.old id (λ l cs rs. target.is_elision l.kind ≡ false → Converted ast.old ast.new rs (noted_in notes.old) (noted_in notes.new) (places_of l (places_in cs)) (one_node found) (element_slot is_last l cs (elements_in cs)))) }
 {
-    if is_spread(ast.kind(id)) {
-        return convert_rest(alloc, ast, id, is_last, rests);
+    match ast.kind(id) {
+        NodeKind::SpreadElement => convert_rest(alloc, ast, id, is_last, notes),
+        NodeKind::AssignmentExpression => convert_assignment(alloc, ast, id, notes),
+        _ => convert_target(alloc, ast, id, notes),
     }
-    if is_initialised(ast, id) {
-        let node = with_initialiser(alloc, ast, id)?;
-        return Ok(Some(node));
-    }
-    convert_target(alloc, ast, id, rests)
 }
 
 /// A spread, as a rest.
@@ -197,38 +160,52 @@ fn convert_rest(
     ast: &mut ParserAstBuilder,
     id: NodeId,
     is_last: bool,
-    rests: &mut Vec<u32>,
+    notes: &mut Notes,
 ) -> Result<Option<NodeId>, NoMemory>
     requires { Stood ast.old id }
-    ensures { IfOk result (λ found. OfNode ast.old id (λ l cs rs. Converted ast.old ast.new rs rests.old.items rests.new.items (l.span.to ∷ rests_in cs) (one_node found) (rest_slot is_last l (elements_in cs)))) }
+    ensures { IfOk result (λ found. OfNode ast.old id (λ l cs rs. Converted ast.old ast.new rs (noted_in notes.old) (noted_in notes.new) (places_in cs ++ widening.Rest (made_span l.span) ∷ []) (one_node found) (rest_slot is_last l (elements_in cs)))) }
 {
+    let span = ast.span(id);
     if !is_last {
+        notes.misplaced = Some(span);
         return Ok(None);
     }
     let Some(argument) = only_child(ast, id) else {
         return Ok(None);
     };
-    let span = ast.span(id);
-    rests.push(span.end)?;
-    let Some(found) = convert_target(alloc, ast, argument, rests)? else {
+    let Some(found) = convert_target(alloc, ast, argument, notes)? else {
         return Ok(None);
     };
+    notes.places.push(Widening::Rest(span))?;
     let node = make_rest(ast, span, found)?;
     Ok(Some(node))
 }
 
-/// An assignment by `=`, as a target with its initialiser.
-fn with_initialiser(
+/// Notes the operator of an element that is an assignment, where it isn't `=`.
+fn note_operator(notes: &mut Notes, op: Op, element: Span) -> Result<(), NoMemory>
+    ensures { IfOk result (λ _. noted_in notes.new ≡ record { places = notes.old.places.items ++ operator_places (op_of op) element; misplaced = notes.old.misplaced }) }
+{
+    if !is_equals(op) {
+        notes.places.push(Widening::Operator(element))?;
+    }
+    Ok(())
+}
+
+/// An assignment, as a target with its initialiser. Another operator than `=` is noted.
+fn convert_assignment(
     alloc: Global,
     ast: &mut ParserAstBuilder,
     id: NodeId,
-) -> Result<NodeId, NoMemory>
+    notes: &mut Notes,
+) -> Result<Option<NodeId>, NoMemory>
     requires { Stood ast.old id }
-    ensures { IfOk result (λ node. Noded ast.old ast.new (relabelled assignment_target_with_default (label (node_at ast.old id))) (node_at ast.old id).children node) }
+    ensures { IfOk result (λ found. OfNode ast.old id (λ l cs rs. target.is_assignment l.kind ≡ true → Converted ast.old ast.new rs (noted_in notes.old) (noted_in notes.new) (places_of l (places_in cs)) (one_node found) (Some (tree (relabelled assignment_target_with_default l) cs end)))) }
 {
-    let children = Vec::from_slice(alloc, ast.children(id))?;
     let span = ast.span(id);
-    make_target(ast, NodeKind::AssignmentTargetWithDefault, span, children)
+    note_operator(notes, ast.op(id), span)?;
+    let children = Vec::from_slice(alloc, ast.children(id))?;
+    let node = make_target(ast, NodeKind::AssignmentTargetWithDefault, span, children)?;
+    Ok(Some(node))
 }
 
 /// The node of the target that an expression stands for; none where it stands for none (ECMA-262, section 13.15.1).
@@ -237,13 +214,13 @@ fn convert_target(
     alloc: Global,
     ast: &mut ParserAstBuilder,
     id: NodeId,
-    rests: &mut Vec<u32>,
+    notes: &mut Notes,
 ) -> Result<Option<NodeId>, NoMemory>
     requires { Stood ast.old id }
-    ensures { IfOk result (λ found. OfNode ast.old id (λ l cs rs. Converted ast.old ast.new rs rests.old.items rests.new.items (cond (target.is_array l.kind) (rests_in cs) []) (one_node found) (slot_of (target_by l cs (elements_in cs))))) }
+    ensures { IfOk result (λ found. OfNode ast.old id (λ l cs rs. Converted ast.old ast.new rs (noted_in notes.old) (noted_in notes.new) (cond (target.is_array l.kind) (places_in cs) []) (one_node found) (slot_of (target_by l cs (elements_in cs))))) }
 {
     if is_array(ast.kind(id)) {
-        return convert_array(alloc, ast, id, rests);
+        return convert_array(alloc, ast, id, notes);
     }
     Ok(simple_target(ast, id))
 }
@@ -252,48 +229,35 @@ fn convert_target(
 fn convert<C: ParserConfig>(
     p: &mut ParserImpl<'_, C>,
     id: NodeId,
-    rests: &mut Vec<u32>,
+    notes: &mut Notes,
 ) -> Result<Option<NodeId>, NoMemory>
     requires { Stood p.old.nodes id }
     ensures stays { IfOk result (λ _. p.new ≡ record p.old { nodes = p.new.nodes }) }
-    ensures found { IfOk result (λ found. OfNode p.old.nodes id (λ l cs rs. Converted p.old.nodes p.new.nodes rs rests.old.items rests.new.items (rests_in cs) (one_node found) (slot_of (array_tree l (elements_in cs))))) }
+    ensures found { IfOk result (λ found. OfNode p.old.nodes id (λ l cs rs. Converted p.old.nodes p.new.nodes rs (noted_in notes.old) (noted_in notes.new) (places_in cs) (one_node found) (slot_of (array_tree l (elements_in cs))))) }
 {
-    convert_array(p.alloc, &mut p.ast, id, rests)
+    convert_array(p.alloc, &mut p.ast, id, notes)
 }
 
-/// Tells of a comma behind a rest that ends at a place (ECMA-262, section 13.15.5).
-fn tell_comma<C: ParserConfig>(p: &mut ParserImpl<'_, C>, place: u32) -> Result<(), NoMemory>
-    requires at { Standing p.old }
-    requires ended { Ended p.old.text place }
-    ensures { IfOk result (λ _. RestTold place p.old p.new) }
-{
-    let next = p.lexer.token_behind(place)?;
-    if let Kind::Comma = next.kind() {
-        p.error(Diagnostic {
-            kind: DiagnosticKind::RestElementTrailingComma,
-            span: next.span(),
-            first: None,
-            second: None,
-        })?;
-    }
-    Ok(())
-}
-
-/// Tells of each comma behind rests that end at these places.
-fn tell_commas<C: ParserConfig>(
+/// Gives up on an array literal, which was read from a place on and is no target: a spread that isn't its last element is
+/// told. Where a diagnostic was kept since, when there were so many, that is enough.
+fn refuse_literal<C: ParserConfig>(
     p: &mut ParserImpl<'_, C>,
-    places: &Vec<u32>,
-) -> Result<(), NoMemory>
+    start: u32,
+    kept: usize,
+    misplaced: Option<Span>,
+) -> Stop
     requires at { Standing p.old }
-    requires ended { Each (Ended p.old.text) places.now.items }
-    ensures { IfOk result (λ _. RestsTold places.now.items p.old p.new) }
+    requires start { start ≤ p.old.prev_token_end }
+    requires marked { length p.old.errors ≡ kept → Mark (goal p.old) p.old.text (refusal_at start p.old.prev_token_end misplaced) }
+    ensures { Refused kept p.old p.new result }
 {
-    let mut next = 0;
-    'places: while next < places.len() {
-        tell_comma(p, places[next])?;
-        next += 1;
+    let Some(spread) = misplaced else {
+        return refuse_target(p, start, kept);
+    };
+    if kept_so_far(p) != kept {
+        return Stop::Fatal;
     }
-    Ok(())
+    p.set_fatal_error(diagnostic_at(DiagnosticKind::SpreadLastElement, spread))
 }
 
 /// The target that an array literal is, which was read from a place on. Where a diagnostic was kept since, when there were
@@ -311,12 +275,15 @@ pub fn array_target<C: ParserConfig>(
     requires read { ArrayRead start id kept p.old }
     ensures { TakesTarget start id kept p.old p.new result }
 {
-    let mut rests = Vec::new(p.alloc);
-    let Some(target) = convert(p, id, &mut rests)? else {
-        return Err(refuse_target(p, start, kept));
+    let mut notes = Notes {
+        places: Vec::new(p.alloc),
+        misplaced: None,
+    };
+    let Some(target) = convert(p, id, &mut notes)? else {
+        return Err(refuse_literal(p, start, kept, notes.misplaced));
     };
     if kept_so_far(p) == kept {
-        tell_commas(p, &rests)?;
+        tell_places(p, &notes.places)?;
     }
     Ok(target)
 }

@@ -9,7 +9,7 @@ ghost use Rattle.js_grammar.specs.Trees.{Label, Slots};
 ghost use Rattle.js_tree.specs.Holding.{Holds};
 ghost use Rattle.js_tree.specs.Labels.{kind_of};
 ghost use Rattle.js_tree.specs.Nodes.{node_at};
-ghost use Rattle.js_targets.specs.Targets.{Converted, IsTarget, OfNode, Only, Stood, one_node, slot_of, target_of};
+ghost use Rattle.js_targets.specs.Targets.{Converted, IsTarget, OfNode, Only, Stood, one_node, slot_of, target_of, unnoted};
 ghost use Rattle.js_targets.specs.Targets as target;
 
 use js_base::{Diagnostic, DiagnosticKind, NoMemory};
@@ -82,7 +82,7 @@ pub fn only_child(ast: &ParserAstBuilder, id: NodeId) -> Option<NodeId>
 /// The node of the simple target that an expression stands for; none where it is no target (ECMA-262, section 8.6.4).
 pub fn simple_target(ast: &ParserAstBuilder, id: NodeId) -> Option<NodeId>
     requires { Stood ast.now id }
-    ensures node { OfNode ast.now id (λ l cs rs. Converted ast.now ast.now rs [] [] [] (one_node result) (slot_of (target_of l cs))) }
+    ensures node { OfNode ast.now id (λ l cs rs. Converted ast.now ast.now rs unnoted unnoted [] (one_node result) (slot_of (target_of l cs))) }
     ensures tree { (lo hi : ℕ) (l : Label) (cs : Slots) → Holds ast.now lo hi id.0 l cs → IsTarget ast.now lo hi l cs result }
 {
     let kind = ast.kind(id);

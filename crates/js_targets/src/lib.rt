@@ -3,3 +3,4 @@
 
 pub mod array_target;
 pub mod cover;
+pub mod widening;

@@ -2,29 +2,28 @@ use Rattle.std.proofs.Common.{arith, ap, sym, ◌∙◌, length}
 use Rattle.std.proofs.lemmas.Result.{err_from_is_err_and}
 use Rattle.std.specs.Prelude.{Ok, Err}
 use Rattle.js_tree.proofs.HoldingLemmas.{Holds-below}
-use Rattle.js_expressions.specs.Arrows.{a_head, refused}
 use Rattle.js_grammar.specs.Productions.{at, Assignment}
-use Rattle.js_expressions.proofs.Arrows.{from_unmoved, none_found, refused_so, some_found, unmoved_none}
+use Rattle.js_expressions.proofs.Arrows.{before_at, before_further, before_same, from_unmoved, none_found, refused, refused_so, some_found, unmoved_none}
 use Rattle.js_parsing.proofs.Moving.{standing}
 use Rattle.js_parsing.proofs.Nesting.{nests_later, later_room}
 use Rattle.js_expressions.proofs.assignment.parse_assignment_expression.Goals as goal
 
 pub parse_arrow_function_expression-requires-clause-at : goal.parse_arrow_function_expression-requires-clause-at
-parse_arrow_function_expression-requires-clause-at g c = standing ((some_found _ c.parse_arrow_head.new.p _ _ c.in-Some.is c.in_ok-parameters.ensures).1 _ _ c.requires.at).at
+parse_arrow_function_expression-requires-clause-at g c = standing (before_at ((some_found _ c.parse_arrow_head.new.p _ _ c.in-Some.is c.in_ok-parameters.ensures).1 _ _ c.requires.at))
 
 pub parse_arrow_function_expression-requires-clause-nests : goal.parse_arrow_function_expression-requires-clause-nests
 parse_arrow_function_expression-requires-clause-nests g c =
     let h = (some_found _ c.parse_arrow_head.new.p _ _ c.in-Some.is c.in_ok-parameters.ensures).1 _ _ c.requires.at in
-    nests_later c.requires.nests (later_room (let a = h.further in let b = c.requires.at.behind in omega arith) h.same)
+    nests_later c.requires.nests (later_room (let a = before_further h in let b = c.requires.at.behind in omega arith) (before_same h))
 
 pub parse_arrow_function_expression-requires-clause-start : goal.parse_arrow_function_expression-requires-clause-start
-parse_arrow_function_expression-requires-clause-start g c = let h = ((some_found _ c.parse_arrow_head.new.p _ _ c.in-Some.is c.in_ok-parameters.ensures).1 _ _ c.requires.at).further in let s = c.cur_start-start.ensures in omega arith
+parse_arrow_function_expression-requires-clause-start g c = let h = before_further ((some_found _ c.parse_arrow_head.new.p _ _ c.in-Some.is c.in_ok-parameters.ensures).1 _ _ c.requires.at) in let s = c.cur_start-start.ensures in omega arith
 
 pub parse_arrow_function_expression-requires-clause-arrow : goal.parse_arrow_function_expression-requires-clause-arrow
 parse_arrow_function_expression-requires-clause-arrow g c = (some_found _ c.parse_arrow_head.new.p _ _ c.in-Some.is c.in_ok-parameters.ensures).0
 
 pub returns-in-Some : goal.returns-in-Some
-returns-in-Some g c = λ text f a. c.parse_arrow_function_expression.ensures text f _ a c.cur_start-start.ensures (a_head ((some_found _ c.parse_arrow_head.new.p _ _ c.in-Some.is c.in_ok-parameters.ensures).1 text f a))
+returns-in-Some g c = λ text f a. c.parse_arrow_function_expression.ensures text f _ a c.cur_start-start.ensures ((some_found _ c.parse_arrow_head.new.p _ _ c.in-Some.is c.in_ok-parameters.ensures).1 text f a)
 
 pub parse_assignment_without_arrow-requires-clause-at : goal.parse_assignment_without_arrow-requires-clause-at
 parse_assignment_without_arrow-requires-clause-at g c = standing ((none_found _ c.parse_arrow_head.new.p _ c.in_default.is c.in_ok-parameters.ensures).0.at _ _ c.requires.at)

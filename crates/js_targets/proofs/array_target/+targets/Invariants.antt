@@ -1,4 +1,5 @@
 use Rattle.std.proofs.Common.{◌+◌, ◌-◌, ◌*◌, length}
+use Rattle.js_targets.specs.Targets.{noted_in}
 use Rattle.js_targets.proofs.ConvertedNodes.{ElementsSoFar}
 use Rattle.js_targets.proofs.array_target.+targets.Given as goal
 
@@ -21,7 +22,7 @@ abbrev pub decreases-convert_target : goal.decreases-convert_target
 decreases-convert_target l = 5 * l.id.0 + 2
 
 abbrev pub invariant-convert_elements-elements : goal.invariant-convert_elements-elements
-invariant-convert_elements-elements l = ElementsSoFar l.fn.ast l.ast l.fn.id l.fn.rests.items l.rests.items l.children.items l.elements.items l.next
+invariant-convert_elements-elements l = ElementsSoFar l.fn.ast l.ast l.fn.id (noted_in l.fn.notes) (noted_in l.notes) l.children.items l.elements.items l.next
 
 abbrev pub decreases-convert_elements-elements : goal.decreases-convert_elements-elements
 decreases-convert_elements-elements l = length l.children.items - l.next

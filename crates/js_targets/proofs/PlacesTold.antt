@@ -1,13 +1,13 @@
--- What is told of commas behind the rests of an array target (ECMA-262, 13.15.5).
+-- What is told of places where an array literal is wider than a target (ECMA-262, 13.15.5).
 use Rattle.std.proofs.Common.{ℕ, ◌≡◌, ◌≤◌, ◌+◌, ◌⊎◌, inl, inr, Bool, true, false, not, ◌&&◌, ◌||◌, IsTrue, List, [], ◌∷◌, ◌++◌, length, drop, zero, suc, None, refl, sym, ap, subst, arith, ◌∙◌}
 use Rattle.std.specs.Prelude.{IsCharBoundary, IsUtf8, get_or, slice_get, Some}
 use Rattle.std.proofs.Math.Seq.{drop-cons}
 use Rattle.std.proofs.lemmas.Option.{slice_get_within, get_or_from_slice_get}
 use Rattle.std.proofs.lemmas.Bool.{false≢true, and_from}
 use Rattle.js_base.specs.declared.diagnostic.Diagnostic.{Diagnostic}
-use Rattle.js_base.specs.declared.diagnostic.DiagnosticKind.TheVariants.{RestElementTrailingComma}
+use Rattle.js_base.specs.declared.diagnostic.DiagnosticKind.TheVariants.{RestElementTrailingComma, InvalidAssignmentTargetDefaultValueOperator, SpreadLastElement}
 use Rattle.js_base.specs.declared.kind.Kind.{Kind}
-use Rattle.js_base.specs.declared.kind.Kind.TheVariants.{Comma, LBrack, RBrack, RParen, RCurly, RAngle, Undetermined, PrivateIdentifier}
+use Rattle.js_base.specs.declared.kind.Kind.TheVariants.{Comma, Dot3, LBrack, RBrack, RParen, RCurly, RAngle, Undetermined, PrivateIdentifier}
 use Rattle.js_base.specs.declared.span.Span.{Span}
 use Rattle.js_base.specs.declared.token.Token.{Token}
 use Rattle.js_base.specs.Kinds.{same_kind, one_of_kinds}
@@ -15,7 +15,8 @@ use Rattle.js_base.specs.Texts.{words}
 use Rattle.js_base.proofs.KindLemmas.{kind_of_same}
 use Rattle.js_grammar.specs.Grammar.{Lexeme, last, next}
 use Rattle.js_grammar.specs.Lexemes.{division, is_word, is_escaped}
-use Rattle.js_grammar.specs.Marks.{Mark}
+use Rattle.js_grammar.specs.Marks.{Mark, a_lexeme, the_start, the_end}
+use Rattle.js_parsing.specs.Told.{unrelated_at}
 use Rattle.js_grammar.specs.Productions.{Flags}
 use Rattle.js_grammar.specs.Settings.{Goal}
 use Rattle.js_lex.specs.Reading.{cut, is_right_angle, Tells, GivesLexeme, GivesNone, GivesBehind, Outcome}
@@ -25,9 +26,11 @@ use Rattle.js_cursor.specs.Parsers.{Parser}
 use Rattle.js_cursor.specs.Places.{goal}
 use Rattle.js_parsing.specs.Answers.{Grown, Verdict, clean, unclean}
 use Rattle.js_parsing.specs.Lexemes.{Lex}
-use Rattle.js_targets.specs.Taken.{RestTold, RestsTold}
+use Rattle.js_targets.specs.Taken.{PlaceTold, PlacesTold}
 use Rattle.js_parsing.specs.States.{At, Same}
-use Rattle.js_targets.specs.Targets.{Each, Open, Closed, Followed, Ended}
+use Rattle.js_targets.specs.declared.widening.Widening.{Widening}
+use Rattle.js_targets.specs.declared.widening.Widening.TheVariants.{Rest}
+use Rattle.js_targets.specs.Targets.{Each, Open, Closed, Followed, Ended, Narrow, Fits, Spanned, Spotted}
 use Rattle.js_parsing.proofs.Giving.{kept_one}
 use Rattle.js_parsing.proofs.Here.{alike, plainly, one_plain}
 use Rattle.js_targets.proofs.LiteralsAsTargets.{lexeme_between}
@@ -118,79 +121,106 @@ module _ {text : List ℕ} {e : ℕ} {t : Token} (g : GivesBehind text e t) wher
         );
       }
 
+-- ---- the marks of spreads and of operators
+
+-- the edges of a span are those of lexemes
+pub operator_marked : {text : List ℕ} (source : Goal) (s : Span) → Spanned text s → Mark source text (unrelated_at InvalidAssignmentTargetDefaultValueOperator s)
+operator_marked source s x = record {
+  ordered = x.ordered;
+  within = x.ends_between.0;
+  begins_between = x.begins_between;
+  ends_between = x.ends_between;
+  stands = ((the_start (a_lexeme x.reached x.stands.0) x.begins, the_end (a_lexeme x.reached_behind x.stands_behind.0) x.ends), (refl, refl));
+}
+
+pub spread_marked : {text : List ℕ} (source : Goal) (s : Span) → Spotted text (Rest s) → Mark source text (unrelated_at SpreadLastElement s)
+spread_marked source s h = let x = h.0 in record {
+  ordered = x.ordered;
+  within = x.ends_between.0;
+  begins_between = x.begins_between;
+  ends_between = x.ends_between;
+  stands = (record { lexeme = x.first; of_text = a_lexeme x.reached x.stands.0; begins = x.begins; passes = and_from (one_of_kinds (Dot3 ∷ []) x.first.kind) (not x.first.escaped) (subst (λ (v : Kind). one_of_kinds (Dot3 ∷ []) v ≡ true) (sym h.1) refl) (ap not h.2) }, (refl, refl));
+}
+
 -- ---- all of them
 
-pub record PlacesTold (places : List ℕ) (old new : Parser) (from : ℕ) : Type 0 where
+pub record ToldUpTo (places : List Widening) (old new : Parser) (from : ℕ) : Type 0 where
   pub within : from ≤ length places
   pub at : (text : List ℕ) (f : Flags) → At text f old → At text f new
   pub same : Same old new
   pub is : new ≡ record old { errors = new.errors }
-  pub drops : Each (Open old.text) places → Each (Open old.text) (drop from places)
-  pub verdict : Verdict old.errors new.errors (Each (Open old.text) (drop from places) → Each (Open old.text) places) (Each (Open old.text) places → ⊥)
-  pub ended : Each (Ended old.text) (drop from places)
+  pub drops : Each (Narrow old.text) places → Each (Narrow old.text) (drop from places)
+  pub verdict : Verdict old.errors new.errors (Each (Narrow old.text) (drop from places) → Each (Narrow old.text) places) (Each (Narrow old.text) places → ⊥)
+  pub fits : Each (Fits old.text) (drop from places)
+  pub spotted : Each (Spotted old.text) (drop from places)
 
-pub places_begin : {places : List ℕ} {p : Parser} → Each (Ended p.text) places → PlacesTold places p p 0
-places_begin e = record { within = omega arith; at = λ text f a. a; same = same_itself; is = refl; drops = λ h. h; verdict = clean refl (λ h. h); ended = e }
+pub places_begin : {places : List Widening} {p : Parser} → Each (Spotted p.text) places → Each (Fits p.text) places → ToldUpTo places p p 0
+places_begin e g = record { within = omega arith; at = λ text f a. a; same = same_itself; is = refl; drops = λ h. h; verdict = clean refl (λ h. h); fits = g; spotted = e }
 
-pub next_place : (places : List ℕ) (from x : ℕ) → slice_get places from ≡ Some x → drop from places ≡ x ∷ drop (from + 1) places
+pub next_place : (places : List Widening) (from : ℕ) (x : Widening) → slice_get places from ≡ Some x → drop from places ≡ x ∷ drop (from + 1) places
 next_place places from x e =
     let l = slice_get_within places from x e in
     let n : suc from ≡ from + 1 = omega arith in
-    drop-cons places from x l ∙ (ap (λ (y : ℕ). y ∷ drop (suc from) places) (get_or_from_slice_get places from x x e) ∙ ap (λ (k : ℕ). x ∷ drop k places) n)
+    drop-cons places from x l ∙ (ap (λ (y : Widening). y ∷ drop (suc from) places) (get_or_from_slice_get places from x x e) ∙ ap (λ (k : ℕ). x ∷ drop k places) n)
 
-module _ {places : List ℕ} {old mid : Parser} {from place : ℕ} (z : PlacesTold places old mid from) (q : drop from places ≡ place ∷ drop (from + 1) places) where
+module _ {places : List Widening} {old mid : Parser} {from : ℕ} {place : Widening} (z : ToldUpTo places old mid from) (q : drop from places ≡ place ∷ drop (from + 1) places) where
   text_kept : mid.text ≡ old.text
   text_kept = ap (λ (p : Parser). p.text) z.is
 
-  pub place_ended : Ended mid.text place
-  place_ended = subst (λ (v : List ℕ). Ended v place) (sym text_kept) (subst (λ (xs : List ℕ). Each (Ended old.text) xs) q z.ended).0
+  pub place_fits : Fits mid.text place
+  place_fits = subst (λ (v : List ℕ). Fits v place) (sym text_kept) (subst (λ (xs : List Widening). Each (Fits old.text) xs) q z.fits).0
 
-  open_place : Open mid.text place → Open old.text place
-  open_place o = subst (λ (v : List ℕ). Open v place) text_kept o
+  pub place_spotted : Spotted mid.text place
+  place_spotted = subst (λ (v : List ℕ). Spotted v place) (sym text_kept) (subst (λ (xs : List Widening). Each (Spotted old.text) xs) q z.spotted).0
 
-  closed_place : (Open mid.text place → ⊥) → Open old.text place → ⊥
-  closed_place n o = n (subst (λ (v : List ℕ). Open v place) (sym text_kept) o)
+  narrow_place : Narrow mid.text place → Narrow old.text place
+  narrow_place o = subst (λ (v : List ℕ). Narrow v place) text_kept o
 
-  opens : Each (Open old.text) places → Open old.text place × Each (Open old.text) (drop (from + 1) places)
-  opens h = subst (λ (xs : List ℕ). Each (Open old.text) xs) q (z.drops h)
+  wide_place : (Narrow mid.text place → ⊥) → Narrow old.text place → ⊥
+  wide_place n o = n (subst (λ (v : List ℕ). Narrow v place) (sym text_kept) o)
 
-  pub places_next : {new : Parser} → from + 1 ≤ length places → RestTold place mid new → PlacesTold places old new (from + 1)
+  narrows : Each (Narrow old.text) places → Narrow old.text place × Each (Narrow old.text) (drop (from + 1) places)
+  narrows h = subst (λ (xs : List Widening). Each (Narrow old.text) xs) q (z.drops h)
+
+  pub places_next : {new : Parser} → from + 1 ≤ length places → PlaceTold place mid new → ToldUpTo places old new (from + 1)
   places_next w (inl t) = record {
     within = w;
     at = λ text f a. subst (λ (p : Parser). At text f p) (sym t.1) (z.at text f a);
     same = subst (λ (p : Parser). Same old p) (sym t.1) z.same;
     is = subst (λ (p : Parser). p ≡ record old { errors = p.errors }) (sym t.1) z.is;
-    drops = λ h. (opens h).1;
-    verdict = subst (λ (p : Parser). Verdict old.errors p.errors (Each (Open old.text) (drop (from + 1) places) → Each (Open old.text) places) (Each (Open old.text) places → ⊥)) (sym t.1) (by z.verdict);
-    ended = (subst (λ (xs : List ℕ). Each (Ended old.text) xs) q z.ended).1;
+    drops = λ h. (narrows h).1;
+    verdict = subst (λ (p : Parser). Verdict old.errors p.errors (Each (Narrow old.text) (drop (from + 1) places) → Each (Narrow old.text) places) (Each (Narrow old.text) places → ⊥)) (sym t.1) (by z.verdict);
+    fits = (subst (λ (xs : List Widening). Each (Fits old.text) xs) q z.fits).1;
+    spotted = (subst (λ (xs : List Widening). Each (Spotted old.text) xs) q z.spotted).1;
   }
     where
-      by : Verdict old.errors mid.errors (Each (Open old.text) (drop from places) → Each (Open old.text) places) (Each (Open old.text) places → ⊥) → Verdict old.errors mid.errors (Each (Open old.text) (drop (from + 1) places) → Each (Open old.text) places) (Each (Open old.text) places → ⊥)
-      by (clean e h) = clean e (λ k. h (subst (λ (xs : List ℕ). Each (Open old.text) xs) (sym q) (open_place t.0, k)))
+      by : Verdict old.errors mid.errors (Each (Narrow old.text) (drop from places) → Each (Narrow old.text) places) (Each (Narrow old.text) places → ⊥) → Verdict old.errors mid.errors (Each (Narrow old.text) (drop (from + 1) places) → Each (Narrow old.text) places) (Each (Narrow old.text) places → ⊥)
+      by (clean e h) = clean e (λ k. h (subst (λ (xs : List Widening). Each (Narrow old.text) xs) (sym q) (narrow_place t.0, k)))
       by (unclean g n) = unclean g n
   places_next {new} w (inr t) = record {
     within = w;
-    at = λ text f a. told_at t.1.1 (z.at text f a);
-    same = same_both z.same (told_same t.1.1);
-    is = t.1.1.is ∙ ap (λ (p : Parser). record p { errors = mid.errors ++ t.1.0 ∷ [] }) z.is ∙ ap (λ (ds : List Diagnostic). record old { errors = ds }) (sym (ap (λ (p : Parser). p.errors) t.1.1.is));
-    drops = λ h. (opens h).1;
-    verdict = unclean (grown z.verdict) (λ h. closed_place t.0 (opens h).0);
-    ended = (subst (λ (xs : List ℕ). Each (Ended old.text) xs) q z.ended).1;
+    at = λ text f a. told_at t.1.2 (z.at text f a);
+    same = same_both z.same (told_same t.1.2);
+    is = t.1.2.is ∙ ap (λ (p : Parser). record p { errors = mid.errors ++ t.1.0 ∷ [] }) z.is ∙ ap (λ (ds : List Diagnostic). record old { errors = ds }) (sym (ap (λ (p : Parser). p.errors) t.1.2.is));
+    drops = λ h. (narrows h).1;
+    verdict = unclean (grown z.verdict) (λ h. wide_place t.0 (narrows h).0);
+    fits = (subst (λ (xs : List Widening). Each (Fits old.text) xs) q z.fits).1;
+    spotted = (subst (λ (xs : List Widening). Each (Spotted old.text) xs) q z.spotted).1;
   }
     where
-      grown : Verdict old.errors mid.errors (Each (Open old.text) (drop from places) → Each (Open old.text) places) (Each (Open old.text) places → ⊥) → Grown old.errors new.errors
-      grown (clean e h) = grown_then e (kept_one t.1.1)
-      grown (unclean g n) = grown_both g (kept_one t.1.1)
+      grown : Verdict old.errors mid.errors (Each (Narrow old.text) (drop from places) → Each (Narrow old.text) places) (Each (Narrow old.text) places → ⊥) → Grown old.errors new.errors
+      grown (clean e h) = grown_then e (kept_one t.1.2)
+      grown (unclean g n) = grown_both g (kept_one t.1.2)
 
-pub places_end : {places : List ℕ} {old new : Parser} {from : ℕ} → PlacesTold places old new from → length places ≤ from → RestsTold places old new
+pub places_end : {places : List Widening} {old new : Parser} {from : ℕ} → ToldUpTo places old new from → length places ≤ from → PlacesTold places old new
 places_end {places} {old} {new} {from} z l = record { at = z.at; same = z.same; is = z.is; verdict = by z.verdict }
   where
-    none_left : (xs : List ℕ) (n : ℕ) → length xs ≤ n → drop n xs ≡ []
+    none_left : (xs : List Widening) (n : ℕ) → length xs ≤ n → drop n xs ≡ []
     none_left [] zero l = refl
     none_left [] (suc n) l = refl
     none_left (x ∷ xs) zero l = absurd (omega arith)
     none_left (x ∷ xs) (suc n) l = none_left xs n (omega arith)
 
-    by : Verdict old.errors new.errors (Each (Open old.text) (drop from places) → Each (Open old.text) places) (Each (Open old.text) places → ⊥) → Verdict old.errors new.errors (Each (Open old.text) places) (Each (Open old.text) places → ⊥)
-    by (clean e h) = clean e (h (subst (λ (xs : List ℕ). Each (Open old.text) xs) (sym (none_left places from l)) tt))
+    by : Verdict old.errors new.errors (Each (Narrow old.text) (drop from places) → Each (Narrow old.text) places) (Each (Narrow old.text) places → ⊥) → Verdict old.errors new.errors (Each (Narrow old.text) places) (Each (Narrow old.text) places → ⊥)
+    by (clean e h) = clean e (h (subst (λ (xs : List Widening). Each (Narrow old.text) xs) (sym (none_left places from l)) tt))
     by (unclean g n) = unclean g n

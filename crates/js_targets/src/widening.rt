@@ -1,0 +1,89 @@
+//! Where an array literal may be wider than an array target (ECMA-262, section 13.15.5).
+
+ghost use Rattle.std.specs.Prelude.{◌≡◌, IfOk};
+ghost use Rattle.js_base.specs.declared.diagnostic.DiagnosticKind.TheVariants as fault;
+ghost use Rattle.js_grammar.specs.Marks.{Mark};
+ghost use Rattle.js_cursor.specs.Moves.{Keeps};
+ghost use Rattle.js_cursor.specs.Places.{goal};
+ghost use Rattle.js_parsing.specs.States.{Standing};
+ghost use Rattle.js_parsing.specs.Told.{unrelated_at};
+ghost use Rattle.js_targets.specs.Taken.{PlaceTold, PlacesTold};
+ghost use Rattle.js_targets.specs.Targets.{Each, Ended, Fits, Spotted};
+ghost use Rattle.js_targets.specs.declared.widening.Widening.TheVariants as widening;
+
+use js_base::{DiagnosticKind, Kind, NoMemory, Span};
+use js_cursor::ParserImpl;
+use js_lex::ParserConfig;
+use js_parsing::diagnostics::diagnostic_at;
+
+/// A place of an array literal where it may be wider than a target.
+#[derive(Clone, Copy, Drop)]
+pub enum Widening {
+    /// A rest: no comma may stand behind it.
+    Rest(Span),
+    /// An assignment as an element: its operator has to be `=`.
+    Operator(Span),
+}
+
+/// What is noted while an array literal is converted.
+#[derive(Drop)]
+pub struct Notes {
+    /// Where it may be wider than a target, in the order in which that is told.
+    pub places: Vec<Widening>,
+    /// A spread behind which another element stands, so that it is no rest.
+    pub misplaced: Option<Span>,
+}
+
+/// Tells of a comma behind a rest.
+fn tell_comma<C: ParserConfig>(p: &mut ParserImpl<'_, C>, rest: Span) -> Result<(), NoMemory>
+    requires at { Standing p.old }
+    requires ended { Ended p.old.text rest.end }
+    ensures { IfOk result (λ _. PlaceTold (widening.Rest rest) p.old p.new) }
+{
+    let next = p.lexer.token_behind(rest.end)?;
+    if let Kind::Comma = next.kind() {
+        p.error(diagnostic_at(DiagnosticKind::RestElementTrailingComma, next.span()))?;
+    }
+    Ok(())
+}
+
+/// Tells of an element's operator before an initialiser that isn't `=`.
+fn tell_operator<C: ParserConfig>(p: &mut ParserImpl<'_, C>, element: Span) -> Result<(), NoMemory>
+    requires at { Standing p.old }
+    requires mark { Mark (goal p.old) p.old.text (unrelated_at fault.InvalidAssignmentTargetDefaultValueOperator element) }
+    ensures { IfOk result (λ _. Keeps (unrelated_at fault.InvalidAssignmentTargetDefaultValueOperator element) p.old p.new) }
+{
+    let kind = DiagnosticKind::InvalidAssignmentTargetDefaultValueOperator;
+    p.error(diagnostic_at(kind, element))
+}
+
+/// Tells of a place where an array literal is wider than a target, if it is.
+fn tell_place<C: ParserConfig>(p: &mut ParserImpl<'_, C>, place: Widening) -> Result<(), NoMemory>
+    requires at { Standing p.old }
+    requires spotted { Spotted p.old.text place }
+    requires fits { Fits p.old.text place }
+    ensures { IfOk result (λ _. PlaceTold place p.old p.new) }
+{
+    match place {
+        Widening::Rest(rest) => tell_comma(p, rest),
+        Widening::Operator(element) => tell_operator(p, element),
+    }
+}
+
+/// Tells of each of these places where an array literal is wider than a target.
+pub fn tell_places<C: ParserConfig>(
+    p: &mut ParserImpl<'_, C>,
+    places: &Vec<Widening>,
+) -> Result<(), NoMemory>
+    requires at { Standing p.old }
+    requires spotted { Each (Spotted p.old.text) places.now.items }
+    requires fits { Each (Fits p.old.text) places.now.items }
+    ensures { IfOk result (λ _. PlacesTold places.now.items p.old p.new) }
+{
+    let mut next = 0;
+    'places: while next < places.len() {
+        tell_place(p, places[next])?;
+        next += 1;
+    }
+    Ok(())
+}
