@@ -67,3 +67,4 @@ pub mod Arrows
 pub mod FreeOfContext
 pub mod NotedHeads
 pub mod Marking
+pub mod WordStatements

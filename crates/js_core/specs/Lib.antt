@@ -20,3 +20,4 @@ pub mod Parameters
 pub mod Arrows
 pub mod Marked
 pub mod Heads
+pub mod WordStatements

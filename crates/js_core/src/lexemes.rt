@@ -83,6 +83,10 @@ pub fn is_read_word(kind: Kind) -> bool
             | Kind::In
             | Kind::Instanceof
             | Kind::New
+            | Kind::Break
+            | Kind::Continue
+            | Kind::Debugger
+            | Kind::Throw
     )
 }
 
@@ -116,6 +120,7 @@ fn is_read_operator(kind: Kind) -> bool
             | Kind::Minus
             | Kind::Star
             | Kind::Star2
+            | Kind::Slash
             | Kind::Percent
             | Kind::Eq2
             | Kind::Eq3

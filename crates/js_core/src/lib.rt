@@ -22,6 +22,7 @@ mod statement;
 mod statement_list;
 mod unary;
 mod update;
+mod word_statement;
 
 pub use parse::{
     Parser, parse_assignment_expression_or_higher, parse_expression, parse_statements,

@@ -252,7 +252,7 @@ pub fn binding_power(kind: Kind, allows_in: bool) -> u8
         Kind::In => { if allows_in { 11 } else { 0 } }
         Kind::ShiftLeft | Kind::ShiftRight | Kind::ShiftRight3 => 12,
         Kind::Plus | Kind::Minus => 13,
-        Kind::Star | Kind::Percent => 14,
+        Kind::Star | Kind::Slash | Kind::Percent => 14,
         _ => 0,
     }
 }
