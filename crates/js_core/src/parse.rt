@@ -3,28 +3,28 @@
 ghost use Rattle.std.specs.Prelude.{◌≡◌, true, MatchResult};
 ghost use Rattle.js_base.specs.Contexts.{has_flag, in_flag};
 ghost use Rattle.js_grammar.specs.Productions.{at, Assignment, Expression};
-ghost use Rattle.js_core.specs.Answers.{Answers};
-ghost use Rattle.js_core.specs.Nesting.{CanNest, Reading, Ready, room};
-ghost use Rattle.js_core.specs.StatementLists.{AllRefused, AllTaken};
-ghost use Rattle.js_core.specs.States.{Standing};
+ghost use Rattle.js_parsing.specs.Answers.{Answers};
+ghost use Rattle.js_parsing.specs.Nesting.{CanNest, Reading, Ready, room};
+ghost use Rattle.js_statements.specs.StatementLists.{AllRefused, AllTaken};
+ghost use Rattle.js_parsing.specs.States.{Standing};
 
-use crate::assignment::parse_assignment_expression;
-use crate::binding::parse_binding_pattern;
-use crate::nested::{By, Goal, Nested};
-use crate::operators::parse_exponentiation_expression;
-use crate::sequence::parse_sequence_expression;
-use crate::statement::parse_statement;
-use crate::statement_list::parse_directives_and_statements;
-use crate::unary::parse_unary_expression_or_higher;
 use js_cursor::{ParserImpl, Stop};
+use js_expressions::assignment::parse_assignment_expression;
+use js_expressions::operators::parse_exponentiation_expression;
+use js_expressions::sequence::parse_sequence_expression;
+use js_expressions::unary::parse_unary_expression_or_higher;
 use js_lex::{ParserConfig, RuntimeParserConfig};
+use js_parsing::nested::{By, Goal, Nested};
+use js_patterns::binding::parse_binding_pattern;
+use js_statements::statement::parse_statement;
+use js_statements::statement_list::parse_directives_and_statements;
 use js_tree::NodeId;
 
 /// A parser that is told when the program runs whether it keeps the tokens.
 pub type Parser<'a> = ParserImpl<'a, RuntimeParserConfig>;
 
 /// Reads what is asked for, where productions nest by `nested`.
-pub(crate) fn parse_goal<C: ParserConfig, N: Nested<C>>(
+pub fn parse_goal<C: ParserConfig, N: Nested<C>>(
     p: &mut ParserImpl<'_, C>,
     nested: &N,
     goal: Goal,

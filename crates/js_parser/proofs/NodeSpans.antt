@@ -24,7 +24,7 @@ use Rattle.js_lex.specs.Reading.{LexemeBehind}
 use Rattle.js_lex.proofs.Again.{cancel}
 use Rattle.js_lex.proofs.KindsOfLexemes.{hashbang_is}
 use Rattle.js_lex.proofs.StringPlaces.{front_word}
-use Rattle.js_core.specs.Lexemes.{Faultless, read_kinds}
+use Rattle.js_parsing.specs.Lexemes.{Faultless, read_kinds}
 use Rattle.js_parser.specs.NodeSpans.{NodeLies, SlotsLie}
 use Rattle.js_parser.specs.Readings.{AreRead, from_text_start, behind_a_hashbang, Reading, parameters}
 

@@ -30,16 +30,16 @@ use Rattle.js_cursor.specs.Starts.{Starts}
 use Rattle.js_cursor.specs.Tokens.{IsToken, whole as whole_token, sign as sign_token, nothing as no_token}
 use Rattle.js_cursor.specs.declared.stop.Stop.{Stop}
 use Rattle.js_cursor.specs.declared.stop.Stop.TheVariants.{Fatal, NoMemory}
-use Rattle.js_core.specs.Answers.{Stretch, Verdict, clean, unclean}
-use Rattle.js_core.specs.Lexemes.{Lex, is_read, read_kinds}
-use Rattle.js_core.specs.States.{At, IsPlain, whole, sign, nothing as no_lexeme, flags_of, Standing}
-use Rattle.js_core.specs.StatementLists.{at_text_end, with_directives, statements, NoList, Taken, AllTaken, AllRefused}
-use Rattle.js_core.proofs.Beginning.{begins, begins_with_hashbang, behind_first, none_noted}
-use Rattle.js_core.proofs.Giving.{fails_none}
-use Rattle.js_core.proofs.Here.{told, plain_kind, kind_here}
-use Rattle.js_core.proofs.Paths.{at_kind}
-use Rattle.js_core.proofs.StatementLists.{none_left}
-use Rattle.js_core.proofs.Verdicts.{grown_some}
+use Rattle.js_parsing.specs.Answers.{Stretch, Verdict, clean, unclean}
+use Rattle.js_parsing.specs.Lexemes.{Lex, is_read, read_kinds}
+use Rattle.js_parsing.specs.States.{At, IsPlain, whole, sign, nothing as no_lexeme, flags_of, Standing}
+use Rattle.js_statements.specs.StatementLists.{at_text_end, with_directives, statements, NoList, Taken, AllTaken, AllRefused}
+use Rattle.js_parsing.proofs.Beginning.{begins, begins_with_hashbang, behind_first, none_noted}
+use Rattle.js_parsing.proofs.Giving.{fails_none}
+use Rattle.js_parsing.proofs.Here.{told, plain_kind, kind_here}
+use Rattle.js_parsing.proofs.Paths.{at_kind}
+use Rattle.js_statements.proofs.StatementLists.{none_left}
+use Rattle.js_parsing.proofs.Verdicts.{grown_some}
 use Rattle.js_cursor.specs.Starts.{is_module, is_commonjs}
 use Rattle.js_tree.specs.Nodes.{Node}
 use Rattle.js_tree.proofs.HoldingLemmas.{HoldsAll-wider, HoldsAll-append, HoldsAll-one, Holds-kept, Holds-wider, Keeps-refl}
@@ -47,7 +47,7 @@ use Rattle.std.specs.Prelude.{Result, Ok, Err, MatchResult}
 use Rattle.std.specs.Prelude.{Some}
 use Rattle.js_base.specs.Contexts.{has_flag, in_flag, yield_flag, await_flag, return_flag, new_target_flag}
 use Rattle.js_cursor.specs.Moves.{Passed}
-use Rattle.js_core.specs.Moves.{MadeHere, plain_label}
+use Rattle.js_parsing.specs.Moves.{MadeHere, plain_label}
 use Rattle.js_tree.specs.declared.kind.NodeKind.TheVariants.{Hashbang}
 use Rattle.js_tree.specs.declared.op.Op.TheVariants as op
 use Rattle.js_base.specs.declared.span.Span.{Span}
@@ -56,8 +56,8 @@ use Rattle.js_lex.specs.Scans.{NoLexeme}
 use Rattle.js_lex.specs.States.{State}
 use Rattle.js_parser.proofs.Hashbangs.{hashbang_label, program_label, behind_comment, alone}
 use Rattle.js_parser.proofs.Fronts.{Front, Parts, kind_of_hashbang, none_begins, at_the_start, behind_a_comment}
-use Rattle.js_core.proofs.MadeNodes.{leaf_held}
-use Rattle.js_core.proofs.Moving.{standing, beside_nodes}
+use Rattle.js_parsing.proofs.MadeNodes.{leaf_held}
+use Rattle.js_parsing.proofs.Moving.{standing, beside_nodes}
 use Rattle.js_parser.specs.Parsed.{options_of, IsAnswer}
 use Rattle.js_parser.specs.Readings.{parameters, Reading, IsOnlyReading, HasNoReading}
 use Rattle.js_parser.specs.Taken.{FoundNothing, ReadOrNot, ProgramTaken, ProgramStops}
@@ -69,13 +69,13 @@ use Rattle.js_grammar.specs.Options.{Options, is_module as in_module, is_commonj
 use Rattle.js_grammar.specs.Settings.{Goal, script, module_goal, commonjs, unambiguous}
 use Rattle.js_lex.specs.Comments.{each_at, comment_at, irregular_at, html_fault_at}
 use Rattle.js_lex.specs.Reading.{in_a_module, is_kept, kept_token, LexemeBehind, GivesFirst, GivesNext}
-use Rattle.js_core.specs.Lexemes.{Faultless, KeptFor, TriviaKept, kept_before, Spot, spot, Walked, nowhere, one_more}
-use Rattle.js_core.proofs.KeptTokens.{before_next, trivia_kept}
+use Rattle.js_parsing.specs.Lexemes.{Faultless, KeptFor, TriviaKept, kept_before, Spot, spot, Walked, nowhere, one_more}
+use Rattle.js_parsing.proofs.KeptTokens.{before_next, trivia_kept}
 use Rattle.js_parser.specs.Kept.{KeepsRight, each_of, comments_before, blanks_before, TellsEach, IsKeptOf}
 use Rattle.js_parser.proofs.Walks.{behind_walk, first_comments, first_blanks, all_kept, walk_tells, walk_unasked, keeps_still, kept_none}
 use Rattle.js_base.specs.declared.token.Token.{Token}
-use Rattle.js_core.proofs.Kept.{kept_for, faults_aside}
-use Rattle.js_core.proofs.Paths.{walked_from}
+use Rattle.js_parsing.proofs.Kept.{kept_for, faults_aside}
+use Rattle.js_parsing.proofs.Paths.{walked_from}
 
 abbrev tree_of : Label → Slots → Tree
 tree_of l cs = record { label = l; slots = cs }

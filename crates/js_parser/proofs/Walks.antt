@@ -7,7 +7,7 @@ use Rattle.js_grammar.specs.Lexed.{Lexes, Lex as StandsBehind, Passing, all_faul
 use Rattle.js_grammar.specs.Settings.{Goal}
 use Rattle.js_lex.specs.Reading.{is_kept, kept_token}
 use Rattle.js_lex.specs.declared.comment.Comment.{Comment}
-use Rattle.js_core.specs.Lexemes.{Faultless, TriviaKept, Spot, News, onward, IsNew, Walked, nowhere, one_more}
+use Rattle.js_parsing.specs.Lexemes.{Faultless, TriviaKept, Spot, News, onward, IsNew, Walked, nowhere, one_more}
 use Rattle.js_parser.specs.Kept.{each_of, comments_before, blanks_before, TellsEach}
 
 -- lexemes behind those that were passed

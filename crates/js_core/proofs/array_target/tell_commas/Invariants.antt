@@ -1,9 +1,0 @@
-use Rattle.std.proofs.Common.{◌-◌, length}
-use Rattle.js_core.proofs.RestsTold.{PlacesTold}
-use Rattle.js_core.proofs.array_target.tell_commas.Given as goal
-
-abbrev pub invariant-places : goal.invariant-places
-invariant-places g l = PlacesTold l.places.items l.fn.p l.p l.next
-
-abbrev pub decreases-places : goal.decreases-places
-decreases-places g l = length l.places.items - l.next

@@ -1,0 +1,652 @@
+-- Arrow functions (ECMA-262, 15.3), and where none is derived.
+use Rattle.std.proofs.Common.{ℕ, ◌≡◌, ◌≤◌, ◌<◌, ◌⊎◌, inl, inr, max, List, [], ◌∷◌, length, Bool, true, false, not, cond, ◌&&◌, ◌||◌, IsTrue, Option, Some, None, refl, sym, ap, subst, arith, ◌∙◌}
+use Rattle.std.specs.Prelude.{Result, Ok, Err}
+use Rattle.std.proofs.lemmas.Bool.{false≢true, and_parts, and_from, or_left, or_right}
+use Rattle.js_base.specs.declared.kind.Kind.{Kind}
+use Rattle.js_base.specs.declared.kind.Kind.TheVariants.{Arrow, Await, Ident, LParen, LCurly, RAngle, Yield}
+use Rattle.js_base.specs.declared.span.Span.{Span}
+use Rattle.js_base.specs.Kinds.{same_kind, one_of_kinds}
+use Rattle.js_base.specs.Texts.{words}
+use Rattle.js_base.proofs.KindLemmas.{kind_of_same}
+use Rattle.js_grammar.specs.Trees.{Span as TreeSpan, Label, Slots, end, tree, Tree, no_op, arrow_function_expression}
+use Rattle.js_grammar.specs.Grammar.{Lexeme, Lexemes, Look, last, next, here, seen, is, such, nothing, exact, Make, node, seq, alt, look, lexeme, Takes, ◌▸◌, ◌◇◌, is_nothing, is_seq, is_lexeme, is_look, is_such, is_left, is_right, is_node, is_empty_slot}
+use Rattle.js_grammar.specs.Brackets.{bracket, move}
+use Rattle.js_grammar.specs.Insertion.{may_bind, Row, after_expression, after_postfix, after_body, after_yield, after_declarator, after_word}
+use Rattle.js_grammar.specs.Lexed.{Lexes}
+use Rattle.js_grammar.specs.Parsing.{Test, plain, full, always, Admits, Goes, Fails, still, passing}
+use Rattle.js_grammar.specs.Productions.{G, Flags, Symbol, at, tok, mk, make, other, if_next, no_newline, Arrow', Assignment, Body, Params, Short}
+use Rattle.js_grammar.specs.Productions.{sym as symbol}
+use Rattle.js_grammar.specs.Table.{rule, rule_of}
+use Rattle.js_grammar.specs.Follow.{edge_of, row_of, first_edge, follow, after, looser, widest}
+use Rattle.js_grammar.proofs.Heads.{One, the_last, and_more, begins_head, operand_taken, in_one, one_name}
+use Rattle.js_grammar.proofs.Looks.{covers, covered, apart, not_both}
+use Rattle.js_grammar.proofs.RightEdges.{of_operand, first_row}
+use Rattle.js_grammar.proofs.Calculus.{On, Inside, inside_full, ◌▹◌, ◌▹✗◌, here_at, done, left, right, looks, then_by, part_fails, fails_node, fails_look, fails_lexeme}
+use Rattle.js_grammar.proofs.FollowLaws.{row_claimed, fails_by}
+use Rattle.js_base.specs.declared.token.Token.{Token}
+use Rattle.js_grammar.specs.Grammar.{empty_slot}
+use Rattle.js_grammar.specs.Lexemes.{is_word, division}
+use Rattle.js_grammar.specs.Productions.{BindingIdentifier}
+use Rattle.js_base.specs.declared.kind.Kind.TheVariants.{PrivateIdentifier}
+use Rattle.js_grammar.specs.Trees.{NodeKind, hole, formal_parameters, formal_parameter, binding_identifier}
+use Rattle.js_grammar.proofs.Calculus.{fails_alt, fails_rule, weaken_fails_on, reads_empty_slot}
+use Rattle.js_grammar.proofs.FollowLaws.{same_read}
+use Rattle.js_lex.specs.Reading.{cut, is_right_angle, GivesLexeme, GivesNone, LexemeBehind, Outcome as Given}
+use Rattle.js_lex.proofs.Again.{cut_same}
+use Rattle.js_lex.specs.States.{goal_of}
+use Rattle.js_base.specs.declared.diagnostic.Diagnostic.{Diagnostic}
+use Rattle.js_base.specs.declared.kind.Kind.TheVariants.{Undetermined}
+use Rattle.js_grammar.specs.Lexed.{Lex as StandsBehind, all_faults}
+use Rattle.js_grammar.specs.Lexemes.{is_escaped}
+use Rattle.js_grammar.specs.Marks.{Mark, a_lexeme}
+use Rattle.js_cursor.specs.Moves.{Peeks}
+use Rattle.js_cursor.specs.Places.{goal}
+use Rattle.js_tree.specs.declared.id.NodeId.{NodeId}
+use Rattle.js_tree.specs.declared.kind.NodeKind.TheVariants as node_kind
+use Rattle.js_tree.specs.declared.op.Op.TheVariants as op_made
+use Rattle.js_tree.specs.Nodes.{Node}
+use Rattle.js_tree.specs.Holding.{Holds, Keeps}
+use Rattle.js_tree.proofs.HoldingLemmas.{Holds-wider, HoldsAll-one, HoldsAll-hole, Keeps-longer, Keeps-refl, Keeps-trans, Keeps-made}
+use Rattle.js_cursor.specs.Checkpoints.{Remembers, GoesBack, GoesOn}
+use Rattle.js_cursor.specs.declared.checkpoint.ParserCheckpoint.{ParserCheckpoint}
+use Rattle.js_cursor.specs.declared.stop.Stop.{Stop}
+use Rattle.js_cursor.specs.declared.stop.Stop.TheVariants.{Fatal}
+use Rattle.js_parsing.specs.Stands.{StandsHere}
+use Rattle.js_parsing.proofs.Giving.{fails_escaped}
+use Rattle.js_cursor.specs.Moves.{is_last}
+use Rattle.js_cursor.specs.Parsers.{Parser}
+use Rattle.js_cursor.specs.Places.{IsAt}
+use Rattle.js_cursor.proofs.Changing.{came_back, back_follows}
+use Rattle.js_cursor.proofs.Later.{keeps_follows}
+use Rattle.js_parsing.specs.Answers.{Underived, Answer, Answers, Numbered, Outcome, Refuses, Stretch, Stops, Grown, Verdict, clean, unclean}
+use Rattle.js_cursor.specs.Notes.{Notes}
+use Rattle.js_parsing.specs.Contexts.{arrow_body}
+use Rattle.js_expressions.specs.Arrows.{head_of, late_arrow, ArrowBehind, BeforeArrow, a_head, refused, ChecksLine, FindsHead, Head, LooksForHead, IsHead, IsHeadHere, IsRefusedHead, NoArrowHere, NoHeadHere, Single, Unmoved}
+use Rattle.js_parsing.specs.Heads.{NoHead, NotedHeads}
+use Rattle.js_cursor.specs.Tokens.{may_be_read_again}
+use Rattle.js_parsing.proofs.KeptTokens.{before_back, last_back}
+use Rattle.js_parsing.specs.Lexemes.{Lex, spot}
+use Rattle.js_parsing.specs.Moves.{Moved, MadeHere, LeafTaken, TakesLeaf, plain_label}
+use Rattle.js_parsing.specs.States.{At, Same, Standing, flags_of, IsPlain, whole, sign, nothing as nothing_here}
+use Rattle.js_targets.proofs.ArraysBeforeSigns.{not_wide}
+use Rattle.js_targets.proofs.Assigned.{arrow_passes, only_arrow}
+use Rattle.js_expressions.proofs.Assignments.{by_second, second}
+use Rattle.js_expressions.proofs.Conditionals.{conditional_none}
+use Rattle.js_parsing.proofs.Signs.{other_kind, plain_sign}
+use Rattle.js_parsing.proofs.Dead.{live, lives, fails_dead}
+use Rattle.js_expressions.proofs.Exponents.{longer}
+use Rattle.js_parsing.proofs.Told.{beside_errors}
+use Rattle.js_parsing.proofs.Giving.{kept_one}
+use Rattle.js_parsing.proofs.Here.{alike, angled, found, plainly, one_plain, newline_here, told, uncut}
+use Rattle.js_parsing.proofs.MadeNodes.{leaf_held, node_held, two_held}
+use Rattle.js_parsing.proofs.Moving.{beside_nodes, flags_same, heads_kept, same_both, same_itself, same_with, stops_behind}
+use Rattle.js_operands.proofs.Operands.{by_path, by_such, name_test}
+use Rattle.js_patterns.proofs.Bindings.{bound_path, ended_by, then_any}
+use Rattle.js_parsing.proofs.Paths.{reads, Path, ◌⟼◌, ◌⟶◌, ◌⟶✗◌, fails_at, token, last_called, noded, noded_by, by_symbol_as, label_here, read_of, walked_both, walked_from, walked_one}
+use Rattle.js_parsing.proofs.Signs.{none_kept, plain_of}
+use Rattle.js_parsing.proofs.Ahead.{pass_over, reads_other}
+use Rattle.js_parsing.proofs.Tight.{read_plain}
+use Rattle.js_parsing.proofs.Verdicts.{grown_first, grown_then, grown_both}
+
+-- ---- what begins like a head, with `=>` behind it, is no operand
+
+none_open : {b : ℕ} {s : List ℕ} → Some [] ≡ Some (b ∷ s) → ⊥
+none_open e = cc
+
+-- two lists of lexemes from one place go on alike
+agree : (text : List ℕ) (s : ℕ) {st : List ℕ} {ls ls' r r' : Lexemes} {e e' : ℕ} → Lexes (Lex text) s ls → Lexes (Lex text) s ls' → One st ls e r → One st ls' e' r' → (e ≡ e') × Lexes (Lex text) e r × Lexes (Lex text) e' r'
+agree text s l m (the_last {x = x} p) (the_last {x = y} q) = (ap (λ (z : Lexeme). z.to) (alike l.0 m.0), l.1, m.1)
+agree text s {st = st} l m (the_last {x = x} p) (and_more {x = y} q o) = absurd (none_open (sym p ∙ (ap (λ (z : Lexeme). move (bracket z.kind) st) (alike l.0 m.0) ∙ q)))
+agree text s {st = st} l m (and_more {x = x} p o) (the_last {x = y} q) = absurd (none_open (sym q ∙ (ap (λ (z : Lexeme). move (bracket z.kind) st) (sym (alike l.0 m.0)) ∙ p)))
+agree text s {st = st} {r' = r'} {e' = e'} l m (and_more {b = b} {s = t} {x = x} p o) (and_more {b = c} {s = u} {x = y} {ls = ls'} q o') =
+    let w : x ≡ y = alike l.0 m.0 in
+    let v : Some (c ∷ u) ≡ Some (b ∷ t) = sym q ∙ (ap (λ (z : Lexeme). move (bracket z.kind) st) (sym w) ∙ p) in
+    let z : c ∷ u ≡ b ∷ t = cc in
+    agree text x.to l.1 (subst (λ (x : Lexeme). Lexes (Lex text) x.to ls') (sym w) m.1) o (subst (λ (n : List ℕ). One n ls' e' r') z o')
+
+-- an arrow binds tighter than any operator
+abbrev an_arrow : Look
+an_arrow k w e = same_kind Arrow k && not e
+
+arrow_binds : (b : Bool) (r : Row) → of_operand r ≡ true → covers an_arrow (λ k w e. not (looser 4 b r k w e)) ≡ true
+unfolding covers
+arrow_binds true after_expression h = refl
+arrow_binds true after_postfix h = refl
+arrow_binds false after_expression h = refl
+arrow_binds false after_postfix h = refl
+arrow_binds b after_body h = absurd (false≢true h)
+arrow_binds b after_yield h = absurd (false≢true h)
+arrow_binds b after_declarator h = absurd (false≢true h)
+arrow_binds b after_word h = absurd (false≢true h)
+
+contrary : (b : Bool) → not b ≡ true → b ≡ true → ⊥
+contrary true h e = false≢true h
+contrary false h e = false≢true e
+
+pub no_operand : {text : List ℕ} (f : Flags) {s : ℕ} {ls r : Lexemes} {e : ℕ} → Lexes (Lex text) s ls → One [] ls e r → IsTrue (seen begins_head (here ls)) → same_kind Arrow (here r).kind ≡ true → Underived text (at Short f) s
+no_operand {text} f {s} {ls} {r} {e} l o b k = record { no = λ ts vs j ls' rest m d a. go ts m d a }
+  where
+    go : (ts : Slots) {vs : Slots} {j : ℕ} {ls' rest : Lexemes} → Lexes (Lex text) s ls' → Takes rule (such (at Short f) always) end ts s ls' vs j rest → Admits (after (at Short f)) ts (here rest) → ⊥
+    go ts {ls' = ls'} {rest = rest} m d a =
+        let same : here ls ≡ here ls' = alike (here_at (Lex text) ls l) (here_at (Lex text) ls' m) in
+        let z = operand_taken (at Short f) refl d (subst (λ (y : Lexeme). IsTrue (seen begins_head y)) same b) in
+        let g = agree text s l m o z.2 in
+        let w : here r ≡ here z.1 = alike (here_at (Lex text) r g.1) (subst (λ (v : ℕ). Lex text v (here z.1)) (sym g.0) (here_at (Lex text) z.1 g.2)) in
+        let arrow : same_kind Arrow (here z.1).kind ≡ true = subst (λ (y : Lexeme). same_kind Arrow y.kind ≡ true) w k in
+        let read : Lex text e (here r) = here_at (Lex text) r g.1 in
+        elim z.3 [
+          | inl q ↦
+              let t : here rest ≡ here r = ap here q ∙ sym w in
+              contrary (seen (looser 4 f.in_ (first_row ts)) (here rest)) (covered an_arrow (λ k w e. not (looser 4 f.in_ (first_row ts) k w e)) (arrow_binds f.in_ (first_row ts) (row_claimed d)) (here rest).kind (here rest).newline (here rest).escaped (subst (λ (y : Lexeme). IsTrue (seen an_arrow y)) (sym t) (and_from _ _ k (ap not (read_plain (here r) read.1))))) a.1
+          | inr n ↦ false≢true (sym n ∙ arrow)
+        ]
+
+-- what may bind is no parenthesis
+abbrev binds_name : Look
+binds_name k w e = may_bind k
+
+abbrev a_paren : Look
+a_paren k w e = same_kind LParen k
+
+names_apart : apart binds_name a_paren ≡ true
+unfolding apart
+names_apart = refl
+
+no_paren : (k : Kind) → may_bind k ≡ true → same_kind LParen k ≡ false
+no_paren k h = go (same_kind LParen k) refl
+  where
+    go : (b : Bool) → same_kind LParen k ≡ b → same_kind LParen k ≡ false
+    go true e = absurd (not_both binds_name a_paren names_apart k false false h e)
+    go false e = e
+
+binds : (f : Flags) (x : Lexeme) → IsTrue (seen (name_test f) x) → may_bind x.kind ≡ true
+binds f x q = (and_parts (may_bind x.kind) (not (same_kind Yield x.kind && f.yield_)) (and_parts (may_bind x.kind && not (same_kind Yield x.kind && f.yield_)) (not (same_kind Await x.kind && f.await_)) q).0).0
+
+-- the lexemes of a head
+pub head_one : {f : Flags} {ks ts us : Slots} {i j : ℕ} {ls rest : Lexemes} → Takes rule (head_of f) ks ts i ls us j rest → (e : ℕ) × One [] ls e rest × IsTrue (seen begins_head (here ls))
+unfolding rule rule_of covers apart
+head_one {f} (is_left (is_node (is_node (is_seq (is_such (is_node (is_lexeme {x = x} {ls = ls} q)) c) is_empty_slot)))) =
+    let b : IsTrue (seen begins_head x) = or_left (may_bind x.kind) (same_kind LParen x.kind) (binds f x q) in
+    (x.to, the_last (one_name x ls b (no_paren x.kind (binds f x q))), b)
+head_one {i = i} (is_right (is_such (is_node (is_seq (is_lexeme {x = x} q) e)) c)) =
+    let z = in_one {i = i} (is_seq (is_lexeme {p = is LParen} q) e) refl in
+    (z.0, z.1, or_right (may_bind x.kind) (same_kind LParen x.kind) (and_parts (same_kind LParen x.kind) _ q).0)
+
+-- ---- the line of arrow functions
+
+abbrev body_slots : Flags → G
+body_slots f = symbol Body (record (arrow_body f) { in_ = true; return_ = true }) ◇ if_next (other (is LCurly)) ▸ symbol Assignment (arrow_body f)
+
+abbrev behind_head : Flags → G
+behind_head f = no_newline ▸ tok Arrow ▸ body_slots f
+
+abbrev arrow_slots : Flags → G
+arrow_slots f = nothing ▸ head_of f ▸ behind_head f
+
+abbrev arrow_made : Make
+arrow_made = record { kind = arrow_function_expression; op = no_op; flags = 0; extent = exact }
+
+abbrev not_async : Flags → Flags
+not_async f = record f { await_ = f.await_ || false }
+
+or_false : (b : Bool) → (b || false) ≡ b
+or_false true = refl
+or_false false = refl
+
+arrow_left : (f : Flags) → live (rule (at Arrow' f)) ≡ node arrow_made (nothing ▸ head_of (not_async f) ▸ behind_head f)
+unfolding rule rule_of apart
+arrow_left f = refl
+
+module _ {text : List ℕ} (f : Flags) where
+  to_line : {X : Test} {s : ℕ} → Goes rule (Lex text) X end (rule (at Arrow' f)) s (node arrow_made (arrow_slots f)) s (λ us. us) (still 0)
+  to_line {X} {s} = subst (λ (g : Flags). Goes rule (Lex text) X end (rule (at Arrow' f)) s (node arrow_made (nothing ▸ head_of g ▸ behind_head f)) s (λ us. us) (still 0)) (ap (λ (b : Bool). record f { await_ = b }) (or_false f.await_))
+      (subst (λ (g : G). Goes rule (Lex text) X end (rule (at Arrow' f)) s g s (λ us. us) (still 0)) (arrow_left f) (lives (rule (at Arrow' f))))
+
+  no_arrow : {s : ℕ} → Fails rule (Lex text) (plain full) end (head_of f ▸ behind_head f) s → Underived text (at Arrow' f) s
+  no_arrow n = fails_by (to_line ▹✗ fails_node inside_full (done ▹✗ n))
+
+-- ---- where none is derived
+
+-- neither a name nor a parenthesis stands here
+pub no_head_here : {text : List ℕ} {f : Flags} {p : Parser} → At text f p → one_of_kinds (Ident ∷ LParen ∷ []) p.token.kind ≡ false → Underived text (at Arrow' f) p.prev_token_end
+unfolding covers apart
+no_head_here {f = f} a n = no_arrow f (fails_at a (head_of f ▸ behind_head f) (Ident ∷ LParen ∷ []) refl n)
+
+-- no `=>` stands behind the first name or parentheses
+one_arrow : {text : List ℕ} {f : Flags} {s : ℕ} {X : Test} → ((ls mid : Lexemes) (e : ℕ) → Lexes (Lex text) s ls → One [] ls e mid → same_kind Arrow (here mid).kind ≡ true → ⊥) → Fails rule (Lex text) X end (head_of f ▸ behind_head f) s
+one_arrow {text} {f} {s} n = record { no = λ ts vs k ls rest l d e. go ts vs k ls rest l d }
+  where
+    go : (ts vs : Slots) (k : ℕ) (ls rest : Lexemes) → Lexes (Lex text) s ls → Takes rule (head_of f ▸ behind_head f) end ts s ls vs k rest → ⊥
+    go ts vs k ls rest l (is_seq {mid = mid} d (is_seq (is_look w) (is_seq (is_lexeme {x = x} q) e))) = let z = head_one d in n ls mid z.0 l z.1 (and_parts (same_kind Arrow x.kind) _ q).0
+
+pub no_arrow_behind : {text : List ℕ} {f : Flags} {p : Parser} → At text f p → p.token.kind ≡ Ident → ((y : Lexeme) → Lex text p.token.span.end y → y.kind ≡ Arrow → ⊥) → Underived text (at Arrow' f) p.prev_token_end
+unfolding bracket move
+no_arrow_behind {text} {f} {p} a k n = no_arrow f (one_arrow (λ ls mid e l o q. go ls mid e l o q))
+  where
+    there : (x : Lexeme) → Lex text p.prev_token_end x → (x.kind ≡ Ident) × (p.token.span.end ≡ x.to)
+    there x l = let t = told a (uncut a (ap (same_kind RAngle) k)) x l in (sym t.kind ∙ k, t.end)
+
+    go : (ls mid : Lexemes) (e : ℕ) → Lexes (Lex text) p.prev_token_end ls → One [] ls e mid → same_kind Arrow (here mid).kind ≡ true → ⊥
+    go ls mid e l (the_last {x = x} m) q = n (here mid) (subst (λ (v : ℕ). Lex text v (here mid)) (sym (there x l.0).1) (here_at (Lex text) mid l.1)) (sym (kind_of_same Arrow (here mid).kind q))
+    go ls mid e l (and_more {b = b} {s = t} {x = x} m o) q = none_open (subst (λ (v : Kind). move (bracket v) [] ≡ Some (b ∷ t)) (there x l.0).0 m)
+
+module _ {text : List ℕ} {f : Flags} {p : Parser} (a : At text f p) where
+  name_only : {X : Test} → p.token.kind ≡ Ident → Fails rule (Lex text) X end (symbol Params f) p.prev_token_end
+  unfolding covers apart
+  name_only k = fails_at a (symbol Params f) (LParen ∷ []) refl (ap (one_of_kinds (LParen ∷ [])) k)
+
+  -- a name as the parameters
+  name_path : {q : Parser} → p.token.kind ≡ Ident → p.token.escaped ≡ false → Moved text f p q → Path text f (plain full) (head_of f) p nothing q (tree (label_here formal_parameters no_op p q) (tree (label_here formal_parameter no_op p q) (tree (label_here binding_identifier no_op p q) end (hole end)) end))
+  name_path k e m = left (name_only k) ⟼ noded a (noded a (ended_by (then_any (bound_path a k e m)) reads_empty_slot))
+
+  -- parentheses as the parameters
+  no_name : {X : Test} → p.token.kind ≡ LParen → Fails rule (Lex text) X end (mk formal_parameters (mk formal_parameter (symbol BindingIdentifier f ▸ empty_slot))) p.prev_token_end
+  unfolding covers apart
+  no_name k = fails_at a (mk formal_parameters (mk formal_parameter (symbol BindingIdentifier f ▸ empty_slot))) (Ident ∷ []) refl (ap (one_of_kinds (Ident ∷ [])) k)
+
+  no_parameters : Underived text (at Params f) p.prev_token_end → NoHead text f p.prev_token_end
+  no_parameters n = part_fails {X' = plain full} (weaken_fails_on n (record { admits = λ ts vs k ls rest d e. (refl, refl) })) (record { admits = λ ts us vs j k ls mid rest d d' e. (refl, refl) })
+
+  -- where no head in parentheses stands, no arrow function begins with a parenthesis
+  pub no_head_no_arrow : p.token.kind ≡ LParen → NoHead text f p.prev_token_end → Underived text (at Arrow' f) p.prev_token_end
+  no_head_no_arrow k n = no_arrow f (record { no = λ ts vs j ls rest l d e. go ts vs j ls rest l d })
+    where
+      go : (ts vs : Slots) (j : ℕ) (ls rest : Lexemes) → Lexes (Lex text) p.prev_token_end ls → Takes rule (head_of f ▸ behind_head f) end ts p.prev_token_end ls vs j rest → ⊥
+      go ts vs j ls rest l (is_seq {us = us} {j = i} {mid = mid} (is_left d) e) = (no_name {X = plain full} k).no ts us i ls mid l d (refl, refl)
+      go ts vs j ls rest l (is_seq {us = us} (is_right d) (is_seq (is_look w) (is_seq {j = i} {mid = mid} (is_lexeme q) e))) = n.no ts us i ls mid l (is_seq d (is_lexeme q)) (refl, refl)
+
+  module _ {q : Parser} (k : p.token.kind ≡ LParen) (x : Answer text f (at Params f) p q) where
+    parameters_path : Path text f (plain full) (head_of f) p nothing q (tree x.label x.slots)
+    parameters_path = right (no_name k) ⟼ last_called x (record { admits = λ ts vs k ls rest d e. (refl, refl) })
+
+  module _ {q : Parser} (x : Answer text f (at Params f) p q) where
+    parameters_alone : Path text f (plain full) (symbol Params f) p nothing q (tree x.label x.slots)
+    parameters_alone = last_called x (record { admits = λ ts vs k ls rest d e. (refl, refl) })
+
+    -- no `=>` stands behind them
+    unarrowed : (q.token.kind ≡ Arrow → ⊥) → NoHead text f p.prev_token_end
+    unfolding covers apart
+    unarrowed n = then_any parameters_alone ⟶✗ fails_at x.at {X = plain full} (tok Arrow) (Arrow ∷ []) refl (other_kind Arrow q.token.kind n)
+
+    -- something was told of them
+    unclean_head : (length q.errors ≡ length p.errors → ⊥) → NoHead text f p.prev_token_end
+    unclean_head n = elim x.verdict [
+      | clean e y ↦ absurd (n (ap length e))
+      | unclean g z ↦ no_parameters z
+    ]
+
+arrow_plain : (is_word Arrow || same_kind PrivateIdentifier Arrow) ≡ false
+unfolding words
+arrow_plain = refl
+
+-- ---- what stands behind a name
+
+module _ {text : List ℕ} {f : Flags} {p : Parser} {t : Token} (a : At text f p) (h : Peeks p t) where
+  behind_it : Given division cut p.lexer.goal text p.token.span.end t [] h.next.faults
+  behind_it = subst (λ (v : List ℕ). Given division cut p.lexer.goal v p.token.span.end t [] h.next.faults) (a.at.reads ∙ a.text_is)
+      (subst (λ (v : ℕ). Given division cut p.lexer.goal p.lexer.text v t [] h.next.faults) a.at.last h.next.outcome)
+
+  given_behind : {A : Type 0} → ((d : Diagnostic) → t.kind ≡ Undetermined → GivesNone division p.lexer.goal text p.token.span.end t d → A) → (GivesLexeme division cut text p.token.span.end t → A) → A
+  given_behind {A} n g = go (same_kind Undetermined t.kind) refl behind_it
+    where
+      go : (r : Bool) → same_kind Undetermined t.kind ≡ r → elim r as (λ _. Type 0) [ true ↦ (d : Diagnostic) × (h.next.faults ≡ d ∷ []) × GivesNone division p.lexer.goal text p.token.span.end t d | false ↦ (h.next.faults ≡ []) × GivesLexeme division cut text p.token.span.end t ] → A
+      go true q x = n x.0 (sym (kind_of_same Undetermined t.kind q)) x.2
+      go false q x = g x.1
+
+  -- an arrow is told where it stands
+  pub arrow_peeked : (y : Lexeme) → Lex text p.token.span.end y → y.kind ≡ Arrow → t.kind ≡ Arrow
+  arrow_peeked y l k = given_behind
+      (λ d u n. absurd (n.none y (record { lex = l.0; of_goal = plainly l.0 l.1 })))
+      (λ x. x.tells.kind ∙ (ap (λ (z : Lexeme). z.kind) (cut_same x.lexeme (ap is_right_angle (ap (λ (z : Lexeme). z.kind) (sym (one_plain l x)) ∙ k))) ∙ (ap (λ (z : Lexeme). z.kind) (sym (one_plain l x)) ∙ k)))
+
+  pub arrow_told : t.kind ≡ Arrow → (y : Lexeme) × Lex text p.token.span.end y × (y.kind ≡ Arrow)
+  arrow_told k = given_behind (λ d u n. let w : Arrow ≡ Undetermined = sym k ∙ u in absurd (cc)) (λ x. by x (is_right_angle x.lexeme.kind) refl)
+    where
+      by : (x : GivesLexeme division cut text p.token.span.end t) → (b : Bool) → is_right_angle x.lexeme.kind ≡ b → (y : Lexeme) × Lex text p.token.span.end y × (y.kind ≡ Arrow)
+      by x true e = let w : RAngle ≡ Arrow = (let c : (cut x.lexeme).kind ≡ RAngle = rw (e, cut) refl in sym c ∙ (sym x.tells.kind ∙ k)) in absurd (cc)
+      by x false e =
+          let i : x.lexeme.kind ≡ Arrow = ap (λ (z : Lexeme). z.kind) (sym (cut_same x.lexeme e)) ∙ (sym x.tells.kind ∙ k) in
+          let n : x.lexeme.escaped ≡ false = plain_of Arrow x.stands.lex.word x.lexeme.escaped (subst (λ (v : Kind). x.lexeme.escaped ≡ is_escaped v x.stands.lex.word) i x.stands.lex.escaped) arrow_plain in
+          (x.lexeme, (x.stands.lex, read_of x.lexeme i n refl), i)
+
+-- ---- what is answered of a head
+
+head_of_path : {text : List ℕ} {f : Flags} {p q : Parser} (w : Parser) {l : Label} {cs : Slots} {id : NodeId} → Path text f (plain full) (head_of f) p nothing q (tree l cs) → q.errors ≡ p.errors → Same p q → w ≡ record q { nodes = w.nodes } → Holds w.nodes (length p.nodes) (length w.nodes) id.0 l cs → Keeps p.nodes w.nodes → Head text f p w id
+head_of_path {text} {f} {p} {q} w {l} {cs} {id} r e s n h k = go w.nodes n h k
+  where
+    go : (ns : List Node) → w ≡ record q { nodes = ns } → Holds w.nodes (length p.nodes) (length w.nodes) id.0 l cs → Keeps p.nodes w.nodes → Head text f p w id
+    go ns n h k = subst (λ (z : Parser). Head text f p z id) (sym n) (record {
+      at = beside_nodes ns r.at;
+      same = same_with ns s (subst (λ (z : Parser). Keeps p.nodes z.nodes) n k);
+      further = r.further;
+      kept = e;
+      label = l;
+      slots = cs;
+      pass = r.pass;
+      walked = r.walked;
+      read = none_kept r.verdict (ap length e);
+      holds = subst (λ (z : Parser). Holds z.nodes (length p.nodes) (length z.nodes) id.0 l cs) n h;
+      keeps = subst (λ (z : Parser). Keeps p.nodes z.nodes) n k;
+    })
+
+-- so the arrow that stands behind is the token
+pub arrow_is_here : {text : List ℕ} {f : Flags} {p : Parser} → At text f p → (y : Lexeme) → Lex text p.prev_token_end y → y.kind ≡ Arrow → p.token.kind ≡ Arrow
+arrow_is_here {p = p} a y l k = by p.cut refl
+  where
+    by : (b : Bool) → p.cut ≡ b → p.token.kind ≡ Arrow
+    by true e = absurd (false≢true (ap is_right_angle (sym k) ∙ angled a e y l))
+    by false e = (told a e y l).kind ∙ k
+
+pub behind_so : (p q : Parser) {b r : Bool} → r ≡ b → ArrowBehind p q r → ArrowBehind p q b
+behind_so p q e h = subst (λ (v : Bool). ArrowBehind p q v) e h
+
+pub unmoved : {p q : Parser} → q ≡ p → Unmoved p q
+unmoved {p} e = subst (Unmoved p) (sym e) (record { at = λ text f a. a; same = same_itself; kept = refl; place = refl; spot_is = refl; start = refl; keeps = Keeps-refl p.nodes })
+
+-- the node of a name stands before the arrow
+pub name_found : {p q w : Parser} {id : NodeId} → Standing p → ArrowBehind p q true → p.token.escaped ≡ false → Single q w id → IsHeadHere p w id
+name_found {p} {q} {w} {id} a b e s =
+    let z = subst (λ (v : Parser). Single v w id) b.0 s in
+    let y = b.1 _ _ a in
+    (arrow_is_here (z.1 _ _ a e).at y.0 (subst (λ (v : ℕ). Lex p.text v y.0) (sym z.0) y.1) y.2, λ text f a. z.1 text f a e)
+
+-- parameters in parentheses
+pub parenthesized_head : {text : List ℕ} {f : Flags} {p q : Parser} {id : NodeId} → At text f p → p.token.kind ≡ LParen → Numbered text f (at Params f) p q id → length q.errors ≡ length p.errors → Head text f p q id
+parenthesized_head {p = p} {q = q} a k x e = head_of_path q (parameters_path a k x.answer) (by x.answer.verdict) x.answer.same refl x.holds x.keeps
+  where
+    by : {C B : Type 0} → Verdict p.errors q.errors C B → q.errors ≡ p.errors
+    by (clean i c) = i
+    by (unclean g n) = absurd (longer g (sym e))
+
+-- a name
+pub single_head : {text : List ℕ} {f : Flags} {p q v w : Parser} {name parameter id : NodeId} (s : Span) → At text f p → p.token.kind ≡ Ident → p.token.escaped ≡ false → s ≡ p.token.span → LeafTaken node_kind.BindingIdentifier op_made.None text f p q name → MadeHere (plain_label node_kind.FormalParameter op_made.None s) (Some name ∷ None ∷ []) q v parameter → MadeHere (plain_label node_kind.FormalParameters op_made.None s) (Some parameter ∷ []) v w id → Head text f p w id
+single_head {text} {f} {p} {q} {v} {w} {name} {parameter} {id} s a k e b t n m =
+    let i : p.token.span.end ≡ t.mid.prev_token_end = t.moved.tells.end ∙ t.moved.ends in
+    let ks : Keeps p.nodes t.mid.nodes = subst (λ (ns : List Node). Keeps p.nodes ns) (sym t.moved.nodes) (Keeps-refl p.nodes) in
+    let h = leaf_held t.made ks in
+    let kq : Keeps p.nodes q.nodes = Keeps-trans ks (Keeps-made t.made.made) in
+    let hv = node_held n (HoldsAll-hole (HoldsAll-one name h)) in
+    let kv : Keeps p.nodes v.nodes = Keeps-trans kq (Keeps-made n.made) in
+    let hw = node_held m (HoldsAll-one parameter hv) in
+    head_of_path w (subst (λ (x : ℕ). Path text f (plain full) (head_of f) p nothing t.mid (tree (label_to formal_parameters x) (tree (label_to formal_parameter x) (tree (label_to binding_identifier x) end (hole end)) end))) (sym i) (name_path a k e t.moved)) t.moved.kept t.moved.same (m.stays ∙ ap (λ (z : Parser). record z { nodes = w.nodes }) (n.stays ∙ ap (λ (z : Parser). record z { nodes = v.nodes }) t.made.stays))
+    (subst (λ (x : Span). Holds w.nodes (length p.nodes) (length w.nodes) id.0 (plain_label node_kind.FormalParameters op_made.None x) (tree (plain_label node_kind.FormalParameter op_made.None x) (tree (label_to binding_identifier p.token.span.end) end (hole end)) end)) b hw) (Keeps-trans kv (Keeps-made m.made))
+  where
+    label_to : NodeKind → ℕ → Label
+    label_to n x = record { kind = n; op = no_op; flags = 0; span = record { from = p.token.span.start; to = x } }
+
+pub single_place : {p q v w : Parser} {k : _} {o : _} {l m : Label} {ids js : List (Option NodeId)} {name parameter id : NodeId} → Standing p → TakesLeaf k o p q name → MadeHere l ids q v parameter → MadeHere m js v w id → w.prev_token_end ≡ p.token.span.end
+single_place a t n m = let x = t _ _ a in ap (λ (z : Parser). z.prev_token_end) m.stays ∙ (ap (λ (z : Parser). z.prev_token_end) n.stays ∙ (ap (λ (z : Parser). z.prev_token_end) x.made.stays ∙ sym (x.moved.tells.end ∙ x.moved.ends)))
+
+module _ {p q : Parser} {kept : ℕ} (a : Standing p) (k : p.token.kind ≡ LParen) (n : kept ≡ length p.errors) where
+  -- parameters, and whether they are a head
+  pub head_read : {id : NodeId} → Answers (at Params) p q (Ok id) → IsHead kept q true → IsHeadHere p q id
+  head_read x h = (h.1, λ text f a. parenthesized_head a k (x text f a) (h.0 ∙ n))
+
+  pub head_unread : {id : NodeId} → Answers (at Params) p q (Ok id) → IsHead kept q false → GoesOn p q × NotedHeads q × NoHeadHere p
+  head_unread x h = let y = (x _ _ a).answer in ((y.same.follows, y.at.at), y.at.heads, λ text f a. by h (x text f a).answer a)
+    where
+      by : {text : List ℕ} {f : Flags} → (length q.errors ≡ kept → ⊥) ⊎ (q.token.kind ≡ Arrow → ⊥) → Answer text f (at Params f) p q → At text f p → NoHead text f p.prev_token_end
+      by (inl m) x a = unclean_head a x (λ e. m (e ∙ sym n))
+      by (inr m) x a = unarrowed a x m
+
+pub head_refused : {p q : Parser} (e : Stop) → Standing p → e ≡ Fatal → ((text : List ℕ) (f : Flags) → At text f p → Stops p q e (Underived text (at Params f) p.prev_token_end)) → GoesOn p q × NotedHeads q × NoHeadHere p
+head_refused {p} {q} e a i s = go (λ text f b. subst (λ (v : Stop). Stops p q v (Underived text (at Params f) p.prev_token_end)) i (s text f b))
+  where
+    go : ((text : List ℕ) (f : Flags) → At text f p → Refuses p q (Underived text (at Params f) p.prev_token_end)) → GoesOn p q × NotedHeads q × NoHeadHere p
+    go x = let y = x _ _ a in ((y.follows, y.at), y.heads, λ text f b. no_parameters b (x text f b).none)
+
+pub some_found : (p q : Parser) (id : NodeId) (r : Option NodeId) → r ≡ Some id → FindsHead p q r → IsHeadHere p q id
+some_found p q id r e h = subst (FindsHead p q) e h
+
+pub none_found : (p q : Parser) (r : Option NodeId) → r ≡ None → FindsHead p q r → Unmoved p q × NoArrowHere p
+none_found p q r e h = subst (FindsHead p q) e h
+
+pub none_looked : (p q : Parser) (r : Option NodeId) → r ≡ None → LooksForHead p q r → GoesOn p q × NotedHeads q × NoHeadHere p
+none_looked p q r e h = subst (LooksForHead p q) e h
+
+pub some_looked : (p o q : Parser) (id : NodeId) (r : Option NodeId) → o ≡ p → r ≡ Some id → LooksForHead o q r → IsHeadHere p q id
+some_looked p o q id r s e h = subst (λ (z : Parser). IsHeadHere z q id) s (subst (LooksForHead o q) e h)
+
+pub head_so : (kept : ℕ) (q : Parser) {b r : Bool} → r ≡ b → IsHead kept q r → IsHead kept q b
+head_so kept q e h = subst (λ (v : Bool). IsHead kept q v) e h
+
+pub refused_so : (kept : ℕ) (p : Parser) {r : Bool} → r ≡ true → IsRefusedHead kept p r → (length p.errors ≡ kept → ⊥) × (p.token.kind ≡ Arrow)
+refused_so kept p e h = subst (λ (b : Bool). IsRefusedHead kept p b) e h
+
+two_kinds : (k : Kind) → (k ≡ Ident → ⊥) → (k ≡ LParen → ⊥) → one_of_kinds (Ident ∷ LParen ∷ []) k ≡ false
+two_kinds k n m = go (same_kind Ident k) refl
+  where
+    go : (b : Bool) → same_kind Ident k ≡ b → (b || one_of_kinds (LParen ∷ []) k) ≡ false
+    go true e = absurd (n (sym (kind_of_same Ident k e)))
+    go false e = other_kind LParen k m
+
+-- neither a name nor a parenthesis
+pub neither : {p : Parser} → StandsHere p Ident false → StandsHere p LParen false → NoArrowHere p
+neither {p} n m = λ text f a. by text f p.token.escaped refl a
+  where
+    by : (text : List ℕ) (f : Flags) (b : Bool) → p.token.escaped ≡ b → At text f p → Underived text (at Arrow' f) p.prev_token_end
+    by text f true e a = fails_escaped a e
+    by text f false e a = no_head_here a (two_kinds p.token.kind (λ k. n k e) (λ k. m k e))
+
+-- ---- where the parser is where it was
+
+pub unmoved_none : {p q : Parser} → Standing p → Unmoved p q → NoArrowHere p → NoArrowHere q
+unmoved_none {p} {q} a u n = λ text f b. subst (λ (s : ℕ). Underived text (at Arrow' f) s) (sym u.place) (subst (λ (g : Flags). Underived text (at Arrow' g) p.prev_token_end) (sym (flags_same p q u.same.ctx u.same.follows.source_type u.same.options) ∙ b.flags_are) (subst (λ (t : List ℕ). Underived t (at Arrow' (flags_of p)) p.prev_token_end) (sym u.same.follows.text ∙ b.text_is) (n _ _ a)))
+
+pub from_unmoved : (text : List ℕ) (f : Flags) (n : Symbol) {p q : Parser} (w : Parser) (r : Result NodeId Stop) → Unmoved p q → Outcome text f n q w r → Outcome text f n p w r
+from_unmoved text f n {p} {q} w (Ok id) u x = record {
+  answer = record {
+    at = x.answer.at;
+    same = same_both u.same x.answer.same;
+    further = let a = x.answer.further in let b = u.start in omega arith;
+    label = x.answer.label;
+    slots = x.answer.slots;
+    stops = x.answer.stops;
+    row = x.answer.row;
+    pass = x.answer.pass;
+    walked = walked_from u.spot_is x.answer.walked;
+    verdict = subst (λ (s : ℕ). Verdict p.errors w.errors (Stretch text (after n) (such n always) s nothing w.prev_token_end (tree x.answer.label x.answer.slots) x.answer.pass) (Underived text n s)) u.place
+        (subst (λ (ds : List Diagnostic). Verdict ds w.errors (Stretch text (after n) (such n always) q.prev_token_end nothing w.prev_token_end (tree x.answer.label x.answer.slots) x.answer.pass) (Underived text n q.prev_token_end)) u.kept x.answer.verdict);
+  };
+  holds = Holds-wider (length p.nodes) (length w.nodes) (Keeps-longer u.keeps) (omega arith) x.holds;
+  keeps = Keeps-trans u.keeps x.keeps;
+}
+from_unmoved text f n {p} {q} w (Err e) u s = stops_behind w e u.same.follows (λ g. subst (λ (ds : List Diagnostic). Grown ds w.errors) u.kept g) (λ z. subst (λ (s : ℕ). Underived text n s) u.place z) s
+
+-- ---- the parser goes back
+
+plain_back : {text : List ℕ} {p r : Parser} → r.token ≡ p.token → r.cut ≡ p.cut → r.prev_token_end ≡ p.prev_token_end → IsPlain text p → IsPlain text r
+plain_back {text} {p} {r} t c e (whole d n x) = whole (c ∙ d) (λ k. n (sym (ap (λ z. z.kind) t) ∙ k)) (subst (λ (v : ℕ). GivesLexeme division (λ y. y) text v r.token) (sym e) (subst (λ (v : Token). GivesLexeme division (λ y. y) text p.prev_token_end v) (sym t) x))
+plain_back {text} {p} {r} t c e (sign d k x) = sign (c ∙ d) (ap (λ z. z.kind) t ∙ k) (subst (λ (v : ℕ). GivesLexeme division cut text v r.token) (sym e) (subst (λ (v : Token). GivesLexeme division cut text p.prev_token_end v) (sym t) x))
+plain_back {text} {p} {r} t c e (nothing_here d k n) = nothing_here (c ∙ d) (ap (λ z. z.kind) t ∙ k) (subst (λ (v : ℕ). (y : Lexeme) → LexemeBehind division text v y → ⊥) (sym e) n)
+
+pub went_back : {p q r : Parser} {c : ParserCheckpoint} → may_be_read_again p.token.kind ≡ false → Remembers p c → GoesOn p q → NotedHeads q → GoesBack c q r → Unmoved p r
+went_back {p} {q} {r} o m f n g =
+    let b = came_back m f.0 g in
+    let s : Same p r = record { follows = back_follows m f.0 g; options = g.options ∙ f.0.options; ctx = b.ctx; depth = b.depth; visits = b.visits } in
+    record {
+      at = λ text f a. record { text_is = b.text ∙ a.text_is; flags_are = flags_same p r b.ctx b.source_type s.options ∙ a.flags_are; at = g.at; plain = plain_back b.token b.cut b.prev_token_end a.plain; behind = let i = b.prev_token_end in let j = ap (λ z. z.span.start) b.token in let k = a.behind in omega arith; heads = heads_kept q r g.text g.source_type g.options (ap (λ (z : Notes). z.failed) g.state) n; kept_last = last_back p.lexer r.lexer b.token b.keeps_tokens (b.tokens o) a.kept_last };
+      same = s;
+      kept = b.errors;
+      place = b.prev_token_end;
+      spot_is = λ i. record {
+        source = goal_of (b.source_type i);
+        keeps_tokens = b.keeps_tokens i;
+        place = b.prev_token_end i;
+        kept = record { comments = b.comments i; irregular_whitespaces = b.blanks i; tokens = before_back p.lexer r.lexer b.token b.keeps_tokens (b.tokens o) i; errors = b.faults i };
+      };
+      start = ap (λ z. z.span.start) b.token;
+      keeps = s.follows.nodes;
+    }
+
+-- ---- an arrow function
+
+-- the `=>` that stands here
+arrow_here : {text : List ℕ} {f : Flags} {p : Parser} → At text f p → p.token.kind ≡ Arrow → (y : Lexeme) × Lex text p.prev_token_end y × (same_kind Arrow y.kind ≡ true)
+arrow_here a k =
+    let z = found a (uncut a (ap (same_kind RAngle) k)) (ap is_last k) in
+    let e : z.0.kind ≡ Arrow = sym z.2.kind ∙ k in
+    (z.0, (z.1, read_of z.0 e (sym z.2.escaped ∙ plain_sign Arrow a k refl refl arrow_plain) refl), ap (same_kind Arrow) e)
+
+-- what a later call says of what was kept
+behind : {K : Type 0} {p q r : List K} {C B : Type 0} → Grown p q → Verdict q r C B → Grown p r
+behind g (clean e c) = grown_first g e
+behind g (unclean h n) = grown_both g h
+
+module _ {text : List ℕ} {f : Flags} {o p : Parser} {id : NodeId} (h : Head text f o p id) (k : p.token.kind ≡ Arrow) where
+  head_is_none : Underived text (at Short f) o.prev_token_end
+  head_is_none =
+      let y = arrow_here h.at k in
+      let d = h.read.goes.sound end end p.prev_token_end (last y.0) (last y.0) y.1 (inl h.read.near) is_nothing in
+      let z = head_one d in
+      no_operand f (h.read.goes.passes.lexed (last y.0) y.1) z.1 z.2 y.2
+
+  to_arrow : Goes rule (Lex text) (after (at Assignment f)) end (rule (at Assignment f)) o.prev_token_end (such (at Arrow' f) always) o.prev_token_end (λ us. us) (still 0)
+  to_arrow = only_arrow f (not_wide h.at) (conditional_none f head_is_none) head_is_none
+
+  -- behind two slots may stand what may stand behind the second one
+  inside_arrow : Inside rule arrow_made (after (at Assignment f)) (second f) end (arrow_slots f) o.prev_token_end
+  inside_arrow = record { ends = λ s cs vs j ls mid d e. go s cs vs d e }
+    where
+      go : (s : TreeSpan) (cs vs : Slots) {i j : ℕ} {ls mid : Lexemes} → Takes rule (arrow_slots f) end cs i ls end j mid → Admits (after (at Assignment f)) (tree (record { kind = arrow_function_expression; op = no_op; flags = 0; span = s }) cs vs) (here mid) → Admits (second f) cs (here mid)
+      go s cs vs (is_seq is_nothing (is_seq (is_left (is_node b)) (is_seq (is_look c) (is_seq (is_lexeme d) (is_left (is_such e g)))))) x = x
+      go s cs vs (is_seq is_nothing (is_seq (is_left (is_node b)) (is_seq (is_look c) (is_seq (is_lexeme d) (is_right (is_seq (is_look l) (is_such e g))))))) x = x
+      go s cs vs (is_seq is_nothing (is_seq (is_right (is_such b m)) (is_seq (is_look c) (is_seq (is_lexeme d) (is_left (is_such e g)))))) x = x
+      go s cs vs (is_seq is_nothing (is_seq (is_right (is_such b m)) (is_seq (is_look c) (is_seq (is_lexeme d) (is_right (is_seq (is_look l) (is_such e g))))))) x = x
+
+  on_body : {e : ℕ} → On rule (record { base = widest Assignment; by = λ us. by_second f (tree h.label h.slots us) }) (after (at Assignment (arrow_body f))) end (such (at Assignment (arrow_body f)) always) e
+  on_body = record { admits = λ ts vs j ls rest d e. go ts vs d e }
+    where
+      go : (ts vs : Slots) {i j : ℕ} {ls rest : Lexemes} → Takes rule (such (at Assignment (arrow_body f)) always) end ts i ls vs j rest → Admits (record { base = widest Assignment; by = λ us. by_second f (tree h.label h.slots us) }) ts (here rest) → Admits (after (at Assignment (arrow_body f))) ts (here rest)
+      go ts end (is_such d c) x = x
+      go ts vs (is_such d c) x = absurd (false≢true x.1)
+
+  head_path : Path text f (plain full) (head_of f) o nothing p (tree h.label h.slots)
+  head_path = record { at = h.at; further = h.further; pass = h.pass; walked = h.walked; verdict = clean h.kept h.read }
+
+  -- the line where `=>` stands on a new one
+  late_rule : p.token.is_on_new_line ≡ true → Fails rule (Lex text) (after (at Assignment f)) end (rule (at Assignment f)) o.prev_token_end
+  late_rule w = to_arrow ▹✗ weaken_fails_on (no_arrow f (then_any head_path ⟶✗ part_fails {X' = plain full} (fails_look (λ k n e. not n) (λ y l z. false≢true (sym (ap not (newline_here h.at y l ∙ w)) ∙ z))) (record { admits = λ ts us vs j k ls mid rest d d' e. (refl, refl) }))) (same_read (at Assignment f) (at Arrow' f) arrow_passes refl)
+
+  to_body : {X : Test} {s : ℕ} → Goes rule (Lex text) X end (body_slots f) s (symbol Assignment (arrow_body f)) s (λ us. us) (still 0)
+  unfolding apart
+  to_body = right (fails_dead (symbol Body (record (arrow_body f) { in_ = true; return_ = true })) refl) ▹ pass_over (reads_other (is LCurly) refl)
+
+  module _ (n : p.token.is_on_new_line ≡ false) {r : Parser} (m : Moved text f p r) where
+    body_due : Path text f (second f) (arrow_slots f) o (symbol Assignment (arrow_body f)) r (tree h.label h.slots)
+    body_due = done ⟼ (then_any head_path ⟶ (pass_over (looks (λ k w e. not w) (λ y l. ap not (newline_here h.at y l ∙ n))) ⟼ ended_by (token Arrow h.at k (plain_sign Arrow h.at k refl refl arrow_plain) refl m) to_body))
+
+    body_fails : Underived text (at Assignment (arrow_body f)) r.prev_token_end → Underived text (at Assignment f) o.prev_token_end
+    body_fails z = fails_by (to_arrow ▹✗ fails_rule {X' = after (at Assignment f)} (λ l cs vs y d. d) (to_line f ▹✗ fails_node inside_arrow (body_due ⟶✗ weaken_fails_on z on_body)))
+
+    body_path : {w : Parser} → At text f o → (y : Answer text f (at Assignment (arrow_body f)) r w) → Path text f (after (at Assignment f)) (rule (at Assignment f)) o nothing w (tree (label_here arrow_function_expression no_op o w) (tree h.label h.slots (tree y.label y.slots end)))
+    body_path a y = to_arrow ⟼ by_symbol_as {X' = after (at Assignment f)} (λ l cs vs y d. d) (to_line f ⟼ noded_by a inside_arrow (body_due ⟶ last_called y on_body))
+
+-- whether `=>` stands on a new line was looked at
+pub line_at : {text : List ℕ} {f : Flags} {p q : Parser} → At text f p → ChecksLine p q → At text f q
+line_at {text} {f} a (inl (e, c)) = subst (At text f) (sym c.is) (beside_errors a (subst IsAt c.is c.at))
+line_at {text} {f} a (inr (e, i)) = subst (At text f) (sym i) a
+
+pub line_same : {p q : Parser} → ChecksLine p q → Same p q
+line_same {p} (inl (e, c)) = record { follows = keeps_follows c; options = ap (λ (z : Parser). z.options) c.is; ctx = ap (λ (z : Parser). z.ctx) c.is; depth = ap (λ (z : Parser). z.depth) c.is; visits = ap (λ (z : Parser). z.visits) c.is }
+line_same {p} (inr (e, i)) = subst (λ (z : Parser). Same p z) (sym i) same_itself
+
+pub line_place : {p q : Parser} → ChecksLine p q → q.prev_token_end ≡ p.prev_token_end
+line_place (inl (e, c)) = ap (λ (z : Parser). z.prev_token_end) c.is
+line_place (inr (e, i)) = ap (λ (z : Parser). z.prev_token_end) i
+
+line_spot : {p q : Parser} → ChecksLine p q → spot q ≡ spot p
+line_spot (inl (e, c)) = ap spot c.is
+line_spot (inr (e, i)) = ap spot i
+
+pub line_token : {p q : Parser} → ChecksLine p q → q.token ≡ p.token
+line_token (inl (e, c)) = ap (λ (z : Parser). z.token) c.is
+line_token (inr (e, i)) = ap (λ (z : Parser). z.token) i
+
+line_nodes : {p q : Parser} → ChecksLine p q → q.nodes ≡ p.nodes
+line_nodes (inl (e, c)) = ap (λ (z : Parser). z.nodes) c.is
+line_nodes (inr (e, i)) = ap (λ (z : Parser). z.nodes) i
+
+module _ {text : List ℕ} {f : Flags} {o p q r : Parser} {id : NodeId} (h : Head text f o p id) (k : p.token.kind ≡ Arrow) (c : ChecksLine p q) (m : Moved text f q r) where
+  -- the body can't be read
+  pub arrow_stops : (w : Parser) (e : Stop) → Stops r w e (Underived text (at Assignment (arrow_body f)) r.prev_token_end) → Stops o w e (Underived text (at Assignment f) o.prev_token_end)
+  arrow_stops w e s = go c m s
+    where
+      go : {q : Parser} → ChecksLine p q → Moved text f q r → Stops r w e (Underived text (at Assignment (arrow_body f)) r.prev_token_end) → Stops o w e (Underived text (at Assignment f) o.prev_token_end)
+      go (inl (l, c)) m s = stops_behind w e (same_both h.same (same_both (line_same (inl (l, c))) m.same)).follows (λ g. grown_then h.kept (grown_both (kept_one c) (grown_then m.kept g))) (λ z. fails_by (late_rule h k l)) s
+      go (inr (n, i)) m s = stops_behind w e (same_both h.same (same_both (line_same (inr (n, i))) m.same)).follows (λ g. grown_then (m.kept ∙ (ap (λ (z : Parser). z.errors) i ∙ h.kept)) g) (λ z. body_fails h k n (subst (λ (z : Parser). Moved text f z r) i m) z) s
+
+  arrow_path : {w : Parser} → At text f o → (y : Answer text f (at Assignment (arrow_body f)) r w) → Path text f (after (at Assignment f)) (rule (at Assignment f)) o nothing w (tree (label_here arrow_function_expression no_op o w) (tree h.label h.slots (tree y.label y.slots end)))
+  arrow_path {w} a y = go c m
+    where
+      go : {q : Parser} → ChecksLine p q → Moved text f q r → Path text f (after (at Assignment f)) (rule (at Assignment f)) o nothing w (tree (label_here arrow_function_expression no_op o w) (tree h.label h.slots (tree y.label y.slots end)))
+      go (inr (n, i)) m = body_path h k n (subst (λ (z : Parser). Moved text f z r) i m) a y
+      go {q} (inl (l, c)) m = record {
+        at = y.at;
+        further = let b = h.further in let d = line_place (inl (l, c)) in let e = (line_at h.at (inl (l, c))).behind in let g = m.further in let i = m.at.behind in let j = y.further in omega arith;
+        pass = λ ls. h.pass (next m.lexeme (y.pass ls));
+        walked = walked_both h.walked (walked_both (walked_from (line_spot (inl (l, c))) (walked_one m)) y.walked);
+        verdict = unclean (grown_then h.kept (behind (grown_first (kept_one c) m.kept) y.verdict)) (late_rule h k l);
+      }
+
+  pub arrow_answers : {w z : Parser} {body made : NodeId} (s : Span) → At text f o → (y : Numbered text f (at Assignment (arrow_body f)) r w body) → s.start ≡ o.token.span.start → s.end ≡ w.prev_token_end → MadeHere (plain_label node_kind.ArrowFunctionExpression op_made.None s) (Some id ∷ Some body ∷ []) w z made → Numbered text f (at Assignment f) o z made
+  arrow_answers {w} {z} {body} {made} s a y b d n =
+      let l : plain_label node_kind.ArrowFunctionExpression op_made.None s ≡ label_here arrow_function_expression no_op o w = rw (b, d) refl in
+      let x : MadeHere (label_here arrow_function_expression no_op o w) (Some id ∷ Some body ∷ []) w z made = subst (λ (v : Label). MadeHere v (Some id ∷ Some body ∷ []) w z made) l n in
+      let e : r.nodes ≡ p.nodes = m.nodes ∙ line_nodes c in
+      let g : Holds w.nodes (length p.nodes) (length w.nodes) body.0 y.answer.label y.answer.slots = subst (λ (ns : List Node). Holds w.nodes (length ns) (length w.nodes) body.0 y.answer.label y.answer.slots) e y.holds in
+      let i : Keeps p.nodes w.nodes = subst (λ (ns : List Node). Keeps ns w.nodes) e y.keeps in
+      by_path (arrow_path a y.answer) (same_both h.same (same_both (line_same c) (same_both m.same y.answer.same))) x.stays (λ j u. y.answer.stops j u) y.answer.row (two_held x h.holds h.keeps g i) (Keeps-trans h.keeps (Keeps-trans i (Keeps-made x.made)))
+
+-- ---- and behind what was no head
+
+told_of : {text : List ℕ} {f : Flags} {o p : Parser} {id : NodeId} → Numbered text f (at Assignment f) o p id → (length p.errors ≡ length o.errors → ⊥) → Grown o.errors p.errors × Underived text (at Assignment f) o.prev_token_end
+told_of x n = elim x.answer.verdict [
+  | clean e y ↦ absurd (n (ap length e))
+  | unclean g z ↦ (g, z)
+]
+
+line_grown : {p q : Parser} {ds : List Diagnostic} → ChecksLine p q → Grown ds p.errors → Grown ds q.errors
+line_grown (inl (e, c)) g = grown_both g (kept_one c)
+line_grown (inr (e, i)) g = grown_first g (ap (λ (z : Parser). z.errors) i)
+
+pub before_at : {text : List ℕ} {f : Flags} {o p : Parser} {id : NodeId} → BeforeArrow text f o p id → At text f p
+before_at (a_head h) = h.at
+before_at (refused x n) = x.answer.at
+
+pub before_stops : {text : List ℕ} {f : Flags} {o p q r : Parser} {id : NodeId} → BeforeArrow text f o p id → p.token.kind ≡ Arrow → ChecksLine p q → Moved text f q r → (w : Parser) (e : Stop) → Stops r w e (Underived text (at Assignment (arrow_body f)) r.prev_token_end) → Stops o w e (Underived text (at Assignment f) o.prev_token_end)
+before_stops (a_head h) k c m w e s = arrow_stops h k c m w e s
+before_stops (refused x n) k c m w e s =
+    let t = told_of x n in
+    stops_behind w e (same_both x.answer.same (same_both (line_same c) m.same)).follows (λ g. grown_both (grown_first (line_grown c t.0) m.kept) g) (λ z. t.1) s
+
+pub before_answers : {text : List ℕ} {f : Flags} {o p q r w z : Parser} {id body made : NodeId} → BeforeArrow text f o p id → p.token.kind ≡ Arrow → ChecksLine p q → Moved text f q r → (s : Span) → At text f o → Numbered text f (at Assignment (arrow_body f)) r w body → s.start ≡ o.token.span.start → s.end ≡ w.prev_token_end → MadeHere (plain_label node_kind.ArrowFunctionExpression op_made.None s) (Some id ∷ Some body ∷ []) w z made → Numbered text f (at Assignment f) o z made
+before_answers (a_head h) k c m s a y b d n = arrow_answers h k c m s a y b d n
+before_answers {text} {f} {o} {p} {q} {r} {w} {z} {id} {body} {made} (refused v u) k c m s a y b d n =
+    let t = told_of v u in
+    let l : plain_label node_kind.ArrowFunctionExpression op_made.None s ≡ label_here arrow_function_expression no_op o w = rw (b, d) refl in
+    let x : MadeHere (label_here arrow_function_expression no_op o w) (Some id ∷ Some body ∷ []) w z made = subst (λ (j : Label). MadeHere j (Some id ∷ Some body ∷ []) w z made) l n in
+    let e : r.nodes ≡ p.nodes = m.nodes ∙ line_nodes c in
+    let g : Holds w.nodes (length p.nodes) (length w.nodes) body.0 y.answer.label y.answer.slots = subst (λ (ns : List Node). Holds w.nodes (length ns) (length w.nodes) body.0 y.answer.label y.answer.slots) e y.holds in
+    let i : Keeps p.nodes w.nodes = subst (λ (ns : List Node). Keeps ns w.nodes) e y.keeps in
+    let path : Path text f (after (at Assignment f)) (such (at Assignment f) always) o nothing w (tree (label_here arrow_function_expression no_op o w) (tree v.answer.label v.answer.slots (tree y.answer.label y.answer.slots end))) = record {
+      at = y.answer.at;
+      further = let b = v.answer.further in let d = line_place c in let e = (line_at v.answer.at c).behind in let g = m.further in let i = m.at.behind in let j = y.answer.further in omega arith;
+      pass = λ ls. v.answer.pass (next m.lexeme (y.answer.pass ls));
+      walked = walked_both v.answer.walked (walked_both (walked_from (line_spot c) (walked_one m)) y.answer.walked);
+      verdict = unclean (behind (grown_first (line_grown c t.0) m.kept) y.answer.verdict) t.1;
+    } in
+    by_such path (same_both v.answer.same (same_both (line_same c) (same_both m.same y.answer.same))) x.stays (λ j u. y.answer.stops j u) y.answer.row (two_held x v.holds v.keeps g i) (Keeps-trans v.keeps (Keeps-trans i (Keeps-made x.made)))
+
+-- what is told of `=>` on a new line
+pub late_marked : {text : List ℕ} {f : Flags} {p : Parser} (s : Span) → At text f p → p.token.kind ≡ Arrow → p.token.is_on_new_line ≡ true → s ≡ p.token.span → Mark (goal p) p.text (late_arrow s)
+late_marked {text} {f} {p} s a k w e =
+    let y = found a (uncut a (ap (same_kind RAngle) k)) (ap is_last k) in
+    let m : Mark (goal p) p.text (late_arrow p.token.span) = record {
+      ordered = a.at.lies.ordered;
+      within = a.at.lies.ends_whole.0;
+      begins_between = a.at.lies.starts_whole;
+      ends_between = a.at.lies.ends_whole;
+      stands = (record { lexeme = y.0; of_text = a_lexeme a.at.reached (subst (λ (t : List ℕ). StandsBehind all_faults t p.prev_token_end y.0) (sym a.text_is) y.1); is = (sym y.2.start, sym y.2.end); passes = rw (sym y.2.kind ∙ k, sym y.2.newline ∙ w) refl }, (refl, refl));
+    } in
+    subst (λ (v : Span). Mark (goal p) p.text (late_arrow v)) (sym e) m

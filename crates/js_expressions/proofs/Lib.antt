@@ -1,0 +1,14 @@
+pub mod ArrayAnswers
+pub mod ArraysAssigned
+pub mod Arrows
+pub mod Assignments
+pub mod CoalesceOperands
+pub mod Coalescing
+pub mod Conditionals
+pub mod Exponents
+pub mod FreeOfContext
+pub mod NotedHeads
+pub mod Operations
+pub mod Refusals
+pub mod Sequences
+pub mod Updates

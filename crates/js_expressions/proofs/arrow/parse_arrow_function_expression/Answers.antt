@@ -1,0 +1,42 @@
+use Rattle.std.proofs.Common.{arith, refl, ap, ◌∙◌}
+use Rattle.std.proofs.lemmas.Result.{err_from_is_err_and}
+use Rattle.js_base.specs.declared.kind.Kind.TheVariants.{Arrow}
+use Rattle.js_expressions.proofs.Arrows.{before_answers, before_at, before_stops, line_at, line_place, line_same, line_token}
+use Rattle.js_parsing.proofs.Signs.{whole_sign}
+use Rattle.js_parsing.proofs.Moving.{standing}
+use Rattle.js_parsing.proofs.Nesting.{nests_later, nested_room, later_room}
+use Rattle.js_expressions.proofs.arrow.parse_arrow_function_expression.Goals as goal
+
+pub advance-requires-clause-at : goal.advance-requires-clause-at
+advance-requires-clause-at g c = standing (line_at c.requires.at c.in_ok-check_line.ensures)
+
+pub advance-requires-clause-whole : goal.advance-requires-clause-whole
+advance-requires-clause-whole g c = whole_sign Arrow (line_at c.requires.at c.in_ok-check_line.ensures) (ap (λ t. t.kind) (line_token c.in_ok-check_line.ensures) ∙ c.requires.arrow) refl refl
+
+pub assignment_in_arrow-requires-clause-at : goal.assignment_in_arrow-requires-clause-at
+assignment_in_arrow-requires-clause-at g c = standing (c.in_ok-advance.ensures _ _ (line_at c.requires.at c.in_ok-check_line.ensures)).at
+
+pub assignment_in_arrow-requires-clause-nests : goal.assignment_in_arrow-requires-clause-nests
+assignment_in_arrow-requires-clause-nests g c =
+    let a = line_at c.requires.at c.in_ok-check_line.ensures in
+    let r = nested_room a (c.in_ok-advance.ensures _ _ a) in
+    let s = later_room (let e = line_place c.in_ok-check_line.ensures in omega arith) (line_same c.in_ok-check_line.ensures) in
+    nests_later c.requires.nests (omega arith)
+
+pub returns-in_err-body : goal.returns-in_err-body
+returns-in_err-body g c = λ text f o a e h.
+    let p = err_from_is_err_and c.from_residual-in_err-body.result c.from_residual-in_err-body.ensures.1 in
+    let m = c.in_ok-advance.ensures text f (line_at (before_at h) c.in_ok-check_line.ensures) in
+    rw (p.1, p.2) (before_stops h c.requires.arrow c.in_ok-check_line.ensures m _ _ (c.in_err-body.ensures text f m.at))
+
+pub end_span-span-requires : goal.end_span-span-requires
+end_span-span-requires g c =
+    let b = line_at c.requires.at c.in_ok-check_line.ensures in
+    let m = c.in_ok-advance.ensures _ _ b in
+    let y = (c.in_ok-body.ensures _ _ m.at).answer in
+    let s = c.requires.start in let e = line_place c.in_ok-check_line.ensures in let d = b.behind in let h = m.further in let i = m.at.behind in let j = y.further in omega arith
+
+pub returns : goal.returns
+returns g c = λ text f o a e h.
+    let m = c.in_ok-advance.ensures text f (line_at (before_at h) c.in_ok-check_line.ensures) in
+    before_answers h c.requires.arrow c.in_ok-check_line.ensures m _ a (c.in_ok-body.ensures text f m.at) (c.end_span-span.ensures.start ∙ e) c.end_span-span.ensures.end c.in_ok-node.ensures

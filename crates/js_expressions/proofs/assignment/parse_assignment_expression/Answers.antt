@@ -1,0 +1,77 @@
+use Rattle.std.proofs.Common.{arith, ap, sym, ◌∙◌, length}
+use Rattle.std.proofs.lemmas.Result.{err_from_is_err_and}
+use Rattle.std.specs.Prelude.{Ok, Err}
+use Rattle.js_tree.proofs.HoldingLemmas.{Holds-below}
+use Rattle.js_expressions.specs.Arrows.{a_head, refused}
+use Rattle.js_grammar.specs.Productions.{at, Assignment}
+use Rattle.js_expressions.proofs.Arrows.{from_unmoved, none_found, refused_so, some_found, unmoved_none}
+use Rattle.js_parsing.proofs.Moving.{standing}
+use Rattle.js_parsing.proofs.Nesting.{nests_later, later_room}
+use Rattle.js_expressions.proofs.assignment.parse_assignment_expression.Goals as goal
+
+pub parse_arrow_function_expression-requires-clause-at : goal.parse_arrow_function_expression-requires-clause-at
+parse_arrow_function_expression-requires-clause-at g c = standing ((some_found _ c.parse_arrow_head.new.p _ _ c.in-Some.is c.in_ok-parameters.ensures).1 _ _ c.requires.at).at
+
+pub parse_arrow_function_expression-requires-clause-nests : goal.parse_arrow_function_expression-requires-clause-nests
+parse_arrow_function_expression-requires-clause-nests g c =
+    let h = (some_found _ c.parse_arrow_head.new.p _ _ c.in-Some.is c.in_ok-parameters.ensures).1 _ _ c.requires.at in
+    nests_later c.requires.nests (later_room (let a = h.further in let b = c.requires.at.behind in omega arith) h.same)
+
+pub parse_arrow_function_expression-requires-clause-start : goal.parse_arrow_function_expression-requires-clause-start
+parse_arrow_function_expression-requires-clause-start g c = let h = ((some_found _ c.parse_arrow_head.new.p _ _ c.in-Some.is c.in_ok-parameters.ensures).1 _ _ c.requires.at).further in let s = c.cur_start-start.ensures in omega arith
+
+pub parse_arrow_function_expression-requires-clause-arrow : goal.parse_arrow_function_expression-requires-clause-arrow
+parse_arrow_function_expression-requires-clause-arrow g c = (some_found _ c.parse_arrow_head.new.p _ _ c.in-Some.is c.in_ok-parameters.ensures).0
+
+pub returns-in-Some : goal.returns-in-Some
+returns-in-Some g c = λ text f a. c.parse_arrow_function_expression.ensures text f _ a c.cur_start-start.ensures (a_head ((some_found _ c.parse_arrow_head.new.p _ _ c.in-Some.is c.in_ok-parameters.ensures).1 text f a))
+
+pub parse_assignment_without_arrow-requires-clause-at : goal.parse_assignment_without_arrow-requires-clause-at
+parse_assignment_without_arrow-requires-clause-at g c = standing ((none_found _ c.parse_arrow_head.new.p _ c.in_default.is c.in_ok-parameters.ensures).0.at _ _ c.requires.at)
+
+pub parse_assignment_without_arrow-requires-clause-nests : goal.parse_assignment_without_arrow-requires-clause-nests
+parse_assignment_without_arrow-requires-clause-nests g c = nests_later c.requires.nests (let u = (none_found _ c.parse_arrow_head.new.p _ c.in_default.is c.in_ok-parameters.ensures).0.place in later_room (omega arith) (none_found _ c.parse_arrow_head.new.p _ c.in_default.is c.in_ok-parameters.ensures).0.same)
+
+pub parse_assignment_without_arrow-requires-clause-no_arrow : goal.parse_assignment_without_arrow-requires-clause-no_arrow
+parse_assignment_without_arrow-requires-clause-no_arrow g c = unmoved_none c.requires.at (none_found _ c.parse_arrow_head.new.p _ c.in_default.is c.in_ok-parameters.ensures).0 (none_found _ c.parse_arrow_head.new.p _ c.in_default.is c.in_ok-parameters.ensures).1
+
+pub returns-in_err-operand : goal.returns-in_err-operand
+returns-in_err-operand g c = λ text f a.
+    let p = err_from_is_err_and c.from_residual-in_err-operand.result c.from_residual-in_err-operand.ensures.1 in
+    let u = (none_found _ c.parse_arrow_head.new.p _ c.in_default.is c.in_ok-parameters.ensures).0 in
+    rw (p.1, p.2) (from_unmoved text f (at Assignment f) _ (Err _) u (c.in_err-operand.ensures text f (u.at text f a)))
+
+pub is_refused_head-requires : goal.is_refused_head-requires
+is_refused_head-requires g c =
+    let u = (none_found _ c.parse_arrow_head.new.p _ c.in_default.is c.in_ok-parameters.ensures).0 in
+    Holds-below (c.in_ok-operand.ensures _ _ (u.at _ _ c.requires.at)).holds
+
+pub returns-then-not-is_refused_head : goal.returns-then-not-is_refused_head
+returns-then-not-is_refused_head g c = λ text f a.
+    let u = (none_found _ c.parse_arrow_head.new.p _ c.in_default.is c.in_ok-parameters.ensures).0 in
+    from_unmoved text f (at Assignment f) _ (Ok _) u (c.in_ok-operand.ensures text f (u.at text f a))
+
+pub parse_arrow_function_expression-requires-2-clause-at : goal.parse_arrow_function_expression-requires-2-clause-at
+parse_arrow_function_expression-requires-2-clause-at g c =
+    let u = (none_found _ c.parse_arrow_head.new.p _ c.in_default.is c.in_ok-parameters.ensures).0 in
+    standing (c.in_ok-operand.ensures _ _ (u.at _ _ c.requires.at)).answer.at
+
+pub parse_arrow_function_expression-requires-2-clause-nests : goal.parse_arrow_function_expression-requires-2-clause-nests
+parse_arrow_function_expression-requires-2-clause-nests g c =
+    let u = (none_found _ c.parse_arrow_head.new.p _ c.in_default.is c.in_ok-parameters.ensures).0 in
+    let x = from_unmoved _ _ (at Assignment _) _ (Ok _) u (c.in_ok-operand.ensures _ _ (u.at _ _ c.requires.at)) in
+    nests_later c.requires.nests (later_room (let a = x.answer.further in let b = c.requires.at.behind in omega arith) x.answer.same)
+
+pub parse_arrow_function_expression-requires-2-clause-start : goal.parse_arrow_function_expression-requires-2-clause-start
+parse_arrow_function_expression-requires-2-clause-start g c =
+    let u = (none_found _ c.parse_arrow_head.new.p _ c.in_default.is c.in_ok-parameters.ensures).0 in
+    let x = (c.in_ok-operand.ensures _ _ (u.at _ _ c.requires.at)).answer.further in let b = u.start in let s = c.cur_start-start.ensures in omega arith
+
+pub parse_arrow_function_expression-requires-2-clause-arrow : goal.parse_arrow_function_expression-requires-2-clause-arrow
+parse_arrow_function_expression-requires-2-clause-arrow g c = (refused_so _ c.parse_assignment_without_arrow.new.p c.if-not-is_refused_head.false c.is_refused_head.ensures).1
+
+pub returns : goal.returns
+returns g c = λ text f a.
+    let u = (none_found _ c.parse_arrow_head.new.p _ c.in_default.is c.in_ok-parameters.ensures).0 in
+    let x = from_unmoved text f (at Assignment f) _ (Ok _) u (c.in_ok-operand.ensures text f (u.at text f a)) in
+    c.parse_arrow_function_expression-2.ensures text f c.args.p.now a c.cur_start-start.ensures (refused x (λ e. (refused_so _ c.parse_assignment_without_arrow.new.p c.if-not-is_refused_head.false c.is_refused_head.ensures).0 (e ∙ sym (c.kept_so_far-kept.ensures ∙ ap length u.kept))))

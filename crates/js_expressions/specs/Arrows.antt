@@ -1,0 +1,104 @@
+-- What the parse functions of arrow functions answer (ECMA-262, 15.3).
+use Rattle.std.specs.Prelude.{ℕ, ◌≡◌, ◌<◌, ◌⊎◌, Bool, true, false, List, [], ◌∷◌, Option, Some, None, length, Result}
+use Rattle.js_base.specs.declared.diagnostic.Diagnostic.{Diagnostic}
+use Rattle.js_base.specs.declared.diagnostic.DiagnosticKind.TheVariants.{LineterminatorBeforeArrow}
+use Rattle.js_base.specs.declared.kind.Kind.TheVariants.{Arrow}
+use Rattle.js_base.specs.declared.span.Span.{Span}
+use Rattle.js_grammar.specs.Trees.{Label, Slots, end, hole, tree, formal_parameters, formal_parameter, binding_identifier, no_op}
+use Rattle.js_grammar.specs.Grammar.{Lexeme, Lexemes, empty_slot, nothing, ◌▸◌, ◌◇◌}
+use Rattle.js_grammar.specs.Parsing.{plain, full}
+use Rattle.js_grammar.specs.Productions.{G, Flags, at, sym, mk, Arrow', Assignment, BindingIdentifier, Params}
+use Rattle.js_tree.specs.declared.id.NodeId.{NodeId}
+use Rattle.js_tree.specs.Holding.{Holds, Keeps as KeepsNodes}
+use Rattle.js_cursor.specs.Checkpoints.{GoesOn}
+use Rattle.js_cursor.specs.Moves.{Keeps}
+use Rattle.js_cursor.specs.Parsers.{Parser}
+use Rattle.js_cursor.specs.declared.stop.Stop.{Stop}
+use Rattle.js_parsing.specs.Answers.{Numbered, Outcome, Stretch, Underived}
+use Rattle.js_parsing.specs.Heads.{NoHead, NotedHeads}
+use Rattle.js_parsing.specs.Lexemes.{Lex, Walked, spot}
+use Rattle.js_parsing.specs.States.{At, Same}
+
+-- what stands before `=>`: a name, or parameters in parentheses
+abbrev pub head_of : Flags → G
+head_of f = mk formal_parameters (mk formal_parameter (sym BindingIdentifier f ▸ empty_slot)) ◇ sym Params f
+
+-- no arrow function is derived here
+abbrev pub NoArrowHere : Parser → Type 0
+NoArrowHere p = (text : List ℕ) (f : Flags) → At text f p → Underived text (at Arrow' f) p.prev_token_end
+
+-- What stands before `=>` was read, and nothing was told of it: a node made in the call stands for its tree.
+pub record Head (text : List ℕ) (f : Flags) (p q : Parser) (id : NodeId) : Type 0 where
+  pub at : At text f q
+  pub same : Same p q
+  pub further : p.token.span.start < q.prev_token_end
+  pub kept : q.errors ≡ p.errors
+  pub label : Label
+  pub slots : Slots
+  pub pass : Lexemes → Lexemes
+  pub walked : Walked text (spot p) (spot q) pass
+  pub read : Stretch text (plain full) (head_of f) p.prev_token_end nothing q.prev_token_end (tree label slots) pass
+  pub holds : Holds q.nodes (length p.nodes) (length q.nodes) id.0 label slots
+  pub keeps : KeepsNodes p.nodes q.nodes
+
+abbrev pub IsHeadHere : Parser → Parser → NodeId → Type 0
+IsHeadHere p q id = (q.token.kind ≡ Arrow) × ((text : List ℕ) (f : Flags) → At text f p → Head text f p q id)
+
+-- The parser is where it was; nodes may have been made.
+pub record Unmoved (p q : Parser) : Type 0 where
+  pub at : (text : List ℕ) (f : Flags) → At text f p → At text f q
+  pub same : Same p q
+  pub kept : q.errors ≡ p.errors
+  pub place : q.prev_token_end ≡ p.prev_token_end
+  pub spot_is : spot q ≡ spot p
+  pub start : q.token.span.start ≡ p.token.span.start
+  pub keeps : KeepsNodes p.nodes q.nodes
+
+-- a head was read; or none stands here, and the parser is where it was
+abbrev pub FindsHead : Parser → Parser → Option NodeId → Type 0
+FindsHead p q (Some id) = IsHeadHere p q id
+FindsHead p q None = Unmoved p q × NoArrowHere p
+
+-- no parameters in parentheses with `=>` behind them are derived here
+abbrev pub NoHeadHere : Parser → Type 0
+NoHeadHere p = (text : List ℕ) (f : Flags) → At text f p → NoHead text f p.prev_token_end
+
+-- a head was read; or none stands here, and the parser went on
+abbrev pub LooksForHead : Parser → Parser → Option NodeId → Type 0
+LooksForHead p q (Some id) = IsHeadHere p q id
+LooksForHead p q None = GoesOn p q × NotedHeads q × NoHeadHere p
+
+-- whether `=>` stands behind the current lexeme
+abbrev pub ArrowBehind : Parser → Parser → Bool → Type 0
+ArrowBehind p q true = (q ≡ p) × ((text : List ℕ) (f : Flags) → At text f p → (y : Lexeme) × Lex text p.token.span.end y × (y.kind ≡ Arrow))
+ArrowBehind p q false = (q ≡ p) × ((text : List ℕ) (f : Flags) → At text f p → (y : Lexeme) → Lex text p.token.span.end y → y.kind ≡ Arrow → ⊥)
+
+-- a name was read as a head
+abbrev pub Single : Parser → Parser → NodeId → Type 0
+Single p q id = (q.prev_token_end ≡ p.token.span.end) × ((text : List ℕ) (f : Flags) → At text f p → p.token.escaped ≡ false → Head text f p q id)
+
+-- so many diagnostics are kept, and `=>` stands here
+abbrev pub IsHead : ℕ → Parser → Bool → Type 0
+IsHead kept q true = (length q.errors ≡ kept) × (q.token.kind ≡ Arrow)
+IsHead kept q false = (length q.errors ≡ kept → ⊥) ⊎ (q.token.kind ≡ Arrow → ⊥)
+
+-- of `=>` on a new line this is told
+abbrev pub late_arrow : Span → Diagnostic
+late_arrow s = record { kind = LineterminatorBeforeArrow; span = s; first = None; second = None }
+
+abbrev pub ChecksLine : Parser → Parser → Type 0
+ChecksLine p q = ((p.token.is_on_new_line ≡ true) × Keeps (late_arrow p.token.span) p q) ⊎ ((p.token.is_on_new_line ≡ false) × (q ≡ p))
+
+-- `=>` stands here, behind something of which more was told than so many diagnostics
+abbrev pub IsRefusedHead : ℕ → Parser → Bool → Type 0
+IsRefusedHead kept p true = (length p.errors ≡ kept → ⊥) × (p.token.kind ≡ Arrow)
+IsRefusedHead kept p false = Unit {0}
+
+-- What stands before `=>` was read: a head; or an AssignmentExpression of which something was told.
+pub data BeforeArrow (text : List ℕ) (f : Flags) (o p : Parser) (id : NodeId) : Type 0 where
+  a_head : Head text f o p id → BeforeArrow text f o p id
+  refused : Numbered text f (at Assignment f) o p id → (length p.errors ≡ length o.errors → ⊥) → BeforeArrow text f o p id
+
+-- An arrow function is read on from its `=>`: what stands before that was read from the state o on.
+abbrev pub ReadsBody : ℕ → NodeId → Parser → Parser → Result NodeId Stop → Type 0
+ReadsBody start head p q r = (text : List ℕ) (f : Flags) (o : Parser) → At text f o → start ≡ o.token.span.start → BeforeArrow text f o p head → Outcome text f (at Assignment f) o q r

@@ -1,0 +1,4 @@
+pub mod Arrows
+pub mod Coalescing
+pub mod Exponents
+pub mod Rests

@@ -1,0 +1,43 @@
+-- What is read behind something that was read before.
+use Rattle.std.specs.Prelude.{ℕ, ◌≡◌, ◌≤◌, ◌⊎◌, ◌||◌, ◌&&◌, not, Bool, true, false, IsTrue, nat_lt, List, [], ◌∷◌, length, None, Result, Ok, Err}
+use Rattle.js_base.specs.declared.diagnostic.Diagnostic.{Diagnostic}
+use Rattle.js_base.specs.declared.diagnostic.DiagnosticKind.TheVariants as fault
+use Rattle.js_base.specs.Kinds.{one_of_kinds}
+use Rattle.js_base.specs.declared.kind.Kind.{Kind}
+use Rattle.js_base.specs.declared.kind.Kind.TheVariants.{Question, Colon, Comma, Semicolon, RParen, RBrack, Plus2, Minus2, Eof}
+use Rattle.js_base.specs.declared.span.Span.{Span}
+use Rattle.js_grammar.specs.Trees.{Label, Slots, end as no_slots, tree}
+use Rattle.js_grammar.specs.Grammar.{Lexeme, Lexemes, Look, such, nothing}
+use Rattle.js_grammar.specs.Insertion.{assign_operators}
+use Rattle.js_grammar.specs.Parsing.{always, plain, Fails}
+use Rattle.js_grammar.specs.Table.{rule}
+use Rattle.js_grammar.specs.Marks.{LexemeAt, of_kinds}
+use Rattle.js_grammar.specs.Productions.{Flags, Symbol, at, Arrow', ArrayTarget, Assignment, Short}
+use Rattle.js_tree.specs.declared.id.NodeId.{NodeId}
+use Rattle.js_tree.specs.Holding.{Holds, Keeps as KeepsNodes}
+use Rattle.js_cursor.specs.Moves.{GivesUp, Keeps}
+use Rattle.js_targets.specs.Targets.{is_array}
+use Rattle.js_cursor.specs.Parsers.{Parser}
+use Rattle.js_cursor.specs.Places.{goal}
+use Rattle.js_cursor.specs.declared.stop.Stop.{Stop}
+use Rattle.js_cursor.specs.declared.stop.Stop.TheVariants.{Fatal}
+use Rattle.js_parsing.specs.Answers.{Numbered, Outcome, Underived}
+use Rattle.js_parsing.specs.States.{At}
+
+-- A ShortCircuitExpression was read up to the old state, where no arrow function is derived; what is read now makes an AssignmentExpression of it.
+abbrev pub ReadsConditional : ℕ → NodeId → Parser → Parser → Result NodeId Stop → Type 0
+ReadsConditional start id old new r = (text : List ℕ) (f : Flags) (first : Parser) → At text f first → Underived text (at Arrow' f) first.prev_token_end → start ≡ first.token.span.start → Numbered text f (at Short f) first old id → Outcome text f (at Assignment f) first new r
+
+-- the `?` of a conditional expression stood there, before the current lexeme
+pub record Asked (p : Parser) (question : Span) : Type 0 where
+  pub sign : LexemeAt (of_kinds (Question ∷ [])) (goal p) p.text question
+  pub before : question.end ≤ p.prev_token_end
+
+abbrev pub update_kinds : List Kind
+update_kinds = Plus2 ∷ Minus2 ∷ []
+
+-- An array literal was read up to the old state, by a call before which so many diagnostics were kept; with what is read now it is an assignment.
+abbrev pub AssignsArray : ℕ → NodeId → ℕ → Parser → Parser → Result NodeId Stop → Type 0
+AssignsArray start id kept old new r = (text : List ℕ) (f : Flags) (first : Parser) → At text f first → Underived text (at Arrow' f) first.prev_token_end → start ≡ first.token.span.start → kept ≡ length first.errors → (x : Numbered text f (at Short f) first old id) → is_array x.answer.label.kind ≡ true → Outcome text f (at Assignment f) first new r
+
+-- ---- array targets (13.15.5)

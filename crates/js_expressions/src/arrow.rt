@@ -1,0 +1,179 @@
+//! Arrow functions (ECMA-262, section 15.3).
+
+ghost use Rattle.std.specs.Prelude.{false, ◌≡◌, ◌≤◌, MatchResult, IfOk};
+ghost use Rattle.js_base.specs.declared.kind.Kind.TheVariants.{Arrow, Ident, LParen};
+ghost use Rattle.js_cursor.specs.Moves.{OnlyMemory};
+ghost use Rattle.js_grammar.specs.Productions.{at, Params};
+ghost use Rattle.js_parsing.specs.Answers.{Answers};
+ghost use Rattle.js_expressions.specs.Arrows.{ArrowBehind, ChecksLine, FindsHead, Head, IsHead, LooksForHead, NoArrowHere, ReadsBody, Single};
+ghost use Rattle.js_parsing.specs.Nesting.{CanNest, room};
+ghost use Rattle.js_parsing.specs.States.{Standing};
+
+use js_base::{Diagnostic, DiagnosticKind, Kind, NoMemory};
+use js_cursor::{ParserImpl, Stop};
+use js_lex::ParserConfig;
+use js_operands::primary::parse_leaf;
+use js_parsing::context::assignment_in_arrow;
+use js_parsing::diagnostics::kept_so_far;
+use js_parsing::lexemes::{advance, stands};
+use js_parsing::nested::Nested;
+use js_parsing::nodes::{make_one, make_two, make_with_optional};
+use js_patterns::parameters::parse_formal_parameters;
+use js_tree::{NodeId, NodeKind, Op};
+
+/// The parameters of an arrow function, where they stand here with `=>` behind them: a name, or a list in parentheses.
+/// None where no arrow function stands, and the parser is then where it was.
+pub fn parse_arrow_head<C: ParserConfig, N: Nested<C>>(
+    p: &mut ParserImpl<'_, C>,
+    nested: &N,
+) -> Result<Option<NodeId>, Stop>
+    requires at { Standing p.old }
+    requires nests { CanNest (N.can nested.now) (room p.old) }
+    ensures { MatchResult result (λ found. FindsHead p.old p.new found) OnlyMemory }
+{
+    if stands(p, Kind::Ident) {
+        return parse_name_head(p);
+    }
+    if stands(p, Kind::LParen) {
+        return try_parse_parenthesized_head(p, nested);
+    }
+    Ok(None)
+}
+
+/// A name as the only parameter of an arrow function, where `=>` stands behind it.
+fn parse_name_head<C: ParserConfig>(p: &mut ParserImpl<'_, C>) -> Result<Option<NodeId>, Stop>
+    requires at { Standing p.old }
+    requires name { (p.old.token.kind ≡ Ident) × (p.old.token.escaped ≡ false) }
+    ensures { MatchResult result (λ found. FindsHead p.old p.new found) OnlyMemory }
+{
+    if !is_arrow_behind(p)? {
+        return Ok(None);
+    }
+    let parameters = parse_single_parameter(p)?;
+    Ok(Some(parameters))
+}
+
+/// Whether `=>` stands behind the current lexeme.
+fn is_arrow_behind<C: ParserConfig>(p: &mut ParserImpl<'_, C>) -> Result<bool, Stop>
+    requires { Standing p.old }
+    ensures { MatchResult result (λ found. ArrowBehind p.old p.new found) OnlyMemory }
+{
+    let next = p.peek_token()?;
+    Ok(matches!(next.kind(), Kind::Arrow))
+}
+
+/// A name as FormalParameters.
+#[inline(never)]
+fn parse_single_parameter<C: ParserConfig>(p: &mut ParserImpl<'_, C>) -> Result<NodeId, Stop>
+    requires at { Standing p.old }
+    requires name { p.old.token.kind ≡ Ident }
+    ensures { MatchResult result (λ id. Single p.old p.new id) OnlyMemory }
+{
+    let span = p.cur_token().span();
+    let name = parse_leaf(p, NodeKind::BindingIdentifier, Op::None)?;
+    let parameter = make_with_optional(p, NodeKind::FormalParameter, span, name, None)?;
+    let parameters = make_one(p, NodeKind::FormalParameters, Op::None, span, parameter)?;
+    Ok(parameters)
+}
+
+/// FormalParameters in parentheses, where `=>` stands behind them: an attempt, which is taken back where it fails. That is
+/// noted, and not tried again.
+#[inline(never)]
+fn try_parse_parenthesized_head<C: ParserConfig, N: Nested<C>>(
+    p: &mut ParserImpl<'_, C>,
+    nested: &N,
+) -> Result<Option<NodeId>, Stop>
+    requires at { Standing p.old }
+    requires nests { CanNest (N.can nested.now) (room p.old) }
+    requires open { p.old.token.kind ≡ LParen }
+    ensures { MatchResult result (λ found. FindsHead p.old p.new found) OnlyMemory }
+{
+    let place = p.prev_token_end();
+    if p.arrow_failed(place) {
+        return Ok(None);
+    }
+    let here = p.checkpoint()?;
+    if let Some(parameters) = parse_parenthesized_head(p, nested)? {
+        return Ok(Some(parameters));
+    }
+    p.rewind(here);
+    p.note_arrow_failed(place)?;
+    Ok(None)
+}
+
+/// FormalParameters in parentheses, where they can be read, nothing is told of them and `=>` stands behind them. None:
+/// no arrow function stands here, and the parser is somewhere behind.
+fn parse_parenthesized_head<C: ParserConfig, N: Nested<C>>(
+    p: &mut ParserImpl<'_, C>,
+    nested: &N,
+) -> Result<Option<NodeId>, Stop>
+    requires at { Standing p.old }
+    requires nests { CanNest (N.can nested.now) (room p.old) }
+    requires open { p.old.token.kind ≡ LParen }
+    ensures { MatchResult result (λ found. LooksForHead p.old p.new found) OnlyMemory }
+{
+    let kept = kept_so_far(p);
+    match parse_formal_parameters(p, nested) {
+        Ok(parameters) => {
+            if is_head(p, kept) {
+                Ok(Some(parameters))
+            } else {
+                Ok(None)
+            }
+        }
+        Err(Stop::Fatal) => Ok(None),
+        Err(Stop::NoMemory) => Err(Stop::NoMemory),
+    }
+}
+
+/// Whether nothing was told since there were so many diagnostics, and `=>` stands here.
+fn is_head<C: ParserConfig>(p: &ParserImpl<'_, C>, kept: usize) -> bool
+    ensures { IsHead kept p.now result }
+{
+    if kept_so_far(p) != kept {
+        return false;
+    }
+    p.at(Kind::Arrow)
+}
+
+/// An arrow function, whose parameters were read from a place on (ECMA-262, section 15.3), or parentheses in their place,
+/// of which something was told.
+#[inline(never)]
+pub fn parse_arrow_function_expression<C: ParserConfig, N: Nested<C>>(
+    p: &mut ParserImpl<'_, C>,
+    nested: &N,
+    start: u32,
+    parameters: NodeId,
+) -> Result<NodeId, Stop>
+    requires at { Standing p.old }
+    requires nests { CanNest (N.can nested.now) (room p.old) }
+    requires start { start ≤ p.old.prev_token_end }
+    requires arrow { p.old.token.kind ≡ Arrow }
+    ensures { ReadsBody start parameters p.old p.new result }
+{
+    check_line(p)?;
+    advance(p)?;
+    let body = assignment_in_arrow(p, nested)?;
+    let span = p.end_span(start);
+    let kind = NodeKind::ArrowFunctionExpression;
+    let node = make_two(p, kind, Op::None, span, parameters, body)?;
+    Ok(node)
+}
+
+/// Tells of `=>` on a new line.
+#[inline(never)]
+fn check_line<C: ParserConfig>(p: &mut ParserImpl<'_, C>) -> Result<(), NoMemory>
+    requires at { Standing p.old }
+    requires arrow { p.old.token.kind ≡ Arrow }
+    ensures { IfOk result (λ _. ChecksLine p.old p.new) }
+{
+    if p.cur_token().is_on_new_line() {
+        p.error(Diagnostic {
+            kind: DiagnosticKind::LineterminatorBeforeArrow,
+            span: p.cur_token().span(),
+            first: None,
+            second: None,
+        })?;
+    }
+    Ok(())
+}

@@ -1,0 +1,208 @@
+//! Assignments and conditional expressions (ECMA-262, sections 13.14 and 13.15).
+
+ghost use Rattle.std.specs.Prelude.{◌≡◌, ◌≤◌, ◌<◌, true, false, length};
+ghost use Rattle.js_base.specs.Kinds.{one_of_kinds, same_kind};
+ghost use Rattle.js_grammar.specs.Insertion.{assign_operators};
+ghost use Rattle.js_base.specs.declared.kind.Kind.TheVariants.{Colon, Eq};
+ghost use Rattle.js_grammar.specs.Marks.{Mark};
+ghost use Rattle.js_cursor.specs.Places.{goal};
+ghost use Rattle.js_grammar.specs.Productions.{at, Assignment};
+ghost use Rattle.js_parsing.specs.Answers.{Answers};
+ghost use Rattle.js_expressions.specs.Arrows.{IsRefusedHead, NoArrowHere};
+ghost use Rattle.js_parsing.specs.Nesting.{CanNest, room};
+ghost use Rattle.js_targets.specs.Taken.{ArrayRead, not_simple_at};
+ghost use Rattle.js_expressions.specs.Rests.{AssignsArray, Asked, ReadsConditional};
+ghost use Rattle.js_parsing.specs.Moves.{Passes};
+ghost use Rattle.js_parsing.specs.States.{Standing};
+
+use crate::arrow::{parse_arrow_function_expression, parse_arrow_head};
+use crate::operators::parse_binary_expression_or_higher;
+use js_base::{
+    AssignmentOperator, Diagnostic, DiagnosticKind, Kind, Span, map_assignment_operator,
+};
+use js_cursor::{ParserImpl, Stop};
+use js_lex::ParserConfig;
+use js_parsing::context::assignment_with_in;
+use js_parsing::diagnostics::kept_so_far;
+use js_parsing::lexemes::{advance, operator_here};
+use js_parsing::nested::Nested;
+use js_parsing::nodes::{make_three, make_two};
+use js_targets::array_target::array_target;
+use js_targets::cover::{cover, is_array_literal, refuse_target, tell_not_simple};
+use js_tree::{NodeId, NodeKind, Op};
+
+/// An AssignmentExpression (ECMA-262, section 13.15).
+pub fn parse_assignment_expression<C: ParserConfig, N: Nested<C>>(
+    p: &mut ParserImpl<'_, C>,
+    nested: &N,
+) -> Result<NodeId, Stop>
+    requires at { Standing p.old }
+    requires nests { CanNest (N.can nested.now) (room p.old) }
+    ensures { Answers (at Assignment) p.old p.new result }
+{
+    let start = p.cur_start();
+    if let Some(parameters) = parse_arrow_head(p, nested)? {
+        return parse_arrow_function_expression(p, nested, start, parameters);
+    }
+    let kept = kept_so_far(p);
+    let operand = parse_assignment_without_arrow(p, nested)?;
+    if !is_refused_head(p, operand, kept) {
+        return Ok(operand);
+    }
+    parse_arrow_function_expression(p, nested, start, operand)
+}
+
+/// Whether `=>` stands behind parentheses in which something was told, since there were so many diagnostics.
+fn is_refused_head<C: ParserConfig>(p: &ParserImpl<'_, C>, operand: NodeId, kept: usize) -> bool
+    requires { operand.0 < length p.now.nodes }
+    ensures { IsRefusedHead kept p.now result }
+{
+    if !p.at(Kind::Arrow) || kept_so_far(p) == kept {
+        return false;
+    }
+    matches!(p.ast.kind(operand), NodeKind::ParenthesizedExpression)
+}
+
+/// An assignment or a conditional expression, where no arrow function stands (ECMA-262, sections 13.14 and 13.15).
+fn parse_assignment_without_arrow<C: ParserConfig, N: Nested<C>>(
+    p: &mut ParserImpl<'_, C>,
+    nested: &N,
+) -> Result<NodeId, Stop>
+    requires at { Standing p.old }
+    requires nests { CanNest (N.can nested.now) (room p.old) }
+    requires no_arrow { NoArrowHere p.old }
+    ensures { Answers (at Assignment) p.old p.new result }
+{
+    let start = p.cur_start();
+    let kept = kept_so_far(p);
+    let left = parse_binary_expression_or_higher(p, nested)?;
+    let _power = operator_here(p)?;
+    if !p.cur_kind().is_assignment_operator() {
+        return parse_conditional_expression_rest(p, nested, start, left);
+    }
+    if is_array_literal(p, left) {
+        return parse_array_assignment(p, nested, start, left, kept);
+    }
+    let operator = map_assignment_operator(p.cur_kind());
+    let Some(target) = cover(p, left) else {
+        return Err(refuse_target(p, start, kept));
+    };
+    advance(p)?;
+    let right = nested.assignment(p)?;
+    let span = p.end_span(start);
+    let op = Op::Assignment(operator);
+    let node = make_two(p, NodeKind::AssignmentExpression, op, span, target, right)?;
+    Ok(node)
+}
+
+/// The operator and the right side of an assignment behind an array literal, which begins at a place, when so many
+/// diagnostics were kept. Before another operator than `=` it is no target (ECMA-262, section 13.15.1).
+#[inline(never)]
+fn parse_array_assignment<C: ParserConfig, N: Nested<C>>(
+    p: &mut ParserImpl<'_, C>,
+    nested: &N,
+    start: u32,
+    left: NodeId,
+    kept: usize,
+) -> Result<NodeId, Stop>
+    requires at { Standing p.old }
+    requires nests { CanNest (N.can nested.now) (room p.old) }
+    requires start { start ≤ p.old.prev_token_end }
+    requires whole { p.old.cut ≡ false }
+    requires operator { one_of_kinds assign_operators p.old.token.kind ≡ true }
+    requires read { ArrayRead start left kept p.old }
+    requires marked { same_kind Eq p.old.token.kind ≡ false → length p.old.errors ≡ kept → Mark (goal p.old) p.old.text (not_simple_at start p.old.prev_token_end) }
+    ensures { AssignsArray start left kept p.old p.new result }
+{
+    if p.at(Kind::Eq) {
+        return parse_destructuring_assignment(p, nested, start, left, kept);
+    }
+    let operator = map_assignment_operator(p.cur_kind());
+    tell_not_simple(p, start, kept)?;
+    advance(p)?;
+    let right = nested.assignment(p)?;
+    let span = p.end_span(start);
+    let op = Op::Assignment(operator);
+    let node = make_two(p, NodeKind::AssignmentExpression, op, span, left, right)?;
+    Ok(node)
+}
+
+/// The `=` and the right side of an assignment behind an array literal, which begins at a place and is its target
+/// (ECMA-262, section 13.15.5), when so many diagnostics were kept.
+fn parse_destructuring_assignment<C: ParserConfig, N: Nested<C>>(
+    p: &mut ParserImpl<'_, C>,
+    nested: &N,
+    start: u32,
+    left: NodeId,
+    kept: usize,
+) -> Result<NodeId, Stop>
+    requires at { Standing p.old }
+    requires nests { CanNest (N.can nested.now) (room p.old) }
+    requires start { start ≤ p.old.prev_token_end }
+    requires whole { p.old.cut ≡ false }
+    requires equals { p.old.token.kind ≡ Eq }
+    requires read { ArrayRead start left kept p.old }
+    ensures { AssignsArray start left kept p.old p.new result }
+{
+    let target = array_target(p, start, left, kept)?;
+    advance(p)?;
+    let right = nested.assignment(p)?;
+    let span = p.end_span(start);
+    let op = Op::Assignment(AssignmentOperator::Assign);
+    let node = make_two(p, NodeKind::AssignmentExpression, op, span, target, right)?;
+    Ok(node)
+}
+
+/// The branches of a conditional expression behind its test, which begins at a place, or the test alone (ECMA-262,
+/// section 13.14).
+#[inline(never)]
+fn parse_conditional_expression_rest<C: ParserConfig, N: Nested<C>>(
+    p: &mut ParserImpl<'_, C>,
+    nested: &N,
+    start: u32,
+    test: NodeId,
+) -> Result<NodeId, Stop>
+    requires at { Standing p.old }
+    requires nests { CanNest (N.can nested.now) (room p.old) }
+    requires start { start ≤ p.old.prev_token_end }
+    requires whole { p.old.cut ≡ false }
+    requires unassigned { one_of_kinds assign_operators p.old.token.kind ≡ false }
+    ensures { ReadsConditional start test p.old p.new result }
+{
+    if !p.at(Kind::Question) {
+        return Ok(test);
+    }
+    let question = p.cur_token().span();
+    advance(p)?;
+    let consequent = assignment_with_in(p, nested)?;
+    expect_conditional_alternative(p, question)?;
+    let alternate = nested.assignment(p)?;
+    let span = p.end_span(start);
+    let kind = NodeKind::ConditionalExpression;
+    let node = make_three(p, kind, Op::None, span, test, consequent, alternate)?;
+    Ok(node)
+}
+
+/// Moves on over the colon of a conditional expression, whose `?` stood at a span.
+#[inline(never)]
+fn expect_conditional_alternative<C: ParserConfig>(
+    p: &mut ParserImpl<'_, C>,
+    question: Span,
+) -> Result<(), Stop>
+    requires at { Standing p.old }
+    requires asked { Asked p.old question }
+    ensures { Passes Colon p.old p.new result }
+{
+    if p.at(Kind::Colon) {
+        return advance(p);
+    }
+    if p.at(Kind::Undetermined) {
+        return Err(p.set_unexpected());
+    }
+    Err(p.set_fatal_error(Diagnostic {
+        kind: DiagnosticKind::ExpectConditionalAlternative,
+        span: p.cur_token().span(),
+        first: Some(question),
+        second: None,
+    }))
+}

@@ -1,0 +1,9 @@
+//! Expressions: operators, assignments, arrow functions, sequences (ECMA-262, sections 13.4 to 13.16 and 15.3).
+#![tactic(auto)]
+
+pub mod arrow;
+pub mod assignment;
+pub mod operators;
+pub mod sequence;
+pub mod unary;
+pub mod update;

@@ -1,0 +1,58 @@
+//! Unary operators (ECMA-262, section 13.5).
+
+ghost use Rattle.std.specs.Prelude.{◌≡◌, true, false};
+ghost use Rattle.js_base.specs.Kinds.{one_of_kinds};
+ghost use Rattle.js_grammar.specs.Productions.{at, Unary};
+ghost use Rattle.js_parsing.specs.Answers.{Answers};
+ghost use Rattle.js_parsing.specs.Nesting.{CanNest, room};
+ghost use Rattle.js_parsing.specs.Operators.{unary_kinds};
+ghost use Rattle.js_parsing.specs.States.{Standing};
+
+use crate::update::parse_update_expression;
+use js_base::map_unary_operator;
+use js_cursor::{ParserImpl, Stop};
+use js_lex::ParserConfig;
+use js_parsing::lexemes::advance;
+use js_parsing::nested::Nested;
+use js_parsing::nodes::make_one;
+use js_tree::{NodeId, NodeKind, Op};
+
+/// A UnaryExpression (ECMA-262, section 13.5): an operator and what it stands before, or an UpdateExpression.
+pub fn parse_unary_expression_or_higher<C: ParserConfig, N: Nested<C>>(
+    p: &mut ParserImpl<'_, C>,
+    nested: &N,
+) -> Result<NodeId, Stop>
+    requires at { Standing p.old }
+    requires nests { CanNest (N.can nested.now) (room p.old) }
+    ensures { Answers (at Unary) p.old p.new result }
+{
+    if p.cur_token().escaped() {
+        return Err(p.set_unexpected());
+    }
+    if p.cur_kind().is_unary_operator() {
+        return parse_unary_expression(p, nested);
+    }
+    parse_update_expression(p, nested)
+}
+
+/// A unary operator, and what it stands before.
+#[inline(never)]
+fn parse_unary_expression<C: ParserConfig, N: Nested<C>>(
+    p: &mut ParserImpl<'_, C>,
+    nested: &N,
+) -> Result<NodeId, Stop>
+    requires at { Standing p.old }
+    requires nests { CanNest (N.can nested.now) (room p.old) }
+    requires operator { one_of_kinds unary_kinds p.old.token.kind ≡ true }
+    requires plain { p.old.token.escaped ≡ false }
+    ensures { Answers (at Unary) p.old p.new result }
+{
+    let start = p.cur_start();
+    let operator = map_unary_operator(p.cur_kind());
+    advance(p)?;
+    let argument = nested.unary(p)?;
+    let span = p.end_span(start);
+    let op = Op::Unary(operator);
+    let node = make_one(p, NodeKind::UnaryExpression, op, span, argument)?;
+    Ok(node)
+}

@@ -1,0 +1,10 @@
+pub mod ArgumentLists
+pub mod Arrays
+pub mod Intrinsics
+pub mod Links
+pub mod Marking
+pub mod Members
+pub mod Operands
+pub mod Parentheses
+pub mod Spreads
+pub mod Tame

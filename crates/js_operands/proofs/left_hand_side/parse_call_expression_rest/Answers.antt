@@ -1,0 +1,48 @@
+use Rattle.std.proofs.Common.{◌∙◌, true, false}
+use Rattle.js_base.specs.declared.kind.Kind.TheVariants.{LParen, QuestionDot}
+use Rattle.std.proofs.lemmas.Result.{err_from_is_err_and}
+use Rattle.js_operands.specs.declared.left_hand_side.LinkBase.TheVariants as base
+use Rattle.js_operands.proofs.Members.{any_here, call_closed, call_first, call_first_stops, call_linked, call_stops, head_closed, here_so, link_less, next_loop, paren_here, stands_so, start_loop}
+use Rattle.js_parsing.proofs.Nesting.{nests_later}
+use Rattle.js_operands.proofs.left_hand_side.parse_call_expression_rest.Goals as goal
+
+pub returns-then-not-stands : goal.returns-then-not-stands
+returns-then-not-stands t c = λ text f o a e x n. head_closed x n (stands_so c.args.p.now LParen c.if-not-stands.true c.stands.ensures)
+
+pub parse_link-requires-clause-link : goal.parse_link-requires-clause-link
+parse_link-requires-clause-link t c = paren_here (stands_so c.args.p.now LParen c.if-not-stands.false c.stands.ensures)
+
+pub returns-in_err-left : goal.returns-in_err-left
+returns-in_err-left t c = λ text f o a e x n.
+    let p = err_from_is_err_and c.from_residual.result c.from_residual.ensures.1 in
+    rw (p.1, p.2) (call_first_stops a x (stands_so c.args.p.now LParen c.if-not-stands.false c.stands.ensures) _ _ (c.in_err-left.ensures text f x.at))
+
+pub links-init : goal.links-init
+links-init t c = next_loop (start_loop c.requires.at c.requires.start) c.in_ok-left.ensures (λ text f o a e x. call_first a x (stands_so c.args.p.now LParen c.if-not-stands.false c.stands.ensures) e (c.in_ok-left.ensures text f x.at))
+
+pub parse_link-requires-in-links-clause-at : goal.parse_link-requires-in-links-clause-at
+parse_link-requires-in-links-clause-at t c = c.links.invariant.at
+
+pub parse_link-requires-in-links-clause-nests : goal.parse_link-requires-in-links-clause-nests
+parse_link-requires-in-links-clause-nests t c = nests_later c.requires.nests c.links.invariant.later
+
+pub parse_link-requires-in-links-clause-start : goal.parse_link-requires-in-links-clause-start
+parse_link-requires-in-links-clause-start t c = c.links.invariant.before
+
+pub parse_link-requires-in-links-clause-link : goal.parse_link-requires-in-links-clause-link
+parse_link-requires-in-links-clause-link t c = any_here (here_so c.links.p base.Call c.links-test.true c.link_here.ensures)
+
+pub returns-in_err-left-2 : goal.returns-in_err-left-2
+returns-in_err-left-2 t c = λ text f o a e x n.
+    let p = err_from_is_err_and c.from_residual-in_err-left-2.result c.from_residual-in_err-left-2.ensures.1 in
+    let z = c.links.invariant.goes text f o a e x in
+    rw (p.1, p.2) (call_stops z (here_so c.links.p base.Call c.links-test.true c.link_here.ensures) _ _ (c.in_err-left-2.ensures text f z.at))
+
+pub links-smaller : goal.links-smaller
+links-smaller t c = link_less c.links.invariant.at (c.in_ok-left-2.ensures _ _ c.links.invariant.at)
+
+pub links-preserved : goal.links-preserved
+links-preserved t c = next_loop c.links.invariant c.in_ok-left-2.ensures (λ text f o a e x. let z = c.links.invariant.goes text f o a e x in call_linked z (here_so c.links.p base.Call c.links-test.true c.link_here.ensures) e (c.in_ok-left-2.ensures text f z.at))
+
+pub returns : goal.returns
+returns t c = λ text f o a e x n. call_closed (c.links.invariant.goes text f o a e x) (here_so c.links.p base.Call c.links-test.false c.link_here.ensures)

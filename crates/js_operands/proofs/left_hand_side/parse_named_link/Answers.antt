@@ -1,0 +1,34 @@
+use Rattle.std.proofs.Common.{◌≤◌, arith, ap, ◌∙◌}
+use Rattle.std.proofs.lemmas.Result.{err_from_is_err_and}
+use Rattle.js_base.specs.declared.kind.Kind.TheVariants.{RAngle}
+use Rattle.js_base.specs.Kinds.{same_kind}
+use Rattle.js_cursor.specs.Moves.{is_last}
+use Rattle.js_parsing.proofs.Here.{uncut}
+use Rattle.js_parsing.proofs.Moving.{standing}
+use Rattle.js_operands.proofs.Members.{name_link, no_name_link}
+use Rattle.js_operands.proofs.left_hand_side.parse_named_link.Goals as goal
+
+pub advance-requires-clause-whole : goal.advance-requires-clause-whole
+advance-requires-clause-whole g c = (uncut c.requires.at (ap (same_kind RAngle) c.requires.sign.0), ap is_last c.requires.sign.0)
+
+pub parse_identifier_name-requires : goal.parse_identifier_name-requires
+parse_identifier_name-requires g c = standing (c.in_ok-advance.ensures _ _ c.requires.at).at
+
+pub returns-in_err-name : goal.returns-in_err-name
+returns-in_err-name g c = λ text f a.
+    let p = err_from_is_err_and c.from_residual-in_err-name.result c.from_residual-in_err-name.ensures.1 in
+    let m = c.in_ok-advance.ensures text f a in
+    rw (p.1, p.2) (no_name_link a c.requires.sign m _ _ (c.in_err-name.ensures text f m.at))
+
+pub make_member-requires : goal.make_member-requires
+make_member-requires g c = record {
+  start =
+      let m = c.in_ok-advance.ensures _ _ c.requires.at in
+      let x = (c.in_ok-name.ensures _ _ m.at).answer in
+      let a = m.further in let b = x.further in let d = m.at.behind in let e = c.requires.at.behind in let s = c.requires.start in omega arith;
+}
+
+pub returns : goal.returns
+returns g c = λ text f a.
+    let m = c.in_ok-advance.ensures text f a in
+    name_link a c.requires.sign m (c.in_ok-name.ensures text f m.at) c.in_ok-node.ensures

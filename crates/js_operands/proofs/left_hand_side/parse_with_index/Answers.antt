@@ -1,0 +1,60 @@
+use Rattle.std.proofs.Common.{◌≡◌, ◌≤◌, ◌∷◌, [], Some, refl, sym, ap, subst, arith, ◌∙◌}
+use Rattle.std.proofs.lemmas.Result.{err_from_is_err_and}
+use Rattle.js_base.specs.declared.span.Span.{Span}
+use Rattle.js_base.specs.declared.token.Token.{Token}
+use Rattle.js_base.specs.declared.kind.Kind.TheVariants.{RAngle, LParen, LBrack, LCurly, TemplateHead, TemplateMiddle}
+use Rattle.js_base.specs.Kinds.{same_kind, one_of_kinds}
+use Rattle.js_cursor.specs.Moves.{Opened, is_last}
+use Rattle.js_parsing.proofs.Bracketed.{opened_here, opened_later}
+use Rattle.js_parsing.proofs.Here.{uncut}
+use Rattle.js_operands.proofs.Members.{no_index, index_closed, index_part, unclosed_stops}
+use Rattle.js_parsing.proofs.Moving.{standing, stops_behind}
+use Rattle.js_parsing.proofs.Nesting.{nested_room, nests_later}
+use Rattle.js_parsing.proofs.Verdicts.{grown_then}
+use Rattle.js_operands.proofs.left_hand_side.parse_with_index.Goals as goal
+
+pub advance-requires-clause-whole : goal.advance-requires-clause-whole
+advance-requires-clause-whole t c = (uncut c.requires.at (ap (same_kind RAngle) c.requires.open), ap is_last c.requires.open)
+
+pub expression_with_in-requires-clause-at : goal.expression_with_in-requires-clause-at
+expression_with_in-requires-clause-at t c = standing (c.in_ok-advance.ensures _ _ c.requires.at).at
+
+pub expression_with_in-requires-clause-nests : goal.expression_with_in-requires-clause-nests
+expression_with_in-requires-clause-nests t c = nests_later c.requires.nests (let r = nested_room c.requires.at (c.in_ok-advance.ensures _ _ c.requires.at) in omega arith)
+
+pub returns-in_err-index : goal.returns-in_err-index
+returns-in_err-index t c =
+    let p = err_from_is_err_and c.from_residual-in_err-index.result c.from_residual-in_err-index.ensures.1 in
+    rw (p.1, p.2) (λ text f a. let m = c.in_ok-advance.ensures text f a in stops_behind _ _ m.same.follows (λ g. grown_then m.kept g) (λ n. no_index a c.requires.open m n) (c.in_err-index.ensures text f m.at))
+
+pub expect_closing-requires-clause-at : goal.expect_closing-requires-clause-at
+expect_closing-requires-clause-at t c = (c.in_ok-index.ensures _ _ (c.in_ok-advance.ensures _ _ c.requires.at).at).answer.at.at
+
+pub expect_closing-requires-clause-opened : goal.expect_closing-requires-clause-opened
+expect_closing-requires-clause-opened t c =
+    let m = c.in_ok-advance.ensures _ _ c.requires.at in
+    let x = (c.in_ok-index.ensures _ _ m.at).answer in
+    subst (λ (s : Span). Opened c.expression_with_in.new.p s) (sym (c.span-opening.ensures ∙ ap (λ (t : Token). t.span) c.cur_token.ensures)) (opened_later x.same (let i = x.further in let j = m.at.behind in omega arith) (opened_here c.requires.at (ap (one_of_kinds (LParen ∷ LBrack ∷ LCurly ∷ TemplateHead ∷ TemplateMiddle ∷ [])) c.requires.open) m))
+
+pub returns-in_err-expect_closing : goal.returns-in_err-expect_closing
+returns-in_err-expect_closing t c =
+    let p = err_from_is_err_and c.from_residual-in_err-expect_closing.result c.from_residual-in_err-expect_closing.ensures.1 in
+    rw (p.1, p.2) (λ text f a. let m = c.in_ok-advance.ensures text f a in unclosed_stops a c.requires.open m (c.in_ok-index.ensures text f m.at) _ _ _ c.in_err-expect_closing.ensures)
+
+pub make_member-requires : goal.make_member-requires
+make_member-requires t c =
+    let m = c.in_ok-advance.ensures _ _ c.requires.at in
+    let x = c.in_ok-index.ensures _ _ m.at in
+    let d = index_closed c.requires.at c.requires.open m x c.in_ok-expect_closing.ensures.0 c.in_ok-expect_closing.ensures.1 in
+    record { start = let a = m.further in let b = x.answer.further in let e = d.further in let g = m.at.behind in let h = x.answer.at.behind in let i = c.requires.at.behind in let s = c.requires.start in omega arith }
+
+pub returns : goal.returns
+returns t c = record {
+  behind = c.expect_closing.new.self;
+  children = _;
+  part = λ text f a.
+      let m = c.in_ok-advance.ensures text f a in
+      let x = c.in_ok-index.ensures text f m.at in
+      index_part a c.requires.open m x (Some c.args.left ∷ []) c.in_ok-expect_closing.ensures.0 (index_closed a c.requires.open m x c.in_ok-expect_closing.ensures.0 c.in_ok-expect_closing.ensures.1);
+  made = c.in_ok-node.ensures;
+}

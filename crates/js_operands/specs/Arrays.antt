@@ -1,0 +1,35 @@
+-- What the parse functions of array literals answer (ECMA-262, 13.2.4): elements and gaps, as far as they were read.
+use Rattle.std.specs.Prelude.{ℕ, List, [], ◌∷◌, ◌++◌, Option, Some, Result, Ok, Err}
+use Rattle.js_base.specs.declared.kind.Kind.TheVariants.{Comma, LBrack, RBrack}
+use Rattle.js_grammar.specs.Trees.{end, elision}
+use Rattle.js_grammar.specs.Grammar.{nothing, never, ◌▸◌}
+use Rattle.js_grammar.specs.Parsing.{plain, full, Fails}
+use Rattle.js_grammar.specs.Productions.{G, Flags, mk, tok, items, Argument}
+use Rattle.js_grammar.specs.Productions.{sym as symbol}
+use Rattle.js_grammar.specs.Table.{rule}
+use Rattle.js_tree.specs.declared.id.NodeId.{NodeId}
+use Rattle.js_cursor.specs.Parsers.{Parser}
+use Rattle.js_cursor.specs.declared.stop.Stop.{Stop}
+use Rattle.js_parsing.specs.Answers.{Stops}
+use Rattle.js_parsing.specs.Arguments.{Partway}
+use Rattle.js_parsing.specs.Lexemes.{Lex}
+use Rattle.js_parsing.specs.States.{At}
+
+-- from an element on up to the closing bracket; and with the opening one
+abbrev pub elements : Flags → G
+elements f = items (mk elision (tok Comma)) (symbol Argument f) never ▸ tok RBrack
+
+abbrev pub array_of : Flags → G
+array_of f = tok LBrack ▸ elements f
+
+-- One more child, an element or a gap: what is left is elements too.
+abbrev pub TakesElement : Parser → Parser → Result NodeId Stop → Type 0
+TakesElement p q (Ok id) = (text : List ℕ) (f : Flags) → At text f p → (ids : List (Option NodeId)) → Partway text f (elements f) (elements f) p q ids (ids ++ Some id ∷ [])
+TakesElement p q (Err e) = (text : List ℕ) (f : Flags) → At text f p → Stops p q e (Fails rule (Lex text) (plain full) end (elements f) p.prev_token_end)
+
+-- the literal with its brackets
+abbrev pub Elements : List (Option NodeId) → Parser → Parser → Type 0
+Elements ids p q = (text : List ℕ) (f : Flags) → At text f p → Partway text f (array_of f) nothing p q [] ids
+
+abbrev pub NoElements : Parser → Parser → Stop → Type 0
+NoElements p q e = (text : List ℕ) (f : Flags) → At text f p → Stops p q e (Fails rule (Lex text) (plain full) end (array_of f) p.prev_token_end)

@@ -1,0 +1,4 @@
+pub mod Arrays
+pub mod Marked
+pub mod Members
+pub mod Numbers

@@ -1,0 +1,419 @@
+//! Members, `new`, calls and optional chains (ECMA-262, section 13.3).
+
+ghost use Rattle.std.specs.Prelude.{◌≡◌, ◌≤◌, ◌∷◌, [], Some, IfOk, cond, true, false};
+ghost use Rattle.js_base.specs.declared.kind.Kind.TheVariants.{Dot, LBrack, LParen, QuestionDot};
+ghost use Rattle.js_cursor.specs.Moves.{GivesUp};
+ghost use Rattle.js_grammar.specs.Productions.{at, optional_flag, IdentifierName, LeftHandSide};
+ghost use Rattle.js_tree.specs.Labels.{number_of};
+ghost use Rattle.js_parsing.specs.Answers.{Answers};
+ghost use Rattle.js_grammar.specs.Marks.{Mark};
+ghost use Rattle.js_cursor.specs.Places.{goal};
+ghost use Rattle.js_parsing.specs.Lexemes.{read_word};
+ghost use Rattle.js_operands.specs.Members.{CallsMember, ChainsCallee, GoesOnMember, Heads, LinkHere, MakesWithArguments, MakesWithIndex, ReadsLink, TellsChain, flagged_label, no_link_behind};
+ghost use Rattle.js_parsing.specs.Stands.{StandsHere};
+ghost use Rattle.js_operands.specs.Members as members;
+ghost use Rattle.js_parsing.specs.Moves.{MadeHere};
+ghost use Rattle.js_parsing.specs.Nesting.{CanNest, room};
+ghost use Rattle.js_parsing.specs.States.{Standing};
+ghost use Rattle.js_operands.specs.declared.left_hand_side.LinkBase.TheVariants as base;
+
+use crate::arguments::parse_call_arguments;
+use crate::primary::{parse_leaf, parse_primary_expression};
+use js_base::{Diagnostic, DiagnosticKind, Kind, NoMemory, Span};
+use js_cursor::{ParserImpl, Stop};
+use js_lex::ParserConfig;
+use js_parsing::context::expression_with_in;
+use js_parsing::lexemes::{advance, is_read_word, stands};
+use js_parsing::nested::Nested;
+use js_parsing::nodes::make_one;
+use js_tree::{NodeFlags, NodeId, NodeKind, Op};
+
+/// What links go on with.
+#[derive(Clone, Copy)]
+enum LinkBase {
+    /// A MemberExpression: a name or an expression in brackets.
+    Member,
+    /// A CallExpression: these, or arguments.
+    Call,
+    /// An OptionalChain: these, or `?.`.
+    Chain,
+}
+
+/// A LeftHandSideExpression (ECMA-262, section 13.3).
+pub fn parse_lhs_expression_or_higher<C: ParserConfig, N: Nested<C>>(
+    p: &mut ParserImpl<'_, C>,
+    nested: &N,
+) -> Result<NodeId, Stop>
+    requires at { Standing p.old }
+    requires nests { CanNest (N.can nested.now) (room p.old) }
+    ensures { Answers (at LeftHandSide) p.old p.new result }
+{
+    let start = p.cur_start();
+    let member = parse_member_expression_or_higher(p, nested)?;
+    let callee = parse_call_expression_rest(p, nested, start, member)?;
+    parse_optional_chain(p, nested, start, callee)
+}
+
+/// A MemberExpression, or a NewExpression that is none.
+fn parse_member_expression_or_higher<C: ParserConfig, N: Nested<C>>(
+    p: &mut ParserImpl<'_, C>,
+    nested: &N,
+) -> Result<NodeId, Stop>
+    requires at { Standing p.old }
+    requires nests { CanNest (N.can nested.now) (room p.old) }
+    ensures { Heads p.old p.new result }
+{
+    let start = p.cur_start();
+    if stands(p, Kind::New) {
+        advance(p)?;
+        p.enter(1)?;
+        let callee = parse_member_expression_or_higher(p, nested)?;
+        p.leave(1);
+        if stands(p, Kind::QuestionDot) {
+            return Err(refuse_chain(p));
+        }
+        if stands(p, Kind::LParen) {
+            let kind = NodeKind::NewExpression;
+            let node = parse_with_arguments(p, nested, start, kind, false, callee)?;
+            return parse_member_expression_rest(p, nested, start, node);
+        }
+        let span = p.end_span(start);
+        let node = make_one(p, NodeKind::NewExpression, Op::None, span, callee)?;
+        return Ok(node);
+    }
+    let primary = parse_primary_expression(p, nested)?;
+    parse_member_expression_rest(p, nested, start, primary)
+}
+
+/// Gives up at a `?.` behind what `new` stands before.
+#[inline(never)]
+fn refuse_chain<C: ParserConfig>(p: &mut ParserImpl<'_, C>) -> Stop
+    requires at { Standing p.old }
+    requires sign { StandsHere p.old QuestionDot true }
+    ensures { GivesUp (TellsChain p.old.token.span) p.old p.new result }
+{
+    p.set_fatal_error(Diagnostic {
+        kind: DiagnosticKind::InvalidNewOptionalChain,
+        span: p.cur_token().span(),
+        first: None,
+        second: None,
+    })
+}
+
+/// The names and the expressions in brackets behind a member.
+fn parse_member_expression_rest<C: ParserConfig, N: Nested<C>>(
+    p: &mut ParserImpl<'_, C>,
+    nested: &N,
+    start: u32,
+    member: NodeId,
+) -> Result<NodeId, Stop>
+    requires at { Standing p.old }
+    requires nests { CanNest (N.can nested.now) (room p.old) }
+    requires start { start ≤ p.old.prev_token_end }
+    ensures { GoesOnMember start member p.old p.new result }
+{
+    let mut left = member;
+    'links: while link_here(p, LinkBase::Member) {
+        left = parse_link(p, nested, start, left)?;
+    }
+    Ok(left)
+}
+
+/// The calls behind a member, where one stands, and the names and expressions in brackets behind them.
+fn parse_call_expression_rest<C: ParserConfig, N: Nested<C>>(
+    p: &mut ParserImpl<'_, C>,
+    nested: &N,
+    start: u32,
+    member: NodeId,
+) -> Result<NodeId, Stop>
+    requires at { Standing p.old }
+    requires nests { CanNest (N.can nested.now) (room p.old) }
+    requires start { start ≤ p.old.prev_token_end }
+    ensures { CallsMember start member p.old p.new result }
+{
+    if !stands(p, Kind::LParen) {
+        return Ok(member);
+    }
+    let mut left = parse_link(p, nested, start, member)?;
+    'links: while link_here(p, LinkBase::Call) {
+        left = parse_link(p, nested, start, left)?;
+    }
+    Ok(left)
+}
+
+/// The optional chain behind a callee, where one stands.
+fn parse_optional_chain<C: ParserConfig, N: Nested<C>>(
+    p: &mut ParserImpl<'_, C>,
+    nested: &N,
+    start: u32,
+    callee: NodeId,
+) -> Result<NodeId, Stop>
+    requires at { Standing p.old }
+    requires nests { CanNest (N.can nested.now) (room p.old) }
+    requires start { start ≤ p.old.prev_token_end }
+    ensures { ChainsCallee start callee p.old p.new result }
+{
+    if !stands(p, Kind::QuestionDot) {
+        return Ok(callee);
+    }
+    let mut left = parse_link(p, nested, start, callee)?;
+    'links: while link_here(p, LinkBase::Chain) {
+        left = parse_link(p, nested, start, left)?;
+    }
+    let span = p.end_span(start);
+    let chain = make_one(p, NodeKind::ChainExpression, Op::None, span, left)?;
+    Ok(chain)
+}
+
+/// Whether a link stands here that goes on with such a base.
+fn link_here<C: ParserConfig>(p: &ParserImpl<'_, C>, base: LinkBase) -> bool
+    ensures { LinkHere p.now base result }
+{
+    if stands(p, Kind::Dot) {
+        return true;
+    }
+    if stands(p, Kind::LBrack) {
+        return true;
+    }
+    match base {
+        LinkBase::Member => false,
+        LinkBase::Call => stands(p, Kind::LParen),
+        LinkBase::Chain => {
+            if stands(p, Kind::LParen) {
+                return true;
+            }
+            stands(p, Kind::QuestionDot)
+        }
+    }
+}
+
+/// The link that stands here, behind what was read.
+#[inline(never)]
+fn parse_link<C: ParserConfig, N: Nested<C>>(
+    p: &mut ParserImpl<'_, C>,
+    nested: &N,
+    start: u32,
+    left: NodeId,
+) -> Result<NodeId, Stop>
+    requires at { Standing p.old }
+    requires nests { CanNest (N.can nested.now) (room p.old) }
+    requires start { start ≤ p.old.prev_token_end }
+    requires link { LinkHere p.old base.Chain true }
+    ensures { ReadsLink start left p.old p.new result }
+{
+    if stands(p, Kind::LParen) {
+        return parse_with_arguments(p, nested, start, NodeKind::CallExpression, false, left);
+    }
+    if stands(p, Kind::LBrack) {
+        return parse_with_index(p, nested, start, false, left);
+    }
+    if stands(p, Kind::QuestionDot) {
+        return parse_optional_link(p, nested, start, left);
+    }
+    parse_named_link(p, start, left)
+}
+
+/// `?.` and arguments, an expression in brackets or a name, behind what was read.
+fn parse_optional_link<C: ParserConfig, N: Nested<C>>(
+    p: &mut ParserImpl<'_, C>,
+    nested: &N,
+    start: u32,
+    left: NodeId,
+) -> Result<NodeId, Stop>
+    requires at { Standing p.old }
+    requires nests { CanNest (N.can nested.now) (room p.old) }
+    requires start { start ≤ p.old.prev_token_end }
+    requires sign { StandsHere p.old QuestionDot true }
+    ensures { ReadsLink start left p.old p.new result }
+{
+    let sign = p.cur_token().span();
+    advance(p)?;
+    if stands(p, Kind::LParen) {
+        return parse_with_arguments(p, nested, start, NodeKind::CallExpression, true, left);
+    }
+    if stands(p, Kind::LBrack) {
+        return parse_with_index(p, nested, start, true, left);
+    }
+    if lacks_link(p.cur_kind()) {
+        return Err(refuse_optional_link(p, sign));
+    }
+    let name = parse_identifier_name(p)?;
+    let node = make_member(p, start, NodeKind::StaticMemberExpression, true, left, name)?;
+    Ok(node)
+}
+
+/// Whether no optional link goes on with this behind its `?.`: it is no word and no private name, begins no arguments, no
+/// brackets and no template, and is a lexeme.
+fn lacks_link(kind: Kind) -> bool
+    ensures { result ≡ true → read_word kind ≡ false }
+{
+    !kind.is_identifier_name()
+        && !matches!(
+            kind,
+            Kind::PrivateIdentifier
+                | Kind::LParen
+                | Kind::LBrack
+                | Kind::NoSubstitutionTemplate
+                | Kind::TemplateHead
+                | Kind::Undetermined
+        )
+}
+
+/// Gives up behind a `?.` that stood at a span, where no link goes on with what stands here.
+#[inline(never)]
+fn refuse_optional_link<C: ParserConfig>(p: &mut ParserImpl<'_, C>, sign: Span) -> Stop
+    requires at { Standing p.old }
+    requires mark { Mark (goal p.old) p.old.text (no_link_behind sign) }
+    ensures { GivesUp (λ d. d ≡ no_link_behind sign) p.old p.new result }
+{
+    p.set_fatal_error(Diagnostic {
+        kind: DiagnosticKind::IdentifierExpectedAfterQuestionDot,
+        span: sign,
+        first: None,
+        second: None,
+    })
+}
+
+/// `.` and a name, behind what was read.
+fn parse_named_link<C: ParserConfig>(
+    p: &mut ParserImpl<'_, C>,
+    start: u32,
+    left: NodeId,
+) -> Result<NodeId, Stop>
+    requires at { Standing p.old }
+    requires start { start ≤ p.old.prev_token_end }
+    requires sign { StandsHere p.old Dot true }
+    ensures { ReadsLink start left p.old p.new result }
+{
+    advance(p)?;
+    let name = parse_identifier_name(p)?;
+    let node = make_member(
+        p,
+        start,
+        NodeKind::StaticMemberExpression,
+        false,
+        left,
+        name,
+    )?;
+    Ok(node)
+}
+
+/// An Expression in brackets, and the node of what stands before and this.
+#[inline(never)]
+fn parse_with_index<C: ParserConfig, N: Nested<C>>(
+    p: &mut ParserImpl<'_, C>,
+    nested: &N,
+    start: u32,
+    optional: bool,
+    left: NodeId,
+) -> Result<NodeId, Stop>
+    requires at { Standing p.old }
+    requires nests { CanNest (N.can nested.now) (room p.old) }
+    requires start { start ≤ p.old.prev_token_end }
+    requires open { p.old.token.kind ≡ LBrack }
+    ensures { MakesWithIndex optional start left p.old p.new result }
+{
+    let opening = p.cur_token().span();
+    advance(p)?;
+    let index = expression_with_in(p, nested)?;
+    p.expect_closing(Kind::RBrack, opening)?;
+    let node = make_member(
+        p,
+        start,
+        NodeKind::ComputedMemberExpression,
+        optional,
+        left,
+        index,
+    )?;
+    Ok(node)
+}
+
+/// Arguments, and the node of these and the callee before them.
+#[inline(never)]
+pub fn parse_with_arguments<C: ParserConfig, N: Nested<C>>(
+    p: &mut ParserImpl<'_, C>,
+    nested: &N,
+    start: u32,
+    kind: NodeKind,
+    optional: bool,
+    callee: NodeId,
+) -> Result<NodeId, Stop>
+    requires at { Standing p.old }
+    requires nests { CanNest (N.can nested.now) (room p.old) }
+    requires start { start ≤ p.old.prev_token_end }
+    requires open { p.old.token.kind ≡ LParen }
+    ensures { MakesWithArguments kind optional start callee p.old p.new result }
+{
+    let mut children = Vec::new(p.alloc);
+    children.push(Some(callee))?;
+    let arguments = parse_call_arguments(p, nested, takes_spreads(kind), children)?;
+    let node = make_with_arguments(p, start, kind, optional, arguments)?;
+    Ok(node)
+}
+
+/// Whether an argument may be spread: not of a call of V8.
+fn takes_spreads(kind: NodeKind) -> bool
+    ensures { result ≡ members.takes_spreads kind }
+{
+    match kind {
+        NodeKind::V8IntrinsicExpression => false,
+        _ => true,
+    }
+}
+
+/// An IdentifierName (ECMA-262, section 12.7).
+pub fn parse_identifier_name<C: ParserConfig>(p: &mut ParserImpl<'_, C>) -> Result<NodeId, Stop>
+    requires { Standing p.old }
+    ensures { Answers (at IdentifierName) p.old p.new result }
+{
+    if p.cur_token().escaped() {
+        return Err(p.set_unexpected());
+    }
+    if !is_read_word(p.cur_kind()) {
+        return Err(p.set_unexpected());
+    }
+    parse_leaf(p, NodeKind::IdentifierName, Op::None)
+}
+
+/// The flags of a link.
+fn link_flags(optional: bool) -> NodeFlags
+    ensures { number_of result ≡ cond optional optional_flag 0 }
+{
+    let mut flags = NodeFlags::default();
+    flags.optional = optional;
+    flags
+}
+
+/// The node of a member and what stands behind it.
+fn make_member<C: ParserConfig>(
+    p: &mut ParserImpl<'_, C>,
+    start: u32,
+    kind: NodeKind,
+    optional: bool,
+    left: NodeId,
+    right: NodeId,
+) -> Result<NodeId, NoMemory>
+    requires start { start ≤ p.old.prev_token_end }
+    ensures { IfOk result (λ id. MadeHere (flagged_label kind optional start p.old.prev_token_end) (Some left ∷ Some right ∷ []) p.old p.new id) }
+{
+    let span = p.end_span(start);
+    let flags = link_flags(optional);
+    p.ast
+        .node_of_two(kind, span, Op::None, flags, Some(left), Some(right))
+}
+
+/// The node of a callee and its arguments.
+fn make_with_arguments<C: ParserConfig>(
+    p: &mut ParserImpl<'_, C>,
+    start: u32,
+    kind: NodeKind,
+    optional: bool,
+    children: Vec<Option<NodeId>>,
+) -> Result<NodeId, NoMemory>
+    requires start { start ≤ p.old.prev_token_end }
+    ensures { IfOk result (λ id. MadeHere (flagged_label kind optional start p.old.prev_token_end) children.items p.old p.new id) }
+{
+    let span = p.end_span(start);
+    let flags = link_flags(optional);
+    p.ast.node(kind, span, Op::None, flags, None, children)
+}

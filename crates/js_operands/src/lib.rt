@@ -1,0 +1,7 @@
+//! Operands: literals, parentheses, arrays, and left-hand sides (ECMA-262, sections 13.2 and 13.3).
+#![tactic(auto)]
+
+pub mod arguments;
+pub mod array;
+pub mod left_hand_side;
+pub mod primary;

@@ -1,0 +1,213 @@
+//! Names, literals and parentheses (ECMA-262, section 13.2).
+
+ghost use Rattle.std.specs.Prelude.{◌≡◌, true, false, MatchResult, ◌<◌, length};
+ghost use Rattle.js_base.specs.KindSets.{number_kinds};
+ghost use Rattle.js_base.specs.Kinds.{one_of_kinds};
+ghost use Rattle.js_base.specs.declared.kind.Kind.TheVariants.{LParen, Percent, RParen};
+ghost use Rattle.js_grammar.specs.Productions.{at, Primary};
+ghost use Rattle.js_cursor.specs.Moves.{OnlyMemory, Opened};
+ghost use Rattle.js_parsing.specs.Answers.{Answers};
+ghost use Rattle.js_tree.specs.Labels.{kind_of};
+ghost use Rattle.js_operands.specs.Marked.{Marks, MarksNode};
+ghost use Rattle.js_operands.specs.Marked as marked;
+ghost use Rattle.js_parsing.specs.Moves.{IsWholeHere, TakesLeaf};
+ghost use Rattle.js_parsing.specs.Nesting.{CanNest, room};
+ghost use Rattle.js_operands.specs.Numbers.{node_of_number, op_of_number};
+ghost use Rattle.js_parsing.specs.Moves.{Passes};
+ghost use Rattle.js_parsing.specs.States.{Standing};
+
+use crate::array::parse_array_expression;
+use crate::left_hand_side::{parse_identifier_name, parse_with_arguments};
+use js_base::{Kind, Span};
+use js_cursor::{ParserImpl, Stop};
+use js_lex::ParserConfig;
+use js_parsing::context::expression_with_in;
+use js_parsing::lexemes::{advance, stands};
+use js_parsing::nested::Nested;
+use js_parsing::nodes::{make_leaf, make_one};
+use js_tree::{BigintBase, NodeFlags, NodeId, NodeKind, NumberBase, Op, ParserAstBuilder};
+
+/// A PrimaryExpression (ECMA-262, section 13.2): a name, a literal, an array, parentheses or a call of V8.
+pub fn parse_primary_expression<C: ParserConfig, N: Nested<C>>(
+    p: &mut ParserImpl<'_, C>,
+    nested: &N,
+) -> Result<NodeId, Stop>
+    requires at { Standing p.old }
+    requires nests { CanNest (N.can nested.now) (room p.old) }
+    ensures { Answers (at Primary) p.old p.new result }
+{
+    if p.cur_token().escaped() {
+        return Err(p.set_unexpected());
+    }
+    if p.cur_kind().is_number() {
+        return parse_number(p);
+    }
+    match p.cur_kind() {
+        Kind::Ident => parse_leaf(p, NodeKind::IdentifierReference, Op::None),
+        Kind::This => parse_leaf(p, NodeKind::ThisExpression, Op::None),
+        Kind::Null => parse_leaf(p, NodeKind::NullLiteral, Op::None),
+        Kind::True | Kind::False => parse_leaf(p, NodeKind::BooleanLiteral, Op::None),
+        Kind::Str => parse_leaf(p, NodeKind::StringLiteral, Op::None),
+        Kind::LParen => parse_parenthesized_expression(p, nested),
+        Kind::LBrack => parse_array_expression(p, nested),
+        Kind::Percent => parse_v8_intrinsic_expression(p, nested),
+        _ => Err(p.set_unexpected()),
+    }
+}
+
+/// A NumericLiteral (ECMA-262, section 12.9.3), or one of a BigInt, which has a node of its own.
+#[inline(never)]
+fn parse_number<C: ParserConfig>(p: &mut ParserImpl<'_, C>) -> Result<NodeId, Stop>
+    requires at { Standing p.old }
+    requires number { one_of_kinds number_kinds p.old.token.kind ≡ true }
+    requires plain { p.old.token.escaped ≡ false }
+    ensures { Answers (at Primary) p.old p.new result }
+{
+    let kind = p.cur_kind();
+    parse_leaf(p, number_node(kind), number_op(kind))
+}
+
+/// The kind of the node of a number.
+fn number_node(kind: Kind) -> NodeKind
+    ensures { result ≡ node_of_number kind }
+{
+    match kind {
+        Kind::DecimalBigInt | Kind::BinaryBigInt | Kind::OctalBigInt | Kind::HexBigInt => {
+            NodeKind::BigIntLiteral
+        }
+        _ => NodeKind::NumericLiteral,
+    }
+}
+
+/// How a number is written.
+fn number_op(kind: Kind) -> Op
+    ensures { result ≡ op_of_number kind }
+{
+    match kind {
+        Kind::Float => Op::Number(NumberBase::Float),
+        Kind::Binary => Op::Number(NumberBase::Binary),
+        Kind::Octal => Op::Number(NumberBase::Octal),
+        Kind::Hex => Op::Number(NumberBase::Hex),
+        Kind::PositiveExponential | Kind::NegativeExponential => Op::Number(
+            NumberBase::Exponential,
+        ),
+        Kind::DecimalBigInt => Op::Bigint(BigintBase::Decimal),
+        Kind::BinaryBigInt => Op::Bigint(BigintBase::Binary),
+        Kind::OctalBigInt => Op::Bigint(BigintBase::Octal),
+        Kind::HexBigInt => Op::Bigint(BigintBase::Hex),
+        _ => Op::Number(NumberBase::Decimal),
+    }
+}
+
+/// An Expression in parentheses (ECMA-262, section 13.2.9).
+fn parse_parenthesized_expression<C: ParserConfig, N: Nested<C>>(
+    p: &mut ParserImpl<'_, C>,
+    nested: &N,
+) -> Result<NodeId, Stop>
+    requires at { Standing p.old }
+    requires nests { CanNest (N.can nested.now) (room p.old) }
+    requires kind { p.old.token.kind ≡ LParen }
+    ensures { Answers (at Primary) p.old p.new result }
+{
+    let opening = p.cur_token().span();
+    advance(p)?;
+    let expression = expression_with_in(p, nested)?;
+    close_parentheses(p, opening)?;
+    mark_in_parentheses(p, expression);
+    let span = p.end_span(opening.start);
+    let kind = NodeKind::ParenthesizedExpression;
+    let node = make_one(p, kind, Op::None, span, expression)?;
+    Ok(node)
+}
+
+/// Whether it is a function expression or an arrow function.
+fn is_function(kind: NodeKind) -> bool
+    ensures { result ≡ marked.is_function (kind_of kind) }
+{
+    match kind {
+        NodeKind::FunctionExpression | NodeKind::ArrowFunctionExpression => true,
+        _ => false,
+    }
+}
+
+/// Marks the node of a function.
+fn mark_function(ast: &mut ParserAstBuilder, id: NodeId)
+    requires { id.0 < length ast.old }
+    ensures { MarksNode id ast.old ast.new }
+{
+    if !is_function(ast.kind(id)) {
+        return;
+    }
+    let flags = NodeFlags {
+        pife: true,
+        ..ast.flags(id)
+    };
+    ast.set_flags(id, flags);
+}
+
+/// Marks a function that stands directly in parentheses: it is probably called at once.
+fn mark_in_parentheses<C: ParserConfig>(p: &mut ParserImpl<'_, C>, expression: NodeId)
+    requires { expression.0 < length p.old.nodes }
+    ensures { Marks expression p.old p.new }
+{
+    mark_function(&mut p.ast, expression);
+}
+
+/// Moves on over the closing parenthesis, whose opening one stood at a span.
+pub fn close_parentheses<C: ParserConfig>(
+    p: &mut ParserImpl<'_, C>,
+    opening: Span,
+) -> Result<(), Stop>
+    requires at { Standing p.old }
+    requires opened { Opened p.old opening }
+    ensures { Passes RParen p.old p.new result }
+{
+    p.expect_closing(Kind::RParen, opening)
+}
+
+/// Whether calls of V8 are read.
+fn allows_v8<C: ParserConfig>(p: &ParserImpl<'_, C>) -> bool
+    ensures { result ≡ p.now.options.allow_v8_intrinsics }
+{
+    p.options.allow_v8_intrinsics
+}
+
+/// A call of V8, `%name(..)`, where the options allow it.
+#[inline(never)]
+fn parse_v8_intrinsic_expression<C: ParserConfig, N: Nested<C>>(
+    p: &mut ParserImpl<'_, C>,
+    nested: &N,
+) -> Result<NodeId, Stop>
+    requires at { Standing p.old }
+    requires nests { CanNest (N.can nested.now) (room p.old) }
+    requires kind { p.old.token.kind ≡ Percent }
+    ensures { Answers (at Primary) p.old p.new result }
+{
+    if !allows_v8(p) {
+        return Err(p.set_unexpected());
+    }
+    let start = p.cur_start();
+    advance(p)?;
+    let name = parse_identifier_name(p)?;
+    if !stands(p, Kind::LParen) {
+        return Err(p.set_unexpected());
+    }
+    let kind = NodeKind::V8IntrinsicExpression;
+    parse_with_arguments(p, nested, start, kind, false, name)
+}
+
+/// A node of one lexeme.
+pub fn parse_leaf<C: ParserConfig>(
+    p: &mut ParserImpl<'_, C>,
+    kind: NodeKind,
+    op: Op,
+) -> Result<NodeId, Stop>
+    requires at { Standing p.old }
+    requires whole { IsWholeHere p.old }
+    ensures { MatchResult result (λ id. TakesLeaf kind op p.old p.new id) OnlyMemory }
+{
+    let span = p.cur_token().span();
+    advance(p)?;
+    let node = make_leaf(p, kind, op, span)?;
+    Ok(node)
+}

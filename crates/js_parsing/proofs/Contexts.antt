@@ -1,0 +1,63 @@
+-- What is read under other parameters, and those from before again.
+use Rattle.std.proofs.Common.{ℕ, ◌≡◌, true, false, List, refl, sym, ap, subst, ◌∙◌}
+use Rattle.js_base.specs.declared.context.Context.{Context}
+use Rattle.js_base.specs.Contexts.{SetsFlag, in_flag, yield_flag, await_flag, return_flag, new_target_flag}
+use Rattle.js_grammar.specs.Productions.{Flags, Symbol, plus_in}
+use Rattle.js_tree.specs.declared.id.NodeId.{NodeId}
+use Rattle.js_cursor.specs.Parsers.{Parser}
+use Rattle.js_cursor.specs.Places.{IsAt}
+use Rattle.js_cursor.specs.declared.stop.Stop.{Stop}
+use Rattle.js_cursor.proofs.Later.{follows_on}
+use Rattle.js_cursor.proofs.Changing.{ctx_set}
+use Rattle.js_parsing.specs.Answers.{Numbered, Stops, Underived}
+use Rattle.js_parsing.specs.Contexts.{arrow_body}
+use Rattle.js_parsing.specs.States.{At, IsPlain, whole, sign, nothing, flags_of}
+use Rattle.js_parsing.proofs.Moving.{flags_same, stops_behind}
+
+module _ {text : List ℕ} where
+  plain_under : {p : Parser} (c : Context) → IsPlain text p → IsPlain text (record p { ctx = c })
+  plain_under c (whole d n x) = whole d n x
+  plain_under c (sign d k x) = sign d k x
+  plain_under c (nothing d k n) = nothing d k n
+
+  at_under : {f g : Flags} {p : Parser} (c : Context) → flags_of (record p { ctx = c }) ≡ g → At text f p → At text g (record p { ctx = c })
+  at_under c e a = record { text_is = a.text_is; flags_are = e; at = (ctx_set c a.at).1; plain = plain_under c a.plain; behind = a.behind; heads = a.heads; kept_last = a.kept_last }
+
+  -- with In
+  with_in : {f : Flags} {p : Parser} {c : Context} → At text f p → SetsFlag in_flag true p.ctx c → flags_of (record p { ctx = c }) ≡ plus_in f
+  with_in {f} {p} {c} a s = rw (s.flag, s.others yield_flag (λ e. cc), s.others await_flag (λ e. cc), s.others return_flag (λ e. cc), s.others new_target_flag (λ e. cc)) (ap plus_in a.flags_are)
+
+  pub in_at : {f : Flags} {p q : Parser} {c d : Context} → At text f p → d ≡ p.ctx → SetsFlag in_flag true d c → q ≡ record p { ctx = c } → At text (plus_in f) q
+  in_at {f} {p} {q} {c} {d} a e s h = subst (At text (plus_in f)) (sym h) (at_under c (with_in a (subst (λ (v : Context). SetsFlag in_flag true v c) e s)) a)
+
+  -- without Yield and Await
+  in_arrow : {f : Flags} {p : Parser} {c d : Context} → At text f p → SetsFlag yield_flag false p.ctx c → SetsFlag await_flag false c d → flags_of (record p { ctx = d }) ≡ arrow_body f
+  in_arrow {f} {p} {c} {d} a s t = rw (t.others in_flag (λ e. cc), s.others in_flag (λ e. cc), t.others yield_flag (λ e. cc), s.flag, t.flag, t.others return_flag (λ e. cc), s.others return_flag (λ e. cc), t.others new_target_flag (λ e. cc), s.others new_target_flag (λ e. cc)) (ap arrow_body a.flags_are)
+
+  pub arrow_at : {f : Flags} {p q : Parser} {b c d : Context} → At text f p → b ≡ p.ctx → SetsFlag yield_flag false b c → SetsFlag await_flag false c d → q ≡ record p { ctx = d } → At text (arrow_body f) q
+  arrow_at {f} {p} {q} {b} {c} {d} a e s t h = subst (At text (arrow_body f)) (sym h) (at_under d (in_arrow a (subst (λ (v : Context). SetsFlag yield_flag false v c) e s) t) a)
+
+  -- and back
+  out_of : {f g : Flags} {n : Symbol} {p q : Parser} {c : Context} {id : NodeId} → At text f p → Numbered text g n (record p { ctx = c }) q id → Numbered text f n p (record q { ctx = p.ctx }) id
+  out_of {f} {g} {n} {p} {q} {c} a x = record {
+    answer = record {
+      at = at_under p.ctx (flags_same p (record q { ctx = p.ctx }) refl x.answer.same.follows.source_type x.answer.same.options ∙ a.flags_are) x.answer.at;
+      same = record { follows = follows_on (ctx_set c a.at).0 (follows_on x.answer.same.follows (ctx_set p.ctx x.answer.at.at).0); options = x.answer.same.options; ctx = refl; depth = x.answer.same.depth; visits = x.answer.same.visits };
+      further = x.answer.further;
+      label = x.answer.label;
+      slots = x.answer.slots;
+      stops = x.answer.stops;
+      row = x.answer.row;
+      pass = x.answer.pass;
+      walked = x.answer.walked;
+      verdict = x.answer.verdict;
+    };
+    holds = x.holds;
+    keeps = x.keeps;
+  }
+
+  pub out_of_context : {f g : Flags} {n : Symbol} {p e q w : Parser} {c d : Context} {id : NodeId} → At text f p → d ≡ p.ctx → e ≡ record p { ctx = c } → Numbered text g n e q id → w ≡ record q { ctx = d } → Numbered text f n p w id
+  out_of_context {f} {g} {n} {p} {e} {q} {w} {c} {d} {id} a i h x j = subst (λ (r : Parser). Numbered text f n p r id) (sym (j ∙ ap (λ (v : Context). record q { ctx = v }) i)) (out_of a (subst (λ (r : Parser). Numbered text g n r q id) h x))
+
+pub stops_in_context : (text : List ℕ) (n : Symbol) (p e q : Parser) (c : Context) (s : Stop) → IsAt p → e ≡ record p { ctx = c } → Stops e q s (Underived text n e.prev_token_end) → Stops p q s (Underived text n p.prev_token_end)
+stops_in_context text n p e q c s a h x = stops_behind q s (ctx_set c a).0 (λ g. g) (λ x. x) (subst (λ (r : Parser). Stops r q s (Underived text n r.prev_token_end)) h x)

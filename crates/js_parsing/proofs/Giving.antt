@@ -1,0 +1,40 @@
+-- What is said where a parse function gives up, and where nothing is read.
+use Rattle.std.proofs.Common.{ℕ, ◌≡◌, true, List, [], ◌∷◌, sym, ap, subst, ◌∙◌}
+use Rattle.std.proofs.lemmas.Bool.{false≢true}
+use Rattle.js_base.specs.declared.diagnostic.Diagnostic.{Diagnostic}
+use Rattle.js_grammar.specs.Trees.{Slots}
+use Rattle.js_grammar.specs.Grammar.{Lexeme, here}
+use Rattle.js_grammar.specs.Parsing.{Test, Fails}
+use Rattle.js_grammar.specs.Productions.{G, Flags}
+use Rattle.js_grammar.specs.Table.{rule}
+use Rattle.js_grammar.proofs.Calculus.{here_at}
+use Rattle.js_cursor.specs.Parsers.{Parser}
+use Rattle.js_cursor.specs.Moves.{Keeps, GivesUp, OnlyMemory}
+use Rattle.js_cursor.specs.declared.stop.Stop.{Stop}
+use Rattle.js_cursor.specs.declared.stop.Stop.TheVariants.{Fatal, NoMemory}
+use Rattle.js_cursor.proofs.Later.{keeps_follows}
+use Rattle.js_parsing.specs.Heads.{NotedHeads}
+use Rattle.js_parsing.specs.Lexemes.{Lex}
+use Rattle.js_parsing.specs.States.{At}
+use Rattle.js_parsing.specs.Answers.{Grown, Stops}
+use Rattle.js_parsing.proofs.Here.{escaped_here}
+use Rattle.js_parsing.proofs.Tight.{read_plain}
+
+pub kept_one : {d : Diagnostic} {p q : Parser} → Keeps d p q → Grown p.errors q.errors
+kept_one {d} k = record { more = d ∷ []; kept = ap (λ (r : Parser). r.errors) k.is; some = λ e. cc }
+
+pub gives_up : {text : List ℕ} {f : Flags} (P : Diagnostic → Type 0) (p q : Parser) {F : Type 0} (e : Stop) → At text f p → GivesUp P p q e → F → Stops p q e F
+gives_up P p q Fatal a g x = record { at = g.2.at; follows = keeps_follows g.2; grown = kept_one g.2; heads = subst NotedHeads (sym g.2.is) a.heads; none = x }
+gives_up P p q NoMemory a g x = tt
+
+pub memory_stops : (p q : Parser) (e : Stop) (F : Type 0) → OnlyMemory e → Stops p q e F
+memory_stops p q Fatal F m = absurd m
+memory_stops p q NoMemory F m = tt
+
+-- where no lexeme that is read stands, nothing is derived
+pub fails_none : {text : List ℕ} {s : ℕ} {X : Test} {ks : Slots} {g : G} → ((y : Lexeme) → Lex text s y → ⊥) → Fails rule (Lex text) X ks g s
+fails_none {text} n = record { no = λ ts vs k ls rest l d e. n (here ls) (here_at (Lex text) ls l) }
+
+-- no lexeme with an escape is read
+pub fails_escaped : {text : List ℕ} {f : Flags} {p : Parser} {X : Test} {ks : Slots} {g : G} → At text f p → p.token.escaped ≡ true → Fails rule (Lex text) X ks g p.prev_token_end
+fails_escaped a e = fails_none (λ y l. false≢true (sym (read_plain y l.1) ∙ (escaped_here a y l ∙ e)))

@@ -1,0 +1,136 @@
+-- What the parse functions of operands answer, from what the calls in them answer.
+use Rattle.std.proofs.Common.{ℕ, ◌≡◌, max, List, [], ◌∷◌, Bool, true, false, ◌||◌, IsTrue, refl, sym, subst, arith}
+use Rattle.std.specs.Prelude.{Result, Ok, Err}
+use Rattle.std.proofs.lemmas.Bool.{false≢true}
+use Rattle.js_base.specs.declared.kind.Kind.TheVariants.{Minus, Plus, Bang, Tilde, Typeof, Void, Delete}
+use Rattle.js_base.specs.declared.kind.Kind.{Kind}
+use Rattle.js_base.specs.Kinds.{one_of_kinds}
+use Rattle.js_grammar.specs.Trees.{Slots, end, tree, Label, unary_expression}
+use Rattle.js_grammar.specs.Grammar.{Lexeme, Lexemes, seen, such, nothing, alt, ◌▸◌}
+use Rattle.js_grammar.specs.Parsing.{always, Goes, still}
+use Rattle.js_grammar.specs.Productions.{G, Flags, Symbol, at, tok, op, branches, Unary, Update}
+use Rattle.js_grammar.specs.Productions.{sym as symbol}
+use Rattle.js_grammar.specs.Table.{rule, rule_of}
+use Rattle.js_grammar.specs.Follow.{edge_of, row_of, follow, after}
+use Rattle.js_grammar.specs.Insertion.{Row, after_expression, after_postfix, after_body, after_yield, after_declarator, after_word}
+use Rattle.js_grammar.proofs.Looks.{covers, apart}
+use Rattle.js_grammar.proofs.Calculus.{◌▹◌, ◌▹✗◌, left, by_rule, weaken_on, weaken_fails_on}
+use Rattle.js_parsing.specs.Operators.{unary_kinds}
+use Rattle.js_parsing.proofs.Verdicts.{verdict_of}
+use Rattle.js_grammar.proofs.RightEdges.{may_end, of_operand, of_assignment, same_row}
+use Rattle.js_grammar.proofs.FollowLaws.{passes_on, same_read, fails_by}
+use Rattle.js_tree.specs.declared.id.NodeId.{NodeId}
+use Rattle.js_cursor.specs.Parsers.{Parser}
+use Rattle.js_cursor.specs.declared.stop.Stop.{Stop}
+use Rattle.js_cursor.specs.declared.stop.Stop.TheVariants.{Fatal, NoMemory}
+use Rattle.js_parsing.specs.Lexemes.{Lex}
+use Rattle.js_parsing.specs.States.{At}
+use Rattle.js_parsing.specs.Answers.{Verdict, Stretch, Underived, Numbered, Outcome, beside}
+use Rattle.js_parsing.proofs.Dead.{live, lives}
+use Rattle.js_parsing.proofs.Paths.{reads, fails_at}
+use Rattle.js_parsing.proofs.Tight.{narrowing}
+
+-- what is left of a line, where that is another symbol
+pub by_left : (n m : Symbol) → live (rule n) ≡ such m always → (text : List ℕ) (s : ℕ) → Goes rule (Lex text) (after n) end (rule n) s (such m always) s (λ us. us) (still 0)
+by_left n m e text s = subst (λ (g : G). Goes rule (Lex text) (after n) end (rule n) s g s (λ us. us) (still 0)) e (lives (rule n))
+
+-- A symbol of which only another one is left is read as this.
+module _ (n m : Symbol) (h : passes_on n.name m.name ≡ true) (i : n.flags.in_ ≡ m.flags.in_) (text : List ℕ) (s : ℕ) (g : Goes rule (Lex text) (after n) end (rule n) s (such m always) s (λ us. us) (still 0)) where
+  pub lift_fails : Underived text m s → Underived text n s
+  lift_fails x = fails_by (g ▹✗ weaken_fails_on x (same_read n m h i))
+
+  pub lift_stretch : {s' : ℕ} {l : Label} {cs : Slots} {pass : Lexemes → Lexemes} → Stretch text (after m) (such m always) s nothing s' (tree l cs) pass → Stretch text (after n) (such n always) s nothing s' (tree l cs) pass
+  lift_stretch y = record { reach = max 0 y.reach; near = let k = y.near in omega arith; goes = by_rule {X' = after n} (λ l cs vs z d. d) (g ▹ weaken_on y.goes (same_read n m h i)) refl }
+
+  unfoldable pub lift : {f : Flags} {p q : Parser} {id : NodeId} → p.prev_token_end ≡ s → (x : Numbered text f m p q id) → may_end n.name (row_of x.answer.label x.answer.slots) ≡ true → ((y : Lexeme) → Lex text q.prev_token_end y → IsTrue (seen (follow n (edge_of x.answer.label x.answer.slots)) y || seen beside y)) → Numbered text f n p q id
+  lift {p = p} {q = q} e x r k = record {
+    answer = record {
+      at = x.answer.at;
+      same = x.answer.same;
+      further = x.answer.further;
+      label = x.answer.label;
+      slots = x.answer.slots;
+      stops = k;
+      row = r;
+      pass = x.answer.pass;
+      walked = x.answer.walked;
+      verdict = subst (λ (v : ℕ). Verdict p.errors q.errors (Stretch text (after n) (such n always) v nothing q.prev_token_end (tree x.answer.label x.answer.slots) x.answer.pass) (Underived text n v)) (sym e)
+          (verdict_of (subst (λ (v : ℕ). Verdict p.errors q.errors (Stretch text (after m) (such m always) v nothing q.prev_token_end (tree x.answer.label x.answer.slots) x.answer.pass) (Underived text m v)) e x.answer.verdict) (λ y. lift_stretch y) (λ z. lift_fails z));
+    };
+    holds = x.holds;
+    keeps = x.keeps;
+  }
+
+-- what the call answered, as an answer of n
+module _ (n m : Symbol) (h : passes_on n.name m.name ≡ true) (i : n.flags.in_ ≡ m.flags.in_) where
+  pub lift_result : (text : List ℕ) (f : Flags) (p q : Parser) (r : Result NodeId Stop) → Goes rule (Lex text) (after n) end (rule n) p.prev_token_end (such m always) p.prev_token_end (λ us. us) (still 0)
+      → ((id : NodeId) (x : Numbered text f m p q id) → may_end n.name (row_of x.answer.label x.answer.slots) ≡ true)
+      → ((id : NodeId) (x : Numbered text f m p q id) (y : Lexeme) → Lex text q.prev_token_end y → IsTrue (seen (follow n (edge_of x.answer.label x.answer.slots)) y || seen beside y))
+      → Outcome text f m p q r → Outcome text f n p q r
+  lift_result text f p q (Ok id) g r k x = lift n m h i text p.prev_token_end g refl x (r id x) (k id x)
+  lift_result text f p q (Err Fatal) g r k x = record { at = x.at; follows = x.follows; grown = x.grown; heads = x.heads; none = lift_fails n m h i text p.prev_token_end g x.none }
+  lift_result text f p q (Err NoMemory) g r k x = tt
+
+-- What binds an operand less than n, binds it less than m, if it is none of these kinds; the checks compute.
+pub narrow_operand : (n m : ℕ) (ks : List Kind) → covers reads (narrowing n m ks true after_expression) ≡ true → covers reads (narrowing n m ks false after_expression) ≡ true → covers reads (narrowing n m ks true after_postfix) ≡ true → covers reads (narrowing n m ks false after_postfix) ≡ true → (b : Bool) (r : Row) → of_operand r ≡ true → covers reads (narrowing n m ks b r) ≡ true
+narrow_operand n m ks c d g h true after_expression o = c
+narrow_operand n m ks c d g h false after_expression o = d
+narrow_operand n m ks c d g h true after_postfix o = g
+narrow_operand n m ks c d g h false after_postfix o = h
+narrow_operand n m ks c d g h b after_body o = absurd (false≢true o)
+narrow_operand n m ks c d g h b after_yield o = absurd (false≢true o)
+narrow_operand n m ks c d g h b after_declarator o = absurd (false≢true o)
+narrow_operand n m ks c d g h b after_word o = absurd (false≢true o)
+
+-- and so an assignment, which may be a function or a `yield` as well
+pub narrow_assignment : (n m : ℕ) (ks : List Kind) → ((b : Bool) (r : Row) → of_operand r ≡ true → covers reads (narrowing n m ks b r) ≡ true) → covers reads (narrowing n m ks true after_body) ≡ true → covers reads (narrowing n m ks false after_body) ≡ true → covers reads (narrowing n m ks true after_yield) ≡ true → covers reads (narrowing n m ks false after_yield) ≡ true → (b : Bool) (r : Row) → of_assignment r ≡ true → covers reads (narrowing n m ks b r) ≡ true
+narrow_assignment n m ks a c d g h b after_expression o = a b after_expression refl
+narrow_assignment n m ks a c d g h b after_postfix o = a b after_postfix refl
+narrow_assignment n m ks a c d g h true after_body o = c
+narrow_assignment n m ks a c d g h false after_body o = d
+narrow_assignment n m ks a c d g h true after_yield o = g
+narrow_assignment n m ks a c d g h false after_yield o = h
+narrow_assignment n m ks a c d g h b after_declarator o = absurd (false≢true o)
+narrow_assignment n m ks a c d g h b after_word o = absurd (false≢true o)
+
+pub plain_row : (r : Row) → same_row after_expression r ≡ true → r ≡ after_expression
+plain_row after_expression h = refl
+plain_row after_postfix h = absurd (false≢true h)
+plain_row after_body h = absurd (false≢true h)
+plain_row after_yield h = absurd (false≢true h)
+plain_row after_declarator h = absurd (false≢true h)
+plain_row after_word h = absurd (false≢true h)
+
+pub operand_assigned : (r : Row) → of_operand r ≡ true → of_assignment r ≡ true
+operand_assigned after_expression h = refl
+operand_assigned after_postfix h = refl
+operand_assigned after_body h = absurd (false≢true h)
+operand_assigned after_yield h = absurd (false≢true h)
+operand_assigned after_declarator h = absurd (false≢true h)
+operand_assigned after_word h = absurd (false≢true h)
+
+pub primary_operand : (r : Row) → same_row after_expression r ≡ true → of_operand r ≡ true
+primary_operand after_expression h = refl
+primary_operand after_postfix h = absurd (false≢true h)
+primary_operand after_body h = absurd (false≢true h)
+primary_operand after_yield h = absurd (false≢true h)
+primary_operand after_declarator h = absurd (false≢true h)
+primary_operand after_word h = absurd (false≢true h)
+
+abbrev pub unary_part : Flags → G
+unary_part f = branches (Minus ∷ Plus ∷ Bang ∷ Tilde ∷ Typeof ∷ Void ∷ Delete ∷ []) (λ o. op unary_expression o (tok o ▸ symbol Unary f))
+
+unary_left : (f : Flags) → live (rule (at Unary f)) ≡ alt (such (at Update f) always) (unary_part f)
+unfolding rule rule_of apart
+unary_left f = refl
+
+-- Answers of a symbol of which only another one is left.
+
+-- where no unary operator stands
+no_operator : {text : List ℕ} {f : Flags} {p : Parser} → At text f p → one_of_kinds unary_kinds p.token.kind ≡ false → Goes rule (Lex text) (after (at Unary f)) end (rule (at Unary f)) p.prev_token_end (such (at Update f) always) p.prev_token_end (λ us. us) (still 0)
+unfolding covers apart
+no_operator {text} {f} {p} a n = subst (λ (g : G). Goes rule (Lex text) (after (at Unary f)) end (rule (at Unary f)) p.prev_token_end g p.prev_token_end (λ us. us) (still 0)) (unary_left f) (lives (rule (at Unary f))) ▹ left (fails_at a {X = after (at Unary f)} (unary_part f) unary_kinds refl n)
+
+pub unary_result : {text : List ℕ} {f : Flags} {p : Parser} (q : Parser) (r : Result NodeId Stop) → At text f p → one_of_kinds unary_kinds p.token.kind ≡ false → Outcome text f (at Update f) p q r → Outcome text f (at Unary f) p q r
+unfolding covers
+unary_result {text} {f} {p} q r a n x = lift_result (at Unary f) (at Update f) refl refl text f p q r (no_operator a n) (λ i y. y.answer.row) (λ i y z l. y.answer.stops z l) x

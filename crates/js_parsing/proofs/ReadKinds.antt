@@ -1,0 +1,61 @@
+-- Whether a lexeme that is read stands at a place.
+use Rattle.std.proofs.Common.{ℕ, ◌≡◌, Bool, true, false, not, ◌&&◌, ◌||◌, List, refl, sym, ap, subst, ◌∙◌}
+use Rattle.std.specs.Prelude.{is_some}
+use Rattle.std.proofs.lemmas.Bool.{false≢true, and_from, and_parts}
+use Rattle.js_base.specs.Kinds.{one_of_kinds}
+use Rattle.js_base.specs.KindSets.{number_kinds}
+use Rattle.js_base.specs.Operators.{assignment_operators, row_of}
+use Rattle.js_base.specs.declared.kind.Kind.{Kind}
+use Rattle.js_base.specs.declared.kind.Kind.TheVariants.{PrivateIdentifier, RAngle, Undetermined}
+use Rattle.js_base.specs.Kinds.{same_kind}
+use Rattle.js_base.specs.Texts.{words}
+use Rattle.js_grammar.specs.Grammar.{Lexeme, Look}
+use Rattle.js_grammar.specs.Productions.{Flags}
+use Rattle.js_grammar.specs.Lexemes.{is_word, is_escaped}
+use Rattle.js_grammar.proofs.Looks.{covers, covered}
+use Rattle.js_cursor.specs.Parsers.{Parser}
+use Rattle.js_parsing.specs.Lexemes.{Lex, read_kinds}
+use Rattle.js_parsing.specs.Stands.{ReadsHere}
+use Rattle.js_parsing.specs.States.{At, Standing, IsPlain, whole, sign, nothing as no_lexeme}
+use Rattle.js_parsing.proofs.Here.{cut_angle, cut_escaped, escaped_here, told}
+use Rattle.js_parsing.proofs.Paths.{angles, read_of}
+use Rattle.js_parsing.proofs.Tight.{read_plain}
+
+-- a sign that begins with `>` is read, and has no escape
+abbrev plain_read : Look
+plain_read k w e = one_of_kinds read_kinds k && not (is_word k || same_kind PrivateIdentifier k)
+
+angles_read : covers angles plain_read ≡ true
+unfolding covers words
+angles_read = refl
+
+is_not : (b : Bool) → not b ≡ true → b ≡ false
+is_not true h = absurd (false≢true h)
+is_not false h = refl
+
+read_there : {text : List ℕ} {f : Flags} {p : Parser} → At text f p → p.token.escaped ≡ false → one_of_kinds read_kinds p.token.kind ≡ true → (y : Lexeme) × Lex text p.prev_token_end y
+read_there {text} {p = p} a e r = go a.plain
+  where
+    go : IsPlain text p → (y : Lexeme) × Lex text p.prev_token_end y
+    go (whole c n x) = (x.lexeme, (x.stands.lex, read_of x.lexeme (sym x.tells.kind) (sym x.tells.escaped ∙ e) r))
+    go (sign c k x) =
+        let w = covered angles plain_read angles_read x.lexeme.kind false false (cut_angle x.lexeme (sym x.tells.kind ∙ k)) in
+        let z = and_parts (one_of_kinds read_kinds x.lexeme.kind) _ w in
+        (x.lexeme, (x.stands.lex, read_of x.lexeme refl (sym (cut_escaped x.lexeme) ∙ (sym x.tells.escaped ∙ e)) z.0))
+    go (no_lexeme c k n) = absurd (false≢true (sym (ap (one_of_kinds read_kinds) k) ∙ r))
+
+-- it is what stands there
+none_there : {text : List ℕ} {f : Flags} {p : Parser} → At text f p → one_of_kinds read_kinds p.token.kind ≡ false → (y : Lexeme) → Lex text p.prev_token_end y → ⊥
+none_there {text} {p = p} a r y l = go a.plain
+  where
+    go : IsPlain text p → ⊥
+    go (whole c n x) = false≢true (sym r ∙ subst (λ (v : Kind). one_of_kinds read_kinds v ≡ true) (sym (told a c y l).kind) (and_parts (one_of_kinds read_kinds y.kind) (not y.escaped) l.1).0)
+    go (sign c k x) = false≢true (sym r ∙ ap (one_of_kinds read_kinds) k)
+    go (no_lexeme c k n) = false≢true (sym r ∙ subst (λ (v : Kind). one_of_kinds read_kinds v ≡ true) (sym (told a c y l).kind) (and_parts (one_of_kinds read_kinds y.kind) (not y.escaped) l.1).0)
+
+pub reads_escaped : {p : Parser} → Standing p → p.token.escaped ≡ true → ReadsHere p false
+reads_escaped a e y l = false≢true (sym (read_plain y l.1) ∙ (escaped_here a y l ∙ e))
+
+pub reads_so : {p : Parser} (b : Bool) → Standing p → p.token.escaped ≡ false → b ≡ one_of_kinds read_kinds p.token.kind → ReadsHere p b
+reads_so true a e h = read_there a e (sym h)
+reads_so false a e h = none_there a (sym h)

@@ -1,0 +1,230 @@
+-- Whether a lexeme of some kind stands at a place, and what is kept there.
+use Rattle.std.proofs.Common.{ℕ, ◌≡◌, ◌≤◌, List, [], ◌∷◌, length, Bool, true, false, not, ◌&&◌, ◌||◌, IsTrue, Some, None, refl, sym, ap, subst, arith, ◌∙◌}
+use Rattle.std.specs.Prelude.{Err}
+use Rattle.std.proofs.lemmas.Bool.{false≢true, and_from, and_parts}
+use Rattle.js_base.specs.declared.kind.Kind.{Kind}
+use Rattle.js_base.specs.declared.kind.Kind.TheVariants.{Question, Colon, PrivateIdentifier, RAngle, Undetermined}
+use Rattle.js_base.specs.declared.span.Span.{Span}
+use Rattle.js_base.specs.Kinds.{same_kind, one_of_kinds}
+use Rattle.js_base.specs.Texts.{words}
+use Rattle.js_grammar.specs.Trees.{Span as TreeSpan, Slots, end, tree, Label, no_op, conditional_expression}
+use Rattle.js_grammar.specs.Grammar.{Lexeme, Lexemes, Look, here, seen, such, nothing, exact, is_seq, is_lexeme, is_such, alt, Takes, ◌▸◌}
+use Rattle.js_grammar.specs.Insertion.{Row, after_expression, after_postfix, after_body, after_yield, after_declarator, after_word, assign_operators}
+use Rattle.js_grammar.specs.Lexemes.{is_word, is_escaped}
+use Rattle.js_grammar.specs.Names.{has_backslash}
+use Rattle.js_grammar.specs.Parsing.{Test, always, Admits, Goes, Fails, still}
+use Rattle.js_grammar.specs.Productions.{G, Flags, at, tok, mk, plus_in, Arrow', Assignment, Conditional, Short}
+use Rattle.js_grammar.specs.Productions.{sym as symbol}
+use Rattle.js_grammar.specs.Table.{rule, rule_of}
+use Rattle.js_grammar.specs.Follow.{edge_of, row_of, follow, after, looser, widest}
+use Rattle.js_grammar.proofs.Looks.{covers, covered, apart}
+use Rattle.js_grammar.proofs.Calculus.{On, Inside, inside_full, ◌▹✗◌, left, right, fails_alt, fails_node, fails_rule, fails_nothing, part_fails, weaken_fails_on}
+use Rattle.js_grammar.proofs.FirstClaims.{firsts}
+use Rattle.js_grammar.proofs.FirstRules.{by_first}
+use Rattle.js_grammar.proofs.FollowLaws.{passes_on, surely, same_read, fails_by}
+use Rattle.js_grammar.proofs.RightEdges.{of_operand}
+use Rattle.js_tree.specs.declared.id.NodeId.{NodeId}
+use Rattle.js_tree.specs.declared.kind.NodeKind.TheVariants as node
+use Rattle.js_tree.specs.declared.op.Op.TheVariants as op
+use Rattle.js_tree.specs.Nodes.{Node}
+use Rattle.js_tree.specs.Holding.{Holds, Keeps}
+use Rattle.js_tree.proofs.HoldingLemmas.{HoldsAll-two, HoldsAll-next, Keeps-trans, Keeps-made}
+use Rattle.js_cursor.specs.Parsers.{Parser}
+use Rattle.js_cursor.specs.Moves.{is_last, at_lexeme}
+use Rattle.js_cursor.specs.declared.stop.Stop.{Stop}
+use Rattle.js_cursor.specs.declared.stop.Stop.TheVariants.{Fatal, NoMemory}
+use Rattle.js_base.specs.declared.diagnostic.DiagnosticKind.TheVariants as fault
+use Rattle.js_base.specs.declared.source_type.SourceType.{SourceType}
+use Rattle.js_base.proofs.KindLemmas.{kind_of_same}
+use Rattle.js_grammar.specs.LexicalFaults.{Reached}
+use Rattle.js_grammar.specs.Lexed.{Lex as StandsBehind, all_faults}
+use Rattle.js_grammar.specs.Marks.{Mark, LexemeAt, a_lexeme, of_kinds}
+use Rattle.js_lex.specs.States.{goal_of}
+use Rattle.js_cursor.specs.Places.{IsAt, goal}
+use Rattle.js_cursor.proofs.Standing.{mark_here}
+use Rattle.js_parsing.specs.Lexemes.{Lex}
+use Rattle.js_parsing.specs.States.{At}
+use Rattle.js_parsing.proofs.Here.{found, told, uncut, kind_here}
+use Rattle.js_parsing.proofs.Paths.{token}
+use Rattle.js_parsing.proofs.Tight.{read_plain}
+use Rattle.std.proofs.Common.{ℕ, ◌≡◌, ◌≤◌, ◌<◌, ◌⊎◌, inl, inr, List, [], ◌∷◌, length, length-append, Bool, true, false, not, cond, ◌&&◌, ◌||◌, IsTrue, Some, None, refl, sym, ap, subst, arith, ◌∙◌, nat_lt}
+use Rattle.std.specs.Prelude.{IsCharBoundary, IsSome, is_some, if◌then◌else◌}
+use Rattle.js_base.specs.declared.operator.UpdateOperator.{UpdateOperator}
+use Rattle.js_base.specs.declared.operator.UpdateOperator.TheVariants as update
+use Rattle.js_base.specs.Operators.{row_of as row_in, update_operators}
+use Rattle.std.proofs.lemmas.Bool.{false≢true, and_from, and_parts, or_left, or_right, lt-ltb}
+use Rattle.js_base.specs.declared.diagnostic.Diagnostic.{Diagnostic}
+use Rattle.js_base.specs.declared.kind.Kind.TheVariants.{Eof, Question, Colon, Plus2, Minus2, PrivateIdentifier, RAngle, Undetermined, Comma, Semicolon, RParen, RBrack}
+use Rattle.js_grammar.specs.Grammar.{Lexeme, Lexemes, Look, seen, here}
+use Rattle.js_grammar.specs.Insertion.{Row, after_expression}
+use Rattle.js_grammar.specs.Marks.{Mark, BehindUpdate, a_lexeme}
+use Rattle.js_grammar.specs.Productions.{Flags, Symbol, at, LeftHandSide, Unary}
+use Rattle.js_grammar.specs.Follow.{looser}
+use Rattle.js_grammar.proofs.Lexemes.{first_or}
+use Rattle.js_lex.specs.Reading.{Tells}
+use Rattle.js_cursor.specs.Places.{goal}
+use Rattle.js_cursor.specs.declared.stop.Stop.TheVariants.{Fatal}
+use Rattle.js_parsing.specs.Answers.{Grown, Verdict, clean, unclean}
+use Rattle.js_parsing.specs.Lexemes.{Lex, read_kinds}
+use Rattle.js_parsing.specs.Moves.{Tightness}
+use Rattle.js_parsing.specs.Operators.{power_of}
+use Rattle.js_parsing.specs.Stands.{ending_kinds, Ended}
+use Rattle.js_parsing.specs.States.{At, IsPlain, whole, sign, nothing as no_lexeme}
+use Rattle.js_parsing.proofs.Here.{found, uncut}
+use Rattle.js_parsing.proofs.Paths.{read_of}
+use Rattle.js_parsing.proofs.Tight.{operator_read, read_plain}
+use Rattle.std.proofs.Common.{ℕ, ◌≡◌, ◌≤◌, ◌⊎◌, inl, inr, max, Bool, true, false, not, ◌&&◌, ◌||◌, IsTrue, List, [], ◌∷◌, refl, sym, ap, subst, arith, ◌∙◌}
+use Rattle.std.proofs.lemmas.Bool.{false≢true, and_parts, and_from, or_left}
+use Rattle.js_base.specs.declared.kind.Kind.TheVariants.{Dot, QuestionDot, New, LParen, LBrack, NoSubstitutionTemplate, TemplateHead, Function}
+use Rattle.js_grammar.specs.Trees.{Slots, end, tree, Label, no_op, static_member_expression, computed_member_expression, call_expression, new_expression}
+use Rattle.js_grammar.specs.Grammar.{Lexeme, Lexemes, Look, here, is, exact, seen, such, alt, never, node, seq, nothing, ◌▸◌}
+use Rattle.js_grammar.specs.Parsing.{Test, plain, full, always, still, joined, Way, Goes, Reads, Fails, Admits}
+use Rattle.js_grammar.specs.Productions.{G, Flags, Symbol, at, tok, mk, make, optional_flag, Primary, Member, Call, Chain, Links, Super, LeftHandSide, IdentifierName}
+use Rattle.js_grammar.specs.Productions.{New as new_symbol, sym as symbol}
+use Rattle.js_grammar.specs.Table.{rule, rule_of, args}
+use Rattle.js_grammar.specs.Insertion.{after_expression}
+use Rattle.js_grammar.specs.Follow.{Edge, edge_of, follow_of, after}
+use Rattle.js_grammar.proofs.Calculus.{Inside, Heads, on_itself, here_at, ◌▹◌, ◌▹✗◌, left, right, then_by, makes_by, inside_full, by_plain, by_rule, fails_node, fails_alt, fails_never, part_fails, weaken, weaken_fails, weaken_on, weaken_fails_on}
+use Rattle.js_grammar.proofs.FirstRules.{by_first, fails_here}
+use Rattle.js_grammar.proofs.FollowLaws.{admits, fails_by, same_read}
+use Rattle.js_grammar.proofs.Loops.{Around, chain_start, chain_start_fails, chain_step_by, chain_step_fails_by, chain_end, linked_starts, beginning, unfollowed}
+use Rattle.js_grammar.proofs.Towers.{Link, link, linked_label, make_of, this, of_left, of_right, OneOf, head, later}
+use Rattle.js_grammar.proofs.Split.{other_heads}
+use Rattle.js_grammar.proofs.Chains.{is_member, is_call, is_links, base_of, climbs, member_links, call_links, chain_links, members, calls, chains}
+use Rattle.js_grammar.proofs.LinkLoops.{OfMember, private, member_name, member_index}
+use Rattle.std.proofs.Common.{ℕ, ◌≡◌, ◌≤◌, ◌<◌, ◌+◌, ◌⊎◌, inl, inr, max, List, [], ◌∷◌, length, Option, Some, None, Bool, true, false, not, ◌&&◌, ◌||◌, IsTrue, refl, sym, ap, subst, arith, ◌∙◌, nat_lt, ◌++◌, cond}
+use Rattle.std.specs.Prelude.{Result, Ok, Err, MatchResult}
+use Rattle.std.proofs.lemmas.Bool.{false≢true, and_parts, and_from}
+use Rattle.js_base.specs.declared.kind.Kind.TheVariants.{RAngle, New, Dot, QuestionDot, LParen, LBrack, RBrack, PrivateIdentifier, Ident, This, Null, True, False, Decimal, Str}
+use Rattle.js_base.specs.KindSets.{identifier_name_kinds}
+use Rattle.js_grammar.specs.Trees.{Slots, end, tree, Label, no_op, identifier_name, new_expression, chain_expression}
+use Rattle.js_grammar.specs.Grammar.{Lexeme, Lexemes, Look, next, seen, exact, seq, such, nothing, ◌▸◌}
+use Rattle.js_grammar.specs.Insertion.{after_expression, is_word}
+use Rattle.js_grammar.specs.Parsing.{Test, plain, full, always, behind, Fails, Way, still, passing}
+use Rattle.js_grammar.specs.Productions.{G, Flags, Symbol, at, tok, mk, plus_in, IdentifierName, Expression, Primary, Member, Call, Chain, Links, LeftHandSide}
+use Rattle.js_grammar.specs.Follow.{Edge, row_of, edge_of, follow, follow_of, after, tight}
+use Rattle.js_grammar.proofs.Looks.{covers, covered, apart, not_both}
+use Rattle.js_grammar.proofs.Calculus.{Inside, inside_full, weaken, ◌▹◌, ◌▹✗◌, then_by, part_fails, fails_node, fails_lexeme, weaken_fails}
+use Rattle.js_grammar.proofs.FollowLaws.{fails_by, surely}
+use Rattle.js_grammar.proofs.RightEdges.{may_end, same_row}
+use Rattle.js_grammar.specs.Lexed.{all_faults}
+use Rattle.js_grammar.specs.Lexed.{Lex as StandsBehind}
+use Rattle.js_base.specs.declared.diagnostic.DiagnosticKind.{DiagnosticKind}
+use Rattle.js_grammar.specs.Marks.{Mark, StandsAt, LexemeAt, of_kinds, a_lexeme}
+use Rattle.js_lex.specs.Reading.{is_right_angle}
+use Rattle.js_tree.specs.declared.kind.NodeKind.{NodeKind as NodeKindMade}
+use Rattle.js_tree.specs.Holding.{Holds, HoldsAll, Keeps}
+use Rattle.js_tree.proofs.HoldingLemmas.{HoldsAll-one, HoldsAll-next, Keeps-refl, Keeps-trans, Keeps-made}
+use Rattle.js_cursor.specs.Checkpoints.{Follows}
+use Rattle.js_cursor.specs.Moves.{Enters, GivesUp, Leaves, MovesOn, OnlyMemory, is_last}
+use Rattle.js_cursor.proofs.Later.{follows_on}
+use Rattle.js_parsing.specs.Answers.{Grown, Verdict, clean}
+use Rattle.js_parsing.specs.Stands.{StandsHere}
+use Rattle.js_parsing.proofs.Here.{told, angled, kind_here, escaped_here, uncut, found}
+use Rattle.js_parsing.proofs.Paths.{token, read_of}
+use Rattle.js_operands.specs.declared.left_hand_side.LinkBase.TheVariants as base
+use Rattle.js_grammar.specs.Lexemes.{is_word as is_name_word}
+
+unescaped : (k : Kind) (u : List ℕ) → (is_word k || same_kind PrivateIdentifier k) ≡ false → is_escaped k u ≡ false
+unescaped k u w = ap (λ (b : Bool). b && has_backslash u) w
+
+-- a punctuator has no escape
+pub plain_sign : {text : List ℕ} {f : Flags} {p : Parser} (k : Kind) → At text f p → p.token.kind ≡ k → same_kind RAngle k ≡ false → is_last k ≡ false → (is_word k || same_kind PrivateIdentifier k) ≡ false → p.token.escaped ≡ false
+plain_sign k a e r l w =
+    let z = found a (uncut a (ap (same_kind RAngle) e ∙ r)) (ap is_last e ∙ l) in
+    let i = sym z.2.kind ∙ e in
+    z.2.escaped ∙ (z.1.escaped ∙ (ap (λ (v : Kind). is_escaped v z.1.word) i ∙ unescaped k z.1.word w))
+
+-- it may be passed
+pub whole_sign : {text : List ℕ} {f : Flags} {p : Parser} (k : Kind) → At text f p → p.token.kind ≡ k → same_kind RAngle k ≡ false → is_last k ≡ false → (p.cut ≡ false) × (is_last p.token.kind ≡ false)
+whole_sign k a e r l = (uncut a (ap (same_kind RAngle) e ∙ r), ap is_last e ∙ l)
+
+pub other_kind : (a k : Kind) → (k ≡ a → ⊥) → one_of_kinds (a ∷ []) k ≡ false
+other_kind a k n = go (same_kind a k) refl
+  where
+    go : (b : Bool) → same_kind a k ≡ b → (b || false) ≡ false
+    go true e = absurd (n (sym (kind_of_same a k e)))
+    go false e = refl
+
+of_ending : (P : Kind → Type 0) (k : Kind) → one_of_kinds ending_kinds k ≡ true → P Eof → P Question → P Colon → P Comma → P Semicolon → P RParen → P RBrack → P k
+of_ending P k h a b c d e f g = first_or P Eof k _ _ refl h a (λ h. first_or P Question k _ _ refl h b (λ h. first_or P Colon k _ _ refl h c (λ h. first_or P Comma k _ _ refl h d (λ h. first_or P Semicolon k _ _ refl h e (λ h. first_or P RParen k _ _ refl h f (λ h. first_or P RBrack k _ _ refl h g (λ h. absurd (false≢true h))))))))
+
+ending_plain : (k : Kind) → one_of_kinds ending_kinds k ≡ true → ((is_word k || same_kind PrivateIdentifier k) ≡ false) × (one_of_kinds read_kinds k ≡ true) × (k ≡ Undetermined → ⊥)
+unfolding words
+ending_plain k h = of_ending (λ k. ((is_word k || same_kind PrivateIdentifier k) ≡ false) × (one_of_kinds read_kinds k ≡ true) × (k ≡ Undetermined → ⊥)) k h (refl, refl, λ e. cc) (refl, refl, λ e. cc) (refl, refl, λ e. cc) (refl, refl, λ e. cc) (refl, refl, λ e. cc) (refl, refl, λ e. cc) (refl, refl, λ e. cc)
+
+-- a lexeme stands there, be it the end
+there : {text : List ℕ} {f : Flags} {p : Parser} → At text f p → p.cut ≡ false → (p.token.kind ≡ Undetermined → ⊥) → (y : Lexeme) × StandsBehind all_faults text p.prev_token_end y × Tells y p.token
+there {text} {p = p} a c n = go a.plain
+  where
+    go : IsPlain text p → (y : Lexeme) × StandsBehind all_faults text p.prev_token_end y × Tells y p.token
+    go (whole q m x) = (x.lexeme, x.stands.lex, x.tells)
+    go (sign q k x) = absurd (false≢true (sym c ∙ q))
+    go (no_lexeme q k m) = absurd (n k)
+
+pub plain_of : (k : Kind) (u : List ℕ) (b : Bool) → b ≡ is_escaped k u → (is_word k || same_kind PrivateIdentifier k) ≡ false → b ≡ false
+plain_of k u b e w = e ∙ ap (λ (z : Bool). z && has_backslash u) w
+
+ending_there : {text : List ℕ} {f : Flags} {p : Parser} → At text f p → p.cut ≡ false → one_of_kinds ending_kinds p.token.kind ≡ true → (y : Lexeme) × Lex text p.prev_token_end y × (y.kind ≡ p.token.kind)
+ending_there {text} {p = p} a c h =
+    let k = ending_plain p.token.kind h in
+    let z = there a c k.2 in
+    let e : z.0.kind ≡ p.token.kind = sym z.2.kind in
+    (z.0, (z.1, read_of z.0 e (plain_of p.token.kind z.1.word z.0.escaped (subst (λ (v : Kind). z.0.escaped ≡ is_escaped v z.1.word) e z.1.escaped) k.0) k.1), e)
+
+strong : (power : ℕ) (e : Bool) (k : ℕ) → power ≡ cond e 0 k → 1 ≤ power → (e ≡ false) × (1 ≤ k)
+strong power true k h l = absurd (omega arith)
+strong power false k h l = (refl, omega arith)
+
+pub ended : {text : List ℕ} {f : Flags} {p q : Parser} {power : ℕ} (b : Bool) → Tightness text f p q power → (IsTrue b → (one_of_kinds ending_kinds q.token.kind ≡ true) ⊎ (1 ≤ power)) → Ended text f p q b
+ended {text} {f} {p} {q} {power} b o h = record { at = o.at; same = o.same; nodes = o.nodes; kept = o.kept; place = o.place; lexeme = λ t. go (h t) }
+  where
+    not_last : (k : Kind) → 1 ≤ power_of f.in_ k → k ≡ Undetermined → ⊥
+    not_last Undetermined l e = absurd (omega arith)
+    not_last _ l e = absurd (cc)
+
+    go : (one_of_kinds ending_kinds q.token.kind ≡ true) ⊎ (1 ≤ power) → (y : Lexeme) × Lex text q.prev_token_end y × IsTrue (one_of_kinds ending_kinds y.kind || nat_lt 0 (power_of f.in_ y.kind))
+    go (inl e) = let z = ending_there o.at o.uncut e in (z.0, z.1, or_left _ _ (subst (λ (k : Kind). one_of_kinds ending_kinds k ≡ true) (sym z.2) e))
+    go (inr l) =
+        let s = strong power q.token.escaped (power_of f.in_ q.token.kind) o.is l in
+        let z = there o.at o.uncut (not_last q.token.kind s.1) in
+        let e : z.0.kind ≡ q.token.kind = sym z.2.kind in
+        (z.0, (z.1, read_of z.0 e (sym z.2.escaped ∙ s.0) (operator_read f.in_ q.token.kind true s.1).0), or_right (one_of_kinds ending_kinds z.0.kind) _ (lt-ltb 0 (power_of f.in_ z.0.kind) (subst (λ (k : Kind). 0 < power_of f.in_ k) (sym e) (let i = s.1 in omega arith))))
+
+grown_length : {K : Type 0} {old new : List K} → Grown old new → length old < length new
+grown_length {K} {old} {new} g = let a = ap length g.kept in let b = length-append old g.more in let c = positive g.more g.some in omega arith
+  where
+    positive : (l : List K) → (l ≡ [] → ⊥) → 0 < length l
+    positive [] n = absurd (n refl)
+    positive (x ∷ l) n = omega arith
+
+-- no more diagnostics than before: none was kept
+pub none_kept : {K : Type 0} {old new : List K} {C B : Type 0} → Verdict old new C B → length new ≡ length old → C
+none_kept (clean e c) l = c
+none_kept (unclean g b) l = let h = grown_length g in absurd (omega arith)
+
+-- what is said where a call gave up
+pub grew : {K : Type 0} {old new : List K} {C B : Type 0} (kept : ℕ) → kept ≡ length old → (length new ≡ kept → ⊥) → Verdict old new C B → Grown old new
+grew kept k h (clean e c) = absurd (h (ap length e ∙ sym k))
+grew kept k h (unclean g b) = g
+
+pub span_is : {from to : ℕ} (s : Span) → s.start ≡ from → s.end ≡ to → s ≡ record { start = from; end = to }
+span_is s a b = λ i. record { start = a i; end = b i }
+
+-- what stands there is of this kind, without an escape
+abbrev pub AllAre : List ℕ → ℕ → Kind → Type 0
+AllAre text s k = (y : Lexeme) → Lex text s y → (y.kind ≡ k) × (y.escaped ≡ false)
+
+abbrev pub NoneIs : List ℕ → ℕ → Kind → Type 0
+NoneIs text s k = (y : Lexeme) → Lex text s y → y.kind ≡ k → ⊥
+
+module _ {text : List ℕ} {f : Flags} {p : Parser} (a : At text f p) where
+  pub stands_there : {k : Kind} → p.token.kind ≡ k → same_kind RAngle k ≡ false → AllAre text p.prev_token_end k
+  stands_there e n y l = (kind_here a e n y l, read_plain y l.1)
+
+  pub stands_not : {k : Kind} → is_right_angle k ≡ false → StandsHere p k false → NoneIs text p.prev_token_end k
+  stands_not {k} n s y l e = go p.cut refl
+    where
+      go : (b : Bool) → p.cut ≡ b → ⊥
+      go true c = false≢true (sym n ∙ subst (λ v. is_right_angle v ≡ true) e (angled a c y l))
+      go false c = s ((told a c y l).kind ∙ e) (sym (escaped_here a y l) ∙ read_plain y l.1)

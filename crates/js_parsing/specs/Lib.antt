@@ -1,0 +1,13 @@
+pub mod Answers
+pub mod Arguments
+pub mod Contexts
+pub mod Heads
+pub mod Lexemes
+pub mod Lists
+pub mod Moves
+pub mod Nesting
+pub mod Operators
+pub mod Stands
+pub mod Statements
+pub mod States
+pub mod Told

@@ -1,0 +1,56 @@
+-- The state of a parser at the beginning of a production: the grammar parameters in force, and what stands at its place.
+use Rattle.std.specs.Prelude.{ℕ, ◌≡◌, ◌≤◌, true, false, List}
+use Rattle.js_base.specs.declared.kind.Kind.TheVariants.{RAngle, Undetermined}
+use Rattle.js_base.specs.Contexts.{has_flag, in_flag, yield_flag, await_flag, return_flag, new_target_flag}
+use Rattle.js_grammar.specs.Grammar.{Lexeme}
+use Rattle.js_grammar.specs.Lexemes.{division}
+use Rattle.js_grammar.specs.Productions.{Flags}
+use Rattle.js_lex.specs.Reading.{cut, GivesLexeme, LexemeBehind}
+use Rattle.js_cursor.specs.Checkpoints.{Follows}
+use Rattle.js_cursor.specs.Parsers.{Parser}
+use Rattle.js_cursor.specs.Places.{IsAt}
+use Rattle.js_cursor.specs.Starts.{is_module}
+use Rattle.js_parsing.specs.Heads.{NotedHeads}
+use Rattle.js_parsing.specs.Lexemes.{KeptLast}
+
+-- The parameters of productions (ECMA-262, 5.1.5). Expressions are read as a cover grammar: an object literal may have a shorthand with an initialiser (13.2.5).
+abbrev pub flags_of : Parser → Flags
+flags_of p = record {
+  in_ = has_flag in_flag p.ctx;
+  yield_ = has_flag yield_flag p.ctx;
+  await_ = has_flag await_flag p.ctx;
+  return_ = has_flag return_flag p.ctx;
+  new_target = has_flag new_target_flag p.ctx;
+  module_goal = is_module p.source_type;
+  v8 = p.options.allow_v8_intrinsics;
+  cover = true;
+  wide = false;
+}
+
+-- The current token is what the plain lexical goal gives behind the lexeme before it: the whole of a lexeme; of a punctuator that begins with `>` this sign alone; or none stands there.
+pub data IsPlain (text : List ℕ) (p : Parser) : Type 0 where
+  whole : p.cut ≡ false → (p.token.kind ≡ Undetermined → ⊥) → GivesLexeme division (λ y. y) text p.prev_token_end p.token → IsPlain text p
+  sign : p.cut ≡ true → p.token.kind ≡ RAngle → GivesLexeme division cut text p.prev_token_end p.token → IsPlain text p
+  nothing : p.cut ≡ false → p.token.kind ≡ Undetermined → ((y : Lexeme) → LexemeBehind division text p.prev_token_end y → ⊥) → IsPlain text p
+
+-- A production of a text may be read here, under these parameters.
+pub record At (text : List ℕ) (f : Flags) (p : Parser) : Type 0 where
+  pub text_is : p.text ≡ text
+  pub flags_are : flags_of p ≡ f
+  pub at : IsAt p
+  pub plain : IsPlain text p
+  pub behind : p.prev_token_end ≤ p.token.span.start
+  pub heads : NotedHeads p
+  pub kept_last : KeptLast p.lexer p.token
+
+-- it may, whatever the text and the parameters are
+abbrev pub Standing : Parser → Type 0
+Standing p = At p.text (flags_of p) p
+
+-- What a parse function gives back as it was; what was kept before is kept still.
+pub record Same (old new : Parser) : Type 0 where
+  pub follows : Follows old new
+  pub options : new.options ≡ old.options
+  pub ctx : new.ctx ≡ old.ctx
+  pub depth : new.depth ≡ old.depth
+  pub visits : new.visits ≡ old.visits

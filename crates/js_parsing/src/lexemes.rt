@@ -1,0 +1,209 @@
+//! What stands at a parser's place.
+
+ghost use Rattle.std.specs.Prelude.{◌≡◌, ◌↔◌, IsTrue, MatchResult};
+ghost use Rattle.js_cursor.specs.Moves.{OnlyMemory};
+ghost use Rattle.js_parsing.specs.States.{Standing};
+ghost use Rattle.js_base.specs.Contexts.{has_flag, in_flag};
+ghost use Rattle.js_base.specs.Kinds.{one_of_kinds};
+ghost use Rattle.js_parsing.specs.Lexemes.{read_kinds, read_mark, read_operator, read_word};
+ghost use Rattle.js_parsing.specs.Stands.{EndsOperand, ReadsHere, StandsHere};
+ghost use Rattle.js_parsing.specs.Operators.{power_of};
+ghost use Rattle.js_parsing.specs.Moves.{IsCompleted, IsWholeHere, Moves, OperatorHere};
+
+use js_base::{Kind, Span};
+use js_cursor::{ParserImpl, Stop};
+use js_lex::ParserConfig;
+
+/// Moves one lexeme on, which is none of those that can't be passed, and no part of a longer one.
+#[inline(always)]
+pub fn advance<C: ParserConfig>(p: &mut ParserImpl<'_, C>) -> Result<(), Stop>
+    requires at { Standing p.old }
+    requires whole { IsWholeHere p.old }
+    ensures { MatchResult result (λ _. Moves p.old p.new) OnlyMemory }
+{
+    p.bump_any()
+}
+
+/// The whole of a punctuator that begins with `>` becomes the current token; any other token stays.
+fn complete_here<C: ParserConfig>(p: &mut ParserImpl<'_, C>) -> Result<(), Stop>
+    requires { Standing p.old }
+    ensures { MatchResult result (λ _. IsCompleted p.old p.new) OnlyMemory }
+{
+    if p.at(Kind::RAngle) {
+        return p.re_lex_right_angle();
+    }
+    Ok(())
+}
+
+/// Whether `in` is an operator here.
+#[inline(always)]
+fn allows_in<C: ParserConfig>(p: &ParserImpl<'_, C>) -> bool
+    ensures { result ≡ has_flag in_flag p.now.ctx }
+{
+    p.ctx.has_in()
+}
+
+/// How tight the operator binds that stands here; 0 where none does. A punctuator that begins with `>` is then the
+/// whole of it.
+pub fn operator_here<C: ParserConfig>(p: &mut ParserImpl<'_, C>) -> Result<u8, Stop>
+    requires { Standing p.old }
+    ensures { MatchResult result (λ power. OperatorHere p.old p.new power) OnlyMemory }
+{
+    complete_here(p)?;
+    let token = p.cur_token();
+    if token.escaped() {
+        return Ok(0);
+    }
+    Ok(binding_power(token.kind(), allows_in(p)))
+}
+
+/// Whether this lexeme stands here, without an escape.
+#[inline(always)]
+pub fn stands<C: ParserConfig>(p: &ParserImpl<'_, C>, kind: Kind) -> bool
+    ensures { StandsHere p.now kind result }
+{
+    p.at(kind) && !p.cur_token().escaped()
+}
+
+/// Whether it is a word that is read.
+pub fn is_read_word(kind: Kind) -> bool
+    ensures { result ≡ read_word kind }
+{
+    matches!(
+        kind,
+        Kind::Ident
+            | Kind::This
+            | Kind::Null
+            | Kind::True
+            | Kind::False
+            | Kind::Typeof
+            | Kind::Void
+            | Kind::Delete
+            | Kind::In
+            | Kind::Instanceof
+            | Kind::New
+            | Kind::Break
+            | Kind::Continue
+            | Kind::Debugger
+            | Kind::Throw
+    )
+}
+
+/// Whether what stands here is known to end an operand: an operator that groups to the left, a part of a conditional
+/// expression, a comma, a semicolon, a closing bracket, or the end of the text.
+pub fn ends_operand<C: ParserConfig>(p: &mut ParserImpl<'_, C>) -> Result<bool, Stop>
+    requires { Standing p.old }
+    ensures { MatchResult result (λ b. EndsOperand p.old p.new b) OnlyMemory }
+{
+    let power = operator_here(p)?;
+    match p.cur_kind() {
+        Kind::Eof
+        | Kind::Question
+        | Kind::Colon
+        | Kind::Comma
+        | Kind::Semicolon
+        | Kind::RParen
+        | Kind::RBrack => Ok(true),
+        _ => Ok(power > 0),
+    }
+}
+
+/// Whether it is an operator between two operands that is read, and no word.
+fn is_read_operator(kind: Kind) -> bool
+    ensures { result ≡ read_operator kind }
+{
+    matches!(
+        kind,
+        Kind::Question2
+            | Kind::Plus
+            | Kind::Minus
+            | Kind::Star
+            | Kind::Star2
+            | Kind::Slash
+            | Kind::Percent
+            | Kind::Eq2
+            | Kind::Eq3
+            | Kind::Neq
+            | Kind::Neq2
+            | Kind::LAngle
+            | Kind::LtEq
+            | Kind::RAngle
+            | Kind::GtEq
+            | Kind::ShiftLeft
+            | Kind::ShiftRight
+            | Kind::ShiftRight3
+            | Kind::Amp
+            | Kind::Amp2
+            | Kind::Pipe
+            | Kind::Pipe2
+            | Kind::Caret
+    )
+}
+
+/// Whether it is another sign that is read, a string or the end of the text; no operator of an assignment.
+fn is_read_mark(kind: Kind) -> bool
+    ensures { result ≡ read_mark kind }
+{
+    matches!(
+        kind,
+        Kind::Eof
+            | Kind::Str
+            | Kind::Bang
+            | Kind::Tilde
+            | Kind::Plus2
+            | Kind::Minus2
+            | Kind::Question
+            | Kind::Colon
+            | Kind::Comma
+            | Kind::Dot
+            | Kind::QuestionDot
+            | Kind::Semicolon
+            | Kind::LParen
+            | Kind::RParen
+            | Kind::LBrack
+            | Kind::RBrack
+            | Kind::Dot3
+            | Kind::Arrow
+    )
+}
+
+/// Whether it is a lexeme that is read.
+fn is_read_kind(kind: Kind) -> bool
+    ensures { result ≡ one_of_kinds read_kinds kind }
+{
+    is_read_word(kind)
+        || kind.is_number()
+        || kind.is_assignment_operator()
+        || is_read_operator(kind)
+        || is_read_mark(kind)
+}
+
+/// Whether a lexeme that is read stands here.
+pub fn reads_here<C: ParserConfig>(p: &ParserImpl<'_, C>) -> bool
+    requires { Standing p.now }
+    ensures { ReadsHere p.now result }
+{
+    let token = p.cur_token();
+    !token.escaped() && is_read_kind(token.kind())
+}
+
+/// How tight a lexeme binds as an operator between two operands that groups to the left (ECMA-262, sections 13.6 to
+/// 13.13), from 5 for `||` to 14 for `*`; 0 for what is none. `in` is one where it is allowed.
+pub fn binding_power(kind: Kind, allows_in: bool) -> u8
+    ensures { result ≡ power_of allows_in kind }
+{
+    match kind {
+        Kind::Pipe2 => 5,
+        Kind::Amp2 => 6,
+        Kind::Pipe => 7,
+        Kind::Caret => 8,
+        Kind::Amp => 9,
+        Kind::Eq2 | Kind::Neq | Kind::Eq3 | Kind::Neq2 => 10,
+        Kind::LAngle | Kind::RAngle | Kind::LtEq | Kind::GtEq | Kind::Instanceof => 11,
+        Kind::In => { if allows_in { 11 } else { 0 } }
+        Kind::ShiftLeft | Kind::ShiftRight | Kind::ShiftRight3 => 12,
+        Kind::Plus | Kind::Minus => 13,
+        Kind::Star | Kind::Slash | Kind::Percent => 14,
+        _ => 0,
+    }
+}

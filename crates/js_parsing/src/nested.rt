@@ -1,0 +1,133 @@
+//! What parse functions call where a production nests.
+
+ghost use Rattle.std.specs.Prelude.{◌≡◌};
+ghost use Rattle.js_grammar.specs.Productions.{at, Assignment, Binding, Exponent, Expression, Sub, Unary};
+ghost use Rattle.js_parsing.specs.Answers.{Answers};
+ghost use Rattle.js_parsing.specs.Nesting.{Reads, levels_of};
+ghost use Rattle.js_parsing.specs.Statements.{TakesStatement};
+
+use js_cursor::{ParserImpl, Stop};
+use js_lex::{ParserConfig, RuntimeParserConfig};
+use js_tree::NodeId;
+
+/// What is to be read where a production nests.
+#[derive(Clone, Copy)]
+pub enum Goal {
+    /// An Expression.
+    Expression,
+    /// An AssignmentExpression.
+    Assignment,
+    /// An AssignmentExpression between brackets.
+    Element,
+    /// A UnaryExpression.
+    Unary,
+    /// An ExponentiationExpression.
+    Exponentiation,
+    /// A BindingIdentifier or a BindingPattern.
+    Binding,
+    /// A Statement that is the body of another one.
+    Statement,
+}
+
+impl Goal {
+    /// How many levels of depth it takes: what stands between brackets is read through all levels of operators again, and
+    /// takes four times the stack of the others and more.
+    pub fn levels(self) -> u32
+        ensures { result ≡ levels_of self }
+    {
+        match self {
+            Goal::Expression | Goal::Element | Goal::Binding => 4,
+            Goal::Assignment | Goal::Unary | Goal::Exponentiation | Goal::Statement => 1,
+        }
+    }
+}
+
+/// What may be read deeper, once a lexeme was passed. So each parse function is proved alone, and one alone
+/// recurses.
+pub trait Nested<C: ParserConfig> {
+    ghost use Rattle.js_cursor.specs.Parsers.{Parser};
+    ghost use Rattle.js_parsing.specs.declared.nested.Goal.{Goal};
+
+    ghost can: { Self → Parser → Goal → Type 0 };
+
+    /// An Expression (ECMA-262, section 13.16).
+    fn expression(&self, p: &mut ParserImpl<'_, C>) -> Result<NodeId, Stop>
+        requires { can self.now p.old Goal.Expression }
+        ensures { Answers (at Expression) p.old p.new result };
+
+    /// An AssignmentExpression (ECMA-262, section 13.15).
+    fn assignment(&self, p: &mut ParserImpl<'_, C>) -> Result<NodeId, Stop>
+        requires { can self.now p.old Goal.Assignment }
+        ensures { Answers (at Assignment) p.old p.new result };
+
+    /// An AssignmentExpression between brackets: an argument, an element, the consequent of a conditional expression.
+    fn element(&self, p: &mut ParserImpl<'_, C>) -> Result<NodeId, Stop>
+        requires { can self.now p.old Goal.Element }
+        ensures { Answers (at Assignment) p.old p.new result };
+
+    /// A UnaryExpression (ECMA-262, section 13.5).
+    fn unary(&self, p: &mut ParserImpl<'_, C>) -> Result<NodeId, Stop>
+        requires { can self.now p.old Goal.Unary }
+        ensures { Answers (at Unary) p.old p.new result };
+
+    /// An ExponentiationExpression (ECMA-262, section 13.6).
+    fn exponentiation(&self, p: &mut ParserImpl<'_, C>) -> Result<NodeId, Stop>
+        requires { can self.now p.old Goal.Exponentiation }
+        ensures { Answers (at Exponent) p.old p.new result };
+
+    /// A BindingIdentifier or a BindingPattern (ECMA-262, section 14.3.3).
+    fn binding(&self, p: &mut ParserImpl<'_, C>) -> Result<NodeId, Stop>
+        requires { can self.now p.old Goal.Binding }
+        ensures { Answers (at Binding) p.old p.new result };
+
+    /// A Statement that is the body of another one (ECMA-262, chapter 14).
+    fn statement(&self, p: &mut ParserImpl<'_, C>) -> Result<NodeId, Stop>
+        requires { can self.now p.old Goal.Statement }
+        ensures { TakesStatement (at Sub) p.old p.new result };
+}
+
+/// A function that reads whatever is asked for. It is one over the config that is told when the program runs: a bound on
+/// a function over any config can't be stated yet.
+#[derive(Clone, Copy)]
+pub struct By<F>(pub F);
+
+impl<F: Fn(&mut ParserImpl<'_, RuntimeParserConfig>, Goal) -> Result<NodeId, Stop>> Nested<
+    RuntimeParserConfig,
+> for By<F> {
+    ghost can = { λ s p goal. Reads (F.pre s.0) (F.post s.0) p goal };
+
+    #[inline(always)]
+    fn expression(&self, p: &mut ParserImpl<'_, RuntimeParserConfig>) -> Result<NodeId, Stop> {
+        (self.0)(p, Goal::Expression)
+    }
+
+    #[inline(always)]
+    fn assignment(&self, p: &mut ParserImpl<'_, RuntimeParserConfig>) -> Result<NodeId, Stop> {
+        (self.0)(p, Goal::Assignment)
+    }
+
+    #[inline(always)]
+    fn element(&self, p: &mut ParserImpl<'_, RuntimeParserConfig>) -> Result<NodeId, Stop> {
+        (self.0)(p, Goal::Element)
+    }
+
+    #[inline(always)]
+    fn unary(&self, p: &mut ParserImpl<'_, RuntimeParserConfig>) -> Result<NodeId, Stop> {
+        (self.0)(p, Goal::Unary)
+    }
+
+    #[inline(always)]
+    fn exponentiation(&self, p: &mut ParserImpl<'_, RuntimeParserConfig>) -> Result<NodeId, Stop> {
+        (self.0)(p, Goal::Exponentiation)
+    }
+
+    #[inline(always)]
+    fn binding(&self, p: &mut ParserImpl<'_, RuntimeParserConfig>) -> Result<NodeId, Stop> {
+        (self.0)(p, Goal::Binding)
+    }
+
+    #[inline(always)]
+    fn statement(&self, p: &mut ParserImpl<'_, RuntimeParserConfig>) -> Result<NodeId, Stop> {
+        (self.0)(p, Goal::Statement)
+    }
+}

@@ -1,0 +1,5 @@
+pub mod BehindRests
+pub mod Bindings
+pub mod Lists
+pub mod ParameterLists
+pub mod PatternLists

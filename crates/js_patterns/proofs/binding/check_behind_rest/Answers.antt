@@ -1,0 +1,30 @@
+use Rattle.std.proofs.Common.{◌≡◌, refl}
+use Rattle.js_base.specs.declared.kind.Kind.TheVariants.{Comma}
+use Rattle.js_patterns.proofs.BehindRests.{comma_marked, comma_stops, comma_told, mark_later}
+use Rattle.js_parsing.proofs.Signs.{whole_sign}
+use Rattle.js_patterns.proofs.Lists.{none_yet}
+use Rattle.js_patterns.proofs.binding.check_behind_rest.Goals as goal
+
+pub returns-then-not-at : goal.returns-then-not-at
+returns-then-not-at g c = λ text f a ids. none_yet ids a
+
+pub advance-requires-clause-whole : goal.advance-requires-clause-whole
+advance-requires-clause-whole g c = whole_sign Comma c.requires.at (c.at.ensures.0 c.if-not-at.false) refl refl
+
+pub set_fatal_error-requires-clause-at : goal.set_fatal_error-requires-clause-at
+set_fatal_error-requires-clause-at g c = (c.in_ok-advance.ensures _ _ c.requires.at).at.at
+
+pub set_fatal_error-requires-clause-mark : goal.set_fatal_error-requires-clause-mark
+set_fatal_error-requires-clause-mark g c = mark_later (c.in_ok-advance.ensures _ _ c.requires.at).same c.requires.mark
+
+pub returns-then-not-at-2 : goal.returns-then-not-at-2
+returns-then-not-at-2 g c = λ text f a. comma_stops c.args.close a (c.at.ensures.0 c.if-not-at.false) c.requires.closes (c.in_ok-advance.ensures text f a) _ _ _ c.set_fatal_error.ensures
+
+pub error-requires-clause-at : goal.error-requires-clause-at
+error-requires-clause-at g c = (c.in_ok-advance.ensures _ _ c.requires.at).at.at
+
+pub error-requires-clause-mark : goal.error-requires-clause-mark
+error-requires-clause-mark g c = comma_marked c.args.close c.requires.at (c.at.ensures.0 c.if-not-at.false) c.requires.closes (c.in_ok-advance.ensures _ _ c.requires.at) _ c.diagnostic_at.ensures (let e : c.span-comma.result ≡ c.args.p.now.token.span = search in e) (c.at-2.ensures.0 c.if-not-at-2.false)
+
+pub returns : goal.returns
+returns g c = λ text f a ids. comma_told c.args.close a (c.at.ensures.0 c.if-not-at.false) c.requires.closes (c.in_ok-advance.ensures text f a) ids c.in_ok-error.ensures

@@ -1,0 +1,242 @@
+//! What is bound: names and array patterns (ECMA-262, section 14.3.3).
+
+ghost use Rattle.std.specs.Prelude.{◌≡◌, ◌+◌, ◌∷◌, [], true, false, MatchResult};
+ghost use Rattle.js_base.specs.Kinds.{one_of_kinds};
+ghost use Rattle.js_base.specs.declared.kind.Kind.TheVariants.{Comma, Dot3, LBrack, RBrack};
+ghost use Rattle.js_cursor.specs.Places.{goal};
+ghost use Rattle.js_grammar.specs.Marks.{Mark};
+ghost use Rattle.js_grammar.specs.Productions.{at, BElement, Binding, BindingRest};
+ghost use Rattle.js_parsing.specs.Answers.{Answers};
+ghost use Rattle.js_patterns.specs.Bindings.{closers, elements_left};
+ghost use Rattle.js_parsing.specs.Told.{unrelated_at};
+ghost use Rattle.js_parsing.specs.Lists.{ClosingDue, ListRead, ListStops, ReadsItem, ReadsOneMore};
+ghost use Rattle.js_parsing.specs.Stands.{StandsHere};
+ghost use Rattle.js_parsing.specs.Nesting.{CanNest, room};
+ghost use Rattle.js_parsing.specs.States.{Standing};
+
+use js_base::{Diagnostic, DiagnosticKind, Kind, Span};
+use js_cursor::{ParserImpl, Stop};
+use js_lex::ParserConfig;
+use js_operands::primary::parse_leaf;
+use js_parsing::context::assignment_with_in;
+use js_parsing::diagnostics::diagnostic_at;
+use js_parsing::lexemes::{advance, stands};
+use js_parsing::nested::Nested;
+use js_parsing::nodes::{make_list, make_one, make_two};
+use js_tree::{NodeId, NodeKind, Op};
+
+/// A BindingIdentifier or a BindingPattern (ECMA-262, section 14.3.3).
+pub fn parse_binding_pattern<C: ParserConfig, N: Nested<C>>(
+    p: &mut ParserImpl<'_, C>,
+    nested: &N,
+) -> Result<NodeId, Stop>
+    requires at { Standing p.old }
+    requires nests { CanNest (N.can nested.now) (room p.old) }
+    ensures { Answers (at Binding) p.old p.new result }
+{
+    if stands(p, Kind::LBrack) {
+        return parse_array_pattern(p, nested);
+    }
+    parse_binding_identifier(p)
+}
+
+/// What is bound within a pattern or by a rest: a pattern is read one level deeper.
+fn parse_nested_binding<C: ParserConfig, N: Nested<C>>(
+    p: &mut ParserImpl<'_, C>,
+    nested: &N,
+) -> Result<NodeId, Stop>
+    requires at { Standing p.old }
+    requires nests { CanNest (N.can nested.now) (room p.old + 1) }
+    ensures { Answers (at Binding) p.old p.new result }
+{
+    if stands(p, Kind::LBrack) {
+        return nested.binding(p);
+    }
+    parse_binding_identifier(p)
+}
+
+/// A BindingIdentifier (ECMA-262, section 13.1), where no array pattern begins.
+fn parse_binding_identifier<C: ParserConfig>(p: &mut ParserImpl<'_, C>) -> Result<NodeId, Stop>
+    requires at { Standing p.old }
+    requires no_pattern { StandsHere p.old LBrack false }
+    ensures { Answers (at Binding) p.old p.new result }
+{
+    if !stands(p, Kind::Ident) {
+        return Err(p.set_unexpected());
+    }
+    parse_leaf(p, NodeKind::BindingIdentifier, Op::None)
+}
+
+/// An ArrayBindingPattern (ECMA-262, section 14.3.3).
+fn parse_array_pattern<C: ParserConfig, N: Nested<C>>(
+    p: &mut ParserImpl<'_, C>,
+    nested: &N,
+) -> Result<NodeId, Stop>
+    requires at { Standing p.old }
+    requires nests { CanNest (N.can nested.now) (room p.old) }
+    requires open { StandsHere p.old LBrack true }
+    ensures { Answers (at Binding) p.old p.new result }
+{
+    let opening = p.cur_token().span();
+    advance(p)?;
+    let elements = parse_pattern_elements(p, nested)?;
+    p.expect_closing(Kind::RBrack, opening)?;
+    let span = p.end_span(opening.start);
+    let node = make_list(p, NodeKind::ArrayPattern, Op::None, span, elements)?;
+    Ok(node)
+}
+
+/// The elements behind an opening bracket, as many as stand there. A hole has an empty slot.
+fn parse_pattern_elements<C: ParserConfig, N: Nested<C>>(
+    p: &mut ParserImpl<'_, C>,
+    nested: &N,
+) -> Result<Vec<Option<NodeId>>, Stop>
+    requires at { Standing p.old }
+    requires nests { CanNest (N.can nested.now) (room p.old + 1) }
+    ensures { MatchResult result (λ v. ListRead elements_left RBrack v.items p.old p.new) (λ e. ListStops elements_left p.old p.new e) }
+{
+    let mut elements = Vec::new(p.alloc);
+    'elements: loop {
+        let more = parse_next_element(p, nested, &mut elements)?;
+        if !more {
+            break;
+        }
+    }
+    Ok(elements)
+}
+
+/// An element, a hole or a rest, if one stands here, and the comma behind it: whether another may stand behind that.
+fn parse_next_element<C: ParserConfig, N: Nested<C>>(
+    p: &mut ParserImpl<'_, C>,
+    nested: &N,
+    elements: &mut Vec<Option<NodeId>>,
+) -> Result<bool, Stop>
+    requires at { Standing p.old }
+    requires nests { CanNest (N.can nested.now) (room p.old + 1) }
+    ensures { ReadsOneMore elements_left RBrack elements.old.items elements.new.items p.old p.new result }
+{
+    match p.cur_kind() {
+        Kind::RBrack => Ok(false),
+        Kind::Comma => pass_hole(p, elements),
+        Kind::Dot3 => parse_last_element(p, nested, elements),
+        _ => parse_element_and_comma(p, nested, elements),
+    }
+}
+
+/// A hole: a comma that no element stands before.
+fn pass_hole<C: ParserConfig>(
+    p: &mut ParserImpl<'_, C>,
+    elements: &mut Vec<Option<NodeId>>,
+) -> Result<bool, Stop>
+    requires at { Standing p.old }
+    requires comma { p.old.token.kind ≡ Comma }
+    ensures { ReadsOneMore elements_left RBrack elements.old.items elements.new.items p.old p.new result }
+{
+    advance(p)?;
+    elements.push(None)?;
+    Ok(true)
+}
+
+/// A BindingElement, and the comma behind it, where one stands there.
+fn parse_element_and_comma<C: ParserConfig, N: Nested<C>>(
+    p: &mut ParserImpl<'_, C>,
+    nested: &N,
+    elements: &mut Vec<Option<NodeId>>,
+) -> Result<bool, Stop>
+    requires at { Standing p.old }
+    requires nests { CanNest (N.can nested.now) (room p.old + 1) }
+    requires element { one_of_kinds (RBrack ∷ Comma ∷ Dot3 ∷ []) p.old.token.kind ≡ false }
+    ensures { ReadsOneMore elements_left RBrack elements.old.items elements.new.items p.old p.new result }
+{
+    let element = parse_binding_element(p, nested)?;
+    elements.push(Some(element))?;
+    if !p.at(Kind::Comma) {
+        return Ok(false);
+    }
+    advance(p)?;
+    Ok(true)
+}
+
+/// A BindingElement (ECMA-262, section 14.3.3): what is bound, and an initialiser or none.
+fn parse_binding_element<C: ParserConfig, N: Nested<C>>(
+    p: &mut ParserImpl<'_, C>,
+    nested: &N,
+) -> Result<NodeId, Stop>
+    requires at { Standing p.old }
+    requires nests { CanNest (N.can nested.now) (room p.old + 1) }
+    ensures { ReadsItem (at BElement) p.old p.new result }
+{
+    let start = p.cur_start();
+    let binding = parse_nested_binding(p, nested)?;
+    if !p.at(Kind::Eq) {
+        return Ok(binding);
+    }
+    advance(p)?;
+    let initialiser = assignment_with_in(p, nested)?;
+    let span = p.end_span(start);
+    let kind = NodeKind::AssignmentPattern;
+    let node = make_two(p, kind, Op::None, span, binding, initialiser)?;
+    Ok(node)
+}
+
+/// A rest as the last element.
+fn parse_last_element<C: ParserConfig, N: Nested<C>>(
+    p: &mut ParserImpl<'_, C>,
+    nested: &N,
+    elements: &mut Vec<Option<NodeId>>,
+) -> Result<bool, Stop>
+    requires at { Standing p.old }
+    requires nests { CanNest (N.can nested.now) (room p.old + 1) }
+    requires sign { p.old.token.kind ≡ Dot3 }
+    ensures { ReadsOneMore elements_left RBrack elements.old.items elements.new.items p.old p.new result }
+{
+    let start = p.cur_start();
+    let rest = parse_binding_rest(p, nested)?;
+    elements.push(Some(rest))?;
+    let span = p.end_span(start);
+    let misplaced = diagnostic_at(DiagnosticKind::BindingRestElementLast, span);
+    check_behind_rest(p, Kind::RBrack, misplaced)?;
+    Ok(false)
+}
+
+/// A BindingRestElement (ECMA-262, section 14.3.3).
+pub fn parse_binding_rest<C: ParserConfig, N: Nested<C>>(
+    p: &mut ParserImpl<'_, C>,
+    nested: &N,
+) -> Result<NodeId, Stop>
+    requires at { Standing p.old }
+    requires nests { CanNest (N.can nested.now) (room p.old + 1) }
+    requires sign { p.old.token.kind ≡ Dot3 }
+    ensures { Answers (at BindingRest) p.old p.new result }
+{
+    let start = p.cur_start();
+    advance(p)?;
+    let binding = parse_nested_binding(p, nested)?;
+    let span = p.end_span(start);
+    let node = make_one(p, NodeKind::BindingRestElement, Op::None, span, binding)?;
+    Ok(node)
+}
+
+/// What stands behind a rest: the closing bracket of this kind is due. A comma right before it is told, and reading goes
+/// on; behind another comma the rest isn't the last, which `misplaced` tells.
+pub fn check_behind_rest<C: ParserConfig>(
+    p: &mut ParserImpl<'_, C>,
+    close: Kind,
+    misplaced: Diagnostic,
+) -> Result<(), Stop>
+    requires at { Standing p.old }
+    requires closes { one_of_kinds closers close ≡ true }
+    requires mark { Mark (goal p.old) p.old.text misplaced }
+    ensures { ClosingDue close p.old p.new result }
+{
+    if !p.at(Kind::Comma) {
+        return Ok(());
+    }
+    let comma = p.cur_token().span();
+    advance(p)?;
+    if !p.at(close) {
+        return Err(p.set_fatal_error(misplaced));
+    }
+    p.error(diagnostic_at(DiagnosticKind::RestElementTrailingComma, comma))?;
+    Ok(())
+}

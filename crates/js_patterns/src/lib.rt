@@ -1,0 +1,5 @@
+//! Binding patterns and formal parameters (ECMA-262, sections 14.3.3 and 15.1).
+#![tactic(auto)]
+
+pub mod binding;
+pub mod parameters;

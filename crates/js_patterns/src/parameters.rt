@@ -1,0 +1,160 @@
+//! Formal parameters (ECMA-262, section 15.1).
+
+ghost use Rattle.std.specs.Prelude.{false, ◌≡◌, ◌+◌, ◌∷◌, [], MatchResult};
+ghost use Rattle.js_base.specs.Kinds.{one_of_kinds};
+ghost use Rattle.js_base.specs.declared.kind.Kind.TheVariants.{Dot3, LParen, RParen};
+ghost use Rattle.js_grammar.specs.Productions.{at, Param, Params, Rest};
+ghost use Rattle.js_parsing.specs.Answers.{Answers};
+ghost use Rattle.js_parsing.specs.Lists.{ListRead, ListStops, ReadsItem, ReadsOneMore};
+ghost use Rattle.js_parsing.specs.Nesting.{CanNest, room};
+ghost use Rattle.js_patterns.specs.Parameters.{parameters_left};
+ghost use Rattle.js_parsing.specs.States.{Standing};
+
+use crate::binding::{check_behind_rest, parse_binding_pattern, parse_binding_rest};
+use js_base::{DiagnosticKind, Kind};
+use js_cursor::{ParserImpl, Stop};
+use js_lex::ParserConfig;
+use js_operands::primary::close_parentheses;
+use js_parsing::context::assignment_with_in;
+use js_parsing::diagnostics::diagnostic_at;
+use js_parsing::lexemes::advance;
+use js_parsing::nested::Nested;
+use js_parsing::nodes::{make_list, make_one, make_with_optional};
+use js_tree::{NodeId, NodeKind, Op};
+
+/// FormalParameters in their parentheses (ECMA-262, section 15.1).
+pub fn parse_formal_parameters<C: ParserConfig, N: Nested<C>>(
+    p: &mut ParserImpl<'_, C>,
+    nested: &N,
+) -> Result<NodeId, Stop>
+    requires at { Standing p.old }
+    requires nests { CanNest (N.can nested.now) (room p.old) }
+    requires open { p.old.token.kind ≡ LParen }
+    ensures { Answers (at Params) p.old p.new result }
+{
+    let opening = p.cur_token().span();
+    advance(p)?;
+    let parameters = parse_parameter_list(p, nested)?;
+    close_parentheses(p, opening)?;
+    let span = p.end_span(opening.start);
+    let kind = NodeKind::FormalParameters;
+    let node = make_list(p, kind, Op::None, span, parameters)?;
+    Ok(node)
+}
+
+/// The parameters behind an opening parenthesis, as many as stand there.
+fn parse_parameter_list<C: ParserConfig, N: Nested<C>>(
+    p: &mut ParserImpl<'_, C>,
+    nested: &N,
+) -> Result<Vec<Option<NodeId>>, Stop>
+    requires at { Standing p.old }
+    requires nests { CanNest (N.can nested.now) (room p.old + 1) }
+    ensures { MatchResult result (λ v. ListRead parameters_left RParen v.items p.old p.new) (λ e. ListStops parameters_left p.old p.new e) }
+{
+    let mut parameters = Vec::new(p.alloc);
+    'parameters: loop {
+        let more = parse_next_parameter(p, nested, &mut parameters)?;
+        if !more {
+            break;
+        }
+    }
+    Ok(parameters)
+}
+
+/// A parameter or a rest, if one stands here, and the comma behind it: whether another may stand behind that.
+fn parse_next_parameter<C: ParserConfig, N: Nested<C>>(
+    p: &mut ParserImpl<'_, C>,
+    nested: &N,
+    parameters: &mut Vec<Option<NodeId>>,
+) -> Result<bool, Stop>
+    requires at { Standing p.old }
+    requires nests { CanNest (N.can nested.now) (room p.old + 1) }
+    ensures { ReadsOneMore parameters_left RParen parameters.old.items parameters.new.items p.old p.new result }
+{
+    match p.cur_kind() {
+        Kind::RParen => Ok(false),
+        Kind::Dot3 => parse_last_parameter(p, nested, parameters),
+        _ => parse_parameter_and_comma(p, nested, parameters),
+    }
+}
+
+/// A FormalParameter, and the comma behind it, where one stands there.
+fn parse_parameter_and_comma<C: ParserConfig, N: Nested<C>>(
+    p: &mut ParserImpl<'_, C>,
+    nested: &N,
+    parameters: &mut Vec<Option<NodeId>>,
+) -> Result<bool, Stop>
+    requires at { Standing p.old }
+    requires nests { CanNest (N.can nested.now) (room p.old + 1) }
+    requires parameter { one_of_kinds (RParen ∷ Dot3 ∷ []) p.old.token.kind ≡ false }
+    ensures { ReadsOneMore parameters_left RParen parameters.old.items parameters.new.items p.old p.new result }
+{
+    let parameter = parse_formal_parameter(p, nested)?;
+    parameters.push(Some(parameter))?;
+    if !p.at(Kind::Comma) {
+        return Ok(false);
+    }
+    advance(p)?;
+    Ok(true)
+}
+
+/// A FormalParameter: what it binds, and an initialiser or none.
+fn parse_formal_parameter<C: ParserConfig, N: Nested<C>>(
+    p: &mut ParserImpl<'_, C>,
+    nested: &N,
+) -> Result<NodeId, Stop>
+    requires at { Standing p.old }
+    requires nests { CanNest (N.can nested.now) (room p.old + 1) }
+    ensures { ReadsItem (at Param) p.old p.new result }
+{
+    let start = p.cur_start();
+    let binding = parse_binding_pattern(p, nested)?;
+    if !p.at(Kind::Eq) {
+        let span = p.end_span(start);
+        let node = make_with_optional(p, NodeKind::FormalParameter, span, binding, None)?;
+        return Ok(node);
+    }
+    advance(p)?;
+    let initialiser = assignment_with_in(p, nested)?;
+    let span = p.end_span(start);
+    let kind = NodeKind::FormalParameter;
+    let node = make_with_optional(p, kind, span, binding, Some(initialiser))?;
+    Ok(node)
+}
+
+/// A rest as the last parameter.
+fn parse_last_parameter<C: ParserConfig, N: Nested<C>>(
+    p: &mut ParserImpl<'_, C>,
+    nested: &N,
+    parameters: &mut Vec<Option<NodeId>>,
+) -> Result<bool, Stop>
+    requires at { Standing p.old }
+    requires nests { CanNest (N.can nested.now) (room p.old + 1) }
+    requires sign { p.old.token.kind ≡ Dot3 }
+    ensures { ReadsOneMore parameters_left RParen parameters.old.items parameters.new.items p.old p.new result }
+{
+    let start = p.cur_start();
+    let rest = parse_rest_parameter(p, nested)?;
+    parameters.push(Some(rest))?;
+    let span = p.end_span(start);
+    let misplaced = diagnostic_at(DiagnosticKind::RestParameterLast, span);
+    check_behind_rest(p, Kind::RParen, misplaced)?;
+    Ok(false)
+}
+
+/// A FunctionRestParameter (ECMA-262, section 15.1).
+fn parse_rest_parameter<C: ParserConfig, N: Nested<C>>(
+    p: &mut ParserImpl<'_, C>,
+    nested: &N,
+) -> Result<NodeId, Stop>
+    requires at { Standing p.old }
+    requires nests { CanNest (N.can nested.now) (room p.old + 1) }
+    requires sign { p.old.token.kind ≡ Dot3 }
+    ensures { Answers (at Rest) p.old p.new result }
+{
+    let start = p.cur_start();
+    let rest = parse_binding_rest(p, nested)?;
+    let span = p.end_span(start);
+    let node = make_one(p, NodeKind::FormalParameterRest, Op::None, span, rest)?;
+    Ok(node)
+}

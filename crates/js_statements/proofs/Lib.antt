@@ -1,0 +1,5 @@
+pub mod Labels
+pub mod StatementLists
+pub mod Statements
+pub mod Strings
+pub mod WordStatements

@@ -1,0 +1,413 @@
+-- Directives and statements, one behind the other.
+use Rattle.js_parsing.proofs.MadeNodes.{held_label}
+use Rattle.std.proofs.Common.{ℕ, ◌≡◌, ◌≤◌, ◌<◌, max, List, [], ◌∷◌, ◌++◌, length, Bool, true, false, not, ◌&&◌, ◌||◌, cond, IsTrue, Option, Some, refl, sym, ap, subst, arith, ◌∙◌}
+use Rattle.std.specs.Prelude.{◌↔◌, get_or}
+use Rattle.std.proofs.lemmas.Bool.{false≢true, and_parts, and_from}
+use Rattle.js_base.specs.declared.kind.Kind.{Kind}
+use Rattle.js_base.specs.declared.kind.Kind.TheVariants.{Eof, Ident, Str}
+use Rattle.js_base.specs.declared.span.Span.{Span}
+use Rattle.js_base.specs.Contexts.{has_flag, in_flag}
+use Rattle.js_base.specs.Kinds.{one_of_kinds}
+use Rattle.js_grammar.specs.Trees.{Label, Slots, end, hole, tree, append, no_op, directive, expression_statement}
+use Rattle.js_grammar.specs.Grammar.{Lexeme, Lexemes, Look, is, here, seen, seq, alt, many, when, such, ended, semicolon, nothing, Grammar, Takes, is_nothing, is_seq, is_left, is_right, is_many, is_such}
+use Rattle.js_grammar.specs.Insertion.{by_edge, goes_on}
+use Rattle.js_grammar.specs.Conditions.{not_string}
+use Rattle.js_grammar.specs.Lexed.{Lexes}
+use Rattle.js_grammar.specs.Parsing.{Test, plain, behind, full, always, still, Goes, Reads, Fails, Admits}
+use Rattle.js_grammar.specs.Productions.{G, Flags, Symbol, at, opt, ListItem, Item, Labeled, Directive, Expression, ImportDecl, ExportDecl}
+use Rattle.js_grammar.specs.Productions.{sym as symbol}
+use Rattle.js_grammar.specs.Table.{rule, rule_of, string}
+use Rattle.js_grammar.specs.Follow.{row_of, after}
+use Rattle.js_grammar.proofs.Looks.{covers, covered, apart}
+use Rattle.js_grammar.proofs.Calculus.{Between, Sure, ◌▹◌, ◌▹✗◌, stay, same, passes_none, left, right, by_plain, by_rule, then_by, tested, more_of, part_fails, fails_alt, fails_test, fails_tested, fails_ended, fails_rule, fails_node, inside_plain, here_at}
+use Rattle.js_grammar.proofs.FirstRules.{by_first}
+use Rattle.js_grammar.proofs.FirstClaims.{firsts}
+use Rattle.js_grammar.proofs.FollowLaws.{expression_ended, surely}
+use Rattle.js_grammar.specs.Follow.{surest}
+use Rattle.js_tree.specs.declared.id.NodeId.{NodeId}
+use Rattle.js_tree.specs.declared.kind.NodeKind.{NodeKind}
+use Rattle.js_tree.specs.declared.kind.NodeKind.TheVariants as node
+use Rattle.js_tree.specs.declared.op.Op.TheVariants as op
+use Rattle.js_tree.specs.Labels.{kind_of}
+use Rattle.js_tree.specs.Nodes.{Node, node_at, empty_program, label}
+use Rattle.js_tree.specs.Holding.{Stands, stands, Holds, HoldsAll, Keeps}
+use Rattle.js_tree.proofs.HoldingLemmas.{HoldsAll-none, HoldsAll-next, HoldsAll-wider, Holds-below, Holds-wider, Keeps-refl, Keeps-trans, Keeps-made, Keeps-longer}
+use Rattle.js_cursor.specs.Parsers.{Parser}
+use Rattle.js_cursor.specs.declared.stop.Stop.{Stop}
+use Rattle.js_parsing.specs.Lexemes.{Lex, nowhere}
+use Rattle.js_parsing.specs.States.{At, Same, flags_of}
+use Rattle.js_parsing.specs.Nesting.{room}
+use Rattle.js_parsing.specs.Moves.{MadeHere, plain_label}
+use Rattle.js_parsing.specs.Answers.{Grown, Verdict, clean, unclean, Stretch, Underived, Answer, Numbered}
+use Rattle.js_parsing.specs.Statements.{statement_kinds, no_link, after_statement, NoStatement, Statement, EndsStatement, NoEnd}
+use Rattle.js_statements.specs.StatementLists.{at_text_end, with_directives, statements, NoList, OneTaken, Taken, OpeningTaken}
+use Rattle.js_parsing.proofs.Verdicts.{verdict_of, either_way, and_then}
+use Rattle.js_parsing.proofs.Moving.{same_both, same_itself, same_with, beside_nodes}
+use Rattle.js_parsing.proofs.Dead.{fails_dead}
+use Rattle.js_parsing.proofs.MadeNodes.{one_held}
+use Rattle.js_parsing.proofs.Paths.{Path, ◌⟶◌, ◌⟶✗◌, not_here, fails_at, noded_by, by_symbol_as, label_here, walked_both}
+use Rattle.js_statements.proofs.Statements.{none_of_one, to_semicolon, end_path, unended, statement_path, statement_fails, statement_unended, ended_so, no_label_at}
+use Rattle.js_statements.proofs.Strings.{is_literal, string_first, string_alone, string_expression, first_is_string, stated, string_statement, other_statement}
+
+-- ---- lists that grew, or did not
+
+cancelled : {K : Type 0} (a m : List K) → a ≡ a ++ m → m ≡ []
+cancelled [] m e = sym e
+cancelled (x ∷ a) m e = cancelled a m cc
+
+not_grown : {K : Type 0} {p q : List K} → q ≡ p → Grown p q → ⊥
+not_grown {p = p} e g = g.some (cancelled p g.more (sym e ∙ g.kept))
+
+-- what is said of a call that kept nothing, and of one that kept something
+cleanly : {K : Type 0} {p q : List K} {C B : Type 0} → q ≡ p → Verdict p q C B → C
+cleanly e (clean h c) = c
+cleanly e (unclean g n) = absurd (not_grown e g)
+
+uncleanly : {K : Type 0} {p q : List K} {C B : Type 0} → Grown p q → Verdict p q C B → B
+uncleanly g (clean h c) = absurd (not_grown h g)
+uncleanly g (unclean h n) = n
+
+-- two calls that kept the same
+both_ways : {K : Type 0} {p q : List K} {C B D E X Y : Type 0} → Verdict p q C B → Verdict p q D E → (C → D → X) → (B → E → Y) → Verdict p q X Y
+both_ways (clean e c) v f g = clean e (f c (cleanly e v))
+both_ways (unclean h n) v f g = unclean h (g n (uncleanly h v))
+
+-- ---- the grammar of a list
+
+abbrev directives : Flags → G
+directives f = symbol Directive f
+
+-- what stands behind the directives
+abbrev behind_directives : Flags → G
+behind_directives f = opt (seq (such (at Item f) not_string) (statements f))
+
+-- one directive more, or none
+split : {text : List ℕ} {X : Test} {s : ℕ} (f : Flags) → Goes rule (Lex text) X end (with_directives f) s (alt (seq (directives f) (with_directives f)) (behind_directives f)) s (λ us. us) (still 0)
+split f = same (λ ts us i j ls rest d. to d) (λ ts us i j ls rest d. of d)
+  where
+    to : {a b : G} {ks ts us : Slots} {i j : ℕ} {ls rest : Lexemes} → Takes rule (seq (many a) b) ks ts i ls us j rest → Takes rule (alt (seq a (seq (many a) b)) b) ks ts i ls us j rest
+    to (is_seq (is_many (is_left (is_seq d e))) r) = is_left (is_seq d (is_seq e r))
+    to (is_seq (is_many (is_right is_nothing)) r) = is_right r
+
+    of : {a b : G} {ks ts us : Slots} {i j : ℕ} {ls rest : Lexemes} → Takes rule (alt (seq a (seq (many a) b)) b) ks ts i ls us j rest → Takes rule (seq (many a) b) ks ts i ls us j rest
+    of (is_left (is_seq d (is_seq e r))) = is_seq (is_many (is_left (is_seq d e))) r
+    of (is_right r) = is_seq (is_many (is_right is_nothing)) r
+
+-- what may stand behind every statement
+abbrev surely_behind : Look
+surely_behind k w e = no_link k w e && surest Item k w e
+
+surely_statement : (f : Flags) → Sure surely_behind (after_statement (at Item f))
+surely_statement f = record { admits = λ ts y h. let x = and_parts (seen no_link y) _ h in let z = (surely (at Item f)).admits ts y x.1 in (and_from _ _ x.0 z.0, z.1) }
+
+-- statements stand behind a statement, and whatever behind a directive
+before_statements : {f : Flags} {ks : Slots} {a : G} {s : ℕ} → Between rule (plain at_text_end) (after_statement (at Item f)) ks a (statements f) s
+unfolding covers
+before_statements {f} = by_first firsts (surely_statement f) refl
+
+before_list : {f : Flags} {ks : Slots} {a : G} {s : ℕ} → Between rule (plain at_text_end) (plain no_link) ks a (with_directives f) s
+unfolding covers
+before_list {f} = by_first firsts (by_plain no_link) refl
+
+-- ---- items
+
+item_rule : {text : List ℕ} {s : ℕ} (f : Flags) → Goes rule (Lex text) (after_statement (at Item f)) end (rule (at Item f)) s (symbol ListItem f) s (λ us. us) (still 0)
+unfolding rule rule_of apart
+item_rule f = left (fails_dead (when f.module_goal (alt (symbol ImportDecl f) (symbol ExportDecl f))) refl)
+
+item_stretch : {text : List ℕ} {f : Flags} {s s' : ℕ} {l : Label} {cs : Slots} {pass : Lexemes → Lexemes} → Stretch text (after_statement (at ListItem f)) (symbol ListItem f) s nothing s' (tree l cs) pass → Stretch text (after_statement (at Item f)) (symbol Item f) s nothing s' (tree l cs) pass
+item_stretch {f = f} y = record { reach = max 0 y.reach; near = let k = y.near in omega arith; goes = by_rule {X' = after_statement (at Item f)} (λ l cs vs z d. d) (item_rule f ▹ y.goes) refl }
+
+no_item : {text : List ℕ} {f : Flags} {s : ℕ} → NoStatement text (at ListItem f) s → NoStatement text (at Item f) s
+no_item {f = f} n = fails_rule {X' = after_statement (at Item f)} (λ l cs vs y e. e) (item_rule f ▹✗ n)
+
+module _ {text : List ℕ} {f : Flags} {p : Parser} (a : At text f p) (n : p.token.kind ≡ Eof → ⊥) where
+  -- it isn't the end that stands here
+  not_end : Fails rule (Lex text) (plain at_text_end) end nothing p.prev_token_end
+  unfolding covers apart
+  not_end = fails_at a {X = plain at_text_end} nothing (Eof ∷ []) refl (none_of_one Eof p.token.kind n)
+
+  one_more : {s : ℕ} {l : Label} {cs : Slots} {pass : Lexemes → Lexemes} → Stretch text (after_statement (at Item f)) (symbol Item f) p.prev_token_end nothing s (tree l cs) pass → Stretch text (plain at_text_end) (statements f) p.prev_token_end (statements f) s (tree l cs) pass
+  one_more y = record { reach = max 0 (max 0 y.reach); near = let k = y.near in omega arith; goes = more_of ▹ left not_end ▹ then_by y.goes before_statements }
+
+  pub no_more : NoStatement text (at Item f) p.prev_token_end → NoList text (statements f) p.prev_token_end
+  no_more x = more_of ▹✗ fails_alt (part_fails x before_statements) not_end
+
+  pub no_statement_here : NoStatement text (at ListItem f) p.prev_token_end → NoList text (statements f) p.prev_token_end
+  no_statement_here x = no_more (no_item x)
+
+  -- a statement more
+  pub statement_taken : {q : Parser} {id : NodeId} → Statement text f (at ListItem f) p q id → OneTaken text f (statements f) (statements f) p q id
+  statement_taken x = record {
+    at = x.at;
+    same = x.same;
+    further = x.further;
+    label = x.label;
+    slots = x.slots;
+    pass = x.pass;
+    walked = x.walked;
+    verdict = verdict_of x.verdict (λ y. one_more (item_stretch y)) (λ m. no_more (no_item m));
+    holds = x.holds;
+    keeps = x.keeps;
+  }
+
+  -- a statement that is none of a string alone, where no directive stands
+  statement_first : {s : ℕ} {l : Label} {cs : Slots} {pass : Lexemes → Lexemes} → not_string (record { label = l; slots = cs }) ≡ true → Fails rule (Lex text) (plain no_link) end (directives f) p.prev_token_end → Stretch text (after_statement (at Item f)) (symbol Item f) p.prev_token_end nothing s (tree l cs) pass
+      → Stretch text (plain at_text_end) (with_directives f) p.prev_token_end (statements f) s (tree l cs) pass
+  statement_first t d y = record { reach = max 0 (max 0 (max 0 y.reach)); near = let k = y.near in omega arith; goes = split f ▹ right (part_fails d before_list) ▹ left not_end ▹ then_by (tested y.goes t) before_statements }
+
+  none_first : Fails rule (Lex text) (plain no_link) end (directives f) p.prev_token_end → NoStatement text (at Item f) p.prev_token_end → NoList text (with_directives f) p.prev_token_end
+  none_first d x = split f ▹✗ fails_alt (part_fails d before_list) (fails_alt (part_fails (fails_tested x) before_statements) not_end)
+
+  -- a directive
+  directive_first : {s : ℕ} {l m : Label} {cs ds : Slots} {pass pass' : Lexemes → Lexemes} {s' : ℕ} → not_string (record { label = m; slots = ds }) ≡ false → Stretch text (after_statement (at Item f)) (symbol Item f) p.prev_token_end nothing s' (tree m ds) pass' → Stretch text (plain no_link) (directives f) p.prev_token_end nothing s (tree l cs) pass
+      → Stretch text (plain at_text_end) (with_directives f) p.prev_token_end (with_directives f) s (tree l cs) pass
+  directive_first t i y = record { reach = max 0 (max 0 y.reach); near = let k = y.near in omega arith; goes = split f ▹ left (fails_alt (part_fails (fails_test i.goes t) before_statements) not_end) ▹ then_by y.goes before_list }
+
+-- ---- statements that begin with a string
+
+module _ {text : List ℕ} {f : Flags} {p q : Parser} (x : Answer text f (at Expression f) p q) where
+  string_path : is_literal x.label.kind ≡ true → Path text f (after (at Expression f)) string p nothing q (tree x.label x.slots)
+  string_path t = record {
+    at = x.at;
+    further = x.further;
+    pass = x.pass;
+    walked = x.walked;
+    verdict = verdict_of x.verdict
+        (λ y. record { reach = y.reach; near = y.near; goes = record { passes = y.goes.passes; sound = λ us vs k ls rest l r d. string_alone (y.goes.sound us vs k ls rest l r d) t; only = λ ts vs k ls rest l d e. y.goes.only ts vs k ls rest l (string_expression d) e } })
+        (λ n. record { no = λ ts vs k ls rest l d e. n.no ts vs k ls rest l (string_expression d) e });
+  }
+
+  no_string : is_literal x.label.kind ≡ false → Fails rule (Lex text) (after (at Expression f)) end string p.prev_token_end
+  no_string t = either_way x.verdict
+      (λ y. record { no = λ ts vs k ls rest l d e. let z = y.goes.only ts vs k ls rest l (string_expression d) e in false≢true (sym t ∙ (sym (ap string_first z.2) ∙ first_is_string d)) })
+      (λ n. record { no = λ ts vs k ls rest l d e. n.no ts vs k ls rest l (string_expression d) e })
+
+no_directive : {text : List ℕ} {f : Flags} {s : ℕ} → Fails rule (Lex text) (after (at Expression f)) end string s → Fails rule (Lex text) (plain no_link) end (directives f) s
+unfolding rule rule_of covers
+no_directive {f = f} n = fails_rule {X' = plain no_link} (λ l cs vs y e. (e.0, refl)) (fails_node (inside_plain {F' = no_link} refl) (fails_ended n (λ cs j ls mid l d h. expression_ended f no_link (string_expression d) (here ls) h)))
+
+underived_string : {text : List ℕ} {f : Flags} {s : ℕ} → Underived text (at Expression f) s → Fails rule (Lex text) (after (at Expression f)) end string s
+underived_string n = record { no = λ ts vs k ls rest l d e. n.no ts vs k ls rest l (string_expression d) e }
+
+-- a node of what was taken
+one_taken : {text : List ℕ} {f : Flags} {g g' : G} {p q w : Parser} {l : Label} {cs : Slots} {id : NodeId} → Path text f (plain at_text_end) g p g' q (tree l cs) → Same p q → w ≡ record q { nodes = w.nodes } → Holds w.nodes (length p.nodes) (length w.nodes) id.0 l cs → Keeps p.nodes w.nodes → OneTaken text f g g' p w id
+one_taken {text} {f} {g} {g'} {p} {q} {w} {l} {cs} {id} y b e h k = go w.nodes e h k
+  where
+    go : (ns : List Node) → w ≡ record q { nodes = ns } → Holds w.nodes (length p.nodes) (length w.nodes) id.0 l cs → Keeps p.nodes w.nodes → OneTaken text f g g' p w id
+    go ns e h k = subst (λ (r : Parser). OneTaken text f g g' p r id) (sym e) (record {
+      at = beside_nodes ns y.at;
+      same = same_with ns b (subst (λ (r : Parser). Keeps p.nodes r.nodes) e k);
+      further = y.further;
+      label = l;
+      slots = cs;
+      pass = y.pass;
+      walked = y.walked;
+      verdict = y.verdict;
+      holds = subst (λ (r : Parser). Holds r.nodes (length p.nodes) (length r.nodes) id.0 l cs) e h;
+      keeps = subst (λ (r : Parser). Keeps p.nodes r.nodes) e k;
+    })
+
+string_kind : (k : NodeKind) → is_literal (kind_of k) ≡ true → k ≡ node.StringLiteral
+string_kind node.StringLiteral h = refl
+string_kind _ h = absurd (false≢true h)
+
+-- what the code asks of the node
+literal_of : (b : Bool) (k : NodeKind) → IsTrue b ↔ (k ≡ node.StringLiteral) → is_literal (kind_of k) ≡ b
+literal_of true k i = ap (λ (v : NodeKind). is_literal (kind_of v)) (i.0 refl)
+literal_of false k i = go (is_literal (kind_of k)) refl
+  where
+    go : (c : Bool) → is_literal (kind_of k) ≡ c → is_literal (kind_of k) ≡ false
+    go true e = absurd (false≢true (i.1 (string_kind k e)))
+    go false e = e
+
+abbrev left_by : Bool → Flags → G
+left_by b f = cond b (with_directives f) (statements f)
+
+module _ {text : List ℕ} {f : Flags} {p : Parser} (a : At text f p) (s : p.token.kind ≡ Str) where
+  not_eof : p.token.kind ≡ Eof → ⊥
+  not_eof e = let k : Str ≡ Eof = sym s ∙ e in absurd (cc)
+
+  pub no_own_kind : one_of_kinds statement_kinds p.token.kind ≡ false
+  no_own_kind = ap (one_of_kinds statement_kinds) s
+
+  no_label : (X : Test) → Fails rule (Lex text) X end (symbol Labeled f) p.prev_token_end
+  no_label X = no_label_at a (λ e. let k : Str ≡ Ident = sym s ∙ e in absurd (cc)) X
+
+  -- neither an expression stands here, nor a directive
+  pub no_opening : Underived text (at Expression f) p.prev_token_end → NoList text (with_directives f) p.prev_token_end
+  no_opening n = none_first a not_eof (no_directive (underived_string n)) (no_item (statement_fails a no_own_kind no_label true n))
+
+  module _ {q : Parser} (x : Answer text f (at Expression f) p q) where
+    -- no statement ends behind it
+    pub opening_unended : NoEnd q → NoList text (with_directives f) p.prev_token_end
+    unfolding rule rule_of covers
+    opening_unended m = none_first a not_eof (go (is_literal x.label.kind) refl) (no_item (statement_unended a no_own_kind no_label true x m))
+      where
+        go : (b : Bool) → is_literal x.label.kind ≡ b → Fails rule (Lex text) (plain no_link) end (directives f) p.prev_token_end
+        go true t = fails_rule {X' = plain no_link} (λ l cs vs y e. (e.0, refl)) (fails_node (inside_plain refl) (to_semicolon (λ ds i j ls mid d. string_expression d) (string_path x t) ⟶✗ unended x.at (goes_on (row_of x.label x.slots)) m))
+        go false t = no_directive (no_string x t)
+
+    module _ {r : Parser} (i : f.in_ ≡ true) (e : EndsStatement q r) where
+      directive_path : is_literal x.label.kind ≡ true → Path text f (plain no_link) (directives f) p nothing r (tree (label_here directive no_op p r) (tree x.label x.slots end))
+      unfolding rule rule_of covers
+      directive_path t = by_symbol_as {X' = plain no_link} (λ l cs vs y d. (d.0, refl)) (noded_by a (inside_plain refl) (end_path i x e (to_semicolon (λ ds i j ls mid d. string_expression d) (string_path x t))))
+
+      item_path : Path text f (after_statement (at ListItem f)) (symbol ListItem f) p nothing r (tree (label_here expression_statement no_op p r) (tree x.label x.slots end))
+      item_path = by_symbol_as {X' = after_statement (at ListItem f)} (λ l cs vs y d. d) (statement_path a no_own_kind no_label true i x e)
+
+      as_directive : is_literal x.label.kind ≡ true → Path text f (plain at_text_end) (with_directives f) p (with_directives f) r (tree (label_here directive no_op p r) (tree x.label x.slots end))
+      as_directive t = let d = directive_path t in record {
+        at = d.at;
+        further = d.further;
+        pass = d.pass;
+        walked = d.walked;
+        verdict = both_ways d.verdict item_path.verdict (λ y z. directive_first a not_eof (string_statement x.label (label_here expression_statement no_op p r) x.slots x.label.kind refl t) (item_stretch z) y) (λ m n. none_first a not_eof m (no_item n));
+      }
+
+      as_statement : is_literal x.label.kind ≡ false → Path text f (plain at_text_end) (with_directives f) p (statements f) r (tree (label_here expression_statement no_op p r) (tree x.label x.slots end))
+      as_statement t = let d = no_directive (no_string x t) in record {
+        at = item_path.at;
+        further = item_path.further;
+        pass = item_path.pass;
+        walked = item_path.walked;
+        verdict = verdict_of item_path.verdict (λ y. statement_first a not_eof (other_statement x.label (label_here expression_statement no_op p r) x.slots x.label.kind refl t) d (item_stretch y)) (λ n. none_first a not_eof d (no_item n));
+      }
+
+-- a statement that begins with a string, and its node
+opening_node : {text : List ℕ} {f : Flags} {g g' : G} {p q r w : Parser} {child id : NodeId} {l : Label} (k : NodeKind) (s : Span) (x : Numbered text f (at Expression f) p q child) → EndsStatement q r → plain_label k op.None s ≡ l → MadeHere (plain_label k op.None s) (Some child ∷ []) r w id → Path text f (plain at_text_end) g p g' r (tree l (tree x.answer.label x.answer.slots end)) → OneTaken text f g g' p w id
+opening_node {text} {f} {g} {g'} {p} {q} {r} {w} {child} {id} {l} k s x e u d y =
+    let made : MadeHere l (Some child ∷ []) r w id = subst (λ (v : Label). MadeHere v (Some child ∷ []) r w id) u d in
+    let z = ended_so x.answer.at e in
+    let ks : Keeps p.nodes r.nodes = subst (λ (ns : List Node). Keeps p.nodes ns) (sym z.nodes) x.keeps in
+    one_taken y (same_both x.answer.same z.same) made.stays (one_held p.nodes made (subst (λ (ns : List Node). Holds ns (length p.nodes) (length ns) child.0 x.answer.label x.answer.slots) (sym z.nodes) x.holds)) (Keeps-trans ks (Keeps-made made.made))
+
+pub opening_answers : {text : List ℕ} {f : Flags} {p q r w : Parser} {child id : NodeId} (b : Bool) (k : NodeKind) (s : Span) → At text f p → p.token.kind ≡ Str → f.in_ ≡ true → (x : Numbered text f (at Expression f) p q child) → EndsStatement q r → IsTrue b ↔ ((node_at r.nodes child).kind ≡ node.StringLiteral) → k ≡ cond b node.Directive node.ExpressionStatement → s.start ≡ p.token.span.start → s.end ≡ r.prev_token_end → MadeHere (plain_label k op.None s) (Some child ∷ []) r w id
+    → OneTaken text f (with_directives f) (left_by b f) p w id
+opening_answers {text} {f} {p} {q} {r} {w} {child} {id} b k s a t i x e n u c d m = go b n u
+  where
+    is_label : x.answer.label ≡ label (node_at r.nodes child)
+    is_label = held_label child (subst (λ (ns : List Node). Holds ns (length p.nodes) (length ns) child.0 x.answer.label x.answer.slots) (sym (ended_so x.answer.at e).nodes) x.holds)
+
+    literal : (b : Bool) → IsTrue b ↔ ((node_at r.nodes child).kind ≡ node.StringLiteral) → is_literal x.answer.label.kind ≡ b
+    literal b n = ap (λ (l : Label). is_literal l.kind) is_label ∙ literal_of b (node_at r.nodes child).kind n
+
+    go : (b : Bool) → IsTrue b ↔ ((node_at r.nodes child).kind ≡ node.StringLiteral) → k ≡ cond b node.Directive node.ExpressionStatement → OneTaken text f (with_directives f) (left_by b f) p w id
+    go true n u = opening_node k s x e (rw (u, c, d) refl) m (as_directive a t x.answer i e (literal true n))
+    go false n u = opening_node k s x e (rw (u, c, d) refl) m (as_statement a t x.answer i e (literal false n))
+
+-- the number of an expression lies among the nodes
+pub child_below : {text : List ℕ} {f : Flags} {p q r : Parser} {child : NodeId} → (x : Numbered text f (at Expression f) p q child) → EndsStatement q r → child.0 < length r.nodes
+child_below {child = child} x e = subst (λ (ns : List Node). child.0 < length ns) (sym (ended_so x.answer.at e).nodes) (Holds-below x.holds)
+
+pub opening_taken : (p w : Parser) (id : NodeId) (b : Bool) → ((text : List ℕ) (f : Flags) → At text f p → OneTaken text f (with_directives f) (left_by b f) p w id) → OpeningTaken p w id b
+opening_taken p w id true h = h
+opening_taken p w id false h = h
+
+-- ---- lists
+
+append_more : (as' bs us : Slots) → append (append as' bs) us ≡ append as' (append bs us)
+append_more end bs us = refl
+append_more (hole ts) bs us = ap hole (append_more ts bs us)
+append_more (tree m ds ts) bs us = ap (λ (v : Slots). tree m ds v) (append_more ts bs us)
+
+append_tree : (h : Slots → Slots) (l : Label) (cs : Slots) → ((us : Slots) → h us ≡ append (h end) us) → (us : Slots) → h (tree l cs us) ≡ append (h (tree l cs end)) us
+append_tree h l cs e us = e (tree l cs us) ∙ (sym (append_more (h end) (tree l cs end) us) ∙ ap (λ (v : Slots). append v us) (sym (e (tree l cs end))))
+
+module _ {text : List ℕ} {f : Flags} {g : G} where
+  pub none_taken : {p : Parser} {ids : List (Option NodeId)} → At text f p → ids ≡ [] → Taken text f g g p p ids
+  none_taken {p} {ids} a e = record {
+    at = a;
+    same = same_itself;
+    further = omega arith;
+    slots = λ us. us;
+    appends = λ us. refl;
+    pass = λ ls. ls;
+    walked = nowhere;
+    verdict = clean refl (record { reach = 0; near = omega arith; goes = stay });
+    holds = subst (λ (js : List (Option NodeId)). HoldsAll p.nodes (length p.nodes) (length p.nodes) js end) (sym e) (HoldsAll-none p.nodes (length p.nodes) (length p.nodes) (omega arith));
+    keeps = Keeps-refl p.nodes;
+  }
+
+  pub one_taken_more : {g' g'' : G} {p q r : Parser} {ids js : List (Option NodeId)} {id : NodeId} → Taken text f g g' p q ids → OneTaken text f g' g'' q r id → js ≡ ids ++ Some id ∷ [] → Taken text f g g'' p r js
+  one_taken_more {g'} {g''} {p} {q} {r} {ids} {js} {id} s x e = record {
+    at = x.at;
+    same = same_both s.same x.same;
+    further = let i = s.further in let j = x.further in let h = s.at.behind in omega arith;
+    slots = λ us. s.slots (tree x.label x.slots us);
+    appends = append_tree s.slots x.label x.slots s.appends;
+    pass = λ ls. s.pass (x.pass ls);
+    walked = walked_both s.walked x.walked;
+    verdict = and_then s.verdict x.verdict
+        (λ u y. record { reach = max u.reach y.reach; near = let i = u.near in let j = y.near in let k = x.further in let h = s.at.behind in omega arith; goes = u.goes ▹ y.goes })
+        (λ m. m)
+        (λ u m. u.goes ▹✗ m);
+    holds = subst (λ (ks : List (Option NodeId)). HoldsAll r.nodes (length p.nodes) (length r.nodes) ks (s.slots (tree x.label x.slots end))) (sym e) (subst (λ (v : Slots). HoldsAll r.nodes (length p.nodes) (length r.nodes) (ids ++ Some id ∷ []) v) (sym (s.appends (tree x.label x.slots end))) (HoldsAll-next id x.keeps s.holds x.holds));
+    keeps = Keeps-trans s.keeps x.keeps;
+  }
+
+  -- what is left is read as something else
+  taken_so : {g' g'' : G} {p q : Parser} {ids : List (Option NodeId)} → Taken text f g g' p q ids → Goes rule (Lex text) (plain at_text_end) end g' q.prev_token_end g'' q.prev_token_end (λ us. us) (still 0) → Taken text f g g'' p q ids
+  taken_so s h = record {
+    at = s.at;
+    same = s.same;
+    further = s.further;
+    slots = s.slots;
+    appends = s.appends;
+    pass = s.pass;
+    walked = s.walked;
+    verdict = verdict_of s.verdict (λ u. record { reach = max u.reach 0; near = let i = u.near in omega arith; goes = u.goes ▹ h }) (λ m. m);
+    holds = s.holds;
+    keeps = s.keeps;
+  }
+
+  -- what is left can't be read
+  pub none_left : {g' : G} {p q : Parser} {ids : List (Option NodeId)} → Taken text f g g' p q ids → NoList text g' q.prev_token_end → NoList text g p.prev_token_end
+  none_left s n = either_way s.verdict (λ u. u.goes ▹✗ n) (λ m. m)
+
+-- where no string stands, statements follow, and none is one of a string alone
+untested : {text : List ℕ} {X : Test} {s : ℕ} (f : Flags) → ((y : Lexeme) → Lex text s y → IsTrue (seen (is Str) y) → ⊥) → Goes rule (Lex text) X end (behind_directives f) s (statements f) s (λ us. us) (still 0)
+untested {text} {X} {s} f n = record { passes = passes_none; sound = λ us vs k ls rest l w d. go_sound us vs k ls rest l d; only = λ ts vs k ls rest l d e. go_only ts vs k ls rest l d }
+  where
+    with_test : {us ws : Slots} {j : ℕ} {ls mid : Lexemes} → Lexes (Lex text) s ls → Takes rule (symbol Item f) end us s ls ws j mid → Takes rule (such (at Item f) not_string) end us s ls ws j mid
+    with_test {j = j} {ls = ls} {mid = mid} l (is_such {l = m} {cs = cs} {us = us} d t) = go (not_string (record { label = m; slots = cs })) refl
+      where
+        go : (b : Bool) → not_string (record { label = m; slots = cs }) ≡ b → Takes rule (such (at Item f) not_string) end (tree m cs us) s ls us j mid
+        go true e = is_such d e
+        go false e = absurd (n (here ls) (here_at (Lex text) ls l) (stated (such (at Item f) always) (is_such {ks = end} {us = us} d t) refl (ap not e)))
+
+    go_sound : (us vs : Slots) (k : ℕ) (ls rest : Lexemes) → Lexes (Lex text) s ls → Takes rule (statements f) end us s ls vs k rest → Takes rule (behind_directives f) end us s ls vs k rest
+    go_sound us vs k ls rest l (is_many (is_left (is_seq d e))) = is_left (is_seq (with_test l d) e)
+    go_sound us vs k ls rest l (is_many (is_right is_nothing)) = is_right is_nothing
+
+    go_only : (ts vs : Slots) (k : ℕ) (ls rest : Lexemes) → Lexes (Lex text) s ls → Takes rule (behind_directives f) end ts s ls vs k rest → (us : Slots) × (ls' : Lexemes) × (ts ≡ us) × Lexes (Lex text) s ls' × Takes rule (statements f) end us s ls' vs k rest × (ls ≡ ls')
+    go_only ts vs k ls rest l (is_left (is_seq (is_such d t) e)) = (ts, ls, refl, l, is_many (is_left (is_seq (is_such d refl) e)), refl)
+    go_only ts vs k ls rest l (is_right is_nothing) = (ts, ls, refl, l, is_many (is_right is_nothing), refl)
+
+module _ {text : List ℕ} {f : Flags} {p q : Parser} {ids : List (Option NodeId)} where
+  pub statements_follow : Taken text f (with_directives f) (with_directives f) p q ids → (q.token.kind ≡ Str → ⊥) → Taken text f (with_directives f) (statements f) p q ids
+  unfolding covers apart
+  statements_follow s n =
+      let none = none_of_one Str q.token.kind n in
+      taken_so s (split f ▹ right (part_fails (fails_at s.at {X = plain no_link} (directives f) (Str ∷ []) refl none) before_list)
+      ▹ untested f (λ y l h. not_here s.at (Str ∷ []) refl none y l (covered (is Str) (λ k w e. one_of_kinds (Str ∷ []) k) refl y.kind y.newline y.escaped h)))
+
+-- whatever the text and the parameters are called
+pub at_any : (P : List ℕ → Flags → Type 0) {p : Parser} → P p.text (flags_of p) → (text : List ℕ) (f : Flags) → At text f p → P text f
+at_any P {p} h text f a = subst (λ (t : List ℕ). P t f) a.text_is (subst (λ (g : Flags). P p.text g) a.flags_are h)
+
+-- less of the text is left
+pub smaller_room : {text : List ℕ} {f : Flags} {g g' : G} {p q : Parser} {id : NodeId} → At text f p → OneTaken text f g g' p q id → room q < room p
+smaller_room a x = let i = x.further in let y = a.behind in let z = a.at.between.0 in let g = x.same.follows.text in omega (arith, ap length g)
+
+pub opened_statement : {p w : Parser} {id : NodeId} (b : Bool) → b ≡ false → OpeningTaken p w id b → (text : List ℕ) (f : Flags) → At text f p → OneTaken text f (with_directives f) (statements f) p w id
+opened_statement true e h = absurd (false≢true (sym e))
+opened_statement false e h = h
+
+pub opened_directive : {p w : Parser} {id : NodeId} (b : Bool) → b ≡ true → OpeningTaken p w id b → (text : List ℕ) (f : Flags) → At text f p → OneTaken text f (with_directives f) (with_directives f) p w id
+opened_directive true e h = h
+opened_directive false e h = absurd (false≢true e)
+
+-- the parameter In lasts
+pub in_lasts : {text : List ℕ} {f : Flags} {g g' : G} {p q : Parser} {ids : List (Option NodeId)} → Taken text f g g' p q ids → has_flag in_flag p.ctx ≡ true → has_flag in_flag q.ctx ≡ true
+in_lasts s h = ap (has_flag in_flag) s.same.ctx ∙ h

@@ -1,0 +1,164 @@
+//! Statements (ECMA-262, chapter 14).
+
+ghost use Rattle.std.specs.Prelude.{◌≡◌, ◌≤◌, ◌&&◌, ◌↔◌, IsTrue, true, false, MatchResult};
+ghost use Rattle.js_base.specs.Kinds.{one_of_kinds};
+ghost use Rattle.js_base.specs.Contexts.{has_flag, in_flag};
+ghost use Rattle.js_base.specs.declared.kind.Kind.TheVariants.{Colon, Semicolon};
+ghost use Rattle.js_grammar.specs.Productions.{at, ListItem, Sub};
+ghost use Rattle.js_parsing.specs.Answers.{Stops};
+ghost use Rattle.js_parsing.specs.Nesting.{CanNest, room};
+ghost use Rattle.js_parsing.specs.States.{Standing};
+ghost use Rattle.js_parsing.specs.Statements.{EndsStatement, IsLabel, LabelsStatement, NoEnd, TakesAnywhere, TakesStatement, link_kinds, statement_kinds};
+
+use crate::word_statement::{
+    parse_break_statement, parse_continue_statement, parse_debugger_statement,
+    parse_throw_statement,
+};
+use js_base::{Kind, Span, Token};
+use js_cursor::{ParserImpl, Stop};
+use js_expressions::sequence::parse_sequence_expression;
+use js_lex::ParserConfig;
+use js_operands::primary::parse_leaf;
+use js_parsing::lexemes::advance;
+use js_parsing::nested::Nested;
+use js_parsing::nodes::{make_leaf, make_one, make_two};
+use js_tree::{NodeId, NodeKind, Op};
+
+/// A StatementListItem (ECMA-262, section 14.2), as far as it is a Statement.
+pub fn parse_statement_list_item<C: ParserConfig, N: Nested<C>>(
+    p: &mut ParserImpl<'_, C>,
+    nested: &N,
+) -> Result<NodeId, Stop>
+    requires at { Standing p.old }
+    requires nests { CanNest (N.can nested.now) (room p.old) }
+    requires allows_in { has_flag in_flag p.old.ctx ≡ true }
+    ensures { TakesStatement (at ListItem) p.old p.new result }
+{
+    parse_any_statement(p, nested)
+}
+
+/// A Statement that is the body of another one (ECMA-262, chapter 14).
+pub fn parse_statement<C: ParserConfig, N: Nested<C>>(
+    p: &mut ParserImpl<'_, C>,
+    nested: &N,
+) -> Result<NodeId, Stop>
+    requires at { Standing p.old }
+    requires nests { CanNest (N.can nested.now) (room p.old) }
+    requires allows_in { has_flag in_flag p.old.ctx ≡ true }
+    ensures { TakesStatement (at Sub) p.old p.new result }
+{
+    parse_any_statement(p, nested)
+}
+
+/// A Statement, wherever it stands: by the lexeme that it begins with; a LabelledStatement or an ExpressionStatement where
+/// that is none of a statement's own.
+fn parse_any_statement<C: ParserConfig, N: Nested<C>>(
+    p: &mut ParserImpl<'_, C>,
+    nested: &N,
+) -> Result<NodeId, Stop>
+    requires at { Standing p.old }
+    requires nests { CanNest (N.can nested.now) (room p.old) }
+    requires allows_in { has_flag in_flag p.old.ctx ≡ true }
+    ensures { TakesAnywhere p.old p.new result }
+{
+    if p.cur_token().escaped() {
+        return Err(p.set_unexpected());
+    }
+    match p.cur_kind() {
+        Kind::Semicolon => parse_empty_statement(p),
+        Kind::Break => parse_break_statement(p),
+        Kind::Continue => parse_continue_statement(p),
+        Kind::Throw => parse_throw_statement(p, nested),
+        Kind::Debugger => parse_debugger_statement(p),
+        _ => parse_expression_or_labeled_statement(p, nested),
+    }
+}
+
+/// An EmptyStatement (ECMA-262, section 14.4).
+fn parse_empty_statement<C: ParserConfig>(p: &mut ParserImpl<'_, C>) -> Result<NodeId, Stop>
+    requires at { Standing p.old }
+    requires here { p.old.token.kind ≡ Semicolon }
+    ensures { TakesAnywhere p.old p.new result }
+{
+    parse_leaf(p, NodeKind::EmptyStatement, Op::None)
+}
+
+/// An ExpressionStatement (ECMA-262, section 14.5): an expression and its semicolon, which may be left out where the
+/// grammar permits that (12.10). Where the expression is a name and a colon stands behind it, it is a label (14.13).
+fn parse_expression_or_labeled_statement<C: ParserConfig, N: Nested<C>>(
+    p: &mut ParserImpl<'_, C>,
+    nested: &N,
+) -> Result<NodeId, Stop>
+    requires at { Standing p.old }
+    requires nests { CanNest (N.can nested.now) (room p.old) }
+    requires allows_in { has_flag in_flag p.old.ctx ≡ true }
+    requires other { one_of_kinds statement_kinds p.old.token.kind ≡ false }
+    ensures { TakesAnywhere p.old p.new result }
+{
+    let start = p.cur_start();
+    let first = p.cur_token();
+    let expression = parse_sequence_expression(p, nested)?;
+    if is_label(p, first) {
+        return parse_labeled_statement_rest(p, nested, first.span());
+    }
+    end_statement(p)?;
+    let span = p.end_span(start);
+    let node = make_one(p, NodeKind::ExpressionStatement, Op::None, span, expression)?;
+    Ok(node)
+}
+
+/// The rest of a LabelledStatement (ECMA-262, section 14.13), behind the name that is its label.
+fn parse_labeled_statement_rest<C: ParserConfig, N: Nested<C>>(
+    p: &mut ParserImpl<'_, C>,
+    nested: &N,
+    name: Span,
+) -> Result<NodeId, Stop>
+    requires at { Standing p.old }
+    requires nests { CanNest (N.can nested.now) (room p.old) }
+    requires allows_in { has_flag in_flag p.old.ctx ≡ true }
+    requires colon { p.old.token.kind ≡ Colon }
+    requires start { name.start ≤ p.old.prev_token_end }
+    ensures { LabelsStatement name p.old p.new result }
+{
+    let label = make_leaf(p, NodeKind::LabelIdentifier, Op::None, name)?;
+    advance(p)?;
+    let body = nested.statement(p)?;
+    let span = p.end_span(name.start);
+    let node = make_two(p, NodeKind::LabeledStatement, Op::None, span, label, body)?;
+    Ok(node)
+}
+
+/// Whether the token that was passed last is this one, a name, and a colon stands behind it.
+fn is_label<C: ParserConfig>(p: &ParserImpl<'_, C>, first: Token) -> bool
+    ensures { IsTrue result ↔ IsLabel first p.now }
+{
+    p.at(Kind::Colon)
+        && matches!(first.kind(), Kind::Ident)
+        && !first.escaped()
+        && first.end() == p.prev_token_end()
+}
+
+/// The semicolon of a statement, or none where the grammar permits that (12.10).
+pub fn end_statement<C: ParserConfig>(p: &mut ParserImpl<'_, C>) -> Result<(), Stop>
+    requires { Standing p.old }
+    ensures { MatchResult result (λ _. EndsStatement p.old p.new) (λ e. Stops p.old p.new e (NoEnd p.old)) }
+{
+    if has_link_on_new_line(p) {
+        return Err(p.set_unexpected());
+    }
+    p.asi()
+}
+
+/// Whether a new line begins with what goes on with a member, an optional chain or parameters: no statement begins so.
+fn has_link_on_new_line<C: ParserConfig>(p: &ParserImpl<'_, C>) -> bool
+    ensures { result ≡ (p.now.token.is_on_new_line && one_of_kinds link_kinds p.now.token.kind) }
+{
+    p.cur_token().is_on_new_line() && begins_link(p.cur_kind())
+}
+
+/// A dot, the sign of an optional chain, or `=>`.
+fn begins_link(kind: Kind) -> bool
+    ensures { result ≡ one_of_kinds link_kinds kind }
+{
+    matches!(kind, Kind::Dot | Kind::QuestionDot | Kind::Arrow)
+}

@@ -1,0 +1,106 @@
+//! Directives and statements, one behind the other (ECMA-262, sections 11.2.1, 14.2 and 16.1).
+
+ghost use Rattle.std.specs.Prelude.{◌≡◌, ◌<◌, ◌↔◌, IsTrue, true, cond, length, MatchResult};
+ghost use Rattle.js_base.specs.Contexts.{has_flag, in_flag};
+ghost use Rattle.js_base.specs.declared.kind.Kind.TheVariants.{Str};
+ghost use Rattle.js_cursor.specs.Moves.{is_last};
+ghost use Rattle.js_tree.specs.Nodes.{node_at};
+ghost use Rattle.js_tree.specs.declared.kind.NodeKind.TheVariants.{Directive, ExpressionStatement, StringLiteral};
+ghost use Rattle.js_parsing.specs.Nesting.{CanNest, room};
+ghost use Rattle.js_statements.specs.StatementLists.{AllRefused, AllTaken, DirectivesTaken, OpeningTaken};
+ghost use Rattle.js_parsing.specs.States.{Standing};
+
+use crate::statement::{end_statement, parse_statement_list_item};
+use js_base::Kind;
+use js_cursor::{ParserImpl, Stop};
+use js_expressions::sequence::parse_sequence_expression;
+use js_lex::ParserConfig;
+use js_parsing::nested::Nested;
+use js_parsing::nodes::make_one;
+use js_tree::{NodeId, NodeKind, Op};
+
+/// The directives and the statements of a text, up to its end; or as far as a statement may begin where no lexeme stands.
+pub fn parse_directives_and_statements<C: ParserConfig, N: Nested<C>>(
+    p: &mut ParserImpl<'_, C>,
+    nested: &N,
+) -> Result<Vec<Option<NodeId>>, Stop>
+    requires at { Standing p.old }
+    requires nests { CanNest (N.can nested.now) (room p.old) }
+    requires allows_in { has_flag in_flag p.old.ctx ≡ true }
+    ensures { MatchResult result (λ v. AllTaken p.old p.new v.items) (λ e. AllRefused p.old p.new e) }
+{
+    let mut items = parse_directives(p, nested)?;
+    'statements: while !at_last(p) {
+        let statement = parse_statement_list_item(p, nested)?;
+        items.push(Some(statement))?;
+    }
+    Ok(items)
+}
+
+/// Whether the end of the text stands here, or no lexeme.
+fn at_last<C: ParserConfig>(p: &ParserImpl<'_, C>) -> bool
+    ensures { result ≡ is_last p.now.token.kind }
+{
+    matches!(p.cur_kind(), Kind::Eof | Kind::Undetermined)
+}
+
+/// Directives, as long as a string alone is a statement; and a statement that begins with a string and is none.
+fn parse_directives<C: ParserConfig, N: Nested<C>>(
+    p: &mut ParserImpl<'_, C>,
+    nested: &N,
+) -> Result<Vec<Option<NodeId>>, Stop>
+    requires at { Standing p.old }
+    requires nests { CanNest (N.can nested.now) (room p.old) }
+    requires allows_in { has_flag in_flag p.old.ctx ≡ true }
+    ensures { MatchResult result (λ v. DirectivesTaken p.old p.new v.items) (λ e. AllRefused p.old p.new e) }
+{
+    let mut items = Vec::new(p.alloc);
+    'directives: while p.at(Kind::Str) {
+        let (item, is_directive) = parse_opening(p, nested)?;
+        items.push(Some(item))?;
+        if !is_directive {
+            return Ok(items);
+        }
+    }
+    Ok(items)
+}
+
+/// A statement that begins with a string: a Directive if that is all of it, and whether it is one.
+fn parse_opening<C: ParserConfig, N: Nested<C>>(
+    p: &mut ParserImpl<'_, C>,
+    nested: &N,
+) -> Result<(NodeId, bool), Stop>
+    requires at { Standing p.old }
+    requires nests { CanNest (N.can nested.now) (room p.old) }
+    requires allows_in { has_flag in_flag p.old.ctx ≡ true }
+    requires string { p.old.token.kind ≡ Str }
+    ensures { MatchResult result (λ r. OpeningTaken p.old p.new r.0 r.1) (λ e. AllRefused p.old p.new e) }
+{
+    let start = p.cur_start();
+    let expression = parse_sequence_expression(p, nested)?;
+    end_statement(p)?;
+    let span = p.end_span(start);
+    let is_directive = is_string(p, expression);
+    let kind = opening_kind(is_directive);
+    let node = make_one(p, kind, Op::None, span, expression)?;
+    Ok((node, is_directive))
+}
+
+/// The node of a statement that begins with a string.
+fn opening_kind(is_directive: bool) -> NodeKind
+    ensures { result ≡ cond is_directive Directive ExpressionStatement }
+{
+    if is_directive {
+        NodeKind::Directive
+    } else {
+        NodeKind::ExpressionStatement
+    }
+}
+
+/// Whether the node is a string.
+fn is_string<C: ParserConfig>(p: &ParserImpl<'_, C>, id: NodeId) -> bool
+    requires { id.0 < length p.now.nodes }
+    ensures { IsTrue result ↔ ((node_at p.now.nodes id).kind ≡ StringLiteral) }
+{
+    matches!(p.ast.kind(id), NodeKind::StringLiteral)
+}

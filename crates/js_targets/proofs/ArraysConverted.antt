@@ -1,0 +1,157 @@
+-- Array literals before `=` that are targets, and those that are none (ECMA-262, 13.15.5).
+use Rattle.std.proofs.Common.{ℕ, ◌≡◌, ◌≤◌, ◌<◌, ◌⊎◌, inl, inr, List, [], ◌∷◌, length, Bool, true, false, not, ◌&&◌, ◌||◌, IsTrue, Option, Some, None, refl, sym, ap, subst, arith, ◌∙◌}
+use Rattle.std.specs.Prelude.{IsCharBoundary, IsUtf8}
+use Rattle.std.proofs.lemmas.Bool.{false≢true, and_parts, and_from}
+use Rattle.js_base.specs.declared.kind.Kind.{Kind}
+use Rattle.js_base.specs.declared.kind.Kind.TheVariants.{Eq, Comma, RBrack, Question}
+use Rattle.js_base.specs.declared.span.Span.{Span}
+use Rattle.js_base.specs.Kinds.{same_kind, one_of_kinds}
+use Rattle.js_base.proofs.KindLemmas.{kind_of_same}
+use Rattle.js_grammar.specs.Trees.{Span as TreeSpan, NodeKind, Label, Slots, end, tree, Tree, of, array_assignment_target, assignment_expression}
+use Rattle.js_grammar.specs.Grammar.{Lexeme, Lexemes, last, next, Look, here, seen, is, such, nothing, exact, alt, seq, Takes, Derives, is_nothing, is_lexeme, is_seq, is_left, is_right, is_such, ◌▸◌}
+use Rattle.js_grammar.specs.Insertion.{assign_operators}
+use Rattle.js_grammar.specs.Lexed.{Lexes}
+use Rattle.js_grammar.specs.LexicalFaults.{Reached}
+use Rattle.js_grammar.specs.Parsing.{Test, plain, full, always, Admits, Goes, Reads, Fails, Reaches, still, Way}
+use Rattle.js_grammar.specs.Productions.{G, Flags, Symbol, at, tok, op, Arrow', Assignment, Short, LeftHandSide, ArrayTarget, ObjectTarget}
+use Rattle.js_grammar.specs.Productions.{sym as symbol}
+use Rattle.js_grammar.specs.Table.{rule}
+use Rattle.js_grammar.specs.Follow.{after, widest}
+use Rattle.js_grammar.proofs.Behind.{lexed_behind}
+use Rattle.js_grammar.proofs.Calculus.{Between, Inside, inside_full, ends, label_is, slots_are, ◌▹◌, left, right, fails_alt, fails_node, then_by, part_fails}
+use Rattle.js_cursor.specs.Parsers.{Parser}
+use Rattle.js_parsing.specs.Answers.{Stretch, Underived}
+use Rattle.js_parsing.specs.Lexemes.{Lex}
+use Rattle.js_targets.specs.Taken.{assigns_next}
+use Rattle.js_targets.specs.Targets.{Each, Open, Closed, Ended, is_array, relabelled, elements_in, rests_in}
+use Rattle.js_targets.proofs.ArraysBeforeSigns.{array_before_a_sign}
+use Rattle.js_parsing.proofs.Here.{alike}
+use Rattle.js_targets.proofs.LiteralsAsTargets.{Targeted, literal_target}
+use Rattle.js_targets.proofs.Targets.{by_primary, may_array, of_short}
+use Rattle.js_targets.proofs.TargetsAsLiterals.{array_back}
+
+-- ---- what the literal says of the target
+
+closed_open : (text : List ℕ) (rs : List ℕ) → Each (Closed text) rs → Each (Open text) rs
+closed_open text [] h = tt
+closed_open text (e ∷ rs) h = (λ y l k. let w : RBrack ≡ Comma = sym h.0.is ∙ (sym (ap (λ (z : Lexeme). z.kind) (alike l h.0.stands)) ∙ k) in absurd (cc), closed_open text rs h.1)
+
+anew : {n : Symbol} {ks vs : Slots} {l : Label} {cs : Slots} {i j : ℕ} {ls rest : Lexemes} → Takes rule (such n always) end (tree l cs end) i ls end j rest → Takes rule (such n always) ks (tree l cs vs) i ls vs j rest
+anew (is_such d h) = is_such d h
+
+module _ (text : List ℕ) (f : Flags) (w : f.wide ≡ false) where
+  -- a target, as an expression
+  record Sourced (ks us : Slots) (a : Label) (bs : Slots) (i : ℕ) (ls : Lexemes) (j : ℕ) (rest : Lexemes) : Type 0 where
+    label : Label
+    slots : Slots
+    array : is_array label.kind ≡ true
+    target : a ≡ relabelled array_assignment_target label
+    covers : elements_in slots ≡ Some bs
+    opened : Each (Open text) (rests_in slots)
+    takes : Takes rule (such (at Short f) always) ks (tree label slots us) i ls us j rest
+
+  sourced : {ks us : Slots} {a : Label} {bs : Slots} {i j : ℕ} {ls rest : Lexemes} → Lexes (Lex text) i ls → Takes rule (rule (at ArrayTarget f)) end (tree a bs end) i ls end j rest → Sourced ks us a bs i ls j rest
+  sourced {ks} {us} {a} {bs} m d =
+      let x = array_back text f w d m in
+      record {
+        label = x.label;
+        slots = x.slots;
+        array = x.array;
+        target = label_is x.is_tree;
+        covers = x.covers ∙ ap Some (sym (slots_are x.is_tree));
+        opened = closed_open text (rests_in x.slots) x.closed;
+        takes = anew ((of_short f).up (by_primary x.derived));
+      }
+
+-- before an assignment operator an array literal may stand
+sign_admitted : (f : Flags) (l : Label) (cs us : Slots) (y : Lexeme) → is_array l.kind ≡ true → IsTrue (seen assigns_next y) → Admits (after (at Short f)) (tree l cs us) y
+sign_admitted f l cs us y h q = array_before_a_sign f l cs us h y q
+
+abbrev pub signs : Test
+signs = plain assigns_next
+
+-- what was read, and may be followed by an assignment operator, is the only one
+module _ {text : List ℕ} {f : Flags} (w : f.wide ≡ false) {s s' : ℕ} {l : Label} {cs : Slots} {pass : Lexemes → Lexemes} (z : Stretch text (after (at Short f)) (such (at Short f) always) s nothing s' (tree l cs) pass) (h : is_array l.kind ≡ true) where
+  -- a target that stands there is that of the literal
+  record There (a : Label) (bs us : Slots) (vs : Slots) (ls : Lexemes) (k : ℕ) (rest : Lexemes) : Type 0 where
+    target : a ≡ relabelled array_assignment_target l
+    covers : elements_in cs ≡ Some bs
+    opened : Each (Open text) (rests_in cs)
+    behind : Lexemes
+    same : us ≡ vs
+    lexed : Lexes (Lex text) s' behind
+    takes : Takes rule nothing end us s' behind vs k rest
+    list : ls ≡ pass behind
+
+  there : {a : Label} {bs vs : Slots} {k : ℕ} {ls rest : Lexemes} → Lexes (Lex text) s ls → Takes rule (rule (at ArrayTarget f)) end (tree a bs end) s ls end k rest → IsTrue (seen assigns_next (here rest)) → (us : Slots) × There a bs us vs ls k rest
+  there {a} {bs} {vs} {k} {ls} {rest} m d q =
+      let x = sourced text f w {ks = end} {us = vs} m d in
+      let y = z.goes.only (tree x.label x.slots vs) vs k ls rest m x.takes (sign_admitted f x.label x.slots vs (here rest) x.array q) in
+      let e = ends y.4 in (
+        y.0,
+        record {
+          target = x.target ∙ ap (relabelled array_assignment_target) (label_is y.2);
+          covers = sym (ap elements_in (slots_are y.2)) ∙ x.covers;
+          opened = subst (λ (ds : Slots). Each (Open text) (rests_in ds)) (slots_are y.2) x.opened;
+          behind = y.1;
+          same = e.0;
+          lexed = y.3;
+          takes = y.4;
+          list = y.5;
+        },
+      )
+
+  -- none stands there, where the literal is converted to none, or a comma stands behind a rest
+  pub no_target_there : (elements_in cs ≡ None) ⊎ (Each (Open text) (rests_in cs) → ⊥) → Fails rule (Lex text) signs end (such (at ArrayTarget f) always) s
+  no_target_there n = record { no = λ ts vs k ls rest m d q. go ts vs k ls rest m d q }
+    where
+      by : {a : Label} {bs us vs : Slots} {ls : Lexemes} {k : ℕ} {rest : Lexemes} → There a bs us vs ls k rest → (elements_in cs ≡ None) ⊎ (Each (Open text) (rests_in cs) → ⊥) → ⊥
+      by {bs = bs} x (inl e) = let c : None ≡ Some bs = sym e ∙ x.covers in cc
+      by x (inr g) = g x.opened
+
+      go : (ts vs : Slots) (k : ℕ) (ls rest : Lexemes) → Lexes (Lex text) s ls → Takes rule (such (at ArrayTarget f) always) end ts s ls vs k rest → Admits signs ts (here rest) → ⊥
+      go ts vs k ls rest m (is_such d c) q = by (there {vs = vs} m d q.0).1 n
+
+  -- where it is converted to none, none is derived
+  pub no_array_derived : elements_in cs ≡ None → {ts : Slots} {k : ℕ} {ls : Lexemes} (y : Lexeme) → Lexes (Lex text) s ls → IsTrue (seen assigns_next y) → Takes rule (symbol ArrayTarget f) end ts s ls end k (last y) → ⊥
+  no_array_derived n {ts} {k} {ls} y m q d = (no_target_there (inl n)).no ts end k ls (last y) m d (q, refl)
+
+  -- the target that it is converted to
+  module _ (ds : Slots) (e : elements_in cs ≡ Some ds) (u : IsUtf8 text) (r : Reached text s) (b : IsCharBoundary text s) where
+    targeted : {ls rest : Lexemes} {j : ℕ} → Lexes (Lex text) s ls → Takes rule (rule (at Short f)) end (tree l cs end) s ls end j rest → Targeted text f l cs ds s ls j rest
+    targeted m d = literal_target text ds h e u r b m ((of_short f).down (may_array l.kind h) (is_such d refl))
+
+    pub target_there : Each (Open text) (rests_in cs) → Stretch text signs (such (at ArrayTarget f) always) s nothing s' (tree (relabelled array_assignment_target l) ds) pass
+    target_there o = record {
+      reach = z.reach;
+      near = z.near;
+      goes = record {
+        passes = z.goes.passes;
+        sound = λ us vs k ls rest m g d. sound (z.goes.passes.lexed ls m) (z.goes.sound us vs k ls rest m g d);
+        only = λ ts vs k ls rest m d q. only ts vs k ls rest m d q;
+      };
+    }
+      where
+        sound : {us vs : Slots} {k : ℕ} {ls rest : Lexemes} → Lexes (Lex text) s ls → Takes rule (such (at Short f) always) end (tree l cs us) s ls vs k rest → Takes rule (such (at ArrayTarget f) always) end (tree (relabelled array_assignment_target l) ds us) s ls vs k rest
+        sound m (is_such d c) = anew ((targeted m d).takes o)
+
+        only : (ts vs : Slots) (k : ℕ) (ls rest : Lexemes) → Lexes (Lex text) s ls → Takes rule (such (at ArrayTarget f) always) end ts s ls vs k rest → Admits signs ts (here rest) → (us : Slots) × (ls' : Lexemes) × (ts ≡ tree (relabelled array_assignment_target l) ds us) × Lexes (Lex text) s' ls' × Takes rule nothing end us s' ls' vs k rest × (ls ≡ pass ls')
+        only ts vs k ls rest m (is_such {l = a} {cs = bs} d c) q =
+            let y = there {vs = vs} m d q.0 in
+            let x = y.1 in
+            let v : bs ≡ ds = (let t : Some bs ≡ Some ds = sym x.covers ∙ e in cc) in
+            (y.0, x.behind, (λ i. tree (x.target i) (v i) (sym x.same i)), x.lexed, x.takes, x.list)
+
+    -- what stands behind each of its rests
+    pub ended_there : (y : Lexeme) → Lex text s' y → Each (Ended text) (rests_in cs)
+    ended_there y n = by (z.goes.passes.lexed (last y) n) (z.goes.sound end end s' (last y) (last y) n (inl z.near) is_nothing)
+      where
+        by : {ls rest : Lexemes} {j : ℕ} → Lexes (Lex text) s ls → Takes rule (such (at Short f) always) end (tree l cs end) s ls end j rest → Each (Ended text) (rests_in cs)
+        by m (is_such d c) = (targeted m d).ended
+
+-- nothing was read there
+pub no_target_unread : {text : List ℕ} {f : Flags} → f.wide ≡ false → {s : ℕ} → Underived text (at Short f) s → Fails rule (Lex text) signs end (such (at ArrayTarget f) always) s
+no_target_unread {text} {f} w {s} n = record { no = λ ts vs k ls rest m d q. go ts vs k ls rest m d q }
+  where
+    go : (ts vs : Slots) (k : ℕ) (ls rest : Lexemes) → Lexes (Lex text) s ls → Takes rule (such (at ArrayTarget f) always) end ts s ls vs k rest → Admits signs ts (here rest) → ⊥
+    go ts vs k ls rest m (is_such d c) q = let x = sourced text f w {ks = end} {us = vs} m d in n.no (tree x.label x.slots vs) vs k ls rest m x.takes (sign_admitted f x.label x.slots vs (here rest) x.array q.0)

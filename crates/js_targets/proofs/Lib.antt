@@ -1,0 +1,15 @@
+pub mod ArrayElements
+pub mod ArrayTargets
+pub mod ArraysBeforeSigns
+pub mod ArraysConverted
+pub mod Assigned
+pub mod ConvertedNodes
+pub mod CoveredNodes
+pub mod Covers
+pub mod LiteralsAsTargets
+pub mod Refused
+pub mod RestsTold
+pub mod ReusedNodes
+pub mod Targets
+pub mod TargetsAsLiterals
+pub mod TargetsTaken

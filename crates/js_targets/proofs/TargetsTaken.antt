@@ -1,0 +1,200 @@
+-- An array literal before `=`, as it was converted to a target (ECMA-262, 13.15.5).
+use Rattle.std.proofs.Common.{ℕ, ◌≡◌, ◌≤◌, ◌<◌, ◌⊎◌, inl, inr, List, [], ◌∷◌, ◌++◌, length, Bool, true, false, not, ◌&&◌, ◌||◌, IsTrue, Option, Some, None, refl, sym, ap, subst, arith, ◌∙◌, append-nil}
+use Rattle.std.specs.Prelude.{IsCharBoundary, IsUtf8}
+use Rattle.std.proofs.lemmas.Bool.{false≢true, and_from}
+use Rattle.js_base.specs.declared.diagnostic.Diagnostic.{Diagnostic}
+use Rattle.js_base.specs.declared.kind.Kind.{Kind}
+use Rattle.js_base.specs.declared.kind.Kind.TheVariants.{Eq}
+use Rattle.js_base.specs.declared.span.Span.{Span}
+use Rattle.js_base.specs.declared.token.Token.{Token}
+use Rattle.js_base.specs.Kinds.{one_of_kinds}
+use Rattle.js_grammar.specs.Trees.{Label, Slots, end, tree, Tree, array_assignment_target}
+use Rattle.js_grammar.specs.Grammar.{Lexeme, Lexemes, last, seen, such, nothing}
+use Rattle.js_grammar.specs.Insertion.{Row, after_expression, assign_operators}
+use Rattle.js_grammar.specs.Lexemes.{is_escaped}
+use Rattle.js_grammar.specs.LexicalFaults.{Reached}
+use Rattle.js_grammar.specs.Marks.{Mark}
+use Rattle.js_grammar.specs.Parsing.{always, Fails}
+use Rattle.js_grammar.specs.Productions.{Flags, at, Short, ArrayTarget, Target}
+use Rattle.js_grammar.specs.Table.{rule}
+use Rattle.js_grammar.specs.Follow.{after, edge_of, follow, looser}
+use Rattle.js_grammar.proofs.Looks.{covered}
+use Rattle.js_tree.specs.declared.id.NodeId.{NodeId}
+use Rattle.js_tree.specs.Nodes.{Node}
+use Rattle.js_tree.specs.Holding.{StandsAll, no_slots, next_child, AreWithin, AreDistinct, Holds, Keeps}
+use Rattle.js_tree.proofs.HoldingLemmas.{Keeps-trans, Keeps-longer}
+use Rattle.js_cursor.specs.Parsers.{Parser}
+use Rattle.js_cursor.specs.Places.{goal}
+use Rattle.js_cursor.specs.declared.stop.Stop.{Stop}
+use Rattle.js_parsing.specs.Answers.{Grown, Numbered, Stops, Stretch, Underived, Verdict, clean, unclean}
+use Rattle.js_parsing.specs.Lexemes.{Lex, spot}
+use Rattle.js_targets.specs.Taken.{Refused, RestsTold, TargetTaken, no_target_at}
+use Rattle.js_parsing.specs.States.{At, Same}
+use Rattle.js_targets.specs.Targets.{Each, Open, Ended, Reused, Slotted, Converts, Converted, converts, refuses, is_array, relabelled, array_tree, slot_of, elements_in, rests_in, target_of}
+use Rattle.js_targets.proofs.Refused.{array_no_target}
+use Rattle.js_targets.proofs.ArraysBeforeSigns.{not_wide}
+use Rattle.js_targets.proofs.ArraysConverted.{signs, no_target_there, no_target_unread, target_there, ended_there, no_array_derived}
+use Rattle.js_targets.proofs.Assigned.{an_assign, assigns}
+use Rattle.js_targets.proofs.Refused.{no_target, short_follows}
+use Rattle.js_targets.proofs.ConvertedNodes.{ArrayAnswer}
+use Rattle.js_targets.proofs.Covers.{lexed_there, no_simple_there, row_of_target, underived_there}
+use Rattle.js_parsing.proofs.Dead.{all_read}
+use Rattle.js_parsing.proofs.Here.{found}
+use Rattle.js_parsing.proofs.Moving.{beside_nodes, same_both, same_itself, same_with}
+use Rattle.js_parsing.proofs.Paths.{read_of, walked_to}
+use Rattle.js_parsing.proofs.Signs.{none_kept, plain_of}
+use Rattle.js_targets.proofs.Refused.{refused}
+use Rattle.js_targets.proofs.ReusedNodes.{below_in}
+use Rattle.js_targets.proofs.Targets.{of_short}
+use Rattle.js_parsing.proofs.Verdicts.{and_then, either_way}
+
+-- ---- what the conversion says
+
+none_of : (l : Label) (r : Option Slots) → slot_of (array_tree l r) ≡ None → r ≡ None
+none_of l None e = refl
+none_of l (Some ds) e = absurd (cc)
+
+some_of : (l : Label) (r : Option Slots) (ts : Slots) → slot_of (array_tree l r) ≡ Some ts → (ds : Slots) × (r ≡ Some ds) × (ts ≡ tree (relabelled array_assignment_target l) ds end)
+some_of l (Some ds) ts e = (ds, refl, (let k : tree (relabelled array_assignment_target l) ds end ≡ ts = cc in sym k))
+some_of l None ts e = absurd (cc)
+
+within_reused : (lo a b : ℕ) (rs qs : List ℕ) → AreWithin lo a rs → lo ≤ a → a ≤ b → Each (Reused rs a b) qs → AreWithin lo b qs
+within_reused lo a b rs [] w i j h = tt
+within_reused lo a b rs (q ∷ qs) w i j h = ((one h.0).0, (one h.0).1, within_reused lo a b rs qs w i j h.1)
+  where
+    one : Reused rs a b q → (lo ≤ q) × (q < b)
+    one (inl m) = let x = below_in lo a rs q w m in (x.0, let y = x.1 in omega arith)
+    one (inr m) = let x = m.0 in (omega arith, m.1)
+
+held_node : {ns : List Node} {below lo hi : ℕ} {id : NodeId} {l : Label} {cs : Slots} {qs : List ℕ} → StandsAll ns below (Some id ∷ []) (tree l cs end) qs → AreWithin lo hi qs → AreDistinct qs → Holds ns lo hi id.0 l cs
+held_node {lo = lo} {hi = hi} (next_child {rs = rs} b h no_slots) w d = record { numbers = rs; stands = h; within = subst (λ (xs : List ℕ). AreWithin lo hi xs) (append-nil rs) w; distinct = subst AreDistinct (append-nil rs) d }
+
+held_of : {os ns : List Node} {lo : ℕ} {rs : List ℕ} {id : NodeId} {l : Label} {cs : Slots} → AreWithin lo (length os) rs → lo ≤ length os → length os ≤ length ns → Slotted os ns rs (Some id ∷ []) (tree l cs end) → Holds ns lo (length ns) id.0 l cs
+held_of {os} {ns} {lo} {rs} w i j x = held_node x.stands (within_reused lo (length os) (length ns) rs x.numbers w i j x.reused) x.distinct
+
+module _ {text : List ℕ} {f : Flags} {p q : Parser} {left : NodeId} (a : At text f p) (x : Numbered text f (at Short f) p q left) (c : q.cut ≡ false) (k : q.token.kind ≡ Eq) (h : is_array x.answer.label.kind ≡ true) where
+  listed : one_of_kinds assign_operators q.token.kind ≡ true
+  listed = subst (λ (v : Kind). one_of_kinds assign_operators v ≡ true) (sym k) refl
+
+  equals_there : (y : Lexeme) × Lex text q.prev_token_end y × IsTrue (seen an_assign y)
+  equals_there =
+      let g = assigns q.token.kind listed in
+      let z = found x.answer.at c g.no_end in
+      let n : z.0.escaped ≡ false = plain_of q.token.kind z.1.word z.0.escaped (subst (λ (v : Kind). z.0.escaped ≡ is_escaped v z.1.word) (sym z.2.kind) z.1.escaped) g.unescaped in
+      let r = read_of z.0 (sym z.2.kind) n g.is_read in
+      (z.0, (z.1, r), and_from (one_of_kinds assign_operators z.0.kind) (not z.0.escaped) (subst (λ (v : Kind). one_of_kinds assign_operators v ≡ true) z.2.kind listed) (ap not n))
+
+  utf8_there : IsUtf8 text
+  utf8_there = subst IsUtf8 a.text_is a.at.utf8
+
+  reached_there : Reached text p.prev_token_end
+  reached_there = subst (λ (v : List ℕ). Reached v p.prev_token_end) a.text_is a.at.reached
+
+  between_there : IsCharBoundary text p.prev_token_end
+  between_there = subst (λ (v : List ℕ). IsCharBoundary v p.prev_token_end) a.text_is a.at.between
+
+  -- the literal is no target
+  pub untargeted_marked : elements_in x.answer.slots ≡ None → (start : ℕ) → start ≡ p.token.span.start → length q.errors ≡ length p.errors → Mark (goal q) q.text (no_target_at start q.prev_token_end)
+  untargeted_marked e start d n = subst (λ (v : List ℕ). Mark (goal q) v (no_target_at start q.prev_token_end)) (sym x.answer.at.text_is) it
+    where
+      y : Lexeme
+      y = equals_there.0
+
+      l : Lex text q.prev_token_end y
+      l = equals_there.1
+
+      z : Stretch text (after (at Short f)) (such (at Short f) always) p.prev_token_end nothing q.prev_token_end (tree x.answer.label x.answer.slots) x.answer.pass
+      z = none_kept x.answer.verdict n
+
+      follows : (m : Label) (cs : Slots) (t : Tree) → target_of m cs ≡ Some t → IsTrue (seen (follow (at Short f) (edge_of m cs)) y)
+      follows m cs t g = subst (λ (r : Row). IsTrue (seen (looser 4 f.in_ r) y)) (sym (row_of_target m cs t g)) (covered an_assign (looser 4 f.in_ after_expression) (short_follows f.in_) y.kind y.newline y.escaped equals_there.2)
+
+      it : Mark (goal q) text (no_target_at start q.prev_token_end)
+      it =
+          let m = lexed_there x.answer a z y l in
+          record {
+            ordered = let i = x.answer.further in omega arith;
+            within = (subst (λ (v : List ℕ). IsCharBoundary v q.prev_token_end) x.answer.at.text_is x.answer.at.at.between).0;
+            begins_between = subst (λ (v : ℕ). IsCharBoundary text v) (sym d) (subst (λ (v : List ℕ). IsCharBoundary v p.token.span.start) a.text_is a.at.lies.starts_whole);
+            ends_between = subst (λ (v : List ℕ). IsCharBoundary v q.prev_token_end) x.answer.at.text_is x.answer.at.at.between;
+            stands = (inr (underived_there x.answer a z y l f Target (record { start = start; end = q.prev_token_end }) d refl (λ t g. no_target f (all_read text p.prev_token_end (x.answer.pass (last y)) m) (λ t g. no_simple_there x.answer a z y l (of_short f) (array_no_target x.answer.label x.answer.slots h) follows t g) (λ t g. no_array_derived (not_wide a) z h e y m equals_there.2 g) t g)), (refl, refl));
+          }
+
+  no_target_fails : elements_in x.answer.slots ≡ None → Fails rule (Lex text) signs end (such (at ArrayTarget f) always) p.prev_token_end
+  no_target_fails e = either_way x.answer.verdict (λ z. no_target_there (not_wide a) z h (inl e)) (λ n. no_target_unread (not_wide a) n)
+
+  -- ---- behind the conversion
+
+  module _ {q1 : Parser} (e1 : q1 ≡ record q { nodes = q1.nodes }) where
+    converted_at : At text f q1
+    converted_at = subst (λ (z : Parser). At text f z) (sym e1) (beside_nodes q1.nodes x.answer.at)
+
+  module _ {q1 : Parser} (e1 : q1 ≡ record q { nodes = q1.nodes }) {notes : List ℕ} where
+    none_there : ArrayAnswer q.nodes q1.nodes left [] notes None → Keeps q.nodes q1.nodes × (elements_in x.answer.slots ≡ None)
+    none_there v = by (v x.answer.label x.answer.slots (x.holds).numbers (x.holds).stands (x.holds).distinct)
+      where
+        by : Converted q.nodes q1.nodes (x.holds).numbers [] notes (rests_in x.answer.slots) None (slot_of (array_tree x.answer.label (elements_in x.answer.slots))) → Keeps q.nodes q1.nodes × (elements_in x.answer.slots ≡ None)
+        by (refuses r) = (r.keeps, none_of x.answer.label (elements_in x.answer.slots) r.is)
+
+    pub refused_marked : ArrayAnswer q.nodes q1.nodes left [] notes None → (start : ℕ) → start ≡ p.token.span.start → length q1.errors ≡ length p.errors → Mark (goal q1) q1.text (no_target_at start q1.prev_token_end)
+    refused_marked v start d n = subst (λ (z : Parser). Mark (goal z) z.text (no_target_at start z.prev_token_end)) (sym e1) (untargeted_marked (none_there v).1 start d (subst (λ (z : Parser). length z.errors ≡ length p.errors) e1 n))
+
+    pub array_refusal : ArrayAnswer q.nodes q1.nodes left [] notes None → (w : Parser) (kept : ℕ) (st : Stop) → kept ≡ length p.errors → Refused kept q1 w st → Stops p w st (Fails rule (Lex text) signs end (such (at ArrayTarget f) always) p.prev_token_end)
+    array_refusal v w kept st i r = refused {q = record q { nodes = q1.nodes }} w kept st i (beside_nodes q1.nodes x.answer.at) (same_with q1.nodes x.answer.same (Keeps-trans x.keeps (none_there v).0)) x.answer.verdict (subst (λ (z : Parser). Refused kept z w st) e1 r) (no_target_fails (none_there v).1)
+
+    module _ {target : NodeId} (v : ArrayAnswer q.nodes q1.nodes left [] notes (Some target)) where
+      made : Converts q.nodes q1.nodes (x.holds).numbers [] notes (rests_in x.answer.slots) (Some target ∷ []) (slot_of (array_tree x.answer.label (elements_in x.answer.slots)))
+      made = by (v x.answer.label x.answer.slots (x.holds).numbers (x.holds).stands (x.holds).distinct)
+        where
+          by : Converted q.nodes q1.nodes (x.holds).numbers [] notes (rests_in x.answer.slots) (Some (Some target ∷ [])) (slot_of (array_tree x.answer.label (elements_in x.answer.slots))) → Converts q.nodes q1.nodes (x.holds).numbers [] notes (rests_in x.answer.slots) (Some target ∷ []) (slot_of (array_tree x.answer.label (elements_in x.answer.slots)))
+          by (converts r) = r
+
+      parts : (ds : Slots) × (elements_in x.answer.slots ≡ Some ds) × (made.slots ≡ tree (relabelled array_assignment_target x.answer.label) ds end)
+      parts = some_of x.answer.label (elements_in x.answer.slots) made.slots made.is
+
+      notes_are : notes ≡ rests_in x.answer.slots
+      notes_are = made.notes_are
+
+      -- the rests, where nothing was told
+      pub rests_ended : length q.errors ≡ length p.errors → Each (Ended q1.text) notes
+      rests_ended n = subst (λ (t : List ℕ). Each (Ended t) notes) (sym (ap (λ (z : Parser). z.text) e1 ∙ x.answer.at.text_is)) (subst (λ (rs : List ℕ). Each (Ended text) rs) (sym notes_are) (ended_there (not_wide a) (none_kept x.answer.verdict n) h parts.0 parts.1 utf8_there reached_there between_there equals_there.0 equals_there.1))
+
+      target_held : Holds q1.nodes (length p.nodes) (length q1.nodes) target.0 (relabelled array_assignment_target x.answer.label) parts.0
+      target_held = held_of (x.holds).within (Keeps-longer x.keeps) (Keeps-longer made.keeps) (subst (λ (ts : Slots). Slotted q.nodes q1.nodes (x.holds).numbers (Some target ∷ []) ts) parts.2 made.slotted)
+
+      -- with a verdict of the state behind
+      taken : {r : Parser} → r ≡ record q1 { errors = r.errors } → At text f r → Same q1 r → Verdict p.errors r.errors (Stretch text signs (such (at ArrayTarget f) always) p.prev_token_end nothing q.prev_token_end (tree (relabelled array_assignment_target x.answer.label) parts.0) x.answer.pass) (Fails rule (Lex text) signs end (such (at ArrayTarget f) always) p.prev_token_end) → TargetTaken text f p q r target
+      taken {r} e b s g =
+          let place : r.prev_token_end ≡ q.prev_token_end = ap (λ (z : Parser). z.prev_token_end) e ∙ ap (λ (z : Parser). z.prev_token_end) e1 in
+          let same : Same p q1 = subst (λ (z : Parser). Same p z) (sym e1) (same_with q1.nodes x.answer.same (Keeps-trans x.keeps made.keeps)) in
+          let nodes : r.nodes ≡ q1.nodes = ap (λ (z : Parser). z.nodes) e in
+          record {
+            stands_at = b;
+            same = same_both same s;
+            token = ap (λ (z : Parser). z.token) e ∙ ap (λ (z : Parser). z.token) e1;
+            cut = ap (λ (z : Parser). z.cut) e ∙ ap (λ (z : Parser). z.cut) e1;
+            place = place;
+            label = relabelled array_assignment_target x.answer.label;
+            slots = parts.0;
+            pass = x.answer.pass;
+            walked = walked_to (sym (ap spot e ∙ ap spot e1)) x.answer.walked;
+            verdict = subst (λ (v : ℕ). Verdict p.errors r.errors (Stretch text signs (such (at ArrayTarget f) always) p.prev_token_end nothing v (tree (relabelled array_assignment_target x.answer.label) parts.0) x.answer.pass) (Fails rule (Lex text) signs end (such (at ArrayTarget f) always) p.prev_token_end)) (sym place) g;
+            holds = subst (λ (ns : List Node). Holds ns (length p.nodes) (length ns) target.0 (relabelled array_assignment_target x.answer.label) parts.0) (sym nodes) target_held;
+            keeps = subst (λ (ns : List Node). Keeps p.nodes ns) (sym nodes) (Keeps-trans x.keeps made.keeps);
+          }
+
+      -- its rests were looked at
+      pub taken_told : {r : Parser} → RestsTold notes q1 r → TargetTaken text f p q r target
+      taken_told {r} t = taken t.is (t.at text f (converted_at e1)) t.same (and_then x.answer.verdict (subst (λ (ds : List Diagnostic). Verdict ds r.errors (Each (Open text) (rests_in x.answer.slots)) (Each (Open text) (rests_in x.answer.slots) → ⊥)) (ap (λ (z : Parser). z.errors) e1) it)
+          (λ z o. target_there (not_wide a) z h parts.0 parts.1 utf8_there reached_there between_there o) (λ n. no_target_unread (not_wide a) n) (λ z n. no_target_there (not_wide a) z h (inr n)))
+        where
+          it : Verdict q1.errors r.errors (Each (Open text) (rests_in x.answer.slots)) (Each (Open text) (rests_in x.answer.slots) → ⊥)
+          it = subst (λ (rs : List ℕ). Verdict q1.errors r.errors (Each (Open text) rs) (Each (Open text) rs → ⊥)) notes_are (subst (λ (v : List ℕ). Verdict q1.errors r.errors (Each (Open v) notes) (Each (Open v) notes → ⊥)) (ap (λ (z : Parser). z.text) e1 ∙ x.answer.at.text_is) t.verdict)
+
+      -- a diagnostic was kept before
+      pub taken_kept : (length q1.errors ≡ length p.errors → ⊥) → TargetTaken text f p q q1 target
+      taken_kept n = taken refl (converted_at e1) same_itself (by x.answer.verdict)
+        where
+          by : Verdict p.errors q.errors (Stretch text (after (at Short f)) (such (at Short f) always) p.prev_token_end nothing q.prev_token_end (tree x.answer.label x.answer.slots) x.answer.pass) (Underived text (at Short f) p.prev_token_end) → Verdict p.errors q1.errors (Stretch text signs (such (at ArrayTarget f) always) p.prev_token_end nothing q.prev_token_end (tree (relabelled array_assignment_target x.answer.label) parts.0) x.answer.pass) (Fails rule (Lex text) signs end (such (at ArrayTarget f) always) p.prev_token_end)
+          by (clean g z) = absurd (n (ap (λ (w : Parser). length w.errors) e1 ∙ ap length g))
+          by (unclean g u) = unclean (subst (λ (ds : List Diagnostic). Grown p.errors ds) (sym (ap (λ (z : Parser). z.errors) e1)) g) (no_target_unread (not_wide a) u)

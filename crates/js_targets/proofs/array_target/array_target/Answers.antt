@@ -1,0 +1,41 @@
+use Rattle.std.proofs.Common.{◌≡◌, ℕ, List, [], Option, Some, None, length, sym, ap, subst, ◌∙◌}
+use Rattle.js_parsing.specs.States.{At, flags_of}
+use Rattle.js_parsing.proofs.Moving.{beside_nodes, standing}
+use Rattle.js_tree.specs.declared.id.NodeId.{NodeId}
+use Rattle.js_cursor.specs.Parsers.{Parser}
+use Rattle.js_targets.specs.Taken.{TargetTaken}
+use Rattle.js_targets.proofs.ConvertedNodes.{ArrayAnswer}
+use Rattle.js_targets.proofs.TargetsTaken.{array_refusal, refused_marked, rests_ended, taken_kept, taken_told}
+use Rattle.js_targets.proofs.array_target.array_target.Goals.{then-kept_so_far-kept+in_ok-tell_commas, else-kept_so_far-kept}
+use Rattle.js_targets.proofs.array_target.array_target.Goals as goal
+
+pub refuse_target-requires-clause-marked : goal.refuse_target-requires-clause-marked
+refuse_target-requires-clause-marked g c = λ n.
+    let r = c.requires.read in
+    let v = subst (λ (found : Option NodeId). ArrayAnswer c.args.p.now.nodes c.convert.new.p.nodes c.args.id [] c.convert.new.rests.items found) c.in_default.is (subst (λ (xs : List ℕ). ArrayAnswer c.args.p.now.nodes c.convert.new.p.nodes c.args.id xs c.convert.new.rests.items c.in_ok-target.field-0) c.new-rests.ensures.items c.in_ok-target.ensures.found) in
+    refused_marked r.begins r.read c.requires.whole c.requires.equals r.array c.in_ok-target.ensures.stays v c.args.start r.start_is (n ∙ r.kept_is)
+
+pub returns-in_default : goal.returns-in_default
+returns-in_default g c = λ text f first a s k x h.
+    let v = subst (λ (found : Option NodeId). ArrayAnswer c.args.p.now.nodes c.convert.new.p.nodes c.args.id [] c.convert.new.rests.items found) c.in_default.is (subst (λ (xs : List ℕ). ArrayAnswer c.args.p.now.nodes c.convert.new.p.nodes c.args.id xs c.convert.new.rests.items c.in_ok-target.field-0) c.new-rests.ensures.items c.in_ok-target.ensures.found) in
+    array_refusal a x c.requires.whole c.requires.equals h c.in_ok-target.ensures.stays v c.refuse_target.new.p c.args.kept c.refuse_target.result k c.refuse_target.ensures
+
+pub tell_commas-requires-clause-ended : goal.tell_commas-requires-clause-ended
+tell_commas-requires-clause-ended g c =
+    let r = c.requires.read in
+    let v = subst (λ (found : Option NodeId). ArrayAnswer c.args.p.now.nodes c.convert.new.p.nodes c.args.id [] c.convert.new.rests.items found) c.in-Some.is (subst (λ (xs : List ℕ). ArrayAnswer c.args.p.now.nodes c.convert.new.p.nodes c.args.id xs c.convert.new.rests.items c.in_ok-target.field-0) c.new-rests.ensures.items c.in_ok-target.ensures.found) in
+    rests_ended r.begins r.read c.requires.whole c.requires.equals r.array c.in_ok-target.ensures.stays v (sym (ap (λ (z : Parser). length z.errors) c.in_ok-target.ensures.stays) ∙ (sym c.kept_so_far.ensures ∙ (c.if-kept_so_far-kept.true ∙ r.kept_is)))
+
+pub returns : goal.returns
+returns g c = λ text f first a s k x h.
+    let v = subst (λ (found : Option NodeId). ArrayAnswer c.args.p.now.nodes c.convert.new.p.nodes c.args.id [] c.convert.new.rests.items found) c.in-Some.is (subst (λ (xs : List ℕ). ArrayAnswer c.args.p.now.nodes c.convert.new.p.nodes c.args.id xs c.convert.new.rests.items c.in_ok-target.field-0) c.new-rests.ensures.items c.in_ok-target.ensures.found) in
+    elim c.if-kept_so_far-kept.branch [
+      | then-kept_so_far-kept+in_ok-tell_commas w ↦ subst (λ (z : Parser). TargetTaken text f first c.args.p.now z c.in-Some.target) (sym w.p-is) (taken_told a x c.requires.whole c.requires.equals h c.in_ok-target.ensures.stays v w.in_ok-tell_commas.ensures)
+      | else-kept_so_far-kept w ↦ subst (λ (z : Parser). TargetTaken text f first c.args.p.now z c.in-Some.target) (sym w.p-is) (taken_kept a x c.requires.whole c.requires.equals h c.in_ok-target.ensures.stays v (λ e. w.if-kept_so_far-kept.false (c.kept_so_far.ensures ∙ (e ∙ sym k))))
+    ]
+
+pub refuse_target-requires-clause-at : goal.refuse_target-requires-clause-at
+refuse_target-requires-clause-at g c = standing (subst (λ (z : Parser). At c.args.p.now.text (flags_of c.args.p.now) z) (sym c.in_ok-target.ensures.stays) (beside_nodes c.convert.new.p.nodes c.requires.at))
+
+pub tell_commas-requires-clause-at : goal.tell_commas-requires-clause-at
+tell_commas-requires-clause-at g c = standing (subst (λ (z : Parser). At c.args.p.now.text (flags_of c.args.p.now) z) (sym c.in_ok-target.ensures.stays) (beside_nodes c.convert.new.p.nodes c.requires.at))

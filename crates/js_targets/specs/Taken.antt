@@ -1,0 +1,90 @@
+-- What is told of an expression that is no target, and what the conversion of an array literal to a target answers (ECMA-262, 13.15.5).
+use Rattle.std.specs.Prelude.{ℕ, ◌≡◌, ◌≤◌, ◌⊎◌, ◌||◌, ◌&&◌, not, Bool, true, false, IsTrue, nat_lt, List, [], ◌∷◌, length, None, Result, Ok, Err}
+use Rattle.js_base.specs.declared.diagnostic.Diagnostic.{Diagnostic}
+use Rattle.js_base.specs.declared.diagnostic.DiagnosticKind.TheVariants as fault
+use Rattle.js_base.specs.Kinds.{one_of_kinds}
+use Rattle.js_base.specs.declared.kind.Kind.{Kind}
+use Rattle.js_base.specs.declared.kind.Kind.TheVariants.{Question, Colon, Comma, Semicolon, RParen, RBrack, Plus2, Minus2, Eof}
+use Rattle.js_base.specs.declared.span.Span.{Span}
+use Rattle.js_grammar.specs.Trees.{Label, Slots, end as no_slots, tree}
+use Rattle.js_grammar.specs.Grammar.{Lexeme, Lexemes, Look, such, nothing}
+use Rattle.js_grammar.specs.Insertion.{assign_operators}
+use Rattle.js_grammar.specs.Parsing.{always, plain, Fails}
+use Rattle.js_grammar.specs.Table.{rule}
+use Rattle.js_grammar.specs.Marks.{LexemeAt, of_kinds}
+use Rattle.js_grammar.specs.Productions.{Flags, Symbol, at, Arrow', ArrayTarget, Assignment, Short}
+use Rattle.js_tree.specs.declared.id.NodeId.{NodeId}
+use Rattle.js_tree.specs.Holding.{Holds, Keeps as KeepsNodes}
+use Rattle.js_cursor.specs.Moves.{GivesUp, Keeps}
+use Rattle.js_targets.specs.Targets.{Each, Open, is_array}
+use Rattle.js_cursor.specs.Parsers.{Parser}
+use Rattle.js_cursor.specs.Places.{goal}
+use Rattle.js_cursor.specs.declared.stop.Stop.{Stop}
+use Rattle.js_cursor.specs.declared.stop.Stop.TheVariants.{Fatal}
+use Rattle.js_parsing.specs.Answers.{Numbered, Stops, Stretch, Verdict}
+use Rattle.js_parsing.specs.Lexemes.{Lex, Walked, spot}
+use Rattle.js_parsing.specs.States.{At, Same}
+
+-- what is told of a text up to a place that is no target
+abbrev pub no_target_at : ℕ → ℕ → Diagnostic
+no_target_at from to = record { kind = fault.InvalidAssignment; span = record { start = from; end = to }; first = None; second = None }
+
+-- A call gave up: there are not so many diagnostics as said, and all stays, or one was kept.
+abbrev pub Refused : ℕ → Parser → Parser → Stop → Type 0
+Refused kept old new e = ((length old.errors ≡ kept → ⊥) × (new ≡ old) × (e ≡ Fatal)) ⊎ GivesUp (λ d. Unit {0}) old new e
+
+-- what is told of an array literal before an assignment operator that needs a simple target
+abbrev pub not_simple_at : ℕ → ℕ → Diagnostic
+not_simple_at from to = record { kind = fault.AssignmentIsNotSimple; span = record { start = from; end = to }; first = None; second = None }
+
+-- That was told; or there are not so many diagnostics as said, and all stays.
+abbrev pub TellsOnce : Diagnostic → ℕ → Parser → Parser → Type 0
+TellsOnce d kept old new = Keeps d old new ⊎ ((length old.errors ≡ kept → ⊥) × (new ≡ old))
+
+-- an assignment operator
+abbrev pub assigns_next : Look
+assigns_next k w e = one_of_kinds assign_operators k && not e
+
+-- A place behind a rest was looked at: no comma stands there; or one does, and a diagnostic was kept.
+abbrev pub RestTold : ℕ → Parser → Parser → Type 0
+RestTold place old new = (Open old.text place × (new ≡ old)) ⊎ ((Open old.text place → ⊥) × ((d : Diagnostic) × Keeps d old new))
+
+-- The same of each of these places.
+pub record RestsTold (places : List ℕ) (old new : Parser) : Type 0 where
+  pub at : (text : List ℕ) (f : Flags) → At text f old → At text f new
+  pub same : Same old new
+  pub is : new ≡ record old { errors = new.errors }
+  pub verdict : Verdict old.errors new.errors (Each (Open old.text) places) (Each (Open old.text) places → ⊥)
+
+-- An array literal was read up to this state, by a call before which so many diagnostics were kept.
+pub record ArrayRead (start : ℕ) (id : NodeId) (kept : ℕ) (q : Parser) : Type 0 where
+  pub text : List ℕ
+  pub flags : Flags
+  pub first : Parser
+  pub begins : At text flags first
+  pub start_is : start ≡ first.token.span.start
+  pub kept_is : kept ≡ length first.errors
+  pub read : Numbered text flags (at Short flags) first q id
+  pub array : is_array read.answer.label.kind ≡ true
+
+-- It was converted to a target, which is read from the state `first` on. Clean: it is the only one there; unclean: there is none.
+pub record TargetTaken (text : List ℕ) (f : Flags) (first old new : Parser) (id : NodeId) : Type 0 where
+  pub stands_at : At text f new
+  pub same : Same first new
+  pub token : new.token ≡ old.token
+  pub cut : new.cut ≡ old.cut
+  pub place : new.prev_token_end ≡ old.prev_token_end
+  pub label : Label
+  pub slots : Slots
+  pub pass : Lexemes → Lexemes
+  pub walked : Walked text (spot first) (spot new) pass
+  pub verdict : Verdict first.errors new.errors (Stretch text (plain assigns_next) (such (at ArrayTarget f) always) first.prev_token_end nothing new.prev_token_end (tree label slots) pass) (Fails rule (Lex text) (plain assigns_next) no_slots (such (at ArrayTarget f) always) first.prev_token_end)
+  pub holds : Holds new.nodes (length first.nodes) (length new.nodes) id.0 label slots
+  pub keeps : KeepsNodes first.nodes new.nodes
+
+abbrev pub TargetOutcome : List ℕ → Flags → Parser → Parser → Parser → Result NodeId Stop → Type 0
+TargetOutcome text f first old new (Ok id) = TargetTaken text f first old new id
+TargetOutcome text f first old new (Err e) = Stops first new e (Fails rule (Lex text) (plain assigns_next) no_slots (such (at ArrayTarget f) always) first.prev_token_end)
+
+abbrev pub TakesTarget : ℕ → NodeId → ℕ → Parser → Parser → Result NodeId Stop → Type 0
+TakesTarget start id kept old new r = (text : List ℕ) (f : Flags) (first : Parser) → At text f first → start ≡ first.token.span.start → kept ≡ length first.errors → (x : Numbered text f (at Short f) first old id) → is_array x.answer.label.kind ≡ true → TargetOutcome text f first old new r

@@ -1,0 +1,225 @@
+-- The simple target that an expression stands for (ECMA-262, 8.6.4): a name or a member, in parentheses or not; links of an optional chain stand in a node of their own. A target has no node for its parentheses.
+use Rattle.std.specs.Prelude.{ℕ, ◌≤◌, ◌<◌, ◌⊎◌, Bool, true, false, cond, ◌&&◌, ◌||◌, Option, Some, None, List, ◌≡◌, [], ◌∷◌, ◌++◌, length, IsCharBoundary}
+use Rattle.js_base.specs.declared.kind.Kind.TheVariants.{Eq, Comma, RBrack}
+use Rattle.js_base.specs.Kinds.{same_kind}
+use Rattle.js_grammar.specs.Grammar.{Lexeme}
+use Rattle.js_grammar.specs.LexicalFaults.{Reached}
+use Rattle.js_parsing.specs.Lexemes.{Lex}
+use Rattle.js_tree.specs.declared.id.NodeId.{NodeId}
+use Rattle.js_tree.specs.Nodes.{Node, label}
+use Rattle.js_tree.specs.Holding.{Holds, Stands, StandsAll, Keeps, Made, AreDistinct}
+use Rattle.js_grammar.specs.Trees.{NodeKind, Op, no_op, of, Label, Slots, end, hole, tree, Tree, identifier_reference, static_member_expression, computed_member_expression, private_field_expression, parenthesized_expression, array_expression, elision, spread_element, assignment_expression, array_assignment_target, assignment_target_rest, assignment_target_with_default, append}
+
+abbrev pub is_parens : NodeKind → Bool
+is_parens parenthesized_expression = true
+is_parens _ = false
+
+abbrev pub is_member : NodeKind → Bool
+is_member static_member_expression = true
+is_member computed_member_expression = true
+is_member private_field_expression = true
+is_member _ = false
+
+abbrev pub is_name : NodeKind → Bool
+is_name identifier_reference = true
+is_name _ = false
+
+-- an array literal, which is no simple target
+abbrev pub is_array : NodeKind → Bool
+is_array array_expression = true
+is_array _ = false
+
+abbrev pub is_target : NodeKind → Bool
+is_target k = is_name k || is_member k
+
+-- of the one slot
+abbrev pub target_in : Slots → Option Tree
+target_in (tree l cs end) = cond (is_parens l.kind) (target_in cs) (cond (is_target l.kind) (Some (record { label = l; slots = cs })) None)
+target_in _ = None
+
+abbrev pub target_of : Label → Slots → Option Tree
+target_of l cs = target_in (tree l cs end)
+
+-- the node of the target of a tree
+pub record TargetNode (ns : List Node) (lo hi : ℕ) (l : Label) (cs : Slots) (id : NodeId) : Type 0 where
+  pub tree : Tree
+  pub is : target_of l cs ≡ Some tree
+  pub holds : Holds ns lo hi id.0 tree.label tree.slots
+
+abbrev pub IsTarget : List Node → ℕ → ℕ → Label → Slots → Option NodeId → Type 0
+IsTarget ns lo hi l cs (Some id) = TargetNode ns lo hi l cs id
+IsTarget ns lo hi l cs None = target_of l cs ≡ None
+
+-- the node stands for a tree
+pub record Stood (ns : List Node) (id : NodeId) : Type 0 where
+  pub lo : ℕ
+  pub hi : ℕ
+  pub label : Label
+  pub slots : Slots
+  pub holds : Holds ns lo hi id.0 label slots
+
+-- the one child of these, if there is one
+abbrev pub Only : List (Option NodeId) → Option NodeId → Type 0
+Only (Some id ∷ []) r = r ≡ Some id
+Only _ r = r ≡ None
+
+-- ---- array targets (13.15.5): the ArrayAssignmentPattern that an array literal covers
+
+abbrev pub is_elision : NodeKind → Bool
+is_elision elision = true
+is_elision _ = false
+
+abbrev pub is_spread : NodeKind → Bool
+is_spread spread_element = true
+is_spread _ = false
+
+abbrev pub is_assignment : NodeKind → Bool
+is_assignment assignment_expression = true
+is_assignment _ = false
+
+abbrev pub is_equals : Op → Bool
+is_equals (of k) = same_kind Eq k
+is_equals _ = false
+
+-- an assignment by `=`: as an element, a target and its initialiser
+abbrev pub is_initialised : Label → Bool
+is_initialised l = is_assignment l.kind && is_equals l.op
+
+abbrev pub is_array_target : NodeKind → Bool
+is_array_target array_assignment_target = true
+is_array_target _ = false
+
+-- the same lexemes, as a node of a target
+abbrev pub relabelled : NodeKind → Label → Label
+relabelled k l = record { kind = k; op = no_op; flags = 0; span = l.span }
+
+-- a target that an expression is: of an array literal, by its own slots as elements
+abbrev pub array_tree : Label → Option Slots → Option Tree
+array_tree l (Some ds) = Some (record { label = relabelled array_assignment_target l; slots = ds })
+array_tree l None = None
+
+abbrev pub target_by : Label → Slots → Option Slots → Option Tree
+target_by l cs own = cond (is_array l.kind) (array_tree l own) (target_of l cs)
+
+abbrev pub slot_of : Option Tree → Option Slots
+slot_of (Some t) = Some (tree t.label t.slots end)
+slot_of None = None
+
+-- a rest is the last element, and its target has no initialiser
+abbrev pub rest_slot : Bool → Label → Option Slots → Option Slots
+rest_slot true l (Some (tree m ds end)) = cond (is_target m.kind || is_array_target m.kind) (Some (tree (relabelled assignment_target_rest l) (tree m ds end) end)) None
+rest_slot _ l own = None
+
+-- an element, the last one or another
+abbrev pub element_slot : Bool → Label → Slots → Option Slots → Option Slots
+element_slot last l cs own = cond (is_elision l.kind) (Some (hole end)) (cond (is_spread l.kind) (rest_slot last l own) (cond (is_initialised l) (Some (tree (relabelled assignment_target_with_default l) cs end)) (slot_of (target_by l cs own))))
+
+abbrev pub are_none : Slots → Bool
+are_none end = true
+are_none _ = false
+
+abbrev pub followed : Option Slots → Slots → Option Slots
+followed (Some ts) us = Some (append ts us)
+followed None us = None
+
+-- an element before the others
+abbrev pub before_all : Label → Slots → Option Slots → Option Slots → Option Slots
+before_all l cs own (Some us) = followed (element_slot (are_none us) l cs own) us
+before_all l cs own None = None
+
+-- the elements of an array literal, as those of a target
+abbrev pub elements_in : Slots → Option Slots
+elements_in end = Some end
+elements_in (hole us) = None
+elements_in (tree l cs us) = before_all l cs (elements_in cs) (elements_in us)
+
+-- where each spread in them ends that is a rest of a target
+abbrev pub rests_of : Label → List ℕ → List ℕ
+rests_of l rs = cond (is_spread l.kind) (l.span.to ∷ rs) (cond (is_array l.kind) rs [])
+
+abbrev pub rests_in : Slots → List ℕ
+rests_in (tree l cs us) = rests_of l (rests_in cs) ++ rests_in us
+rests_in _ = []
+
+-- ---- what stands behind a rest
+
+-- no comma
+abbrev pub Open : List ℕ → ℕ → Type 0
+Open text e = (y : Lexeme) → Lex text e y → y.kind ≡ Comma → ⊥
+
+-- the closing bracket
+pub record Closed (text : List ℕ) (e : ℕ) : Type 0 where
+  pub bracket : Lexeme
+  pub stands : Lex text e bracket
+  pub is : bracket.kind ≡ RBrack
+
+-- a comma, and behind it the closing bracket
+pub record Followed (text : List ℕ) (e : ℕ) : Type 0 where
+  pub comma : Lexeme
+  pub stands : Lex text e comma
+  pub is : comma.kind ≡ Comma
+  pub behind : Closed text comma.to
+
+-- Lexemes lead there, and one of the two stands behind.
+pub record Ended (text : List ℕ) (e : ℕ) : Type 0 where
+  pub reached : Reached text e
+  pub between : IsCharBoundary text e
+  pub either : Closed text e ⊎ Followed text e
+
+-- ---- nodes of array targets
+
+-- each number of the list is so
+abbrev pub Each : (ℕ → Type 0) → List ℕ → Type 0
+Each P [] = Unit {0}
+Each P (r ∷ rs) = P r × Each P rs
+
+abbrev pub IsIn : List ℕ → ℕ → Type 0
+IsIn [] r = ⊥
+IsIn (s ∷ ss) r = (s ≡ r) ⊎ IsIn ss r
+
+-- it is one of these, or was given in the call
+abbrev pub Reused : List ℕ → ℕ → ℕ → ℕ → Type 0
+Reused rs lo hi r = IsIn rs r ⊎ ((lo ≤ r) × (r < hi))
+
+-- Children stand for slots, and reach no number twice.
+pub record Slotted (os ns : List Node) (rs : List ℕ) (ids : List (Option NodeId)) (ts : Slots) : Type 0 where
+  pub numbers : List ℕ
+  pub stands : StandsAll ns (length ns) ids ts numbers
+  pub reused : Each (Reused rs (length os) (length ns)) numbers
+  pub distinct : AreDistinct numbers
+
+-- What an expression is converted to: nodes were made, and the ends of its rests were noted.
+pub record Converts (os ns : List Node) (rs noted notes rests : List ℕ) (ids : List (Option NodeId)) (r : Option Slots) : Type 0 where
+  pub keeps : Keeps os ns
+  pub slots : Slots
+  pub is : r ≡ Some slots
+  pub slotted : Slotted os ns rs ids slots
+  pub notes_are : notes ≡ noted ++ rests
+
+-- it is converted to nothing
+pub record Refuses (os ns : List Node) (r : Option Slots) : Type 0 where
+  pub keeps : Keeps os ns
+  pub is : r ≡ None
+
+pub data Converted (os ns : List Node) (rs noted notes rests : List ℕ) : Option (List (Option NodeId)) → Option Slots → Type 0 where
+  converts : {ids : List (Option NodeId)} {r : Option Slots} → Converts os ns rs noted notes rests ids r → Converted os ns rs noted notes rests (Some ids) r
+  refuses : {r : Option Slots} → Refuses os ns r → Converted os ns rs noted notes rests None r
+
+abbrev pub one_slot : Option (Option NodeId) → Option (List (Option NodeId))
+one_slot (Some id) = Some (id ∷ [])
+one_slot None = None
+
+abbrev pub one_node : Option NodeId → Option (List (Option NodeId))
+one_node (Some id) = Some (Some id ∷ [])
+one_node None = None
+
+-- the node's tree, whatever it is, and the numbers that it reaches
+abbrev pub OfNode : List Node → NodeId → (Label → Slots → List ℕ → Type 0) → Type 0
+OfNode ns id P = (l : Label) (cs : Slots) (rs : List ℕ) → Stands ns id.0 l cs rs → AreDistinct rs → P l cs rs
+
+-- a node was made, which has this label and these children
+pub record Noded (os ns : List Node) (l : Label) (ids : List (Option NodeId)) (id : NodeId) : Type 0 where
+  pub node : Node
+  pub made : Made node os ns id
+  pub label_is : label node ≡ l
+  pub children : node.children ≡ ids

@@ -1,0 +1,147 @@
+//! Expressions read as targets (ECMA-262, sections 8.6.4 and 13.15).
+
+ghost use Rattle.std.specs.Prelude.{◌≡◌, ◌<◌, ◌≤◌, ℕ, length, List, [], IfOk};
+ghost use Rattle.js_grammar.specs.Marks.{Mark};
+ghost use Rattle.js_cursor.specs.Places.{IsAt, goal};
+ghost use Rattle.js_targets.specs.Taken.{Refused, TellsOnce, no_target_at, not_simple_at};
+ghost use Rattle.js_parsing.specs.States.{Standing};
+ghost use Rattle.js_grammar.specs.Trees.{Label, Slots};
+ghost use Rattle.js_tree.specs.Holding.{Holds};
+ghost use Rattle.js_tree.specs.Labels.{kind_of};
+ghost use Rattle.js_tree.specs.Nodes.{node_at};
+ghost use Rattle.js_targets.specs.Targets.{Converted, IsTarget, OfNode, Only, Stood, one_node, slot_of, target_of};
+ghost use Rattle.js_targets.specs.Targets as target;
+
+use js_base::{Diagnostic, DiagnosticKind, NoMemory};
+use js_cursor::{ParserImpl, Stop};
+use js_lex::ParserConfig;
+use js_parsing::diagnostics::kept_so_far;
+use js_tree::{NodeId, NodeKind, ParserAstBuilder};
+
+/// Whether it is an expression in parentheses.
+fn is_parens(kind: NodeKind) -> bool
+    ensures { result ≡ target.is_parens (kind_of kind) }
+{
+    match kind {
+        NodeKind::ParenthesizedExpression => true,
+        _ => false,
+    }
+}
+
+/// Whether it is a name or a member.
+fn is_target(kind: NodeKind) -> bool
+    ensures { result ≡ target.is_target (kind_of kind) }
+{
+    match kind {
+        NodeKind::IdentifierReference
+        | NodeKind::StaticMemberExpression
+        | NodeKind::ComputedMemberExpression
+        | NodeKind::PrivateFieldExpression => true,
+        _ => false,
+    }
+}
+
+/// Whether it is an array literal.
+pub fn is_array(kind: NodeKind) -> bool
+    ensures { result ≡ target.is_array (kind_of kind) }
+{
+    match kind {
+        NodeKind::ArrayExpression => true,
+        _ => false,
+    }
+}
+
+/// Whether an expression is an array literal, in no parentheses.
+fn is_array_node(ast: &ParserAstBuilder, id: NodeId) -> bool
+    requires { Stood ast.now id }
+    ensures { (lo hi : ℕ) (l : Label) (cs : Slots) → Holds ast.now lo hi id.0 l cs → result ≡ target.is_array l.kind }
+{
+    is_array(ast.kind(id))
+}
+
+/// Whether an expression of a parser's nodes is an array literal, in no parentheses.
+pub fn is_array_literal<C: ParserConfig>(p: &ParserImpl<'_, C>, id: NodeId) -> bool
+    requires { Stood p.now.nodes id }
+    ensures { (lo hi : ℕ) (l : Label) (cs : Slots) → Holds p.now.nodes lo hi id.0 l cs → result ≡ target.is_array l.kind }
+{
+    is_array_node(&p.ast, id)
+}
+
+/// The one child of a node, if it has one.
+pub fn only_child(ast: &ParserAstBuilder, id: NodeId) -> Option<NodeId>
+    requires { id.0 < length ast.now }
+    ensures { Only (node_at ast.now id).children result }
+{
+    if ast.child_count(id) == 1 {
+        ast.child(id, 0)
+    } else {
+        None
+    }
+}
+
+/// The node of the simple target that an expression stands for; none where it is no target (ECMA-262, section 8.6.4).
+pub fn simple_target(ast: &ParserAstBuilder, id: NodeId) -> Option<NodeId>
+    requires { Stood ast.now id }
+    ensures node { OfNode ast.now id (λ l cs rs. Converted ast.now ast.now rs [] [] [] (one_node result) (slot_of (target_of l cs))) }
+    ensures tree { (lo hi : ℕ) (l : Label) (cs : Slots) → Holds ast.now lo hi id.0 l cs → IsTarget ast.now lo hi l cs result }
+{
+    let kind = ast.kind(id);
+    if is_parens(kind) {
+        let inner = only_child(ast, id)?;
+        return simple_target(ast, inner);
+    }
+    if is_target(kind) { Some(id) } else { None }
+}
+
+/// The node of the simple target that an expression of a parser's nodes stands for; none where it is no target.
+pub fn cover<C: ParserConfig>(p: &ParserImpl<'_, C>, id: NodeId) -> Option<NodeId>
+    requires { Stood p.now.nodes id }
+    ensures { (lo hi : ℕ) (l : Label) (cs : Slots) → Holds p.now.nodes lo hi id.0 l cs → IsTarget p.now.nodes lo hi l cs result }
+{
+    simple_target(&p.ast, id)
+}
+
+/// Tells of an array literal before an assignment operator other than `=`, which was read from a place on (ECMA-262,
+/// section 13.15.1). Where a diagnostic was kept since, when there were so many, that is enough.
+#[inline(never)]
+pub fn tell_not_simple<C: ParserConfig>(
+    p: &mut ParserImpl<'_, C>,
+    start: u32,
+    kept: usize,
+) -> Result<(), NoMemory>
+    requires at { IsAt p.old }
+    requires start { start ≤ p.old.prev_token_end }
+    requires marked { length p.old.errors ≡ kept → Mark (goal p.old) p.old.text (not_simple_at start p.old.prev_token_end) }
+    ensures { IfOk result (λ _. TellsOnce (not_simple_at start p.old.prev_token_end) kept p.old p.new) }
+{
+    if kept_so_far(p) == kept {
+        p.error(Diagnostic {
+            kind: DiagnosticKind::AssignmentIsNotSimple,
+            span: p.end_span(start),
+            first: None,
+            second: None,
+        })?;
+    }
+    Ok(())
+}
+
+/// Gives up, since what was read from a place on is no target. Where a diagnostic was kept since, when there were so
+/// many, that is enough.
+#[inline(never)]
+pub fn refuse_target<C: ParserConfig>(p: &mut ParserImpl<'_, C>, start: u32, kept: usize) -> Stop
+    requires at { Standing p.old }
+    requires start { start ≤ p.old.prev_token_end }
+    requires marked { length p.old.errors ≡ kept → Mark (goal p.old) p.old.text (no_target_at start p.old.prev_token_end) }
+    ensures { Refused kept p.old p.new result }
+{
+    if kept_so_far(p) != kept {
+        return Stop::Fatal;
+    }
+    let span = p.end_span(start);
+    p.set_fatal_error(Diagnostic {
+        kind: DiagnosticKind::InvalidAssignment,
+        span,
+        first: None,
+        second: None,
+    })
+}
