@@ -105,12 +105,16 @@ angled k w e = same_kind RAngle k
 abbrev a_link : Look
 a_link k w e = one_of_kinds link_kinds k
 
-abbrev semicolon_look : Look
+abbrev pub semicolon_look : Look
 semicolon_look = is Semicolon
 
 no_angled_link : apart a_link angled ≡ true
 unfolding apart
 no_angled_link = refl
+
+pub semicolon_closes : covers semicolon_look closes_or_line ≡ true
+unfolding covers
+semicolon_closes = refl
 
 no_linked_semicolon : apart a_link semicolon_look ≡ true
 unfolding apart
@@ -209,27 +213,25 @@ module _ {text : List ℕ} {f : Flags} {q : Parser} (a : At text f q) where
       go : (y : Lexeme) → same_kind Colon y.kind ≡ true → IsTrue (seen (starts first (semicolon p) no_link) y) → ⊥
       go y v h = either_of (seen semicolon_look y) _ h (λ s. not_both a_colon semicolon_look no_coloned_semicolon y.kind y.newline y.escaped v s) (λ s. false≢true (sym (ap not v) ∙ (and_parts (not (same_kind Colon y.kind)) _ (and_parts (seen (may_omit p) y) (seen no_link y) s).1).0))
 
-  -- neither stands it here, nor may it be left out
-  not_ended : {X : Test} (p : Look) → (MayEnd q → ⊥) → Fails rule (Lex text) X end (semicolon p) q.prev_token_end
+  -- where no statement may end, nothing closes it
+  pub no_close : (MayEnd q → ⊥) → (y : Lexeme) → Lex text q.prev_token_end y → IsTrue (seen closes_or_line y) → ⊥
   unfolding apart
-  not_ended p m = fails_semicolon p (λ y l h. closed y l (by_kind y (and_parts (same_kind Semicolon y.kind) (not y.escaped) h).0)) (λ y l h. omitted y l (one_of_kinds closers y.kind) refl (covered (may_omit p) closes_or_line (omitted_so p) y.kind y.newline y.escaped h))
+  no_close m y l h = go (one_of_kinds closers y.kind) refl h
     where
       none : one_of_kinds closers q.token.kind ≡ false
-      none = go (one_of_kinds closers q.token.kind) refl
+      none = by (one_of_kinds closers q.token.kind) refl
         where
-          go : (b : Bool) → one_of_kinds closers q.token.kind ≡ b → one_of_kinds closers q.token.kind ≡ false
-          go true h = absurd (m (inl (covered closes_here may_close closers_end q.token.kind false false h)))
-          go false h = h
+          by : (b : Bool) → one_of_kinds closers q.token.kind ≡ b → one_of_kinds closers q.token.kind ≡ false
+          by true h = absurd (m (inl (covered closes_here may_close closers_end q.token.kind false false h)))
+          by false h = h
 
-      closed : (y : Lexeme) → Lex text q.prev_token_end y → one_of_kinds closers y.kind ≡ true → ⊥
-      closed y l h = not_here a closers refl none y l h
+      go : (b : Bool) → one_of_kinds closers y.kind ≡ b → (b || y.newline) ≡ true → ⊥
+      go true e h = not_here a closers refl none y l e
+      go false e h = m (inr (sym (newline_here a y l) ∙ h))
 
-      by_kind : (y : Lexeme) → same_kind Semicolon y.kind ≡ true → one_of_kinds closers y.kind ≡ true
-      by_kind y h = or_left (same_kind Semicolon y.kind) _ h
-
-      omitted : (y : Lexeme) → Lex text q.prev_token_end y → (b : Bool) → one_of_kinds closers y.kind ≡ b → (b || y.newline) ≡ true → ⊥
-      omitted y l true e h = closed y l e
-      omitted y l false e h = m (inr (sym (newline_here a y l) ∙ h))
+  -- neither stands it here, nor may it be left out
+  not_ended : {X : Test} (p : Look) → (MayEnd q → ⊥) → Fails rule (Lex text) X end (semicolon p) q.prev_token_end
+  not_ended p m = fails_semicolon p (λ y l h. no_close m y l (covered semicolon_look closes_or_line semicolon_closes y.kind y.newline y.escaped h)) (λ y l h. no_close m y l (covered (may_omit p) closes_or_line (omitted_so p) y.kind y.newline y.escaped h))
 
   pub unended : (p : Look) → NoEnd q → Fails rule (Lex text) (plain no_link) end (semicolon p) q.prev_token_end
   unended p (inl v) = linked p v
@@ -399,13 +401,12 @@ no_expression_ends {f = f} {p = p} b x m = fails_rule {X' = plain no_link} (λ l
 
 -- ---- statements
 
--- a statement of the symbol's rule, and a node for it
-pub by_statement : {text : List ℕ} {f : Flags} {n : Symbol} {p q w : Parser} {l : Label} {cs : Slots} {id : NodeId} → Path text f (after_statement n) (rule n) p nothing q (tree l cs) → Same p q → w ≡ record q { nodes = w.nodes } → Holds w.nodes (length p.nodes) (length w.nodes) id.0 l cs → Keeps p.nodes w.nodes → Statement text f n p w id
-by_statement {text} {f} {n} {p} {q} {w} {l} {cs} {id} a b e h k = go w.nodes e h k
+-- what was read as the symbol, and a node for it
+pub by_such_statement : {text : List ℕ} {f : Flags} {n : Symbol} {p q w : Parser} {l : Label} {cs : Slots} {id : NodeId} → Path text f (after_statement n) (such n always) p nothing q (tree l cs) → Same p q → w ≡ record q { nodes = w.nodes } → Holds w.nodes (length p.nodes) (length w.nodes) id.0 l cs → Keeps p.nodes w.nodes → Statement text f n p w id
+by_such_statement {text} {f} {n} {p} {q} {w} {l} {cs} {id} y b e h k = go w.nodes e h k
   where
     go : (ns : List Node) → w ≡ record q { nodes = ns } → Holds w.nodes (length p.nodes) (length w.nodes) id.0 l cs → Keeps p.nodes w.nodes → Statement text f n p w id
     go ns e h k =
-        let y : Path text f (after_statement n) (such n always) p nothing q (tree l cs) = by_symbol_as {X' = after_statement n} (λ l cs vs y d. d) a in
         subst (λ (r : Parser). Statement text f n p r id) (sym e) (record {
           at = beside_nodes ns y.at;
           same = same_with ns b (subst (λ (r : Parser). Keeps p.nodes r.nodes) e k);
@@ -418,6 +419,10 @@ by_statement {text} {f} {n} {p} {q} {w} {l} {cs} {id} a b e h k = go w.nodes e h
           holds = subst (λ (r : Parser). Holds r.nodes (length p.nodes) (length r.nodes) id.0 l cs) e h;
           keeps = subst (λ (r : Parser). Keeps p.nodes r.nodes) e k;
         })
+
+-- a statement of the symbol's rule, and a node for it
+pub by_statement : {text : List ℕ} {f : Flags} {n : Symbol} {p q w : Parser} {l : Label} {cs : Slots} {id : NodeId} → Path text f (after_statement n) (rule n) p nothing q (tree l cs) → Same p q → w ≡ record q { nodes = w.nodes } → Holds w.nodes (length p.nodes) (length w.nodes) id.0 l cs → Keeps p.nodes w.nodes → Statement text f n p w id
+by_statement {n = n} a b e h k = by_such_statement (by_symbol_as {X' = after_statement n} (λ l cs vs y d. d) a) b e h k
 
 module _ {text : List ℕ} {f : Flags} {p : Parser} (a : At text f p) where
   empty_alone : {X : Test} {q : Parser} → p.token.kind ≡ Semicolon → Moved text f p q → Path text f X (symbol AStatement f) p nothing q (tree (label_here empty_statement no_op p q) end)

@@ -9,18 +9,18 @@ use Rattle.js_base.specs.declared.source_type.SourceType.{SourceType}
 use Rattle.js_base.specs.declared.span.Span.{Span}
 use Rattle.js_base.specs.Kinds.{same_kind, one_of_kinds}
 use Rattle.js_grammar.specs.Trees.{Slots, end, hole, tree, append, Label, no_op, debugger_statement, label_identifier, throw_statement}
-use Rattle.js_grammar.specs.Grammar.{Lexeme, Lexemes, Look, here, seen, is, may_omit, ended, semicolon, empty_slot, nothing, Takes, is_seq, is_lexeme, is_look, ◌▸◌}
+use Rattle.js_grammar.specs.Grammar.{Lexeme, Lexemes, Look, here, seen, is, may_omit, ended, semicolon, empty_slot, next, nothing, such, Takes, is_seq, is_lexeme, is_look, ◌▸◌}
 use Rattle.js_grammar.specs.Insertion.{after_word, edge, goes_on, by_edge}
 use Rattle.js_grammar.specs.Marks.{Mark, a_lexeme, the_start, the_end}
 use Rattle.js_grammar.specs.Lexed.{Lex as StandsBehind, all_faults}
-use Rattle.js_grammar.specs.Parsing.{Test, plain, full, still, Admits, Goes, Fails}
+use Rattle.js_grammar.specs.Parsing.{Test, plain, full, always, still, Admits, Goes, Fails}
 use Rattle.js_grammar.specs.Productions.{G, Flags, Name, at, tok, mk, slot, no_newline, Break, Continue, Debugger, Expression, LabelIdentifier, Throw}
 use Rattle.js_grammar.specs.Productions.{Statement as AStatement}
 use Rattle.js_grammar.specs.Productions.{sym as symbol}
 use Rattle.js_grammar.specs.Table.{rule, rule_of}
 use Rattle.js_grammar.specs.Follow.{row_of, after}
-use Rattle.js_grammar.proofs.Looks.{covers, covered, apart, not_both}
-use Rattle.js_grammar.proofs.Calculus.{Heads, ◌▹◌, ◌▹✗◌, left, right, looks, closes, ends_by, by_omission, part_fails, reads_empty_slot, fails_ended, fails_look, fails_node, fails_rule, inside_plain}
+use Rattle.js_grammar.proofs.Looks.{covers, covered, apart}
+use Rattle.js_grammar.proofs.Calculus.{Heads, ◌▹◌, ◌▹✗◌, left, right, looks, closes, ends_by, by_omission, part_fails, reads_empty_slot, fails_alt, fails_ended, fails_look, fails_node, fails_rule, inside_plain}
 use Rattle.js_grammar.proofs.FirstClaims.{firsts}
 use Rattle.js_grammar.proofs.FirstRules.{fails_here}
 use Rattle.js_grammar.proofs.FollowLaws.{expression_ended}
@@ -33,10 +33,11 @@ use Rattle.js_tree.specs.Nodes.{Node}
 use Rattle.js_tree.specs.Holding.{Holds, HoldsAll, Keeps}
 use Rattle.js_tree.proofs.HoldingLemmas.{HoldsAll-one, HoldsAll-one_hole, Keeps-longer, Keeps-refl, Keeps-trans, Keeps-made}
 use Rattle.js_lex.specs.States.{goal_of}
-use Rattle.js_cursor.specs.Moves.{MayEnd, is_last}
+use Rattle.js_cursor.specs.Moves.{GivesUp, IsUnexpected, MayEnd, OnlyMemory, ends_statement, is_last}
 use Rattle.js_cursor.specs.Parsers.{Parser}
 use Rattle.js_cursor.specs.Places.{goal}
 use Rattle.js_cursor.specs.declared.stop.Stop.{Stop}
+use Rattle.js_cursor.specs.declared.stop.Stop.TheVariants.{Fatal, NoMemory}
 use Rattle.js_parsing.specs.Answers.{Grown, Underived, Answer, Numbered, Stops, Verdict, clean, unclean}
 use Rattle.js_parsing.specs.Lexemes.{Lex, Walked, read_kinds, read_word, nowhere, spot}
 use Rattle.js_parsing.specs.Stands.{StandsHere}
@@ -44,7 +45,7 @@ use Rattle.js_parsing.specs.Moves.{IsWholeHere, LeafTaken, Moved, MadeHere, plai
 use Rattle.js_parsing.specs.States.{At, Same}
 use Rattle.js_parsing.specs.Statements.{placed, no_link, after_statement, NoStatement, Statement, EndsStatement, NoEnd}
 use Rattle.js_statements.specs.WordStatements.{ChecksOperand, JumpsHere, TakesLabel, late_operand}
-use Rattle.js_parsing.proofs.Giving.{kept_one, fails_escaped}
+use Rattle.js_parsing.proofs.Giving.{gives_up, kept_one, fails_escaped}
 use Rattle.js_parsing.proofs.Here.{found, kind_here, newline_here, uncut}
 use Rattle.js_statements.proofs.Labels.{path_made}
 use Rattle.js_operands.proofs.Members.{word_whole}
@@ -52,7 +53,7 @@ use Rattle.js_parsing.proofs.MadeNodes.{leaf_held, node_held, one_held}
 use Rattle.js_parsing.proofs.Moving.{moves, same_both, same_itself, same_with, stops_behind}
 use Rattle.js_operands.proofs.Operands.{one_path, plain_leaf, name_test}
 use Rattle.js_parsing.proofs.Paths.{Path, ◌⟼◌, ◌⟶◌, ◌⟶✗◌, at_kind, fails_at, token, last_token, noded, noded_by, by_symbol_as, label_here, walked_both, walked_from, walked_one}
-use Rattle.js_statements.proofs.Statements.{◌⟝◌, by_statement, closes_or_line, either_of, end_path, ended_so, expression_path, no_semicolon, none_of_one, no_symbol, omits_at_end, omitted_so, semicolon_path, to_semicolon_of, unended, whole_semicolon}
+use Rattle.js_statements.proofs.Statements.{◌⟝◌, by_statement, by_such_statement, closes_or_line, either_of, end_path, ended_so, expression_path, no_close, no_semicolon, none_of_one, no_symbol, omits_at_end, omitted_so, semicolon_closes, semicolon_look, semicolon_path, to_semicolon_of, unended, whole_semicolon}
 use Rattle.js_parsing.proofs.Ahead.{pass_over}
 use Rattle.js_parsing.proofs.Told.{told_at, told_same}
 use Rattle.js_parsing.proofs.Verdicts.{after as grown_behind, either_way, grown_both, grown_first, grown_on, grown_then, verdict_of}
@@ -73,10 +74,10 @@ module _ {text : List ℕ} {f : Flags} {p : Parser} {n : Name} (z : Alone text f
 
 -- no statement begins with a link
 unlinked : {f : Flags} (b : Bool) → Heads (after_statement (placed b f)) (plain no_link)
-unlinked b l cs vs y d = ((and_parts _ _ d.0).0, refl)
+unlinked b = λ l cs vs y d. ((and_parts _ _ d.0).0, refl)
 
 still_unlinked : Heads (plain no_link) (plain no_link)
-still_unlinked l cs vs y d = (d.0, refl)
+still_unlinked = λ l cs vs y d. (d.0, refl)
 
 -- ---- what nothing goes on with, up to its semicolon
 
@@ -84,12 +85,8 @@ line_omits : covers (λ k w e. w && not (same_kind kind.Semicolon k)) (may_omit 
 unfolding covers
 line_omits = refl
 
-closes_so : covers (is kind.Semicolon) closes_or_line ≡ true
-unfolding covers
-closes_so = refl
-
 closing : (p F : Look) (y : Lexeme) → IsTrue (seen (closes p F) y) → IsTrue (seen closes_or_line y)
-closing p F y h = either_of (seen (is kind.Semicolon) y) _ h (λ s. covered (is kind.Semicolon) closes_or_line closes_so y.kind y.newline y.escaped s) (λ s. covered (may_omit p) closes_or_line (omitted_so p) y.kind y.newline y.escaped (and_parts (seen (may_omit p) y) (seen F y) s).0)
+closing p F y h = either_of (seen semicolon_look y) _ h (λ s. covered semicolon_look closes_or_line semicolon_closes y.kind y.newline y.escaped s) (λ s. covered (may_omit p) closes_or_line (omitted_so p) y.kind y.newline y.escaped (and_parts (seen (may_omit p) y) (seen F y) s).0)
 
 module _ {text : List ℕ} {f : Flags} where
   to_end : {g : G} {p q : Parser} {h : Slots → Slots} → ((us : Slots) → h us ≡ append (h end) us) → edge after_word after_word (h end) ≡ after_word → Path text f (plain closes_or_line) g p nothing q h → Path text f (plain no_link) (ended by_edge g) p (semicolon (goes_on after_word)) q h
@@ -180,40 +177,41 @@ record Jumped (text : List ℕ) (f : Flags) (k : Kind) (p r : Parser) (label : O
   held : HoldsAll r.nodes (length p.nodes) (length r.nodes) (label ∷ []) (slots end)
   keeps : Keeps p.nodes r.nodes
 
-abbrev one_name : List Kind
-one_name = kind.Ident ∷ []
-
-abbrev name_on_line : Look
-name_on_line k w e = same_kind kind.Ident k && not w
-
-no_end_at_name : apart name_on_line closes_or_line ≡ true
-unfolding apart
-no_end_at_name = refl
-
 module _ {text : List ℕ} {f : Flags} {q : Parser} (a : At text f q) where
-  -- no label stands on the line
-  no_label : {X : Test} → (q.token.is_on_new_line ≡ true) ⊎ StandsHere q kind.Ident false → Fails rule (Lex text) X end (no_newline ▸ symbol LabelIdentifier f) q.prev_token_end
+  -- no name stands here
+  no_name : {X : Test} → StandsHere q kind.Ident false → Fails rule (Lex text) X end (no_newline ▸ symbol LabelIdentifier f) q.prev_token_end
   unfolding covers apart
-  no_label (inl w) = part_fails {X' = plain full} (fails_look (λ k w e. not w) (λ y l h. false≢true (sym (ap not (newline_here a y l ∙ w)) ∙ h))) (record { admits = λ ts us vs j k ls mid rest d e h. (refl, refl) })
-  no_label {X} (inr n) = by q.token.escaped refl
+  no_name {X} n = by q.token.escaped refl
     where
       by : (b : Bool) → q.token.escaped ≡ b → Fails rule (Lex text) X end (no_newline ▸ symbol LabelIdentifier f) q.prev_token_end
       by true e = fails_escaped a e
-      by false e = fails_at a (no_newline ▸ symbol LabelIdentifier f) one_name refl (none_of_one kind.Ident q.token.kind (λ k. n k e))
+      by false e = fails_at a (no_newline ▸ symbol LabelIdentifier f) (kind.Ident ∷ []) refl (none_of_one kind.Ident q.token.kind (λ k. n k e))
 
-  -- where a name stands on the line, the slot isn't empty
-  no_gap : q.token.is_on_new_line ≡ false → q.token.kind ≡ kind.Ident → Fails rule (Lex text) (plain closes_or_line) end empty_slot q.prev_token_end
-  no_gap w k = fails_here firsts (λ y l h. not_both name_on_line closes_or_line no_end_at_name y.kind y.newline y.escaped (and_from _ _ (subst (λ (v : Kind). same_kind kind.Ident v ≡ true) (sym (kind_here a k refl y l)) refl) (ap not (newline_here a y l ∙ w))) h)
+  -- nor a label, where the statement may end
+  no_label : {X : Test} → MayEnd q → Fails rule (Lex text) X end (no_newline ▸ symbol LabelIdentifier f) q.prev_token_end
+  no_label (inl e) = no_name (λ k n. false≢true (sym (ap ends_statement k) ∙ e))
+  no_label (inr w) = part_fails {X' = plain full} (fails_look (λ k w e. not w) (λ y l h. false≢true (sym (ap not (newline_here a y l ∙ w)) ∙ h))) (record { admits = λ ts us vs j k ls mid rest d e h. (refl, refl) })
+
+  -- where it may not, the slot isn't empty
+  no_gap : (MayEnd q → ⊥) → Fails rule (Lex text) (plain closes_or_line) end empty_slot q.prev_token_end
+  no_gap m = fails_here firsts (λ y l h. no_close a m y l h)
+
+  same_line : (MayEnd q → ⊥) → q.token.is_on_new_line ≡ false
+  same_line m = go q.token.is_on_new_line refl
+    where
+      go : (b : Bool) → q.token.is_on_new_line ≡ b → q.token.is_on_new_line ≡ false
+      go true e = absurd (m (inr e))
+      go false e = e
 
   label_read : {X : Test} {r : Parser} → StandsHere q kind.Ident true → Moved text f q r → Path text f X (symbol LabelIdentifier f) q nothing r (tree (label_here label_identifier no_op q r) end)
   unfolding rule rule_of
   label_read h m = by_symbol_as {X' = plain full} (λ l cs vs y d. (refl, refl)) (noded a (one_path (name_test f) a m (plain_leaf kind.Ident h.0 h.1 refl m) (rw (sym m.tells.kind ∙ h.0) refl)))
 
 module _ {text : List ℕ} {f : Flags} {p q : Parser} (k : Kind) (a : At text f p) (e : p.token.kind ≡ k) (n : p.token.escaped ≡ false) (i : one_of_kinds read_kinds k ≡ true) (m : Moved text f p q) where
-  abbrev word_passed : {X : Test} {g : G} → Path text f X (tok k ▸ g) p g q (λ us. us)
+  word_passed : {X : Test} {g : G} → Path text f X (tok k ▸ g) p g q (λ us. us)
   word_passed = token k a e n i m
 
-  no_label_read : (q.token.is_on_new_line ≡ true) ⊎ StandsHere q kind.Ident false → Jumped text f k p q None
+  no_label_read : MayEnd q → Jumped text f k p q None
   no_label_read h =
       let ks : Keeps p.nodes q.nodes = subst (λ (ns : List Node). Keeps p.nodes ns) (sym m.nodes) (Keeps-refl p.nodes) in
       record {
@@ -226,7 +224,7 @@ module _ {text : List ℕ} {f : Flags} {p q : Parser} (k : Kind) (a : At text f 
         keeps = ks;
       }
 
-  a_label_read : {r : Parser} {id : NodeId} → q.token.is_on_new_line ≡ false → StandsHere q kind.Ident true → LeafTaken node.LabelIdentifier op.None text f q r id → Jumped text f k p r (Some id)
+  a_label_read : {r : Parser} {id : NodeId} → (MayEnd q → ⊥) → StandsHere q kind.Ident true → LeafTaken node.LabelIdentifier op.None text f q r id → Jumped text f k p r (Some id)
   a_label_read {r} {id} w h t =
       let l : plain_label node.LabelIdentifier op.None q.token.span ≡ label_here label_identifier no_op q t.mid = ap (λ (v : ℕ). record { kind = label_identifier; op = no_op; flags = 0; span = record { from = q.token.span.start; to = v } }) (t.moved.tells.end ∙ t.moved.ends) in
       let made : MadeHere (label_here label_identifier no_op q t.mid) [] t.mid r id = subst (λ (v : Label). MadeHere v [] t.mid r id) l t.made in
@@ -236,17 +234,21 @@ module _ {text : List ℕ} {f : Flags} {p q : Parser} (k : Kind) (a : At text f 
         slots = tree (label_here label_identifier no_op q t.mid) end;
         appends = λ us. refl;
         row = refl;
-        path = word_passed ⟶ ((left (no_gap m.at w h.0) ▹ pass_over (looks (λ k w e. not w) (λ y l. ap not (newline_here m.at y l ∙ w)))) ⟼ path_made r made.stays (label_read m.at h t.moved));
+        path = word_passed ⟶ ((left (no_gap m.at w) ▹ pass_over (looks (λ k w e. not w) (λ y l. ap not (newline_here m.at y l ∙ same_line m.at w)))) ⟼ path_made r made.stays (label_read m.at h t.moved));
         same = subst (λ (v : Parser). Same p v) (sym made.stays) (same_with r.nodes (same_both m.same t.moved.same) kr);
         held = HoldsAll-one id (leaf_held made ks);
         keeps = kr;
       }
 
-  label_taken : {r : Parser} (label : Option NodeId) → TakesLabel q r label → Jumped text f k p r label
+  label_taken : {r : Parser} (label : Option NodeId) → TakesLabel q r (Ok label) → Jumped text f k p r label
   label_taken (Some id) (w, h, t) = a_label_read w h (t text f m.at)
   label_taken None (h, e) = subst (λ (v : Parser). Jumped text f k p v None) (sym e) (no_label_read h)
 
-module _ {text : List ℕ} {f : Flags} {p q r : Parser} {k : NodeKind} {label : Option NodeId} (a : At text f p) (h : JumpsHere k p) (m : Moved text f p q) (t : TakesLabel q r label) where
+  -- neither a label nor an end
+  label_none : (MayEnd q → ⊥) → StandsHere q kind.Ident false → Fails rule (Lex text) (plain no_link) end (ended by_edge (jump_slots k f)) p.prev_token_end
+  label_none w h = fails_ended {X' = plain closes_or_line} (word_passed ⟶✗ fails_alt (no_name m.at h) (no_gap m.at w)) (λ cs j ls mid l d h. (closing (by_edge (here ls) cs) no_link (here mid) h, refl))
+
+module _ {text : List ℕ} {f : Flags} {p q r : Parser} {k : NodeKind} {label : Option NodeId} (a : At text f p) (h : JumpsHere k p) (m : Moved text f p q) (t : TakesLabel q r (Ok label)) where
   abbrev jump : Jump text f p k
   jump = jump_of a h
 
@@ -282,6 +284,15 @@ module _ {text : List ℕ} {f : Flags} {p q r : Parser} {k : NodeKind} {label : 
       let hs : HoldsAll v.nodes (length p.nodes) (length v.nodes) (label ∷ []) (jumped.slots end) = subst (λ (ns : List Node). HoldsAll ns (length p.nodes) (length ns) (label ∷ []) (jumped.slots end)) (sym z.nodes) jumped.held in
       by_statement (alone_path jump.alone b (plain no_link) (unlinked b) still_unlinked (jump_path e)) (same_both jumped.same z.same) made.stays (node_held made hs) (Keeps-trans ks (Keeps-made made.made))
 
+-- no label is read
+pub jump_stops : {text : List ℕ} {f : Flags} {p q : Parser} {k : NodeKind} (b : Bool) (r : Parser) (e : Stop) → At text f p → JumpsHere k p → Moved text f p q → TakesLabel q r (Err e) → Stops p r e (NoStatement text (placed b f) p.prev_token_end)
+unfolding covers
+jump_stops {text} {f} {p} {q} {k} b r Fatal a h m (w, n, g) =
+    let j = jump_of a h in
+    stops_behind r Fatal m.same.follows (λ d. grown_then m.kept d) (λ z. z) (gives_up (IsUnexpected q) q r Fatal m.at g
+    (alone_fails j.alone b (plain no_link) (unlinked b) still_unlinked (subst (λ (g : G). Fails rule (Lex text) (plain no_link) end g p.prev_token_end) j.line (fails_node (inside_plain refl) (label_none j.word a j.is_here j.is_plain j.is_read m w n)))))
+jump_stops b r NoMemory a h m t = tt
+
 -- ---- throw
 
 abbrev throw_slots : Flags → G
@@ -314,7 +325,7 @@ checked_nodes (inr (w, e)) = ap (λ (v : Parser). v.nodes) e
 
 -- a walk over a statement's end
 end_walked : {text : List ℕ} {f : Flags} {q r : Parser} → At text f q → EndsStatement q r → (pass : Lexemes → Lexemes) × Walked text (spot q) (spot r) pass
-end_walked a (v, inl (k, m)) = let s = moves (whole_semicolon a k) m a in (_, walked_one s)
+end_walked a (v, inl (k, m)) = let s = moves (whole_semicolon a k) m a in (λ ls. next s.lexeme ls, walked_one s)
 end_walked {text} {q = q} a (v, inr (n, m, e)) = (λ ls. ls, subst (λ (r : Parser). Walked text (spot q) (spot r) (λ ls. ls)) (sym e) nowhere)
 
 module _ {text : List ℕ} {f : Flags} {p q r : Parser} {word : Span} (a : At text f p) (h : StandsHere p kind.Throw true) (m : Moved text f p q) (c : ChecksOperand word q r) where
@@ -376,22 +387,22 @@ module _ {text : List ℕ} {f : Flags} {p q r : Parser} {word : Span} (a : At te
         go (inl (w, k)) = late b w
         go (inr (w, e)) = throw_none b (throw_read e w ⟶✗ unended x.answer.at (goes_on (row_of x.answer.label x.answer.slots)) n)
 
-    throw_path : (b : Bool) {v : Parser} → f.in_ ≡ true → EndsStatement t v → Path text f (after_statement (placed b f)) (rule (placed b f)) p nothing v (tree (label_here throw_statement no_op p v) (tree x.answer.label x.answer.slots end))
+    throw_path : (b : Bool) {v : Parser} → f.in_ ≡ true → EndsStatement t v → Path text f (after_statement (placed b f)) (such (placed b f) always) p nothing v (tree (label_here throw_statement no_op p v) (tree x.answer.label x.answer.slots end))
     unfolding rule rule_of covers
     throw_path b {v} i e = go c
       where
-        go : ChecksOperand word q r → Path text f (after_statement (placed b f)) (rule (placed b f)) p nothing v (tree (label_here throw_statement no_op p v) (tree x.answer.label x.answer.slots end))
+        go : ChecksOperand word q r → Path text f (after_statement (placed b f)) (such (placed b f) always) p nothing v (tree (label_here throw_statement no_op p v) (tree x.answer.label x.answer.slots end))
         go (inl (w, k)) =
             let z = ended_so x.answer.at e in
             let n = end_walked x.answer.at e in
             record {
               at = z.at;
               further = let b = m.further in let d = checked_place c in let g = (checked_at m.at c).behind in let l = x.answer.further in let o = z.further in omega arith;
-              pass = _;
+              pass = λ ls. next m.lexeme (x.answer.pass (n.0 ls));
               walked = walked_both (walked_both (walked_one m) (walked_from (checked_spot c) x.answer.walked)) n.1;
               verdict = unclean (grown_first (grown_on (grown_then m.kept (kept_one k)) x.answer.verdict) z.kept) (late b w);
             }
-        go (inr (w, j)) = alone_path throw_alone b (plain no_link) (unlinked b) still_unlinked (noded_by a (inside_plain refl) (end_path i x.answer e (throw_read j w)))
+        go (inr (w, j)) = by_symbol_as {X' = after_statement (placed b f)} (λ l cs vs y d. d) (alone_path throw_alone b (plain no_link) (unlinked b) still_unlinked (noded_by a (inside_plain refl) (end_path i x.answer e (throw_read j w))))
 
     pub throw_answers : (b : Bool) {v w : Parser} {id : NodeId} (s : Span) → f.in_ ≡ true → EndsStatement t v → s.start ≡ p.token.span.start → s.end ≡ v.prev_token_end → MadeHere (plain_label node.ThrowStatement op.None s) (Some operand ∷ []) v w id → Statement text f (placed b f) p w id
     throw_answers b {v} {w} {id} s i e g d n =
@@ -401,7 +412,7 @@ module _ {text : List ℕ} {f : Flags} {p q r : Parser} {word : Span} (a : At te
         let kt : Keeps p.nodes t.nodes = subst (λ (ns : List Node). Keeps ns t.nodes) throw_nodes x.keeps in
         let ks : Keeps p.nodes v.nodes = subst (λ (ns : List Node). Keeps p.nodes ns) (sym z.nodes) kt in
         let ht : Holds t.nodes (length p.nodes) (length t.nodes) operand.0 x.answer.label x.answer.slots = subst (λ (ns : List Node). Holds t.nodes (length ns) (length t.nodes) operand.0 x.answer.label x.answer.slots) throw_nodes x.holds in
-        by_statement (throw_path b i e) (same_both throw_same (same_both x.answer.same z.same)) made.stays
+        by_such_statement (throw_path b i e) (same_both throw_same (same_both x.answer.same z.same)) made.stays
         (one_held p.nodes made (subst (λ (ns : List Node). Holds ns (length p.nodes) (length ns) operand.0 x.answer.label x.answer.slots) (sym z.nodes) ht)) (Keeps-trans ks (Keeps-made made.made))
 
 -- what is told of it has its mark
@@ -428,3 +439,12 @@ word_here k a h r = word_whole a (ap read_word h.0 ∙ r)
 pub jump_whole : {text : List ℕ} {f : Flags} {p : Parser} {k : NodeKind} → At text f p → JumpsHere k p → IsWholeHere p
 jump_whole a (inl (e, h)) = word_here kind.Break a h refl
 jump_whole a (inr (e, h)) = word_here kind.Continue a h refl
+
+-- what is said of a label that isn't read
+pub label_told : (p q : Parser) (e : Stop) → (MayEnd p → ⊥) → StandsHere p kind.Ident false → GivesUp (IsUnexpected p) p q e → TakesLabel p q (Err e)
+label_told p q Fatal m n g = (m, n, g)
+label_told p q NoMemory m n g = tt
+
+pub label_memory : (p q : Parser) (e : Stop) → OnlyMemory e → TakesLabel p q (Err e)
+label_memory p q Fatal m = absurd m
+label_memory p q NoMemory m = tt

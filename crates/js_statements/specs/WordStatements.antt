@@ -1,5 +1,5 @@
 -- Statements that begin with a word and end with a semicolon (ECMA-262, 14.8, 14.9, 14.14, 14.16).
-use Rattle.std.specs.Prelude.{◌≡◌, ◌⊎◌, true, false, Option, Some, None}
+use Rattle.std.specs.Prelude.{◌≡◌, ◌⊎◌, true, false, Option, Some, None, Result, Ok, Err}
 use Rattle.js_base.specs.declared.diagnostic.Diagnostic.{Diagnostic}
 use Rattle.js_base.specs.declared.diagnostic.DiagnosticKind.TheVariants.{IllegalNewline}
 use Rattle.js_base.specs.declared.kind.Kind.TheVariants.{Break, Continue, Ident}
@@ -8,8 +8,10 @@ use Rattle.js_tree.specs.declared.id.NodeId.{NodeId}
 use Rattle.js_tree.specs.declared.kind.NodeKind.{NodeKind}
 use Rattle.js_tree.specs.declared.kind.NodeKind.TheVariants.{BreakStatement, ContinueStatement, LabelIdentifier}
 use Rattle.js_tree.specs.declared.op.Op.TheVariants as op
-use Rattle.js_cursor.specs.Moves.{Keeps}
+use Rattle.js_cursor.specs.Moves.{GivesUp, IsUnexpected, Keeps, MayEnd}
 use Rattle.js_cursor.specs.Parsers.{Parser}
+use Rattle.js_cursor.specs.declared.stop.Stop.{Stop}
+use Rattle.js_cursor.specs.declared.stop.Stop.TheVariants.{Fatal, NoMemory}
 use Rattle.js_parsing.specs.Told.{unrelated_at}
 use Rattle.js_parsing.specs.Stands.{StandsHere}
 use Rattle.js_parsing.specs.Moves.{TakesLeaf}
@@ -18,10 +20,12 @@ use Rattle.js_parsing.specs.Moves.{TakesLeaf}
 abbrev pub JumpsHere : NodeKind → Parser → Type 0
 JumpsHere kind p = ((kind ≡ BreakStatement) × StandsHere p Break true) ⊎ ((kind ≡ ContinueStatement) × StandsHere p Continue true)
 
--- The label behind it, on the same line; or none stands there.
-abbrev pub TakesLabel : Parser → Parser → Option NodeId → Type 0
-TakesLabel old new (Some id) = (old.token.is_on_new_line ≡ false) × StandsHere old Ident true × TakesLeaf LabelIdentifier op.None old new id
-TakesLabel old new None = ((old.token.is_on_new_line ≡ true) ⊎ StandsHere old Ident false) × (new ≡ old)
+-- The label behind it; none, where the statement may end; or no name stands where one is due.
+abbrev pub TakesLabel : Parser → Parser → Result (Option NodeId) Stop → Type 0
+TakesLabel old new (Ok None) = MayEnd old × (new ≡ old)
+TakesLabel old new (Ok (Some id)) = (MayEnd old → ⊥) × StandsHere old Ident true × TakesLeaf LabelIdentifier op.None old new id
+TakesLabel old new (Err Fatal) = (MayEnd old → ⊥) × StandsHere old Ident false × GivesUp (IsUnexpected old) old new Fatal
+TakesLabel old new (Err NoMemory) = Unit {0}
 
 -- what is told of `throw` at the end of its line
 abbrev pub late_operand : Span → Diagnostic

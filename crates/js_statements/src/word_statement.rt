@@ -1,11 +1,10 @@
 //! Statements that begin with a word and end with a semicolon: `break`, `continue`, `throw` and `debugger` (ECMA-262, sections
 //! 14.8, 14.9, 14.14 and 14.16).
 
-ghost use Rattle.std.specs.Prelude.{◌≡◌, true, IfOk, MatchResult};
+ghost use Rattle.std.specs.Prelude.{◌≡◌, true, IfOk};
 ghost use Rattle.js_base.specs.Contexts.{has_flag, in_flag};
 ghost use Rattle.js_base.specs.declared.kind.Kind.TheVariants.{Break, Continue, Debugger, Throw};
 ghost use Rattle.js_grammar.specs.Marks.{Mark};
-ghost use Rattle.js_cursor.specs.Moves.{OnlyMemory};
 ghost use Rattle.js_cursor.specs.Places.{IsAt, goal};
 ghost use Rattle.js_parsing.specs.Stands.{StandsHere};
 ghost use Rattle.js_parsing.specs.Nesting.{CanNest, room};
@@ -58,7 +57,7 @@ pub fn parse_continue_statement<C: ParserConfig>(p: &mut ParserImpl<'_, C>) -> R
     parse_jump(p, NodeKind::ContinueStatement)
 }
 
-/// A word, the label that it leads to, if one stands on its line, and a semicolon.
+/// A word, the label that it leads to, or none, and a semicolon.
 #[inline(never)]
 fn parse_jump<C: ParserConfig>(p: &mut ParserImpl<'_, C>, kind: NodeKind) -> Result<NodeId, Stop>
     requires at { Standing p.old }
@@ -74,15 +73,18 @@ fn parse_jump<C: ParserConfig>(p: &mut ParserImpl<'_, C>, kind: NodeKind) -> Res
     Ok(node)
 }
 
-/// A LabelIdentifier (ECMA-262, section 13.1), where a name stands on the line of the word before it.
+/// A LabelIdentifier (ECMA-262, section 13.1), or none where the statement may end.
 fn parse_optional_label<C: ParserConfig>(
     p: &mut ParserImpl<'_, C>,
 ) -> Result<Option<NodeId>, Stop>
     requires { Standing p.old }
-    ensures { MatchResult result (λ label. TakesLabel p.old p.new label) OnlyMemory }
+    ensures { TakesLabel p.old p.new result }
 {
-    if p.cur_token().is_on_new_line() || !stands(p, Kind::Ident) {
+    if p.can_insert_semicolon() {
         return Ok(None);
+    }
+    if !stands(p, Kind::Ident) {
+        return Err(p.set_unexpected());
     }
     let label = parse_leaf(p, NodeKind::LabelIdentifier, Op::None)?;
     Ok(Some(label))
