@@ -286,7 +286,7 @@ module _ {text : List ℕ} {f : Flags} where
 
 -- ---- what stands before
 
-pub statement_left : (f : Flags) → live (rule (at AStatement f)) ≡ alt (such (at Empty f) always) (such (at Labeled f) always)
+pub statement_left : (f : Flags) → live (rule (at AStatement f)) ≡ alt (symbol Empty f) (alt (symbol Continue f) (alt (symbol Break f) (alt (symbol Throw f) (alt (symbol Debugger f) (symbol Labeled f)))))
 unfolding rule rule_of apart
 statement_left f = refl
 
