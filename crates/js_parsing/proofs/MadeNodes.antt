@@ -7,38 +7,11 @@ use Rattle.js_tree.specs.Holding.{Holds, HoldsAll, Keeps}
 use Rattle.js_tree.proofs.HoldingLemmas.{HoldsAll-none, HoldsAll-one, HoldsAll-two, Made-holds, Keeps-longer}
 use Rattle.js_cursor.specs.Parsers.{Parser}
 use Rattle.js_parsing.specs.Moves.{MadeHere}
-use Rattle.std.proofs.Common.{ℕ, ◌≡◌, ◌≤◌, ◌<◌, max, List, [], ◌∷◌, ◌++◌, length, Bool, true, false, not, ◌&&◌, ◌||◌, cond, IsTrue, Option, Some, refl, sym, ap, subst, arith, ◌∙◌}
-use Rattle.std.specs.Prelude.{◌↔◌, get_or}
-use Rattle.std.proofs.lemmas.Bool.{false≢true, and_parts, and_from}
-use Rattle.js_base.specs.declared.kind.Kind.{Kind}
-use Rattle.js_base.specs.declared.kind.Kind.TheVariants.{Eof, Ident, Semicolon, Str}
-use Rattle.js_base.specs.declared.span.Span.{Span}
-use Rattle.js_base.specs.Contexts.{has_flag, in_flag}
-use Rattle.js_base.specs.Kinds.{one_of_kinds}
-use Rattle.js_grammar.specs.Trees.{Label, Slots, end, hole, tree, append, no_op, directive, expression_statement}
-use Rattle.js_grammar.specs.Grammar.{Lexeme, Lexemes, Look, is, here, seen, seq, alt, many, when, such, ended, semicolon, nothing, Grammar, Takes, is_nothing, is_seq, is_left, is_right, is_many, is_such}
-use Rattle.js_grammar.specs.Insertion.{by_edge, goes_on}
-use Rattle.js_grammar.specs.Conditions.{not_string}
-use Rattle.js_grammar.specs.Lexed.{Lexes}
-use Rattle.js_grammar.specs.Parsing.{Test, plain, behind, full, always, still, Goes, Reads, Fails, Admits}
-use Rattle.js_grammar.specs.Productions.{G, Flags, Symbol, at, opt, ListItem, Item, Labeled, Directive, Expression, ImportDecl, ExportDecl}
-use Rattle.js_grammar.specs.Productions.{sym as symbol}
-use Rattle.js_grammar.specs.Table.{rule, rule_of, string}
-use Rattle.js_grammar.specs.Follow.{row_of, after}
-use Rattle.js_grammar.proofs.Looks.{covers, covered, apart}
-use Rattle.js_grammar.proofs.Calculus.{Between, Sure, ◌▹◌, ◌▹✗◌, stay, same, passes_none, left, right, by_plain, by_rule, then_by, tested, more_of, part_fails, fails_alt, fails_test, fails_tested, fails_ended, fails_rule, fails_node, inside_plain, here_at}
-use Rattle.js_grammar.proofs.FirstRules.{by_first}
-use Rattle.js_grammar.proofs.FirstClaims.{firsts}
-use Rattle.js_grammar.proofs.FollowLaws.{expression_ended, surely}
-use Rattle.js_grammar.specs.Follow.{surest}
-use Rattle.js_tree.specs.declared.kind.NodeKind.{NodeKind}
-use Rattle.js_tree.specs.declared.kind.NodeKind.TheVariants as node
-use Rattle.js_tree.specs.declared.op.Op.TheVariants as op
-use Rattle.js_tree.specs.Labels.{kind_of}
-use Rattle.js_tree.specs.Nodes.{Node, node_at, empty_program, label}
-use Rattle.js_tree.specs.Holding.{Stands, stands, Holds, HoldsAll, Keeps}
-use Rattle.js_tree.proofs.HoldingLemmas.{HoldsAll-none, HoldsAll-next, HoldsAll-wider, Holds-below, Holds-wider, Keeps-refl, Keeps-trans, Keeps-made, Keeps-longer}
-use Rattle.js_cursor.specs.declared.stop.Stop.{Stop}
+use Rattle.std.proofs.Common.{◌≡◌, refl}
+use Rattle.std.specs.Prelude.{get_or}
+use Rattle.js_grammar.proofs.Calculus.{left, right}
+use Rattle.js_tree.specs.Nodes.{node_at, empty_program, label}
+use Rattle.js_tree.specs.Holding.{Stands, stands}
 
 module _ {v w : Parser} {l : Label} {ids : List (Option NodeId)} {id : NodeId} (n : MadeHere l ids v w id) where
   pub node_held : {lo : ℕ} {cs : Slots} → HoldsAll v.nodes lo (length v.nodes) ids cs → Holds w.nodes lo (length w.nodes) id.0 l cs
