@@ -2,7 +2,7 @@
 use Rattle.std.proofs.Common.{ℕ, ◌≡◌, List, Bool, true, false, not, IsTrue, refl, ap}
 use Rattle.std.proofs.lemmas.Bool.{or_left}
 use Rattle.js_grammar.specs.Trees.{end}
-use Rattle.js_grammar.specs.Grammar.{Lexeme, Look, seen, lexeme, look, ahead, seq, ◌▸◌}
+use Rattle.js_grammar.specs.Grammar.{Lexeme, Look, here, seen, lexeme, look, ahead, seq, ◌▸◌}
 use Rattle.js_grammar.specs.Parsing.{Test, plain, full, still, Goes, Reads}
 use Rattle.js_grammar.specs.Productions.{G, other, if_next, not_then}
 use Rattle.js_grammar.specs.Table.{rule}
