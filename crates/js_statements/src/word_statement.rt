@@ -74,9 +74,7 @@ fn parse_jump<C: ParserConfig>(p: &mut ParserImpl<'_, C>, kind: NodeKind) -> Res
 }
 
 /// A LabelIdentifier (ECMA-262, section 13.1), or none where the statement may end.
-fn parse_optional_label<C: ParserConfig>(
-    p: &mut ParserImpl<'_, C>,
-) -> Result<Option<NodeId>, Stop>
+fn parse_optional_label<C: ParserConfig>(p: &mut ParserImpl<'_, C>) -> Result<Option<NodeId>, Stop>
     requires { Standing p.old }
     ensures { TakesLabel p.old p.new result }
 {

@@ -2,6 +2,7 @@ use Rattle.std.proofs.Common.{◌∙◌, ap, refl, arith}
 use Rattle.std.proofs.lemmas.Result.{err_from_is_err_and}
 use Rattle.js_base.specs.declared.kind.Kind.TheVariants.{Throw}
 use Rattle.js_base.specs.declared.span.Span.{Span}
+use Rattle.js_base.specs.declared.token.Token.{Token}
 use Rattle.js_parsing.proofs.Moving.{standing, stops_behind}
 use Rattle.js_parsing.proofs.Nesting.{nests_later, later_room}
 use Rattle.js_statements.proofs.Statements.{ended_so, in_of}
@@ -16,7 +17,7 @@ pub check_operand-requires-clause-at : goal.check_operand-requires-clause-at
 check_operand-requires-clause-at g c = (c.in_ok-advance.ensures _ _ c.requires.at).at.at
 
 pub check_operand-requires-clause-mark : goal.check_operand-requires-clause-mark
-check_operand-requires-clause-mark g c = late_marked _ c.requires.at c.requires.word c.span-word.ensures (c.in_ok-advance.ensures _ _ c.requires.at)
+check_operand-requires-clause-mark g c = late_marked _ c.requires.at c.requires.word (c.span-word.ensures ∙ ap (λ (t : Token). t.span) c.cur_token.ensures) (c.in_ok-advance.ensures _ _ c.requires.at)
 
 pub parse_sequence_expression-requires-clause-at : goal.parse_sequence_expression-requires-clause-at
 parse_sequence_expression-requires-clause-at g c = standing (checked_at (c.in_ok-advance.ensures _ _ c.requires.at).at c.in_ok-check_operand.ensures)
@@ -50,10 +51,10 @@ end_span-span-requires g c =
     let k = c.in_ok-check_operand.ensures in
     let x = (c.in_ok-operand.ensures _ _ (checked_at m.at k)).answer in
     let z = ended_so x.at c.in_ok-end_statement.ensures in
-    let a = m.further in let b = z.further in let d = x.further in let e = checked_place k in let h = (checked_at m.at k).behind in let s = ap (λ (v : Span). v.start) c.span-word.ensures in omega arith
+    let a = m.further in let b = z.further in let d = x.further in let e = checked_place k in let h = (checked_at m.at k).behind in let s = ap (λ (v : Span). v.start) (c.span-word.ensures ∙ ap (λ (t : Token). t.span) c.cur_token.ensures) in omega arith
 
 pub returns : goal.returns
 returns g c = λ b text f a.
     let m = c.in_ok-advance.ensures text f a in
     let k = c.in_ok-check_operand.ensures in
-    throw_answers a c.requires.word m k (c.in_ok-operand.ensures text f (checked_at m.at k)) b _ (in_of a c.requires.allows_in) c.in_ok-end_statement.ensures (c.end_span-span.ensures.start ∙ ap (λ (v : Span). v.start) c.span-word.ensures) c.end_span-span.ensures.end c.in_ok-node.ensures
+    throw_answers a c.requires.word m k (c.in_ok-operand.ensures text f (checked_at m.at k)) b _ (in_of a c.requires.allows_in) c.in_ok-end_statement.ensures (c.end_span-span.ensures.start ∙ ap (λ (v : Span). v.start) (c.span-word.ensures ∙ ap (λ (t : Token). t.span) c.cur_token.ensures)) c.end_span-span.ensures.end c.in_ok-node.ensures
