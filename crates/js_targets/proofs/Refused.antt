@@ -33,7 +33,7 @@ pub refused : {text : List ℕ} {f : Flags} {p q : Parser} {C B F : Type 0} (r :
 refused {p = p} {q = q} {F = F} r kept e k a s v (inl h) n = subst (λ (x : Stop). Stops p r x F) (sym h.2) (subst (λ (x : Parser). Stops p x Fatal F) (sym h.1) (record { at = a.at; follows = s.follows; grown = grew kept k h.0 v; heads = a.heads; none = n }))
 refused {p = p} {q = q} r kept e k a s v (inr h) n = stops_behind r e s.follows (λ g. grown_behind v g) (λ x. x) (gives_up (λ d. Unit {0}) q r e a h n)
 
-array_is : (k : NodeKind) → is_array k ≡ true → k ≡ array_expression
+pub array_is : (k : NodeKind) → is_array k ≡ true → k ≡ array_expression
 array_is array_expression h = refl
 array_is _ h = absurd (false≢true h)
 
