@@ -1,5 +1,5 @@
 -- What is told of an operand that is no target.
-use Rattle.js_parsing.proofs.Signs.{there, plain_of, none_kept}
+use Rattle.js_parsing.proofs.Signs.{plain_of, none_kept}
 use Rattle.js_targets.proofs.Refused.{refused}
 use Rattle.std.proofs.Common.{ℕ, ◌≡◌, ◌≤◌, ◌⊎◌, inl, inr, List, length, Bool, true, false, not, ◌&&◌, ◌||◌, IsTrue, Some, None, refl, sym, ap, subst, arith, ◌∙◌, nat_lt}
 use Rattle.std.specs.Prelude.{IsCharBoundary, IsSome, is_some, if◌then◌else◌}
