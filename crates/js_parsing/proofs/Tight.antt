@@ -3,7 +3,7 @@ use Rattle.std.proofs.Common.{ℕ, ◌≡◌, ◌≤◌, ◌<◌, ◌+◌, Bool,
 use Rattle.std.proofs.lemmas.Bool.{false≢true, and_parts, and_from, or_left, or_right, lt-ltb, ltb-true, eqb-true}
 use Rattle.std.specs.Prelude.{nat_eq}
 use Rattle.js_base.specs.declared.kind.Kind.{Kind}
-use Rattle.js_base.specs.declared.kind.Kind.TheVariants.{Plus, Minus, Star, Percent, Eq2, Eq3, Neq, Neq2, LAngle, LtEq, RAngle, GtEq, ShiftLeft, ShiftRight, ShiftRight3, Amp, Amp2, Pipe, Pipe2, Caret, In, Instanceof}
+use Rattle.js_base.specs.declared.kind.Kind.TheVariants.{Plus, Minus, Star, Slash, Percent, Eq2, Eq3, Neq, Neq2, LAngle, LtEq, RAngle, GtEq, ShiftLeft, ShiftRight, ShiftRight3, Amp, Amp2, Pipe, Pipe2, Caret, In, Instanceof}
 use Rattle.js_base.specs.Kinds.{one_of_kinds}
 use Rattle.js_grammar.specs.Grammar.{Lexeme, Look, seen}
 use Rattle.js_grammar.specs.Insertion.{Row, after_expression, after_postfix, after_body, after_yield, after_declarator, after_word}
@@ -94,6 +94,7 @@ level_of b ShiftRight3 h = level_by b ShiftRight3 7 refl (omega arith) refl (lat
 level_of b Plus h = level_by b Plus 8 refl (omega arith) refl head
 level_of b Minus h = level_by b Minus 8 refl (omega arith) refl (later head)
 level_of b Star h = level_by b Star 9 refl (omega arith) refl head
+level_of b Slash h = level_by b Slash 9 refl (omega arith) refl (later head)
 level_of b Percent h = level_by b Percent 9 refl (omega arith) refl (later (later head))
 level_of b _ h = absurd (omega arith)
 

@@ -1,7 +1,7 @@
 -- How tight operators bind, as a parser sees it: the levels of operators by one number (ECMA-262, 13.6 to 13.13).
 use Rattle.std.specs.Prelude.{ℕ, Bool, cond, List, [], ◌∷◌}
 use Rattle.js_base.specs.declared.kind.Kind.{Kind}
-use Rattle.js_base.specs.declared.kind.Kind.TheVariants.{Plus, Minus, Star, Percent, Eq2, Eq3, Neq, Neq2, LAngle, LtEq, RAngle, GtEq, ShiftLeft, ShiftRight, ShiftRight3, Amp, Amp2, Pipe, Pipe2, Caret, In, Instanceof, Bang, Tilde, Typeof, Void, Delete}
+use Rattle.js_base.specs.declared.kind.Kind.TheVariants.{Plus, Minus, Star, Slash, Percent, Eq2, Eq3, Neq, Neq2, LAngle, LtEq, RAngle, GtEq, ShiftLeft, ShiftRight, ShiftRight3, Amp, Amp2, Pipe, Pipe2, Caret, In, Instanceof, Bang, Tilde, Typeof, Void, Delete}
 
 -- the power of an operator that groups to the left; `in` where it is allowed; 0: it is none
 abbrev pub power_of : Bool → Kind → ℕ
@@ -26,6 +26,7 @@ power_of b ShiftRight3 = 12
 power_of b Plus = 13
 power_of b Minus = 13
 power_of b Star = 14
+power_of b Slash = 14
 power_of b Percent = 14
 power_of b _ = 0
 

@@ -1,7 +1,7 @@
 -- What the parse functions of statements answer (ECMA-262, chapter 14).
 use Rattle.std.specs.Prelude.{ℕ, ◌≡◌, ◌<◌, ◌⊎◌, Bool, true, false, not, ◌&&◌, List, [], ◌∷◌, length, Result, Ok, Err}
 use Rattle.js_base.specs.declared.kind.Kind.{Kind}
-use Rattle.js_base.specs.declared.kind.Kind.TheVariants.{Colon, Dot, Ident, QuestionDot, Semicolon, Arrow}
+use Rattle.js_base.specs.declared.kind.Kind.TheVariants.{Break, Colon, Continue, Debugger, Dot, Ident, QuestionDot, Semicolon, Throw, Arrow}
 use Rattle.js_base.specs.Kinds.{same_kind, one_of_kinds}
 use Rattle.js_base.specs.declared.span.Span.{Span}
 use Rattle.js_base.specs.declared.token.Token.{Token}
@@ -23,6 +23,10 @@ use Rattle.js_parsing.specs.Answers.{Verdict, Stretch, Stops, Numbered}
 -- These begin no statement. Behind `++` and `--` they go on with nothing either, and yet no semicolon is left out before them (12.10).
 abbrev pub link_kinds : List Kind
 link_kinds = Dot ∷ QuestionDot ∷ Arrow ∷ []
+
+-- These begin a statement, and neither an expression nor a label.
+abbrev pub statement_kinds : List Kind
+statement_kinds = Semicolon ∷ Break ∷ Continue ∷ Throw ∷ Debugger ∷ []
 
 -- nor does a colon: behind a name it makes a label
 abbrev pub no_link : Look
@@ -83,4 +87,4 @@ NoEnd p = (one_of_kinds link_kinds p.token.kind ≡ true) ⊎ (MayEnd p → ⊥)
 
 -- A label was read as an expression from some state on, up to the old one; with what is read now it is a LabelledStatement. So the answer is of the state where the label began.
 abbrev pub LabelsStatement : Span → Parser → Parser → Result NodeId Stop → Type 0
-LabelsStatement name old new r = (text : List ℕ) (f : Flags) (first : Parser) (id : NodeId) → At text f first → (first.token.kind ≡ Semicolon → ⊥) → name ≡ first.token.span → Numbered text f (at Expression f) first old id → IsLabel first.token old → (b : Bool) → StatementOutcome text f (placed b f) first new r
+LabelsStatement name old new r = (text : List ℕ) (f : Flags) (first : Parser) (id : NodeId) → At text f first → name ≡ first.token.span → Numbered text f (at Expression f) first old id → IsLabel first.token old → (b : Bool) → StatementOutcome text f (placed b f) first new r

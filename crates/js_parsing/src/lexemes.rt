@@ -84,6 +84,10 @@ pub fn is_read_word(kind: Kind) -> bool
             | Kind::In
             | Kind::Instanceof
             | Kind::New
+            | Kind::Break
+            | Kind::Continue
+            | Kind::Debugger
+            | Kind::Throw
     )
 }
 
@@ -117,6 +121,7 @@ fn is_read_operator(kind: Kind) -> bool
             | Kind::Minus
             | Kind::Star
             | Kind::Star2
+            | Kind::Slash
             | Kind::Percent
             | Kind::Eq2
             | Kind::Eq3
@@ -200,7 +205,7 @@ pub fn binding_power(kind: Kind, allows_in: bool) -> u8
         Kind::In => { if allows_in { 11 } else { 0 } }
         Kind::ShiftLeft | Kind::ShiftRight | Kind::ShiftRight3 => 12,
         Kind::Plus | Kind::Minus => 13,
-        Kind::Star | Kind::Percent => 14,
+        Kind::Star | Kind::Slash | Kind::Percent => 14,
         _ => 0,
     }
 }

@@ -43,6 +43,18 @@ pub fn make_one<C: ParserConfig>(
     p.ast.node_of_one(kind, span, op, no_flags(), Some(child))
 }
 
+/// A node of one child, or an empty slot.
+pub fn make_optional<C: ParserConfig>(
+    p: &mut ParserImpl<'_, C>,
+    kind: NodeKind,
+    span: Span,
+    child: Option<NodeId>,
+) -> Result<NodeId, NoMemory>
+    ensures { IfOk result (λ id. MadeHere (plain_label kind op.None span) (child ∷ []) p.old p.new id) }
+{
+    p.ast.node_of_one(kind, span, Op::None, no_flags(), child)
+}
+
 /// A node of two children.
 pub fn make_two<C: ParserConfig>(
     p: &mut ParserImpl<'_, C>,

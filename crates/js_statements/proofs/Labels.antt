@@ -2,7 +2,7 @@
 use Rattle.std.proofs.Common.{ℕ, suc, ◌≡◌, ◌≤◌, List, [], ◌∷◌, length, Option, Some, Bool, true, false, not, ◌&&◌, IsTrue, refl, sym, ap, subst, arith, ◌∙◌}
 use Rattle.std.proofs.lemmas.Bool.{false≢true, and_from}
 use Rattle.js_base.specs.declared.diagnostic.Diagnostic.{Diagnostic}
-use Rattle.js_base.specs.declared.kind.Kind.TheVariants.{Colon, Ident, LCurly, RAngle, Semicolon}
+use Rattle.js_base.specs.declared.kind.Kind.TheVariants.{Colon, Ident, LCurly, RAngle}
 use Rattle.js_base.specs.declared.span.Span.{Span}
 use Rattle.js_base.specs.Contexts.{has_flag, in_flag}
 use Rattle.js_base.specs.Kinds.{same_kind}
@@ -10,7 +10,7 @@ use Rattle.js_grammar.specs.Words.{'let'}
 use Rattle.js_grammar.specs.Trees.{Span as TreeSpan, Label, Slots, end, tree, no_op, labeled_statement, label_identifier}
 use Rattle.js_grammar.specs.Grammar.{Lexeme, Lexemes, Look, last, next, here, seen, is, exact, lexeme, seq, such, nothing, label_of, Takes, is_seq, is_lexeme, is_such, ◌▸◌}
 use Rattle.js_grammar.specs.Parsing.{Test, plain, full, always, still, passing, Admits, Goes, Reads, Fails}
-use Rattle.js_grammar.specs.Productions.{G, Flags, Symbol, at, tok, word_or, Expression, Labeled, LabelIdentifier, ListItem, Empty, Sub}
+use Rattle.js_grammar.specs.Productions.{G, Flags, Symbol, at, tok, word_or, Expression, Labeled, LabelIdentifier, ListItem, Sub}
 use Rattle.js_grammar.specs.Productions.{Statement as AStatement}
 use Rattle.js_grammar.specs.Productions.{sym as symbol}
 use Rattle.js_grammar.specs.Table.{rule, rule_of}
@@ -39,8 +39,8 @@ use Rattle.js_parsing.proofs.Dead.{lives}
 use Rattle.js_parsing.proofs.Here.{found, uncut}
 use Rattle.js_parsing.proofs.MadeNodes.{leaf_held, two_held}
 use Rattle.js_parsing.proofs.Moving.{same_both, same_itself, same_with, beside_nodes, stops_behind}
-use Rattle.js_parsing.proofs.Paths.{Path, ◌⟼◌, ◌⟶◌, ◌⟶✗◌, fails_at, one_read, read_of, token, noded, noded_by, by_symbol_as, label_here}
-use Rattle.js_statements.proofs.Statements.{by_statement, no_symbol, none_of_one, no_expression_ends, before_colon, statement_left, item_left, sub_left, colon_ends}
+use Rattle.js_parsing.proofs.Paths.{Path, ◌⟼◌, ◌⟶◌, ◌⟶✗◌, at_kind, one_read, read_of, token, noded, noded_by, by_symbol_as, label_here}
+use Rattle.js_statements.proofs.Statements.{by_statement, no_symbol, no_expression_ends, before_colon, item_left, sub_left, colon_ends}
 use Rattle.js_parsing.proofs.Ahead.{pass_over, reads_not_then}
 use Rattle.js_statements.proofs.Strings.{name_look, name_node, name_expression}
 use Rattle.js_parsing.proofs.Tight.{read_plain}
@@ -78,7 +78,7 @@ on_label f a ds s = record { admits = λ ts vs k ls rest d e. go ts vs d e }
     go ts vs (is_such d h) x = absurd (false≢true x.1)
 
 -- a path, before a node was made
-path_made : {text : List ℕ} {f : Flags} {X : Test} {g g' : G} {p q : Parser} {h : Slots → Slots} (w : Parser) → w ≡ record q { nodes = w.nodes } → Path text f X g p g' q h → Path text f X g p g' w h
+pub path_made : {text : List ℕ} {f : Flags} {X : Test} {g g' : G} {p q : Parser} {h : Slots → Slots} (w : Parser) → w ≡ record q { nodes = w.nodes } → Path text f X g p g' q h → Path text f X g p g' w h
 path_made {text} {f} {X} {g} {g'} {p} {q} {h} w e x = subst (λ (v : Parser). Path text f X g p g' v h) (sym e) (record { at = beside_nodes w.nodes x.at; further = x.further; pass = x.pass; walked = x.walked; verdict = x.verdict })
 
 -- a symbol, whatever stands behind it
@@ -177,46 +177,45 @@ module _ {text : List ℕ} {f : Flags} {p q : Parser} (a : At text f p) (x : Ans
   unfolding rule rule_of
   label_path = by_symbol_as {X' = plain full} (λ l cs vs y d. (refl, refl)) (noded a name_path)
 
-  module _ (n : p.token.kind ≡ Semicolon → ⊥) where
-    to_labeled : {X : Test} → Goes rule (Lex text) X end (rule (at AStatement f)) p.prev_token_end (symbol Labeled f) p.prev_token_end (λ us. us) (still 0)
-    unfolding covers apart
-    to_labeled {X} = subst (λ (g : G). Goes rule (Lex text) X end (rule (at AStatement f)) p.prev_token_end g p.prev_token_end (λ us. us) (still 0)) (statement_left f) (lives (rule (at AStatement f))) ▹ right (fails_at a {X = X} (symbol Empty f) (Semicolon ∷ []) refl (none_of_one Semicolon p.token.kind n))
+  to_labeled : {X : Test} → Goes rule (Lex text) X end (rule (at AStatement f)) p.prev_token_end (symbol Labeled f) p.prev_token_end (λ us. us) (still 0)
+  unfolding rule rule_of covers
+  to_labeled = at_kind a Ident i.name refl
 
-    -- it is no expression with a semicolon
-    to_placed : (b : Bool) → Goes rule (Lex text) (after_statement (placed b f)) end (rule (placed b f)) p.prev_token_end (symbol AStatement f) p.prev_token_end (λ us. us) (still 0)
-    unfolding apart
-    to_placed true = subst (λ (g : G). Goes rule (Lex text) (after_statement (at ListItem f)) end (rule (at ListItem f)) p.prev_token_end g p.prev_token_end (λ us. us) (still 0)) (item_left f) (lives (rule (at ListItem f))) ▹ left (pass_over (reads_not_then (is 'let') (word_or (LCurly ∷ [])) refl) ▹✗ no_expression_ends true x (before_colon x.at (goes_on (row_of x.label x.slots)) i.colon))
-    to_placed false = subst (λ (g : G). Goes rule (Lex text) (after_statement (at Sub f)) end (rule (at Sub f)) p.prev_token_end g p.prev_token_end (λ us. us) (still 0)) (sub_left f) (lives (rule (at Sub f))) ▹ left (no_expression_ends false x (before_colon x.at (goes_on (row_of x.label x.slots)) i.colon))
+  -- it is no expression with a semicolon
+  to_placed : (b : Bool) → Goes rule (Lex text) (after_statement (placed b f)) end (rule (placed b f)) p.prev_token_end (symbol AStatement f) p.prev_token_end (λ us. us) (still 0)
+  unfolding apart
+  to_placed true = subst (λ (g : G). Goes rule (Lex text) (after_statement (at ListItem f)) end (rule (at ListItem f)) p.prev_token_end g p.prev_token_end (λ us. us) (still 0)) (item_left f) (lives (rule (at ListItem f))) ▹ left (pass_over (reads_not_then (is 'let') (word_or (LCurly ∷ [])) refl) ▹✗ no_expression_ends true x (before_colon x.at (goes_on (row_of x.label x.slots)) i.colon))
+  to_placed false = subst (λ (g : G). Goes rule (Lex text) (after_statement (at Sub f)) end (rule (at Sub f)) p.prev_token_end g p.prev_token_end (λ us. us) (still 0)) (sub_left f) (lives (rule (at Sub f))) ▹ left (no_expression_ends false x (before_colon x.at (goes_on (row_of x.label x.slots)) i.colon))
 
-    -- what is in the node can't be read
-    labeled_fails : (b : Bool) → Fails rule (Lex text) (behind_label f) end (labeled_slots f) p.prev_token_end → NoStatement text (placed b f) p.prev_token_end
-    unfolding rule rule_of
-    labeled_fails b m = no_symbol (to_placed b ▹✗ fails_rule {X' = after_statement (placed b f)} (λ l cs vs y e. e) (to_labeled ▹✗ fails_rule {X' = after_statement (placed b f)} (λ l cs vs y e. e) (fails_node (inside_label b f p.prev_token_end) m)))
+  -- what is in the node can't be read
+  labeled_fails : (b : Bool) → Fails rule (Lex text) (behind_label f) end (labeled_slots f) p.prev_token_end → NoStatement text (placed b f) p.prev_token_end
+  unfolding rule rule_of
+  labeled_fails b m = no_symbol (to_placed b ▹✗ fails_rule {X' = after_statement (placed b f)} (λ l cs vs y e. e) (to_labeled ▹✗ fails_rule {X' = after_statement (placed b f)} (λ l cs vs y e. e) (fails_node (inside_label b f p.prev_token_end) m)))
 
-    pub labeled_path : (b : Bool) {v : Parser} {h : Slots → Slots} → Path text f (behind_label f) (labeled_slots f) p nothing v h → Path text f (after_statement (placed b f)) (rule (placed b f)) p nothing v (tree (label_here labeled_statement no_op p v) (h end))
-    unfolding rule rule_of
-    labeled_path b m = to_placed b ⟼ by_symbol_as {X' = after_statement (placed b f)} (λ l cs vs y e. e) (to_labeled ⟼ by_symbol_as {X' = after_statement (placed b f)} (λ l cs vs y e. e) (noded_by a (inside_label b f p.prev_token_end) m))
+  pub labeled_path : (b : Bool) {v : Parser} {h : Slots → Slots} → Path text f (behind_label f) (labeled_slots f) p nothing v h → Path text f (after_statement (placed b f)) (rule (placed b f)) p nothing v (tree (label_here labeled_statement no_op p v) (h end))
+  unfolding rule rule_of
+  labeled_path b m = to_placed b ⟼ by_symbol_as {X' = after_statement (placed b f)} (λ l cs vs y e. e) (to_labeled ⟼ by_symbol_as {X' = after_statement (placed b f)} (λ l cs vs y e. e) (noded_by a (inside_label b f p.prev_token_end) m))
 
-    -- the label's node was made, and the colon was passed
-    module _ {w r : Parser} {label : NodeId} (made : MadeHere (label_here label_identifier no_op p q) [] q w label) (m : Moved text f w r) where
-      at_colon : At text f w
-      at_colon = made_at x.at made
+  -- the label's node was made, and the colon was passed
+  module _ {w r : Parser} {label : NodeId} (made : MadeHere (label_here label_identifier no_op p q) [] q w label) (m : Moved text f w r) where
+    at_colon : At text f w
+    at_colon = made_at x.at made
 
-      token_is : w.token.kind ≡ Colon
-      token_is = made_colon i.colon made
+    token_is : w.token.kind ≡ Colon
+    token_is = made_colon i.colon made
 
-      colon_path : Path text f (behind_label f) (labeled_slots f) p (symbol Sub f) r (tree (label_here label_identifier no_op p q) end)
-      colon_path = then_any (path_made w made.stays label_path) ⟶ token Colon at_colon token_is (plain_sign Colon at_colon token_is refl refl colon_plain) refl m
+    colon_path : Path text f (behind_label f) (labeled_slots f) p (symbol Sub f) r (tree (label_here label_identifier no_op p q) end)
+    colon_path = then_any (path_made w made.stays label_path) ⟶ token Colon at_colon token_is (plain_sign Colon at_colon token_is refl refl colon_plain) refl m
 
-      pub body_fails : (b : Bool) → NoStatement text (at Sub f) r.prev_token_end → NoStatement text (placed b f) p.prev_token_end
-      body_fails b n = labeled_fails b (colon_path ⟶✗ weaken_fails_on n (on_label f (label_here label_identifier no_op p q) end r.prev_token_end))
+    pub body_fails : (b : Bool) → NoStatement text (at Sub f) r.prev_token_end → NoStatement text (placed b f) p.prev_token_end
+    body_fails b n = labeled_fails b (colon_path ⟶✗ weaken_fails_on n (on_label f (label_here label_identifier no_op p q) end r.prev_token_end))
 
-      pub body_path : {v : Parser} {body : NodeId} (s : Statement text f (at Sub f) r v body) → Path text f (behind_label f) (labeled_slots f) p nothing v (λ us. tree (label_here label_identifier no_op p q) end (tree s.label s.slots us))
-      body_path s = colon_path ⟶ record { at = s.at; further = s.further; pass = s.pass; walked = s.walked; verdict = verdict_of s.verdict (λ y. record { reach = y.reach; near = y.near; goes = weaken_on y.goes (on_label f (label_here label_identifier no_op p q) end r.prev_token_end) }) (λ n. weaken_fails_on n (on_label f (label_here label_identifier no_op p q) end r.prev_token_end)) }
+    pub body_path : {v : Parser} {body : NodeId} (s : Statement text f (at Sub f) r v body) → Path text f (behind_label f) (labeled_slots f) p nothing v (λ us. tree (label_here label_identifier no_op p q) end (tree s.label s.slots us))
+    body_path s = colon_path ⟶ record { at = s.at; further = s.further; pass = s.pass; walked = s.walked; verdict = verdict_of s.verdict (λ y. record { reach = y.reach; near = y.near; goes = weaken_on y.goes (on_label f (label_here label_identifier no_op p q) end r.prev_token_end) }) (λ n. weaken_fails_on n (on_label f (label_here label_identifier no_op p q) end r.prev_token_end)) }
 
 -- ---- what is answered
 
-module _ {text : List ℕ} {f : Flags} {p q : Parser} {id : NodeId} (a : At text f p) (n : p.token.kind ≡ Semicolon → ⊥) (x : Numbered text f (at Expression f) p q id) (i : IsLabel p.token q) where
+module _ {text : List ℕ} {f : Flags} {p q : Parser} {id : NodeId} (a : At text f p) (x : Numbered text f (at Expression f) p q id) (i : IsLabel p.token q) where
   same_label : {s : Span} → s ≡ p.token.span → plain_label node.LabelIdentifier op.None s ≡ label_here label_identifier no_op p q
   same_label {s} e = rw e (ap (λ (v : ℕ). record { kind = label_identifier; op = no_op; flags = 0; span = record { from = p.token.span.start; to = v } }) i.place)
 
@@ -238,7 +237,7 @@ module _ {text : List ℕ} {f : Flags} {p q : Parser} {id : NodeId} (a : At text
       label_grown g = grown_behind x.answer.verdict (grown_then (m.kept ∙ errors_made) g)
 
       pub label_stops : (b : Bool) (v : Parser) (e : Stop) → Stops r v e (NoStatement text (at Sub f) r.prev_token_end) → Stops p v e (NoStatement text (placed b f) p.prev_token_end)
-      label_stops b v e z = stops_behind v e label_same.follows (λ g. label_grown g) (λ k. body_fails a x.answer i n labeled m b k) z
+      label_stops b v e z = stops_behind v e label_same.follows (λ g. label_grown g) (λ k. body_fails a x.answer i labeled m b k) z
 
       pub label_answers : (b : Bool) {v z : Parser} {body made_id : NodeId} (t : Span) (y : Statement text f (at Sub f) r v body) → t.start ≡ p.token.span.start → t.end ≡ v.prev_token_end → MadeHere (plain_label node.LabeledStatement op.None t) (Some label ∷ Some body ∷ []) v z made_id → Statement text f (placed b f) p z made_id
       label_answers b {v} {z} {body} {made_id} t y g h d =
@@ -246,5 +245,5 @@ module _ {text : List ℕ} {f : Flags} {p q : Parser} {id : NodeId} (a : At text
           let k : MadeHere (label_here labeled_statement no_op p v) (Some label ∷ Some body ∷ []) v z made_id = subst (λ (u : Label). MadeHere u (Some label ∷ Some body ∷ []) v z made_id) l d in
           let kw : Keeps p.nodes w.nodes = Keeps-trans x.keeps (Keeps-made made.made) in
           let ky : Keeps w.nodes v.nodes = subst (λ (ns : List Node). Keeps ns v.nodes) m.nodes y.keeps in
-          by_statement (labeled_path a x.answer i n b (body_path a x.answer i n labeled m y)) (same_both label_same y.same) k.stays
+          by_statement (labeled_path a x.answer i b (body_path a x.answer i labeled m y)) (same_both label_same y.same) k.stays
           (two_held k (leaf_held labeled x.keeps) kw (subst (λ (ns : List Node). Holds v.nodes (length ns) (length v.nodes) body.0 y.label y.slots) m.nodes y.holds) ky) (Keeps-trans kw (Keeps-trans ky (Keeps-made k.made)))

@@ -2,3 +2,4 @@ pub mod Labels
 pub mod StatementLists
 pub mod Statements
 pub mod Strings
+pub mod WordStatements

@@ -4,6 +4,7 @@ use Rattle.std.proofs.Common.{ℕ, ◌≡◌, ◌<◌, max, List, [], ◌∷◌,
 use Rattle.std.specs.Prelude.{◌↔◌}
 use Rattle.std.proofs.lemmas.Bool.{false≢true, and_parts, and_from}
 use Rattle.js_base.specs.declared.kind.Kind.TheVariants.{Eof, Ident, Semicolon, Str}
+use Rattle.js_base.specs.declared.kind.Kind.{Kind}
 use Rattle.js_base.specs.declared.span.Span.{Span}
 use Rattle.js_base.specs.Contexts.{has_flag, in_flag}
 use Rattle.js_base.specs.Kinds.{one_of_kinds}
@@ -37,7 +38,7 @@ use Rattle.js_parsing.specs.States.{At, Same, flags_of}
 use Rattle.js_parsing.specs.Nesting.{room}
 use Rattle.js_parsing.specs.Moves.{MadeHere, plain_label}
 use Rattle.js_parsing.specs.Answers.{Grown, Verdict, clean, unclean, Stretch, Underived, Answer, Numbered}
-use Rattle.js_parsing.specs.Statements.{no_link, after_statement, NoStatement, Statement, EndsStatement, NoEnd}
+use Rattle.js_parsing.specs.Statements.{statement_kinds, no_link, after_statement, NoStatement, Statement, EndsStatement, NoEnd}
 use Rattle.js_statements.specs.StatementLists.{at_text_end, with_directives, statements, NoList, OneTaken, Taken, OpeningTaken}
 use Rattle.js_parsing.proofs.Verdicts.{verdict_of, either_way, and_then}
 use Rattle.js_parsing.proofs.Moving.{same_both, same_itself, same_with, beside_nodes}
@@ -226,21 +227,21 @@ module _ {text : List ℕ} {f : Flags} {p : Parser} (a : At text f p) (s : p.tok
   not_eof : p.token.kind ≡ Eof → ⊥
   not_eof e = let k : Str ≡ Eof = sym s ∙ e in absurd (cc)
 
-  pub not_semicolon : p.token.kind ≡ Semicolon → ⊥
-  not_semicolon e = let k : Str ≡ Semicolon = sym s ∙ e in absurd (cc)
+  pub no_own_kind : one_of_kinds statement_kinds p.token.kind ≡ false
+  no_own_kind = ap (one_of_kinds statement_kinds) s
 
   no_label : (X : Test) → Fails rule (Lex text) X end (symbol Labeled f) p.prev_token_end
   no_label X = no_label_at a (λ e. let k : Str ≡ Ident = sym s ∙ e in absurd (cc)) X
 
   -- neither an expression stands here, nor a directive
   pub no_opening : Underived text (at Expression f) p.prev_token_end → NoList text (with_directives f) p.prev_token_end
-  no_opening n = none_first a not_eof (no_directive (underived_string n)) (no_item (statement_fails a not_semicolon no_label true n))
+  no_opening n = none_first a not_eof (no_directive (underived_string n)) (no_item (statement_fails a no_own_kind no_label true n))
 
   module _ {q : Parser} (x : Answer text f (at Expression f) p q) where
     -- no statement ends behind it
     pub opening_unended : NoEnd q → NoList text (with_directives f) p.prev_token_end
     unfolding rule rule_of covers
-    opening_unended m = none_first a not_eof (go (is_literal x.label.kind) refl) (no_item (statement_unended a not_semicolon no_label true x m))
+    opening_unended m = none_first a not_eof (go (is_literal x.label.kind) refl) (no_item (statement_unended a no_own_kind no_label true x m))
       where
         go : (b : Bool) → is_literal x.label.kind ≡ b → Fails rule (Lex text) (plain no_link) end (directives f) p.prev_token_end
         go true t = fails_rule {X' = plain no_link} (λ l cs vs y e. (e.0, refl)) (fails_node (inside_plain refl) (to_semicolon (λ ds i j ls mid d. string_expression d) (string_path x t) ⟶✗ unended x.at (goes_on (row_of x.label x.slots)) m))
@@ -252,7 +253,7 @@ module _ {text : List ℕ} {f : Flags} {p : Parser} (a : At text f p) (s : p.tok
       directive_path t = by_symbol_as {X' = plain no_link} (λ l cs vs y d. (d.0, refl)) (noded_by a (inside_plain refl) (end_path i x e (to_semicolon (λ ds i j ls mid d. string_expression d) (string_path x t))))
 
       item_path : Path text f (after_statement (at ListItem f)) (symbol ListItem f) p nothing r (tree (label_here expression_statement no_op p r) (tree x.label x.slots end))
-      item_path = by_symbol_as {X' = after_statement (at ListItem f)} (λ l cs vs y d. d) (statement_path a not_semicolon no_label true i x e)
+      item_path = by_symbol_as {X' = after_statement (at ListItem f)} (λ l cs vs y d. d) (statement_path a no_own_kind no_label true i x e)
 
       as_directive : is_literal x.label.kind ≡ true → Path text f (plain at_text_end) (with_directives f) p (with_directives f) r (tree (label_here directive no_op p r) (tree x.label x.slots end))
       as_directive t = let d = directive_path t in record {

@@ -6,6 +6,7 @@ use Rattle.js_base.specs.declared.token.Token.{Token}
 use Rattle.std.proofs.lemmas.Bool.{false≢true, or_left, and_from, and_parts}
 use Rattle.js_base.specs.declared.kind.Kind.{Kind}
 use Rattle.js_base.specs.declared.kind.Kind.TheVariants.{Colon, Ident, Yield, Semicolon, RCurly, Eof, RAngle, LCurly, LBrack, At as at_sign}
+use Rattle.js_base.specs.declared.kind.Kind.TheVariants as kind
 use Rattle.js_base.specs.declared.span.Span.{Span}
 use Rattle.js_base.specs.Contexts.{has_flag, in_flag}
 use Rattle.js_base.specs.Kinds.{same_kind, one_of_kinds}
@@ -13,18 +14,18 @@ use Rattle.js_base.proofs.KindLemmas.{kind_of_same}
 use Rattle.js_base.specs.Texts.{words}
 use Rattle.js_grammar.specs.Words.{'let', 'async', 'function', 'class'}
 use Rattle.js_grammar.specs.Trees.{Label, Slots, end, tree, no_op, empty_statement, expression_statement, label_identifier}
-use Rattle.js_grammar.specs.Grammar.{Lexeme, Lexemes, Look, here, seen, is, may_omit, alt, such, ended, semicolon, nothing, next, label_of, ◌▸◌, Takes, is_seq, is_lexeme, is_such, is_node}
+use Rattle.js_grammar.specs.Grammar.{Lexeme, Lexemes, Look, here, seen, is, may_omit, alt, such, ended, semicolon, nothing, next, label_of, ◌▸◌, Takes, is_seq, is_lexeme, is_such, is_node, lexeme, look, ahead, seq}
 use Rattle.js_grammar.specs.Insertion.{Row, after_expression, may_bind, goes_on, by_edge}
 use Rattle.js_grammar.specs.Lexed.{Lexes}
 use Rattle.js_grammar.specs.Lexemes.{is_escaped}
-use Rattle.js_grammar.specs.Parsing.{Test, plain, behind, full, always, still, Goes, Fails}
-use Rattle.js_grammar.specs.Productions.{G, Flags, Symbol, at, other, if_next, not_then, is_one_of, word_or, function_on_line, tok, ListItem, Empty, ExprStmt, Expression, Labeled, LabelIdentifier, Sub}
+use Rattle.js_grammar.specs.Parsing.{Test, plain, behind, full, always, still, Goes, Fails, Admits, Reads}
+use Rattle.js_grammar.specs.Productions.{G, Flags, Symbol, at, other, if_next, not_then, is_one_of, word_or, function_on_line, tok, ListItem, Empty, ExprStmt, Expression, Labeled, LabelIdentifier, Sub, Break, Continue, Debugger, Throw}
 use Rattle.js_grammar.specs.Productions.{Statement as AStatement}
 use Rattle.js_grammar.specs.Productions.{sym as symbol}
 use Rattle.js_grammar.specs.Table.{rule, rule_of, identifier}
 use Rattle.js_grammar.specs.Follow.{row_of, looser, after}
 use Rattle.js_grammar.proofs.Looks.{covers, covered, apart, not_both}
-use Rattle.js_grammar.proofs.Calculus.{◌▹◌, ◌▹✗◌, left, right, ends_by, by_omission, fails_ended, fails_semicolon, fails_rule, fails_node, fails_alt, inside_plain, ends}
+use Rattle.js_grammar.proofs.Calculus.{◌▹◌, ◌▹✗◌, left, right, ends_by, by_omission, fails_ended, fails_semicolon, fails_rule, fails_node, fails_alt, inside_plain, ends, looks, then_by, closes}
 use Rattle.js_grammar.proofs.FollowLaws.{admits, expression_ended}
 use Rattle.js_grammar.proofs.RightEdges.{at_row}
 use Rattle.js_grammar.proofs.First.{starts}
@@ -45,7 +46,7 @@ use Rattle.js_parsing.specs.Lexemes.{Lex}
 use Rattle.js_parsing.specs.States.{At, Same}
 use Rattle.js_parsing.specs.Moves.{IsWholeHere, Moved, MadeHere, LeafTaken, TakesLeaf, plain_label}
 use Rattle.js_parsing.specs.Answers.{Underived, Answer, Numbered, Stops, beside}
-use Rattle.js_parsing.specs.Statements.{placed, link_kinds, no_link, after_statement, NoStatement, Statement, StatementOutcome, EndsStatement, NoEnd, IsLabel}
+use Rattle.js_parsing.specs.Statements.{placed, link_kinds, statement_kinds, no_link, after_statement, NoStatement, Statement, StatementOutcome, EndsStatement, NoEnd, IsLabel}
 use Rattle.js_parsing.proofs.Verdicts.{verdict_of, either_way}
 use Rattle.js_parsing.proofs.Moving.{moves, same_both, same_itself, same_with, beside_nodes}
 use Rattle.js_parsing.proofs.Here.{kind_here, newline_here, told, uncut}
@@ -91,10 +92,10 @@ closers_end : covers closes_here may_close ≡ true
 unfolding covers
 closers_end = refl
 
-abbrev closes_or_line : Look
+abbrev pub closes_or_line : Look
 closes_or_line k w e = one_of_kinds closers k || w
 
-omitted_so : (p : Look) → covers (may_omit p) closes_or_line ≡ true
+pub omitted_so : (p : Look) → covers (may_omit p) closes_or_line ≡ true
 unfolding covers
 omitted_so p = refl
 
@@ -104,12 +105,16 @@ angled k w e = same_kind RAngle k
 abbrev a_link : Look
 a_link k w e = one_of_kinds link_kinds k
 
-abbrev semicolon_look : Look
+abbrev pub semicolon_look : Look
 semicolon_look = is Semicolon
 
 no_angled_link : apart a_link angled ≡ true
 unfolding apart
 no_angled_link = refl
+
+pub semicolon_closes : covers semicolon_look closes_or_line ≡ true
+unfolding covers
+semicolon_closes = refl
 
 no_linked_semicolon : apart a_link semicolon_look ≡ true
 unfolding apart
@@ -122,7 +127,7 @@ no_coloned_semicolon : apart a_colon semicolon_look ≡ true
 unfolding apart
 no_coloned_semicolon = refl
 
-either_of : {T : Type 0} (b c : Bool) → (b || c) ≡ true → (b ≡ true → T) → (c ≡ true → T) → T
+pub either_of : {T : Type 0} (b c : Bool) → (b || c) ≡ true → (b ≡ true → T) → (c ≡ true → T) → T
 either_of true c h g i = g refl
 either_of false c h g i = i h
 
@@ -149,12 +154,12 @@ module _ {text : List ℕ} {f : Flags} {q : Parser} (a : At text f q) where
   unfolding words
   plain_semicolon e s = s.tells.escaped ∙ (s.stood.escaped ∙ ap (λ (k : Kind). is_escaped k s.stood.word) (sym s.tells.kind ∙ e))
 
-  semicolon_path : {X : Test} {r : Parser} (p : Look) → q.token.kind ≡ Semicolon → Moved text f q r → Path text f X (semicolon p) q nothing r (λ us. us)
+  pub semicolon_path : {X : Test} {r : Parser} (p : Look) → q.token.kind ≡ Semicolon → Moved text f q r → Path text f X (semicolon p) q nothing r (λ us. us)
   unfolding covers
   semicolon_path p e s = at_kind a Semicolon e refl ⟼ last_token Semicolon a e (plain_semicolon e s) refl s
 
   -- at a brace and at the end of the text
-  omits_at_end : (r : Row) → ends_statement q.token.kind ≡ true → (q.token.kind ≡ Semicolon → ⊥) → (y : Lexeme) → Lex text q.prev_token_end y → IsTrue (seen (may_omit (goes_on r)) y)
+  pub omits_at_end : (r : Row) → ends_statement q.token.kind ≡ true → (q.token.kind ≡ Semicolon → ⊥) → (y : Lexeme) → Lex text q.prev_token_end y → IsTrue (seen (may_omit (goes_on r)) y)
   omits_at_end r e n y l = subst (λ (k : Kind). may_omit (goes_on r) k y.newline y.escaped ≡ true) (sym (kind_here a refl angle y l)) (covered at_an_end (may_omit (goes_on r)) (end_omits r) q.token.kind y.newline y.escaped (and_from _ _ e (ap not (not_kind Semicolon q.token.kind n))))
     where
       angle : same_kind RAngle q.token.kind ≡ false
@@ -164,7 +169,7 @@ module _ {text : List ℕ} {f : Flags} {q : Parser} (a : At text f q) where
           go true h = absurd (not_both may_close angled no_angle q.token.kind false false e h)
           go false h = h
 
-  no_semicolon : (q.token.kind ≡ Semicolon → ⊥) → (y : Lexeme) → Lex text q.prev_token_end y → same_kind Semicolon y.kind ≡ false
+  pub no_semicolon : (q.token.kind ≡ Semicolon → ⊥) → (y : Lexeme) → Lex text q.prev_token_end y → same_kind Semicolon y.kind ≡ false
   unfolding apart
   no_semicolon n y l = go (same_kind Semicolon y.kind) refl
     where
@@ -208,27 +213,25 @@ module _ {text : List ℕ} {f : Flags} {q : Parser} (a : At text f q) where
       go : (y : Lexeme) → same_kind Colon y.kind ≡ true → IsTrue (seen (starts first (semicolon p) no_link) y) → ⊥
       go y v h = either_of (seen semicolon_look y) _ h (λ s. not_both a_colon semicolon_look no_coloned_semicolon y.kind y.newline y.escaped v s) (λ s. false≢true (sym (ap not v) ∙ (and_parts (not (same_kind Colon y.kind)) _ (and_parts (seen (may_omit p) y) (seen no_link y) s).1).0))
 
-  -- neither stands it here, nor may it be left out
-  not_ended : {X : Test} (p : Look) → (MayEnd q → ⊥) → Fails rule (Lex text) X end (semicolon p) q.prev_token_end
+  -- where no statement may end, nothing closes it
+  pub no_close : (MayEnd q → ⊥) → (y : Lexeme) → Lex text q.prev_token_end y → IsTrue (seen closes_or_line y) → ⊥
   unfolding apart
-  not_ended p m = fails_semicolon p (λ y l h. closed y l (by_kind y (and_parts (same_kind Semicolon y.kind) (not y.escaped) h).0)) (λ y l h. omitted y l (one_of_kinds closers y.kind) refl (covered (may_omit p) closes_or_line (omitted_so p) y.kind y.newline y.escaped h))
+  no_close m y l h = go (one_of_kinds closers y.kind) refl h
     where
       none : one_of_kinds closers q.token.kind ≡ false
-      none = go (one_of_kinds closers q.token.kind) refl
+      none = by (one_of_kinds closers q.token.kind) refl
         where
-          go : (b : Bool) → one_of_kinds closers q.token.kind ≡ b → one_of_kinds closers q.token.kind ≡ false
-          go true h = absurd (m (inl (covered closes_here may_close closers_end q.token.kind false false h)))
-          go false h = h
+          by : (b : Bool) → one_of_kinds closers q.token.kind ≡ b → one_of_kinds closers q.token.kind ≡ false
+          by true h = absurd (m (inl (covered closes_here may_close closers_end q.token.kind false false h)))
+          by false h = h
 
-      closed : (y : Lexeme) → Lex text q.prev_token_end y → one_of_kinds closers y.kind ≡ true → ⊥
-      closed y l h = not_here a closers refl none y l h
+      go : (b : Bool) → one_of_kinds closers y.kind ≡ b → (b || y.newline) ≡ true → ⊥
+      go true e h = not_here a closers refl none y l e
+      go false e h = m (inr (sym (newline_here a y l) ∙ h))
 
-      by_kind : (y : Lexeme) → same_kind Semicolon y.kind ≡ true → one_of_kinds closers y.kind ≡ true
-      by_kind y h = or_left (same_kind Semicolon y.kind) _ h
-
-      omitted : (y : Lexeme) → Lex text q.prev_token_end y → (b : Bool) → one_of_kinds closers y.kind ≡ b → (b || y.newline) ≡ true → ⊥
-      omitted y l true e h = closed y l e
-      omitted y l false e h = m (inr (sym (newline_here a y l) ∙ h))
+  -- neither stands it here, nor may it be left out
+  not_ended : {X : Test} (p : Look) → (MayEnd q → ⊥) → Fails rule (Lex text) X end (semicolon p) q.prev_token_end
+  not_ended p m = fails_semicolon p (λ y l h. no_close m y l (covered semicolon_look closes_or_line semicolon_closes y.kind y.newline y.escaped h)) (λ y l h. no_close m y l (covered (may_omit p) closes_or_line (omitted_so p) y.kind y.newline y.escaped h))
 
   pub unended : (p : Look) → NoEnd q → Fails rule (Lex text) (plain no_link) end (semicolon p) q.prev_token_end
   unended p (inl v) = linked p v
@@ -239,26 +242,31 @@ pub record Ended (text : List ℕ) (f : Flags) (q r : Parser) : Type 0 where
   pub at : At text f r
   pub same : Same q r
   pub nodes : r.nodes ≡ q.nodes
+  pub kept : r.errors ≡ q.errors
   pub further : q.prev_token_end ≤ r.prev_token_end
 
 pub ended_so : {text : List ℕ} {f : Flags} {q r : Parser} → At text f q → EndsStatement q r → Ended text f q r
-ended_so {text} {f} {q} {r} a (v, inl (k, m)) = let s = moves (whole_semicolon a k) m a in record { at = s.at; same = s.same; nodes = s.nodes; further = let x = s.further in let y = a.behind in omega arith }
-ended_so {text} {f} {q} {r} a (v, inr (n, m, e)) = subst (λ (v : Parser). Ended text f q v) (sym e) (record { at = a; same = same_itself; nodes = refl; further = omega arith })
+ended_so {text} {f} {q} {r} a (v, inl (k, m)) = let s = moves (whole_semicolon a k) m a in record { at = s.at; same = s.same; nodes = s.nodes; kept = s.kept; further = let x = s.further in let y = a.behind in omega arith }
+ended_so {text} {f} {q} {r} a (v, inr (n, m, e)) = subst (λ (v : Parser). Ended text f q v) (sym e) (record { at = a; same = same_itself; nodes = refl; kept = refl; further = omega arith })
 
 -- ---- expressions, up to their semicolon
 
 module _ {text : List ℕ} {f : Flags} where
-  -- of an expression, or of what is one
-  pub to_semicolon : {g : G} {p q : Parser} {l : Label} {cs : Slots} → ((ds : Slots) (i j : ℕ) (ls mid : Lexemes) → Takes rule g end ds i ls end j mid → Takes rule (symbol Expression f) end ds i ls end j mid) → Path text f (after (at Expression f)) g p nothing q (tree l cs) → Path text f (plain no_link) (ended by_edge g) p (semicolon (goes_on (row_of l cs))) q (tree l cs)
-  to_semicolon {g} {p} up x = record {
+  -- of what ends where an expression does
+  pub to_semicolon_of : {g : G} {p q : Parser} {l : Label} {cs : Slots} → ((ds : Slots) (i j : ℕ) (ls mid : Lexemes) → Takes rule g end ds i ls end j mid → (y : Lexeme) → IsTrue (seen (closes (by_edge y ds) no_link) (here mid)) → Admits (after (at Expression f)) ds (here mid)) → Path text f (after (at Expression f)) g p nothing q (tree l cs) → Path text f (plain no_link) (ended by_edge g) p (semicolon (goes_on (row_of l cs))) q (tree l cs)
+  to_semicolon_of {g} {p} c x = record {
     at = x.at;
     further = x.further;
     pass = x.pass;
     walked = x.walked;
     verdict = verdict_of x.verdict
-        (λ y. record { reach = y.reach; near = y.near; goes = ends_by y.goes (λ us. refl) (λ y l. refl) (λ ds j ls mid l d h. expression_ended f no_link (up ds p.prev_token_end j ls mid d) (here ls) h) })
-        (λ n. fails_ended n (λ ds j ls mid l d h. expression_ended f no_link (up ds p.prev_token_end j ls mid d) (here ls) h));
+        (λ y. record { reach = y.reach; near = y.near; goes = ends_by y.goes (λ us. refl) (λ y l. refl) (λ ds j ls mid l d h. c ds p.prev_token_end j ls mid d (here ls) h) })
+        (λ n. fails_ended n (λ ds j ls mid l d h. c ds p.prev_token_end j ls mid d (here ls) h));
   }
+
+  -- of an expression, or of what is one
+  pub to_semicolon : {g : G} {p q : Parser} {l : Label} {cs : Slots} → ((ds : Slots) (i j : ℕ) (ls mid : Lexemes) → Takes rule g end ds i ls end j mid → Takes rule (symbol Expression f) end ds i ls end j mid) → Path text f (after (at Expression f)) g p nothing q (tree l cs) → Path text f (plain no_link) (ended by_edge g) p (semicolon (goes_on (row_of l cs))) q (tree l cs)
+  to_semicolon up x = to_semicolon_of (λ ds i j ls mid d y h. expression_ended f no_link (up ds i j ls mid d) y h) x
 
   -- the expression that was read
   pub expression_path : {p q : Parser} → (x : Answer text f (at Expression f) p q) → Path text f (after (at Expression f)) (symbol Expression f) p nothing q (tree x.label x.slots)
@@ -269,7 +277,7 @@ module _ {text : List ℕ} {f : Flags} where
   line_stops i x y l = subst (λ (b : Bool). IsTrue (seen (looser 1 b (row_of x.label x.slots)) y || seen beside y)) i (x.stops y l)
 
   -- and its end
-  pub end_path : {g : G} {p q r : Parser} → f.in_ ≡ true → (x : Answer text f (at Expression f) p q) → EndsStatement q r → Path text f (plain no_link) g p (semicolon (goes_on (row_of x.label x.slots))) q (tree x.label x.slots) → Path text f (plain no_link) g p nothing r (tree x.label x.slots)
+  pub end_path : {g : G} {o p q r : Parser} → f.in_ ≡ true → (x : Answer text f (at Expression f) o q) → EndsStatement q r → Path text f (plain no_link) g p (semicolon (goes_on (row_of x.label x.slots))) q (tree x.label x.slots) → Path text f (plain no_link) g p nothing r (tree x.label x.slots)
   end_path i x (v, inl (k, m)) t = t ⟶ semicolon_path x.at (goes_on (row_of x.label x.slots)) k (moves (whole_semicolon x.at k) m x.at)
   end_path {g} {p} i x (v, inr (n, m, e)) t = subst (λ (w : Parser). Path text f (plain no_link) g p nothing w (tree x.label x.slots)) (sym e) (t ⟝ by_omission (goes_on (row_of x.label x.slots)) (omits x.at (row_of x.label x.slots) (line_stops i x) v m n))
 
@@ -278,7 +286,7 @@ module _ {text : List ℕ} {f : Flags} where
 
 -- ---- what stands before
 
-pub statement_left : (f : Flags) → live (rule (at AStatement f)) ≡ alt (such (at Empty f) always) (such (at Labeled f) always)
+pub statement_left : (f : Flags) → live (rule (at AStatement f)) ≡ alt (symbol Empty f) (alt (symbol Continue f) (alt (symbol Break f) (alt (symbol Throw f) (alt (symbol Debugger f) (symbol Labeled f)))))
 unfolding rule rule_of apart
 statement_left f = refl
 
@@ -370,10 +378,12 @@ pub no_label_at : {text : List ℕ} {f : Flags} {p : Parser} → At text f p →
 unfolding covers apart
 no_label_at {f = f} {p = p} a n X = fails_at a {X = X} (symbol Labeled f) (Ident ∷ []) refl (none_of_one Ident p.token.kind n)
 
-module _ {text : List ℕ} {f : Flags} {p : Parser} (a : At text f p) (n : p.token.kind ≡ Semicolon → ⊥) (nl : (X : Test) → Fails rule (Lex text) X end (symbol Labeled f) p.prev_token_end) where
+module _ {text : List ℕ} {f : Flags} {p : Parser} (a : At text f p) (n : one_of_kinds statement_kinds p.token.kind ≡ false) (nl : (X : Test) → Fails rule (Lex text) X end (symbol Labeled f) p.prev_token_end) where
   no_statement : {X : Test} → Fails rule (Lex text) X end (symbol AStatement f) p.prev_token_end
   unfolding covers apart
-  no_statement = fails_rule {X' = plain full} (λ l cs vs y e. (refl, refl)) (subst (λ (g : G). Goes rule (Lex text) (plain full) end (rule (at AStatement f)) p.prev_token_end g p.prev_token_end (λ us. us) (still 0)) (statement_left f) (lives (rule (at AStatement f))) ▹✗ fails_alt (fails_at a {X = plain full} (symbol Empty f) (Semicolon ∷ []) refl (none_of_one Semicolon p.token.kind n)) (nl (plain full)))
+  no_statement = fails_rule {X' = plain full} (λ l cs vs y e. (refl, refl)) (subst (λ (g : G). Goes rule (Lex text) (plain full) end (rule (at AStatement f)) p.prev_token_end g p.prev_token_end (λ us. us) (still 0)) (statement_left f) (lives (rule (at AStatement f)))
+      ▹✗ fails_alt (fails_at a {X = plain full} (symbol Empty f) statement_kinds refl n) (fails_alt (fails_at a {X = plain full} (symbol Continue f) statement_kinds refl n) (fails_alt (fails_at a {X = plain full} (symbol Break f) statement_kinds refl n)
+      (fails_alt (fails_at a {X = plain full} (symbol Throw f) statement_kinds refl n) (fails_alt (fails_at a {X = plain full} (symbol Debugger f) statement_kinds refl n) (nl (plain full)))))))
 
   pub to_statement : (b : Bool) → Goes rule (Lex text) (after_statement (placed b f)) end (rule (placed b f)) p.prev_token_end (symbol ExprStmt f) p.prev_token_end (λ us. us) (still 0)
   unfolding apart
@@ -391,13 +401,12 @@ no_expression_ends {f = f} {p = p} b x m = fails_rule {X' = plain no_link} (λ l
 
 -- ---- statements
 
--- a statement of the symbol's rule, and a node for it
-pub by_statement : {text : List ℕ} {f : Flags} {n : Symbol} {p q w : Parser} {l : Label} {cs : Slots} {id : NodeId} → Path text f (after_statement n) (rule n) p nothing q (tree l cs) → Same p q → w ≡ record q { nodes = w.nodes } → Holds w.nodes (length p.nodes) (length w.nodes) id.0 l cs → Keeps p.nodes w.nodes → Statement text f n p w id
-by_statement {text} {f} {n} {p} {q} {w} {l} {cs} {id} a b e h k = go w.nodes e h k
+-- what was read as the symbol, and a node for it
+pub by_such_statement : {text : List ℕ} {f : Flags} {n : Symbol} {p q w : Parser} {l : Label} {cs : Slots} {id : NodeId} → Path text f (after_statement n) (such n always) p nothing q (tree l cs) → Same p q → w ≡ record q { nodes = w.nodes } → Holds w.nodes (length p.nodes) (length w.nodes) id.0 l cs → Keeps p.nodes w.nodes → Statement text f n p w id
+by_such_statement {text} {f} {n} {p} {q} {w} {l} {cs} {id} y b e h k = go w.nodes e h k
   where
     go : (ns : List Node) → w ≡ record q { nodes = ns } → Holds w.nodes (length p.nodes) (length w.nodes) id.0 l cs → Keeps p.nodes w.nodes → Statement text f n p w id
     go ns e h k =
-        let y : Path text f (after_statement n) (such n always) p nothing q (tree l cs) = by_symbol_as {X' = after_statement n} (λ l cs vs y d. d) a in
         subst (λ (r : Parser). Statement text f n p r id) (sym e) (record {
           at = beside_nodes ns y.at;
           same = same_with ns b (subst (λ (r : Parser). Keeps p.nodes r.nodes) e k);
@@ -410,6 +419,10 @@ by_statement {text} {f} {n} {p} {q} {w} {l} {cs} {id} a b e h k = go w.nodes e h
           holds = subst (λ (r : Parser). Holds r.nodes (length p.nodes) (length r.nodes) id.0 l cs) e h;
           keeps = subst (λ (r : Parser). Keeps p.nodes r.nodes) e k;
         })
+
+-- a statement of the symbol's rule, and a node for it
+pub by_statement : {text : List ℕ} {f : Flags} {n : Symbol} {p q w : Parser} {l : Label} {cs : Slots} {id : NodeId} → Path text f (after_statement n) (rule n) p nothing q (tree l cs) → Same p q → w ≡ record q { nodes = w.nodes } → Holds w.nodes (length p.nodes) (length w.nodes) id.0 l cs → Keeps p.nodes w.nodes → Statement text f n p w id
+by_statement {n = n} a b e h k = by_such_statement (by_symbol_as {X' = after_statement n} (λ l cs vs y d. d) a) b e h k
 
 module _ {text : List ℕ} {f : Flags} {p : Parser} (a : At text f p) where
   empty_alone : {X : Test} {q : Parser} → p.token.kind ≡ Semicolon → Moved text f p q → Path text f X (symbol AStatement f) p nothing q (tree (label_here empty_statement no_op p q) end)
@@ -432,7 +445,7 @@ module _ {text : List ℕ} {f : Flags} {p : Parser} (a : At text f p) where
   empty_outcome b q (Err Fatal) e m = absurd m
   empty_outcome b q (Err NoMemory) e m = tt
 
-  module _ (n : p.token.kind ≡ Semicolon → ⊥) (nl : (X : Test) → Fails rule (Lex text) X end (symbol Labeled f) p.prev_token_end) where
+  module _ (n : one_of_kinds statement_kinds p.token.kind ≡ false) (nl : (X : Test) → Fails rule (Lex text) X end (symbol Labeled f) p.prev_token_end) where
     pub statement_path : (b : Bool) {q r : Parser} → f.in_ ≡ true → (x : Answer text f (at Expression f) p q) → EndsStatement q r → Path text f (after_statement (placed b f)) (rule (placed b f)) p nothing r (tree (label_here expression_statement no_op p r) (tree x.label x.slots end))
     unfolding rule rule_of covers
     statement_path b i x e = to_statement a n nl b ⟼ by_symbol_as {X' = plain no_link} (λ l cs vs y d. ((and_parts _ _ d.0).0, refl)) (noded_by a (inside_plain refl) (to_expression f p.prev_token_end ⟼ ended_path i x e))
@@ -466,6 +479,10 @@ end_answers p q (Err NoMemory) a v e = tt
 
 pub link_ends : {text : List ℕ} {f : Flags} (p q : Parser) (e : Stop) → At text f p → (p.token.is_on_new_line && one_of_kinds link_kinds p.token.kind) ≡ true → GivesUp (IsUnexpected p) p q e → Stops p q e (NoEnd p)
 link_ends p q e a v g = gives_up _ p q e a g (inl (and_parts p.token.is_on_new_line _ v).1)
+
+-- none of the kinds that begin a statement alone
+pub no_own_kind : (k : Kind) → (k ≡ Semicolon → ⊥) → (k ≡ kind.Break → ⊥) → (k ≡ kind.Continue → ⊥) → (k ≡ kind.Throw → ⊥) → (k ≡ kind.Debugger → ⊥) → one_of_kinds statement_kinds k ≡ false
+no_own_kind k a b c d e = rw (not_kind Semicolon k a, not_kind kind.Break k b, not_kind kind.Continue k c, not_kind kind.Throw k d, not_kind kind.Debugger k e) refl
 
 -- the code found no label
 pub no_colon : (p q : Parser) {t : Token} {b : Bool} → t ≡ p.token → IsTrue b ↔ IsLabel t q → b ≡ false → IsLabel p.token q → ⊥

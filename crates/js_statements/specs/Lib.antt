@@ -1,1 +1,2 @@
 pub mod StatementLists
+pub mod WordStatements

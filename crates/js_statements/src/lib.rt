@@ -3,3 +3,4 @@
 
 pub mod statement;
 pub mod statement_list;
+pub mod word_statement;

@@ -1,6 +1,6 @@
 //! Statements (ECMA-262, chapter 14).
 
-ghost use Rattle.std.specs.Prelude.{◌≡◌, ◌≤◌, ◌&&◌, ◌↔◌, IsTrue, true, MatchResult};
+ghost use Rattle.std.specs.Prelude.{◌≡◌, ◌≤◌, ◌&&◌, ◌↔◌, IsTrue, true, false, MatchResult};
 ghost use Rattle.js_base.specs.Kinds.{one_of_kinds};
 ghost use Rattle.js_base.specs.Contexts.{has_flag, in_flag};
 ghost use Rattle.js_base.specs.declared.kind.Kind.TheVariants.{Colon, Semicolon};
@@ -8,8 +8,12 @@ ghost use Rattle.js_grammar.specs.Productions.{at, ListItem, Sub};
 ghost use Rattle.js_parsing.specs.Answers.{Stops};
 ghost use Rattle.js_parsing.specs.Nesting.{CanNest, room};
 ghost use Rattle.js_parsing.specs.States.{Standing};
-ghost use Rattle.js_parsing.specs.Statements.{EndsStatement, IsLabel, LabelsStatement, NoEnd, TakesAnywhere, TakesStatement, link_kinds};
+ghost use Rattle.js_parsing.specs.Statements.{EndsStatement, IsLabel, LabelsStatement, NoEnd, TakesAnywhere, TakesStatement, link_kinds, statement_kinds};
 
+use crate::word_statement::{
+    parse_break_statement, parse_continue_statement, parse_debugger_statement,
+    parse_throw_statement,
+};
 use js_base::{Kind, Span, Token};
 use js_cursor::{ParserImpl, Stop};
 use js_expressions::sequence::parse_sequence_expression;
@@ -46,7 +50,8 @@ pub fn parse_statement<C: ParserConfig, N: Nested<C>>(
     parse_any_statement(p, nested)
 }
 
-/// A Statement, wherever it stands: an EmptyStatement, a LabelledStatement or an ExpressionStatement.
+/// A Statement, wherever it stands: by the lexeme that it begins with; a LabelledStatement or an ExpressionStatement where
+/// that is none of a statement's own.
 fn parse_any_statement<C: ParserConfig, N: Nested<C>>(
     p: &mut ParserImpl<'_, C>,
     nested: &N,
@@ -56,10 +61,17 @@ fn parse_any_statement<C: ParserConfig, N: Nested<C>>(
     requires allows_in { has_flag in_flag p.old.ctx ≡ true }
     ensures { TakesAnywhere p.old p.new result }
 {
-    if p.at(Kind::Semicolon) {
-        return parse_empty_statement(p);
+    if p.cur_token().escaped() {
+        return Err(p.set_unexpected());
     }
-    parse_expression_or_labeled_statement(p, nested)
+    match p.cur_kind() {
+        Kind::Semicolon => parse_empty_statement(p),
+        Kind::Break => parse_break_statement(p),
+        Kind::Continue => parse_continue_statement(p),
+        Kind::Throw => parse_throw_statement(p, nested),
+        Kind::Debugger => parse_debugger_statement(p),
+        _ => parse_expression_or_labeled_statement(p, nested),
+    }
 }
 
 /// An EmptyStatement (ECMA-262, section 14.4).
@@ -80,7 +92,7 @@ fn parse_expression_or_labeled_statement<C: ParserConfig, N: Nested<C>>(
     requires at { Standing p.old }
     requires nests { CanNest (N.can nested.now) (room p.old) }
     requires allows_in { has_flag in_flag p.old.ctx ≡ true }
-    requires other { p.old.token.kind ≡ Semicolon → ⊥ }
+    requires other { one_of_kinds statement_kinds p.old.token.kind ≡ false }
     ensures { TakesAnywhere p.old p.new result }
 {
     let start = p.cur_start();

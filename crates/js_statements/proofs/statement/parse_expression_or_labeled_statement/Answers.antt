@@ -49,4 +49,4 @@ pub parse_labeled_statement_rest-requires-clause-start : goal.parse_labeled_stat
 parse_labeled_statement_rest-requires-clause-start t c = let i = (c.in_ok-expression.ensures _ _ c.requires.at).answer.further in let s = ap (λ (s : Span). s.start) (c.span.ensures ∙ ap (λ (t : Token). t.span) c.cur_token-first.ensures) in omega arith
 
 pub returns-then-is_label : goal.returns-then-is_label
-returns-then-is_label t c = λ b text f a. c.parse_labeled_statement_rest.ensures text f c.args.p.now _ a c.requires.other (c.span.ensures ∙ ap (λ (t : Token). t.span) c.cur_token-first.ensures) (c.in_ok-expression.ensures text f a) (subst (λ (t : Token). IsLabel t c.parse_sequence_expression.new.p) c.cur_token-first.ensures (c.is_label.ensures.0 c.if-is_label.true)) b
+returns-then-is_label t c = λ b text f a. c.parse_labeled_statement_rest.ensures text f c.args.p.now _ a (c.span.ensures ∙ ap (λ (t : Token). t.span) c.cur_token-first.ensures) (c.in_ok-expression.ensures text f a) (subst (λ (t : Token). IsLabel t c.parse_sequence_expression.new.p) c.cur_token-first.ensures (c.is_label.ensures.0 c.if-is_label.true)) b

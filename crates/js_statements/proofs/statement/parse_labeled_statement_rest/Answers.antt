@@ -25,11 +25,11 @@ statement-requires t c =
     c.requires.nests _ _ (standing m.at, ap (has_flag in_flag) m.same.ctx ∙ made_in c.requires.allows_in d) (omega arith)
 
 pub returns-in_err-body : goal.returns-in_err-body
-returns-in_err-body t c = λ text f first id a n e x i b.
+returns-in_err-body t c = λ text f first id a e x i b.
     let p = err_from_is_err_and c.from_residual-in_err-body.result c.from_residual-in_err-body.ensures.1 in
     let d = c.in_ok-label.ensures in
     let m = c.in_ok-advance.ensures text f (made_at x.answer.at d) in
-    rw (p.1, p.2) (label_stops a n x i e d m b _ _ (c.in_err-body.ensures text f m.at))
+    rw (p.1, p.2) (label_stops a x i e d m b _ _ (c.in_err-body.ensures text f m.at))
 
 pub end_span-span-requires : goal.end_span-span-requires
 end_span-span-requires t c =
@@ -40,7 +40,7 @@ end_span-span-requires t c =
     let i = c.requires.start in let j = a.behind in let k = m.further in let l = m.at.behind in let n = y.further in let s = ap (λ (q : Parser). q.prev_token_end) d.stays in omega arith
 
 pub returns : goal.returns
-returns t c = λ text f first id a n e x i b.
+returns t c = λ text f first id a e x i b.
     let d = c.in_ok-label.ensures in
     let m = c.in_ok-advance.ensures text f (made_at x.answer.at d) in
-    label_answers a n x i e d m b _ (c.in_ok-body.ensures text f m.at) (c.end_span-span.ensures.start ∙ ap (λ (s : Span). s.start) e) c.end_span-span.ensures.end c.in_ok-node.ensures
+    label_answers a x i e d m b _ (c.in_ok-body.ensures text f m.at) (c.end_span-span.ensures.start ∙ ap (λ (s : Span). s.start) e) c.end_span-span.ensures.end c.in_ok-node.ensures

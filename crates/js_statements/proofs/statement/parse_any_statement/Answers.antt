@@ -1,0 +1,22 @@
+use Rattle.std.proofs.Common.{◌≡◌, ◌∙◌, sym, true, false, refl}
+use Rattle.js_parsing.proofs.Giving.{gives_up, fails_escaped}
+use Rattle.js_statements.proofs.Statements.{no_own_kind}
+use Rattle.js_statements.proofs.statement.parse_any_statement.Goals as goal
+
+pub returns-then-escaped : goal.returns-then-escaped
+returns-then-escaped g c = λ b text f a. gives_up _ _ _ c.set_unexpected.result a c.set_unexpected.ensures (fails_escaped a (let e : c.args.p.now.token.escaped ≡ true = search in e))
+
+pub parse_break_statement-requires-clause-word : goal.parse_break_statement-requires-clause-word
+parse_break_statement-requires-clause-word g c = (sym c.cur_kind.ensures ∙ c.in-Break.is, (let e : c.args.p.now.token.escaped ≡ false = search in e))
+
+pub parse_continue_statement-requires-clause-word : goal.parse_continue_statement-requires-clause-word
+parse_continue_statement-requires-clause-word g c = (sym c.cur_kind.ensures ∙ c.in-Continue.is, (let e : c.args.p.now.token.escaped ≡ false = search in e))
+
+pub parse_throw_statement-requires-clause-word : goal.parse_throw_statement-requires-clause-word
+parse_throw_statement-requires-clause-word g c = (sym c.cur_kind.ensures ∙ c.in-Throw.is, (let e : c.args.p.now.token.escaped ≡ false = search in e))
+
+pub parse_debugger_statement-requires-clause-word : goal.parse_debugger_statement-requires-clause-word
+parse_debugger_statement-requires-clause-word g c = (sym c.cur_kind.ensures ∙ c.in-Debugger.is, (let e : c.args.p.now.token.escaped ≡ false = search in e))
+
+pub parse_expression_or_labeled_statement-requires-clause-other : goal.parse_expression_or_labeled_statement-requires-clause-other
+parse_expression_or_labeled_statement-requires-clause-other g c = no_own_kind _ (λ e. c.in_default.not-Semicolon (c.cur_kind.ensures ∙ e)) (λ e. c.in_default.not-Break (c.cur_kind.ensures ∙ e)) (λ e. c.in_default.not-Continue (c.cur_kind.ensures ∙ e)) (λ e. c.in_default.not-Throw (c.cur_kind.ensures ∙ e)) (λ e. c.in_default.not-Debugger (c.cur_kind.ensures ∙ e))

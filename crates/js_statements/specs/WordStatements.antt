@@ -1,0 +1,36 @@
+-- Statements that begin with a word and end with a semicolon (ECMA-262, 14.8, 14.9, 14.14, 14.16).
+use Rattle.std.specs.Prelude.{◌≡◌, ◌⊎◌, true, false, Option, Some, None, Result, Ok, Err}
+use Rattle.js_base.specs.declared.diagnostic.Diagnostic.{Diagnostic}
+use Rattle.js_base.specs.declared.diagnostic.DiagnosticKind.TheVariants.{IllegalNewline}
+use Rattle.js_base.specs.declared.kind.Kind.TheVariants.{Break, Continue, Ident}
+use Rattle.js_base.specs.declared.span.Span.{Span}
+use Rattle.js_tree.specs.declared.id.NodeId.{NodeId}
+use Rattle.js_tree.specs.declared.kind.NodeKind.{NodeKind}
+use Rattle.js_tree.specs.declared.kind.NodeKind.TheVariants.{BreakStatement, ContinueStatement, LabelIdentifier}
+use Rattle.js_tree.specs.declared.op.Op.TheVariants as op
+use Rattle.js_cursor.specs.Moves.{GivesUp, IsUnexpected, Keeps, MayEnd}
+use Rattle.js_cursor.specs.Parsers.{Parser}
+use Rattle.js_cursor.specs.declared.stop.Stop.{Stop}
+use Rattle.js_cursor.specs.declared.stop.Stop.TheVariants.{Fatal, NoMemory}
+use Rattle.js_parsing.specs.Told.{unrelated_at}
+use Rattle.js_parsing.specs.Stands.{StandsHere}
+use Rattle.js_parsing.specs.Moves.{TakesLeaf}
+
+-- the word stands here that such a node begins with
+abbrev pub JumpsHere : NodeKind → Parser → Type 0
+JumpsHere kind p = ((kind ≡ BreakStatement) × StandsHere p Break true) ⊎ ((kind ≡ ContinueStatement) × StandsHere p Continue true)
+
+-- The label behind it; none, where the statement may end; or no name stands where one is due.
+abbrev pub TakesLabel : Parser → Parser → Result (Option NodeId) Stop → Type 0
+TakesLabel old new (Ok None) = MayEnd old × (new ≡ old)
+TakesLabel old new (Ok (Some id)) = (MayEnd old → ⊥) × StandsHere old Ident true × TakesLeaf LabelIdentifier op.None old new id
+TakesLabel old new (Err Fatal) = (MayEnd old → ⊥) × StandsHere old Ident false × GivesUp (IsUnexpected old) old new Fatal
+TakesLabel old new (Err NoMemory) = Unit {0}
+
+-- what is told of `throw` at the end of its line
+abbrev pub late_operand : Span → Diagnostic
+late_operand word = unrelated_at IllegalNewline word
+
+-- That was told; or what stands here is on the same line.
+abbrev pub ChecksOperand : Span → Parser → Parser → Type 0
+ChecksOperand word old new = ((old.token.is_on_new_line ≡ true) × Keeps (late_operand word) old new) ⊎ ((old.token.is_on_new_line ≡ false) × (new ≡ old))

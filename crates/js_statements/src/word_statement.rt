@@ -1,0 +1,123 @@
+//! Statements that begin with a word and end with a semicolon: `break`, `continue`, `throw` and `debugger` (ECMA-262, sections
+//! 14.8, 14.9, 14.14 and 14.16).
+
+ghost use Rattle.std.specs.Prelude.{◌≡◌, true, IfOk};
+ghost use Rattle.js_base.specs.Contexts.{has_flag, in_flag};
+ghost use Rattle.js_base.specs.declared.kind.Kind.TheVariants.{Break, Continue, Debugger, Throw};
+ghost use Rattle.js_grammar.specs.Marks.{Mark};
+ghost use Rattle.js_cursor.specs.Places.{IsAt, goal};
+ghost use Rattle.js_parsing.specs.Stands.{StandsHere};
+ghost use Rattle.js_parsing.specs.Nesting.{CanNest, room};
+ghost use Rattle.js_parsing.specs.States.{Standing};
+ghost use Rattle.js_parsing.specs.Statements.{TakesAnywhere};
+ghost use Rattle.js_statements.specs.WordStatements.{ChecksOperand, JumpsHere, TakesLabel, late_operand};
+
+use crate::statement::end_statement;
+use js_base::{DiagnosticKind, Kind, NoMemory, Span};
+use js_cursor::{ParserImpl, Stop};
+use js_expressions::sequence::parse_sequence_expression;
+use js_lex::ParserConfig;
+use js_operands::primary::parse_leaf;
+use js_parsing::diagnostics::diagnostic_at;
+use js_parsing::lexemes::{advance, stands};
+use js_parsing::nested::Nested;
+use js_parsing::nodes::{make_leaf, make_one, make_optional};
+use js_tree::{NodeId, NodeKind, Op};
+
+/// A DebuggerStatement (ECMA-262, section 14.16).
+#[inline(never)]
+pub fn parse_debugger_statement<C: ParserConfig>(p: &mut ParserImpl<'_, C>) -> Result<NodeId, Stop>
+    requires at { Standing p.old }
+    requires word { StandsHere p.old Debugger true }
+    ensures { TakesAnywhere p.old p.new result }
+{
+    let start = p.cur_start();
+    advance(p)?;
+    end_statement(p)?;
+    let span = p.end_span(start);
+    let node = make_leaf(p, NodeKind::DebuggerStatement, Op::None, span)?;
+    Ok(node)
+}
+
+/// A BreakStatement (ECMA-262, section 14.9).
+pub fn parse_break_statement<C: ParserConfig>(p: &mut ParserImpl<'_, C>) -> Result<NodeId, Stop>
+    requires at { Standing p.old }
+    requires word { StandsHere p.old Break true }
+    ensures { TakesAnywhere p.old p.new result }
+{
+    parse_jump(p, NodeKind::BreakStatement)
+}
+
+/// A ContinueStatement (ECMA-262, section 14.8).
+pub fn parse_continue_statement<C: ParserConfig>(p: &mut ParserImpl<'_, C>) -> Result<NodeId, Stop>
+    requires at { Standing p.old }
+    requires word { StandsHere p.old Continue true }
+    ensures { TakesAnywhere p.old p.new result }
+{
+    parse_jump(p, NodeKind::ContinueStatement)
+}
+
+/// A word, the label that it leads to, or none, and a semicolon.
+#[inline(never)]
+fn parse_jump<C: ParserConfig>(p: &mut ParserImpl<'_, C>, kind: NodeKind) -> Result<NodeId, Stop>
+    requires at { Standing p.old }
+    requires word { JumpsHere kind p.old }
+    ensures { TakesAnywhere p.old p.new result }
+{
+    let start = p.cur_start();
+    advance(p)?;
+    let label = parse_optional_label(p)?;
+    end_statement(p)?;
+    let span = p.end_span(start);
+    let node = make_optional(p, kind, span, label)?;
+    Ok(node)
+}
+
+/// A LabelIdentifier (ECMA-262, section 13.1), or none where the statement may end.
+fn parse_optional_label<C: ParserConfig>(p: &mut ParserImpl<'_, C>) -> Result<Option<NodeId>, Stop>
+    requires { Standing p.old }
+    ensures { TakesLabel p.old p.new result }
+{
+    if p.can_insert_semicolon() {
+        return Ok(None);
+    }
+    if !stands(p, Kind::Ident) {
+        return Err(p.set_unexpected());
+    }
+    let label = parse_leaf(p, NodeKind::LabelIdentifier, Op::None)?;
+    Ok(Some(label))
+}
+
+/// A ThrowStatement (ECMA-262, section 14.14). A new line behind `throw` is told, and reading goes on.
+#[inline(never)]
+pub fn parse_throw_statement<C: ParserConfig, N: Nested<C>>(
+    p: &mut ParserImpl<'_, C>,
+    nested: &N,
+) -> Result<NodeId, Stop>
+    requires at { Standing p.old }
+    requires nests { CanNest (N.can nested.now) (room p.old) }
+    requires allows_in { has_flag in_flag p.old.ctx ≡ true }
+    requires word { StandsHere p.old Throw true }
+    ensures { TakesAnywhere p.old p.new result }
+{
+    let word = p.cur_token().span();
+    advance(p)?;
+    check_operand(p, word)?;
+    let operand = parse_sequence_expression(p, nested)?;
+    end_statement(p)?;
+    let span = p.end_span(word.start);
+    let node = make_one(p, NodeKind::ThrowStatement, Op::None, span, operand)?;
+    Ok(node)
+}
+
+/// Tells of a new line behind a word, whose operand is due on the same line.
+fn check_operand<C: ParserConfig>(p: &mut ParserImpl<'_, C>, word: Span) -> Result<(), NoMemory>
+    requires at { IsAt p.old }
+    requires mark { Mark (goal p.old) p.old.text (late_operand word) }
+    ensures { IfOk result (λ _. ChecksOperand word p.old p.new) }
+{
+    if p.cur_token().is_on_new_line() {
+        p.error(diagnostic_at(DiagnosticKind::IllegalNewline, word))?;
+    }
+    Ok(())
+}
