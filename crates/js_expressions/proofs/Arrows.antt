@@ -87,6 +87,9 @@ use Rattle.js_parsing.proofs.Signs.{none_kept, plain_of}
 use Rattle.js_parsing.proofs.Ahead.{pass_over, reads_other}
 use Rattle.js_parsing.proofs.Tight.{read_plain}
 use Rattle.js_parsing.proofs.Verdicts.{grown_first, grown_then, grown_both}
+use Rattle.js_parsing.specs.Classes.{IsEarly}
+use Rattle.js_parsing.proofs.Classes.{kept_early}
+use Rattle.std.proofs.lemmas.List.Elements.{All-same}
 
 -- ---- what begins like a head, with `=>` behind it, is no operand
 
@@ -451,7 +454,7 @@ from_unmoved text f n {p} {q} w (Ok id) u x = record {
   holds = Holds-wider (length p.nodes) (length w.nodes) (Keeps-longer u.keeps) (omega arith) x.holds;
   keeps = Keeps-trans u.keeps x.keeps;
 }
-from_unmoved text f n {p} {q} w (Err e) u s = stops_behind w e u.same.follows (λ g. subst (λ (ds : List Diagnostic). Grown ds w.errors) u.kept g) (λ z. subst (λ (s : ℕ). Underived text n s) u.place z) s
+from_unmoved text f n {p} {q} w (Err e) u s = stops_behind w e u.same (λ g. subst (λ (ds : List Diagnostic). Grown ds w.errors) u.kept g) (λ z. subst (λ (s : ℕ). Underived text n s) u.place z) s
 
 -- ---- the parser goes back
 
@@ -463,7 +466,7 @@ plain_back {text} {p} {r} t c e (nothing_here d k n) = nothing_here (c ∙ d) (a
 pub went_back : {p q r : Parser} {c : ParserCheckpoint} → may_be_read_again p.token.kind ≡ false → Remembers p c → GoesOn p q → NotedHeads q → GoesBack c q r → Unmoved p r
 went_back {p} {q} {r} o m f n g =
     let b = came_back m f.0 g in
-    let s : Same p r = record { follows = back_follows m f.0 g; options = g.options ∙ f.0.options; ctx = b.ctx; depth = b.depth; visits = b.visits } in
+    let s : Same p r = record { follows = back_follows m f.0 g; options = g.options ∙ f.0.options; ctx = b.ctx; depth = b.depth; visits = b.visits; early = λ h. All-same IsEarly r.errors p.errors b.errors h } in
     record {
       at = λ text f a. record { text_is = b.text ∙ a.text_is; flags_are = flags_same p r b.ctx b.source_type s.options ∙ a.flags_are; at = g.at; plain = plain_back b.token b.cut b.prev_token_end a.plain; behind = let i = b.prev_token_end in let j = ap (λ z. z.span.start) b.token in let k = a.behind in omega arith; heads = heads_kept q r g.text g.source_type g.options (ap (λ (z : Notes). z.failed) g.state) n; kept_last = last_back p.lexer r.lexer b.token b.keeps_tokens (b.tokens o) a.kept_last };
       same = s;
@@ -548,7 +551,7 @@ line_at {text} {f} a (inl (e, c)) = subst (At text f) (sym c.is) (beside_errors 
 line_at {text} {f} a (inr (e, i)) = subst (At text f) (sym i) a
 
 pub line_same : {p q : Parser} → ChecksLine p q → Same p q
-line_same {p} (inl (e, c)) = record { follows = keeps_follows c; options = ap (λ (z : Parser). z.options) c.is; ctx = ap (λ (z : Parser). z.ctx) c.is; depth = ap (λ (z : Parser). z.depth) c.is; visits = ap (λ (z : Parser). z.visits) c.is }
+line_same {p} (inl (e, c)) = record { follows = keeps_follows c; options = ap (λ (z : Parser). z.options) c.is; ctx = ap (λ (z : Parser). z.ctx) c.is; depth = ap (λ (z : Parser). z.depth) c.is; visits = ap (λ (z : Parser). z.visits) c.is; early = λ h. kept_early c refl h }
 line_same {p} (inr (e, i)) = subst (λ (z : Parser). Same p z) (sym i) same_itself
 
 pub line_place : {p q : Parser} → ChecksLine p q → q.prev_token_end ≡ p.prev_token_end
@@ -573,8 +576,8 @@ module _ {text : List ℕ} {f : Flags} {o p q r : Parser} {id : NodeId} (h : Hea
   arrow_stops w e s = go c m s
     where
       go : {q : Parser} → ChecksLine p q → Moved text f q r → Stops r w e (Underived text (at Assignment (arrow_body f)) r.prev_token_end) → Stops o w e (Underived text (at Assignment f) o.prev_token_end)
-      go (inl (l, c)) m s = stops_behind w e (same_both h.same (same_both (line_same (inl (l, c))) m.same)).follows (λ g. grown_then h.kept (grown_both (kept_one c) (grown_then m.kept g))) (λ z. fails_by (late_rule h k l)) s
-      go (inr (n, i)) m s = stops_behind w e (same_both h.same (same_both (line_same (inr (n, i))) m.same)).follows (λ g. grown_then (m.kept ∙ (ap (λ (z : Parser). z.errors) i ∙ h.kept)) g) (λ z. body_fails h k n (subst (λ (z : Parser). Moved text f z r) i m) z) s
+      go (inl (l, c)) m s = stops_behind w e (same_both h.same (same_both (line_same (inl (l, c))) m.same)) (λ g. grown_then h.kept (grown_both (kept_one c) (grown_then m.kept g))) (λ z. fails_by (late_rule h k l)) s
+      go (inr (n, i)) m s = stops_behind w e (same_both h.same (same_both (line_same (inr (n, i))) m.same)) (λ g. grown_then (m.kept ∙ (ap (λ (z : Parser). z.errors) i ∙ h.kept)) g) (λ z. body_fails h k n (subst (λ (z : Parser). Moved text f z r) i m) z) s
 
   arrow_path : {w : Parser} → At text f o → (y : Answer text f (at Assignment (arrow_body f)) r w) → Path text f (after (at Assignment f)) (rule (at Assignment f)) o nothing w (tree (label_here arrow_function_expression no_op o w) (tree h.label h.slots (tree y.label y.slots end)))
   arrow_path {w} a y = go c m
@@ -618,7 +621,7 @@ pub before_stops : {text : List ℕ} {f : Flags} {o p q r : Parser} {id : NodeId
 before_stops (a_head h) k c m w e s = arrow_stops h k c m w e s
 before_stops (refused x n) k c m w e s =
     let t = told_of x n in
-    stops_behind w e (same_both x.answer.same (same_both (line_same c) m.same)).follows (λ g. grown_both (grown_first (line_grown c t.0) m.kept) g) (λ z. t.1) s
+    stops_behind w e (same_both x.answer.same (same_both (line_same c) m.same)) (λ g. grown_both (grown_first (line_grown c t.0) m.kept) g) (λ z. t.1) s
 
 pub before_answers : {text : List ℕ} {f : Flags} {o p q r w z : Parser} {id body made : NodeId} → BeforeArrow text f o p id → p.token.kind ≡ Arrow → ChecksLine p q → Moved text f q r → (s : Span) → At text f o → Numbered text f (at Assignment (arrow_body f)) r w body → s.start ≡ o.token.span.start → s.end ≡ w.prev_token_end → MadeHere (plain_label node_kind.ArrowFunctionExpression op_made.None s) (Some id ∷ Some body ∷ []) w z made → Numbered text f (at Assignment f) o z made
 before_answers (a_head h) k c m s a y b d n = arrow_answers h k c m s a y b d n

@@ -243,8 +243,8 @@ module _ {text : List ℕ} {f : Flags} where
       pub right_less : At text f p → length r.text + 1 - r.prev_token_end < length p.text + 1 - p.prev_token_end
       right_less a = let b = o.place in let g = o.at.behind in let e = d.further in let i = s.further in let j = a.behind in let k = a.at.between.0 in let t = d.at.text_is in let u = a.text_is in omega (arith, ap length t, ap length u)
 
-      pub follows_so : Follows p r
-      follows_so = (same_both s.same (same_both o.same d.same)).follows
+      pub same_so : Same p r
+      same_so = same_both s.same (same_both o.same d.same)
 
       pub grown_so : {ds : List Diagnostic} → Grown r.errors ds → Grown p.errors ds
       grown_so g = grown_behind s.verdict (grown_then (d.kept ∙ o.kept) g)

@@ -338,8 +338,8 @@ module _ {text : List ℕ} {f : Flags} {p q r : Parser} {ids : List (Option Node
   unfolding rule rule_of
   operand_fails n = fails_by {s = at Expression f} (fails_alt s.alone (no_sequence (either_way s.verdict (λ u. u.fails (none_passed s.at s.comma (comma_plain s.at s.comma) m (no_item n))) (λ z. z))))
 
-  pub listing_follows : Follows p r
-  listing_follows = (same_both s.same m.same).follows
+  pub listing_same : Same p r
+  listing_same = same_both s.same m.same
 
   pub listing_grown : {ds : List Diagnostic} → Grown r.errors ds → Grown p.errors ds
   listing_grown g = grown_behind s.verdict (grown_then m.kept g)

@@ -91,8 +91,8 @@ module _ {text : List ℕ} {f : Flags} {p : Parser} (a : At text f p) (k : p.tok
       unfolding covers
       named = sign ⟶ called x.answer refl
 
-      pub v8_follows : Follows p r
-      v8_follows = follows_on m.same.follows x.answer.same.follows
+      pub v8_same : Same p r
+      v8_same = same_both m.same x.answer.same
 
       pub v8_grown : {ds : List Diagnostic} → Grown r.errors ds → Grown p.errors ds
       v8_grown g = grown_then m.kept (grown_behind x.answer.verdict g)
@@ -121,4 +121,4 @@ module _ {text : List ℕ} {f : Flags} {p : Parser} (a : At text f p) (k : p.tok
 
       pub v8_outcome : {start : ℕ} (w : Parser) (t : Result NodeId Stop) → f.v8 ≡ true → start ≡ p.token.span.start → MakesWithArguments node.V8IntrinsicExpression false start name r w t → Outcome text f (at Primary f) p w t
       v8_outcome w (Ok id) o e y = v8_answers o (subst (λ (v : ℕ). WithArguments node.V8IntrinsicExpression false v name r w id) e y)
-      v8_outcome w (Err i) o e y = stops_behind w i v8_follows (λ g. v8_grown g) (λ n. v8_list_fails n) (y text f x.answer.at)
+      v8_outcome w (Err i) o e y = stops_behind w i v8_same (λ g. v8_grown g) (λ n. v8_list_fails n) (y text f x.answer.at)

@@ -51,6 +51,7 @@ use Rattle.js_parsing.proofs.Paths.{Path, ◌⟼◌, ◌⟶◌, ◌⟶✗◌, to
 use Rattle.js_parsing.proofs.Verdicts.{verdict_of, grown_both, grown_on}
 use Rattle.js_parsing.proofs.Giving.{kept_one}
 use Rattle.js_parsing.proofs.Told.{told_same, lexeme_marked}
+use Rattle.js_parsing.specs.Classes.{IsEarly}
 
 abbrev next_kinds : Look
 next_kinds k w e = one_of_kinds (Comma ∷ RParen ∷ RBrack ∷ []) k
@@ -164,7 +165,7 @@ module _ {text : List ℕ} {f : Flags} {p : Parser} (a : At text f p) (k : Stand
       spread_taken = let z = spread_read x.answer in item_of_spread z.pass z.walked z.verdict
 
 -- where none may be spread, that was told first
-module _ {text : List ℕ} {f : Flags} {p o : Parser} {d : Diagnostic} (a : At text f p) (k : StandsHere p Dot3 true) (t : KeepsOne d p o) where
+module _ {text : List ℕ} {f : Flags} {p o : Parser} {d : Diagnostic} (a : At text f p) (k : StandsHere p Dot3 true) (early : IsEarly d) (t : KeepsOne d p o) where
   pub no_spread_here : NoItem text (at Assignment (plus_in f)) p.prev_token_end
   no_spread_here = no_plain_item a k
 
@@ -177,7 +178,7 @@ module _ {text : List ℕ} {f : Flags} {p o : Parser} {d : Diagnostic} (a : At t
   pub spread_told : {n : Symbol} {w : Parser} {id : NodeId} → ItemTaken text f n o w id → ItemTaken text f (at Assignment (plus_in f)) p w id
   spread_told {w = w} {id} y = record {
     at = y.at;
-    same = same_both (told_same t) y.same;
+    same = same_both (told_same t early) y.same;
     further = let i = y.further in let e = ap (λ (z : Parser). z.token.span.start) t.is in omega arith;
     label = y.label;
     slots = y.slots;
@@ -189,11 +190,11 @@ module _ {text : List ℕ} {f : Flags} {p o : Parser} {d : Diagnostic} (a : At t
   }
 
   pub told_stops : (q : Parser) (e : Stop) (F : Type 0) → Stops o q e F → Stops p q e (NoItem text (at Assignment (plus_in f)) p.prev_token_end)
-  told_stops q e F z = stops_behind q e (told_same t).follows (λ g. grown_both (kept_one t) g) (λ n. no_spread_here) z
+  told_stops q e F z = stops_behind q e (told_same t early) (λ g. grown_both (kept_one t) g) (λ n. no_spread_here) z
 
-pub told_outcome : {text : List ℕ} {f : Flags} {p o : Parser} {d : Diagnostic} (w : Parser) (r : Result NodeId Stop) → At text f p → StandsHere p Dot3 true → KeepsOne d p o → ItemOutcome text f (at Argument f) o w r → ItemOutcome text f (at Assignment (plus_in f)) p w r
-told_outcome w (Ok id) a k t y = spread_told a k t y
-told_outcome w (Err e) a k t z = told_stops a k t w e _ z
+pub told_outcome : {text : List ℕ} {f : Flags} {p o : Parser} {d : Diagnostic} (w : Parser) (r : Result NodeId Stop) → At text f p → StandsHere p Dot3 true → IsEarly d → KeepsOne d p o → ItemOutcome text f (at Argument f) o w r → ItemOutcome text f (at Assignment (plus_in f)) p w r
+told_outcome w (Ok id) a k i t y = spread_told a k i t y
+told_outcome w (Err e) a k i t z = told_stops a k i t w e _ z
 
 pub spread_marked : {text : List ℕ} {f : Flags} {p : Parser} (s : Span) → At text f p → StandsHere p Dot3 true → s ≡ p.token.span → Mark (goal p) p.text (spread_at s)
 spread_marked {p = p} s a h e = subst (λ (v : Span). Mark (goal p) p.text (spread_at v)) (sym e) (record {

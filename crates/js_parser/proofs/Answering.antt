@@ -38,6 +38,7 @@ use Rattle.js_parser.proofs.NodeSpans.{reading_lies}
 use Rattle.js_parser.specs.Taken.{IsOf, ReadOrNot, ProgramTaken, ProgramRefused, ProgramStops}
 use Rattle.js_cursor.specs.declared.stop.Stop.{Stop}
 use Rattle.js_cursor.specs.declared.stop.Stop.TheVariants.{Fatal}
+use Rattle.js_parsing.proofs.Classes.{lexical_by}
 
 -- both lists are empty
 pub first_empty : {K : Type 0} (a b : List K) → a ++ b ≡ [] → a ≡ []
@@ -53,20 +54,6 @@ none_of_two a b e f = λ i. e i ++ f i
 
 span_is : (sp : Span) {a b : ℕ} → sp.start ≡ a → sp.end ≡ b → sp ≡ record { start = a; end = b }
 span_is sp x y = λ i. record { start = x i; end = y i }
-
--- what may be wrong with a lexeme is of the lexical class
-lexical_by : {goal : Goal} {text : List ℕ} {s from to : ℕ} (k : DiagnosticKind) → FaultyBehind k goal text s from to → class_of k ≡ Lexical
-lexical_by fault.InvalidCharacter f = refl
-lexical_by fault.BinaryFile f = refl
-lexical_by fault.UnterminatedString f = refl
-lexical_by fault.UnterminatedTemplate f = refl
-lexical_by fault.UnterminatedRegexp f = refl
-lexical_by fault.UnterminatedComment f = refl
-lexical_by fault.InvalidEscape f = refl
-lexical_by fault.InvalidNumber f = refl
-lexical_by fault.RegExpFlag f = refl
-lexical_by fault.HtmlCommentInModule f = refl
-lexical_by _ f = absurd f.condition.2
 
 module _ {text : List ℕ} {s : SourceType} {p : Parser} (t : IsOf text s p) where
   -- it is one of characters
@@ -91,7 +78,7 @@ module _ {text : List ℕ} {s : SourceType} {p : Parser} (t : IsOf text s p) whe
   faults_lie : (kept : List Diagnostic) → All (IsFault (goal_of s) text) kept → All (λ d. LiesIn d.span text) kept
   faults_lie kept h = All-weaker (IsFault (goal_of s) text) (λ d. LiesIn d.span text) (λ d f. record { ordered = (let l = f.faulty.ordered in omega arith); starts_whole = f.faulty.begins_between; ends_whole = f.faulty.ends_between }) kept h
 
-  told_all : (kept found : List Diagnostic) → found ≡ kept ++ p.errors → All (IsFault (goal_of s) text) kept → AreOf (goal_of s) text found
+  abbrev told_all : (kept found : List Diagnostic) → found ≡ kept ++ p.errors → All (IsFault (goal_of s) text) kept → AreOf (goal_of s) text found
   told_all kept found e h = record {
     faults = kept;
     told = p.errors;
@@ -130,6 +117,8 @@ taken_answer {text} {s} {o} {asks} {p} {ids} span nodes out kept a b t e l h = r
   inside = λ z. (reading_lies (program_tree (record { start = 0; end = p.token.span.end }) h.slots) (characters h.is_of) ((by_found text s o p h.slots out.errors (ap (λ (x : LexerOutput). x.errors) e) h.outcome).0 z).reading).1;
   clean = λ z. (by_found text s o p h.slots out.errors (ap (λ (x : LexerOutput). x.errors) e) h.outcome).0 z;
   unclean = λ z. (by_found text s o p h.slots out.errors (ap (λ (x : LexerOutput). x.errors) e) h.outcome).1 z;
+  early = λ q. h.early;
+  stopped = λ q. absurd (false≢true q);
   ended = λ q z. false≢true q;
   childless = λ q. absurd (false≢true q);
   no_tokens = λ q. absurd (false≢true q);
@@ -176,6 +165,8 @@ refused_answer {text} {s} {o} {p} {ids} ns span nodes told out kept n a b k z t 
   inside = λ y. absurd (some y);
   clean = λ y. absurd (some y);
   unclean = λ y. h.none;
+  early = λ q. absurd (false≢true (sym q));
+  stopped = λ q. h.stopped;
   ended = λ q y. some y;
   childless = λ q. refl;
   no_tokens = λ q. ap (λ (x : LexerOutput). x.tokens) e;

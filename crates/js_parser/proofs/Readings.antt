@@ -76,6 +76,8 @@ use Rattle.js_parser.proofs.Walks.{behind_walk, first_comments, first_blanks, al
 use Rattle.js_base.specs.declared.token.Token.{Token}
 use Rattle.js_parsing.proofs.Kept.{kept_for, faults_aside}
 use Rattle.js_parsing.proofs.Paths.{walked_from}
+use Rattle.std.proofs.lemmas.List.Elements.{All-same, All-nil}
+use Rattle.js_parsing.specs.Classes.{IsEarly}
 
 abbrev tree_of : Label → Slots → Tree
 tree_of l cs = record { label = l; slots = cs }
@@ -407,11 +409,13 @@ module _ {text : List ℕ} {f : Flags} {source : SourceType} {o : ParseOptions} 
       keeps = t.same.follows.still.keeps_tokens ∙ same;
       unasked = λ u. unasked_by v q t.at t.walked (same ∙ u) b.tokens;
       kept = λ z w r. subst (λ (c : Bool). IsKeptOf r c q.lexer.kept) same (kept_by z (last_kind q.token.kind k) w r);
+      early = t.same.early (All-same IsEarly v.errors [] b.errors (All-nil IsEarly));
     }
 
   stops_so : (q : Parser) (e : Stop) → AllRefused v q e → ProgramStops text source o q e
   stops_so q Fatal h = let r = h text f b.stands in record {
     is_of = record { at = r.at; text_is = r.follows.text ∙ b.stands.text_is; source_type = r.follows.source_type ∙ b.read_as };
+    stopped = r.stopped (All-same IsEarly v.errors [] b.errors (All-nil IsEarly));
     some = grown_some r.grown;
     none = none r.none;
   }

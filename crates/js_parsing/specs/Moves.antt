@@ -110,4 +110,4 @@ operation_label k from to = record { kind = cond (one_of_kinds (Pipe2 ∷ Amp2 �
 -- A lexeme of this kind is due here: it was passed; or it doesn't stand here, and a diagnostic was kept.
 abbrev pub Passes : Kind → Parser → Parser → Result (Unit {0}) Stop → Type 0
 Passes k old new (Ok x) = (old.token.kind ≡ k) × Moves old new
-Passes k old new (Err e) = (e ≡ Fatal → old.token.kind ≡ k → ⊥) × GivesUp (λ d. Unit {0}) old new e
+Passes k old new (Err e) = (e ≡ Fatal → old.token.kind ≡ k → ⊥) × GivesUp EndsParse old new e

@@ -12,6 +12,8 @@ use Rattle.js_cursor.specs.Places.{IsAt}
 use Rattle.js_cursor.specs.Starts.{is_module}
 use Rattle.js_parsing.specs.Heads.{NotedHeads}
 use Rattle.js_parsing.specs.Lexemes.{KeptLast}
+use Rattle.js_parsing.specs.Classes.{IsEarly}
+use Rattle.std.specs.List.{All}
 
 -- The parameters of productions (ECMA-262, 5.1.5). Expressions are read as a cover grammar: an object literal may have a shorthand with an initialiser (13.2.5).
 abbrev pub flags_of : Parser → Flags
@@ -47,10 +49,11 @@ pub record At (text : List ℕ) (f : Flags) (p : Parser) : Type 0 where
 abbrev pub Standing : Parser → Type 0
 Standing p = At p.text (flags_of p) p
 
--- What a parse function gives back as it was; what was kept before is kept still.
+-- What a parse function gives back as it was; what was kept before is kept still, and of the diagnostics that were kept since each is one behind which reading goes on.
 pub record Same (old new : Parser) : Type 0 where
   pub follows : Follows old new
   pub options : new.options ≡ old.options
   pub ctx : new.ctx ≡ old.ctx
   pub depth : new.depth ≡ old.depth
   pub visits : new.visits ≡ old.visits
+  pub early : All IsEarly old.errors → All IsEarly new.errors

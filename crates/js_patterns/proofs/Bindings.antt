@@ -27,7 +27,7 @@ use Rattle.js_tree.specs.Nodes.{Node}
 use Rattle.js_tree.specs.Holding.{Holds, HoldsAll, Keeps}
 use Rattle.js_tree.proofs.HoldingLemmas.{HoldsAll-none, Keeps-refl, Keeps-trans, Keeps-made}
 use Rattle.js_cursor.specs.Parsers.{Parser}
-use Rattle.js_cursor.specs.Moves.{GivesUp, MovesOn, OnlyMemory, is_last}
+use Rattle.js_cursor.specs.Moves.{GivesUp, MovesOn, OnlyMemory, is_last, IsHere}
 use Rattle.js_cursor.specs.declared.stop.Stop.{Stop}
 use Rattle.js_cursor.specs.declared.stop.Stop.TheVariants.{Fatal, NoMemory}
 use Rattle.js_parsing.specs.Answers.{Underived, Answer, Numbered, Outcome, Stops}
@@ -47,6 +47,8 @@ use Rattle.js_parsing.proofs.Parts.{part_path, part_path_fails, part_sign, part_
 use Rattle.js_parsing.proofs.Paths.{Path, ◌⟼◌, ◌⟶◌, ◌⟶✗◌, at_kind, fails_at, token, last_called, noded, noded_by, by_symbol_as, label_here}
 use Rattle.js_parsing.proofs.Verdicts.{verdict_of, grown_then}
 use Rattle.js_parsing.proofs.Verdicts.{after as grown_behind}
+use Rattle.js_parsing.proofs.Classes.{here_ends}
+use Rattle.js_base.specs.declared.diagnostic.DiagnosticKind.TheVariants.{ExpectClosing}
 
 bracket_plain : (is_word LBrack || same_kind PrivateIdentifier LBrack) ≡ false
 unfolding words
@@ -171,9 +173,9 @@ module _ {text : List ℕ} {f : Flags} {o : Parser} (a : At text f o) (k : o.tok
 pub pattern_moved : {text : List ℕ} {f : Flags} {p q : Parser} → At text f p → (p.token.kind ≡ RBrack) × MovesOn p q → Moved text f p q
 pattern_moved a z = moves (uncut a (ap (same_kind RAngle) z.0), ap is_last z.0) z.1 a
 
-pub pattern_unclosed : {text : List ℕ} {f : Flags} (P : Diagnostic → Type 0) (p q : Parser) (e : Stop) {F : Type 0} → At text f p → (e ≡ Fatal → p.token.kind ≡ RBrack → ⊥) × GivesUp P p q e → (one_of_kinds (RBrack ∷ []) p.token.kind ≡ false → F) → Stops p q e F
-pattern_unclosed P p q Fatal a h g = gives_up P p q Fatal a h.1 (g (other_kind RBrack p.token.kind (h.0 refl)))
-pattern_unclosed P p q NoMemory a h g = tt
+pub pattern_unclosed : {text : List ℕ} {f : Flags} (opening : Option Span) (p q : Parser) (e : Stop) {F : Type 0} → At text f p → (e ≡ Fatal → p.token.kind ≡ RBrack → ⊥) × GivesUp (IsHere ExpectClosing p opening) p q e → (one_of_kinds (RBrack ∷ []) p.token.kind ≡ false → F) → Stops p q e F
+pattern_unclosed opening p q Fatal a h g = gives_up (IsHere ExpectClosing p opening) p q Fatal a (here_ends refl) h.1 (g (other_kind RBrack p.token.kind (h.0 refl)))
+pattern_unclosed opening p q NoMemory a h g = tt
 
 -- ---- an element of a pattern
 
@@ -244,7 +246,7 @@ module _ {text : List ℕ} {f : Flags} {p q : Parser} {bound : NodeId} (a : At t
         item_answers z (initialised_path y.answer) (same_both x.answer.same (same_both m.same y.answer.same)) v.stays (two_held v x.holds x.keeps h i) (Keeps-trans x.keeps (Keeps-trans i (Keeps-made v.made)))
 
     pub no_value : (w : Parser) (e : Stop) → Stops r w e (Underived text (at Assignment (plus_in f)) r.prev_token_end) → Stops p w e (NoItem text (at BElement f) p.prev_token_end)
-    no_value w e z = stops_behind w e (same_both x.answer.same m.same).follows (λ g. grown_behind x.answer.verdict (grown_then m.kept g)) (λ n. value_fails n) z
+    no_value w e z = stops_behind w e (same_both x.answer.same m.same) (λ g. grown_behind x.answer.verdict (grown_then m.kept g)) (λ n. value_fails n) z
 
 pub no_element : {text : List ℕ} (f : Flags) {s : ℕ} → Underived text (at Binding f) s → NoItem text (at BElement f) s
 unfolding rule rule_of

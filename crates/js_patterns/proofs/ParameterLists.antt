@@ -112,7 +112,7 @@ module _ {text : List ℕ} {f : Flags} {p q : Parser} {bound : NodeId} (a : At t
         item_answers z (parameter_path a x.answer k m y.answer) (same_both x.answer.same (same_both m.same y.answer.same)) v.stays (two_held v x.holds x.keeps h i) (Keeps-trans x.keeps (Keeps-trans i (Keeps-made v.made)))
 
     pub no_initialiser : (w : Parser) (e : Stop) → Stops r w e (Underived text (at Assignment (plus_in f)) r.prev_token_end) → Stops p w e (NoItem text (at Param f) p.prev_token_end)
-    no_initialiser w e z = stops_behind w e (same_both x.answer.same m.same).follows (λ g. grown_behind x.answer.verdict (grown_then m.kept g)) (λ n. initialiser_fails a x.answer k m n) z
+    no_initialiser w e z = stops_behind w e (same_both x.answer.same m.same) (λ g. grown_behind x.answer.verdict (grown_then m.kept g)) (λ n. initialiser_fails a x.answer k m n) z
 
 -- ---- their list
 

@@ -238,7 +238,7 @@ module _ {text : List ℕ} {f : Flags} {p q : Parser} {id : NodeId} (a : At text
       label_grown g = grown_behind x.answer.verdict (grown_then (m.kept ∙ errors_made) g)
 
       pub label_stops : (b : Bool) (v : Parser) (e : Stop) → Stops r v e (NoStatement text (at Sub f) r.prev_token_end) → Stops p v e (NoStatement text (placed b f) p.prev_token_end)
-      label_stops b v e z = stops_behind v e label_same.follows (λ g. label_grown g) (λ k. body_fails a x.answer i n labeled m b k) z
+      label_stops b v e z = stops_behind v e label_same (λ g. label_grown g) (λ k. body_fails a x.answer i n labeled m b k) z
 
       pub label_answers : (b : Bool) {v z : Parser} {body made_id : NodeId} (t : Span) (y : Statement text f (at Sub f) r v body) → t.start ≡ p.token.span.start → t.end ≡ v.prev_token_end → MadeHere (plain_label node.LabeledStatement op.None t) (Some label ∷ Some body ∷ []) v z made_id → Statement text f (placed b f) p z made_id
       label_answers b {v} {z} {body} {made_id} t y g h d =

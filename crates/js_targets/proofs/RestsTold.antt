@@ -170,17 +170,17 @@ module _ {places : List ℕ} {old mid : Parser} {from place : ℕ} (z : PlacesTo
       by (unclean g n) = unclean g n
   places_next {new} w (inr t) = record {
     within = w;
-    at = λ text f a. told_at t.1.1 (z.at text f a);
-    same = same_both z.same (told_same t.1.1);
-    is = t.1.1.is ∙ ap (λ (p : Parser). record p { errors = mid.errors ++ t.1.0 ∷ [] }) z.is ∙ ap (λ (ds : List Diagnostic). record old { errors = ds }) (sym (ap (λ (p : Parser). p.errors) t.1.1.is));
+    at = λ text f a. told_at t.1.2 (z.at text f a);
+    same = same_both z.same (told_same t.1.2 t.1.1);
+    is = t.1.2.is ∙ ap (λ (p : Parser). record p { errors = mid.errors ++ t.1.0 ∷ [] }) z.is ∙ ap (λ (ds : List Diagnostic). record old { errors = ds }) (sym (ap (λ (p : Parser). p.errors) t.1.2.is));
     drops = λ h. (opens h).1;
     verdict = unclean (grown z.verdict) (λ h. closed_place t.0 (opens h).0);
     ended = (subst (λ (xs : List ℕ). Each (Ended old.text) xs) q z.ended).1;
   }
     where
       grown : Verdict old.errors mid.errors (Each (Open old.text) (drop from places) → Each (Open old.text) places) (Each (Open old.text) places → ⊥) → Grown old.errors new.errors
-      grown (clean e h) = grown_then e (kept_one t.1.1)
-      grown (unclean g n) = grown_both g (kept_one t.1.1)
+      grown (clean e h) = grown_then e (kept_one t.1.2)
+      grown (unclean g n) = grown_both g (kept_one t.1.2)
 
 pub places_end : {places : List ℕ} {old new : Parser} {from : ℕ} → PlacesTold places old new from → length places ≤ from → RestsTold places old new
 places_end {places} {old} {new} {from} z l = record { at = z.at; same = z.same; is = z.is; verdict = by z.verdict }

@@ -47,6 +47,8 @@ use Rattle.js_targets.proofs.Refused.{refused}
 use Rattle.js_targets.proofs.ReusedNodes.{below_in}
 use Rattle.js_targets.proofs.Targets.{of_short}
 use Rattle.js_parsing.proofs.Verdicts.{and_then, either_way}
+use Rattle.js_parsing.specs.Classes.{EndsParse}
+use Rattle.js_cursor.specs.Moves.{GivesUp}
 
 -- ---- what the conversion says
 
@@ -139,8 +141,8 @@ module _ {text : List ℕ} {f : Flags} {p q : Parser} {left : NodeId} (a : At te
     pub refused_marked : ArrayAnswer q.nodes q1.nodes left [] notes None → (start : ℕ) → start ≡ p.token.span.start → length q1.errors ≡ length p.errors → Mark (goal q1) q1.text (no_target_at start q1.prev_token_end)
     refused_marked v start d n = subst (λ (z : Parser). Mark (goal z) z.text (no_target_at start z.prev_token_end)) (sym e1) (untargeted_marked (none_there v).1 start d (subst (λ (z : Parser). length z.errors ≡ length p.errors) e1 n))
 
-    pub array_refusal : ArrayAnswer q.nodes q1.nodes left [] notes None → (w : Parser) (kept : ℕ) (st : Stop) → kept ≡ length p.errors → Refused kept q1 w st → Stops p w st (Fails rule (Lex text) signs end (such (at ArrayTarget f) always) p.prev_token_end)
-    array_refusal v w kept st i r = refused {q = record q { nodes = q1.nodes }} w kept st i (beside_nodes q1.nodes x.answer.at) (same_with q1.nodes x.answer.same (Keeps-trans x.keeps (none_there v).0)) x.answer.verdict (subst (λ (z : Parser). Refused kept z w st) e1 r) (no_target_fails (none_there v).1)
+    pub array_refusal : ArrayAnswer q.nodes q1.nodes left [] notes None → (w : Parser) (st : Stop) → GivesUp EndsParse q1 w st → Stops p w st (Fails rule (Lex text) signs end (such (at ArrayTarget f) always) p.prev_token_end)
+    array_refusal v w st r = refused {q = record q { nodes = q1.nodes }} w st (beside_nodes q1.nodes x.answer.at) (same_with q1.nodes x.answer.same (Keeps-trans x.keeps (none_there v).0)) x.answer.verdict (subst (λ (z : Parser). GivesUp EndsParse z w st) e1 r) (no_target_fails (none_there v).1)
 
     module _ {target : NodeId} (v : ArrayAnswer q.nodes q1.nodes left [] notes (Some target)) where
       made : Converts q.nodes q1.nodes (x.holds).numbers [] notes (rests_in x.answer.slots) (Some target ∷ []) (slot_of (array_tree x.answer.label (elements_in x.answer.slots)))

@@ -24,14 +24,11 @@ use Rattle.js_cursor.specs.declared.stop.Stop.TheVariants.{Fatal}
 use Rattle.js_parsing.specs.Answers.{Numbered, Stops, Stretch, Verdict}
 use Rattle.js_parsing.specs.Lexemes.{Lex, Walked, spot}
 use Rattle.js_parsing.specs.States.{At, Same}
+use Rattle.js_parsing.specs.Classes.{IsEarly}
 
 -- what is told of a text up to a place that is no target
 abbrev pub no_target_at : ℕ → ℕ → Diagnostic
 no_target_at from to = record { kind = fault.InvalidAssignment; span = record { start = from; end = to }; first = None; second = None }
-
--- A call gave up: there are not so many diagnostics as said, and all stays, or one was kept.
-abbrev pub Refused : ℕ → Parser → Parser → Stop → Type 0
-Refused kept old new e = ((length old.errors ≡ kept → ⊥) × (new ≡ old) × (e ≡ Fatal)) ⊎ GivesUp (λ d. Unit {0}) old new e
 
 -- what is told of an array literal before an assignment operator that needs a simple target
 abbrev pub not_simple_at : ℕ → ℕ → Diagnostic
@@ -47,7 +44,7 @@ assigns_next k w e = one_of_kinds assign_operators k && not e
 
 -- A place behind a rest was looked at: no comma stands there; or one does, and a diagnostic was kept.
 abbrev pub RestTold : ℕ → Parser → Parser → Type 0
-RestTold place old new = (Open old.text place × (new ≡ old)) ⊎ ((Open old.text place → ⊥) × ((d : Diagnostic) × Keeps d old new))
+RestTold place old new = (Open old.text place × (new ≡ old)) ⊎ ((Open old.text place → ⊥) × ((d : Diagnostic) × IsEarly d × Keeps d old new))
 
 -- The same of each of these places.
 pub record RestsTold (places : List ℕ) (old new : Parser) : Type 0 where

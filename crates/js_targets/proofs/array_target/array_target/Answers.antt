@@ -18,7 +18,7 @@ refuse_target-requires-clause-marked g c = λ n.
 pub returns-in_default : goal.returns-in_default
 returns-in_default g c = λ text f first a s k x h.
     let v = subst (λ (found : Option NodeId). ArrayAnswer c.args.p.now.nodes c.convert.new.p.nodes c.args.id [] c.convert.new.rests.items found) c.in_default.is (subst (λ (xs : List ℕ). ArrayAnswer c.args.p.now.nodes c.convert.new.p.nodes c.args.id xs c.convert.new.rests.items c.in_ok-target.field-0) c.new-rests.ensures.items c.in_ok-target.ensures.found) in
-    array_refusal a x c.requires.whole c.requires.equals h c.in_ok-target.ensures.stays v c.refuse_target.new.p c.args.kept c.refuse_target.result k c.refuse_target.ensures
+    array_refusal a x c.requires.whole c.requires.equals h c.in_ok-target.ensures.stays v c.refuse_target.new.p c.refuse_target.result c.refuse_target.ensures
 
 pub tell_commas-requires-clause-ended : goal.tell_commas-requires-clause-ended
 tell_commas-requires-clause-ended g c =

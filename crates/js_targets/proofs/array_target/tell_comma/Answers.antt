@@ -17,7 +17,7 @@ pub returns-in_ok-error : goal.returns-in_ok-error
 returns-in_ok-error g c =
     let e : c.args.p.now.lexer ≡ c.p.inside.lexer = sym (ap (λ (v : Parser). v.lexer) c.p.view_is) in
     let b : GivesBehind c.args.p.now.text c.args.place c.in_ok-next.next = subst (λ (v : List ℕ). GivesBehind v c.args.place c.in_ok-next.next) (sym (ap (λ (s : State). s.text) e) ∙ c.requires.at.at.reads) c.in_ok-next.ensures in
-    inr (not_open b (sym c.kind.ensures ∙ c.in-Comma.is), (_, c.in_ok-error.ensures))
+    inr (not_open b (sym c.kind.ensures ∙ c.in-Comma.is), (_, refl, c.in_ok-error.ensures))
 
 pub returns-in_default : goal.returns-in_default
 returns-in_default g c =
