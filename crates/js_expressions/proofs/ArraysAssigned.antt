@@ -48,7 +48,7 @@ use Rattle.js_expressions.proofs.Assignments.{assign_refused, assign_named}
 use Rattle.js_targets.proofs.Covers.{begins_there, part_there}
 use Rattle.js_parsing.proofs.Giving.{kept_one}
 use Rattle.js_parsing.proofs.Here.{found}
-use Rattle.js_parsing.proofs.MadeNodes.{two_held}
+use Rattle.js_parsing.proofs.MadeNodes.{two_held, made_lies}
 use Rattle.js_parsing.proofs.Moving.{same_both, same_itself, same_with, beside_nodes, stops_behind}
 use Rattle.js_parsing.proofs.Paths.{label_here, read_of, walked_both, walked_from, walked_one}
 use Rattle.js_parsing.proofs.Signs.{grew, none_kept, plain_of}
@@ -177,7 +177,7 @@ module _ {text : List ℕ} {f : Flags} {p q : Parser} (a : At text f p) (x : Ans
           subst (λ (v : Parser). Numbered text f (at Assignment f) p v id) (sym j.stays) (record {
             answer = record {
               at = beside_nodes z.nodes y.answer.at;
-              same = same_with z.nodes (same_both x.same (same_both (once_same t refl) (same_both m.same y.answer.same))) (Keeps-trans ks (Keeps-trans k (Keeps-made j.made)));
+              same = same_with z.nodes (same_both x.same (same_both (once_same t refl) (same_both m.same y.answer.same))) (Keeps-trans ks (Keeps-trans k (Keeps-made j.made))) (made_lies (same_both x.same (same_both (once_same t refl) (same_both m.same y.answer.same))) y.answer.at.at (let i = x.further in let o = once_place t in let g = m.further in let h = m.at.behind in let k = y.answer.further in let l = (once_at t x.at).behind in omega arith) refl j);
               further = let i = x.further in let o = once_place t in let g = m.further in let h = m.at.behind in let k = y.answer.further in let l = (once_at t x.at).behind in omega arith;
               label = label_here assignment_expression (of q.token.kind) p w;
               slots = tree x.label x.slots (tree y.answer.label y.answer.slots end);

@@ -1,6 +1,6 @@
 -- Arrow functions (ECMA-262, 15.3), and where none is derived.
 use Rattle.std.proofs.Common.{ℕ, ◌≡◌, ◌≤◌, ◌<◌, ◌⊎◌, inl, inr, max, List, [], ◌∷◌, length, Bool, true, false, not, cond, ◌&&◌, ◌||◌, IsTrue, Option, Some, None, refl, sym, ap, subst, arith, ◌∙◌}
-use Rattle.std.specs.Prelude.{Result, Ok, Err}
+use Rattle.std.specs.Prelude.{Result, Ok, Err, IsCharBoundary}
 use Rattle.std.proofs.lemmas.Bool.{false≢true, and_parts, and_from, or_left, or_right}
 use Rattle.js_base.specs.declared.kind.Kind.{Kind}
 use Rattle.js_base.specs.declared.kind.Kind.TheVariants.{Arrow, Await, Ident, LParen, LCurly, RAngle, Yield}
@@ -61,13 +61,13 @@ use Rattle.js_cursor.proofs.Later.{keeps_follows}
 use Rattle.js_parsing.specs.Answers.{Underived, Answer, Answers, Numbered, Outcome, Refuses, Stretch, Stops, Grown, Verdict, clean, unclean}
 use Rattle.js_cursor.specs.Notes.{Notes}
 use Rattle.js_parsing.specs.Contexts.{arrow_body}
-use Rattle.js_expressions.specs.Arrows.{head_of, late_arrow, ArrowBehind, BeforeArrow, a_head, refused, ChecksLine, FindsHead, Head, LooksForHead, IsHead, IsHeadHere, IsRefusedHead, NoArrowHere, NoHeadHere, Single, Unmoved}
+use Rattle.js_expressions.specs.Arrows.{head_of, late_arrow, ArrowBehind, BeforeArrow, a_head, refused, ChecksLine, FindsHead, Head, LooksForHead, IsHead, IsHeadHere, IsRefusedHead, NoArrowHere, NoHeadHere, Single, Unmoved, NoneLooked}
 use Rattle.js_parsing.specs.Heads.{NoHead, NotedHeads}
 use Rattle.js_cursor.specs.Tokens.{may_be_read_again}
 use Rattle.js_parsing.proofs.KeptTokens.{before_back, last_back}
 use Rattle.js_parsing.specs.Lexemes.{Lex, spot}
 use Rattle.js_parsing.specs.Moves.{Moved, MadeHere, LeafTaken, TakesLeaf, plain_label}
-use Rattle.js_parsing.specs.States.{At, Same, Standing, flags_of, IsPlain, whole, sign, nothing as nothing_here}
+use Rattle.js_parsing.specs.States.{At, Same, Standing, flags_of, IsPlain, whole, sign, nothing as nothing_here, NodesLie, SpansLie}
 use Rattle.js_targets.proofs.ArraysBeforeSigns.{not_wide}
 use Rattle.js_targets.proofs.Assigned.{arrow_passes, only_arrow}
 use Rattle.js_expressions.proofs.Assignments.{by_second, second}
@@ -78,8 +78,8 @@ use Rattle.js_expressions.proofs.Exponents.{longer}
 use Rattle.js_parsing.proofs.Told.{beside_errors}
 use Rattle.js_parsing.proofs.Giving.{kept_one}
 use Rattle.js_parsing.proofs.Here.{alike, angled, found, plainly, one_plain, newline_here, told, uncut}
-use Rattle.js_parsing.proofs.MadeNodes.{leaf_held, node_held, two_held}
-use Rattle.js_parsing.proofs.Moving.{beside_nodes, flags_same, heads_kept, same_both, same_itself, same_with, stops_behind}
+use Rattle.js_parsing.proofs.MadeNodes.{leaf_held, node_held, two_held, one_lies, LabelLies, from_start}
+use Rattle.js_parsing.proofs.Moving.{beside_nodes, flags_same, heads_kept, same_both, same_itself, same_with, stops_behind, nodes_lie}
 use Rattle.js_operands.proofs.Operands.{by_path, by_such, name_test}
 use Rattle.js_patterns.proofs.Bindings.{bound_path, ended_by, then_any}
 use Rattle.js_parsing.proofs.Paths.{reads, Path, ◌⟼◌, ◌⟶◌, ◌⟶✗◌, fails_at, token, last_called, noded, noded_by, by_symbol_as, label_here, read_of, walked_both, walked_from, walked_one}
@@ -314,13 +314,13 @@ module _ {text : List ℕ} {f : Flags} {p : Parser} {t : Token} (a : At text f p
 
 -- ---- what is answered of a head
 
-head_of_path : {text : List ℕ} {f : Flags} {p q : Parser} (w : Parser) {l : Label} {cs : Slots} {id : NodeId} → Path text f (plain full) (head_of f) p nothing q (tree l cs) → q.errors ≡ p.errors → Same p q → w ≡ record q { nodes = w.nodes } → Holds w.nodes (length p.nodes) (length w.nodes) id.0 l cs → Keeps p.nodes w.nodes → Head text f p w id
-head_of_path {text} {f} {p} {q} w {l} {cs} {id} r e s n h k = go w.nodes n h k
+head_of_path : {text : List ℕ} {f : Flags} {p q : Parser} (w : Parser) {l : Label} {cs : Slots} {id : NodeId} → Path text f (plain full) (head_of f) p nothing q (tree l cs) → q.errors ≡ p.errors → Same p q → w ≡ record q { nodes = w.nodes } → Holds w.nodes (length p.nodes) (length w.nodes) id.0 l cs → Keeps p.nodes w.nodes → (IsCharBoundary p.text p.token.span.start → NodesLie q.text q.nodes → NodesLie q.text w.nodes) → Head text f p w id
+head_of_path {text} {f} {p} {q} w {l} {cs} {id} r e s n h k i = go w.nodes n h k i
   where
-    go : (ns : List Node) → w ≡ record q { nodes = ns } → Holds w.nodes (length p.nodes) (length w.nodes) id.0 l cs → Keeps p.nodes w.nodes → Head text f p w id
-    go ns n h k = subst (λ (z : Parser). Head text f p z id) (sym n) (record {
+    go : (ns : List Node) → w ≡ record q { nodes = ns } → Holds w.nodes (length p.nodes) (length w.nodes) id.0 l cs → Keeps p.nodes w.nodes → (IsCharBoundary p.text p.token.span.start → NodesLie q.text q.nodes → NodesLie q.text w.nodes) → Head text f p w id
+    go ns n h k i = subst (λ (z : Parser). Head text f p z id) (sym n) (record {
       at = beside_nodes ns r.at;
-      same = same_with ns s (subst (λ (z : Parser). Keeps p.nodes z.nodes) n k);
+      same = same_with ns s (subst (λ (z : Parser). Keeps p.nodes z.nodes) n k) (λ b z. subst (λ (v : Parser). NodesLie q.text v.nodes) n (i b z));
       further = r.further;
       kept = e;
       label = l;
@@ -355,7 +355,7 @@ name_found {p} {q} {w} {id} a b e s =
 
 -- parameters in parentheses
 pub parenthesized_head : {text : List ℕ} {f : Flags} {p q : Parser} {id : NodeId} → At text f p → p.token.kind ≡ LParen → Numbered text f (at Params f) p q id → length q.errors ≡ length p.errors → Head text f p q id
-parenthesized_head {p = p} {q = q} a k x e = head_of_path q (parameters_path a k x.answer) (by x.answer.verdict) x.answer.same refl x.holds x.keeps
+parenthesized_head {p = p} {q = q} a k x e = head_of_path q (parameters_path a k x.answer) (by x.answer.verdict) x.answer.same refl x.holds x.keeps (λ b z. z)
   where
     by : {C B : Type 0} → Verdict p.errors q.errors C B → q.errors ≡ p.errors
     by (clean i c) = i
@@ -373,6 +373,7 @@ single_head {text} {f} {p} {q} {v} {w} {name} {parameter} {id} s a k e b t n m =
     let hw = node_held m (HoldsAll-one parameter hv) in
     head_of_path w (subst (λ (x : ℕ). Path text f (plain full) (head_of f) p nothing t.mid (tree (label_to formal_parameters x) (tree (label_to formal_parameter x) (tree (label_to binding_identifier x) end (hole end)) end))) (sym i) (name_path a k e t.moved)) t.moved.kept t.moved.same (m.stays ∙ ap (λ (z : Parser). record z { nodes = w.nodes }) (n.stays ∙ ap (λ (z : Parser). record z { nodes = v.nodes }) t.made.stays))
     (subst (λ (x : Span). Holds w.nodes (length p.nodes) (length w.nodes) id.0 (plain_label node_kind.FormalParameters op_made.None x) (tree (plain_label node_kind.FormalParameter op_made.None x) (tree (label_to binding_identifier p.token.span.end) end (hole end)) end)) b hw) (Keeps-trans kv (Keeps-made m.made))
+    (λ c z. let y = from_start {l = plain_label node_kind.FormalParameters op_made.None s} t.moved.same t.moved.at.at (let j = t.moved.further in omega arith) (ap (λ (x : Span). record { from = x.start; to = x.end }) b ∙ ap (λ (x : ℕ). record { from = p.token.span.start; to = x }) i) c in one_lies m y (one_lies n y (one_lies t.made (subst (λ (x : Span). LabelLies t.mid.text (plain_label node_kind.BindingIdentifier op_made.None x)) b y) z)))
   where
     label_to : NodeKind → ℕ → Label
     label_to n x = record { kind = n; op = no_op; flags = 0; span = record { from = p.token.span.start; to = x } }
@@ -385,18 +386,18 @@ module _ {p q : Parser} {kept : ℕ} (a : Standing p) (k : p.token.kind ≡ LPar
   pub head_read : {id : NodeId} → Answers (at Params) p q (Ok id) → IsHead kept q true → IsHeadHere p q id
   head_read x h = (h.1, λ text f a. parenthesized_head a k (x text f a) (h.0 ∙ n))
 
-  pub head_unread : {id : NodeId} → Answers (at Params) p q (Ok id) → IsHead kept q false → GoesOn p q × NotedHeads q × NoHeadHere p
-  head_unread x h = let y = (x _ _ a).answer in ((y.same.follows, y.at.at), y.at.heads, λ text f a. by h (x text f a).answer a)
+  pub head_unread : {id : NodeId} → Answers (at Params) p q (Ok id) → IsHead kept q false → NoneLooked p q
+  head_unread x h = let y = (x _ _ a).answer in ((y.same.follows, y.at.at), y.at.heads, λ text f a. by h (x text f a).answer a, λ w. (y.same.lies w).1)
     where
       by : {text : List ℕ} {f : Flags} → (length q.errors ≡ kept → ⊥) ⊎ (q.token.kind ≡ Arrow → ⊥) → Answer text f (at Params f) p q → At text f p → NoHead text f p.prev_token_end
       by (inl m) x a = unclean_head a x (λ e. m (e ∙ sym n))
       by (inr m) x a = unarrowed a x m
 
-pub head_refused : {p q : Parser} (e : Stop) → Standing p → e ≡ Fatal → ((text : List ℕ) (f : Flags) → At text f p → Stops p q e (Underived text (at Params f) p.prev_token_end)) → GoesOn p q × NotedHeads q × NoHeadHere p
+pub head_refused : {p q : Parser} (e : Stop) → Standing p → e ≡ Fatal → ((text : List ℕ) (f : Flags) → At text f p → Stops p q e (Underived text (at Params f) p.prev_token_end)) → NoneLooked p q
 head_refused {p} {q} e a i s = go (λ text f b. subst (λ (v : Stop). Stops p q v (Underived text (at Params f) p.prev_token_end)) i (s text f b))
   where
-    go : ((text : List ℕ) (f : Flags) → At text f p → Refuses p q (Underived text (at Params f) p.prev_token_end)) → GoesOn p q × NotedHeads q × NoHeadHere p
-    go x = let y = x _ _ a in ((y.follows, y.at), y.heads, λ text f b. no_parameters b (x text f b).none)
+    go : ((text : List ℕ) (f : Flags) → At text f p → Refuses p q (Underived text (at Params f) p.prev_token_end)) → NoneLooked p q
+    go x = let y = x _ _ a in ((y.follows, y.at), y.heads, λ text f b. no_parameters b (x text f b).none, y.lies)
 
 pub some_found : (p q : Parser) (id : NodeId) (r : Option NodeId) → r ≡ Some id → FindsHead p q r → IsHeadHere p q id
 some_found p q id r e h = subst (FindsHead p q) e h
@@ -404,7 +405,7 @@ some_found p q id r e h = subst (FindsHead p q) e h
 pub none_found : (p q : Parser) (r : Option NodeId) → r ≡ None → FindsHead p q r → Unmoved p q × NoArrowHere p
 none_found p q r e h = subst (FindsHead p q) e h
 
-pub none_looked : (p q : Parser) (r : Option NodeId) → r ≡ None → LooksForHead p q r → GoesOn p q × NotedHeads q × NoHeadHere p
+pub none_looked : (p q : Parser) (r : Option NodeId) → r ≡ None → LooksForHead p q r → NoneLooked p q
 none_looked p q r e h = subst (LooksForHead p q) e h
 
 pub some_looked : (p o q : Parser) (id : NodeId) (r : Option NodeId) → o ≡ p → r ≡ Some id → LooksForHead o q r → IsHeadHere p q id
@@ -463,10 +464,10 @@ plain_back {text} {p} {r} t c e (whole d n x) = whole (c ∙ d) (λ k. n (sym (a
 plain_back {text} {p} {r} t c e (sign d k x) = sign (c ∙ d) (ap (λ z. z.kind) t ∙ k) (subst (λ (v : ℕ). GivesLexeme division cut text v r.token) (sym e) (subst (λ (v : Token). GivesLexeme division cut text p.prev_token_end v) (sym t) x))
 plain_back {text} {p} {r} t c e (nothing_here d k n) = nothing_here (c ∙ d) (ap (λ z. z.kind) t ∙ k) (subst (λ (v : ℕ). (y : Lexeme) → LexemeBehind division text v y → ⊥) (sym e) n)
 
-pub went_back : {p q r : Parser} {c : ParserCheckpoint} → may_be_read_again p.token.kind ≡ false → Remembers p c → GoesOn p q → NotedHeads q → GoesBack c q r → Unmoved p r
-went_back {p} {q} {r} o m f n g =
+pub went_back : {p q r : Parser} {c : ParserCheckpoint} → may_be_read_again p.token.kind ≡ false → Remembers p c → GoesOn p q → NotedHeads q → (SpansLie p → NodesLie q.text q.nodes) → GoesBack c q r → Unmoved p r
+went_back {p} {q} {r} o m f n l g =
     let b = came_back m f.0 g in
-    let s : Same p r = record { follows = back_follows m f.0 g; options = g.options ∙ f.0.options; ctx = b.ctx; depth = b.depth; visits = b.visits; early = λ h. All-same IsEarly r.errors p.errors b.errors h } in
+    let s : Same p r = record { follows = back_follows m f.0 g; options = g.options ∙ f.0.options; ctx = b.ctx; depth = b.depth; visits = b.visits; early = λ h. All-same IsEarly r.errors p.errors b.errors h; lies = λ h. (g.at.lies.starts_whole, nodes_lie {q} {r} g.text g.nodes (l h)) } in
     record {
       at = λ text f a. record { text_is = b.text ∙ a.text_is; flags_are = flags_same p r b.ctx b.source_type s.options ∙ a.flags_are; at = g.at; plain = plain_back b.token b.cut b.prev_token_end a.plain; behind = let i = b.prev_token_end in let j = ap (λ z. z.span.start) b.token in let k = a.behind in omega arith; heads = heads_kept q r g.text g.source_type g.options (ap (λ (z : Notes). z.failed) g.state) n; kept_last = last_back p.lexer r.lexer b.token b.keeps_tokens (b.tokens o) a.kept_last };
       same = s;
@@ -551,7 +552,7 @@ line_at {text} {f} a (inl (e, c)) = subst (At text f) (sym c.is) (beside_errors 
 line_at {text} {f} a (inr (e, i)) = subst (At text f) (sym i) a
 
 pub line_same : {p q : Parser} → ChecksLine p q → Same p q
-line_same {p} (inl (e, c)) = record { follows = keeps_follows c; options = ap (λ (z : Parser). z.options) c.is; ctx = ap (λ (z : Parser). z.ctx) c.is; depth = ap (λ (z : Parser). z.depth) c.is; visits = ap (λ (z : Parser). z.visits) c.is; early = λ h. kept_early c refl h }
+line_same {p} (inl (e, c)) = record { follows = keeps_follows c; options = ap (λ (z : Parser). z.options) c.is; ctx = ap (λ (z : Parser). z.ctx) c.is; depth = ap (λ (z : Parser). z.depth) c.is; visits = ap (λ (z : Parser). z.visits) c.is; early = λ h. kept_early c refl h; lies = λ h. subst SpansLie (sym c.is) h }
 line_same {p} (inr (e, i)) = subst (λ (z : Parser). Same p z) (sym i) same_itself
 
 pub line_place : {p q : Parser} → ChecksLine p q → q.prev_token_end ≡ p.prev_token_end
@@ -599,7 +600,7 @@ module _ {text : List ℕ} {f : Flags} {o p q r : Parser} {id : NodeId} (h : Hea
       let e : r.nodes ≡ p.nodes = m.nodes ∙ line_nodes c in
       let g : Holds w.nodes (length p.nodes) (length w.nodes) body.0 y.answer.label y.answer.slots = subst (λ (ns : List Node). Holds w.nodes (length ns) (length w.nodes) body.0 y.answer.label y.answer.slots) e y.holds in
       let i : Keeps p.nodes w.nodes = subst (λ (ns : List Node). Keeps ns w.nodes) e y.keeps in
-      by_path (arrow_path a y.answer) (same_both h.same (same_both (line_same c) (same_both m.same y.answer.same))) x.stays (λ j u. y.answer.stops j u) y.answer.row (two_held x h.holds h.keeps g i) (Keeps-trans h.keeps (Keeps-trans i (Keeps-made x.made)))
+      by_path (arrow_path a y.answer) (same_both h.same (same_both (line_same c) (same_both m.same y.answer.same))) x.stays (λ j u. y.answer.stops j u) y.answer.row (two_held x h.holds h.keeps g i) (Keeps-trans h.keeps (Keeps-trans i (Keeps-made x.made))) refl (one_lies x)
 
 -- ---- and behind what was no head
 
@@ -639,7 +640,7 @@ before_answers {text} {f} {o} {p} {q} {r} {w} {z} {id} {body} {made} (refused v 
       walked = walked_both v.answer.walked (walked_both (walked_from (line_spot c) (walked_one m)) y.answer.walked);
       verdict = unclean (behind (grown_first (line_grown c t.0) m.kept) y.answer.verdict) t.1;
     } in
-    by_such path (same_both v.answer.same (same_both (line_same c) (same_both m.same y.answer.same))) x.stays (λ j u. y.answer.stops j u) y.answer.row (two_held x v.holds v.keeps g i) (Keeps-trans v.keeps (Keeps-trans i (Keeps-made x.made)))
+    by_such path (same_both v.answer.same (same_both (line_same c) (same_both m.same y.answer.same))) x.stays (λ j u. y.answer.stops j u) y.answer.row (two_held x v.holds v.keeps g i) (Keeps-trans v.keeps (Keeps-trans i (Keeps-made x.made))) refl (one_lies x)
 
 -- what is told of `=>` on a new line
 pub late_marked : {text : List ℕ} {f : Flags} {p : Parser} (s : Span) → At text f p → p.token.kind ≡ Arrow → p.token.is_on_new_line ≡ true → s ≡ p.token.span → Mark (goal p) p.text (late_arrow s)

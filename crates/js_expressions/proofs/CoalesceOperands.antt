@@ -44,7 +44,7 @@ use Rattle.js_expressions.proofs.Exponents.{lexes_all}
 use Rattle.js_parsing.proofs.Told.{beside_errors}
 use Rattle.js_parsing.proofs.Giving.{gives_up, kept_one}
 use Rattle.js_parsing.proofs.Here.{kind_here, begins_here}
-use Rattle.js_parsing.proofs.MadeNodes.{two_held}
+use Rattle.js_parsing.proofs.MadeNodes.{two_held, made_lies}
 use Rattle.js_parsing.proofs.Moving.{stops_behind, same_both, same_itself, same_with, beside_nodes}
 use Rattle.js_parsing.proofs.Paths.{skips, not_here, read_of, walked_both, walked_one, walked_to}
 use Rattle.js_parsing.proofs.Phrases.{narrow_operand}
@@ -231,7 +231,7 @@ module _ {text : List ℕ} {f : Flags} where
       pub checked : {w : Parser} {mixed : Bool} {start found : ℕ} → At text f p → mixed ≡ is_mixed → found ≡ length p.errors → ChecksMixed start mixed found v w (Ok tt) → Checked text f p v w pair_label pair_slots pair_pass
       checked {w} {mixed} {start} {found} a e i (inl c) = subst (λ (z : Parser). Checked text f p v z pair_label pair_slots pair_pass) (sym c.1.is) (record {
         at = beside_errors x.answer.at (subst IsAt c.1.is c.1.at);
-        same = record { follows = subst (Follows v) c.1.is (keeps_follows c.1); options = refl; ctx = refl; depth = refl; visits = refl; early = λ w. one_early v.errors refl w };
+        same = record { follows = subst (Follows v) c.1.is (keeps_follows c.1); options = refl; ctx = refl; depth = refl; visits = refl; early = λ w. one_early v.errors refl w; lies = λ w. w };
         nodes = refl;
         place = refl;
         spot_is = refl;
@@ -353,7 +353,7 @@ module _ {text : List ℕ} {f : Flags} where
         pub operands_step : {z : Parser} {made : NodeId} → MadeHere pair_label (Some left ∷ Some right ∷ []) w z made → Operands text f p z made
         operands_step {z} {made} n = subst (λ (u : Parser). Operands text f p u made) (sym n.stays) (record {
           at = beside_nodes z.nodes c.at;
-          same = same_with z.nodes (same_both s.same (same_both m.same (same_both x.answer.same c.same))) (Keeps-trans s.keeps (Keeps-trans right_keeps (Keeps-made n.made)));
+          same = same_with z.nodes (same_both s.same (same_both m.same (same_both x.answer.same c.same))) (Keeps-trans s.keeps (Keeps-trans right_keeps (Keeps-made n.made))) (made_lies (same_both s.same (same_both m.same (same_both x.answer.same c.same))) c.at.at (let a = s.further in let b = forward in let e = c.place in omega arith) (ap (λ (v : ℕ). record { from = p.token.span.start; to = v }) (sym c.place)) n);
           further = let a = s.further in let b = forward in let e = c.place in omega arith;
           label = pair_label;
           slots = pair_slots;

@@ -52,7 +52,7 @@ use Rattle.js_parsing.specs.Moves.{Moved, MadeHere, plain_label}
 use Rattle.js_parsing.specs.Answers.{Underived, Answer, Numbered, Stops, beside}
 use Rattle.js_targets.proofs.Assigned.{an_assign, unassigned, nothing_assigned}
 use Rattle.js_parsing.proofs.Here.{told, kind_here}
-use Rattle.js_parsing.proofs.MadeNodes.{node_held}
+use Rattle.js_parsing.proofs.MadeNodes.{node_held, one_lies}
 use Rattle.js_parsing.proofs.Moving.{same_both}
 use Rattle.js_operands.proofs.Operands.{by_path}
 use Rattle.js_parsing.proofs.Paths.{Path, ◌⟼◌, ◌⟶◌, ◌⟶✗◌, fails_at, not_here, token, called, last_called, noded_by, by_symbol_as, label_here}
@@ -263,7 +263,7 @@ conditional_answers {text} {f} {p} {q} {r} {u} {v} {w} {z} {test} {first} {secon
     let t : Holds w.nodes (length u.nodes) (length w.nodes) second.0 y.answer.label y.answer.slots = subst (λ (ns : List Node). Holds w.nodes (length ns) (length w.nodes) second.0 y.answer.label y.answer.slots) d.nodes y.holds in
     let kt : Keeps u.nodes w.nodes = subst (λ (ns : List Node). Keeps ns w.nodes) d.nodes y.keeps in
     by_path (conditional_path x.answer na e m c.answer k d a y.answer) (same_both x.answer.same (same_both m.same (same_both c.answer.same (same_both d.same y.answer.same)))) n.stays (λ o i. y.answer.stops o i) y.answer.row
-    (three_held p q u w z made x.holds b kb t kt) (Keeps-trans x.keeps (Keeps-trans kb (Keeps-trans kt (Keeps-made n.made))))
+    (three_held p q u w z made x.holds b kb t kt) (Keeps-trans x.keeps (Keeps-trans kb (Keeps-trans kt (Keeps-made n.made)))) refl (one_lies made)
 
 -- ---- the colon
 

@@ -49,7 +49,7 @@ use Rattle.js_parsing.proofs.Signs.{plain_sign}
 use Rattle.js_parsing.proofs.Giving.{gives_up}
 use Rattle.js_parsing.proofs.Here.{uncut}
 use Rattle.js_parsing.proofs.Signs.{NoneIs}
-use Rattle.js_parsing.proofs.MadeNodes.{leaf_held, node_held}
+use Rattle.js_parsing.proofs.MadeNodes.{leaf_held, node_held, one_lies, made_lies}
 use Rattle.js_parsing.proofs.Signs.{stands_not}
 use Rattle.js_parsing.proofs.Moving.{same_with, beside_nodes, moves, standing, stops_behind, stops_so}
 use Rattle.js_parsing.proofs.Nesting.{nested_room, later_room}
@@ -196,7 +196,7 @@ module _ {text : List ℕ} {f : Flags} {p : Parser} (a : At text f p) where
         let kept : Keeps p.nodes q.nodes = Keeps-trans ks (Keeps-made t.made.made) in
         part_from gap_here (subst (λ (z : Parser). Partway text f (seq gap (elements f)) (elements f) p z ids (ids ++ Some id ∷ [])) (sym t.made.stays) (record {
           at = beside_nodes q.nodes m.at;
-          same = same_with q.nodes m.same kept;
+          same = same_with q.nodes m.same kept (made_lies m.same m.at.at (let i = m.further in omega arith) (ap (λ (v : Label). v.span) l) t.made);
           further = m.further;
           slots = tree (label_here elision no_op p t.mid) end;
           puts = λ us. refl;
@@ -299,7 +299,7 @@ module _ {text : List ℕ} {f : Flags} {p : Parser} (a : At text f p) (k : p.tok
       let l : plain_label node.ArrayExpression op.None s ≡ label_here array_expression no_op p q = rw (b, c) refl in
       let made : MadeHere (label_here array_expression no_op p q) ids q w id = subst (λ (v : Label). MadeHere v ids q w id) l n in
       by_path (alone ⟼ noded a (part_path y)) y.same made.stays (behind_primary f.in_ (label_here array_expression no_op p q) (y.slots end) text q.prev_token_end) refl
-      (node_held made (y.holds (length p.nodes) end (HoldsAll-none p.nodes (length p.nodes) (length p.nodes) (omega arith)))) (Keeps-trans y.keeps (Keeps-made made.made))
+      (node_held made (y.holds (length p.nodes) end (HoldsAll-none p.nodes (length p.nodes) (length p.nodes) (omega arith)))) (Keeps-trans y.keeps (Keeps-made made.made)) refl (one_lies made)
 
 -- ---- answers of calls
 

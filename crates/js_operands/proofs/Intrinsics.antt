@@ -37,7 +37,7 @@ use Rattle.js_parsing.specs.Arguments.{item_of, list_of}
 use Rattle.js_parsing.specs.Stands.{StandsHere}
 use Rattle.js_operands.specs.Members.{WithArguments, MakesWithArguments}
 use Rattle.js_parsing.proofs.Signs.{plain_sign}
-use Rattle.js_parsing.proofs.MadeNodes.{node_held}
+use Rattle.js_parsing.proofs.MadeNodes.{node_held, one_lies}
 use Rattle.js_parsing.proofs.Signs.{stands_not}
 use Rattle.js_parsing.proofs.Parts.{part_path}
 use Rattle.js_parsing.proofs.Moving.{same_both, stops_behind}
@@ -117,7 +117,7 @@ module _ {text : List ℕ} {f : Flags} {p : Parser} (a : At text f p) (k : p.tok
           let part = y.arguments text f x.answer.at in
           by_path (v8_read o (named ⟶ part_path part)) (same_both m.same (same_both x.answer.same part.same)) y.made.stays (behind_primary f.in_ (label_here v8_intrinsic_expression no_op p y.behind) (tree x.answer.label x.answer.slots (part.slots end)) text y.behind.prev_token_end) refl
           (node_held y.made (part.holds (length p.nodes) (tree x.answer.label x.answer.slots end) (HoldsAll-one name (subst (λ (ns : List Node). Holds r.nodes (length ns) (length r.nodes) name.0 x.answer.label x.answer.slots) m.nodes x.holds))))
-          (Keeps-trans (subst (λ (ns : List Node). Keeps ns r.nodes) m.nodes x.keeps) (Keeps-trans part.keeps (Keeps-made y.made.made)))
+          (Keeps-trans (subst (λ (ns : List Node). Keeps ns r.nodes) m.nodes x.keeps) (Keeps-trans part.keeps (Keeps-made y.made.made))) refl (one_lies y.made)
 
       pub v8_outcome : {start : ℕ} (w : Parser) (t : Result NodeId Stop) → f.v8 ≡ true → start ≡ p.token.span.start → MakesWithArguments node.V8IntrinsicExpression false start name r w t → Outcome text f (at Primary f) p w t
       v8_outcome w (Ok id) o e y = v8_answers o (subst (λ (v : ℕ). WithArguments node.V8IntrinsicExpression false v name r w id) e y)

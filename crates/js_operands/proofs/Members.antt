@@ -60,7 +60,7 @@ use Rattle.js_parsing.proofs.Here.{told, angled, begins_here, uncut, found}
 use Rattle.js_parsing.proofs.Verdicts.{verdict_of, either_way, and_then, behind_none, grown_then}
 use Rattle.js_parsing.proofs.Verdicts.{after as grown_behind}
 use Rattle.js_parsing.proofs.Moving.{moves, same_both, beside_nodes, elsewhere, at_depth, stops_behind, stops_in, stops_so, standing, same_with}
-use Rattle.js_parsing.proofs.MadeNodes.{leaf_held, node_held}
+use Rattle.js_parsing.proofs.MadeNodes.{leaf_held, node_held, one_lies, made_lies}
 use Rattle.js_parsing.proofs.Paths.{reads, Path, ◌⟶◌, ◌⟶✗◌, skips, token, passes_test, read_of, walked_both, walked_one, noded, noding, label_here, fails_at}
 use Rattle.js_operands.proofs.Operands.{by_path, primary_fails, primary_kinds}
 use Rattle.js_parsing.proofs.Giving.{gives_up}
@@ -146,7 +146,7 @@ name_taken text f p q (Ok id) a r n m =
     let t = m text f a in
     let l : plain_label node.IdentifierName op.None p.token.span ≡ label_here identifier_name no_op p t.mid = ap (λ (v : ℕ). record { kind = identifier_name; op = no_op; flags = 0; span = record { from = p.token.span.start; to = v } }) (t.moved.tells.end ∙ t.moved.ends) in
     let ks : Keeps p.nodes t.mid.nodes = subst (λ (ns : List Node). Keeps p.nodes ns) (sym t.moved.nodes) (Keeps-refl p.nodes) in
-    by_path (subst (λ (v : Label). Path text f (after (at IdentifierName f)) (rule (at IdentifierName f)) p nothing t.mid (tree v end)) (sym l) (name_of text f p t.mid a r n t.moved)) t.moved.same t.made.stays (λ y i. refl) refl (leaf_held t.made ks) (Keeps-trans ks (Keeps-made t.made.made))
+    by_path (subst (λ (v : Label). Path text f (after (at IdentifierName f)) (rule (at IdentifierName f)) p nothing t.mid (tree v end)) (sym l) (name_of text f p t.mid a r n t.moved)) t.moved.same t.made.stays (λ y i. refl) refl (leaf_held t.made ks) (Keeps-trans ks (Keeps-made t.made.made)) (ap (λ (v : Label). v.span) l) (one_lies t.made)
 name_taken text f p q (Err Fatal) a r n m = absurd m
 name_taken text f p q (Err NoMemory) a r n m = tt
 
@@ -171,12 +171,12 @@ pub retake : {text : List ℕ} {f : Flags} {C D : Label → Slots → (Lexemes �
 retake x g h = record { at = x.at; same = x.same; further = x.further; label = x.label; slots = x.slots; row = x.row; pass = x.pass; walked = x.walked; verdict = verdict_of x.verdict (λ c. g x.label x.slots x.pass c) h; holds = x.holds; keeps = x.keeps }
 
 -- a node around it, and what was read behind it
-pub step_taken : {text : List ℕ} {f : Flags} {C D : Label → Slots → (Lexemes → Lexemes) → ℕ → Type 0} {A : Type 0} {o p v w : Parser} {left id : NodeId} {ids : List (Option NodeId)} {l : Label} {g : G} {h : Slots → Slots} (x : Taken text f o p left C A) → (y : Path text f (plain full) g p nothing v h) → Same p v → Keeps p.nodes v.nodes → HoldsAll v.nodes (length o.nodes) (length v.nodes) ids (tree x.label x.slots (h end)) → MadeHere l ids v w id → same_row after_expression (row_of l (tree x.label x.slots (h end))) ≡ true
+pub step_taken : {text : List ℕ} {f : Flags} {C D : Label → Slots → (Lexemes → Lexemes) → ℕ → Type 0} {A : Type 0} {o p v w : Parser} {left id : NodeId} {ids : List (Option NodeId)} {l : Label} {g : G} {h : Slots → Slots} (x : Taken text f o p left C A) → (y : Path text f (plain full) g p nothing v h) → Same p v → Keeps p.nodes v.nodes → HoldsAll v.nodes (length o.nodes) (length v.nodes) ids (tree x.label x.slots (h end)) → MadeHere l ids v w id → l.span ≡ record { from = o.token.span.start; to = v.prev_token_end } → same_row after_expression (row_of l (tree x.label x.slots (h end))) ≡ true
     → ((pass : Lexemes → Lexemes) → C x.label x.slots x.pass p.prev_token_end → p.prev_token_end ≤ v.prev_token_end → Stretch text (plain full) g p.prev_token_end nothing v.prev_token_end h pass → D l (tree x.label x.slots (h end)) (λ ls. x.pass (pass ls)) v.prev_token_end)
     → (C x.label x.slots x.pass p.prev_token_end → Fails rule (Lex text) (plain full) end g p.prev_token_end → A) → Taken text f o w id D A
-step_taken {text} {f} {C} {D} {A} {o} {p} {v} {w} {id = id} {l = l} {h = h} x y s k m n r good bad = subst (λ (z : Parser). Taken text f o z id D A) (sym n.stays) (record {
+step_taken {text} {f} {C} {D} {A} {o} {p} {v} {w} {id = id} {l = l} {h = h} x y s k m n i r good bad = subst (λ (z : Parser). Taken text f o z id D A) (sym n.stays) (record {
   at = beside_nodes w.nodes y.at;
-  same = same_with w.nodes (same_both x.same s) (Keeps-trans x.keeps (Keeps-trans k (Keeps-made n.made)));
+  same = same_with w.nodes (same_both x.same s) (Keeps-trans x.keeps (Keeps-trans k (Keeps-made n.made))) (made_lies (same_both x.same s) y.at.at (let a = x.further in let b = further in omega arith) i n);
   further = let a = x.further in let b = further in omega arith;
   label = l;
   slots = tree x.label x.slots (h end);
@@ -192,11 +192,11 @@ step_taken {text} {f} {C} {D} {A} {o} {p} {v} {w} {id = id} {l = l} {h = h} x y 
     further = let a = x.at.behind in let b = y.further in omega arith
 
 -- a node around it alone
-pub wrap_taken : {text : List ℕ} {f : Flags} {C D : Label → Slots → (Lexemes → Lexemes) → ℕ → Type 0} {A B : Type 0} {o p w : Parser} {left id : NodeId} {l : Label} (x : Taken text f o p left C A) → MadeHere l (Some left ∷ []) p w id → same_row after_expression (row_of l (tree x.label x.slots end)) ≡ true
+pub wrap_taken : {text : List ℕ} {f : Flags} {C D : Label → Slots → (Lexemes → Lexemes) → ℕ → Type 0} {A B : Type 0} {o p w : Parser} {left id : NodeId} {l : Label} (x : Taken text f o p left C A) → MadeHere l (Some left ∷ []) p w id → l.span ≡ record { from = o.token.span.start; to = p.prev_token_end } → same_row after_expression (row_of l (tree x.label x.slots end)) ≡ true
     → (C x.label x.slots x.pass p.prev_token_end → D l (tree x.label x.slots end) x.pass p.prev_token_end) → (A → B) → Taken text f o w id D B
-wrap_taken {text} {f} {C} {D} {A} {B} {o} {p} {w} {left} {id} {l} x n r good bad = subst (λ (z : Parser). Taken text f o z id D B) (sym n.stays) (record {
+wrap_taken {text} {f} {C} {D} {A} {B} {o} {p} {w} {left} {id} {l} x n i r good bad = subst (λ (z : Parser). Taken text f o z id D B) (sym n.stays) (record {
   at = beside_nodes w.nodes x.at;
-  same = same_with w.nodes x.same (Keeps-trans x.keeps (Keeps-made n.made));
+  same = same_with w.nodes x.same (Keeps-trans x.keeps (Keeps-made n.made)) (made_lies x.same x.at.at (let a = x.further in omega arith) i n);
   further = x.further;
   label = l;
   slots = tree x.label x.slots end;
@@ -212,7 +212,7 @@ wrap_taken {text} {f} {C} {D} {A} {B} {o} {p} {w} {left} {id} {l} x n r good bad
 taken_out : {text : List ℕ} {f : Flags} {C : Label → Slots → (Lexemes → Lexemes) → ℕ → Type 0} {A : Type 0} {p q : Parser} {id : NodeId} (k j : ℕ) → j ≡ p.depth → IsAt p → Taken text f (record p { depth = k }) q id C A → Taken text f p (record q { depth = j }) id C A
 taken_out {p = p} {q = q} k j e a x = record {
   at = elsewhere q.nodes j x.at;
-  same = record { follows = follows_on (at_depth k a) (follows_on x.same.follows (at_depth j x.at.at)); options = x.same.options; ctx = x.same.ctx; depth = e; visits = x.same.visits; early = x.same.early };
+  same = record { follows = follows_on (at_depth k a) (follows_on x.same.follows (at_depth j x.at.at)); options = x.same.options; ctx = x.same.ctx; depth = e; visits = x.same.visits; early = x.same.early; lies = x.same.lies };
   further = x.further;
   label = x.label;
   slots = x.slots;
@@ -241,7 +241,7 @@ pub link_taken : {text : List ℕ} {f : Flags} {C D : Label → Slots → (Lexem
     → (C x.label x.slots x.pass p.prev_token_end → NoLink text f p.prev_token_end y.form y.optional → A) → Taken text f o w id D A
 link_taken {o = o} {p = p} {w = w} {left = left} {id = id} x e y good bad =
     step_taken x (part_path y.part) y.part.same y.part.keeps (y.part.holds (length o.nodes) (tree x.label x.slots end) (HoldsAll-one left x.holds))
-    (subst (λ (v : ℕ). MadeHere (link_label y.form y.optional v y.behind.prev_token_end) y.children y.behind w id) e y.made) (link_row y.form y.optional o.token.span.start y.behind.prev_token_end (tree x.label x.slots (y.part.slots end))) good bad
+    (subst (λ (v : ℕ). MadeHere (link_label y.form y.optional v y.behind.prev_token_end) y.children y.behind w id) e y.made) refl (link_row y.form y.optional o.token.span.start y.behind.prev_token_end (tree x.label x.slots (y.part.slots end))) good bad
 
 -- which sign stands here
 all_signs : {text : List ℕ} {f : Flags} {p : Parser} → At text f p → (c : LinkForm) (o : Bool) → StandsHere p (sign_of c o) true → AllAre text p.prev_token_end (sign_of c o)
@@ -439,7 +439,7 @@ module _ {text : List ℕ} {f : Flags} {p q : Parser} (a : At text f p) (k : p.t
         subst (λ (z : Parser). HeadOutcome text f p z (Ok id)) (sym made.stays) (
           record {
             at = beside_nodes v.nodes callee_taken.at;
-            same = same_with v.nodes (same_both m.same callee_taken.same) (Keeps-trans (subst (λ (ns : List Node). Keeps ns w.nodes) m.nodes callee_taken.keeps) (Keeps-made made.made));
+            same = same_with v.nodes (same_both m.same callee_taken.same) (Keeps-trans (subst (λ (ns : List Node). Keeps ns w.nodes) m.nodes callee_taken.keeps) (Keeps-made made.made)) (made_lies (same_both m.same callee_taken.same) callee_taken.at.at (let i = start_before_less in omega arith) refl made);
             further = start_before_less;
             label = label_here new_expression no_op p w;
             slots = tree callee_taken.label callee_taken.slots end;
@@ -480,7 +480,7 @@ module _ {text : List ℕ} {f : Flags} {p q : Parser} (a : At text f p) (k : p.t
           let forward : w.prev_token_end ≤ y.behind.prev_token_end = (let b = callee_taken.at.behind in let c = part.further in omega arith) in
           subst (λ (z : Parser). Membered text f p z id) (sym y.made.stays) (record {
             at = beside_nodes v.nodes part.at;
-            same = same_with v.nodes (same_both m.same (same_both callee_taken.same part.same)) (Keeps-trans (subst (λ (ns : List Node). Keeps ns w.nodes) m.nodes callee_taken.keeps) (Keeps-trans part.keeps (Keeps-made y.made.made)));
+            same = same_with v.nodes (same_both m.same (same_both callee_taken.same part.same)) (Keeps-trans (subst (λ (ns : List Node). Keeps ns w.nodes) m.nodes callee_taken.keeps) (Keeps-trans part.keeps (Keeps-made y.made.made))) (made_lies (same_both m.same (same_both callee_taken.same part.same)) part.at.at (let b = m.further in let c = callee_taken.further in let d = m.at.behind in let g = part.further in let i = callee_taken.at.behind in omega arith) refl y.made);
             further = let b = m.further in let c = callee_taken.further in let d = m.at.behind in omega arith;
             label = label_here new_expression no_op p y.behind;
             slots = tree callee_taken.label callee_taken.slots (part.slots end);
@@ -654,7 +654,7 @@ unfolding rule rule_of
 chain_done {text} {f} {o} {p} {w} {left} {id} {s} a x (no_link g) b c d =
     let made : MadeHere (label_here chain_expression no_op o p) (Some left ∷ []) p w id = subst (λ (z : Label). MadeHere z (Some left ∷ []) p w id) (rw (b, c) refl) d in
     let none = no_link_kind (stands_not x.at refl (g by_name false refl), stands_not x.at refl (g by_index false refl)) (stands_not x.at refl (g by_name true refl)) (stands_not x.at refl (g by_call false refl)) in
-    let y = wrap_taken x made refl (λ c. lhs_chain f c.1 c.2 (noding p a (record { ends = λ q cs vs j ls mid d e. e }) (chain_ends f c.0 none))) (λ n. n) in
+    let y = wrap_taken x made refl refl (λ c. lhs_chain f c.1 c.2 (noding p a (record { ends = λ q cs vs j ls mid d e. e }) (chain_ends f c.0 none))) (λ n. n) in
     numbered y y.row (lhs_stops f.in_ (subst (λ (v : ℕ). (y : Lexeme) → Lex text v y → one_of_kinds link_kinds y.kind ≡ false) (sym (ap (λ (z : Parser). z.prev_token_end) made.stays)) none) (edge_of y.label y.slots))
 
 -- ---- reading a link

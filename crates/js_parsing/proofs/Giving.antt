@@ -15,7 +15,7 @@ use Rattle.js_cursor.specs.declared.stop.Stop.TheVariants.{Fatal, NoMemory}
 use Rattle.js_cursor.proofs.Later.{keeps_follows}
 use Rattle.js_parsing.specs.Heads.{NotedHeads}
 use Rattle.js_parsing.specs.Lexemes.{Lex}
-use Rattle.js_parsing.specs.States.{At}
+use Rattle.js_parsing.specs.States.{At, NodesLie}
 use Rattle.js_parsing.specs.Answers.{Grown, Stops}
 use Rattle.js_parsing.proofs.Here.{escaped_here}
 use Rattle.js_parsing.proofs.Tight.{read_plain}
@@ -32,6 +32,7 @@ gives_up P p q Fatal a c g x = record {
   follows = keeps_follows g.2;
   grown = kept_one g.2;
   stopped = λ h. record { before = p.errors; last = g.0; is = ap (λ (r : Parser). r.errors) g.2.is; early = h; ends = c g.0 g.1 };
+  lies = λ h. subst (λ (r : Parser). NodesLie r.text r.nodes) (sym g.2.is) h.1;
   heads = subst NotedHeads (sym g.2.is) a.heads;
   none = x;
 }

@@ -18,7 +18,7 @@ use Rattle.js_cursor.specs.declared.stop.Stop.{Stop}
 use Rattle.js_cursor.specs.declared.stop.Stop.TheVariants.{Fatal, NoMemory}
 use Rattle.js_parsing.specs.Lexemes.{Lex, Walked, spot}
 use Rattle.js_parsing.specs.Heads.{NotedHeads}
-use Rattle.js_parsing.specs.States.{At, Same}
+use Rattle.js_parsing.specs.States.{At, Same, NodesLie, SpansLie}
 use Rattle.js_parsing.specs.Classes.{IsEarly, EndedByLast}
 use Rattle.std.specs.List.{All}
 
@@ -72,6 +72,7 @@ pub record Refuses (old new : Parser) (F : Type 0) : Type 0 where
   pub follows : Follows old new
   pub grown : Grown old.errors new.errors
   pub stopped : All IsEarly old.errors → EndedByLast new.errors
+  pub lies : SpansLie old → NodesLie new.text new.nodes
   pub heads : NotedHeads new
   pub none : F
 

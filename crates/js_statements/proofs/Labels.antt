@@ -37,7 +37,7 @@ use Rattle.js_parsing.proofs.Signs.{plain_sign}
 use Rattle.js_expressions.proofs.Conditionals.{colon_plain}
 use Rattle.js_parsing.proofs.Dead.{lives}
 use Rattle.js_parsing.proofs.Here.{found, uncut}
-use Rattle.js_parsing.proofs.MadeNodes.{leaf_held, two_held}
+use Rattle.js_parsing.proofs.MadeNodes.{leaf_held, two_held, one_lies, from_start}
 use Rattle.js_parsing.proofs.Moving.{same_both, same_itself, same_with, beside_nodes, stops_behind}
 use Rattle.js_parsing.proofs.Paths.{Path, ◌⟼◌, ◌⟶◌, ◌⟶✗◌, fails_at, one_read, read_of, token, noded, noded_by, by_symbol_as, label_here}
 use Rattle.js_statements.proofs.Statements.{by_statement, no_symbol, none_of_one, no_expression_ends, before_colon, statement_left, item_left, sub_left, colon_ends}
@@ -225,7 +225,7 @@ module _ {text : List ℕ} {f : Flags} {p q : Parser} {id : NodeId} (a : At text
     labeled = subst (λ (l : Label). MadeHere l [] q w label) (same_label e) made
 
     same_made : Same q w
-    same_made = subst (λ (v : Parser). Same q v) (sym made.stays) (same_with w.nodes same_itself (Keeps-made made.made))
+    same_made = subst (λ (v : Parser). Same q v) (sym made.stays) (same_with w.nodes same_itself (Keeps-made made.made) (λ b h. one_lies labeled (from_start {l = label_here label_identifier no_op p q} x.answer.same x.answer.at.at (let g = x.answer.further in omega arith) refl a.at.lies.starts_whole) h))
 
     errors_made : w.errors ≡ q.errors
     errors_made = ap (λ (v : Parser). v.errors) made.stays
@@ -247,4 +247,4 @@ module _ {text : List ℕ} {f : Flags} {p q : Parser} {id : NodeId} (a : At text
           let kw : Keeps p.nodes w.nodes = Keeps-trans x.keeps (Keeps-made made.made) in
           let ky : Keeps w.nodes v.nodes = subst (λ (ns : List Node). Keeps ns v.nodes) m.nodes y.keeps in
           by_statement (labeled_path a x.answer i n b (body_path a x.answer i n labeled m y)) (same_both label_same y.same) k.stays
-          (two_held k (leaf_held labeled x.keeps) kw (subst (λ (ns : List Node). Holds v.nodes (length ns) (length v.nodes) body.0 y.label y.slots) m.nodes y.holds) ky) (Keeps-trans kw (Keeps-trans ky (Keeps-made k.made)))
+          (two_held k (leaf_held labeled x.keeps) kw (subst (λ (ns : List Node). Holds v.nodes (length ns) (length v.nodes) body.0 y.label y.slots) m.nodes y.holds) ky) (Keeps-trans kw (Keeps-trans ky (Keeps-made k.made))) refl (one_lies k)

@@ -9,6 +9,7 @@ use Rattle.js_tree.specs.declared.id.NodeId.{NodeId}
 use Rattle.js_tree.specs.Nodes.{Node, label}
 use Rattle.js_tree.specs.Holding.{Holds, Stands, StandsAll, Keeps, Made, AreDistinct}
 use Rattle.js_grammar.specs.Trees.{NodeKind, Op, no_op, of, Label, Slots, end, hole, tree, Tree, identifier_reference, static_member_expression, computed_member_expression, private_field_expression, parenthesized_expression, array_expression, elision, spread_element, assignment_expression, array_assignment_target, assignment_target_rest, assignment_target_with_default, append}
+use Rattle.js_parsing.specs.States.{NodesLie}
 
 abbrev pub is_parens : NodeKind → Bool
 is_parens parenthesized_expression = true
@@ -188,17 +189,19 @@ pub record Slotted (os ns : List Node) (rs : List ℕ) (ids : List (Option NodeI
   pub reused : Each (Reused rs (length os) (length ns)) numbers
   pub distinct : AreDistinct numbers
 
--- What an expression is converted to: nodes were made, and the ends of its rests were noted.
+-- What an expression is converted to: nodes were made, which lie where those did that they stand for, and the ends of its rests were noted.
 pub record Converts (os ns : List Node) (rs noted notes rests : List ℕ) (ids : List (Option NodeId)) (r : Option Slots) : Type 0 where
   pub keeps : Keeps os ns
   pub slots : Slots
   pub is : r ≡ Some slots
   pub slotted : Slotted os ns rs ids slots
   pub notes_are : notes ≡ noted ++ rests
+  pub lies : (text : List ℕ) → NodesLie text os → NodesLie text ns
 
 -- it is converted to nothing
 pub record Refuses (os ns : List Node) (r : Option Slots) : Type 0 where
   pub keeps : Keeps os ns
+  pub lies : (text : List ℕ) → NodesLie text os → NodesLie text ns
   pub is : r ≡ None
 
 pub data Converted (os ns : List Node) (rs noted notes rests : List ℕ) : Option (List (Option NodeId)) → Option Slots → Type 0 where
