@@ -177,7 +177,7 @@ module _ {text : List ℕ} {f : Flags} {p q : Parser} (a : At text f p) (x : Ans
           subst (λ (v : Parser). Numbered text f (at Assignment f) p v id) (sym j.stays) (record {
             answer = record {
               at = beside_nodes z.nodes y.answer.at;
-              same = same_with z.nodes (same_both x.same (same_both (once_same t refl) (same_both m.same y.answer.same))) (Keeps-trans ks (Keeps-trans k (Keeps-made j.made))) (made_lies (same_both x.same (same_both (once_same t refl) (same_both m.same y.answer.same))) y.answer.at.at (let i = x.further in let o = once_place t in let g = m.further in let h = m.at.behind in let k = y.answer.further in let l = (once_at t x.at).behind in omega arith) refl j);
+              same = same_with z.nodes (same_both x.same (same_both (once_same t refl) (same_both m.same y.answer.same))) (Keeps-trans ks (Keeps-trans k (Keeps-made j.made))) (made_lies (same_both x.same (same_both (once_same t refl) (same_both m.same y.answer.same))) y.answer.at.at (let i = x.further in let o = once_place t in let g = m.further in let h = m.at.behind in let k = y.answer.further in let l = (once_at t x.at).behind in omega arith) j refl);
               further = let i = x.further in let o = once_place t in let g = m.further in let h = m.at.behind in let k = y.answer.further in let l = (once_at t x.at).behind in omega arith;
               label = label_here assignment_expression (of q.token.kind) p w;
               slots = tree x.label x.slots (tree y.answer.label y.answer.slots end);

@@ -332,7 +332,7 @@ module _ {text : List ℕ} {f : Flags} where
       mixed_marked_so {start} {found} a e g h i j y l = subst (λ (n : ℕ). Mark (goal v) v.text (mixed_at n v.prev_token_end)) (sym g) (mixed_marked a (sym e ∙ i) (sym j ∙ h) y (subst (λ (t : List ℕ). Lex t v.prev_token_end y) x.answer.at.text_is l))
 
       pub mixed_stops : (start found : ℕ) {mixed : Bool} (w : Parser) (e : Stop) → mixed ≡ is_mixed → ChecksMixed start mixed found v w (Err e) → Stops p w e Nowhere
-      mixed_stops start found w e g c = stops_behind w e (same_both s.same (same_both m.same x.answer.same)) (λ h. grown_behind both h) (λ z. z) (gives_up EndsParse v w e x.answer.at (λ d u. u) c.1 (mixed_none (sym g ∙ c.0)))
+      mixed_stops start found w e g c = stops_behind w e (same_both s.same (same_both m.same x.answer.same)) (λ h. grown_behind both h) (λ z. z) (gives_up EndsParse v w e x.answer.at c.1 (λ d u. u) (mixed_none (sym g ∙ c.0)))
 
       pub left_held : Holds v.nodes (length p.nodes) (length q.nodes) left.0 s.label s.slots
       left_held = Holds-kept (subst (λ (ns : List Node). Keeps ns v.nodes) m.nodes x.keeps) s.holds
@@ -353,7 +353,7 @@ module _ {text : List ℕ} {f : Flags} where
         pub operands_step : {z : Parser} {made : NodeId} → MadeHere pair_label (Some left ∷ Some right ∷ []) w z made → Operands text f p z made
         operands_step {z} {made} n = subst (λ (u : Parser). Operands text f p u made) (sym n.stays) (record {
           at = beside_nodes z.nodes c.at;
-          same = same_with z.nodes (same_both s.same (same_both m.same (same_both x.answer.same c.same))) (Keeps-trans s.keeps (Keeps-trans right_keeps (Keeps-made n.made))) (made_lies (same_both s.same (same_both m.same (same_both x.answer.same c.same))) c.at.at (let a = s.further in let b = forward in let e = c.place in omega arith) (ap (λ (v : ℕ). record { from = p.token.span.start; to = v }) (sym c.place)) n);
+          same = same_with z.nodes (same_both s.same (same_both m.same (same_both x.answer.same c.same))) (Keeps-trans s.keeps (Keeps-trans right_keeps (Keeps-made n.made))) (made_lies (same_both s.same (same_both m.same (same_both x.answer.same c.same))) c.at.at (let a = s.further in let b = forward in let e = c.place in omega arith) n (ap (λ (v : ℕ). record { from = p.token.span.start; to = v }) (sym c.place)));
           further = let a = s.further in let b = forward in let e = c.place in omega arith;
           label = pair_label;
           slots = pair_slots;

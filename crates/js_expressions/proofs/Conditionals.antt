@@ -290,7 +290,7 @@ pub alternative_marked : {p : Parser} {question : Span} → IsAt p → Asked p q
 alternative_marked {p} {question} a q s e n = mark_here fault.ExpectConditionalAlternative s (Some question) a (at_lexeme n e) (λ v x b. (x, record { place = question; is_first = refl; no_second = refl; lexeme = q.sign; earlier = let c = q.before in omega arith }))
 
 pub colon_missing : {text : List ℕ} {f : Flags} (p q : Parser) (e : Stop) → At text f p → Passes Colon p q (Err e) → Stops p q e (one_of_kinds (Colon ∷ []) p.token.kind ≡ false)
-colon_missing p q Fatal a h = gives_up EndsParse p q Fatal a (λ d u. u) h.1 (other_kind Colon p.token.kind (h.0 refl))
+colon_missing p q Fatal a h = gives_up EndsParse p q Fatal a h.1 (λ d u. u) (other_kind Colon p.token.kind (h.0 refl))
 colon_missing p q NoMemory a h = tt
 
 pub no_assign_here : {text : List ℕ} {f : Flags} {q : Parser} → At text f q → q.cut ≡ false → one_of_kinds assign_operators q.token.kind ≡ false → (y : Lexeme) → Lex text q.prev_token_end y → IsTrue (seen an_assign y) → ⊥

@@ -289,7 +289,7 @@ module _ {text : List ℕ} {f : Flags} where
         pub operand_step : {w : Parser} {made : NodeId} → MadeHere (link_label v.prev_token_end) (Some id ∷ Some right ∷ []) v w made → Operand text f m p w made
         operand_step {w} {made} n = subst (λ (z : Parser). Operand text f m p z made) (sym n.stays) (record {
           at = beside_nodes w.nodes x.answer.at;
-          same = same_with w.nodes (same_both s.same (same_both o.same (same_both d.same x.answer.same))) (Keeps-trans s.keeps (Keeps-trans (subst (λ (ns : List Node). Keeps ns v.nodes) (d.nodes ∙ o.nodes) x.keeps) (Keeps-made n.made))) (made_lies (same_both s.same (same_both o.same (same_both d.same x.answer.same))) x.answer.at.at start_before refl n);
+          same = same_with w.nodes (same_both s.same (same_both o.same (same_both d.same x.answer.same))) (Keeps-trans s.keeps (Keeps-trans (subst (λ (ns : List Node). Keeps ns v.nodes) (d.nodes ∙ o.nodes) x.keeps) (Keeps-made n.made))) (made_lies (same_both s.same (same_both o.same (same_both d.same x.answer.same))) x.answer.at.at start_before n refl);
           further = let a = s.further in let b = forward in omega arith;
           label = link_label v.prev_token_end;
           slots = tree s.label s.slots (tree x.answer.label x.answer.slots end);

@@ -195,7 +195,7 @@ pub due_fails : {text : List ℕ} {f : Flags} {p : Parser} → At text f p → (
 due_fails {text} {f} {p} a first z i = subst (λ (b : Bool). Fails rule (Lex text) (plain full) end (rest_of b (item_of i f)) p.prev_token_end) (sym z.0) (later_fails f i (no_comma_here a z.2) (no_right_paren a z.1))
 
 pub due_stops : {text : List ℕ} {f : Flags} {p : Parser} (q : Parser) (e : Stop) (first : Bool) (opening : Option Span) → At text f p → (i : Bool) → (e ≡ Fatal → (first ≡ false) × (p.token.kind ≡ RParen → ⊥) × (p.token.kind ≡ Comma → ⊥)) × GivesUp (IsHere ExpectClosingOrSeparator p opening) p q e → Stops p q e (Fails rule (Lex text) (plain full) end (rest_of first (item_of i f)) p.prev_token_end)
-due_stops {p = p} q Fatal first opening a i z = gives_up (IsHere ExpectClosingOrSeparator p opening) p q Fatal a (here_ends refl) z.1 (due_fails a first (z.0 refl) i)
+due_stops {p = p} q Fatal first opening a i z = gives_up (IsHere ExpectClosingOrSeparator p opening) p q Fatal a z.1 (here_ends ExpectClosingOrSeparator refl) (due_fails a first (z.0 refl) i)
 due_stops q NoMemory first opening a i z = tt
 
 -- ---- the list so far

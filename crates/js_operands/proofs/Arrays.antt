@@ -196,7 +196,7 @@ module _ {text : List ℕ} {f : Flags} {p : Parser} (a : At text f p) where
         let kept : Keeps p.nodes q.nodes = Keeps-trans ks (Keeps-made t.made.made) in
         part_from gap_here (subst (λ (z : Parser). Partway text f (seq gap (elements f)) (elements f) p z ids (ids ++ Some id ∷ [])) (sym t.made.stays) (record {
           at = beside_nodes q.nodes m.at;
-          same = same_with q.nodes m.same kept (made_lies m.same m.at.at (let i = m.further in omega arith) (ap (λ (v : Label). v.span) l) t.made);
+          same = same_with q.nodes m.same kept (made_lies m.same m.at.at (let i = m.further in omega arith) t.made (ap (λ (v : Label). v.span) l));
           further = m.further;
           slots = tree (label_here elision no_op p t.mid) end;
           puts = λ us. refl;
@@ -236,7 +236,7 @@ pub step_stops : {text : List ℕ} {f : Flags} {o p : Parser} {ids js : List (Op
 unfolding apart
 step_stops {f = f} {p = p} q Fatal opening x z =
     let n = z.0 refl in
-    stops_behind q Fatal x.same (λ g. grown_behind x.verdict g) (λ i. part_path_fails x i) (gives_up (IsHere ExpectClosingOrSeparator p opening) p q Fatal x.at (here_ends refl) z.1 (rest_fails f (none_there Comma x.at refl n.2) (none_there RBrack x.at refl n.1)))
+    stops_behind q Fatal x.same (λ g. grown_behind x.verdict g) (λ i. part_path_fails x i) (gives_up (IsHere ExpectClosingOrSeparator p opening) p q Fatal x.at z.1 (here_ends ExpectClosingOrSeparator refl) (rest_fails f (none_there Comma x.at refl n.2) (none_there RBrack x.at refl n.1)))
 step_stops q NoMemory opening x z = tt
 
 pub item_stops : {text : List ℕ} {f : Flags} {p : Parser} (q : Parser) (e : Stop) → At text f p → StandsHere p Comma false → StandsHere p RBrack false → Stops p q e (NoItem text (at Argument f) p.prev_token_end) → Stops p q e (Fails rule (Lex text) (plain full) end (elements f) p.prev_token_end)

@@ -176,7 +176,7 @@ pub step_taken : {text : List ℕ} {f : Flags} {C D : Label → Slots → (Lexem
     → (C x.label x.slots x.pass p.prev_token_end → Fails rule (Lex text) (plain full) end g p.prev_token_end → A) → Taken text f o w id D A
 step_taken {text} {f} {C} {D} {A} {o} {p} {v} {w} {id = id} {l = l} {h = h} x y s k m n i r good bad = subst (λ (z : Parser). Taken text f o z id D A) (sym n.stays) (record {
   at = beside_nodes w.nodes y.at;
-  same = same_with w.nodes (same_both x.same s) (Keeps-trans x.keeps (Keeps-trans k (Keeps-made n.made))) (made_lies (same_both x.same s) y.at.at (let a = x.further in let b = further in omega arith) i n);
+  same = same_with w.nodes (same_both x.same s) (Keeps-trans x.keeps (Keeps-trans k (Keeps-made n.made))) (made_lies (same_both x.same s) y.at.at (let a = x.further in let b = further in omega arith) n i);
   further = let a = x.further in let b = further in omega arith;
   label = l;
   slots = tree x.label x.slots (h end);
@@ -196,7 +196,7 @@ pub wrap_taken : {text : List ℕ} {f : Flags} {C D : Label → Slots → (Lexem
     → (C x.label x.slots x.pass p.prev_token_end → D l (tree x.label x.slots end) x.pass p.prev_token_end) → (A → B) → Taken text f o w id D B
 wrap_taken {text} {f} {C} {D} {A} {B} {o} {p} {w} {left} {id} {l} x n i r good bad = subst (λ (z : Parser). Taken text f o z id D B) (sym n.stays) (record {
   at = beside_nodes w.nodes x.at;
-  same = same_with w.nodes x.same (Keeps-trans x.keeps (Keeps-made n.made)) (made_lies x.same x.at.at (let a = x.further in omega arith) i n);
+  same = same_with w.nodes x.same (Keeps-trans x.keeps (Keeps-made n.made)) (made_lies x.same x.at.at (let a = x.further in omega arith) n i);
   further = x.further;
   label = l;
   slots = tree x.label x.slots end;
@@ -439,7 +439,7 @@ module _ {text : List ℕ} {f : Flags} {p q : Parser} (a : At text f p) (k : p.t
         subst (λ (z : Parser). HeadOutcome text f p z (Ok id)) (sym made.stays) (
           record {
             at = beside_nodes v.nodes callee_taken.at;
-            same = same_with v.nodes (same_both m.same callee_taken.same) (Keeps-trans (subst (λ (ns : List Node). Keeps ns w.nodes) m.nodes callee_taken.keeps) (Keeps-made made.made)) (made_lies (same_both m.same callee_taken.same) callee_taken.at.at (let i = start_before_less in omega arith) refl made);
+            same = same_with v.nodes (same_both m.same callee_taken.same) (Keeps-trans (subst (λ (ns : List Node). Keeps ns w.nodes) m.nodes callee_taken.keeps) (Keeps-made made.made)) (made_lies (same_both m.same callee_taken.same) callee_taken.at.at (let i = start_before_less in omega arith) made refl);
             further = start_before_less;
             label = label_here new_expression no_op p w;
             slots = tree callee_taken.label callee_taken.slots end;
@@ -480,7 +480,7 @@ module _ {text : List ℕ} {f : Flags} {p q : Parser} (a : At text f p) (k : p.t
           let forward : w.prev_token_end ≤ y.behind.prev_token_end = (let b = callee_taken.at.behind in let c = part.further in omega arith) in
           subst (λ (z : Parser). Membered text f p z id) (sym y.made.stays) (record {
             at = beside_nodes v.nodes part.at;
-            same = same_with v.nodes (same_both m.same (same_both callee_taken.same part.same)) (Keeps-trans (subst (λ (ns : List Node). Keeps ns w.nodes) m.nodes callee_taken.keeps) (Keeps-trans part.keeps (Keeps-made y.made.made))) (made_lies (same_both m.same (same_both callee_taken.same part.same)) part.at.at (let b = m.further in let c = callee_taken.further in let d = m.at.behind in let g = part.further in let i = callee_taken.at.behind in omega arith) refl y.made);
+            same = same_with v.nodes (same_both m.same (same_both callee_taken.same part.same)) (Keeps-trans (subst (λ (ns : List Node). Keeps ns w.nodes) m.nodes callee_taken.keeps) (Keeps-trans part.keeps (Keeps-made y.made.made))) (made_lies (same_both m.same (same_both callee_taken.same part.same)) part.at.at (let b = m.further in let c = callee_taken.further in let d = m.at.behind in let g = part.further in let i = callee_taken.at.behind in omega arith) y.made refl);
             further = let b = m.further in let c = callee_taken.further in let d = m.at.behind in omega arith;
             label = label_here new_expression no_op p y.behind;
             slots = tree callee_taken.label callee_taken.slots (part.slots end);
@@ -748,7 +748,7 @@ module _ {text : List ℕ} {f : Flags} {p q : Parser} (a : At text f p) (k : p.t
     unclosed_index n = part_path_fails (index_read []) (fails_at x.answer.at {X = plain full} (tok RBrack) (RBrack ∷ []) refl (other_kind RBrack r.token.kind n))
 
     pub unclosed_stops : (opening : Option Span) (o : Parser) (e : Stop) → (e ≡ Fatal → r.token.kind ≡ RBrack → ⊥) × GivesUp (IsHere ExpectClosing r opening) r o e → Stops p o e (Fails rule (Lex text) (plain full) end (indexed f) p.prev_token_end)
-    unclosed_stops opening o Fatal z = stops_behind o Fatal (same_both m.same x.answer.same) (λ g. grown_then m.kept (grown_behind x.answer.verdict g)) (λ n. n) (gives_up (IsHere ExpectClosing r opening) r o Fatal x.answer.at (here_ends refl) z.1 (unclosed_index (z.0 refl)))
+    unclosed_stops opening o Fatal z = stops_behind o Fatal (same_both m.same x.answer.same) (λ g. grown_then m.kept (grown_behind x.answer.verdict g)) (λ n. n) (gives_up (IsHere ExpectClosing r opening) r o Fatal x.answer.at z.1 (here_ends ExpectClosing refl) (unclosed_index (z.0 refl)))
     unclosed_stops opening o NoMemory z = tt
 
     pub index_closed : {u : Parser} → r.token.kind ≡ RBrack → MovesOn r u → Moved text f r u

@@ -153,11 +153,11 @@ paren_answers {text} {f} {p} {q} {r} {u} {v} {w} {inside} {id} s a k m x c d g b
 -- what `expect_closing` answers
 pub closes : (p q : Parser) (opening : Span) (r : Result (Unit {0}) Stop) → Expects (λ p. p.token.kind ≡ RParen) ExpectClosing (Some opening) p q r → Passes RParen p q r
 closes p q opening (Ok x) e = (e.0, λ text f a. moves (uncut a (ap (same_kind RAngle) e.0), ap is_last e.0) e.1 a)
-closes p q opening (Err Fatal) e = (λ z k. e.0 refl k, gives_up_by p q Fatal (here_ends refl) e.1)
+closes p q opening (Err Fatal) e = (λ z k. e.0 refl k, gives_up_by p q Fatal e.1 (here_ends ExpectClosing refl))
 closes p q opening (Err NoMemory) e = (λ z k. e.0 z k, tt)
 
 pub unclosed : {text : List ℕ} {f : Flags} (p q : Parser) (e : Stop) {F : Type 0} → At text f p → (e ≡ Fatal → p.token.kind ≡ RParen → ⊥) × GivesUp EndsParse p q e → (one_of_kinds (RParen ∷ []) p.token.kind ≡ false → F) → Stops p q e F
-unclosed p q Fatal a h g = gives_up EndsParse p q Fatal a (λ d u. u) h.1 (g (other_kind RParen p.token.kind (h.0 refl)))
+unclosed p q Fatal a h g = gives_up EndsParse p q Fatal a h.1 (λ d u. u) (g (other_kind RParen p.token.kind (h.0 refl)))
 unclosed p q NoMemory a h g = tt
 
 pub paren_whole : {text : List ℕ} {f : Flags} {p : Parser} → At text f p → p.token.kind ≡ LParen → IsWholeHere p

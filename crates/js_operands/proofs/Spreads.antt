@@ -150,7 +150,7 @@ module _ {text : List ℕ} {f : Flags} {p : Parser} (a : At text f p) (k : Stand
       item_of_spread : {n : Symbol} (pass : Lexemes → Lexemes) → Walked text (spot p) (spot r) pass → Verdict p.errors r.errors (Stretch text behind_item (such n always) p.prev_token_end nothing r.prev_token_end (tree (label_here spread_element no_op p r) (tree x.answer.label x.answer.slots end)) pass) (NoItem text n p.prev_token_end) → ItemTaken text f n p w id
       item_of_spread {n} pass walked v = subst (λ (z : Parser). ItemTaken text f n p z id) (sym made.stays) (record {
         at = beside_nodes w.nodes x.answer.at;
-        same = same_with w.nodes (same_both m.same x.answer.same) (Keeps-trans (subst (λ (ns : List Node). Keeps ns r.nodes) m.nodes x.keeps) (Keeps-made made.made)) (made_lies (same_both m.same x.answer.same) x.answer.at.at (let i = m.further in let j = x.answer.further in let d = m.at.behind in omega arith) refl made);
+        same = same_with w.nodes (same_both m.same x.answer.same) (Keeps-trans (subst (λ (ns : List Node). Keeps ns r.nodes) m.nodes x.keeps) (Keeps-made made.made)) (made_lies (same_both m.same x.answer.same) x.answer.at.at (let i = m.further in let j = x.answer.further in let d = m.at.behind in omega arith) made refl);
         further = let i = m.further in let j = x.answer.further in let d = m.at.behind in omega arith;
         label = label_here spread_element no_op p r;
         slots = tree x.answer.label x.answer.slots end;

@@ -41,13 +41,13 @@ unexpected_ends a d (a_marker n m) = ap (λ (k : DiagnosticKind). ends_parse (cl
 unexpected_ends a d (a_lexeme n b h) = ap (λ (k : DiagnosticKind). ends_parse (class_of k)) h.kind
 
 -- and so does what is told of what stands there by a kind of such a class
-pub here_ends : {p : Parser} {k : DiagnosticKind} {first : Option Span} → ends_parse (class_of k) ≡ true → (d : Diagnostic) → IsHere k p first d → EndsParse d
-here_ends c d h = ap (λ (v : DiagnosticKind). ends_parse (class_of v)) h.kind ∙ c
+pub here_ends : {p : Parser} (k : DiagnosticKind) {first : Option Span} → ends_parse (class_of k) ≡ true → (d : Diagnostic) → IsHere k p first d → EndsParse d
+here_ends k c d h = ap (λ (v : DiagnosticKind). ends_parse (class_of v)) h.kind ∙ c
 
 -- of a call that gave up less may be said
-pub gives_up_by : {P Q : Diagnostic → Type 0} (p q : Parser) (e : Stop) → ((d : Diagnostic) → P d → Q d) → GivesUp P p q e → GivesUp Q p q e
-gives_up_by p q Fatal w g = (g.0, w g.0 g.1, g.2)
-gives_up_by p q NoMemory w g = g
+pub gives_up_by : {P Q : Diagnostic → Type 0} (p q : Parser) (e : Stop) → GivesUp P p q e → ((d : Diagnostic) → P d → Q d) → GivesUp Q p q e
+gives_up_by p q Fatal g w = (g.0, w g.0 g.1, g.2)
+gives_up_by p q NoMemory g w = g
 
 -- one more behind which reading goes on
 pub one_early : {d : Diagnostic} (ds : List Diagnostic) → IsEarly d → All IsEarly ds → All IsEarly (ds ++ d ∷ [])

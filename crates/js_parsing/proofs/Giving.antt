@@ -26,8 +26,8 @@ pub kept_one : {d : Diagnostic} {p q : Parser} → Keeps d p q → Grown p.error
 kept_one {d} k = record { more = d ∷ []; kept = ap (λ (r : Parser). r.errors) k.is; some = λ e. cc }
 
 -- by a diagnostic of a class that ends a parse
-pub gives_up : {text : List ℕ} {f : Flags} (P : Diagnostic → Type 0) (p q : Parser) {F : Type 0} (e : Stop) → At text f p → ((d : Diagnostic) → P d → EndsParse d) → GivesUp P p q e → F → Stops p q e F
-gives_up P p q Fatal a c g x = record {
+pub gives_up : {text : List ℕ} {f : Flags} (P : Diagnostic → Type 0) (p q : Parser) {F : Type 0} (e : Stop) → At text f p → GivesUp P p q e → ((d : Diagnostic) → P d → EndsParse d) → F → Stops p q e F
+gives_up P p q Fatal a g c x = record {
   at = g.2.at;
   follows = keeps_follows g.2;
   grown = kept_one g.2;
@@ -36,11 +36,11 @@ gives_up P p q Fatal a c g x = record {
   heads = subst NotedHeads (sym g.2.is) a.heads;
   none = x;
 }
-gives_up P p q NoMemory a c g x = tt
+gives_up P p q NoMemory a g c x = tt
 
 -- by what can't stand here
 pub gives_up_here : {text : List ℕ} {f : Flags} (p q : Parser) {F : Type 0} (e : Stop) → At text f p → GivesUp (IsUnexpected p) p q e → F → Stops p q e F
-gives_up_here p q e a g x = gives_up (IsUnexpected p) p q e a (λ d u. unexpected_ends a.at d u) g x
+gives_up_here p q e a g x = gives_up (IsUnexpected p) p q e a g (λ d u. unexpected_ends a.at d u) x
 
 pub memory_stops : (p q : Parser) (e : Stop) (F : Type 0) → OnlyMemory e → Stops p q e F
 memory_stops p q Fatal F m = absurd m

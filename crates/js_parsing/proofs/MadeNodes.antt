@@ -78,5 +78,5 @@ pub from_start : {p q : Parser} {l : Label} → Same p q → IsAt q → p.token.
 from_start {p} {q} s i w e b = subst (λ (v : Span). LiesIn (record { start = v.from; end = v.to }) q.text) (sym e) (record { ordered = w; starts_whole = subst (λ (t : List ℕ). IsCharBoundary t p.token.span.start) (sym s.follows.text) b; ends_whole = i.between })
 
 -- a node with such a span
-pub made_lies : {p q w : Parser} {l : Label} {ids : List (Option NodeId)} {id : NodeId} → Same p q → IsAt q → p.token.span.start ≤ q.prev_token_end → l.span ≡ record { from = p.token.span.start; to = q.prev_token_end } → MadeHere l ids q w id → IsCharBoundary p.text p.token.span.start → NodesLie q.text q.nodes → NodesLie q.text w.nodes
-made_lies {l = l} s i w e n = λ b h. one_lies n (from_start {l = l} s i w e b) h
+pub made_lies : {p q w : Parser} {l : Label} {ids : List (Option NodeId)} {id : NodeId} → Same p q → IsAt q → p.token.span.start ≤ q.prev_token_end → MadeHere l ids q w id → l.span ≡ record { from = p.token.span.start; to = q.prev_token_end } → IsCharBoundary p.text p.token.span.start → NodesLie q.text q.nodes → NodesLie q.text w.nodes
+made_lies {l = l} s i w n e = λ b h. one_lies n (from_start {l = l} s i w e b) h

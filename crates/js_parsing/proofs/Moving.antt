@@ -96,7 +96,7 @@ pub nodes_lie : {p q : Parser} → q.text ≡ p.text → q.nodes ≡ p.nodes →
 nodes_lie {p} {q} t n h = subst (λ (v : List ℕ). NodesLie v q.nodes) (sym t) (All-same (λ (m : Node). LiesIn m.span p.text) q.nodes p.nodes n h)
 
 same_of : {p q : Parser} → IsAt q → Follows p q → q.nodes ≡ p.nodes → q.errors ≡ p.errors → q.options ≡ p.options → q.ctx ≡ p.ctx → q.depth ≡ p.depth → q.visits ≡ p.visits → Same p q
-same_of {p} {q} i g n e o c d v = record { follows = g; options = o; ctx = c; depth = d; visits = v; early = λ h. All-same IsEarly q.errors p.errors e h; lies = λ h. (i.lies.starts_whole, nodes_lie {p} {q} g.text n h.1) }
+same_of {p} {q} i g n e o c d v = record { follows = g; options = o; ctx = c; depth = d; visits = v; early = λ h. All-same IsEarly q.errors p.errors e h; lies = λ h. (i.lies.starts_whole, nodes_lie {p = p} {q = q} g.text n h.1) }
 
 -- a lexeme that isn't the end has bytes
 further : {p q : Parser} → is_last p.token.kind ≡ false → Passed p q → p.token.span.start < q.prev_token_end

@@ -130,4 +130,4 @@ module _ {text : List ℕ} {f : Flags} {p m : Parser} (close : Kind) (a : At tex
       }
 
   pub comma_stops : (told : Diagnostic) (q : Parser) (e : Stop) → EndsParse told → GivesUp (λ d. d ≡ told) m q e → Stops p q e (NoneLeft text (tok close) p.prev_token_end)
-  comma_stops told q e c g = stops_behind q e v.same (λ i. grown_then v.kept i) (λ n. n) (gives_up (λ d. d ≡ told) m q e v.at (λ d u. subst EndsParse (sym u) c) g none_closes)
+  comma_stops told q e c g = stops_behind q e v.same (λ i. grown_then v.kept i) (λ n. n) (gives_up (λ d. d ≡ told) m q e v.at g (λ d u. subst EndsParse (sym u) c) none_closes)

@@ -174,7 +174,7 @@ pub pattern_moved : {text : List ℕ} {f : Flags} {p q : Parser} → At text f p
 pattern_moved a z = moves (uncut a (ap (same_kind RAngle) z.0), ap is_last z.0) z.1 a
 
 pub pattern_unclosed : {text : List ℕ} {f : Flags} (opening : Option Span) (p q : Parser) (e : Stop) {F : Type 0} → At text f p → (e ≡ Fatal → p.token.kind ≡ RBrack → ⊥) × GivesUp (IsHere ExpectClosing p opening) p q e → (one_of_kinds (RBrack ∷ []) p.token.kind ≡ false → F) → Stops p q e F
-pattern_unclosed opening p q Fatal a h g = gives_up (IsHere ExpectClosing p opening) p q Fatal a (here_ends refl) h.1 (g (other_kind RBrack p.token.kind (h.0 refl)))
+pattern_unclosed opening p q Fatal a h g = gives_up (IsHere ExpectClosing p opening) p q Fatal a h.1 (here_ends ExpectClosing refl) (g (other_kind RBrack p.token.kind (h.0 refl)))
 pattern_unclosed opening p q NoMemory a h g = tt
 
 -- ---- an element of a pattern
@@ -244,7 +244,7 @@ module _ {text : List ℕ} {f : Flags} {p q : Parser} {bound : NodeId} (a : At t
         let h : Holds w.nodes (length q.nodes) (length w.nodes) value.0 y.answer.label y.answer.slots = subst (λ (ns : List Node). Holds w.nodes (length ns) (length w.nodes) value.0 y.answer.label y.answer.slots) m.nodes y.holds in
         let i : Keeps q.nodes w.nodes = subst (λ (ns : List Node). Keeps ns w.nodes) m.nodes y.keeps in
         item_answers z (initialised_path y.answer) (same_both x.answer.same (same_both m.same y.answer.same)) v.stays (two_held v x.holds x.keeps h i) (Keeps-trans x.keeps (Keeps-trans i (Keeps-made v.made)))
-        (made_lies (same_both x.answer.same (same_both m.same y.answer.same)) y.answer.at.at (let a = x.answer.further in let c = x.answer.at.behind in let e = m.further in let g = m.at.behind in let j = y.answer.further in omega arith) refl v)
+        (made_lies (same_both x.answer.same (same_both m.same y.answer.same)) y.answer.at.at (let a = x.answer.further in let c = x.answer.at.behind in let e = m.further in let g = m.at.behind in let j = y.answer.further in omega arith) v refl)
 
     pub no_value : (w : Parser) (e : Stop) → Stops r w e (Underived text (at Assignment (plus_in f)) r.prev_token_end) → Stops p w e (NoItem text (at BElement f) p.prev_token_end)
     no_value w e z = stops_behind w e (same_both x.answer.same m.same) (λ g. grown_behind x.answer.verdict (grown_then m.kept g)) (λ n. value_fails n) z

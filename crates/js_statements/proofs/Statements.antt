@@ -56,6 +56,7 @@ use Rattle.js_parsing.proofs.Tight.{read_plain}
 use Rattle.js_statements.proofs.Strings.{name_look, name_node, name_expression}
 use Rattle.js_parsing.proofs.Giving.{gives_up, gives_up_here}
 use Rattle.js_parsing.proofs.Classes.{here_ends}
+use Rattle.js_base.specs.declared.diagnostic.DiagnosticKind.TheVariants.{ExpectToken}
 
 -- a path, and a choice at its end
 infixl 19 ◌⟝◌
@@ -462,7 +463,7 @@ in_of a h = sym (ap (λ (g : Flags). g.in_) a.flags_are) ∙ h
 -- what the end of a statement answers
 pub end_answers : {text : List ℕ} {f : Flags} (p q : Parser) (r : Result (Unit {0}) Stop) → At text f p → (p.token.is_on_new_line && one_of_kinds link_kinds p.token.kind) ≡ false → EndsOr p q r → MatchResult r (λ x. EndsStatement p q) (λ e. Stops p q e (NoEnd p))
 end_answers p q (Ok x) a v e = (λ w. subst (λ (b : Bool). (b && one_of_kinds link_kinds p.token.kind) ≡ false) w v, e)
-end_answers p q (Err Fatal) a v e = gives_up _ p q Fatal a (here_ends refl) e.1 (inr (e.0 refl))
+end_answers p q (Err Fatal) a v e = gives_up _ p q Fatal a e.1 (here_ends ExpectToken refl) (inr (e.0 refl))
 end_answers p q (Err NoMemory) a v e = tt
 
 pub link_ends : {text : List ℕ} {f : Flags} (p q : Parser) (e : Stop) → At text f p → (p.token.is_on_new_line && one_of_kinds link_kinds p.token.kind) ≡ true → GivesUp (IsUnexpected p) p q e → Stops p q e (NoEnd p)

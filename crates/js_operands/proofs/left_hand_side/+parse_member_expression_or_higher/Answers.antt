@@ -47,7 +47,7 @@ returns-then-stands-2 g t c = λ text f a.
     let h = c.in_ok-enter.ensures.ok.1 in
     let x = c.in_ok-callee.ensures text f (deeper m.at h) in
     stops_behind _ c.refuse_chain.result (new_same a s.0 s.1 m h c.leave.ensures x) (λ i. new_grown a s.0 s.1 m h c.leave.ensures x i) (λ z. z)
-    (gives_up _ _ _ c.refuse_chain.result (left_at x.0.at c.leave.ensures) (λ d u. ap (λ (k : DiagnosticKind). ends_parse (class_of k)) u.0) c.refuse_chain.ensures (new_refused a s.0 s.1 m h c.leave.ensures x (stands_so c.leave.new.self QuestionDot c.if-stands-2.true c.stands-then-stands.ensures)))
+    (gives_up _ _ _ c.refuse_chain.result (left_at x.0.at c.leave.ensures) c.refuse_chain.ensures (λ d u. ap (λ (k : DiagnosticKind). ends_parse (class_of k)) u.0) (new_refused a s.0 s.1 m h c.leave.ensures x (stands_so c.leave.new.self QuestionDot c.if-stands-2.true c.stands-then-stands.ensures)))
 
 pub end_span-span-requires : goal.end_span-span-requires
 end_span-span-requires g t c =
