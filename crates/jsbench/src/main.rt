@@ -1,27 +1,46 @@
 //! Reads standard input, takes it apart into lexemes, and prints how many bytes and tokens there are; with the word
-//! `parse` it makes the tree of the text, and prints how many nodes there are.
+//! `parse` it makes the tree of the text, and prints how many nodes there are; with `tokens`, `trivia` or `counts` it prints
+//! what a parse keeps beside the tree, or how much of it there is.
 //!
 //! With a number as its last argument it does so that often, and prints how fast each pass was and how much memory the
 //! process took at most. Where lexemes alone are read, slashes and braces are read as regular expressions and template
 //! parts where the token before tells so, as a tokenizer without a parser has to.
 #![tactic(auto)]
 
+mod kept;
 mod pass;
 mod tree;
 
+use crate::kept::{keep, tell_counts, tell_tokens, tell_trivia};
 use crate::pass::{Pass, lex};
 use crate::tree::{Read, parse};
 use js_base::MAX_LEN;
+use js_parser::ParserReturn;
 use std::alloc::AllocError;
 use std::rt::{Clock, Env, Files};
 use std::time::Instant;
 use std::{env, fs, io};
 
+/// What is read of a text.
+#[derive(Debug, Clone, Copy)]
+enum Part {
+    /// Its lexemes alone.
+    Lexemes,
+    /// Its tree.
+    Tree,
+    /// Its tree, and the tokens that are kept.
+    Tokens,
+    /// Its tree, and the comments and the white space that are kept.
+    Trivia,
+    /// Its tree, and how much is kept.
+    Counts,
+}
+
 /// What is asked for.
 #[derive(Debug, Clone, Copy)]
 struct Asked {
-    /// Whether the tree is made.
-    tree: bool,
+    /// What is read.
+    part: Part,
     /// How many passes are measured; none where that is not asked for.
     passes: Option<u32>,
 }
@@ -29,14 +48,16 @@ struct Asked {
 /// What the arguments ask for.
 fn words_of<R: Env + AllocGlobal>(rt: &R) -> io::Result<Asked> {
     let mut asked = Asked {
-        tree: false,
+        part: Part::Lexemes,
         passes: None,
     };
     for word in env::args(rt)?.skip(1) {
-        if word.as_str() == "parse" {
-            asked.tree = true;
-        } else {
-            asked.passes = word.parse::<u32>().ok();
+        match word.as_str() {
+            "parse" => asked.part = Part::Tree,
+            "tokens" => asked.part = Part::Tokens,
+            "trivia" => asked.part = Part::Trivia,
+            "counts" => asked.part = Part::Counts,
+            number => asked.passes = number.parse::<u32>().ok(),
         }
     }
     Ok(asked)
@@ -72,16 +93,17 @@ fn parsed<R: AllocGlobal>(rt: &R, text: &str) -> io::Result<Read> {
     }
 }
 
-/// Prints what is in a text.
-fn tell<R: Print + AllocGlobal>(rt: &R, text: &str, tree: bool) -> io::Result<()> {
-    let bytes = text.len();
-    if tree {
-        let read = parsed(rt, text)?;
-        return println!(rt;
-            "{bytes} bytes, {} nodes, {} diagnostics",
-            read.nodes, read.found
-        );
+/// One pass of the parser over a text, which keeps the tokens.
+fn kept_of<R: AllocGlobal>(rt: &R, text: &str) -> io::Result<ParserReturn> {
+    match keep(rt.alloc(), text) {
+        Ok(kept) => Ok(kept),
+        Err(_) => Err(AllocError.into()),
     }
+}
+
+/// Prints how many lexemes are in a text.
+fn tell_lexemes<R: Print + AllocGlobal>(rt: &R, text: &str) -> io::Result<()> {
+    let bytes = text.len();
     let pass = lexed(rt, text)?;
     println!(rt;
         "{bytes} bytes, {} of them in {} tokens, {} faults, {} comments",
@@ -89,13 +111,33 @@ fn tell<R: Print + AllocGlobal>(rt: &R, text: &str, tree: bool) -> io::Result<()
     )
 }
 
+/// Prints how many nodes the tree of a text has.
+fn tell_tree<R: Print + AllocGlobal>(rt: &R, text: &str) -> io::Result<()> {
+    let bytes = text.len();
+    let read = parsed(rt, text)?;
+    println!(rt;
+        "{bytes} bytes, {} nodes, {} diagnostics",
+        read.nodes, read.found
+    )
+}
+
+/// Prints what is in a text.
+fn tell<R: Print + AllocGlobal>(rt: &R, text: &str, part: Part) -> io::Result<()> {
+    match part {
+        Part::Lexemes => tell_lexemes(rt, text),
+        Part::Tree => tell_tree(rt, text),
+        Part::Tokens => tell_tokens(rt, &kept_of(rt, text)?),
+        Part::Trivia => tell_trivia(rt, &kept_of(rt, text)?),
+        Part::Counts => tell_counts(rt, &kept_of(rt, text)?),
+    }
+}
+
 /// Does a pass and prints how fast it was.
-fn timed<R: Clock + Print + AllocGlobal>(rt: &R, text: &str, tree: bool) -> io::Result<()> {
+fn timed<R: Clock + Print + AllocGlobal>(rt: &R, text: &str, part: Part) -> io::Result<()> {
     let start = Instant::now(rt)?;
-    let (count, name) = if tree {
-        (parsed(rt, text)?.nodes, "nodes")
-    } else {
-        (lexed(rt, text)?.tokens, "tokens")
+    let (count, name) = match part {
+        Part::Lexemes => (lexed(rt, text)?.tokens, "tokens"),
+        _ => (parsed(rt, text)?.nodes, "nodes"),
     };
     let taken = start.elapsed(rt)?;
     let micros = taken.as_micros();
@@ -107,9 +149,9 @@ fn timed<R: Clock + Print + AllocGlobal>(rt: &R, text: &str, tree: bool) -> io::
 fn main(rt: HostRuntime) -> io::Result<()> {
     let text = io::read_to_string(rt.alloc(), rt.stdin())?;
     let asked = words_of(&rt)?;
-    tell(&rt, text.as_str(), asked.tree)?;
+    tell(&rt, text.as_str(), asked.part)?;
     for _ in 0..asked.passes.unwrap_or(0) {
-        timed(&rt, text.as_str(), asked.tree)?;
+        timed(&rt, text.as_str(), asked.part)?;
     }
     if asked.passes.is_some() {
         if let Some(peak) = peak_memory(&rt)? {
