@@ -467,7 +467,7 @@ plain_back {text} {p} {r} t c e (nothing_here d k n) = nothing_here (c ∙ d) (a
 pub went_back : {p q r : Parser} {c : ParserCheckpoint} → may_be_read_again p.token.kind ≡ false → Remembers p c → GoesOn p q → NotedHeads q → (SpansLie p → NodesLie q.text q.nodes) → GoesBack c q r → Unmoved p r
 went_back {p} {q} {r} o m f n l g =
     let b = came_back m f.0 g in
-    let s : Same p r = record { follows = back_follows m f.0 g; options = g.options ∙ f.0.options; ctx = b.ctx; depth = b.depth; visits = b.visits; early = λ h. All-same IsEarly r.errors p.errors b.errors h; lies = λ h. (g.at.lies.starts_whole, nodes_lie {p = q} {q = r} g.text g.nodes (l h)) } in
+    let s : Same p r = record { follows = back_follows m f.0 g; options = g.options ∙ f.0.options; ctx = b.ctx; depth = b.depth; visits = b.visits; early = λ h. All-same IsEarly r.errors p.errors b.errors h; lies = λ h. (g.at.lies.starts_whole, nodes_lie q r g.text g.nodes (l h)) } in
     record {
       at = λ text f a. record { text_is = b.text ∙ a.text_is; flags_are = flags_same p r b.ctx b.source_type s.options ∙ a.flags_are; at = g.at; plain = plain_back b.token b.cut b.prev_token_end a.plain; behind = let i = b.prev_token_end in let j = ap (λ z. z.span.start) b.token in let k = a.behind in omega arith; heads = heads_kept q r g.text g.source_type g.options (ap (λ (z : Notes). z.failed) g.state) n; kept_last = last_back p.lexer r.lexer b.token b.keeps_tokens (b.tokens o) a.kept_last };
       same = s;

@@ -50,8 +50,8 @@ gives_up_by p q Fatal g w = (g.0, w g.0 g.1, g.2)
 gives_up_by p q NoMemory g w = g
 
 -- one more behind which reading goes on
-pub one_early : {d : Diagnostic} (ds : List Diagnostic) → IsEarly d → All IsEarly ds → All IsEarly (ds ++ d ∷ [])
-one_early {d} ds e h = All-push IsEarly ds d h e
+pub one_early : (d : Diagnostic) (ds : List Diagnostic) → IsEarly d → All IsEarly ds → All IsEarly (ds ++ d ∷ [])
+one_early d ds e h = All-push IsEarly ds d h e
 
 pub kept_early : {d : Diagnostic} {p q : Parser} → Keeps d p q → IsEarly d → All IsEarly p.errors → All IsEarly q.errors
-kept_early {d} {p} {q} k e h = All-same IsEarly q.errors (p.errors ++ d ∷ []) (ap (λ (r : Parser). r.errors) k.is) (one_early p.errors e h)
+kept_early {d} {p} {q} k e h = All-same IsEarly q.errors (p.errors ++ d ∷ []) (ap (λ (r : Parser). r.errors) k.is) (one_early d p.errors e h)

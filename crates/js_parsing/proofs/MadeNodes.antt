@@ -1,6 +1,6 @@
 -- Nodes that were just made, and the trees that they stand for.
 use Rattle.std.proofs.Common.{ℕ, List, [], ◌∷◌, length, Option, Some, sym, subst, ◌≡◌, ◌≤◌, ◌++◌}
-use Rattle.js_grammar.specs.Trees.{Label, Slots, end, tree, Span}
+use Rattle.js_grammar.specs.Trees.{Label, Slots, end, tree, Span as TreeSpan}
 use Rattle.js_tree.specs.declared.id.NodeId.{NodeId}
 use Rattle.js_tree.specs.Nodes.{Node}
 use Rattle.js_tree.specs.Holding.{Holds, HoldsAll, Keeps}
@@ -75,7 +75,7 @@ one_lies {text} {v} {w} n s h = All-same (λ (m : Node). LiesIn m.span text) w.n
 
 -- a span from the token of one state up to the place of a later one
 pub from_start : {p q : Parser} {l : Label} → Same p q → IsAt q → p.token.span.start ≤ q.prev_token_end → l.span ≡ record { from = p.token.span.start; to = q.prev_token_end } → IsCharBoundary p.text p.token.span.start → LabelLies q.text l
-from_start {p} {q} s i w e b = subst (λ (v : Span). LiesIn (record { start = v.from; end = v.to }) q.text) (sym e) (record { ordered = w; starts_whole = subst (λ (t : List ℕ). IsCharBoundary t p.token.span.start) (sym s.follows.text) b; ends_whole = i.between })
+from_start {p} {q} s i w e b = subst (λ (v : TreeSpan). LiesIn (record { start = v.from; end = v.to }) q.text) (sym e) (record { ordered = w; starts_whole = subst (λ (t : List ℕ). IsCharBoundary t p.token.span.start) (sym s.follows.text) b; ends_whole = i.between })
 
 -- a node with such a span
 pub made_lies : {p q w : Parser} {l : Label} {ids : List (Option NodeId)} {id : NodeId} → Same p q → IsAt q → p.token.span.start ≤ q.prev_token_end → MadeHere l ids q w id → l.span ≡ record { from = p.token.span.start; to = q.prev_token_end } → IsCharBoundary p.text p.token.span.start → NodesLie q.text q.nodes → NodesLie q.text w.nodes

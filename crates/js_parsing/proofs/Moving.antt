@@ -92,11 +92,11 @@ pub same_both : {p q r : Parser} → Same p q → Same q r → Same p r
 same_both a b = record { follows = follows_on a.follows b.follows; options = b.options ∙ a.options; ctx = b.ctx ∙ a.ctx; depth = b.depth ∙ a.depth; visits = b.visits ∙ a.visits; early = λ h. b.early (a.early h); lies = λ h. b.lies (a.lies h) }
 
 -- what lies in the text still does, where text and nodes stay
-pub nodes_lie : {p q : Parser} → q.text ≡ p.text → q.nodes ≡ p.nodes → NodesLie p.text p.nodes → NodesLie q.text q.nodes
-nodes_lie {p} {q} t n h = subst (λ (v : List ℕ). NodesLie v q.nodes) (sym t) (All-same (λ (m : Node). LiesIn m.span p.text) q.nodes p.nodes n h)
+pub nodes_lie : (p q : Parser) → q.text ≡ p.text → q.nodes ≡ p.nodes → NodesLie p.text p.nodes → NodesLie q.text q.nodes
+nodes_lie p q t n h = subst (λ (v : List ℕ). NodesLie v q.nodes) (sym t) (All-same (λ (m : Node). LiesIn m.span p.text) q.nodes p.nodes n h)
 
 same_of : {p q : Parser} → IsAt q → Follows p q → q.nodes ≡ p.nodes → q.errors ≡ p.errors → q.options ≡ p.options → q.ctx ≡ p.ctx → q.depth ≡ p.depth → q.visits ≡ p.visits → Same p q
-same_of {p} {q} i g n e o c d v = record { follows = g; options = o; ctx = c; depth = d; visits = v; early = λ h. All-same IsEarly q.errors p.errors e h; lies = λ h. (i.lies.starts_whole, nodes_lie {p = p} {q = q} g.text n h.1) }
+same_of {p} {q} i g n e o c d v = record { follows = g; options = o; ctx = c; depth = d; visits = v; early = λ h. All-same IsEarly q.errors p.errors e h; lies = λ h. (i.lies.starts_whole, nodes_lie p q g.text n h.1) }
 
 -- a lexeme that isn't the end has bytes
 further : {p q : Parser} → is_last p.token.kind ≡ false → Passed p q → p.token.span.start < q.prev_token_end

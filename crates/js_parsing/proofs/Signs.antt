@@ -99,7 +99,7 @@ use Rattle.js_base.specs.declared.kind.Kind.TheVariants.{RAngle, New, Dot, Quest
 use Rattle.js_base.specs.KindSets.{identifier_name_kinds}
 use Rattle.js_grammar.specs.Trees.{Slots, end, tree, Label, no_op, identifier_name, new_expression, chain_expression}
 use Rattle.js_grammar.specs.Grammar.{Lexeme, Lexemes, Look, next, seen, exact, seq, such, nothing, ◌▸◌}
-use Rattle.js_grammar.specs.Insertion.{after_expression, is_word}
+use Rattle.js_grammar.specs.Insertion.{after_expression}
 use Rattle.js_grammar.specs.Parsing.{Test, plain, full, always, behind, Fails, Way, still, passing}
 use Rattle.js_grammar.specs.Productions.{G, Flags, Symbol, at, tok, mk, plus_in, IdentifierName, Expression, Primary, Member, Call, Chain, Links, LeftHandSide}
 use Rattle.js_grammar.specs.Follow.{Edge, row_of, edge_of, follow, follow_of, after, tight}

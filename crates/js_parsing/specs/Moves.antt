@@ -20,6 +20,7 @@ use Rattle.js_cursor.specs.Moves.{Completed, is_last}
 use Rattle.js_cursor.specs.Places.{IsAt}
 use Rattle.js_parsing.specs.Lexemes.{News, IsNew, onward, spot}
 use Rattle.js_parsing.specs.Operators.{power_of}
+use Rattle.js_parsing.specs.Classes.{EndsParse}
 use Rattle.js_parsing.specs.States.{At, Same}
 use Rattle.std.specs.Prelude.{ℕ, ◌≡◌, ◌≤◌, ◌⊎◌, ◌||◌, ◌&&◌, not, Bool, true, false, IsTrue, nat_lt, List, [], ◌∷◌, length, None, Result, Ok, Err}
 use Rattle.js_base.specs.declared.diagnostic.Diagnostic.{Diagnostic}

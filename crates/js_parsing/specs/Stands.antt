@@ -1,46 +1,17 @@
 -- Which lexeme stands at a parser's place.
-use Rattle.std.specs.Prelude.{ℕ, ◌≡◌, ◌<◌, ◌≤◌, ◌⊎◌, Bool, true, false, cond, List, [], ◌∷◌, Option, Some, None, not, length, Result, Ok, Err}
-use Rattle.js_base.specs.declared.diagnostic.Diagnostic.{Diagnostic}
-use Rattle.js_base.specs.declared.diagnostic.DiagnosticKind.TheVariants.{InvalidNewOptionalChain, IdentifierExpectedAfterQuestionDot}
-use Rattle.js_base.specs.declared.span.Span.{Span}
+use Rattle.std.specs.Prelude.{ℕ, ◌≡◌, ◌<◌, ◌≤◌, ◌⊎◌, Bool, true, false, List, [], ◌∷◌}
 use Rattle.js_base.specs.declared.kind.Kind.{Kind}
-use Rattle.js_base.specs.declared.kind.Kind.TheVariants.{New, Dot, QuestionDot, LParen, LBrack, RBrack}
+use Rattle.js_base.specs.declared.kind.Kind.TheVariants.{RBrack}
 use Rattle.js_base.specs.Kinds.{one_of_kinds}
-use Rattle.js_grammar.specs.Trees.{NodeKind as TreeKind, Slots, end, tree, Label, no_op, static_member_expression, computed_member_expression, call_expression, new_expression}
-use Rattle.js_grammar.specs.Grammar.{Lexeme, Lexemes, is, such, nothing, ◌▸◌}
-use Rattle.js_grammar.specs.Follow.{row_of, after}
-use Rattle.js_grammar.specs.Insertion.{after_expression}
-use Rattle.js_grammar.specs.Parsing.{Test, Fails, always, plain, full}
-use Rattle.js_grammar.specs.Productions.{G, Flags, Symbol, at, mk, tok, optional_flag, plus_in, Member, Call, Links, LeftHandSide, IdentifierName, Expression}
-use Rattle.js_grammar.specs.Productions.{New as new_symbol, sym as symbol}
-use Rattle.js_grammar.specs.Table.{rule, args}
-use Rattle.js_grammar.proofs.Chains.{members, calls, chains}
-use Rattle.js_grammar.proofs.Loops.{Around}
-use Rattle.js_grammar.proofs.RightEdges.{same_row}
-use Rattle.js_grammar.proofs.Towers.{Tower, Link, link}
-use Rattle.js_tree.specs.declared.id.NodeId.{NodeId}
-use Rattle.js_tree.specs.Holding.{Holds, Keeps}
+use Rattle.js_grammar.specs.Grammar.{Lexeme, is, ◌▸◌}
+use Rattle.js_grammar.specs.Productions.{Flags, at}
+use Rattle.js_grammar.proofs.Towers.{link}
 use Rattle.js_cursor.specs.Parsers.{Parser}
-use Rattle.js_cursor.specs.declared.stop.Stop.{Stop}
 use Rattle.js_parsing.specs.Lexemes.{Lex}
 use Rattle.js_parsing.specs.States.{At, Same}
-use Rattle.js_tree.specs.declared.kind.NodeKind.{NodeKind}
-use Rattle.js_tree.specs.declared.kind.NodeKind.TheVariants.{V8IntrinsicExpression}
-use Rattle.js_tree.specs.Labels.{kind_of}
-use Rattle.std.specs.Prelude.{ℕ, ◌≡◌, ◌≤◌, ◌⊎◌, ◌||◌, ◌&&◌, not, Bool, true, false, IsTrue, nat_lt, List, [], ◌∷◌, length, None, Result, Ok, Err}
+use Rattle.std.specs.Prelude.{◌||◌, ◌&&◌, IsTrue, nat_lt}
 use Rattle.js_base.specs.declared.diagnostic.DiagnosticKind.TheVariants as fault
-use Rattle.js_base.specs.declared.kind.Kind.TheVariants.{Question, Colon, Comma, Semicolon, RParen, RBrack, Plus2, Minus2, Eof}
-use Rattle.js_grammar.specs.Trees.{Label, Slots, end as no_slots, tree}
-use Rattle.js_grammar.specs.Grammar.{Lexeme, Lexemes, Look, such, nothing}
-use Rattle.js_grammar.specs.Insertion.{assign_operators}
-use Rattle.js_grammar.specs.Parsing.{always, plain, Fails}
-use Rattle.js_grammar.specs.Table.{rule}
-use Rattle.js_grammar.specs.Marks.{LexemeAt, of_kinds}
-use Rattle.js_grammar.specs.Productions.{Flags, Symbol, at, Arrow', ArrayTarget, Assignment, Short}
-use Rattle.js_tree.specs.Holding.{Holds, Keeps as KeepsNodes}
-use Rattle.js_cursor.specs.Moves.{GivesUp, Keeps}
-use Rattle.js_cursor.specs.Places.{goal}
-use Rattle.js_cursor.specs.declared.stop.Stop.TheVariants.{Fatal}
+use Rattle.js_base.specs.declared.kind.Kind.TheVariants.{Question, Colon, Comma, Semicolon, RParen, Eof}
 use Rattle.js_parsing.specs.Operators.{power_of}
 
 -- whether this lexeme stands here, without an escape
