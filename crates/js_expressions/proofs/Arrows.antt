@@ -373,7 +373,7 @@ single_head {text} {f} {p} {q} {v} {w} {name} {parameter} {id} s a k e b t n m =
     let hw = node_held m (HoldsAll-one parameter hv) in
     head_of_path w (subst (λ (x : ℕ). Path text f (plain full) (head_of f) p nothing t.mid (tree (label_to formal_parameters x) (tree (label_to formal_parameter x) (tree (label_to binding_identifier x) end (hole end)) end))) (sym i) (name_path a k e t.moved)) t.moved.kept t.moved.same (m.stays ∙ ap (λ (z : Parser). record z { nodes = w.nodes }) (n.stays ∙ ap (λ (z : Parser). record z { nodes = v.nodes }) t.made.stays))
     (subst (λ (x : Span). Holds w.nodes (length p.nodes) (length w.nodes) id.0 (plain_label node_kind.FormalParameters op_made.None x) (tree (plain_label node_kind.FormalParameter op_made.None x) (tree (label_to binding_identifier p.token.span.end) end (hole end)) end)) b hw) (Keeps-trans kv (Keeps-made m.made))
-    (λ c z. let y = from_start {l = plain_label node_kind.FormalParameters op_made.None s} t.moved.same t.moved.at.at (let j = t.moved.further in omega arith) (ap (λ (x : Span). record { from = x.start; to = x.end }) b ∙ ap (λ (x : ℕ). record { from = p.token.span.start; to = x }) i) c in one_lies m y (one_lies n y (one_lies t.made (subst (λ (x : Span). LabelLies t.mid.text (plain_label node_kind.BindingIdentifier op_made.None x)) b y) z)))
+    (λ c z. let y = from_start (plain_label node_kind.FormalParameters op_made.None s) t.moved.same t.moved.at.at (let j = t.moved.further in omega arith) (ap (λ (x : Span). record { from = x.start; to = x.end }) b ∙ ap (λ (x : ℕ). record { from = p.token.span.start; to = x }) i) c in one_lies m y (one_lies n y (one_lies t.made (subst (λ (x : Span). LabelLies t.mid.text (plain_label node_kind.BindingIdentifier op_made.None x)) b y) z)))
   where
     label_to : NodeKind → ℕ → Label
     label_to n x = record { kind = n; op = no_op; flags = 0; span = record { from = p.token.span.start; to = x } }

@@ -72,7 +72,7 @@ by_such {text} {f} {n} {p} {q} {w} {l} {cs} {id} y b e s r h k i m = go w.nodes 
   where
     go : (ns : List Node) → w ≡ record q { nodes = ns } → Holds w.nodes (length p.nodes) (length w.nodes) id.0 l cs → Keeps p.nodes w.nodes → (LabelLies q.text l → NodesLie q.text q.nodes → NodesLie q.text w.nodes) → Numbered text f n p w id
     go ns e h k m = subst (λ (r : Parser). Numbered text f n p r id) (sym e) (record {
-      answer = record { at = beside_nodes ns y.at; same = same_with ns b (subst (λ (r : Parser). Keeps p.nodes r.nodes) e k) (λ c z. subst (λ (r : Parser). NodesLie q.text r.nodes) e (m (from_start {l = l} b y.at.at (let g = y.further in omega arith) i c) z)); further = y.further; label = l; slots = cs; stops = s; row = r; pass = y.pass; walked = y.walked; verdict = y.verdict };
+      answer = record { at = beside_nodes ns y.at; same = same_with ns b (subst (λ (r : Parser). Keeps p.nodes r.nodes) e k) (λ c z. subst (λ (r : Parser). NodesLie q.text r.nodes) e (m (from_start l b y.at.at (let g = y.further in omega arith) i c) z)); further = y.further; label = l; slots = cs; stops = s; row = r; pass = y.pass; walked = y.walked; verdict = y.verdict };
       holds = subst (λ (r : Parser). Holds r.nodes (length p.nodes) (length r.nodes) id.0 l cs) e h;
       keeps = subst (λ (r : Parser). Keeps p.nodes r.nodes) e k;
     })

@@ -7,38 +7,11 @@ use Rattle.js_tree.specs.Holding.{Holds, HoldsAll, Keeps}
 use Rattle.js_tree.proofs.HoldingLemmas.{HoldsAll-none, HoldsAll-one, HoldsAll-two, Made-holds, Keeps-longer}
 use Rattle.js_cursor.specs.Parsers.{Parser}
 use Rattle.js_parsing.specs.Moves.{MadeHere}
-use Rattle.std.proofs.Common.{ℕ, ◌≡◌, ◌≤◌, ◌<◌, max, List, [], ◌∷◌, ◌++◌, length, Bool, true, false, not, ◌&&◌, ◌||◌, cond, IsTrue, Option, Some, refl, sym, ap, subst, arith, ◌∙◌}
-use Rattle.std.specs.Prelude.{◌↔◌, get_or, IsCharBoundary}
-use Rattle.std.proofs.lemmas.Bool.{false≢true, and_parts, and_from}
-use Rattle.js_base.specs.declared.kind.Kind.{Kind}
-use Rattle.js_base.specs.declared.kind.Kind.TheVariants.{Eof, Ident, Semicolon, Str}
-use Rattle.js_base.specs.declared.span.Span.{Span}
-use Rattle.js_base.specs.Contexts.{has_flag, in_flag}
-use Rattle.js_base.specs.Kinds.{one_of_kinds}
-use Rattle.js_grammar.specs.Trees.{Label, Slots, end, hole, tree, append, no_op, directive, expression_statement}
-use Rattle.js_grammar.specs.Grammar.{Lexeme, Lexemes, Look, is, here, seen, seq, alt, many, when, such, ended, semicolon, nothing, Grammar, Takes, is_nothing, is_seq, is_left, is_right, is_many, is_such}
-use Rattle.js_grammar.specs.Insertion.{by_edge, goes_on}
-use Rattle.js_grammar.specs.Conditions.{not_string}
-use Rattle.js_grammar.specs.Lexed.{Lexes}
-use Rattle.js_grammar.specs.Parsing.{Test, plain, behind, full, always, still, Goes, Reads, Fails, Admits}
-use Rattle.js_grammar.specs.Productions.{G, Flags, Symbol, at, opt, ListItem, Item, Labeled, Directive, Expression, ImportDecl, ExportDecl}
-use Rattle.js_grammar.specs.Productions.{sym as symbol}
-use Rattle.js_grammar.specs.Table.{rule, rule_of, string}
-use Rattle.js_grammar.specs.Follow.{row_of, after}
-use Rattle.js_grammar.proofs.Looks.{covers, covered, apart}
-use Rattle.js_grammar.proofs.Calculus.{Between, Sure, ◌▹◌, ◌▹✗◌, stay, same, passes_none, left, right, by_plain, by_rule, then_by, tested, more_of, part_fails, fails_alt, fails_test, fails_tested, fails_ended, fails_rule, fails_node, inside_plain, here_at}
-use Rattle.js_grammar.proofs.FirstRules.{by_first}
-use Rattle.js_grammar.proofs.FirstClaims.{firsts}
-use Rattle.js_grammar.proofs.FollowLaws.{expression_ended, surely}
-use Rattle.js_grammar.specs.Follow.{surest}
-use Rattle.js_tree.specs.declared.kind.NodeKind.{NodeKind}
-use Rattle.js_tree.specs.declared.kind.NodeKind.TheVariants as node
-use Rattle.js_tree.specs.declared.op.Op.TheVariants as op
-use Rattle.js_tree.specs.Labels.{kind_of}
-use Rattle.js_tree.specs.Nodes.{Node, node_at, empty_program, label}
-use Rattle.js_tree.specs.Holding.{Stands, stands, Holds, HoldsAll, Keeps}
-use Rattle.js_tree.proofs.HoldingLemmas.{HoldsAll-none, HoldsAll-next, HoldsAll-wider, Holds-below, Holds-wider, Keeps-refl, Keeps-trans, Keeps-made, Keeps-longer}
-use Rattle.js_cursor.specs.declared.stop.Stop.{Stop}
+use Rattle.std.proofs.Common.{◌≡◌, refl}
+use Rattle.std.specs.Prelude.{get_or, IsCharBoundary}
+use Rattle.js_grammar.proofs.Calculus.{left, right}
+use Rattle.js_tree.specs.Nodes.{node_at, empty_program, label}
+use Rattle.js_tree.specs.Holding.{Stands, stands}
 use Rattle.std.proofs.lemmas.List.Elements.{All-same, All-push}
 use Rattle.js_base.specs.Spans.{LiesIn}
 use Rattle.js_cursor.specs.Places.{IsAt}
@@ -74,9 +47,9 @@ pub one_lies : {text : List ℕ} {v w : Parser} {l : Label} {ids : List (Option 
 one_lies {text} {v} {w} n s h = All-same (λ (m : Node). LiesIn m.span text) w.nodes (v.nodes ++ n.node ∷ []) n.made.nodes (All-push (λ (m : Node). LiesIn m.span text) v.nodes n.node h (subst (λ (k : Label). LabelLies text k) (sym n.label_is) s))
 
 -- a span from the token of one state up to the place of a later one
-pub from_start : {p q : Parser} {l : Label} → Same p q → IsAt q → p.token.span.start ≤ q.prev_token_end → l.span ≡ record { from = p.token.span.start; to = q.prev_token_end } → IsCharBoundary p.text p.token.span.start → LabelLies q.text l
-from_start {p} {q} s i w e b = subst (λ (v : TreeSpan). LiesIn (record { start = v.from; end = v.to }) q.text) (sym e) (record { ordered = w; starts_whole = subst (λ (t : List ℕ). IsCharBoundary t p.token.span.start) (sym s.follows.text) b; ends_whole = i.between })
+pub from_start : {p q : Parser} (l : Label) → Same p q → IsAt q → p.token.span.start ≤ q.prev_token_end → l.span ≡ record { from = p.token.span.start; to = q.prev_token_end } → IsCharBoundary p.text p.token.span.start → LabelLies q.text l
+from_start {p} {q} l s i w e b = subst (λ (v : TreeSpan). LiesIn (record { start = v.from; end = v.to }) q.text) (sym e) (record { ordered = w; starts_whole = subst (λ (t : List ℕ). IsCharBoundary t p.token.span.start) (sym s.follows.text) b; ends_whole = i.between })
 
 -- a node with such a span
 pub made_lies : {p q w : Parser} {l : Label} {ids : List (Option NodeId)} {id : NodeId} → Same p q → IsAt q → p.token.span.start ≤ q.prev_token_end → MadeHere l ids q w id → l.span ≡ record { from = p.token.span.start; to = q.prev_token_end } → IsCharBoundary p.text p.token.span.start → NodesLie q.text q.nodes → NodesLie q.text w.nodes
-made_lies {l = l} s i w n e = λ b h. one_lies n (from_start {l = l} s i w e b) h
+made_lies {l = l} s i w n e = λ b h. one_lies n (from_start l s i w e b) h

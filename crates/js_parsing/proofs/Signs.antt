@@ -1,129 +1,43 @@
 -- Whether a lexeme of some kind stands at a place, and what is kept there.
-use Rattle.std.proofs.Common.{ℕ, ◌≡◌, ◌≤◌, List, [], ◌∷◌, length, Bool, true, false, not, ◌&&◌, ◌||◌, IsTrue, Some, None, refl, sym, ap, subst, arith, ◌∙◌}
-use Rattle.std.specs.Prelude.{Err}
-use Rattle.std.proofs.lemmas.Bool.{false≢true, and_from, and_parts}
+use Rattle.std.proofs.Common.{ℕ, ◌≡◌, ◌≤◌, List, [], ◌∷◌, length, Bool, true, false, ◌&&◌, ◌||◌, IsTrue, refl, sym, ap, subst, arith, ◌∙◌}
+use Rattle.std.proofs.lemmas.Bool.{false≢true}
 use Rattle.js_base.specs.declared.kind.Kind.{Kind}
 use Rattle.js_base.specs.declared.kind.Kind.TheVariants.{Question, Colon, PrivateIdentifier, RAngle, Undetermined}
 use Rattle.js_base.specs.declared.span.Span.{Span}
 use Rattle.js_base.specs.Kinds.{same_kind, one_of_kinds}
 use Rattle.js_base.specs.Texts.{words}
-use Rattle.js_grammar.specs.Trees.{Span as TreeSpan, Slots, end, tree, Label, no_op, conditional_expression}
-use Rattle.js_grammar.specs.Grammar.{Lexeme, Lexemes, Look, here, seen, such, nothing, exact, is_seq, is_lexeme, is_such, alt, Takes, ◌▸◌}
-use Rattle.js_grammar.specs.Insertion.{Row, after_expression, after_postfix, after_body, after_yield, after_declarator, after_word, assign_operators}
+use Rattle.js_grammar.specs.Trees.{end}
+use Rattle.js_grammar.specs.Grammar.{Lexeme}
 use Rattle.js_grammar.specs.Lexemes.{is_word, is_escaped}
 use Rattle.js_grammar.specs.Names.{has_backslash}
-use Rattle.js_grammar.specs.Parsing.{Test, always, Admits, Goes, Fails, still}
-use Rattle.js_grammar.specs.Productions.{G, Flags, at, tok, mk, plus_in, Arrow', Assignment, Conditional, Short}
-use Rattle.js_grammar.specs.Productions.{sym as symbol}
-use Rattle.js_grammar.specs.Table.{rule, rule_of}
-use Rattle.js_grammar.specs.Follow.{edge_of, row_of, follow, after, looser, widest}
-use Rattle.js_grammar.proofs.Looks.{covers, covered, apart}
-use Rattle.js_grammar.proofs.Calculus.{On, Inside, inside_full, ◌▹✗◌, left, right, fails_alt, fails_node, fails_rule, fails_nothing, part_fails, weaken_fails_on}
-use Rattle.js_grammar.proofs.FirstClaims.{firsts}
-use Rattle.js_grammar.proofs.FirstRules.{by_first}
-use Rattle.js_grammar.proofs.FollowLaws.{passes_on, surely, same_read, fails_by}
-use Rattle.js_grammar.proofs.RightEdges.{of_operand}
-use Rattle.js_tree.specs.declared.id.NodeId.{NodeId}
-use Rattle.js_tree.specs.declared.kind.NodeKind.TheVariants as node
-use Rattle.js_tree.specs.declared.op.Op.TheVariants as op
-use Rattle.js_tree.specs.Nodes.{Node}
-use Rattle.js_tree.specs.Holding.{Holds, Keeps}
-use Rattle.js_tree.proofs.HoldingLemmas.{HoldsAll-two, HoldsAll-next, Keeps-trans, Keeps-made}
+use Rattle.js_grammar.specs.Productions.{Flags, at}
 use Rattle.js_cursor.specs.Parsers.{Parser}
-use Rattle.js_cursor.specs.Moves.{is_last, at_lexeme}
-use Rattle.js_cursor.specs.declared.stop.Stop.{Stop}
-use Rattle.js_cursor.specs.declared.stop.Stop.TheVariants.{Fatal, NoMemory}
-use Rattle.js_base.specs.declared.diagnostic.DiagnosticKind.TheVariants as fault
-use Rattle.js_base.specs.declared.source_type.SourceType.{SourceType}
+use Rattle.js_cursor.specs.Moves.{is_last}
 use Rattle.js_base.proofs.KindLemmas.{kind_of_same}
-use Rattle.js_grammar.specs.LexicalFaults.{Reached}
 use Rattle.js_grammar.specs.Lexed.{Lex as StandsBehind, all_faults}
-use Rattle.js_grammar.specs.Marks.{Mark, LexemeAt, a_lexeme, of_kinds}
-use Rattle.js_lex.specs.States.{goal_of}
-use Rattle.js_cursor.specs.Places.{IsAt, goal}
-use Rattle.js_cursor.proofs.Standing.{mark_here}
 use Rattle.js_parsing.specs.Lexemes.{Lex}
 use Rattle.js_parsing.specs.States.{At}
 use Rattle.js_parsing.proofs.Here.{found, told, uncut, kind_here}
 use Rattle.js_parsing.proofs.Paths.{token}
 use Rattle.js_parsing.proofs.Tight.{read_plain}
-use Rattle.std.proofs.Common.{ℕ, ◌≡◌, ◌≤◌, ◌<◌, ◌⊎◌, inl, inr, List, [], ◌∷◌, length, length-append, Bool, true, false, not, cond, ◌&&◌, ◌||◌, IsTrue, Some, None, refl, sym, ap, subst, arith, ◌∙◌, nat_lt}
-use Rattle.std.specs.Prelude.{IsCharBoundary, IsSome, is_some, if◌then◌else◌}
-use Rattle.js_base.specs.declared.operator.UpdateOperator.{UpdateOperator}
-use Rattle.js_base.specs.declared.operator.UpdateOperator.TheVariants as update
-use Rattle.js_base.specs.Operators.{row_of as row_in, update_operators}
-use Rattle.std.proofs.lemmas.Bool.{false≢true, and_from, and_parts, or_left, or_right, lt-ltb}
-use Rattle.js_base.specs.declared.diagnostic.Diagnostic.{Diagnostic}
-use Rattle.js_base.specs.declared.kind.Kind.TheVariants.{Eof, Question, Colon, Plus2, Minus2, PrivateIdentifier, RAngle, Undetermined, Comma, Semicolon, RParen, RBrack}
-use Rattle.js_grammar.specs.Grammar.{Lexeme, Lexemes, Look, seen, here}
-use Rattle.js_grammar.specs.Insertion.{Row, after_expression}
-use Rattle.js_grammar.specs.Marks.{Mark, BehindUpdate, a_lexeme}
-use Rattle.js_grammar.specs.Productions.{Flags, Symbol, at, LeftHandSide, Unary}
-use Rattle.js_grammar.specs.Follow.{looser}
+use Rattle.std.proofs.Common.{◌<◌, ◌⊎◌, inl, inr, length-append, cond, nat_lt}
+use Rattle.std.proofs.lemmas.Bool.{or_left, or_right, lt-ltb}
+use Rattle.js_base.specs.declared.kind.Kind.TheVariants.{Eof, Comma, Semicolon, RParen, RBrack}
 use Rattle.js_grammar.proofs.Lexemes.{first_or}
 use Rattle.js_lex.specs.Reading.{Tells}
-use Rattle.js_cursor.specs.Places.{goal}
-use Rattle.js_cursor.specs.declared.stop.Stop.TheVariants.{Fatal}
 use Rattle.js_parsing.specs.Answers.{Grown, Verdict, clean, unclean}
-use Rattle.js_parsing.specs.Lexemes.{Lex, read_kinds}
+use Rattle.js_parsing.specs.Lexemes.{read_kinds}
 use Rattle.js_parsing.specs.Moves.{Tightness}
 use Rattle.js_parsing.specs.Operators.{power_of}
 use Rattle.js_parsing.specs.Stands.{ending_kinds, Ended}
-use Rattle.js_parsing.specs.States.{At, IsPlain, whole, sign, nothing as no_lexeme}
-use Rattle.js_parsing.proofs.Here.{found, uncut}
+use Rattle.js_parsing.specs.States.{IsPlain, whole, sign, nothing as no_lexeme}
 use Rattle.js_parsing.proofs.Paths.{read_of}
-use Rattle.js_parsing.proofs.Tight.{operator_read, read_plain}
-use Rattle.std.proofs.Common.{ℕ, ◌≡◌, ◌≤◌, ◌⊎◌, inl, inr, max, Bool, true, false, not, ◌&&◌, ◌||◌, IsTrue, List, [], ◌∷◌, refl, sym, ap, subst, arith, ◌∙◌}
-use Rattle.std.proofs.lemmas.Bool.{false≢true, and_parts, and_from, or_left}
-use Rattle.js_base.specs.declared.kind.Kind.TheVariants.{Dot, QuestionDot, New, LParen, LBrack, NoSubstitutionTemplate, TemplateHead, Function}
-use Rattle.js_grammar.specs.Trees.{Slots, end, tree, Label, no_op, static_member_expression, computed_member_expression, call_expression, new_expression}
-use Rattle.js_grammar.specs.Grammar.{Lexeme, Lexemes, Look, here, is, exact, seen, such, alt, never, node, seq, nothing, ◌▸◌}
-use Rattle.js_grammar.specs.Parsing.{Test, plain, full, always, still, joined, Way, Goes, Reads, Fails, Admits}
-use Rattle.js_grammar.specs.Productions.{G, Flags, Symbol, at, tok, mk, make, optional_flag, Primary, Member, Call, Chain, Links, Super, LeftHandSide, IdentifierName}
-use Rattle.js_grammar.specs.Productions.{New as new_symbol, sym as symbol}
-use Rattle.js_grammar.specs.Table.{rule, rule_of, args}
-use Rattle.js_grammar.specs.Insertion.{after_expression}
-use Rattle.js_grammar.specs.Follow.{Edge, edge_of, follow_of, after}
-use Rattle.js_grammar.proofs.Calculus.{Inside, Heads, on_itself, here_at, ◌▹◌, ◌▹✗◌, left, right, then_by, makes_by, inside_full, by_plain, by_rule, fails_node, fails_alt, fails_never, part_fails, weaken, weaken_fails, weaken_on, weaken_fails_on}
-use Rattle.js_grammar.proofs.FirstRules.{by_first, fails_here}
-use Rattle.js_grammar.proofs.FollowLaws.{admits, fails_by, same_read}
-use Rattle.js_grammar.proofs.Loops.{Around, chain_start, chain_start_fails, chain_step_by, chain_step_fails_by, chain_end, linked_starts, beginning, unfollowed}
-use Rattle.js_grammar.proofs.Towers.{Link, link, linked_label, make_of, this, of_left, of_right, OneOf, head, later}
-use Rattle.js_grammar.proofs.Split.{other_heads}
-use Rattle.js_grammar.proofs.Chains.{is_member, is_call, is_links, base_of, climbs, member_links, call_links, chain_links, members, calls, chains}
-use Rattle.js_grammar.proofs.LinkLoops.{OfMember, private, member_name, member_index}
-use Rattle.std.proofs.Common.{ℕ, ◌≡◌, ◌≤◌, ◌<◌, ◌+◌, ◌⊎◌, inl, inr, max, List, [], ◌∷◌, length, Option, Some, None, Bool, true, false, not, ◌&&◌, ◌||◌, IsTrue, refl, sym, ap, subst, arith, ◌∙◌, nat_lt, ◌++◌, cond}
-use Rattle.std.specs.Prelude.{Result, Ok, Err, MatchResult}
-use Rattle.std.proofs.lemmas.Bool.{false≢true, and_parts, and_from}
-use Rattle.js_base.specs.declared.kind.Kind.TheVariants.{RAngle, New, Dot, QuestionDot, LParen, LBrack, RBrack, PrivateIdentifier, Ident, This, Null, True, False, Decimal, Str}
-use Rattle.js_base.specs.KindSets.{identifier_name_kinds}
-use Rattle.js_grammar.specs.Trees.{Slots, end, tree, Label, no_op, identifier_name, new_expression, chain_expression}
-use Rattle.js_grammar.specs.Grammar.{Lexeme, Lexemes, Look, next, seen, exact, seq, such, nothing, ◌▸◌}
-use Rattle.js_grammar.specs.Insertion.{after_expression}
-use Rattle.js_grammar.specs.Parsing.{Test, plain, full, always, behind, Fails, Way, still, passing}
-use Rattle.js_grammar.specs.Productions.{G, Flags, Symbol, at, tok, mk, plus_in, IdentifierName, Expression, Primary, Member, Call, Chain, Links, LeftHandSide}
-use Rattle.js_grammar.specs.Follow.{Edge, row_of, edge_of, follow, follow_of, after, tight}
-use Rattle.js_grammar.proofs.Looks.{covers, covered, apart, not_both}
-use Rattle.js_grammar.proofs.Calculus.{Inside, inside_full, weaken, ◌▹◌, ◌▹✗◌, then_by, part_fails, fails_node, fails_lexeme, weaken_fails}
-use Rattle.js_grammar.proofs.FollowLaws.{fails_by, surely}
-use Rattle.js_grammar.proofs.RightEdges.{may_end, same_row}
-use Rattle.js_grammar.specs.Lexed.{all_faults}
-use Rattle.js_grammar.specs.Lexed.{Lex as StandsBehind}
-use Rattle.js_base.specs.declared.diagnostic.DiagnosticKind.{DiagnosticKind}
-use Rattle.js_grammar.specs.Marks.{Mark, StandsAt, LexemeAt, of_kinds, a_lexeme}
+use Rattle.js_parsing.proofs.Tight.{operator_read}
+use Rattle.js_grammar.specs.Grammar.{is}
+use Rattle.js_grammar.specs.Parsing.{plain}
 use Rattle.js_lex.specs.Reading.{is_right_angle}
-use Rattle.js_tree.specs.declared.kind.NodeKind.{NodeKind as NodeKindMade}
-use Rattle.js_tree.specs.Holding.{Holds, HoldsAll, Keeps}
-use Rattle.js_tree.proofs.HoldingLemmas.{HoldsAll-one, HoldsAll-next, Keeps-refl, Keeps-trans, Keeps-made}
-use Rattle.js_cursor.specs.Checkpoints.{Follows}
-use Rattle.js_cursor.specs.Moves.{Enters, GivesUp, Leaves, MovesOn, OnlyMemory, is_last}
-use Rattle.js_cursor.proofs.Later.{follows_on}
-use Rattle.js_parsing.specs.Answers.{Grown, Verdict, clean}
 use Rattle.js_parsing.specs.Stands.{StandsHere}
-use Rattle.js_parsing.proofs.Here.{told, angled, kind_here, escaped_here, uncut, found}
-use Rattle.js_parsing.proofs.Paths.{token, read_of}
-use Rattle.js_operands.specs.declared.left_hand_side.LinkBase.TheVariants as base
-use Rattle.js_grammar.specs.Lexemes.{is_word as is_name_word}
+use Rattle.js_parsing.proofs.Here.{angled, escaped_here}
 
 unescaped : (k : Kind) (u : List ℕ) → (is_word k || same_kind PrivateIdentifier k) ≡ false → is_escaped k u ≡ false
 unescaped k u w = ap (λ (b : Bool). b && has_backslash u) w

@@ -1,5 +1,5 @@
 -- One lexeme on, the operator that stands at a place, and a node made there.
-use Rattle.std.specs.Prelude.{ℕ, ◌≡◌, ◌<◌, ◌⊎◌, false, cond, List, [], ◌∷◌, ◌++◌, Option}
+use Rattle.std.specs.Prelude.{ℕ, ◌≡◌, ◌<◌, ◌⊎◌, false, cond, List, [], ◌∷◌, Option}
 use Rattle.js_grammar.specs.Grammar.{Lexeme}
 use Rattle.js_grammar.specs.Lexed.{Lex as StandsBehind, all_faults}
 use Rattle.js_grammar.specs.Productions.{Flags}
@@ -22,24 +22,11 @@ use Rattle.js_parsing.specs.Lexemes.{News, IsNew, onward, spot}
 use Rattle.js_parsing.specs.Operators.{power_of}
 use Rattle.js_parsing.specs.Classes.{EndsParse}
 use Rattle.js_parsing.specs.States.{At, Same}
-use Rattle.std.specs.Prelude.{ℕ, ◌≡◌, ◌≤◌, ◌⊎◌, ◌||◌, ◌&&◌, not, Bool, true, false, IsTrue, nat_lt, List, [], ◌∷◌, length, None, Result, Ok, Err}
-use Rattle.js_base.specs.declared.diagnostic.Diagnostic.{Diagnostic}
-use Rattle.js_base.specs.declared.diagnostic.DiagnosticKind.TheVariants as fault
-use Rattle.js_base.specs.Kinds.{one_of_kinds}
-use Rattle.js_base.specs.declared.kind.Kind.TheVariants.{Question, Colon, Comma, Semicolon, RParen, RBrack, Plus2, Minus2, Eof}
-use Rattle.js_grammar.specs.Trees.{Label, Slots, end as no_slots, tree}
-use Rattle.js_grammar.specs.Grammar.{Lexeme, Lexemes, Look, such, nothing}
-use Rattle.js_grammar.specs.Insertion.{assign_operators}
-use Rattle.js_grammar.specs.Parsing.{always, plain, Fails}
-use Rattle.js_grammar.specs.Table.{rule}
-use Rattle.js_grammar.specs.Marks.{LexemeAt, of_kinds}
-use Rattle.js_grammar.specs.Productions.{Flags, Symbol, at, Arrow', ArrayTarget, Assignment, Short}
-use Rattle.js_tree.specs.Holding.{Holds, Keeps as KeepsNodes}
-use Rattle.js_cursor.specs.Moves.{GivesUp, Keeps}
-use Rattle.js_cursor.specs.Places.{goal}
+use Rattle.std.specs.Prelude.{Result, Ok, Err}
+use Rattle.js_grammar.specs.Productions.{at}
+use Rattle.js_cursor.specs.Moves.{GivesUp}
 use Rattle.js_cursor.specs.declared.stop.Stop.{Stop}
 use Rattle.js_cursor.specs.declared.stop.Stop.TheVariants.{Fatal}
-use Rattle.js_parsing.specs.Lexemes.{spot}
 
 -- the current token is the whole of a lexeme that may be passed
 abbrev pub IsWholeHere : Parser → Type 0

@@ -1,16 +1,14 @@
 -- Which lexeme stands at a parser's place.
-use Rattle.std.specs.Prelude.{ℕ, ◌≡◌, ◌<◌, ◌≤◌, ◌⊎◌, Bool, true, false, List, [], ◌∷◌}
+use Rattle.std.specs.Prelude.{ℕ, ◌≡◌, Bool, true, false, List, [], ◌∷◌}
 use Rattle.js_base.specs.declared.kind.Kind.{Kind}
 use Rattle.js_base.specs.declared.kind.Kind.TheVariants.{RBrack}
 use Rattle.js_base.specs.Kinds.{one_of_kinds}
-use Rattle.js_grammar.specs.Grammar.{Lexeme, is, ◌▸◌}
+use Rattle.js_grammar.specs.Grammar.{Lexeme}
 use Rattle.js_grammar.specs.Productions.{Flags, at}
-use Rattle.js_grammar.proofs.Towers.{link}
 use Rattle.js_cursor.specs.Parsers.{Parser}
 use Rattle.js_parsing.specs.Lexemes.{Lex}
 use Rattle.js_parsing.specs.States.{At, Same}
-use Rattle.std.specs.Prelude.{◌||◌, ◌&&◌, IsTrue, nat_lt}
-use Rattle.js_base.specs.declared.diagnostic.DiagnosticKind.TheVariants as fault
+use Rattle.std.specs.Prelude.{◌||◌, IsTrue, nat_lt}
 use Rattle.js_base.specs.declared.kind.Kind.TheVariants.{Question, Colon, Comma, Semicolon, RParen, Eof}
 use Rattle.js_parsing.specs.Operators.{power_of}
 

@@ -225,7 +225,7 @@ module _ {text : List ℕ} {f : Flags} {p q : Parser} {id : NodeId} (a : At text
     labeled = subst (λ (l : Label). MadeHere l [] q w label) (same_label e) made
 
     same_made : Same q w
-    same_made = subst (λ (v : Parser). Same q v) (sym made.stays) (same_with w.nodes same_itself (Keeps-made made.made) (λ b h. one_lies labeled (from_start {l = label_here label_identifier no_op p q} x.answer.same x.answer.at.at (let g = x.answer.further in omega arith) refl a.at.lies.starts_whole) h))
+    same_made = subst (λ (v : Parser). Same q v) (sym made.stays) (same_with w.nodes same_itself (Keeps-made made.made) (λ b h. one_lies labeled (from_start (label_here label_identifier no_op p q) x.answer.same x.answer.at.at (let g = x.answer.further in omega arith) refl a.at.lies.starts_whole) h))
 
     errors_made : w.errors ≡ q.errors
     errors_made = ap (λ (v : Parser). v.errors) made.stays

@@ -197,7 +197,7 @@ one_taken {text} {f} {g} {g'} {p} {q} {w} {l} {cs} {id} y b e h k i m = go w.nod
     go : (ns : List Node) → w ≡ record q { nodes = ns } → Holds w.nodes (length p.nodes) (length w.nodes) id.0 l cs → Keeps p.nodes w.nodes → (LabelLies q.text l → NodesLie q.text q.nodes → NodesLie q.text w.nodes) → OneTaken text f g g' p w id
     go ns e h k m = subst (λ (r : Parser). OneTaken text f g g' p r id) (sym e) (record {
       at = beside_nodes ns y.at;
-      same = same_with ns b (subst (λ (r : Parser). Keeps p.nodes r.nodes) e k) (λ c z. subst (λ (r : Parser). NodesLie q.text r.nodes) e (m (from_start {l = l} b y.at.at (let g = y.further in omega arith) i c) z));
+      same = same_with ns b (subst (λ (r : Parser). Keeps p.nodes r.nodes) e k) (λ c z. subst (λ (r : Parser). NodesLie q.text r.nodes) e (m (from_start l b y.at.at (let g = y.further in omega arith) i c) z));
       further = y.further;
       label = l;
       slots = cs;

@@ -402,7 +402,7 @@ by_statement {text} {f} {n} {p} {q} {w} {l} {cs} {id} a b e h k i m = go w.nodes
         let y : Path text f (after_statement n) (such n always) p nothing q (tree l cs) = by_symbol_as {X' = after_statement n} (λ l cs vs y d. d) a in
         subst (λ (r : Parser). Statement text f n p r id) (sym e) (record {
           at = beside_nodes ns y.at;
-          same = same_with ns b (subst (λ (r : Parser). Keeps p.nodes r.nodes) e k) (λ c z. subst (λ (r : Parser). NodesLie q.text r.nodes) e (m (from_start {l = l} b y.at.at (let g = y.further in omega arith) i c) z));
+          same = same_with ns b (subst (λ (r : Parser). Keeps p.nodes r.nodes) e k) (λ c z. subst (λ (r : Parser). NodesLie q.text r.nodes) e (m (from_start l b y.at.at (let g = y.further in omega arith) i c) z));
           further = y.further;
           label = l;
           slots = cs;

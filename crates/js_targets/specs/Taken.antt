@@ -1,24 +1,19 @@
 -- What is told of an expression that is no target, and what the conversion of an array literal to a target answers (ECMA-262, 13.15.5).
-use Rattle.std.specs.Prelude.{ℕ, ◌≡◌, ◌≤◌, ◌⊎◌, ◌||◌, ◌&&◌, not, Bool, true, false, IsTrue, nat_lt, List, [], ◌∷◌, length, None, Result, Ok, Err}
+use Rattle.std.specs.Prelude.{ℕ, ◌≡◌, ◌⊎◌, ◌&&◌, not, true, List, length, None, Result, Ok, Err}
 use Rattle.js_base.specs.declared.diagnostic.Diagnostic.{Diagnostic}
 use Rattle.js_base.specs.declared.diagnostic.DiagnosticKind.TheVariants as fault
 use Rattle.js_base.specs.Kinds.{one_of_kinds}
-use Rattle.js_base.specs.declared.kind.Kind.{Kind}
-use Rattle.js_base.specs.declared.kind.Kind.TheVariants.{Question, Colon, Comma, Semicolon, RParen, RBrack, Plus2, Minus2, Eof}
-use Rattle.js_base.specs.declared.span.Span.{Span}
 use Rattle.js_grammar.specs.Trees.{Label, Slots, end as no_slots, tree}
-use Rattle.js_grammar.specs.Grammar.{Lexeme, Lexemes, Look, such, nothing}
+use Rattle.js_grammar.specs.Grammar.{Lexemes, Look, such, nothing}
 use Rattle.js_grammar.specs.Insertion.{assign_operators}
 use Rattle.js_grammar.specs.Parsing.{always, plain, Fails}
 use Rattle.js_grammar.specs.Table.{rule}
-use Rattle.js_grammar.specs.Marks.{LexemeAt, of_kinds}
-use Rattle.js_grammar.specs.Productions.{Flags, Symbol, at, Arrow', ArrayTarget, Assignment, Short}
+use Rattle.js_grammar.specs.Productions.{Flags, at, ArrayTarget, Short}
 use Rattle.js_tree.specs.declared.id.NodeId.{NodeId}
 use Rattle.js_tree.specs.Holding.{Holds, Keeps as KeepsNodes}
 use Rattle.js_cursor.specs.Moves.{GivesUp, Keeps}
 use Rattle.js_targets.specs.Targets.{Each, Open, is_array}
 use Rattle.js_cursor.specs.Parsers.{Parser}
-use Rattle.js_cursor.specs.Places.{goal}
 use Rattle.js_cursor.specs.declared.stop.Stop.{Stop}
 use Rattle.js_cursor.specs.declared.stop.Stop.TheVariants.{Fatal}
 use Rattle.js_parsing.specs.Answers.{Numbered, Stops, Stretch, Verdict}
