@@ -286,8 +286,8 @@ module _ {text : List ℕ} {f : Flags} {p q : Parser} {id : NodeId} (a : At text
     keeps = x.keeps;
   }
 
-  told : {d : Diagnostic} {r : Parser} → IsEarly d → one_of_kinds unary_kinds p.token.kind ≡ true → KeepsOne d q r → Numbered text f (at Update f) p r id
-  told {d} {r} y h c = subst (λ (z : Parser). Numbered text f (at Update f) p z id) (sym c.is) (record {
+  told : {d : Diagnostic} {r : Parser} → one_of_kinds unary_kinds p.token.kind ≡ true → KeepsOne d q r → IsEarly d → Numbered text f (at Update f) p r id
+  told {d} {r} h c y = subst (λ (z : Parser). Numbered text f (at Update f) p z id) (sym c.is) (record {
     answer = record {
       at = beside_errors x.answer.at (subst IsAt c.is c.at);
       same = record { follows = follows_on x.answer.same.follows (subst (Follows q) c.is (keeps_follows c)); options = x.answer.same.options; ctx = x.answer.same.ctx; depth = x.answer.same.depth; visits = x.answer.same.visits; early = λ w. one_early _ q.errors y (x.answer.same.early w); lies = x.answer.same.lies };
@@ -306,7 +306,7 @@ module _ {text : List ℕ} {f : Flags} {p q : Parser} {id : NodeId} (a : At text
 
   -- the base was checked: it is an UpdateExpression, or none is derived
   pub base_checked : {r : Parser} {is_unary : Bool} {n start : ℕ} → is_unary ≡ one_of_kinds unary_kinds p.token.kind → n ≡ length p.errors → ChecksBase start is_unary n q r → Numbered text f (at Update f) p r id
-  base_checked {r} {is_unary = true} {n} e i (inl c) = told refl (sym e) c.1
+  base_checked {r} {is_unary = true} {n} e i (inl c) = told (sym e) c.1 refl
   base_checked {r} {is_unary = true} {n} e i (inr c) = subst (λ (z : Parser). Numbered text f (at Update f) p z id) (sym c.0) (broken (sym e) (by x.answer.verdict))
     where
       by : Verdict p.errors q.errors (Stretch text (after (at Unary f)) (such (at Unary f) always) p.prev_token_end nothing q.prev_token_end (tree x.answer.label x.answer.slots) x.answer.pass) (Underived text (at Unary f) p.prev_token_end) → Grown p.errors q.errors

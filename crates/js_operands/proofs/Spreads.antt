@@ -165,7 +165,7 @@ module _ {text : List ℕ} {f : Flags} {p : Parser} (a : At text f p) (k : Stand
       spread_taken = let z = spread_read x.answer in item_of_spread z.pass z.walked z.verdict
 
 -- where none may be spread, that was told first
-module _ {text : List ℕ} {f : Flags} {p o : Parser} {d : Diagnostic} (a : At text f p) (k : StandsHere p Dot3 true) (early : IsEarly d) (t : KeepsOne d p o) where
+module _ {text : List ℕ} {f : Flags} {p o : Parser} {d : Diagnostic} (a : At text f p) (k : StandsHere p Dot3 true) (t : KeepsOne d p o) where
   pub no_spread_here : NoItem text (at Assignment (plus_in f)) p.prev_token_end
   no_spread_here = no_plain_item a k
 
@@ -175,8 +175,8 @@ module _ {text : List ℕ} {f : Flags} {p o : Parser} {d : Diagnostic} (a : At t
   told_nodes : o.nodes ≡ p.nodes
   told_nodes = ap (λ (z : Parser). z.nodes) t.is
 
-  pub spread_told : {n : Symbol} {w : Parser} {id : NodeId} → ItemTaken text f n o w id → ItemTaken text f (at Assignment (plus_in f)) p w id
-  spread_told {w = w} {id} y = record {
+  pub spread_told : IsEarly d → {n : Symbol} {w : Parser} {id : NodeId} → ItemTaken text f n o w id → ItemTaken text f (at Assignment (plus_in f)) p w id
+  spread_told early {w = w} {id} y = record {
     at = y.at;
     same = same_both (told_same t early) y.same;
     further = let i = y.further in let e = ap (λ (z : Parser). z.token.span.start) t.is in omega arith;
@@ -189,12 +189,12 @@ module _ {text : List ℕ} {f : Flags} {p o : Parser} {d : Diagnostic} (a : At t
     keeps = subst (λ (ns : List Node). Keeps ns w.nodes) told_nodes y.keeps;
   }
 
-  pub told_stops : (q : Parser) (e : Stop) (F : Type 0) → Stops o q e F → Stops p q e (NoItem text (at Assignment (plus_in f)) p.prev_token_end)
-  told_stops q e F z = stops_behind q e (told_same t early) (λ g. grown_both (kept_one t) g) (λ n. no_spread_here) z
+  pub told_stops : IsEarly d → (q : Parser) (e : Stop) (F : Type 0) → Stops o q e F → Stops p q e (NoItem text (at Assignment (plus_in f)) p.prev_token_end)
+  told_stops early q e F z = stops_behind q e (told_same t early) (λ g. grown_both (kept_one t) g) (λ n. no_spread_here) z
 
-pub told_outcome : {text : List ℕ} {f : Flags} {p o : Parser} {d : Diagnostic} (w : Parser) (r : Result NodeId Stop) → At text f p → StandsHere p Dot3 true → IsEarly d → KeepsOne d p o → ItemOutcome text f (at Argument f) o w r → ItemOutcome text f (at Assignment (plus_in f)) p w r
-told_outcome w (Ok id) a k i t y = spread_told a k i t y
-told_outcome w (Err e) a k i t z = told_stops a k i t w e _ z
+pub told_outcome : {text : List ℕ} {f : Flags} {p o : Parser} {d : Diagnostic} (w : Parser) (r : Result NodeId Stop) → At text f p → StandsHere p Dot3 true → KeepsOne d p o → IsEarly d → ItemOutcome text f (at Argument f) o w r → ItemOutcome text f (at Assignment (plus_in f)) p w r
+told_outcome w (Ok id) a k t i y = spread_told a k t i y
+told_outcome w (Err e) a k t i z = told_stops a k t i w e _ z
 
 pub spread_marked : {text : List ℕ} {f : Flags} {p : Parser} (s : Span) → At text f p → StandsHere p Dot3 true → s ≡ p.token.span → Mark (goal p) p.text (spread_at s)
 spread_marked {p = p} s a h e = subst (λ (v : Span). Mark (goal p) p.text (spread_at v)) (sym e) (record {

@@ -113,8 +113,8 @@ module _ {text : List ℕ} {f : Flags} {p m : Parser} (close : Kind) (a : At tex
   none_closes : NoneLeft text (tok close) p.prev_token_end
   none_closes = fails_lexeme (is close) (λ y l h. false≢true (subst (λ (z : Kind). one_of_kinds closers z ≡ true) (kind_of_same close y.kind (and_parts (same_kind close y.kind) _ h).0 ∙ kind_here a k refl y l) c))
 
-  pub comma_told : {d : Diagnostic} {q : Parser} (ids : List (Option NodeId)) → IsEarly d → KeepsOne d m q → OneMore text f (tok close) (tok close) p q ids ids
-  comma_told {d} {q} ids y t =
+  pub comma_told : {d : Diagnostic} {q : Parser} (ids : List (Option NodeId)) → KeepsOne d m q → IsEarly d → OneMore text f (tok close) (tok close) p q ids ids
+  comma_told {d} {q} ids t y =
       let n : q.nodes ≡ p.nodes = ap (λ (z : Parser). z.nodes) t.is ∙ v.nodes in
       record {
         at = told_at t v.at;

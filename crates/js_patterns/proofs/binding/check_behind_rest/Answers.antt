@@ -29,4 +29,4 @@ pub error-requires-clause-mark : goal.error-requires-clause-mark
 error-requires-clause-mark g c = comma_marked c.args.close c.requires.at (c.at.ensures.0 c.if-not-at.false) c.requires.closes (c.in_ok-advance.ensures _ _ c.requires.at) _ c.diagnostic_at.ensures (let e : c.span-comma.result ≡ c.args.p.now.token.span = search in e) (c.at-2.ensures.0 c.if-not-at-2.false)
 
 pub returns : goal.returns
-returns g c = λ text f a ids. comma_told c.args.close a (c.at.ensures.0 c.if-not-at.false) c.requires.closes (c.in_ok-advance.ensures text f a) ids (ap (λ (d : Diagnostic). class_of d.kind) c.diagnostic_at.ensures) c.in_ok-error.ensures
+returns g c = λ text f a ids. comma_told c.args.close a (c.at.ensures.0 c.if-not-at.false) c.requires.closes (c.in_ok-advance.ensures text f a) ids c.in_ok-error.ensures (ap (λ (d : Diagnostic). class_of d.kind) c.diagnostic_at.ensures)
