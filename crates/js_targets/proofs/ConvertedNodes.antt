@@ -238,8 +238,8 @@ node_kept : {os ns : List Node} {id : NodeId} → Keeps os ns → id.0 < length 
 node_kept {os} {ns} {id} k h = ap (λ (xs : List Node). node_at xs id) k.whole ∙ get_or_append_left os k.more empty_program id.0 h
 
 -- a node that lies where one did before
-noded_lies : {os ns ms : List Node} {l : Label} {ids : List (Option NodeId)} {id made : NodeId} → Noded ns ms l ids made → id.0 < length os → l.span ≡ (label (node_at os id)).span → (text : List ℕ) → NodesLie text os → NodesLie text ns → NodesLie text ms
-noded_lies {os} {ns} {ms} {id = id} n b e text h k =
+noded_lies : (os : List Node) {ns ms : List Node} {l : Label} {ids : List (Option NodeId)} (id : NodeId) {made : NodeId} → Noded ns ms l ids made → id.0 < length os → l.span ≡ (label (node_at os id)).span → (text : List ℕ) → NodesLie text os → NodesLie text ns → NodesLie text ms
+noded_lies os {ns} {ms} id n b e text h k =
     let g = n.made in
     let place : LabelLies text (label n.node) = subst (λ (v : Span). LiesIn (record { start = v.from; end = v.to }) text) (sym (ap (λ (m : Label). m.span) n.label_is ∙ e)) (All-get_or (λ (m : Node). LiesIn m.span text) os id.0 empty_program b h) in
     All-same (λ (m : Node). LiesIn m.span text) ms (ns ++ n.node ∷ []) g.nodes (All-push (λ (m : Node). LiesIn m.span text) ns n.node k place)
@@ -252,7 +252,7 @@ array_made {os} {ns} {ms} {id} {made} x n e = λ l cs rs s d.
     let w : _ ≡ relabelled array_assignment_target l = e ∙ ap (relabelled array_assignment_target) (sym c) in
     record {
       keeps = Keeps-trans y.keeps (Keeps-made (n.made));
-      lies = λ text h. noded_lies {os = os} {id = id} n (children_of {id = id} s).below (ap (λ (m : Label). m.span) e) text h (y.lies text h);
+      lies = λ text h. noded_lies os id n (children_of {id = id} s).below (ap (λ (m : Label). m.span) e) text h (y.lies text h);
       slots = tree (relabelled array_assignment_target l) y.slots end;
       is = ap (λ (r : Option Slots). slot_of (array_tree l r)) y.is;
       slotted = subst (λ (m : Label). Slotted os ms rs (Some made ∷ []) (tree m y.slots end)) w (slotted_node y.keeps y.slotted n);
@@ -464,7 +464,7 @@ module _ {os : List Node} {id : NodeId} where
               let q : rests_of x.label (rests_in x.slots) ≡ cond (is_array x.label.kind) (rests_in x.slots) [] = rests_kind x.label.kind x.label.op x.label.flags x.label.span x.slots (elements_in x.slots) t.0 (rests_in x.slots) t.1 in
               record {
                 keeps = Keeps-trans y.keeps (Keeps-made (n.made));
-                lies = λ text w. noded_lies {os = os} {id = id} n h.below (ap (λ (m : Label). m.span) e) text w (y.lies text w);
+                lies = λ text w. noded_lies os id n h.below (ap (λ (m : Label). m.span) e) text w (y.lies text w);
                 slots = tree (relabelled assignment_target_rest l) y.slots end;
                 is = ap (λ (xs : Slots). rest_slot true l (elements_in xs)) x.is ∙ (rest_some l x.label x.slots (elements_in x.slots) t.0 t.1 ∙ ap (λ (xs : Slots). Some (tree (relabelled assignment_target_rest l) xs end)) (sym t.2));
                 slotted = slotted_wider (λ r i. subst (λ (xs : List ℕ). IsIn xs r) (sym h.is) (inr i)) (subst (λ (m : Label). Slotted os ms h.numbers (Some made ∷ []) (tree m y.slots end)) g (slotted_node y.keeps y.slotted n));
@@ -516,7 +516,7 @@ item_initialised {os} {ns} {id} {made} {noted} last h g n = λ l cs rs s d a.
     let z = ap is_initialised (children_of {id = id} s).label_is ∙ g in
     converts (record {
       keeps = Keeps-made (n.made);
-      lies = λ text w. noded_lies {os = os} {id = id} n (children_of {id = id} s).below refl text w w;
+      lies = λ text w. noded_lies os id n (children_of {id = id} s).below refl text w w;
       slots = tree (relabelled assignment_target_with_default l) cs end;
       is = initialised_slot last l cs (elements_in cs) a b z;
       slotted = initialised_made {id = id} n l cs rs s d;

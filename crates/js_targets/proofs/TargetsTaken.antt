@@ -28,7 +28,7 @@ use Rattle.js_cursor.specs.Places.{goal}
 use Rattle.js_cursor.specs.declared.stop.Stop.{Stop}
 use Rattle.js_parsing.specs.Answers.{Grown, Numbered, Stops, Stretch, Underived, Verdict, clean, unclean}
 use Rattle.js_parsing.specs.Lexemes.{Lex, spot}
-use Rattle.js_targets.specs.Taken.{Refused, RestsTold, TargetTaken, no_target_at}
+use Rattle.js_targets.specs.Taken.{RestsTold, TargetTaken, no_target_at}
 use Rattle.js_parsing.specs.States.{At, Same, NodesLie}
 use Rattle.js_targets.specs.Targets.{Each, Open, Ended, Reused, Slotted, Converts, Converted, converts, refuses, is_array, relabelled, array_tree, slot_of, elements_in, rests_in, target_of}
 use Rattle.js_targets.proofs.Refused.{array_no_target}
