@@ -1,7 +1,7 @@
 -- An array literal before an assignment operator that needs a simple target (ECMA-262, 13.15.1).
 use Rattle.js_targets.proofs.Refused.{array_is, array_no_target}
-use Rattle.std.proofs.Common.{ℕ, ◌≡◌, ◌≤◌, ◌<◌, ◌⊎◌, inl, inr, List, [], ◌∷◌, length, Bool, true, false, not, ◌&&◌, IsTrue, Some, None, refl, sym, ap, subst, arith, ◌∙◌}
-use Rattle.std.specs.Prelude.{IsCharBoundary, Result, Ok, Err, ◌↔◌}
+use Rattle.std.proofs.Common.{ℕ, ◌≡◌, inl, inr, List, [], ◌∷◌, length, Bool, true, false, not, IsTrue, Some, None, refl, sym, ap, subst, arith, ◌∙◌}
+use Rattle.std.specs.Prelude.{IsCharBoundary, ◌↔◌}
 use Rattle.js_base.proofs.KindLemmas.{kind_of_same}
 use Rattle.js_cursor.specs.declared.stop.Stop.TheVariants.{NoMemory}
 use Rattle.std.proofs.lemmas.Bool.{false≢true, and_from}
@@ -12,29 +12,26 @@ use Rattle.js_base.specs.declared.operator.AssignmentOperator.{AssignmentOperato
 use Rattle.js_base.specs.declared.span.Span.{Span}
 use Rattle.js_base.specs.Kinds.{same_kind, one_of_kinds}
 use Rattle.js_base.specs.Operators.{row_of as row_in, assignment_operators}
-use Rattle.js_grammar.specs.Trees.{NodeKind, Op, Label, Slots, end, tree, Tree, of, array_expression, assignment_expression}
-use Rattle.js_grammar.specs.Grammar.{Lexeme, Lexemes, here, last, next, such, nothing, Takes, is_nothing, is_such}
+use Rattle.js_grammar.specs.Trees.{Label, Slots, end, tree, of, array_expression, assignment_expression}
+use Rattle.js_grammar.specs.Grammar.{Lexeme, Lexemes, here, last, such, nothing, Takes, is_nothing}
 use Rattle.js_grammar.specs.Insertion.{assign_operators}
 use Rattle.js_grammar.specs.Lexemes.{is_escaped}
-use Rattle.js_grammar.specs.Lexed.{Lexes}
 use Rattle.js_grammar.specs.Marks.{Mark, StandsAt, Part}
 use Rattle.js_base.specs.declared.diagnostic.DiagnosticKind.TheVariants.{AssignmentIsNotSimple}
 use Rattle.js_grammar.specs.Settings.{Goal}
 use Rattle.js_grammar.specs.Parsing.{always}
-use Rattle.js_grammar.specs.Productions.{Flags, Symbol, at, Arrow', Assignment, Short, Primary}
+use Rattle.js_grammar.specs.Productions.{Flags, at, Arrow', Assignment, Short, Primary}
 use Rattle.js_grammar.specs.Table.{rule}
 use Rattle.js_grammar.specs.Follow.{after}
 use Rattle.js_grammar.proofs.Loose.{strict_is_loose}
 use Rattle.js_tree.specs.declared.id.NodeId.{NodeId}
 use Rattle.js_tree.specs.declared.kind.NodeKind.TheVariants as node
 use Rattle.js_tree.specs.declared.op.Op.TheVariants as op_made
-use Rattle.js_tree.specs.Labels.{assignment_kind}
 use Rattle.js_tree.specs.Nodes.{Node}
 use Rattle.js_tree.specs.Holding.{Holds, Keeps}
 use Rattle.js_tree.proofs.HoldingLemmas.{Keeps-trans, Keeps-made}
 use Rattle.js_cursor.specs.Parsers.{Parser}
-use Rattle.js_cursor.specs.Moves.{Keeps as KeepsOne}
-use Rattle.js_cursor.specs.Places.{IsAt, goal}
+use Rattle.js_cursor.specs.Places.{goal}
 use Rattle.js_cursor.specs.declared.stop.Stop.{Stop}
 use Rattle.js_parsing.specs.Answers.{Grown, unclean, Underived, Answer, Numbered, Stretch, Stops}
 use Rattle.js_parsing.specs.Lexemes.{Lex, spot}

@@ -4,15 +4,14 @@ use Rattle.std.proofs.Common.{ℕ, ◌≡◌, ◌≤◌, List, [], ◌∷◌, le
 use Rattle.std.specs.Prelude.{Err}
 use Rattle.std.proofs.lemmas.Bool.{false≢true, and_from, and_parts}
 use Rattle.js_base.specs.declared.kind.Kind.{Kind}
-use Rattle.js_base.specs.declared.kind.Kind.TheVariants.{Question, Colon, PrivateIdentifier, RAngle, Undetermined}
+use Rattle.js_base.specs.declared.kind.Kind.TheVariants.{Question, Colon, PrivateIdentifier, Undetermined}
 use Rattle.js_base.specs.declared.span.Span.{Span}
 use Rattle.js_base.specs.Kinds.{same_kind, one_of_kinds}
 use Rattle.js_base.specs.Texts.{words}
 use Rattle.js_grammar.specs.Trees.{Span as TreeSpan, Slots, end, tree, Label, no_op, conditional_expression}
 use Rattle.js_grammar.specs.Grammar.{Lexeme, Lexemes, Look, here, seen, such, nothing, exact, is_seq, is_lexeme, is_such, alt, Takes, ◌▸◌}
 use Rattle.js_grammar.specs.Insertion.{Row, after_expression, after_postfix, after_body, after_yield, after_declarator, after_word, assign_operators}
-use Rattle.js_grammar.specs.Lexemes.{is_word, is_escaped}
-use Rattle.js_grammar.specs.Names.{has_backslash}
+use Rattle.js_grammar.specs.Lexemes.{is_word}
 use Rattle.js_grammar.specs.Parsing.{Test, always, Admits, Goes, Fails, still}
 use Rattle.js_grammar.specs.Productions.{G, Flags, at, tok, mk, plus_in, Arrow', Assignment, Conditional, Short}
 use Rattle.js_grammar.specs.Productions.{sym as symbol}
@@ -31,12 +30,11 @@ use Rattle.js_tree.specs.Nodes.{Node}
 use Rattle.js_tree.specs.Holding.{Holds, Keeps}
 use Rattle.js_tree.proofs.HoldingLemmas.{HoldsAll-two, HoldsAll-next, Keeps-trans, Keeps-made}
 use Rattle.js_cursor.specs.Parsers.{Parser}
-use Rattle.js_cursor.specs.Moves.{is_last, at_lexeme}
+use Rattle.js_cursor.specs.Moves.{at_lexeme}
 use Rattle.js_cursor.specs.declared.stop.Stop.{Stop}
 use Rattle.js_cursor.specs.declared.stop.Stop.TheVariants.{Fatal, NoMemory}
 use Rattle.js_base.specs.declared.diagnostic.DiagnosticKind.TheVariants as fault
 use Rattle.js_base.specs.declared.source_type.SourceType.{SourceType}
-use Rattle.js_base.proofs.KindLemmas.{kind_of_same}
 use Rattle.js_grammar.specs.LexicalFaults.{Reached}
 use Rattle.js_grammar.specs.Lexed.{Lex as StandsBehind, all_faults}
 use Rattle.js_grammar.specs.Marks.{Mark, LexemeAt, a_lexeme, of_kinds}

@@ -1,42 +1,36 @@
 -- What is told of an operand that is no target.
-use Rattle.js_parsing.proofs.Signs.{there, plain_of, none_kept}
+use Rattle.js_parsing.proofs.Signs.{plain_of, none_kept}
 use Rattle.js_targets.proofs.Refused.{refused}
-use Rattle.std.proofs.Common.{ℕ, ◌≡◌, ◌≤◌, ◌<◌, ◌⊎◌, inl, inr, List, [], ◌∷◌, length, length-append, Bool, true, false, not, cond, ◌&&◌, ◌||◌, IsTrue, Some, None, refl, sym, ap, subst, arith, ◌∙◌, nat_lt}
+use Rattle.std.proofs.Common.{ℕ, ◌≡◌, ◌≤◌, ◌⊎◌, inl, inr, List, length, Bool, true, false, not, ◌&&◌, ◌||◌, IsTrue, Some, None, refl, sym, ap, subst, arith, ◌∙◌, nat_lt}
 use Rattle.std.specs.Prelude.{IsCharBoundary, IsSome, is_some, if◌then◌else◌}
 use Rattle.js_base.specs.declared.operator.UpdateOperator.{UpdateOperator}
 use Rattle.js_base.specs.declared.operator.UpdateOperator.TheVariants as update
 use Rattle.js_base.specs.Operators.{row_of as row_in, update_operators}
 use Rattle.js_tree.specs.declared.id.NodeId.{NodeId}
-use Rattle.std.proofs.lemmas.Bool.{false≢true, and_from, and_parts, or_left, or_right, lt-ltb}
+use Rattle.std.proofs.lemmas.Bool.{false≢true, and_from, and_parts}
 use Rattle.js_base.specs.declared.diagnostic.Diagnostic.{Diagnostic}
 use Rattle.js_base.specs.declared.kind.Kind.{Kind}
-use Rattle.js_base.specs.declared.kind.Kind.TheVariants.{Eof, Question, Colon, Plus2, Minus2, PrivateIdentifier, RAngle, Undetermined, Comma, Semicolon, RParen, RBrack}
+use Rattle.js_base.specs.declared.kind.Kind.TheVariants.{Plus2, Minus2}
 use Rattle.js_base.specs.declared.span.Span.{Span}
 use Rattle.js_base.specs.Kinds.{same_kind, one_of_kinds}
-use Rattle.js_base.specs.Texts.{words}
 use Rattle.js_grammar.specs.Grammar.{Lexeme, Lexemes, Look, seen, here}
 use Rattle.js_grammar.specs.Insertion.{Row, after_expression}
 use Rattle.js_grammar.specs.LexicalFaults.{Reached}
-use Rattle.js_grammar.specs.Lexed.{Lex as StandsBehind, all_faults}
-use Rattle.js_grammar.specs.Lexemes.{is_word, is_escaped}
-use Rattle.js_grammar.specs.Names.{has_backslash}
+use Rattle.js_grammar.specs.Lexemes.{is_escaped}
 use Rattle.js_grammar.specs.Marks.{Mark, BehindUpdate, a_lexeme}
 use Rattle.js_grammar.specs.Productions.{Flags, Symbol, at, LeftHandSide, Unary}
 use Rattle.js_grammar.specs.Follow.{looser}
-use Rattle.js_grammar.proofs.Lexemes.{first_or}
 use Rattle.js_grammar.proofs.Looks.{covers, covered, apart}
-use Rattle.js_lex.specs.Reading.{Tells}
 use Rattle.js_cursor.specs.Parsers.{Parser}
 use Rattle.js_cursor.specs.Places.{goal}
 use Rattle.js_cursor.specs.declared.stop.Stop.{Stop}
-use Rattle.js_cursor.specs.declared.stop.Stop.TheVariants.{Fatal}
 use Rattle.js_parsing.specs.Answers.{Answer, Numbered, Verdict, Stops}
 use Rattle.js_parsing.specs.Lexemes.{Lex, read_kinds}
 use Rattle.js_parsing.specs.Moves.{Moved}
 use Rattle.js_parsing.specs.Operators.{power_of}
 use Rattle.js_expressions.specs.Rests.{update_kinds}
 use Rattle.js_parsing.specs.Stands.{ending_kinds, Ended}
-use Rattle.js_targets.specs.Taken.{no_target_at, Refused}
+use Rattle.js_targets.specs.Taken.{no_target_at}
 use Rattle.js_parsing.specs.States.{At, Same}
 use Rattle.js_targets.specs.Targets.{target_of, Stood}
 use Rattle.js_targets.proofs.Covers.{row_of_target, Untargeted, no_target_there}

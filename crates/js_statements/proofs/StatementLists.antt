@@ -1,20 +1,19 @@
 -- Directives and statements, one behind the other.
 use Rattle.js_parsing.proofs.MadeNodes.{held_label, one_lies, LabelLies, from_start}
-use Rattle.std.proofs.Common.{ℕ, ◌≡◌, ◌≤◌, ◌<◌, max, List, [], ◌∷◌, ◌++◌, length, Bool, true, false, not, ◌&&◌, ◌||◌, cond, IsTrue, Option, Some, refl, sym, ap, subst, arith, ◌∙◌}
-use Rattle.std.specs.Prelude.{◌↔◌, get_or}
+use Rattle.std.proofs.Common.{ℕ, ◌≡◌, ◌<◌, max, List, [], ◌∷◌, ◌++◌, length, Bool, true, false, not, ◌&&◌, cond, IsTrue, Option, Some, refl, sym, ap, subst, arith, ◌∙◌}
+use Rattle.std.specs.Prelude.{◌↔◌}
 use Rattle.std.proofs.lemmas.Bool.{false≢true, and_parts, and_from}
-use Rattle.js_base.specs.declared.kind.Kind.{Kind}
 use Rattle.js_base.specs.declared.kind.Kind.TheVariants.{Eof, Ident, Semicolon, Str}
 use Rattle.js_base.specs.declared.span.Span.{Span}
 use Rattle.js_base.specs.Contexts.{has_flag, in_flag}
 use Rattle.js_base.specs.Kinds.{one_of_kinds}
 use Rattle.js_grammar.specs.Trees.{Label, Slots, end, hole, tree, append, no_op, directive, expression_statement}
-use Rattle.js_grammar.specs.Grammar.{Lexeme, Lexemes, Look, is, here, seen, seq, alt, many, when, such, ended, semicolon, nothing, Grammar, Takes, is_nothing, is_seq, is_left, is_right, is_many, is_such}
-use Rattle.js_grammar.specs.Insertion.{by_edge, goes_on}
+use Rattle.js_grammar.specs.Grammar.{Lexeme, Lexemes, Look, is, here, seen, seq, alt, many, when, such, nothing, Takes, is_nothing, is_seq, is_left, is_right, is_many, is_such}
+use Rattle.js_grammar.specs.Insertion.{goes_on}
 use Rattle.js_grammar.specs.Conditions.{not_string}
 use Rattle.js_grammar.specs.Lexed.{Lexes}
-use Rattle.js_grammar.specs.Parsing.{Test, plain, behind, full, always, still, Goes, Reads, Fails, Admits}
-use Rattle.js_grammar.specs.Productions.{G, Flags, Symbol, at, opt, ListItem, Item, Labeled, Directive, Expression, ImportDecl, ExportDecl}
+use Rattle.js_grammar.specs.Parsing.{Test, plain, behind, always, still, Goes, Fails}
+use Rattle.js_grammar.specs.Productions.{G, Flags, at, opt, ListItem, Item, Labeled, Directive, Expression, ImportDecl, ExportDecl}
 use Rattle.js_grammar.specs.Productions.{sym as symbol}
 use Rattle.js_grammar.specs.Table.{rule, rule_of, string}
 use Rattle.js_grammar.specs.Follow.{row_of, after}
@@ -29,11 +28,10 @@ use Rattle.js_tree.specs.declared.kind.NodeKind.{NodeKind}
 use Rattle.js_tree.specs.declared.kind.NodeKind.TheVariants as node
 use Rattle.js_tree.specs.declared.op.Op.TheVariants as op
 use Rattle.js_tree.specs.Labels.{kind_of}
-use Rattle.js_tree.specs.Nodes.{Node, node_at, empty_program, label}
-use Rattle.js_tree.specs.Holding.{Stands, stands, Holds, HoldsAll, Keeps}
-use Rattle.js_tree.proofs.HoldingLemmas.{HoldsAll-none, HoldsAll-next, HoldsAll-wider, Holds-below, Holds-wider, Keeps-refl, Keeps-trans, Keeps-made, Keeps-longer}
+use Rattle.js_tree.specs.Nodes.{Node, node_at, label}
+use Rattle.js_tree.specs.Holding.{stands, Holds, HoldsAll, Keeps}
+use Rattle.js_tree.proofs.HoldingLemmas.{HoldsAll-none, HoldsAll-next, Holds-below, Keeps-refl, Keeps-trans, Keeps-made}
 use Rattle.js_cursor.specs.Parsers.{Parser}
-use Rattle.js_cursor.specs.declared.stop.Stop.{Stop}
 use Rattle.js_parsing.specs.Lexemes.{Lex, nowhere}
 use Rattle.js_parsing.specs.States.{At, Same, flags_of, NodesLie}
 use Rattle.js_parsing.specs.Nesting.{room}
