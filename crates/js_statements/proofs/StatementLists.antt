@@ -273,12 +273,12 @@ module _ {text : List ℕ} {f : Flags} {p : Parser} (a : At text f p) (s : p.tok
       }
 
 -- a statement that begins with a string, and its node
-opening_node : {text : List ℕ} {f : Flags} {g g' : G} {p q r w : Parser} {child id : NodeId} {l : Label} (k : NodeKind) (s : Span) (x : Numbered text f (at Expression f) p q child) → EndsStatement q r → plain_label k op.None s ≡ l → MadeHere (plain_label k op.None s) (Some child ∷ []) r w id → Path text f (plain at_text_end) g p g' r (tree l (tree x.answer.label x.answer.slots end)) → OneTaken text f g g' p w id
-opening_node {text} {f} {g} {g'} {p} {q} {r} {w} {child} {id} {l} k s x e u d y =
+opening_node : {text : List ℕ} {f : Flags} {g g' : G} {p q r w : Parser} {child id : NodeId} {l : Label} (k : NodeKind) (s : Span) (x : Numbered text f (at Expression f) p q child) → EndsStatement q r → plain_label k op.None s ≡ l → MadeHere (plain_label k op.None s) (Some child ∷ []) r w id → Path text f (plain at_text_end) g p g' r (tree l (tree x.answer.label x.answer.slots end)) → l.span ≡ record { from = p.token.span.start; to = r.prev_token_end } → OneTaken text f g g' p w id
+opening_node {text} {f} {g} {g'} {p} {q} {r} {w} {child} {id} {l} k s x e u d y i =
     let made : MadeHere l (Some child ∷ []) r w id = subst (λ (v : Label). MadeHere v (Some child ∷ []) r w id) u d in
     let z = ended_so x.answer.at e in
     let ks : Keeps p.nodes r.nodes = subst (λ (ns : List Node). Keeps p.nodes ns) (sym z.nodes) x.keeps in
-    one_taken y (same_both x.answer.same z.same) made.stays (one_held p.nodes made (subst (λ (ns : List Node). Holds ns (length p.nodes) (length ns) child.0 x.answer.label x.answer.slots) (sym z.nodes) x.holds)) (Keeps-trans ks (Keeps-made made.made)) refl (one_lies made)
+    one_taken y (same_both x.answer.same z.same) made.stays (one_held p.nodes made (subst (λ (ns : List Node). Holds ns (length p.nodes) (length ns) child.0 x.answer.label x.answer.slots) (sym z.nodes) x.holds)) (Keeps-trans ks (Keeps-made made.made)) i (one_lies made)
 
 pub opening_answers : {text : List ℕ} {f : Flags} {p q r w : Parser} {child id : NodeId} (b : Bool) (k : NodeKind) (s : Span) → At text f p → p.token.kind ≡ Str → f.in_ ≡ true → (x : Numbered text f (at Expression f) p q child) → EndsStatement q r → IsTrue b ↔ ((node_at r.nodes child).kind ≡ node.StringLiteral) → k ≡ cond b node.Directive node.ExpressionStatement → s.start ≡ p.token.span.start → s.end ≡ r.prev_token_end → MadeHere (plain_label k op.None s) (Some child ∷ []) r w id
     → OneTaken text f (with_directives f) (left_by b f) p w id
@@ -291,8 +291,8 @@ opening_answers {text} {f} {p} {q} {r} {w} {child} {id} b k s a t i x e n u c d 
     literal b n = ap (λ (l : Label). is_literal l.kind) is_label ∙ literal_of b (node_at r.nodes child).kind n
 
     go : (b : Bool) → IsTrue b ↔ ((node_at r.nodes child).kind ≡ node.StringLiteral) → k ≡ cond b node.Directive node.ExpressionStatement → OneTaken text f (with_directives f) (left_by b f) p w id
-    go true n u = opening_node k s x e (rw (u, c, d) refl) m (as_directive a t x.answer i e (literal true n))
-    go false n u = opening_node k s x e (rw (u, c, d) refl) m (as_statement a t x.answer i e (literal false n))
+    go true n u = opening_node k s x e (rw (u, c, d) refl) m (as_directive a t x.answer i e (literal true n)) refl
+    go false n u = opening_node k s x e (rw (u, c, d) refl) m (as_statement a t x.answer i e (literal false n)) refl
 
 -- the number of an expression lies among the nodes
 pub child_below : {text : List ℕ} {f : Flags} {p q r : Parser} {child : NodeId} → (x : Numbered text f (at Expression f) p q child) → EndsStatement q r → child.0 < length r.nodes
