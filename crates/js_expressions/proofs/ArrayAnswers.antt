@@ -47,7 +47,7 @@ use Rattle.js_targets.proofs.Assigned.{assign_part, no_branch, not_target, to_pa
 use Rattle.js_expressions.proofs.Assignments.{all_assign, no_question, on_second, plain_here, second}
 use Rattle.js_expressions.proofs.Conditionals.{no_conditional}
 use Rattle.js_parsing.proofs.Dead.{fails_dead}
-use Rattle.js_parsing.proofs.MadeNodes.{two_held}
+use Rattle.js_parsing.proofs.MadeNodes.{two_held, one_lies}
 use Rattle.js_parsing.proofs.Moving.{same_both}
 use Rattle.js_operands.proofs.Operands.{by_path}
 use Rattle.js_parsing.proofs.Paths.{Path, ◌⟼◌, ◌⟶◌, ◌⟶✗◌, label_here, last_called, noded_by, token}
@@ -108,4 +108,4 @@ module _ {text : List ℕ} {f : Flags} {p q : Parser} (x : Answer text f (at Sho
           let g : MadeHere (label_here assignment_expression (of Eq) p w) (Some id ∷ Some right ∷ []) w z made = subst (λ (v : Label). MadeHere v (Some id ∷ Some right ∷ []) w z made) l n in
           let i : Holds w.nodes (length r.nodes) (length w.nodes) right.0 y.answer.label y.answer.slots = subst (λ (ns : List Node). Holds w.nodes (length ns) (length w.nodes) right.0 y.answer.label y.answer.slots) m.nodes y.holds in
           let j : Keeps r.nodes w.nodes = subst (λ (ns : List Node). Keeps ns w.nodes) m.nodes y.keeps in
-          by_path (target_assigned a y.answer) (same_both t.same (same_both m.same y.answer.same)) g.stays (λ i j. y.answer.stops i j) y.answer.row (two_held g t.holds t.keeps i j) (Keeps-trans t.keeps (Keeps-trans j (Keeps-made g.made)))
+          by_path (target_assigned a y.answer) (same_both t.same (same_both m.same y.answer.same)) g.stays (λ i j. y.answer.stops i j) y.answer.row (two_held g t.holds t.keeps i j) (Keeps-trans t.keeps (Keeps-trans j (Keeps-made g.made))) refl (one_lies g)

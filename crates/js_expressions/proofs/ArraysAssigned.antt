@@ -45,7 +45,7 @@ use Rattle.js_expressions.proofs.Assignments.{assign_refused, assign_named}
 use Rattle.js_targets.proofs.Covers.{begins_there, part_there}
 use Rattle.js_parsing.proofs.Giving.{kept_one}
 use Rattle.js_parsing.proofs.Here.{found}
-use Rattle.js_parsing.proofs.MadeNodes.{two_held}
+use Rattle.js_parsing.proofs.MadeNodes.{two_held, made_lies}
 use Rattle.js_parsing.proofs.Moving.{same_both, same_itself, same_with, beside_nodes, stops_behind}
 use Rattle.js_parsing.proofs.Paths.{label_here, read_of, walked_both, walked_from, walked_one}
 use Rattle.js_parsing.proofs.Signs.{grew, none_kept, plain_of}
@@ -53,6 +53,7 @@ use Rattle.js_targets.proofs.Targets.{array_shape, by_brackets, may_array, of_sh
 use Rattle.js_parsing.proofs.Told.{told_at, told_same}
 use Rattle.js_parsing.proofs.Verdicts.{grown_both, grown_first, grown_on, grown_then}
 use Rattle.js_parsing.proofs.Verdicts.{after as grown_behind}
+use Rattle.js_parsing.specs.Classes.{IsEarly}
 
 literal_stands : (source : Goal) (text : List ℕ) (s s' from : ℕ) (f : Flags) (l : Label) (cs : Slots) (ls : Lexemes) (y : Lexeme) → Part text s ls → (here ls).from ≡ from → Takes rule (rule (at Primary f)) end (tree l cs end) s ls end s' (last y) → l.kind ≡ array_expression → one_of_kinds assign_operators y.kind ≡ true → same_kind Eq y.kind ≡ false
     → StandsAt AssignmentIsNotSimple source text (record { start = from; end = s' }) None None
@@ -80,11 +81,11 @@ module _ {d : Diagnostic} {kept : ℕ} {q o : Parser} (t : TellsOnce d kept q o)
       by (inl k) = told_at k a
       by (inr e) = subst (λ (z : Parser). At text f z) (sym e.1) a
 
-  pub once_same : Same q o
-  once_same = by t
+  pub once_same : IsEarly d → Same q o
+  once_same y = by t
     where
       by : TellsOnce d kept q o → Same q o
-      by (inl k) = told_same k
+      by (inl k) = told_same k y
       by (inr e) = subst (λ (z : Parser). Same q z) (sym e.1) same_itself
 
   -- all but the diagnostics stays
@@ -160,7 +161,7 @@ module _ {text : List ℕ} {f : Flags} {p q : Parser} (a : At text f p) (x : Ans
       passed_grown g = grown_both once_grown (grown_then m.kept g)
 
       pub array_stops : (w : Parser) (e : Stop) (F : Type 0) → Stops r w e F → Stops p w e (Underived text (at Assignment f) p.prev_token_end)
-      array_stops w e F s = stops_behind w e (same_both x.same (same_both (once_same t) m.same)).follows (λ g. passed_grown g) (λ i. array_refused na) s
+      array_stops w e F s = stops_behind w e (same_both x.same (same_both (once_same t refl) m.same)) (λ g. passed_grown g) (λ i. array_refused na) s
 
       pub array_assigned : {w z : Parser} {left second id : NodeId} {operator : AssignmentOperator} (s : Span) → row_in assignment_operators q.token.kind ≡ Some operator → Holds q.nodes (length p.nodes) (length q.nodes) left.0 x.label x.slots → Keeps p.nodes q.nodes → (y : Numbered text f (at Assignment f) r w second) → s.start ≡ p.token.span.start → s.end ≡ w.prev_token_end
           → MadeHere (plain_label node.AssignmentExpression (op_made.Assignment operator) s) (Some left ∷ Some second ∷ []) w z id → Numbered text f (at Assignment f) p z id
@@ -173,7 +174,7 @@ module _ {text : List ℕ} {f : Flags} {p q : Parser} (a : At text f p) (x : Ans
           subst (λ (v : Parser). Numbered text f (at Assignment f) p v id) (sym j.stays) (record {
             answer = record {
               at = beside_nodes z.nodes y.answer.at;
-              same = same_with z.nodes (same_both x.same (same_both (once_same t) (same_both m.same y.answer.same))) (Keeps-trans ks (Keeps-trans k (Keeps-made j.made)));
+              same = same_with z.nodes (same_both x.same (same_both (once_same t refl) (same_both m.same y.answer.same))) (Keeps-trans ks (Keeps-trans k (Keeps-made j.made))) (made_lies (same_both x.same (same_both (once_same t refl) (same_both m.same y.answer.same))) y.answer.at.at (let i = x.further in let o = once_place t in let g = m.further in let h = m.at.behind in let k = y.answer.further in let l = (once_at t x.at).behind in omega arith) j refl);
               further = let i = x.further in let o = once_place t in let g = m.further in let h = m.at.behind in let k = y.answer.further in let l = (once_at t x.at).behind in omega arith;
               label = label_here assignment_expression (of q.token.kind) p w;
               slots = tree x.label x.slots (tree y.answer.label y.answer.slots end);

@@ -61,7 +61,7 @@ use Rattle.js_cursor.proofs.Later.{keeps_follows}
 use Rattle.js_parsing.specs.Answers.{Underived, Answer, Answers, Numbered, Outcome, Refuses, Stretch, Stops, Grown, Verdict, clean, unclean}
 use Rattle.js_cursor.specs.Notes.{Notes}
 use Rattle.js_parsing.specs.Contexts.{arrow_body}
-use Rattle.js_expressions.specs.Arrows.{head_of, late_arrow, ArrowBehind, BeforeArrow, a_head, told_head, ToldHead, ChecksLine, FindsHead, Head, LooksForHead, IsHead, IsHeadHere, IsRefusedHead, NoArrowHere, NoHeadHere, Single, Unmoved}
+use Rattle.js_expressions.specs.Arrows.{head_of, late_arrow, ArrowBehind, BeforeArrow, a_head, told_head, ToldHead, ChecksLine, FindsHead, Head, LooksForHead, IsHead, IsHeadHere, IsRefusedHead, NoArrowHere, NoHeadHere, Single, Unmoved, refused, NoneLooked}
 use Rattle.js_parsing.specs.Heads.{NoHead, NotedHeads}
 use Rattle.js_expressions.specs.Closings.{ArrowBehindOne}
 use Rattle.js_expressions.proofs.Closings.{closes_alike, one_is}
@@ -69,7 +69,7 @@ use Rattle.js_cursor.specs.Tokens.{may_be_read_again}
 use Rattle.js_parsing.proofs.KeptTokens.{before_back, last_back}
 use Rattle.js_parsing.specs.Lexemes.{Lex, spot}
 use Rattle.js_parsing.specs.Moves.{Moved, MadeHere, LeafTaken, TakesLeaf, plain_label}
-use Rattle.js_parsing.specs.States.{At, Same, Standing, flags_of, IsPlain, whole, sign, nothing as nothing_here}
+use Rattle.js_parsing.specs.States.{At, Same, Standing, flags_of, IsPlain, whole, sign, nothing as nothing_here, NodesLie, SpansLie}
 use Rattle.js_targets.proofs.ArraysBeforeSigns.{not_wide}
 use Rattle.js_targets.proofs.Assigned.{arrow_passes, only_arrow}
 use Rattle.js_expressions.proofs.Assignments.{by_second, second}
@@ -80,8 +80,8 @@ use Rattle.js_expressions.proofs.Exponents.{longer}
 use Rattle.js_parsing.proofs.Told.{beside_errors}
 use Rattle.js_parsing.proofs.Giving.{kept_one}
 use Rattle.js_parsing.proofs.Here.{alike, angled, found, plainly, one_plain, newline_here, kind_here, told, uncut}
-use Rattle.js_parsing.proofs.MadeNodes.{leaf_held, node_held, two_held}
-use Rattle.js_parsing.proofs.Moving.{beside_nodes, flags_same, heads_kept, same_both, same_itself, same_with, stops_behind}
+use Rattle.js_parsing.proofs.MadeNodes.{leaf_held, node_held, two_held, one_lies, LabelLies, from_start}
+use Rattle.js_parsing.proofs.Moving.{beside_nodes, flags_same, heads_kept, same_both, same_itself, same_with, stops_behind, nodes_lie}
 use Rattle.js_operands.proofs.Operands.{by_path, by_such, name_test}
 use Rattle.js_patterns.proofs.Bindings.{bound_path, ended_by, then_any}
 use Rattle.js_parsing.proofs.Paths.{reads, Path, ◌⟼◌, ◌⟶◌, ◌⟶✗◌, fails_at, token, last_called, noded, noded_by, by_symbol_as, label_here, read_of, walked_both, walked_from, walked_one}
@@ -89,6 +89,9 @@ use Rattle.js_parsing.proofs.Signs.{none_kept, plain_of}
 use Rattle.js_parsing.proofs.Ahead.{pass_over, reads_other}
 use Rattle.js_parsing.proofs.Tight.{read_plain}
 use Rattle.js_parsing.proofs.Verdicts.{grown_first, grown_then, grown_both}
+use Rattle.js_parsing.specs.Classes.{IsEarly}
+use Rattle.js_parsing.proofs.Classes.{kept_early}
+use Rattle.std.proofs.lemmas.List.Elements.{All-same}
 
 -- ---- what begins like a head, with `=>` behind it, is no operand
 
@@ -313,13 +316,13 @@ module _ {text : List ℕ} {f : Flags} {p : Parser} {t : Token} (a : At text f p
 
 -- ---- what is answered of a head
 
-head_of_path : {text : List ℕ} {f : Flags} {p q : Parser} (w : Parser) {l : Label} {cs : Slots} {id : NodeId} → Path text f (plain full) (head_of f) p nothing q (tree l cs) → q.errors ≡ p.errors → Same p q → w ≡ record q { nodes = w.nodes } → Holds w.nodes (length p.nodes) (length w.nodes) id.0 l cs → Keeps p.nodes w.nodes → Head text f p w id
-head_of_path {text} {f} {p} {q} w {l} {cs} {id} r e s n h k = go w.nodes n h k
+head_of_path : {text : List ℕ} {f : Flags} {p q : Parser} (w : Parser) {l : Label} {cs : Slots} {id : NodeId} → Path text f (plain full) (head_of f) p nothing q (tree l cs) → q.errors ≡ p.errors → Same p q → w ≡ record q { nodes = w.nodes } → Holds w.nodes (length p.nodes) (length w.nodes) id.0 l cs → Keeps p.nodes w.nodes → (IsCharBoundary p.text p.token.span.start → NodesLie q.text q.nodes → NodesLie q.text w.nodes) → Head text f p w id
+head_of_path {text} {f} {p} {q} w {l} {cs} {id} r e s n h k i = go w.nodes n h k i
   where
-    go : (ns : List Node) → w ≡ record q { nodes = ns } → Holds w.nodes (length p.nodes) (length w.nodes) id.0 l cs → Keeps p.nodes w.nodes → Head text f p w id
-    go ns n h k = subst (λ (z : Parser). Head text f p z id) (sym n) (record {
+    go : (ns : List Node) → w ≡ record q { nodes = ns } → Holds w.nodes (length p.nodes) (length w.nodes) id.0 l cs → Keeps p.nodes w.nodes → (IsCharBoundary p.text p.token.span.start → NodesLie q.text q.nodes → NodesLie q.text w.nodes) → Head text f p w id
+    go ns n h k i = subst (λ (z : Parser). Head text f p z id) (sym n) (record {
       at = beside_nodes ns r.at;
-      same = same_with ns s (subst (λ (z : Parser). Keeps p.nodes z.nodes) n k);
+      same = same_with ns s (subst (λ (z : Parser). Keeps p.nodes z.nodes) n k) (λ b z. subst (λ (v : Parser). NodesLie q.text v.nodes) n (i b z));
       further = r.further;
       kept = e;
       label = l;
@@ -354,7 +357,7 @@ name_found {p} {q} {w} {id} a b e s =
 
 -- parameters in parentheses
 pub parenthesized_head : {text : List ℕ} {f : Flags} {p q : Parser} {id : NodeId} → At text f p → p.token.kind ≡ LParen → Numbered text f (at Params f) p q id → length q.errors ≡ length p.errors → Head text f p q id
-parenthesized_head {p = p} {q = q} a k x e = head_of_path q (parameters_path a k x.answer) (by x.answer.verdict) x.answer.same refl x.holds x.keeps
+parenthesized_head {p = p} {q = q} a k x e = head_of_path q (parameters_path a k x.answer) (by x.answer.verdict) x.answer.same refl x.holds x.keeps (λ b z. z)
   where
     by : {C B : Type 0} → Verdict p.errors q.errors C B → q.errors ≡ p.errors
     by (clean i c) = i
@@ -372,6 +375,7 @@ single_head {text} {f} {p} {q} {v} {w} {name} {parameter} {id} s a k e b t n m =
     let hw = node_held m (HoldsAll-one parameter hv) in
     head_of_path w (subst (λ (x : ℕ). Path text f (plain full) (head_of f) p nothing t.mid (tree (label_to formal_parameters x) (tree (label_to formal_parameter x) (tree (label_to binding_identifier x) end (hole end)) end))) (sym i) (name_path a k e t.moved)) t.moved.kept t.moved.same (m.stays ∙ ap (λ (z : Parser). record z { nodes = w.nodes }) (n.stays ∙ ap (λ (z : Parser). record z { nodes = v.nodes }) t.made.stays))
     (subst (λ (x : Span). Holds w.nodes (length p.nodes) (length w.nodes) id.0 (plain_label node_kind.FormalParameters op_made.None x) (tree (plain_label node_kind.FormalParameter op_made.None x) (tree (label_to binding_identifier p.token.span.end) end (hole end)) end)) b hw) (Keeps-trans kv (Keeps-made m.made))
+    (λ c z. let y = from_start (plain_label node_kind.FormalParameters op_made.None s) t.moved.same t.moved.at.at (let j = t.moved.further in omega arith) (ap (λ (x : Span). record { from = x.start; to = x.end }) b ∙ ap (λ (x : ℕ). record { from = p.token.span.start; to = x }) i) c in one_lies m y (one_lies n y (one_lies t.made (subst (λ (x : Span). LabelLies t.mid.text (plain_label node_kind.BindingIdentifier op_made.None x)) b y) z)))
   where
     label_to : NodeKind → ℕ → Label
     label_to n x = record { kind = n; op = no_op; flags = 0; span = record { from = p.token.span.start; to = x } }
@@ -428,8 +432,8 @@ module _ {p q : Parser} {kept : ℕ} (a : Standing p) (k : p.token.kind ≡ LPar
         | unclean g z ↦ told_head (told_parameters a k y g z (subst (λ (v : ℕ). ArrowBehindOne text v) t (subst (λ (v : List ℕ). ArrowBehindOne v start) y.answer.at.text_is c)))
       ]
 
-  pub head_unread : {id : NodeId} → Answers (at Params) p q (Ok id) → (length q.errors ≡ kept → ⊥) ⊎ (q.token.kind ≡ Arrow → ⊥) → GoesOn p q × NotedHeads q × NoHeadHere p
-  head_unread x h = let y = (x _ _ a).answer in ((y.same.follows, y.at.at), y.at.heads, λ text f a. by h (x text f a).answer a)
+  pub head_unread : {id : NodeId} → Answers (at Params) p q (Ok id) → (length q.errors ≡ kept → ⊥) ⊎ (q.token.kind ≡ Arrow → ⊥) → NoneLooked p q
+  head_unread x h = let y = (x _ _ a).answer in ((y.same.follows, y.at.at), y.at.heads, λ text f a. by h (x text f a).answer a, λ w. (y.same.lies w).1)
     where
       by : {text : List ℕ} {f : Flags} → (length q.errors ≡ kept → ⊥) ⊎ (q.token.kind ≡ Arrow → ⊥) → Answer text f (at Params f) p q → At text f p → NoHead text f p.prev_token_end
       by (inl m) x a = unclean_head a x (λ e. m (e ∙ sym n))
@@ -439,11 +443,11 @@ module _ {p q : Parser} {kept : ℕ} (a : Standing p) (k : p.token.kind ≡ LPar
 pub start_between : {p q : Parser} {id : NodeId} {start : ℕ} → Standing p → Answers (at Params) p q (Ok id) → start ≡ p.prev_token_end → IsCharBoundary q.text start
 start_between {p} {q} a x e = let y = (x _ _ a).answer in subst (λ (v : ℕ). IsCharBoundary q.text v) (sym e) (subst (λ (t : List ℕ). IsCharBoundary t p.prev_token_end) (sym y.at.text_is) a.at.between)
 
-pub head_refused : {p q : Parser} (e : Stop) → Standing p → e ≡ Fatal → ((text : List ℕ) (f : Flags) → At text f p → Stops p q e (Underived text (at Params f) p.prev_token_end)) → GoesOn p q × NotedHeads q × NoHeadHere p
+pub head_refused : {p q : Parser} (e : Stop) → Standing p → e ≡ Fatal → ((text : List ℕ) (f : Flags) → At text f p → Stops p q e (Underived text (at Params f) p.prev_token_end)) → NoneLooked p q
 head_refused {p} {q} e a i s = go (λ text f b. subst (λ (v : Stop). Stops p q v (Underived text (at Params f) p.prev_token_end)) i (s text f b))
   where
-    go : ((text : List ℕ) (f : Flags) → At text f p → Refuses p q (Underived text (at Params f) p.prev_token_end)) → GoesOn p q × NotedHeads q × NoHeadHere p
-    go x = let y = x _ _ a in ((y.follows, y.at), y.heads, λ text f b. no_parameters b (x text f b).none)
+    go : ((text : List ℕ) (f : Flags) → At text f p → Refuses p q (Underived text (at Params f) p.prev_token_end)) → NoneLooked p q
+    go x = let y = x _ _ a in ((y.follows, y.at), y.heads, λ text f b. no_parameters b (x text f b).none, y.lies)
 
 pub some_found : (p q : Parser) (id : NodeId) (r : Option NodeId) → r ≡ Some id → FindsHead p q r → IsHeadHere p q id
 some_found p q id r e h = subst (FindsHead p q) e h
@@ -451,7 +455,7 @@ some_found p q id r e h = subst (FindsHead p q) e h
 pub none_found : (p q : Parser) (r : Option NodeId) → r ≡ None → FindsHead p q r → Unmoved p q × NoArrowHere p
 none_found p q r e h = subst (FindsHead p q) e h
 
-pub none_looked : (p q : Parser) (r : Option NodeId) → r ≡ None → LooksForHead p q r → GoesOn p q × NotedHeads q × NoHeadHere p
+pub none_looked : (p q : Parser) (r : Option NodeId) → r ≡ None → LooksForHead p q r → NoneLooked p q
 none_looked p q r e h = subst (LooksForHead p q) e h
 
 pub some_looked : (p o q : Parser) (id : NodeId) (r : Option NodeId) → o ≡ p → r ≡ Some id → LooksForHead o q r → IsHeadHere p q id
@@ -501,7 +505,7 @@ from_unmoved text f n {p} {q} w (Ok id) u x = record {
   holds = Holds-wider (length p.nodes) (length w.nodes) (Keeps-longer u.keeps) (omega arith) x.holds;
   keeps = Keeps-trans u.keeps x.keeps;
 }
-from_unmoved text f n {p} {q} w (Err e) u s = stops_behind w e u.same.follows (λ g. subst (λ (ds : List Diagnostic). Grown ds w.errors) u.kept g) (λ z. subst (λ (s : ℕ). Underived text n s) u.place z) s
+from_unmoved text f n {p} {q} w (Err e) u s = stops_behind w e u.same (λ g. subst (λ (ds : List Diagnostic). Grown ds w.errors) u.kept g) (λ z. subst (λ (s : ℕ). Underived text n s) u.place z) s
 
 -- ---- the parser goes back
 
@@ -510,10 +514,10 @@ plain_back {text} {p} {r} t c e (whole d n x) = whole (c ∙ d) (λ k. n (sym (a
 plain_back {text} {p} {r} t c e (sign d k x) = sign (c ∙ d) (ap (λ z. z.kind) t ∙ k) (subst (λ (v : ℕ). GivesLexeme division cut text v r.token) (sym e) (subst (λ (v : Token). GivesLexeme division cut text p.prev_token_end v) (sym t) x))
 plain_back {text} {p} {r} t c e (nothing_here d k n) = nothing_here (c ∙ d) (ap (λ z. z.kind) t ∙ k) (subst (λ (v : ℕ). (y : Lexeme) → LexemeBehind division text v y → ⊥) (sym e) n)
 
-pub went_back : {p q r : Parser} {c : ParserCheckpoint} → may_be_read_again p.token.kind ≡ false → Remembers p c → GoesOn p q → NotedHeads q → GoesBack c q r → Unmoved p r
-went_back {p} {q} {r} o m f n g =
+pub went_back : {p q r : Parser} {c : ParserCheckpoint} → may_be_read_again p.token.kind ≡ false → Remembers p c → GoesOn p q → NotedHeads q → (SpansLie p → NodesLie q.text q.nodes) → GoesBack c q r → Unmoved p r
+went_back {p} {q} {r} o m f n l g =
     let b = came_back m f.0 g in
-    let s : Same p r = record { follows = back_follows m f.0 g; options = g.options ∙ f.0.options; ctx = b.ctx; depth = b.depth; visits = b.visits } in
+    let s : Same p r = record { follows = back_follows m f.0 g; options = g.options ∙ f.0.options; ctx = b.ctx; depth = b.depth; visits = b.visits; early = λ h. All-same IsEarly r.errors p.errors b.errors h; lies = λ h. (g.at.lies.starts_whole, nodes_lie q r g.text g.nodes (l h)) } in
     record {
       at = λ text f a. record { text_is = b.text ∙ a.text_is; flags_are = flags_same p r b.ctx b.source_type s.options ∙ a.flags_are; at = g.at; plain = plain_back b.token b.cut b.prev_token_end a.plain; behind = let i = b.prev_token_end in let j = ap (λ z. z.span.start) b.token in let k = a.behind in omega arith; heads = heads_kept q r g.text g.source_type g.options (ap (λ (z : Notes). z.failed) g.state) n; kept_last = last_back p.lexer r.lexer b.token b.keeps_tokens (b.tokens o) a.kept_last };
       same = s;
@@ -598,7 +602,7 @@ line_at {text} {f} a (inl (e, c)) = subst (At text f) (sym c.is) (beside_errors 
 line_at {text} {f} a (inr (e, i)) = subst (At text f) (sym i) a
 
 pub line_same : {p q : Parser} → ChecksLine p q → Same p q
-line_same {p} (inl (e, c)) = record { follows = keeps_follows c; options = ap (λ (z : Parser). z.options) c.is; ctx = ap (λ (z : Parser). z.ctx) c.is; depth = ap (λ (z : Parser). z.depth) c.is; visits = ap (λ (z : Parser). z.visits) c.is }
+line_same {p} (inl (e, c)) = record { follows = keeps_follows c; options = ap (λ (z : Parser). z.options) c.is; ctx = ap (λ (z : Parser). z.ctx) c.is; depth = ap (λ (z : Parser). z.depth) c.is; visits = ap (λ (z : Parser). z.visits) c.is; early = λ h. kept_early c refl h; lies = λ h. subst SpansLie (sym c.is) h }
 line_same {p} (inr (e, i)) = subst (λ (z : Parser). Same p z) (sym i) same_itself
 
 pub line_place : {p q : Parser} → ChecksLine p q → q.prev_token_end ≡ p.prev_token_end
@@ -623,8 +627,8 @@ module _ {text : List ℕ} {f : Flags} {o p q r : Parser} {id : NodeId} (h : Hea
   arrow_stops w e s = go c m s
     where
       go : {q : Parser} → ChecksLine p q → Moved text f q r → Stops r w e (Underived text (at Assignment (arrow_body f)) r.prev_token_end) → Stops o w e (Underived text (at Assignment f) o.prev_token_end)
-      go (inl (l, c)) m s = stops_behind w e (same_both h.same (same_both (line_same (inl (l, c))) m.same)).follows (λ g. grown_then h.kept (grown_both (kept_one c) (grown_then m.kept g))) (λ z. fails_by (late_rule h k l)) s
-      go (inr (n, i)) m s = stops_behind w e (same_both h.same (same_both (line_same (inr (n, i))) m.same)).follows (λ g. grown_then (m.kept ∙ (ap (λ (z : Parser). z.errors) i ∙ h.kept)) g) (λ z. body_fails h k n (subst (λ (z : Parser). Moved text f z r) i m) z) s
+      go (inl (l, c)) m s = stops_behind w e (same_both h.same (same_both (line_same (inl (l, c))) m.same)) (λ g. grown_then h.kept (grown_both (kept_one c) (grown_then m.kept g))) (λ z. fails_by (late_rule h k l)) s
+      go (inr (n, i)) m s = stops_behind w e (same_both h.same (same_both (line_same (inr (n, i))) m.same)) (λ g. grown_then (m.kept ∙ (ap (λ (z : Parser). z.errors) i ∙ h.kept)) g) (λ z. body_fails h k n (subst (λ (z : Parser). Moved text f z r) i m) z) s
 
   arrow_path : {w : Parser} → At text f o → (y : Answer text f (at Assignment (arrow_body f)) r w) → Path text f (after (at Assignment f)) (rule (at Assignment f)) o nothing w (tree (label_here arrow_function_expression no_op o w) (tree h.label h.slots (tree y.label y.slots end)))
   arrow_path {w} a y = go c m
@@ -646,7 +650,7 @@ module _ {text : List ℕ} {f : Flags} {o p q r : Parser} {id : NodeId} (h : Hea
       let e : r.nodes ≡ p.nodes = m.nodes ∙ line_nodes c in
       let g : Holds w.nodes (length p.nodes) (length w.nodes) body.0 y.answer.label y.answer.slots = subst (λ (ns : List Node). Holds w.nodes (length ns) (length w.nodes) body.0 y.answer.label y.answer.slots) e y.holds in
       let i : Keeps p.nodes w.nodes = subst (λ (ns : List Node). Keeps ns w.nodes) e y.keeps in
-      by_path (arrow_path a y.answer) (same_both h.same (same_both (line_same c) (same_both m.same y.answer.same))) x.stays (λ j u. y.answer.stops j u) y.answer.row (two_held x h.holds h.keeps g i) (Keeps-trans h.keeps (Keeps-trans i (Keeps-made x.made)))
+      by_path (arrow_path a y.answer) (same_both h.same (same_both (line_same c) (same_both m.same y.answer.same))) x.stays (λ j u. y.answer.stops j u) y.answer.row (two_held x h.holds h.keeps g i) (Keeps-trans h.keeps (Keeps-trans i (Keeps-made x.made))) refl (one_lies x)
 
 -- ---- and behind what was no head
 
@@ -690,7 +694,7 @@ refused x n = let t = told_of x n in told_head (record {
 
 pub before_stops : {text : List ℕ} {f : Flags} {o p q r : Parser} {id : NodeId} → BeforeArrow text f o p id → p.token.kind ≡ Arrow → ChecksLine p q → Moved text f q r → (w : Parser) (e : Stop) → Stops r w e (Underived text (at Assignment (arrow_body f)) r.prev_token_end) → Stops o w e (Underived text (at Assignment f) o.prev_token_end)
 before_stops (a_head h) k c m w e s = arrow_stops h k c m w e s
-before_stops (told_head x) k c m w e s = stops_behind w e (same_both x.same (same_both (line_same c) m.same)).follows (λ g. grown_both (grown_first (line_grown c x.grown) m.kept) g) (λ z. x.none) s
+before_stops (told_head x) k c m w e s = stops_behind w e (same_both x.same (same_both (line_same c) m.same)) (λ g. grown_both (grown_first (line_grown c x.grown) m.kept) g) (λ z. x.none) s
 
 pub before_answers : {text : List ℕ} {f : Flags} {o p q r w z : Parser} {id body made : NodeId} → BeforeArrow text f o p id → p.token.kind ≡ Arrow → ChecksLine p q → Moved text f q r → (s : Span) → At text f o → Numbered text f (at Assignment (arrow_body f)) r w body → s.start ≡ o.token.span.start → s.end ≡ w.prev_token_end → MadeHere (plain_label node_kind.ArrowFunctionExpression op_made.None s) (Some id ∷ Some body ∷ []) w z made → Numbered text f (at Assignment f) o z made
 before_answers (a_head h) k c m s a y b d n = arrow_answers h k c m s a y b d n
@@ -707,7 +711,7 @@ before_answers {text} {f} {o} {p} {q} {r} {w} {z} {id} {body} {made} (told_head 
       walked = walked_both v.walked (walked_both (walked_from (line_spot c) (walked_one m)) y.answer.walked);
       verdict = unclean (behind (grown_first (line_grown c v.grown) m.kept) y.answer.verdict) v.none;
     } in
-    by_such path (same_both v.same (same_both (line_same c) (same_both m.same y.answer.same))) x.stays (λ j u. y.answer.stops j u) y.answer.row (two_held x v.holds v.keeps g i) (Keeps-trans v.keeps (Keeps-trans i (Keeps-made x.made)))
+    by_such path (same_both v.same (same_both (line_same c) (same_both m.same y.answer.same))) x.stays (λ j u. y.answer.stops j u) y.answer.row (two_held x v.holds v.keeps g i) (Keeps-trans v.keeps (Keeps-trans i (Keeps-made x.made))) refl (one_lies x)
 
 -- what is told of `=>` on a new line
 pub late_marked : {text : List ℕ} {f : Flags} {p : Parser} (s : Span) → At text f p → p.token.kind ≡ Arrow → p.token.is_on_new_line ≡ true → s ≡ p.token.span → Mark (goal p) p.text (late_arrow s)

@@ -48,7 +48,7 @@ use Rattle.js_parsing.proofs.Dead.{all_read}
 use Rattle.js_targets.specs.Targets.{is_array}
 use Rattle.js_targets.proofs.Covers.{row_of_target, lexed_there, no_simple_there, underived_there}
 use Rattle.js_parsing.proofs.Here.{told, found}
-use Rattle.js_parsing.proofs.MadeNodes.{two_held}
+use Rattle.js_parsing.proofs.MadeNodes.{two_held, one_lies}
 use Rattle.js_parsing.proofs.Moving.{same_both}
 use Rattle.js_operands.proofs.Operands.{by_path}
 use Rattle.js_parsing.proofs.Paths.{Path, ◌⟼◌, ◌⟶◌, ◌⟶✗◌, token, last_called, noded_by, label_here, read_of, walked_to}
@@ -178,7 +178,7 @@ assign_answers {text} {f} {p} {q} {r} {w} {z} {left} {target} {second} {id} {o} 
     let h : Holds w.nodes (length q.nodes) (length w.nodes) second.0 y.answer.label y.answer.slots = subst (λ (ns : List Node). Holds w.nodes (length ns) (length w.nodes) second.0 y.answer.label y.answer.slots) m.nodes y.holds in
     let k : Keeps q.nodes w.nodes = subst (λ (ns : List Node). Keeps ns w.nodes) m.nodes y.keeps in
     by_path (assign_path x.answer na c u m t.tree t.is a y.answer) (same_both x.answer.same (same_both m.same y.answer.same)) made.stays (λ i j. y.answer.stops i j) y.answer.row
-    (two_held made t.holds x.keeps h k) (Keeps-trans x.keeps (Keeps-trans k (Keeps-made made.made)))
+    (two_held made t.holds x.keeps h k) (Keeps-trans x.keeps (Keeps-trans k (Keeps-made made.made))) refl (one_lies made)
 
 -- ---- what is told of a left side that is no target
 

@@ -44,7 +44,7 @@ use Rattle.js_expressions.proofs.Exponents.{lexes_all}
 use Rattle.js_parsing.proofs.Told.{beside_errors}
 use Rattle.js_parsing.proofs.Giving.{gives_up, kept_one}
 use Rattle.js_parsing.proofs.Here.{kind_here, begins_here}
-use Rattle.js_parsing.proofs.MadeNodes.{two_held}
+use Rattle.js_parsing.proofs.MadeNodes.{two_held, made_lies}
 use Rattle.js_parsing.proofs.Moving.{stops_behind, same_both, same_itself, same_with, beside_nodes}
 use Rattle.js_parsing.proofs.Paths.{skips, not_here, read_of, walked_both, walked_one, walked_to}
 use Rattle.js_parsing.proofs.Phrases.{narrow_operand}
@@ -52,6 +52,8 @@ use Rattle.js_parsing.proofs.Signs.{none_kept}
 use Rattle.js_parsing.proofs.Tight.{narrows, read_plain}
 use Rattle.js_parsing.proofs.Verdicts.{verdict_of, either_way, and_then, behind_none, grown_then}
 use Rattle.js_parsing.proofs.Verdicts.{after as grown_behind}
+use Rattle.js_parsing.specs.Classes.{EndsParse}
+use Rattle.js_parsing.proofs.Classes.{one_early}
 
 -- the same of a node's kind and operator
 abbrev is_or_and_node : NodeKind → Op → Bool
@@ -157,8 +159,8 @@ module _ {text : List ℕ} {f : Flags} where
     pub right_room : At text f p → length r.text + 1 - r.prev_token_end < length p.text + 1 - p.prev_token_end
     right_room a = let g = s.at.behind in let e = m.further in let i = s.further in let j = a.behind in let n = a.at.between.0 in let t = m.at.text_is in let u = a.text_is in omega (arith, ap length t, ap length u)
 
-    pub follows_so : Follows p r
-    follows_so = (same_both s.same m.same).follows
+    pub same_so : Same p r
+    same_so = same_both s.same m.same
 
     pub grown_so : {ds : List Diagnostic} → Grown r.errors ds → Grown p.errors ds
     grown_so g = grown_behind s.verdict (grown_then m.kept g)
@@ -229,7 +231,7 @@ module _ {text : List ℕ} {f : Flags} where
       pub checked : {w : Parser} {mixed : Bool} {start found : ℕ} → At text f p → mixed ≡ is_mixed → found ≡ length p.errors → ChecksMixed start mixed found v w (Ok tt) → Checked text f p v w pair_label pair_slots pair_pass
       checked {w} {mixed} {start} {found} a e i (inl c) = subst (λ (z : Parser). Checked text f p v z pair_label pair_slots pair_pass) (sym c.1.is) (record {
         at = beside_errors x.answer.at (subst IsAt c.1.is c.1.at);
-        same = record { follows = subst (Follows v) c.1.is (keeps_follows c.1); options = refl; ctx = refl; depth = refl; visits = refl };
+        same = record { follows = subst (Follows v) c.1.is (keeps_follows c.1); options = refl; ctx = refl; depth = refl; visits = refl; early = λ w. one_early _ v.errors refl w; lies = λ w. w };
         nodes = refl;
         place = refl;
         spot_is = refl;
@@ -330,7 +332,7 @@ module _ {text : List ℕ} {f : Flags} where
       mixed_marked_so {start} {found} a e g h i j y l = subst (λ (n : ℕ). Mark (goal v) v.text (mixed_at n v.prev_token_end)) (sym g) (mixed_marked a (sym e ∙ i) (sym j ∙ h) y (subst (λ (t : List ℕ). Lex t v.prev_token_end y) x.answer.at.text_is l))
 
       pub mixed_stops : (start found : ℕ) {mixed : Bool} (w : Parser) (e : Stop) → mixed ≡ is_mixed → ChecksMixed start mixed found v w (Err e) → Stops p w e Nowhere
-      mixed_stops start found w e g c = stops_behind w e (same_both s.same (same_both m.same x.answer.same)).follows (λ h. grown_behind both h) (λ z. z) (gives_up (λ d. Unit {0}) v w e x.answer.at c.1 (mixed_none (sym g ∙ c.0)))
+      mixed_stops start found w e g c = stops_behind w e (same_both s.same (same_both m.same x.answer.same)) (λ h. grown_behind both h) (λ z. z) (gives_up EndsParse v w e x.answer.at c.1 (λ d u. u) (mixed_none (sym g ∙ c.0)))
 
       pub left_held : Holds v.nodes (length p.nodes) (length q.nodes) left.0 s.label s.slots
       left_held = Holds-kept (subst (λ (ns : List Node). Keeps ns v.nodes) m.nodes x.keeps) s.holds
@@ -351,7 +353,7 @@ module _ {text : List ℕ} {f : Flags} where
         pub operands_step : {z : Parser} {made : NodeId} → MadeHere pair_label (Some left ∷ Some right ∷ []) w z made → Operands text f p z made
         operands_step {z} {made} n = subst (λ (u : Parser). Operands text f p u made) (sym n.stays) (record {
           at = beside_nodes z.nodes c.at;
-          same = same_with z.nodes (same_both s.same (same_both m.same (same_both x.answer.same c.same))) (Keeps-trans s.keeps (Keeps-trans right_keeps (Keeps-made n.made)));
+          same = same_with z.nodes (same_both s.same (same_both m.same (same_both x.answer.same c.same))) (Keeps-trans s.keeps (Keeps-trans right_keeps (Keeps-made n.made))) (made_lies (same_both s.same (same_both m.same (same_both x.answer.same c.same))) c.at.at (let a = s.further in let b = forward in let e = c.place in omega arith) n (ap (λ (v : ℕ). record { from = p.token.span.start; to = v }) (sym c.place)));
           further = let a = s.further in let b = forward in let e = c.place in omega arith;
           label = pair_label;
           slots = pair_slots;

@@ -50,12 +50,13 @@ use Rattle.js_parsing.specs.Moves.{Moved, MadeHere, plain_label}
 use Rattle.js_parsing.specs.Answers.{Underived, Answer, Numbered, Stops, beside}
 use Rattle.js_targets.proofs.Assigned.{an_assign, unassigned, nothing_assigned}
 use Rattle.js_parsing.proofs.Here.{told, kind_here}
-use Rattle.js_parsing.proofs.MadeNodes.{node_held}
+use Rattle.js_parsing.proofs.MadeNodes.{node_held, one_lies}
 use Rattle.js_parsing.proofs.Moving.{same_both}
 use Rattle.js_operands.proofs.Operands.{by_path}
 use Rattle.js_parsing.proofs.Paths.{Path, ◌⟼◌, ◌⟶◌, ◌⟶✗◌, fails_at, not_here, token, called, last_called, noded_by, by_symbol_as, label_here}
 use Rattle.js_parsing.proofs.Phrases.{lift, lift_fails, narrow_operand, operand_assigned}
 use Rattle.js_parsing.proofs.Tight.{narrows, read_plain}
+use Rattle.js_parsing.specs.Classes.{EndsParse}
 
 pub question_plain : (is_word Question || same_kind PrivateIdentifier Question) ≡ false
 unfolding words
@@ -260,7 +261,7 @@ conditional_answers {text} {f} {p} {q} {r} {u} {v} {w} {z} {test} {first} {secon
     let t : Holds w.nodes (length u.nodes) (length w.nodes) second.0 y.answer.label y.answer.slots = subst (λ (ns : List Node). Holds w.nodes (length ns) (length w.nodes) second.0 y.answer.label y.answer.slots) d.nodes y.holds in
     let kt : Keeps u.nodes w.nodes = subst (λ (ns : List Node). Keeps ns w.nodes) d.nodes y.keeps in
     by_path (conditional_path x.answer na e m c.answer k d a y.answer) (same_both x.answer.same (same_both m.same (same_both c.answer.same (same_both d.same y.answer.same)))) n.stays (λ o i. y.answer.stops o i) y.answer.row
-    (three_held p q u w z made x.holds b kb t kt) (Keeps-trans x.keeps (Keeps-trans kb (Keeps-trans kt (Keeps-made n.made))))
+    (three_held p q u w z made x.holds b kb t kt) (Keeps-trans x.keeps (Keeps-trans kb (Keeps-trans kt (Keeps-made n.made)))) refl (one_lies made)
 
 -- ---- the colon
 
@@ -287,7 +288,7 @@ pub alternative_marked : {p : Parser} {question : Span} → IsAt p → Asked p q
 alternative_marked {p} {question} a q s e n = mark_here fault.ExpectConditionalAlternative s (Some question) a (at_lexeme n e) (λ v x b. (x, record { place = question; is_first = refl; no_second = refl; lexeme = q.sign; earlier = let c = q.before in omega arith }))
 
 pub colon_missing : {text : List ℕ} {f : Flags} (p q : Parser) (e : Stop) → At text f p → Passes Colon p q (Err e) → Stops p q e (one_of_kinds (Colon ∷ []) p.token.kind ≡ false)
-colon_missing p q Fatal a h = gives_up (λ d. Unit {0}) p q Fatal a h.1 (other_kind Colon p.token.kind (h.0 refl))
+colon_missing p q Fatal a h = gives_up EndsParse p q Fatal a h.1 (λ d u. u) (other_kind Colon p.token.kind (h.0 refl))
 colon_missing p q NoMemory a h = tt
 
 pub no_assign_here : {text : List ℕ} {f : Flags} {q : Parser} → At text f q → q.cut ≡ false → one_of_kinds assign_operators q.token.kind ≡ false → (y : Lexeme) → Lex text q.prev_token_end y → IsTrue (seen an_assign y) → ⊥

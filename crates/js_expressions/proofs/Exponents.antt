@@ -55,7 +55,7 @@ use Rattle.js_parsing.proofs.Dead.{fails_dead}
 use Rattle.js_parsing.proofs.Giving.{kept_one}
 use Rattle.js_parsing.proofs.Told.{beside_errors}
 use Rattle.js_parsing.proofs.Here.{kind_here, found, uncut, begins_here}
-use Rattle.js_parsing.proofs.MadeNodes.{two_held}
+use Rattle.js_parsing.proofs.MadeNodes.{two_held, one_lies}
 use Rattle.js_parsing.proofs.Moving.{same_both}
 use Rattle.js_operands.proofs.Operands.{by_path, of_unary}
 use Rattle.js_parsing.proofs.Paths.{Path, ◌⟼◌, ◌⟶◌, ◌⟶✗◌, fails_at, not_here, token, called, last_called, noded_by, label_here, read_of}
@@ -63,6 +63,8 @@ use Rattle.js_parsing.proofs.Phrases.{lift, narrow_operand, unary_part}
 use Rattle.js_parsing.proofs.Tight.{narrows, read_plain}
 use Rattle.js_parsing.proofs.Verdicts.{verdict_of, either_way}
 use Rattle.js_parsing.proofs.Verdicts.{after as grown_behind}
+use Rattle.js_parsing.specs.Classes.{IsEarly}
+use Rattle.js_parsing.proofs.Classes.{one_early}
 
 abbrev power_behind : Flags → G
 power_behind f = tok Star2 ▸ symbol Exponent f
@@ -284,11 +286,11 @@ module _ {text : List ℕ} {f : Flags} {p q : Parser} {id : NodeId} (a : At text
     keeps = x.keeps;
   }
 
-  told : {d : Diagnostic} {r : Parser} → one_of_kinds unary_kinds p.token.kind ≡ true → KeepsOne d q r → Numbered text f (at Update f) p r id
-  told {d} {r} h c = subst (λ (z : Parser). Numbered text f (at Update f) p z id) (sym c.is) (record {
+  told : {d : Diagnostic} {r : Parser} → one_of_kinds unary_kinds p.token.kind ≡ true → KeepsOne d q r → IsEarly d → Numbered text f (at Update f) p r id
+  told {d} {r} h c y = subst (λ (z : Parser). Numbered text f (at Update f) p z id) (sym c.is) (record {
     answer = record {
       at = beside_errors x.answer.at (subst IsAt c.is c.at);
-      same = record { follows = follows_on x.answer.same.follows (subst (Follows q) c.is (keeps_follows c)); options = x.answer.same.options; ctx = x.answer.same.ctx; depth = x.answer.same.depth; visits = x.answer.same.visits };
+      same = record { follows = follows_on x.answer.same.follows (subst (Follows q) c.is (keeps_follows c)); options = x.answer.same.options; ctx = x.answer.same.ctx; depth = x.answer.same.depth; visits = x.answer.same.visits; early = λ w. one_early _ q.errors y (x.answer.same.early w); lies = x.answer.same.lies };
       further = x.answer.further;
       label = x.answer.label;
       slots = x.answer.slots;
@@ -304,7 +306,7 @@ module _ {text : List ℕ} {f : Flags} {p q : Parser} {id : NodeId} (a : At text
 
   -- the base was checked: it is an UpdateExpression, or none is derived
   pub base_checked : {r : Parser} {is_unary : Bool} {n start : ℕ} → is_unary ≡ one_of_kinds unary_kinds p.token.kind → n ≡ length p.errors → ChecksBase start is_unary n q r → Numbered text f (at Update f) p r id
-  base_checked {r} {is_unary = true} {n} e i (inl c) = told (sym e) c.1
+  base_checked {r} {is_unary = true} {n} e i (inl c) = told (sym e) c.1 refl
   base_checked {r} {is_unary = true} {n} e i (inr c) = subst (λ (z : Parser). Numbered text f (at Update f) p z id) (sym c.0) (broken (sym e) (by x.answer.verdict))
     where
       by : Verdict p.errors q.errors (Stretch text (after (at Unary f)) (such (at Unary f) always) p.prev_token_end nothing q.prev_token_end (tree x.answer.label x.answer.slots) x.answer.pass) (Underived text (at Unary f) p.prev_token_end) → Grown p.errors q.errors
@@ -343,7 +345,7 @@ power_answers {text} {f} {p} {q} {r} {u} {v} {w} {base} {exponent} {id} s a x k 
     let z : MadeHere (label_here binary_expression (of Star2) p v) (Some base ∷ Some exponent ∷ []) v w id = subst (λ (t : Label). MadeHere t (Some base ∷ Some exponent ∷ []) v w id) l n in
     let t : Holds v.nodes (length r.nodes) (length v.nodes) exponent.0 y.answer.label y.answer.slots = subst (λ (ns : List Node). Holds v.nodes (length ns) (length v.nodes) exponent.0 y.answer.label y.answer.slots) m.nodes y.holds in
     let kt : Keeps r.nodes v.nodes = subst (λ (ns : List Node). Keeps ns v.nodes) m.nodes y.keeps in
-    by_path (power_path x.answer k b.answer kb m a y.answer) (same_both b.answer.same (same_both m.same y.answer.same)) z.stays (λ o i. y.answer.stops o i) y.answer.row (two_held z b.holds b.keeps t kt) (Keeps-trans b.keeps (Keeps-trans kt (Keeps-made z.made)))
+    by_path (power_path x.answer k b.answer kb m a y.answer) (same_both b.answer.same (same_both m.same y.answer.same)) z.stays (λ o i. y.answer.stops o i) y.answer.row (two_held z b.holds b.keeps t kt) (Keeps-trans b.keeps (Keeps-trans kt (Keeps-made z.made))) refl (one_lies z)
 
 -- what stands behind the base is the same after the check
 pub still_star : {start n : ℕ} {c : Bool} {q r : Parser} → ChecksBase start c n q r → q.token.kind ≡ Star2 → r.token.kind ≡ Star2

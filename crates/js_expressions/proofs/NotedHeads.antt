@@ -17,13 +17,15 @@ use Rattle.js_cursor.proofs.Changing.{noted_on}
 use Rattle.js_expressions.specs.Arrows.{NoArrowHere, NoHeadHere, Unmoved}
 use Rattle.js_parsing.specs.Heads.{NoHead, NotedHeads, throughout}
 use Rattle.js_parsing.specs.Lexemes.{Lex, spot}
-use Rattle.js_parsing.specs.States.{At, IsPlain, Standing, flags_of, whole, sign, nothing as none_stands}
+use Rattle.js_parsing.specs.States.{At, IsPlain, Standing, flags_of, whole, sign, nothing as none_stands, SpansLie}
 use Rattle.js_expressions.proofs.Arrows.{no_head_no_arrow}
 use Rattle.js_parsing.proofs.Dead.{all_read}
 use Rattle.js_expressions.proofs.FreeOfContext.{params_alike}
 use Rattle.js_tree.specs.Holding.{Keeps}
 use Rattle.js_tree.specs.Nodes.{Node}
 use Rattle.js_parsing.proofs.Moving.{flags_same, same_both, standing}
+use Rattle.js_parsing.specs.Classes.{IsEarly}
+use Rattle.std.proofs.lemmas.List.Elements.{All-same}
 
 -- under other parameters, on which no head depends
 no_head_alike : {text : List ℕ} (f g : Flags) {s : ℕ} → f ≡ record g { in_ = f.in_; return_ = f.return_; new_target = f.new_target } → NoHead text f s → NoHead text g s
@@ -83,7 +85,7 @@ pub noted_here : {p r q : Parser} {place : ℕ} → Standing p → Unmoved p r �
 noted_here {p} {r} {q} {place} a u n k i h = (
   record {
     at = λ text f b. at_noted text f (u.at text f b);
-    same = same_both u.same (record { follows = (noted_on (u.at _ _ a).at h).0; options = ap (λ (z : Parser). z.options) h.is; ctx = ap (λ (z : Parser). z.ctx) h.is; depth = ap (λ (z : Parser). z.depth) h.is; visits = ap (λ (z : Parser). z.visits) h.is });
+    same = same_both u.same (record { follows = (noted_on (u.at _ _ a).at h).0; options = ap (λ (z : Parser). z.options) h.is; ctx = ap (λ (z : Parser). z.ctx) h.is; depth = ap (λ (z : Parser). z.depth) h.is; visits = ap (λ (z : Parser). z.visits) h.is; early = λ w. All-same IsEarly q.errors r.errors (ap (λ (z : Parser). z.errors) h.is) w; lies = λ w. subst SpansLie (sym h.is) w });
     kept = ap (λ (z : Parser). z.errors) h.is ∙ u.kept;
     place = ap (λ (z : Parser). z.prev_token_end) h.is ∙ u.place;
     spot_is = ap spot h.is ∙ u.spot_is;

@@ -40,8 +40,7 @@ use Rattle.js_parsing.proofs.Tight.{stops_by_power, power_listed, Level, level_o
 use Rattle.js_parsing.proofs.Verdicts.{verdict_of, either_way, and_then, behind_none, grown_then}
 use Rattle.js_parsing.proofs.Verdicts.{after as grown_behind}
 use Rattle.js_parsing.proofs.Moving.{same_both, same_with, beside_nodes}
-use Rattle.js_parsing.proofs.MadeNodes.{two_held}
-
+use Rattle.js_parsing.proofs.MadeNodes.{two_held, made_lies}
 -- A node of the level cap has been read, and what remains is the parts behind it.
 pub record Ring (text : List ℕ) (f : Flags) (m s from cap : ℕ) (l : Label) (cs : Slots) (s' : ℕ) (pass : Lexemes → Lexemes) : Type 0 where
   pub reach : ℕ
@@ -243,8 +242,8 @@ module _ {text : List ℕ} {f : Flags} where
       pub right_less : At text f p → length r.text + 1 - r.prev_token_end < length p.text + 1 - p.prev_token_end
       right_less a = let b = o.place in let g = o.at.behind in let e = d.further in let i = s.further in let j = a.behind in let k = a.at.between.0 in let t = d.at.text_is in let u = a.text_is in omega (arith, ap length t, ap length u)
 
-      pub follows_so : Follows p r
-      follows_so = (same_both s.same (same_both o.same d.same)).follows
+      pub same_so : Same p r
+      same_so = same_both s.same (same_both o.same d.same)
 
       pub grown_so : {ds : List Diagnostic} → Grown r.errors ds → Grown p.errors ds
       grown_so g = grown_behind s.verdict (grown_then (d.kept ∙ o.kept) g)
@@ -290,7 +289,7 @@ module _ {text : List ℕ} {f : Flags} where
         pub operand_step : {w : Parser} {made : NodeId} → MadeHere (link_label v.prev_token_end) (Some id ∷ Some right ∷ []) v w made → Operand text f m p w made
         operand_step {w} {made} n = subst (λ (z : Parser). Operand text f m p z made) (sym n.stays) (record {
           at = beside_nodes w.nodes x.answer.at;
-          same = same_with w.nodes (same_both s.same (same_both o.same (same_both d.same x.answer.same))) (Keeps-trans s.keeps (Keeps-trans (subst (λ (ns : List Node). Keeps ns v.nodes) (d.nodes ∙ o.nodes) x.keeps) (Keeps-made n.made)));
+          same = same_with w.nodes (same_both s.same (same_both o.same (same_both d.same x.answer.same))) (Keeps-trans s.keeps (Keeps-trans (subst (λ (ns : List Node). Keeps ns v.nodes) (d.nodes ∙ o.nodes) x.keeps) (Keeps-made n.made))) (made_lies (same_both s.same (same_both o.same (same_both d.same x.answer.same))) x.answer.at.at start_before n refl);
           further = let a = s.further in let b = forward in omega arith;
           label = link_label v.prev_token_end;
           slots = tree s.label s.slots (tree x.answer.label x.answer.slots end);

@@ -30,7 +30,7 @@ use Rattle.js_parsing.specs.Moves.{Moved}
 use Rattle.js_parsing.specs.Operators.{power_of}
 use Rattle.js_expressions.specs.Rests.{update_kinds}
 use Rattle.js_parsing.specs.Stands.{ending_kinds, Ended}
-use Rattle.js_targets.specs.Taken.{no_target_at, Refused}
+use Rattle.js_targets.specs.Taken.{no_target_at}
 use Rattle.js_parsing.specs.States.{At, Same}
 use Rattle.js_targets.specs.Targets.{target_of, Stood}
 use Rattle.js_targets.proofs.Covers.{row_of_target, Untargeted, no_target_there}
@@ -40,6 +40,8 @@ use Rattle.js_parsing.proofs.Paths.{read_of, not_here, angles}
 use Rattle.js_targets.proofs.Targets.{passes_itself, of_unary}
 use Rattle.js_parsing.proofs.Tight.{read_plain}
 use Rattle.js_expressions.proofs.Updates.{of_update, update_plain, a_postfix, postfix_here, line_here}
+use Rattle.js_parsing.specs.Classes.{EndsParse}
+use Rattle.js_cursor.specs.Moves.{GivesUp}
 
 -- ---- what ends an operand
 
@@ -145,8 +147,8 @@ none_behind {q = q} a e h y l s = go (one_of_kinds update_kinds q.token.kind) re
 pub row_update : {k l : Kind} {o : UpdateOperator} → k ≡ l → row_in update_operators k ≡ Some o → row_in update_operators l ≡ Some o
 row_update {o = o} e h = subst (λ (j : Kind). row_in update_operators j ≡ Some o) e h
 
-pub refused_behind : {text : List ℕ} {f : Flags} {p q t : Parser} {b : Bool} {C B F : Type 0} (r : Parser) (kept : ℕ) (e : Stop) → kept ≡ length p.errors → Same p q → Verdict p.errors q.errors C B → Ended text f q t b → Refused kept t r e → F → Stops p r e F
-refused_behind {p = p} {q = q} {t = t} {C = C} {B = B} r kept e k s v o h n = refused r kept e k o.at (same_both s o.same) (subst (λ (ds : List Diagnostic). Verdict p.errors ds C B) (sym o.kept) v) h n
+pub refused_behind : {text : List ℕ} {f : Flags} {p q t : Parser} {b : Bool} {C B F : Type 0} (r : Parser) (e : Stop) → Same p q → Verdict p.errors q.errors C B → Ended text f q t b → GivesUp EndsParse t r e → F → Stops p r e F
+refused_behind {p = p} {q = q} {t = t} {C = C} {B = B} r e s v o h n = refused r e o.at (same_both s o.same) (subst (λ (ds : List Diagnostic). Verdict p.errors ds C B) (sym o.kept) v) h n
 
 pub update_some_at : {k l : Kind} → l ≡ k → one_of_kinds update_kinds k ≡ true → IsSome (row_in update_operators l)
 update_some_at {k} e h = subst (λ (j : Kind). IsSome (row_in update_operators j)) (sym e) (update_some k h)

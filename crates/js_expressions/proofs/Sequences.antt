@@ -35,7 +35,7 @@ use Rattle.js_parsing.specs.Nesting.{room}
 use Rattle.js_parsing.specs.Answers.{Grown, Verdict, Stretch, Underived, Numbered, beside}
 use Rattle.js_parsing.proofs.Signs.{plain_sign, other_kind}
 use Rattle.js_parsing.proofs.Here.{begins_here, kind_here}
-use Rattle.js_parsing.proofs.MadeNodes.{node_held}
+use Rattle.js_parsing.proofs.MadeNodes.{node_held, one_lies}
 use Rattle.js_parsing.proofs.Moving.{same_both}
 use Rattle.js_parsing.proofs.Nesting.{later_room}
 use Rattle.js_operands.proofs.Operands.{by_path}
@@ -338,8 +338,8 @@ module _ {text : List ℕ} {f : Flags} {p q r : Parser} {ids : List (Option Node
   unfolding rule rule_of
   operand_fails n = fails_by {s = at Expression f} (fails_alt s.alone (no_sequence (either_way s.verdict (λ u. u.fails (none_passed s.at s.comma (comma_plain s.at s.comma) m (no_item n))) (λ z. z))))
 
-  pub listing_follows : Follows p r
-  listing_follows = (same_both s.same m.same).follows
+  pub listing_same : Same p r
+  listing_same = same_both s.same m.same
 
   pub listing_grown : {ds : List Diagnostic} → Grown r.errors ds → Grown p.errors ds
   listing_grown g = grown_behind s.verdict (grown_then m.kept g)
@@ -408,7 +408,7 @@ module _ {text : List ℕ} {f : Flags} {p q r : Parser} {ids : List (Option Node
     listing_end {w} {made} {span} n b c d =
         let l : plain_label node.SequenceExpression op.None span ≡ label_here sequence_expression no_op p v = rw (b, c) refl in
         let z : MadeHere (label_here sequence_expression no_op p v) (ids ++ Some id ∷ []) v w made = subst (λ (k : Label). MadeHere k (ids ++ Some id ∷ []) v w made) l d in
-        by_path (path n) (same_both s.same (same_both m.same x.answer.same)) z.stays stops (subst (λ (r : Row). of_assignment r ≡ true) (sym row_last) x.answer.row) (node_held z held) (Keeps-trans kept (Keeps-made z.made))
+        by_path (path n) (same_both s.same (same_both m.same x.answer.same)) z.stays stops (subst (λ (r : Row). of_assignment r ≡ true) (sym row_last) x.answer.row) (node_held z held) (Keeps-trans kept (Keeps-made z.made)) refl (one_lies z)
       where
         no_kind : (y : Lexeme) → Lex text v.prev_token_end y → one_of_kinds (Comma ∷ []) y.kind ≡ false
         no_kind y l = other_kind Comma y.kind (λ e. no_comma_here x.answer.at n y l (and_from _ _ (subst (λ (v : Kind). same_kind Comma v ≡ true) (sym e) refl) (ap not (read_plain y l.1))))

@@ -42,7 +42,7 @@ use Rattle.js_targets.specs.Targets.{target_of, TargetNode}
 use Rattle.js_parsing.proofs.Signs.{plain_sign}
 use Rattle.js_targets.proofs.Covers.{row_of_target, target_path, target_fails, target_unread}
 use Rattle.js_parsing.proofs.Here.{told, kind_here, uncut, begins_here}
-use Rattle.js_parsing.proofs.MadeNodes.{one_held}
+use Rattle.js_parsing.proofs.MadeNodes.{one_held, one_lies}
 use Rattle.js_parsing.proofs.Moving.{same_both}
 use Rattle.js_operands.proofs.Operands.{by_path}
 use Rattle.js_parsing.proofs.Paths.{reads, Path, ◌⟼◌, ◌⟶◌, ◌⟶✗◌, at_kind, fails_at, token, last_token, last_called, noded, label_here}
@@ -257,7 +257,7 @@ postfix_answers {text} {f} {p} {q} {r} {z} {operand} {target} {id} {o} s a n x w
     let h : Holds r.nodes (length p.nodes) (length r.nodes) target.0 t.tree.label t.tree.slots = subst (λ (ns : List Node). Holds ns (length p.nodes) (length ns) target.0 t.tree.label t.tree.slots) (sym m.nodes) t.holds in
     let k : Keeps p.nodes r.nodes = subst (λ (ns : List Node). Keeps p.nodes ns) (sym m.nodes) x.keeps in
     by_path (postfix_path a n x.answer w q.token.kind u refl e m t.tree t.is) (same_both x.answer.same m.same) made.stays
-    (λ y i. covered reads (λ k w e. looser 16 f.in_ after_postfix k w e || beside k w e) (behind_sign f.in_) y.kind y.newline y.escaped i.1) refl (one_held p.nodes made h) (Keeps-trans k (Keeps-made made.made))
+    (λ y i. covered reads (λ k w e. looser 16 f.in_ after_postfix k w e || beside k w e) (behind_sign f.in_) y.kind y.newline y.escaped i.1) refl (one_held p.nodes made h) (Keeps-trans k (Keeps-made made.made)) refl (one_lies made)
 
 -- ---- a prefix operator
 
@@ -316,4 +316,4 @@ prefix_answers {text} {f} {p} {q} {r} {z} {operand} {target} {id} {o} s a u v m 
     let h : Holds r.nodes (length p.nodes) (length r.nodes) target.0 t.tree.label t.tree.slots = subst (λ (ns : List Node). Holds r.nodes (length ns) (length r.nodes) target.0 t.tree.label t.tree.slots) m.nodes t.holds in
     let k : Keeps p.nodes r.nodes = subst (λ (ns : List Node). Keeps ns r.nodes) m.nodes x.keeps in
     by_path (prefix_path a p.token.kind u refl e m x.answer t.tree t.is) (same_both m.same x.answer.same) made.stays
-    (λ y i. subst (λ (w : Row). IsTrue (seen (looser 16 f.in_ w) y || seen beside y)) (row_of_target x.answer.label x.answer.slots t.tree t.is) (x.answer.stops y i)) refl (one_held p.nodes made h) (Keeps-trans k (Keeps-made made.made))
+    (λ y i. subst (λ (w : Row). IsTrue (seen (looser 16 f.in_ w) y || seen beside y)) (row_of_target x.answer.label x.answer.slots t.tree t.is) (x.answer.stops y i)) refl (one_held p.nodes made h) (Keeps-trans k (Keeps-made made.made)) refl (one_lies made)

@@ -18,8 +18,7 @@ use Rattle.js_cursor.specs.declared.stop.Stop.{Stop}
 use Rattle.js_parsing.specs.Answers.{Grown, Outcome, Stretch, Underived}
 use Rattle.js_parsing.specs.Heads.{NoHead, NotedHeads}
 use Rattle.js_parsing.specs.Lexemes.{Lex, Walked, spot}
-use Rattle.js_parsing.specs.States.{At, Same}
-
+use Rattle.js_parsing.specs.States.{At, Same, NodesLie, SpansLie}
 -- what stands before `=>`: a name, or parameters in parentheses
 abbrev pub head_of : Flags → G
 head_of f = mk formal_parameters (mk formal_parameter (sym BindingIdentifier f ▸ empty_slot)) ◇ sym Params f
@@ -83,10 +82,14 @@ FindsHead p q None = Unmoved p q × NoArrowHere p
 abbrev pub NoHeadHere : Parser → Type 0
 NoHeadHere p = (text : List ℕ) (f : Flags) → At text f p → NoHead text f p.prev_token_end
 
+-- none stands here, and the parser went on; the nodes that were made since lie in the text
+abbrev pub NoneLooked : Parser → Parser → Type 0
+NoneLooked p q = GoesOn p q × NotedHeads q × NoHeadHere p × (SpansLie p → NodesLie q.text q.nodes)
+
 -- a head was read; or none stands here, and the parser went on
 abbrev pub LooksForHead : Parser → Parser → Option NodeId → Type 0
 LooksForHead p q (Some id) = IsHeadHere p q id
-LooksForHead p q None = GoesOn p q × NotedHeads q × NoHeadHere p
+LooksForHead p q None = NoneLooked p q
 
 -- whether `=>` stands behind the current lexeme
 abbrev pub ArrowBehind : Parser → Parser → Bool → Type 0

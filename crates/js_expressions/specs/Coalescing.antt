@@ -8,6 +8,7 @@ use Rattle.js_grammar.specs.Trees.{Op, of}
 use Rattle.js_cursor.specs.Moves.{Keeps, GivesUp}
 use Rattle.js_cursor.specs.Parsers.{Parser}
 use Rattle.js_cursor.specs.declared.stop.Stop.{Stop}
+use Rattle.js_parsing.specs.Classes.{EndsParse}
 
 -- the operator of a node is `||` or `&&`
 abbrev pub is_or_and : Op → Bool
@@ -21,4 +22,4 @@ mixed_at from to = record { kind = MixedCoalesce; span = record { start = from; 
 -- That was told; or nothing was, of other operands, or where more diagnostics are kept than before the first one; or the call gave up at what stands behind.
 abbrev pub ChecksMixed : ℕ → Bool → ℕ → Parser → Parser → Result (Unit {0}) Stop → Type 0
 ChecksMixed start mixed found old new (Ok x) = ((mixed ≡ true) × Keeps (mixed_at start old.prev_token_end) old new) ⊎ ((new ≡ old) × (mixed ≡ true → found ≡ length old.errors → ⊥))
-ChecksMixed start mixed found old new (Err e) = (mixed ≡ true) × GivesUp (λ d. Unit {0}) old new e
+ChecksMixed start mixed found old new (Err e) = (mixed ≡ true) × GivesUp EndsParse old new e

@@ -35,7 +35,7 @@ use Rattle.js_cursor.specs.Parsers.{Parser}
 use Rattle.js_cursor.specs.Places.{IsAt, goal}
 use Rattle.js_grammar.specs.Settings.{Goal}
 use Rattle.js_lex.specs.States.{goal_of}
-use Rattle.js_cursor.specs.Moves.{MovesOn, Opened, GivesUp, Steps, is_last}
+use Rattle.js_cursor.specs.Moves.{MovesOn, Opened, GivesUp, Steps, is_last, IsHere}
 use Rattle.js_cursor.specs.declared.stop.ListStep.{ListStep}
 use Rattle.js_cursor.specs.declared.stop.ListStep.TheVariants.{Element, End, EndAfterComma}
 use Rattle.js_cursor.specs.declared.stop.Stop.{Stop}
@@ -57,6 +57,8 @@ use Rattle.js_parsing.proofs.Nesting.{nested_room, later_room}
 use Rattle.js_parsing.proofs.Paths.{angles, walked_both, walked_one, one_read, passes, skips, read_of, not_here}
 use Rattle.js_parsing.proofs.Verdicts.{verdict_of, either_way, and_then}
 use Rattle.js_parsing.proofs.Verdicts.{after as grown_behind}
+use Rattle.js_parsing.proofs.Classes.{here_ends}
+use Rattle.js_base.specs.declared.diagnostic.DiagnosticKind.TheVariants.{ExpectClosingOrSeparator}
 
 no_paren : {text : List ℕ} {s : ℕ} {k : Kind} → NoneIs text s k → (y : Lexeme) → Lex text s y → IsTrue (seen (is k) y) → ⊥
 no_paren {k = k} n y l h = n y l (sym (kind_of_same k y.kind (and_parts (same_kind k y.kind) _ h).0))
@@ -192,9 +194,9 @@ module _ {text : List ℕ} {f : Flags} {p q : Parser} (a : At text f p) where
 pub due_fails : {text : List ℕ} {f : Flags} {p : Parser} → At text f p → (first : Bool) → (first ≡ false) × (p.token.kind ≡ RParen → ⊥) × (p.token.kind ≡ Comma → ⊥) → (i : Bool) → Fails rule (Lex text) (plain full) end (rest_of first (item_of i f)) p.prev_token_end
 due_fails {text} {f} {p} a first z i = subst (λ (b : Bool). Fails rule (Lex text) (plain full) end (rest_of b (item_of i f)) p.prev_token_end) (sym z.0) (later_fails f i (no_comma_here a z.2) (no_right_paren a z.1))
 
-pub due_stops : {text : List ℕ} {f : Flags} {p : Parser} (q : Parser) (e : Stop) (first : Bool) (P : Diagnostic → Type 0) → At text f p → (i : Bool) → (e ≡ Fatal → (first ≡ false) × (p.token.kind ≡ RParen → ⊥) × (p.token.kind ≡ Comma → ⊥)) × GivesUp P p q e → Stops p q e (Fails rule (Lex text) (plain full) end (rest_of first (item_of i f)) p.prev_token_end)
-due_stops {p = p} q Fatal first P a i z = gives_up P p q Fatal a z.1 (due_fails a first (z.0 refl) i)
-due_stops q NoMemory first P a i z = tt
+pub due_stops : {text : List ℕ} {f : Flags} {p : Parser} (q : Parser) (e : Stop) (first : Bool) (opening : Option Span) → At text f p → (i : Bool) → (e ≡ Fatal → (first ≡ false) × (p.token.kind ≡ RParen → ⊥) × (p.token.kind ≡ Comma → ⊥)) × GivesUp (IsHere ExpectClosingOrSeparator p opening) p q e → Stops p q e (Fails rule (Lex text) (plain full) end (rest_of first (item_of i f)) p.prev_token_end)
+due_stops {p = p} q Fatal first opening a i z = gives_up (IsHere ExpectClosingOrSeparator p opening) p q Fatal a z.1 (here_ends ExpectClosingOrSeparator refl) (due_fails a first (z.0 refl) i)
+due_stops q NoMemory first opening a i z = tt
 
 -- ---- the list so far
 
@@ -270,10 +272,10 @@ module _ {text : List ℕ} {f : Flags} (i : Bool) where
         further = let a = x.at.behind in let b = m.further in omega arith
 
 pub item_stops : {text : List ℕ} {f : Flags} (i : Bool) {g : G} {o p : Parser} {ids js : List (Option NodeId)} (q : Parser) (e : Stop) → Partway text f g (due_of true (item_of i f)) o p ids js → Stops p q e (NoItem text (item_of i f) p.prev_token_end) → Stops o q e (Fails rule (Lex text) (plain full) end g o.prev_token_end)
-item_stops {f = f} i q e x s = stops_behind q e x.same.follows (λ d. grown_behind x.verdict d) (λ n. either_way x.verdict (λ u. u.goes ▹✗ item_fails f i n) (λ m. m)) s
+item_stops {f = f} i q e x s = stops_behind q e x.same (λ d. grown_behind x.verdict d) (λ n. either_way x.verdict (λ u. u.goes ▹✗ item_fails f i n) (λ m. m)) s
 
 pub rest_stops : {text : List ℕ} {f : Flags} (i first : Bool) {g : G} {o p : Parser} {ids js : List (Option NodeId)} (q : Parser) (e : Stop) → Partway text f g (rest_of first (item_of i f)) o p ids js → Stops p q e (Fails rule (Lex text) (plain full) end (rest_of first (item_of i f)) p.prev_token_end) → Stops o q e (Fails rule (Lex text) (plain full) end g o.prev_token_end)
-rest_stops i first q e x s = stops_behind q e x.same.follows (λ d. grown_behind x.verdict d) (λ n. either_way x.verdict (λ u. u.goes ▹✗ n) (λ m. m)) s
+rest_stops i first q e x s = stops_behind q e x.same (λ d. grown_behind x.verdict d) (λ n. either_way x.verdict (λ u. u.goes ▹✗ n) (λ m. m)) s
 
 -- ---- the loop over arguments
 

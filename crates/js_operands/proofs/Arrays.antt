@@ -29,7 +29,7 @@ use Rattle.js_tree.specs.declared.op.Op.TheVariants as op
 use Rattle.js_tree.specs.Nodes.{Node}
 use Rattle.js_tree.specs.Holding.{Holds, HoldsAll, Keeps}
 use Rattle.js_tree.proofs.HoldingLemmas.{HoldsAll-none, HoldsAll-next, Keeps-refl, Keeps-trans, Keeps-made, Keeps-longer}
-use Rattle.js_cursor.specs.Moves.{MovesOn, Opened, GivesUp, Steps, OnlyMemory, is_last}
+use Rattle.js_cursor.specs.Moves.{MovesOn, Opened, GivesUp, Steps, OnlyMemory, is_last, IsHere}
 use Rattle.js_cursor.specs.Parsers.{Parser}
 use Rattle.js_cursor.specs.declared.stop.ListStep.{ListStep}
 use Rattle.js_cursor.specs.declared.stop.ListStep.TheVariants.{Element, End, EndAfterComma}
@@ -49,7 +49,7 @@ use Rattle.js_parsing.proofs.Signs.{plain_sign}
 use Rattle.js_parsing.proofs.Giving.{gives_up}
 use Rattle.js_parsing.proofs.Here.{uncut}
 use Rattle.js_parsing.proofs.Signs.{NoneIs}
-use Rattle.js_parsing.proofs.MadeNodes.{leaf_held, node_held}
+use Rattle.js_parsing.proofs.MadeNodes.{leaf_held, node_held, one_lies, made_lies}
 use Rattle.js_parsing.proofs.Signs.{stands_not}
 use Rattle.js_parsing.proofs.Moving.{same_with, beside_nodes, moves, standing, stops_behind, stops_so}
 use Rattle.js_parsing.proofs.Nesting.{nested_room, later_room}
@@ -58,6 +58,8 @@ use Rattle.js_parsing.proofs.Parts.{part_path, part_from, part_goes, part_path_f
 use Rattle.js_parsing.proofs.Paths.{◌⟼◌, at_kind, last_token, noded, label_here}
 use Rattle.js_parsing.proofs.Verdicts.{verdict_of}
 use Rattle.js_parsing.proofs.Verdicts.{after as grown_behind}
+use Rattle.js_parsing.proofs.Classes.{here_ends}
+use Rattle.js_base.specs.declared.diagnostic.DiagnosticKind.TheVariants.{ExpectClosingOrSeparator}
 
 -- ---- items with commas between, by the first of them
 
@@ -194,7 +196,7 @@ module _ {text : List ℕ} {f : Flags} {p : Parser} (a : At text f p) where
         let kept : Keeps p.nodes q.nodes = Keeps-trans ks (Keeps-made t.made.made) in
         part_from gap_here (subst (λ (z : Parser). Partway text f (seq gap (elements f)) (elements f) p z ids (ids ++ Some id ∷ [])) (sym t.made.stays) (record {
           at = beside_nodes q.nodes m.at;
-          same = same_with q.nodes m.same kept;
+          same = same_with q.nodes m.same kept (made_lies m.same m.at.at (let i = m.further in omega arith) t.made (ap (λ (v : Label). v.span) l));
           further = m.further;
           slots = tree (label_here elision no_op p t.mid) end;
           puts = λ us. refl;
@@ -230,12 +232,12 @@ step_taken {text} {f} {o} {p} {q} {ids} {js} opening Element x (n, inr z) = part
 step_taken {text} {f} {o} {p} {q} {ids} {js} opening (EndAfterComma at) x z = parts x (rest_goes x.at z.1 js (moves (uncut x.at (ap (same_kind RAngle) z.1), ap is_last z.1) z.3 x.at))
 step_taken {text} {f} {o} {p} {q} {ids} {js} opening End x z = subst (λ (r : Parser). Partway text f (elements f) (elements f) o r ids js) (sym z.1) (part_goes x (rest_closes x.at z.0))
 
-pub step_stops : {text : List ℕ} {f : Flags} {o p : Parser} {ids js : List (Option NodeId)} (q : Parser) (e : Stop) (P : Diagnostic → Type 0) → Partway text f (elements f) (rest f) o p ids js → (e ≡ Fatal → (false ≡ false) × (p.token.kind ≡ RBrack → ⊥) × (p.token.kind ≡ Comma → ⊥)) × GivesUp P p q e → Stops o q e (Fails rule (Lex text) (plain full) end (elements f) o.prev_token_end)
+pub step_stops : {text : List ℕ} {f : Flags} {o p : Parser} {ids js : List (Option NodeId)} (q : Parser) (e : Stop) (opening : Option Span) → Partway text f (elements f) (rest f) o p ids js → (e ≡ Fatal → (false ≡ false) × (p.token.kind ≡ RBrack → ⊥) × (p.token.kind ≡ Comma → ⊥)) × GivesUp (IsHere ExpectClosingOrSeparator p opening) p q e → Stops o q e (Fails rule (Lex text) (plain full) end (elements f) o.prev_token_end)
 unfolding apart
-step_stops {f = f} q Fatal P x z =
+step_stops {f = f} {p = p} q Fatal opening x z =
     let n = z.0 refl in
-    stops_behind q Fatal x.same.follows (λ g. grown_behind x.verdict g) (λ i. part_path_fails x i) (gives_up P _ q Fatal x.at z.1 (rest_fails f (none_there Comma x.at refl n.2) (none_there RBrack x.at refl n.1)))
-step_stops q NoMemory P x z = tt
+    stops_behind q Fatal x.same (λ g. grown_behind x.verdict g) (λ i. part_path_fails x i) (gives_up (IsHere ExpectClosingOrSeparator p opening) p q Fatal x.at z.1 (here_ends ExpectClosingOrSeparator refl) (rest_fails f (none_there Comma x.at refl n.2) (none_there RBrack x.at refl n.1)))
+step_stops q NoMemory opening x z = tt
 
 pub item_stops : {text : List ℕ} {f : Flags} {p : Parser} (q : Parser) (e : Stop) → At text f p → StandsHere p Comma false → StandsHere p RBrack false → Stops p q e (NoItem text (at Argument f) p.prev_token_end) → Stops p q e (Fails rule (Lex text) (plain full) end (elements f) p.prev_token_end)
 item_stops {p = p} q e a n m z = stops_so p q e (λ i. no_item_taken a (stands_not a refl n) (stands_not a refl m) i) z
@@ -276,7 +278,7 @@ element_less l d =
     let b = x.further in let c = l.at.behind in let e = l.at.at.between.0 in let g = x.same.follows.text in let i = x.at.at.between.0 in omega (arith, ap length g)
 
 pub loop_stops : {s : Span} {ids : List (Option NodeId)} {text : List ℕ} {f : Flags} {p q : Parser} (r : Parser) (e : Stop) → ElementLoop s ids p q → (a : At text f p) → TakesElement q r (Err e) → Stops p r e (Fails rule (Lex text) (plain full) end (array_of f) p.prev_token_end)
-loop_stops {text = text} {f} r e l a d = let y = l.goes text f a in stops_behind r e y.same.follows (λ g. grown_behind y.verdict g) (λ n. part_path_fails y n) (d text f y.at)
+loop_stops {text = text} {f} r e l a d = let y = l.goes text f a in stops_behind r e y.same (λ g. grown_behind y.verdict g) (λ n. part_path_fails y n) (d text f y.at)
 
 pub loop_end : {s : Span} {ids : List (Option NodeId)} {p q r : Parser} → ElementLoop s ids p q → q.token.kind ≡ RBrack → MovesOn q r → Elements ids p r
 loop_end {ids = ids} l k v text f a = let y = l.goes text f a in parts y (elements_end y.at k ids (moves (uncut y.at (ap (same_kind RAngle) k), ap is_last k) v y.at))
@@ -297,7 +299,7 @@ module _ {text : List ℕ} {f : Flags} {p : Parser} (a : At text f p) (k : p.tok
       let l : plain_label node.ArrayExpression op.None s ≡ label_here array_expression no_op p q = rw (b, c) refl in
       let made : MadeHere (label_here array_expression no_op p q) ids q w id = subst (λ (v : Label). MadeHere v ids q w id) l n in
       by_path (alone ⟼ noded a (part_path y)) y.same made.stays (behind_primary f.in_ (label_here array_expression no_op p q) (y.slots end) text q.prev_token_end) refl
-      (node_held made (y.holds (length p.nodes) end (HoldsAll-none p.nodes (length p.nodes) (length p.nodes) (omega arith)))) (Keeps-trans y.keeps (Keeps-made made.made))
+      (node_held made (y.holds (length p.nodes) end (HoldsAll-none p.nodes (length p.nodes) (length p.nodes) (omega arith)))) (Keeps-trans y.keeps (Keeps-made made.made)) refl (one_lies made)
 
 -- ---- answers of calls
 

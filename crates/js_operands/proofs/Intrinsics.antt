@@ -29,7 +29,7 @@ use Rattle.js_cursor.specs.Parsers.{Parser}
 use Rattle.js_cursor.specs.declared.stop.Stop.{Stop}
 use Rattle.js_cursor.proofs.Later.{follows_on}
 use Rattle.js_parsing.specs.Lexemes.{Lex}
-use Rattle.js_parsing.specs.States.{At}
+use Rattle.js_parsing.specs.States.{At, Same}
 use Rattle.js_parsing.specs.Moves.{Moved}
 use Rattle.js_parsing.specs.Nesting.{room}
 use Rattle.js_parsing.specs.Answers.{Grown, Underived, Numbered, Outcome}
@@ -37,7 +37,7 @@ use Rattle.js_parsing.specs.Arguments.{item_of, list_of}
 use Rattle.js_parsing.specs.Stands.{StandsHere}
 use Rattle.js_operands.specs.Members.{WithArguments, MakesWithArguments}
 use Rattle.js_parsing.proofs.Signs.{plain_sign}
-use Rattle.js_parsing.proofs.MadeNodes.{node_held}
+use Rattle.js_parsing.proofs.MadeNodes.{node_held, one_lies}
 use Rattle.js_parsing.proofs.Signs.{stands_not}
 use Rattle.js_parsing.proofs.Parts.{part_path}
 use Rattle.js_parsing.proofs.Moving.{same_both, stops_behind}
@@ -91,8 +91,8 @@ module _ {text : List ℕ} {f : Flags} {p : Parser} (a : At text f p) (k : p.tok
       unfolding covers
       named = sign ⟶ called x.answer refl
 
-      pub v8_follows : Follows p r
-      v8_follows = follows_on m.same.follows x.answer.same.follows
+      pub v8_same : Same p r
+      v8_same = same_both m.same x.answer.same
 
       pub v8_grown : {ds : List Diagnostic} → Grown r.errors ds → Grown p.errors ds
       v8_grown g = grown_then m.kept (grown_behind x.answer.verdict g)
@@ -117,8 +117,8 @@ module _ {text : List ℕ} {f : Flags} {p : Parser} (a : At text f p) (k : p.tok
           let part = y.arguments text f x.answer.at in
           by_path (v8_read o (named ⟶ part_path part)) (same_both m.same (same_both x.answer.same part.same)) y.made.stays (behind_primary f.in_ (label_here v8_intrinsic_expression no_op p y.behind) (tree x.answer.label x.answer.slots (part.slots end)) text y.behind.prev_token_end) refl
           (node_held y.made (part.holds (length p.nodes) (tree x.answer.label x.answer.slots end) (HoldsAll-one name (subst (λ (ns : List Node). Holds r.nodes (length ns) (length r.nodes) name.0 x.answer.label x.answer.slots) m.nodes x.holds))))
-          (Keeps-trans (subst (λ (ns : List Node). Keeps ns r.nodes) m.nodes x.keeps) (Keeps-trans part.keeps (Keeps-made y.made.made)))
+          (Keeps-trans (subst (λ (ns : List Node). Keeps ns r.nodes) m.nodes x.keeps) (Keeps-trans part.keeps (Keeps-made y.made.made))) refl (one_lies y.made)
 
       pub v8_outcome : {start : ℕ} (w : Parser) (t : Result NodeId Stop) → f.v8 ≡ true → start ≡ p.token.span.start → MakesWithArguments node.V8IntrinsicExpression false start name r w t → Outcome text f (at Primary f) p w t
       v8_outcome w (Ok id) o e y = v8_answers o (subst (λ (v : ℕ). WithArguments node.V8IntrinsicExpression false v name r w id) e y)
-      v8_outcome w (Err i) o e y = stops_behind w i v8_follows (λ g. v8_grown g) (λ n. v8_list_fails n) (y text f x.answer.at)
+      v8_outcome w (Err i) o e y = stops_behind w i v8_same (λ g. v8_grown g) (λ n. v8_list_fails n) (y text f x.answer.at)

@@ -1,18 +1,21 @@
 -- Functions directly in parentheses are marked.
-use Rattle.std.proofs.Common.{ℕ, ◌≡◌, ◌+◌, ◌*◌, ◌<◌, ◌≤◌, Bool, true, false, not, List, length, refl, sym, ap, subst, arith, ◌∙◌}
-use Rattle.std.proofs.lemmas.Bool.{false≢true}
+use Rattle.std.proofs.Common.{ℕ, ◌≡◌, ◌+◌, ◌*◌, ◌<◌, ◌≤◌, Bool, true, false, not, List, length, refl, sym, ap, subst, arith, ◌∙◌, nat_lt}
+use Rattle.std.proofs.lemmas.Bool.{false≢true, ltb-true, ltb-false}
 use Rattle.js_grammar.specs.Trees.{NodeKind, Label, Slots, function_expression, arrow_function_expression}
 use Rattle.js_grammar.specs.Productions.{pife_flag, with_pife}
 use Rattle.js_tree.specs.declared.id.NodeId.{NodeId}
 use Rattle.js_tree.specs.declared.flags.NodeFlags.{NodeFlags}
 use Rattle.js_tree.specs.Labels.{kind_of, number_of, with_bit}
-use Rattle.js_tree.specs.Nodes.{Node, flags_set, label, node_at, with_flags}
+use Rattle.js_tree.specs.Nodes.{Node, flags_set, label, node_at, with_flags, empty_program}
 use Rattle.js_tree.specs.Holding.{Holds, Keeps}
 use Rattle.js_tree.proofs.HoldingLemmas.{Holds-flagged, Keeps-flags}
-use Rattle.std.proofs.lemmas.List.{length-set}
+use Rattle.std.proofs.lemmas.List.{length-set, set_past}
 use Rattle.js_cursor.specs.Parsers.{Parser}
 use Rattle.js_operands.specs.Marked.{is_function, MarksNode}
 use Rattle.js_parsing.proofs.MadeNodes.{held_label}
+use Rattle.std.proofs.lemmas.List.Elements.{All-set, All-get_or, All-same}
+use Rattle.js_base.specs.Spans.{LiesIn}
+use Rattle.js_parsing.specs.States.{NodesLie}
 
 more_bit : (b : Bool) (n k : ℕ) → with_bit b (n + k) ≡ with_bit b n + 2 * k
 more_bit true n k = omega arith
@@ -78,7 +81,16 @@ not_marked {ns} {id} e h = record {
   long = refl;
   holds = λ lo hi l cs k. record { label = l; holds = k; is = λ u. sym (unmarked_label l (ap (λ (m : Label). is_function m.kind) (held_label id k) ∙ (sym e ∙ h))) };
   keeps = λ os k w. k;
+  lies = λ text k. k;
 }
+
+-- other flags change no span
+flagged_lie : {text : List ℕ} (ns : List Node) (id : NodeId) (f : NodeFlags) → NodesLie text ns → NodesLie text (flags_set ns id f)
+flagged_lie {text} ns id f k = by (nat_lt id.0 (length ns)) refl
+  where
+    by : (b : Bool) → nat_lt id.0 (length ns) ≡ b → NodesLie text (flags_set ns id f)
+    by true e = All-set (λ (n : Node). LiesIn n.span text) ns id.0 (with_flags f (node_at ns id)) (All-get_or (λ (n : Node). LiesIn n.span text) ns id.0 empty_program (ltb-true id.0 (length ns) e) k) k
+    by false e = All-same (λ (n : Node). LiesIn n.span text) (flags_set ns id f) ns (set_past ns id.0 (with_flags f (node_at ns id)) (ltb-false id.0 (length ns) e)) k
 
 -- a function
 pub marks : {ns ms : List Node} {id : NodeId} {b : Bool} → b ≡ is_function (kind_of (node_at ns id).kind) → b ≡ true → ms ≡ flags_set ns id (record (node_at ns id).flags { pife = true }) → MarksNode id ns ms
@@ -86,6 +98,7 @@ marks {ns} {ms} {id} e h s = subst (MarksNode id ns) (sym s) (record {
   long = length-set ns id.0 (with_flags (record f { pife = true }) (node_at ns id));
   holds = λ lo hi l cs k. record { label = _; holds = Holds-flagged id (record f { pife = true }) k; is = λ u. so l (held_label id k) u };
   keeps = λ os k w. Keeps-flags id (record f { pife = true }) k w;
+  lies = λ text k. flagged_lie ns id (record f { pife = true }) k;
 })
   where
     f : NodeFlags

@@ -43,7 +43,7 @@ use Rattle.js_tree.proofs.HoldingLemmas.{HoldsAll-one, HoldsAll-next, Keeps-refl
 use Rattle.js_cursor.specs.Checkpoints.{Follows}
 use Rattle.js_cursor.specs.Parsers.{Parser}
 use Rattle.js_cursor.specs.Places.{IsAt, goal}
-use Rattle.js_cursor.specs.Moves.{Enters, GivesUp, Leaves, MovesOn, OnlyMemory, is_last}
+use Rattle.js_cursor.specs.Moves.{Enters, GivesUp, Leaves, MovesOn, OnlyMemory, is_last, IsHere}
 use Rattle.js_cursor.specs.declared.stop.Stop.{Stop}
 use Rattle.js_cursor.specs.declared.stop.Stop.TheVariants.{Fatal, NoMemory}
 use Rattle.js_cursor.proofs.Later.{follows_on}
@@ -60,7 +60,7 @@ use Rattle.js_parsing.proofs.Here.{told, angled, begins_here, uncut, found}
 use Rattle.js_parsing.proofs.Verdicts.{verdict_of, either_way, and_then, behind_none, grown_then}
 use Rattle.js_parsing.proofs.Verdicts.{after as grown_behind}
 use Rattle.js_parsing.proofs.Moving.{moves, same_both, beside_nodes, elsewhere, at_depth, stops_behind, stops_in, stops_so, standing, same_with}
-use Rattle.js_parsing.proofs.MadeNodes.{leaf_held, node_held}
+use Rattle.js_parsing.proofs.MadeNodes.{leaf_held, node_held, one_lies, made_lies}
 use Rattle.js_parsing.proofs.Paths.{reads, Path, ◌⟶◌, ◌⟶✗◌, skips, token, passes_test, read_of, walked_both, walked_one, noded, noding, label_here, fails_at}
 use Rattle.js_operands.proofs.Operands.{by_path, primary_fails, primary_kinds}
 use Rattle.js_parsing.proofs.Giving.{gives_up}
@@ -74,6 +74,8 @@ use Rattle.js_operands.specs.declared.left_hand_side.LinkBase.{LinkBase}
 use Rattle.js_operands.specs.declared.left_hand_side.LinkBase.TheVariants as base
 use Rattle.js_base.specs.Texts.{words}
 use Rattle.js_grammar.specs.Lexemes.{is_word as is_name_word}
+use Rattle.js_parsing.proofs.Classes.{here_ends}
+use Rattle.js_base.specs.declared.diagnostic.DiagnosticKind.TheVariants.{ExpectClosing}
 
 -- ---- which lexeme stands here
 
@@ -144,7 +146,7 @@ name_taken text f p q (Ok id) a r n m =
     let t = m text f a in
     let l : plain_label node.IdentifierName op.None p.token.span ≡ label_here identifier_name no_op p t.mid = ap (λ (v : ℕ). record { kind = identifier_name; op = no_op; flags = 0; span = record { from = p.token.span.start; to = v } }) (t.moved.tells.end ∙ t.moved.ends) in
     let ks : Keeps p.nodes t.mid.nodes = subst (λ (ns : List Node). Keeps p.nodes ns) (sym t.moved.nodes) (Keeps-refl p.nodes) in
-    by_path (subst (λ (v : Label). Path text f (after (at IdentifierName f)) (rule (at IdentifierName f)) p nothing t.mid (tree v end)) (sym l) (name_of text f p t.mid a r n t.moved)) t.moved.same t.made.stays (λ y i. refl) refl (leaf_held t.made ks) (Keeps-trans ks (Keeps-made t.made.made))
+    by_path (subst (λ (v : Label). Path text f (after (at IdentifierName f)) (rule (at IdentifierName f)) p nothing t.mid (tree v end)) (sym l) (name_of text f p t.mid a r n t.moved)) t.moved.same t.made.stays (λ y i. refl) refl (leaf_held t.made ks) (Keeps-trans ks (Keeps-made t.made.made)) (ap (λ (v : Label). v.span) l) (one_lies t.made)
 name_taken text f p q (Err Fatal) a r n m = absurd m
 name_taken text f p q (Err NoMemory) a r n m = tt
 
@@ -169,12 +171,12 @@ pub retake : {text : List ℕ} {f : Flags} {C D : Label → Slots → (Lexemes �
 retake x g h = record { at = x.at; same = x.same; further = x.further; label = x.label; slots = x.slots; row = x.row; pass = x.pass; walked = x.walked; verdict = verdict_of x.verdict (λ c. g x.label x.slots x.pass c) h; holds = x.holds; keeps = x.keeps }
 
 -- a node around it, and what was read behind it
-pub step_taken : {text : List ℕ} {f : Flags} {C D : Label → Slots → (Lexemes → Lexemes) → ℕ → Type 0} {A : Type 0} {o p v w : Parser} {left id : NodeId} {ids : List (Option NodeId)} {l : Label} {g : G} {h : Slots → Slots} (x : Taken text f o p left C A) → (y : Path text f (plain full) g p nothing v h) → Same p v → Keeps p.nodes v.nodes → HoldsAll v.nodes (length o.nodes) (length v.nodes) ids (tree x.label x.slots (h end)) → MadeHere l ids v w id → same_row after_expression (row_of l (tree x.label x.slots (h end))) ≡ true
+pub step_taken : {text : List ℕ} {f : Flags} {C D : Label → Slots → (Lexemes → Lexemes) → ℕ → Type 0} {A : Type 0} {o p v w : Parser} {left id : NodeId} {ids : List (Option NodeId)} {l : Label} {g : G} {h : Slots → Slots} (x : Taken text f o p left C A) → (y : Path text f (plain full) g p nothing v h) → Same p v → Keeps p.nodes v.nodes → HoldsAll v.nodes (length o.nodes) (length v.nodes) ids (tree x.label x.slots (h end)) → MadeHere l ids v w id → l.span ≡ record { from = o.token.span.start; to = v.prev_token_end } → same_row after_expression (row_of l (tree x.label x.slots (h end))) ≡ true
     → ((pass : Lexemes → Lexemes) → C x.label x.slots x.pass p.prev_token_end → p.prev_token_end ≤ v.prev_token_end → Stretch text (plain full) g p.prev_token_end nothing v.prev_token_end h pass → D l (tree x.label x.slots (h end)) (λ ls. x.pass (pass ls)) v.prev_token_end)
     → (C x.label x.slots x.pass p.prev_token_end → Fails rule (Lex text) (plain full) end g p.prev_token_end → A) → Taken text f o w id D A
-step_taken {text} {f} {C} {D} {A} {o} {p} {v} {w} {id = id} {l = l} {h = h} x y s k m n r good bad = subst (λ (z : Parser). Taken text f o z id D A) (sym n.stays) (record {
+step_taken {text} {f} {C} {D} {A} {o} {p} {v} {w} {id = id} {l = l} {h = h} x y s k m n i r good bad = subst (λ (z : Parser). Taken text f o z id D A) (sym n.stays) (record {
   at = beside_nodes w.nodes y.at;
-  same = same_with w.nodes (same_both x.same s) (Keeps-trans x.keeps (Keeps-trans k (Keeps-made n.made)));
+  same = same_with w.nodes (same_both x.same s) (Keeps-trans x.keeps (Keeps-trans k (Keeps-made n.made))) (made_lies (same_both x.same s) y.at.at (let a = x.further in let b = further in omega arith) n i);
   further = let a = x.further in let b = further in omega arith;
   label = l;
   slots = tree x.label x.slots (h end);
@@ -190,11 +192,11 @@ step_taken {text} {f} {C} {D} {A} {o} {p} {v} {w} {id = id} {l = l} {h = h} x y 
     further = let a = x.at.behind in let b = y.further in omega arith
 
 -- a node around it alone
-pub wrap_taken : {text : List ℕ} {f : Flags} {C D : Label → Slots → (Lexemes → Lexemes) → ℕ → Type 0} {A B : Type 0} {o p w : Parser} {left id : NodeId} {l : Label} (x : Taken text f o p left C A) → MadeHere l (Some left ∷ []) p w id → same_row after_expression (row_of l (tree x.label x.slots end)) ≡ true
+pub wrap_taken : {text : List ℕ} {f : Flags} {C D : Label → Slots → (Lexemes → Lexemes) → ℕ → Type 0} {A B : Type 0} {o p w : Parser} {left id : NodeId} {l : Label} (x : Taken text f o p left C A) → MadeHere l (Some left ∷ []) p w id → l.span ≡ record { from = o.token.span.start; to = p.prev_token_end } → same_row after_expression (row_of l (tree x.label x.slots end)) ≡ true
     → (C x.label x.slots x.pass p.prev_token_end → D l (tree x.label x.slots end) x.pass p.prev_token_end) → (A → B) → Taken text f o w id D B
-wrap_taken {text} {f} {C} {D} {A} {B} {o} {p} {w} {left} {id} {l} x n r good bad = subst (λ (z : Parser). Taken text f o z id D B) (sym n.stays) (record {
+wrap_taken {text} {f} {C} {D} {A} {B} {o} {p} {w} {left} {id} {l} x n i r good bad = subst (λ (z : Parser). Taken text f o z id D B) (sym n.stays) (record {
   at = beside_nodes w.nodes x.at;
-  same = same_with w.nodes x.same (Keeps-trans x.keeps (Keeps-made n.made));
+  same = same_with w.nodes x.same (Keeps-trans x.keeps (Keeps-made n.made)) (made_lies x.same x.at.at (let a = x.further in omega arith) n i);
   further = x.further;
   label = l;
   slots = tree x.label x.slots end;
@@ -210,7 +212,7 @@ wrap_taken {text} {f} {C} {D} {A} {B} {o} {p} {w} {left} {id} {l} x n r good bad
 taken_out : {text : List ℕ} {f : Flags} {C : Label → Slots → (Lexemes → Lexemes) → ℕ → Type 0} {A : Type 0} {p q : Parser} {id : NodeId} (k j : ℕ) → j ≡ p.depth → IsAt p → Taken text f (record p { depth = k }) q id C A → Taken text f p (record q { depth = j }) id C A
 taken_out {p = p} {q = q} k j e a x = record {
   at = elsewhere q.nodes j x.at;
-  same = record { follows = follows_on (at_depth k a) (follows_on x.same.follows (at_depth j x.at.at)); options = x.same.options; ctx = x.same.ctx; depth = e; visits = x.same.visits };
+  same = record { follows = follows_on (at_depth k a) (follows_on x.same.follows (at_depth j x.at.at)); options = x.same.options; ctx = x.same.ctx; depth = e; visits = x.same.visits; early = x.same.early; lies = x.same.lies };
   further = x.further;
   label = x.label;
   slots = x.slots;
@@ -239,7 +241,7 @@ pub link_taken : {text : List ℕ} {f : Flags} {C D : Label → Slots → (Lexem
     → (C x.label x.slots x.pass p.prev_token_end → NoLink text f p.prev_token_end y.form y.optional → A) → Taken text f o w id D A
 link_taken {o = o} {p = p} {w = w} {left = left} {id = id} x e y good bad =
     step_taken x (part_path y.part) y.part.same y.part.keeps (y.part.holds (length o.nodes) (tree x.label x.slots end) (HoldsAll-one left x.holds))
-    (subst (λ (v : ℕ). MadeHere (link_label y.form y.optional v y.behind.prev_token_end) y.children y.behind w id) e y.made) (link_row y.form y.optional o.token.span.start y.behind.prev_token_end (tree x.label x.slots (y.part.slots end))) good bad
+    (subst (λ (v : ℕ). MadeHere (link_label y.form y.optional v y.behind.prev_token_end) y.children y.behind w id) e y.made) refl (link_row y.form y.optional o.token.span.start y.behind.prev_token_end (tree x.label x.slots (y.part.slots end))) good bad
 
 -- which sign stands here
 all_signs : {text : List ℕ} {f : Flags} {p : Parser} → At text f p → (c : LinkForm) (o : Bool) → StandsHere p (sign_of c o) true → AllAre text p.prev_token_end (sign_of c o)
@@ -331,7 +333,7 @@ pub member_linked : {text : List ℕ} {f : Flags} {o p w : Parser} {left id : No
 member_linked {text} {f} {o} {p} e x k y = link_taken x e y (λ pass c i z. member_good o p y.form y.optional (member_form y.form y.optional k y.sign) (all_signs x.at y.form y.optional y.sign) c i z) (λ c n. member_bad o p y.form y.optional (member_form y.form y.optional k y.sign) (all_signs x.at y.form y.optional y.sign) c n)
 
 pub member_stops : {text : List ℕ} {f : Flags} {o p : Parser} {left : NodeId} (w : Parser) (e : Stop) (x : Membered text f o p left) → LinkHere p base.Member true → Stops p w e ((c : LinkForm) (d : Bool) → NoLink text f p.prev_token_end c d) → Stops o w e (NoMember text f o.prev_token_end)
-member_stops {text} {f} {o} {p} w e x k z = stops_behind w e x.same.follows (λ g. grown_behind x.verdict g) (λ n. either_way x.verdict (λ c. at_link k c n) (λ n. n)) z
+member_stops {text} {f} {o} {p} w e x k z = stops_behind w e x.same (λ g. grown_behind x.verdict g) (λ n. either_way x.verdict (λ c. at_link k c n) (λ n. n)) z
   where
     at_link : LinkHere p base.Member true → {l : Label} {cs : Slots} {pass : Lexemes → Lexemes} → MemberSoFar text f o.prev_token_end o.token.span.start l cs pass p.prev_token_end → ((c : LinkForm) (d : Bool) → NoLink text f p.prev_token_end c d) → NoMember text f o.prev_token_end
     at_link (a_link c d s h) u n = member_bad o p c d (of_member c d h) (all_signs x.at c d s) u (n c d)
@@ -417,8 +419,8 @@ module _ {text : List ℕ} {f : Flags} {p q : Parser} (a : At text f p) (k : p.t
     pub new_grown : {ds : List Diagnostic} → Grown w.errors ds → Grown p.errors ds
     new_grown g = grown_then m.kept (grown_behind callee_taken.verdict g)
 
-    pub new_follows : Follows p w
-    new_follows = follows_on m.same.follows callee_taken.same.follows
+    pub new_same : Same p w
+    new_same = same_both m.same callee_taken.same
 
     -- `?.` stands behind the callee
     pub new_refused : StandsHere w QuestionDot true → NoMember text f p.prev_token_end
@@ -437,7 +439,7 @@ module _ {text : List ℕ} {f : Flags} {p q : Parser} (a : At text f p) (k : p.t
         subst (λ (z : Parser). HeadOutcome text f p z (Ok id)) (sym made.stays) (
           record {
             at = beside_nodes v.nodes callee_taken.at;
-            same = same_with v.nodes (same_both m.same callee_taken.same) (Keeps-trans (subst (λ (ns : List Node). Keeps ns w.nodes) m.nodes callee_taken.keeps) (Keeps-made made.made));
+            same = same_with v.nodes (same_both m.same callee_taken.same) (Keeps-trans (subst (λ (ns : List Node). Keeps ns w.nodes) m.nodes callee_taken.keeps) (Keeps-made made.made)) (made_lies (same_both m.same callee_taken.same) callee_taken.at.at (let i = start_before_less in omega arith) made refl);
             further = start_before_less;
             label = label_here new_expression no_op p w;
             slots = tree callee_taken.label callee_taken.slots end;
@@ -470,7 +472,7 @@ module _ {text : List ℕ} {f : Flags} {p q : Parser} (a : At text f p) (k : p.t
       bare_none (a_new z c b) = let y = lexeme_there callee_taken.at s refl refl refl in absurd (false≢true (sym (b y.0 y.1) ∙ subst (λ (v : Kind). one_of_kinds link_kinds v ≡ true) (sym y.2) refl))
 
       pub new_arguments_stop : (v : Parser) (i : Stop) → Stops w v i (Fails rule (Lex text) (plain full) end (args f) w.prev_token_end) → Stops p v i (NoMember text f p.prev_token_end)
-      new_arguments_stop v i z = stops_behind v i new_follows (λ g. new_grown g) (λ n. either_way callee_taken.verdict (λ c. (none_called (no_called f c n), bare_none c)) (λ y. new_fails y)) z
+      new_arguments_stop v i z = stops_behind v i new_same (λ g. new_grown g) (λ n. either_way callee_taken.verdict (λ c. (none_called (no_called f c n), bare_none c)) (λ y. new_fails y)) z
 
       pub new_with_arguments : {v : Parser} {id : NodeId} → (y : WithArguments node.NewExpression false p.token.span.start callee w v id) → Membered text f p v id
       new_with_arguments {v} {id} y =
@@ -478,7 +480,7 @@ module _ {text : List ℕ} {f : Flags} {p q : Parser} (a : At text f p) (k : p.t
           let forward : w.prev_token_end ≤ y.behind.prev_token_end = (let b = callee_taken.at.behind in let c = part.further in omega arith) in
           subst (λ (z : Parser). Membered text f p z id) (sym y.made.stays) (record {
             at = beside_nodes v.nodes part.at;
-            same = same_with v.nodes (same_both m.same (same_both callee_taken.same part.same)) (Keeps-trans (subst (λ (ns : List Node). Keeps ns w.nodes) m.nodes callee_taken.keeps) (Keeps-trans part.keeps (Keeps-made y.made.made)));
+            same = same_with v.nodes (same_both m.same (same_both callee_taken.same part.same)) (Keeps-trans (subst (λ (ns : List Node). Keeps ns w.nodes) m.nodes callee_taken.keeps) (Keeps-trans part.keeps (Keeps-made y.made.made))) (made_lies (same_both m.same (same_both callee_taken.same part.same)) part.at.at (let b = m.further in let c = callee_taken.further in let d = m.at.behind in let g = part.further in let i = callee_taken.at.behind in omega arith) y.made refl);
             further = let b = m.further in let c = callee_taken.further in let d = m.at.behind in omega arith;
             label = label_here new_expression no_op p y.behind;
             slots = tree callee_taken.label callee_taken.slots (part.slots end);
@@ -544,7 +546,7 @@ module _ {text : List ℕ} {f : Flags} {o p : Parser} {left : NodeId} (a : At te
   call_first e y = link_taken begun e y (λ pass c i z. first_good y.form y.optional (call_here p y.form y.optional s y.sign) c i z) (λ c n. first_bad y.form y.optional (call_here p y.form y.optional s y.sign) c n)
 
   pub call_first_stops : (w : Parser) (e : Stop) → Stops p w e ((c : LinkForm) (d : Bool) → NoLink text f p.prev_token_end c d) → Stops o w e (NoLhs text f o.prev_token_end)
-  call_first_stops w e z = stops_behind w e x.same.follows (λ g. grown_behind x.verdict g) (λ n. either_way x.verdict (λ c. no_first_call c (n by_call false)) (λ n. no_lhs_here f n)) z
+  call_first_stops w e z = stops_behind w e x.same (λ g. grown_behind x.verdict g) (λ n. either_way x.verdict (λ c. no_first_call c (n by_call false)) (λ n. no_lhs_here f n)) z
 
 module _ {text : List ℕ} {f : Flags} {o p : Parser} {left : NodeId} (x : Called text f o p left) (k : LinkHere p base.Call true) where
   call_good : (c : LinkForm) (d : Bool) → d ≡ false → StandsHere p (sign_of c d) true → {l : Label} {cs : Slots} {pass more : Lexemes → Lexemes} {h : Slots → Slots} {s'' : ℕ} → CallSoFar text f o.prev_token_end o.token.span.start l cs pass p.prev_token_end → p.prev_token_end ≤ s'' → Stretch text (plain full) (chained f c d).part p.prev_token_end nothing s'' h more → CallSoFar text f o.prev_token_end o.token.span.start (link_label c d o.token.span.start s'') (tree l cs (h end)) (λ ls. pass (more ls)) s''
@@ -559,7 +561,7 @@ module _ {text : List ℕ} {f : Flags} {o p : Parser} {left : NodeId} (x : Calle
   call_linked e y = link_taken x e y (λ pass c i z. call_good y.form y.optional (call_form y.form y.optional k y.sign) y.sign c i z) (λ c n. call_bad y.form y.optional (call_form y.form y.optional k y.sign) y.sign c n)
 
   pub call_stops : (w : Parser) (e : Stop) → Stops p w e ((c : LinkForm) (d : Bool) → NoLink text f p.prev_token_end c d) → Stops o w e (NoLhs text f o.prev_token_end)
-  call_stops w e z = stops_behind w e x.same.follows (λ g. grown_behind x.verdict g) (λ n. either_way x.verdict (λ u. at_link k u n) (λ n. n)) z
+  call_stops w e z = stops_behind w e x.same (λ g. grown_behind x.verdict g) (λ n. either_way x.verdict (λ u. at_link k u n) (λ n. n)) z
     where
       at_link : LinkHere p base.Call true → {l : Label} {cs : Slots} {pass : Lexemes → Lexemes} → CallSoFar text f o.prev_token_end o.token.span.start l cs pass p.prev_token_end → ((c : LinkForm) (d : Bool) → NoLink text f p.prev_token_end c d) → NoLhs text f o.prev_token_end
       at_link (a_link c d s e) u n = call_bad c d (of_call c d e) s u (n c d)
@@ -632,7 +634,7 @@ module _ {text : List ℕ} {f : Flags} {o p : Parser} {left : NodeId} (a : At te
   chain_first e y = link_taken x e y (λ pass c i z. chain_good y.form y.optional (optional_here p y.form y.optional s y.sign) y.only c i z) (λ c n. chain_bad c (none_of_links y.form y.optional y.only n))
 
   pub chain_first_stops : (w : Parser) (e : Stop) → Stops p w e ((c : LinkForm) (d : Bool) → NoLink text f p.prev_token_end c d) → Stops o w e (NoLhs text f o.prev_token_end)
-  chain_first_stops w e z = stops_behind w e x.same.follows (λ g. grown_behind x.verdict g) (λ n. either_way x.verdict (λ c. chain_bad c n) (λ n. n)) z
+  chain_first_stops w e z = stops_behind w e x.same (λ g. grown_behind x.verdict g) (λ n. either_way x.verdict (λ c. chain_bad c n) (λ n. n)) z
 
 module _ {text : List ℕ} {f : Flags} {o p : Parser} {left : NodeId} (x : Chained text f o p left) (k : LinkHere p base.Chain true) where
   chain_none : {l : Label} {cs : Slots} {pass : Lexemes → Lexemes} → ChainSoFar text f o.prev_token_end o.token.span.start l cs pass p.prev_token_end → ((c : LinkForm) (d : Bool) → NoLink text f p.prev_token_end c d) → NoLhs text f o.prev_token_end
@@ -645,14 +647,14 @@ module _ {text : List ℕ} {f : Flags} {o p : Parser} {left : NodeId} (x : Chain
   chain_linked e y = link_taken x e y (λ pass c i z. (chain_step f c.0 y.form y.optional (all_signs x.at y.form y.optional y.sign) y.only i z, c.1, c.2)) (λ c n. chain_none c (none_of_links y.form y.optional y.only n))
 
   pub chain_stops : (w : Parser) (e : Stop) → Stops p w e ((c : LinkForm) (d : Bool) → NoLink text f p.prev_token_end c d) → Stops o w e (NoLhs text f o.prev_token_end)
-  chain_stops w e z = stops_behind w e x.same.follows (λ g. grown_behind x.verdict g) (λ n. either_way x.verdict (λ c. chain_none c n) (λ n. n)) z
+  chain_stops w e z = stops_behind w e x.same (λ g. grown_behind x.verdict g) (λ n. either_way x.verdict (λ c. chain_none c n) (λ n. n)) z
 
 pub chain_done : {text : List ℕ} {f : Flags} {o p w : Parser} {left id : NodeId} {s : Span} → At text f o → (x : Chained text f o p left) → LinkHere p base.Chain false → s.start ≡ o.token.span.start → s.end ≡ p.prev_token_end → MadeHere (plain_label node.ChainExpression op.None s) (Some left ∷ []) p w id → Numbered text f (at LeftHandSide f) o w id
 unfolding rule rule_of
 chain_done {text} {f} {o} {p} {w} {left} {id} {s} a x (no_link g) b c d =
     let made : MadeHere (label_here chain_expression no_op o p) (Some left ∷ []) p w id = subst (λ (z : Label). MadeHere z (Some left ∷ []) p w id) (rw (b, c) refl) d in
     let none = no_link_kind (stands_not x.at refl (g by_name false refl), stands_not x.at refl (g by_index false refl)) (stands_not x.at refl (g by_name true refl)) (stands_not x.at refl (g by_call false refl)) in
-    let y = wrap_taken x made refl (λ c. lhs_chain f c.1 c.2 (noding p a (record { ends = λ q cs vs j ls mid d e. e }) (chain_ends f c.0 none))) (λ n. n) in
+    let y = wrap_taken x made refl refl (λ c. lhs_chain f c.1 c.2 (noding p a (record { ends = λ q cs vs j ls mid d e. e }) (chain_ends f c.0 none))) (λ n. n) in
     numbered y y.row (lhs_stops f.in_ (subst (λ (v : ℕ). (y : Lexeme) → Lex text v y → one_of_kinds link_kinds y.kind ≡ false) (sym (ap (λ (z : Parser). z.prev_token_end) made.stays)) none) (edge_of y.label y.slots))
 
 -- ---- reading a link
@@ -745,9 +747,9 @@ module _ {text : List ℕ} {f : Flags} {p q : Parser} (a : At text f p) (k : p.t
     unfolding covers apart
     unclosed_index n = part_path_fails (index_read []) (fails_at x.answer.at {X = plain full} (tok RBrack) (RBrack ∷ []) refl (other_kind RBrack r.token.kind n))
 
-    pub unclosed_stops : (P : Diagnostic → Type 0) (o : Parser) (e : Stop) → (e ≡ Fatal → r.token.kind ≡ RBrack → ⊥) × GivesUp P r o e → Stops p o e (Fails rule (Lex text) (plain full) end (indexed f) p.prev_token_end)
-    unclosed_stops P o Fatal z = stops_behind o Fatal (same_both m.same x.answer.same).follows (λ g. grown_then m.kept (grown_behind x.answer.verdict g)) (λ n. n) (gives_up P r o Fatal x.answer.at z.1 (unclosed_index (z.0 refl)))
-    unclosed_stops P o NoMemory z = tt
+    pub unclosed_stops : (opening : Option Span) (o : Parser) (e : Stop) → (e ≡ Fatal → r.token.kind ≡ RBrack → ⊥) × GivesUp (IsHere ExpectClosing r opening) r o e → Stops p o e (Fails rule (Lex text) (plain full) end (indexed f) p.prev_token_end)
+    unclosed_stops opening o Fatal z = stops_behind o Fatal (same_both m.same x.answer.same) (λ g. grown_then m.kept (grown_behind x.answer.verdict g)) (λ n. n) (gives_up (IsHere ExpectClosing r opening) r o Fatal x.answer.at z.1 (here_ends ExpectClosing refl) (unclosed_index (z.0 refl)))
+    unclosed_stops opening o NoMemory z = tt
 
     pub index_closed : {u : Parser} → r.token.kind ≡ RBrack → MovesOn r u → Moved text f r u
     index_closed c v = moves (uncut x.answer.at (ap (same_kind RAngle) c), ap is_last c) v x.answer.at
@@ -795,7 +797,7 @@ module _ {text : List ℕ} {f : Flags} {p : Parser} (a : At text f p) where
     one_link c n = chain_only f c (λ d h. lacks d (n d h)) (stands_there a s.0 refl)
 
     no_links : (q : Parser) (e : Stop) (c : LinkForm) → ((d : LinkForm) → (d ≡ c → ⊥) → NotBehind d) → Stops mid q e (NotBehind c) → Stops p q e ((c : LinkForm) (o : Bool) → NoLink text f p.prev_token_end c o)
-    no_links q e c n z = stops_behind q e m.same.follows (λ g. grown_then m.kept g) (λ i. none_of_links c true (one_link c n) (lacks c i)) z
+    no_links q e c n z = stops_behind q e m.same (λ g. grown_then m.kept g) (λ i. none_of_links c true (one_link c n) (lacks c i)) z
 
     module _ (t : StandsHere mid LParen true) where
       parens_alone : (d : LinkForm) → (d ≡ by_call → ⊥) → NotBehind d
@@ -839,7 +841,7 @@ module _ {text : List ℕ} {f : Flags} {p : Parser} (a : At text f p) where
     name_link {v} x y = record { form = by_name; optional = false; sign = s; only = dot_only f (stands_there a s.0 refl); behind = v; children = _; part = parts (part_sign Dot a s.0 s.1 refl m) (part_name x); made = y }
 
     pub no_name_link : (q : Parser) (e : Stop) → Stops mid q e (Underived text (at IdentifierName f) mid.prev_token_end) → Stops p q e ((c : LinkForm) (o : Bool) → NoLink text f p.prev_token_end c o)
-    no_name_link q e z = stops_behind q e m.same.follows (λ g. grown_then m.kept g) (λ n. none_of_links by_name false (dot_only f (stands_there a s.0 refl)) (skips a Dot s.0 s.1 refl m ▹✗ weaken_fails n (λ ts y e. (refl, refl)))) z
+    no_name_link q e z = stops_behind q e m.same (λ g. grown_then m.kept g) (λ n. none_of_links by_name false (dot_only f (stands_there a s.0 refl)) (skips a Dot s.0 s.1 refl m ▹✗ weaken_fails n (λ ts y e. (refl, refl)))) z
 
 -- ---- what the loops keep
 
@@ -924,7 +926,7 @@ optional_index_outcome {text} {f} start left q (Err e) a s m t y = no_optional_i
 
 -- what was said one level deeper
 pub entered_stops : {k : ℕ} {text : List ℕ} {f : Flags} {p q e : Parser} (r : Parser) (i : Stop) → (a : At text f p) → p.token.kind ≡ New → p.token.escaped ≡ false → (m : Moved text f p q) → Enters k q e → Stops e r i (NoMember text f e.prev_token_end) → Stops p r i (NoMember text f p.prev_token_end)
-entered_stops {text = text} {f = f} {p = p} {q = q} {e = e} r i a k n m h s = stops_behind r i m.same.follows (λ g. grown_then m.kept g) (λ z. new_fails a k n m z) (stops_in r i m.at.at h (λ z. subst (λ (v : ℕ). NoMember text f v) (ap (λ (z : Parser). z.prev_token_end) h.is) z) s)
+entered_stops {text = text} {f = f} {p = p} {q = q} {e = e} r i a k n m h s = stops_behind r i m.same (λ g. grown_then m.kept g) (λ z. new_fails a k n m z) (stops_in r i m.at.at h (λ z. subst (λ (v : ℕ). NoMember text f v) (ap (λ (z : Parser). z.prev_token_end) h.is) z) s)
 
 -- whether a link stands here, by the signs
 pub name_here : {p : Parser} (b : LinkBase) → StandsHere p Dot true → LinkHere p b true

@@ -37,14 +37,14 @@ use Rattle.js_cursor.specs.Moves.{OnlyMemory}
 use Rattle.js_cursor.specs.declared.stop.Stop.{Stop}
 use Rattle.js_cursor.specs.declared.stop.Stop.TheVariants.{Fatal, NoMemory}
 use Rattle.js_parsing.specs.Lexemes.{Lex, is_read, read_kinds}
-use Rattle.js_parsing.specs.States.{At, Same}
+use Rattle.js_parsing.specs.States.{At, Same, NodesLie}
 use Rattle.js_parsing.specs.Moves.{Moved, MadeHere, LeafTaken, TakesLeaf, plain_label}
 use Rattle.js_parsing.specs.Answers.{Underived, Answer, Numbered, Outcome, beside}
 use Rattle.js_operands.specs.Numbers.{node_of_number, op_of_number}
 use Rattle.js_parsing.specs.Operators.{unary_kinds}
 use Rattle.js_parsing.proofs.Moving.{same_both, same_with, beside_nodes}
 use Rattle.js_parsing.proofs.Dead.{live, lives}
-use Rattle.js_parsing.proofs.MadeNodes.{leaf_held, one_held}
+use Rattle.js_parsing.proofs.MadeNodes.{leaf_held, one_held, LabelLies, from_start, one_lies}
 use Rattle.js_parsing.proofs.Paths.{reads, Path, ◌⟼◌, ◌⟶◌, ◌⟶✗◌, at_kind, fails_at, token, last_token, last_called, passes_test, noded, noded_by, by_symbol_as, label_here, read_of, walked_one}
 use Rattle.js_parsing.specs.Answers.{clean}
 
@@ -67,20 +67,20 @@ unary_edge f k o s = record { ends = λ p cs vs j ls mid d e. go cs d e }
 
 -- an answer by the path of its symbol
 pub by_such : {text : List ℕ} {f : Flags} {n : Symbol} {p q w : Parser} {l : Label} {cs : Slots} {id : NodeId} → Path text f (after n) (such n always) p nothing q (tree l cs) → Same p q → w ≡ record q { nodes = w.nodes } → ((y : Lexeme) → Lex text q.prev_token_end y → IsTrue (seen (follow n (edge_of l cs)) y || seen beside y)) → may_end n.name (row_of l cs) ≡ true
-    → Holds w.nodes (length p.nodes) (length w.nodes) id.0 l cs → Keeps p.nodes w.nodes → Numbered text f n p w id
-by_such {text} {f} {n} {p} {q} {w} {l} {cs} {id} y b e s r h k = go w.nodes e h k
+    → Holds w.nodes (length p.nodes) (length w.nodes) id.0 l cs → Keeps p.nodes w.nodes → (l.span ≡ record { from = p.token.span.start; to = q.prev_token_end }) → (LabelLies q.text l → NodesLie q.text q.nodes → NodesLie q.text w.nodes) → Numbered text f n p w id
+by_such {text} {f} {n} {p} {q} {w} {l} {cs} {id} y b e s r h k i m = go w.nodes e h k m
   where
-    go : (ns : List Node) → w ≡ record q { nodes = ns } → Holds w.nodes (length p.nodes) (length w.nodes) id.0 l cs → Keeps p.nodes w.nodes → Numbered text f n p w id
-    go ns e h k = subst (λ (r : Parser). Numbered text f n p r id) (sym e) (record {
-      answer = record { at = beside_nodes ns y.at; same = same_with ns b (subst (λ (r : Parser). Keeps p.nodes r.nodes) e k); further = y.further; label = l; slots = cs; stops = s; row = r; pass = y.pass; walked = y.walked; verdict = y.verdict };
+    go : (ns : List Node) → w ≡ record q { nodes = ns } → Holds w.nodes (length p.nodes) (length w.nodes) id.0 l cs → Keeps p.nodes w.nodes → (LabelLies q.text l → NodesLie q.text q.nodes → NodesLie q.text w.nodes) → Numbered text f n p w id
+    go ns e h k m = subst (λ (r : Parser). Numbered text f n p r id) (sym e) (record {
+      answer = record { at = beside_nodes ns y.at; same = same_with ns b (subst (λ (r : Parser). Keeps p.nodes r.nodes) e k) (λ c z. subst (λ (r : Parser). NodesLie q.text r.nodes) e (m (from_start l b y.at.at (let g = y.further in omega arith) i c) z)); further = y.further; label = l; slots = cs; stops = s; row = r; pass = y.pass; walked = y.walked; verdict = y.verdict };
       holds = subst (λ (r : Parser). Holds r.nodes (length p.nodes) (length r.nodes) id.0 l cs) e h;
       keeps = subst (λ (r : Parser). Keeps p.nodes r.nodes) e k;
     })
 
 -- and by that of its rule
 pub by_path : {text : List ℕ} {f : Flags} {n : Symbol} {p q w : Parser} {l : Label} {cs : Slots} {id : NodeId} → Path text f (after n) (rule n) p nothing q (tree l cs) → Same p q → w ≡ record q { nodes = w.nodes } → ((y : Lexeme) → Lex text q.prev_token_end y → IsTrue (seen (follow n (edge_of l cs)) y || seen beside y)) → may_end n.name (row_of l cs) ≡ true
-    → Holds w.nodes (length p.nodes) (length w.nodes) id.0 l cs → Keeps p.nodes w.nodes → Numbered text f n p w id
-by_path {n = n} a b e s r h k = by_such (by_symbol_as {X' = after n} (λ l cs vs y d. d) a) b e s r h k
+    → Holds w.nodes (length p.nodes) (length w.nodes) id.0 l cs → Keeps p.nodes w.nodes → (l.span ≡ record { from = p.token.span.start; to = q.prev_token_end }) → (LabelLies q.text l → NodesLie q.text q.nodes → NodesLie q.text w.nodes) → Numbered text f n p w id
+by_path {n = n} a b e s r h k i m = by_such (by_symbol_as {X' = after n} (λ l cs vs y d. d) a) b e s r h k i m
 
 abbrev Unarily : List ℕ → Flags → Kind → Type 0
 Unarily text f k = (p q r : Parser) → At text f p → p.token.kind ≡ k → p.token.escaped ≡ false → Moved text f p q → (x : Answer text f (at Unary f) q r) → Path text f (after (at Unary f)) (rule (at Unary f)) p nothing r (tree (label_here unary_expression (of k) p r) (tree x.label x.slots end))
@@ -195,7 +195,7 @@ pub leaf_answers : {text : List ℕ} {f : Flags} {p q : Parser} {id : NodeId} {n
 leaf_answers {text} {f} {p} {q} {id} {nk} {no} k r path a e n t =
     let l : plain_label nk no p.token.span ≡ label_here (kind_of nk) (op_of no) p t.mid = ap (λ (v : ℕ). record { kind = kind_of nk; op = op_of no; flags = 0; span = record { from = p.token.span.start; to = v } }) (t.moved.tells.end ∙ t.moved.ends) in
     let ks : Keeps p.nodes t.mid.nodes = subst (λ (ns : List Node). Keeps p.nodes ns) (sym t.moved.nodes) (Keeps-refl p.nodes) in
-    by_path (subst (λ (v : Label). Path text f (after (at Primary f)) (rule (at Primary f)) p nothing t.mid (tree v end)) (sym l) (path text f p t.mid a e n t.moved)) t.moved.same t.made.stays (behind_primary f.in_ (plain_label nk no p.token.span) end text t.mid.prev_token_end) r (leaf_held t.made ks) (Keeps-trans ks (Keeps-made t.made.made))
+    by_path (subst (λ (v : Label). Path text f (after (at Primary f)) (rule (at Primary f)) p nothing t.mid (tree v end)) (sym l) (path text f p t.mid a e n t.moved)) t.moved.same t.made.stays (behind_primary f.in_ (plain_label nk no p.token.span) end text t.mid.prev_token_end) r (leaf_held t.made ks) (Keeps-trans ks (Keeps-made t.made.made)) (ap (λ (v : Label). v.span) l) (one_lies t.made)
 
 -- a unary operation
 pub unary_answers : {text : List ℕ} {f : Flags} {p q r w : Parser} {id arg : NodeId} (k : Kind) (o : UnaryOperator) (s : Span) → one_of_kinds unary_kinds k ≡ true → unary_kind o ≡ k → At text f p → p.token.kind ≡ k → p.token.escaped ≡ false → (m : Moved text f p q) → (x : Numbered text f (at Unary f) q r arg) → s.start ≡ p.token.span.start → s.end ≡ r.prev_token_end → MadeHere (plain_label node.UnaryExpression (op.Unary o) s) (Some arg ∷ []) r w id → Numbered text f (at Unary f) p w id
@@ -203,7 +203,7 @@ unary_answers {text} {f} {p} {q} {r} {w} {id} {arg} k o s h u a e n m x b c d =
     let l : plain_label node.UnaryExpression (op.Unary o) s ≡ label_here unary_expression (of k) p r = rw (u, b, c) refl in
     let made : MadeHere (label_here unary_expression (of k) p r) (Some arg ∷ []) r w id = subst (λ (v : Label). MadeHere v (Some arg ∷ []) r w id) l d in
     let ks : Keeps p.nodes r.nodes = subst (λ (ns : List Node). Keeps ns r.nodes) m.nodes x.keeps in
-    by_path (unary_path text f k h p q r a e n m x.answer) (same_both m.same x.answer.same) made.stays x.answer.stops x.answer.row (one_held p.nodes made (subst (λ (ns : List Node). Holds r.nodes (length ns) (length r.nodes) arg.0 x.answer.label x.answer.slots) m.nodes x.holds)) (Keeps-trans ks (Keeps-made made.made))
+    by_path (unary_path text f k h p q r a e n m x.answer) (same_both m.same x.answer.same) made.stays x.answer.stops x.answer.row (one_held p.nodes made (subst (λ (ns : List Node). Holds r.nodes (length ns) (length r.nodes) arg.0 x.answer.label x.answer.slots) m.nodes x.holds)) (Keeps-trans ks (Keeps-made made.made)) refl (one_lies made)
 
 -- what a PrimaryExpression begins with
 abbrev pub primary_kinds : List Kind

@@ -39,12 +39,14 @@ use Rattle.js_parsing.proofs.Signs.{plain_sign, other_kind}
 use Rattle.js_parsing.proofs.Dead.{all_read}
 use Rattle.js_parsing.proofs.Giving.{gives_up}
 use Rattle.js_parsing.proofs.Here.{found, uncut}
-use Rattle.js_parsing.proofs.MadeNodes.{one_held}
+use Rattle.js_parsing.proofs.MadeNodes.{one_held, one_lies}
 use Rattle.js_parsing.proofs.Moving.{same_both, moves}
 use Rattle.js_operands.proofs.Operands.{by_path, behind_primary}
 use Rattle.js_parsing.proofs.Paths.{Path, ◌⟼◌, ◌⟶◌, ◌⟶✗◌, at_kind, fails_at, token, last_token, noded, label_here, read_of}
 use Rattle.js_operands.proofs.Tame.{unmarked}
 use Rattle.js_parsing.proofs.Verdicts.{verdict_of}
+use Rattle.js_parsing.specs.Classes.{EndsParse}
+use Rattle.js_parsing.proofs.Classes.{here_ends, gives_up_by}
 
 -- a symbol that was read, with a flag on its node
 module _ {text : List ℕ} {n : Symbol} {X : Test} {h : Label → Label} (heads : (l : Label) (cs vs : Slots) (y : Lexeme) → Admits X (tree (h l) cs vs) y → Admits (after n) (tree l cs vs) y) where
@@ -146,16 +148,16 @@ paren_answers {text} {f} {p} {q} {r} {u} {v} {w} {inside} {id} s a k m x c d g b
     let hv : Holds v.nodes (length p.nodes) (length v.nodes) inside.0 t.label x.answer.slots = subst (λ (i : ℕ). Holds v.nodes (length p.nodes) i inside.0 t.label x.answer.slots) (sym g.1.long) t.holds in
     let ks : Keeps p.nodes u.nodes = subst (λ (ns : List Node). Keeps p.nodes ns) (sym d.nodes) (subst (λ (ns : List Node). Keeps ns r.nodes) m.nodes x.keeps) in
     let kv : Keeps p.nodes v.nodes = g.1.keeps p.nodes ks (Holds-range h).0 in
-    by_path (paren_path a k m x.answer c d t.label t.is) (same_both m.same (same_both x.answer.same d.same)) (z.stays ∙ ap (λ (y : Parser). record y { nodes = w.nodes }) g.0) (behind_primary f.in_ (label_here parenthesized_expression no_op p u) (tree t.label x.answer.slots end) text u.prev_token_end) refl (one_held p.nodes z hv) (Keeps-trans kv (Keeps-made z.made))
+    by_path (paren_path a k m x.answer c d t.label t.is) (same_both m.same (same_both x.answer.same d.same)) (z.stays ∙ ap (λ (y : Parser). record y { nodes = w.nodes }) g.0) (behind_primary f.in_ (label_here parenthesized_expression no_op p u) (tree t.label x.answer.slots end) text u.prev_token_end) refl (one_held p.nodes z hv) (Keeps-trans kv (Keeps-made z.made)) refl (λ s h. one_lies z s (g.1.lies u.text h))
 
 -- what `expect_closing` answers
 pub closes : (p q : Parser) (opening : Span) (r : Result (Unit {0}) Stop) → Expects (λ p. p.token.kind ≡ RParen) ExpectClosing (Some opening) p q r → Passes RParen p q r
 closes p q opening (Ok x) e = (e.0, λ text f a. moves (uncut a (ap (same_kind RAngle) e.0), ap is_last e.0) e.1 a)
-closes p q opening (Err Fatal) e = (λ z k. e.0 refl k, (e.1.0, tt, e.1.2))
+closes p q opening (Err Fatal) e = (λ z k. e.0 refl k, gives_up_by p q Fatal e.1 (here_ends ExpectClosing refl))
 closes p q opening (Err NoMemory) e = (λ z k. e.0 z k, tt)
 
-pub unclosed : {text : List ℕ} {f : Flags} (p q : Parser) (e : Stop) {F : Type 0} → At text f p → (e ≡ Fatal → p.token.kind ≡ RParen → ⊥) × GivesUp (λ d. Unit {0}) p q e → (one_of_kinds (RParen ∷ []) p.token.kind ≡ false → F) → Stops p q e F
-unclosed p q Fatal a h g = gives_up (λ d. Unit {0}) p q Fatal a h.1 (g (other_kind RParen p.token.kind (h.0 refl)))
+pub unclosed : {text : List ℕ} {f : Flags} (p q : Parser) (e : Stop) {F : Type 0} → At text f p → (e ≡ Fatal → p.token.kind ≡ RParen → ⊥) × GivesUp EndsParse p q e → (one_of_kinds (RParen ∷ []) p.token.kind ≡ false → F) → Stops p q e F
+unclosed p q Fatal a h g = gives_up EndsParse p q Fatal a h.1 (λ d u. u) (g (other_kind RParen p.token.kind (h.0 refl)))
 unclosed p q NoMemory a h g = tt
 
 pub paren_whole : {text : List ℕ} {f : Flags} {p : Parser} → At text f p → p.token.kind ≡ LParen → IsWholeHere p

@@ -44,13 +44,14 @@ use Rattle.js_parsing.specs.Stands.{StandsHere}
 use Rattle.js_parsing.specs.Moves.{Moved, MadeHere, plain_label}
 use Rattle.js_parsing.proofs.Signs.{NoneIs, AllAre}
 use Rattle.js_operands.proofs.ArgumentLists.{is_that}
-use Rattle.js_parsing.proofs.MadeNodes.{one_held}
+use Rattle.js_parsing.proofs.MadeNodes.{one_held, made_lies}
 use Rattle.js_parsing.proofs.Signs.{stands_not, stands_there}
 use Rattle.js_parsing.proofs.Moving.{same_both, same_with, beside_nodes, stops_so, stops_behind}
 use Rattle.js_parsing.proofs.Paths.{Path, ◌⟼◌, ◌⟶◌, ◌⟶✗◌, token, last_called, noded_by, by_symbol_as, label_here, walked_from}
 use Rattle.js_parsing.proofs.Verdicts.{verdict_of, grown_both, grown_on}
 use Rattle.js_parsing.proofs.Giving.{kept_one}
 use Rattle.js_parsing.proofs.Told.{told_same, lexeme_marked}
+use Rattle.js_parsing.specs.Classes.{IsEarly}
 
 abbrev next_kinds : Look
 next_kinds k w e = one_of_kinds (Comma ∷ RParen ∷ RBrack ∷ []) k
@@ -149,7 +150,7 @@ module _ {text : List ℕ} {f : Flags} {p : Parser} (a : At text f p) (k : Stand
       item_of_spread : {n : Symbol} (pass : Lexemes → Lexemes) → Walked text (spot p) (spot r) pass → Verdict p.errors r.errors (Stretch text behind_item (such n always) p.prev_token_end nothing r.prev_token_end (tree (label_here spread_element no_op p r) (tree x.answer.label x.answer.slots end)) pass) (NoItem text n p.prev_token_end) → ItemTaken text f n p w id
       item_of_spread {n} pass walked v = subst (λ (z : Parser). ItemTaken text f n p z id) (sym made.stays) (record {
         at = beside_nodes w.nodes x.answer.at;
-        same = same_with w.nodes (same_both m.same x.answer.same) (Keeps-trans (subst (λ (ns : List Node). Keeps ns r.nodes) m.nodes x.keeps) (Keeps-made made.made));
+        same = same_with w.nodes (same_both m.same x.answer.same) (Keeps-trans (subst (λ (ns : List Node). Keeps ns r.nodes) m.nodes x.keeps) (Keeps-made made.made)) (made_lies (same_both m.same x.answer.same) x.answer.at.at (let i = m.further in let j = x.answer.further in let d = m.at.behind in omega arith) made refl);
         further = let i = m.further in let j = x.answer.further in let d = m.at.behind in omega arith;
         label = label_here spread_element no_op p r;
         slots = tree x.answer.label x.answer.slots end;
@@ -174,10 +175,10 @@ module _ {text : List ℕ} {f : Flags} {p o : Parser} {d : Diagnostic} (a : At t
   told_nodes : o.nodes ≡ p.nodes
   told_nodes = ap (λ (z : Parser). z.nodes) t.is
 
-  pub spread_told : {n : Symbol} {w : Parser} {id : NodeId} → ItemTaken text f n o w id → ItemTaken text f (at Assignment (plus_in f)) p w id
-  spread_told {w = w} {id} y = record {
+  pub spread_told : IsEarly d → {n : Symbol} {w : Parser} {id : NodeId} → ItemTaken text f n o w id → ItemTaken text f (at Assignment (plus_in f)) p w id
+  spread_told early {w = w} {id} y = record {
     at = y.at;
-    same = same_both (told_same t) y.same;
+    same = same_both (told_same t early) y.same;
     further = let i = y.further in let e = ap (λ (z : Parser). z.token.span.start) t.is in omega arith;
     label = y.label;
     slots = y.slots;
@@ -188,12 +189,12 @@ module _ {text : List ℕ} {f : Flags} {p o : Parser} {d : Diagnostic} (a : At t
     keeps = subst (λ (ns : List Node). Keeps ns w.nodes) told_nodes y.keeps;
   }
 
-  pub told_stops : (q : Parser) (e : Stop) (F : Type 0) → Stops o q e F → Stops p q e (NoItem text (at Assignment (plus_in f)) p.prev_token_end)
-  told_stops q e F z = stops_behind q e (told_same t).follows (λ g. grown_both (kept_one t) g) (λ n. no_spread_here) z
+  pub told_stops : IsEarly d → (q : Parser) (e : Stop) (F : Type 0) → Stops o q e F → Stops p q e (NoItem text (at Assignment (plus_in f)) p.prev_token_end)
+  told_stops early q e F z = stops_behind q e (told_same t early) (λ g. grown_both (kept_one t) g) (λ n. no_spread_here) z
 
-pub told_outcome : {text : List ℕ} {f : Flags} {p o : Parser} {d : Diagnostic} (w : Parser) (r : Result NodeId Stop) → At text f p → StandsHere p Dot3 true → KeepsOne d p o → ItemOutcome text f (at Argument f) o w r → ItemOutcome text f (at Assignment (plus_in f)) p w r
-told_outcome w (Ok id) a k t y = spread_told a k t y
-told_outcome w (Err e) a k t z = told_stops a k t w e _ z
+pub told_outcome : {text : List ℕ} {f : Flags} {p o : Parser} {d : Diagnostic} (w : Parser) (r : Result NodeId Stop) → At text f p → StandsHere p Dot3 true → KeepsOne d p o → IsEarly d → ItemOutcome text f (at Argument f) o w r → ItemOutcome text f (at Assignment (plus_in f)) p w r
+told_outcome w (Ok id) a k t i y = spread_told a k t i y
+told_outcome w (Err e) a k t i z = told_stops a k t i w e _ z
 
 pub spread_marked : {text : List ℕ} {f : Flags} {p : Parser} (s : Span) → At text f p → StandsHere p Dot3 true → s ≡ p.token.span → Mark (goal p) p.text (spread_at s)
 spread_marked {p = p} s a h e = subst (λ (v : Span). Mark (goal p) p.text (spread_at v)) (sym e) (record {

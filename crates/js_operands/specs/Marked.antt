@@ -6,6 +6,7 @@ use Rattle.js_tree.specs.declared.id.NodeId.{NodeId}
 use Rattle.js_tree.specs.Nodes.{Node}
 use Rattle.js_tree.specs.Holding.{Holds, Keeps}
 use Rattle.js_cursor.specs.Parsers.{Parser}
+use Rattle.js_parsing.specs.States.{NodesLie}
 
 abbrev pub is_function : NodeKind → Bool
 is_function function_expression = true
@@ -22,6 +23,7 @@ pub record MarksNode (id : NodeId) (ns ms : List Node) : Type 0 where
   pub long : length ms ≡ length ns
   pub holds : (lo hi : ℕ) (l : Label) (cs : Slots) → Holds ns lo hi id.0 l cs → MarkedTree ms lo hi id l cs
   pub keeps : (os : List Node) → Keeps os ns → length os ≤ id.0 → Keeps os ms
+  pub lies : (text : List ℕ) → NodesLie text ns → NodesLie text ms
 
 abbrev pub Marks : NodeId → Parser → Parser → Type 0
 Marks id p q = (q ≡ record p { nodes = q.nodes }) × MarksNode id p.nodes q.nodes

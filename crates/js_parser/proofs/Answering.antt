@@ -34,10 +34,12 @@ use Rattle.js_grammar.specs.Options.{Options}
 use Rattle.js_grammar.specs.Settings.{Goal}
 use Rattle.js_parser.specs.Kept.{TellsRead, KeepsRight}
 use Rattle.js_parser.specs.Parsed.{options_of, IsAnswer, IsOverlong}
-use Rattle.js_parser.proofs.NodeSpans.{reading_lies}
+use Rattle.js_parser.proofs.NodeSpans.{slots_lie, program_lie}
 use Rattle.js_parser.specs.Taken.{IsOf, ReadOrNot, ProgramTaken, ProgramRefused, ProgramStops}
 use Rattle.js_cursor.specs.declared.stop.Stop.{Stop}
 use Rattle.js_cursor.specs.declared.stop.Stop.TheVariants.{Fatal}
+use Rattle.js_parsing.proofs.Classes.{lexical_by}
+use Rattle.js_parsing.specs.States.{NodesLie}
 
 -- both lists are empty
 pub first_empty : {K : Type 0} (a b : List K) → a ++ b ≡ [] → a ≡ []
@@ -53,20 +55,6 @@ none_of_two a b e f = λ i. e i ++ f i
 
 span_is : (sp : Span) {a b : ℕ} → sp.start ≡ a → sp.end ≡ b → sp ≡ record { start = a; end = b }
 span_is sp x y = λ i. record { start = x i; end = y i }
-
--- what may be wrong with a lexeme is of the lexical class
-lexical_by : {goal : Goal} {text : List ℕ} {s from to : ℕ} (k : DiagnosticKind) → FaultyBehind k goal text s from to → class_of k ≡ Lexical
-lexical_by fault.InvalidCharacter f = refl
-lexical_by fault.BinaryFile f = refl
-lexical_by fault.UnterminatedString f = refl
-lexical_by fault.UnterminatedTemplate f = refl
-lexical_by fault.UnterminatedRegexp f = refl
-lexical_by fault.UnterminatedComment f = refl
-lexical_by fault.InvalidEscape f = refl
-lexical_by fault.InvalidNumber f = refl
-lexical_by fault.RegExpFlag f = refl
-lexical_by fault.HtmlCommentInModule f = refl
-lexical_by _ f = absurd f.condition.2
 
 module _ {text : List ℕ} {s : SourceType} {p : Parser} (t : IsOf text s p) where
   -- it is one of characters
@@ -91,7 +79,7 @@ module _ {text : List ℕ} {s : SourceType} {p : Parser} (t : IsOf text s p) whe
   faults_lie : (kept : List Diagnostic) → All (IsFault (goal_of s) text) kept → All (λ d. LiesIn d.span text) kept
   faults_lie kept h = All-weaker (IsFault (goal_of s) text) (λ d. LiesIn d.span text) (λ d f. record { ordered = (let l = f.faulty.ordered in omega arith); starts_whole = f.faulty.begins_between; ends_whole = f.faulty.ends_between }) kept h
 
-  told_all : (kept found : List Diagnostic) → found ≡ kept ++ p.errors → All (IsFault (goal_of s) text) kept → AreOf (goal_of s) text found
+  abbrev told_all : (kept found : List Diagnostic) → found ≡ kept ++ p.errors → All (IsFault (goal_of s) text) kept → AreOf (goal_of s) text found
   told_all kept found e h = record {
     faults = kept;
     told = p.errors;
@@ -120,16 +108,19 @@ by_found : (text : List ℕ) (s : SourceType) (o : ParseOptions) (p : Parser) (c
 by_found text s o p cs found e (inl (z, r)) = (λ x. r, λ n. absurd (n (e ∙ none_of_two p.lexer.kept.errors p.errors z.faults z.errors)))
 by_found text s o p cs found e (inr (z, r)) = (λ x. absurd (z (let k = sym e ∙ x in record { faults = first_empty p.lexer.kept.errors p.errors k; errors = second_empty p.lexer.kept.errors p.errors k })), λ n. r)
 
-pub taken_answer : {text : List ℕ} {s : SourceType} {o : ParseOptions} {asks : Bool} {p : Parser} {ids : List (Option NodeId)} (span : Span) (nodes : List Node) (out kept : LexerOutput) → span.start ≡ 0 → span.end ≡ p.token.span.end → ((cs : Slots) → HoldsAll p.nodes 1 (length p.nodes) ids cs → IsTree nodes (program_tree span cs)) → out ≡ record kept { errors = p.lexer.kept.errors ++ p.errors } → LieIn p.lexer.text kept → ProgramTaken text s o asks p ids → IsAnswer text (goal_of s) (options_of o) nodes out false
-taken_answer {text} {s} {o} {asks} {p} {ids} span nodes out kept a b t e l h = record {
+pub taken_answer : {text : List ℕ} {s : SourceType} {o : ParseOptions} {asks : Bool} {p : Parser} {ids : List (Option NodeId)} (span : Span) (nodes : List Node) (out kept : LexerOutput) → span.start ≡ 0 → span.end ≡ p.token.span.end → ((cs : Slots) → HoldsAll p.nodes 1 (length p.nodes) ids cs → IsTree nodes (program_tree span cs)) → nodes ≡ with_program (program_node span ids) p.nodes → out ≡ record kept { errors = p.lexer.kept.errors ++ p.errors } → LieIn p.lexer.text kept → ProgramTaken text s o asks p ids → IsAnswer text (goal_of s) (options_of o) nodes out false
+taken_answer {text} {s} {o} {asks} {p} {ids} span nodes out kept a b t n e l h = record {
   told = told_all h.is_of p.lexer.kept.errors out.errors (ap (λ (x : LexerOutput). x.errors) e) (faults h.is_of);
   lie = lies h.is_of kept out p.lexer.kept.errors e l (faults h.is_of);
   tree = program_tree (record { start = 0; end = p.token.span.end }) h.slots;
   is_tree = subst (λ (v : Span). IsTree nodes (program_tree v h.slots)) (span_is span a b) (t h.slots h.holds);
   program_lies = up_to_token h.is_of;
-  inside = λ z. (reading_lies (program_tree (record { start = 0; end = p.token.span.end }) h.slots) (characters h.is_of) ((by_found text s o p h.slots out.errors (ap (λ (x : LexerOutput). x.errors) e) h.outcome).0 z).reading).1;
+  inside = slots_lie h.lies (h.holds).stands;
+  nodes_lie = subst (λ (ns : List Node). NodesLie text ns) (sym n) (program_lie (program_node span ids) p.nodes (subst (λ (v : Span). LiesIn v text) (sym (span_is span a b)) (up_to_token h.is_of)) h.lies);
   clean = λ z. (by_found text s o p h.slots out.errors (ap (λ (x : LexerOutput). x.errors) e) h.outcome).0 z;
   unclean = λ z. (by_found text s o p h.slots out.errors (ap (λ (x : LexerOutput). x.errors) e) h.outcome).1 z;
+  early = λ q. h.early;
+  stopped = λ q. absurd (false≢true q);
   ended = λ q z. false≢true q;
   childless = λ q. absurd (false≢true q);
   no_tokens = λ q. absurd (false≢true q);
@@ -166,21 +157,27 @@ childless {nodes} {ids} ns span z e = subst (λ (ms : List Node). IsTree ms (pro
   children = HoldsAll-none (with_program (program_node span []) ns) 1 (length (with_program (program_node span []) ns)) (omega arith);
 })
 
-pub refused_answer : {text : List ℕ} {s : SourceType} {o : ParseOptions} {p : Parser} {ids : List (Option NodeId)} (ns : List Node) (span : Span) (nodes : List Node) (faults_told : List Diagnostic) (out kept : LexerOutput) (n : ℕ) → span.start ≡ 0 → span.end ≡ length p.text → faults_told ≡ take n p.lexer.kept.errors → ids ≡ [] → nodes ≡ with_program (program_node span ids) ns → out ≡ record kept { tokens = []; errors = faults_told ++ p.errors } → LieIn p.lexer.text kept → ProgramRefused text s o p → IsAnswer text (goal_of s) (options_of o) nodes out true
-refused_answer {text} {s} {o} {p} {ids} ns span nodes told out kept n a b k z t e l h = record {
+pub refused_answer : {text : List ℕ} {s : SourceType} {o : ParseOptions} {p : Parser} {ids : List (Option NodeId)} (ns : List Node) (span : Span) (nodes : List Node) (faults_told : List Diagnostic) (out kept : LexerOutput) (n : ℕ) → span.start ≡ 0 → span.end ≡ length p.text → faults_told ≡ take n p.lexer.kept.errors → ids ≡ [] → nodes ≡ with_program (program_node span ids) ns → ns ≡ p.nodes → out ≡ record kept { tokens = []; errors = faults_told ++ p.errors } → LieIn p.lexer.text kept → ProgramRefused text s o p → IsAnswer text (goal_of s) (options_of o) nodes out true
+refused_answer {text} {s} {o} {p} {ids} ns span nodes told out kept n a b k z t same e l h = record {
   told = told_all h.is_of told out.errors (ap (λ (x : LexerOutput). x.errors) e) are_faults;
   lie = lies h.is_of (record kept { tokens = [] }) out told e (record { comments = l.comments; irregular_whitespaces = l.irregular_whitespaces; tokens = All-nil (λ (d : Token). LiesIn d.span p.lexer.text); errors = l.errors }) are_faults;
   tree = program_tree (record { start = 0; end = length text }) end;
   is_tree = subst (λ (v : Span). IsTree nodes (program_tree v end)) (span_is span a (b ∙ ap (λ (v : List ℕ). length v) h.is_of.text_is)) (childless ns span z t);
-  program_lies = record { ordered = omega arith; starts_whole = IsCharBoundary-start text (characters h.is_of); ends_whole = IsCharBoundary-end text };
-  inside = λ y. absurd (some y);
+  program_lies = whole;
+  inside = tt;
+  nodes_lie = subst (λ (ms : List Node). NodesLie text ms) (sym (t ∙ ap (λ (ms : List Node). with_program (program_node span ids) ms) same)) (program_lie (program_node span ids) p.nodes (subst (λ (v : Span). LiesIn v text) (sym (span_is span a (b ∙ ap (λ (v : List ℕ). length v) h.is_of.text_is))) whole) h.lies);
   clean = λ y. absurd (some y);
   unclean = λ y. h.none;
+  early = λ q. absurd (false≢true (sym q));
+  stopped = λ q. h.stopped;
   ended = λ q y. some y;
   childless = λ q. refl;
   no_tokens = λ q. ap (λ (x : LexerOutput). x.tokens) e;
 }
   where
+    whole : LiesIn (record { start = 0; end = length text }) text
+    whole = record { ordered = omega arith; starts_whole = IsCharBoundary-start text (characters h.is_of); ends_whole = IsCharBoundary-end text }
+
     are_faults : All (IsFault (goal_of s) text) told
     are_faults = subst (λ (ds : List Diagnostic). All (IsFault (goal_of s) text) ds) (sym k) (All-take (IsFault (goal_of s) text) n p.lexer.kept.errors (faults h.is_of))
 

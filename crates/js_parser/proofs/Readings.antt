@@ -32,7 +32,7 @@ use Rattle.js_cursor.specs.declared.stop.Stop.{Stop}
 use Rattle.js_cursor.specs.declared.stop.Stop.TheVariants.{Fatal, NoMemory}
 use Rattle.js_parsing.specs.Answers.{Stretch, Verdict, clean, unclean}
 use Rattle.js_parsing.specs.Lexemes.{Lex, is_read, read_kinds}
-use Rattle.js_parsing.specs.States.{At, IsPlain, whole, sign, nothing as no_lexeme, flags_of, Standing}
+use Rattle.js_parsing.specs.States.{At, IsPlain, whole, sign, nothing as no_lexeme, flags_of, Standing, NodesLie, SpansLie}
 use Rattle.js_statements.specs.StatementLists.{at_text_end, with_directives, statements, NoList, Taken, AllTaken, AllRefused}
 use Rattle.js_parsing.proofs.Beginning.{begins, begins_with_hashbang, behind_first, none_noted}
 use Rattle.js_parsing.proofs.Giving.{fails_none}
@@ -41,7 +41,7 @@ use Rattle.js_parsing.proofs.Paths.{at_kind}
 use Rattle.js_statements.proofs.StatementLists.{none_left}
 use Rattle.js_parsing.proofs.Verdicts.{grown_some}
 use Rattle.js_cursor.specs.Starts.{is_module, is_commonjs}
-use Rattle.js_tree.specs.Nodes.{Node}
+use Rattle.js_tree.specs.Nodes.{Node, empty_program}
 use Rattle.js_tree.proofs.HoldingLemmas.{HoldsAll-wider, HoldsAll-append, HoldsAll-one, Holds-kept, Holds-wider, Keeps-refl}
 use Rattle.std.specs.Prelude.{Result, Ok, Err, MatchResult}
 use Rattle.std.specs.Prelude.{Some}
@@ -56,7 +56,7 @@ use Rattle.js_lex.specs.Scans.{NoLexeme}
 use Rattle.js_lex.specs.States.{State}
 use Rattle.js_parser.proofs.Hashbangs.{hashbang_label, program_label, behind_comment, alone}
 use Rattle.js_parser.proofs.Fronts.{Front, Parts, kind_of_hashbang, none_begins, at_the_start, behind_a_comment}
-use Rattle.js_parsing.proofs.MadeNodes.{leaf_held}
+use Rattle.js_parsing.proofs.MadeNodes.{leaf_held, one_lies}
 use Rattle.js_parsing.proofs.Moving.{standing, beside_nodes}
 use Rattle.js_parser.specs.Parsed.{options_of, IsAnswer}
 use Rattle.js_parser.specs.Readings.{parameters, Reading, IsOnlyReading, HasNoReading}
@@ -76,6 +76,10 @@ use Rattle.js_parser.proofs.Walks.{behind_walk, first_comments, first_blanks, al
 use Rattle.js_base.specs.declared.token.Token.{Token}
 use Rattle.js_parsing.proofs.Kept.{kept_for, faults_aside}
 use Rattle.js_parsing.proofs.Paths.{walked_from}
+use Rattle.std.proofs.lemmas.List.Elements.{All-same, All-nil, All-cons}
+use Rattle.js_parsing.specs.Classes.{IsEarly}
+use Rattle.std.proofs.lemmas.Str.{IsCharBoundary-start}
+use Rattle.js_base.specs.Spans.{LiesIn}
 
 abbrev tree_of : Label → Slots → Tree
 tree_of l cs = record { label = l; slots = cs }
@@ -365,6 +369,7 @@ record Begun (text : List ℕ) (f : Flags) (source : SourceType) (o : ParseOptio
   trivia : TriviaKept text s v.lexer.kept.comments v.lexer.kept.irregular_whitespaces
   tokens : kept_before v.lexer v.token ≡ []
   errors : v.errors ≡ []
+  lies : SpansLie v
 
 module _ {text : List ℕ} {f : Flags} {source : SourceType} {o : ParseOptions} {s : ℕ} {front : Slots → Slots} {put : Lexemes → Lexemes} {v : Parser} (b : Begun text f source o s front put v) where
   none : NoList text (with_directives f) v.prev_token_end → HasNoReading text (goal_of source) (options_of o)
@@ -407,11 +412,15 @@ module _ {text : List ℕ} {f : Flags} {source : SourceType} {o : ParseOptions} 
       keeps = t.same.follows.still.keeps_tokens ∙ same;
       unasked = λ u. unasked_by v q t.at t.walked (same ∙ u) b.tokens;
       kept = λ z w r. subst (λ (c : Bool). IsKeptOf r c q.lexer.kept) same (kept_by z (last_kind q.token.kind k) w r);
+      lies = subst (λ (w : List ℕ). NodesLie w q.nodes) t.at.text_is (t.same.lies b.lies).1;
+      early = t.same.early (All-same IsEarly v.errors [] b.errors (All-nil IsEarly));
     }
 
   stops_so : (q : Parser) (e : Stop) → AllRefused v q e → ProgramStops text source o q e
   stops_so q Fatal h = let r = h text f b.stands in record {
     is_of = record { at = r.at; text_is = r.follows.text ∙ b.stands.text_is; source_type = r.follows.source_type ∙ b.read_as };
+    stopped = r.stopped (All-same IsEarly v.errors [] b.errors (All-nil IsEarly));
+    lies = subst (λ (w : List ℕ). NodesLie w q.nodes) (r.follows.text ∙ b.stands.text_is) (r.lies b.lies);
     some = grown_some r.grown;
     none = none r.none;
   }
@@ -420,6 +429,12 @@ module _ {text : List ℕ} {f : Flags} {source : SourceType} {o : ParseOptions} 
 module _ {b : Bool} {p : Parser} (s : Starts p.text p.source_type p.options b p) where
   one_node : length p.nodes ≡ 1
   one_node = ap (λ (ns : List Node). length ns) s.nodes
+
+  -- Program's node, as long as it isn't finished, lies at the text's start
+  first_lies : NodesLie p.text p.nodes
+  first_lies =
+      let at_start = IsCharBoundary-start p.text s.at.utf8 in
+      All-same (λ (n : Node). LiesIn n.span p.text) p.nodes (empty_program ∷ []) s.nodes (All-cons (λ (n : Node). LiesIn n.span p.text) empty_program [] (record { ordered = omega arith; starts_whole = at_start; ends_whole = at_start }) (All-nil (λ (n : Node). LiesIn n.span p.text)))
 
   -- no hashbang comment stands here
   module _ (n : p.token.kind ≡ HashbangComment → ⊥) where
@@ -441,6 +456,7 @@ module _ {b : Bool} {p : Parser} (s : Starts p.text p.source_type p.options b p)
       trivia = trivia_first g s.kept_none s.reads s.reads_for s.at_start;
       tokens = before_next g ∙ s.kept_none.tokens;
       errors = s.errors;
+      lies = (s.at.lies.starts_whole, first_lies);
     }
 
     program_taken : {q : Parser} {ids : List (Option NodeId)} → AllTaken p q ids → ProgramTaken p.text p.source_type p.options p.lexer.keeps_tokens q ids
@@ -495,8 +511,12 @@ module _ {b : Bool} {p : Parser} (s : Starts p.text p.source_type p.options b p)
       trivia = subst (λ (r : Parser). TriviaKept p.text d.lexeme.to r.lexer.kept.comments r.lexer.kept.irregular_whitespaces) (sym n.stays) (trivia_first d.next kept_nothing s.at.reads s.at.reads_for ends_there);
       tokens = (λ i. kept_before (n.stays i).lexer (n.stays i).token) ∙ (before_next d.next ∙ kept_nothing.tokens);
       errors = ap (λ (r : Parser). r.errors) n.stays ∙ (d.stays.errors ∙ s.errors);
+      lies = (hashbang_stands.at.lies.starts_whole, subst (λ (t : List ℕ). NodesLie t v.nodes) (sym text_still) (one_lies n comment_lies (All-same (λ (x : Node). LiesIn x.span p.text) m.nodes p.nodes d.stays.nodes first_lies)));
     }
       where
+        comment_lies : LiesIn (record { start = span.start; end = span.end }) p.text
+        comment_lies = subst (λ (x : Span). LiesIn x p.text) (sym same_span) s.at.lies
+
         ends_there : p.lexer.place ≡ d.lexeme.to
         ends_there = s.at.last ∙ d.tells.end
 

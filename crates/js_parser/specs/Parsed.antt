@@ -1,5 +1,5 @@
 -- What a parse of a whole text answers.
-use Rattle.std.specs.Prelude.{ℕ, ◌≡◌, ◌≤◌, ◌<◌, Bool, true, List, [], ◌∷◌, length, None}
+use Rattle.std.specs.Prelude.{ℕ, ◌≡◌, ◌≤◌, ◌<◌, Bool, true, false, List, [], ◌∷◌, length, None}
 use Rattle.js_base.specs.declared.TheConstants.{MAX_LEN}
 use Rattle.js_base.specs.declared.diagnostic.Diagnostic.{Diagnostic}
 use Rattle.js_base.specs.declared.diagnostic.DiagnosticKind.TheVariants.{OverlongSource}
@@ -15,21 +15,27 @@ use Rattle.js_tree.specs.Nodes.{Node}
 use Rattle.js_tree.specs.Holding.{IsTree, program_tree}
 use Rattle.js_parser.specs.NodeSpans.{NodeLies, SlotsLie}
 use Rattle.js_parser.specs.Readings.{read_at, HasNoReading, IsOnlyReading, AreOf}
+use Rattle.std.specs.List.{All}
+use Rattle.js_parsing.specs.Classes.{IsEarly, EndedByLast}
+use Rattle.js_parsing.specs.States.{NodesLie}
 
 -- options as the grammar speaks of them
 abbrev pub options_of : ParseOptions → Options
 options_of o = record { allow_return = o.allow_return_outside_function; preserve_parens = o.preserve_parens; allow_v8 = o.allow_v8_intrinsics }
 
--- The answer for a text at a goal. Where nothing was found the tree is its only reading; where something was, it has none. All spans of what was kept lie in the text and split no character, and so does Program's; where nothing was found, those of all nodes. After a fatal diagnostic Program has the whole text and no child, and no token was kept.
+-- The answer for a text at a goal. Where nothing was found the tree is its only reading; where something was, it has none. All spans of what was kept lie in the text and split no character, and so do those of all nodes, whether anything was found or not. Of what the parser itself found, each is of the class Early, but for a fatal diagnostic, which is the last one and of the class Syntax, Form or Lexical. After a fatal diagnostic Program has the whole text and no child, and no token was kept.
 pub record IsAnswer (text : List ℕ) (goal : Goal) (o : Options) (nodes : List Node) (out : LexerOutput) (fatal : Bool) : Type 0 where
   pub told : AreOf goal text out.errors
   pub lie : LieIn text out
   pub tree : Tree
   pub is_tree : IsTree nodes tree
   pub program_lies : NodeLies text tree.label
-  pub inside : out.errors ≡ [] → SlotsLie text tree.slots
+  pub inside : SlotsLie text tree.slots
+  pub nodes_lie : NodesLie text nodes
   pub clean : out.errors ≡ [] → IsOnlyReading text goal o tree
   pub unclean : (out.errors ≡ [] → ⊥) → HasNoReading text goal o
+  pub early : fatal ≡ false → All IsEarly told.told
+  pub stopped : fatal ≡ true → EndedByLast told.told
   pub ended : fatal ≡ true → out.errors ≡ [] → ⊥
   pub childless : fatal ≡ true → tree ≡ program_tree (record { start = 0; end = length text }) end
   pub no_tokens : fatal ≡ true → out.tokens ≡ []

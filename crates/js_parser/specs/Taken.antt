@@ -13,6 +13,9 @@ use Rattle.js_cursor.specs.declared.stop.Stop.TheVariants.{Fatal, NoMemory}
 use Rattle.js_parser.specs.Kept.{IsKeptOf}
 use Rattle.js_parser.specs.Readings.{Reading, HasNoReading, IsOnlyReading}
 use Rattle.js_parser.specs.Parsed.{options_of}
+use Rattle.std.specs.List.{All}
+use Rattle.js_parsing.specs.Classes.{IsEarly, EndedByLast}
+use Rattle.js_parsing.specs.States.{NodesLie}
 
 -- it stands in a text of this source type
 pub record IsOf (text : List ℕ) (s : SourceType) (p : Parser) : Type 0 where
@@ -39,10 +42,15 @@ pub record ProgramTaken (text : List ℕ) (s : SourceType) (o : ParseOptions) (a
   pub keeps : p.lexer.keeps_tokens ≡ asks
   pub unasked : asks ≡ false → p.lexer.kept.tokens ≡ []
   pub kept : FoundNothing p → (t : Tree) (r : Reading text (goal_of s) (options_of o) t) → IsKeptOf r asks p.lexer.kept
+  -- behind each diagnostic of the parser reading went on
+  pub early : All IsEarly p.errors
+  pub lies : NodesLie text p.nodes
 
--- A fatal diagnostic ended the parse.
+-- A fatal diagnostic ended the parse, the last one.
 pub record ProgramRefused (text : List ℕ) (s : SourceType) (o : ParseOptions) (p : Parser) : Type 0 where
   pub is_of : IsOf text s p
+  pub stopped : EndedByLast p.errors
+  pub lies : NodesLie text p.nodes
   pub some : p.errors ≡ [] → ⊥
   pub none : HasNoReading text (goal_of s) (options_of o)
 

@@ -9,23 +9,38 @@ use Rattle.js_grammar.specs.Productions.{G, Flags}
 use Rattle.js_grammar.specs.Table.{rule}
 use Rattle.js_grammar.proofs.Calculus.{here_at}
 use Rattle.js_cursor.specs.Parsers.{Parser}
-use Rattle.js_cursor.specs.Moves.{Keeps, GivesUp, OnlyMemory}
+use Rattle.js_cursor.specs.Moves.{Keeps, GivesUp, IsUnexpected, OnlyMemory}
 use Rattle.js_cursor.specs.declared.stop.Stop.{Stop}
 use Rattle.js_cursor.specs.declared.stop.Stop.TheVariants.{Fatal, NoMemory}
 use Rattle.js_cursor.proofs.Later.{keeps_follows}
 use Rattle.js_parsing.specs.Heads.{NotedHeads}
 use Rattle.js_parsing.specs.Lexemes.{Lex}
-use Rattle.js_parsing.specs.States.{At}
+use Rattle.js_parsing.specs.States.{At, NodesLie}
 use Rattle.js_parsing.specs.Answers.{Grown, Stops}
 use Rattle.js_parsing.proofs.Here.{escaped_here}
 use Rattle.js_parsing.proofs.Tight.{read_plain}
+use Rattle.js_parsing.specs.Classes.{EndsParse}
+use Rattle.js_parsing.proofs.Classes.{unexpected_ends}
 
 pub kept_one : {d : Diagnostic} {p q : Parser} → Keeps d p q → Grown p.errors q.errors
 kept_one {d} k = record { more = d ∷ []; kept = ap (λ (r : Parser). r.errors) k.is; some = λ e. cc }
 
-pub gives_up : {text : List ℕ} {f : Flags} (P : Diagnostic → Type 0) (p q : Parser) {F : Type 0} (e : Stop) → At text f p → GivesUp P p q e → F → Stops p q e F
-gives_up P p q Fatal a g x = record { at = g.2.at; follows = keeps_follows g.2; grown = kept_one g.2; heads = subst NotedHeads (sym g.2.is) a.heads; none = x }
-gives_up P p q NoMemory a g x = tt
+-- by a diagnostic of a class that ends a parse
+pub gives_up : {text : List ℕ} {f : Flags} (P : Diagnostic → Type 0) (p q : Parser) {F : Type 0} (e : Stop) → At text f p → GivesUp P p q e → ((d : Diagnostic) → P d → EndsParse d) → F → Stops p q e F
+gives_up P p q Fatal a g c x = record {
+  at = g.2.at;
+  follows = keeps_follows g.2;
+  grown = kept_one g.2;
+  stopped = λ h. record { before = p.errors; last = g.0; is = ap (λ (r : Parser). r.errors) g.2.is; early = h; ends = c g.0 g.1 };
+  lies = λ h. subst (λ (r : Parser). NodesLie r.text r.nodes) (sym g.2.is) h.1;
+  heads = subst NotedHeads (sym g.2.is) a.heads;
+  none = x;
+}
+gives_up P p q NoMemory a g c x = tt
+
+-- by what can't stand here
+pub gives_up_here : {text : List ℕ} {f : Flags} (p q : Parser) {F : Type 0} (e : Stop) → At text f p → GivesUp (IsUnexpected p) p q e → F → Stops p q e F
+gives_up_here p q e a g x = gives_up (IsUnexpected p) p q e a g (λ d u. unexpected_ends a.at d u) x
 
 pub memory_stops : (p q : Parser) (e : Stop) (F : Type 0) → OnlyMemory e → Stops p q e F
 memory_stops p q Fatal F m = absurd m

@@ -22,3 +22,4 @@ pub mod Stretches
 pub mod Tight
 pub mod Told
 pub mod Verdicts
+pub mod Classes

@@ -1,6 +1,6 @@
 -- Nodes that were just made, and the trees that they stand for.
-use Rattle.std.proofs.Common.{ℕ, List, [], ◌∷◌, length, Option, Some, sym, subst}
-use Rattle.js_grammar.specs.Trees.{Label, Slots, end, tree}
+use Rattle.std.proofs.Common.{ℕ, List, [], ◌∷◌, length, Option, Some, sym, subst, ◌≡◌, ◌≤◌, ◌++◌}
+use Rattle.js_grammar.specs.Trees.{Label, Slots, end, tree, Span as TreeSpan}
 use Rattle.js_tree.specs.declared.id.NodeId.{NodeId}
 use Rattle.js_tree.specs.Nodes.{Node}
 use Rattle.js_tree.specs.Holding.{Holds, HoldsAll, Keeps}
@@ -8,10 +8,14 @@ use Rattle.js_tree.proofs.HoldingLemmas.{HoldsAll-none, HoldsAll-one, HoldsAll-t
 use Rattle.js_cursor.specs.Parsers.{Parser}
 use Rattle.js_parsing.specs.Moves.{MadeHere}
 use Rattle.std.proofs.Common.{◌≡◌, refl}
-use Rattle.std.specs.Prelude.{get_or}
+use Rattle.std.specs.Prelude.{get_or, IsCharBoundary}
 use Rattle.js_grammar.proofs.Calculus.{left, right}
 use Rattle.js_tree.specs.Nodes.{node_at, empty_program, label}
 use Rattle.js_tree.specs.Holding.{Stands, stands}
+use Rattle.std.proofs.lemmas.List.Elements.{All-same, All-push}
+use Rattle.js_base.specs.Spans.{LiesIn}
+use Rattle.js_cursor.specs.Places.{IsAt}
+use Rattle.js_parsing.specs.States.{NodesLie, Same}
 
 module _ {v w : Parser} {l : Label} {ids : List (Option NodeId)} {id : NodeId} (n : MadeHere l ids v w id) where
   pub node_held : {lo : ℕ} {cs : Slots} → HoldsAll v.nodes lo (length v.nodes) ids cs → Holds w.nodes lo (length w.nodes) id.0 l cs
@@ -32,3 +36,20 @@ held_label {ns} {l = l} id h = go id.0 h.stands
   where
     go : (n : ℕ) {m : Label} {cs : Slots} {rs : List ℕ} → Stands ns n m cs rs → m ≡ label (get_or ns n empty_program)
     go n (stands k i d) = refl
+
+-- ---- where they stand
+
+-- the span of a label lies in the text
+abbrev pub LabelLies : List ℕ → Label → Type 0
+LabelLies text l = LiesIn (record { start = l.span.from; end = l.span.to }) text
+
+pub one_lies : {text : List ℕ} {v w : Parser} {l : Label} {ids : List (Option NodeId)} {id : NodeId} → MadeHere l ids v w id → LabelLies text l → NodesLie text v.nodes → NodesLie text w.nodes
+one_lies {text} {v} {w} n s h = All-same (λ (m : Node). LiesIn m.span text) w.nodes (v.nodes ++ n.node ∷ []) n.made.nodes (All-push (λ (m : Node). LiesIn m.span text) v.nodes n.node h (subst (λ (k : Label). LabelLies text k) (sym n.label_is) s))
+
+-- a span from the token of one state up to the place of a later one
+pub from_start : {p q : Parser} (l : Label) → Same p q → IsAt q → p.token.span.start ≤ q.prev_token_end → l.span ≡ record { from = p.token.span.start; to = q.prev_token_end } → IsCharBoundary p.text p.token.span.start → LabelLies q.text l
+from_start {p} {q} l s i w e b = subst (λ (v : TreeSpan). LiesIn (record { start = v.from; end = v.to }) q.text) (sym e) (record { ordered = w; starts_whole = subst (λ (t : List ℕ). IsCharBoundary t p.token.span.start) (sym s.follows.text) b; ends_whole = i.between })
+
+-- a node with such a span
+pub made_lies : {p q w : Parser} {l : Label} {ids : List (Option NodeId)} {id : NodeId} → Same p q → IsAt q → p.token.span.start ≤ q.prev_token_end → MadeHere l ids q w id → l.span ≡ record { from = p.token.span.start; to = q.prev_token_end } → IsCharBoundary p.text p.token.span.start → NodesLie q.text q.nodes → NodesLie q.text w.nodes
+made_lies {l = l} s i w n e = λ b h. one_lies n (from_start l s i w e b) h

@@ -38,13 +38,17 @@ use Rattle.js_cursor.specs.Starts.{is_module}
 use Rattle.js_parsing.specs.Heads.{NoHead, NotedHeads, throughout}
 use Rattle.js_parsing.specs.Lexemes.{KeptFor, TriviaKept, News, read_kinds}
 use Rattle.js_parsing.proofs.KeptTokens.{counts_here, completed_counts, before_next, next_kept_last, again_before, again_last, trivia_kept}
-use Rattle.js_parsing.specs.States.{At, Standing, IsPlain, whole, sign, nothing, Same, flags_of}
+use Rattle.js_parsing.specs.States.{At, Standing, IsPlain, whole, sign, nothing, Same, flags_of, NodesLie, SpansLie}
 use Rattle.js_parsing.specs.Moves.{IsCompleted, IsWholeHere, Moved, Moves, Tightness}
 use Rattle.js_parsing.specs.Operators.{power_of}
 use Rattle.js_parsing.proofs.Here.{plain_kind, uncut}
 use Rattle.js_parsing.proofs.Kept.{kept_for}
 use Rattle.js_lex.specs.Comments.{each_at, comment_at, irregular_at, html_fault_at}
 use Rattle.js_lex.specs.States.{goal_of}
+use Rattle.js_parsing.specs.Classes.{IsEarly}
+use Rattle.std.specs.List.{All}
+use Rattle.std.proofs.lemmas.List.Elements.{All-same}
+use Rattle.js_base.specs.Spans.{LiesIn}
 
 -- What is given behind a place is what the plain goal gives, if it was asked for by that.
 pub plain_given : {text : List ℕ} {p : Parser} {source : Goal} (faults : List Diagnostic) → IsToken source text p.prev_token_end p.lexer.kept.errors p.token p.cut → Outcome division cut source text p.prev_token_end p.token [] faults → IsPlain text p
@@ -82,13 +86,17 @@ heads_kept p q t s o h n = λ f x k.
     (n f x (subst (λ (v : Heads). is_failed v f.await_ f.yield_ x ≡ true) h k))))
 
 pub same_itself : {p : Parser} → Same p p
-same_itself {p} = record { follows = follows_itself p; options = refl; ctx = refl; depth = refl; visits = refl }
+same_itself {p} = record { follows = follows_itself p; options = refl; ctx = refl; depth = refl; visits = refl; early = λ h. h; lies = λ h. h }
 
 pub same_both : {p q r : Parser} → Same p q → Same q r → Same p r
-same_both a b = record { follows = follows_on a.follows b.follows; options = b.options ∙ a.options; ctx = b.ctx ∙ a.ctx; depth = b.depth ∙ a.depth; visits = b.visits ∙ a.visits }
+same_both a b = record { follows = follows_on a.follows b.follows; options = b.options ∙ a.options; ctx = b.ctx ∙ a.ctx; depth = b.depth ∙ a.depth; visits = b.visits ∙ a.visits; early = λ h. b.early (a.early h); lies = λ h. b.lies (a.lies h) }
 
-same_of : {p q : Parser} → Follows p q → q.options ≡ p.options → q.ctx ≡ p.ctx → q.depth ≡ p.depth → q.visits ≡ p.visits → Same p q
-same_of g o c d v = record { follows = g; options = o; ctx = c; depth = d; visits = v }
+-- what lies in the text still does, where text and nodes stay
+pub nodes_lie : (p q : Parser) → q.text ≡ p.text → q.nodes ≡ p.nodes → NodesLie p.text p.nodes → NodesLie q.text q.nodes
+nodes_lie p q t n h = subst (λ (v : List ℕ). NodesLie v q.nodes) (sym t) (All-same (λ (m : Node). LiesIn m.span p.text) q.nodes p.nodes n h)
+
+same_of : {p q : Parser} → IsAt q → Follows p q → q.nodes ≡ p.nodes → q.errors ≡ p.errors → q.options ≡ p.options → q.ctx ≡ p.ctx → q.depth ≡ p.depth → q.visits ≡ p.visits → Same p q
+same_of {p} {q} i g n e o c d v = record { follows = g; options = o; ctx = c; depth = d; visits = v; early = λ h. All-same IsEarly q.errors p.errors e h; lies = λ h. (i.lies.starts_whole, nodes_lie p q g.text n h.1) }
 
 -- a lexeme that isn't the end has bytes
 further : {p q : Parser} → is_last p.token.kind ≡ false → Passed p q → p.token.span.start < q.prev_token_end
@@ -125,7 +133,7 @@ module _ {text : List ℕ} {f : Flags} {p : Parser} where
   passed_moves : {q : Parser} → At text f p → is_last p.token.kind ≡ false → Passed p q → Moved text f p q
   passed_moves {q} a n s = record {
     at = next_at a s;
-    same = same_of (passed_follows s) s.stays.options s.stays.ctx s.stays.depth s.stays.visits;
+    same = same_of s.at (passed_follows s) s.stays.nodes s.stays.errors s.stays.options s.stays.ctx s.stays.depth s.stays.visits;
     nodes = s.stays.nodes;
     kept = s.stays.errors;
     lexeme = s.lexeme;
@@ -189,7 +197,7 @@ completes {text} {f} {p} {q} (inr e) b n a h = record {
     heads = heads_kept p q e.1.stays.text e.1.stays.source_type e.1.stays.options (ap (λ (n : Notes). n.failed) e.1.stays.state) a.heads;
     kept_last = again_last p.lexer q.lexer p.token q.token e.1.again.same.keeps_tokens e.1.again.tokens counted.0 counted.1 a.kept_last;
   };
-  same = same_of (read_again_follows e.1) e.1.stays.options e.1.stays.ctx e.1.stays.depth e.1.stays.visits;
+  same = same_of b (read_again_follows e.1) e.1.stays.nodes e.1.stays.errors e.1.stays.options e.1.stays.ctx e.1.stays.depth e.1.stays.visits;
   nodes = e.1.stays.nodes;
   kept = e.1.stays.errors;
   place = e.1.place;
@@ -257,8 +265,8 @@ pub beside_nodes : {text : List ℕ} {f : Flags} {p : Parser} (ns : List Node) �
 beside_nodes {p = p} ns a = elsewhere ns p.depth a
 
 -- with nodes that were made since
-pub same_with : {p q : Parser} (ns : List Node) → Same p q → Keeps p.nodes ns → Same p (record q { nodes = ns })
-same_with ns s k =
+pub same_with : {p q : Parser} (ns : List Node) → Same p q → Keeps p.nodes ns → (IsCharBoundary p.text p.token.span.start → NodesLie q.text q.nodes → NodesLie q.text ns) → Same p (record q { nodes = ns })
+same_with ns s k n =
     let f = s.follows in
     record {
       follows = record { text = f.text; source_type = f.source_type; options = f.options; nodes = k; later_errors = f.later_errors; errors = f.errors; later_visits = f.later_visits; visits = f.visits; later_covers = f.later_covers; covers = f.covers; later_commas = f.later_commas; commas = f.commas; later_faults = f.later_faults; faults = f.faults; longer = f.longer; still = f.still };
@@ -266,6 +274,8 @@ same_with ns s k =
       ctx = s.ctx;
       depth = s.depth;
       visits = s.visits;
+      early = s.early;
+      lies = λ h. let z = s.lies h in (z.0, n h.0 z.1);
     }
 
 pub at_depth : {p : Parser} (k : ℕ) → IsAt p → Follows p (record p { depth = k })
@@ -275,7 +285,7 @@ out_of : {text : List ℕ} {f : Flags} {n : Symbol} {p q : Parser} {id : NodeId}
 out_of {q = q} k j e a x = record {
   answer = record {
     at = elsewhere q.nodes j x.answer.at;
-    same = record { follows = follows_on (at_depth k a) (follows_on x.answer.same.follows (at_depth j x.answer.at.at)); options = x.answer.same.options; ctx = x.answer.same.ctx; depth = e; visits = x.answer.same.visits };
+    same = record { follows = follows_on (at_depth k a) (follows_on x.answer.same.follows (at_depth j x.answer.at.at)); options = x.answer.same.options; ctx = x.answer.same.ctx; depth = e; visits = x.answer.same.visits; early = x.answer.same.early; lies = x.answer.same.lies };
     further = x.answer.further;
     label = x.answer.label;
     slots = x.answer.slots;
@@ -302,12 +312,15 @@ left {k} {text} {f} {n} {p} {e} {q} {w} {id} a h l x =
     subst (λ (r : Parser). Numbered text f n p r id) (sym l.is) (out_of (p.depth + k) w.depth d a (subst (λ (r : Parser). Numbered text f n r q id) h.is x))
 
 -- what a call said, of the state before
-pub stops_behind : {p q : Parser} (r : Parser) {F H : Type 0} (e : Stop) → Follows p q → (Grown q.errors r.errors → Grown p.errors r.errors) → (F → H) → Stops q r e F → Stops p r e H
-stops_behind r Fatal g h i s = record { at = s.at; follows = follows_on g s.follows; grown = h s.grown; heads = s.heads; none = i s.none }
-stops_behind r NoMemory g h i s = tt
+pub stops_later : {p q : Parser} (r : Parser) {F H : Type 0} (e : Stop) → Follows p q → (All IsEarly p.errors → All IsEarly q.errors) → (SpansLie p → SpansLie q) → (Grown q.errors r.errors → Grown p.errors r.errors) → (F → H) → Stops q r e F → Stops p r e H
+stops_later r Fatal g k l h i s = record { at = s.at; follows = follows_on g s.follows; grown = h s.grown; stopped = λ w. s.stopped (k w); lies = λ w. s.lies (l w); heads = s.heads; none = i s.none }
+stops_later r NoMemory g k l h i s = tt
+
+pub stops_behind : {p q : Parser} (r : Parser) {F H : Type 0} (e : Stop) → Same p q → (Grown q.errors r.errors → Grown p.errors r.errors) → (F → H) → Stops q r e F → Stops p r e H
+stops_behind r e m h i s = stops_later r e m.follows m.early m.lies h i s
 
 pub stops_in : {k : ℕ} {p q : Parser} (r : Parser) {F H : Type 0} (e : Stop) → IsAt p → Enters k p q → (F → H) → Stops q r e F → Stops p r e H
-stops_in {p = p} {q = q} r e a h i s = stops_behind r e (entered_on a h).0 (λ g. subst (λ (x : Parser). Grown x.errors r.errors) h.is g) i s
+stops_in {p = p} {q = q} r e a h i s = stops_later r e (entered_on a h).0 (λ w. All-same IsEarly q.errors p.errors (ap (λ (x : Parser). x.errors) h.is) w) (λ w. subst SpansLie (sym h.is) w) (λ g. subst (λ (x : Parser). Grown x.errors r.errors) h.is g) i s
 
 -- whatever the text and the parameters are called
 pub standing : {text : List ℕ} {f : Flags} {p : Parser} → At text f p → Standing p
@@ -323,4 +336,4 @@ pub entered_none : {k : ℕ} {text : List ℕ} {n : Symbol} {p q : Parser} → E
 entered_none {text = text} {n = n} h x = subst (λ (s : ℕ). Underived text n s) (entered_place h) x
 
 pub stops_so : (p r : Parser) {F H : Type 0} (e : Stop) → (F → H) → Stops p r e F → Stops p r e H
-stops_so p r e i s = stops_behind r e (follows_itself p) (λ g. g) i s
+stops_so p r e i s = stops_behind r e (same_itself {p = p}) (λ g. g) i s

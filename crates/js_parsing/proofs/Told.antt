@@ -14,8 +14,10 @@ use Rattle.js_cursor.specs.Parsers.{Parser}
 use Rattle.js_cursor.specs.Places.{IsAt, goal}
 use Rattle.js_cursor.proofs.Later.{keeps_follows}
 use Rattle.js_parsing.specs.Stands.{StandsHere}
-use Rattle.js_parsing.specs.States.{At, Same, IsPlain, whole, sign, nothing as none_stands}
+use Rattle.js_parsing.specs.States.{At, Same, IsPlain, whole, sign, nothing as none_stands, SpansLie}
 use Rattle.js_parsing.proofs.Here.{found, uncut}
+use Rattle.js_parsing.specs.Classes.{IsEarly}
+use Rattle.js_parsing.proofs.Classes.{kept_early}
 
 pub beside_errors : {text : List ℕ} {f : Flags} {p : Parser} {ds : List Diagnostic} → At text f p → IsAt (record p { errors = ds }) → At text f (record p { errors = ds })
 beside_errors {text} {f} {p} {ds} a i = record { text_is = a.text_is; flags_are = a.flags_are; at = i; plain = plain_of a.plain; behind = a.behind; heads = a.heads; kept_last = a.kept_last }
@@ -29,8 +31,8 @@ module _ {d : Diagnostic} {p r : Parser} (k : KeepsOne d p r) where
   pub told_at : {text : List ℕ} {f : Flags} → At text f p → At text f r
   told_at {text} {f} a = subst (λ (z : Parser). At text f z) (sym k.is) (beside_errors a (subst IsAt k.is k.at))
 
-  pub told_same : Same p r
-  told_same = record { follows = keeps_follows k; options = ap (λ (z : Parser). z.options) k.is; ctx = ap (λ (z : Parser). z.ctx) k.is; depth = ap (λ (z : Parser). z.depth) k.is; visits = ap (λ (z : Parser). z.visits) k.is }
+  pub told_same : IsEarly d → Same p r
+  told_same e = record { follows = keeps_follows k; options = ap (λ (z : Parser). z.options) k.is; ctx = ap (λ (z : Parser). z.ctx) k.is; depth = ap (λ (z : Parser). z.depth) k.is; visits = ap (λ (z : Parser). z.visits) k.is; early = λ h. kept_early k e h; lies = λ h. subst SpansLie (sym k.is) h }
 
 -- the lexeme that stands here
 pub lexeme_marked : {text : List ℕ} {f : Flags} {p : Parser} {k : Kind} → At text f p → StandsHere p k true → same_kind RAngle k ≡ false → is_last k ≡ false → LexemeAt (of_kinds (k ∷ [])) (goal p) p.text p.token.span

@@ -18,7 +18,9 @@ use Rattle.js_cursor.specs.declared.stop.Stop.{Stop}
 use Rattle.js_cursor.specs.declared.stop.Stop.TheVariants.{Fatal, NoMemory}
 use Rattle.js_parsing.specs.Lexemes.{Lex, Walked, spot}
 use Rattle.js_parsing.specs.Heads.{NotedHeads}
-use Rattle.js_parsing.specs.States.{At, Same}
+use Rattle.js_parsing.specs.States.{At, Same, NodesLie, SpansLie}
+use Rattle.js_parsing.specs.Classes.{IsEarly, EndedByLast}
+use Rattle.std.specs.List.{All}
 
 -- items were kept, one at least, behind those from before
 pub record Grown {K : Type 0} (old new : List K) : Type 0 where
@@ -64,11 +66,13 @@ pub record Numbered (text : List ℕ) (f : Flags) (n : Symbol) (old new : Parser
   pub holds : Holds new.nodes (length old.nodes) (length new.nodes) id.0 answer.label answer.slots
   pub keeps : Keeps old.nodes new.nodes
 
--- Why a call stops: what is due can't be derived, and a diagnostic was kept; or memory was refused, of which nothing is said.
+-- Why a call stops: what is due can't be derived, and a diagnostic was kept, the last one of a class that ends a parse; or memory was refused, of which nothing is said.
 pub record Refuses (old new : Parser) (F : Type 0) : Type 0 where
   pub at : IsAt new
   pub follows : Follows old new
   pub grown : Grown old.errors new.errors
+  pub stopped : All IsEarly old.errors → EndedByLast new.errors
+  pub lies : SpansLie old → NodesLie new.text new.nodes
   pub heads : NotedHeads new
   pub none : F
 

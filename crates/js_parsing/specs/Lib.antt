@@ -11,3 +11,4 @@ pub mod Stands
 pub mod Statements
 pub mod States
 pub mod Told
+pub mod Classes

@@ -20,6 +20,7 @@ use Rattle.js_cursor.specs.Moves.{Completed, is_last}
 use Rattle.js_cursor.specs.Places.{IsAt}
 use Rattle.js_parsing.specs.Lexemes.{News, IsNew, onward, spot}
 use Rattle.js_parsing.specs.Operators.{power_of}
+use Rattle.js_parsing.specs.Classes.{EndsParse}
 use Rattle.js_parsing.specs.States.{At, Same}
 use Rattle.std.specs.Prelude.{Result, Ok, Err}
 use Rattle.js_grammar.specs.Productions.{at}
@@ -97,4 +98,4 @@ operation_label k from to = record { kind = cond (one_of_kinds (Pipe2 ∷ Amp2 �
 -- A lexeme of this kind is due here: it was passed; or it doesn't stand here, and a diagnostic was kept.
 abbrev pub Passes : Kind → Parser → Parser → Result (Unit {0}) Stop → Type 0
 Passes k old new (Ok x) = (old.token.kind ≡ k) × Moves old new
-Passes k old new (Err e) = (e ≡ Fatal → old.token.kind ≡ k → ⊥) × GivesUp (λ d. Unit {0}) old new e
+Passes k old new (Err e) = (e ≡ Fatal → old.token.kind ≡ k → ⊥) × GivesUp EndsParse old new e

@@ -1,5 +1,5 @@
 -- The state of a parser at the beginning of a production: the grammar parameters in force, and what stands at its place.
-use Rattle.std.specs.Prelude.{ℕ, ◌≡◌, ◌≤◌, true, false, List}
+use Rattle.std.specs.Prelude.{ℕ, ◌≡◌, ◌≤◌, true, false, List, IsCharBoundary}
 use Rattle.js_base.specs.declared.kind.Kind.TheVariants.{RAngle, Undetermined}
 use Rattle.js_base.specs.Contexts.{has_flag, in_flag, yield_flag, await_flag, return_flag, new_target_flag}
 use Rattle.js_grammar.specs.Grammar.{Lexeme}
@@ -12,6 +12,10 @@ use Rattle.js_cursor.specs.Places.{IsAt}
 use Rattle.js_cursor.specs.Starts.{is_module}
 use Rattle.js_parsing.specs.Heads.{NotedHeads}
 use Rattle.js_parsing.specs.Lexemes.{KeptLast}
+use Rattle.js_parsing.specs.Classes.{IsEarly}
+use Rattle.std.specs.List.{All}
+use Rattle.js_base.specs.Spans.{LiesIn}
+use Rattle.js_tree.specs.Nodes.{Node}
 
 -- The parameters of productions (ECMA-262, 5.1.5). Expressions are read as a cover grammar: an object literal may have a shorthand with an initialiser (13.2.5).
 abbrev pub flags_of : Parser → Flags
@@ -47,10 +51,20 @@ pub record At (text : List ℕ) (f : Flags) (p : Parser) : Type 0 where
 abbrev pub Standing : Parser → Type 0
 Standing p = At p.text (flags_of p) p
 
--- What a parse function gives back as it was; what was kept before is kept still.
+-- each node lies in the text and splits no character of it
+abbrev pub NodesLie : List ℕ → List Node → Type 0
+NodesLie text ns = All (λ (n : Node). LiesIn n.span text) ns
+
+-- the current token begins between characters, where the next node may, and all nodes lie in the text
+abbrev pub SpansLie : Parser → Type 0
+SpansLie p = IsCharBoundary p.text p.token.span.start × NodesLie p.text p.nodes
+
+-- What a parse function gives back as it was; what was kept before is kept still, and of the diagnostics that were kept since each is one behind which reading goes on. The nodes that were made since lie in the text.
 pub record Same (old new : Parser) : Type 0 where
   pub follows : Follows old new
   pub options : new.options ≡ old.options
   pub ctx : new.ctx ≡ old.ctx
   pub depth : new.depth ≡ old.depth
   pub visits : new.visits ≡ old.visits
+  pub early : All IsEarly old.errors → All IsEarly new.errors
+  pub lies : SpansLie old → SpansLie new

@@ -46,6 +46,7 @@ use Rattle.js_parsing.proofs.Told.{told_at, told_same, lexeme_marked}
 use Rattle.js_parsing.proofs.Verdicts.{grown_then}
 use Rattle.js_grammar.proofs.Frame.{append_end}
 use Rattle.js_grammar.specs.Trees.{Slots}
+use Rattle.js_parsing.specs.Classes.{IsEarly, EndsParse}
 
 dots_plain : (is_word Dot3 || same_kind PrivateIdentifier Dot3) ≡ false
 unfolding words
@@ -112,12 +113,12 @@ module _ {text : List ℕ} {f : Flags} {p m : Parser} (close : Kind) (a : At tex
   none_closes : NoneLeft text (tok close) p.prev_token_end
   none_closes = fails_lexeme (is close) (λ y l h. false≢true (subst (λ (z : Kind). one_of_kinds closers z ≡ true) (kind_of_same close y.kind (and_parts (same_kind close y.kind) _ h).0 ∙ kind_here a k refl y l) c))
 
-  pub comma_told : {d : Diagnostic} {q : Parser} (ids : List (Option NodeId)) → KeepsOne d m q → OneMore text f (tok close) (tok close) p q ids ids
-  comma_told {d} {q} ids t =
+  pub comma_told : {d : Diagnostic} {q : Parser} (ids : List (Option NodeId)) → KeepsOne d m q → IsEarly d → OneMore text f (tok close) (tok close) p q ids ids
+  comma_told {d} {q} ids t y =
       let n : q.nodes ≡ p.nodes = ap (λ (z : Parser). z.nodes) t.is ∙ v.nodes in
       record {
         at = told_at t v.at;
-        same = same_both v.same (told_same t);
+        same = same_both v.same (told_same t y);
         forward = let i = v.further in let j = a.behind in let e = ap (λ (z : Parser). z.prev_token_end) t.is in omega arith;
         slots = λ us. us;
         puts = λ us. refl;
@@ -128,5 +129,5 @@ module _ {text : List ℕ} {f : Flags} {p m : Parser} (close : Kind) (a : At tex
         keeps = subst (λ (ns : List Node). Keeps p.nodes ns) (sym n) (Keeps-refl p.nodes);
       }
 
-  pub comma_stops : (P : Diagnostic → Type 0) (q : Parser) (e : Stop) → GivesUp P m q e → Stops p q e (NoneLeft text (tok close) p.prev_token_end)
-  comma_stops P q e g = stops_behind q e v.same.follows (λ i. grown_then v.kept i) (λ n. n) (gives_up P m q e v.at g none_closes)
+  pub comma_stops : (told : Diagnostic) (q : Parser) (e : Stop) → EndsParse told → GivesUp (λ d. d ≡ told) m q e → Stops p q e (NoneLeft text (tok close) p.prev_token_end)
+  comma_stops told q e c g = stops_behind q e v.same (λ i. grown_then v.kept i) (λ n. n) (gives_up (λ d. d ≡ told) m q e v.at g (λ d u. subst EndsParse (sym u) c) none_closes)

@@ -1,6 +1,6 @@
 -- What is bound (ECMA-262, 14.3.3): names and array patterns, elements of these, and rests.
 use Rattle.std.proofs.Common.{ℕ, ◌≡◌, max, List, [], ◌∷◌, length, Option, Some, Bool, true, false, ◌||◌, refl, sym, ap, subst, arith, ◌∙◌}
-use Rattle.std.specs.Prelude.{Result, Ok, Err, MatchResult}
+use Rattle.std.specs.Prelude.{Result, Ok, Err, MatchResult, IsCharBoundary}
 use Rattle.std.proofs.lemmas.Bool.{false≢true}
 use Rattle.js_base.specs.declared.diagnostic.Diagnostic.{Diagnostic}
 use Rattle.js_base.specs.declared.kind.Kind.{Kind}
@@ -27,7 +27,7 @@ use Rattle.js_tree.specs.Nodes.{Node}
 use Rattle.js_tree.specs.Holding.{Holds, HoldsAll, Keeps}
 use Rattle.js_tree.proofs.HoldingLemmas.{HoldsAll-none, Keeps-refl, Keeps-trans, Keeps-made}
 use Rattle.js_cursor.specs.Parsers.{Parser}
-use Rattle.js_cursor.specs.Moves.{GivesUp, MovesOn, OnlyMemory, is_last}
+use Rattle.js_cursor.specs.Moves.{GivesUp, MovesOn, OnlyMemory, is_last, IsHere}
 use Rattle.js_cursor.specs.declared.stop.Stop.{Stop}
 use Rattle.js_cursor.specs.declared.stop.Stop.TheVariants.{Fatal, NoMemory}
 use Rattle.js_parsing.specs.Answers.{Underived, Answer, Numbered, Outcome, Stops}
@@ -36,17 +36,19 @@ use Rattle.js_patterns.specs.Bindings.{elements_left}
 use Rattle.js_parsing.specs.Lexemes.{Lex}
 use Rattle.js_parsing.specs.Stands.{StandsHere}
 use Rattle.js_parsing.specs.Moves.{Moved, MadeHere, LeafTaken, TakesLeaf, plain_label}
-use Rattle.js_parsing.specs.States.{At, Same}
+use Rattle.js_parsing.specs.States.{At, Same, NodesLie}
 use Rattle.js_parsing.proofs.Signs.{other_kind, plain_sign}
 use Rattle.js_parsing.proofs.Giving.{fails_escaped, gives_up}
 use Rattle.js_parsing.proofs.Here.{kind_here, uncut}
-use Rattle.js_parsing.proofs.MadeNodes.{leaf_held, node_held, one_held, two_held}
+use Rattle.js_parsing.proofs.MadeNodes.{leaf_held, node_held, one_held, two_held, one_lies, made_lies}
 use Rattle.js_parsing.proofs.Moving.{beside_nodes, moves, same_both, same_with, stops_behind}
 use Rattle.js_operands.proofs.Operands.{by_path, name_test, one_path, plain_leaf}
 use Rattle.js_parsing.proofs.Parts.{part_path, part_path_fails, part_sign, part_last, parts}
 use Rattle.js_parsing.proofs.Paths.{Path, ◌⟼◌, ◌⟶◌, ◌⟶✗◌, at_kind, fails_at, token, last_called, noded, noded_by, by_symbol_as, label_here}
 use Rattle.js_parsing.proofs.Verdicts.{verdict_of, grown_then}
 use Rattle.js_parsing.proofs.Verdicts.{after as grown_behind}
+use Rattle.js_parsing.proofs.Classes.{here_ends}
+use Rattle.js_base.specs.declared.diagnostic.DiagnosticKind.TheVariants.{ExpectClosing}
 
 bracket_plain : (is_word LBrack || same_kind PrivateIdentifier LBrack) ≡ false
 unfolding words
@@ -73,13 +75,13 @@ pub ended_by : {text : List ℕ} {f : Flags} {X : Test} {g g' g'' : G} {p q : Pa
 ended_by r c = record { at = r.at; further = r.further; pass = r.pass; walked = r.walked; verdict = verdict_of r.verdict (λ y. record { reach = max y.reach 0; near = let n = y.near in omega arith; goes = y.goes ▹ c }) (λ n. n) }
 
 -- an item, by a path before what may stand behind it
-pub item_answers : {text : List ℕ} {f : Flags} {n : Symbol} {p q : Parser} (w : Parser) {l : Label} {cs : Slots} {id : NodeId} → Path text f behind_item (such n always) p nothing q (tree l cs) → Same p q → w ≡ record q { nodes = w.nodes } → Holds w.nodes (length p.nodes) (length w.nodes) id.0 l cs → Keeps p.nodes w.nodes → ItemTaken text f n p w id
-item_answers {text} {f} {n} {p} {q} w {l} {cs} {id} r s m h k = go w.nodes m h k
+pub item_answers : {text : List ℕ} {f : Flags} {n : Symbol} {p q : Parser} (w : Parser) {l : Label} {cs : Slots} {id : NodeId} → Path text f behind_item (such n always) p nothing q (tree l cs) → Same p q → w ≡ record q { nodes = w.nodes } → Holds w.nodes (length p.nodes) (length w.nodes) id.0 l cs → Keeps p.nodes w.nodes → (IsCharBoundary p.text p.token.span.start → NodesLie q.text q.nodes → NodesLie q.text w.nodes) → ItemTaken text f n p w id
+item_answers {text} {f} {n} {p} {q} w {l} {cs} {id} r s m h k i = go w.nodes m h k i
   where
-    go : (ns : List Node) → w ≡ record q { nodes = ns } → Holds w.nodes (length p.nodes) (length w.nodes) id.0 l cs → Keeps p.nodes w.nodes → ItemTaken text f n p w id
-    go ns m h k = subst (λ (z : Parser). ItemTaken text f n p z id) (sym m) (record {
+    go : (ns : List Node) → w ≡ record q { nodes = ns } → Holds w.nodes (length p.nodes) (length w.nodes) id.0 l cs → Keeps p.nodes w.nodes → (IsCharBoundary p.text p.token.span.start → NodesLie q.text q.nodes → NodesLie q.text w.nodes) → ItemTaken text f n p w id
+    go ns m h k i = subst (λ (z : Parser). ItemTaken text f n p z id) (sym m) (record {
       at = beside_nodes ns r.at;
-      same = same_with ns s (subst (λ (z : Parser). Keeps p.nodes z.nodes) m k);
+      same = same_with ns s (subst (λ (z : Parser). Keeps p.nodes z.nodes) m k) (λ b z. subst (λ (v : Parser). NodesLie q.text v.nodes) m (i b z));
       further = r.further;
       label = l;
       slots = cs;
@@ -113,7 +115,7 @@ module _ {text : List ℕ} {f : Flags} {p : Parser} (a : At text f p) where
   name_answers k e t =
       let l : plain_label node_kind.BindingIdentifier op_made.None p.token.span ≡ label_here binding_identifier no_op p t.mid = ap (λ (v : ℕ). record { kind = binding_identifier; op = no_op; flags = 0; span = record { from = p.token.span.start; to = v } }) (t.moved.tells.end ∙ t.moved.ends) in
       let ks : Keeps p.nodes t.mid.nodes = subst (λ (ns : List Node). Keeps p.nodes ns) (sym t.moved.nodes) (Keeps-refl p.nodes) in
-      by_path (subst (λ (v : Label). Path text f (after (at Binding f)) (rule (at Binding f)) p nothing t.mid (tree v end)) (sym l) (binding_path k e t.moved)) t.moved.same t.made.stays (λ y i. refl) refl (leaf_held t.made ks) (Keeps-trans ks (Keeps-made t.made.made))
+      by_path (subst (λ (v : Label). Path text f (after (at Binding f)) (rule (at Binding f)) p nothing t.mid (tree v end)) (sym l) (binding_path k e t.moved)) t.moved.same t.made.stays (λ y i. refl) refl (leaf_held t.made ks) (Keeps-trans ks (Keeps-made t.made.made)) (ap (λ (v : Label). v.span) l) (one_lies t.made)
 
   -- neither a name nor a pattern stands here
   pub no_binding : StandsHere p LBrack false → (p.token.kind ≡ Ident → p.token.escaped ≡ false → ⊥) → Underived text (at Binding f) p.prev_token_end
@@ -166,14 +168,14 @@ module _ {text : List ℕ} {f : Flags} {o : Parser} (a : At text f o) (k : o.tok
           let l : plain_label node_kind.ArrayPattern op_made.None s ≡ label_here array_pattern no_op o q = rw (b, d) refl in
           let y : MadeHere (label_here array_pattern no_op o q) js q w id = subst (λ (v : Label). MadeHere v js q w id) l n in
           let h : HoldsAll q.nodes (length o.nodes) (length q.nodes) js (whole_pattern.slots end) = whole_pattern.holds (length o.nodes) end (HoldsAll-none o.nodes (length o.nodes) (length o.nodes) (omega arith)) in
-          by_path pattern_path whole_pattern.same y.stays (λ u v. refl) refl (node_held y h) (Keeps-trans whole_pattern.keeps (Keeps-made y.made))
+          by_path pattern_path whole_pattern.same y.stays (λ u v. refl) refl (node_held y h) (Keeps-trans whole_pattern.keeps (Keeps-made y.made)) refl (one_lies y)
 
 pub pattern_moved : {text : List ℕ} {f : Flags} {p q : Parser} → At text f p → (p.token.kind ≡ RBrack) × MovesOn p q → Moved text f p q
 pattern_moved a z = moves (uncut a (ap (same_kind RAngle) z.0), ap is_last z.0) z.1 a
 
-pub pattern_unclosed : {text : List ℕ} {f : Flags} (P : Diagnostic → Type 0) (p q : Parser) (e : Stop) {F : Type 0} → At text f p → (e ≡ Fatal → p.token.kind ≡ RBrack → ⊥) × GivesUp P p q e → (one_of_kinds (RBrack ∷ []) p.token.kind ≡ false → F) → Stops p q e F
-pattern_unclosed P p q Fatal a h g = gives_up P p q Fatal a h.1 (g (other_kind RBrack p.token.kind (h.0 refl)))
-pattern_unclosed P p q NoMemory a h g = tt
+pub pattern_unclosed : {text : List ℕ} {f : Flags} (opening : Option Span) (p q : Parser) (e : Stop) {F : Type 0} → At text f p → (e ≡ Fatal → p.token.kind ≡ RBrack → ⊥) × GivesUp (IsHere ExpectClosing p opening) p q e → (one_of_kinds (RBrack ∷ []) p.token.kind ≡ false → F) → Stops p q e F
+pattern_unclosed opening p q Fatal a h g = gives_up (IsHere ExpectClosing p opening) p q Fatal a h.1 (here_ends ExpectClosing refl) (g (other_kind RBrack p.token.kind (h.0 refl)))
+pattern_unclosed opening p q NoMemory a h g = tt
 
 -- ---- an element of a pattern
 
@@ -218,7 +220,7 @@ module _ {text : List ℕ} {f : Flags} {p q : Parser} {bound : NodeId} (a : At t
   uninitialised n = by_symbol_as {X' = behind_item} (λ l cs vs y d. (d.0, refl)) (left {b = mk assignment_pattern (initialised f)} (fails_node inside_full (binding_read x.answer ⟶✗ fails_at x.answer.at (tok Eq ▸ symbol Assignment (plus_in f)) (Eq ∷ []) refl (other_kind Eq q.token.kind n))) ⟼ binding_last x.answer)
 
   pub element_alone : (q.token.kind ≡ Eq → ⊥) → ItemTaken text f (at BElement f) p q bound
-  element_alone n = item_answers q (uninitialised n) x.answer.same refl x.holds x.keeps
+  element_alone n = item_answers q (uninitialised n) x.answer.same refl x.holds x.keeps (λ b z. z)
 
   module _ {r : Parser} (k : q.token.kind ≡ Eq) (m : Moved text f q r) where
     with_value : Goes rule (Lex text) behind_item end (element_choice f) p.prev_token_end (mk assignment_pattern (initialised f)) p.prev_token_end (λ us. us) (still 0)
@@ -242,9 +244,10 @@ module _ {text : List ℕ} {f : Flags} {p q : Parser} {bound : NodeId} (a : At t
         let h : Holds w.nodes (length q.nodes) (length w.nodes) value.0 y.answer.label y.answer.slots = subst (λ (ns : List Node). Holds w.nodes (length ns) (length w.nodes) value.0 y.answer.label y.answer.slots) m.nodes y.holds in
         let i : Keeps q.nodes w.nodes = subst (λ (ns : List Node). Keeps ns w.nodes) m.nodes y.keeps in
         item_answers z (initialised_path y.answer) (same_both x.answer.same (same_both m.same y.answer.same)) v.stays (two_held v x.holds x.keeps h i) (Keeps-trans x.keeps (Keeps-trans i (Keeps-made v.made)))
+        (made_lies (same_both x.answer.same (same_both m.same y.answer.same)) y.answer.at.at (let a = x.answer.further in let c = x.answer.at.behind in let e = m.further in let g = m.at.behind in let j = y.answer.further in omega arith) v refl)
 
     pub no_value : (w : Parser) (e : Stop) → Stops r w e (Underived text (at Assignment (plus_in f)) r.prev_token_end) → Stops p w e (NoItem text (at BElement f) p.prev_token_end)
-    no_value w e z = stops_behind w e (same_both x.answer.same m.same).follows (λ g. grown_behind x.answer.verdict (grown_then m.kept g)) (λ n. value_fails n) z
+    no_value w e z = stops_behind w e (same_both x.answer.same m.same) (λ g. grown_behind x.answer.verdict (grown_then m.kept g)) (λ n. value_fails n) z
 
 pub no_element : {text : List ℕ} (f : Flags) {s : ℕ} → Underived text (at Binding f) s → NoItem text (at BElement f) s
 unfolding rule rule_of
@@ -269,7 +272,7 @@ module _ {text : List ℕ} {f : Flags} {p q : Parser} (a : At text f p) (k : p.t
       let y : MadeHere (label_here binding_rest_element no_op p r) (Some bound ∷ []) r w id = subst (λ (v : Label). MadeHere v (Some bound ∷ []) r w id) l n in
       let h : Holds r.nodes (length p.nodes) (length r.nodes) bound.0 x.answer.label x.answer.slots = subst (λ (ns : List Node). Holds r.nodes (length ns) (length r.nodes) bound.0 x.answer.label x.answer.slots) m.nodes x.holds in
       let i : Keeps p.nodes r.nodes = subst (λ (ns : List Node). Keeps ns r.nodes) m.nodes x.keeps in
-      by_path (noded a (dots ⟶ binding_last x.answer)) (same_both m.same x.answer.same) y.stays (λ u v. refl) refl (one_held p.nodes y h) (Keeps-trans i (Keeps-made y.made))
+      by_path (noded a (dots ⟶ binding_last x.answer)) (same_both m.same x.answer.same) y.stays (λ u v. refl) refl (one_held p.nodes y h) (Keeps-trans i (Keeps-made y.made)) refl (one_lies y)
 
 -- ---- a rest among parameters
 
@@ -282,4 +285,4 @@ unfolding rule rule_of
 rest_parameter {text} {f} {p} {q} {w} {rest} {id} s a x b d n =
     let l : plain_label node_kind.FormalParameterRest op_made.None s ≡ label_here formal_parameter_rest no_op p q = rw (b, d) refl in
     let y : MadeHere (label_here formal_parameter_rest no_op p q) (Some rest ∷ []) q w id = subst (λ (v : Label). MadeHere v (Some rest ∷ []) q w id) l n in
-    by_path (noded a (last_called x.answer (record { admits = λ ts vs k ls rest d e. (refl, refl) }))) x.answer.same y.stays (λ u v. refl) refl (one_held p.nodes y x.holds) (Keeps-trans x.keeps (Keeps-made y.made))
+    by_path (noded a (last_called x.answer (record { admits = λ ts vs k ls rest d e. (refl, refl) }))) x.answer.same y.stays (λ u v. refl) refl (one_held p.nodes y x.holds) (Keeps-trans x.keeps (Keeps-made y.made)) refl (one_lies y)

@@ -136,10 +136,10 @@ module _ {text : List ℕ} {f : Flags} {g g' g'' : G} {p q : Parser} {ids js : L
 
 module _ {text : List ℕ} {f : Flags} {g g' : G} {p q : Parser} {ids js : List (Option NodeId)} where
   pub list_stops : (r : Parser) (e : Stop) → Partway text f g g' p q ids js → Stops q r e (NoneLeft text g' q.prev_token_end) → Stops p r e (NoneLeft text g p.prev_token_end)
-  list_stops r e x s = stops_behind r e x.same.follows (λ d. grown_behind x.verdict d) (λ n. either_way x.verdict (λ u. u.goes ▹✗ n) (λ m. m)) s
+  list_stops r e x s = stops_behind r e x.same (λ d. grown_behind x.verdict d) (λ n. either_way x.verdict (λ u. u.goes ▹✗ n) (λ m. m)) s
 
   pub more_stops : (r : Parser) (e : Stop) → OneMore text f g g' p q ids js → Stops q r e (NoneLeft text g' q.prev_token_end) → Stops p r e (NoneLeft text g p.prev_token_end)
-  more_stops r e x s = stops_behind r e x.same.follows (λ d. grown_behind x.verdict d) (λ n. either_way x.verdict (λ u. u.goes ▹✗ n) (λ m. m)) s
+  more_stops r e x s = stops_behind r e x.same (λ d. grown_behind x.verdict d) (λ n. either_way x.verdict (λ u. u.goes ▹✗ n) (λ m. m)) s
 
 -- nothing was read
 pub none_yet : {text : List ℕ} {f : Flags} {g : G} {p : Parser} (ids : List (Option NodeId)) → At text f p → OneMore text f g g p p ids ids

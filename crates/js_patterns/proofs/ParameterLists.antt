@@ -37,7 +37,7 @@ use Rattle.js_patterns.proofs.Bindings.{binding_read, ended_by, item_answers, no
 use Rattle.js_parsing.proofs.Signs.{other_kind, plain_sign}
 use Rattle.js_parsing.proofs.Dead.{fails_dead}
 use Rattle.js_patterns.proofs.Lists.{end_due, item_comma, item_due, item_fails, item_last, item_more, last_due, last_fails, last_more, more_from, none_yet}
-use Rattle.js_parsing.proofs.MadeNodes.{node_held, two_held}
+use Rattle.js_parsing.proofs.MadeNodes.{node_held, two_held, one_lies, made_lies}
 use Rattle.js_parsing.proofs.Moving.{same_both, stops_behind, stops_so}
 use Rattle.js_operands.proofs.Operands.{by_path}
 use Rattle.js_parsing.proofs.Parts.{part_path, part_path_fails, part_sign, part_last, parts}
@@ -100,7 +100,7 @@ module _ {text : List ℕ} {f : Flags} {p q : Parser} {bound : NodeId} (a : At t
   alone_answers {w} {id} s n b d m =
       let l : plain_label node_kind.FormalParameter op_made.None s ≡ label_here formal_parameter no_op p q = rw (b, d) refl in
       let y : MadeHere (label_here formal_parameter no_op p q) (Some bound ∷ None ∷ []) q w id = subst (λ (v : Label). MadeHere v (Some bound ∷ None ∷ []) q w id) l m in
-      item_answers w (parameter_alone a x.answer n) x.answer.same y.stays (node_held y (HoldsAll-hole (HoldsAll-one bound x.holds))) (Keeps-trans x.keeps (Keeps-made y.made))
+      item_answers w (parameter_alone a x.answer n) x.answer.same y.stays (node_held y (HoldsAll-hole (HoldsAll-one bound x.holds))) (Keeps-trans x.keeps (Keeps-made y.made)) (made_lies x.answer.same x.answer.at.at (let a = x.answer.further in omega arith) y refl)
 
   module _ {r : Parser} (k : q.token.kind ≡ Eq) (m : Moved text f q r) where
     pub with_initialiser : {w z : Parser} {value id : NodeId} (s : Span) → (y : Numbered text f (at Assignment (plus_in f)) r w value) → s.start ≡ p.token.span.start → s.end ≡ w.prev_token_end → MadeHere (plain_label node_kind.FormalParameter op_made.None s) (Some bound ∷ Some value ∷ []) w z id → ItemTaken text f (at Param f) p z id
@@ -110,9 +110,10 @@ module _ {text : List ℕ} {f : Flags} {p q : Parser} {bound : NodeId} (a : At t
         let h : Holds w.nodes (length q.nodes) (length w.nodes) value.0 y.answer.label y.answer.slots = subst (λ (ns : List Node). Holds w.nodes (length ns) (length w.nodes) value.0 y.answer.label y.answer.slots) m.nodes y.holds in
         let i : Keeps q.nodes w.nodes = subst (λ (ns : List Node). Keeps ns w.nodes) m.nodes y.keeps in
         item_answers z (parameter_path a x.answer k m y.answer) (same_both x.answer.same (same_both m.same y.answer.same)) v.stays (two_held v x.holds x.keeps h i) (Keeps-trans x.keeps (Keeps-trans i (Keeps-made v.made)))
+        (made_lies (same_both x.answer.same (same_both m.same y.answer.same)) y.answer.at.at (let a = x.answer.further in let c = x.answer.at.behind in let e = m.further in let g = m.at.behind in let j = y.answer.further in omega arith) v refl)
 
     pub no_initialiser : (w : Parser) (e : Stop) → Stops r w e (Underived text (at Assignment (plus_in f)) r.prev_token_end) → Stops p w e (NoItem text (at Param f) p.prev_token_end)
-    no_initialiser w e z = stops_behind w e (same_both x.answer.same m.same).follows (λ g. grown_behind x.answer.verdict (grown_then m.kept g)) (λ n. initialiser_fails a x.answer k m n) z
+    no_initialiser w e z = stops_behind w e (same_both x.answer.same m.same) (λ g. grown_behind x.answer.verdict (grown_then m.kept g)) (λ n. initialiser_fails a x.answer k m n) z
 
 -- ---- their list
 
@@ -197,4 +198,4 @@ module _ {text : List ℕ} {f : Flags} {o p : Parser} {js : List (Option NodeId)
         let l : plain_label node_kind.FormalParameters op_made.None s ≡ label_here formal_parameters no_op o q = rw (b, d) refl in
         let y : MadeHere (label_here formal_parameters no_op o q) js q w id = subst (λ (v : Label). MadeHere v js q w id) l n in
         let h : HoldsAll q.nodes (length o.nodes) (length q.nodes) js (whole_list.slots end) = whole_list.holds (length o.nodes) end (HoldsAll-none o.nodes (length o.nodes) (length o.nodes) (omega arith)) in
-        by_path list_path whole_list.same y.stays (λ u v. refl) refl (node_held y h) (Keeps-trans whole_list.keeps (Keeps-made y.made))
+        by_path list_path whole_list.same y.stays (λ u v. refl) refl (node_held y h) (Keeps-trans whole_list.keeps (Keeps-made y.made)) refl (one_lies y)

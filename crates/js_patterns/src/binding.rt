@@ -6,6 +6,7 @@ ghost use Rattle.js_base.specs.declared.kind.Kind.TheVariants.{Comma, Dot3, LBra
 ghost use Rattle.js_cursor.specs.Places.{goal};
 ghost use Rattle.js_grammar.specs.Marks.{Mark};
 ghost use Rattle.js_grammar.specs.Productions.{at, BElement, Binding, BindingRest};
+ghost use Rattle.js_parsing.specs.Classes.{EndsParse};
 ghost use Rattle.js_parsing.specs.Answers.{Answers};
 ghost use Rattle.js_patterns.specs.Bindings.{closers, elements_left};
 ghost use Rattle.js_parsing.specs.Told.{unrelated_at};
@@ -227,6 +228,7 @@ pub fn check_behind_rest<C: ParserConfig>(
     requires at { Standing p.old }
     requires closes { one_of_kinds closers close ≡ true }
     requires mark { Mark (goal p.old) p.old.text misplaced }
+    requires ends { EndsParse misplaced }
     ensures { ClosingDue close p.old p.new result }
 {
     if !p.at(Kind::Comma) {

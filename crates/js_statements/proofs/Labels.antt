@@ -37,7 +37,7 @@ use Rattle.js_parsing.proofs.Signs.{plain_sign}
 use Rattle.js_expressions.proofs.Conditionals.{colon_plain}
 use Rattle.js_parsing.proofs.Dead.{lives}
 use Rattle.js_parsing.proofs.Here.{found, uncut}
-use Rattle.js_parsing.proofs.MadeNodes.{leaf_held, two_held}
+use Rattle.js_parsing.proofs.MadeNodes.{leaf_held, two_held, one_lies, from_start}
 use Rattle.js_parsing.proofs.Moving.{same_both, same_itself, same_with, beside_nodes, stops_behind}
 use Rattle.js_parsing.proofs.Paths.{Path, ◌⟼◌, ◌⟶◌, ◌⟶✗◌, at_kind, one_read, read_of, token, noded, noded_by, by_symbol_as, label_here}
 use Rattle.js_statements.proofs.Statements.{by_statement, no_symbol, no_expression_ends, before_colon, item_left, sub_left, colon_ends}
@@ -224,7 +224,7 @@ module _ {text : List ℕ} {f : Flags} {p q : Parser} {id : NodeId} (a : At text
     labeled = subst (λ (l : Label). MadeHere l [] q w label) (same_label e) made
 
     same_made : Same q w
-    same_made = subst (λ (v : Parser). Same q v) (sym made.stays) (same_with w.nodes same_itself (Keeps-made made.made))
+    same_made = subst (λ (v : Parser). Same q v) (sym made.stays) (same_with w.nodes same_itself (Keeps-made made.made) (λ b h. one_lies labeled (from_start (label_here label_identifier no_op p q) x.answer.same x.answer.at.at (let g = x.answer.further in omega arith) refl a.at.lies.starts_whole) h))
 
     errors_made : w.errors ≡ q.errors
     errors_made = ap (λ (v : Parser). v.errors) made.stays
@@ -237,7 +237,7 @@ module _ {text : List ℕ} {f : Flags} {p q : Parser} {id : NodeId} (a : At text
       label_grown g = grown_behind x.answer.verdict (grown_then (m.kept ∙ errors_made) g)
 
       pub label_stops : (b : Bool) (v : Parser) (e : Stop) → Stops r v e (NoStatement text (at Sub f) r.prev_token_end) → Stops p v e (NoStatement text (placed b f) p.prev_token_end)
-      label_stops b v e z = stops_behind v e label_same.follows (λ g. label_grown g) (λ k. body_fails a x.answer i labeled m b k) z
+      label_stops b v e z = stops_behind v e label_same (λ g. label_grown g) (λ k. body_fails a x.answer i labeled m b k) z
 
       pub label_answers : (b : Bool) {v z : Parser} {body made_id : NodeId} (t : Span) (y : Statement text f (at Sub f) r v body) → t.start ≡ p.token.span.start → t.end ≡ v.prev_token_end → MadeHere (plain_label node.LabeledStatement op.None t) (Some label ∷ Some body ∷ []) v z made_id → Statement text f (placed b f) p z made_id
       label_answers b {v} {z} {body} {made_id} t y g h d =
@@ -246,4 +246,4 @@ module _ {text : List ℕ} {f : Flags} {p q : Parser} {id : NodeId} (a : At text
           let kw : Keeps p.nodes w.nodes = Keeps-trans x.keeps (Keeps-made made.made) in
           let ky : Keeps w.nodes v.nodes = subst (λ (ns : List Node). Keeps ns v.nodes) m.nodes y.keeps in
           by_statement (labeled_path a x.answer i b (body_path a x.answer i labeled m y)) (same_both label_same y.same) k.stays
-          (two_held k (leaf_held labeled x.keeps) kw (subst (λ (ns : List Node). Holds v.nodes (length ns) (length v.nodes) body.0 y.label y.slots) m.nodes y.holds) ky) (Keeps-trans kw (Keeps-trans ky (Keeps-made k.made)))
+          (two_held k (leaf_held labeled x.keeps) kw (subst (λ (ns : List Node). Holds v.nodes (length ns) (length v.nodes) body.0 y.label y.slots) m.nodes y.holds) ky) (Keeps-trans kw (Keeps-trans ky (Keeps-made k.made))) refl (one_lies k)

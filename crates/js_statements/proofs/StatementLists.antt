@@ -1,5 +1,5 @@
 -- Directives and statements, one behind the other.
-use Rattle.js_parsing.proofs.MadeNodes.{held_label}
+use Rattle.js_parsing.proofs.MadeNodes.{held_label, one_lies, LabelLies, from_start}
 use Rattle.std.proofs.Common.{ℕ, ◌≡◌, ◌<◌, max, List, [], ◌∷◌, ◌++◌, length, Bool, true, false, not, ◌&&◌, cond, IsTrue, Option, Some, refl, sym, ap, subst, arith, ◌∙◌}
 use Rattle.std.specs.Prelude.{◌↔◌}
 use Rattle.std.proofs.lemmas.Bool.{false≢true, and_parts, and_from}
@@ -34,7 +34,7 @@ use Rattle.js_tree.specs.Holding.{stands, Holds, HoldsAll, Keeps}
 use Rattle.js_tree.proofs.HoldingLemmas.{HoldsAll-none, HoldsAll-next, Holds-below, Keeps-refl, Keeps-trans, Keeps-made}
 use Rattle.js_cursor.specs.Parsers.{Parser}
 use Rattle.js_parsing.specs.Lexemes.{Lex, nowhere}
-use Rattle.js_parsing.specs.States.{At, Same, flags_of}
+use Rattle.js_parsing.specs.States.{At, Same, flags_of, NodesLie}
 use Rattle.js_parsing.specs.Nesting.{room}
 use Rattle.js_parsing.specs.Moves.{MadeHere, plain_label}
 use Rattle.js_parsing.specs.Answers.{Grown, Verdict, clean, unclean, Stretch, Underived, Answer, Numbered}
@@ -190,13 +190,13 @@ underived_string : {text : List ℕ} {f : Flags} {s : ℕ} → Underived text (a
 underived_string n = record { no = λ ts vs k ls rest l d e. n.no ts vs k ls rest l (string_expression d) e }
 
 -- a node of what was taken
-one_taken : {text : List ℕ} {f : Flags} {g g' : G} {p q w : Parser} {l : Label} {cs : Slots} {id : NodeId} → Path text f (plain at_text_end) g p g' q (tree l cs) → Same p q → w ≡ record q { nodes = w.nodes } → Holds w.nodes (length p.nodes) (length w.nodes) id.0 l cs → Keeps p.nodes w.nodes → OneTaken text f g g' p w id
-one_taken {text} {f} {g} {g'} {p} {q} {w} {l} {cs} {id} y b e h k = go w.nodes e h k
+one_taken : {text : List ℕ} {f : Flags} {g g' : G} {p q w : Parser} {l : Label} {cs : Slots} {id : NodeId} → Path text f (plain at_text_end) g p g' q (tree l cs) → Same p q → w ≡ record q { nodes = w.nodes } → Holds w.nodes (length p.nodes) (length w.nodes) id.0 l cs → Keeps p.nodes w.nodes → (l.span ≡ record { from = p.token.span.start; to = q.prev_token_end }) → (LabelLies q.text l → NodesLie q.text q.nodes → NodesLie q.text w.nodes) → OneTaken text f g g' p w id
+one_taken {text} {f} {g} {g'} {p} {q} {w} {l} {cs} {id} y b e h k i m = go w.nodes e h k m
   where
-    go : (ns : List Node) → w ≡ record q { nodes = ns } → Holds w.nodes (length p.nodes) (length w.nodes) id.0 l cs → Keeps p.nodes w.nodes → OneTaken text f g g' p w id
-    go ns e h k = subst (λ (r : Parser). OneTaken text f g g' p r id) (sym e) (record {
+    go : (ns : List Node) → w ≡ record q { nodes = ns } → Holds w.nodes (length p.nodes) (length w.nodes) id.0 l cs → Keeps p.nodes w.nodes → (LabelLies q.text l → NodesLie q.text q.nodes → NodesLie q.text w.nodes) → OneTaken text f g g' p w id
+    go ns e h k m = subst (λ (r : Parser). OneTaken text f g g' p r id) (sym e) (record {
       at = beside_nodes ns y.at;
-      same = same_with ns b (subst (λ (r : Parser). Keeps p.nodes r.nodes) e k);
+      same = same_with ns b (subst (λ (r : Parser). Keeps p.nodes r.nodes) e k) (λ c z. subst (λ (r : Parser). NodesLie q.text r.nodes) e (m (from_start l b y.at.at (let g = y.further in omega arith) i c) z));
       further = y.further;
       label = l;
       slots = cs;
@@ -274,12 +274,12 @@ module _ {text : List ℕ} {f : Flags} {p : Parser} (a : At text f p) (s : p.tok
       }
 
 -- a statement that begins with a string, and its node
-opening_node : {text : List ℕ} {f : Flags} {g g' : G} {p q r w : Parser} {child id : NodeId} {l : Label} (k : NodeKind) (s : Span) (x : Numbered text f (at Expression f) p q child) → EndsStatement q r → plain_label k op.None s ≡ l → MadeHere (plain_label k op.None s) (Some child ∷ []) r w id → Path text f (plain at_text_end) g p g' r (tree l (tree x.answer.label x.answer.slots end)) → OneTaken text f g g' p w id
-opening_node {text} {f} {g} {g'} {p} {q} {r} {w} {child} {id} {l} k s x e u d y =
+opening_node : {text : List ℕ} {f : Flags} {g g' : G} {p q r w : Parser} {child id : NodeId} {l : Label} (k : NodeKind) (s : Span) (x : Numbered text f (at Expression f) p q child) → EndsStatement q r → plain_label k op.None s ≡ l → MadeHere (plain_label k op.None s) (Some child ∷ []) r w id → Path text f (plain at_text_end) g p g' r (tree l (tree x.answer.label x.answer.slots end)) → l.span ≡ record { from = p.token.span.start; to = r.prev_token_end } → OneTaken text f g g' p w id
+opening_node {text} {f} {g} {g'} {p} {q} {r} {w} {child} {id} {l} k s x e u d y i =
     let made : MadeHere l (Some child ∷ []) r w id = subst (λ (v : Label). MadeHere v (Some child ∷ []) r w id) u d in
     let z = ended_so x.answer.at e in
     let ks : Keeps p.nodes r.nodes = subst (λ (ns : List Node). Keeps p.nodes ns) (sym z.nodes) x.keeps in
-    one_taken y (same_both x.answer.same z.same) made.stays (one_held p.nodes made (subst (λ (ns : List Node). Holds ns (length p.nodes) (length ns) child.0 x.answer.label x.answer.slots) (sym z.nodes) x.holds)) (Keeps-trans ks (Keeps-made made.made))
+    one_taken y (same_both x.answer.same z.same) made.stays (one_held p.nodes made (subst (λ (ns : List Node). Holds ns (length p.nodes) (length ns) child.0 x.answer.label x.answer.slots) (sym z.nodes) x.holds)) (Keeps-trans ks (Keeps-made made.made)) i (one_lies made)
 
 pub opening_answers : {text : List ℕ} {f : Flags} {p q r w : Parser} {child id : NodeId} (b : Bool) (k : NodeKind) (s : Span) → At text f p → p.token.kind ≡ Str → f.in_ ≡ true → (x : Numbered text f (at Expression f) p q child) → EndsStatement q r → IsTrue b ↔ ((node_at r.nodes child).kind ≡ node.StringLiteral) → k ≡ cond b node.Directive node.ExpressionStatement → s.start ≡ p.token.span.start → s.end ≡ r.prev_token_end → MadeHere (plain_label k op.None s) (Some child ∷ []) r w id
     → OneTaken text f (with_directives f) (left_by b f) p w id
@@ -292,8 +292,8 @@ opening_answers {text} {f} {p} {q} {r} {w} {child} {id} b k s a t i x e n u c d 
     literal b n = ap (λ (l : Label). is_literal l.kind) is_label ∙ literal_of b (node_at r.nodes child).kind n
 
     go : (b : Bool) → IsTrue b ↔ ((node_at r.nodes child).kind ≡ node.StringLiteral) → k ≡ cond b node.Directive node.ExpressionStatement → OneTaken text f (with_directives f) (left_by b f) p w id
-    go true n u = opening_node k s x e (rw (u, c, d) refl) m (as_directive a t x.answer i e (literal true n))
-    go false n u = opening_node k s x e (rw (u, c, d) refl) m (as_statement a t x.answer i e (literal false n))
+    go true n u = opening_node k s x e (rw (u, c, d) refl) m (as_directive a t x.answer i e (literal true n)) refl
+    go false n u = opening_node k s x e (rw (u, c, d) refl) m (as_statement a t x.answer i e (literal false n)) refl
 
 -- the number of an expression lies among the nodes
 pub child_below : {text : List ℕ} {f : Flags} {p q r : Parser} {child : NodeId} → (x : Numbered text f (at Expression f) p q child) → EndsStatement q r → child.0 < length r.nodes

@@ -43,7 +43,7 @@ use Rattle.js_cursor.specs.Moves.{MayEnd, EndsOr, GivesUp, IsUnexpected, OnlyMem
 use Rattle.js_cursor.specs.declared.stop.Stop.{Stop}
 use Rattle.js_cursor.specs.declared.stop.Stop.TheVariants.{Fatal, NoMemory}
 use Rattle.js_parsing.specs.Lexemes.{Lex}
-use Rattle.js_parsing.specs.States.{At, Same}
+use Rattle.js_parsing.specs.States.{At, Same, NodesLie}
 use Rattle.js_parsing.specs.Moves.{IsWholeHere, Moved, MadeHere, LeafTaken, TakesLeaf, plain_label}
 use Rattle.js_parsing.specs.Answers.{Underived, Answer, Numbered, Stops, beside}
 use Rattle.js_parsing.specs.Statements.{placed, link_kinds, statement_kinds, no_link, after_statement, NoStatement, Statement, StatementOutcome, EndsStatement, NoEnd, IsLabel}
@@ -51,11 +51,13 @@ use Rattle.js_parsing.proofs.Verdicts.{verdict_of, either_way}
 use Rattle.js_parsing.proofs.Moving.{moves, same_both, same_itself, same_with, beside_nodes}
 use Rattle.js_parsing.proofs.Here.{kind_here, newline_here, told, uncut}
 use Rattle.js_parsing.proofs.Dead.{live, lives}
-use Rattle.js_parsing.proofs.MadeNodes.{leaf_held, one_held}
+use Rattle.js_parsing.proofs.MadeNodes.{leaf_held, one_held, one_lies, LabelLies, from_start}
 use Rattle.js_parsing.proofs.Paths.{reads, Path, ◌⟼◌, ◌⟶◌, ◌⟶✗◌, at_kind, not_here, fails_at, last_token, noded, noded_by, by_symbol_as, label_here}
 use Rattle.js_parsing.proofs.Tight.{read_plain}
 use Rattle.js_statements.proofs.Strings.{name_look, name_node, name_expression}
-use Rattle.js_parsing.proofs.Giving.{gives_up}
+use Rattle.js_parsing.proofs.Giving.{gives_up, gives_up_here}
+use Rattle.js_parsing.proofs.Classes.{here_ends}
+use Rattle.js_base.specs.declared.diagnostic.DiagnosticKind.TheVariants.{ExpectToken}
 
 -- a path, and a choice at its end
 infixl 19 ◌⟝◌
@@ -402,14 +404,14 @@ no_expression_ends {f = f} {p = p} b x m = fails_rule {X' = plain no_link} (λ l
 -- ---- statements
 
 -- what was read as the symbol, and a node for it
-pub by_such_statement : {text : List ℕ} {f : Flags} {n : Symbol} {p q w : Parser} {l : Label} {cs : Slots} {id : NodeId} → Path text f (after_statement n) (such n always) p nothing q (tree l cs) → Same p q → w ≡ record q { nodes = w.nodes } → Holds w.nodes (length p.nodes) (length w.nodes) id.0 l cs → Keeps p.nodes w.nodes → Statement text f n p w id
-by_such_statement {text} {f} {n} {p} {q} {w} {l} {cs} {id} y b e h k = go w.nodes e h k
+pub by_such_statement : {text : List ℕ} {f : Flags} {n : Symbol} {p q w : Parser} {l : Label} {cs : Slots} {id : NodeId} → Path text f (after_statement n) (such n always) p nothing q (tree l cs) → Same p q → w ≡ record q { nodes = w.nodes } → Holds w.nodes (length p.nodes) (length w.nodes) id.0 l cs → Keeps p.nodes w.nodes → (l.span ≡ record { from = p.token.span.start; to = q.prev_token_end }) → (LabelLies q.text l → NodesLie q.text q.nodes → NodesLie q.text w.nodes) → Statement text f n p w id
+by_such_statement {text} {f} {n} {p} {q} {w} {l} {cs} {id} y b e h k i m = go w.nodes e h k m
   where
-    go : (ns : List Node) → w ≡ record q { nodes = ns } → Holds w.nodes (length p.nodes) (length w.nodes) id.0 l cs → Keeps p.nodes w.nodes → Statement text f n p w id
-    go ns e h k =
+    go : (ns : List Node) → w ≡ record q { nodes = ns } → Holds w.nodes (length p.nodes) (length w.nodes) id.0 l cs → Keeps p.nodes w.nodes → (LabelLies q.text l → NodesLie q.text q.nodes → NodesLie q.text w.nodes) → Statement text f n p w id
+    go ns e h k m =
         subst (λ (r : Parser). Statement text f n p r id) (sym e) (record {
           at = beside_nodes ns y.at;
-          same = same_with ns b (subst (λ (r : Parser). Keeps p.nodes r.nodes) e k);
+          same = same_with ns b (subst (λ (r : Parser). Keeps p.nodes r.nodes) e k) (λ c z. subst (λ (r : Parser). NodesLie q.text r.nodes) e (m (from_start l b y.at.at (let g = y.further in omega arith) i c) z));
           further = y.further;
           label = l;
           slots = cs;
@@ -421,8 +423,8 @@ by_such_statement {text} {f} {n} {p} {q} {w} {l} {cs} {id} y b e h k = go w.node
         })
 
 -- a statement of the symbol's rule, and a node for it
-pub by_statement : {text : List ℕ} {f : Flags} {n : Symbol} {p q w : Parser} {l : Label} {cs : Slots} {id : NodeId} → Path text f (after_statement n) (rule n) p nothing q (tree l cs) → Same p q → w ≡ record q { nodes = w.nodes } → Holds w.nodes (length p.nodes) (length w.nodes) id.0 l cs → Keeps p.nodes w.nodes → Statement text f n p w id
-by_statement {n = n} a b e h k = by_such_statement (by_symbol_as {X' = after_statement n} (λ l cs vs y d. d) a) b e h k
+pub by_statement : {text : List ℕ} {f : Flags} {n : Symbol} {p q w : Parser} {l : Label} {cs : Slots} {id : NodeId} → Path text f (after_statement n) (rule n) p nothing q (tree l cs) → Same p q → w ≡ record q { nodes = w.nodes } → Holds w.nodes (length p.nodes) (length w.nodes) id.0 l cs → Keeps p.nodes w.nodes → (l.span ≡ record { from = p.token.span.start; to = q.prev_token_end }) → (LabelLies q.text l → NodesLie q.text q.nodes → NodesLie q.text w.nodes) → Statement text f n p w id
+by_statement {n = n} a b e h k i m = by_such_statement (by_symbol_as {X' = after_statement n} (λ l cs vs y d. d) a) b e h k i m
 
 module _ {text : List ℕ} {f : Flags} {p : Parser} (a : At text f p) where
   empty_alone : {X : Test} {q : Parser} → p.token.kind ≡ Semicolon → Moved text f p q → Path text f X (symbol AStatement f) p nothing q (tree (label_here empty_statement no_op p q) end)
@@ -438,7 +440,7 @@ module _ {text : List ℕ} {f : Flags} {p : Parser} (a : At text f p) where
   empty_answers b {q} {id} e t =
       let l : plain_label node.EmptyStatement op.None p.token.span ≡ label_here empty_statement no_op p t.mid = ap (λ (v : ℕ). record { kind = empty_statement; op = no_op; flags = 0; span = record { from = p.token.span.start; to = v } }) (t.moved.tells.end ∙ t.moved.ends) in
       let ks : Keeps p.nodes t.mid.nodes = subst (λ (ns : List Node). Keeps p.nodes ns) (sym t.moved.nodes) (Keeps-refl p.nodes) in
-      by_statement (subst (λ (v : Label). Path text f (after_statement (placed b f)) (rule (placed b f)) p nothing t.mid (tree v end)) (sym l) (empty_path b e t.moved)) t.moved.same t.made.stays (leaf_held t.made ks) (Keeps-trans ks (Keeps-made t.made.made))
+      by_statement (subst (λ (v : Label). Path text f (after_statement (placed b f)) (rule (placed b f)) p nothing t.mid (tree v end)) (sym l) (empty_path b e t.moved)) t.moved.same t.made.stays (leaf_held t.made ks) (Keeps-trans ks (Keeps-made t.made.made)) (ap (λ (v : Label). v.span) l) (one_lies t.made)
 
   pub empty_outcome : (b : Bool) (q : Parser) (r : Result NodeId Stop) → p.token.kind ≡ Semicolon → MatchResult r (λ id. TakesLeaf node.EmptyStatement op.None p q id) OnlyMemory → StatementOutcome text f (placed b f) p q r
   empty_outcome b q (Ok id) e m = empty_answers b e (m text f a)
@@ -457,7 +459,7 @@ module _ {text : List ℕ} {f : Flags} {p : Parser} (a : At text f p) where
         let z = ended_so x.answer.at e in
         let ks : Keeps p.nodes r.nodes = subst (λ (ns : List Node). Keeps p.nodes ns) (sym z.nodes) x.keeps in
         by_statement (statement_path k i x.answer e) (same_both x.answer.same z.same) made.stays
-        (one_held p.nodes made (subst (λ (ns : List Node). Holds ns (length p.nodes) (length ns) child.0 x.answer.label x.answer.slots) (sym z.nodes) x.holds)) (Keeps-trans ks (Keeps-made made.made))
+        (one_held p.nodes made (subst (λ (ns : List Node). Holds ns (length p.nodes) (length ns) child.0 x.answer.label x.answer.slots) (sym z.nodes) x.holds)) (Keeps-trans ks (Keeps-made made.made)) refl (one_lies made)
 
     pub statement_fails : (b : Bool) → Underived text (at Expression f) p.prev_token_end → NoStatement text (placed b f) p.prev_token_end
     unfolding rule rule_of covers
@@ -474,11 +476,11 @@ in_of a h = sym (ap (λ (g : Flags). g.in_) a.flags_are) ∙ h
 -- what the end of a statement answers
 pub end_answers : {text : List ℕ} {f : Flags} (p q : Parser) (r : Result (Unit {0}) Stop) → At text f p → (p.token.is_on_new_line && one_of_kinds link_kinds p.token.kind) ≡ false → EndsOr p q r → MatchResult r (λ x. EndsStatement p q) (λ e. Stops p q e (NoEnd p))
 end_answers p q (Ok x) a v e = (λ w. subst (λ (b : Bool). (b && one_of_kinds link_kinds p.token.kind) ≡ false) w v, e)
-end_answers p q (Err Fatal) a v e = gives_up _ p q Fatal a e.1 (inr (e.0 refl))
+end_answers p q (Err Fatal) a v e = gives_up _ p q Fatal a e.1 (here_ends ExpectToken refl) (inr (e.0 refl))
 end_answers p q (Err NoMemory) a v e = tt
 
 pub link_ends : {text : List ℕ} {f : Flags} (p q : Parser) (e : Stop) → At text f p → (p.token.is_on_new_line && one_of_kinds link_kinds p.token.kind) ≡ true → GivesUp (IsUnexpected p) p q e → Stops p q e (NoEnd p)
-link_ends p q e a v g = gives_up _ p q e a g (inl (and_parts p.token.is_on_new_line _ v).1)
+link_ends p q e a v g = gives_up_here p q e a g (inl (and_parts p.token.is_on_new_line _ v).1)
 
 -- none of the kinds that begin a statement alone
 pub no_own_kind : (k : Kind) → (k ≡ Semicolon → ⊥) → (k ≡ kind.Break → ⊥) → (k ≡ kind.Continue → ⊥) → (k ≡ kind.Throw → ⊥) → (k ≡ kind.Debugger → ⊥) → one_of_kinds statement_kinds k ≡ false

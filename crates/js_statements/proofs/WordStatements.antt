@@ -45,11 +45,11 @@ use Rattle.js_parsing.specs.Moves.{IsWholeHere, LeafTaken, Moved, MadeHere, plai
 use Rattle.js_parsing.specs.States.{At, Same}
 use Rattle.js_parsing.specs.Statements.{placed, no_link, after_statement, NoStatement, Statement, EndsStatement, NoEnd}
 use Rattle.js_statements.specs.WordStatements.{ChecksOperand, JumpsHere, TakesLabel, late_operand}
-use Rattle.js_parsing.proofs.Giving.{gives_up, kept_one, fails_escaped}
+use Rattle.js_parsing.proofs.Giving.{kept_one, fails_escaped, gives_up_here}
 use Rattle.js_parsing.proofs.Here.{found, kind_here, newline_here, uncut}
 use Rattle.js_statements.proofs.Labels.{path_made}
 use Rattle.js_operands.proofs.Members.{word_whole}
-use Rattle.js_parsing.proofs.MadeNodes.{leaf_held, node_held, one_held}
+use Rattle.js_parsing.proofs.MadeNodes.{leaf_held, node_held, one_held, one_lies, made_lies}
 use Rattle.js_parsing.proofs.Moving.{moves, same_both, same_itself, same_with, stops_behind}
 use Rattle.js_operands.proofs.Operands.{one_path, plain_leaf, name_test}
 use Rattle.js_parsing.proofs.Paths.{Path, ◌⟼◌, ◌⟶◌, ◌⟶✗◌, at_kind, fails_at, token, last_token, noded, noded_by, by_symbol_as, label_here, walked_both, walked_from, walked_one}
@@ -137,7 +137,7 @@ module _ {text : List ℕ} {f : Flags} {p : Parser} (a : At text f p) (h : Stand
         let made : MadeHere (label_here debugger_statement no_op p r) [] r w id = subst (λ (v : Label). MadeHere v [] r w id) l n in
         let z = ended_so m.at e in
         let ks : Keeps p.nodes r.nodes = subst (λ (ns : List Node). Keeps p.nodes ns) (sym (z.nodes ∙ m.nodes)) (Keeps-refl p.nodes) in
-        by_statement (alone_path debugger_alone b (plain no_link) (unlinked b) still_unlinked (debugger_path e)) (same_both m.same z.same) made.stays (leaf_held made ks) (Keeps-trans ks (Keeps-made made.made))
+        by_statement (alone_path debugger_alone b (plain no_link) (unlinked b) still_unlinked (debugger_path e)) (same_both m.same z.same) made.stays (leaf_held made ks) (Keeps-trans ks (Keeps-made made.made)) refl (one_lies made)
 
 -- ---- break and continue
 
@@ -235,7 +235,7 @@ module _ {text : List ℕ} {f : Flags} {p q : Parser} (k : Kind) (a : At text f 
         appends = λ us. refl;
         row = refl;
         path = word_passed ⟶ ((left (no_gap m.at w) ▹ pass_over (looks (λ k w e. not w) (λ y l. ap not (newline_here m.at y l ∙ same_line m.at w)))) ⟼ path_made r made.stays (label_read m.at h t.moved));
-        same = subst (λ (v : Parser). Same p v) (sym made.stays) (same_with r.nodes (same_both m.same t.moved.same) kr);
+        same = subst (λ (v : Parser). Same p v) (sym made.stays) (same_with r.nodes (same_both m.same t.moved.same) kr (λ c z. made_lies t.moved.same t.moved.at.at (let i = t.moved.further in omega arith) made refl m.at.at.lies.starts_whole z));
         held = HoldsAll-one id (leaf_held made ks);
         keeps = kr;
       }
@@ -282,14 +282,14 @@ module _ {text : List ℕ} {f : Flags} {p q r : Parser} {k : NodeKind} {label : 
       let z = ended_so jump_at e in
       let ks : Keeps p.nodes v.nodes = subst (λ (ns : List Node). Keeps p.nodes ns) (sym z.nodes) jumped.keeps in
       let hs : HoldsAll v.nodes (length p.nodes) (length v.nodes) (label ∷ []) (jumped.slots end) = subst (λ (ns : List Node). HoldsAll ns (length p.nodes) (length ns) (label ∷ []) (jumped.slots end)) (sym z.nodes) jumped.held in
-      by_statement (alone_path jump.alone b (plain no_link) (unlinked b) still_unlinked (jump_path e)) (same_both jumped.same z.same) made.stays (node_held made hs) (Keeps-trans ks (Keeps-made made.made))
+      by_statement (alone_path jump.alone b (plain no_link) (unlinked b) still_unlinked (jump_path e)) (same_both jumped.same z.same) made.stays (node_held made hs) (Keeps-trans ks (Keeps-made made.made)) refl (one_lies made)
 
 -- no label is read
 pub jump_stops : {text : List ℕ} {f : Flags} {p q : Parser} {k : NodeKind} (b : Bool) (r : Parser) (e : Stop) → At text f p → JumpsHere k p → Moved text f p q → TakesLabel q r (Err e) → Stops p r e (NoStatement text (placed b f) p.prev_token_end)
 unfolding covers
 jump_stops {text} {f} {p} {q} {k} b r Fatal a h m (w, n, g) =
     let j = jump_of a h in
-    stops_behind r Fatal m.same.follows (λ d. grown_then m.kept d) (λ z. z) (gives_up (IsUnexpected q) q r Fatal m.at g
+    stops_behind r Fatal m.same (λ d. grown_then m.kept d) (λ z. z) (gives_up_here q r Fatal m.at g
     (alone_fails j.alone b (plain no_link) (unlinked b) still_unlinked (subst (λ (g : G). Fails rule (Lex text) (plain no_link) end g p.prev_token_end) j.line (fails_node (inside_plain refl) (label_none j.word a j.is_here j.is_plain j.is_read m w n)))))
 jump_stops b r NoMemory a h m t = tt
 
@@ -308,7 +308,7 @@ checked_at a (inl (w, k)) = told_at k a
 checked_at {text} {f} a (inr (w, e)) = subst (λ (v : Parser). At text f v) (sym e) a
 
 checked_same : {s : Span} {p q : Parser} → ChecksOperand s p q → Same p q
-checked_same (inl (w, k)) = told_same k
+checked_same (inl (w, k)) = told_same k refl
 checked_same {p = p} (inr (w, e)) = subst (λ (v : Parser). Same p v) (sym e) same_itself
 
 pub checked_place : {s : Span} {p q : Parser} → ChecksOperand s p q → q.prev_token_end ≡ p.prev_token_end
@@ -413,7 +413,7 @@ module _ {text : List ℕ} {f : Flags} {p q r : Parser} {word : Span} (a : At te
         let ks : Keeps p.nodes v.nodes = subst (λ (ns : List Node). Keeps p.nodes ns) (sym z.nodes) kt in
         let ht : Holds t.nodes (length p.nodes) (length t.nodes) operand.0 x.answer.label x.answer.slots = subst (λ (ns : List Node). Holds t.nodes (length ns) (length t.nodes) operand.0 x.answer.label x.answer.slots) throw_nodes x.holds in
         by_such_statement (throw_path b i e) (same_both throw_same (same_both x.answer.same z.same)) made.stays
-        (one_held p.nodes made (subst (λ (ns : List Node). Holds ns (length p.nodes) (length ns) operand.0 x.answer.label x.answer.slots) (sym z.nodes) ht)) (Keeps-trans ks (Keeps-made made.made))
+        (one_held p.nodes made (subst (λ (ns : List Node). Holds ns (length p.nodes) (length ns) operand.0 x.answer.label x.answer.slots) (sym z.nodes) ht)) (Keeps-trans ks (Keeps-made made.made)) refl (one_lies made)
 
 -- what is told of it has its mark
 word_marked : {text : List ℕ} {f : Flags} {p : Parser} (s : Span) → At text f p → StandsHere p kind.Throw true → s ≡ p.token.span → Mark (goal p) p.text (late_operand s)

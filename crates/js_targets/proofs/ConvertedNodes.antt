@@ -24,6 +24,10 @@ use Rattle.js_targets.proofs.LiteralsAsTargets.{before_of, no_end, is_end, place
 use Rattle.js_targets.proofs.TargetsAsLiterals.{target_kind}
 use Rattle.js_targets.proofs.CoveredNodes.{empty_parens}
 use Rattle.js_targets.proofs.ReusedNodes.{Children, children_of, in_left, in_right, distinct_left, distinct_right, distinct_apart, slotted_on, slotted_none, slotted_hole, slotted_wider, slotted_old, slotted_node, reused_own}
+use Rattle.js_parsing.specs.States.{NodesLie}
+use Rattle.js_parsing.proofs.MadeNodes.{LabelLies}
+use Rattle.js_base.specs.Spans.{LiesIn}
+use Rattle.std.proofs.lemmas.List.Elements.{All-same, All-push, All-get_or}
 
 -- ---- slots and numbers
 
@@ -67,6 +71,7 @@ blames_wider old mid new ws vs e f (inr g) = inr (g.0, g.1, f (Rest g.0) g.2)
 
 pub record Halfway (os ns : List Node) (id : NodeId) (noted notes : Noted) (ids js : List (Option NodeId)) (at : ℕ) (cs : Slots) (rs : List ℕ) : Type 0 where
   pub keeps : Keeps os ns
+  pub lies : (text : List ℕ) → NodesLie text os → NodesLie text ns
   pub done : Slots
   pub left : Slots
   pub before : List ℕ
@@ -96,6 +101,7 @@ loop_begins {os} {id} {noted} {ids} {js} e h = λ l cs rs s d.
     let c = children_of {id = id} s in
     record {
       keeps = Keeps-refl os;
+      lies = λ text h. h;
       done = end;
       left = cs;
       before = [];
@@ -181,6 +187,7 @@ module _ {os ns : List Node} {id c : NodeId} {noted notes : Noted} {ids js more 
   halfway_next : {ms : List Node} {notes' : Noted} {last : Bool} {slot : Option NodeId} → last ≡ is_nil more → more ≡ drop (at + 1) ids → Converts ns ms child.numbers notes notes' (places_of child.label (places_in child.slots)) (slot ∷ []) (element_slot last child.label child.slots (elements_in child.slots)) → Halfway os ms id noted notes' ids (js ++ slot ∷ []) (at + 1) cs rs
   halfway_next {ms} {notes'} {last} {slot} n m v = record {
     keeps = Keeps-trans h.keeps v.keeps;
+    lies = λ text w. v.lies text (h.lies text w);
     done = append h.done v.slots;
     left = child.others;
     before = h.before ++ child.numbers;
@@ -195,7 +202,7 @@ module _ {os ns : List Node} {id c : NodeId} {noted notes : Noted} {ids js more 
   }
 
   halfway_refused : {ms : List Node} {notes' : Noted} {last : Bool} → last ≡ is_nil more → Refuses ns ms notes notes' (places_of child.label (places_in child.slots)) (element_slot last child.label child.slots (elements_in child.slots)) → Refuses os ms noted notes' (places_in cs) (elements_in cs)
-  halfway_refused {notes' = notes'} n v = record { keeps = Keeps-trans h.keeps v.keeps; is = elements_left ∙ refused_by (elements_in child.others) refl n v.is; blames = blames_wider noted notes notes' (places_of child.label (places_in child.slots)) (places_in cs) h.unblamed (λ w i. among_left w (in_left (places_of child.label (places_in child.slots)) (places_in child.others) w i)) v.blames }
+  halfway_refused {notes' = notes'} n v = record { keeps = Keeps-trans h.keeps v.keeps; lies = λ text w. v.lies text (h.lies text w); is = elements_left ∙ refused_by (elements_in child.others) refl n v.is; blames = blames_wider noted notes notes' (places_of child.label (places_in child.slots)) (places_in cs) h.unblamed (λ w i. among_left w (in_left (places_of child.label (places_in child.slots)) (places_in child.others) w i)) v.blames }
 
 made_of : {os ns : List Node} {rs : List ℕ} {noted notes : Noted} {ws : List Widening} {ids : List (Option NodeId)} {r : Option Slots} → Converted os ns rs noted notes ws (Some ids) r → Converts os ns rs noted notes ws ids r
 made_of (converts x) = x
@@ -223,7 +230,7 @@ module _ {os ns : List Node} {id c : NodeId} {noted notes : Noted} {ids js : Lis
 pub loop_hole : {os ns : List Node} {id : NodeId} {noted notes : Noted} {ids js more : List (Option NodeId)} {at : ℕ} → ElementLoop os ns id noted notes ids js at → drop at ids ≡ None ∷ more → OfNode os id (λ l cs rs. Refuses os ns noted notes (places_in cs) (elements_in cs))
 loop_hole {os} {ns} {id} {ids = ids} {at = at} z q = λ l cs rs s d.
     let h = z l cs rs s d in
-    record { keeps = h.keeps; is = h.is ∙ ap (λ (r : Option Slots). joined h.done r) (no_child (subst (λ (xs : List (Option NodeId)). StandsAll os id.0 xs h.left h.behind) q h.stands)); blames = inl h.unblamed }
+    record { keeps = h.keeps; lies = h.lies; is = h.is ∙ ap (λ (r : Option Slots). joined h.done r) (no_child (subst (λ (xs : List (Option NodeId)). StandsAll os id.0 xs h.left h.behind) q h.stands)); blames = inl h.unblamed }
 
 pub loop_ends : {os ns : List Node} {id : NodeId} {noted notes : Noted} {ids js : List (Option NodeId)} {at : ℕ} → ElementLoop os ns id noted notes ids js at → drop at ids ≡ [] → OfNode os id (λ l cs rs. Converts os ns rs noted notes (places_in cs) js (elements_in cs))
 loop_ends {os} {ns} {id} {noted} {notes} {ids} {js} {at} z q = λ l cs rs s d.
@@ -231,6 +238,7 @@ loop_ends {os} {ns} {id} {noted} {notes} {ids} {js} {at} z q = λ l cs rs s d.
     let e = none_left (subst (λ (xs : List (Option NodeId)). StandsAll os id.0 xs h.left h.behind) q h.stands) in
     record {
       keeps = h.keeps;
+      lies = h.lies;
       slots = h.done;
       is = h.is ∙ (ap (λ (xs : Slots). joined h.done (elements_in xs)) e ∙ ap Some (append_end h.done));
       slotted = slotted_wider (λ r i. subst (λ (xs : List ℕ). IsIn xs r) (sym h.split) (inr (in_left h.before h.behind r i))) h.slotted;
@@ -246,6 +254,13 @@ holds_node {rs = rs} s d = record { numbers = rs; stands = s; within = Stands-wi
 node_kept : {os ns : List Node} {id : NodeId} → Keeps os ns → id.0 < length os → node_at ns id ≡ node_at os id
 node_kept {os} {ns} {id} k h = ap (λ (xs : List Node). node_at xs id) k.whole ∙ get_or_append_left os k.more empty_program id.0 h
 
+-- a node that lies where one did before
+noded_lies : (os : List Node) {ns ms : List Node} {l : Label} {ids : List (Option NodeId)} (id : NodeId) {made : NodeId} → Noded ns ms l ids made → id.0 < length os → l.span ≡ (label (node_at os id)).span → (text : List ℕ) → NodesLie text os → NodesLie text ns → NodesLie text ms
+noded_lies os {ns} {ms} id n b e text h k =
+    let g = n.made in
+    let place : LabelLies text (label n.node) = subst (λ (v : Span). LiesIn (record { start = v.from; end = v.to }) text) (sym (ap (λ (m : Label). m.span) n.label_is ∙ e)) (All-get_or (λ (m : Node). LiesIn m.span text) os id.0 empty_program b h) in
+    All-same (λ (m : Node). LiesIn m.span text) ms (ns ++ n.node ∷ []) g.nodes (All-push (λ (m : Node). LiesIn m.span text) ns n.node k place)
+
 -- a whole literal, of its elements
 pub array_made : {os ns ms : List Node} {id made : NodeId} {noted notes : Noted} {ids : List (Option NodeId)} {k : Label} → (OfNode os id (λ l cs rs. Converts os ns rs noted notes (places_in cs) ids (elements_in cs))) → Noded ns ms k ids made → k ≡ relabelled array_assignment_target (label (node_at os id)) → OfNode os id (λ l cs rs. Converts os ms rs noted notes (places_in cs) (Some made ∷ []) (slot_of (array_tree l (elements_in cs))))
 array_made {os} {ns} {ms} {id} {made} x n e = λ l cs rs s d.
@@ -254,6 +269,7 @@ array_made {os} {ns} {ms} {id} {made} x n e = λ l cs rs s d.
     let w : _ ≡ relabelled array_assignment_target l = e ∙ ap (relabelled array_assignment_target) (sym c) in
     record {
       keeps = Keeps-trans y.keeps (Keeps-made (n.made));
+      lies = λ text h. noded_lies os id n (children_of {id = id} s).below (ap (λ (m : Label). m.span) e) text h (y.lies text h);
       slots = tree (relabelled array_assignment_target l) y.slots end;
       is = ap (λ (r : Option Slots). slot_of (array_tree l r)) y.is;
       slotted = subst (λ (m : Label). Slotted os ms rs (Some made ∷ []) (tree m y.slots end)) w (slotted_node y.keeps y.slotted n);
@@ -437,10 +453,10 @@ module _ {os : List Node} {id : NodeId} where
   span_told s e = e ∙ ap (λ (k : Label). made_span k.span) (sym (children_of {id = id} s).label_is)
 
   pub rest_not_last : {noted notes : Noted} {m : MadeSpan} → m ≡ (node_at os id).span → notes.misplaced ≡ Some m → OfNode os id (λ l cs rs. Converted os os rs noted notes (places_in cs ++ Rest (made_span l.span) ∷ []) (one_node None) (rest_slot false l (elements_in cs)))
-  rest_not_last e n = λ l cs rs s d. refuses (record { keeps = Keeps-refl os; is = refl; blames = inr (made_span l.span, n ∙ ap Some (span_told s e), in_right (places_in cs) (Rest (made_span l.span) ∷ []) (Rest (made_span l.span)) (inl refl)) })
+  rest_not_last e n = λ l cs rs s d. refuses (record { keeps = Keeps-refl os; lies = λ text h. h; is = refl; blames = inr (made_span l.span, n ∙ ap Some (span_told s e), in_right (places_in cs) (Rest (made_span l.span) ∷ []) (Rest (made_span l.span)) (inl refl)) })
 
   pub rest_without : {noted : Noted} → Only (node_at os id).children None → OfNode os id (λ l cs rs. Converted os os rs noted noted (places_in cs ++ Rest (made_span l.span) ∷ []) (one_node None) (rest_slot true l (elements_in cs)))
-  rest_without o = λ l cs rs s d. refuses (record { keeps = Keeps-refl os; is = no_one_child l o (children_of {id = id} s).stands; blames = inl refl })
+  rest_without o = λ l cs rs s d. refuses (record { keeps = Keeps-refl os; lies = λ text h. h; is = no_one_child l o (children_of {id = id} s).stands; blames = inl refl })
 
   module _ {c : NodeId} (o : Only (node_at os id).children (Some c)) where
     argument : {l : Label} {cs : Slots} {rs : List ℕ} (s : Stands os id.0 l cs rs) → OneChild os id.0 c cs (children_of {id = id} s).numbers
@@ -463,6 +479,7 @@ module _ {os : List Node} {id : NodeId} where
           let y = refused_of (v x.label x.slots k.numbers x.stands (subst AreDistinct k.is d).1) in
           refuses (record {
             keeps = y.keeps;
+            lies = y.lies;
             is = ap (λ (xs : Slots). rest_slot true l (elements_in xs)) x.is ∙ rest_none l x.label x.slots (elements_in x.slots) y.is;
             blames = blames_wider noted noted notes (cond (is_array x.label.kind) (places_in x.slots) []) (places_in cs ++ Rest (made_span l.span) ∷ []) refl (λ w i. in_left (places_in cs) (Rest (made_span l.span) ∷ []) w (subst (λ (xs : Slots). IsIn (places_in xs) w) (sym x.is) (in_left (places_of x.label (places_in x.slots)) [] w (in_own x.label (places_in x.slots) w i)))) y.blames;
           })
@@ -481,6 +498,7 @@ module _ {os : List Node} {id : NodeId} where
               let w : cond (is_array x.label.kind) (places_in x.slots) [] ≡ places_in cs = sym q ∙ (sym (append-nil (places_of x.label (places_in x.slots))) ∙ ap places_in (sym x.is)) in
               record {
                 keeps = Keeps-trans y.keeps (Keeps-made (n.made));
+                lies = λ text w. noded_lies os id n h.below (ap (λ (m : Label). m.span) e) text w (y.lies text w);
                 slots = tree (relabelled assignment_target_rest l) y.slots end;
                 is = ap (λ (xs : Slots). rest_slot true l (elements_in xs)) x.is ∙ (rest_some l x.label x.slots (elements_in x.slots) t.0 t.1 ∙ ap (λ (xs : Slots). Some (tree (relabelled assignment_target_rest l) xs end)) (sym t.2));
                 slotted = slotted_wider (λ r i. subst (λ (xs : List ℕ). IsIn xs r) (sym h.is) (inr i)) (subst (λ (z : Label). Slotted os ms h.numbers (Some made ∷ []) (tree z y.slots end)) r (slotted_node y.keeps y.slotted n));
@@ -549,6 +567,7 @@ assignment_made {os} {ns} {id} {made} {noted} {notes} {m} n g w = λ l cs rs s d
     let c = (children_of {id = id} s).label_is in
     converts (record {
       keeps = Keeps-made (n.made);
+      lies = λ text w. noded_lies os id n (children_of {id = id} s).below refl text w w;
       slots = tree (relabelled assignment_target_with_default l) cs end;
       is = refl;
       slotted = initialised_made {id = id} n l cs rs s d;
@@ -566,6 +585,7 @@ element_hole {os} {id} {noted} last h = λ l cs rs s d. converts (by l cs rs (ki
     by : (l : Label) (cs : Slots) (rs : List ℕ) → is_elision l.kind ≡ true → Converts os os rs noted noted (places_of l (places_in cs)) (None ∷ []) (element_slot last l cs (elements_in cs))
     by l cs rs a = record {
       keeps = Keeps-refl os;
+      lies = λ text h. h;
       slots = hole end;
       is = rw a refl;
       slotted = slotted_hole os rs;
@@ -597,8 +617,8 @@ module _ {os ns : List Node} {id : NodeId} {noted notes : Noted} where
   target_array found h v = λ l cs rs s d. let b = kind_here {id = id} is_array h s in answer_as (one_node found) (cond_true (is_array l.kind) (places_in cs) b) (ap slot_of (sym (array_by l cs (elements_in cs) b))) (v l cs rs s d)
 
 renoted : {os ns : List Node} {rs : List ℕ} {noted : Noted} (ids : Option (List (Option NodeId))) {r : Option Slots} → Converted os ns rs unnoted unnoted [] ids r → Converted os ns rs noted noted [] ids r
-renoted {noted = noted} (Some ids) (converts x) = converts (record { keeps = x.keeps; slots = x.slots; is = x.is; slotted = x.slotted; places_are = sym (append-nil noted.places); unblamed = refl })
-renoted None (refuses x) = refuses (record { keeps = x.keeps; is = x.is; blames = inl refl })
+renoted {noted = noted} (Some ids) (converts x) = converts (record { keeps = x.keeps; lies = x.lies; slots = x.slots; is = x.is; slotted = x.slotted; places_are = sym (append-nil noted.places); unblamed = refl })
+renoted None (refuses x) = refuses (record { keeps = x.keeps; lies = x.lies; is = x.is; blames = inl refl })
 
 pub target_simple : {os : List Node} {id : NodeId} {noted : Noted} (found : Option NodeId) → is_array (label (node_at os id)).kind ≡ false → OfNode os id (λ l cs rs. Converted os os rs unnoted unnoted [] (one_node found) (slot_of (target_of l cs))) → OfNode os id (λ l cs rs. Converted os os rs noted noted (cond (is_array l.kind) (places_in cs) []) (one_node found) (slot_of (target_by l cs (elements_in cs))))
 target_simple {id = id} {noted = noted} found h v = λ l cs rs s d. let b = kind_here {id = id} is_array h s in answer_as (one_node found) (cond_false (is_array l.kind) (places_in cs) b) (ap slot_of (sym (simple_by l cs (elements_in cs) b))) (renoted (one_node found) (v l cs rs s d))
@@ -612,15 +632,15 @@ open_parens : (l : Label) (cs : Slots) → is_parens l.kind ≡ true → target_
 open_parens l cs p = rw p refl
 
 wider_answer : {os : List Node} {rs ss : List ℕ} (ids : Option (List (Option NodeId))) {r : Option Slots} → ((q : ℕ) → IsIn rs q → IsIn ss q) → Converted os os rs unnoted unnoted [] ids r → Converted os os ss unnoted unnoted [] ids r
-wider_answer (Some ids) f (converts x) = converts (record { keeps = x.keeps; slots = x.slots; is = x.is; slotted = slotted_wider f x.slotted; places_are = x.places_are; unblamed = x.unblamed })
-wider_answer None f (refuses x) = refuses (record { keeps = x.keeps; is = x.is; blames = inl refl })
+wider_answer (Some ids) f (converts x) = converts (record { keeps = x.keeps; lies = x.lies; slots = x.slots; is = x.is; slotted = slotted_wider f x.slotted; places_are = x.places_are; unblamed = x.unblamed })
+wider_answer None f (refuses x) = refuses (record { keeps = x.keeps; lies = x.lies; is = x.is; blames = inl refl })
 
 directly : (l : Label) (cs : Slots) (b : Bool) → is_parens l.kind ≡ false → is_target l.kind ≡ b → target_of l cs ≡ cond b (Some (record { label = l; slots = cs })) None
 directly l cs b p t = rw (p, t) refl
 
 module _ {os : List Node} {id : NodeId} where
   pub simple_none : is_parens (label (node_at os id)).kind ≡ true → Only (node_at os id).children None → SimpleAnswer os id None
-  simple_none p o = λ l cs rs s d. refuses (record { keeps = Keeps-refl os; is = ap slot_of (empty_parens {id = id} o p (holds_node {id = id} s d)); blames = inl refl })
+  simple_none p o = λ l cs rs s d. refuses (record { keeps = Keeps-refl os; lies = λ text h. h; is = ap slot_of (empty_parens {id = id} o p (holds_node {id = id} s d)); blames = inl refl })
 
   pub simple_inside : {c : NodeId} (found : Option NodeId) → is_parens (label (node_at os id)).kind ≡ true → Only (node_at os id).children (Some c) → SimpleAnswer os c found → SimpleAnswer os id found
   simple_inside {c} found p o v = λ l cs rs s d.
@@ -632,6 +652,7 @@ module _ {os : List Node} {id : NodeId} where
   pub simple_itself : is_parens (label (node_at os id)).kind ≡ false → is_target (label (node_at os id)).kind ≡ true → SimpleAnswer os id (Some id)
   simple_itself p t = λ l cs rs s d. converts (record {
     keeps = Keeps-refl os;
+    lies = λ text h. h;
     slots = tree l cs end;
     is = ap slot_of (directly l cs true (kind_here {id = id} is_parens p s) (kind_here {id = id} is_target t s));
     slotted = slotted_old (λ r i. i) s d;
@@ -640,7 +661,7 @@ module _ {os : List Node} {id : NodeId} where
   })
 
   pub simple_refused : is_parens (label (node_at os id)).kind ≡ false → is_target (label (node_at os id)).kind ≡ false → SimpleAnswer os id None
-  simple_refused p t = λ l cs rs s d. refuses (record { keeps = Keeps-refl os; is = ap slot_of (directly l cs false (kind_here {id = id} is_parens p s) (kind_here {id = id} is_target t s)); blames = inl refl })
+  simple_refused p t = λ l cs rs s d. refuses (record { keeps = Keeps-refl os; lies = λ text h. h; is = ap slot_of (directly l cs false (kind_here {id = id} is_parens p s) (kind_here {id = id} is_target t s)); blames = inl refl })
 
 -- ---- answers of the calls
 
@@ -657,7 +678,7 @@ abbrev pub RestAnswer : List Node → List Node → NodeId → Noted → Noted �
 RestAnswer os ns id noted notes last found = OfNode os id (λ l cs rs. Converted os ns rs noted notes (places_in cs ++ Rest (made_span l.span) ∷ []) (one_node found) (rest_slot last l (elements_in cs)))
 
 pub array_none : {os ns : List Node} {id : NodeId} {noted notes : Noted} → ElementsAnswer os ns id noted notes None → ArrayAnswer os ns id noted notes None
-array_none v = λ l cs rs s d. let y = refused_of (v l cs rs s d) in refuses (record { keeps = y.keeps; is = ap (λ (r : Option Slots). slot_of (array_tree l r)) y.is; blames = y.blames })
+array_none v = λ l cs rs s d. let y = refused_of (v l cs rs s d) in refuses (record { keeps = y.keeps; lies = y.lies; is = ap (λ (r : Option Slots). slot_of (array_tree l r)) y.is; blames = y.blames })
 
 pub array_some : {os ns ms : List Node} {id made : NodeId} {noted notes : Noted} {ids : List (Option NodeId)} {k : Label} → ElementsAnswer os ns id noted notes (Some ids) → Noded ns ms k ids made → k ≡ relabelled array_assignment_target (label (node_at os id)) → ArrayAnswer os ms id noted notes (Some made)
 array_some {id = id} v n e = λ l cs rs s d. converts (array_made {id = id} (λ l cs rs s d. made_of (v l cs rs s d)) n e l cs rs s d)

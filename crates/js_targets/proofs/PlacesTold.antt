@@ -26,10 +26,12 @@ use Rattle.js_cursor.specs.Parsers.{Parser}
 use Rattle.js_cursor.specs.Places.{goal}
 use Rattle.js_parsing.specs.Answers.{Grown, Verdict, clean, unclean}
 use Rattle.js_parsing.specs.Lexemes.{Lex}
-use Rattle.js_targets.specs.Taken.{PlaceTold, PlacesTold}
+use Rattle.js_base.specs.Diagnostics.{class_of}
+use Rattle.js_parsing.specs.Classes.{IsEarly}
+use Rattle.js_targets.specs.Taken.{PlaceTold, PlacesTold, TellsOf}
 use Rattle.js_parsing.specs.States.{At, Same}
 use Rattle.js_targets.specs.declared.widening.Widening.{Widening}
-use Rattle.js_targets.specs.declared.widening.Widening.TheVariants.{Rest}
+use Rattle.js_targets.specs.declared.widening.Widening.TheVariants.{Rest, Operator}
 use Rattle.js_targets.specs.Targets.{Each, Open, Closed, Followed, Ended, Narrow, Fits, Spanned, Spotted}
 use Rattle.js_parsing.proofs.Giving.{kept_one}
 use Rattle.js_parsing.proofs.Here.{alike, plainly, one_plain}
@@ -39,6 +41,11 @@ use Rattle.js_parsing.proofs.Paths.{read_of}
 use Rattle.js_parsing.proofs.Signs.{plain_of}
 use Rattle.js_parsing.proofs.Told.{told_at, told_same}
 use Rattle.js_parsing.proofs.Verdicts.{grown_both, grown_then}
+
+-- it is told of by an early diagnostic
+told_early : (w : Widening) (d : Diagnostic) → TellsOf w d → IsEarly d
+told_early (Rest s) d e = ap class_of e
+told_early (Operator s) d e = ap (λ (x : Diagnostic). class_of x.kind) e
 
 -- ---- the token behind a place
 
@@ -200,7 +207,7 @@ module _ {places : List Widening} {old mid : Parser} {from : ℕ} {place : Widen
   places_next {new} w (inr t) = record {
     within = w;
     at = λ text f a. told_at t.1.2 (z.at text f a);
-    same = same_both z.same (told_same t.1.2);
+    same = same_both z.same (told_same t.1.2 (told_early w t.1.0 t.1.1));
     is = t.1.2.is ∙ ap (λ (p : Parser). record p { errors = mid.errors ++ t.1.0 ∷ [] }) z.is ∙ ap (λ (ds : List Diagnostic). record old { errors = ds }) (sym (ap (λ (p : Parser). p.errors) t.1.2.is));
     drops = λ h. (narrows h).1;
     verdict = unclean (grown z.verdict) (λ h. wide_place t.0 (narrows h).0);

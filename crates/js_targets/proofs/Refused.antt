@@ -10,7 +10,6 @@ use Rattle.js_cursor.specs.Parsers.{Parser}
 use Rattle.js_cursor.specs.declared.stop.Stop.{Stop}
 use Rattle.js_cursor.specs.declared.stop.Stop.TheVariants.{Fatal}
 use Rattle.js_parsing.specs.Answers.{Verdict, Stops}
-use Rattle.js_targets.specs.Taken.{Refused}
 use Rattle.js_parsing.specs.States.{At, Same}
 use Rattle.js_targets.specs.Targets.{target_of}
 use Rattle.js_parsing.proofs.Giving.{gives_up}
@@ -20,7 +19,6 @@ use Rattle.js_grammar.specs.Trees.{NodeKind, Op, Label, Slots, end, tree, Tree, 
 use Rattle.js_grammar.specs.Grammar.{Takes, is_such}
 use Rattle.js_grammar.specs.Table.{rule}
 use Rattle.js_targets.specs.Targets.{is_array}
-use Rattle.js_parsing.proofs.Signs.{grew}
 use Rattle.js_grammar.specs.Grammar.{Derives, is_left, is_right}
 use Rattle.js_grammar.specs.Productions.{SimpleTarget, ArrayTarget, Target}
 use Rattle.js_grammar.specs.Productions.{sym as symbol}
@@ -28,10 +26,12 @@ use Rattle.js_grammar.specs.Table.{rule_of}
 use Rattle.js_targets.proofs.Assigned.{an_assign}
 use Rattle.js_targets.proofs.ArrayTargets.{object_dead}
 use Rattle.js_parsing.proofs.Dead.{AllRead, none}
+use Rattle.js_cursor.specs.Moves.{GivesUp}
+use Rattle.js_parsing.specs.Classes.{EndsParse}
 
-pub refused : {text : List ℕ} {f : Flags} {p q : Parser} {C B F : Type 0} (r : Parser) (kept : ℕ) (e : Stop) → kept ≡ length p.errors → At text f q → Same p q → Verdict p.errors q.errors C B → Refused kept q r e → F → Stops p r e F
-refused {p = p} {q = q} {F = F} r kept e k a s v (inl h) n = subst (λ (x : Stop). Stops p r x F) (sym h.2) (subst (λ (x : Parser). Stops p x Fatal F) (sym h.1) (record { at = a.at; follows = s.follows; grown = grew kept k h.0 v; heads = a.heads; none = n }))
-refused {p = p} {q = q} r kept e k a s v (inr h) n = stops_behind r e s.follows (λ g. grown_behind v g) (λ x. x) (gives_up (λ d. Unit {0}) q r e a h n)
+-- what is said where a call gave up
+pub refused : {text : List ℕ} {f : Flags} {p q : Parser} {C B F : Type 0} (r : Parser) (e : Stop) → At text f q → Same p q → Verdict p.errors q.errors C B → GivesUp EndsParse q r e → F → Stops p r e F
+refused {q = q} r e a s v h n = stops_behind r e s (λ g. grown_behind v g) (λ x. x) (gives_up EndsParse q r e a h (λ d u. u) n)
 
 pub array_is : (k : NodeKind) → is_array k ≡ true → k ≡ array_expression
 array_is array_expression h = refl

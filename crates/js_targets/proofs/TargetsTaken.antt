@@ -28,11 +28,11 @@ use Rattle.js_cursor.specs.Places.{goal}
 use Rattle.js_cursor.specs.declared.stop.Stop.{Stop}
 use Rattle.js_parsing.specs.Answers.{Grown, Numbered, Stops, Stretch, Underived, Verdict, clean, unclean}
 use Rattle.js_parsing.specs.Lexemes.{Lex, spot}
-use Rattle.js_targets.specs.Taken.{Refused, PlacesTold, TargetTaken, no_target_at, refusal_at}
-use Rattle.js_parsing.specs.States.{At, Same}
+use Rattle.js_targets.specs.Taken.{PlacesTold, TargetTaken, no_target_at, refusal_at}
+use Rattle.js_parsing.specs.States.{At, Same, NodesLie}
 use Rattle.js_targets.specs.declared.widening.Widening.{Widening}
 use Rattle.js_targets.specs.declared.widening.Widening.TheVariants.{Rest}
-use Rattle.js_targets.specs.Targets.{Each, IsIn, Narrow, Fits, Spotted, Noted, unnoted, Blames, Reused, Slotted, Converts, Converted, converts, refuses, is_array, relabelled, array_tree, slot_of, elements_in, places_in, target_of}
+use Rattle.js_targets.specs.Targets.{Each, IsIn, Narrow, Fits, Spotted, Noted, unnoted, Blames, Reused, Slotted, Converts, Converted, converts, refuses, is_array, relabelled, array_tree, slot_of, elements_in, places_in, target_of, Open, Ended, rests_in}
 use Rattle.js_base.specs.declared.diagnostic.DiagnosticKind.TheVariants.{SpreadLastElement}
 use Rattle.js_parsing.specs.Told.{unrelated_at}
 use Rattle.js_targets.proofs.LiteralsAsTargets.{one_of_each}
@@ -53,6 +53,8 @@ use Rattle.js_targets.proofs.Refused.{refused}
 use Rattle.js_targets.proofs.ReusedNodes.{below_in}
 use Rattle.js_targets.proofs.Targets.{of_short}
 use Rattle.js_parsing.proofs.Verdicts.{and_then, either_way}
+use Rattle.js_parsing.specs.Classes.{EndsParse}
+use Rattle.js_cursor.specs.Moves.{GivesUp}
 
 -- ---- what the conversion says
 
@@ -136,11 +138,11 @@ module _ {text : List ℕ} {f : Flags} {p q : Parser} {left : NodeId} (a : At te
     converted_at = subst (λ (z : Parser). At text f z) (sym e1) (beside_nodes q1.nodes x.answer.at)
 
   module _ {q1 : Parser} (e1 : q1 ≡ record q { nodes = q1.nodes }) {notes : Noted} where
-    none_there : ArrayAnswer q.nodes q1.nodes left unnoted notes None → Keeps q.nodes q1.nodes × (elements_in x.answer.slots ≡ None) × Blames (places_in x.answer.slots) unnoted notes
+    none_there : ArrayAnswer q.nodes q1.nodes left unnoted notes None → Keeps q.nodes q1.nodes × (elements_in x.answer.slots ≡ None) × Blames (places_in x.answer.slots) unnoted notes × ((text : List ℕ) → NodesLie text q.nodes → NodesLie text q1.nodes)
     none_there v = by (v x.answer.label x.answer.slots (x.holds).numbers (x.holds).stands (x.holds).distinct)
       where
-        by : Converted q.nodes q1.nodes (x.holds).numbers unnoted notes (places_in x.answer.slots) None (slot_of (array_tree x.answer.label (elements_in x.answer.slots))) → Keeps q.nodes q1.nodes × (elements_in x.answer.slots ≡ None) × Blames (places_in x.answer.slots) unnoted notes
-        by (refuses r) = (r.keeps, none_of x.answer.label (elements_in x.answer.slots) r.is, r.blames)
+        by : Converted q.nodes q1.nodes (x.holds).numbers unnoted notes (places_in x.answer.slots) None (slot_of (array_tree x.answer.label (elements_in x.answer.slots))) → Keeps q.nodes q1.nodes × (elements_in x.answer.slots ≡ None) × Blames (places_in x.answer.slots) unnoted notes × ((text : List ℕ) → NodesLie text q.nodes → NodesLie text q1.nodes)
+        by (refuses r) = (r.keeps, none_of x.answer.label (elements_in x.answer.slots) r.is, r.blames, r.lies)
 
     -- of whatever is told of it
     pub refused_marked : ArrayAnswer q.nodes q1.nodes left unnoted notes None → (start : ℕ) → start ≡ p.token.span.start → length q1.errors ≡ length p.errors → Mark (goal q1) q1.text (refusal_at start q1.prev_token_end notes.misplaced)
@@ -163,8 +165,8 @@ module _ {text : List ℕ} {f : Flags} {p q : Parser} {left : NodeId} (a : At te
         by (Some s) (inl e) = absurd (cc)
         by (Some s) (inr b) = let e : b.0 ≡ s = (let k : Some s ≡ Some b.0 = b.1 in cc) in spread s (subst (λ (t : Span). IsIn (places_in x.answer.slots) (Rest t)) e b.2)
 
-    pub array_refusal : ArrayAnswer q.nodes q1.nodes left unnoted notes None → (w : Parser) (kept : ℕ) (st : Stop) → kept ≡ length p.errors → Refused kept q1 w st → Stops p w st (Fails rule (Lex text) signs end (such (at ArrayTarget f) always) p.prev_token_end)
-    array_refusal v w kept st i r = refused {q = record q { nodes = q1.nodes }} w kept st i (beside_nodes q1.nodes x.answer.at) (same_with q1.nodes x.answer.same (Keeps-trans x.keeps (none_there v).0)) x.answer.verdict (subst (λ (z : Parser). Refused kept z w st) e1 r) (no_target_fails (none_there v).1)
+    pub array_refusal : ArrayAnswer q.nodes q1.nodes left unnoted notes None → (w : Parser) (st : Stop) → GivesUp EndsParse q1 w st → Stops p w st (Fails rule (Lex text) signs end (such (at ArrayTarget f) always) p.prev_token_end)
+    array_refusal v w st r = refused {q = record q { nodes = q1.nodes }} w st (beside_nodes q1.nodes x.answer.at) (same_with q1.nodes x.answer.same (Keeps-trans x.keeps (none_there v).0) (λ b h. (none_there v).3 q.text h)) x.answer.verdict (subst (λ (z : Parser). GivesUp EndsParse z w st) e1 r) (no_target_fails (none_there v).1)
 
     module _ {target : NodeId} (v : ArrayAnswer q.nodes q1.nodes left unnoted notes (Some target)) where
       made : Converts q.nodes q1.nodes (x.holds).numbers unnoted notes (places_in x.answer.slots) (Some target ∷ []) (slot_of (array_tree x.answer.label (elements_in x.answer.slots)))
@@ -196,7 +198,7 @@ module _ {text : List ℕ} {f : Flags} {p q : Parser} {left : NodeId} (a : At te
       taken : {r : Parser} → r ≡ record q1 { errors = r.errors } → At text f r → Same q1 r → Verdict p.errors r.errors (Stretch text signs (such (at ArrayTarget f) always) p.prev_token_end nothing q.prev_token_end (tree (relabelled array_assignment_target x.answer.label) parts.0) x.answer.pass) (Fails rule (Lex text) signs end (such (at ArrayTarget f) always) p.prev_token_end) → TargetTaken text f p q r target
       taken {r} e b s g =
           let place : r.prev_token_end ≡ q.prev_token_end = ap (λ (z : Parser). z.prev_token_end) e ∙ ap (λ (z : Parser). z.prev_token_end) e1 in
-          let same : Same p q1 = subst (λ (z : Parser). Same p z) (sym e1) (same_with q1.nodes x.answer.same (Keeps-trans x.keeps made.keeps)) in
+          let same : Same p q1 = subst (λ (z : Parser). Same p z) (sym e1) (same_with q1.nodes x.answer.same (Keeps-trans x.keeps made.keeps) (λ b h. made.lies q.text h)) in
           let nodes : r.nodes ≡ q1.nodes = ap (λ (z : Parser). z.nodes) e in
           record {
             stands_at = b;

@@ -24,6 +24,7 @@ use Rattle.js_cursor.specs.declared.stop.Stop.TheVariants.{Fatal}
 use Rattle.js_parsing.specs.Answers.{Numbered, Stops, Stretch, Verdict}
 use Rattle.js_parsing.specs.Lexemes.{Lex, Walked, spot}
 use Rattle.js_parsing.specs.States.{At, Same}
+use Rattle.js_parsing.specs.Classes.{IsEarly}
 
 -- what is told of a text up to a place that is no target
 abbrev pub no_target_at : ℕ → ℕ → Diagnostic
@@ -33,10 +34,6 @@ no_target_at from to = record { kind = fault.InvalidAssignment; span = record { 
 abbrev pub refusal_at : ℕ → ℕ → Option Span → Diagnostic
 refusal_at from to (Some s) = unrelated_at fault.SpreadLastElement s
 refusal_at from to None = no_target_at from to
-
--- A call gave up: there are not so many diagnostics as said, and all stays, or one was kept.
-abbrev pub Refused : ℕ → Parser → Parser → Stop → Type 0
-Refused kept old new e = ((length old.errors ≡ kept → ⊥) × (new ≡ old) × (e ≡ Fatal)) ⊎ GivesUp (λ d. Unit {0}) old new e
 
 -- what is told of an array literal before an assignment operator that needs a simple target
 abbrev pub not_simple_at : ℕ → ℕ → Diagnostic

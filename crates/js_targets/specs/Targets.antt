@@ -13,6 +13,7 @@ use Rattle.js_tree.specs.declared.id.NodeId.{NodeId}
 use Rattle.js_tree.specs.Nodes.{Node, label}
 use Rattle.js_tree.specs.Holding.{Holds, Stands, StandsAll, Keeps, Made, AreDistinct}
 use Rattle.js_grammar.specs.Trees.{Span as TreeSpan, NodeKind, Op, no_op, of, Label, Slots, end, hole, tree, Tree, identifier_reference, static_member_expression, computed_member_expression, private_field_expression, parenthesized_expression, array_expression, elision, spread_element, assignment_expression, array_assignment_target, assignment_target_rest, assignment_target_with_default, append}
+use Rattle.js_parsing.specs.States.{NodesLie}
 
 abbrev pub is_parens : NodeKind → Bool
 is_parens parenthesized_expression = true
@@ -256,7 +257,7 @@ pub record Slotted (os ns : List Node) (rs : List ℕ) (ids : List (Option NodeI
   pub reused : Each (Reused rs (length os) (length ns)) numbers
   pub distinct : AreDistinct numbers
 
--- What an expression is converted to: nodes were made, and its places were noted.
+-- What an expression is converted to: nodes were made, which lie where those did that they stand for, and its places were noted.
 pub record Converts (os ns : List Node) (rs : List ℕ) (noted notes : Noted) (ws : List Widening) (ids : List (Option NodeId)) (r : Option Slots) : Type 0 where
   pub keeps : Keeps os ns
   pub slots : Slots
@@ -264,10 +265,12 @@ pub record Converts (os ns : List Node) (rs : List ℕ) (noted notes : Noted) (w
   pub slotted : Slotted os ns rs ids slots
   pub places_are : notes.places ≡ noted.places ++ ws
   pub unblamed : notes.misplaced ≡ noted.misplaced
+  pub lies : (text : List ℕ) → NodesLie text os → NodesLie text ns
 
 -- It is converted to nothing.
 pub record Refuses (os ns : List Node) (noted notes : Noted) (ws : List Widening) (r : Option Slots) : Type 0 where
   pub keeps : Keeps os ns
+  pub lies : (text : List ℕ) → NodesLie text os → NodesLie text ns
   pub is : r ≡ None
   pub blames : Blames ws noted notes
 

@@ -11,7 +11,9 @@ ghost use Rattle.js_tree.specs.Nodes.{label, node_at};
 ghost use Rattle.js_base.specs.declared.kind.Kind.TheVariants.{Eq};
 ghost use Rattle.js_cursor.specs.Places.{goal};
 ghost use Rattle.js_grammar.specs.Marks.{Mark};
-ghost use Rattle.js_targets.specs.Taken.{ArrayRead, Refused, TakesTarget, refusal_at};
+ghost use Rattle.js_cursor.specs.Moves.{GivesUp};
+ghost use Rattle.js_parsing.specs.Classes.{EndsParse};
+ghost use Rattle.js_targets.specs.Taken.{ArrayRead, TakesTarget, refusal_at};
 ghost use Rattle.js_parsing.specs.States.{Standing};
 ghost use Rattle.js_targets.specs.Targets.{Converted, OfNode, Stood, array_tree, element_slot, elements_in, made_span, noted_in, operator_places, one_node, one_slot, relabelled, rest_slot, places_in, places_of, slot_of, target_by, Noded};
 ghost use Rattle.js_targets.specs.declared.widening.Widening.TheVariants as widening;
@@ -239,7 +241,7 @@ fn convert<C: ParserConfig>(
 }
 
 /// Gives up on an array literal, which was read from a place on and is no target: a spread that isn't its last element is
-/// told. Where a diagnostic was kept since, when there were so many, that is enough.
+/// told. Where a diagnostic was kept since, when there were so many, that is enough of it, and what stands here is told.
 fn refuse_literal<C: ParserConfig>(
     p: &mut ParserImpl<'_, C>,
     start: u32,
@@ -249,13 +251,13 @@ fn refuse_literal<C: ParserConfig>(
     requires at { Standing p.old }
     requires start { start ≤ p.old.prev_token_end }
     requires marked { length p.old.errors ≡ kept → Mark (goal p.old) p.old.text (refusal_at start p.old.prev_token_end misplaced) }
-    ensures { Refused kept p.old p.new result }
+    ensures { GivesUp EndsParse p.old p.new result }
 {
     let Some(spread) = misplaced else {
         return refuse_target(p, start, kept);
     };
     if kept_so_far(p) != kept {
-        return Stop::Fatal;
+        return p.set_unexpected();
     }
     p.set_fatal_error(diagnostic_at(DiagnosticKind::SpreadLastElement, spread))
 }

@@ -3,7 +3,9 @@
 ghost use Rattle.std.specs.Prelude.{◌≡◌, ◌<◌, ◌≤◌, ℕ, length, List, [], IfOk};
 ghost use Rattle.js_grammar.specs.Marks.{Mark};
 ghost use Rattle.js_cursor.specs.Places.{IsAt, goal};
-ghost use Rattle.js_targets.specs.Taken.{Refused, TellsOnce, no_target_at, not_simple_at};
+ghost use Rattle.js_cursor.specs.Moves.{GivesUp};
+ghost use Rattle.js_parsing.specs.Classes.{EndsParse};
+ghost use Rattle.js_targets.specs.Taken.{TellsOnce, no_target_at, not_simple_at};
 ghost use Rattle.js_parsing.specs.States.{Standing};
 ghost use Rattle.js_grammar.specs.Trees.{Label, Slots};
 ghost use Rattle.js_tree.specs.Holding.{Holds};
@@ -126,16 +128,16 @@ pub fn tell_not_simple<C: ParserConfig>(
 }
 
 /// Gives up, since what was read from a place on is no target. Where a diagnostic was kept since, when there were so
-/// many, that is enough.
+/// many, that is enough of it, and what stands here is told.
 #[inline(never)]
 pub fn refuse_target<C: ParserConfig>(p: &mut ParserImpl<'_, C>, start: u32, kept: usize) -> Stop
     requires at { Standing p.old }
     requires start { start ≤ p.old.prev_token_end }
     requires marked { length p.old.errors ≡ kept → Mark (goal p.old) p.old.text (no_target_at start p.old.prev_token_end) }
-    ensures { Refused kept p.old p.new result }
+    ensures { GivesUp EndsParse p.old p.new result }
 {
     if kept_so_far(p) != kept {
-        return Stop::Fatal;
+        return p.set_unexpected();
     }
     let span = p.end_span(start);
     p.set_fatal_error(Diagnostic {

@@ -103,7 +103,7 @@ returns-in_default t c = λ text f a.
     let y = c.in_ok-left.ensures text f a in
     let o = c.in_ok-_power.ensures text f y.answer.at in
     let x = shifted y o in
-    refused _ _ _ c.kept_so_far-kept.ensures x.answer.at x.answer.same x.answer.verdict c.refuse_target.ensures (assign_refused x.answer (c.requires.no_arrow text f a) o.uncut (assign_listed c.cur_kind.ensures c.is_assignment_operator.ensures c.if-not-is_assignment_operator.false) (inl (sym (c.is_array_literal.ensures _ _ _ _ x.holds) ∙ c.if-is_array_literal.false)) (c.in_default.ensures _ _ _ _ x.holds))
+    refused _ _ x.answer.at x.answer.same x.answer.verdict c.refuse_target.ensures (assign_refused x.answer (c.requires.no_arrow text f a) o.uncut (assign_listed c.cur_kind.ensures c.is_assignment_operator.ensures c.if-not-is_assignment_operator.false) (inl (sym (c.is_array_literal.ensures _ _ _ _ x.holds) ∙ c.if-is_array_literal.false)) (c.in_default.ensures _ _ _ _ x.holds))
 
 pub advance-requires-clause-at : goal.advance-requires-clause-at
 advance-requires-clause-at t c = standing (c.in_ok-_power.ensures _ _ (c.in_ok-left.ensures _ _ c.requires.at).answer.at).at
@@ -129,7 +129,7 @@ returns-in_err-right t c = λ text f a.
     let x = shifted y o in
     let m = c.in_ok-advance.ensures text f o.at in
     let g = c.in-Some.ensures _ _ _ _ x.holds in
-    rw (p.1, p.2) (stops_behind _ _ (same_both x.answer.same m.same).follows (λ g. after x.answer.verdict (grown_then m.kept g)) (λ n. right_fails x.answer (c.requires.no_arrow text f a) o.uncut (assign_listed c.cur_kind.ensures c.is_assignment_operator.ensures c.if-not-is_assignment_operator.false) m g.tree g.is n) (c.in_err-right.ensures text f m.at))
+    rw (p.1, p.2) (stops_behind _ _ (same_both x.answer.same m.same) (λ g. after x.answer.verdict (grown_then m.kept g)) (λ n. right_fails x.answer (c.requires.no_arrow text f a) o.uncut (assign_listed c.cur_kind.ensures c.is_assignment_operator.ensures c.if-not-is_assignment_operator.false) m g.tree g.is n) (c.in_err-right.ensures text f m.at))
 
 pub end_span-span-requires : goal.end_span-span-requires
 end_span-span-requires t c =

@@ -25,7 +25,7 @@ pub returns-in_err-consequent : goal.returns-in_err-consequent
 returns-in_err-consequent t c = λ text f first a na e x.
     let p = err_from_is_err_and c.from_residual-in_err-consequent.result c.from_residual-in_err-consequent.ensures.1 in
     let m = c.in_ok-advance.ensures text f x.answer.at in
-    rw (p.1, p.2) (stops_behind _ _ (same_both x.answer.same m.same).follows (λ g. after x.answer.verdict (grown_then m.kept g)) (λ n. first_fails x.answer na (c.at.ensures.0 c.if-not-at.false) m n) (c.in_err-consequent.ensures text f m.at))
+    rw (p.1, p.2) (stops_behind _ _ (same_both x.answer.same m.same) (λ g. after x.answer.verdict (grown_then m.kept g)) (λ n. first_fails x.answer na (c.at.ensures.0 c.if-not-at.false) m n) (c.in_err-consequent.ensures text f m.at))
 
 pub expect_conditional_alternative-requires-clause-at : goal.expect_conditional_alternative-requires-clause-at
 expect_conditional_alternative-requires-clause-at t c =
@@ -44,7 +44,7 @@ returns-in_err-expect_conditional_alternative t c = λ text f first a na e x.
     let p = err_from_is_err_and c.from_residual-in_err-expect_conditional_alternative.result c.from_residual-in_err-expect_conditional_alternative.ensures.1 in
     let m = c.in_ok-advance.ensures text f x.answer.at in
     let y = c.in_ok-consequent.ensures text f m.at in
-    rw (p.1, p.2) (stops_behind _ _ (same_both x.answer.same (same_both m.same y.answer.same)).follows (λ g. after x.answer.verdict (grown_then m.kept (after y.answer.verdict g))) (λ n. colon_fails x.answer na (c.at.ensures.0 c.if-not-at.false) m y.answer n) (colon_missing _ _ _ y.answer.at c.in_err-expect_conditional_alternative.ensures))
+    rw (p.1, p.2) (stops_behind _ _ (same_both x.answer.same (same_both m.same y.answer.same)) (λ g. after x.answer.verdict (grown_then m.kept (after y.answer.verdict g))) (λ n. colon_fails x.answer na (c.at.ensures.0 c.if-not-at.false) m y.answer n) (colon_missing _ _ _ y.answer.at c.in_err-expect_conditional_alternative.ensures))
 
 pub assignment-requires : goal.assignment-requires
 assignment-requires t c =
@@ -63,7 +63,7 @@ returns-in_err-alternate t c = λ text f first a na e x.
     let y = c.in_ok-consequent.ensures text f m.at in
     let k = c.in_ok-expect_conditional_alternative.ensures in
     let d = k.1 text f y.answer.at in
-    rw (p.1, p.2) (stops_behind _ _ (same_both x.answer.same (same_both m.same (same_both y.answer.same d.same))).follows (λ g. after x.answer.verdict (grown_then m.kept (after y.answer.verdict (grown_then d.kept g)))) (λ n. second_fails x.answer na (c.at.ensures.0 c.if-not-at.false) m y.answer k.0 d n) (c.in_err-alternate.ensures text f d.at))
+    rw (p.1, p.2) (stops_behind _ _ (same_both x.answer.same (same_both m.same (same_both y.answer.same d.same))) (λ g. after x.answer.verdict (grown_then m.kept (after y.answer.verdict (grown_then d.kept g)))) (λ n. second_fails x.answer na (c.at.ensures.0 c.if-not-at.false) m y.answer k.0 d n) (c.in_err-alternate.ensures text f d.at))
 
 pub end_span-span-requires : goal.end_span-span-requires
 end_span-span-requires t c =

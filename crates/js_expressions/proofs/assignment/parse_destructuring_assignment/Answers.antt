@@ -45,7 +45,7 @@ returns-in_err-right t c = λ text f first a na s k x h.
     let p = err_from_is_err_and c.from_residual-in_err-right.result c.from_residual-in_err-right.ensures.1 in
     let z = c.in_ok-target.ensures text f first a s k x h in
     let m = c.in_ok-advance.ensures text f z.stands_at in
-    rw (p.1, p.2) (stops_behind _ _ (same_both z.same m.same).follows (λ g. after z.verdict (grown_then m.kept g)) (λ n. right_unread x.answer na c.requires.whole c.requires.equals h z m n) (c.in_err-right.ensures text f m.at))
+    rw (p.1, p.2) (stops_behind _ _ (same_both z.same m.same) (λ g. after z.verdict (grown_then m.kept g)) (λ n. right_unread x.answer na c.requires.whole c.requires.equals h z m n) (c.in_err-right.ensures text f m.at))
 
 pub end_span-span-requires : goal.end_span-span-requires
 end_span-span-requires t c =

@@ -7,7 +7,7 @@ use Rattle.js_parsing.specs.Operators.{power_of}
 use Rattle.js_parsing.specs.Answers.{Underived}
 use Rattle.js_parsing.proofs.Moving.{standing, stops_so, stops_behind}
 use Rattle.js_parsing.proofs.Nesting.{nests_later}
-use Rattle.js_expressions.proofs.Operations.{fails_at_level, operand_init, next_level, as_next, right_less, smaller, made_link, small, is_operator, not_last, follows_so, grown_so, step_fails, start_before, operand_step, operands_answer, fixed}
+use Rattle.js_expressions.proofs.Operations.{fails_at_level, operand_init, next_level, as_next, right_less, smaller, made_link, small, is_operator, not_last, same_so, grown_so, step_fails, start_before, operand_step, operands_answer, fixed}
 use Rattle.js_expressions.proofs.operators.+parse_operators.Goals as goal
 
 pub returns-in_err-left : goal.returns-in_err-left
@@ -41,7 +41,7 @@ returns-in_err-right t n c = λ text f a.
     let o = c.in_ok-power.ensures _ _ s.at in
     let h : c.args.least - 5 + 5 ≤ c.in_ok-power.power = (let k = c.if-power-least.false in let l = c.requires.low in omega arith) in
     let d = c.in_ok-advance.ensures _ _ o.at in
-    fixed (λ g. level_at g (c.args.least - 5)) _ _ a (rw (p.1, p.2) (stops_behind _ _ (follows_so s o h d) (λ g. grown_so s o h d g) (λ z. step_fails s o h d (subst (λ (n : ℕ). Underived c.args.p.now.text (level_at (flags_of c.args.p.now) n) c.advance.new.p.prev_token_end) (next_level s o h) z)) (c.in_err-right.ensures _ _ d.at)))
+    fixed (λ g. level_at g (c.args.least - 5)) _ _ a (rw (p.1, p.2) (stops_behind _ _ (same_so s o h d) (λ g. grown_so s o h d g) (λ z. step_fails s o h d (subst (λ (n : ℕ). Underived c.args.p.now.text (level_at (flags_of c.args.p.now) n) c.advance.new.p.prev_token_end) (next_level s o h) z)) (c.in_err-right.ensures _ _ d.at)))
 
 pub make_operation-requires-clause-start : goal.make_operation-requires-clause-start
 make_operation-requires-clause-start t n c =

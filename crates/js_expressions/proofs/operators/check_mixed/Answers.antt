@@ -8,6 +8,7 @@ use Rattle.js_cursor.specs.Places.{goal as goal_of}
 use Rattle.js_parsing.specs.Stands.{ReadsHere}
 use Rattle.js_expressions.proofs.Exponents.{same_span}
 use Rattle.js_expressions.proofs.operators.check_mixed.Goals as goal
+use Rattle.js_parsing.proofs.Classes.{gives_up_by, unexpected_ends}
 
 pub error-requires-clause-mark : goal.error-requires-clause-mark
 error-requires-clause-mark g c =
@@ -16,6 +17,11 @@ error-requires-clause-mark g c =
     let r : c.reads_here.result ≡ true = search in
     let y = subst (λ (b : Bool). ReadsHere c.args.p.now b) r c.reads_here.ensures in
     subst (λ (s : Span). Mark (goal_of c.args.p.now) c.args.p.now.text (record { kind = MixedCoalesce; span = s; first = None; second = None })) (sym (same_span c.end_span.ensures.start c.end_span.ensures.end)) (c.requires.mark u v y.0 y.1)
+
+pub returns-then-not-reads_here : goal.returns-then-not-reads_here
+returns-then-not-reads_here g c =
+    let u : c.args.mixed ≡ true = search in
+    (u, gives_up_by _ _ c.set_unexpected.result c.set_unexpected.ensures (λ d h. unexpected_ends c.requires.at.at d h))
 
 pub returns : goal.returns
 returns g c =

@@ -1,7 +1,7 @@
 use Rattle.std.proofs.Common.{◌≡◌, ◌∙◌, sym, arith, Ok}
 use Rattle.std.proofs.lemmas.Result.{err_from_is_err_and}
 use Rattle.js_grammar.specs.Productions.{at, Short}
-use Rattle.js_expressions.proofs.CoalesceOperands.{operands_init, short_answer, sign_whole, right_room, follows_so, grown_so, right_none, start_before, is_mixed, checked, left_held, left_stood, mixed_then, mixed_else, mixed_marked_so, mixed_stops, made_pair, operands_step, smaller}
+use Rattle.js_expressions.proofs.CoalesceOperands.{operands_init, short_answer, sign_whole, right_room, same_so, grown_so, right_none, start_before, is_mixed, checked, left_held, left_stood, mixed_then, mixed_else, mixed_marked_so, mixed_stops, made_pair, operands_step, smaller}
 use Rattle.js_expressions.proofs.Coalescing.{no_short}
 use Rattle.js_parsing.proofs.Moving.{standing, stops_so, stops_behind}
 use Rattle.js_parsing.proofs.Nesting.{nests_later}
@@ -38,7 +38,7 @@ returns-in_err-right g c = λ text f a.
     let s = c.operands.invariant in
     let k = c.at.ensures.0 c.operands-test.true in
     let m = c.in_ok-advance.ensures _ _ s.at in
-    fixed (at Short) _ _ a (rw (p.1, p.2) (stops_behind _ _ (follows_so s k m) (λ h. grown_so s k m h) (λ z. right_none s k m z) (c.in_err-right.ensures _ _ m.at)))
+    fixed (at Short) _ _ a (rw (p.1, p.2) (stops_behind _ _ (same_so s k m) (λ h. grown_so s k m h) (λ z. right_none s k m z) (c.in_err-right.ensures _ _ m.at)))
 
 pub is_or_and-requires : goal.is_or_and-requires
 is_or_and-requires g c =

@@ -42,7 +42,7 @@ returns-in_err-exponent t c = λ text f a.
     let k = c.at.ensures.0 c.if-not-at.false in
     let b = base_checked a x k (is_operator c.cur_kind.ensures c.is_unary_operator-is_unary.ensures) c.kept_so_far-found.ensures c.in_ok-check_base.ensures in
     let m = c.in_ok-advance.ensures text f b.answer.at in
-    rw (p.1, p.2) (stops_behind _ _ (same_both b.answer.same m.same).follows (λ g. after b.answer.verdict (grown_then m.kept g)) (λ n. exponent_fails x.answer k b.answer (still_star c.in_ok-check_base.ensures k) m n) (c.in_err-exponent.ensures text f m.at))
+    rw (p.1, p.2) (stops_behind _ _ (same_both b.answer.same m.same) (λ g. after b.answer.verdict (grown_then m.kept g)) (λ n. exponent_fails x.answer k b.answer (still_star c.in_ok-check_base.ensures k) m n) (c.in_err-exponent.ensures text f m.at))
 
 pub end_span-span-requires : goal.end_span-span-requires
 end_span-span-requires t c =

@@ -10,7 +10,7 @@ use Rattle.js_parsing.specs.States.{flags_of}
 use Rattle.js_parsing.proofs.Moving.{standing, stops_so, stops_behind}
 use Rattle.js_parsing.proofs.Nesting.{nested_room}
 use Rattle.js_expressions.proofs.Operations.{fixed}
-use Rattle.js_expressions.proofs.Sequences.{Listing, alone_result, alone_fails, listing_init, listing_step, listing_end, listing_follows, listing_grown, operand_fails, less_left, start_before, listing_room}
+use Rattle.js_expressions.proofs.Sequences.{Listing, alone_result, alone_fails, listing_init, listing_step, listing_end, listing_same, listing_grown, operand_fails, less_left, start_before, listing_room}
 use Rattle.js_expressions.proofs.sequence.parse_sequence_expression.Goals as goal
 
 pub returns-in_err-first : goal.returns-in_err-first
@@ -30,7 +30,7 @@ returns-in_err-item t c = λ text f a.
     let p = err_from_is_err_and c.from_residual-in_err-item.result c.from_residual-in_err-item.ensures.1 in
     let s = c.items.invariant in
     let m = c.in_ok-advance.ensures _ _ s.at in
-    fixed (λ g. at Expression g) _ _ a (rw (p.1, p.2) (stops_behind _ _ (listing_follows s m) (λ g. listing_grown s m g) (λ z. operand_fails s m z) (c.in_err-item.ensures _ _ m.at)))
+    fixed (λ g. at Expression g) _ _ a (rw (p.1, p.2) (stops_behind _ _ (listing_same s m) (λ g. listing_grown s m g) (λ z. operand_fails s m z) (c.in_err-item.ensures _ _ m.at)))
 
 pub items-smaller : goal.items-smaller
 items-smaller t c = let s = c.items.invariant in let m = c.in_ok-advance.ensures _ _ s.at in less_left s m c.requires.at (c.in_ok-item.ensures _ _ m.at)

@@ -1,11 +1,11 @@
 use Rattle.std.proofs.Common.{◌≡◌, true}
-use Rattle.js_parsing.proofs.Giving.{gives_up, fails_escaped}
+use Rattle.js_parsing.proofs.Giving.{gives_up_here, fails_escaped}
 use Rattle.js_operands.proofs.Operands.{unary_listed}
 use Rattle.js_parsing.proofs.Phrases.{unary_result}
 use Rattle.js_expressions.proofs.unary.parse_unary_expression_or_higher.Goals as goal
 
 pub returns-then-escaped : goal.returns-then-escaped
-returns-then-escaped t c = λ text f a. gives_up _ _ _ c.set_unexpected.result a c.set_unexpected.ensures (fails_escaped a (let e : c.args.p.now.token.escaped ≡ true = search in e))
+returns-then-escaped t c = λ text f a. gives_up_here _ _ c.set_unexpected.result a c.set_unexpected.ensures (fails_escaped a (let e : c.args.p.now.token.escaped ≡ true = search in e))
 
 pub parse_unary_expression-requires-clause-operator : goal.parse_unary_expression-requires-clause-operator
 parse_unary_expression-requires-clause-operator t c = unary_listed c.cur_kind.ensures c.is_unary_operator.ensures c.if-is_unary_operator.true

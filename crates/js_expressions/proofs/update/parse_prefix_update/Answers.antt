@@ -1,7 +1,7 @@
 use Rattle.std.proofs.Common.{arith, refl, ◌∙◌}
 use Rattle.std.proofs.lemmas.Result.{err_from_is_err_and}
 use Rattle.js_parsing.proofs.Signs.{plain_sign}
-use Rattle.js_parsing.proofs.Giving.{gives_up}
+use Rattle.js_parsing.proofs.Giving.{gives_up_here}
 use Rattle.js_parsing.proofs.Moving.{standing, stops_behind, same_both}
 use Rattle.js_parsing.proofs.Nesting.{nested_room}
 use Rattle.js_expressions.proofs.Refusals.{prefix_marked, refused_behind, stood, row_update}
@@ -17,7 +17,7 @@ returns-in_err-operand t c = λ text f a.
     let p = err_from_is_err_and c.from_residual-in_err-operand.result c.from_residual-in_err-operand.ensures.1 in
     let m = c.in_ok-advance.ensures text f a in
     let u = update_plain _ c.requires.operator in
-    rw (p.1, p.2) (stops_behind _ _ m.same.follows (λ g. grown_then m.kept g) (no_operand a _ c.requires.operator refl (plain_sign _ a refl u.1 u.2 u.0) m) (c.in_err-operand.ensures text f m.at))
+    rw (p.1, p.2) (stops_behind _ _ m.same (λ g. grown_then m.kept g) (no_operand a _ c.requires.operator refl (plain_sign _ a refl u.1 u.2 u.0) m) (c.in_err-operand.ensures text f m.at))
 
 pub cover-requires : goal.cover-requires
 cover-requires t c = let m = c.in_ok-advance.ensures _ _ c.requires.at in stood (c.in_ok-operand.ensures _ _ m.at)
@@ -34,7 +34,7 @@ returns-then-not-branch t c = λ text f a.
     let x = c.in_ok-operand.ensures text f m.at in
     let o = c.in_ok-ends_operand.ensures text f x.answer.at in
     let u = update_plain _ c.requires.operator in
-    stops_behind _ _ (same_both m.same (same_both x.answer.same o.same)).follows (λ g. grown_then m.kept (after x.answer.verdict (grown_then o.kept g))) (λ n. n) (gives_up _ _ _ c.set_unexpected.result o.at c.set_unexpected.ensures (wrong_operand a _ c.requires.operator refl (plain_sign _ a refl u.1 u.2 u.0) m x.answer (c.in_default.ensures _ _ _ _ x.holds)))
+    stops_behind _ _ (same_both m.same (same_both x.answer.same o.same)) (λ g. grown_then m.kept (after x.answer.verdict (grown_then o.kept g))) (λ n. n) (gives_up_here _ _ c.set_unexpected.result o.at c.set_unexpected.ensures (wrong_operand a _ c.requires.operator refl (plain_sign _ a refl u.1 u.2 u.0) m x.answer (c.in_default.ensures _ _ _ _ x.holds)))
 
 pub refuse_target-requires-clause-at : goal.refuse_target-requires-clause-at
 refuse_target-requires-clause-at t c = let m = c.in_ok-advance.ensures _ _ c.requires.at in standing (c.in_ok-ends_operand.ensures _ _ (c.in_ok-operand.ensures _ _ m.at).answer.at).at
@@ -59,7 +59,7 @@ returns-in_default t c = λ text f a.
     let x = c.in_ok-operand.ensures text f m.at in
     let o = c.in_ok-ends_operand.ensures text f x.answer.at in
     let u = update_plain _ c.requires.operator in
-    stops_behind _ _ m.same.follows (λ g. grown_then m.kept g) (λ n. n) (refused_behind _ _ _ c.kept_so_far-kept.ensures x.answer.same x.answer.verdict o c.refuse_target.ensures (wrong_operand a _ c.requires.operator refl (plain_sign _ a refl u.1 u.2 u.0) m x.answer (c.in_default.ensures _ _ _ _ x.holds)))
+    stops_behind _ _ m.same (λ g. grown_then m.kept g) (λ n. n) (refused_behind _ _ x.answer.same x.answer.verdict o c.refuse_target.ensures (wrong_operand a _ c.requires.operator refl (plain_sign _ a refl u.1 u.2 u.0) m x.answer (c.in_default.ensures _ _ _ _ x.holds)))
 
 pub end_span-span-requires : goal.end_span-span-requires
 end_span-span-requires t c =

@@ -38,7 +38,7 @@ pub returns-in_default : goal.returns-in_default
 returns-in_default t c = λ text f a.
     let x = c.in_ok-operand.ensures text f a in
     let b = both_of _ _ c.stands_behind.ensures c.if-not-stands_behind.false in
-    refused _ _ _ c.kept_so_far-kept.ensures x.answer.at x.answer.same x.answer.verdict c.refuse_target.ensures (postfix_fails a (update_listed c.cur_kind.ensures c.is_update_operator.ensures c.if-is_update_operator.false) x.answer b.0 _ b.1 refl (c.in_default.ensures _ _ _ _ x.holds))
+    refused _ _ x.answer.at x.answer.same x.answer.verdict c.refuse_target.ensures (postfix_fails a (update_listed c.cur_kind.ensures c.is_update_operator.ensures c.if-is_update_operator.false) x.answer b.0 _ b.1 refl (c.in_default.ensures _ _ _ _ x.holds))
 
 pub advance-requires-clause-at : goal.advance-requires-clause-at
 advance-requires-clause-at t c = standing (c.in_ok-operand.ensures _ _ c.requires.at).answer.at

@@ -1,4 +1,4 @@
-use Rattle.std.proofs.Common.{◌≤◌, ap, arith}
+use Rattle.std.proofs.Common.{◌≤◌, ap, arith, refl}
 use Rattle.js_cursor.specs.Parsers.{Parser}
 use Rattle.js_parsing.specs.Nesting.{room}
 use Rattle.js_parsing.proofs.Moving.{standing}
@@ -17,4 +17,4 @@ pub parse_spread_element-requires-clause-sign : goal.parse_spread_element-requir
 parse_spread_element-requires-clause-sign g c = told_dots c.requires.at c.requires.sign c.in_ok-tell_spread.ensures
 
 pub returns : goal.returns
-returns g c = λ text f a. told_outcome _ c.parse_spread_element.result a c.requires.sign c.in_ok-tell_spread.ensures (c.parse_spread_element.ensures text f (told_at c.in_ok-tell_spread.ensures a))
+returns g c = λ text f a. told_outcome _ c.parse_spread_element.result a c.requires.sign c.in_ok-tell_spread.ensures refl (c.parse_spread_element.ensures text f (told_at c.in_ok-tell_spread.ensures a))

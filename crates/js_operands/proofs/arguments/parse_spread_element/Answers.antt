@@ -23,7 +23,7 @@ pub returns-in_err-argument : goal.returns-in_err-argument
 returns-in_err-argument g c = λ text f a.
     let p = err_from_is_err_and c.from_residual-in_err-argument.result c.from_residual-in_err-argument.ensures.1 in
     let m = c.in_ok-advance.ensures text f a in
-    rw (p.1, p.2) (stops_behind _ _ m.same.follows (λ g. grown_then m.kept g) (λ n. spread_fails a c.requires.sign m n) (c.in_err-argument.ensures text f m.at))
+    rw (p.1, p.2) (stops_behind _ _ m.same (λ g. grown_then m.kept g) (λ n. spread_fails a c.requires.sign m n) (c.in_err-argument.ensures text f m.at))
 
 pub end_span-span-requires : goal.end_span-span-requires
 end_span-span-requires g c =

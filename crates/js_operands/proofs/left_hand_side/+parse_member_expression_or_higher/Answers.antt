@@ -4,10 +4,13 @@ use Rattle.std.proofs.lemmas.Result.{err_from_is_err_and}
 use Rattle.js_cursor.specs.Parsers.{Parser}
 use Rattle.js_parsing.specs.Nesting.{room}
 use Rattle.js_parsing.proofs.Giving.{gives_up}
-use Rattle.js_operands.proofs.Members.{at_callee, begun_at, callee_room, entered_stops, member_init, new_arguments_stop, new_follows, new_grown, new_refused, new_taken, new_with_arguments, no_head, stands_so, start_before, taken_room}
+use Rattle.js_operands.proofs.Members.{at_callee, begun_at, callee_room, entered_stops, member_init, new_arguments_stop, new_same, new_grown, new_refused, new_taken, new_with_arguments, no_head, stands_so, start_before, taken_room}
 use Rattle.js_parsing.proofs.Moving.{deeper, left_at, standing, stops_behind, stops_so}
 use Rattle.js_parsing.proofs.Nesting.{nested_room, nests_later, later_room}
 use Rattle.js_operands.proofs.left_hand_side.+parse_member_expression_or_higher.Goals as goal
+use Rattle.js_parsing.specs.Classes.{ends_parse}
+use Rattle.js_base.specs.Diagnostics.{class_of}
+use Rattle.js_base.specs.declared.diagnostic.DiagnosticKind.{DiagnosticKind}
 
 pub enter-requires : goal.enter-requires
 enter-requires g t c = (c.in_ok-advance.ensures _ _ c.requires.at).at.at
@@ -43,8 +46,8 @@ returns-then-stands-2 g t c = λ text f a.
     let m = c.in_ok-advance.ensures text f a in
     let h = c.in_ok-enter.ensures.ok.1 in
     let x = c.in_ok-callee.ensures text f (deeper m.at h) in
-    stops_behind _ c.refuse_chain.result (new_follows a s.0 s.1 m h c.leave.ensures x) (λ i. new_grown a s.0 s.1 m h c.leave.ensures x i) (λ z. z)
-    (gives_up _ _ _ c.refuse_chain.result (left_at x.0.at c.leave.ensures) c.refuse_chain.ensures (new_refused a s.0 s.1 m h c.leave.ensures x (stands_so c.leave.new.self QuestionDot c.if-stands-2.true c.stands-then-stands.ensures)))
+    stops_behind _ c.refuse_chain.result (new_same a s.0 s.1 m h c.leave.ensures x) (λ i. new_grown a s.0 s.1 m h c.leave.ensures x i) (λ z. z)
+    (gives_up _ _ _ c.refuse_chain.result (left_at x.0.at c.leave.ensures) c.refuse_chain.ensures (λ d u. ap (λ (k : DiagnosticKind). ends_parse (class_of k)) u.0) (new_refused a s.0 s.1 m h c.leave.ensures x (stands_so c.leave.new.self QuestionDot c.if-stands-2.true c.stands-then-stands.ensures)))
 
 pub end_span-span-requires : goal.end_span-span-requires
 end_span-span-requires g t c =

@@ -1,14 +1,14 @@
 use Rattle.std.proofs.Common.{◌≡◌, true, false}
 use Rattle.js_parsing.specs.Lexemes.{read_word}
-use Rattle.js_parsing.proofs.Giving.{gives_up, fails_escaped}
+use Rattle.js_parsing.proofs.Giving.{gives_up_here, fails_escaped}
 use Rattle.js_operands.proofs.Members.{no_name, word_whole, name_taken}
 use Rattle.js_operands.proofs.left_hand_side.parse_identifier_name.Goals as goal
 
 pub returns-then-escaped : goal.returns-then-escaped
-returns-then-escaped g c = λ text f a. gives_up _ _ _ c.set_unexpected.result a c.set_unexpected.ensures (fails_escaped a (let e : c.args.p.now.token.escaped ≡ true = search in e))
+returns-then-escaped g c = λ text f a. gives_up_here _ _ c.set_unexpected.result a c.set_unexpected.ensures (fails_escaped a (let e : c.args.p.now.token.escaped ≡ true = search in e))
 
 pub returns-then-not-is_read_word : goal.returns-then-not-is_read_word
-returns-then-not-is_read_word g c = λ text f a. gives_up _ _ _ c.set_unexpected-then-not-is_read_word.result a c.set_unexpected-then-not-is_read_word.ensures (no_name a (let e : read_word c.args.p.now.token.kind ≡ false = search in e))
+returns-then-not-is_read_word g c = λ text f a. gives_up_here _ _ c.set_unexpected-then-not-is_read_word.result a c.set_unexpected-then-not-is_read_word.ensures (no_name a (let e : read_word c.args.p.now.token.kind ≡ false = search in e))
 
 pub parse_leaf-requires-clause-whole : goal.parse_leaf-requires-clause-whole
 parse_leaf-requires-clause-whole g c = word_whole c.requires (let e : read_word c.args.p.now.token.kind ≡ true = search in e)

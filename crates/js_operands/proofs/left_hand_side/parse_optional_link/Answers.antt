@@ -1,4 +1,4 @@
-use Rattle.std.proofs.Common.{arith, ap, sym, ◌∙◌}
+use Rattle.std.proofs.Common.{arith, ap, sym, ◌∙◌, subst, refl}
 use Rattle.std.proofs.lemmas.Result.{err_from_is_err_and}
 use Rattle.js_base.specs.declared.kind.Kind.TheVariants.{LBrack, LParen, RAngle}
 use Rattle.js_base.specs.Kinds.{same_kind}
@@ -11,6 +11,7 @@ use Rattle.js_parsing.proofs.Moving.{standing}
 use Rattle.js_parsing.proofs.Nesting.{nested_room, nests_later}
 use Rattle.js_operands.proofs.Members.{link_marked, no_name, no_optional_name, optional_name, optional_outcome, stands_so, optional_index_outcome}
 use Rattle.js_operands.proofs.left_hand_side.parse_optional_link.Goals as goal
+use Rattle.js_parsing.specs.Classes.{EndsParse}
 
 pub advance-requires-clause-whole : goal.advance-requires-clause-whole
 advance-requires-clause-whole t c = (uncut c.requires.at (ap (same_kind RAngle) c.requires.sign.0), ap is_last c.requires.sign.0)
@@ -76,4 +77,4 @@ refuse_optional_link-requires-clause-mark t c = link_marked _ c.requires.at c.re
 pub returns-then-lacks_link : goal.returns-then-lacks_link
 returns-then-lacks_link t c = λ text f a.
     let m = c.in_ok-advance.ensures text f a in
-    no_optional_name a c.requires.sign m (stands_so c.advance.new.p LParen c.if-stands.false c.stands.ensures) (stands_so c.advance.new.p LBrack c.if-stands-2.false c.stands-2.ensures) _ c.refuse_optional_link.result (gives_up _ _ _ c.refuse_optional_link.result m.at c.refuse_optional_link.ensures (no_name m.at (ap read_word (sym c.cur_kind.ensures) ∙ c.lacks_link.ensures c.if-lacks_link.true)))
+    no_optional_name a c.requires.sign m (stands_so c.advance.new.p LParen c.if-stands.false c.stands.ensures) (stands_so c.advance.new.p LBrack c.if-stands-2.false c.stands-2.ensures) _ c.refuse_optional_link.result (gives_up _ _ _ c.refuse_optional_link.result m.at c.refuse_optional_link.ensures (λ d u. subst EndsParse (sym u) refl) (no_name m.at (ap read_word (sym c.cur_kind.ensures) ∙ c.lacks_link.ensures c.if-lacks_link.true)))

@@ -25,7 +25,7 @@ expression_with_in-requires-clause-nests t c = nests_later c.requires.nests (let
 pub returns-in_err-index : goal.returns-in_err-index
 returns-in_err-index t c =
     let p = err_from_is_err_and c.from_residual-in_err-index.result c.from_residual-in_err-index.ensures.1 in
-    rw (p.1, p.2) (λ text f a. let m = c.in_ok-advance.ensures text f a in stops_behind _ _ m.same.follows (λ g. grown_then m.kept g) (λ n. no_index a c.requires.open m n) (c.in_err-index.ensures text f m.at))
+    rw (p.1, p.2) (λ text f a. let m = c.in_ok-advance.ensures text f a in stops_behind _ _ m.same (λ g. grown_then m.kept g) (λ n. no_index a c.requires.open m n) (c.in_err-index.ensures text f m.at))
 
 pub expect_closing-requires-clause-at : goal.expect_closing-requires-clause-at
 expect_closing-requires-clause-at t c = (c.in_ok-index.ensures _ _ (c.in_ok-advance.ensures _ _ c.requires.at).at).answer.at.at

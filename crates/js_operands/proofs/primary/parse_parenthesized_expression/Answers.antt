@@ -31,7 +31,7 @@ pub returns-in_err-expression : goal.returns-in_err-expression
 returns-in_err-expression t c = λ text f a.
     let p = err_from_is_err_and c.from_residual-in_err-expression.result c.from_residual-in_err-expression.ensures.1 in
     let m = c.in_ok-advance.ensures text f a in
-    rw (p.1, p.2) (stops_behind _ _ m.same.follows (λ g. grown_then m.kept g) (λ n. expression_fails a c.requires.kind m n) (c.in_err-expression.ensures text f m.at))
+    rw (p.1, p.2) (stops_behind _ _ m.same (λ g. grown_then m.kept g) (λ n. expression_fails a c.requires.kind m n) (c.in_err-expression.ensures text f m.at))
 
 pub close_parentheses-requires-clause-at : goal.close_parentheses-requires-clause-at
 close_parentheses-requires-clause-at t c = standing (c.in_ok-expression.ensures _ _ (c.in_ok-advance.ensures _ _ c.requires.at).at).answer.at
@@ -47,7 +47,7 @@ returns-in_err-close_parentheses t c = λ text f a.
     let p = err_from_is_err_and c.from_residual-in_err-close_parentheses.result c.from_residual-in_err-close_parentheses.ensures.1 in
     let m = c.in_ok-advance.ensures text f a in
     let x = c.in_ok-expression.ensures text f m.at in
-    rw (p.1, p.2) (stops_behind _ _ (same_both m.same x.answer.same).follows (λ g. grown_then m.kept (after x.answer.verdict g)) (λ n. close_fails a c.requires.kind m x.answer n) (unclosed _ _ _ x.answer.at c.in_err-close_parentheses.ensures (λ n. n)))
+    rw (p.1, p.2) (stops_behind _ _ (same_both m.same x.answer.same) (λ g. grown_then m.kept (after x.answer.verdict g)) (λ n. close_fails a c.requires.kind m x.answer n) (unclosed _ _ _ x.answer.at c.in_err-close_parentheses.ensures (λ n. n)))
 
 pub end_span-span-requires : goal.end_span-span-requires
 end_span-span-requires t c =

@@ -4,12 +4,12 @@ use Rattle.js_base.specs.Kinds.{one_of_kinds}
 use Rattle.js_base.specs.declared.kind.Kind.TheVariants.{Ident, This, Null, True, False, Str}
 use Rattle.js_tree.specs.declared.kind.NodeKind.TheVariants as node
 use Rattle.js_tree.specs.declared.op.Op.TheVariants as op
-use Rattle.js_parsing.proofs.Giving.{gives_up, fails_escaped}
+use Rattle.js_parsing.proofs.Giving.{gives_up_here, fails_escaped}
 use Rattle.js_operands.proofs.Operands.{leaf_outcome, name_path, this_path, null_path, true_path, false_path, string_path, primary_fails, none_of_these}
 use Rattle.js_operands.proofs.primary.parse_primary_expression.Goals as goal
 
 pub returns-then-escaped : goal.returns-then-escaped
-returns-then-escaped t c = λ text f a. gives_up _ _ _ c.set_unexpected.result a c.set_unexpected.ensures (fails_escaped a (let e : c.args.p.now.token.escaped ≡ true = search in e))
+returns-then-escaped t c = λ text f a. gives_up_here _ _ c.set_unexpected.result a c.set_unexpected.ensures (fails_escaped a (let e : c.args.p.now.token.escaped ≡ true = search in e))
 
 pub returns-in-Ident : goal.returns-in-Ident
 returns-in-Ident t c = λ text f a. leaf_outcome text f _ _ node.IdentifierReference op.None Ident c.parse_leaf.result refl name_path a (sym c.cur_kind-2.ensures ∙ c.in-Ident.is) (let e : c.args.p.now.token.escaped ≡ false = search in e) c.parse_leaf.ensures
@@ -30,4 +30,4 @@ returns-in-True t c = λ text f a. elim c.in-True.is [
 ]
 
 pub returns-in_default : goal.returns-in_default
-returns-in_default t c = λ text f a. gives_up _ _ _ c.set_unexpected-in_default.result a c.set_unexpected-in_default.ensures (primary_fails a (none_of_these _ (λ e. c.in_default.not-Ident (c.cur_kind-2.ensures ∙ e)) (λ e. c.in_default.not-This (c.cur_kind-2.ensures ∙ e)) (λ e. c.in_default.not-Null (c.cur_kind-2.ensures ∙ e)) (λ e. c.in_default.not-True (c.cur_kind-2.ensures ∙ e)) (λ e. c.in_default.not-False (c.cur_kind-2.ensures ∙ e)) (λ e. c.in_default.not-Str (c.cur_kind-2.ensures ∙ e)) (λ e. c.in_default.not-LParen (c.cur_kind-2.ensures ∙ e)) (λ e. c.in_default.not-LBrack (c.cur_kind-2.ensures ∙ e)) (λ e. c.in_default.not-Percent (c.cur_kind-2.ensures ∙ e)) (sym (ap (one_of_kinds number_kinds) c.cur_kind.ensures) ∙ (sym c.is_number.ensures ∙ c.if-is_number.false))))
+returns-in_default t c = λ text f a. gives_up_here _ _ c.set_unexpected-in_default.result a c.set_unexpected-in_default.ensures (primary_fails a (none_of_these _ (λ e. c.in_default.not-Ident (c.cur_kind-2.ensures ∙ e)) (λ e. c.in_default.not-This (c.cur_kind-2.ensures ∙ e)) (λ e. c.in_default.not-Null (c.cur_kind-2.ensures ∙ e)) (λ e. c.in_default.not-True (c.cur_kind-2.ensures ∙ e)) (λ e. c.in_default.not-False (c.cur_kind-2.ensures ∙ e)) (λ e. c.in_default.not-Str (c.cur_kind-2.ensures ∙ e)) (λ e. c.in_default.not-LParen (c.cur_kind-2.ensures ∙ e)) (λ e. c.in_default.not-LBrack (c.cur_kind-2.ensures ∙ e)) (λ e. c.in_default.not-Percent (c.cur_kind-2.ensures ∙ e)) (sym (ap (one_of_kinds number_kinds) c.cur_kind.ensures) ∙ (sym c.is_number.ensures ∙ c.if-is_number.false))))

@@ -3,9 +3,9 @@ use Rattle.std.proofs.lemmas.Result.{err_from_is_err_and}
 use Rattle.js_base.specs.declared.kind.Kind.TheVariants.{LParen, RAngle}
 use Rattle.js_base.specs.Kinds.{same_kind}
 use Rattle.js_cursor.specs.Moves.{is_last}
-use Rattle.js_parsing.proofs.Giving.{gives_up}
+use Rattle.js_parsing.proofs.Giving.{gives_up_here}
 use Rattle.js_parsing.proofs.Here.{uncut}
-use Rattle.js_operands.proofs.Intrinsics.{no_v8, v8_follows, v8_grown, v8_name_fails, v8_option, v8_outcome, v8_room, v8_start, v8_unopened}
+use Rattle.js_operands.proofs.Intrinsics.{no_v8, v8_same, v8_grown, v8_name_fails, v8_option, v8_outcome, v8_room, v8_start, v8_unopened}
 use Rattle.js_operands.proofs.Members.{stands_so}
 use Rattle.js_parsing.proofs.Moving.{standing, stops_behind}
 use Rattle.js_parsing.proofs.Nesting.{nests_later}
@@ -13,7 +13,7 @@ use Rattle.js_parsing.proofs.Verdicts.{grown_then}
 use Rattle.js_operands.proofs.primary.parse_v8_intrinsic_expression.Goals as goal
 
 pub returns-then-not-allows_v8 : goal.returns-then-not-allows_v8
-returns-then-not-allows_v8 t c = λ text f a. gives_up _ _ _ c.set_unexpected.result a c.set_unexpected.ensures (no_v8 a c.requires.kind (sym (v8_option a c.allows_v8.ensures) ∙ c.if-not-allows_v8.true))
+returns-then-not-allows_v8 t c = λ text f a. gives_up_here _ _ c.set_unexpected.result a c.set_unexpected.ensures (no_v8 a c.requires.kind (sym (v8_option a c.allows_v8.ensures) ∙ c.if-not-allows_v8.true))
 
 pub advance-requires-clause-whole : goal.advance-requires-clause-whole
 advance-requires-clause-whole t c = (uncut c.requires.at (ap (same_kind RAngle) c.requires.kind), ap is_last c.requires.kind)
@@ -25,14 +25,14 @@ pub returns-in_err-name : goal.returns-in_err-name
 returns-in_err-name t c = λ text f a.
     let p = err_from_is_err_and c.from_residual-in_err-name.result c.from_residual-in_err-name.ensures.1 in
     let m = c.in_ok-advance.ensures text f a in
-    rw (p.1, p.2) (stops_behind _ _ m.same.follows (λ g. grown_then m.kept g) (λ n. v8_name_fails a c.requires.kind m n) (c.in_err-name.ensures text f m.at))
+    rw (p.1, p.2) (stops_behind _ _ m.same (λ g. grown_then m.kept g) (λ n. v8_name_fails a c.requires.kind m n) (c.in_err-name.ensures text f m.at))
 
 pub returns-then-not-stands : goal.returns-then-not-stands
 returns-then-not-stands t c = λ text f a.
     let m = c.in_ok-advance.ensures text f a in
     let x = c.in_ok-name.ensures text f m.at in
-    stops_behind _ c.set_unexpected-then-not-stands.result (v8_follows a c.requires.kind m x) (λ g. v8_grown a c.requires.kind m x g) (λ n. n)
-    (gives_up _ _ _ c.set_unexpected-then-not-stands.result x.answer.at c.set_unexpected-then-not-stands.ensures (v8_unopened a c.requires.kind m x (stands_so c.parse_identifier_name.new.p LParen c.if-not-stands.true c.stands.ensures)))
+    stops_behind _ c.set_unexpected-then-not-stands.result (v8_same a c.requires.kind m x) (λ g. v8_grown a c.requires.kind m x g) (λ n. n)
+    (gives_up_here _ _ c.set_unexpected-then-not-stands.result x.answer.at c.set_unexpected-then-not-stands.ensures (v8_unopened a c.requires.kind m x (stands_so c.parse_identifier_name.new.p LParen c.if-not-stands.true c.stands.ensures)))
 
 pub parse_with_arguments-requires-clause-at : goal.parse_with_arguments-requires-clause-at
 parse_with_arguments-requires-clause-at t c = standing (c.in_ok-name.ensures _ _ (c.in_ok-advance.ensures _ _ c.requires.at).at).answer.at

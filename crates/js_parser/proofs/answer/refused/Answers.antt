@@ -12,6 +12,7 @@ returns-clause-answer c = λ text s o h. refused_answer c.into_parts-parts.resul
     (c.fewer_faults-faults.ensures.1 ∙ (λ i. take c.fewer_faults-faults.ensures.0 ((c.finish-kept.ensures.kept ∙ ap (λ (l : State). l.kept) c.into_parts-parts.ensures.lexer) i).errors))
     c.new.ensures.items
     c.in_ok-tree.ensures.nodes
+    c.into_parts-parts.ensures.ast
     (λ i. record { comments = c.finish-kept.result.comments; irregular_whitespaces = c.finish-kept.result.irregular_whitespaces; tokens = c.new-2.ensures i; errors = (c.in_ok-diagnostics.ensures ∙ (λ j. c.fewer_faults-faults.result ++ c.into_parts-parts.ensures.errors j)) i })
     (subst (λ (v : State). LieIn v.text c.finish-kept.result) c.into_parts-parts.ensures.lexer c.finish-kept.ensures.lies)
     h

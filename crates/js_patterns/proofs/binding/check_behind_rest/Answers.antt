@@ -1,9 +1,11 @@
-use Rattle.std.proofs.Common.{◌≡◌, refl}
+use Rattle.std.proofs.Common.{◌≡◌, refl, ap}
 use Rattle.js_base.specs.declared.kind.Kind.TheVariants.{Comma}
 use Rattle.js_patterns.proofs.BehindRests.{comma_marked, comma_stops, comma_told, mark_later}
 use Rattle.js_parsing.proofs.Signs.{whole_sign}
 use Rattle.js_patterns.proofs.Lists.{none_yet}
 use Rattle.js_patterns.proofs.binding.check_behind_rest.Goals as goal
+use Rattle.js_base.specs.declared.diagnostic.Diagnostic.{Diagnostic}
+use Rattle.js_base.specs.Diagnostics.{class_of}
 
 pub returns-then-not-at : goal.returns-then-not-at
 returns-then-not-at g c = λ text f a ids. none_yet ids a
@@ -18,7 +20,7 @@ pub set_fatal_error-requires-clause-mark : goal.set_fatal_error-requires-clause-
 set_fatal_error-requires-clause-mark g c = mark_later (c.in_ok-advance.ensures _ _ c.requires.at).same c.requires.mark
 
 pub returns-then-not-at-2 : goal.returns-then-not-at-2
-returns-then-not-at-2 g c = λ text f a. comma_stops c.args.close a (c.at.ensures.0 c.if-not-at.false) c.requires.closes (c.in_ok-advance.ensures text f a) _ _ _ c.set_fatal_error.ensures
+returns-then-not-at-2 g c = λ text f a. comma_stops c.args.close a (c.at.ensures.0 c.if-not-at.false) c.requires.closes (c.in_ok-advance.ensures text f a) _ _ _ c.requires.ends c.set_fatal_error.ensures
 
 pub error-requires-clause-at : goal.error-requires-clause-at
 error-requires-clause-at g c = (c.in_ok-advance.ensures _ _ c.requires.at).at.at
@@ -27,4 +29,4 @@ pub error-requires-clause-mark : goal.error-requires-clause-mark
 error-requires-clause-mark g c = comma_marked c.args.close c.requires.at (c.at.ensures.0 c.if-not-at.false) c.requires.closes (c.in_ok-advance.ensures _ _ c.requires.at) _ c.diagnostic_at.ensures (let e : c.span-comma.result ≡ c.args.p.now.token.span = search in e) (c.at-2.ensures.0 c.if-not-at-2.false)
 
 pub returns : goal.returns
-returns g c = λ text f a ids. comma_told c.args.close a (c.at.ensures.0 c.if-not-at.false) c.requires.closes (c.in_ok-advance.ensures text f a) ids c.in_ok-error.ensures
+returns g c = λ text f a ids. comma_told c.args.close a (c.at.ensures.0 c.if-not-at.false) c.requires.closes (c.in_ok-advance.ensures text f a) ids c.in_ok-error.ensures (ap (λ (d : Diagnostic). class_of d.kind) c.diagnostic_at.ensures)

@@ -45,7 +45,7 @@ returns-in_err-expect_closing g c = λ text f a.
     let m = c.in_ok-advance.ensures text f a in
     let y = c.in_ok-elements.ensures text f m.at in
     let x = list_goes_on (pattern_opened a c.requires.open.0 m) y in
-    rw (p.1, p.2) (stops_behind _ _ x.same.follows (λ e. after x.verdict e) (λ n. unclosed_pattern a c.requires.open.0 x n) (pattern_unclosed _ _ _ _ x.at c.in_err-expect_closing.ensures (λ n. n)))
+    rw (p.1, p.2) (stops_behind _ _ x.same (λ e. after x.verdict e) (λ n. unclosed_pattern a c.requires.open.0 x n) (pattern_unclosed _ _ _ _ x.at c.in_err-expect_closing.ensures (λ n. n)))
 
 pub end_span-span-requires : goal.end_span-span-requires
 end_span-span-requires g c =

@@ -21,7 +21,7 @@ pub returns-in_err-binding : goal.returns-in_err-binding
 returns-in_err-binding g c = λ text f a.
     let p = err_from_is_err_and c.from_residual-in_err-binding.result c.from_residual-in_err-binding.ensures.1 in
     let m = c.in_ok-advance.ensures text f a in
-    rw (p.1, p.2) (stops_behind _ _ m.same.follows (λ g. grown_then m.kept g) (λ n. no_rest a c.requires.sign m n) (c.in_err-binding.ensures text f m.at))
+    rw (p.1, p.2) (stops_behind _ _ m.same (λ g. grown_then m.kept g) (λ n. no_rest a c.requires.sign m n) (c.in_err-binding.ensures text f m.at))
 
 pub end_span-span-requires : goal.end_span-span-requires
 end_span-span-requires g c =

@@ -46,7 +46,7 @@ returns-in_err-close_parentheses g c = λ text f a.
     let m = c.in_ok-advance.ensures text f a in
     let y = c.in_ok-parameters.ensures text f m.at in
     let x = list_goes_on (list_begins a c.requires.open m) y in
-    rw (p.1, p.2) (stops_behind _ _ x.same.follows (λ e. after x.verdict e) (λ n. unclosed_list a x n) (unclosed _ _ _ x.at c.in_err-close_parentheses.ensures (λ n. n)))
+    rw (p.1, p.2) (stops_behind _ _ x.same (λ e. after x.verdict e) (λ n. unclosed_list a x n) (unclosed _ _ _ x.at c.in_err-close_parentheses.ensures (λ n. n)))
 
 pub end_span-span-requires : goal.end_span-span-requires
 end_span-span-requires g c =

@@ -1,4 +1,4 @@
-use Rattle.std.proofs.Common.{◌∙◌, refl, arith}
+use Rattle.std.proofs.Common.{◌∙◌, refl, arith, sym, subst}
 use Rattle.std.proofs.lemmas.Bool.{false≢true}
 use Rattle.std.proofs.lemmas.Result.{err_from_is_err_and}
 use Rattle.js_base.specs.declared.diagnostic.DiagnosticKind.TheVariants.{RestParameterLast}
@@ -7,6 +7,7 @@ use Rattle.js_patterns.proofs.Lists.{more_stops, one_and_more}
 use Rattle.js_parsing.proofs.Moving.{standing}
 use Rattle.js_patterns.proofs.ParameterLists.{rest_stops, rest_taken}
 use Rattle.js_patterns.proofs.parameters.parse_last_parameter.Goals as goal
+use Rattle.js_parsing.specs.Classes.{EndsParse}
 
 pub returns-in_err-rest : goal.returns-in_err-rest
 returns-in_err-rest g c =
@@ -23,6 +24,9 @@ pub check_behind_rest-requires-clause-mark : goal.check_behind_rest-requires-cla
 check_behind_rest-requires-clause-mark g c =
     let x = (c.in_ok-rest.ensures _ _ c.requires.at).answer in
     rest_marked RestParameterLast _ c.diagnostic_at-misplaced.ensures (λ s y. (y, (refl, refl))) c.requires.at c.requires.sign x.at x.same x.further (c.end_span-span.ensures.start ∙ c.cur_start-start.ensures) c.end_span-span.ensures.end
+
+pub check_behind_rest-requires-clause-ends : goal.check_behind_rest-requires-clause-ends
+check_behind_rest-requires-clause-ends g c = subst EndsParse (sym c.diagnostic_at-misplaced.ensures) refl
 
 pub returns-in_err-check_behind_rest : goal.returns-in_err-check_behind_rest
 returns-in_err-check_behind_rest g c =

@@ -20,7 +20,7 @@ pub returns-in_err-end_statement : goal.returns-in_err-end_statement
 returns-in_err-end_statement t c = λ b text f a.
     let p = err_from_is_err_and c.from_residual-in_err-end_statement.result c.from_residual-in_err-end_statement.ensures.1 in
     let x = (c.in_ok-expression.ensures text f a).answer in
-    rw (p.1, p.2) (stops_behind _ _ x.same.follows (λ g. after x.verdict g) (λ m. statement_unended a c.requires.other (no_label a x (no_colon c.args.p.now c.parse_sequence_expression.new.p c.cur_token-first.ensures c.is_label.ensures c.if-is_label.false)) b x m) c.in_err-end_statement.ensures)
+    rw (p.1, p.2) (stops_behind _ _ x.same (λ g. after x.verdict g) (λ m. statement_unended a c.requires.other (no_label a x (no_colon c.args.p.now c.parse_sequence_expression.new.p c.cur_token-first.ensures c.is_label.ensures c.if-is_label.false)) b x m) c.in_err-end_statement.ensures)
 
 pub end_span-span-requires : goal.end_span-span-requires
 end_span-span-requires t c =

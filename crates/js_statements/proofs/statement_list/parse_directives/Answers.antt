@@ -20,7 +20,7 @@ pub returns-in_err-item : goal.returns-in_err-item
 returns-in_err-item t c =
     let p = err_from_is_err_and c.from_residual.result c.from_residual.ensures.1 in
     let s = c.directives.invariant in
-    rw (p.1, p.2) (at_any (λ (text : List ℕ) (f : Flags). Stops c.args.p.now c.parse_opening.new.p _ (NoList text (with_directives f) c.args.p.now.prev_token_end)) (stops_behind _ _ s.same.follows (λ g. after s.verdict g) (λ z. none_left s z) (c.in_err-item.ensures _ _ s.at)))
+    rw (p.1, p.2) (at_any (λ (text : List ℕ) (f : Flags). Stops c.args.p.now c.parse_opening.new.p _ (NoList text (with_directives f) c.args.p.now.prev_token_end)) (stops_behind _ _ s.same (λ g. after s.verdict g) (λ z. none_left s z) (c.in_err-item.ensures _ _ s.at)))
 
 pub returns-then-not-is_directive : goal.returns-then-not-is_directive
 returns-then-not-is_directive t c = let s = c.directives.invariant in at_any (λ (text : List ℕ) (f : Flags). Taken text f (with_directives f) (statements f) c.args.p.now c.parse_opening.new.p c.push.new.self.items) (one_taken_more s (opened_statement _ c.if-not-is_directive.true c.in_ok-item.ensures _ _ s.at) c.in_ok-push.ensures.items)

@@ -18,7 +18,7 @@ pub returns-in_err-statement : goal.returns-in_err-statement
 returns-in_err-statement t c =
     let p = err_from_is_err_and c.from_residual-in_err-statement.result c.from_residual-in_err-statement.ensures.1 in
     let s = c.statements.invariant in
-    rw (p.1, p.2) (at_any (λ (text : List ℕ) (f : Flags). Stops c.args.p.now c.parse_statement_list_item.new.p _ (NoList text (with_directives f) c.args.p.now.prev_token_end)) (stops_behind _ _ s.same.follows (λ g. after s.verdict g) (λ z. none_left s (no_statement_here s.at (λ e. false≢true (sym c.statements-test.true ∙ (c.at_last.ensures ∙ ap is_last e))) z)) (c.in_err-statement.ensures _ _ s.at)))
+    rw (p.1, p.2) (at_any (λ (text : List ℕ) (f : Flags). Stops c.args.p.now c.parse_statement_list_item.new.p _ (NoList text (with_directives f) c.args.p.now.prev_token_end)) (stops_behind _ _ s.same (λ g. after s.verdict g) (λ z. none_left s (no_statement_here s.at (λ e. false≢true (sym c.statements-test.true ∙ (c.at_last.ensures ∙ ap is_last e))) z)) (c.in_err-statement.ensures _ _ s.at)))
 
 pub statements-smaller : goal.statements-smaller
 statements-smaller t c = let s = c.statements.invariant in smaller_room s.at (statement_taken s.at (λ e. false≢true (sym c.statements-test.true ∙ (c.at_last.ensures ∙ ap is_last e))) (c.in_ok-statement.ensures _ _ s.at))

@@ -15,7 +15,7 @@ end_statement-requires t c = standing (c.in_ok-expression.ensures _ _ c.requires
 pub returns-in_err-end_statement : goal.returns-in_err-end_statement
 returns-in_err-end_statement t c =
     let p = err_from_is_err_and c.from_residual-in_err-end_statement.result c.from_residual-in_err-end_statement.ensures.1 in
-    rw (p.1, p.2) (λ text f a. let x = (c.in_ok-expression.ensures text f a).answer in stops_behind _ _ x.same.follows (λ g. after x.verdict g) (λ m. opening_unended a c.requires.string x m) c.in_err-end_statement.ensures)
+    rw (p.1, p.2) (λ text f a. let x = (c.in_ok-expression.ensures text f a).answer in stops_behind _ _ x.same (λ g. after x.verdict g) (λ m. opening_unended a c.requires.string x m) c.in_err-end_statement.ensures)
 
 pub end_span-span-requires : goal.end_span-span-requires
 end_span-span-requires t c =

@@ -17,7 +17,7 @@ pub returns-in_err-end_statement : goal.returns-in_err-end_statement
 returns-in_err-end_statement g c = λ b text f a.
     let p = err_from_is_err_and c.from_residual-in_err-end_statement.result c.from_residual-in_err-end_statement.ensures.1 in
     let m = c.in_ok-advance.ensures text f a in
-    rw (p.1, p.2) (stops_behind _ _ m.same.follows (λ k. grown_then m.kept k) (λ n. debugger_unended a c.requires.word m b n) c.in_err-end_statement.ensures)
+    rw (p.1, p.2) (stops_behind _ _ m.same (λ k. grown_then m.kept k) (λ n. debugger_unended a c.requires.word m b n) c.in_err-end_statement.ensures)
 
 pub end_span-span-requires : goal.end_span-span-requires
 end_span-span-requires g c =

@@ -23,7 +23,7 @@ pub returns-in_err-end_statement : goal.returns-in_err-end_statement
 returns-in_err-end_statement g c = λ b text f a.
     let p = err_from_is_err_and c.from_residual-in_err-end_statement.result c.from_residual-in_err-end_statement.ensures.1 in
     let m = c.in_ok-advance.ensures text f a in
-    rw (p.1, p.2) (stops_behind _ _ (jump_follows a c.requires.word m c.in_ok-label.ensures).follows (λ k. jump_grown a c.requires.word m c.in_ok-label.ensures k) (λ n. jump_unended a c.requires.word m c.in_ok-label.ensures b n) c.in_err-end_statement.ensures)
+    rw (p.1, p.2) (stops_behind _ _ (jump_follows a c.requires.word m c.in_ok-label.ensures) (λ k. jump_grown a c.requires.word m c.in_ok-label.ensures k) (λ n. jump_unended a c.requires.word m c.in_ok-label.ensures b n) c.in_err-end_statement.ensures)
 
 pub end_span-span-requires : goal.end_span-span-requires
 end_span-span-requires g c =

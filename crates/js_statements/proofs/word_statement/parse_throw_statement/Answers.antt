@@ -32,7 +32,7 @@ returns-in_err-operand g c = λ b text f a.
     let p = err_from_is_err_and c.from_residual-in_err-operand.result c.from_residual-in_err-operand.ensures.1 in
     let m = c.in_ok-advance.ensures text f a in
     let k = c.in_ok-check_operand.ensures in
-    rw (p.1, p.2) (stops_behind _ _ (throw_same a c.requires.word m k).follows (λ d. throw_grown a c.requires.word m k d) (λ n. throw_no_operand a c.requires.word m k b n) (c.in_err-operand.ensures text f (checked_at m.at k)))
+    rw (p.1, p.2) (stops_behind _ _ (throw_same a c.requires.word m k) (λ d. throw_grown a c.requires.word m k d) (λ n. throw_no_operand a c.requires.word m k b n) (c.in_err-operand.ensures text f (checked_at m.at k)))
 
 pub end_statement-requires : goal.end_statement-requires
 end_statement-requires g c = standing (c.in_ok-operand.ensures _ _ (checked_at (c.in_ok-advance.ensures _ _ c.requires.at).at c.in_ok-check_operand.ensures)).answer.at
@@ -43,7 +43,7 @@ returns-in_err-end_statement g c = λ b text f a.
     let m = c.in_ok-advance.ensures text f a in
     let k = c.in_ok-check_operand.ensures in
     let x = c.in_ok-operand.ensures text f (checked_at m.at k) in
-    rw (p.1, p.2) (stops_behind _ _ (throw_same a c.requires.word m k).follows (λ d. throw_grown a c.requires.word m k d) (λ n. n) (stops_behind _ _ x.answer.same.follows (λ d. after x.answer.verdict d) (λ n. throw_unended a c.requires.word m k x b n) c.in_err-end_statement.ensures))
+    rw (p.1, p.2) (stops_behind _ _ (throw_same a c.requires.word m k) (λ d. throw_grown a c.requires.word m k d) (λ n. n) (stops_behind _ _ x.answer.same (λ d. after x.answer.verdict d) (λ n. throw_unended a c.requires.word m k x b n) c.in_err-end_statement.ensures))
 
 pub end_span-span-requires : goal.end_span-span-requires
 end_span-span-requires g c =

@@ -20,7 +20,7 @@ refuse_literal-requires-clause-marked g c = λ n.
 pub returns-in_default : goal.returns-in_default
 returns-in_default g c = λ text f first a s k x h.
     let v = subst (λ (found : Option NodeId). ArrayAnswer c.args.p.now.nodes c.convert.new.p.nodes c.args.id unnoted (noted_in c.convert.new.notes) found) c.in_default.is (subst (λ (xs : List Widening). ArrayAnswer c.args.p.now.nodes c.convert.new.p.nodes c.args.id (record { places = xs; misplaced = None }) (noted_in c.convert.new.notes) c.in_ok-target.field-0) c.new.ensures.items c.in_ok-target.ensures.found) in
-    array_refusal a x c.requires.whole c.requires.equals h c.in_ok-target.ensures.stays v c.refuse_literal.new.p c.args.kept c.refuse_literal.result k c.refuse_literal.ensures
+    array_refusal a x c.requires.whole c.requires.equals h c.in_ok-target.ensures.stays v c.refuse_literal.new.p c.refuse_literal.result c.refuse_literal.ensures
 
 pub tell_places-requires-clause-fits : goal.tell_places-requires-clause-fits
 tell_places-requires-clause-fits g c =
