@@ -1,5 +1,5 @@
 -- Arrow functions (ECMA-262, 15.3), and where none is derived.
-use Rattle.std.proofs.Common.{ℕ, ◌≡◌, ◌≤◌, ◌<◌, ◌⊎◌, inl, inr, max, List, [], ◌∷◌, length, Bool, true, false, not, cond, ◌&&◌, ◌||◌, IsTrue, Option, Some, None, refl, sym, ap, subst, arith, ◌∙◌}
+use Rattle.std.proofs.Common.{ℕ, ◌≡◌, ◌<◌, ◌⊎◌, inl, inr, List, [], ◌∷◌, length, Bool, true, false, not, ◌&&◌, ◌||◌, IsTrue, Option, Some, None, refl, sym, ap, subst, arith, ◌∙◌}
 use Rattle.std.specs.Prelude.{IsCharBoundary, Result, Ok, Err}
 use Rattle.std.proofs.lemmas.Bool.{false≢true, and_parts, and_from, or_left, or_right}
 use Rattle.js_base.specs.declared.kind.Kind.{Kind}
@@ -8,20 +8,20 @@ use Rattle.js_base.specs.declared.span.Span.{Span}
 use Rattle.js_base.specs.Kinds.{same_kind, one_of_kinds}
 use Rattle.js_base.specs.Texts.{words}
 use Rattle.js_base.proofs.KindLemmas.{kind_of_same}
-use Rattle.js_grammar.specs.Trees.{Span as TreeSpan, Label, Slots, end, tree, Tree, no_op, arrow_function_expression}
-use Rattle.js_grammar.specs.Grammar.{Lexeme, Lexemes, Look, last, next, here, seen, is, such, nothing, exact, Make, node, seq, alt, look, lexeme, Takes, ◌▸◌, ◌◇◌, is_nothing, is_seq, is_lexeme, is_look, is_such, is_left, is_right, is_node, is_empty_slot}
+use Rattle.js_grammar.specs.Trees.{Span as TreeSpan, Label, Slots, end, tree, no_op, arrow_function_expression}
+use Rattle.js_grammar.specs.Grammar.{Lexeme, Lexemes, Look, last, next, here, seen, is, such, nothing, exact, Make, node, lexeme, Takes, ◌▸◌, ◌◇◌, is_nothing, is_seq, is_lexeme, is_look, is_such, is_left, is_right, is_node, is_empty_slot}
 use Rattle.js_grammar.specs.Brackets.{bracket, move}
 use Rattle.js_grammar.specs.Insertion.{may_bind, Row, after_expression, after_postfix, after_body, after_yield, after_declarator, after_word}
 use Rattle.js_grammar.specs.Lexed.{Lexes}
-use Rattle.js_grammar.specs.Parsing.{Test, plain, full, always, Admits, Goes, Fails, still, passing}
-use Rattle.js_grammar.specs.Productions.{G, Flags, Symbol, at, tok, mk, make, other, if_next, no_newline, Arrow', Assignment, Body, Params, Short}
+use Rattle.js_grammar.specs.Parsing.{Test, plain, full, always, Admits, Goes, Fails, still}
+use Rattle.js_grammar.specs.Productions.{G, Flags, Symbol, at, tok, mk, other, if_next, no_newline, Arrow', Assignment, Body, Params, Short}
 use Rattle.js_grammar.specs.Productions.{sym as symbol}
 use Rattle.js_grammar.specs.Table.{rule, rule_of}
-use Rattle.js_grammar.specs.Follow.{edge_of, row_of, first_edge, follow, after, looser, widest}
+use Rattle.js_grammar.specs.Follow.{after, looser, widest}
 use Rattle.js_grammar.proofs.Heads.{One, the_last, and_more, begins_head, operand_taken, in_one, one_name}
 use Rattle.js_grammar.proofs.Looks.{covers, covered, apart, not_both}
 use Rattle.js_grammar.proofs.RightEdges.{of_operand, first_row}
-use Rattle.js_grammar.proofs.Calculus.{On, Inside, inside_full, ◌▹◌, ◌▹✗◌, here_at, done, left, right, looks, then_by, part_fails, fails_node, fails_look, fails_lexeme}
+use Rattle.js_grammar.proofs.Calculus.{On, Inside, inside_full, ◌▹◌, ◌▹✗◌, here_at, done, left, right, looks, part_fails, fails_node, fails_look}
 use Rattle.js_grammar.proofs.FollowLaws.{row_claimed, fails_by}
 use Rattle.js_base.specs.declared.token.Token.{Token}
 use Rattle.js_grammar.specs.Grammar.{empty_slot}
@@ -29,7 +29,7 @@ use Rattle.js_grammar.specs.Lexemes.{is_word, division}
 use Rattle.js_grammar.specs.Productions.{BindingIdentifier}
 use Rattle.js_base.specs.declared.kind.Kind.TheVariants.{PrivateIdentifier}
 use Rattle.js_grammar.specs.Trees.{NodeKind, hole, formal_parameters, formal_parameter, binding_identifier}
-use Rattle.js_grammar.proofs.Calculus.{fails_alt, fails_rule, weaken_fails_on, reads_empty_slot}
+use Rattle.js_grammar.proofs.Calculus.{fails_rule, weaken_fails_on, reads_empty_slot}
 use Rattle.js_grammar.proofs.FollowLaws.{same_read}
 use Rattle.js_lex.specs.Reading.{cut, is_right_angle, GivesLexeme, GivesNone, LexemeBehind, Outcome as Given}
 use Rattle.js_lex.proofs.Again.{cut_same}
@@ -61,7 +61,7 @@ use Rattle.js_cursor.proofs.Later.{keeps_follows}
 use Rattle.js_parsing.specs.Answers.{Underived, Answer, Answers, Numbered, Outcome, Refuses, Stretch, Stops, Grown, Verdict, clean, unclean}
 use Rattle.js_cursor.specs.Notes.{Notes}
 use Rattle.js_parsing.specs.Contexts.{arrow_body}
-use Rattle.js_expressions.specs.Arrows.{head_of, late_arrow, ArrowBehind, BeforeArrow, a_head, told_head, ToldHead, ChecksLine, FindsHead, Head, LooksForHead, IsHead, IsHeadHere, IsRefusedHead, NoArrowHere, NoHeadHere, Single, Unmoved, refused, NoneLooked}
+use Rattle.js_expressions.specs.Arrows.{head_of, late_arrow, ArrowBehind, BeforeArrow, a_head, told_head, ToldHead, ChecksLine, FindsHead, Head, LooksForHead, IsHead, IsHeadHere, IsRefusedHead, NoArrowHere, Single, Unmoved, refused, NoneLooked}
 use Rattle.js_parsing.specs.Heads.{NoHead, NotedHeads}
 use Rattle.js_expressions.specs.Closings.{ArrowBehindOne}
 use Rattle.js_expressions.proofs.Closings.{closes_alike, one_is}

@@ -1,7 +1,6 @@
 -- What array literals are converted to, node by node (ECMA-262, 13.15.5).
-use Rattle.std.proofs.Common.{ℕ, ◌≡◌, ◌<◌, ◌≤◌, ◌⊎◌, inl, inr, zero, suc, ◌+◌, nat_eq, Bool, true, false, cond, ◌||◌, List, [], ◌∷◌, ◌++◌, length, drop, Option, Some, None, refl, sym, ap, subst, arith, ◌∙◌, append-nil, append_assoc}
-use Rattle.std.specs.Prelude.{get_or, slice_get, Result, Ok, Err, IfOk}
-use Rattle.std.specs.Option.{option_map}
+use Rattle.std.proofs.Common.{ℕ, ◌≡◌, ◌<◌, ◌≤◌, inl, inr, zero, suc, ◌+◌, nat_eq, Bool, true, false, cond, ◌||◌, List, [], ◌∷◌, ◌++◌, length, drop, Option, Some, None, refl, sym, ap, subst, arith, ◌∙◌, append-nil, append_assoc}
+use Rattle.std.specs.Prelude.{slice_get, Result, Ok, Err, IfOk}
 use Rattle.std.proofs.Math.Seq.{drop-cons}
 use Rattle.std.proofs.lemmas.Bool.{false≢true, or_left, or_right, eqb-true, eq-eqb}
 use Rattle.std.proofs.lemmas.List.{get_or_append_left}
@@ -14,7 +13,7 @@ use Rattle.js_tree.specs.declared.op.Op.TheVariants as op
 use Rattle.js_tree.specs.Labels.{kind_of}
 use Rattle.js_tree.specs.Nodes.{Node, label, node_at, empty_program}
 use Rattle.js_tree.specs.Holding.{Stands, StandsAll, no_slots, next_child, next_hole, AreDistinct, AreWithin, Holds, Keeps}
-use Rattle.js_tree.proofs.HoldingLemmas.{Stands-kept, StandsAll-within, Stands-within, Keeps-refl, Keeps-trans, Keeps-made, Keeps-longer, AreWithin-wider, StandsAll-wider}
+use Rattle.js_tree.proofs.HoldingLemmas.{Stands-kept, Stands-within, Keeps-refl, Keeps-trans, Keeps-made, Keeps-longer, AreWithin-wider, StandsAll-wider}
 use Rattle.js_parsing.specs.Moves.{plain_label}
 use Rattle.js_targets.specs.Targets.{is_parens, is_elision, is_spread, is_assignment, is_equals, is_wide, operator_places, is_array, is_target, is_array_target, target_of, target_in, Stood, Only, relabelled, array_tree, target_by, slot_of, rest_slot, element_slot, are_none, followed, before_all, elements_in, places_of, places_in, made_span, Noted, unnoted, Blames, IsIn, Slotted, Converts, Refuses, Converted, converts, refuses, one_slot, one_node, OfNode, Noded}
 use Rattle.js_targets.specs.declared.widening.Widening.{Widening}

@@ -1,19 +1,19 @@
 -- What is told of places where an array literal is wider than a target (ECMA-262, 13.15.5).
-use Rattle.std.proofs.Common.{ℕ, ◌≡◌, ◌≤◌, ◌+◌, ◌⊎◌, inl, inr, Bool, true, false, not, ◌&&◌, ◌||◌, IsTrue, List, [], ◌∷◌, ◌++◌, length, drop, zero, suc, None, refl, sym, ap, subst, arith, ◌∙◌}
-use Rattle.std.specs.Prelude.{IsCharBoundary, IsUtf8, get_or, slice_get, Some}
+use Rattle.std.proofs.Common.{ℕ, ◌≡◌, ◌≤◌, ◌+◌, ◌⊎◌, inl, inr, Bool, true, false, not, ◌||◌, List, [], ◌∷◌, ◌++◌, length, drop, zero, suc, None, refl, sym, ap, subst, arith, ◌∙◌}
+use Rattle.std.specs.Prelude.{IsCharBoundary, IsUtf8, slice_get, Some}
 use Rattle.std.proofs.Math.Seq.{drop-cons}
 use Rattle.std.proofs.lemmas.Option.{slice_get_within, get_or_from_slice_get}
-use Rattle.std.proofs.lemmas.Bool.{false≢true, and_from}
+use Rattle.std.proofs.lemmas.Bool.{and_from}
 use Rattle.js_base.specs.declared.diagnostic.Diagnostic.{Diagnostic}
 use Rattle.js_base.specs.declared.diagnostic.DiagnosticKind.TheVariants.{RestElementTrailingComma, InvalidAssignmentTargetDefaultValueOperator, SpreadLastElement}
 use Rattle.js_base.specs.declared.kind.Kind.{Kind}
-use Rattle.js_base.specs.declared.kind.Kind.TheVariants.{Comma, Dot3, LBrack, RBrack, RParen, RCurly, RAngle, Undetermined, PrivateIdentifier}
+use Rattle.js_base.specs.declared.kind.Kind.TheVariants.{Comma, Dot3, RBrack, RParen, RCurly, RAngle, Undetermined, PrivateIdentifier}
 use Rattle.js_base.specs.declared.span.Span.{Span}
 use Rattle.js_base.specs.declared.token.Token.{Token}
 use Rattle.js_base.specs.Kinds.{same_kind, one_of_kinds}
 use Rattle.js_base.specs.Texts.{words}
 use Rattle.js_base.proofs.KindLemmas.{kind_of_same}
-use Rattle.js_grammar.specs.Grammar.{Lexeme, last, next}
+use Rattle.js_grammar.specs.Grammar.{Lexeme, next}
 use Rattle.js_grammar.specs.Lexemes.{division, is_word, is_escaped}
 use Rattle.js_grammar.specs.Marks.{Mark, a_lexeme, the_start, the_end}
 use Rattle.js_parsing.specs.Told.{unrelated_at}
@@ -21,7 +21,6 @@ use Rattle.js_grammar.specs.Productions.{Flags}
 use Rattle.js_grammar.specs.Settings.{Goal}
 use Rattle.js_lex.specs.Reading.{cut, is_right_angle, Tells, GivesLexeme, GivesNone, GivesBehind, Outcome}
 use Rattle.js_lex.proofs.Again.{cut_same}
-use Rattle.js_cursor.specs.Moves.{Keeps}
 use Rattle.js_cursor.specs.Parsers.{Parser}
 use Rattle.js_cursor.specs.Places.{goal}
 use Rattle.js_parsing.specs.Answers.{Grown, Verdict, clean, unclean}
@@ -207,7 +206,7 @@ module _ {places : List Widening} {old mid : Parser} {from : ℕ} {place : Widen
   places_next {new} w (inr t) = record {
     within = w;
     at = λ text f a. told_at t.1.2 (z.at text f a);
-    same = same_both z.same (told_same t.1.2 (told_early w t.1.0 t.1.1));
+    same = same_both z.same (told_same t.1.2 (told_early place t.1.0 t.1.1));
     is = t.1.2.is ∙ ap (λ (p : Parser). record p { errors = mid.errors ++ t.1.0 ∷ [] }) z.is ∙ ap (λ (ds : List Diagnostic). record old { errors = ds }) (sym (ap (λ (p : Parser). p.errors) t.1.2.is));
     drops = λ h. (narrows h).1;
     verdict = unclean (grown z.verdict) (λ h. wide_place t.0 (narrows h).0);

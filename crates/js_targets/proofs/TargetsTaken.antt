@@ -1,15 +1,14 @@
 -- An array literal before `=`, as it was converted to a target (ECMA-262, 13.15.5).
-use Rattle.std.proofs.Common.{ℕ, ◌≡◌, ◌≤◌, ◌<◌, ◌⊎◌, inl, inr, List, [], ◌∷◌, ◌++◌, length, Bool, true, false, not, ◌&&◌, ◌||◌, IsTrue, Option, Some, None, refl, sym, ap, subst, arith, ◌∙◌, append-nil}
+use Rattle.std.proofs.Common.{ℕ, ◌≡◌, ◌≤◌, ◌<◌, ◌⊎◌, inl, inr, List, [], ◌∷◌, length, true, false, not, IsTrue, Option, Some, None, refl, sym, ap, subst, arith, ◌∙◌, append-nil}
 use Rattle.std.specs.Prelude.{IsCharBoundary, IsUtf8}
-use Rattle.std.proofs.lemmas.Bool.{false≢true, and_from}
+use Rattle.std.proofs.lemmas.Bool.{and_from}
 use Rattle.js_base.specs.declared.diagnostic.Diagnostic.{Diagnostic}
 use Rattle.js_base.specs.declared.kind.Kind.{Kind}
 use Rattle.js_base.specs.declared.kind.Kind.TheVariants.{Eq}
 use Rattle.js_base.specs.declared.span.Span.{Span}
-use Rattle.js_base.specs.declared.token.Token.{Token}
 use Rattle.js_base.specs.Kinds.{one_of_kinds}
 use Rattle.js_grammar.specs.Trees.{Label, Slots, end, tree, Tree, array_assignment_target}
-use Rattle.js_grammar.specs.Grammar.{Lexeme, Lexemes, last, seen, such, nothing, Derives}
+use Rattle.js_grammar.specs.Grammar.{Lexeme, last, seen, such, nothing, Derives}
 use Rattle.js_grammar.specs.Insertion.{Row, after_expression, assign_operators}
 use Rattle.js_grammar.specs.Lexemes.{is_escaped}
 use Rattle.js_grammar.specs.LexicalFaults.{Reached}
@@ -32,7 +31,7 @@ use Rattle.js_targets.specs.Taken.{PlacesTold, TargetTaken, no_target_at, refusa
 use Rattle.js_parsing.specs.States.{At, Same, NodesLie}
 use Rattle.js_targets.specs.declared.widening.Widening.{Widening}
 use Rattle.js_targets.specs.declared.widening.Widening.TheVariants.{Rest}
-use Rattle.js_targets.specs.Targets.{Each, IsIn, Narrow, Fits, Spotted, Noted, unnoted, Blames, Reused, Slotted, Converts, Converted, converts, refuses, is_array, relabelled, array_tree, slot_of, elements_in, places_in, target_of, Open, Ended, rests_in}
+use Rattle.js_targets.specs.Targets.{Each, IsIn, Narrow, Fits, Spotted, Noted, unnoted, Blames, Reused, Slotted, Converts, Converted, converts, refuses, is_array, relabelled, array_tree, slot_of, elements_in, places_in, target_of}
 use Rattle.js_base.specs.declared.diagnostic.DiagnosticKind.TheVariants.{SpreadLastElement}
 use Rattle.js_parsing.specs.Told.{unrelated_at}
 use Rattle.js_targets.proofs.LiteralsAsTargets.{one_of_each}
