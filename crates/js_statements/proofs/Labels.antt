@@ -17,7 +17,7 @@ use Rattle.js_grammar.specs.Table.{rule, rule_of}
 use Rattle.js_grammar.specs.Follow.{row_of, edge_of, follow, after, looser, widest}
 use Rattle.js_grammar.specs.Insertion.{after_expression, goes_on}
 use Rattle.js_grammar.proofs.Looks.{covers, covered, apart}
-use Rattle.js_grammar.proofs.Calculus.{On, Inside, ends, ◌▹◌, ◌▹✗◌, left, right, then_by, part_fails, fails_node, fails_rule, reads_lexeme, weaken_on, weaken_fails_on}
+use Rattle.js_grammar.proofs.Calculus.{On, Inside, ends, ◌▹◌, ◌▹✗◌, left, then_by, part_fails, fails_node, fails_rule, reads_lexeme, weaken_on, weaken_fails_on}
 use Rattle.js_grammar.proofs.FollowLaws.{admits}
 use Rattle.js_tree.specs.declared.id.NodeId.{NodeId}
 use Rattle.js_tree.specs.declared.kind.NodeKind.TheVariants as node

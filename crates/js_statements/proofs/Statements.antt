@@ -14,18 +14,18 @@ use Rattle.js_base.proofs.KindLemmas.{kind_of_same}
 use Rattle.js_base.specs.Texts.{words}
 use Rattle.js_grammar.specs.Words.{'let', 'async', 'function', 'class'}
 use Rattle.js_grammar.specs.Trees.{Label, Slots, end, tree, no_op, empty_statement, expression_statement, label_identifier}
-use Rattle.js_grammar.specs.Grammar.{Lexeme, Lexemes, Look, here, seen, is, may_omit, lexeme, look, ahead, seq, alt, ended, semicolon, nothing, such, next, label_of, ◌▸◌, Takes, is_seq, is_lexeme, is_such, is_node}
+use Rattle.js_grammar.specs.Grammar.{Lexeme, Lexemes, Look, here, seen, is, may_omit, alt, ended, semicolon, nothing, such, next, label_of, ◌▸◌, Takes, is_seq, is_lexeme, is_such, is_node}
 use Rattle.js_grammar.specs.Insertion.{Row, after_expression, may_bind, goes_on, by_edge}
 use Rattle.js_grammar.specs.Lexed.{Lexes}
 use Rattle.js_grammar.specs.Lexemes.{is_escaped}
-use Rattle.js_grammar.specs.Parsing.{Test, plain, behind, full, always, still, Admits, Goes, Reads, Fails}
+use Rattle.js_grammar.specs.Parsing.{Test, plain, behind, full, always, still, Admits, Goes, Fails}
 use Rattle.js_grammar.specs.Productions.{G, Flags, Symbol, at, other, if_next, not_then, is_one_of, word_or, function_on_line, tok, ListItem, Break, Continue, Debugger, Empty, ExprStmt, Expression, Labeled, LabelIdentifier, Sub, Throw}
 use Rattle.js_grammar.specs.Productions.{Statement as AStatement}
 use Rattle.js_grammar.specs.Productions.{sym as symbol}
 use Rattle.js_grammar.specs.Table.{rule, rule_of, identifier}
 use Rattle.js_grammar.specs.Follow.{row_of, looser, after}
 use Rattle.js_grammar.proofs.Looks.{covers, covered, apart, not_both}
-use Rattle.js_grammar.proofs.Calculus.{◌▹◌, ◌▹✗◌, left, right, looks, then_by, ends_by, by_omission, closes, fails_ended, fails_semicolon, fails_rule, fails_node, fails_alt, inside_plain, ends}
+use Rattle.js_grammar.proofs.Calculus.{◌▹◌, ◌▹✗◌, right, ends_by, by_omission, closes, fails_ended, fails_semicolon, fails_rule, fails_node, fails_alt, inside_plain, ends}
 use Rattle.js_grammar.proofs.FollowLaws.{admits, expression_ended}
 use Rattle.js_grammar.proofs.RightEdges.{at_row}
 use Rattle.js_grammar.proofs.First.{starts}

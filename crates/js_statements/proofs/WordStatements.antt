@@ -1,6 +1,6 @@
 -- Statements that begin with a word and end with a semicolon (ECMA-262, 14.8, 14.9, 14.14, 14.16).
-use Rattle.std.proofs.Common.{ℕ, ◌≡◌, ◌<◌, ◌⊎◌, inl, inr, List, [], ◌∷◌, length, Option, Some, None, Bool, true, false, not, ◌&&◌, IsTrue, refl, sym, ap, subst, arith, ◌∙◌}
-use Rattle.std.specs.Prelude.{Result, Ok, Err}
+use Rattle.std.proofs.Common.{ℕ, ◌≡◌, ◌<◌, inl, inr, List, [], ◌∷◌, length, Option, Some, None, Bool, true, false, not, ◌&&◌, IsTrue, refl, sym, ap, subst, arith, ◌∙◌}
+use Rattle.std.specs.Prelude.{Ok, Err}
 use Rattle.std.proofs.lemmas.Bool.{false≢true, and_from, and_parts}
 use Rattle.js_base.specs.declared.diagnostic.Diagnostic.{Diagnostic}
 use Rattle.js_base.specs.declared.kind.Kind.{Kind}
@@ -38,7 +38,7 @@ use Rattle.js_cursor.specs.Parsers.{Parser}
 use Rattle.js_cursor.specs.Places.{goal}
 use Rattle.js_cursor.specs.declared.stop.Stop.{Stop}
 use Rattle.js_cursor.specs.declared.stop.Stop.TheVariants.{Fatal, NoMemory}
-use Rattle.js_parsing.specs.Answers.{Grown, Underived, Answer, Numbered, Stops, Verdict, clean, unclean}
+use Rattle.js_parsing.specs.Answers.{Grown, Underived, Numbered, Stops, unclean}
 use Rattle.js_parsing.specs.Lexemes.{Lex, Walked, read_kinds, read_word, nowhere, spot}
 use Rattle.js_parsing.specs.Stands.{StandsHere}
 use Rattle.js_parsing.specs.Moves.{IsWholeHere, LeafTaken, Moved, MadeHere, plain_label}
@@ -46,7 +46,7 @@ use Rattle.js_parsing.specs.States.{At, Same}
 use Rattle.js_parsing.specs.Statements.{placed, no_link, after_statement, NoStatement, Statement, EndsStatement, NoEnd}
 use Rattle.js_statements.specs.WordStatements.{ChecksOperand, JumpsHere, TakesLabel, late_operand}
 use Rattle.js_parsing.proofs.Giving.{gives_up, kept_one, fails_escaped}
-use Rattle.js_parsing.proofs.Here.{found, kind_here, newline_here, uncut}
+use Rattle.js_parsing.proofs.Here.{found, newline_here, uncut}
 use Rattle.js_statements.proofs.Labels.{path_made}
 use Rattle.js_operands.proofs.Members.{word_whole}
 use Rattle.js_parsing.proofs.MadeNodes.{leaf_held, node_held, one_held}
@@ -56,7 +56,7 @@ use Rattle.js_parsing.proofs.Paths.{Path, ◌⟼◌, ◌⟶◌, ◌⟶✗◌, at
 use Rattle.js_statements.proofs.Statements.{◌⟝◌, by_statement, by_such_statement, closes_or_line, either_of, end_path, ended_so, expression_path, no_close, no_semicolon, none_of_one, no_symbol, omits_at_end, omitted_so, semicolon_closes, semicolon_look, semicolon_path, to_semicolon_of, unended, whole_semicolon}
 use Rattle.js_parsing.proofs.Ahead.{pass_over}
 use Rattle.js_parsing.proofs.Told.{told_at, told_same}
-use Rattle.js_parsing.proofs.Verdicts.{after as grown_behind, either_way, grown_both, grown_first, grown_on, grown_then, verdict_of}
+use Rattle.js_parsing.proofs.Verdicts.{after as grown_behind, grown_both, grown_first, grown_on, grown_then, verdict_of}
 
 -- ---- a statement of one nonterminal alone
 
