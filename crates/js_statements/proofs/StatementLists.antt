@@ -3,8 +3,7 @@ use Rattle.js_parsing.proofs.MadeNodes.{held_label, one_lies, LabelLies, from_st
 use Rattle.std.proofs.Common.{ℕ, ◌≡◌, ◌<◌, max, List, [], ◌∷◌, ◌++◌, length, Bool, true, false, not, ◌&&◌, cond, IsTrue, Option, Some, refl, sym, ap, subst, arith, ◌∙◌}
 use Rattle.std.specs.Prelude.{◌↔◌}
 use Rattle.std.proofs.lemmas.Bool.{false≢true, and_parts, and_from}
-use Rattle.js_base.specs.declared.kind.Kind.TheVariants.{Eof, Ident, Semicolon, Str}
-use Rattle.js_base.specs.declared.kind.Kind.{Kind}
+use Rattle.js_base.specs.declared.kind.Kind.TheVariants.{Eof, Ident, Str}
 use Rattle.js_base.specs.declared.span.Span.{Span}
 use Rattle.js_base.specs.Contexts.{has_flag, in_flag}
 use Rattle.js_base.specs.Kinds.{one_of_kinds}
@@ -30,7 +29,7 @@ use Rattle.js_tree.specs.declared.kind.NodeKind.TheVariants as node
 use Rattle.js_tree.specs.declared.op.Op.TheVariants as op
 use Rattle.js_tree.specs.Labels.{kind_of}
 use Rattle.js_tree.specs.Nodes.{Node, node_at, label}
-use Rattle.js_tree.specs.Holding.{stands, Holds, HoldsAll, Keeps}
+use Rattle.js_tree.specs.Holding.{Holds, HoldsAll, Keeps}
 use Rattle.js_tree.proofs.HoldingLemmas.{HoldsAll-none, HoldsAll-next, Holds-below, Keeps-refl, Keeps-trans, Keeps-made}
 use Rattle.js_cursor.specs.Parsers.{Parser}
 use Rattle.js_parsing.specs.Lexemes.{Lex, nowhere}
@@ -44,7 +43,7 @@ use Rattle.js_parsing.proofs.Verdicts.{verdict_of, either_way, and_then}
 use Rattle.js_parsing.proofs.Moving.{same_both, same_itself, same_with, beside_nodes}
 use Rattle.js_parsing.proofs.Dead.{fails_dead}
 use Rattle.js_parsing.proofs.MadeNodes.{one_held}
-use Rattle.js_parsing.proofs.Paths.{Path, ◌⟶◌, ◌⟶✗◌, not_here, fails_at, noded_by, by_symbol_as, label_here, walked_both}
+use Rattle.js_parsing.proofs.Paths.{Path, ◌⟶✗◌, not_here, fails_at, noded_by, by_symbol_as, label_here, walked_both}
 use Rattle.js_statements.proofs.Statements.{none_of_one, to_semicolon, end_path, unended, statement_path, statement_fails, statement_unended, ended_so, no_label_at}
 use Rattle.js_statements.proofs.Strings.{is_literal, string_first, string_alone, string_expression, first_is_string, stated, string_statement, other_statement}
 

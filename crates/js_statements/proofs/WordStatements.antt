@@ -1,5 +1,5 @@
 -- Statements that begin with a word and end with a semicolon (ECMA-262, 14.8, 14.9, 14.14, 14.16).
-use Rattle.std.proofs.Common.{ℕ, ◌≡◌, inl, inr, List, [], ◌∷◌, length, Option, Some, None, Bool, true, false, not, ◌&&◌, IsTrue, refl, sym, ap, subst, arith, ◌∙◌}
+use Rattle.std.proofs.Common.{ℕ, ◌≡◌, inl, inr, List, [], ◌∷◌, length, Option, Some, None, Bool, true, false, not, ◌&&◌, IsTrue, refl, sym, ap, subst, arith, ◌∙◌, ◌<◌}
 use Rattle.std.specs.Prelude.{Ok, Err}
 use Rattle.std.proofs.lemmas.Bool.{false≢true, and_from, and_parts}
 use Rattle.js_base.specs.declared.diagnostic.Diagnostic.{Diagnostic}
@@ -69,12 +69,12 @@ module _ {text : List ℕ} {f : Flags} {p : Parser} {n : Name} (z : Alone text f
   pub alone_path : {q : Parser} {l : Label} {cs : Slots} → Path text f X (rule (at n f)) p nothing q (tree l cs) → Path text f (after_statement (placed b f)) (rule (placed b f)) p nothing q (tree l cs)
   alone_path x = z.listed b (after_statement (placed b f)) ⟼ by_symbol_as {X' = X} h (z.alone X ⟼ by_symbol_as {X' = X} i x)
 
-  pub alone_fails : Fails rule (Lex text) X end (rule (at n f)) p.prev_token_end → NoStatement text (placed b f) p.prev_token_end
-  alone_fails x = no_symbol (z.listed b (after_statement (placed b f)) ▹✗ fails_rule {X' = X} h (z.alone X ▹✗ fails_rule {X' = X} i x))
+pub alone_fails : {text : List ℕ} {f : Flags} {n : Name} {s : ℕ} → Alone text f n s → (b : Bool) (X : Test) → Heads (after_statement (placed b f)) X → Heads X X → Fails rule (Lex text) X end (rule (at n f)) s → NoStatement text (placed b f) s
+alone_fails {f = f} z b X h i x = no_symbol (z.listed b (after_statement (placed b f)) ▹✗ fails_rule {X' = X} h (z.alone X ▹✗ fails_rule {X' = X} i x))
 
 -- no statement begins with a link
-unlinked : {f : Flags} (b : Bool) → Heads (after_statement (placed b f)) (plain no_link)
-unlinked b = λ l cs vs y d. ((and_parts _ _ d.0).0, refl)
+unlinked : (f : Flags) (b : Bool) → Heads (after_statement (placed b f)) (plain no_link)
+unlinked f b = λ l cs vs y d. ((and_parts _ _ d.0).0, refl)
 
 still_unlinked : Heads (plain no_link) (plain no_link)
 still_unlinked = λ l cs vs y d. (d.0, refl)
@@ -125,7 +125,7 @@ module _ {text : List ℕ} {f : Flags} {p : Parser} (a : At text f p) (h : Stand
 
     pub debugger_unended : (b : Bool) → NoEnd q → NoStatement text (placed b f) p.prev_token_end
     unfolding rule rule_of covers
-    debugger_unended b n = alone_fails debugger_alone b (plain no_link) (unlinked b) still_unlinked (fails_node (inside_plain refl) (word_read ⟶✗ unended m.at (goes_on after_word) n))
+    debugger_unended b n = alone_fails debugger_alone b (plain no_link) (unlinked f b) still_unlinked (fails_node (inside_plain refl) (word_read ⟶✗ unended m.at (goes_on after_word) n))
 
     debugger_path : {r : Parser} → EndsStatement q r → Path text f (plain no_link) (rule (at Debugger f)) p nothing r (tree (label_here debugger_statement no_op p r) end)
     unfolding rule rule_of covers
@@ -137,7 +137,7 @@ module _ {text : List ℕ} {f : Flags} {p : Parser} (a : At text f p) (h : Stand
         let made : MadeHere (label_here debugger_statement no_op p r) [] r w id = subst (λ (v : Label). MadeHere v [] r w id) l n in
         let z = ended_so m.at e in
         let ks : Keeps p.nodes r.nodes = subst (λ (ns : List Node). Keeps p.nodes ns) (sym (z.nodes ∙ m.nodes)) (Keeps-refl p.nodes) in
-        by_statement (alone_path debugger_alone b (plain no_link) (unlinked b) still_unlinked (debugger_path e)) (same_both m.same z.same) made.stays (leaf_held made ks) (Keeps-trans ks (Keeps-made made.made)) refl (one_lies made)
+        by_statement (alone_path debugger_alone b (plain no_link) (unlinked f b) still_unlinked (debugger_path e)) (same_both m.same z.same) made.stays (leaf_held made ks) (Keeps-trans ks (Keeps-made made.made)) refl (one_lies made)
 
 -- ---- break and continue
 
@@ -248,41 +248,42 @@ module _ {text : List ℕ} {f : Flags} {p q : Parser} (k : Kind) (a : At text f 
   label_none : (MayEnd q → ⊥) → StandsHere q kind.Ident false → Fails rule (Lex text) (plain no_link) end (ended by_edge (jump_slots k f)) p.prev_token_end
   label_none w h = fails_ended {X' = plain closes_or_line} (word_passed ⟶✗ fails_alt (no_name m.at h) (no_gap m.at w)) (λ cs j ls mid l d h. (closing (by_edge (here ls) cs) no_link (here mid) h, refl))
 
-module _ {text : List ℕ} {f : Flags} {p q r : Parser} {k : NodeKind} {label : Option NodeId} (a : At text f p) (h : JumpsHere k p) (m : Moved text f p q) (t : TakesLabel q r (Ok label)) where
+module _ {text : List ℕ} {f : Flags} {p : Parser} {k : NodeKind} (a : At text f p) (h : JumpsHere k p) where
   abbrev jump : Jump text f p k
   jump = jump_of a h
 
-  abbrev jumped : Jumped text f jump.word p r label
-  jumped = label_taken jump.word a jump.is_here jump.is_plain jump.is_read m label t
+  module _ {q : Parser} (r : Parser) (label : Option NodeId) (m : Moved text f p q) (t : TakesLabel q r (Ok label)) where
+    abbrev jumped : Jumped text f jump.word p r label
+    jumped = label_taken jump.word a jump.is_here jump.is_plain jump.is_read m label t
 
-  pub jump_at : At text f r
-  jump_at = jumped.path.at
+    pub jump_at : At text f r
+    jump_at = jumped.path.at
 
-  pub jump_further : p.token.span.start < r.prev_token_end
-  jump_further = jumped.path.further
+    pub jump_further : p.token.span.start < r.prev_token_end
+    jump_further = jumped.path.further
 
-  pub jump_follows : Same p r
-  jump_follows = jumped.same
+    pub jump_follows : Same p r
+    jump_follows = jumped.same
 
-  pub jump_grown : {ds : List Diagnostic} → Grown r.errors ds → Grown p.errors ds
-  jump_grown g = grown_behind jumped.path.verdict g
+    pub jump_grown : {ds : List Diagnostic} → Grown r.errors ds → Grown p.errors ds
+    jump_grown g = grown_behind jumped.path.verdict g
 
-  pub jump_unended : (b : Bool) → NoEnd r → NoStatement text (placed b f) p.prev_token_end
-  unfolding covers
-  jump_unended b n = alone_fails jump.alone b (plain no_link) (unlinked b) still_unlinked (subst (λ (g : G). Fails rule (Lex text) (plain no_link) end g p.prev_token_end) jump.line (fails_node (inside_plain refl) (to_end jumped.appends jumped.row jumped.path ⟶✗ unended jump_at (goes_on after_word) n)))
+    pub jump_unended : (b : Bool) → NoEnd r → NoStatement text (placed b f) p.prev_token_end
+    unfolding covers
+    jump_unended b n = alone_fails jump.alone b (plain no_link) (unlinked f b) still_unlinked (subst (λ (g : G). Fails rule (Lex text) (plain no_link) end g p.prev_token_end) jump.line (fails_node (inside_plain refl) (to_end jumped.appends jumped.row jumped.path ⟶✗ unended jump_at (goes_on after_word) n)))
 
-  jump_path : {v : Parser} → EndsStatement r v → Path text f (plain no_link) (rule (at jump.name f)) p nothing v (tree (label_here (kind_of k) no_op p v) (jumped.slots end))
-  unfolding covers
-  jump_path {v} e = subst (λ (g : G). Path text f (plain no_link) g p nothing v (tree (label_here (kind_of k) no_op p v) (jumped.slots end))) jump.line (noded_by a (inside_plain refl) (ends_so e (to_end jumped.appends jumped.row jumped.path)))
+    jump_path : {v : Parser} → EndsStatement r v → Path text f (plain no_link) (rule (at jump.name f)) p nothing v (tree (label_here (kind_of k) no_op p v) (jumped.slots end))
+    unfolding covers
+    jump_path {v} e = subst (λ (g : G). Path text f (plain no_link) g p nothing v (tree (label_here (kind_of k) no_op p v) (jumped.slots end))) jump.line (noded_by a (inside_plain refl) (ends_so e (to_end jumped.appends jumped.row jumped.path)))
 
-  pub jump_answers : (b : Bool) {v w : Parser} {id : NodeId} (s : Span) → EndsStatement r v → s.start ≡ p.token.span.start → s.end ≡ v.prev_token_end → MadeHere (plain_label k op.None s) (label ∷ []) v w id → Statement text f (placed b f) p w id
-  jump_answers b {v} {w} {id} s e c d n =
-      let l : plain_label k op.None s ≡ label_here (kind_of k) no_op p v = rw (c, d) refl in
-      let made : MadeHere (label_here (kind_of k) no_op p v) (label ∷ []) v w id = subst (λ (u : Label). MadeHere u (label ∷ []) v w id) l n in
-      let z = ended_so jump_at e in
-      let ks : Keeps p.nodes v.nodes = subst (λ (ns : List Node). Keeps p.nodes ns) (sym z.nodes) jumped.keeps in
-      let hs : HoldsAll v.nodes (length p.nodes) (length v.nodes) (label ∷ []) (jumped.slots end) = subst (λ (ns : List Node). HoldsAll ns (length p.nodes) (length ns) (label ∷ []) (jumped.slots end)) (sym z.nodes) jumped.held in
-      by_statement (alone_path jump.alone b (plain no_link) (unlinked b) still_unlinked (jump_path e)) (same_both jumped.same z.same) made.stays (node_held made hs) (Keeps-trans ks (Keeps-made made.made)) refl (one_lies made)
+    pub jump_answers : (b : Bool) {v w : Parser} {id : NodeId} (s : Span) → EndsStatement r v → s.start ≡ p.token.span.start → s.end ≡ v.prev_token_end → MadeHere (plain_label k op.None s) (label ∷ []) v w id → Statement text f (placed b f) p w id
+    jump_answers b {v} {w} {id} s e c d n =
+        let l : plain_label k op.None s ≡ label_here (kind_of k) no_op p v = rw (c, d) refl in
+        let made : MadeHere (label_here (kind_of k) no_op p v) (label ∷ []) v w id = subst (λ (u : Label). MadeHere u (label ∷ []) v w id) l n in
+        let z = ended_so jump_at e in
+        let ks : Keeps p.nodes v.nodes = subst (λ (ns : List Node). Keeps p.nodes ns) (sym z.nodes) jumped.keeps in
+        let hs : HoldsAll v.nodes (length p.nodes) (length v.nodes) (label ∷ []) (jumped.slots end) = subst (λ (ns : List Node). HoldsAll ns (length p.nodes) (length ns) (label ∷ []) (jumped.slots end)) (sym z.nodes) jumped.held in
+        by_statement (alone_path jump.alone b (plain no_link) (unlinked f b) still_unlinked (jump_path e)) (same_both jumped.same z.same) made.stays (node_held made hs) (Keeps-trans ks (Keeps-made made.made)) refl (one_lies made)
 
 -- no label is read
 pub jump_stops : {text : List ℕ} {f : Flags} {p q : Parser} {k : NodeKind} (b : Bool) (r : Parser) (e : Stop) → At text f p → JumpsHere k p → Moved text f p q → TakesLabel q r (Err e) → Stops p r e (NoStatement text (placed b f) p.prev_token_end)
@@ -290,7 +291,7 @@ unfolding covers
 jump_stops {text} {f} {p} {q} {k} b r Fatal a h m (w, n, g) =
     let j = jump_of a h in
     stops_behind r Fatal m.same (λ d. grown_then m.kept d) (λ z. z) (gives_up_here q r Fatal m.at g
-    (alone_fails j.alone b (plain no_link) (unlinked b) still_unlinked (subst (λ (g : G). Fails rule (Lex text) (plain no_link) end g p.prev_token_end) j.line (fails_node (inside_plain refl) (label_none j.word a j.is_here j.is_plain j.is_read m w n)))))
+    (alone_fails j.alone b (plain no_link) (unlinked f b) still_unlinked (subst (λ (g : G). Fails rule (Lex text) (plain no_link) end g p.prev_token_end) j.line (fails_node (inside_plain refl) (label_none j.word a j.is_here j.is_plain j.is_read m w n)))))
 jump_stops b r NoMemory a h m t = tt
 
 -- ---- throw
@@ -343,7 +344,7 @@ module _ {text : List ℕ} {f : Flags} {p q r : Parser} {word : Span} (a : At te
   -- what is in the node can't be read
   throw_none : (b : Bool) → Fails rule (Lex text) (plain no_link) end (ended by_edge (throw_slots f)) p.prev_token_end → NoStatement text (placed b f) p.prev_token_end
   unfolding rule rule_of covers
-  throw_none b n = alone_fails throw_alone b (plain no_link) (unlinked b) still_unlinked (fails_node (inside_plain refl) n)
+  throw_none b n = alone_fails throw_alone b (plain no_link) (unlinked f b) still_unlinked (fails_node (inside_plain refl) n)
 
   throw_fails : (b : Bool) → Fails rule (Lex text) (after (at Expression f)) end (throw_slots f) p.prev_token_end → NoStatement text (placed b f) p.prev_token_end
   throw_fails b n = throw_none b (fails_ended n (λ ds j ls mid l d h. throw_ends f d (here ls) h))
@@ -402,7 +403,7 @@ module _ {text : List ℕ} {f : Flags} {p q r : Parser} {word : Span} (a : At te
               walked = walked_both (walked_both (walked_one m) (walked_from (checked_spot c) x.answer.walked)) n.1;
               verdict = unclean (grown_first (grown_on (grown_then m.kept (kept_one k)) x.answer.verdict) z.kept) (late b w);
             }
-        go (inr (w, j)) = by_symbol_as {X' = after_statement (placed b f)} (λ l cs vs y d. d) (alone_path throw_alone b (plain no_link) (unlinked b) still_unlinked (noded_by a (inside_plain refl) (end_path i x.answer e (throw_read j w))))
+        go (inr (w, j)) = by_symbol_as {X' = after_statement (placed b f)} (λ l cs vs y d. d) (alone_path throw_alone b (plain no_link) (unlinked f b) still_unlinked (noded_by a (inside_plain refl) (end_path i x.answer e (throw_read j w))))
 
     pub throw_answers : (b : Bool) {v w : Parser} {id : NodeId} (s : Span) → f.in_ ≡ true → EndsStatement t v → s.start ≡ p.token.span.start → s.end ≡ v.prev_token_end → MadeHere (plain_label node.ThrowStatement op.None s) (Some operand ∷ []) v w id → Statement text f (placed b f) p w id
     throw_answers b {v} {w} {id} s i e g d n =

@@ -18,7 +18,7 @@ parse_leaf-requires-clause-whole g c = word_here Ident c.requires (stands_so c.a
 pub returns-in_err-label : goal.returns-in_err-label
 returns-in_err-label g c =
     let p = err_from_is_err_and c.from_residual.result c.from_residual.ensures.1 in
-    rw (p.1, p.2) (label_memory _ _ _ c.in_err-label.ensures)
+    rw (p.1, p.2) (label_memory c.args.p.now c.parse_leaf.new.p _ c.in_err-label.ensures)
 
 pub returns : goal.returns
 returns g c = (λ m. false≢true (sym c.if-can_insert_semicolon.false ∙ c.can_insert_semicolon.ensures.1 m), stands_so c.args.p.now Ident c.if-not-stands.false c.stands.ensures, c.in_ok-label.ensures)
