@@ -41,6 +41,7 @@ use Rattle.js_parsing.proofs.Verdicts.{verdict_of, either_way, and_then, behind_
 use Rattle.js_parsing.proofs.Verdicts.{after as grown_behind}
 use Rattle.js_parsing.proofs.Moving.{same_both, same_with, beside_nodes}
 use Rattle.js_parsing.proofs.MadeNodes.{two_held, made_lies}
+
 -- A node of the level cap has been read, and what remains is the parts behind it.
 pub record Ring (text : List ℕ) (f : Flags) (m s from cap : ℕ) (l : Label) (cs : Slots) (s' : ℕ) (pass : Lexemes → Lexemes) : Type 0 where
   pub reach : ℕ

@@ -18,6 +18,7 @@ use Rattle.js_parsing.specs.Answers.{Numbered, Outcome, Stretch, Underived}
 use Rattle.js_parsing.specs.Heads.{NoHead, NotedHeads}
 use Rattle.js_parsing.specs.Lexemes.{Lex, Walked, spot}
 use Rattle.js_parsing.specs.States.{At, Same, NodesLie, SpansLie}
+
 -- what stands before `=>`: a name, or parameters in parentheses
 abbrev pub head_of : Flags → G
 head_of f = mk formal_parameters (mk formal_parameter (sym BindingIdentifier f ▸ empty_slot)) ◇ sym Params f
