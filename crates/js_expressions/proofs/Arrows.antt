@@ -61,7 +61,7 @@ use Rattle.js_cursor.proofs.Later.{keeps_follows}
 use Rattle.js_parsing.specs.Answers.{Underived, Answer, Answers, Numbered, Outcome, Refuses, Stretch, Stops, Grown, Verdict, clean, unclean}
 use Rattle.js_cursor.specs.Notes.{Notes}
 use Rattle.js_parsing.specs.Contexts.{arrow_body}
-use Rattle.js_expressions.specs.Arrows.{head_of, late_arrow, ArrowBehind, BeforeArrow, a_head, told_head, ToldHead, ChecksLine, FindsHead, Head, LooksForHead, IsHead, IsHeadHere, IsRefusedHead, NoArrowHere, Single, Unmoved, refused, NoneLooked}
+use Rattle.js_expressions.specs.Arrows.{head_of, late_arrow, ArrowBehind, BeforeArrow, a_head, told_head, ToldHead, ChecksLine, FindsHead, Head, LooksForHead, IsHead, IsHeadHere, IsRefusedHead, NoArrowHere, Single, Unmoved, NoneLooked}
 use Rattle.js_parsing.specs.Heads.{NoHead, NotedHeads}
 use Rattle.js_expressions.specs.Closings.{ArrowBehindOne}
 use Rattle.js_expressions.proofs.Closings.{closes_alike, one_is}
