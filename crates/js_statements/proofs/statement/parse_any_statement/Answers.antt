@@ -1,10 +1,10 @@
 use Rattle.std.proofs.Common.{◌≡◌, ◌∙◌, sym, true, false}
-use Rattle.js_parsing.proofs.Giving.{gives_up, fails_escaped}
+use Rattle.js_parsing.proofs.Giving.{gives_up_here, fails_escaped}
 use Rattle.js_statements.proofs.Statements.{no_own_kind}
 use Rattle.js_statements.proofs.statement.parse_any_statement.Goals as goal
 
 pub returns-then-escaped : goal.returns-then-escaped
-returns-then-escaped g c = λ b text f a. gives_up _ _ _ c.set_unexpected.result a c.set_unexpected.ensures (fails_escaped a (let e : c.args.p.now.token.escaped ≡ true = search in e))
+returns-then-escaped g c = λ b text f a. gives_up_here _ _ c.set_unexpected.result a c.set_unexpected.ensures (fails_escaped a (let e : c.args.p.now.token.escaped ≡ true = search in e))
 
 pub parse_break_statement-requires-clause-word : goal.parse_break_statement-requires-clause-word
 parse_break_statement-requires-clause-word g c = (sym c.cur_kind.ensures ∙ c.in-Break.is, (let e : c.args.p.now.token.escaped ≡ false = search in e))
