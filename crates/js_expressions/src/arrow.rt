@@ -9,10 +9,10 @@ ghost use Rattle.js_expressions.specs.Arrows.{ArrowBehind, ChecksLine, FindsHead
 ghost use Rattle.js_parsing.specs.Nesting.{CanNest, room};
 ghost use Rattle.js_parsing.specs.States.{Standing};
 
+use crate::closing::is_arrow_behind_one;
 use js_base::{Diagnostic, DiagnosticKind, Kind, NoMemory};
 use js_cursor::{ParserImpl, Stop};
 use js_lex::ParserConfig;
-use crate::closing::is_arrow_behind_one;
 use js_operands::primary::parse_leaf;
 use js_parsing::context::assignment_in_arrow;
 use js_parsing::diagnostics::kept_so_far;
