@@ -12,19 +12,20 @@ use Rattle.js_base.specs.declared.token.Token.{Token}
 use Rattle.js_base.specs.Kinds.{same_kind, one_of_kinds}
 use Rattle.js_base.specs.Spans.{LiesIn}
 use Rattle.js_base.proofs.KindLemmas.{kind_of_same}
-use Rattle.js_grammar.specs.Trees.{Label, Slots, end, tree}
+use Rattle.js_grammar.specs.Trees.{Label, Slots, append, end, tree}
 use Rattle.js_grammar.specs.Grammar.{Lexeme, Lexemes, next}
 use Rattle.js_grammar.specs.Insertion.{after_expression}
 use Rattle.js_grammar.specs.Follow.{row_of}
-use Rattle.js_grammar.specs.Lexemes.{division, template_tail}
+use Rattle.js_grammar.specs.Lexemes.{LexicalGoal, division, kind_in, template_tail}
 use Rattle.js_grammar.specs.Lexed.{Lex as StandsBehind, all_faults}
+use Rattle.js_grammar.specs.LexicalFaults.{Reached}
 use Rattle.js_grammar.specs.Marks.{Mark, EdgeOf, the_start, the_end, a_lexeme}
 use Rattle.js_grammar.specs.Productions.{Flags, Symbol, at, plus_in, Expression}
 use Rattle.js_grammar.specs.Settings.{Goal}
 use Rattle.js_grammar.proofs.Looks.{covers, covered}
 use Rattle.js_grammar.proofs.RightEdges.{same_row}
 use Rattle.js_lex.specs.Comments.{each_at, comment_at, irregular_at, html_fault_at}
-use Rattle.js_lex.specs.Reading.{cut, in_a_module, is_kept, Tells, GivesLexeme, GivesNone, LexemeBehind, Outcome}
+use Rattle.js_lex.specs.Reading.{cut, in_a_module, is_kept, is_right_angle, Tells, GivesLexeme, GivesNone, LexemeBehind, Outcome}
 use Rattle.js_lex.specs.States.{goal_of}
 use Rattle.js_lex.proofs.Again.{cut_same}
 use Rattle.js_lex.proofs.KindsOfLexemes.{tail_is}
@@ -47,7 +48,7 @@ use Rattle.js_cursor.proofs.Moving.{lexeme_some}
 use Rattle.js_parsing.specs.Answers.{Grown, Numbered, Stops, unclean}
 use Rattle.js_parsing.specs.Classes.{IsEarly}
 use Rattle.js_parsing.specs.Heads.{NotedHeads}
-use Rattle.js_parsing.specs.Lexemes.{Lex, KeptFor, News, Spot, TriviaKept, Walked, nowhere, one_more, read_kinds, spot}
+use Rattle.js_parsing.specs.Lexemes.{Lex, KeptFor, News, Spot, TriviaKept, Walked, nowhere, one_more, onward, read_kinds, spot}
 use Rattle.js_parsing.specs.Moves.{MadeHere, plain_label}
 use Rattle.js_parsing.specs.Nesting.{room}
 use Rattle.js_parsing.specs.States.{At, IsPlain, whole, sign, nothing as none_stands, Same, SpansLie, Standing, flags_of}
@@ -61,12 +62,13 @@ use Rattle.js_parsing.proofs.KeptTokens.{again_before, again_last, before_next, 
 use Rattle.js_parsing.proofs.MadeNodes.{leaf_held, made_lies, node_held, one_lies}
 use Rattle.js_parsing.proofs.Moving.{beside_nodes, flags_same, heads_kept, nodes_lie, plain_given, same_both, same_with, standing, stops_behind, stops_so}
 use Rattle.js_parsing.proofs.Paths.{label_here, walked_both, walked_to}
-use Rattle.js_parsing.proofs.Signs.{AllAre}
+use Rattle.js_parsing.proofs.Signs.{span_is}
 use Rattle.js_parsing.proofs.Told.{told_at, told_same}
 use Rattle.js_parsing.proofs.Verdicts.{either_way, grown_then}
 use Rattle.js_parsing.proofs.Verdicts.{after as grown_behind}
 use Rattle.js_operands.specs.Members.{LinkForm, NoLink, Taken}
-use Rattle.js_operands.specs.Templates.{BeginsPart, PartAt, PartBegun, PartOutcome, Passed, Tagged, TagOutcome, TakesPart, TemplateOutcome, element_label, heads, parts, tagged_label, with_faults}
+use Rattle.js_operands.specs.Templates.{BeginsPart, PartAt, PartBegun, Passed, Tagged, TakesPart, TellsTemplate, element_label, heads, inside_end, parts, tagged_label, with_faults}
+use Rattle.js_operands.proofs.PartInsides.{IsInside, part_inside}
 
 -- ---- kinds of parts
 
@@ -113,15 +115,12 @@ module _ {text : List ℕ} {f : Flags} {p : Parser} (a : At text f p) (h : one_o
 
   -- a lexeme begins there
   head_edge : EdgeOf (goal p) text p.token.span.start
-  head_edge = let y = found a (uncut a head_passes.1) head_passes.0 in the_start (a_lexeme (subst (λ (t : List ℕ). Rattle.js_grammar.specs.LexicalFaults.Reached t p.prev_token_end) a.text_is a.at.reached) y.1) (sym y.2.start)
+  head_edge = let y = found a (uncut a head_passes.1) head_passes.0 in the_start (a_lexeme (subst (λ (t : List ℕ). Reached t p.prev_token_end) a.text_is a.at.reached) y.1) (sym y.2.start)
 
 pub part_standing : {text : List ℕ} {f : Flags} {p : Parser} → PartAt text f p → PartAt p.text (flags_of p) p
 part_standing {text} {f} {p} a = subst (λ (g : Flags). PartAt p.text g p) (sym a.flags_are) (subst (λ (t : List ℕ). PartAt t f p) (sym a.text_is) a)
 
 -- ---- a part was passed
-
-abbrev pub SameOf : Parser → Parser → Type 0
-SameOf p q = IsAt q × Follows p q × (q.nodes ≡ p.nodes) × (q.errors ≡ p.errors) × (q.options ≡ p.options) × (q.ctx ≡ p.ctx) × (q.depth ≡ p.depth) × (q.visits ≡ p.visits)
 
 same_of : {p q : Parser} → IsAt q → Follows p q → q.nodes ≡ p.nodes → q.errors ≡ p.errors → q.options ≡ p.options → q.ctx ≡ p.ctx → q.depth ≡ p.depth → q.visits ≡ p.visits → Same p q
 same_of {p} {q} i g n e o c d v = record { follows = g; options = o; ctx = c; depth = d; visits = v; early = λ h. All-same IsEarly q.errors p.errors e h; lies = λ h. (i.lies.starts_whole, nodes_lie p q g.text n h.1) }
@@ -187,6 +186,7 @@ module _ {text : List ℕ} {f : Flags} {p q : Parser} (a : PartAt text f p) wher
     last_edge = subst (λ (t : List ℕ). EdgeOf (goal q) t q.prev_token_end) (sym h.stays.text) (the_end (a_lexeme a.at.reached h.stood) (sym h.moved))
 
     moved : PartMoved text f p q
+    unfolding news
     moved = record {
       at = next_at;
       same = same_of h.at (passed_follows h) h.stays.nodes h.stays.errors h.stays.options h.stays.ctx h.stays.depth h.stays.visits;
@@ -203,7 +203,7 @@ module _ {text : List ℕ} {f : Flags} {p q : Parser} (a : PartAt text f p) wher
       ends = last_edge;
     }
       where
-        spot_is : Rattle.js_parsing.specs.Lexemes.onward (spot p) h.lexeme news ≡ spot q
+        spot_is : onward (spot p) h.lexeme news ≡ spot q
         spot_is = sym (λ i. record {
           source = goal_of (h.stays.source_type i);
           keeps_tokens = h.next.same.keeps_tokens i;
@@ -215,8 +215,8 @@ module _ {text : List ℕ} {f : Flags} {p q : Parser} (a : PartAt text f p) wher
   part_moves m = moved (part_passed m)
 
 -- with its node
-pub part_taken : {text : List ℕ} {f : Flags} {p q w : Parser} {id : NodeId} {last : Bool} {s : Span} → PartMoved text f p q → LiesIn s p.text → MadeHere (element_label last s) [] q w id → Passed text f p w id
-part_taken {text} {f} {p} {q} {w} {id} {last} {s} m l n = subst (λ (z : Parser). Passed text f p z id) (sym n.stays) (record {
+pub part_taken : {text : List ℕ} {f : Flags} {p q w : Parser} {id : NodeId} (last : Bool) (s : Span) → PartMoved text f p q → LiesIn s p.text → MadeHere (element_label last s) [] q w id → Passed text f p w id
+part_taken {text} {f} {p} {q} {w} {id} last s m l n = subst (λ (z : Parser). Passed text f p z id) (sym n.stays) (record {
   at = beside_nodes w.nodes m.at;
   same = same_with w.nodes m.same keeps (λ b h. one_lies n (subst (λ (t : List ℕ). LiesIn s t) (sym m.same.follows.text) l) h);
   further = m.further;
@@ -237,17 +237,17 @@ part_taken {text} {f} {p} {q} {w} {id} {last} {s} m l n = subst (λ (z : Parser)
 
 -- ---- a part was read again
 
+abbrev with_more : News → List Diagnostic → News
+with_more m ds = record m { faults = m.faults ++ ds }
+
+more_onward : (s : Spot) (x : Lexeme) (m : News) (ds : List Diagnostic) → onward s x (with_more m ds) ≡ with_faults (onward s x m) ds
+more_onward s x m ds = ap (λ (es : List Diagnostic). record (onward s x m) { kept = record (onward s x m).kept { errors = es } }) (sym (append_assoc s.kept.errors m.faults ds))
+
 -- faults that are kept where nothing that is read stands
 more_faults : {text : List ℕ} {a b : Spot} {pass : Lexemes → Lexemes} (ds : List Diagnostic) → a.place < b.place → ((y : Lexeme) → Lex text b.place y → ⊥) → Walked text a b pass → Walked text a (with_faults b ds) pass
 more_faults ds l n nowhere = absurd (omega arith)
 more_faults {text} {a} ds l n (one_more {s' = s} {x = x} {n = m} w i) =
-    walked_to (λ j. with_faults_is j) (one_more w (record { stood = i.stood; tells = i.tells; counts = i.counts; faults = record { none = λ e y z. absurd (n y z); some = λ e y z. n y (faults_aside s.source z) }; trivia = i.trivia }))
-  where
-    abbrev all : News
-    all = record m { faults = m.faults ++ ds }
-
-    with_faults_is : Rattle.js_parsing.specs.Lexemes.onward s x all ≡ with_faults (Rattle.js_parsing.specs.Lexemes.onward s x m) ds
-    with_faults_is = ap (λ (es : List Diagnostic). record (Rattle.js_parsing.specs.Lexemes.onward s x m) { kept = record (Rattle.js_parsing.specs.Lexemes.onward s x m).kept { errors = es } }) (sym (append_assoc s.kept.errors m.faults ds))
+    walked_to (more_onward s x m ds) (one_more w (record { stood = i.stood; tells = i.tells; counts = i.counts; faults = record { none = λ e y z. absurd (n y z); some = λ e y z. n y (faults_aside s.source z) }; trivia = i.trivia }))
 
 module _ {text : List ℕ} {f : Flags} {p q : Parser} (a : At text f p) (k : p.token.kind ≡ RCurly) (h : ReadAgain template_tail p q) where
   brace_unread : (y : Lexeme) → Lex text p.prev_token_end y → ⊥
@@ -268,7 +268,7 @@ module _ {text : List ℕ} {f : Flags} {p q : Parser} (a : At text f p) (k : p.t
   again : Outcome template_tail (λ z. z) p.lexer.goal p.lexer.text p.prev_token_end q.token h.going_on h.faults
   again =
       let reads : text ≡ p.lexer.text = sym a.text_is ∙ sym a.at.reads in
-      h.again.outcome p.prev_token_end brace.lexeme (subst (λ (v : List ℕ). IsCharBoundary v p.prev_token_end) (sym a.at.reads) a.at.between) (subst (λ (v : List ℕ). LexemeBehind division v p.prev_token_end brace.lexeme) reads brace.stands) (subst (λ (y : Lexeme). Tells y p.token) (sym (cut_same brace.lexeme (ap Rattle.js_lex.specs.Reading.is_right_angle brace_kind))) brace.tells)
+      h.again.outcome p.prev_token_end brace.lexeme (subst (λ (v : List ℕ). IsCharBoundary v p.prev_token_end) (sym a.at.reads) a.at.between) (subst (λ (v : List ℕ). LexemeBehind division v p.prev_token_end brace.lexeme) reads brace.stands) (subst (λ (y : Lexeme). Tells y p.token) (sym (cut_same brace.lexeme (ap is_right_angle brace_kind))) brace.tells)
 
   module _ (n : q.token.kind ≡ Undetermined → ⊥) where
     tail_kind : one_of_kinds parts q.token.kind ≡ true
@@ -279,7 +279,7 @@ module _ {text : List ℕ} {f : Flags} {p q : Parser} (a : At text f p) (k : p.t
         of_tail j (inr e) = ap (one_of_kinds parts) e
 
         told_tail : GivesLexeme template_tail (λ z. z) p.lexer.text p.prev_token_end q.token → one_of_kinds parts q.token.kind ≡ true
-        told_tail x = of_tail q.token.kind (tail_is x.stands.lex.word q.token.kind (subst (λ (j : Kind). Rattle.js_grammar.specs.Lexemes.kind_in template_tail x.stands.lex.word x.stands.lex.rest ≡ Some j) (sym x.tells.kind) (subst (λ (g : Rattle.js_grammar.specs.Lexemes.LexicalGoal). Rattle.js_grammar.specs.Lexemes.kind_in g x.stands.lex.word x.stands.lex.rest ≡ Some x.lexeme.kind) x.stands.of_goal x.stands.lex.lexeme.kind)))
+        told_tail x = of_tail q.token.kind (tail_is x.stands.lex.word q.token.kind (subst (λ (j : Kind). kind_in template_tail x.stands.lex.word x.stands.lex.rest ≡ Some j) (sym x.tells.kind) (subst (λ (g : LexicalGoal). kind_in g x.stands.lex.word x.stands.lex.rest ≡ Some x.lexeme.kind) x.stands.of_goal x.stands.lex.lexeme.kind)))
 
         go : (r : Bool) → same_kind Undetermined q.token.kind ≡ r → elim r as (λ _. Type 0) [ true ↦ (d : Diagnostic) × (h.faults ≡ d ∷ []) × GivesNone template_tail p.lexer.goal p.lexer.text p.prev_token_end q.token d | false ↦ (h.faults ≡ h.going_on) × GivesLexeme template_tail (λ z. z) p.lexer.text p.prev_token_end q.token ] → one_of_kinds parts q.token.kind ≡ true
         go true e x = absurd (n (sym (kind_of_same Undetermined q.token.kind e)))
@@ -322,8 +322,8 @@ module _ {text : List ℕ} {f : Flags} {p q : Parser} (a : At text f p) (k : p.t
     }
 
   -- where nothing ends the part
-  pub unended_stops : {r : Parser} (e : Stop) → GivesUp (IsUnexpected q) q r e → Stops p r e (Unit {0})
-  unended_stops {r} Fatal g = record {
+  pub unended_stops : (r : Parser) (e : Stop) → GivesUp (IsUnexpected q) q r e → Stops p r e (Unit {0})
+  unended_stops r Fatal g = record {
     at = g.2.at;
     follows = follows_on (read_again_follows h) (keeps_follows g.2);
     grown = grown_then h.stays.errors (kept_one g.2);
@@ -338,9 +338,17 @@ module _ {text : List ℕ} {f : Flags} {p q : Parser} (a : At text f p) (k : p.t
 
       nodes_stay : r.nodes ≡ p.nodes
       nodes_stay = ap (λ (z : Parser). z.nodes) g.2.is ∙ h.stays.nodes
-  unended_stops NoMemory g = tt
+  unended_stops r NoMemory g = tt
 
 -- ---- the parts of a template, and the expressions between them
+
+append_ends : {K : Type 0} (a b : List K) → a ++ b ≡ [] → b ≡ []
+append_ends [] b e = e
+append_ends (x ∷ a) b e = absurd (let z = e in cc)
+
+-- what was kept since is more than before
+pub grown_since : {p q : Parser} {ds : List Diagnostic} → Same p q → Grown q.errors ds → Grown p.errors ds
+grown_since {p} {q} s g = record { more = s.follows.later_errors ++ g.more; kept = g.kept ∙ (ap (λ (v : List Diagnostic). v ++ g.more) s.follows.errors ∙ append_assoc p.errors s.follows.later_errors g.more); some = λ e. g.some (append_ends s.follows.later_errors g.more e) }
 
 -- So much of it was passed: nodes stand for what was.
 pub record Parts (text : List ℕ) (f : Flags) (p q : Parser) (ids : List (Option NodeId)) : Type 0 where
@@ -365,13 +373,50 @@ next_part {text} {f} {n} {p} {q} {r} {s} {t} {ids} {e} {id} x y b z = record {
   pass = λ ls. x.pass (y.answer.pass (z.pass ls));
   walked = walked_both x.walked (walked_both (walked_to (sym b.spot_is) (more_faults b.faults (let j = y.answer.further in let c = x.at.behind in omega arith) b.unread y.answer.walked)) z.walked);
   slots = _;
-  holds = HoldsAll-next id z.keeps (subst (λ (ns : List Node). HoldsAll ns (length p.nodes) (length ns) (ids ++ Some e ∷ []) (Rattle.js_grammar.specs.Trees.append x.slots (tree y.answer.label y.answer.slots end))) (sym b.nodes) (HoldsAll-next e y.keeps x.holds y.holds)) z.holds;
+  holds = HoldsAll-next id z.keeps (subst (λ (ns : List Node). HoldsAll ns (length p.nodes) (length ns) (ids ++ Some e ∷ []) (append x.slots (tree y.answer.label y.answer.slots end))) (sym b.nodes) (HoldsAll-next e y.keeps x.holds y.holds)) z.holds;
   keeps = Keeps-trans x.keeps (Keeps-trans y.keeps (subst (λ (ns : List Node). Keeps ns t.nodes) b.nodes z.keeps));
   ends = z.ends;
 }
 
 pub parts_room : {text : List ℕ} {f : Flags} {p q : Parser} {ids : List (Option NodeId)} → At text f p → Parts text f p q ids → room q < room p
 parts_room a x = let b = x.further in let c = a.behind in let d = x.at.at.between.0 in let g = x.same.follows.text in omega (arith, ap length g)
+
+pub part_less : {text : List ℕ} {f : Flags} {n : Symbol} {q r s t : Parser} {e id : NodeId} → At text f q → Numbered text f n q r e → PartBegun text f r s → Passed text f s t id → room t < room q
+part_less a y b z =
+    let i = a.behind in
+    let j = y.answer.further in
+    let c = b.place in
+    let d = b.at.behind in
+    let g = z.further in
+    let u = z.at.at.between.0 in
+    let v = z.at.text_is in
+    let w = a.text_is in
+    omega (arith, ap length v, ap length w)
+
+-- what stopped a call behind so much of it
+pub parts_stop : {text : List ℕ} {f : Flags} {p q : Parser} {ids : List (Option NodeId)} (F : Type 0) (r : Parser) (e : Stop) → Parts text f p q ids → Stops q r e F → Stops p r e (Unit {0})
+parts_stop F r e x z = stops_behind r e x.same (λ g. grown_since x.same g) (λ n. tt) z
+
+pub parts_stop_later : {text : List ℕ} {f : Flags} {n : Symbol} {p q v : Parser} {ids : List (Option NodeId)} {id : NodeId} (F : Type 0) (r : Parser) (e : Stop) → Parts text f p q ids → Numbered text f n q v id → Stops v r e F → Stops p r e (Unit {0})
+parts_stop_later F r e x y z = let s = same_both x.same y.answer.same in stops_behind r e s (λ g. grown_since s g) (λ n. tt) z
+
+-- what the loop over them keeps
+pub record PartsLoop (start : ℕ) (p q : Parser) (ids : List (Option NodeId)) : Type 0 where
+  pub start_is : start ≡ p.token.span.start
+  pub goes : (text : List ℕ) (f : Flags) → At text f p → Parts text f p q ids
+
+pub parts_first : {p q : Parser} {start : ℕ} {id : NodeId} {us vs : List (Option NodeId)} → start ≡ p.token.span.start → ((text : List ℕ) (f : Flags) → At text f p → Passed text f p q id) → us ≡ vs ++ Some id ∷ [] → vs ≡ [] → PartsLoop start p q us
+parts_first {p} {q} {id = id} b h e n = record { start_is = b; goes = λ text f a. subst (λ (ids : List (Option NodeId)). Parts text f p q ids) (sym (e ∙ ap (λ (ids : List (Option NodeId)). ids ++ Some id ∷ []) n)) (first_part (h text f a)) }
+
+pub parts_next : {n : Flags → Symbol} {start : ℕ} {p q r s t : Parser} {e id : NodeId} {ids us vs : List (Option NodeId)} → PartsLoop start p q ids → ((text : List ℕ) (f : Flags) → At text f q → Numbered text f (n f) q r e) → BeginsPart r s (Ok tt) → TakesPart id s t → us ≡ ids ++ Some e ∷ [] → vs ≡ us ++ Some id ∷ [] → PartsLoop start p t vs
+parts_next {p = p} {r = r} {t = t} {e = e} {id = id} l h b z i j = record {
+  start_is = l.start_is;
+  goes = λ text f a.
+      let x = l.goes text f a in
+      let y = h text f x.at in
+      let k = b text f y.answer.at in
+      subst (λ (ids : List (Option NodeId)). Parts text f p t ids) (sym (j ∙ ap (λ (ids : List (Option NodeId)). ids ++ Some id ∷ []) i)) (next_part x y k (z text f k.at));
+}
 
 -- the node of the template
 pub template_made : {text : List ℕ} {f : Flags} {p q w : Parser} {ids : List (Option NodeId)} {id : NodeId} {s : Span} → Parts text f p q ids → s.start ≡ p.token.span.start → s.end ≡ q.prev_token_end → MadeHere (plain_label node.TemplateLiteral op.None s) ids q w id → Passed text f p w id
@@ -392,14 +437,6 @@ template_made {text} {f} {p} {q} {w} {ids} {id} {s} x b c d =
     })
 
 -- ---- the template behind a chain
-
-append_ends : {K : Type 0} (a b : List K) → a ++ b ≡ [] → b ≡ []
-append_ends [] b e = e
-append_ends (x ∷ a) b e = absurd (let z = e in cc)
-
--- what was kept since is more than before
-pub grown_since : {p q : Parser} {ds : List Diagnostic} → Same p q → Grown q.errors ds → Grown p.errors ds
-grown_since {p} {q} s g = record { more = s.follows.later_errors ++ g.more; kept = g.kept ∙ (ap (λ (v : List Diagnostic). v ++ g.more) s.follows.errors ∙ append_assoc p.errors s.follows.later_errors g.more); some = λ e. g.some (append_ends s.follows.later_errors g.more e) }
 
 module _ {text : List ℕ} {f : Flags} {p q : Parser} {template : NodeId} (a : At text f p) (h : one_of_kinds heads p.token.kind ≡ true) (x : Passed text f p q template) where
   -- what is told of it has its mark
@@ -434,6 +471,14 @@ module _ {text : List ℕ} {f : Flags} {p q : Parser} {template : NodeId} (a : A
     made = subst (λ (z : Label). MadeHere z (Some left ∷ Some template ∷ []) r w id) (rw (b, e) refl) m;
   }
 
+-- it is told last, from where it begins to where it ends
+pub template_told : {text : List ℕ} {f : Flags} {p q r w : Parser} {template id : NodeId} {ids : List (Option NodeId)} {l : Label} (s : Span) → Passed text f p q template → KeepsOne (unrelated_at OptionalChainTaggedTemplate s) q r → MadeHere l ids r w id → s.start ≡ p.token.span.start → s.end ≡ q.prev_token_end → TellsTemplate p w
+template_told {p = p} {q = q} {r = r} {w = w} s x k m b e =
+    let place : w.prev_token_end ≡ q.prev_token_end = ap (λ (z : Parser). z.prev_token_end) m.stays ∙ ap (λ (z : Parser). z.prev_token_end) k.is in
+    let kept : w.errors ≡ q.errors ++ unrelated_at OptionalChainTaggedTemplate s ∷ [] = ap (λ (z : Parser). z.errors) m.stays ∙ ap (λ (z : Parser). z.errors) k.is in
+    let span : s ≡ record { start = p.token.span.start; end = w.prev_token_end } = span_is s b (e ∙ sym place) in
+    (x.same.follows.later_errors, kept ∙ (λ i. x.same.follows.errors i ++ unrelated_at OptionalChainTaggedTemplate (span i) ∷ []))
+
 -- where it can't be passed
 pub template_stops : {text : List ℕ} {f : Flags} {p : Parser} (q : Parser) (e : Stop) → At text f p → one_of_kinds heads p.token.kind ≡ true → Stops p q e (Unit {0}) → Stops p q e ((c : LinkForm) (o : Bool) → NoLink text f p.prev_token_end c o)
 template_stops {p = p} q e a h s = stops_so p q e (λ z c o. fails_none (none_read a h)) s
@@ -457,3 +502,24 @@ tag_taken {text} {f} {C} {D} {A} {o} {p} {w} {left} {id} x e y bad =
       holds = node_held n (HoldsAll-two left y.template y.keeps x.holds y.holds);
       keeps = k;
     })
+
+-- what stands between the delimiters of the part that stands here
+pub inside_here : {text : List ℕ} {f : Flags} {p : Parser} → PartAt text f p → IsInside p.text p.token.span.start p.token.span.end p.token.kind
+inside_here {p = p} a = go p.cut refl a.at.token
+  where
+    of_token : {goal : LexicalGoal} → GivesLexeme goal (λ y. y) p.text p.prev_token_end p.token → IsInside p.text p.token.span.start p.token.span.end p.token.kind
+    of_token x = subst (λ (k : Kind). IsInside p.text p.token.span.start p.token.span.end k) (sym x.tells.kind) (subst (λ (n : ℕ). IsInside p.text n p.token.span.end x.lexeme.kind) (sym x.tells.start) (subst (λ (n : ℕ). IsInside p.text x.lexeme.from n x.lexeme.kind) (sym x.tells.end) (part_inside a.at.utf8 a.at.between x.stands.lex (subst (λ (k : Kind). one_of_kinds parts k ≡ true) x.tells.kind a.part))))
+
+    go : (b : Bool) → p.cut ≡ b → IsToken (goal p) p.text p.prev_token_end p.lexer.kept.errors p.token b → IsInside p.text p.token.span.start p.token.span.end p.token.kind
+    go false e (whole_token n x) = of_token x
+    go false e (no_token before k d x) = absurd (false≢true (sym (part_passes p.token.kind a.part).0 ∙ ap is_last k))
+    go true e x = absurd (false≢true (sym a.uncut ∙ e))
+
+pub inside_lies : {text : List ℕ} {f : Flags} {p : Parser} (s : Span) → PartAt text f p → s.start ≡ p.token.span.start + 1 → s.end ≡ inside_end p.token → LiesIn s p.text
+inside_lies {p = p} s a b e =
+    let i = inside_here a in
+    record {
+      ordered = let o = i.fits in omega arith;
+      starts_whole = subst (λ (n : ℕ). IsCharBoundary p.text n) (sym b) i.starts;
+      ends_whole = subst (λ (n : ℕ). IsCharBoundary p.text n) (sym e) i.ends;
+    }

@@ -3,6 +3,7 @@ use Rattle.std.specs.Prelude.{ℕ, ◌+◌, ◌-◌, ◌++◌, ◌≡◌, ◌<�
 use Rattle.js_base.specs.declared.kind.Kind.{Kind}
 use Rattle.js_base.specs.declared.kind.Kind.TheVariants.{NoSubstitutionTemplate, TemplateHead, TemplateMiddle, TemplateTail, QuestionDot}
 use Rattle.js_base.specs.declared.diagnostic.Diagnostic.{Diagnostic}
+use Rattle.js_base.specs.declared.diagnostic.DiagnosticKind.TheVariants.{OptionalChainTaggedTemplate}
 use Rattle.js_base.specs.declared.span.Span.{Span}
 use Rattle.js_base.specs.declared.token.Token.{Token}
 use Rattle.js_base.specs.Kinds.{one_of_kinds}
@@ -20,6 +21,7 @@ use Rattle.js_parsing.specs.Heads.{NotedHeads}
 use Rattle.js_parsing.specs.Lexemes.{Lex, KeptLast, Spot, Walked, spot}
 use Rattle.js_parsing.specs.Moves.{MadeHere}
 use Rattle.js_parsing.specs.States.{At, Same, flags_of}
+use Rattle.js_parsing.specs.Told.{unrelated_at}
 use Rattle.js_operands.specs.declared.left_hand_side.LinkBase.TheVariants as base
 use Rattle.js_operands.specs.Members.{LinkForm, LinkHere, Linked, NoLink}
 
@@ -137,6 +139,10 @@ TagOutcome text f start left p q (Err e) = Stops p q e ((c : LinkForm) (o : Bool
 abbrev pub TagsTemplate : ℕ → NodeId → Parser → Parser → Result NodeId Stop → Type 0
 TagsTemplate start left p q r = (text : List ℕ) (f : Flags) → At text f p → TagOutcome text f start left p q r
 
+-- The diagnostic that was kept last is of a template that began where the call did, and ended where the call did.
+abbrev pub TellsTemplate : Parser → Parser → Type 0
+TellsTemplate p q = (before : List Diagnostic) × (q.errors ≡ (p.errors ++ before) ++ unrelated_at OptionalChainTaggedTemplate (record { start = p.token.span.start; end = q.prev_token_end }) ∷ [])
+
 -- a link of an optional chain, or a template
 abbrev pub ChainLinkOutcome : List ℕ → Flags → ℕ → NodeId → Parser → Parser → Result NodeId Stop → Type 0
 ChainLinkOutcome text f start left p q (Ok id) = Linked text f start left p q id ⊎ Tagged text f start left p q id
@@ -148,4 +154,4 @@ ReadsChainLink start left p q r = (text : List ℕ) (f : Flags) → At text f p 
 -- whether a link stands here that an optional chain goes on with, or a template
 abbrev pub ChainGoesOn : Parser → Bool → Type 0
 ChainGoesOn p true = LinkHere p base.Chain true ⊎ (one_of_kinds heads p.token.kind ≡ true)
-ChainGoesOn p false = LinkHere p base.Chain false
+ChainGoesOn p false = LinkHere p base.Chain false × (one_of_kinds heads p.token.kind ≡ false)

@@ -3,7 +3,7 @@
 ghost use Rattle.std.specs.Prelude.{◌≡◌, ◌≤◌, ◌∷◌, [], true, IfOk, MatchResult};
 ghost use Rattle.js_base.specs.Kinds.{one_of_kinds};
 ghost use Rattle.js_cursor.specs.Moves.{OnlyMemory};
-ghost use Rattle.js_operands.specs.Templates.{BeginsPart, TakesPart, StandingPart, TagsTemplate, TakesTemplate, element_label, heads, inside_end, inside_fits, last_parts};
+ghost use Rattle.js_operands.specs.Templates.{BeginsPart, TakesPart, StandingPart, TagsTemplate, TakesTemplate, TellsTemplate, element_label, heads, inside_end, inside_fits, last_parts};
 ghost use Rattle.js_parsing.specs.Moves.{MadeHere};
 ghost use Rattle.js_parsing.specs.Nesting.{CanNest, room};
 ghost use Rattle.js_parsing.specs.States.{Standing};
@@ -49,15 +49,13 @@ pub fn parse_chained_template<C: ParserConfig, N: Nested<C>>(
     requires nests { CanNest (N.can nested.now) (room p.old) }
     requires start { start ≤ p.old.prev_token_end }
     requires template { one_of_kinds heads p.old.token.kind ≡ true }
-    ensures { TagsTemplate start tag p.old p.new result }
+    ensures read { TagsTemplate start tag p.old p.new result }
+    ensures told { IfOk result (λ _. TellsTemplate p.old p.new) }
 {
     let opening = p.cur_start();
     let template = parse_template_literal(p, nested)?;
     let quoted = p.end_span(opening);
-    p.error(diagnostic_at(
-        DiagnosticKind::OptionalChainTaggedTemplate,
-        quoted,
-    ))?;
+    p.error(diagnostic_at(DiagnosticKind::OptionalChainTaggedTemplate, quoted))?;
     let span = p.end_span(start);
     let kind = NodeKind::TaggedTemplateExpression;
     let node = make_two(p, kind, Op::None, span, tag, template)?;
