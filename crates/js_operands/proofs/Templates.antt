@@ -1,29 +1,25 @@
 -- Templates behind optional chains: moves over their parts, which are no lexemes that are read, and what is said of the whole.
-use Rattle.std.proofs.Common.{ℕ, ◌+◌, ◌≡◌, ◌<◌, ◌≤◌, ◌⊎◌, inl, inr, Bool, true, false, not, ◌&&◌, List, [], ◌∷◌, ◌++◌, length, Option, Some, None, refl, sym, ap, subst, arith, ◌∙◌, append_assoc}
-use Rattle.std.specs.Prelude.{IsCharBoundary, Result, Ok, Err, MatchResult}
+use Rattle.std.proofs.Common.{ℕ, ◌+◌, ◌≡◌, ◌<◌, ◌⊎◌, inl, inr, Bool, true, false, not, ◌&&◌, List, [], ◌∷◌, ◌++◌, length, Option, Some, refl, sym, ap, subst, arith, ◌∙◌, append_assoc}
+use Rattle.std.specs.Prelude.{IsCharBoundary, Ok}
 use Rattle.std.proofs.lemmas.Bool.{false≢true, and_parts}
 use Rattle.std.proofs.lemmas.List.Elements.{All-same}
 use Rattle.js_base.specs.declared.diagnostic.Diagnostic.{Diagnostic}
 use Rattle.js_base.specs.declared.diagnostic.DiagnosticKind.TheVariants.{OptionalChainTaggedTemplate}
 use Rattle.js_base.specs.declared.kind.Kind.{Kind}
-use Rattle.js_base.specs.declared.kind.Kind.TheVariants.{QuestionDot, RAngle, RCurly, TemplateMiddle, TemplateTail, Undetermined}
+use Rattle.js_base.specs.declared.kind.Kind.TheVariants.{RAngle, RCurly, TemplateMiddle, TemplateTail, Undetermined}
 use Rattle.js_base.specs.declared.span.Span.{Span}
-use Rattle.js_base.specs.declared.token.Token.{Token}
 use Rattle.js_base.specs.Kinds.{same_kind, one_of_kinds}
 use Rattle.js_base.specs.Spans.{LiesIn}
 use Rattle.js_base.proofs.KindLemmas.{kind_of_same}
 use Rattle.js_grammar.specs.Trees.{Label, Slots, append, end, tree}
 use Rattle.js_grammar.specs.Grammar.{Lexeme, Lexemes, next}
-use Rattle.js_grammar.specs.Insertion.{after_expression}
-use Rattle.js_grammar.specs.Follow.{row_of}
 use Rattle.js_grammar.specs.Lexemes.{LexicalGoal, division, kind_in, template_tail}
 use Rattle.js_grammar.specs.Lexed.{Lex as StandsBehind, all_faults}
 use Rattle.js_grammar.specs.LexicalFaults.{Reached}
 use Rattle.js_grammar.specs.Marks.{Mark, EdgeOf, the_start, the_end, a_lexeme}
-use Rattle.js_grammar.specs.Productions.{Flags, Symbol, at, plus_in, Expression}
+use Rattle.js_grammar.specs.Productions.{Flags, Symbol}
 use Rattle.js_grammar.specs.Settings.{Goal}
 use Rattle.js_grammar.proofs.Looks.{covers, covered}
-use Rattle.js_grammar.proofs.RightEdges.{same_row}
 use Rattle.js_lex.specs.Comments.{each_at, comment_at, irregular_at, html_fault_at}
 use Rattle.js_lex.specs.Reading.{cut, in_a_module, is_kept, is_right_angle, Tells, GivesLexeme, GivesNone, LexemeBehind, Outcome}
 use Rattle.js_lex.specs.States.{goal_of}
@@ -36,7 +32,7 @@ use Rattle.js_tree.specs.Nodes.{Node}
 use Rattle.js_tree.specs.Holding.{Holds, HoldsAll, Keeps}
 use Rattle.js_tree.proofs.HoldingLemmas.{HoldsAll-one, HoldsAll-two, HoldsAll-next, Keeps-refl, Keeps-trans, Keeps-made}
 use Rattle.js_cursor.specs.Checkpoints.{Follows}
-use Rattle.js_cursor.specs.Moves.{Completed, GivesUp, IsUnexpected, Keeps as KeepsOne, MovesOn, OnlyMemory, Passed as PassedOn, ReadAgain, is_last}
+use Rattle.js_cursor.specs.Moves.{Completed, GivesUp, IsUnexpected, Keeps as KeepsOne, MovesOn, Passed as PassedOn, ReadAgain, is_last}
 use Rattle.js_cursor.specs.Notes.{Notes}
 use Rattle.js_cursor.specs.Parsers.{Parser}
 use Rattle.js_cursor.specs.Places.{IsAt, goal}
@@ -51,17 +47,16 @@ use Rattle.js_parsing.specs.Heads.{NotedHeads}
 use Rattle.js_parsing.specs.Lexemes.{Lex, KeptFor, News, Spot, TriviaKept, Walked, nowhere, one_more, onward, read_kinds, spot}
 use Rattle.js_parsing.specs.Moves.{MadeHere, plain_label}
 use Rattle.js_parsing.specs.Nesting.{room}
-use Rattle.js_parsing.specs.States.{At, IsPlain, whole, sign, nothing as none_stands, Same, SpansLie, Standing, flags_of}
-use Rattle.js_parsing.specs.Stands.{StandsHere}
+use Rattle.js_parsing.specs.States.{At, IsPlain, whole, sign, nothing as none_stands, Same, flags_of}
 use Rattle.js_parsing.specs.Told.{unrelated_at}
 use Rattle.js_parsing.proofs.Classes.{unexpected_ends}
-use Rattle.js_parsing.proofs.Giving.{fails_none, gives_up_here, kept_one}
+use Rattle.js_parsing.proofs.Giving.{fails_none, kept_one}
 use Rattle.js_parsing.proofs.Here.{found, told, uncut}
 use Rattle.js_parsing.proofs.Kept.{faults_aside, kept_for}
 use Rattle.js_parsing.proofs.KeptTokens.{again_before, again_last, before_next, next_kept_last, trivia_kept}
 use Rattle.js_parsing.proofs.MadeNodes.{leaf_held, made_lies, node_held, one_lies}
-use Rattle.js_parsing.proofs.Moving.{beside_nodes, flags_same, heads_kept, nodes_lie, plain_given, same_both, same_with, standing, stops_behind, stops_so}
-use Rattle.js_parsing.proofs.Paths.{label_here, walked_both, walked_to}
+use Rattle.js_parsing.proofs.Moving.{beside_nodes, flags_same, heads_kept, nodes_lie, plain_given, same_both, same_with, stops_behind, stops_so}
+use Rattle.js_parsing.proofs.Paths.{walked_both, walked_to}
 use Rattle.js_parsing.proofs.Signs.{span_is}
 use Rattle.js_parsing.proofs.Told.{told_at, told_same}
 use Rattle.js_parsing.proofs.Verdicts.{either_way, grown_then}

@@ -1,5 +1,5 @@
 -- What the parse functions of a template behind an optional chain answer (ECMA-262, 13.3.1.1): none may stand there, so nothing is derived; it is told of, and passed.
-use Rattle.std.specs.Prelude.{ℕ, ◌+◌, ◌-◌, ◌++◌, ◌≡◌, ◌<◌, ◌≤◌, ◌⊎◌, Bool, true, false, cond, List, [], ◌∷◌, Option, Some, length, Result, Ok, Err}
+use Rattle.std.specs.Prelude.{ℕ, ◌+◌, ◌-◌, ◌++◌, ◌≡◌, ◌<◌, ◌≤◌, ◌⊎◌, Bool, true, false, cond, List, [], ◌∷◌, Some, length, Result, Ok, Err}
 use Rattle.js_base.specs.declared.kind.Kind.{Kind}
 use Rattle.js_base.specs.declared.kind.Kind.TheVariants.{NoSubstitutionTemplate, TemplateHead, TemplateMiddle, TemplateTail, QuestionDot}
 use Rattle.js_base.specs.declared.diagnostic.Diagnostic.{Diagnostic}
@@ -7,7 +7,7 @@ use Rattle.js_base.specs.declared.diagnostic.DiagnosticKind.TheVariants.{Optiona
 use Rattle.js_base.specs.declared.span.Span.{Span}
 use Rattle.js_base.specs.declared.token.Token.{Token}
 use Rattle.js_base.specs.Kinds.{one_of_kinds}
-use Rattle.js_grammar.specs.Trees.{Label, Slots, end, tree, no_op, tagged_template_expression, template_element}
+use Rattle.js_grammar.specs.Trees.{Label, Slots, no_op, tagged_template_expression, template_element}
 use Rattle.js_grammar.specs.Grammar.{Lexeme, Lexemes}
 use Rattle.js_grammar.specs.Marks.{EdgeOf}
 use Rattle.js_grammar.specs.Productions.{Flags, tail_flag}

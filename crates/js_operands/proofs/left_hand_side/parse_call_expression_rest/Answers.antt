@@ -1,5 +1,4 @@
-use Rattle.std.proofs.Common.{◌∙◌, true, false}
-use Rattle.js_base.specs.declared.kind.Kind.TheVariants.{LParen, QuestionDot}
+use Rattle.js_base.specs.declared.kind.Kind.TheVariants.{LParen}
 use Rattle.std.proofs.lemmas.Result.{err_from_is_err_and}
 use Rattle.js_operands.specs.declared.left_hand_side.LinkBase.TheVariants as base
 use Rattle.js_operands.proofs.Members.{call_closed, call_first, call_first_stops, call_linked, call_sign, call_stops, head_closed, here_so, link_less, next_loop, stands_so, start_loop}

@@ -1,5 +1,5 @@
-use Rattle.std.proofs.Common.{◌∙◌, true, false}
-use Rattle.js_base.specs.declared.kind.Kind.TheVariants.{LParen, QuestionDot}
+use Rattle.std.proofs.Common.{◌∙◌}
+use Rattle.js_base.specs.declared.kind.Kind.TheVariants.{QuestionDot}
 use Rattle.std.proofs.lemmas.Result.{err_from_is_err_and}
 use Rattle.js_operands.proofs.Members.{chain_begun, chain_done, chain_first_stops, chain_less, chain_on, chain_stops, goes_on_so, lhs_callee, next_chain, stands_so, start_loop}
 use Rattle.js_parsing.proofs.Nesting.{nests_later}
