@@ -16,7 +16,7 @@ use Rattle.js_grammar.specs.Grammar.{Lexeme, Lexemes, next}
 use Rattle.js_grammar.specs.Lexemes.{LexicalGoal, division, kind_in, template_tail}
 use Rattle.js_grammar.specs.Lexed.{Lex as StandsBehind, all_faults}
 use Rattle.js_grammar.specs.LexicalFaults.{Reached}
-use Rattle.js_grammar.specs.Marks.{Mark, EdgeOf, the_start, the_end, a_lexeme}
+use Rattle.js_grammar.specs.Marks.{Mark, EdgeOf, IsLexemeOf, the_start, the_end, a_lexeme}
 use Rattle.js_grammar.specs.Productions.{Flags, Symbol}
 use Rattle.js_grammar.specs.Settings.{Goal}
 use Rattle.js_grammar.proofs.Looks.{covers, covered}
@@ -62,7 +62,8 @@ use Rattle.js_parsing.proofs.Told.{told_at, told_same}
 use Rattle.js_parsing.proofs.Verdicts.{either_way, grown_then}
 use Rattle.js_parsing.proofs.Verdicts.{after as grown_behind}
 use Rattle.js_operands.specs.Members.{LinkForm, NoLink, Taken}
-use Rattle.js_operands.specs.Templates.{BeginsPart, PartAt, PartBegun, Passed, Tagged, TakesPart, TellsTemplate, element_label, heads, inside_end, parts, tagged_label, with_faults}
+use Rattle.js_operands.specs.Templates.{BeginsPart, PartAt, PartBegun, Passed, Tagged, TakesPart, TellsTemplate, element_label, heads, inside_end, parts, tagged_label, with_faults, LastIs, last_parts}
+use Rattle.js_operands.specs.declared.template.PassedPart.{PassedPart}
 use Rattle.js_operands.proofs.PartInsides.{IsInside, part_inside}
 
 -- ---- kinds of parts
@@ -78,6 +79,10 @@ head_kinds = refl
 is_not : (b : Bool) → not b ≡ true → b ≡ false
 is_not true h = absurd (false≢true h)
 is_not false h = refl
+
+pub is_so : (b : Bool) → not b ≡ false → b ≡ true
+is_so true h = refl
+is_so false h = absurd (false≢true (sym h))
 
 part_counts : (k : Kind) → one_of_kinds parts k ≡ true → is_kept k ≡ true
 part_counts k h = (and_parts (is_kept k) _ (covered (λ k w e. one_of_kinds parts k) (λ k w e. is_kept k && (not (is_last k) && not (same_kind RAngle k))) part_kinds k false false h)).0
@@ -120,6 +125,10 @@ part_standing {text} {f} {p} a = subst (λ (g : Flags). PartAt p.text g p) (sym 
 same_of : {p q : Parser} → IsAt q → Follows p q → q.nodes ≡ p.nodes → q.errors ≡ p.errors → q.options ≡ p.options → q.ctx ≡ p.ctx → q.depth ≡ p.depth → q.visits ≡ p.visits → Same p q
 same_of {p} {q} i g n e o c d v = record { follows = g; options = o; ctx = c; depth = d; visits = v; early = λ h. All-same IsEarly q.errors p.errors e h; lies = λ h. (i.lies.starts_whole, nodes_lie p q g.text n h.1) }
 
+-- nodes and diagnostics don't matter to that
+last_beside : {q : Parser} {k : Kind} (ns : List Node) (ds : List Diagnostic) → LastIs q k → LastIs (record q { nodes = ns; errors = ds }) k
+last_beside ns ds x = record { lexeme = x.lexeme; of_text = x.of_text; ends = x.ends; is = x.is }
+
 -- The part was passed, and nothing else was made or kept.
 pub record PartMoved (text : List ℕ) (f : Flags) (p q : Parser) : Type 0 where
   pub at : At text f q
@@ -128,7 +137,7 @@ pub record PartMoved (text : List ℕ) (f : Flags) (p q : Parser) : Type 0 where
   pub further : p.token.span.start < q.prev_token_end
   pub pass : Lexemes → Lexemes
   pub walked : Walked text (spot p) (spot q) pass
-  pub ends : EdgeOf (goal q) q.text q.prev_token_end
+  pub last : LastIs q p.token.kind
 
 module _ {text : List ℕ} {f : Flags} {p q : Parser} (a : PartAt text f p) where
   part_passed : MovesOn p q → PassedOn p q
@@ -177,8 +186,8 @@ module _ {text : List ℕ} {f : Flags} {p q : Parser} (a : PartAt text f p) wher
       faults = each_at (html_fault_at (in_a_module p.lexer.goal)) p.lexer.place h.next.pieces ++ h.next.faults;
     }
 
-    last_edge : EdgeOf (goal q) q.text q.prev_token_end
-    last_edge = subst (λ (t : List ℕ). EdgeOf (goal q) t q.prev_token_end) (sym h.stays.text) (the_end (a_lexeme a.at.reached h.stood) (sym h.moved))
+    last_is : LastIs q p.token.kind
+    last_is = record { lexeme = h.lexeme; of_text = subst (λ (t : List ℕ). IsLexemeOf (goal q) t h.lexeme) (sym h.stays.text) (a_lexeme a.at.reached h.stood); ends = sym h.moved; is = sym h.tells.kind }
 
     moved : PartMoved text f p q
     unfolding news
@@ -195,7 +204,7 @@ module _ {text : List ℕ} {f : Flags} {p q : Parser} (a : PartAt text f p) wher
         faults = subst (λ (v : Goal). KeptFor v text h.lexeme.to news.faults) a.at.reads_for (there (λ v i. KeptFor p.lexer.goal v i news.faults) (kept_for h.next));
         trivia = there (λ v i. TriviaKept v i news.comments news.blanks) (trivia_kept h.next);
       }));
-      ends = last_edge;
+      last = last_is;
     }
       where
         spot_is : onward (spot p) h.lexeme news ≡ spot q
@@ -210,19 +219,23 @@ module _ {text : List ℕ} {f : Flags} {p q : Parser} (a : PartAt text f p) wher
   part_moves m = moved (part_passed m)
 
 -- with its node
-pub part_taken : {text : List ℕ} {f : Flags} {p q w : Parser} {id : NodeId} (last : Bool) (s : Span) → PartMoved text f p q → LiesIn s p.text → MadeHere (element_label last s) [] q w id → Passed text f p w id
-part_taken {text} {f} {p} {q} {w} {id} last s m l n = subst (λ (z : Parser). Passed text f p z id) (sym n.stays) (record {
-  at = beside_nodes w.nodes m.at;
-  same = same_with w.nodes m.same keeps (λ b h. one_lies n (subst (λ (t : List ℕ). LiesIn s t) (sym m.same.follows.text) l) h);
-  further = m.further;
-  pass = m.pass;
-  walked = m.walked;
-  label = element_label last s;
-  slots = end;
-  holds = leaf_held n kept;
-  keeps = keeps;
-  ends = m.ends;
-})
+pub part_taken : {text : List ℕ} {f : Flags} {p q w : Parser} {id : NodeId} (last : Bool) (s : Span) → PartMoved text f p q → LiesIn s p.text → MadeHere (element_label last s) [] q w id → last ≡ one_of_kinds last_parts p.token.kind → (x : Passed text f p w id) × (last ≡ one_of_kinds last_parts x.kind)
+part_taken {text} {f} {p} {q} {w} {id} last s m l n e = subst (λ (z : Parser). (x : Passed text f p z id) × (last ≡ one_of_kinds last_parts x.kind)) (sym n.stays) (
+  record {
+    at = beside_nodes w.nodes m.at;
+    same = same_with w.nodes m.same keeps (λ b h. one_lies n (subst (λ (t : List ℕ). LiesIn s t) (sym m.same.follows.text) l) h);
+    further = m.further;
+    pass = m.pass;
+    walked = m.walked;
+    label = element_label last s;
+    slots = end;
+    holds = leaf_held n kept;
+    keeps = keeps;
+    kind = p.token.kind;
+    last = last_beside w.nodes q.errors m.last;
+  },
+  e,
+)
   where
     kept : Keeps p.nodes q.nodes
     kept = subst (λ (ns : List Node). Keeps p.nodes ns) (sym m.nodes) (Keeps-refl p.nodes)
@@ -355,10 +368,11 @@ pub record Parts (text : List ℕ) (f : Flags) (p q : Parser) (ids : List (Optio
   pub slots : Slots
   pub holds : HoldsAll q.nodes (length p.nodes) (length q.nodes) ids slots
   pub keeps : Keeps p.nodes q.nodes
-  pub ends : EdgeOf (goal q) q.text q.prev_token_end
+  pub kind : Kind
+  pub last : LastIs q kind
 
 pub first_part : {text : List ℕ} {f : Flags} {p q : Parser} {id : NodeId} → Passed text f p q id → Parts text f p q (Some id ∷ [])
-first_part {id = id} x = record { at = x.at; same = x.same; further = x.further; pass = x.pass; walked = x.walked; slots = tree x.label x.slots end; holds = HoldsAll-one id x.holds; keeps = x.keeps; ends = x.ends }
+first_part {id = id} x = record { at = x.at; same = x.same; further = x.further; pass = x.pass; walked = x.walked; slots = tree x.label x.slots end; holds = HoldsAll-one id x.holds; keeps = x.keeps; kind = x.kind; last = x.last }
 
 pub next_part : {text : List ℕ} {f : Flags} {n : Symbol} {p q r s t : Parser} {ids : List (Option NodeId)} {e id : NodeId} → Parts text f p q ids → Numbered text f n q r e → PartBegun text f r s → Passed text f s t id → Parts text f p t ((ids ++ Some e ∷ []) ++ Some id ∷ [])
 next_part {text} {f} {n} {p} {q} {r} {s} {t} {ids} {e} {id} x y b z = record {
@@ -370,7 +384,8 @@ next_part {text} {f} {n} {p} {q} {r} {s} {t} {ids} {e} {id} x y b z = record {
   slots = _;
   holds = HoldsAll-next id z.keeps (subst (λ (ns : List Node). HoldsAll ns (length p.nodes) (length ns) (ids ++ Some e ∷ []) (append x.slots (tree y.answer.label y.answer.slots end))) (sym b.nodes) (HoldsAll-next e y.keeps x.holds y.holds)) z.holds;
   keeps = Keeps-trans x.keeps (Keeps-trans y.keeps (subst (λ (ns : List Node). Keeps ns t.nodes) b.nodes z.keeps));
-  ends = z.ends;
+  kind = z.kind;
+  last = z.last;
 }
 
 pub parts_room : {text : List ℕ} {f : Flags} {p q : Parser} {ids : List (Option NodeId)} → At text f p → Parts text f p q ids → room q < room p
@@ -396,40 +411,52 @@ pub parts_stop_later : {text : List ℕ} {f : Flags} {n : Symbol} {p q v : Parse
 parts_stop_later F r e x y z = let s = same_both x.same y.answer.same in stops_behind r e s (λ g. grown_since s g) (λ n. tt) z
 
 -- what the loop over them keeps
-pub record PartsLoop (start : ℕ) (p q : Parser) (ids : List (Option NodeId)) : Type 0 where
+pub record PartsLoop (start : ℕ) (p q : Parser) (ids : List (Option NodeId)) (is_last : Bool) : Type 0 where
   pub start_is : start ≡ p.token.span.start
-  pub goes : (text : List ℕ) (f : Flags) → At text f p → Parts text f p q ids
+  pub goes : (text : List ℕ) (f : Flags) → At text f p → (x : Parts text f p q ids) × (is_last ≡ one_of_kinds last_parts x.kind)
 
-pub parts_first : {p q : Parser} {start : ℕ} {id : NodeId} {us vs : List (Option NodeId)} → start ≡ p.token.span.start → ((text : List ℕ) (f : Flags) → At text f p → Passed text f p q id) → us ≡ vs ++ Some id ∷ [] → vs ≡ [] → PartsLoop start p q us
-parts_first {p} {q} {id = id} b h e n = record { start_is = b; goes = λ text f a. subst (λ (ids : List (Option NodeId)). Parts text f p q ids) (sym (e ∙ ap (λ (ids : List (Option NodeId)). ids ++ Some id ∷ []) n)) (first_part (h text f a)) }
+pub parts_first : {p q : Parser} {start : ℕ} {part : PassedPart} {us vs : List (Option NodeId)} → start ≡ p.token.span.start → ((text : List ℕ) (f : Flags) → At text f p → (x : Passed text f p q part.element) × (part.is_last ≡ one_of_kinds last_parts x.kind)) → us ≡ vs ++ Some part.element ∷ [] → vs ≡ [] → PartsLoop start p q us part.is_last
+unfolding first_part
+parts_first {p} {q} {part = part} b h e n = record {
+  start_is = b;
+  goes = λ text f a.
+      let z = h text f a in
+      subst (λ (ids : List (Option NodeId)). (x : Parts text f p q ids) × (part.is_last ≡ one_of_kinds last_parts x.kind)) (sym (e ∙ ap (λ (ids : List (Option NodeId)). ids ++ Some part.element ∷ []) n)) (first_part z.0, z.1);
+}
 
-pub parts_next : {n : Flags → Symbol} {start : ℕ} {p q r s t : Parser} {e id : NodeId} {ids us vs : List (Option NodeId)} → PartsLoop start p q ids → ((text : List ℕ) (f : Flags) → At text f q → Numbered text f (n f) q r e) → BeginsPart r s (Ok tt) → TakesPart id s t → us ≡ ids ++ Some e ∷ [] → vs ≡ us ++ Some id ∷ [] → PartsLoop start p t vs
-parts_next {p = p} {r = r} {t = t} {e = e} {id = id} l h b z i j = record {
+pub parts_next : {n : Flags → Symbol} {start : ℕ} {p q r s t : Parser} {e : NodeId} {part : PassedPart} {ids us vs : List (Option NodeId)} {before : Bool} → PartsLoop start p q ids before → ((text : List ℕ) (f : Flags) → At text f q → Numbered text f (n f) q r e) → BeginsPart r s (Ok tt) → TakesPart part s t → us ≡ ids ++ Some e ∷ [] → vs ≡ us ++ Some part.element ∷ [] → PartsLoop start p t vs part.is_last
+unfolding next_part
+parts_next {p = p} {r = r} {t = t} {e = e} {part = part} l h b z i j = record {
   start_is = l.start_is;
   goes = λ text f a.
-      let x = l.goes text f a in
+      let x = (l.goes text f a).0 in
       let y = h text f x.at in
       let k = b text f y.answer.at in
-      subst (λ (ids : List (Option NodeId)). Parts text f p t ids) (sym (j ∙ ap (λ (ids : List (Option NodeId)). ids ++ Some id ∷ []) i)) (next_part x y k (z text f k.at));
+      let u = z text f k.at in
+      subst (λ (ids : List (Option NodeId)). (x : Parts text f p t ids) × (part.is_last ≡ one_of_kinds last_parts x.kind)) (sym (j ∙ ap (λ (ids : List (Option NodeId)). ids ++ Some part.element ∷ []) i)) (next_part x y k u.0, u.1);
 }
 
 -- the node of the template
-pub template_made : {text : List ℕ} {f : Flags} {p q w : Parser} {ids : List (Option NodeId)} {id : NodeId} {s : Span} → Parts text f p q ids → s.start ≡ p.token.span.start → s.end ≡ q.prev_token_end → MadeHere (plain_label node.TemplateLiteral op.None s) ids q w id → Passed text f p w id
-template_made {text} {f} {p} {q} {w} {ids} {id} {s} x b c d =
+pub template_made : {text : List ℕ} {f : Flags} {p q w : Parser} {ids : List (Option NodeId)} {id : NodeId} {s : Span} (x : Parts text f p q ids) → one_of_kinds last_parts x.kind ≡ true → s.start ≡ p.token.span.start → s.end ≡ q.prev_token_end → MadeHere (plain_label node.TemplateLiteral op.None s) ids q w id → (y : Passed text f p w id) × (one_of_kinds last_parts y.kind ≡ true)
+template_made {text} {f} {p} {q} {w} {ids} {id} {s} x h b c d =
     let l : Label = plain_label node.TemplateLiteral op.None (record { start = p.token.span.start; end = q.prev_token_end }) in
     let n : MadeHere l ids q w id = subst (λ (z : Label). MadeHere z ids q w id) (rw (b, c) refl) d in
-    subst (λ (z : Parser). Passed text f p z id) (sym n.stays) (record {
-      at = beside_nodes w.nodes x.at;
-      same = same_with w.nodes x.same (Keeps-trans x.keeps (Keeps-made n.made)) (made_lies x.same x.at.at (let a = x.further in omega arith) n refl);
-      further = x.further;
-      pass = x.pass;
-      walked = x.walked;
-      label = l;
-      slots = x.slots;
-      holds = node_held n x.holds;
-      keeps = Keeps-trans x.keeps (Keeps-made n.made);
-      ends = x.ends;
-    })
+    subst (λ (z : Parser). (y : Passed text f p z id) × (one_of_kinds last_parts y.kind ≡ true)) (sym n.stays) (
+      record {
+        at = beside_nodes w.nodes x.at;
+        same = same_with w.nodes x.same (Keeps-trans x.keeps (Keeps-made n.made)) (made_lies x.same x.at.at (let a = x.further in omega arith) n refl);
+        further = x.further;
+        pass = x.pass;
+        walked = x.walked;
+        label = l;
+        slots = x.slots;
+        holds = node_held n x.holds;
+        keeps = Keeps-trans x.keeps (Keeps-made n.made);
+        kind = x.kind;
+        last = last_beside w.nodes q.errors x.last;
+      },
+      h,
+    )
 
 -- ---- the template behind a chain
 
@@ -441,7 +468,7 @@ module _ {text : List ℕ} {f : Flags} {p q : Parser} {template : NodeId} (a : A
     within = let i = x.at.at.between.0 in omega arith;
     begins_between = subst (λ (n : ℕ). IsCharBoundary q.text n) (sym b) (subst (λ (t : List ℕ). IsCharBoundary t p.token.span.start) (sym x.same.follows.text) a.at.lies.starts_whole);
     ends_between = subst (λ (n : ℕ). IsCharBoundary q.text n) (sym e) x.at.at.between;
-    stands = ((subst (λ (n : ℕ). EdgeOf (goal q) q.text n) (sym b) begins, subst (λ (n : ℕ). EdgeOf (goal q) q.text n) (sym e) x.ends), (refl, refl));
+    stands = ((subst (λ (n : ℕ). EdgeOf (goal q) q.text n) (sym b) begins, subst (λ (n : ℕ). EdgeOf (goal q) q.text n) (sym e) (the_end x.last.of_text x.last.ends)), (refl, refl));
   }
     where
       begins : EdgeOf (goal q) q.text p.token.span.start
@@ -467,12 +494,13 @@ module _ {text : List ℕ} {f : Flags} {p q : Parser} {template : NodeId} (a : A
   }
 
 -- it is told last, from where it begins to where it ends
-pub template_told : {text : List ℕ} {f : Flags} {p q r w : Parser} {template id : NodeId} {ids : List (Option NodeId)} {l : Label} (s : Span) → Passed text f p q template → KeepsOne (unrelated_at OptionalChainTaggedTemplate s) q r → MadeHere l ids r w id → s.start ≡ p.token.span.start → s.end ≡ q.prev_token_end → TellsTemplate p w
-template_told {p = p} {q = q} {r = r} {w = w} s x k m b e =
+pub template_told : {text : List ℕ} {f : Flags} {p q r w : Parser} {template id : NodeId} {ids : List (Option NodeId)} {l : Label} (s : Span) (x : Passed text f p q template) → one_of_kinds last_parts x.kind ≡ true → KeepsOne (unrelated_at OptionalChainTaggedTemplate s) q r → MadeHere l ids r w id → s.start ≡ p.token.span.start → s.end ≡ q.prev_token_end → TellsTemplate p w
+template_told {p = p} {q = q} {r = r} {w = w} s x h k m b e =
     let place : w.prev_token_end ≡ q.prev_token_end = ap (λ (z : Parser). z.prev_token_end) m.stays ∙ ap (λ (z : Parser). z.prev_token_end) k.is in
     let kept : w.errors ≡ q.errors ++ unrelated_at OptionalChainTaggedTemplate s ∷ [] = ap (λ (z : Parser). z.errors) m.stays ∙ ap (λ (z : Parser). z.errors) k.is in
     let span : s ≡ record { start = p.token.span.start; end = w.prev_token_end } = span_is s b (e ∙ sym place) in
-    (x.same.follows.later_errors, kept ∙ (λ i. x.same.follows.errors i ++ unrelated_at OptionalChainTaggedTemplate (span i) ∷ []))
+    let last : LastIs r x.kind = subst (λ (z : Parser). LastIs z x.kind) (sym k.is) (last_beside q.nodes (q.errors ++ unrelated_at OptionalChainTaggedTemplate s ∷ []) x.last) in
+    (x.same.follows.later_errors, kept ∙ (λ i. x.same.follows.errors i ++ unrelated_at OptionalChainTaggedTemplate (span i) ∷ []), x.kind, subst (λ (z : Parser). LastIs z x.kind) (sym m.stays) (last_beside w.nodes r.errors last), h)
 
 -- where it can't be passed
 pub template_stops : {text : List ℕ} {f : Flags} {p : Parser} (q : Parser) (e : Stop) → At text f p → one_of_kinds heads p.token.kind ≡ true → Stops p q e (Unit {0}) → Stops p q e ((c : LinkForm) (o : Bool) → NoLink text f p.prev_token_end c o)

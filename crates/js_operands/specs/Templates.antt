@@ -9,7 +9,7 @@ use Rattle.js_base.specs.declared.token.Token.{Token}
 use Rattle.js_base.specs.Kinds.{one_of_kinds}
 use Rattle.js_grammar.specs.Trees.{Label, Slots, no_op, tagged_template_expression, template_element}
 use Rattle.js_grammar.specs.Grammar.{Lexeme, Lexemes}
-use Rattle.js_grammar.specs.Marks.{EdgeOf}
+use Rattle.js_grammar.specs.Marks.{IsLexemeOf}
 use Rattle.js_grammar.specs.Productions.{Flags, tail_flag}
 use Rattle.js_tree.specs.declared.id.NodeId.{NodeId}
 use Rattle.js_tree.specs.Holding.{Holds, Keeps}
@@ -23,6 +23,7 @@ use Rattle.js_parsing.specs.Moves.{MadeHere}
 use Rattle.js_parsing.specs.States.{At, Same, flags_of}
 use Rattle.js_parsing.specs.Told.{unrelated_at}
 use Rattle.js_operands.specs.declared.left_hand_side.LinkBase.TheVariants as base
+use Rattle.js_operands.specs.declared.template.PassedPart.{PassedPart}
 use Rattle.js_operands.specs.Members.{LinkForm, LinkHere, Linked, NoLink}
 
 -- what a template begins with, and the last part of one
@@ -84,7 +85,14 @@ PartOutcome text f p q (Err e) = Stops p q e (Unit {0})
 abbrev pub BeginsPart : Parser → Parser → Result (Unit {0}) Stop → Type 0
 BeginsPart p q r = (text : List ℕ) (f : Flags) → At text f p → PartOutcome text f p q r
 
--- Something was passed of which nothing is derived, and a node of it was made; its last lexeme ends here.
+-- The last lexeme before the place is of this kind.
+pub record LastIs (p : Parser) (k : Kind) : Type 0 where
+  pub lexeme : Lexeme
+  pub of_text : IsLexemeOf (goal p) p.text lexeme
+  pub ends : lexeme.to ≡ p.prev_token_end
+  pub is : lexeme.kind ≡ k
+
+-- Something was passed of which nothing is derived, and a node of it was made; its last lexeme is of this kind.
 pub record Passed (text : List ℕ) (f : Flags) (p q : Parser) (id : NodeId) : Type 0 where
   pub at : At text f q
   pub same : Same p q
@@ -95,15 +103,16 @@ pub record Passed (text : List ℕ) (f : Flags) (p q : Parser) (id : NodeId) : T
   pub slots : Slots
   pub holds : Holds q.nodes (length p.nodes) (length q.nodes) id.0 label slots
   pub keeps : Keeps p.nodes q.nodes
-  pub ends : EdgeOf (goal q) q.text q.prev_token_end
+  pub kind : Kind
+  pub last : LastIs q kind
 
--- a part of a template
-abbrev pub TakesPart : NodeId → Parser → Parser → Type 0
-TakesPart id p q = (text : List ℕ) (f : Flags) → PartAt text f p → Passed text f p q id
+-- a part of a template, the last one or not
+abbrev pub TakesPart : PassedPart → Parser → Parser → Type 0
+TakesPart part p q = (text : List ℕ) (f : Flags) → PartAt text f p → (x : Passed text f p q part.element) × (part.is_last ≡ one_of_kinds last_parts x.kind)
 
--- a whole template
+-- a whole template, up to its last part
 abbrev pub TemplateOutcome : List ℕ → Flags → Parser → Parser → Result NodeId Stop → Type 0
-TemplateOutcome text f p q (Ok id) = Passed text f p q id
+TemplateOutcome text f p q (Ok id) = (x : Passed text f p q id) × (one_of_kinds last_parts x.kind ≡ true)
 TemplateOutcome text f p q (Err e) = Stops p q e (Unit {0})
 
 abbrev pub TakesTemplate : Parser → Parser → Result NodeId Stop → Type 0
@@ -139,9 +148,9 @@ TagOutcome text f start left p q (Err e) = Stops p q e ((c : LinkForm) (o : Bool
 abbrev pub TagsTemplate : ℕ → NodeId → Parser → Parser → Result NodeId Stop → Type 0
 TagsTemplate start left p q r = (text : List ℕ) (f : Flags) → At text f p → TagOutcome text f start left p q r
 
--- The diagnostic that was kept last is of a template that began where the call did, and ended where the call did.
+-- The diagnostic that was kept last is of a template that began where the call did, and ended where the call did, with a last part.
 abbrev pub TellsTemplate : Parser → Parser → Type 0
-TellsTemplate p q = (before : List Diagnostic) × (q.errors ≡ (p.errors ++ before) ++ unrelated_at OptionalChainTaggedTemplate (record { start = p.token.span.start; end = q.prev_token_end }) ∷ [])
+TellsTemplate p q = (before : List Diagnostic) × (q.errors ≡ (p.errors ++ before) ++ unrelated_at OptionalChainTaggedTemplate (record { start = p.token.span.start; end = q.prev_token_end }) ∷ []) × (k : Kind) × LastIs q k × (one_of_kinds last_parts k ≡ true)
 
 -- a link of an optional chain, or a template
 abbrev pub ChainLinkOutcome : List ℕ → Flags → ℕ → NodeId → Parser → Parser → Result NodeId Stop → Type 0

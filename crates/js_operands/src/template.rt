@@ -107,7 +107,7 @@ fn re_lex_part<C: ParserConfig>(p: &mut ParserImpl<'_, C>) -> Result<(), Stop>
 /// Moves on over the template part that stands here, and makes its TemplateElement.
 fn pass_part<C: ParserConfig>(p: &mut ParserImpl<'_, C>) -> Result<PassedPart, Stop>
     requires at { StandingPart p.old }
-    ensures { MatchResult result (λ part. TakesPart part.element p.old p.new) OnlyMemory }
+    ensures { MatchResult result (λ part. TakesPart part p.old p.new) OnlyMemory }
 {
     let token = p.cur_token();
     let is_last = is_last_part(token.kind());
