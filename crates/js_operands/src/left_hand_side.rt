@@ -21,10 +21,11 @@ ghost use Rattle.js_operands.specs.declared.left_hand_side.LinkBase.TheVariants 
 use crate::arguments::parse_call_arguments;
 use crate::primary::{parse_leaf, parse_primary_expression};
 use crate::template::{begins_template, parse_chained_template};
-use js_base::{Diagnostic, DiagnosticKind, Kind, NoMemory, Span};
+use js_base::{DiagnosticKind, Kind, NoMemory, Span};
 use js_cursor::{ParserImpl, Stop};
 use js_lex::ParserConfig;
 use js_parsing::context::expression_with_in;
+use js_parsing::diagnostics::diagnostic_at;
 use js_parsing::lexemes::{advance, is_read_word, stands};
 use js_parsing::nested::Nested;
 use js_parsing::nodes::make_one;
@@ -94,12 +95,8 @@ fn refuse_chain<C: ParserConfig>(p: &mut ParserImpl<'_, C>) -> Stop
     requires sign { StandsHere p.old QuestionDot true }
     ensures { GivesUp (TellsChain p.old.token.span) p.old p.new result }
 {
-    p.set_fatal_error(Diagnostic {
-        kind: DiagnosticKind::InvalidNewOptionalChain,
-        span: p.cur_token().span(),
-        first: None,
-        second: None,
-    })
+    let sign = p.cur_token().span();
+    p.set_fatal_error(diagnostic_at(DiagnosticKind::InvalidNewOptionalChain, sign))
 }
 
 /// The names and the expressions in brackets behind a member.
@@ -248,6 +245,7 @@ fn parse_link<C: ParserConfig, N: Nested<C>>(
 
 /// `?.` and arguments, an expression in brackets or a name, behind what was read; or a template, of which is told that it
 /// stands there (ECMA-262, section 13.3.1.1).
+#[inline(never)]
 fn parse_optional_link<C: ParserConfig, N: Nested<C>>(
     p: &mut ParserImpl<'_, C>,
     nested: &N,
@@ -303,12 +301,8 @@ fn refuse_optional_link<C: ParserConfig>(p: &mut ParserImpl<'_, C>, sign: Span) 
     requires mark { Mark (goal p.old) p.old.text (no_link_behind sign) }
     ensures { GivesUp (λ d. d ≡ no_link_behind sign) p.old p.new result }
 {
-    p.set_fatal_error(Diagnostic {
-        kind: DiagnosticKind::IdentifierExpectedAfterQuestionDot,
-        span: sign,
-        first: None,
-        second: None,
-    })
+    let kind = DiagnosticKind::IdentifierExpectedAfterQuestionDot;
+    p.set_fatal_error(diagnostic_at(kind, sign))
 }
 
 /// `.` and a name, behind what was read.
