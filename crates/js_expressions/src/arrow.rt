@@ -223,10 +223,7 @@ fn check_line<C: ParserConfig>(p: &mut ParserImpl<'_, C>) -> Result<(), NoMemory
 {
     if p.cur_token().is_on_new_line() {
         let arrow = p.cur_token().span();
-        p.error(diagnostic_at(
-            DiagnosticKind::LineterminatorBeforeArrow,
-            arrow,
-        ))?;
+        p.error(diagnostic_at(DiagnosticKind::LineterminatorBeforeArrow, arrow))?;
     }
     Ok(())
 }
