@@ -1,5 +1,5 @@
 -- What the lexeme behind an opening parenthesis says of the head of an arrow function (ECMA-262, 15.3).
-use Rattle.std.proofs.Common.{ℕ, ◌≡◌, List, [], ◌∷◌, Bool, true, false, ◌||◌, IsTrue, Option, Some, None, refl, sym, ap, subst, arith, ◌∙◌}
+use Rattle.std.proofs.Common.{ℕ, ◌≡◌, List, Bool, true, false, IsTrue, Option, None, refl, sym, ap, subst, arith, ◌∙◌}
 use Rattle.std.specs.Prelude.{Result, Ok, Err, MatchResult}
 use Rattle.std.proofs.lemmas.Bool.{false≢true}
 use Rattle.js_base.specs.declared.diagnostic.DiagnosticKind.TheVariants.{ExpectToken}
@@ -8,11 +8,11 @@ use Rattle.js_base.specs.declared.kind.Kind.TheVariants.{Arrow, Dot3, LParen, Ne
 use Rattle.js_base.specs.declared.token.Token.{Token}
 use Rattle.js_base.specs.Kinds.{same_kind, one_of_kinds}
 use Rattle.js_grammar.specs.Trees.{Slots, end, parenthesized_expression}
-use Rattle.js_grammar.specs.Grammar.{Lexeme, Lexemes, Look, Takes, here, seen, such, marked, ◌▸◌, is_lexeme, is_seq}
+use Rattle.js_grammar.specs.Grammar.{Lexeme, Lexemes, Look, Takes, seen, such, marked, ◌▸◌, is_lexeme, is_seq}
 use Rattle.js_grammar.specs.Lexed.{Lexes}
 use Rattle.js_grammar.specs.Lexemes.{division}
-use Rattle.js_grammar.specs.Parsing.{Test, plain, full, always, Admits, Goes, Fails, still}
-use Rattle.js_grammar.specs.Productions.{G, Flags, at, tok, mk, plus_in, with_pife, Assignment, Expression, Params, Primary, Short, Unary, Update}
+use Rattle.js_grammar.specs.Parsing.{Test, plain, full, always, Goes, Fails, still}
+use Rattle.js_grammar.specs.Productions.{G, Flags, at, tok, mk, plus_in, with_pife, Expression, Params, Primary, Short, Unary, Update}
 use Rattle.js_grammar.specs.Table.{rule, rule_of}
 use Rattle.js_grammar.specs.FirstSets.{first}
 use Rattle.js_grammar.specs.Follow.{after}
@@ -30,10 +30,10 @@ use Rattle.js_cursor.specs.Parsers.{Parser}
 use Rattle.js_cursor.specs.declared.stop.Stop.{Stop}
 use Rattle.js_operands.proofs.Links.{no_lhs_here}
 use Rattle.js_operands.proofs.Members.{no_head}
-use Rattle.js_parsing.specs.Answers.{Answer, Answers, Numbered, Stops, Underived}
+use Rattle.js_parsing.specs.Answers.{Answers, Stops, Underived}
 use Rattle.js_parsing.specs.Lexemes.{Lex}
 use Rattle.js_parsing.specs.Operators.{unary_kinds}
-use Rattle.js_parsing.specs.States.{At, Standing}
+use Rattle.js_parsing.specs.States.{At}
 use Rattle.js_parsing.proofs.Classes.{here_ends}
 use Rattle.js_parsing.proofs.Dead.{live, lives}
 use Rattle.js_parsing.proofs.Giving.{gives_up, memory_stops}
@@ -45,10 +45,12 @@ use Rattle.js_parsing.proofs.Verdicts.{after as grown_behind}
 use Rattle.js_patterns.specs.Parameters.{parameters_left}
 use Rattle.js_patterns.proofs.ParameterLists.{no_params}
 use Rattle.js_grammar.specs.Grammar.{alt}
-use Rattle.js_expressions.specs.Arrows.{FindsHead, IsHeadHere, NoArrowHere, NoAssignment, ReadsHead, SearchesHead}
-use Rattle.js_expressions.specs.Lookaheads.{begins_operand, NoOperandHere}
+use Rattle.js_expressions.specs.Arrows.{FindsHead, IsHeadHere, NoArrowHere, NoAssignment, SearchesHead, Unmoved}
+use Rattle.js_expressions.specs.Lookaheads.{begins_operand, LooksAhead, NoOperandHere}
+use Rattle.js_expressions.specs.declared.lookahead.HeadLookahead.{HeadLookahead}
+use Rattle.js_expressions.specs.declared.lookahead.HeadLookahead.TheVariants as lookahead
 use Rattle.js_expressions.specs.Rests.{update_kinds}
-use Rattle.js_expressions.proofs.Arrows.{certain_head, given_behind, no_head_no_arrow, no_parameters, unarrowed, unassigned}
+use Rattle.js_expressions.proofs.Arrows.{certain_head, given_behind, no_head_no_arrow, no_parameters, unarrowed, unassigned, unmoved}
 use Rattle.js_expressions.proofs.Coalescing.{no_short}
 use Rattle.js_expressions.proofs.Exponents.{power_none}
 use Rattle.js_expressions.proofs.Operations.{fails_at_level}
@@ -72,9 +74,9 @@ behind_paren : {text : List ℕ} {f : Flags} {p : Parser} {X : Test} {g : G} →
 behind_paren {text} {f} {p} {X} {g} a k n = record { no = λ ts vs j ls rest l d e. go ts vs j ls rest l d }
   where
     go : (ts vs : Slots) (j : ℕ) (ls rest : Lexemes) → Lexes (Lex text) p.prev_token_end ls → Takes rule (tok LParen ▸ g) end ts p.prev_token_end ls vs j rest → ⊥
-    go ts vs j ls rest l (is_seq {us = us} (is_lexeme {x = x} {ls = mid} q) d) =
+    go ts vs j ls rest l (is_seq (is_lexeme {x = x} {ls = mid} q) d) =
         let e : p.token.span.end ≡ x.to = (told a (uncut a (ap (same_kind RAngle) k)) x l.0).end in
-        let z : Fails rule (Lex text) (plain full) us g x.to = fails_here firsts {X = plain full} (λ y i s. n y (subst (λ (v : ℕ). Lex text v y) (sym e) i) s) in
+        let z : Fails rule (Lex text) (plain full) end g x.to = fails_here firsts {X = plain full} (λ y i s. n y (subst (λ (v : ℕ). Lex text v y) (sym e) i) s) in
         z.no ts vs j mid rest l.1 d (refl, refl)
 
 -- ---- no operand
@@ -111,6 +113,7 @@ module _ {text : List ℕ} {f : Flags} {p : Parser} (a : At text f p) (k : p.tok
     no_update = nothing_read a (ap (one_of_kinds update_kinds) k) (no_lhs_here f (no_head a (λ z w. let q : LParen ≡ New = sym k ∙ z in absurd (cc)) no_primary))
 
     pub no_operand_begins : Underived text (at Short f) p.prev_token_end
+    unfolding covers
     no_operand_begins = no_short f (fails_at_level 0 (omega arith) (power_none text f p.prev_token_end (lift_fails (at Unary f) (at Update f) refl refl text p.prev_token_end no_operator no_update)))
 
 -- ---- no head
@@ -138,25 +141,29 @@ pub looks_none : {p : Parser} {t : Token} → Peeks p t → p.token.kind ≡ LPa
 looks_none h k o = λ text f a. no_head_no_arrow a k (no_parameters a (no_head_begins a k h o))
 
 -- parameters where nothing else can stand
-module _ {p q : Parser} (k : p.token.kind ≡ LParen) (n : NoOperandHere p) where
-  pub certain_read : {id : NodeId} → Answers (at Params) p q (Ok id) → q.token.kind ≡ Arrow → IsHeadHere p q id
+module _ {p : Parser} (k : p.token.kind ≡ LParen) (n : NoOperandHere p) where
+  pub certain_read : {q : Parser} {id : NodeId} → Answers (at Params) p q (Ok id) → q.token.kind ≡ Arrow → IsHeadHere p q id
   certain_read x e = (e, λ text f a. certain_head a k (n text f a) (x text f a))
 
-  pub certain_stops : (e : Stop) → ((text : List ℕ) (f : Flags) → At text f p → Stops p q e (Underived text (at Params f) p.prev_token_end)) → NoAssignment p q e
-  certain_stops e s = λ text f a. stops_so p q e (λ m. unassigned a k (no_parameters a m) (n text f a)) (s text f a)
+  pub certain_stops : (q : Parser) (e : Stop) → ((text : List ℕ) (f : Flags) → At text f p → Stops p q e (Underived text (at Params f) p.prev_token_end)) → NoAssignment p q e
+  certain_stops q e s = λ text f a. stops_so p q e (λ m. unassigned a k (no_parameters a m) (n text f a)) (s text f a)
 
-  pub arrow_missing : {id : NodeId} (w : Parser) (e : Stop) → Answers (at Params) p q (Ok id) → (q.token.kind ≡ Arrow → ⊥) → GivesUp (IsHere ExpectToken q None) q w e → NoAssignment p w e
-  arrow_missing w e x m g = λ text f a.
+  pub arrow_missing : {q : Parser} {id : NodeId} (w : Parser) (e : Stop) → Answers (at Params) p q (Ok id) → (q.token.kind ≡ Arrow → ⊥) → GivesUp (IsHere ExpectToken q None) q w e → NoAssignment p w e
+  arrow_missing {q} w e x m g = λ text f a.
       let y = (x text f a).answer in
       stops_behind w e y.same (λ d. grown_behind y.verdict d) (λ z. z) (gives_up (IsHere ExpectToken q None) q w e y.at g (here_ends ExpectToken refl) (unassigned a k (unarrowed a y m) (n text f a)))
 
 -- an attempt
-pub attempted : {p q : Parser} (r : Result (Option NodeId) Stop) → MatchResult r (λ found. FindsHead p q found) OnlyMemory → SearchesHead p q r
-attempted (Ok found) h = h
-attempted (Err e) h = λ text f a. memory_stops _ _ e _ h
+pub attempted : (p q : Parser) (r : Result (Option NodeId) Stop) → MatchResult r (λ found. FindsHead p q found) OnlyMemory → SearchesHead p q r
+attempted p q (Ok found) h = h
+attempted p q (Err e) h = λ text f a. memory_stops p q e _ h
 
-pub searched_from : (p o q : Parser) (r : Result (Option NodeId) Stop) → o ≡ p → SearchesHead o q r → SearchesHead p q r
-searched_from p o q r e h = subst (λ (z : Parser). SearchesHead z q r) e h
+-- what was seen
+pub head_alone : (p q : Parser) (h : HeadLookahead) → h ≡ lookahead.Head → LooksAhead p q h → (q ≡ p) × NoOperandHere p
+head_alone p q h e x = subst (λ (v : HeadLookahead). LooksAhead p q v) e x
 
-pub found_head : (p o q : Parser) (r : Result (Option NodeId) Stop) (id : NodeId) → r ≡ Ok (Some id) → o ≡ p → IsHeadHere o q id → SearchesHead p q r
-found_head p o q r id e s h = subst (λ (v : Result (Option NodeId) Stop). SearchesHead p q v) (sym e) (subst (λ (z : Parser). IsHeadHere z q id) s h)
+pub none_seen : (p q : Parser) (h : HeadLookahead) → h ≡ lookahead.NoHead → LooksAhead p q h → Unmoved p q × NoArrowHere p
+none_seen p q h e x = let y : (q ≡ p) × NoArrowHere p = subst (λ (v : HeadLookahead). LooksAhead p q v) e x in (unmoved y.0, y.1)
+
+pub head_from : {p o q : Parser} (id : NodeId) → o ≡ p → IsHeadHere o q id → IsHeadHere p q id
+head_from {q = q} id e h = subst (λ (z : Parser). IsHeadHere z q id) e h

@@ -1,11 +1,11 @@
 -- What the parse functions of arrow functions answer (ECMA-262, 15.3).
-use Rattle.std.specs.Prelude.{ℕ, ◌≡◌, ◌<◌, ◌⊎◌, Bool, true, false, List, [], ◌∷◌, Option, Some, None, length, Result, Ok, Err}
+use Rattle.std.specs.Prelude.{ℕ, ◌≡◌, ◌<◌, ◌⊎◌, Bool, true, false, List, Option, Some, None, length, Result, Ok, Err}
 use Rattle.js_base.specs.declared.diagnostic.Diagnostic.{Diagnostic}
 use Rattle.js_base.specs.declared.diagnostic.DiagnosticKind.TheVariants.{LineterminatorBeforeArrow}
 use Rattle.js_base.specs.declared.kind.Kind.TheVariants.{Arrow}
 use Rattle.js_expressions.specs.Closings.{ArrowBehindOne}
 use Rattle.js_base.specs.declared.span.Span.{Span}
-use Rattle.js_grammar.specs.Trees.{Label, Slots, end, hole, tree, formal_parameters, formal_parameter, binding_identifier, no_op}
+use Rattle.js_grammar.specs.Trees.{Label, Slots, tree, formal_parameters, formal_parameter}
 use Rattle.js_grammar.specs.Grammar.{Lexeme, Lexemes, empty_slot, nothing, ◌▸◌, ◌◇◌}
 use Rattle.js_grammar.specs.Parsing.{plain, full}
 use Rattle.js_grammar.specs.Productions.{G, Flags, at, sym, mk, Arrow', Assignment, BindingIdentifier, Params}

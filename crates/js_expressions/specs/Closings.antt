@@ -1,5 +1,5 @@
 -- Where the parentheses close that begin at a place: by the lexemes of the plain lexical goal.
-use Rattle.std.specs.Prelude.{ℕ, ◌≡◌, Bool, true, false, IsTrue, not, cond, List, [], ◌∷◌, ◌++◌, Option, Some, None}
+use Rattle.std.specs.Prelude.{ℕ, ◌≡◌, Bool, true, false, IsTrue, not, List, [], ◌∷◌, Some}
 use Rattle.js_base.specs.declared.kind.Kind.{Kind}
 use Rattle.js_base.specs.declared.kind.Kind.TheVariants.{Arrow, RAngle, Undetermined}
 use Rattle.js_base.specs.Kinds.{one_of_kinds}

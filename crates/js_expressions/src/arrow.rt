@@ -26,7 +26,7 @@ use js_tree::{NodeId, NodeKind, Op};
 
 /// The parameters of an arrow function, where they stand here with `=>` behind them: a name, or a list in parentheses.
 /// None where no arrow function stands, and the parser is then where it was. `Fatal` where nothing but one can stand.
-pub fn parse_arrow_head<C: ParserConfig, N: Nested<C>>(
+pub(crate) fn parse_arrow_head<C: ParserConfig, N: Nested<C>>(
     p: &mut ParserImpl<'_, C>,
     nested: &N,
 ) -> Result<Option<NodeId>, Stop>
@@ -193,7 +193,7 @@ fn is_head<C: ParserConfig>(
 /// An arrow function, whose parameters were read from a place on (ECMA-262, section 15.3), or parentheses in their place,
 /// of which something was told.
 #[inline(never)]
-pub fn parse_arrow_function_expression<C: ParserConfig, N: Nested<C>>(
+pub(crate) fn parse_arrow_function_expression<C: ParserConfig, N: Nested<C>>(
     p: &mut ParserImpl<'_, C>,
     nested: &N,
     start: u32,

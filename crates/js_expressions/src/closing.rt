@@ -10,7 +10,7 @@ use js_lex::ParserConfig;
 
 /// A bracket that is open.
 #[derive(Clone, Copy, PartialEq, Eq)]
-pub enum OpenBracket {
+pub(crate) enum OpenBracket {
     /// A parenthesis.
     Round,
     /// A square bracket.
@@ -21,7 +21,7 @@ pub enum OpenBracket {
 
 /// Whether `=>` stands behind the parentheses that begin behind a place. It is false, too, where a sign that begins with
 /// `>` stands between them, since of such a sign the lexer tells a part.
-pub fn is_arrow_behind_one<C: ParserConfig>(
+pub(crate) fn is_arrow_behind_one<C: ParserConfig>(
     p: &ParserImpl<'_, C>,
     start: u32,
 ) -> Result<bool, NoMemory>

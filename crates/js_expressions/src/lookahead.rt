@@ -11,7 +11,7 @@ use js_cursor::{ParserImpl, Stop};
 use js_lex::ParserConfig;
 
 /// What may begin with an opening parenthesis.
-pub enum HeadLookahead {
+pub(crate) enum HeadLookahead {
     /// A head and nothing else: `...` stands behind it, with which no expression begins.
     Head,
     /// A head, or an expression.
@@ -21,7 +21,7 @@ pub enum HeadLookahead {
 }
 
 /// What may begin with the parenthesis that stands here.
-pub fn is_parenthesized_head<C: ParserConfig>(
+pub(crate) fn is_parenthesized_head<C: ParserConfig>(
     p: &mut ParserImpl<'_, C>,
 ) -> Result<HeadLookahead, Stop>
     requires at { Standing p.old }

@@ -8,5 +8,5 @@ use Rattle.js_expressions.proofs.arrow.check_line.Goals as goal
 pub error-requires-clause-mark : goal.error-requires-clause-mark
 error-requires-clause-mark g c = subst (λ (d : Diagnostic). Mark (goal_of c.args.p.now) c.args.p.now.text d) (sym c.diagnostic_at.ensures) (late_marked _ c.requires.at c.requires.arrow (let e : c.args.p.now.token.is_on_new_line ≡ true = search in e) (let e : c.span-arrow.result ≡ c.args.p.now.token.span = search in e))
 
-pub returns-then-is_on_new_line : goal.returns-then-is_on_new_line
-returns-then-is_on_new_line g c = inl ((let e : c.args.p.now.token.is_on_new_line ≡ true = search in e), late_told _ c.diagnostic_at.ensures (let e : c.span-arrow.result ≡ c.args.p.now.token.span = search in e) c.in_ok-error.ensures)
+pub returns-in_ok-error : goal.returns-in_ok-error
+returns-in_ok-error g c = inl ((let e : c.args.p.now.token.is_on_new_line ≡ true = search in e), late_told _ c.diagnostic_at.ensures (let e : c.span-arrow.result ≡ c.args.p.now.token.span = search in e) c.in_ok-error.ensures)
