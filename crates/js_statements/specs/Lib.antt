@@ -1,2 +1,3 @@
+pub mod CompoundStatements
 pub mod StatementLists
 pub mod WordStatements

@@ -10,6 +10,9 @@ ghost use Rattle.js_parsing.specs.Nesting.{CanNest, room};
 ghost use Rattle.js_parsing.specs.States.{Standing};
 ghost use Rattle.js_parsing.specs.Statements.{EndsStatement, IsLabel, LabelsStatement, NoEnd, TakesAnywhere, TakesStatement, link_kinds, statement_kinds};
 
+use crate::compound_statement::{
+    parse_do_while_statement, parse_if_statement, parse_while_statement, parse_with_statement,
+};
 use crate::word_statement::{
     parse_break_statement, parse_continue_statement, parse_debugger_statement,
     parse_throw_statement,
@@ -66,6 +69,10 @@ fn parse_any_statement<C: ParserConfig, N: Nested<C>>(
     }
     match p.cur_kind() {
         Kind::Semicolon => parse_empty_statement(p),
+        Kind::If => parse_if_statement(p, nested),
+        Kind::Do => parse_do_while_statement(p, nested),
+        Kind::While => parse_while_statement(p, nested),
+        Kind::With => parse_with_statement(p, nested),
         Kind::Break => parse_break_statement(p),
         Kind::Continue => parse_continue_statement(p),
         Kind::Throw => parse_throw_statement(p, nested),
