@@ -53,11 +53,11 @@ abbrev labeled_slots : Flags → G
 labeled_slots f = symbol LabelIdentifier f ▸ tok Colon ▸ symbol Sub f
 
 -- behind two slots may stand what may stand behind the second one
-abbrev by_body : Flags → Slots → Look
+abbrev pub by_body : Flags → Slots → Look
 by_body f (tree a ds (tree b cs end)) k w e = follow (at Sub f) (edge_of b cs) k w e
 by_body f _ k w e = false
 
-abbrev behind_label : Flags → Test
+abbrev pub behind_label : Flags → Test
 behind_label f = record { base = λ k w e. no_link k w e && widest Sub k w e; by = λ ts. by_body f ts }
 
 inside_label : (b : Bool) (f : Flags) (s : ℕ) → Inside rule (record { kind = labeled_statement; op = no_op; flags = 0; extent = exact }) (after_statement (placed b f)) (behind_label f) end (labeled_slots f) s
@@ -70,7 +70,7 @@ inside_label false f s = record { ends = λ p cs vs j ls mid d e. go p cs vs d e
     go : (p : TreeSpan) (cs vs : Slots) {i j : ℕ} {ls mid : Lexemes} → Takes rule (labeled_slots f) end cs i ls end j mid → Admits (after_statement (at Sub f)) (tree (record { kind = labeled_statement; op = no_op; flags = 0; span = p }) cs vs) (here mid) → Admits (behind_label f) cs (here mid)
     go p cs vs (is_seq (is_such a b) (is_seq (is_lexeme c) (is_such d e))) x = x
 
-on_label : (f : Flags) (a : Label) (ds : Slots) (s : ℕ) → On rule (record { base = (behind_label f).base; by = λ us. by_body f (tree a ds us) }) (after_statement (at Sub f)) end (such (at Sub f) always) s
+pub on_label : (f : Flags) (a : Label) (ds : Slots) (s : ℕ) → On rule (record { base = (behind_label f).base; by = λ us. by_body f (tree a ds us) }) (after_statement (at Sub f)) end (such (at Sub f) always) s
 on_label f a ds s = record { admits = λ ts vs k ls rest d e. go ts vs d e }
   where
     go : (ts vs : Slots) {i k : ℕ} {ls rest : Lexemes} → Takes rule (such (at Sub f) always) end ts i ls vs k rest → Admits (record { base = (behind_label f).base; by = λ us. by_body f (tree a ds us) }) ts (here rest) → Admits (after_statement (at Sub f)) ts (here rest)
@@ -245,5 +245,5 @@ module _ {text : List ℕ} {f : Flags} {p q : Parser} {id : NodeId} (a : At text
           let k : MadeHere (label_here labeled_statement no_op p v) (Some label ∷ Some body ∷ []) v z made_id = subst (λ (u : Label). MadeHere u (Some label ∷ Some body ∷ []) v z made_id) l d in
           let kw : Keeps p.nodes w.nodes = Keeps-trans x.keeps (Keeps-made made.made) in
           let ky : Keeps w.nodes v.nodes = subst (λ (ns : List Node). Keeps ns v.nodes) m.nodes y.keeps in
-          by_statement (labeled_path a x.answer i b (body_path a x.answer i labeled m y)) (same_both label_same y.same) k.stays
+          by_statement (labeled_path a x.answer i b (body_path a x.answer i labeled m y)) y.closed (same_both label_same y.same) k.stays
           (two_held k (leaf_held labeled x.keeps) kw (subst (λ (ns : List Node). Holds v.nodes (length ns) (length v.nodes) body.0 y.label y.slots) m.nodes y.holds) ky) (Keeps-trans kw (Keeps-trans ky (Keeps-made k.made))) refl (one_lies k)

@@ -21,15 +21,15 @@ use Rattle.js_parsing.specs.States.{At, Same}
 use Rattle.js_parsing.specs.Statements.{NoStatement, Statement}
 
 -- an Expression in parentheses
-abbrev pub head_of : Flags → G
-head_of f = parens (sym Expression f)
+abbrev pub in_parens : Flags → G
+in_parens f = parens (sym Expression f)
 
 -- none is derived from the place
-abbrev pub NoHead : List ℕ → Flags → ℕ → Type 0
-NoHead text f s = Fails rule (Lex text) (plain full) no_slots (head_of f) s
+abbrev pub NoParens : List ℕ → Flags → ℕ → Type 0
+NoParens text f s = Fails rule (Lex text) (plain full) no_slots (in_parens f) s
 
 -- It was taken. Clean: whatever is derived from its beginning is this; unclean: nothing is. The Expression's node stands for its tree.
-pub record HeadTaken (text : List ℕ) (f : Flags) (old new : Parser) (id : NodeId) : Type 0 where
+pub record ParensTaken (text : List ℕ) (f : Flags) (old new : Parser) (id : NodeId) : Type 0 where
   pub at : At text f new
   pub same : Same old new
   pub further : old.token.span.start < new.prev_token_end
@@ -37,17 +37,17 @@ pub record HeadTaken (text : List ℕ) (f : Flags) (old new : Parser) (id : Node
   pub slots : Slots
   pub pass : Lexemes → Lexemes
   pub walked : Walked text (spot old) (spot new) pass
-  pub verdict : Verdict old.errors new.errors (Stretch text (plain full) (head_of f) old.prev_token_end nothing new.prev_token_end (tree label slots) pass) (NoHead text f old.prev_token_end)
+  pub verdict : Verdict old.errors new.errors (Stretch text (plain full) (in_parens f) old.prev_token_end nothing new.prev_token_end (tree label slots) pass) (NoParens text f old.prev_token_end)
   pub holds : Holds new.nodes (length old.nodes) (length new.nodes) id.0 label slots
   pub keeps : Keeps old.nodes new.nodes
 
-abbrev pub HeadOutcome : List ℕ → Flags → Parser → Parser → Result NodeId Stop → Type 0
-HeadOutcome text f old new (Ok id) = HeadTaken text f old new id
-HeadOutcome text f old new (Err e) = Stops old new e (NoHead text f old.prev_token_end)
+abbrev pub ParensOutcome : List ℕ → Flags → Parser → Parser → Result NodeId Stop → Type 0
+ParensOutcome text f old new (Ok id) = ParensTaken text f old new id
+ParensOutcome text f old new (Err e) = Stops old new e (NoParens text f old.prev_token_end)
 
--- what the parse function of a head answers
-abbrev pub TakesHead : Parser → Parser → Result NodeId Stop → Type 0
-TakesHead old new r = (text : List ℕ) (f : Flags) → At text f old → HeadOutcome text f old new r
+-- what its parse function answers
+abbrev pub TakesParens : Parser → Parser → Result NodeId Stop → Type 0
+TakesParens old new r = (text : List ℕ) (f : Flags) → At text f old → ParensOutcome text f old new r
 
 -- the word stands here that such a node begins with
 abbrev pub HeadsHere : NodeKind → Parser → Type 0

@@ -7,7 +7,7 @@ ghost use Rattle.js_parsing.specs.Stands.{StandsHere};
 ghost use Rattle.js_parsing.specs.Nesting.{CanNest, room};
 ghost use Rattle.js_parsing.specs.States.{Standing};
 ghost use Rattle.js_parsing.specs.Statements.{TakesAnywhere};
-ghost use Rattle.js_statements.specs.CompoundStatements.{HeadsHere, TakesAlternate, TakesHead};
+ghost use Rattle.js_statements.specs.CompoundStatements.{HeadsHere, TakesAlternate, TakesParens};
 
 use js_base::Kind;
 use js_cursor::{ParserImpl, Stop};
@@ -26,7 +26,7 @@ pub fn parse_paren_expression<C: ParserConfig, N: Nested<C>>(
 ) -> Result<NodeId, Stop>
     requires at { Standing p.old }
     requires nests { CanNest (N.can nested.now) (room p.old) }
-    ensures { TakesHead p.old p.new result }
+    ensures { TakesParens p.old p.new result }
 {
     let opening = p.cur_token().span();
     p.expect(Kind::LParen)?;
