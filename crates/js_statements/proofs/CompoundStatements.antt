@@ -35,16 +35,16 @@ use Rattle.js_tree.specs.Nodes.{Node}
 use Rattle.js_tree.specs.Holding.{Holds, HoldsAll, Keeps}
 use Rattle.js_tree.proofs.HoldingLemmas.{Holds-kept, HoldsAll-append, HoldsAll-hole, HoldsAll-one, HoldsAll-two, Keeps-made, Keeps-trans}
 use Rattle.js_lex.specs.Reading.{is_right_angle}
-use Rattle.js_cursor.specs.Moves.{Eats, Expects, IsKind, MovesOn, is_last}
+use Rattle.js_cursor.specs.Moves.{Eats, Expects, IsKind, MovesOn, OnlyMemory, is_last}
 use Rattle.js_cursor.specs.Parsers.{Parser}
 use Rattle.js_cursor.specs.declared.stop.Stop.{Stop}
 use Rattle.js_cursor.specs.declared.stop.Stop.TheVariants.{Fatal, NoMemory}
 use Rattle.js_parsing.specs.Answers.{Answer, Grown, Numbered, Stops, Underived}
 use Rattle.js_parsing.specs.Lexemes.{Lex, read_kinds}
-use Rattle.js_parsing.specs.Moves.{Moved, MadeHere, plain_label}
+use Rattle.js_parsing.specs.Moves.{IsWholeHere, Moved, Moves, MadeHere, plain_label}
 use Rattle.js_parsing.specs.Stands.{StandsHere}
 use Rattle.js_parsing.specs.States.{At, Same}
-use Rattle.js_parsing.specs.Statements.{Closed, placed, no_link, after_statement, NoStatement, Statement}
+use Rattle.js_parsing.specs.Statements.{Closed, placed, no_link, after_statement, NoStatement, Statement, TakesStatement}
 use Rattle.js_statements.specs.CompoundStatements.{AlternateStops, AlternateTaken, HeadsHere, NoParens, ParensTaken, TakesAlternate, in_parens}
 use Rattle.js_parsing.proofs.Classes.{here_ends}
 use Rattle.js_parsing.proofs.Giving.{gives_up}
@@ -92,6 +92,9 @@ module _ {text : List ℕ} {f : Flags} {p : Parser} (a : At text f p) where
   pub unexpected : {F : Type 0} (k : Kind) (q : Parser) (e : Stop) → Expects (IsKind k) ExpectToken None p q (Err e) → (StandsHere p k false → F) → Stops p q e F
   unexpected k q Fatal x h = gives_up _ p q Fatal a x.1 (here_ends ExpectToken refl) (h (λ i j. x.0 refl (i, j)))
   unexpected k q NoMemory x h = tt
+
+  pub no_parens : StandsHere p kind.LParen false → NoParens text f p.prev_token_end
+  no_parens n = no_token kind.LParen refl n
 
   -- or it was passed
   pub expected : (k : Kind) {q : Parser} → IsKind k p → MovesOn p q → same_kind kind.RAngle k ≡ false → is_last k ≡ false → Moved text f p q
@@ -537,7 +540,7 @@ module _ {text : List ℕ} {f : Flags} {p q : Parser} (a : At text f p) (h : Sta
     if_head : Path text f (behind_if f) (if_slots f) p (tails f) r (tree x.label x.slots)
     if_head = if_passed ⟶ then_part (parens_read x)
 
-    if_same : Same p r
+    pub if_same : Same p r
     if_same = same_both m.same x.same
 
     if_grown : {ds : List Diagnostic} → Grown r.errors ds → Grown p.errors ds
@@ -572,3 +575,16 @@ module _ {text : List ℕ} {f : Flags} {p q : Parser} (a : At text f p) (h : Sta
             let hr : Holds r.nodes (length p.nodes) (length r.nodes) test.0 x.label x.slots = subst (λ (ns : List Node). Holds r.nodes (length ns) (length r.nodes) test.0 x.label x.slots) m.nodes x.holds in
             by_statement (if_path b) (λ o. its.closed x.label x.slots o) (same_both if_same its.same) made.stays
             (node_held made (HoldsAll-append (HoldsAll-one test (Holds-kept its.keeps hr)) its.held)) (Keeps-trans kr (Keeps-trans its.keeps (Keeps-made made.made))) refl (one_lies made)
+
+-- what is said of an alternate that isn't read
+pub alternate_refused : (p q r : Parser) (e : Stop) → StandsHere p kind.Else true → Moves p q → TakesStatement (at Sub) q r (Err e) → TakesAlternate p r (Err e)
+alternate_refused p q r Fatal h s t = (h, λ text f a. let m = s text f a in record { mid = q; moved = m; stops = t text f m.at })
+alternate_refused p q r NoMemory h s t = tt
+
+pub alternate_memory : (p q : Parser) (e : Stop) → OnlyMemory e → TakesAlternate p q (Err e)
+alternate_memory p q Fatal m = absurd m
+alternate_memory p q NoMemory m = tt
+
+pub headed_whole : {text : List ℕ} {f : Flags} {p : Parser} {k : NodeKind} → At text f p → HeadsHere k p → IsWholeHere p
+headed_whole a (inl (e, h)) = word_here kind.While a h refl
+headed_whole a (inr (e, h)) = word_here kind.With a h refl
