@@ -20,7 +20,7 @@ use Rattle.js_grammar.specs.Productions.{G, Flags, Name, Symbol, at, tok, mk, ot
 use Rattle.js_grammar.specs.Productions.{Statement as AStatement}
 use Rattle.js_grammar.specs.Productions.{sym as symbol}
 use Rattle.js_grammar.specs.Table.{rule, rule_of}
-use Rattle.js_grammar.specs.Follow.{Edge, after, behind_statement, edge_of, row_of, widest}
+use Rattle.js_grammar.specs.Follow.{Edge, after, behind_statement, edge_of, first_edge, row_of, widest}
 use Rattle.js_grammar.proofs.Looks.{covers, covered, apart}
 use Rattle.js_grammar.proofs.Calculus.{Between, Inside, On, Sure, ◌▹◌, ends, here_at, left, right, looks, then_by, part_fails, tested, fails_alt, fails_tested, fails_lexeme, fails_look, fails_node, reads_empty_slot, weaken_on, weaken_fails_on}
 use Rattle.js_grammar.proofs.FirstClaims.{firsts}
@@ -61,6 +61,9 @@ use Rattle.js_statements.proofs.WordStatements.{Alone, alone_fails, alone_path, 
 
 -- ---- parts of a statement
 
+then_fails : {text : List ℕ} {X : Test} {a b : G} {s : ℕ} → Fails rule (Lex text) (plain full) end a s → Fails rule (Lex text) X end (seq a b) s
+then_fails m = part_fails m (record { admits = λ ts us vs j k ls mid rest d d' e. (refl, refl) })
+
 module _ {text : List ℕ} {f : Flags} {X : Test} where
   -- a part, whatever stands behind it
   then_part : {a b : G} {p q : Parser} {h : Slots → Slots} → Path text f (plain full) a p nothing q h → Path text f X (seq a b) p b q h
@@ -71,9 +74,6 @@ module _ {text : List ℕ} {f : Flags} {X : Test} where
     walked = x.walked;
     verdict = verdict_of x.verdict (λ y. record { reach = y.reach; near = y.near; goes = then_by y.goes (record { admits = λ ts us vs j k ls mid rest d d' e. (refl, refl) }) }) (λ m. part_fails m (record { admits = λ ts us vs j k ls mid rest d d' e. (refl, refl) }));
   }
-
-  then_fails : {a b : G} {s : ℕ} → Fails rule (Lex text) (plain full) end a s → Fails rule (Lex text) X end (seq a b) s
-  then_fails m = part_fails m (record { admits = λ ts us vs j k ls mid rest d d' e. (refl, refl) })
 
   -- a statement, the last part, by what may stand behind the whole
   statement_read : {n : Symbol} {p q : Parser} {id : NodeId} (s : Statement text f n p q id) → On rule X (after_statement n) end (such n always) p.prev_token_end → Path text f X (such n always) p nothing q (tree s.label s.slots)
@@ -151,12 +151,12 @@ headed_slots k f = tok k ▸ in_parens f ▸ symbol Sub f
 inside_headed : (b : Bool) (f : Flags) (m : Make) (k : Kind) (s : ℕ) → ends_in_sub m.kind ≡ true → Inside rule m (after_statement (placed b f)) (behind_label f) end (headed_slots k f) s
 inside_headed b f m k s o = record { ends = λ p cs vs j ls mid d e. go b p cs vs d e }
   where
-    last : (cs : Slots) (y : Lexeme) {r : Row} → IsTrue (seen (behind_statement (record { row = r; open_if = ends_in_sub m.kind && lacks_else cs })) y) → IsTrue (seen (behind_statement (record { row = r; open_if = lacks_else cs })) y)
-    last cs y {r} h = subst (λ (v : Bool). IsTrue (seen (behind_statement (record { row = r; open_if = v && lacks_else cs })) y)) o h
+    last : (r : Row) (cs : Slots) (y : Lexeme) → IsTrue (seen (behind_statement (record { row = r; open_if = ends_in_sub m.kind && lacks_else cs })) y) → IsTrue (seen (behind_statement (record { row = r; open_if = lacks_else cs })) y)
+    last r cs y h = subst (λ (v : Bool). IsTrue (seen (behind_statement (record { row = r; open_if = v && lacks_else cs })) y)) o h
 
     go : (b : Bool) (p : TreeSpan) (cs vs : Slots) {i j : ℕ} {ls mid : Lexemes} → Takes rule (headed_slots k f) end cs i ls end j mid → Admits (after_statement (placed b f)) (tree (record { kind = m.kind; op = m.op; flags = m.flags; span = p }) cs vs) (here mid) → Admits (behind_label f) cs (here mid)
-    go true p cs vs {mid = mid} (is_seq (is_lexeme a) (is_seq (is_seq (is_lexeme c) (is_seq (is_such d t) (is_lexeme z))) (is_such e u))) x = (x.0, last cs (here mid) x.1)
-    go false p cs vs {mid = mid} (is_seq (is_lexeme a) (is_seq (is_seq (is_lexeme c) (is_seq (is_such d t) (is_lexeme z))) (is_such e u))) x = (x.0, last cs (here mid) x.1)
+    go true p cs vs {mid = mid} (is_seq (is_lexeme a) (is_seq (is_seq (is_lexeme c) (is_seq (is_such d t) (is_lexeme z))) (is_such e u))) x = (x.0, last after_expression cs (here mid) x.1)
+    go false p cs vs {mid = mid} (is_seq (is_lexeme a) (is_seq (is_seq (is_lexeme c) (is_seq (is_such d t) (is_lexeme z))) (is_such e u))) x = (x.0, last after_expression cs (here mid) x.1)
 
 -- Here begins what such a node is made of.
 record Headed (text : List ℕ) (f : Flags) (p : Parser) (k : NodeKind) : Type 0 where
@@ -247,8 +247,8 @@ before_while f = record { admits = λ ts y h. (covered (is kind.While) (λ k w e
     by d y h = covered (is kind.While) (behind_statement d) (while_behind d.open_if d.row) y.kind y.newline y.escaped h
 
     last : (ts : Slots) (y : Lexeme) → IsTrue (seen (is kind.While) y) → IsTrue (seen ((after_statement (at Sub f)).by ts) y)
-    last end y h = by _ y h
-    last (hole us) y h = by _ y h
+    last end y h = by (first_edge end) y h
+    last (hole us) y h = by (first_edge (hole us)) y h
     last (tree l cs us) y h = by (edge_of l cs) y h
 
 -- its semicolon was passed, or none stands here
@@ -256,18 +256,19 @@ pub passed_so : {text : List ℕ} {f : Flags} {q r : Parser} → At text f q →
 passed_so {text} {f} {q} {r} a (true, (k, m)) = let s = expected a kind.Semicolon k m refl refl in record { at = s.at; same = s.same; nodes = s.nodes; kept = s.kept; further = let x = s.further in let y = a.behind in omega arith }
 passed_so {text} {f} {q} {r} a (false, (n, e)) = subst (λ (v : Parser). Ended text f q v) (sym e) (record { at = a; same = same_itself; nodes = refl; kept = refl; further = omega arith })
 
-module _ {text : List ℕ} {f : Flags} {X : Test} {g : G} {p q r : Parser} {h : Slots → Slots} where
+module _ {text : List ℕ} {f : Flags} {q : Parser} (a : At text f q) where
   -- where one stands, the line without it says nothing
-  semicolon_here : At text f q → IsKind kind.Semicolon q → {Y : Test} → Fails rule (Lex text) Y end (if_next (other (is kind.Semicolon))) q.prev_token_end
-  semicolon_here a k = fails_look (other (is kind.Semicolon)) (λ y l t. false≢true (sym (subst (λ (v : Kind). not (same_kind kind.Semicolon v && not y.escaped) ≡ false) (sym (kind_here a k.0 refl y l)) (rw (escaped_here a y l ∙ k.1) refl)) ∙ t))
+  semicolon_here : {Y : Test} → IsKind kind.Semicolon q → Fails rule (Lex text) Y end (if_next (other (is kind.Semicolon))) q.prev_token_end
+  semicolon_here k = fails_look (other (is kind.Semicolon)) (λ y l t. false≢true (sym (subst (λ (v : Kind). not (same_kind kind.Semicolon v && not y.escaped) ≡ false) (sym (kind_here a k.0 refl y l)) (ap (λ (v : Bool). not (not v)) (escaped_here a y l ∙ k.1))) ∙ t))
 
-  none_here : At text f q → (IsKind kind.Semicolon q → ⊥) → (y : Lexeme) → Lex text q.prev_token_end y → seen (is kind.Semicolon) y ≡ false
-  none_here a n y l = go (seen (is kind.Semicolon) y) refl
+  none_here : (IsKind kind.Semicolon q → ⊥) → (y : Lexeme) → Lex text q.prev_token_end y → seen (is kind.Semicolon) y ≡ false
+  none_here n y l = go (seen (is kind.Semicolon) y) refl
     where
       go : (b : Bool) → seen (is kind.Semicolon) y ≡ b → seen (is kind.Semicolon) y ≡ false
       go true t = absurd (stands_not a refl (λ i j. n (i, j)) y l (sym (kind_of_same kind.Semicolon y.kind (and_parts (same_kind kind.Semicolon y.kind) (not y.escaped) t).0)))
       go false t = t
 
+module _ {text : List ℕ} {f : Flags} {X : Test} {g : G} {p q r : Parser} {h : Slots → Slots} where
   do_ended : (b : Bool) × Eats kind.Semicolon q r b → Path text f X g p do_end q h → Path text f X g p nothing r h
   do_ended (true, (k, m)) x = x ⟶ (left (semicolon_here x.at k) ⟼ last_token kind.Semicolon x.at k.0 k.1 refl (expected x.at kind.Semicolon k m refl refl))
   do_ended (false, (n, e)) x = subst (λ (v : Parser). Path text f X g p nothing v h) (sym e) (x ⟝ (right (fails_lexeme (is kind.Semicolon) (λ y l t. false≢true (sym (none_here x.at n y l) ∙ t))) ▹ looks (other (is kind.Semicolon)) (λ y l. ap not (none_here x.at n y l))))
@@ -403,8 +404,8 @@ tails_fail f {s} n = fails_alt (part_fails n (to_slot f s)) (part_fails (fails_t
 
 module _ {text : List ℕ} {f : Flags} {q r : Parser} {id : NodeId} (s : Statement text f (at Sub f) q r id) where
   -- whatever was taken as the consequent stands before what stands here
-  stands_behind : {c : Tree → Bool} {l : Label} {cs us : Slots} {j : ℕ} {ls mid : Lexemes} → Lexes (Lex text) q.prev_token_end ls → Takes rule (such (at Sub f) c) end (tree l cs us) q.prev_token_end ls us j mid → Admits (after_statement (at Sub f)) (tree l cs us) (here mid) → Lex text r.prev_token_end (here mid)
-  stands_behind {l = l} {cs = cs} {us = us} {j = j} {ls = ls} {mid = mid} x (is_such d t) e =
+  stands_behind : {c : Tree → Bool} {ts vs : Slots} {j : ℕ} {ls mid : Lexemes} → Lexes (Lex text) q.prev_token_end ls → Takes rule (such (at Sub f) c) end ts q.prev_token_end ls vs j mid → Admits (after_statement (at Sub f)) ts (here mid) → Lex text r.prev_token_end (here mid)
+  stands_behind {j = j} {ls = ls} {mid = mid} x (is_such {l = l} {cs = cs} {us = us} d t) e =
       either_way s.verdict
       (λ u. let w = u.goes.only (tree l cs us) us j ls mid x (is_such d refl) e in let n = ends w.4 in here_at (Lex text) mid (subst (λ (v : Lexemes). Lexes (Lex text) r.prev_token_end v) n.2 w.3))
       (λ n. absurd (n.no (tree l cs us) us j ls mid x (is_such d refl) e))
@@ -415,7 +416,7 @@ module _ {text : List ℕ} {f : Flags} {q r : Parser} {id : NodeId} (s : Stateme
     no_second = record { no = λ ts vs k ls rest x d e. go x d }
       where
         go : {ts vs : Slots} {k : ℕ} {ls rest : Lexemes} → Lexes (Lex text) q.prev_token_end ls → Takes rule (second_tail f) end ts q.prev_token_end ls vs k rest → ⊥
-        go x (is_seq (is_such {l = l} {cs = cs} {us = us} d t) (is_seq (is_lexeme {x = y} c) g)) = n y (stands_behind x (is_such {c = has_else} d t) (before_else f l cs us y t c)) (sym (kind_of_same kind.Else y.kind (and_parts (same_kind kind.Else y.kind) (not y.escaped) c).0))
+        go x (is_seq (is_such {l = l} {cs = cs} {us = us} d t) (is_seq (is_lexeme {x = y} c) g)) = n y (stands_behind {ts = tree l cs us} {vs = us} x (is_such {c = has_else} d t) (before_else f l cs us y t c)) (sym (kind_of_same kind.Else y.kind (and_parts (same_kind kind.Else y.kind) (not y.escaped) c).0))
 
     first_path : Path text f (behind_tails f) (tails f) q nothing r (λ us. tree s.label s.slots (hole us))
     first_path = left no_second ⟼ (statement_then s (to_slot f q.prev_token_end) ⟝ reads_empty_slot)
@@ -428,7 +429,7 @@ module _ {text : List ℕ} {f : Flags} {q r : Parser} {id : NodeId} (s : Stateme
         go : {ts vs : Slots} {k : ℕ} {ls rest : Lexemes} → Lexes (Lex text) q.prev_token_end ls → Takes rule (first_tail f) end ts q.prev_token_end ls vs k rest → Admits (behind_tails f) ts (here rest) → ⊥
         go x (is_seq (is_such {l = l} {cs = cs} d t) (is_empty_slot {ts = vs} {ls = rest})) e =
             let z = no_else f l cs vs (here rest) e in
-            let i = stands_behind x (is_such {c = always} d t) z.0 in
+            let i = stands_behind {ts = tree l cs (hole vs)} {vs = hole vs} x (is_such {c = always} d t) z.0 in
             false≢true (subst (λ (v : Kind). behind_statement open_edge v (here rest).newline (here rest).escaped ≡ true) (kind_here s.at h.0 refl (here rest) i) z.1)
 
     -- so the consequent has no open `if` at its end
@@ -457,13 +458,13 @@ module _ {text : List ℕ} {f : Flags} {q r : Parser} {id : NodeId} (s : Stateme
     second_path y = else_passed ⟶ statement_read y on_alternate
 
 -- What was read behind the head: a consequent, and an alternate or none.
-record Tails (text : List ℕ) (f : Flags) (q v : Parser) (consequent : NodeId) (alternate : Option NodeId) : Type 0 where
-  slots : Slots → Slots
-  path : Path text f (behind_tails f) (tails f) q nothing v slots
-  same : Same q v
-  held : HoldsAll v.nodes (length q.nodes) (length v.nodes) (Some consequent ∷ alternate ∷ []) (slots end)
-  keeps : Keeps q.nodes v.nodes
-  closed : (l : Label) (cs : Slots) → lacks_else (tree l cs (slots end)) ≡ true → (y : Lexeme) → Lex text v.prev_token_end y → same_kind kind.Else y.kind ≡ false
+pub record Tails (text : List ℕ) (f : Flags) (q v : Parser) (consequent : NodeId) (alternate : Option NodeId) : Type 0 where
+  pub slots : Slots → Slots
+  pub path : Path text f (behind_tails f) (tails f) q nothing v slots
+  pub same : Same q v
+  pub held : HoldsAll v.nodes (length q.nodes) (length v.nodes) (Some consequent ∷ alternate ∷ []) (slots end)
+  pub keeps : Keeps q.nodes v.nodes
+  pub closed : (l : Label) (cs : Slots) → lacks_else (tree l cs (slots end)) ≡ true → (y : Lexeme) → Lex text v.prev_token_end y → same_kind kind.Else y.kind ≡ false
 
 -- no lexeme of the kind
 none_is : {text : List ℕ} {s : ℕ} (k : Kind) → NoneIs text s k → (y : Lexeme) → Lex text s y → same_kind k y.kind ≡ false
@@ -549,7 +550,7 @@ module _ {text : List ℕ} {f : Flags} {p q : Parser} (a : At text f p) (h : Sta
     pub consequent_stops : (b : Bool) (v : Parser) (e : Stop) → Stops r v e (NoStatement text (at Sub f) r.prev_token_end) → Stops p v e (NoStatement text (placed b f) p.prev_token_end)
     consequent_stops b v e z = stops_behind v e if_same (λ g. if_grown g) (λ n. if_none b (if_head ⟶✗ tails_fail f n)) z
 
-    module _ {t v : Parser} {consequent : NodeId} (s : Statement text f (at Sub f) r t consequent) where
+    module _ {t : Parser} {consequent : NodeId} (s : Statement text f (at Sub f) r t consequent) (v : Parser) where
       pub alternate_stops : (b : Bool) (e : Stop) → TakesAlternate t v (Err e) → Stops p v e (NoStatement text (placed b f) p.prev_token_end)
       alternate_stops b Fatal (w, z) =
           let y = z text f s.at in

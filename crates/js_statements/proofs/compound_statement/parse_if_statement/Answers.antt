@@ -65,16 +65,16 @@ returns-in_err-alternate t c = λ b text f a.
     let p = err_from_is_err_and c.from_residual-in_err-alternate.result c.from_residual-in_err-alternate.ensures.1 in
     let m = c.in_ok-advance.ensures text f a in
     let x = c.in_ok-test.ensures text f m.at in
-    rw (p.1, p.2) (alternate_stops a c.requires.word m x (c.in_ok-consequent.ensures text f x.at) b _ c.in_err-alternate.ensures)
+    rw (p.1, p.2) (alternate_stops a c.requires.word m x (c.in_ok-consequent.ensures text f x.at) c.parse_alternate.new.p b _ c.in_err-alternate.ensures)
 
 pub end_span-span-requires : goal.end_span-span-requires
 end_span-span-requires t c =
     let m = c.in_ok-advance.ensures _ _ c.requires.at in
     let x = c.in_ok-test.ensures _ _ m.at in
-    let i = if_further c.requires.at c.requires.word m x (c.in_ok-consequent.ensures _ _ x.at) c.in_ok-alternate.alternate c.in_ok-alternate.ensures in let s = c.cur_start-start.ensures in omega arith
+    let i = if_further c.requires.at c.requires.word m x (c.in_ok-consequent.ensures _ _ x.at) c.parse_alternate.new.p c.in_ok-alternate.alternate c.in_ok-alternate.ensures in let s = c.cur_start-start.ensures in omega arith
 
 pub returns : goal.returns
 returns t c = λ b text f a.
     let m = c.in_ok-advance.ensures text f a in
     let x = c.in_ok-test.ensures text f m.at in
-    if_answers a c.requires.word m x (c.in_ok-consequent.ensures text f x.at) c.in_ok-alternate.alternate c.in_ok-alternate.ensures b _ (c.end_span-span.ensures.start ∙ c.cur_start-start.ensures) c.end_span-span.ensures.end c.in_ok-node.ensures
+    if_answers a c.requires.word m x (c.in_ok-consequent.ensures text f x.at) c.parse_alternate.new.p c.in_ok-alternate.alternate c.in_ok-alternate.ensures b _ (c.end_span-span.ensures.start ∙ c.cur_start-start.ensures) c.end_span-span.ensures.end c.in_ok-node.ensures
