@@ -1,7 +1,7 @@
 -- Statements that hold other ones (ECMA-262, 14.6, 14.7.2, 14.7.3, 14.11).
-use Rattle.std.proofs.Common.{ℕ, ◌≡◌, ◌≤◌, ◌<◌, inl, inr, List, [], ◌∷◌, length, Option, Some, None, Bool, true, false, not, ◌&&◌, IsTrue, refl, sym, ap, subst, arith, ◌∙◌}
+use Rattle.std.proofs.Common.{ℕ, ◌≡◌, ◌<◌, inl, inr, List, [], ◌∷◌, length, Option, Some, None, Bool, true, false, not, ◌&&◌, IsTrue, refl, sym, ap, subst, arith, ◌∙◌}
 use Rattle.std.specs.Prelude.{Ok, Err}
-use Rattle.std.proofs.lemmas.Bool.{false≢true, and_from, and_parts}
+use Rattle.std.proofs.lemmas.Bool.{false≢true, and_parts}
 use Rattle.js_base.specs.declared.diagnostic.Diagnostic.{Diagnostic}
 use Rattle.js_base.specs.declared.diagnostic.DiagnosticKind.TheVariants.{ExpectToken}
 use Rattle.js_base.specs.declared.kind.Kind.{Kind}
@@ -12,7 +12,7 @@ use Rattle.js_base.specs.Texts.{words}
 use Rattle.js_base.proofs.KindLemmas.{kind_of_same}
 use Rattle.js_grammar.specs.Conditions.{ends_in_sub, lacks_else, has_else}
 use Rattle.js_grammar.specs.Trees.{Span as TreeSpan, Label, Slots, Tree, end, hole, tree, no_op, if_statement, do_while_statement}
-use Rattle.js_grammar.specs.Grammar.{Lexeme, Lexemes, Look, Make, next, here, seen, is, exact, seq, such, alt, lexeme, empty_slot, nothing, Takes, is_seq, is_lexeme, is_such, is_left, is_right, is_empty_slot, ◌▸◌, ◌◇◌}
+use Rattle.js_grammar.specs.Grammar.{Lexeme, Lexemes, Look, Make, here, seen, is, exact, seq, such, empty_slot, nothing, Takes, is_seq, is_lexeme, is_such, is_left, is_right, is_empty_slot, ◌▸◌, ◌◇◌}
 use Rattle.js_grammar.specs.Insertion.{Row, after_expression}
 use Rattle.js_grammar.specs.Lexed.{Lexes}
 use Rattle.js_grammar.specs.Parsing.{Test, plain, full, behind, always, still, Admits, Goes, Fails}
@@ -20,7 +20,7 @@ use Rattle.js_grammar.specs.Productions.{G, Flags, Name, Symbol, at, tok, mk, ot
 use Rattle.js_grammar.specs.Productions.{Statement as AStatement}
 use Rattle.js_grammar.specs.Productions.{sym as symbol}
 use Rattle.js_grammar.specs.Table.{rule, rule_of}
-use Rattle.js_grammar.specs.Follow.{Edge, after, behind_statement, edge_of, first_edge, row_of, widest}
+use Rattle.js_grammar.specs.Follow.{Edge, behind_statement, edge_of, first_edge, row_of, widest}
 use Rattle.js_grammar.proofs.Looks.{covers, covered, apart}
 use Rattle.js_grammar.proofs.Calculus.{Between, Inside, On, Sure, ◌▹◌, ends, here_at, left, right, looks, then_by, part_fails, tested, fails_alt, fails_tested, fails_lexeme, fails_look, fails_node, reads_empty_slot, weaken_on, weaken_fails_on}
 use Rattle.js_grammar.proofs.FirstClaims.{firsts}
@@ -44,8 +44,8 @@ use Rattle.js_parsing.specs.Lexemes.{Lex, read_kinds}
 use Rattle.js_parsing.specs.Moves.{IsWholeHere, Moved, Moves, MadeHere, plain_label}
 use Rattle.js_parsing.specs.Stands.{StandsHere}
 use Rattle.js_parsing.specs.States.{At, Same}
-use Rattle.js_parsing.specs.Statements.{Closed, placed, no_link, after_statement, NoStatement, Statement, TakesStatement}
-use Rattle.js_statements.specs.CompoundStatements.{AlternateStops, AlternateTaken, HeadsHere, NoParens, ParensTaken, TakesAlternate, in_parens}
+use Rattle.js_parsing.specs.Statements.{placed, no_link, after_statement, NoStatement, Statement, TakesStatement}
+use Rattle.js_statements.specs.CompoundStatements.{HeadsHere, NoParens, ParensTaken, TakesAlternate, in_parens}
 use Rattle.js_parsing.proofs.Classes.{here_ends}
 use Rattle.js_parsing.proofs.Giving.{gives_up}
 use Rattle.js_parsing.proofs.Here.{escaped_here, kind_here}
@@ -55,7 +55,7 @@ use Rattle.js_parsing.proofs.Paths.{Path, ◌⟼◌, ◌⟶◌, ◌⟶✗◌, at
 use Rattle.js_parsing.proofs.Signs.{NoneIs, plain_sign, stands_not, whole_sign}
 use Rattle.js_parsing.proofs.Verdicts.{either_way, grown_then, verdict_of}
 use Rattle.js_parsing.proofs.Verdicts.{after as grown_behind}
-use Rattle.js_statements.proofs.Labels.{behind_label, by_body, on_label}
+use Rattle.js_statements.proofs.Labels.{behind_label, on_label}
 use Rattle.js_statements.proofs.Statements.{Ended, by_statement, never_open, ◌⟝◌}
 use Rattle.js_statements.proofs.WordStatements.{Alone, alone_fails, alone_path, word_here}
 

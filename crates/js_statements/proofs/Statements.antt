@@ -26,7 +26,7 @@ use Rattle.js_grammar.specs.Productions.{sym as symbol}
 use Rattle.js_grammar.specs.Table.{rule, rule_of, identifier}
 use Rattle.js_grammar.specs.Follow.{row_of, looser, after}
 use Rattle.js_grammar.proofs.Looks.{covers, covered, apart, not_both}
-use Rattle.js_grammar.proofs.Calculus.{◌▹◌, ◌▹✗◌, left, right, ends_by, by_omission, fails_ended, fails_semicolon, fails_rule, fails_node, fails_alt, inside_plain, ends, closes}
+use Rattle.js_grammar.proofs.Calculus.{◌▹◌, ◌▹✗◌, right, ends_by, by_omission, fails_ended, fails_semicolon, fails_rule, fails_node, fails_alt, inside_plain, ends, closes}
 use Rattle.js_grammar.proofs.FollowLaws.{admits, expression_ended}
 use Rattle.js_grammar.proofs.RightEdges.{at_row}
 use Rattle.js_grammar.proofs.First.{starts}

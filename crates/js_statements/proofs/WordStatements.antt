@@ -9,7 +9,7 @@ use Rattle.js_base.specs.declared.source_type.SourceType.{SourceType}
 use Rattle.js_base.specs.declared.span.Span.{Span}
 use Rattle.js_base.specs.Kinds.{same_kind, one_of_kinds}
 use Rattle.js_grammar.specs.Trees.{Slots, end, hole, tree, append, Label, no_op, debugger_statement, label_identifier, throw_statement}
-use Rattle.js_grammar.specs.Grammar.{Lexeme, Lexemes, Look, here, seen, is, may_omit, ended, semicolon, empty_slot, next, nothing, such, Takes, is_seq, is_lexeme, is_look, ◌▸◌}
+use Rattle.js_grammar.specs.Grammar.{Lexeme, Lexemes, Look, here, seen, may_omit, ended, semicolon, empty_slot, next, nothing, such, Takes, is_seq, is_lexeme, is_look, ◌▸◌}
 use Rattle.js_grammar.specs.Conditions.{ends_in_sub}
 use Rattle.js_grammar.specs.Insertion.{after_word, edge, goes_on, by_edge}
 use Rattle.js_grammar.specs.Marks.{Mark, a_lexeme, the_start, the_end}
