@@ -112,7 +112,8 @@ pub fn make_two_and_optional<C: ParserConfig>(
     ensures { IfOk result (λ id. MadeHere (plain_label kind op.None span) (Some first ∷ Some second ∷ third ∷ []) p.old p.new id) }
 {
     let children = [Some(first), Some(second), third];
-    p.ast.node_of_three(kind, span, Op::None, no_flags(), children)
+    p.ast
+        .node_of_three(kind, span, Op::None, no_flags(), children)
 }
 
 /// A node of a list of children.
