@@ -88,6 +88,8 @@ pub fn is_read_word(kind: Kind) -> bool
             | Kind::Continue
             | Kind::Debugger
             | Kind::Throw
+            | Kind::Var
+            | Kind::Const
     )
 }
 

@@ -1,3 +1,4 @@
+pub mod DeclarationStatements
 pub mod Labels
 pub mod StatementLists
 pub mod Statements

@@ -73,10 +73,10 @@ pub alone_fails : {text : List ℕ} {f : Flags} {n : Name} {s : ℕ} → Alone t
 alone_fails {f = f} z b X h i x = no_symbol (z.listed b (after_statement (placed b f)) ▹✗ fails_rule {X' = X} h (z.alone X ▹✗ fails_rule {X' = X} i x))
 
 -- no statement begins with a link
-unlinked : (f : Flags) (b : Bool) → Heads (after_statement (placed b f)) (plain no_link)
+pub unlinked : (f : Flags) (b : Bool) → Heads (after_statement (placed b f)) (plain no_link)
 unlinked f b = λ l cs vs y d. ((and_parts _ _ d.0).0, refl)
 
-still_unlinked : Heads (plain no_link) (plain no_link)
+pub still_unlinked : Heads (plain no_link) (plain no_link)
 still_unlinked = λ l cs vs y d. (d.0, refl)
 
 -- ---- what nothing goes on with, up to its semicolon

@@ -1,2 +1,3 @@
+pub mod DeclarationStatements
 pub mod StatementLists
 pub mod WordStatements
