@@ -4,5 +4,6 @@
 mod parse;
 
 pub use parse::{
-    Parser, parse_assignment_expression_or_higher, parse_expression, parse_statements,
+    Parser, parse_assignment_expression_or_higher, parse_binding_pattern, parse_expr,
+    parse_formal_parameters, parse_lhs_expression_or_higher, parse_statements,
 };

@@ -2,20 +2,22 @@
 
 ghost use Rattle.std.specs.Prelude.{◌≡◌, true, MatchResult};
 ghost use Rattle.js_base.specs.Contexts.{has_flag, in_flag};
-ghost use Rattle.js_grammar.specs.Productions.{at, Assignment, Expression};
+ghost use Rattle.js_grammar.specs.Productions.{at, Assignment, Binding, Expression, LeftHandSide, Params};
 ghost use Rattle.js_parsing.specs.Answers.{Answers};
 ghost use Rattle.js_parsing.specs.Nesting.{CanNest, Reading, Ready, room};
 ghost use Rattle.js_statements.specs.StatementLists.{AllRefused, AllTaken};
 ghost use Rattle.js_parsing.specs.States.{Standing};
 
+use js_base::Kind;
 use js_cursor::{ParserImpl, Stop};
 use js_expressions::assignment::parse_assignment_expression;
 use js_expressions::operators::parse_exponentiation_expression;
 use js_expressions::sequence::parse_sequence_expression;
 use js_expressions::unary::parse_unary_expression_or_higher;
 use js_lex::{ParserConfig, RuntimeParserConfig};
+use js_operands::left_hand_side;
 use js_parsing::nested::{By, Goal, Nested};
-use js_patterns::binding::parse_binding_pattern;
+use js_patterns::{binding, parameters};
 use js_statements::statement::parse_statement;
 use js_statements::statement_list::parse_directives_and_statements;
 use js_tree::NodeId;
@@ -38,7 +40,7 @@ pub fn parse_goal<C: ParserConfig, N: Nested<C>>(
         Goal::Assignment | Goal::Element => parse_assignment_expression(p, nested),
         Goal::Unary => parse_unary_expression_or_higher(p, nested),
         Goal::Exponentiation => parse_exponentiation_expression(p, nested),
-        Goal::Binding => parse_binding_pattern(p, nested),
+        Goal::Binding => binding::parse_binding_pattern(p, nested),
         Goal::Statement => parse_statement(p, nested),
     }
 }
@@ -64,11 +66,38 @@ pub fn parse_assignment_expression_or_higher(p: &mut Parser<'_>) -> Result<NodeI
 }
 
 /// An Expression (ECMA-262, section 13.16).
-pub fn parse_expression(p: &mut Parser<'_>) -> Result<NodeId, Stop>
+pub fn parse_expr(p: &mut Parser<'_>) -> Result<NodeId, Stop>
     requires { Standing p.old }
     ensures { Answers (at Expression) p.old p.new result }
 {
     parse(p, Goal::Expression)
+}
+
+/// A LeftHandSideExpression (ECMA-262, section 13.3).
+pub fn parse_lhs_expression_or_higher(p: &mut Parser<'_>) -> Result<NodeId, Stop>
+    requires { Standing p.old }
+    ensures { Answers (at LeftHandSide) p.old p.new result }
+{
+    left_hand_side::parse_lhs_expression_or_higher(p, &By(parse))
+}
+
+/// A BindingIdentifier or a BindingPattern (ECMA-262, section 14.3.3).
+pub fn parse_binding_pattern(p: &mut Parser<'_>) -> Result<NodeId, Stop>
+    requires { Standing p.old }
+    ensures { Answers (at Binding) p.old p.new result }
+{
+    parse(p, Goal::Binding)
+}
+
+/// FormalParameters in their parentheses (ECMA-262, section 15.1).
+pub fn parse_formal_parameters(p: &mut Parser<'_>) -> Result<NodeId, Stop>
+    requires { Standing p.old }
+    ensures { Answers (at Params) p.old p.new result }
+{
+    if !p.at(Kind::LParen) {
+        return Err(p.set_unexpected());
+    }
+    parameters::parse_formal_parameters(p, &By(parse))
 }
 
 /// The directives and the statements of a text, up to its end (ECMA-262, sections 16.1 and 16.2).

@@ -1,37 +1,29 @@
 -- Answers of assignments to array targets (ECMA-262, 13.15.5).
-use Rattle.std.proofs.Common.{ℕ, ◌≡◌, ◌≤◌, ◌<◌, ◌⊎◌, inl, inr, List, [], ◌∷◌, ◌++◌, ◌+◌, ◌-◌, length, Bool, true, false, not, ◌&&◌, ◌||◌, IsTrue, Option, Some, None, refl, sym, ap, subst, arith, ◌∙◌, append-nil}
-use Rattle.std.specs.Prelude.{IsCharBoundary, IsUtf8}
-use Rattle.std.proofs.lemmas.Bool.{false≢true, and_parts, and_from}
-use Rattle.js_base.specs.declared.diagnostic.Diagnostic.{Diagnostic}
+use Rattle.std.proofs.Common.{ℕ, ◌≡◌, List, [], ◌∷◌, ◌+◌, ◌-◌, length, true, false, not, Some, refl, sym, ap, subst, arith, ◌∙◌}
+use Rattle.std.proofs.lemmas.Bool.{and_parts, and_from}
 use Rattle.js_base.specs.declared.kind.Kind.{Kind}
 use Rattle.js_base.specs.declared.kind.Kind.TheVariants.{Eq}
 use Rattle.js_base.specs.declared.operator.AssignmentOperator.TheVariants as assign_by
 use Rattle.js_base.specs.declared.span.Span.{Span}
 use Rattle.js_base.specs.Kinds.{same_kind, one_of_kinds}
 use Rattle.js_base.proofs.KindLemmas.{kind_of_same}
-use Rattle.js_grammar.specs.Trees.{Span as TreeSpan, Label, Slots, end, tree, Tree, of, array_assignment_target, assignment_expression}
-use Rattle.js_grammar.specs.Grammar.{Lexeme, Lexemes, last, Look, here, seen, is, such, nothing, exact, alt, Takes, is_lexeme, is_seq, is_left, is_right, is_such, ◌▸◌}
-use Rattle.js_grammar.specs.Insertion.{Row, assign_operators}
-use Rattle.js_grammar.specs.Lexemes.{is_escaped}
-use Rattle.js_grammar.specs.LexicalFaults.{Reached}
-use Rattle.js_grammar.specs.Marks.{Mark}
+use Rattle.js_grammar.specs.Trees.{Span as TreeSpan, Label, Slots, end, tree, of, assignment_expression}
+use Rattle.js_grammar.specs.Grammar.{Lexemes, here, such, nothing, exact, alt, Takes, is_lexeme, is_seq, is_left, is_right, is_such, ◌▸◌}
+use Rattle.js_grammar.specs.Insertion.{assign_operators}
 use Rattle.js_grammar.specs.Parsing.{Test, plain, full, always, Admits, Goes, Fails, still}
-use Rattle.js_grammar.specs.Productions.{G, Flags, Symbol, at, tok, Arrow', Assignment, Short, ArrayTarget, ObjectTarget, Target}
+use Rattle.js_grammar.specs.Productions.{Flags, at, tok, Arrow', Assignment, Short, ArrayTarget, ObjectTarget}
 use Rattle.js_grammar.specs.Productions.{sym as symbol}
 use Rattle.js_grammar.specs.Table.{rule}
-use Rattle.js_grammar.specs.Follow.{edge_of, follow, after, looser}
+use Rattle.js_grammar.specs.Follow.{after}
 use Rattle.js_grammar.proofs.Calculus.{Between, Inside, inside_full, ◌▹◌, ◌▹✗◌, left, right, fails_alt, fails_node, then_by, part_fails, weaken_fails_on}
 use Rattle.js_grammar.proofs.FollowLaws.{fails_by}
-use Rattle.js_grammar.proofs.Looks.{covered}
 use Rattle.js_tree.specs.declared.id.NodeId.{NodeId}
 use Rattle.js_tree.specs.declared.kind.NodeKind.TheVariants as node
 use Rattle.js_tree.specs.declared.op.Op.TheVariants as op_made
 use Rattle.js_tree.specs.Nodes.{Node}
-use Rattle.js_tree.specs.Holding.{Stands, StandsAll, no_slots, next_child, AreWithin, AreDistinct, Holds, Keeps}
-use Rattle.js_tree.proofs.HoldingLemmas.{Keeps-trans, Keeps-made, Keeps-longer}
+use Rattle.js_tree.specs.Holding.{Holds, Keeps}
+use Rattle.js_tree.proofs.HoldingLemmas.{Keeps-trans, Keeps-made}
 use Rattle.js_cursor.specs.Parsers.{Parser}
-use Rattle.js_cursor.specs.Places.{goal}
-use Rattle.js_cursor.specs.declared.stop.Stop.{Stop}
 use Rattle.js_parsing.specs.Answers.{Answer, Numbered, Underived}
 use Rattle.js_parsing.specs.Lexemes.{Lex}
 use Rattle.js_parsing.specs.Moves.{Moved, MadeHere, plain_label}

@@ -9,7 +9,7 @@ use Rattle.js_base.specs.Kinds.{same_kind, one_of_kinds}
 use Rattle.js_base.specs.Texts.{words}
 use Rattle.js_base.proofs.KindLemmas.{kind_of_same}
 use Rattle.js_grammar.specs.Trees.{Span as TreeSpan, Label, Slots, end, tree, no_op, arrow_function_expression}
-use Rattle.js_grammar.specs.Grammar.{Lexeme, Lexemes, Look, last, next, here, seen, is, such, nothing, exact, Make, node, lexeme, Takes, ◌▸◌, ◌◇◌, is_nothing, is_seq, is_lexeme, is_look, is_such, is_left, is_right, is_node, is_empty_slot}
+use Rattle.js_grammar.specs.Grammar.{Lexeme, Lexemes, Look, last, next, here, seen, is, such, nothing, exact, Make, node, Takes, ◌▸◌, ◌◇◌, is_nothing, is_seq, is_lexeme, is_look, is_such, is_left, is_right, is_node, is_empty_slot}
 use Rattle.js_grammar.specs.Brackets.{bracket, move}
 use Rattle.js_grammar.specs.Insertion.{may_bind, Row, after_expression, after_postfix, after_body, after_yield, after_declarator, after_word}
 use Rattle.js_grammar.specs.Lexed.{Lexes}
@@ -40,6 +40,9 @@ use Rattle.js_grammar.specs.Lexed.{Lex as StandsBehind, all_faults}
 use Rattle.js_grammar.specs.Lexemes.{is_escaped}
 use Rattle.js_grammar.specs.Marks.{Mark, a_lexeme}
 use Rattle.js_cursor.specs.Moves.{Peeks}
+use Rattle.js_cursor.specs.Moves.{Keeps as Keeps_one}
+use Rattle.js_base.specs.declared.diagnostic.DiagnosticKind.TheVariants.{LineterminatorBeforeArrow}
+use Rattle.js_parsing.specs.Told.{unrelated_at}
 use Rattle.js_cursor.specs.Places.{goal}
 use Rattle.js_tree.specs.declared.id.NodeId.{NodeId}
 use Rattle.js_tree.specs.declared.kind.NodeKind.TheVariants as node_kind
@@ -84,7 +87,7 @@ use Rattle.js_parsing.proofs.MadeNodes.{leaf_held, node_held, two_held, one_lies
 use Rattle.js_parsing.proofs.Moving.{beside_nodes, flags_same, heads_kept, same_both, same_itself, same_with, stops_behind, nodes_lie}
 use Rattle.js_operands.proofs.Operands.{by_path, by_such, name_test}
 use Rattle.js_patterns.proofs.Bindings.{bound_path, ended_by, then_any}
-use Rattle.js_parsing.proofs.Paths.{reads, Path, ◌⟼◌, ◌⟶◌, ◌⟶✗◌, fails_at, token, last_called, noded, noded_by, by_symbol_as, label_here, read_of, walked_both, walked_from, walked_one}
+use Rattle.js_parsing.proofs.Paths.{Path, ◌⟼◌, ◌⟶◌, ◌⟶✗◌, fails_at, token, last_called, noded, noded_by, by_symbol_as, label_here, read_of, walked_both, walked_from, walked_one}
 use Rattle.js_parsing.proofs.Signs.{none_kept, plain_of}
 use Rattle.js_parsing.proofs.Ahead.{pass_over, reads_other}
 use Rattle.js_parsing.proofs.Tight.{read_plain}
@@ -249,7 +252,7 @@ module _ {text : List ℕ} {f : Flags} {p : Parser} (a : At text f p) where
   unfolding covers apart
   no_name k = fails_at a (mk formal_parameters (mk formal_parameter (symbol BindingIdentifier f ▸ empty_slot))) (Ident ∷ []) refl (ap (one_of_kinds (Ident ∷ [])) k)
 
-  no_parameters : Underived text (at Params f) p.prev_token_end → NoHead text f p.prev_token_end
+  pub no_parameters : Underived text (at Params f) p.prev_token_end → NoHead text f p.prev_token_end
   no_parameters n = part_fails {X' = plain full} (weaken_fails_on n (record { admits = λ ts vs k ls rest d e. (refl, refl) })) (record { admits = λ ts us vs j k ls mid rest d d' e. (refl, refl) })
 
   -- where no head in parentheses stands, no arrow function begins with a parenthesis
@@ -269,7 +272,7 @@ module _ {text : List ℕ} {f : Flags} {p : Parser} (a : At text f p) where
     parameters_alone = last_called x (record { admits = λ ts vs k ls rest d e. (refl, refl) })
 
     -- no `=>` stands behind them
-    unarrowed : (q.token.kind ≡ Arrow → ⊥) → NoHead text f p.prev_token_end
+    pub unarrowed : (q.token.kind ≡ Arrow → ⊥) → NoHead text f p.prev_token_end
     unfolding covers apart
     unarrowed n = then_any parameters_alone ⟶✗ fails_at x.at {X = plain full} (tok Arrow) (Arrow ∷ []) refl (other_kind Arrow q.token.kind n)
 
@@ -291,7 +294,7 @@ module _ {text : List ℕ} {f : Flags} {p : Parser} {t : Token} (a : At text f p
   behind_it = subst (λ (v : List ℕ). Given division cut p.lexer.goal v p.token.span.end t [] h.next.faults) (a.at.reads ∙ a.text_is)
       (subst (λ (v : ℕ). Given division cut p.lexer.goal p.lexer.text v t [] h.next.faults) a.at.last h.next.outcome)
 
-  given_behind : {A : Type 0} → ((d : Diagnostic) → t.kind ≡ Undetermined → GivesNone division p.lexer.goal text p.token.span.end t d → A) → (GivesLexeme division cut text p.token.span.end t → A) → A
+  pub given_behind : {A : Type 0} → ((d : Diagnostic) → t.kind ≡ Undetermined → GivesNone division p.lexer.goal text p.token.span.end t d → A) → (GivesLexeme division cut text p.token.span.end t → A) → A
   given_behind {A} n g = go (same_kind Undetermined t.kind) refl behind_it
     where
       go : (r : Bool) → same_kind Undetermined t.kind ≡ r → elim r as (λ _. Type 0) [ true ↦ (d : Diagnostic) × (h.next.faults ≡ d ∷ []) × GivesNone division p.lexer.goal text p.token.span.end t d | false ↦ (h.next.faults ≡ []) × GivesLexeme division cut text p.token.span.end t ] → A
@@ -402,16 +405,19 @@ no_operand_there {text} {f} {p} a k h = record { no = λ ts vs j ls rest m d e. 
           | inr n ↦ false≢true (sym n ∙ arrow)
         ]
 
--- parameters of which something was told, with `=>` behind their parentheses
-told_parameters : {text : List ℕ} {f : Flags} {p q : Parser} {id : NodeId} → At text f p → p.token.kind ≡ LParen → Numbered text f (at Params f) p q id → Grown p.errors q.errors → Underived text (at Params f) p.prev_token_end → ArrowBehindOne text p.prev_token_end → ToldHead text f p q id
-told_parameters {text} {f} {p} a k x g n h =
-    let s = no_operand_there a k h in
+-- neither a head nor an operand begins here
+pub unassigned : {text : List ℕ} {f : Flags} {p : Parser} → At text f p → p.token.kind ≡ LParen → NoHead text f p.prev_token_end → Underived text (at Short f) p.prev_token_end → Underived text (at Assignment f) p.prev_token_end
+unassigned {f = f} a k n s = fails_by (only_arrow f (not_wide a) (conditional_none f s) s ▹✗ weaken_fails_on (no_head_no_arrow a k n) (same_read (at Assignment f) (at Arrow' f) arrow_passes refl))
+
+-- parameters of which something was told, where no operand begins
+told_parameters : {text : List ℕ} {f : Flags} {p q : Parser} {id : NodeId} → At text f p → p.token.kind ≡ LParen → Numbered text f (at Params f) p q id → Grown p.errors q.errors → Underived text (at Params f) p.prev_token_end → Underived text (at Short f) p.prev_token_end → ToldHead text f p q id
+told_parameters {text} {f} {p} a k x g n s =
     record {
       at = x.answer.at;
       same = x.answer.same;
       further = x.answer.further;
       grown = g;
-      none = fails_by (only_arrow f (not_wide a) (conditional_none f s) s ▹✗ weaken_fails_on (no_head_no_arrow a k (no_parameters a n)) (same_read (at Assignment f) (at Arrow' f) arrow_passes refl));
+      none = unassigned a k (no_parameters a n) s;
       label = x.answer.label;
       slots = x.answer.slots;
       pass = x.answer.pass;
@@ -419,6 +425,13 @@ told_parameters {text} {f} {p} a k x g n h =
       holds = x.holds;
       keeps = x.keeps;
     }
+
+-- parameters where no operand begins
+pub certain_head : {text : List ℕ} {f : Flags} {p q : Parser} {id : NodeId} → At text f p → p.token.kind ≡ LParen → Underived text (at Short f) p.prev_token_end → Numbered text f (at Params f) p q id → BeforeArrow text f p q id
+certain_head a k s x = elim x.answer.verdict [
+  | clean e z ↦ a_head (parenthesized_head a k x (ap length e))
+  | unclean g z ↦ told_head (told_parameters a k x g z s)
+]
 
 module _ {p q : Parser} {kept : ℕ} (a : Standing p) (k : p.token.kind ≡ LParen) (n : kept ≡ length p.errors) where
   -- parameters, and whether they are a head
@@ -429,7 +442,7 @@ module _ {p q : Parser} {kept : ℕ} (a : Standing p) (k : p.token.kind ≡ LPar
       by (inl e) a y = a_head (parenthesized_head a k y (e ∙ n))
       by {text} {f} (inr c) a y = elim y.answer.verdict [
         | clean e z ↦ a_head (parenthesized_head a k y (ap length e))
-        | unclean g z ↦ told_head (told_parameters a k y g z (subst (λ (v : ℕ). ArrowBehindOne text v) t (subst (λ (v : List ℕ). ArrowBehindOne v start) y.answer.at.text_is c)))
+        | unclean g z ↦ told_head (told_parameters a k y g z (no_operand_there a k (subst (λ (v : ℕ). ArrowBehindOne text v) t (subst (λ (v : List ℕ). ArrowBehindOne v start) y.answer.at.text_is c))))
       ]
 
   pub head_unread : {id : NodeId} → Answers (at Params) p q (Ok id) → (length q.errors ≡ kept → ⊥) ⊎ (q.token.kind ≡ Arrow → ⊥) → NoneLooked p q
@@ -712,6 +725,10 @@ before_answers {text} {f} {o} {p} {q} {r} {w} {z} {id} {body} {made} (told_head 
       verdict = unclean (behind (grown_first (line_grown c v.grown) m.kept) y.answer.verdict) v.none;
     } in
     by_such path (same_both v.same (same_both (line_same c) (same_both m.same y.answer.same))) x.stays (λ j u. y.answer.stops j u) y.answer.row (two_held x v.holds v.keeps g i) (Keeps-trans v.keeps (Keeps-trans i (Keeps-made x.made))) refl (one_lies x)
+
+-- it is told of the token that stands here
+pub late_told : {p q : Parser} {d : Diagnostic} (s : Span) → d ≡ unrelated_at LineterminatorBeforeArrow s → s ≡ p.token.span → Keeps_one d p q → Keeps_one (late_arrow p.token.span) p q
+late_told {p} {q} s e h k = subst (λ (v : Diagnostic). Keeps_one v p q) (e ∙ ap late_arrow h) k
 
 -- what is told of `=>` on a new line
 pub late_marked : {text : List ℕ} {f : Flags} {p : Parser} (s : Span) → At text f p → p.token.kind ≡ Arrow → p.token.is_on_new_line ≡ true → s ≡ p.token.span → Mark (goal p) p.text (late_arrow s)

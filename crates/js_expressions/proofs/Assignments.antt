@@ -22,7 +22,7 @@ use Rattle.js_grammar.specs.Productions.{sym as symbol}
 use Rattle.js_grammar.specs.Table.{rule}
 use Rattle.js_grammar.specs.Follow.{edge_of, follow, after, looser, widest}
 use Rattle.js_grammar.proofs.Looks.{covered}
-use Rattle.js_grammar.proofs.Calculus.{On, Inside, ◌▹◌, ◌▹✗◌, fails_node, weaken_fails_on}
+use Rattle.js_grammar.proofs.Calculus.{On, Inside, ◌▹✗◌, fails_node, weaken_fails_on}
 use Rattle.js_grammar.proofs.FollowLaws.{fails_by}
 use Rattle.js_tree.specs.declared.id.NodeId.{NodeId}
 use Rattle.js_tree.specs.declared.kind.NodeKind.TheVariants as node
@@ -35,7 +35,7 @@ use Rattle.js_cursor.specs.Parsers.{Parser}
 use Rattle.js_cursor.specs.Moves.{is_last}
 use Rattle.js_cursor.specs.Places.{goal}
 use Rattle.js_parsing.specs.Answers.{Underived, Answer, Numbered, Stretch, Verdict}
-use Rattle.js_parsing.specs.Lexemes.{Lex, is_read}
+use Rattle.js_parsing.specs.Lexemes.{Lex}
 use Rattle.js_parsing.specs.Moves.{Moved, MadeHere, Tightness, plain_label}
 use Rattle.js_targets.specs.Taken.{no_target_at}
 use Rattle.js_parsing.specs.States.{At}

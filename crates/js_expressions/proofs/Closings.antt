@@ -1,15 +1,15 @@
 -- Where parentheses close, and that no operand goes on over `=>` behind them (ECMA-262, 15.3).
-use Rattle.std.proofs.Common.{ℕ, ◌≡◌, ◌≤◌, ◌⊎◌, inl, inr, Bool, true, false, not, cond, ◌&&◌, ◌||◌, nat_eq, IsTrue, List, [], ◌∷◌, ◌++◌, length, Option, Some, None, refl, sym, ap, subst, arith, ◌∙◌}
+use Rattle.std.proofs.Common.{ℕ, ◌≡◌, Bool, true, false, not, cond, ◌||◌, List, [], ◌∷◌, ◌++◌, length, Some, None, refl, sym, ap, subst, arith, ◌∙◌}
 use Rattle.std.specs.Prelude.{IsCharBoundary, IsUtf8, Result, Ok, Err, IfOk}
-use Rattle.std.proofs.lemmas.Bool.{false≢true, and_parts, and_from, or_left, or_right, eq-eqb, eqb-true}
+use Rattle.std.proofs.lemmas.Bool.{false≢true, eq-eqb}
 use Rattle.js_base.specs.declared.kind.Kind.{Kind}
 use Rattle.js_base.specs.declared.kind.Kind.TheVariants.{Arrow, LParen, LBrack, LCurly, RParen, RBrack, RCurly, RAngle, Undetermined}
 use Rattle.js_base.specs.declared.diagnostic.Diagnostic.{Diagnostic}
 use Rattle.js_base.specs.declared.token.Token.{Token}
-use Rattle.js_base.specs.Kinds.{same_kind, one_of_kinds}
+use Rattle.js_base.specs.Kinds.{same_kind}
 use Rattle.js_base.proofs.KindLemmas.{kind_of_same}
 use Rattle.js_grammar.specs.Brackets.{Bracket, plain, opens, closes, bracket, move, pop}
-use Rattle.js_grammar.specs.Grammar.{Lexeme, Lexemes, here}
+use Rattle.js_grammar.specs.Grammar.{Lexeme, Lexemes}
 use Rattle.js_grammar.specs.Lexed.{Lexes}
 use Rattle.js_grammar.specs.Lexemes.{division}
 use Rattle.js_grammar.proofs.Alike.{lex-same}
@@ -19,31 +19,32 @@ use Rattle.js_lex.proofs.Again.{cut_same, passed}
 use Rattle.js_lex.proofs.StringPlaces.{front_word}
 use Rattle.js_parsing.specs.Lexemes.{Lex}
 use Rattle.js_parsing.proofs.Here.{plainly}
-use Rattle.js_expressions.specs.Closings.{Closing, closed, inside, ArrowBehindOne, open_behind, tells_whole, BracketPassed, LastClosed, Opened, ArrowStands, ArrowFound}
+use Rattle.js_expressions.specs.declared.closing.OpenBracket.{OpenBracket}
+use Rattle.js_expressions.specs.Closings.{number_of, Closing, closed, inside, ArrowBehindOne, open_behind, tells_whole, BracketPassed, LastClosed, Opened, ArrowStands, ArrowFound}
 
 -- ---- lists of brackets
 
-pub one_more : (st bs : List ℕ) (b : ℕ) → open_behind st (bs ++ b ∷ []) ≡ b ∷ open_behind st bs
+pub one_more : (st : List ℕ) (bs : List OpenBracket) (b : OpenBracket) → open_behind st (bs ++ b ∷ []) ≡ number_of b ∷ open_behind st bs
 one_more st [] b = refl
-one_more st (c ∷ bs) b = one_more (c ∷ st) bs b
+one_more st (c ∷ bs) b = one_more (number_of c ∷ st) bs b
 
-some_behind : (b : ℕ) (st bs : List ℕ) → (c : ℕ) × (u : List ℕ) × (open_behind (b ∷ st) bs ≡ c ∷ u)
+some_behind : (b : ℕ) (st : List ℕ) (bs : List OpenBracket) → (c : ℕ) × (u : List ℕ) × (open_behind (b ∷ st) bs ≡ c ∷ u)
 some_behind b st [] = (b, st, refl)
-some_behind b st (c ∷ bs) = some_behind c (b ∷ st) bs
+some_behind b st (c ∷ bs) = some_behind (number_of c) (b ∷ st) bs
 
 -- where some are old
-pub some_open : (bs : List ℕ) → (length bs ≡ 0 → ⊥) → (c : ℕ) × (u : List ℕ) × (open_behind [] bs ≡ c ∷ u)
+pub some_open : (bs : List OpenBracket) → (length bs ≡ 0 → ⊥) → (c : ℕ) × (u : List ℕ) × (open_behind [] bs ≡ c ∷ u)
 some_open [] n = absurd (n refl)
-some_open (b ∷ bs) n = some_behind b [] bs
+some_open (b ∷ bs) n = some_behind (number_of b) [] bs
 
-pub none_open : (bs : List ℕ) → length bs ≡ 0 → open_behind [] bs ≡ []
+pub none_open : (bs : List OpenBracket) → length bs ≡ 0 → open_behind [] bs ≡ []
 none_open [] e = refl
 none_open (b ∷ bs) e = absurd (omega arith)
 
 -- the last one is closed
-pub pops : (b c : ℕ) (bs : List ℕ) → c ≡ b → pop b (open_behind [] (bs ++ c ∷ [])) ≡ Some (open_behind [] bs)
+pub pops : (b c : OpenBracket) (bs : List OpenBracket) → number_of c ≡ number_of b → pop (number_of b) (open_behind [] (bs ++ c ∷ [])) ≡ Some (open_behind [] bs)
 unfolding pop
-pops b c bs e = ap (pop b) (one_more [] bs c) ∙ (ap (λ (v : Bool). cond v (Some (open_behind [] bs)) None) (eq-eqb b c (sym e)))
+pops b c bs e = ap (pop (number_of b)) (one_more [] bs c) ∙ (ap (λ (v : Bool). cond v (Some (open_behind [] bs)) None) (eq-eqb (number_of b) (number_of c) (sym e)))
 
 -- ---- kinds
 
@@ -153,14 +154,14 @@ plain_between {text} {s} {y} u b l =
 
 -- ---- the lexemes that were passed so far
 
-pub record PassedTo (text : List ℕ) (start : ℕ) (old : List ℕ) (place : ℕ) : Type 0 where
+pub record PassedTo (text : List ℕ) (start : ℕ) (old : List OpenBracket) (place : ℕ) : Type 0 where
   pub between : IsCharBoundary text place
   pub leads : (e : ℕ) → Closing text (open_behind [] old) place e → Closing text [] start e
 
-pub passed_none : {text : List ℕ} {start : ℕ} {old : List ℕ} → IsCharBoundary text start → old ≡ [] → PassedTo text start old start
-passed_none {text} {start} {old} b h = record { between = b; leads = λ e c. subst (λ (bs : List ℕ). Closing text (open_behind [] bs) start e) h c }
+pub passed_none : {text : List ℕ} {start : ℕ} {old : List OpenBracket} → IsCharBoundary text start → old ≡ [] → PassedTo text start old start
+passed_none {text} {start} {old} b h = record { between = b; leads = λ e c. subst (λ (bs : List OpenBracket). Closing text (open_behind [] bs) start e) h c }
 
-module _ {text : List ℕ} {start place : ℕ} {old : List ℕ} (new : List ℕ) {t : Token} {to : ℕ} (u : IsUtf8 text) (z : PassedTo text start old place) (g : GivesBehind text place t) (w : tells_whole t.kind ≡ true) (m : move (bracket t.kind) (open_behind [] old) ≡ Some (open_behind [] new)) (d : to ≡ t.span.end) where
+module _ {text : List ℕ} {start place : ℕ} {old : List OpenBracket} (new : List OpenBracket) {t : Token} {to : ℕ} (u : IsUtf8 text) (z : PassedTo text start old place) (g : GivesBehind text place t) (w : tells_whole t.kind ≡ true) (m : move (bracket t.kind) (open_behind [] old) ≡ Some (open_behind [] new)) (d : to ≡ t.span.end) where
   next_lexeme : (y : Lexeme) × LexemeBehind division text place y × Tells y t
   next_lexeme = whole_behind g w
 
@@ -219,18 +220,15 @@ closes_alike text s {st = st} {e = e} {e' = e'} l (and_more {b = b} {s = t} {x =
 
 -- ---- what is answered of one lexeme
 
-pub last_closed : (b c : ℕ) (old new : List ℕ) → old ≡ new ++ c ∷ [] → LastClosed b old new (nat_eq c b)
-last_closed b c old new e = go (nat_eq c b) refl
-  where
-    go : (r : Bool) → nat_eq c b ≡ r → LastClosed b old new r
-    go true q = ap (λ (bs : List ℕ). pop b (open_behind [] bs)) e ∙ pops b c new (eqb-true c b q)
-    go false q = tt
+pub last_closed : (b c : OpenBracket) (old new : List OpenBracket) (r : Bool) → old ≡ new ++ c ∷ [] → (r ≡ true → c ≡ b) → LastClosed b old new r
+last_closed b c old new true e q = ap (λ (bs : List OpenBracket). pop (number_of b) (open_behind [] bs)) e ∙ pops b c new (ap number_of (q refl))
+last_closed b c old new false e q = tt
 
-pub opened_passed : {E : Type 0} (k : Kind) {j : Kind} (b : ℕ) (old new : List ℕ) (r : Result Bool E) → k ≡ j → tells_whole j ≡ true → ((st : List ℕ) → move (bracket j) st ≡ Some (b ∷ st)) → IfOk r (λ o. Opened b old new o) → IfOk r (λ o. BracketPassed k old new o)
+pub opened_passed : {E : Type 0} (k : Kind) {j : Kind} (b : OpenBracket) (old new : List OpenBracket) (r : Result Bool E) → k ≡ j → tells_whole j ≡ true → ((st : List ℕ) → move (bracket j) st ≡ Some (number_of b ∷ st)) → IfOk r (λ o. Opened b old new o) → IfOk r (λ o. BracketPassed k old new o)
 opened_passed k b old new (Ok true) e w m o = (ap tells_whole e ∙ w, ap (λ (i : Kind). move (bracket i) (open_behind [] old)) e ∙ (m (open_behind [] old) ∙ ap Some (sym o)))
 opened_passed k b old new (Ok false) e w m o = tt
 opened_passed k b old new (Err x) e w m o = tt
 
-pub closed_passed : (k : Kind) {j : Kind} (b : ℕ) (old new : List ℕ) (r : Bool) → k ≡ j → tells_whole j ≡ true → ((st : List ℕ) → move (bracket j) st ≡ pop b st) → LastClosed b old new r → BracketPassed k old new r
+pub closed_passed : (k : Kind) {j : Kind} (b : OpenBracket) (old new : List OpenBracket) (r : Bool) → k ≡ j → tells_whole j ≡ true → ((st : List ℕ) → move (bracket j) st ≡ pop (number_of b) st) → LastClosed b old new r → BracketPassed k old new r
 closed_passed k b old new true e w m o = (ap tells_whole e ∙ w, ap (λ (i : Kind). move (bracket i) (open_behind [] old)) e ∙ (m (open_behind [] old) ∙ o))
 closed_passed k b old new false e w m o = tt

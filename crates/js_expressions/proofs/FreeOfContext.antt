@@ -1,7 +1,7 @@
 -- Formal parameters are read alike whatever In, Return and NewTarget are around them (ECMA-262, 15.1): an initialiser stands under In, a `return` in a body alone, and `target` isn't read yet.
 use Rattle.std.proofs.Common.{ℕ, ◌≡◌, Bool, true, false, not, cond, IsTrue, refl, sym, subst, ◌∙◌, rules}
 use Rattle.js_grammar.specs.Trees.{Slots, tree}
-use Rattle.js_grammar.specs.Grammar.{Lexemes, here, seen, Grammar, nothing, never, lexeme, look, text, ahead, empty_slot, seq, alt, when, many, commas, such, marked, node, ended, keep, kept, label_of, semicolon, commas_once, Takes, is_nothing, is_lexeme, is_look, is_text, is_ahead, is_empty_slot, is_seq, is_left, is_right, is_when, is_many, is_commas, is_such, is_marked, is_node, is_ended, is_keep, is_kept}
+use Rattle.js_grammar.specs.Grammar.{Lexemes, here, seen, nothing, never, lexeme, look, text, ahead, empty_slot, seq, alt, when, many, commas, such, marked, node, ended, keep, kept, label_of, semicolon, commas_once, Takes, is_nothing, is_lexeme, is_look, is_text, is_ahead, is_empty_slot, is_seq, is_left, is_right, is_when, is_many, is_commas, is_such, is_marked, is_node, is_ended, is_keep, is_kept}
 use Rattle.js_grammar.specs.Parsing.{always}
 use Rattle.js_grammar.specs.Productions.{G, Flags, Name, Symbol, at, Program, Directive, Item, ListItem, Statement, Sub, Block, Empty, ExprStmt, Var, Lexical, Init, If, Do, While, With, For, ForInit, ForIn, ForOf, Continue, Break, Return, Throw, Switch, Case, Try, Catch, Debugger, Labeled, Function, FuncExpr, Params, Param, Rest, Body, Arrow', Class, ClassExpr, ClassBody, Element, Decorator, DecoratorMember, Object, Property, Expression, Assignment, Yield, Conditional, Short, Coalesce, Or, And, BitOr, BitXor, BitAnd, Equality, Relational, Shift, Additive, Multiply, Exponent, Unary, Update, LeftHandSide, New, Member, Call, Chain, Links, Super, Argument, Primary, Template, IdentifierReference, BindingIdentifier, LabelIdentifier, IdentifierName, PrivateName, SimpleTarget, Target, ArrayTarget, ObjectTarget, TargetElement, TargetProperty, Binding, BElement, Pattern, PatternProperty, BindingRest, ImportDecl, Spec, ExportName, Attrs, Attr, ExportDecl, LooseHead}
 use Rattle.js_grammar.specs.Table.{rule, rule_of}

@@ -6,7 +6,7 @@ use Rattle.js_base.specs.Contexts.{has_flag, await_flag, yield_flag}
 use Rattle.js_grammar.specs.Trees.{Slots, end}
 use Rattle.js_grammar.specs.Grammar.{Lexemes, Takes, ◌▸◌, is_seq}
 use Rattle.js_grammar.specs.Lexed.{Lexes}
-use Rattle.js_grammar.specs.Productions.{Flags, at, sym as symbol, tok, Arrow', Params}
+use Rattle.js_grammar.specs.Productions.{Flags, sym as symbol, tok, Params}
 use Rattle.js_grammar.specs.Table.{rule}
 use Rattle.js_base.specs.declared.kind.Kind.TheVariants.{Arrow, LParen}
 use Rattle.js_cursor.specs.Moves.{NotesArrow}

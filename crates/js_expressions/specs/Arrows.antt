@@ -1,11 +1,11 @@
 -- What the parse functions of arrow functions answer (ECMA-262, 15.3).
-use Rattle.std.specs.Prelude.{ℕ, ◌≡◌, ◌<◌, ◌⊎◌, Bool, true, false, List, [], ◌∷◌, Option, Some, None, length, Result}
+use Rattle.std.specs.Prelude.{ℕ, ◌≡◌, ◌<◌, ◌⊎◌, Bool, true, false, List, Option, Some, None, length, Result, Ok, Err}
 use Rattle.js_base.specs.declared.diagnostic.Diagnostic.{Diagnostic}
 use Rattle.js_base.specs.declared.diagnostic.DiagnosticKind.TheVariants.{LineterminatorBeforeArrow}
 use Rattle.js_base.specs.declared.kind.Kind.TheVariants.{Arrow}
 use Rattle.js_expressions.specs.Closings.{ArrowBehindOne}
 use Rattle.js_base.specs.declared.span.Span.{Span}
-use Rattle.js_grammar.specs.Trees.{Label, Slots, end, hole, tree, formal_parameters, formal_parameter, binding_identifier, no_op}
+use Rattle.js_grammar.specs.Trees.{Label, Slots, tree, formal_parameters, formal_parameter}
 use Rattle.js_grammar.specs.Grammar.{Lexeme, Lexemes, empty_slot, nothing, ◌▸◌, ◌◇◌}
 use Rattle.js_grammar.specs.Parsing.{plain, full}
 use Rattle.js_grammar.specs.Productions.{G, Flags, at, sym, mk, Arrow', Assignment, BindingIdentifier, Params}
@@ -15,7 +15,7 @@ use Rattle.js_cursor.specs.Checkpoints.{GoesOn}
 use Rattle.js_cursor.specs.Moves.{Keeps}
 use Rattle.js_cursor.specs.Parsers.{Parser}
 use Rattle.js_cursor.specs.declared.stop.Stop.{Stop}
-use Rattle.js_parsing.specs.Answers.{Grown, Outcome, Stretch, Underived}
+use Rattle.js_parsing.specs.Answers.{Grown, Outcome, Stops, Stretch, Underived}
 use Rattle.js_parsing.specs.Heads.{NoHead, NotedHeads}
 use Rattle.js_parsing.specs.Lexemes.{Lex, Walked, spot}
 use Rattle.js_parsing.specs.States.{At, Same, NodesLie, SpansLie}
@@ -78,6 +78,20 @@ pub record Unmoved (p q : Parser) : Type 0 where
 abbrev pub FindsHead : Parser → Parser → Option NodeId → Type 0
 FindsHead p q (Some id) = IsHeadHere p q id
 FindsHead p q None = Unmoved p q × NoArrowHere p
+
+-- nothing is derived here
+abbrev pub NoAssignment : Parser → Parser → Stop → Type 0
+NoAssignment p q e = (text : List ℕ) (f : Flags) → At text f p → Stops p q e (Underived text (at Assignment f) p.prev_token_end)
+
+-- the same, or nothing is derived here
+abbrev pub SearchesHead : Parser → Parser → Result (Option NodeId) Stop → Type 0
+SearchesHead p q (Ok found) = FindsHead p q found
+SearchesHead p q (Err e) = NoAssignment p q e
+
+-- a head was read, or nothing is derived here
+abbrev pub ReadsHead : Parser → Parser → Result NodeId Stop → Type 0
+ReadsHead p q (Ok id) = IsHeadHere p q id
+ReadsHead p q (Err e) = NoAssignment p q e
 
 -- no parameters in parentheses with `=>` behind them are derived here
 abbrev pub NoHeadHere : Parser → Type 0

@@ -1,5 +1,5 @@
 -- Where the parentheses close that begin at a place: by the lexemes of the plain lexical goal.
-use Rattle.std.specs.Prelude.{ℕ, ◌≡◌, Bool, true, false, IsTrue, not, cond, List, [], ◌∷◌, ◌++◌, Option, Some, None}
+use Rattle.std.specs.Prelude.{ℕ, ◌≡◌, Bool, true, false, IsTrue, not, List, [], ◌∷◌, Some}
 use Rattle.js_base.specs.declared.kind.Kind.{Kind}
 use Rattle.js_base.specs.declared.kind.Kind.TheVariants.{Arrow, RAngle, Undetermined}
 use Rattle.js_base.specs.Kinds.{one_of_kinds}
@@ -7,6 +7,8 @@ use Rattle.js_grammar.specs.Brackets.{bracket, move, pop}
 use Rattle.js_grammar.specs.Grammar.{Lexeme}
 use Rattle.js_grammar.specs.Lexemes.{division}
 use Rattle.js_lex.specs.Reading.{LexemeBehind}
+use Rattle.js_expressions.specs.declared.closing.OpenBracket.{OpenBracket}
+use Rattle.js_expressions.specs.declared.closing.OpenBracket.TheVariants.{Round, Square, Curly}
 
 -- With these brackets open at a place: the lexemes from there on up to the one behind which none is open, and the place there.
 pub data Closing (text : List ℕ) : List ℕ → ℕ → ℕ → Type 0 where
@@ -21,26 +23,32 @@ pub record ArrowBehindOne (text : List ℕ) (s : ℕ) : Type 0 where
   pub stands : LexemeBehind division text place arrow
   pub is : arrow.kind ≡ Arrow
 
+-- which bracket it is
+abbrev pub number_of : OpenBracket → ℕ
+number_of Round = 1
+number_of Square = 2
+number_of Curly = 3
+
 -- the brackets that are open, of those that were opened, the last one last
-abbrev pub open_behind : List ℕ → List ℕ → List ℕ
+abbrev pub open_behind : List ℕ → List OpenBracket → List ℕ
 open_behind st [] = st
-open_behind st (b ∷ bs) = open_behind (b ∷ st) bs
+open_behind st (b ∷ bs) = open_behind (number_of b ∷ st) bs
 
 -- a token that tells a whole lexeme
 abbrev pub tells_whole : Kind → Bool
 tells_whole k = not (one_of_kinds (RAngle ∷ Undetermined ∷ []) k)
 
 -- A lexeme was passed, and these brackets are open behind it; false says nothing.
-abbrev pub BracketPassed : Kind → List ℕ → List ℕ → Bool → Type 0
+abbrev pub BracketPassed : Kind → List OpenBracket → List OpenBracket → Bool → Type 0
 BracketPassed k old new true = IsTrue (tells_whole k) × (move (bracket k) (open_behind [] old) ≡ Some (open_behind [] new))
 BracketPassed k old new false = Unit {0}
 
-abbrev pub Opened : ℕ → List ℕ → List ℕ → Bool → Type 0
-Opened b old new true = open_behind [] new ≡ b ∷ open_behind [] old
+abbrev pub Opened : OpenBracket → List OpenBracket → List OpenBracket → Bool → Type 0
+Opened b old new true = open_behind [] new ≡ number_of b ∷ open_behind [] old
 Opened b old new false = Unit {0}
 
-abbrev pub LastClosed : ℕ → List ℕ → List ℕ → Bool → Type 0
-LastClosed b old new true = pop b (open_behind [] old) ≡ Some (open_behind [] new)
+abbrev pub LastClosed : OpenBracket → List OpenBracket → List OpenBracket → Bool → Type 0
+LastClosed b old new true = pop (number_of b) (open_behind [] old) ≡ Some (open_behind [] new)
 LastClosed b old new false = Unit {0}
 
 abbrev pub ArrowStands : List ℕ → ℕ → Bool → Type 0

@@ -2,4 +2,5 @@ pub mod Arrows
 pub mod Closings
 pub mod Coalescing
 pub mod Exponents
+pub mod Lookaheads
 pub mod Rests

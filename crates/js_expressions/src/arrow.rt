@@ -5,17 +5,19 @@ ghost use Rattle.js_base.specs.declared.kind.Kind.TheVariants.{Arrow, Ident, LPa
 ghost use Rattle.js_cursor.specs.Moves.{OnlyMemory};
 ghost use Rattle.js_grammar.specs.Productions.{at, Params};
 ghost use Rattle.js_parsing.specs.Answers.{Answers};
-ghost use Rattle.js_expressions.specs.Arrows.{ArrowBehind, ChecksLine, FindsHead, Head, IsHead, LooksForHead, NoArrowHere, ReadsBody, Single};
+ghost use Rattle.js_expressions.specs.Arrows.{ArrowBehind, ChecksLine, FindsHead, IsHead, LooksForHead, ReadsBody, ReadsHead, SearchesHead, Single};
+ghost use Rattle.js_expressions.specs.Lookaheads.{NoOperandHere};
 ghost use Rattle.js_parsing.specs.Nesting.{CanNest, room};
 ghost use Rattle.js_parsing.specs.States.{Standing};
 
 use crate::closing::is_arrow_behind_one;
-use js_base::{Diagnostic, DiagnosticKind, Kind, NoMemory};
+use crate::lookahead::{HeadLookahead, is_parenthesized_head};
+use js_base::{DiagnosticKind, Kind, NoMemory};
 use js_cursor::{ParserImpl, Stop};
 use js_lex::ParserConfig;
 use js_operands::primary::parse_leaf;
 use js_parsing::context::assignment_in_arrow;
-use js_parsing::diagnostics::kept_so_far;
+use js_parsing::diagnostics::{diagnostic_at, kept_so_far};
 use js_parsing::lexemes::{advance, stands};
 use js_parsing::nested::Nested;
 use js_parsing::nodes::{make_one, make_two, make_with_optional};
@@ -23,20 +25,20 @@ use js_patterns::parameters::parse_formal_parameters;
 use js_tree::{NodeId, NodeKind, Op};
 
 /// The parameters of an arrow function, where they stand here with `=>` behind them: a name, or a list in parentheses.
-/// None where no arrow function stands, and the parser is then where it was.
-pub fn parse_arrow_head<C: ParserConfig, N: Nested<C>>(
+/// None where no arrow function stands, and the parser is then where it was. `Fatal` where nothing but one can stand.
+pub(crate) fn parse_arrow_head<C: ParserConfig, N: Nested<C>>(
     p: &mut ParserImpl<'_, C>,
     nested: &N,
 ) -> Result<Option<NodeId>, Stop>
     requires at { Standing p.old }
     requires nests { CanNest (N.can nested.now) (room p.old) }
-    ensures { MatchResult result (λ found. FindsHead p.old p.new found) OnlyMemory }
+    ensures { SearchesHead p.old p.new result }
 {
     if stands(p, Kind::Ident) {
         return parse_name_head(p);
     }
     if stands(p, Kind::LParen) {
-        return try_parse_parenthesized_head(p, nested);
+        return parse_head_at_parenthesis(p, nested);
     }
     Ok(None)
 }
@@ -74,6 +76,46 @@ fn parse_single_parameter<C: ParserConfig>(p: &mut ParserImpl<'_, C>) -> Result<
     let name = parse_leaf(p, NodeKind::BindingIdentifier, Op::None)?;
     let parameter = make_with_optional(p, NodeKind::FormalParameter, span, name, None)?;
     let parameters = make_one(p, NodeKind::FormalParameters, Op::None, span, parameter)?;
+    Ok(parameters)
+}
+
+/// FormalParameters in parentheses, where `=>` stands behind them.
+fn parse_head_at_parenthesis<C: ParserConfig, N: Nested<C>>(
+    p: &mut ParserImpl<'_, C>,
+    nested: &N,
+) -> Result<Option<NodeId>, Stop>
+    requires at { Standing p.old }
+    requires nests { CanNest (N.can nested.now) (room p.old) }
+    requires open { p.old.token.kind ≡ LParen }
+    ensures { SearchesHead p.old p.new result }
+{
+    match is_parenthesized_head(p)? {
+        HeadLookahead::Head => {
+            let parameters = parse_certain_head(p, nested)?;
+            Ok(Some(parameters))
+        }
+        HeadLookahead::Maybe => try_parse_parenthesized_head(p, nested),
+        HeadLookahead::NoHead => Ok(None),
+    }
+}
+
+/// FormalParameters in parentheses and `=>` behind them, where nothing else can stand: what stops them is final.
+#[inline(never)]
+fn parse_certain_head<C: ParserConfig, N: Nested<C>>(
+    p: &mut ParserImpl<'_, C>,
+    nested: &N,
+) -> Result<NodeId, Stop>
+    requires at { Standing p.old }
+    requires nests { CanNest (N.can nested.now) (room p.old) }
+    requires open { p.old.token.kind ≡ LParen }
+    requires certain { NoOperandHere p.old }
+    ensures { ReadsHead p.old p.new result }
+{
+    let parameters = parse_formal_parameters(p, nested)?;
+    if p.at(Kind::Arrow) {
+        return Ok(parameters);
+    }
+    p.expect(Kind::Arrow)?;
     Ok(parameters)
 }
 
@@ -151,7 +193,7 @@ fn is_head<C: ParserConfig>(
 /// An arrow function, whose parameters were read from a place on (ECMA-262, section 15.3), or parentheses in their place,
 /// of which something was told.
 #[inline(never)]
-pub fn parse_arrow_function_expression<C: ParserConfig, N: Nested<C>>(
+pub(crate) fn parse_arrow_function_expression<C: ParserConfig, N: Nested<C>>(
     p: &mut ParserImpl<'_, C>,
     nested: &N,
     start: u32,
@@ -180,12 +222,8 @@ fn check_line<C: ParserConfig>(p: &mut ParserImpl<'_, C>) -> Result<(), NoMemory
     ensures { IfOk result (λ _. ChecksLine p.old p.new) }
 {
     if p.cur_token().is_on_new_line() {
-        p.error(Diagnostic {
-            kind: DiagnosticKind::LineterminatorBeforeArrow,
-            span: p.cur_token().span(),
-            first: None,
-            second: None,
-        })?;
+        let arrow = p.cur_token().span();
+        p.error(diagnostic_at(DiagnosticKind::LineterminatorBeforeArrow, arrow))?;
     }
     Ok(())
 }

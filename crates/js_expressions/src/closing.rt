@@ -8,9 +8,20 @@ use js_base::{Kind, NoMemory};
 use js_cursor::ParserImpl;
 use js_lex::ParserConfig;
 
+/// A bracket that is open.
+#[derive(Clone, Copy, PartialEq, Eq)]
+pub(crate) enum OpenBracket {
+    /// A parenthesis.
+    Round,
+    /// A square bracket.
+    Square,
+    /// A brace.
+    Curly,
+}
+
 /// Whether `=>` stands behind the parentheses that begin behind a place. It is false, too, where a sign that begins with
 /// `>` stands between them, since of such a sign the lexer tells a part.
-pub fn is_arrow_behind_one<C: ParserConfig>(
+pub(crate) fn is_arrow_behind_one<C: ParserConfig>(
     p: &ParserImpl<'_, C>,
     start: u32,
 ) -> Result<bool, NoMemory>
@@ -44,17 +55,17 @@ fn is_arrow_at<C: ParserConfig>(p: &ParserImpl<'_, C>, place: u32) -> Result<boo
 }
 
 /// Passes a lexeme: a bracket is opened, or closes the one that was opened last. False where it closes none, or where the
-/// lexeme isn't told whole. Brackets are told by 1 for `()`, 2 for `[]` and 3 for `{}`.
-fn pass_bracket(brackets: &mut Vec<u8>, kind: Kind) -> Result<bool, NoMemory>
+/// lexeme isn't told whole.
+fn pass_bracket(brackets: &mut Vec<OpenBracket>, kind: Kind) -> Result<bool, NoMemory>
     ensures { IfOk result (λ passed. BracketPassed kind brackets.old.items brackets.new.items passed) }
 {
     match kind {
-        Kind::LParen => open_one(brackets, 1),
-        Kind::LBrack => open_one(brackets, 2),
-        Kind::LCurly => open_one(brackets, 3),
-        Kind::RParen => Ok(close_last(brackets, 1)),
-        Kind::RBrack => Ok(close_last(brackets, 2)),
-        Kind::RCurly => Ok(close_last(brackets, 3)),
+        Kind::LParen => open_one(brackets, OpenBracket::Round),
+        Kind::LBrack => open_one(brackets, OpenBracket::Square),
+        Kind::LCurly => open_one(brackets, OpenBracket::Curly),
+        Kind::RParen => Ok(close_last(brackets, OpenBracket::Round)),
+        Kind::RBrack => Ok(close_last(brackets, OpenBracket::Square)),
+        Kind::RCurly => Ok(close_last(brackets, OpenBracket::Curly)),
         Kind::RAngle => Ok(false),
         Kind::Undetermined => Ok(false),
         _ => Ok(true),
@@ -62,7 +73,7 @@ fn pass_bracket(brackets: &mut Vec<u8>, kind: Kind) -> Result<bool, NoMemory>
 }
 
 /// Opens a bracket.
-fn open_one(brackets: &mut Vec<u8>, bracket: u8) -> Result<bool, NoMemory>
+fn open_one(brackets: &mut Vec<OpenBracket>, bracket: OpenBracket) -> Result<bool, NoMemory>
     ensures { IfOk result (λ opened. Opened bracket brackets.old.items brackets.new.items opened) }
 {
     brackets.push(bracket)?;
@@ -70,7 +81,7 @@ fn open_one(brackets: &mut Vec<u8>, bracket: u8) -> Result<bool, NoMemory>
 }
 
 /// Closes the bracket that was opened last, if it is such a one.
-fn close_last(brackets: &mut Vec<u8>, bracket: u8) -> bool
+fn close_last(brackets: &mut Vec<OpenBracket>, bracket: OpenBracket) -> bool
     ensures { LastClosed bracket brackets.old.items brackets.new.items result }
 {
     match brackets.pop() {

@@ -4,6 +4,7 @@
 pub mod arrow;
 pub mod assignment;
 pub mod closing;
+pub mod lookahead;
 pub mod operators;
 pub mod sequence;
 pub mod unary;

@@ -1,7 +1,7 @@
 -- Arguments: what is left of the list behind each of its items.
 use Rattle.std.proofs.Common.{ℕ, ◌≡◌, ◌≤◌, ◌<◌, ◌⊎◌, inl, inr, max, List, [], ◌∷◌, ◌++◌, length, Option, Some, Bool, true, false, not, ◌||◌, IsTrue, refl, sym, ap, subst, arith, ◌∙◌}
-use Rattle.std.specs.Prelude.{Result, Ok, Err}
-use Rattle.std.proofs.lemmas.Bool.{false≢true, and_parts, and_from, or_left}
+use Rattle.std.specs.Prelude.{Result, Ok}
+use Rattle.std.proofs.lemmas.Bool.{and_parts, and_from, or_left}
 use Rattle.js_base.specs.declared.diagnostic.Diagnostic.{Diagnostic}
 use Rattle.js_base.specs.declared.kind.Kind.{Kind}
 use Rattle.js_base.specs.declared.kind.Kind.TheVariants.{RAngle, LParen, RParen, LBrack, RBrack, LCurly, TemplateHead, TemplateMiddle, Comma, PrivateIdentifier}
@@ -9,30 +9,26 @@ use Rattle.js_base.specs.declared.span.Span.{Span}
 use Rattle.js_base.specs.Kinds.{same_kind, one_of_kinds}
 use Rattle.js_base.proofs.KindLemmas.{kind_of_same}
 use Rattle.js_grammar.specs.Trees.{Slots, end, tree, Label, append}
-use Rattle.js_grammar.specs.Grammar.{Lexeme, Lexemes, Look, here, seen, is, next, seq, alt, such, commas, nothing, lexeme}
+use Rattle.js_grammar.specs.Grammar.{Lexeme, Lexemes, seen, is, next, seq, such, nothing}
 use Rattle.js_grammar.specs.Lexemes.{is_word}
 use Rattle.js_base.specs.Texts.{words}
-use Rattle.js_grammar.specs.Lexed.{all_faults}
-use Rattle.js_grammar.specs.Lexed.{Lex as StandsBehind}
-use Rattle.js_grammar.specs.Marks.{LexemeAt, opens, a_lexeme, IsLexemeOf}
-use Rattle.js_grammar.specs.Parsing.{Test, plain, full, always, behind, still, passing, Goes, Reads, Fails, Admits}
-use Rattle.js_grammar.specs.Productions.{G, Flags, Symbol, at, tok, plus_in, opt, Argument, Assignment}
-use Rattle.js_grammar.specs.Table.{rule, rule_of}
+use Rattle.js_grammar.specs.Marks.{LexemeAt, opens, a_lexeme}
+use Rattle.js_grammar.specs.Parsing.{plain, full, always, passing, Goes, Fails}
+use Rattle.js_grammar.specs.Productions.{G, Flags, at, tok}
+use Rattle.js_grammar.specs.Table.{rule}
 use Rattle.js_grammar.specs.FirstSets.{first as first_of}
-use Rattle.js_grammar.specs.Follow.{after, surest}
-use Rattle.js_grammar.proofs.Looks.{covers, covered, apart, not_both, same_self}
-use Rattle.js_grammar.proofs.Calculus.{after_item, after_comma, ◌▹◌, ◌▹✗◌, left, right, done, by_plain, by_rule, part_fails, weaken_on, weaken_fails_on, fails_nothing, fails_lexeme, commas_item, fails_commas, comma_here, no_comma, item_behind, last_comma}
+use Rattle.js_grammar.proofs.Looks.{covers, apart, not_both, same_self}
+use Rattle.js_grammar.proofs.Calculus.{after_item, after_comma, ◌▹◌, ◌▹✗◌, left, right, done, by_plain, part_fails, fails_nothing, fails_lexeme, commas_item, fails_commas, comma_here, no_comma, item_behind, last_comma}
 use Rattle.js_grammar.proofs.First.{starts}
 use Rattle.js_grammar.proofs.FirstClaims.{firsts}
 use Rattle.js_grammar.proofs.FirstRules.{by_first, fails_here, part}
-use Rattle.js_grammar.proofs.FollowLaws.{admits, surely, fails_by}
 use Rattle.js_grammar.proofs.Frame.{append_assoc, append_end}
 use Rattle.js_tree.specs.declared.id.NodeId.{NodeId}
 use Rattle.js_tree.specs.Nodes.{Node}
-use Rattle.js_tree.specs.Holding.{Holds, HoldsAll, Keeps}
+use Rattle.js_tree.specs.Holding.{HoldsAll, Keeps}
 use Rattle.js_tree.proofs.HoldingLemmas.{HoldsAll-next, Keeps-refl, Keeps-trans}
 use Rattle.js_cursor.specs.Parsers.{Parser}
-use Rattle.js_cursor.specs.Places.{IsAt, goal}
+use Rattle.js_cursor.specs.Places.{goal}
 use Rattle.js_grammar.specs.Settings.{Goal}
 use Rattle.js_lex.specs.States.{goal_of}
 use Rattle.js_cursor.specs.Moves.{MovesOn, Opened, GivesUp, Steps, is_last, IsHere}

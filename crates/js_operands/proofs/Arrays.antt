@@ -1,17 +1,16 @@
 -- Array literals (ECMA-262, 13.2.4): what is left of the list behind each of its elements and gaps.
-use Rattle.std.proofs.Common.{ℕ, ◌≡◌, ◌≤◌, ◌<◌, ◌⊎◌, inl, inr, max, List, [], ◌∷◌, ◌++◌, length, Option, Some, Bool, true, false, not, ◌&&◌, ◌||◌, IsTrue, refl, sym, ap, subst, arith, ◌∙◌}
+use Rattle.std.proofs.Common.{ℕ, ◌≡◌, ◌≤◌, ◌<◌, inl, inr, List, [], ◌∷◌, ◌++◌, length, Option, Some, false, ◌||◌, refl, sym, ap, subst, arith, ◌∙◌}
 use Rattle.std.specs.Prelude.{Result, Ok, Err, MatchResult}
 use Rattle.std.proofs.lemmas.Bool.{false≢true, and_parts}
 use Rattle.js_base.specs.declared.diagnostic.Diagnostic.{Diagnostic}
-use Rattle.js_base.specs.declared.kind.Kind.{Kind}
 use Rattle.js_base.specs.declared.kind.Kind.TheVariants.{RAngle, LParen, LBrack, RBrack, RParen, LCurly, Comma, TemplateHead, TemplateMiddle, PrivateIdentifier}
 use Rattle.js_base.specs.declared.span.Span.{Span}
 use Rattle.js_base.specs.Kinds.{same_kind, one_of_kinds}
 use Rattle.js_base.specs.Texts.{words}
 use Rattle.js_grammar.specs.Lexemes.{is_word}
 use Rattle.js_grammar.specs.Trees.{Slots, end, tree, Label, no_op, elision, array_expression}
-use Rattle.js_grammar.specs.Grammar.{Lexeme, Lexemes, last, next, Look, seen, is, alt, seq, such, many, nothing, never, ◌▸◌, ◌◇◌, Takes, is_nothing, is_seq, is_left, is_right, is_many}
-use Rattle.js_grammar.specs.Parsing.{Test, plain, full, always, still, Reaches, Goes, Fails}
+use Rattle.js_grammar.specs.Grammar.{Lexemes, last, next, Look, alt, seq, nothing, never, Takes, is_nothing, is_seq, is_left, is_right, is_many}
+use Rattle.js_grammar.specs.Parsing.{Test, plain, full, still, Reaches, Goes, Fails}
 use Rattle.js_grammar.specs.Lexed.{Lexes}
 use Rattle.js_base.proofs.KindLemmas.{kind_of_same}
 use Rattle.js_grammar.specs.Productions.{G, Flags, Symbol, at, tok, mk, items, Argument, Primary}
@@ -19,7 +18,7 @@ use Rattle.js_grammar.specs.Productions.{sym as symbol}
 use Rattle.js_grammar.specs.Table.{rule, rule_of}
 use Rattle.js_grammar.specs.Follow.{after}
 use Rattle.js_grammar.proofs.Looks.{covers, apart}
-use Rattle.js_grammar.proofs.Calculus.{Between, ◌▹◌, ◌▹✗◌, same, left, right, then_by, part_fails, by_plain, fails_alt, fails_never, fails_node, inside_full}
+use Rattle.js_grammar.proofs.Calculus.{◌▹◌, ◌▹✗◌, same, left, right, then_by, part_fails, by_plain, fails_alt, fails_never, fails_node, inside_full}
 use Rattle.js_grammar.proofs.FirstClaims.{firsts}
 use Rattle.js_grammar.proofs.FirstRules.{by_first, fails_here}
 use Rattle.js_grammar.proofs.FollowLaws.{fails_by}
@@ -27,8 +26,8 @@ use Rattle.js_tree.specs.declared.id.NodeId.{NodeId}
 use Rattle.js_tree.specs.declared.kind.NodeKind.TheVariants as node
 use Rattle.js_tree.specs.declared.op.Op.TheVariants as op
 use Rattle.js_tree.specs.Nodes.{Node}
-use Rattle.js_tree.specs.Holding.{Holds, HoldsAll, Keeps}
-use Rattle.js_tree.proofs.HoldingLemmas.{HoldsAll-none, HoldsAll-next, Keeps-refl, Keeps-trans, Keeps-made, Keeps-longer}
+use Rattle.js_tree.specs.Holding.{Holds, Keeps}
+use Rattle.js_tree.proofs.HoldingLemmas.{HoldsAll-none, HoldsAll-next, Keeps-refl, Keeps-trans, Keeps-made}
 use Rattle.js_cursor.specs.Moves.{MovesOn, Opened, GivesUp, Steps, OnlyMemory, is_last, IsHere}
 use Rattle.js_cursor.specs.Parsers.{Parser}
 use Rattle.js_cursor.specs.declared.stop.ListStep.{ListStep}

@@ -8,3 +8,5 @@ pub mod Operands
 pub mod Parentheses
 pub mod Spreads
 pub mod Tame
+mod PartInsides
+mod Templates

@@ -1,29 +1,28 @@
 -- The loops over links behind members and in optional chains: their starts, steps, ends and failures, over the lexemes that are read.
 use Rattle.js_parsing.proofs.Signs.{AllAre, NoneIs}
-use Rattle.std.proofs.Common.{ℕ, ◌≡◌, ◌≤◌, ◌⊎◌, inl, inr, max, Bool, true, false, not, ◌&&◌, ◌||◌, IsTrue, List, [], ◌∷◌, refl, sym, ap, subst, arith, ◌∙◌}
-use Rattle.std.proofs.lemmas.Bool.{false≢true, and_parts, and_from, or_left}
+use Rattle.std.proofs.Common.{ℕ, ◌≡◌, ◌≤◌, ◌⊎◌, inl, inr, max, Bool, true, false, not, ◌&&◌, IsTrue, List, [], ◌∷◌, refl, sym, ap, subst, arith, ◌∙◌}
+use Rattle.std.proofs.lemmas.Bool.{false≢true, and_parts, and_from}
 use Rattle.js_base.specs.declared.kind.Kind.{Kind}
 use Rattle.js_base.specs.declared.kind.Kind.TheVariants.{Dot, QuestionDot, New, LParen, LBrack, NoSubstitutionTemplate, TemplateHead, Function}
 use Rattle.js_base.specs.Kinds.{same_kind, one_of_kinds}
 use Rattle.js_base.proofs.KindLemmas.{kind_of_same}
-use Rattle.js_grammar.specs.Trees.{Slots, end, tree, Label, no_op, static_member_expression, computed_member_expression, call_expression, new_expression}
-use Rattle.js_grammar.specs.Grammar.{Lexeme, Lexemes, Look, here, is, exact, seen, such, alt, never, node, seq, nothing, ◌▸◌}
-use Rattle.js_grammar.specs.Parsing.{Test, plain, full, always, still, joined, Way, Goes, Reads, Fails, Admits}
-use Rattle.js_grammar.specs.Productions.{G, Flags, Symbol, at, tok, mk, make, optional_flag, Primary, Member, Call, Chain, Links, Super, LeftHandSide, IdentifierName}
-use Rattle.js_grammar.specs.Productions.{New as new_symbol, sym as symbol}
+use Rattle.js_grammar.specs.Trees.{Slots, end, tree, Label, no_op, call_expression, new_expression}
+use Rattle.js_grammar.specs.Grammar.{Lexeme, Lexemes, Look, here, is, seen, such, alt, never, node, seq, nothing}
+use Rattle.js_grammar.specs.Parsing.{Test, plain, full, always, still, joined, Goes, Reads, Fails, Admits}
+use Rattle.js_grammar.specs.Productions.{G, Flags, Symbol, at, tok, optional_flag, Primary, Member, Call, Chain, Links, Super, LeftHandSide}
+use Rattle.js_grammar.specs.Productions.{New as new_symbol}
 use Rattle.js_grammar.specs.Table.{rule, rule_of, args}
 use Rattle.js_grammar.specs.Insertion.{after_expression}
 use Rattle.js_grammar.specs.Follow.{Edge, edge_of, follow_of, after}
 use Rattle.js_grammar.proofs.Looks.{covers, covered, apart}
-use Rattle.js_grammar.proofs.Calculus.{Inside, Heads, on_itself, here_at, ◌▹◌, ◌▹✗◌, left, right, then_by, makes_by, inside_full, by_plain, by_rule, fails_node, fails_alt, fails_never, part_fails, weaken, weaken_fails, weaken_on, weaken_fails_on}
+use Rattle.js_grammar.proofs.Calculus.{Heads, on_itself, here_at, ◌▹◌, ◌▹✗◌, left, right, then_by, makes_by, inside_full, by_plain, by_rule, fails_node, fails_alt, fails_never, part_fails, weaken, weaken_fails, weaken_on, weaken_fails_on}
 use Rattle.js_grammar.proofs.FirstClaims.{firsts}
 use Rattle.js_grammar.proofs.FirstRules.{by_first, fails_here}
 use Rattle.js_grammar.proofs.FollowLaws.{admits, fails_by, same_read}
-use Rattle.js_grammar.proofs.Loops.{Around, chain_start, chain_start_fails, chain_step_by, chain_step_fails_by, chain_end, linked_starts, beginning, unfollowed}
+use Rattle.js_grammar.proofs.Loops.{chain_start, chain_start_fails, chain_step_by, chain_step_fails_by, chain_end, linked_starts, beginning, unfollowed}
 use Rattle.js_grammar.proofs.Towers.{Link, link, linked_label, make_of, this, of_left, of_right, OneOf, head, later}
-use Rattle.js_grammar.proofs.Split.{other_heads}
 use Rattle.js_grammar.proofs.Chains.{is_member, is_call, is_links, base_of, climbs, member_links, call_links, chain_links, members, calls, chains}
-use Rattle.js_grammar.proofs.LinkLoops.{OfMember, private, member_name, member_index}
+use Rattle.js_grammar.proofs.LinkLoops.{private, member_name, member_index}
 use Rattle.js_parsing.specs.Lexemes.{Lex}
 use Rattle.js_parsing.specs.Answers.{Stretch, Underived}
 use Rattle.js_operands.specs.Members.{Looped, NoBareNew, NoMember, without_arguments, link_kinds, LinkForm, by_name, by_call, by_index, chained, admits as admits_link, OnlyLink, sign_of, node_of, link_label}

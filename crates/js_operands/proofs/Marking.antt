@@ -1,16 +1,14 @@
 -- Functions directly in parentheses are marked.
-use Rattle.std.proofs.Common.{ℕ, ◌≡◌, ◌+◌, ◌*◌, ◌<◌, ◌≤◌, Bool, true, false, not, List, length, refl, sym, ap, subst, arith, ◌∙◌, nat_lt}
+use Rattle.std.proofs.Common.{ℕ, ◌≡◌, ◌+◌, ◌*◌, ◌<◌, ◌≤◌, Bool, true, false, List, length, refl, sym, ap, subst, arith, ◌∙◌, nat_lt}
 use Rattle.std.proofs.lemmas.Bool.{false≢true, ltb-true, ltb-false}
-use Rattle.js_grammar.specs.Trees.{NodeKind, Label, Slots, function_expression, arrow_function_expression}
+use Rattle.js_grammar.specs.Trees.{NodeKind, Label, function_expression, arrow_function_expression}
 use Rattle.js_grammar.specs.Productions.{pife_flag, with_pife}
 use Rattle.js_tree.specs.declared.id.NodeId.{NodeId}
 use Rattle.js_tree.specs.declared.flags.NodeFlags.{NodeFlags}
 use Rattle.js_tree.specs.Labels.{kind_of, number_of, with_bit}
 use Rattle.js_tree.specs.Nodes.{Node, flags_set, label, node_at, with_flags, empty_program}
-use Rattle.js_tree.specs.Holding.{Holds, Keeps}
 use Rattle.js_tree.proofs.HoldingLemmas.{Holds-flagged, Keeps-flags}
 use Rattle.std.proofs.lemmas.List.{length-set, set_past}
-use Rattle.js_cursor.specs.Parsers.{Parser}
 use Rattle.js_operands.specs.Marked.{is_function, MarksNode}
 use Rattle.js_parsing.proofs.MadeNodes.{held_label}
 use Rattle.std.proofs.lemmas.List.Elements.{All-set, All-get_or, All-same}

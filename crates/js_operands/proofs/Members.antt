@@ -1,11 +1,11 @@
 -- Members, `new` and optional chains, from what the calls that read them answer.
 use Rattle.js_parsing.proofs.Signs.{stands_there, stands_not}
-use Rattle.std.proofs.Common.{ℕ, ◌≡◌, ◌≤◌, ◌<◌, ◌+◌, ◌⊎◌, inl, inr, max, List, [], ◌∷◌, length, Option, Some, None, Bool, true, false, not, ◌&&◌, ◌||◌, IsTrue, refl, sym, ap, subst, arith, ◌∙◌, nat_lt, ◌++◌, cond}
+use Rattle.std.proofs.Common.{ℕ, ◌≡◌, ◌≤◌, ◌<◌, ◌+◌, ◌⊎◌, inl, inr, max, List, [], ◌∷◌, length, Option, Some, None, Bool, true, false, not, ◌&&◌, ◌||◌, IsTrue, refl, sym, ap, subst, arith, ◌∙◌, nat_lt, ◌++◌}
 use Rattle.std.specs.Prelude.{Result, Ok, Err, MatchResult}
 use Rattle.std.proofs.lemmas.Bool.{false≢true, and_parts, and_from}
 use Rattle.js_base.specs.declared.diagnostic.Diagnostic.{Diagnostic}
 use Rattle.js_base.specs.declared.kind.Kind.{Kind}
-use Rattle.js_base.specs.declared.kind.Kind.TheVariants.{RAngle, New, Dot, QuestionDot, LParen, LBrack, RBrack, PrivateIdentifier, Ident, This, Null, True, False, Decimal, Str}
+use Rattle.js_base.specs.declared.kind.Kind.TheVariants.{RAngle, New, Dot, QuestionDot, LParen, LBrack, RBrack, PrivateIdentifier}
 use Rattle.js_base.specs.declared.span.Span.{Span}
 use Rattle.js_base.specs.Kinds.{same_kind, one_of_kinds}
 use Rattle.js_base.specs.KindSets.{identifier_name_kinds}
@@ -13,8 +13,8 @@ use Rattle.js_base.proofs.KindLemmas.{kind_of_same}
 use Rattle.js_grammar.specs.Trees.{Slots, end, tree, Label, no_op, identifier_name, new_expression, chain_expression}
 use Rattle.js_grammar.specs.Grammar.{Lexeme, Lexemes, Look, next, seen, exact, seq, such, nothing, ◌▸◌}
 use Rattle.js_grammar.specs.Insertion.{after_expression, is_word}
-use Rattle.js_grammar.specs.Parsing.{Test, plain, full, always, behind, Fails, Way, still, passing}
-use Rattle.js_grammar.specs.Productions.{G, Flags, Symbol, at, tok, mk, plus_in, IdentifierName, Expression, Primary, Member, Call, Chain, Links, LeftHandSide}
+use Rattle.js_grammar.specs.Parsing.{plain, full, always, Fails}
+use Rattle.js_grammar.specs.Productions.{G, Flags, Symbol, at, tok, plus_in, IdentifierName, Expression, Primary, Member, LeftHandSide}
 use Rattle.js_grammar.specs.Productions.{New as new_symbol, sym as symbol}
 use Rattle.js_grammar.specs.Table.{rule, rule_of, args}
 use Rattle.js_grammar.specs.Follow.{Edge, row_of, edge_of, follow, follow_of, after, tight}
@@ -40,7 +40,6 @@ use Rattle.js_tree.specs.declared.kind.NodeKind.{NodeKind as NodeKindMade}
 use Rattle.js_tree.specs.Nodes.{Node}
 use Rattle.js_tree.specs.Holding.{Holds, HoldsAll, Keeps}
 use Rattle.js_tree.proofs.HoldingLemmas.{HoldsAll-one, HoldsAll-next, Keeps-refl, Keeps-trans, Keeps-made}
-use Rattle.js_cursor.specs.Checkpoints.{Follows}
 use Rattle.js_cursor.specs.Parsers.{Parser}
 use Rattle.js_cursor.specs.Places.{IsAt, goal}
 use Rattle.js_cursor.specs.Moves.{Enters, GivesUp, Leaves, MovesOn, OnlyMemory, is_last, IsHere}
@@ -55,15 +54,17 @@ use Rattle.js_parsing.specs.Moves.{Moved, MadeHere, TakesLeaf, IsWholeHere, plai
 use Rattle.js_parsing.specs.Answers.{Grown, Verdict, clean, Stretch, Underived, Numbered, Outcome, Stops, beside}
 use Rattle.js_parsing.specs.Stands.{StandsHere}
 use Rattle.js_operands.specs.Members.{no_link_behind, Taken, NoBareNew, NoMember, Headed, a_member, a_new, MemberSoFar, NoAccess, NoParen, NoLhs, HeadOutcome, link_kinds, LinkForm, by_name, by_call, by_index, indexed, admits, chained, sign_of, link_label, NoLink, OnlyLink, Linked, LinkHere, a_link, no_link, ReadsLink, WithArguments, MakesWithArguments, WithIndex, MakesWithIndex, LinkOutcome, Beyond, CallSoFar, ChainSoFar, Callee, a_head, a_call, CalleeOutcome, TellsChain}
+use Rattle.js_operands.specs.Templates.{ChainGoesOn, ChainLinkOutcome, ReadsChainLink, Tagged, TagOutcome, heads}
+use Rattle.js_operands.proofs.Templates.{none_read, tag_taken}
 use Rattle.js_parsing.specs.Arguments.{Partway}
 use Rattle.js_parsing.proofs.Here.{told, angled, begins_here, uncut, found}
 use Rattle.js_parsing.proofs.Verdicts.{verdict_of, either_way, and_then, behind_none, grown_then}
 use Rattle.js_parsing.proofs.Verdicts.{after as grown_behind}
 use Rattle.js_parsing.proofs.Moving.{moves, same_both, beside_nodes, elsewhere, at_depth, stops_behind, stops_in, stops_so, standing, same_with}
 use Rattle.js_parsing.proofs.MadeNodes.{leaf_held, node_held, one_lies, made_lies}
-use Rattle.js_parsing.proofs.Paths.{reads, Path, ◌⟶◌, ◌⟶✗◌, skips, token, passes_test, read_of, walked_both, walked_one, noded, noding, label_here, fails_at}
+use Rattle.js_parsing.proofs.Paths.{reads, Path, ◌⟶✗◌, skips, token, passes_test, read_of, walked_both, walked_one, noded, noding, label_here, fails_at}
 use Rattle.js_operands.proofs.Operands.{by_path, primary_fails, primary_kinds}
-use Rattle.js_parsing.proofs.Giving.{gives_up}
+use Rattle.js_parsing.proofs.Giving.{fails_none, gives_up}
 use Rattle.js_parsing.proofs.Signs.{AllAre, NoneIs}
 use Rattle.js_operands.proofs.Links.{NotCall, bases, before_chain, with_arguments, member_start, no_member, member_new, no_member_new, member_step, member_step_fails, member_end, no_new_before, new_unfollowed, no_new, new_member, new_bare, member_before_chain, no_call_at_all, no_call_behind, call_begin, call_step, call_step_fails, call_ends, base_member, base_call, base_none, chain_begin, no_first, chain_step, chain_step_fails, chain_ends, no_lhs, lhs_new, lhs_call, lhs_chain, call_unfollowed, member_before, member_alone, call_alone, no_lhs_here, call_heads, chain_heads}
 use Rattle.js_operands.proofs.Links.{no_link as no_chain_link}
@@ -630,24 +631,37 @@ module _ {text : List ℕ} {f : Flags} {o p : Parser} {left : NodeId} (a : At te
   chain_bad : {l : Label} {cs : Slots} {pass : Lexemes → Lexemes} → Callee text f o.prev_token_end l cs pass p.prev_token_end → ((c : LinkForm) (d : Bool) → NoLink text f p.prev_token_end c d) → NoLhs text f o.prev_token_end
   chain_bad k n = let b = based k in no_lhs f b.no_bare b.no_call (no_chain_link f b.base (λ c. n c true))
 
-  pub chain_first : {w : Parser} {id : NodeId} {start : ℕ} → start ≡ o.token.span.start → Linked text f start left p w id → Chained text f o w id
+  chain_first : {w : Parser} {id : NodeId} {start : ℕ} → start ≡ o.token.span.start → Linked text f start left p w id → Chained text f o w id
   chain_first e y = link_taken x e y (λ pass c i z. chain_good y.form y.optional (optional_here p y.form y.optional s y.sign) y.only c i z) (λ c n. chain_bad c (none_of_links y.form y.optional y.only n))
+
+  pub chain_begun : {w : Parser} {id : NodeId} {start : ℕ} → start ≡ o.token.span.start → Linked text f start left p w id ⊎ Tagged text f start left p w id → Chained text f o w id
+  chain_begun e (inl y) = chain_first e y
+  chain_begun e (inr y) = tag_taken x e y (λ c. chain_bad c y.none)
 
   pub chain_first_stops : (w : Parser) (e : Stop) → Stops p w e ((c : LinkForm) (d : Bool) → NoLink text f p.prev_token_end c d) → Stops o w e (NoLhs text f o.prev_token_end)
   chain_first_stops w e z = stops_behind w e x.same (λ g. grown_behind x.verdict g) (λ n. either_way x.verdict (λ c. chain_bad c n) (λ n. n)) z
 
-module _ {text : List ℕ} {f : Flags} {o p : Parser} {left : NodeId} (x : Chained text f o p left) (k : LinkHere p base.Chain true) where
-  chain_none : {l : Label} {cs : Slots} {pass : Lexemes → Lexemes} → ChainSoFar text f o.prev_token_end o.token.span.start l cs pass p.prev_token_end → ((c : LinkForm) (d : Bool) → NoLink text f p.prev_token_end c d) → NoLhs text f o.prev_token_end
-  chain_none u n = go k
+module _ {text : List ℕ} {f : Flags} {o p : Parser} {left : NodeId} (x : Chained text f o p left) where
+  -- by what stands here
+  abbrev Sign : Type 0
+  Sign = (c : LinkForm) × (d : Bool) × AllAre text p.prev_token_end (sign_of c d)
+
+  chain_none : Sign → {l : Label} {cs : Slots} {pass : Lexemes → Lexemes} → ChainSoFar text f o.prev_token_end o.token.span.start l cs pass p.prev_token_end → ((c : LinkForm) (d : Bool) → NoLink text f p.prev_token_end c d) → NoLhs text f o.prev_token_end
+  chain_none z u n = no_lhs f u.1 u.2 (chain_step_fails f u.0 z.0 z.1 z.2 n)
+
+  chain_linked : {w : Parser} {id : NodeId} {start : ℕ} → start ≡ o.token.span.start → Linked text f start left p w id → Chained text f o w id
+  chain_linked e y = link_taken x e y (λ pass c i z. (chain_step f c.0 y.form y.optional (all_signs x.at y.form y.optional y.sign) y.only i z, c.1, c.2)) (λ c n. chain_none (y.form, y.optional, all_signs x.at y.form y.optional y.sign) c (none_of_links y.form y.optional y.only n))
+
+  pub chain_on : {w : Parser} {id : NodeId} {start : ℕ} → start ≡ o.token.span.start → Linked text f start left p w id ⊎ Tagged text f start left p w id → Chained text f o w id
+  chain_on e (inl y) = chain_linked e y
+  chain_on e (inr y) = tag_taken x e y (λ c. chain_none (by_name, true, y.signs) c y.none)
+
+  pub chain_stops : (w : Parser) (e : Stop) → ChainGoesOn p true → Stops p w e ((c : LinkForm) (d : Bool) → NoLink text f p.prev_token_end c d) → Stops o w e (NoLhs text f o.prev_token_end)
+  chain_stops w e k z = stops_behind w e x.same (λ g. grown_behind x.verdict g) (λ n. either_way x.verdict (λ c. chain_none (sign_here k) c n) (λ n. n)) z
     where
-      go : LinkHere p base.Chain true → NoLhs text f o.prev_token_end
-      go (a_link c d s e) = no_lhs f u.1 u.2 (chain_step_fails f u.0 c d (all_signs x.at c d s) n)
-
-  pub chain_linked : {w : Parser} {id : NodeId} {start : ℕ} → start ≡ o.token.span.start → Linked text f start left p w id → Chained text f o w id
-  chain_linked e y = link_taken x e y (λ pass c i z. (chain_step f c.0 y.form y.optional (all_signs x.at y.form y.optional y.sign) y.only i z, c.1, c.2)) (λ c n. chain_none c (none_of_links y.form y.optional y.only n))
-
-  pub chain_stops : (w : Parser) (e : Stop) → Stops p w e ((c : LinkForm) (d : Bool) → NoLink text f p.prev_token_end c d) → Stops o w e (NoLhs text f o.prev_token_end)
-  chain_stops w e z = stops_behind w e x.same (λ g. grown_behind x.verdict g) (λ n. either_way x.verdict (λ c. chain_none c n) (λ n. n)) z
+      sign_here : LinkHere p base.Chain true ⊎ (one_of_kinds heads p.token.kind ≡ true) → Sign
+      sign_here (inl (a_link c d s h)) = (c, d, all_signs x.at c d s)
+      sign_here (inr h) = (by_name, true, λ y l. absurd (none_read x.at h y l))
 
 pub chain_done : {text : List ℕ} {f : Flags} {o p w : Parser} {left id : NodeId} {s : Span} → At text f o → (x : Chained text f o p left) → LinkHere p base.Chain false → s.start ≡ o.token.span.start → s.end ≡ p.prev_token_end → MadeHere (plain_label node.ChainExpression op.None s) (Some left ∷ []) p w id → Numbered text f (at LeftHandSide f) o w id
 unfolding rule rule_of
@@ -799,6 +813,36 @@ module _ {text : List ℕ} {f : Flags} {p : Parser} (a : At text f p) where
     no_links : (q : Parser) (e : Stop) (c : LinkForm) → ((d : LinkForm) → (d ≡ c → ⊥) → NotBehind d) → Stops mid q e (NotBehind c) → Stops p q e ((c : LinkForm) (o : Bool) → NoLink text f p.prev_token_end c o)
     no_links q e c n z = stops_behind q e m.same (λ g. grown_then m.kept g) (λ i. none_of_links c true (one_link c n) (lacks c i)) z
 
+    -- a template stands there: no link does
+    module _ (h : one_of_kinds heads mid.token.kind ≡ true) where
+      none_behind : (d : LinkForm) → NotBehind d
+      none_behind by_call = fails_none (none_read m.at h)
+      none_behind by_name = fails_none (none_read m.at h)
+      none_behind by_index = fails_none (none_read m.at h)
+
+      no_link_at_all : (c : LinkForm) (o : Bool) → NoLink text f p.prev_token_end c o
+      no_link_at_all = none_of_links by_call true (one_link by_call (λ d n. none_behind d)) (lacks by_call (none_behind by_call))
+
+      pub optional_tagged : (start : ℕ) (left : NodeId) (q : Parser) (r : Result NodeId Stop) → TagOutcome text f start left mid q r → ChainLinkOutcome text f start left p q r
+      optional_tagged start left q (Ok id) y = inr (record {
+        signs = stands_there a s.0 refl;
+        none = no_link_at_all;
+        behind = y.behind;
+        template = y.template;
+        at = y.at;
+        same = same_both m.same y.same;
+        further = let b = m.further in let c = m.at.behind in let d = y.further in omega arith;
+        grown = grown_then m.kept y.grown;
+        pass = λ ls. next m.lexeme (y.pass ls);
+        walked = walked_both (walked_one m) y.walked;
+        label = y.label;
+        slots = y.slots;
+        holds = subst (λ (ns : List Node). Holds y.behind.nodes (length ns) (length y.behind.nodes) y.template.0 y.label y.slots) m.nodes y.holds;
+        keeps = subst (λ (ns : List Node). Keeps ns y.behind.nodes) m.nodes y.keeps;
+        made = y.made;
+      })
+      optional_tagged start left q (Err e) z = stops_behind q e m.same (λ g. grown_then m.kept g) (λ n. no_link_at_all) z
+
     module _ (t : StandsHere mid LParen true) where
       parens_alone : (d : LinkForm) → (d ≡ by_call → ⊥) → NotBehind d
       parens_alone by_call n = absurd (n refl)
@@ -878,17 +922,62 @@ next_loop l y h =
     let x = y _ _ l.at in
     record { at = standing (link_at l.at x); before = let a = l.before in let b = link_behind l.at x in omega arith; later = let a = l.later in let b = link_less l.at x in omega arith; goes = h }
 
+-- the same of a link of a chain
+module _ {text : List ℕ} {f : Flags} {start : ℕ} {left id : NodeId} {p w : Parser} (a : At text f p) where
+  chain_at : Linked text f start left p w id ⊎ Tagged text f start left p w id → At text f w
+  chain_at (inl y) = link_at a y
+  chain_at (inr y) = subst (λ (z : Parser). At text f z) (sym y.made.stays) (beside_nodes w.nodes y.at)
+
+  chain_behind : Linked text f start left p w id ⊎ Tagged text f start left p w id → p.prev_token_end < w.prev_token_end
+  chain_behind (inl y) = link_behind a y
+  chain_behind (inr y) = let b = a.behind in let c = y.further in let d = ap (λ (z : Parser). z.prev_token_end) y.made.stays in omega arith
+
+  pub chain_less : Linked text f start left p w id ⊎ Tagged text f start left p w id → room w < room p
+  chain_less y = let b = chain_behind y in let c = (chain_at y).at.between.0 in let d = (chain_at y).text_is in let e = a.text_is in omega (arith, ap length d, ap length e)
+
+pub next_chain : {start : ℕ} {p q w : Parser} {left id : NodeId} {G H : Type 0} → LinkLoop start p q G → ReadsChainLink start left q w (Ok id) → H → LinkLoop start p w H
+next_chain l y h =
+    let x = y _ _ l.at in
+    record { at = standing (chain_at l.at x); before = let a = l.before in let b = chain_behind l.at x in omega arith; later = let a = l.later in let b = chain_less l.at x in omega arith; goes = h }
+
 pub first_loop : {start : ℕ} {p : Parser} {G : Type 0} → Standing p → start ≤ p.prev_token_end → G → LinkLoop start p p G
 first_loop a b g = record { at = a; before = b; later = omega arith; goes = g }
 
 pub paren_here : {p : Parser} → StandsHere p LParen true → LinkHere p base.Chain true
 paren_here s = a_link by_call false s refl
 
-pub chain_here : {p : Parser} → StandsHere p QuestionDot true → LinkHere p base.Chain true
-chain_here s = a_link by_name true s refl
+-- a link that stands here goes on with a call
+pub call_sign : {p : Parser} → StandsHere p LParen true → LinkHere p base.Call true
+call_sign s = a_link by_call false s refl
 
-pub any_here : {p : Parser} {b : LinkBase} → LinkHere p b true → LinkHere p base.Chain true
-any_here (a_link c o s e) = a_link c o s refl
+pub member_too : {p : Parser} → LinkHere p base.Member true → LinkHere p base.Call true
+member_too (a_link by_name false s e) = a_link by_name false s refl
+member_too (a_link by_index false s e) = a_link by_index false s refl
+member_too (a_link by_call o s e) = absurd (false≢true e)
+member_too (a_link by_name true s e) = absurd (false≢true e)
+member_too (a_link by_index true s e) = absurd (false≢true e)
+
+-- neither a template nor `?.`
+pub call_left : {p : Parser} → ChainGoesOn p true → one_of_kinds heads p.token.kind ≡ false → StandsHere p QuestionDot false → LinkHere p base.Call true
+call_left (inr h) n m = absurd (false≢true (sym n ∙ h))
+call_left (inl (a_link c true s e)) n m = absurd (m s.0 s.1)
+call_left (inl (a_link c false s e)) n m = a_link c false s refl
+
+pub goes_on_so : (p : Parser) {b r : Bool} → r ≡ b → ChainGoesOn p r → ChainGoesOn p b
+goes_on_so p e s = subst (λ (c : Bool). ChainGoesOn p c) e s
+
+pub goes_on : (p : Parser) (b : Bool) → one_of_kinds heads p.token.kind ≡ false → LinkHere p base.Chain b → ChainGoesOn p b
+goes_on p true n s = inl s
+goes_on p false n s = (s, n)
+
+-- a link of a chain is one, or a template
+pub link_is : (text : List ℕ) (f : Flags) (start : ℕ) (left : NodeId) (p q : Parser) (r : Result NodeId Stop) → LinkOutcome text f start left p q r → ChainLinkOutcome text f start left p q r
+link_is text f start left p q (Ok id) y = inl y
+link_is text f start left p q (Err e) y = y
+
+pub tag_is : (text : List ℕ) (f : Flags) (start : ℕ) (left : NodeId) (p q : Parser) (r : Result NodeId Stop) → TagOutcome text f start left p q r → ChainLinkOutcome text f start left p q r
+tag_is text f start left p q (Ok id) y = inr y
+tag_is text f start left p q (Err e) y = y
 
 pub stands_so : (p : Parser) (k : Kind) {b r : Bool} → r ≡ b → StandsHere p k r → StandsHere p k b
 stands_so p k e s = subst (λ (c : Bool). StandsHere p k c) e s
@@ -896,14 +985,12 @@ stands_so p k e s = subst (λ (c : Bool). StandsHere p k c) e s
 pub here_so : (p : Parser) (h : LinkBase) {b r : Bool} → r ≡ b → LinkHere p h r → LinkHere p h b
 here_so p h e s = subst (λ (c : Bool). LinkHere p h c) e s
 
--- neither a parenthesis nor a bracket nor `?.`: a dot
-pub dot_left : {p : Parser} → LinkHere p base.Chain true → StandsHere p LParen false → StandsHere p LBrack false → StandsHere p QuestionDot false → StandsHere p Dot true
-dot_left (a_link by_call true s e) n i m = absurd (m s.0 s.1)
-dot_left (a_link by_name true s e) n i m = absurd (m s.0 s.1)
-dot_left (a_link by_index true s e) n i m = absurd (m s.0 s.1)
-dot_left (a_link by_call false s e) n i m = absurd (n s.0 s.1)
-dot_left (a_link by_index false s e) n i m = absurd (i s.0 s.1)
-dot_left (a_link by_name false s e) n i m = s
+-- neither a parenthesis nor a bracket: a dot
+pub dot_left : {p : Parser} → LinkHere p base.Call true → StandsHere p LParen false → StandsHere p LBrack false → StandsHere p Dot true
+dot_left (a_link c true s e) n i = absurd (false≢true e)
+dot_left (a_link by_call false s e) n i = absurd (n s.0 s.1)
+dot_left (a_link by_index false s e) n i = absurd (i s.0 s.1)
+dot_left (a_link by_name false s e) n i = s
 
 pub start_loop : {start : ℕ} {p : Parser} → Standing p → start ≤ p.prev_token_end → LinkLoop start p p (Unit {0})
 start_loop a b = record { at = a; before = b; later = omega arith; goes = tt }

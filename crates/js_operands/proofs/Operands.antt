@@ -9,7 +9,7 @@ use Rattle.js_base.specs.Kinds.{same_kind, one_of_kinds}
 use Rattle.js_base.specs.KindSets.{number_kinds}
 use Rattle.js_base.proofs.KindLemmas.{kind_of_same}
 use Rattle.js_base.specs.Operators.{row_of as row_in, unary_operators}
-use Rattle.js_grammar.specs.Trees.{Slots, end, tree, Label, Op, NodeKind, no_op, of, identifier_reference, this_expression, null_literal, boolean_literal, numeric_literal, big_int_literal, string_literal, exponential, unary_expression}
+use Rattle.js_grammar.specs.Trees.{Slots, end, tree, Label, Op, NodeKind, no_op, of, identifier_reference, this_expression, null_literal, boolean_literal, string_literal, unary_expression}
 use Rattle.js_grammar.specs.Grammar.{Lexeme, Lexemes, Look, here, seen, lexeme, such, nothing, exact, is_seq, is_lexeme, is_such, Takes, ◌▸◌}
 use Rattle.js_grammar.specs.Parsing.{Test, plain, always, full, Admits}
 use Rattle.js_grammar.specs.Productions.{Flags, Symbol, at, tok, Unary, Primary}

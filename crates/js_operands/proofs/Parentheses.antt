@@ -1,19 +1,18 @@
 -- An Expression in parentheses (ECMA-262, 13.2.9).
-use Rattle.std.proofs.Common.{ℕ, ◌≡◌, ◌<◌, ◌≤◌, inl, Bool, true, false, not, ◌&&◌, IsTrue, List, [], ◌∷◌, length, Some, refl, sym, ap, subst, arith, ◌∙◌}
+use Rattle.std.proofs.Common.{ℕ, ◌≡◌, ◌<◌, inl, true, false, List, [], ◌∷◌, length, Some, refl, sym, ap, subst, ◌∙◌}
 use Rattle.std.specs.Prelude.{Result, Ok, Err}
-use Rattle.std.proofs.lemmas.Bool.{false≢true}
 use Rattle.js_base.specs.declared.kind.Kind.TheVariants.{RAngle, LParen, RParen}
 use Rattle.js_base.specs.declared.diagnostic.DiagnosticKind.TheVariants.{ExpectClosing}
 use Rattle.js_base.specs.declared.span.Span.{Span}
 use Rattle.js_base.specs.Kinds.{same_kind, one_of_kinds}
 use Rattle.js_base.specs.Texts.{words}
 use Rattle.js_grammar.specs.Trees.{Label, Slots, end, tree, parenthesized_expression, no_op}
-use Rattle.js_grammar.specs.Grammar.{Lexeme, Lexemes, last, here, is, seen, such, marked, nothing, Takes, is_such, is_marked, is_nothing, ◌▸◌}
+use Rattle.js_grammar.specs.Grammar.{Lexeme, Lexemes, last, here, is, such, marked, nothing, Takes, is_such, is_marked, is_nothing, ◌▸◌}
 use Rattle.js_grammar.specs.Lexed.{Lexes}
-use Rattle.js_grammar.specs.Parsing.{Test, plain, full, behind, always, Admits, Goes, Reads, Fails, Way, still}
+use Rattle.js_grammar.specs.Parsing.{Test, plain, full, always, Admits, Goes, Reads, Fails, Way, still}
 use Rattle.js_grammar.specs.Productions.{G, Flags, Symbol, at, tok, mk, pife_flag, plus_in, with_pife, Expression, Primary}
 use Rattle.js_grammar.specs.Table.{rule, rule_of}
-use Rattle.js_grammar.specs.Follow.{after, surest, edge_of, follow_of}
+use Rattle.js_grammar.specs.Follow.{after, surest}
 use Rattle.js_grammar.proofs.Looks.{covers, covered, apart}
 use Rattle.js_grammar.proofs.Calculus.{label_is, slots_are, ends, then_by, part_fails, by_plain, fails_node, inside_full, ◌▹✗◌}
 use Rattle.js_grammar.proofs.FirstClaims.{firsts}
@@ -26,7 +25,7 @@ use Rattle.js_tree.specs.Nodes.{Node}
 use Rattle.js_tree.specs.Holding.{Holds, Keeps}
 use Rattle.js_tree.proofs.HoldingLemmas.{Holds-range, Keeps-trans, Keeps-made}
 use Rattle.js_cursor.specs.Parsers.{Parser}
-use Rattle.js_cursor.specs.Moves.{MovesOn, Expects, GivesUp, IsKind, is_last}
+use Rattle.js_cursor.specs.Moves.{Expects, GivesUp, is_last}
 use Rattle.js_cursor.specs.declared.stop.Stop.{Stop}
 use Rattle.js_cursor.specs.declared.stop.Stop.TheVariants.{Fatal, NoMemory}
 use Rattle.js_parsing.specs.Lexemes.{Lex}

@@ -1,28 +1,25 @@
 -- Items of arguments and array literals: an AssignmentExpression, spread or not (ECMA-262, 13.2.4, 13.3.8).
-use Rattle.std.proofs.Common.{ℕ, ◌≡◌, ◌≤◌, ◌<◌, max, List, [], ◌∷◌, ◌++◌, length, Option, Some, None, Bool, true, false, not, ◌&&◌, ◌||◌, IsTrue, refl, sym, ap, subst, arith, ◌∙◌}
+use Rattle.std.proofs.Common.{ℕ, ◌≡◌, max, List, [], ◌∷◌, length, Some, Bool, true, false, ◌||◌, refl, sym, ap, subst, arith}
 use Rattle.std.specs.Prelude.{Result, Ok, Err}
-use Rattle.std.proofs.lemmas.Bool.{false≢true, and_from, and_parts}
+use Rattle.std.proofs.lemmas.Bool.{and_parts}
 use Rattle.js_base.proofs.KindLemmas.{kind_of_same}
 use Rattle.js_base.specs.declared.diagnostic.Diagnostic.{Diagnostic}
-use Rattle.js_base.specs.declared.kind.Kind.{Kind}
-use Rattle.js_base.specs.declared.kind.Kind.TheVariants.{RAngle, Dot3, Comma, RParen, RBrack, PrivateIdentifier}
+use Rattle.js_base.specs.declared.kind.Kind.TheVariants.{Dot3, Comma, RParen, RBrack, PrivateIdentifier}
 use Rattle.js_base.specs.declared.span.Span.{Span}
 use Rattle.js_base.specs.Kinds.{same_kind, one_of_kinds}
 use Rattle.js_base.specs.Texts.{words}
 use Rattle.js_grammar.specs.Lexemes.{is_word}
-use Rattle.js_grammar.specs.Lexed.{Lex as StandsBehind, all_faults}
-use Rattle.js_grammar.specs.LexicalFaults.{Reached}
-use Rattle.js_grammar.specs.Marks.{Mark, LexemeAt, a_lexeme, of_kinds}
+use Rattle.js_grammar.specs.Marks.{Mark}
 use Rattle.js_grammar.specs.Trees.{Label, Slots, end, tree, no_op, spread_element}
-use Rattle.js_grammar.specs.Grammar.{Lexeme, Lexemes, Look, here, next, seen, is, alt, such, nothing, ◌▸◌}
-use Rattle.js_grammar.specs.Parsing.{Test, plain, always, still, joined, Admits, Goes, Fails}
+use Rattle.js_grammar.specs.Grammar.{Lexeme, Lexemes, Look, here, is, alt, such, nothing, ◌▸◌}
+use Rattle.js_grammar.specs.Parsing.{Test, always, still, joined, Admits, Goes, Fails}
 use Rattle.js_grammar.specs.Productions.{G, Flags, Symbol, at, tok, mk, plus_in, Argument, Assignment}
 use Rattle.js_grammar.specs.Productions.{sym as symbol}
 use Rattle.js_grammar.specs.Table.{rule, rule_of}
 use Rattle.js_grammar.specs.FirstSets.{first as first_of}
 use Rattle.js_grammar.specs.Follow.{after, surest}
 use Rattle.js_grammar.proofs.Looks.{covers, covered, apart, not_both}
-use Rattle.js_grammar.proofs.Calculus.{Inside, On, ◌▹◌, ◌▹✗◌, stay, left, right, fails_alt, weaken, weaken_fails, by_rule, fails_rule, fails_node, inside_plain}
+use Rattle.js_grammar.proofs.Calculus.{◌▹◌, ◌▹✗◌, stay, left, right, fails_alt, weaken, weaken_fails, by_rule, fails_rule, fails_node, inside_plain}
 use Rattle.js_grammar.proofs.FirstClaims.{firsts}
 use Rattle.js_grammar.proofs.FirstRules.{fails_here}
 use Rattle.js_grammar.proofs.FollowLaws.{surely}
@@ -32,9 +29,9 @@ use Rattle.js_tree.specs.declared.op.Op.TheVariants as op
 use Rattle.js_tree.specs.Nodes.{Node}
 use Rattle.js_tree.specs.Holding.{Holds, Keeps}
 use Rattle.js_tree.proofs.HoldingLemmas.{Keeps-trans, Keeps-made}
-use Rattle.js_cursor.specs.Moves.{Keeps as KeepsOne, is_last}
+use Rattle.js_cursor.specs.Moves.{Keeps as KeepsOne}
 use Rattle.js_cursor.specs.Parsers.{Parser}
-use Rattle.js_cursor.specs.Places.{IsAt, goal}
+use Rattle.js_cursor.specs.Places.{goal}
 use Rattle.js_cursor.specs.declared.stop.Stop.{Stop}
 use Rattle.js_parsing.specs.Lexemes.{Lex, Walked, spot}
 use Rattle.js_parsing.specs.States.{At}

@@ -1,5 +1,5 @@
 -- Where an expression is a function, its tree has no mark of parentheses around it.
-use Rattle.std.proofs.Common.{ℕ, ◌≡◌, ◌<◌, nat_lt, Bool, true, false, not, ◌&&◌, ◌||◌, refl, sym, ap, ◌∙◌}
+use Rattle.std.proofs.Common.{ℕ, ◌≡◌, ◌<◌, nat_lt, Bool, true, false, not, ◌&&◌, ◌||◌, refl}
 use Rattle.std.proofs.lemmas.Bool.{false≢true, and_parts, ltb-true}
 use Rattle.js_grammar.specs.Trees.{NodeKind, Label, Slots, tree}
 use Rattle.js_grammar.specs.Grammar.{Lexemes, never, such, alt, when, node, Takes, is_left, is_right, is_when, is_node, is_such}

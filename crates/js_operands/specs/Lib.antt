@@ -2,3 +2,4 @@ pub mod Arrays
 pub mod Marked
 pub mod Members
 pub mod Numbers
+pub mod Templates

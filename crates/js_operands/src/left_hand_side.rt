@@ -10,6 +10,7 @@ ghost use Rattle.js_grammar.specs.Marks.{Mark};
 ghost use Rattle.js_cursor.specs.Places.{goal};
 ghost use Rattle.js_parsing.specs.Lexemes.{read_word};
 ghost use Rattle.js_operands.specs.Members.{CallsMember, ChainsCallee, GoesOnMember, Heads, LinkHere, MakesWithArguments, MakesWithIndex, ReadsLink, TellsChain, flagged_label, no_link_behind};
+ghost use Rattle.js_operands.specs.Templates.{ChainGoesOn, ReadsChainLink};
 ghost use Rattle.js_parsing.specs.Stands.{StandsHere};
 ghost use Rattle.js_operands.specs.Members as members;
 ghost use Rattle.js_parsing.specs.Moves.{MadeHere};
@@ -19,10 +20,12 @@ ghost use Rattle.js_operands.specs.declared.left_hand_side.LinkBase.TheVariants 
 
 use crate::arguments::parse_call_arguments;
 use crate::primary::{parse_leaf, parse_primary_expression};
-use js_base::{Diagnostic, DiagnosticKind, Kind, NoMemory, Span};
+use crate::template::{begins_template, parse_chained_template};
+use js_base::{DiagnosticKind, Kind, NoMemory, Span};
 use js_cursor::{ParserImpl, Stop};
 use js_lex::ParserConfig;
 use js_parsing::context::expression_with_in;
+use js_parsing::diagnostics::diagnostic_at;
 use js_parsing::lexemes::{advance, is_read_word, stands};
 use js_parsing::nested::Nested;
 use js_parsing::nodes::make_one;
@@ -92,12 +95,8 @@ fn refuse_chain<C: ParserConfig>(p: &mut ParserImpl<'_, C>) -> Stop
     requires sign { StandsHere p.old QuestionDot true }
     ensures { GivesUp (TellsChain p.old.token.span) p.old p.new result }
 {
-    p.set_fatal_error(Diagnostic {
-        kind: DiagnosticKind::InvalidNewOptionalChain,
-        span: p.cur_token().span(),
-        first: None,
-        second: None,
-    })
+    let sign = p.cur_token().span();
+    p.set_fatal_error(diagnostic_at(DiagnosticKind::InvalidNewOptionalChain, sign))
 }
 
 /// The names and the expressions in brackets behind a member.
@@ -156,9 +155,9 @@ fn parse_optional_chain<C: ParserConfig, N: Nested<C>>(
     if !stands(p, Kind::QuestionDot) {
         return Ok(callee);
     }
-    let mut left = parse_link(p, nested, start, callee)?;
-    'links: while link_here(p, LinkBase::Chain) {
-        left = parse_link(p, nested, start, left)?;
+    let mut left = parse_optional_link(p, nested, start, callee)?;
+    'links: while chain_goes_on(p) {
+        left = parse_chain_link(p, nested, start, left)?;
     }
     let span = p.end_span(start);
     let chain = make_one(p, NodeKind::ChainExpression, Op::None, span, left)?;
@@ -187,7 +186,41 @@ fn link_here<C: ParserConfig>(p: &ParserImpl<'_, C>, base: LinkBase) -> bool
     }
 }
 
-/// The link that stands here, behind what was read.
+/// Whether an optional chain goes on here: with a link, or with a template, which may not stand there.
+fn chain_goes_on<C: ParserConfig>(p: &ParserImpl<'_, C>) -> bool
+    ensures { ChainGoesOn p.now result }
+{
+    if begins_template(p.cur_kind()) {
+        return true;
+    }
+    link_here(p, LinkBase::Chain)
+}
+
+/// The link of an optional chain that stands here, behind what was read; or a template, of which is told that it stands
+/// there (ECMA-262, section 13.3.1.1).
+#[inline(never)]
+fn parse_chain_link<C: ParserConfig, N: Nested<C>>(
+    p: &mut ParserImpl<'_, C>,
+    nested: &N,
+    start: u32,
+    left: NodeId,
+) -> Result<NodeId, Stop>
+    requires at { Standing p.old }
+    requires nests { CanNest (N.can nested.now) (room p.old) }
+    requires start { start ≤ p.old.prev_token_end }
+    requires link { ChainGoesOn p.old true }
+    ensures { ReadsChainLink start left p.old p.new result }
+{
+    if begins_template(p.cur_kind()) {
+        return parse_chained_template(p, nested, start, left);
+    }
+    if stands(p, Kind::QuestionDot) {
+        return parse_optional_link(p, nested, start, left);
+    }
+    parse_link(p, nested, start, left)
+}
+
+/// The link without `?.` that stands here, behind what was read.
 #[inline(never)]
 fn parse_link<C: ParserConfig, N: Nested<C>>(
     p: &mut ParserImpl<'_, C>,
@@ -198,7 +231,7 @@ fn parse_link<C: ParserConfig, N: Nested<C>>(
     requires at { Standing p.old }
     requires nests { CanNest (N.can nested.now) (room p.old) }
     requires start { start ≤ p.old.prev_token_end }
-    requires link { LinkHere p.old base.Chain true }
+    requires link { LinkHere p.old base.Call true }
     ensures { ReadsLink start left p.old p.new result }
 {
     if stands(p, Kind::LParen) {
@@ -207,13 +240,12 @@ fn parse_link<C: ParserConfig, N: Nested<C>>(
     if stands(p, Kind::LBrack) {
         return parse_with_index(p, nested, start, false, left);
     }
-    if stands(p, Kind::QuestionDot) {
-        return parse_optional_link(p, nested, start, left);
-    }
     parse_named_link(p, start, left)
 }
 
-/// `?.` and arguments, an expression in brackets or a name, behind what was read.
+/// `?.` and arguments, an expression in brackets or a name, behind what was read; or a template, of which is told that it
+/// stands there (ECMA-262, section 13.3.1.1).
+#[inline(never)]
 fn parse_optional_link<C: ParserConfig, N: Nested<C>>(
     p: &mut ParserImpl<'_, C>,
     nested: &N,
@@ -224,7 +256,7 @@ fn parse_optional_link<C: ParserConfig, N: Nested<C>>(
     requires nests { CanNest (N.can nested.now) (room p.old) }
     requires start { start ≤ p.old.prev_token_end }
     requires sign { StandsHere p.old QuestionDot true }
-    ensures { ReadsLink start left p.old p.new result }
+    ensures { ReadsChainLink start left p.old p.new result }
 {
     let sign = p.cur_token().span();
     advance(p)?;
@@ -233,6 +265,9 @@ fn parse_optional_link<C: ParserConfig, N: Nested<C>>(
     }
     if stands(p, Kind::LBrack) {
         return parse_with_index(p, nested, start, true, left);
+    }
+    if begins_template(p.cur_kind()) {
+        return parse_chained_template(p, nested, start, left);
     }
     if lacks_link(p.cur_kind()) {
         return Err(refuse_optional_link(p, sign));
@@ -266,12 +301,8 @@ fn refuse_optional_link<C: ParserConfig>(p: &mut ParserImpl<'_, C>, sign: Span) 
     requires mark { Mark (goal p.old) p.old.text (no_link_behind sign) }
     ensures { GivesUp (λ d. d ≡ no_link_behind sign) p.old p.new result }
 {
-    p.set_fatal_error(Diagnostic {
-        kind: DiagnosticKind::IdentifierExpectedAfterQuestionDot,
-        span: sign,
-        first: None,
-        second: None,
-    })
+    let kind = DiagnosticKind::IdentifierExpectedAfterQuestionDot;
+    p.set_fatal_error(diagnostic_at(kind, sign))
 }
 
 /// `.` and a name, behind what was read.

@@ -5,3 +5,4 @@ pub mod arguments;
 pub mod array;
 pub mod left_hand_side;
 pub mod primary;
+pub mod template;

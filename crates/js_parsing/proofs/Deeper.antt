@@ -65,6 +65,7 @@ statement_out {q = q} k j e a x = record {
   further = x.further;
   label = x.label;
   slots = x.slots;
+  closed = x.closed;
   pass = x.pass;
   walked = x.walked;
   verdict = x.verdict;

@@ -1,13 +1,13 @@
 -- What the parse functions of statements answer (ECMA-262, chapter 14).
 use Rattle.std.specs.Prelude.{ℕ, ◌≡◌, ◌<◌, ◌⊎◌, Bool, true, false, not, ◌&&◌, List, [], ◌∷◌, length, Result, Ok, Err}
 use Rattle.js_base.specs.declared.kind.Kind.{Kind}
-use Rattle.js_base.specs.declared.kind.Kind.TheVariants.{Break, Colon, Continue, Debugger, Dot, Ident, QuestionDot, Semicolon, Throw, Arrow}
+use Rattle.js_base.specs.declared.kind.Kind.TheVariants.{Break, Colon, Const, Continue, Debugger, Do, Dot, Else, Ident, If, QuestionDot, Semicolon, Throw, Var, While, With, Arrow}
 use Rattle.js_base.specs.Kinds.{same_kind, one_of_kinds}
 use Rattle.js_base.specs.declared.span.Span.{Span}
 use Rattle.js_base.specs.declared.token.Token.{Token}
 use Rattle.js_grammar.specs.Trees.{Label, Slots, end as no_slots, tree}
-use Rattle.js_grammar.specs.Grammar.{Lexemes, Look, such, nothing}
-use Rattle.js_grammar.specs.Follow.{widest, by_tree}
+use Rattle.js_grammar.specs.Grammar.{Lexeme, Lexemes, Look, such, nothing}
+use Rattle.js_grammar.specs.Follow.{edge_of, widest, by_tree}
 use Rattle.js_grammar.specs.Parsing.{Test, Fails, always}
 use Rattle.js_grammar.specs.Productions.{Flags, Symbol, at, Expression, ListItem, Sub}
 use Rattle.js_grammar.specs.Table.{rule}
@@ -26,7 +26,7 @@ link_kinds = Dot ∷ QuestionDot ∷ Arrow ∷ []
 
 -- These begin a statement, and neither an expression nor a label.
 abbrev pub statement_kinds : List Kind
-statement_kinds = Semicolon ∷ Break ∷ Continue ∷ Throw ∷ Debugger ∷ []
+statement_kinds = Semicolon ∷ If ∷ Do ∷ While ∷ With ∷ Break ∷ Continue ∷ Throw ∷ Debugger ∷ Var ∷ Const ∷ []
 
 -- nor does a colon: behind a name it makes a label
 abbrev pub no_link : Look
@@ -40,6 +40,10 @@ after_statement n = record { base = λ k w e. no_link k w e && widest n.name k w
 abbrev pub NoStatement : List ℕ → Symbol → ℕ → Type 0
 NoStatement text n s = Fails rule (Lex text) (after_statement n) no_slots (such n always) s
 
+-- behind a tree that ends in an `if` without `else` there stands no `else`: it would be that one's (14.6)
+abbrev pub Closed : List ℕ → ℕ → Label → Slots → Type 0
+Closed text s l cs = (edge_of l cs).open_if ≡ true → (y : Lexeme) → Lex text s y → same_kind Else y.kind ≡ false
+
 -- A statement was taken. Clean: whatever is derived from its beginning, and stops where it may, is this; and it is derived over any lexemes that go on at least to the current one. Unclean: nothing is derived from there. A node made in the call stands for its tree.
 pub record Statement (text : List ℕ) (f : Flags) (n : Symbol) (old new : Parser) (id : NodeId) : Type 0 where
   pub at : At text f new
@@ -47,6 +51,7 @@ pub record Statement (text : List ℕ) (f : Flags) (n : Symbol) (old new : Parse
   pub further : old.token.span.start < new.prev_token_end
   pub label : Label
   pub slots : Slots
+  pub closed : Closed text new.prev_token_end label slots
   pub pass : Lexemes → Lexemes
   pub walked : Walked text (spot old) (spot new) pass
   pub verdict : Verdict old.errors new.errors (Stretch text (after_statement n) (such n always) old.prev_token_end nothing new.prev_token_end (tree label slots) pass) (NoStatement text n old.prev_token_end)

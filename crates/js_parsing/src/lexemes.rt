@@ -88,6 +88,13 @@ pub fn is_read_word(kind: Kind) -> bool
             | Kind::Continue
             | Kind::Debugger
             | Kind::Throw
+            | Kind::If
+            | Kind::Else
+            | Kind::While
+            | Kind::Do
+            | Kind::With
+            | Kind::Var
+            | Kind::Const
     )
 }
 

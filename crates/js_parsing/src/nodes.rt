@@ -100,6 +100,22 @@ pub fn make_three<C: ParserConfig>(
     p.ast.node_of_three(kind, span, op, no_flags(), children)
 }
 
+/// A node of two children and a third one, or an empty slot.
+pub fn make_two_and_optional<C: ParserConfig>(
+    p: &mut ParserImpl<'_, C>,
+    kind: NodeKind,
+    span: Span,
+    first: NodeId,
+    second: NodeId,
+    third: Option<NodeId>,
+) -> Result<NodeId, NoMemory>
+    ensures { IfOk result (λ id. MadeHere (plain_label kind op.None span) (Some first ∷ Some second ∷ third ∷ []) p.old p.new id) }
+{
+    let children = [Some(first), Some(second), third];
+    p.ast
+        .node_of_three(kind, span, Op::None, no_flags(), children)
+}
+
 /// A node of a list of children.
 pub fn make_list<C: ParserConfig>(
     p: &mut ParserImpl<'_, C>,

@@ -2,7 +2,6 @@
 use Rattle.std.proofs.Common.{ℕ, ◌≡◌, max, List, [], ◌∷◌, length, Option, Some, Bool, true, false, ◌||◌, refl, sym, ap, subst, arith, ◌∙◌}
 use Rattle.std.specs.Prelude.{Result, Ok, Err, MatchResult, IsCharBoundary}
 use Rattle.std.proofs.lemmas.Bool.{false≢true}
-use Rattle.js_base.specs.declared.diagnostic.Diagnostic.{Diagnostic}
 use Rattle.js_base.specs.declared.kind.Kind.{Kind}
 use Rattle.js_base.specs.declared.kind.Kind.TheVariants.{RAngle, LBrack, RBrack, RParen, Comma, Dot3, Eq, Ident, PrivateIdentifier}
 use Rattle.js_base.specs.declared.span.Span.{Span}
@@ -255,34 +254,50 @@ no_element f n =
     let m : Fails rule (Lex _) (plain full) end (symbol Binding f) _ = weaken_fails_on n (record { admits = λ ts vs k ls rest d e. (refl, refl) }) in
     fails_rule {X' = behind_item} (λ l cs vs y d. (d.0, refl)) (fails_alt (weaken_fails_on n (record { admits = λ ts vs k ls rest d e. (refl, refl) })) (fails_node inside_full (part_fails {X' = plain full} m (record { admits = λ ts us vs j k ls mid rest d d' e. (refl, refl) }))))
 
+-- ---- what a rest binds, which is an item too
+
+pub binding_item : {text : List ℕ} {f : Flags} {p q : Parser} {bound : NodeId} → Numbered text f (at Binding f) p q bound → ItemTaken text f (at Binding f) p q bound
+binding_item {q = q} x = item_answers q (binding_last x.answer) x.answer.same refl x.holds x.keeps (λ b z. z)
+
+pub no_binding_item : {text : List ℕ} {f : Flags} {s : ℕ} → Underived text (at Binding f) s → NoItem text (at Binding f) s
+no_binding_item n = weaken_fails_on n (record { admits = λ ts vs k ls rest d e. (refl, refl) })
+
+-- it has no initialiser
+pub no_initialised : {text : List ℕ} {f : Flags} {p q : Parser} {bound : NodeId} → Numbered text f (at Binding f) p q bound → q.token.kind ≡ Eq → NoItem text (at Binding f) p.prev_token_end
+no_initialised x k = binding_last x.answer ⟶✗ no_end_here x.answer.at k
+
+item_path : {text : List ℕ} {f : Flags} {n : Symbol} {p q : Parser} {id : NodeId} (x : ItemTaken text f n p q id) → Path text f behind_item (such n always) p nothing q (tree x.label x.slots)
+item_path x = record { at = x.at; further = x.further; pass = x.pass; walked = x.walked; verdict = x.verdict }
+
 -- ---- a rest
 
 module _ {text : List ℕ} {f : Flags} {p q : Parser} (a : At text f p) (k : p.token.kind ≡ Dot3) (m : Moved text f p q) where
   dots : {X : Test} {b : G} → Path text f X (tok Dot3 ▸ b) p b q (λ us. us)
   dots = token Dot3 a k (plain_sign Dot3 a k refl refl dots_plain) refl m
 
-  pub no_rest : Underived text (at Binding f) q.prev_token_end → Underived text (at BindingRest f) p.prev_token_end
+  pub no_rest : NoItem text (at Binding f) q.prev_token_end → NoItem text (at BindingRest f) p.prev_token_end
   unfolding rule rule_of
-  no_rest n = fails_by (fails_node inside_full (dots ⟶✗ weaken_fails_on n (record { admits = λ ts vs k ls rest d e. (refl, refl) })))
+  no_rest n = fails_rule {X' = behind_item} (λ l cs vs y d. (d.0, refl)) (fails_node (inside_plain {F' = next_kinds} ends_itself) (dots ⟶✗ n))
 
-  pub rest_answers : {r w : Parser} {bound id : NodeId} (s : Span) (x : Numbered text f (at Binding f) q r bound) → s.start ≡ p.token.span.start → s.end ≡ r.prev_token_end → MadeHere (plain_label node_kind.BindingRestElement op_made.None s) (Some bound ∷ []) r w id → Numbered text f (at BindingRest f) p w id
+  pub rest_answers : {r w : Parser} {bound id : NodeId} (s : Span) (x : ItemTaken text f (at Binding f) q r bound) → s.start ≡ p.token.span.start → s.end ≡ r.prev_token_end → MadeHere (plain_label node_kind.BindingRestElement op_made.None s) (Some bound ∷ []) r w id → ItemTaken text f (at BindingRest f) p w id
   unfolding rule rule_of
   rest_answers {r} {w} {bound} {id} s x b d n =
       let l : plain_label node_kind.BindingRestElement op_made.None s ≡ label_here binding_rest_element no_op p r = rw (b, d) refl in
       let y : MadeHere (label_here binding_rest_element no_op p r) (Some bound ∷ []) r w id = subst (λ (v : Label). MadeHere v (Some bound ∷ []) r w id) l n in
-      let h : Holds r.nodes (length p.nodes) (length r.nodes) bound.0 x.answer.label x.answer.slots = subst (λ (ns : List Node). Holds r.nodes (length ns) (length r.nodes) bound.0 x.answer.label x.answer.slots) m.nodes x.holds in
+      let h : Holds r.nodes (length p.nodes) (length r.nodes) bound.0 x.label x.slots = subst (λ (ns : List Node). Holds r.nodes (length ns) (length r.nodes) bound.0 x.label x.slots) m.nodes x.holds in
       let i : Keeps p.nodes r.nodes = subst (λ (ns : List Node). Keeps ns r.nodes) m.nodes x.keeps in
-      by_path (noded a (dots ⟶ binding_last x.answer)) (same_both m.same x.answer.same) y.stays (λ u v. refl) refl (one_held p.nodes y h) (Keeps-trans i (Keeps-made y.made)) refl (one_lies y)
+      item_answers w (by_symbol_as {X' = behind_item} (λ l cs vs y d. (d.0, refl)) (noded_by a (inside_plain {F' = next_kinds} ends_itself) (dots ⟶ item_path x))) (same_both m.same x.same) y.stays (one_held p.nodes y h) (Keeps-trans i (Keeps-made y.made))
+      (made_lies (same_both m.same x.same) x.at.at (let a = m.further in let c = m.at.behind in let e = x.further in omega arith) y refl)
 
 -- ---- a rest among parameters
 
-pub no_rest_parameter : {text : List ℕ} (f : Flags) {s : ℕ} → Underived text (at BindingRest f) s → Underived text (at Rest f) s
+pub no_rest_parameter : {text : List ℕ} (f : Flags) {s : ℕ} → NoItem text (at BindingRest f) s → NoItem text (at Rest f) s
 unfolding rule rule_of
-no_rest_parameter f n = fails_by (fails_node inside_full (weaken_fails_on n (record { admits = λ ts vs k ls rest d e. (refl, refl) })))
+no_rest_parameter f n = fails_rule {X' = behind_item} (λ l cs vs y d. (d.0, refl)) (fails_node (inside_plain {F' = next_kinds} ends_itself) n)
 
-pub rest_parameter : {text : List ℕ} {f : Flags} {p q w : Parser} {rest id : NodeId} (s : Span) → At text f p → (x : Numbered text f (at BindingRest f) p q rest) → s.start ≡ p.token.span.start → s.end ≡ q.prev_token_end → MadeHere (plain_label node_kind.FormalParameterRest op_made.None s) (Some rest ∷ []) q w id → Numbered text f (at Rest f) p w id
+pub rest_parameter : {text : List ℕ} {f : Flags} {p q w : Parser} {rest id : NodeId} (s : Span) → At text f p → (x : ItemTaken text f (at BindingRest f) p q rest) → s.start ≡ p.token.span.start → s.end ≡ q.prev_token_end → MadeHere (plain_label node_kind.FormalParameterRest op_made.None s) (Some rest ∷ []) q w id → ItemTaken text f (at Rest f) p w id
 unfolding rule rule_of
 rest_parameter {text} {f} {p} {q} {w} {rest} {id} s a x b d n =
     let l : plain_label node_kind.FormalParameterRest op_made.None s ≡ label_here formal_parameter_rest no_op p q = rw (b, d) refl in
     let y : MadeHere (label_here formal_parameter_rest no_op p q) (Some rest ∷ []) q w id = subst (λ (v : Label). MadeHere v (Some rest ∷ []) q w id) l n in
-    by_path (noded a (last_called x.answer (record { admits = λ ts vs k ls rest d e. (refl, refl) }))) x.answer.same y.stays (λ u v. refl) refl (one_held p.nodes y x.holds) (Keeps-trans x.keeps (Keeps-made y.made)) refl (one_lies y)
+    item_answers w (by_symbol_as {X' = behind_item} (λ l cs vs y d. (d.0, refl)) (noded_by a (inside_plain {F' = next_kinds} ends_itself) (item_path x))) x.same y.stays (one_held p.nodes y x.holds) (Keeps-trans x.keeps (Keeps-made y.made)) (made_lies x.same x.at.at (let a = x.further in omega arith) y refl)

@@ -3,3 +3,4 @@ pub mod Bindings
 pub mod Lists
 pub mod ParameterLists
 pub mod PatternLists
+mod RestInitialisers

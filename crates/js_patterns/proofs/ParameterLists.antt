@@ -36,7 +36,7 @@ use Rattle.js_operands.proofs.Arrays.{behind_one}
 use Rattle.js_patterns.proofs.Bindings.{binding_read, ended_by, item_answers, no_end_here, on_initialiser}
 use Rattle.js_parsing.proofs.Signs.{other_kind, plain_sign}
 use Rattle.js_parsing.proofs.Dead.{fails_dead}
-use Rattle.js_patterns.proofs.Lists.{end_due, item_comma, item_due, item_fails, item_last, item_more, last_due, last_fails, last_more, more_from, none_yet}
+use Rattle.js_patterns.proofs.Lists.{end_due, item_comma, item_due, item_fails, item_last, item_more, last_due, more_from, none_yet}
 use Rattle.js_parsing.proofs.MadeNodes.{node_held, two_held, one_lies, made_lies}
 use Rattle.js_parsing.proofs.Moving.{same_both, stops_behind, stops_so}
 use Rattle.js_operands.proofs.Operands.{by_path}
@@ -162,11 +162,13 @@ module _ {text : List ℕ} {f : Flags} {p : Parser} (a : At text f p) where
     unfolding rule rule_of covers apart
     rest_first = last_due never (symbol Param f) (symbol Rest f) RParen no_gap (fails_at a (symbol Param f) parameter_kinds refl (ap (one_of_kinds parameter_kinds) k)) (fails_at a (tok RParen) (RParen ∷ []) refl (ap (one_of_kinds (RParen ∷ [])) k))
 
-    pub rest_stops : (q : Parser) (e : Stop) → Stops p q e (Underived text (at Rest f) p.prev_token_end) → Stops p q e (NoneLeft text (parameters_left f) p.prev_token_end)
-    rest_stops q e s = stops_so p q e (λ m. rest_first ▹✗ last_fails (λ ts y. (refl, refl)) m) s
+    pub rest_stops : (q : Parser) (e : Stop) → Stops p q e (NoItem text (at Rest f) p.prev_token_end) → Stops p q e (NoneLeft text (parameters_left f) p.prev_token_end)
+    unfolding covers
+    rest_stops q e s = stops_so p q e (λ m. rest_first ▹✗ item_fails refl m) s
 
-    pub rest_taken : {q : Parser} {ids js : List (Option NodeId)} {id : NodeId} → Numbered text f (at Rest f) p q id → js ≡ ids ++ Some id ∷ [] → OneMore text f (parameters_left f) (tok RParen) p q ids js
-    rest_taken x g = more_from rest_first (last_more a (λ ts y. (refl, refl)) x g)
+    pub rest_taken : {q : Parser} {ids js : List (Option NodeId)} {id : NodeId} → ItemTaken text f (at Rest f) p q id → js ≡ ids ++ Some id ∷ [] → OneMore text f (parameters_left f) (tok RParen) p q ids js
+    unfolding covers
+    rest_taken x g = more_from rest_first (item_more a refl x g)
 
 -- ---- the parameters and their parentheses
 

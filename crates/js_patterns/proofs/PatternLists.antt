@@ -14,7 +14,7 @@ use Rattle.js_grammar.proofs.Calculus.{◌▹✗◌}
 use Rattle.js_tree.specs.declared.id.NodeId.{NodeId}
 use Rattle.js_cursor.specs.Parsers.{Parser}
 use Rattle.js_cursor.specs.declared.stop.Stop.{Stop}
-use Rattle.js_parsing.specs.Answers.{Underived, Numbered, Stops}
+use Rattle.js_parsing.specs.Answers.{Stops}
 use Rattle.js_parsing.specs.Arguments.{ItemTaken, NoItem}
 use Rattle.js_patterns.specs.Bindings.{elements_left}
 use Rattle.js_parsing.specs.Lexemes.{Lex}
@@ -23,7 +23,7 @@ use Rattle.js_parsing.specs.Moves.{Moved}
 use Rattle.js_parsing.specs.States.{At}
 use Rattle.js_operands.proofs.ArgumentLists.{none_there}
 use Rattle.js_operands.proofs.Arrays.{behind_one}
-use Rattle.js_patterns.proofs.Lists.{end_due, gap_due, hole_more, item_comma, item_due, item_fails, item_last, item_more, last_due, last_fails, last_more, more_from, none_yet}
+use Rattle.js_patterns.proofs.Lists.{end_due, gap_due, hole_more, item_comma, item_due, item_fails, item_last, item_more, last_due, more_from, none_yet}
 use Rattle.js_parsing.proofs.Moving.{stops_so}
 use Rattle.js_parsing.proofs.Paths.{fails_at}
 
@@ -90,8 +90,10 @@ module _ {text : List ℕ} {f : Flags} {p : Parser} (a : At text f p) where
     rest_first : Goes rule (Lex text) (plain full) end (elements_left f) p.prev_token_end (seq (symbol BindingRest f) (tok RBrack)) p.prev_token_end (λ us. us) (still 0)
     rest_first = last_due gap (symbol BElement f) (symbol BindingRest f) RBrack (no_gap_at (ap (one_of_kinds (Comma ∷ [])) k)) (no_element_at (ap (one_of_kinds element_kinds) k)) (no_end_at (ap (one_of_kinds (RBrack ∷ [])) k))
 
-    pub rest_stops : (q : Parser) (e : Stop) → Stops p q e (Underived text (at BindingRest f) p.prev_token_end) → Stops p q e (NoneLeft text (elements_left f) p.prev_token_end)
-    rest_stops q e s = stops_so p q e (λ m. rest_first ▹✗ last_fails (λ ts y. (refl, refl)) m) s
+    pub rest_stops : (q : Parser) (e : Stop) → Stops p q e (NoItem text (at BindingRest f) p.prev_token_end) → Stops p q e (NoneLeft text (elements_left f) p.prev_token_end)
+    unfolding covers
+    rest_stops q e s = stops_so p q e (λ m. rest_first ▹✗ item_fails refl m) s
 
-    pub rest_taken : {q : Parser} {ids js : List (Option NodeId)} {id : NodeId} → Numbered text f (at BindingRest f) p q id → js ≡ ids ++ Some id ∷ [] → OneMore text f (elements_left f) (tok RBrack) p q ids js
-    rest_taken x g = more_from rest_first (last_more a (λ ts y. (refl, refl)) x g)
+    pub rest_taken : {q : Parser} {ids js : List (Option NodeId)} {id : NodeId} → ItemTaken text f (at BindingRest f) p q id → js ≡ ids ++ Some id ∷ [] → OneMore text f (elements_left f) (tok RBrack) p q ids js
+    unfolding covers
+    rest_taken x g = more_from rest_first (item_more a refl x g)

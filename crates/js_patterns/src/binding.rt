@@ -1,14 +1,14 @@
 //! What is bound: names and array patterns (ECMA-262, section 14.3.3).
 
-ghost use Rattle.std.specs.Prelude.{◌≡◌, ◌+◌, ◌∷◌, [], true, false, MatchResult};
+ghost use Rattle.std.specs.Prelude.{◌≡◌, ◌+◌, ◌∷◌, [], true, false, IfOk, MatchResult};
 ghost use Rattle.js_base.specs.Kinds.{one_of_kinds};
-ghost use Rattle.js_base.specs.declared.kind.Kind.TheVariants.{Comma, Dot3, LBrack, RBrack};
+ghost use Rattle.js_base.specs.declared.kind.Kind.TheVariants.{Comma, Dot3, Eq, LBrack, RBrack, Undetermined};
 ghost use Rattle.js_cursor.specs.Places.{goal};
 ghost use Rattle.js_grammar.specs.Marks.{Mark};
 ghost use Rattle.js_grammar.specs.Productions.{at, BElement, Binding, BindingRest};
 ghost use Rattle.js_parsing.specs.Classes.{EndsParse};
 ghost use Rattle.js_parsing.specs.Answers.{Answers};
-ghost use Rattle.js_patterns.specs.Bindings.{closers, elements_left};
+ghost use Rattle.js_patterns.specs.Bindings.{closers, elements_left, initialiser_kind, InitialisesRest, RestBegins};
 ghost use Rattle.js_parsing.specs.Told.{unrelated_at};
 ghost use Rattle.js_parsing.specs.Lists.{ClosingDue, ListRead, ListStops, ReadsItem, ReadsOneMore};
 ghost use Rattle.js_parsing.specs.Stands.{StandsHere};
@@ -25,6 +25,25 @@ use js_parsing::lexemes::{advance, stands};
 use js_parsing::nested::Nested;
 use js_parsing::nodes::{make_list, make_one, make_two};
 use js_tree::{NodeId, NodeKind, Op};
+
+/// Where a rest stands.
+#[derive(Clone, Copy)]
+pub(crate) enum RestPlace {
+    /// In an array pattern.
+    Pattern,
+    /// Among formal parameters.
+    Parameters,
+}
+
+/// What is told of the initialiser of a rest.
+fn rest_initialiser_kind(place: RestPlace) -> DiagnosticKind
+    ensures { result ≡ initialiser_kind place }
+{
+    match place {
+        RestPlace::Pattern => DiagnosticKind::ARestElementCannotHaveAnInitializer,
+        RestPlace::Parameters => DiagnosticKind::ARestParameterCannotHaveAnInitializer,
+    }
+}
 
 /// A BindingIdentifier or a BindingPattern (ECMA-262, section 14.3.3).
 pub fn parse_binding_pattern<C: ParserConfig, N: Nested<C>>(
@@ -48,7 +67,8 @@ fn parse_nested_binding<C: ParserConfig, N: Nested<C>>(
 ) -> Result<NodeId, Stop>
     requires at { Standing p.old }
     requires nests { CanNest (N.can nested.now) (room p.old + 1) }
-    ensures { Answers (at Binding) p.old p.new result }
+    ensures answers { Answers (at Binding) p.old p.new result }
+    ensures lexeme { IfOk result (λ _. p.old.token.kind ≡ Undetermined → ⊥) }
 {
     if stands(p, Kind::LBrack) {
         return nested.binding(p);
@@ -60,7 +80,8 @@ fn parse_nested_binding<C: ParserConfig, N: Nested<C>>(
 fn parse_binding_identifier<C: ParserConfig>(p: &mut ParserImpl<'_, C>) -> Result<NodeId, Stop>
     requires at { Standing p.old }
     requires no_pattern { StandsHere p.old LBrack false }
-    ensures { Answers (at Binding) p.old p.new result }
+    ensures answers { Answers (at Binding) p.old p.new result }
+    ensures lexeme { IfOk result (λ _. p.old.token.kind ≡ Undetermined → ⊥) }
 {
     if !stands(p, Kind::Ident) {
         return Err(p.set_unexpected());
@@ -192,7 +213,7 @@ fn parse_last_element<C: ParserConfig, N: Nested<C>>(
     ensures { ReadsOneMore elements_left RBrack elements.old.items elements.new.items p.old p.new result }
 {
     let start = p.cur_start();
-    let rest = parse_binding_rest(p, nested)?;
+    let rest = parse_binding_rest(p, nested, RestPlace::Pattern)?;
     elements.push(Some(rest))?;
     let span = p.end_span(start);
     let misplaced = diagnostic_at(DiagnosticKind::BindingRestElementLast, span);
@@ -201,26 +222,70 @@ fn parse_last_element<C: ParserConfig, N: Nested<C>>(
 }
 
 /// A BindingRestElement (ECMA-262, section 14.3.3).
-pub fn parse_binding_rest<C: ParserConfig, N: Nested<C>>(
+pub(crate) fn parse_binding_rest<C: ParserConfig, N: Nested<C>>(
     p: &mut ParserImpl<'_, C>,
     nested: &N,
+    place: RestPlace,
 ) -> Result<NodeId, Stop>
     requires at { Standing p.old }
     requires nests { CanNest (N.can nested.now) (room p.old + 1) }
     requires sign { p.old.token.kind ≡ Dot3 }
-    ensures { Answers (at BindingRest) p.old p.new result }
+    ensures { ReadsItem (at BindingRest) p.old p.new result }
 {
     let start = p.cur_start();
     advance(p)?;
-    let binding = parse_nested_binding(p, nested)?;
+    let binding = parse_rest_argument(p, nested, place)?;
     let span = p.end_span(start);
     let node = make_one(p, NodeKind::BindingRestElement, Op::None, span, binding)?;
     Ok(node)
 }
 
+/// What a rest binds.
+fn parse_rest_argument<C: ParserConfig, N: Nested<C>>(
+    p: &mut ParserImpl<'_, C>,
+    nested: &N,
+    place: RestPlace,
+) -> Result<NodeId, Stop>
+    requires at { Standing p.old }
+    requires nests { CanNest (N.can nested.now) (room p.old + 1) }
+    ensures { ReadsItem (at Binding) p.old p.new result }
+{
+    let start = p.cur_start();
+    let binding = parse_nested_binding(p, nested)?;
+    if !p.at(Kind::Eq) {
+        return Ok(binding);
+    }
+    parse_rest_initialiser(p, nested, start, binding, place)
+}
+
+/// The initialiser behind what a rest binds, which began at a place. A rest has none (ECMA-262, sections 14.3.3 and 15.1):
+/// it is told, and reading goes on.
+#[inline(never)]
+fn parse_rest_initialiser<C: ParserConfig, N: Nested<C>>(
+    p: &mut ParserImpl<'_, C>,
+    nested: &N,
+    start: u32,
+    binding: NodeId,
+    place: RestPlace,
+) -> Result<NodeId, Stop>
+    requires at { Standing p.old }
+    requires nests { CanNest (N.can nested.now) (room p.old + 1) }
+    requires begins { RestBegins start p.old }
+    requires equals { p.old.token.kind ≡ Eq }
+    ensures { InitialisesRest start binding p.old p.new result }
+{
+    advance(p)?;
+    let initialiser = assignment_with_in(p, nested)?;
+    let span = p.end_span(start);
+    p.error(diagnostic_at(rest_initialiser_kind(place), span))?;
+    let kind = NodeKind::AssignmentPattern;
+    let node = make_two(p, kind, Op::None, span, binding, initialiser)?;
+    Ok(node)
+}
+
 /// What stands behind a rest: the closing bracket of this kind is due. A comma right before it is told, and reading goes
 /// on; behind another comma the rest isn't the last, which `misplaced` tells.
-pub fn check_behind_rest<C: ParserConfig>(
+pub(crate) fn check_behind_rest<C: ParserConfig>(
     p: &mut ParserImpl<'_, C>,
     close: Kind,
     misplaced: Diagnostic,

@@ -10,7 +10,7 @@ ghost use Rattle.js_parsing.specs.Nesting.{CanNest, room};
 ghost use Rattle.js_patterns.specs.Parameters.{parameters_left};
 ghost use Rattle.js_parsing.specs.States.{Standing};
 
-use crate::binding::{check_behind_rest, parse_binding_pattern, parse_binding_rest};
+use crate::binding::{RestPlace, check_behind_rest, parse_binding_pattern, parse_binding_rest};
 use js_base::{DiagnosticKind, Kind};
 use js_cursor::{ParserImpl, Stop};
 use js_lex::ParserConfig;
@@ -150,10 +150,10 @@ fn parse_rest_parameter<C: ParserConfig, N: Nested<C>>(
     requires at { Standing p.old }
     requires nests { CanNest (N.can nested.now) (room p.old + 1) }
     requires sign { p.old.token.kind ≡ Dot3 }
-    ensures { Answers (at Rest) p.old p.new result }
+    ensures { ReadsItem (at Rest) p.old p.new result }
 {
     let start = p.cur_start();
-    let rest = parse_binding_rest(p, nested)?;
+    let rest = parse_binding_rest(p, nested, RestPlace::Parameters)?;
     let span = p.end_span(start);
     let node = make_one(p, NodeKind::FormalParameterRest, Op::None, span, rest)?;
     Ok(node)

@@ -5,7 +5,7 @@ use Rattle.js_base.specs.declared.diagnostic.Diagnostic.{Diagnostic}
 use Rattle.js_base.specs.declared.kind.Kind.TheVariants.{Colon, Ident, LCurly, RAngle}
 use Rattle.js_base.specs.declared.span.Span.{Span}
 use Rattle.js_base.specs.Contexts.{has_flag, in_flag}
-use Rattle.js_base.specs.Kinds.{same_kind}
+use Rattle.js_base.specs.Kinds.{same_kind, one_of_kinds}
 use Rattle.js_grammar.specs.Words.{'let'}
 use Rattle.js_grammar.specs.Trees.{Span as TreeSpan, Label, Slots, end, tree, no_op, labeled_statement, label_identifier}
 use Rattle.js_grammar.specs.Grammar.{Lexeme, Lexemes, Look, last, next, here, seen, is, exact, lexeme, seq, such, nothing, label_of, Takes, is_seq, is_lexeme, is_such, ◌▸◌}
@@ -17,7 +17,7 @@ use Rattle.js_grammar.specs.Table.{rule, rule_of}
 use Rattle.js_grammar.specs.Follow.{row_of, edge_of, follow, after, looser, widest}
 use Rattle.js_grammar.specs.Insertion.{after_expression, goes_on}
 use Rattle.js_grammar.proofs.Looks.{covers, covered, apart}
-use Rattle.js_grammar.proofs.Calculus.{On, Inside, ends, ◌▹◌, ◌▹✗◌, left, then_by, part_fails, fails_node, fails_rule, reads_lexeme, weaken_on, weaken_fails_on}
+use Rattle.js_grammar.proofs.Calculus.{On, Inside, ends, ◌▹◌, ◌▹✗◌, left, then_by, part_fails, fails_alt, fails_node, fails_rule, reads_lexeme, weaken_on, weaken_fails_on}
 use Rattle.js_grammar.proofs.FollowLaws.{admits}
 use Rattle.js_tree.specs.declared.id.NodeId.{NodeId}
 use Rattle.js_tree.specs.declared.kind.NodeKind.TheVariants as node
@@ -31,7 +31,7 @@ use Rattle.js_parsing.specs.Answers.{Grown, Verdict, clean, unclean, Stretch, Un
 use Rattle.js_parsing.specs.Lexemes.{Lex, Walked, Spot, spot, nowhere, one_more}
 use Rattle.js_parsing.specs.Nesting.{room}
 use Rattle.js_parsing.specs.Moves.{Moved, MadeHere, plain_label}
-use Rattle.js_parsing.specs.Statements.{placed, no_link, after_statement, NoStatement, Statement, IsLabel}
+use Rattle.js_parsing.specs.Statements.{placed, no_link, statement_kinds, after_statement, NoStatement, Statement, IsLabel}
 use Rattle.js_parsing.specs.States.{At, Same}
 use Rattle.js_parsing.proofs.Signs.{plain_sign}
 use Rattle.js_expressions.proofs.Conditionals.{colon_plain}
@@ -40,7 +40,7 @@ use Rattle.js_parsing.proofs.Here.{found, uncut}
 use Rattle.js_parsing.proofs.MadeNodes.{leaf_held, two_held, one_lies, from_start}
 use Rattle.js_parsing.proofs.Moving.{same_both, same_itself, same_with, beside_nodes, stops_behind}
 use Rattle.js_parsing.proofs.Paths.{Path, ◌⟼◌, ◌⟶◌, ◌⟶✗◌, at_kind, one_read, read_of, token, noded, noded_by, by_symbol_as, label_here}
-use Rattle.js_statements.proofs.Statements.{by_statement, no_symbol, no_expression_ends, before_colon, item_left, sub_left, colon_ends}
+use Rattle.js_statements.proofs.Statements.{by_statement, no_symbol, no_constants, no_expression_ends, before_colon, item_left, sub_left, colon_ends}
 use Rattle.js_parsing.proofs.Ahead.{pass_over, reads_not_then}
 use Rattle.js_statements.proofs.Strings.{name_look, name_node, name_expression}
 use Rattle.js_parsing.proofs.Tight.{read_plain}
@@ -53,11 +53,11 @@ abbrev labeled_slots : Flags → G
 labeled_slots f = symbol LabelIdentifier f ▸ tok Colon ▸ symbol Sub f
 
 -- behind two slots may stand what may stand behind the second one
-abbrev by_body : Flags → Slots → Look
+abbrev pub by_body : Flags → Slots → Look
 by_body f (tree a ds (tree b cs end)) k w e = follow (at Sub f) (edge_of b cs) k w e
 by_body f _ k w e = false
 
-abbrev behind_label : Flags → Test
+abbrev pub behind_label : Flags → Test
 behind_label f = record { base = λ k w e. no_link k w e && widest Sub k w e; by = λ ts. by_body f ts }
 
 inside_label : (b : Bool) (f : Flags) (s : ℕ) → Inside rule (record { kind = labeled_statement; op = no_op; flags = 0; extent = exact }) (after_statement (placed b f)) (behind_label f) end (labeled_slots f) s
@@ -70,7 +70,7 @@ inside_label false f s = record { ends = λ p cs vs j ls mid d e. go p cs vs d e
     go : (p : TreeSpan) (cs vs : Slots) {i j : ℕ} {ls mid : Lexemes} → Takes rule (labeled_slots f) end cs i ls end j mid → Admits (after_statement (at Sub f)) (tree (record { kind = labeled_statement; op = no_op; flags = 0; span = p }) cs vs) (here mid) → Admits (behind_label f) cs (here mid)
     go p cs vs (is_seq (is_such a b) (is_seq (is_lexeme c) (is_such d e))) x = x
 
-on_label : (f : Flags) (a : Label) (ds : Slots) (s : ℕ) → On rule (record { base = (behind_label f).base; by = λ us. by_body f (tree a ds us) }) (after_statement (at Sub f)) end (such (at Sub f) always) s
+pub on_label : (f : Flags) (a : Label) (ds : Slots) (s : ℕ) → On rule (record { base = (behind_label f).base; by = λ us. by_body f (tree a ds us) }) (after_statement (at Sub f)) end (such (at Sub f) always) s
 on_label f a ds s = record { admits = λ ts vs k ls rest d e. go ts vs d e }
   where
     go : (ts vs : Slots) {i k : ℕ} {ls rest : Lexemes} → Takes rule (such (at Sub f) always) end ts i ls vs k rest → Admits (record { base = (behind_label f).base; by = λ us. by_body f (tree a ds us) }) ts (here rest) → Admits (after_statement (at Sub f)) ts (here rest)
@@ -184,7 +184,7 @@ module _ {text : List ℕ} {f : Flags} {p q : Parser} (a : At text f p) (x : Ans
   -- it is no expression with a semicolon
   to_placed : (b : Bool) → Goes rule (Lex text) (after_statement (placed b f)) end (rule (placed b f)) p.prev_token_end (symbol AStatement f) p.prev_token_end (λ us. us) (still 0)
   unfolding apart
-  to_placed true = subst (λ (g : G). Goes rule (Lex text) (after_statement (at ListItem f)) end (rule (at ListItem f)) p.prev_token_end g p.prev_token_end (λ us. us) (still 0)) (item_left f) (lives (rule (at ListItem f))) ▹ left (pass_over (reads_not_then (is 'let') (word_or (LCurly ∷ [])) refl) ▹✗ no_expression_ends true x (before_colon x.at (goes_on (row_of x.label x.slots)) i.colon))
+  to_placed true = subst (λ (g : G). Goes rule (Lex text) (after_statement (at ListItem f)) end (rule (at ListItem f)) p.prev_token_end g p.prev_token_end (λ us. us) (still 0)) (item_left f) (lives (rule (at ListItem f))) ▹ left (fails_alt (pass_over (reads_not_then (is 'let') (word_or (LCurly ∷ [])) refl) ▹✗ no_expression_ends true x (before_colon x.at (goes_on (row_of x.label x.slots)) i.colon)) (no_constants a (ap (one_of_kinds statement_kinds) i.name)))
   to_placed false = subst (λ (g : G). Goes rule (Lex text) (after_statement (at Sub f)) end (rule (at Sub f)) p.prev_token_end g p.prev_token_end (λ us. us) (still 0)) (sub_left f) (lives (rule (at Sub f))) ▹ left (no_expression_ends false x (before_colon x.at (goes_on (row_of x.label x.slots)) i.colon))
 
   -- what is in the node can't be read
@@ -245,5 +245,5 @@ module _ {text : List ℕ} {f : Flags} {p q : Parser} {id : NodeId} (a : At text
           let k : MadeHere (label_here labeled_statement no_op p v) (Some label ∷ Some body ∷ []) v z made_id = subst (λ (u : Label). MadeHere u (Some label ∷ Some body ∷ []) v z made_id) l d in
           let kw : Keeps p.nodes w.nodes = Keeps-trans x.keeps (Keeps-made made.made) in
           let ky : Keeps w.nodes v.nodes = subst (λ (ns : List Node). Keeps ns v.nodes) m.nodes y.keeps in
-          by_statement (labeled_path a x.answer i b (body_path a x.answer i labeled m y)) (same_both label_same y.same) k.stays
+          by_statement (labeled_path a x.answer i b (body_path a x.answer i labeled m y)) y.closed (same_both label_same y.same) k.stays
           (two_held k (leaf_held labeled x.keeps) kw (subst (λ (ns : List Node). Holds v.nodes (length ns) (length v.nodes) body.0 y.label y.slots) m.nodes y.holds) ky) (Keeps-trans kw (Keeps-trans ky (Keeps-made k.made))) refl (one_lies k)

@@ -1,3 +1,5 @@
+pub mod CompoundStatements
+pub mod DeclarationStatements
 pub mod Labels
 pub mod StatementLists
 pub mod Statements

@@ -12,7 +12,7 @@ use Rattle.js_grammar.specs.Grammar.{Lexeme, Lexemes, Look, is, here, seen, seq,
 use Rattle.js_grammar.specs.Insertion.{goes_on}
 use Rattle.js_grammar.specs.Conditions.{not_string}
 use Rattle.js_grammar.specs.Lexed.{Lexes}
-use Rattle.js_grammar.specs.Parsing.{Test, plain, behind, always, still, Goes, Fails}
+use Rattle.js_grammar.specs.Parsing.{Test, plain, always, still, Goes, Fails}
 use Rattle.js_grammar.specs.Productions.{G, Flags, at, opt, ListItem, Item, Labeled, Directive, Expression, ImportDecl, ExportDecl}
 use Rattle.js_grammar.specs.Productions.{sym as symbol}
 use Rattle.js_grammar.specs.Table.{rule, rule_of, string}

@@ -16,10 +16,11 @@ use Rattle.js_grammar.specs.Words.{'let', 'async', 'function', 'class'}
 use Rattle.js_grammar.specs.Trees.{Label, Slots, end, tree, no_op, empty_statement, expression_statement, label_identifier}
 use Rattle.js_grammar.specs.Grammar.{Lexeme, Lexemes, Look, here, seen, is, may_omit, alt, such, ended, semicolon, nothing, next, label_of, ◌▸◌, Takes, is_seq, is_lexeme, is_such, is_node}
 use Rattle.js_grammar.specs.Insertion.{Row, after_expression, may_bind, goes_on, by_edge}
+use Rattle.js_grammar.specs.Conditions.{ends_in_sub, lacks_else}
 use Rattle.js_grammar.specs.Lexed.{Lexes}
 use Rattle.js_grammar.specs.Lexemes.{is_escaped}
 use Rattle.js_grammar.specs.Parsing.{Test, plain, behind, full, always, still, Goes, Fails, Admits}
-use Rattle.js_grammar.specs.Productions.{G, Flags, Symbol, at, other, if_next, not_then, is_one_of, word_or, function_on_line, tok, ListItem, Empty, ExprStmt, Expression, Labeled, LabelIdentifier, Sub, Break, Continue, Debugger, Throw}
+use Rattle.js_grammar.specs.Productions.{G, Flags, Symbol, at, other, if_next, not_then, is_one_of, word_or, function_on_line, tok, ListItem, Empty, ExprStmt, Expression, Labeled, LabelIdentifier, Lexical, Sub, Break, Continue, Debugger, Do, If, Throw, Var, While, With}
 use Rattle.js_grammar.specs.Productions.{Statement as AStatement}
 use Rattle.js_grammar.specs.Productions.{sym as symbol}
 use Rattle.js_grammar.specs.Table.{rule, rule_of, identifier}
@@ -46,13 +47,14 @@ use Rattle.js_parsing.specs.Lexemes.{Lex}
 use Rattle.js_parsing.specs.States.{At, Same, NodesLie}
 use Rattle.js_parsing.specs.Moves.{IsWholeHere, Moved, MadeHere, LeafTaken, TakesLeaf, plain_label}
 use Rattle.js_parsing.specs.Answers.{Underived, Answer, Numbered, Stops, beside}
-use Rattle.js_parsing.specs.Statements.{placed, link_kinds, statement_kinds, no_link, after_statement, NoStatement, Statement, StatementOutcome, EndsStatement, NoEnd, IsLabel}
+use Rattle.js_parsing.specs.Statements.{placed, link_kinds, statement_kinds, no_link, after_statement, Closed, NoStatement, Statement, StatementOutcome, EndsStatement, NoEnd, IsLabel}
+use Rattle.js_declarations.specs.Declarations.{stops_row}
 use Rattle.js_parsing.proofs.Verdicts.{verdict_of, either_way}
 use Rattle.js_parsing.proofs.Moving.{moves, same_both, same_itself, same_with, beside_nodes}
 use Rattle.js_parsing.proofs.Here.{kind_here, newline_here, told, uncut}
 use Rattle.js_parsing.proofs.Dead.{live, lives}
 use Rattle.js_parsing.proofs.MadeNodes.{leaf_held, one_held, one_lies, LabelLies, from_start}
-use Rattle.js_parsing.proofs.Paths.{reads, Path, ◌⟼◌, ◌⟶◌, ◌⟶✗◌, at_kind, not_here, fails_at, last_token, noded, noded_by, by_symbol_as, label_here}
+use Rattle.js_parsing.proofs.Paths.{begins_by, reads, Path, ◌⟼◌, ◌⟶◌, ◌⟶✗◌, at_kind, not_here, fails_at, last_token, noded, noded_by, by_symbol_as, label_here}
 use Rattle.js_parsing.proofs.Tight.{read_plain}
 use Rattle.js_statements.proofs.Strings.{name_look, name_node, name_expression}
 use Rattle.js_parsing.proofs.Giving.{gives_up, gives_up_here}
@@ -73,6 +75,14 @@ on_a_line r k w e = not e && ((looser 1 true r k w e || beside k w e) && (w && (
 line_omits : (r : Row) → covers (on_a_line r) (may_omit (goes_on r)) ≡ true
 unfolding covers
 line_omits r = at_row (λ r. covers (on_a_line r) (may_omit (goes_on r))) refl r
+
+-- so behind what stops there
+abbrev stops_on_line : Row → Look
+stops_on_line r k w e = stops_row r k w e && (w && (not (one_of_kinds link_kinds k) && not (same_kind Semicolon k)))
+
+stop_omits : (r : Row) → covers (stops_on_line r) (may_omit (goes_on r)) ≡ true
+unfolding covers
+stop_omits r = at_row (λ r. covers (stops_on_line r) (may_omit (goes_on r))) refl r
 
 abbrev at_an_end : Look
 at_an_end k w e = ends_statement k && not (same_kind Semicolon k)
@@ -179,14 +189,23 @@ module _ {text : List ℕ} {f : Flags} {q : Parser} (a : At text f q) where
       go true h = absurd (not_here a (Semicolon ∷ []) refl (none_of_one Semicolon q.token.kind n) y l (rw h refl))
       go false h = h
 
+  unlinked_at : one_of_kinds link_kinds q.token.kind ≡ false → (y : Lexeme) → Lex text q.prev_token_end y → not (one_of_kinds link_kinds y.kind) ≡ true
+  unfolding apart
+  unlinked_at v y l = go (one_of_kinds link_kinds y.kind) refl
+    where
+      go : (b : Bool) → one_of_kinds link_kinds y.kind ≡ b → not (one_of_kinds link_kinds y.kind) ≡ true
+      go true h = absurd (not_here a link_kinds refl v y l h)
+      go false h = ap not h
+
   -- on a new line, where the expression before ends
   omits_on_line : (r : Row) → ((y : Lexeme) → Lex text q.prev_token_end y → IsTrue (seen (looser 1 true r) y || seen beside y)) → q.token.is_on_new_line ≡ true → one_of_kinds link_kinds q.token.kind ≡ false → (q.token.kind ≡ Semicolon → ⊥) → (y : Lexeme) → Lex text q.prev_token_end y → IsTrue (seen (may_omit (goes_on r)) y)
   unfolding apart
-  omits_on_line r s w v n y l = covered (on_a_line r) (may_omit (goes_on r)) (line_omits r) y.kind y.newline y.escaped (and_from _ _ (ap not (read_plain y l.1)) (and_from _ _ (s y l) (and_from _ _ (newline_here a y l ∙ w) (and_from _ _ (unlinked (one_of_kinds link_kinds y.kind) refl) (ap not (no_semicolon n y l))))))
-    where
-      unlinked : (b : Bool) → one_of_kinds link_kinds y.kind ≡ b → not (one_of_kinds link_kinds y.kind) ≡ true
-      unlinked true h = absurd (not_here a link_kinds refl v y l h)
-      unlinked false h = ap not h
+  omits_on_line r s w v n y l = covered (on_a_line r) (may_omit (goes_on r)) (line_omits r) y.kind y.newline y.escaped (and_from _ _ (ap not (read_plain y l.1)) (and_from _ _ (s y l) (and_from _ _ (newline_here a y l ∙ w) (and_from _ _ (unlinked_at v y l) (ap not (no_semicolon n y l))))))
+
+  -- on a new line, where nothing goes on
+  pub omits_stopped : (r : Row) → ((y : Lexeme) → Lex text q.prev_token_end y → IsTrue (seen (stops_row r) y)) → (q.token.is_on_new_line ≡ true → one_of_kinds link_kinds q.token.kind ≡ false) → MayEnd q → (q.token.kind ≡ Semicolon → ⊥) → (y : Lexeme) → Lex text q.prev_token_end y → IsTrue (seen (may_omit (goes_on r)) y)
+  omits_stopped r s v (inl e) n y l = omits_at_end r e n y l
+  omits_stopped r s v (inr w) n y l = covered (stops_on_line r) (may_omit (goes_on r)) (stop_omits r) y.kind y.newline y.escaped (and_from _ _ (s y l) (and_from _ _ (newline_here a y l ∙ w) (and_from _ _ (unlinked_at (v w) y l) (ap not (no_semicolon n y l)))))
 
   omits : (r : Row) → ((y : Lexeme) → Lex text q.prev_token_end y → IsTrue (seen (looser 1 true r) y || seen beside y)) → (q.token.is_on_new_line ≡ true → one_of_kinds link_kinds q.token.kind ≡ false) → MayEnd q → (q.token.kind ≡ Semicolon → ⊥) → (y : Lexeme) → Lex text q.prev_token_end y → IsTrue (seen (may_omit (goes_on r)) y)
   omits r s v (inl e) n = omits_at_end r e n
@@ -288,7 +307,7 @@ module _ {text : List ℕ} {f : Flags} where
 
 -- ---- what stands before
 
-pub statement_left : (f : Flags) → live (rule (at AStatement f)) ≡ alt (symbol Empty f) (alt (symbol Continue f) (alt (symbol Break f) (alt (symbol Throw f) (alt (symbol Debugger f) (symbol Labeled f)))))
+pub statement_left : (f : Flags) → live (rule (at AStatement f)) ≡ alt (symbol Empty f) (alt (symbol Var f) (alt (symbol If f) (alt (symbol Do f) (alt (symbol While f) (alt (symbol With f) (alt (symbol Continue f) (alt (symbol Break f) (alt (symbol Throw f) (alt (symbol Debugger f) (symbol Labeled f))))))))))
 unfolding rule rule_of apart
 statement_left f = refl
 
@@ -296,7 +315,7 @@ pub sub_left : (f : Flags) → live (rule (at Sub f)) ≡ alt (such (at AStateme
 unfolding rule rule_of apart
 sub_left f = refl
 
-pub item_left : (f : Flags) → live (rule (at ListItem f)) ≡ alt (such (at AStatement f) always) (not_then (is 'let') (word_or (LCurly ∷ [])) ▸ symbol ExprStmt f)
+pub item_left : (f : Flags) → live (rule (at ListItem f)) ≡ alt (such (at AStatement f) always) (alt (not_then (is 'let') (word_or (LCurly ∷ [])) ▸ symbol ExprStmt f) (symbol Lexical f))
 unfolding rule rule_of apart
 item_left f = refl
 
@@ -380,16 +399,24 @@ pub no_label_at : {text : List ℕ} {f : Flags} {p : Parser} → At text f p →
 unfolding covers apart
 no_label_at {f = f} {p = p} a n X = fails_at a {X = X} (symbol Labeled f) (Ident ∷ []) refl (none_of_one Ident p.token.kind n)
 
+-- no declaration of constants stands here
+pub no_constants : {text : List ℕ} {f : Flags} {p : Parser} {X : Test} → At text f p → one_of_kinds statement_kinds p.token.kind ≡ false → Fails rule (Lex text) X end (symbol Lexical f) p.prev_token_end
+unfolding covers apart rule rule_of
+no_constants {f = f} a n = fails_rule {X' = plain full} (λ l cs vs y e. (refl, refl)) (fails_at a {X = plain full} (rule (at Lexical f)) statement_kinds refl n)
+
 module _ {text : List ℕ} {f : Flags} {p : Parser} (a : At text f p) (n : one_of_kinds statement_kinds p.token.kind ≡ false) (nl : (X : Test) → Fails rule (Lex text) X end (symbol Labeled f) p.prev_token_end) where
+  none : (g : G) → begins_by g full statement_kinds ≡ true → Fails rule (Lex text) (plain full) end g p.prev_token_end
+  none g c = fails_at a {X = plain full} g statement_kinds c n
+
   no_statement : {X : Test} → Fails rule (Lex text) X end (symbol AStatement f) p.prev_token_end
   unfolding covers apart
   no_statement = fails_rule {X' = plain full} (λ l cs vs y e. (refl, refl)) (subst (λ (g : G). Goes rule (Lex text) (plain full) end (rule (at AStatement f)) p.prev_token_end g p.prev_token_end (λ us. us) (still 0)) (statement_left f) (lives (rule (at AStatement f)))
-      ▹✗ fails_alt (fails_at a {X = plain full} (symbol Empty f) statement_kinds refl n) (fails_alt (fails_at a {X = plain full} (symbol Continue f) statement_kinds refl n) (fails_alt (fails_at a {X = plain full} (symbol Break f) statement_kinds refl n)
-      (fails_alt (fails_at a {X = plain full} (symbol Throw f) statement_kinds refl n) (fails_alt (fails_at a {X = plain full} (symbol Debugger f) statement_kinds refl n) (nl (plain full)))))))
+      ▹✗ fails_alt (none (symbol Empty f) refl) (fails_alt (none (symbol Var f) refl) (fails_alt (none (symbol If f) refl) (fails_alt (none (symbol Do f) refl) (fails_alt (none (symbol While f) refl) (fails_alt (none (symbol With f) refl)
+      (fails_alt (none (symbol Continue f) refl) (fails_alt (none (symbol Break f) refl) (fails_alt (none (symbol Throw f) refl) (fails_alt (none (symbol Debugger f) refl) (nl (plain full))))))))))))
 
   pub to_statement : (b : Bool) → Goes rule (Lex text) (after_statement (placed b f)) end (rule (placed b f)) p.prev_token_end (symbol ExprStmt f) p.prev_token_end (λ us. us) (still 0)
   unfolding apart
-  to_statement true = subst (λ (g : G). Goes rule (Lex text) (after_statement (at ListItem f)) end (rule (at ListItem f)) p.prev_token_end g p.prev_token_end (λ us. us) (still 0)) (item_left f) (lives (rule (at ListItem f))) ▹ right no_statement ▹ pass_over (reads_not_then (is 'let') (word_or (LCurly ∷ [])) refl)
+  to_statement true = subst (λ (g : G). Goes rule (Lex text) (after_statement (at ListItem f)) end (rule (at ListItem f)) p.prev_token_end g p.prev_token_end (λ us. us) (still 0)) (item_left f) (lives (rule (at ListItem f))) ▹ right no_statement ▹ left (no_constants a n) ▹ pass_over (reads_not_then (is 'let') (word_or (LCurly ∷ [])) refl)
   to_statement false = subst (λ (g : G). Goes rule (Lex text) (after_statement (at Sub f)) end (rule (at Sub f)) p.prev_token_end g p.prev_token_end (λ us. us) (still 0)) (sub_left f) (lives (rule (at Sub f))) ▹ right no_statement
 
 to_expression : {text : List ℕ} (f : Flags) (s : ℕ) → Goes rule (Lex text) (plain no_link) end (if_next (other (is_one_of no_expression)) ▸ not_then (is 'async') function_on_line ▸ not_then (is 'let') (is LBrack) ▸ ended by_edge (symbol Expression f)) s (ended by_edge (symbol Expression f)) s (λ us. us) (still 0)
@@ -403,9 +430,13 @@ no_expression_ends {f = f} {p = p} b x m = fails_rule {X' = plain no_link} (λ l
 
 -- ---- statements
 
+-- what ends in no other statement
+pub never_open : {text : List ℕ} {s : ℕ} (l : Label) (cs : Slots) → ends_in_sub l.kind ≡ false → Closed text s l cs
+never_open l cs h = λ o y i. absurd (false≢true (sym h ∙ (and_parts (ends_in_sub l.kind) (lacks_else cs) o).0))
+
 -- what was read as the symbol, and a node for it
-pub by_such_statement : {text : List ℕ} {f : Flags} {n : Symbol} {p q w : Parser} {l : Label} {cs : Slots} {id : NodeId} → Path text f (after_statement n) (such n always) p nothing q (tree l cs) → Same p q → w ≡ record q { nodes = w.nodes } → Holds w.nodes (length p.nodes) (length w.nodes) id.0 l cs → Keeps p.nodes w.nodes → (l.span ≡ record { from = p.token.span.start; to = q.prev_token_end }) → (LabelLies q.text l → NodesLie q.text q.nodes → NodesLie q.text w.nodes) → Statement text f n p w id
-by_such_statement {text} {f} {n} {p} {q} {w} {l} {cs} {id} y b e h k i m = go w.nodes e h k m
+pub by_such_statement : {text : List ℕ} {f : Flags} {n : Symbol} {p q w : Parser} {l : Label} {cs : Slots} {id : NodeId} → Path text f (after_statement n) (such n always) p nothing q (tree l cs) → Closed text q.prev_token_end l cs → Same p q → w ≡ record q { nodes = w.nodes } → Holds w.nodes (length p.nodes) (length w.nodes) id.0 l cs → Keeps p.nodes w.nodes → (l.span ≡ record { from = p.token.span.start; to = q.prev_token_end }) → (LabelLies q.text l → NodesLie q.text q.nodes → NodesLie q.text w.nodes) → Statement text f n p w id
+by_such_statement {text} {f} {n} {p} {q} {w} {l} {cs} {id} y o b e h k i m = go w.nodes e h k m
   where
     go : (ns : List Node) → w ≡ record q { nodes = ns } → Holds w.nodes (length p.nodes) (length w.nodes) id.0 l cs → Keeps p.nodes w.nodes → (LabelLies q.text l → NodesLie q.text q.nodes → NodesLie q.text w.nodes) → Statement text f n p w id
     go ns e h k m =
@@ -415,6 +446,7 @@ by_such_statement {text} {f} {n} {p} {q} {w} {l} {cs} {id} y b e h k i m = go w.
           further = y.further;
           label = l;
           slots = cs;
+          closed = o;
           pass = y.pass;
           walked = y.walked;
           verdict = y.verdict;
@@ -423,8 +455,8 @@ by_such_statement {text} {f} {n} {p} {q} {w} {l} {cs} {id} y b e h k i m = go w.
         })
 
 -- a statement of the symbol's rule, and a node for it
-pub by_statement : {text : List ℕ} {f : Flags} {n : Symbol} {p q w : Parser} {l : Label} {cs : Slots} {id : NodeId} → Path text f (after_statement n) (rule n) p nothing q (tree l cs) → Same p q → w ≡ record q { nodes = w.nodes } → Holds w.nodes (length p.nodes) (length w.nodes) id.0 l cs → Keeps p.nodes w.nodes → (l.span ≡ record { from = p.token.span.start; to = q.prev_token_end }) → (LabelLies q.text l → NodesLie q.text q.nodes → NodesLie q.text w.nodes) → Statement text f n p w id
-by_statement {n = n} a b e h k i m = by_such_statement (by_symbol_as {X' = after_statement n} (λ l cs vs y d. d) a) b e h k i m
+pub by_statement : {text : List ℕ} {f : Flags} {n : Symbol} {p q w : Parser} {l : Label} {cs : Slots} {id : NodeId} → Path text f (after_statement n) (rule n) p nothing q (tree l cs) → Closed text q.prev_token_end l cs → Same p q → w ≡ record q { nodes = w.nodes } → Holds w.nodes (length p.nodes) (length w.nodes) id.0 l cs → Keeps p.nodes w.nodes → (l.span ≡ record { from = p.token.span.start; to = q.prev_token_end }) → (LabelLies q.text l → NodesLie q.text q.nodes → NodesLie q.text w.nodes) → Statement text f n p w id
+by_statement {n = n} a o b e h k i m = by_such_statement (by_symbol_as {X' = after_statement n} (λ l cs vs y d. d) a) o b e h k i m
 
 module _ {text : List ℕ} {f : Flags} {p : Parser} (a : At text f p) where
   empty_alone : {X : Test} {q : Parser} → p.token.kind ≡ Semicolon → Moved text f p q → Path text f X (symbol AStatement f) p nothing q (tree (label_here empty_statement no_op p q) end)
@@ -440,7 +472,7 @@ module _ {text : List ℕ} {f : Flags} {p : Parser} (a : At text f p) where
   empty_answers b {q} {id} e t =
       let l : plain_label node.EmptyStatement op.None p.token.span ≡ label_here empty_statement no_op p t.mid = ap (λ (v : ℕ). record { kind = empty_statement; op = no_op; flags = 0; span = record { from = p.token.span.start; to = v } }) (t.moved.tells.end ∙ t.moved.ends) in
       let ks : Keeps p.nodes t.mid.nodes = subst (λ (ns : List Node). Keeps p.nodes ns) (sym t.moved.nodes) (Keeps-refl p.nodes) in
-      by_statement (subst (λ (v : Label). Path text f (after_statement (placed b f)) (rule (placed b f)) p nothing t.mid (tree v end)) (sym l) (empty_path b e t.moved)) t.moved.same t.made.stays (leaf_held t.made ks) (Keeps-trans ks (Keeps-made t.made.made)) (ap (λ (v : Label). v.span) l) (one_lies t.made)
+      by_statement (subst (λ (v : Label). Path text f (after_statement (placed b f)) (rule (placed b f)) p nothing t.mid (tree v end)) (sym l) (empty_path b e t.moved)) (never_open (plain_label node.EmptyStatement op.None p.token.span) end refl) t.moved.same t.made.stays (leaf_held t.made ks) (Keeps-trans ks (Keeps-made t.made.made)) (ap (λ (v : Label). v.span) l) (one_lies t.made)
 
   pub empty_outcome : (b : Bool) (q : Parser) (r : Result NodeId Stop) → p.token.kind ≡ Semicolon → MatchResult r (λ id. TakesLeaf node.EmptyStatement op.None p q id) OnlyMemory → StatementOutcome text f (placed b f) p q r
   empty_outcome b q (Ok id) e m = empty_answers b e (m text f a)
@@ -458,7 +490,7 @@ module _ {text : List ℕ} {f : Flags} {p : Parser} (a : At text f p) where
         let made : MadeHere (label_here expression_statement no_op p r) (Some child ∷ []) r w id = subst (λ (v : Label). MadeHere v (Some child ∷ []) r w id) l d in
         let z = ended_so x.answer.at e in
         let ks : Keeps p.nodes r.nodes = subst (λ (ns : List Node). Keeps p.nodes ns) (sym z.nodes) x.keeps in
-        by_statement (statement_path k i x.answer e) (same_both x.answer.same z.same) made.stays
+        by_statement (statement_path k i x.answer e) (never_open (label_here expression_statement no_op p r) (tree x.answer.label x.answer.slots end) refl) (same_both x.answer.same z.same) made.stays
         (one_held p.nodes made (subst (λ (ns : List Node). Holds ns (length p.nodes) (length ns) child.0 x.answer.label x.answer.slots) (sym z.nodes) x.holds)) (Keeps-trans ks (Keeps-made made.made)) refl (one_lies made)
 
     pub statement_fails : (b : Bool) → Underived text (at Expression f) p.prev_token_end → NoStatement text (placed b f) p.prev_token_end
@@ -483,8 +515,8 @@ pub link_ends : {text : List ℕ} {f : Flags} (p q : Parser) (e : Stop) → At t
 link_ends p q e a v g = gives_up_here p q e a g (inl (and_parts p.token.is_on_new_line _ v).1)
 
 -- none of the kinds that begin a statement alone
-pub no_own_kind : (k : Kind) → (k ≡ Semicolon → ⊥) → (k ≡ kind.Break → ⊥) → (k ≡ kind.Continue → ⊥) → (k ≡ kind.Throw → ⊥) → (k ≡ kind.Debugger → ⊥) → one_of_kinds statement_kinds k ≡ false
-no_own_kind k a b c d e = rw (not_kind Semicolon k a, not_kind kind.Break k b, not_kind kind.Continue k c, not_kind kind.Throw k d, not_kind kind.Debugger k e) refl
+pub no_own_kind : (k : Kind) → (k ≡ Semicolon → ⊥) → (k ≡ kind.If → ⊥) → (k ≡ kind.Do → ⊥) → (k ≡ kind.While → ⊥) → (k ≡ kind.With → ⊥) → (k ≡ kind.Break → ⊥) → (k ≡ kind.Continue → ⊥) → (k ≡ kind.Throw → ⊥) → (k ≡ kind.Debugger → ⊥) → (k ≡ kind.Var → ⊥) → (k ≡ kind.Const → ⊥) → one_of_kinds statement_kinds k ≡ false
+no_own_kind k a b c d e f g h i j l = rw (not_kind Semicolon k a, not_kind kind.If k b, not_kind kind.Do k c, not_kind kind.While k d, not_kind kind.With k e, not_kind kind.Break k f, not_kind kind.Continue k g, not_kind kind.Throw k h, not_kind kind.Debugger k i, not_kind kind.Var k j, not_kind kind.Const k l) refl
 
 -- the code found no label
 pub no_colon : (p q : Parser) {t : Token} {b : Bool} → t ≡ p.token → IsTrue b ↔ IsLabel t q → b ≡ false → IsLabel p.token q → ⊥

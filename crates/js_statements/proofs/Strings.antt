@@ -5,10 +5,9 @@ use Rattle.js_grammar.specs.Conditions.{not_string}
 use Rattle.js_base.specs.declared.kind.Kind.TheVariants.{Str, Yield, Await}
 use Rattle.js_base.specs.Kinds.{same_kind}
 use Rattle.js_grammar.specs.Insertion.{may_bind}
-use Rattle.js_grammar.specs.Trees.{Span, NodeKind, identifier_reference, string_literal, expression_statement, Op, no_op, Label, Slots, end, hole, tree, append, Tree}
+use Rattle.js_grammar.specs.Trees.{Span, NodeKind, identifier_reference, string_literal, expression_statement, Op, no_op, Label, Slots, end, hole, tree, append}
 use Rattle.js_grammar.specs.Grammar.{Lexeme, Lexemes, next, Look, Make, Extent, exact, label_of, here, seen, semicolon, is, lexeme, look, ahead, seq, alt, when, such, node, ended, keep, Takes, is_lexeme, is_look, is_ahead, is_seq, is_left, is_right, is_when, is_such, is_node, is_ended, is_keep}
-use Rattle.js_grammar.specs.Parsing.{always}
-use Rattle.js_grammar.specs.Productions.{G, Flags, Name, Symbol, at, Item, ListItem, Statement, ExprStmt, Block, Empty, Var, If, Do, While, With, For, ForIn, ForOf, Continue, Break, Return, Throw, Switch, Try, Debugger, Labeled, Function, Class, Lexical, ImportDecl, ExportDecl, Expression, Assignment, Yield, Arrow', Conditional, Short, Coalesce, Or, And, BitOr, BitXor, BitAnd, Equality, Relational, Shift, Additive, Multiply, Exponent, Unary, Update, LeftHandSide, New, Member, Call, Chain, Primary, Template, IdentifierReference, Object, FuncExpr, ClassExpr}
+use Rattle.js_grammar.specs.Productions.{G, Flags, Name, Symbol, Item, ListItem, Statement, ExprStmt, Block, Empty, Var, If, Do, While, With, For, ForIn, ForOf, Continue, Break, Return, Throw, Switch, Try, Debugger, Labeled, Function, Class, Lexical, ImportDecl, ExportDecl, Expression, Assignment, Yield, Arrow', Conditional, Short, Coalesce, Or, And, BitOr, BitXor, BitAnd, Equality, Relational, Shift, Additive, Multiply, Exponent, Unary, Update, LeftHandSide, New, Member, Call, Chain, Primary, Template, IdentifierReference, Object, FuncExpr, ClassExpr}
 use Rattle.js_grammar.specs.Productions.{sym as symbol}
 use Rattle.js_grammar.specs.Table.{rule, rule_of, string}
 use Rattle.js_grammar.proofs.Looks.{covers, covered}

@@ -9,7 +9,8 @@ use Rattle.js_base.specs.declared.source_type.SourceType.{SourceType}
 use Rattle.js_base.specs.declared.span.Span.{Span}
 use Rattle.js_base.specs.Kinds.{same_kind, one_of_kinds}
 use Rattle.js_grammar.specs.Trees.{Slots, end, hole, tree, append, Label, no_op, debugger_statement, label_identifier, throw_statement}
-use Rattle.js_grammar.specs.Grammar.{Lexeme, Lexemes, Look, here, seen, is, may_omit, ended, semicolon, empty_slot, next, nothing, such, Takes, is_seq, is_lexeme, is_look, ◌▸◌}
+use Rattle.js_grammar.specs.Grammar.{Lexeme, Lexemes, Look, here, seen, may_omit, ended, semicolon, empty_slot, next, nothing, such, Takes, is_seq, is_lexeme, is_look, ◌▸◌}
+use Rattle.js_grammar.specs.Conditions.{ends_in_sub}
 use Rattle.js_grammar.specs.Insertion.{after_word, edge, goes_on, by_edge}
 use Rattle.js_grammar.specs.Marks.{Mark, a_lexeme, the_start, the_end}
 use Rattle.js_grammar.specs.Lexed.{Lex as StandsBehind, all_faults}
@@ -53,7 +54,7 @@ use Rattle.js_parsing.proofs.MadeNodes.{leaf_held, node_held, one_held, one_lies
 use Rattle.js_parsing.proofs.Moving.{moves, same_both, same_itself, same_with, stops_behind}
 use Rattle.js_operands.proofs.Operands.{one_path, plain_leaf, name_test}
 use Rattle.js_parsing.proofs.Paths.{Path, ◌⟼◌, ◌⟶◌, ◌⟶✗◌, at_kind, fails_at, token, last_token, noded, noded_by, by_symbol_as, label_here, walked_both, walked_from, walked_one}
-use Rattle.js_statements.proofs.Statements.{◌⟝◌, by_statement, by_such_statement, closes_or_line, either_of, end_path, ended_so, expression_path, no_close, no_semicolon, none_of_one, no_symbol, omits_at_end, omitted_so, semicolon_closes, semicolon_look, semicolon_path, to_semicolon_of, unended, whole_semicolon}
+use Rattle.js_statements.proofs.Statements.{◌⟝◌, by_statement, by_such_statement, closes_or_line, either_of, end_path, ended_so, expression_path, never_open, no_close, no_semicolon, none_of_one, no_symbol, omits_at_end, omitted_so, semicolon_closes, semicolon_look, semicolon_path, to_semicolon_of, unended, whole_semicolon}
 use Rattle.js_parsing.proofs.Ahead.{pass_over}
 use Rattle.js_parsing.proofs.Told.{told_at, told_same}
 use Rattle.js_parsing.proofs.Verdicts.{after as grown_behind, grown_both, grown_first, grown_on, grown_then, verdict_of}
@@ -73,10 +74,10 @@ pub alone_fails : {text : List ℕ} {f : Flags} {n : Name} {s : ℕ} → Alone t
 alone_fails {f = f} z b X h i x = no_symbol (z.listed b (after_statement (placed b f)) ▹✗ fails_rule {X' = X} h (z.alone X ▹✗ fails_rule {X' = X} i x))
 
 -- no statement begins with a link
-unlinked : (f : Flags) (b : Bool) → Heads (after_statement (placed b f)) (plain no_link)
+pub unlinked : (f : Flags) (b : Bool) → Heads (after_statement (placed b f)) (plain no_link)
 unlinked f b = λ l cs vs y d. ((and_parts _ _ d.0).0, refl)
 
-still_unlinked : Heads (plain no_link) (plain no_link)
+pub still_unlinked : Heads (plain no_link) (plain no_link)
 still_unlinked = λ l cs vs y d. (d.0, refl)
 
 -- ---- what nothing goes on with, up to its semicolon
@@ -137,7 +138,7 @@ module _ {text : List ℕ} {f : Flags} {p : Parser} (a : At text f p) (h : Stand
         let made : MadeHere (label_here debugger_statement no_op p r) [] r w id = subst (λ (v : Label). MadeHere v [] r w id) l n in
         let z = ended_so m.at e in
         let ks : Keeps p.nodes r.nodes = subst (λ (ns : List Node). Keeps p.nodes ns) (sym (z.nodes ∙ m.nodes)) (Keeps-refl p.nodes) in
-        by_statement (alone_path debugger_alone b (plain no_link) (unlinked f b) still_unlinked (debugger_path e)) (same_both m.same z.same) made.stays (leaf_held made ks) (Keeps-trans ks (Keeps-made made.made)) refl (one_lies made)
+        by_statement (alone_path debugger_alone b (plain no_link) (unlinked f b) still_unlinked (debugger_path e)) (never_open (label_here debugger_statement no_op p r) end refl) (same_both m.same z.same) made.stays (leaf_held made ks) (Keeps-trans ks (Keeps-made made.made)) refl (one_lies made)
 
 -- ---- break and continue
 
@@ -153,15 +154,16 @@ record Jump (text : List ℕ) (f : Flags) (p : Parser) (k : NodeKind) : Type 0 w
   is_here : p.token.kind ≡ word
   is_plain : p.token.escaped ≡ false
   is_read : one_of_kinds read_kinds word ≡ true
+  shut : ends_in_sub (kind_of k) ≡ false
 
 jump_of : {text : List ℕ} {f : Flags} {p : Parser} {k : NodeKind} → At text f p → JumpsHere k p → Jump text f p k
 unfolding rule rule_of covers
-jump_of {text} {f} {p} a (inl (e, h)) = subst (λ (v : NodeKind). Jump text f p v) (sym e) (record { name = Break; word = kind.Break; line = refl; alone = record { listed = λ b X. listed b; alone = λ X. at_kind a kind.Break h.0 refl }; is_here = h.0; is_plain = h.1; is_read = refl })
+jump_of {text} {f} {p} a (inl (e, h)) = subst (λ (v : NodeKind). Jump text f p v) (sym e) (record { name = Break; word = kind.Break; line = refl; alone = record { listed = λ b X. listed b; alone = λ X. at_kind a kind.Break h.0 refl }; is_here = h.0; is_plain = h.1; is_read = refl; shut = refl })
   where
     listed : {X : Test} (b : Bool) → Goes rule (Lex text) X end (rule (placed b f)) p.prev_token_end (symbol AStatement f) p.prev_token_end (λ us. us) (still 0)
     listed true = at_kind a kind.Break h.0 refl
     listed false = at_kind a kind.Break h.0 refl
-jump_of {text} {f} {p} a (inr (e, h)) = subst (λ (v : NodeKind). Jump text f p v) (sym e) (record { name = Continue; word = kind.Continue; line = refl; alone = record { listed = λ b X. listed b; alone = λ X. at_kind a kind.Continue h.0 refl }; is_here = h.0; is_plain = h.1; is_read = refl })
+jump_of {text} {f} {p} a (inr (e, h)) = subst (λ (v : NodeKind). Jump text f p v) (sym e) (record { name = Continue; word = kind.Continue; line = refl; alone = record { listed = λ b X. listed b; alone = λ X. at_kind a kind.Continue h.0 refl }; is_here = h.0; is_plain = h.1; is_read = refl; shut = refl })
   where
     listed : {X : Test} (b : Bool) → Goes rule (Lex text) X end (rule (placed b f)) p.prev_token_end (symbol AStatement f) p.prev_token_end (λ us. us) (still 0)
     listed true = at_kind a kind.Continue h.0 refl
@@ -283,7 +285,7 @@ module _ {text : List ℕ} {f : Flags} {p : Parser} {k : NodeKind} (a : At text 
         let z = ended_so jump_at e in
         let ks : Keeps p.nodes v.nodes = subst (λ (ns : List Node). Keeps p.nodes ns) (sym z.nodes) jumped.keeps in
         let hs : HoldsAll v.nodes (length p.nodes) (length v.nodes) (label ∷ []) (jumped.slots end) = subst (λ (ns : List Node). HoldsAll ns (length p.nodes) (length ns) (label ∷ []) (jumped.slots end)) (sym z.nodes) jumped.held in
-        by_statement (alone_path jump.alone b (plain no_link) (unlinked f b) still_unlinked (jump_path e)) (same_both jumped.same z.same) made.stays (node_held made hs) (Keeps-trans ks (Keeps-made made.made)) refl (one_lies made)
+        by_statement (alone_path jump.alone b (plain no_link) (unlinked f b) still_unlinked (jump_path e)) (never_open (label_here (kind_of k) no_op p v) (jumped.slots end) jump.shut) (same_both jumped.same z.same) made.stays (node_held made hs) (Keeps-trans ks (Keeps-made made.made)) refl (one_lies made)
 
 -- no label is read
 pub jump_stops : {text : List ℕ} {f : Flags} {p q : Parser} {k : NodeKind} (b : Bool) (r : Parser) (e : Stop) → At text f p → JumpsHere k p → Moved text f p q → TakesLabel q r (Err e) → Stops p r e (NoStatement text (placed b f) p.prev_token_end)
@@ -413,7 +415,7 @@ module _ {text : List ℕ} {f : Flags} {p q r : Parser} {word : Span} (a : At te
         let kt : Keeps p.nodes t.nodes = subst (λ (ns : List Node). Keeps ns t.nodes) throw_nodes x.keeps in
         let ks : Keeps p.nodes v.nodes = subst (λ (ns : List Node). Keeps p.nodes ns) (sym z.nodes) kt in
         let ht : Holds t.nodes (length p.nodes) (length t.nodes) operand.0 x.answer.label x.answer.slots = subst (λ (ns : List Node). Holds t.nodes (length ns) (length t.nodes) operand.0 x.answer.label x.answer.slots) throw_nodes x.holds in
-        by_such_statement (throw_path b i e) (same_both throw_same (same_both x.answer.same z.same)) made.stays
+        by_such_statement (throw_path b i e) (never_open (label_here throw_statement no_op p v) (tree x.answer.label x.answer.slots end) refl) (same_both throw_same (same_both x.answer.same z.same)) made.stays
         (one_held p.nodes made (subst (λ (ns : List Node). Holds ns (length p.nodes) (length ns) operand.0 x.answer.label x.answer.slots) (sym z.nodes) ht)) (Keeps-trans ks (Keeps-made made.made)) refl (one_lies made)
 
 -- what is told of it has its mark

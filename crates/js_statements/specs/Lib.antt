@@ -1,2 +1,4 @@
+pub mod CompoundStatements
+pub mod DeclarationStatements
 pub mod StatementLists
 pub mod WordStatements

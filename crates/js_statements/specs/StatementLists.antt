@@ -4,7 +4,7 @@ use Rattle.js_base.specs.declared.kind.Kind.TheVariants.{Eof}
 use Rattle.js_base.specs.Kinds.{same_kind}
 use Rattle.js_grammar.specs.Trees.{Label, Slots, end as no_slots, tree, append}
 use Rattle.js_grammar.specs.Grammar.{Lexemes, Look, many}
-use Rattle.js_grammar.specs.Parsing.{Test, plain, Fails}
+use Rattle.js_grammar.specs.Parsing.{plain, Fails}
 use Rattle.js_grammar.specs.Productions.{G, Flags, sym, Item}
 use Rattle.js_grammar.specs.Table.{rule, directives_then}
 use Rattle.js_tree.specs.declared.id.NodeId.{NodeId}

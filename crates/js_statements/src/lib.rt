@@ -1,6 +1,8 @@
 //! Statements and lists of them (ECMA-262, chapter 14 and section 11.2.1).
 #![tactic(auto)]
 
+pub mod compound_statement;
+pub mod declaration_statement;
 pub mod statement;
 pub mod statement_list;
 pub mod word_statement;

@@ -3,13 +3,20 @@
 ghost use Rattle.std.specs.Prelude.{◌≡◌, ◌≤◌, ◌&&◌, ◌↔◌, IsTrue, true, false, MatchResult};
 ghost use Rattle.js_base.specs.Kinds.{one_of_kinds};
 ghost use Rattle.js_base.specs.Contexts.{has_flag, in_flag};
-ghost use Rattle.js_base.specs.declared.kind.Kind.TheVariants.{Colon, Semicolon};
+ghost use Rattle.js_base.specs.declared.kind.Kind.TheVariants.{Colon, Const, Semicolon};
 ghost use Rattle.js_grammar.specs.Productions.{at, ListItem, Sub};
 ghost use Rattle.js_parsing.specs.Answers.{Stops};
 ghost use Rattle.js_parsing.specs.Nesting.{CanNest, room};
+ghost use Rattle.js_parsing.specs.Stands.{StandsHere};
 ghost use Rattle.js_parsing.specs.States.{Standing};
 ghost use Rattle.js_parsing.specs.Statements.{EndsStatement, IsLabel, LabelsStatement, NoEnd, TakesAnywhere, TakesStatement, link_kinds, statement_kinds};
 
+use crate::compound_statement::{
+    parse_do_while_statement, parse_if_statement, parse_while_statement, parse_with_statement,
+};
+use crate::declaration_statement::{
+    parse_const_body, parse_const_declaration, parse_variable_statement,
+};
 use crate::word_statement::{
     parse_break_statement, parse_continue_statement, parse_debugger_statement,
     parse_throw_statement,
@@ -19,12 +26,12 @@ use js_cursor::{ParserImpl, Stop};
 use js_expressions::sequence::parse_sequence_expression;
 use js_lex::ParserConfig;
 use js_operands::primary::parse_leaf;
-use js_parsing::lexemes::advance;
+use js_parsing::lexemes::{advance, stands};
 use js_parsing::nested::Nested;
 use js_parsing::nodes::{make_leaf, make_one, make_two};
 use js_tree::{NodeId, NodeKind, Op};
 
-/// A StatementListItem (ECMA-262, section 14.2), as far as it is a Statement.
+/// A StatementListItem (ECMA-262, section 14.2), as far as it is a Statement or a declaration of constants.
 pub fn parse_statement_list_item<C: ParserConfig, N: Nested<C>>(
     p: &mut ParserImpl<'_, C>,
     nested: &N,
@@ -34,6 +41,9 @@ pub fn parse_statement_list_item<C: ParserConfig, N: Nested<C>>(
     requires allows_in { has_flag in_flag p.old.ctx ≡ true }
     ensures { TakesStatement (at ListItem) p.old p.new result }
 {
+    if stands(p, Kind::Const) {
+        return parse_const_declaration(p, nested);
+    }
     parse_any_statement(p, nested)
 }
 
@@ -47,6 +57,9 @@ pub fn parse_statement<C: ParserConfig, N: Nested<C>>(
     requires allows_in { has_flag in_flag p.old.ctx ≡ true }
     ensures { TakesStatement (at Sub) p.old p.new result }
 {
+    if stands(p, Kind::Const) {
+        return parse_const_body(p, nested);
+    }
     parse_any_statement(p, nested)
 }
 
@@ -59,6 +72,7 @@ fn parse_any_statement<C: ParserConfig, N: Nested<C>>(
     requires at { Standing p.old }
     requires nests { CanNest (N.can nested.now) (room p.old) }
     requires allows_in { has_flag in_flag p.old.ctx ≡ true }
+    requires other { StandsHere p.old Const false }
     ensures { TakesAnywhere p.old p.new result }
 {
     if p.cur_token().escaped() {
@@ -66,10 +80,15 @@ fn parse_any_statement<C: ParserConfig, N: Nested<C>>(
     }
     match p.cur_kind() {
         Kind::Semicolon => parse_empty_statement(p),
+        Kind::If => parse_if_statement(p, nested),
+        Kind::Do => parse_do_while_statement(p, nested),
+        Kind::While => parse_while_statement(p, nested),
+        Kind::With => parse_with_statement(p, nested),
         Kind::Break => parse_break_statement(p),
         Kind::Continue => parse_continue_statement(p),
         Kind::Throw => parse_throw_statement(p, nested),
         Kind::Debugger => parse_debugger_statement(p),
+        Kind::Var => parse_variable_statement(p, nested),
         _ => parse_expression_or_labeled_statement(p, nested),
     }
 }

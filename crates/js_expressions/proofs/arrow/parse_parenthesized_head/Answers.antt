@@ -1,5 +1,3 @@
-use Rattle.std.proofs.Common.{sym, subst}
-use Rattle.std.specs.Prelude.{IsCharBoundary}
 use Rattle.js_parsing.proofs.Moving.{standing}
 use Rattle.js_expressions.proofs.Arrows.{head_read, head_refused, head_so, head_unread, start_between}
 use Rattle.js_expressions.proofs.arrow.parse_parenthesized_head.Goals as goal

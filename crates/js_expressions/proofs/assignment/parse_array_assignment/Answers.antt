@@ -1,10 +1,6 @@
-use Rattle.std.proofs.Common.{◌≡◌, ◌≤◌, false, sym, ap, subst, arith, ◌∙◌}
+use Rattle.std.proofs.Common.{ap, arith, ◌∙◌}
 use Rattle.std.proofs.lemmas.Result.{err_from_is_err_and}
-use Rattle.js_base.specs.declared.kind.Kind.{Kind}
-use Rattle.js_base.specs.declared.kind.Kind.TheVariants.{Eq}
-use Rattle.js_base.specs.Kinds.{same_kind}
 use Rattle.js_cursor.specs.Moves.{is_last}
-use Rattle.js_cursor.specs.declared.stop.Stop.{Stop}
 use Rattle.js_expressions.proofs.ArraysAssigned.{array_assigned, array_stops, no_equals, once_at, once_cut, once_kind, once_place, once_room}
 use Rattle.js_targets.proofs.Assigned.{assign_some_at, assigns}
 use Rattle.js_expressions.proofs.Assignments.{row_assign}

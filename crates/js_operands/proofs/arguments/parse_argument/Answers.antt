@@ -1,4 +1,4 @@
-use Rattle.std.proofs.Common.{Bool, true, false, sym, subst}
+use Rattle.std.proofs.Common.{Bool, sym, subst}
 use Rattle.js_base.specs.declared.kind.Kind.TheVariants.{Dot3}
 use Rattle.js_parsing.specs.Arguments.{TakesItem}
 use Rattle.js_operands.proofs.Members.{stands_so}

@@ -1,4 +1,4 @@
-use Rattle.std.proofs.Common.{◌≡◌, ◌+◌, ◌≤◌, Bool, true, false, Ok, refl, arith, subst}
+use Rattle.std.proofs.Common.{◌≡◌, Bool, Ok, refl, arith, subst}
 use Rattle.std.proofs.lemmas.Result.{err_from_is_err_and}
 use Rattle.js_parsing.specs.Arguments.{FindsDue}
 use Rattle.js_operands.proofs.ArgumentLists.{closing_moved, closing_stops, due_found, item_less, item_stops, loop_item, loop_start, part_due, part_end, rest_stops}

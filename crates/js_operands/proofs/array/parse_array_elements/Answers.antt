@@ -1,6 +1,5 @@
-use Rattle.std.proofs.Common.{◌≡◌, ◌≤◌, arith}
+use Rattle.std.proofs.Common.{◌≡◌, arith}
 use Rattle.std.proofs.lemmas.Result.{err_from_is_err_and}
-use Rattle.js_base.specs.declared.kind.Kind.TheVariants.{RBrack}
 use Rattle.js_operands.proofs.Arrays.{element_less, loop_element, loop_end, loop_start, loop_stops}
 use Rattle.js_parsing.proofs.Nesting.{nests_later}
 use Rattle.js_operands.proofs.array.parse_array_elements.Goals as goal

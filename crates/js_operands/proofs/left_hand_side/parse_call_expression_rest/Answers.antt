@@ -1,8 +1,7 @@
-use Rattle.std.proofs.Common.{◌∙◌, true, false}
-use Rattle.js_base.specs.declared.kind.Kind.TheVariants.{LParen, QuestionDot}
+use Rattle.js_base.specs.declared.kind.Kind.TheVariants.{LParen}
 use Rattle.std.proofs.lemmas.Result.{err_from_is_err_and}
 use Rattle.js_operands.specs.declared.left_hand_side.LinkBase.TheVariants as base
-use Rattle.js_operands.proofs.Members.{any_here, call_closed, call_first, call_first_stops, call_linked, call_stops, head_closed, here_so, link_less, next_loop, paren_here, stands_so, start_loop}
+use Rattle.js_operands.proofs.Members.{call_closed, call_first, call_first_stops, call_linked, call_sign, call_stops, head_closed, here_so, link_less, next_loop, stands_so, start_loop}
 use Rattle.js_parsing.proofs.Nesting.{nests_later}
 use Rattle.js_operands.proofs.left_hand_side.parse_call_expression_rest.Goals as goal
 
@@ -10,7 +9,7 @@ pub returns-then-not-stands : goal.returns-then-not-stands
 returns-then-not-stands t c = λ text f o a e x n. head_closed x n (stands_so c.args.p.now LParen c.if-not-stands.true c.stands.ensures)
 
 pub parse_link-requires-clause-link : goal.parse_link-requires-clause-link
-parse_link-requires-clause-link t c = paren_here (stands_so c.args.p.now LParen c.if-not-stands.false c.stands.ensures)
+parse_link-requires-clause-link t c = call_sign (stands_so c.args.p.now LParen c.if-not-stands.false c.stands.ensures)
 
 pub returns-in_err-left : goal.returns-in_err-left
 returns-in_err-left t c = λ text f o a e x n.
@@ -30,7 +29,7 @@ pub parse_link-requires-in-links-clause-start : goal.parse_link-requires-in-link
 parse_link-requires-in-links-clause-start t c = c.links.invariant.before
 
 pub parse_link-requires-in-links-clause-link : goal.parse_link-requires-in-links-clause-link
-parse_link-requires-in-links-clause-link t c = any_here (here_so c.links.p base.Call c.links-test.true c.link_here.ensures)
+parse_link-requires-in-links-clause-link t c = here_so c.links.p base.Call c.links-test.true c.link_here.ensures
 
 pub returns-in_err-left-2 : goal.returns-in_err-left-2
 returns-in_err-left-2 t c = λ text f o a e x n.

@@ -1,4 +1,4 @@
-use Rattle.js_base.specs.declared.kind.Kind.TheVariants.{LParen, LBrack, QuestionDot}
+use Rattle.js_base.specs.declared.kind.Kind.TheVariants.{LParen, LBrack}
 use Rattle.js_operands.proofs.Members.{call_outcome, dot_left, index_outcome, stands_so}
 use Rattle.js_operands.proofs.left_hand_side.parse_link.Goals as goal
 
@@ -14,8 +14,5 @@ parse_with_index-requires-clause-open t c = (stands_so c.args.p.now LBrack c.if-
 pub returns-then-stands-2 : goal.returns-then-stands-2
 returns-then-stands-2 t c = λ text f a. index_outcome _ _ _ c.parse_with_index.result a (stands_so c.args.p.now LBrack c.if-stands-2.true c.stands-2.ensures) c.parse_with_index.ensures
 
-pub parse_optional_link-requires-clause-sign : goal.parse_optional_link-requires-clause-sign
-parse_optional_link-requires-clause-sign t c = stands_so c.args.p.now QuestionDot c.if-stands-3.true c.stands-3.ensures
-
 pub parse_named_link-requires-clause-sign : goal.parse_named_link-requires-clause-sign
-parse_named_link-requires-clause-sign t c = dot_left c.requires.link (stands_so c.args.p.now LParen c.if-stands.false c.stands.ensures) (stands_so c.args.p.now LBrack c.if-stands-2.false c.stands-2.ensures) (stands_so c.args.p.now QuestionDot c.if-stands-3.false c.stands-3.ensures)
+parse_named_link-requires-clause-sign t c = dot_left c.requires.link (stands_so c.args.p.now LParen c.if-stands.false c.stands.ensures) (stands_so c.args.p.now LBrack c.if-stands-2.false c.stands-2.ensures)

@@ -1,6 +1,6 @@
 use Rattle.js_operands.specs.declared.left_hand_side.LinkBase.TheVariants.{Member}
 use Rattle.std.proofs.lemmas.Result.{err_from_is_err_and}
-use Rattle.js_operands.proofs.Members.{any_here, first_loop, here_so, link_less, member_closed, member_linked, member_stops, next_loop}
+use Rattle.js_operands.proofs.Members.{first_loop, here_so, link_less, member_closed, member_linked, member_stops, member_too, next_loop}
 use Rattle.js_parsing.proofs.Nesting.{nests_later}
 use Rattle.js_operands.proofs.left_hand_side.parse_member_expression_rest.Goals as goal
 
@@ -17,7 +17,7 @@ pub parse_link-requires-clause-start : goal.parse_link-requires-clause-start
 parse_link-requires-clause-start t c = c.links.invariant.before
 
 pub parse_link-requires-clause-link : goal.parse_link-requires-clause-link
-parse_link-requires-clause-link t c = any_here (here_so c.links.p Member c.links-test.true c.link_here.ensures)
+parse_link-requires-clause-link t c = member_too (here_so c.links.p Member c.links-test.true c.link_here.ensures)
 
 pub returns-in_err-left : goal.returns-in_err-left
 returns-in_err-left t c = λ text f o e x.

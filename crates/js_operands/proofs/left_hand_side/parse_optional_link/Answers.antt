@@ -1,7 +1,7 @@
-use Rattle.std.proofs.Common.{arith, ap, sym, ◌∙◌, subst, refl}
+use Rattle.std.proofs.Common.{arith, ap, inl, sym, ◌∙◌, subst, refl}
 use Rattle.std.proofs.lemmas.Result.{err_from_is_err_and}
 use Rattle.js_base.specs.declared.kind.Kind.TheVariants.{LBrack, LParen, RAngle}
-use Rattle.js_base.specs.Kinds.{same_kind}
+use Rattle.js_base.specs.Kinds.{one_of_kinds, same_kind}
 use Rattle.js_cursor.specs.Moves.{is_last}
 use Rattle.js_base.specs.declared.token.Token.{Token}
 use Rattle.js_parsing.specs.Lexemes.{read_word}
@@ -9,7 +9,8 @@ use Rattle.js_parsing.proofs.Giving.{gives_up}
 use Rattle.js_parsing.proofs.Here.{uncut}
 use Rattle.js_parsing.proofs.Moving.{standing}
 use Rattle.js_parsing.proofs.Nesting.{nested_room, nests_later}
-use Rattle.js_operands.proofs.Members.{link_marked, no_name, no_optional_name, optional_name, optional_outcome, stands_so, optional_index_outcome}
+use Rattle.js_operands.proofs.Members.{link_is, link_marked, no_name, no_optional_name, optional_name, optional_outcome, optional_tagged, stands_so, optional_index_outcome}
+use Rattle.js_operands.specs.Templates.{heads}
 use Rattle.js_operands.proofs.left_hand_side.parse_optional_link.Goals as goal
 use Rattle.js_parsing.specs.Classes.{EndsParse}
 
@@ -29,7 +30,7 @@ pub parse_with_arguments-requires-clause-open : goal.parse_with_arguments-requir
 parse_with_arguments-requires-clause-open t c = (stands_so c.advance.new.p LParen c.if-stands.true c.stands.ensures).0
 
 pub returns-then-stands : goal.returns-then-stands
-returns-then-stands t c = λ text f a. optional_outcome _ _ _ c.parse_with_arguments.result a c.requires.sign (c.in_ok-advance.ensures text f a) (stands_so c.advance.new.p LParen c.if-stands.true c.stands.ensures) c.parse_with_arguments.ensures
+returns-then-stands t c = λ text f a. link_is text f _ _ _ _ c.parse_with_arguments.result (optional_outcome _ _ _ c.parse_with_arguments.result a c.requires.sign (c.in_ok-advance.ensures text f a) (stands_so c.advance.new.p LParen c.if-stands.true c.stands.ensures) c.parse_with_arguments.ensures)
 
 pub parse_with_index-requires-clause-at : goal.parse_with_index-requires-clause-at
 parse_with_index-requires-clause-at t c = standing (c.in_ok-advance.ensures _ _ c.requires.at).at
@@ -44,7 +45,24 @@ pub parse_with_index-requires-clause-open : goal.parse_with_index-requires-claus
 parse_with_index-requires-clause-open t c = (stands_so c.advance.new.p LBrack c.if-stands-2.true c.stands-2.ensures).0
 
 pub returns-then-stands-2 : goal.returns-then-stands-2
-returns-then-stands-2 t c = λ text f a. optional_index_outcome _ _ _ c.parse_with_index.result a c.requires.sign (c.in_ok-advance.ensures text f a) (stands_so c.advance.new.p LBrack c.if-stands-2.true c.stands-2.ensures) c.parse_with_index.ensures
+returns-then-stands-2 t c = λ text f a. link_is text f _ _ _ _ c.parse_with_index.result (optional_index_outcome _ _ _ c.parse_with_index.result a c.requires.sign (c.in_ok-advance.ensures text f a) (stands_so c.advance.new.p LBrack c.if-stands-2.true c.stands-2.ensures) c.parse_with_index.ensures)
+
+pub parse_chained_template-requires-clause-at : goal.parse_chained_template-requires-clause-at
+parse_chained_template-requires-clause-at t c = standing (c.in_ok-advance.ensures _ _ c.requires.at).at
+
+pub parse_chained_template-requires-clause-nests : goal.parse_chained_template-requires-clause-nests
+parse_chained_template-requires-clause-nests t c = nests_later c.requires.nests (let r = nested_room c.requires.at (c.in_ok-advance.ensures _ _ c.requires.at) in omega arith)
+
+pub parse_chained_template-requires-clause-start : goal.parse_chained_template-requires-clause-start
+parse_chained_template-requires-clause-start t c = let m = (c.in_ok-advance.ensures _ _ c.requires.at).further in let b = c.requires.at.behind in let s = c.requires.start in omega arith
+
+pub parse_chained_template-requires-clause-template : goal.parse_chained_template-requires-clause-template
+parse_chained_template-requires-clause-template t c = ap (one_of_kinds heads) (sym c.cur_kind.ensures) ∙ (sym c.begins_template.ensures ∙ c.if-begins_template.true)
+
+pub returns-then-begins_template : goal.returns-then-begins_template
+returns-then-begins_template t c = λ text f a.
+    let m = c.in_ok-advance.ensures text f a in
+    optional_tagged a c.requires.sign m (ap (one_of_kinds heads) (sym c.cur_kind.ensures) ∙ (sym c.begins_template.ensures ∙ c.if-begins_template.true)) _ _ _ c.parse_chained_template.result (c.parse_chained_template.ensures.read text f m.at)
 
 pub parse_identifier_name-requires : goal.parse_identifier_name-requires
 parse_identifier_name-requires t c = standing (c.in_ok-advance.ensures _ _ c.requires.at).at
@@ -66,7 +84,7 @@ make_member-requires t c = record {
 pub returns : goal.returns
 returns t c = λ text f a.
     let m = c.in_ok-advance.ensures text f a in
-    optional_name a c.requires.sign m (stands_so c.advance.new.p LParen c.if-stands.false c.stands.ensures) (stands_so c.advance.new.p LBrack c.if-stands-2.false c.stands-2.ensures) (c.in_ok-name.ensures text f m.at) c.in_ok-node.ensures
+    inl (optional_name a c.requires.sign m (stands_so c.advance.new.p LParen c.if-stands.false c.stands.ensures) (stands_so c.advance.new.p LBrack c.if-stands-2.false c.stands-2.ensures) (c.in_ok-name.ensures text f m.at) c.in_ok-node.ensures)
 
 pub refuse_optional_link-requires-clause-at : goal.refuse_optional_link-requires-clause-at
 refuse_optional_link-requires-clause-at t c = standing (c.in_ok-advance.ensures _ _ c.requires.at).at
@@ -77,4 +95,4 @@ refuse_optional_link-requires-clause-mark t c = link_marked _ c.requires.at c.re
 pub returns-then-lacks_link : goal.returns-then-lacks_link
 returns-then-lacks_link t c = λ text f a.
     let m = c.in_ok-advance.ensures text f a in
-    no_optional_name a c.requires.sign m (stands_so c.advance.new.p LParen c.if-stands.false c.stands.ensures) (stands_so c.advance.new.p LBrack c.if-stands-2.false c.stands-2.ensures) _ c.refuse_optional_link.result (gives_up _ _ _ c.refuse_optional_link.result m.at c.refuse_optional_link.ensures (λ d u. subst EndsParse (sym u) refl) (no_name m.at (ap read_word (sym c.cur_kind.ensures) ∙ c.lacks_link.ensures c.if-lacks_link.true)))
+    no_optional_name a c.requires.sign m (stands_so c.advance.new.p LParen c.if-stands.false c.stands.ensures) (stands_so c.advance.new.p LBrack c.if-stands-2.false c.stands-2.ensures) _ c.refuse_optional_link.result (gives_up _ _ _ c.refuse_optional_link.result m.at c.refuse_optional_link.ensures (λ d u. subst EndsParse (sym u) refl) (no_name m.at (ap read_word (sym c.cur_kind-2.ensures) ∙ c.lacks_link.ensures c.if-lacks_link.true)))

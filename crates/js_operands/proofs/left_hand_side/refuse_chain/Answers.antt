@@ -1,10 +1,18 @@
-use Rattle.std.proofs.Common.{◌≡◌, refl}
+use Rattle.std.proofs.Common.{◌≡◌, refl, subst, sym}
+use Rattle.js_base.specs.declared.diagnostic.Diagnostic.{Diagnostic}
 use Rattle.js_base.specs.declared.diagnostic.DiagnosticKind.TheVariants.{InvalidNewOptionalChain}
+use Rattle.js_grammar.specs.Marks.{Mark}
+use Rattle.js_cursor.specs.Moves.{GivesUp}
+use Rattle.js_cursor.specs.Places.{goal as goal_of}
 use Rattle.js_operands.proofs.Members.{chain_told, sign_marked}
 use Rattle.js_operands.proofs.left_hand_side.refuse_chain.Goals as goal
 
 pub set_fatal_error-requires-clause-mark : goal.set_fatal_error-requires-clause-mark
-set_fatal_error-requires-clause-mark g c = sign_marked InvalidNewOptionalChain _ (λ s x. (x, (refl, refl))) c.requires.at c.requires.sign (let e : c.span.result ≡ c.args.p.now.token.span = search in e)
+set_fatal_error-requires-clause-mark g c =
+    subst (λ (d : Diagnostic). Mark (goal_of c.args.p.now) c.args.p.now.text d) (sym c.diagnostic_at.ensures)
+    (sign_marked InvalidNewOptionalChain _ (λ s x. (x, (refl, refl))) c.requires.at c.requires.sign (let e : c.span-sign.result ≡ c.args.p.now.token.span = search in e))
 
 pub returns : goal.returns
-returns g c = chain_told _ _ c.set_fatal_error.result (let e : c.span.result ≡ c.args.p.now.token.span = search in e) c.set_fatal_error.ensures
+returns g c =
+    chain_told _ _ c.set_fatal_error.result (let e : c.span-sign.result ≡ c.args.p.now.token.span = search in e)
+    (subst (λ (e : Diagnostic). GivesUp (λ d. d ≡ e) c.args.p.now c.set_fatal_error.new.self c.set_fatal_error.result) c.diagnostic_at.ensures c.set_fatal_error.ensures)

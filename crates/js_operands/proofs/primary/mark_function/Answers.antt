@@ -1,4 +1,4 @@
-use Rattle.std.proofs.Common.{◌≡◌, ap, ◌∙◌}
+use Rattle.std.proofs.Common.{ap, ◌∙◌}
 use Rattle.js_tree.specs.declared.kind.NodeKind.{NodeKind}
 use Rattle.js_tree.specs.declared.flags.NodeFlags.{NodeFlags}
 use Rattle.js_tree.specs.Nodes.{flags_set}

@@ -1,4 +1,3 @@
-use Rattle.std.proofs.Common.{sym}
 use Rattle.js_operands.proofs.Operands.{number_outcome}
 use Rattle.js_operands.proofs.primary.parse_number.Goals as goal
 

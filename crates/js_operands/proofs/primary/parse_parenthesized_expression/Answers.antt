@@ -1,4 +1,4 @@
-use Rattle.std.proofs.Common.{◌≡◌, ◌∙◌, refl, sym, ap, subst, arith}
+use Rattle.std.proofs.Common.{◌∙◌, sym, ap, subst, arith}
 use Rattle.std.proofs.lemmas.Result.{err_from_is_err_and}
 use Rattle.js_base.specs.declared.span.Span.{Span}
 use Rattle.js_base.specs.declared.token.Token.{Token}
@@ -6,7 +6,6 @@ use Rattle.js_base.specs.declared.kind.Kind.TheVariants.{LParen, LBrack, LCurly,
 use Rattle.js_base.specs.Kinds.{one_of_kinds}
 use Rattle.std.specs.Prelude.{◌∷◌, []}
 use Rattle.js_cursor.specs.Moves.{Opened}
-use Rattle.js_grammar.specs.Productions.{at, plus_in, Expression}
 use Rattle.js_parsing.proofs.Bracketed.{opened_here, opened_later}
 use Rattle.js_parsing.proofs.Moving.{standing, stops_behind, same_both}
 use Rattle.js_parsing.proofs.Nesting.{nested_room, nests_later}

@@ -11,11 +11,11 @@ use Rattle.js_patterns.proofs.binding.parse_binding_rest.Goals as goal
 pub advance-requires-clause-whole : goal.advance-requires-clause-whole
 advance-requires-clause-whole g c = whole_sign Dot3 c.requires.at c.requires.sign refl refl
 
-pub parse_nested_binding-requires-clause-at : goal.parse_nested_binding-requires-clause-at
-parse_nested_binding-requires-clause-at g c = standing (c.in_ok-advance.ensures _ _ c.requires.at).at
+pub parse_rest_argument-requires-clause-at : goal.parse_rest_argument-requires-clause-at
+parse_rest_argument-requires-clause-at g c = standing (c.in_ok-advance.ensures _ _ c.requires.at).at
 
-pub parse_nested_binding-requires-clause-nests : goal.parse_nested_binding-requires-clause-nests
-parse_nested_binding-requires-clause-nests g c = nests_later c.requires.nests (let r = nested_room c.requires.at (c.in_ok-advance.ensures _ _ c.requires.at) in omega arith)
+pub parse_rest_argument-requires-clause-nests : goal.parse_rest_argument-requires-clause-nests
+parse_rest_argument-requires-clause-nests g c = nests_later c.requires.nests (let r = nested_room c.requires.at (c.in_ok-advance.ensures _ _ c.requires.at) in omega arith)
 
 pub returns-in_err-binding : goal.returns-in_err-binding
 returns-in_err-binding g c = λ text f a.
@@ -26,7 +26,7 @@ returns-in_err-binding g c = λ text f a.
 pub end_span-span-requires : goal.end_span-span-requires
 end_span-span-requires g c =
     let m = c.in_ok-advance.ensures _ _ c.requires.at in
-    let x = (c.in_ok-binding.ensures _ _ m.at).answer in
+    let x = c.in_ok-binding.ensures _ _ m.at in
     let i = m.further in let j = m.at.behind in let k = x.further in let s = c.cur_start-start.ensures in omega arith
 
 pub returns : goal.returns

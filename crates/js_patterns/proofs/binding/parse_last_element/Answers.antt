@@ -15,14 +15,14 @@ returns-in_err-rest g c =
     rw (p.1, p.2) (λ text f a. rest_stops a c.requires.sign _ _ (c.in_err-rest.ensures text f a))
 
 pub end_span-span-requires : goal.end_span-span-requires
-end_span-span-requires g c = let x = (c.in_ok-rest.ensures _ _ c.requires.at).answer.further in let s = c.cur_start-start.ensures in omega arith
+end_span-span-requires g c = let x = (c.in_ok-rest.ensures _ _ c.requires.at).further in let s = c.cur_start-start.ensures in omega arith
 
 pub check_behind_rest-requires-clause-at : goal.check_behind_rest-requires-clause-at
-check_behind_rest-requires-clause-at g c = standing (c.in_ok-rest.ensures _ _ c.requires.at).answer.at
+check_behind_rest-requires-clause-at g c = standing (c.in_ok-rest.ensures _ _ c.requires.at).at
 
 pub check_behind_rest-requires-clause-mark : goal.check_behind_rest-requires-clause-mark
 check_behind_rest-requires-clause-mark g c =
-    let x = (c.in_ok-rest.ensures _ _ c.requires.at).answer in
+    let x = c.in_ok-rest.ensures _ _ c.requires.at in
     rest_marked BindingRestElementLast _ c.diagnostic_at-misplaced.ensures (λ s y. (y, (refl, refl))) c.requires.at c.requires.sign x.at x.same x.further (c.end_span-span.ensures.start ∙ c.cur_start-start.ensures) c.end_span-span.ensures.end
 
 pub check_behind_rest-requires-clause-ends : goal.check_behind_rest-requires-clause-ends

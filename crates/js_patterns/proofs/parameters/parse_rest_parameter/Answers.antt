@@ -10,7 +10,7 @@ returns-in_err-rest g c = λ text f a.
     rw (p.1, p.2) (stops_so _ _ _ (λ n. no_rest_parameter f n) (c.in_err-rest.ensures text f a))
 
 pub end_span-span-requires : goal.end_span-span-requires
-end_span-span-requires g c = let x = (c.in_ok-rest.ensures _ _ c.requires.at).answer.further in let s = c.cur_start-start.ensures in omega arith
+end_span-span-requires g c = let x = (c.in_ok-rest.ensures _ _ c.requires.at).further in let s = c.cur_start-start.ensures in omega arith
 
 pub returns : goal.returns
 returns g c = λ text f a. rest_parameter _ a (c.in_ok-rest.ensures text f a) (c.end_span-span.ensures.start ∙ c.cur_start-start.ensures) c.end_span-span.ensures.end c.in_ok-node.ensures

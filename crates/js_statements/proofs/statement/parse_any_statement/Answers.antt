@@ -6,6 +6,18 @@ use Rattle.js_statements.proofs.statement.parse_any_statement.Goals as goal
 pub returns-then-escaped : goal.returns-then-escaped
 returns-then-escaped g c = λ b text f a. gives_up_here _ _ c.set_unexpected.result a c.set_unexpected.ensures (fails_escaped a (let e : c.args.p.now.token.escaped ≡ true = search in e))
 
+pub parse_if_statement-requires-clause-word : goal.parse_if_statement-requires-clause-word
+parse_if_statement-requires-clause-word g c = (sym c.cur_kind.ensures ∙ c.in-If.is, (let e : c.args.p.now.token.escaped ≡ false = search in e))
+
+pub parse_do_while_statement-requires-clause-word : goal.parse_do_while_statement-requires-clause-word
+parse_do_while_statement-requires-clause-word g c = (sym c.cur_kind.ensures ∙ c.in-Do.is, (let e : c.args.p.now.token.escaped ≡ false = search in e))
+
+pub parse_while_statement-requires-clause-word : goal.parse_while_statement-requires-clause-word
+parse_while_statement-requires-clause-word g c = (sym c.cur_kind.ensures ∙ c.in-While.is, (let e : c.args.p.now.token.escaped ≡ false = search in e))
+
+pub parse_with_statement-requires-clause-word : goal.parse_with_statement-requires-clause-word
+parse_with_statement-requires-clause-word g c = (sym c.cur_kind.ensures ∙ c.in-With.is, (let e : c.args.p.now.token.escaped ≡ false = search in e))
+
 pub parse_break_statement-requires-clause-word : goal.parse_break_statement-requires-clause-word
 parse_break_statement-requires-clause-word g c = (sym c.cur_kind.ensures ∙ c.in-Break.is, (let e : c.args.p.now.token.escaped ≡ false = search in e))
 
@@ -18,5 +30,8 @@ parse_throw_statement-requires-clause-word g c = (sym c.cur_kind.ensures ∙ c.i
 pub parse_debugger_statement-requires-clause-word : goal.parse_debugger_statement-requires-clause-word
 parse_debugger_statement-requires-clause-word g c = (sym c.cur_kind.ensures ∙ c.in-Debugger.is, (let e : c.args.p.now.token.escaped ≡ false = search in e))
 
+pub parse_variable_statement-requires-clause-word : goal.parse_variable_statement-requires-clause-word
+parse_variable_statement-requires-clause-word g c = (sym c.cur_kind.ensures ∙ c.in-Var.is, (let e : c.args.p.now.token.escaped ≡ false = search in e))
+
 pub parse_expression_or_labeled_statement-requires-clause-other : goal.parse_expression_or_labeled_statement-requires-clause-other
-parse_expression_or_labeled_statement-requires-clause-other g c = no_own_kind _ (λ e. c.in_default.not-Semicolon (c.cur_kind.ensures ∙ e)) (λ e. c.in_default.not-Break (c.cur_kind.ensures ∙ e)) (λ e. c.in_default.not-Continue (c.cur_kind.ensures ∙ e)) (λ e. c.in_default.not-Throw (c.cur_kind.ensures ∙ e)) (λ e. c.in_default.not-Debugger (c.cur_kind.ensures ∙ e))
+parse_expression_or_labeled_statement-requires-clause-other g c = no_own_kind _ (λ e. c.in_default.not-Semicolon (c.cur_kind.ensures ∙ e)) (λ e. c.in_default.not-If (c.cur_kind.ensures ∙ e)) (λ e. c.in_default.not-Do (c.cur_kind.ensures ∙ e)) (λ e. c.in_default.not-While (c.cur_kind.ensures ∙ e)) (λ e. c.in_default.not-With (c.cur_kind.ensures ∙ e)) (λ e. c.in_default.not-Break (c.cur_kind.ensures ∙ e)) (λ e. c.in_default.not-Continue (c.cur_kind.ensures ∙ e)) (λ e. c.in_default.not-Throw (c.cur_kind.ensures ∙ e)) (λ e. c.in_default.not-Debugger (c.cur_kind.ensures ∙ e)) (λ e. c.in_default.not-Var (c.cur_kind.ensures ∙ e)) (λ e. c.requires.other e (let e : c.args.p.now.token.escaped ≡ false = search in e))

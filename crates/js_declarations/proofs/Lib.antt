@@ -1,0 +1,3 @@
+pub mod DeclaratorLists
+pub mod Declarators
+pub mod SpansMarked

@@ -1,0 +1,10 @@
+use Rattle.js_parsing.specs.Nesting.{room}
+use Rattle.js_declarations.specs.Declarations.{is_constant}
+use Rattle.js_declarations.proofs.DeclaratorLists.{DeclaratorLoop}
+use Rattle.js_declarations.proofs.declaration.parse_declarators.Given as goal
+
+abbrev pub invariant-declarators : goal.invariant-declarators
+invariant-declarators g l = DeclaratorLoop (is_constant l.fn.kind) l.declarators.items l.fn.p l.p
+
+abbrev pub decreases-declarators : goal.decreases-declarators
+decreases-declarators g l = room l.p

@@ -1,0 +1,50 @@
+-- Declarations that begin with `var` or `const` (ECMA-262, 14.3.1, 14.3.2).
+use Rattle.std.specs.Prelude.{ℕ, ◌<◌, ◌≡◌, Bool, true, false, List, length, Result, Ok, Err}
+use Rattle.js_grammar.specs.Trees.{Label, Slots, end as no_slots, tree, variable_declaration}
+use Rattle.js_grammar.specs.Grammar.{Lexemes, nothing, ended}
+use Rattle.js_grammar.specs.Insertion.{by_edge}
+use Rattle.js_grammar.specs.Parsing.{plain, Fails}
+use Rattle.js_grammar.specs.Productions.{G, Flags, op}
+use Rattle.js_grammar.specs.Table.{rule, declarators}
+use Rattle.js_tree.specs.declared.id.NodeId.{NodeId}
+use Rattle.js_tree.specs.declared.op.DeclarationKind.{DeclarationKind}
+use Rattle.js_tree.specs.declared.op.DeclarationKind.TheVariants.{Const, Let, Var}
+use Rattle.js_tree.specs.Holding.{Holds, Keeps}
+use Rattle.js_tree.specs.Labels.{declaration_kind}
+use Rattle.js_cursor.specs.Parsers.{Parser}
+use Rattle.js_cursor.specs.declared.stop.Stop.{Stop}
+use Rattle.js_parsing.specs.Answers.{Verdict, Stretch, Stops}
+use Rattle.js_parsing.specs.Lexemes.{Lex, Walked, spot}
+use Rattle.js_parsing.specs.States.{At, Same}
+use Rattle.js_parsing.specs.Statements.{no_link}
+
+-- those whose word is read
+abbrev pub begins_declaration : DeclarationKind → Bool
+begins_declaration Var = true
+begins_declaration Const = true
+begins_declaration Let = false
+
+-- the right side of its line
+abbrev pub declaration : DeclarationKind → Flags → G
+declaration k f = op variable_declaration (declaration_kind k) (ended by_edge (declarators (declaration_kind k) f))
+
+abbrev pub NoDeclaration : List ℕ → DeclarationKind → Flags → ℕ → Type 0
+NoDeclaration text k f s = Fails rule (Lex text) (plain no_link) no_slots (declaration k f) s
+
+-- It was read up to its semicolon. Clean: whatever is derived from its beginning, and has no link behind it, is this; unclean: nothing is derived.
+pub record Declaration (text : List ℕ) (f : Flags) (k : DeclarationKind) (old new : Parser) (id : NodeId) : Type 0 where
+  pub at : At text f new
+  pub same : Same old new
+  pub further : old.token.span.start < new.prev_token_end
+  pub label : Label
+  pub kind_is : label.kind ≡ variable_declaration
+  pub slots : Slots
+  pub pass : Lexemes → Lexemes
+  pub walked : Walked text (spot old) (spot new) pass
+  pub verdict : Verdict old.errors new.errors (Stretch text (plain no_link) (declaration k f) old.prev_token_end nothing new.prev_token_end (tree label slots) pass) (NoDeclaration text k f old.prev_token_end)
+  pub holds : Holds new.nodes (length old.nodes) (length new.nodes) id.0 label slots
+  pub keeps : Keeps old.nodes new.nodes
+
+abbrev pub ReadsDeclaration : DeclarationKind → Parser → Parser → Result NodeId Stop → Type 0
+ReadsDeclaration k old new (Ok id) = (text : List ℕ) (f : Flags) → At text f old → Declaration text f k old new id
+ReadsDeclaration k old new (Err e) = (text : List ℕ) (f : Flags) → At text f old → Stops old new e (NoDeclaration text k f old.prev_token_end)
