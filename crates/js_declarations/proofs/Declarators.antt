@@ -4,7 +4,7 @@ use Rattle.std.specs.Prelude.{IfOk, IsCharBoundary, Result, Ok, Err}
 use Rattle.std.proofs.lemmas.Bool.{false≢true, and_from, and_parts, or_left, or_right}
 use Rattle.js_base.specs.declared.diagnostic.Diagnostic.{Diagnostic}
 use Rattle.js_base.specs.declared.kind.Kind.{Kind}
-use Rattle.js_base.specs.declared.kind.Kind.TheVariants.{Comma, Eq, Ident, LBrack, PrivateIdentifier, Undetermined}
+use Rattle.js_base.specs.declared.kind.Kind.TheVariants.{Comma, Eq, LBrack, PrivateIdentifier, Undetermined}
 use Rattle.js_base.specs.declared.span.Span.{Span}
 use Rattle.js_base.specs.Kinds.{same_kind, one_of_kinds}
 use Rattle.js_base.specs.Texts.{words}
@@ -36,14 +36,15 @@ use Rattle.js_base.specs.declared.diagnostic.DiagnosticClass.TheVariants.{Early}
 use Rattle.js_base.specs.Diagnostics.{class_of}
 use Rattle.js_cursor.specs.Moves.{Keeps as KeepsOne}
 use Rattle.js_parsing.specs.Answers.{Grown, Verdict, Stretch, Underived, Answer, Numbered, Stops, beside, unclean}
-use Rattle.js_parsing.specs.Lexemes.{Lex, Walked, spot}
+use Rattle.js_parsing.specs.Lexemes.{Lex, Walked, name_kinds, spot}
 use Rattle.js_parsing.specs.Moves.{Moved, MadeHere, plain_label}
-use Rattle.js_parsing.specs.Stands.{StandsHere}
+use Rattle.js_parsing.specs.Stands.{NameHere}
 use Rattle.js_parsing.specs.States.{At, Same, NodesLie}
 use Rattle.js_parsing.specs.Statements.{link_kinds, no_link}
 use Rattle.js_parsing.specs.Told.{unrelated_at}
 use Rattle.js_declarations.specs.Declarations.{One, NoOne, Declarator, EndsDeclarator, ChecksInitialiser, behind_row, ends_row, stops_row, missing}
-use Rattle.js_patterns.proofs.Bindings.{no_binding}
+use Rattle.js_patterns.proofs.Bindings.{no_binding, no_pattern_name}
+use Rattle.js_parsing.proofs.NameKinds.{no_name_here}
 use Rattle.js_parsing.proofs.Giving.{fails_escaped, kept_one}
 use Rattle.js_parsing.proofs.Here.{begins_here, kind_here}
 use Rattle.js_parsing.proofs.MadeNodes.{node_held, two_held, made_lies}
@@ -100,7 +101,7 @@ unbound {text} {f} {s} c n = record { no = λ ts us k ls rest lx d h. go ts us k
 
 -- no lexeme stands here
 pub none_at : {text : List ℕ} {f : Flags} {p : Parser} (c : Bool) → At text f p → p.token.kind ≡ Undetermined → NoOne text (declarator c f) p.prev_token_end
-none_at c a h = unbound c (no_binding a (λ k e. false≢true (ap (same_kind LBrack) (sym h ∙ k))) (λ k e. false≢true (ap (same_kind Ident) (sym h ∙ k))))
+none_at c a h = unbound c (no_binding a (λ k e. false≢true (ap (same_kind LBrack) (sym h ∙ k))) (λ k e. false≢true (ap (one_of_kinds name_kinds) (sym h) ∙ k)))
 
 -- ---- what may stand behind a declarator
 
@@ -241,32 +242,32 @@ module _ {text : List ℕ} {f : Flags} {p q : Parser} (a : At text f p) (x : Ans
   not_initialised u cs k ls rest lx (is_seq {us = ws} {j = j} {mid = mid} b (is_such (is_seq (is_lexeme {x = z} e) i) t)) = let g = bound a x u cs ws j ls mid lx b in no_eq_here x.at n z g.2.0 e
 
   -- no name stands here
-  no_name : {X : Test} → StandsHere p Ident false → Fails rule (Lex text) X end (symbol BindingIdentifier f) p.prev_token_end
+  no_name : {X : Test} → NameHere p false → Fails rule (Lex text) X end (symbol BindingIdentifier f) p.prev_token_end
   unfolding covers apart
   no_name {X} h = by p.token.escaped refl
     where
       by : (b : Bool) → p.token.escaped ≡ b → Fails rule (Lex text) X end (symbol BindingIdentifier f) p.prev_token_end
       by true e = fails_escaped a e
-      by false e = fails_at a (symbol BindingIdentifier f) (Ident ∷ []) refl (other_kind Ident p.token.kind (λ k. h k e))
+      by false e = fails_at a (symbol BindingIdentifier f) name_kinds refl (no_name_here p h e)
 
   -- an initialiser is missing
-  none_bare : (c is_name : Bool) → (is_name ≡ false) ⊎ (c ≡ true) → StandsHere p Ident is_name → BindingRead a x → NoOne text (declarator c f) p.prev_token_end
+  none_bare : (c is_name : Bool) → (is_name ≡ false) ⊎ (c ≡ true) → NameHere p is_name → BindingRead a x → NoOne text (declarator c f) p.prev_token_end
   none_bare c is_name s h u = record { no = λ ts us k ls rest lx d e. go ts us k ls rest lx d }
     where
       missing_so : {cs : Slots} {k : ℕ} {ls rest : Lexemes} → Lexes (Lex text) p.prev_token_end ls → NameAlone f c cs end p.prev_token_end ls k rest → (is_name ≡ false) ⊎ (c ≡ true) → ⊥
-      missing_so {k = k} {ls = ls} {rest = rest} lx z (inl e) = (no_name {X = plain full} (subst (λ (b : Bool). StandsHere p Ident b) e h)).no (tree z.label z.slots (hole end)) (hole end) k ls rest lx z.taken (refl, refl)
+      missing_so {k = k} {ls = ls} {rest = rest} lx z (inl e) = (no_name {X = plain full} (subst (λ (b : Bool). NameHere p b) e h)).no (tree z.label z.slots (hole end)) (hole end) k ls rest lx z.taken (refl, refl)
       missing_so lx z (inr e) = false≢true (sym z.no_constant ∙ e)
 
       go : (ts us : Slots) (k : ℕ) (ls rest : Lexemes) → Lexes (Lex text) p.prev_token_end ls → Takes rule (declarator c f) end ts p.prev_token_end ls us k rest → ⊥
       go ts us k ls rest lx (is_node (is_left d)) = missing_so lx (name_alone c d) s
       go ts us k ls rest lx (is_node {cs = cs} (is_right d)) = not_initialised u cs k ls rest lx d
 
-  module _ (h : StandsHere p Ident true) where
+  module _ (h : NameHere p true) where
     -- what is bound there is a name
     named : {ts us : Slots} {j : ℕ} {ls rest : Lexemes} → Lexes (Lex text) p.prev_token_end ls → Takes rule (symbol Binding f) end ts p.prev_token_end ls us j rest → Takes rule (symbol BindingIdentifier f) end ts p.prev_token_end ls us j rest
     unfolding rule rule_of covers apart
     named lx (is_such (is_left (is_such d t)) t') = is_such d refl
-    named {j = j} {ls = ls} {rest = rest} lx (is_such {l = l} {cs = cs} (is_right d) t') = absurd ((fails_at a {X = plain full} (symbol Pattern f) (LBrack ∷ []) refl (ap (one_of_kinds (LBrack ∷ [])) h.0)).no (tree l cs end) end j ls rest lx d (refl, refl))
+    named {j = j} {ls = ls} {rest = rest} lx (is_such {l = l} {cs = cs} (is_right d) t') = absurd ((fails_at a {X = plain full} (symbol Pattern f) (LBrack ∷ []) refl (no_pattern_name _ h.0)).no (tree l cs end) end j ls rest lx d (refl, refl))
 
     one_bare : BindingRead a x → One text (declarator false f) p.prev_token_end q.prev_token_end (label_here variable_declarator no_op p q) (tree x.label x.slots (hole end)) x.pass
     one_bare u = record { reach = u.reach; near = u.near; passes = u.goes.passes; sound = λ us ls lx r. there us ls lx r; only = λ ts us k ls rest lx d e. back ts us k ls rest lx d }
@@ -364,7 +365,7 @@ module _ {text : List ℕ} {f : Flags} {p q : Parser} {binding : NodeId} (a : At
     name_held : {o w : Parser} {l : Label} {id : NodeId} → o.nodes ≡ q.nodes → MadeHere l (Some binding ∷ None ∷ []) o w id → Holds w.nodes (length p.nodes) (length w.nodes) id.0 l (tree x.answer.label x.answer.slots (hole end))
     name_held {o} e z = node_held z (subst (λ (ns : List Node). HoldsAll ns (length p.nodes) (length ns) (Some binding ∷ None ∷ []) (tree x.answer.label x.answer.slots (hole end))) (sym e) (HoldsAll-hole (HoldsAll-one binding x.holds)))
 
-    pub declared_bare : (c is_name : Bool) {w : Parser} {id : NodeId} (s : Span) → StandsHere p Ident is_name → EndsDeclarator c is_name s binding q w id → s.start ≡ p.token.span.start → s.end ≡ q.prev_token_end → Declarator text f c p w id
+    pub declared_bare : (c is_name : Bool) {w : Parser} {id : NodeId} (s : Span) → NameHere p is_name → EndsDeclarator c is_name s binding q w id → s.start ≡ p.token.span.start → s.end ≡ q.prev_token_end → Declarator text f c p w id
     declared_bare c is_name {w} {id} s h g b d =
         let l : plain_label node.VariableDeclarator op.None s ≡ label_here variable_declarator no_op p q = rw (b, d) refl in
         let z : MadeHere (label_here variable_declarator no_op p q) (Some binding ∷ None ∷ []) g.mid w id = subst (λ (v : Label). MadeHere v (Some binding ∷ None ∷ []) g.mid w id) l g.made in
@@ -375,7 +376,7 @@ module _ {text : List ℕ} {f : Flags} {p q : Parser} {binding : NodeId} (a : At
             let z' : MadeHere (label_here variable_declarator no_op p q) (Some binding ∷ None ∷ []) q w id = subst (λ (v : Parser). MadeHere (label_here variable_declarator no_op p q) (Some binding ∷ None ∷ []) v w id) u z in
             declared q x.answer.at x.answer.same x.answer.further x.answer.walked
             (subst (λ (c' : Bool). Verdict p.errors q.errors (One text (declarator c' f) p.prev_token_end q.prev_token_end (label_here variable_declarator no_op p q) (tree x.answer.label x.answer.slots (hole end)) x.answer.pass) (NoOne text (declarator c' f) p.prev_token_end)) (sym e)
-            (verdict_of x.answer.verdict (λ u. one_bare a x.answer n (subst (λ (b : Bool). StandsHere p Ident b) t h) u) (λ u. unbound false u)))
+            (verdict_of x.answer.verdict (λ u. one_bare a x.answer n (subst (λ (b : Bool). NameHere p b) t h) u) (λ u. unbound false u)))
             comma_behind_name (λ in_ no y l. name_ends x.answer.at n no y l) z'.stays (name_held refl z') (Keeps-trans x.keeps (Keeps-made z'.made)) (made_lies x.answer.same x.answer.at.at (let i = x.answer.further in omega arith) z' refl)
         go o (inr (t, u)) z =
             let e = same_both x.answer.same (told_same u (early is_name)) in

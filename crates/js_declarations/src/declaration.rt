@@ -11,7 +11,7 @@ use js_base::{DiagnosticKind, Kind, NoMemory, Span};
 use js_cursor::{ParserImpl, Stop};
 use js_lex::ParserConfig;
 use js_parsing::diagnostics::diagnostic_at;
-use js_parsing::lexemes::{advance, stands};
+use js_parsing::lexemes::{advance, name_stands};
 use js_parsing::nested::Nested;
 use js_parsing::nodes::{make_two, make_with_optional};
 use js_patterns::binding::parse_binding_pattern;
@@ -71,7 +71,7 @@ fn parse_variable_declarator<C: ParserConfig, N: Nested<C>>(
         return Err(p.set_unexpected());
     }
     let start = p.cur_start();
-    let is_name = stands(p, Kind::Ident);
+    let is_name = name_stands(p);
     let binding = parse_binding_pattern(p, nested)?;
     if !p.at(Kind::Eq) {
         let span = p.end_span(start);

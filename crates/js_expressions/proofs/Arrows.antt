@@ -3,14 +3,16 @@ use Rattle.std.proofs.Common.{ℕ, ◌≡◌, ◌<◌, ◌⊎◌, inl, inr, List
 use Rattle.std.specs.Prelude.{IsCharBoundary, Result, Ok, Err}
 use Rattle.std.proofs.lemmas.Bool.{false≢true, and_parts, and_from, or_left, or_right}
 use Rattle.js_base.specs.declared.kind.Kind.{Kind}
-use Rattle.js_base.specs.declared.kind.Kind.TheVariants.{Arrow, Await, Ident, LParen, LCurly, RAngle, Yield}
+use Rattle.js_base.specs.declared.kind.Kind.TheVariants.{Arrow, Await, LParen, LCurly, RAngle, Yield}
 use Rattle.js_base.specs.declared.span.Span.{Span}
 use Rattle.js_base.specs.Kinds.{same_kind, one_of_kinds}
 use Rattle.js_base.specs.Texts.{words}
 use Rattle.js_base.proofs.KindLemmas.{kind_of_same}
 use Rattle.js_grammar.specs.Trees.{Span as TreeSpan, Label, Slots, end, tree, no_op, arrow_function_expression}
 use Rattle.js_grammar.specs.Grammar.{Lexeme, Lexemes, Look, last, next, here, seen, is, such, nothing, exact, Make, node, Takes, ◌▸◌, ◌◇◌, is_nothing, is_seq, is_lexeme, is_look, is_such, is_left, is_right, is_node, is_empty_slot}
-use Rattle.js_grammar.specs.Brackets.{bracket, move}
+use Rattle.js_grammar.specs.Brackets.{Bracket, bracket, move}
+use Rattle.js_grammar.specs.Brackets.{plain as bracket_plain}
+use Rattle.js_grammar.proofs.Matched.{brackets, not_bracket}
 use Rattle.js_grammar.specs.Insertion.{may_bind, Row, after_expression, after_postfix, after_body, after_yield, after_declarator, after_word}
 use Rattle.js_grammar.specs.Lexed.{Lexes}
 use Rattle.js_grammar.specs.Parsing.{Test, plain, full, always, Admits, Goes, Fails, still}
@@ -54,7 +56,8 @@ use Rattle.js_cursor.specs.Checkpoints.{Remembers, GoesBack, GoesOn}
 use Rattle.js_cursor.specs.declared.checkpoint.ParserCheckpoint.{ParserCheckpoint}
 use Rattle.js_cursor.specs.declared.stop.Stop.{Stop}
 use Rattle.js_cursor.specs.declared.stop.Stop.TheVariants.{Fatal}
-use Rattle.js_parsing.specs.Stands.{StandsHere}
+use Rattle.js_parsing.specs.Stands.{NameHere, StandsHere}
+use Rattle.js_parsing.proofs.NameKinds.{a_name, name_apart, name_test, name_whole, no_name_here, or_name}
 use Rattle.js_parsing.proofs.Giving.{fails_escaped}
 use Rattle.js_cursor.specs.Moves.{is_last}
 use Rattle.js_cursor.specs.Parsers.{Parser}
@@ -70,7 +73,7 @@ use Rattle.js_expressions.specs.Closings.{ArrowBehindOne}
 use Rattle.js_expressions.proofs.Closings.{closes_alike, one_is}
 use Rattle.js_cursor.specs.Tokens.{may_be_read_again}
 use Rattle.js_parsing.proofs.KeptTokens.{before_back, last_back}
-use Rattle.js_parsing.specs.Lexemes.{Lex, spot}
+use Rattle.js_parsing.specs.Lexemes.{Lex, name_kinds, spot}
 use Rattle.js_parsing.specs.Moves.{Moved, MadeHere, LeafTaken, TakesLeaf, plain_label}
 use Rattle.js_parsing.specs.States.{At, Same, Standing, flags_of, IsPlain, whole, sign, nothing as nothing_here, NodesLie, SpansLie}
 use Rattle.js_targets.proofs.ArraysBeforeSigns.{not_wide}
@@ -85,7 +88,7 @@ use Rattle.js_parsing.proofs.Giving.{kept_one}
 use Rattle.js_parsing.proofs.Here.{alike, angled, found, plainly, one_plain, newline_here, kind_here, told, uncut}
 use Rattle.js_parsing.proofs.MadeNodes.{leaf_held, node_held, two_held, one_lies, LabelLies, from_start}
 use Rattle.js_parsing.proofs.Moving.{beside_nodes, flags_same, heads_kept, same_both, same_itself, same_with, stops_behind, nodes_lie}
-use Rattle.js_operands.proofs.Operands.{by_path, by_such, name_test}
+use Rattle.js_operands.proofs.Operands.{by_path, by_such}
 use Rattle.js_patterns.proofs.Bindings.{bound_path, ended_by, then_any}
 use Rattle.js_parsing.proofs.Paths.{Path, ◌⟼◌, ◌⟶◌, ◌⟶✗◌, fails_at, token, last_called, noded, noded_by, by_symbol_as, label_here, read_of, walked_both, walked_from, walked_one}
 use Rattle.js_parsing.proofs.Signs.{none_kept, plain_of}
@@ -216,9 +219,9 @@ module _ {text : List ℕ} (f : Flags) where
 -- ---- where none is derived
 
 -- neither a name nor a parenthesis stands here
-pub no_head_here : {text : List ℕ} {f : Flags} {p : Parser} → At text f p → one_of_kinds (Ident ∷ LParen ∷ []) p.token.kind ≡ false → Underived text (at Arrow' f) p.prev_token_end
+pub no_head_here : {text : List ℕ} {f : Flags} {p : Parser} → At text f p → one_of_kinds (LParen ∷ name_kinds) p.token.kind ≡ false → Underived text (at Arrow' f) p.prev_token_end
 unfolding covers apart
-no_head_here {f = f} a n = no_arrow f (fails_at a (head_of f ▸ behind_head f) (Ident ∷ LParen ∷ []) refl n)
+no_head_here {f = f} a n = no_arrow f (fails_at a (head_of f ▸ behind_head f) (LParen ∷ name_kinds) refl n)
 
 -- no `=>` stands behind the first name or parentheses
 one_arrow : {text : List ℕ} {f : Flags} {s : ℕ} {X : Test} → ((ls mid : Lexemes) (e : ℕ) → Lexes (Lex text) s ls → One [] ls e mid → same_kind Arrow (here mid).kind ≡ true → ⊥) → Fails rule (Lex text) X end (head_of f ▸ behind_head f) s
@@ -227,30 +230,35 @@ one_arrow {text} {f} {s} n = record { no = λ ts vs k ls rest l d e. go ts vs k 
     go : (ts vs : Slots) (k : ℕ) (ls rest : Lexemes) → Lexes (Lex text) s ls → Takes rule (head_of f ▸ behind_head f) end ts s ls vs k rest → ⊥
     go ts vs k ls rest l (is_seq {mid = mid} d (is_seq (is_look w) (is_seq (is_lexeme {x = x} q) e))) = let z = head_one d in n ls mid z.0 l z.1 (and_parts (same_kind Arrow x.kind) _ q).0
 
-pub no_arrow_behind : {text : List ℕ} {f : Flags} {p : Parser} → At text f p → p.token.kind ≡ Ident → ((y : Lexeme) → Lex text p.token.span.end y → y.kind ≡ Arrow → ⊥) → Underived text (at Arrow' f) p.prev_token_end
+-- a name is no bracket
+name_no_bracket : (k : Kind) → one_of_kinds name_kinds k ≡ true → bracket k ≡ bracket_plain
+unfolding apart
+name_no_bracket k h = not_bracket k false false (λ b. not_both a_name brackets refl k false false h b)
+
+pub no_arrow_behind : {text : List ℕ} {f : Flags} {p : Parser} → At text f p → one_of_kinds name_kinds p.token.kind ≡ true → ((y : Lexeme) → Lex text p.token.span.end y → y.kind ≡ Arrow → ⊥) → Underived text (at Arrow' f) p.prev_token_end
 unfolding bracket move
 no_arrow_behind {text} {f} {p} a k n = no_arrow f (one_arrow (λ ls mid e l o q. go ls mid e l o q))
   where
-    there : (x : Lexeme) → Lex text p.prev_token_end x → (x.kind ≡ Ident) × (p.token.span.end ≡ x.to)
-    there x l = let t = told a (uncut a (ap (same_kind RAngle) k)) x l in (sym t.kind ∙ k, t.end)
+    there : (x : Lexeme) → Lex text p.prev_token_end x → (bracket x.kind ≡ bracket_plain) × (p.token.span.end ≡ x.to)
+    there x l = let t = told a (name_whole a k).0 x l in (name_no_bracket x.kind (subst (λ (v : Kind). one_of_kinds name_kinds v ≡ true) t.kind k), t.end)
 
     go : (ls mid : Lexemes) (e : ℕ) → Lexes (Lex text) p.prev_token_end ls → One [] ls e mid → same_kind Arrow (here mid).kind ≡ true → ⊥
     go ls mid e l (the_last {x = x} m) q = n (here mid) (subst (λ (v : ℕ). Lex text v (here mid)) (sym (there x l.0).1) (here_at (Lex text) mid l.1)) (sym (kind_of_same Arrow (here mid).kind q))
-    go ls mid e l (and_more {b = b} {s = t} {x = x} m o) q = none_open (subst (λ (v : Kind). move (bracket v) [] ≡ Some (b ∷ t)) (there x l.0).0 m)
+    go ls mid e l (and_more {b = b} {s = t} {x = x} m o) q = none_open (subst (λ (v : Bracket). move v [] ≡ Some (b ∷ t)) (there x l.0).0 m)
 
 module _ {text : List ℕ} {f : Flags} {p : Parser} (a : At text f p) where
-  name_only : {X : Test} → p.token.kind ≡ Ident → Fails rule (Lex text) X end (symbol Params f) p.prev_token_end
+  name_only : {X : Test} → one_of_kinds name_kinds p.token.kind ≡ true → Fails rule (Lex text) X end (symbol Params f) p.prev_token_end
   unfolding covers apart
-  name_only k = fails_at a (symbol Params f) (LParen ∷ []) refl (ap (one_of_kinds (LParen ∷ [])) k)
+  name_only k = fails_at a (symbol Params f) (LParen ∷ []) refl (name_apart (LParen ∷ []) refl _ k)
 
   -- a name as the parameters
-  name_path : {q : Parser} → p.token.kind ≡ Ident → p.token.escaped ≡ false → Moved text f p q → Path text f (plain full) (head_of f) p nothing q (tree (label_here formal_parameters no_op p q) (tree (label_here formal_parameter no_op p q) (tree (label_here binding_identifier no_op p q) end (hole end)) end))
+  name_path : {q : Parser} → one_of_kinds name_kinds p.token.kind ≡ true → p.token.escaped ≡ false → Moved text f p q → Path text f (plain full) (head_of f) p nothing q (tree (label_here formal_parameters no_op p q) (tree (label_here formal_parameter no_op p q) (tree (label_here binding_identifier no_op p q) end (hole end)) end))
   name_path k e m = left (name_only k) ⟼ noded a (noded a (ended_by (then_any (bound_path a k e m)) reads_empty_slot))
 
   -- parentheses as the parameters
   no_name : {X : Test} → p.token.kind ≡ LParen → Fails rule (Lex text) X end (mk formal_parameters (mk formal_parameter (symbol BindingIdentifier f ▸ empty_slot))) p.prev_token_end
   unfolding covers apart
-  no_name k = fails_at a (mk formal_parameters (mk formal_parameter (symbol BindingIdentifier f ▸ empty_slot))) (Ident ∷ []) refl (ap (one_of_kinds (Ident ∷ [])) k)
+  no_name k = fails_at a (mk formal_parameters (mk formal_parameter (symbol BindingIdentifier f ▸ empty_slot))) name_kinds refl (ap (one_of_kinds name_kinds) k)
 
   pub no_parameters : Underived text (at Params f) p.prev_token_end → NoHead text f p.prev_token_end
   no_parameters n = part_fails {X' = plain full} (weaken_fails_on n (record { admits = λ ts vs k ls rest d e. (refl, refl) })) (record { admits = λ ts us vs j k ls mid rest d d' e. (refl, refl) })
@@ -367,7 +375,7 @@ parenthesized_head {p = p} {q = q} a k x e = head_of_path q (parameters_path a k
     by (unclean g n) = absurd (longer g (sym e))
 
 -- a name
-pub single_head : {text : List ℕ} {f : Flags} {p q v w : Parser} {name parameter id : NodeId} (s : Span) → At text f p → p.token.kind ≡ Ident → p.token.escaped ≡ false → s ≡ p.token.span → LeafTaken node_kind.BindingIdentifier op_made.None text f p q name → MadeHere (plain_label node_kind.FormalParameter op_made.None s) (Some name ∷ None ∷ []) q v parameter → MadeHere (plain_label node_kind.FormalParameters op_made.None s) (Some parameter ∷ []) v w id → Head text f p w id
+pub single_head : {text : List ℕ} {f : Flags} {p q v w : Parser} {name parameter id : NodeId} (s : Span) → At text f p → one_of_kinds name_kinds p.token.kind ≡ true → p.token.escaped ≡ false → s ≡ p.token.span → LeafTaken node_kind.BindingIdentifier op_made.None text f p q name → MadeHere (plain_label node_kind.FormalParameter op_made.None s) (Some name ∷ None ∷ []) q v parameter → MadeHere (plain_label node_kind.FormalParameters op_made.None s) (Some parameter ∷ []) v w id → Head text f p w id
 single_head {text} {f} {p} {q} {v} {w} {name} {parameter} {id} s a k e b t n m =
     let i : p.token.span.end ≡ t.mid.prev_token_end = t.moved.tells.end ∙ t.moved.ends in
     let ks : Keeps p.nodes t.mid.nodes = subst (λ (ns : List Node). Keeps p.nodes ns) (sym t.moved.nodes) (Keeps-refl p.nodes) in
@@ -480,20 +488,13 @@ head_so start kept q e h = subst (λ (v : Bool). IsHead start kept q v) e h
 pub refused_so : (kept : ℕ) (p : Parser) {r : Bool} → r ≡ true → IsRefusedHead kept p r → (length p.errors ≡ kept → ⊥) × (p.token.kind ≡ Arrow)
 refused_so kept p e h = subst (λ (b : Bool). IsRefusedHead kept p b) e h
 
-two_kinds : (k : Kind) → (k ≡ Ident → ⊥) → (k ≡ LParen → ⊥) → one_of_kinds (Ident ∷ LParen ∷ []) k ≡ false
-two_kinds k n m = go (same_kind Ident k) refl
-  where
-    go : (b : Bool) → same_kind Ident k ≡ b → (b || one_of_kinds (LParen ∷ []) k) ≡ false
-    go true e = absurd (n (sym (kind_of_same Ident k e)))
-    go false e = other_kind LParen k m
-
 -- neither a name nor a parenthesis
-pub neither : {p : Parser} → StandsHere p Ident false → StandsHere p LParen false → NoArrowHere p
+pub neither : {p : Parser} → NameHere p false → StandsHere p LParen false → NoArrowHere p
 neither {p} n m = λ text f a. by text f p.token.escaped refl a
   where
     by : (text : List ℕ) (f : Flags) (b : Bool) → p.token.escaped ≡ b → At text f p → Underived text (at Arrow' f) p.prev_token_end
     by text f true e a = fails_escaped a e
-    by text f false e a = no_head_here a (two_kinds p.token.kind (λ k. n k e) (λ k. m k e))
+    by text f false e a = no_head_here a (or_name LParen p.token.kind (λ k. m k e) (no_name_here p n e))
 
 -- ---- where the parser is where it was
 

@@ -1,13 +1,16 @@
 //! Arrow functions (ECMA-262, section 15.3).
 
-ghost use Rattle.std.specs.Prelude.{false, ◌≡◌, ◌≤◌, MatchResult, IfOk, IsCharBoundary};
-ghost use Rattle.js_base.specs.declared.kind.Kind.TheVariants.{Arrow, Ident, LParen};
+ghost use Rattle.std.specs.Prelude.{true, ◌≡◌, ◌≤◌, MatchResult, IfOk, IsCharBoundary};
+ghost use Rattle.js_base.specs.declared.kind.Kind.TheVariants.{Arrow, LParen};
+ghost use Rattle.js_base.specs.Kinds.{one_of_kinds};
 ghost use Rattle.js_cursor.specs.Moves.{OnlyMemory};
 ghost use Rattle.js_grammar.specs.Productions.{at, Params};
 ghost use Rattle.js_parsing.specs.Answers.{Answers};
 ghost use Rattle.js_expressions.specs.Arrows.{ArrowBehind, ChecksLine, FindsHead, IsHead, LooksForHead, ReadsBody, ReadsHead, SearchesHead, Single};
 ghost use Rattle.js_expressions.specs.Lookaheads.{NoOperandHere};
+ghost use Rattle.js_parsing.specs.Lexemes.{name_kinds};
 ghost use Rattle.js_parsing.specs.Nesting.{CanNest, room};
+ghost use Rattle.js_parsing.specs.Stands.{NameHere};
 ghost use Rattle.js_parsing.specs.States.{Standing};
 
 use crate::closing::is_arrow_behind_one;
@@ -18,7 +21,7 @@ use js_lex::ParserConfig;
 use js_operands::primary::parse_leaf;
 use js_parsing::context::assignment_in_arrow;
 use js_parsing::diagnostics::{diagnostic_at, kept_so_far};
-use js_parsing::lexemes::{advance, stands};
+use js_parsing::lexemes::{advance, name_stands, stands};
 use js_parsing::nested::Nested;
 use js_parsing::nodes::{make_one, make_two, make_with_optional};
 use js_patterns::parameters::parse_formal_parameters;
@@ -34,7 +37,7 @@ pub(crate) fn parse_arrow_head<C: ParserConfig, N: Nested<C>>(
     requires nests { CanNest (N.can nested.now) (room p.old) }
     ensures { SearchesHead p.old p.new result }
 {
-    if stands(p, Kind::Ident) {
+    if name_stands(p) {
         return parse_name_head(p);
     }
     if stands(p, Kind::LParen) {
@@ -46,7 +49,7 @@ pub(crate) fn parse_arrow_head<C: ParserConfig, N: Nested<C>>(
 /// A name as the only parameter of an arrow function, where `=>` stands behind it.
 fn parse_name_head<C: ParserConfig>(p: &mut ParserImpl<'_, C>) -> Result<Option<NodeId>, Stop>
     requires at { Standing p.old }
-    requires name { (p.old.token.kind ≡ Ident) × (p.old.token.escaped ≡ false) }
+    requires name { NameHere p.old true }
     ensures { MatchResult result (λ found. FindsHead p.old p.new found) OnlyMemory }
 {
     if !is_arrow_behind(p)? {
@@ -69,7 +72,7 @@ fn is_arrow_behind<C: ParserConfig>(p: &mut ParserImpl<'_, C>) -> Result<bool, S
 #[inline(never)]
 fn parse_single_parameter<C: ParserConfig>(p: &mut ParserImpl<'_, C>) -> Result<NodeId, Stop>
     requires at { Standing p.old }
-    requires name { p.old.token.kind ≡ Ident }
+    requires name { one_of_kinds name_kinds p.old.token.kind ≡ true }
     ensures { MatchResult result (λ id. Single p.old p.new id) OnlyMemory }
 {
     let span = p.cur_token().span();

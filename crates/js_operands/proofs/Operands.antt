@@ -1,9 +1,9 @@
 -- Names, literals, and what a unary operator stands before.
-use Rattle.std.proofs.Common.{ℕ, ◌≡◌, List, [], ◌∷◌, length, Bool, true, false, not, ◌&&◌, ◌||◌, IsTrue, Some, refl, sym, ap, subst, arith, ◌∙◌}
+use Rattle.std.proofs.Common.{ℕ, ◌≡◌, List, [], ◌∷◌, ◌++◌, length, Bool, true, false, not, ◌&&◌, ◌||◌, IsTrue, Some, refl, sym, ap, subst, arith, ◌∙◌}
 use Rattle.std.specs.Prelude.{Result, Ok, Err, MatchResult, Option, is_some, if◌then◌else◌}
 use Rattle.std.proofs.lemmas.Bool.{false≢true, or_left}
 use Rattle.js_base.specs.declared.kind.Kind.{Kind}
-use Rattle.js_base.specs.declared.kind.Kind.TheVariants.{Ident, This, Null, True, False, Decimal, Float, Binary, Octal, Hex, PositiveExponential, NegativeExponential, DecimalBigInt, BinaryBigInt, OctalBigInt, HexBigInt, Str, LParen, LBrack, Percent, Minus, Plus, Bang, Tilde, Typeof, Void, Delete, Yield, Await, Function}
+use Rattle.js_base.specs.declared.kind.Kind.TheVariants.{This, Null, True, False, Decimal, Float, Binary, Octal, Hex, PositiveExponential, NegativeExponential, DecimalBigInt, BinaryBigInt, OctalBigInt, HexBigInt, Str, LParen, LBrack, Percent, Minus, Plus, Bang, Tilde, Typeof, Void, Delete, Function}
 use Rattle.js_base.specs.declared.operator.UnaryOperator.{UnaryOperator}
 use Rattle.js_base.specs.Kinds.{same_kind, one_of_kinds}
 use Rattle.js_base.specs.KindSets.{number_kinds}
@@ -16,7 +16,7 @@ use Rattle.js_grammar.specs.Productions.{Flags, Symbol, at, tok, Unary, Primary}
 use Rattle.js_grammar.specs.Productions.{sym as symbol}
 use Rattle.js_grammar.specs.Table.{rule, rule_of}
 use Rattle.js_grammar.specs.Follow.{edge_of, row_of, follow, follow_of, after, widest, first_edge}
-use Rattle.js_grammar.specs.Insertion.{may_bind, after_expression}
+use Rattle.js_grammar.specs.Insertion.{after_expression}
 use Rattle.js_grammar.proofs.Looks.{covers, covered, apart}
 use Rattle.js_grammar.proofs.Calculus.{Inside, on_itself, ◌▹✗◌, fails_node}
 use Rattle.js_grammar.proofs.RightEdges.{may_end, same_row}
@@ -36,7 +36,7 @@ use Rattle.js_cursor.specs.Parsers.{Parser}
 use Rattle.js_cursor.specs.Moves.{OnlyMemory}
 use Rattle.js_cursor.specs.declared.stop.Stop.{Stop}
 use Rattle.js_cursor.specs.declared.stop.Stop.TheVariants.{Fatal, NoMemory}
-use Rattle.js_parsing.specs.Lexemes.{Lex, is_read, read_kinds}
+use Rattle.js_parsing.specs.Lexemes.{Lex, is_read, name_kinds, read_kinds}
 use Rattle.js_parsing.specs.States.{At, Same, NodesLie}
 use Rattle.js_parsing.specs.Moves.{Moved, MadeHere, LeafTaken, TakesLeaf, plain_label}
 use Rattle.js_parsing.specs.Answers.{Underived, Answer, Numbered, Outcome, beside}
@@ -44,6 +44,7 @@ use Rattle.js_operands.specs.Numbers.{node_of_number, op_of_number}
 use Rattle.js_parsing.specs.Operators.{unary_kinds}
 use Rattle.js_parsing.proofs.Moving.{same_both, same_with, beside_nodes}
 use Rattle.js_parsing.proofs.Dead.{live, lives}
+use Rattle.js_parsing.proofs.NameKinds.{at_name, name_passes, name_read, name_test}
 use Rattle.js_parsing.proofs.MadeNodes.{leaf_held, one_held, LabelLies, from_start, one_lies}
 use Rattle.js_parsing.proofs.Paths.{reads, Path, ◌⟼◌, ◌⟶◌, ◌⟶✗◌, at_kind, fails_at, token, last_token, last_called, passes_test, noded, noded_by, by_symbol_as, label_here, read_of, walked_one}
 use Rattle.js_parsing.specs.Answers.{clean}
@@ -175,12 +176,15 @@ pub string_path : Leaf string_literal no_op Str
 unfolding rule rule_of covers
 string_path text f p q a e n s = at_kind a Str e refl ⟼ noded a (last_token Str a e n refl s)
 
-abbrev pub name_test : Flags → Look
-name_test f a w e = may_bind a && not (same_kind Yield a && f.yield_) && not (same_kind Await a && f.await_)
+-- a name
+pub name_leaf : {text : List ℕ} {f : Flags} {X : Test} {p q : Parser} → At text f p → one_of_kinds name_kinds p.token.kind ≡ true → p.token.escaped ≡ false → Moved text f p q → Path text f X (lexeme (name_test f)) p nothing q (λ us. us)
+name_leaf {f = f} {p = p} a h n s = one_path (name_test f) a s (plain_leaf p.token.kind refl n (name_read p.token.kind h) s) (name_passes f s.lexeme (subst (λ (k : Kind). one_of_kinds name_kinds k ≡ true) s.tells.kind h))
 
-pub name_path : Leaf identifier_reference no_op Ident
+pub name_path : (k : Kind) → one_of_kinds name_kinds k ≡ true → Leaf identifier_reference no_op k
 unfolding rule rule_of covers
-name_path text f p q a e n s = at_kind a Ident e refl ⟼ by_symbol_as {X' = plain full} (λ l cs vs y d. (refl, refl)) (noded a (one_path (name_test f) a s (plain_leaf Ident e n refl s) (rw (sym s.tells.kind ∙ e) refl)))
+name_path k h text f p q a e n s =
+    let i : one_of_kinds name_kinds p.token.kind ≡ true = ap (one_of_kinds name_kinds) e ∙ h in
+    at_name a i ⟼ by_symbol_as {X' = plain full} (λ l cs vs y d. (refl, refl)) (noded a (name_leaf a i n s))
 
 -- behind a primary expression whatever may stand that is read
 abbrev no_function : Look
@@ -207,7 +211,7 @@ unary_answers {text} {f} {p} {q} {r} {w} {id} {arg} k o s h u a e n m x b c d =
 
 -- what a PrimaryExpression begins with
 abbrev pub primary_kinds : List Kind
-primary_kinds = Ident ∷ This ∷ Null ∷ True ∷ False ∷ Str ∷ LParen ∷ LBrack ∷ Percent ∷ number_kinds
+primary_kinds = This ∷ Null ∷ True ∷ False ∷ Str ∷ LParen ∷ LBrack ∷ Percent ∷ number_kinds ++ name_kinds
 
 pub primary_fails : {text : List ℕ} {f : Flags} {p : Parser} → At text f p → one_of_kinds primary_kinds p.token.kind ≡ false → Underived text (at Primary f) p.prev_token_end
 unfolding rule rule_of covers apart
@@ -225,8 +229,16 @@ not_same a k b n = go (same_kind a k) refl
     go true e = absurd (n (sym (kind_of_same a k e)))
     go false e = refl
 
-pub none_of_these : (k : Kind) → (k ≡ Ident → ⊥) → (k ≡ This → ⊥) → (k ≡ Null → ⊥) → (k ≡ True → ⊥) → (k ≡ False → ⊥) → (k ≡ Str → ⊥) → (k ≡ LParen → ⊥) → (k ≡ LBrack → ⊥) → (k ≡ Percent → ⊥) → one_of_kinds number_kinds k ≡ false → one_of_kinds primary_kinds k ≡ false
-none_of_these k a b c d e f g j h n = not_same Ident k _ a ∙ (not_same This k _ b ∙ (not_same Null k _ c ∙ (not_same True k _ d ∙ (not_same False k _ e ∙ (not_same Str k _ f ∙ (not_same LParen k _ g ∙ (not_same LBrack k _ j ∙ (not_same Percent k _ h ∙ n))))))))
+neither : (a b : Bool) → (a || b) ≡ false → (a ≡ false) × (b ≡ false)
+neither true b h = absurd (false≢true (sym h))
+neither false b h = (refl, h)
+
+neither_list : (ks ls : List Kind) (k : Kind) → one_of_kinds ks k ≡ false → one_of_kinds ls k ≡ false → one_of_kinds (ks ++ ls) k ≡ false
+neither_list [] ls k h i = i
+neither_list (a ∷ ks) ls k h i = let z = neither (same_kind a k) (one_of_kinds ks k) h in rw (z.0, neither_list ks ls k z.1 i) refl
+
+pub none_of_these : (k : Kind) → one_of_kinds name_kinds k ≡ false → (k ≡ This → ⊥) → (k ≡ Null → ⊥) → (k ≡ True → ⊥) → (k ≡ False → ⊥) → (k ≡ Str → ⊥) → (k ≡ LParen → ⊥) → (k ≡ LBrack → ⊥) → (k ≡ Percent → ⊥) → one_of_kinds number_kinds k ≡ false → one_of_kinds primary_kinds k ≡ false
+none_of_these k a b c d e f g j h n = not_same This k _ b ∙ (not_same Null k _ c ∙ (not_same True k _ d ∙ (not_same False k _ e ∙ (not_same Str k _ f ∙ (not_same LParen k _ g ∙ (not_same LBrack k _ j ∙ (not_same Percent k _ h ∙ neither_list number_kinds name_kinds k n a)))))))
 
 -- a number, read so
 pub number_outcome : (text : List ℕ) (f : Flags) (p q : Parser) (nk : NodeKindMade) (o : OpMade) (k : Kind) (r : Result NodeId Stop) → one_of_kinds number_kinds p.token.kind ≡ true → k ≡ p.token.kind → nk ≡ node_of_number k → o ≡ op_of_number k → At text f p → p.token.escaped ≡ false → MatchResult r (λ id. TakesLeaf nk o p q id) OnlyMemory → Outcome text f (at Primary f) p q r

@@ -11,6 +11,7 @@ pub mod Kept
 pub mod KeptTokens
 pub mod MadeNodes
 pub mod Moving
+pub mod NameKinds
 pub mod Nesting
 pub mod Parts
 pub mod Paths

@@ -4,6 +4,7 @@ use Rattle.std.proofs.lemmas.Bool.{false≢true, and_parts, and_from}
 use Rattle.js_base.specs.declared.kind.Kind.{Kind}
 use Rattle.js_base.specs.declared.kind.Kind.TheVariants.{RAngle}
 use Rattle.js_base.specs.Kinds.{same_kind, one_of_kinds}
+use Rattle.js_base.proofs.KindLemmas.{kind_of_same}
 use Rattle.js_grammar.specs.Trees.{Slots, end, tree, Label, Op, NodeKind}
 use Rattle.js_grammar.specs.Grammar.{Lexeme, Lexemes, Look, seen, exact, is, here, lexeme, next, seq, such, nothing}
 use Rattle.js_grammar.specs.Parsing.{still, passing, Test, plain, behind, full, always, Goes, Reads, Fails}
@@ -24,7 +25,7 @@ use Rattle.js_parsing.specs.Lexemes.{Lex, Walked, Spot, spot, nowhere, one_more,
 use Rattle.js_parsing.specs.States.{At}
 use Rattle.js_parsing.specs.Moves.{Moved}
 use Rattle.js_parsing.specs.Answers.{Verdict, clean, Stretch, Answer}
-use Rattle.js_parsing.proofs.Here.{told, angled, begins_here, kind_here, plain_kind}
+use Rattle.js_parsing.proofs.Here.{told, angled, begins_here, kind_here, plain_kind, uncut}
 use Rattle.js_parsing.proofs.Verdicts.{verdict_of, either_way, and_then}
 
 -- a walk, and another behind it
@@ -56,6 +57,14 @@ begins_by g F ks = covers (λ k w e. starts first g F k w e && reads k w e) (λ 
 pub read_of : (y : Lexeme) {k : Kind} → y.kind ≡ k → y.escaped ≡ false → one_of_kinds read_kinds k ≡ true → IsTrue (is_read y)
 read_of y e q h = and_from _ _ (subst (λ v. one_of_kinds read_kinds v ≡ true) (sym e) h) (ap not q)
 
+-- none of these kinds is that of a cut sign
+no_angle : (ks : List Kind) → apart angles (λ k w e. one_of_kinds ks k) ≡ true → (k : Kind) → one_of_kinds ks k ≡ true → same_kind RAngle k ≡ false
+no_angle ks d k h = go (same_kind RAngle k) refl
+  where
+    go : (b : Bool) → same_kind RAngle k ≡ b → same_kind RAngle k ≡ false
+    go true e = absurd (not_both angles (λ k w e. one_of_kinds ks k) d k false false (subst (λ v. is_right_angle v ≡ true) (kind_of_same RAngle k e) refl) h)
+    go false e = e
+
 module _ {text : List ℕ} {f : Flags} {p : Parser} (a : At text f p) where
   pub not_here : (ks : List Kind) → apart angles (λ k w e. one_of_kinds ks k) ≡ true → one_of_kinds ks p.token.kind ≡ false → (y : Lexeme) → Lex text p.prev_token_end y → one_of_kinds ks y.kind ≡ true → ⊥
   not_here ks d n y l h = go p.cut refl
@@ -75,6 +84,10 @@ module _ {text : List ℕ} {f : Flags} {p : Parser} (a : At text f p) where
     where
       one_kind : (k : Kind) → one_of_kinds (k ∷ []) k ≡ true
       one_kind k = rw (same_self k) refl
+
+  -- and at the kinds of which one stands here
+  pub at_kinds : {X : Test} {g : G} (ks : List Kind) → apart angles (λ k w e. one_of_kinds ks k) ≡ true → one_of_kinds ks p.token.kind ≡ true → Goes rule (Lex text) X end g p.prev_token_end (pick first X.base g ks) p.prev_token_end (λ us. us) (still 0)
+  at_kinds {g = g} ks d h = picks firsts ks (λ y l. subst (λ v. one_of_kinds ks v ≡ true) (told a (uncut a (no_angle ks d p.token.kind h)) y l).kind h) g
 
   -- two lexemes that are read are one
   pub one_read : {y z : Lexeme} → Lex text p.prev_token_end y → Lex text p.prev_token_end z → y ≡ z

@@ -1,8 +1,8 @@
 -- The lexemes that the parse functions read so far. Of a text with another one nothing is said: as soon as every kind is among them, this is the whole language.
-use Rattle.std.specs.Prelude.{ℕ, ◌-◌, ◌≡◌, Bool, true, false, not, cond, ◌&&◌, List, [], ◌∷◌, ◌++◌, length, take, IsTrue}
+use Rattle.std.specs.Prelude.{ℕ, ◌-◌, ◌≡◌, Bool, true, false, not, cond, ◌&&◌, ◌||◌, List, [], ◌∷◌, ◌++◌, length, take, IsTrue}
 use Rattle.js_base.specs.declared.diagnostic.Diagnostic.{Diagnostic}
 use Rattle.js_base.specs.declared.kind.Kind.{Kind}
-use Rattle.js_base.specs.declared.kind.Kind.TheVariants.{Ident, This, Null, True, False, Typeof, Void, Delete, In, Instanceof, Decimal, Float, Binary, Octal, Hex, PositiveExponential, NegativeExponential, DecimalBigInt, BinaryBigInt, OctalBigInt, HexBigInt, Str, Tilde, Bang, Plus, Minus, Star, Star2, Slash, Percent, Eq2, Eq3, Neq, Neq2, LAngle, LtEq, RAngle, GtEq, ShiftLeft, ShiftRight, ShiftRight3, Amp, Amp2, Pipe, Pipe2, Caret, Question, Colon, Comma, Eof, Dot, QuestionDot, New, Break, Continue, Debugger, Throw, If, Else, While, Do, With, Var, Const, Plus2, Minus2, Eq, PlusEq, MinusEq, StarEq, SlashEq, PercentEq, ShiftLeftEq, ShiftRightEq, ShiftRight3Eq, PipeEq, CaretEq, AmpEq, Amp2Eq, Pipe2Eq, Question2Eq, Star2Eq, Semicolon, LParen, RParen, Question2, LBrack, RBrack, Dot3, Arrow}
+use Rattle.js_base.specs.declared.kind.Kind.TheVariants.{Ident, Static, Implements, Interface, Package, Private, Protected, Public, Of, Get, Set, As, From, Assert, Accessor, Using, Defer, Source, Meta, Satisfies, Constructor, TypeWord, This, Null, True, False, Typeof, Void, Delete, In, Instanceof, Decimal, Float, Binary, Octal, Hex, PositiveExponential, NegativeExponential, DecimalBigInt, BinaryBigInt, OctalBigInt, HexBigInt, Str, Tilde, Bang, Plus, Minus, Star, Star2, Slash, Percent, Eq2, Eq3, Neq, Neq2, LAngle, LtEq, RAngle, GtEq, ShiftLeft, ShiftRight, ShiftRight3, Amp, Amp2, Pipe, Pipe2, Caret, Question, Colon, Comma, Eof, Dot, QuestionDot, New, Break, Continue, Debugger, Throw, If, Else, While, Do, With, Var, Const, Plus2, Minus2, Eq, PlusEq, MinusEq, StarEq, SlashEq, PercentEq, ShiftLeftEq, ShiftRightEq, ShiftRight3Eq, PipeEq, CaretEq, AmpEq, Amp2Eq, Pipe2Eq, Question2Eq, Star2Eq, Semicolon, LParen, RParen, Question2, LBrack, RBrack, Dot3, Arrow}
 use Rattle.js_base.specs.Kinds.{one_of_kinds}
 use Rattle.js_grammar.specs.Grammar.{Lexeme, Lexemes, next}
 use Rattle.js_grammar.specs.Lexed.{Lex as StandsBehind, all_faults, passing_of}
@@ -17,38 +17,45 @@ use Rattle.js_lex.specs.States.{State}
 use Rattle.js_cursor.specs.Parsers.{Parser}
 use Rattle.js_cursor.specs.Places.{goal}
 
+-- Names, and the words that are names wherever one may stand (ECMA-262, 13.1): those that aren't reserved, but for `let`, `yield`, `await`, `async` and `target`.
+abbrev pub name_kinds : List Kind
+name_kinds = Ident ∷ Static ∷ Implements ∷ Interface ∷ Package ∷ Private ∷ Protected ∷ Public ∷ Of ∷ Get ∷ Set ∷ As ∷ From ∷ Assert ∷ Accessor ∷ Using ∷ Defer ∷ Source ∷ Meta ∷ Satisfies ∷ Constructor ∷ TypeWord ∷ []
+
 abbrev pub read_kinds : List Kind
-read_kinds = Eof ∷ Ident ∷ This ∷ Null ∷ True ∷ False ∷ Typeof ∷ Void ∷ Delete ∷ In ∷ Instanceof ∷ Decimal ∷ Float ∷ Binary ∷ Octal ∷ Hex ∷ PositiveExponential ∷ NegativeExponential ∷ DecimalBigInt ∷ BinaryBigInt ∷ OctalBigInt ∷ HexBigInt ∷ Str ∷ Tilde ∷ Bang ∷ Plus ∷ Minus ∷ Star ∷ Star2 ∷ Slash ∷ Percent ∷ Eq2 ∷ Eq3 ∷ Neq ∷ Neq2 ∷ LAngle ∷ LtEq ∷ RAngle ∷ GtEq ∷ ShiftLeft ∷ ShiftRight ∷ ShiftRight3 ∷ Amp ∷ Amp2 ∷ Pipe ∷ Pipe2 ∷ Caret ∷ Question ∷ Question2 ∷ Colon ∷ Comma ∷ Dot ∷ QuestionDot ∷ New ∷ Break ∷ Continue ∷ Debugger ∷ Throw ∷ If ∷ Else ∷ While ∷ Do ∷ With ∷ Var ∷ Const ∷ Plus2 ∷ Minus2 ∷ Eq ∷ PlusEq ∷ MinusEq ∷ StarEq ∷ SlashEq ∷ PercentEq ∷ ShiftLeftEq ∷ ShiftRightEq ∷ ShiftRight3Eq ∷ PipeEq ∷ CaretEq ∷ AmpEq ∷ Amp2Eq ∷ Pipe2Eq ∷ Question2Eq ∷ Star2Eq ∷ Semicolon ∷ LParen ∷ RParen ∷ LBrack ∷ RBrack ∷ Dot3 ∷ Arrow ∷ []
+read_kinds = Eof ∷ This ∷ Null ∷ True ∷ False ∷ Typeof ∷ Void ∷ Delete ∷ In ∷ Instanceof ∷ Decimal ∷ Float ∷ Binary ∷ Octal ∷ Hex ∷ PositiveExponential ∷ NegativeExponential ∷ DecimalBigInt ∷ BinaryBigInt ∷ OctalBigInt ∷ HexBigInt ∷ Str ∷ Tilde ∷ Bang ∷ Plus ∷ Minus ∷ Star ∷ Star2 ∷ Slash ∷ Percent ∷ Eq2 ∷ Eq3 ∷ Neq ∷ Neq2 ∷ LAngle ∷ LtEq ∷ RAngle ∷ GtEq ∷ ShiftLeft ∷ ShiftRight ∷ ShiftRight3 ∷ Amp ∷ Amp2 ∷ Pipe ∷ Pipe2 ∷ Caret ∷ Question ∷ Question2 ∷ Colon ∷ Comma ∷ Dot ∷ QuestionDot ∷ New ∷ Break ∷ Continue ∷ Debugger ∷ Throw ∷ If ∷ Else ∷ While ∷ Do ∷ With ∷ Var ∷ Const ∷ Plus2 ∷ Minus2 ∷ Eq ∷ PlusEq ∷ MinusEq ∷ StarEq ∷ SlashEq ∷ PercentEq ∷ ShiftLeftEq ∷ ShiftRightEq ∷ ShiftRight3Eq ∷ PipeEq ∷ CaretEq ∷ AmpEq ∷ Amp2Eq ∷ Pipe2Eq ∷ Question2Eq ∷ Star2Eq ∷ Semicolon ∷ LParen ∷ RParen ∷ LBrack ∷ RBrack ∷ Dot3 ∷ Arrow ∷ name_kinds
 
 -- a lexeme of these kinds, without an escape
 abbrev pub is_read : Lexeme → Bool
 is_read y = one_of_kinds read_kinds y.kind && not y.escaped
 
+-- the reserved words among them
+abbrev pub read_reserved : Kind → Bool
+read_reserved This = true
+read_reserved Null = true
+read_reserved True = true
+read_reserved False = true
+read_reserved Typeof = true
+read_reserved Void = true
+read_reserved Delete = true
+read_reserved In = true
+read_reserved Instanceof = true
+read_reserved New = true
+read_reserved Break = true
+read_reserved Continue = true
+read_reserved Debugger = true
+read_reserved Throw = true
+read_reserved If = true
+read_reserved Else = true
+read_reserved While = true
+read_reserved Do = true
+read_reserved With = true
+read_reserved Var = true
+read_reserved Const = true
+read_reserved _ = false
+
 -- the words among them
 abbrev pub read_word : Kind → Bool
-read_word Ident = true
-read_word This = true
-read_word Null = true
-read_word True = true
-read_word False = true
-read_word Typeof = true
-read_word Void = true
-read_word Delete = true
-read_word In = true
-read_word Instanceof = true
-read_word New = true
-read_word Break = true
-read_word Continue = true
-read_word Debugger = true
-read_word Throw = true
-read_word If = true
-read_word Else = true
-read_word While = true
-read_word Do = true
-read_word With = true
-read_word Var = true
-read_word Const = true
-read_word _ = false
+read_word k = one_of_kinds name_kinds k || read_reserved k
 
 -- the operators between two operands among them that are no words
 abbrev pub read_operator : Kind → Bool

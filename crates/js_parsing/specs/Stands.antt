@@ -6,7 +6,7 @@ use Rattle.js_base.specs.Kinds.{one_of_kinds}
 use Rattle.js_grammar.specs.Grammar.{Lexeme}
 use Rattle.js_grammar.specs.Productions.{Flags, at}
 use Rattle.js_cursor.specs.Parsers.{Parser}
-use Rattle.js_parsing.specs.Lexemes.{Lex}
+use Rattle.js_parsing.specs.Lexemes.{Lex, name_kinds}
 use Rattle.js_parsing.specs.States.{At, Same}
 use Rattle.std.specs.Prelude.{◌||◌, IsTrue, nat_lt}
 use Rattle.js_base.specs.declared.kind.Kind.TheVariants.{Question, Colon, Comma, Semicolon, RParen, Eof}
@@ -16,6 +16,11 @@ use Rattle.js_parsing.specs.Operators.{power_of}
 abbrev pub StandsHere : Parser → Kind → Bool → Type 0
 StandsHere p k true = (p.token.kind ≡ k) × (p.token.escaped ≡ false)
 StandsHere p k false = p.token.kind ≡ k → p.token.escaped ≡ false → ⊥
+
+-- whether a name stands here, without an escape
+abbrev pub NameHere : Parser → Bool → Type 0
+NameHere p true = (one_of_kinds name_kinds p.token.kind ≡ true) × (p.token.escaped ≡ false)
+NameHere p false = one_of_kinds name_kinds p.token.kind ≡ true → p.token.escaped ≡ false → ⊥
 
 -- What may stand behind an operand that no link and no update goes on with.
 abbrev pub ending_kinds : List Kind

@@ -5,8 +5,8 @@ ghost use Rattle.js_cursor.specs.Moves.{OnlyMemory};
 ghost use Rattle.js_parsing.specs.States.{Standing};
 ghost use Rattle.js_base.specs.Contexts.{has_flag, in_flag};
 ghost use Rattle.js_base.specs.Kinds.{one_of_kinds};
-ghost use Rattle.js_parsing.specs.Lexemes.{read_kinds, read_mark, read_operator, read_word};
-ghost use Rattle.js_parsing.specs.Stands.{EndsOperand, ReadsHere, StandsHere};
+ghost use Rattle.js_parsing.specs.Lexemes.{name_kinds, read_kinds, read_mark, read_operator, read_reserved, read_word};
+ghost use Rattle.js_parsing.specs.Stands.{EndsOperand, NameHere, ReadsHere, StandsHere};
 ghost use Rattle.js_parsing.specs.Operators.{power_of};
 ghost use Rattle.js_parsing.specs.Moves.{IsCompleted, IsWholeHere, Moves, OperatorHere};
 
@@ -67,14 +67,60 @@ pub fn stands<C: ParserConfig>(p: &ParserImpl<'_, C>, kind: Kind) -> bool
     p.at(kind) && !p.cur_token().escaped()
 }
 
-/// Whether it is a word that is read.
-pub fn is_read_word(kind: Kind) -> bool
-    ensures { result ≡ read_word kind }
+/// Whether it is a name, or a word that is one wherever a name may stand (ECMA-262, section 13.1).
+#[inline(always)]
+pub fn is_name(kind: Kind) -> bool
+    ensures { result ≡ one_of_kinds name_kinds kind }
 {
     matches!(
         kind,
         Kind::Ident
-            | Kind::This
+            | Kind::Static
+            | Kind::Implements
+            | Kind::Interface
+            | Kind::Package
+            | Kind::Private
+            | Kind::Protected
+            | Kind::Public
+            | Kind::Of
+            | Kind::Get
+            | Kind::Set
+            | Kind::As
+            | Kind::From
+            | Kind::Assert
+            | Kind::Accessor
+            | Kind::Using
+            | Kind::Defer
+            | Kind::Source
+            | Kind::Meta
+            | Kind::Satisfies
+            | Kind::Constructor
+            | Kind::TypeWord
+    )
+}
+
+/// Whether a name stands here, without an escape.
+#[inline(always)]
+pub fn name_stands<C: ParserConfig>(p: &ParserImpl<'_, C>) -> bool
+    ensures { NameHere p.now result }
+{
+    is_name(p.cur_kind()) && !p.cur_token().escaped()
+}
+
+/// Whether it is a word that is read.
+pub fn is_read_word(kind: Kind) -> bool
+    ensures { result ≡ read_word kind }
+{
+    is_name(kind) || is_read_reserved_word(kind)
+}
+
+/// Whether it is a reserved word that is read.
+fn is_read_reserved_word(kind: Kind) -> bool
+    ensures { result ≡ read_reserved kind }
+{
+    matches!(
+        kind,
+        Kind::This
             | Kind::Null
             | Kind::True
             | Kind::False

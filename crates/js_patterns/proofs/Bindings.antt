@@ -3,7 +3,7 @@ use Rattle.std.proofs.Common.{ℕ, ◌≡◌, max, List, [], ◌∷◌, length, 
 use Rattle.std.specs.Prelude.{Result, Ok, Err, MatchResult, IsCharBoundary}
 use Rattle.std.proofs.lemmas.Bool.{false≢true}
 use Rattle.js_base.specs.declared.kind.Kind.{Kind}
-use Rattle.js_base.specs.declared.kind.Kind.TheVariants.{RAngle, LBrack, RBrack, RParen, Comma, Dot3, Eq, Ident, PrivateIdentifier}
+use Rattle.js_base.specs.declared.kind.Kind.TheVariants.{RAngle, LBrack, RBrack, RParen, Comma, Dot3, Eq, PrivateIdentifier}
 use Rattle.js_base.specs.declared.span.Span.{Span}
 use Rattle.js_base.specs.Kinds.{same_kind, one_of_kinds}
 use Rattle.js_base.specs.Texts.{words}
@@ -32,8 +32,8 @@ use Rattle.js_cursor.specs.declared.stop.Stop.TheVariants.{Fatal, NoMemory}
 use Rattle.js_parsing.specs.Answers.{Underived, Answer, Numbered, Outcome, Stops}
 use Rattle.js_parsing.specs.Arguments.{Partway, behind_item, ItemTaken, NoItem}
 use Rattle.js_patterns.specs.Bindings.{elements_left}
-use Rattle.js_parsing.specs.Lexemes.{Lex}
-use Rattle.js_parsing.specs.Stands.{StandsHere}
+use Rattle.js_parsing.specs.Lexemes.{Lex, name_kinds}
+use Rattle.js_parsing.specs.Stands.{NameHere, StandsHere}
 use Rattle.js_parsing.specs.Moves.{Moved, MadeHere, LeafTaken, TakesLeaf, plain_label}
 use Rattle.js_parsing.specs.States.{At, Same, NodesLie}
 use Rattle.js_parsing.proofs.Signs.{other_kind, plain_sign}
@@ -41,7 +41,8 @@ use Rattle.js_parsing.proofs.Giving.{fails_escaped, gives_up}
 use Rattle.js_parsing.proofs.Here.{kind_here, uncut}
 use Rattle.js_parsing.proofs.MadeNodes.{leaf_held, node_held, one_held, two_held, one_lies, made_lies}
 use Rattle.js_parsing.proofs.Moving.{beside_nodes, moves, same_both, same_with, stops_behind}
-use Rattle.js_operands.proofs.Operands.{by_path, name_test, one_path, plain_leaf}
+use Rattle.js_operands.proofs.Operands.{by_path, name_leaf}
+use Rattle.js_parsing.proofs.NameKinds.{name_apart, no_name_here, or_name}
 use Rattle.js_parsing.proofs.Parts.{part_path, part_path_fails, part_sign, part_last, parts}
 use Rattle.js_parsing.proofs.Paths.{Path, ◌⟼◌, ◌⟶◌, ◌⟶✗◌, at_kind, fails_at, token, last_called, noded, noded_by, by_symbol_as, label_here}
 use Rattle.js_parsing.proofs.Verdicts.{verdict_of, grown_then}
@@ -94,38 +95,36 @@ item_answers {text} {f} {n} {p} {q} w {l} {cs} {id} r s m h k i = go w.nodes m h
 -- ---- a name
 
 -- a name that is bound
-pub bound_path : {text : List ℕ} {f : Flags} {X : Test} {p q : Parser} → At text f p → p.token.kind ≡ Ident → p.token.escaped ≡ false → Moved text f p q → Path text f X (symbol BindingIdentifier f) p nothing q (tree (label_here binding_identifier no_op p q) end)
+pub bound_path : {text : List ℕ} {f : Flags} {X : Test} {p q : Parser} → At text f p → one_of_kinds name_kinds p.token.kind ≡ true → p.token.escaped ≡ false → Moved text f p q → Path text f X (symbol BindingIdentifier f) p nothing q (tree (label_here binding_identifier no_op p q) end)
 unfolding rule rule_of
-bound_path {f = f} a k e m = by_symbol_as {X' = plain full} (λ l cs vs y d. (refl, refl)) (noded a (one_path (name_test f) a m (plain_leaf Ident k e refl m) (rw (sym m.tells.kind ∙ k) refl)))
+bound_path a k e m = by_symbol_as {X' = plain full} (λ l cs vs y d. (refl, refl)) (noded a (name_leaf a k e m))
 
-neither_kind : (a b k : Kind) → (k ≡ a → ⊥) → (k ≡ b → ⊥) → one_of_kinds (a ∷ b ∷ []) k ≡ false
-neither_kind a b k n m = go (same_kind a k) refl
-  where
-    go : (r : Bool) → same_kind a k ≡ r → (r || one_of_kinds (b ∷ []) k) ≡ false
-    go true e = absurd (n (sym (kind_of_same a k e)))
-    go false e = other_kind b k m
+-- no pattern begins with a name
+pub no_pattern_name : (k : Kind) → one_of_kinds name_kinds k ≡ true → one_of_kinds (LBrack ∷ []) k ≡ false
+unfolding apart
+no_pattern_name k h = name_apart (LBrack ∷ []) refl k h
 
 module _ {text : List ℕ} {f : Flags} {p : Parser} (a : At text f p) where
-  binding_path : {q : Parser} → p.token.kind ≡ Ident → p.token.escaped ≡ false → Moved text f p q → Path text f (after (at Binding f)) (rule (at Binding f)) p nothing q (tree (label_here binding_identifier no_op p q) end)
+  binding_path : {q : Parser} → one_of_kinds name_kinds p.token.kind ≡ true → p.token.escaped ≡ false → Moved text f p q → Path text f (after (at Binding f)) (rule (at Binding f)) p nothing q (tree (label_here binding_identifier no_op p q) end)
   unfolding rule rule_of covers apart
-  binding_path k e m = left (fails_at a (symbol Pattern f) (LBrack ∷ []) refl (ap (one_of_kinds (LBrack ∷ [])) k)) ⟼ bound_path a k e m
+  binding_path k e m = left (fails_at a (symbol Pattern f) (LBrack ∷ []) refl (no_pattern_name _ k)) ⟼ bound_path a k e m
 
-  name_answers : {q : Parser} {id : NodeId} → p.token.kind ≡ Ident → p.token.escaped ≡ false → LeafTaken node_kind.BindingIdentifier op_made.None text f p q id → Numbered text f (at Binding f) p q id
+  name_answers : {q : Parser} {id : NodeId} → one_of_kinds name_kinds p.token.kind ≡ true → p.token.escaped ≡ false → LeafTaken node_kind.BindingIdentifier op_made.None text f p q id → Numbered text f (at Binding f) p q id
   name_answers k e t =
       let l : plain_label node_kind.BindingIdentifier op_made.None p.token.span ≡ label_here binding_identifier no_op p t.mid = ap (λ (v : ℕ). record { kind = binding_identifier; op = no_op; flags = 0; span = record { from = p.token.span.start; to = v } }) (t.moved.tells.end ∙ t.moved.ends) in
       let ks : Keeps p.nodes t.mid.nodes = subst (λ (ns : List Node). Keeps p.nodes ns) (sym t.moved.nodes) (Keeps-refl p.nodes) in
       by_path (subst (λ (v : Label). Path text f (after (at Binding f)) (rule (at Binding f)) p nothing t.mid (tree v end)) (sym l) (binding_path k e t.moved)) t.moved.same t.made.stays (λ y i. refl) refl (leaf_held t.made ks) (Keeps-trans ks (Keeps-made t.made.made)) (ap (λ (v : Label). v.span) l) (one_lies t.made)
 
   -- neither a name nor a pattern stands here
-  pub no_binding : StandsHere p LBrack false → (p.token.kind ≡ Ident → p.token.escaped ≡ false → ⊥) → Underived text (at Binding f) p.prev_token_end
+  pub no_binding : StandsHere p LBrack false → NameHere p false → Underived text (at Binding f) p.prev_token_end
   unfolding rule rule_of covers apart
   no_binding u n = by p.token.escaped refl
     where
       by : (b : Bool) → p.token.escaped ≡ b → Underived text (at Binding f) p.prev_token_end
       by true e = fails_escaped a e
-      by false e = fails_by (fails_at a (rule (at Binding f)) (Ident ∷ LBrack ∷ []) refl (neither_kind Ident LBrack p.token.kind (λ k. n k e) (λ k. u k e)))
+      by false e = fails_by (fails_at a (rule (at Binding f)) (LBrack ∷ name_kinds) refl (or_name LBrack p.token.kind (λ k. u k e) (no_name_here p n e)))
 
-pub name_outcome : (text : List ℕ) (f : Flags) (p q : Parser) (r : Result NodeId Stop) → At text f p → StandsHere p Ident true → MatchResult r (λ id. TakesLeaf node_kind.BindingIdentifier op_made.None p q id) OnlyMemory → Outcome text f (at Binding f) p q r
+pub name_outcome : (text : List ℕ) (f : Flags) (p q : Parser) (r : Result NodeId Stop) → At text f p → NameHere p true → MatchResult r (λ id. TakesLeaf node_kind.BindingIdentifier op_made.None p q id) OnlyMemory → Outcome text f (at Binding f) p q r
 name_outcome text f p q (Ok id) a s m = name_answers a s.0 s.1 (m text f a)
 name_outcome text f p q (Err Fatal) a s m = absurd m
 name_outcome text f p q (Err NoMemory) a s m = tt

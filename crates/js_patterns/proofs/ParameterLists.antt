@@ -1,7 +1,7 @@
 -- Formal parameters (ECMA-262, 15.1): one of them, and their list in parentheses.
 use Rattle.std.proofs.Common.{ℕ, ◌≡◌, List, [], ◌∷◌, ◌++◌, length, Option, Some, None, true, false, ◌||◌, refl, ap, subst, arith}
 use Rattle.js_base.specs.declared.kind.Kind.{Kind}
-use Rattle.js_base.specs.declared.kind.Kind.TheVariants.{LParen, RParen, LBrack, RBrack, Comma, Dot3, Eq, Ident, PrivateIdentifier}
+use Rattle.js_base.specs.declared.kind.Kind.TheVariants.{LParen, RParen, LBrack, RBrack, Comma, Dot3, Eq, PrivateIdentifier}
 use Rattle.js_base.specs.declared.span.Span.{Span}
 use Rattle.js_base.specs.Kinds.{same_kind, one_of_kinds}
 use Rattle.js_base.specs.Texts.{words}
@@ -26,7 +26,7 @@ use Rattle.js_cursor.specs.Parsers.{Parser}
 use Rattle.js_cursor.specs.declared.stop.Stop.{Stop}
 use Rattle.js_parsing.specs.Answers.{Underived, Answer, Numbered, Stops}
 use Rattle.js_parsing.specs.Arguments.{Partway, behind_item, ItemTaken, NoItem}
-use Rattle.js_parsing.specs.Lexemes.{Lex}
+use Rattle.js_parsing.specs.Lexemes.{Lex, name_kinds}
 use Rattle.js_parsing.specs.Lists.{NoneLeft, OneMore}
 use Rattle.js_parsing.specs.Moves.{Moved, MadeHere, plain_label}
 use Rattle.js_patterns.specs.Parameters.{parameters_left}
@@ -119,7 +119,7 @@ module _ {text : List ℕ} {f : Flags} {p q : Parser} {bound : NodeId} (a : At t
 
 -- what may begin a parameter, of what is read
 abbrev parameter_kinds : List Kind
-parameter_kinds = Ident ∷ LBrack ∷ []
+parameter_kinds = LBrack ∷ name_kinds
 
 -- no item takes its comma itself
 no_gap : {text : List ℕ} {s : ℕ} → NoneLeft text never s

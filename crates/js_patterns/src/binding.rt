@@ -21,7 +21,7 @@ use js_lex::ParserConfig;
 use js_operands::primary::parse_leaf;
 use js_parsing::context::assignment_with_in;
 use js_parsing::diagnostics::diagnostic_at;
-use js_parsing::lexemes::{advance, stands};
+use js_parsing::lexemes::{advance, name_stands, stands};
 use js_parsing::nested::Nested;
 use js_parsing::nodes::{make_list, make_one, make_two};
 use js_tree::{NodeId, NodeKind, Op};
@@ -83,7 +83,7 @@ fn parse_binding_identifier<C: ParserConfig>(p: &mut ParserImpl<'_, C>) -> Resul
     ensures answers { Answers (at Binding) p.old p.new result }
     ensures lexeme { IfOk result (λ _. p.old.token.kind ≡ Undetermined → ⊥) }
 {
-    if !stands(p, Kind::Ident) {
+    if !name_stands(p) {
         return Err(p.set_unexpected());
     }
     parse_leaf(p, NodeKind::BindingIdentifier, Op::None)

@@ -2,7 +2,8 @@
 use Rattle.std.proofs.Common.{ℕ, suc, ◌≡◌, ◌≤◌, List, [], ◌∷◌, length, Option, Some, Bool, true, false, not, ◌&&◌, IsTrue, refl, sym, ap, subst, arith, ◌∙◌}
 use Rattle.std.proofs.lemmas.Bool.{false≢true, and_from}
 use Rattle.js_base.specs.declared.diagnostic.Diagnostic.{Diagnostic}
-use Rattle.js_base.specs.declared.kind.Kind.TheVariants.{Colon, Ident, LCurly, RAngle}
+use Rattle.js_base.specs.declared.kind.Kind.TheVariants.{Colon, LCurly, RAngle}
+use Rattle.js_base.specs.declared.kind.Kind.{Kind}
 use Rattle.js_base.specs.declared.span.Span.{Span}
 use Rattle.js_base.specs.Contexts.{has_flag, in_flag}
 use Rattle.js_base.specs.Kinds.{same_kind, one_of_kinds}
@@ -26,15 +27,19 @@ use Rattle.js_tree.specs.Nodes.{Node}
 use Rattle.js_tree.specs.Holding.{Holds, Keeps}
 use Rattle.js_tree.proofs.HoldingLemmas.{Keeps-trans, Keeps-made}
 use Rattle.js_cursor.specs.Parsers.{Parser}
+use Rattle.std.specs.Prelude.{Err}
+use Rattle.js_cursor.specs.Moves.{OnlyMemory}
 use Rattle.js_cursor.specs.declared.stop.Stop.{Stop}
+use Rattle.js_cursor.specs.declared.stop.Stop.TheVariants.{Fatal, NoMemory}
 use Rattle.js_parsing.specs.Answers.{Grown, Verdict, clean, unclean, Stretch, Underived, Answer, Numbered, Stops}
-use Rattle.js_parsing.specs.Lexemes.{Lex, Walked, Spot, spot, nowhere, one_more}
+use Rattle.js_parsing.specs.Lexemes.{Lex, Walked, name_kinds, Spot, spot, nowhere, one_more}
 use Rattle.js_parsing.specs.Nesting.{room}
 use Rattle.js_parsing.specs.Moves.{Moved, MadeHere, plain_label}
-use Rattle.js_parsing.specs.Statements.{placed, no_link, statement_kinds, after_statement, NoStatement, Statement, IsLabel}
+use Rattle.js_parsing.specs.Statements.{placed, no_link, statement_kinds, after_statement, NoStatement, Statement, StatementOutcome, IsLabel}
 use Rattle.js_parsing.specs.States.{At, Same}
 use Rattle.js_parsing.proofs.Signs.{plain_sign}
 use Rattle.js_expressions.proofs.Conditionals.{colon_plain}
+use Rattle.js_parsing.proofs.NameKinds.{at_name, name_apart, name_passes, name_read, name_whole}
 use Rattle.js_parsing.proofs.Dead.{lives}
 use Rattle.js_parsing.proofs.Here.{found, uncut}
 use Rattle.js_parsing.proofs.MadeNodes.{leaf_held, two_held, one_lies, from_start}
@@ -122,14 +127,15 @@ made_in h n = ap (λ (v : Parser). has_flag in_flag v.ctx) n.stays ∙ h
 
 module _ {text : List ℕ} {f : Flags} {p q : Parser} (a : At text f p) (x : Answer text f (at Expression f) p q) (i : IsLabel p.token q) where
   -- the name
-  name : (y : Lexeme) × Lex text p.prev_token_end y × (y.kind ≡ Ident) × (y.to ≡ q.prev_token_end)
+  name : (y : Lexeme) × Lex text p.prev_token_end y × (one_of_kinds name_kinds y.kind ≡ true) × (y.to ≡ q.prev_token_end)
   name =
-      let z = found a (uncut a (ap (same_kind RAngle) i.name)) (rw (i.name) refl) in
-      let k : z.0.kind ≡ Ident = sym z.2.kind ∙ i.name in
-      (z.0, (z.1, read_of z.0 k (sym z.2.escaped ∙ i.plain) refl), k, sym z.2.end ∙ i.place)
+      let w = name_whole a i.name in
+      let z = found a w.0 w.1 in
+      let k : one_of_kinds name_kinds z.0.kind ≡ true = subst (λ (v : Kind). one_of_kinds name_kinds v ≡ true) z.2.kind i.name in
+      (z.0, (z.1, read_of z.0 refl (sym z.2.escaped ∙ i.plain) (name_read z.0.kind k)), k, sym z.2.end ∙ i.place)
 
   looks_so : IsTrue (seen (name_look f) name.0)
-  looks_so = rw (name.2) refl
+  looks_so = name_passes f name.0 name.2
 
   -- and the colon
   colon : (z : Lexeme) × Lex text q.prev_token_end z × (z.kind ≡ Colon)
@@ -179,12 +185,12 @@ module _ {text : List ℕ} {f : Flags} {p q : Parser} (a : At text f p) (x : Ans
 
   to_labeled : {X : Test} → Goes rule (Lex text) X end (rule (at AStatement f)) p.prev_token_end (symbol Labeled f) p.prev_token_end (λ us. us) (still 0)
   unfolding rule rule_of covers
-  to_labeled = at_kind a Ident i.name refl
+  to_labeled = at_name a i.name
 
   -- it is no expression with a semicolon
   to_placed : (b : Bool) → Goes rule (Lex text) (after_statement (placed b f)) end (rule (placed b f)) p.prev_token_end (symbol AStatement f) p.prev_token_end (λ us. us) (still 0)
   unfolding apart
-  to_placed true = subst (λ (g : G). Goes rule (Lex text) (after_statement (at ListItem f)) end (rule (at ListItem f)) p.prev_token_end g p.prev_token_end (λ us. us) (still 0)) (item_left f) (lives (rule (at ListItem f))) ▹ left (fails_alt (pass_over (reads_not_then (is 'let') (word_or (LCurly ∷ [])) refl) ▹✗ no_expression_ends true x (before_colon x.at (goes_on (row_of x.label x.slots)) i.colon)) (no_constants a (ap (one_of_kinds statement_kinds) i.name)))
+  to_placed true = subst (λ (g : G). Goes rule (Lex text) (after_statement (at ListItem f)) end (rule (at ListItem f)) p.prev_token_end g p.prev_token_end (λ us. us) (still 0)) (item_left f) (lives (rule (at ListItem f))) ▹ left (fails_alt (pass_over (reads_not_then (is 'let') (word_or (LCurly ∷ [])) refl) ▹✗ no_expression_ends true x (before_colon x.at (goes_on (row_of x.label x.slots)) i.colon)) (no_constants a (name_apart statement_kinds refl p.token.kind i.name)))
   to_placed false = subst (λ (g : G). Goes rule (Lex text) (after_statement (at Sub f)) end (rule (at Sub f)) p.prev_token_end g p.prev_token_end (λ us. us) (still 0)) (sub_left f) (lives (rule (at Sub f))) ▹ left (no_expression_ends false x (before_colon x.at (goes_on (row_of x.label x.slots)) i.colon))
 
   -- what is in the node can't be read
@@ -247,3 +253,8 @@ module _ {text : List ℕ} {f : Flags} {p q : Parser} {id : NodeId} (a : At text
           let ky : Keeps w.nodes v.nodes = subst (λ (ns : List Node). Keeps ns v.nodes) m.nodes y.keeps in
           by_statement (labeled_path a x.answer i b (body_path a x.answer i labeled m y)) y.closed (same_both label_same y.same) k.stays
           (two_held k (leaf_held labeled x.keeps) kw (subst (λ (ns : List Node). Holds v.nodes (length ns) (length v.nodes) body.0 y.label y.slots) m.nodes y.holds) ky) (Keeps-trans kw (Keeps-trans ky (Keeps-made k.made))) refl (one_lies k)
+
+-- what is said where memory was refused
+pub label_memory : (text : List ℕ) (f : Flags) (b : Bool) (p q : Parser) (e : Stop) → OnlyMemory e → StatementOutcome text f (placed b f) p q (Err e)
+label_memory text f b p q Fatal m = absurd m
+label_memory text f b p q NoMemory m = tt

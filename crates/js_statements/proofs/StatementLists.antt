@@ -3,7 +3,7 @@ use Rattle.js_parsing.proofs.MadeNodes.{held_label, one_lies, LabelLies, from_st
 use Rattle.std.proofs.Common.{ℕ, ◌≡◌, ◌<◌, max, List, [], ◌∷◌, ◌++◌, length, Bool, true, false, not, ◌&&◌, cond, IsTrue, Option, Some, refl, sym, ap, subst, arith, ◌∙◌}
 use Rattle.std.specs.Prelude.{◌↔◌}
 use Rattle.std.proofs.lemmas.Bool.{false≢true, and_parts, and_from}
-use Rattle.js_base.specs.declared.kind.Kind.TheVariants.{Eof, Ident, Str}
+use Rattle.js_base.specs.declared.kind.Kind.TheVariants.{Eof, Str}
 use Rattle.js_base.specs.declared.span.Span.{Span}
 use Rattle.js_base.specs.Contexts.{has_flag, in_flag}
 use Rattle.js_base.specs.Kinds.{one_of_kinds}
@@ -32,7 +32,7 @@ use Rattle.js_tree.specs.Nodes.{Node, node_at, label}
 use Rattle.js_tree.specs.Holding.{Holds, HoldsAll, Keeps}
 use Rattle.js_tree.proofs.HoldingLemmas.{HoldsAll-none, HoldsAll-next, Holds-below, Keeps-refl, Keeps-trans, Keeps-made}
 use Rattle.js_cursor.specs.Parsers.{Parser}
-use Rattle.js_parsing.specs.Lexemes.{Lex, nowhere}
+use Rattle.js_parsing.specs.Lexemes.{Lex, name_kinds, nowhere}
 use Rattle.js_parsing.specs.States.{At, Same, flags_of, NodesLie}
 use Rattle.js_parsing.specs.Nesting.{room}
 use Rattle.js_parsing.specs.Moves.{MadeHere, plain_label}
@@ -230,7 +230,7 @@ module _ {text : List ℕ} {f : Flags} {p : Parser} (a : At text f p) (s : p.tok
   no_own_kind = ap (one_of_kinds statement_kinds) s
 
   no_label : (X : Test) → Fails rule (Lex text) X end (symbol Labeled f) p.prev_token_end
-  no_label X = no_label_at a (λ e. let k : Str ≡ Ident = sym s ∙ e in absurd (cc)) X
+  no_label X = no_label_at a (ap (one_of_kinds name_kinds) s) X
 
   -- neither an expression stands here, nor a directive
   pub no_opening : Underived text (at Expression f) p.prev_token_end → NoList text (with_directives f) p.prev_token_end

@@ -5,7 +5,7 @@ use Rattle.std.specs.Prelude.{◌↔◌, Result, Ok, Err, MatchResult}
 use Rattle.js_base.specs.declared.token.Token.{Token}
 use Rattle.std.proofs.lemmas.Bool.{false≢true, or_left, and_from, and_parts}
 use Rattle.js_base.specs.declared.kind.Kind.{Kind}
-use Rattle.js_base.specs.declared.kind.Kind.TheVariants.{Colon, Ident, Yield, Semicolon, RCurly, Eof, RAngle, LCurly, LBrack, At as at_sign}
+use Rattle.js_base.specs.declared.kind.Kind.TheVariants.{Colon, Yield, Semicolon, RCurly, Eof, RAngle, LCurly, LBrack, At as at_sign}
 use Rattle.js_base.specs.declared.kind.Kind.TheVariants as kind
 use Rattle.js_base.specs.declared.span.Span.{Span}
 use Rattle.js_base.specs.Contexts.{has_flag, in_flag}
@@ -43,7 +43,7 @@ use Rattle.js_cursor.specs.Parsers.{Parser}
 use Rattle.js_cursor.specs.Moves.{MayEnd, EndsOr, GivesUp, IsUnexpected, OnlyMemory, ends_statement, is_last}
 use Rattle.js_cursor.specs.declared.stop.Stop.{Stop}
 use Rattle.js_cursor.specs.declared.stop.Stop.TheVariants.{Fatal, NoMemory}
-use Rattle.js_parsing.specs.Lexemes.{Lex}
+use Rattle.js_parsing.specs.Lexemes.{Lex, name_kinds}
 use Rattle.js_parsing.specs.States.{At, Same, NodesLie}
 use Rattle.js_parsing.specs.Moves.{IsWholeHere, Moved, MadeHere, LeafTaken, TakesLeaf, plain_label}
 use Rattle.js_parsing.specs.Answers.{Underived, Answer, Numbered, Stops, beside}
@@ -51,6 +51,7 @@ use Rattle.js_parsing.specs.Statements.{placed, link_kinds, statement_kinds, no_
 use Rattle.js_declarations.specs.Declarations.{stops_row}
 use Rattle.js_parsing.proofs.Verdicts.{verdict_of, either_way}
 use Rattle.js_parsing.proofs.Moving.{moves, same_both, same_itself, same_with, beside_nodes}
+use Rattle.js_parsing.proofs.NameKinds.{name_whole}
 use Rattle.js_parsing.proofs.Here.{kind_here, newline_here, told, uncut}
 use Rattle.js_parsing.proofs.Dead.{live, lives}
 use Rattle.js_parsing.proofs.MadeNodes.{leaf_held, one_held, one_lies, LabelLies, from_start}
@@ -360,22 +361,15 @@ module _ {text : List ℕ} {f : Flags} {p q : Parser} (a : At text f p) (x : Ans
       (λ u. let w = u.goes.only (tree cs end end) end y.to (next y (next z rest)) (next z rest) (l, ls) d e in let n = ends w.4 in m (label (subst (λ (v : Lexemes). Lexes (Lex text) q.prev_token_end v) n.2 w.3) (sym n.1)))
       (λ n. n.no (tree cs end end) end y.to (next y (next z rest)) (next z rest) (l, ls) d e)
     where
-      name_kind : y.kind ≡ Ident
-      name_kind = by_name (covered (λ k w e. may_bind k && reads k w e) (λ k w e. one_of_kinds (Ident ∷ []) k) refl y.kind y.newline y.escaped (and_from _ _ (and_parts (may_bind y.kind) _ (and_parts (may_bind y.kind && not (same_kind Yield y.kind && f.yield_)) _ t).0).0 l.1))
-        where
-          by_name : one_of_kinds (Ident ∷ []) y.kind ≡ true → y.kind ≡ Ident
-          by_name h = go (same_kind Ident y.kind) refl h
-            where
-              go : (b : Bool) → same_kind Ident y.kind ≡ b → (b || false) ≡ true → y.kind ≡ Ident
-              go true e h = sym (kind_of_same Ident y.kind e)
-              go false e h = absurd (false≢true h)
+      name_kind : one_of_kinds name_kinds y.kind ≡ true
+      name_kind = covered (λ k w e. may_bind k && reads k w e) (λ k w e. one_of_kinds name_kinds k) refl y.kind y.newline y.escaped (and_from _ _ (and_parts (may_bind y.kind) _ (and_parts (may_bind y.kind && not (same_kind Yield y.kind && f.yield_)) _ t).0).0 l.1)
 
-      token_kind : p.token.kind ≡ Ident
-      token_kind = go (same_kind Ident p.token.kind) refl
+      token_kind : one_of_kinds name_kinds p.token.kind ≡ true
+      token_kind = go (one_of_kinds name_kinds p.token.kind) refl
         where
-          go : (b : Bool) → same_kind Ident p.token.kind ≡ b → p.token.kind ≡ Ident
-          go true e = sym (kind_of_same Ident p.token.kind e)
-          go false e = absurd (not_here a (Ident ∷ []) refl (rw e refl) y l (subst (λ (k : Kind). one_of_kinds (Ident ∷ []) k ≡ true) (sym name_kind) refl))
+          go : (b : Bool) → one_of_kinds name_kinds p.token.kind ≡ b → one_of_kinds name_kinds p.token.kind ≡ true
+          go true e = e
+          go false e = absurd (not_here a name_kinds refl e y l name_kind)
 
       colon_kind : Lex text q.prev_token_end z → q.token.kind ≡ Colon
       colon_kind h = go (same_kind Colon q.token.kind) refl
@@ -385,7 +379,7 @@ module _ {text : List ℕ} {f : Flags} {p q : Parser} (a : At text f p) (x : Ans
           go false e = absurd (not_here x.at (Colon ∷ []) refl (rw e refl) z h (or_left (same_kind Colon z.kind) false (and_parts (same_kind Colon z.kind) _ c).0))
 
       label : Lexes (Lex text) q.prev_token_end (next z rest) → y.to ≡ q.prev_token_end → IsLabel p.token q
-      label h e = let k = told a (uncut a (ap (same_kind RAngle) token_kind)) y l in record { colon = colon_kind h.0; name = token_kind; plain = k.escaped ∙ read_plain y l.1; place = k.end ∙ e }
+      label h e = let k = told a (name_whole a token_kind).0 y l in record { colon = colon_kind h.0; name = token_kind; plain = k.escaped ∙ read_plain y l.1; place = k.end ∙ e }
 
   pub no_label : (X : Test) → Fails rule (Lex text) X end (symbol Labeled f) p.prev_token_end
   no_label X = labels_fail (λ y z rest l i t c. two_stand y z rest l i.0 i t c)
@@ -395,9 +389,9 @@ pub no_label_here : {text : List ℕ} {f : Flags} {s : ℕ} → Underived text (
 no_label_here {text} {f} n X = labels_fail (λ y z rest l i t c. n.no (tree (label_of name_node (next y (next z rest)) y.to (next z rest)) end end) end y.to (next y (next z rest)) (next z rest) (l, i) (name_expression t) (admits (at Expression f) (tree (label_of name_node (next y (next z rest)) y.to (next z rest)) end end) z (covered (is Colon) (looser 1 f.in_ after_expression) (colon_ends f.in_) z.kind z.newline z.escaped c)))
 
 -- at another kind than a name
-pub no_label_at : {text : List ℕ} {f : Flags} {p : Parser} → At text f p → (p.token.kind ≡ Ident → ⊥) → (X : Test) → Fails rule (Lex text) X end (symbol Labeled f) p.prev_token_end
+pub no_label_at : {text : List ℕ} {f : Flags} {p : Parser} → At text f p → one_of_kinds name_kinds p.token.kind ≡ false → (X : Test) → Fails rule (Lex text) X end (symbol Labeled f) p.prev_token_end
 unfolding covers apart
-no_label_at {f = f} {p = p} a n X = fails_at a {X = X} (symbol Labeled f) (Ident ∷ []) refl (none_of_one Ident p.token.kind n)
+no_label_at {f = f} a n X = fails_at a {X = X} (symbol Labeled f) name_kinds refl n
 
 -- no declaration of constants stands here
 pub no_constants : {text : List ℕ} {f : Flags} {p : Parser} {X : Test} → At text f p → one_of_kinds statement_kinds p.token.kind ≡ false → Fails rule (Lex text) X end (symbol Lexical f) p.prev_token_end

@@ -20,7 +20,7 @@ use Rattle.js_grammar.specs.Productions.{Statement as AStatement}
 use Rattle.js_grammar.specs.Productions.{sym as symbol}
 use Rattle.js_grammar.specs.Table.{rule, rule_of}
 use Rattle.js_grammar.specs.Follow.{row_of, after}
-use Rattle.js_grammar.proofs.Looks.{covers, covered, apart}
+use Rattle.js_grammar.proofs.Looks.{covers, covered, apart, not_both}
 use Rattle.js_grammar.proofs.Calculus.{Heads, ◌▹◌, ◌▹✗◌, left, right, looks, closes, ends_by, by_omission, part_fails, reads_empty_slot, fails_alt, fails_ended, fails_look, fails_node, fails_rule, inside_plain}
 use Rattle.js_grammar.proofs.FirstClaims.{firsts}
 use Rattle.js_grammar.proofs.FirstRules.{fails_here}
@@ -40,8 +40,9 @@ use Rattle.js_cursor.specs.Places.{goal}
 use Rattle.js_cursor.specs.declared.stop.Stop.{Stop}
 use Rattle.js_cursor.specs.declared.stop.Stop.TheVariants.{Fatal, NoMemory}
 use Rattle.js_parsing.specs.Answers.{Grown, Underived, Numbered, Stops, unclean}
-use Rattle.js_parsing.specs.Lexemes.{Lex, Walked, read_kinds, read_word, nowhere, spot}
-use Rattle.js_parsing.specs.Stands.{StandsHere}
+use Rattle.js_parsing.specs.Lexemes.{Lex, Walked, name_kinds, read_kinds, read_word, nowhere, spot}
+use Rattle.js_parsing.specs.Stands.{NameHere, StandsHere}
+use Rattle.js_parsing.proofs.NameKinds.{a_name, no_name_here}
 use Rattle.js_parsing.specs.Moves.{IsWholeHere, LeafTaken, Moved, MadeHere, plain_label}
 use Rattle.js_parsing.specs.States.{At, Same}
 use Rattle.js_parsing.specs.Statements.{placed, no_link, after_statement, NoStatement, Statement, EndsStatement, NoEnd}
@@ -52,9 +53,9 @@ use Rattle.js_statements.proofs.Labels.{path_made}
 use Rattle.js_operands.proofs.Members.{word_whole}
 use Rattle.js_parsing.proofs.MadeNodes.{leaf_held, node_held, one_held, one_lies, made_lies}
 use Rattle.js_parsing.proofs.Moving.{moves, same_both, same_itself, same_with, stops_behind}
-use Rattle.js_operands.proofs.Operands.{one_path, plain_leaf, name_test}
+use Rattle.js_operands.proofs.Operands.{name_leaf}
 use Rattle.js_parsing.proofs.Paths.{Path, ◌⟼◌, ◌⟶◌, ◌⟶✗◌, at_kind, fails_at, token, last_token, noded, noded_by, by_symbol_as, label_here, walked_both, walked_from, walked_one}
-use Rattle.js_statements.proofs.Statements.{◌⟝◌, by_statement, by_such_statement, closes_or_line, either_of, end_path, ended_so, expression_path, never_open, no_close, no_semicolon, none_of_one, no_symbol, omits_at_end, omitted_so, semicolon_closes, semicolon_look, semicolon_path, to_semicolon_of, unended, whole_semicolon}
+use Rattle.js_statements.proofs.Statements.{◌⟝◌, by_statement, by_such_statement, closes_or_line, either_of, end_path, ended_so, expression_path, never_open, no_close, no_semicolon, no_symbol, omits_at_end, omitted_so, semicolon_closes, semicolon_look, semicolon_path, to_semicolon_of, unended, whole_semicolon}
 use Rattle.js_parsing.proofs.Ahead.{pass_over}
 use Rattle.js_parsing.proofs.Told.{told_at, told_same}
 use Rattle.js_parsing.proofs.Verdicts.{after as grown_behind, grown_both, grown_first, grown_on, grown_then, verdict_of}
@@ -179,19 +180,24 @@ record Jumped (text : List ℕ) (f : Flags) (k : Kind) (p r : Parser) (label : O
   held : HoldsAll r.nodes (length p.nodes) (length r.nodes) (label ∷ []) (slots end)
   keeps : Keeps p.nodes r.nodes
 
+-- no statement ends at a name
+no_name_ends : (k : Kind) → one_of_kinds name_kinds k ≡ true → ends_statement k ≡ true → ⊥
+unfolding apart
+no_name_ends k h e = not_both a_name (λ k w e. ends_statement k) refl k false false h e
+
 module _ {text : List ℕ} {f : Flags} {q : Parser} (a : At text f q) where
   -- no name stands here
-  no_name : {X : Test} → StandsHere q kind.Ident false → Fails rule (Lex text) X end (no_newline ▸ symbol LabelIdentifier f) q.prev_token_end
+  no_name : {X : Test} → NameHere q false → Fails rule (Lex text) X end (no_newline ▸ symbol LabelIdentifier f) q.prev_token_end
   unfolding covers apart
   no_name {X} n = by q.token.escaped refl
     where
       by : (b : Bool) → q.token.escaped ≡ b → Fails rule (Lex text) X end (no_newline ▸ symbol LabelIdentifier f) q.prev_token_end
       by true e = fails_escaped a e
-      by false e = fails_at a (no_newline ▸ symbol LabelIdentifier f) (kind.Ident ∷ []) refl (none_of_one kind.Ident q.token.kind (λ k. n k e))
+      by false e = fails_at a (no_newline ▸ symbol LabelIdentifier f) name_kinds refl (no_name_here q n e)
 
   -- nor a label, where the statement may end
   no_label : {X : Test} → MayEnd q → Fails rule (Lex text) X end (no_newline ▸ symbol LabelIdentifier f) q.prev_token_end
-  no_label (inl e) = no_name (λ k n. false≢true (sym (ap ends_statement k) ∙ e))
+  no_label (inl e) = no_name (λ k n. no_name_ends q.token.kind k e)
   no_label (inr w) = part_fails {X' = plain full} (fails_look (λ k w e. not w) (λ y l h. false≢true (sym (ap not (newline_here a y l ∙ w)) ∙ h))) (record { admits = λ ts us vs j k ls mid rest d e h. (refl, refl) })
 
   -- where it may not, the slot isn't empty
@@ -205,9 +211,9 @@ module _ {text : List ℕ} {f : Flags} {q : Parser} (a : At text f q) where
       go true e = absurd (m (inr e))
       go false e = e
 
-  label_read : {X : Test} {r : Parser} → StandsHere q kind.Ident true → Moved text f q r → Path text f X (symbol LabelIdentifier f) q nothing r (tree (label_here label_identifier no_op q r) end)
+  label_read : {X : Test} {r : Parser} → NameHere q true → Moved text f q r → Path text f X (symbol LabelIdentifier f) q nothing r (tree (label_here label_identifier no_op q r) end)
   unfolding rule rule_of
-  label_read h m = by_symbol_as {X' = plain full} (λ l cs vs y d. (refl, refl)) (noded a (one_path (name_test f) a m (plain_leaf kind.Ident h.0 h.1 refl m) (rw (sym m.tells.kind ∙ h.0) refl)))
+  label_read h m = by_symbol_as {X' = plain full} (λ l cs vs y d. (refl, refl)) (noded a (name_leaf a h.0 h.1 m))
 
 module _ {text : List ℕ} {f : Flags} {p q : Parser} (k : Kind) (a : At text f p) (e : p.token.kind ≡ k) (n : p.token.escaped ≡ false) (i : one_of_kinds read_kinds k ≡ true) (m : Moved text f p q) where
   word_passed : {X : Test} {g : G} → Path text f X (tok k ▸ g) p g q (λ us. us)
@@ -226,7 +232,7 @@ module _ {text : List ℕ} {f : Flags} {p q : Parser} (k : Kind) (a : At text f 
         keeps = ks;
       }
 
-  a_label_read : {r : Parser} {id : NodeId} → (MayEnd q → ⊥) → StandsHere q kind.Ident true → LeafTaken node.LabelIdentifier op.None text f q r id → Jumped text f k p r (Some id)
+  a_label_read : {r : Parser} {id : NodeId} → (MayEnd q → ⊥) → NameHere q true → LeafTaken node.LabelIdentifier op.None text f q r id → Jumped text f k p r (Some id)
   a_label_read {r} {id} w h t =
       let l : plain_label node.LabelIdentifier op.None q.token.span ≡ label_here label_identifier no_op q t.mid = ap (λ (v : ℕ). record { kind = label_identifier; op = no_op; flags = 0; span = record { from = q.token.span.start; to = v } }) (t.moved.tells.end ∙ t.moved.ends) in
       let made : MadeHere (label_here label_identifier no_op q t.mid) [] t.mid r id = subst (λ (v : Label). MadeHere v [] t.mid r id) l t.made in
@@ -247,7 +253,7 @@ module _ {text : List ℕ} {f : Flags} {p q : Parser} (k : Kind) (a : At text f 
   label_taken None (h, e) = subst (λ (v : Parser). Jumped text f k p v None) (sym e) (no_label_read h)
 
   -- neither a label nor an end
-  label_none : (MayEnd q → ⊥) → StandsHere q kind.Ident false → Fails rule (Lex text) (plain no_link) end (ended by_edge (jump_slots k f)) p.prev_token_end
+  label_none : (MayEnd q → ⊥) → NameHere q false → Fails rule (Lex text) (plain no_link) end (ended by_edge (jump_slots k f)) p.prev_token_end
   label_none w h = fails_ended {X' = plain closes_or_line} (word_passed ⟶✗ fails_alt (no_name m.at h) (no_gap m.at w)) (λ cs j ls mid l d h. (closing (by_edge (here ls) cs) no_link (here mid) h, refl))
 
 module _ {text : List ℕ} {f : Flags} {p : Parser} {k : NodeKind} (a : At text f p) (h : JumpsHere k p) where
@@ -444,7 +450,7 @@ jump_whole a (inl (e, h)) = word_here kind.Break a h refl
 jump_whole a (inr (e, h)) = word_here kind.Continue a h refl
 
 -- what is said of a label that isn't read
-pub label_told : (p q : Parser) (e : Stop) → (MayEnd p → ⊥) → StandsHere p kind.Ident false → GivesUp (IsUnexpected p) p q e → TakesLabel p q (Err e)
+pub label_told : (p q : Parser) (e : Stop) → (MayEnd p → ⊥) → NameHere p false → GivesUp (IsUnexpected p) p q e → TakesLabel p q (Err e)
 label_told p q Fatal m n g = (m, n, g)
 label_told p q NoMemory m n g = tt
 

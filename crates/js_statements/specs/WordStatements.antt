@@ -2,7 +2,7 @@
 use Rattle.std.specs.Prelude.{◌≡◌, ◌⊎◌, true, false, Option, Some, None, Result, Ok, Err}
 use Rattle.js_base.specs.declared.diagnostic.Diagnostic.{Diagnostic}
 use Rattle.js_base.specs.declared.diagnostic.DiagnosticKind.TheVariants.{IllegalNewline}
-use Rattle.js_base.specs.declared.kind.Kind.TheVariants.{Break, Continue, Ident}
+use Rattle.js_base.specs.declared.kind.Kind.TheVariants.{Break, Continue}
 use Rattle.js_base.specs.declared.span.Span.{Span}
 use Rattle.js_tree.specs.declared.id.NodeId.{NodeId}
 use Rattle.js_tree.specs.declared.kind.NodeKind.{NodeKind}
@@ -13,7 +13,7 @@ use Rattle.js_cursor.specs.Parsers.{Parser}
 use Rattle.js_cursor.specs.declared.stop.Stop.{Stop}
 use Rattle.js_cursor.specs.declared.stop.Stop.TheVariants.{Fatal, NoMemory}
 use Rattle.js_parsing.specs.Told.{unrelated_at}
-use Rattle.js_parsing.specs.Stands.{StandsHere}
+use Rattle.js_parsing.specs.Stands.{NameHere, StandsHere}
 use Rattle.js_parsing.specs.Moves.{TakesLeaf}
 
 -- the word stands here that such a node begins with
@@ -23,8 +23,8 @@ JumpsHere kind p = ((kind ≡ BreakStatement) × StandsHere p Break true) ⊎ ((
 -- The label behind it; none, where the statement may end; or no name stands where one is due.
 abbrev pub TakesLabel : Parser → Parser → Result (Option NodeId) Stop → Type 0
 TakesLabel old new (Ok None) = MayEnd old × (new ≡ old)
-TakesLabel old new (Ok (Some id)) = (MayEnd old → ⊥) × StandsHere old Ident true × TakesLeaf LabelIdentifier op.None old new id
-TakesLabel old new (Err Fatal) = (MayEnd old → ⊥) × StandsHere old Ident false × GivesUp (IsUnexpected old) old new Fatal
+TakesLabel old new (Ok (Some id)) = (MayEnd old → ⊥) × NameHere old true × TakesLeaf LabelIdentifier op.None old new id
+TakesLabel old new (Err Fatal) = (MayEnd old → ⊥) × NameHere old false × GivesUp (IsUnexpected old) old new Fatal
 TakesLabel old new (Err NoMemory) = Unit {0}
 
 -- what is told of `throw` at the end of its line

@@ -19,7 +19,7 @@ use js_expressions::sequence::parse_sequence_expression;
 use js_lex::ParserConfig;
 use js_operands::primary::parse_leaf;
 use js_parsing::diagnostics::diagnostic_at;
-use js_parsing::lexemes::{advance, stands};
+use js_parsing::lexemes::{advance, name_stands};
 use js_parsing::nested::Nested;
 use js_parsing::nodes::{make_leaf, make_one, make_optional};
 use js_tree::{NodeId, NodeKind, Op};
@@ -81,7 +81,7 @@ fn parse_optional_label<C: ParserConfig>(p: &mut ParserImpl<'_, C>) -> Result<Op
     if p.can_insert_semicolon() {
         return Ok(None);
     }
-    if !stands(p, Kind::Ident) {
+    if !name_stands(p) {
         return Err(p.set_unexpected());
     }
     let label = parse_leaf(p, NodeKind::LabelIdentifier, Op::None)?;

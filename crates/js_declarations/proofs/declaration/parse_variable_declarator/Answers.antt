@@ -28,7 +28,7 @@ make_bare_declarator-requires-clause-mark g c =
     missing_marked c.requires.at (λ k. false≢true (sym c.if-at.false ∙ c.at.ensures.1 k)) x.at x.same x.walked x.further _ _ (c.end_span-span.ensures.start ∙ c.cur_start-start.ensures) c.end_span-span.ensures.end
 
 pub returns-then-not-at : goal.returns-then-not-at
-returns-then-not-at g c = λ text f a. declared_bare a (c.in_ok-binding.ensures text f a) (λ k. false≢true (sym c.if-not-at.true ∙ c.at-2.ensures.1 k)) _ _ _ c.stands-is_name.ensures c.in_ok-node.ensures (c.end_span-span.ensures.start ∙ c.cur_start-start.ensures) c.end_span-span.ensures.end
+returns-then-not-at g c = λ text f a. declared_bare a (c.in_ok-binding.ensures text f a) (λ k. false≢true (sym c.if-not-at.true ∙ c.at-2.ensures.1 k)) _ _ _ c.name_stands-is_name.ensures c.in_ok-node.ensures (c.end_span-span.ensures.start ∙ c.cur_start-start.ensures) c.end_span-span.ensures.end
 
 pub advance-requires-clause-at : goal.advance-requires-clause-at
 advance-requires-clause-at g c = standing (c.in_ok-binding.ensures _ _ c.requires.at).answer.at

@@ -5,7 +5,7 @@ use Rattle.js_base.specs.declared.kind.Kind.TheVariants.{Colon}
 use Rattle.js_base.specs.declared.span.Span.{Span}
 use Rattle.js_cursor.specs.Parsers.{Parser}
 use Rattle.js_parsing.proofs.Signs.{whole_sign}
-use Rattle.js_statements.proofs.Labels.{made_at, made_colon, made_room, made_in, label_stops, label_answers}
+use Rattle.js_statements.proofs.Labels.{made_at, made_colon, made_room, made_in, label_memory, label_stops, label_answers}
 use Rattle.js_parsing.proofs.Moving.{standing}
 use Rattle.js_parsing.proofs.Nesting.{nested_room}
 use Rattle.js_statements.proofs.statement.parse_labeled_statement_rest.Goals as goal
@@ -23,6 +23,11 @@ statement-requires t c =
     let m = c.in_ok-advance.ensures _ _ a in
     let r = nested_room a m in let s = made_room d in
     c.requires.nests _ _ (standing m.at, ap (has_flag in_flag) m.same.ctx ∙ made_in c.requires.allows_in d) (omega arith)
+
+pub returns-in_err-advance : goal.returns-in_err-advance
+returns-in_err-advance t c = λ text f first id a e x i b.
+    let p = err_from_is_err_and c.from_residual-in_err-advance.result c.from_residual-in_err-advance.ensures.1 in
+    rw (p.1, p.2) (label_memory text f b first _ _ c.in_err-advance.ensures)
 
 pub returns-in_err-body : goal.returns-in_err-body
 returns-in_err-body t c = λ text f first id a e x i b.

@@ -1,19 +1,18 @@
 use Rattle.std.proofs.Common.{◌∙◌, sym, refl}
 use Rattle.std.proofs.lemmas.Bool.{false≢true}
 use Rattle.std.proofs.lemmas.Result.{err_from_is_err_and}
-use Rattle.js_base.specs.declared.kind.Kind.TheVariants.{Ident}
-use Rattle.js_operands.proofs.Members.{stands_so}
-use Rattle.js_statements.proofs.WordStatements.{label_memory, label_told, word_here}
+use Rattle.js_parsing.proofs.NameKinds.{name_so, name_whole}
+use Rattle.js_statements.proofs.WordStatements.{label_memory, label_told}
 use Rattle.js_statements.proofs.word_statement.parse_optional_label.Goals as goal
 
 pub returns-then-can_insert_semicolon : goal.returns-then-can_insert_semicolon
 returns-then-can_insert_semicolon g c = (c.can_insert_semicolon.ensures.0 c.if-can_insert_semicolon.true, refl)
 
-pub returns-then-not-stands : goal.returns-then-not-stands
-returns-then-not-stands g c = label_told _ _ c.set_unexpected.result (λ m. false≢true (sym c.if-can_insert_semicolon.false ∙ c.can_insert_semicolon.ensures.1 m)) (stands_so c.args.p.now Ident c.if-not-stands.true c.stands.ensures) c.set_unexpected.ensures
+pub returns-then-not-name_stands : goal.returns-then-not-name_stands
+returns-then-not-name_stands g c = label_told _ _ c.set_unexpected.result (λ m. false≢true (sym c.if-can_insert_semicolon.false ∙ c.can_insert_semicolon.ensures.1 m)) (name_so c.args.p.now c.if-not-name_stands.true c.name_stands.ensures) c.set_unexpected.ensures
 
 pub parse_leaf-requires-clause-whole : goal.parse_leaf-requires-clause-whole
-parse_leaf-requires-clause-whole g c = word_here Ident c.requires (stands_so c.args.p.now Ident c.if-not-stands.false c.stands.ensures) refl
+parse_leaf-requires-clause-whole g c = name_whole c.requires (name_so c.args.p.now c.if-not-name_stands.false c.name_stands.ensures).0
 
 pub returns-in_err-label : goal.returns-in_err-label
 returns-in_err-label g c =
@@ -21,4 +20,4 @@ returns-in_err-label g c =
     rw (p.1, p.2) (label_memory c.args.p.now c.parse_leaf.new.p _ c.in_err-label.ensures)
 
 pub returns : goal.returns
-returns g c = (λ m. false≢true (sym c.if-can_insert_semicolon.false ∙ c.can_insert_semicolon.ensures.1 m), stands_so c.args.p.now Ident c.if-not-stands.false c.stands.ensures, c.in_ok-label.ensures)
+returns g c = (λ m. false≢true (sym c.if-can_insert_semicolon.false ∙ c.can_insert_semicolon.ensures.1 m), name_so c.args.p.now c.if-not-name_stands.false c.name_stands.ensures, c.in_ok-label.ensures)

@@ -1,0 +1,107 @@
+-- What holds of the kinds of names, and what stands at a name.
+use Rattle.std.proofs.Common.{ℕ, ◌≡◌, Bool, true, false, not, ◌&&◌, ◌||◌, List, [], ◌∷◌, IsTrue, refl, sym, ap, subst, ◌∙◌}
+use Rattle.std.proofs.lemmas.Bool.{false≢true}
+use Rattle.js_base.specs.declared.kind.Kind.{Kind}
+use Rattle.js_base.specs.declared.kind.Kind.TheVariants.{Yield, Await, RAngle}
+use Rattle.js_base.specs.Kinds.{same_kind, one_of_kinds}
+use Rattle.js_base.proofs.KindLemmas.{kind_of_same}
+use Rattle.js_grammar.specs.Trees.{end}
+use Rattle.js_grammar.specs.Grammar.{Lexeme, Look, seen}
+use Rattle.js_grammar.specs.Insertion.{may_bind}
+use Rattle.js_grammar.specs.Parsing.{Test, Goes, still}
+use Rattle.js_grammar.specs.Productions.{G, Flags}
+use Rattle.js_grammar.specs.Table.{rule}
+use Rattle.js_grammar.specs.FirstSets.{first}
+use Rattle.js_grammar.proofs.Looks.{covers, covered, apart, not_both}
+use Rattle.js_grammar.proofs.FirstRules.{pick}
+use Rattle.js_cursor.specs.Moves.{is_last}
+use Rattle.js_cursor.specs.Parsers.{Parser}
+use Rattle.js_parsing.specs.Lexemes.{Lex, name_kinds, read_kinds}
+use Rattle.js_parsing.specs.Moves.{IsWholeHere}
+use Rattle.js_parsing.specs.Stands.{NameHere}
+use Rattle.js_parsing.specs.States.{At}
+use Rattle.js_parsing.proofs.Here.{uncut}
+use Rattle.js_parsing.proofs.Paths.{angles, at_kinds}
+
+-- the kinds of names
+abbrev pub a_name : Look
+a_name k w e = one_of_kinds name_kinds k
+
+-- the test of the lexeme of a name
+abbrev pub name_test : Flags → Look
+name_test f a w e = may_bind a && not (same_kind Yield a && f.yield_) && not (same_kind Await a && f.await_)
+
+abbrev name_is_read : Look
+name_is_read k w e = one_of_kinds read_kinds k
+
+pub name_read : (k : Kind) → one_of_kinds name_kinds k ≡ true → one_of_kinds read_kinds k ≡ true
+unfolding covers
+name_read k h = covered a_name name_is_read refl k false false h
+
+-- the same test, by the parameters Yield and Await
+abbrev bindable : Bool → Bool → Look
+bindable y t a w e = may_bind a && not (same_kind Yield a && y) && not (same_kind Await a && t)
+
+names_bind : (y t : Bool) → covers a_name (bindable y t) ≡ true
+unfolding covers
+names_bind true true = refl
+names_bind true false = refl
+names_bind false true = refl
+names_bind false false = refl
+
+-- a name passes the test, whatever the parameters
+pub name_passes : (f : Flags) (y : Lexeme) → one_of_kinds name_kinds y.kind ≡ true → IsTrue (seen (name_test f) y)
+name_passes f y h = covered a_name (bindable f.yield_ f.await_) (names_bind f.yield_ f.await_) y.kind y.newline y.escaped h
+
+-- it isn't the end of the text, and no sign that is cut
+abbrev no_end : Look
+no_end k w e = not (is_last k)
+
+abbrev no_sign : Look
+no_sign k w e = not (same_kind RAngle k)
+
+is_not : (b : Bool) → not b ≡ true → b ≡ false
+is_not true h = absurd (false≢true h)
+is_not false h = refl
+
+-- it is none of these kinds
+pub name_apart : (ks : List Kind) → apart a_name (λ k w e. one_of_kinds ks k) ≡ true → (k : Kind) → one_of_kinds name_kinds k ≡ true → one_of_kinds ks k ≡ false
+name_apart ks d k h = go (one_of_kinds ks k) refl
+  where
+    go : (b : Bool) → one_of_kinds ks k ≡ b → one_of_kinds ks k ≡ false
+    go true e = absurd (not_both a_name (λ k w e. one_of_kinds ks k) d k false false h e)
+    go false e = e
+
+-- it may be passed
+pub name_whole : {text : List ℕ} {f : Flags} {p : Parser} → At text f p → one_of_kinds name_kinds p.token.kind ≡ true → IsWholeHere p
+unfolding covers
+name_whole {p = p} a h = (uncut a (is_not (same_kind RAngle p.token.kind) (covered a_name no_sign refl p.token.kind false false h)), is_not (is_last p.token.kind) (covered a_name no_end refl p.token.kind false false h))
+
+-- a choice, cut down where a name stands
+pub at_name : {text : List ℕ} {f : Flags} {p : Parser} {X : Test} {g : G} → At text f p → one_of_kinds name_kinds p.token.kind ≡ true → Goes rule (Lex text) X end g p.prev_token_end (pick first X.base g name_kinds) p.prev_token_end (λ us. us) (still 0)
+unfolding apart
+at_name a h = at_kinds a name_kinds refl h
+
+-- one more kind
+pub or_name : (a k : Kind) → (k ≡ a → ⊥) → one_of_kinds name_kinds k ≡ false → one_of_kinds (a ∷ name_kinds) k ≡ false
+or_name a k n m = go (same_kind a k) refl
+  where
+    go : (b : Bool) → same_kind a k ≡ b → (b || one_of_kinds name_kinds k) ≡ false
+    go true e = absurd (n (sym (kind_of_same a k e)))
+    go false e = m
+
+pub name_so : (p : Parser) {b r : Bool} → r ≡ b → NameHere p r → NameHere p b
+name_so p e s = subst (λ (c : Bool). NameHere p c) e s
+
+-- whether one stands here, by its kind and its escape
+pub name_is : (p : Parser) (b : Bool) → b ≡ one_of_kinds name_kinds p.token.kind → p.token.escaped ≡ false → NameHere p b
+name_is p true h e = (sym h, e)
+name_is p false h e = λ k n. false≢true (h ∙ k)
+
+-- none of another kind
+pub no_name_here : (p : Parser) → NameHere p false → p.token.escaped ≡ false → one_of_kinds name_kinds p.token.kind ≡ false
+no_name_here p n e = go (one_of_kinds name_kinds p.token.kind) refl
+  where
+    go : (b : Bool) → one_of_kinds name_kinds p.token.kind ≡ b → one_of_kinds name_kinds p.token.kind ≡ false
+    go true h = absurd (n h e)
+    go false h = h
