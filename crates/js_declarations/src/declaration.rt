@@ -1,4 +1,4 @@
-//! The declarators behind `var` and `const` (ECMA-262, sections 14.3.1 and 14.3.2).
+//! The declarators behind `var`, `let` and `const` (ECMA-262, sections 14.3.1 and 14.3.2).
 
 ghost use Rattle.std.specs.Prelude.{◌≡◌, ◌&&◌, not, IfOk, MatchResult};
 ghost use Rattle.js_cursor.specs.Places.{IsAt, goal};

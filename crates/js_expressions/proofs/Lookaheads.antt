@@ -60,7 +60,7 @@ use Rattle.js_expressions.proofs.Updates.{nothing_read}
 
 module _ {text : List ℕ} {f : Flags} {p : Parser} {t : Token} (a : At text f p) (h : Peeks p t) where
   -- a token that isn't `>` tells its kind
-  peeked_kind : same_kind RAngle t.kind ≡ false → (y : Lexeme) → Lex text p.token.span.end y → y.kind ≡ t.kind
+  pub peeked_kind : same_kind RAngle t.kind ≡ false → (y : Lexeme) → Lex text p.token.span.end y → y.kind ≡ t.kind
   peeked_kind r y l = given_behind a h
       (λ d u n. absurd (n.none y (record { lex = l.0; of_goal = plainly l.0 l.1 })))
       (λ x. by x (is_right_angle x.lexeme.kind) refl)
@@ -68,6 +68,12 @@ module _ {text : List ℕ} {f : Flags} {p : Parser} {t : Token} (a : At text f p
       by : (x : GivesLexeme division cut text p.token.span.end t) → (b : Bool) → is_right_angle x.lexeme.kind ≡ b → y.kind ≡ t.kind
       by x true e = absurd (false≢true (sym r ∙ (let c : (cut x.lexeme).kind ≡ RAngle = rw (e, cut) refl in ap (same_kind RAngle) (x.tells.kind ∙ c))))
       by x false e = ap (λ (z : Lexeme). z.kind) (one_plain l x) ∙ (ap (λ (z : Lexeme). z.kind) (sym (cut_same x.lexeme e)) ∙ sym x.tells.kind)
+
+  -- a lexeme that doesn't begin with `>` is told whole
+  pub peeked_whole : (y : Lexeme) → Lex text p.token.span.end y → is_right_angle y.kind ≡ false → y.kind ≡ t.kind
+  peeked_whole y l r = given_behind a h
+      (λ d u n. absurd (n.none y (record { lex = l.0; of_goal = plainly l.0 l.1 })))
+      (λ x. let e = one_plain l x in ap (λ (z : Lexeme). z.kind) e ∙ (ap (λ (z : Lexeme). z.kind) (sym (cut_same x.lexeme (sym (ap (λ (z : Lexeme). is_right_angle z.kind) e) ∙ r))) ∙ sym x.tells.kind))
 
 -- nothing that may begin what is due behind a parenthesis stands there
 behind_paren : {text : List ℕ} {f : Flags} {p : Parser} {X : Test} {g : G} → At text f p → p.token.kind ≡ LParen → ((y : Lexeme) → Lex text p.token.span.end y → IsTrue (seen (starts first g (plain full).base) y) → ⊥) → Fails rule (Lex text) X end (tok LParen ▸ g) p.prev_token_end

@@ -75,6 +75,7 @@ pub fn is_name(kind: Kind) -> bool
     matches!(
         kind,
         Kind::Ident
+            | Kind::Let
             | Kind::Static
             | Kind::Implements
             | Kind::Interface

@@ -1,4 +1,4 @@
--- Declarations that begin with `var` or `const` (ECMA-262, 14.3.1, 14.3.2).
+-- Declarations that begin with `var`, `let` or `const` (ECMA-262, 14.3.1, 14.3.2).
 use Rattle.std.proofs.Common.{ℕ, ◌≡◌, inl, inr, List, length, Option, Bool, true, false, IsTrue, refl, sym, ap, subst, arith, ◌∙◌}
 use Rattle.std.specs.Prelude.{IsCharBoundary, Result, Ok, Err}
 use Rattle.std.proofs.lemmas.Bool.{false≢true, and_from, or_left, or_right}
@@ -40,8 +40,9 @@ use Rattle.js_parsing.specs.States.{At, Same, NodesLie}
 use Rattle.js_parsing.specs.Statements.{placed, no_link, after_statement, NoStatement, Statement, StatementOutcome, EndsStatement, NoEnd}
 use Rattle.js_declarations.specs.Declarations.{AllOf, Declarators, NoneOf, is_constant, list_of}
 use Rattle.js_declarations.proofs.DeclaratorLists.{all_behind, none_behind}
-use Rattle.js_statements.specs.DeclarationStatements.{Declaration, NoDeclaration, ReadsDeclaration, begins_declaration, declaration}
-use Rattle.js_parsing.proofs.Giving.{kept_one}
+use Rattle.js_statements.specs.DeclarationStatements.{Declaration, NoDeclaration, ReadsDeclaration, declaration}
+use Rattle.js_cursor.specs.Moves.{is_last}
+use Rattle.js_parsing.proofs.Here.{uncut}
 use Rattle.js_parsing.proofs.MadeNodes.{node_held, made_lies}
 use Rattle.js_parsing.proofs.Moving.{beside_nodes, moves, same_both, same_with, stops_so}
 use Rattle.js_parsing.proofs.Paths.{Path, ◌⟼◌, ◌⟶◌, ◌⟶✗◌, at_kind, by_symbol_as, label_here, noded_by, skips, walked_both, walked_one, walked_to}
@@ -74,19 +75,19 @@ module _ {text : List ℕ} {g : G} {s : ℕ} where
 
 -- ---- a declaration
 
-word_read : (k : DeclarationKind) → begins_declaration k ≡ true → one_of_kinds read_kinds (declaration_kind k) ≡ true
-word_read declared.Var b = refl
-word_read declared.Const b = refl
-word_read declared.Let b = absurd (false≢true b)
+word_read : (k : DeclarationKind) → one_of_kinds read_kinds (declaration_kind k) ≡ true
+word_read declared.Var = refl
+word_read declared.Const = refl
+word_read declared.Let = refl
 
-pub declaration_whole : {text : List ℕ} {f : Flags} {p : Parser} (k : DeclarationKind) → At text f p → StandsHere p (declaration_kind k) true → begins_declaration k ≡ true → IsWholeHere p
-declaration_whole declared.Var a h b = word_here kind.Var a h refl
-declaration_whole declared.Const a h b = word_here kind.Const a h refl
-declaration_whole declared.Let a h b = absurd (false≢true b)
+pub declaration_whole : {text : List ℕ} {f : Flags} {p : Parser} (k : DeclarationKind) → At text f p → StandsHere p (declaration_kind k) true → IsWholeHere p
+declaration_whole declared.Var a h = word_here kind.Var a h refl
+declaration_whole declared.Const a h = word_here kind.Const a h refl
+declaration_whole declared.Let a h = (uncut a (ap (same_kind kind.RAngle) h.0), ap is_last h.0)
 
-module _ {text : List ℕ} {f : Flags} {p q : Parser} (k : DeclarationKind) (a : At text f p) (h : StandsHere p (declaration_kind k) true) (b : begins_declaration k ≡ true) (m : Moved text f p q) where
+module _ {text : List ℕ} {f : Flags} {p q : Parser} (k : DeclarationKind) (a : At text f p) (h : StandsHere p (declaration_kind k) true) (m : Moved text f p q) where
   word_passed : Goes rule (Lex text) (plain full) end (declarators (declaration_kind k) f) p.prev_token_end (list_of (is_constant k) f) q.prev_token_end (λ us. us) (passing m.lexeme)
-  word_passed = skips a (declaration_kind k) h.0 h.1 (word_read k b) m
+  word_passed = skips a (declaration_kind k) h.0 h.1 (word_read k) m
 
   pub declaration_none : NoneOf text (list_of (is_constant k) f) q.prev_token_end → NoDeclaration text k f p.prev_token_end
   unfolding covers
@@ -151,16 +152,13 @@ module _ {text : List ℕ} {f : Flags} {p q : Parser} (k : DeclarationKind) (a :
           keeps = subst (λ (z : Parser). Keeps p.nodes z.nodes) e k';
         })
 
-pub word_stands : (p : Parser) → StandsHere p kind.Const true → p.token.kind ≡ kind.Undetermined → ⊥
-word_stands p h e = false≢true (ap (same_kind kind.Const) (sym e ∙ h.0))
-
 -- ---- as a statement
 
-declaration_read : {text : List ℕ} {f : Flags} {k : DeclarationKind} {p w : Parser} {id : NodeId} (x : Declaration text f k p w id) → Path text f (plain no_link) (declaration k f) p nothing w (tree x.label x.slots)
+pub declaration_read : {text : List ℕ} {f : Flags} {k : DeclarationKind} {p w : Parser} {id : NodeId} (x : Declaration text f k p w id) → Path text f (plain no_link) (declaration k f) p nothing w (tree x.label x.slots)
 declaration_read x = record { at = x.at; further = x.further; pass = x.pass; walked = x.walked; verdict = x.verdict }
 
 -- what was read as the symbol's line is a statement
-as_statement : {text : List ℕ} {f : Flags} {k : DeclarationKind} (b : Bool) {p w : Parser} {id : NodeId} (x : Declaration text f k p w id) → Path text f (after_statement (placed b f)) (rule (placed b f)) p nothing w (tree x.label x.slots) → Statement text f (placed b f) p w id
+pub as_statement : {text : List ℕ} {f : Flags} {k : DeclarationKind} (b : Bool) {p w : Parser} {id : NodeId} (x : Declaration text f k p w id) → Path text f (after_statement (placed b f)) (rule (placed b f)) p nothing w (tree x.label x.slots) → Statement text f (placed b f) p w id
 as_statement {f = f} b x y = let z = by_symbol_as {X' = after_statement (placed b f)} (λ l cs vs y d. d) y in record { at = z.at; same = x.same; further = z.further; label = x.label; slots = x.slots; closed = never_open x.label x.slots (ap ends_in_sub x.kind_is); pass = z.pass; walked = z.walked; verdict = z.verdict; holds = x.holds; keeps = x.keeps }
 
 module _ {text : List ℕ} {f : Flags} {p : Parser} (a : At text f p) where
@@ -186,43 +184,15 @@ module _ {text : List ℕ} {f : Flags} {p : Parser} (a : At text f p) where
     var_outcome b w (Err e) x = stops_so p w e (λ n. var_fails b n) (x text f a)
 
   module _ (h : StandsHere p kind.Const true) where
-    const_listed : {X : Test} → Goes rule (Lex text) X end (rule (at ListItem f)) p.prev_token_end (symbol Lexical f) p.prev_token_end (λ us. us) (still 0)
+    pub const_listed : {X : Test} → Goes rule (Lex text) X end (rule (at ListItem f)) p.prev_token_end (symbol Lexical f) p.prev_token_end (λ us. us) (still 0)
     unfolding rule rule_of covers
     const_listed = at_kind a kind.Const h.0 refl
 
-    const_alone : {X : Test} → Goes rule (Lex text) X end (rule (at Lexical f)) p.prev_token_end (declaration declared.Const f) p.prev_token_end (λ us. us) (still 0)
+    pub const_alone : {X : Test} → Goes rule (Lex text) X end (rule (at Lexical f)) p.prev_token_end (declaration declared.Const f) p.prev_token_end (λ us. us) (still 0)
     unfolding rule rule_of covers
     const_alone = at_kind a kind.Const h.0 refl
-
-    const_item : {w : Parser} {id : NodeId} → Declaration text f declared.Const p w id → Statement text f (at ListItem f) p w id
-    const_item x = as_statement true x (const_listed ⟼ by_symbol_as {X' = plain no_link} (unlinked f true) (const_alone ⟼ declaration_read x))
-
-    const_fails : NoDeclaration text declared.Const f p.prev_token_end → NoStatement text (at ListItem f) p.prev_token_end
-    const_fails n = no_symbol (const_listed ▹✗ fails_rule {X' = plain no_link} (unlinked f true) (const_alone ▹✗ n))
-
-    pub const_outcome : (w : Parser) (r : Result NodeId Stop) → ReadsDeclaration declared.Const p w r → StatementOutcome text f (at ListItem f) p w r
-    const_outcome w (Ok id) x = const_item (x text f a)
-    const_outcome w (Err e) x = stops_so p w e (λ n. const_fails n) (x text f a)
 
     -- as the body of another statement it isn't derived
     pub no_const_body : NoStatement text (at Sub f) p.prev_token_end
     unfolding rule rule_of covers
     no_const_body = no_symbol (at_kind a kind.Const h.0 refl ▹✗ fails_never)
-
-    pub const_told : {d : Diagnostic} {w v : Parser} {id : NodeId} → Declaration text f declared.Const p w id → KeepsOne d w v → IsEarly d → Statement text f (at Sub f) p v id
-    const_told {d} {w} {v} {id} x t i =
-        let nodes : v.nodes ≡ w.nodes = ap (λ (z : Parser). z.nodes) t.is in
-        let place : v.prev_token_end ≡ w.prev_token_end = ap (λ (z : Parser). z.prev_token_end) t.is in
-        record {
-          at = told_at t x.at;
-          same = same_both x.same (told_same t i);
-          further = let j = x.further in omega arith;
-          label = x.label;
-          slots = x.slots;
-          closed = never_open x.label x.slots (ap ends_in_sub x.kind_is);
-          pass = x.pass;
-          walked = walked_to (sym (ap spot t.is)) x.walked;
-          verdict = unclean (grown_behind x.verdict (kept_one t)) no_const_body;
-          holds = subst (λ (ns : List Node). Holds ns (length p.nodes) (length ns) id.0 x.label x.slots) (sym nodes) x.holds;
-          keeps = subst (λ (ns : List Node). Keeps p.nodes ns) (sym nodes) x.keeps;
-        }

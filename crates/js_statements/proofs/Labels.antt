@@ -27,26 +27,24 @@ use Rattle.js_tree.specs.Nodes.{Node}
 use Rattle.js_tree.specs.Holding.{Holds, Keeps}
 use Rattle.js_tree.proofs.HoldingLemmas.{Keeps-trans, Keeps-made}
 use Rattle.js_cursor.specs.Parsers.{Parser}
-use Rattle.std.specs.Prelude.{Err}
-use Rattle.js_cursor.specs.Moves.{OnlyMemory}
 use Rattle.js_cursor.specs.declared.stop.Stop.{Stop}
-use Rattle.js_cursor.specs.declared.stop.Stop.TheVariants.{Fatal, NoMemory}
 use Rattle.js_parsing.specs.Answers.{Grown, Verdict, clean, unclean, Stretch, Underived, Answer, Numbered, Stops}
 use Rattle.js_parsing.specs.Lexemes.{Lex, Walked, name_kinds, Spot, spot, nowhere, one_more}
 use Rattle.js_parsing.specs.Nesting.{room}
 use Rattle.js_parsing.specs.Moves.{Moved, MadeHere, plain_label}
-use Rattle.js_parsing.specs.Statements.{placed, no_link, statement_kinds, after_statement, NoStatement, Statement, StatementOutcome, IsLabel}
+use Rattle.js_parsing.specs.Statements.{placed, no_link, statement_kinds, after_statement, NoStatement, Statement, IsLabel}
 use Rattle.js_parsing.specs.States.{At, Same}
 use Rattle.js_parsing.proofs.Signs.{plain_sign}
 use Rattle.js_expressions.proofs.Conditionals.{colon_plain}
 use Rattle.js_parsing.proofs.NameKinds.{at_name, name_apart, name_passes, name_read, name_whole}
 use Rattle.js_parsing.proofs.Dead.{lives}
-use Rattle.js_parsing.proofs.Here.{found, uncut}
+use Rattle.js_parsing.proofs.Here.{found, kind_here, uncut}
 use Rattle.js_parsing.proofs.MadeNodes.{leaf_held, two_held, one_lies, from_start}
 use Rattle.js_parsing.proofs.Moving.{same_both, same_itself, same_with, beside_nodes, stops_behind}
 use Rattle.js_parsing.proofs.Paths.{Path, ◌⟼◌, ◌⟶◌, ◌⟶✗◌, at_kind, one_read, read_of, token, noded, noded_by, by_symbol_as, label_here}
-use Rattle.js_statements.proofs.Statements.{by_statement, no_symbol, no_constants, no_expression_ends, before_colon, item_left, sub_left, colon_ends}
-use Rattle.js_parsing.proofs.Ahead.{pass_over, reads_not_then}
+use Rattle.js_statements.proofs.Statements.{by_statement, no_symbol, no_lexical, no_expression_ends, before_colon, item_left, sub_left, colon_ends}
+use Rattle.js_statements.specs.LetStatements.{behind_let, LetIsName}
+use Rattle.js_statements.proofs.LetLookaheads.{not_followed, ◌⇒✗◌}
 use Rattle.js_statements.proofs.Strings.{name_look, name_node, name_expression}
 use Rattle.js_parsing.proofs.Tight.{read_plain}
 use Rattle.js_parsing.proofs.Verdicts.{verdict_of, grown_then}
@@ -187,11 +185,21 @@ module _ {text : List ℕ} {f : Flags} {p q : Parser} (a : At text f p) (x : Ans
   unfolding rule rule_of covers
   to_labeled = at_name a i.name
 
+  -- a colon stands behind `let`, where that is the label
+  label_named : (b : Bool) → LetIsName text b p.prev_token_end
+  label_named b y z l h m =
+      let e : y.to ≡ q.prev_token_end = ap (λ (v : Lexeme). v.to) (one_read a l name.1) ∙ name.3 in
+      no_colon_behind b (kind_here x.at i.colon refl z (subst (λ (v : ℕ). Lex text v z) e m))
+    where
+      no_colon_behind : (b : Bool) → z.kind ≡ Colon → behind_let b z.kind ≡ false
+      no_colon_behind true k = ap (behind_let true) k
+      no_colon_behind false k = ap (behind_let false) k
+
   -- it is no expression with a semicolon
   to_placed : (b : Bool) → Goes rule (Lex text) (after_statement (placed b f)) end (rule (placed b f)) p.prev_token_end (symbol AStatement f) p.prev_token_end (λ us. us) (still 0)
-  unfolding apart
-  to_placed true = subst (λ (g : G). Goes rule (Lex text) (after_statement (at ListItem f)) end (rule (at ListItem f)) p.prev_token_end g p.prev_token_end (λ us. us) (still 0)) (item_left f) (lives (rule (at ListItem f))) ▹ left (fails_alt (pass_over (reads_not_then (is 'let') (word_or (LCurly ∷ [])) refl) ▹✗ no_expression_ends true x (before_colon x.at (goes_on (row_of x.label x.slots)) i.colon)) (no_constants a (name_apart statement_kinds refl p.token.kind i.name)))
-  to_placed false = subst (λ (g : G). Goes rule (Lex text) (after_statement (at Sub f)) end (rule (at Sub f)) p.prev_token_end g p.prev_token_end (λ us. us) (still 0)) (sub_left f) (lives (rule (at Sub f))) ▹ left (no_expression_ends false x (before_colon x.at (goes_on (row_of x.label x.slots)) i.colon))
+  unfolding apart covers
+  to_placed true = subst (λ (g : G). Goes rule (Lex text) (after_statement (at ListItem f)) end (rule (at ListItem f)) p.prev_token_end g p.prev_token_end (λ us. us) (still 0)) (item_left f) (lives (rule (at ListItem f))) ▹ left (fails_alt (not_followed a (word_or (LCurly ∷ [])) (λ y z l h m t. false≢true (sym (label_named true y z l h m) ∙ covered (word_or (LCurly ∷ [])) (λ k w e. behind_let true k) refl z.kind z.newline z.escaped t)) ⇒✗ no_expression_ends true a (label_named true) x (before_colon x.at (goes_on (row_of x.label x.slots)) i.colon)) (no_lexical a (name_apart statement_kinds refl p.token.kind i.name) (label_named true)))
+  to_placed false = subst (λ (g : G). Goes rule (Lex text) (after_statement (at Sub f)) end (rule (at Sub f)) p.prev_token_end g p.prev_token_end (λ us. us) (still 0)) (sub_left f) (lives (rule (at Sub f))) ▹ left (no_expression_ends false a (label_named false) x (before_colon x.at (goes_on (row_of x.label x.slots)) i.colon))
 
   -- what is in the node can't be read
   labeled_fails : (b : Bool) → Fails rule (Lex text) (behind_label f) end (labeled_slots f) p.prev_token_end → NoStatement text (placed b f) p.prev_token_end
@@ -253,8 +261,3 @@ module _ {text : List ℕ} {f : Flags} {p q : Parser} {id : NodeId} (a : At text
           let ky : Keeps w.nodes v.nodes = subst (λ (ns : List Node). Keeps ns v.nodes) m.nodes y.keeps in
           by_statement (labeled_path a x.answer i b (body_path a x.answer i labeled m y)) y.closed (same_both label_same y.same) k.stays
           (two_held k (leaf_held labeled x.keeps) kw (subst (λ (ns : List Node). Holds v.nodes (length ns) (length v.nodes) body.0 y.label y.slots) m.nodes y.holds) ky) (Keeps-trans kw (Keeps-trans ky (Keeps-made k.made))) refl (one_lies k)
-
--- what is said where memory was refused
-pub label_memory : (text : List ℕ) (f : Flags) (b : Bool) (p q : Parser) (e : Stop) → OnlyMemory e → StatementOutcome text f (placed b f) p q (Err e)
-label_memory text f b p q Fatal m = absurd m
-label_memory text f b p q NoMemory m = tt

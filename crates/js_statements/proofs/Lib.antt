@@ -1,6 +1,8 @@
 pub mod CompoundStatements
 pub mod DeclarationStatements
 pub mod Labels
+pub mod LetLookaheads
+pub mod LetStatements
 pub mod StatementLists
 pub mod Statements
 pub mod Strings

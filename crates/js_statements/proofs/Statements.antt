@@ -1,5 +1,7 @@
 -- Statements, and the semicolons that end them or are left out.
 use Rattle.js_parsing.proofs.Ahead.{pass_over, reads_other, reads_not_then}
+use Rattle.js_statements.specs.LetStatements.{behind_let, LetIsName}
+use Rattle.js_statements.proofs.LetLookaheads.{Leads, at_once, ◌⇒◌, ◌⇒✗◌, leads_to, name_in_body, not_followed}
 use Rattle.std.proofs.Common.{ℕ, ◌≡◌, ◌≤◌, max, inl, inr, List, [], ◌∷◌, length, Bool, true, false, not, ◌&&◌, ◌||◌, IsTrue, Some, refl, sym, ap, subst, arith, ◌∙◌}
 use Rattle.std.specs.Prelude.{◌↔◌, Result, Ok, Err, MatchResult}
 use Rattle.js_base.specs.declared.token.Token.{Token}
@@ -12,18 +14,18 @@ use Rattle.js_base.specs.Contexts.{has_flag, in_flag}
 use Rattle.js_base.specs.Kinds.{same_kind, one_of_kinds}
 use Rattle.js_base.proofs.KindLemmas.{kind_of_same}
 use Rattle.js_base.specs.Texts.{words}
-use Rattle.js_grammar.specs.Words.{'let', 'async', 'function', 'class'}
-use Rattle.js_grammar.specs.Trees.{Label, Slots, end, tree, no_op, empty_statement, expression_statement, label_identifier}
-use Rattle.js_grammar.specs.Grammar.{Lexeme, Lexemes, Look, here, seen, is, may_omit, alt, such, ended, semicolon, nothing, next, label_of, ◌▸◌, Takes, is_seq, is_lexeme, is_such, is_node}
+use Rattle.js_grammar.specs.Words.{'let', 'const', 'async', 'function', 'class'}
+use Rattle.js_grammar.specs.Trees.{Label, Slots, end, tree, no_op, variable_declaration, empty_statement, expression_statement, label_identifier}
+use Rattle.js_grammar.specs.Grammar.{Lexeme, Lexemes, Look, here, seen, is, may_omit, alt, such, ended, semicolon, nothing, next, label_of, ◌▸◌, Takes, is_seq, is_lexeme, is_such, is_node, is_ended, commas}
 use Rattle.js_grammar.specs.Insertion.{Row, after_expression, may_bind, goes_on, by_edge}
 use Rattle.js_grammar.specs.Conditions.{ends_in_sub, lacks_else}
 use Rattle.js_grammar.specs.Lexed.{Lexes}
 use Rattle.js_grammar.specs.Lexemes.{is_escaped}
 use Rattle.js_grammar.specs.Parsing.{Test, plain, behind, full, always, still, Goes, Fails, Admits}
-use Rattle.js_grammar.specs.Productions.{G, Flags, Symbol, at, other, if_next, not_then, is_one_of, word_or, function_on_line, tok, ListItem, Empty, ExprStmt, Expression, Labeled, LabelIdentifier, Lexical, Sub, Break, Continue, Debugger, Do, If, Throw, Var, While, With}
+use Rattle.js_grammar.specs.Productions.{G, Flags, Symbol, at, op as op_node, other, if_next, not_then, is_one_of, word_or, function_on_line, tok, ListItem, Empty, ExprStmt, Expression, Labeled, LabelIdentifier, Lexical, Sub, Break, Continue, Debugger, Do, If, Throw, Var, While, With}
 use Rattle.js_grammar.specs.Productions.{Statement as AStatement}
 use Rattle.js_grammar.specs.Productions.{sym as symbol}
-use Rattle.js_grammar.specs.Table.{rule, rule_of, identifier}
+use Rattle.js_grammar.specs.Table.{rule, rule_of, identifier, declarator, declarators}
 use Rattle.js_grammar.specs.Follow.{row_of, looser, after}
 use Rattle.js_grammar.proofs.Looks.{covers, covered, apart, not_both}
 use Rattle.js_grammar.proofs.Calculus.{◌▹◌, ◌▹✗◌, left, right, ends_by, by_omission, fails_ended, fails_semicolon, fails_rule, fails_node, fails_alt, inside_plain, ends, closes}
@@ -320,7 +322,7 @@ pub item_left : (f : Flags) → live (rule (at ListItem f)) ≡ alt (such (at AS
 unfolding rule rule_of apart
 item_left f = refl
 
-abbrev no_expression : List Kind
+abbrev pub no_expression : List Kind
 no_expression = LCurly ∷ 'function' ∷ 'class' ∷ at_sign ∷ []
 
 -- a statement that its rule can't derive
@@ -338,7 +340,7 @@ name_first : (f : Flags) {ks ts us : Slots} {i j : ℕ} {ls rest : Lexemes} → 
 name_first f (is_node (is_lexeme {x = y} t)) = (y, refl, refl, t)
 
 module _ {text : List ℕ} {f : Flags} {s : ℕ} where
-  labels_fail : {X : Test} → ((y z : Lexeme) (rest : Lexemes) → Lex text s y → Lexes (Lex text) y.to (next z rest) → IsTrue (seen (name_look f) y) → IsTrue (seen (is Colon) z) → ⊥) → Fails rule (Lex text) X end (symbol Labeled f) s
+  pub labels_fail : {X : Test} → ((y z : Lexeme) (rest : Lexemes) → Lex text s y → Lexes (Lex text) y.to (next z rest) → IsTrue (seen (name_look f) y) → IsTrue (seen (is Colon) z) → ⊥) → Fails rule (Lex text) X end (symbol Labeled f) s
   unfolding rule rule_of
   labels_fail r = record { no = λ ts vs k ls rest l d e. by_symbol d l }
     where
@@ -393,10 +395,15 @@ pub no_label_at : {text : List ℕ} {f : Flags} {p : Parser} → At text f p →
 unfolding covers apart
 no_label_at {f = f} a n X = fails_at a {X = X} (symbol Labeled f) name_kinds refl n
 
--- no declaration of constants stands here
-pub no_constants : {text : List ℕ} {f : Flags} {p : Parser} {X : Test} → At text f p → one_of_kinds statement_kinds p.token.kind ≡ false → Fails rule (Lex text) X end (symbol Lexical f) p.prev_token_end
+-- no declaration stands here
+pub no_lexical : {text : List ℕ} {f : Flags} {p : Parser} {X : Test} → At text f p → one_of_kinds statement_kinds p.token.kind ≡ false → LetIsName text true p.prev_token_end → Fails rule (Lex text) X end (symbol Lexical f) p.prev_token_end
 unfolding covers apart rule rule_of
-no_constants {f = f} a n = fails_rule {X' = plain full} (λ l cs vs y e. (refl, refl)) (fails_at a {X = plain full} (rule (at Lexical f)) statement_kinds refl n)
+no_lexical {text} {f} {p} a n u = fails_rule {X' = plain full} (λ l cs vs y e. (refl, refl)) (fails_alt (record { no = λ ts vs k ls rest l d e. go ts vs k ls rest l d }) (fails_at a {X = plain full} (op_node variable_declaration 'const' (ended by_edge (declarators 'const' f))) statement_kinds refl n))
+  where
+    go : (ts vs : Slots) (k : ℕ) (ls rest : Lexemes) → Lexes (Lex text) p.prev_token_end ls → Takes rule (op_node variable_declaration 'let' (ended by_edge (declarators 'let' f))) end ts p.prev_token_end ls vs k rest → ⊥
+    go ts vs k ls rest l (is_node (is_ended {cs = cs} {j = j} {mid = mid} q (is_seq (is_lexeme {x = y} {ls = more} c) d) d')) =
+        let none : Fails rule (Lex text) (plain full) end (commas false (declarator false f)) y.to = fails_here firsts {X = plain full} (λ z m h. false≢true (sym (u y z l.0 c m) ∙ covered (starts first (commas false (declarator false f)) full) (λ k w e. behind_let true k) refl z.kind z.newline z.escaped h)) in
+        none.no cs end j more mid l.1 d (refl, refl)
 
 module _ {text : List ℕ} {f : Flags} {p : Parser} (a : At text f p) (n : one_of_kinds statement_kinds p.token.kind ≡ false) (nl : (X : Test) → Fails rule (Lex text) X end (symbol Labeled f) p.prev_token_end) where
   none : (g : G) → begins_by g full statement_kinds ≡ true → Fails rule (Lex text) (plain full) end g p.prev_token_end
@@ -408,19 +415,26 @@ module _ {text : List ℕ} {f : Flags} {p : Parser} (a : At text f p) (n : one_o
       ▹✗ fails_alt (none (symbol Empty f) refl) (fails_alt (none (symbol Var f) refl) (fails_alt (none (symbol If f) refl) (fails_alt (none (symbol Do f) refl) (fails_alt (none (symbol While f) refl) (fails_alt (none (symbol With f) refl)
       (fails_alt (none (symbol Continue f) refl) (fails_alt (none (symbol Break f) refl) (fails_alt (none (symbol Throw f) refl) (fails_alt (none (symbol Debugger f) refl) (nl (plain full))))))))))))
 
-  pub to_statement : (b : Bool) → Goes rule (Lex text) (after_statement (placed b f)) end (rule (placed b f)) p.prev_token_end (symbol ExprStmt f) p.prev_token_end (λ us. us) (still 0)
-  unfolding apart
-  to_statement true = subst (λ (g : G). Goes rule (Lex text) (after_statement (at ListItem f)) end (rule (at ListItem f)) p.prev_token_end g p.prev_token_end (λ us. us) (still 0)) (item_left f) (lives (rule (at ListItem f))) ▹ right no_statement ▹ left (no_constants a n) ▹ pass_over (reads_not_then (is 'let') (word_or (LCurly ∷ [])) refl)
-  to_statement false = subst (λ (g : G). Goes rule (Lex text) (after_statement (at Sub f)) end (rule (at Sub f)) p.prev_token_end g p.prev_token_end (λ us. us) (still 0)) (sub_left f) (lives (rule (at Sub f))) ▹ right no_statement
+  pub to_statement : (b : Bool) → LetIsName text b p.prev_token_end → Leads text (after_statement (placed b f)) (rule (placed b f)) p.prev_token_end (symbol ExprStmt f)
+  unfolding apart covers
+  to_statement true u = at_once (subst (λ (g : G). Goes rule (Lex text) (after_statement (at ListItem f)) end (rule (at ListItem f)) p.prev_token_end g p.prev_token_end (λ us. us) (still 0)) (item_left f) (lives (rule (at ListItem f))) ▹ right no_statement ▹ left (no_lexical a n u))
+      ⇒ not_followed a (word_or (LCurly ∷ [])) (λ y z l q m h. false≢true (sym (u y z l q m) ∙ covered (word_or (LCurly ∷ [])) (λ k w e. behind_let true k) refl z.kind z.newline z.escaped h))
+  to_statement false u = at_once (subst (λ (g : G). Goes rule (Lex text) (after_statement (at Sub f)) end (rule (at Sub f)) p.prev_token_end g p.prev_token_end (λ us. us) (still 0)) (sub_left f) (lives (rule (at Sub f))) ▹ right no_statement)
 
-to_expression : {text : List ℕ} (f : Flags) (s : ℕ) → Goes rule (Lex text) (plain no_link) end (if_next (other (is_one_of no_expression)) ▸ not_then (is 'async') function_on_line ▸ not_then (is 'let') (is LBrack) ▸ ended by_edge (symbol Expression f)) s (ended by_edge (symbol Expression f)) s (λ us. us) (still 0)
+-- as the body of another statement, or in a list
+pub named_in_body : {text : List ℕ} {s : ℕ} (b : Bool) → LetIsName text b s → LetIsName text false s
+named_in_body true u = name_in_body u
+named_in_body false u = u
+
+to_expression : {text : List ℕ} {f : Flags} {p : Parser} → At text f p → LetIsName text false p.prev_token_end → Leads text (plain no_link) (if_next (other (is_one_of no_expression)) ▸ not_then (is 'async') function_on_line ▸ not_then (is 'let') (is LBrack) ▸ ended by_edge (symbol Expression f)) p.prev_token_end (ended by_edge (symbol Expression f))
 unfolding apart
-to_expression f s = pass_over (reads_other (is_one_of no_expression) refl) ▹ pass_over (reads_not_then (is 'async') function_on_line refl) ▹ pass_over (reads_not_then (is 'let') (is LBrack) refl)
+to_expression a u = at_once (pass_over (reads_other (is_one_of no_expression) refl) ▹ pass_over (reads_not_then (is 'async') function_on_line refl))
+    ⇒ not_followed a (is LBrack) (λ y z l q m h. false≢true (sym (u y z l q m) ∙ (and_parts (same_kind LBrack z.kind) (not z.escaped) h).0))
 
 -- an expression that was read, where no statement ends behind it
-pub no_expression_ends : {text : List ℕ} {f : Flags} {p q : Parser} (b : Bool) → (x : Answer text f (at Expression f) p q) → Fails rule (Lex text) (plain no_link) end (semicolon (goes_on (row_of x.label x.slots))) q.prev_token_end → Fails rule (Lex text) (after_statement (placed b f)) end (symbol ExprStmt f) p.prev_token_end
+pub no_expression_ends : {text : List ℕ} {f : Flags} {p q : Parser} (b : Bool) → At text f p → LetIsName text b p.prev_token_end → (x : Answer text f (at Expression f) p q) → Fails rule (Lex text) (plain no_link) end (semicolon (goes_on (row_of x.label x.slots))) q.prev_token_end → Fails rule (Lex text) (after_statement (placed b f)) end (symbol ExprStmt f) p.prev_token_end
 unfolding rule rule_of covers
-no_expression_ends {f = f} {p = p} b x m = fails_rule {X' = plain no_link} (λ l cs vs y e. ((and_parts _ _ e.0).0, refl)) (fails_node (inside_plain refl) (to_expression f p.prev_token_end ▹✗ (to_semicolon (λ ds i j ls mid d. d) (expression_path x) ⟶✗ m)))
+no_expression_ends {f = f} {p = p} b a u x m = fails_rule {X' = plain no_link} (λ l cs vs y e. ((and_parts _ _ e.0).0, refl)) (fails_node (inside_plain refl) (to_expression a (named_in_body b u) ⇒✗ (to_semicolon (λ ds i j ls mid d. d) (expression_path x) ⟶✗ m)))
 
 -- ---- statements
 
@@ -474,26 +488,26 @@ module _ {text : List ℕ} {f : Flags} {p : Parser} (a : At text f p) where
   empty_outcome b q (Err NoMemory) e m = tt
 
   module _ (n : one_of_kinds statement_kinds p.token.kind ≡ false) (nl : (X : Test) → Fails rule (Lex text) X end (symbol Labeled f) p.prev_token_end) where
-    pub statement_path : (b : Bool) {q r : Parser} → f.in_ ≡ true → (x : Answer text f (at Expression f) p q) → EndsStatement q r → Path text f (after_statement (placed b f)) (rule (placed b f)) p nothing r (tree (label_here expression_statement no_op p r) (tree x.label x.slots end))
+    pub statement_path : (b : Bool) {q r : Parser} → LetIsName text b p.prev_token_end → f.in_ ≡ true → (x : Answer text f (at Expression f) p q) → EndsStatement q r → Path text f (after_statement (placed b f)) (rule (placed b f)) p nothing r (tree (label_here expression_statement no_op p r) (tree x.label x.slots end))
     unfolding rule rule_of covers
-    statement_path b i x e = to_statement a n nl b ⟼ by_symbol_as {X' = plain no_link} (λ l cs vs y d. ((and_parts _ _ d.0).0, refl)) (noded_by a (inside_plain refl) (to_expression f p.prev_token_end ⟼ ended_path i x e))
+    statement_path b u i x e = leads_to a (to_statement a n nl b u) (by_symbol_as {X' = plain no_link} (λ l cs vs y d. ((and_parts _ _ d.0).0, refl)) (noded_by a (inside_plain refl) (leads_to a (to_expression a (named_in_body b u)) (ended_path i x e))))
 
-    pub statement_answers : (b : Bool) {q r w : Parser} {child id : NodeId} (s : Span) → f.in_ ≡ true → (x : Numbered text f (at Expression f) p q child) → EndsStatement q r → s.start ≡ p.token.span.start → s.end ≡ r.prev_token_end → MadeHere (plain_label node.ExpressionStatement op.None s) (Some child ∷ []) r w id → Statement text f (placed b f) p w id
-    statement_answers k {q} {r} {w} {child} {id} s i x e b c d =
+    pub statement_answers : (b : Bool) {q r w : Parser} {child id : NodeId} (s : Span) → LetIsName text b p.prev_token_end → f.in_ ≡ true → (x : Numbered text f (at Expression f) p q child) → EndsStatement q r → s.start ≡ p.token.span.start → s.end ≡ r.prev_token_end → MadeHere (plain_label node.ExpressionStatement op.None s) (Some child ∷ []) r w id → Statement text f (placed b f) p w id
+    statement_answers k {q} {r} {w} {child} {id} s u i x e b c d =
         let l : plain_label node.ExpressionStatement op.None s ≡ label_here expression_statement no_op p r = rw (b, c) refl in
         let made : MadeHere (label_here expression_statement no_op p r) (Some child ∷ []) r w id = subst (λ (v : Label). MadeHere v (Some child ∷ []) r w id) l d in
         let z = ended_so x.answer.at e in
         let ks : Keeps p.nodes r.nodes = subst (λ (ns : List Node). Keeps p.nodes ns) (sym z.nodes) x.keeps in
-        by_statement (statement_path k i x.answer e) (never_open (label_here expression_statement no_op p r) (tree x.answer.label x.answer.slots end) refl) (same_both x.answer.same z.same) made.stays
+        by_statement (statement_path k u i x.answer e) (never_open (label_here expression_statement no_op p r) (tree x.answer.label x.answer.slots end) refl) (same_both x.answer.same z.same) made.stays
         (one_held p.nodes made (subst (λ (ns : List Node). Holds ns (length p.nodes) (length ns) child.0 x.answer.label x.answer.slots) (sym z.nodes) x.holds)) (Keeps-trans ks (Keeps-made made.made)) refl (one_lies made)
 
-    pub statement_fails : (b : Bool) → Underived text (at Expression f) p.prev_token_end → NoStatement text (placed b f) p.prev_token_end
+    pub statement_fails : (b : Bool) → LetIsName text b p.prev_token_end → Underived text (at Expression f) p.prev_token_end → NoStatement text (placed b f) p.prev_token_end
     unfolding rule rule_of covers
-    statement_fails b x = no_symbol (to_statement a n nl b ▹✗ fails_rule {X' = plain no_link} (λ l cs vs y e. ((and_parts _ _ e.0).0, refl)) (fails_node (inside_plain refl) (to_expression f p.prev_token_end ▹✗ fails_ended x (λ cs j ls mid l d h. expression_ended f no_link d (here ls) h))))
+    statement_fails b u x = no_symbol (to_statement a n nl b u ⇒✗ fails_rule {X' = plain no_link} (λ l cs vs y e. ((and_parts _ _ e.0).0, refl)) (fails_node (inside_plain refl) (to_expression a (named_in_body b u) ⇒✗ fails_ended x (λ cs j ls mid l d h. expression_ended f no_link d (here ls) h))))
 
-    pub statement_unended : (b : Bool) {q : Parser} → Answer text f (at Expression f) p q → NoEnd q → NoStatement text (placed b f) p.prev_token_end
+    pub statement_unended : (b : Bool) {q : Parser} → LetIsName text b p.prev_token_end → Answer text f (at Expression f) p q → NoEnd q → NoStatement text (placed b f) p.prev_token_end
     unfolding rule rule_of covers
-    statement_unended b x m = no_symbol (to_statement a n nl b ▹✗ no_expression_ends b x (unended x.at (goes_on (row_of x.label x.slots)) m))
+    statement_unended b u x m = no_symbol (to_statement a n nl b u ⇒✗ no_expression_ends b a u x (unended x.at (goes_on (row_of x.label x.slots)) m))
 
 -- `in` is an operator by the parameters
 pub in_of : {text : List ℕ} {f : Flags} {p : Parser} → At text f p → has_flag in_flag p.ctx ≡ true → f.in_ ≡ true

@@ -1,5 +1,5 @@
--- Declarations that begin with `var` or `const` (ECMA-262, 14.3.1, 14.3.2).
-use Rattle.std.specs.Prelude.{ℕ, ◌<◌, ◌≡◌, Bool, true, false, List, length, Result, Ok, Err}
+-- Declarations that begin with `var`, `let` or `const` (ECMA-262, 14.3.1, 14.3.2).
+use Rattle.std.specs.Prelude.{ℕ, ◌<◌, ◌≡◌, List, length, Result, Ok, Err}
 use Rattle.js_grammar.specs.Trees.{Label, Slots, end as no_slots, tree, variable_declaration}
 use Rattle.js_grammar.specs.Grammar.{Lexemes, nothing, ended}
 use Rattle.js_grammar.specs.Insertion.{by_edge}
@@ -8,7 +8,6 @@ use Rattle.js_grammar.specs.Productions.{G, Flags, op}
 use Rattle.js_grammar.specs.Table.{rule, declarators}
 use Rattle.js_tree.specs.declared.id.NodeId.{NodeId}
 use Rattle.js_tree.specs.declared.op.DeclarationKind.{DeclarationKind}
-use Rattle.js_tree.specs.declared.op.DeclarationKind.TheVariants.{Const, Let, Var}
 use Rattle.js_tree.specs.Holding.{Holds, Keeps}
 use Rattle.js_tree.specs.Labels.{declaration_kind}
 use Rattle.js_cursor.specs.Parsers.{Parser}
@@ -17,12 +16,6 @@ use Rattle.js_parsing.specs.Answers.{Verdict, Stretch, Stops}
 use Rattle.js_parsing.specs.Lexemes.{Lex, Walked, spot}
 use Rattle.js_parsing.specs.States.{At, Same}
 use Rattle.js_parsing.specs.Statements.{no_link}
-
--- those whose word is read
-abbrev pub begins_declaration : DeclarationKind → Bool
-begins_declaration Var = true
-begins_declaration Const = true
-begins_declaration Let = false
 
 -- the right side of its line
 abbrev pub declaration : DeclarationKind → Flags → G

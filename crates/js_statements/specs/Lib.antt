@@ -1,4 +1,5 @@
 pub mod CompoundStatements
 pub mod DeclarationStatements
+pub mod LetStatements
 pub mod StatementLists
 pub mod WordStatements

@@ -10,12 +10,13 @@ ghost use Rattle.js_parsing.specs.Nesting.{CanNest, room};
 ghost use Rattle.js_parsing.specs.Stands.{StandsHere};
 ghost use Rattle.js_parsing.specs.States.{Standing};
 ghost use Rattle.js_parsing.specs.Statements.{EndsStatement, IsLabel, LabelsStatement, NoEnd, TakesAnywhere, TakesStatement, link_kinds, statement_kinds};
+ghost use Rattle.js_statements.specs.LetStatements.{TakesUndeclared};
 
 use crate::compound_statement::{
     parse_do_while_statement, parse_if_statement, parse_while_statement, parse_with_statement,
 };
 use crate::declaration_statement::{
-    parse_const_body, parse_const_declaration, parse_variable_statement,
+    lexical_kind, parse_lexical_body, parse_lexical_declaration, parse_variable_statement,
 };
 use crate::word_statement::{
     parse_break_statement, parse_continue_statement, parse_debugger_statement,
@@ -26,12 +27,12 @@ use js_cursor::{ParserImpl, Stop};
 use js_expressions::sequence::parse_sequence_expression;
 use js_lex::ParserConfig;
 use js_operands::primary::parse_leaf;
-use js_parsing::lexemes::{advance, is_name, stands};
+use js_parsing::lexemes::{advance, is_name};
 use js_parsing::nested::Nested;
 use js_parsing::nodes::{make_leaf, make_one, make_two};
 use js_tree::{NodeId, NodeKind, Op};
 
-/// A StatementListItem (ECMA-262, section 14.2), as far as it is a Statement or a declaration of constants.
+/// A StatementListItem (ECMA-262, section 14.2), as far as it is a Statement or a LexicalDeclaration.
 pub fn parse_statement_list_item<C: ParserConfig, N: Nested<C>>(
     p: &mut ParserImpl<'_, C>,
     nested: &N,
@@ -41,8 +42,8 @@ pub fn parse_statement_list_item<C: ParserConfig, N: Nested<C>>(
     requires allows_in { has_flag in_flag p.old.ctx ≡ true }
     ensures { TakesStatement (at ListItem) p.old p.new result }
 {
-    if stands(p, Kind::Const) {
-        return parse_const_declaration(p, nested);
+    if let Some(kind) = lexical_kind(p, true)? {
+        return parse_lexical_declaration(p, nested, kind);
     }
     parse_any_statement(p, nested)
 }
@@ -57,13 +58,13 @@ pub fn parse_statement<C: ParserConfig, N: Nested<C>>(
     requires allows_in { has_flag in_flag p.old.ctx ≡ true }
     ensures { TakesStatement (at Sub) p.old p.new result }
 {
-    if stands(p, Kind::Const) {
-        return parse_const_body(p, nested);
+    if let Some(kind) = lexical_kind(p, false)? {
+        return parse_lexical_body(p, nested, kind);
     }
     parse_any_statement(p, nested)
 }
 
-/// A Statement, wherever it stands: by the lexeme that it begins with; a LabelledStatement or an ExpressionStatement where
+/// A Statement, wherever it stands, where no LexicalDeclaration does: by the lexeme that it begins with; a LabelledStatement or an ExpressionStatement where
 /// that is none of a statement's own.
 fn parse_any_statement<C: ParserConfig, N: Nested<C>>(
     p: &mut ParserImpl<'_, C>,
@@ -73,7 +74,7 @@ fn parse_any_statement<C: ParserConfig, N: Nested<C>>(
     requires nests { CanNest (N.can nested.now) (room p.old) }
     requires allows_in { has_flag in_flag p.old.ctx ≡ true }
     requires other { StandsHere p.old Const false }
-    ensures { TakesAnywhere p.old p.new result }
+    ensures { TakesUndeclared p.old p.new result }
 {
     if p.cur_token().escaped() {
         return Err(p.set_unexpected());
@@ -112,7 +113,7 @@ fn parse_expression_or_labeled_statement<C: ParserConfig, N: Nested<C>>(
     requires nests { CanNest (N.can nested.now) (room p.old) }
     requires allows_in { has_flag in_flag p.old.ctx ≡ true }
     requires other { one_of_kinds statement_kinds p.old.token.kind ≡ false }
-    ensures { TakesAnywhere p.old p.new result }
+    ensures { TakesUndeclared p.old p.new result }
 {
     let start = p.cur_start();
     let first = p.cur_token();

@@ -8,7 +8,7 @@ use Rattle.js_statements.proofs.DeclarationStatements.{declaration_answers, decl
 use Rattle.js_statements.proofs.declaration_statement.parse_declaration.Goals as goal
 
 pub advance-requires-clause-whole : goal.advance-requires-clause-whole
-advance-requires-clause-whole g c = declaration_whole c.args.kind c.requires.at c.requires.word c.requires.read
+advance-requires-clause-whole g c = declaration_whole c.args.kind c.requires.at c.requires.word
 
 pub parse_declarators-requires-clause-at : goal.parse_declarators-requires-clause-at
 parse_declarators-requires-clause-at g c = standing (c.in_ok-advance.ensures _ _ c.requires.at).at
@@ -23,7 +23,7 @@ returns-in_err-declarators g c =
     let p = err_from_is_err_and c.from_residual-in_err-declarators.result c.from_residual-in_err-declarators.ensures.1 in
     rw (p.1, p.2) (λ text f a.
     let m = c.in_ok-advance.ensures text f a in
-    stops_behind _ _ m.same (λ d. grown_then m.kept d) (λ n. declaration_none c.args.kind a c.requires.word c.requires.read m n) (c.in_err-declarators.ensures text f m.at))
+    stops_behind _ _ m.same (λ d. grown_then m.kept d) (λ n. declaration_none c.args.kind a c.requires.word m n) (c.in_err-declarators.ensures text f m.at))
 
 pub end_statement-requires : goal.end_statement-requires
 end_statement-requires g c = standing (c.in_ok-declarators.ensures _ _ (c.in_ok-advance.ensures _ _ c.requires.at).at).at
@@ -34,7 +34,7 @@ returns-in_err-end_statement g c =
     rw (p.1, p.2) (λ text f a.
     let m = c.in_ok-advance.ensures text f a in
     let x = c.in_ok-declarators.ensures text f m.at in
-    stops_behind _ _ (declaration_same c.args.kind a c.requires.word c.requires.read m x) (λ d. declaration_grown c.args.kind a c.requires.word c.requires.read m x d) (λ n. declaration_unended c.args.kind a c.requires.word c.requires.read m x n) c.in_err-end_statement.ensures)
+    stops_behind _ _ (declaration_same c.args.kind a c.requires.word m x) (λ d. declaration_grown c.args.kind a c.requires.word m x d) (λ n. declaration_unended c.args.kind a c.requires.word m x n) c.in_err-end_statement.ensures)
 
 pub end_span-span-requires : goal.end_span-span-requires
 end_span-span-requires g c =
@@ -47,4 +47,4 @@ pub returns : goal.returns
 returns g c = λ text f a.
     let m = c.in_ok-advance.ensures text f a in
     let x = c.in_ok-declarators.ensures text f m.at in
-    declaration_answers c.args.kind a c.requires.word c.requires.read m x _ (in_of a c.requires.allows_in) c.in_ok-end_statement.ensures (c.end_span-span.ensures.start ∙ c.cur_start-start.ensures) c.end_span-span.ensures.end c.in_ok-node.ensures
+    declaration_answers c.args.kind a c.requires.word m x _ (in_of a c.requires.allows_in) c.in_ok-end_statement.ensures (c.end_span-span.ensures.start ∙ c.cur_start-start.ensures) c.end_span-span.ensures.end c.in_ok-node.ensures

@@ -4,7 +4,7 @@ use Rattle.js_statements.proofs.Statements.{no_own_kind}
 use Rattle.js_statements.proofs.statement.parse_any_statement.Goals as goal
 
 pub returns-then-escaped : goal.returns-then-escaped
-returns-then-escaped g c = λ b text f a. gives_up_here _ _ c.set_unexpected.result a c.set_unexpected.ensures (fails_escaped a (let e : c.args.p.now.token.escaped ≡ true = search in e))
+returns-then-escaped g c = λ b u text f a. gives_up_here _ _ c.set_unexpected.result a c.set_unexpected.ensures (fails_escaped a (let e : c.args.p.now.token.escaped ≡ true = search in e))
 
 pub parse_if_statement-requires-clause-word : goal.parse_if_statement-requires-clause-word
 parse_if_statement-requires-clause-word g c = (sym c.cur_kind.ensures ∙ c.in-If.is, (let e : c.args.p.now.token.escaped ≡ false = search in e))
@@ -35,3 +35,33 @@ parse_variable_statement-requires-clause-word g c = (sym c.cur_kind.ensures ∙ 
 
 pub parse_expression_or_labeled_statement-requires-clause-other : goal.parse_expression_or_labeled_statement-requires-clause-other
 parse_expression_or_labeled_statement-requires-clause-other g c = no_own_kind _ (λ e. c.in_default.not-Semicolon (c.cur_kind.ensures ∙ e)) (λ e. c.in_default.not-If (c.cur_kind.ensures ∙ e)) (λ e. c.in_default.not-Do (c.cur_kind.ensures ∙ e)) (λ e. c.in_default.not-While (c.cur_kind.ensures ∙ e)) (λ e. c.in_default.not-With (c.cur_kind.ensures ∙ e)) (λ e. c.in_default.not-Break (c.cur_kind.ensures ∙ e)) (λ e. c.in_default.not-Continue (c.cur_kind.ensures ∙ e)) (λ e. c.in_default.not-Throw (c.cur_kind.ensures ∙ e)) (λ e. c.in_default.not-Debugger (c.cur_kind.ensures ∙ e)) (λ e. c.in_default.not-Var (c.cur_kind.ensures ∙ e)) (λ e. c.requires.other e (let e : c.args.p.now.token.escaped ≡ false = search in e))
+
+pub returns-in-If : goal.returns-in-If
+returns-in-If g c = λ b u. c.parse_if_statement.ensures b
+
+pub returns-in-Do : goal.returns-in-Do
+returns-in-Do g c = λ b u. c.parse_do_while_statement.ensures b
+
+pub returns-in-While : goal.returns-in-While
+returns-in-While g c = λ b u. c.parse_while_statement.ensures b
+
+pub returns-in-With : goal.returns-in-With
+returns-in-With g c = λ b u. c.parse_with_statement.ensures b
+
+pub returns-in-Break : goal.returns-in-Break
+returns-in-Break g c = λ b u. c.parse_break_statement.ensures b
+
+pub returns-in-Continue : goal.returns-in-Continue
+returns-in-Continue g c = λ b u. c.parse_continue_statement.ensures b
+
+pub returns-in-Throw : goal.returns-in-Throw
+returns-in-Throw g c = λ b u. c.parse_throw_statement.ensures b
+
+pub returns-in-Debugger : goal.returns-in-Debugger
+returns-in-Debugger g c = λ b u. c.parse_debugger_statement.ensures b
+
+pub returns-in-Var : goal.returns-in-Var
+returns-in-Var g c = λ b u. c.parse_variable_statement.ensures b
+
+pub returns-in-Semicolon : goal.returns-in-Semicolon
+returns-in-Semicolon g c = λ b u. c.parse_empty_statement.ensures b

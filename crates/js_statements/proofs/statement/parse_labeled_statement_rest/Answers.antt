@@ -4,8 +4,9 @@ use Rattle.js_base.specs.Contexts.{has_flag, in_flag}
 use Rattle.js_base.specs.declared.kind.Kind.TheVariants.{Colon}
 use Rattle.js_base.specs.declared.span.Span.{Span}
 use Rattle.js_cursor.specs.Parsers.{Parser}
+use Rattle.js_parsing.proofs.Giving.{memory_stops}
 use Rattle.js_parsing.proofs.Signs.{whole_sign}
-use Rattle.js_statements.proofs.Labels.{made_at, made_colon, made_room, made_in, label_memory, label_stops, label_answers}
+use Rattle.js_statements.proofs.Labels.{made_at, made_colon, made_room, made_in, label_stops, label_answers}
 use Rattle.js_parsing.proofs.Moving.{standing}
 use Rattle.js_parsing.proofs.Nesting.{nested_room}
 use Rattle.js_statements.proofs.statement.parse_labeled_statement_rest.Goals as goal
@@ -16,6 +17,11 @@ advance-requires-clause-at t c = standing (made_at c.requires.at c.in_ok-label.e
 pub advance-requires-clause-whole : goal.advance-requires-clause-whole
 advance-requires-clause-whole t c = whole_sign Colon (made_at c.requires.at c.in_ok-label.ensures) (made_colon c.requires.colon c.in_ok-label.ensures) refl refl
 
+pub returns-in_err-advance : goal.returns-in_err-advance
+returns-in_err-advance t c = λ text f first id a e x i b.
+    let p = err_from_is_err_and c.from_residual-in_err-advance.result c.from_residual-in_err-advance.ensures.1 in
+    rw (p.1, p.2) (memory_stops _ _ _ _ c.in_err-advance.ensures)
+
 pub statement-requires : goal.statement-requires
 statement-requires t c =
     let d = c.in_ok-label.ensures in
@@ -23,11 +29,6 @@ statement-requires t c =
     let m = c.in_ok-advance.ensures _ _ a in
     let r = nested_room a m in let s = made_room d in
     c.requires.nests _ _ (standing m.at, ap (has_flag in_flag) m.same.ctx ∙ made_in c.requires.allows_in d) (omega arith)
-
-pub returns-in_err-advance : goal.returns-in_err-advance
-returns-in_err-advance t c = λ text f first id a e x i b.
-    let p = err_from_is_err_and c.from_residual-in_err-advance.result c.from_residual-in_err-advance.ensures.1 in
-    rw (p.1, p.2) (label_memory text f b first _ _ c.in_err-advance.ensures)
 
 pub returns-in_err-body : goal.returns-in_err-body
 returns-in_err-body t c = λ text f first id a e x i b.

@@ -1,13 +1,14 @@
-use Rattle.std.proofs.Common.{true}
-use Rattle.js_base.specs.declared.kind.Kind.TheVariants.{Const}
-use Rattle.js_operands.proofs.Members.{stands_so}
+use Rattle.std.proofs.Common.{true, subst, sym}
+use Rattle.js_cursor.specs.Parsers.{Parser}
+use Rattle.js_grammar.specs.Productions.{at, ListItem}
+use Rattle.js_statements.specs.LetStatements.{NoLet}
+use Rattle.js_statements.proofs.LetStatements.{found_lexical, none_found, taken_from}
 use Rattle.js_statements.proofs.statement.parse_statement_list_item.Goals as goal
 
-pub parse_const_declaration-requires-clause-word : goal.parse_const_declaration-requires-clause-word
-parse_const_declaration-requires-clause-word t c = stands_so c.args.p.now Const c.if-stands.true c.stands.ensures
-
-pub parse_any_statement-requires-clause-other : goal.parse_any_statement-requires-clause-other
-parse_any_statement-requires-clause-other t c = stands_so c.args.p.now Const c.if-stands.false c.stands.ensures
+pub returns-in-Some : goal.returns-in-Some
+returns-in-Some g c = taken_from (at ListItem) c.args.p.now c.lexical_kind.new.p _ _ (found_lexical true c.args.p.now c.lexical_kind.new.p _ _ c.in-Some.is c.in_ok-kind.ensures).0 c.parse_lexical_declaration.ensures
 
 pub returns : goal.returns
-returns t c = c.parse_any_statement.ensures true
+returns g c =
+    let z = none_found true c.args.p.now c.lexical_kind.new.p _ c.in_default.is c.in_ok-kind.ensures in
+    taken_from (at ListItem) c.args.p.now c.lexical_kind.new.p _ _ z.0 (c.parse_any_statement.ensures true (subst (λ (v : Parser). NoLet true v) (sym z.0) z.2))
