@@ -1,7 +1,7 @@
 -- Declarations that begin with `var`, `let` or `const` (ECMA-262, 14.3.1, 14.3.2).
 use Rattle.std.proofs.Common.{ℕ, ◌≡◌, inl, inr, List, length, Option, Bool, true, false, IsTrue, refl, sym, ap, subst, arith, ◌∙◌}
 use Rattle.std.specs.Prelude.{IsCharBoundary, Result, Ok, Err}
-use Rattle.std.proofs.lemmas.Bool.{false≢true, and_from, or_left, or_right}
+use Rattle.std.proofs.lemmas.Bool.{and_from, or_left, or_right}
 use Rattle.js_base.specs.declared.diagnostic.Diagnostic.{Diagnostic}
 use Rattle.js_base.specs.declared.kind.Kind.TheVariants as kind
 use Rattle.js_base.specs.declared.span.Span.{Span}
@@ -17,7 +17,7 @@ use Rattle.js_grammar.specs.Productions.{Statement as AStatement}
 use Rattle.js_grammar.specs.Productions.{sym as symbol}
 use Rattle.js_grammar.specs.Table.{rule, rule_of, declarators}
 use Rattle.js_grammar.proofs.Looks.{covers}
-use Rattle.js_grammar.proofs.Calculus.{◌▹✗◌, by_omission, closes, fails_never, fails_node, fails_rule, inside_plain}
+use Rattle.js_grammar.proofs.Calculus.{◌▹✗◌, by_omission, closes, fails_never, fails_node, inside_plain}
 use Rattle.js_grammar.proofs.Frame.{append_end}
 use Rattle.js_tree.specs.declared.id.NodeId.{NodeId}
 use Rattle.js_tree.specs.declared.kind.NodeKind.TheVariants as node
@@ -28,12 +28,10 @@ use Rattle.js_tree.specs.Labels.{declaration_kind}
 use Rattle.js_tree.specs.Nodes.{Node}
 use Rattle.js_tree.specs.Holding.{Holds, HoldsAll, Keeps}
 use Rattle.js_tree.proofs.HoldingLemmas.{Keeps-trans, Keeps-made}
-use Rattle.js_cursor.specs.Moves.{Keeps as KeepsOne}
 use Rattle.js_cursor.specs.Parsers.{Parser}
 use Rattle.js_cursor.specs.declared.stop.Stop.{Stop}
-use Rattle.js_parsing.specs.Answers.{Grown, unclean}
-use Rattle.js_parsing.specs.Classes.{IsEarly}
-use Rattle.js_parsing.specs.Lexemes.{Lex, read_kinds, spot}
+use Rattle.js_parsing.specs.Answers.{Grown}
+use Rattle.js_parsing.specs.Lexemes.{Lex, read_kinds}
 use Rattle.js_parsing.specs.Moves.{IsWholeHere, Moved, MadeHere, plain_label}
 use Rattle.js_parsing.specs.Stands.{StandsHere}
 use Rattle.js_parsing.specs.States.{At, Same, NodesLie}
@@ -45,8 +43,7 @@ use Rattle.js_cursor.specs.Moves.{is_last}
 use Rattle.js_parsing.proofs.Here.{uncut}
 use Rattle.js_parsing.proofs.MadeNodes.{node_held, made_lies}
 use Rattle.js_parsing.proofs.Moving.{beside_nodes, moves, same_both, same_with, stops_so}
-use Rattle.js_parsing.proofs.Paths.{Path, ◌⟼◌, ◌⟶◌, ◌⟶✗◌, at_kind, by_symbol_as, label_here, noded_by, skips, walked_both, walked_one, walked_to}
-use Rattle.js_parsing.proofs.Told.{told_at, told_same}
+use Rattle.js_parsing.proofs.Paths.{Path, ◌⟶◌, ◌⟶✗◌, at_kind, by_symbol_as, label_here, noded_by, skips, walked_both, walked_one}
 use Rattle.js_parsing.proofs.Verdicts.{behind_none, grown_then, verdict_of}
 use Rattle.js_parsing.proofs.Verdicts.{after as grown_behind}
 use Rattle.js_statements.proofs.Statements.{◌⟝◌, ended_so, never_open, no_symbol, omits_stopped, semicolon_path, unended, whole_semicolon}

@@ -1,17 +1,18 @@
 -- LexicalDeclarations (ECMA-262, 14.3.1): in a list of statements, and as the body of another one, where none may stand.
-use Rattle.std.proofs.Common.{ℕ, ◌≡◌, List, [], ◌∷◌, length, Bool, true, false, not, ◌&&◌, ◌||◌, IsTrue, Option, Some, None, refl, sym, ap, subst, arith, ◌∙◌}
+use Rattle.std.proofs.Common.{ℕ, ◌≡◌, List, [], ◌∷◌, ◌++◌, length, Bool, true, false, not, ◌&&◌, IsTrue, Option, Some, None, refl, sym, ap, subst, arith, ◌∙◌}
 use Rattle.std.specs.Prelude.{Result, Ok, Err}
 use Rattle.std.proofs.lemmas.Bool.{false≢true, and_from, and_parts}
 use Rattle.js_base.specs.declared.diagnostic.Diagnostic.{Diagnostic}
+use Rattle.js_base.specs.declared.diagnostic.DiagnosticKind.TheVariants.{LexicalDeclarationSingleStatement}
+use Rattle.js_base.specs.declared.span.Span.{Span}
 use Rattle.js_base.specs.declared.kind.Kind.{Kind}
 use Rattle.js_base.specs.declared.kind.Kind.TheVariants.{Colon, Const, LBrack, LCurly, Let, RAngle, Undetermined}
 use Rattle.js_base.specs.declared.token.Token.{Token}
 use Rattle.js_base.specs.Kinds.{same_kind}
-use Rattle.js_base.proofs.KindLemmas.{kind_of_same}
 use Rattle.js_grammar.specs.Conditions.{ends_in_sub}
 use Rattle.js_grammar.specs.Words.{'async'}
 use Rattle.js_grammar.specs.Trees.{end}
-use Rattle.js_grammar.specs.Grammar.{Lexeme, Look, seen, is, ◌▸◌}
+use Rattle.js_grammar.specs.Grammar.{Lexeme, seen, is, ◌▸◌}
 use Rattle.js_grammar.specs.Parsing.{Test, plain, full, still, Goes, Fails}
 use Rattle.js_grammar.specs.Productions.{G, Flags, Symbol, at, not_then, word_or, ExprStmt, Labeled, Lexical, ListItem, Sub}
 use Rattle.js_grammar.specs.Productions.{Statement as AStatement}
@@ -41,17 +42,18 @@ use Rattle.js_parsing.proofs.Giving.{kept_one}
 use Rattle.js_parsing.proofs.Moving.{same_both, stops_so}
 use Rattle.js_parsing.proofs.Paths.{◌⟼◌, at_kind, by_symbol_as, walked_to}
 use Rattle.js_parsing.proofs.Tight.{read_plain}
+use Rattle.js_parsing.specs.Told.{unrelated_at}
 use Rattle.js_parsing.proofs.Told.{told_at, told_same}
+use Rattle.js_parsing.proofs.Signs.{span_is}
 use Rattle.js_parsing.proofs.Verdicts.{after as grown_behind}
 use Rattle.js_expressions.proofs.Lookaheads.{peeked_kind, peeked_whole}
-use Rattle.js_statements.specs.DeclarationStatements.{Declaration, NoDeclaration, ReadsDeclaration, declaration}
-use Rattle.js_statements.specs.LetStatements.{behind_let, BeginsLexical, FindsLexical, LetBegins, LetHere, NoLet}
+use Rattle.js_statements.specs.DeclarationStatements.{Declaration, ReadsDeclaration, declaration}
+use Rattle.js_statements.specs.LetStatements.{behind_let, BeginsLexical, FindsLexical, LetBegins, LetHere, NoLet, TellsLexical}
 use Rattle.js_statements.proofs.DeclarationStatements.{as_statement, const_alone, const_listed, declaration_read, no_const_body}
 use Rattle.js_statements.proofs.LetLookaheads.{ends_at, followed, not_followed, ◌⇒✗◌}
 use Rattle.js_statements.proofs.Statements.{item_left, labels_fail, never_open, no_expression, no_symbol, sub_left}
 use Rattle.js_statements.proofs.WordStatements.{unlinked}
 use Rattle.js_grammar.specs.Productions.{is_one_of, function_on_line}
-use Rattle.js_grammar.specs.Grammar.{alt}
 
 -- ---- where `let` begins a declaration
 
@@ -130,6 +132,12 @@ pub no_lexical_body : {text : List ℕ} {f : Flags} {p : Parser} (k : Declaratio
 no_lexical_body declared.Const a h = no_const_body a h
 no_lexical_body declared.Let a h = no_let_body a h
 no_lexical_body declared.Var a h = absurd h
+
+-- it is told last, from where it begins to where it ends
+pub lexical_last : {text : List ℕ} {f : Flags} {p w v : Parser} {k : DeclarationKind} {id : NodeId} (s : Span) → Declaration text f k p w id → KeepsOne (unrelated_at LexicalDeclarationSingleStatement s) w v → s.start ≡ p.token.span.start → s.end ≡ w.prev_token_end → TellsLexical p v
+lexical_last {p = p} {v = v} s x t b e =
+    let span : s ≡ record { start = p.token.span.start; end = v.prev_token_end } = span_is s b (e ∙ sym (ap (λ (z : Parser). z.prev_token_end) t.is)) in
+    record { before = x.same.follows.later_errors; told = ap (λ (z : Parser). z.errors) t.is ∙ (λ i. x.same.follows.errors i ++ unrelated_at LexicalDeclarationSingleStatement (span i) ∷ []) }
 
 pub lexical_told : {text : List ℕ} {f : Flags} {p w v : Parser} {k : DeclarationKind} {d : Diagnostic} {id : NodeId} → At text f p → BeginsLexical false k p → Declaration text f k p w id → KeepsOne d w v → IsEarly d → Statement text f (at Sub f) p v id
 lexical_told {text} {f} {p} {w} {v} {k} {d} {id} a h x t i =

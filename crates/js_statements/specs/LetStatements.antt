@@ -1,5 +1,7 @@
 -- Where `let` begins a declaration, and where it is a name (ECMA-262, 14.2, 14.3.1, 14.5).
-use Rattle.std.specs.Prelude.{ℕ, ◌≡◌, Bool, true, false, ◌||◌, IsTrue, List, [], ◌∷◌, Option, Some, None, Result}
+use Rattle.std.specs.Prelude.{ℕ, ◌≡◌, Bool, true, false, ◌||◌, IsTrue, List, [], ◌∷◌, ◌++◌, Option, Some, None, Result}
+use Rattle.js_base.specs.declared.diagnostic.Diagnostic.{Diagnostic}
+use Rattle.js_base.specs.declared.diagnostic.DiagnosticKind.TheVariants.{LexicalDeclarationSingleStatement}
 use Rattle.js_base.specs.declared.kind.Kind.{Kind}
 use Rattle.js_base.specs.declared.kind.Kind.TheVariants.{Const, LBrack, LCurly, Let}
 use Rattle.js_base.specs.Kinds.{same_kind, one_of_kinds}
@@ -15,6 +17,7 @@ use Rattle.js_parsing.specs.Lexemes.{Lex}
 use Rattle.js_parsing.specs.Stands.{StandsHere}
 use Rattle.js_parsing.specs.States.{At}
 use Rattle.js_parsing.specs.Statements.{TakesStatement, placed}
+use Rattle.js_parsing.specs.Told.{unrelated_at}
 
 -- Before these `let` begins a declaration: in a list of statements a word that may be bound, `[` and `{`; as the body of another one `[` alone.
 abbrev pub behind_let : Bool → Kind → Bool
@@ -53,3 +56,8 @@ FindsLexical b p q None = (q ≡ p) × StandsHere p Const false × NoLet b p
 -- the answer of a parse function of what is a statement, in a list or as a body, where `let` begins no declaration there
 abbrev pub TakesUndeclared : Parser → Parser → Result NodeId Stop → Type 0
 TakesUndeclared p q r = (b : Bool) → NoLet b p → TakesStatement (placed b) p q r
+
+-- The diagnostic that was kept last is of a declaration that stands as a body, from where the call began to where it ended.
+pub record TellsLexical (p q : Parser) : Type 0 where
+  pub before : List Diagnostic
+  pub told : q.errors ≡ (p.errors ++ before) ++ unrelated_at LexicalDeclarationSingleStatement (record { start = p.token.span.start; end = q.prev_token_end }) ∷ []

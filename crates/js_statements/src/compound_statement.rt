@@ -59,6 +59,7 @@ pub fn parse_if_statement<C: ParserConfig, N: Nested<C>>(
 }
 
 /// The Statement behind `else`, or none where that doesn't stand here (ECMA-262, section 14.6).
+#[inline(always)]
 fn parse_alternate<C: ParserConfig, N: Nested<C>>(
     p: &mut ParserImpl<'_, C>,
     nested: &N,

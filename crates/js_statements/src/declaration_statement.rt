@@ -1,6 +1,6 @@
 //! Declarations that begin with `var`, `let` or `const` (ECMA-262, sections 14.3.1 and 14.3.2).
 
-ghost use Rattle.std.specs.Prelude.{◌≡◌, true, false, MatchResult};
+ghost use Rattle.std.specs.Prelude.{◌≡◌, true, false, IfOk, MatchResult};
 ghost use Rattle.js_base.specs.Contexts.{has_flag, in_flag};
 ghost use Rattle.js_base.specs.declared.kind.Kind.TheVariants.{Var};
 ghost use Rattle.js_grammar.specs.Productions.{at, ListItem, Sub};
@@ -11,7 +11,7 @@ ghost use Rattle.js_parsing.specs.States.{Standing};
 ghost use Rattle.js_parsing.specs.Statements.{TakesAnywhere, TakesStatement};
 ghost use Rattle.js_tree.specs.Labels.{declaration_kind};
 ghost use Rattle.js_statements.specs.DeclarationStatements.{ReadsDeclaration};
-ghost use Rattle.js_statements.specs.LetStatements.{BeginsLexical, FindsLexical, LetBegins, behind_let};
+ghost use Rattle.js_statements.specs.LetStatements.{BeginsLexical, FindsLexical, LetBegins, TellsLexical, behind_let};
 
 use crate::statement::end_statement;
 use js_base::{DiagnosticKind, Kind};
@@ -65,7 +65,8 @@ pub fn parse_lexical_body<C: ParserConfig, N: Nested<C>>(
     requires nests { CanNest (N.can nested.now) (room p.old) }
     requires allows_in { has_flag in_flag p.old.ctx ≡ true }
     requires begins { BeginsLexical false kind p.old }
-    ensures { TakesStatement (at Sub) p.old p.new result }
+    ensures taken { TakesStatement (at Sub) p.old p.new result }
+    ensures told { IfOk result (λ _. TellsLexical p.old p.new) }
 {
     let start = p.cur_start();
     let declaration = parse_declaration(p, nested, kind)?;

@@ -6,7 +6,7 @@ use Rattle.js_statements.proofs.LetStatements.{found_lexical, none_found, taken_
 use Rattle.js_statements.proofs.statement.parse_statement.Goals as goal
 
 pub returns-in-Some : goal.returns-in-Some
-returns-in-Some g c = taken_from (at Sub) c.args.p.now c.lexical_kind.new.p _ _ (found_lexical false c.args.p.now c.lexical_kind.new.p _ _ c.in-Some.is c.in_ok-kind.ensures).0 c.parse_lexical_body.ensures
+returns-in-Some g c = taken_from (at Sub) c.args.p.now c.lexical_kind.new.p _ _ (found_lexical false c.args.p.now c.lexical_kind.new.p _ _ c.in-Some.is c.in_ok-kind.ensures).0 c.parse_lexical_body.ensures.taken
 
 pub returns : goal.returns
 returns g c =
