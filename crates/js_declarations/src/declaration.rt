@@ -27,7 +27,22 @@ pub fn parse_declarators<C: ParserConfig, N: Nested<C>>(
     requires nests { CanNest (N.can nested.now) (room p.old) }
     ensures { MatchResult result (λ v. DeclaratorsRead (is_constant kind) p.old p.new v.items) (λ e. NoDeclarators (is_constant kind) p.old p.new e) }
 {
-    let mut declarators = Vec::new(p.alloc);
+    let declarators = Vec::new(p.alloc);
+    parse_more_declarators(p, nested, kind, declarators)
+}
+
+/// More declarators behind those that were read, with commas between them.
+pub fn parse_more_declarators<C: ParserConfig, N: Nested<C>>(
+    p: &mut ParserImpl<'_, C>,
+    nested: &N,
+    kind: DeclarationKind,
+    read: Vec<Option<NodeId>>,
+) -> Result<Vec<Option<NodeId>>, Stop>
+    requires at { Standing p.old }
+    requires nests { CanNest (N.can nested.now) (room p.old) }
+    ensures { MatchResult result (λ v. MoreDeclaratorsRead (is_constant kind) p.old p.new read.items v.items) (λ e. NoDeclarators (is_constant kind) p.old p.new e) }
+{
+    let mut declarators = read;
     'declarators: loop {
         let more = parse_declarator_and_comma(p, nested, kind, &mut declarators)?;
         if !more {
@@ -87,7 +102,7 @@ fn parse_variable_declarator<C: ParserConfig, N: Nested<C>>(
 }
 
 /// A declarator without an initialiser, whose span is that of what is bound.
-fn make_bare_declarator<C: ParserConfig>(
+pub fn make_bare_declarator<C: ParserConfig>(
     p: &mut ParserImpl<'_, C>,
     kind: DeclarationKind,
     is_name: bool,

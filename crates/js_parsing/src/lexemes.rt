@@ -136,6 +136,7 @@ fn is_read_reserved_word(kind: Kind) -> bool
             | Kind::Debugger
             | Kind::Throw
             | Kind::If
+            | Kind::For
             | Kind::Else
             | Kind::While
             | Kind::Do

@@ -116,6 +116,19 @@ pub fn make_two_and_optional<C: ParserConfig>(
         .node_of_three(kind, span, Op::None, no_flags(), children)
 }
 
+/// A node of four slots.
+pub fn make_four<C: ParserConfig>(
+    p: &mut ParserImpl<'_, C>,
+    kind: NodeKind,
+    span: Span,
+    children: [Option<NodeId>; 4],
+) -> Result<NodeId, NoMemory>
+    ensures { IfOk result (λ id. MadeHere (plain_label kind op.None span) children p.old p.new id) }
+{
+    let slots = Vec::from_slice(p.alloc, &children)?;
+    p.ast.node(kind, span, Op::None, no_flags(), None, slots)
+}
+
 /// A node of a list of children.
 pub fn make_list<C: ParserConfig>(
     p: &mut ParserImpl<'_, C>,

@@ -3,6 +3,7 @@
 
 pub mod compound_statement;
 pub mod declaration_statement;
+pub mod for_statement;
 pub mod statement;
 pub mod statement_list;
 pub mod word_statement;

@@ -18,6 +18,7 @@ use crate::compound_statement::{
 use crate::declaration_statement::{
     lexical_kind, parse_lexical_body, parse_lexical_declaration, parse_variable_statement,
 };
+use crate::for_statement::parse_for_statement;
 use crate::word_statement::{
     parse_break_statement, parse_continue_statement, parse_debugger_statement,
     parse_throw_statement,
@@ -85,6 +86,7 @@ fn parse_any_statement<C: ParserConfig, N: Nested<C>>(
         Kind::Do => parse_do_while_statement(p, nested),
         Kind::While => parse_while_statement(p, nested),
         Kind::With => parse_with_statement(p, nested),
+        Kind::For => parse_for_statement(p, nested),
         Kind::Break => parse_break_statement(p),
         Kind::Continue => parse_continue_statement(p),
         Kind::Throw => parse_throw_statement(p, nested),
