@@ -81,6 +81,7 @@ use Rattle.js_parsing.proofs.Signs.{other_kind, plain_sign}
 use Rattle.js_parsing.proofs.Dead.{live, lives, fails_dead}
 use Rattle.js_expressions.proofs.Exponents.{longer}
 use Rattle.js_parsing.proofs.Told.{beside_errors}
+use Rattle.js_parsing.proofs.ToEnd.{to_end_stays}
 use Rattle.js_parsing.proofs.Giving.{kept_one}
 use Rattle.js_parsing.proofs.Here.{alike, angled, found, plainly, one_plain, newline_here, kind_here, told, uncut}
 use Rattle.js_parsing.proofs.MadeNodes.{leaf_held, node_held, two_held, one_lies, LabelLies, from_start}
@@ -530,7 +531,7 @@ plain_back {text} {p} {r} t c e (nothing_here d k n) = nothing_here (c ∙ d) (a
 pub went_back : {p q r : Parser} {c : ParserCheckpoint} → may_be_read_again p.token.kind ≡ false → Remembers p c → GoesOn p q → NotedHeads q → (SpansLie p → NodesLie q.text q.nodes) → GoesBack c q r → Unmoved p r
 went_back {p} {q} {r} o m f n l g =
     let b = came_back m f.0 g in
-    let s : Same p r = record { follows = back_follows m f.0 g; options = g.options ∙ f.0.options; ctx = b.ctx; depth = b.depth; visits = b.visits; early = λ h. All-same IsEarly r.errors p.errors b.errors h; lies = λ h. (g.at.lies.starts_whole, nodes_lie q r g.text g.nodes (l h)) } in
+    let s : Same p r = record { follows = back_follows m f.0 g; options = g.options ∙ f.0.options; ctx = b.ctx; depth = b.depth; visits = b.visits; early = λ h. All-same IsEarly r.errors p.errors b.errors h; lies = λ h. (g.at.lies.starts_whole, nodes_lie q r g.text g.nodes (l h)); meets = to_end_stays p r b.text b.prev_token_end } in
     record {
       at = λ text f a. record { text_is = b.text ∙ a.text_is; flags_are = flags_same p r b.ctx b.source_type s.options ∙ a.flags_are; at = g.at; plain = plain_back b.token b.cut b.prev_token_end a.plain; behind = let i = b.prev_token_end in let j = ap (λ z. z.span.start) b.token in let k = a.behind in omega arith; heads = heads_kept q r g.text g.source_type g.options (ap (λ (z : Notes). z.failed) g.state) n; kept_last = last_back p.lexer r.lexer b.token b.keeps_tokens (b.tokens o) a.kept_last };
       same = s;
@@ -615,7 +616,7 @@ line_at {text} {f} a (inl (e, c)) = subst (At text f) (sym c.is) (beside_errors 
 line_at {text} {f} a (inr (e, i)) = subst (At text f) (sym i) a
 
 pub line_same : {p q : Parser} → ChecksLine p q → Same p q
-line_same {p} (inl (e, c)) = record { follows = keeps_follows c; options = ap (λ (z : Parser). z.options) c.is; ctx = ap (λ (z : Parser). z.ctx) c.is; depth = ap (λ (z : Parser). z.depth) c.is; visits = ap (λ (z : Parser). z.visits) c.is; early = λ h. kept_early c refl h; lies = λ h. subst SpansLie (sym c.is) h }
+line_same {p} {q} (inl (e, c)) = record { follows = keeps_follows c; options = ap (λ (z : Parser). z.options) c.is; ctx = ap (λ (z : Parser). z.ctx) c.is; depth = ap (λ (z : Parser). z.depth) c.is; visits = ap (λ (z : Parser). z.visits) c.is; early = λ h. kept_early c refl h; lies = λ h. subst SpansLie (sym c.is) h; meets = to_end_stays p q (ap (λ (z : Parser). z.text) c.is) (ap (λ (z : Parser). z.prev_token_end) c.is) }
 line_same {p} (inr (e, i)) = subst (λ (z : Parser). Same p z) (sym i) same_itself
 
 pub line_place : {p q : Parser} → ChecksLine p q → q.prev_token_end ≡ p.prev_token_end

@@ -69,10 +69,11 @@ use Rattle.js_grammar.specs.Options.{Options, is_module as in_module, is_commonj
 use Rattle.js_grammar.specs.Settings.{Goal, script, module_goal, commonjs, unambiguous}
 use Rattle.js_lex.specs.Comments.{each_at, comment_at, irregular_at, html_fault_at}
 use Rattle.js_lex.specs.Reading.{in_a_module, is_kept, kept_token, LexemeBehind, GivesFirst, GivesNext}
-use Rattle.js_parsing.specs.Lexemes.{Faultless, KeptFor, TriviaKept, kept_before, Spot, spot, Walked, nowhere, one_more}
+use Rattle.js_parsing.specs.Lexemes.{Faultless, KeptFor, TriviaKept, kept_before, Spot, spot, Walked, nowhere, one_more, more_faults}
 use Rattle.js_parsing.proofs.KeptTokens.{before_next, trivia_kept}
 use Rattle.js_parser.specs.Kept.{KeepsRight, each_of, comments_before, blanks_before, TellsEach, IsKeptOf}
-use Rattle.js_parser.proofs.Walks.{behind_walk, first_comments, first_blanks, all_kept, walk_tells, walk_unasked, keeps_still, kept_none}
+use Rattle.js_parsing.proofs.Paths.{behind_walk}
+use Rattle.js_parser.proofs.Walks.{first_comments, first_blanks, all_kept, walk_tells, walk_unasked, keeps_still, kept_none}
 use Rattle.js_base.specs.declared.token.Token.{Token}
 use Rattle.js_parsing.proofs.Kept.{kept_for, faults_aside}
 use Rattle.js_parsing.proofs.Paths.{walked_from}
@@ -187,16 +188,19 @@ module _ {text : List ℕ} where
   right_there : {s s' : Spot} {pass : Lexemes → Lexemes} → Walked text s s' pass → s'.kept.errors ≡ [] → ((s.kept.errors ≡ []) → Right text s) → Right text s'
   right_there nowhere e h = h e
   right_there (one_more {s' = m} {n = n} w i) e h = i.faults.none (second_empty m.kept.errors n.faults e)
+  right_there (more_faults {s' = m} w ds n) e h = right_there w (first_empty m.kept.errors ds e) h
 
   source_kept : {s s' : Spot} {pass : Lexemes → Lexemes} → Walked text s s' pass → s'.source ≡ s.source
   source_kept nowhere = refl
   source_kept (one_more w i) = source_kept w
+  source_kept (more_faults w ds n) = source_kept w
 
   all_right : {s s' : Spot} {pass : Lexemes → Lexemes} (w : Walked text s s' pass) → s'.kept.errors ≡ [] → ((s.kept.errors ≡ []) → Right text s) → (ms : Lexemes) → Lexes (Lex text) s.place (pass ms) → Lexes (Faultless s'.source text) s'.place ms → Lexes (Faultless s.source text) s.place (pass ms)
   all_right nowhere e h ms l r = r
   all_right (one_more {s' = m} {x = x} {n = n} w i) e h ms l r =
       let none = first_empty m.kept.errors n.faults e in
       all_right w none h (next x ms) l (right_there w none h x (behind_walk (Lex text) w (next x ms) l).0, r)
+  all_right (more_faults {s' = m} w ds n) e h ms l r = all_right w (first_empty m.kept.errors ds e) h ms l r
 
   -- where some fault was kept, one stands on the way, or here
   some_wrong : {s s' : Spot} {pass : Lexemes → Lexemes} (w : Walked text s s' pass) → (s'.kept.errors ≡ [] → ⊥) → ((s.kept.errors ≡ [] → ⊥) → (y : Lexeme) → Faultless s.source text s.place y → ⊥) → (ms : Lexemes) → Lexes (Faultless s.source text) s.place (pass ms) → ⊥
@@ -206,6 +210,7 @@ module _ {text : List ℕ} where
       go : (ds : List Diagnostic) → news.faults ≡ ds → ((m.kept.errors ≡ [] → ⊥) → ⊥) → ⊥
       go [] e again = again (λ z. n (λ j. z j ++ e j))
       go (d ∷ ds) e again = i.faults.some (λ z. cons_some d ds (sym e ∙ z)) (here ms) (here_at (Faultless m.source text) ms (subst (λ (v : Goal). Lexes (Faultless v text) x.to ms) (sym (source_kept w)) (behind_walk (Faultless s.source text) w (next x ms) r).1))
+  some_wrong {s} (more_faults {pass = pass} w ds n) k h ms r = n ms (all_aside text s.source s.place (pass ms) r)
 
 -- The statements that were taken up to the text's end, by the faults that were kept.
 module _ {text : List ℕ} {f : Flags} {q : Parser} (a : At text f q) (e : q.token.kind ≡ Eof) {s : ℕ} {slots : Slots → Slots} {pass : Lexemes → Lexemes} (u : Stretch text (plain at_text_end) (with_directives f) s (statements f) q.prev_token_end slots pass) {source : Goal}
@@ -228,10 +233,10 @@ module _ {text : List ℕ} {f : Flags} {q : Parser} (a : At text f q) (e : q.tok
     of_lexemes P h = subst (λ (ls : Lexemes). (l : Lexes (Faultless source text) s ls) → P ls l) (sym (only_so a e u (any_body source b)).1) h b.lexed
 
     comments_so : q.lexer.kept.comments ≡ each_of comments_before text source s ls b.lexed
-    comments_so = of_lexemes (λ ls l. q.lexer.kept.comments ≡ each_of comments_before text source s ls l) (λ l. all_kept comments_before text source (λ s. s.kept.comments) (λ n. n.comments) (λ s x n. refl) (λ s x n i ms m. first_comments text source x.to i.trivia ms m) w (end_here a e).0 l (first_comments text source s trivia (pass (last (end_here a e).0)) l))
+    comments_so = of_lexemes (λ ls l. q.lexer.kept.comments ≡ each_of comments_before text source s ls l) (λ l. all_kept comments_before text source (λ s. s.kept.comments) (λ n. n.comments) (λ s x n. refl) (λ s ds. refl) (λ s x n i ms m. first_comments text source x.to i.trivia ms m) w (end_here a e).0 l (first_comments text source s trivia (pass (last (end_here a e).0)) l))
 
     blanks_so : q.lexer.kept.irregular_whitespaces ≡ each_of blanks_before text source s ls b.lexed
-    blanks_so = of_lexemes (λ ls l. q.lexer.kept.irregular_whitespaces ≡ each_of blanks_before text source s ls l) (λ l. all_kept blanks_before text source (λ s. s.kept.irregular_whitespaces) (λ n. n.blanks) (λ s x n. refl) (λ s x n i ms m. first_blanks text source x.to i.trivia ms m) w (end_here a e).0 l (first_blanks text source s trivia (pass (last (end_here a e).0)) l))
+    blanks_so = of_lexemes (λ ls l. q.lexer.kept.irregular_whitespaces ≡ each_of blanks_before text source s ls l) (λ l. all_kept blanks_before text source (λ s. s.kept.irregular_whitespaces) (λ n. n.blanks) (λ s x n. refl) (λ s ds. refl) (λ s x n i ms m. first_blanks text source x.to i.trivia ms m) w (end_here a e).0 l (first_blanks text source s trivia (pass (last (end_here a e).0)) l))
 
     tokens_so : keeps ≡ true → TellsEach ls q.lexer.kept.tokens
     tokens_so asks = of_lexemes (λ ls l. TellsEach ls q.lexer.kept.tokens) (λ l. told_tokens)

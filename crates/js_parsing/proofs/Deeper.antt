@@ -61,7 +61,7 @@ read_deeper id Binding r i x = let y = (x _ _ (deeper r i)).answer in (y.at.at, 
 statement_out : {text : List ℕ} {f : Flags} {n : Symbol} {p q : Parser} {id : NodeId} (k j : ℕ) → j ≡ p.depth → IsAt p → TheStatement text f n (record p { depth = k }) q id → TheStatement text f n p (record q { depth = j }) id
 statement_out {q = q} k j e a x = record {
   at = elsewhere q.nodes j x.at;
-  same = record { follows = follows_on (at_depth k a) (follows_on x.same.follows (at_depth j x.at.at)); options = x.same.options; ctx = x.same.ctx; depth = e; visits = x.same.visits; early = x.same.early; lies = x.same.lies };
+  same = record { follows = follows_on (at_depth k a) (follows_on x.same.follows (at_depth j x.at.at)); options = x.same.options; ctx = x.same.ctx; depth = e; visits = x.same.visits; early = x.same.early; lies = x.same.lies; meets = x.same.meets };
   further = x.further;
   label = x.label;
   slots = x.slots;

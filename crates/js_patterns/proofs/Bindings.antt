@@ -3,7 +3,7 @@ use Rattle.std.proofs.Common.{ℕ, ◌≡◌, max, List, [], ◌∷◌, length, 
 use Rattle.std.specs.Prelude.{Result, Ok, Err, MatchResult, IsCharBoundary}
 use Rattle.std.proofs.lemmas.Bool.{false≢true}
 use Rattle.js_base.specs.declared.kind.Kind.{Kind}
-use Rattle.js_base.specs.declared.kind.Kind.TheVariants.{RAngle, LBrack, RBrack, RParen, Comma, Dot3, Eq, Ident, PrivateIdentifier}
+use Rattle.js_base.specs.declared.kind.Kind.TheVariants.{RAngle, LBrack, LCurly, RBrack, RParen, Comma, Dot3, Eq, Ident, PrivateIdentifier}
 use Rattle.js_base.specs.declared.span.Span.{Span}
 use Rattle.js_base.specs.Kinds.{same_kind, one_of_kinds}
 use Rattle.js_base.specs.Texts.{words}
@@ -32,9 +32,9 @@ use Rattle.js_cursor.specs.declared.stop.Stop.TheVariants.{Fatal, NoMemory}
 use Rattle.js_parsing.specs.Answers.{Underived, Answer, Numbered, Outcome, Stops}
 use Rattle.js_parsing.specs.Arguments.{Partway, behind_item, ItemTaken, NoItem}
 use Rattle.js_patterns.specs.Bindings.{elements_left}
-use Rattle.js_parsing.specs.Lexemes.{Lex}
+use Rattle.js_parsing.specs.Lexemes.{Lex, unbuilt_kinds}
 use Rattle.js_parsing.specs.Stands.{StandsHere}
-use Rattle.js_parsing.specs.Moves.{Moved, MadeHere, LeafTaken, TakesLeaf, plain_label}
+use Rattle.js_parsing.specs.Moves.{Moved, MadeHere, LeafTaken, TakesLeaf, plain_label, unpassable}
 use Rattle.js_parsing.specs.States.{At, Same, NodesLie}
 use Rattle.js_parsing.proofs.Signs.{other_kind, plain_sign}
 use Rattle.js_parsing.proofs.Giving.{fails_escaped, gives_up}
@@ -98,17 +98,18 @@ pub bound_path : {text : List ℕ} {f : Flags} {X : Test} {p q : Parser} → At 
 unfolding rule rule_of
 bound_path {f = f} a k e m = by_symbol_as {X' = plain full} (λ l cs vs y d. (refl, refl)) (noded a (one_path (name_test f) a m (plain_leaf Ident k e refl m) (rw (sym m.tells.kind ∙ k) refl)))
 
-neither_kind : (a b k : Kind) → (k ≡ a → ⊥) → (k ≡ b → ⊥) → one_of_kinds (a ∷ b ∷ []) k ≡ false
-neither_kind a b k n m = go (same_kind a k) refl
+neither_kind : (a b : Kind) (ks : List Kind) (k : Kind) → (k ≡ a → ⊥) → (k ≡ b → ⊥) → one_of_kinds ks k ≡ false → one_of_kinds (a ∷ b ∷ ks) k ≡ false
+neither_kind a b ks k n m c = go (same_kind a k) (same_kind b k) refl refl
   where
-    go : (r : Bool) → same_kind a k ≡ r → (r || one_of_kinds (b ∷ []) k) ≡ false
-    go true e = absurd (n (sym (kind_of_same a k e)))
-    go false e = other_kind b k m
+    go : (r s : Bool) → same_kind a k ≡ r → same_kind b k ≡ s → (r || (s || one_of_kinds ks k)) ≡ false
+    go true s e d = absurd (n (sym (kind_of_same a k e)))
+    go false true e d = absurd (m (sym (kind_of_same b k d)))
+    go false false e d = c
 
 module _ {text : List ℕ} {f : Flags} {p : Parser} (a : At text f p) where
   binding_path : {q : Parser} → p.token.kind ≡ Ident → p.token.escaped ≡ false → Moved text f p q → Path text f (after (at Binding f)) (rule (at Binding f)) p nothing q (tree (label_here binding_identifier no_op p q) end)
   unfolding rule rule_of covers apart
-  binding_path k e m = left (fails_at a (symbol Pattern f) (LBrack ∷ []) refl (ap (one_of_kinds (LBrack ∷ [])) k)) ⟼ bound_path a k e m
+  binding_path k e m = left (fails_at a (symbol Pattern f) (LBrack ∷ LCurly ∷ []) refl (ap (one_of_kinds (LBrack ∷ LCurly ∷ [])) k)) ⟼ bound_path a k e m
 
   name_answers : {q : Parser} {id : NodeId} → p.token.kind ≡ Ident → p.token.escaped ≡ false → LeafTaken node_kind.BindingIdentifier op_made.None text f p q id → Numbered text f (at Binding f) p q id
   name_answers k e t =
@@ -117,13 +118,13 @@ module _ {text : List ℕ} {f : Flags} {p : Parser} (a : At text f p) where
       by_path (subst (λ (v : Label). Path text f (after (at Binding f)) (rule (at Binding f)) p nothing t.mid (tree v end)) (sym l) (binding_path k e t.moved)) t.moved.same t.made.stays (λ y i. refl) refl (leaf_held t.made ks) (Keeps-trans ks (Keeps-made t.made.made)) (ap (λ (v : Label). v.span) l) (one_lies t.made)
 
   -- neither a name nor a pattern stands here
-  pub no_binding : StandsHere p LBrack false → (p.token.kind ≡ Ident → p.token.escaped ≡ false → ⊥) → Underived text (at Binding f) p.prev_token_end
+  pub no_binding : StandsHere p LBrack false → (p.token.kind ≡ Ident → p.token.escaped ≡ false → ⊥) → one_of_kinds unbuilt_kinds p.token.kind ≡ false → Underived text (at Binding f) p.prev_token_end
   unfolding rule rule_of covers apart
-  no_binding u n = by p.token.escaped refl
+  no_binding u n c = by p.token.escaped refl
     where
       by : (b : Bool) → p.token.escaped ≡ b → Underived text (at Binding f) p.prev_token_end
       by true e = fails_escaped a e
-      by false e = fails_by (fails_at a (rule (at Binding f)) (Ident ∷ LBrack ∷ []) refl (neither_kind Ident LBrack p.token.kind (λ k. n k e) (λ k. u k e)))
+      by false e = fails_by (fails_at a (rule (at Binding f)) (Ident ∷ LBrack ∷ LCurly ∷ []) refl (neither_kind Ident LBrack unbuilt_kinds p.token.kind (λ k. n k e) (λ k. u k e) c))
 
 pub name_outcome : (text : List ℕ) (f : Flags) (p q : Parser) (r : Result NodeId Stop) → At text f p → StandsHere p Ident true → MatchResult r (λ id. TakesLeaf node_kind.BindingIdentifier op_made.None p q id) OnlyMemory → Outcome text f (at Binding f) p q r
 name_outcome text f p q (Ok id) a s m = name_answers a s.0 s.1 (m text f a)
@@ -170,7 +171,7 @@ module _ {text : List ℕ} {f : Flags} {o : Parser} (a : At text f o) (k : o.tok
           by_path pattern_path whole_pattern.same y.stays (λ u v. refl) refl (node_held y h) (Keeps-trans whole_pattern.keeps (Keeps-made y.made)) refl (one_lies y)
 
 pub pattern_moved : {text : List ℕ} {f : Flags} {p q : Parser} → At text f p → (p.token.kind ≡ RBrack) × MovesOn p q → Moved text f p q
-pattern_moved a z = moves (uncut a (ap (same_kind RAngle) z.0), ap is_last z.0) z.1 a
+pattern_moved a z = moves (uncut a (ap (same_kind RAngle) z.0), ap unpassable z.0) z.1 a
 
 pub pattern_unclosed : {text : List ℕ} {f : Flags} (opening : Option Span) (p q : Parser) (e : Stop) {F : Type 0} → At text f p → (e ≡ Fatal → p.token.kind ≡ RBrack → ⊥) × GivesUp (IsHere ExpectClosing p opening) p q e → (one_of_kinds (RBrack ∷ []) p.token.kind ≡ false → F) → Stops p q e F
 pattern_unclosed opening p q Fatal a h g = gives_up (IsHere ExpectClosing p opening) p q Fatal a h.1 (here_ends ExpectClosing refl) (g (other_kind RBrack p.token.kind (h.0 refl)))

@@ -41,7 +41,7 @@ use Rattle.js_cursor.specs.declared.stop.Stop.{Stop}
 use Rattle.js_cursor.specs.declared.stop.Stop.TheVariants.{Fatal, NoMemory}
 use Rattle.js_parsing.specs.Answers.{Answer, Grown, Numbered, Stops, Underived}
 use Rattle.js_parsing.specs.Lexemes.{Lex, read_kinds}
-use Rattle.js_parsing.specs.Moves.{IsWholeHere, Moved, Moves, MadeHere, plain_label}
+use Rattle.js_parsing.specs.Moves.{IsWholeHere, Moved, Moves, MadeHere, plain_label, unpassable}
 use Rattle.js_parsing.specs.Stands.{StandsHere}
 use Rattle.js_parsing.specs.States.{At, Same}
 use Rattle.js_parsing.specs.Statements.{placed, no_link, after_statement, NoStatement, Statement, TakesStatement}
@@ -97,7 +97,7 @@ module _ {text : List ℕ} {f : Flags} {p : Parser} (a : At text f p) where
   no_parens n = no_token kind.LParen refl n
 
   -- or it was passed
-  pub expected : (k : Kind) {q : Parser} → IsKind k p → MovesOn p q → same_kind kind.RAngle k ≡ false → is_last k ≡ false → Moved text f p q
+  pub expected : (k : Kind) {q : Parser} → IsKind k p → MovesOn p q → same_kind kind.RAngle k ≡ false → unpassable k ≡ false → Moved text f p q
   expected k i m r l = moves (whole_sign k a i.0 r l) m a
 
 -- ---- an Expression in parentheses

@@ -28,7 +28,7 @@ use Rattle.js_tree.proofs.HoldingLemmas.{Keeps-trans, Keeps-made}
 use Rattle.js_cursor.specs.Parsers.{Parser}
 use Rattle.js_cursor.specs.declared.stop.Stop.{Stop}
 use Rattle.js_parsing.specs.Answers.{Grown, Verdict, clean, unclean, Stretch, Underived, Answer, Numbered, Stops}
-use Rattle.js_parsing.specs.Lexemes.{Lex, Walked, Spot, spot, nowhere, one_more}
+use Rattle.js_parsing.specs.Lexemes.{Lex, Walked, Spot, spot, nowhere, one_more, more_faults}
 use Rattle.js_parsing.specs.Nesting.{room}
 use Rattle.js_parsing.specs.Moves.{Moved, MadeHere, plain_label}
 use Rattle.js_parsing.specs.Statements.{placed, no_link, statement_kinds, after_statement, NoStatement, Statement, IsLabel}
@@ -100,11 +100,21 @@ size (next x ls) = suc (size ls)
 walk_longer : {text : List ℕ} {s e : Spot} {pass : Lexemes → Lexemes} → Walked text s e pass → (ls : Lexemes) → size ls ≤ size (pass ls)
 walk_longer nowhere ls = omega arith
 walk_longer (one_more {x = x} w i) ls = let h = walk_longer w (next x ls) in omega arith
+walk_longer (more_faults w ds n) ls = walk_longer w ls
+
+-- over none, or over one at least
+none_or_more : {text : List ℕ} {s e : Spot} {pass : Lexemes → Lexemes} → Walked text s e pass → ((ls : Lexemes) → pass ls ≡ ls) ⊎ ((ls : Lexemes) → size ls < size (pass ls))
+none_or_more nowhere = inl (λ ls. refl)
+none_or_more (one_more {x = x} w i) = inr (λ ls. let h = walk_longer w (next x ls) in omega arith)
+none_or_more (more_faults w ds n) = none_or_more w
 
 one_lexeme : {text : List ℕ} {s e : Spot} {pass : Lexemes → Lexemes} → Walked text s e pass → (y z : Lexeme) → pass (last z) ≡ next y (last z) → (ls : Lexemes) → pass ls ≡ next y ls
 one_lexeme nowhere y z h ls = let b = ap size h in absurd (omega arith)
-one_lexeme (one_more {x = x} nowhere i) y z h ls = ap (λ (v : Lexeme). next v ls) (ap here h)
-one_lexeme (one_more {x = x} (one_more {x = x'} w i') i) y z h ls = let a = walk_longer w (next x' (next x (last z))) in let b = ap size h in absurd (omega arith)
+one_lexeme (more_faults w ds n) y z h ls = one_lexeme w y z h ls
+one_lexeme (one_more {x = x} w i) y z h ls = elim none_or_more w [
+  | inl e ↦ e (next x ls) ∙ ap (λ (v : Lexeme). next v ls) (ap here (sym (e (next x (last z))) ∙ h))
+  | inr m ↦ let a = m (next x (last z)) in let b = ap size h in absurd (omega arith)
+]
 
 pub made_at : {text : List ℕ} {f : Flags} {q w : Parser} {l : Label} {ids : List (Option NodeId)} {id : NodeId} → At text f q → MadeHere l ids q w id → At text f w
 made_at {text} {f} {w = w} a n = subst (λ (v : Parser). At text f v) (sym n.stays) (beside_nodes w.nodes a)

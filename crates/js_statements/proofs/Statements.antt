@@ -45,7 +45,7 @@ use Rattle.js_cursor.specs.declared.stop.Stop.{Stop}
 use Rattle.js_cursor.specs.declared.stop.Stop.TheVariants.{Fatal, NoMemory}
 use Rattle.js_parsing.specs.Lexemes.{Lex}
 use Rattle.js_parsing.specs.States.{At, Same, NodesLie}
-use Rattle.js_parsing.specs.Moves.{IsWholeHere, Moved, MadeHere, LeafTaken, TakesLeaf, plain_label}
+use Rattle.js_parsing.specs.Moves.{IsWholeHere, Moved, MadeHere, LeafTaken, TakesLeaf, plain_label, unpassable}
 use Rattle.js_parsing.specs.Answers.{Underived, Answer, Numbered, Stops, beside}
 use Rattle.js_parsing.specs.Statements.{placed, link_kinds, statement_kinds, no_link, after_statement, Closed, NoStatement, Statement, StatementOutcome, EndsStatement, NoEnd, IsLabel}
 use Rattle.js_declarations.specs.Declarations.{stops_row}
@@ -160,7 +160,7 @@ none_of_one a k n = rw (not_kind a k n) refl
 
 module _ {text : List ℕ} {f : Flags} {q : Parser} (a : At text f q) where
   pub whole_semicolon : q.token.kind ≡ Semicolon → IsWholeHere q
-  whole_semicolon e = (uncut a (ap (same_kind RAngle) e), ap is_last e)
+  whole_semicolon e = (uncut a (ap (same_kind RAngle) e), ap unpassable e)
 
   plain_semicolon : {r : Parser} → q.token.kind ≡ Semicolon → (s : Moved text f q r) → q.token.escaped ≡ false
   unfolding words
