@@ -6,6 +6,7 @@ ghost use Rattle.js_grammar.specs.Productions.{at, Assignment, Binding, Expressi
 ghost use Rattle.js_parsing.specs.Answers.{Answers};
 ghost use Rattle.js_parsing.specs.Nesting.{CanNest, Reading, Ready, room};
 ghost use Rattle.js_statements.specs.StatementLists.{AllRefused, AllTaken};
+ghost use Rattle.js_statements.specs.declared.statement_list.StatementList.TheVariants.{Text};
 ghost use Rattle.js_parsing.specs.States.{Standing};
 
 use js_base::Kind;
@@ -18,8 +19,9 @@ use js_lex::{ParserConfig, RuntimeParserConfig};
 use js_operands::left_hand_side;
 use js_parsing::nested::{By, Goal, Nested};
 use js_patterns::{binding, parameters};
-use js_statements::statement::parse_statement;
-use js_statements::statement_list::parse_directives_and_statements;
+use js_statements::block::parse_function_body;
+use js_statements::statement::{parse_statement, parse_statement_list_item};
+use js_statements::statement_list::{StatementList, parse_directives_and_statements};
 use js_tree::NodeId;
 
 /// A parser that is told when the program runs whether it keeps the tokens.
@@ -42,6 +44,8 @@ pub fn parse_goal<C: ParserConfig, N: Nested<C>>(
         Goal::Exponentiation => parse_exponentiation_expression(p, nested),
         Goal::Binding => binding::parse_binding_pattern(p, nested),
         Goal::Statement => parse_statement(p, nested),
+        Goal::ListItem => parse_statement_list_item(p, nested),
+        Goal::Body => parse_function_body(p, nested),
     }
 }
 
@@ -104,7 +108,7 @@ pub fn parse_formal_parameters(p: &mut Parser<'_>) -> Result<NodeId, Stop>
 pub fn parse_statements(p: &mut Parser<'_>) -> Result<Vec<Option<NodeId>>, Stop>
     requires at { Standing p.old }
     requires allows_in { has_flag in_flag p.old.ctx ≡ true }
-    ensures { MatchResult result (λ v. AllTaken p.old p.new v.items) (λ e. AllRefused p.old p.new e) }
+    ensures { MatchResult result (λ v. AllTaken Text p.old p.new v.items) (λ e. AllRefused Text p.old p.new e) }
 {
-    parse_directives_and_statements(p, &By(parse))
+    parse_directives_and_statements(p, &By(parse), StatementList::Text)
 }

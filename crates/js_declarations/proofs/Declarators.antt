@@ -4,7 +4,7 @@ use Rattle.std.specs.Prelude.{IfOk, IsCharBoundary, Result, Ok, Err}
 use Rattle.std.proofs.lemmas.Bool.{false≢true, and_from, and_parts, or_left, or_right}
 use Rattle.js_base.specs.declared.diagnostic.Diagnostic.{Diagnostic}
 use Rattle.js_base.specs.declared.kind.Kind.{Kind}
-use Rattle.js_base.specs.declared.kind.Kind.TheVariants.{Comma, Eq, LBrack, PrivateIdentifier, Undetermined}
+use Rattle.js_base.specs.declared.kind.Kind.TheVariants.{Comma, Eq, LBrack, LCurly, PrivateIdentifier, Undetermined}
 use Rattle.js_base.specs.declared.span.Span.{Span}
 use Rattle.js_base.specs.Kinds.{same_kind, one_of_kinds}
 use Rattle.js_base.specs.Texts.{words}
@@ -36,7 +36,7 @@ use Rattle.js_base.specs.declared.diagnostic.DiagnosticClass.TheVariants.{Early}
 use Rattle.js_base.specs.Diagnostics.{class_of}
 use Rattle.js_cursor.specs.Moves.{Keeps as KeepsOne}
 use Rattle.js_parsing.specs.Answers.{Grown, Verdict, Stretch, Underived, Answer, Numbered, Stops, beside, unclean}
-use Rattle.js_parsing.specs.Lexemes.{Lex, Walked, name_kinds, spot}
+use Rattle.js_parsing.specs.Lexemes.{Lex, Walked, name_kinds, spot, unbuilt_kinds}
 use Rattle.js_parsing.specs.Moves.{Moved, MadeHere, plain_label}
 use Rattle.js_parsing.specs.Stands.{NameHere}
 use Rattle.js_parsing.specs.States.{At, Same, NodesLie}
@@ -101,7 +101,7 @@ unbound {text} {f} {s} c n = record { no = λ ts us k ls rest lx d h. go ts us k
 
 -- no lexeme stands here
 pub none_at : {text : List ℕ} {f : Flags} {p : Parser} (c : Bool) → At text f p → p.token.kind ≡ Undetermined → NoOne text (declarator c f) p.prev_token_end
-none_at c a h = unbound c (no_binding a (λ k e. false≢true (ap (same_kind LBrack) (sym h ∙ k))) (λ k e. false≢true (ap (one_of_kinds name_kinds) (sym h) ∙ k)))
+none_at c a h = unbound c (no_binding a (λ k e. false≢true (ap (same_kind LBrack) (sym h ∙ k))) (λ k e. false≢true (ap (one_of_kinds name_kinds) (sym h) ∙ k)) (ap (one_of_kinds unbuilt_kinds) h))
 
 -- ---- what may stand behind a declarator
 
@@ -267,7 +267,7 @@ module _ {text : List ℕ} {f : Flags} {p q : Parser} (a : At text f p) (x : Ans
     named : {ts us : Slots} {j : ℕ} {ls rest : Lexemes} → Lexes (Lex text) p.prev_token_end ls → Takes rule (symbol Binding f) end ts p.prev_token_end ls us j rest → Takes rule (symbol BindingIdentifier f) end ts p.prev_token_end ls us j rest
     unfolding rule rule_of covers apart
     named lx (is_such (is_left (is_such d t)) t') = is_such d refl
-    named {j = j} {ls = ls} {rest = rest} lx (is_such {l = l} {cs = cs} (is_right d) t') = absurd ((fails_at a {X = plain full} (symbol Pattern f) (LBrack ∷ []) refl (no_pattern_name _ h.0)).no (tree l cs end) end j ls rest lx d (refl, refl))
+    named {j = j} {ls = ls} {rest = rest} lx (is_such {l = l} {cs = cs} (is_right d) t') = absurd ((fails_at a {X = plain full} (symbol Pattern f) (LBrack ∷ LCurly ∷ []) refl (no_pattern_name p.token.kind h.0)).no (tree l cs end) end j ls rest lx d (refl, refl))
 
     one_bare : BindingRead a x → One text (declarator false f) p.prev_token_end q.prev_token_end (label_here variable_declarator no_op p q) (tree x.label x.slots (hole end)) x.pass
     one_bare u = record { reach = u.reach; near = u.near; passes = u.goes.passes; sound = λ us ls lx r. there us ls lx r; only = λ ts us k ls rest lx d e. back ts us k ls rest lx d }

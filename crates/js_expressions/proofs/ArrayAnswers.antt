@@ -11,7 +11,7 @@ use Rattle.js_grammar.specs.Trees.{Span as TreeSpan, Label, Slots, end, tree, of
 use Rattle.js_grammar.specs.Grammar.{Lexemes, here, such, nothing, exact, alt, Takes, is_lexeme, is_seq, is_left, is_right, is_such, ◌▸◌}
 use Rattle.js_grammar.specs.Insertion.{assign_operators}
 use Rattle.js_grammar.specs.Parsing.{Test, plain, full, always, Admits, Goes, Fails, still}
-use Rattle.js_grammar.specs.Productions.{Flags, at, tok, Arrow', Assignment, Short, ArrayTarget, ObjectTarget}
+use Rattle.js_grammar.specs.Productions.{Flags, at, tok, Assignment, Short, ArrayTarget, ObjectTarget}
 use Rattle.js_grammar.specs.Productions.{sym as symbol}
 use Rattle.js_grammar.specs.Table.{rule}
 use Rattle.js_grammar.specs.Follow.{after}
@@ -31,14 +31,13 @@ use Rattle.js_parsing.specs.Nesting.{room}
 use Rattle.js_targets.specs.Taken.{TargetTaken}
 use Rattle.js_parsing.specs.States.{At}
 use Rattle.js_targets.specs.Targets.{is_array}
-use Rattle.js_targets.proofs.ArrayTargets.{object_dead}
+use Rattle.js_expressions.specs.Rests.{OnlyOperand}
 use Rattle.js_targets.proofs.Refused.{array_no_target}
 use Rattle.js_targets.proofs.ArraysBeforeSigns.{array_slots, array_part}
 use Rattle.js_targets.proofs.ArraysConverted.{signs}
 use Rattle.js_targets.proofs.Assigned.{assign_part, no_branch, not_target, to_parts}
-use Rattle.js_expressions.proofs.Assignments.{all_assign, no_question, on_second, plain_here, second}
+use Rattle.js_expressions.proofs.Assignments.{all_assign, no_object_here, no_question, on_second, plain_here, second}
 use Rattle.js_expressions.proofs.Conditionals.{no_conditional}
-use Rattle.js_parsing.proofs.Dead.{fails_dead}
 use Rattle.js_parsing.proofs.MadeNodes.{two_held, one_lies}
 use Rattle.js_parsing.proofs.Moving.{same_both}
 use Rattle.js_operands.proofs.Operands.{by_path}
@@ -64,22 +63,22 @@ before_equals f X s = record { admits = λ ts us vs j k ls mid rest d d' e. go t
     go : (ts : Slots) {us vs : Slots} {j k : ℕ} {mid rest : Lexemes} → Takes rule (tok Eq ▸ symbol Assignment f) end us j mid vs k rest → Admits signs ts (here mid)
     go ts (is_seq (is_lexeme {x = x} q) d) = let z = and_parts (same_kind Eq x.kind) (not x.escaped) q in (and_from (one_of_kinds assign_operators x.kind) (not x.escaped) (subst (λ (k : Kind). one_of_kinds assign_operators k ≡ true) (kind_of_same Eq x.kind z.0) refl) z.1, refl)
 
-module _ {text : List ℕ} {f : Flags} {p q : Parser} (x : Answer text f (at Short f) p q) (na : Underived text (at Arrow' f) p.prev_token_end) (c : q.cut ≡ false) (k : q.token.kind ≡ Eq) (h : is_array x.label.kind ≡ true) where
+module _ {text : List ℕ} {f : Flags} {p q : Parser} (x : Answer text f (at Short f) p q) (na : OnlyOperand text f p.prev_token_end) (c : q.cut ≡ false) (k : q.token.kind ≡ Eq) (h : is_array x.label.kind ≡ true) where
   listed : one_of_kinds assign_operators q.token.kind ≡ true
   listed = subst (λ (v : Kind). one_of_kinds assign_operators v ≡ true) (sym k) refl
 
   to_array : Goes rule (Lex text) (after (at Assignment f)) end (rule (at Assignment f)) p.prev_token_end (array_part f) p.prev_token_end (λ us. us) (still 0)
-  to_array = to_parts f p.prev_token_end na ▹ (right (no_conditional x (no_question x na c listed) (all_assign x na c listed)) ▹ right (no_branch (assign_part f) assign_operators (λ o m. fails_node inside_full (not_target x (plain full) o m (array_no_target x.label x.slots h)))))
+  to_array = to_parts f p.prev_token_end na.1 ▹ (right (no_conditional x (no_question x na c listed) (all_assign x na c listed)) ▹ right (no_branch (assign_part f) assign_operators (λ o m. fails_node inside_full (not_target x (plain full) o m (array_no_target x.label x.slots h)))))
 
   pub without_target : Fails rule (Lex text) signs end (such (at ArrayTarget f) always) p.prev_token_end → Underived text (at Assignment f) p.prev_token_end
-  without_target n = fails_by (to_array ▹✗ fails_node (inside_array f p.prev_token_end) (part_fails (fails_alt n (fails_dead (symbol ObjectTarget f) (object_dead f))) (before_equals f (second f) p.prev_token_end)))
+  without_target n = fails_by (to_array ▹✗ fails_node (inside_array f p.prev_token_end) (part_fails (fails_alt n (no_object_here f na.0)) (before_equals f (second f) p.prev_token_end)))
 
   module _ {r : Parser} {id : NodeId} (t : TargetTaken text f p q r id) where
     target_path : Path text f signs (such (at ArrayTarget f) always) p nothing r (tree t.label t.slots)
     target_path = record { at = t.stands_at; further = let a = x.further in let b = t.place in omega arith; pass = t.pass; walked = t.walked; verdict = t.verdict }
 
     either_target : Path text f signs (alt (symbol ArrayTarget f) (symbol ObjectTarget f)) p nothing r (tree t.label t.slots)
-    either_target = left (fails_dead (symbol ObjectTarget f) (object_dead f)) ⟼ target_path
+    either_target = left (no_object_here f na.0) ⟼ target_path
 
     then_equals : Path text f (second f) (array_slots f) p (tok Eq ▸ symbol Assignment f) r (tree t.label t.slots)
     then_equals = let y = either_target in record { at = y.at; further = y.further; pass = y.pass; walked = y.walked; verdict = verdict_of y.verdict (λ z. record { reach = z.reach; near = z.near; goes = then_by z.goes (before_equals f (second f) p.prev_token_end) }) (λ n. part_fails n (before_equals f (second f) p.prev_token_end)) }

@@ -20,7 +20,7 @@ use Rattle.js_grammar.specs.Marks.{Mark, StandsAt, Part}
 use Rattle.js_base.specs.declared.diagnostic.DiagnosticKind.TheVariants.{AssignmentIsNotSimple}
 use Rattle.js_grammar.specs.Settings.{Goal}
 use Rattle.js_grammar.specs.Parsing.{always}
-use Rattle.js_grammar.specs.Productions.{Flags, at, Arrow', Assignment, Short, Primary}
+use Rattle.js_grammar.specs.Productions.{Flags, at, Assignment, Short, Primary}
 use Rattle.js_grammar.specs.Table.{rule}
 use Rattle.js_grammar.specs.Follow.{after}
 use Rattle.js_grammar.proofs.Loose.{strict_is_loose}
@@ -40,6 +40,7 @@ use Rattle.js_parsing.specs.Nesting.{room}
 use Rattle.js_targets.specs.Taken.{TellsOnce, not_simple_at}
 use Rattle.js_parsing.specs.States.{At, Same}
 use Rattle.js_targets.specs.Targets.{is_array}
+use Rattle.js_expressions.specs.Rests.{OnlyOperand}
 use Rattle.js_targets.proofs.Assigned.{assigns}
 use Rattle.js_expressions.proofs.Assignments.{assign_refused, assign_named}
 use Rattle.js_targets.proofs.Covers.{begins_there, part_there}
@@ -144,11 +145,11 @@ module _ {text : List ℕ} {f : Flags} {p q : Parser} (a : At text f p) (x : Ans
             (literal (z.goes.sound end end q.prev_token_end (last stood.0) (last stood.0) stood.1 (inl z.near) is_nothing)) (array_is x.label.kind h) (subst (λ (v : Kind). one_of_kinds assign_operators v ≡ true) (sym stood.2) u) (subst (λ (v : Kind). same_kind Eq v ≡ false) (sym stood.2) n);
       }
 
-  pub array_refused : Underived text (at Arrow' f) p.prev_token_end → Underived text (at Assignment f) p.prev_token_end
+  pub array_refused : OnlyOperand text f p.prev_token_end → Underived text (at Assignment f) p.prev_token_end
   array_refused na = assign_refused x na c u (inr n) (array_no_target x.label x.slots h)
 
   -- behind what was told, or was told before
-  module _ {o : Parser} {start kept : ℕ} (na : Underived text (at Arrow' f) p.prev_token_end) (i : kept ≡ length p.errors) (t : TellsOnce (not_simple_at start q.prev_token_end) kept q o) where
+  module _ {o : Parser} {start kept : ℕ} (na : OnlyOperand text f p.prev_token_end) (i : kept ≡ length p.errors) (t : TellsOnce (not_simple_at start q.prev_token_end) kept q o) where
     once_grown : Grown p.errors o.errors
     once_grown = by t
       where

@@ -1,9 +1,9 @@
 -- Arrow functions (ECMA-262, 15.3), and where none is derived.
-use Rattle.std.proofs.Common.{ℕ, ◌≡◌, ◌<◌, ◌⊎◌, inl, inr, List, [], ◌∷◌, length, Bool, true, false, not, ◌&&◌, ◌||◌, IsTrue, Option, Some, None, refl, sym, ap, subst, arith, ◌∙◌}
-use Rattle.std.specs.Prelude.{IsCharBoundary, Result, Ok, Err}
+use Rattle.std.proofs.Common.{ℕ, ◌≡◌, ◌<◌, ◌⊎◌, inl, inr, List, [], ◌∷◌, length, Bool, true, false, not, cond, ◌&&◌, ◌||◌, IsTrue, Option, Some, None, refl, sym, ap, subst, arith, ◌∙◌}
+use Rattle.std.specs.Prelude.{IsCharBoundary, Result, Ok, Err, nat_lt}
 use Rattle.std.proofs.lemmas.Bool.{false≢true, and_parts, and_from, or_left, or_right}
 use Rattle.js_base.specs.declared.kind.Kind.{Kind}
-use Rattle.js_base.specs.declared.kind.Kind.TheVariants.{Arrow, Await, LParen, LCurly, RAngle, Yield}
+use Rattle.js_base.specs.declared.kind.Kind.TheVariants.{Arrow, Await, Comma, LParen, LCurly, RAngle, Yield}
 use Rattle.js_base.specs.declared.span.Span.{Span}
 use Rattle.js_base.specs.Kinds.{same_kind, one_of_kinds}
 use Rattle.js_base.specs.Texts.{words}
@@ -19,10 +19,10 @@ use Rattle.js_grammar.specs.Parsing.{Test, plain, full, always, Admits, Goes, Fa
 use Rattle.js_grammar.specs.Productions.{G, Flags, Symbol, at, tok, mk, other, if_next, no_newline, Arrow', Assignment, Body, Params, Short}
 use Rattle.js_grammar.specs.Productions.{sym as symbol}
 use Rattle.js_grammar.specs.Table.{rule, rule_of}
-use Rattle.js_grammar.specs.Follow.{after, looser, widest}
+use Rattle.js_grammar.specs.Follow.{after, looser, row_of, widest}
 use Rattle.js_grammar.proofs.Heads.{One, the_last, and_more, begins_head, operand_taken, in_one, one_name}
 use Rattle.js_grammar.proofs.Looks.{covers, covered, apart, not_both}
-use Rattle.js_grammar.proofs.RightEdges.{of_operand, first_row}
+use Rattle.js_grammar.proofs.RightEdges.{may_end, of_operand, first_row}
 use Rattle.js_grammar.proofs.Calculus.{On, Inside, inside_full, ◌▹◌, ◌▹✗◌, here_at, done, left, right, looks, part_fails, fails_node, fails_look}
 use Rattle.js_grammar.proofs.FollowLaws.{row_claimed, fails_by}
 use Rattle.js_base.specs.declared.token.Token.{Token}
@@ -57,18 +57,19 @@ use Rattle.js_cursor.specs.declared.checkpoint.ParserCheckpoint.{ParserCheckpoin
 use Rattle.js_cursor.specs.declared.stop.Stop.{Stop}
 use Rattle.js_cursor.specs.declared.stop.Stop.TheVariants.{Fatal}
 use Rattle.js_parsing.specs.Stands.{NameHere, StandsHere}
-use Rattle.js_parsing.proofs.NameKinds.{a_name, name_apart, name_test, name_whole, no_name_here, or_name}
+use Rattle.js_parsing.proofs.NameKinds.{a_name, name_apart, name_test, name_whole, no_name_here, or_kind}
 use Rattle.js_parsing.proofs.Giving.{fails_escaped}
 use Rattle.js_cursor.specs.Moves.{is_last}
 use Rattle.js_cursor.specs.Parsers.{Parser}
 use Rattle.js_cursor.specs.Places.{IsAt}
 use Rattle.js_cursor.proofs.Changing.{came_back, back_follows}
 use Rattle.js_cursor.proofs.Later.{keeps_follows}
-use Rattle.js_parsing.specs.Answers.{Underived, Answer, Answers, Numbered, Outcome, Refuses, Stretch, Stops, Grown, Verdict, clean, unclean}
+use Rattle.js_parsing.specs.Answers.{Underived, Answer, Answers, beside, Numbered, Outcome, Refuses, Stretch, Stops, Grown, StopsUnbuilt, Unbuilt, Verdict, clean, unclean}
 use Rattle.js_cursor.specs.Notes.{Notes}
-use Rattle.js_parsing.specs.Contexts.{arrow_body}
-use Rattle.js_expressions.specs.Arrows.{head_of, late_arrow, ArrowBehind, BeforeArrow, a_head, told_head, ToldHead, ChecksLine, FindsHead, Head, LooksForHead, IsHead, IsHeadHere, IsRefusedHead, NoArrowHere, Single, Unmoved, NoneLooked}
+use Rattle.js_parsing.specs.Contexts.{arrow_body, braced_body}
+use Rattle.js_expressions.specs.Arrows.{body_of, head_of, late_arrow, ArrowBehind, BeforeArrow, a_head, told_head, ToldHead, ChecksLine, FindsHead, Head, HeadOrNone, IsHead, IsHeadHere, IsRefusedHead, NoArrowHere, NoAssignment, Single, Unmoved, NoneLooked}
 use Rattle.js_parsing.specs.Heads.{NoHead, NotedHeads}
+use Rattle.js_expressions.specs.Rests.{OnlyOperandHere, Unbraced}
 use Rattle.js_expressions.specs.Closings.{ArrowBehindOne}
 use Rattle.js_expressions.proofs.Closings.{closes_alike, one_is}
 use Rattle.js_cursor.specs.Tokens.{may_be_read_again}
@@ -76,23 +77,24 @@ use Rattle.js_parsing.proofs.KeptTokens.{before_back, last_back}
 use Rattle.js_parsing.specs.Lexemes.{Lex, name_kinds, spot}
 use Rattle.js_parsing.specs.Moves.{Moved, MadeHere, LeafTaken, TakesLeaf, plain_label}
 use Rattle.js_parsing.specs.States.{At, Same, Standing, flags_of, IsPlain, whole, sign, nothing as nothing_here, NodesLie, SpansLie}
-use Rattle.js_targets.proofs.ArraysBeforeSigns.{not_wide}
+use Rattle.js_targets.proofs.ArraysBeforeSigns.{is_cover, not_wide}
 use Rattle.js_targets.proofs.Assigned.{arrow_passes, only_arrow}
 use Rattle.js_expressions.proofs.Assignments.{by_second, second}
 use Rattle.js_expressions.proofs.Conditionals.{conditional_none}
 use Rattle.js_parsing.proofs.Signs.{other_kind, plain_sign}
-use Rattle.js_parsing.proofs.Dead.{live, lives, fails_dead}
+use Rattle.js_parsing.proofs.Dead.{live, lives}
 use Rattle.js_expressions.proofs.Exponents.{longer}
 use Rattle.js_parsing.proofs.Told.{beside_errors}
+use Rattle.js_parsing.proofs.ToEnd.{to_end_stays}
 use Rattle.js_parsing.proofs.Giving.{kept_one}
 use Rattle.js_parsing.proofs.Here.{alike, angled, found, plainly, one_plain, newline_here, kind_here, told, uncut}
 use Rattle.js_parsing.proofs.MadeNodes.{leaf_held, node_held, two_held, one_lies, LabelLies, from_start}
 use Rattle.js_parsing.proofs.Moving.{beside_nodes, flags_same, heads_kept, same_both, same_itself, same_with, stops_behind, nodes_lie}
 use Rattle.js_operands.proofs.Operands.{by_path, by_such}
 use Rattle.js_patterns.proofs.Bindings.{bound_path, ended_by, then_any}
-use Rattle.js_parsing.proofs.Paths.{Path, ◌⟼◌, ◌⟶◌, ◌⟶✗◌, fails_at, token, last_called, noded, noded_by, by_symbol_as, label_here, read_of, walked_both, walked_from, walked_one}
+use Rattle.js_parsing.proofs.Paths.{Path, ◌⟼◌, ◌⟶◌, ◌⟶✗◌, fails_at, not_here, token, last_called, noded, noded_by, by_symbol_as, label_here, read_of, walked_both, walked_from, walked_one}
 use Rattle.js_parsing.proofs.Signs.{none_kept, plain_of}
-use Rattle.js_parsing.proofs.Ahead.{pass_over, reads_other}
+use Rattle.js_parsing.proofs.Ahead.{pass_over}
 use Rattle.js_parsing.proofs.Tight.{read_plain}
 use Rattle.js_parsing.proofs.Verdicts.{grown_first, grown_then, grown_both}
 use Rattle.js_parsing.specs.Classes.{IsEarly}
@@ -415,7 +417,7 @@ no_operand_there {text} {f} {p} a k h = record { no = λ ts vs j ls rest m d e. 
 
 -- neither a head nor an operand begins here
 pub unassigned : {text : List ℕ} {f : Flags} {p : Parser} → At text f p → p.token.kind ≡ LParen → NoHead text f p.prev_token_end → Underived text (at Short f) p.prev_token_end → Underived text (at Assignment f) p.prev_token_end
-unassigned {f = f} a k n s = fails_by (only_arrow f (not_wide a) (conditional_none f s) s ▹✗ weaken_fails_on (no_head_no_arrow a k n) (same_read (at Assignment f) (at Arrow' f) arrow_passes refl))
+unassigned {f = f} a k n s = fails_by (only_arrow f (not_wide a) (is_cover a) (conditional_none f s) s ▹✗ weaken_fails_on (no_head_no_arrow a k n) (same_read (at Assignment f) (at Arrow' f) arrow_passes refl))
 
 -- parameters of which something was told, where no operand begins
 told_parameters : {text : List ℕ} {f : Flags} {p q : Parser} {id : NodeId} → At text f p → p.token.kind ≡ LParen → Numbered text f (at Params f) p q id → Grown p.errors q.errors → Underived text (at Params f) p.prev_token_end → Underived text (at Short f) p.prev_token_end → ToldHead text f p q id
@@ -464,11 +466,26 @@ module _ {p q : Parser} {kept : ℕ} (a : Standing p) (k : p.token.kind ≡ LPar
 pub start_between : {p q : Parser} {id : NodeId} {start : ℕ} → Standing p → Answers (at Params) p q (Ok id) → start ≡ p.prev_token_end → IsCharBoundary q.text start
 start_between {p} {q} a x e = let y = (x _ _ a).answer in subst (λ (v : ℕ). IsCharBoundary q.text v) (sym e) (subst (λ (t : List ℕ). IsCharBoundary t p.prev_token_end) (sym y.at.text_is) a.at.between)
 
-pub head_refused : {p q : Parser} (e : Stop) → Standing p → e ≡ Fatal → ((text : List ℕ) (f : Flags) → At text f p → Stops p q e (Underived text (at Params f) p.prev_token_end)) → NoneLooked p q
-head_refused {p} {q} e a i s = go (λ text f b. subst (λ (v : Stop). Stops p q v (Underived text (at Params f) p.prev_token_end)) i (s text f b))
+-- they can't be read, and no production stopped them that isn't built yet
+pub head_refused : {p q : Parser} (e : Stop) → Standing p → e ≡ Fatal → (Unbuilt q → ⊥) → ((text : List ℕ) (f : Flags) → At text f p → Stops p q e (Underived text (at Params f) p.prev_token_end)) → NoneLooked p q
+head_refused {p} {q} e a i u s = go (λ text f b. subst (λ (v : Stop). Stops p q v (Underived text (at Params f) p.prev_token_end)) i (s text f b))
   where
     go : ((text : List ℕ) (f : Flags) → At text f p → Refuses p q (Underived text (at Params f) p.prev_token_end)) → NoneLooked p q
-    go x = let y = x _ _ a in ((y.follows, y.at), y.heads, λ text f b. no_parameters b (x text f b).none, y.lies)
+    go x = let y = x _ _ a in ((y.follows, y.at), y.heads, λ text f b. no_parameters b ((x text f b).none u), y.lies)
+
+-- the parser stands where they stopped
+pub refused_at : {p q : Parser} (e : Stop) → Standing p → e ≡ Fatal → ((text : List ℕ) (f : Flags) → At text f p → Stops p q e (Underived text (at Params f) p.prev_token_end)) → IsAt q
+refused_at {p} {q} e a i s = go (subst (λ (v : Stop). Stops p q v (Underived p.text (at Params (flags_of p)) p.prev_token_end)) i (s _ _ a))
+  where
+    go : {F : Type 0} → Refuses p q F → IsAt q
+    go x = x.at
+
+-- such a one stopped them
+pub head_unbuilt : {p q : Parser} (e : Stop) → e ≡ Fatal → Unbuilt q → ((text : List ℕ) (f : Flags) → At text f p → Stops p q e (Underived text (at Params f) p.prev_token_end)) → NoAssignment p q Fatal
+head_unbuilt {p} {q} e i u s = λ text f a. go (subst (λ (v : Stop). Stops p q v (Underived text (at Params f) p.prev_token_end)) i (s text f a))
+  where
+    go : {F G : Type 0} → Refuses p q F → Refuses p q G
+    go x = record { at = x.at; follows = x.follows; grown = x.grown; stopped = x.stopped; lies = x.lies; heads = x.heads; none = λ n. absurd (n u); met = x.met }
 
 pub some_found : (p q : Parser) (id : NodeId) (r : Option NodeId) → r ≡ Some id → FindsHead p q r → IsHeadHere p q id
 some_found p q id r e h = subst (FindsHead p q) e h
@@ -476,14 +493,20 @@ some_found p q id r e h = subst (FindsHead p q) e h
 pub none_found : (p q : Parser) (r : Option NodeId) → r ≡ None → FindsHead p q r → Unmoved p q × NoArrowHere p
 none_found p q r e h = subst (FindsHead p q) e h
 
-pub none_looked : (p q : Parser) (r : Option NodeId) → r ≡ None → LooksForHead p q r → NoneLooked p q
-none_looked p q r e h = subst (LooksForHead p q) e h
+pub none_looked : (p q : Parser) (r : Option NodeId) → r ≡ None → HeadOrNone p q r → NoneLooked p q
+none_looked p q r e h = subst (HeadOrNone p q) e h
 
-pub some_looked : (p o q : Parser) (id : NodeId) (r : Option NodeId) → o ≡ p → r ≡ Some id → LooksForHead o q r → IsHeadHere p q id
-some_looked p o q id r s e h = subst (λ (z : Parser). IsHeadHere z q id) s (subst (LooksForHead o q) e h)
+pub stops_looked : (p o q : Parser) (e : Stop) → o ≡ p → NoAssignment o q e → NoAssignment p q e
+stops_looked p o q e s h = subst (λ (z : Parser). NoAssignment z q e) s h
+
+pub some_looked : (p o q : Parser) (id : NodeId) (r : Option NodeId) → o ≡ p → r ≡ Some id → HeadOrNone o q r → IsHeadHere p q id
+some_looked p o q id r s e h = subst (λ (z : Parser). IsHeadHere z q id) s (subst (HeadOrNone o q) e h)
 
 pub head_so : (start kept : ℕ) (q : Parser) {b r : Bool} → r ≡ b → IsHead start kept q r → IsHead start kept q b
 head_so start kept q e h = subst (λ (v : Bool). IsHead start kept q v) e h
+
+pub unbuilt_so : (q : Parser) {b r : Bool} → r ≡ b → StopsUnbuilt q r → StopsUnbuilt q b
+unbuilt_so q e h = subst (λ (v : Bool). StopsUnbuilt q v) e h
 
 pub refused_so : (kept : ℕ) (p : Parser) {r : Bool} → r ≡ true → IsRefusedHead kept p r → (length p.errors ≡ kept → ⊥) × (p.token.kind ≡ Arrow)
 refused_so kept p e h = subst (λ (b : Bool). IsRefusedHead kept p b) e h
@@ -494,12 +517,26 @@ neither {p} n m = λ text f a. by text f p.token.escaped refl a
   where
     by : (text : List ℕ) (f : Flags) (b : Bool) → p.token.escaped ≡ b → At text f p → Underived text (at Arrow' f) p.prev_token_end
     by text f true e a = fails_escaped a e
-    by text f false e a = no_head_here a (or_name LParen p.token.kind (λ k. m k e) (no_name_here p n e))
+    by text f false e a = no_head_here a (or_kind LParen name_kinds p.token.kind (λ k. m k e) (no_name_here p n e))
 
 -- ---- where the parser is where it was
 
 pub unmoved_none : {p q : Parser} → Standing p → Unmoved p q → NoArrowHere p → NoArrowHere q
 unmoved_none {p} {q} a u n = λ text f b. subst (λ (s : ℕ). Underived text (at Arrow' f) s) (sym u.place) (subst (λ (g : Flags). Underived text (at Arrow' g) p.prev_token_end) (sym (flags_same p q u.same.ctx u.same.follows.source_type u.same.options) ∙ b.flags_are) (subst (λ (t : List ℕ). Underived t (at Arrow' (flags_of p)) p.prev_token_end) (sym u.same.follows.text ∙ b.text_is) (n _ _ a)))
+
+-- no brace stands here
+pub unbraced_here : {text : List ℕ} {f : Flags} {p : Parser} → At text f p → (p.token.kind ≡ LCurly → ⊥) → Unbraced text p.prev_token_end
+unfolding covers apart
+unbraced_here {text} {f} {p} a n y l = go (same_kind LCurly y.kind) refl
+  where
+    go : (b : Bool) → same_kind LCurly y.kind ≡ b → same_kind LCurly y.kind ≡ false
+    go true e = absurd (not_here a (LCurly ∷ []) refl (other_kind LCurly p.token.kind n) y l (rw e refl))
+    go false e = e
+
+pub only_operand : {p q : Parser} → Standing p → (p.token.kind ≡ LCurly → ⊥) → Unmoved p q → NoArrowHere p → OnlyOperandHere q
+only_operand {p} {q} a k u n = λ text f b.
+    let x : Unbraced text p.prev_token_end = subst (λ (t : List ℕ). Unbraced t p.prev_token_end) (sym u.same.follows.text ∙ b.text_is) (unbraced_here a k) in
+    (subst (λ (s : ℕ). Unbraced text s) (sym u.place) x, unmoved_none a u n text f b)
 
 pub from_unmoved : (text : List ℕ) (f : Flags) (n : Symbol) {p q : Parser} (w : Parser) (r : Result NodeId Stop) → Unmoved p q → Outcome text f n q w r → Outcome text f n p w r
 from_unmoved text f n {p} {q} w (Ok id) u x = record {
@@ -531,7 +568,7 @@ plain_back {text} {p} {r} t c e (nothing_here d k n) = nothing_here (c ∙ d) (a
 pub went_back : {p q r : Parser} {c : ParserCheckpoint} → may_be_read_again p.token.kind ≡ false → Remembers p c → GoesOn p q → NotedHeads q → (SpansLie p → NodesLie q.text q.nodes) → GoesBack c q r → Unmoved p r
 went_back {p} {q} {r} o m f n l g =
     let b = came_back m f.0 g in
-    let s : Same p r = record { follows = back_follows m f.0 g; options = g.options ∙ f.0.options; ctx = b.ctx; depth = b.depth; visits = b.visits; early = λ h. All-same IsEarly r.errors p.errors b.errors h; lies = λ h. (g.at.lies.starts_whole, nodes_lie q r g.text g.nodes (l h)) } in
+    let s : Same p r = record { follows = back_follows m f.0 g; options = g.options ∙ f.0.options; ctx = b.ctx; depth = b.depth; visits = b.visits; early = λ h. All-same IsEarly r.errors p.errors b.errors h; lies = λ h. (g.at.lies.starts_whole, nodes_lie q r g.text g.nodes (l h)); meets = to_end_stays p r b.text b.prev_token_end } in
     record {
       at = λ text f a. record { text_is = b.text ∙ a.text_is; flags_are = flags_same p r b.ctx b.source_type s.options ∙ a.flags_are; at = g.at; plain = plain_back b.token b.cut b.prev_token_end a.plain; behind = let i = b.prev_token_end in let j = ap (λ z. z.span.start) b.token in let k = a.behind in omega arith; heads = heads_kept q r g.text g.source_type g.options (ap (λ (z : Notes). z.failed) g.state) n; kept_last = last_back p.lexer r.lexer b.token b.keeps_tokens (b.tokens o) a.kept_last };
       same = s;
@@ -561,6 +598,52 @@ behind : {K : Type 0} {p q r : List K} {C B : Type 0} → Grown p q → Verdict 
 behind g (clean e c) = grown_first g e
 behind g (unclean h n) = grown_both g h
 
+-- the body: in braces where a brace stands, else an expression
+to_body : {text : List ℕ} {f : Flags} {X : Test} {r : Parser} → At text f r → (b : Bool) → same_kind LCurly r.token.kind ≡ b → Goes rule (Lex text) X end (body_slots f) r.prev_token_end (such (body_of b f) always) r.prev_token_end (λ us. us) (still 0)
+unfolding covers apart
+to_body {r = r} a true c = left (part_fails {X' = plain full} (fails_look (other (is LCurly)) (λ y l z. braced y (kind_here a (sym (kind_of_same LCurly r.token.kind c)) refl y l) (read_plain y l.1) z)) (record { admits = λ ts us vs j k ls mid rest d d' e. (refl, refl) }))
+  where
+    braced : (y : Lexeme) → y.kind ≡ LCurly → y.escaped ≡ false → IsTrue (seen (other (is LCurly)) y) → ⊥
+    braced y k n z = let w : not (same_kind LCurly y.kind && not y.escaped) ≡ false = rw (k, n) refl in false≢true (sym w ∙ z)
+to_body {text} {f} {r = r} a false c = right (fails_at a (symbol Body (braced_body f)) (LCurly ∷ []) refl none) ▹ pass_over (looks (other (is LCurly)) (λ y l. unbraced y (same_kind LCurly y.kind) refl l))
+  where
+    none : one_of_kinds (LCurly ∷ []) r.token.kind ≡ false
+    none = rw c refl
+
+    unbraced : (y : Lexeme) (b : Bool) → same_kind LCurly y.kind ≡ b → Lex text r.prev_token_end y → seen (other (is LCurly)) y ≡ true
+    unbraced y true e l = absurd (not_here a (LCurly ∷ []) refl none y l (rw e refl))
+    unbraced y false e l = rw e refl
+
+-- another lexeme than a brace
+pub no_brace : (k : Kind) → (k ≡ LCurly → ⊥) → same_kind LCurly k ≡ false
+no_brace k n = go (same_kind LCurly k) refl
+  where
+    go : (b : Bool) → same_kind LCurly k ≡ b → same_kind LCurly k ≡ false
+    go true e = absurd (n (sym (kind_of_same LCurly k e)))
+    go false e = e
+
+-- the row of a body in braces
+body_row : (r : Row) → may_end Body r ≡ true → r ≡ after_body
+body_row after_body h = refl
+body_row after_expression h = absurd (false≢true h)
+body_row after_postfix h = absurd (false≢true h)
+body_row after_yield h = absurd (false≢true h)
+body_row after_declarator h = absurd (false≢true h)
+body_row after_word h = absurd (false≢true h)
+
+-- behind an arrow function stands what may stand behind its body: behind one in braces anything, but a comma goes on with what is around
+behind_body : (b : Bool) {text : List ℕ} {f : Flags} {r w : Parser} (y : Answer text f (body_of b f) r w) (z : Lexeme) → Lex text w.prev_token_end z → IsTrue (seen (looser 2 f.in_ (row_of y.label y.slots)) z || seen beside z)
+behind_body false y z l = y.stops z l
+behind_body true {f = f} y z l = or_left _ _ (subst (λ (r : Row). IsTrue (seen (looser 2 f.in_ r) z)) (sym (body_row (row_of y.label y.slots) y.row)) (at_most (same_kind Comma z.kind && not z.escaped)))
+  where
+    at_most : (c : Bool) → nat_lt (cond c 1 0) 2 ≡ true
+    at_most true = refl
+    at_most false = refl
+
+row_of_body : (b : Bool) {text : List ℕ} {f : Flags} {r w : Parser} (y : Answer text f (body_of b f) r w) → may_end Assignment (row_of y.label y.slots) ≡ true
+row_of_body false y = y.row
+row_of_body true y = subst (λ (r : Row). may_end Assignment r ≡ true) (sym (body_row (row_of y.label y.slots) y.row)) refl
+
 module _ {text : List ℕ} {f : Flags} {o p : Parser} {id : NodeId} (h : Head text f o p id) (k : p.token.kind ≡ Arrow) where
   head_is_none : Underived text (at Short f) o.prev_token_end
   head_is_none =
@@ -570,7 +653,7 @@ module _ {text : List ℕ} {f : Flags} {o p : Parser} {id : NodeId} (h : Head te
       no_operand f (h.read.goes.passes.lexed (last y.0) y.1) z.1 z.2 y.2
 
   to_arrow : Goes rule (Lex text) (after (at Assignment f)) end (rule (at Assignment f)) o.prev_token_end (such (at Arrow' f) always) o.prev_token_end (λ us. us) (still 0)
-  to_arrow = only_arrow f (not_wide h.at) (conditional_none f head_is_none) head_is_none
+  to_arrow = only_arrow f (not_wide h.at) (is_cover h.at) (conditional_none f head_is_none) head_is_none
 
   -- behind two slots may stand what may stand behind the second one
   inside_arrow : Inside rule arrow_made (after (at Assignment f)) (second f) end (arrow_slots f) o.prev_token_end
@@ -582,8 +665,14 @@ module _ {text : List ℕ} {f : Flags} {o p : Parser} {id : NodeId} (h : Head te
       go s cs vs (is_seq is_nothing (is_seq (is_right (is_such b m)) (is_seq (is_look c) (is_seq (is_lexeme d) (is_left (is_such e g)))))) x = x
       go s cs vs (is_seq is_nothing (is_seq (is_right (is_such b m)) (is_seq (is_look c) (is_seq (is_lexeme d) (is_right (is_seq (is_look l) (is_such e g))))))) x = x
 
-  on_body : {e : ℕ} → On rule (record { base = widest Assignment; by = λ us. by_second f (tree h.label h.slots us) }) (after (at Assignment (arrow_body f))) end (such (at Assignment (arrow_body f)) always) e
-  on_body = record { admits = λ ts vs j ls rest d e. go ts vs d e }
+  on_body : (b : Bool) {e : ℕ} → On rule (record { base = widest Assignment; by = λ us. by_second f (tree h.label h.slots us) }) (after (body_of b f)) end (such (body_of b f) always) e
+  on_body true = record { admits = λ ts vs j ls rest d e. braced ts (here rest) }
+    where
+      braced : (ts : Slots) (y : Lexeme) → Admits (after (at Body (braced_body f))) ts y
+      braced end y = (refl, refl)
+      braced (hole us) y = (refl, refl)
+      braced (tree l cs us) y = (refl, refl)
+  on_body false = record { admits = λ ts vs j ls rest d e. go ts vs d e }
     where
       go : (ts vs : Slots) {i j : ℕ} {ls rest : Lexemes} → Takes rule (such (at Assignment (arrow_body f)) always) end ts i ls vs j rest → Admits (record { base = widest Assignment; by = λ us. by_second f (tree h.label h.slots us) }) ts (here rest) → Admits (after (at Assignment (arrow_body f))) ts (here rest)
       go ts end (is_such d c) x = x
@@ -596,19 +685,15 @@ module _ {text : List ℕ} {f : Flags} {o p : Parser} {id : NodeId} (h : Head te
   late_rule : p.token.is_on_new_line ≡ true → Fails rule (Lex text) (after (at Assignment f)) end (rule (at Assignment f)) o.prev_token_end
   late_rule w = to_arrow ▹✗ weaken_fails_on (no_arrow f (then_any head_path ⟶✗ part_fails {X' = plain full} (fails_look (λ k n e. not n) (λ y l z. false≢true (sym (ap not (newline_here h.at y l ∙ w)) ∙ z))) (record { admits = λ ts us vs j k ls mid rest d d' e. (refl, refl) }))) (same_read (at Assignment f) (at Arrow' f) arrow_passes refl)
 
-  to_body : {X : Test} {s : ℕ} → Goes rule (Lex text) X end (body_slots f) s (symbol Assignment (arrow_body f)) s (λ us. us) (still 0)
-  unfolding apart
-  to_body = right (fails_dead (symbol Body (record (arrow_body f) { in_ = true; return_ = true })) refl) ▹ pass_over (reads_other (is LCurly) refl)
+  module _ (n : p.token.is_on_new_line ≡ false) {r : Parser} (m : Moved text f p r) (b : Bool) (c : same_kind LCurly r.token.kind ≡ b) where
+    body_due : Path text f (second f) (arrow_slots f) o (such (body_of b f) always) r (tree h.label h.slots)
+    body_due = done ⟼ (then_any head_path ⟶ (pass_over (looks (λ k w e. not w) (λ y l. ap not (newline_here h.at y l ∙ n))) ⟼ ended_by (token Arrow h.at k (plain_sign Arrow h.at k refl refl arrow_plain) refl m) (to_body m.at b c)))
 
-  module _ (n : p.token.is_on_new_line ≡ false) {r : Parser} (m : Moved text f p r) where
-    body_due : Path text f (second f) (arrow_slots f) o (symbol Assignment (arrow_body f)) r (tree h.label h.slots)
-    body_due = done ⟼ (then_any head_path ⟶ (pass_over (looks (λ k w e. not w) (λ y l. ap not (newline_here h.at y l ∙ n))) ⟼ ended_by (token Arrow h.at k (plain_sign Arrow h.at k refl refl arrow_plain) refl m) to_body))
+    body_fails : Underived text (body_of b f) r.prev_token_end → Underived text (at Assignment f) o.prev_token_end
+    body_fails z = fails_by (to_arrow ▹✗ fails_rule {X' = after (at Assignment f)} (λ l cs vs y d. d) (to_line f ▹✗ fails_node inside_arrow (body_due ⟶✗ weaken_fails_on z (on_body b))))
 
-    body_fails : Underived text (at Assignment (arrow_body f)) r.prev_token_end → Underived text (at Assignment f) o.prev_token_end
-    body_fails z = fails_by (to_arrow ▹✗ fails_rule {X' = after (at Assignment f)} (λ l cs vs y d. d) (to_line f ▹✗ fails_node inside_arrow (body_due ⟶✗ weaken_fails_on z on_body)))
-
-    body_path : {w : Parser} → At text f o → (y : Answer text f (at Assignment (arrow_body f)) r w) → Path text f (after (at Assignment f)) (rule (at Assignment f)) o nothing w (tree (label_here arrow_function_expression no_op o w) (tree h.label h.slots (tree y.label y.slots end)))
-    body_path a y = to_arrow ⟼ by_symbol_as {X' = after (at Assignment f)} (λ l cs vs y d. d) (to_line f ⟼ noded_by a inside_arrow (body_due ⟶ last_called y on_body))
+    body_path : {w : Parser} → At text f o → (y : Answer text f (body_of b f) r w) → Path text f (after (at Assignment f)) (rule (at Assignment f)) o nothing w (tree (label_here arrow_function_expression no_op o w) (tree h.label h.slots (tree y.label y.slots end)))
+    body_path a y = to_arrow ⟼ by_symbol_as {X' = after (at Assignment f)} (λ l cs vs y d. d) (to_line f ⟼ noded_by a inside_arrow (body_due ⟶ last_called y (on_body b)))
 
 -- whether `=>` stands on a new line was looked at
 pub line_at : {text : List ℕ} {f : Flags} {p q : Parser} → At text f p → ChecksLine p q → At text f q
@@ -616,7 +701,7 @@ line_at {text} {f} a (inl (e, c)) = subst (At text f) (sym c.is) (beside_errors 
 line_at {text} {f} a (inr (e, i)) = subst (At text f) (sym i) a
 
 pub line_same : {p q : Parser} → ChecksLine p q → Same p q
-line_same {p} (inl (e, c)) = record { follows = keeps_follows c; options = ap (λ (z : Parser). z.options) c.is; ctx = ap (λ (z : Parser). z.ctx) c.is; depth = ap (λ (z : Parser). z.depth) c.is; visits = ap (λ (z : Parser). z.visits) c.is; early = λ h. kept_early c refl h; lies = λ h. subst SpansLie (sym c.is) h }
+line_same {p} {q} (inl (e, c)) = record { follows = keeps_follows c; options = ap (λ (z : Parser). z.options) c.is; ctx = ap (λ (z : Parser). z.ctx) c.is; depth = ap (λ (z : Parser). z.depth) c.is; visits = ap (λ (z : Parser). z.visits) c.is; early = λ h. kept_early c refl h; lies = λ h. subst SpansLie (sym c.is) h; meets = to_end_stays p q (ap (λ (z : Parser). z.text) c.is) (ap (λ (z : Parser). z.prev_token_end) c.is) }
 line_same {p} (inr (e, i)) = subst (λ (z : Parser). Same p z) (sym i) same_itself
 
 pub line_place : {p q : Parser} → ChecksLine p q → q.prev_token_end ≡ p.prev_token_end
@@ -635,36 +720,36 @@ line_nodes : {p q : Parser} → ChecksLine p q → q.nodes ≡ p.nodes
 line_nodes (inl (e, c)) = ap (λ (z : Parser). z.nodes) c.is
 line_nodes (inr (e, i)) = ap (λ (z : Parser). z.nodes) i
 
-module _ {text : List ℕ} {f : Flags} {o p q r : Parser} {id : NodeId} (h : Head text f o p id) (k : p.token.kind ≡ Arrow) (c : ChecksLine p q) (m : Moved text f q r) where
+module _ {text : List ℕ} {f : Flags} {o p q r : Parser} {id : NodeId} (h : Head text f o p id) (k : p.token.kind ≡ Arrow) (c : ChecksLine p q) (m : Moved text f q r) (b : Bool) (i : same_kind LCurly r.token.kind ≡ b) where
   -- the body can't be read
-  pub arrow_stops : (w : Parser) (e : Stop) → Stops r w e (Underived text (at Assignment (arrow_body f)) r.prev_token_end) → Stops o w e (Underived text (at Assignment f) o.prev_token_end)
+  pub arrow_stops : (w : Parser) (e : Stop) → Stops r w e (Underived text (body_of b f) r.prev_token_end) → Stops o w e (Underived text (at Assignment f) o.prev_token_end)
   arrow_stops w e s = go c m s
     where
-      go : {q : Parser} → ChecksLine p q → Moved text f q r → Stops r w e (Underived text (at Assignment (arrow_body f)) r.prev_token_end) → Stops o w e (Underived text (at Assignment f) o.prev_token_end)
+      go : {q : Parser} → ChecksLine p q → Moved text f q r → Stops r w e (Underived text (body_of b f) r.prev_token_end) → Stops o w e (Underived text (at Assignment f) o.prev_token_end)
       go (inl (l, c)) m s = stops_behind w e (same_both h.same (same_both (line_same (inl (l, c))) m.same)) (λ g. grown_then h.kept (grown_both (kept_one c) (grown_then m.kept g))) (λ z. fails_by (late_rule h k l)) s
-      go (inr (n, i)) m s = stops_behind w e (same_both h.same (same_both (line_same (inr (n, i))) m.same)) (λ g. grown_then (m.kept ∙ (ap (λ (z : Parser). z.errors) i ∙ h.kept)) g) (λ z. body_fails h k n (subst (λ (z : Parser). Moved text f z r) i m) z) s
+      go (inr (n, j)) m s = stops_behind w e (same_both h.same (same_both (line_same (inr (n, j))) m.same)) (λ g. grown_then (m.kept ∙ (ap (λ (z : Parser). z.errors) j ∙ h.kept)) g) (λ z. body_fails h k n (subst (λ (z : Parser). Moved text f z r) j m) b i z) s
 
-  arrow_path : {w : Parser} → At text f o → (y : Answer text f (at Assignment (arrow_body f)) r w) → Path text f (after (at Assignment f)) (rule (at Assignment f)) o nothing w (tree (label_here arrow_function_expression no_op o w) (tree h.label h.slots (tree y.label y.slots end)))
+  arrow_path : {w : Parser} → At text f o → (y : Answer text f (body_of b f) r w) → Path text f (after (at Assignment f)) (rule (at Assignment f)) o nothing w (tree (label_here arrow_function_expression no_op o w) (tree h.label h.slots (tree y.label y.slots end)))
   arrow_path {w} a y = go c m
     where
       go : {q : Parser} → ChecksLine p q → Moved text f q r → Path text f (after (at Assignment f)) (rule (at Assignment f)) o nothing w (tree (label_here arrow_function_expression no_op o w) (tree h.label h.slots (tree y.label y.slots end)))
-      go (inr (n, i)) m = body_path h k n (subst (λ (z : Parser). Moved text f z r) i m) a y
+      go (inr (n, j)) m = body_path h k n (subst (λ (z : Parser). Moved text f z r) j m) b i a y
       go {q} (inl (l, c)) m = record {
         at = y.at;
-        further = let b = h.further in let d = line_place (inl (l, c)) in let e = (line_at h.at (inl (l, c))).behind in let g = m.further in let i = m.at.behind in let j = y.further in omega arith;
+        further = let v = h.further in let d = line_place (inl (l, c)) in let e = (line_at h.at (inl (l, c))).behind in let g = m.further in let u = m.at.behind in let j = y.further in omega arith;
         pass = λ ls. h.pass (next m.lexeme (y.pass ls));
         walked = walked_both h.walked (walked_both (walked_from (line_spot (inl (l, c))) (walked_one m)) y.walked);
         verdict = unclean (grown_then h.kept (behind (grown_first (kept_one c) m.kept) y.verdict)) (late_rule h k l);
       }
 
-  pub arrow_answers : {w z : Parser} {body made : NodeId} (s : Span) → At text f o → (y : Numbered text f (at Assignment (arrow_body f)) r w body) → s.start ≡ o.token.span.start → s.end ≡ w.prev_token_end → MadeHere (plain_label node_kind.ArrowFunctionExpression op_made.None s) (Some id ∷ Some body ∷ []) w z made → Numbered text f (at Assignment f) o z made
-  arrow_answers {w} {z} {body} {made} s a y b d n =
-      let l : plain_label node_kind.ArrowFunctionExpression op_made.None s ≡ label_here arrow_function_expression no_op o w = rw (b, d) refl in
+  pub arrow_answers : {w z : Parser} {body made : NodeId} (s : Span) → At text f o → (y : Numbered text f (body_of b f) r w body) → s.start ≡ o.token.span.start → s.end ≡ w.prev_token_end → MadeHere (plain_label node_kind.ArrowFunctionExpression op_made.None s) (Some id ∷ Some body ∷ []) w z made → Numbered text f (at Assignment f) o z made
+  arrow_answers {w} {z} {body} {made} s a y u d n =
+      let l : plain_label node_kind.ArrowFunctionExpression op_made.None s ≡ label_here arrow_function_expression no_op o w = rw (u, d) refl in
       let x : MadeHere (label_here arrow_function_expression no_op o w) (Some id ∷ Some body ∷ []) w z made = subst (λ (v : Label). MadeHere v (Some id ∷ Some body ∷ []) w z made) l n in
       let e : r.nodes ≡ p.nodes = m.nodes ∙ line_nodes c in
       let g : Holds w.nodes (length p.nodes) (length w.nodes) body.0 y.answer.label y.answer.slots = subst (λ (ns : List Node). Holds w.nodes (length ns) (length w.nodes) body.0 y.answer.label y.answer.slots) e y.holds in
-      let i : Keeps p.nodes w.nodes = subst (λ (ns : List Node). Keeps ns w.nodes) e y.keeps in
-      by_path (arrow_path a y.answer) (same_both h.same (same_both (line_same c) (same_both m.same y.answer.same))) x.stays (λ j u. y.answer.stops j u) y.answer.row (two_held x h.holds h.keeps g i) (Keeps-trans h.keeps (Keeps-trans i (Keeps-made x.made))) refl (one_lies x)
+      let v : Keeps p.nodes w.nodes = subst (λ (ns : List Node). Keeps ns w.nodes) e y.keeps in
+      by_path (arrow_path a y.answer) (same_both h.same (same_both (line_same c) (same_both m.same y.answer.same))) x.stays (λ j t. behind_body b y.answer j t) (row_of_body b y.answer) (two_held x h.holds h.keeps g v) (Keeps-trans h.keeps (Keeps-trans v (Keeps-made x.made))) refl (one_lies x)
 
 -- ---- and behind what was no head
 
@@ -706,26 +791,26 @@ refused x n = let t = told_of x n in told_head (record {
   keeps = x.keeps;
 })
 
-pub before_stops : {text : List ℕ} {f : Flags} {o p q r : Parser} {id : NodeId} → BeforeArrow text f o p id → p.token.kind ≡ Arrow → ChecksLine p q → Moved text f q r → (w : Parser) (e : Stop) → Stops r w e (Underived text (at Assignment (arrow_body f)) r.prev_token_end) → Stops o w e (Underived text (at Assignment f) o.prev_token_end)
-before_stops (a_head h) k c m w e s = arrow_stops h k c m w e s
-before_stops (told_head x) k c m w e s = stops_behind w e (same_both x.same (same_both (line_same c) m.same)) (λ g. grown_both (grown_first (line_grown c x.grown) m.kept) g) (λ z. x.none) s
+pub before_stops : {text : List ℕ} {f : Flags} {o p q r : Parser} {id : NodeId} → BeforeArrow text f o p id → p.token.kind ≡ Arrow → ChecksLine p q → Moved text f q r → (b : Bool) → same_kind LCurly r.token.kind ≡ b → (w : Parser) (e : Stop) → Stops r w e (Underived text (body_of b f) r.prev_token_end) → Stops o w e (Underived text (at Assignment f) o.prev_token_end)
+before_stops (a_head h) k c m b i w e s = arrow_stops h k c m b i w e s
+before_stops (told_head x) k c m b i w e s = stops_behind w e (same_both x.same (same_both (line_same c) m.same)) (λ g. grown_both (grown_first (line_grown c x.grown) m.kept) g) (λ z. x.none) s
 
-pub before_answers : {text : List ℕ} {f : Flags} {o p q r w z : Parser} {id body made : NodeId} → BeforeArrow text f o p id → p.token.kind ≡ Arrow → ChecksLine p q → Moved text f q r → (s : Span) → At text f o → Numbered text f (at Assignment (arrow_body f)) r w body → s.start ≡ o.token.span.start → s.end ≡ w.prev_token_end → MadeHere (plain_label node_kind.ArrowFunctionExpression op_made.None s) (Some id ∷ Some body ∷ []) w z made → Numbered text f (at Assignment f) o z made
-before_answers (a_head h) k c m s a y b d n = arrow_answers h k c m s a y b d n
-before_answers {text} {f} {o} {p} {q} {r} {w} {z} {id} {body} {made} (told_head v) k c m s a y b d n =
-    let l : plain_label node_kind.ArrowFunctionExpression op_made.None s ≡ label_here arrow_function_expression no_op o w = rw (b, d) refl in
+pub before_answers : {text : List ℕ} {f : Flags} {o p q r w z : Parser} {id body made : NodeId} → BeforeArrow text f o p id → p.token.kind ≡ Arrow → ChecksLine p q → Moved text f q r → (b : Bool) → same_kind LCurly r.token.kind ≡ b → (s : Span) → At text f o → Numbered text f (body_of b f) r w body → s.start ≡ o.token.span.start → s.end ≡ w.prev_token_end → MadeHere (plain_label node_kind.ArrowFunctionExpression op_made.None s) (Some id ∷ Some body ∷ []) w z made → Numbered text f (at Assignment f) o z made
+before_answers (a_head h) k c m b i s a y u d n = arrow_answers h k c m b i s a y u d n
+before_answers {text} {f} {o} {p} {q} {r} {w} {z} {id} {body} {made} (told_head v) k c m b t s a y u d n =
+    let l : plain_label node_kind.ArrowFunctionExpression op_made.None s ≡ label_here arrow_function_expression no_op o w = rw (u, d) refl in
     let x : MadeHere (label_here arrow_function_expression no_op o w) (Some id ∷ Some body ∷ []) w z made = subst (λ (j : Label). MadeHere j (Some id ∷ Some body ∷ []) w z made) l n in
     let e : r.nodes ≡ p.nodes = m.nodes ∙ line_nodes c in
     let g : Holds w.nodes (length p.nodes) (length w.nodes) body.0 y.answer.label y.answer.slots = subst (λ (ns : List Node). Holds w.nodes (length ns) (length w.nodes) body.0 y.answer.label y.answer.slots) e y.holds in
     let i : Keeps p.nodes w.nodes = subst (λ (ns : List Node). Keeps ns w.nodes) e y.keeps in
     let path : Path text f (after (at Assignment f)) (such (at Assignment f) always) o nothing w (tree (label_here arrow_function_expression no_op o w) (tree v.label v.slots (tree y.answer.label y.answer.slots end))) = record {
       at = y.answer.at;
-      further = let b = v.further in let d = line_place c in let e = (line_at v.at c).behind in let g = m.further in let i = m.at.behind in let j = y.answer.further in omega arith;
+      further = let u = v.further in let d = line_place c in let e = (line_at v.at c).behind in let g = m.further in let i = m.at.behind in let j = y.answer.further in omega arith;
       pass = λ ls. v.pass (next m.lexeme (y.answer.pass ls));
       walked = walked_both v.walked (walked_both (walked_from (line_spot c) (walked_one m)) y.answer.walked);
       verdict = unclean (behind (grown_first (line_grown c v.grown) m.kept) y.answer.verdict) v.none;
     } in
-    by_such path (same_both v.same (same_both (line_same c) (same_both m.same y.answer.same))) x.stays (λ j u. y.answer.stops j u) y.answer.row (two_held x v.holds v.keeps g i) (Keeps-trans v.keeps (Keeps-trans i (Keeps-made x.made))) refl (one_lies x)
+    by_such path (same_both v.same (same_both (line_same c) (same_both m.same y.answer.same))) x.stays (λ j w. behind_body b y.answer j w) (row_of_body b y.answer) (two_held x v.holds v.keeps g i) (Keeps-trans v.keeps (Keeps-trans i (Keeps-made x.made))) refl (one_lies x)
 
 -- it is told of the token that stands here
 pub late_told : {p q : Parser} {d : Diagnostic} (s : Span) → d ≡ unrelated_at LineterminatorBeforeArrow s → s ≡ p.token.span → Keeps_one d p q → Keeps_one (late_arrow p.token.span) p q

@@ -2,24 +2,25 @@
 use Rattle.js_targets.proofs.Refused.{no_target, short_follows}
 use Rattle.std.proofs.Common.{ℕ, ◌≡◌, ◌⊎◌, inl, inr, List, [], ◌∷◌, length, Bool, true, false, not, ◌||◌, IsTrue, Option, Some, None, refl, sym, ap, subst, arith, ◌∙◌}
 use Rattle.std.specs.Prelude.{IsCharBoundary, is_some, if◌then◌else◌}
-use Rattle.std.proofs.lemmas.Bool.{false≢true, and_from}
+use Rattle.std.proofs.lemmas.Bool.{false≢true, and_from, and_parts}
 use Rattle.js_base.specs.declared.diagnostic.Diagnostic.{Diagnostic}
 use Rattle.js_base.specs.declared.kind.Kind.{Kind}
-use Rattle.js_base.specs.declared.kind.Kind.TheVariants.{Question, Eq}
+use Rattle.js_base.specs.declared.kind.Kind.TheVariants.{Question, Eq, LCurly}
 use Rattle.js_base.specs.declared.operator.AssignmentOperator.{AssignmentOperator}
 use Rattle.js_base.specs.declared.span.Span.{Span}
 use Rattle.js_base.specs.Kinds.{same_kind, one_of_kinds}
 use Rattle.js_base.specs.Operators.{row_of as row_in, assignment_operators}
 use Rattle.js_base.proofs.KindLemmas.{kind_of_same}
 use Rattle.js_grammar.specs.Trees.{Span as TreeSpan, Label, Slots, end, tree, Tree, of, assignment_expression}
-use Rattle.js_grammar.specs.Grammar.{Lexeme, Lexemes, last, Look, here, seen, such, nothing, exact, Takes, is_seq, is_lexeme, is_such}
+use Rattle.js_grammar.specs.Grammar.{Lexeme, Lexemes, Look, here, seen, such, nothing, exact, Takes, is_seq, is_lexeme, is_such, is_node}
 use Rattle.js_grammar.specs.Insertion.{Row, after_expression, assign_operators}
 use Rattle.js_grammar.specs.Lexemes.{is_escaped}
 use Rattle.js_grammar.specs.Marks.{Mark}
-use Rattle.js_grammar.specs.Parsing.{Test, always, Admits, Goes, still}
-use Rattle.js_grammar.specs.Productions.{Flags, Symbol, at, Arrow', Assignment, Short, Target}
+use Rattle.js_grammar.specs.Parsing.{Test, always, Admits, Fails, Goes, still}
+use Rattle.js_grammar.specs.Productions.{Flags, Symbol, at, Assignment, ObjectTarget, Short, Target}
 use Rattle.js_grammar.specs.Productions.{sym as symbol}
-use Rattle.js_grammar.specs.Table.{rule}
+use Rattle.js_grammar.specs.Table.{rule, rule_of}
+use Rattle.js_grammar.specs.Lexed.{Lexes}
 use Rattle.js_grammar.specs.Follow.{edge_of, follow, after, looser, widest}
 use Rattle.js_grammar.proofs.Looks.{covered}
 use Rattle.js_grammar.proofs.Calculus.{On, Inside, ◌▹✗◌, fails_node, weaken_fails_on}
@@ -43,8 +44,8 @@ use Rattle.js_targets.specs.Targets.{target_of, TargetNode}
 use Rattle.js_targets.proofs.Assigned.{an_assign, Assigns, assigns, assign_slots, assign_part, then_assign, not_target, assigned}
 use Rattle.js_expressions.proofs.Conditionals.{no_conditional}
 use Rattle.js_parsing.proofs.Signs.{other_kind}
-use Rattle.js_targets.proofs.ArraysBeforeSigns.{no_array_there, not_wide, target_no_array}
-use Rattle.js_parsing.proofs.Dead.{all_read}
+use Rattle.js_targets.proofs.ArraysBeforeSigns.{is_cover, no_array_there, not_wide, target_no_array}
+use Rattle.js_expressions.specs.Rests.{OnlyOperand, Unbraced}
 use Rattle.js_targets.specs.Targets.{is_array}
 use Rattle.js_targets.proofs.Covers.{row_of_target, lexed_there, no_simple_there, underived_there}
 use Rattle.js_parsing.proofs.Here.{told, found}
@@ -55,6 +56,14 @@ use Rattle.js_parsing.proofs.Paths.{Path, ◌⟼◌, ◌⟶◌, ◌⟶✗◌, to
 use Rattle.js_parsing.proofs.Signs.{none_kept, plain_of}
 use Rattle.js_targets.proofs.Targets.{of_short}
 use Rattle.js_parsing.proofs.Tight.{read_plain}
+
+-- where no brace stands, no object target is derived
+pub no_object_taken : (f : Flags) {text : List ℕ} {s : ℕ} → Unbraced text s → {ts vs : Slots} {j : ℕ} {ls rest : Lexemes} → Lexes (Lex text) s ls → Takes rule (symbol ObjectTarget f) end ts s ls vs j rest → ⊥
+unfolding rule rule_of
+no_object_taken f nb m (is_such (is_node (is_seq (is_lexeme {x = z} q) e)) g) = false≢true (sym (nb z m.0) ∙ (and_parts (same_kind LCurly z.kind) (not z.escaped) q).0)
+
+pub no_object_here : (f : Flags) {text : List ℕ} {X : Test} {s : ℕ} → Unbraced text s → Fails rule (Lex text) X end (symbol ObjectTarget f) s
+no_object_here f nb = record { no = λ ts vs k ls rest l d e. no_object_taken f nb l d }
 
 -- the sign behind was told whole
 pub shifted : {text : List ℕ} {f : Flags} {n : Symbol} {p q t : Parser} {id : NodeId} {power : ℕ} → Numbered text f n p q id → Tightness text f q t power → Numbered text f n p t id
@@ -97,7 +106,7 @@ on_second f a ds s = record { admits = λ ts vs k ls rest d e. go ts vs d e }
     go ts end (is_such d h) x = x
     go ts vs (is_such d h) x = absurd (false≢true x.1)
 
-module _ {text : List ℕ} {f : Flags} {p q : Parser} (x : Answer text f (at Short f) p q) (na : Underived text (at Arrow' f) p.prev_token_end) (c : q.cut ≡ false) (u : one_of_kinds assign_operators q.token.kind ≡ true) where
+module _ {text : List ℕ} {f : Flags} {p q : Parser} (x : Answer text f (at Short f) p q) (na : OnlyOperand text f p.prev_token_end) (c : q.cut ≡ false) (u : one_of_kinds assign_operators q.token.kind ≡ true) where
   sign_here : (y : Lexeme) → Lex text q.prev_token_end y → y.kind ≡ q.token.kind
   sign_here y l = sym (told x.at c y l).kind
 
@@ -112,7 +121,7 @@ module _ {text : List ℕ} {f : Flags} {p q : Parser} (x : Answer text f (at Sho
 
   -- an array literal before `=` aside
   to_assign : (is_array x.label.kind ≡ false) ⊎ (same_kind Eq q.token.kind ≡ false) → Goes rule (Lex text) (after (at Assignment f)) end (rule (at Assignment f)) p.prev_token_end (assign_part f q.token.kind) p.prev_token_end (λ us. us) (still 0)
-  to_assign b = assigned na x q.token.kind u sign_here (no_conditional x no_question all_assign) b
+  to_assign b = assigned na.0 na.1 x q.token.kind u sign_here (no_conditional x no_question all_assign) b
 
   -- the left side is no target
   pub assign_refused : (is_array x.label.kind ≡ false) ⊎ (same_kind Eq q.token.kind ≡ false) → target_of x.label x.slots ≡ None → Underived text (at Assignment f) p.prev_token_end
@@ -170,7 +179,7 @@ row_assign {o = o} e h = subst (λ (j : Kind). row_in assignment_operators j ≡
 
 -- ---- answers
 
-pub assign_answers : {text : List ℕ} {f : Flags} {p q r w z : Parser} {left target second id : NodeId} {o : AssignmentOperator} (s : Span) → At text f p → Underived text (at Arrow' f) p.prev_token_end → (x : Numbered text f (at Short f) p q left) → q.cut ≡ false → (u : one_of_kinds assign_operators q.token.kind ≡ true) → row_in assignment_operators q.token.kind ≡ Some o → (m : Moved text f q r)
+pub assign_answers : {text : List ℕ} {f : Flags} {p q r w z : Parser} {left target second id : NodeId} {o : AssignmentOperator} (s : Span) → At text f p → OnlyOperand text f p.prev_token_end → (x : Numbered text f (at Short f) p q left) → q.cut ≡ false → (u : one_of_kinds assign_operators q.token.kind ≡ true) → row_in assignment_operators q.token.kind ≡ Some o → (m : Moved text f q r)
     → TargetNode q.nodes (length p.nodes) (length q.nodes) x.answer.label x.answer.slots target → (y : Numbered text f (at Assignment f) r w second) → s.start ≡ p.token.span.start → s.end ≡ w.prev_token_end → MadeHere (plain_label node.AssignmentExpression (op_made.Assignment o) s) (Some target ∷ Some second ∷ []) w z id → Numbered text f (at Assignment f) p z id
 assign_answers {text} {f} {p} {q} {r} {w} {z} {left} {target} {second} {id} {o} s a na x c u v m t y b d n =
     let l : plain_label node.AssignmentExpression (op_made.Assignment o) s ≡ label_here assignment_expression (of q.token.kind) p w = rw (assign_named q.token.kind o u v, b, d) refl in
@@ -182,8 +191,8 @@ assign_answers {text} {f} {p} {q} {r} {w} {z} {left} {target} {second} {id} {o} 
 
 -- ---- what is told of a left side that is no target
 
-pub assign_marked : {text : List ℕ} {f : Flags} {p q : Parser} → At text f p → (x : Answer text f (at Short f) p q) → q.cut ≡ false → one_of_kinds assign_operators q.token.kind ≡ true → is_array x.label.kind ≡ false → target_of x.label x.slots ≡ None → (start : ℕ) → start ≡ p.token.span.start → length q.errors ≡ length p.errors → Mark (goal q) q.text (no_target_at start q.prev_token_end)
-assign_marked {text} {f} {p} {q} a x c u b e start d k = subst (λ (v : List ℕ). Mark (goal q) v (no_target_at start q.prev_token_end)) (sym x.at.text_is) it
+pub assign_marked : {text : List ℕ} {f : Flags} {p q : Parser} → At text f p → Unbraced text p.prev_token_end → (x : Answer text f (at Short f) p q) → q.cut ≡ false → one_of_kinds assign_operators q.token.kind ≡ true → is_array x.label.kind ≡ false → target_of x.label x.slots ≡ None → (start : ℕ) → start ≡ p.token.span.start → length q.errors ≡ length p.errors → Mark (goal q) q.text (no_target_at start q.prev_token_end)
+assign_marked {text} {f} {p} {q} a nb x c u b e start d k = subst (λ (v : List ℕ). Mark (goal q) v (no_target_at start q.prev_token_end)) (sym x.at.text_is) it
   where
     g : Assigns q.token.kind
     g = assigns q.token.kind u
@@ -207,7 +216,7 @@ assign_marked {text} {f} {p} {q} a x c u b e start d k = subst (λ (v : List ℕ
           within = (subst (λ (v : List ℕ). IsCharBoundary v q.prev_token_end) x.at.text_is x.at.at.between).0;
           begins_between = subst (λ (v : ℕ). IsCharBoundary text v) (sym d) (subst (λ (v : List ℕ). IsCharBoundary v p.token.span.start) a.text_is a.at.lies.starts_whole);
           ends_between = subst (λ (v : List ℕ). IsCharBoundary v q.prev_token_end) x.at.text_is x.at.at.between;
-          stands = (inr (underived_there x a z stood.0 stood.1 f Target (record { start = start; end = q.prev_token_end }) d refl (λ t h. no_target f (all_read text p.prev_token_end (x.pass (last stood.0)) m) (λ t h. no_simple_there x a z stood.0 stood.1 (of_short f) e follows t h) (λ t h. no_array_there (not_wide a) z b stood.0 m sign h) t h)), (refl, refl));
+          stands = (inr (underived_there x a z stood.0 stood.1 f Target (record { start = start; end = q.prev_token_end }) d refl (λ t h. no_target f (λ t h. no_object_taken f nb m h) (λ t h. no_simple_there x a z stood.0 stood.1 (of_short f) e follows t h) (λ t h. no_array_there (not_wide a) (is_cover a) z b stood.0 m sign h) t h)), (refl, refl));
         }
 
 pub assign_whole : {text : List ℕ} {f : Flags} {p q : Parser} {power : ℕ} → Tightness text f p q power → one_of_kinds assign_operators q.token.kind ≡ true → (q.cut ≡ false) × (is_last q.token.kind ≡ false)

@@ -231,7 +231,7 @@ module _ {text : List ℕ} {f : Flags} where
       pub checked : {w : Parser} {mixed : Bool} {start found : ℕ} → At text f p → mixed ≡ is_mixed → found ≡ length p.errors → ChecksMixed start mixed found v w (Ok tt) → Checked text f p v w pair_label pair_slots pair_pass
       checked {w} {mixed} {start} {found} a e i (inl c) = subst (λ (z : Parser). Checked text f p v z pair_label pair_slots pair_pass) (sym c.1.is) (record {
         at = beside_errors x.answer.at (subst IsAt c.1.is c.1.at);
-        same = record { follows = subst (Follows v) c.1.is (keeps_follows c.1); options = refl; ctx = refl; depth = refl; visits = refl; early = λ w. one_early _ v.errors refl w; lies = λ w. w };
+        same = record { follows = subst (Follows v) c.1.is (keeps_follows c.1); options = refl; ctx = refl; depth = refl; visits = refl; early = λ w. one_early _ v.errors refl w; lies = λ w. w; meets = λ w. w };
         nodes = refl;
         place = refl;
         spot_is = refl;

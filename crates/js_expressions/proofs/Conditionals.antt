@@ -41,7 +41,7 @@ use Rattle.js_grammar.specs.Marks.{Mark, LexemeAt, a_lexeme, of_kinds}
 use Rattle.js_lex.specs.States.{goal_of}
 use Rattle.js_cursor.specs.Places.{IsAt, goal}
 use Rattle.js_cursor.proofs.Standing.{mark_here}
-use Rattle.js_expressions.specs.Rests.{Asked}
+use Rattle.js_expressions.specs.Rests.{Asked, OnlyOperand}
 use Rattle.js_parsing.specs.Moves.{Passes}
 use Rattle.js_parsing.proofs.Giving.{gives_up}
 use Rattle.js_parsing.specs.Lexemes.{Lex}
@@ -148,9 +148,9 @@ pub conditional_none : {text : List ℕ} (f : Flags) {s : ℕ} → Underived tex
 unfolding covers
 conditional_none {text} f {s} x = weaken_fails_on (lift_fails (at Conditional f) (at Short f) refl refl text s (short_none x) x) (same_read (at Assignment f) (at Conditional f) conditional_passes refl)
 
-pub test_none : {text : List ℕ} (f : Flags) {s : ℕ} → f.wide ≡ false → Underived text (at Arrow' f) s → Underived text (at Short f) s → Underived text (at Assignment f) s
+pub test_none : {text : List ℕ} (f : Flags) {s : ℕ} → f.wide ≡ false → f.cover ≡ true → Underived text (at Arrow' f) s → Underived text (at Short f) s → Underived text (at Assignment f) s
 unfolding covers
-test_none {text} f {s} w a x = lift_fails (at Assignment f) (at Conditional f) refl refl text s (nothing_assigned f w a x) (lift_fails (at Conditional f) (at Short f) refl refl text s (short_none x) x)
+test_none {text} f {s} w v a x = lift_fails (at Assignment f) (at Conditional f) refl refl text s (nothing_assigned f w v a x) (lift_fails (at Conditional f) (at Short f) refl refl text s (short_none x) x)
 
 module _ {text : List ℕ} {f : Flags} {p q : Parser} (x : Answer text f (at Short f) p q) where
   no_branches : one_of_kinds (Question ∷ []) q.token.kind ≡ false → Goes rule (Lex text) (after (at Conditional f)) end (rule (at Conditional f)) p.prev_token_end (such (at Short f) always) p.prev_token_end (λ us. us) (still 0)
@@ -183,13 +183,13 @@ module _ {text : List ℕ} {f : Flags} {p q : Parser} (x : Answer text f (at Sho
   unfolding rule rule_of
   branches_only e = right (last_called x (same_read (at Assignment f) (at Short f) short_passes refl) ⟶✗ no_end e)
 
-  wrapped : {w : Parser} {l : Label} {cs : Slots} → Underived text (at Arrow' f) p.prev_token_end → q.token.kind ≡ Question → Path text f (after (at Assignment f)) (conditional_part f) p nothing w (tree l cs) → Path text f (after (at Assignment f)) (rule (at Assignment f)) p nothing w (tree l cs)
-  wrapped na e r = unassigned na x (no_sign e) ⟼ by_symbol_as (λ l cs vs y d. d) (branches_only e ⟼ r)
+  wrapped : {w : Parser} {l : Label} {cs : Slots} → OnlyOperand text f p.prev_token_end → q.token.kind ≡ Question → Path text f (after (at Assignment f)) (conditional_part f) p nothing w (tree l cs) → Path text f (after (at Assignment f)) (rule (at Assignment f)) p nothing w (tree l cs)
+  wrapped na e r = unassigned na.0 na.1 x (no_sign e) ⟼ by_symbol_as (λ l cs vs y d. d) (branches_only e ⟼ r)
 
-  wrapped_fails : Underived text (at Arrow' f) p.prev_token_end → q.token.kind ≡ Question → Fails rule (Lex text) (third f) end (conditional_slots f) p.prev_token_end → Underived text (at Assignment f) p.prev_token_end
-  wrapped_fails na e n = fails_by (unassigned na x (no_sign e) ▹✗ fails_rule {X' = after (at Assignment f)} (λ l cs vs y d. d) (branches_only e ▹✗ fails_node (inside_third f p.prev_token_end) n))
+  wrapped_fails : OnlyOperand text f p.prev_token_end → q.token.kind ≡ Question → Fails rule (Lex text) (third f) end (conditional_slots f) p.prev_token_end → Underived text (at Assignment f) p.prev_token_end
+  wrapped_fails na e n = fails_by (unassigned na.0 na.1 x (no_sign e) ▹✗ fails_rule {X' = after (at Assignment f)} (λ l cs vs y d. d) (branches_only e ▹✗ fails_node (inside_third f p.prev_token_end) n))
 
-  module _ {r : Parser} (na : Underived text (at Arrow' f) p.prev_token_end) (e : q.token.kind ≡ Question) (m : Moved text f q r) where
+  module _ {r : Parser} (na : OnlyOperand text f p.prev_token_end) (e : q.token.kind ≡ Question) (m : Moved text f q r) where
     asked : Path text f (third f) (conditional_slots f) p (symbol Assignment (plus_in f) ▸ tok Colon ▸ symbol Assignment f) r (tree x.label x.slots)
     unfolding covers
     asked = called x refl ⟶ token Question x.at e (plain_sign Question x.at e refl refl question_plain) refl m
@@ -241,9 +241,9 @@ no_conditional {text} {f} {p} {q} x n s = fails_rule {X' = after (at Assignment 
 -- ---- answers
 
 -- the test alone
-pub test_alone : {text : List ℕ} {f : Flags} {p q : Parser} {id : NodeId} → Underived text (at Arrow' f) p.prev_token_end → Numbered text f (at Short f) p q id → one_of_kinds (Question ∷ []) q.token.kind ≡ false → ((y : Lexeme) → Lex text q.prev_token_end y → IsTrue (seen an_assign y) → ⊥) → Numbered text f (at Assignment f) p q id
+pub test_alone : {text : List ℕ} {f : Flags} {p q : Parser} {id : NodeId} → OnlyOperand text f p.prev_token_end → Numbered text f (at Short f) p q id → one_of_kinds (Question ∷ []) q.token.kind ≡ false → ((y : Lexeme) → Lex text q.prev_token_end y → IsTrue (seen an_assign y) → ⊥) → Numbered text f (at Assignment f) p q id
 unfolding covers lift
-test_alone {text} {f} {p} a x n z = lift (at Assignment f) (at Conditional f) refl refl text p.prev_token_end (unassigned a x.answer z) refl
+test_alone {text} {f} {p} a x n z = lift (at Assignment f) (at Conditional f) refl refl text p.prev_token_end (unassigned a.0 a.1 x.answer z) refl
     (lift (at Conditional f) (at Short f) refl refl text p.prev_token_end (no_branches x.answer n) refl x (operand_assigned (row_of x.answer.label x.answer.slots) x.answer.row) (behind_test x.answer n))
     (operand_assigned (row_of x.answer.label x.answer.slots) x.answer.row) (behind_alone x.answer n z)
 
@@ -251,7 +251,7 @@ three_held : (o p q r w : Parser) {l a b c : Label} {ds es cs : Slots} {id x y z
 three_held o p q r w {x = x} {y = y} {z = z} n h i j k m = node_held n (HoldsAll-next z m (HoldsAll-two x y j h i) k)
 
 -- both branches were read
-pub conditional_answers : {text : List ℕ} {f : Flags} {p q r u v w z : Parser} {test first second id : NodeId} (s : Span) → At text f p → Underived text (at Arrow' f) p.prev_token_end → (x : Numbered text f (at Short f) p q test) → (e : q.token.kind ≡ Question) → (m : Moved text f q r) → (c : Numbered text f (at Assignment (plus_in f)) r u first) → (k : u.token.kind ≡ Colon) → (d : Moved text f u v) → (y : Numbered text f (at Assignment f) v w second) → s.start ≡ p.token.span.start → s.end ≡ w.prev_token_end
+pub conditional_answers : {text : List ℕ} {f : Flags} {p q r u v w z : Parser} {test first second id : NodeId} (s : Span) → At text f p → OnlyOperand text f p.prev_token_end → (x : Numbered text f (at Short f) p q test) → (e : q.token.kind ≡ Question) → (m : Moved text f q r) → (c : Numbered text f (at Assignment (plus_in f)) r u first) → (k : u.token.kind ≡ Colon) → (d : Moved text f u v) → (y : Numbered text f (at Assignment f) v w second) → s.start ≡ p.token.span.start → s.end ≡ w.prev_token_end
     → MadeHere (plain_label node.ConditionalExpression op.None s) (Some test ∷ Some first ∷ Some second ∷ []) w z id → Numbered text f (at Assignment f) p z id
 conditional_answers {text} {f} {p} {q} {r} {u} {v} {w} {z} {test} {first} {second} {id} s a na x e m c k d y g h n =
     let l : plain_label node.ConditionalExpression op.None s ≡ label_here conditional_expression no_op p w = rw (g, h) refl in

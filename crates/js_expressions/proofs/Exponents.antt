@@ -48,7 +48,7 @@ use Rattle.js_expressions.specs.Exponents.{ChecksBase, unary_base}
 use Rattle.js_parsing.specs.Lexemes.{Lex}
 use Rattle.js_parsing.specs.Operators.{unary_kinds}
 use Rattle.js_parsing.specs.States.{At}
-use Rattle.js_parsing.specs.Moves.{Moved, MadeHere, IsWholeHere, plain_label}
+use Rattle.js_parsing.specs.Moves.{Moved, MadeHere, IsWholeHere, plain_label, unpassable}
 use Rattle.js_parsing.specs.Answers.{Grown, Verdict, clean, unclean, Stretch, Underived, Answer, Numbered}
 use Rattle.js_parsing.proofs.Signs.{plain_sign, other_kind}
 use Rattle.js_parsing.proofs.Dead.{fails_dead}
@@ -290,7 +290,7 @@ module _ {text : List ℕ} {f : Flags} {p q : Parser} {id : NodeId} (a : At text
   told {d} {r} h c y = subst (λ (z : Parser). Numbered text f (at Update f) p z id) (sym c.is) (record {
     answer = record {
       at = beside_errors x.answer.at (subst IsAt c.is c.at);
-      same = record { follows = follows_on x.answer.same.follows (subst (Follows q) c.is (keeps_follows c)); options = x.answer.same.options; ctx = x.answer.same.ctx; depth = x.answer.same.depth; visits = x.answer.same.visits; early = λ w. one_early _ q.errors y (x.answer.same.early w); lies = x.answer.same.lies };
+      same = record { follows = follows_on x.answer.same.follows (subst (Follows q) c.is (keeps_follows c)); options = x.answer.same.options; ctx = x.answer.same.ctx; depth = x.answer.same.depth; visits = x.answer.same.visits; early = λ w. one_early _ q.errors y (x.answer.same.early w); lies = x.answer.same.lies; meets = x.answer.same.meets };
       further = x.answer.further;
       label = x.answer.label;
       slots = x.answer.slots;
@@ -356,4 +356,4 @@ pub same_span : {s : Span} {from to : ℕ} → s.start ≡ from → s.end ≡ to
 same_span e g = λ i. record { start = e i; end = g i }
 
 pub star_whole : {text : List ℕ} {f : Flags} {p : Parser} → At text f p → p.token.kind ≡ Star2 → IsWholeHere p
-star_whole a k = (uncut a (ap (same_kind RAngle) k), ap is_last k)
+star_whole a k = (uncut a (ap (same_kind RAngle) k), ap unpassable k)

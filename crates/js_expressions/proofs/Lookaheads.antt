@@ -1,6 +1,6 @@
 -- What the lexeme behind an opening parenthesis says of the head of an arrow function (ECMA-262, 15.3).
-use Rattle.std.proofs.Common.{ℕ, ◌≡◌, List, Bool, true, false, IsTrue, Option, None, refl, sym, ap, subst, arith, ◌∙◌}
-use Rattle.std.specs.Prelude.{Result, Ok, Err, MatchResult}
+use Rattle.std.proofs.Common.{ℕ, ◌≡◌, List, Bool, true, false, IsTrue, None, refl, sym, ap, subst, arith, ◌∙◌}
+use Rattle.std.specs.Prelude.{Ok}
 use Rattle.std.proofs.lemmas.Bool.{false≢true}
 use Rattle.js_base.specs.declared.diagnostic.DiagnosticKind.TheVariants.{ExpectToken}
 use Rattle.js_base.specs.declared.kind.Kind.{Kind}
@@ -25,7 +25,7 @@ use Rattle.js_grammar.proofs.Looks.{covers, apart, not_both}
 use Rattle.js_lex.specs.Reading.{cut, is_right_angle, GivesLexeme}
 use Rattle.js_lex.proofs.Again.{cut_same}
 use Rattle.js_tree.specs.declared.id.NodeId.{NodeId}
-use Rattle.js_cursor.specs.Moves.{GivesUp, IsHere, OnlyMemory, Peeks}
+use Rattle.js_cursor.specs.Moves.{GivesUp, IsHere, Peeks}
 use Rattle.js_cursor.specs.Parsers.{Parser}
 use Rattle.js_cursor.specs.declared.stop.Stop.{Stop}
 use Rattle.js_operands.proofs.Links.{no_lhs_here}
@@ -36,7 +36,7 @@ use Rattle.js_parsing.specs.Operators.{unary_kinds}
 use Rattle.js_parsing.specs.States.{At}
 use Rattle.js_parsing.proofs.Classes.{here_ends}
 use Rattle.js_parsing.proofs.Dead.{live, lives}
-use Rattle.js_parsing.proofs.Giving.{gives_up, memory_stops}
+use Rattle.js_parsing.proofs.Giving.{gives_up}
 use Rattle.js_parsing.proofs.Here.{one_plain, plainly, told, uncut}
 use Rattle.js_parsing.proofs.Moving.{stops_behind, stops_so}
 use Rattle.js_parsing.proofs.Paths.{at_kind, fails_at}
@@ -45,7 +45,7 @@ use Rattle.js_parsing.proofs.Verdicts.{after as grown_behind}
 use Rattle.js_patterns.specs.Parameters.{parameters_left}
 use Rattle.js_patterns.proofs.ParameterLists.{no_params}
 use Rattle.js_grammar.specs.Grammar.{alt}
-use Rattle.js_expressions.specs.Arrows.{FindsHead, IsHeadHere, NoArrowHere, NoAssignment, SearchesHead, Unmoved}
+use Rattle.js_expressions.specs.Arrows.{IsHeadHere, NoArrowHere, NoAssignment, Unmoved}
 use Rattle.js_expressions.specs.Lookaheads.{begins_operand, LooksAhead, NoOperandHere}
 use Rattle.js_expressions.specs.declared.lookahead.HeadLookahead.{HeadLookahead}
 use Rattle.js_expressions.specs.declared.lookahead.HeadLookahead.TheVariants as lookahead
@@ -158,11 +158,6 @@ module _ {p : Parser} (k : p.token.kind ≡ LParen) (n : NoOperandHere p) where
   arrow_missing {q} w e x m g = λ text f a.
       let y = (x text f a).answer in
       stops_behind w e y.same (λ d. grown_behind y.verdict d) (λ z. z) (gives_up (IsHere ExpectToken q None) q w e y.at g (here_ends ExpectToken refl) (unassigned a k (unarrowed a y m) (n text f a)))
-
--- an attempt
-pub attempted : (p q : Parser) (r : Result (Option NodeId) Stop) → MatchResult r (λ found. FindsHead p q found) OnlyMemory → SearchesHead p q r
-attempted p q (Ok found) h = h
-attempted p q (Err e) h = λ text f a. memory_stops p q e _ h
 
 -- what was seen
 pub head_alone : (p q : Parser) (h : HeadLookahead) → h ≡ lookahead.Head → LooksAhead p q h → (q ≡ p) × NoOperandHere p

@@ -15,6 +15,7 @@ use Rattle.js_cursor.specs.Parsers.{Parser}
 use Rattle.js_cursor.specs.Places.{IsAt}
 use Rattle.js_cursor.proofs.Changing.{noted_on}
 use Rattle.js_expressions.specs.Arrows.{NoArrowHere, NoHeadHere, Unmoved}
+use Rattle.js_parsing.proofs.ToEnd.{to_end_stays}
 use Rattle.js_parsing.specs.Heads.{NoHead, NotedHeads, throughout}
 use Rattle.js_parsing.specs.Lexemes.{Lex, spot}
 use Rattle.js_parsing.specs.States.{At, IsPlain, Standing, flags_of, whole, sign, nothing as none_stands, SpansLie}
@@ -85,7 +86,7 @@ pub noted_here : {p r q : Parser} {place : ℕ} → Standing p → Unmoved p r �
 noted_here {p} {r} {q} {place} a u n k i h = (
   record {
     at = λ text f b. at_noted text f (u.at text f b);
-    same = same_both u.same (record { follows = (noted_on (u.at _ _ a).at h).0; options = ap (λ (z : Parser). z.options) h.is; ctx = ap (λ (z : Parser). z.ctx) h.is; depth = ap (λ (z : Parser). z.depth) h.is; visits = ap (λ (z : Parser). z.visits) h.is; early = λ w. All-same IsEarly q.errors r.errors (ap (λ (z : Parser). z.errors) h.is) w; lies = λ w. subst SpansLie (sym h.is) w });
+    same = same_both u.same (record { follows = (noted_on (u.at _ _ a).at h).0; options = ap (λ (z : Parser). z.options) h.is; ctx = ap (λ (z : Parser). z.ctx) h.is; depth = ap (λ (z : Parser). z.depth) h.is; visits = ap (λ (z : Parser). z.visits) h.is; early = λ w. All-same IsEarly q.errors r.errors (ap (λ (z : Parser). z.errors) h.is) w; lies = λ w. subst SpansLie (sym h.is) w; meets = to_end_stays r q (ap (λ (z : Parser). z.text) h.is) (ap (λ (z : Parser). z.prev_token_end) h.is) });
     kept = ap (λ (z : Parser). z.errors) h.is ∙ u.kept;
     place = ap (λ (z : Parser). z.prev_token_end) h.is ∙ u.place;
     spot_is = ap spot h.is ∙ u.spot_is;

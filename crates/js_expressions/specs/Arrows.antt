@@ -2,20 +2,22 @@
 use Rattle.std.specs.Prelude.{ℕ, ◌≡◌, ◌<◌, ◌⊎◌, Bool, true, false, List, Option, Some, None, length, Result, Ok, Err}
 use Rattle.js_base.specs.declared.diagnostic.Diagnostic.{Diagnostic}
 use Rattle.js_base.specs.declared.diagnostic.DiagnosticKind.TheVariants.{LineterminatorBeforeArrow}
-use Rattle.js_base.specs.declared.kind.Kind.TheVariants.{Arrow}
+use Rattle.js_base.specs.declared.kind.Kind.TheVariants.{Arrow, LCurly}
+use Rattle.js_base.specs.Kinds.{same_kind}
 use Rattle.js_expressions.specs.Closings.{ArrowBehindOne}
 use Rattle.js_base.specs.declared.span.Span.{Span}
 use Rattle.js_grammar.specs.Trees.{Label, Slots, tree, formal_parameters, formal_parameter}
 use Rattle.js_grammar.specs.Grammar.{Lexeme, Lexemes, empty_slot, nothing, ◌▸◌, ◌◇◌}
 use Rattle.js_grammar.specs.Parsing.{plain, full}
-use Rattle.js_grammar.specs.Productions.{G, Flags, at, sym, mk, Arrow', Assignment, BindingIdentifier, Params}
+use Rattle.js_grammar.specs.Productions.{G, Flags, Symbol, at, sym, mk, Arrow', Assignment, BindingIdentifier, Body, Params}
 use Rattle.js_tree.specs.declared.id.NodeId.{NodeId}
 use Rattle.js_tree.specs.Holding.{Holds, Keeps as KeepsNodes}
 use Rattle.js_cursor.specs.Checkpoints.{GoesOn}
 use Rattle.js_cursor.specs.Moves.{Keeps}
 use Rattle.js_cursor.specs.Parsers.{Parser}
 use Rattle.js_cursor.specs.declared.stop.Stop.{Stop}
-use Rattle.js_parsing.specs.Answers.{Grown, Outcome, Stops, Stretch, Underived}
+use Rattle.js_parsing.specs.Answers.{Answers, Grown, Outcome, Stops, Stretch, Underived}
+use Rattle.js_parsing.specs.Contexts.{arrow_body, braced_body}
 use Rattle.js_parsing.specs.Heads.{NoHead, NotedHeads}
 use Rattle.js_parsing.specs.Lexemes.{Lex, Walked, spot}
 use Rattle.js_parsing.specs.States.{At, Same, NodesLie, SpansLie}
@@ -102,9 +104,14 @@ abbrev pub NoneLooked : Parser → Parser → Type 0
 NoneLooked p q = GoesOn p q × NotedHeads q × NoHeadHere p × (SpansLie p → NodesLie q.text q.nodes)
 
 -- a head was read; or none stands here, and the parser went on
-abbrev pub LooksForHead : Parser → Parser → Option NodeId → Type 0
-LooksForHead p q (Some id) = IsHeadHere p q id
-LooksForHead p q None = NoneLooked p q
+abbrev pub HeadOrNone : Parser → Parser → Option NodeId → Type 0
+HeadOrNone p q (Some id) = IsHeadHere p q id
+HeadOrNone p q None = NoneLooked p q
+
+-- the same, or the parser stopped where nothing is derived or a production would have to be built
+abbrev pub LooksForHead : Parser → Parser → Result (Option NodeId) Stop → Type 0
+LooksForHead p q (Ok found) = HeadOrNone p q found
+LooksForHead p q (Err e) = NoAssignment p q e
 
 -- whether `=>` stands behind the current lexeme
 abbrev pub ArrowBehind : Parser → Parser → Bool → Type 0
@@ -131,6 +138,15 @@ ChecksLine p q = ((p.token.is_on_new_line ≡ true) × Keeps (late_arrow p.token
 abbrev pub IsRefusedHead : ℕ → Parser → Bool → Type 0
 IsRefusedHead kept p true = (length p.errors ≡ kept → ⊥) × (p.token.kind ≡ Arrow)
 IsRefusedHead kept p false = Unit {0}
+
+-- the nonterminal of the body: in braces, or an expression
+abbrev pub body_of : Bool → Flags → Symbol
+body_of true f = at Body (braced_body f)
+body_of false f = at Assignment (arrow_body f)
+
+-- a body in braces was read where a brace stands, else an expression
+abbrev pub ReadsArrowBody : Parser → Parser → Result NodeId Stop → Type 0
+ReadsArrowBody p q r = (b : Bool) × (same_kind LCurly p.token.kind ≡ b) × Answers (body_of b) p q r
 
 -- An arrow function is read on from its `=>`: what stands before that was read from the state o on.
 abbrev pub ReadsBody : ℕ → NodeId → Parser → Parser → Result NodeId Stop → Type 0

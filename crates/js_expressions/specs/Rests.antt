@@ -1,8 +1,10 @@
 -- What is read behind something that was read before.
-use Rattle.std.specs.Prelude.{ℕ, ◌≡◌, ◌≤◌, true, List, [], ◌∷◌, length, Result}
+use Rattle.std.specs.Prelude.{ℕ, ◌≡◌, ◌≤◌, true, false, List, [], ◌∷◌, length, Result}
 use Rattle.js_base.specs.declared.kind.Kind.{Kind}
-use Rattle.js_base.specs.declared.kind.Kind.TheVariants.{Question, Plus2, Minus2}
+use Rattle.js_base.specs.declared.kind.Kind.TheVariants.{Question, Plus2, Minus2, LCurly}
 use Rattle.js_base.specs.declared.span.Span.{Span}
+use Rattle.js_base.specs.Kinds.{same_kind}
+use Rattle.js_grammar.specs.Grammar.{Lexeme}
 use Rattle.js_grammar.specs.Marks.{LexemeAt, of_kinds}
 use Rattle.js_grammar.specs.Productions.{Flags, at, Arrow', Assignment, Short}
 use Rattle.js_tree.specs.declared.id.NodeId.{NodeId}
@@ -11,11 +13,23 @@ use Rattle.js_cursor.specs.Parsers.{Parser}
 use Rattle.js_cursor.specs.Places.{goal}
 use Rattle.js_cursor.specs.declared.stop.Stop.{Stop}
 use Rattle.js_parsing.specs.Answers.{Numbered, Outcome, Underived}
+use Rattle.js_parsing.specs.Lexemes.{Lex}
 use Rattle.js_parsing.specs.States.{At}
 
--- A ShortCircuitExpression was read up to the old state, where no arrow function is derived; what is read now makes an AssignmentExpression of it.
+-- no brace that opens stands at the place
+abbrev pub Unbraced : List ℕ → ℕ → Type 0
+Unbraced text s = (y : Lexeme) → Lex text s y → same_kind LCurly y.kind ≡ false
+
+-- neither an object literal nor an arrow function begins at the place
+abbrev pub OnlyOperand : List ℕ → Flags → ℕ → Type 0
+OnlyOperand text f s = Unbraced text s × Underived text (at Arrow' f) s
+
+abbrev pub OnlyOperandHere : Parser → Type 0
+OnlyOperandHere p = (text : List ℕ) (f : Flags) → At text f p → OnlyOperand text f p.prev_token_end
+
+-- A ShortCircuitExpression was read up to the old state, where no object literal and no arrow function begins; what is read now makes an AssignmentExpression of it.
 abbrev pub ReadsConditional : ℕ → NodeId → Parser → Parser → Result NodeId Stop → Type 0
-ReadsConditional start id old new r = (text : List ℕ) (f : Flags) (first : Parser) → At text f first → Underived text (at Arrow' f) first.prev_token_end → start ≡ first.token.span.start → Numbered text f (at Short f) first old id → Outcome text f (at Assignment f) first new r
+ReadsConditional start id old new r = (text : List ℕ) (f : Flags) (first : Parser) → At text f first → OnlyOperand text f first.prev_token_end → start ≡ first.token.span.start → Numbered text f (at Short f) first old id → Outcome text f (at Assignment f) first new r
 
 -- the `?` of a conditional expression stood there, before the current lexeme
 pub record Asked (p : Parser) (question : Span) : Type 0 where
@@ -27,6 +41,6 @@ update_kinds = Plus2 ∷ Minus2 ∷ []
 
 -- An array literal was read up to the old state, by a call before which so many diagnostics were kept; with what is read now it is an assignment.
 abbrev pub AssignsArray : ℕ → NodeId → ℕ → Parser → Parser → Result NodeId Stop → Type 0
-AssignsArray start id kept old new r = (text : List ℕ) (f : Flags) (first : Parser) → At text f first → Underived text (at Arrow' f) first.prev_token_end → start ≡ first.token.span.start → kept ≡ length first.errors → (x : Numbered text f (at Short f) first old id) → is_array x.answer.label.kind ≡ true → Outcome text f (at Assignment f) first new r
+AssignsArray start id kept old new r = (text : List ℕ) (f : Flags) (first : Parser) → At text f first → OnlyOperand text f first.prev_token_end → start ≡ first.token.span.start → kept ≡ length first.errors → (x : Numbered text f (at Short f) first old id) → is_array x.answer.label.kind ≡ true → Outcome text f (at Assignment f) first new r
 
 -- ---- array targets (13.15.5)

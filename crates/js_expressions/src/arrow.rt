@@ -1,12 +1,12 @@
 //! Arrow functions (ECMA-262, section 15.3).
 
-ghost use Rattle.std.specs.Prelude.{true, ◌≡◌, ◌≤◌, MatchResult, IfOk, IsCharBoundary};
+ghost use Rattle.std.specs.Prelude.{true, ◌≡◌, ◌≤◌, ◌+◌, MatchResult, IfOk, IsCharBoundary};
 ghost use Rattle.js_base.specs.declared.kind.Kind.TheVariants.{Arrow, LParen};
 ghost use Rattle.js_base.specs.Kinds.{one_of_kinds};
 ghost use Rattle.js_cursor.specs.Moves.{OnlyMemory};
 ghost use Rattle.js_grammar.specs.Productions.{at, Params};
 ghost use Rattle.js_parsing.specs.Answers.{Answers};
-ghost use Rattle.js_expressions.specs.Arrows.{ArrowBehind, ChecksLine, FindsHead, IsHead, LooksForHead, ReadsBody, ReadsHead, SearchesHead, Single};
+ghost use Rattle.js_expressions.specs.Arrows.{ArrowBehind, ChecksLine, FindsHead, IsHead, LooksForHead, ReadsArrowBody, ReadsBody, ReadsHead, SearchesHead, Single};
 ghost use Rattle.js_expressions.specs.Lookaheads.{NoOperandHere};
 ghost use Rattle.js_parsing.specs.Lexemes.{name_kinds};
 ghost use Rattle.js_parsing.specs.Nesting.{CanNest, room};
@@ -19,9 +19,9 @@ use js_base::{DiagnosticKind, Kind, NoMemory};
 use js_cursor::{ParserImpl, Stop};
 use js_lex::ParserConfig;
 use js_operands::primary::parse_leaf;
-use js_parsing::context::assignment_in_arrow;
+use js_parsing::context::{assignment_in_arrow, body_in_arrow};
 use js_parsing::diagnostics::{diagnostic_at, kept_so_far};
-use js_parsing::lexemes::{advance, name_stands, stands};
+use js_parsing::lexemes::{advance, name_stands, stands, stopped_unbuilt};
 use js_parsing::nested::Nested;
 use js_parsing::nodes::{make_one, make_two, make_with_optional};
 use js_patterns::parameters::parse_formal_parameters;
@@ -123,7 +123,7 @@ fn parse_certain_head<C: ParserConfig, N: Nested<C>>(
 }
 
 /// FormalParameters in parentheses, where `=>` stands behind them: an attempt, which is taken back where it fails. That is
-/// noted, and not tried again.
+/// noted, and not tried again. `Fatal` where it stops at a production that isn't built yet.
 #[inline(never)]
 fn try_parse_parenthesized_head<C: ParserConfig, N: Nested<C>>(
     p: &mut ParserImpl<'_, C>,
@@ -132,7 +132,7 @@ fn try_parse_parenthesized_head<C: ParserConfig, N: Nested<C>>(
     requires at { Standing p.old }
     requires nests { CanNest (N.can nested.now) (room p.old) }
     requires open { p.old.token.kind ≡ LParen }
-    ensures { MatchResult result (λ found. FindsHead p.old p.new found) OnlyMemory }
+    ensures { SearchesHead p.old p.new result }
 {
     let place = p.prev_token_end();
     if p.arrow_failed(place) {
@@ -148,7 +148,8 @@ fn try_parse_parenthesized_head<C: ParserConfig, N: Nested<C>>(
 }
 
 /// FormalParameters in parentheses, where they can be read and `=>` stands behind them, also where something is told of
-/// them. None: no arrow function stands here, and the parser is somewhere behind.
+/// them. None: no arrow function stands here, and the parser is somewhere behind. `Fatal` where a production stopped them
+/// that isn't built yet: nothing is said of heads then.
 fn parse_parenthesized_head<C: ParserConfig, N: Nested<C>>(
     p: &mut ParserImpl<'_, C>,
     nested: &N,
@@ -156,7 +157,7 @@ fn parse_parenthesized_head<C: ParserConfig, N: Nested<C>>(
     requires at { Standing p.old }
     requires nests { CanNest (N.can nested.now) (room p.old) }
     requires open { p.old.token.kind ≡ LParen }
-    ensures { MatchResult result (λ found. LooksForHead p.old p.new found) OnlyMemory }
+    ensures { LooksForHead p.old p.new result }
 {
     let start = p.prev_token_end();
     let kept = kept_so_far(p);
@@ -168,7 +169,13 @@ fn parse_parenthesized_head<C: ParserConfig, N: Nested<C>>(
                 Ok(None)
             }
         }
-        Err(Stop::Fatal) => Ok(None),
+        Err(Stop::Fatal) => {
+            if stopped_unbuilt(p) {
+                Err(Stop::Fatal)
+            } else {
+                Ok(None)
+            }
+        }
         Err(Stop::NoMemory) => Err(Stop::NoMemory),
     }
 }
@@ -210,11 +217,26 @@ pub(crate) fn parse_arrow_function_expression<C: ParserConfig, N: Nested<C>>(
 {
     check_line(p)?;
     advance(p)?;
-    let body = assignment_in_arrow(p, nested)?;
+    let body = parse_arrow_body(p, nested)?;
     let span = p.end_span(start);
     let kind = NodeKind::ArrowFunctionExpression;
     let node = make_two(p, kind, Op::None, span, parameters, body)?;
     Ok(node)
+}
+
+/// The body of an arrow function (ECMA-262, section 15.3): in braces, or an expression.
+fn parse_arrow_body<C: ParserConfig, N: Nested<C>>(
+    p: &mut ParserImpl<'_, C>,
+    nested: &N,
+) -> Result<NodeId, Stop>
+    requires at { Standing p.old }
+    requires nests { CanNest (N.can nested.now) (room p.old + 1) }
+    ensures { ReadsArrowBody p.old p.new result }
+{
+    if p.at(Kind::LCurly) {
+        return body_in_arrow(p, nested);
+    }
+    assignment_in_arrow(p, nested)
 }
 
 /// Tells of `=>` on a new line.

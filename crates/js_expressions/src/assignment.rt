@@ -8,10 +8,10 @@ ghost use Rattle.js_grammar.specs.Marks.{Mark};
 ghost use Rattle.js_cursor.specs.Places.{goal};
 ghost use Rattle.js_grammar.specs.Productions.{at, Assignment};
 ghost use Rattle.js_parsing.specs.Answers.{Answers};
-ghost use Rattle.js_expressions.specs.Arrows.{IsRefusedHead, NoArrowHere};
+ghost use Rattle.js_expressions.specs.Arrows.{IsRefusedHead};
 ghost use Rattle.js_parsing.specs.Nesting.{CanNest, room};
 ghost use Rattle.js_targets.specs.Taken.{ArrayRead, not_simple_at};
-ghost use Rattle.js_expressions.specs.Rests.{AssignsArray, Asked, ReadsConditional};
+ghost use Rattle.js_expressions.specs.Rests.{AssignsArray, Asked, OnlyOperandHere, ReadsConditional};
 ghost use Rattle.js_parsing.specs.Moves.{Passes};
 ghost use Rattle.js_parsing.specs.States.{Standing};
 
@@ -31,7 +31,7 @@ use js_targets::array_target::array_target;
 use js_targets::cover::{cover, is_array_literal, refuse_target, tell_not_simple};
 use js_tree::{NodeId, NodeKind, Op};
 
-/// An AssignmentExpression (ECMA-262, section 13.15).
+/// An AssignmentExpression (ECMA-262, section 13.15); none begins with a brace yet.
 pub fn parse_assignment_expression<C: ParserConfig, N: Nested<C>>(
     p: &mut ParserImpl<'_, C>,
     nested: &N,
@@ -40,6 +40,9 @@ pub fn parse_assignment_expression<C: ParserConfig, N: Nested<C>>(
     requires nests { CanNest (N.can nested.now) (room p.old) }
     ensures { Answers (at Assignment) p.old p.new result }
 {
+    if p.at(Kind::LCurly) {
+        return Err(p.set_unexpected());
+    }
     let start = p.cur_start();
     if let Some(parameters) = parse_arrow_head(p, nested)? {
         return parse_arrow_function_expression(p, nested, start, parameters);
@@ -70,7 +73,7 @@ fn parse_assignment_without_arrow<C: ParserConfig, N: Nested<C>>(
 ) -> Result<NodeId, Stop>
     requires at { Standing p.old }
     requires nests { CanNest (N.can nested.now) (room p.old) }
-    requires no_arrow { NoArrowHere p.old }
+    requires operand { OnlyOperandHere p.old }
     ensures { Answers (at Assignment) p.old p.new result }
 {
     let start = p.cur_start();

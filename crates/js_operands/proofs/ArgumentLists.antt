@@ -40,7 +40,7 @@ use Rattle.js_parsing.proofs.Giving.{gives_up}
 use Rattle.js_parsing.specs.Lexemes.{Lex, nowhere}
 use Rattle.js_parsing.specs.States.{At, Same, Standing, flags_of}
 use Rattle.js_parsing.specs.Nesting.{room}
-use Rattle.js_parsing.specs.Moves.{Moved, Moves}
+use Rattle.js_parsing.specs.Moves.{Moved, Moves, unpassable}
 use Rattle.js_parsing.specs.Answers.{Verdict, clean, Stretch, Stops}
 use Rattle.js_parsing.specs.Arguments.{item_of, items, list_of, rest_of, due_of, behind_item, NoItem, ItemTaken, TakesItem, Partway, Due, FindsDue}
 use Rattle.js_parsing.proofs.Signs.{plain_sign, other_kind}
@@ -151,7 +151,7 @@ no_comma_here a n = none_there Comma a refl n
 -- a comma was passed
 module _ {text : List ℕ} {f : Flags} {p q : Parser} (a : At text f p) (k : p.token.kind ≡ Comma) (v : MovesOn p q) where
   comma_moved : Moved text f p q
-  comma_moved = moves (uncut a (ap (same_kind RAngle) k), ap is_last k) v a
+  comma_moved = moves (uncut a (ap (same_kind RAngle) k), ap unpassable k) v a
 
   comma_stretch : (i : Bool) → Stretch text (plain full) (rest_of false (item_of i f)) p.prev_token_end (seq (after_comma true (such (item_of i f) always)) (tok RParen)) q.prev_token_end (λ us. us) (λ ls. next comma_moved.lexeme ls)
   unfolding covers
@@ -351,7 +351,7 @@ item_less l d y =
 
 -- the closing parenthesis
 pub closing_moved : {text : List ℕ} {f : Flags} {p q : Parser} → At text f p → p.token.kind ≡ RParen → MovesOn p q → Moved text f p q
-closing_moved a k v = moves (uncut a (ap (same_kind RAngle) k), ap is_last k) v a
+closing_moved a k v = moves (uncut a (ap (same_kind RAngle) k), ap unpassable k) v a
 
 pub closing_stops : (o p q : Parser) (e : Stop) (F : Type 0) (P : Diagnostic → Type 0) → p.token.kind ≡ RParen → (e ≡ Fatal → p.token.kind ≡ RParen → ⊥) × GivesUp P p q e → Stops o q e F
 closing_stops o p q Fatal F P k z = absurd (z.0 refl k)

@@ -40,7 +40,7 @@ use Rattle.js_parsing.specs.Answers.{Stretch, Underived, Numbered, Stops}
 use Rattle.js_parsing.specs.Arguments.{Partway, ItemTaken, NoItem}
 use Rattle.js_operands.specs.Arrays.{elements, array_of, TakesElement, Elements}
 use Rattle.js_parsing.specs.Stands.{StandsHere}
-use Rattle.js_parsing.specs.Moves.{Moved, Moves, MadeHere, LeafTaken, TakesLeaf, plain_label}
+use Rattle.js_parsing.specs.Moves.{Moved, Moves, MadeHere, LeafTaken, TakesLeaf, plain_label, unpassable}
 use Rattle.js_parsing.specs.Nesting.{room}
 use Rattle.js_operands.proofs.ArgumentLists.{none_there}
 use Rattle.js_parsing.proofs.Bracketed.{opened_here, opened_later}
@@ -227,8 +227,8 @@ module _ {text : List ℕ} {f : Flags} {p : Parser} (a : At text f p) where
 -- what stands behind an element
 pub step_taken : {text : List ℕ} {f : Flags} {o p q : Parser} {ids js : List (Option NodeId)} (opening : Span) (s : ListStep) → Partway text f (elements f) (rest f) o p ids js → Steps RBrack opening false p q (Ok s) → Partway text f (elements f) (elements f) o q ids js
 step_taken {text} {f} {o} {p} {q} {ids} {js} opening Element x (n, inl z) = absurd (false≢true z.0)
-step_taken {text} {f} {o} {p} {q} {ids} {js} opening Element x (n, inr z) = parts x (rest_goes x.at z.1 js (moves (uncut x.at (ap (same_kind RAngle) z.1), ap is_last z.1) z.2 x.at))
-step_taken {text} {f} {o} {p} {q} {ids} {js} opening (EndAfterComma at) x z = parts x (rest_goes x.at z.1 js (moves (uncut x.at (ap (same_kind RAngle) z.1), ap is_last z.1) z.3 x.at))
+step_taken {text} {f} {o} {p} {q} {ids} {js} opening Element x (n, inr z) = parts x (rest_goes x.at z.1 js (moves (uncut x.at (ap (same_kind RAngle) z.1), ap unpassable z.1) z.2 x.at))
+step_taken {text} {f} {o} {p} {q} {ids} {js} opening (EndAfterComma at) x z = parts x (rest_goes x.at z.1 js (moves (uncut x.at (ap (same_kind RAngle) z.1), ap unpassable z.1) z.3 x.at))
 step_taken {text} {f} {o} {p} {q} {ids} {js} opening End x z = subst (λ (r : Parser). Partway text f (elements f) (elements f) o r ids js) (sym z.1) (part_goes x (rest_closes x.at z.0))
 
 pub step_stops : {text : List ℕ} {f : Flags} {o p : Parser} {ids js : List (Option NodeId)} (q : Parser) (e : Stop) (opening : Option Span) → Partway text f (elements f) (rest f) o p ids js → (e ≡ Fatal → (false ≡ false) × (p.token.kind ≡ RBrack → ⊥) × (p.token.kind ≡ Comma → ⊥)) × GivesUp (IsHere ExpectClosingOrSeparator p opening) p q e → Stops o q e (Fails rule (Lex text) (plain full) end (elements f) o.prev_token_end)
@@ -280,7 +280,7 @@ pub loop_stops : {s : Span} {ids : List (Option NodeId)} {text : List ℕ} {f : 
 loop_stops {text = text} {f} r e l a d = let y = l.goes text f a in stops_behind r e y.same (λ g. grown_behind y.verdict g) (λ n. part_path_fails y n) (d text f y.at)
 
 pub loop_end : {s : Span} {ids : List (Option NodeId)} {p q r : Parser} → ElementLoop s ids p q → q.token.kind ≡ RBrack → MovesOn q r → Elements ids p r
-loop_end {ids = ids} l k v text f a = let y = l.goes text f a in parts y (elements_end y.at k ids (moves (uncut y.at (ap (same_kind RAngle) k), ap is_last k) v y.at))
+loop_end {ids = ids} l k v text f a = let y = l.goes text f a in parts y (elements_end y.at k ids (moves (uncut y.at (ap (same_kind RAngle) k), ap unpassable k) v y.at))
 
 -- ---- the node
 

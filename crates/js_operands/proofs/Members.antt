@@ -50,7 +50,7 @@ use Rattle.js_parsing.specs.Lexemes.{Lex, is_read, read_kinds, read_word}
 use Rattle.js_parsing.specs.States.{At, Same, Standing}
 use Rattle.js_parsing.specs.Nesting.{room}
 use Rattle.js_parsing.proofs.Nesting.{nested_room, later_room}
-use Rattle.js_parsing.specs.Moves.{Moved, MadeHere, TakesLeaf, IsWholeHere, plain_label}
+use Rattle.js_parsing.specs.Moves.{Moved, MadeHere, TakesLeaf, IsWholeHere, plain_label, unpassable}
 use Rattle.js_parsing.specs.Answers.{Grown, Verdict, clean, Stretch, Underived, Numbered, Outcome, Stops, beside}
 use Rattle.js_parsing.specs.Stands.{StandsHere}
 use Rattle.js_operands.specs.Members.{no_link_behind, Taken, NoBareNew, NoMember, Headed, a_member, a_new, MemberSoFar, NoAccess, NoParen, NoLhs, HeadOutcome, link_kinds, LinkForm, by_name, by_call, by_index, indexed, admits, chained, sign_of, link_label, NoLink, OnlyLink, Linked, LinkHere, a_link, no_link, ReadsLink, WithArguments, MakesWithArguments, WithIndex, MakesWithIndex, LinkOutcome, Beyond, CallSoFar, ChainSoFar, Callee, a_head, a_call, CalleeOutcome, TellsChain}
@@ -112,7 +112,7 @@ words_read : covers (λ k w e. reads k w e && is_word k) read_words ≡ true
 unfolding covers
 words_read = refl
 
-read_are : covers read_words (λ k w e. one_of_kinds read_kinds k && (is_word k && (not (is_last k) && not (same_kind RAngle k)))) ≡ true
+read_are : covers read_words (λ k w e. one_of_kinds read_kinds k && (is_word k && (not (unpassable k) && not (same_kind RAngle k)))) ≡ true
 unfolding covers
 read_are = refl
 
@@ -122,9 +122,9 @@ no_angles = refl
 
 pub word_whole : {text : List ℕ} {f : Flags} {p : Parser} → At text f p → read_word p.token.kind ≡ true → IsWholeHere p
 word_whole {p = p} a r =
-    let z = covered read_words (λ k w e. one_of_kinds read_kinds k && (is_word k && (not (is_last k) && not (same_kind RAngle k)))) read_are p.token.kind false false r in
-    let x = and_parts (not (is_last p.token.kind)) (not (same_kind RAngle p.token.kind)) (and_parts (is_word p.token.kind) _ (and_parts (one_of_kinds read_kinds p.token.kind) _ z).1).1 in
-    (uncut_here (no (same_kind RAngle p.token.kind) x.1), no (is_last p.token.kind) x.0)
+    let z = covered read_words (λ k w e. one_of_kinds read_kinds k && (is_word k && (not (unpassable k) && not (same_kind RAngle k)))) read_are p.token.kind false false r in
+    let x = and_parts (not (unpassable p.token.kind)) (not (same_kind RAngle p.token.kind)) (and_parts (is_word p.token.kind) _ (and_parts (one_of_kinds read_kinds p.token.kind) _ z).1).1 in
+    (uncut_here (no (same_kind RAngle p.token.kind) x.1), no (unpassable p.token.kind) x.0)
   where
     no : (b : Bool) → not b ≡ true → b ≡ false
     no true h = absurd (false≢true h)
@@ -136,9 +136,9 @@ word_whole {p = p} a r =
 name_of : (text : List ℕ) (f : Flags) (p q : Parser) → At text f p → read_word p.token.kind ≡ true → p.token.escaped ≡ false → (s : Moved text f p q) → Path text f (after (at IdentifierName f)) (rule (at IdentifierName f)) p nothing q (tree (label_here identifier_name no_op p q) end)
 unfolding rule rule_of
 name_of text f p q a r n s =
-    let z = covered read_words (λ k w e. one_of_kinds read_kinds k && (is_word k && (not (is_last k) && not (same_kind RAngle k)))) read_are p.token.kind false false r in
-    let x = and_parts (one_of_kinds read_kinds p.token.kind) (is_word p.token.kind && (not (is_last p.token.kind) && not (same_kind RAngle p.token.kind))) z in
-    let w = (and_parts (is_word p.token.kind) (not (is_last p.token.kind) && not (same_kind RAngle p.token.kind)) x.1).0 in
+    let z = covered read_words (λ k w e. one_of_kinds read_kinds k && (is_word k && (not (unpassable k) && not (same_kind RAngle k)))) read_are p.token.kind false false r in
+    let x = and_parts (one_of_kinds read_kinds p.token.kind) (is_word p.token.kind && (not (unpassable p.token.kind) && not (same_kind RAngle p.token.kind))) z in
+    let w = (and_parts (is_word p.token.kind) (not (unpassable p.token.kind) && not (same_kind RAngle p.token.kind)) x.1).0 in
     let l : IsTrue (is_read s.lexeme) = read_of s.lexeme (sym s.tells.kind) (sym s.tells.escaped ∙ n) x.0 in
     noded a (record { at = s.at; further = s.further; pass = _; walked = walked_one s; verdict = clean s.kept (record { reach = 0; near = omega arith; goes = passes_test a any_word s l (subst (λ k. is_word k ≡ true) s.tells.kind w) }) })
 
@@ -213,7 +213,7 @@ wrap_taken {text} {f} {C} {D} {A} {B} {o} {p} {w} {left} {id} {l} x n i r good b
 taken_out : {text : List ℕ} {f : Flags} {C : Label → Slots → (Lexemes → Lexemes) → ℕ → Type 0} {A : Type 0} {p q : Parser} {id : NodeId} (k j : ℕ) → j ≡ p.depth → IsAt p → Taken text f (record p { depth = k }) q id C A → Taken text f p (record q { depth = j }) id C A
 taken_out {p = p} {q = q} k j e a x = record {
   at = elsewhere q.nodes j x.at;
-  same = record { follows = follows_on (at_depth k a) (follows_on x.same.follows (at_depth j x.at.at)); options = x.same.options; ctx = x.same.ctx; depth = e; visits = x.same.visits; early = x.same.early; lies = x.same.lies };
+  same = record { follows = follows_on (at_depth k a) (follows_on x.same.follows (at_depth j x.at.at)); options = x.same.options; ctx = x.same.ctx; depth = e; visits = x.same.visits; early = x.same.early; lies = x.same.lies; meets = x.same.meets };
   further = x.further;
   label = x.label;
   slots = x.slots;
@@ -766,7 +766,7 @@ module _ {text : List ℕ} {f : Flags} {p q : Parser} (a : At text f p) (k : p.t
     unclosed_stops opening o NoMemory z = tt
 
     pub index_closed : {u : Parser} → r.token.kind ≡ RBrack → MovesOn r u → Moved text f r u
-    index_closed c v = moves (uncut x.answer.at (ap (same_kind RAngle) c), ap is_last c) v x.answer.at
+    index_closed c v = moves (uncut x.answer.at (ap (same_kind RAngle) c), ap unpassable c) v x.answer.at
 
     pub index_part : {u : Parser} (ids : List (Option NodeId)) → r.token.kind ≡ RBrack → Moved text f r u → Partway text f (indexed f) nothing p u ids (ids ++ Some index ∷ [])
     index_part ids c d = parts (index_read ids) (part_last RBrack x.answer.at c (plain_sign RBrack x.answer.at c refl refl closing_plain) refl d)

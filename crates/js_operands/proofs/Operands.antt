@@ -3,7 +3,7 @@ use Rattle.std.proofs.Common.{ℕ, ◌≡◌, List, [], ◌∷◌, ◌++◌, len
 use Rattle.std.specs.Prelude.{Result, Ok, Err, MatchResult, Option, is_some, if◌then◌else◌}
 use Rattle.std.proofs.lemmas.Bool.{false≢true, or_left}
 use Rattle.js_base.specs.declared.kind.Kind.{Kind}
-use Rattle.js_base.specs.declared.kind.Kind.TheVariants.{This, Null, True, False, Decimal, Float, Binary, Octal, Hex, PositiveExponential, NegativeExponential, DecimalBigInt, BinaryBigInt, OctalBigInt, HexBigInt, Str, LParen, LBrack, Percent, Minus, Plus, Bang, Tilde, Typeof, Void, Delete, Function}
+use Rattle.js_base.specs.declared.kind.Kind.TheVariants.{This, Null, True, False, Decimal, Float, Binary, Octal, Hex, PositiveExponential, NegativeExponential, DecimalBigInt, BinaryBigInt, OctalBigInt, HexBigInt, Str, LParen, LBrack, LCurly, Percent, Minus, Plus, Bang, Tilde, Typeof, Void, Delete, Function}
 use Rattle.js_base.specs.declared.operator.UnaryOperator.{UnaryOperator}
 use Rattle.js_base.specs.Kinds.{same_kind, one_of_kinds}
 use Rattle.js_base.specs.KindSets.{number_kinds}
@@ -36,13 +36,13 @@ use Rattle.js_cursor.specs.Parsers.{Parser}
 use Rattle.js_cursor.specs.Moves.{OnlyMemory}
 use Rattle.js_cursor.specs.declared.stop.Stop.{Stop}
 use Rattle.js_cursor.specs.declared.stop.Stop.TheVariants.{Fatal, NoMemory}
-use Rattle.js_parsing.specs.Lexemes.{Lex, is_read, name_kinds, read_kinds}
+use Rattle.js_parsing.specs.Lexemes.{Lex, is_read, name_kinds, read_kinds, unbuilt_kinds}
 use Rattle.js_parsing.specs.States.{At, Same, NodesLie}
 use Rattle.js_parsing.specs.Moves.{Moved, MadeHere, LeafTaken, TakesLeaf, plain_label}
 use Rattle.js_parsing.specs.Answers.{Underived, Answer, Numbered, Outcome, beside}
 use Rattle.js_operands.specs.Numbers.{node_of_number, op_of_number}
 use Rattle.js_parsing.specs.Operators.{unary_kinds}
-use Rattle.js_parsing.proofs.Moving.{same_both, same_with, beside_nodes}
+use Rattle.js_parsing.proofs.Moving.{neither, same_both, same_with, beside_nodes}
 use Rattle.js_parsing.proofs.Dead.{live, lives}
 use Rattle.js_parsing.proofs.NameKinds.{at_name, name_passes, name_read, name_test}
 use Rattle.js_parsing.proofs.MadeNodes.{leaf_held, one_held, LabelLies, from_start, one_lies}
@@ -211,7 +211,7 @@ unary_answers {text} {f} {p} {q} {r} {w} {id} {arg} k o s h u a e n m x b c d =
 
 -- what a PrimaryExpression begins with
 abbrev pub primary_kinds : List Kind
-primary_kinds = This ∷ Null ∷ True ∷ False ∷ Str ∷ LParen ∷ LBrack ∷ Percent ∷ number_kinds ++ name_kinds
+primary_kinds = This ∷ Null ∷ True ∷ False ∷ Str ∷ LParen ∷ LBrack ∷ LCurly ∷ Percent ∷ number_kinds ++ name_kinds
 
 pub primary_fails : {text : List ℕ} {f : Flags} {p : Parser} → At text f p → one_of_kinds primary_kinds p.token.kind ≡ false → Underived text (at Primary f) p.prev_token_end
 unfolding rule rule_of covers apart
@@ -229,16 +229,15 @@ not_same a k b n = go (same_kind a k) refl
     go true e = absurd (n (sym (kind_of_same a k e)))
     go false e = refl
 
-neither : (a b : Bool) → (a || b) ≡ false → (a ≡ false) × (b ≡ false)
-neither true b h = absurd (false≢true (sym h))
-neither false b h = (refl, h)
-
 neither_list : (ks ls : List Kind) (k : Kind) → one_of_kinds ks k ≡ false → one_of_kinds ls k ≡ false → one_of_kinds (ks ++ ls) k ≡ false
 neither_list [] ls k h i = i
 neither_list (a ∷ ks) ls k h i = let z = neither (same_kind a k) (one_of_kinds ks k) h in rw (z.0, neither_list ks ls k z.1 i) refl
 
-pub none_of_these : (k : Kind) → one_of_kinds name_kinds k ≡ false → (k ≡ This → ⊥) → (k ≡ Null → ⊥) → (k ≡ True → ⊥) → (k ≡ False → ⊥) → (k ≡ Str → ⊥) → (k ≡ LParen → ⊥) → (k ≡ LBrack → ⊥) → (k ≡ Percent → ⊥) → one_of_kinds number_kinds k ≡ false → one_of_kinds primary_kinds k ≡ false
-none_of_these k a b c d e f g j h n = not_same This k _ b ∙ (not_same Null k _ c ∙ (not_same True k _ d ∙ (not_same False k _ e ∙ (not_same Str k _ f ∙ (not_same LParen k _ g ∙ (not_same LBrack k _ j ∙ (not_same Percent k _ h ∙ neither_list number_kinds name_kinds k n a)))))))
+pub none_of_these : (k : Kind) → one_of_kinds name_kinds k ≡ false → (k ≡ This → ⊥) → (k ≡ Null → ⊥) → (k ≡ True → ⊥) → (k ≡ False → ⊥) → (k ≡ Str → ⊥) → (k ≡ LParen → ⊥) → (k ≡ LBrack → ⊥) → one_of_kinds unbuilt_kinds k ≡ false → (k ≡ Percent → ⊥) → one_of_kinds number_kinds k ≡ false → one_of_kinds primary_kinds k ≡ false
+none_of_these k a b c d e f g j u h n = not_same This k _ b ∙ (not_same Null k _ c ∙ (not_same True k _ d ∙ (not_same False k _ e ∙ (not_same Str k _ f ∙ (not_same LParen k _ g ∙ (not_same LBrack k _ j ∙ (no_brace ∙ (not_same Percent k _ h ∙ neither_list number_kinds name_kinds k n a))))))))
+  where
+    no_brace : (same_kind LCurly k || one_of_kinds (Percent ∷ (number_kinds ++ name_kinds)) k) ≡ one_of_kinds (Percent ∷ (number_kinds ++ name_kinds)) k
+    no_brace = ap (λ (b : Bool). b || one_of_kinds (Percent ∷ (number_kinds ++ name_kinds)) k) (neither (same_kind LCurly k) false u).0
 
 -- a number, read so
 pub number_outcome : (text : List ℕ) (f : Flags) (p q : Parser) (nk : NodeKindMade) (o : OpMade) (k : Kind) (r : Result NodeId Stop) → one_of_kinds number_kinds p.token.kind ≡ true → k ≡ p.token.kind → nk ≡ node_of_number k → o ≡ op_of_number k → At text f p → p.token.escaped ≡ false → MatchResult r (λ id. TakesLeaf nk o p q id) OnlyMemory → Outcome text f (at Primary f) p q r

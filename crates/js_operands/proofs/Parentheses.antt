@@ -30,7 +30,7 @@ use Rattle.js_cursor.specs.declared.stop.Stop.{Stop}
 use Rattle.js_cursor.specs.declared.stop.Stop.TheVariants.{Fatal, NoMemory}
 use Rattle.js_parsing.specs.Lexemes.{Lex}
 use Rattle.js_parsing.specs.States.{At}
-use Rattle.js_parsing.specs.Moves.{Passes}
+use Rattle.js_parsing.specs.Moves.{Passes, unpassable}
 use Rattle.js_operands.specs.Marked.{is_function, Marks}
 use Rattle.js_parsing.specs.Moves.{Moved, MadeHere, IsWholeHere, plain_label}
 use Rattle.js_parsing.specs.Answers.{clean, unclean, Stretch, Underived, Answer, Numbered, Stops}
@@ -151,7 +151,7 @@ paren_answers {text} {f} {p} {q} {r} {u} {v} {w} {inside} {id} s a k m x c d g b
 
 -- what `expect_closing` answers
 pub closes : (p q : Parser) (opening : Span) (r : Result (Unit {0}) Stop) → Expects (λ p. p.token.kind ≡ RParen) ExpectClosing (Some opening) p q r → Passes RParen p q r
-closes p q opening (Ok x) e = (e.0, λ text f a. moves (uncut a (ap (same_kind RAngle) e.0), ap is_last e.0) e.1 a)
+closes p q opening (Ok x) e = (e.0, λ text f a. moves (uncut a (ap (same_kind RAngle) e.0), ap unpassable e.0) e.1 a)
 closes p q opening (Err Fatal) e = (λ z k. e.0 refl k, gives_up_by p q Fatal e.1 (here_ends ExpectClosing refl))
 closes p q opening (Err NoMemory) e = (λ z k. e.0 z k, tt)
 
@@ -160,4 +160,4 @@ unclosed p q Fatal a h g = gives_up EndsParse p q Fatal a h.1 (λ d u. u) (g (ot
 unclosed p q NoMemory a h g = tt
 
 pub paren_whole : {text : List ℕ} {f : Flags} {p : Parser} → At text f p → p.token.kind ≡ LParen → IsWholeHere p
-paren_whole a k = (uncut a (ap (same_kind RAngle) k), ap is_last k)
+paren_whole a k = (uncut a (ap (same_kind RAngle) k), ap unpassable k)

@@ -6,7 +6,7 @@ use Rattle.std.proofs.lemmas.List.Elements.{All-same}
 use Rattle.js_base.specs.declared.diagnostic.Diagnostic.{Diagnostic}
 use Rattle.js_base.specs.declared.diagnostic.DiagnosticKind.TheVariants.{OptionalChainTaggedTemplate}
 use Rattle.js_base.specs.declared.kind.Kind.{Kind}
-use Rattle.js_base.specs.declared.kind.Kind.TheVariants.{RAngle, RCurly, TemplateMiddle, TemplateTail, Undetermined}
+use Rattle.js_base.specs.declared.kind.Kind.TheVariants.{LCurly, RAngle, RCurly, TemplateMiddle, TemplateTail, Undetermined}
 use Rattle.js_base.specs.declared.span.Span.{Span}
 use Rattle.js_base.specs.Kinds.{same_kind, one_of_kinds}
 use Rattle.js_base.specs.Spans.{LiesIn}
@@ -19,6 +19,7 @@ use Rattle.js_grammar.specs.LexicalFaults.{Reached}
 use Rattle.js_grammar.specs.Marks.{Mark, EdgeOf, IsLexemeOf, the_start, the_end, a_lexeme}
 use Rattle.js_grammar.specs.Productions.{Flags, Symbol}
 use Rattle.js_grammar.specs.Settings.{Goal}
+use Rattle.js_grammar.proofs.Calculus.{here_at}
 use Rattle.js_grammar.proofs.Looks.{covers, covered}
 use Rattle.js_lex.specs.Comments.{each_at, comment_at, irregular_at, html_fault_at}
 use Rattle.js_lex.specs.Reading.{cut, in_a_module, is_kept, is_right_angle, Tells, GivesLexeme, GivesNone, LexemeBehind, Outcome}
@@ -44,31 +45,32 @@ use Rattle.js_cursor.proofs.Moving.{lexeme_some}
 use Rattle.js_parsing.specs.Answers.{Grown, Numbered, Stops, unclean}
 use Rattle.js_parsing.specs.Classes.{IsEarly}
 use Rattle.js_parsing.specs.Heads.{NotedHeads}
-use Rattle.js_parsing.specs.Lexemes.{Lex, KeptFor, News, Spot, TriviaKept, Walked, nowhere, one_more, onward, read_kinds, spot}
-use Rattle.js_parsing.specs.Moves.{MadeHere, plain_label}
+use Rattle.js_parsing.specs.Lexemes.{Lex, KeptFor, Braceless, News, NoneToEnd, TriviaKept, Walked, nowhere, one_more, more_faults, onward, read_kinds, spot, with_faults}
+use Rattle.js_parsing.specs.Moves.{MadeHere, unpassable, plain_label}
 use Rattle.js_parsing.specs.Nesting.{room}
 use Rattle.js_parsing.specs.States.{At, IsPlain, whole, sign, nothing as none_stands, Same, flags_of}
 use Rattle.js_parsing.specs.Told.{unrelated_at}
 use Rattle.js_parsing.proofs.Classes.{unexpected_ends}
 use Rattle.js_parsing.proofs.Giving.{fails_none, kept_one}
-use Rattle.js_parsing.proofs.Here.{found, told, uncut}
-use Rattle.js_parsing.proofs.Kept.{faults_aside, kept_for}
+use Rattle.js_parsing.proofs.Here.{found, kind_here, told, uncut}
+use Rattle.js_parsing.proofs.Kept.{kept_for}
 use Rattle.js_parsing.proofs.KeptTokens.{again_before, again_last, before_next, next_kept_last, trivia_kept}
 use Rattle.js_parsing.proofs.MadeNodes.{leaf_held, made_lies, node_held, one_lies}
-use Rattle.js_parsing.proofs.Moving.{beside_nodes, flags_same, heads_kept, nodes_lie, plain_given, same_both, same_with, stops_behind, stops_so}
+use Rattle.js_parsing.proofs.Moving.{beside_nodes, flags_same, heads_kept, neither, nodes_lie, plain_given, same_both, same_with, stops_behind, stops_so}
 use Rattle.js_parsing.proofs.Paths.{walked_both, walked_to}
 use Rattle.js_parsing.proofs.Signs.{span_is}
 use Rattle.js_parsing.proofs.Told.{told_at, told_same}
+use Rattle.js_parsing.proofs.ToEnd.{to_end_none, to_end_stays}
 use Rattle.js_parsing.proofs.Verdicts.{either_way, grown_then}
 use Rattle.js_parsing.proofs.Verdicts.{after as grown_behind}
 use Rattle.js_operands.specs.Members.{LinkForm, NoLink, Taken}
-use Rattle.js_operands.specs.Templates.{BeginsPart, PartAt, PartBegun, Passed, Tagged, TakesPart, TellsTemplate, element_label, heads, inside_end, parts, tagged_label, with_faults, LastIs, last_parts}
+use Rattle.js_operands.specs.Templates.{BeginsPart, PartAt, PartBegun, Passed, Tagged, TakesPart, TellsTemplate, element_label, heads, inside_end, parts, tagged_label, LastIs, last_parts}
 use Rattle.js_operands.specs.declared.template.PassedPart.{PassedPart}
 use Rattle.js_operands.proofs.PartInsides.{IsInside, part_inside}
 
 -- ---- kinds of parts
 
-part_kinds : covers (λ k w e. one_of_kinds parts k) (λ k w e. is_kept k && (not (is_last k) && not (same_kind RAngle k))) ≡ true
+part_kinds : covers (λ k w e. one_of_kinds parts k) (λ k w e. is_kept k && (not (unpassable k) && not (same_kind RAngle k))) ≡ true
 unfolding covers
 part_kinds = refl
 
@@ -85,12 +87,15 @@ is_so true h = refl
 is_so false h = absurd (false≢true (sym h))
 
 part_counts : (k : Kind) → one_of_kinds parts k ≡ true → is_kept k ≡ true
-part_counts k h = (and_parts (is_kept k) _ (covered (λ k w e. one_of_kinds parts k) (λ k w e. is_kept k && (not (is_last k) && not (same_kind RAngle k))) part_kinds k false false h)).0
+part_counts k h = (and_parts (is_kept k) _ (covered (λ k w e. one_of_kinds parts k) (λ k w e. is_kept k && (not (unpassable k) && not (same_kind RAngle k))) part_kinds k false false h)).0
+
+part_whole : (k : Kind) → one_of_kinds parts k ≡ true → (unpassable k ≡ false) × (same_kind RAngle k ≡ false)
+part_whole k h =
+    let z = and_parts (not (unpassable k)) (not (same_kind RAngle k)) (and_parts (is_kept k) _ (covered (λ k w e. one_of_kinds parts k) (λ k w e. is_kept k && (not (unpassable k) && not (same_kind RAngle k))) part_kinds k false false h)).1 in
+    (is_not (unpassable k) z.0, is_not (same_kind RAngle k) z.1)
 
 part_passes : (k : Kind) → one_of_kinds parts k ≡ true → (is_last k ≡ false) × (same_kind RAngle k ≡ false)
-part_passes k h =
-    let z = and_parts (not (is_last k)) (not (same_kind RAngle k)) (and_parts (is_kept k) _ (covered (λ k w e. one_of_kinds parts k) (λ k w e. is_kept k && (not (is_last k) && not (same_kind RAngle k))) part_kinds k false false h)).1 in
-    (is_not (is_last k) z.0, is_not (same_kind RAngle k) z.1)
+part_passes k h = part_whole k h
 
 head_part : (k : Kind) → one_of_kinds heads k ≡ true → (one_of_kinds parts k ≡ true) × (one_of_kinds read_kinds k ≡ false)
 head_part k h =
@@ -107,11 +112,11 @@ module _ {text : List ℕ} {f : Flags} {p : Parser} (a : At text f p) (h : one_o
   head_passes : (is_last p.token.kind ≡ false) × (same_kind RAngle p.token.kind ≡ false)
   head_passes = part_passes p.token.kind (head_part p.token.kind h).0
 
-  pub part_here : PartAt text f p
-  part_here = record { text_is = a.text_is; flags_are = a.flags_are; at = a.at; uncut = uncut a head_passes.1; part = (head_part p.token.kind h).0; behind = a.behind; heads = a.heads; kept_last = a.kept_last }
-
   pub none_read : (y : Lexeme) → Lex text p.prev_token_end y → ⊥
   none_read = unread a (uncut a head_passes.1) (head_part p.token.kind h).1
+
+  pub part_here : PartAt text f p
+  part_here = record { text_is = a.text_is; flags_are = a.flags_are; at = a.at; uncut = uncut a head_passes.1; part = (head_part p.token.kind h).0; braces = λ y l. none_read y l.0; behind = a.behind; heads = a.heads; kept_last = a.kept_last }
 
   -- a lexeme begins there
   head_edge : EdgeOf (goal p) text p.token.span.start
@@ -122,8 +127,8 @@ part_standing {text} {f} {p} a = subst (λ (g : Flags). PartAt p.text g p) (sym 
 
 -- ---- a part was passed
 
-same_of : {p q : Parser} → IsAt q → Follows p q → q.nodes ≡ p.nodes → q.errors ≡ p.errors → q.options ≡ p.options → q.ctx ≡ p.ctx → q.depth ≡ p.depth → q.visits ≡ p.visits → Same p q
-same_of {p} {q} i g n e o c d v = record { follows = g; options = o; ctx = c; depth = d; visits = v; early = λ h. All-same IsEarly q.errors p.errors e h; lies = λ h. (i.lies.starts_whole, nodes_lie p q g.text n h.1) }
+same_of : {p q : Parser} → IsAt q → Follows p q → q.nodes ≡ p.nodes → q.errors ≡ p.errors → q.options ≡ p.options → q.ctx ≡ p.ctx → q.depth ≡ p.depth → q.visits ≡ p.visits → (NoneToEnd q.text q.prev_token_end → NoneToEnd p.text p.prev_token_end) → Same p q
+same_of {p} {q} i g n e o c d v m = record { follows = g; options = o; ctx = c; depth = d; visits = v; early = λ h. All-same IsEarly q.errors p.errors e h; lies = λ h. (i.lies.starts_whole, nodes_lie p q g.text n h.1); meets = m }
 
 -- nodes and diagnostics don't matter to that
 last_beside : {q : Parser} {k : Kind} (ns : List Node) (ds : List Diagnostic) → LastIs q k → LastIs (record q { nodes = ns; errors = ds }) k
@@ -193,7 +198,7 @@ module _ {text : List ℕ} {f : Flags} {p q : Parser} (a : PartAt text f p) wher
     unfolding news
     moved = record {
       at = next_at;
-      same = same_of h.at (passed_follows h) h.stays.nodes h.stays.errors h.stays.options h.stays.ctx h.stays.depth h.stays.visits;
+      same = same_of h.at (passed_follows h) h.stays.nodes h.stays.errors h.stays.options h.stays.ctx h.stays.depth h.stays.visits (λ m. subst (λ (t : List ℕ). NoneToEnd t p.prev_token_end) (sym a.text_is) (to_end_none a.braces));
       nodes = h.stays.nodes;
       further = let e = h.moved in let t = h.tells.start in let l = lexeme_some h.stood (λ e. false≢true (sym (part_passes p.token.kind a.part).0 ∙ ap is_last (h.tells.kind ∙ e))) in omega arith;
       pass = λ ls. next h.lexeme ls;
@@ -245,22 +250,7 @@ part_taken {text} {f} {p} {q} {w} {id} last s m l n e = subst (λ (z : Parser). 
 
 -- ---- a part was read again
 
-abbrev with_more : News → List Diagnostic → News
-with_more m ds = record m { faults = m.faults ++ ds }
-
-more_onward : (s : Spot) (x : Lexeme) (m : News) (ds : List Diagnostic) → onward s x (with_more m ds) ≡ with_faults (onward s x m) ds
-more_onward s x m ds = ap (λ (es : List Diagnostic). record (onward s x m) { kept = record (onward s x m).kept { errors = es } }) (sym (append_assoc s.kept.errors m.faults ds))
-
--- faults that are kept where nothing that is read stands
-more_faults : {text : List ℕ} {a b : Spot} {pass : Lexemes → Lexemes} (ds : List Diagnostic) → a.place < b.place → ((y : Lexeme) → Lex text b.place y → ⊥) → Walked text a b pass → Walked text a (with_faults b ds) pass
-more_faults ds l n nowhere = absurd (omega arith)
-more_faults {text} {a} ds l n (one_more {s' = s} {x = x} {n = m} w i) =
-    walked_to (more_onward s x m ds) (one_more w (record { stood = i.stood; tells = i.tells; counts = i.counts; faults = record { none = λ e y z. absurd (n y z); some = λ e y z. n y (faults_aside s.source z) }; trivia = i.trivia }))
-
 module _ {text : List ℕ} {f : Flags} {p q : Parser} (a : At text f p) (k : p.token.kind ≡ RCurly) (h : ReadAgain template_tail p q) where
-  brace_unread : (y : Lexeme) → Lex text p.prev_token_end y → ⊥
-  brace_unread = unread a (uncut a (ap (same_kind RAngle) k)) (ap (one_of_kinds read_kinds) k)
-
   -- the brace, as the plain goal gives it
   brace : GivesLexeme division (λ y. y) text p.prev_token_end p.token
   brace = go a.plain
@@ -272,6 +262,10 @@ module _ {text : List ℕ} {f : Flags} {p q : Parser} (a : At text f p) (k : p.t
 
   brace_kind : brace.lexeme.kind ≡ RCurly
   brace_kind = sym brace.tells.kind ∙ k
+
+  -- it is what stands there, if a lexeme that is read does
+  only_brace : (y : Lexeme) → Braceless text p.prev_token_end y → ⊥
+  only_brace y l = false≢true (sym l.1 ∙ ap (one_of_kinds (LCurly ∷ RCurly ∷ [])) (kind_here a k refl y l.0))
 
   again : Outcome template_tail (λ z. z) p.lexer.goal p.lexer.text p.prev_token_end q.token h.going_on h.faults
   again =
@@ -311,11 +305,12 @@ module _ {text : List ℕ} {f : Flags} {p q : Parser} (a : At text f p) (k : p.t
         at = h.at;
         uncut = uncut_again;
         part = tail_kind;
+        braces = λ y l. only_brace y (subst (λ (n : ℕ). Braceless text n y) h.place l);
         behind = let s = h.again.start in let g = a.behind in let l = h.place in omega arith;
         heads = heads_kept p q h.stays.text h.stays.source_type h.stays.options (ap (λ (n : Notes). n.failed) h.stays.state) a.heads;
         kept_last = again_last p.lexer q.lexer p.token q.token h.again.same.keeps_tokens h.again.tokens counted.0 counted.1 a.kept_last;
       };
-      same = same_of h.at (read_again_follows h) h.stays.nodes h.stays.errors h.stays.options h.stays.ctx h.stays.depth h.stays.visits;
+      same = same_of h.at (read_again_follows h) h.stays.nodes h.stays.errors h.stays.options h.stays.ctx h.stays.depth h.stays.visits (to_end_stays p q h.stays.text h.place);
       nodes = h.stays.nodes;
       place = h.place;
       start = h.again.start;
@@ -326,7 +321,6 @@ module _ {text : List ℕ} {f : Flags} {p q : Parser} (a : At text f p) (k : p.t
         place = h.place i;
         kept = record { comments = h.again.comments i; irregular_whitespaces = h.again.blanks i; tokens = again_before p.lexer q.lexer p.token q.token h.again.same.keeps_tokens h.again.tokens counted.0 counted.1 i; errors = h.again.errors i };
       };
-      unread = brace_unread;
     }
 
   -- where nothing ends the part
@@ -338,7 +332,8 @@ module _ {text : List ℕ} {f : Flags} {p q : Parser} (a : At text f p) (k : p.t
     stopped = λ w. record { before = q.errors; last = g.0; is = ap (λ (z : Parser). z.errors) g.2.is; early = All-same IsEarly q.errors p.errors h.stays.errors w; ends = unexpected_ends h.at g.0 g.1 };
     lies = λ l. nodes_lie p r (text_stays) (nodes_stay) l.1;
     heads = subst NotedHeads (sym g.2.is) (heads_kept p q h.stays.text h.stays.source_type h.stays.options (ap (λ (n : Notes). n.failed) h.stays.state) a.heads);
-    none = tt;
+    none = λ u. tt;
+    met = λ u. subst (λ (t : List ℕ). NoneToEnd t p.prev_token_end) (sym a.text_is) (to_end_none only_brace);
   }
     where
       text_stays : r.text ≡ p.text
@@ -370,9 +365,11 @@ pub record Parts (text : List ℕ) (f : Flags) (p q : Parser) (ids : List (Optio
   pub keeps : Keeps p.nodes q.nodes
   pub kind : Kind
   pub last : LastIs q kind
+  -- no lexeme that is read stands where it begins
+  pub unread : (y : Lexeme) → Lex text p.prev_token_end y → ⊥
 
-pub first_part : {text : List ℕ} {f : Flags} {p q : Parser} {id : NodeId} → Passed text f p q id → Parts text f p q (Some id ∷ [])
-first_part {id = id} x = record { at = x.at; same = x.same; further = x.further; pass = x.pass; walked = x.walked; slots = tree x.label x.slots end; holds = HoldsAll-one id x.holds; keeps = x.keeps; kind = x.kind; last = x.last }
+pub first_part : {text : List ℕ} {f : Flags} {p q : Parser} {id : NodeId} → ((y : Lexeme) → Lex text p.prev_token_end y → ⊥) → Passed text f p q id → Parts text f p q (Some id ∷ [])
+first_part {id = id} n x = record { at = x.at; same = x.same; further = x.further; pass = x.pass; walked = x.walked; slots = tree x.label x.slots end; holds = HoldsAll-one id x.holds; keeps = x.keeps; kind = x.kind; last = x.last; unread = n }
 
 pub next_part : {text : List ℕ} {f : Flags} {n : Symbol} {p q r s t : Parser} {ids : List (Option NodeId)} {e id : NodeId} → Parts text f p q ids → Numbered text f n q r e → PartBegun text f r s → Passed text f s t id → Parts text f p t ((ids ++ Some e ∷ []) ++ Some id ∷ [])
 next_part {text} {f} {n} {p} {q} {r} {s} {t} {ids} {e} {id} x y b z = record {
@@ -380,12 +377,13 @@ next_part {text} {f} {n} {p} {q} {r} {s} {t} {ids} {e} {id} x y b z = record {
   same = same_both x.same (same_both y.answer.same (same_both b.same z.same));
   further = let i = x.further in let j = y.answer.further in let c = x.at.behind in let d = b.place in let g = b.at.behind in let u = z.further in omega arith;
   pass = λ ls. x.pass (y.answer.pass (z.pass ls));
-  walked = walked_both x.walked (walked_both (walked_to (sym b.spot_is) (more_faults b.faults (let j = y.answer.further in let c = x.at.behind in omega arith) b.unread y.answer.walked)) z.walked);
+  walked = walked_both (walked_to (sym b.spot_is) (more_faults (walked_both x.walked y.answer.walked) b.faults (λ ls l. x.unread _ (here_at (Lex text) (x.pass (y.answer.pass ls)) l)))) z.walked;
   slots = _;
   holds = HoldsAll-next id z.keeps (subst (λ (ns : List Node). HoldsAll ns (length p.nodes) (length ns) (ids ++ Some e ∷ []) (append x.slots (tree y.answer.label y.answer.slots end))) (sym b.nodes) (HoldsAll-next e y.keeps x.holds y.holds)) z.holds;
   keeps = Keeps-trans x.keeps (Keeps-trans y.keeps (subst (λ (ns : List Node). Keeps ns t.nodes) b.nodes z.keeps));
   kind = z.kind;
   last = z.last;
+  unread = x.unread;
 }
 
 pub parts_room : {text : List ℕ} {f : Flags} {p q : Parser} {ids : List (Option NodeId)} → At text f p → Parts text f p q ids → room q < room p
@@ -415,13 +413,13 @@ pub record PartsLoop (start : ℕ) (p q : Parser) (ids : List (Option NodeId)) (
   pub start_is : start ≡ p.token.span.start
   pub goes : (text : List ℕ) (f : Flags) → At text f p → (x : Parts text f p q ids) × (is_last ≡ one_of_kinds last_parts x.kind)
 
-pub parts_first : {p q : Parser} {start : ℕ} {part : PassedPart} {us vs : List (Option NodeId)} → start ≡ p.token.span.start → ((text : List ℕ) (f : Flags) → At text f p → (x : Passed text f p q part.element) × (part.is_last ≡ one_of_kinds last_parts x.kind)) → us ≡ vs ++ Some part.element ∷ [] → vs ≡ [] → PartsLoop start p q us part.is_last
+pub parts_first : {p q : Parser} {start : ℕ} {part : PassedPart} {us vs : List (Option NodeId)} → one_of_kinds heads p.token.kind ≡ true → start ≡ p.token.span.start → ((text : List ℕ) (f : Flags) → At text f p → (x : Passed text f p q part.element) × (part.is_last ≡ one_of_kinds last_parts x.kind)) → us ≡ vs ++ Some part.element ∷ [] → vs ≡ [] → PartsLoop start p q us part.is_last
 unfolding first_part
-parts_first {p} {q} {part = part} b h e n = record {
+parts_first {p} {q} {part = part} k b h e n = record {
   start_is = b;
   goes = λ text f a.
       let z = h text f a in
-      subst (λ (ids : List (Option NodeId)). (x : Parts text f p q ids) × (part.is_last ≡ one_of_kinds last_parts x.kind)) (sym (e ∙ ap (λ (ids : List (Option NodeId)). ids ++ Some part.element ∷ []) n)) (first_part z.0, z.1);
+      subst (λ (ids : List (Option NodeId)). (x : Parts text f p q ids) × (part.is_last ≡ one_of_kinds last_parts x.kind)) (sym (e ∙ ap (λ (ids : List (Option NodeId)). ids ++ Some part.element ∷ []) n)) (first_part (none_read a k) z.0, z.1);
 }
 
 pub parts_next : {n : Flags → Symbol} {start : ℕ} {p q r s t : Parser} {e : NodeId} {part : PassedPart} {ids us vs : List (Option NodeId)} {before : Bool} → PartsLoop start p q ids before → ((text : List ℕ) (f : Flags) → At text f q → Numbered text f (n f) q r e) → BeginsPart r s (Ok tt) → TakesPart part s t → us ≡ ids ++ Some e ∷ [] → vs ≡ us ++ Some part.element ∷ [] → PartsLoop start p t vs part.is_last

@@ -18,7 +18,7 @@ use Rattle.js_cursor.specs.Places.{IsAt, goal}
 use Rattle.js_cursor.specs.declared.stop.Stop.{Stop}
 use Rattle.js_parsing.specs.Answers.{Grown, Stops}
 use Rattle.js_parsing.specs.Heads.{NotedHeads}
-use Rattle.js_parsing.specs.Lexemes.{Lex, KeptLast, Spot, Walked, spot}
+use Rattle.js_parsing.specs.Lexemes.{Lex, Braceless, KeptLast, Walked, spot, with_faults}
 use Rattle.js_parsing.specs.Moves.{MadeHere}
 use Rattle.js_parsing.specs.States.{At, Same, flags_of}
 use Rattle.js_parsing.specs.Told.{unrelated_at}
@@ -48,23 +48,20 @@ element_label last s = record { kind = template_element; op = no_op; flags = con
 
 -- ---- the parts of a template
 
--- A template part stands here, told whole. Of the lexemes that stand at the place the plain goal may give another one.
+-- A template part stands here, told whole. Of the lexemes that stand at the place the plain goal may give another one: no lexeme that is read, but a brace.
 pub record PartAt (text : List ℕ) (f : Flags) (p : Parser) : Type 0 where
   pub text_is : p.text ≡ text
   pub flags_are : flags_of p ≡ f
   pub at : IsAt p
   pub uncut : p.cut ≡ false
   pub part : one_of_kinds parts p.token.kind ≡ true
+  pub braces : (y : Lexeme) → Braceless text p.prev_token_end y → ⊥
   pub behind : p.prev_token_end ≤ p.token.span.start
   pub heads : NotedHeads p
   pub kept_last : KeptLast p.lexer p.token
 
 abbrev pub StandingPart : Parser → Type 0
 StandingPart p = PartAt p.text (flags_of p) p
-
--- with faults that were kept since
-abbrev pub with_faults : Spot → List Diagnostic → Spot
-with_faults s ds = record s { kept = record s.kept { errors = s.kept.errors ++ ds } }
 
 -- The `}` that stood here was read again as the beginning of a part, which stands here now.
 pub record PartBegun (text : List ℕ) (f : Flags) (p q : Parser) : Type 0 where
@@ -75,8 +72,6 @@ pub record PartBegun (text : List ℕ) (f : Flags) (p q : Parser) : Type 0 where
   pub start : q.token.span.start ≡ p.token.span.start
   pub faults : List Diagnostic
   pub spot_is : spot q ≡ with_faults (spot p) faults
-  -- nothing that is read stands there
-  pub unread : (y : Lexeme) → Lex text p.prev_token_end y → ⊥
 
 abbrev pub PartOutcome : List ℕ → Flags → Parser → Parser → Result (Unit {0}) Stop → Type 0
 PartOutcome text f p q (Ok x) = PartBegun text f p q

@@ -1,5 +1,5 @@
 -- What a parse answers, from what holds of the parser at its end.
-use Rattle.std.proofs.Common.{Bool, ℕ, ◌≡◌, inl, inr, List, [], ◌∷◌, ◌++◌, length, take, true, false, Option, None, refl, sym, ap, subst, arith, ◌∙◌}
+use Rattle.std.proofs.Common.{Bool, ℕ, ◌≡◌, inl, inr, List, [], ◌∷◌, ◌++◌, length, take, true, false, Option, None, append_assoc, refl, sym, ap, subst, arith, ◌∙◌}
 use Rattle.std.specs.List.{All}
 use Rattle.std.specs.Prelude.{IsCharBoundary, IsUtf8, Result, Ok, Err, IfOk}
 use Rattle.std.proofs.lemmas.List.Elements.{All-append, All-take, All-weaker, All-nil}
@@ -29,7 +29,7 @@ use Rattle.js_base.specs.declared.token.Token.{Token}
 use Rattle.js_lex.specs.Kept.{LieIn}
 use Rattle.js_lex.specs.declared.comment.Comment.{Comment}
 use Rattle.js_lex.specs.declared.output.LexerOutput.{LexerOutput}
-use Rattle.js_parser.specs.Readings.{HasNoReading, IsOnlyReading, AreOf}
+use Rattle.js_parser.specs.Readings.{HasNoReading, IsOnlyReading, EndsUnbuilt, AreOf}
 use Rattle.js_grammar.specs.Options.{Options}
 use Rattle.js_grammar.specs.Settings.{Goal}
 use Rattle.js_parser.specs.Kept.{TellsRead, KeepsRight}
@@ -118,7 +118,8 @@ taken_answer {text} {s} {o} {asks} {p} {ids} span nodes out kept a b t n e l h =
   inside = slots_lie h.lies (h.holds).stands;
   nodes_lie = subst (λ (ns : List Node). NodesLie text ns) (sym n) (program_lie (program_node span ids) p.nodes (subst (λ (v : Span). LiesIn v text) (sym (span_is span a b)) (up_to_token h.is_of)) h.lies);
   clean = λ z. (by_found text s o p h.slots out.errors (ap (λ (x : LexerOutput). x.errors) e) h.outcome).0 z;
-  unclean = λ z. (by_found text s o p h.slots out.errors (ap (λ (x : LexerOutput). x.errors) e) h.outcome).1 z;
+  unclean = λ z u. (by_found text s o p h.slots out.errors (ap (λ (x : LexerOutput). x.errors) e) h.outcome).1 z;
+  braceless = λ z t r b. (by_found text s o p h.slots out.errors (ap (λ (x : LexerOutput). x.errors) e) h.outcome).1 z t r;
   early = λ q. h.early;
   stopped = λ q. absurd (false≢true q);
   ended = λ q z. false≢true q;
@@ -167,7 +168,8 @@ refused_answer {text} {s} {o} {p} {ids} ns span nodes told out kept n a b k z t 
   inside = tt;
   nodes_lie = subst (λ (ms : List Node). NodesLie text ms) (sym (t ∙ ap (λ (ms : List Node). with_program (program_node span ids) ms) same)) (program_lie (program_node span ids) p.nodes (subst (λ (v : Span). LiesIn v text) (sym (span_is span a (b ∙ ap (λ (v : List ℕ). length v) h.is_of.text_is))) whole) h.lies);
   clean = λ y. absurd (some y);
-  unclean = λ y. h.none;
+  unclean = λ y n. h.none (λ u. n (refl, ends_so u));
+  braceless = λ y. h.braceless;
   early = λ q. absurd (false≢true (sym q));
   stopped = λ q. h.stopped;
   ended = λ q y. some y;
@@ -180,6 +182,20 @@ refused_answer {text} {s} {o} {p} {ids} ns span nodes told out kept n a b k z t 
 
     are_faults : All (IsFault (goal_of s) text) told
     are_faults = subst (λ (ds : List Diagnostic). All (IsFault (goal_of s) text) ds) (sym k) (All-take (IsFault (goal_of s) text) n p.lexer.kept.errors (faults h.is_of))
+
+    ends_so : EndsUnbuilt text p.errors → EndsUnbuilt text out.errors
+    ends_so u = record {
+      place = u.place;
+      reached = u.reached;
+      brace = u.brace;
+      stands = u.stands;
+      kind = u.kind;
+      before = told ++ u.before;
+      last = u.last;
+      is = ap (λ (x : LexerOutput). x.errors) e ∙ (ap (λ (ds : List Diagnostic). told ++ ds) u.is ∙ sym (append_assoc told u.before (u.last ∷ [])));
+      ends = u.ends;
+      begins = u.begins;
+    }
 
     some : out.errors ≡ [] → ⊥
     some y = h.some (second_empty told p.errors (sym (ap (λ (x : LexerOutput). x.errors) e) ∙ y))

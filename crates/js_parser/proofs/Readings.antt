@@ -1,5 +1,5 @@
 -- From the statements that were taken to the readings of the whole text.
-use Rattle.std.proofs.Common.{ℕ, zero, suc, ◌&&◌, take, ◌≡◌, max, ◌⊎◌, inl, inr, List, [], ◌∷◌, ◌++◌, length, Bool, true, false, not, ◌||◌, IsTrue, Option, refl, sym, ap, subst, arith, ◌∙◌}
+use Rattle.std.proofs.Common.{ℕ, ◌-◌, zero, suc, ◌&&◌, take, ◌≡◌, max, ◌⊎◌, inl, inr, List, [], ◌∷◌, ◌++◌, length, Bool, true, false, not, ◌||◌, IsTrue, Option, refl, sym, ap, subst, arith, ◌∙◌}
 use Rattle.std.proofs.lemmas.Bool.{and_parts, and_from}
 use Rattle.js_base.specs.declared.diagnostic.Diagnostic.{Diagnostic}
 use Rattle.js_base.specs.declared.kind.Kind.{Kind}
@@ -11,40 +11,44 @@ use Rattle.js_base.specs.Texts.{words}
 use Rattle.js_base.proofs.KindLemmas.{kind_of_same}
 use Rattle.js_grammar.specs.Trees.{Label, Slots, end, tree, Tree, no_op, hashbang}
 use Rattle.js_grammar.specs.Grammar.{Lexeme, Lexemes, last, next, here, Takes, is_nothing}
-use Rattle.js_grammar.specs.Lexed.{Lexes, Lex as StandsBehind, all_faults}
+use Rattle.js_grammar.specs.Lexed.{Lexes, Lex as StandsBehind, all_faults, ends_once}
 use Rattle.js_grammar.specs.Lexemes.{is_escaped, division}
+use Rattle.js_grammar.specs.LexicalFaults.{Reached}
 use Rattle.js_grammar.specs.Parsing.{plain, Reads}
 use Rattle.js_grammar.specs.Productions.{Flags, at, Program}
 use Rattle.js_grammar.specs.Table.{rule, rule_of}
 use Rattle.js_grammar.proofs.Looks.{covers}
 use Rattle.js_grammar.proofs.Calculus.{◌▹◌, more_of, here_at, ends, label_is, slots_are}
 use Rattle.js_grammar.proofs.Alike.{lex-same}
+use Rattle.js_grammar.proofs.NoEnd.{ends_once_by}
 use Rattle.js_lex.specs.States.{goal_of}
 use Rattle.js_lex.specs.declared.output.LexerOutput.{LexerOutput}
 use Rattle.js_tree.specs.declared.id.NodeId.{NodeId}
 use Rattle.js_tree.specs.Holding.{HoldsAll, program_tree}
 use Rattle.js_cursor.specs.Parsers.{Parser}
-use Rattle.js_cursor.specs.Places.{goal}
+use Rattle.js_cursor.specs.Places.{IsAt, goal}
 use Rattle.js_cursor.specs.Moves.{is_last}
 use Rattle.js_cursor.specs.Starts.{Starts}
 use Rattle.js_cursor.specs.Tokens.{IsToken, whole as whole_token, sign as sign_token, nothing as no_token}
 use Rattle.js_cursor.specs.declared.stop.Stop.{Stop}
 use Rattle.js_cursor.specs.declared.stop.Stop.TheVariants.{Fatal, NoMemory}
-use Rattle.js_parsing.specs.Answers.{Stretch, Verdict, clean, unclean}
-use Rattle.js_parsing.specs.Lexemes.{Lex, is_read, read_kinds}
+use Rattle.js_parsing.specs.Answers.{Stretch, Verdict, Unbuilt, clean, unclean}
+use Rattle.js_parsing.specs.Lexemes.{Lex, Braceless, NoneToEnd, is_read, last_of, read_kinds}
 use Rattle.js_parsing.specs.States.{At, IsPlain, whole, sign, nothing as no_lexeme, flags_of, Standing, NodesLie, SpansLie}
-use Rattle.js_statements.specs.StatementLists.{at_text_end, with_directives, statements, NoList, Taken, AllTaken, AllRefused}
+use Rattle.js_statements.specs.StatementLists.{at_end, with_directives, statements, NoList, Taken, AllTaken, AllRefused}
+use Rattle.js_statements.specs.declared.statement_list.StatementList.TheVariants.{Text}
 use Rattle.js_parsing.proofs.Beginning.{begins, begins_with_hashbang, behind_first, none_noted}
 use Rattle.js_parsing.proofs.Giving.{fails_none}
 use Rattle.js_parsing.proofs.Here.{told, plain_kind, kind_here}
 use Rattle.js_parsing.proofs.Paths.{at_kind}
-use Rattle.js_statements.proofs.StatementLists.{none_left}
+use Rattle.js_parsing.proofs.Unbuilt.{last_is, same_some}
+use Rattle.js_statements.proofs.StatementLists.{none_left, text_ends}
 use Rattle.js_parsing.proofs.Verdicts.{grown_some}
 use Rattle.js_cursor.specs.Starts.{is_module, is_commonjs}
 use Rattle.js_tree.specs.Nodes.{Node, empty_program}
 use Rattle.js_tree.proofs.HoldingLemmas.{HoldsAll-wider, HoldsAll-append, HoldsAll-one, Holds-kept, Holds-wider, Keeps-refl}
 use Rattle.std.specs.Prelude.{Result, Ok, Err, MatchResult}
-use Rattle.std.specs.Prelude.{Some}
+use Rattle.std.specs.Prelude.{Some, slice_get}
 use Rattle.js_base.specs.Contexts.{has_flag, in_flag, yield_flag, await_flag, return_flag, new_target_flag}
 use Rattle.js_cursor.specs.Moves.{Passed}
 use Rattle.js_parsing.specs.Moves.{MadeHere, plain_label}
@@ -59,7 +63,7 @@ use Rattle.js_parser.proofs.Fronts.{Front, Parts, kind_of_hashbang, none_begins,
 use Rattle.js_parsing.proofs.MadeNodes.{leaf_held, one_lies}
 use Rattle.js_parsing.proofs.Moving.{standing, beside_nodes}
 use Rattle.js_parser.specs.Parsed.{options_of, IsAnswer}
-use Rattle.js_parser.specs.Readings.{parameters, Reading, IsOnlyReading, HasNoReading}
+use Rattle.js_parser.specs.Readings.{parameters, AllBraceless, Reading, IsOnlyReading, HasNoReading, HasNoBracelessReading, EndsUnbuilt}
 use Rattle.js_parser.specs.Taken.{FoundNothing, ReadOrNot, ProgramTaken, ProgramStops}
 use Rattle.js_parser.proofs.Answering.{first_empty, second_empty}
 use Rattle.js_base.specs.declared.source_type.Goal.TheVariants as source
@@ -69,15 +73,16 @@ use Rattle.js_grammar.specs.Options.{Options, is_module as in_module, is_commonj
 use Rattle.js_grammar.specs.Settings.{Goal, script, module_goal, commonjs, unambiguous}
 use Rattle.js_lex.specs.Comments.{each_at, comment_at, irregular_at, html_fault_at}
 use Rattle.js_lex.specs.Reading.{in_a_module, is_kept, kept_token, LexemeBehind, GivesFirst, GivesNext}
-use Rattle.js_parsing.specs.Lexemes.{Faultless, KeptFor, TriviaKept, kept_before, Spot, spot, Walked, nowhere, one_more}
+use Rattle.js_parsing.specs.Lexemes.{Faultless, KeptFor, TriviaKept, kept_before, Spot, spot, Walked, nowhere, one_more, more_faults}
 use Rattle.js_parsing.proofs.KeptTokens.{before_next, trivia_kept}
 use Rattle.js_parser.specs.Kept.{KeepsRight, each_of, comments_before, blanks_before, TellsEach, IsKeptOf}
-use Rattle.js_parser.proofs.Walks.{behind_walk, first_comments, first_blanks, all_kept, walk_tells, walk_unasked, keeps_still, kept_none}
+use Rattle.js_parsing.proofs.Paths.{behind_walk}
+use Rattle.js_parser.proofs.Walks.{first_comments, first_blanks, all_kept, walk_tells, walk_unasked, keeps_still, kept_none}
 use Rattle.js_base.specs.declared.token.Token.{Token}
 use Rattle.js_parsing.proofs.Kept.{kept_for, faults_aside}
 use Rattle.js_parsing.proofs.Paths.{walked_from}
 use Rattle.std.proofs.lemmas.List.Elements.{All-same, All-nil, All-cons}
-use Rattle.js_parsing.specs.Classes.{IsEarly}
+use Rattle.js_parsing.specs.Classes.{IsEarly, EndedByLast}
 use Rattle.std.proofs.lemmas.Str.{IsCharBoundary-start}
 use Rattle.js_base.specs.Spans.{LiesIn}
 
@@ -108,7 +113,7 @@ record Body (L : ℕ → Lexeme → Type 0) (f : Flags) (s : ℕ) (slots : Slots
   place : ℕ
   final : Lexeme
   is_end : final.kind ≡ Eof
-  derived : Takes rule (with_directives f) end slots s ls end place (last final)
+  derived : Takes rule (with_directives Text f) end slots s ls end place (last final)
 
 module _ {text : List ℕ} {f : Flags} {q : Parser} (a : At text f q) (e : q.token.kind ≡ Eof) where
   end_kind : (y : Lexeme) → Lex text q.prev_token_end y → y.kind ≡ Eof
@@ -125,8 +130,8 @@ module _ {text : List ℕ} {f : Flags} {q : Parser} (a : At text f q) (e : q.tok
   same_end : {z : Lexeme} → Lex text q.prev_token_end z → z ≡ (end_here a e).0
   same_end {z} m = let y = end_here a e in lex-same m.0 y.1.0 (plain_kind m.0 (and_parts (one_of_kinds read_kinds z.kind) _ m.1).0 ∙ sym (plain_kind y.1.0 (and_parts (one_of_kinds read_kinds y.0.kind) _ y.1.1).0))
 
-  module _ {s : ℕ} {slots : Slots → Slots} {pass : Lexemes → Lexemes} (u : Stretch text (plain at_text_end) (with_directives f) s (statements f) q.prev_token_end slots pass) where
-    list_reads : Reads rule (Lex text) (plain at_text_end) end (with_directives f) s q.prev_token_end slots (record { reach = max u.reach (max 0 0); pass = pass })
+  module _ {s : ℕ} {slots : Slots → Slots} {pass : Lexemes → Lexemes} (u : Stretch text (plain (at_end Text)) (with_directives Text f) s (statements Text f) q.prev_token_end slots pass) where
+    list_reads : Reads rule (Lex text) (plain (at_end Text)) end (with_directives Text f) s q.prev_token_end slots (record { reach = max u.reach (max 0 0); pass = pass })
     unfolding rule rule_of covers
     list_reads = u.goes ▹ more_of ▹ at_kind a Eof e refl
 
@@ -151,7 +156,7 @@ module _ {text : List ℕ} {f : Flags} {q : Parser} (a : At text f q) (e : q.tok
     ends_so b = ap (λ (v : Lexeme). v.to) (only_so b).2 ∙ end_place (end_here a e).0 (end_here a e).1
 
 -- where statements can't be taken, no list is derived
-no_list : {text : List ℕ} {f : Flags} {s : ℕ} {ts : Slots} {ls : Lexemes} → NoList text (with_directives f) s → Body (Lex text) f s ts ls → ⊥
+no_list : {text : List ℕ} {f : Flags} {s : ℕ} {ts : Slots} {ls : Lexemes} → NoList text Text (with_directives Text f) s → Body (Lex text) f s ts ls → ⊥
 no_list {ts = ts} {ls} n b = n.no ts end b.place ls (last b.final) b.lexed b.derived (rw b.is_end refl, refl)
 
 -- ---- faults
@@ -164,6 +169,15 @@ all_aside text source s (next x ls) l = (faults_aside source l.0, all_aside text
 abbrev any_body : {text : List ℕ} (source : Goal) {f : Flags} {s : ℕ} {ts : Slots} {ls : Lexemes} → Body (Faultless source text) f s ts ls → Body (Lex text) f s ts ls
 any_body {text} source {s = s} {ls = ls} b = record { lexed = all_aside text source s ls b.lexed; place = b.place; final = b.final; is_end = b.is_end; derived = b.derived }
 
+-- and without braces, if none is among them
+all_braceless : (text : List ℕ) (source : Goal) (s : ℕ) (ls : Lexemes) → Lexes (Faultless source text) s ls → AllBraceless ls → Lexes (Braceless text) s ls
+all_braceless text source s (last x) l b = (faults_aside source l, b)
+all_braceless text source s (next x ls) l b = ((faults_aside source l.0, b.0), all_braceless text source x.to ls l.1 b.1)
+
+last_ends : (ls : Lexemes) → ends_once ls ≡ true → (last_of ls).kind ≡ Eof
+last_ends (last x) e = sym (kind_of_same Eof x.kind e)
+last_ends (next x ls) e = last_ends ls (and_parts _ (ends_once ls) e).1
+
 -- readings are lists behind the text's front
 module _ {text : List ℕ} {source : Goal} {f : Flags} {s : ℕ} {front : Slots → Slots} {put : Lexemes → Lexemes} {o : Options} (k : f ≡ parameters source o) (opens : Front text source f s front put) where
   parts_of : {t : Tree} (r : Reading text source o t) → Parts text source f s front put t r.lexemes r.lexed r.place r.final
@@ -172,8 +186,33 @@ module _ {text : List ℕ} {source : Goal} {f : Flags} {s : ℕ} {front : Slots 
   abbrev body_of : {t : Tree} (r : Reading text source o t) → Body (Faultless source text) f s (parts_of r).slots (parts_of r).others
   body_of r = record { lexed = (parts_of r).lexed; place = r.place; final = r.final; is_end = r.is_end; derived = (parts_of r).derived }
 
-  none_at_all : NoList text (with_directives f) s → HasNoReading text source o
+  none_at_all : NoList text Text (with_directives Text f) s → HasNoReading text source o
   none_at_all n t r = no_list n (any_body source (body_of r))
+
+  -- where no lexemes without braces lead on to the text's end, no reading is without braces
+  none_braceless : NoneToEnd text s → HasNoBracelessReading text source o
+  none_braceless n t r b =
+      let p = parts_of r in
+      let e = ends_once_by (at Program (parameters source o)) t r.derived (subst (λ (k : Kind). same_kind Eof k ≡ true) (sym r.is_end) refl) in
+      n p.others (all_braceless text source s p.others p.lexed (opens.braceless p.others (subst AllBraceless p.lexemes b))) (last_ends p.others (opens.ends p.others (subst (λ (ls : Lexemes). ends_once ls ≡ true) p.lexemes e)))
+
+-- what an outsider sees where a parser stopped at what isn't built yet
+ends_unbuilt : {text : List ℕ} {q : Parser} → IsAt q → q.text ≡ text → EndedByLast q.errors → Unbuilt q → EndsUnbuilt text q.errors
+ends_unbuilt {q = q} a t z u = record {
+  place = q.prev_token_end;
+  reached = subst (λ (w : List ℕ). Reached w q.prev_token_end) t a.reached;
+  brace = u.lexeme;
+  stands = subst (λ (w : List ℕ). Lex w q.prev_token_end u.lexeme) t u.stands;
+  kind = u.kind;
+  before = z.before;
+  last = z.last;
+  is = z.is;
+  ends = z.ends;
+  begins = ap (λ (d : Diagnostic). d.span.start) same ∙ (u.begins ∙ u.tells.start);
+}
+  where
+    same : z.last ≡ u.last
+    same = same_some (sym (last_is z.before z.last) ∙ (ap (λ (ds : List Diagnostic). slice_get ds (length ds - 1)) (sym z.is) ∙ u.is))
 
 pub cons_some : {K : Type 0} (x : K) (xs : List K) → x ∷ xs ≡ [] → ⊥
 cons_some x xs e = cc
@@ -187,16 +226,19 @@ module _ {text : List ℕ} where
   right_there : {s s' : Spot} {pass : Lexemes → Lexemes} → Walked text s s' pass → s'.kept.errors ≡ [] → ((s.kept.errors ≡ []) → Right text s) → Right text s'
   right_there nowhere e h = h e
   right_there (one_more {s' = m} {n = n} w i) e h = i.faults.none (second_empty m.kept.errors n.faults e)
+  right_there (more_faults {s' = m} w ds n) e h = right_there w (first_empty m.kept.errors ds e) h
 
   source_kept : {s s' : Spot} {pass : Lexemes → Lexemes} → Walked text s s' pass → s'.source ≡ s.source
   source_kept nowhere = refl
   source_kept (one_more w i) = source_kept w
+  source_kept (more_faults w ds n) = source_kept w
 
   all_right : {s s' : Spot} {pass : Lexemes → Lexemes} (w : Walked text s s' pass) → s'.kept.errors ≡ [] → ((s.kept.errors ≡ []) → Right text s) → (ms : Lexemes) → Lexes (Lex text) s.place (pass ms) → Lexes (Faultless s'.source text) s'.place ms → Lexes (Faultless s.source text) s.place (pass ms)
   all_right nowhere e h ms l r = r
   all_right (one_more {s' = m} {x = x} {n = n} w i) e h ms l r =
       let none = first_empty m.kept.errors n.faults e in
       all_right w none h (next x ms) l (right_there w none h x (behind_walk (Lex text) w (next x ms) l).0, r)
+  all_right (more_faults {s' = m} w ds n) e h ms l r = all_right w (first_empty m.kept.errors ds e) h ms l r
 
   -- where some fault was kept, one stands on the way, or here
   some_wrong : {s s' : Spot} {pass : Lexemes → Lexemes} (w : Walked text s s' pass) → (s'.kept.errors ≡ [] → ⊥) → ((s.kept.errors ≡ [] → ⊥) → (y : Lexeme) → Faultless s.source text s.place y → ⊥) → (ms : Lexemes) → Lexes (Faultless s.source text) s.place (pass ms) → ⊥
@@ -206,9 +248,10 @@ module _ {text : List ℕ} where
       go : (ds : List Diagnostic) → news.faults ≡ ds → ((m.kept.errors ≡ [] → ⊥) → ⊥) → ⊥
       go [] e again = again (λ z. n (λ j. z j ++ e j))
       go (d ∷ ds) e again = i.faults.some (λ z. cons_some d ds (sym e ∙ z)) (here ms) (here_at (Faultless m.source text) ms (subst (λ (v : Goal). Lexes (Faultless v text) x.to ms) (sym (source_kept w)) (behind_walk (Faultless s.source text) w (next x ms) r).1))
+  some_wrong {s} (more_faults {pass = pass} w ds n) k h ms r = n ms (all_aside text s.source s.place (pass ms) r)
 
 -- The statements that were taken up to the text's end, by the faults that were kept.
-module _ {text : List ℕ} {f : Flags} {q : Parser} (a : At text f q) (e : q.token.kind ≡ Eof) {s : ℕ} {slots : Slots → Slots} {pass : Lexemes → Lexemes} (u : Stretch text (plain at_text_end) (with_directives f) s (statements f) q.prev_token_end slots pass) {source : Goal}
+module _ {text : List ℕ} {f : Flags} {q : Parser} (a : At text f q) (e : q.token.kind ≡ Eof) {s : ℕ} {slots : Slots → Slots} {pass : Lexemes → Lexemes} (u : Stretch text (plain (at_end Text)) (with_directives Text f) s (statements Text f) q.prev_token_end slots pass) {source : Goal}
     {keeps : Bool} {kept : LexerOutput} (w : Walked text (record { source = source; keeps_tokens = keeps; place = s; kept = kept }) (spot q) pass) (first : KeptFor source text s kept.errors) where
   right_body : q.lexer.kept.errors ≡ [] → Body (Faultless source text) f s (slots end) (pass (last (end_here a e).0))
   right_body z = let x = any_so a e u in let y = end_here a e in record {
@@ -228,10 +271,10 @@ module _ {text : List ℕ} {f : Flags} {q : Parser} (a : At text f q) (e : q.tok
     of_lexemes P h = subst (λ (ls : Lexemes). (l : Lexes (Faultless source text) s ls) → P ls l) (sym (only_so a e u (any_body source b)).1) h b.lexed
 
     comments_so : q.lexer.kept.comments ≡ each_of comments_before text source s ls b.lexed
-    comments_so = of_lexemes (λ ls l. q.lexer.kept.comments ≡ each_of comments_before text source s ls l) (λ l. all_kept comments_before text source (λ s. s.kept.comments) (λ n. n.comments) (λ s x n. refl) (λ s x n i ms m. first_comments text source x.to i.trivia ms m) w (end_here a e).0 l (first_comments text source s trivia (pass (last (end_here a e).0)) l))
+    comments_so = of_lexemes (λ ls l. q.lexer.kept.comments ≡ each_of comments_before text source s ls l) (λ l. all_kept comments_before text source (λ s. s.kept.comments) (λ n. n.comments) (λ s x n. refl) (λ s ds. refl) (λ s x n i ms m. first_comments text source x.to i.trivia ms m) w (end_here a e).0 l (first_comments text source s trivia (pass (last (end_here a e).0)) l))
 
     blanks_so : q.lexer.kept.irregular_whitespaces ≡ each_of blanks_before text source s ls b.lexed
-    blanks_so = of_lexemes (λ ls l. q.lexer.kept.irregular_whitespaces ≡ each_of blanks_before text source s ls l) (λ l. all_kept blanks_before text source (λ s. s.kept.irregular_whitespaces) (λ n. n.blanks) (λ s x n. refl) (λ s x n i ms m. first_blanks text source x.to i.trivia ms m) w (end_here a e).0 l (first_blanks text source s trivia (pass (last (end_here a e).0)) l))
+    blanks_so = of_lexemes (λ ls l. q.lexer.kept.irregular_whitespaces ≡ each_of blanks_before text source s ls l) (λ l. all_kept blanks_before text source (λ s. s.kept.irregular_whitespaces) (λ n. n.blanks) (λ s x n. refl) (λ s ds. refl) (λ s x n i ms m. first_blanks text source x.to i.trivia ms m) w (end_here a e).0 l (first_blanks text source s trivia (pass (last (end_here a e).0)) l))
 
     tokens_so : keeps ≡ true → TellsEach ls q.lexer.kept.tokens
     tokens_so asks = of_lexemes (λ ls l. TellsEach ls q.lexer.kept.tokens) (λ l. told_tokens)
@@ -288,7 +331,7 @@ unasked_by v q a w e z = a.kept_last ∙ ((λ i. (walk_unasked w e ∙ z) i ++ k
 
 -- where no lexeme stands, no statement does, and a fault was kept
 module _ {text : List ℕ} {f : Flags} {q : Parser} (a : At text f q) (e : q.token.kind ≡ Undetermined) where
-  nothing_here : NoList text (statements f) q.prev_token_end
+  nothing_here : NoList text Text (statements Text f) q.prev_token_end
   nothing_here = fails_none (λ y l. go a.plain y l)
     where
       go : IsPlain text q → (y : Lexeme) → Lex text q.prev_token_end y → ⊥
@@ -372,32 +415,35 @@ record Begun (text : List ℕ) (f : Flags) (source : SourceType) (o : ParseOptio
   lies : SpansLie v
 
 module _ {text : List ℕ} {f : Flags} {source : SourceType} {o : ParseOptions} {s : ℕ} {front : Slots → Slots} {put : Lexemes → Lexemes} {v : Parser} (b : Begun text f source o s front put v) where
-  none : NoList text (with_directives f) v.prev_token_end → HasNoReading text (goal_of source) (options_of o)
-  none n = none_at_all b.parameters_are b.opens (subst (λ (i : ℕ). NoList text (with_directives f) i) b.place n)
+  none : NoList text Text (with_directives Text f) v.prev_token_end → HasNoReading text (goal_of source) (options_of o)
+  none n = none_at_all b.parameters_are b.opens (subst (λ (i : ℕ). NoList text Text (with_directives Text f) i) b.place n)
 
-  module _ {q : Parser} {ids : List (Option NodeId)} (t : Taken text f (with_directives f) (statements f) v q ids) where
+  no_braceless : NoneToEnd v.text v.prev_token_end → HasNoBracelessReading text (goal_of source) (options_of o)
+  no_braceless n = none_braceless b.parameters_are b.opens (subst (λ (i : ℕ). NoneToEnd text i) b.place (subst (λ (w : List ℕ). NoneToEnd w v.prev_token_end) b.stands.text_is n))
+
+  module _ {q : Parser} {ids : List (Option NodeId)} (t : Taken text f Text (with_directives Text f) (statements Text f) v q ids) where
     walk : Walked text (record { source = goal_of source; keeps_tokens = v.lexer.keeps_tokens; place = s; kept = record v.lexer.kept { tokens = kept_before v.lexer v.token } }) (spot q) t.pass
     walk = walked_from (λ i. record { source = goal_of (b.read_as i); keeps_tokens = v.lexer.keeps_tokens; place = b.place i; kept = record v.lexer.kept { tokens = kept_before v.lexer v.token } }) t.walked
 
-    whole_stretch : Stretch text (plain at_text_end) (with_directives f) v.prev_token_end (statements f) q.prev_token_end t.slots t.pass → Stretch text (plain at_text_end) (with_directives f) s (statements f) q.prev_token_end t.slots t.pass
-    whole_stretch u = subst (λ (i : ℕ). Stretch text (plain at_text_end) (with_directives f) i (statements f) q.prev_token_end t.slots t.pass) b.place u
+    whole_stretch : Stretch text (plain (at_end Text)) (with_directives Text f) v.prev_token_end (statements Text f) q.prev_token_end t.slots t.pass → Stretch text (plain (at_end Text)) (with_directives Text f) s (statements Text f) q.prev_token_end t.slots t.pass
+    whole_stretch u = subst (λ (i : ℕ). Stretch text (plain (at_end Text)) (with_directives Text f) i (statements Text f) q.prev_token_end t.slots t.pass) b.place u
 
     kept_by : FoundNothing q → (q.token.kind ≡ Eof) ⊎ (q.token.kind ≡ Undetermined) → (w : Tree) (r : Reading text (goal_of source) (options_of o) w) → IsKeptOf r v.lexer.keeps_tokens q.lexer.kept
     kept_by z (inr e) w r = absurd (fault_kept t.at e z.faults)
     kept_by z (inl e) w r = go t.verdict
       where
-        go : Verdict v.errors q.errors (Stretch text (plain at_text_end) (with_directives f) v.prev_token_end (statements f) q.prev_token_end t.slots t.pass) (NoList text (with_directives f) v.prev_token_end) → IsKeptOf r v.lexer.keeps_tokens q.lexer.kept
+        go : Verdict v.errors q.errors (Stretch text (plain (at_end Text)) (with_directives Text f) v.prev_token_end (statements Text f) q.prev_token_end t.slots t.pass) (NoList text Text (with_directives Text f) v.prev_token_end) → IsKeptOf r v.lexer.keeps_tokens q.lexer.kept
         go (clean h u) = kept_so t.at e (whole_stretch u) walk b.faults b.parameters_are b.opens b.trivia b.tokens w r
         go (unclean g m) = absurd (none m w r)
 
     by_kind : (q.token.kind ≡ Eof) ⊎ (q.token.kind ≡ Undetermined) → ReadOrNot text source o q (front (t.slots end))
     by_kind (inl e) = go t.verdict
       where
-        read : q.errors ≡ [] → Stretch text (plain at_text_end) (with_directives f) s (statements f) q.prev_token_end t.slots t.pass → (ds : List Diagnostic) → q.lexer.kept.errors ≡ ds → ReadOrNot text source o q (front (t.slots end))
+        read : q.errors ≡ [] → Stretch text (plain (at_end Text)) (with_directives Text f) s (statements Text f) q.prev_token_end t.slots t.pass → (ds : List Diagnostic) → q.lexer.kept.errors ≡ ds → ReadOrNot text source o q (front (t.slots end))
         read h u [] z = inl (record { faults = z; errors = h }, one_reading t.at e u walk b.faults b.parameters_are b.opens z)
         read h u (d ∷ ds) z = inr (λ x. cons_some d ds (sym z ∙ x.faults), faulty_so t.at e u walk b.faults b.parameters_are b.opens (λ x. cons_some d ds (sym z ∙ x)))
 
-        go : Verdict v.errors q.errors (Stretch text (plain at_text_end) (with_directives f) v.prev_token_end (statements f) q.prev_token_end t.slots t.pass) (NoList text (with_directives f) v.prev_token_end) → ReadOrNot text source o q (front (t.slots end))
+        go : Verdict v.errors q.errors (Stretch text (plain (at_end Text)) (with_directives Text f) v.prev_token_end (statements Text f) q.prev_token_end t.slots t.pass) (NoList text Text (with_directives Text f) v.prev_token_end) → ReadOrNot text source o q (front (t.slots end))
         go (clean h u) = read (h ∙ b.errors) (whole_stretch u) q.lexer.kept.errors refl
         go (unclean g m) = inr (λ x. grown_some g x.errors, none m)
     by_kind (inr e) = inr (λ x. fault_kept t.at e x.faults, none (none_left t (nothing_here t.at e)))
@@ -416,13 +462,14 @@ module _ {text : List ℕ} {f : Flags} {source : SourceType} {o : ParseOptions} 
       early = t.same.early (All-same IsEarly v.errors [] b.errors (All-nil IsEarly));
     }
 
-  stops_so : (q : Parser) (e : Stop) → AllRefused v q e → ProgramStops text source o q e
+  stops_so : (q : Parser) (e : Stop) → AllRefused Text v q e → ProgramStops text source o q e
   stops_so q Fatal h = let r = h text f b.stands in record {
     is_of = record { at = r.at; text_is = r.follows.text ∙ b.stands.text_is; source_type = r.follows.source_type ∙ b.read_as };
     stopped = r.stopped (All-same IsEarly v.errors [] b.errors (All-nil IsEarly));
     lies = subst (λ (w : List ℕ). NodesLie w q.nodes) (r.follows.text ∙ b.stands.text_is) (r.lies b.lies);
     some = grown_some r.grown;
-    none = none r.none;
+    none = λ n. none (r.none (λ u. n (ends_unbuilt r.at (r.follows.text ∙ b.stands.text_is) (r.stopped (All-same IsEarly v.errors [] b.errors (All-nil IsEarly))) u)));
+    braceless = λ t w c. none (r.none (λ u. no_braceless (r.met u) t w c)) t w;
   }
   stops_so q NoMemory h = tt
 
@@ -459,10 +506,10 @@ module _ {b : Bool} {p : Parser} (s : Starts p.text p.source_type p.options b p)
       lies = (s.at.lies.starts_whole, first_lies);
     }
 
-    program_taken : {q : Parser} {ids : List (Option NodeId)} → AllTaken p q ids → ProgramTaken p.text p.source_type p.options p.lexer.keeps_tokens q ids
-    program_taken {q} {ids} (k, h) = let t = h p.text (flags_of p) at_first.stands in all_taken at_first t k refl (HoldsAll-wider 1 (length q.nodes) (let n = one_node in omega arith) (omega arith) t.holds)
+    program_taken : {q : Parser} {ids : List (Option NodeId)} → AllTaken Text p q ids → ProgramTaken p.text p.source_type p.options p.lexer.keeps_tokens q ids
+    program_taken {q} {ids} (k, h) = let t = h p.text (flags_of p) at_first.stands in all_taken at_first t (text_ends q.token.kind k) refl (HoldsAll-wider 1 (length q.nodes) (let n = one_node in omega arith) (omega arith) t.holds)
 
-    pub program_answers : {V : Type 0} (items_of : V → List (Option NodeId)) (q : Parser) (r : Result V Stop) → MatchResult r (λ v. AllTaken p q (items_of v)) (λ e. AllRefused p q e) → MatchResult r (λ v. ProgramTaken p.text p.source_type p.options p.lexer.keeps_tokens q (items_of v)) (λ e. ProgramStops p.text p.source_type p.options q e)
+    pub program_answers : {V : Type 0} (items_of : V → List (Option NodeId)) (q : Parser) (r : Result V Stop) → MatchResult r (λ v. AllTaken Text p q (items_of v)) (λ e. AllRefused Text p q e) → MatchResult r (λ v. ProgramTaken p.text p.source_type p.options p.lexer.keeps_tokens q (items_of v)) (λ e. ProgramStops p.text p.source_type p.options q e)
     program_answers items_of q (Ok v) h = program_taken h
     program_answers items_of q (Err e) h = stops_so at_first q e h
 
@@ -520,14 +567,14 @@ module _ {b : Bool} {p : Parser} (s : Starts p.text p.source_type p.options b p)
         ends_there : p.lexer.place ≡ d.lexeme.to
         ends_there = s.at.last ∙ d.tells.end
 
-    pub hashbang_refused : (q : Parser) (e : Stop) → AllRefused v q e → ProgramStops p.text p.source_type p.options q e
+    pub hashbang_refused : (q : Parser) (e : Stop) → AllRefused Text v q e → ProgramStops p.text p.source_type p.options q e
     hashbang_refused q e h = stops_so begun_behind q e h
 
-    pub hashbang_taken : {q : Parser} {ids js : List (Option NodeId)} → AllTaken v q ids → js ≡ Some id ∷ ids → ProgramTaken p.text p.source_type p.options p.lexer.keeps_tokens q js
+    pub hashbang_taken : {q : Parser} {ids js : List (Option NodeId)} → AllTaken Text v q ids → js ≡ Some id ∷ ids → ProgramTaken p.text p.source_type p.options p.lexer.keeps_tokens q js
     hashbang_taken {q} {ids} {js} (z, h) e =
         let t = h p.text (flags_of p) begun_behind.stands in
         let first = Holds-kept t.keeps (Holds-wider 1 (length v.nodes) (let x = one_node in let y = ap (λ (ns : List Node). length ns) d.stays.nodes in omega arith) (omega arith) (leaf_held n (Keeps-refl m.nodes))) in
-        all_taken begun_behind t z (ap (λ (r : Parser). r.lexer.keeps_tokens) n.stays ∙ d.stays.same.keeps_tokens)
+        all_taken begun_behind t (text_ends q.token.kind z) (ap (λ (r : Parser). r.lexer.keeps_tokens) n.stays ∙ d.stays.same.keeps_tokens)
         (subst (λ (l : Label). HoldsAll q.nodes 1 (length q.nodes) js (tree l end (t.slots end))) label_still
         (subst (λ (ks : List (Option NodeId)). HoldsAll q.nodes 1 (length q.nodes) ks (tree (plain_label Hashbang op.None span) end (t.slots end))) (sym e) (HoldsAll-append (HoldsAll-one id first) t.holds)))
 

@@ -7,13 +7,10 @@ use Rattle.js_grammar.specs.Lexed.{Lexes, Lex as StandsBehind, Passing, all_faul
 use Rattle.js_grammar.specs.Settings.{Goal}
 use Rattle.js_lex.specs.Reading.{is_kept, kept_token}
 use Rattle.js_lex.specs.declared.comment.Comment.{Comment}
-use Rattle.js_parsing.specs.Lexemes.{Faultless, TriviaKept, Spot, News, onward, IsNew, Walked, nowhere, one_more}
+use Rattle.js_base.specs.declared.diagnostic.Diagnostic.{Diagnostic}
+use Rattle.js_parsing.specs.Lexemes.{Faultless, TriviaKept, Spot, News, onward, with_faults, IsNew, Walked, nowhere, one_more, more_faults}
+use Rattle.js_parsing.proofs.Paths.{behind_walk}
 use Rattle.js_parser.specs.Kept.{each_of, comments_before, blanks_before, TellsEach}
-
--- lexemes behind those that were passed
-abbrev pub behind_walk : (L : ℕ → Lexeme → Type 0) {text : List ℕ} {s s' : Spot} {pass : Lexemes → Lexemes} → Walked text s s' pass → (ms : Lexemes) → Lexes L s.place (pass ms) → Lexes L s'.place ms
-behind_walk L nowhere ms l = l
-behind_walk L (one_more {x = x} w i) ms l = (behind_walk L w (next x ms) l).1
 
 -- a lexeme that stands without faults stands whichever pass
 lenient : {passing : Passing} {text : List ℕ} {s : ℕ} {y : Lexeme} (h : StandsBehind passing text s y) → (l : StandsBehind all_faults text s y) × (l.trivia ≡ h.trivia)
@@ -41,7 +38,7 @@ pub first_blanks : (text : List ℕ) (goal : Goal) (s : ℕ) {comments : List Co
 first_blanks text goal s k (last x) l = let z = lenient l.0 in (k x z.0).1 ∙ ap (λ ps. blanks_before x s ps) z.1
 first_blanks text goal s k (next x ls) l = let z = lenient l.0.0 in (k x z.0).1 ∙ ap (λ ps. blanks_before x s ps) z.1
 
-module _ {A : Type 0} (f : Lexeme → ℕ → List (List ℕ) → List A) (text : List ℕ) (goal : Goal) (kept : Spot → List A) (more : News → List A) (grows : (s : Spot) (x : Lexeme) (n : News) → kept (onward s x n) ≡ kept s ++ more n) (first : (s : Spot) (x : Lexeme) (n : News) → IsNew text s x n → (ms : Lexemes) (l : Lexes (Faultless goal text) x.to ms) → more n ≡ first_of f text goal x.to ms l) where
+module _ {A : Type 0} (f : Lexeme → ℕ → List (List ℕ) → List A) (text : List ℕ) (goal : Goal) (kept : Spot → List A) (more : News → List A) (grows : (s : Spot) (x : Lexeme) (n : News) → kept (onward s x n) ≡ kept s ++ more n) (still : (s : Spot) (ds : List Diagnostic) → kept (with_faults s ds) ≡ kept s) (first : (s : Spot) (x : Lexeme) (n : News) → IsNew text s x n → (ms : Lexemes) (l : Lexes (Faultless goal text) x.to ms) → more n ≡ first_of f text goal x.to ms l) where
   walk_grows : {s s' : Spot} {pass : Lexemes → Lexemes} (w : Walked text s s' pass) (ms : Lexemes) (l : Lexes (Faultless goal text) s.place (pass ms)) → kept s' ++ others_of f text goal s'.place ms (behind_walk (Faultless goal text) w ms l) ≡ kept s ++ others_of f text goal s.place (pass ms) l
   walk_grows nowhere ms l = refl
   walk_grows (one_more {s' = m} {x = x} {n = n} w i) ms l =
@@ -50,6 +47,7 @@ module _ {A : Type 0} (f : Lexeme → ℕ → List (List ℕ) → List A) (text 
       let a : kept (onward m x n) ++ rest ≡ kept m ++ (more n ++ rest) = ap (λ v. v ++ rest) (grows m x n) ∙ append_assoc (kept m) (more n) rest in
       let b : more n ++ rest ≡ each_of f text goal x.to ms k = ap (λ v. v ++ rest) (first m x n i ms k) ∙ sym (split f text goal x.to ms k) in
       a ∙ (ap (λ v. kept m ++ v) b ∙ walk_grows w (next x ms) l)
+  walk_grows (more_faults {s' = m} w ds n) ms l = ap (λ v. v ++ others_of f text goal m.place ms (behind_walk (Faultless goal text) w ms l)) (still m ds) ∙ walk_grows w ms l
 
   pub all_kept : {s s' : Spot} {pass : Lexemes → Lexemes} (w : Walked text s s' pass) (y : Lexeme) (l : Lexes (Faultless goal text) s.place (pass (last y))) → kept s ≡ first_of f text goal s.place (pass (last y)) l → kept s' ≡ each_of f text goal s.place (pass (last y)) l
   all_kept {s} {s'} {pass} w y l e = sym (append-nil (kept s')) ∙ (walk_grows w (last y) l ∙ (ap (λ v. v ++ others_of f text goal s.place (pass (last y)) l) e ∙ sym (split f text goal s.place (pass (last y)) l)))
@@ -59,6 +57,7 @@ module _ {A : Type 0} (f : Lexeme → ℕ → List (List ℕ) → List A) (text 
 pub keeps_still : {text : List ℕ} {s s' : Spot} {pass : Lexemes → Lexemes} → Walked text s s' pass → s'.keeps_tokens ≡ s.keeps_tokens
 keeps_still nowhere = refl
 keeps_still (one_more w i) = keeps_still w
+keeps_still (more_faults w ds n) = keeps_still w
 
 kept_one : (b : Bool) (t : Token) → b ≡ true → is_kept t.kind ≡ true → kept_token b t ≡ t ∷ []
 kept_one b t e h = λ i. elim (e i && h i) as (λ _. List Token) [ true ↦ t ∷ [] | false ↦ [] ]
@@ -76,8 +75,10 @@ walk_tells {s = s} (one_more {s' = m} {pass = pass} {x = x} {n = n} w i) e =
       (λ j. r.1 j ++ k j) ∙ append_assoc s.kept.tokens r.0 (n.token ∷ []),
       λ ms us h. subst (λ (ts : List Token). TellsEach (pass (next x ms)) ts) (sym (append_assoc r.0 (n.token ∷ []) us)) (r.2 (next x ms) (n.token ∷ us) (i.tells, h)),
     )
+walk_tells (more_faults w ds n) e = walk_tells w e
 
 -- where none are asked for, none are kept
 pub walk_unasked : {text : List ℕ} {s s' : Spot} {pass : Lexemes → Lexemes} → Walked text s s' pass → s.keeps_tokens ≡ false → s'.kept.tokens ≡ s.kept.tokens
 walk_unasked nowhere e = refl
 walk_unasked (one_more {s' = m} {n = n} w i) e = (λ j. m.kept.tokens ++ kept_none m.keeps_tokens n.token (keeps_still w ∙ e) j) ∙ (append-nil m.kept.tokens ∙ walk_unasked w e)
+walk_unasked (more_faults w ds n) e = walk_unasked w e

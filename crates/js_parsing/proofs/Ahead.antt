@@ -2,13 +2,12 @@
 use Rattle.std.proofs.Common.{ℕ, ◌≡◌, List, Bool, true, false, not, IsTrue, refl, ap}
 use Rattle.std.proofs.lemmas.Bool.{or_left}
 use Rattle.js_grammar.specs.Trees.{end}
-use Rattle.js_grammar.specs.Grammar.{Lexeme, Look, here, seen, lexeme, look, ahead, seq, ◌▸◌}
+use Rattle.js_grammar.specs.Grammar.{Lexeme, Look, seen, lexeme, look, ahead, seq, ◌▸◌}
 use Rattle.js_grammar.specs.Parsing.{Test, plain, full, still, Goes, Reads}
 use Rattle.js_grammar.specs.Productions.{G, other, if_next, not_then}
 use Rattle.js_grammar.specs.Table.{rule}
 use Rattle.js_grammar.proofs.Looks.{not_both}
 use Rattle.js_grammar.proofs.Calculus.{◌▹◌, left, looks, then_by}
-use Rattle.js_grammar.proofs.FollowLaws.{admits}
 use Rattle.js_parsing.specs.Lexemes.{Lex}
 use Rattle.js_parsing.proofs.Dead.{unread, fails_dead}
 use Rattle.js_parsing.proofs.Paths.{reads}

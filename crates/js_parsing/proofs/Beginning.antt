@@ -1,17 +1,17 @@
 -- A parser at the start of a text may read a production, where no hashbang comment stands.
 use Rattle.std.proofs.Common.{ℕ, ◌≡◌, inl, inr, Bool, List, [], refl, sym, ap, subst, arith, ◌∙◌}
 use Rattle.std.specs.Prelude.{Some}
-use Rattle.js_base.specs.declared.kind.Kind.TheVariants.{HashbangComment, RAngle, Undetermined}
+use Rattle.js_base.specs.declared.kind.Kind.TheVariants.{HashbangComment, RAngle}
 use Rattle.js_base.specs.declared.options.ParseOptions.{ParseOptions}
 use Rattle.js_base.specs.declared.source_type.SourceType.{SourceType}
-use Rattle.std.proofs.Common.{true, false, ◌⊎◌, ◌∷◌}
+use Rattle.std.proofs.Common.{true, false, ◌⊎◌}
 use Rattle.std.proofs.lemmas.Bool.{false≢true}
 use Rattle.js_grammar.specs.Grammar.{Lexeme}
-use Rattle.js_grammar.specs.Lexemes.{LexicalGoal, division, hashbang, kind_in, plain_kind}
+use Rattle.js_grammar.specs.Lexemes.{LexicalGoal, division, hashbang, kind_in}
 use Rattle.js_grammar.specs.Settings.{Goal}
 use Rattle.js_lex.specs.Reading.{cut, GivesLexeme, GivesFirst, GivesNext, Outcome, LexemeBehind}
 use Rattle.js_lex.specs.States.{goal_of}
-use Rattle.js_lex.proofs.KindsOfLexemes.{hashbang_is, plain_no_hashbang}
+use Rattle.js_lex.proofs.KindsOfLexemes.{hashbang_is}
 use Rattle.js_cursor.specs.Parsers.{Parser}
 use Rattle.js_cursor.specs.Starts.{Starts}
 use Rattle.js_cursor.specs.Places.{IsAt, goal}

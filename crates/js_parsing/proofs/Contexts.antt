@@ -10,7 +10,7 @@ use Rattle.js_cursor.specs.declared.stop.Stop.{Stop}
 use Rattle.js_cursor.proofs.Later.{follows_on}
 use Rattle.js_cursor.proofs.Changing.{ctx_set}
 use Rattle.js_parsing.specs.Answers.{Numbered, Stops, Underived}
-use Rattle.js_parsing.specs.Contexts.{arrow_body}
+use Rattle.js_parsing.specs.Contexts.{arrow_body, braced_body}
 use Rattle.js_parsing.specs.States.{At, IsPlain, whole, sign, nothing, flags_of}
 use Rattle.js_parsing.proofs.Moving.{flags_same, stops_later}
 
@@ -37,12 +37,19 @@ module _ {text : List ℕ} where
   pub arrow_at : {f : Flags} {p q : Parser} {b c d : Context} → At text f p → b ≡ p.ctx → SetsFlag yield_flag false b c → SetsFlag await_flag false c d → q ≡ record p { ctx = d } → At text (arrow_body f) q
   arrow_at {f} {p} {q} {b} {c} {d} a e s t h = subst (At text (arrow_body f)) (sym h) (at_under d (in_arrow a (subst (λ (v : Context). SetsFlag yield_flag false v c) e s) t) a)
 
+  -- and with In and Return
+  in_braces : {f : Flags} {p : Parser} {c d e g : Context} → At text f p → SetsFlag yield_flag false p.ctx c → SetsFlag await_flag false c d → SetsFlag in_flag true d e → SetsFlag return_flag true e g → flags_of (record p { ctx = g }) ≡ braced_body f
+  in_braces {f} {p} {c} {d} {e} {g} a s t u v = rw (v.others in_flag (λ e. cc), u.flag, v.others yield_flag (λ e. cc), u.others yield_flag (λ e. cc), t.others yield_flag (λ e. cc), s.flag, v.others await_flag (λ e. cc), u.others await_flag (λ e. cc), t.flag, v.flag, v.others new_target_flag (λ e. cc), u.others new_target_flag (λ e. cc), t.others new_target_flag (λ e. cc), s.others new_target_flag (λ e. cc)) (ap braced_body a.flags_are)
+
+  pub braces_at : {f : Flags} {p q : Parser} {b c d e g : Context} → At text f p → b ≡ p.ctx → SetsFlag yield_flag false b c → SetsFlag await_flag false c d → SetsFlag in_flag true d e → SetsFlag return_flag true e g → q ≡ record p { ctx = g } → At text (braced_body f) q
+  braces_at {f} {p} {q} {b} {c} {d} {e} {g} a i s t u v h = subst (At text (braced_body f)) (sym h) (at_under g (in_braces a (subst (λ (w : Context). SetsFlag yield_flag false w c) i s) t u v) a)
+
   -- and back
   out_of : {f g : Flags} {n : Symbol} {p q : Parser} {c : Context} {id : NodeId} → At text f p → Numbered text g n (record p { ctx = c }) q id → Numbered text f n p (record q { ctx = p.ctx }) id
   out_of {f} {g} {n} {p} {q} {c} a x = record {
     answer = record {
       at = at_under p.ctx (flags_same p (record q { ctx = p.ctx }) refl x.answer.same.follows.source_type x.answer.same.options ∙ a.flags_are) x.answer.at;
-      same = record { follows = follows_on (ctx_set c a.at).0 (follows_on x.answer.same.follows (ctx_set p.ctx x.answer.at.at).0); options = x.answer.same.options; ctx = refl; depth = x.answer.same.depth; visits = x.answer.same.visits; early = x.answer.same.early; lies = x.answer.same.lies };
+      same = record { follows = follows_on (ctx_set c a.at).0 (follows_on x.answer.same.follows (ctx_set p.ctx x.answer.at.at).0); options = x.answer.same.options; ctx = refl; depth = x.answer.same.depth; visits = x.answer.same.visits; early = x.answer.same.early; lies = x.answer.same.lies; meets = x.answer.same.meets };
       further = x.answer.further;
       label = x.answer.label;
       slots = x.answer.slots;
@@ -60,4 +67,4 @@ module _ {text : List ℕ} where
   out_of_context {f} {g} {n} {p} {e} {q} {w} {c} {d} {id} a i h x j = subst (λ (r : Parser). Numbered text f n p r id) (sym (j ∙ ap (λ (v : Context). record q { ctx = v }) i)) (out_of a (subst (λ (r : Parser). Numbered text g n r q id) h x))
 
 pub stops_in_context : (text : List ℕ) (n : Symbol) (p e q : Parser) (c : Context) (s : Stop) → IsAt p → e ≡ record p { ctx = c } → Stops e q s (Underived text n e.prev_token_end) → Stops p q s (Underived text n p.prev_token_end)
-stops_in_context text n p e q c s a h x = stops_later q s (ctx_set c a).0 (λ w. w) (λ w. w) (λ g. g) (λ x. x) (subst (λ (r : Parser). Stops r q s (Underived text n r.prev_token_end)) h x)
+stops_in_context text n p e q c s a h x = stops_later q s (ctx_set c a).0 (λ w. w) (λ w. w) (λ n. n) (λ g. g) (λ x. x) (subst (λ (r : Parser). Stops r q s (Underived text n r.prev_token_end)) h x)

@@ -11,7 +11,7 @@ use Rattle.js_cursor.specs.Places.{IsAt}
 use Rattle.js_cursor.specs.declared.stop.Stop.{Stop}
 use Rattle.js_cursor.proofs.Later.{follows_on}
 use Rattle.js_parsing.specs.declared.nested.Goal.{Goal}
-use Rattle.js_parsing.specs.declared.nested.Goal.TheVariants.{Expression, Assignment, Element, Unary, Exponentiation, Binding, Statement}
+use Rattle.js_parsing.specs.declared.nested.Goal.TheVariants.{Expression, Assignment, Element, Unary, Exponentiation, Binding, Statement, ListItem, Body}
 use Rattle.js_parsing.specs.Nesting.{Ready, Reading}
 use Rattle.js_parsing.specs.States.{Standing}
 use Rattle.js_parsing.specs.Statements.{NoStatement}
@@ -20,6 +20,8 @@ use Rattle.js_parsing.proofs.Moving.{standing, deeper, elsewhere, at_depth, stop
 
 pub ready_at : {p : Parser} (g : Goal) → Ready g p → Standing p
 ready_at Statement r = r.0
+ready_at ListItem r = r.0
+ready_at Body r = r.0
 ready_at Expression r = r
 ready_at Assignment r = r
 ready_at Element r = r
@@ -29,6 +31,8 @@ ready_at Binding r = r
 
 pub ready_deeper : {k : ℕ} {p q : Parser} (g : Goal) → Ready g p → Enters k p q → Ready g q
 ready_deeper Statement r i = (standing (deeper r.0 i), ap (λ (q : Parser). has_flag in_flag q.ctx) i.is ∙ r.1)
+ready_deeper ListItem r i = (standing (deeper r.0 i), ap (λ (q : Parser). has_flag in_flag q.ctx) i.is ∙ r.1)
+ready_deeper Body r i = (standing (deeper r.0 i), ap (λ (q : Parser). has_flag in_flag q.ctx) i.is ∙ r.1)
 ready_deeper Expression r i = standing (deeper r i)
 ready_deeper Assignment r i = standing (deeper r i)
 ready_deeper Element r i = standing (deeper r i)
@@ -41,6 +45,8 @@ no_deeper {text = text} {n = n} i x = subst (λ (s : ℕ). NoStatement text n s)
 
 pub stops_deeper : {k : ℕ} {p q : Parser} (r : Parser) (e : Stop) (g : Goal) → Enters k p q → Reading g q r (Err e) → Reading g p r (Err e)
 stops_deeper r e Statement i x = λ text f a. stops_in r e a.at i (no_deeper {n = at n.Sub f} i) (x text f (deeper a i))
+stops_deeper r e ListItem i x = λ text f a. stops_in r e a.at i (no_deeper {n = at n.ListItem f} i) (x text f (deeper a i))
+stops_deeper r e Body i x = λ text f a. stops_in r e a.at i (entered_none {n = at n.Body f} i) (x text f (deeper a i))
 stops_deeper r e Expression i x = λ text f a. stops_in r e a.at i (entered_none {n = at n.Expression f} i) (x text f (deeper a i))
 stops_deeper r e Assignment i x = λ text f a. stops_in r e a.at i (entered_none {n = at n.Assignment f} i) (x text f (deeper a i))
 stops_deeper r e Element i x = λ text f a. stops_in r e a.at i (entered_none {n = at n.Assignment f} i) (x text f (deeper a i))
@@ -51,6 +57,8 @@ stops_deeper r e Binding i x = λ text f a. stops_in r e a.at i (entered_none {n
 -- the state before the level is given back
 pub read_deeper : {k : ℕ} {p e q : Parser} (id : NodeId) (g : Goal) → Ready g p → Enters k p e → Reading g e q (Ok id) → IsAt q × (q.depth ≡ e.depth)
 read_deeper id Statement r i x = let y = x _ _ (deeper r.0 i) in (y.at.at, y.same.depth)
+read_deeper id ListItem r i x = let y = x _ _ (deeper r.0 i) in (y.at.at, y.same.depth)
+read_deeper id Body r i x = let y = (x _ _ (deeper r.0 i)).answer in (y.at.at, y.same.depth)
 read_deeper id Expression r i x = let y = (x _ _ (deeper r i)).answer in (y.at.at, y.same.depth)
 read_deeper id Assignment r i x = let y = (x _ _ (deeper r i)).answer in (y.at.at, y.same.depth)
 read_deeper id Element r i x = let y = (x _ _ (deeper r i)).answer in (y.at.at, y.same.depth)
@@ -61,7 +69,7 @@ read_deeper id Binding r i x = let y = (x _ _ (deeper r i)).answer in (y.at.at, 
 statement_out : {text : List ℕ} {f : Flags} {n : Symbol} {p q : Parser} {id : NodeId} (k j : ℕ) → j ≡ p.depth → IsAt p → TheStatement text f n (record p { depth = k }) q id → TheStatement text f n p (record q { depth = j }) id
 statement_out {q = q} k j e a x = record {
   at = elsewhere q.nodes j x.at;
-  same = record { follows = follows_on (at_depth k a) (follows_on x.same.follows (at_depth j x.at.at)); options = x.same.options; ctx = x.same.ctx; depth = e; visits = x.same.visits; early = x.same.early; lies = x.same.lies };
+  same = record { follows = follows_on (at_depth k a) (follows_on x.same.follows (at_depth j x.at.at)); options = x.same.options; ctx = x.same.ctx; depth = e; visits = x.same.visits; early = x.same.early; lies = x.same.lies; meets = x.same.meets };
   further = x.further;
   label = x.label;
   slots = x.slots;
@@ -80,6 +88,8 @@ left_statement {k} {text} {f} {n} {p} {e} {q} {w} {id} a h l x =
 
 pub left_deeper : {k : ℕ} {p e q w : Parser} (id : NodeId) (g : Goal) → Enters k p e → Leaves k q w → Reading g e q (Ok id) → Reading g p w (Ok id)
 left_deeper id Statement i l x = λ text f a. left_statement a.at i l (x text f (deeper a i))
+left_deeper id ListItem i l x = λ text f a. left_statement a.at i l (x text f (deeper a i))
+left_deeper id Body i l x = λ text f a. left a.at i l (x text f (deeper a i))
 left_deeper id Expression i l x = λ text f a. left a.at i l (x text f (deeper a i))
 left_deeper id Assignment i l x = λ text f a. left a.at i l (x text f (deeper a i))
 left_deeper id Element i l x = λ text f a. left a.at i l (x text f (deeper a i))

@@ -16,9 +16,10 @@ use Rattle.js_cursor.proofs.Later.{keeps_follows}
 use Rattle.js_parsing.specs.Heads.{NotedHeads}
 use Rattle.js_parsing.specs.Lexemes.{Lex}
 use Rattle.js_parsing.specs.States.{At, NodesLie}
-use Rattle.js_parsing.specs.Answers.{Grown, Stops}
+use Rattle.js_parsing.specs.Answers.{Grown, Stops, Unbuilt}
 use Rattle.js_parsing.proofs.Here.{escaped_here}
 use Rattle.js_parsing.proofs.Tight.{read_plain}
+use Rattle.js_parsing.proofs.ToEnd.{to_end_stays, unbuilt_to_end}
 use Rattle.js_parsing.specs.Classes.{EndsParse}
 use Rattle.js_parsing.proofs.Classes.{unexpected_ends}
 
@@ -26,8 +27,8 @@ pub kept_one : {d : Diagnostic} {p q : Parser} → Keeps d p q → Grown p.error
 kept_one {d} k = record { more = d ∷ []; kept = ap (λ (r : Parser). r.errors) k.is; some = λ e. cc }
 
 -- by a diagnostic of a class that ends a parse
-pub gives_up : {text : List ℕ} {f : Flags} (P : Diagnostic → Type 0) (p q : Parser) {F : Type 0} (e : Stop) → At text f p → GivesUp P p q e → ((d : Diagnostic) → P d → EndsParse d) → F → Stops p q e F
-gives_up P p q Fatal a g c x = record {
+pub gives_up_or : {text : List ℕ} {f : Flags} (P : Diagnostic → Type 0) (p q : Parser) {F : Type 0} (e : Stop) → At text f p → GivesUp P p q e → ((d : Diagnostic) → P d → EndsParse d) → ((Unbuilt q → ⊥) → F) → Stops p q e F
+gives_up_or P p q Fatal a g c x = record {
   at = g.2.at;
   follows = keeps_follows g.2;
   grown = kept_one g.2;
@@ -35,8 +36,12 @@ gives_up P p q Fatal a g c x = record {
   lies = λ h. subst (λ (r : Parser). NodesLie r.text r.nodes) (sym g.2.is) h.1;
   heads = subst NotedHeads (sym g.2.is) a.heads;
   none = x;
+  met = λ u. to_end_stays p q (ap (λ (r : Parser). r.text) g.2.is) (ap (λ (r : Parser). r.prev_token_end) g.2.is) (unbuilt_to_end u);
 }
-gives_up P p q NoMemory a g c x = tt
+gives_up_or P p q NoMemory a g c x = tt
+
+pub gives_up : {text : List ℕ} {f : Flags} (P : Diagnostic → Type 0) (p q : Parser) {F : Type 0} (e : Stop) → At text f p → GivesUp P p q e → ((d : Diagnostic) → P d → EndsParse d) → F → Stops p q e F
+gives_up P p q e a g c x = gives_up_or P p q e a g c (λ n. x)
 
 -- by what can't stand here
 pub gives_up_here : {text : List ℕ} {f : Flags} (p q : Parser) {F : Type 0} (e : Stop) → At text f p → GivesUp (IsUnexpected p) p q e → F → Stops p q e F

@@ -1,5 +1,5 @@
 -- The faults that the lexer keeps with a token are those of what stands at its place.
-use Rattle.std.proofs.Common.{ℕ, ◌+◌, ◌≡◌, inl, inr, ◌⊎◌, Bool, true, false, not, ◌&&◌, ◌||◌, List, [], ◌∷◌, ◌++◌, IsTrue, None, refl, sym, ap, subst, ◌∙◌}
+use Rattle.std.proofs.Common.{ℕ, ◌+◌, ◌≡◌, Bool, true, false, not, ◌||◌, List, [], ◌∷◌, ◌++◌, None, refl, sym, subst}
 use Rattle.std.proofs.lemmas.Bool.{false≢true, and_parts, and_from}
 use Rattle.js_base.specs.declared.diagnostic.Diagnostic.{Diagnostic}
 use Rattle.js_base.specs.declared.kind.Kind.{Kind}
@@ -17,7 +17,7 @@ use Rattle.js_grammar.specs.Settings.{Goal}
 use Rattle.js_grammar.proofs.Alike.{stands-same}
 use Rattle.js_lex.specs.Comments.{each_at, html_fault_at, span_at}
 use Rattle.js_base.specs.declared.diagnostic.DiagnosticKind.TheVariants.{HtmlCommentInModule}
-use Rattle.js_lex.specs.Reading.{cut, in_a_module, Outcome, GivesNext, GivesNone, GivesLexeme}
+use Rattle.js_lex.specs.Reading.{cut, in_a_module, GivesNext, GivesNone, GivesLexeme}
 use Rattle.js_lex.specs.States.{State}
 use Rattle.js_parsing.specs.Lexemes.{Lex, Faultless, KeptFor, read_kinds}
 use Rattle.js_parsing.proofs.Here.{plainly}

@@ -1,5 +1,5 @@
 -- Of the comments, the white space and the tokens that a lexer keeps: what one lexeme on adds, and that the current token is kept last.
-use Rattle.std.proofs.Common.{ℕ, ◌+◌, ◌-◌, ◌≡◌, Bool, true, false, not, cond, ◌&&◌, ◌||◌, List, [], ◌∷◌, ◌++◌, length, take, refl, sym, ap, subst, arith, ◌∙◌, append-nil, length-append}
+use Rattle.std.proofs.Common.{ℕ, ◌+◌, ◌-◌, ◌≡◌, Bool, true, false, not, cond, ◌&&◌, ◌||◌, List, [], ◌∷◌, ◌++◌, length, take, refl, sym, ap, subst, arith, ◌∙◌, length-append}
 use Rattle.std.specs.Prelude.{Some}
 use Rattle.std.proofs.lemmas.Bool.{false≢true}
 use Rattle.std.proofs.Math.Seq.{take-append_seam}
@@ -12,11 +12,10 @@ use Rattle.js_base.proofs.KindLemmas.{kind_of_same}
 use Rattle.js_grammar.specs.Characters.{width}
 use Rattle.js_grammar.specs.Grammar.{Lexeme}
 use Rattle.js_grammar.specs.Lexemes.{LexicalGoal, division, kind_in, plain_kind}
-use Rattle.js_grammar.specs.Lexed.{Lex as StandsBehind, all_faults}
 use Rattle.js_grammar.specs.Longest.{joined}
 use Rattle.js_grammar.proofs.Alike.{lex-same, stands-same}
 use Rattle.js_lex.specs.Comments.{each_at, comment_at, irregular_at}
-use Rattle.js_lex.specs.Reading.{cut, is_right_angle, is_kept, kept_token, relexed, GivesLexeme, GivesNext, LexemeBehind}
+use Rattle.js_lex.specs.Reading.{cut, is_right_angle, is_kept, kept_token, relexed, GivesLexeme, GivesNext}
 use Rattle.js_lex.specs.States.{State}
 use Rattle.js_lex.proofs.Again.{cut_same}
 use Rattle.js_lex.proofs.KindsOfLexemes.{plain_no_hashbang}

@@ -22,5 +22,7 @@ pub mod Signs
 pub mod Stretches
 pub mod Tight
 pub mod Told
+pub mod ToEnd
+pub mod Unbuilt
 pub mod Verdicts
 pub mod Classes

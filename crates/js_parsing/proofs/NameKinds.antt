@@ -83,10 +83,10 @@ unfolding apart
 at_name a h = at_kinds a name_kinds refl h
 
 -- one more kind
-pub or_name : (a k : Kind) → (k ≡ a → ⊥) → one_of_kinds name_kinds k ≡ false → one_of_kinds (a ∷ name_kinds) k ≡ false
-or_name a k n m = go (same_kind a k) refl
+pub or_kind : (a : Kind) (ks : List Kind) (k : Kind) → (k ≡ a → ⊥) → one_of_kinds ks k ≡ false → one_of_kinds (a ∷ ks) k ≡ false
+or_kind a ks k n m = go (same_kind a k) refl
   where
-    go : (b : Bool) → same_kind a k ≡ b → (b || one_of_kinds name_kinds k) ≡ false
+    go : (b : Bool) → same_kind a k ≡ b → (b || one_of_kinds ks k) ≡ false
     go true e = absurd (n (sym (kind_of_same a k e)))
     go false e = m
 

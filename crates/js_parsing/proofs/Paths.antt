@@ -7,6 +7,7 @@ use Rattle.js_base.specs.Kinds.{same_kind, one_of_kinds}
 use Rattle.js_base.proofs.KindLemmas.{kind_of_same}
 use Rattle.js_grammar.specs.Trees.{Slots, end, tree, Label, Op, NodeKind}
 use Rattle.js_grammar.specs.Grammar.{Lexeme, Lexemes, Look, seen, exact, is, here, lexeme, next, seq, such, nothing}
+use Rattle.js_grammar.specs.Lexed.{Lexes}
 use Rattle.js_grammar.specs.Parsing.{still, passing, Test, plain, behind, full, always, Goes, Reads, Fails}
 use Rattle.js_grammar.specs.Productions.{G, Flags, Symbol, tok, make}
 use Rattle.js_grammar.specs.Table.{rule}
@@ -21,17 +22,24 @@ use Rattle.js_grammar.proofs.FollowLaws.{surely}
 use Rattle.js_grammar.proofs.Alike.{lex-same}
 use Rattle.js_lex.specs.Reading.{is_right_angle}
 use Rattle.js_cursor.specs.Parsers.{Parser}
-use Rattle.js_parsing.specs.Lexemes.{Lex, Walked, Spot, spot, nowhere, one_more, is_read, read_kinds}
+use Rattle.js_parsing.specs.Lexemes.{Lex, Walked, Spot, spot, nowhere, one_more, more_faults, is_read, read_kinds}
 use Rattle.js_parsing.specs.States.{At}
 use Rattle.js_parsing.specs.Moves.{Moved}
 use Rattle.js_parsing.specs.Answers.{Verdict, clean, Stretch, Answer}
 use Rattle.js_parsing.proofs.Here.{told, angled, begins_here, kind_here, plain_kind, uncut}
 use Rattle.js_parsing.proofs.Verdicts.{verdict_of, either_way, and_then}
 
+-- lexemes behind those that were passed
+abbrev pub behind_walk : (L : ℕ → Lexeme → Type 0) {text : List ℕ} {s s' : Spot} {pass : Lexemes → Lexemes} → Walked text s s' pass → (ms : Lexemes) → Lexes L s.place (pass ms) → Lexes L s'.place ms
+behind_walk L nowhere ms l = l
+behind_walk L (one_more {x = x} w i) ms l = (behind_walk L w (next x ms) l).1
+behind_walk L (more_faults w ds n) ms l = behind_walk L w ms l
+
 -- a walk, and another behind it
 pub walked_both : {text : List ℕ} {s s' s'' : Spot} {f h : Lexemes → Lexemes} → Walked text s s' f → Walked text s' s'' h → Walked text s s'' (λ ls. f (h ls))
 walked_both a nowhere = a
 walked_both a (one_more b i) = one_more (walked_both a b) i
+walked_both {text} a (more_faults {pass = h} b ds n) = more_faults (walked_both a b) ds (λ ls l. n ls (behind_walk (Lex text) a (h ls) l))
 
 pub walked_to : {text : List ℕ} {s e e' : Spot} {f : Lexemes → Lexemes} → e ≡ e' → Walked text s e f → Walked text s e' f
 walked_to {text} {s} {f = f} q w = subst (λ v. Walked text s v f) q w

@@ -1,17 +1,14 @@
 -- Whether a lexeme that is read stands at a place.
 use Rattle.std.proofs.Common.{ℕ, ◌≡◌, Bool, true, false, not, ◌&&◌, ◌||◌, List, refl, sym, ap, subst, ◌∙◌}
-use Rattle.std.specs.Prelude.{is_some}
-use Rattle.std.proofs.lemmas.Bool.{false≢true, and_from, and_parts}
+use Rattle.std.proofs.lemmas.Bool.{false≢true, and_parts}
 use Rattle.js_base.specs.Kinds.{one_of_kinds}
-use Rattle.js_base.specs.KindSets.{number_kinds}
-use Rattle.js_base.specs.Operators.{assignment_operators, row_of}
 use Rattle.js_base.specs.declared.kind.Kind.{Kind}
-use Rattle.js_base.specs.declared.kind.Kind.TheVariants.{PrivateIdentifier, RAngle, Undetermined}
+use Rattle.js_base.specs.declared.kind.Kind.TheVariants.{PrivateIdentifier}
 use Rattle.js_base.specs.Kinds.{same_kind}
 use Rattle.js_base.specs.Texts.{words}
 use Rattle.js_grammar.specs.Grammar.{Lexeme, Look}
 use Rattle.js_grammar.specs.Productions.{Flags}
-use Rattle.js_grammar.specs.Lexemes.{is_word, is_escaped}
+use Rattle.js_grammar.specs.Lexemes.{is_word}
 use Rattle.js_grammar.proofs.Looks.{covers, covered}
 use Rattle.js_cursor.specs.Parsers.{Parser}
 use Rattle.js_parsing.specs.Lexemes.{Lex, read_kinds}

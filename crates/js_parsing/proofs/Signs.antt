@@ -6,11 +6,10 @@ use Rattle.js_base.specs.declared.kind.Kind.TheVariants.{Question, Colon, Privat
 use Rattle.js_base.specs.declared.span.Span.{Span}
 use Rattle.js_base.specs.Kinds.{same_kind, one_of_kinds}
 use Rattle.js_base.specs.Texts.{words}
-use Rattle.js_grammar.specs.Trees.{end}
 use Rattle.js_grammar.specs.Grammar.{Lexeme}
 use Rattle.js_grammar.specs.Lexemes.{is_word, is_escaped}
 use Rattle.js_grammar.specs.Names.{has_backslash}
-use Rattle.js_grammar.specs.Productions.{Flags, at}
+use Rattle.js_grammar.specs.Productions.{Flags}
 use Rattle.js_cursor.specs.Parsers.{Parser}
 use Rattle.js_cursor.specs.Moves.{is_last}
 use Rattle.js_base.proofs.KindLemmas.{kind_of_same}
@@ -18,7 +17,6 @@ use Rattle.js_grammar.specs.Lexed.{Lex as StandsBehind, all_faults}
 use Rattle.js_parsing.specs.Lexemes.{Lex}
 use Rattle.js_parsing.specs.States.{At}
 use Rattle.js_parsing.proofs.Here.{found, told, uncut, kind_here}
-use Rattle.js_parsing.proofs.Paths.{token}
 use Rattle.js_parsing.proofs.Tight.{read_plain}
 use Rattle.std.proofs.Common.{◌<◌, ◌⊎◌, inl, inr, length-append, cond, nat_lt}
 use Rattle.std.proofs.lemmas.Bool.{or_left, or_right, lt-ltb}
@@ -27,14 +25,12 @@ use Rattle.js_grammar.proofs.Lexemes.{first_or}
 use Rattle.js_lex.specs.Reading.{Tells}
 use Rattle.js_parsing.specs.Answers.{Grown, Verdict, clean, unclean}
 use Rattle.js_parsing.specs.Lexemes.{read_kinds}
-use Rattle.js_parsing.specs.Moves.{Tightness}
+use Rattle.js_parsing.specs.Moves.{IsWholeHere, Tightness, unpassable}
 use Rattle.js_parsing.specs.Operators.{power_of}
 use Rattle.js_parsing.specs.Stands.{ending_kinds, Ended}
 use Rattle.js_parsing.specs.States.{IsPlain, whole, sign, nothing as no_lexeme}
 use Rattle.js_parsing.proofs.Paths.{read_of}
 use Rattle.js_parsing.proofs.Tight.{operator_read}
-use Rattle.js_grammar.specs.Grammar.{is}
-use Rattle.js_grammar.specs.Parsing.{plain}
 use Rattle.js_lex.specs.Reading.{is_right_angle}
 use Rattle.js_parsing.specs.Stands.{StandsHere}
 use Rattle.js_parsing.proofs.Here.{angled, escaped_here}
@@ -50,8 +46,8 @@ plain_sign k a e r l w =
     z.2.escaped ∙ (z.1.escaped ∙ (ap (λ (v : Kind). is_escaped v z.1.word) i ∙ unescaped k z.1.word w))
 
 -- it may be passed
-pub whole_sign : {text : List ℕ} {f : Flags} {p : Parser} (k : Kind) → At text f p → p.token.kind ≡ k → same_kind RAngle k ≡ false → is_last k ≡ false → (p.cut ≡ false) × (is_last p.token.kind ≡ false)
-whole_sign k a e r l = (uncut a (ap (same_kind RAngle) e ∙ r), ap is_last e ∙ l)
+pub whole_sign : {text : List ℕ} {f : Flags} {p : Parser} (k : Kind) → At text f p → p.token.kind ≡ k → same_kind RAngle k ≡ false → unpassable k ≡ false → IsWholeHere p
+whole_sign k a e r l = (uncut a (ap (same_kind RAngle) e ∙ r), ap unpassable e ∙ l)
 
 pub other_kind : (a k : Kind) → (k ≡ a → ⊥) → one_of_kinds (a ∷ []) k ≡ false
 other_kind a k n = go (same_kind a k) refl

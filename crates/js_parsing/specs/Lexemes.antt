@@ -2,10 +2,10 @@
 use Rattle.std.specs.Prelude.{ℕ, ◌-◌, ◌≡◌, Bool, true, false, not, cond, ◌&&◌, ◌||◌, List, [], ◌∷◌, ◌++◌, length, take, IsTrue}
 use Rattle.js_base.specs.declared.diagnostic.Diagnostic.{Diagnostic}
 use Rattle.js_base.specs.declared.kind.Kind.{Kind}
-use Rattle.js_base.specs.declared.kind.Kind.TheVariants.{Ident, Let, Static, Implements, Interface, Package, Private, Protected, Public, Of, Get, Set, As, From, Assert, Accessor, Using, Defer, Source, Meta, Satisfies, Constructor, TypeWord, This, Null, True, False, Typeof, Void, Delete, In, Instanceof, Decimal, Float, Binary, Octal, Hex, PositiveExponential, NegativeExponential, DecimalBigInt, BinaryBigInt, OctalBigInt, HexBigInt, Str, Tilde, Bang, Plus, Minus, Star, Star2, Slash, Percent, Eq2, Eq3, Neq, Neq2, LAngle, LtEq, RAngle, GtEq, ShiftLeft, ShiftRight, ShiftRight3, Amp, Amp2, Pipe, Pipe2, Caret, Question, Colon, Comma, Eof, Dot, QuestionDot, New, Break, Continue, Debugger, Throw, If, Else, While, Do, With, Var, Const, Plus2, Minus2, Eq, PlusEq, MinusEq, StarEq, SlashEq, PercentEq, ShiftLeftEq, ShiftRightEq, ShiftRight3Eq, PipeEq, CaretEq, AmpEq, Amp2Eq, Pipe2Eq, Question2Eq, Star2Eq, Semicolon, LParen, RParen, Question2, LBrack, RBrack, Dot3, Arrow}
-use Rattle.js_base.specs.Kinds.{one_of_kinds}
-use Rattle.js_grammar.specs.Grammar.{Lexeme, Lexemes, next}
-use Rattle.js_grammar.specs.Lexed.{Lex as StandsBehind, all_faults, passing_of}
+use Rattle.js_base.specs.declared.kind.Kind.TheVariants.{Ident, Let, Static, Implements, Interface, Package, Private, Protected, Public, Of, Get, Set, As, From, Assert, Accessor, Using, Defer, Source, Meta, Satisfies, Constructor, TypeWord, This, Null, True, False, Typeof, Void, Delete, In, Instanceof, Decimal, Float, Binary, Octal, Hex, PositiveExponential, NegativeExponential, DecimalBigInt, BinaryBigInt, OctalBigInt, HexBigInt, Str, Tilde, Bang, Plus, Minus, Star, Star2, Slash, Percent, Eq2, Eq3, Neq, Neq2, LAngle, LtEq, RAngle, GtEq, ShiftLeft, ShiftRight, ShiftRight3, Amp, Amp2, Pipe, Pipe2, Caret, Question, Colon, Comma, Eof, Dot, QuestionDot, New, Break, Continue, Debugger, Throw, If, Else, While, Do, With, Var, Const, Plus2, Minus2, Eq, PlusEq, MinusEq, StarEq, SlashEq, PercentEq, ShiftLeftEq, ShiftRightEq, ShiftRight3Eq, PipeEq, CaretEq, AmpEq, Amp2Eq, Pipe2Eq, Question2Eq, Star2Eq, Semicolon, LParen, RParen, Question2, LBrack, RBrack, LCurly, RCurly, Dot3, Arrow}
+use Rattle.js_base.specs.Kinds.{same_kind, one_of_kinds}
+use Rattle.js_grammar.specs.Grammar.{Lexeme, Lexemes, last, next}
+use Rattle.js_grammar.specs.Lexed.{Lex as StandsBehind, Lexes, all_faults, passing_of}
 use Rattle.js_grammar.specs.Settings.{Goal}
 use Rattle.js_base.specs.declared.span.Span.{Span}
 use Rattle.js_base.specs.declared.token.Token.{Token}
@@ -22,7 +22,7 @@ abbrev pub name_kinds : List Kind
 name_kinds = Ident ∷ Let ∷ Static ∷ Implements ∷ Interface ∷ Package ∷ Private ∷ Protected ∷ Public ∷ Of ∷ Get ∷ Set ∷ As ∷ From ∷ Assert ∷ Accessor ∷ Using ∷ Defer ∷ Source ∷ Meta ∷ Satisfies ∷ Constructor ∷ TypeWord ∷ []
 
 abbrev pub read_kinds : List Kind
-read_kinds = Eof ∷ This ∷ Null ∷ True ∷ False ∷ Typeof ∷ Void ∷ Delete ∷ In ∷ Instanceof ∷ Decimal ∷ Float ∷ Binary ∷ Octal ∷ Hex ∷ PositiveExponential ∷ NegativeExponential ∷ DecimalBigInt ∷ BinaryBigInt ∷ OctalBigInt ∷ HexBigInt ∷ Str ∷ Tilde ∷ Bang ∷ Plus ∷ Minus ∷ Star ∷ Star2 ∷ Slash ∷ Percent ∷ Eq2 ∷ Eq3 ∷ Neq ∷ Neq2 ∷ LAngle ∷ LtEq ∷ RAngle ∷ GtEq ∷ ShiftLeft ∷ ShiftRight ∷ ShiftRight3 ∷ Amp ∷ Amp2 ∷ Pipe ∷ Pipe2 ∷ Caret ∷ Question ∷ Question2 ∷ Colon ∷ Comma ∷ Dot ∷ QuestionDot ∷ New ∷ Break ∷ Continue ∷ Debugger ∷ Throw ∷ If ∷ Else ∷ While ∷ Do ∷ With ∷ Var ∷ Const ∷ Plus2 ∷ Minus2 ∷ Eq ∷ PlusEq ∷ MinusEq ∷ StarEq ∷ SlashEq ∷ PercentEq ∷ ShiftLeftEq ∷ ShiftRightEq ∷ ShiftRight3Eq ∷ PipeEq ∷ CaretEq ∷ AmpEq ∷ Amp2Eq ∷ Pipe2Eq ∷ Question2Eq ∷ Star2Eq ∷ Semicolon ∷ LParen ∷ RParen ∷ LBrack ∷ RBrack ∷ Dot3 ∷ Arrow ∷ name_kinds
+read_kinds = Eof ∷ This ∷ Null ∷ True ∷ False ∷ Typeof ∷ Void ∷ Delete ∷ In ∷ Instanceof ∷ Decimal ∷ Float ∷ Binary ∷ Octal ∷ Hex ∷ PositiveExponential ∷ NegativeExponential ∷ DecimalBigInt ∷ BinaryBigInt ∷ OctalBigInt ∷ HexBigInt ∷ Str ∷ Tilde ∷ Bang ∷ Plus ∷ Minus ∷ Star ∷ Star2 ∷ Slash ∷ Percent ∷ Eq2 ∷ Eq3 ∷ Neq ∷ Neq2 ∷ LAngle ∷ LtEq ∷ RAngle ∷ GtEq ∷ ShiftLeft ∷ ShiftRight ∷ ShiftRight3 ∷ Amp ∷ Amp2 ∷ Pipe ∷ Pipe2 ∷ Caret ∷ Question ∷ Question2 ∷ Colon ∷ Comma ∷ Dot ∷ QuestionDot ∷ New ∷ Break ∷ Continue ∷ Debugger ∷ Throw ∷ If ∷ Else ∷ While ∷ Do ∷ With ∷ Var ∷ Const ∷ Plus2 ∷ Minus2 ∷ Eq ∷ PlusEq ∷ MinusEq ∷ StarEq ∷ SlashEq ∷ PercentEq ∷ ShiftLeftEq ∷ ShiftRightEq ∷ ShiftRight3Eq ∷ PipeEq ∷ CaretEq ∷ AmpEq ∷ Amp2Eq ∷ Pipe2Eq ∷ Question2Eq ∷ Star2Eq ∷ Semicolon ∷ LParen ∷ RParen ∷ LBrack ∷ RBrack ∷ LCurly ∷ RCurly ∷ Dot3 ∷ Arrow ∷ name_kinds
 
 -- a lexeme of these kinds, without an escape
 abbrev pub is_read : Lexeme → Bool
@@ -102,6 +102,8 @@ read_mark LParen = true
 read_mark RParen = true
 read_mark LBrack = true
 read_mark RBrack = true
+read_mark LCurly = true
+read_mark RCurly = true
 read_mark Dot3 = true
 read_mark Arrow = true
 read_mark _ = false
@@ -109,6 +111,22 @@ read_mark _ = false
 -- y may be the next lexeme behind the place s, and is one of those
 abbrev pub Lex : List ℕ → ℕ → Lexeme → Type 0
 Lex text s y = StandsBehind all_faults text s y × IsTrue (is_read y)
+
+-- A production that isn't built yet begins with a lexeme of these kinds. Where none of those that are built begins with it, a parser stops there, and nothing is said of what is derived.
+abbrev pub unbuilt_kinds : List Kind
+unbuilt_kinds = LCurly ∷ []
+
+-- a lexeme that is read, and no brace
+abbrev pub Braceless : List ℕ → ℕ → Lexeme → Type 0
+Braceless text s y = Lex text s y × (one_of_kinds (LCurly ∷ RCurly ∷ []) y.kind ≡ false)
+
+abbrev pub last_of : Lexemes → Lexeme
+last_of (last x) = x
+last_of (next x ls) = last_of ls
+
+-- no lexemes that are read lead from the place to the end of the text without braces
+abbrev pub NoneToEnd : List ℕ → ℕ → Type 0
+NoneToEnd text s = (ls : Lexemes) → Lexes (Braceless text) s ls → (last_of ls).kind ≡ Eof → ⊥
 
 -- the same, with no fault: in a module no HTML-like comment stands before it (ECMA-262, B.1.1)
 abbrev pub Faultless : Goal → List ℕ → ℕ → Lexeme → Type 0
@@ -169,7 +187,12 @@ pub record IsNew (text : List ℕ) (s : Spot) (x : Lexeme) (n : News) : Type 0 w
   pub faults : KeptFor s.source text x.to n.faults
   pub trivia : TriviaKept text x.to n.comments n.blanks
 
--- Lexemes, one behind the other, lead from one place to another, with what was kept for each: `pass` puts them before those from there on.
+-- with faults that were kept since
+abbrev pub with_faults : Spot → List Diagnostic → Spot
+with_faults s ds = record s { kept = record s.kept { errors = s.kept.errors ++ ds } }
+
+-- Lexemes, one behind the other, lead from one place to another, with what was kept for each: `pass` puts them before those from there on. Where not all of them are read, more faults may have been kept for a place: a part of a template is read there again.
 pub data Walked (text : List ℕ) (s : Spot) : Spot → (Lexemes → Lexemes) → Type 0 where
   nowhere : Walked text s s (λ ls. ls)
   one_more : {s' : Spot} {pass : Lexemes → Lexemes} {x : Lexeme} {n : News} → Walked text s s' pass → IsNew text s' x n → Walked text s (onward s' x n) (λ ls. pass (next x ls))
+  more_faults : {s' : Spot} {pass : Lexemes → Lexemes} → Walked text s s' pass → (ds : List Diagnostic) → ((ls : Lexemes) → Lexes (Lex text) s.place (pass ls) → ⊥) → Walked text s (with_faults s' ds) pass

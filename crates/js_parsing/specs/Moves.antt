@@ -1,10 +1,10 @@
 -- One lexeme on, the operator that stands at a place, and a node made there.
-use Rattle.std.specs.Prelude.{ℕ, ◌≡◌, ◌<◌, ◌⊎◌, false, cond, List, [], ◌∷◌, Option}
+use Rattle.std.specs.Prelude.{ℕ, ◌≡◌, ◌<◌, ◌⊎◌, ◌||◌, Bool, false, cond, List, [], ◌∷◌, Option}
 use Rattle.js_grammar.specs.Grammar.{Lexeme}
 use Rattle.js_grammar.specs.Lexed.{Lex as StandsBehind, all_faults}
 use Rattle.js_grammar.specs.Productions.{Flags}
 use Rattle.js_base.specs.declared.kind.Kind.{Kind}
-use Rattle.js_base.specs.declared.kind.Kind.TheVariants.{Amp2, Pipe2, RAngle}
+use Rattle.js_base.specs.declared.kind.Kind.TheVariants.{Amp2, LCurly, Pipe2, RAngle}
 use Rattle.js_base.specs.Kinds.{same_kind, one_of_kinds}
 use Rattle.js_grammar.specs.Trees.{Label, of, binary_expression, logical_expression}
 use Rattle.js_lex.specs.Reading.{Tells}
@@ -23,14 +23,17 @@ use Rattle.js_parsing.specs.Operators.{power_of}
 use Rattle.js_parsing.specs.Classes.{EndsParse}
 use Rattle.js_parsing.specs.States.{At, Same}
 use Rattle.std.specs.Prelude.{Result, Ok, Err}
-use Rattle.js_grammar.specs.Productions.{at}
 use Rattle.js_cursor.specs.Moves.{GivesUp}
 use Rattle.js_cursor.specs.declared.stop.Stop.{Stop}
 use Rattle.js_cursor.specs.declared.stop.Stop.TheVariants.{Fatal}
 
+-- the end of the text, or what begins no lexeme: neither is passed
+abbrev pub unpassable : Kind → Bool
+unpassable k = is_last k
+
 -- the current token is the whole of a lexeme that may be passed
 abbrev pub IsWholeHere : Parser → Type 0
-IsWholeHere p = (p.cut ≡ false) × (is_last p.token.kind ≡ false)
+IsWholeHere p = (p.cut ≡ false) × (unpassable p.token.kind ≡ false)
 
 -- The current lexeme was passed, and nothing else was made or kept.
 pub record Moved (text : List ℕ) (f : Flags) (old new : Parser) : Type 0 where

@@ -2,7 +2,7 @@
 use Rattle.std.specs.Prelude.{ℕ, ◌+◌, ◌-◌, ◌<◌, ◌≡◌, true, length, Result}
 use denote.Ref.{MutBor}
 use Rattle.js_base.specs.Contexts.{has_flag, in_flag}
-use Rattle.js_grammar.specs.Productions.{at, Assignment, Binding, Exponent, Expression, Sub, Unary}
+use Rattle.js_grammar.specs.Productions.{at, Assignment, Binding, Body, Exponent, Expression, ListItem, Sub, Unary}
 use Rattle.js_tree.specs.declared.id.NodeId.{NodeId}
 use Rattle.js_cursor.specs.Parsers.{Parser}
 use Rattle.js_cursor.specs.declared.stop.Stop.{Stop}
@@ -12,9 +12,11 @@ use Rattle.js_parsing.specs.Answers.{Answers}
 use Rattle.js_parsing.specs.States.{Standing}
 use Rattle.js_parsing.specs.Statements.{TakesStatement}
 
--- it may be read here: a statement under the parameter In, as at the top of a text
+-- it may be read here: a statement and a list of statements under the parameter In, as at the top of a text
 abbrev pub Ready : Goal → Parser → Type 0
 Ready goal.Statement p = Standing p × (has_flag in_flag p.ctx ≡ true)
+Ready goal.ListItem p = Standing p × (has_flag in_flag p.ctx ≡ true)
+Ready goal.Body p = Standing p × (has_flag in_flag p.ctx ≡ true)
 Ready goal.Expression p = Standing p
 Ready goal.Assignment p = Standing p
 Ready goal.Element p = Standing p
@@ -25,6 +27,8 @@ Ready goal.Binding p = Standing p
 -- what its parse function answers
 abbrev pub Reading : Goal → Parser → Parser → Result NodeId Stop → Type 0
 Reading goal.Statement old new r = TakesStatement (at Sub) old new r
+Reading goal.ListItem old new r = TakesStatement (at ListItem) old new r
+Reading goal.Body old new r = Answers (at Body) old new r
 Reading goal.Expression old new r = Answers (at Expression) old new r
 Reading goal.Assignment old new r = Answers (at Assignment) old new r
 Reading goal.Element old new r = Answers (at Assignment) old new r
@@ -32,7 +36,7 @@ Reading goal.Unary old new r = Answers (at Unary) old new r
 Reading goal.Exponentiation old new r = Answers (at Exponent) old new r
 Reading goal.Binding old new r = Answers (at Binding) old new r
 
--- How many levels of depth it takes: what stands between brackets is read through all levels of operators again.
+-- How many levels of depth it takes: what stands between brackets is read through all levels of operators again; an item of a list of statements, and a body in braces, take two.
 abbrev pub levels_of : Goal → ℕ
 levels_of goal.Expression = 4
 levels_of goal.Element = 4
@@ -41,6 +45,8 @@ levels_of goal.Assignment = 1
 levels_of goal.Unary = 1
 levels_of goal.Exponentiation = 1
 levels_of goal.Statement = 1
+levels_of goal.ListItem = 2
+levels_of goal.Body = 2
 
 -- how much of the text is left
 abbrev pub room : Parser → ℕ

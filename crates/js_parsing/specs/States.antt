@@ -11,7 +11,7 @@ use Rattle.js_cursor.specs.Parsers.{Parser}
 use Rattle.js_cursor.specs.Places.{IsAt}
 use Rattle.js_cursor.specs.Starts.{is_module}
 use Rattle.js_parsing.specs.Heads.{NotedHeads}
-use Rattle.js_parsing.specs.Lexemes.{KeptLast}
+use Rattle.js_parsing.specs.Lexemes.{KeptLast, NoneToEnd}
 use Rattle.js_parsing.specs.Classes.{IsEarly}
 use Rattle.std.specs.List.{All}
 use Rattle.js_base.specs.Spans.{LiesIn}
@@ -59,7 +59,7 @@ NodesLie text ns = All (λ (n : Node). LiesIn n.span text) ns
 abbrev pub SpansLie : Parser → Type 0
 SpansLie p = IsCharBoundary p.text p.token.span.start × NodesLie p.text p.nodes
 
--- What a parse function gives back as it was; what was kept before is kept still, and of the diagnostics that were kept since each is one behind which reading goes on. The nodes that were made since lie in the text.
+-- What a parse function gives back as it was; what was kept before is kept still, and of the diagnostics that were kept since each is one behind which reading goes on. The nodes that were made since lie in the text. Where no lexemes without braces lead from the new place to the end of the text, none do from the old one.
 pub record Same (old new : Parser) : Type 0 where
   pub follows : Follows old new
   pub options : new.options ≡ old.options
@@ -68,3 +68,4 @@ pub record Same (old new : Parser) : Type 0 where
   pub visits : new.visits ≡ old.visits
   pub early : All IsEarly old.errors → All IsEarly new.errors
   pub lies : SpansLie old → SpansLie new
+  pub meets : NoneToEnd new.text new.prev_token_end → NoneToEnd old.text old.prev_token_end

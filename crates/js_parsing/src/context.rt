@@ -1,9 +1,9 @@
 //! What is read under the parameter In, whatever it is around that (ECMA-262, section 5.1.5).
 
 ghost use Rattle.std.specs.Prelude.{◌≡◌, ◌+◌};
-ghost use Rattle.js_grammar.specs.Productions.{at, plus_in, Assignment, Expression};
+ghost use Rattle.js_grammar.specs.Productions.{at, plus_in, Assignment, Body, Expression};
 ghost use Rattle.js_parsing.specs.Answers.{Answers};
-ghost use Rattle.js_parsing.specs.Contexts.{arrow_body};
+ghost use Rattle.js_parsing.specs.Contexts.{arrow_body, braced_body};
 ghost use Rattle.js_parsing.specs.Nesting.{CanNest, room};
 ghost use Rattle.js_parsing.specs.States.{Standing};
 
@@ -58,6 +58,24 @@ pub fn assignment_in_arrow<C: ParserConfig, N: Nested<C>>(
     let assignment = nested.assignment(p)?;
     set_context(p, outer);
     Ok(assignment)
+}
+
+/// The FunctionBody that is an arrow function's body: under In and Return, without Yield and Await, one level deeper
+/// (ECMA-262, section 15.3).
+pub fn body_in_arrow<C: ParserConfig, N: Nested<C>>(
+    p: &mut ParserImpl<'_, C>,
+    nested: &N,
+) -> Result<NodeId, Stop>
+    requires at { Standing p.old }
+    requires nests { CanNest (N.can nested.now) (room p.old + 1) }
+    ensures { Answers (λ f. at Body (braced_body f)) p.old p.new result }
+{
+    let outer = context(p);
+    let without = outer.and_yield(false).and_await(false);
+    set_context(p, without.and_in(true).and_return(true));
+    let body = nested.body(p)?;
+    set_context(p, outer);
+    Ok(body)
 }
 
 /// An Expression under In, one level deeper.

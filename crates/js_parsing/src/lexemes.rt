@@ -2,14 +2,17 @@
 
 ghost use Rattle.std.specs.Prelude.{◌≡◌, ◌↔◌, IsTrue, MatchResult};
 ghost use Rattle.js_cursor.specs.Moves.{OnlyMemory};
+ghost use Rattle.js_cursor.specs.Places.{IsAt};
+ghost use Rattle.js_parsing.specs.Answers.{StopsUnbuilt};
 ghost use Rattle.js_parsing.specs.States.{Standing};
 ghost use Rattle.js_base.specs.Contexts.{has_flag, in_flag};
 ghost use Rattle.js_base.specs.Kinds.{one_of_kinds};
-ghost use Rattle.js_parsing.specs.Lexemes.{name_kinds, read_kinds, read_mark, read_operator, read_reserved, read_word};
+ghost use Rattle.js_parsing.specs.Lexemes.{name_kinds, read_kinds, read_mark, read_operator, read_reserved, read_word, unbuilt_kinds};
 ghost use Rattle.js_parsing.specs.Stands.{EndsOperand, NameHere, ReadsHere, StandsHere};
 ghost use Rattle.js_parsing.specs.Operators.{power_of};
 ghost use Rattle.js_parsing.specs.Moves.{IsCompleted, IsWholeHere, Moves, OperatorHere};
 
+use crate::diagnostics::kept_so_far;
 use js_base::{Kind, Span};
 use js_cursor::{ParserImpl, Stop};
 use js_lex::ParserConfig;
@@ -218,6 +221,8 @@ fn is_read_mark(kind: Kind) -> bool
             | Kind::RParen
             | Kind::LBrack
             | Kind::RBrack
+            | Kind::LCurly
+            | Kind::RCurly
             | Kind::Dot3
             | Kind::Arrow
     )
@@ -241,6 +246,29 @@ pub fn reads_here<C: ParserConfig>(p: &ParserImpl<'_, C>) -> bool
 {
     let token = p.cur_token();
     !token.escaped() && is_read_kind(token.kind())
+}
+
+/// Whether a production that isn't built yet begins with this lexeme.
+pub fn is_unbuilt(kind: Kind) -> bool
+    ensures { result ≡ one_of_kinds unbuilt_kinds kind }
+{
+    matches!(kind, Kind::LCurly)
+}
+
+/// Whether the parser has stopped at such a lexeme: the last diagnostic was told of it.
+pub fn stopped_unbuilt<C: ParserConfig>(p: &ParserImpl<'_, C>) -> bool
+    requires at { IsAt p.now }
+    ensures { StopsUnbuilt p.now result }
+{
+    let token = p.cur_token();
+    let found = kept_so_far(p);
+    if found == 0 || !is_unbuilt(token.kind()) {
+        return false;
+    }
+    match p.errors.get(found - 1) {
+        Some(last) => last.span.start == token.span().start,
+        None => false,
+    }
 }
 
 /// How tight a lexeme binds as an operator between two operands that groups to the left (ECMA-262, sections 13.6 to

@@ -1,7 +1,7 @@
 //! What parse functions call where a production nests.
 
 ghost use Rattle.std.specs.Prelude.{◌≡◌};
-ghost use Rattle.js_grammar.specs.Productions.{at, Assignment, Binding, Exponent, Expression, Sub, Unary};
+ghost use Rattle.js_grammar.specs.Productions.{at, Assignment, Binding, Body, Exponent, Expression, ListItem, Sub, Unary};
 ghost use Rattle.js_parsing.specs.Answers.{Answers};
 ghost use Rattle.js_parsing.specs.Nesting.{Reads, levels_of};
 ghost use Rattle.js_parsing.specs.Statements.{TakesStatement};
@@ -27,16 +27,21 @@ pub enum Goal {
     Binding,
     /// A Statement that is the body of another one.
     Statement,
+    /// A StatementListItem.
+    ListItem,
+    /// A FunctionBody in its braces.
+    Body,
 }
 
 impl Goal {
     /// How many levels of depth it takes: what stands between brackets is read through all levels of operators again, and
-    /// takes four times the stack of the others and more.
+    /// takes four times the stack of the others and more. What stands in braces takes twice as much as they do.
     pub fn levels(self) -> u32
         ensures { result ≡ levels_of self }
     {
         match self {
             Goal::Expression | Goal::Element | Goal::Binding => 4,
+            Goal::ListItem | Goal::Body => 2,
             Goal::Assignment | Goal::Unary | Goal::Exponentiation | Goal::Statement => 1,
         }
     }
@@ -84,6 +89,16 @@ pub trait Nested<C: ParserConfig> {
     fn statement(&self, p: &mut ParserImpl<'_, C>) -> Result<NodeId, Stop>
         requires { can self.now p.old Goal.Statement }
         ensures { TakesStatement (at Sub) p.old p.new result };
+
+    /// A StatementListItem (ECMA-262, section 14.2).
+    fn list_item(&self, p: &mut ParserImpl<'_, C>) -> Result<NodeId, Stop>
+        requires { can self.now p.old Goal.ListItem }
+        ensures { TakesStatement (at ListItem) p.old p.new result };
+
+    /// A FunctionBody in its braces (ECMA-262, section 15.2).
+    fn body(&self, p: &mut ParserImpl<'_, C>) -> Result<NodeId, Stop>
+        requires { can self.now p.old Goal.Body }
+        ensures { Answers (at Body) p.old p.new result };
 }
 
 /// A function that reads whatever is asked for. It is one over the config that is told when the program runs: a bound on
@@ -129,5 +144,15 @@ impl<F: Fn(&mut ParserImpl<'_, RuntimeParserConfig>, Goal) -> Result<NodeId, Sto
     #[inline(always)]
     fn statement(&self, p: &mut ParserImpl<'_, RuntimeParserConfig>) -> Result<NodeId, Stop> {
         (self.0)(p, Goal::Statement)
+    }
+
+    #[inline(always)]
+    fn list_item(&self, p: &mut ParserImpl<'_, RuntimeParserConfig>) -> Result<NodeId, Stop> {
+        (self.0)(p, Goal::ListItem)
+    }
+
+    #[inline(always)]
+    fn body(&self, p: &mut ParserImpl<'_, RuntimeParserConfig>) -> Result<NodeId, Stop> {
+        (self.0)(p, Goal::Body)
     }
 }

@@ -3,7 +3,7 @@ use Rattle.std.proofs.Common.{ℕ, ◌≡◌, max, List, [], ◌∷◌, length, 
 use Rattle.std.specs.Prelude.{Result, Ok, Err, MatchResult, IsCharBoundary}
 use Rattle.std.proofs.lemmas.Bool.{false≢true}
 use Rattle.js_base.specs.declared.kind.Kind.{Kind}
-use Rattle.js_base.specs.declared.kind.Kind.TheVariants.{RAngle, LBrack, RBrack, RParen, Comma, Dot3, Eq, PrivateIdentifier}
+use Rattle.js_base.specs.declared.kind.Kind.TheVariants.{RAngle, LBrack, LCurly, RBrack, RParen, Comma, Dot3, Eq, PrivateIdentifier}
 use Rattle.js_base.specs.declared.span.Span.{Span}
 use Rattle.js_base.specs.Kinds.{same_kind, one_of_kinds}
 use Rattle.js_base.specs.Texts.{words}
@@ -32,9 +32,9 @@ use Rattle.js_cursor.specs.declared.stop.Stop.TheVariants.{Fatal, NoMemory}
 use Rattle.js_parsing.specs.Answers.{Underived, Answer, Numbered, Outcome, Stops}
 use Rattle.js_parsing.specs.Arguments.{Partway, behind_item, ItemTaken, NoItem}
 use Rattle.js_patterns.specs.Bindings.{elements_left}
-use Rattle.js_parsing.specs.Lexemes.{Lex, name_kinds}
+use Rattle.js_parsing.specs.Lexemes.{Lex, name_kinds, unbuilt_kinds}
 use Rattle.js_parsing.specs.Stands.{NameHere, StandsHere}
-use Rattle.js_parsing.specs.Moves.{Moved, MadeHere, LeafTaken, TakesLeaf, plain_label}
+use Rattle.js_parsing.specs.Moves.{Moved, MadeHere, LeafTaken, TakesLeaf, plain_label, unpassable}
 use Rattle.js_parsing.specs.States.{At, Same, NodesLie}
 use Rattle.js_parsing.proofs.Signs.{other_kind, plain_sign}
 use Rattle.js_parsing.proofs.Giving.{fails_escaped, gives_up}
@@ -42,7 +42,7 @@ use Rattle.js_parsing.proofs.Here.{kind_here, uncut}
 use Rattle.js_parsing.proofs.MadeNodes.{leaf_held, node_held, one_held, two_held, one_lies, made_lies}
 use Rattle.js_parsing.proofs.Moving.{beside_nodes, moves, same_both, same_with, stops_behind}
 use Rattle.js_operands.proofs.Operands.{by_path, name_leaf}
-use Rattle.js_parsing.proofs.NameKinds.{name_apart, no_name_here, or_name}
+use Rattle.js_parsing.proofs.NameKinds.{name_apart, no_name_here, or_kind}
 use Rattle.js_parsing.proofs.Parts.{part_path, part_path_fails, part_sign, part_last, parts}
 use Rattle.js_parsing.proofs.Paths.{Path, ◌⟼◌, ◌⟶◌, ◌⟶✗◌, at_kind, fails_at, token, last_called, noded, noded_by, by_symbol_as, label_here}
 use Rattle.js_parsing.proofs.Verdicts.{verdict_of, grown_then}
@@ -100,14 +100,14 @@ unfolding rule rule_of
 bound_path a k e m = by_symbol_as {X' = plain full} (λ l cs vs y d. (refl, refl)) (noded a (name_leaf a k e m))
 
 -- no pattern begins with a name
-pub no_pattern_name : (k : Kind) → one_of_kinds name_kinds k ≡ true → one_of_kinds (LBrack ∷ []) k ≡ false
+pub no_pattern_name : (k : Kind) → one_of_kinds name_kinds k ≡ true → one_of_kinds (LBrack ∷ LCurly ∷ []) k ≡ false
 unfolding apart
-no_pattern_name k h = name_apart (LBrack ∷ []) refl k h
+no_pattern_name k h = name_apart (LBrack ∷ LCurly ∷ []) refl k h
 
 module _ {text : List ℕ} {f : Flags} {p : Parser} (a : At text f p) where
   binding_path : {q : Parser} → one_of_kinds name_kinds p.token.kind ≡ true → p.token.escaped ≡ false → Moved text f p q → Path text f (after (at Binding f)) (rule (at Binding f)) p nothing q (tree (label_here binding_identifier no_op p q) end)
   unfolding rule rule_of covers apart
-  binding_path k e m = left (fails_at a (symbol Pattern f) (LBrack ∷ []) refl (no_pattern_name _ k)) ⟼ bound_path a k e m
+  binding_path k e m = left (fails_at a (symbol Pattern f) (LBrack ∷ LCurly ∷ []) refl (no_pattern_name p.token.kind k)) ⟼ bound_path a k e m
 
   name_answers : {q : Parser} {id : NodeId} → one_of_kinds name_kinds p.token.kind ≡ true → p.token.escaped ≡ false → LeafTaken node_kind.BindingIdentifier op_made.None text f p q id → Numbered text f (at Binding f) p q id
   name_answers k e t =
@@ -116,13 +116,13 @@ module _ {text : List ℕ} {f : Flags} {p : Parser} (a : At text f p) where
       by_path (subst (λ (v : Label). Path text f (after (at Binding f)) (rule (at Binding f)) p nothing t.mid (tree v end)) (sym l) (binding_path k e t.moved)) t.moved.same t.made.stays (λ y i. refl) refl (leaf_held t.made ks) (Keeps-trans ks (Keeps-made t.made.made)) (ap (λ (v : Label). v.span) l) (one_lies t.made)
 
   -- neither a name nor a pattern stands here
-  pub no_binding : StandsHere p LBrack false → NameHere p false → Underived text (at Binding f) p.prev_token_end
+  pub no_binding : StandsHere p LBrack false → NameHere p false → one_of_kinds unbuilt_kinds p.token.kind ≡ false → Underived text (at Binding f) p.prev_token_end
   unfolding rule rule_of covers apart
-  no_binding u n = by p.token.escaped refl
+  no_binding u n c = by p.token.escaped refl
     where
       by : (b : Bool) → p.token.escaped ≡ b → Underived text (at Binding f) p.prev_token_end
       by true e = fails_escaped a e
-      by false e = fails_by (fails_at a (rule (at Binding f)) (LBrack ∷ name_kinds) refl (or_name LBrack p.token.kind (λ k. u k e) (no_name_here p n e)))
+      by false e = fails_by (fails_at a (rule (at Binding f)) (LBrack ∷ LCurly ∷ name_kinds) refl (or_kind LBrack (LCurly ∷ name_kinds) p.token.kind (λ k. u k e) (or_kind LCurly name_kinds p.token.kind (λ k. false≢true (sym c ∙ ap (one_of_kinds unbuilt_kinds) k)) (no_name_here p n e))))
 
 pub name_outcome : (text : List ℕ) (f : Flags) (p q : Parser) (r : Result NodeId Stop) → At text f p → NameHere p true → MatchResult r (λ id. TakesLeaf node_kind.BindingIdentifier op_made.None p q id) OnlyMemory → Outcome text f (at Binding f) p q r
 name_outcome text f p q (Ok id) a s m = name_answers a s.0 s.1 (m text f a)
@@ -169,7 +169,7 @@ module _ {text : List ℕ} {f : Flags} {o : Parser} (a : At text f o) (k : o.tok
           by_path pattern_path whole_pattern.same y.stays (λ u v. refl) refl (node_held y h) (Keeps-trans whole_pattern.keeps (Keeps-made y.made)) refl (one_lies y)
 
 pub pattern_moved : {text : List ℕ} {f : Flags} {p q : Parser} → At text f p → (p.token.kind ≡ RBrack) × MovesOn p q → Moved text f p q
-pattern_moved a z = moves (uncut a (ap (same_kind RAngle) z.0), ap is_last z.0) z.1 a
+pattern_moved a z = moves (uncut a (ap (same_kind RAngle) z.0), ap unpassable z.0) z.1 a
 
 pub pattern_unclosed : {text : List ℕ} {f : Flags} (opening : Option Span) (p q : Parser) (e : Stop) {F : Type 0} → At text f p → (e ≡ Fatal → p.token.kind ≡ RBrack → ⊥) × GivesUp (IsHere ExpectClosing p opening) p q e → (one_of_kinds (RBrack ∷ []) p.token.kind ≡ false → F) → Stops p q e F
 pattern_unclosed opening p q Fatal a h g = gives_up (IsHere ExpectClosing p opening) p q Fatal a h.1 (here_ends ExpectClosing refl) (g (other_kind RBrack p.token.kind (h.0 refl)))

@@ -1,7 +1,7 @@
 -- Formal parameters (ECMA-262, 15.1): one of them, and their list in parentheses.
 use Rattle.std.proofs.Common.{ℕ, ◌≡◌, List, [], ◌∷◌, ◌++◌, length, Option, Some, None, true, false, ◌||◌, refl, ap, subst, arith}
 use Rattle.js_base.specs.declared.kind.Kind.{Kind}
-use Rattle.js_base.specs.declared.kind.Kind.TheVariants.{LParen, RParen, LBrack, RBrack, Comma, Dot3, Eq, PrivateIdentifier}
+use Rattle.js_base.specs.declared.kind.Kind.TheVariants.{LParen, RParen, LBrack, LCurly, RBrack, Comma, Dot3, Eq, PrivateIdentifier}
 use Rattle.js_base.specs.declared.span.Span.{Span}
 use Rattle.js_base.specs.Kinds.{same_kind, one_of_kinds}
 use Rattle.js_base.specs.Texts.{words}
@@ -119,7 +119,7 @@ module _ {text : List ℕ} {f : Flags} {p q : Parser} {bound : NodeId} (a : At t
 
 -- what may begin a parameter, of what is read
 abbrev parameter_kinds : List Kind
-parameter_kinds = LBrack ∷ name_kinds
+parameter_kinds = LBrack ∷ LCurly ∷ name_kinds
 
 -- no item takes its comma itself
 no_gap : {text : List ℕ} {s : ℕ} → NoneLeft text never s

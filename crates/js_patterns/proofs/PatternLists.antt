@@ -1,7 +1,7 @@
 -- The list of an array pattern (ECMA-262, 14.3.3): what is left of it behind an element, a hole or a rest.
 use Rattle.std.proofs.Common.{ℕ, ◌≡◌, List, [], ◌∷◌, ◌++◌, Option, Some, None, false, refl, ap}
 use Rattle.js_base.specs.declared.kind.Kind.{Kind}
-use Rattle.js_base.specs.declared.kind.Kind.TheVariants.{LBrack, RBrack, Comma, Dot3}
+use Rattle.js_base.specs.declared.kind.Kind.TheVariants.{LBrack, LCurly, RBrack, Comma, Dot3}
 use Rattle.js_base.specs.Kinds.{one_of_kinds}
 use Rattle.js_grammar.specs.Trees.{end}
 use Rattle.js_grammar.specs.Grammar.{seq, empty_slot}
@@ -33,7 +33,7 @@ gap = seq empty_slot (tok Comma)
 
 -- what may begin an element, of what is read
 abbrev element_kinds : List Kind
-element_kinds = LBrack ∷ name_kinds
+element_kinds = LBrack ∷ LCurly ∷ name_kinds
 
 module _ {text : List ℕ} {f : Flags} {p : Parser} (a : At text f p) where
   no_element_at : one_of_kinds element_kinds p.token.kind ≡ false → NoneLeft text (symbol BElement f) p.prev_token_end

@@ -1,5 +1,5 @@
 -- LabelledStatements (ECMA-262, 14.13): a name that was read as an expression, a colon behind it, and a statement.
-use Rattle.std.proofs.Common.{ℕ, suc, ◌≡◌, ◌≤◌, List, [], ◌∷◌, length, Option, Some, Bool, true, false, not, ◌&&◌, IsTrue, refl, sym, ap, subst, arith, ◌∙◌}
+use Rattle.std.proofs.Common.{ℕ, ◌⊎◌, inl, inr, suc, ◌≡◌, ◌<◌, ◌≤◌, List, [], ◌∷◌, length, Option, Some, Bool, true, false, not, ◌&&◌, IsTrue, refl, sym, ap, subst, arith, ◌∙◌}
 use Rattle.std.proofs.lemmas.Bool.{false≢true, and_from}
 use Rattle.js_base.specs.declared.diagnostic.Diagnostic.{Diagnostic}
 use Rattle.js_base.specs.declared.kind.Kind.TheVariants.{Colon, LCurly, RAngle}
@@ -7,6 +7,7 @@ use Rattle.js_base.specs.declared.kind.Kind.{Kind}
 use Rattle.js_base.specs.declared.span.Span.{Span}
 use Rattle.js_base.specs.Contexts.{has_flag, in_flag}
 use Rattle.js_base.specs.Kinds.{same_kind, one_of_kinds}
+use Rattle.js_grammar.specs.Words.{'let'}
 use Rattle.js_grammar.specs.Trees.{Span as TreeSpan, Label, Slots, end, tree, no_op, labeled_statement, label_identifier}
 use Rattle.js_grammar.specs.Grammar.{Lexeme, Lexemes, Look, last, next, here, seen, is, exact, lexeme, seq, such, nothing, label_of, Takes, is_seq, is_lexeme, is_such, ◌▸◌}
 use Rattle.js_grammar.specs.Parsing.{Test, plain, full, always, still, passing, Admits, Goes, Reads, Fails}
@@ -26,12 +27,15 @@ use Rattle.js_tree.specs.Nodes.{Node}
 use Rattle.js_tree.specs.Holding.{Holds, Keeps}
 use Rattle.js_tree.proofs.HoldingLemmas.{Keeps-trans, Keeps-made}
 use Rattle.js_cursor.specs.Parsers.{Parser}
+use Rattle.std.specs.Prelude.{Err}
+use Rattle.js_cursor.specs.Moves.{OnlyMemory}
 use Rattle.js_cursor.specs.declared.stop.Stop.{Stop}
+use Rattle.js_cursor.specs.declared.stop.Stop.TheVariants.{Fatal, NoMemory}
 use Rattle.js_parsing.specs.Answers.{Grown, Verdict, clean, unclean, Stretch, Underived, Answer, Numbered, Stops}
-use Rattle.js_parsing.specs.Lexemes.{Lex, Walked, name_kinds, Spot, spot, nowhere, one_more}
+use Rattle.js_parsing.specs.Lexemes.{Lex, Walked, name_kinds, Spot, spot, nowhere, one_more, more_faults}
 use Rattle.js_parsing.specs.Nesting.{room}
 use Rattle.js_parsing.specs.Moves.{Moved, MadeHere, plain_label}
-use Rattle.js_parsing.specs.Statements.{placed, no_link, statement_kinds, after_statement, NoStatement, Statement, IsLabel}
+use Rattle.js_parsing.specs.Statements.{placed, no_link, statement_kinds, after_statement, NoStatement, Statement, StatementOutcome, IsLabel}
 use Rattle.js_parsing.specs.States.{At, Same}
 use Rattle.js_parsing.proofs.Signs.{plain_sign}
 use Rattle.js_expressions.proofs.Conditionals.{colon_plain}
@@ -40,7 +44,7 @@ use Rattle.js_parsing.proofs.Dead.{lives}
 use Rattle.js_parsing.proofs.Here.{found, kind_here, uncut}
 use Rattle.js_parsing.proofs.MadeNodes.{leaf_held, two_held, one_lies, from_start}
 use Rattle.js_parsing.proofs.Moving.{same_both, same_itself, same_with, beside_nodes, stops_behind}
-use Rattle.js_parsing.proofs.Paths.{Path, ◌⟼◌, ◌⟶◌, ◌⟶✗◌, one_read, read_of, token, noded, noded_by, by_symbol_as, label_here}
+use Rattle.js_parsing.proofs.Paths.{Path, ◌⟼◌, ◌⟶◌, ◌⟶✗◌, at_kind, one_read, read_of, token, noded, noded_by, by_symbol_as, label_here}
 use Rattle.js_statements.proofs.Statements.{by_statement, no_symbol, no_lexical, no_expression_ends, before_colon, item_left, sub_left, colon_ends}
 use Rattle.js_statements.specs.LetStatements.{behind_let, LetIsName}
 use Rattle.js_statements.proofs.LetLookaheads.{not_followed, ◌⇒✗◌}
@@ -102,11 +106,21 @@ size (next x ls) = suc (size ls)
 walk_longer : {text : List ℕ} {s e : Spot} {pass : Lexemes → Lexemes} → Walked text s e pass → (ls : Lexemes) → size ls ≤ size (pass ls)
 walk_longer nowhere ls = omega arith
 walk_longer (one_more {x = x} w i) ls = let h = walk_longer w (next x ls) in omega arith
+walk_longer (more_faults w ds n) ls = walk_longer w ls
+
+-- over none, or over one at least
+none_or_more : {text : List ℕ} {s e : Spot} {pass : Lexemes → Lexemes} → Walked text s e pass → ((ls : Lexemes) → pass ls ≡ ls) ⊎ ((ls : Lexemes) → size ls < size (pass ls))
+none_or_more nowhere = inl (λ ls. refl)
+none_or_more (one_more {x = x} w i) = inr (λ ls. let h = walk_longer w (next x ls) in omega arith)
+none_or_more (more_faults w ds n) = none_or_more w
 
 one_lexeme : {text : List ℕ} {s e : Spot} {pass : Lexemes → Lexemes} → Walked text s e pass → (y z : Lexeme) → pass (last z) ≡ next y (last z) → (ls : Lexemes) → pass ls ≡ next y ls
 one_lexeme nowhere y z h ls = let b = ap size h in absurd (omega arith)
-one_lexeme (one_more {x = x} nowhere i) y z h ls = ap (λ (v : Lexeme). next v ls) (ap here h)
-one_lexeme (one_more {x = x} (one_more {x = x'} w i') i) y z h ls = let a = walk_longer w (next x' (next x (last z))) in let b = ap size h in absurd (omega arith)
+one_lexeme (more_faults w ds n) y z h ls = one_lexeme w y z h ls
+one_lexeme (one_more {x = x} w i) y z h ls = elim (none_or_more w) [
+  | inl e ↦ e (next x ls) ∙ ap (λ (v : Lexeme). next v ls) (ap here (sym (e (next x (last z))) ∙ h))
+  | inr m ↦ let a = m (next x (last z)) in let b = ap size h in absurd (omega arith)
+]
 
 pub made_at : {text : List ℕ} {f : Flags} {q w : Parser} {l : Label} {ids : List (Option NodeId)} {id : NodeId} → At text f q → MadeHere l ids q w id → At text f w
 made_at {text} {f} {w = w} a n = subst (λ (v : Parser). At text f v) (sym n.stays) (beside_nodes w.nodes a)
@@ -197,8 +211,8 @@ module _ {text : List ℕ} {f : Flags} {p q : Parser} (a : At text f p) (x : Ans
   -- it is no expression with a semicolon
   to_placed : (b : Bool) → Goes rule (Lex text) (after_statement (placed b f)) end (rule (placed b f)) p.prev_token_end (symbol AStatement f) p.prev_token_end (λ us. us) (still 0)
   unfolding apart covers
-  to_placed true = subst (λ (g : G). Goes rule (Lex text) (after_statement (at ListItem f)) end (rule (at ListItem f)) p.prev_token_end g p.prev_token_end (λ us. us) (still 0)) (item_left f) (lives (rule (at ListItem f))) ▹ left (fails_alt (not_followed a (word_or (LCurly ∷ [])) (λ y z l h m t. false≢true (sym (label_named true y z l h m) ∙ covered (word_or (LCurly ∷ [])) (λ k w e. behind_let true k) refl z.kind z.newline z.escaped t)) ⇒✗ no_expression_ends true a (label_named true) x (before_colon x.at (goes_on (row_of x.label x.slots)) i.colon)) (no_lexical a (name_apart statement_kinds refl p.token.kind i.name) (label_named true)))
-  to_placed false = subst (λ (g : G). Goes rule (Lex text) (after_statement (at Sub f)) end (rule (at Sub f)) p.prev_token_end g p.prev_token_end (λ us. us) (still 0)) (sub_left f) (lives (rule (at Sub f))) ▹ left (no_expression_ends false a (label_named false) x (before_colon x.at (goes_on (row_of x.label x.slots)) i.colon))
+  to_placed true = subst (λ (g : G). Goes rule (Lex text) (after_statement (at ListItem f)) end (rule (at ListItem f)) p.prev_token_end g p.prev_token_end (λ us. us) (still 0)) (item_left f) (lives (rule (at ListItem f))) ▹ left (fails_alt (not_followed a (word_or (LCurly ∷ [])) (λ y z l h m t. false≢true (sym (label_named true y z l h m) ∙ covered (word_or (LCurly ∷ [])) (λ k w e. behind_let true k) refl z.kind z.newline z.escaped t)) ⇒✗ no_expression_ends true a (name_apart (LCurly ∷ []) refl p.token.kind i.name) (label_named true) x (before_colon x.at (goes_on (row_of x.label x.slots)) i.colon)) (no_lexical a (name_apart statement_kinds refl p.token.kind i.name) (label_named true)))
+  to_placed false = subst (λ (g : G). Goes rule (Lex text) (after_statement (at Sub f)) end (rule (at Sub f)) p.prev_token_end g p.prev_token_end (λ us. us) (still 0)) (sub_left f) (lives (rule (at Sub f))) ▹ left (no_expression_ends false a (name_apart (LCurly ∷ []) refl p.token.kind i.name) (label_named false) x (before_colon x.at (goes_on (row_of x.label x.slots)) i.colon))
 
   -- what is in the node can't be read
   labeled_fails : (b : Bool) → Fails rule (Lex text) (behind_label f) end (labeled_slots f) p.prev_token_end → NoStatement text (placed b f) p.prev_token_end
@@ -260,3 +274,8 @@ module _ {text : List ℕ} {f : Flags} {p q : Parser} {id : NodeId} (a : At text
           let ky : Keeps w.nodes v.nodes = subst (λ (ns : List Node). Keeps ns v.nodes) m.nodes y.keeps in
           by_statement (labeled_path a x.answer i b (body_path a x.answer i labeled m y)) y.closed (same_both label_same y.same) k.stays
           (two_held k (leaf_held labeled x.keeps) kw (subst (λ (ns : List Node). Holds v.nodes (length ns) (length v.nodes) body.0 y.label y.slots) m.nodes y.holds) ky) (Keeps-trans kw (Keeps-trans ky (Keeps-made k.made))) refl (one_lies k)
+
+-- what is said where memory was refused
+pub label_memory : (text : List ℕ) (f : Flags) (b : Bool) (p q : Parser) (e : Stop) → OnlyMemory e → StatementOutcome text f (placed b f) p q (Err e)
+label_memory text f b p q Fatal m = absurd m
+label_memory text f b p q NoMemory m = tt

@@ -1,3 +1,4 @@
+pub mod Blocks
 pub mod CompoundStatements
 pub mod DeclarationStatements
 pub mod Labels

@@ -1,5 +1,5 @@
 -- Statements, and the semicolons that end them or are left out.
-use Rattle.js_parsing.proofs.Ahead.{pass_over, reads_other, reads_not_then}
+use Rattle.js_parsing.proofs.Ahead.{pass_over, reads_not_then}
 use Rattle.js_statements.specs.LetStatements.{behind_let, LetIsName}
 use Rattle.js_statements.proofs.LetLookaheads.{Leads, at_once, ◌⇒◌, ◌⇒✗◌, leads_to, name_in_body, not_followed}
 use Rattle.std.proofs.Common.{ℕ, ◌≡◌, ◌≤◌, max, inl, inr, List, [], ◌∷◌, length, Bool, true, false, not, ◌&&◌, ◌||◌, IsTrue, Some, refl, sym, ap, subst, arith, ◌∙◌}
@@ -22,13 +22,13 @@ use Rattle.js_grammar.specs.Conditions.{ends_in_sub, lacks_else}
 use Rattle.js_grammar.specs.Lexed.{Lexes}
 use Rattle.js_grammar.specs.Lexemes.{is_escaped}
 use Rattle.js_grammar.specs.Parsing.{Test, plain, behind, full, always, still, Goes, Fails, Admits}
-use Rattle.js_grammar.specs.Productions.{G, Flags, Symbol, at, op as op_node, other, if_next, not_then, is_one_of, word_or, function_on_line, tok, ListItem, Empty, ExprStmt, Expression, Labeled, LabelIdentifier, Lexical, Sub, Break, Continue, Debugger, Do, If, Throw, Var, While, With}
+use Rattle.js_grammar.specs.Productions.{G, Flags, Symbol, at, op as op_node, other, if_next, not_then, is_one_of, word_or, function_on_line, tok, ListItem, Block, Empty, ExprStmt, Expression, Labeled, LabelIdentifier, Lexical, Sub, Break, Continue, Debugger, Do, If, Throw, Var, While, With}
 use Rattle.js_grammar.specs.Productions.{Statement as AStatement}
 use Rattle.js_grammar.specs.Productions.{sym as symbol}
 use Rattle.js_grammar.specs.Table.{rule, rule_of, identifier, declarator, declarators}
 use Rattle.js_grammar.specs.Follow.{row_of, looser, after}
 use Rattle.js_grammar.proofs.Looks.{covers, covered, apart, not_both}
-use Rattle.js_grammar.proofs.Calculus.{◌▹◌, ◌▹✗◌, left, right, ends_by, by_omission, fails_ended, fails_semicolon, fails_rule, fails_node, fails_alt, inside_plain, ends, closes}
+use Rattle.js_grammar.proofs.Calculus.{◌▹◌, ◌▹✗◌, left, right, ends_by, looks, by_omission, fails_ended, fails_semicolon, fails_rule, fails_node, fails_alt, inside_plain, ends, closes}
 use Rattle.js_grammar.proofs.FollowLaws.{admits, expression_ended}
 use Rattle.js_grammar.proofs.RightEdges.{at_row}
 use Rattle.js_grammar.proofs.First.{starts}
@@ -45,9 +45,9 @@ use Rattle.js_cursor.specs.Parsers.{Parser}
 use Rattle.js_cursor.specs.Moves.{MayEnd, EndsOr, GivesUp, IsUnexpected, OnlyMemory, ends_statement, is_last}
 use Rattle.js_cursor.specs.declared.stop.Stop.{Stop}
 use Rattle.js_cursor.specs.declared.stop.Stop.TheVariants.{Fatal, NoMemory}
-use Rattle.js_parsing.specs.Lexemes.{Lex, name_kinds}
+use Rattle.js_parsing.specs.Lexemes.{Lex, name_kinds, read_kinds}
 use Rattle.js_parsing.specs.States.{At, Same, NodesLie}
-use Rattle.js_parsing.specs.Moves.{IsWholeHere, Moved, MadeHere, LeafTaken, TakesLeaf, plain_label}
+use Rattle.js_parsing.specs.Moves.{IsWholeHere, Moved, MadeHere, LeafTaken, TakesLeaf, plain_label, unpassable}
 use Rattle.js_parsing.specs.Answers.{Underived, Answer, Numbered, Stops, beside}
 use Rattle.js_parsing.specs.Statements.{placed, link_kinds, statement_kinds, no_link, after_statement, Closed, NoStatement, Statement, StatementOutcome, EndsStatement, NoEnd, IsLabel}
 use Rattle.js_declarations.specs.Declarations.{stops_row}
@@ -163,7 +163,7 @@ none_of_one a k n = rw (not_kind a k n) refl
 
 module _ {text : List ℕ} {f : Flags} {q : Parser} (a : At text f q) where
   pub whole_semicolon : q.token.kind ≡ Semicolon → IsWholeHere q
-  whole_semicolon e = (uncut a (ap (same_kind RAngle) e), ap is_last e)
+  whole_semicolon e = (uncut a (ap (same_kind RAngle) e), ap unpassable e)
 
   plain_semicolon : {r : Parser} → q.token.kind ≡ Semicolon → (s : Moved text f q r) → q.token.escaped ≡ false
   unfolding words
@@ -310,7 +310,7 @@ module _ {text : List ℕ} {f : Flags} where
 
 -- ---- what stands before
 
-pub statement_left : (f : Flags) → live (rule (at AStatement f)) ≡ alt (symbol Empty f) (alt (symbol Var f) (alt (symbol If f) (alt (symbol Do f) (alt (symbol While f) (alt (symbol With f) (alt (symbol Continue f) (alt (symbol Break f) (alt (symbol Throw f) (alt (symbol Debugger f) (symbol Labeled f))))))))))
+pub statement_left : (f : Flags) → live (rule (at AStatement f)) ≡ alt (symbol Block f) (alt (symbol Empty f) (alt (symbol Var f) (alt (symbol If f) (alt (symbol Do f) (alt (symbol While f) (alt (symbol With f) (alt (symbol Continue f) (alt (symbol Break f) (alt (symbol Throw f) (alt (symbol Debugger f) (symbol Labeled f)))))))))))
 unfolding rule rule_of apart
 statement_left f = refl
 
@@ -412,8 +412,8 @@ module _ {text : List ℕ} {f : Flags} {p : Parser} (a : At text f p) (n : one_o
   no_statement : {X : Test} → Fails rule (Lex text) X end (symbol AStatement f) p.prev_token_end
   unfolding covers apart
   no_statement = fails_rule {X' = plain full} (λ l cs vs y e. (refl, refl)) (subst (λ (g : G). Goes rule (Lex text) (plain full) end (rule (at AStatement f)) p.prev_token_end g p.prev_token_end (λ us. us) (still 0)) (statement_left f) (lives (rule (at AStatement f)))
-      ▹✗ fails_alt (none (symbol Empty f) refl) (fails_alt (none (symbol Var f) refl) (fails_alt (none (symbol If f) refl) (fails_alt (none (symbol Do f) refl) (fails_alt (none (symbol While f) refl) (fails_alt (none (symbol With f) refl)
-      (fails_alt (none (symbol Continue f) refl) (fails_alt (none (symbol Break f) refl) (fails_alt (none (symbol Throw f) refl) (fails_alt (none (symbol Debugger f) refl) (nl (plain full))))))))))))
+      ▹✗ fails_alt (none (symbol Block f) refl) (fails_alt (none (symbol Empty f) refl) (fails_alt (none (symbol Var f) refl) (fails_alt (none (symbol If f) refl) (fails_alt (none (symbol Do f) refl) (fails_alt (none (symbol While f) refl) (fails_alt (none (symbol With f) refl)
+      (fails_alt (none (symbol Continue f) refl) (fails_alt (none (symbol Break f) refl) (fails_alt (none (symbol Throw f) refl) (fails_alt (none (symbol Debugger f) refl) (nl (plain full)))))))))))))
 
   pub to_statement : (b : Bool) → LetIsName text b p.prev_token_end → Leads text (after_statement (placed b f)) (rule (placed b f)) p.prev_token_end (symbol ExprStmt f)
   unfolding apart covers
@@ -426,15 +426,33 @@ pub named_in_body : {text : List ℕ} {s : ℕ} (b : Bool) → LetIsName text b 
 named_in_body true u = name_in_body u
 named_in_body false u = u
 
-to_expression : {text : List ℕ} {f : Flags} {p : Parser} → At text f p → LetIsName text false p.prev_token_end → Leads text (plain no_link) (if_next (other (is_one_of no_expression)) ▸ not_then (is 'async') function_on_line ▸ not_then (is 'let') (is LBrack) ▸ ended by_edge (symbol Expression f)) p.prev_token_end (ended by_edge (symbol Expression f))
+-- no brace stands here
+not_braced : (k : Kind) → one_of_kinds statement_kinds k ≡ false → one_of_kinds (LCurly ∷ []) k ≡ false
+unfolding covers
+not_braced k h = go (one_of_kinds (LCurly ∷ []) k) refl
+  where
+    go : (b : Bool) → one_of_kinds (LCurly ∷ []) k ≡ b → one_of_kinds (LCurly ∷ []) k ≡ false
+    go true e = absurd (false≢true (sym h ∙ covered (λ k w e. one_of_kinds (LCurly ∷ []) k) (λ k w e. one_of_kinds statement_kinds k) refl k false false e))
+    go false e = e
+
+-- of what begins no expression statement, a brace alone is read
+begins_none : covers (λ k w e. one_of_kinds no_expression k && one_of_kinds read_kinds k) (λ k w e. one_of_kinds (LCurly ∷ []) k) ≡ true
+unfolding covers
+begins_none = refl
+
+to_expression : {text : List ℕ} {f : Flags} {p : Parser} → At text f p → one_of_kinds (LCurly ∷ []) p.token.kind ≡ false → LetIsName text false p.prev_token_end → Leads text (plain no_link) (if_next (other (is_one_of no_expression)) ▸ not_then (is 'async') function_on_line ▸ not_then (is 'let') (is LBrack) ▸ ended by_edge (symbol Expression f)) p.prev_token_end (ended by_edge (symbol Expression f))
 unfolding apart
-to_expression a u = at_once (pass_over (reads_other (is_one_of no_expression) refl) ▹ pass_over (reads_not_then (is 'async') function_on_line refl))
+to_expression {text} {f} {p} a c u = at_once (pass_over (looks (other (is_one_of no_expression)) (λ y l. go y l (one_of_kinds no_expression y.kind) refl)) ▹ pass_over (reads_not_then (is 'async') function_on_line refl))
     ⇒ not_followed a (is LBrack) (λ y z l q m h. false≢true (sym (u y z l q m) ∙ (and_parts (same_kind LBrack z.kind) (not z.escaped) h).0))
+  where
+    go : (y : Lexeme) → Lex text p.prev_token_end y → (b : Bool) → one_of_kinds no_expression y.kind ≡ b → seen (other (is_one_of no_expression)) y ≡ true
+    go y l true e = absurd (not_here a (LCurly ∷ []) refl c y l (covered (λ k w e. one_of_kinds no_expression k && one_of_kinds read_kinds k) (λ k w e. one_of_kinds (LCurly ∷ []) k) begins_none y.kind y.newline y.escaped (and_from _ _ e (and_parts (one_of_kinds read_kinds y.kind) (not y.escaped) l.1).0)))
+    go y l false e = rw e refl
 
 -- an expression that was read, where no statement ends behind it
-pub no_expression_ends : {text : List ℕ} {f : Flags} {p q : Parser} (b : Bool) → At text f p → LetIsName text b p.prev_token_end → (x : Answer text f (at Expression f) p q) → Fails rule (Lex text) (plain no_link) end (semicolon (goes_on (row_of x.label x.slots))) q.prev_token_end → Fails rule (Lex text) (after_statement (placed b f)) end (symbol ExprStmt f) p.prev_token_end
+pub no_expression_ends : {text : List ℕ} {f : Flags} {p q : Parser} (b : Bool) → At text f p → one_of_kinds (LCurly ∷ []) p.token.kind ≡ false → LetIsName text b p.prev_token_end → (x : Answer text f (at Expression f) p q) → Fails rule (Lex text) (plain no_link) end (semicolon (goes_on (row_of x.label x.slots))) q.prev_token_end → Fails rule (Lex text) (after_statement (placed b f)) end (symbol ExprStmt f) p.prev_token_end
 unfolding rule rule_of covers
-no_expression_ends {f = f} {p = p} b a u x m = fails_rule {X' = plain no_link} (λ l cs vs y e. ((and_parts _ _ e.0).0, refl)) (fails_node (inside_plain refl) (to_expression a (named_in_body b u) ⇒✗ (to_semicolon (λ ds i j ls mid d. d) (expression_path x) ⟶✗ m)))
+no_expression_ends {f = f} {p = p} b a c u x m = fails_rule {X' = plain no_link} (λ l cs vs y e. ((and_parts _ _ e.0).0, refl)) (fails_node (inside_plain refl) (to_expression a c (named_in_body b u) ⇒✗ (to_semicolon (λ ds i j ls mid d. d) (expression_path x) ⟶✗ m)))
 
 -- ---- statements
 
@@ -490,7 +508,7 @@ module _ {text : List ℕ} {f : Flags} {p : Parser} (a : At text f p) where
   module _ (n : one_of_kinds statement_kinds p.token.kind ≡ false) (nl : (X : Test) → Fails rule (Lex text) X end (symbol Labeled f) p.prev_token_end) where
     pub statement_path : (b : Bool) {q r : Parser} → LetIsName text b p.prev_token_end → f.in_ ≡ true → (x : Answer text f (at Expression f) p q) → EndsStatement q r → Path text f (after_statement (placed b f)) (rule (placed b f)) p nothing r (tree (label_here expression_statement no_op p r) (tree x.label x.slots end))
     unfolding rule rule_of covers
-    statement_path b u i x e = leads_to a (to_statement a n nl b u) (by_symbol_as {X' = plain no_link} (λ l cs vs y d. ((and_parts _ _ d.0).0, refl)) (noded_by a (inside_plain refl) (leads_to a (to_expression a (named_in_body b u)) (ended_path i x e))))
+    statement_path b u i x e = leads_to a (to_statement a n nl b u) (by_symbol_as {X' = plain no_link} (λ l cs vs y d. ((and_parts _ _ d.0).0, refl)) (noded_by a (inside_plain refl) (leads_to a (to_expression a (not_braced p.token.kind n) (named_in_body b u)) (ended_path i x e))))
 
     pub statement_answers : (b : Bool) {q r w : Parser} {child id : NodeId} (s : Span) → LetIsName text b p.prev_token_end → f.in_ ≡ true → (x : Numbered text f (at Expression f) p q child) → EndsStatement q r → s.start ≡ p.token.span.start → s.end ≡ r.prev_token_end → MadeHere (plain_label node.ExpressionStatement op.None s) (Some child ∷ []) r w id → Statement text f (placed b f) p w id
     statement_answers k {q} {r} {w} {child} {id} s u i x e b c d =
@@ -503,11 +521,11 @@ module _ {text : List ℕ} {f : Flags} {p : Parser} (a : At text f p) where
 
     pub statement_fails : (b : Bool) → LetIsName text b p.prev_token_end → Underived text (at Expression f) p.prev_token_end → NoStatement text (placed b f) p.prev_token_end
     unfolding rule rule_of covers
-    statement_fails b u x = no_symbol (to_statement a n nl b u ⇒✗ fails_rule {X' = plain no_link} (λ l cs vs y e. ((and_parts _ _ e.0).0, refl)) (fails_node (inside_plain refl) (to_expression a (named_in_body b u) ⇒✗ fails_ended x (λ cs j ls mid l d h. expression_ended f no_link d (here ls) h))))
+    statement_fails b u x = no_symbol (to_statement a n nl b u ⇒✗ fails_rule {X' = plain no_link} (λ l cs vs y e. ((and_parts _ _ e.0).0, refl)) (fails_node (inside_plain refl) (to_expression a (not_braced p.token.kind n) (named_in_body b u) ⇒✗ fails_ended x (λ cs j ls mid l d h. expression_ended f no_link d (here ls) h))))
 
     pub statement_unended : (b : Bool) {q : Parser} → LetIsName text b p.prev_token_end → Answer text f (at Expression f) p q → NoEnd q → NoStatement text (placed b f) p.prev_token_end
     unfolding rule rule_of covers
-    statement_unended b u x m = no_symbol (to_statement a n nl b u ⇒✗ no_expression_ends b a u x (unended x.at (goes_on (row_of x.label x.slots)) m))
+    statement_unended b u x m = no_symbol (to_statement a n nl b u ⇒✗ no_expression_ends b a (not_braced p.token.kind n) u x (unended x.at (goes_on (row_of x.label x.slots)) m))
 
 -- `in` is an operator by the parameters
 pub in_of : {text : List ℕ} {f : Flags} {p : Parser} → At text f p → has_flag in_flag p.ctx ≡ true → f.in_ ≡ true
@@ -523,8 +541,8 @@ pub link_ends : {text : List ℕ} {f : Flags} (p q : Parser) (e : Stop) → At t
 link_ends p q e a v g = gives_up_here p q e a g (inl (and_parts p.token.is_on_new_line _ v).1)
 
 -- none of the kinds that begin a statement alone
-pub no_own_kind : (k : Kind) → (k ≡ Semicolon → ⊥) → (k ≡ kind.If → ⊥) → (k ≡ kind.Do → ⊥) → (k ≡ kind.While → ⊥) → (k ≡ kind.With → ⊥) → (k ≡ kind.Break → ⊥) → (k ≡ kind.Continue → ⊥) → (k ≡ kind.Throw → ⊥) → (k ≡ kind.Debugger → ⊥) → (k ≡ kind.Var → ⊥) → (k ≡ kind.Const → ⊥) → one_of_kinds statement_kinds k ≡ false
-no_own_kind k a b c d e f g h i j l = rw (not_kind Semicolon k a, not_kind kind.If k b, not_kind kind.Do k c, not_kind kind.While k d, not_kind kind.With k e, not_kind kind.Break k f, not_kind kind.Continue k g, not_kind kind.Throw k h, not_kind kind.Debugger k i, not_kind kind.Var k j, not_kind kind.Const k l) refl
+pub no_own_kind : (k : Kind) → (k ≡ LCurly → ⊥) → (k ≡ Semicolon → ⊥) → (k ≡ kind.If → ⊥) → (k ≡ kind.Do → ⊥) → (k ≡ kind.While → ⊥) → (k ≡ kind.With → ⊥) → (k ≡ kind.Break → ⊥) → (k ≡ kind.Continue → ⊥) → (k ≡ kind.Throw → ⊥) → (k ≡ kind.Debugger → ⊥) → (k ≡ kind.Var → ⊥) → (k ≡ kind.Const → ⊥) → one_of_kinds statement_kinds k ≡ false
+no_own_kind k m a b c d e f g h i j l = rw (not_kind LCurly k m, not_kind Semicolon k a, not_kind kind.If k b, not_kind kind.Do k c, not_kind kind.While k d, not_kind kind.With k e, not_kind kind.Break k f, not_kind kind.Continue k g, not_kind kind.Throw k h, not_kind kind.Debugger k i, not_kind kind.Var k j, not_kind kind.Const k l) refl
 
 -- the code found no label
 pub no_colon : (p q : Parser) {t : Token} {b : Bool} → t ≡ p.token → IsTrue b ↔ IsLabel t q → b ≡ false → IsLabel p.token q → ⊥

@@ -266,7 +266,7 @@ no_statement (node m a) = not (is_statement m.kind)
 no_statement g = false
 
 -- Each choice is a node, or a statement; one of an expression begins with that.
-abbrev stating : G → Bool
+abbrev pub stating : G → Bool
 stating (seq a b) = skips a && stating b
 stating (alt a b) = stating a && stating b
 stating (when c a) = stating a

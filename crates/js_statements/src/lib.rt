@@ -1,6 +1,7 @@
 //! Statements and lists of them (ECMA-262, chapter 14 and section 11.2.1).
 #![tactic(auto)]
 
+pub mod block;
 pub mod compound_statement;
 pub mod declaration_statement;
 pub mod statement;

@@ -12,6 +12,7 @@ ghost use Rattle.js_parsing.specs.States.{Standing};
 ghost use Rattle.js_parsing.specs.Statements.{EndsStatement, IsLabel, LabelsStatement, NoEnd, TakesAnywhere, TakesStatement, link_kinds, statement_kinds};
 ghost use Rattle.js_statements.specs.LetStatements.{TakesUndeclared};
 
+use crate::block::parse_block_statement;
 use crate::compound_statement::{
     parse_do_while_statement, parse_if_statement, parse_while_statement, parse_with_statement,
 };
@@ -81,6 +82,7 @@ fn parse_any_statement<C: ParserConfig, N: Nested<C>>(
     }
     match p.cur_kind() {
         Kind::Semicolon => parse_empty_statement(p),
+        Kind::LCurly => parse_block_statement(p, nested),
         Kind::If => parse_if_statement(p, nested),
         Kind::Do => parse_do_while_statement(p, nested),
         Kind::While => parse_while_statement(p, nested),

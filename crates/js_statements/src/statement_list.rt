@@ -1,16 +1,17 @@
-//! Directives and statements, one behind the other (ECMA-262, sections 11.2.1, 14.2 and 16.1).
+//! Directives and statements, one behind the other, and what stands in braces (ECMA-262, sections 11.2.1, 14.2, 15.2 and
+//! 16.1).
 
-ghost use Rattle.std.specs.Prelude.{◌≡◌, ◌<◌, ◌↔◌, IsTrue, true, cond, length, MatchResult};
+ghost use Rattle.std.specs.Prelude.{◌≡◌, ◌<◌, ◌+◌, ◌↔◌, IsTrue, true, cond, length, MatchResult};
 ghost use Rattle.js_base.specs.Contexts.{has_flag, in_flag};
 ghost use Rattle.js_base.specs.declared.kind.Kind.TheVariants.{Str};
-ghost use Rattle.js_cursor.specs.Moves.{is_last};
+ghost use Rattle.js_base.specs.Kinds.{same_kind};
 ghost use Rattle.js_tree.specs.Nodes.{node_at};
 ghost use Rattle.js_tree.specs.declared.kind.NodeKind.TheVariants.{Directive, ExpressionStatement, StringLiteral};
 ghost use Rattle.js_parsing.specs.Nesting.{CanNest, room};
-ghost use Rattle.js_statements.specs.StatementLists.{AllRefused, AllTaken, DirectivesTaken, OpeningTaken};
+ghost use Rattle.js_statements.specs.StatementLists.{AllRefused, AllTaken, DirectivesTaken, OpeningRefused, OpeningTaken, end_kind, ends_list, has_directives};
 ghost use Rattle.js_parsing.specs.States.{Standing};
 
-use crate::statement::{end_statement, parse_statement_list_item};
+use crate::statement::end_statement;
 use js_base::Kind;
 use js_cursor::{ParserImpl, Stop};
 use js_expressions::sequence::parse_sequence_expression;
@@ -19,42 +20,83 @@ use js_parsing::nested::Nested;
 use js_parsing::nodes::make_one;
 use js_tree::{NodeId, NodeKind, Op};
 
-/// The directives and the statements of a text, up to its end; or as far as a statement may begin where no lexeme stands.
+/// A list of statements: where it stands.
+#[derive(Clone, Copy)]
+pub enum StatementList {
+    /// In a text, up to its end (ECMA-262, section 16.1).
+    Text,
+    /// In a Block, up to its closing brace (ECMA-262, section 14.2).
+    Block,
+    /// In a FunctionBody, up to its closing brace (ECMA-262, section 15.2).
+    Body,
+}
+
+impl StatementList {
+    /// Whether it begins with directives.
+    fn has_directives(self) -> bool
+        ensures { result ≡ has_directives self }
+    {
+        match self {
+            StatementList::Text | StatementList::Body => true,
+            StatementList::Block => false,
+        }
+    }
+
+    /// Whether a lexeme of this kind ends it.
+    fn ends_at(self, kind: Kind) -> bool
+        ensures { result ≡ same_kind (end_kind self) kind }
+    {
+        match self {
+            StatementList::Text => matches!(kind, Kind::Eof),
+            StatementList::Block | StatementList::Body => matches!(kind, Kind::RCurly),
+        }
+    }
+}
+
+/// The directives and the statements of a list, up to what ends it; or as far as the text's end, or to where a statement may
+/// begin and no lexeme stands.
 pub fn parse_directives_and_statements<C: ParserConfig, N: Nested<C>>(
     p: &mut ParserImpl<'_, C>,
     nested: &N,
+    list: StatementList,
 ) -> Result<Vec<Option<NodeId>>, Stop>
     requires at { Standing p.old }
-    requires nests { CanNest (N.can nested.now) (room p.old) }
+    requires nests { CanNest (N.can nested.now) (room p.old + 1) }
     requires allows_in { has_flag in_flag p.old.ctx ≡ true }
-    ensures { MatchResult result (λ v. AllTaken p.old p.new v.items) (λ e. AllRefused p.old p.new e) }
+    ensures { MatchResult result (λ v. AllTaken list p.old p.new v.items) (λ e. AllRefused list p.old p.new e) }
 {
-    let mut items = parse_directives(p, nested)?;
-    'statements: while !at_last(p) {
-        let statement = parse_statement_list_item(p, nested)?;
+    let mut items = parse_directives(p, nested, list)?;
+    'statements: while !at_last(p, list) {
+        let statement = nested.list_item(p)?;
         items.push(Some(statement))?;
     }
     Ok(items)
 }
 
-/// Whether the end of the text stands here, or no lexeme.
-fn at_last<C: ParserConfig>(p: &ParserImpl<'_, C>) -> bool
-    ensures { result ≡ is_last p.now.token.kind }
+/// Whether what ends the list stands here, or the text's end, or no lexeme.
+fn at_last<C: ParserConfig>(p: &ParserImpl<'_, C>, list: StatementList) -> bool
+    ensures { result ≡ ends_list list p.now.token.kind }
 {
-    matches!(p.cur_kind(), Kind::Eof | Kind::Undetermined)
+    let kind = p.cur_kind();
+    list.ends_at(kind) || matches!(kind, Kind::Eof | Kind::Undetermined)
 }
 
-/// Directives, as long as a string alone is a statement; and a statement that begins with a string and is none.
+/// Directives, as long as a string alone is a statement; and a statement that begins with a string and is none. A Block has no
+/// directives.
 fn parse_directives<C: ParserConfig, N: Nested<C>>(
     p: &mut ParserImpl<'_, C>,
     nested: &N,
+    list: StatementList,
 ) -> Result<Vec<Option<NodeId>>, Stop>
     requires at { Standing p.old }
-    requires nests { CanNest (N.can nested.now) (room p.old) }
+    requires nests { CanNest (N.can nested.now) (room p.old + 1) }
     requires allows_in { has_flag in_flag p.old.ctx ≡ true }
-    ensures { MatchResult result (λ v. DirectivesTaken p.old p.new v.items) (λ e. AllRefused p.old p.new e) }
+    ensures { MatchResult result (λ v. DirectivesTaken list p.old p.new v.items) (λ e. AllRefused list p.old p.new e) }
 {
     let mut items = Vec::new(p.alloc);
+    if !list.has_directives() {
+        return Ok(items);
+    }
     'directives: while p.at(Kind::Str) {
         let (item, is_directive) = parse_opening(p, nested)?;
         items.push(Some(item))?;
@@ -74,7 +116,7 @@ fn parse_opening<C: ParserConfig, N: Nested<C>>(
     requires nests { CanNest (N.can nested.now) (room p.old) }
     requires allows_in { has_flag in_flag p.old.ctx ≡ true }
     requires string { p.old.token.kind ≡ Str }
-    ensures { MatchResult result (λ r. OpeningTaken p.old p.new r.0 r.1) (λ e. AllRefused p.old p.new e) }
+    ensures { MatchResult result (λ r. OpeningTaken p.old p.new r.0 r.1) (λ e. OpeningRefused p.old p.new e) }
 {
     let start = p.cur_start();
     let expression = parse_sequence_expression(p, nested)?;

@@ -1,19 +1,21 @@
 -- What is derived as an array target is derived as an array literal too, over the same lexemes (ECMA-262, 13.15.5).
-use Rattle.std.proofs.Common.{ℕ, ◌≡◌, Bool, true, false, not, ◌&&◌, ◌||◌, IsTrue, List, [], ◌∷◌, refl, sym, ap, subst, ◌∙◌}
+use Rattle.std.proofs.Common.{ℕ, zero, suc, ◌+◌, ◌<◌, arith, ◌≡◌, Bool, true, false, not, ◌&&◌, ◌||◌, IsTrue, List, [], ◌∷◌, refl, sym, ap, subst, ◌∙◌}
 use Rattle.std.proofs.lemmas.Bool.{false≢true, and_parts}
 use Rattle.js_base.specs.declared.kind.Kind.{Kind}
-use Rattle.js_base.specs.declared.kind.Kind.TheVariants.{Eq, Comma, Dot3, LBrack, RBrack, PlusEq, MinusEq, StarEq, SlashEq, PercentEq, ShiftLeftEq, ShiftRightEq, ShiftRight3Eq, PipeEq, CaretEq, AmpEq, Amp2Eq, Pipe2Eq, Question2Eq, Star2Eq}
+use Rattle.js_base.specs.declared.kind.Kind.TheVariants.{Await, Yield, Eq, Colon, Comma, Dot3, LBrack, RBrack, LCurly, RCurly, PlusEq, MinusEq, StarEq, SlashEq, PercentEq, ShiftLeftEq, ShiftRightEq, ShiftRight3Eq, PipeEq, CaretEq, AmpEq, Amp2Eq, Pipe2Eq, Question2Eq, Star2Eq}
 use Rattle.js_base.specs.Kinds.{same_kind}
-use Rattle.js_grammar.specs.Trees.{NodeKind, Label, Slots, end, hole, tree, Tree, of, array_expression, assignment_target_rest, assignment_target_with_default, elision}
-use Rattle.js_grammar.specs.Grammar.{Lexeme, Lexemes, next, seen, is, alt, seq, such, many, nothing, never, empty_slot, when, ◌▸◌, ◌◇◌, Takes, is_nothing, is_lexeme, is_empty_slot, is_seq, is_left, is_right, is_when, is_many, is_such, is_node}
+use Rattle.js_grammar.specs.Trees.{NodeKind, Label, Slots, end, hole, tree, Tree, of, array_expression, assignment_target_rest, assignment_target_with_default, elision, object_expression}
+use Rattle.js_grammar.specs.Grammar.{Lexeme, Lexemes, Look, next, seen, is, commas, is_commas, is_ahead, is_keep, alt, seq, such, many, nothing, never, empty_slot, when, ◌▸◌, ◌◇◌, Takes, is_nothing, is_lexeme, is_empty_slot, is_seq, is_left, is_right, is_when, is_many, is_such, is_node, is_look, is_text, is_marked, is_ended, is_kept}
 use Rattle.js_grammar.specs.Insertion.{assign_operators}
 use Rattle.js_grammar.specs.Parsing.{always}
-use Rattle.js_grammar.specs.Productions.{G, Flags, Symbol, at, tok, mk, op, branches, plus_in, Argument, Assignment, LeftHandSide, Primary, SimpleTarget, Target, ArrayTarget, ObjectTarget, TargetElement}
+use Rattle.js_grammar.specs.Productions.{G, Flags, Symbol, at, tok, mk, op, opt, slot, branches, IdentifierReference, Init, Property, TargetProperty, plus_in, Argument, Assignment, LeftHandSide, Primary, SimpleTarget, Target, ArrayTarget, ObjectTarget, TargetElement}
 use Rattle.js_grammar.specs.Productions.{sym as symbol}
-use Rattle.js_grammar.specs.Table.{rule, rule_of, rest_of}
-use Rattle.js_grammar.proofs.Looks.{apart}
+use Rattle.js_grammar.specs.Table.{rule, rule_of, rest_of, name}
+use Rattle.js_base.specs.Texts.{words}
+use Rattle.js_grammar.specs.Insertion.{is_word, may_bind}
+use Rattle.js_grammar.proofs.Frame.{framed}
+use Rattle.js_grammar.proofs.Looks.{covers, covered}
 use Rattle.js_targets.specs.Targets.{is_array}
-use Rattle.js_parsing.proofs.Dead.{AllRead, dead, none, stays}
 use Rattle.js_parsing.proofs.FreeOfIn.{any_in}
 use Rattle.js_targets.proofs.Targets.{by_primary, of_assignment, target_left_hand_side}
 
@@ -76,10 +78,83 @@ assigned_one f (is_left (is_such d c)) q (is_such e h) = record { label = _; slo
 assigned_one f (is_right (is_left (is_such d c))) q (is_such e h) = record { label = _; slots = _; derived = is_right (is_right (is_right (is_right (is_node (is_seq (is_left (any_in ArrayTarget f (plus_in f) refl refl (is_such d refl))) (is_seq (is_lexeme q) (is_such e refl))))))) }
 assigned_one f (is_right (is_right (is_such d c))) q (is_such e h) = record { label = _; slots = _; derived = is_right (is_right (is_right (is_right (is_node (is_seq (is_right (any_in ObjectTarget f (plus_in f) refl refl (is_such d refl))) (is_seq (is_lexeme q) (is_such e refl))))))) }
 
--- no object is read
-pub object_dead : (f : Flags) → dead (symbol ObjectTarget f) ≡ true
-unfolding apart
-object_dead f = refl
+-- an object literal
+pub record Objected (f : Flags) (i : ℕ) (ls : Lexemes) (j : ℕ) (rest : Lexemes) : Type 0 where
+  pub label : Label
+  pub slots : Slots
+  pub object : label.kind ≡ object_expression
+  pub derived : Takes rule (rule (at Primary f)) end (tree label slots end) i ls end j rest
+
+-- the properties of a target, and of a literal
+abbrev pub target_property : Flags → G
+target_property f = never ◇ symbol TargetProperty f ▸ tok Comma
+
+abbrev pub last_property : Flags → G
+last_property f = symbol TargetProperty f ◇ rest_of f (mk assignment_target_rest (tok Dot3 ▸ (symbol SimpleTarget f ◇ when f.wide (symbol ArrayTarget f ◇ symbol ObjectTarget f)))) ◇ nothing
+
+abbrev pub properties : Flags → G
+properties f = opt (commas true (symbol Property f))
+
+by_object : (f : Flags) {ts : Slots} {i j : ℕ} {x : Lexeme} {ls rest : Lexemes} → IsTrue (seen (is LCurly) x) → Takes rule (seq (properties f) (tok RCurly)) end ts x.to ls end j rest → Objected f i (next x ls) j rest
+unfolding rule rule_of
+by_object f q d = record { label = _; slots = _; object = refl; derived = is_right (is_right (is_right (is_right (is_right (is_right (is_left (is_such (is_node (is_seq (is_lexeme q) d)) refl))))))) }
+
+-- a property more, with its comma
+one_property : (f : Flags) {us ts : Slots} {i j k : ℕ} {x : Lexeme} {ls mid rest : Lexemes} (e : One (at Property f) i ls j (next x mid)) → IsTrue (seen (is Comma) x) → Takes rule (properties f) end ts x.to mid us k rest → Takes rule (properties f) end (tree e.label e.slots ts) i ls us k rest
+one_property f e c (is_left d) = is_left (is_commas (is_seq (is_such e.derived refl) (is_left (is_seq (is_lexeme c) (is_left d)))))
+one_property f e c (is_right is_nothing) = is_left (is_commas (is_seq (is_such e.derived refl) (is_left (is_seq (is_lexeme c) (is_right is_nothing)))))
+
+more_properties : (f : Flags) {us : Slots} {i j k : ℕ} {x : Lexeme} {ls mid rest : Lexemes} → One (at Property f) i ls j (next x mid) → IsTrue (seen (is Comma) x) → (ws : Slots) × Takes rule (properties f) end ws x.to mid us k rest → (ws : Slots) × Takes rule (properties f) end ws i ls us k rest
+more_properties f e q x = (tree e.label e.slots x.0, one_property f e q x.1)
+
+closed_object : (f : Flags) {i j : ℕ} {x y : Lexeme} {ls rest : Lexemes} → IsTrue (seen (is LCurly) x) → IsTrue (seen (is RCurly) y) → (ws : Slots) × Takes rule (properties f) end ws x.to ls end j (next y rest) → Objected f i (next x ls) y.to rest
+closed_object f q p x = by_object f q (is_seq x.1 (is_lexeme p))
+
+-- what names a property is a word
+abbrev names : Look
+names k w e = may_bind k
+
+abbrev words_of : Look
+words_of k w e = is_word k
+
+names_words : covers names words_of ≡ true
+unfolding covers words
+names_words = refl
+
+bound_word : (k : Kind) (b c : Bool) → ((may_bind k && b) && c) ≡ true → is_word k ≡ true
+bound_word k b c h = covered names words_of names_words k false false (and_parts (may_bind k) b (and_parts (may_bind k && b) c h).0).0
+
+-- the last property
+last_of_them : (f : Flags) {i j : ℕ} {ls rest : Lexemes} → One (at Property f) i ls j rest → (ws : Slots) × Takes rule (properties f) end ws i ls end j rest
+last_of_them f e = (tree e.label e.slots end, is_left (is_commas (is_seq (is_such e.derived refl) (is_right is_nothing))))
+
+-- a name for itself, with an initialiser or without one
+shorthand : (f : Flags) → f.cover ≡ true → {ts : Slots} {i j : ℕ} {ls rest : Lexemes} → Takes rule (symbol IdentifierReference f ▸ slot (symbol Init (plus_in f))) end ts i ls end j rest → One (at Property f) i ls j rest
+unfolding rule rule_of
+shorthand f v (is_seq (is_such (is_node (is_lexeme {x = x} t)) h) (is_left (is_such d g))) = record { label = _; slots = _; derived = is_left (is_node (is_seq (is_ahead (is_such (is_node (is_lexeme (bound_word x.kind (not (same_kind Yield x.kind && f.yield_)) (not (same_kind Await x.kind && f.await_)) t))) refl)) (is_seq (is_such (is_node (is_lexeme t)) refl) (is_left (is_when v (is_keep (is_such d refl) is_nothing)))))) }
+shorthand f v (is_seq (is_such (is_node (is_lexeme {x = x} t)) h) (is_right is_empty_slot)) = record { label = _; slots = _; derived = is_left (is_node (is_seq (is_ahead (is_such (is_node (is_lexeme (bound_word x.kind (not (same_kind Yield x.kind && f.yield_)) (not (same_kind Await x.kind && f.await_)) t))) refl)) (is_seq (is_such (is_node (is_lexeme t)) refl) (is_right is_nothing)))) }
+
+-- a name and a value
+named_property : (f : Flags) {ts us : Slots} {i j k : ℕ} {x : Lexeme} {ls mid rest : Lexemes} → Takes rule (name false false f) end ts i ls us j (next x mid) → IsTrue (seen (is Colon) x) → One (at Assignment (plus_in f)) x.to mid k rest → One (at Property f) i ls k rest
+unfolding rule rule_of
+named_property f nm q e = record { label = _; slots = _; derived = is_right (is_left (is_left (is_left (is_node (is_seq ((framed nm).2 (tree e.label e.slots end)) (is_seq (is_lexeme q) (is_such e.derived refl))))))) }
+
+computed_property : (f : Flags) {ts us : Slots} {i j k : ℕ} {x : Lexeme} {ls mid rest : Lexemes} → Takes rule (name true false f) end ts i ls us j (next x mid) → IsTrue (seen (is Colon) x) → One (at Assignment (plus_in f)) x.to mid k rest → One (at Property f) i ls k rest
+unfolding rule rule_of
+computed_property f nm q e = record { label = _; slots = _; derived = is_right (is_left (is_right (is_left (is_node (is_seq ((framed nm).2 (tree e.label e.slots end)) (is_seq (is_lexeme q) (is_such e.derived refl))))))) }
+
+spread_property : (f : Flags) {i j : ℕ} {x : Lexeme} {ls rest : Lexemes} → IsTrue (seen (is Dot3) x) → One (at Assignment (plus_in f)) x.to ls j rest → One (at Property f) i (next x ls) j rest
+unfolding rule rule_of
+spread_property f q e = record { label = _; slots = _; derived = is_right (is_right (is_node (is_seq (is_lexeme q) (is_such e.derived refl)))) }
+
+abbrev rest_property : Flags → G
+rest_property f = rest_of f (mk assignment_target_rest (tok Dot3 ▸ (symbol SimpleTarget f ◇ when f.wide (symbol ArrayTarget f ◇ symbol ObjectTarget f))))
+
+-- what is left
+rest_up : (f : Flags) → f.wide ≡ false → {ts : Slots} {i j : ℕ} {ls rest : Lexemes} → Takes rule (rest_property f) end ts i ls end j rest → (ws : Slots) × Takes rule (properties f) end ws i ls end j rest
+rest_up f w (is_seq (is_node (is_seq (is_lexeme q) (is_left (is_such {l = l} {cs = cs} d h)))) (is_right is_nothing)) = let x = target_left_hand_side (record { label = l; slots = cs }) d in last_of_them f (spread_property f q (raised f x.derived))
+rest_up f w (is_seq (is_node (is_seq (is_lexeme q) (is_right (is_when z d)))) k) = absurd (false≢true (sym w ∙ z))
+rest_up f w (is_seq r (is_left (is_when z k))) = absurd (false≢true (sym w ∙ z))
 
 abbrev never_eq : List Kind → Bool
 never_eq [] = true
@@ -106,32 +181,87 @@ module _ (f : Flags) (w : f.wide ≡ false) where
   no_other (k ∷ j ∷ ks) h (is_left (is_when c d)) = narrow k (both_of h).0 c
   no_other (k ∷ j ∷ ks) h (is_right d) = no_other (j ∷ ks) (both_of h).1 d
 
-  mutual
-    unfolding rule rule_of
+-- ---- by induction over how large a derivation is
 
-    pub array_up : {ts us : Slots} {i j : ℕ} {ls rest : Lexemes} → Takes rule (rule (at ArrayTarget f)) end ts i ls us j rest → AllRead ls → Arrayed f i ls j rest
-    array_up (is_node (is_seq (is_lexeme q) (is_seq (is_seq m l) (is_lexeme p)))) c =
-        let y = last_up l (stays m c.1) end in
-        let x = many_up m c.1 y.0 in
+abbrev deep : {r : Symbol → G} {g : G} {ks ts us : Slots} {i j : ℕ} {ls rest : Lexemes} → Takes r g ks ts i ls us j rest → ℕ
+deep is_nothing = 0
+deep (is_lexeme p) = 0
+deep (is_look p) = 0
+deep (is_text p) = 0
+deep (is_ahead d) = suc (deep d)
+deep is_empty_slot = 0
+deep (is_seq d e) = suc (deep d + deep e)
+deep (is_left d) = suc (deep d)
+deep (is_right d) = suc (deep d)
+deep (is_when q d) = suc (deep d)
+deep (is_many d) = suc (deep d)
+deep (is_commas d) = suc (deep d)
+deep (is_such d q) = suc (deep d)
+deep (is_marked d) = suc (deep d)
+deep (is_node d) = suc (deep d)
+deep (is_ended q d e) = suc (deep d + deep e)
+deep (is_keep d e) = suc (deep d + deep e)
+deep (is_kept q) = 0
+
+-- targets whose derivations are smaller than n are assignments
+abbrev UpTo : Flags → ℕ → Type 0
+UpTo f n = (ts us : Slots) (i j : ℕ) (ls rest : Lexemes) (d : Takes rule (rule (at Target f)) end ts i ls us j rest) → deep d < n → One (at Assignment (plus_in f)) i ls j rest
+
+module _ (f : Flags) (w : f.wide ≡ false) (v : f.cover ≡ true) where
+  module _ {n : ℕ} (up : UpTo f n) where
+    element_at : {ts us : Slots} {i j : ℕ} {ls rest : Lexemes} (d : Takes rule (rule (at TargetElement f)) end ts i ls us j rest) → deep d < n → One (at Assignment (plus_in f)) i ls j rest
+    unfolding rule rule_of
+    element_at (is_left (is_such d h)) c = up _ _ _ _ _ _ d (omega arith)
+    element_at (is_right (is_left (is_when z (is_node (is_seq (is_such d h) (is_seq (is_lexeme q) e)))))) c = assigned_one f d q e
+    element_at (is_right (is_right d)) c = absurd (no_other f w (PlusEq ∷ MinusEq ∷ StarEq ∷ SlashEq ∷ PercentEq ∷ ShiftLeftEq ∷ ShiftRightEq ∷ ShiftRight3Eq ∷ PipeEq ∷ CaretEq ∷ AmpEq ∷ Amp2Eq ∷ Pipe2Eq ∷ Question2Eq ∷ Star2Eq ∷ []) refl d)
+
+    many_at : {ks ts us : Slots} {i j : ℕ} {ls rest : Lexemes} (d : Takes rule (many (target_step f)) ks ts i ls us j rest) → deep d < n → Some' (many (literal_step f)) i ls j rest
+    many_at (is_many (is_right is_nothing)) c = λ vs. (vs, is_many (is_right is_nothing))
+    many_at (is_many (is_left (is_seq (is_left (is_seq is_empty_slot (is_lexeme q))) m))) c = λ vs. let x = many_at m (omega arith) vs in (_, is_many (is_left (is_seq (is_left (is_node (is_lexeme q))) x.1)))
+    many_at (is_many (is_left (is_seq (is_right (is_seq (is_such d h) (is_lexeme q))) m))) c = λ vs. let x = many_at m (omega arith) vs in let e = plain_one f (element_at d (omega arith)) in (_, is_many (is_left (is_seq (is_right (is_seq (is_such e.derived refl) (is_lexeme q))) x.1)))
+
+    last_at : {ks ts us : Slots} {i j : ℕ} {ls rest : Lexemes} (d : Takes rule (target_last f) ks ts i ls us j rest) → deep d < n → Some' (literal_last f) i ls j rest
+    last_at (is_left (is_such d h)) c = λ vs. let e = plain_one f (element_at d (omega arith)) in (_, is_left (is_such e.derived refl))
+    last_at (is_right (is_left (is_seq (is_node (is_seq (is_lexeme q) (is_such d h))) (is_right is_nothing)))) c = λ vs. let e = spread_one f q (up _ _ _ _ _ _ d (omega arith)) in (_, is_left (is_such e.derived refl))
+    last_at (is_right (is_left (is_seq (is_node r) (is_left (is_when z k))))) c = absurd (false≢true (sym w ∙ z))
+    last_at (is_right (is_right is_nothing)) c = λ vs. (vs, is_right (is_right is_nothing))
+
+    array_at : {ts us : Slots} {i j : ℕ} {ls rest : Lexemes} (d : Takes rule (rule (at ArrayTarget f)) end ts i ls us j rest) → deep d < n → Arrayed f i ls j rest
+    unfolding rule rule_of
+    array_at (is_node (is_seq (is_lexeme q) (is_seq (is_seq m l) (is_lexeme p)))) c =
+        let y = last_at l (omega arith) end in
+        let x = many_at m (omega arith) y.0 in
         by_array f q (is_seq (is_seq x.1 y.1) (is_lexeme p))
 
-    many_up : {ks ts us : Slots} {i j : ℕ} {ls rest : Lexemes} → Takes rule (many (target_step f)) ks ts i ls us j rest → AllRead ls → Some' (many (literal_step f)) i ls j rest
-    many_up (is_many (is_right is_nothing)) c = λ vs. (vs, is_many (is_right is_nothing))
-    many_up (is_many (is_left (is_seq (is_left (is_seq is_empty_slot (is_lexeme q))) m))) c = λ vs. let x = many_up m c.1 vs in (_, is_many (is_left (is_seq (is_left (is_node (is_lexeme q))) x.1)))
-    many_up (is_many (is_left (is_seq (is_right (is_seq (is_such d h) (is_lexeme q))) m))) c = λ vs. let x = many_up m (stays d c).1 vs in let e = element_up d c in (_, is_many (is_left (is_seq (is_right (is_seq (is_such e.derived refl) (is_lexeme q))) x.1)))
+    property_at : {ts us : Slots} {i j : ℕ} {ls rest : Lexemes} (d : Takes rule (rule (at TargetProperty f)) end ts i ls us j rest) → deep d < n → One (at Property f) i ls j rest
+    unfolding rule rule_of
+    property_at (is_left (is_node d)) c = shorthand f v d
+    property_at (is_right (is_left (is_node (is_seq nm (is_seq (is_lexeme q) (is_such d h)))))) c = named_property f nm q (element_at d (omega arith))
+    property_at (is_right (is_right (is_node (is_seq nm (is_seq (is_lexeme q) (is_such d h)))))) c = computed_property f nm q (element_at d (omega arith))
 
-    last_up : {ks ts us : Slots} {i j : ℕ} {ls rest : Lexemes} → Takes rule (target_last f) ks ts i ls us j rest → AllRead ls → Some' (literal_last f) i ls j rest
-    last_up (is_left (is_such d h)) c = λ vs. let e = element_up d c in (_, is_left (is_such e.derived refl))
-    last_up (is_right (is_left (is_seq (is_node (is_seq (is_lexeme q) (is_such d h))) (is_right is_nothing)))) c = λ vs. let e = spread_one f q (target_up d c.1) in (_, is_left (is_such e.derived refl))
-    last_up (is_right (is_left (is_seq (is_node r) (is_left (is_when z k))))) c = absurd (false≢true (sym w ∙ z))
-    last_up (is_right (is_right is_nothing)) c = λ vs. (vs, is_right (is_right is_nothing))
+    properties_at : {ts us : Slots} {i j k : ℕ} {ls mid rest : Lexemes} (d : Takes rule (many (target_property f)) end ts i ls us j mid) → deep d < n → (ws : Slots) × Takes rule (properties f) end ws j mid end k rest → (ws : Slots) × Takes rule (properties f) end ws i ls end k rest
+    properties_at (is_many (is_right is_nothing)) c y = y
+    properties_at (is_many (is_left (is_seq (is_left z) m))) c y = elim z [ ]
+    properties_at (is_many (is_left (is_seq (is_right (is_seq (is_such d h) (is_lexeme q))) m))) c y = more_properties f (property_at d (omega arith)) q (properties_at m (omega arith) y)
 
-    element_up : {ts us : Slots} {i j : ℕ} {ls rest : Lexemes} → Takes rule (rule (at TargetElement f)) end ts i ls us j rest → AllRead ls → One (at Argument f) i ls j rest
-    element_up (is_left (is_such d h)) c = plain_one f (target_up d c)
-    element_up (is_right (is_left (is_when z (is_node (is_seq (is_such d h) (is_seq (is_lexeme q) e)))))) c = plain_one f (assigned_one f d q e)
-    element_up (is_right (is_right d)) c = absurd (no_other (PlusEq ∷ MinusEq ∷ StarEq ∷ SlashEq ∷ PercentEq ∷ ShiftLeftEq ∷ ShiftRightEq ∷ ShiftRight3Eq ∷ PipeEq ∷ CaretEq ∷ AmpEq ∷ Amp2Eq ∷ Pipe2Eq ∷ Question2Eq ∷ Star2Eq ∷ []) refl d)
+    object_at : {ts us : Slots} {i j : ℕ} {ls rest : Lexemes} (d : Takes rule (rule (at ObjectTarget f)) end ts i ls us j rest) → deep d < n → Objected f i ls j rest
+    unfolding rule rule_of
+    object_at (is_node (is_seq (is_lexeme q) (is_seq (is_seq m (is_left (is_such d h))) (is_lexeme p)))) c = closed_object f q p (properties_at m (omega arith) (last_of_them f (property_at d (omega arith))))
+    object_at (is_node (is_seq (is_lexeme q) (is_seq (is_seq m (is_right (is_left r))) (is_lexeme p)))) c = closed_object f q p (properties_at m (omega arith) (rest_up f w r))
+    object_at (is_node (is_seq (is_lexeme q) (is_seq (is_seq m (is_right (is_right is_nothing))) (is_lexeme p)))) c = closed_object f q p (properties_at m (omega arith) (end, is_right is_nothing))
 
-    target_up : {ts us : Slots} {i j : ℕ} {ls rest : Lexemes} → Takes rule (rule (at Target f)) end ts i ls us j rest → AllRead ls → One (at Assignment (plus_in f)) i ls j rest
-    target_up (is_left (is_such {l = l} {cs = cs} d h)) c = let x = target_left_hand_side (record { label = l; slots = cs }) d in raised f x.derived
-    target_up (is_right (is_left (is_such d h))) c = let x = array_up d c in raised f (by_primary x.derived)
-    target_up (is_right (is_right d)) c = absurd (none d (object_dead f) c)
+    one_deeper : UpTo f (suc n)
+    unfolding rule rule_of
+    one_deeper ts us i j ls rest (is_left (is_such {l = l} {cs = cs} d h)) c = let x = target_left_hand_side (record { label = l; slots = cs }) d in raised f x.derived
+    one_deeper ts us i j ls rest (is_right (is_left (is_such d h))) c = let x = array_at d (omega arith) in raised f (by_primary x.derived)
+    one_deeper ts us i j ls rest (is_right (is_right (is_such d h))) c = let x = object_at d (omega arith) in raised f (by_primary x.derived)
+
+  up_to : (n : ℕ) → UpTo f n
+  up_to zero ts us i j ls rest d c = absurd (omega arith)
+  up_to (suc n) ts us i j ls rest d c = one_deeper (up_to n) ts us i j ls rest d c
+
+  pub array_up : {ts us : Slots} {i j : ℕ} {ls rest : Lexemes} → Takes rule (rule (at ArrayTarget f)) end ts i ls us j rest → Arrayed f i ls j rest
+  array_up d = array_at (up_to (suc (deep d))) d (omega arith)
+
+  pub object_up : {ts us : Slots} {i j : ℕ} {ls rest : Lexemes} → Takes rule (rule (at ObjectTarget f)) end ts i ls us j rest → Objected f i ls j rest
+  object_up d = object_at (up_to (suc (deep d))) d (omega arith)

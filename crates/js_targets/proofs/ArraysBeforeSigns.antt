@@ -2,17 +2,17 @@
 use Rattle.std.proofs.Common.{ℕ, ◌≡◌, ◌⊎◌, inl, inr, Bool, true, false, not, ◌&&◌, ◌||◌, IsTrue, Option, Some, List, refl, sym, ap, subst, ◌∙◌}
 use Rattle.std.proofs.lemmas.Bool.{false≢true, and_parts, and_from}
 use Rattle.js_base.specs.declared.kind.Kind.{Kind}
-use Rattle.js_base.specs.declared.kind.Kind.TheVariants.{Eq}
+use Rattle.js_base.specs.declared.kind.Kind.TheVariants.{Eq, LCurly}
 use Rattle.js_base.specs.Kinds.{same_kind, one_of_kinds}
 use Rattle.js_base.proofs.KindLemmas.{kind_of_same}
-use Rattle.js_grammar.specs.Trees.{NodeKind, Op, Label, Slots, end, tree, Tree, of, array_expression, assignment_expression}
-use Rattle.js_grammar.specs.Grammar.{Lexeme, Lexemes, last, Look, here, seen, is, alt, seq, such, nothing, ◌▸◌, ◌◇◌, Takes, is_lexeme, is_seq, is_left, is_right, is_such}
+use Rattle.js_grammar.specs.Trees.{NodeKind, Op, Label, Slots, end, tree, Tree, of, array_expression, assignment_expression, object_expression}
+use Rattle.js_grammar.specs.Grammar.{Lexeme, Lexemes, last, Look, here, seen, is, alt, seq, such, nothing, ◌▸◌, ◌◇◌, Takes, is_lexeme, is_seq, is_left, is_right, is_such, is_node}
 use Rattle.js_grammar.specs.Insertion.{Row, after_expression, assign_operators}
 use Rattle.js_grammar.specs.Lexed.{Lexes}
 use Rattle.js_grammar.specs.Parsing.{Test, always, Admits, Fails}
 use Rattle.js_grammar.specs.Productions.{G, Flags, Symbol, at, tok, op, Assignment, Short, ArrayTarget, ObjectTarget, LeftHandSide}
 use Rattle.js_grammar.specs.Productions.{sym as symbol}
-use Rattle.js_grammar.specs.Table.{rule}
+use Rattle.js_grammar.specs.Table.{rule, rule_of}
 use Rattle.js_grammar.specs.Follow.{row_of, after, looser}
 use Rattle.js_grammar.proofs.Calculus.{ends, here_at, label_is}
 use Rattle.js_grammar.proofs.FollowLaws.{admits}
@@ -22,8 +22,7 @@ use Rattle.js_parsing.specs.Answers.{Answer, Stretch, Underived}
 use Rattle.js_parsing.specs.Lexemes.{Lex}
 use Rattle.js_parsing.specs.States.{At}
 use Rattle.js_targets.specs.Targets.{is_array, target_of}
-use Rattle.js_targets.proofs.ArrayTargets.{array_up, object_dead}
-use Rattle.js_parsing.proofs.Dead.{AllRead, all_read, none}
+use Rattle.js_targets.proofs.ArrayTargets.{array_up, object_up}
 use Rattle.js_targets.proofs.Targets.{by_primary, of_short}
 use Rattle.js_parsing.proofs.Verdicts.{either_way}
 
@@ -37,6 +36,10 @@ array_part f = op assignment_expression Eq (array_slots f)
 -- targets aren't taken in their wider form
 pub not_wide : {text : List ℕ} {f : Flags} {p : Parser} → At text f p → f.wide ≡ false
 not_wide a = ap (λ (g : Flags). g.wide) (sym a.flags_are)
+
+-- and expressions are read as a cover grammar
+pub is_cover : {text : List ℕ} {f : Flags} {p : Parser} → At text f p → f.cover ≡ true
+is_cover a = ap (λ (g : Flags). g.cover) (sym a.flags_are)
 
 -- an array literal's right edge is its own
 array_row : (k : NodeKind) (o : Op) (fl : ℕ) (p : _) (cs : Slots) → is_array k ≡ true → row_of (record { kind = k; op = o; flags = fl; span = p }) cs ≡ after_expression
@@ -63,19 +66,33 @@ an_equals : (y : Lexeme) → IsTrue (seen (is Eq) y) → IsTrue (seen signs y)
 an_equals y q = let z = and_parts (same_kind Eq y.kind) (not y.escaped) q in and_from (one_of_kinds assign_operators y.kind) (not y.escaped) (subst (λ (v : Kind). one_of_kinds assign_operators v ≡ true) (kind_of_same Eq y.kind z.0) refl) z.1
 
 -- An array target, as an array literal.
-record Literal (f : Flags) (ks us : Slots) (i : ℕ) (ls : Lexemes) (j : ℕ) (rest : Lexemes) : Type 0 where
-  label : Label
-  slots : Slots
-  array : is_array label.kind ≡ true
-  takes : Takes rule (such (at Short f) always) ks (tree label slots us) i ls us j rest
+pub record Literal (f : Flags) (ks us : Slots) (i : ℕ) (ls : Lexemes) (j : ℕ) (rest : Lexemes) : Type 0 where
+  pub label : Label
+  pub slots : Slots
+  pub array : is_array label.kind ≡ true
+  pub takes : Takes rule (such (at Short f) always) ks (tree label slots us) i ls us j rest
 
 -- before an assignment operator it may stand
 pub array_before_a_sign : (f : Flags) (l : Label) (cs us : Slots) → is_array l.kind ≡ true → (y : Lexeme) → IsTrue (seen signs y) → Admits (after (at Short f)) (tree l cs us) y
 array_before_a_sign f l cs us h y q = admits (at Short f) (tree l cs us) y (subst (λ (r : Row). IsTrue (seen (looser 4 f.in_ r) y)) (sym (array_row l.kind l.op l.flags l.span cs h)) (covered signs (looser 4 f.in_ after_expression) (signs_follow f.in_) y.kind y.newline y.escaped q))
 
-module _ {f : Flags} (w : f.wide ≡ false) where
-  literal : {ks ts us vs : Slots} {i j : ℕ} {ls rest : Lexemes} → Takes rule (symbol ArrayTarget f) ks ts i ls us j rest → AllRead ls → Literal f ks vs i ls j rest
-  literal {ks} {vs = vs} (is_such d h) c = let x = array_up f w d c in record { label = x.label; slots = x.slots; array = x.array; takes = anew ((of_short f).up (by_primary x.derived)) }
+object_row : (k : NodeKind) (o : Op) (fl : ℕ) (p : _) (cs : Slots) → k ≡ object_expression → row_of (record { kind = k; op = o; flags = fl; span = p }) cs ≡ after_expression
+object_row k o fl p cs e = subst (λ (v : NodeKind). row_of (record { kind = v; op = o; flags = fl; span = p }) cs ≡ after_expression) (sym e) refl
+
+-- so may an object literal
+pub object_before_a_sign : (f : Flags) (l : Label) (cs us : Slots) → l.kind ≡ object_expression → (y : Lexeme) → IsTrue (seen signs y) → Admits (after (at Short f)) (tree l cs us) y
+object_before_a_sign f l cs us h y q = admits (at Short f) (tree l cs us) y (subst (λ (r : Row). IsTrue (seen (looser 4 f.in_ r) y)) (sym (object_row l.kind l.op l.flags l.span cs h)) (covered signs (looser 4 f.in_ after_expression) (signs_follow f.in_) y.kind y.newline y.escaped q))
+
+pub before_others : {f : Flags} {ks vs : Slots} {l : Label} {cs : Slots} {i j : ℕ} {ls rest : Lexemes} → Takes rule (such (at Short f) always) end (tree l cs end) i ls end j rest → Takes rule (such (at Short f) always) ks (tree l cs vs) i ls vs j rest
+before_others (is_such d h) = is_such d h
+
+-- no brace that opens stands there
+abbrev pub NoBrace : List ℕ → ℕ → Type 0
+NoBrace text s = (y : Lexeme) → Lex text s y → same_kind LCurly y.kind ≡ false
+
+module _ {f : Flags} (w : f.wide ≡ false) (v : f.cover ≡ true) where
+  pub literal : {ks ts us vs : Slots} {i j : ℕ} {ls rest : Lexemes} → Takes rule (symbol ArrayTarget f) ks ts i ls us j rest → Literal f ks vs i ls j rest
+  literal {ks} {vs = vs} (is_such d h) = let x = array_up f w v d in record { label = x.label; slots = x.slots; array = x.array; takes = anew ((of_short f).up (by_primary x.derived)) }
     where
       anew : {l : Label} {cs : Slots} {i j : ℕ} {ls rest : Lexemes} → Takes rule (such (at Short f) always) end (tree l cs end) i ls end j rest → Takes rule (such (at Short f) always) ks (tree l cs vs) i ls vs j rest
       anew (is_such d h) = is_such d h
@@ -87,7 +104,7 @@ module _ {f : Flags} (w : f.wide ≡ false) where
   -- the lexemes of another tree are no array target
   pub no_array_there : {text : List ℕ} {s s' : ℕ} {l : Label} {cs : Slots} {pass : Lexemes → Lexemes} → Stretch text (after (at Short f)) (such (at Short f) always) s nothing s' (tree l cs) pass → is_array l.kind ≡ false → {ts : Slots} {j : ℕ} {ls : Lexemes} (y : Lexeme) → Lexes (Lex text) s ls → IsTrue (seen signs y) → Takes rule (symbol ArrayTarget f) end ts s ls end j (last y) → ⊥
   no_array_there r n {j = j} {ls} y m q d =
-      let x = literal {vs = end} d (all_read _ _ ls m) in
+      let x = literal {vs = end} d in
       let z = r.goes.only (tree x.label x.slots end) end j ls (last y) m x.takes (before_a_sign x y q) in
       false≢true (sym n ∙ (sym (ap (λ (v : Label). is_array v.kind) (label_is z.2)) ∙ x.array))
 
@@ -97,18 +114,19 @@ module _ {f : Flags} (w : f.wide ≡ false) where
     no_array_unread n = record { no = λ ts vs k ls rest l d e. go ts vs k ls rest l d }
       where
         go : (ts vs : Slots) (k : ℕ) (ls rest : Lexemes) → Lexes (Lex text) s ls → Takes rule (array_slots f) end ts s ls vs k rest → ⊥
-        go ts vs k ls rest l (is_seq {us = us} {j = j} {mid = mid} (is_left d) (is_seq (is_lexeme {x = y} q) b)) = let x = literal {vs = us} d (all_read text s ls l) in n.no (tree x.label x.slots us) us j ls mid l x.takes (before_a_sign x y (an_equals y q))
-        go ts vs k ls rest l (is_seq (is_right d) b) = none d (object_dead f) (all_read text s ls l)
+        go ts vs k ls rest l (is_seq {us = us} {j = j} {mid = mid} (is_left d) (is_seq (is_lexeme {x = y} q) b)) = let x = literal {vs = us} d in n.no (tree x.label x.slots us) us j ls mid l x.takes (before_a_sign x y (an_equals y q))
+        go ts vs k ls rest l (is_seq {us = us} {j = j} {mid = mid} (is_right (is_such d h)) (is_seq (is_lexeme {x = y} q) b)) = let x = object_up f w v d in n.no (tree x.label x.slots us) us j ls mid l (before_others ((of_short f).up (by_primary x.derived))) (object_before_a_sign f x.label x.slots us x.object y (an_equals y q))
 
     -- it was read as another tree; or no `=` stands behind it
-    pub no_array_read : {s' : ℕ} {l : Label} {cs : Slots} {pass : Lexemes → Lexemes} → Stretch text (after (at Short f)) (such (at Short f) always) s nothing s' (tree l cs) pass → (is_array l.kind ≡ false) ⊎ ((y : Lexeme) → Lex text s' y → IsTrue (seen (is Eq) y) → ⊥) → Fails rule (Lex text) X end (array_slots f) s
-    no_array_read {s'} {l} {cs} {pass} r h = record { no = λ ts vs k ls rest m d e. go ts vs k ls rest m d }
+    pub no_array_read : NoBrace text s → {s' : ℕ} {l : Label} {cs : Slots} {pass : Lexemes → Lexemes} → Stretch text (after (at Short f)) (such (at Short f) always) s nothing s' (tree l cs) pass → (is_array l.kind ≡ false) ⊎ ((y : Lexeme) → Lex text s' y → IsTrue (seen (is Eq) y) → ⊥) → Fails rule (Lex text) X end (array_slots f) s
+    unfolding rule rule_of
+    no_array_read nb {s'} {l} {cs} {pass} r h = record { no = λ ts vs k ls rest m d e. go ts vs k ls rest m d }
       where
         go : (ts vs : Slots) (k : ℕ) (ls rest : Lexemes) → Lexes (Lex text) s ls → Takes rule (array_slots f) end ts s ls vs k rest → ⊥
         go ts vs k ls rest m (is_seq {us = us} {j = j} {mid = mid} (is_left d) (is_seq (is_lexeme {x = y} q) b)) = by h
           where
             x : Literal f end us s ls j mid
-            x = literal {vs = us} d (all_read text s ls m)
+            x = literal {vs = us} d
 
             z : (vs : Slots) × (ls' : Lexemes) × (tree x.label x.slots us ≡ tree l cs vs) × Lexes (Lex text) s' ls' × Takes rule nothing end vs s' ls' us j mid × (ls ≡ pass ls')
             z = r.goes.only (tree x.label x.slots us) us j ls mid m x.takes (before_a_sign x y (an_equals y q))
@@ -119,8 +137,8 @@ module _ {f : Flags} (w : f.wide ≡ false) where
             by : (is_array l.kind ≡ false) ⊎ ((y : Lexeme) → Lex text s' y → IsTrue (seen (is Eq) y) → ⊥) → ⊥
             by (inl n) = false≢true (sym n ∙ (sym (ap (λ (v : Label). is_array v.kind) (label_is z.2)) ∙ x.array))
             by (inr n) = n y stands q
-        go ts vs k ls rest m (is_seq (is_right d) b) = none d (object_dead f) (all_read text s ls m)
+        go ts vs k ls rest m (is_seq (is_right (is_such (is_node (is_seq (is_lexeme {x = z} q) e)) g)) b) = false≢true (sym (nb z m.0) ∙ (and_parts (same_kind LCurly z.kind) (not z.escaped) q).0)
 
 -- between two states
-pub no_array_part : {text : List ℕ} {f : Flags} {X : Test} {p q : Parser} (x : Answer text f (at Short f) p q) → (is_array x.label.kind ≡ false) ⊎ ((y : Lexeme) → Lex text q.prev_token_end y → IsTrue (seen (is Eq) y) → ⊥) → Fails rule (Lex text) X end (array_slots f) p.prev_token_end
-no_array_part x h = either_way x.verdict (λ y. no_array_read (not_wide x.at) y h) (λ n. no_array_unread (not_wide x.at) n)
+pub no_array_part : {text : List ℕ} {f : Flags} {X : Test} {p q : Parser} → NoBrace text p.prev_token_end → (x : Answer text f (at Short f) p q) → (is_array x.label.kind ≡ false) ⊎ ((y : Lexeme) → Lex text q.prev_token_end y → IsTrue (seen (is Eq) y) → ⊥) → Fails rule (Lex text) X end (array_slots f) p.prev_token_end
+no_array_part b x h = either_way x.verdict (λ y. no_array_read (not_wide x.at) (is_cover x.at) b y h) (λ n. no_array_unread (not_wide x.at) (is_cover x.at) n)

@@ -29,11 +29,12 @@ use Rattle.js_targets.specs.Targets.{Each, Closed, Fits, Narrow, Shut, Spotted, 
 use Rattle.js_targets.specs.declared.widening.Widening.{Widening}
 use Rattle.js_targets.specs.declared.widening.Widening.TheVariants.{Rest, Operator}
 use Rattle.js_targets.proofs.Spots.{literal_spots}
-use Rattle.js_targets.proofs.ArraysBeforeSigns.{array_before_a_sign}
+use Rattle.js_targets.proofs.ArraysBeforeSigns.{array_before_a_sign, before_others, literal, object_before_a_sign}
+use Rattle.js_targets.proofs.ArrayTargets.{object_up}
 use Rattle.js_parsing.proofs.Here.{alike}
 use Rattle.js_targets.proofs.LiteralsAsTargets.{Targeted, literal_target}
 use Rattle.js_targets.proofs.Targets.{by_primary, may_array, of_short}
-use Rattle.js_targets.proofs.TargetsAsLiterals.{array_back}
+use Rattle.js_targets.proofs.TargetsAsLiterals.{Unbraced, array_back}
 
 -- ---- what the literal says of the target
 
@@ -45,7 +46,7 @@ shut_narrow text (Operator s ∷ ws) h = absurd h.0
 anew : {n : Symbol} {ks vs : Slots} {l : Label} {cs : Slots} {i j : ℕ} {ls rest : Lexemes} → Takes rule (such n always) end (tree l cs end) i ls end j rest → Takes rule (such n always) ks (tree l cs vs) i ls vs j rest
 anew (is_such d h) = is_such d h
 
-module _ (text : List ℕ) (f : Flags) (w : f.wide ≡ false) where
+module _ (text : List ℕ) (f : Flags) (w : f.wide ≡ false) (e : ℕ) where
   -- a target, as an expression
   record Sourced (ks us : Slots) (a : Label) (bs : Slots) (i : ℕ) (ls : Lexemes) (j : ℕ) (rest : Lexemes) : Type 0 where
     label : Label
@@ -56,9 +57,9 @@ module _ (text : List ℕ) (f : Flags) (w : f.wide ≡ false) where
     opened : Each (Narrow text) (places_in slots)
     takes : Takes rule (such (at Short f) always) ks (tree label slots us) i ls us j rest
 
-  sourced : {ks us : Slots} {a : Label} {bs : Slots} {i j : ℕ} {ls rest : Lexemes} → Lexes (Lex text) i ls → Takes rule (rule (at ArrayTarget f)) end (tree a bs end) i ls end j rest → Sourced ks us a bs i ls j rest
-  sourced {ks} {us} {a} {bs} m d =
-      let x = array_back text f w d m in
+  sourced : {ks us : Slots} {a : Label} {bs : Slots} {i j : ℕ} {ls rest : Lexemes} → Lexes (Unbraced text e) i ls → j ≤ e → Takes rule (rule (at ArrayTarget f)) end (tree a bs end) i ls end j rest → Sourced ks us a bs i ls j rest
+  sourced {ks} {us} {a} {bs} m le d =
+      let x = array_back text e f w d m le in
       record {
         label = x.label;
         slots = x.slots;
@@ -77,7 +78,7 @@ abbrev pub signs : Test
 signs = plain assigns_next
 
 -- what was read, and may be followed by an assignment operator, is the only one
-module _ {text : List ℕ} {f : Flags} (w : f.wide ≡ false) {s s' : ℕ} {l : Label} {cs : Slots} {pass : Lexemes → Lexemes} (z : Stretch text (after (at Short f)) (such (at Short f) always) s nothing s' (tree l cs) pass) (h : is_array l.kind ≡ true) where
+module _ {text : List ℕ} {f : Flags} (w : f.wide ≡ false) (v : f.cover ≡ true) {s s' : ℕ} {l : Label} {cs : Slots} {pass : Lexemes → Lexemes} (free : (ms : Lexemes) → Lexes (Lex text) s' ms → Lexes (Lex text) s (pass ms) → Lexes (Unbraced text s') s (pass ms)) (z : Stretch text (after (at Short f)) (such (at Short f) always) s nothing s' (tree l cs) pass) (h : is_array l.kind ≡ true) where
   -- a target that stands there is that of the literal
   record There (a : Label) (bs us : Slots) (vs : Slots) (ls : Lexemes) (k : ℕ) (rest : Lexemes) : Type 0 where
     target : a ≡ relabelled array_assignment_target l
@@ -89,9 +90,17 @@ module _ {text : List ℕ} {f : Flags} (w : f.wide ≡ false) {s s' : ℕ} {l : 
     takes : Takes rule nothing end us s' behind vs k rest
     list : ls ≡ pass behind
 
+  -- no brace stands in it
+  unbraced : {a : Label} {bs : Slots} {k : ℕ} {ls rest : Lexemes} → Lexes (Lex text) s ls → Takes rule (rule (at ArrayTarget f)) end (tree a bs end) s ls end k rest → IsTrue (seen assigns_next (here rest)) → Lexes (Unbraced text k) s ls
+  unbraced {k = k} {ls = ls} {rest = rest} m d q =
+      let x = literal w v {ks = end} {us = end} {vs = end} (is_such d refl) in
+      let y = z.goes.only (tree x.label x.slots end) end k ls rest m x.takes (sign_admitted f x.label x.slots end (here rest) x.array q) in
+      let u = free y.1 y.3 (subst (λ (v : Lexemes). Lexes (Lex text) s v) y.5 m) in
+      subst (λ (v : Lexemes). Lexes (Unbraced text k) s v) (sym y.5) (subst (λ (n : ℕ). Lexes (Unbraced text n) s (pass y.1)) (ends y.4).1 u)
+
   there : {a : Label} {bs vs : Slots} {k : ℕ} {ls rest : Lexemes} → Lexes (Lex text) s ls → Takes rule (rule (at ArrayTarget f)) end (tree a bs end) s ls end k rest → IsTrue (seen assigns_next (here rest)) → (us : Slots) × There a bs us vs ls k rest
   there {a} {bs} {vs} {k} {ls} {rest} m d q =
-      let x = sourced text f w {ks = end} {us = vs} m d in
+      let x = sourced text f w k {ks = end} {us = vs} (unbraced m d q) (omega arith) d in
       let y = z.goes.only (tree x.label x.slots vs) vs k ls rest m x.takes (sign_admitted f x.label x.slots vs (here rest) x.array q) in
       let e = ends y.4 in (
         y.0,
@@ -117,6 +126,13 @@ module _ {text : List ℕ} {f : Flags} (w : f.wide ≡ false) {s s' : ℕ} {l : 
 
       go : (ts vs : Slots) (k : ℕ) (ls rest : Lexemes) → Lexes (Lex text) s ls → Takes rule (such (at ArrayTarget f) always) end ts s ls vs k rest → Admits signs ts (here rest) → ⊥
       go ts vs k ls rest m (is_such d c) q = by (there {vs = vs} m d q.0).1 n
+
+  -- nor is an object target
+  pub no_object_derived : {t : Tree} {k : ℕ} {ls : Lexemes} (y : Lexeme) → Lexes (Lex text) s ls → IsTrue (seen assigns_next y) → Takes rule (symbol ObjectTarget f) end (tree t.label t.slots end) s ls end k (last y) → ⊥
+  no_object_derived {k = k} {ls = ls} y m q (is_such d c) =
+      let x = object_up f w v d in
+      let g = z.goes.only (tree x.label x.slots end) end k ls (last y) m (before_others ((of_short f).up (by_primary x.derived))) (object_before_a_sign f x.label x.slots end x.object y q) in
+      false≢true (ap is_array (sym x.object) ∙ (ap (λ (n : Label). is_array n.kind) (label_is g.2) ∙ h))
 
   -- where it is converted to none, none is derived
   pub no_array_derived : elements_in cs ≡ None → {ts : Slots} {k : ℕ} {ls : Lexemes} (y : Lexeme) → Lexes (Lex text) s ls → IsTrue (seen assigns_next y) → Takes rule (symbol ArrayTarget f) end ts s ls end k (last y) → ⊥
@@ -175,8 +191,8 @@ module _ {text : List ℕ} {f : Flags} (w : f.wide ≡ false) {s s' : ℕ} {l : 
       by m (is_such d c) = literal_spots text u h r b m ((of_short f).down (may_array l.kind h) (is_such d refl))
 
 -- nothing was read there
-pub no_target_unread : {text : List ℕ} {f : Flags} → f.wide ≡ false → {s : ℕ} → Underived text (at Short f) s → Fails rule (Lex text) signs end (such (at ArrayTarget f) always) s
-no_target_unread {text} {f} w {s} n = record { no = λ ts vs k ls rest m d q. go ts vs k ls rest m d q }
+pub no_target_unread : {text : List ℕ} {f : Flags} → f.wide ≡ false → f.cover ≡ true → {s : ℕ} → Underived text (at Short f) s → Fails rule (Lex text) signs end (such (at ArrayTarget f) always) s
+no_target_unread {text} {f} w v {s} n = record { no = λ ts vs k ls rest m d q. go ts vs k ls rest m d q }
   where
     go : (ts vs : Slots) (k : ℕ) (ls rest : Lexemes) → Lexes (Lex text) s ls → Takes rule (such (at ArrayTarget f) always) end ts s ls vs k rest → Admits signs ts (here rest) → ⊥
-    go ts vs k ls rest m (is_such d c) q = let x = sourced text f w {ks = end} {us = vs} m d in n.no (tree x.label x.slots vs) vs k ls rest m x.takes (sign_admitted f x.label x.slots vs (here rest) x.array q.0)
+    go ts vs k ls rest m (is_such d c) q = let x = literal w v {ks = end} {us = vs} {vs = vs} (is_such d c) in n.no (tree x.label x.slots vs) vs k ls rest m x.takes (sign_admitted f x.label x.slots vs (here rest) x.array q.0)

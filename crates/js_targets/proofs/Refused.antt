@@ -20,12 +20,10 @@ use Rattle.js_grammar.specs.Grammar.{Takes, is_such}
 use Rattle.js_grammar.specs.Table.{rule}
 use Rattle.js_targets.specs.Targets.{is_array}
 use Rattle.js_grammar.specs.Grammar.{Derives, is_left, is_right}
-use Rattle.js_grammar.specs.Productions.{SimpleTarget, ArrayTarget, Target}
+use Rattle.js_grammar.specs.Productions.{SimpleTarget, ArrayTarget, ObjectTarget, Target}
 use Rattle.js_grammar.specs.Productions.{sym as symbol}
 use Rattle.js_grammar.specs.Table.{rule_of}
 use Rattle.js_targets.proofs.Assigned.{an_assign}
-use Rattle.js_targets.proofs.ArrayTargets.{object_dead}
-use Rattle.js_parsing.proofs.Dead.{AllRead, none}
 use Rattle.js_cursor.specs.Moves.{GivesUp}
 use Rattle.js_parsing.specs.Classes.{EndsParse}
 
@@ -45,11 +43,11 @@ no_target_kind _ o fl p cs h = absurd (false≢true h)
 pub array_no_target : (l : Label) (cs : Slots) → is_array l.kind ≡ true → target_of l cs ≡ None
 array_no_target l cs h = no_target_kind l.kind l.op l.flags l.span cs h
 
-pub no_target : (f : Flags) {i j : ℕ} {ls rest : Lexemes} → AllRead ls → ((t : Tree) → Derives rule (at SimpleTarget f) t i ls j rest → ⊥) → ((t : Tree) → Takes rule (symbol ArrayTarget f) end (tree t.label t.slots end) i ls end j rest → ⊥) → (t : Tree) → Derives rule (at Target f) t i ls j rest → ⊥
+pub no_target : (f : Flags) {i j : ℕ} {ls rest : Lexemes} → ((t : Tree) → Takes rule (symbol ObjectTarget f) end (tree t.label t.slots end) i ls end j rest → ⊥) → ((t : Tree) → Derives rule (at SimpleTarget f) t i ls j rest → ⊥) → ((t : Tree) → Takes rule (symbol ArrayTarget f) end (tree t.label t.slots end) i ls end j rest → ⊥) → (t : Tree) → Derives rule (at Target f) t i ls j rest → ⊥
 unfolding rule rule_of
-no_target f r n m t (is_left (is_such d c)) = n t d
-no_target f r n m t (is_right (is_left d)) = m t d
-no_target f r n m t (is_right (is_right d)) = none d (object_dead f) r
+no_target f o n m t (is_left (is_such d c)) = n t d
+no_target f o n m t (is_right (is_left d)) = m t d
+no_target f o n m t (is_right (is_right d)) = o t d
 
 pub short_follows : (b : Bool) → covers an_assign (looser 4 b after_expression) ≡ true
 unfolding covers

@@ -1,12 +1,12 @@
 -- An array target is derived as an array literal whose elements are those of the target, over the same lexemes, and no comma stands behind a rest of it (ECMA-262, 13.15.5).
-use Rattle.std.proofs.Common.{ℕ, ◌≡◌, Bool, true, false, not, cond, ◌&&◌, ◌||◌, IsTrue, List, [], ◌∷◌, ◌++◌, Option, Some, None, refl, sym, ap, subst, ◌∙◌}
+use Rattle.std.proofs.Common.{ℕ, ◌≡◌, ◌≤◌, ◌<◌, arith, Bool, true, false, not, cond, ◌&&◌, ◌||◌, IsTrue, List, [], ◌∷◌, ◌++◌, Option, Some, None, refl, sym, ap, subst, ◌∙◌}
 use Rattle.std.proofs.lemmas.Bool.{false≢true, and_parts, or_left, or_right}
 use Rattle.js_base.specs.declared.kind.Kind.{Kind}
-use Rattle.js_base.specs.declared.kind.Kind.TheVariants.{Eq, Comma, Dot3, LBrack, RBrack, PlusEq, MinusEq, StarEq, SlashEq, PercentEq, ShiftLeftEq, ShiftRightEq, ShiftRight3Eq, PipeEq, CaretEq, AmpEq, Amp2Eq, Pipe2Eq, Question2Eq, Star2Eq}
+use Rattle.js_base.specs.declared.kind.Kind.TheVariants.{Eq, Eof, Comma, Dot3, LBrack, RBrack, LCurly, PlusEq, MinusEq, StarEq, SlashEq, PercentEq, ShiftLeftEq, ShiftRightEq, ShiftRight3Eq, PipeEq, CaretEq, AmpEq, Amp2Eq, Pipe2Eq, Question2Eq, Star2Eq}
 use Rattle.js_base.specs.Kinds.{same_kind}
 use Rattle.js_base.proofs.KindLemmas.{kind_of_same}
 use Rattle.js_grammar.specs.Trees.{NodeKind, Op, Span, Label, Slots, end, hole, tree, Tree, of, no_op, identifier_reference, static_member_expression, computed_member_expression, private_field_expression, parenthesized_expression, array_expression, assignment_expression, spread_element, array_assignment_target, assignment_target_rest, assignment_target_with_default}
-use Rattle.js_grammar.specs.Grammar.{Lexeme, Lexemes, next, here, seen, is, such, nothing, many, empty_slot, seq, ◌▸◌, ◌◇◌, Takes, is_nothing, is_lexeme, is_empty_slot, is_seq, is_left, is_right, is_when, is_many, is_such, is_node}
+use Rattle.js_grammar.specs.Grammar.{Lexeme, Lexemes, last, next, here, seen, is, such, nothing, many, empty_slot, seq, ◌▸◌, ◌◇◌, Takes, is_nothing, is_lexeme, is_look, is_text, is_ahead, is_empty_slot, is_seq, is_left, is_right, is_when, is_many, is_commas, is_such, is_marked, is_node, is_ended, is_keep, is_kept}
 use Rattle.js_grammar.specs.Lexed.{Lexes}
 use Rattle.js_grammar.specs.Parsing.{always}
 use Rattle.js_grammar.specs.Productions.{G, Flags, Symbol, at, tok, mk, plus_in, Argument, Assignment, LeftHandSide, Primary, SimpleTarget, Target, ArrayTarget, ObjectTarget, TargetElement}
@@ -14,13 +14,14 @@ use Rattle.js_grammar.specs.Productions.{sym as symbol}
 use Rattle.js_grammar.specs.Table.{rule, rule_of}
 use Rattle.js_grammar.proofs.Behind.{lexed_behind}
 use Rattle.js_grammar.proofs.Calculus.{label_is, slots_are}
-use Rattle.js_parsing.specs.Lexemes.{Lex}
+use Rattle.js_cursor.proofs.Moving.{lexeme_some}
+use Rattle.js_parsing.specs.Lexemes.{Lex, Spot, Walked, nowhere, one_more, more_faults}
+use Rattle.js_parsing.proofs.Paths.{behind_walk}
 use Rattle.js_targets.specs.declared.widening.Widening.{Widening}
 use Rattle.js_targets.specs.declared.widening.Widening.TheVariants.{Rest}
 use Rattle.js_targets.specs.Targets.{Each, Closed, Shut, is_array, is_array_target, is_target, is_parens, target_in, target_of, relabelled, before_all, elements_in, places_of, places_in}
 use Rattle.js_targets.proofs.ArrayElements.{gap_label}
-use Rattle.js_targets.proofs.ArrayTargets.{target_step, target_last, literal_step, literal_last, object_dead, no_other}
-use Rattle.js_parsing.proofs.Dead.{all_read, none}
+use Rattle.js_targets.proofs.ArrayTargets.{target_step, target_last, literal_step, literal_last, no_other}
 use Rattle.js_parsing.proofs.FreeOfIn.{any_in}
 use Rattle.js_targets.proofs.LiteralsAsTargets.{all_of, rest_before, array_before, simple_before, element_before}
 use Rattle.js_targets.proofs.Targets.{by_brackets, by_primary, of_assignment, target_left_hand_side}
@@ -64,6 +65,55 @@ target_kind (tree l cs (hole us)) t e = absurd (cc)
 target_kind (tree l cs (tree m ds us)) t e = absurd (cc)
 
 -- ---- sources
+
+-- a lexeme that is read, and before the place e no brace that opens
+abbrev pub Unbraced : List ℕ → ℕ → ℕ → Lexeme → Type 0
+Unbraced text e s y = Lex text s y × (s < e → same_kind LCurly y.kind ≡ false)
+
+-- what is taken ends no further back than it begins
+lexeme_on : {text : List ℕ} {s e : ℕ} {y : Lexeme} → Unbraced text e s y → s ≤ y.to
+lexeme_on l = let a = l.0.0.from in let b = l.0.0.to in omega arith
+
+-- from that place on nothing is asked
+pub unbraced_beyond : (text : List ℕ) (e s : ℕ) → e ≤ s → (ms : Lexemes) → Lexes (Lex text) s ms → Lexes (Unbraced text e) s ms
+unbraced_beyond text e s o (last y) l = (l, λ h. absurd (omega arith))
+unbraced_beyond text e s o (next y ms) l =
+    let x : Unbraced text e s y = (l.0, λ h. absurd (omega arith)) in
+    let u = lexeme_on x in
+    (x, unbraced_beyond text e y.to (omega arith) ms l.1)
+
+-- no brace that opens was passed
+unbraced_along : {text : List ℕ} (e : ℕ) {s s' : Spot} {pass : Lexemes → Lexemes} → Walked text s s' pass → (ms : Lexemes) → Lexes (Unbraced text e) s'.place ms → Lexes (Lex text) s.place (pass ms) → Lexes (Unbraced text e) s.place (pass ms)
+unbraced_along e nowhere ms u l = u
+unbraced_along {text} e (one_more {x = x} w i) ms u l = unbraced_along e w (next x ms) (((behind_walk (Lex text) w (next x ms) l).0, λ h. i.no_brace), u) l
+unbraced_along e (more_faults w ds n) ms u l = unbraced_along e w ms u l
+
+pub walked_unbraced : {text : List ℕ} {s s' : Spot} {pass : Lexemes → Lexemes} → Walked text s s' pass → (ms : Lexemes) → Lexes (Lex text) s'.place ms → Lexes (Lex text) s.place (pass ms) → Lexes (Unbraced text s'.place) s.place (pass ms)
+walked_unbraced {text} {s' = s'} w ms b l = unbraced_along s'.place w ms (unbraced_beyond text s'.place s'.place (omega arith) ms b) l
+
+-- a lexeme that isn't the end has bytes
+lexeme_wide : {text : List ℕ} {s e : ℕ} {y : Lexeme} → Unbraced text e s y → same_kind LCurly y.kind ≡ true → s < y.to
+lexeme_wide l k = let a = l.0.0.from in let b = lexeme_some l.0.0 (λ h. false≢true (ap (same_kind LCurly) (sym h) ∙ k)) in omega arith
+
+onward : (text : List ℕ) (e : ℕ) {g : G} {ks ts us : Slots} {i j : ℕ} {ls rest : Lexemes} → Takes rule g ks ts i ls us j rest → Lexes (Unbraced text e) i ls → i ≤ j
+onward text e is_nothing c = omega arith
+onward text e (is_lexeme q) c = lexeme_on c.0
+onward text e (is_look q) c = omega arith
+onward text e (is_text q) c = omega arith
+onward text e (is_ahead d) c = omega arith
+onward text e is_empty_slot c = omega arith
+onward text e (is_seq d b) c = let x = onward text e d c in let y = onward text e b (lexed_behind (Unbraced text e) d c) in omega arith
+onward text e (is_left d) c = onward text e d c
+onward text e (is_right d) c = onward text e d c
+onward text e (is_when q d) c = onward text e d c
+onward text e (is_many d) c = onward text e d c
+onward text e (is_commas d) c = onward text e d c
+onward text e (is_such d q) c = onward text e d c
+onward text e (is_marked d) c = onward text e d c
+onward text e (is_node d) c = onward text e d c
+onward text e (is_ended q d b) c = let x = onward text e d c in let y = onward text e b (lexed_behind (Unbraced text e) d c) in omega arith
+onward text e (is_keep d b) c = let x = onward text e d c in let y = onward text e b (lexed_behind (Unbraced text e) d c) in omega arith
+onward text e (is_kept q) c = omega arith
 
 module _ (text : List ℕ) where
   -- An element of a literal, or what a symbol derives: as an element it is the first of these slots.
@@ -225,21 +275,24 @@ module _ (text : List ℕ) where
       l : Label
       l = record { kind = spread_element; op = no_op; flags = 0; span = record { from = x.from; to = j } }
 
-  bracket_behind : {i : ℕ} {x : Lexeme} (ls : Lexemes) → IsTrue (seen (is RBrack) x) → Lexes (Lex text) i (next x ls) → Closed text i
-  bracket_behind {x = x} ls p m = record { bracket = x; stands = m.0; is = kind_is x p }
+  bracket_behind : {i e : ℕ} {x : Lexeme} (ls : Lexemes) → IsTrue (seen (is RBrack) x) → Lexes (Unbraced text e) i (next x ls) → Closed text i
+  bracket_behind {x = x} ls p m = record { bracket = x; stands = m.0.0; is = kind_is x p }
 
   anew : {f : Flags} {l : Label} {cs us vs : Slots} {i j : ℕ} {ls rest : Lexemes} → Literal f (tree l cs us) us i ls j rest → Literal f (tree l cs vs) vs i ls j rest
   anew {vs = vs} x = record { label = x.label; slots = x.slots; inside = x.inside; array = x.array; is_tree = λ i. tree (label_is x.is_tree i) (slots_are x.is_tree i) vs; covers = x.covers; closed = x.closed; derived = x.derived }
 
-  module _ (f : Flags) (w : f.wide ≡ false) where
+  module _ (e : ℕ) (f : Flags) (w : f.wide ≡ false) where
     mutual
       unfolding rule rule_of
 
-      pub array_back : {ts us : Slots} {i j : ℕ} {ls rest : Lexemes} → Takes rule (rule (at ArrayTarget f)) end ts i ls us j rest → Lexes (Lex text) i ls → Literal f ts us i ls j rest
-      array_back (is_node (is_seq (is_lexeme q) (is_seq (is_seq m l) (is_lexeme p)))) c =
-          let b = lexed_behind (Lex text) m c.1 in
-          let y = last_back l b (bracket_behind _ p (lexed_behind (Lex text) l b)) in
-          let x = many_back m c.1 in
+      pub array_back : {ts us : Slots} {i j : ℕ} {ls rest : Lexemes} → Takes rule (rule (at ArrayTarget f)) end ts i ls us j rest → Lexes (Unbraced text e) i ls → j ≤ e → Literal f ts us i ls j rest
+      array_back (is_node (is_seq (is_lexeme q) (is_seq (is_seq m l) (is_lexeme p)))) c le =
+          let b = lexed_behind (Unbraced text e) m c.1 in
+          let g = lexed_behind (Unbraced text e) l b in
+          let o = onward text e l b in
+          let u = lexeme_on g.0 in
+          let y = last_back l b (omega arith) (bracket_behind _ p g) in
+          let x = many_back m c.1 (omega arith) in
           record {
             label = _;
             slots = x.trees y.slots;
@@ -251,20 +304,22 @@ module _ (text : List ℕ) where
             derived = by_brackets (is_node (is_seq (is_lexeme q) (is_seq (is_seq (x.derived y.slots) y.derived) (is_lexeme p))));
           }
 
-      many_back : {ks ts us : Slots} {i j : ℕ} {ls rest : Lexemes} → Takes rule (many (target_step f)) ks ts i ls us j rest → Lexes (Lex text) i ls → Sources (many (literal_step f)) ts us i ls j rest
-      many_back (is_many (is_right is_nothing)) c = record { trees = λ vs. vs; derived = λ vs. is_many (is_right is_nothing); covers = λ vs h. h; closed = λ vs h. h }
-      many_back (is_many (is_left (is_seq (is_left (is_seq is_empty_slot (is_lexeme {x = z} q))) m))) c =
-          let x = many_back m c.1 in
+      many_back : {ks ts us : Slots} {i j : ℕ} {ls rest : Lexemes} → Takes rule (many (target_step f)) ks ts i ls us j rest → Lexes (Unbraced text e) i ls → j ≤ e → Sources (many (literal_step f)) ts us i ls j rest
+      many_back (is_many (is_right is_nothing)) c le = record { trees = λ vs. vs; derived = λ vs. is_many (is_right is_nothing); covers = λ vs h. h; closed = λ vs h. h }
+      many_back (is_many (is_left (is_seq (is_left (is_seq is_empty_slot (is_lexeme {x = z} q))) m))) c le =
+          let x = many_back m c.1 le in
           record {
             trees = λ vs. tree (gap_label z) end (x.trees vs);
             derived = λ vs. is_many (is_left (is_seq (is_left (is_node (is_lexeme q))) (x.derived vs)));
             covers = λ vs h. ap (λ (r : Option Slots). before_all (gap_label z) end (Some end) r) (x.covers vs h);
             closed = λ vs h. x.closed vs h;
           }
-      many_back (is_many (is_left (is_seq (is_right (is_seq (is_such d h) (is_lexeme q))) m))) c =
-          let b = lexed_behind (Lex text) d c in
-          let x = many_back m b.1 in
-          let y = source_item q (element_back d c) in
+      many_back (is_many (is_left (is_seq (is_right (is_seq (is_such d h) (is_lexeme q))) m))) c le =
+          let b = lexed_behind (Unbraced text e) d c in
+          let o = onward text e m b.1 in
+          let u = lexeme_on b.0 in
+          let x = many_back m b.1 le in
+          let y = source_item q (element_back d c (omega arith)) in
           record {
             trees = λ vs. y.trees (x.trees vs);
             derived = λ vs. is_many (is_left (is_seq (is_right (y.derived (x.trees vs))) (x.derived vs)));
@@ -272,18 +327,18 @@ module _ (text : List ℕ) where
             closed = λ vs h. y.closed (x.trees vs) (x.closed vs h);
           }
 
-      last_back : {ks ts : Slots} {i j : ℕ} {ls rest : Lexemes} → Takes rule (target_last f) ks ts i ls end j rest → Lexes (Lex text) i ls → Closed text j → Last (literal_last f) ts i ls j rest
-      last_back (is_left (is_such d h)) c k = last_item (element_back d c)
-      last_back (is_right (is_left (is_seq (is_node (is_seq (is_lexeme q) (is_such d h))) (is_right is_nothing)))) c k = rest_last q k (target_back d c.1)
-      last_back (is_right (is_left (is_seq (is_node r) (is_left (is_when z y))))) c k = absurd (false≢true (sym w ∙ z))
-      last_back (is_right (is_right is_nothing)) c k = record { slots = end; derived = is_right (is_right is_nothing); covers = refl; closed = tt }
+      last_back : {ks ts : Slots} {i j : ℕ} {ls rest : Lexemes} → Takes rule (target_last f) ks ts i ls end j rest → Lexes (Unbraced text e) i ls → j ≤ e → Closed text j → Last (literal_last f) ts i ls j rest
+      last_back (is_left (is_such d h)) c le k = last_item (element_back d c le)
+      last_back (is_right (is_left (is_seq (is_node (is_seq (is_lexeme q) (is_such d h))) (is_right is_nothing)))) c le k = rest_last q k (target_back d c.1 le)
+      last_back (is_right (is_left (is_seq (is_node r) (is_left (is_when z y))))) c le k = absurd (false≢true (sym w ∙ z))
+      last_back (is_right (is_right is_nothing)) c le k = record { slots = end; derived = is_right (is_right is_nothing); covers = refl; closed = tt }
 
-      element_back : {l : Label} {cs us : Slots} {i j : ℕ} {ls rest : Lexemes} → Takes rule (rule (at TargetElement f)) end (tree l cs end) i ls end j rest → Lexes (Lex text) i ls → Source (at Argument f) (tree l cs us) us i ls j rest
-      element_back (is_left (is_such d h)) c = as_argument f (target_back d c).source
-      element_back (is_right (is_left (is_when z (is_node d)))) c = as_argument f (with_initialiser f d)
-      element_back (is_right (is_right d)) c = absurd (no_other f w (PlusEq ∷ MinusEq ∷ StarEq ∷ SlashEq ∷ PercentEq ∷ ShiftLeftEq ∷ ShiftRightEq ∷ ShiftRight3Eq ∷ PipeEq ∷ CaretEq ∷ AmpEq ∷ Amp2Eq ∷ Pipe2Eq ∷ Question2Eq ∷ Star2Eq ∷ []) refl d)
+      element_back : {l : Label} {cs us : Slots} {i j : ℕ} {ls rest : Lexemes} → Takes rule (rule (at TargetElement f)) end (tree l cs end) i ls end j rest → Lexes (Unbraced text e) i ls → j ≤ e → Source (at Argument f) (tree l cs us) us i ls j rest
+      element_back (is_left (is_such d h)) c le = as_argument f (target_back d c le).source
+      element_back (is_right (is_left (is_when z (is_node d)))) c le = as_argument f (with_initialiser f d)
+      element_back (is_right (is_right d)) c le = absurd (no_other f w (PlusEq ∷ MinusEq ∷ StarEq ∷ SlashEq ∷ PercentEq ∷ ShiftLeftEq ∷ ShiftRightEq ∷ ShiftRight3Eq ∷ PipeEq ∷ CaretEq ∷ AmpEq ∷ Amp2Eq ∷ Pipe2Eq ∷ Question2Eq ∷ Star2Eq ∷ []) refl d)
 
-      target_back : {l : Label} {cs us : Slots} {i j : ℕ} {ls rest : Lexemes} → Takes rule (rule (at Target f)) end (tree l cs end) i ls end j rest → Lexes (Lex text) i ls → Bare f (tree l cs us) us i ls j rest
-      target_back (is_left (is_such {l = l} {cs = cs} d h)) c = simple_bare f (record { label = l; slots = cs }) d
-      target_back (is_right (is_left (is_such d h))) c = array_bare f (anew (array_back d c))
-      target_back (is_right (is_right d)) c = absurd (none d (object_dead f) (all_read text _ _ c))
+      target_back : {l : Label} {cs us : Slots} {i j : ℕ} {ls rest : Lexemes} → Takes rule (rule (at Target f)) end (tree l cs end) i ls end j rest → Lexes (Unbraced text e) i ls → j ≤ e → Bare f (tree l cs us) us i ls j rest
+      target_back (is_left (is_such {l = l} {cs = cs} d h)) c le = simple_bare f (record { label = l; slots = cs }) d
+      target_back (is_right (is_left (is_such d h))) c le = array_bare f (anew (array_back d c le))
+      target_back (is_right (is_right (is_such (is_node (is_seq (is_lexeme {x = z} q) d)) h))) c le = absurd (let o = onward text e d c.1 in let n = (and_parts (same_kind LCurly z.kind) (not z.escaped) q).0 in let u = lexeme_wide c.0 n in false≢true (sym (c.0.1 (omega arith)) ∙ (and_parts (same_kind LCurly z.kind) (not z.escaped) q).0))

@@ -37,13 +37,13 @@ use Rattle.js_parsing.specs.Told.{unrelated_at}
 use Rattle.js_targets.proofs.LiteralsAsTargets.{one_of_each}
 use Rattle.js_targets.proofs.PlacesTold.{spread_marked}
 use Rattle.js_targets.proofs.Refused.{array_no_target}
-use Rattle.js_targets.proofs.ArraysBeforeSigns.{not_wide}
-use Rattle.js_targets.proofs.ArraysConverted.{signs, no_target_there, no_target_unread, target_there, ended_there, loose_there, spots_there, no_array_derived}
+use Rattle.js_targets.proofs.ArraysBeforeSigns.{is_cover, not_wide}
+use Rattle.js_targets.proofs.TargetsAsLiterals.{walked_unbraced}
+use Rattle.js_targets.proofs.ArraysConverted.{signs, no_target_there, no_target_unread, target_there, ended_there, loose_there, spots_there, no_array_derived, no_object_derived}
 use Rattle.js_targets.proofs.Assigned.{an_assign, assigns}
 use Rattle.js_targets.proofs.Refused.{no_target, short_follows}
 use Rattle.js_targets.proofs.ConvertedNodes.{ArrayAnswer}
 use Rattle.js_targets.proofs.Covers.{lexed_there, no_simple_there, row_of_target, underived_there}
-use Rattle.js_parsing.proofs.Dead.{all_read}
 use Rattle.js_parsing.proofs.Here.{found}
 use Rattle.js_parsing.proofs.Moving.{beside_nodes, same_both, same_itself, same_with}
 use Rattle.js_parsing.proofs.Paths.{read_of, walked_to}
@@ -124,11 +124,11 @@ module _ {text : List ℕ} {f : Flags} {p q : Parser} {left : NodeId} (a : At te
             within = (subst (λ (v : List ℕ). IsCharBoundary v q.prev_token_end) x.answer.at.text_is x.answer.at.at.between).0;
             begins_between = subst (λ (v : ℕ). IsCharBoundary text v) (sym d) (subst (λ (v : List ℕ). IsCharBoundary v p.token.span.start) a.text_is a.at.lies.starts_whole);
             ends_between = subst (λ (v : List ℕ). IsCharBoundary v q.prev_token_end) x.answer.at.text_is x.answer.at.at.between;
-            stands = (inr (underived_there x.answer a z y l f Target (record { start = start; end = q.prev_token_end }) d refl (λ t g. no_target f (all_read text p.prev_token_end (x.answer.pass (last y)) m) (λ t g. no_simple_there x.answer a z y l (of_short f) (array_no_target x.answer.label x.answer.slots h) follows t g) (λ t g. no_array_derived (not_wide a) z h e y m equals_there.2 g) t g)), (refl, refl));
+            stands = (inr (underived_there x.answer a z y l f Target (record { start = start; end = q.prev_token_end }) d refl (λ t g. no_target f (λ t g. no_object_derived (not_wide a) (is_cover a) (walked_unbraced x.answer.walked) z h y m equals_there.2 g) (λ t g. no_simple_there x.answer a z y l (of_short f) (array_no_target x.answer.label x.answer.slots h) follows t g) (λ t g. no_array_derived (not_wide a) (is_cover a) (walked_unbraced x.answer.walked) z h e y m equals_there.2 g) t g)), (refl, refl));
           }
 
   no_target_fails : elements_in x.answer.slots ≡ None → Fails rule (Lex text) signs end (such (at ArrayTarget f) always) p.prev_token_end
-  no_target_fails e = either_way x.answer.verdict (λ z. no_target_there (not_wide a) z h (inl e)) (λ n. no_target_unread (not_wide a) n)
+  no_target_fails e = either_way x.answer.verdict (λ z. no_target_there (not_wide a) (is_cover a) (walked_unbraced x.answer.walked) z h (inl e)) (λ n. no_target_unread (not_wide a) (is_cover a) n)
 
   -- ---- behind the conversion
 
@@ -157,7 +157,7 @@ module _ {text : List ℕ} {f : Flags} {p q : Parser} {left : NodeId} (a : At te
         untargeted = subst (λ (z : Parser). Mark (goal z) z.text (no_target_at start z.prev_token_end)) (sym e1) (untargeted_marked (none_there v).1 start d m)
 
         spread : (s : Span) → IsIn (places_in x.answer.slots) (Rest s) → Mark (goal q1) q1.text (unrelated_at SpreadLastElement s)
-        spread s i = subst (λ (t : List ℕ). Mark (goal q1) t (unrelated_at SpreadLastElement s)) (sym text_is) (spread_marked (goal q1) s (one_of_each (Spotted text) (places_in x.answer.slots) (Rest s) i (spots_there (not_wide a) (none_kept x.answer.verdict m) h utf8_there reached_there between_there equals_there.0 equals_there.1)))
+        spread s i = subst (λ (t : List ℕ). Mark (goal q1) t (unrelated_at SpreadLastElement s)) (sym text_is) (spread_marked (goal q1) s (one_of_each (Spotted text) (places_in x.answer.slots) (Rest s) i (spots_there (not_wide a) (is_cover a) (walked_unbraced x.answer.walked) (none_kept x.answer.verdict m) h utf8_there reached_there between_there equals_there.0 equals_there.1)))
 
         by : (o : Option Span) → (o ≡ None) ⊎ ((s : Span) × (o ≡ Some s) × IsIn (places_in x.answer.slots) (Rest s)) → Mark (goal q1) q1.text (refusal_at start q1.prev_token_end o)
         by None b = untargeted
@@ -185,10 +185,10 @@ module _ {text : List ℕ} {f : Flags} {p q : Parser} {left : NodeId} (a : At te
 
       -- its places, where nothing was told
       pub places_fit : length q.errors ≡ length p.errors → Each (Fits q1.text) notes.places
-      places_fit n = subst (λ (t : List ℕ). Each (Fits t) notes.places) (sym told_text) (subst (λ (ws : List Widening). Each (Fits text) ws) (sym places_are) (ended_there (not_wide a) (none_kept x.answer.verdict n) h parts.0 parts.1 utf8_there reached_there between_there equals_there.0 equals_there.1))
+      places_fit n = subst (λ (t : List ℕ). Each (Fits t) notes.places) (sym told_text) (subst (λ (ws : List Widening). Each (Fits text) ws) (sym places_are) (ended_there (not_wide a) (is_cover a) (walked_unbraced x.answer.walked) (none_kept x.answer.verdict n) h parts.0 parts.1 utf8_there reached_there between_there equals_there.0 equals_there.1))
 
       pub places_spotted : length q.errors ≡ length p.errors → Each (Spotted q1.text) notes.places
-      places_spotted n = subst (λ (t : List ℕ). Each (Spotted t) notes.places) (sym told_text) (subst (λ (ws : List Widening). Each (Spotted text) ws) (sym places_are) (spots_there (not_wide a) (none_kept x.answer.verdict n) h utf8_there reached_there between_there equals_there.0 equals_there.1))
+      places_spotted n = subst (λ (t : List ℕ). Each (Spotted t) notes.places) (sym told_text) (subst (λ (ws : List Widening). Each (Spotted text) ws) (sym places_are) (spots_there (not_wide a) (is_cover a) (walked_unbraced x.answer.walked) (none_kept x.answer.verdict n) h utf8_there reached_there between_there equals_there.0 equals_there.1))
 
       target_held : Holds q1.nodes (length p.nodes) (length q1.nodes) target.0 (relabelled array_assignment_target x.answer.label) parts.0
       target_held = held_of (x.holds).within (Keeps-longer x.keeps) (Keeps-longer made.keeps) (subst (λ (ts : Slots). Slotted q.nodes q1.nodes (x.holds).numbers (Some target ∷ []) ts) parts.2 made.slotted)
@@ -209,7 +209,7 @@ module _ {text : List ℕ} {f : Flags} {p q : Parser} {left : NodeId} (a : At te
             slots = parts.0;
             pass = x.answer.pass;
             walked = walked_to (sym (ap spot e ∙ ap spot e1)) x.answer.walked;
-            loosely = λ n y l. subst (λ (v : ℕ). Derives rule (at ArrayTarget (loose f)) (record { label = relabelled array_assignment_target x.answer.label; slots = parts.0 }) p.prev_token_end (x.answer.pass (last y)) v (last y)) (sym place) (loose_there (not_wide a) (none_kept x.answer.verdict n) h parts.0 parts.1 utf8_there reached_there between_there y (subst (λ (v : ℕ). Lex text v y) place l));
+            loosely = λ n y l. subst (λ (v : ℕ). Derives rule (at ArrayTarget (loose f)) (record { label = relabelled array_assignment_target x.answer.label; slots = parts.0 }) p.prev_token_end (x.answer.pass (last y)) v (last y)) (sym place) (loose_there (not_wide a) (is_cover a) (walked_unbraced x.answer.walked) (none_kept x.answer.verdict n) h parts.0 parts.1 utf8_there reached_there between_there y (subst (λ (v : ℕ). Lex text v y) place l));
             verdict = subst (λ (v : ℕ). Verdict p.errors r.errors (Stretch text signs (such (at ArrayTarget f) always) p.prev_token_end nothing v (tree (relabelled array_assignment_target x.answer.label) parts.0) x.answer.pass) (Fails rule (Lex text) signs end (such (at ArrayTarget f) always) p.prev_token_end)) (sym place) g;
             holds = subst (λ (ns : List Node). Holds ns (length p.nodes) (length ns) target.0 (relabelled array_assignment_target x.answer.label) parts.0) (sym nodes) target_held;
             keeps = subst (λ (ns : List Node). Keeps p.nodes ns) (sym nodes) (Keeps-trans x.keeps made.keeps);
@@ -218,7 +218,7 @@ module _ {text : List ℕ} {f : Flags} {p q : Parser} {left : NodeId} (a : At te
       -- its places were looked at
       pub taken_told : {r : Parser} → PlacesTold notes.places q1 r → TargetTaken text f p q r target
       taken_told {r} t = taken t.is (t.at text f (converted_at e1)) t.same (and_then x.answer.verdict (subst (λ (ds : List Diagnostic). Verdict ds r.errors (Each (Narrow text) (places_in x.answer.slots)) (Each (Narrow text) (places_in x.answer.slots) → ⊥)) (ap (λ (z : Parser). z.errors) e1) it)
-          (λ z o. target_there (not_wide a) z h parts.0 parts.1 utf8_there reached_there between_there o) (λ n. no_target_unread (not_wide a) n) (λ z n. no_target_there (not_wide a) z h (inr n)))
+          (λ z o. target_there (not_wide a) (is_cover a) (walked_unbraced x.answer.walked) z h parts.0 parts.1 utf8_there reached_there between_there o) (λ n. no_target_unread (not_wide a) (is_cover a) n) (λ z n. no_target_there (not_wide a) (is_cover a) (walked_unbraced x.answer.walked) z h (inr n)))
         where
           it : Verdict q1.errors r.errors (Each (Narrow text) (places_in x.answer.slots)) (Each (Narrow text) (places_in x.answer.slots) → ⊥)
           it = subst (λ (ws : List Widening). Verdict q1.errors r.errors (Each (Narrow text) ws) (Each (Narrow text) ws → ⊥)) places_are (subst (λ (v : List ℕ). Verdict q1.errors r.errors (Each (Narrow v) notes.places) (Each (Narrow v) notes.places → ⊥)) told_text t.verdict)
@@ -229,4 +229,4 @@ module _ {text : List ℕ} {f : Flags} {p q : Parser} {left : NodeId} (a : At te
         where
           by : Verdict p.errors q.errors (Stretch text (after (at Short f)) (such (at Short f) always) p.prev_token_end nothing q.prev_token_end (tree x.answer.label x.answer.slots) x.answer.pass) (Underived text (at Short f) p.prev_token_end) → Verdict p.errors q1.errors (Stretch text signs (such (at ArrayTarget f) always) p.prev_token_end nothing q.prev_token_end (tree (relabelled array_assignment_target x.answer.label) parts.0) x.answer.pass) (Fails rule (Lex text) signs end (such (at ArrayTarget f) always) p.prev_token_end)
           by (clean g z) = absurd (n (ap (λ (w : Parser). length w.errors) e1 ∙ ap length g))
-          by (unclean g u) = unclean (subst (λ (ds : List Diagnostic). Grown p.errors ds) (sym (ap (λ (z : Parser). z.errors) e1)) g) (no_target_unread (not_wide a) u)
+          by (unclean g u) = unclean (subst (λ (ds : List Diagnostic). Grown p.errors ds) (sym (ap (λ (z : Parser). z.errors) e1)) g) (no_target_unread (not_wide a) (is_cover a) u)

@@ -25,6 +25,12 @@ returns-in-Binding t c = rw (c.in-Binding.is) c.parse_binding_pattern.ensures
 pub returns-in-Statement : goal.returns-in-Statement
 returns-in-Statement t c = rw (c.in-Statement.is) c.parse_statement.ensures
 
+pub returns-in-ListItem : goal.returns-in-ListItem
+returns-in-ListItem t c = rw (c.in-ListItem.is) c.parse_statement_list_item.ensures
+
+pub returns-in-Body : goal.returns-in-Body
+returns-in-Body t c = rw (c.in-Body.is) c.parse_function_body.ensures
+
 pub parse_sequence_expression-requires-clause-at : goal.parse_sequence_expression-requires-clause-at
 parse_sequence_expression-requires-clause-at t c = ready_at c.args.goal c.requires.at
 
@@ -45,3 +51,15 @@ parse_statement-requires-clause-at t c = ready_at c.args.goal c.requires.at
 
 pub parse_statement-requires-clause-allows_in : goal.parse_statement-requires-clause-allows_in
 parse_statement-requires-clause-allows_in t c = (subst (λ (g : Goal). Ready g c.args.p.now) c.in-Statement.is c.requires.at).1
+
+pub parse_statement_list_item-requires-clause-at : goal.parse_statement_list_item-requires-clause-at
+parse_statement_list_item-requires-clause-at t c = ready_at c.args.goal c.requires.at
+
+pub parse_statement_list_item-requires-clause-allows_in : goal.parse_statement_list_item-requires-clause-allows_in
+parse_statement_list_item-requires-clause-allows_in t c = (subst (λ (g : Goal). Ready g c.args.p.now) c.in-ListItem.is c.requires.at).1
+
+pub parse_function_body-requires-clause-at : goal.parse_function_body-requires-clause-at
+parse_function_body-requires-clause-at t c = ready_at c.args.goal c.requires.at
+
+pub parse_function_body-requires-clause-allows_in : goal.parse_function_body-requires-clause-allows_in
+parse_function_body-requires-clause-allows_in t c = (subst (λ (g : Goal). Ready g c.args.p.now) c.in-Body.is c.requires.at).1

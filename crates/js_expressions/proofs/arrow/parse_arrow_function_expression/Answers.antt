@@ -13,11 +13,11 @@ advance-requires-clause-at g c = standing (line_at c.requires.at c.in_ok-check_l
 pub advance-requires-clause-whole : goal.advance-requires-clause-whole
 advance-requires-clause-whole g c = whole_sign Arrow (line_at c.requires.at c.in_ok-check_line.ensures) (ap (λ t. t.kind) (line_token c.in_ok-check_line.ensures) ∙ c.requires.arrow) refl refl
 
-pub assignment_in_arrow-requires-clause-at : goal.assignment_in_arrow-requires-clause-at
-assignment_in_arrow-requires-clause-at g c = standing (c.in_ok-advance.ensures _ _ (line_at c.requires.at c.in_ok-check_line.ensures)).at
+pub parse_arrow_body-requires-clause-at : goal.parse_arrow_body-requires-clause-at
+parse_arrow_body-requires-clause-at g c = standing (c.in_ok-advance.ensures _ _ (line_at c.requires.at c.in_ok-check_line.ensures)).at
 
-pub assignment_in_arrow-requires-clause-nests : goal.assignment_in_arrow-requires-clause-nests
-assignment_in_arrow-requires-clause-nests g c =
+pub parse_arrow_body-requires-clause-nests : goal.parse_arrow_body-requires-clause-nests
+parse_arrow_body-requires-clause-nests g c =
     let a = line_at c.requires.at c.in_ok-check_line.ensures in
     let r = nested_room a (c.in_ok-advance.ensures _ _ a) in
     let s = later_room (let e = line_place c.in_ok-check_line.ensures in omega arith) (line_same c.in_ok-check_line.ensures) in
@@ -27,16 +27,18 @@ pub returns-in_err-body : goal.returns-in_err-body
 returns-in_err-body g c = λ text f o a e h.
     let p = err_from_is_err_and c.from_residual-in_err-body.result c.from_residual-in_err-body.ensures.1 in
     let m = c.in_ok-advance.ensures text f (line_at (before_at h) c.in_ok-check_line.ensures) in
-    rw (p.1, p.2) (before_stops h c.requires.arrow c.in_ok-check_line.ensures m _ _ (c.in_err-body.ensures text f m.at))
+    let x = c.in_err-body.ensures in
+    rw (p.1, p.2) (before_stops h c.requires.arrow c.in_ok-check_line.ensures m x.0 x.1 _ _ (x.2 text f m.at))
 
 pub end_span-span-requires : goal.end_span-span-requires
 end_span-span-requires g c =
     let b = line_at c.requires.at c.in_ok-check_line.ensures in
     let m = c.in_ok-advance.ensures _ _ b in
-    let y = (c.in_ok-body.ensures _ _ m.at).answer in
+    let y = (c.in_ok-body.ensures.2 _ _ m.at).answer in
     let s = c.requires.start in let e = line_place c.in_ok-check_line.ensures in let d = b.behind in let h = m.further in let i = m.at.behind in let j = y.further in omega arith
 
 pub returns : goal.returns
 returns g c = λ text f o a e h.
     let m = c.in_ok-advance.ensures text f (line_at (before_at h) c.in_ok-check_line.ensures) in
-    before_answers h c.requires.arrow c.in_ok-check_line.ensures m _ a (c.in_ok-body.ensures text f m.at) (c.end_span-span.ensures.start ∙ e) c.end_span-span.ensures.end c.in_ok-node.ensures
+    let x = c.in_ok-body.ensures in
+    before_answers h c.requires.arrow c.in_ok-check_line.ensures m x.0 x.1 _ a (x.2 text f m.at) (c.end_span-span.ensures.start ∙ e) c.end_span-span.ensures.end c.in_ok-node.ensures

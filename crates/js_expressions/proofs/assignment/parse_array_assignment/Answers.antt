@@ -1,6 +1,6 @@
 use Rattle.std.proofs.Common.{ap, arith, ◌∙◌}
+use Rattle.js_parsing.specs.Moves.{unpassable}
 use Rattle.std.proofs.lemmas.Result.{err_from_is_err_and}
-use Rattle.js_cursor.specs.Moves.{is_last}
 use Rattle.js_expressions.proofs.ArraysAssigned.{array_assigned, array_stops, no_equals, once_at, once_cut, once_kind, once_place, once_room}
 use Rattle.js_targets.proofs.Assigned.{assign_some_at, assigns}
 use Rattle.js_expressions.proofs.Assignments.{row_assign}
@@ -22,7 +22,7 @@ pub advance-requires-clause-at : goal.advance-requires-clause-at
 advance-requires-clause-at t c = standing (once_at c.in_ok-tell_not_simple.ensures c.requires.at)
 
 pub advance-requires-clause-whole : goal.advance-requires-clause-whole
-advance-requires-clause-whole t c = (once_cut c.in_ok-tell_not_simple.ensures ∙ c.requires.whole, ap is_last (once_kind c.in_ok-tell_not_simple.ensures) ∙ (assigns c.args.p.now.token.kind c.requires.operator).no_end)
+advance-requires-clause-whole t c = (once_cut c.in_ok-tell_not_simple.ensures ∙ c.requires.whole, ap unpassable (once_kind c.in_ok-tell_not_simple.ensures) ∙ (assigns c.args.p.now.token.kind c.requires.operator).no_end)
 
 pub returns-in_err-advance : goal.returns-in_err-advance
 returns-in_err-advance t c = λ text f o a na e k x h.

@@ -2,7 +2,7 @@ use Rattle.std.proofs.Common.{inl, arith, sym, ◌∙◌}
 use Rattle.std.proofs.lemmas.Result.{err_from_is_err_and}
 use Rattle.js_expressions.proofs.ArraysAssigned.{not_simple_marked}
 use Rattle.js_expressions.proofs.Assignments.{shifted, assign_listed, row_assign, assign_answers, assign_marked, assign_refused, assign_whole, right_fails}
-use Rattle.js_targets.proofs.ArraysBeforeSigns.{not_wide}
+use Rattle.js_targets.proofs.ArraysBeforeSigns.{is_cover, not_wide}
 use Rattle.js_expressions.proofs.Conditionals.{test_none}
 use Rattle.js_parsing.proofs.Moving.{standing, stops_so, stops_behind, same_both}
 use Rattle.js_parsing.proofs.Nesting.{nests_later, later_room, nested_room}
@@ -12,7 +12,7 @@ use Rattle.js_parsing.proofs.Verdicts.{after, grown_then}
 use Rattle.js_expressions.proofs.assignment.parse_assignment_without_arrow.Goals as goal
 
 pub returns-in_err-left : goal.returns-in_err-left
-returns-in_err-left t c = λ text f a. let p = err_from_is_err_and c.from_residual.result c.from_residual.ensures.1 in rw (p.1, p.2) (stops_so _ _ _ (λ z. test_none f (not_wide a) (c.requires.no_arrow text f a) z) (c.in_err-left.ensures text f a))
+returns-in_err-left t c = λ text f a. let p = err_from_is_err_and c.from_residual.result c.from_residual.ensures.1 in rw (p.1, p.2) (stops_so _ _ _ (λ z. test_none f (not_wide a) (is_cover a) (c.requires.operand text f a).1 z) (c.in_err-left.ensures text f a))
 
 pub parse_conditional_expression_rest-requires-clause-at : goal.parse_conditional_expression_rest-requires-clause-at
 parse_conditional_expression_rest-requires-clause-at t c = standing (c.in_ok-_power.ensures _ _ (c.in_ok-left.ensures _ _ c.requires.at).answer.at).at
@@ -36,7 +36,7 @@ parse_conditional_expression_rest-requires-clause-unassigned t c = assign_listed
 pub returns-then-not-is_assignment_operator : goal.returns-then-not-is_assignment_operator
 returns-then-not-is_assignment_operator t c = λ text f a.
     let x = c.in_ok-left.ensures text f a in
-    c.parse_conditional_expression_rest.ensures text f _ a (c.requires.no_arrow text f a) c.cur_start-start.ensures (shifted x (c.in_ok-_power.ensures text f x.answer.at))
+    c.parse_conditional_expression_rest.ensures text f _ a (c.requires.operand text f a) c.cur_start-start.ensures (shifted x (c.in_ok-_power.ensures text f x.answer.at))
 
 pub is_array_literal-requires : goal.is_array_literal-requires
 is_array_literal-requires t c = let x = c.in_ok-left.ensures _ _ c.requires.at in stood (shifted x (c.in_ok-_power.ensures _ _ x.answer.at))
@@ -78,7 +78,7 @@ pub returns-then-is_array_literal : goal.returns-then-is_array_literal
 returns-then-is_array_literal t c = λ text f a.
     let y = c.in_ok-left.ensures text f a in
     let x = shifted y (c.in_ok-_power.ensures text f y.answer.at) in
-    c.parse_array_assignment.ensures text f _ a (c.requires.no_arrow text f a) c.cur_start-start.ensures c.kept_so_far-kept.ensures x (sym (c.is_array_literal.ensures _ _ _ _ x.holds) ∙ c.if-is_array_literal.true)
+    c.parse_array_assignment.ensures text f _ a (c.requires.operand text f a) c.cur_start-start.ensures c.kept_so_far-kept.ensures x (sym (c.is_array_literal.ensures _ _ _ _ x.holds) ∙ c.if-is_array_literal.true)
 
 pub cover-requires : goal.cover-requires
 cover-requires t c = let x = c.in_ok-left.ensures _ _ c.requires.at in stood (shifted x (c.in_ok-_power.ensures _ _ x.answer.at))
@@ -96,14 +96,14 @@ refuse_target-requires-clause-marked t c = λ k.
     let y = c.in_ok-left.ensures _ _ c.requires.at in
     let o = c.in_ok-_power.ensures _ _ y.answer.at in
     let x = shifted y o in
-    assign_marked c.requires.at x.answer o.uncut (assign_listed c.cur_kind.ensures c.is_assignment_operator.ensures c.if-not-is_assignment_operator.false) (sym (c.is_array_literal.ensures _ _ _ _ x.holds) ∙ c.if-is_array_literal.false) (c.in_default.ensures _ _ _ _ x.holds) _ c.cur_start-start.ensures (k ∙ c.kept_so_far-kept.ensures)
+    assign_marked c.requires.at (c.requires.operand _ _ c.requires.at).0 x.answer o.uncut (assign_listed c.cur_kind.ensures c.is_assignment_operator.ensures c.if-not-is_assignment_operator.false) (sym (c.is_array_literal.ensures _ _ _ _ x.holds) ∙ c.if-is_array_literal.false) (c.in_default.ensures _ _ _ _ x.holds) _ c.cur_start-start.ensures (k ∙ c.kept_so_far-kept.ensures)
 
 pub returns-in_default : goal.returns-in_default
 returns-in_default t c = λ text f a.
     let y = c.in_ok-left.ensures text f a in
     let o = c.in_ok-_power.ensures text f y.answer.at in
     let x = shifted y o in
-    refused _ _ x.answer.at x.answer.same x.answer.verdict c.refuse_target.ensures (assign_refused x.answer (c.requires.no_arrow text f a) o.uncut (assign_listed c.cur_kind.ensures c.is_assignment_operator.ensures c.if-not-is_assignment_operator.false) (inl (sym (c.is_array_literal.ensures _ _ _ _ x.holds) ∙ c.if-is_array_literal.false)) (c.in_default.ensures _ _ _ _ x.holds))
+    refused _ _ x.answer.at x.answer.same x.answer.verdict c.refuse_target.ensures (assign_refused x.answer (c.requires.operand text f a) o.uncut (assign_listed c.cur_kind.ensures c.is_assignment_operator.ensures c.if-not-is_assignment_operator.false) (inl (sym (c.is_array_literal.ensures _ _ _ _ x.holds) ∙ c.if-is_array_literal.false)) (c.in_default.ensures _ _ _ _ x.holds))
 
 pub advance-requires-clause-at : goal.advance-requires-clause-at
 advance-requires-clause-at t c = standing (c.in_ok-_power.ensures _ _ (c.in_ok-left.ensures _ _ c.requires.at).answer.at).at
@@ -129,7 +129,7 @@ returns-in_err-right t c = λ text f a.
     let x = shifted y o in
     let m = c.in_ok-advance.ensures text f o.at in
     let g = c.in-Some.ensures _ _ _ _ x.holds in
-    rw (p.1, p.2) (stops_behind _ _ (same_both x.answer.same m.same) (λ g. after x.answer.verdict (grown_then m.kept g)) (λ n. right_fails x.answer (c.requires.no_arrow text f a) o.uncut (assign_listed c.cur_kind.ensures c.is_assignment_operator.ensures c.if-not-is_assignment_operator.false) m g.tree g.is n) (c.in_err-right.ensures text f m.at))
+    rw (p.1, p.2) (stops_behind _ _ (same_both x.answer.same m.same) (λ g. after x.answer.verdict (grown_then m.kept g)) (λ n. right_fails x.answer (c.requires.operand text f a) o.uncut (assign_listed c.cur_kind.ensures c.is_assignment_operator.ensures c.if-not-is_assignment_operator.false) m g.tree g.is n) (c.in_err-right.ensures text f m.at))
 
 pub end_span-span-requires : goal.end_span-span-requires
 end_span-span-requires t c =
@@ -146,7 +146,7 @@ returns t c = λ text f a.
     let o = c.in_ok-_power.ensures text f y.answer.at in
     let x = shifted y o in
     let m = c.in_ok-advance.ensures text f o.at in
-    assign_answers _ a (c.requires.no_arrow text f a) x o.uncut (assign_listed c.cur_kind.ensures c.is_assignment_operator.ensures c.if-not-is_assignment_operator.false) (row_assign c.cur_kind-2.ensures c.map_assignment_operator-operator.ensures.row) m (c.in-Some.ensures _ _ _ _ x.holds) (c.in_ok-right.ensures text f m.at) (c.end_span-span.ensures.start ∙ c.cur_start-start.ensures) c.end_span-span.ensures.end c.in_ok-node.ensures
+    assign_answers _ a (c.requires.operand text f a) x o.uncut (assign_listed c.cur_kind.ensures c.is_assignment_operator.ensures c.if-not-is_assignment_operator.false) (row_assign c.cur_kind-2.ensures c.map_assignment_operator-operator.ensures.row) m (c.in-Some.ensures _ _ _ _ x.holds) (c.in_ok-right.ensures text f m.at) (c.end_span-span.ensures.start ∙ c.cur_start-start.ensures) c.end_span-span.ensures.end c.in_ok-node.ensures
 
 pub operator_here-requires : goal.operator_here-requires
 operator_here-requires t c = standing (c.in_ok-left.ensures _ _ c.requires.at).answer.at

@@ -1,4 +1,5 @@
 use Rattle.std.proofs.Common.{◌∙◌, ap, arith}
+use Rattle.js_parsing.specs.Moves.{unpassable}
 use Rattle.std.proofs.lemmas.Result.{err_from_is_err_and}
 use Rattle.js_base.specs.declared.kind.Kind.TheVariants.{RAngle}
 use Rattle.js_base.specs.Kinds.{same_kind}
@@ -11,7 +12,7 @@ use Rattle.js_parsing.proofs.Verdicts.{grown_then}
 use Rattle.js_operands.proofs.arguments.parse_spread_element.Goals as goal
 
 pub advance-requires-clause-whole : goal.advance-requires-clause-whole
-advance-requires-clause-whole g c = (uncut c.requires.at (ap (same_kind RAngle) c.requires.sign.0), ap is_last c.requires.sign.0)
+advance-requires-clause-whole g c = (uncut c.requires.at (ap (same_kind RAngle) c.requires.sign.0), ap unpassable c.requires.sign.0)
 
 pub assignment_with_in-requires-clause-at : goal.assignment_with_in-requires-clause-at
 assignment_with_in-requires-clause-at g c = standing (c.in_ok-advance.ensures _ _ c.requires.at).at

@@ -1,4 +1,5 @@
 use Rattle.std.proofs.Common.{[], refl, ap, arith}
+use Rattle.js_parsing.specs.Moves.{unpassable}
 use Rattle.std.proofs.lemmas.Result.{err_from_is_err_and}
 use Rattle.js_base.specs.declared.kind.Kind.TheVariants.{RAngle, Comma}
 use Rattle.js_base.specs.Kinds.{same_kind}
@@ -11,7 +12,7 @@ use Rattle.js_operands.proofs.Members.{stands_so}
 use Rattle.js_operands.proofs.array.parse_array_element.Goals as goal
 
 pub parse_leaf-requires-clause-whole : goal.parse_leaf-requires-clause-whole
-parse_leaf-requires-clause-whole g c = let s = stands_so c.args.p.now Comma c.if-stands.true c.stands.ensures in (uncut c.requires.at (ap (same_kind RAngle) s.0), ap is_last s.0)
+parse_leaf-requires-clause-whole g c = let s = stands_so c.args.p.now Comma c.if-stands.true c.stands.ensures in (uncut c.requires.at (ap (same_kind RAngle) s.0), ap unpassable s.0)
 
 pub returns-then-stands : goal.returns-then-stands
 returns-then-stands g c = gap_outcome _ _ c.parse_leaf.result (stands_so c.args.p.now Comma c.if-stands.true c.stands.ensures).0 c.parse_leaf.ensures

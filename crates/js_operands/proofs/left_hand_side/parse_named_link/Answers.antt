@@ -1,4 +1,5 @@
 use Rattle.std.proofs.Common.{arith, ap}
+use Rattle.js_parsing.specs.Moves.{unpassable}
 use Rattle.std.proofs.lemmas.Result.{err_from_is_err_and}
 use Rattle.js_base.specs.declared.kind.Kind.TheVariants.{RAngle}
 use Rattle.js_base.specs.Kinds.{same_kind}
@@ -9,7 +10,7 @@ use Rattle.js_operands.proofs.Members.{name_link, no_name_link}
 use Rattle.js_operands.proofs.left_hand_side.parse_named_link.Goals as goal
 
 pub advance-requires-clause-whole : goal.advance-requires-clause-whole
-advance-requires-clause-whole g c = (uncut c.requires.at (ap (same_kind RAngle) c.requires.sign.0), ap is_last c.requires.sign.0)
+advance-requires-clause-whole g c = (uncut c.requires.at (ap (same_kind RAngle) c.requires.sign.0), ap unpassable c.requires.sign.0)
 
 pub parse_identifier_name-requires : goal.parse_identifier_name-requires
 parse_identifier_name-requires g c = standing (c.in_ok-advance.ensures _ _ c.requires.at).at

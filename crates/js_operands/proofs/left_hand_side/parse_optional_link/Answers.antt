@@ -1,4 +1,5 @@
 use Rattle.std.proofs.Common.{arith, ap, inl, sym, ◌∙◌, subst, refl}
+use Rattle.js_parsing.specs.Moves.{unpassable}
 use Rattle.std.proofs.lemmas.Result.{err_from_is_err_and}
 use Rattle.js_base.specs.declared.kind.Kind.TheVariants.{LBrack, LParen, RAngle}
 use Rattle.js_base.specs.Kinds.{one_of_kinds, same_kind}
@@ -15,7 +16,7 @@ use Rattle.js_operands.proofs.left_hand_side.parse_optional_link.Goals as goal
 use Rattle.js_parsing.specs.Classes.{EndsParse}
 
 pub advance-requires-clause-whole : goal.advance-requires-clause-whole
-advance-requires-clause-whole t c = (uncut c.requires.at (ap (same_kind RAngle) c.requires.sign.0), ap is_last c.requires.sign.0)
+advance-requires-clause-whole t c = (uncut c.requires.at (ap (same_kind RAngle) c.requires.sign.0), ap unpassable c.requires.sign.0)
 
 pub parse_with_arguments-requires-clause-at : goal.parse_with_arguments-requires-clause-at
 parse_with_arguments-requires-clause-at t c = standing (c.in_ok-advance.ensures _ _ c.requires.at).at

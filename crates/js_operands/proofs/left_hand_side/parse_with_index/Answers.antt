@@ -1,4 +1,5 @@
 use Rattle.std.proofs.Common.{◌∷◌, [], Some, sym, ap, subst, arith, ◌∙◌}
+use Rattle.js_parsing.specs.Moves.{unpassable}
 use Rattle.std.proofs.lemmas.Result.{err_from_is_err_and}
 use Rattle.js_base.specs.declared.span.Span.{Span}
 use Rattle.js_base.specs.declared.token.Token.{Token}
@@ -14,7 +15,7 @@ use Rattle.js_parsing.proofs.Verdicts.{grown_then}
 use Rattle.js_operands.proofs.left_hand_side.parse_with_index.Goals as goal
 
 pub advance-requires-clause-whole : goal.advance-requires-clause-whole
-advance-requires-clause-whole t c = (uncut c.requires.at (ap (same_kind RAngle) c.requires.open), ap is_last c.requires.open)
+advance-requires-clause-whole t c = (uncut c.requires.at (ap (same_kind RAngle) c.requires.open), ap unpassable c.requires.open)
 
 pub expression_with_in-requires-clause-at : goal.expression_with_in-requires-clause-at
 expression_with_in-requires-clause-at t c = standing (c.in_ok-advance.ensures _ _ c.requires.at).at

@@ -1,4 +1,5 @@
 use Rattle.std.proofs.Common.{◌∙◌, sym, ap, arith}
+use Rattle.js_parsing.specs.Moves.{unpassable}
 use Rattle.std.proofs.lemmas.Result.{err_from_is_err_and}
 use Rattle.js_base.specs.declared.kind.Kind.TheVariants.{LParen, RAngle}
 use Rattle.js_base.specs.Kinds.{same_kind}
@@ -16,7 +17,7 @@ pub returns-then-not-allows_v8 : goal.returns-then-not-allows_v8
 returns-then-not-allows_v8 t c = λ text f a. gives_up_here _ _ c.set_unexpected.result a c.set_unexpected.ensures (no_v8 a c.requires.kind (sym (v8_option a c.allows_v8.ensures) ∙ c.if-not-allows_v8.true))
 
 pub advance-requires-clause-whole : goal.advance-requires-clause-whole
-advance-requires-clause-whole t c = (uncut c.requires.at (ap (same_kind RAngle) c.requires.kind), ap is_last c.requires.kind)
+advance-requires-clause-whole t c = (uncut c.requires.at (ap (same_kind RAngle) c.requires.kind), ap unpassable c.requires.kind)
 
 pub parse_identifier_name-requires : goal.parse_identifier_name-requires
 parse_identifier_name-requires t c = standing (c.in_ok-advance.ensures _ _ c.requires.at).at

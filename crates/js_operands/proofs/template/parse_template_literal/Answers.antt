@@ -6,7 +6,10 @@ use Rattle.js_operands.proofs.Templates.{is_so, part_here, part_less, part_stand
 use Rattle.js_operands.proofs.template.parse_template_literal.Goals as goal
 
 pub parts-init : goal.parts-init
-parts-init g c = parts_first c.cur_start-start.ensures (λ text f a. c.in_ok-part.ensures text f (part_here a c.requires.template)) c.in_ok-push.ensures.items c.new-children.ensures.items
+parts-init g c = parts_first c.requires.template c.cur_start-start.ensures (λ text f a. c.in_ok-part.ensures text f (part_here a c.requires.template)) c.in_ok-push.ensures.items c.new-children.ensures.items
+
+pub pass_part-requires : goal.pass_part-requires
+pass_part-requires g c = record { at = part_standing (part_here c.requires.at c.requires.template) }
 
 pub expression_with_in-requires-clause-at : goal.expression_with_in-requires-clause-at
 expression_with_in-requires-clause-at g c = standing (c.parts.invariant.goes _ _ c.requires.at).0.at

@@ -1,4 +1,4 @@
-use Rattle.std.proofs.Common.{◌+◌, ◌<◌, ap, arith}
+use Rattle.std.proofs.Common.{ap, arith}
 use Rattle.std.proofs.lemmas.Result.{err_from_is_err_and}
 use Rattle.js_grammar.specs.Productions.{at, plus_in, Expression}
 use Rattle.js_parsing.specs.Nesting.{room}

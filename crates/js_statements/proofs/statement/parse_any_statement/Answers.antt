@@ -6,6 +6,9 @@ use Rattle.js_statements.proofs.statement.parse_any_statement.Goals as goal
 pub returns-then-escaped : goal.returns-then-escaped
 returns-then-escaped g c = λ b u text f a. gives_up_here _ _ c.set_unexpected.result a c.set_unexpected.ensures (fails_escaped a (let e : c.args.p.now.token.escaped ≡ true = search in e))
 
+pub parse_block_statement-requires-clause-brace : goal.parse_block_statement-requires-clause-brace
+parse_block_statement-requires-clause-brace g c = sym c.cur_kind.ensures ∙ c.in-LCurly.is
+
 pub parse_if_statement-requires-clause-word : goal.parse_if_statement-requires-clause-word
 parse_if_statement-requires-clause-word g c = (sym c.cur_kind.ensures ∙ c.in-If.is, (let e : c.args.p.now.token.escaped ≡ false = search in e))
 
@@ -34,7 +37,7 @@ pub parse_variable_statement-requires-clause-word : goal.parse_variable_statemen
 parse_variable_statement-requires-clause-word g c = (sym c.cur_kind.ensures ∙ c.in-Var.is, (let e : c.args.p.now.token.escaped ≡ false = search in e))
 
 pub parse_expression_or_labeled_statement-requires-clause-other : goal.parse_expression_or_labeled_statement-requires-clause-other
-parse_expression_or_labeled_statement-requires-clause-other g c = no_own_kind _ (λ e. c.in_default.not-Semicolon (c.cur_kind.ensures ∙ e)) (λ e. c.in_default.not-If (c.cur_kind.ensures ∙ e)) (λ e. c.in_default.not-Do (c.cur_kind.ensures ∙ e)) (λ e. c.in_default.not-While (c.cur_kind.ensures ∙ e)) (λ e. c.in_default.not-With (c.cur_kind.ensures ∙ e)) (λ e. c.in_default.not-Break (c.cur_kind.ensures ∙ e)) (λ e. c.in_default.not-Continue (c.cur_kind.ensures ∙ e)) (λ e. c.in_default.not-Throw (c.cur_kind.ensures ∙ e)) (λ e. c.in_default.not-Debugger (c.cur_kind.ensures ∙ e)) (λ e. c.in_default.not-Var (c.cur_kind.ensures ∙ e)) (λ e. c.requires.other e (let e : c.args.p.now.token.escaped ≡ false = search in e))
+parse_expression_or_labeled_statement-requires-clause-other g c = no_own_kind _ (λ e. c.in_default.not-LCurly (c.cur_kind.ensures ∙ e)) (λ e. c.in_default.not-Semicolon (c.cur_kind.ensures ∙ e)) (λ e. c.in_default.not-If (c.cur_kind.ensures ∙ e)) (λ e. c.in_default.not-Do (c.cur_kind.ensures ∙ e)) (λ e. c.in_default.not-While (c.cur_kind.ensures ∙ e)) (λ e. c.in_default.not-With (c.cur_kind.ensures ∙ e)) (λ e. c.in_default.not-Break (c.cur_kind.ensures ∙ e)) (λ e. c.in_default.not-Continue (c.cur_kind.ensures ∙ e)) (λ e. c.in_default.not-Throw (c.cur_kind.ensures ∙ e)) (λ e. c.in_default.not-Debugger (c.cur_kind.ensures ∙ e)) (λ e. c.in_default.not-Var (c.cur_kind.ensures ∙ e)) (λ e. c.requires.other e (let e : c.args.p.now.token.escaped ≡ false = search in e))
 
 pub returns-in-If : goal.returns-in-If
 returns-in-If g c = λ b u. c.parse_if_statement.ensures b
