@@ -45,7 +45,7 @@ use Rattle.js_parsing.proofs.Here.{told, kind_here, uncut, begins_here}
 use Rattle.js_parsing.proofs.MadeNodes.{one_held, one_lies}
 use Rattle.js_parsing.proofs.Moving.{same_both}
 use Rattle.js_operands.proofs.Operands.{by_path}
-use Rattle.js_parsing.proofs.Paths.{reads, Path, ◌⟼◌, ◌⟶◌, ◌⟶✗◌, at_kind, fails_at, token, last_token, last_called, noded, label_here}
+use Rattle.js_parsing.proofs.Paths.{reads, Path, ◌⟼◌, ◌⟶◌, ◌⟶✗◌, at_kind, fails_at, token, last_token, last_called, noded, flagged_by, flagged_here, label_here}
 use Rattle.js_parsing.proofs.Phrases.{lift, plain_row, primary_operand}
 use Rattle.js_targets.proofs.Targets.{passes_itself, of_unary}
 use Rattle.js_parsing.proofs.Tight.{read_plain}
@@ -271,16 +271,6 @@ prefix_edge f o s = record { ends = λ p cs vs j ls mid d e. e }
 prefix_heads : (f : Flags) (l : Label) (cs vs : Slots) (t : Tree) (y : Lexeme) → target_of l cs ≡ Some t → Admits (behind_prefix f) (tree t.label t.slots vs) y → Admits (after (at Unary f)) (tree l cs vs) y
 prefix_heads f l cs vs t y e h = admits (at Unary f) (tree l cs vs) y (subst (λ (r : Row). IsTrue (seen (looser 16 f.in_ r) y)) (sym (row_of_target l cs t e)) h.1)
 
--- a node's label, with flags
-abbrev pub flagged_here : NodeKind → Op → ℕ → Parser → Parser → Label
-flagged_here k o fl p q = record { kind = k; op = o; flags = fl; span = record { from = p.token.span.start; to = q.prev_token_end } }
-
-flagged : {text : List ℕ} {f f' : Flags} {X X' : Test} {k : NodeKind} {o : Op} {fl : ℕ} {g : G} {p q : Parser} {h : Slots → Slots} → At text f p → Inside rule (record { kind = k; op = o; flags = fl; extent = exact }) X X' end g p.prev_token_end → Path text f' X' g p nothing q h → Path text f' X (make k o fl g) p nothing q (tree (flagged_here k o fl p q) (h end))
-flagged {text} {f} {X = X} {k = k} {o} {fl} {g} {p} {q} {h} a i r = record { at = r.at; further = r.further; pass = r.pass; walked = r.walked; verdict = verdict_of r.verdict (λ x. record { reach = x.reach; near = x.near; goes = makes_by (flagged_here k o fl p q) i x.goes (λ ls ls' l l'. ap (λ v. label_from v) (begins_here a (here ls) (here_at (Lex text) ls l))) }) (λ n. fails_node i n) }
-  where
-    label_from : ℕ → Label
-    label_from v = record { kind = k; op = o; flags = fl; span = record { from = v; to = q.prev_token_end } }
-
 module _ {text : List ℕ} {f : Flags} {p : Parser} (a : At text f p) where
   abbrev Prefixed : Kind → Type 0
   Prefixed o = p.token.kind ≡ o → Goes rule (Lex text) (after (at Update f)) end (rule (at Update f)) p.prev_token_end (prefix_part f o) p.prev_token_end (λ us. us) (still 0)
@@ -294,7 +284,7 @@ module _ {text : List ℕ} {f : Flags} {p q : Parser} (a : At text f p) where
   sign_passed o h e n m = token o a e n (of_update (λ o. one_of_kinds read_kinds o ≡ true) o h refl refl) m
 
   prefix_path : {r : Parser} (o : Kind) → one_of_kinds update_kinds o ≡ true → p.token.kind ≡ o → p.token.escaped ≡ false → Moved text f p q → (x : Answer text f (at Unary f) q r) → (t : Tree) → target_of x.label x.slots ≡ Some t → Path text f (after (at Update f)) (rule (at Update f)) p nothing r (tree (flagged_here update_expression (of o) prefix_flag p r) (tree t.label t.slots end))
-  prefix_path o h e n m x t k = by_prefix a o h e ⟼ flagged a (prefix_edge f o p.prev_token_end) (sign_passed o h e n m ⟶ target_path (of_unary f) (prefix_heads f) x t k)
+  prefix_path o h e n m x t k = by_prefix a o h e ⟼ flagged_by a (prefix_edge f o p.prev_token_end) (sign_passed o h e n m ⟶ target_path (of_unary f) (prefix_heads f) x t k)
 
   prefix_fails : (o : Kind) → one_of_kinds update_kinds o ≡ true → p.token.kind ≡ o → p.token.escaped ≡ false → Moved text f p q → Fails rule (Lex text) (behind_prefix f) end (symbol SimpleTarget f) q.prev_token_end → Underived text (at Update f) p.prev_token_end
   prefix_fails o h e n m x = fails_by (by_prefix a o h e ▹✗ fails_node (prefix_edge f o p.prev_token_end) (sign_passed o h e n m ⟶✗ x))

@@ -4,7 +4,7 @@ use Rattle.std.specs.Prelude.{Result, Ok}
 use Rattle.std.proofs.lemmas.Bool.{and_parts, and_from, or_left}
 use Rattle.js_base.specs.declared.diagnostic.Diagnostic.{Diagnostic}
 use Rattle.js_base.specs.declared.kind.Kind.{Kind}
-use Rattle.js_base.specs.declared.kind.Kind.TheVariants.{RAngle, LParen, RParen, LBrack, RBrack, LCurly, TemplateHead, TemplateMiddle, Comma, PrivateIdentifier}
+use Rattle.js_base.specs.declared.kind.Kind.TheVariants.{RCurly, RAngle, LParen, RParen, LBrack, RBrack, LCurly, TemplateHead, TemplateMiddle, Comma, PrivateIdentifier}
 use Rattle.js_base.specs.declared.span.Span.{Span}
 use Rattle.js_base.specs.Kinds.{same_kind, one_of_kinds}
 use Rattle.js_base.proofs.KindLemmas.{kind_of_same}
@@ -68,7 +68,7 @@ is_one a n y l e = n (sym (a y l).0 ∙ e)
 -- ---- items
 
 -- an item may be followed by a comma or the closing parenthesis, and begins with neither
-item_ends : (i : Bool) (f : Flags) → covers (starts first_of (after_item true (such (item_of i f) always)) (is RParen)) (λ k w e. one_of_kinds (Comma ∷ RParen ∷ RBrack ∷ []) k) ≡ true
+item_ends : (i : Bool) (f : Flags) → covers (starts first_of (after_item true (such (item_of i f) always)) (is RParen)) (λ k w e. one_of_kinds (Comma ∷ RParen ∷ RBrack ∷ RCurly ∷ []) k) ≡ true
 unfolding covers
 item_ends true f = refl
 item_ends false f = refl
@@ -114,11 +114,11 @@ module _ {text : List ℕ} (f : Flags) where
     -- an item was read, or none can be
     item_goes : {s' : ℕ} {l : Label} {cs : Slots} {pass : Lexemes → Lexemes} → Stretch text behind_item (such (item_of i f) always) s nothing s' (tree l cs) pass → Stretch text (plain full) (due_of true (item_of i f)) s (rest_of false (item_of i f)) s' (tree l cs) pass
     unfolding covers
-    item_goes x = record { reach = max 0 x.reach; near = let i = x.near in omega arith; goes = part firsts (is RParen) (commas_item x.goes (by_first firsts (by_plain (λ k w e. one_of_kinds (Comma ∷ RParen ∷ RBrack ∷ []) k)) (item_ends i f))) refl }
+    item_goes x = record { reach = max 0 x.reach; near = let i = x.near in omega arith; goes = part firsts (is RParen) (commas_item x.goes (by_first firsts (by_plain (λ k w e. one_of_kinds (Comma ∷ RParen ∷ RBrack ∷ RCurly ∷ []) k)) (item_ends i f))) refl }
 
     item_fails : NoItem text (item_of i f) s → Fails rule (Lex text) (plain full) end (due_of true (item_of i f)) s
     unfolding covers
-    item_fails n = part_fails (fails_commas n (by_first firsts (by_plain (λ k w e. one_of_kinds (Comma ∷ RParen ∷ RBrack ∷ []) k)) (item_ends i f))) (by_first firsts (by_plain (is RParen)) refl)
+    item_fails n = part_fails (fails_commas n (by_first firsts (by_plain (λ k w e. one_of_kinds (Comma ∷ RParen ∷ RBrack ∷ RCurly ∷ []) k)) (item_ends i f))) (by_first firsts (by_plain (is RParen)) refl)
 
 -- ---- a step of the list
 

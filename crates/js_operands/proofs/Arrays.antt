@@ -3,7 +3,7 @@ use Rattle.std.proofs.Common.{ℕ, ◌≡◌, ◌≤◌, ◌<◌, inl, inr, List
 use Rattle.std.specs.Prelude.{Result, Ok, Err, MatchResult}
 use Rattle.std.proofs.lemmas.Bool.{false≢true, and_parts}
 use Rattle.js_base.specs.declared.diagnostic.Diagnostic.{Diagnostic}
-use Rattle.js_base.specs.declared.kind.Kind.TheVariants.{RAngle, LParen, LBrack, RBrack, RParen, LCurly, Comma, TemplateHead, TemplateMiddle, PrivateIdentifier}
+use Rattle.js_base.specs.declared.kind.Kind.TheVariants.{RCurly, RAngle, LParen, LBrack, RBrack, RParen, LCurly, Comma, TemplateHead, TemplateMiddle, PrivateIdentifier}
 use Rattle.js_base.specs.declared.span.Span.{Span}
 use Rattle.js_base.specs.Kinds.{same_kind, one_of_kinds}
 use Rattle.js_base.specs.Texts.{words}
@@ -103,7 +103,7 @@ abbrev choice : Flags → G
 choice f = by_first_item gap (element f) never (tok RBrack)
 
 abbrev next_kinds : Look
-next_kinds k w e = one_of_kinds (Comma ∷ RParen ∷ RBrack ∷ []) k
+next_kinds k w e = one_of_kinds (Comma ∷ RParen ∷ RBrack ∷ RCurly ∷ []) k
 
 comma_plain : (is_word Comma || same_kind PrivateIdentifier Comma) ≡ false
 unfolding words

@@ -6,6 +6,7 @@ pub mod Marking
 pub mod Members
 pub mod Operands
 pub mod Parentheses
+pub mod PropertyNames
 pub mod Spreads
 pub mod Tame
 mod PartInsides

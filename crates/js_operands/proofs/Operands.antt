@@ -142,10 +142,10 @@ unfolding rule rule_of covers
 false_path text f p q a e n s = at_kind a False e refl ⟼ noded a (one_path boolean_test a s (plain_leaf False e n refl s) (rw (sym s.tells.kind ∙ e, sym s.tells.escaped ∙ n) refl))
 
 -- numbers
-of_number : (P : Kind → Type 0) (k : Kind) → one_of_kinds number_kinds k ≡ true → P Decimal → P Float → P Binary → P Octal → P Hex → P PositiveExponential → P NegativeExponential → P DecimalBigInt → P BinaryBigInt → P OctalBigInt → P HexBigInt → P k
+pub of_number : (P : Kind → Type 0) (k : Kind) → one_of_kinds number_kinds k ≡ true → P Decimal → P Float → P Binary → P Octal → P Hex → P PositiveExponential → P NegativeExponential → P DecimalBigInt → P BinaryBigInt → P OctalBigInt → P HexBigInt → P k
 of_number P k h a b c d e f g i j l m = first_or P Decimal k _ _ refl h a (λ h. first_or P Float k _ _ refl h b (λ h. first_or P Binary k _ _ refl h c (λ h. first_or P Octal k _ _ refl h d (λ h. first_or P Hex k _ _ refl h e (λ h. first_or P PositiveExponential k _ _ refl h f (λ h. first_or P NegativeExponential k _ _ refl h g (λ h. first_or P DecimalBigInt k _ _ refl h i (λ h. first_or P BinaryBigInt k _ _ refl h j (λ h. first_or P OctalBigInt k _ _ refl h l (λ h. first_or P HexBigInt k _ _ refl h m (λ h. absurd (false≢true h))))))))))))
 
-abbrev exponential_test : Look
+abbrev pub exponential_test : Look
 exponential_test k w e = one_of_kinds (PositiveExponential ∷ NegativeExponential ∷ []) k && not e
 
 abbrev NumberPath : Kind → Type 0

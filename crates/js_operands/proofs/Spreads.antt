@@ -4,7 +4,7 @@ use Rattle.std.specs.Prelude.{Result, Ok, Err}
 use Rattle.std.proofs.lemmas.Bool.{and_parts}
 use Rattle.js_base.proofs.KindLemmas.{kind_of_same}
 use Rattle.js_base.specs.declared.diagnostic.Diagnostic.{Diagnostic}
-use Rattle.js_base.specs.declared.kind.Kind.TheVariants.{Dot3, Comma, RParen, RBrack, PrivateIdentifier}
+use Rattle.js_base.specs.declared.kind.Kind.TheVariants.{RCurly, Dot3, Comma, RParen, RBrack, PrivateIdentifier}
 use Rattle.js_base.specs.declared.span.Span.{Span}
 use Rattle.js_base.specs.Kinds.{same_kind, one_of_kinds}
 use Rattle.js_base.specs.Texts.{words}
@@ -51,7 +51,7 @@ use Rattle.js_parsing.proofs.Told.{told_same, lexeme_marked}
 use Rattle.js_parsing.specs.Classes.{IsEarly}
 
 abbrev next_kinds : Look
-next_kinds k w e = one_of_kinds (Comma ∷ RParen ∷ RBrack ∷ []) k
+next_kinds k w e = one_of_kinds (Comma ∷ RParen ∷ RBrack ∷ RCurly ∷ []) k
 
 ends_all : covers next_kinds (surest Assignment) ≡ true
 unfolding covers

@@ -2,4 +2,5 @@ pub mod Arrays
 pub mod Marked
 pub mod Members
 pub mod Numbers
+pub mod PropertyNames
 pub mod Templates

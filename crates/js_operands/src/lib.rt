@@ -5,4 +5,5 @@ pub mod arguments;
 pub mod array;
 pub mod left_hand_side;
 pub mod primary;
+pub mod property_name;
 pub mod template;

@@ -70,7 +70,7 @@ fn parse_number<C: ParserConfig>(p: &mut ParserImpl<'_, C>) -> Result<NodeId, St
 }
 
 /// The kind of the node of a number.
-fn number_node(kind: Kind) -> NodeKind
+pub(crate) fn number_node(kind: Kind) -> NodeKind
     ensures { result ≡ node_of_number kind }
 {
     match kind {
@@ -82,7 +82,7 @@ fn number_node(kind: Kind) -> NodeKind
 }
 
 /// How a number is written.
-fn number_op(kind: Kind) -> Op
+pub(crate) fn number_op(kind: Kind) -> Op
     ensures { result ≡ op_of_number kind }
 {
     match kind {

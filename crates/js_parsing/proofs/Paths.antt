@@ -176,3 +176,15 @@ noded a r = noded_by a (record { ends = λ l cs vs j ls mid d e. (refl, refl) })
 -- a symbol, by its rule
 pub by_symbol_as : {text : List ℕ} {f : Flags} {X X' : Test} {n : Symbol} {p q : Parser} {l : Label} {cs : Slots} → Heads X X' → Path text f X' (rule n) p nothing q (tree l cs) → Path text f X (such n always) p nothing q (tree l cs)
 by_symbol_as h r = record { at = r.at; further = r.further; pass = r.pass; walked = r.walked; verdict = verdict_of r.verdict (λ x. record { reach = x.reach; near = x.near; goes = by_rule h x.goes refl }) (λ n. fails_rule h n) }
+
+-- ---- nodes with flags
+
+-- a node's label, with flags
+abbrev pub flagged_here : NodeKind → Op → ℕ → Parser → Parser → Label
+flagged_here k o fl p q = record { kind = k; op = o; flags = fl; span = record { from = p.token.span.start; to = q.prev_token_end } }
+
+pub flagged_by : {text : List ℕ} {f f' : Flags} {X X' : Test} {k : NodeKind} {o : Op} {fl : ℕ} {g : G} {p q : Parser} {h : Slots → Slots} → At text f p → Inside rule (record { kind = k; op = o; flags = fl; extent = exact }) X X' end g p.prev_token_end → Path text f' X' g p nothing q h → Path text f' X (make k o fl g) p nothing q (tree (flagged_here k o fl p q) (h end))
+flagged_by {text} {f} {X = X} {k = k} {o} {fl} {g} {p} {q} {h} a i r = record { at = r.at; further = r.further; pass = r.pass; walked = r.walked; verdict = verdict_of r.verdict (λ x. record { reach = x.reach; near = x.near; goes = makes_by (flagged_here k o fl p q) i x.goes (λ ls ls' l l'. ap (λ v. label_from v) (begins_here a (here ls) (here_at (Lex text) ls l))) }) (λ n. fails_node i n) }
+  where
+    label_from : ℕ → Label
+    label_from v = record { kind = k; op = o; flags = fl; span = record { from = v; to = q.prev_token_end } }

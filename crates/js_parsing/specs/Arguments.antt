@@ -1,6 +1,6 @@
 -- What the parse functions of arguments answer (ECMA-262, 13.3.8): a list in parentheses, as far as it was read.
 use Rattle.std.specs.Prelude.{ℕ, ◌≡◌, ◌<◌, ◌≤◌, Bool, true, false, List, [], ◌∷◌, Option, None, length, Result, Ok, Err}
-use Rattle.js_base.specs.declared.kind.Kind.TheVariants.{Comma, RParen, RBrack}
+use Rattle.js_base.specs.declared.kind.Kind.TheVariants.{RCurly, Comma, RParen, RBrack}
 use Rattle.js_base.specs.Kinds.{one_of_kinds}
 use Rattle.js_base.specs.declared.span.Span.{Span}
 use Rattle.js_base.specs.declared.diagnostic.Diagnostic.{Diagnostic}
@@ -83,13 +83,13 @@ NoArguments i p q e = (text : List ℕ) (f : Flags) → At text f p → Stops p 
 
 -- what may stand behind an item: a comma, or a closing bracket
 abbrev pub behind_item : Test
-behind_item = plain (λ k w e. one_of_kinds (Comma ∷ RParen ∷ RBrack ∷ []) k)
+behind_item = plain (λ k w e. one_of_kinds (Comma ∷ RParen ∷ RBrack ∷ RCurly ∷ []) k)
 
 abbrev pub NoItem : List ℕ → Symbol → ℕ → Type 0
 NoItem text n s = Fails rule (Lex text) behind_item end (such n always) s
 
--- An item was taken. Clean: whatever is derived from its beginning before what may stand behind it is this; unclean: nothing is. A node made in the call stands for its tree.
-pub record ItemTaken (text : List ℕ) (f : Flags) (n : Symbol) (p q : Parser) (id : NodeId) : Type 0 where
+-- A part of a list was taken. Clean: whatever is derived from its beginning before what may stand behind it is this; unclean: nothing is. A node made in the call stands for its tree.
+pub record PartTaken (text : List ℕ) (f : Flags) (g : G) (p q : Parser) (id : NodeId) : Type 0 where
   pub at : At text f q
   pub same : Same p q
   pub further : p.token.span.start < q.prev_token_end
@@ -97,9 +97,13 @@ pub record ItemTaken (text : List ℕ) (f : Flags) (n : Symbol) (p q : Parser) (
   pub slots : Slots
   pub pass : Lexemes → Lexemes
   pub walked : Walked text (spot p) (spot q) pass
-  pub verdict : Verdict p.errors q.errors (Stretch text behind_item (such n always) p.prev_token_end nothing q.prev_token_end (tree label slots) pass) (NoItem text n p.prev_token_end)
+  pub verdict : Verdict p.errors q.errors (Stretch text behind_item g p.prev_token_end nothing q.prev_token_end (tree label slots) pass) (Fails rule (Lex text) behind_item end g p.prev_token_end)
   pub holds : Holds q.nodes (length p.nodes) (length q.nodes) id.0 label slots
   pub keeps : Keeps p.nodes q.nodes
+
+-- an item was
+abbrev pub ItemTaken : List ℕ → Flags → Symbol → Parser → Parser → NodeId → Type 0
+ItemTaken text f n p q id = PartTaken text f (such n always) p q id
 
 abbrev pub ItemOutcome : List ℕ → Flags → Symbol → Parser → Parser → Result NodeId Stop → Type 0
 ItemOutcome text f n p q (Ok id) = ItemTaken text f n p q id
