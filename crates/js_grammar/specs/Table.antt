@@ -248,8 +248,8 @@ rule_of Decorator f = mk decorator (tok At ▸ (sym DecoratorMember f ◇ mk cal
 rule_of DecoratorMember f = sym IdentifierReference f ◇ mk static_member_expression (sym DecoratorMember f ▸ tok Dot ▸ sym IdentifierName f) ◇ mk private_field_expression (sym DecoratorMember f ▸ tok Dot ▸ sym PrivateName f)
 -- ObjectLiteral (13.2.5)
 rule_of Object f = mk object_expression (braces (opt (commas true (sym Property f))))
--- PropertyDefinition (13.2.5); the initialiser of a shorthand is a CoverInitializedName, and no child
-rule_of Property f = make object_property init shorthand_flag (ahead (sym IdentifierName f) ▸ sym IdentifierReference f ▸ opt (when f.cover (keep (sym Init (plus_in f)) nothing)))
+-- PropertyDefinition (13.2.5); the initialiser of a shorthand makes a CoverInitializedName: a third child, which no valid tree has
+rule_of Property f = make object_property init shorthand_flag (ahead (sym IdentifierName f) ▸ sym IdentifierReference f ▸ opt (when f.cover (sym Init (plus_in f))))
     ◇ each (λ c. make object_property init (flag c computed_flag) (name c false f ▸ tok Colon ▸ sym Assignment (plus_in f))
     ◇ make object_property init (flag c computed_flag + method_flag) (plain_method nothing c false f)
     ◇ make object_property (of 'get') (flag c computed_flag) (getter c false f) ◇ make object_property (of 'set') (flag c computed_flag) (setter c false f))
