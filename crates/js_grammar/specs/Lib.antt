@@ -45,3 +45,4 @@ pub mod PureMarks
 pub mod CommandLine
 pub mod Output
 pub mod TableLaws
+pub mod CoverInitialisers

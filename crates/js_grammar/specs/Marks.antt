@@ -192,7 +192,7 @@ abbrev literal_before_operator : Tree → Lexemes → Lexeme → Bool
 literal_before_operator t ls y = is_literal t.label.kind && (one_of_kinds assign_operators y.kind && not (same_kind Eq y.kind))
 
 -- a shorthand property with an initialiser
-abbrev has_initialiser : Tree → Lexemes → Lexeme → Bool
+abbrev pub has_initialiser : Tree → Lexemes → Lexeme → Bool
 has_initialiser t (next x ls) y = same_kind Eq (here ls).kind
 has_initialiser t (last x) y = false
 

@@ -1,5 +1,6 @@
 //! Laws about the table of the whole language, each computed from its lines.
 
+ghost use Rattle.js_grammar.specs.CoverInitialisers.{StrictInCover};
 ghost use Rattle.js_grammar.specs.TableLaws.{BeginsWithFirst, BracketsMatch, StrictIsLoose, GoalsAlike, OmissionEnds};
 
 /// A derivation begins with a lexeme of its nonterminal's first set.
@@ -25,4 +26,9 @@ pub fn law_of_goals()
 /// An expression ends where its semicolon may be left out.
 pub fn law_of_omission()
     ensures { OmissionEnds }
+{}
+
+/// A program is derived strictly exactly where it is derived by the cover grammar and no shorthand has an initialiser.
+pub fn law_of_cover_initialisers()
+    ensures { StrictInCover }
 {}

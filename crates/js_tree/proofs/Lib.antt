@@ -11,3 +11,4 @@ pub mod WeightLemmas
 pub mod BindingLemmas
 pub mod WalkLemmas
 pub mod CountLemmas
+pub mod CoverLemmas

@@ -10,3 +10,4 @@ pub mod Sources
 pub mod Names
 pub mod Rooms
 pub mod Rows
+pub mod Covering

@@ -6,6 +6,7 @@ mod bound;
 mod builder;
 mod columns;
 mod count;
+mod cover;
 mod flags;
 mod id;
 mod kind;

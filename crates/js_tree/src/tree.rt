@@ -3,7 +3,9 @@
 ghost use Rattle.std.specs.Prelude.{◌≡◌, ◌<◌, ◌↔◌, ◌∷◌, [], length, map, is_some, slice_get, IfOk, IsTrue, Some, None, ℕ, List, chars};
 ghost use Rattle.js_base.specs.Spans.{LiesIn};
 ghost use Rattle.js_grammar.specs.Trees.{Label, Slots, Tree as SeenTree};
+ghost use Rattle.js_grammar.specs.CoverInitialisers.{initialised_in};
 ghost use Rattle.js_grammar.specs.Lines.{tree_text};
+ghost use Rattle.js_tree.specs.Covering.{placed};
 ghost use Rattle.js_tree.specs.Counting.{IsCount};
 ghost use Rattle.js_tree.specs.Nodes.{node_at, new_node, empty_program, flags_set, program_node};
 ghost use Rattle.js_tree.specs.Holding.{Makes, Stands, HoldsAll, IsTree, with_program, program_tree};
@@ -43,6 +45,14 @@ impl Model for Tree {
 }
 
 impl Tree {
+    /// The spans of the shorthands with an initialiser (CoverInitializedName, ECMA-262, section 13.2.5), in the order of the
+    /// tree: a tree of the cover grammar may have some, a strict one has none. The only error is want of memory.
+    pub fn cover_initializers(&self, alloc: Global) -> Result<Vec<Span>, NoMemory>
+        ensures { IfOk result (λ spans. (t : SeenTree) → IsTree self.now t → spans.items ≡ map placed (initialised_in t.slots)) }
+    {
+        self.columns.cover_initializers(alloc)
+    }
+
     /// The tree of finished columns.
     pub(crate) fn new(columns: Columns, node_count: usize) -> Tree
         requires { IsCount columns node_count }

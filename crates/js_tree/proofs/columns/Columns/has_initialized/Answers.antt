@@ -1,0 +1,9 @@
+use Rattle.std.proofs.Common.{◌≡◌, ◌<◌, ℕ, Bool, true, false, nat_lt, arith, refl, sym, subst, ◌∙◌, ltb-true, ltb-false}
+use Rattle.js_tree.specs.declared.id.NodeId.{NodeId}
+use Rattle.js_tree.specs.Covering.{is_covering}
+use Rattle.js_tree.specs.Nodes.{node_at}
+use Rattle.js_tree.proofs.CoverLemmas.{one_more}
+use Rattle.js_tree.proofs.columns.Columns.has_initialized.Goals as goal
+
+pub nodes-preserved : goal.nodes-preserved
+nodes-preserved c = one_more c.args.self.now c.nodes.i c.nodes.invariant (sym c.is_initialized.ensures ∙ (let e : c.is_initialized.result ≡ false = search in e))
