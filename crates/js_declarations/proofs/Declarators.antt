@@ -101,7 +101,7 @@ unbound {text} {f} {s} c n = record { no = λ ts us k ls rest lx d h. go ts us k
 
 -- no lexeme stands here
 pub none_at : {text : List ℕ} {f : Flags} {p : Parser} (c : Bool) → At text f p → p.token.kind ≡ Undetermined → NoOne text (declarator c f) p.prev_token_end
-none_at c a h = unbound c (no_binding a (λ k e. false≢true (ap (same_kind LBrack) (sym h ∙ k))) (λ k e. false≢true (ap (one_of_kinds name_kinds) (sym h) ∙ k)) (ap (one_of_kinds unbuilt_kinds) h))
+none_at c a h = unbound c (no_binding a (λ k e. false≢true (ap (same_kind LBrack) (sym h ∙ k))) (λ k e. false≢true (ap (same_kind LCurly) (sym h ∙ k))) (λ k e. false≢true (ap (one_of_kinds name_kinds) (sym h) ∙ k)))
 
 -- ---- what may stand behind a declarator
 
