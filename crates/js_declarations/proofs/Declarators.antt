@@ -36,7 +36,7 @@ use Rattle.js_base.specs.declared.diagnostic.DiagnosticClass.TheVariants.{Early}
 use Rattle.js_base.specs.Diagnostics.{class_of}
 use Rattle.js_cursor.specs.Moves.{Keeps as KeepsOne}
 use Rattle.js_parsing.specs.Answers.{Grown, Verdict, Stretch, Underived, Answer, Numbered, Stops, beside, unclean}
-use Rattle.js_parsing.specs.Lexemes.{Lex, Walked, name_kinds, spot, unbuilt_kinds}
+use Rattle.js_parsing.specs.Lexemes.{Lex, Walked, name_kinds, spot}
 use Rattle.js_parsing.specs.Moves.{Moved, MadeHere, plain_label}
 use Rattle.js_parsing.specs.Stands.{NameHere}
 use Rattle.js_parsing.specs.States.{At, Same, NodesLie}
