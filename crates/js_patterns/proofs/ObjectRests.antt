@@ -61,6 +61,9 @@ ends_itself = refl
 
 -- ---- a binding that is a name
 
+pub binds_so : (k : NodeKind) {b r : Bool} → r ≡ b → BindsName k r → BindsName k b
+binds_so k e h = subst (λ (v : Bool). BindsName k v) e h
+
 -- a name that is bound is a binding
 name_binds : {f : Flags} {ts vs : Slots} {i k : ℕ} {ls rest : Lexemes} → Takes rule (symbol BindingIdentifier f) end ts i ls vs k rest → Takes rule (symbol Binding f) end ts i ls vs k rest
 unfolding rule rule_of
@@ -105,8 +108,11 @@ module _ {text : List ℕ} {f : Flags} {p q : Parser} (a : At text f p) (k : p.t
   argument_stops w e z = stops_behind w e m.same (λ g. grown_then m.kept g) (λ n. no_rest (no_name n)) z
 
   module _ {r : Parser} {bound : NodeId} (x : ItemTaken text f (at Binding f) q r bound) where
-    same : Same p r
-    same = same_both m.same x.same
+    pub rest_same : Same p r
+    rest_same = same_both m.same x.same
+
+    pub rest_further : p.token.span.start < r.prev_token_end
+    rest_further = let i = m.further in let j = m.at.behind in let h = x.further in omega arith
 
     kind_is : kind_of (node_at r.nodes bound).kind ≡ x.label.kind
     kind_is = ap (λ (l : Label). l.kind) (sym (held_label bound x.holds))
@@ -116,7 +122,7 @@ module _ {text : List ℕ} {f : Flags} {p q : Parser} (a : At text f p) (k : p.t
     unnamed n = no_rest (either_way x.verdict (λ c. not_named (λ e. n (kind_is ∙ e)) c) (λ u. no_name u))
 
     pub unnamed_stops : BindsName (kind_of (node_at r.nodes bound).kind) false → (w : Parser) (e : Stop) → Stops r w e (Unit {0}) → Stops p w e (Fails rule (Lex text) behind_item end (rest_of f) p.prev_token_end)
-    unnamed_stops n w e z = stops_behind w e same (λ g. grown_then m.kept (grown_behind x.verdict g)) (λ u. unnamed n) z
+    unnamed_stops n w e z = stops_behind w e rest_same (λ g. grown_then m.kept (grown_behind x.verdict g)) (λ u. unnamed n) z
 
     argument_edge : EdgeOf (goal r) r.text r.prev_token_end
     argument_edge = subst (λ (t : List ℕ). EdgeOf (goal r) t r.prev_token_end) (sym x.at.text_is) (last_edge x.walked (subst (λ (t : List ℕ). Reached t q.prev_token_end) m.at.text_is m.at.at.reached) (let b = m.at.behind in let c = x.further in omega arith))
@@ -133,7 +139,7 @@ module _ {text : List ℕ} {f : Flags} {p q : Parser} (a : At text f p) (k : p.t
 
     -- or it is one
     pub rest_read : {w : Parser} {id : NodeId} (s : Span) → BindsName (kind_of (node_at r.nodes bound).kind) true → s.start ≡ p.token.span.start → s.end ≡ r.prev_token_end → MadeHere (plain_label node_kind.BindingRestElement op_made.None s) (Some bound ∷ []) r w id → PartTaken text f (rest_of f) p w id
-    rest_read {w} {id} s n b d t = item_answers w whole same made.stays (one_held p.nodes made held) (Keeps-trans kept (Keeps-made made.made)) (made_lies same x.at.at (let g = whole.further in omega arith) made refl)
+    rest_read {w} {id} s n b d t = item_answers w whole rest_same made.stays (one_held p.nodes made held) (Keeps-trans kept (Keeps-made made.made)) (made_lies rest_same x.at.at (let g = whole.further in omega arith) made refl)
       where
         l : plain_label node_kind.BindingRestElement op_made.None s ≡ label_here binding_rest_element no_op p r
         l = rw (b, d) refl
