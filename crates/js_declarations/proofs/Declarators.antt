@@ -36,7 +36,7 @@ use Rattle.js_base.specs.declared.diagnostic.DiagnosticClass.TheVariants.{Early}
 use Rattle.js_base.specs.Diagnostics.{class_of}
 use Rattle.js_cursor.specs.Moves.{Keeps as KeepsOne}
 use Rattle.js_parsing.specs.Answers.{Grown, Verdict, Stretch, Underived, Answer, Numbered, Stops, beside, unclean}
-use Rattle.js_parsing.specs.Lexemes.{Lex, Walked, name_kinds, spot, unbuilt_kinds}
+use Rattle.js_parsing.specs.Lexemes.{Lex, Walked, name_kinds, spot}
 use Rattle.js_parsing.specs.Moves.{Moved, MadeHere, plain_label}
 use Rattle.js_parsing.specs.Stands.{NameHere}
 use Rattle.js_parsing.specs.States.{At, Same, NodesLie}
@@ -101,7 +101,7 @@ unbound {text} {f} {s} c n = record { no = λ ts us k ls rest lx d h. go ts us k
 
 -- no lexeme stands here
 pub none_at : {text : List ℕ} {f : Flags} {p : Parser} (c : Bool) → At text f p → p.token.kind ≡ Undetermined → NoOne text (declarator c f) p.prev_token_end
-none_at c a h = unbound c (no_binding a (λ k e. false≢true (ap (same_kind LBrack) (sym h ∙ k))) (λ k e. false≢true (ap (one_of_kinds name_kinds) (sym h) ∙ k)) (ap (one_of_kinds unbuilt_kinds) h))
+none_at c a h = unbound c (no_binding a (λ k e. false≢true (ap (same_kind LBrack) (sym h ∙ k))) (λ k e. false≢true (ap (same_kind LCurly) (sym h ∙ k))) (λ k e. false≢true (ap (one_of_kinds name_kinds) (sym h) ∙ k)))
 
 -- ---- what may stand behind a declarator
 

@@ -3,7 +3,7 @@ use Rattle.std.proofs.Common.{ℕ, ◌≡◌, max, List, [], ◌∷◌, length, 
 use Rattle.std.specs.Prelude.{Result, Ok, Err, MatchResult, IsCharBoundary}
 use Rattle.std.proofs.lemmas.Bool.{false≢true}
 use Rattle.js_base.specs.declared.kind.Kind.{Kind}
-use Rattle.js_base.specs.declared.kind.Kind.TheVariants.{RAngle, LBrack, LCurly, RBrack, RParen, Comma, Dot3, Eq, PrivateIdentifier}
+use Rattle.js_base.specs.declared.kind.Kind.TheVariants.{RAngle, LBrack, LCurly, RBrack, RCurly, RParen, Comma, Dot3, Eq, PrivateIdentifier}
 use Rattle.js_base.specs.declared.span.Span.{Span}
 use Rattle.js_base.specs.Kinds.{same_kind, one_of_kinds}
 use Rattle.js_base.specs.Texts.{words}
@@ -30,13 +30,13 @@ use Rattle.js_cursor.specs.Moves.{GivesUp, MovesOn, OnlyMemory, is_last, IsHere}
 use Rattle.js_cursor.specs.declared.stop.Stop.{Stop}
 use Rattle.js_cursor.specs.declared.stop.Stop.TheVariants.{Fatal, NoMemory}
 use Rattle.js_parsing.specs.Answers.{Underived, Answer, Numbered, Outcome, Stops}
-use Rattle.js_parsing.specs.Arguments.{Partway, behind_item, ItemTaken, NoItem}
+use Rattle.js_parsing.specs.Arguments.{Partway, behind_item, ItemTaken, NoItem, PartTaken}
 use Rattle.js_patterns.specs.Bindings.{elements_left}
-use Rattle.js_parsing.specs.Lexemes.{Lex, name_kinds, unbuilt_kinds}
+use Rattle.js_parsing.specs.Lexemes.{Lex, name_kinds}
 use Rattle.js_parsing.specs.Stands.{NameHere, StandsHere}
 use Rattle.js_parsing.specs.Moves.{Moved, MadeHere, LeafTaken, TakesLeaf, plain_label, unpassable}
 use Rattle.js_parsing.specs.States.{At, Same, NodesLie}
-use Rattle.js_parsing.proofs.Signs.{other_kind, plain_sign}
+use Rattle.js_parsing.proofs.Signs.{other_kind, plain_sign, whole_sign}
 use Rattle.js_parsing.proofs.Giving.{fails_escaped, gives_up}
 use Rattle.js_parsing.proofs.Here.{kind_here, uncut}
 use Rattle.js_parsing.proofs.MadeNodes.{leaf_held, node_held, one_held, two_held, one_lies, made_lies}
@@ -74,12 +74,12 @@ then_any r = record { at = r.at; further = r.further; pass = r.pass; walked = r.
 pub ended_by : {text : List ℕ} {f : Flags} {X : Test} {g g' g'' : G} {p q : Parser} {h i : Slots → Slots} → Path text f X g p g' q h → Goes rule (Lex text) (behind X h) end g' q.prev_token_end g'' q.prev_token_end i (still 0) → Path text f X g p g'' q (λ us. h (i us))
 ended_by r c = record { at = r.at; further = r.further; pass = r.pass; walked = r.walked; verdict = verdict_of r.verdict (λ y. record { reach = max y.reach 0; near = let n = y.near in omega arith; goes = y.goes ▹ c }) (λ n. n) }
 
--- an item, by a path before what may stand behind it
-pub item_answers : {text : List ℕ} {f : Flags} {n : Symbol} {p q : Parser} (w : Parser) {l : Label} {cs : Slots} {id : NodeId} → Path text f behind_item (such n always) p nothing q (tree l cs) → Same p q → w ≡ record q { nodes = w.nodes } → Holds w.nodes (length p.nodes) (length w.nodes) id.0 l cs → Keeps p.nodes w.nodes → (IsCharBoundary p.text p.token.span.start → NodesLie q.text q.nodes → NodesLie q.text w.nodes) → ItemTaken text f n p w id
-item_answers {text} {f} {n} {p} {q} w {l} {cs} {id} r s m h k i = go w.nodes m h k i
+-- a part of a list, by a path before what may stand behind it
+pub item_answers : {text : List ℕ} {f : Flags} {g : G} {p q : Parser} (w : Parser) {l : Label} {cs : Slots} {id : NodeId} → Path text f behind_item g p nothing q (tree l cs) → Same p q → w ≡ record q { nodes = w.nodes } → Holds w.nodes (length p.nodes) (length w.nodes) id.0 l cs → Keeps p.nodes w.nodes → (IsCharBoundary p.text p.token.span.start → NodesLie q.text q.nodes → NodesLie q.text w.nodes) → PartTaken text f g p w id
+item_answers {text} {f} {g} {p} {q} w {l} {cs} {id} r s m h k i = go w.nodes m h k i
   where
-    go : (ns : List Node) → w ≡ record q { nodes = ns } → Holds w.nodes (length p.nodes) (length w.nodes) id.0 l cs → Keeps p.nodes w.nodes → (IsCharBoundary p.text p.token.span.start → NodesLie q.text q.nodes → NodesLie q.text w.nodes) → ItemTaken text f n p w id
-    go ns m h k i = subst (λ (z : Parser). ItemTaken text f n p z id) (sym m) (record {
+    go : (ns : List Node) → w ≡ record q { nodes = ns } → Holds w.nodes (length p.nodes) (length w.nodes) id.0 l cs → Keeps p.nodes w.nodes → (IsCharBoundary p.text p.token.span.start → NodesLie q.text q.nodes → NodesLie q.text w.nodes) → PartTaken text f g p w id
+    go ns m h k i = subst (λ (z : Parser). PartTaken text f g p z id) (sym m) (record {
       at = beside_nodes ns r.at;
       same = same_with ns s (subst (λ (z : Parser). Keeps p.nodes z.nodes) m k) (λ b z. subst (λ (v : Parser). NodesLie q.text v.nodes) m (i b z));
       further = r.further;
@@ -116,13 +116,13 @@ module _ {text : List ℕ} {f : Flags} {p : Parser} (a : At text f p) where
       by_path (subst (λ (v : Label). Path text f (after (at Binding f)) (rule (at Binding f)) p nothing t.mid (tree v end)) (sym l) (binding_path k e t.moved)) t.moved.same t.made.stays (λ y i. refl) refl (leaf_held t.made ks) (Keeps-trans ks (Keeps-made t.made.made)) (ap (λ (v : Label). v.span) l) (one_lies t.made)
 
   -- neither a name nor a pattern stands here
-  pub no_binding : StandsHere p LBrack false → NameHere p false → one_of_kinds unbuilt_kinds p.token.kind ≡ false → Underived text (at Binding f) p.prev_token_end
+  pub no_binding : StandsHere p LBrack false → StandsHere p LCurly false → NameHere p false → Underived text (at Binding f) p.prev_token_end
   unfolding rule rule_of covers apart
-  no_binding u n c = by p.token.escaped refl
+  no_binding u v n = by p.token.escaped refl
     where
       by : (b : Bool) → p.token.escaped ≡ b → Underived text (at Binding f) p.prev_token_end
       by true e = fails_escaped a e
-      by false e = fails_by (fails_at a (rule (at Binding f)) (LBrack ∷ LCurly ∷ name_kinds) refl (or_kind LBrack (LCurly ∷ name_kinds) p.token.kind (λ k. u k e) (or_kind LCurly name_kinds p.token.kind (λ k. false≢true (sym c ∙ ap (one_of_kinds unbuilt_kinds) k)) (no_name_here p n e))))
+      by false e = fails_by (fails_at a (rule (at Binding f)) (LBrack ∷ LCurly ∷ name_kinds) refl (or_kind LBrack (LCurly ∷ name_kinds) p.token.kind (λ k. u k e) (or_kind LCurly name_kinds p.token.kind (λ k. v k e) (no_name_here p n e))))
 
 pub name_outcome : (text : List ℕ) (f : Flags) (p q : Parser) (r : Result NodeId Stop) → At text f p → NameHere p true → MatchResult r (λ id. TakesLeaf node_kind.BindingIdentifier op_made.None p q id) OnlyMemory → Outcome text f (at Binding f) p q r
 name_outcome text f p q (Ok id) a s m = name_answers a s.0 s.1 (m text f a)
@@ -168,17 +168,18 @@ module _ {text : List ℕ} {f : Flags} {o : Parser} (a : At text f o) (k : o.tok
           let h : HoldsAll q.nodes (length o.nodes) (length q.nodes) js (whole_pattern.slots end) = whole_pattern.holds (length o.nodes) end (HoldsAll-none o.nodes (length o.nodes) (length o.nodes) (omega arith)) in
           by_path pattern_path whole_pattern.same y.stays (λ u v. refl) refl (node_held y h) (Keeps-trans whole_pattern.keeps (Keeps-made y.made)) refl (one_lies y)
 
-pub pattern_moved : {text : List ℕ} {f : Flags} {p q : Parser} → At text f p → (p.token.kind ≡ RBrack) × MovesOn p q → Moved text f p q
-pattern_moved a z = moves (uncut a (ap (same_kind RAngle) z.0), ap unpassable z.0) z.1 a
+-- its closing bracket was passed, or doesn't stand here
+pub pattern_moved : {text : List ℕ} {f : Flags} {p q : Parser} (k : Kind) → same_kind RAngle k ≡ false → unpassable k ≡ false → At text f p → (p.token.kind ≡ k) × MovesOn p q → Moved text f p q
+pattern_moved k r l a z = moves (whole_sign k a z.0 r l) z.1 a
 
-pub pattern_unclosed : {text : List ℕ} {f : Flags} (opening : Option Span) (p q : Parser) (e : Stop) {F : Type 0} → At text f p → (e ≡ Fatal → p.token.kind ≡ RBrack → ⊥) × GivesUp (IsHere ExpectClosing p opening) p q e → (one_of_kinds (RBrack ∷ []) p.token.kind ≡ false → F) → Stops p q e F
-pattern_unclosed opening p q Fatal a h g = gives_up (IsHere ExpectClosing p opening) p q Fatal a h.1 (here_ends ExpectClosing refl) (g (other_kind RBrack p.token.kind (h.0 refl)))
-pattern_unclosed opening p q NoMemory a h g = tt
+pub pattern_unclosed : {text : List ℕ} {f : Flags} (k : Kind) (opening : Option Span) (p q : Parser) (e : Stop) {F : Type 0} → At text f p → (e ≡ Fatal → p.token.kind ≡ k → ⊥) × GivesUp (IsHere ExpectClosing p opening) p q e → (one_of_kinds (k ∷ []) p.token.kind ≡ false → F) → Stops p q e F
+pattern_unclosed k opening p q Fatal a h g = gives_up (IsHere ExpectClosing p opening) p q Fatal a h.1 (here_ends ExpectClosing refl) (g (other_kind k p.token.kind (h.0 refl)))
+pattern_unclosed k opening p q NoMemory a h g = tt
 
 -- ---- an element of a pattern
 
 abbrev next_kinds : Look
-next_kinds k w e = one_of_kinds (Comma ∷ RParen ∷ RBrack ∷ []) k
+next_kinds k w e = one_of_kinds (Comma ∷ RParen ∷ RBrack ∷ RCurly ∷ []) k
 
 ends_itself : covers next_kinds next_kinds ≡ true
 unfolding covers
@@ -199,7 +200,7 @@ module _ {text : List ℕ} {f : Flags} {p q : Parser} (x : Answer text f (at Bin
 
 -- `=` ends no item
 pub no_end_here : {text : List ℕ} {f : Flags} {q : Parser} → At text f q → q.token.kind ≡ Eq → Fails rule (Lex text) behind_item end nothing q.prev_token_end
-no_end_here a k = fails_nothing (λ ts y l e. false≢true (subst (λ (v : Kind). one_of_kinds (Comma ∷ RParen ∷ RBrack ∷ []) v ≡ true) (kind_here a k refl y l) e.0))
+no_end_here a k = fails_nothing (λ ts y l e. false≢true (subst (λ (v : Kind). one_of_kinds (Comma ∷ RParen ∷ RBrack ∷ RCurly ∷ []) v ≡ true) (kind_here a k refl y l) e.0))
 
 -- an initialiser ends before what ends an item
 pub on_initialiser : (f : Flags) {s : ℕ} → On rule behind_item (after (at Assignment (plus_in f))) end (symbol Assignment (plus_in f)) s
@@ -265,7 +266,7 @@ no_binding_item n = weaken_fails_on n (record { admits = λ ts vs k ls rest d e.
 pub no_initialised : {text : List ℕ} {f : Flags} {p q : Parser} {bound : NodeId} → Numbered text f (at Binding f) p q bound → q.token.kind ≡ Eq → NoItem text (at Binding f) p.prev_token_end
 no_initialised x k = binding_last x.answer ⟶✗ no_end_here x.answer.at k
 
-item_path : {text : List ℕ} {f : Flags} {n : Symbol} {p q : Parser} {id : NodeId} (x : ItemTaken text f n p q id) → Path text f behind_item (such n always) p nothing q (tree x.label x.slots)
+pub item_path : {text : List ℕ} {f : Flags} {n : Symbol} {p q : Parser} {id : NodeId} (x : ItemTaken text f n p q id) → Path text f behind_item (such n always) p nothing q (tree x.label x.slots)
 item_path x = record { at = x.at; further = x.further; pass = x.pass; walked = x.walked; verdict = x.verdict }
 
 -- ---- a rest

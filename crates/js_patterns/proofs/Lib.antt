@@ -1,6 +1,9 @@
 pub mod BehindRests
 pub mod Bindings
 pub mod Lists
+mod ObjectLists
+mod ObjectPatterns
+mod ObjectRests
 pub mod ParameterLists
 pub mod PatternLists
 mod RestInitialisers

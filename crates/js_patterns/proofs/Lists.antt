@@ -3,14 +3,14 @@ use Rattle.std.proofs.Common.{ℕ, ◌≡◌, ◌≤◌, ◌<◌, max, List, [],
 use Rattle.std.specs.Prelude.{Ok}
 use Rattle.std.proofs.lemmas.Bool.{and_parts}
 use Rattle.js_base.specs.declared.kind.Kind.{Kind}
-use Rattle.js_base.specs.declared.kind.Kind.TheVariants.{Comma, RParen, RBrack, PrivateIdentifier}
+use Rattle.js_base.specs.declared.kind.Kind.TheVariants.{RCurly, Comma, RParen, RBrack, PrivateIdentifier}
 use Rattle.js_base.specs.Kinds.{same_kind, one_of_kinds}
 use Rattle.js_base.specs.Texts.{words}
 use Rattle.js_base.proofs.KindLemmas.{kind_of_same}
 use Rattle.js_grammar.specs.Trees.{Slots, end, hole, tree, append}
 use Rattle.js_grammar.specs.Grammar.{Lexeme, Look, here, is, next, seq, such, empty_slot}
 use Rattle.js_grammar.specs.Lexemes.{is_word}
-use Rattle.js_grammar.specs.Parsing.{plain, full, always, still, passing, Admits, Goes, Reads}
+use Rattle.js_grammar.specs.Parsing.{plain, full, always, still, passing, Admits, Fails, Goes, Reads}
 use Rattle.js_grammar.specs.Productions.{G, Flags, Symbol, tok}
 use Rattle.js_grammar.specs.Table.{rule}
 use Rattle.js_grammar.specs.FirstSets.{first as first_of}
@@ -28,7 +28,7 @@ use Rattle.js_tree.proofs.HoldingLemmas.{HoldsAll-hole, HoldsAll-next, Keeps-ref
 use Rattle.js_cursor.specs.Parsers.{Parser}
 use Rattle.js_cursor.specs.declared.stop.Stop.{Stop}
 use Rattle.js_parsing.specs.Answers.{Underived, Numbered, Stops, clean}
-use Rattle.js_parsing.specs.Arguments.{Partway, ItemTaken, NoItem}
+use Rattle.js_parsing.specs.Arguments.{Partway, PartTaken, behind_item}
 use Rattle.js_parsing.specs.Lexemes.{Lex, nowhere}
 use Rattle.js_parsing.specs.Lists.{NoneLeft, OneMore, ReadsOneMore, ListRead, ListStops}
 use Rattle.js_parsing.specs.Moves.{Moved}
@@ -161,13 +161,13 @@ unfolding words
 comma_plain = refl
 
 abbrev next_kinds : Look
-next_kinds k w e = one_of_kinds (Comma ∷ RParen ∷ RBrack ∷ []) k
+next_kinds k w e = one_of_kinds (Comma ∷ RParen ∷ RBrack ∷ RCurly ∷ []) k
 
 -- ---- one part of a list
 
 -- no item
-module _ {text : List ℕ} {n : Symbol} {b : G} {s : ℕ} (c : covers (starts first_of b full) next_kinds ≡ true) where
-  pub item_fails : NoItem text n s → NoneLeft text (seq (such n always) b) s
+module _ {text : List ℕ} {i b : G} {s : ℕ} (c : covers (starts first_of b full) next_kinds ≡ true) where
+  pub item_fails : Fails rule (Lex text) behind_item end i s → NoneLeft text (seq i b) s
   item_fails m = part_fails m (by_first firsts (by_plain next_kinds) c)
 
 -- none that stands last, which anything may follow
@@ -177,8 +177,8 @@ module _ {text : List ℕ} {n : Symbol} {b : G} {s : ℕ} (c : (ts : Slots) (y :
 
 module _ {text : List ℕ} {f : Flags} {p q : Parser} (a : At text f p) where
   -- an item
-  module _ {n : Symbol} {b : G} (c : covers (starts first_of b full) next_kinds ≡ true) where
-    pub item_more : {ids js : List (Option NodeId)} {id : NodeId} → ItemTaken text f n p q id → js ≡ ids ++ Some id ∷ [] → OneMore text f (seq (such n always) b) b p q ids js
+  module _ {i b : G} (c : covers (starts first_of b full) next_kinds ≡ true) where
+    pub item_more : {ids js : List (Option NodeId)} {id : NodeId} → PartTaken text f i p q id → js ≡ ids ++ Some id ∷ [] → OneMore text f (seq i b) b p q ids js
     item_more {ids} {js} {id} x g = record {
       at = x.at;
       same = x.same;

@@ -1,8 +1,8 @@
-//! What is bound: names and array patterns (ECMA-262, section 14.3.3).
+//! What is bound: names and patterns (ECMA-262, section 14.3.3).
 
 ghost use Rattle.std.specs.Prelude.{◌≡◌, ◌+◌, ◌∷◌, [], true, false, IfOk, MatchResult};
 ghost use Rattle.js_base.specs.Kinds.{one_of_kinds};
-ghost use Rattle.js_base.specs.declared.kind.Kind.TheVariants.{Comma, Dot3, Eq, LBrack, RBrack, Undetermined};
+ghost use Rattle.js_base.specs.declared.kind.Kind.TheVariants.{Comma, Dot3, Eq, LBrack, LCurly, RBrack, Undetermined};
 ghost use Rattle.js_cursor.specs.Places.{goal};
 ghost use Rattle.js_grammar.specs.Marks.{Mark};
 ghost use Rattle.js_grammar.specs.Productions.{at, BElement, Binding, BindingRest};
@@ -15,6 +15,7 @@ ghost use Rattle.js_parsing.specs.Stands.{StandsHere};
 ghost use Rattle.js_parsing.specs.Nesting.{CanNest, room};
 ghost use Rattle.js_parsing.specs.States.{Standing};
 
+use crate::object_pattern::parse_object_pattern;
 use js_base::{Diagnostic, DiagnosticKind, Kind, Span};
 use js_cursor::{ParserImpl, Stop};
 use js_lex::ParserConfig;
@@ -57,6 +58,9 @@ pub fn parse_binding_pattern<C: ParserConfig, N: Nested<C>>(
     if stands(p, Kind::LBrack) {
         return parse_array_pattern(p, nested);
     }
+    if stands(p, Kind::LCurly) {
+        return parse_object_pattern(p, nested);
+    }
     parse_binding_identifier(p)
 }
 
@@ -73,13 +77,17 @@ fn parse_nested_binding<C: ParserConfig, N: Nested<C>>(
     if stands(p, Kind::LBrack) {
         return nested.binding(p);
     }
+    if stands(p, Kind::LCurly) {
+        return nested.binding(p);
+    }
     parse_binding_identifier(p)
 }
 
-/// A BindingIdentifier (ECMA-262, section 13.1), where no array pattern begins.
+/// A BindingIdentifier (ECMA-262, section 13.1), where no pattern begins.
 fn parse_binding_identifier<C: ParserConfig>(p: &mut ParserImpl<'_, C>) -> Result<NodeId, Stop>
     requires at { Standing p.old }
-    requires no_pattern { StandsHere p.old LBrack false }
+    requires no_array { StandsHere p.old LBrack false }
+    requires no_object { StandsHere p.old LCurly false }
     ensures answers { Answers (at Binding) p.old p.new result }
     ensures lexeme { IfOk result (λ _. p.old.token.kind ≡ Undetermined → ⊥) }
 {
@@ -180,7 +188,7 @@ fn parse_element_and_comma<C: ParserConfig, N: Nested<C>>(
 }
 
 /// A BindingElement (ECMA-262, section 14.3.3): what is bound, and an initialiser or none.
-fn parse_binding_element<C: ParserConfig, N: Nested<C>>(
+pub(crate) fn parse_binding_element<C: ParserConfig, N: Nested<C>>(
     p: &mut ParserImpl<'_, C>,
     nested: &N,
 ) -> Result<NodeId, Stop>
@@ -241,14 +249,15 @@ pub(crate) fn parse_binding_rest<C: ParserConfig, N: Nested<C>>(
 }
 
 /// What a rest binds.
-fn parse_rest_argument<C: ParserConfig, N: Nested<C>>(
+pub(crate) fn parse_rest_argument<C: ParserConfig, N: Nested<C>>(
     p: &mut ParserImpl<'_, C>,
     nested: &N,
     place: RestPlace,
 ) -> Result<NodeId, Stop>
     requires at { Standing p.old }
     requires nests { CanNest (N.can nested.now) (room p.old + 1) }
-    ensures { ReadsItem (at Binding) p.old p.new result }
+    ensures answers { ReadsItem (at Binding) p.old p.new result }
+    ensures lexeme { IfOk result (λ _. p.old.token.kind ≡ Undetermined → ⊥) }
 {
     let start = p.cur_start();
     let binding = parse_nested_binding(p, nested)?;

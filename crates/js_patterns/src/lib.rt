@@ -2,4 +2,5 @@
 #![tactic(auto)]
 
 pub mod binding;
+mod object_pattern;
 pub mod parameters;

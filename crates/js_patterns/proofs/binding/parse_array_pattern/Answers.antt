@@ -3,7 +3,7 @@ use Rattle.std.specs.Prelude.{◌∷◌, []}
 use Rattle.std.proofs.lemmas.Result.{err_from_is_err_and}
 use Rattle.js_base.specs.declared.span.Span.{Span}
 use Rattle.js_base.specs.declared.token.Token.{Token}
-use Rattle.js_base.specs.declared.kind.Kind.TheVariants.{LParen, LBrack, LCurly, TemplateHead, TemplateMiddle}
+use Rattle.js_base.specs.declared.kind.Kind.TheVariants.{LParen, LBrack, RBrack, LCurly, TemplateHead, TemplateMiddle}
 use Rattle.js_base.specs.Kinds.{one_of_kinds}
 use Rattle.js_cursor.specs.Moves.{Opened}
 use Rattle.js_patterns.proofs.Bindings.{no_pattern, pattern_answers, pattern_moved, pattern_opened, pattern_unclosed, unclosed_pattern}
@@ -45,13 +45,13 @@ returns-in_err-expect_closing g c = λ text f a.
     let m = c.in_ok-advance.ensures text f a in
     let y = c.in_ok-elements.ensures text f m.at in
     let x = list_goes_on (pattern_opened a c.requires.open.0 m) y in
-    rw (p.1, p.2) (stops_behind _ _ x.same (λ e. after x.verdict e) (λ n. unclosed_pattern a c.requires.open.0 x n) (pattern_unclosed _ _ _ _ x.at c.in_err-expect_closing.ensures (λ n. n)))
+    rw (p.1, p.2) (stops_behind _ _ x.same (λ e. after x.verdict e) (λ n. unclosed_pattern a c.requires.open.0 x n) (pattern_unclosed RBrack _ _ _ _ x.at c.in_err-expect_closing.ensures (λ n. n)))
 
 pub end_span-span-requires : goal.end_span-span-requires
 end_span-span-requires g c =
     let m = c.in_ok-advance.ensures _ _ c.requires.at in
     let x = c.in_ok-elements.ensures _ _ m.at in
-    let d = pattern_moved x.at c.in_ok-expect_closing.ensures in
+    let d = pattern_moved RBrack refl refl x.at c.in_ok-expect_closing.ensures in
     let s = ap (λ (s : Span). s.start) (c.span-opening.ensures ∙ ap (λ (t : Token). t.span) c.cur_token.ensures) in
     let i = m.further in let k = x.forward in let l = x.at.behind in let n = d.further in omega arith
 
@@ -60,4 +60,4 @@ returns g c = λ text f a.
     let m = c.in_ok-advance.ensures text f a in
     let y = c.in_ok-elements.ensures text f m.at in
     let x = list_goes_on (pattern_opened a c.requires.open.0 m) y in
-    pattern_answers a c.requires.open.0 x c.in_ok-expect_closing.ensures.0 (pattern_moved x.at c.in_ok-expect_closing.ensures) _ (c.end_span-span.ensures.start ∙ ap (λ (s : Span). s.start) (c.span-opening.ensures ∙ ap (λ (t : Token). t.span) c.cur_token.ensures)) c.end_span-span.ensures.end c.in_ok-node.ensures
+    pattern_answers a c.requires.open.0 x c.in_ok-expect_closing.ensures.0 (pattern_moved RBrack refl refl x.at c.in_ok-expect_closing.ensures) _ (c.end_span-span.ensures.start ∙ ap (λ (s : Span). s.start) (c.span-opening.ensures ∙ ap (λ (t : Token). t.span) c.cur_token.ensures)) c.end_span-span.ensures.end c.in_ok-node.ensures

@@ -1,10 +1,10 @@
 use Rattle.js_patterns.proofs.Bindings.{name_outcome, no_binding}
-use Rattle.js_parsing.proofs.Unbuilt.{gives_up_unless}
+use Rattle.js_parsing.proofs.Giving.{gives_up_here}
 use Rattle.js_parsing.proofs.NameKinds.{name_so, name_whole}
 use Rattle.js_patterns.proofs.binding.parse_binding_identifier.Goals as goal
 
 pub returns-then-not-name_stands-clause-answers : goal.returns-then-not-name_stands-clause-answers
-returns-then-not-name_stands-clause-answers g c = λ text f a. gives_up_unless _ _ c.set_unexpected.result a c.set_unexpected.ensures (λ u. no_binding a c.requires.no_pattern (name_so c.args.p.now c.if-not-name_stands.true c.name_stands.ensures) u)
+returns-then-not-name_stands-clause-answers g c = λ text f a. gives_up_here _ _ c.set_unexpected.result a c.set_unexpected.ensures (no_binding a c.requires.no_array c.requires.no_object (name_so c.args.p.now c.if-not-name_stands.true c.name_stands.ensures))
 
 pub returns-clause-answers : goal.returns-clause-answers
 returns-clause-answers g c = λ text f a. name_outcome text f _ _ c.parse_leaf.result a (name_so c.args.p.now c.if-not-name_stands.false c.name_stands.ensures) c.parse_leaf.ensures

@@ -1,4 +1,5 @@
 use Rattle.std.proofs.Common.{arith}
+use Rattle.std.specs.Prelude.{Result, Ok, Err, IfOk}
 use Rattle.std.proofs.lemmas.Result.{err_from_is_err_and}
 use Rattle.js_parsing.proofs.Moving.{standing, stops_so}
 use Rattle.js_parsing.proofs.Nesting.{nests_later, later_room}
@@ -6,11 +7,11 @@ use Rattle.js_patterns.proofs.Bindings.{binding_item, no_binding_item}
 use Rattle.js_patterns.proofs.RestInitialisers.{rest_begins}
 use Rattle.js_patterns.proofs.binding.parse_rest_argument.Goals as goal
 
-pub returns-in_err-binding : goal.returns-in_err-binding
-returns-in_err-binding g c = λ text f a. let p = err_from_is_err_and c.from_residual.result c.from_residual.ensures.1 in rw (p.1, p.2) (stops_so _ _ _ (λ n. no_binding_item n) (c.in_err-binding.ensures.answers text f a))
+pub returns-in_err-binding-clause-answers : goal.returns-in_err-binding-clause-answers
+returns-in_err-binding-clause-answers g c = λ text f a. let p = err_from_is_err_and c.from_residual.result c.from_residual.ensures.1 in rw (p.1, p.2) (stops_so _ _ _ (λ n. no_binding_item n) (c.in_err-binding.ensures.answers text f a))
 
-pub returns-then-not-at : goal.returns-then-not-at
-returns-then-not-at g c = λ text f a. binding_item (c.in_ok-binding.ensures.answers text f a)
+pub returns-then-not-at-clause-answers : goal.returns-then-not-at-clause-answers
+returns-then-not-at-clause-answers g c = λ text f a. binding_item (c.in_ok-binding.ensures.answers text f a)
 
 pub parse_rest_initialiser-requires-clause-at : goal.parse_rest_initialiser-requires-clause-at
 parse_rest_initialiser-requires-clause-at g c = standing (c.in_ok-binding.ensures.answers _ _ c.requires.at).answer.at
@@ -29,5 +30,12 @@ parse_rest_initialiser-requires-clause-begins g c =
 pub parse_rest_initialiser-requires-clause-equals : goal.parse_rest_initialiser-requires-clause-equals
 parse_rest_initialiser-requires-clause-equals g c = c.at.ensures.0 c.if-not-at.false
 
-pub returns : goal.returns
-returns g c = λ text f a. c.parse_rest_initialiser.ensures text f _ a c.cur_start-start.ensures (c.in_ok-binding.ensures.answers text f a)
+pub returns-clause-answers : goal.returns-clause-answers
+returns-clause-answers g c = λ text f a. c.parse_rest_initialiser.ensures text f _ a c.cur_start-start.ensures (c.in_ok-binding.ensures.answers text f a)
+
+kept_so : {T E : Type 0} (r : Result T E) {F : Type 0} → F → IfOk r (λ x. F)
+kept_so (Ok x) h = h
+kept_so (Err e) h = tt
+
+pub returns-clause-lexeme : goal.returns-clause-lexeme
+returns-clause-lexeme g c = kept_so c.parse_rest_initialiser.result c.in_ok-binding.ensures.lexeme
