@@ -4,6 +4,7 @@ pub mod DeclarationStatements
 pub mod Labels
 pub mod LetLookaheads
 pub mod LetStatements
+pub mod Returns
 pub mod StatementLists
 pub mod Statements
 pub mod Strings

@@ -21,7 +21,7 @@ use crate::declaration_statement::{
 };
 use crate::word_statement::{
     parse_break_statement, parse_continue_statement, parse_debugger_statement,
-    parse_throw_statement,
+    parse_return_statement, parse_throw_statement,
 };
 use js_base::{Kind, Span, Token};
 use js_cursor::{ParserImpl, Stop};
@@ -89,6 +89,7 @@ fn parse_any_statement<C: ParserConfig, N: Nested<C>>(
         Kind::With => parse_with_statement(p, nested),
         Kind::Break => parse_break_statement(p),
         Kind::Continue => parse_continue_statement(p),
+        Kind::Return => parse_return_statement(p, nested),
         Kind::Throw => parse_throw_statement(p, nested),
         Kind::Debugger => parse_debugger_statement(p),
         Kind::Var => parse_variable_statement(p, nested),
