@@ -1,6 +1,7 @@
 pub mod Blocks
 pub mod CompoundStatements
 pub mod DeclarationStatements
+pub mod FunctionStatements
 pub mod Labels
 pub mod LetLookaheads
 pub mod LetStatements

@@ -541,8 +541,8 @@ pub link_ends : {text : List ℕ} {f : Flags} (p q : Parser) (e : Stop) → At t
 link_ends p q e a v g = gives_up_here p q e a g (inl (and_parts p.token.is_on_new_line _ v).1)
 
 -- none of the kinds that begin a statement alone
-pub no_own_kind : (k : Kind) → (k ≡ LCurly → ⊥) → (k ≡ Semicolon → ⊥) → (k ≡ kind.If → ⊥) → (k ≡ kind.Do → ⊥) → (k ≡ kind.While → ⊥) → (k ≡ kind.With → ⊥) → (k ≡ kind.Break → ⊥) → (k ≡ kind.Continue → ⊥) → (k ≡ kind.Return → ⊥) → (k ≡ kind.Throw → ⊥) → (k ≡ kind.Debugger → ⊥) → (k ≡ kind.Var → ⊥) → (k ≡ kind.Const → ⊥) → one_of_kinds statement_kinds k ≡ false
-no_own_kind k m a b c d e f g r h i j l = rw (not_kind LCurly k m, not_kind Semicolon k a, not_kind kind.If k b, not_kind kind.Do k c, not_kind kind.While k d, not_kind kind.With k e, not_kind kind.Break k f, not_kind kind.Continue k g, not_kind kind.Return k r, not_kind kind.Throw k h, not_kind kind.Debugger k i, not_kind kind.Var k j, not_kind kind.Const k l) refl
+pub no_own_kind : (k : Kind) → (k ≡ LCurly → ⊥) → (k ≡ Semicolon → ⊥) → (k ≡ kind.If → ⊥) → (k ≡ kind.Do → ⊥) → (k ≡ kind.While → ⊥) → (k ≡ kind.With → ⊥) → (k ≡ kind.Break → ⊥) → (k ≡ kind.Continue → ⊥) → (k ≡ kind.Return → ⊥) → (k ≡ kind.Function → ⊥) → (k ≡ kind.Throw → ⊥) → (k ≡ kind.Debugger → ⊥) → (k ≡ kind.Var → ⊥) → (k ≡ kind.Const → ⊥) → one_of_kinds statement_kinds k ≡ false
+no_own_kind k m a b c d e f g r o h i j l = rw (not_kind LCurly k m, not_kind Semicolon k a, not_kind kind.If k b, not_kind kind.Do k c, not_kind kind.While k d, not_kind kind.With k e, not_kind kind.Break k f, not_kind kind.Continue k g, not_kind kind.Return k r, not_kind kind.Function k o, not_kind kind.Throw k h, not_kind kind.Debugger k i, not_kind kind.Var k j, not_kind kind.Const k l) refl
 
 -- the code found no label
 pub no_colon : (p q : Parser) {t : Token} {b : Bool} → t ≡ p.token → IsTrue b ↔ IsLabel t q → b ≡ false → IsLabel p.token q → ⊥
