@@ -1,7 +1,7 @@
 -- Formal parameters (ECMA-262, 15.1): one of them, and their list in parentheses.
 use Rattle.std.proofs.Common.{ℕ, ◌≡◌, List, [], ◌∷◌, ◌++◌, length, Option, Some, None, true, false, ◌||◌, refl, ap, subst, arith}
 use Rattle.js_base.specs.declared.kind.Kind.{Kind}
-use Rattle.js_base.specs.declared.kind.Kind.TheVariants.{LParen, RParen, LBrack, LCurly, RBrack, Comma, Dot3, Eq, PrivateIdentifier}
+use Rattle.js_base.specs.declared.kind.Kind.TheVariants.{LParen, RParen, LBrack, LCurly, RBrack, RCurly, Comma, Dot3, Eq, PrivateIdentifier}
 use Rattle.js_base.specs.declared.span.Span.{Span}
 use Rattle.js_base.specs.Kinds.{same_kind, one_of_kinds}
 use Rattle.js_base.specs.Texts.{words}
@@ -60,7 +60,7 @@ eq_plain = refl
 -- ---- one parameter
 
 abbrev next_kinds : Look
-next_kinds k w e = one_of_kinds (Comma ∷ RParen ∷ RBrack ∷ []) k
+next_kinds k w e = one_of_kinds (Comma ∷ RParen ∷ RBrack ∷ RCurly ∷ []) k
 
 ends_itself : covers next_kinds next_kinds ≡ true
 unfolding covers
