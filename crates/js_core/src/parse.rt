@@ -46,7 +46,23 @@ pub fn parse_goal<C: ParserConfig, N: Nested<C>>(
         Goal::Statement => parse_statement(p, nested),
         Goal::ListItem => parse_statement_list_item(p, nested),
         Goal::Body => parse_function_body(p, nested),
+        Goal::Params => parse_parameters(p, nested),
     }
+}
+
+/// FormalParameters in their parentheses (ECMA-262, section 15.1).
+fn parse_parameters<C: ParserConfig, N: Nested<C>>(
+    p: &mut ParserImpl<'_, C>,
+    nested: &N,
+) -> Result<NodeId, Stop>
+    requires at { Standing p.old }
+    requires nests { CanNest (N.can nested.now) (room p.old) }
+    ensures { Answers (at Params) p.old p.new result }
+{
+    if !p.at(Kind::LParen) {
+        return Err(p.set_unexpected());
+    }
+    parameters::parse_formal_parameters(p, nested)
 }
 
 /// Reads what is asked for, as many levels deeper as that takes.
@@ -98,10 +114,7 @@ pub fn parse_formal_parameters(p: &mut Parser<'_>) -> Result<NodeId, Stop>
     requires { Standing p.old }
     ensures { Answers (at Params) p.old p.new result }
 {
-    if !p.at(Kind::LParen) {
-        return Err(p.set_unexpected());
-    }
-    parameters::parse_formal_parameters(p, &By(parse))
+    parse_parameters(p, &By(parse))
 }
 
 /// The directives and the statements of a text, up to its end (ECMA-262, sections 16.1 and 16.2).

@@ -1,5 +1,6 @@
 pub mod ArgumentLists
 pub mod Arrays
+pub mod Functions
 pub mod Intrinsics
 pub mod Links
 pub mod Marking

@@ -192,7 +192,7 @@ no_function k w e = not (not w && (same_kind Function k && not e))
 
 pub behind_primary : (b : Bool) (l : Label) (cs : Slots) (text : List ℕ) (s : ℕ) (y : Lexeme) → Lex text s y → IsTrue (seen (follow_of Primary b (edge_of l cs)) y || seen beside y)
 unfolding covers
-behind_primary b l cs text s y h = or_left (seen no_function y) (seen beside y) (covered reads no_function refl y.kind y.newline y.escaped h.1)
+behind_primary b l cs text s y h = covered reads (λ k w e. no_function k w e || beside k w e) refl y.kind y.newline y.escaped h.1
 
 -- a node of one lexeme, read so
 pub leaf_answers : {text : List ℕ} {f : Flags} {p q : Parser} {id : NodeId} {nk : NodeKindMade} {no : OpMade} (k : Kind) → same_row after_expression (row_of (plain_label nk no p.token.span) end) ≡ true → Leaf (kind_of nk) (op_of no) k → At text f p → p.token.kind ≡ k → p.token.escaped ≡ false → LeafTaken nk no text f p q id → Numbered text f (at Primary f) p q id
@@ -211,7 +211,7 @@ unary_answers {text} {f} {p} {q} {r} {w} {id} {arg} k o s h u a e n m x b c d =
 
 -- what a PrimaryExpression begins with
 abbrev pub primary_kinds : List Kind
-primary_kinds = This ∷ Null ∷ True ∷ False ∷ Str ∷ LParen ∷ LBrack ∷ LCurly ∷ Percent ∷ number_kinds ++ name_kinds
+primary_kinds = This ∷ Null ∷ True ∷ False ∷ Str ∷ LParen ∷ LBrack ∷ Function ∷ LCurly ∷ Percent ∷ number_kinds ++ name_kinds
 
 pub primary_fails : {text : List ℕ} {f : Flags} {p : Parser} → At text f p → one_of_kinds primary_kinds p.token.kind ≡ false → Underived text (at Primary f) p.prev_token_end
 unfolding rule rule_of covers apart
@@ -233,8 +233,8 @@ neither_list : (ks ls : List Kind) (k : Kind) → one_of_kinds ks k ≡ false �
 neither_list [] ls k h i = i
 neither_list (a ∷ ks) ls k h i = let z = neither (same_kind a k) (one_of_kinds ks k) h in rw (z.0, neither_list ks ls k z.1 i) refl
 
-pub none_of_these : (k : Kind) → one_of_kinds name_kinds k ≡ false → (k ≡ This → ⊥) → (k ≡ Null → ⊥) → (k ≡ True → ⊥) → (k ≡ False → ⊥) → (k ≡ Str → ⊥) → (k ≡ LParen → ⊥) → (k ≡ LBrack → ⊥) → one_of_kinds unbuilt_kinds k ≡ false → (k ≡ Percent → ⊥) → one_of_kinds number_kinds k ≡ false → one_of_kinds primary_kinds k ≡ false
-none_of_these k a b c d e f g j u h n = not_same This k _ b ∙ (not_same Null k _ c ∙ (not_same True k _ d ∙ (not_same False k _ e ∙ (not_same Str k _ f ∙ (not_same LParen k _ g ∙ (not_same LBrack k _ j ∙ (no_brace ∙ (not_same Percent k _ h ∙ neither_list number_kinds name_kinds k n a))))))))
+pub none_of_these : (k : Kind) → one_of_kinds name_kinds k ≡ false → (k ≡ This → ⊥) → (k ≡ Null → ⊥) → (k ≡ True → ⊥) → (k ≡ False → ⊥) → (k ≡ Str → ⊥) → (k ≡ LParen → ⊥) → (k ≡ LBrack → ⊥) → (k ≡ Function → ⊥) → one_of_kinds unbuilt_kinds k ≡ false → (k ≡ Percent → ⊥) → one_of_kinds number_kinds k ≡ false → one_of_kinds primary_kinds k ≡ false
+none_of_these k a b c d e f g j o u h n = not_same This k _ b ∙ (not_same Null k _ c ∙ (not_same True k _ d ∙ (not_same False k _ e ∙ (not_same Str k _ f ∙ (not_same LParen k _ g ∙ (not_same LBrack k _ j ∙ (not_same Function k _ o ∙ (no_brace ∙ (not_same Percent k _ h ∙ neither_list number_kinds name_kinds k n a)))))))))
   where
     no_brace : (same_kind LCurly k || one_of_kinds (Percent ∷ (number_kinds ++ name_kinds)) k) ≡ one_of_kinds (Percent ∷ (number_kinds ++ name_kinds)) k
     no_brace = ap (λ (b : Bool). b || one_of_kinds (Percent ∷ (number_kinds ++ name_kinds)) k) (neither (same_kind LCurly k) false u).0

@@ -3,6 +3,7 @@
 
 pub mod arguments;
 pub mod array;
+pub mod function;
 pub mod left_hand_side;
 pub mod primary;
 pub mod property_name;

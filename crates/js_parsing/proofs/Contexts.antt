@@ -1,8 +1,8 @@
 -- What is read under other parameters, and those from before again.
-use Rattle.std.proofs.Common.{ℕ, ◌≡◌, true, false, List, refl, sym, ap, subst, ◌∙◌}
+use Rattle.std.proofs.Common.{ℕ, ◌≡◌, Bool, true, false, List, refl, sym, ap, subst, ◌∙◌}
 use Rattle.js_base.specs.declared.context.Context.{Context}
 use Rattle.js_base.specs.Contexts.{SetsFlag, in_flag, yield_flag, await_flag, return_flag, new_target_flag}
-use Rattle.js_grammar.specs.Productions.{Flags, Symbol, plus_in}
+use Rattle.js_grammar.specs.Productions.{Flags, Symbol, body_of, minus_in, params_of, plus_in}
 use Rattle.js_tree.specs.declared.id.NodeId.{NodeId}
 use Rattle.js_cursor.specs.Parsers.{Parser}
 use Rattle.js_cursor.specs.Places.{IsAt}
@@ -30,6 +30,13 @@ module _ {text : List ℕ} where
   pub in_at : {f : Flags} {p q : Parser} {c d : Context} → At text f p → d ≡ p.ctx → SetsFlag in_flag true d c → q ≡ record p { ctx = c } → At text (plus_in f) q
   in_at {f} {p} {q} {c} {d} a e s h = subst (At text (plus_in f)) (sym h) (at_under c (with_in a (subst (λ (v : Context). SetsFlag in_flag true v c) e s)) a)
 
+  -- without In
+  without_in : {f : Flags} {p : Parser} {c : Context} → At text f p → SetsFlag in_flag false p.ctx c → flags_of (record p { ctx = c }) ≡ minus_in f
+  without_in {f} {p} {c} a s = rw (s.flag, s.others yield_flag (λ e. cc), s.others await_flag (λ e. cc), s.others return_flag (λ e. cc), s.others new_target_flag (λ e. cc)) (ap minus_in a.flags_are)
+
+  pub no_in_at : {f : Flags} {p q : Parser} {c d : Context} → At text f p → d ≡ p.ctx → SetsFlag in_flag false d c → q ≡ record p { ctx = c } → At text (minus_in f) q
+  no_in_at {f} {p} {q} {c} {d} a e s h = subst (At text (minus_in f)) (sym h) (at_under c (without_in a (subst (λ (v : Context). SetsFlag in_flag false v c) e s)) a)
+
   -- without Yield and Await
   in_arrow : {f : Flags} {p : Parser} {c d : Context} → At text f p → SetsFlag yield_flag false p.ctx c → SetsFlag await_flag false c d → flags_of (record p { ctx = d }) ≡ arrow_body f
   in_arrow {f} {p} {c} {d} a s t = rw (t.others in_flag (λ e. cc), s.others in_flag (λ e. cc), t.others yield_flag (λ e. cc), s.flag, t.flag, t.others return_flag (λ e. cc), s.others return_flag (λ e. cc), t.others new_target_flag (λ e. cc), s.others new_target_flag (λ e. cc)) (ap arrow_body a.flags_are)
@@ -43,6 +50,20 @@ module _ {text : List ℕ} where
 
   pub braces_at : {f : Flags} {p q : Parser} {b c d e g : Context} → At text f p → b ≡ p.ctx → SetsFlag yield_flag false b c → SetsFlag await_flag false c d → SetsFlag in_flag true d e → SetsFlag return_flag true e g → q ≡ record p { ctx = g } → At text (braced_body f) q
   braces_at {f} {p} {q} {b} {c} {d} {e} {g} a i s t u v h = subst (At text (braced_body f)) (sym h) (at_under g (in_braces a (subst (λ (w : Context). SetsFlag yield_flag false w c) i s) t u v) a)
+
+  -- the parameters of a function or a generator
+  in_function : {f : Flags} {p : Parser} {b : Bool} {c d e g : Context} → At text f p → SetsFlag in_flag true p.ctx c → SetsFlag yield_flag b c d → SetsFlag await_flag false d e → SetsFlag new_target_flag true e g → flags_of (record p { ctx = g }) ≡ params_of false b f
+  in_function {f} {p} {b} {c} {d} {e} {g} a s t u v = rw (v.others in_flag (λ e. cc), u.others in_flag (λ e. cc), t.others in_flag (λ e. cc), s.flag, v.others yield_flag (λ e. cc), u.others yield_flag (λ e. cc), t.flag, v.others await_flag (λ e. cc), u.flag, v.others return_flag (λ e. cc), u.others return_flag (λ e. cc), t.others return_flag (λ e. cc), s.others return_flag (λ e. cc), v.flag) (ap (params_of false b) a.flags_are)
+
+  pub parameters_at : {f : Flags} {p q : Parser} {b : Bool} {o c d e g : Context} → At text f p → o ≡ p.ctx → SetsFlag in_flag true o c → SetsFlag yield_flag b c d → SetsFlag await_flag false d e → SetsFlag new_target_flag true e g → q ≡ record p { ctx = g } → At text (params_of false b f) q
+  parameters_at {f} {p} {q} {b} {o} {c} {d} {e} {g} a i s t u v h = subst (At text (params_of false b f)) (sym h) (at_under g (in_function a (subst (λ (w : Context). SetsFlag in_flag true w c) i s) t u v) a)
+
+  -- and its body
+  in_function_body : {f : Flags} {p : Parser} {b : Bool} {c d e g h : Context} → At text f p → SetsFlag in_flag true p.ctx c → SetsFlag yield_flag b c d → SetsFlag await_flag false d e → SetsFlag new_target_flag true e g → SetsFlag return_flag true g h → flags_of (record p { ctx = h }) ≡ body_of false b f
+  in_function_body {f} {p} {b} {c} {d} {e} {g} {h} a s t u v w = rw (w.others in_flag (λ e. cc), v.others in_flag (λ e. cc), u.others in_flag (λ e. cc), t.others in_flag (λ e. cc), s.flag, w.others yield_flag (λ e. cc), v.others yield_flag (λ e. cc), u.others yield_flag (λ e. cc), t.flag, w.others await_flag (λ e. cc), v.others await_flag (λ e. cc), u.flag, w.flag, w.others new_target_flag (λ e. cc), v.flag) (ap (body_of false b) a.flags_are)
+
+  pub function_body_at : {f : Flags} {p q : Parser} {b : Bool} {o c d e g h : Context} → At text f p → o ≡ p.ctx → SetsFlag in_flag true o c → SetsFlag yield_flag b c d → SetsFlag await_flag false d e → SetsFlag new_target_flag true e g → SetsFlag return_flag true g h → q ≡ record p { ctx = h } → At text (body_of false b f) q
+  function_body_at {f} {p} {q} {b} {o} {c} {d} {e} {g} {h} a i s t u v w j = subst (At text (body_of false b f)) (sym j) (at_under h (in_function_body a (subst (λ (x : Context). SetsFlag in_flag true x c) i s) t u v w) a)
 
   -- and back
   out_of : {f g : Flags} {n : Symbol} {p q : Parser} {c : Context} {id : NodeId} → At text f p → Numbered text g n (record p { ctx = c }) q id → Numbered text f n p (record q { ctx = p.ctx }) id

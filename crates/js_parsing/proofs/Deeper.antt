@@ -11,7 +11,7 @@ use Rattle.js_cursor.specs.Places.{IsAt}
 use Rattle.js_cursor.specs.declared.stop.Stop.{Stop}
 use Rattle.js_cursor.proofs.Later.{follows_on}
 use Rattle.js_parsing.specs.declared.nested.Goal.{Goal}
-use Rattle.js_parsing.specs.declared.nested.Goal.TheVariants.{Expression, Assignment, Element, Unary, Exponentiation, Binding, Statement, ListItem, Body}
+use Rattle.js_parsing.specs.declared.nested.Goal.TheVariants.{Expression, Assignment, Element, Unary, Exponentiation, Binding, Statement, ListItem, Body, Params}
 use Rattle.js_parsing.specs.Nesting.{Ready, Reading}
 use Rattle.js_parsing.specs.States.{Standing}
 use Rattle.js_parsing.specs.Statements.{NoStatement}
@@ -28,6 +28,7 @@ ready_at Element r = r
 ready_at Unary r = r
 ready_at Exponentiation r = r
 ready_at Binding r = r
+ready_at Params r = r
 
 pub ready_deeper : {k : ℕ} {p q : Parser} (g : Goal) → Ready g p → Enters k p q → Ready g q
 ready_deeper Statement r i = (standing (deeper r.0 i), ap (λ (q : Parser). has_flag in_flag q.ctx) i.is ∙ r.1)
@@ -39,6 +40,7 @@ ready_deeper Element r i = standing (deeper r i)
 ready_deeper Unary r i = standing (deeper r i)
 ready_deeper Exponentiation r i = standing (deeper r i)
 ready_deeper Binding r i = standing (deeper r i)
+ready_deeper Params r i = standing (deeper r i)
 
 no_deeper : {k : ℕ} {text : List ℕ} {n : Symbol} {p q : Parser} → Enters k p q → NoStatement text n q.prev_token_end → NoStatement text n p.prev_token_end
 no_deeper {text = text} {n = n} i x = subst (λ (s : ℕ). NoStatement text n s) (entered_place i) x
@@ -53,6 +55,7 @@ stops_deeper r e Element i x = λ text f a. stops_in r e a.at i (entered_none {n
 stops_deeper r e Unary i x = λ text f a. stops_in r e a.at i (entered_none {n = at n.Unary f} i) (x text f (deeper a i))
 stops_deeper r e Exponentiation i x = λ text f a. stops_in r e a.at i (entered_none {n = at n.Exponent f} i) (x text f (deeper a i))
 stops_deeper r e Binding i x = λ text f a. stops_in r e a.at i (entered_none {n = at n.Binding f} i) (x text f (deeper a i))
+stops_deeper r e Params i x = λ text f a. stops_in r e a.at i (entered_none {n = at n.Params f} i) (x text f (deeper a i))
 
 -- the state before the level is given back
 pub read_deeper : {k : ℕ} {p e q : Parser} (id : NodeId) (g : Goal) → Ready g p → Enters k p e → Reading g e q (Ok id) → IsAt q × (q.depth ≡ e.depth)
@@ -65,6 +68,7 @@ read_deeper id Element r i x = let y = (x _ _ (deeper r i)).answer in (y.at.at, 
 read_deeper id Unary r i x = let y = (x _ _ (deeper r i)).answer in (y.at.at, y.same.depth)
 read_deeper id Exponentiation r i x = let y = (x _ _ (deeper r i)).answer in (y.at.at, y.same.depth)
 read_deeper id Binding r i x = let y = (x _ _ (deeper r i)).answer in (y.at.at, y.same.depth)
+read_deeper id Params r i x = let y = (x _ _ (deeper r i)).answer in (y.at.at, y.same.depth)
 
 statement_out : {text : List ℕ} {f : Flags} {n : Symbol} {p q : Parser} {id : NodeId} (k j : ℕ) → j ≡ p.depth → IsAt p → TheStatement text f n (record p { depth = k }) q id → TheStatement text f n p (record q { depth = j }) id
 statement_out {q = q} k j e a x = record {
@@ -96,3 +100,4 @@ left_deeper id Element i l x = λ text f a. left a.at i l (x text f (deeper a i)
 left_deeper id Unary i l x = λ text f a. left a.at i l (x text f (deeper a i))
 left_deeper id Exponentiation i l x = λ text f a. left a.at i l (x text f (deeper a i))
 left_deeper id Binding i l x = λ text f a. left a.at i l (x text f (deeper a i))
+left_deeper id Params i l x = λ text f a. left a.at i l (x text f (deeper a i))

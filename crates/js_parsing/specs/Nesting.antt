@@ -2,7 +2,7 @@
 use Rattle.std.specs.Prelude.{ℕ, ◌+◌, ◌-◌, ◌<◌, ◌≡◌, true, length, Result}
 use denote.Ref.{MutBor}
 use Rattle.js_base.specs.Contexts.{has_flag, in_flag}
-use Rattle.js_grammar.specs.Productions.{at, Assignment, Binding, Body, Exponent, Expression, ListItem, Sub, Unary}
+use Rattle.js_grammar.specs.Productions.{at, Assignment, Binding, Body, Exponent, Expression, ListItem, Params, Sub, Unary}
 use Rattle.js_tree.specs.declared.id.NodeId.{NodeId}
 use Rattle.js_cursor.specs.Parsers.{Parser}
 use Rattle.js_cursor.specs.declared.stop.Stop.{Stop}
@@ -23,6 +23,7 @@ Ready goal.Element p = Standing p
 Ready goal.Unary p = Standing p
 Ready goal.Exponentiation p = Standing p
 Ready goal.Binding p = Standing p
+Ready goal.Params p = Standing p
 
 -- what its parse function answers
 abbrev pub Reading : Goal → Parser → Parser → Result NodeId Stop → Type 0
@@ -35,6 +36,7 @@ Reading goal.Element old new r = Answers (at Assignment) old new r
 Reading goal.Unary old new r = Answers (at Unary) old new r
 Reading goal.Exponentiation old new r = Answers (at Exponent) old new r
 Reading goal.Binding old new r = Answers (at Binding) old new r
+Reading goal.Params old new r = Answers (at Params) old new r
 
 -- How many levels of depth it takes: what stands between brackets is read through all levels of operators again; an item of a list of statements, and a body in braces, take two.
 abbrev pub levels_of : Goal → ℕ
@@ -45,6 +47,7 @@ levels_of goal.Assignment = 1
 levels_of goal.Unary = 1
 levels_of goal.Exponentiation = 1
 levels_of goal.Statement = 1
+levels_of goal.Params = 1
 levels_of goal.ListItem = 2
 levels_of goal.Body = 2
 

@@ -1,7 +1,7 @@
-//! What is read under the parameter In, whatever it is around that (ECMA-262, section 5.1.5).
+//! What is read under other parameters than those around it (ECMA-262, section 5.1.5).
 
-ghost use Rattle.std.specs.Prelude.{◌≡◌, ◌+◌};
-ghost use Rattle.js_grammar.specs.Productions.{at, plus_in, Assignment, Body, Expression};
+ghost use Rattle.std.specs.Prelude.{◌≡◌, ◌+◌, false};
+ghost use Rattle.js_grammar.specs.Productions.{at, body_of, params_of, plus_in, Assignment, Body, Expression, Params};
 ghost use Rattle.js_parsing.specs.Answers.{Answers};
 ghost use Rattle.js_parsing.specs.Contexts.{arrow_body, braced_body};
 ghost use Rattle.js_parsing.specs.Nesting.{CanNest, room};
@@ -14,14 +14,14 @@ use js_lex::ParserConfig;
 use js_tree::NodeId;
 
 /// The parameters that are in force.
-fn context<C: ParserConfig>(p: &ParserImpl<'_, C>) -> Context
+pub fn context<C: ParserConfig>(p: &ParserImpl<'_, C>) -> Context
     ensures { result ≡ p.now.ctx }
 {
     p.ctx
 }
 
 /// Puts others in force.
-fn set_context<C: ParserConfig>(p: &mut ParserImpl<'_, C>, ctx: Context)
+pub fn set_context<C: ParserConfig>(p: &mut ParserImpl<'_, C>, ctx: Context)
     ensures { p.new ≡ record p.old { ctx = ctx } }
 {
     p.ctx = ctx;
@@ -92,4 +92,42 @@ pub fn expression_with_in<C: ParserConfig, N: Nested<C>>(
     let expression = nested.expression(p)?;
     set_context(p, outer);
     Ok(expression)
+}
+
+/// The FormalParameters of a function or a generator, one level deeper: under In and NewTarget, without Await, under Yield in a
+/// generator (ECMA-262, sections 15.2 and 15.5).
+pub fn parameters_of_function<C: ParserConfig, N: Nested<C>>(
+    p: &mut ParserImpl<'_, C>,
+    nested: &N,
+    is_generator: bool,
+) -> Result<NodeId, Stop>
+    requires at { Standing p.old }
+    requires nests { CanNest (N.can nested.now) (room p.old + 1) }
+    ensures { Answers (λ f. at Params (params_of false is_generator f)) p.old p.new result }
+{
+    let outer = context(p);
+    let inner = outer.and_in(true).and_yield(is_generator).and_await(false);
+    set_context(p, inner.and_new_target(true));
+    let parameters = nested.parameters(p)?;
+    set_context(p, outer);
+    Ok(parameters)
+}
+
+/// The FunctionBody of a function or a generator, one level deeper: as its parameters, and under Return (ECMA-262, sections 15.2
+/// and 15.5).
+pub fn body_of_function<C: ParserConfig, N: Nested<C>>(
+    p: &mut ParserImpl<'_, C>,
+    nested: &N,
+    is_generator: bool,
+) -> Result<NodeId, Stop>
+    requires at { Standing p.old }
+    requires nests { CanNest (N.can nested.now) (room p.old + 1) }
+    ensures { Answers (λ f. at Body (body_of false is_generator f)) p.old p.new result }
+{
+    let outer = context(p);
+    let inner = outer.and_in(true).and_yield(is_generator).and_await(false);
+    set_context(p, inner.and_new_target(true).and_return(true));
+    let body = nested.body(p)?;
+    set_context(p, outer);
+    Ok(body)
 }

@@ -136,6 +136,8 @@ fn is_read_reserved_word(kind: Kind) -> bool
             | Kind::New
             | Kind::Break
             | Kind::Continue
+            | Kind::Return
+            | Kind::Function
             | Kind::Debugger
             | Kind::Throw
             | Kind::If

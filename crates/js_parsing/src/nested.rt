@@ -1,7 +1,7 @@
 //! What parse functions call where a production nests.
 
 ghost use Rattle.std.specs.Prelude.{◌≡◌};
-ghost use Rattle.js_grammar.specs.Productions.{at, Assignment, Binding, Body, Exponent, Expression, ListItem, Sub, Unary};
+ghost use Rattle.js_grammar.specs.Productions.{at, Assignment, Binding, Body, Exponent, Expression, ListItem, Params, Sub, Unary};
 ghost use Rattle.js_parsing.specs.Answers.{Answers};
 ghost use Rattle.js_parsing.specs.Nesting.{Reads, levels_of};
 ghost use Rattle.js_parsing.specs.Statements.{TakesStatement};
@@ -31,6 +31,8 @@ pub enum Goal {
     ListItem,
     /// A FunctionBody in its braces.
     Body,
+    /// FormalParameters in their parentheses.
+    Params,
 }
 
 impl Goal {
@@ -42,7 +44,11 @@ impl Goal {
         match self {
             Goal::Expression | Goal::Element | Goal::Binding => 4,
             Goal::ListItem | Goal::Body => 2,
-            Goal::Assignment | Goal::Unary | Goal::Exponentiation | Goal::Statement => 1,
+            Goal::Assignment
+            | Goal::Unary
+            | Goal::Exponentiation
+            | Goal::Statement
+            | Goal::Params => 1,
         }
     }
 }
@@ -99,6 +105,11 @@ pub trait Nested<C: ParserConfig> {
     fn body(&self, p: &mut ParserImpl<'_, C>) -> Result<NodeId, Stop>
         requires { can self.now p.old Goal.Body }
         ensures { Answers (at Body) p.old p.new result };
+
+    /// FormalParameters in their parentheses (ECMA-262, section 15.1).
+    fn parameters(&self, p: &mut ParserImpl<'_, C>) -> Result<NodeId, Stop>
+        requires { can self.now p.old Goal.Params }
+        ensures { Answers (at Params) p.old p.new result };
 }
 
 /// A function that reads whatever is asked for. It is one over the config that is told when the program runs: a bound on
@@ -154,5 +165,10 @@ impl<F: Fn(&mut ParserImpl<'_, RuntimeParserConfig>, Goal) -> Result<NodeId, Sto
     #[inline(always)]
     fn body(&self, p: &mut ParserImpl<'_, RuntimeParserConfig>) -> Result<NodeId, Stop> {
         (self.0)(p, Goal::Body)
+    }
+
+    #[inline(always)]
+    fn parameters(&self, p: &mut ParserImpl<'_, RuntimeParserConfig>) -> Result<NodeId, Stop> {
+        (self.0)(p, Goal::Params)
     }
 }

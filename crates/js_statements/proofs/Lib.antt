@@ -1,9 +1,11 @@
 pub mod Blocks
 pub mod CompoundStatements
 pub mod DeclarationStatements
+pub mod FunctionStatements
 pub mod Labels
 pub mod LetLookaheads
 pub mod LetStatements
+pub mod Returns
 pub mod StatementLists
 pub mod Statements
 pub mod Strings

@@ -3,7 +3,7 @@
 ghost use Rattle.std.specs.Prelude.{◌≡◌, ◌≤◌, ◌&&◌, ◌↔◌, IsTrue, true, false, MatchResult};
 ghost use Rattle.js_base.specs.Kinds.{one_of_kinds};
 ghost use Rattle.js_base.specs.Contexts.{has_flag, in_flag};
-ghost use Rattle.js_base.specs.declared.kind.Kind.TheVariants.{Colon, Const, Semicolon};
+ghost use Rattle.js_base.specs.declared.kind.Kind.TheVariants.{Colon, Const, Function, Semicolon};
 ghost use Rattle.js_grammar.specs.Productions.{at, ListItem, Sub};
 ghost use Rattle.js_parsing.specs.Answers.{Stops};
 ghost use Rattle.js_parsing.specs.Nesting.{CanNest, room};
@@ -19,21 +19,22 @@ use crate::compound_statement::{
 use crate::declaration_statement::{
     lexical_kind, parse_lexical_body, parse_lexical_declaration, parse_variable_statement,
 };
+use crate::function_statement::{parse_function_as_body, parse_function_declaration};
 use crate::word_statement::{
     parse_break_statement, parse_continue_statement, parse_debugger_statement,
-    parse_throw_statement,
+    parse_return_statement, parse_throw_statement,
 };
 use js_base::{Kind, Span, Token};
 use js_cursor::{ParserImpl, Stop};
 use js_expressions::sequence::parse_sequence_expression;
 use js_lex::ParserConfig;
 use js_operands::primary::parse_leaf;
-use js_parsing::lexemes::{advance, is_name};
+use js_parsing::lexemes::{advance, is_name, stands};
 use js_parsing::nested::Nested;
 use js_parsing::nodes::{make_leaf, make_one, make_two};
 use js_tree::{NodeId, NodeKind, Op};
 
-/// A StatementListItem (ECMA-262, section 14.2), as far as it is a Statement or a LexicalDeclaration.
+/// A StatementListItem (ECMA-262, section 14.2): a Statement, a declaration of a function, or a LexicalDeclaration.
 pub fn parse_statement_list_item<C: ParserConfig, N: Nested<C>>(
     p: &mut ParserImpl<'_, C>,
     nested: &N,
@@ -45,6 +46,9 @@ pub fn parse_statement_list_item<C: ParserConfig, N: Nested<C>>(
 {
     if let Some(kind) = lexical_kind(p, true)? {
         return parse_lexical_declaration(p, nested, kind);
+    }
+    if stands(p, Kind::Function) {
+        return parse_function_declaration(p, nested);
     }
     parse_any_statement(p, nested)
 }
@@ -62,6 +66,9 @@ pub fn parse_statement<C: ParserConfig, N: Nested<C>>(
     if let Some(kind) = lexical_kind(p, false)? {
         return parse_lexical_body(p, nested, kind);
     }
+    if stands(p, Kind::Function) {
+        return parse_function_as_body(p, nested);
+    }
     parse_any_statement(p, nested)
 }
 
@@ -75,6 +82,7 @@ fn parse_any_statement<C: ParserConfig, N: Nested<C>>(
     requires nests { CanNest (N.can nested.now) (room p.old) }
     requires allows_in { has_flag in_flag p.old.ctx ≡ true }
     requires other { StandsHere p.old Const false }
+    requires no_function { StandsHere p.old Function false }
     ensures { TakesUndeclared p.old p.new result }
 {
     if p.cur_token().escaped() {
@@ -89,6 +97,7 @@ fn parse_any_statement<C: ParserConfig, N: Nested<C>>(
         Kind::With => parse_with_statement(p, nested),
         Kind::Break => parse_break_statement(p),
         Kind::Continue => parse_continue_statement(p),
+        Kind::Return => parse_return_statement(p, nested),
         Kind::Throw => parse_throw_statement(p, nested),
         Kind::Debugger => parse_debugger_statement(p),
         Kind::Var => parse_variable_statement(p, nested),

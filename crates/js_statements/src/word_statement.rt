@@ -1,16 +1,16 @@
-//! Statements that begin with a word and end with a semicolon: `break`, `continue`, `throw` and `debugger` (ECMA-262, sections
-//! 14.8, 14.9, 14.14 and 14.16).
+//! Statements that begin with a word and end with a semicolon: `break`, `continue`, `return`, `throw` and `debugger` (ECMA-262,
+//! sections 14.8, 14.9, 14.10, 14.14 and 14.16).
 
 ghost use Rattle.std.specs.Prelude.{◌≡◌, true, IfOk};
 ghost use Rattle.js_base.specs.Contexts.{has_flag, in_flag};
-ghost use Rattle.js_base.specs.declared.kind.Kind.TheVariants.{Break, Continue, Debugger, Throw};
+ghost use Rattle.js_base.specs.declared.kind.Kind.TheVariants.{Break, Continue, Debugger, Return, Throw};
 ghost use Rattle.js_grammar.specs.Marks.{Mark};
 ghost use Rattle.js_cursor.specs.Places.{IsAt, goal};
 ghost use Rattle.js_parsing.specs.Stands.{StandsHere};
 ghost use Rattle.js_parsing.specs.Nesting.{CanNest, room};
 ghost use Rattle.js_parsing.specs.States.{Standing};
 ghost use Rattle.js_parsing.specs.Statements.{TakesAnywhere};
-ghost use Rattle.js_statements.specs.WordStatements.{ChecksOperand, JumpsHere, TakesLabel, late_operand};
+ghost use Rattle.js_statements.specs.WordStatements.{ChecksOperand, ChecksReturn, JumpsHere, TakesArgument, TakesLabel, late_operand, stray_return};
 
 use crate::statement::end_statement;
 use js_base::{DiagnosticKind, Kind, NoMemory, Span};
@@ -118,6 +118,56 @@ fn check_operand<C: ParserConfig>(p: &mut ParserImpl<'_, C>, word: Span) -> Resu
 {
     if p.cur_token().is_on_new_line() {
         p.error(diagnostic_at(DiagnosticKind::IllegalNewline, word))?;
+    }
+    Ok(())
+}
+
+/// A ReturnStatement (ECMA-262, section 14.10). One that stands in no function's body is told, and reading goes on.
+#[inline(never)]
+pub fn parse_return_statement<C: ParserConfig, N: Nested<C>>(
+    p: &mut ParserImpl<'_, C>,
+    nested: &N,
+) -> Result<NodeId, Stop>
+    requires at { Standing p.old }
+    requires nests { CanNest (N.can nested.now) (room p.old) }
+    requires allows_in { has_flag in_flag p.old.ctx ≡ true }
+    requires word { StandsHere p.old Return true }
+    ensures { TakesAnywhere p.old p.new result }
+{
+    let word = p.cur_token().span();
+    advance(p)?;
+    let argument = parse_optional_argument(p, nested)?;
+    end_statement(p)?;
+    check_return(p, word)?;
+    let span = p.end_span(word.start);
+    let node = make_optional(p, NodeKind::ReturnStatement, span, argument)?;
+    Ok(node)
+}
+
+/// An Expression, or none where the statement may end.
+fn parse_optional_argument<C: ParserConfig, N: Nested<C>>(
+    p: &mut ParserImpl<'_, C>,
+    nested: &N,
+) -> Result<Option<NodeId>, Stop>
+    requires at { Standing p.old }
+    requires nests { CanNest (N.can nested.now) (room p.old) }
+    ensures { TakesArgument p.old p.new result }
+{
+    if p.can_insert_semicolon() {
+        return Ok(None);
+    }
+    let argument = parse_sequence_expression(p, nested)?;
+    Ok(Some(argument))
+}
+
+/// Tells of a `return` in no function's body, which stood at a span.
+fn check_return<C: ParserConfig>(p: &mut ParserImpl<'_, C>, word: Span) -> Result<(), NoMemory>
+    requires at { IsAt p.old }
+    requires mark { Mark (goal p.old) p.old.text (stray_return word) }
+    ensures { IfOk result (λ _. ChecksReturn word p.old p.new) }
+{
+    if !p.ctx.has_return() {
+        p.error(diagnostic_at(DiagnosticKind::ReturnStatementOnlyInFunctionBody, word))?;
     }
     Ok(())
 }

@@ -27,6 +27,9 @@ parse_break_statement-requires-clause-word g c = (sym c.cur_kind.ensures ∙ c.i
 pub parse_continue_statement-requires-clause-word : goal.parse_continue_statement-requires-clause-word
 parse_continue_statement-requires-clause-word g c = (sym c.cur_kind.ensures ∙ c.in-Continue.is, (let e : c.args.p.now.token.escaped ≡ false = search in e))
 
+pub parse_return_statement-requires-clause-word : goal.parse_return_statement-requires-clause-word
+parse_return_statement-requires-clause-word g c = (sym c.cur_kind.ensures ∙ c.in-Return.is, (let e : c.args.p.now.token.escaped ≡ false = search in e))
+
 pub parse_throw_statement-requires-clause-word : goal.parse_throw_statement-requires-clause-word
 parse_throw_statement-requires-clause-word g c = (sym c.cur_kind.ensures ∙ c.in-Throw.is, (let e : c.args.p.now.token.escaped ≡ false = search in e))
 
@@ -37,7 +40,7 @@ pub parse_variable_statement-requires-clause-word : goal.parse_variable_statemen
 parse_variable_statement-requires-clause-word g c = (sym c.cur_kind.ensures ∙ c.in-Var.is, (let e : c.args.p.now.token.escaped ≡ false = search in e))
 
 pub parse_expression_or_labeled_statement-requires-clause-other : goal.parse_expression_or_labeled_statement-requires-clause-other
-parse_expression_or_labeled_statement-requires-clause-other g c = no_own_kind _ (λ e. c.in_default.not-LCurly (c.cur_kind.ensures ∙ e)) (λ e. c.in_default.not-Semicolon (c.cur_kind.ensures ∙ e)) (λ e. c.in_default.not-If (c.cur_kind.ensures ∙ e)) (λ e. c.in_default.not-Do (c.cur_kind.ensures ∙ e)) (λ e. c.in_default.not-While (c.cur_kind.ensures ∙ e)) (λ e. c.in_default.not-With (c.cur_kind.ensures ∙ e)) (λ e. c.in_default.not-Break (c.cur_kind.ensures ∙ e)) (λ e. c.in_default.not-Continue (c.cur_kind.ensures ∙ e)) (λ e. c.in_default.not-Throw (c.cur_kind.ensures ∙ e)) (λ e. c.in_default.not-Debugger (c.cur_kind.ensures ∙ e)) (λ e. c.in_default.not-Var (c.cur_kind.ensures ∙ e)) (λ e. c.requires.other e (let e : c.args.p.now.token.escaped ≡ false = search in e))
+parse_expression_or_labeled_statement-requires-clause-other g c = no_own_kind _ (λ e. c.in_default.not-LCurly (c.cur_kind.ensures ∙ e)) (λ e. c.in_default.not-Semicolon (c.cur_kind.ensures ∙ e)) (λ e. c.in_default.not-If (c.cur_kind.ensures ∙ e)) (λ e. c.in_default.not-Do (c.cur_kind.ensures ∙ e)) (λ e. c.in_default.not-While (c.cur_kind.ensures ∙ e)) (λ e. c.in_default.not-With (c.cur_kind.ensures ∙ e)) (λ e. c.in_default.not-Break (c.cur_kind.ensures ∙ e)) (λ e. c.in_default.not-Continue (c.cur_kind.ensures ∙ e)) (λ e. c.in_default.not-Return (c.cur_kind.ensures ∙ e)) (λ e. c.requires.no_function e (let e : c.args.p.now.token.escaped ≡ false = search in e)) (λ e. c.in_default.not-Throw (c.cur_kind.ensures ∙ e)) (λ e. c.in_default.not-Debugger (c.cur_kind.ensures ∙ e)) (λ e. c.in_default.not-Var (c.cur_kind.ensures ∙ e)) (λ e. c.requires.other e (let e : c.args.p.now.token.escaped ≡ false = search in e))
 
 pub returns-in-If : goal.returns-in-If
 returns-in-If g c = λ b u. c.parse_if_statement.ensures b
@@ -56,6 +59,9 @@ returns-in-Break g c = λ b u. c.parse_break_statement.ensures b
 
 pub returns-in-Continue : goal.returns-in-Continue
 returns-in-Continue g c = λ b u. c.parse_continue_statement.ensures b
+
+pub returns-in-Return : goal.returns-in-Return
+returns-in-Return g c = λ b u. c.parse_return_statement.ensures b
 
 pub returns-in-Throw : goal.returns-in-Throw
 returns-in-Throw g c = λ b u. c.parse_throw_statement.ensures b

@@ -1,0 +1,320 @@
+-- Functions and generators (ECMA-262, 15.2, 15.5), part by part.
+use Rattle.std.proofs.Common.{ℕ, ◌≡◌, ◌+◌, ◌<◌, ◌≤◌, max, List, [], ◌∷◌, ◌++◌, length, Option, Some, None, Bool, true, false, not, ◌&&◌, ◌||◌, IsTrue, refl, sym, ap, subst, arith, ◌∙◌}
+use Rattle.std.specs.Prelude.{Ok, Err}
+use Rattle.std.proofs.lemmas.Bool.{false≢true, or_left}
+use Rattle.js_base.specs.declared.diagnostic.Diagnostic.{Diagnostic}
+use Rattle.js_base.specs.declared.kind.Kind.{Kind}
+use Rattle.js_base.specs.declared.kind.Kind.TheVariants.{Function, LParen, PrivateIdentifier, RAngle, Star}
+use Rattle.js_base.specs.declared.source_type.SourceType.{SourceType}
+use Rattle.js_base.specs.declared.span.Span.{Span}
+use Rattle.js_base.specs.Kinds.{same_kind, one_of_kinds}
+use Rattle.js_base.specs.Texts.{words}
+use Rattle.js_grammar.specs.Lexemes.{is_word}
+use Rattle.js_grammar.specs.Trees.{Slots, end, hole, tree, append, Label, no_op, binding_identifier, function_expression}
+use Rattle.js_grammar.specs.Grammar.{Lexeme, Look, here, seen, empty_slot, nothing, such, ◌▸◌, ◌◇◌}
+use Rattle.js_grammar.specs.Lexed.{Lex as StandsBehind, all_faults}
+use Rattle.js_grammar.specs.Marks.{Mark, a_lexeme, the_start, the_end}
+use Rattle.js_grammar.specs.Parsing.{Test, plain, full, always, still, joined, Goes, Fails}
+use Rattle.js_grammar.specs.Productions.{G, Flags, Symbol, at, async_flag, flag, generator_flag, only, slot, tok, params_of, body_of, BindingIdentifier, Body, FuncExpr, Params, Primary}
+use Rattle.js_grammar.specs.Productions.{sym as symbol}
+use Rattle.js_grammar.specs.Table.{rule, rule_of}
+use Rattle.js_grammar.specs.Follow.{after, surest}
+use Rattle.js_grammar.proofs.Frame.{append_assoc}
+use Rattle.js_grammar.proofs.Looks.{covers, covered, apart}
+use Rattle.js_grammar.proofs.Calculus.{Between, Sure, inside_full, ◌▹◌, ◌▹✗◌, done, left, right, part_by, part_fails, then_by, reads_empty_slot, fails_alt, fails_node, fails_rule, weaken_fails_on}
+use Rattle.js_grammar.proofs.FirstClaims.{firsts}
+use Rattle.js_grammar.proofs.FirstRules.{by_first, fails_here}
+use Rattle.js_grammar.proofs.FollowLaws.{fails_by, surely}
+use Rattle.js_tree.specs.declared.id.NodeId.{NodeId}
+use Rattle.js_tree.specs.declared.kind.NodeKind.TheVariants as node
+use Rattle.js_tree.specs.declared.op.Op.TheVariants as op
+use Rattle.js_tree.specs.Nodes.{Node}
+use Rattle.js_tree.specs.Holding.{Holds, HoldsAll, Keeps}
+use Rattle.js_tree.proofs.HoldingLemmas.{HoldsAll-hole, HoldsAll-next, HoldsAll-none, Keeps-refl, Keeps-trans, Keeps-made}
+use Rattle.js_lex.specs.States.{goal_of}
+use Rattle.js_cursor.specs.Moves.{Eats, GivesUp, IsKind, IsUnexpected, Keeps as KeepsOne, OnlyMemory, is_last}
+use Rattle.js_cursor.specs.Parsers.{Parser}
+use Rattle.js_cursor.specs.Places.{goal}
+use Rattle.js_cursor.specs.declared.stop.Stop.{Stop}
+use Rattle.js_cursor.specs.declared.stop.Stop.TheVariants.{Fatal, NoMemory}
+use Rattle.js_parsing.specs.Answers.{Answer, Grown, Numbered, Outcome, Stops, Stretch, Underived, Verdict, unclean}
+use Rattle.js_parsing.specs.Arguments.{Partway}
+use Rattle.js_parsing.specs.Lexemes.{Lex, name_kinds, spot}
+use Rattle.js_parsing.specs.Moves.{LeafTaken, Moved, MadeHere, plain_label, unpassable}
+use Rattle.js_parsing.specs.Nesting.{room}
+use Rattle.js_parsing.specs.Stands.{NameHere, StandsHere}
+use Rattle.js_parsing.specs.States.{At, Same}
+use Rattle.js_operands.specs.declared.function.FunctionForm.{FunctionForm}
+use Rattle.js_operands.specs.declared.function.FunctionForm.TheVariants.{Declaration, Expression}
+use Rattle.js_operands.specs.declared.function.FunctionParts.{FunctionParts}
+use Rattle.js_operands.specs.Functions.{HeadRead, NoFunction, PartsTaken, TakesName, TakesParts, behind_star, function_kind, function_line, function_slots, name_part, nameless}
+use Rattle.js_parsing.proofs.Giving.{fails_escaped, gives_up_here, kept_one}
+use Rattle.js_parsing.proofs.Here.{found, uncut}
+use Rattle.js_parsing.proofs.MadeNodes.{leaf_held, node_held, one_lies}
+use Rattle.js_parsing.proofs.Moving.{moves, same_both, same_itself, stops_behind}
+use Rattle.js_parsing.proofs.NameKinds.{name_apart, name_passes, name_read, name_test, no_name_here}
+use Rattle.js_parsing.proofs.Parts.{part_called, part_from, part_goes, part_path, part_path_fails, part_sign, parts}
+use Rattle.js_parsing.proofs.Paths.{Path, ◌⟼◌, at_kind, fails_at, flagged_by, flagged_here, last_called, by_symbol_as, label_here, noded, not_here, read_of, walked_to}
+use Rattle.js_parsing.proofs.Signs.{other_kind, plain_sign, whole_sign}
+use Rattle.js_parsing.proofs.Told.{told_at, told_same}
+use Rattle.js_parsing.proofs.Verdicts.{after as grown_behind, grown_then, verdict_of}
+use Rattle.js_operands.proofs.Operands.{behind_primary, by_path, by_such, one_path, plain_leaf}
+
+star_plain : (is_word Star || same_kind PrivateIdentifier Star) ≡ false
+unfolding words
+star_plain = refl
+
+-- ---- parts with an empty slot, and the last part
+
+module _ {text : List ℕ} {f : Flags} {g g' : G} {p q : Parser} {ids js : List (Option NodeId)} (x : Partway text f g g' p q ids js) where
+  -- an empty slot more, in a state that differs in what was told
+  hole_behind : {g'' : G} {t : Parser} → At text f t → Same q t → t.prev_token_end ≡ q.prev_token_end → spot t ≡ spot q → t.nodes ≡ q.nodes → Verdict p.errors t.errors (Stretch text (plain full) g p.prev_token_end g'' t.prev_token_end (λ us. x.slots (hole us)) x.pass) (Fails rule (Lex text) (plain full) end g p.prev_token_end) → Partway text f g g'' p t ids (js ++ None ∷ [])
+  hole_behind {t = t} a s e o n v = record {
+    at = a;
+    same = same_both x.same s;
+    further = subst (λ (u : ℕ). p.token.span.start < u) (sym e) x.further;
+    slots = λ us. x.slots (hole us);
+    puts = λ us. x.puts (hole us) ∙ (sym (append_assoc (x.slots end) (hole end) us) ∙ ap (λ (vs : Slots). append vs us) (sym (x.puts (hole end))));
+    pass = x.pass;
+    walked = walked_to (sym o) x.walked;
+    verdict = v;
+    holds = λ lo us h. subst (λ (ns : List Node). HoldsAll ns lo (length ns) (js ++ None ∷ []) (append us (x.slots (hole end)))) (sym n) (subst (λ (vs : Slots). HoldsAll q.nodes lo (length q.nodes) (js ++ None ∷ []) vs) (append_assoc us (x.slots end) (hole end) ∙ ap (λ (vs : Slots). append us vs) (sym (x.puts (hole end)))) (HoldsAll-hole (x.holds lo us h)));
+    keeps = subst (λ (ns : List Node). Keeps p.nodes ns) (sym n) x.keeps;
+  }
+
+  part_hole : {g'' : G} → Goes rule (Lex text) (plain full) end g' q.prev_token_end g'' q.prev_token_end hole (still 0) → Partway text f g g'' p q ids (js ++ None ∷ [])
+  part_hole c = hole_behind x.at same_itself refl refl refl (verdict_of x.verdict (λ y. record { reach = max y.reach 0; near = let i = y.near in omega arith; goes = y.goes ▹ c }) (λ n. n))
+
+-- the last one that was called
+last_part : {text : List ℕ} {f : Flags} {n : Symbol} {p q : Parser} {id : NodeId} (ids : List (Option NodeId)) (x : Numbered text f n p q id) → covers full (surest n.name) ≡ true → Partway text f (such n always) nothing p q ids (ids ++ Some id ∷ [])
+last_part {n = n} {id = id} ids x c =
+    let y = last_called {X = plain full} x.answer (record { admits = λ ts vs k ls rest d e. (surely n).admits ts (here rest) (covered full (surest n.name) c (here rest).kind (here rest).newline (here rest).escaped refl) }) in
+    record {
+      at = x.answer.at;
+      same = x.answer.same;
+      further = x.answer.further;
+      slots = tree x.answer.label x.answer.slots;
+      puts = λ us. refl;
+      pass = y.pass;
+      walked = y.walked;
+      verdict = y.verdict;
+      holds = λ lo us h. HoldsAll-next id x.keeps h x.holds;
+      keeps = x.keeps;
+    }
+
+-- ---- the name
+
+-- a name that is bound, under any parameters
+name_numbered : {text : List ℕ} {f g : Flags} {p q : Parser} {id : NodeId} → At text f p → NameHere p true → LeafTaken node.BindingIdentifier op.None text f p q id → Numbered text f (at BindingIdentifier g) p q id
+unfolding rule rule_of
+name_numbered {text} {f} {g} {p} {q} {id} a h t =
+    let l : plain_label node.BindingIdentifier op.None p.token.span ≡ label_here binding_identifier no_op p t.mid = ap (λ (v : ℕ). record { kind = binding_identifier; op = no_op; flags = 0; span = record { from = p.token.span.start; to = v } }) (t.moved.tells.end ∙ t.moved.ends) in
+    let ks : Keeps p.nodes t.mid.nodes = subst (λ (ns : List Node). Keeps p.nodes ns) (sym t.moved.nodes) (Keeps-refl p.nodes) in
+    let y : Path text f (after (at BindingIdentifier g)) (rule (at BindingIdentifier g)) p nothing t.mid (tree (label_here binding_identifier no_op p t.mid) end) = noded a (one_path (name_test g) a t.moved (plain_leaf p.token.kind refl h.1 (name_read p.token.kind h.0) t.moved) (name_passes g t.moved.lexeme (subst (λ (k : Kind). one_of_kinds name_kinds k ≡ true) t.moved.tells.kind h.0))) in
+    by_path (subst (λ (v : Label). Path text f (after (at BindingIdentifier g)) (rule (at BindingIdentifier g)) p nothing t.mid (tree v end)) (sym l) y) t.moved.same t.made.stays (λ y i. refl) refl (leaf_held t.made ks) (Keeps-trans ks (Keeps-made t.made.made)) (ap (λ (v : Label). v.span) l) (one_lies t.made)
+
+abbrev rest_of : Bool → Flags → G
+rest_of s f = symbol Params (params_of false s f) ▸ symbol Body (body_of false s f)
+
+abbrev opens : Look
+opens k w e = same_kind LParen k
+
+opens_surely : Sure opens (plain opens)
+opens_surely = record { admits = λ ts y h. (h, refl) }
+
+any_between : {a b : G} {s : ℕ} → Between rule (plain full) (plain full) end a b s
+any_between = record { admits = λ ts us vs j k ls mid rest d e h. (refl, refl) }
+
+module _ {text : List ℕ} {f : Flags} {r : Parser} (b : At text f r) where
+  -- where no name stands
+  no_name_part : {X : Test} (g : Flags) → NameHere r false → Fails rule (Lex text) X end (symbol BindingIdentifier g) r.prev_token_end
+  unfolding covers apart
+  no_name_part {X} g n = by r.token.escaped refl
+    where
+      by : (c : Bool) → r.token.escaped ≡ c → Fails rule (Lex text) X end (symbol BindingIdentifier g) r.prev_token_end
+      by true e = fails_escaped b e
+      by false e = fails_at b (symbol BindingIdentifier g) name_kinds refl (no_name_here r n e)
+
+  no_parenthesis : NameHere r true → one_of_kinds (LParen ∷ []) r.token.kind ≡ false
+  unfolding apart
+  no_parenthesis h = name_apart (LParen ∷ []) refl r.token.kind h.0
+
+  -- a slot with a name, and an empty one
+  choose_name : (s : Bool) → NameHere r true → Goes rule (Lex text) (plain full) end (slot (symbol BindingIdentifier (params_of false s f)) ▸ rest_of s f) r.prev_token_end (symbol BindingIdentifier (params_of false s f) ▸ rest_of s f) r.prev_token_end (λ us. us) (still 0)
+  unfolding covers apart
+  choose_name s h = part_by {X' = plain opens} (left (fails_here firsts {X = plain opens} (λ y l t. not_here b (LParen ∷ []) refl (no_parenthesis h) y l (or_left (same_kind LParen y.kind) false t)))) (by_first firsts opens_surely refl)
+
+  choose_hole : (s : Bool) → NameHere r false → Goes rule (Lex text) (plain full) end (slot (symbol BindingIdentifier (params_of false s f)) ▸ rest_of s f) r.prev_token_end (rest_of s f) r.prev_token_end hole (still 0)
+  choose_hole s n = part_by {X' = plain full} (right (no_name_part (params_of false s f) n)) any_between ▹ then_by {X' = plain full} reads_empty_slot any_between
+
+-- ---- a function
+
+module _ {text : List ℕ} {f : Flags} {p q : Parser} (form : FunctionForm) (a : At text f p) (h : StandsHere p Function true) (m : Moved text f p q) where
+  begun : (s : Bool) → Partway text f (function_slots form s f) (only s (tok Star) ▸ behind_star form s f) p q [] []
+  begun s = part_from done (part_sign Function a h.0 h.1 refl m)
+
+  -- ---- the star
+
+  starred : (s : Bool) (r : Parser) → Eats Star q r s → Partway text f (function_slots form s f) (behind_star form s f) p r [] []
+  starred true r (k, v) = parts (begun true) (part_sign Star m.at k.0 k.1 refl (moves (whole_sign Star m.at k.0 refl refl) v m.at))
+  starred false r (n, e) = subst (λ (v : Parser). Partway text f (function_slots form false f) (behind_star form false f) p v [] []) (sym e) (part_goes (begun false) done)
+
+  no_star_part : q.token.kind ≡ Star → (form : FunctionForm) → Fails rule (Lex text) (plain full) end (behind_star form false f) q.prev_token_end
+  unfolding covers apart
+  no_star_part k Declaration = fails_at m.at (behind_star Declaration false f) (LParen ∷ name_kinds) refl (ap (one_of_kinds (LParen ∷ name_kinds)) k)
+  no_star_part k Expression = fails_at m.at (behind_star Expression false f) (LParen ∷ name_kinds) refl (ap (one_of_kinds (LParen ∷ name_kinds)) k)
+
+  -- so the line without it, or with it, isn't derived
+  other_line : (s : Bool) (r : Parser) → Eats Star q r s → Fails rule (Lex text) (plain full) end (function_line form (not s) f) p.prev_token_end
+  unfolding covers apart
+  other_line true r (k, v) = fails_node inside_full (part_path_fails (begun false) (done ▹✗ no_star_part k.0 form))
+  other_line false r (n, e) = fails_node inside_full (part_path_fails (begun true) (fails_at m.at (tok Star ▸ behind_star form true f) (Star ∷ []) refl (other_kind Star q.token.kind (λ k. n (k, plain_sign Star m.at k refl refl star_plain)))))
+
+  module _ (s : Bool) (r : Parser) (c : Eats Star q r s) where
+    neither : Fails rule (Lex text) (plain full) end (behind_star form s f) r.prev_token_end → NoFunction text form f p.prev_token_end
+    neither n = both s (fails_node inside_full (part_path_fails (starred s r c) n)) (other_line s r c)
+      where
+        both : (s : Bool) → Fails rule (Lex text) (plain full) end (function_line form s f) p.prev_token_end → Fails rule (Lex text) (plain full) end (function_line form (not s) f) p.prev_token_end → NoFunction text form f p.prev_token_end
+        both true x y true = x
+        both true x y false = y
+        both false x y true = y
+        both false x y false = x
+
+    pub star_at : At text f r
+    star_at = (starred s r c).at
+
+-- ---- the name
+
+-- the parts up to the name, of which none is derived where a declaration has none
+pub named : {text : List ℕ} {f : Flags} {p q : Parser} (form : FunctionForm) (a : At text f p) (h : StandsHere p Function true) (m : Moved text f p q) (s : Bool) (r : Parser) (c : Eats Star q r s) (t : Parser) (name : Option NodeId) → TakesName form r t (Ok name) → Partway text f (function_slots form s f) (rest_of s f) p t [] (name ∷ [])
+unfolding covers
+named {text} {f} {p} {q} Declaration a h m s r c t (Some id) (n, l) = parts (starred Declaration a h m s r c) (part_called [] (name_numbered (star_at Declaration a h m s r c) n (l text f (star_at Declaration a h m s r c))) refl)
+named {text} {f} {p} {q} Expression a h m s r c t (Some id) (n, l) = parts (part_goes (starred Expression a h m s r c) (choose_name (star_at Expression a h m s r c) s n)) (part_called [] (name_numbered (star_at Expression a h m s r c) n (l text f (star_at Expression a h m s r c))) refl)
+named {text} {f} {p} {q} Expression a h m s r c t None (n, e) = subst (λ (v : Parser). Partway text f (function_slots Expression s f) (rest_of s f) p v [] (None ∷ [])) (sym e) (part_hole (starred Expression a h m s r c) (choose_hole (star_at Expression a h m s r c) s n))
+named {text} {f} {p} {q} Declaration a h m s r c t None (n, k) =
+    let x = starred Declaration a h m s r c in
+    hole_behind x (told_at k x.at) (told_same k refl) (ap (λ (v : Parser). v.prev_token_end) k.is) (ap spot k.is) (ap (λ (v : Parser). v.nodes) k.is)
+    (unclean (grown_behind x.verdict (kept_one k)) (part_path_fails x (part_fails {X' = plain full} (no_name_part x.at f n) any_between)))
+
+pub name_stops : {text : List ℕ} {f : Flags} {p q : Parser} (form : FunctionForm) (a : At text f p) (h : StandsHere p Function true) (m : Moved text f p q) (s : Bool) (r : Parser) (c : Eats Star q r s) (t : Parser) (e : Stop) → TakesName form r t (Err e) → Stops p t e (NoFunction text form f p.prev_token_end)
+name_stops {text} {f} {p} {q} Declaration a h m s r c t Fatal (d, n, g) =
+    let x = starred Declaration a h m s r c in
+    stops_behind t Fatal x.same (λ k. grown_behind x.verdict k) (λ k. k) (gives_up_here r t Fatal x.at g (neither Declaration a h m s r c (part_fails {X' = plain full} (no_name_part x.at f n) any_between)))
+name_stops Expression a h m s r c t Fatal (d, n, g) = absurd (cc)
+name_stops Declaration a h m s r c t NoMemory n = tt
+name_stops Expression a h m s r c t NoMemory n = tt
+
+-- ---- parameters and body
+
+module _ {text : List ℕ} {f : Flags} {p q : Parser} (form : FunctionForm) (a : At text f p) (h : StandsHere p Function true) (m : Moved text f p q) (s : Bool) (r : Parser) (c : Eats Star q r s) (t : Parser) (name : Option NodeId) (n : TakesName form r t (Ok name)) where
+  abbrev its : Partway text f (function_slots form s f) (rest_of s f) p t [] (name ∷ [])
+  its = named form a h m s r c t name n
+
+  both_fail : Fails rule (Lex text) (plain full) end (function_slots form s f) p.prev_token_end → NoFunction text form f p.prev_token_end
+  both_fail x = go s (fails_node inside_full x) (other_line form a h m s r c)
+    where
+      go : (s : Bool) → Fails rule (Lex text) (plain full) end (function_line form s f) p.prev_token_end → Fails rule (Lex text) (plain full) end (function_line form (not s) f) p.prev_token_end → NoFunction text form f p.prev_token_end
+      go true x y true = x
+      go true x y false = y
+      go false x y true = y
+      go false x y false = x
+
+  pub named_at : At text f t
+  named_at = its.at
+
+  pub named_same : Same p t
+  named_same = its.same
+
+  pub named_further : p.token.span.start < t.prev_token_end
+  named_further = its.further
+
+  pub parameters_stop : (u : Parser) (e : Stop) → Stops t u e (Underived text (at Params (params_of false s f)) t.prev_token_end) → Stops p u e (NoFunction text form f p.prev_token_end)
+  unfolding covers
+  parameters_stop u e z = stops_behind u e its.same (λ g. grown_behind its.verdict g) (λ x. both_fail (part_path_fails its (part_fails x (by_first firsts (surely (at Params (params_of false s f))) refl)))) z
+
+  module _ {u : Parser} {parameters : NodeId} (x : Numbered text f (at Params (params_of false s f)) t u parameters) where
+    with_parameters : Partway text f (function_slots form s f) (symbol Body (body_of false s f)) p u [] (name ∷ Some parameters ∷ [])
+    unfolding covers
+    with_parameters = parts its (part_called (name ∷ []) x refl)
+
+    pub headed_at : At text f u
+    headed_at = with_parameters.at
+
+    pub headed_same : Same p u
+    headed_same = with_parameters.same
+
+    pub headed_further : p.token.span.start < u.prev_token_end
+    headed_further = with_parameters.further
+
+    pub body_stops : (v : Parser) (e : Stop) → Stops u v e (Underived text (at Body (body_of false s f)) u.prev_token_end) → Stops p v e (NoFunction text form f p.prev_token_end)
+    unfolding covers
+    body_stops v e z = stops_behind v e with_parameters.same (λ g. grown_behind with_parameters.verdict g) (λ y. both_fail (part_path_fails with_parameters (weaken_fails_on y (record { admits = λ ts vs k ls rest d e. (surely (at Body (body_of false s f))).admits ts (here rest) refl })))) z
+
+    pub parts_taken : {v : Parser} {body : NodeId} (y : Numbered text f (at Body (body_of false s f)) u v body) (to : ℕ) → to ≡ u.prev_token_end → PartsTaken text f form p v (record { is_generator = s; name = name; parameters = parameters; body = body; head_end = to })
+    unfolding covers
+    parts_taken {v} {body} y to e = record {
+      whole = parts with_parameters (last_part (name ∷ Some parameters ∷ []) y refl);
+      other = other_line form a h m s r c;
+      head = record { mid = u; at = with_parameters.at; same = with_parameters.same; later = y.answer.same; pass = with_parameters.pass; walked = with_parameters.walked; further = with_parameters.further; is = e };
+    }
+
+-- ---- the whole as an operand
+
+-- the flags of its node, as the line has them
+abbrev pub line_flags : Bool → ℕ
+line_flags s = flag false async_flag + flag s generator_flag
+
+pub flags_are : (s : Bool) → flag s generator_flag ≡ line_flags s
+flags_are true = refl
+flags_are false = refl
+
+-- which line of the two is left
+pub line_left : {text : List ℕ} {s : ℕ} (f : Flags) (form : FunctionForm) (b : Bool) → Fails rule (Lex text) (plain full) end (function_line form (not b) f) s → Goes rule (Lex text) (plain full) end (function_line form false f ◇ function_line form true f) s (function_line form b f) s (λ us. us) (still 0)
+line_left f form true n = right n
+line_left f form false n = left n
+
+module _ {text : List ℕ} {f : Flags} {p : Parser} (a : At text f p) (h : StandsHere p Function true) where
+  to_function : Goes rule (Lex text) (after (at Primary f)) end (rule (at Primary f)) p.prev_token_end (symbol FuncExpr f) p.prev_token_end (λ us. us) (still 0)
+  unfolding rule rule_of covers
+  to_function = at_kind a Function h.0 refl
+
+  to_lines : Goes rule (Lex text) (plain full) end (rule (at FuncExpr f)) p.prev_token_end (function_line Expression false f ◇ function_line Expression true f) p.prev_token_end (λ us. us) (still 0)
+  unfolding rule rule_of covers
+  to_lines = at_kind a Function h.0 refl
+
+  pub no_function : NoFunction text Expression f p.prev_token_end → Underived text (at Primary f) p.prev_token_end
+  no_function n = fails_by (to_function ▹✗ fails_rule {X' = plain full} (λ l cs vs y d. (refl, refl)) (to_lines ▹✗ fails_alt (n false) (n true)))
+
+  pub function_answers : {v w : Parser} {id : NodeId} (r : FunctionParts) (x : PartsTaken text f Expression p v r) (z : Span) → z.start ≡ p.token.span.start → z.end ≡ v.prev_token_end → MadeHere (record (plain_label node.FunctionExpression op.None z) { flags = flag r.is_generator generator_flag }) (r.name ∷ Some r.parameters ∷ Some r.body ∷ []) v w id → Numbered text f (at Primary f) p w id
+  unfolding rule rule_of
+  function_answers {v} {w} {id} r x z b c d =
+      let fl = line_flags r.is_generator in
+      let l : record (plain_label node.FunctionExpression op.None z) { flags = flag r.is_generator generator_flag } ≡ flagged_here function_expression no_op fl p v = rw (b, c) (ap (λ (u : ℕ). flagged_here function_expression no_op u p v) (flags_are r.is_generator)) in
+      let made : MadeHere (flagged_here function_expression no_op fl p v) (r.name ∷ Some r.parameters ∷ Some r.body ∷ []) v w id = subst (λ (u : Label). MadeHere u (r.name ∷ Some r.parameters ∷ Some r.body ∷ []) v w id) l d in
+      let y : Path text f (plain full) (function_line Expression r.is_generator f) p nothing v (tree (flagged_here function_expression no_op fl p v) (x.whole.slots end)) = flagged_by a inside_full (part_path x.whole) in
+      by_path (to_function ⟼ by_symbol_as {X' = plain full} (λ l cs vs y d. (refl, refl)) (to_lines ⟼ (line_left f Expression r.is_generator x.other ⟼ y))) x.whole.same made.stays (behind_primary f.in_ (flagged_here function_expression no_op fl p v) (x.whole.slots end) text v.prev_token_end) refl
+      (node_held made (x.whole.holds (length p.nodes) end (HoldsAll-none p.nodes (length p.nodes) (length p.nodes) (omega arith)))) (Keeps-trans x.whole.keeps (Keeps-made made.made)) refl (one_lies made)
+
+-- what is told of a name that is missing has its mark
+pub nameless_marked : {text : List ℕ} {f : Flags} {p : Parser} (s : Span) → At text f p → p.token.kind ≡ LParen → s ≡ p.token.span → Mark (goal p) p.text (nameless s)
+nameless_marked {text} {f} {p} s a h e =
+    let y = found a (uncut a (ap (same_kind RAngle) h)) (ap is_last h) in
+    let o = a_lexeme a.at.reached (subst (λ (t : List ℕ). StandsBehind all_faults t p.prev_token_end y.0) (sym a.text_is) y.1) in
+    let m : Mark (goal p) p.text (nameless p.token.span) = record {
+      ordered = a.at.lies.ordered;
+      within = a.at.lies.ends_whole.0;
+      begins_between = a.at.lies.starts_whole;
+      ends_between = a.at.lies.ends_whole;
+      stands = ((the_start o (sym y.2.start), the_end o (sym y.2.end)), (refl, refl));
+    } in
+    subst (λ (v : Span). Mark (goal p) p.text (nameless v)) (sym e) m
+
+-- what is said of a name that isn't there
+pub name_refused : (form : FunctionForm) (p q : Parser) (e : Stop) → (form ≡ Expression → ⊥) → NameHere p false → GivesUp (IsUnexpected p) p q e → TakesName form p q (Err e)
+name_refused Declaration p q Fatal n h g = (refl, h, g)
+name_refused Declaration p q NoMemory n h g = tt
+name_refused Expression p q e n h g = absurd (n refl)
+
+-- less of the text is left behind what was read
+pub room_less : {text : List ℕ} {f : Flags} {p q : Parser} → At text f p → p.token.span.start < q.prev_token_end → Same p q → room q < room p
+room_less a l s = let z = a.at.between.0 in let b = a.behind in let g = s.follows.text in omega (arith, ap length g)

@@ -1,0 +1,138 @@
+//! Functions and generators (ECMA-262, sections 15.2 and 15.5).
+
+ghost use Rattle.std.specs.Prelude.{◌≡◌, ◌∷◌, [], IfOk, Some, true};
+ghost use Rattle.js_base.specs.declared.kind.Kind.TheVariants.{Function};
+ghost use Rattle.js_grammar.specs.Productions.{at, flag, generator_flag, Primary};
+ghost use Rattle.js_parsing.specs.Answers.{Answers};
+ghost use Rattle.js_parsing.specs.Moves.{MadeHere, plain_label};
+ghost use Rattle.js_parsing.specs.Nesting.{CanNest, room};
+ghost use Rattle.js_parsing.specs.Stands.{StandsHere};
+ghost use Rattle.js_parsing.specs.States.{Standing};
+ghost use Rattle.js_tree.specs.declared.op.Op.TheVariants as op;
+ghost use Rattle.js_tree.specs.Labels.{number_of};
+ghost use Rattle.js_operands.specs.Functions.{TakesName, TakesParts};
+
+use crate::primary::parse_leaf;
+use js_base::{DiagnosticKind, Kind, NoMemory, Span};
+use js_cursor::{ParserImpl, Stop};
+use js_lex::ParserConfig;
+use js_parsing::context::{body_of_function, parameters_of_function};
+use js_parsing::diagnostics::diagnostic_at;
+use js_parsing::lexemes::{advance, name_stands};
+use js_parsing::nested::Nested;
+use js_tree::{NodeFlags, NodeId, NodeKind, Op};
+
+/// Where a function stands.
+#[derive(Clone, Copy)]
+pub enum FunctionForm {
+    /// A FunctionDeclaration or a GeneratorDeclaration, which has a name.
+    Declaration,
+    /// A FunctionExpression or a GeneratorExpression.
+    Expression,
+}
+
+/// What a function is made of.
+#[derive(Clone, Copy)]
+pub struct FunctionParts {
+    /// Whether it is a generator.
+    pub is_generator: bool,
+    /// Its name, if it has one.
+    pub name: Option<NodeId>,
+    /// Its FormalParameters.
+    pub parameters: NodeId,
+    /// Its FunctionBody.
+    pub body: NodeId,
+    /// The byte offset where its parameters end.
+    pub head_end: u32,
+}
+
+/// A FunctionExpression or a GeneratorExpression (ECMA-262, sections 15.2 and 15.5).
+#[inline(never)]
+pub fn parse_function_expression<C: ParserConfig, N: Nested<C>>(
+    p: &mut ParserImpl<'_, C>,
+    nested: &N,
+) -> Result<NodeId, Stop>
+    requires at { Standing p.old }
+    requires nests { CanNest (N.can nested.now) (room p.old) }
+    requires word { StandsHere p.old Function true }
+    ensures { Answers (at Primary) p.old p.new result }
+{
+    let start = p.cur_start();
+    let parts = parse_function_parts(p, nested, FunctionForm::Expression)?;
+    let span = p.end_span(start);
+    let node = make_function(p, NodeKind::FunctionExpression, span, parts)?;
+    Ok(node)
+}
+
+/// The parts of a function or a generator from `function` on (ECMA-262, sections 15.2 and 15.5).
+#[inline(never)]
+pub fn parse_function_parts<C: ParserConfig, N: Nested<C>>(
+    p: &mut ParserImpl<'_, C>,
+    nested: &N,
+    form: FunctionForm,
+) -> Result<FunctionParts, Stop>
+    requires at { Standing p.old }
+    requires nests { CanNest (N.can nested.now) (room p.old) }
+    requires word { StandsHere p.old Function true }
+    ensures { TakesParts form p.old p.new result }
+{
+    advance(p)?;
+    let is_generator = p.eat(Kind::Star)?;
+    let name = parse_function_name(p, form)?;
+    let parameters = parameters_of_function(p, nested, is_generator)?;
+    let head_end = p.prev_token_end();
+    let body = body_of_function(p, nested, is_generator)?;
+    Ok(FunctionParts {
+        is_generator,
+        name,
+        parameters,
+        body,
+        head_end,
+    })
+}
+
+/// The name of a function, or none. A declaration without one is told before its parameters, and reading goes on.
+fn parse_function_name<C: ParserConfig>(
+    p: &mut ParserImpl<'_, C>,
+    form: FunctionForm,
+) -> Result<Option<NodeId>, Stop>
+    requires { Standing p.old }
+    ensures { TakesName form p.old p.new result }
+{
+    if name_stands(p) {
+        let name = parse_leaf(p, NodeKind::BindingIdentifier, Op::None)?;
+        return Ok(Some(name));
+    }
+    if let FunctionForm::Expression = form {
+        return Ok(None);
+    }
+    if !p.at(Kind::LParen) {
+        return Err(p.set_unexpected());
+    }
+    let span = p.cur_token().span();
+    p.error(diagnostic_at(DiagnosticKind::ExpectFunctionName, span))?;
+    Ok(None)
+}
+
+/// The node of a function of these parts.
+pub fn make_function<C: ParserConfig>(
+    p: &mut ParserImpl<'_, C>,
+    kind: NodeKind,
+    span: Span,
+    parts: FunctionParts,
+) -> Result<NodeId, NoMemory>
+    ensures { IfOk result (λ id. MadeHere (record (plain_label kind op.None span) { flags = flag parts.is_generator generator_flag }) (parts.name ∷ Some parts.parameters ∷ Some parts.body ∷ []) p.old p.new id) }
+{
+    let flags = function_flags(parts.is_generator);
+    let children = [parts.name, Some(parts.parameters), Some(parts.body)];
+    p.ast.node_of_three(kind, span, Op::None, flags, children)
+}
+
+/// The flags of a function, or of a generator.
+fn function_flags(is_generator: bool) -> NodeFlags
+    ensures { number_of result ≡ flag is_generator generator_flag }
+{
+    let mut flags = NodeFlags::default();
+    flags.generator = is_generator;
+    flags
+}
