@@ -1,5 +1,5 @@
 -- What a parse answers, from what holds of the parser at its end.
-use Rattle.std.proofs.Common.{Bool, ℕ, ◌≡◌, inl, inr, List, [], ◌∷◌, ◌++◌, length, take, true, false, Option, None, append_assoc, refl, sym, ap, subst, arith, ◌∙◌}
+use Rattle.std.proofs.Common.{Bool, ℕ, ◌≡◌, inl, inr, List, [], ◌∷◌, ◌++◌, length, map, take, true, false, Option, None, append_assoc, refl, sym, ap, subst, arith, ◌∙◌}
 use Rattle.std.specs.List.{All}
 use Rattle.std.specs.Prelude.{IsCharBoundary, IsUtf8, Result, Ok, Err, IfOk}
 use Rattle.std.proofs.lemmas.List.Elements.{All-append, All-take, All-weaker, All-nil}
@@ -13,7 +13,7 @@ use Rattle.js_grammar.specs.LexicalFaults.{FaultyBehind}
 use Rattle.js_base.specs.declared.options.ParseOptions.{ParseOptions}
 use Rattle.js_base.specs.declared.source_type.SourceType.{SourceType}
 use Rattle.js_base.specs.declared.span.Span.{Span}
-use Rattle.js_grammar.specs.Trees.{Slots, end}
+use Rattle.js_grammar.specs.Trees.{Slots, end, tree, Tree, Span as TreeSpan}
 use Rattle.js_grammar.specs.Marks.{Mark}
 use Rattle.js_lex.specs.States.{goal_of}
 use Rattle.js_tree.specs.declared.id.NodeId.{NodeId}
@@ -29,7 +29,14 @@ use Rattle.js_base.specs.declared.token.Token.{Token}
 use Rattle.js_lex.specs.Kept.{LieIn}
 use Rattle.js_lex.specs.declared.comment.Comment.{Comment}
 use Rattle.js_lex.specs.declared.output.LexerOutput.{LexerOutput}
-use Rattle.js_parser.specs.Readings.{HasNoReading, IsOnlyReading, EndsUnbuilt, AreOf}
+use Rattle.js_parser.specs.Readings.{HasNoReading, HasNoReadingBy, IsOnlyReadingBy, EndsUnbuilt, AreOf}
+use Rattle.js_parser.specs.Leftover.{leftover, with_leftover}
+use Rattle.js_parser.specs.NodeSpans.{SlotsLie}
+use Rattle.js_parser.proofs.Leftovers.{covered, in_program, leftover_early, leftover_lie, leftover_marked, leftover_none, none_before, none_braceless_strict, none_leftover, none_strict, only_strict, spans_lie, spans_marked}
+use Rattle.js_grammar.specs.CoverInitialisers.{initialised_in}
+use Rattle.js_grammar.proofs.CoverInitialisers.{Marked}
+use Rattle.js_tree.specs.Covering.{placed}
+use Rattle.js_parsing.specs.States.{NodesLie}
 use Rattle.js_grammar.specs.Options.{Options}
 use Rattle.js_grammar.specs.Settings.{Goal}
 use Rattle.js_parser.specs.Kept.{TellsRead, KeepsRight}
@@ -91,49 +98,115 @@ module _ {text : List ℕ} {s : SourceType} {p : Parser} (t : IsOf text s p) whe
   }
 
   -- so do the comments, the white space and the tokens that were kept
-  lies : (kept out : LexerOutput) (told : List Diagnostic) → out ≡ record kept { errors = told ++ p.errors } → LieIn p.lexer.text kept → All (IsFault (goal_of s) text) told → LieIn text out
-  lies kept out told e l h = subst (λ (x : LexerOutput). LieIn text x) (sym e) (record {
+  lies_with : (kept out : LexerOutput) (found : List Diagnostic) → out ≡ record kept { errors = found } → LieIn p.lexer.text kept → All (λ d. LiesIn d.span text) found → LieIn text out
+  lies_with kept out found e l h = subst (λ (x : LexerOutput). LieIn text x) (sym e) (record {
     comments = subst (λ (v : List ℕ). All (λ (c : Comment). LiesIn c.span v) kept.comments) same l.comments;
     irregular_whitespaces = subst (λ (v : List ℕ). All (λ (c : Span). LiesIn c v) kept.irregular_whitespaces) same l.irregular_whitespaces;
     tokens = subst (λ (v : List ℕ). All (λ (c : Token). LiesIn c.span v) kept.tokens) same l.tokens;
-    errors = All-append (λ d. LiesIn d.span text) told p.errors (faults_lie told h) marks_lie;
+    errors = h;
   })
     where
       same : p.lexer.text ≡ text
       same = t.at.reads ∙ t.text_is
 
+  lies : (kept out : LexerOutput) (told : List Diagnostic) → out ≡ record kept { errors = told ++ p.errors } → LieIn p.lexer.text kept → All (IsFault (goal_of s) text) told → LieIn text out
+  lies kept out told e l h = lies_with kept out (told ++ p.errors) e l (All-append (λ d. LiesIn d.span text) told p.errors (faults_lie told h) marks_lie)
+
 -- nothing was found, or something was
 by_found : (text : List ℕ) (s : SourceType) (o : ParseOptions) (p : Parser) (cs : Slots) (found : List Diagnostic) → found ≡ p.lexer.kept.errors ++ p.errors → ReadOrNot text s o p cs
-    → (found ≡ [] → IsOnlyReading text (goal_of s) (options_of o) (program_tree (record { start = 0; end = p.token.span.end }) cs)) × ((found ≡ [] → ⊥) → HasNoReading text (goal_of s) (options_of o))
+    → (found ≡ [] → IsOnlyReadingBy true text (goal_of s) (options_of o) (program_tree (record { start = 0; end = p.token.span.end }) cs)) × ((found ≡ [] → ⊥) → HasNoReadingBy true text (goal_of s) (options_of o))
 by_found text s o p cs found e (inl (z, r)) = (λ x. r, λ n. absurd (n (e ∙ none_of_two p.lexer.kept.errors p.errors z.faults z.errors)))
 by_found text s o p cs found e (inr (z, r)) = (λ x. absurd (z (let k = sym e ∙ x in record { faults = first_empty p.lexer.kept.errors p.errors k; errors = second_empty p.lexer.kept.errors p.errors k })), λ n. r)
 
-pub taken_answer : {text : List ℕ} {s : SourceType} {o : ParseOptions} {asks : Bool} {p : Parser} {ids : List (Option NodeId)} (span : Span) (nodes : List Node) (out kept : LexerOutput) → span.start ≡ 0 → span.end ≡ p.token.span.end → ((cs : Slots) → HoldsAll p.nodes 1 (length p.nodes) ids cs → IsTree nodes (program_tree span cs)) → nodes ≡ with_program (program_node span ids) p.nodes → out ≡ record kept { errors = p.lexer.kept.errors ++ p.errors } → LieIn p.lexer.text kept → ProgramTaken text s o asks p ids → IsAnswer text (goal_of s) (options_of o) nodes out false
-taken_answer {text} {s} {o} {asks} {p} {ids} span nodes out kept a b t n e l h = record {
-  told = told_all h.is_of p.lexer.kept.errors out.errors (ap (λ (x : LexerOutput). x.errors) e) (faults h.is_of);
-  lie = lies h.is_of kept out p.lexer.kept.errors e l (faults h.is_of);
-  tree = program_tree (record { start = 0; end = p.token.span.end }) h.slots;
-  is_tree = subst (λ (v : Span). IsTree nodes (program_tree v h.slots)) (span_is span a b) (t h.slots h.holds);
-  program_lies = up_to_token h.is_of;
-  inside = slots_lie h.lies (h.holds).stands;
-  nodes_lie = subst (λ (ns : List Node). NodesLie text ns) (sym n) (program_lie (program_node span ids) p.nodes (subst (λ (v : Span). LiesIn v text) (sym (span_is span a b)) (up_to_token h.is_of)) h.lies);
-  clean = λ z. (by_found text s o p h.slots out.errors (ap (λ (x : LexerOutput). x.errors) e) h.outcome).0 z;
-  unclean = λ z u. (by_found text s o p h.slots out.errors (ap (λ (x : LexerOutput). x.errors) e) h.outcome).1 z;
-  braceless = λ z t r b. (by_found text s o p h.slots out.errors (ap (λ (x : LexerOutput). x.errors) e) h.outcome).1 z t r;
-  early = λ q. h.early;
-  stopped = λ q. absurd (false≢true q);
-  ended = λ q z. false≢true q;
-  childless = λ q. absurd (false≢true q);
-  no_tokens = λ q. absurd (false≢true q);
-}
+one_at_least : (d : Diagnostic) (ds : List Diagnostic) → d ∷ ds ≡ [] → ⊥
+one_at_least d ds e = cc
+
+pub taken_answer : {text : List ℕ} {s : SourceType} {o : ParseOptions} {asks : Bool} {p : Parser} {ids : List (Option NodeId)} (span : Span) (nodes : List Node) (out kept : LexerOutput) (spans : List Span) → span.start ≡ 0 → span.end ≡ p.token.span.end → ((cs : Slots) → HoldsAll p.nodes 1 (length p.nodes) ids cs → IsTree nodes (program_tree span cs)) → nodes ≡ with_program (program_node span ids) p.nodes → ((t : Tree) → IsTree nodes t → spans ≡ map placed (initialised_in t.slots)) → out ≡ record kept { errors = with_leftover (p.lexer.kept.errors ++ p.errors) spans } → LieIn p.lexer.text kept → ProgramTaken text s o asks p ids → IsAnswer text (goal_of s) (options_of o) nodes out false
+taken_answer {text} {s} {o} {asks} {p} {ids} span nodes out kept spans a b t n i e l h = go (p.lexer.kept.errors ++ p.errors) refl
+  where
+    program : Tree
+    program = program_tree (record { start = 0; end = p.token.span.end }) h.slots
+
+    whole : IsTree nodes program
+    whole = subst (λ (v : Span). IsTree nodes (program_tree v h.slots)) (span_is span a b) (t h.slots h.holds)
+
+    all_lie : NodesLie text nodes
+    all_lie = subst (λ (ns : List Node). NodesLie text ns) (sym n) (program_lie (program_node span ids) p.nodes (subst (λ (v : Span). LiesIn v text) (sym (span_is span a b)) (up_to_token h.is_of)) h.lies)
+
+    slots_inside : SlotsLie text h.slots
+    slots_inside = slots_lie h.lies (h.holds).stands
+
+    spans_are : spans ≡ map placed (initialised_in h.slots)
+    spans_are = i program whole
+
+    outside : initialised_in (tree program.label program.slots end) ≡ initialised_in h.slots
+    outside = in_program program refl
+
+    by_cover : (p.lexer.kept.errors ++ p.errors ≡ [] → IsOnlyReadingBy true text (goal_of s) (options_of o) program) × ((p.lexer.kept.errors ++ p.errors ≡ [] → ⊥) → HasNoReadingBy true text (goal_of s) (options_of o))
+    by_cover = by_found text s o p h.slots (p.lexer.kept.errors ++ p.errors) refl h.outcome
+
+    go : (ds : List Diagnostic) → p.lexer.kept.errors ++ p.errors ≡ ds → IsAnswer text (goal_of s) (options_of o) nodes out false
+    go (d ∷ ds) q =
+        let same : with_leftover (p.lexer.kept.errors ++ p.errors) spans ≡ p.lexer.kept.errors ++ p.errors = ap (λ (v : List Diagnostic). with_leftover v spans) q ∙ sym q in
+        let some : p.lexer.kept.errors ++ p.errors ≡ [] → ⊥ = λ z. one_at_least d ds (sym q ∙ z) in
+        let in_order : out ≡ record kept { errors = p.lexer.kept.errors ++ p.errors } = e ∙ ap (λ (v : List Diagnostic). record kept { errors = v }) same in
+        record {
+          told = told_all h.is_of p.lexer.kept.errors out.errors (ap (λ (x : LexerOutput). x.errors) in_order) (faults h.is_of);
+          lie = lies h.is_of kept out p.lexer.kept.errors in_order l (faults h.is_of);
+          tree = program;
+          is_tree = whole;
+          program_lies = up_to_token h.is_of;
+          inside = slots_inside;
+          nodes_lie = all_lie;
+          clean = λ z. absurd (some (sym (ap (λ (x : LexerOutput). x.errors) in_order) ∙ z));
+          unclean = λ z u. none_strict (by_cover.1 some);
+          braceless = λ z v r c. none_strict (by_cover.1 some) v r;
+          early = λ z. h.early;
+          stopped = λ z. absurd (false≢true z);
+          ended = λ z y. false≢true z;
+          childless = λ z. absurd (false≢true z);
+          no_tokens = λ z. absurd (false≢true z);
+        }
+    go [] q =
+        let found_is : out.errors ≡ leftover spans = ap (λ (x : LexerOutput). x.errors) e ∙ ap (λ (v : List Diagnostic). with_leftover v spans) q in
+        let read = by_cover.0 q in
+        let none_left : initialised_in h.slots ≡ [] → out.errors ≡ [] = λ z. found_is ∙ (ap leftover spans_are ∙ ap (λ (v : List TreeSpan). leftover (map placed v)) z) in
+        let left_none : out.errors ≡ [] → initialised_in h.slots ≡ [] = λ z. leftover_none (initialised_in h.slots) (sym (ap leftover spans_are) ∙ (sym found_is ∙ z)) in
+        let strict_none : (out.errors ≡ [] → ⊥) → HasNoReading text (goal_of s) (options_of o) = λ z. none_leftover (λ y. z (none_left (sym outside ∙ y))) read in
+        let inner_lie : All (λ d. LiesIn d.span text) (leftover spans) = subst (λ (v : List Span). All (λ d. LiesIn d.span text) (leftover v)) (sym spans_are) (leftover_lie text (initialised_in h.slots) (spans_lie text h.slots slots_inside)) in
+        record {
+          told = record {
+            faults = [];
+            told = leftover spans;
+            in_order = found_is;
+            faulty = All-nil (IsFault (goal_of s) text);
+            lexical = All-nil (λ d. class_of d.kind ≡ Lexical);
+            marked = subst (λ (v : List Span). All (Mark (goal_of s) text) (leftover v)) (sym spans_are) (leftover_marked (goal_of s) text (initialised_in h.slots) (subst (All (Marked text)) outside (spans_marked read.reading)) (spans_lie text h.slots slots_inside));
+            lie = subst (All (λ d. LiesIn d.span text)) (sym found_is) inner_lie;
+          };
+          lie = lies_with h.is_of kept out (leftover spans) (e ∙ ap (λ (v : List Diagnostic). record kept { errors = with_leftover v spans }) q) l inner_lie;
+          tree = program;
+          is_tree = whole;
+          program_lies = up_to_token h.is_of;
+          inside = slots_inside;
+          nodes_lie = all_lie;
+          clean = λ z. only_strict (outside ∙ left_none z) read;
+          unclean = λ z u. strict_none z;
+          braceless = λ z v r c. strict_none z v r;
+          early = λ z. leftover_early spans;
+          stopped = λ z. absurd (false≢true z);
+          ended = λ z y. false≢true z;
+          childless = λ z. absurd (false≢true z);
+          no_tokens = λ z. absurd (false≢true z);
+        }
 
 -- and what was kept
-pub taken_kept : {text : List ℕ} {s : SourceType} {o : ParseOptions} {asks : Bool} {p : Parser} {ids : List (Option NodeId)} (out kept : LexerOutput) → out ≡ record kept { errors = p.lexer.kept.errors ++ p.errors } → kept ≡ p.lexer.kept → ProgramTaken text s o asks p ids → KeepsRight text (goal_of s) (options_of o) asks out
-taken_kept {text} {s} {o} {asks} {p} out kept e same h = record {
+pub taken_kept : {text : List ℕ} {s : SourceType} {o : ParseOptions} {asks : Bool} {p : Parser} {ids : List (Option NodeId)} (out kept : LexerOutput) (spans : List Span) → out ≡ record kept { errors = with_leftover (p.lexer.kept.errors ++ p.errors) spans } → kept ≡ p.lexer.kept → ProgramTaken text s o asks p ids → KeepsRight text (goal_of s) (options_of o) asks out
+taken_kept {text} {s} {o} {asks} {p} out kept spans e same h = record {
   unasked = λ a. ap (λ (x : LexerOutput). x.tokens) e ∙ (ap (λ (x : LexerOutput). x.tokens) same ∙ h.unasked a);
   kept = λ z t r.
-      let none = sym (ap (λ (x : LexerOutput). x.errors) e) ∙ z in
-      let k = h.kept (record { faults = first_empty p.lexer.kept.errors p.errors none; errors = second_empty p.lexer.kept.errors p.errors none }) t r in
+      let none = none_before (p.lexer.kept.errors ++ p.errors) spans (sym (ap (λ (x : LexerOutput). x.errors) e) ∙ z) in
+      let k = h.kept (record { faults = first_empty p.lexer.kept.errors p.errors none; errors = second_empty p.lexer.kept.errors p.errors none }) t (covered r) in
       record {
         comments = ap (λ (x : LexerOutput). x.comments) e ∙ (ap (λ (x : LexerOutput). x.comments) same ∙ k.comments);
         blanks = ap (λ (x : LexerOutput). x.irregular_whitespaces) e ∙ (ap (λ (x : LexerOutput). x.irregular_whitespaces) same ∙ k.blanks);
@@ -168,8 +241,8 @@ refused_answer {text} {s} {o} {p} {ids} ns span nodes told out kept n a b k z t 
   inside = tt;
   nodes_lie = subst (λ (ms : List Node). NodesLie text ms) (sym (t ∙ ap (λ (ms : List Node). with_program (program_node span ids) ms) same)) (program_lie (program_node span ids) p.nodes (subst (λ (v : Span). LiesIn v text) (sym (span_is span a (b ∙ ap (λ (v : List ℕ). length v) h.is_of.text_is))) whole) h.lies);
   clean = λ y. absurd (some y);
-  unclean = λ y n. h.none (λ u. n (refl, ends_so u));
-  braceless = λ y. h.braceless;
+  unclean = λ y n. none_strict (h.none (λ u. n (refl, ends_so u)));
+  braceless = λ y. none_braceless_strict h.braceless;
   early = λ q. absurd (false≢true (sym q));
   stopped = λ q. h.stopped;
   ended = λ q y. some y;

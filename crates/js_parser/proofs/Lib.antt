@@ -5,3 +5,4 @@ pub mod Readings
 pub mod NodeSpans
 pub mod Answering
 pub mod CoreTexts
+pub mod Leftovers

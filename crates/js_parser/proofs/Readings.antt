@@ -63,11 +63,12 @@ use Rattle.js_parser.proofs.Fronts.{Front, Parts, kind_of_hashbang, none_begins,
 use Rattle.js_parsing.proofs.MadeNodes.{leaf_held, one_lies}
 use Rattle.js_parsing.proofs.Moving.{standing, beside_nodes}
 use Rattle.js_parser.specs.Parsed.{options_of, IsAnswer}
-use Rattle.js_parser.specs.Readings.{parameters, AllBraceless, Reading, IsOnlyReading, HasNoReading, HasNoBracelessReading, EndsUnbuilt}
+use Rattle.js_parser.specs.Readings.{parameters, AllBraceless, ReadingBy, IsOnlyReadingBy, HasNoReadingBy, HasNoBracelessReadingBy, EndsUnbuilt}
 use Rattle.js_parser.specs.Taken.{FoundNothing, ReadOrNot, ProgramTaken, ProgramStops}
 use Rattle.js_parser.proofs.Answering.{first_empty, second_empty}
 use Rattle.js_base.specs.declared.source_type.Goal.TheVariants as source
 use Rattle.js_grammar.specs.Grammar.{Derives}
+use Rattle.js_grammar.specs.CoverInitialisers.{with_cover}
 use Rattle.js_grammar.specs.Lexemes.{hashbang as hashbang_goal}
 use Rattle.js_grammar.specs.Options.{Options, is_module as in_module, is_commonjs as in_commonjs}
 use Rattle.js_grammar.specs.Settings.{Goal, script, module_goal, commonjs, unambiguous}
@@ -85,6 +86,10 @@ use Rattle.std.proofs.lemmas.List.Elements.{All-same, All-nil, All-cons}
 use Rattle.js_parsing.specs.Classes.{IsEarly, EndedByLast}
 use Rattle.std.proofs.lemmas.Str.{IsCharBoundary-start}
 use Rattle.js_base.specs.Spans.{LiesIn}
+
+-- the parameters of the cover grammar, by which a text is read
+abbrev covering : Goal → Options → Flags
+covering goal o = with_cover true (parameters goal o)
 
 abbrev tree_of : Label → Slots → Tree
 tree_of l cs = record { label = l; slots = cs }
@@ -179,21 +184,21 @@ last_ends (last x) e = sym (kind_of_same Eof x.kind e)
 last_ends (next x ls) e = last_ends ls (and_parts _ (ends_once ls) e).1
 
 -- readings are lists behind the text's front
-module _ {text : List ℕ} {source : Goal} {f : Flags} {s : ℕ} {front : Slots → Slots} {put : Lexemes → Lexemes} {o : Options} (k : f ≡ parameters source o) (opens : Front text source f s front put) where
-  parts_of : {t : Tree} (r : Reading text source o t) → Parts text source f s front put t r.lexemes r.lexed r.place r.final
+module _ {text : List ℕ} {source : Goal} {f : Flags} {s : ℕ} {front : Slots → Slots} {put : Lexemes → Lexemes} {o : Options} (k : f ≡ covering source o) (opens : Front text source f s front put) where
+  parts_of : {t : Tree} (r : ReadingBy true text source o t) → Parts text source f s front put t r.lexemes r.lexed r.place r.final
   parts_of {t} r = opens.parts t r.lexemes r.lexed r.place r.final (subst (λ (g : Flags). Derives rule (at Program g) t 0 r.lexemes r.place (last r.final)) (sym k) r.derived)
 
-  abbrev body_of : {t : Tree} (r : Reading text source o t) → Body (Faultless source text) f s (parts_of r).slots (parts_of r).others
+  abbrev body_of : {t : Tree} (r : ReadingBy true text source o t) → Body (Faultless source text) f s (parts_of r).slots (parts_of r).others
   body_of r = record { lexed = (parts_of r).lexed; place = r.place; final = r.final; is_end = r.is_end; derived = (parts_of r).derived }
 
-  none_at_all : NoList text Text (with_directives Text f) s → HasNoReading text source o
+  none_at_all : NoList text Text (with_directives Text f) s → HasNoReadingBy true text source o
   none_at_all n t r = no_list n (any_body source (body_of r))
 
   -- where no lexemes without braces lead on to the text's end, no reading is without braces
-  none_braceless : NoneToEnd text s → HasNoBracelessReading text source o
+  none_braceless : NoneToEnd text s → HasNoBracelessReadingBy true text source o
   none_braceless n t r b =
       let p = parts_of r in
-      let e = ends_once_by (at Program (parameters source o)) t r.derived (subst (λ (k : Kind). same_kind Eof k ≡ true) (sym r.is_end) refl) in
+      let e = ends_once_by (at Program (covering source o)) t r.derived (subst (λ (k : Kind). same_kind Eof k ≡ true) (sym r.is_end) refl) in
       n p.others (all_braceless text source s p.others p.lexed (opens.braceless p.others (subst AllBraceless p.lexemes b))) (last_ends p.others (opens.ends p.others (subst (λ (ls : Lexemes). ends_once ls ≡ true) p.lexemes e)))
 
 -- what an outsider sees where a parser stopped at what isn't built yet
@@ -287,8 +292,8 @@ module _ {text : List ℕ} {f : Flags} {q : Parser} (a : At text f q) (e : q.tok
             subst (λ (ts : List Token). TellsEach (pass (last (end_here a e).0)) ts) (sym all) (z.2 (last (end_here a e).0) [] refl)
 
   -- and so the readings
-  module _ {o : Options} (k : f ≡ parameters source o) {front : Slots → Slots} {put : Lexemes → Lexemes} (opens : Front text source f s front put) where
-    one_reading : q.lexer.kept.errors ≡ [] → IsOnlyReading text source o (program_tree (record { start = 0; end = q.token.span.end }) (front (slots end)))
+  module _ {o : Options} (k : f ≡ covering source o) {front : Slots → Slots} {put : Lexemes → Lexemes} (opens : Front text source f s front put) where
+    one_reading : q.lexer.kept.errors ≡ [] → IsOnlyReadingBy true text source o (program_tree (record { start = 0; end = q.token.span.end }) (front (slots end)))
     one_reading z =
         let b = right_body z in
         let ls = pass (last (end_here a e).0) in
@@ -304,17 +309,17 @@ module _ {text : List ℕ} {f : Flags} {q : Parser} (a : At text f q) (e : q.tok
           only = λ t r. is_this t r;
         }
       where
-        is_this : (t : Tree) (r : Reading text source o t) → (t ≡ program_tree (record { start = 0; end = q.token.span.end }) (front (slots end))) × (r.lexemes ≡ put (pass (last (end_here a e).0)))
+        is_this : (t : Tree) (r : ReadingBy true text source o t) → (t ≡ program_tree (record { start = 0; end = q.token.span.end }) (front (slots end))) × (r.lexemes ≡ put (pass (last (end_here a e).0)))
         is_this t r =
             let p = parts_of k opens r in
             let b = any_body source (body_of k opens r) in
             let x = only_so a e u b in
             (same_tree (p.is ∙ (λ i. tree (program_label (ends_so a e u b i)) (front (x.0 i)) end)), p.lexemes ∙ ap put x.1)
 
-    faulty_so : (q.lexer.kept.errors ≡ [] → ⊥) → HasNoReading text source o
+    faulty_so : (q.lexer.kept.errors ≡ [] → ⊥) → HasNoReadingBy true text source o
     faulty_so n t r = wrong_body n (body_of k opens r)
 
-    kept_so : TriviaKept text s kept.comments kept.irregular_whitespaces → kept.tokens ≡ [] → (t : Tree) (r : Reading text source o t) → IsKeptOf r keeps q.lexer.kept
+    kept_so : TriviaKept text s kept.comments kept.irregular_whitespaces → kept.tokens ≡ [] → (t : Tree) (r : ReadingBy true text source o t) → IsKeptOf r keeps q.lexer.kept
     kept_so trivia none t r = let p = parts_of k opens r in let b = body_of k opens r in record {
       comments = comments_so trivia none b ∙ sym p.comments;
       blanks = blanks_so trivia none b ∙ sym p.blanks;
@@ -379,7 +384,7 @@ commonjs_is s = go s.goal
     go source.CommonJs = refl
     go source.Unambiguous = refl
 
-at_start : {text : List ℕ} {b : Bool} {p : Parser} → Starts text p.source_type p.options b p → flags_of p ≡ parameters (goal_of p.source_type) (options_of p.options)
+at_start : {text : List ℕ} {b : Bool} {p : Parser} → Starts text p.source_type p.options b p → flags_of p ≡ covering (goal_of p.source_type) (options_of p.options)
 at_start {p = p} s = let c = s.ctx in let m = module_goal_is p.source_type in let j = commonjs_is p.source_type in λ i. record { in_ = c.in_ i; yield_ = c.yield i; await_ = (c.await ∙ m) i; return_ = (c.return ∙ ap (λ (v : Bool). v || p.options.allow_return_outside_function) j) i; new_target = (c.new_target ∙ j) i; module_goal = m i; v8 = p.options.allow_v8_intrinsics; cover = true; wide = false }
 
 -- what a lexer that has kept nothing keeps with a token
@@ -404,7 +409,7 @@ module _ {old new : State} {t : Token} (g : GivesNext division old new t) (z : I
 -- A parser stands where the list of directives and items begins, behind the text's front; nothing was found but in what stands before the current token.
 record Begun (text : List ℕ) (f : Flags) (source : SourceType) (o : ParseOptions) (s : ℕ) (front : Slots → Slots) (put : Lexemes → Lexemes) (v : Parser) : Type 0 where
   stands : At text f v
-  parameters_are : f ≡ parameters (goal_of source) (options_of o)
+  parameters_are : f ≡ covering (goal_of source) (options_of o)
   opens : Front text (goal_of source) f s front put
   read_as : v.source_type ≡ source
   place : v.prev_token_end ≡ s
@@ -415,10 +420,10 @@ record Begun (text : List ℕ) (f : Flags) (source : SourceType) (o : ParseOptio
   lies : SpansLie v
 
 module _ {text : List ℕ} {f : Flags} {source : SourceType} {o : ParseOptions} {s : ℕ} {front : Slots → Slots} {put : Lexemes → Lexemes} {v : Parser} (b : Begun text f source o s front put v) where
-  none : NoList text Text (with_directives Text f) v.prev_token_end → HasNoReading text (goal_of source) (options_of o)
+  none : NoList text Text (with_directives Text f) v.prev_token_end → HasNoReadingBy true text (goal_of source) (options_of o)
   none n = none_at_all b.parameters_are b.opens (subst (λ (i : ℕ). NoList text Text (with_directives Text f) i) b.place n)
 
-  no_braceless : NoneToEnd v.text v.prev_token_end → HasNoBracelessReading text (goal_of source) (options_of o)
+  no_braceless : NoneToEnd v.text v.prev_token_end → HasNoBracelessReadingBy true text (goal_of source) (options_of o)
   no_braceless n = none_braceless b.parameters_are b.opens (subst (λ (i : ℕ). NoneToEnd text i) b.place (subst (λ (w : List ℕ). NoneToEnd w v.prev_token_end) b.stands.text_is n))
 
   module _ {q : Parser} {ids : List (Option NodeId)} (t : Taken text f Text (with_directives Text f) (statements Text f) v q ids) where
@@ -428,7 +433,7 @@ module _ {text : List ℕ} {f : Flags} {source : SourceType} {o : ParseOptions} 
     whole_stretch : Stretch text (plain (at_end Text)) (with_directives Text f) v.prev_token_end (statements Text f) q.prev_token_end t.slots t.pass → Stretch text (plain (at_end Text)) (with_directives Text f) s (statements Text f) q.prev_token_end t.slots t.pass
     whole_stretch u = subst (λ (i : ℕ). Stretch text (plain (at_end Text)) (with_directives Text f) i (statements Text f) q.prev_token_end t.slots t.pass) b.place u
 
-    kept_by : FoundNothing q → (q.token.kind ≡ Eof) ⊎ (q.token.kind ≡ Undetermined) → (w : Tree) (r : Reading text (goal_of source) (options_of o) w) → IsKeptOf r v.lexer.keeps_tokens q.lexer.kept
+    kept_by : FoundNothing q → (q.token.kind ≡ Eof) ⊎ (q.token.kind ≡ Undetermined) → (w : Tree) (r : ReadingBy true text (goal_of source) (options_of o) w) → IsKeptOf r v.lexer.keeps_tokens q.lexer.kept
     kept_by z (inr e) w r = absurd (fault_kept t.at e z.faults)
     kept_by z (inl e) w r = go t.verdict
       where

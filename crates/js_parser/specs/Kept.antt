@@ -12,7 +12,7 @@ use Rattle.js_lex.specs.Reading.{Tells}
 use Rattle.js_lex.specs.declared.comment.Comment.{Comment}
 use Rattle.js_lex.specs.declared.output.LexerOutput.{LexerOutput}
 use Rattle.js_parsing.specs.Lexemes.{Faultless}
-use Rattle.js_parser.specs.Readings.{AreRead, from_text_start, behind_a_hashbang, Reading}
+use Rattle.js_parser.specs.Readings.{AreRead, from_text_start, behind_a_hashbang, ReadingBy, Reading}
 
 -- what the trivia before each lexeme gives, one behind the other
 abbrev pub each_of : {A : Type 0} → (Lexeme → ℕ → List (List ℕ) → List A) → (text : List ℕ) (goal : Goal) (s : ℕ) (ls : Lexemes) → Lexes (Faultless goal text) s ls → List A
@@ -44,7 +44,7 @@ TellsRead text goal ls (from_text_start l) ts = TellsEach ls ts
 TellsRead text goal ls (behind_a_hashbang b) ts = TellsEach b.others ts
 
 -- What was kept is of the lexemes of this reading: their comments and white space; and their tokens, where these were asked for.
-pub record IsKeptOf {text : List ℕ} {goal : Goal} {o : Options} {t : Tree} (r : Reading text goal o t) (asks : Bool) (out : LexerOutput) : Type 0 where
+pub record IsKeptOf {cover : Bool} {text : List ℕ} {goal : Goal} {o : Options} {t : Tree} (r : ReadingBy cover text goal o t) (asks : Bool) (out : LexerOutput) : Type 0 where
   pub comments : out.comments ≡ each_read comments_before text goal r.lexemes r.lexed
   pub blanks : out.irregular_whitespaces ≡ each_read blanks_before text goal r.lexemes r.lexed
   pub tokens : asks ≡ true → TellsRead text goal r.lexemes r.lexed out.tokens

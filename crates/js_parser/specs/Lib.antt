@@ -4,3 +4,4 @@ pub mod Parsed
 pub mod Taken
 pub mod NodeSpans
 pub mod CoreAnswers
+pub mod Leftover

@@ -1,5 +1,5 @@
 -- What it is that a tree is a reading of a text, and what diagnostics tell of it.
-use Rattle.std.specs.Prelude.{ℕ, ◌≡◌, true, false, ◌||◌, List, [], ◌∷◌, ◌++◌}
+use Rattle.std.specs.Prelude.{ℕ, ◌≡◌, Bool, true, false, ◌||◌, List, [], ◌∷◌, ◌++◌}
 use Rattle.std.specs.List.{All}
 use Rattle.js_base.specs.declared.diagnostic.Diagnostic.{Diagnostic}
 use Rattle.js_base.specs.declared.diagnostic.DiagnosticClass.TheVariants.{Lexical}
@@ -15,6 +15,7 @@ use Rattle.js_grammar.specs.LexicalFaults.{Reached}
 use Rattle.js_grammar.specs.Marks.{Mark}
 use Rattle.js_grammar.specs.Options.{Options, is_module, is_commonjs}
 use Rattle.js_grammar.specs.Productions.{Flags, at, Program}
+use Rattle.js_grammar.specs.CoverInitialisers.{with_cover}
 use Rattle.js_grammar.specs.Settings.{Goal, script, unambiguous}
 use Rattle.js_grammar.specs.Table.{rule}
 use Rattle.js_lex.specs.Reading.{LexemeBehind}
@@ -27,7 +28,7 @@ abbrev pub read_at : Goal → Goal
 read_at unambiguous = script
 read_at goal = goal
 
--- The parameters at the top of a text (ECMA-262, 16.1 and 16.2): `return` and `new.target` may stand in a text of CommonJS, which is the body of a function. Expressions are read as a cover grammar (13.2.5).
+-- The parameters at the top of a text (ECMA-262, 16.1 and 16.2): `return` and `new.target` may stand in a text of CommonJS, which is the body of a function.
 abbrev pub parameters : Goal → Options → Flags
 parameters goal o = record {
   in_ = true;
@@ -37,7 +38,7 @@ parameters goal o = record {
   new_target = is_commonjs goal;
   module_goal = is_module goal;
   v8 = o.allow_v8;
-  cover = true;
+  cover = false;
   wide = false;
 }
 
@@ -54,18 +55,24 @@ pub data AreRead (text : List ℕ) (goal : Goal) (ls : Lexemes) : Type 0 where
   from_text_start : Lexes (Faultless goal text) 0 ls → AreRead text goal ls
   behind_a_hashbang : BehindHashbang text goal ls → AreRead text goal ls
 
--- Program derives the tree from lexemes of the text, from its start to its end.
-pub record Reading (text : List ℕ) (goal : Goal) (o : Options) (t : Tree) : Type 0 where
+-- Program derives the tree from lexemes of the text, from its start to its end; by the cover grammar, in which a shorthand may have an initialiser (13.2.5), where `cover` is true.
+pub record ReadingBy (cover : Bool) (text : List ℕ) (goal : Goal) (o : Options) (t : Tree) : Type 0 where
   pub lexemes : Lexemes
   pub lexed : AreRead text goal lexemes
   pub place : ℕ
   pub final : Lexeme
   pub is_end : final.kind ≡ Eof
-  pub derived : Derives rule (at Program (parameters goal o)) t 0 lexemes place (last final)
+  pub derived : Derives rule (at Program (with_cover cover (parameters goal o))) t 0 lexemes place (last final)
+
+abbrev pub Reading : List ℕ → Goal → Options → Tree → Type 0
+Reading text goal o t = ReadingBy false text goal o t
 
 -- no lexemes of those kinds are a program
+abbrev pub HasNoReadingBy : Bool → List ℕ → Goal → Options → Type 0
+HasNoReadingBy cover text goal o = (t : Tree) → ReadingBy cover text goal o t → ⊥
+
 abbrev pub HasNoReading : List ℕ → Goal → Options → Type 0
-HasNoReading text goal o = (t : Tree) → Reading text goal o t → ⊥
+HasNoReading text goal o = HasNoReadingBy false text goal o
 
 -- no brace is among them
 abbrev pub AllBraceless : Lexemes → Type 0
@@ -73,13 +80,19 @@ AllBraceless (last x) = one_of_kinds (LCurly ∷ RCurly ∷ []) x.kind ≡ false
 AllBraceless (next x ls) = (one_of_kinds (LCurly ∷ RCurly ∷ []) x.kind ≡ false) × AllBraceless ls
 
 -- no lexemes of those kinds without braces are a program
+abbrev pub HasNoBracelessReadingBy : Bool → List ℕ → Goal → Options → Type 0
+HasNoBracelessReadingBy cover text goal o = (t : Tree) (r : ReadingBy cover text goal o t) → AllBraceless r.lexemes → ⊥
+
 abbrev pub HasNoBracelessReading : List ℕ → Goal → Options → Type 0
-HasNoBracelessReading text goal o = (t : Tree) (r : Reading text goal o t) → AllBraceless r.lexemes → ⊥
+HasNoBracelessReading text goal o = HasNoBracelessReadingBy false text goal o
 
 -- The tree is a reading; every reading is this tree, over the same lexemes.
-pub record IsOnlyReading (text : List ℕ) (goal : Goal) (o : Options) (tree : Tree) : Type 0 where
-  pub reading : Reading text goal o tree
-  pub only : (t : Tree) (r : Reading text goal o t) → (t ≡ tree) × (r.lexemes ≡ reading.lexemes)
+pub record IsOnlyReadingBy (cover : Bool) (text : List ℕ) (goal : Goal) (o : Options) (tree : Tree) : Type 0 where
+  pub reading : ReadingBy cover text goal o tree
+  pub only : (t : Tree) (r : ReadingBy cover text goal o t) → (t ≡ tree) × (r.lexemes ≡ reading.lexemes)
+
+abbrev pub IsOnlyReading : List ℕ → Goal → Options → Tree → Type 0
+IsOnlyReading text goal o tree = IsOnlyReadingBy false text goal o tree
 
 -- Diagnostics of a text: faults of lexemes, of the class Lexical, and behind them what the parser found. Each has what its kind says at its span, which lies in the text and splits no character.
 pub record AreOf (goal : Goal) (text : List ℕ) (found : List Diagnostic) : Type 0 where

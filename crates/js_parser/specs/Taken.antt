@@ -1,5 +1,5 @@
 -- What holds of a parser where a parse of a whole text has ended.
-use Rattle.std.specs.Prelude.{ℕ, ◌≡◌, ◌⊎◌, Bool, false, List, [], length, Option}
+use Rattle.std.specs.Prelude.{ℕ, ◌≡◌, ◌⊎◌, Bool, true, false, List, [], length, Option}
 use Rattle.js_base.specs.declared.options.ParseOptions.{ParseOptions}
 use Rattle.js_base.specs.declared.source_type.SourceType.{SourceType}
 use Rattle.js_grammar.specs.Trees.{Slots, Tree}
@@ -11,7 +11,7 @@ use Rattle.js_cursor.specs.Places.{IsAt}
 use Rattle.js_cursor.specs.declared.stop.Stop.{Stop}
 use Rattle.js_cursor.specs.declared.stop.Stop.TheVariants.{Fatal, NoMemory}
 use Rattle.js_parser.specs.Kept.{IsKeptOf}
-use Rattle.js_parser.specs.Readings.{Reading, HasNoReading, HasNoBracelessReading, IsOnlyReading, EndsUnbuilt}
+use Rattle.js_parser.specs.Readings.{ReadingBy, HasNoReadingBy, HasNoBracelessReadingBy, IsOnlyReadingBy, EndsUnbuilt}
 use Rattle.js_parser.specs.Parsed.{options_of}
 use Rattle.std.specs.List.{All}
 use Rattle.js_parsing.specs.Classes.{IsEarly, EndedByLast}
@@ -28,9 +28,9 @@ pub record FoundNothing (p : Parser) : Type 0 where
   pub faults : p.lexer.kept.errors ≡ []
   pub errors : p.errors ≡ []
 
--- The program up to a place, with these slots, is the only reading, and nothing was found; or there is none, and something was.
+-- The program up to a place, with these slots, is the only reading by the cover grammar, and nothing was found; or there is none, and something was.
 abbrev pub ReadOrNot : List ℕ → SourceType → ParseOptions → Parser → Slots → Type 0
-ReadOrNot text s o p cs = (FoundNothing p × IsOnlyReading text (goal_of s) (options_of o) (program_tree (record { start = 0; end = p.token.span.end }) cs)) ⊎ ((FoundNothing p → ⊥) × HasNoReading text (goal_of s) (options_of o))
+ReadOrNot text s o p cs = (FoundNothing p × IsOnlyReadingBy true text (goal_of s) (options_of o) (program_tree (record { start = 0; end = p.token.span.end }) cs)) ⊎ ((FoundNothing p → ⊥) × HasNoReadingBy true text (goal_of s) (options_of o))
 
 -- These are the children of the program.
 pub record ProgramTaken (text : List ℕ) (s : SourceType) (o : ParseOptions) (asks : Bool) (p : Parser) (ids : List (Option NodeId)) : Type 0 where
@@ -41,7 +41,7 @@ pub record ProgramTaken (text : List ℕ) (s : SourceType) (o : ParseOptions) (a
   -- tokens are kept where they are asked for; without diagnostics all that was kept is of the lexemes of the reading
   pub keeps : p.lexer.keeps_tokens ≡ asks
   pub unasked : asks ≡ false → p.lexer.kept.tokens ≡ []
-  pub kept : FoundNothing p → (t : Tree) (r : Reading text (goal_of s) (options_of o) t) → IsKeptOf r asks p.lexer.kept
+  pub kept : FoundNothing p → (t : Tree) (r : ReadingBy true text (goal_of s) (options_of o) t) → IsKeptOf r asks p.lexer.kept
   -- behind each diagnostic of the parser reading went on
   pub early : All IsEarly p.errors
   pub lies : NodesLie text p.nodes
@@ -52,8 +52,8 @@ pub record ProgramRefused (text : List ℕ) (s : SourceType) (o : ParseOptions) 
   pub stopped : EndedByLast p.errors
   pub lies : NodesLie text p.nodes
   pub some : p.errors ≡ [] → ⊥
-  pub none : (EndsUnbuilt text p.errors → ⊥) → HasNoReading text (goal_of s) (options_of o)
-  pub braceless : HasNoBracelessReading text (goal_of s) (options_of o)
+  pub none : (EndsUnbuilt text p.errors → ⊥) → HasNoReadingBy true text (goal_of s) (options_of o)
+  pub braceless : HasNoBracelessReadingBy true text (goal_of s) (options_of o)
 
 abbrev pub ProgramStops : List ℕ → SourceType → ParseOptions → Parser → Stop → Type 0
 ProgramStops text s o p Fatal = ProgramRefused text s o p

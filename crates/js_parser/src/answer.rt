@@ -6,6 +6,7 @@ ghost use Rattle.js_base.specs.declared.source_type.SourceType.{SourceType};
 ghost use Rattle.js_cursor.specs.Places.{IsAt};
 ghost use Rattle.js_lex.specs.States.{goal_of};
 ghost use Rattle.js_parser.specs.Kept.{KeepsRight};
+ghost use Rattle.js_parser.specs.Leftover.{with_leftover};
 ghost use Rattle.js_parser.specs.Parsed.{options_of, IsAnswer, IsOverlong};
 ghost use Rattle.js_parser.specs.Taken.{ProgramTaken, ProgramRefused};
 
@@ -58,11 +59,13 @@ pub fn taken(
     ensures kept { IfOk result (λ r. (text : List ℕ) (s : SourceType) (o : ParseOptions) (asks : Bool) → ProgramTaken text s o asks p.entry items.items → KeepsRight text (goal_of s) (options_of o) asks (record { comments = r.program.comments; irregular_whitespaces = r.irregular_whitespaces; tokens = r.tokens; errors = r.diagnostics })) }
     ensures source_type { IfOk result (λ r. r.program.source_type ≡ source_type) }
 {
+    let alloc = p.alloc;
     let span = Span::new(0, p.cur_token().end());
     let parts = p.into_parts();
     let kept = parts.lexer.finish();
     let tree = parts.ast.finish(span, items)?;
-    let diagnostics = joined(kept.errors, parts.errors)?;
+    let found = joined(kept.errors, parts.errors)?;
+    let diagnostics = with_cover_initializers(found, tree.cover_initializers(alloc)?)?;
     let (module_record, _) = parts.module_record_builder.build()?;
     Ok(ParserReturn {
         program: Program {
@@ -161,6 +164,28 @@ fn fewer_faults(tells_fault: bool, faults: Diagnostics) -> Diagnostics
         faults.truncate(count - 1);
     }
     faults
+}
+
+/// Where nothing was found, a diagnostic for each shorthand with an initialiser that no target took (CoverInitializedName,
+/// ECMA-262, section 13.2.5.1), by its span.
+fn with_cover_initializers(found: Diagnostics, spans: Vec<Span>) -> Result<Diagnostics, NoMemory>
+    ensures { IfOk result (λ all. all ≡ with_leftover found spans.items) }
+{
+    let mut all = found;
+    if all.len() > 0 {
+        return Ok(all);
+    }
+    let mut i = 0;
+    'spans: while i < spans.len() {
+        all.push(Diagnostic {
+            kind: DiagnosticKind::CoverInitializedName,
+            span: spans[i],
+            first: None,
+            second: None,
+        })?;
+        i += 1;
+    }
+    Ok(all)
 }
 
 /// One list behind another.
