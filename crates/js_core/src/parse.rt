@@ -18,6 +18,7 @@ use js_expressions::unary::parse_unary_expression_or_higher;
 use js_lex::{ParserConfig, RuntimeParserConfig};
 use js_operands::left_hand_side;
 use js_parsing::nested::{By, Goal, Nested};
+use js_patterns::method_parameters::parse_method_parameters;
 use js_patterns::{binding, parameters};
 use js_statements::block::parse_function_body;
 use js_statements::statement::{parse_statement, parse_statement_list_item};
@@ -46,6 +47,7 @@ pub fn parse_goal<C: ParserConfig, N: Nested<C>>(
         Goal::Statement => parse_statement(p, nested),
         Goal::ListItem => parse_statement_list_item(p, nested),
         Goal::Body => parse_function_body(p, nested),
+        Goal::Parameters(form) => parse_method_parameters(p, nested, form),
     }
 }
 

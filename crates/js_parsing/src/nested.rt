@@ -3,12 +3,24 @@
 ghost use Rattle.std.specs.Prelude.{◌≡◌};
 ghost use Rattle.js_grammar.specs.Productions.{at, Assignment, Binding, Body, Exponent, Expression, ListItem, Sub, Unary};
 ghost use Rattle.js_parsing.specs.Answers.{Answers};
+ghost use Rattle.js_parsing.specs.Methods.{ReadsWhole, parameters_of};
 ghost use Rattle.js_parsing.specs.Nesting.{Reads, levels_of};
 ghost use Rattle.js_parsing.specs.Statements.{TakesStatement};
 
 use js_cursor::{ParserImpl, Stop};
 use js_lex::{ParserConfig, RuntimeParserConfig};
 use js_tree::NodeId;
+
+/// Which parameters a method has (ECMA-262, section 15.4).
+#[derive(Clone, Copy)]
+pub enum MethodForm {
+    /// FormalParameters: those of a method that is no getter and no setter.
+    Method,
+    /// None: a getter's.
+    Getter,
+    /// One FormalParameter: a setter's.
+    Setter,
+}
 
 /// What is to be read where a production nests.
 #[derive(Clone, Copy)]
@@ -31,6 +43,8 @@ pub enum Goal {
     ListItem,
     /// A FunctionBody in its braces.
     Body,
+    /// The parameters of a method in their parentheses.
+    Parameters(MethodForm),
 }
 
 impl Goal {
@@ -41,7 +55,7 @@ impl Goal {
     {
         match self {
             Goal::Expression | Goal::Element | Goal::Binding => 4,
-            Goal::ListItem | Goal::Body => 2,
+            Goal::ListItem | Goal::Body | Goal::Parameters(_) => 2,
             Goal::Assignment | Goal::Unary | Goal::Exponentiation | Goal::Statement => 1,
         }
     }
@@ -99,6 +113,15 @@ pub trait Nested<C: ParserConfig> {
     fn body(&self, p: &mut ParserImpl<'_, C>) -> Result<NodeId, Stop>
         requires { can self.now p.old Goal.Body }
         ensures { Answers (at Body) p.old p.new result };
+
+    /// The parameters of a method in their parentheses (ECMA-262, section 15.4).
+    fn parameters(
+        &self,
+        p: &mut ParserImpl<'_, C>,
+        form: MethodForm,
+    ) -> Result<NodeId, Stop>
+        requires { can self.now p.old (Goal.Parameters form) }
+        ensures { ReadsWhole (parameters_of form) p.old p.new result };
 }
 
 /// A function that reads whatever is asked for. It is one over the config that is told when the program runs: a bound on
@@ -154,5 +177,14 @@ impl<F: Fn(&mut ParserImpl<'_, RuntimeParserConfig>, Goal) -> Result<NodeId, Sto
     #[inline(always)]
     fn body(&self, p: &mut ParserImpl<'_, RuntimeParserConfig>) -> Result<NodeId, Stop> {
         (self.0)(p, Goal::Body)
+    }
+
+    #[inline(always)]
+    fn parameters(
+        &self,
+        p: &mut ParserImpl<'_, RuntimeParserConfig>,
+        form: MethodForm,
+    ) -> Result<NodeId, Stop> {
+        (self.0)(p, Goal::Parameters(form))
     }
 }

@@ -2,4 +2,5 @@
 #![tactic(auto)]
 
 pub mod binding;
+pub mod method_parameters;
 pub mod parameters;
