@@ -1,5 +1,21 @@
 //! Object literals (ECMA-262, section 13.2.5).
 
+ghost use Rattle.std.specs.Prelude.{◌≡◌, ◌+◌, ◌≤◌, ◌∷◌, [], true, false, MatchResult, IfOk, Some};
+ghost use Rattle.js_base.specs.Kinds.{one_of_kinds};
+ghost use Rattle.js_base.specs.declared.kind.Kind.TheVariants.{Colon, Comma, Dot3, Eq, LCurly, LParen, RBrack, RCurly, RParen, Star};
+ghost use Rattle.js_cursor.specs.Moves.{Opened};
+ghost use Rattle.js_grammar.specs.Productions.{at, body_of, computed_flag, flag, generator_flag, method_flag, params_of, shorthand_flag, Primary, Property};
+ghost use Rattle.js_tree.specs.Labels.{number_of};
+ghost use Rattle.js_operands.specs.Objects.{NoProperties, Properties, ReadsAccessor, ReadsBehindName, ReadsMethod, ReadsShorthand, ReadsValue, TakesProperty, ends_name_kinds, kind_of_form, method_left, property_label};
+ghost use Rattle.js_parsing.specs.Answers.{Answers};
+ghost use Rattle.js_parsing.specs.Lexemes.{read_word};
+ghost use Rattle.js_parsing.specs.Lists.{ReadsItem};
+ghost use Rattle.js_parsing.specs.Methods.{ReadsWhole};
+ghost use Rattle.js_parsing.specs.Moves.{MadeHere};
+ghost use Rattle.js_parsing.specs.Nesting.{CanNest, room};
+ghost use Rattle.js_parsing.specs.Stands.{StandsHere};
+ghost use Rattle.js_parsing.specs.States.{Standing};
+
 use crate::arguments::parse_spread_element;
 use crate::property_name::{PropertyName, parse_property_name};
 use js_base::{Kind, NoMemory, Span};
@@ -17,6 +33,10 @@ pub fn parse_object_expression<C: ParserConfig, N: Nested<C>>(
     p: &mut ParserImpl<'_, C>,
     nested: &N,
 ) -> Result<NodeId, Stop>
+    requires at { Standing p.old }
+    requires nests { CanNest (N.can nested.now) (room p.old) }
+    requires open { p.old.token.kind ≡ LCurly }
+    ensures { Answers (at Primary) p.old p.new result }
 {
     let start = p.cur_start();
     let properties = parse_properties(p, nested)?;
@@ -30,6 +50,10 @@ fn parse_properties<C: ParserConfig, N: Nested<C>>(
     p: &mut ParserImpl<'_, C>,
     nested: &N,
 ) -> Result<Vec<Option<NodeId>>, Stop>
+    requires at { Standing p.old }
+    requires nests { CanNest (N.can nested.now) (room p.old) }
+    requires open { p.old.token.kind ≡ LCurly }
+    ensures { MatchResult result (λ v. Properties v.items p.old p.new) (λ e. NoProperties p.old p.new e) }
 {
     let opening = p.cur_token().span();
     advance(p)?;
@@ -48,6 +72,11 @@ fn parse_listed_property<C: ParserConfig, N: Nested<C>>(
     nested: &N,
     opening: Span,
 ) -> Result<NodeId, Stop>
+    requires at { Standing p.old }
+    requires nests { CanNest (N.can nested.now) (room p.old + 1) }
+    requires opened { Opened p.old opening }
+    requires more { StandsHere p.old RCurly false }
+    ensures { TakesProperty p.old p.new result }
 {
     let property = parse_property(p, nested)?;
     p.delimited_step(Kind::RCurly, opening, false)?;
@@ -59,6 +88,9 @@ fn parse_property<C: ParserConfig, N: Nested<C>>(
     p: &mut ParserImpl<'_, C>,
     nested: &N,
 ) -> Result<NodeId, Stop>
+    requires at { Standing p.old }
+    requires nests { CanNest (N.can nested.now) (room p.old + 1) }
+    ensures { ReadsItem (at Property) p.old p.new result }
 {
     if p.cur_token().escaped() {
         return Err(p.set_unexpected());
@@ -78,6 +110,11 @@ fn parse_other_property<C: ParserConfig, N: Nested<C>>(
     p: &mut ParserImpl<'_, C>,
     nested: &N,
 ) -> Result<NodeId, Stop>
+    requires at { Standing p.old }
+    requires nests { CanNest (N.can nested.now) (room p.old + 1) }
+    requires no_word { read_word p.old.token.kind ≡ false }
+    requires no_sign { one_of_kinds (Dot3 ∷ Star ∷ []) p.old.token.kind ≡ false }
+    ensures { ReadsItem (at Property) p.old p.new result }
 {
     let start = p.cur_start();
     let name = parse_property_name(p, nested)?;
@@ -89,6 +126,10 @@ fn parse_generator_method<C: ParserConfig, N: Nested<C>>(
     p: &mut ParserImpl<'_, C>,
     nested: &N,
 ) -> Result<NodeId, Stop>
+    requires at { Standing p.old }
+    requires nests { CanNest (N.can nested.now) (room p.old + 1) }
+    requires sign { StandsHere p.old Star true }
+    ensures { ReadsItem (at Property) p.old p.new result }
 {
     let start = p.cur_start();
     advance(p)?;
@@ -101,6 +142,11 @@ fn parse_word_property<C: ParserConfig, N: Nested<C>>(
     p: &mut ParserImpl<'_, C>,
     nested: &N,
 ) -> Result<NodeId, Stop>
+    requires at { Standing p.old }
+    requires nests { CanNest (N.can nested.now) (room p.old + 1) }
+    requires word { read_word p.old.token.kind ≡ true }
+    requires plain { p.old.token.escaped ≡ false }
+    ensures { ReadsItem (at Property) p.old p.new result }
 {
     let word = p.cur_token();
     let span = word.span();
@@ -125,6 +171,7 @@ fn parse_word_property<C: ParserConfig, N: Nested<C>>(
 
 /// Whether `get` or `set` before such a lexeme is the name of a property, and not the beginning of an accessor.
 fn ends_name(kind: Kind) -> bool
+    ensures { result ≡ one_of_kinds ends_name_kinds kind }
 {
     matches!(
         kind,
@@ -140,6 +187,7 @@ fn ends_name(kind: Kind) -> bool
 
 /// Whether a value or the parameters of a method begin with such a lexeme behind the name of a property.
 fn goes_on_with_value(kind: Kind) -> bool
+    ensures { result ≡ one_of_kinds (Colon ∷ LParen ∷ []) kind }
 {
     matches!(kind, Kind::Colon | Kind::LParen)
 }
@@ -151,6 +199,10 @@ fn parse_accessor<C: ParserConfig, N: Nested<C>>(
     start: u32,
     form: MethodForm,
 ) -> Result<NodeId, Stop>
+    requires at { Standing p.old }
+    requires nests { CanNest (N.can nested.now) (room p.old + 1) }
+    requires before { start ≤ p.old.prev_token_end }
+    ensures { ReadsAccessor start form p.old p.new result }
 {
     let name = parse_property_name(p, nested)?;
     parse_method(p, nested, start, name, form, false)
@@ -162,6 +214,10 @@ fn parse_shorthand<C: ParserConfig, N: Nested<C>>(
     nested: &N,
     name: Span,
 ) -> Result<NodeId, Stop>
+    requires at { Standing p.old }
+    requires nests { CanNest (N.can nested.now) (room p.old + 1) }
+    requires before { name.start ≤ p.old.prev_token_end }
+    ensures { ReadsShorthand name p.old p.new result }
 {
     let key = make_leaf(p, NodeKind::IdentifierName, Op::None, name)?;
     let value = make_leaf(p, NodeKind::IdentifierReference, Op::None, name)?;
@@ -188,6 +244,7 @@ fn parse_shorthand<C: ParserConfig, N: Nested<C>>(
 
 /// The flags of a shorthand.
 fn shorthand_flags() -> NodeFlags
+    ensures { number_of result ≡ shorthand_flag }
 {
     NodeFlags {
         shorthand: true,
@@ -202,6 +259,10 @@ fn parse_behind_name<C: ParserConfig, N: Nested<C>>(
     start: u32,
     name: PropertyName,
 ) -> Result<NodeId, Stop>
+    requires at { Standing p.old }
+    requires nests { CanNest (N.can nested.now) (room p.old + 1) }
+    requires before { start ≤ p.old.prev_token_end }
+    ensures { ReadsBehindName start name p.old p.new result }
 {
     match p.cur_kind() {
         Kind::Colon => parse_value(p, nested, start, name),
@@ -217,6 +278,11 @@ fn parse_value<C: ParserConfig, N: Nested<C>>(
     start: u32,
     name: PropertyName,
 ) -> Result<NodeId, Stop>
+    requires at { Standing p.old }
+    requires nests { CanNest (N.can nested.now) (room p.old + 1) }
+    requires before { start ≤ p.old.prev_token_end }
+    requires colon { p.old.token.kind ≡ Colon }
+    ensures { ReadsValue start name p.old p.new result }
 {
     advance(p)?;
     let value = assignment_with_in(p, nested)?;
@@ -235,6 +301,10 @@ fn parse_method<C: ParserConfig, N: Nested<C>>(
     form: MethodForm,
     generator: bool,
 ) -> Result<NodeId, Stop>
+    requires at { Standing p.old }
+    requires nests { CanNest (N.can nested.now) (room p.old + 1) }
+    requires before { start ≤ p.old.prev_token_end }
+    ensures { ReadsMethod start name form generator p.old p.new result }
 {
     let function = parse_method_function(p, nested, form, generator)?;
     let is_method = matches!(form, MethodForm::Method);
@@ -245,6 +315,7 @@ fn parse_method<C: ParserConfig, N: Nested<C>>(
 
 /// What a property is whose value is a method of this form.
 fn property_kind(form: MethodForm) -> PropertyKind
+    ensures { result ≡ kind_of_form form }
 {
     match form {
         MethodForm::Method => PropertyKind::Init,
@@ -255,6 +326,7 @@ fn property_kind(form: MethodForm) -> PropertyKind
 
 /// The flags of a property with a value.
 fn property_flags(computed: bool, method: bool) -> NodeFlags
+    ensures { number_of result ≡ flag computed computed_flag + flag method method_flag }
 {
     NodeFlags {
         computed,
@@ -272,6 +344,8 @@ fn make_property<C: ParserConfig>(
     key: NodeId,
     value: NodeId,
 ) -> Result<NodeId, NoMemory>
+    requires before { start ≤ p.old.prev_token_end }
+    ensures { IfOk result (λ id. MadeHere (property_label kind (number_of flags) start p.old.prev_token_end) (Some key ∷ Some value ∷ []) p.old p.new id) }
 {
     let span = p.end_span(start);
     let op = Op::Property(kind);
@@ -287,6 +361,9 @@ fn parse_method_function<C: ParserConfig, N: Nested<C>>(
     form: MethodForm,
     generator: bool,
 ) -> Result<NodeId, Stop>
+    requires at { Standing p.old }
+    requires nests { CanNest (N.can nested.now) (room p.old + 1) }
+    ensures { ReadsWhole (λ f. method_left form generator f) p.old p.new result }
 {
     let start = p.cur_start();
     let parameters = parameters_in_method(p, nested, form, generator)?;
@@ -301,6 +378,7 @@ fn parse_method_function<C: ParserConfig, N: Nested<C>>(
 
 /// The flags of a function that is a generator or not.
 fn function_flags(generator: bool) -> NodeFlags
+    ensures { number_of result ≡ flag generator generator_flag }
 {
     NodeFlags {
         generator,
