@@ -4,6 +4,7 @@ pub mod Intrinsics
 pub mod Links
 pub mod Marking
 pub mod Members
+pub mod Methods
 pub mod Operands
 pub mod Parentheses
 pub mod PropertyNames
@@ -11,3 +12,4 @@ pub mod Spreads
 pub mod Tame
 mod PartInsides
 mod Templates
+pub mod Wholes

@@ -4,10 +4,10 @@ use Rattle.js_base.specs.declared.kind.Kind.{Kind}
 use Rattle.js_base.specs.declared.kind.Kind.TheVariants.{Colon, Comma, Eq, Get, LCurly, LParen, RBrack, RCurly, RParen, Set}
 use Rattle.js_base.specs.declared.span.Span.{Span}
 use Rattle.js_base.specs.Kinds.{one_of_kinds}
-use Rattle.js_grammar.specs.Trees.{Label, Op, end, init, object_property, of}
+use Rattle.js_grammar.specs.Trees.{Label, Op, end, function_expression, init, no_op, object_property, of}
 use Rattle.js_grammar.specs.Grammar.{ahead, commas, never, nothing, when, ◌▸◌, ◌◇◌}
 use Rattle.js_grammar.specs.Parsing.{plain, full, Fails}
-use Rattle.js_grammar.specs.Productions.{G, Flags, at, computed_flag, each, flag, make, method_flag, opt, params_of, plus_in, shorthand_flag, tok, Assignment, IdentifierName, IdentifierReference, Init, Property}
+use Rattle.js_grammar.specs.Productions.{G, Flags, at, computed_flag, each, flag, generator_flag, make, method_flag, opt, params_of, plus_in, shorthand_flag, tok, Assignment, IdentifierName, IdentifierReference, Init, Property}
 use Rattle.js_grammar.specs.Productions.{sym as symbol}
 use Rattle.js_grammar.specs.Table.{rule, getter, method_function, name, plain_method, setter}
 use Rattle.js_tree.specs.declared.id.NodeId.{NodeId}
@@ -87,6 +87,10 @@ kind_of_form Setter = property.Set
 
 abbrev pub property_label : PropertyKind → ℕ → ℕ → ℕ → Label
 property_label k fl from to = record { kind = object_property; op = property_op k; flags = fl; span = record { from = from; to = to } }
+
+-- what the node of a method's function is
+abbrev pub function_label : Bool → ℕ → ℕ → Label
+function_label s from to = record { kind = function_expression; op = no_op; flags = flag s generator_flag; span = record { from = from; to = to } }
 
 -- before these `get` and `set` are names
 abbrev pub ends_name_kinds : List Kind

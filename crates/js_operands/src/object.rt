@@ -1,12 +1,13 @@
 //! Object literals (ECMA-262, section 13.2.5).
 
-ghost use Rattle.std.specs.Prelude.{◌≡◌, ◌+◌, ◌≤◌, ◌∷◌, [], true, false, MatchResult, IfOk, Some};
+ghost use Rattle.std.specs.Prelude.{◌≡◌, ◌+◌, ◌≤◌, ◌∷◌, [], true, false, MatchResult, IfOk, None, Some};
 ghost use Rattle.js_base.specs.Kinds.{one_of_kinds};
 ghost use Rattle.js_base.specs.declared.kind.Kind.TheVariants.{Colon, Comma, Dot3, Eq, LCurly, LParen, RBrack, RCurly, RParen, Star};
 ghost use Rattle.js_cursor.specs.Moves.{Opened};
 ghost use Rattle.js_grammar.specs.Productions.{at, body_of, computed_flag, flag, generator_flag, method_flag, params_of, shorthand_flag, Primary, Property};
 ghost use Rattle.js_tree.specs.Labels.{number_of};
-ghost use Rattle.js_operands.specs.Objects.{NoProperties, Properties, ReadsAccessor, ReadsBehindName, ReadsMethod, ReadsShorthand, ReadsValue, TakesProperty, ends_name_kinds, kind_of_form, method_left, property_label};
+ghost use Rattle.js_tree.specs.declared.op.PropertyKind.TheVariants.{Init};
+ghost use Rattle.js_operands.specs.Objects.{NoProperties, Properties, ReadsAccessor, ReadsBehindName, ReadsMethod, ReadsShorthand, ReadsValue, TakesProperty, ends_name_kinds, function_label, kind_of_form, method_left, property_label};
 ghost use Rattle.js_parsing.specs.Answers.{Answers};
 ghost use Rattle.js_parsing.specs.Lexemes.{read_word};
 ghost use Rattle.js_parsing.specs.Lists.{ReadsItem};
@@ -222,24 +223,33 @@ fn parse_shorthand<C: ParserConfig, N: Nested<C>>(
     let key = make_leaf(p, NodeKind::IdentifierName, Op::None, name)?;
     let value = make_leaf(p, NodeKind::IdentifierReference, Op::None, name)?;
     if !p.at(Kind::Eq) {
-        let span = p.end_span(name.start);
         let flags = shorthand_flags();
-        let op = Op::Property(PropertyKind::Init);
-        let node = p
-            .ast
-            .node_of_two(NodeKind::ObjectProperty, span, op, flags, Some(key), Some(value))?;
+        let node = make_property(p, name.start, PropertyKind::Init, flags, key, value)?;
         return Ok(node);
     }
     advance(p)?;
     let initialiser = assignment_with_in(p, nested)?;
-    let span = p.end_span(name.start);
+    let node = make_initialised(p, name.start, key, value, initialiser)?;
+    Ok(node)
+}
+
+/// The node of a shorthand with an initialiser, which began at a place.
+fn make_initialised<C: ParserConfig>(
+    p: &mut ParserImpl<'_, C>,
+    start: u32,
+    key: NodeId,
+    value: NodeId,
+    initialiser: NodeId,
+) -> Result<NodeId, NoMemory>
+    requires before { start ≤ p.old.prev_token_end }
+    ensures { IfOk result (λ id. MadeHere (property_label Init shorthand_flag start p.old.prev_token_end) (Some key ∷ Some value ∷ Some initialiser ∷ []) p.old p.new id) }
+{
+    let span = p.end_span(start);
     let flags = shorthand_flags();
     let op = Op::Property(PropertyKind::Init);
     let children = [Some(key), Some(value), Some(initialiser)];
-    let node = p
-        .ast
-        .node_of_three(NodeKind::ObjectProperty, span, op, flags, children)?;
-    Ok(node)
+    p.ast
+        .node_of_three(NodeKind::ObjectProperty, span, op, flags, children)
 }
 
 /// The flags of a shorthand.
@@ -368,12 +378,26 @@ fn parse_method_function<C: ParserConfig, N: Nested<C>>(
     let start = p.cur_start();
     let parameters = parameters_in_method(p, nested, form, generator)?;
     let body = body_in_method(p, nested, generator)?;
+    let node = make_function(p, start, generator, parameters, body)?;
+    Ok(node)
+}
+
+/// The node of a function without a name that began at a place.
+fn make_function<C: ParserConfig>(
+    p: &mut ParserImpl<'_, C>,
+    start: u32,
+    generator: bool,
+    parameters: NodeId,
+    body: NodeId,
+) -> Result<NodeId, NoMemory>
+    requires before { start ≤ p.old.prev_token_end }
+    ensures { IfOk result (λ id. MadeHere (function_label generator start p.old.prev_token_end) (None ∷ Some parameters ∷ Some body ∷ []) p.old p.new id) }
+{
     let span = p.end_span(start);
     let flags = function_flags(generator);
-    let children = [None, Some(parameters), Some(body)];
     let kind = NodeKind::FunctionExpression;
-    let node = p.ast.node_of_three(kind, span, Op::None, flags, children)?;
-    Ok(node)
+    let children = [None, Some(parameters), Some(body)];
+    p.ast.node_of_three(kind, span, Op::None, flags, children)
 }
 
 /// The flags of a function that is a generator or not.
