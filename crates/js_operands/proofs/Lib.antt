@@ -7,9 +7,12 @@ pub mod Members
 pub mod Methods
 pub mod Operands
 pub mod Parentheses
+pub mod Properties
+pub mod PropertyLists
 pub mod PropertyNames
 pub mod Spreads
 pub mod Tame
 mod PartInsides
 mod Templates
 pub mod Wholes
+pub mod WordProperties

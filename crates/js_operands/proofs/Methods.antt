@@ -8,7 +8,7 @@ use Rattle.js_grammar.specs.Lexemes.{is_word}
 use Rattle.js_grammar.specs.Trees.{Label, Op, NodeKind, Slots, end, hole, tree, append, no_op, init, object_property, function_expression}
 use Rattle.js_grammar.specs.Grammar.{Lexeme, Look, here, such, nothing, empty_slot, ◌▸◌}
 use Rattle.js_grammar.specs.Parsing.{Test, plain, full, always, Fails}
-use Rattle.js_grammar.specs.Productions.{G, Flags, at, async_flag, body_of, flag, generator_flag, make, params_of, plus_in, tok, Assignment, Body}
+use Rattle.js_grammar.specs.Productions.{G, Flags, at, async_flag, body_of, computed_flag, flag, method_flag, generator_flag, make, params_of, plus_in, tok, Assignment, Body}
 use Rattle.js_grammar.specs.Productions.{sym as symbol}
 use Rattle.js_grammar.specs.Table.{rule}
 use Rattle.js_grammar.proofs.Looks.{covers}
@@ -19,8 +19,12 @@ use Rattle.js_tree.specs.Holding.{Holds, HoldsAll, Keeps}
 use Rattle.js_tree.proofs.HoldingLemmas.{HoldsAll-none, HoldsAll-next, Keeps-refl, Keeps-trans, Keeps-made}
 use Rattle.js_cursor.specs.Parsers.{Parser}
 use Rattle.js_cursor.specs.declared.stop.Stop.{Stop}
-use Rattle.js_operands.specs.Objects.{function_label, method_left, value_left}
+use Rattle.js_operands.specs.Objects.{flags_of_form, function_label, kind_of_form, method_left, op_of_form, property_label, value_left}
+use Rattle.js_tree.specs.declared.op.PropertyKind.{PropertyKind}
+use Rattle.js_tree.specs.declared.op.PropertyKind.TheVariants as property
+use Rattle.js_tree.specs.Labels.{property_op}
 use Rattle.js_parsing.specs.declared.nested.MethodForm.{MethodForm}
+use Rattle.js_parsing.specs.declared.nested.MethodForm.TheVariants.{Method, Getter, Setter}
 use Rattle.js_parsing.specs.Answers.{Answer, Numbered, Stops, Underived}
 use Rattle.js_parsing.specs.Arguments.{PartTaken, Partway, behind_item}
 use Rattle.js_parsing.specs.Lexemes.{Lex}
@@ -65,6 +69,22 @@ module _ {text : List ℕ} {f : Flags} (form : MethodForm) (s : Bool) {p q : Par
     function_taken = whole_answers whole.same made.stays (node_held made (whole.holds (length p.nodes) end (HoldsAll-none p.nodes (length p.nodes) (length p.nodes) (omega arith)))) (Keeps-trans whole.keeps (Keeps-made made.made)) refl (one_lies made) (flagged_by a inside_full (part_path whole))
 
 -- ---- the property
+
+-- its node, which began there, of a value and of a method
+pub value_made : (first : Parser) {q w : Parser} {ids : List (Option NodeId)} {id : NodeId} {start fl : ℕ} (c : Bool) → start ≡ first.token.span.start → fl ≡ flag c computed_flag + flag false method_flag → MadeHere (property_label property.Init fl start q.prev_token_end) ids q w id → MadeHere (flagged_here object_property init (flag c computed_flag) first q) ids q w id
+value_made first {q} {w} {ids} {id} {start} {fl} c e h n = subst (λ (v : Label). MadeHere v ids q w id) (rw (e, h ∙ no_more c) refl) n
+  where
+    no_more : (c : Bool) → flag c computed_flag + flag false method_flag ≡ flag c computed_flag
+    no_more true = refl
+    no_more false = refl
+
+pub method_made : (first : Parser) {q w : Parser} {ids : List (Option NodeId)} {id : NodeId} {start fl : ℕ} {k : PropertyKind} (form : MethodForm) (c : Bool) → start ≡ first.token.span.start → (fl ≡ flags_of_form form c) × (k ≡ kind_of_form form) → MadeHere (property_label k fl start q.prev_token_end) ids q w id → MadeHere (flagged_here object_property (op_of_form form) (flags_of_form form c) first q) ids q w id
+method_made first {q} {w} {ids} {id} {start} {fl} {k} form c e h n = subst (λ (v : Label). MadeHere v ids q w id) (rw (e, h.0, h.1) (ap (λ (o : Op). record { kind = object_property; op = o; flags = flags_of_form form c; span = record { from = first.token.span.start; to = q.prev_token_end } }) (its_op form))) n
+  where
+    its_op : (form : MethodForm) → property_op (kind_of_form form) ≡ op_of_form form
+    its_op Method = refl
+    its_op Getter = refl
+    its_op Setter = refl
 
 abbrev next_kinds : Look
 next_kinds k w e = one_of_kinds (Comma ∷ RParen ∷ RBrack ∷ RCurly ∷ []) k

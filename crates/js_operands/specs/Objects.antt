@@ -1,9 +1,9 @@
 -- What the parse functions of object literals answer (ECMA-262, 13.2.5): each form of a property, and the list of them as far as it was read.
-use Rattle.std.specs.Prelude.{ℕ, ◌+◌, ◌≡◌, Bool, false, true, List, [], ◌∷◌, ◌++◌, Option, Some, Result, Ok, Err}
+use Rattle.std.specs.Prelude.{ℕ, ◌+◌, ◌≡◌, Bool, false, true, List, [], ◌∷◌, ◌++◌, Option, Some, None, if◌then◌else◌, Result, Ok, Err}
 use Rattle.js_base.specs.declared.kind.Kind.{Kind}
-use Rattle.js_base.specs.declared.kind.Kind.TheVariants.{Colon, Comma, Eq, Get, LCurly, LParen, RBrack, RCurly, RParen, Set}
+use Rattle.js_base.specs.declared.kind.Kind.TheVariants.{Colon, Comma, Eq, Get, LCurly, LParen, RBrack, RCurly, RParen, Set, Star}
 use Rattle.js_base.specs.declared.span.Span.{Span}
-use Rattle.js_base.specs.Kinds.{one_of_kinds}
+use Rattle.js_base.specs.Kinds.{same_kind, one_of_kinds}
 use Rattle.js_grammar.specs.Trees.{Label, Op, end, function_expression, init, no_op, object_property, of}
 use Rattle.js_grammar.specs.Grammar.{ahead, commas, never, nothing, when, ◌▸◌, ◌◇◌}
 use Rattle.js_grammar.specs.Parsing.{plain, full, Fails}
@@ -96,6 +96,10 @@ function_label s from to = record { kind = function_expression; op = no_op; flag
 abbrev pub ends_name_kinds : List Kind
 ends_name_kinds = Colon ∷ LParen ∷ Eq ∷ Comma ∷ RParen ∷ RBrack ∷ RCurly ∷ []
 
+-- which accessor a word begins before another lexeme
+abbrev pub form_of : Kind → Kind → Option MethodForm
+form_of word behind = if one_of_kinds ends_name_kinds behind then None else (if same_kind Get word then Some Getter else (if same_kind Set word then Some Setter else None))
+
 -- ---- their answers
 
 -- From the state `first`, where the property began, up to the old one its name was read; now what stands behind the name is.
@@ -106,7 +110,7 @@ abbrev pub ReadsMethod : ℕ → PropertyName → MethodForm → Bool → Parser
 ReadsMethod start n form s old new r = (text : List ℕ) (f : Flags) (first : Parser) (g : G) → At text f first → start ≡ first.token.span.start → Partway text f g (method_left form s f) first old [] (Some n.key ∷ []) → PartOutcome text f (make object_property (op_of_form form) (flags_of_form form n.computed) g) first new r
 
 abbrev pub ReadsBehindName : ℕ → PropertyName → Parser → Parser → Result NodeId Stop → Type 0
-ReadsBehindName start n old new r = (text : List ℕ) (f : Flags) (first : Parser) → At text f first → start ≡ first.token.span.start → NameRead text f n.computed first old n.key → PartOutcome text f (named n.computed f) first new r
+ReadsBehindName start n old new r = (text : List ℕ) (f : Flags) (first : Parser) → At text f first → start ≡ first.token.span.start → one_of_kinds (Star ∷ []) first.token.kind ≡ false → NameRead text f n.computed first old n.key → PartOutcome text f (named n.computed f) first new r
 
 -- Its first word was passed: what stands behind it makes of it an accessor, or a name alone.
 abbrev pub ReadsAccessor : ℕ → MethodForm → Parser → Parser → Result NodeId Stop → Type 0

@@ -1,15 +1,15 @@
 //! Object literals (ECMA-262, section 13.2.5).
 
-ghost use Rattle.std.specs.Prelude.{◌≡◌, ◌+◌, ◌≤◌, ◌∷◌, [], true, false, MatchResult, IfOk, None, Some};
+ghost use Rattle.std.specs.Prelude.{not, ◌&&◌, ◌≡◌, ◌+◌, ◌≤◌, ◌∷◌, [], true, false, MatchResult, IfOk, None, Some};
 ghost use Rattle.js_base.specs.Kinds.{one_of_kinds};
 ghost use Rattle.js_base.specs.declared.kind.Kind.TheVariants.{Colon, Comma, Dot3, Eq, LCurly, LParen, RBrack, RCurly, RParen, Star};
 ghost use Rattle.js_cursor.specs.Moves.{Opened};
 ghost use Rattle.js_grammar.specs.Productions.{at, body_of, computed_flag, flag, generator_flag, method_flag, params_of, shorthand_flag, Primary, Property};
 ghost use Rattle.js_tree.specs.Labels.{number_of};
 ghost use Rattle.js_tree.specs.declared.op.PropertyKind.TheVariants.{Init};
-ghost use Rattle.js_operands.specs.Objects.{NoProperties, Properties, ReadsAccessor, ReadsBehindName, ReadsMethod, ReadsShorthand, ReadsValue, TakesProperty, ends_name_kinds, function_label, kind_of_form, method_left, property_label};
+ghost use Rattle.js_operands.specs.Objects.{NoProperties, Properties, ReadsAccessor, ReadsBehindName, ReadsMethod, ReadsShorthand, ReadsValue, TakesProperty, ends_name_kinds, flags_of_form, form_of, function_label, kind_of_form, method_left, property_label};
 ghost use Rattle.js_parsing.specs.Answers.{Answers};
-ghost use Rattle.js_parsing.specs.Lexemes.{read_word};
+ghost use Rattle.js_parsing.specs.Lexemes.{name_kinds, read_word};
 ghost use Rattle.js_parsing.specs.Lists.{ReadsItem};
 ghost use Rattle.js_parsing.specs.Methods.{ReadsWhole};
 ghost use Rattle.js_parsing.specs.Moves.{MadeHere};
@@ -152,14 +152,10 @@ fn parse_word_property<C: ParserConfig, N: Nested<C>>(
     let word = p.cur_token();
     let span = word.span();
     advance(p)?;
-    if !ends_name(p.cur_kind()) {
-        match word.kind() {
-            Kind::Get => return parse_accessor(p, nested, span.start, MethodForm::Getter),
-            Kind::Set => return parse_accessor(p, nested, span.start, MethodForm::Setter),
-            _ => {}
-        }
+    if let Some(form) = accessor_form(word.kind(), p.cur_kind()) {
+        return parse_accessor(p, nested, span.start, form);
     }
-    if is_name(word.kind()) && !goes_on_with_value(p.cur_kind()) {
+    if is_shorthand(word.kind(), p.cur_kind()) {
         return parse_shorthand(p, nested, span);
     }
     let key = make_leaf(p, NodeKind::IdentifierName, Op::None, span)?;
@@ -186,11 +182,25 @@ fn ends_name(kind: Kind) -> bool
     )
 }
 
-/// Whether a value or the parameters of a method begin with such a lexeme behind the name of a property.
-fn goes_on_with_value(kind: Kind) -> bool
-    ensures { result ≡ one_of_kinds (Colon ∷ LParen ∷ []) kind }
+/// Which accessor a word begins before such a lexeme, if one.
+fn accessor_form(word: Kind, behind: Kind) -> Option<MethodForm>
+    ensures { result ≡ form_of word behind }
 {
-    matches!(kind, Kind::Colon | Kind::LParen)
+    if ends_name(behind) {
+        return None;
+    }
+    match word {
+        Kind::Get => Some(MethodForm::Getter),
+        Kind::Set => Some(MethodForm::Setter),
+        _ => None,
+    }
+}
+
+/// Whether a word before such a lexeme is a name alone: neither a value nor a method stands behind it.
+fn is_shorthand(word: Kind, behind: Kind) -> bool
+    ensures { result ≡ (one_of_kinds name_kinds word && not (one_of_kinds (Colon ∷ LParen ∷ []) behind)) }
+{
+    is_name(word) && !matches!(behind, Kind::Colon | Kind::LParen)
 }
 
 /// A getter or a setter, from its name on; its `get` or `set` began at a place (ECMA-262, section 15.4).
@@ -317,8 +327,7 @@ fn parse_method<C: ParserConfig, N: Nested<C>>(
     ensures { ReadsMethod start name form generator p.old p.new result }
 {
     let function = parse_method_function(p, nested, form, generator)?;
-    let is_method = matches!(form, MethodForm::Method);
-    let flags = property_flags(name.computed, is_method);
+    let flags = method_flags(form, name.computed);
     let node = make_property(p, start, property_kind(form), flags, name.key, function)?;
     Ok(node)
 }
@@ -334,7 +343,17 @@ fn property_kind(form: MethodForm) -> PropertyKind
     }
 }
 
-/// The flags of a property with a value.
+/// The flags of a property whose value is a method of this form.
+fn method_flags(form: MethodForm, computed: bool) -> NodeFlags
+    ensures { number_of result ≡ flags_of_form form computed }
+{
+    match form {
+        MethodForm::Method => property_flags(computed, true),
+        MethodForm::Getter | MethodForm::Setter => property_flags(computed, false),
+    }
+}
+
+/// The flags of a property with a value, or with a method.
 fn property_flags(computed: bool, method: bool) -> NodeFlags
     ensures { number_of result ≡ flag computed computed_flag + flag method method_flag }
 {
