@@ -8,6 +8,7 @@ pub mod Methods
 pub mod Operands
 pub mod Parentheses
 pub mod Properties
+pub mod PropertyForms
 pub mod PropertyLists
 pub mod PropertyNames
 pub mod Spreads

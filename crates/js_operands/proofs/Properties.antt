@@ -40,7 +40,7 @@ use Rattle.js_operands.proofs.Wholes.{part_under, whole_part}
 
 -- ---- the forms of the line
 
-abbrev forms : Bool → Flags → G
+abbrev pub forms : Bool → Flags → G
 forms c f = with_value c f ◇ with_method c f ◇ getter_of c f ◇ setter_of c f
 
 line : (f : Flags) → rule (at Property f) ≡ alt (shorthand f) (alt (alt (forms false f) (forms true f)) (spread f))
@@ -81,6 +81,17 @@ module _ {text : List ℕ} (f : Flags) {X : Test} {s : ℕ} where
     where
       so : (c : Bool) → Goes rule (Lex text) X end (forms c f) s (setter_of c f) s (λ us. us) (still 0)
       so c = right (v c) ▹ (right (w c) ▹ right (t c))
+
+  only_method_so : (c : Bool) → No text X s (with_value c f) → No text X s (getter_of c f) → No text X s (setter_of c f) → Goes rule (Lex text) X end (forms c f) s (with_method c f) s (λ us. us) (still 0)
+  only_method_so c v g t = right v ▹ left (fails_alt g t)
+
+  pub only_method : (c : Bool) → No text X s (shorthand f) → No text X s (spread f) → ((d : Bool) → No text X s (with_value d f)) → ((d : Bool) → No text X s (getter_of d f)) → ((d : Bool) → No text X s (setter_of d f)) → No text X s (with_method (not c) f) → Goes rule (Lex text) X end (rule (at Property f)) s (with_method c f) s (λ us. us) (still 0)
+  only_method false n m v g t o = only_forms n m ▹ (left (fails_alt (v true) (fails_alt o (fails_alt (g true) (t true)))) ▹ only_method_so false (v false) (g false) (t false))
+  only_method true n m v g t o = only_forms n m ▹ (right (fails_alt (v false) (fails_alt o (fails_alt (g false) (t false)))) ▹ only_method_so true (v true) (g true) (t true))
+
+  -- nothing of it
+  pub none_of_line : No text X s (shorthand f) → ((c : Bool) → No text X s (forms c f)) → No text X s (spread f) → No text X s (rule (at Property f))
+  none_of_line n m o = to_line ▹✗ fails_alt n (fails_alt (fails_alt (m false) (m true)) o)
 
   pub no_forms : (c : Bool) → No text X s (with_value c f) → No text X s (with_method c f) → No text X s (getter_of c f) → No text X s (setter_of c f) → No text X s (forms c f)
   no_forms c n m g t = fails_alt n (fails_alt m (fails_alt g t))

@@ -1,5 +1,5 @@
 -- Object literals (ECMA-262, 13.2.5): what is left of the list behind each of its properties.
-use Rattle.std.proofs.Common.{ℕ, ◌≡◌, ◌≤◌, ◌<◌, inl, inr, max, IsTrue, List, [], ◌∷◌, ◌++◌, length, Option, Some, false, ◌||◌, refl, sym, ap, subst, arith, ◌∙◌}
+use Rattle.std.proofs.Common.{ℕ, ◌≡◌, ◌≤◌, ◌<◌, inl, inr, max, IsTrue, true, List, [], ◌∷◌, ◌++◌, length, Option, Some, false, ◌||◌, refl, sym, ap, subst, arith, ◌∙◌}
 use Rattle.std.specs.Prelude.{Result, Ok, Err, MatchResult}
 use Rattle.std.proofs.lemmas.Bool.{false≢true, and_parts}
 use Rattle.js_base.specs.declared.diagnostic.Diagnostic.{Diagnostic}
@@ -19,7 +19,7 @@ use Rattle.js_grammar.specs.Productions.{sym as symbol}
 use Rattle.js_grammar.specs.Table.{rule, rule_of}
 use Rattle.js_grammar.specs.Follow.{after}
 use Rattle.js_grammar.proofs.Looks.{covers, apart, not_both}
-use Rattle.js_grammar.proofs.Calculus.{◌▹◌, ◌▹✗◌, after_item, by_plain, commas_item, done, fails_commas, fails_lexeme, fails_node, fails_nothing, fails_rule, inside_full, left, no_comma, part_fails, right, same}
+use Rattle.js_grammar.proofs.Calculus.{◌▹◌, ◌▹✗◌, after_comma, after_item, by_plain, commas_item, done, fails_commas, fails_lexeme, fails_node, fails_nothing, fails_rule, inside_full, left, no_comma, part_fails, right, same}
 use Rattle.js_grammar.proofs.FirstClaims.{firsts}
 use Rattle.js_grammar.proofs.First.{starts}
 use Rattle.js_grammar.specs.FirstSets.{first as first_of}
@@ -135,7 +135,7 @@ module _ {text : List ℕ} (f : Flags) {s : ℕ} where
 
   comma_left : NoneIs text s RCurly → Goes rule (Lex text) (plain full) end (rest f) s (seq (tok Comma) (properties f)) s (λ us. us) (still 0)
   unfolding covers
-  comma_left n = part firsts (is RCurly) (left (not_closed n)) refl ▹ regrouped
+  comma_left n = part firsts (is RCurly) (left {a = seq (tok Comma) (after_comma true (property f))} {b = nothing} (not_closed n)) refl ▹ regrouped
 
   rest_fails : NoneIs text s Comma → NoneIs text s RCurly → Fails rule (Lex text) (plain full) end (rest f) s
   rest_fails n m = no_comma_left n ▹✗ fails_lexeme (is RCurly) (none_so m)

@@ -1,2 +1,3 @@
-use Rattle.js_operands.proofs.WordProperties.{no_accessor, no_methods, no_values, not_alone, one_begins}
+use Rattle.js_operands.proofs.PropertyLists.{loop_start, object_answers}
+use Rattle.js_operands.proofs.PropertyForms.{accessor_read}
 use Rattle.js_operands.proofs.object.ends_name.Goals as goal
