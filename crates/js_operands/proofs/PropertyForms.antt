@@ -12,7 +12,7 @@ use Rattle.js_grammar.specs.Grammar.{Look, nothing, ◌▸◌}
 use Rattle.js_grammar.specs.Parsing.{Test, plain, full, always, still, Goes, Fails}
 use Rattle.js_grammar.specs.Productions.{G, Flags, at, tok, Property}
 use Rattle.js_grammar.specs.Table.{rule, getter, name, plain_method, setter}
-use Rattle.js_grammar.specs.Trees.{end}
+use Rattle.js_grammar.specs.Trees.{Label, end}
 use Rattle.js_grammar.proofs.Looks.{covers, covered, apart}
 use Rattle.js_grammar.proofs.Calculus.{◌▹◌, ◌▹✗◌, done, fails_alt, fails_node, fails_rule, inside_full, left, right}
 use Rattle.js_tree.specs.declared.id.NodeId.{NodeId}
@@ -27,14 +27,20 @@ use Rattle.js_parsing.specs.declared.nested.MethodForm.{MethodForm}
 use Rattle.js_parsing.specs.declared.nested.MethodForm.TheVariants.{Method, Getter, Setter}
 use Rattle.js_parsing.specs.Arguments.{NoItem, Partway, behind_item}
 use Rattle.js_parsing.specs.Lexemes.{Lex, name_kinds, read_word}
-use Rattle.js_parsing.specs.Moves.{Moved}
+use Rattle.js_parsing.specs.Moves.{LeafTaken, MadeHere, Moved, Moves, plain_label}
+use Rattle.js_parsing.specs.Nesting.{room}
+use Rattle.js_base.specs.declared.span.Span.{Span}
+use Rattle.js_tree.specs.declared.kind.NodeKind.TheVariants as node
+use Rattle.js_tree.specs.declared.op.Op.TheVariants as op_made
+use Rattle.js_operands.proofs.Members.{name_taken}
+use Rattle.js_operands.proofs.PropertyNames.{literal_kinds, word_outcome}
 use Rattle.js_parsing.specs.States.{At}
-use Rattle.js_parsing.proofs.Moving.{neither}
+use Rattle.js_parsing.proofs.Moving.{beside_nodes, neither}
 use Rattle.js_parsing.proofs.Parts.{part_from, part_sign, parts}
 use Rattle.js_parsing.proofs.Paths.{◌⟶✗◌, token}
 use Rattle.js_parsing.proofs.Signs.{plain_sign}
 use Rattle.js_operands.proofs.Methods.{no_first}
-use Rattle.js_operands.proofs.Properties.{behind_shorthand, forms, kinds_apart, name_part, no_forms, no_getter, no_method, no_name_begins, no_setter, no_shorthand, no_spread, no_value, only_getters, only_method, only_named, only_setters, only_shorthand, only_spread, property_name_kinds, none_of_line, with_star}
+use Rattle.js_operands.proofs.Properties.{behind_shorthand, forms, kinds_apart, name_part, no_forms, no_getter, no_method, no_name_begins, no_setter, no_shorthand, no_spread, no_value, only_getters, only_method, only_named, only_setters, only_shorthand, only_spread, property_name_kinds, none_of_line, with_star, word_apart}
 use Rattle.js_operands.proofs.WordProperties.{name_word, no_accessor, no_dots, no_methods, no_star, no_values, not_alone, one_begins}
 
 abbrev read_words : Look
@@ -187,3 +193,34 @@ module _ {text : List ℕ} {f : Flags} {p q : Parser} (a : At text f p) (e : p.t
   accessor_read w v Method n s k x y = absurd k
   accessor_read w v Getter n s k x y = part_by text f p w v (get_only k n.computed x.other) (y text f p _ a s (get_part k n.computed x))
   accessor_read w v Setter n s k x y = part_by text f p w v (set_only k n.computed x.other) (y text f p _ a s (set_part k n.computed x))
+
+-- ---- what the code knows of the word and of what stands behind it
+
+pub one_form : {w b k j : Kind} (form : MethodForm) → w ≡ k → b ≡ j → form_of w b ≡ Some form → Begins form k × (one_of_kinds ends_name_kinds j ≡ false)
+one_form {w} {b} form e h n = let z = one_begins w b form n in (subst (λ (k : Kind). Begins form k) e z.0, subst (λ (k : Kind). one_of_kinds ends_name_kinds k ≡ false) h z.1)
+
+pub no_form : {w b k j : Kind} → w ≡ k → b ≡ j → form_of w b ≡ None → form_of k j ≡ None
+no_form {w} {b} {k} {j} e h n = subst (λ (x : Kind). form_of x j ≡ None) e (subst (λ (x : Kind). form_of w x ≡ None) h n)
+
+pub no_value_or_method : (x y : Bool) → (x && not y) ≡ true → (x ≡ true) × (y ≡ false)
+no_value_or_method true false h = (refl, refl)
+no_value_or_method true true h = absurd (false≢true h)
+no_value_or_method false y h = absurd (false≢true h)
+
+pub no_shorthand_here : {w b k j : Kind} → w ≡ k → b ≡ j → (one_of_kinds name_kinds w && not (one_of_kinds (Colon ∷ LParen ∷ []) b)) ≡ false → (one_of_kinds name_kinds k && not (one_of_kinds (Colon ∷ LParen ∷ []) j)) ≡ false
+no_shorthand_here {w} {b} {k} {j} e h n = subst (λ (x : Kind). (one_of_kinds name_kinds x && not (one_of_kinds (Colon ∷ LParen ∷ []) j)) ≡ false) e (subst (λ (x : Kind). (one_of_kinds name_kinds w && not (one_of_kinds (Colon ∷ LParen ∷ []) x)) ≡ false) h n)
+
+-- a word that was passed, and its node
+module _ {text : List ℕ} {f : Flags} {p q : Parser} (a : At text f p) (r : read_word p.token.kind ≡ true) (e : p.token.escaped ≡ false) (ms : Moves p q) where
+  pub word_name : {u : Parser} {id : NodeId} {s : Span} → s ≡ p.token.span → MadeHere (plain_label node.IdentifierName op_made.None s) [] q u id → NameRead text f false p u id
+  unfolding apart
+  word_name {u} {id} {s} h n = word_outcome a (λ k d. bracket_is (sym (word_apart (LBrack ∷ []) refl p.token.kind r) ∙ ap (one_of_kinds (LBrack ∷ [])) k)) (word_apart literal_kinds refl p.token.kind r) u (Ok id) (name_taken text f p u (Ok id) a r e (λ t g b. leaf t g b))
+    where
+      bracket_is : false ≡ one_of_kinds (LBrack ∷ []) LBrack → ⊥
+      bracket_is h = false≢true h
+
+      leaf : (t : List ℕ) (g : Flags) → At t g p → LeafTaken node.IdentifierName op_made.None t g p u id
+      leaf t g b = record { mid = q; moved = ms t g b; made = subst (λ (v : Span). MadeHere (plain_label node.IdentifierName op_made.None v) [] q u id) h n }
+
+pub leaf_at : {text : List ℕ} {f : Flags} {q u : Parser} {id : NodeId} {l : Label} → At text f q → MadeHere l [] q u id → At text f u × (u.prev_token_end ≡ q.prev_token_end) × (room u ≡ room q)
+leaf_at {text} {f} {q} {u} a n = (subst (λ (z : Parser). At text f z) (sym n.stays) (beside_nodes u.nodes a), ap (λ (z : Parser). z.prev_token_end) n.stays, ap (λ (z : Parser). room z) n.stays)

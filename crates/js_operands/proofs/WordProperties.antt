@@ -29,7 +29,9 @@ use Rattle.js_tree.proofs.HoldingLemmas.{HoldsAll-one, HoldsAll-next, Keeps-refl
 use Rattle.js_cursor.specs.Moves.{is_last}
 use Rattle.js_cursor.specs.Parsers.{Parser}
 use Rattle.js_cursor.specs.declared.stop.Stop.{Stop}
-use Rattle.js_operands.specs.Objects.{Begins, ends_name_kinds, form_of, getter_of, method_left, setter_of, shorthand, value_left, with_method, with_value}
+use Rattle.js_tree.specs.declared.op.PropertyKind.TheVariants as property
+use Rattle.js_parsing.specs.Nesting.{room}
+use Rattle.js_operands.specs.Objects.{Begins, ends_name_kinds, form_of, getter_of, method_left, property_label, setter_of, shorthand, value_left, with_method, with_value}
 use Rattle.js_operands.specs.PropertyNames.{NoName}
 use Rattle.js_operands.specs.Spreads.{spread}
 use Rattle.js_parsing.specs.declared.nested.MethodForm.{MethodForm}
@@ -338,3 +340,16 @@ module _ {text : List ℕ} {f : Flags} {p q : Parser} (a : At text f p) (i : one
           let moved : HoldsAll r.nodes (length p.nodes) (length r.nodes) (Some key ∷ Some value ∷ []) (two end) = subst (λ (ns : List Node). HoldsAll ns (length p.nodes) (length ns) (Some key ∷ Some value ∷ []) (two end)) (sym g.nodes) both_held in
           let keeps : Keeps p.nodes w.nodes = Keeps-trans both_keep (subst (λ (ns : List Node). Keeps ns w.nodes) g.nodes y.keeps) in
           part_answers (same_both both_same (same_both g.same y.answer.same)) d.stays (node_held d (HoldsAll-next first y.keeps moved y.holds)) (Keeps-trans keeps (Keeps-made d.made)) refl (one_lies d) (initialised_path y.answer)
+
+-- ---- where the two nodes of a name were made, and its property
+
+pub leaves_at : {text : List ℕ} {f : Flags} {q u v : Parser} {key value : NodeId} {l l' : Label} {start : ℕ} → At text f q → MadeHere l [] q u key → MadeHere l' [] u v value → start ≤ q.prev_token_end → At text f v × (start ≤ v.prev_token_end) × (room v ≡ room q)
+leaves_at {text} {f} {q} {u} {v} {start = start} a x y b =
+    let e : v ≡ record q { nodes = v.nodes } = y.stays ∙ ap (λ (z : Parser). record z { nodes = v.nodes }) x.stays in
+    (subst (λ (z : Parser). At text f z) (sym e) (beside_nodes v.nodes a), subst (λ (z : Parser). start ≤ z.prev_token_end) (sym e) b, ap (λ (z : Parser). room z) e)
+
+pub shorthand_made : (first : Parser) {q w : Parser} {ids : List (Option NodeId)} {id : NodeId} {s : Span} {fl : ℕ} → s ≡ first.token.span → fl ≡ shorthand_flag → MadeHere (property_label property.Init fl s.start q.prev_token_end) ids q w id → MadeHere (flagged_here object_property init shorthand_flag first q) ids q w id
+shorthand_made first {q} {w} {ids} {id} e h n = subst (λ (v : Label). MadeHere v ids q w id) (rw (e, h) refl) n
+
+pub shorthand_made_with : (first : Parser) {q w : Parser} {ids : List (Option NodeId)} {id : NodeId} {s : Span} → s ≡ first.token.span → MadeHere (property_label property.Init shorthand_flag s.start q.prev_token_end) ids q w id → MadeHere (flagged_here object_property init shorthand_flag first q) ids q w id
+shorthand_made_with first e n = shorthand_made first e refl n

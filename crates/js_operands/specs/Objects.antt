@@ -112,12 +112,17 @@ ReadsMethod start n form s old new r = (text : List ℕ) (f : Flags) (first : Pa
 abbrev pub ReadsBehindName : ℕ → PropertyName → Parser → Parser → Result NodeId Stop → Type 0
 ReadsBehindName start n old new r = (text : List ℕ) (f : Flags) (first : Parser) → At text f first → start ≡ first.token.span.start → one_of_kinds (Star ∷ []) first.token.kind ≡ false → NameRead text f n.computed first old n.key → PartOutcome text f (named n.computed f) first new r
 
+-- a name stands here
+pub record IsName (p : Parser) : Type 0 where
+  pub kind : one_of_kinds name_kinds p.token.kind ≡ true
+  pub plain : p.token.escaped ≡ false
+
 -- Its first word was passed: what stands behind it makes of it an accessor, or a name alone.
 abbrev pub ReadsAccessor : ℕ → MethodForm → Parser → Parser → Result NodeId Stop → Type 0
 ReadsAccessor start form old new r = (text : List ℕ) (f : Flags) (first : Parser) → At text f first → start ≡ first.token.span.start → Begins form first.token.kind → first.token.escaped ≡ false → Moved text f first old → PartOutcome text f (accessors form f) first new r
 
 abbrev pub ReadsShorthand : Span → Parser → Parser → Result NodeId Stop → Type 0
-ReadsShorthand word old new r = (text : List ℕ) (f : Flags) (first : Parser) → At text f first → word ≡ first.token.span → one_of_kinds name_kinds first.token.kind ≡ true → first.token.escaped ≡ false → Moved text f first old → PartOutcome text f (shorthand f) first new r
+ReadsShorthand word old new r = (text : List ℕ) (f : Flags) (first : Parser) → At text f first → word ≡ first.token.span → IsName first → Moved text f first old → PartOutcome text f (shorthand f) first new r
 
 -- ---- the list
 

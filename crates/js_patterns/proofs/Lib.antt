@@ -4,3 +4,4 @@ pub mod Lists
 pub mod ParameterLists
 pub mod PatternLists
 mod RestInitialisers
+mod MethodParameters

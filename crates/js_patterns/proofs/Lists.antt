@@ -3,7 +3,7 @@ use Rattle.std.proofs.Common.{ℕ, ◌≡◌, ◌≤◌, ◌<◌, max, List, [],
 use Rattle.std.specs.Prelude.{Ok}
 use Rattle.std.proofs.lemmas.Bool.{and_parts}
 use Rattle.js_base.specs.declared.kind.Kind.{Kind}
-use Rattle.js_base.specs.declared.kind.Kind.TheVariants.{Comma, RParen, RBrack, PrivateIdentifier}
+use Rattle.js_base.specs.declared.kind.Kind.TheVariants.{Comma, RParen, RBrack, RCurly, PrivateIdentifier}
 use Rattle.js_base.specs.Kinds.{same_kind, one_of_kinds}
 use Rattle.js_base.specs.Texts.{words}
 use Rattle.js_base.proofs.KindLemmas.{kind_of_same}
@@ -161,7 +161,7 @@ unfolding words
 comma_plain = refl
 
 abbrev next_kinds : Look
-next_kinds k w e = one_of_kinds (Comma ∷ RParen ∷ RBrack ∷ []) k
+next_kinds k w e = one_of_kinds (Comma ∷ RParen ∷ RBrack ∷ RCurly ∷ []) k
 
 -- ---- one part of a list
 

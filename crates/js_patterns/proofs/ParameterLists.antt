@@ -1,7 +1,7 @@
 -- Formal parameters (ECMA-262, 15.1): one of them, and their list in parentheses.
 use Rattle.std.proofs.Common.{ℕ, ◌≡◌, List, [], ◌∷◌, ◌++◌, length, Option, Some, None, true, false, ◌||◌, refl, ap, subst, arith}
 use Rattle.js_base.specs.declared.kind.Kind.{Kind}
-use Rattle.js_base.specs.declared.kind.Kind.TheVariants.{LParen, RParen, LBrack, LCurly, RBrack, Comma, Dot3, Eq, PrivateIdentifier}
+use Rattle.js_base.specs.declared.kind.Kind.TheVariants.{LParen, RParen, LBrack, LCurly, RBrack, RCurly, Comma, Dot3, Eq, PrivateIdentifier}
 use Rattle.js_base.specs.declared.span.Span.{Span}
 use Rattle.js_base.specs.Kinds.{same_kind, one_of_kinds}
 use Rattle.js_base.specs.Texts.{words}
@@ -45,11 +45,11 @@ use Rattle.js_parsing.proofs.Paths.{Path, ◌⟼◌, ◌⟶◌, ◌⟶✗◌, fa
 use Rattle.js_parsing.proofs.Verdicts.{grown_then}
 use Rattle.js_parsing.proofs.Verdicts.{after as grown_behind}
 
-open_plain : (is_word LParen || same_kind PrivateIdentifier LParen) ≡ false
+pub open_plain : (is_word LParen || same_kind PrivateIdentifier LParen) ≡ false
 unfolding words
 open_plain = refl
 
-paren_plain : (is_word RParen || same_kind PrivateIdentifier RParen) ≡ false
+pub paren_plain : (is_word RParen || same_kind PrivateIdentifier RParen) ≡ false
 unfolding words
 paren_plain = refl
 
@@ -60,7 +60,7 @@ eq_plain = refl
 -- ---- one parameter
 
 abbrev next_kinds : Look
-next_kinds k w e = one_of_kinds (Comma ∷ RParen ∷ RBrack ∷ []) k
+next_kinds k w e = one_of_kinds (Comma ∷ RParen ∷ RBrack ∷ RCurly ∷ []) k
 
 ends_itself : covers next_kinds next_kinds ≡ true
 unfolding covers

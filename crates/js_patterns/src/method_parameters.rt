@@ -1,5 +1,12 @@
 //! Parameters of methods (ECMA-262, section 15.4).
 
+ghost use Rattle.std.specs.Prelude.{◌≡◌};
+ghost use Rattle.js_base.specs.declared.kind.Kind.TheVariants.{LParen};
+ghost use Rattle.js_parsing.specs.Methods.{ReadsWhole, parameters_of};
+ghost use Rattle.js_parsing.specs.Nesting.{CanNest, room};
+ghost use Rattle.js_parsing.specs.States.{Standing};
+ghost use Rattle.js_parsing.specs.declared.nested.MethodForm.TheVariants.{Getter, Setter};
+
 use crate::parameters::{parse_formal_parameter, parse_formal_parameters};
 use js_base::Kind;
 use js_cursor::{ParserImpl, Stop};
@@ -16,6 +23,9 @@ pub fn parse_method_parameters<C: ParserConfig, N: Nested<C>>(
     nested: &N,
     form: MethodForm,
 ) -> Result<NodeId, Stop>
+    requires at { Standing p.old }
+    requires nests { CanNest (N.can nested.now) (room p.old) }
+    ensures { ReadsWhole (parameters_of form) p.old p.new result }
 {
     if !stands(p, Kind::LParen) {
         return Err(p.set_unexpected());
@@ -29,6 +39,9 @@ pub fn parse_method_parameters<C: ParserConfig, N: Nested<C>>(
 
 /// The parentheses of a getter, which has no parameters.
 fn parse_getter_parameters<C: ParserConfig>(p: &mut ParserImpl<'_, C>) -> Result<NodeId, Stop>
+    requires at { Standing p.old }
+    requires open { p.old.token.kind ≡ LParen }
+    ensures { ReadsWhole (parameters_of Getter) p.old p.new result }
 {
     let opening = p.cur_token().span();
     advance(p)?;
@@ -43,6 +56,10 @@ fn parse_setter_parameters<C: ParserConfig, N: Nested<C>>(
     p: &mut ParserImpl<'_, C>,
     nested: &N,
 ) -> Result<NodeId, Stop>
+    requires at { Standing p.old }
+    requires nests { CanNest (N.can nested.now) (room p.old) }
+    requires open { p.old.token.kind ≡ LParen }
+    ensures { ReadsWhole (parameters_of Setter) p.old p.new result }
 {
     let opening = p.cur_token().span();
     advance(p)?;

@@ -31,6 +31,12 @@ returns-in-ListItem t c = rw (c.in-ListItem.is) c.parse_statement_list_item.ensu
 pub returns-in-Body : goal.returns-in-Body
 returns-in-Body t c = rw (c.in-Body.is) c.parse_function_body.ensures
 
+pub returns-in-Parameters : goal.returns-in-Parameters
+returns-in-Parameters t c = rw (c.in-Parameters.is) c.parse_method_parameters.ensures
+
+pub parse_method_parameters-requires-clause-at : goal.parse_method_parameters-requires-clause-at
+parse_method_parameters-requires-clause-at t c = ready_at c.args.goal c.requires.at
+
 pub parse_sequence_expression-requires-clause-at : goal.parse_sequence_expression-requires-clause-at
 parse_sequence_expression-requires-clause-at t c = ready_at c.args.goal c.requires.at
 

@@ -1,4 +1,4 @@
-use Rattle.std.proofs.Common.{◌≡◌, true, false, ap, sym, refl, ◌∙◌}
+use Rattle.std.proofs.Common.{◌≡◌, [], ◌∷◌, true, false, ap, sym, refl, ◌∙◌}
 use Rattle.js_base.specs.Kinds.{one_of_kinds}
 use Rattle.js_base.specs.declared.kind.Kind.TheVariants.{Dot3, Star}
 use Rattle.js_grammar.specs.Productions.{at, Property}
@@ -31,4 +31,4 @@ pub parse_other_property-requires-clause-no_word : goal.parse_other_property-req
 parse_other_property-requires-clause-no_word g c = sym (ap read_word c.cur_kind.ensures) ∙ (sym c.is_read_word.ensures ∙ c.if-is_read_word.false)
 
 pub parse_other_property-requires-clause-no_sign : goal.parse_other_property-requires-clause-no_sign
-parse_other_property-requires-clause-no_sign g c = or_kind Dot3 _ _ (λ k. c.in_default.not-Dot3 (c.cur_kind-2.ensures ∙ k)) (or_kind Star _ _ (λ k. c.in_default.not-Star (c.cur_kind-2.ensures ∙ k)) refl)
+parse_other_property-requires-clause-no_sign g c = or_kind Dot3 (Star ∷ []) _ (λ k. c.in_default.not-Dot3 (c.cur_kind-2.ensures ∙ k)) (or_kind Star [] _ (λ k. c.in_default.not-Star (c.cur_kind-2.ensures ∙ k)) refl)
