@@ -18,6 +18,7 @@ use js_expressions::unary::parse_unary_expression_or_higher;
 use js_lex::{ParserConfig, RuntimeParserConfig};
 use js_operands::left_hand_side;
 use js_parsing::nested::{By, Goal, Nested};
+use js_patterns::method_parameters::parse_method_parameters;
 use js_patterns::{binding, parameters};
 use js_statements::block::parse_function_body;
 use js_statements::statement::{parse_statement, parse_statement_list_item};
@@ -47,6 +48,7 @@ pub fn parse_goal<C: ParserConfig, N: Nested<C>>(
         Goal::ListItem => parse_statement_list_item(p, nested),
         Goal::Body => parse_function_body(p, nested),
         Goal::Params => parse_parameters(p, nested),
+        Goal::MethodParameters(form) => parse_method_parameters(p, nested, form),
     }
 }
 

@@ -118,7 +118,7 @@ unfolding words
 closing_plain = refl
 
 -- there and back again, at one place
-turned : {text : List ℕ} {g g' : G} {s : ℕ} → Goes rule (Lex text) (plain full) end g s g' s (λ us. us) (still 0) → Goes rule (Lex text) (plain full) end g' s g s (λ us. us) (still 0)
+pub turned : {text : List ℕ} {g g' : G} {s : ℕ} → Goes rule (Lex text) (plain full) end g s g' s (λ us. us) (still 0) → Goes rule (Lex text) (plain full) end g' s g s (λ us. us) (still 0)
 turned {text} {g} {g'} {s} x = record {
   passes = x.passes;
   sound = λ us vs k ls rest l r d. back us vs k ls rest l d;

@@ -5,10 +5,16 @@ pub mod Intrinsics
 pub mod Links
 pub mod Marking
 pub mod Members
+pub mod Methods
 pub mod Operands
 pub mod Parentheses
+pub mod Properties
+pub mod PropertyForms
+pub mod PropertyLists
 pub mod PropertyNames
 pub mod Spreads
 pub mod Tame
 mod PartInsides
 mod Templates
+pub mod Wholes
+pub mod WordProperties

@@ -36,7 +36,7 @@ use Rattle.js_cursor.specs.Parsers.{Parser}
 use Rattle.js_cursor.specs.Moves.{OnlyMemory}
 use Rattle.js_cursor.specs.declared.stop.Stop.{Stop}
 use Rattle.js_cursor.specs.declared.stop.Stop.TheVariants.{Fatal, NoMemory}
-use Rattle.js_parsing.specs.Lexemes.{Lex, is_read, name_kinds, read_kinds, unbuilt_kinds}
+use Rattle.js_parsing.specs.Lexemes.{Lex, is_read, name_kinds, read_kinds}
 use Rattle.js_parsing.specs.States.{At, Same, NodesLie}
 use Rattle.js_parsing.specs.Moves.{Moved, MadeHere, LeafTaken, TakesLeaf, plain_label}
 use Rattle.js_parsing.specs.Answers.{Underived, Answer, Numbered, Outcome, beside}
@@ -233,11 +233,8 @@ neither_list : (ks ls : List Kind) (k : Kind) → one_of_kinds ks k ≡ false �
 neither_list [] ls k h i = i
 neither_list (a ∷ ks) ls k h i = let z = neither (same_kind a k) (one_of_kinds ks k) h in rw (z.0, neither_list ks ls k z.1 i) refl
 
-pub none_of_these : (k : Kind) → one_of_kinds name_kinds k ≡ false → (k ≡ This → ⊥) → (k ≡ Null → ⊥) → (k ≡ True → ⊥) → (k ≡ False → ⊥) → (k ≡ Str → ⊥) → (k ≡ LParen → ⊥) → (k ≡ LBrack → ⊥) → (k ≡ Function → ⊥) → one_of_kinds unbuilt_kinds k ≡ false → (k ≡ Percent → ⊥) → one_of_kinds number_kinds k ≡ false → one_of_kinds primary_kinds k ≡ false
-none_of_these k a b c d e f g j o u h n = not_same This k _ b ∙ (not_same Null k _ c ∙ (not_same True k _ d ∙ (not_same False k _ e ∙ (not_same Str k _ f ∙ (not_same LParen k _ g ∙ (not_same LBrack k _ j ∙ (not_same Function k _ o ∙ (no_brace ∙ (not_same Percent k _ h ∙ neither_list number_kinds name_kinds k n a)))))))))
-  where
-    no_brace : (same_kind LCurly k || one_of_kinds (Percent ∷ (number_kinds ++ name_kinds)) k) ≡ one_of_kinds (Percent ∷ (number_kinds ++ name_kinds)) k
-    no_brace = ap (λ (b : Bool). b || one_of_kinds (Percent ∷ (number_kinds ++ name_kinds)) k) (neither (same_kind LCurly k) false u).0
+pub none_of_these : (k : Kind) → one_of_kinds name_kinds k ≡ false → (k ≡ This → ⊥) → (k ≡ Null → ⊥) → (k ≡ True → ⊥) → (k ≡ False → ⊥) → (k ≡ Str → ⊥) → (k ≡ LParen → ⊥) → (k ≡ LBrack → ⊥) → (k ≡ Function → ⊥) → (k ≡ LCurly → ⊥) → (k ≡ Percent → ⊥) → one_of_kinds number_kinds k ≡ false → one_of_kinds primary_kinds k ≡ false
+none_of_these k a b c d e f g j o u h n = not_same This k _ b ∙ (not_same Null k _ c ∙ (not_same True k _ d ∙ (not_same False k _ e ∙ (not_same Str k _ f ∙ (not_same LParen k _ g ∙ (not_same LBrack k _ j ∙ (not_same Function k _ o ∙ (not_same LCurly k _ u ∙ (not_same Percent k _ h ∙ neither_list number_kinds name_kinds k n a)))))))))
 
 -- a number, read so
 pub number_outcome : (text : List ℕ) (f : Flags) (p q : Parser) (nk : NodeKindMade) (o : OpMade) (k : Kind) (r : Result NodeId Stop) → one_of_kinds number_kinds p.token.kind ≡ true → k ≡ p.token.kind → nk ≡ node_of_number k → o ≡ op_of_number k → At text f p → p.token.escaped ≡ false → MatchResult r (λ id. TakesLeaf nk o p q id) OnlyMemory → Outcome text f (at Primary f) p q r

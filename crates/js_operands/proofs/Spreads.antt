@@ -36,12 +36,14 @@ use Rattle.js_cursor.specs.declared.stop.Stop.{Stop}
 use Rattle.js_parsing.specs.Lexemes.{Lex, Walked, spot}
 use Rattle.js_parsing.specs.States.{At}
 use Rattle.js_parsing.specs.Answers.{Answer, Verdict, unclean, Stretch, Underived, Numbered, Outcome, Stops}
-use Rattle.js_parsing.specs.Arguments.{item_of, behind_item, NoItem, ItemTaken, ItemOutcome, spread_at}
+use Rattle.js_parsing.specs.Arguments.{item_of, behind_item, NoItem, ItemTaken, ItemOutcome, PartTaken, spread_at}
 use Rattle.js_parsing.specs.Stands.{StandsHere}
 use Rattle.js_parsing.specs.Moves.{Moved, MadeHere, plain_label}
 use Rattle.js_parsing.proofs.Signs.{NoneIs, AllAre}
 use Rattle.js_operands.proofs.ArgumentLists.{is_that}
-use Rattle.js_parsing.proofs.MadeNodes.{one_held, made_lies}
+use Rattle.js_operands.specs.Spreads.{PartOutcome, spread}
+use Rattle.js_operands.proofs.Wholes.{item_by, part_answers}
+use Rattle.js_parsing.proofs.MadeNodes.{one_held, one_lies}
 use Rattle.js_parsing.proofs.Signs.{stands_not, stands_there}
 use Rattle.js_parsing.proofs.Moving.{same_both, same_with, beside_nodes, stops_so, stops_behind}
 use Rattle.js_parsing.proofs.Paths.{Path, ◌⟼◌, ◌⟶◌, ◌⟶✗◌, token, last_called, noded_by, by_symbol_as, label_here, walked_from}
@@ -58,7 +60,7 @@ unfolding covers
 ends_all = refl
 
 -- an assignment ends before them
-ends_there : (f : Flags) (ts : Slots) (y : Lexeme) → Admits behind_item ts y → Admits (after (at Assignment f)) ts y
+pub ends_there : (f : Flags) (ts : Slots) (y : Lexeme) → Admits behind_item ts y → Admits (after (at Assignment f)) ts y
 ends_there f ts y e = (surely (at Assignment f)).admits ts y (covered next_kinds (surest Assignment) ends_all y.kind y.newline y.escaped e.0)
 
 abbrev inner : Flags → G
@@ -127,39 +129,25 @@ module _ {text : List ℕ} {f : Flags} {p : Parser} (a : At text f p) (k : Stand
   only_spread : {X : Test} → Goes rule (Lex text) X end (rule (at Argument f)) p.prev_token_end (mk spread_element (spread_slots f)) p.prev_token_end (λ us. us) (joined (still 0) (still 0))
   only_spread = to_argument f ▹ right no_plain_item
 
-  module _ {q : Parser} (m : Moved text f p q) where
-    pub spread_fails : Underived text (at Assignment (plus_in f)) q.prev_token_end → NoItem text (at Argument f) p.prev_token_end
-    unfolding covers
-    spread_fails n = fails_rule {X' = behind_item} (λ l cs vs y e. e) (only_spread ▹✗ fails_node (inside_plain {F' = next_kinds} refl) (token Dot3 a k.0 k.1 refl m ⟶✗ weaken_fails n (λ ts y e. ends_there (plus_in f) ts y e)))
+  -- it is read as an argument
+  pub spread_item : (q : Parser) (r : Result NodeId Stop) → PartOutcome text f (spread f) p q r → ItemOutcome text f (at Argument f) p q r
+  spread_item q r x = item_by text f p (at Argument f) q r only_spread x
 
-    spread_read : {r : Parser} (x : Answer text f (at Assignment (plus_in f)) q r) → Path text f behind_item (such (at Argument f) always) p nothing r (tree (label_here spread_element no_op p r) (tree x.label x.slots end))
+  module _ {q : Parser} (m : Moved text f p q) where
+    pub spread_fails : Underived text (at Assignment (plus_in f)) q.prev_token_end → Fails rule (Lex text) behind_item end (spread f) p.prev_token_end
     unfolding covers
-    spread_read {r} x = by_symbol_as {X' = behind_item} (λ l cs vs y e. e) (only_spread ⟼ noded_by a (inside_plain {F' = next_kinds} refl) (token Dot3 a k.0 k.1 refl m ⟶ last_called x (record { admits = λ ts vs k ls rest d e. ends_there (plus_in f) ts (here rest) e })))
+    spread_fails n = fails_node (inside_plain {F' = next_kinds} refl) (token Dot3 a k.0 k.1 refl m ⟶✗ weaken_fails n (λ ts y e. ends_there (plus_in f) ts y e))
+
+    spread_read : {r : Parser} (x : Answer text f (at Assignment (plus_in f)) q r) → Path text f behind_item (spread f) p nothing r (tree (label_here spread_element no_op p r) (tree x.label x.slots end))
+    unfolding covers
+    spread_read {r} x = noded_by a (inside_plain {F' = next_kinds} refl) (token Dot3 a k.0 k.1 refl m ⟶ last_called x (record { admits = λ ts vs k ls rest d e. ends_there (plus_in f) ts (here rest) e }))
 
     module _ {r w : Parser} {argument id : NodeId} {s : Span} (x : Numbered text f (at Assignment (plus_in f)) q r argument) (b : s.start ≡ p.token.span.start) (c : s.end ≡ r.prev_token_end) (n : MadeHere (plain_label node.SpreadElement op.None s) (Some argument ∷ []) r w id) where
       made : MadeHere (label_here spread_element no_op p r) (Some argument ∷ []) r w id
       made = subst (λ (v : Label). MadeHere v (Some argument ∷ []) r w id) (rw (b, c) refl) n
 
-      spread_held : Holds w.nodes (length p.nodes) (length w.nodes) id.0 (label_here spread_element no_op p r) (tree x.answer.label x.answer.slots end)
-      spread_held = one_held p.nodes made (subst (λ (ns : List Node). Holds r.nodes (length ns) (length r.nodes) argument.0 x.answer.label x.answer.slots) m.nodes x.holds)
-
-      -- of item n, in which verdict is all that differs
-      item_of_spread : {n : Symbol} (pass : Lexemes → Lexemes) → Walked text (spot p) (spot r) pass → Verdict p.errors r.errors (Stretch text behind_item (such n always) p.prev_token_end nothing r.prev_token_end (tree (label_here spread_element no_op p r) (tree x.answer.label x.answer.slots end)) pass) (NoItem text n p.prev_token_end) → ItemTaken text f n p w id
-      item_of_spread {n} pass walked v = subst (λ (z : Parser). ItemTaken text f n p z id) (sym made.stays) (record {
-        at = beside_nodes w.nodes x.answer.at;
-        same = same_with w.nodes (same_both m.same x.answer.same) (Keeps-trans (subst (λ (ns : List Node). Keeps ns r.nodes) m.nodes x.keeps) (Keeps-made made.made)) (made_lies (same_both m.same x.answer.same) x.answer.at.at (let i = m.further in let j = x.answer.further in let d = m.at.behind in omega arith) made refl);
-        further = let i = m.further in let j = x.answer.further in let d = m.at.behind in omega arith;
-        label = label_here spread_element no_op p r;
-        slots = tree x.answer.label x.answer.slots end;
-        pass = pass;
-        walked = walked;
-        verdict = v;
-        holds = spread_held;
-        keeps = Keeps-trans (subst (λ (ns : List Node). Keeps ns r.nodes) m.nodes x.keeps) (Keeps-made made.made);
-      })
-
-      pub spread_taken : ItemTaken text f (at Argument f) p w id
-      spread_taken = let z = spread_read x.answer in item_of_spread z.pass z.walked z.verdict
+      pub spread_taken : PartTaken text f (spread f) p w id
+      spread_taken = part_answers (same_both m.same x.answer.same) made.stays (one_held p.nodes made (subst (λ (ns : List Node). Holds r.nodes (length ns) (length r.nodes) argument.0 x.answer.label x.answer.slots) m.nodes x.holds)) (Keeps-trans (subst (λ (ns : List Node). Keeps ns r.nodes) m.nodes x.keeps) (Keeps-made made.made)) refl (one_lies made) (spread_read x.answer)
 
 -- where none may be spread, that was told first
 module _ {text : List ℕ} {f : Flags} {p o : Parser} {d : Diagnostic} (a : At text f p) (k : StandsHere p Dot3 true) (t : KeepsOne d p o) where

@@ -3,5 +3,7 @@ pub mod Functions
 pub mod Marked
 pub mod Members
 pub mod Numbers
+pub mod Objects
 pub mod PropertyNames
+pub mod Spreads
 pub mod Templates

@@ -4,6 +4,7 @@ ghost use Rattle.std.specs.Prelude.{◌≡◌, ◌+◌, true, false, MatchResult
 ghost use Rattle.js_base.specs.declared.kind.Kind.TheVariants.{Dot3, LParen};
 ghost use Rattle.js_cursor.specs.Moves.{Keeps, Opened};
 ghost use Rattle.js_parsing.specs.Arguments.{Arguments, FindsDue, NoArguments, TakesItem, spread_at};
+ghost use Rattle.js_operands.specs.Spreads.{ReadsSpread};
 ghost use Rattle.js_parsing.specs.Stands.{StandsHere};
 ghost use Rattle.js_parsing.specs.Nesting.{CanNest, room};
 ghost use Rattle.js_parsing.specs.States.{Standing};
@@ -82,14 +83,14 @@ pub fn parse_argument<C: ParserConfig, N: Nested<C>>(
 }
 
 /// A SpreadElement (ECMA-262, section 13.2.4).
-fn parse_spread_element<C: ParserConfig, N: Nested<C>>(
+pub(crate) fn parse_spread_element<C: ParserConfig, N: Nested<C>>(
     p: &mut ParserImpl<'_, C>,
     nested: &N,
 ) -> Result<NodeId, Stop>
     requires at { Standing p.old }
     requires nests { CanNest (N.can nested.now) (room p.old + 1) }
     requires sign { StandsHere p.old Dot3 true }
-    ensures { TakesItem true p.old p.new result }
+    ensures { ReadsSpread p.old p.new result }
 {
     let start = p.cur_start();
     advance(p)?;

@@ -5,6 +5,7 @@ pub mod arguments;
 pub mod array;
 pub mod function;
 pub mod left_hand_side;
+pub mod object;
 pub mod primary;
 pub mod property_name;
 pub mod template;

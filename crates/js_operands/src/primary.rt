@@ -19,6 +19,7 @@ ghost use Rattle.js_parsing.specs.States.{Standing};
 use crate::array::parse_array_expression;
 use crate::function::parse_function_expression;
 use crate::left_hand_side::{parse_identifier_name, parse_with_arguments};
+use crate::object::parse_object_expression;
 use js_base::{Kind, Span};
 use js_cursor::{ParserImpl, Stop};
 use js_lex::ParserConfig;
@@ -28,7 +29,8 @@ use js_parsing::nested::Nested;
 use js_parsing::nodes::{make_leaf, make_one};
 use js_tree::{BigintBase, NodeFlags, NodeId, NodeKind, NumberBase, Op, ParserAstBuilder};
 
-/// A PrimaryExpression (ECMA-262, section 13.2): a name, a literal, an array, a function, parentheses or a call of V8.
+/// A PrimaryExpression (ECMA-262, section 13.2): a name, a literal, an array, an object literal, a function, parentheses or a
+/// call of V8.
 pub fn parse_primary_expression<C: ParserConfig, N: Nested<C>>(
     p: &mut ParserImpl<'_, C>,
     nested: &N,
@@ -54,6 +56,7 @@ pub fn parse_primary_expression<C: ParserConfig, N: Nested<C>>(
         Kind::LParen => parse_parenthesized_expression(p, nested),
         Kind::LBrack => parse_array_expression(p, nested),
         Kind::Function => parse_function_expression(p, nested),
+        Kind::LCurly => parse_object_expression(p, nested),
         Kind::Percent => parse_v8_intrinsic_expression(p, nested),
         _ => Err(p.set_unexpected()),
     }

@@ -2,7 +2,7 @@
 use Rattle.std.proofs.Common.{ℕ, ◌≡◌, Bool, true, false, List, refl, sym, ap, subst, ◌∙◌}
 use Rattle.js_base.specs.declared.context.Context.{Context}
 use Rattle.js_base.specs.Contexts.{SetsFlag, in_flag, yield_flag, await_flag, return_flag, new_target_flag}
-use Rattle.js_grammar.specs.Productions.{Flags, Symbol, body_of, minus_in, params_of, plus_in}
+use Rattle.js_grammar.specs.Productions.{G, Flags, Symbol, body_of, minus_in, params_of, plus_in}
 use Rattle.js_tree.specs.declared.id.NodeId.{NodeId}
 use Rattle.js_cursor.specs.Parsers.{Parser}
 use Rattle.js_cursor.specs.Places.{IsAt}
@@ -10,7 +10,12 @@ use Rattle.js_cursor.specs.declared.stop.Stop.{Stop}
 use Rattle.js_cursor.proofs.Later.{follows_on}
 use Rattle.js_cursor.proofs.Changing.{ctx_set}
 use Rattle.js_parsing.specs.Answers.{Numbered, Stops, Underived}
-use Rattle.js_parsing.specs.Contexts.{arrow_body, braced_body}
+use Rattle.js_grammar.specs.Parsing.{plain, full, Fails}
+use Rattle.js_grammar.specs.Table.{rule}
+use Rattle.js_grammar.specs.Trees.{end}
+use Rattle.js_parsing.specs.Contexts.{EntersMethod, arrow_body, braced_body}
+use Rattle.js_parsing.specs.Lexemes.{Lex}
+use Rattle.js_parsing.specs.Methods.{WholeTaken}
 use Rattle.js_parsing.specs.States.{At, IsPlain, whole, sign, nothing, flags_of}
 use Rattle.js_parsing.proofs.Moving.{flags_same, stops_later}
 
@@ -65,6 +70,13 @@ module _ {text : List ℕ} where
   pub function_body_at : {f : Flags} {p q : Parser} {b : Bool} {o c d e g h : Context} → At text f p → o ≡ p.ctx → SetsFlag in_flag true o c → SetsFlag yield_flag b c d → SetsFlag await_flag false d e → SetsFlag new_target_flag true e g → SetsFlag return_flag true g h → q ≡ record p { ctx = h } → At text (body_of false b f) q
   function_body_at {f} {p} {q} {b} {o} {c} {d} {e} {g} {h} a i s t u v w j = subst (At text (body_of false b f)) (sym j) (at_under h (in_function_body a (subst (λ (x : Context). SetsFlag in_flag true x c) i s) t u v w) a)
 
+  -- the parameters of a method
+  in_params : {b : Bool} {f : Flags} {p : Parser} {c : Context} → At text f p → EntersMethod b p.ctx c → flags_of (record p { ctx = c }) ≡ params_of false b f
+  in_params {b} a s = rw (s.allows_in, s.allows_yield, s.no_await, s.allows_new_target, s.returns_same) (ap (λ (g : Flags). params_of false b g) a.flags_are)
+
+  pub params_at : {b : Bool} {f : Flags} {p q : Parser} {c d : Context} → At text f p → d ≡ p.ctx → EntersMethod b d c → q ≡ record p { ctx = c } → At text (params_of false b f) q
+  params_at {b} {f} {p} {q} {c} {d} a e s h = subst (At text (params_of false b f)) (sym h) (at_under c (in_params a (subst (λ (v : Context). EntersMethod b v c) e s)) a)
+
   -- and back
   out_of : {f g : Flags} {n : Symbol} {p q : Parser} {c : Context} {id : NodeId} → At text f p → Numbered text g n (record p { ctx = c }) q id → Numbered text f n p (record q { ctx = p.ctx }) id
   out_of {f} {g} {n} {p} {q} {c} a x = record {
@@ -89,3 +101,26 @@ module _ {text : List ℕ} where
 
 pub stops_in_context : (text : List ℕ) (n : Symbol) (p e q : Parser) (c : Context) (s : Stop) → IsAt p → e ≡ record p { ctx = c } → Stops e q s (Underived text n e.prev_token_end) → Stops p q s (Underived text n p.prev_token_end)
 stops_in_context text n p e q c s a h x = stops_later q s (ctx_set c a).0 (λ w. w) (λ w. w) (λ n. n) (λ g. g) (λ x. x) (subst (λ (r : Parser). Stops r q s (Underived text n r.prev_token_end)) h x)
+
+-- ---- a part that anything may follow
+
+module _ {text : List ℕ} where
+  whole_out : {f g : Flags} {n : G} {p q : Parser} {c : Context} {id : NodeId} → At text f p → WholeTaken text g n (record p { ctx = c }) q id → WholeTaken text f n p (record q { ctx = p.ctx }) id
+  whole_out {f} {g} {n} {p} {q} {c} a x = record {
+    at = at_under p.ctx (flags_same p (record q { ctx = p.ctx }) refl x.same.follows.source_type x.same.options ∙ a.flags_are) x.at;
+    same = record { follows = follows_on (ctx_set c a.at).0 (follows_on x.same.follows (ctx_set p.ctx x.at.at).0); options = x.same.options; ctx = refl; depth = x.same.depth; visits = x.same.visits; early = x.same.early; lies = x.same.lies; meets = x.same.meets };
+    further = x.further;
+    label = x.label;
+    slots = x.slots;
+    pass = x.pass;
+    walked = x.walked;
+    verdict = x.verdict;
+    holds = x.holds;
+    keeps = x.keeps;
+  }
+
+  pub whole_out_of_context : {f g : Flags} {n : G} {p e q w : Parser} {c d : Context} {id : NodeId} → At text f p → d ≡ p.ctx → e ≡ record p { ctx = c } → WholeTaken text g n e q id → w ≡ record q { ctx = d } → WholeTaken text f n p w id
+  whole_out_of_context {f} {g} {n} {p} {e} {q} {w} {c} {d} {id} a i h x j = subst (λ (r : Parser). WholeTaken text f n p r id) (sym (j ∙ ap (λ (v : Context). record q { ctx = v }) i)) (whole_out a (subst (λ (r : Parser). WholeTaken text g n r q id) h x))
+
+pub whole_stops_in_context : (text : List ℕ) (g : G) (p e q : Parser) (c : Context) (s : Stop) → IsAt p → e ≡ record p { ctx = c } → Stops e q s (Fails rule (Lex text) (plain full) end g e.prev_token_end) → Stops p q s (Fails rule (Lex text) (plain full) end g p.prev_token_end)
+whole_stops_in_context text g p e q c s a h x = stops_later q s (ctx_set c a).0 (λ w. w) (λ w. w) (λ n. n) (λ g. g) (λ x. x) (subst (λ (r : Parser). Stops r q s (Fails rule (Lex text) (plain full) end g r.prev_token_end)) h x)

@@ -1,5 +1,7 @@
 -- Parameters of productions that parse functions set (ECMA-262, 5.1.5).
-use Rattle.std.specs.Prelude.{true, false}
+use Rattle.std.specs.Prelude.{◌≡◌, Bool, true, false}
+use Rattle.js_base.specs.declared.context.Context.{Context}
+use Rattle.js_base.specs.Contexts.{has_flag, in_flag, yield_flag, await_flag, return_flag, new_target_flag}
 use Rattle.js_grammar.specs.Productions.{Flags}
 
 -- the parameters under which an arrow function's body is read
@@ -9,3 +11,11 @@ arrow_body f = record f { yield_ = false; await_ = false }
 -- and those of one in braces
 abbrev pub braced_body : Flags → Flags
 braced_body f = record (arrow_body f) { in_ = true; return_ = true }
+
+-- from the parameters around a method to those of its parameters; it is a generator or not (ECMA-262, 15.4, 15.5)
+pub record EntersMethod (generator : Bool) (old new : Context) : Type 0 where
+  pub allows_in : has_flag in_flag new ≡ true
+  pub allows_yield : has_flag yield_flag new ≡ generator
+  pub no_await : has_flag await_flag new ≡ false
+  pub allows_new_target : has_flag new_target_flag new ≡ true
+  pub returns_same : has_flag return_flag new ≡ has_flag return_flag old

@@ -4,6 +4,7 @@ pub mod Contexts
 pub mod Heads
 pub mod Lexemes
 pub mod Lists
+pub mod Methods
 pub mod Moves
 pub mod Nesting
 pub mod Operators

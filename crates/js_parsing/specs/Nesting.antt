@@ -9,6 +9,7 @@ use Rattle.js_cursor.specs.declared.stop.Stop.{Stop}
 use Rattle.js_parsing.specs.declared.nested.Goal.{Goal}
 use Rattle.js_parsing.specs.declared.nested.Goal.TheVariants as goal
 use Rattle.js_parsing.specs.Answers.{Answers}
+use Rattle.js_parsing.specs.Methods.{ReadsWhole, parameters_of}
 use Rattle.js_parsing.specs.States.{Standing}
 use Rattle.js_parsing.specs.Statements.{TakesStatement}
 
@@ -17,6 +18,7 @@ abbrev pub Ready : Goal → Parser → Type 0
 Ready goal.Statement p = Standing p × (has_flag in_flag p.ctx ≡ true)
 Ready goal.ListItem p = Standing p × (has_flag in_flag p.ctx ≡ true)
 Ready goal.Body p = Standing p × (has_flag in_flag p.ctx ≡ true)
+Ready (goal.MethodParameters form) p = Standing p
 Ready goal.Expression p = Standing p
 Ready goal.Assignment p = Standing p
 Ready goal.Element p = Standing p
@@ -30,6 +32,7 @@ abbrev pub Reading : Goal → Parser → Parser → Result NodeId Stop → Type 
 Reading goal.Statement old new r = TakesStatement (at Sub) old new r
 Reading goal.ListItem old new r = TakesStatement (at ListItem) old new r
 Reading goal.Body old new r = Answers (at Body) old new r
+Reading (goal.MethodParameters form) old new r = ReadsWhole (parameters_of form) old new r
 Reading goal.Expression old new r = Answers (at Expression) old new r
 Reading goal.Assignment old new r = Answers (at Assignment) old new r
 Reading goal.Element old new r = Answers (at Assignment) old new r
@@ -38,7 +41,7 @@ Reading goal.Exponentiation old new r = Answers (at Exponent) old new r
 Reading goal.Binding old new r = Answers (at Binding) old new r
 Reading goal.Params old new r = Answers (at Params) old new r
 
--- How many levels of depth it takes: what stands between brackets is read through all levels of operators again; an item of a list of statements, and a body in braces, take two.
+-- How many levels of depth it takes: what stands between brackets is read through all levels of operators again; an item of a list of statements, a body in braces, and parameters take two.
 abbrev pub levels_of : Goal → ℕ
 levels_of goal.Expression = 4
 levels_of goal.Element = 4
@@ -50,6 +53,7 @@ levels_of goal.Statement = 1
 levels_of goal.Params = 1
 levels_of goal.ListItem = 2
 levels_of goal.Body = 2
+levels_of (goal.MethodParameters form) = 2
 
 -- how much of the text is left
 abbrev pub room : Parser → ℕ

@@ -3,11 +3,12 @@
 ghost use Rattle.std.specs.Prelude.{◌≡◌, ◌+◌, false};
 ghost use Rattle.js_grammar.specs.Productions.{at, body_of, params_of, plus_in, Assignment, Body, Expression, Params};
 ghost use Rattle.js_parsing.specs.Answers.{Answers};
-ghost use Rattle.js_parsing.specs.Contexts.{arrow_body, braced_body};
+ghost use Rattle.js_parsing.specs.Contexts.{EntersMethod, arrow_body, braced_body};
+ghost use Rattle.js_parsing.specs.Methods.{ReadsWhole, parameters_of};
 ghost use Rattle.js_parsing.specs.Nesting.{CanNest, room};
 ghost use Rattle.js_parsing.specs.States.{Standing};
 
-use crate::nested::Nested;
+use crate::nested::{MethodForm, Nested};
 use js_base::Context;
 use js_cursor::{ParserImpl, Stop};
 use js_lex::ParserConfig;
@@ -130,4 +131,34 @@ pub fn body_of_function<C: ParserConfig, N: Nested<C>>(
     let body = nested.body(p)?;
     set_context(p, outer);
     Ok(body)
+}
+
+/// The parameters in force for the parameters of a method, which is a generator or not.
+fn in_method(outer: Context, generator: bool) -> Context
+    ensures { EntersMethod generator outer result }
+{
+    outer
+        .and_in(true)
+        .and_yield(generator)
+        .and_await(false)
+        .and_new_target(true)
+}
+
+/// The parameters of a method, which is a generator or not, in their parentheses, one level deeper (ECMA-262, sections
+/// 15.4 and 15.5).
+pub fn parameters_in_method<C: ParserConfig, N: Nested<C>>(
+    p: &mut ParserImpl<'_, C>,
+    nested: &N,
+    form: MethodForm,
+    generator: bool,
+) -> Result<NodeId, Stop>
+    requires at { Standing p.old }
+    requires nests { CanNest (N.can nested.now) (room p.old + 1) }
+    ensures { ReadsWhole (λ f. parameters_of form (params_of false generator f)) p.old p.new result }
+{
+    let outer = context(p);
+    set_context(p, in_method(outer, generator));
+    let parameters = nested.method_parameters(p, form)?;
+    set_context(p, outer);
+    Ok(parameters)
 }

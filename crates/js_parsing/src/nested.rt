@@ -3,12 +3,24 @@
 ghost use Rattle.std.specs.Prelude.{◌≡◌};
 ghost use Rattle.js_grammar.specs.Productions.{at, Assignment, Binding, Body, Exponent, Expression, ListItem, Params, Sub, Unary};
 ghost use Rattle.js_parsing.specs.Answers.{Answers};
+ghost use Rattle.js_parsing.specs.Methods.{ReadsWhole, parameters_of};
 ghost use Rattle.js_parsing.specs.Nesting.{Reads, levels_of};
 ghost use Rattle.js_parsing.specs.Statements.{TakesStatement};
 
 use js_cursor::{ParserImpl, Stop};
 use js_lex::{ParserConfig, RuntimeParserConfig};
 use js_tree::NodeId;
+
+/// Which parameters a method has (ECMA-262, section 15.4).
+#[derive(Clone, Copy)]
+pub enum MethodForm {
+    /// FormalParameters: those of a method that is no getter and no setter.
+    Method,
+    /// None: a getter's.
+    Getter,
+    /// One FormalParameter: a setter's.
+    Setter,
+}
 
 /// What is to be read where a production nests.
 #[derive(Clone, Copy)]
@@ -33,6 +45,8 @@ pub enum Goal {
     Body,
     /// FormalParameters in their parentheses.
     Params,
+    /// The parameters of a method in their parentheses.
+    MethodParameters(MethodForm),
 }
 
 impl Goal {
@@ -43,7 +57,7 @@ impl Goal {
     {
         match self {
             Goal::Expression | Goal::Element | Goal::Binding => 4,
-            Goal::ListItem | Goal::Body => 2,
+            Goal::ListItem | Goal::Body | Goal::MethodParameters(_) => 2,
             Goal::Assignment
             | Goal::Unary
             | Goal::Exponentiation
@@ -110,6 +124,11 @@ pub trait Nested<C: ParserConfig> {
     fn parameters(&self, p: &mut ParserImpl<'_, C>) -> Result<NodeId, Stop>
         requires { can self.now p.old Goal.Params }
         ensures { Answers (at Params) p.old p.new result };
+
+    /// The parameters of a method in their parentheses (ECMA-262, section 15.4).
+    fn method_parameters(&self, p: &mut ParserImpl<'_, C>, form: MethodForm) -> Result<NodeId, Stop>
+        requires { can self.now p.old (Goal.MethodParameters form) }
+        ensures { ReadsWhole (parameters_of form) p.old p.new result };
 }
 
 /// A function that reads whatever is asked for. It is one over the config that is told when the program runs: a bound on
@@ -170,5 +189,14 @@ impl<F: Fn(&mut ParserImpl<'_, RuntimeParserConfig>, Goal) -> Result<NodeId, Sto
     #[inline(always)]
     fn parameters(&self, p: &mut ParserImpl<'_, RuntimeParserConfig>) -> Result<NodeId, Stop> {
         (self.0)(p, Goal::Params)
+    }
+
+    #[inline(always)]
+    fn method_parameters(
+        &self,
+        p: &mut ParserImpl<'_, RuntimeParserConfig>,
+        form: MethodForm,
+    ) -> Result<NodeId, Stop> {
+        (self.0)(p, Goal::MethodParameters(form))
     }
 }

@@ -7,3 +7,4 @@ mod ObjectRests
 pub mod ParameterLists
 pub mod PatternLists
 mod RestInitialisers
+mod MethodParameters

@@ -45,11 +45,11 @@ use Rattle.js_parsing.proofs.Paths.{Path, ◌⟼◌, ◌⟶◌, ◌⟶✗◌, fa
 use Rattle.js_parsing.proofs.Verdicts.{grown_then}
 use Rattle.js_parsing.proofs.Verdicts.{after as grown_behind}
 
-open_plain : (is_word LParen || same_kind PrivateIdentifier LParen) ≡ false
+pub open_plain : (is_word LParen || same_kind PrivateIdentifier LParen) ≡ false
 unfolding words
 open_plain = refl
 
-paren_plain : (is_word RParen || same_kind PrivateIdentifier RParen) ≡ false
+pub paren_plain : (is_word RParen || same_kind PrivateIdentifier RParen) ≡ false
 unfolding words
 paren_plain = refl
 

@@ -2,5 +2,6 @@
 #![tactic(auto)]
 
 pub mod binding;
+pub mod method_parameters;
 mod object_pattern;
 pub mod parameters;

@@ -99,7 +99,7 @@ fn parse_parameter_and_comma<C: ParserConfig, N: Nested<C>>(
 }
 
 /// A FormalParameter: what it binds, and an initialiser or none.
-fn parse_formal_parameter<C: ParserConfig, N: Nested<C>>(
+pub(crate) fn parse_formal_parameter<C: ParserConfig, N: Nested<C>>(
     p: &mut ParserImpl<'_, C>,
     nested: &N,
 ) -> Result<NodeId, Stop>

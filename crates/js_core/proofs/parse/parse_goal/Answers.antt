@@ -37,6 +37,12 @@ returns-in-Params t c = rw (c.in-Params.is) c.parse_parameters.ensures
 pub parse_parameters-requires-clause-at : goal.parse_parameters-requires-clause-at
 parse_parameters-requires-clause-at t c = ready_at c.args.goal c.requires.at
 
+pub returns-in-MethodParameters : goal.returns-in-MethodParameters
+returns-in-MethodParameters t c = rw (c.in-MethodParameters.is) c.parse_method_parameters.ensures
+
+pub parse_method_parameters-requires-clause-at : goal.parse_method_parameters-requires-clause-at
+parse_method_parameters-requires-clause-at t c = ready_at c.args.goal c.requires.at
+
 pub parse_sequence_expression-requires-clause-at : goal.parse_sequence_expression-requires-clause-at
 parse_sequence_expression-requires-clause-at t c = ready_at c.args.goal c.requires.at
 

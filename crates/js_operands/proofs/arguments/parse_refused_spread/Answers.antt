@@ -3,7 +3,7 @@ use Rattle.js_cursor.specs.Parsers.{Parser}
 use Rattle.js_parsing.specs.Nesting.{room}
 use Rattle.js_parsing.proofs.Moving.{standing}
 use Rattle.js_parsing.proofs.Nesting.{nests_later}
-use Rattle.js_operands.proofs.Spreads.{told_dots, told_outcome}
+use Rattle.js_operands.proofs.Spreads.{spread_item, told_dots, told_outcome}
 use Rattle.js_parsing.proofs.Told.{told_at}
 use Rattle.js_operands.proofs.arguments.parse_refused_spread.Goals as goal
 
@@ -17,4 +17,4 @@ pub parse_spread_element-requires-clause-sign : goal.parse_spread_element-requir
 parse_spread_element-requires-clause-sign g c = told_dots c.requires.at c.requires.sign c.in_ok-tell_spread.ensures
 
 pub returns : goal.returns
-returns g c = λ text f a. told_outcome _ c.parse_spread_element.result a c.requires.sign c.in_ok-tell_spread.ensures refl (c.parse_spread_element.ensures text f (told_at c.in_ok-tell_spread.ensures a))
+returns g c = λ text f a. told_outcome _ c.parse_spread_element.result a c.requires.sign c.in_ok-tell_spread.ensures refl (let b = told_at c.in_ok-tell_spread.ensures a in spread_item b (told_dots a c.requires.sign c.in_ok-tell_spread.ensures) _ c.parse_spread_element.result (c.parse_spread_element.ensures text f b))

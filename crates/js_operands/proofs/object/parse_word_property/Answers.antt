@@ -1,0 +1,83 @@
+use Rattle.std.proofs.Common.{◌≡◌, [], ◌∷◌, refl, true, false, Bool, ◌&&◌, not, sym, ap, arith, subst, ◌∙◌}
+use Rattle.std.specs.Prelude.{Ok, None, Some}
+use Rattle.js_base.specs.Kinds.{one_of_kinds}
+use Rattle.js_base.specs.declared.span.Span.{Span}
+use Rattle.js_base.specs.declared.token.Token.{Token}
+use Rattle.js_grammar.specs.Productions.{at, Property}
+use Rattle.js_operands.proofs.Members.{word_whole}
+use Rattle.js_operands.proofs.PropertyForms.{accessor_only, leaf_at, no_form, no_shorthand_here, no_value_or_method, one_form, shorthand_only, word_name, word_only}
+use Rattle.js_operands.proofs.WordProperties.{no_star}
+use Rattle.js_base.specs.declared.kind.Kind.TheVariants.{Colon, LParen}
+use Rattle.js_parsing.specs.Lexemes.{name_kinds}
+use Rattle.js_operands.proofs.Wholes.{item_by}
+use Rattle.js_parsing.proofs.Moving.{standing}
+use Rattle.js_parsing.proofs.Nesting.{nested_room, nests_later}
+use Rattle.js_operands.proofs.object.parse_word_property.Goals as goal
+
+pub advance-requires-clause-whole : goal.advance-requires-clause-whole
+advance-requires-clause-whole g c = word_whole c.requires.at c.requires.word
+
+pub parse_accessor-requires-clause-at : goal.parse_accessor-requires-clause-at
+parse_accessor-requires-clause-at g c = standing (c.in_ok-advance.ensures _ _ c.requires.at).at
+
+pub parse_accessor-requires-clause-nests : goal.parse_accessor-requires-clause-nests
+parse_accessor-requires-clause-nests g c = nests_later c.requires.nests (let r = nested_room c.requires.at (c.in_ok-advance.ensures _ _ c.requires.at) in omega arith)
+
+pub parse_accessor-requires-clause-before : goal.parse_accessor-requires-clause-before
+parse_accessor-requires-clause-before g c =
+    let e : c.span-span.result ≡ c.args.p.now.token.span = c.span-span.ensures ∙ ap (λ (t : Token). t.span) c.cur_token-word.ensures in
+    let s = ap (λ (s : Span). s.start) e in let i = (c.in_ok-advance.ensures _ _ c.requires.at).further in omega arith
+
+pub returns-in-Some : goal.returns-in-Some
+returns-in-Some g c = λ text f a.
+    let m = c.in_ok-advance.ensures text f a in
+    let e : c.span-span.result ≡ c.args.p.now.token.span = c.span-span.ensures ∙ ap (λ (t : Token). t.span) c.cur_token-word.ensures in
+    let k : c.kind.result ≡ c.args.p.now.token.kind = c.kind.ensures ∙ ap (λ (t : Token). t.kind) c.cur_token-word.ensures in
+    let b = one_form c.in-Some.form k c.cur_kind.ensures (sym c.accessor_form.ensures ∙ c.in-Some.is) in
+    item_by text f c.args.p.now (at Property f) _ c.parse_accessor.result (accessor_only a c.requires.word c.requires.plain m c.in-Some.form b) (c.parse_accessor.ensures text f c.args.p.now a (ap (λ (s : Span). s.start) e) b.0 c.requires.plain m)
+
+pub parse_shorthand-requires-clause-at : goal.parse_shorthand-requires-clause-at
+parse_shorthand-requires-clause-at g c = standing (c.in_ok-advance.ensures _ _ c.requires.at).at
+
+pub parse_shorthand-requires-clause-nests : goal.parse_shorthand-requires-clause-nests
+parse_shorthand-requires-clause-nests g c = nests_later c.requires.nests (let r = nested_room c.requires.at (c.in_ok-advance.ensures _ _ c.requires.at) in omega arith)
+
+pub parse_shorthand-requires-clause-before : goal.parse_shorthand-requires-clause-before
+parse_shorthand-requires-clause-before g c =
+    let e : c.span-span.result ≡ c.args.p.now.token.span = c.span-span.ensures ∙ ap (λ (t : Token). t.span) c.cur_token-word.ensures in
+    let s = ap (λ (s : Span). s.start) e in let i = (c.in_ok-advance.ensures _ _ c.requires.at).further in omega arith
+
+pub returns-then-is_shorthand : goal.returns-then-is_shorthand
+returns-then-is_shorthand g c = λ text f a.
+    let m = c.in_ok-advance.ensures text f a in
+    let e : c.span-span.result ≡ c.args.p.now.token.span = c.span-span.ensures ∙ ap (λ (t : Token). t.span) c.cur_token-word.ensures in
+    let k : c.kind.result ≡ c.args.p.now.token.kind = c.kind.ensures ∙ ap (λ (t : Token). t.kind) c.cur_token-word.ensures in
+    let j : c.kind-2.result ≡ c.args.p.now.token.kind = c.kind-2.ensures ∙ ap (λ (t : Token). t.kind) c.cur_token-word.ensures in
+    let z = no_value_or_method (one_of_kinds name_kinds c.kind-2.result) (one_of_kinds (Colon ∷ LParen ∷ []) c.cur_kind-2.result) (sym c.is_shorthand.ensures ∙ c.if-is_shorthand.true) in
+    item_by text f c.args.p.now (at Property f) _ c.parse_shorthand.result (shorthand_only a c.requires.word c.requires.plain m (no_form k c.cur_kind.ensures (sym c.accessor_form.ensures ∙ c.in_default.is)) (sym (ap (one_of_kinds (Colon ∷ LParen ∷ [])) c.cur_kind-2.ensures) ∙ z.1))
+    (c.parse_shorthand.ensures text f c.args.p.now a e (record { kind = sym (ap (one_of_kinds name_kinds) j) ∙ z.0; plain = c.requires.plain }) m)
+
+pub parse_behind_name-requires-clause-at : goal.parse_behind_name-requires-clause-at
+parse_behind_name-requires-clause-at g c = standing (leaf_at (c.in_ok-advance.ensures _ _ c.requires.at).at c.in_ok-key.ensures).0
+
+pub parse_behind_name-requires-clause-nests : goal.parse_behind_name-requires-clause-nests
+parse_behind_name-requires-clause-nests g c = nests_later c.requires.nests (
+    let m = c.in_ok-advance.ensures _ _ c.requires.at in
+    let l = (leaf_at m.at c.in_ok-key.ensures).2 in let r = nested_room c.requires.at m in omega arith)
+
+pub parse_behind_name-requires-clause-before : goal.parse_behind_name-requires-clause-before
+parse_behind_name-requires-clause-before g c =
+    let e : c.span-span.result ≡ c.args.p.now.token.span = c.span-span.ensures ∙ ap (λ (t : Token). t.span) c.cur_token-word.ensures in
+    let m = c.in_ok-advance.ensures _ _ c.requires.at in
+    let l = (leaf_at m.at c.in_ok-key.ensures).1 in let s = ap (λ (s : Span). s.start) e in let i = m.further in omega arith
+
+pub returns : goal.returns
+returns g c = λ text f a.
+    let m = c.in_ok-advance.ensures text f a in
+    let e : c.span-span.result ≡ c.args.p.now.token.span = c.span-span.ensures ∙ ap (λ (t : Token). t.span) c.cur_token-word.ensures in
+    let k : c.kind.result ≡ c.args.p.now.token.kind = c.kind.ensures ∙ ap (λ (t : Token). t.kind) c.cur_token-word.ensures in
+    let j : c.kind-2.result ≡ c.args.p.now.token.kind = c.kind-2.ensures ∙ ap (λ (t : Token). t.kind) c.cur_token-word.ensures in
+    let x = word_name a c.requires.word c.requires.plain c.in_ok-advance.ensures e c.in_ok-key.ensures in
+    item_by text f c.args.p.now (at Property f) _ c.parse_behind_name.result
+    (word_only a c.requires.word c.requires.plain m (no_form k c.cur_kind.ensures (sym c.accessor_form.ensures ∙ c.in_default.is)) (no_shorthand_here j c.cur_kind-2.ensures (sym c.is_shorthand.ensures ∙ c.if-is_shorthand.false)) x.other)
+    (c.parse_behind_name.ensures text f c.args.p.now a (ap (λ (s : Span). s.start) e) (no_star a c.requires.word c.requires.plain m) x)
