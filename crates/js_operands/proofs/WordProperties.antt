@@ -207,9 +207,12 @@ module _ {text : List ℕ} {f : Flags} {p q : Parser} (a : At text f p) (r : rea
       there us (last x) l (inr e) = absurd (false≢true (sym no_word_ends ∙ (ap is_word (sym e ∙ ap (λ (y : Lexeme). y.kind) (its x l)) ∙ word_is.1)))
       there us (next x ls) l w =
           let e = its x l.0 in
-          let t : x.to ≡ q.prev_token_end = ap (λ (y : Lexeme). y.to) e ∙ m.ends in
-          (q.prev_token_end, ls, subst (λ (y : Lexeme). Takes rule (symbol IdentifierName f) end (tree word_label end us) p.prev_token_end (next y ls) us q.prev_token_end ls) (sym e)
-          (word_reads.sound us us q.prev_token_end ls ls (subst (λ (s : ℕ). Lexes (Lex text) s ls) t l.1) (subst (λ (s : ℕ). Reaches 0 s ls) t (reaches_less 0 (suc p.prev_token_end) (omega arith) x.to ls w)) is_nothing))
+          let t : x.to ≡ q.prev_token_end = ap (λ (y : Lexeme). y.to) e ∙ m.ends in (
+            q.prev_token_end,
+            ls,
+            subst (λ (y : Lexeme). Takes rule (symbol IdentifierName f) end (tree word_label end us) p.prev_token_end (next y ls) us q.prev_token_end ls) (sym e)
+                (word_reads.sound us us q.prev_token_end ls ls (subst (λ (s : ℕ). Lexes (Lex text) s ls) t l.1) (subst (λ (s : ℕ). Reaches 0 s ls) t (reaches_less 0 (suc p.prev_token_end) (omega arith) x.to ls w)) is_nothing),
+          )
 
       alone : (ts us : Slots) (j : ℕ) (ls rest : Lexemes) → Lexes (Lex text) p.prev_token_end ls → Takes rule (symbol IdentifierName f) end ts p.prev_token_end ls us j rest → ts ≡ tree word_label end us
       alone ts us j ls rest l d = let z = word_reads.only ts us j ls rest l d (refl, refl) in z.2 ∙ ap (λ (vs : Slots). tree word_label end vs) (ends z.4).0

@@ -378,8 +378,14 @@ fn make_property<C: ParserConfig>(
 {
     let span = p.end_span(start);
     let op = Op::Property(kind);
-    p.ast
-        .node_of_two(NodeKind::ObjectProperty, span, op, flags, Some(key), Some(value))
+    p.ast.node_of_two(
+        NodeKind::ObjectProperty,
+        span,
+        op,
+        flags,
+        Some(key),
+        Some(value),
+    )
 }
 
 /// The function of a method: its parameters in their parentheses, and its body in its braces (ECMA-262, sections 15.4 and

@@ -115,11 +115,7 @@ pub trait Nested<C: ParserConfig> {
         ensures { Answers (at Body) p.old p.new result };
 
     /// The parameters of a method in their parentheses (ECMA-262, section 15.4).
-    fn parameters(
-        &self,
-        p: &mut ParserImpl<'_, C>,
-        form: MethodForm,
-    ) -> Result<NodeId, Stop>
+    fn parameters(&self, p: &mut ParserImpl<'_, C>, form: MethodForm) -> Result<NodeId, Stop>
         requires { can self.now p.old (Goal.Parameters form) }
         ensures { ReadsWhole (parameters_of form) p.old p.new result };
 }

@@ -44,11 +44,13 @@ returns-in_err-initialiser g c = λ text f first a s n m.
     rw (p.1, p.2) (initialiser_stops a n.kind n.plain m s c.in_ok-key.ensures c.in_ok-value.ensures k d _ _ (c.in_err-initialiser.ensures text f d.at))
 
 pub make_initialised-requires : goal.make_initialised-requires
-make_initialised-requires g c = record { before =
-    let l = leaves_at c.requires.at c.in_ok-key.ensures c.in_ok-value.ensures c.requires.before in
-    let d = c.in_ok-advance.ensures _ _ l.0 in
-    let y = (c.in_ok-initialiser.ensures _ _ d.at).answer in
-    let i = l.1 in let j = l.0.behind in let k = d.further in let n = d.at.behind in let o = y.further in omega arith }
+make_initialised-requires g c = record {
+  before =
+      let l = leaves_at c.requires.at c.in_ok-key.ensures c.in_ok-value.ensures c.requires.before in
+      let d = c.in_ok-advance.ensures _ _ l.0 in
+      let y = (c.in_ok-initialiser.ensures _ _ d.at).answer in
+      let i = l.1 in let j = l.0.behind in let k = d.further in let n = d.at.behind in let o = y.further in omega arith;
+}
 
 pub returns : goal.returns
 returns g c = λ text f first a s n m.
