@@ -1,22 +1,21 @@
 -- Methods of object literals (ECMA-262, 15.4, 15.5): the function behind a name, and the property that it makes.
 use Rattle.std.proofs.Common.{ℕ, ◌≡◌, ◌+◌, zero-add, Bool, true, false, List, [], ◌∷◌, ◌||◌, length, Option, Some, None, refl, sym, ap, subst, arith, ◌∙◌}
-use Rattle.std.specs.Prelude.{Result, Ok, Err}
 use Rattle.js_base.specs.declared.kind.Kind.TheVariants.{Colon, Comma, RParen, RBrack, RCurly, PrivateIdentifier}
 use Rattle.js_base.specs.Kinds.{same_kind, one_of_kinds}
 use Rattle.js_base.specs.Texts.{words}
 use Rattle.js_grammar.specs.Lexemes.{is_word}
-use Rattle.js_grammar.specs.Trees.{Label, Op, NodeKind, Slots, end, hole, tree, append, no_op, init, object_property, function_expression}
-use Rattle.js_grammar.specs.Grammar.{Lexeme, Look, here, such, nothing, empty_slot, ◌▸◌}
-use Rattle.js_grammar.specs.Parsing.{Test, plain, full, always, Fails}
-use Rattle.js_grammar.specs.Productions.{G, Flags, at, async_flag, body_of, computed_flag, flag, method_flag, generator_flag, make, params_of, plus_in, tok, Assignment, Body}
+use Rattle.js_grammar.specs.Trees.{Label, Op, Slots, end, tree, no_op, init, object_property, function_expression}
+use Rattle.js_grammar.specs.Grammar.{Look, here, nothing, empty_slot, ◌▸◌}
+use Rattle.js_grammar.specs.Parsing.{plain, full, Fails}
+use Rattle.js_grammar.specs.Productions.{G, Flags, at, async_flag, body_of, computed_flag, flag, method_flag, generator_flag, make, params_of, plus_in, Assignment, Body}
 use Rattle.js_grammar.specs.Productions.{sym as symbol}
 use Rattle.js_grammar.specs.Table.{rule}
 use Rattle.js_grammar.proofs.Looks.{covers}
 use Rattle.js_grammar.proofs.Calculus.{◌▹✗◌, fails_node, inside_full, inside_plain, part_fails, reads_empty_slot, then_by, weaken_fails, weaken_fails_on}
 use Rattle.js_tree.specs.declared.id.NodeId.{NodeId}
 use Rattle.js_tree.specs.Nodes.{Node}
-use Rattle.js_tree.specs.Holding.{Holds, HoldsAll, Keeps}
-use Rattle.js_tree.proofs.HoldingLemmas.{HoldsAll-none, HoldsAll-next, Keeps-refl, Keeps-trans, Keeps-made}
+use Rattle.js_tree.specs.Holding.{HoldsAll, Keeps}
+use Rattle.js_tree.proofs.HoldingLemmas.{HoldsAll-none, HoldsAll-next, Keeps-trans, Keeps-made}
 use Rattle.js_cursor.specs.Parsers.{Parser}
 use Rattle.js_cursor.specs.declared.stop.Stop.{Stop}
 use Rattle.js_operands.specs.Objects.{flags_of_form, function_label, kind_of_form, method_left, op_of_form, property_label, value_left}
@@ -25,7 +24,7 @@ use Rattle.js_tree.specs.declared.op.PropertyKind.TheVariants as property
 use Rattle.js_tree.specs.Labels.{property_op}
 use Rattle.js_parsing.specs.declared.nested.MethodForm.{MethodForm}
 use Rattle.js_parsing.specs.declared.nested.MethodForm.TheVariants.{Method, Getter, Setter}
-use Rattle.js_parsing.specs.Answers.{Answer, Numbered, Stops, Underived}
+use Rattle.js_parsing.specs.Answers.{Numbered, Stops, Underived}
 use Rattle.js_parsing.specs.Arguments.{PartTaken, Partway, behind_item}
 use Rattle.js_parsing.specs.Lexemes.{Lex}
 use Rattle.js_parsing.specs.Methods.{WholeTaken, parameters_of}

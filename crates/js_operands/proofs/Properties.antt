@@ -1,41 +1,32 @@
 -- The line of a property (ECMA-262, 13.2.5): which of its forms is left, by what stands where it begins and behind its name.
-use Rattle.std.proofs.Common.{ℕ, ◌≡◌, ◌≤◌, ◌⊎◌, inl, inr, max, suc, Bool, true, false, not, ◌&&◌, ◌||◌, List, [], ◌∷◌, ◌++◌, length, Option, Some, IsTrue, refl, sym, ap, subst, arith, ◌∙◌}
-use Rattle.std.proofs.lemmas.Bool.{false≢true, and_parts, and_from}
+use Rattle.std.proofs.Common.{ℕ, ◌≡◌, ◌≤◌, ◌⊎◌, Bool, true, false, not, ◌&&◌, ◌||◌, List, [], ◌∷◌, ◌++◌, Some, refl, ap, subst, ◌∙◌}
+use Rattle.std.proofs.lemmas.Bool.{false≢true}
 use Rattle.js_base.specs.KindSets.{number_kinds}
-use Rattle.js_base.specs.Kinds.{same_kind, one_of_kinds}
-use Rattle.js_base.specs.Texts.{words}
+use Rattle.js_base.specs.Kinds.{one_of_kinds}
 use Rattle.js_base.specs.declared.kind.Kind.{Kind}
-use Rattle.js_base.specs.declared.kind.Kind.TheVariants.{Break, Colon, Comma, Const, Continue, Debugger, Delete, Do, Dot3, Else, Eof, Eq, False, Get, If, In, Instanceof, LBrack, LParen, New, Null, PrivateIdentifier, RBrack, RCurly, RParen, Set, Star, Str, This, Throw, True, Typeof, Var, Void, While, With}
-use Rattle.js_base.proofs.KindLemmas.{kind_of_same}
-use Rattle.js_grammar.specs.Lexemes.{is_word}
-use Rattle.js_grammar.specs.Trees.{Label, Slots, end, tree, no_op, of, identifier_name, identifier_reference}
-use Rattle.js_grammar.specs.Grammar.{Lexeme, Lexemes, last, next, Look, ahead, alt, never, nothing, seen, seq, such, when, Takes, is_node, is_lexeme, is_such, ◌▸◌, ◌◇◌}
-use Rattle.js_grammar.specs.Lexed.{Lexes}
-use Rattle.js_grammar.specs.Parsing.{Test, behind, plain, full, always, still, Reaches, Goes, Fails}
-use Rattle.js_grammar.specs.Productions.{G, Flags, at, only, opt, plus_in, params_of, tok, IdentifierName, IdentifierReference, Init, Params, Property}
+use Rattle.js_base.specs.declared.kind.Kind.TheVariants.{Async, Await, Break, Case, Catch, Class, Colon, Comma, Const, Continue, Debugger, Default, Delete, Do, Dot3, Else, Enum, Eq, Export, Extends, False, Finally, For, Function, Get, If, Import, In, Instanceof, LBrack, LParen, New, Null, RBrack, RCurly, RParen, Return, Set, Star, Str, Super, Switch, Target, This, Throw, True, Try, Typeof, Var, Void, While, With, Yield}
+use Rattle.js_grammar.specs.Trees.{end}
+use Rattle.js_grammar.specs.Grammar.{Look, alt, nothing, when, ◌▸◌, ◌◇◌}
+use Rattle.js_grammar.specs.Parsing.{Test, plain, full, still, Goes, Fails}
+use Rattle.js_grammar.specs.Productions.{G, Flags, at, opt, plus_in, tok, Init, Property}
 use Rattle.js_grammar.specs.Productions.{sym as symbol}
-use Rattle.js_grammar.specs.Table.{rule, rule_of, method_function, name, plain_method}
-use Rattle.js_grammar.proofs.Looks.{covers, covered, apart, not_both}
-use Rattle.js_grammar.proofs.Calculus.{◌▹◌, ◌▹✗◌, aheads, both, by_rule, done, ends, fails_alt, fails_node, inside_full, inside_plain, left, right, stay, then_by}
+use Rattle.js_grammar.specs.Table.{rule, rule_of, name, plain_method}
+use Rattle.js_grammar.proofs.Looks.{covers, apart, not_both}
+use Rattle.js_grammar.proofs.Calculus.{◌▹◌, ◌▹✗◌, both, done, fails_alt, fails_node, inside_full, left, right, stay}
 use Rattle.js_tree.specs.declared.id.NodeId.{NodeId}
 use Rattle.js_cursor.specs.Parsers.{Parser}
 use Rattle.js_operands.specs.Objects.{accessors, getter_of, method_left, named, setter_of, shorthand, value_left, with_method, with_value}
 use Rattle.js_operands.specs.PropertyNames.{NameRead, NoName}
 use Rattle.js_operands.specs.Spreads.{spread}
 use Rattle.js_parsing.specs.declared.nested.MethodForm.TheVariants.{Method, Getter, Setter}
-use Rattle.js_parsing.specs.Answers.{Stretch}
 use Rattle.js_parsing.specs.Arguments.{Partway, behind_item}
-use Rattle.js_parsing.specs.Lexemes.{Lex, is_read, name_kinds, read_kinds, read_word}
+use Rattle.js_parsing.specs.Lexemes.{Lex, name_kinds, read_word}
 use Rattle.js_parsing.specs.Methods.{WholeTaken}
-use Rattle.js_parsing.specs.Moves.{Moved}
 use Rattle.js_parsing.specs.States.{At}
 use Rattle.js_parsing.proofs.Dead.{fails_dead}
 use Rattle.js_parsing.proofs.Parts.{part_from}
-use Rattle.js_parsing.proofs.Paths.{Path, ◌⟼◌, ◌⟶◌, ◌⟶✗◌, by_symbol_as, fails_at, label_here, noded, noding, one_read, passes_test, read_of, token}
-use Rattle.js_parsing.proofs.Verdicts.{verdict_of}
-use Rattle.js_operands.proofs.Members.{name_of}
+use Rattle.js_parsing.proofs.Paths.{◌⟼◌, ◌⟶◌, ◌⟶✗◌, fails_at, token}
 use Rattle.js_operands.proofs.Methods.{no_first}
-use Rattle.js_operands.proofs.Operands.{name_leaf}
 use Rattle.js_operands.proofs.Wholes.{part_under, whole_part}
 
 -- ---- the forms of the line
@@ -119,9 +110,9 @@ word_apart ls d k h = go (one_of_kinds ls k) refl
     go true e = absurd (not_both read_words (λ k w e. one_of_kinds ls k) d k false false h e)
     go false e = e
 
--- what the name of a property begins with, of what is read
+-- what the name of a property begins with, of what is read: words, among them some that aren't read yet
 abbrev pub property_name_kinds : List Kind
-property_name_kinds = LBrack ∷ Str ∷ This ∷ Null ∷ True ∷ False ∷ Typeof ∷ Void ∷ Delete ∷ In ∷ Instanceof ∷ New ∷ Break ∷ Continue ∷ Debugger ∷ Throw ∷ If ∷ Else ∷ While ∷ Do ∷ With ∷ Var ∷ Const ∷ number_kinds ++ name_kinds
+property_name_kinds = LBrack ∷ Str ∷ This ∷ Null ∷ True ∷ False ∷ Typeof ∷ Void ∷ Delete ∷ In ∷ Instanceof ∷ New ∷ Break ∷ Continue ∷ Debugger ∷ Throw ∷ If ∷ Else ∷ While ∷ Do ∷ With ∷ Var ∷ Const ∷ Case ∷ Catch ∷ Class ∷ Default ∷ Enum ∷ Export ∷ Extends ∷ Finally ∷ For ∷ Function ∷ Import ∷ Return ∷ Super ∷ Switch ∷ Try ∷ Yield ∷ Await ∷ Async ∷ Target ∷ number_kinds ++ name_kinds
 
 abbrev next_kinds : Look
 next_kinds k w e = one_of_kinds (Comma ∷ RParen ∷ RBrack ∷ RCurly ∷ []) k

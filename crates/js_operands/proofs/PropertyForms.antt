@@ -1,23 +1,22 @@
 -- Which form of a property stands here (ECMA-262, 13.2.5), and how it is read from its beginning.
-use Rattle.std.proofs.Common.{ℕ, ◌≡◌, ◌≤◌, Bool, true, false, not, ◌&&◌, ◌||◌, List, [], ◌∷◌, ◌++◌, length, Option, Some, None, IsTrue, refl, sym, ap, subst, arith, ◌∙◌}
-use Rattle.std.specs.Prelude.{Result, Ok, Err}
+use Rattle.std.proofs.Common.{ℕ, ◌≡◌, ◌≤◌, Bool, true, false, not, ◌&&◌, ◌||◌, List, [], ◌∷◌, ◌++◌, Some, None, refl, sym, ap, subst, ◌∙◌}
+use Rattle.std.specs.Prelude.{Result, Ok}
 use Rattle.std.proofs.lemmas.Bool.{false≢true}
-use Rattle.js_base.specs.KindSets.{number_kinds}
 use Rattle.js_base.specs.Kinds.{same_kind, one_of_kinds}
 use Rattle.js_base.specs.Texts.{words}
 use Rattle.js_base.specs.declared.kind.Kind.{Kind}
 use Rattle.js_base.specs.declared.kind.Kind.TheVariants.{Colon, Dot3, Get, LBrack, LParen, PrivateIdentifier, Set, Star}
 use Rattle.js_grammar.specs.Lexemes.{is_word}
 use Rattle.js_grammar.specs.Grammar.{Look, nothing, ◌▸◌}
-use Rattle.js_grammar.specs.Parsing.{Test, plain, full, always, still, Goes, Fails}
-use Rattle.js_grammar.specs.Productions.{G, Flags, at, tok, Property}
-use Rattle.js_grammar.specs.Table.{rule, getter, name, plain_method, setter}
+use Rattle.js_grammar.specs.Parsing.{still, Goes, Fails}
+use Rattle.js_grammar.specs.Productions.{Flags, at, Property}
+use Rattle.js_grammar.specs.Table.{rule, getter, plain_method, setter}
 use Rattle.js_grammar.specs.Trees.{Label, end}
 use Rattle.js_grammar.proofs.Looks.{covers, covered, apart}
 use Rattle.js_grammar.proofs.Calculus.{◌▹◌, ◌▹✗◌, done, fails_alt, fails_node, fails_rule, inside_full, left, right}
 use Rattle.js_tree.specs.declared.id.NodeId.{NodeId}
 use Rattle.js_cursor.specs.Parsers.{Parser}
-use Rattle.js_operands.specs.Objects.{Begins, accessors, ReadsMethod, ends_name_kinds, form_of, getter_of, method_left, named, setter_of, shorthand, with_method, with_value}
+use Rattle.js_operands.specs.Objects.{Begins, accessors, ReadsMethod, ends_name_kinds, form_of, getter_of, method_left, named, setter_of, shorthand, with_method}
 use Rattle.js_operands.specs.PropertyNames.{NameRead, NoName, NoNames}
 use Rattle.js_cursor.specs.declared.stop.Stop.{Stop}
 use Rattle.js_operands.specs.declared.property_name.PropertyName.{PropertyName}
@@ -38,10 +37,9 @@ use Rattle.js_parsing.specs.States.{At}
 use Rattle.js_parsing.proofs.Moving.{beside_nodes, neither}
 use Rattle.js_parsing.proofs.Parts.{part_from, part_sign, parts}
 use Rattle.js_parsing.proofs.Paths.{◌⟶✗◌, token}
-use Rattle.js_parsing.proofs.Signs.{plain_sign}
 use Rattle.js_operands.proofs.Methods.{no_first}
 use Rattle.js_operands.proofs.Properties.{behind_shorthand, forms, kinds_apart, name_part, no_forms, no_getter, no_method, no_name_begins, no_setter, no_shorthand, no_spread, no_value, only_getters, only_method, only_named, only_setters, only_shorthand, only_spread, property_name_kinds, none_of_line, with_star, word_apart}
-use Rattle.js_operands.proofs.WordProperties.{name_word, no_accessor, no_dots, no_methods, no_star, no_values, not_alone, one_begins}
+use Rattle.js_operands.proofs.WordProperties.{no_accessor, no_dots, no_methods, no_star, no_values, not_alone, one_begins}
 
 abbrev read_words : Look
 read_words k w e = read_word k

@@ -1,6 +1,6 @@
 -- Object literals (ECMA-262, 13.2.5): what is left of the list behind each of its properties.
 use Rattle.std.proofs.Common.{ℕ, ◌≡◌, ◌≤◌, ◌<◌, inl, inr, max, IsTrue, true, List, [], ◌∷◌, ◌++◌, length, Option, Some, false, ◌||◌, refl, sym, ap, subst, arith, ◌∙◌}
-use Rattle.std.specs.Prelude.{Result, Ok, Err, MatchResult}
+use Rattle.std.specs.Prelude.{Ok, Err}
 use Rattle.std.proofs.lemmas.Bool.{false≢true, and_parts}
 use Rattle.js_base.specs.declared.diagnostic.Diagnostic.{Diagnostic}
 use Rattle.js_base.specs.declared.kind.Kind.{Kind}
@@ -9,10 +9,9 @@ use Rattle.js_base.specs.declared.span.Span.{Span}
 use Rattle.js_base.specs.Kinds.{same_kind, one_of_kinds}
 use Rattle.js_base.specs.Texts.{words}
 use Rattle.js_grammar.specs.Lexemes.{is_word}
-use Rattle.js_grammar.specs.Trees.{Slots, end, tree, Label, no_op, elision, object_expression}
+use Rattle.js_grammar.specs.Trees.{Slots, end, tree, Label, no_op, object_expression}
 use Rattle.js_grammar.specs.Grammar.{Lexeme, Lexemes, Look, commas, is, seen, seq, nothing, Takes, is_seq}
-use Rattle.js_grammar.specs.Parsing.{Test, plain, full, still, Reaches, Goes, Fails}
-use Rattle.js_grammar.specs.Lexed.{Lexes}
+use Rattle.js_grammar.specs.Parsing.{plain, full, still, Goes, Fails}
 use Rattle.js_base.proofs.KindLemmas.{kind_of_same}
 use Rattle.js_grammar.specs.Productions.{G, Flags, Symbol, at, tok, Object, Primary, Property}
 use Rattle.js_grammar.specs.Productions.{sym as symbol}
@@ -28,10 +27,8 @@ use Rattle.js_grammar.proofs.FollowLaws.{fails_by}
 use Rattle.js_tree.specs.declared.id.NodeId.{NodeId}
 use Rattle.js_tree.specs.declared.kind.NodeKind.TheVariants as node
 use Rattle.js_tree.specs.declared.op.Op.TheVariants as op
-use Rattle.js_tree.specs.Nodes.{Node}
-use Rattle.js_tree.specs.Holding.{Holds, Keeps}
-use Rattle.js_tree.proofs.HoldingLemmas.{HoldsAll-none, HoldsAll-next, Keeps-refl, Keeps-trans, Keeps-made}
-use Rattle.js_cursor.specs.Moves.{MovesOn, Opened, GivesUp, Steps, OnlyMemory, is_last, IsHere}
+use Rattle.js_tree.proofs.HoldingLemmas.{HoldsAll-none, HoldsAll-next, Keeps-trans, Keeps-made}
+use Rattle.js_cursor.specs.Moves.{MovesOn, Opened, GivesUp, Steps, IsHere}
 use Rattle.js_cursor.specs.Parsers.{Parser}
 use Rattle.js_cursor.specs.declared.stop.ListStep.{ListStep}
 use Rattle.js_cursor.specs.declared.stop.ListStep.TheVariants.{Element, End, EndAfterComma}
@@ -43,7 +40,7 @@ use Rattle.js_parsing.specs.Answers.{Stretch, Underived, Numbered, Stops}
 use Rattle.js_parsing.specs.Arguments.{Partway, ItemTaken, NoItem, behind_item}
 use Rattle.js_operands.specs.Objects.{object_of, properties, Properties, TakesProperty}
 use Rattle.js_parsing.specs.Stands.{StandsHere}
-use Rattle.js_parsing.specs.Moves.{Moved, Moves, MadeHere, LeafTaken, TakesLeaf, plain_label, unpassable}
+use Rattle.js_parsing.specs.Moves.{Moved, Moves, MadeHere, plain_label, unpassable}
 use Rattle.js_parsing.specs.Nesting.{room}
 use Rattle.js_operands.proofs.ArgumentLists.{is_that, none_there}
 use Rattle.js_operands.proofs.Arrays.{turned}
@@ -52,9 +49,9 @@ use Rattle.js_parsing.proofs.Signs.{plain_sign}
 use Rattle.js_parsing.proofs.Giving.{gives_up}
 use Rattle.js_parsing.proofs.Here.{uncut}
 use Rattle.js_parsing.proofs.Signs.{AllAre, NoneIs}
-use Rattle.js_parsing.proofs.MadeNodes.{leaf_held, node_held, one_lies, made_lies}
+use Rattle.js_parsing.proofs.MadeNodes.{node_held, one_lies}
 use Rattle.js_parsing.proofs.Signs.{stands_not, stands_there}
-use Rattle.js_parsing.proofs.Moving.{same_with, beside_nodes, moves, standing, stops_behind, stops_so}
+use Rattle.js_parsing.proofs.Moving.{moves, standing, stops_behind, stops_so}
 use Rattle.js_parsing.proofs.Nesting.{nested_room, later_room}
 use Rattle.js_operands.proofs.Operands.{by_path, behind_primary}
 use Rattle.js_parsing.proofs.Parts.{part_path, part_from, part_goes, part_path_fails, parts, part_sign, part_last}

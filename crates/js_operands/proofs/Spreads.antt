@@ -33,9 +33,9 @@ use Rattle.js_cursor.specs.Moves.{Keeps as KeepsOne}
 use Rattle.js_cursor.specs.Parsers.{Parser}
 use Rattle.js_cursor.specs.Places.{goal}
 use Rattle.js_cursor.specs.declared.stop.Stop.{Stop}
-use Rattle.js_parsing.specs.Lexemes.{Lex, Walked, spot}
+use Rattle.js_parsing.specs.Lexemes.{Lex, spot}
 use Rattle.js_parsing.specs.States.{At}
-use Rattle.js_parsing.specs.Answers.{Answer, Verdict, unclean, Stretch, Underived, Numbered, Outcome, Stops}
+use Rattle.js_parsing.specs.Answers.{Answer, unclean, Stretch, Underived, Numbered, Outcome, Stops}
 use Rattle.js_parsing.specs.Arguments.{item_of, behind_item, NoItem, ItemTaken, ItemOutcome, PartTaken, spread_at}
 use Rattle.js_parsing.specs.Stands.{StandsHere}
 use Rattle.js_parsing.specs.Moves.{Moved, MadeHere, plain_label}
@@ -45,8 +45,8 @@ use Rattle.js_operands.specs.Spreads.{PartOutcome, spread}
 use Rattle.js_operands.proofs.Wholes.{item_by, part_answers}
 use Rattle.js_parsing.proofs.MadeNodes.{one_held, one_lies}
 use Rattle.js_parsing.proofs.Signs.{stands_not, stands_there}
-use Rattle.js_parsing.proofs.Moving.{same_both, same_with, beside_nodes, stops_so, stops_behind}
-use Rattle.js_parsing.proofs.Paths.{Path, ◌⟼◌, ◌⟶◌, ◌⟶✗◌, token, last_called, noded_by, by_symbol_as, label_here, walked_from}
+use Rattle.js_parsing.proofs.Moving.{same_both, stops_so, stops_behind}
+use Rattle.js_parsing.proofs.Paths.{Path, ◌⟼◌, ◌⟶◌, ◌⟶✗◌, token, last_called, noded_by, label_here, walked_from}
 use Rattle.js_parsing.proofs.Verdicts.{verdict_of, grown_both, grown_on}
 use Rattle.js_parsing.proofs.Giving.{kept_one}
 use Rattle.js_parsing.proofs.Told.{told_same, lexeme_marked}

@@ -1,9 +1,9 @@
 -- Parts of a node that anything may follow, one behind the other; and what is made of them.
-use Rattle.std.proofs.Common.{ℕ, ◌≡◌, max, List, [], ◌∷◌, ◌++◌, length, Option, Some, None, refl, sym, ap, subst, arith, ◌∙◌}
+use Rattle.std.proofs.Common.{ℕ, ◌≡◌, max, List, [], ◌∷◌, ◌++◌, length, Option, Some, None, refl, sym, subst, arith, ◌∙◌}
 use Rattle.std.specs.Prelude.{Result, Ok, Err}
-use Rattle.js_grammar.specs.Trees.{Label, Slots, end, hole, tree, append}
+use Rattle.js_grammar.specs.Trees.{Label, Slots, end, hole, tree}
 use Rattle.js_grammar.specs.Grammar.{seq, such, nothing, empty_slot}
-use Rattle.js_grammar.specs.Parsing.{Test, plain, full, always, still, Goes, Fails}
+use Rattle.js_grammar.specs.Parsing.{Test, plain, full, always, still, Goes}
 use Rattle.js_grammar.specs.Productions.{G, Flags, Symbol}
 use Rattle.js_grammar.specs.Follow.{after}
 use Rattle.js_grammar.specs.Table.{rule}
@@ -12,15 +12,15 @@ use Rattle.js_grammar.proofs.Frame.{append_assoc}
 use Rattle.js_tree.specs.declared.id.NodeId.{NodeId}
 use Rattle.js_tree.specs.Nodes.{Node}
 use Rattle.js_tree.specs.Holding.{Holds, HoldsAll, Keeps}
-use Rattle.js_tree.proofs.HoldingLemmas.{HoldsAll-hole, HoldsAll-next, HoldsAll-none}
+use Rattle.js_tree.proofs.HoldingLemmas.{HoldsAll-hole, HoldsAll-next}
 use Rattle.js_cursor.specs.Parsers.{Parser}
 use Rattle.js_cursor.specs.declared.stop.Stop.{Stop}
 use Rattle.js_operands.specs.Spreads.{PartOutcome}
-use Rattle.js_parsing.specs.Answers.{Answer, Numbered, Stretch, Stops}
-use Rattle.js_parsing.specs.Arguments.{ItemOutcome, ItemTaken, PartTaken, Partway, behind_item}
+use Rattle.js_parsing.specs.Answers.{Numbered}
+use Rattle.js_parsing.specs.Arguments.{ItemOutcome, PartTaken, Partway, behind_item}
 use Rattle.js_parsing.specs.Lexemes.{Lex}
 use Rattle.js_parsing.specs.Methods.{WholeTaken}
-use Rattle.js_parsing.specs.States.{At, Same, NodesLie}
+use Rattle.js_parsing.specs.States.{Same, NodesLie}
 use Rattle.js_parsing.proofs.MadeNodes.{LabelLies, from_start}
 use Rattle.js_parsing.proofs.Moving.{beside_nodes, same_with, stops_so}
 use Rattle.js_parsing.proofs.Paths.{Path, last_called}

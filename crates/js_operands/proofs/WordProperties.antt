@@ -1,6 +1,6 @@
 -- A property that begins with a word (ECMA-262, 13.2.5): what is left of the line of a property, by what stands behind the word.
-use Rattle.std.proofs.Common.{ℕ, ◌≡◌, ◌≤◌, ◌⊎◌, inl, inr, max, suc, Bool, true, false, not, ◌&&◌, ◌||◌, List, [], ◌∷◌, length, Option, Some, None, IsTrue, IsCharBoundary, refl, sym, ap, subst, arith, ◌∙◌}
-use Rattle.std.specs.Prelude.{Result, Ok, Err, if◌then◌else◌}
+use Rattle.std.proofs.Common.{ℕ, ◌≡◌, ◌≤◌, ◌⊎◌, inl, inr, max, suc, Bool, true, false, ◌&&◌, ◌||◌, List, [], ◌∷◌, length, Option, Some, None, IsTrue, IsCharBoundary, refl, sym, ap, subst, arith, ◌∙◌}
+use Rattle.std.specs.Prelude.{if◌then◌else◌}
 use Rattle.std.proofs.lemmas.Bool.{false≢true, and_parts, or_left}
 use Rattle.js_base.specs.Kinds.{same_kind, one_of_kinds}
 use Rattle.js_base.specs.Texts.{words}
@@ -11,10 +11,10 @@ use Rattle.js_base.proofs.KindLemmas.{kind_of_same}
 use Rattle.js_grammar.specs.Insertion.{is_word}
 use Rattle.js_grammar.specs.Lexemes.{is_word as is_worded}
 use Rattle.js_grammar.specs.Trees.{Label, Slots, end, tree, no_op, init, identifier_name, identifier_reference, object_property}
-use Rattle.js_grammar.specs.Grammar.{Lexeme, Lexemes, last, next, here, Look, ahead, never, nothing, seen, such, Takes, is_nothing, ◌▸◌, ◌◇◌}
+use Rattle.js_grammar.specs.Grammar.{Lexeme, Lexemes, last, next, here, Look, ahead, never, nothing, Takes, is_nothing, ◌▸◌, ◌◇◌}
 use Rattle.js_grammar.specs.Lexed.{Lexes}
-use Rattle.js_grammar.specs.Parsing.{Test, plain, full, always, still, passing, Reaches, Goes, Reads, Fails}
-use Rattle.js_grammar.specs.Productions.{G, Flags, at, plus_in, shorthand_flag, Assignment, IdentifierName, IdentifierReference, Init, Property}
+use Rattle.js_grammar.specs.Parsing.{Test, plain, full, still, passing, Reaches, Goes, Reads, Fails}
+use Rattle.js_grammar.specs.Productions.{G, Flags, at, plus_in, shorthand_flag, Assignment, IdentifierName, IdentifierReference, Init}
 use Rattle.js_grammar.specs.Productions.{sym as symbol}
 use Rattle.js_grammar.specs.Table.{rule, rule_of, name, string, number}
 use Rattle.js_grammar.specs.Follow.{after}
@@ -24,16 +24,14 @@ use Rattle.js_tree.specs.declared.id.NodeId.{NodeId}
 use Rattle.js_tree.specs.declared.kind.NodeKind.TheVariants as node
 use Rattle.js_tree.specs.declared.op.Op.TheVariants as op_made
 use Rattle.js_tree.specs.Nodes.{Node}
-use Rattle.js_tree.specs.Holding.{Holds, HoldsAll, Keeps}
+use Rattle.js_tree.specs.Holding.{HoldsAll, Keeps}
 use Rattle.js_tree.proofs.HoldingLemmas.{HoldsAll-one, HoldsAll-next, Keeps-refl, Keeps-trans, Keeps-made}
-use Rattle.js_cursor.specs.Moves.{is_last}
 use Rattle.js_cursor.specs.Parsers.{Parser}
 use Rattle.js_cursor.specs.declared.stop.Stop.{Stop}
 use Rattle.js_tree.specs.declared.op.PropertyKind.TheVariants as property
 use Rattle.js_parsing.specs.Nesting.{room}
 use Rattle.js_operands.specs.Objects.{Begins, ends_name_kinds, form_of, getter_of, method_left, property_label, setter_of, shorthand, value_left, with_method, with_value}
 use Rattle.js_operands.specs.PropertyNames.{NoName}
-use Rattle.js_operands.specs.Spreads.{spread}
 use Rattle.js_parsing.specs.declared.nested.MethodForm.{MethodForm}
 use Rattle.js_parsing.specs.declared.nested.MethodForm.TheVariants.{Method, Getter, Setter}
 use Rattle.js_base.specs.declared.diagnostic.Diagnostic.{Diagnostic}
@@ -43,7 +41,7 @@ use Rattle.js_parsing.specs.Lexemes.{Lex, is_read, name_kinds, read_kinds, read_
 use Rattle.js_parsing.specs.Moves.{Moved, MadeHere, plain_label}
 use Rattle.js_parsing.specs.States.{At, Same, NodesLie}
 use Rattle.js_parsing.proofs.Here.{begins_here, kind_here}
-use Rattle.js_parsing.proofs.MadeNodes.{LabelLies, from_start, leaf_held, node_held, one_lies}
+use Rattle.js_parsing.proofs.MadeNodes.{from_start, leaf_held, node_held, one_lies}
 use Rattle.js_parsing.proofs.Moving.{beside_nodes, same_both, same_with, stops_behind}
 use Rattle.js_parsing.proofs.Paths.{Path, ◌⟼◌, ◌⟶◌, ◌⟶✗◌, by_symbol_as, fails_at, flagged_by, flagged_here, label_here, last_called, noded, one_read, passes_test, read_of, token}
 use Rattle.js_parsing.proofs.Signs.{other_kind, plain_sign}
@@ -51,7 +49,7 @@ use Rattle.js_parsing.proofs.Verdicts.{grown_then, verdict_of}
 use Rattle.js_operands.proofs.Members.{name_of}
 use Rattle.js_operands.proofs.Methods.{no_first}
 use Rattle.js_operands.proofs.Operands.{name_leaf}
-use Rattle.js_operands.proofs.Properties.{behind_shorthand, initialiser, kinds_apart, no_getter, no_method, no_name_begins, no_setter, no_shorthand, no_value, property_name_kinds, without_star, word_apart}
+use Rattle.js_operands.proofs.Properties.{behind_shorthand, initialiser, kinds_apart, no_getter, no_method, no_name_begins, no_setter, no_value, property_name_kinds, without_star, word_apart}
 use Rattle.js_operands.proofs.PropertyNames.{literal_kinds}
 use Rattle.js_operands.proofs.Spreads.{ends_there}
 use Rattle.js_operands.proofs.Wholes.{part_answers}

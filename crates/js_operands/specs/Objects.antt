@@ -7,7 +7,7 @@ use Rattle.js_base.specs.Kinds.{same_kind, one_of_kinds}
 use Rattle.js_grammar.specs.Trees.{Label, Op, end, function_expression, init, no_op, object_property, of}
 use Rattle.js_grammar.specs.Grammar.{ahead, commas, never, nothing, when, ◌▸◌, ◌◇◌}
 use Rattle.js_grammar.specs.Parsing.{plain, full, Fails}
-use Rattle.js_grammar.specs.Productions.{G, Flags, at, computed_flag, each, flag, generator_flag, make, method_flag, opt, params_of, plus_in, shorthand_flag, tok, Assignment, IdentifierName, IdentifierReference, Init, Property}
+use Rattle.js_grammar.specs.Productions.{G, Flags, computed_flag, each, flag, generator_flag, make, method_flag, opt, params_of, plus_in, shorthand_flag, tok, Assignment, IdentifierName, IdentifierReference, Init, Property}
 use Rattle.js_grammar.specs.Productions.{sym as symbol}
 use Rattle.js_grammar.specs.Table.{rule, getter, method_function, name, plain_method, setter}
 use Rattle.js_tree.specs.declared.id.NodeId.{NodeId}

@@ -1,4 +1,4 @@
-use Rattle.std.proofs.Common.{◌≡◌, [], ◌∷◌, true, false, sym, ap, arith, ◌∙◌}
+use Rattle.std.proofs.Common.{◌≡◌, [], ◌∷◌, sym, ap, ◌∙◌}
 use Rattle.js_base.specs.declared.kind.Kind.TheVariants.{Colon, LParen}
 use Rattle.js_base.specs.Kinds.{one_of_kinds}
 use Rattle.js_grammar.proofs.Calculus.{left, right}

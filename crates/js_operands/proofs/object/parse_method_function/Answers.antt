@@ -1,10 +1,7 @@
-use Rattle.std.proofs.Common.{◌≡◌, [], ◌∷◌, None, Some, false, ap, arith, subst, ◌∙◌}
+use Rattle.std.proofs.Common.{◌≡◌, [], ◌∷◌, arith, ◌∙◌}
 use Rattle.std.proofs.lemmas.Result.{err_from_is_err_and}
-use Rattle.js_grammar.specs.Trees.{Label, function_expression, no_op}
-use Rattle.js_parsing.specs.Moves.{MadeHere}
 use Rattle.js_parsing.proofs.Moving.{standing, stops_so}
 use Rattle.js_parsing.proofs.Nesting.{later_room, nests_later}
-use Rattle.js_parsing.proofs.Paths.{flagged_here}
 use Rattle.js_operands.proofs.Methods.{body_stops, function_taken, no_params}
 use Rattle.js_operands.proofs.object.parse_method_function.Goals as goal
 

@@ -1,11 +1,9 @@
-use Rattle.std.proofs.Common.{◌≡◌, refl, true, false, sym, ap, arith, subst, ◌∙◌}
+use Rattle.std.proofs.Common.{◌≡◌, true, false, sym, ap, arith, ◌∙◌}
 use Rattle.std.proofs.lemmas.Bool.{false≢true}
 use Rattle.std.proofs.lemmas.Result.{err_from_is_err_and}
 use Rattle.js_base.specs.declared.kind.Kind.TheVariants.{Eq, RAngle}
 use Rattle.js_base.specs.Kinds.{same_kind}
-use Rattle.js_cursor.specs.Parsers.{Parser}
 use Rattle.js_parsing.specs.Moves.{unpassable}
-use Rattle.js_parsing.specs.Nesting.{room}
 use Rattle.js_parsing.proofs.Giving.{memory_stops}
 use Rattle.js_parsing.proofs.Here.{uncut}
 use Rattle.js_parsing.proofs.Moving.{standing}

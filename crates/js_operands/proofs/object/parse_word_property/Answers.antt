@@ -1,5 +1,4 @@
-use Rattle.std.proofs.Common.{◌≡◌, [], ◌∷◌, refl, true, false, Bool, ◌&&◌, not, sym, ap, arith, subst, ◌∙◌}
-use Rattle.std.specs.Prelude.{Ok, None, Some}
+use Rattle.std.proofs.Common.{◌≡◌, [], ◌∷◌, true, false, ◌&&◌, sym, ap, arith, ◌∙◌}
 use Rattle.js_base.specs.Kinds.{one_of_kinds}
 use Rattle.js_base.specs.declared.span.Span.{Span}
 use Rattle.js_base.specs.declared.token.Token.{Token}

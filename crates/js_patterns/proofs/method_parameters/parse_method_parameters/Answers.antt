@@ -1,9 +1,6 @@
-use Rattle.std.proofs.Common.{subst}
 use Rattle.js_base.specs.declared.kind.Kind.TheVariants.{LParen}
 use Rattle.js_operands.proofs.Members.{stands_so}
 use Rattle.js_parsing.proofs.Giving.{gives_up_here}
-use Rattle.js_parsing.specs.declared.nested.MethodForm.{MethodForm}
-use Rattle.js_parsing.specs.Methods.{ReadsWhole, parameters_of}
 use Rattle.js_patterns.proofs.MethodParameters.{method_outcome, no_parameters}
 use Rattle.js_patterns.proofs.method_parameters.parse_method_parameters.Goals as goal
 
