@@ -131,7 +131,7 @@ last_of_them f e = (tree e.label e.slots end, is_left (is_commas (is_seq (is_suc
 -- a name for itself, with an initialiser or without one
 shorthand : (f : Flags) → f.cover ≡ true → {ts : Slots} {i j : ℕ} {ls rest : Lexemes} → Takes rule (symbol IdentifierReference f ▸ slot (symbol Init (plus_in f))) end ts i ls end j rest → One (at Property f) i ls j rest
 unfolding rule rule_of
-shorthand f v (is_seq (is_such (is_node (is_lexeme {x = x} t)) h) (is_left (is_such d g))) = record { label = _; slots = _; derived = is_left (is_node (is_seq (is_ahead (is_such (is_node (is_lexeme (bound_word x.kind (not (same_kind Yield x.kind && f.yield_)) (not (same_kind Await x.kind && f.await_)) t))) refl)) (is_seq (is_such (is_node (is_lexeme t)) refl) (is_left (is_when v (is_keep (is_such d refl) is_nothing)))))) }
+shorthand f v (is_seq (is_such (is_node (is_lexeme {x = x} t)) h) (is_left (is_such d g))) = record { label = _; slots = _; derived = is_left (is_node (is_seq (is_ahead (is_such (is_node (is_lexeme (bound_word x.kind (not (same_kind Yield x.kind && f.yield_)) (not (same_kind Await x.kind && f.await_)) t))) refl)) (is_seq (is_such (is_node (is_lexeme t)) refl) (is_left (is_when v (is_such d refl)))))) }
 shorthand f v (is_seq (is_such (is_node (is_lexeme {x = x} t)) h) (is_right is_empty_slot)) = record { label = _; slots = _; derived = is_left (is_node (is_seq (is_ahead (is_such (is_node (is_lexeme (bound_word x.kind (not (same_kind Yield x.kind && f.yield_)) (not (same_kind Await x.kind && f.await_)) t))) refl)) (is_seq (is_such (is_node (is_lexeme t)) refl) (is_right is_nothing)))) }
 
 -- a name and a value

@@ -16,7 +16,7 @@ use Rattle.js_tree.specs.Holding.{Holds, Keeps as KeepsNodes}
 use Rattle.js_cursor.specs.Moves.{GivesUp, Keeps}
 use Rattle.js_parsing.specs.Told.{unrelated_at}
 use Rattle.js_targets.specs.declared.widening.Widening.{Widening}
-use Rattle.js_targets.specs.declared.widening.Widening.TheVariants.{Rest, Operator}
+use Rattle.js_targets.specs.declared.widening.Widening.TheVariants.{Rest, RestTarget, Operator}
 use Rattle.js_targets.specs.Targets.{Each, Narrow, is_array}
 use Rattle.js_cursor.specs.Parsers.{Parser}
 use Rattle.js_cursor.specs.declared.stop.Stop.{Stop}
@@ -50,6 +50,7 @@ assigns_next k w e = one_of_kinds assign_operators k && not e
 -- what is told of a place where the literal is wider
 abbrev pub TellsOf : Widening → Diagnostic → Type 0
 TellsOf (Rest s) d = d.kind ≡ fault.RestElementTrailingComma
+TellsOf (RestTarget s) d = d ≡ unrelated_at fault.InvalidRestAssignmentTarget s
 TellsOf (Operator s) d = d ≡ unrelated_at fault.InvalidAssignmentTargetDefaultValueOperator s
 
 -- A place was looked at: the literal is narrow there; or it isn't, and that was told.
