@@ -121,7 +121,7 @@ names_words : covers names words_of ≡ true
 unfolding covers words
 names_words = refl
 
-bound_word : (k : Kind) (b c : Bool) → ((may_bind k && b) && c) ≡ true → is_word k ≡ true
+pub bound_word : (k : Kind) (b c : Bool) → ((may_bind k && b) && c) ≡ true → is_word k ≡ true
 bound_word k b c h = covered names words_of names_words k false false (and_parts (may_bind k) b (and_parts (may_bind k && b) c h).0).0
 
 -- the last property
@@ -183,7 +183,7 @@ module _ (f : Flags) (w : f.wide ≡ false) where
 
 -- ---- by induction over how large a derivation is
 
-abbrev deep : {r : Symbol → G} {g : G} {ks ts us : Slots} {i j : ℕ} {ls rest : Lexemes} → Takes r g ks ts i ls us j rest → ℕ
+abbrev pub deep : {r : Symbol → G} {g : G} {ks ts us : Slots} {i j : ℕ} {ls rest : Lexemes} → Takes r g ks ts i ls us j rest → ℕ
 deep is_nothing = 0
 deep (is_lexeme p) = 0
 deep (is_look p) = 0

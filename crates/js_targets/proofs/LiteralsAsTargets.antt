@@ -321,6 +321,9 @@ as_wide f w d = is_such (is_right (wide_branch f w assign_operators d)) refl
 pub places_simple : (o : Bool) (l : Label) (cs : Slots) (ws : List Widening) → is_spread l.kind ≡ false → is_assignment l.kind ≡ false → is_property l.kind ≡ false → is_literal l.kind ≡ false → places_of o l cs ws ≡ []
 places_simple o l cs ws s a q h = rw (s, h, q, a) refl
 
+pub places_literal : (l : Label) (cs : Slots) (ws : List Widening) → is_spread l.kind ≡ false → is_literal l.kind ≡ true → places_of false l cs ws ≡ ws
+places_literal l cs ws s h = rw (s, h) refl
+
 pub assignment_kind : (k : NodeKind) → is_assignment k ≡ true → (is_spread k ≡ false) × (is_literal k ≡ false) × (is_property k ≡ false)
 assignment_kind assignment_expression h = (refl, refl, refl)
 assignment_kind _ h = absurd (false≢true h)
@@ -345,15 +348,15 @@ taken_right : (text : List ℕ) (f : Flags) (ws vs : List Widening) → Taken te
 taken_right text f ws vs (inl w) = inl w
 taken_right text f ws vs (inr n) = inr (all_right (Narrow text) ws vs n)
 
+-- what an array literal, or with o an object literal, has behind its first lexeme
+abbrev pub source : Bool → Flags → G
+source o f = cond o (properties_on f) (elements f)
+
 module _ (text : List ℕ) where
   -- what follows of elements: what stands behind each rest, and the target's elements where no comma does
   record Converted (o : Bool) (f : Flags) (cs ds : Slots) (i : ℕ) (ls : Lexemes) (j : ℕ) (rest : Lexemes) : Type 0 where
     ended : Each (Fits text) (places_in (in_literal o) cs)
     takes : Taken text f (places_in (in_literal o) cs) → Takes rule (target_items o f) end ds i ls end j rest
-
-  -- what a literal has between its brackets or braces
-  abbrev source : Bool → Flags → G
-  source o f = cond o (properties_on f) (elements f)
 
   abbrev Claim : Slots → Type 0
   Claim cs = (o : Bool) (f : Flags) (i j : ℕ) (ls rest : Lexemes) (ds : Slots) → Lexes (Led text) i ls → Takes rule (source o f) end cs i ls end j rest → elements_in (in_literal o) cs ≡ Some ds → Converted o f cs ds i ls j rest
