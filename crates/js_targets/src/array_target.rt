@@ -306,10 +306,10 @@ fn convert_property(
     let Some((name, value)) = two_children(ast, id) else {
         return Ok(None);
     };
+    let span = ast.span(id);
     let Some(target) = convert_element(alloc, ast, value, true, false, notes)? else {
         return Ok(None);
     };
-    let span = ast.span(id);
     let node = make_property(ast, span, flags, name, target)?;
     Ok(Some(node))
 }
@@ -323,7 +323,7 @@ fn convert_target(
     notes: &mut Notes,
 ) -> Result<Option<NodeId>, NoMemory>
     requires { Stood ast.old id }
-    ensures { IfOk result (λ found. OfNode ast.old id (λ l cs rs. Converted ast.old ast.new rs (noted_in notes.old) (noted_in notes.new) (cond (target.is_literal l.kind) (places_in (in_literal (target.is_object l.kind)) cs) []) (one_node found) (slot_of (target_by l cs (elements_in (in_literal (target.is_object l.kind)) cs))))) }
+    ensures { IfOk result (λ found. OfNode ast.old id (λ l cs rs. Converted ast.old ast.new rs (noted_in notes.old) (noted_in notes.new) (cond (target.is_literal l.kind) (places_in (within l.kind) cs) []) (one_node found) (slot_of (target_by l cs (elements_in (within l.kind) cs))))) }
 {
     if is_literal(ast.kind(id)) {
         return convert_literal(alloc, ast, id, notes);
