@@ -23,13 +23,14 @@ use Rattle.js_parsing.proofs.Here.{plainly}
 use Rattle.js_lex.proofs.Again.{passed}
 use Rattle.js_lex.proofs.StringPlaces.{front_word}
 use Rattle.std.specs.Prelude.{IsUtf8, IsCharBoundary}
-use Rattle.js_targets.specs.Targets.{Each, IsIn, Closed, Narrow, Fits, Within, in_literal, in_property, within, is_elision, is_spread, is_property, is_assignment, is_equals, is_wide, is_array, is_object, is_literal, is_pattern, is_target, target_of, relabelled, pattern_kind, literal_tree, slot_of, rest_slot, shorthand_slot, behind_first, initialiser_in, reference_slot, named_slot, property_slot, element_slot, are_none, followed, before_all, before_value, elements_in, operator_places, literal_places, argument_places, property_places, places_of, places_in, made_span}
+use Rattle.js_targets.specs.Taken.{target_name}
+use Rattle.js_targets.specs.Targets.{literal_kind, Each, IsIn, Closed, Narrow, Fits, Within, in_literal, in_property, within, is_elision, is_spread, is_property, is_assignment, is_equals, is_wide, is_array, is_object, is_literal, is_pattern, is_target, target_of, relabelled, pattern_kind, literal_tree, slot_of, rest_slot, shorthand_slot, behind_first, initialiser_in, reference_slot, named_slot, property_slot, element_slot, are_none, followed, before_all, before_value, elements_in, operator_places, literal_places, argument_places, property_places, places_of, places_in, made_span}
 use Rattle.js_targets.specs.declared.widening.Widening.{Widening}
 use Rattle.js_targets.specs.declared.widening.Widening.TheVariants.{Rest, RestTarget, Operator}
 use Rattle.js_targets.proofs.ArrayElements.{is_part, a_slots, a_part, operated_line, gap_label, no_gap, Initialised, initialised, Step, closes, gap, item, final, step_of, Element, an_expression, a_spread, element_of}
 use Rattle.js_targets.proofs.Properties.{property_label, shorthand_line, PropertyOf, a_shorthand, a_value, a_method, a_spread as a_spread_property, property_of, properties_on, PropertyStep, shuts, property, last_property, property_step}
 use Rattle.js_parsing.proofs.FreeOfIn.{any_in}
-use Rattle.js_targets.proofs.Targets.{array_line, may_literal, Literal, of_array, of_object, literal_shape, of_assignment, may_target, left_hand_side_target}
+use Rattle.js_targets.proofs.Targets.{array_line, may_literal, is_literal_kind, Literal, of_array, of_object, literal_shape, of_assignment, may_target, left_hand_side_target}
 
 -- ---- what stands behind a rest
 
@@ -624,18 +625,20 @@ module _ (text : List ℕ) where
   led s (next x ls) u r b l = ((l.0, r, b), led x.to ls u (reached_next r l.0.0) (lexeme_between u b l.0).1 l.1)
 
   -- A literal as a target.
-  pub record Targeted (f : Flags) (l : Label) (cs ds : Slots) (i : ℕ) (ls : Lexemes) (j : ℕ) (rest : Lexemes) : Type 0 where
-    pub ended : Each (Fits text) (places_in (in_literal (is_object l.kind)) cs)
-    pub takes : Taken text f (places_in (in_literal (is_object l.kind)) cs) → Takes rule (pattern_line f) end (tree (relabelled (pattern_kind (is_object l.kind)) l) ds end) i ls end j rest
+  pub record Targeted (o : Bool) (f : Flags) (l : Label) (cs ds : Slots) (i : ℕ) (ls : Lexemes) (j : ℕ) (rest : Lexemes) : Type 0 where
+    pub ended : Each (Fits text) (places_in (in_literal o) cs)
+    pub takes : Taken text f (places_in (in_literal o) cs) → Takes rule (symbol (target_name o) f) end (tree (relabelled (pattern_kind o) l) ds end) i ls end j rest
 
-  pub literal_target : {f : Flags} {l : Label} {cs : Slots} (ds : Slots) {i j : ℕ} {ls rest : Lexemes} → is_literal l.kind ≡ true → elements_in (in_literal (is_object l.kind)) cs ≡ Some ds → IsUtf8 text → Reached text i → IsCharBoundary text i → Lexes (Lex text) i ls → Takes rule (such (at LeftHandSide f) always) end (tree l cs end) i ls end j rest → Targeted f l cs ds i ls j rest
+  pub literal_target : {f : Flags} {l : Label} {cs : Slots} (o : Bool) (ds : Slots) {i j : ℕ} {ls rest : Lexemes} → l.kind ≡ literal_kind o → elements_in (in_literal o) cs ≡ Some ds → IsUtf8 text → Reached text i → IsCharBoundary text i → Lexes (Lex text) i ls → Takes rule (such (at LeftHandSide f) always) end (tree l cs end) i ls end j rest → Targeted o f l cs ds i ls j rest
   unfolding rule rule_of
-  literal_target {f} {l} {cs} ds h e u r b m d = go (literal_shape {f = f} h d) e m r b
+  literal_target {f} {l} {cs} o ds h e u r b m d = go o (literal_shape {f = f} (is_literal_kind o l.kind h) d) h e m r b
     where
-      go : {l : Label} {i j : ℕ} {ls rest : Lexemes} → Literal f l cs i ls j rest → elements_in (in_literal (is_object l.kind)) cs ≡ Some ds → Lexes (Lex text) i ls → Reached text i → IsCharBoundary text i → Targeted f l cs ds i ls j rest
-      go (of_array (is_node (is_seq (is_lexeme {x = x} {ls = more} q) d))) e m r b =
+      go : (o : Bool) {l : Label} {i j : ℕ} {ls rest : Lexemes} → Literal f l cs i ls j rest → l.kind ≡ literal_kind o → elements_in (in_literal o) cs ≡ Some ds → Lexes (Lex text) i ls → Reached text i → IsCharBoundary text i → Targeted o f l cs ds i ls j rest
+      go false (of_array (is_node (is_seq (is_lexeme {x = x} {ls = more} q) d))) h e m r b =
           let v = claim_of cs (converts cs) false f x.to _ more _ ds (led x.to more u (reached_next r m.0.0) (lexeme_between u b m.0).1 m.1) d e in
-          record { ended = v.ended; takes = λ o. is_left (is_such (is_node (is_seq (is_lexeme q) (v.takes o))) refl) }
-      go (of_object (is_node (is_seq (is_lexeme {x = x} {ls = more} q) d))) e m r b =
+          record { ended = v.ended; takes = λ o. is_such (is_node (is_seq (is_lexeme q) (v.takes o))) refl }
+      go true (of_object (is_node (is_seq (is_lexeme {x = x} {ls = more} q) d))) h e m r b =
           let v = claim_of cs (converts cs) true f x.to _ more _ ds (led x.to more u (reached_next r m.0.0) (lexeme_between u b m.0).1 m.1) d e in
-          record { ended = v.ended; takes = λ o. is_right (is_such (is_node (is_seq (is_lexeme q) (v.takes o))) refl) }
+          record { ended = v.ended; takes = λ o. is_such (is_node (is_seq (is_lexeme q) (v.takes o))) refl }
+      go true (of_array (is_node d)) h e m r b = absurd (false≢true (ap is_object h))
+      go false (of_object (is_node d)) h e m r b = absurd (false≢true (sym (ap is_object h)))

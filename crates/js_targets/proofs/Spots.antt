@@ -18,12 +18,12 @@ use Rattle.js_grammar.proofs.Behind.{lexed_behind}
 use Rattle.js_parsing.specs.Lexemes.{Lex}
 use Rattle.js_targets.specs.declared.widening.Widening.{Widening}
 use Rattle.js_targets.specs.declared.widening.Widening.TheVariants.{Rest, RestTarget, Operator}
-use Rattle.js_targets.specs.Targets.{Each, Spanned, Spotted, in_literal, in_property, within, is_elision, is_spread, is_property, is_assignment, is_object, is_literal, is_equals, is_wide, made_span, operator_places, literal_places, argument_places, property_places, places_of, places_in}
+use Rattle.js_targets.specs.Targets.{Each, Spanned, Spotted, in_literal, in_property, within, is_elision, is_spread, is_property, is_assignment, is_object, is_literal, literal_kind, is_equals, is_wide, made_span, operator_places, literal_places, argument_places, property_places, places_of, places_in}
 use Rattle.js_targets.proofs.Properties.{PropertyOf, a_shorthand, a_value, a_method, a_spread as a_spread_property, property_of, PropertyStep, shuts, property, last_property, property_step}
 use Rattle.js_targets.proofs.ArrayElements.{gap_label, no_gap, Operated, operated, Step, closes, gap, item, final, step_of, Element, an_expression, a_spread, element_of}
 use Rattle.js_targets.proofs.Edges.{Ends, taken, one_ends, then_ends, ends_then, spanned}
 use Rattle.js_targets.proofs.LiteralsAsTargets.{Led, led, all_of, lexeme_between, other_operator, places_literal, source}
-use Rattle.js_targets.proofs.Targets.{Literal, of_array, of_object, literal_shape, may_literal, of_assignment}
+use Rattle.js_targets.proofs.Targets.{Literal, of_array, of_object, literal_shape, is_literal_kind, may_literal, of_assignment}
 
 module _ (text : List ℕ) (u : IsUtf8 text) where
   abbrev Claim : Slots → Type 0
@@ -149,10 +149,12 @@ module _ (text : List ℕ) (u : IsUtf8 text) where
   spots (tree l cs us) = (some_spots l cs us (spots cs) (claim_of us (spots us)), spots cs, spots us)
 
   -- of a literal
-  pub literal_spots : {f : Flags} {l : Label} {cs : Slots} {i j : ℕ} {ls rest : Lexemes} → is_literal l.kind ≡ true → Reached text i → IsCharBoundary text i → Lexes (Lex text) i ls → Takes rule (such (at LeftHandSide f) always) end (tree l cs end) i ls end j rest → Each (Spotted text) (places_in (in_literal (is_object l.kind)) cs)
+  pub literal_spots : {f : Flags} {l : Label} {cs : Slots} (o : Bool) {i j : ℕ} {ls rest : Lexemes} → l.kind ≡ literal_kind o → Reached text i → IsCharBoundary text i → Lexes (Lex text) i ls → Takes rule (such (at LeftHandSide f) always) end (tree l cs end) i ls end j rest → Each (Spotted text) (places_in (in_literal o) cs)
   unfolding rule rule_of
-  literal_spots {f} {l} {cs} {i} {j} {ls} {rest} h r b m d = go (literal_shape {f = f} h d) (led text i ls u r b m)
+  literal_spots {f} {l} {cs} o {i} {j} {ls} {rest} h r b m d = go o (literal_shape {f = f} (is_literal_kind o l.kind h) d) h (led text i ls u r b m)
     where
-      go : {l : Label} {i j : ℕ} {ls rest : Lexemes} → Literal f l cs i ls j rest → Lexes (Led text) i ls → Each (Spotted text) (places_in (in_literal (is_object l.kind)) cs)
-      go (of_array (is_node (is_seq (is_lexeme {x = x} {ls = more} q) d))) m = claim_of cs (spots cs) false f x.to _ more _ m.1 d
-      go (of_object (is_node (is_seq (is_lexeme {x = x} {ls = more} q) d))) m = claim_of cs (spots cs) true f x.to _ more _ m.1 d
+      go : (o : Bool) {l : Label} {i j : ℕ} {ls rest : Lexemes} → Literal f l cs i ls j rest → l.kind ≡ literal_kind o → Lexes (Led text) i ls → Each (Spotted text) (places_in (in_literal o) cs)
+      go false (of_array (is_node (is_seq (is_lexeme {x = x} {ls = more} q) d))) h m = claim_of cs (spots cs) false f x.to _ more _ m.1 d
+      go true (of_object (is_node (is_seq (is_lexeme {x = x} {ls = more} q) d))) h m = claim_of cs (spots cs) true f x.to _ more _ m.1 d
+      go true (of_array (is_node d)) h m = absurd (false≢true (ap is_object h))
+      go false (of_object (is_node d)) h m = absurd (false≢true (sym (ap is_object h)))

@@ -9,7 +9,7 @@ use Rattle.js_grammar.specs.Productions.{G, Flags, Name, Symbol, at, mk, parens,
 use Rattle.js_grammar.specs.Table.{rule, rule_of, member_access, call_access, paren_expression}
 use Rattle.js_grammar.proofs.Calculus.{slots_are}
 use Rattle.js_operands.specs.Arrays.{array_of}
-use Rattle.js_targets.specs.Targets.{is_parens, is_member, is_name, is_array, is_object, is_literal, target_in, target_of}
+use Rattle.js_targets.specs.Targets.{is_parens, is_member, is_name, is_array, is_object, is_literal, literal_kind, target_in, target_of}
 use Rattle.js_parsing.proofs.FreeOfIn.{any_in}
 
 -- ---- what may be a target
@@ -499,6 +499,16 @@ no_parens_literal f h (is_node d) = false≢true h
 pub array_literal : (k : NodeKind) → is_array k ≡ true → is_literal k ≡ true
 array_literal array_expression h = refl
 array_literal _ h = absurd (false≢true h)
+
+pub is_literal_kind : (o : Bool) (k : NodeKind) → k ≡ literal_kind o → is_literal k ≡ true
+is_literal_kind false k h = ap is_literal h
+is_literal_kind true k h = ap is_literal h
+
+-- a literal is one of the two
+pub kind_of_literal : (k : NodeKind) → is_literal k ≡ true → k ≡ literal_kind (is_object k)
+kind_of_literal array_expression h = refl
+kind_of_literal object_expression h = refl
+kind_of_literal _ h = absurd (false≢true h)
 
 pub may_literal : (k : NodeKind) → is_literal k ≡ true → may_be k ≡ true
 may_literal array_expression h = refl

@@ -17,7 +17,8 @@ use Rattle.js_grammar.proofs.Calculus.{label_is, slots_are}
 use Rattle.js_parsing.specs.Lexemes.{Lex}
 use Rattle.js_targets.specs.declared.widening.Widening.{Widening}
 use Rattle.js_targets.specs.declared.widening.Widening.TheVariants.{Rest}
-use Rattle.js_targets.specs.Targets.{Each, Closed, Shut, in_literal, in_property, within, is_array, is_object, is_literal, is_pattern, is_target, is_parens, target_in, target_of, relabelled, pattern_kind, before_all, before_value, followed, named_slot, elements_in, argument_places, places_of, places_in}
+use Rattle.js_targets.specs.Taken.{target_name}
+use Rattle.js_targets.specs.Targets.{Each, Closed, Shut, in_literal, in_property, within, is_array, is_object, is_literal, literal_kind, is_pattern, is_target, is_parens, target_in, target_of, relabelled, pattern_kind, before_all, before_value, followed, named_slot, elements_in, argument_places, places_of, places_in}
 use Rattle.js_targets.proofs.ArrayElements.{gap_label}
 use Rattle.js_targets.proofs.ArrayTargets.{target_step, target_last, literal_step, literal_last, no_other, target_property, last_property, properties, bound_word, deep}
 use Rattle.js_parsing.proofs.FreeOfIn.{any_in}
@@ -104,9 +105,6 @@ module _ (text : List ℕ) where
     derived : Takes rule a end slots i ls end j rest
     covers : elements_in (in_literal o) slots ≡ Some ts
     closed : Each (Shut text) (places_in (in_literal o) slots)
-
-  abbrev literal_kind : Bool → NodeKind
-  literal_kind o = cond o object_expression array_expression
 
   -- The target of an array, or with o of an object, as a literal.
   pub record Literal (o : Bool) (f : Flags) (ts us : Slots) (i : ℕ) (ls : Lexemes) (j : ℕ) (rest : Lexemes) : Type 0 where
@@ -464,3 +462,7 @@ module _ (text : List ℕ) where
 
     pub object_back : {ts us : Slots} {i j : ℕ} {ls rest : Lexemes} → Takes rule (rule (at ObjectTarget f)) end ts i ls us j rest → Lexes (Lex text) i ls → Literal true f ts us i ls j rest
     object_back d c = object_at (up_to (suc (deep d))) d (omega arith) c
+
+    pub literal_back : (o : Bool) {ts us : Slots} {i j : ℕ} {ls rest : Lexemes} → Takes rule (rule (at (target_name o) f)) end ts i ls us j rest → Lexes (Lex text) i ls → Literal o f ts us i ls j rest
+    literal_back false d c = array_back d c
+    literal_back true d c = object_back d c

@@ -43,6 +43,10 @@ is_object _ = false
 abbrev pub is_literal : NodeKind → Bool
 is_literal k = is_array k || is_object k
 
+-- of an object with true, of an array with false
+abbrev pub literal_kind : Bool → NodeKind
+literal_kind in_object = cond in_object object_expression array_expression
+
 abbrev pub is_target : NodeKind → Bool
 is_target k = is_name k || is_member k
 

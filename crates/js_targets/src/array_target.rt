@@ -14,7 +14,7 @@ ghost use Rattle.js_cursor.specs.Places.{goal};
 ghost use Rattle.js_grammar.specs.Marks.{Mark};
 ghost use Rattle.js_cursor.specs.Moves.{GivesUp};
 ghost use Rattle.js_parsing.specs.Classes.{EndsParse};
-ghost use Rattle.js_targets.specs.Taken.{ArrayRead, TakesTarget, refusal_at};
+ghost use Rattle.js_targets.specs.Taken.{LiteralRead, TakesTarget, refusal_at};
 ghost use Rattle.js_parsing.specs.States.{Standing};
 ghost use Rattle.js_targets.specs.Targets.{Converted, OfNode, Stood, argument_places, element_slot, elements_in, in_literal, in_property, literal_places, literal_tree, made_span, noted_in, operator_places, one_node, one_slot, relabelled, rest_slot, places_in, places_of, property_places, property_slot, shorthand_slot, slot_of, target_by, unnoted, within, Noded};
 ghost use Rattle.js_targets.specs.declared.widening.Widening.TheVariants as widening;
@@ -344,7 +344,7 @@ fn convert<C: ParserConfig>(
     convert_literal(p.alloc, &mut p.ast, id, notes)
 }
 
-/// Gives up on an array literal, which was read from a place on and is no target: a spread that isn't its last element is
+/// Gives up on a literal, which was read from a place on and is no target: a spread that isn't its last element is
 /// told. Where a diagnostic was kept since, when there were so many, that is enough of it, and what stands here is told.
 fn refuse_literal<C: ParserConfig>(
     p: &mut ParserImpl<'_, C>,
@@ -366,9 +366,9 @@ fn refuse_literal<C: ParserConfig>(
     p.set_fatal_error(diagnostic_at(DiagnosticKind::SpreadLastElement, spread))
 }
 
-/// The target that an array literal is, which was read from a place on. Where a diagnostic was kept since, when there were
+/// The target that an array or object literal is, which was read from a place on. Where a diagnostic was kept since, when there were
 /// so many, that is enough, whatever is wrong with it.
-pub fn array_target<C: ParserConfig>(
+pub fn literal_target<C: ParserConfig>(
     p: &mut ParserImpl<'_, C>,
     start: u32,
     id: NodeId,
@@ -378,7 +378,7 @@ pub fn array_target<C: ParserConfig>(
     requires start { start ≤ p.old.prev_token_end }
     requires whole { p.old.cut ≡ false }
     requires equals { p.old.token.kind ≡ Eq }
-    requires read { ArrayRead start id kept p.old }
+    requires read { LiteralRead start id kept p.old }
     ensures { TakesTarget start id kept p.old p.new result }
 {
     let mut notes = Notes {

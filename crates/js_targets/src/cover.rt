@@ -44,7 +44,7 @@ fn is_target(kind: NodeKind) -> bool
 }
 
 /// Whether it is an array literal.
-pub fn is_array(kind: NodeKind) -> bool
+fn is_array(kind: NodeKind) -> bool
     ensures { result ≡ target.is_array (kind_of kind) }
 {
     match kind {
@@ -70,20 +70,20 @@ pub fn is_literal(kind: NodeKind) -> bool
     is_array(kind) || is_object(kind)
 }
 
-/// Whether an expression is an array literal, in no parentheses.
-fn is_array_node(ast: &ParserAstBuilder, id: NodeId) -> bool
+/// Whether an expression is an array or object literal, in no parentheses.
+fn is_literal_node(ast: &ParserAstBuilder, id: NodeId) -> bool
     requires { Stood ast.now id }
-    ensures { (lo hi : ℕ) (l : Label) (cs : Slots) → Holds ast.now lo hi id.0 l cs → result ≡ target.is_array l.kind }
+    ensures { (lo hi : ℕ) (l : Label) (cs : Slots) → Holds ast.now lo hi id.0 l cs → result ≡ target.is_literal l.kind }
 {
-    is_array(ast.kind(id))
+    is_literal(ast.kind(id))
 }
 
-/// Whether an expression of a parser's nodes is an array literal, in no parentheses.
-pub fn is_array_literal<C: ParserConfig>(p: &ParserImpl<'_, C>, id: NodeId) -> bool
+/// Whether an expression of a parser's nodes is an array or object literal, in no parentheses.
+pub fn is_array_or_object<C: ParserConfig>(p: &ParserImpl<'_, C>, id: NodeId) -> bool
     requires { Stood p.now.nodes id }
-    ensures { (lo hi : ℕ) (l : Label) (cs : Slots) → Holds p.now.nodes lo hi id.0 l cs → result ≡ target.is_array l.kind }
+    ensures { (lo hi : ℕ) (l : Label) (cs : Slots) → Holds p.now.nodes lo hi id.0 l cs → result ≡ target.is_literal l.kind }
 {
-    is_array_node(&p.ast, id)
+    is_literal_node(&p.ast, id)
 }
 
 /// The one child of a node, if it has one.
@@ -145,7 +145,7 @@ pub fn cover<C: ParserConfig>(p: &ParserImpl<'_, C>, id: NodeId) -> Option<NodeI
     simple_target(&p.ast, id)
 }
 
-/// Tells of an array literal before an assignment operator other than `=`, which was read from a place on (ECMA-262,
+/// Tells of a literal before an assignment operator other than `=`, which was read from a place on (ECMA-262,
 /// section 13.15.1). Where a diagnostic was kept since, when there were so many, that is enough.
 #[inline(never)]
 pub fn tell_not_simple<C: ParserConfig>(
