@@ -5,7 +5,7 @@ use Rattle.js_tree.specs.declared.id.NodeId.{NodeId}
 use Rattle.js_cursor.specs.Parsers.{Parser}
 use Rattle.js_targets.specs.declared.widening.Widening.{Widening}
 use Rattle.js_targets.specs.Taken.{TargetTaken}
-use Rattle.js_targets.specs.Targets.{Noted, noted_in, unnoted}
+use Rattle.js_targets.specs.Targets.{is_object, Noted, noted_in, unnoted}
 use Rattle.js_targets.proofs.ConvertedNodes.{LiteralAnswer}
 use Rattle.js_targets.proofs.TargetsTaken.{array_refusal, refused_marked, places_fit, places_spotted, taken_kept, taken_told}
 use Rattle.js_targets.proofs.array_target.literal_target.Goals.{then-kept_so_far-kept+in_ok-tell_places, else-kept_so_far-kept}
@@ -38,8 +38,8 @@ pub returns : goal.returns
 returns g c = λ text f first a s k x h.
     let v = subst (λ (found : Option NodeId). LiteralAnswer c.args.p.now.nodes c.convert.new.p.nodes c.args.id unnoted (noted_in c.convert.new.notes) found) c.in-Some.is (subst (λ (xs : List Widening). LiteralAnswer c.args.p.now.nodes c.convert.new.p.nodes c.args.id (record { places = xs; misplaced = None }) (noted_in c.convert.new.notes) c.in_ok-target.field-0) c.new.ensures.items c.in_ok-target.ensures.found) in
     elim c.if-kept_so_far-kept.branch [
-      | then-kept_so_far-kept+in_ok-tell_places w ↦ subst (λ (z : Parser). TargetTaken _ text f first c.args.p.now z c.in-Some.target) (sym w.p-is) (taken_told a x c.requires.whole c.requires.equals h c.in_ok-target.ensures.stays v w.in_ok-tell_places.ensures)
-      | else-kept_so_far-kept w ↦ subst (λ (z : Parser). TargetTaken _ text f first c.args.p.now z c.in-Some.target) (sym w.p-is) (taken_kept a x c.requires.whole c.requires.equals h c.in_ok-target.ensures.stays v (λ e. w.if-kept_so_far-kept.false (c.kept_so_far.ensures ∙ (e ∙ sym k))))
+      | then-kept_so_far-kept+in_ok-tell_places w ↦ subst (λ (z : Parser). TargetTaken (is_object x.answer.label.kind) text f first c.args.p.now z c.in-Some.target) (sym w.p-is) (taken_told a x c.requires.whole c.requires.equals h c.in_ok-target.ensures.stays v w.in_ok-tell_places.ensures)
+      | else-kept_so_far-kept w ↦ subst (λ (z : Parser). TargetTaken (is_object x.answer.label.kind) text f first c.args.p.now z c.in-Some.target) (sym w.p-is) (taken_kept a x c.requires.whole c.requires.equals h c.in_ok-target.ensures.stays v (λ e. w.if-kept_so_far-kept.false (c.kept_so_far.ensures ∙ (e ∙ sym k))))
     ]
 
 pub refuse_literal-requires-clause-at : goal.refuse_literal-requires-clause-at
