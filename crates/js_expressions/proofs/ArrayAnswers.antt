@@ -1,5 +1,5 @@
--- Answers of assignments to array targets (ECMA-262, 13.15.5).
-use Rattle.std.proofs.Common.{ℕ, ◌≡◌, List, [], ◌∷◌, ◌+◌, ◌-◌, length, true, false, not, Some, refl, sym, ap, subst, arith, ◌∙◌}
+-- Answers of assignments to array and object targets (ECMA-262, 13.15.5).
+use Rattle.std.proofs.Common.{ℕ, ◌≡◌, List, [], ◌∷◌, ◌+◌, ◌-◌, length, Bool, true, false, not, Some, refl, sym, ap, subst, arith, ◌∙◌}
 use Rattle.std.proofs.lemmas.Bool.{and_parts, and_from}
 use Rattle.js_base.specs.declared.kind.Kind.{Kind}
 use Rattle.js_base.specs.declared.kind.Kind.TheVariants.{Eq}
@@ -28,21 +28,22 @@ use Rattle.js_parsing.specs.Answers.{Answer, Numbered, Underived}
 use Rattle.js_parsing.specs.Lexemes.{Lex}
 use Rattle.js_parsing.specs.Moves.{Moved, MadeHere, plain_label}
 use Rattle.js_parsing.specs.Nesting.{room}
-use Rattle.js_targets.specs.Taken.{TargetTaken}
+use Rattle.js_targets.specs.Taken.{TargetTaken, target_name}
 use Rattle.js_parsing.specs.States.{At}
-use Rattle.js_targets.specs.Targets.{is_array}
+use Rattle.js_targets.specs.Targets.{is_object, is_literal}
 use Rattle.js_expressions.specs.Rests.{OnlyOperand}
-use Rattle.js_targets.proofs.Refused.{array_no_target}
-use Rattle.js_targets.proofs.ArraysBeforeSigns.{array_slots, array_part}
-use Rattle.js_targets.proofs.ArraysConverted.{signs}
+use Rattle.js_targets.proofs.Refused.{literal_no_target}
+use Rattle.js_targets.proofs.ArraysBeforeSigns.{array_slots, array_part, is_cover, not_wide}
+use Rattle.js_targets.proofs.ArraysConverted.{signs, no_other_there, no_target_unread}
 use Rattle.js_targets.proofs.Assigned.{assign_part, no_branch, not_target, to_parts}
-use Rattle.js_expressions.proofs.Assignments.{all_assign, no_object_here, no_question, on_second, plain_here, second}
+use Rattle.js_expressions.proofs.Assignments.{all_assign, no_question, on_second, plain_here, second}
 use Rattle.js_expressions.proofs.Conditionals.{no_conditional}
 use Rattle.js_parsing.proofs.MadeNodes.{two_held, one_lies}
 use Rattle.js_parsing.proofs.Moving.{same_both}
 use Rattle.js_operands.proofs.Operands.{by_path}
 use Rattle.js_parsing.proofs.Paths.{Path, ◌⟼◌, ◌⟶◌, ◌⟶✗◌, label_here, last_called, noded_by, token}
-use Rattle.js_parsing.proofs.Verdicts.{verdict_of}
+use Rattle.js_targets.proofs.Targets.{kind_of_literal}
+use Rattle.js_parsing.proofs.Verdicts.{either_way, verdict_of}
 
 -- as much is left where the place is the same
 pub room_same : {text : List ℕ} {f g : Flags} {p q : Parser} → At text f p → At text g q → q.prev_token_end ≡ p.prev_token_end → room q ≡ room p
@@ -63,22 +64,35 @@ before_equals f X s = record { admits = λ ts us vs j k ls mid rest d d' e. go t
     go : (ts : Slots) {us vs : Slots} {j k : ℕ} {mid rest : Lexemes} → Takes rule (tok Eq ▸ symbol Assignment f) end us j mid vs k rest → Admits signs ts (here mid)
     go ts (is_seq (is_lexeme {x = x} q) d) = let z = and_parts (same_kind Eq x.kind) (not x.escaped) q in (and_from (one_of_kinds assign_operators x.kind) (not x.escaped) (subst (λ (k : Kind). one_of_kinds assign_operators k ≡ true) (kind_of_same Eq x.kind z.0) refl) z.1, refl)
 
-module _ {text : List ℕ} {f : Flags} {p q : Parser} (x : Answer text f (at Short f) p q) (na : OnlyOperand text f p.prev_token_end) (c : q.cut ≡ false) (k : q.token.kind ≡ Eq) (h : is_array x.label.kind ≡ true) where
+-- of the two kinds of targets one fails
+neither : {text : List ℕ} {f : Flags} {s : ℕ} (o : Bool) → Fails rule (Lex text) signs end (such (at (target_name o) f) always) s → Fails rule (Lex text) signs end (such (at (target_name (not o)) f) always) s → Fails rule (Lex text) signs end (alt (symbol ArrayTarget f) (symbol ObjectTarget f)) s
+neither false n m = fails_alt n m
+neither true n m = fails_alt m n
+
+of_either : {text : List ℕ} {f : Flags} {p r : Parser} {g : Slots → Slots} (o : Bool) → Fails rule (Lex text) signs end (such (at (target_name (not o)) f) always) p.prev_token_end → Path text f signs (such (at (target_name o) f) always) p nothing r g → Path text f signs (alt (symbol ArrayTarget f) (symbol ObjectTarget f)) p nothing r g
+of_either false n t = left n ⟼ t
+of_either true n t = right n ⟼ t
+
+module _ {text : List ℕ} {f : Flags} {p q : Parser} (x : Answer text f (at Short f) p q) (na : OnlyOperand text f p.prev_token_end) (c : q.cut ≡ false) (k : q.token.kind ≡ Eq) (h : is_literal x.label.kind ≡ true) where
   listed : one_of_kinds assign_operators q.token.kind ≡ true
   listed = subst (λ (v : Kind). one_of_kinds assign_operators v ≡ true) (sym k) refl
 
   to_array : Goes rule (Lex text) (after (at Assignment f)) end (rule (at Assignment f)) p.prev_token_end (array_part f) p.prev_token_end (λ us. us) (still 0)
-  to_array = to_parts f p.prev_token_end na.1 ▹ (right (no_conditional x (no_question x na c listed) (all_assign x na c listed)) ▹ right (no_branch (assign_part f) assign_operators (λ o m. fails_node inside_full (not_target x (plain full) o m (array_no_target x.label x.slots h)))))
+  to_array = to_parts f p.prev_token_end na.1 ▹ (right (no_conditional x (no_question x na c listed) (all_assign x na c listed)) ▹ right (no_branch (assign_part f) assign_operators (λ o m. fails_node inside_full (not_target x (plain full) o m (literal_no_target x.label x.slots h)))))
 
-  pub without_target : Fails rule (Lex text) signs end (such (at ArrayTarget f) always) p.prev_token_end → Underived text (at Assignment f) p.prev_token_end
-  without_target n = fails_by (to_array ▹✗ fails_node (inside_array f p.prev_token_end) (part_fails (fails_alt n (no_object_here f na.0)) (before_equals f (second f) p.prev_token_end)))
+  -- no target of the other kind stands there
+  no_other : Fails rule (Lex text) signs end (such (at (target_name (not (is_object x.label.kind))) f) always) p.prev_token_end
+  no_other = either_way x.verdict (λ z. no_other_there (not_wide x.at) (is_cover x.at) (is_object x.label.kind) z (kind_of_literal x.label.kind h)) (λ n. no_target_unread (not (is_object x.label.kind)) (not_wide x.at) (is_cover x.at) n)
 
-  module _ {r : Parser} {id : NodeId} (t : TargetTaken text f p q r id) where
-    target_path : Path text f signs (such (at ArrayTarget f) always) p nothing r (tree t.label t.slots)
+  pub without_target : Fails rule (Lex text) signs end (such (at (target_name (is_object x.label.kind)) f) always) p.prev_token_end → Underived text (at Assignment f) p.prev_token_end
+  without_target n = fails_by (to_array ▹✗ fails_node (inside_array f p.prev_token_end) (part_fails (neither (is_object x.label.kind) n no_other) (before_equals f (second f) p.prev_token_end)))
+
+  module _ {r : Parser} {id : NodeId} (t : TargetTaken (is_object x.label.kind) text f p q r id) where
+    target_path : Path text f signs (such (at (target_name (is_object x.label.kind)) f) always) p nothing r (tree t.label t.slots)
     target_path = record { at = t.stands_at; further = let a = x.further in let b = t.place in omega arith; pass = t.pass; walked = t.walked; verdict = t.verdict }
 
     either_target : Path text f signs (alt (symbol ArrayTarget f) (symbol ObjectTarget f)) p nothing r (tree t.label t.slots)
-    either_target = left (no_object_here f na.0) ⟼ target_path
+    either_target = of_either (is_object x.label.kind) no_other target_path
 
     then_equals : Path text f (second f) (array_slots f) p (tok Eq ▸ symbol Assignment f) r (tree t.label t.slots)
     then_equals = let y = either_target in record { at = y.at; further = y.further; pass = y.pass; walked = y.walked; verdict = verdict_of y.verdict (λ z. record { reach = z.reach; near = z.near; goes = then_by z.goes (before_equals f (second f) p.prev_token_end) }) (λ n. part_fails n (before_equals f (second f) p.prev_token_end)) }

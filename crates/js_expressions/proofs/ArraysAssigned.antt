@@ -1,5 +1,5 @@
--- An array literal before an assignment operator that needs a simple target (ECMA-262, 13.15.1).
-use Rattle.js_targets.proofs.Refused.{array_is, array_no_target}
+-- A literal before an assignment operator that needs a simple target (ECMA-262, 13.15.1).
+use Rattle.js_targets.proofs.Refused.{literal_no_target}
 use Rattle.std.proofs.Common.{ℕ, ◌≡◌, inl, inr, List, [], ◌∷◌, length, Bool, true, false, not, IsTrue, Some, None, refl, sym, ap, subst, arith, ◌∙◌}
 use Rattle.std.specs.Prelude.{IsCharBoundary, ◌↔◌}
 use Rattle.js_base.proofs.KindLemmas.{kind_of_same}
@@ -12,7 +12,7 @@ use Rattle.js_base.specs.declared.operator.AssignmentOperator.{AssignmentOperato
 use Rattle.js_base.specs.declared.span.Span.{Span}
 use Rattle.js_base.specs.Kinds.{same_kind, one_of_kinds}
 use Rattle.js_base.specs.Operators.{row_of as row_in, assignment_operators}
-use Rattle.js_grammar.specs.Trees.{Label, Slots, end, tree, of, array_expression, assignment_expression}
+use Rattle.js_grammar.specs.Trees.{NodeKind, Label, Slots, end, tree, of, array_expression, assignment_expression}
 use Rattle.js_grammar.specs.Grammar.{Lexeme, Lexemes, here, last, such, nothing, Takes, is_nothing}
 use Rattle.js_grammar.specs.Insertion.{assign_operators}
 use Rattle.js_grammar.specs.Lexemes.{is_escaped}
@@ -39,7 +39,7 @@ use Rattle.js_parsing.specs.Moves.{Moved, MadeHere, plain_label}
 use Rattle.js_parsing.specs.Nesting.{room}
 use Rattle.js_targets.specs.Taken.{TellsOnce, not_simple_at}
 use Rattle.js_parsing.specs.States.{At, Same}
-use Rattle.js_targets.specs.Targets.{is_array}
+use Rattle.js_targets.specs.Targets.{is_array, is_object, is_literal, literal_kind}
 use Rattle.js_expressions.specs.Rests.{OnlyOperand}
 use Rattle.js_targets.proofs.Assigned.{assigns}
 use Rattle.js_expressions.proofs.Assignments.{assign_refused, assign_named}
@@ -50,15 +50,15 @@ use Rattle.js_parsing.proofs.MadeNodes.{two_held, made_lies}
 use Rattle.js_parsing.proofs.Moving.{same_both, same_itself, same_with, beside_nodes, stops_behind}
 use Rattle.js_parsing.proofs.Paths.{label_here, read_of, walked_both, walked_from, walked_one}
 use Rattle.js_parsing.proofs.Signs.{grew, none_kept, plain_of}
-use Rattle.js_targets.proofs.Targets.{array_shape, by_brackets, may_array, of_short}
+use Rattle.js_targets.proofs.Targets.{Literal, of_array, of_object, literal_shape, kind_of_literal, by_braces, by_brackets, may_literal, of_short}
 use Rattle.js_parsing.proofs.Told.{told_at, told_same}
 use Rattle.js_parsing.proofs.Verdicts.{grown_both, grown_first, grown_on, grown_then}
 use Rattle.js_parsing.proofs.Verdicts.{after as grown_behind}
 use Rattle.js_parsing.specs.Classes.{IsEarly}
 
-literal_stands : (source : Goal) (text : List ℕ) (s s' from : ℕ) (f : Flags) (l : Label) (cs : Slots) (ls : Lexemes) (y : Lexeme) → Part text s ls → (here ls).from ≡ from → Takes rule (rule (at Primary f)) end (tree l cs end) s ls end s' (last y) → l.kind ≡ array_expression → one_of_kinds assign_operators y.kind ≡ true → same_kind Eq y.kind ≡ false
+literal_stands : (source : Goal) (text : List ℕ) (s s' from : ℕ) (f : Flags) (l : Label) (cs : Slots) (ls : Lexemes) (y : Lexeme) → Part text s ls → (here ls).from ≡ from → Takes rule (rule (at Primary f)) end (tree l cs end) s ls end s' (last y) → (o : Bool) → l.kind ≡ literal_kind o → one_of_kinds assign_operators y.kind ≡ true → same_kind Eq y.kind ≡ false
     → StandsAt AssignmentIsNotSimple source text (record { start = from; end = s' }) None None
-literal_stands source text s s' from f l cs ls y part b d k u e = (
+literal_stands source text s s' from f l cs ls y part b d false k u e = (
   record {
     place = s;
     lexemes = ls;
@@ -72,6 +72,29 @@ literal_stands source text s s' from f l cs ls y part b d k u e = (
   },
   (refl, refl),
 )
+literal_stands source text s s' from f l cs ls y part b d true k u e = (
+  record {
+    place = s;
+    lexemes = ls;
+    part = part;
+    begins = b;
+    flags = f;
+    tree = record { label = l; slots = cs };
+    rest = last y;
+    derived = strict_is_loose (at Primary f) (record { label = l; slots = cs }) d;
+    passes = rw k (and_from _ _ u (ap not e));
+  },
+  (refl, refl),
+)
+
+-- what is no literal is no array
+pub no_array : (k : NodeKind) → is_literal k ≡ false → is_array k ≡ false
+no_array array_expression h = absurd (false≢true (sym h))
+no_array _ h = refl
+
+primary_of : {f : Flags} {l : Label} {cs : Slots} {i j : ℕ} {ls rest : Lexemes} → Literal f l cs i ls j rest → Takes rule (rule (at Primary f)) end (tree l cs end) i ls end j rest
+primary_of (of_array d) = by_brackets d
+primary_of {f} (of_object d) = by_braces f d
 
 -- that was told, or something else was before
 module _ {d : Diagnostic} {kept : ℕ} {q o : Parser} (t : TellsOnce d kept q o) where
@@ -118,7 +141,7 @@ module _ {d : Diagnostic} {kept : ℕ} {q o : Parser} (t : TellsOnce d kept q o)
   once_nodes : o.nodes ≡ q.nodes
   once_nodes = once_stays (λ z. z.nodes) (λ z ds. refl)
 
-module _ {text : List ℕ} {f : Flags} {p q : Parser} (a : At text f p) (x : Answer text f (at Short f) p q) (c : q.cut ≡ false) (u : one_of_kinds assign_operators q.token.kind ≡ true) (h : is_array x.label.kind ≡ true) (n : same_kind Eq q.token.kind ≡ false) where
+module _ {text : List ℕ} {f : Flags} {p q : Parser} (a : At text f p) (x : Answer text f (at Short f) p q) (c : q.cut ≡ false) (u : one_of_kinds assign_operators q.token.kind ≡ true) (h : is_literal x.label.kind ≡ true) (n : same_kind Eq q.token.kind ≡ false) where
   stood : (y : Lexeme) × Lex text q.prev_token_end y × (y.kind ≡ q.token.kind)
   stood =
       let g = assigns q.token.kind u in
@@ -133,7 +156,7 @@ module _ {text : List ℕ} {f : Flags} {p q : Parser} (a : At text f p) (x : Ans
       z = none_kept x.verdict k
 
       literal : {ls : Lexemes} → Takes rule (such (at Short f) always) end (tree x.label x.slots end) p.prev_token_end ls end q.prev_token_end (last stood.0) → Takes rule (rule (at Primary f)) end (tree x.label x.slots end) p.prev_token_end ls end q.prev_token_end (last stood.0)
-      literal t = by_brackets (array_shape {f = f} h ((of_short f).down (may_array x.label.kind h) t))
+      literal t = primary_of (literal_shape {f = f} h ((of_short f).down (may_literal x.label.kind h) t))
 
       it : Mark (goal q) text (not_simple_at start q.prev_token_end)
       it = record {
@@ -142,11 +165,11 @@ module _ {text : List ℕ} {f : Flags} {p q : Parser} (a : At text f p) (x : Ans
         begins_between = subst (λ (v : ℕ). IsCharBoundary text v) (sym d) (subst (λ (v : List ℕ). IsCharBoundary v p.token.span.start) a.text_is a.at.lies.starts_whole);
         ends_between = subst (λ (v : List ℕ). IsCharBoundary v q.prev_token_end) x.at.text_is x.at.at.between;
         stands = literal_stands (goal q) text p.prev_token_end q.prev_token_end start f x.label x.slots (x.pass (last stood.0)) stood.0 (part_there x a z stood.0 stood.1) (begins_there x a z stood.0 stood.1 ∙ sym d)
-            (literal (z.goes.sound end end q.prev_token_end (last stood.0) (last stood.0) stood.1 (inl z.near) is_nothing)) (array_is x.label.kind h) (subst (λ (v : Kind). one_of_kinds assign_operators v ≡ true) (sym stood.2) u) (subst (λ (v : Kind). same_kind Eq v ≡ false) (sym stood.2) n);
+            (literal (z.goes.sound end end q.prev_token_end (last stood.0) (last stood.0) stood.1 (inl z.near) is_nothing)) (is_object x.label.kind) (kind_of_literal x.label.kind h) (subst (λ (v : Kind). one_of_kinds assign_operators v ≡ true) (sym stood.2) u) (subst (λ (v : Kind). same_kind Eq v ≡ false) (sym stood.2) n);
       }
 
   pub array_refused : OnlyOperand text f p.prev_token_end → Underived text (at Assignment f) p.prev_token_end
-  array_refused na = assign_refused x na c u (inr n) (array_no_target x.label x.slots h)
+  array_refused na = assign_refused x na c u (inr n) (literal_no_target x.label x.slots h)
 
   -- behind what was told, or was told before
   module _ {o : Parser} {start kept : ℕ} (na : OnlyOperand text f p.prev_token_end) (i : kept ≡ length p.errors) (t : TellsOnce (not_simple_at start q.prev_token_end) kept q o) where

@@ -8,7 +8,7 @@ use Rattle.js_grammar.specs.Grammar.{Lexeme}
 use Rattle.js_grammar.specs.Marks.{LexemeAt, of_kinds}
 use Rattle.js_grammar.specs.Productions.{Flags, at, Arrow', Assignment, Short}
 use Rattle.js_tree.specs.declared.id.NodeId.{NodeId}
-use Rattle.js_targets.specs.Targets.{is_array}
+use Rattle.js_targets.specs.Targets.{is_literal}
 use Rattle.js_cursor.specs.Parsers.{Parser}
 use Rattle.js_cursor.specs.Places.{goal}
 use Rattle.js_cursor.specs.declared.stop.Stop.{Stop}
@@ -39,8 +39,8 @@ pub record Asked (p : Parser) (question : Span) : Type 0 where
 abbrev pub update_kinds : List Kind
 update_kinds = Plus2 ∷ Minus2 ∷ []
 
--- An array literal was read up to the old state, by a call before which so many diagnostics were kept; with what is read now it is an assignment.
-abbrev pub AssignsArray : ℕ → NodeId → ℕ → Parser → Parser → Result NodeId Stop → Type 0
-AssignsArray start id kept old new r = (text : List ℕ) (f : Flags) (first : Parser) → At text f first → OnlyOperand text f first.prev_token_end → start ≡ first.token.span.start → kept ≡ length first.errors → (x : Numbered text f (at Short f) first old id) → is_array x.answer.label.kind ≡ true → Outcome text f (at Assignment f) first new r
+-- An array or object literal was read up to the old state, by a call before which so many diagnostics were kept; with what is read now it is an assignment.
+abbrev pub AssignsLiteral : ℕ → NodeId → ℕ → Parser → Parser → Result NodeId Stop → Type 0
+AssignsLiteral start id kept old new r = (text : List ℕ) (f : Flags) (first : Parser) → At text f first → OnlyOperand text f first.prev_token_end → start ≡ first.token.span.start → kept ≡ length first.errors → (x : Numbered text f (at Short f) first old id) → is_literal x.answer.label.kind ≡ true → Outcome text f (at Assignment f) first new r
 
 -- ---- array targets (13.15.5)

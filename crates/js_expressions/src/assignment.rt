@@ -10,8 +10,8 @@ ghost use Rattle.js_grammar.specs.Productions.{at, Assignment};
 ghost use Rattle.js_parsing.specs.Answers.{Answers};
 ghost use Rattle.js_expressions.specs.Arrows.{IsRefusedHead};
 ghost use Rattle.js_parsing.specs.Nesting.{CanNest, room};
-ghost use Rattle.js_targets.specs.Taken.{ArrayRead, not_simple_at};
-ghost use Rattle.js_expressions.specs.Rests.{AssignsArray, Asked, OnlyOperandHere, ReadsConditional};
+ghost use Rattle.js_targets.specs.Taken.{LiteralRead, not_simple_at};
+ghost use Rattle.js_expressions.specs.Rests.{AssignsLiteral, Asked, OnlyOperandHere, ReadsConditional};
 ghost use Rattle.js_parsing.specs.Moves.{Passes};
 ghost use Rattle.js_parsing.specs.States.{Standing};
 
@@ -27,8 +27,8 @@ use js_parsing::diagnostics::kept_so_far;
 use js_parsing::lexemes::{advance, operator_here};
 use js_parsing::nested::Nested;
 use js_parsing::nodes::{make_three, make_two};
-use js_targets::array_target::array_target;
-use js_targets::cover::{cover, is_array_literal, refuse_target, tell_not_simple};
+use js_targets::array_target::literal_target;
+use js_targets::cover::{cover, is_array_or_object, refuse_target, tell_not_simple};
 use js_tree::{NodeId, NodeKind, Op};
 
 /// An AssignmentExpression (ECMA-262, section 13.15); none begins with a brace yet.
@@ -83,8 +83,8 @@ fn parse_assignment_without_arrow<C: ParserConfig, N: Nested<C>>(
     if !p.cur_kind().is_assignment_operator() {
         return parse_conditional_expression_rest(p, nested, start, left);
     }
-    if is_array_literal(p, left) {
-        return parse_array_assignment(p, nested, start, left, kept);
+    if is_array_or_object(p, left) {
+        return parse_literal_assignment(p, nested, start, left, kept);
     }
     let operator = map_assignment_operator(p.cur_kind());
     let Some(target) = cover(p, left) else {
@@ -98,10 +98,10 @@ fn parse_assignment_without_arrow<C: ParserConfig, N: Nested<C>>(
     Ok(node)
 }
 
-/// The operator and the right side of an assignment behind an array literal, which begins at a place, when so many
-/// diagnostics were kept. Before another operator than `=` it is no target (ECMA-262, section 13.15.1).
+/// The operator and the right side of an assignment behind an array or object literal, which begins at a place, when so
+/// many diagnostics were kept. Before another operator than `=` it is no target (ECMA-262, section 13.15.1).
 #[inline(never)]
-fn parse_array_assignment<C: ParserConfig, N: Nested<C>>(
+fn parse_literal_assignment<C: ParserConfig, N: Nested<C>>(
     p: &mut ParserImpl<'_, C>,
     nested: &N,
     start: u32,
@@ -113,9 +113,9 @@ fn parse_array_assignment<C: ParserConfig, N: Nested<C>>(
     requires start { start ≤ p.old.prev_token_end }
     requires whole { p.old.cut ≡ false }
     requires operator { one_of_kinds assign_operators p.old.token.kind ≡ true }
-    requires read { ArrayRead start left kept p.old }
+    requires read { LiteralRead start left kept p.old }
     requires marked { same_kind Eq p.old.token.kind ≡ false → length p.old.errors ≡ kept → Mark (goal p.old) p.old.text (not_simple_at start p.old.prev_token_end) }
-    ensures { AssignsArray start left kept p.old p.new result }
+    ensures { AssignsLiteral start left kept p.old p.new result }
 {
     if p.at(Kind::Eq) {
         return parse_destructuring_assignment(p, nested, start, left, kept);
@@ -130,7 +130,7 @@ fn parse_array_assignment<C: ParserConfig, N: Nested<C>>(
     Ok(node)
 }
 
-/// The `=` and the right side of an assignment behind an array literal, which begins at a place and is its target
+/// The `=` and the right side of an assignment behind a literal, which begins at a place and is its target
 /// (ECMA-262, section 13.15.5), when so many diagnostics were kept.
 fn parse_destructuring_assignment<C: ParserConfig, N: Nested<C>>(
     p: &mut ParserImpl<'_, C>,
@@ -144,10 +144,10 @@ fn parse_destructuring_assignment<C: ParserConfig, N: Nested<C>>(
     requires start { start ≤ p.old.prev_token_end }
     requires whole { p.old.cut ≡ false }
     requires equals { p.old.token.kind ≡ Eq }
-    requires read { ArrayRead start left kept p.old }
-    ensures { AssignsArray start left kept p.old p.new result }
+    requires read { LiteralRead start left kept p.old }
+    ensures { AssignsLiteral start left kept p.old p.new result }
 {
-    let target = array_target(p, start, left, kept)?;
+    let target = literal_target(p, start, left, kept)?;
     advance(p)?;
     let right = nested.assignment(p)?;
     let span = p.end_span(start);

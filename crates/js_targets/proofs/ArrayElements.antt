@@ -13,12 +13,16 @@ use Rattle.js_grammar.specs.Productions.{G, Flags, Name, Symbol, at, tok, op, br
 use Rattle.js_grammar.specs.Productions.{sym as symbol}
 use Rattle.js_grammar.specs.Table.{rule, rule_of}
 use Rattle.js_operands.specs.Arrays.{elements}
-use Rattle.js_targets.specs.Targets.{is_elision, is_spread, is_assignment, is_equals, is_wide}
+use Rattle.js_targets.specs.Targets.{is_elision, is_spread, is_property, is_assignment, is_equals, is_wide}
 
--- ---- no operand is a gap, a spread or an assignment
+-- ---- no operand is a gap, a spread, a property or an assignment
+
+-- what stands only in a literal
+abbrev pub is_part : NodeKind → Bool
+is_part k = is_elision k || (is_spread k || is_property k)
 
 abbrev odd : NodeKind → Bool
-odd k = is_elision k || (is_spread k || is_assignment k)
+odd k = is_part k || is_assignment k
 
 abbrev even_name : Name → Bool
 even_name Conditional = true
@@ -153,18 +157,13 @@ in_branch (k ∷ m ∷ ks) (is_right d) = in_branch (m ∷ ks) d
 branch_kind : {f : Flags} {l : Label} {cs : Slots} {i j : ℕ} {ls rest : Lexemes} → Branch f l cs i ls j rest → l.kind ≡ assignment_expression
 branch_kind x = ap (λ (m : Label). m.kind) x.label_is
 
-gap_is_odd : (a b c : Bool) → (a || b) ≡ true → (a || (b || c)) ≡ true
-gap_is_odd true b c h = refl
-gap_is_odd false true c h = refl
-gap_is_odd false false c h = absurd (false≢true h)
-
--- an expression is no gap and no spread
-pub no_gap : (f : Flags) {l : Label} {cs : Slots} {i j : ℕ} {ls rest : Lexemes} → Takes rule (rule (at Assignment f)) end (tree l cs end) i ls end j rest → (is_elision l.kind || is_spread l.kind) ≡ true → ⊥
+-- an expression is no gap, no spread and no property
+pub no_gap : (f : Flags) {l : Label} {cs : Slots} {i j : ℕ} {ls rest : Lexemes} → Takes rule (rule (at Assignment f)) end (tree l cs end) i ls end j rest → is_part l.kind ≡ true → ⊥
 unfolding rule rule_of
-no_gap f {l = l} (is_left d) o = not_even d refl (gap_is_odd (is_elision l.kind) (is_spread l.kind) (is_assignment l.kind) o)
-no_gap f {l = l} (is_right (is_left d)) o = not_even d refl (gap_is_odd (is_elision l.kind) (is_spread l.kind) (is_assignment l.kind) o)
-no_gap f {l = l} (is_right (is_right (is_left d))) o = not_even d refl (gap_is_odd (is_elision l.kind) (is_spread l.kind) (is_assignment l.kind) o)
-no_gap f {l = l} (is_right (is_right (is_right (is_left d)))) o = false≢true (sym (ap (λ (k : NodeKind). is_elision k || is_spread k) (branch_kind (in_branch assign_operators d))) ∙ o)
+no_gap f {l = l} (is_left d) o = not_even d refl (or_left (is_part l.kind) (is_assignment l.kind) o)
+no_gap f {l = l} (is_right (is_left d)) o = not_even d refl (or_left (is_part l.kind) (is_assignment l.kind) o)
+no_gap f {l = l} (is_right (is_right (is_left d))) o = not_even d refl (or_left (is_part l.kind) (is_assignment l.kind) o)
+no_gap f {l = l} (is_right (is_right (is_right (is_left d)))) o = false≢true (sym (ap is_part (branch_kind (in_branch assign_operators d))) ∙ o)
 no_gap f (is_right (is_right (is_right (is_right (is_node d))))) o = false≢true o
 
 -- its sides, by `=`
@@ -187,7 +186,7 @@ by_equals f {cs = cs} {i = i} {j = j} {ls = ls} {rest = rest} h x =
     record { span_is = ap (λ (m : Label). m.span) x.label_is; sides = of_simple f (subst (λ (k : Kind). Takes rule (a_slots f k) end cs i ls end j rest) (sym e) x.sides) }
 
 odd_of : (k : NodeKind) → is_assignment k ≡ true → odd k ≡ true
-odd_of k e = or_right (is_elision k) _ (or_right (is_spread k) _ e)
+odd_of k e = or_right (is_part k) _ e
 
 pub initialised : (f : Flags) {l : Label} {cs : Slots} {i j : ℕ} {ls rest : Lexemes} → Takes rule (rule (at Assignment f)) end (tree l cs end) i ls end j rest → is_assignment l.kind ≡ true → is_equals l.op ≡ true → Initialised f l cs i ls j rest
 unfolding rule rule_of

@@ -121,7 +121,7 @@ names_words : covers names words_of ≡ true
 unfolding covers words
 names_words = refl
 
-bound_word : (k : Kind) (b c : Bool) → ((may_bind k && b) && c) ≡ true → is_word k ≡ true
+pub bound_word : (k : Kind) (b c : Bool) → ((may_bind k && b) && c) ≡ true → is_word k ≡ true
 bound_word k b c h = covered names words_of names_words k false false (and_parts (may_bind k) b (and_parts (may_bind k && b) c h).0).0
 
 -- the last property
@@ -131,7 +131,7 @@ last_of_them f e = (tree e.label e.slots end, is_left (is_commas (is_seq (is_suc
 -- a name for itself, with an initialiser or without one
 shorthand : (f : Flags) → f.cover ≡ true → {ts : Slots} {i j : ℕ} {ls rest : Lexemes} → Takes rule (symbol IdentifierReference f ▸ slot (symbol Init (plus_in f))) end ts i ls end j rest → One (at Property f) i ls j rest
 unfolding rule rule_of
-shorthand f v (is_seq (is_such (is_node (is_lexeme {x = x} t)) h) (is_left (is_such d g))) = record { label = _; slots = _; derived = is_left (is_node (is_seq (is_ahead (is_such (is_node (is_lexeme (bound_word x.kind (not (same_kind Yield x.kind && f.yield_)) (not (same_kind Await x.kind && f.await_)) t))) refl)) (is_seq (is_such (is_node (is_lexeme t)) refl) (is_left (is_when v (is_keep (is_such d refl) is_nothing)))))) }
+shorthand f v (is_seq (is_such (is_node (is_lexeme {x = x} t)) h) (is_left (is_such d g))) = record { label = _; slots = _; derived = is_left (is_node (is_seq (is_ahead (is_such (is_node (is_lexeme (bound_word x.kind (not (same_kind Yield x.kind && f.yield_)) (not (same_kind Await x.kind && f.await_)) t))) refl)) (is_seq (is_such (is_node (is_lexeme t)) refl) (is_left (is_when v (is_such d refl)))))) }
 shorthand f v (is_seq (is_such (is_node (is_lexeme {x = x} t)) h) (is_right is_empty_slot)) = record { label = _; slots = _; derived = is_left (is_node (is_seq (is_ahead (is_such (is_node (is_lexeme (bound_word x.kind (not (same_kind Yield x.kind && f.yield_)) (not (same_kind Await x.kind && f.await_)) t))) refl)) (is_seq (is_such (is_node (is_lexeme t)) refl) (is_right is_nothing)))) }
 
 -- a name and a value
@@ -183,7 +183,7 @@ module _ (f : Flags) (w : f.wide ≡ false) where
 
 -- ---- by induction over how large a derivation is
 
-abbrev deep : {r : Symbol → G} {g : G} {ks ts us : Slots} {i j : ℕ} {ls rest : Lexemes} → Takes r g ks ts i ls us j rest → ℕ
+abbrev pub deep : {r : Symbol → G} {g : G} {ks ts us : Slots} {i j : ℕ} {ls rest : Lexemes} → Takes r g ks ts i ls us j rest → ℕ
 deep is_nothing = 0
 deep (is_lexeme p) = 0
 deep (is_look p) = 0

@@ -1,9 +1,9 @@
--- Array literals before `=` that are targets, and those that are none (ECMA-262, 13.15.5).
+-- Array and object literals before `=` that are targets, and those that are none (ECMA-262, 13.15.5).
 use Rattle.std.proofs.Common.{ℕ, ◌≡◌, ◌≤◌, ◌<◌, ◌⊎◌, inl, inr, List, [], ◌∷◌, length, Bool, true, false, not, ◌&&◌, ◌||◌, IsTrue, Option, Some, None, refl, sym, ap, subst, arith, ◌∙◌}
 use Rattle.std.specs.Prelude.{IsCharBoundary, IsUtf8}
 use Rattle.std.proofs.lemmas.Bool.{false≢true, and_parts, and_from}
 use Rattle.js_base.specs.declared.kind.Kind.{Kind}
-use Rattle.js_base.specs.declared.kind.Kind.TheVariants.{Eq, Comma, RBrack, Question}
+use Rattle.js_base.specs.declared.kind.Kind.TheVariants.{Eq, Comma, RBrack, RCurly, Question}
 use Rattle.js_base.specs.declared.span.Span.{Span}
 use Rattle.js_base.specs.Kinds.{same_kind, one_of_kinds}
 use Rattle.js_base.proofs.KindLemmas.{kind_of_same}
@@ -24,90 +24,88 @@ use Rattle.js_grammar.proofs.Calculus.{Between, Inside, inside_full, ends, label
 use Rattle.js_cursor.specs.Parsers.{Parser}
 use Rattle.js_parsing.specs.Answers.{Stretch, Underived}
 use Rattle.js_parsing.specs.Lexemes.{Lex}
-use Rattle.js_targets.specs.Taken.{assigns_next}
-use Rattle.js_targets.specs.Targets.{Each, Closed, Fits, Narrow, Shut, Spotted, is_array, relabelled, elements_in, places_in}
+use Rattle.js_targets.specs.Taken.{assigns_next, target_name}
+use Rattle.js_targets.specs.Targets.{Each, Closed, Fits, Narrow, Shut, Spotted, in_literal, is_array, is_object, literal_kind, relabelled, pattern_kind, elements_in, places_in}
 use Rattle.js_targets.specs.declared.widening.Widening.{Widening}
-use Rattle.js_targets.specs.declared.widening.Widening.TheVariants.{Rest, Operator}
+use Rattle.js_targets.specs.declared.widening.Widening.TheVariants.{Rest, RestTarget, Operator}
 use Rattle.js_targets.proofs.Spots.{literal_spots}
-use Rattle.js_targets.proofs.ArraysBeforeSigns.{array_before_a_sign, before_others, literal, object_before_a_sign}
-use Rattle.js_targets.proofs.ArrayTargets.{object_up}
+use Rattle.js_targets.proofs.ArraysBeforeSigns.{array_before_a_sign, before_others, object_before_a_sign}
 use Rattle.js_parsing.proofs.Here.{alike}
 use Rattle.js_targets.proofs.LiteralsAsTargets.{Targeted, literal_target}
-use Rattle.js_targets.proofs.Targets.{by_primary, may_array, of_short}
-use Rattle.js_targets.proofs.TargetsAsLiterals.{Unbraced, array_back}
+use Rattle.js_targets.proofs.Targets.{by_primary, is_literal_kind, may_literal, of_short}
+use Rattle.js_targets.proofs.TargetsAsLiterals.{literal_back}
 
 -- ---- what the literal says of the target
 
 shut_narrow : (text : List ℕ) (ws : List Widening) → Each (Shut text) ws → Each (Narrow text) ws
 shut_narrow text [] h = tt
-shut_narrow text (Rest s ∷ ws) h = (λ y l k. let w : RBrack ≡ Comma = sym h.0.is ∙ (sym (ap (λ (z : Lexeme). z.kind) (alike l h.0.stands)) ∙ k) in absurd (cc), shut_narrow text ws h.1)
+shut_narrow text (Rest s ∷ ws) h = (λ y l k. false≢true (ap (one_of_kinds (RBrack ∷ RCurly ∷ [])) (sym k ∙ ap (λ (z : Lexeme). z.kind) (alike l h.0.stands)) ∙ h.0.is), shut_narrow text ws h.1)
+shut_narrow text (RestTarget s ∷ ws) h = absurd h.0
 shut_narrow text (Operator s ∷ ws) h = absurd h.0
 
 anew : {n : Symbol} {ks vs : Slots} {l : Label} {cs : Slots} {i j : ℕ} {ls rest : Lexemes} → Takes rule (such n always) end (tree l cs end) i ls end j rest → Takes rule (such n always) ks (tree l cs vs) i ls vs j rest
 anew (is_such d h) = is_such d h
 
-module _ (text : List ℕ) (f : Flags) (w : f.wide ≡ false) (e : ℕ) where
+module _ (text : List ℕ) (f : Flags) (w : f.wide ≡ false) (v : f.cover ≡ true) where
   -- a target, as an expression
-  record Sourced (ks us : Slots) (a : Label) (bs : Slots) (i : ℕ) (ls : Lexemes) (j : ℕ) (rest : Lexemes) : Type 0 where
+  record Sourced (o : Bool) (ks us : Slots) (a : Label) (bs : Slots) (i : ℕ) (ls : Lexemes) (j : ℕ) (rest : Lexemes) : Type 0 where
     label : Label
     slots : Slots
-    array : is_array label.kind ≡ true
-    target : a ≡ relabelled array_assignment_target label
-    covers : elements_in slots ≡ Some bs
-    opened : Each (Narrow text) (places_in slots)
+    kind : label.kind ≡ literal_kind o
+    target : a ≡ relabelled (pattern_kind o) label
+    covers : elements_in (in_literal o) slots ≡ Some bs
+    opened : Each (Narrow text) (places_in (in_literal o) slots)
     takes : Takes rule (such (at Short f) always) ks (tree label slots us) i ls us j rest
 
-  sourced : {ks us : Slots} {a : Label} {bs : Slots} {i j : ℕ} {ls rest : Lexemes} → Lexes (Unbraced text e) i ls → j ≤ e → Takes rule (rule (at ArrayTarget f)) end (tree a bs end) i ls end j rest → Sourced ks us a bs i ls j rest
-  sourced {ks} {us} {a} {bs} m le d =
-      let x = array_back text e f w d m le in
+  sourced : (o : Bool) {ks us : Slots} {a : Label} {bs : Slots} {i j : ℕ} {ls rest : Lexemes} → Lexes (Lex text) i ls → Takes rule (rule (at (target_name o) f)) end (tree a bs end) i ls end j rest → Sourced o ks us a bs i ls j rest
+  sourced o {ks} {us} {a} {bs} m d =
+      let x = literal_back text f w v o d m in
       record {
         label = x.label;
         slots = x.slots;
-        array = x.array;
+        kind = x.kind;
         target = label_is x.is_tree;
         covers = x.covers ∙ ap Some (sym (slots_are x.is_tree));
-        opened = shut_narrow text (places_in x.slots) x.closed;
+        opened = shut_narrow text (places_in (in_literal o) x.slots) x.closed;
         takes = anew ((of_short f).up (by_primary x.derived));
       }
 
--- before an assignment operator an array literal may stand
-sign_admitted : (f : Flags) (l : Label) (cs us : Slots) (y : Lexeme) → is_array l.kind ≡ true → IsTrue (seen assigns_next y) → Admits (after (at Short f)) (tree l cs us) y
-sign_admitted f l cs us y h q = array_before_a_sign f l cs us h y q
+-- before an assignment operator a literal may stand
+sign_admitted : (o : Bool) (f : Flags) (l : Label) (cs us : Slots) (y : Lexeme) → l.kind ≡ literal_kind o → IsTrue (seen assigns_next y) → Admits (after (at Short f)) (tree l cs us) y
+sign_admitted false f l cs us y h q = array_before_a_sign f l cs us (ap is_array h) y q
+sign_admitted true f l cs us y h q = object_before_a_sign f l cs us h y q
+
+-- the two are apart
+other_kind : (o : Bool) → literal_kind (not o) ≡ literal_kind o → ⊥
+other_kind false e = false≢true (ap is_array e)
+other_kind true e = false≢true (sym (ap is_array e))
 
 abbrev pub signs : Test
 signs = plain assigns_next
 
 -- what was read, and may be followed by an assignment operator, is the only one
-module _ {text : List ℕ} {f : Flags} (w : f.wide ≡ false) (v : f.cover ≡ true) {s s' : ℕ} {l : Label} {cs : Slots} {pass : Lexemes → Lexemes} (free : (ms : Lexemes) → Lexes (Lex text) s' ms → Lexes (Lex text) s (pass ms) → Lexes (Unbraced text s') s (pass ms)) (z : Stretch text (after (at Short f)) (such (at Short f) always) s nothing s' (tree l cs) pass) (h : is_array l.kind ≡ true) where
+module _ {text : List ℕ} {f : Flags} (w : f.wide ≡ false) (v : f.cover ≡ true) {s s' : ℕ} {l : Label} {cs : Slots} {pass : Lexemes → Lexemes} (o : Bool) (z : Stretch text (after (at Short f)) (such (at Short f) always) s nothing s' (tree l cs) pass) (h : l.kind ≡ literal_kind o) where
   -- a target that stands there is that of the literal
   record There (a : Label) (bs us : Slots) (vs : Slots) (ls : Lexemes) (k : ℕ) (rest : Lexemes) : Type 0 where
-    target : a ≡ relabelled array_assignment_target l
-    covers : elements_in cs ≡ Some bs
-    opened : Each (Narrow text) (places_in cs)
+    target : a ≡ relabelled (pattern_kind o) l
+    covers : elements_in (in_literal o) cs ≡ Some bs
+    opened : Each (Narrow text) (places_in (in_literal o) cs)
     behind : Lexemes
     same : us ≡ vs
     lexed : Lexes (Lex text) s' behind
     takes : Takes rule nothing end us s' behind vs k rest
     list : ls ≡ pass behind
 
-  -- no brace stands in it
-  unbraced : {a : Label} {bs : Slots} {k : ℕ} {ls rest : Lexemes} → Lexes (Lex text) s ls → Takes rule (rule (at ArrayTarget f)) end (tree a bs end) s ls end k rest → IsTrue (seen assigns_next (here rest)) → Lexes (Unbraced text k) s ls
-  unbraced {k = k} {ls = ls} {rest = rest} m d q =
-      let x = literal w v {ks = end} {us = end} {vs = end} (is_such d refl) in
-      let y = z.goes.only (tree x.label x.slots end) end k ls rest m x.takes (sign_admitted f x.label x.slots end (here rest) x.array q) in
-      let u = free y.1 y.3 (subst (λ (v : Lexemes). Lexes (Lex text) s v) y.5 m) in
-      subst (λ (v : Lexemes). Lexes (Unbraced text k) s v) (sym y.5) (subst (λ (n : ℕ). Lexes (Unbraced text n) s (pass y.1)) (ends y.4).1 u)
-
-  there : {a : Label} {bs vs : Slots} {k : ℕ} {ls rest : Lexemes} → Lexes (Lex text) s ls → Takes rule (rule (at ArrayTarget f)) end (tree a bs end) s ls end k rest → IsTrue (seen assigns_next (here rest)) → (us : Slots) × There a bs us vs ls k rest
+  there : {a : Label} {bs vs : Slots} {k : ℕ} {ls rest : Lexemes} → Lexes (Lex text) s ls → Takes rule (rule (at (target_name o) f)) end (tree a bs end) s ls end k rest → IsTrue (seen assigns_next (here rest)) → (us : Slots) × There a bs us vs ls k rest
   there {a} {bs} {vs} {k} {ls} {rest} m d q =
-      let x = sourced text f w k {ks = end} {us = vs} (unbraced m d q) (omega arith) d in
-      let y = z.goes.only (tree x.label x.slots vs) vs k ls rest m x.takes (sign_admitted f x.label x.slots vs (here rest) x.array q) in
+      let x = sourced text f w v o {ks = end} {us = vs} m d in
+      let y = z.goes.only (tree x.label x.slots vs) vs k ls rest m x.takes (sign_admitted o f x.label x.slots vs (here rest) x.kind q) in
       let e = ends y.4 in (
         y.0,
         record {
-          target = x.target ∙ ap (relabelled array_assignment_target) (label_is y.2);
-          covers = sym (ap elements_in (slots_are y.2)) ∙ x.covers;
-          opened = subst (λ (ds : Slots). Each (Narrow text) (places_in ds)) (slots_are y.2) x.opened;
+          target = x.target ∙ ap (relabelled (pattern_kind o)) (label_is y.2);
+          covers = sym (ap (elements_in (in_literal o)) (slots_are y.2)) ∙ x.covers;
+          opened = subst (λ (ds : Slots). Each (Narrow text) (places_in (in_literal o) ds)) (slots_are y.2) x.opened;
           behind = y.1;
           same = e.0;
           lexed = y.3;
@@ -117,34 +115,43 @@ module _ {text : List ℕ} {f : Flags} (w : f.wide ≡ false) (v : f.cover ≡ t
       )
 
   -- none stands there, where the literal is converted to none, or it is wider than one
-  pub no_target_there : (elements_in cs ≡ None) ⊎ (Each (Narrow text) (places_in cs) → ⊥) → Fails rule (Lex text) signs end (such (at ArrayTarget f) always) s
+  pub no_target_there : (elements_in (in_literal o) cs ≡ None) ⊎ (Each (Narrow text) (places_in (in_literal o) cs) → ⊥) → Fails rule (Lex text) signs end (such (at (target_name o) f) always) s
   no_target_there n = record { no = λ ts vs k ls rest m d q. go ts vs k ls rest m d q }
     where
-      by : {a : Label} {bs us vs : Slots} {ls : Lexemes} {k : ℕ} {rest : Lexemes} → There a bs us vs ls k rest → (elements_in cs ≡ None) ⊎ (Each (Narrow text) (places_in cs) → ⊥) → ⊥
+      by : {a : Label} {bs us vs : Slots} {ls : Lexemes} {k : ℕ} {rest : Lexemes} → There a bs us vs ls k rest → (elements_in (in_literal o) cs ≡ None) ⊎ (Each (Narrow text) (places_in (in_literal o) cs) → ⊥) → ⊥
       by {bs = bs} x (inl e) = let c : None ≡ Some bs = sym e ∙ x.covers in cc
       by x (inr g) = g x.opened
 
-      go : (ts vs : Slots) (k : ℕ) (ls rest : Lexemes) → Lexes (Lex text) s ls → Takes rule (such (at ArrayTarget f) always) end ts s ls vs k rest → Admits signs ts (here rest) → ⊥
+      go : (ts vs : Slots) (k : ℕ) (ls rest : Lexemes) → Lexes (Lex text) s ls → Takes rule (such (at (target_name o) f) always) end ts s ls vs k rest → Admits signs ts (here rest) → ⊥
       go ts vs k ls rest m (is_such d c) q = by (there {vs = vs} m d q.0).1 n
 
-  -- nor is an object target
-  pub no_object_derived : {t : Tree} {k : ℕ} {ls : Lexemes} (y : Lexeme) → Lexes (Lex text) s ls → IsTrue (seen assigns_next y) → Takes rule (symbol ObjectTarget f) end (tree t.label t.slots end) s ls end k (last y) → ⊥
-  no_object_derived {k = k} {ls = ls} y m q (is_such d c) =
-      let x = object_up f w v d in
-      let g = z.goes.only (tree x.label x.slots end) end k ls (last y) m (before_others ((of_short f).up (by_primary x.derived))) (object_before_a_sign f x.label x.slots end x.object y q) in
-      false≢true (ap is_array (sym x.object) ∙ (ap (λ (n : Label). is_array n.kind) (label_is g.2) ∙ h))
+  -- nor is a target of the other kind
+  pub no_other_there : Fails rule (Lex text) signs end (such (at (target_name (not o)) f) always) s
+  no_other_there = record { no = λ ts vs k ls rest m d q. go ts vs k ls rest m d q }
+    where
+      go : (ts vs : Slots) (k : ℕ) (ls rest : Lexemes) → Lexes (Lex text) s ls → Takes rule (such (at (target_name (not o)) f) always) end ts s ls vs k rest → Admits signs ts (here rest) → ⊥
+      go ts vs k ls rest m (is_such d c) q =
+          let x = sourced text f w v (not o) {ks = end} {us = vs} m d in
+          let y = z.goes.only (tree x.label x.slots vs) vs k ls rest m x.takes (sign_admitted (not o) f x.label x.slots vs (here rest) x.kind q.0) in
+          other_kind o (sym x.kind ∙ (ap (λ (n : Label). n.kind) (label_is y.2) ∙ h))
 
-  -- where it is converted to none, none is derived
-  pub no_array_derived : elements_in cs ≡ None → {ts : Slots} {k : ℕ} {ls : Lexemes} (y : Lexeme) → Lexes (Lex text) s ls → IsTrue (seen assigns_next y) → Takes rule (symbol ArrayTarget f) end ts s ls end k (last y) → ⊥
-  no_array_derived n {ts} {k} {ls} y m q d = (no_target_there (inl n)).no ts end k ls (last y) m d (q, refl)
+  -- where it is converted to none, none is derived, of whichever kind
+  pub none_derived : elements_in (in_literal o) cs ≡ None → {ts : Slots} {k : ℕ} {ls : Lexemes} (b : Bool) (y : Lexeme) → Lexes (Lex text) s ls → IsTrue (seen assigns_next y) → Takes rule (symbol (target_name b) f) end ts s ls end k (last y) → ⊥
+  none_derived n {ts} {k} {ls} b y m q d = by o b no_other_there (no_target_there (inl n)) d
+    where
+      by : (o b : Bool) → Fails rule (Lex text) signs end (such (at (target_name (not o)) f) always) s → Fails rule (Lex text) signs end (such (at (target_name o) f) always) s → Takes rule (symbol (target_name b) f) end ts s ls end k (last y) → ⊥
+      by false false e g d = g.no ts end k ls (last y) m d (q, refl)
+      by false true e g d = e.no ts end k ls (last y) m d (q, refl)
+      by true false e g d = e.no ts end k ls (last y) m d (q, refl)
+      by true true e g d = g.no ts end k ls (last y) m d (q, refl)
 
   -- the target that it is converted to
-  module _ (ds : Slots) (e : elements_in cs ≡ Some ds) (u : IsUtf8 text) (r : Reached text s) (b : IsCharBoundary text s) where
-    targeted : {ls rest : Lexemes} {j : ℕ} → Lexes (Lex text) s ls → Takes rule (rule (at Short f)) end (tree l cs end) s ls end j rest → Targeted text f l cs ds s ls j rest
-    targeted m d = literal_target text ds h e u r b m ((of_short f).down (may_array l.kind h) (is_such d refl))
+  module _ (ds : Slots) (e : elements_in (in_literal o) cs ≡ Some ds) (u : IsUtf8 text) (r : Reached text s) (b : IsCharBoundary text s) where
+    targeted : {ls rest : Lexemes} {j : ℕ} → Lexes (Lex text) s ls → Takes rule (rule (at Short f)) end (tree l cs end) s ls end j rest → Targeted text o f l cs ds s ls j rest
+    targeted m d = literal_target text o ds h e u r b m ((of_short f).down (may_literal l.kind (is_literal_kind o l.kind h)) (is_such d refl))
 
-    pub target_there : Each (Narrow text) (places_in cs) → Stretch text signs (such (at ArrayTarget f) always) s nothing s' (tree (relabelled array_assignment_target l) ds) pass
-    target_there o = record {
+    pub target_there : Each (Narrow text) (places_in (in_literal o) cs) → Stretch text signs (such (at (target_name o) f) always) s nothing s' (tree (relabelled (pattern_kind o) l) ds) pass
+    target_there n = record {
       reach = z.reach;
       near = z.near;
       goes = record {
@@ -154,10 +161,10 @@ module _ {text : List ℕ} {f : Flags} (w : f.wide ≡ false) (v : f.cover ≡ t
       };
     }
       where
-        sound : {us vs : Slots} {k : ℕ} {ls rest : Lexemes} → Lexes (Lex text) s ls → Takes rule (such (at Short f) always) end (tree l cs us) s ls vs k rest → Takes rule (such (at ArrayTarget f) always) end (tree (relabelled array_assignment_target l) ds us) s ls vs k rest
-        sound m (is_such d c) = anew ((targeted m d).takes (inr o))
+        sound : {us vs : Slots} {k : ℕ} {ls rest : Lexemes} → Lexes (Lex text) s ls → Takes rule (such (at Short f) always) end (tree l cs us) s ls vs k rest → Takes rule (such (at (target_name o) f) always) end (tree (relabelled (pattern_kind o) l) ds us) s ls vs k rest
+        sound m (is_such d c) = anew ((targeted m d).takes (inr n))
 
-        only : (ts vs : Slots) (k : ℕ) (ls rest : Lexemes) → Lexes (Lex text) s ls → Takes rule (such (at ArrayTarget f) always) end ts s ls vs k rest → Admits signs ts (here rest) → (us : Slots) × (ls' : Lexemes) × (ts ≡ tree (relabelled array_assignment_target l) ds us) × Lexes (Lex text) s' ls' × Takes rule nothing end us s' ls' vs k rest × (ls ≡ pass ls')
+        only : (ts vs : Slots) (k : ℕ) (ls rest : Lexemes) → Lexes (Lex text) s ls → Takes rule (such (at (target_name o) f) always) end ts s ls vs k rest → Admits signs ts (here rest) → (us : Slots) × (ls' : Lexemes) × (ts ≡ tree (relabelled (pattern_kind o) l) ds us) × Lexes (Lex text) s' ls' × Takes rule nothing end us s' ls' vs k rest × (ls ≡ pass ls')
         only ts vs k ls rest m (is_such {l = a} {cs = bs} d c) q =
             let y = there {vs = vs} m d q.0 in
             let x = y.1 in
@@ -165,34 +172,34 @@ module _ {text : List ℕ} {f : Flags} (w : f.wide ≡ false) (v : f.cover ≡ t
             (y.0, x.behind, (λ i. tree (x.target i) (v i) (sym x.same i)), x.lexed, x.takes, x.list)
 
     -- what stands behind each of its rests
-    pub ended_there : (y : Lexeme) → Lex text s' y → Each (Fits text) (places_in cs)
+    pub ended_there : (y : Lexeme) → Lex text s' y → Each (Fits text) (places_in (in_literal o) cs)
     ended_there y n = by (z.goes.passes.lexed (last y) n) (z.goes.sound end end s' (last y) (last y) n (inl z.near) is_nothing)
       where
-        by : {ls rest : Lexemes} {j : ℕ} → Lexes (Lex text) s ls → Takes rule (such (at Short f) always) end (tree l cs end) s ls end j rest → Each (Fits text) (places_in cs)
+        by : {ls rest : Lexemes} {j : ℕ} → Lexes (Lex text) s ls → Takes rule (such (at Short f) always) end (tree l cs end) s ls end j rest → Each (Fits text) (places_in (in_literal o) cs)
         by m (is_such d c) = (targeted m d).ended
 
   -- it is derived in its wider form, whatever it has at its places
-  pub loose_there : (ds : Slots) → elements_in cs ≡ Some ds → IsUtf8 text → Reached text s → IsCharBoundary text s → (y : Lexeme) → Lex text s' y → Derives rule (at ArrayTarget (loose f)) (record { label = relabelled array_assignment_target l; slots = ds }) s (pass (last y)) s' (last y)
+  pub loose_there : (ds : Slots) → elements_in (in_literal o) cs ≡ Some ds → IsUtf8 text → Reached text s → IsCharBoundary text s → (y : Lexeme) → Lex text s' y → Derives rule (at (target_name o) (loose f)) (record { label = relabelled (pattern_kind o) l; slots = ds }) s (pass (last y)) s' (last y)
   loose_there ds e u r b y n = by (z.goes.passes.lexed (last y) n) (z.goes.sound end end s' (last y) (last y) n (inl z.near) is_nothing)
     where
       within : {m : Symbol} {t : Label} {ts : Slots} {ls rest : Lexemes} {j : ℕ} → Takes rule (such m always) end (tree t ts end) s ls end j rest → Takes rule (rule m) end (tree t ts end) s ls end j rest
       within (is_such d c) = d
 
-      by : {ls rest : Lexemes} {j : ℕ} → Lexes (Lex text) s ls → Takes rule (such (at Short f) always) end (tree l cs end) s ls end j rest → Derives rule (at ArrayTarget (loose f)) (record { label = relabelled array_assignment_target l; slots = ds }) s ls j rest
+      by : {ls rest : Lexemes} {j : ℕ} → Lexes (Lex text) s ls → Takes rule (such (at Short f) always) end (tree l cs end) s ls end j rest → Derives rule (at (target_name o) (loose f)) (record { label = relabelled (pattern_kind o) l; slots = ds }) s ls j rest
       by m (is_such d c) =
-          let k = strict_is_loose (at LeftHandSide f) (record { label = l; slots = cs }) (within ((of_short f).down (may_array l.kind h) (is_such d refl))) in
-          within ((literal_target text ds h e u r b m (is_such k refl)).takes (inl refl))
+          let k = strict_is_loose (at LeftHandSide f) (record { label = l; slots = cs }) (within ((of_short f).down (may_literal l.kind (is_literal_kind o l.kind h)) (is_such d refl))) in
+          within ((literal_target text o ds h e u r b m (is_such k refl)).takes (inl refl))
 
   -- what stands at its spreads and its assignments
-  pub spots_there : IsUtf8 text → Reached text s → IsCharBoundary text s → (y : Lexeme) → Lex text s' y → Each (Spotted text) (places_in cs)
+  pub spots_there : IsUtf8 text → Reached text s → IsCharBoundary text s → (y : Lexeme) → Lex text s' y → Each (Spotted text) (places_in (in_literal o) cs)
   spots_there u r b y n = by (z.goes.passes.lexed (last y) n) (z.goes.sound end end s' (last y) (last y) n (inl z.near) is_nothing)
     where
-      by : {ls rest : Lexemes} {j : ℕ} → Lexes (Lex text) s ls → Takes rule (such (at Short f) always) end (tree l cs end) s ls end j rest → Each (Spotted text) (places_in cs)
-      by m (is_such d c) = literal_spots text u h r b m ((of_short f).down (may_array l.kind h) (is_such d refl))
+      by : {ls rest : Lexemes} {j : ℕ} → Lexes (Lex text) s ls → Takes rule (such (at Short f) always) end (tree l cs end) s ls end j rest → Each (Spotted text) (places_in (in_literal o) cs)
+      by m (is_such d c) = literal_spots text u o h r b m ((of_short f).down (may_literal l.kind (is_literal_kind o l.kind h)) (is_such d refl))
 
 -- nothing was read there
-pub no_target_unread : {text : List ℕ} {f : Flags} → f.wide ≡ false → f.cover ≡ true → {s : ℕ} → Underived text (at Short f) s → Fails rule (Lex text) signs end (such (at ArrayTarget f) always) s
-no_target_unread {text} {f} w v {s} n = record { no = λ ts vs k ls rest m d q. go ts vs k ls rest m d q }
+pub no_target_unread : {text : List ℕ} {f : Flags} (o : Bool) → f.wide ≡ false → f.cover ≡ true → {s : ℕ} → Underived text (at Short f) s → Fails rule (Lex text) signs end (such (at (target_name o) f) always) s
+no_target_unread {text} {f} o w v {s} n = record { no = λ ts vs k ls rest m d q. go ts vs k ls rest m d q }
   where
-    go : (ts vs : Slots) (k : ℕ) (ls rest : Lexemes) → Lexes (Lex text) s ls → Takes rule (such (at ArrayTarget f) always) end ts s ls vs k rest → Admits signs ts (here rest) → ⊥
-    go ts vs k ls rest m (is_such d c) q = let x = literal w v {ks = end} {us = vs} {vs = vs} (is_such d c) in n.no (tree x.label x.slots vs) vs k ls rest m x.takes (sign_admitted f x.label x.slots vs (here rest) x.array q.0)
+    go : (ts vs : Slots) (k : ℕ) (ls rest : Lexemes) → Lexes (Lex text) s ls → Takes rule (such (at (target_name o) f) always) end ts s ls vs k rest → Admits signs ts (here rest) → ⊥
+    go ts vs k ls rest m (is_such d c) q = let x = sourced text f w v o {ks = end} {us = vs} m d in n.no (tree x.label x.slots vs) vs k ls rest m x.takes (sign_admitted o f x.label x.slots vs (here rest) x.kind q.0)

@@ -9,6 +9,8 @@ pub mod Covers
 pub mod Edges
 pub mod LiteralsAsTargets
 pub mod PlacesTold
+pub mod Properties
+pub mod PropertyNodes
 pub mod Refused
 pub mod ReusedNodes
 pub mod Spots

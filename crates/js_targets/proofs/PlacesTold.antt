@@ -3,9 +3,9 @@ use Rattle.std.proofs.Common.{ℕ, ◌≡◌, ◌≤◌, ◌+◌, ◌⊎◌, inl
 use Rattle.std.specs.Prelude.{IsCharBoundary, IsUtf8, slice_get, Some}
 use Rattle.std.proofs.Math.Seq.{drop-cons}
 use Rattle.std.proofs.lemmas.Option.{slice_get_within, get_or_from_slice_get}
-use Rattle.std.proofs.lemmas.Bool.{and_from}
+use Rattle.std.proofs.lemmas.Bool.{false≢true, and_from, or_right}
 use Rattle.js_base.specs.declared.diagnostic.Diagnostic.{Diagnostic}
-use Rattle.js_base.specs.declared.diagnostic.DiagnosticKind.TheVariants.{RestElementTrailingComma, InvalidAssignmentTargetDefaultValueOperator, SpreadLastElement}
+use Rattle.js_base.specs.declared.diagnostic.DiagnosticKind.TheVariants.{RestElementTrailingComma, InvalidAssignmentTargetDefaultValueOperator, InvalidRestAssignmentTarget, SpreadLastElement}
 use Rattle.js_base.specs.declared.kind.Kind.{Kind}
 use Rattle.js_base.specs.declared.kind.Kind.TheVariants.{Comma, Dot3, RBrack, RParen, RCurly, RAngle, Undetermined, PrivateIdentifier}
 use Rattle.js_base.specs.declared.span.Span.{Span}
@@ -30,7 +30,7 @@ use Rattle.js_parsing.specs.Classes.{IsEarly}
 use Rattle.js_targets.specs.Taken.{PlaceTold, PlacesTold, TellsOf}
 use Rattle.js_parsing.specs.States.{At, Same}
 use Rattle.js_targets.specs.declared.widening.Widening.{Widening}
-use Rattle.js_targets.specs.declared.widening.Widening.TheVariants.{Rest, Operator}
+use Rattle.js_targets.specs.declared.widening.Widening.TheVariants.{Rest, RestTarget, Operator}
 use Rattle.js_targets.specs.Targets.{Each, Open, Closed, Followed, Ended, Narrow, Fits, Spanned, Spotted}
 use Rattle.js_parsing.proofs.Giving.{kept_one}
 use Rattle.js_parsing.proofs.Here.{alike, plainly, one_plain}
@@ -44,6 +44,7 @@ use Rattle.js_parsing.proofs.Verdicts.{grown_both, grown_then}
 -- it is told of by an early diagnostic
 told_early : (w : Widening) (d : Diagnostic) → TellsOf w d → IsEarly d
 told_early (Rest s) d e = ap class_of e
+told_early (RestTarget s) d e = ap (λ (x : Diagnostic). class_of x.kind) e
 told_early (Operator s) d e = ap (λ (x : Diagnostic). class_of x.kind) e
 
 -- ---- the token behind a place
@@ -98,7 +99,7 @@ module _ {text : List ℕ} {e : ℕ} {t : Token} (g : GivesBehind text e t) wher
   not_open k o = let c = comma_there k in o c.comma c.stands c.is
 
   followed_there : (c : CommaThere text e t) → Closed text e ⊎ Followed text e → Closed text c.comma.to
-  followed_there c (inl z) = absurd (let w : Comma ≡ RBrack = sym c.is ∙ (ap (λ (y : Lexeme). y.kind) (alike c.stands z.stands) ∙ z.is) in cc)
+  followed_there c (inl z) = absurd (false≢true (ap (one_of_kinds (RBrack ∷ RCurly ∷ [])) (sym c.is ∙ ap (λ (y : Lexeme). y.kind) (alike c.stands z.stands)) ∙ z.is))
   followed_there c (inr z) = subst (λ (y : Lexeme). Closed text y.to) (alike z.stands c.stands) z.behind
 
   pub comma_marked : (source : Goal) (s : Span) → IsUtf8 text → Ended text e → t.kind ≡ Comma → s ≡ t.span → Mark source text (record { kind = RestElementTrailingComma; span = s; first = None; second = None })
@@ -121,7 +122,7 @@ module _ {text : List ℕ} {e : ℕ} {t : Token} (g : GivesBehind text e t) wher
             second = z.bracket;
             part = record { reached = h.reached; lexed = (c.stands.0, z.stands.0) };
             is = (sym start, sym ends);
-            passes = and_from (same_kind Comma c.comma.kind) _ (subst (λ (v : Kind). same_kind Comma v ≡ true) (sym c.is) refl) (subst (λ (v : Kind). one_of_kinds closers v ≡ true) (sym z.is) refl);
+            passes = and_from (same_kind Comma c.comma.kind) _ (subst (λ (v : Kind). same_kind Comma v ≡ true) (sym c.is) refl) (or_right (same_kind RParen z.bracket.kind) _ z.is);
           },
           (refl, refl),
         );
@@ -132,6 +133,15 @@ module _ {text : List ℕ} {e : ℕ} {t : Token} (g : GivesBehind text e t) wher
 -- the edges of a span are those of lexemes
 pub operator_marked : {text : List ℕ} (source : Goal) (s : Span) → Spanned text s → Mark source text (unrelated_at InvalidAssignmentTargetDefaultValueOperator s)
 operator_marked source s x = record {
+  ordered = x.ordered;
+  within = x.ends_between.0;
+  begins_between = x.begins_between;
+  ends_between = x.ends_between;
+  stands = ((the_start (a_lexeme x.reached x.stands.0) x.begins, the_end (a_lexeme x.reached_behind x.stands_behind.0) x.ends), (refl, refl));
+}
+
+pub argument_marked : {text : List ℕ} (source : Goal) (s : Span) → Spanned text s → Mark source text (unrelated_at InvalidRestAssignmentTarget s)
+argument_marked source s x = record {
   ordered = x.ordered;
   within = x.ends_between.0;
   begins_between = x.begins_between;

@@ -15,10 +15,10 @@ use Rattle.js_targets.specs.Targets.{target_of}
 use Rattle.js_parsing.proofs.Giving.{gives_up}
 use Rattle.js_parsing.proofs.Moving.{stops_behind}
 use Rattle.js_parsing.proofs.Verdicts.{after as grown_behind}
-use Rattle.js_grammar.specs.Trees.{NodeKind, Op, Label, Slots, end, tree, Tree, array_expression}
+use Rattle.js_grammar.specs.Trees.{NodeKind, Op, Label, Slots, end, tree, Tree, array_expression, object_expression}
 use Rattle.js_grammar.specs.Grammar.{Takes, is_such}
 use Rattle.js_grammar.specs.Table.{rule}
-use Rattle.js_targets.specs.Targets.{is_array}
+use Rattle.js_targets.specs.Targets.{is_array, is_literal}
 use Rattle.js_grammar.specs.Grammar.{Derives, is_left, is_right}
 use Rattle.js_grammar.specs.Productions.{SimpleTarget, ArrayTarget, ObjectTarget, Target}
 use Rattle.js_grammar.specs.Productions.{sym as symbol}
@@ -36,12 +36,13 @@ array_is array_expression h = refl
 array_is _ h = absurd (false≢true h)
 
 -- it is no simple target
-no_target_kind : (k : NodeKind) (o : Op) (fl : ℕ) (p : _) (cs : Slots) → is_array k ≡ true → target_of (record { kind = k; op = o; flags = fl; span = p }) cs ≡ None
+no_target_kind : (k : NodeKind) (o : Op) (fl : ℕ) (p : _) (cs : Slots) → is_literal k ≡ true → target_of (record { kind = k; op = o; flags = fl; span = p }) cs ≡ None
 no_target_kind array_expression o fl p cs h = refl
+no_target_kind object_expression o fl p cs h = refl
 no_target_kind _ o fl p cs h = absurd (false≢true h)
 
-pub array_no_target : (l : Label) (cs : Slots) → is_array l.kind ≡ true → target_of l cs ≡ None
-array_no_target l cs h = no_target_kind l.kind l.op l.flags l.span cs h
+pub literal_no_target : (l : Label) (cs : Slots) → is_literal l.kind ≡ true → target_of l cs ≡ None
+literal_no_target l cs h = no_target_kind l.kind l.op l.flags l.span cs h
 
 pub no_target : (f : Flags) {i j : ℕ} {ls rest : Lexemes} → ((t : Tree) → Takes rule (symbol ObjectTarget f) end (tree t.label t.slots end) i ls end j rest → ⊥) → ((t : Tree) → Derives rule (at SimpleTarget f) t i ls j rest → ⊥) → ((t : Tree) → Takes rule (symbol ArrayTarget f) end (tree t.label t.slots end) i ls end j rest → ⊥) → (t : Tree) → Derives rule (at Target f) t i ls j rest → ⊥
 unfolding rule rule_of

@@ -1,7 +1,7 @@
 -- A simple target is a left-hand side whose tree, with its outer parentheses taken off, is the target's (ECMA-262, 8.6.4).
 use Rattle.std.proofs.Common.{ℕ, ◌≡◌, Bool, true, false, not, cond, ◌&&◌, ◌||◌, IsTrue, Option, Some, None, refl, ap, sym, subst, ◌∙◌}
 use Rattle.std.proofs.lemmas.Bool.{false≢true, and_parts}
-use Rattle.js_grammar.specs.Trees.{NodeKind, Op, Span, Label, Slots, end, hole, tree, Tree, function_expression, arrow_function_expression, array_expression}
+use Rattle.js_grammar.specs.Trees.{NodeKind, Op, Span, Label, Slots, end, hole, tree, Tree, function_expression, arrow_function_expression, array_expression, object_expression}
 use Rattle.js_base.specs.declared.kind.Kind.TheVariants.{LParen, RParen}
 use Rattle.js_grammar.specs.Grammar.{Lexeme, Lexemes, next, seen, is, nothing, never, lexeme, look, text, ahead, empty_slot, seq, alt, when, many, commas, such, marked, node, ended, keep, kept, Takes, is_nothing, is_lexeme, is_look, is_text, is_ahead, is_empty_slot, is_seq, is_left, is_right, is_when, is_many, is_commas, is_such, is_marked, is_node, is_ended, is_keep, is_kept}
 use Rattle.js_grammar.specs.Parsing.{always}
@@ -9,13 +9,13 @@ use Rattle.js_grammar.specs.Productions.{G, Flags, Name, Symbol, at, mk, parens,
 use Rattle.js_grammar.specs.Table.{rule, rule_of, member_access, call_access, paren_expression}
 use Rattle.js_grammar.proofs.Calculus.{slots_are}
 use Rattle.js_operands.specs.Arrays.{array_of}
-use Rattle.js_targets.specs.Targets.{is_parens, is_member, is_name, is_array, target_in, target_of}
+use Rattle.js_targets.specs.Targets.{is_parens, is_member, is_name, is_array, is_object, is_literal, literal_kind, target_in, target_of}
 use Rattle.js_parsing.proofs.FreeOfIn.{any_in}
 
 -- ---- what may be a target
 
 abbrev pub may_be : NodeKind → Bool
-may_be k = is_parens k || (is_name k || (is_member k || is_array k))
+may_be k = is_parens k || (is_name k || (is_member k || is_literal k))
 
 -- the kind of the first slot
 abbrev pub first_may_be : Slots → Bool
@@ -28,7 +28,6 @@ other_name Arrow' = true
 other_name Yield = true
 other_name Coalesce = true
 other_name Chain = true
-other_name Object = true
 other_name FuncExpr = true
 other_name ClassExpr = true
 other_name Template = true
@@ -49,7 +48,6 @@ other_at Arrow' f h = refl
 other_at Yield f h = refl
 other_at Coalesce f h = refl
 other_at Chain f h = refl
-other_at Object f h = refl
 other_at FuncExpr f h = refl
 other_at ClassExpr f h = refl
 other_at Template f h = refl
@@ -271,16 +269,17 @@ call_left f = refl
 abbrev pub array_line : Flags → G
 array_line f = mk array_expression (array_of f)
 
-primary_left : (f : Flags) → left_of (rule (at Primary f)) ≡ alt (such (at IdentifierReference f) always) (alt (array_line f) (paren_expression f))
+primary_left : (f : Flags) → left_of (rule (at Primary f)) ≡ alt (such (at IdentifierReference f) always) (alt (such (at Object f) always) (alt (array_line f) (paren_expression f)))
 unfolding rule rule_of
 primary_left f = refl
 
--- a name, a member, a member of a call, an array literal, or parentheses
+-- a name, a member, a member of a call, a literal, or parentheses
 pub data Shape (f : Flags) (l : Label) (cs : Slots) (i : ℕ) (ls : Lexemes) (j : ℕ) (rest : Lexemes) : Type 0 where
   a_name : Takes rule (such (at IdentifierReference f) always) end (tree l cs end) i ls end j rest → Shape f l cs i ls j rest
   a_member : Takes rule (member_access f) end (tree l cs end) i ls end j rest → Shape f l cs i ls j rest
   of_call : Takes rule (call_access f) end (tree l cs end) i ls end j rest → Shape f l cs i ls j rest
   in_brackets : Takes rule (array_line f) end (tree l cs end) i ls end j rest → Shape f l cs i ls j rest
+  in_braces : Takes rule (such (at Object f) always) end (tree l cs end) i ls end j rest → Shape f l cs i ls j rest
   in_parens : Takes rule (paren_expression f) end (tree l cs end) i ls end j rest → Shape f l cs i ls j rest
 
 module _ {l : Label} {cs : Slots} {i j : ℕ} {ls rest : Lexemes} (q : may_be l.kind ≡ true) where
@@ -288,10 +287,11 @@ module _ {l : Label} {cs : Slots} {i j : ℕ} {ls rest : Lexemes} (q : may_be l.
   kept_of n e (is_such d c) = subst (λ (h : G). Takes rule h end (tree l cs end) i ls end j rest) e (leaves q (rule n) d)
 
 module _ {f : Flags} {l : Label} {cs : Slots} {i j : ℕ} {ls rest : Lexemes} (q : may_be l.kind ≡ true) where
-  of_primary : Takes rule (alt (such (at IdentifierReference f) always) (alt (array_line f) (paren_expression f))) end (tree l cs end) i ls end j rest → Shape f l cs i ls j rest
+  of_primary : Takes rule (alt (such (at IdentifierReference f) always) (alt (such (at Object f) always) (alt (array_line f) (paren_expression f)))) end (tree l cs end) i ls end j rest → Shape f l cs i ls j rest
   of_primary (is_left d) = a_name d
-  of_primary (is_right (is_left d)) = in_brackets d
-  of_primary (is_right (is_right d)) = in_parens d
+  of_primary (is_right (is_left d)) = in_braces d
+  of_primary (is_right (is_right (is_left d))) = in_brackets d
+  of_primary (is_right (is_right (is_right d))) = in_parens d
 
   of_member : Takes rule (alt (such (at Primary f) always) (member_access f)) end (tree l cs end) i ls end j rest → Shape f l cs i ls j rest
   of_member (is_left d) = of_primary (kept_of q (at Primary f) (primary_left f) d)
@@ -350,6 +350,10 @@ called_of (is_right (is_right (is_node d))) = refl
 no_target_of : {f : Flags} {l : Label} {cs : Slots} {i j : ℕ} {ls rest : Lexemes} → Takes rule (array_line f) end (tree l cs end) i ls end j rest → target_of l cs ≡ None
 no_target_of (is_node d) = refl
 
+no_target_of_object : {f : Flags} {l : Label} {cs : Slots} {i j : ℕ} {ls rest : Lexemes} → Takes rule (such (at Object f) always) end (tree l cs end) i ls end j rest → target_of l cs ≡ None
+unfolding rule rule_of
+no_target_of_object (is_such (is_node d) c) = refl
+
 -- what stands in parentheses; its tree is marked, if it is a function
 record Inner (f : Flags) (l : Label) (cs : Slots) (i : ℕ) (ls : Lexemes) (j : ℕ) (rest : Lexemes) : Type 0 where
   label : Label
@@ -387,7 +391,7 @@ may false false false r a b t e = absurd (cc)
 
 -- what has a target may be one
 pub may_target : (l : Label) (cs : Slots) (t : Tree) → target_of l cs ≡ Some t → may_be l.kind ≡ true
-may_target l cs t e = may (is_parens l.kind) (is_name l.kind) (is_member l.kind) (is_array l.kind) (target_in cs) (alone l cs) t e
+may_target l cs t e = may (is_parens l.kind) (is_name l.kind) (is_member l.kind) (is_literal l.kind) (target_in cs) (alone l cs) t e
 
 module _ {f : Flags} {i j : ℕ} {ls rest : Lexemes} where
   as_name : {t : Tree} → Takes rule (such (at IdentifierReference f) always) end (tree t.label t.slots end) i ls end j rest → Takes rule (such (at SimpleTarget f) always) end (tree t.label t.slots end) i ls end j rest
@@ -439,6 +443,7 @@ module _ {f : Flags} {l : Label} {t : Tree} {i j : ℕ} {ls rest : Lexemes} wher
   by_shape ds r e (a_member d) = direct ds (member_of d) e (as_member {t = alone l ds} d)
   by_shape ds r e (of_call d) = direct ds (called_of d) e (as_call {t = alone l ds} d)
   by_shape ds r e (in_brackets d) = absurd (let z : None ≡ Some t = sym (no_target_of d) ∙ e in cc)
+  by_shape ds r e (in_braces d) = absurd (let z : None ≡ Some t = sym (no_target_of_object d) ∙ e in cc)
   by_shape ds r e (in_parens d) = within ds r (inner d) e
 
 -- A left-hand side that has a target is derived as this target.
@@ -472,40 +477,78 @@ target_left_hand_side t (is_right (is_left d)) = record { label = t.label; slots
 target_left_hand_side t (is_right (is_right (is_left d))) = record { label = t.label; slots = t.slots; has = called_of d; derived = by_call d }
 target_left_hand_side t (is_right (is_right (is_right (is_seq (is_lexeme p) (is_seq (is_such d c) (is_lexeme q)))))) = bracketed p q (target_left_hand_side t d)
 
--- ---- array literals
+-- ---- literals
 
-no_name_array : {f : Flags} {l : Label} {cs : Slots} {i j : ℕ} {ls rest : Lexemes} → is_array l.kind ≡ true → Takes rule (such (at IdentifierReference f) always) end (tree l cs end) i ls end j rest → ⊥
+no_name_literal : {f : Flags} {l : Label} {cs : Slots} {i j : ℕ} {ls rest : Lexemes} → is_literal l.kind ≡ true → Takes rule (such (at IdentifierReference f) always) end (tree l cs end) i ls end j rest → ⊥
 unfolding rule rule_of
-no_name_array h (is_such (is_node d) c) = false≢true h
+no_name_literal h (is_such (is_node d) c) = false≢true h
 
-no_member_array : {f : Flags} {l : Label} {cs : Slots} {i j : ℕ} {ls rest : Lexemes} → is_array l.kind ≡ true → Takes rule (member_access f) end (tree l cs end) i ls end j rest → ⊥
-no_member_array h (is_left (is_node d)) = false≢true h
-no_member_array h (is_right (is_left (is_node d))) = false≢true h
-no_member_array h (is_right (is_right (is_node d))) = false≢true h
+no_member_literal : {f : Flags} {l : Label} {cs : Slots} {i j : ℕ} {ls rest : Lexemes} → is_literal l.kind ≡ true → Takes rule (member_access f) end (tree l cs end) i ls end j rest → ⊥
+no_member_literal h (is_left (is_node d)) = false≢true h
+no_member_literal h (is_right (is_left (is_node d))) = false≢true h
+no_member_literal h (is_right (is_right (is_node d))) = false≢true h
 
-no_call_array : {f : Flags} {l : Label} {cs : Slots} {i j : ℕ} {ls rest : Lexemes} → is_array l.kind ≡ true → Takes rule (call_access f) end (tree l cs end) i ls end j rest → ⊥
-no_call_array h (is_left (is_node d)) = false≢true h
-no_call_array h (is_right (is_left (is_node d))) = false≢true h
-no_call_array h (is_right (is_right (is_node d))) = false≢true h
+no_call_literal : {f : Flags} {l : Label} {cs : Slots} {i j : ℕ} {ls rest : Lexemes} → is_literal l.kind ≡ true → Takes rule (call_access f) end (tree l cs end) i ls end j rest → ⊥
+no_call_literal h (is_left (is_node d)) = false≢true h
+no_call_literal h (is_right (is_left (is_node d))) = false≢true h
+no_call_literal h (is_right (is_right (is_node d))) = false≢true h
 
-no_parens_array : (f : Flags) {l : Label} {cs : Slots} {i j : ℕ} {ls rest : Lexemes} → is_array l.kind ≡ true → Takes rule (paren_expression f) end (tree l cs end) i ls end j rest → ⊥
-no_parens_array f h (is_node d) = false≢true h
+no_parens_literal : (f : Flags) {l : Label} {cs : Slots} {i j : ℕ} {ls rest : Lexemes} → is_literal l.kind ≡ true → Takes rule (paren_expression f) end (tree l cs end) i ls end j rest → ⊥
+no_parens_literal f h (is_node d) = false≢true h
+
+pub array_literal : (k : NodeKind) → is_array k ≡ true → is_literal k ≡ true
+array_literal array_expression h = refl
+array_literal _ h = absurd (false≢true h)
+
+pub is_literal_kind : (o : Bool) (k : NodeKind) → k ≡ literal_kind o → is_literal k ≡ true
+is_literal_kind false k h = ap is_literal h
+is_literal_kind true k h = ap is_literal h
+
+-- a literal is one of the two
+pub kind_of_literal : (k : NodeKind) → is_literal k ≡ true → k ≡ literal_kind (is_object k)
+kind_of_literal array_expression h = refl
+kind_of_literal object_expression h = refl
+kind_of_literal _ h = absurd (false≢true h)
+
+pub may_literal : (k : NodeKind) → is_literal k ≡ true → may_be k ≡ true
+may_literal array_expression h = refl
+may_literal object_expression h = refl
+may_literal _ h = absurd (false≢true h)
 
 pub may_array : (k : NodeKind) → is_array k ≡ true → may_be k ≡ true
-may_array array_expression h = refl
-may_array _ h = absurd (false≢true h)
+may_array k h = may_literal k (array_literal k h)
 
 pub by_brackets : {f : Flags} {l : Label} {cs : Slots} {i j : ℕ} {ls rest : Lexemes} → Takes rule (array_line f) end (tree l cs end) i ls end j rest → Takes rule (rule (at Primary f)) end (tree l cs end) i ls end j rest
 unfolding rule rule_of
 by_brackets d = is_right (is_right (is_right (is_right (is_right (is_right (is_right (is_right (is_right (is_right (is_right (is_left d)))))))))))
 
--- a left-hand side that is an array literal by its tree is one
-pub array_shape : {f : Flags} {l : Label} {cs : Slots} {i j : ℕ} {ls rest : Lexemes} → is_array l.kind ≡ true → Takes rule (such (at LeftHandSide f) always) end (tree l cs end) i ls end j rest → Takes rule (array_line f) end (tree l cs end) i ls end j rest
-array_shape {f} {l} {cs} {i} {j} {ls} {rest} h d = go (shape (may_array l.kind h) d)
+pub by_braces : (f : Flags) {l : Label} {cs : Slots} {i j : ℕ} {ls rest : Lexemes} → Takes rule (rule (at Object f)) end (tree l cs end) i ls end j rest → Takes rule (rule (at Primary f)) end (tree l cs end) i ls end j rest
+unfolding rule rule_of
+by_braces f d = is_right (is_right (is_right (is_right (is_right (is_right (is_left (is_such d refl)))))))
+
+-- a left-hand side that is a literal by its tree is one
+pub data Literal (f : Flags) (l : Label) (cs : Slots) (i : ℕ) (ls : Lexemes) (j : ℕ) (rest : Lexemes) : Type 0 where
+  of_array : Takes rule (array_line f) end (tree l cs end) i ls end j rest → Literal f l cs i ls j rest
+  of_object : Takes rule (rule (at Object f)) end (tree l cs end) i ls end j rest → Literal f l cs i ls j rest
+
+pub literal_shape : {f : Flags} {l : Label} {cs : Slots} {i j : ℕ} {ls rest : Lexemes} → is_literal l.kind ≡ true → Takes rule (such (at LeftHandSide f) always) end (tree l cs end) i ls end j rest → Literal f l cs i ls j rest
+literal_shape {f} {l} {cs} {i} {j} {ls} {rest} h d = go (shape (may_literal l.kind h) d)
   where
-    go : Shape f l cs i ls j rest → Takes rule (array_line f) end (tree l cs end) i ls end j rest
-    go (a_name d) = absurd (no_name_array h d)
-    go (a_member d) = absurd (no_member_array h d)
-    go (of_call d) = absurd (no_call_array h d)
-    go (in_brackets d) = d
-    go (in_parens d) = absurd (no_parens_array f h d)
+    go : Shape f l cs i ls j rest → Literal f l cs i ls j rest
+    go (a_name d) = absurd (no_name_literal h d)
+    go (a_member d) = absurd (no_member_literal h d)
+    go (of_call d) = absurd (no_call_literal h d)
+    go (in_brackets d) = of_array d
+    go (in_braces (is_such d c)) = of_object d
+    go (in_parens d) = absurd (no_parens_literal f h d)
+
+no_object_array : (f : Flags) {l : Label} {cs : Slots} {i j : ℕ} {ls rest : Lexemes} → is_array l.kind ≡ true → Takes rule (rule (at Object f)) end (tree l cs end) i ls end j rest → ⊥
+unfolding rule rule_of
+no_object_array f h (is_node d) = false≢true h
+
+pub array_shape : {f : Flags} {l : Label} {cs : Slots} {i j : ℕ} {ls rest : Lexemes} → is_array l.kind ≡ true → Takes rule (such (at LeftHandSide f) always) end (tree l cs end) i ls end j rest → Takes rule (array_line f) end (tree l cs end) i ls end j rest
+array_shape {f} {l} {cs} {i} {j} {ls} {rest} h d = go (literal_shape (array_literal l.kind h) d)
+  where
+    go : Literal f l cs i ls j rest → Takes rule (array_line f) end (tree l cs end) i ls end j rest
+    go (of_array d) = d
+    go (of_object d) = absurd (no_object_array f h d)

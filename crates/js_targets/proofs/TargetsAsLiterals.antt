@@ -1,30 +1,30 @@
--- An array target is derived as an array literal whose elements are those of the target, over the same lexemes, and no comma stands behind a rest of it (ECMA-262, 13.15.5).
-use Rattle.std.proofs.Common.{ℕ, ◌≡◌, ◌≤◌, ◌<◌, arith, Bool, true, false, not, cond, ◌&&◌, ◌||◌, IsTrue, List, [], ◌∷◌, ◌++◌, Option, Some, None, refl, sym, ap, subst, ◌∙◌}
+-- A target is derived as a literal whose elements are those of the target, over the same lexemes, and nowhere is this literal wider than a target (ECMA-262, 13.15.5).
+use Rattle.std.proofs.Common.{ℕ, zero, suc, ◌<◌, arith, ◌≡◌, Bool, true, false, not, cond, ◌&&◌, ◌||◌, IsTrue, List, [], ◌∷◌, ◌++◌, Option, Some, None, refl, sym, ap, subst, ◌∙◌}
 use Rattle.std.proofs.lemmas.Bool.{false≢true, and_parts, or_left, or_right}
 use Rattle.js_base.specs.declared.kind.Kind.{Kind}
-use Rattle.js_base.specs.declared.kind.Kind.TheVariants.{Eq, Eof, Comma, Dot3, LBrack, RBrack, LCurly, PlusEq, MinusEq, StarEq, SlashEq, PercentEq, ShiftLeftEq, ShiftRightEq, ShiftRight3Eq, PipeEq, CaretEq, AmpEq, Amp2Eq, Pipe2Eq, Question2Eq, Star2Eq}
-use Rattle.js_base.specs.Kinds.{same_kind}
+use Rattle.js_base.specs.declared.kind.Kind.TheVariants.{Eq, Await, Yield, Colon, Comma, Dot3, LBrack, RBrack, LCurly, RCurly, PlusEq, MinusEq, StarEq, SlashEq, PercentEq, ShiftLeftEq, ShiftRightEq, ShiftRight3Eq, PipeEq, CaretEq, AmpEq, Amp2Eq, Pipe2Eq, Question2Eq, Star2Eq}
+use Rattle.js_base.specs.Kinds.{same_kind, one_of_kinds}
 use Rattle.js_base.proofs.KindLemmas.{kind_of_same}
-use Rattle.js_grammar.specs.Trees.{NodeKind, Op, Span, Label, Slots, end, hole, tree, Tree, of, no_op, identifier_reference, static_member_expression, computed_member_expression, private_field_expression, parenthesized_expression, array_expression, assignment_expression, spread_element, array_assignment_target, assignment_target_rest, assignment_target_with_default}
-use Rattle.js_grammar.specs.Grammar.{Lexeme, Lexemes, last, next, here, seen, is, such, nothing, many, empty_slot, seq, ◌▸◌, ◌◇◌, Takes, is_nothing, is_lexeme, is_look, is_text, is_ahead, is_empty_slot, is_seq, is_left, is_right, is_when, is_many, is_commas, is_such, is_marked, is_node, is_ended, is_keep, is_kept}
+use Rattle.js_grammar.specs.Trees.{NodeKind, Op, Span, Label, Slots, end, hole, tree, Tree, of, no_op, init, identifier_reference, static_member_expression, computed_member_expression, private_field_expression, parenthesized_expression, array_expression, object_expression, assignment_expression, spread_element, array_assignment_target, object_assignment_target, assignment_target_rest, assignment_target_with_default, assignment_target_property_identifier, assignment_target_property_property}
+use Rattle.js_grammar.specs.Grammar.{Lexeme, Lexemes, last, next, here, seen, is, such, nothing, many, empty_slot, seq, ◌▸◌, ◌◇◌, Takes, is_nothing, is_lexeme, is_empty_slot, is_seq, is_left, is_right, is_when, is_many, is_commas, is_such, is_node, is_ahead}
 use Rattle.js_grammar.specs.Lexed.{Lexes}
 use Rattle.js_grammar.specs.Parsing.{always}
-use Rattle.js_grammar.specs.Productions.{G, Flags, Symbol, at, tok, mk, plus_in, Argument, Assignment, LeftHandSide, Primary, SimpleTarget, Target, ArrayTarget, ObjectTarget, TargetElement}
+use Rattle.js_grammar.specs.Productions.{G, Flags, Symbol, at, tok, mk, slot, plus_in, flag, computed_flag, shorthand_flag, Argument, Assignment, LeftHandSide, Primary, Object, Property, Init, IdentifierReference, SimpleTarget, Target, ArrayTarget, ObjectTarget, TargetElement, TargetProperty}
 use Rattle.js_grammar.specs.Productions.{sym as symbol}
-use Rattle.js_grammar.specs.Table.{rule, rule_of}
+use Rattle.js_grammar.specs.Table.{rule, rule_of, name}
 use Rattle.js_grammar.proofs.Behind.{lexed_behind}
 use Rattle.js_grammar.proofs.Calculus.{label_is, slots_are}
-use Rattle.js_cursor.proofs.Moving.{lexeme_some}
-use Rattle.js_parsing.specs.Lexemes.{Lex, Spot, Walked, nowhere, one_more, more_faults}
-use Rattle.js_parsing.proofs.Paths.{behind_walk}
+use Rattle.js_parsing.specs.Lexemes.{Lex}
 use Rattle.js_targets.specs.declared.widening.Widening.{Widening}
 use Rattle.js_targets.specs.declared.widening.Widening.TheVariants.{Rest}
-use Rattle.js_targets.specs.Targets.{Each, Closed, Shut, is_array, is_array_target, is_target, is_parens, target_in, target_of, relabelled, before_all, elements_in, places_of, places_in}
+use Rattle.js_targets.specs.Taken.{target_name}
+use Rattle.js_targets.specs.Targets.{Each, Closed, Shut, in_literal, in_property, within, is_array, is_object, is_literal, literal_kind, is_pattern, is_target, is_parens, target_in, target_of, relabelled, pattern_kind, before_all, before_value, followed, named_slot, elements_in, argument_places, places_of, places_in}
 use Rattle.js_targets.proofs.ArrayElements.{gap_label}
-use Rattle.js_targets.proofs.ArrayTargets.{target_step, target_last, literal_step, literal_last, no_other}
+use Rattle.js_targets.proofs.ArrayTargets.{target_step, target_last, literal_step, literal_last, no_other, target_property, last_property, properties, bound_word, deep}
 use Rattle.js_parsing.proofs.FreeOfIn.{any_in}
-use Rattle.js_targets.proofs.LiteralsAsTargets.{all_of, rest_before, array_before, simple_before, element_before}
-use Rattle.js_targets.proofs.Targets.{by_brackets, by_primary, of_assignment, target_left_hand_side}
+use Rattle.js_targets.proofs.LiteralsAsTargets.{all_of, rest_before, literal_before, simple_before, element_before}
+use Rattle.js_targets.proofs.Properties.{property_label, named}
+use Rattle.js_targets.proofs.Targets.{by_braces, by_brackets, by_primary, of_assignment, target_left_hand_side}
 
 kind_is : {k : Kind} (x : Lexeme) → IsTrue (seen (is k) x) → x.kind ≡ k
 kind_is {k} x q = sym (kind_of_same k x.kind (and_parts (same_kind k x.kind) _ q).0)
@@ -44,13 +44,22 @@ simple_element : (l : Label) (cs : Slots) (t : Tree) (own : Option Slots) (us : 
 simple_element l cs t own us e = simple_kind l.kind l.op l.flags l.span cs t own us e ∙ ap (λ (r : Option Tree). simple_before r us) e
 
 -- and is nowhere wide
-simple_places : (k : NodeKind) (o : Op) (fl : ℕ) (p : Span) (cs : Slots) (t : Tree) (rs : List Widening) → target_of (record { kind = k; op = o; flags = fl; span = p }) cs ≡ Some t → places_of (record { kind = k; op = o; flags = fl; span = p }) rs ≡ []
+simple_places : (k : NodeKind) (o : Op) (fl : ℕ) (p : Span) (cs : Slots) (t : Tree) (rs : List Widening) → target_of (record { kind = k; op = o; flags = fl; span = p }) cs ≡ Some t → places_of false (record { kind = k; op = o; flags = fl; span = p }) cs rs ≡ []
 simple_places identifier_reference o fl p cs t rs e = refl
 simple_places static_member_expression o fl p cs t rs e = refl
 simple_places computed_member_expression o fl p cs t rs e = refl
 simple_places private_field_expression o fl p cs t rs e = refl
 simple_places parenthesized_expression o fl p cs t rs e = refl
 simple_places _ o fl p cs t rs e = absurd (cc)
+
+-- nor a literal
+no_literal_kind : (k : NodeKind) (o : Op) (fl : ℕ) (p : Span) (cs : Slots) (t : Tree) → target_of (record { kind = k; op = o; flags = fl; span = p }) cs ≡ Some t → is_literal k ≡ false
+no_literal_kind array_expression o fl p cs t e = absurd (cc)
+no_literal_kind object_expression o fl p cs t e = absurd (cc)
+no_literal_kind _ o fl p cs t e = refl
+
+pub target_no_literal : (l : Label) (cs : Slots) (t : Tree) → target_of l cs ≡ Some t → is_literal l.kind ≡ false
+target_no_literal l cs t e = no_literal_kind l.kind l.op l.flags l.span cs t e
 
 target_label : (l : Label) (cs : Slots) (t : Tree) (a b : Bool) → is_parens l.kind ≡ a → is_target l.kind ≡ b → (target_in cs ≡ Some t → is_target t.label.kind ≡ true) → cond a (target_in cs) (cond b (Some (record { label = l; slots = cs })) None) ≡ Some t → is_target t.label.kind ≡ true
 target_label l cs t true b p q f e = f e
@@ -66,95 +75,46 @@ target_kind (tree l cs (tree m ds us)) t e = absurd (cc)
 
 -- ---- sources
 
--- a lexeme that is read, and before the place e no brace that opens
-abbrev pub Unbraced : List ℕ → ℕ → ℕ → Lexeme → Type 0
-Unbraced text e s y = Lex text s y × (s < e → same_kind LCurly y.kind ≡ false)
-
--- what is taken ends no further back than it begins
-lexeme_on : {text : List ℕ} {s e : ℕ} {y : Lexeme} → Unbraced text e s y → s ≤ y.to
-lexeme_on l = let a = l.0.0.from in let b = l.0.0.to in omega arith
-
--- from that place on nothing is asked
-pub unbraced_beyond : (text : List ℕ) (e s : ℕ) → e ≤ s → (ms : Lexemes) → Lexes (Lex text) s ms → Lexes (Unbraced text e) s ms
-unbraced_beyond text e s o (last y) l = (l, λ h. absurd (omega arith))
-unbraced_beyond text e s o (next y ms) l =
-    let x : Unbraced text e s y = (l.0, λ h. absurd (omega arith)) in
-    let u = lexeme_on x in
-    (x, unbraced_beyond text e y.to (omega arith) ms l.1)
-
--- no brace that opens was passed
-unbraced_along : {text : List ℕ} (e : ℕ) {s s' : Spot} {pass : Lexemes → Lexemes} → Walked text s s' pass → (ms : Lexemes) → Lexes (Unbraced text e) s'.place ms → Lexes (Lex text) s.place (pass ms) → Lexes (Unbraced text e) s.place (pass ms)
-unbraced_along e nowhere ms u l = u
-unbraced_along {text} e (one_more {x = x} w i) ms u l = unbraced_along e w (next x ms) (((behind_walk (Lex text) w (next x ms) l).0, λ h. i.no_brace), u) l
-unbraced_along e (more_faults w ds n) ms u l = unbraced_along e w ms u l
-
-pub walked_unbraced : {text : List ℕ} {s s' : Spot} {pass : Lexemes → Lexemes} → Walked text s s' pass → (ms : Lexemes) → Lexes (Lex text) s'.place ms → Lexes (Lex text) s.place (pass ms) → Lexes (Unbraced text s'.place) s.place (pass ms)
-walked_unbraced {text} {s' = s'} w ms b l = unbraced_along s'.place w ms (unbraced_beyond text s'.place s'.place (omega arith) ms b) l
-
--- a lexeme that isn't the end has bytes
-lexeme_wide : {text : List ℕ} {s e : ℕ} {y : Lexeme} → Unbraced text e s y → same_kind LCurly y.kind ≡ true → s < y.to
-lexeme_wide l k = let a = l.0.0.from in let b = lexeme_some l.0.0 (λ h. false≢true (ap (same_kind LCurly) (sym h) ∙ k)) in omega arith
-
-onward : (text : List ℕ) (e : ℕ) {g : G} {ks ts us : Slots} {i j : ℕ} {ls rest : Lexemes} → Takes rule g ks ts i ls us j rest → Lexes (Unbraced text e) i ls → i ≤ j
-onward text e is_nothing c = omega arith
-onward text e (is_lexeme q) c = lexeme_on c.0
-onward text e (is_look q) c = omega arith
-onward text e (is_text q) c = omega arith
-onward text e (is_ahead d) c = omega arith
-onward text e is_empty_slot c = omega arith
-onward text e (is_seq d b) c = let x = onward text e d c in let y = onward text e b (lexed_behind (Unbraced text e) d c) in omega arith
-onward text e (is_left d) c = onward text e d c
-onward text e (is_right d) c = onward text e d c
-onward text e (is_when q d) c = onward text e d c
-onward text e (is_many d) c = onward text e d c
-onward text e (is_commas d) c = onward text e d c
-onward text e (is_such d q) c = onward text e d c
-onward text e (is_marked d) c = onward text e d c
-onward text e (is_node d) c = onward text e d c
-onward text e (is_ended q d b) c = let x = onward text e d c in let y = onward text e b (lexed_behind (Unbraced text e) d c) in omega arith
-onward text e (is_keep d b) c = let x = onward text e d c in let y = onward text e b (lexed_behind (Unbraced text e) d c) in omega arith
-onward text e (is_kept q) c = omega arith
-
 module _ (text : List ℕ) where
-  -- An element of a literal, or what a symbol derives: as an element it is the first of these slots.
-  record Source (n : Symbol) (ts us : Slots) (i : ℕ) (ls : Lexemes) (j : ℕ) (rest : Lexemes) : Type 0 where
+  -- An element of a literal (with o: a property), or what a symbol derives: as an element it is the first of these slots.
+  record Source (o : Bool) (n : Symbol) (ts us : Slots) (i : ℕ) (ls : Lexemes) (j : ℕ) (rest : Lexemes) : Type 0 where
     label : Label
     slots : Slots
     target : Label
     inside : Slots
     is_tree : ts ≡ tree target inside us
     derived : Takes rule (rule n) end (tree label slots end) i ls end j rest
-    covers : (vs : Slots) → element_before label slots (elements_in slots) vs ≡ Some (tree target inside vs)
-    closed : Each (Shut text) (places_of label (places_in slots))
+    covers : (vs : Slots) → element_before label slots (elements_in (within label.kind) slots) vs ≡ Some (tree target inside vs)
+    closed : Each (Shut text) (places_of o label slots (places_in (within label.kind) slots))
 
   -- one whose target has no initialiser
   record Bare (f : Flags) (ts us : Slots) (i : ℕ) (ls : Lexemes) (j : ℕ) (rest : Lexemes) : Type 0 where
-    source : Source (at Assignment (plus_in f)) ts us i ls j rest
-    is_target' : (is_target (source.target).kind || is_array_target (source.target).kind) ≡ true
+    source : Source false (at Assignment (plus_in f)) ts us i ls j rest
+    is_target' : (is_target (source.target).kind || is_pattern (source.target).kind) ≡ true
 
   -- elements before others
   record Sources (a : G) (ts us : Slots) (i : ℕ) (ls : Lexemes) (j : ℕ) (rest : Lexemes) : Type 0 where
     trees : Slots → Slots
     derived : (vs : Slots) → Takes rule a end (trees vs) i ls vs j rest
-    covers : (vs : Slots) → elements_in vs ≡ Some us → elements_in (trees vs) ≡ Some ts
-    closed : (vs : Slots) → Each (Shut text) (places_in vs) → Each (Shut text) (places_in (trees vs))
+    covers : (vs : Slots) → elements_in (in_literal false) vs ≡ Some us → elements_in (in_literal false) (trees vs) ≡ Some ts
+    closed : (vs : Slots) → Each (Shut text) (places_in (in_literal false) vs) → Each (Shut text) (places_in (in_literal false) (trees vs))
 
-  -- the last of them
-  record Last (a : G) (ts : Slots) (i : ℕ) (ls : Lexemes) (j : ℕ) (rest : Lexemes) : Type 0 where
+  -- the last of them; with o properties
+  record Last (o : Bool) (a : G) (ts : Slots) (i : ℕ) (ls : Lexemes) (j : ℕ) (rest : Lexemes) : Type 0 where
     slots : Slots
     derived : Takes rule a end slots i ls end j rest
-    covers : elements_in slots ≡ Some ts
-    closed : Each (Shut text) (places_in slots)
+    covers : elements_in (in_literal o) slots ≡ Some ts
+    closed : Each (Shut text) (places_in (in_literal o) slots)
 
-  -- An array target, as a literal.
-  pub record Literal (f : Flags) (ts us : Slots) (i : ℕ) (ls : Lexemes) (j : ℕ) (rest : Lexemes) : Type 0 where
+  -- The target of an array, or with o of an object, as a literal.
+  pub record Literal (o : Bool) (f : Flags) (ts us : Slots) (i : ℕ) (ls : Lexemes) (j : ℕ) (rest : Lexemes) : Type 0 where
     pub label : Label
     pub slots : Slots
     pub inside : Slots
-    pub array : is_array label.kind ≡ true
-    pub is_tree : ts ≡ tree (relabelled array_assignment_target label) inside us
-    pub covers : elements_in slots ≡ Some inside
-    pub closed : Each (Shut text) (places_in slots)
+    pub kind : label.kind ≡ literal_kind o
+    pub is_tree : ts ≡ tree (relabelled (pattern_kind o) label) inside us
+    pub covers : elements_in (in_literal o) slots ≡ Some inside
+    pub closed : Each (Shut text) (places_in (in_literal o) slots)
     pub derived : Takes rule (rule (at Primary f)) end (tree label slots end) i ls end j rest
 
   of_such : {n : Symbol} {l : Label} {cs : Slots} {i j : ℕ} {ls rest : Lexemes} → Takes rule (such n always) end (tree l cs end) i ls end j rest → Takes rule (rule n) end (tree l cs end) i ls end j rest
@@ -166,7 +126,7 @@ module _ (text : List ℕ) where
   simple_bare : (f : Flags) (t : Tree) {us : Slots} {i j : ℕ} {ls rest : Lexemes} → Takes rule (rule (at SimpleTarget f)) end (tree t.label t.slots end) i ls end j rest → Bare f (tree t.label t.slots us) us i ls j rest
   simple_bare f t d =
       let x = target_left_hand_side t d in
-      let n = simple_places x.label.kind x.label.op x.label.flags x.label.span x.slots t (places_in x.slots) x.has in
+      let n = simple_places x.label.kind x.label.op x.label.flags x.label.span x.slots t (places_in (within x.label.kind) x.slots) x.has in
       record {
         source = record {
           label = x.label;
@@ -175,37 +135,41 @@ module _ (text : List ℕ) where
           inside = t.slots;
           is_tree = refl;
           derived = raised f x.derived;
-          covers = λ vs. simple_element x.label x.slots t (elements_in x.slots) vs x.has;
+          covers = λ vs. simple_element x.label x.slots t (elements_in (within x.label.kind) x.slots) vs x.has;
           closed = subst (λ (rs : List Widening). Each (Shut text) rs) (sym n) tt;
         };
         is_target' = or_left (is_target t.label.kind) _ (target_kind (tree x.label x.slots end) t x.has);
       }
 
   -- a literal as an element
-  array_kind : (k : NodeKind) (o : Op) (fl : ℕ) (p : Span) (cs : Slots) (own : Option Slots) (us : Slots) → is_array k ≡ true → element_before (record { kind = k; op = o; flags = fl; span = p }) cs own us ≡ array_before (record { kind = k; op = o; flags = fl; span = p }) own us
-  array_kind array_expression o fl p cs own us h = refl
-  array_kind _ o fl p cs own us h = absurd (false≢true h)
+  literal_element : (o : Bool) (k : NodeKind) (op : Op) (fl : ℕ) (p : Span) (cs ds us : Slots) → k ≡ literal_kind o → elements_in (in_literal o) cs ≡ Some ds → element_before (record { kind = k; op = op; flags = fl; span = p }) cs (elements_in (within k) cs) us ≡ Some (tree (relabelled (pattern_kind o) (record { kind = k; op = op; flags = fl; span = p })) ds us)
+  literal_element false k op fl p cs ds us h e = subst (λ (v : NodeKind). element_before (record { kind = v; op = op; flags = fl; span = p }) cs (elements_in (within v) cs) us ≡ Some (tree (record { kind = array_assignment_target; op = no_op; flags = 0; span = p }) ds us)) (sym h) (ap (λ (r : Option Slots). literal_before (record { kind = array_expression; op = op; flags = fl; span = p }) r us) e)
+  literal_element true k op fl p cs ds us h e = subst (λ (v : NodeKind). element_before (record { kind = v; op = op; flags = fl; span = p }) cs (elements_in (within v) cs) us ≡ Some (tree (record { kind = object_assignment_target; op = no_op; flags = 0; span = p }) ds us)) (sym h) (ap (λ (r : Option Slots). literal_before (record { kind = object_expression; op = op; flags = fl; span = p }) r us) e)
 
-  array_places : (k : NodeKind) (o : Op) (fl : ℕ) (p : Span) (rs : List Widening) → is_array k ≡ true → places_of (record { kind = k; op = o; flags = fl; span = p }) rs ≡ rs
-  array_places array_expression o fl p rs h = refl
-  array_places _ o fl p rs h = absurd (false≢true h)
+  literal_shut : (o : Bool) (l : Label) (cs : Slots) → l.kind ≡ literal_kind o → Each (Shut text) (places_in (in_literal o) cs) → Each (Shut text) (places_of false l cs (places_in (within l.kind) cs))
+  literal_shut false l cs h e = rw h e
+  literal_shut true l cs h e = rw h e
 
-  array_bare : (f : Flags) {ts us : Slots} {i j : ℕ} {ls rest : Lexemes} → Literal f ts us i ls j rest → Bare f ts us i ls j rest
-  array_bare f x = record {
+  pattern_kinds : (o : Bool) → is_pattern (pattern_kind o) ≡ true
+  pattern_kinds false = refl
+  pattern_kinds true = refl
+
+  literal_bare : (o : Bool) (f : Flags) {ts us : Slots} {i j : ℕ} {ls rest : Lexemes} → Literal o f ts us i ls j rest → Bare f ts us i ls j rest
+  literal_bare o f x = record {
     source = record {
       label = x.label;
       slots = x.slots;
-      target = relabelled array_assignment_target x.label;
+      target = relabelled (pattern_kind o) x.label;
       inside = x.inside;
       is_tree = x.is_tree;
       derived = raised f (by_primary x.derived);
-      covers = λ vs. array_kind x.label.kind x.label.op x.label.flags x.label.span x.slots (elements_in x.slots) vs x.array ∙ ap (λ (r : Option Slots). array_before x.label r vs) x.covers;
-      closed = subst (λ (rs : List Widening). Each (Shut text) rs) (sym (array_places x.label.kind x.label.op x.label.flags x.label.span (places_in x.slots) x.array)) x.closed;
+      covers = λ vs. literal_element o x.label.kind x.label.op x.label.flags x.label.span x.slots x.inside vs x.kind x.covers;
+      closed = literal_shut o x.label x.slots x.kind x.closed;
     };
-    is_target' = or_right (is_target array_assignment_target) _ refl;
+    is_target' = or_right (is_target (pattern_kind o)) _ (pattern_kinds o);
   }
 
-  as_argument : (f : Flags) {ts us : Slots} {i j : ℕ} {ls rest : Lexemes} → Source (at Assignment (plus_in f)) ts us i ls j rest → Source (at Argument f) ts us i ls j rest
+  as_argument : (f : Flags) {ts us : Slots} {i j : ℕ} {ls rest : Lexemes} → Source false (at Assignment (plus_in f)) ts us i ls j rest → Source false (at Argument f) ts us i ls j rest
   unfolding rule rule_of
   as_argument f x = record { label = x.label; slots = x.slots; target = x.target; inside = x.inside; is_tree = x.is_tree; derived = up x.derived; covers = x.covers; closed = x.closed }
     where
@@ -213,7 +177,7 @@ module _ (text : List ℕ) where
       up d = is_left (is_such d refl)
 
   -- a target and its initialiser
-  with_initialiser : (f : Flags) {cs us : Slots} {i j : ℕ} {ls rest : Lexemes} → Takes rule (symbol Target f ▸ tok Eq ▸ symbol Assignment (plus_in f)) end cs i ls end j rest → Source (at Assignment (plus_in f)) (tree (record { kind = assignment_target_with_default; op = no_op; flags = 0; span = record { from = (here ls).from; to = j } }) cs us) us i ls j rest
+  with_initialiser : (f : Flags) {cs us : Slots} {i j : ℕ} {ls rest : Lexemes} → Takes rule (symbol Target f ▸ tok Eq ▸ symbol Assignment (plus_in f)) end cs i ls end j rest → Source false (at Assignment (plus_in f)) (tree (record { kind = assignment_target_with_default; op = no_op; flags = 0; span = record { from = (here ls).from; to = j } }) cs us) us i ls j rest
   unfolding rule rule_of
   with_initialiser f {cs} {us} {i} {j} {ls} {rest} d = record {
     label = record { kind = assignment_expression; op = of Eq; flags = 0; span = record { from = (here ls).from; to = j } };
@@ -233,93 +197,189 @@ module _ (text : List ℕ) where
 
   -- ---- elements
 
-  before_by : (l : Label) (cs vs us ts : Slots) → elements_in vs ≡ Some us → element_before l cs (elements_in cs) us ≡ Some ts → elements_in (tree l cs vs) ≡ Some ts
-  before_by l cs vs us ts h e = ap (λ (r : Option Slots). before_all l cs (elements_in cs) r) h ∙ e
+  before_by : (o : Bool) (l : Label) (cs vs us ts : Slots) → elements_in (in_literal o) vs ≡ Some us → element_before l cs (elements_in (within l.kind) cs) us ≡ Some ts → elements_in (in_literal o) (tree l cs vs) ≡ Some ts
+  before_by o l cs vs us ts h e = ap (λ (r : Option Slots). before_all l cs (elements_in (within l.kind) cs) r) h ∙ e
 
   -- an element with its comma
-  source_item : {f : Flags} {ts us : Slots} {i j : ℕ} {x : Lexeme} {ls rest : Lexemes} → IsTrue (seen (is Comma) x) → Source (at Argument f) ts us i ls j (next x rest) → Sources (symbol Argument f ▸ tok Comma) ts us i ls x.to rest
+  source_item : {f : Flags} {ts us : Slots} {i j : ℕ} {x : Lexeme} {ls rest : Lexemes} → IsTrue (seen (is Comma) x) → Source false (at Argument f) ts us i ls j (next x rest) → Sources (symbol Argument f ▸ tok Comma) ts us i ls x.to rest
   source_item {us = us} q x = record {
     trees = λ vs. tree x.label x.slots vs;
     derived = λ vs. is_seq (is_such x.derived refl) (is_lexeme q);
-    covers = λ vs h. before_by x.label x.slots vs us _ h (x.covers us ∙ ap Some (sym x.is_tree));
-    closed = λ vs h. all_of (Shut text) (places_of x.label (places_in x.slots)) (places_in vs) x.closed h;
+    covers = λ vs h. before_by false x.label x.slots vs us _ h (x.covers us ∙ ap Some (sym x.is_tree));
+    closed = λ vs h. all_of (Shut text) (places_of false x.label x.slots (places_in (within x.label.kind) x.slots)) (places_in (in_literal false) vs) x.closed h;
   }
 
-  last_item : {f : Flags} {ts : Slots} {i j : ℕ} {ls rest : Lexemes} → Source (at Argument f) ts end i ls j rest → Last (literal_last f) ts i ls j rest
+  last_item : {f : Flags} {ts : Slots} {i j : ℕ} {ls rest : Lexemes} → Source false (at Argument f) ts end i ls j rest → Last false (literal_last f) ts i ls j rest
   last_item x = record {
     slots = tree x.label x.slots end;
     derived = is_left (is_such x.derived refl);
     covers = x.covers end ∙ ap Some (sym x.is_tree);
-    closed = all_of (Shut text) (places_of x.label (places_in x.slots)) [] x.closed tt;
+    closed = all_of (Shut text) (places_of false x.label x.slots (places_in (within x.label.kind) x.slots)) [] x.closed tt;
   }
 
-  -- a rest
-  spread_label : Lexeme → ℕ → Label
-  spread_label x j = record { kind = spread_element; op = no_op; flags = 0; span = record { from = x.from; to = j } }
-
-  rest_by : (l m : Label) (ds : Slots) → (is_target m.kind || is_array_target m.kind) ≡ true → rest_before l (Some (tree m ds end)) end ≡ Some (tree (relabelled assignment_target_rest l) (tree m ds end) end)
+  rest_by : (l m : Label) (ds : Slots) → (is_target m.kind || is_pattern m.kind) ≡ true → rest_before l (Some (tree m ds end)) end ≡ Some (tree (relabelled assignment_target_rest l) (tree m ds end) end)
   rest_by l m ds h = rw h refl
 
-  rest_last : {f : Flags} {ts : Slots} {i j : ℕ} {x : Lexeme} {ls rest : Lexemes} → IsTrue (seen (is Dot3) x) → Closed text j → Bare f ts end x.to ls j rest → Last (literal_last f) (tree (record { kind = assignment_target_rest; op = no_op; flags = 0; span = record { from = x.from; to = j } }) ts end) i (next x ls) j rest
+  -- a rest, as a spread
+  abbrev spread_at : Span → Label
+  spread_at p = record { kind = spread_element; op = no_op; flags = 0; span = p }
+
+  abbrev argument : {f : Flags} {ts us : Slots} {i j : ℕ} {ls rest : Lexemes} → Bare f ts us i ls j rest → Slots
+  argument b = tree (b.source).label (b.source).slots end
+
+  rest_covers : (o : Bool) (p : Span) {f : Flags} {ts : Slots} {i j : ℕ} {ls rest : Lexemes} (b : Bare f ts end i ls j rest) → elements_in (in_literal o) (tree (spread_at p) (argument b) end) ≡ Some (tree (relabelled assignment_target_rest (spread_at p)) ts end)
+  rest_covers o p b = let y = b.source in ap (λ (r : Option Slots). rest_before (spread_at p) r end) (y.covers end) ∙ (rest_by (spread_at p) y.target y.inside b.is_target' ∙ ap (λ (v : Slots). Some (tree (relabelled assignment_target_rest (spread_at p)) v end)) (sym y.is_tree))
+
+  rest_shut : (o : Bool) (p : Span) {f : Flags} {ts : Slots} {i j : ℕ} {ls rest : Lexemes} (b : Bare f ts end i ls j rest) → Closed text p.to → Each (Shut text) (argument_places o (argument b)) → Each (Shut text) (places_in (in_literal o) (tree (spread_at p) (argument b) end))
+  rest_shut o p b k h =
+      let y = b.source in
+      let ws = places_in (in_literal false) (argument b) in
+      let vs = argument_places o (argument b) in
+      let rs = Rest (record { start = p.from; end = p.to }) ∷ [] in
+      all_of (Shut text) (ws ++ (vs ++ rs)) [] (all_of (Shut text) ws (vs ++ rs) (all_of (Shut text) (places_of false y.label y.slots (places_in (within y.label.kind) y.slots)) [] y.closed tt) (all_of (Shut text) vs rs h (k, tt))) tt
+
+  rest_last : {f : Flags} {ts : Slots} {i j : ℕ} {x : Lexeme} {ls rest : Lexemes} → IsTrue (seen (is Dot3) x) → Closed text j → Bare f ts end x.to ls j rest → Last false (literal_last f) (tree (record { kind = assignment_target_rest; op = no_op; flags = 0; span = record { from = x.from; to = j } }) ts end) i (next x ls) j rest
   unfolding rule rule_of
-  rest_last {f} {ts} {i} {j} {x} {ls} {rest} q k b = record {
-    slots = tree (record { kind = spread_element; op = no_op; flags = 0; span = record { from = x.from; to = j } }) (tree y.label y.slots end) end;
-    derived = is_left (is_such (is_right (is_node (is_seq (is_lexeme q) (is_such y.derived refl)))) refl);
-    covers = ap (λ (r : Option Slots). rest_before l r end) (y.covers end) ∙ (rest_by l y.target y.inside b.is_target' ∙ ap (λ (v : Slots). Some (tree (relabelled assignment_target_rest l) v end)) (sym y.is_tree));
-    closed = all_of (Shut text) (places_in (tree y.label y.slots end) ++ Rest (record { start = x.from; end = j }) ∷ []) [] (all_of (Shut text) (places_in (tree y.label y.slots end)) (Rest (record { start = x.from; end = j }) ∷ []) (all_of (Shut text) (places_of y.label (places_in y.slots)) [] y.closed tt) (k, tt)) tt;
+  rest_last {j = j} {x} q k b = record {
+    slots = tree (record { kind = spread_element; op = no_op; flags = 0; span = record { from = x.from; to = j } }) (argument b) end;
+    derived = is_left (is_such (is_right (is_node (is_seq (is_lexeme q) (is_such (b.source).derived refl)))) refl);
+    covers = rest_covers false (record { from = x.from; to = j }) b;
+    closed = rest_shut false (record { from = x.from; to = j }) b k tt;
   }
-    where
-      y : Source (at Assignment (plus_in f)) ts end x.to ls j rest
-      y = b.source
 
-      l : Label
-      l = record { kind = spread_element; op = no_op; flags = 0; span = record { from = x.from; to = j } }
+  no_argument_shut : (l : Label) (cs : Slots) → is_literal l.kind ≡ false → Each (Shut text) (argument_places true (tree l cs end))
+  no_argument_shut l cs h = rw h tt
 
-  bracket_behind : {i e : ℕ} {x : Lexeme} (ls : Lexemes) → IsTrue (seen (is RBrack) x) → Lexes (Unbraced text e) i (next x ls) → Closed text i
-  bracket_behind {x = x} ls p m = record { bracket = x; stands = m.0.0; is = kind_is x p }
+  rest_property : {f : Flags} {ts : Slots} {i j : ℕ} {x : Lexeme} {ls rest : Lexemes} → IsTrue (seen (is Dot3) x) → Closed text j → (b : Bare f ts end x.to ls j rest) → is_literal (b.source).label.kind ≡ false → Last true (properties f) (tree (record { kind = assignment_target_rest; op = no_op; flags = 0; span = record { from = x.from; to = j } }) ts end) i (next x ls) j rest
+  unfolding rule rule_of
+  rest_property {j = j} {x} q k b h = record {
+    slots = tree (record { kind = spread_element; op = no_op; flags = 0; span = record { from = x.from; to = j } }) (argument b) end;
+    derived = is_left (is_commas (is_seq (is_such (is_right (is_right (is_node (is_seq (is_lexeme q) (is_such (b.source).derived refl))))) refl) (is_right is_nothing)));
+    covers = rest_covers true (record { from = x.from; to = j }) b;
+    closed = rest_shut true (record { from = x.from; to = j }) b k (no_argument_shut (b.source).label (b.source).slots h);
+  }
 
-  anew : {f : Flags} {l : Label} {cs us vs : Slots} {i j : ℕ} {ls rest : Lexemes} → Literal f (tree l cs us) us i ls j rest → Literal f (tree l cs vs) vs i ls j rest
-  anew {vs = vs} x = record { label = x.label; slots = x.slots; inside = x.inside; array = x.array; is_tree = λ i. tree (label_is x.is_tree i) (slots_are x.is_tree i) vs; covers = x.covers; closed = x.closed; derived = x.derived }
+  -- ---- properties
 
-  module _ (e : ℕ) (f : Flags) (w : f.wide ≡ false) where
-    mutual
+  -- a property, before others or alone
+  property_on : {f : Flags} {l : Label} {cs vs : Slots} {i j k : ℕ} {x : Lexeme} {ls mid rest : Lexemes} → Takes rule (rule (at Property f)) end (tree l cs end) i ls end j (next x mid) → IsTrue (seen (is Comma) x) → Takes rule (properties f) end vs x.to mid end k rest → Takes rule (properties f) end (tree l cs vs) i ls end k rest
+  property_on d q (is_left e) = is_left (is_commas (is_seq (is_such d refl) (is_left (is_seq (is_lexeme q) (is_left e)))))
+  property_on d q (is_right is_nothing) = is_left (is_commas (is_seq (is_such d refl) (is_left (is_seq (is_lexeme q) (is_right is_nothing)))))
+
+  one_property : {f : Flags} {ts us : Slots} {i j k : ℕ} {x : Lexeme} {ls mid rest : Lexemes} → Source true (at Property f) ts us i ls j (next x mid) → IsTrue (seen (is Comma) x) → Last true (properties f) us x.to mid k rest → Last true (properties f) ts i ls k rest
+  one_property {us = us} y q z = record {
+    slots = tree y.label y.slots z.slots;
+    derived = property_on y.derived q z.derived;
+    covers = before_by true y.label y.slots z.slots us _ z.covers (y.covers us ∙ ap Some (sym y.is_tree));
+    closed = all_of (Shut text) (places_of true y.label y.slots (places_in (within y.label.kind) y.slots)) (places_in (in_literal true) z.slots) y.closed z.closed;
+  }
+
+  property_alone : {f : Flags} {ts : Slots} {i j : ℕ} {ls rest : Lexemes} → Source true (at Property f) ts end i ls j rest → Last true (properties f) ts i ls j rest
+  property_alone y = record {
+    slots = tree y.label y.slots end;
+    derived = is_left (is_commas (is_seq (is_such y.derived refl) (is_right is_nothing)));
+    covers = y.covers end ∙ ap Some (sym y.is_tree);
+    closed = all_of (Shut text) (places_of true y.label y.slots (places_in (within y.label.kind) y.slots)) [] y.closed tt;
+  }
+
+  no_property : {f : Flags} {i : ℕ} {ls : Lexemes} → Last true (properties f) end i ls i ls
+  no_property = record { slots = end; derived = is_right is_nothing; covers = refl; closed = tt }
+
+  -- a name alone, with an initialiser or without one
+  shorthand_source : (f : Flags) → f.cover ≡ true → {cs us : Slots} {i j : ℕ} {ls rest : Lexemes} → Takes rule (symbol IdentifierReference f ▸ slot (symbol Init (plus_in f))) end cs i ls end j rest → Source true (at Property f) (tree (record { kind = assignment_target_property_identifier; op = no_op; flags = 0; span = record { from = (here ls).from; to = j } }) cs us) us i ls j rest
+  unfolding rule rule_of
+  shorthand_source f v {j = j} {ls = ls} (is_seq (is_such (is_node (is_lexeme {x = x} t)) h) (is_left (is_such d g))) = record {
+    label = property_label init shorthand_flag ls j;
+    slots = _;
+    target = _;
+    inside = _;
+    is_tree = refl;
+    derived = is_left (is_node (is_seq (is_ahead (is_such (is_node (is_lexeme (bound_word x.kind (not (same_kind Yield x.kind && f.yield_)) (not (same_kind Await x.kind && f.await_)) t))) refl)) (is_seq (is_such (is_node (is_lexeme t)) refl) (is_left (is_when v (is_such d refl))))));
+    covers = λ vs. refl;
+    closed = tt;
+  }
+  shorthand_source f v {j = j} {ls = ls} (is_seq (is_such (is_node (is_lexeme {x = x} t)) h) (is_right is_empty_slot)) = record {
+    label = property_label init shorthand_flag ls j;
+    slots = _;
+    target = _;
+    inside = _;
+    is_tree = refl;
+    derived = is_left (is_node (is_seq (is_ahead (is_such (is_node (is_lexeme (bound_word x.kind (not (same_kind Yield x.kind && f.yield_)) (not (same_kind Await x.kind && f.await_)) t))) refl)) (is_seq (is_such (is_node (is_lexeme t)) refl) (is_right is_nothing))));
+    covers = λ vs. refl;
+    closed = tt;
+  }
+
+  -- a name and a target
+  abbrev value_label : Bool → Lexemes → ℕ → Label
+  value_label c ls j = record { kind = assignment_target_property_property; op = no_op; flags = flag c computed_flag; span = record { from = (here ls).from; to = j } }
+
+  abbrev named_before : Label → Label → Slots → Label → Slots → Option Slots → Slots → Option Slots
+  named_before l k ks m es r vs = followed (named_slot l (before_value k ks (tree m es end) r)) vs
+
+  value_source : (f : Flags) (c : Bool) {ks cs us : Slots} {i j k : ℕ} {x : Lexeme} {ls mid rest : Lexemes} → Takes rule (name c false f) end ks i ls cs j (next x mid) → IsTrue (seen (is Colon) x) → Source false (at Assignment (plus_in f)) cs end x.to mid k rest → Source true (at Property f) (tree (value_label c ls k) ks us) us i ls k rest
+  unfolding rule rule_of
+  value_source f false {us = us} {k = k} {ls = ls} n q y =
+      let z = named false f n in
+      record {
+        label = property_label init 0 ls k;
+        slots = tree z.label z.slots (tree y.label y.slots end);
+        target = value_label false ls k;
+        inside = tree z.label z.slots (tree y.target y.inside end);
+        is_tree = ap (λ (v : Slots). tree (value_label false ls k) v us) (z.is ∙ ap (λ (v : Slots). tree z.label z.slots v) y.is_tree);
+        derived = is_right (is_left (is_left (is_left (is_node (is_seq (z.derived (tree y.label y.slots end)) (is_seq (is_lexeme q) (is_such y.derived refl)))))));
+        covers = λ vs. ap (λ (r : Option Slots). named_before (property_label init 0 ls k) z.label z.slots y.label y.slots r vs) (y.covers end);
+        closed = all_of (Shut text) (places_of false y.label y.slots (places_in (within y.label.kind) y.slots)) [] y.closed tt;
+      }
+  value_source f true {us = us} {k = k} {ls = ls} n q y =
+      let z = named true f n in
+      record {
+        label = property_label init 4 ls k;
+        slots = tree z.label z.slots (tree y.label y.slots end);
+        target = value_label true ls k;
+        inside = tree z.label z.slots (tree y.target y.inside end);
+        is_tree = ap (λ (v : Slots). tree (value_label true ls k) v us) (z.is ∙ ap (λ (v : Slots). tree z.label z.slots v) y.is_tree);
+        derived = is_right (is_left (is_right (is_left (is_node (is_seq (z.derived (tree y.label y.slots end)) (is_seq (is_lexeme q) (is_such y.derived refl)))))));
+        covers = λ vs. ap (λ (r : Option Slots). named_before (property_label init 4 ls k) z.label z.slots y.label y.slots r vs) (y.covers end);
+        closed = all_of (Shut text) (places_of false y.label y.slots (places_in (within y.label.kind) y.slots)) [] y.closed tt;
+      }
+
+  -- ---- the law
+
+  bracket_behind : {i : ℕ} {x : Lexeme} (ls : Lexemes) → IsTrue (seen (is RBrack) x) → Lexes (Lex text) i (next x ls) → Closed text i
+  bracket_behind {x = x} ls p m = record { bracket = x; stands = m.0; is = ap (λ (k : Kind). one_of_kinds (RBrack ∷ RCurly ∷ []) k) (kind_is {k = RBrack} x p) }
+
+  brace_behind : {i : ℕ} {x : Lexeme} (ls : Lexemes) → IsTrue (seen (is RCurly) x) → Lexes (Lex text) i (next x ls) → Closed text i
+  brace_behind {x = x} ls p m = record { bracket = x; stands = m.0; is = ap (λ (k : Kind). one_of_kinds (RBrack ∷ RCurly ∷ []) k) (kind_is {k = RCurly} x p) }
+
+  anew : {o : Bool} {f : Flags} {l : Label} {cs us vs : Slots} {i j : ℕ} {ls rest : Lexemes} → Literal o f (tree l cs us) us i ls j rest → Literal o f (tree l cs vs) vs i ls j rest
+  anew {vs = vs} x = record { label = x.label; slots = x.slots; inside = x.inside; kind = x.kind; is_tree = λ i. tree (label_is x.is_tree i) (slots_are x.is_tree i) vs; covers = x.covers; closed = x.closed; derived = x.derived }
+
+  -- targets whose derivations are smaller than n are expressions
+  abbrev UpTo : Flags → ℕ → Type 0
+  UpTo f n = (l : Label) (cs us : Slots) (i j : ℕ) (ls rest : Lexemes) (d : Takes rule (rule (at Target f)) end (tree l cs end) i ls end j rest) → deep d < n → Lexes (Lex text) i ls → Bare f (tree l cs us) us i ls j rest
+
+  module _ (f : Flags) (w : f.wide ≡ false) (v : f.cover ≡ true) where
+    module _ {n : ℕ} (up : UpTo f n) where
+      element_back : {l : Label} {cs us : Slots} {i j : ℕ} {ls rest : Lexemes} (d : Takes rule (rule (at TargetElement f)) end (tree l cs end) i ls end j rest) → deep d < n → Lexes (Lex text) i ls → Source false (at Assignment (plus_in f)) (tree l cs us) us i ls j rest
       unfolding rule rule_of
+      element_back (is_left (is_such d h)) o c = (up _ _ _ _ _ _ _ d (omega arith) c).source
+      element_back (is_right (is_left (is_when z (is_node d)))) o c = with_initialiser f d
+      element_back (is_right (is_right d)) o c = absurd (no_other f w (PlusEq ∷ MinusEq ∷ StarEq ∷ SlashEq ∷ PercentEq ∷ ShiftLeftEq ∷ ShiftRightEq ∷ ShiftRight3Eq ∷ PipeEq ∷ CaretEq ∷ AmpEq ∷ Amp2Eq ∷ Pipe2Eq ∷ Question2Eq ∷ Star2Eq ∷ []) refl d)
 
-      pub array_back : {ts us : Slots} {i j : ℕ} {ls rest : Lexemes} → Takes rule (rule (at ArrayTarget f)) end ts i ls us j rest → Lexes (Unbraced text e) i ls → j ≤ e → Literal f ts us i ls j rest
-      array_back (is_node (is_seq (is_lexeme q) (is_seq (is_seq m l) (is_lexeme p)))) c le =
-          let b = lexed_behind (Unbraced text e) m c.1 in
-          let g = lexed_behind (Unbraced text e) l b in
-          let o = onward text e l b in
-          let u = lexeme_on g.0 in
-          let y = last_back l b (omega arith) (bracket_behind _ p g) in
-          let x = many_back m c.1 (omega arith) in
-          record {
-            label = _;
-            slots = x.trees y.slots;
-            inside = _;
-            array = refl;
-            is_tree = refl;
-            covers = x.covers y.slots y.covers;
-            closed = x.closed y.slots y.closed;
-            derived = by_brackets (is_node (is_seq (is_lexeme q) (is_seq (is_seq (x.derived y.slots) y.derived) (is_lexeme p))));
-          }
-
-      many_back : {ks ts us : Slots} {i j : ℕ} {ls rest : Lexemes} → Takes rule (many (target_step f)) ks ts i ls us j rest → Lexes (Unbraced text e) i ls → j ≤ e → Sources (many (literal_step f)) ts us i ls j rest
-      many_back (is_many (is_right is_nothing)) c le = record { trees = λ vs. vs; derived = λ vs. is_many (is_right is_nothing); covers = λ vs h. h; closed = λ vs h. h }
-      many_back (is_many (is_left (is_seq (is_left (is_seq is_empty_slot (is_lexeme {x = z} q))) m))) c le =
-          let x = many_back m c.1 le in
+      many_back : {ks ts us : Slots} {i j : ℕ} {ls rest : Lexemes} (d : Takes rule (many (target_step f)) ks ts i ls us j rest) → deep d < n → Lexes (Lex text) i ls → Sources (many (literal_step f)) ts us i ls j rest
+      many_back (is_many (is_right is_nothing)) o c = record { trees = λ vs. vs; derived = λ vs. is_many (is_right is_nothing); covers = λ vs h. h; closed = λ vs h. h }
+      many_back (is_many (is_left (is_seq (is_left (is_seq is_empty_slot (is_lexeme {x = z} q))) m))) o c =
+          let x = many_back m (omega arith) c.1 in
           record {
             trees = λ vs. tree (gap_label z) end (x.trees vs);
             derived = λ vs. is_many (is_left (is_seq (is_left (is_node (is_lexeme q))) (x.derived vs)));
             covers = λ vs h. ap (λ (r : Option Slots). before_all (gap_label z) end (Some end) r) (x.covers vs h);
             closed = λ vs h. x.closed vs h;
           }
-      many_back (is_many (is_left (is_seq (is_right (is_seq (is_such d h) (is_lexeme q))) m))) c le =
-          let b = lexed_behind (Unbraced text e) d c in
-          let o = onward text e m b.1 in
-          let u = lexeme_on b.0 in
-          let x = many_back m b.1 le in
-          let y = source_item q (element_back d c (omega arith)) in
+      many_back (is_many (is_left (is_seq (is_right (is_seq (is_such d h) (is_lexeme q))) m))) o c =
+          let b = lexed_behind (Lex text) d c in
+          let x = many_back m (omega arith) b.1 in
+          let y = source_item q (as_argument f (element_back d (omega arith) c)) in
           record {
             trees = λ vs. y.trees (x.trees vs);
             derived = λ vs. is_many (is_left (is_seq (is_right (y.derived (x.trees vs))) (x.derived vs)));
@@ -327,18 +387,82 @@ module _ (text : List ℕ) where
             closed = λ vs h. y.closed (x.trees vs) (x.closed vs h);
           }
 
-      last_back : {ks ts : Slots} {i j : ℕ} {ls rest : Lexemes} → Takes rule (target_last f) ks ts i ls end j rest → Lexes (Unbraced text e) i ls → j ≤ e → Closed text j → Last (literal_last f) ts i ls j rest
-      last_back (is_left (is_such d h)) c le k = last_item (element_back d c le)
-      last_back (is_right (is_left (is_seq (is_node (is_seq (is_lexeme q) (is_such d h))) (is_right is_nothing)))) c le k = rest_last q k (target_back d c.1 le)
-      last_back (is_right (is_left (is_seq (is_node r) (is_left (is_when z y))))) c le k = absurd (false≢true (sym w ∙ z))
-      last_back (is_right (is_right is_nothing)) c le k = record { slots = end; derived = is_right (is_right is_nothing); covers = refl; closed = tt }
+      last_back : {ks ts : Slots} {i j : ℕ} {ls rest : Lexemes} (d : Takes rule (target_last f) ks ts i ls end j rest) → deep d < n → Lexes (Lex text) i ls → Closed text j → Last false (literal_last f) ts i ls j rest
+      last_back (is_left (is_such d h)) o c k = last_item (as_argument f (element_back d (omega arith) c))
+      last_back (is_right (is_left (is_seq (is_node (is_seq (is_lexeme q) (is_such d h))) (is_right is_nothing)))) o c k = rest_last q k (up _ _ _ _ _ _ _ d (omega arith) c.1)
+      last_back (is_right (is_left (is_seq (is_node r) (is_left (is_when z y))))) o c k = absurd (false≢true (sym w ∙ z))
+      last_back (is_right (is_right is_nothing)) o c k = record { slots = end; derived = is_right (is_right is_nothing); covers = refl; closed = tt }
 
-      element_back : {l : Label} {cs us : Slots} {i j : ℕ} {ls rest : Lexemes} → Takes rule (rule (at TargetElement f)) end (tree l cs end) i ls end j rest → Lexes (Unbraced text e) i ls → j ≤ e → Source (at Argument f) (tree l cs us) us i ls j rest
-      element_back (is_left (is_such d h)) c le = as_argument f (target_back d c le).source
-      element_back (is_right (is_left (is_when z (is_node d)))) c le = as_argument f (with_initialiser f d)
-      element_back (is_right (is_right d)) c le = absurd (no_other f w (PlusEq ∷ MinusEq ∷ StarEq ∷ SlashEq ∷ PercentEq ∷ ShiftLeftEq ∷ ShiftRightEq ∷ ShiftRight3Eq ∷ PipeEq ∷ CaretEq ∷ AmpEq ∷ Amp2Eq ∷ Pipe2Eq ∷ Question2Eq ∷ Star2Eq ∷ []) refl d)
+      array_at : {ts us : Slots} {i j : ℕ} {ls rest : Lexemes} (d : Takes rule (rule (at ArrayTarget f)) end ts i ls us j rest) → deep d < n → Lexes (Lex text) i ls → Literal false f ts us i ls j rest
+      unfolding rule rule_of
+      array_at (is_node (is_seq (is_lexeme q) (is_seq (is_seq m l) (is_lexeme p)))) o c =
+          let b = lexed_behind (Lex text) m c.1 in
+          let g = lexed_behind (Lex text) l b in
+          let y = last_back l (omega arith) b (bracket_behind _ p g) in
+          let x = many_back m (omega arith) c.1 in
+          record {
+            label = _;
+            slots = x.trees y.slots;
+            inside = _;
+            kind = refl;
+            is_tree = refl;
+            covers = x.covers y.slots y.covers;
+            closed = x.closed y.slots y.closed;
+            derived = by_brackets (is_node (is_seq (is_lexeme q) (is_seq (is_seq (x.derived y.slots) y.derived) (is_lexeme p))));
+          }
 
-      target_back : {l : Label} {cs us : Slots} {i j : ℕ} {ls rest : Lexemes} → Takes rule (rule (at Target f)) end (tree l cs end) i ls end j rest → Lexes (Unbraced text e) i ls → j ≤ e → Bare f (tree l cs us) us i ls j rest
-      target_back (is_left (is_such {l = l} {cs = cs} d h)) c le = simple_bare f (record { label = l; slots = cs }) d
-      target_back (is_right (is_left (is_such d h))) c le = array_bare f (anew (array_back d c le))
-      target_back (is_right (is_right (is_such (is_node (is_seq (is_lexeme {x = z} q) d)) h))) c le = absurd (let o = onward text e d c.1 in let n = (and_parts (same_kind LCurly z.kind) (not z.escaped) q).0 in let u = lexeme_wide c.0 n in false≢true (sym (c.0.1 (omega arith)) ∙ (and_parts (same_kind LCurly z.kind) (not z.escaped) q).0))
+      property_back : {l : Label} {cs us : Slots} {i j : ℕ} {ls rest : Lexemes} (d : Takes rule (rule (at TargetProperty f)) end (tree l cs end) i ls end j rest) → deep d < n → Lexes (Lex text) i ls → Source true (at Property f) (tree l cs us) us i ls j rest
+      unfolding rule rule_of
+      property_back (is_left (is_node d)) o c = shorthand_source f v d
+      property_back (is_right (is_left (is_node (is_seq m (is_seq (is_lexeme q) (is_such d h)))))) o c = let b = lexed_behind (Lex text) m c in value_source f false m q (element_back d (omega arith) b.1)
+      property_back (is_right (is_right (is_node (is_seq m (is_seq (is_lexeme q) (is_such d h)))))) o c = let b = lexed_behind (Lex text) m c in value_source f true m q (element_back d (omega arith) b.1)
+
+      properties_back : {ts us : Slots} {i j k : ℕ} {ls mid rest : Lexemes} (d : Takes rule (many (target_property f)) end ts i ls us j mid) → deep d < n → Lexes (Lex text) i ls → Last true (properties f) us j mid k rest → Last true (properties f) ts i ls k rest
+      properties_back (is_many (is_right is_nothing)) o c y = y
+      properties_back (is_many (is_left (is_seq (is_left z) m))) o c y = elim z [ ]
+      properties_back (is_many (is_left (is_seq (is_right (is_seq (is_such d h) (is_lexeme q))) m))) o c y = let b = lexed_behind (Lex text) d c in one_property (property_back d (omega arith) c) q (properties_back m (omega arith) b.1 y)
+
+      last_property_back : {ts : Slots} {i j : ℕ} {ls rest : Lexemes} (d : Takes rule (last_property f) end ts i ls end j rest) → deep d < n → Lexes (Lex text) i ls → Closed text j → Last true (properties f) ts i ls j rest
+      unfolding simple_bare
+      last_property_back (is_left (is_such d h)) o c k = property_alone (property_back d (omega arith) c)
+      last_property_back (is_right (is_left (is_seq (is_node (is_seq (is_lexeme q) (is_left (is_such {l = l} {cs = cs} d h)))) (is_right is_nothing)))) o c k = let x = target_left_hand_side (record { label = l; slots = cs }) d in rest_property q k (simple_bare f (record { label = l; slots = cs }) d) (target_no_literal x.label x.slots (record { label = l; slots = cs }) x.has)
+      last_property_back (is_right (is_left (is_seq (is_node (is_seq (is_lexeme q) (is_right (is_when z d)))) r))) o c k = absurd (false≢true (sym w ∙ z))
+      last_property_back (is_right (is_left (is_seq r (is_left (is_when z d))))) o c k = absurd (false≢true (sym w ∙ z))
+      last_property_back (is_right (is_right is_nothing)) o c k = no_property
+
+      object_at : {ts us : Slots} {i j : ℕ} {ls rest : Lexemes} (d : Takes rule (rule (at ObjectTarget f)) end ts i ls us j rest) → deep d < n → Lexes (Lex text) i ls → Literal true f ts us i ls j rest
+      unfolding rule rule_of
+      object_at (is_node (is_seq (is_lexeme q) (is_seq (is_seq m l) (is_lexeme p)))) o c =
+          let b = lexed_behind (Lex text) m c.1 in
+          let g = lexed_behind (Lex text) l b in
+          let y = properties_back m (omega arith) c.1 (last_property_back l (omega arith) b (brace_behind _ p g)) in
+          record {
+            label = _;
+            slots = y.slots;
+            inside = _;
+            kind = refl;
+            is_tree = refl;
+            covers = y.covers;
+            closed = y.closed;
+            derived = by_braces f (is_node (is_seq (is_lexeme q) (is_seq y.derived (is_lexeme p))));
+          }
+
+      one_deeper : UpTo f (suc n)
+      unfolding rule rule_of
+      one_deeper l cs us i j ls rest (is_left (is_such d h)) o c = simple_bare f (record { label = l; slots = cs }) d
+      one_deeper l cs us i j ls rest (is_right (is_left (is_such d h))) o c = literal_bare false f (anew (array_at d (omega arith) c))
+      one_deeper l cs us i j ls rest (is_right (is_right (is_such d h))) o c = literal_bare true f (anew (object_at d (omega arith) c))
+
+    up_to : (n : ℕ) → UpTo f n
+    up_to zero l cs us i j ls rest d o c = absurd (omega arith)
+    up_to (suc n) l cs us i j ls rest d o c = one_deeper (up_to n) l cs us i j ls rest d o c
+
+    pub array_back : {ts us : Slots} {i j : ℕ} {ls rest : Lexemes} → Takes rule (rule (at ArrayTarget f)) end ts i ls us j rest → Lexes (Lex text) i ls → Literal false f ts us i ls j rest
+    array_back d c = array_at (up_to (suc (deep d))) d (omega arith) c
+
+    pub object_back : {ts us : Slots} {i j : ℕ} {ls rest : Lexemes} → Takes rule (rule (at ObjectTarget f)) end ts i ls us j rest → Lexes (Lex text) i ls → Literal true f ts us i ls j rest
+    object_back d c = object_at (up_to (suc (deep d))) d (omega arith) c
+
+    pub literal_back : (o : Bool) {ts us : Slots} {i j : ℕ} {ls rest : Lexemes} → Takes rule (rule (at (target_name o) f)) end ts i ls us j rest → Lexes (Lex text) i ls → Literal o f ts us i ls j rest
+    literal_back false d c = array_back d c
+    literal_back true d c = object_back d c

@@ -1,4 +1,4 @@
--- An array literal before `=`, as it was converted to a target (ECMA-262, 13.15.5).
+-- A literal before `=`, as it was converted to a target (ECMA-262, 13.15.5).
 use Rattle.std.proofs.Common.{ℕ, ◌≡◌, ◌≤◌, ◌<◌, ◌⊎◌, inl, inr, List, [], ◌∷◌, length, true, false, not, IsTrue, Option, Some, None, refl, sym, ap, subst, arith, ◌∙◌, append-nil}
 use Rattle.std.specs.Prelude.{IsCharBoundary, IsUtf8}
 use Rattle.std.proofs.lemmas.Bool.{and_from}
@@ -7,7 +7,7 @@ use Rattle.js_base.specs.declared.kind.Kind.{Kind}
 use Rattle.js_base.specs.declared.kind.Kind.TheVariants.{Eq}
 use Rattle.js_base.specs.declared.span.Span.{Span}
 use Rattle.js_base.specs.Kinds.{one_of_kinds}
-use Rattle.js_grammar.specs.Trees.{Label, Slots, end, tree, Tree, array_assignment_target}
+use Rattle.js_grammar.specs.Trees.{Label, Slots, end, tree, Tree}
 use Rattle.js_grammar.specs.Grammar.{Lexeme, last, seen, such, nothing, Derives}
 use Rattle.js_grammar.specs.Insertion.{Row, after_expression, assign_operators}
 use Rattle.js_grammar.specs.Lexemes.{is_escaped}
@@ -27,22 +27,21 @@ use Rattle.js_cursor.specs.Places.{goal}
 use Rattle.js_cursor.specs.declared.stop.Stop.{Stop}
 use Rattle.js_parsing.specs.Answers.{Grown, Numbered, Stops, Stretch, Underived, Verdict, clean, unclean}
 use Rattle.js_parsing.specs.Lexemes.{Lex, spot}
-use Rattle.js_targets.specs.Taken.{PlacesTold, TargetTaken, no_target_at, refusal_at}
+use Rattle.js_targets.specs.Taken.{PlacesTold, TargetTaken, target_name, no_target_at, refusal_at}
 use Rattle.js_parsing.specs.States.{At, Same, NodesLie}
 use Rattle.js_targets.specs.declared.widening.Widening.{Widening}
 use Rattle.js_targets.specs.declared.widening.Widening.TheVariants.{Rest}
-use Rattle.js_targets.specs.Targets.{Each, IsIn, Narrow, Fits, Spotted, Noted, unnoted, Blames, Reused, Slotted, Converts, Converted, converts, refuses, is_array, relabelled, array_tree, slot_of, elements_in, places_in, target_of}
+use Rattle.js_targets.specs.Targets.{Each, IsIn, Narrow, Fits, Spotted, Noted, unnoted, Blames, Reused, Slotted, Converts, Converted, converts, refuses, in_literal, is_object, is_literal, literal_kind, pattern_kind, relabelled, literal_tree, slot_of, elements_in, places_in, target_of}
 use Rattle.js_base.specs.declared.diagnostic.DiagnosticKind.TheVariants.{SpreadLastElement}
 use Rattle.js_parsing.specs.Told.{unrelated_at}
 use Rattle.js_targets.proofs.LiteralsAsTargets.{one_of_each}
 use Rattle.js_targets.proofs.PlacesTold.{spread_marked}
-use Rattle.js_targets.proofs.Refused.{array_no_target}
+use Rattle.js_targets.proofs.Refused.{literal_no_target}
 use Rattle.js_targets.proofs.ArraysBeforeSigns.{is_cover, not_wide}
-use Rattle.js_targets.proofs.TargetsAsLiterals.{walked_unbraced}
-use Rattle.js_targets.proofs.ArraysConverted.{signs, no_target_there, no_target_unread, target_there, ended_there, loose_there, spots_there, no_array_derived, no_object_derived}
+use Rattle.js_targets.proofs.ArraysConverted.{signs, no_target_there, no_target_unread, target_there, ended_there, loose_there, spots_there, none_derived}
 use Rattle.js_targets.proofs.Assigned.{an_assign, assigns}
 use Rattle.js_targets.proofs.Refused.{no_target, short_follows}
-use Rattle.js_targets.proofs.ConvertedNodes.{ArrayAnswer}
+use Rattle.js_targets.proofs.ConvertedNodes.{LiteralAnswer}
 use Rattle.js_targets.proofs.Covers.{lexed_there, no_simple_there, row_of_target, underived_there}
 use Rattle.js_parsing.proofs.Here.{found}
 use Rattle.js_parsing.proofs.Moving.{beside_nodes, same_both, same_itself, same_with}
@@ -50,19 +49,19 @@ use Rattle.js_parsing.proofs.Paths.{read_of, walked_to}
 use Rattle.js_parsing.proofs.Signs.{none_kept, plain_of}
 use Rattle.js_targets.proofs.Refused.{refused}
 use Rattle.js_targets.proofs.ReusedNodes.{below_in}
-use Rattle.js_targets.proofs.Targets.{of_short}
+use Rattle.js_targets.proofs.Targets.{kind_of_literal, of_short}
 use Rattle.js_parsing.proofs.Verdicts.{and_then, either_way}
 use Rattle.js_parsing.specs.Classes.{EndsParse}
 use Rattle.js_cursor.specs.Moves.{GivesUp}
 
 -- ---- what the conversion says
 
-none_of : (l : Label) (r : Option Slots) → slot_of (array_tree l r) ≡ None → r ≡ None
+none_of : (l : Label) (r : Option Slots) → slot_of (literal_tree l r) ≡ None → r ≡ None
 none_of l None e = refl
 none_of l (Some ds) e = absurd (cc)
 
-some_of : (l : Label) (r : Option Slots) (ts : Slots) → slot_of (array_tree l r) ≡ Some ts → (ds : Slots) × (r ≡ Some ds) × (ts ≡ tree (relabelled array_assignment_target l) ds end)
-some_of l (Some ds) ts e = (ds, refl, (let k : tree (relabelled array_assignment_target l) ds end ≡ ts = cc in sym k))
+some_of : (l : Label) (r : Option Slots) (ts : Slots) → slot_of (literal_tree l r) ≡ Some ts → (ds : Slots) × (r ≡ Some ds) × (ts ≡ tree (relabelled (pattern_kind (is_object l.kind)) l) ds end)
+some_of l (Some ds) ts e = (ds, refl, (let k : tree (relabelled (pattern_kind (is_object l.kind)) l) ds end ≡ ts = cc in sym k))
 some_of l None ts e = absurd (cc)
 
 within_reused : (lo a b : ℕ) (rs qs : List ℕ) → AreWithin lo a rs → lo ≤ a → a ≤ b → Each (Reused rs a b) qs → AreWithin lo b qs
@@ -79,7 +78,10 @@ held_node {lo = lo} {hi = hi} (next_child {rs = rs} b h no_slots) w d = record {
 held_of : {os ns : List Node} {lo : ℕ} {rs : List ℕ} {id : NodeId} {l : Label} {cs : Slots} → AreWithin lo (length os) rs → lo ≤ length os → length os ≤ length ns → Slotted os ns rs (Some id ∷ []) (tree l cs end) → Holds ns lo (length ns) id.0 l cs
 held_of {os} {ns} {lo} {rs} w i j x = held_node x.stands (within_reused lo (length os) (length ns) rs x.numbers w i j x.reused) x.distinct
 
-module _ {text : List ℕ} {f : Flags} {p q : Parser} {left : NodeId} (a : At text f p) (x : Numbered text f (at Short f) p q left) (c : q.cut ≡ false) (k : q.token.kind ≡ Eq) (h : is_array x.answer.label.kind ≡ true) where
+module _ {text : List ℕ} {f : Flags} {p q : Parser} {left : NodeId} (a : At text f p) (x : Numbered text f (at Short f) p q left) (c : q.cut ≡ false) (k : q.token.kind ≡ Eq) (h : is_literal x.answer.label.kind ≡ true) where
+  shape : x.answer.label.kind ≡ literal_kind (is_object x.answer.label.kind)
+  shape = kind_of_literal x.answer.label.kind h
+
   listed : one_of_kinds assign_operators q.token.kind ≡ true
   listed = subst (λ (v : Kind). one_of_kinds assign_operators v ≡ true) (sym k) refl
 
@@ -101,7 +103,7 @@ module _ {text : List ℕ} {f : Flags} {p q : Parser} {left : NodeId} (a : At te
   between_there = subst (λ (v : List ℕ). IsCharBoundary v p.prev_token_end) a.text_is a.at.between
 
   -- the literal is no target
-  pub untargeted_marked : elements_in x.answer.slots ≡ None → (start : ℕ) → start ≡ p.token.span.start → length q.errors ≡ length p.errors → Mark (goal q) q.text (no_target_at start q.prev_token_end)
+  pub untargeted_marked : elements_in (in_literal (is_object x.answer.label.kind)) x.answer.slots ≡ None → (start : ℕ) → start ≡ p.token.span.start → length q.errors ≡ length p.errors → Mark (goal q) q.text (no_target_at start q.prev_token_end)
   untargeted_marked e start d n = subst (λ (v : List ℕ). Mark (goal q) v (no_target_at start q.prev_token_end)) (sym x.answer.at.text_is) it
     where
       y : Lexeme
@@ -124,11 +126,11 @@ module _ {text : List ℕ} {f : Flags} {p q : Parser} {left : NodeId} (a : At te
             within = (subst (λ (v : List ℕ). IsCharBoundary v q.prev_token_end) x.answer.at.text_is x.answer.at.at.between).0;
             begins_between = subst (λ (v : ℕ). IsCharBoundary text v) (sym d) (subst (λ (v : List ℕ). IsCharBoundary v p.token.span.start) a.text_is a.at.lies.starts_whole);
             ends_between = subst (λ (v : List ℕ). IsCharBoundary v q.prev_token_end) x.answer.at.text_is x.answer.at.at.between;
-            stands = (inr (underived_there x.answer a z y l f Target (record { start = start; end = q.prev_token_end }) d refl (λ t g. no_target f (λ t g. no_object_derived (not_wide a) (is_cover a) (walked_unbraced x.answer.walked) z h y m equals_there.2 g) (λ t g. no_simple_there x.answer a z y l (of_short f) (array_no_target x.answer.label x.answer.slots h) follows t g) (λ t g. no_array_derived (not_wide a) (is_cover a) (walked_unbraced x.answer.walked) z h e y m equals_there.2 g) t g)), (refl, refl));
+            stands = (inr (underived_there x.answer a z y l f Target (record { start = start; end = q.prev_token_end }) d refl (λ t g. no_target f (λ t g. none_derived (not_wide a) (is_cover a) (is_object x.answer.label.kind) z shape e true y m equals_there.2 g) (λ t g. no_simple_there x.answer a z y l (of_short f) (literal_no_target x.answer.label x.answer.slots h) follows t g) (λ t g. none_derived (not_wide a) (is_cover a) (is_object x.answer.label.kind) z shape e false y m equals_there.2 g) t g)), (refl, refl));
           }
 
-  no_target_fails : elements_in x.answer.slots ≡ None → Fails rule (Lex text) signs end (such (at ArrayTarget f) always) p.prev_token_end
-  no_target_fails e = either_way x.answer.verdict (λ z. no_target_there (not_wide a) (is_cover a) (walked_unbraced x.answer.walked) z h (inl e)) (λ n. no_target_unread (not_wide a) (is_cover a) n)
+  no_target_fails : elements_in (in_literal (is_object x.answer.label.kind)) x.answer.slots ≡ None → Fails rule (Lex text) signs end (such (at (target_name (is_object x.answer.label.kind)) f) always) p.prev_token_end
+  no_target_fails e = either_way x.answer.verdict (λ z. no_target_there (not_wide a) (is_cover a) (is_object x.answer.label.kind) z shape (inl e)) (λ n. no_target_unread (is_object x.answer.label.kind) (not_wide a) (is_cover a) n)
 
   -- ---- behind the conversion
 
@@ -137,14 +139,14 @@ module _ {text : List ℕ} {f : Flags} {p q : Parser} {left : NodeId} (a : At te
     converted_at = subst (λ (z : Parser). At text f z) (sym e1) (beside_nodes q1.nodes x.answer.at)
 
   module _ {q1 : Parser} (e1 : q1 ≡ record q { nodes = q1.nodes }) {notes : Noted} where
-    none_there : ArrayAnswer q.nodes q1.nodes left unnoted notes None → Keeps q.nodes q1.nodes × (elements_in x.answer.slots ≡ None) × Blames (places_in x.answer.slots) unnoted notes × ((text : List ℕ) → NodesLie text q.nodes → NodesLie text q1.nodes)
+    none_there : LiteralAnswer q.nodes q1.nodes left unnoted notes None → Keeps q.nodes q1.nodes × (elements_in (in_literal (is_object x.answer.label.kind)) x.answer.slots ≡ None) × Blames (places_in (in_literal (is_object x.answer.label.kind)) x.answer.slots) unnoted notes × ((text : List ℕ) → NodesLie text q.nodes → NodesLie text q1.nodes)
     none_there v = by (v x.answer.label x.answer.slots (x.holds).numbers (x.holds).stands (x.holds).distinct)
       where
-        by : Converted q.nodes q1.nodes (x.holds).numbers unnoted notes (places_in x.answer.slots) None (slot_of (array_tree x.answer.label (elements_in x.answer.slots))) → Keeps q.nodes q1.nodes × (elements_in x.answer.slots ≡ None) × Blames (places_in x.answer.slots) unnoted notes × ((text : List ℕ) → NodesLie text q.nodes → NodesLie text q1.nodes)
-        by (refuses r) = (r.keeps, none_of x.answer.label (elements_in x.answer.slots) r.is, r.blames, r.lies)
+        by : Converted q.nodes q1.nodes (x.holds).numbers unnoted notes (places_in (in_literal (is_object x.answer.label.kind)) x.answer.slots) None (slot_of (literal_tree x.answer.label (elements_in (in_literal (is_object x.answer.label.kind)) x.answer.slots))) → Keeps q.nodes q1.nodes × (elements_in (in_literal (is_object x.answer.label.kind)) x.answer.slots ≡ None) × Blames (places_in (in_literal (is_object x.answer.label.kind)) x.answer.slots) unnoted notes × ((text : List ℕ) → NodesLie text q.nodes → NodesLie text q1.nodes)
+        by (refuses r) = (r.keeps, none_of x.answer.label (elements_in (in_literal (is_object x.answer.label.kind)) x.answer.slots) r.is, r.blames, r.lies)
 
     -- of whatever is told of it
-    pub refused_marked : ArrayAnswer q.nodes q1.nodes left unnoted notes None → (start : ℕ) → start ≡ p.token.span.start → length q1.errors ≡ length p.errors → Mark (goal q1) q1.text (refusal_at start q1.prev_token_end notes.misplaced)
+    pub refused_marked : LiteralAnswer q.nodes q1.nodes left unnoted notes None → (start : ℕ) → start ≡ p.token.span.start → length q1.errors ≡ length p.errors → Mark (goal q1) q1.text (refusal_at start q1.prev_token_end notes.misplaced)
     refused_marked v start d n = by notes.misplaced (none_there v).2
       where
         m : length q.errors ≡ length p.errors
@@ -156,28 +158,28 @@ module _ {text : List ℕ} {f : Flags} {p q : Parser} {left : NodeId} (a : At te
         untargeted : Mark (goal q1) q1.text (no_target_at start q1.prev_token_end)
         untargeted = subst (λ (z : Parser). Mark (goal z) z.text (no_target_at start z.prev_token_end)) (sym e1) (untargeted_marked (none_there v).1 start d m)
 
-        spread : (s : Span) → IsIn (places_in x.answer.slots) (Rest s) → Mark (goal q1) q1.text (unrelated_at SpreadLastElement s)
-        spread s i = subst (λ (t : List ℕ). Mark (goal q1) t (unrelated_at SpreadLastElement s)) (sym text_is) (spread_marked (goal q1) s (one_of_each (Spotted text) (places_in x.answer.slots) (Rest s) i (spots_there (not_wide a) (is_cover a) (walked_unbraced x.answer.walked) (none_kept x.answer.verdict m) h utf8_there reached_there between_there equals_there.0 equals_there.1)))
+        spread : (s : Span) → IsIn (places_in (in_literal (is_object x.answer.label.kind)) x.answer.slots) (Rest s) → Mark (goal q1) q1.text (unrelated_at SpreadLastElement s)
+        spread s i = subst (λ (t : List ℕ). Mark (goal q1) t (unrelated_at SpreadLastElement s)) (sym text_is) (spread_marked (goal q1) s (one_of_each (Spotted text) (places_in (in_literal (is_object x.answer.label.kind)) x.answer.slots) (Rest s) i (spots_there (not_wide a) (is_cover a) (is_object x.answer.label.kind) (none_kept x.answer.verdict m) shape utf8_there reached_there between_there equals_there.0 equals_there.1)))
 
-        by : (o : Option Span) → (o ≡ None) ⊎ ((s : Span) × (o ≡ Some s) × IsIn (places_in x.answer.slots) (Rest s)) → Mark (goal q1) q1.text (refusal_at start q1.prev_token_end o)
+        by : (o : Option Span) → (o ≡ None) ⊎ ((s : Span) × (o ≡ Some s) × IsIn (places_in (in_literal (is_object x.answer.label.kind)) x.answer.slots) (Rest s)) → Mark (goal q1) q1.text (refusal_at start q1.prev_token_end o)
         by None b = untargeted
         by (Some s) (inl e) = absurd (cc)
-        by (Some s) (inr b) = let e : b.0 ≡ s = (let k : Some s ≡ Some b.0 = b.1 in cc) in spread s (subst (λ (t : Span). IsIn (places_in x.answer.slots) (Rest t)) e b.2)
+        by (Some s) (inr b) = let e : b.0 ≡ s = (let k : Some s ≡ Some b.0 = b.1 in cc) in spread s (subst (λ (t : Span). IsIn (places_in (in_literal (is_object x.answer.label.kind)) x.answer.slots) (Rest t)) e b.2)
 
-    pub array_refusal : ArrayAnswer q.nodes q1.nodes left unnoted notes None → (w : Parser) (st : Stop) → GivesUp EndsParse q1 w st → Stops p w st (Fails rule (Lex text) signs end (such (at ArrayTarget f) always) p.prev_token_end)
+    pub array_refusal : LiteralAnswer q.nodes q1.nodes left unnoted notes None → (w : Parser) (st : Stop) → GivesUp EndsParse q1 w st → Stops p w st (Fails rule (Lex text) signs end (such (at (target_name (is_object x.answer.label.kind)) f) always) p.prev_token_end)
     array_refusal v w st r = refused {q = record q { nodes = q1.nodes }} w st (beside_nodes q1.nodes x.answer.at) (same_with q1.nodes x.answer.same (Keeps-trans x.keeps (none_there v).0) (λ b h. (none_there v).3 q.text h)) x.answer.verdict (subst (λ (z : Parser). GivesUp EndsParse z w st) e1 r) (no_target_fails (none_there v).1)
 
-    module _ {target : NodeId} (v : ArrayAnswer q.nodes q1.nodes left unnoted notes (Some target)) where
-      made : Converts q.nodes q1.nodes (x.holds).numbers unnoted notes (places_in x.answer.slots) (Some target ∷ []) (slot_of (array_tree x.answer.label (elements_in x.answer.slots)))
+    module _ {target : NodeId} (v : LiteralAnswer q.nodes q1.nodes left unnoted notes (Some target)) where
+      made : Converts q.nodes q1.nodes (x.holds).numbers unnoted notes (places_in (in_literal (is_object x.answer.label.kind)) x.answer.slots) (Some target ∷ []) (slot_of (literal_tree x.answer.label (elements_in (in_literal (is_object x.answer.label.kind)) x.answer.slots)))
       made = by (v x.answer.label x.answer.slots (x.holds).numbers (x.holds).stands (x.holds).distinct)
         where
-          by : Converted q.nodes q1.nodes (x.holds).numbers unnoted notes (places_in x.answer.slots) (Some (Some target ∷ [])) (slot_of (array_tree x.answer.label (elements_in x.answer.slots))) → Converts q.nodes q1.nodes (x.holds).numbers unnoted notes (places_in x.answer.slots) (Some target ∷ []) (slot_of (array_tree x.answer.label (elements_in x.answer.slots)))
+          by : Converted q.nodes q1.nodes (x.holds).numbers unnoted notes (places_in (in_literal (is_object x.answer.label.kind)) x.answer.slots) (Some (Some target ∷ [])) (slot_of (literal_tree x.answer.label (elements_in (in_literal (is_object x.answer.label.kind)) x.answer.slots))) → Converts q.nodes q1.nodes (x.holds).numbers unnoted notes (places_in (in_literal (is_object x.answer.label.kind)) x.answer.slots) (Some target ∷ []) (slot_of (literal_tree x.answer.label (elements_in (in_literal (is_object x.answer.label.kind)) x.answer.slots)))
           by (converts r) = r
 
-      parts : (ds : Slots) × (elements_in x.answer.slots ≡ Some ds) × (made.slots ≡ tree (relabelled array_assignment_target x.answer.label) ds end)
-      parts = some_of x.answer.label (elements_in x.answer.slots) made.slots made.is
+      parts : (ds : Slots) × (elements_in (in_literal (is_object x.answer.label.kind)) x.answer.slots ≡ Some ds) × (made.slots ≡ tree (relabelled (pattern_kind (is_object x.answer.label.kind)) x.answer.label) ds end)
+      parts = some_of x.answer.label (elements_in (in_literal (is_object x.answer.label.kind)) x.answer.slots) made.slots made.is
 
-      places_are : notes.places ≡ places_in x.answer.slots
+      places_are : notes.places ≡ places_in (in_literal (is_object x.answer.label.kind)) x.answer.slots
       places_are = made.places_are
 
       told_text : q1.text ≡ text
@@ -185,16 +187,16 @@ module _ {text : List ℕ} {f : Flags} {p q : Parser} {left : NodeId} (a : At te
 
       -- its places, where nothing was told
       pub places_fit : length q.errors ≡ length p.errors → Each (Fits q1.text) notes.places
-      places_fit n = subst (λ (t : List ℕ). Each (Fits t) notes.places) (sym told_text) (subst (λ (ws : List Widening). Each (Fits text) ws) (sym places_are) (ended_there (not_wide a) (is_cover a) (walked_unbraced x.answer.walked) (none_kept x.answer.verdict n) h parts.0 parts.1 utf8_there reached_there between_there equals_there.0 equals_there.1))
+      places_fit n = subst (λ (t : List ℕ). Each (Fits t) notes.places) (sym told_text) (subst (λ (ws : List Widening). Each (Fits text) ws) (sym places_are) (ended_there (not_wide a) (is_cover a) (is_object x.answer.label.kind) (none_kept x.answer.verdict n) shape parts.0 parts.1 utf8_there reached_there between_there equals_there.0 equals_there.1))
 
       pub places_spotted : length q.errors ≡ length p.errors → Each (Spotted q1.text) notes.places
-      places_spotted n = subst (λ (t : List ℕ). Each (Spotted t) notes.places) (sym told_text) (subst (λ (ws : List Widening). Each (Spotted text) ws) (sym places_are) (spots_there (not_wide a) (is_cover a) (walked_unbraced x.answer.walked) (none_kept x.answer.verdict n) h utf8_there reached_there between_there equals_there.0 equals_there.1))
+      places_spotted n = subst (λ (t : List ℕ). Each (Spotted t) notes.places) (sym told_text) (subst (λ (ws : List Widening). Each (Spotted text) ws) (sym places_are) (spots_there (not_wide a) (is_cover a) (is_object x.answer.label.kind) (none_kept x.answer.verdict n) shape utf8_there reached_there between_there equals_there.0 equals_there.1))
 
-      target_held : Holds q1.nodes (length p.nodes) (length q1.nodes) target.0 (relabelled array_assignment_target x.answer.label) parts.0
+      target_held : Holds q1.nodes (length p.nodes) (length q1.nodes) target.0 (relabelled (pattern_kind (is_object x.answer.label.kind)) x.answer.label) parts.0
       target_held = held_of (x.holds).within (Keeps-longer x.keeps) (Keeps-longer made.keeps) (subst (λ (ts : Slots). Slotted q.nodes q1.nodes (x.holds).numbers (Some target ∷ []) ts) parts.2 made.slotted)
 
       -- with a verdict of the state behind
-      taken : {r : Parser} → r ≡ record q1 { errors = r.errors } → At text f r → Same q1 r → Verdict p.errors r.errors (Stretch text signs (such (at ArrayTarget f) always) p.prev_token_end nothing q.prev_token_end (tree (relabelled array_assignment_target x.answer.label) parts.0) x.answer.pass) (Fails rule (Lex text) signs end (such (at ArrayTarget f) always) p.prev_token_end) → TargetTaken text f p q r target
+      taken : {r : Parser} → r ≡ record q1 { errors = r.errors } → At text f r → Same q1 r → Verdict p.errors r.errors (Stretch text signs (such (at (target_name (is_object x.answer.label.kind)) f) always) p.prev_token_end nothing q.prev_token_end (tree (relabelled (pattern_kind (is_object x.answer.label.kind)) x.answer.label) parts.0) x.answer.pass) (Fails rule (Lex text) signs end (such (at (target_name (is_object x.answer.label.kind)) f) always) p.prev_token_end) → TargetTaken (is_object x.answer.label.kind) text f p q r target
       taken {r} e b s g =
           let place : r.prev_token_end ≡ q.prev_token_end = ap (λ (z : Parser). z.prev_token_end) e ∙ ap (λ (z : Parser). z.prev_token_end) e1 in
           let same : Same p q1 = subst (λ (z : Parser). Same p z) (sym e1) (same_with q1.nodes x.answer.same (Keeps-trans x.keeps made.keeps) (λ b h. made.lies q.text h)) in
@@ -205,28 +207,28 @@ module _ {text : List ℕ} {f : Flags} {p q : Parser} {left : NodeId} (a : At te
             token = ap (λ (z : Parser). z.token) e ∙ ap (λ (z : Parser). z.token) e1;
             cut = ap (λ (z : Parser). z.cut) e ∙ ap (λ (z : Parser). z.cut) e1;
             place = place;
-            label = relabelled array_assignment_target x.answer.label;
+            label = relabelled (pattern_kind (is_object x.answer.label.kind)) x.answer.label;
             slots = parts.0;
             pass = x.answer.pass;
             walked = walked_to (sym (ap spot e ∙ ap spot e1)) x.answer.walked;
-            loosely = λ n y l. subst (λ (v : ℕ). Derives rule (at ArrayTarget (loose f)) (record { label = relabelled array_assignment_target x.answer.label; slots = parts.0 }) p.prev_token_end (x.answer.pass (last y)) v (last y)) (sym place) (loose_there (not_wide a) (is_cover a) (walked_unbraced x.answer.walked) (none_kept x.answer.verdict n) h parts.0 parts.1 utf8_there reached_there between_there y (subst (λ (v : ℕ). Lex text v y) place l));
-            verdict = subst (λ (v : ℕ). Verdict p.errors r.errors (Stretch text signs (such (at ArrayTarget f) always) p.prev_token_end nothing v (tree (relabelled array_assignment_target x.answer.label) parts.0) x.answer.pass) (Fails rule (Lex text) signs end (such (at ArrayTarget f) always) p.prev_token_end)) (sym place) g;
-            holds = subst (λ (ns : List Node). Holds ns (length p.nodes) (length ns) target.0 (relabelled array_assignment_target x.answer.label) parts.0) (sym nodes) target_held;
+            loosely = λ n y l. subst (λ (v : ℕ). Derives rule (at (target_name (is_object x.answer.label.kind)) (loose f)) (record { label = relabelled (pattern_kind (is_object x.answer.label.kind)) x.answer.label; slots = parts.0 }) p.prev_token_end (x.answer.pass (last y)) v (last y)) (sym place) (loose_there (not_wide a) (is_cover a) (is_object x.answer.label.kind) (none_kept x.answer.verdict n) shape parts.0 parts.1 utf8_there reached_there between_there y (subst (λ (v : ℕ). Lex text v y) place l));
+            verdict = subst (λ (v : ℕ). Verdict p.errors r.errors (Stretch text signs (such (at (target_name (is_object x.answer.label.kind)) f) always) p.prev_token_end nothing v (tree (relabelled (pattern_kind (is_object x.answer.label.kind)) x.answer.label) parts.0) x.answer.pass) (Fails rule (Lex text) signs end (such (at (target_name (is_object x.answer.label.kind)) f) always) p.prev_token_end)) (sym place) g;
+            holds = subst (λ (ns : List Node). Holds ns (length p.nodes) (length ns) target.0 (relabelled (pattern_kind (is_object x.answer.label.kind)) x.answer.label) parts.0) (sym nodes) target_held;
             keeps = subst (λ (ns : List Node). Keeps p.nodes ns) (sym nodes) (Keeps-trans x.keeps made.keeps);
           }
 
       -- its places were looked at
-      pub taken_told : {r : Parser} → PlacesTold notes.places q1 r → TargetTaken text f p q r target
-      taken_told {r} t = taken t.is (t.at text f (converted_at e1)) t.same (and_then x.answer.verdict (subst (λ (ds : List Diagnostic). Verdict ds r.errors (Each (Narrow text) (places_in x.answer.slots)) (Each (Narrow text) (places_in x.answer.slots) → ⊥)) (ap (λ (z : Parser). z.errors) e1) it)
-          (λ z o. target_there (not_wide a) (is_cover a) (walked_unbraced x.answer.walked) z h parts.0 parts.1 utf8_there reached_there between_there o) (λ n. no_target_unread (not_wide a) (is_cover a) n) (λ z n. no_target_there (not_wide a) (is_cover a) (walked_unbraced x.answer.walked) z h (inr n)))
+      pub taken_told : {r : Parser} → PlacesTold notes.places q1 r → TargetTaken (is_object x.answer.label.kind) text f p q r target
+      taken_told {r} t = taken t.is (t.at text f (converted_at e1)) t.same (and_then x.answer.verdict (subst (λ (ds : List Diagnostic). Verdict ds r.errors (Each (Narrow text) (places_in (in_literal (is_object x.answer.label.kind)) x.answer.slots)) (Each (Narrow text) (places_in (in_literal (is_object x.answer.label.kind)) x.answer.slots) → ⊥)) (ap (λ (z : Parser). z.errors) e1) it)
+          (λ z o. target_there (not_wide a) (is_cover a) (is_object x.answer.label.kind) z shape parts.0 parts.1 utf8_there reached_there between_there o) (λ n. no_target_unread (is_object x.answer.label.kind) (not_wide a) (is_cover a) n) (λ z n. no_target_there (not_wide a) (is_cover a) (is_object x.answer.label.kind) z shape (inr n)))
         where
-          it : Verdict q1.errors r.errors (Each (Narrow text) (places_in x.answer.slots)) (Each (Narrow text) (places_in x.answer.slots) → ⊥)
+          it : Verdict q1.errors r.errors (Each (Narrow text) (places_in (in_literal (is_object x.answer.label.kind)) x.answer.slots)) (Each (Narrow text) (places_in (in_literal (is_object x.answer.label.kind)) x.answer.slots) → ⊥)
           it = subst (λ (ws : List Widening). Verdict q1.errors r.errors (Each (Narrow text) ws) (Each (Narrow text) ws → ⊥)) places_are (subst (λ (v : List ℕ). Verdict q1.errors r.errors (Each (Narrow v) notes.places) (Each (Narrow v) notes.places → ⊥)) told_text t.verdict)
 
       -- a diagnostic was kept before
-      pub taken_kept : (length q1.errors ≡ length p.errors → ⊥) → TargetTaken text f p q q1 target
+      pub taken_kept : (length q1.errors ≡ length p.errors → ⊥) → TargetTaken (is_object x.answer.label.kind) text f p q q1 target
       taken_kept n = taken refl (converted_at e1) same_itself (by x.answer.verdict)
         where
-          by : Verdict p.errors q.errors (Stretch text (after (at Short f)) (such (at Short f) always) p.prev_token_end nothing q.prev_token_end (tree x.answer.label x.answer.slots) x.answer.pass) (Underived text (at Short f) p.prev_token_end) → Verdict p.errors q1.errors (Stretch text signs (such (at ArrayTarget f) always) p.prev_token_end nothing q.prev_token_end (tree (relabelled array_assignment_target x.answer.label) parts.0) x.answer.pass) (Fails rule (Lex text) signs end (such (at ArrayTarget f) always) p.prev_token_end)
+          by : Verdict p.errors q.errors (Stretch text (after (at Short f)) (such (at Short f) always) p.prev_token_end nothing q.prev_token_end (tree x.answer.label x.answer.slots) x.answer.pass) (Underived text (at Short f) p.prev_token_end) → Verdict p.errors q1.errors (Stretch text signs (such (at (target_name (is_object x.answer.label.kind)) f) always) p.prev_token_end nothing q.prev_token_end (tree (relabelled (pattern_kind (is_object x.answer.label.kind)) x.answer.label) parts.0) x.answer.pass) (Fails rule (Lex text) signs end (such (at (target_name (is_object x.answer.label.kind)) f) always) p.prev_token_end)
           by (clean g z) = absurd (n (ap (λ (w : Parser). length w.errors) e1 ∙ ap length g))
-          by (unclean g u) = unclean (subst (λ (ds : List Diagnostic). Grown p.errors ds) (sym (ap (λ (z : Parser). z.errors) e1)) g) (no_target_unread (not_wide a) (is_cover a) u)
+          by (unclean g u) = unclean (subst (λ (ds : List Diagnostic). Grown p.errors ds) (sym (ap (λ (z : Parser). z.errors) e1)) g) (no_target_unread (is_object x.answer.label.kind) (not_wide a) (is_cover a) u)

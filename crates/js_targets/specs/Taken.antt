@@ -1,5 +1,5 @@
--- What is told of an expression that is no target, and what the conversion of an array literal to a target answers (ECMA-262, 13.15.5).
-use Rattle.std.specs.Prelude.{ℕ, ◌≡◌, ◌⊎◌, ◌&&◌, not, true, List, length, Option, Some, None, Result, Ok, Err}
+-- What is told of an expression that is no target, and what the conversion of an array or object literal to a target answers (ECMA-262, 13.15.5).
+use Rattle.std.specs.Prelude.{ℕ, ◌≡◌, ◌⊎◌, ◌&&◌, not, Bool, true, cond, List, length, Option, Some, None, Result, Ok, Err}
 use Rattle.js_base.specs.declared.diagnostic.Diagnostic.{Diagnostic}
 use Rattle.js_base.specs.declared.diagnostic.DiagnosticKind.TheVariants as fault
 use Rattle.js_base.specs.Kinds.{one_of_kinds}
@@ -10,14 +10,14 @@ use Rattle.js_grammar.specs.Insertion.{assign_operators}
 use Rattle.js_grammar.specs.Parsing.{always, plain, Fails}
 use Rattle.js_grammar.specs.Table.{rule}
 use Rattle.js_grammar.specs.Marks.{loose}
-use Rattle.js_grammar.specs.Productions.{Flags, at, ArrayTarget, Short}
+use Rattle.js_grammar.specs.Productions.{Flags, Name, at, ArrayTarget, ObjectTarget, Short}
 use Rattle.js_tree.specs.declared.id.NodeId.{NodeId}
 use Rattle.js_tree.specs.Holding.{Holds, Keeps as KeepsNodes}
 use Rattle.js_cursor.specs.Moves.{GivesUp, Keeps}
 use Rattle.js_parsing.specs.Told.{unrelated_at}
 use Rattle.js_targets.specs.declared.widening.Widening.{Widening}
-use Rattle.js_targets.specs.declared.widening.Widening.TheVariants.{Rest, Operator}
-use Rattle.js_targets.specs.Targets.{Each, Narrow, is_array}
+use Rattle.js_targets.specs.declared.widening.Widening.TheVariants.{Rest, RestTarget, Operator}
+use Rattle.js_targets.specs.Targets.{Each, Narrow, is_object, is_literal}
 use Rattle.js_cursor.specs.Parsers.{Parser}
 use Rattle.js_cursor.specs.declared.stop.Stop.{Stop}
 use Rattle.js_cursor.specs.declared.stop.Stop.TheVariants.{Fatal}
@@ -35,7 +35,7 @@ abbrev pub refusal_at : ℕ → ℕ → Option Span → Diagnostic
 refusal_at from to (Some s) = unrelated_at fault.SpreadLastElement s
 refusal_at from to None = no_target_at from to
 
--- what is told of an array literal before an assignment operator that needs a simple target
+-- what is told of a literal before an assignment operator that needs a simple target
 abbrev pub not_simple_at : ℕ → ℕ → Diagnostic
 not_simple_at from to = record { kind = fault.AssignmentIsNotSimple; span = record { start = from; end = to }; first = None; second = None }
 
@@ -50,6 +50,7 @@ assigns_next k w e = one_of_kinds assign_operators k && not e
 -- what is told of a place where the literal is wider
 abbrev pub TellsOf : Widening → Diagnostic → Type 0
 TellsOf (Rest s) d = d.kind ≡ fault.RestElementTrailingComma
+TellsOf (RestTarget s) d = d ≡ unrelated_at fault.InvalidRestAssignmentTarget s
 TellsOf (Operator s) d = d ≡ unrelated_at fault.InvalidAssignmentTargetDefaultValueOperator s
 
 -- A place was looked at: the literal is narrow there; or it isn't, and that was told.
@@ -63,8 +64,8 @@ pub record PlacesTold (places : List Widening) (old new : Parser) : Type 0 where
   pub is : new ≡ record old { errors = new.errors }
   pub verdict : Verdict old.errors new.errors (Each (Narrow old.text) places) (Each (Narrow old.text) places → ⊥)
 
--- An array literal was read up to this state, by a call before which so many diagnostics were kept.
-pub record ArrayRead (start : ℕ) (id : NodeId) (kept : ℕ) (q : Parser) : Type 0 where
+-- An array or object literal was read up to this state, by a call before which so many diagnostics were kept.
+pub record LiteralRead (start : ℕ) (id : NodeId) (kept : ℕ) (q : Parser) : Type 0 where
   pub text : List ℕ
   pub flags : Flags
   pub first : Parser
@@ -72,10 +73,14 @@ pub record ArrayRead (start : ℕ) (id : NodeId) (kept : ℕ) (q : Parser) : Typ
   pub start_is : start ≡ first.token.span.start
   pub kept_is : kept ≡ length first.errors
   pub read : Numbered text flags (at Short flags) first q id
-  pub array : is_array read.answer.label.kind ≡ true
+  pub literal : is_literal read.answer.label.kind ≡ true
+
+-- the target that a literal is, of an object with true
+abbrev pub target_name : Bool → Name
+target_name in_object = cond in_object ObjectTarget ArrayTarget
 
 -- It was converted to a target, which is read from the state `first` on. Clean: it is the only one there; unclean: there is none. Where nothing was told while the literal was read, its lexemes derive this target in the wider form, in which a comma may stand behind a rest and another operator before an initialiser.
-pub record TargetTaken (text : List ℕ) (f : Flags) (first old new : Parser) (id : NodeId) : Type 0 where
+pub record TargetTaken (in_object : Bool) (text : List ℕ) (f : Flags) (first old new : Parser) (id : NodeId) : Type 0 where
   pub stands_at : At text f new
   pub same : Same first new
   pub token : new.token ≡ old.token
@@ -85,14 +90,14 @@ pub record TargetTaken (text : List ℕ) (f : Flags) (first old new : Parser) (i
   pub slots : Slots
   pub pass : Lexemes → Lexemes
   pub walked : Walked text (spot first) (spot new) pass
-  pub verdict : Verdict first.errors new.errors (Stretch text (plain assigns_next) (such (at ArrayTarget f) always) first.prev_token_end nothing new.prev_token_end (tree label slots) pass) (Fails rule (Lex text) (plain assigns_next) no_slots (such (at ArrayTarget f) always) first.prev_token_end)
-  pub loosely : length old.errors ≡ length first.errors → (y : Lexeme) → Lex text new.prev_token_end y → Derives rule (at ArrayTarget (loose f)) (record { label = label; slots = slots }) first.prev_token_end (pass (last y)) new.prev_token_end (last y)
+  pub verdict : Verdict first.errors new.errors (Stretch text (plain assigns_next) (such (at (target_name in_object) f) always) first.prev_token_end nothing new.prev_token_end (tree label slots) pass) (Fails rule (Lex text) (plain assigns_next) no_slots (such (at (target_name in_object) f) always) first.prev_token_end)
+  pub loosely : length old.errors ≡ length first.errors → (y : Lexeme) → Lex text new.prev_token_end y → Derives rule (at (target_name in_object) (loose f)) (record { label = label; slots = slots }) first.prev_token_end (pass (last y)) new.prev_token_end (last y)
   pub holds : Holds new.nodes (length first.nodes) (length new.nodes) id.0 label slots
   pub keeps : KeepsNodes first.nodes new.nodes
 
-abbrev pub TargetOutcome : List ℕ → Flags → Parser → Parser → Parser → Result NodeId Stop → Type 0
-TargetOutcome text f first old new (Ok id) = TargetTaken text f first old new id
-TargetOutcome text f first old new (Err e) = Stops first new e (Fails rule (Lex text) (plain assigns_next) no_slots (such (at ArrayTarget f) always) first.prev_token_end)
+abbrev pub TargetOutcome : Bool → List ℕ → Flags → Parser → Parser → Parser → Result NodeId Stop → Type 0
+TargetOutcome in_object text f first old new (Ok id) = TargetTaken in_object text f first old new id
+TargetOutcome in_object text f first old new (Err e) = Stops first new e (Fails rule (Lex text) (plain assigns_next) no_slots (such (at (target_name in_object) f) always) first.prev_token_end)
 
 abbrev pub TakesTarget : ℕ → NodeId → ℕ → Parser → Parser → Result NodeId Stop → Type 0
-TakesTarget start id kept old new r = (text : List ℕ) (f : Flags) (first : Parser) → At text f first → start ≡ first.token.span.start → kept ≡ length first.errors → (x : Numbered text f (at Short f) first old id) → is_array x.answer.label.kind ≡ true → TargetOutcome text f first old new r
+TakesTarget start id kept old new r = (text : List ℕ) (f : Flags) (first : Parser) → At text f first → start ≡ first.token.span.start → kept ≡ length first.errors → (x : Numbered text f (at Short f) first old id) → is_literal x.answer.label.kind ≡ true → TargetOutcome (is_object x.answer.label.kind) text f first old new r

@@ -1,32 +1,33 @@
-//! Array literals read as array targets (ECMA-262, section 13.15.5).
+//! Array and object literals read as targets (ECMA-262, section 13.15.5).
 
 ghost use Rattle.std.specs.Prelude.{◌≡◌, ◌≤◌, ◌++◌, IfOk, List, [], ◌∷◌, Some, None, true, false, cond, length};
 ghost use Rattle.std.specs.Option.{option_map};
 ghost use Rattle.js_grammar.specs.Trees.{assignment_target_with_default, end, tree};
+ghost use Rattle.js_grammar.specs.Productions.{has_flag, shorthand_flag};
 ghost use Rattle.js_tree.specs.declared.kind.NodeKind.TheVariants as node;
 ghost use Rattle.js_tree.specs.declared.op.Op.TheVariants as op;
 ghost use Rattle.js_parsing.specs.Moves.{plain_label};
-ghost use Rattle.js_tree.specs.Labels.{kind_of, op_of};
+ghost use Rattle.js_tree.specs.Labels.{kind_of, op_of, label_of};
 ghost use Rattle.js_tree.specs.Nodes.{label, node_at};
 ghost use Rattle.js_base.specs.declared.kind.Kind.TheVariants.{Eq};
 ghost use Rattle.js_cursor.specs.Places.{goal};
 ghost use Rattle.js_grammar.specs.Marks.{Mark};
 ghost use Rattle.js_cursor.specs.Moves.{GivesUp};
 ghost use Rattle.js_parsing.specs.Classes.{EndsParse};
-ghost use Rattle.js_targets.specs.Taken.{ArrayRead, TakesTarget, refusal_at};
+ghost use Rattle.js_targets.specs.Taken.{LiteralRead, TakesTarget, refusal_at};
 ghost use Rattle.js_parsing.specs.States.{Standing};
-ghost use Rattle.js_targets.specs.Targets.{Converted, OfNode, Stood, array_tree, element_slot, elements_in, made_span, noted_in, operator_places, one_node, one_slot, relabelled, rest_slot, places_in, places_of, slot_of, target_by, Noded};
+ghost use Rattle.js_targets.specs.Targets.{Converted, OfNode, Stood, argument_places, element_slot, elements_in, in_literal, in_property, literal_places, literal_tree, made_span, noted_in, operator_places, one_node, one_slot, relabelled, rest_slot, places_in, places_of, property_places, property_slot, shorthand_slot, slot_of, target_by, unnoted, within, Noded};
 ghost use Rattle.js_targets.specs.declared.widening.Widening.TheVariants as widening;
 ghost use Rattle.js_targets.specs.Targets as target;
 
-use crate::cover::{is_array, only_child, refuse_target, simple_target};
+use crate::cover::{child_at, is_literal, is_object, only_child, refuse_target, simple_target, two_children};
 use crate::widening::{Notes, Widening, tell_places};
 use js_base::{AssignmentOperator, DiagnosticKind, NoMemory, Span};
 use js_cursor::{ParserImpl, Stop};
 use js_lex::ParserConfig;
 use js_parsing::diagnostics::{diagnostic_at, kept_so_far};
 use js_parsing::nodes::no_flags;
-use js_tree::{NodeId, NodeKind, Op, ParserAstBuilder};
+use js_tree::{NodeFlags, NodeId, NodeKind, Op, ParserAstBuilder};
 use std::alloc::Global;
 
 /// A node of a target.
@@ -49,6 +50,45 @@ fn make_rest(ast: &mut ParserAstBuilder, span: Span, found: NodeId) -> Result<No
     ast.node_of_one(kind, span, Op::None, no_flags(), Some(found))
 }
 
+/// A property of a target that is a name alone, with an initialiser or without one.
+fn make_shorthand(
+    ast: &mut ParserAstBuilder,
+    span: Span,
+    reference: NodeId,
+    initialiser: Option<NodeId>,
+) -> Result<NodeId, NoMemory>
+    ensures { IfOk result (λ id. Noded ast.old ast.new (plain_label node.AssignmentTargetPropertyIdentifier op.None span) (Some reference ∷ initialiser ∷ []) id) }
+{
+    let kind = NodeKind::AssignmentTargetPropertyIdentifier;
+    let reference = Some(reference);
+    ast.node_of_two(kind, span, Op::None, no_flags(), reference, initialiser)
+}
+
+/// A property of a target that has a name and a target.
+fn make_property(
+    ast: &mut ParserAstBuilder,
+    span: Span,
+    flags: NodeFlags,
+    name: NodeId,
+    target: Option<NodeId>,
+) -> Result<NodeId, NoMemory>
+    ensures { IfOk result (λ id. Noded ast.old ast.new (label_of node.AssignmentTargetPropertyProperty op.None flags span) (Some name ∷ target ∷ []) id) }
+{
+    let kind = NodeKind::AssignmentTargetPropertyProperty;
+    ast.node_of_two(kind, span, Op::None, flags, Some(name), target)
+}
+
+/// The kind of the target that a literal is.
+fn pattern_kind(in_object: bool) -> NodeKind
+    ensures { kind_of result ≡ target.pattern_kind in_object }
+{
+    if in_object {
+        NodeKind::ObjectAssignmentTarget
+    } else {
+        NodeKind::ArrayAssignmentTarget
+    }
+}
+
 /// Whether it is the operator `=`.
 fn is_equals(op: Op) -> bool
     ensures { result ≡ target.is_equals (op_of op) }
@@ -59,36 +99,38 @@ fn is_equals(op: Op) -> bool
     }
 }
 
-/// The node of the array target that an array literal stands for; none where it stands for none. The places where it may
-/// be wider than a target are noted.
+/// The node of the target that an array or object literal stands for; none where it stands for none. The places where it
+/// may be wider than a target are noted.
 #[cycle(targets)]
-fn convert_array(
+fn convert_literal(
     alloc: Global,
     ast: &mut ParserAstBuilder,
     id: NodeId,
     notes: &mut Notes,
 ) -> Result<Option<NodeId>, NoMemory>
     requires { Stood ast.old id }
-    ensures { IfOk result (λ found. OfNode ast.old id (λ l cs rs. Converted ast.old ast.new rs (noted_in notes.old) (noted_in notes.new) (places_in cs) (one_node found) (slot_of (array_tree l (elements_in cs))))) }
+    ensures { IfOk result (λ found. OfNode ast.old id (λ l cs rs. Converted ast.old ast.new rs (noted_in notes.old) (noted_in notes.new) (places_in (in_literal (target.is_object l.kind)) cs) (one_node found) (slot_of (literal_tree l (elements_in (in_literal (target.is_object l.kind)) cs))))) }
 {
-    let Some(elements) = convert_elements(alloc, ast, id, notes)? else {
+    let in_object = is_object(ast.kind(id));
+    let Some(elements) = convert_elements(alloc, ast, id, in_object, notes)? else {
         return Ok(None);
     };
     let span = ast.span(id);
-    let node = make_target(ast, NodeKind::ArrayAssignmentTarget, span, elements)?;
+    let node = make_target(ast, pattern_kind(in_object), span, elements)?;
     Ok(Some(node))
 }
 
-/// The elements of an array literal, as those of a target.
+/// The elements of an array literal, or the properties of an object literal, as those of a target.
 #[cycle(targets)]
 fn convert_elements(
     alloc: Global,
     ast: &mut ParserAstBuilder,
     id: NodeId,
+    in_object: bool,
     notes: &mut Notes,
 ) -> Result<Option<Vec<Option<NodeId>>>, NoMemory>
     requires { Stood ast.old id }
-    ensures { IfOk result (λ found. OfNode ast.old id (λ l cs rs. Converted ast.old ast.new rs (noted_in notes.old) (noted_in notes.new) (places_in cs) (option_map (λ v. v.items) found) (elements_in cs))) }
+    ensures { IfOk result (λ found. OfNode ast.old id (λ l cs rs. Converted ast.old ast.new rs (noted_in notes.old) (noted_in notes.new) (places_in (in_literal in_object) cs) (option_map (λ v. v.items) found) (elements_in (in_literal in_object) cs))) }
 {
     let children = Vec::from_slice(alloc, ast.children(id))?;
     let mut elements = Vec::new(alloc);
@@ -99,7 +141,7 @@ fn convert_elements(
         };
         next += 1;
         let is_last = next == children.len();
-        let Some(element) = convert_element(alloc, ast, child, is_last, notes)? else {
+        let Some(element) = convert_element(alloc, ast, child, is_last, in_object, notes)? else {
             return Ok(None);
         };
         elements.push(element)?;
@@ -107,22 +149,23 @@ fn convert_elements(
     Ok(Some(elements))
 }
 
-/// An element of an array literal, the last one or another, as an element of a target; a gap is an empty slot.
+/// An element or property of a literal, the last one or another, as one of a target; a gap is an empty slot.
 #[cycle(targets)]
 fn convert_element(
     alloc: Global,
     ast: &mut ParserAstBuilder,
     id: NodeId,
     is_last: bool,
+    in_object: bool,
     notes: &mut Notes,
 ) -> Result<Option<Option<NodeId>>, NoMemory>
     requires { Stood ast.old id }
-    ensures { IfOk result (λ found. OfNode ast.old id (λ l cs rs. Converted ast.old ast.new rs (noted_in notes.old) (noted_in notes.new) (places_of l (places_in cs)) (one_slot found) (element_slot is_last l cs (elements_in cs)))) }
+    ensures { IfOk result (λ found. OfNode ast.old id (λ l cs rs. Converted ast.old ast.new rs (noted_in notes.old) (noted_in notes.new) (places_of in_object l cs (places_in (within l.kind) cs)) (one_slot found) (element_slot is_last l cs (elements_in (within l.kind) cs)))) }
 {
     if let NodeKind::Elision = ast.kind(id) {
         return Ok(Some(None));
     }
-    let found = convert_item(alloc, ast, id, is_last, notes)?;
+    let found = convert_item(alloc, ast, id, is_last, in_object, notes)?;
     Ok(some_slot(found))
 }
 
@@ -143,16 +186,33 @@ fn convert_item(
     ast: &mut ParserAstBuilder,
     id: NodeId,
     is_last: bool,
+    in_object: bool,
     notes: &mut Notes,
 ) -> Result<Option<NodeId>, NoMemory>
     requires { Stood ast.old id }
-    ensures { IfOk result (λ found. OfNode ast.old id (λ l cs rs. target.is_elision l.kind ≡ false → Converted ast.old ast.new rs (noted_in notes.old) (noted_in notes.new) (places_of l (places_in cs)) (one_node found) (element_slot is_last l cs (elements_in cs)))) }
+    ensures { IfOk result (λ found. OfNode ast.old id (λ l cs rs. target.is_elision l.kind ≡ false → Converted ast.old ast.new rs (noted_in notes.old) (noted_in notes.new) (places_of in_object l cs (places_in (within l.kind) cs)) (one_node found) (element_slot is_last l cs (elements_in (within l.kind) cs)))) }
 {
     match ast.kind(id) {
-        NodeKind::SpreadElement => convert_rest(alloc, ast, id, is_last, notes),
+        NodeKind::SpreadElement => convert_rest(alloc, ast, id, is_last, in_object, notes),
         NodeKind::AssignmentExpression => convert_assignment(alloc, ast, id, notes),
+        NodeKind::ObjectProperty => convert_property(alloc, ast, id, notes),
         _ => convert_target(alloc, ast, id, notes),
     }
+}
+
+/// Notes the argument of an object's rest, where it is a literal.
+fn note_argument(
+    notes: &mut Notes,
+    in_object: bool,
+    kind: NodeKind,
+    argument: Span,
+) -> Result<(), NoMemory>
+    ensures { IfOk result (λ _. noted_in notes.new ≡ record { places = notes.old.places.items ++ literal_places in_object (kind_of kind) argument; misplaced = notes.old.misplaced }) }
+{
+    if in_object && is_literal(kind) {
+        notes.places.push(Widening::RestTarget(argument))?;
+    }
+    Ok(())
 }
 
 /// A spread, as a rest.
@@ -162,10 +222,11 @@ fn convert_rest(
     ast: &mut ParserAstBuilder,
     id: NodeId,
     is_last: bool,
+    in_object: bool,
     notes: &mut Notes,
 ) -> Result<Option<NodeId>, NoMemory>
     requires { Stood ast.old id }
-    ensures { IfOk result (λ found. OfNode ast.old id (λ l cs rs. Converted ast.old ast.new rs (noted_in notes.old) (noted_in notes.new) (places_in cs ++ widening.Rest (made_span l.span) ∷ []) (one_node found) (rest_slot is_last l (elements_in cs)))) }
+    ensures { IfOk result (λ found. OfNode ast.old id (λ l cs rs. Converted ast.old ast.new rs (noted_in notes.old) (noted_in notes.new) (places_in (in_literal false) cs ++ (argument_places in_object cs ++ widening.Rest (made_span l.span) ∷ [])) (one_node found) (rest_slot is_last l (elements_in (in_literal false) cs)))) }
 {
     let span = ast.span(id);
     if !is_last {
@@ -175,9 +236,12 @@ fn convert_rest(
     let Some(argument) = only_child(ast, id) else {
         return Ok(None);
     };
+    let kind = ast.kind(argument);
+    let written = ast.span(argument);
     let Some(found) = convert_target(alloc, ast, argument, notes)? else {
         return Ok(None);
     };
+    note_argument(notes, in_object, kind, written)?;
     notes.places.push(Widening::Rest(span))?;
     let node = make_rest(ast, span, found)?;
     Ok(Some(node))
@@ -201,12 +265,52 @@ fn convert_assignment(
     notes: &mut Notes,
 ) -> Result<Option<NodeId>, NoMemory>
     requires { Stood ast.old id }
-    ensures { IfOk result (λ found. OfNode ast.old id (λ l cs rs. target.is_assignment l.kind ≡ true → Converted ast.old ast.new rs (noted_in notes.old) (noted_in notes.new) (places_of l (places_in cs)) (one_node found) (Some (tree (relabelled assignment_target_with_default l) cs end)))) }
+    ensures { IfOk result (λ found. OfNode ast.old id (λ l cs rs. target.is_assignment l.kind ≡ true → Converted ast.old ast.new rs (noted_in notes.old) (noted_in notes.new) (operator_places l.op (made_span l.span)) (one_node found) (Some (tree (relabelled assignment_target_with_default l) cs end)))) }
 {
     let span = ast.span(id);
     note_operator(notes, ast.op(id), span)?;
     let children = Vec::from_slice(alloc, ast.children(id))?;
     let node = make_target(ast, NodeKind::AssignmentTargetWithDefault, span, children)?;
+    Ok(Some(node))
+}
+
+/// A property that is a name alone: the name, as a reference, and what it is initialised by.
+fn convert_shorthand(ast: &mut ParserAstBuilder, id: NodeId) -> Result<Option<NodeId>, NoMemory>
+    requires { Stood ast.old id }
+    ensures { IfOk result (λ found. OfNode ast.old id (λ l cs rs. Converted ast.old ast.new rs unnoted unnoted [] (one_node found) (shorthand_slot l cs))) }
+{
+    let Some(reference) = child_at(ast, id, 1) else {
+        return Ok(None);
+    };
+    let initialiser = child_at(ast, id, 2);
+    let span = ast.span(id);
+    let node = make_shorthand(ast, span, reference, initialiser)?;
+    Ok(Some(node))
+}
+
+/// A property of an object literal, as one of a target.
+#[cycle(targets)]
+fn convert_property(
+    alloc: Global,
+    ast: &mut ParserAstBuilder,
+    id: NodeId,
+    notes: &mut Notes,
+) -> Result<Option<NodeId>, NoMemory>
+    requires { Stood ast.old id }
+    ensures { IfOk result (λ found. OfNode ast.old id (λ l cs rs. Converted ast.old ast.new rs (noted_in notes.old) (noted_in notes.new) (property_places l (places_in in_property cs)) (one_node found) (property_slot l cs (elements_in in_property cs)))) }
+{
+    let flags = ast.flags(id);
+    if flags.shorthand {
+        return convert_shorthand(ast, id);
+    }
+    let Some((name, value)) = two_children(ast, id) else {
+        return Ok(None);
+    };
+    let span = ast.span(id);
+    let Some(target) = convert_element(alloc, ast, value, true, false, notes)? else {
+        return Ok(None);
+    };
+    let node = make_property(ast, span, flags, name, target)?;
     Ok(Some(node))
 }
 
@@ -219,15 +323,15 @@ fn convert_target(
     notes: &mut Notes,
 ) -> Result<Option<NodeId>, NoMemory>
     requires { Stood ast.old id }
-    ensures { IfOk result (λ found. OfNode ast.old id (λ l cs rs. Converted ast.old ast.new rs (noted_in notes.old) (noted_in notes.new) (cond (target.is_array l.kind) (places_in cs) []) (one_node found) (slot_of (target_by l cs (elements_in cs))))) }
+    ensures { IfOk result (λ found. OfNode ast.old id (λ l cs rs. Converted ast.old ast.new rs (noted_in notes.old) (noted_in notes.new) (cond (target.is_literal l.kind) (places_in (within l.kind) cs) []) (one_node found) (slot_of (target_by l cs (elements_in (within l.kind) cs))))) }
 {
-    if is_array(ast.kind(id)) {
-        return convert_array(alloc, ast, id, notes);
+    if is_literal(ast.kind(id)) {
+        return convert_literal(alloc, ast, id, notes);
     }
     Ok(simple_target(ast, id))
 }
 
-/// The node of the array target that an array literal of a parser's nodes stands for; none where it stands for none.
+/// The node of the target that a literal of a parser's nodes stands for; none where it stands for none.
 fn convert<C: ParserConfig>(
     p: &mut ParserImpl<'_, C>,
     id: NodeId,
@@ -235,12 +339,12 @@ fn convert<C: ParserConfig>(
 ) -> Result<Option<NodeId>, NoMemory>
     requires { Stood p.old.nodes id }
     ensures stays { IfOk result (λ _. p.new ≡ record p.old { nodes = p.new.nodes }) }
-    ensures found { IfOk result (λ found. OfNode p.old.nodes id (λ l cs rs. Converted p.old.nodes p.new.nodes rs (noted_in notes.old) (noted_in notes.new) (places_in cs) (one_node found) (slot_of (array_tree l (elements_in cs))))) }
+    ensures found { IfOk result (λ found. OfNode p.old.nodes id (λ l cs rs. Converted p.old.nodes p.new.nodes rs (noted_in notes.old) (noted_in notes.new) (places_in (in_literal (target.is_object l.kind)) cs) (one_node found) (slot_of (literal_tree l (elements_in (in_literal (target.is_object l.kind)) cs))))) }
 {
-    convert_array(p.alloc, &mut p.ast, id, notes)
+    convert_literal(p.alloc, &mut p.ast, id, notes)
 }
 
-/// Gives up on an array literal, which was read from a place on and is no target: a spread that isn't its last element is
+/// Gives up on a literal, which was read from a place on and is no target: a spread that isn't its last element is
 /// told. Where a diagnostic was kept since, when there were so many, that is enough of it, and what stands here is told.
 fn refuse_literal<C: ParserConfig>(
     p: &mut ParserImpl<'_, C>,
@@ -262,9 +366,9 @@ fn refuse_literal<C: ParserConfig>(
     p.set_fatal_error(diagnostic_at(DiagnosticKind::SpreadLastElement, spread))
 }
 
-/// The target that an array literal is, which was read from a place on. Where a diagnostic was kept since, when there were
+/// The target that an array or object literal is, which was read from a place on. Where a diagnostic was kept since, when there were
 /// so many, that is enough, whatever is wrong with it.
-pub fn array_target<C: ParserConfig>(
+pub fn literal_target<C: ParserConfig>(
     p: &mut ParserImpl<'_, C>,
     start: u32,
     id: NodeId,
@@ -274,7 +378,7 @@ pub fn array_target<C: ParserConfig>(
     requires start { start ≤ p.old.prev_token_end }
     requires whole { p.old.cut ≡ false }
     requires equals { p.old.token.kind ≡ Eq }
-    requires read { ArrayRead start id kept p.old }
+    requires read { LiteralRead start id kept p.old }
     ensures { TakesTarget start id kept p.old p.new result }
 {
     let mut notes = Notes {

@@ -1,6 +1,6 @@
 //! Expressions read as targets (ECMA-262, sections 8.6.4 and 13.15).
 
-ghost use Rattle.std.specs.Prelude.{◌≡◌, ◌<◌, ◌≤◌, ℕ, length, List, [], IfOk};
+ghost use Rattle.std.specs.Prelude.{◌≡◌, ◌<◌, ◌≤◌, ℕ, length, List, [], IfOk, None, get_or};
 ghost use Rattle.js_grammar.specs.Marks.{Mark};
 ghost use Rattle.js_cursor.specs.Places.{IsAt, goal};
 ghost use Rattle.js_cursor.specs.Moves.{GivesUp};
@@ -11,7 +11,7 @@ ghost use Rattle.js_grammar.specs.Trees.{Label, Slots};
 ghost use Rattle.js_tree.specs.Holding.{Holds};
 ghost use Rattle.js_tree.specs.Labels.{kind_of};
 ghost use Rattle.js_tree.specs.Nodes.{node_at};
-ghost use Rattle.js_targets.specs.Targets.{Converted, IsTarget, OfNode, Only, Stood, one_node, slot_of, target_of, unnoted};
+ghost use Rattle.js_targets.specs.Targets.{Converted, IsTarget, OfNode, Only, Stood, Two, one_node, slot_of, target_of, unnoted};
 ghost use Rattle.js_targets.specs.Targets as target;
 
 use js_base::{Diagnostic, DiagnosticKind, NoMemory};
@@ -44,7 +44,7 @@ fn is_target(kind: NodeKind) -> bool
 }
 
 /// Whether it is an array literal.
-pub fn is_array(kind: NodeKind) -> bool
+fn is_array(kind: NodeKind) -> bool
     ensures { result ≡ target.is_array (kind_of kind) }
 {
     match kind {
@@ -53,20 +53,37 @@ pub fn is_array(kind: NodeKind) -> bool
     }
 }
 
-/// Whether an expression is an array literal, in no parentheses.
-fn is_array_node(ast: &ParserAstBuilder, id: NodeId) -> bool
-    requires { Stood ast.now id }
-    ensures { (lo hi : ℕ) (l : Label) (cs : Slots) → Holds ast.now lo hi id.0 l cs → result ≡ target.is_array l.kind }
+/// Whether it is an object literal.
+pub fn is_object(kind: NodeKind) -> bool
+    ensures { result ≡ target.is_object (kind_of kind) }
 {
-    is_array(ast.kind(id))
+    match kind {
+        NodeKind::ObjectExpression => true,
+        _ => false,
+    }
 }
 
-/// Whether an expression of a parser's nodes is an array literal, in no parentheses.
-pub fn is_array_literal<C: ParserConfig>(p: &ParserImpl<'_, C>, id: NodeId) -> bool
-    requires { Stood p.now.nodes id }
-    ensures { (lo hi : ℕ) (l : Label) (cs : Slots) → Holds p.now.nodes lo hi id.0 l cs → result ≡ target.is_array l.kind }
+/// Whether it is an array or object literal.
+pub fn is_literal(kind: NodeKind) -> bool
+    ensures { result ≡ target.is_literal (kind_of kind) }
 {
-    is_array_node(&p.ast, id)
+    is_array(kind) || is_object(kind)
+}
+
+/// Whether an expression is an array or object literal, in no parentheses.
+fn is_literal_node(ast: &ParserAstBuilder, id: NodeId) -> bool
+    requires { Stood ast.now id }
+    ensures { (lo hi : ℕ) (l : Label) (cs : Slots) → Holds ast.now lo hi id.0 l cs → result ≡ target.is_literal l.kind }
+{
+    is_literal(ast.kind(id))
+}
+
+/// Whether an expression of a parser's nodes is an array or object literal, in no parentheses.
+pub fn is_array_or_object<C: ParserConfig>(p: &ParserImpl<'_, C>, id: NodeId) -> bool
+    requires { Stood p.now.nodes id }
+    ensures { (lo hi : ℕ) (l : Label) (cs : Slots) → Holds p.now.nodes lo hi id.0 l cs → result ≡ target.is_literal l.kind }
+{
+    is_literal_node(&p.ast, id)
 }
 
 /// The one child of a node, if it has one.
@@ -76,6 +93,31 @@ pub fn only_child(ast: &ParserAstBuilder, id: NodeId) -> Option<NodeId>
 {
     if ast.child_count(id) == 1 {
         ast.child(id, 0)
+    } else {
+        None
+    }
+}
+
+/// The two children of a node, if it has two.
+pub fn two_children(ast: &ParserAstBuilder, id: NodeId) -> Option<(NodeId, NodeId)>
+    requires { id.0 < length ast.now }
+    ensures { Two (node_at ast.now id).children result }
+{
+    if ast.child_count(id) != 2 {
+        return None;
+    }
+    let first = ast.child(id, 0)?;
+    let second = ast.child(id, 1)?;
+    Some((first, second))
+}
+
+/// The child in a slot of a node, if there is one.
+pub fn child_at(ast: &ParserAstBuilder, id: NodeId, slot: usize) -> Option<NodeId>
+    requires { id.0 < length ast.now }
+    ensures { result ≡ get_or (node_at ast.now id).children slot None }
+{
+    if slot < ast.child_count(id) {
+        ast.child(id, slot)
     } else {
         None
     }
@@ -103,7 +145,7 @@ pub fn cover<C: ParserConfig>(p: &ParserImpl<'_, C>, id: NodeId) -> Option<NodeI
     simple_target(&p.ast, id)
 }
 
-/// Tells of an array literal before an assignment operator other than `=`, which was read from a place on (ECMA-262,
+/// Tells of a literal before an assignment operator other than `=`, which was read from a place on (ECMA-262,
 /// section 13.15.1). Where a diagnostic was kept since, when there were so many, that is enough.
 #[inline(never)]
 pub fn tell_not_simple<C: ParserConfig>(

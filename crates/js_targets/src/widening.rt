@@ -1,4 +1,4 @@
-//! Where an array literal may be wider than an array target (ECMA-262, section 13.15.5).
+//! Where a literal may be wider than the target that it is read as (ECMA-262, section 13.15.5).
 
 ghost use Rattle.std.specs.Prelude.{◌≡◌, IfOk};
 ghost use Rattle.js_base.specs.declared.diagnostic.DiagnosticKind.TheVariants as fault;
@@ -16,16 +16,18 @@ use js_cursor::ParserImpl;
 use js_lex::ParserConfig;
 use js_parsing::diagnostics::diagnostic_at;
 
-/// A place of an array literal where it may be wider than a target.
+/// A place of an array or object literal where it may be wider than a target.
 #[derive(Clone, Copy, Drop)]
 pub enum Widening {
     /// A rest: no comma may stand behind it.
     Rest(Span),
+    /// A literal as the argument of an object's rest, which has to be a simple target.
+    RestTarget(Span),
     /// An assignment as an element: its operator has to be `=`.
     Operator(Span),
 }
 
-/// What is noted while an array literal is converted.
+/// What is noted while a literal is converted.
 #[derive(Drop)]
 pub struct Notes {
     /// Where it may be wider than a target, in the order in which that is told.
@@ -57,7 +59,20 @@ fn tell_operator<C: ParserConfig>(p: &mut ParserImpl<'_, C>, element: Span) -> R
     p.error(diagnostic_at(kind, element))
 }
 
-/// Tells of a place where an array literal is wider than a target, if it is.
+/// Tells of a literal that is the argument of an object's rest.
+fn tell_rest_target<C: ParserConfig>(
+    p: &mut ParserImpl<'_, C>,
+    argument: Span,
+) -> Result<(), NoMemory>
+    requires at { Standing p.old }
+    requires mark { Mark (goal p.old) p.old.text (unrelated_at fault.InvalidRestAssignmentTarget argument) }
+    ensures { IfOk result (λ _. Keeps (unrelated_at fault.InvalidRestAssignmentTarget argument) p.old p.new) }
+{
+    let kind = DiagnosticKind::InvalidRestAssignmentTarget;
+    p.error(diagnostic_at(kind, argument))
+}
+
+/// Tells of a place where a literal is wider than a target, if it is.
 fn tell_place<C: ParserConfig>(p: &mut ParserImpl<'_, C>, place: Widening) -> Result<(), NoMemory>
     requires at { Standing p.old }
     requires spotted { Spotted p.old.text place }
@@ -66,11 +81,12 @@ fn tell_place<C: ParserConfig>(p: &mut ParserImpl<'_, C>, place: Widening) -> Re
 {
     match place {
         Widening::Rest(rest) => tell_comma(p, rest),
+        Widening::RestTarget(argument) => tell_rest_target(p, argument),
         Widening::Operator(element) => tell_operator(p, element),
     }
 }
 
-/// Tells of each of these places where an array literal is wider than a target.
+/// Tells of each of these places where a literal is wider than a target.
 pub fn tell_places<C: ParserConfig>(
     p: &mut ParserImpl<'_, C>,
     places: &Vec<Widening>,

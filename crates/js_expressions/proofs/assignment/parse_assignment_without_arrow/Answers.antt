@@ -1,6 +1,6 @@
 use Rattle.std.proofs.Common.{inl, arith, sym, ◌∙◌}
 use Rattle.std.proofs.lemmas.Result.{err_from_is_err_and}
-use Rattle.js_expressions.proofs.ArraysAssigned.{not_simple_marked}
+use Rattle.js_expressions.proofs.ArraysAssigned.{no_array, not_simple_marked}
 use Rattle.js_expressions.proofs.Assignments.{shifted, assign_listed, row_assign, assign_answers, assign_marked, assign_refused, assign_whole, right_fails}
 use Rattle.js_targets.proofs.ArraysBeforeSigns.{is_cover, not_wide}
 use Rattle.js_expressions.proofs.Conditionals.{test_none}
@@ -38,47 +38,47 @@ returns-then-not-is_assignment_operator t c = λ text f a.
     let x = c.in_ok-left.ensures text f a in
     c.parse_conditional_expression_rest.ensures text f _ a (c.requires.operand text f a) c.cur_start-start.ensures (shifted x (c.in_ok-_power.ensures text f x.answer.at))
 
-pub is_array_literal-requires : goal.is_array_literal-requires
-is_array_literal-requires t c = let x = c.in_ok-left.ensures _ _ c.requires.at in stood (shifted x (c.in_ok-_power.ensures _ _ x.answer.at))
+pub is_array_or_object-requires : goal.is_array_or_object-requires
+is_array_or_object-requires t c = let x = c.in_ok-left.ensures _ _ c.requires.at in stood (shifted x (c.in_ok-_power.ensures _ _ x.answer.at))
 
-pub parse_array_assignment-requires-clause-at : goal.parse_array_assignment-requires-clause-at
-parse_array_assignment-requires-clause-at t c = standing (c.in_ok-_power.ensures _ _ (c.in_ok-left.ensures _ _ c.requires.at).answer.at).at
+pub parse_literal_assignment-requires-clause-at : goal.parse_literal_assignment-requires-clause-at
+parse_literal_assignment-requires-clause-at t c = standing (c.in_ok-_power.ensures _ _ (c.in_ok-left.ensures _ _ c.requires.at).answer.at).at
 
-pub parse_array_assignment-requires-clause-nests : goal.parse_array_assignment-requires-clause-nests
-parse_array_assignment-requires-clause-nests t c =
+pub parse_literal_assignment-requires-clause-nests : goal.parse_literal_assignment-requires-clause-nests
+parse_literal_assignment-requires-clause-nests t c =
     let x = shifted (c.in_ok-left.ensures _ _ c.requires.at) (c.in_ok-_power.ensures _ _ (c.in_ok-left.ensures _ _ c.requires.at).answer.at) in
     nests_later c.requires.nests (later_room (let a = x.answer.further in let b = c.requires.at.behind in omega arith) x.answer.same)
 
-pub parse_array_assignment-requires-clause-start : goal.parse_array_assignment-requires-clause-start
-parse_array_assignment-requires-clause-start t c =
+pub parse_literal_assignment-requires-clause-start : goal.parse_literal_assignment-requires-clause-start
+parse_literal_assignment-requires-clause-start t c =
     let x = shifted (c.in_ok-left.ensures _ _ c.requires.at) (c.in_ok-_power.ensures _ _ (c.in_ok-left.ensures _ _ c.requires.at).answer.at) in
     let a = x.answer.further in let s = c.cur_start-start.ensures in omega arith
 
-pub parse_array_assignment-requires-clause-whole : goal.parse_array_assignment-requires-clause-whole
-parse_array_assignment-requires-clause-whole t c = (c.in_ok-_power.ensures _ _ (c.in_ok-left.ensures _ _ c.requires.at).answer.at).uncut
+pub parse_literal_assignment-requires-clause-whole : goal.parse_literal_assignment-requires-clause-whole
+parse_literal_assignment-requires-clause-whole t c = (c.in_ok-_power.ensures _ _ (c.in_ok-left.ensures _ _ c.requires.at).answer.at).uncut
 
-pub parse_array_assignment-requires-clause-operator : goal.parse_array_assignment-requires-clause-operator
-parse_array_assignment-requires-clause-operator t c = assign_listed c.cur_kind.ensures c.is_assignment_operator.ensures c.if-not-is_assignment_operator.false
+pub parse_literal_assignment-requires-clause-operator : goal.parse_literal_assignment-requires-clause-operator
+parse_literal_assignment-requires-clause-operator t c = assign_listed c.cur_kind.ensures c.is_assignment_operator.ensures c.if-not-is_assignment_operator.false
 
-pub parse_array_assignment-requires-clause-read : goal.parse_array_assignment-requires-clause-read
-parse_array_assignment-requires-clause-read t c =
+pub parse_literal_assignment-requires-clause-read : goal.parse_literal_assignment-requires-clause-read
+parse_literal_assignment-requires-clause-read t c =
     let y = c.in_ok-left.ensures _ _ c.requires.at in
     let o = c.in_ok-_power.ensures _ _ y.answer.at in
     let x = shifted y o in
-    record { text = _; flags = _; first = c.args.p.now; begins = c.requires.at; start_is = c.cur_start-start.ensures; kept_is = c.kept_so_far-kept.ensures; read = x; array = sym (c.is_array_literal.ensures _ _ _ _ x.holds) ∙ c.if-is_array_literal.true }
+    record { text = _; flags = _; first = c.args.p.now; begins = c.requires.at; start_is = c.cur_start-start.ensures; kept_is = c.kept_so_far-kept.ensures; read = x; literal = sym (c.is_array_or_object.ensures _ _ _ _ x.holds) ∙ c.if-is_array_or_object.true }
 
-pub parse_array_assignment-requires-clause-marked : goal.parse_array_assignment-requires-clause-marked
-parse_array_assignment-requires-clause-marked t c = λ n k.
+pub parse_literal_assignment-requires-clause-marked : goal.parse_literal_assignment-requires-clause-marked
+parse_literal_assignment-requires-clause-marked t c = λ n k.
     let y = c.in_ok-left.ensures _ _ c.requires.at in
     let o = c.in_ok-_power.ensures _ _ y.answer.at in
     let x = shifted y o in
-    not_simple_marked c.requires.at x.answer o.uncut (assign_listed c.cur_kind.ensures c.is_assignment_operator.ensures c.if-not-is_assignment_operator.false) (sym (c.is_array_literal.ensures _ _ _ _ x.holds) ∙ c.if-is_array_literal.true) n _ c.cur_start-start.ensures (k ∙ c.kept_so_far-kept.ensures)
+    not_simple_marked c.requires.at x.answer o.uncut (assign_listed c.cur_kind.ensures c.is_assignment_operator.ensures c.if-not-is_assignment_operator.false) (sym (c.is_array_or_object.ensures _ _ _ _ x.holds) ∙ c.if-is_array_or_object.true) n _ c.cur_start-start.ensures (k ∙ c.kept_so_far-kept.ensures)
 
-pub returns-then-is_array_literal : goal.returns-then-is_array_literal
-returns-then-is_array_literal t c = λ text f a.
+pub returns-then-is_array_or_object : goal.returns-then-is_array_or_object
+returns-then-is_array_or_object t c = λ text f a.
     let y = c.in_ok-left.ensures text f a in
     let x = shifted y (c.in_ok-_power.ensures text f y.answer.at) in
-    c.parse_array_assignment.ensures text f _ a (c.requires.operand text f a) c.cur_start-start.ensures c.kept_so_far-kept.ensures x (sym (c.is_array_literal.ensures _ _ _ _ x.holds) ∙ c.if-is_array_literal.true)
+    c.parse_literal_assignment.ensures text f _ a (c.requires.operand text f a) c.cur_start-start.ensures c.kept_so_far-kept.ensures x (sym (c.is_array_or_object.ensures _ _ _ _ x.holds) ∙ c.if-is_array_or_object.true)
 
 pub cover-requires : goal.cover-requires
 cover-requires t c = let x = c.in_ok-left.ensures _ _ c.requires.at in stood (shifted x (c.in_ok-_power.ensures _ _ x.answer.at))
@@ -96,14 +96,14 @@ refuse_target-requires-clause-marked t c = λ k.
     let y = c.in_ok-left.ensures _ _ c.requires.at in
     let o = c.in_ok-_power.ensures _ _ y.answer.at in
     let x = shifted y o in
-    assign_marked c.requires.at (c.requires.operand _ _ c.requires.at).0 x.answer o.uncut (assign_listed c.cur_kind.ensures c.is_assignment_operator.ensures c.if-not-is_assignment_operator.false) (sym (c.is_array_literal.ensures _ _ _ _ x.holds) ∙ c.if-is_array_literal.false) (c.in_default.ensures _ _ _ _ x.holds) _ c.cur_start-start.ensures (k ∙ c.kept_so_far-kept.ensures)
+    assign_marked c.requires.at (c.requires.operand _ _ c.requires.at).0 x.answer o.uncut (assign_listed c.cur_kind.ensures c.is_assignment_operator.ensures c.if-not-is_assignment_operator.false) (no_array x.answer.label.kind (sym (c.is_array_or_object.ensures _ _ _ _ x.holds) ∙ c.if-is_array_or_object.false)) (c.in_default.ensures _ _ _ _ x.holds) _ c.cur_start-start.ensures (k ∙ c.kept_so_far-kept.ensures)
 
 pub returns-in_default : goal.returns-in_default
 returns-in_default t c = λ text f a.
     let y = c.in_ok-left.ensures text f a in
     let o = c.in_ok-_power.ensures text f y.answer.at in
     let x = shifted y o in
-    refused _ _ x.answer.at x.answer.same x.answer.verdict c.refuse_target.ensures (assign_refused x.answer (c.requires.operand text f a) o.uncut (assign_listed c.cur_kind.ensures c.is_assignment_operator.ensures c.if-not-is_assignment_operator.false) (inl (sym (c.is_array_literal.ensures _ _ _ _ x.holds) ∙ c.if-is_array_literal.false)) (c.in_default.ensures _ _ _ _ x.holds))
+    refused _ _ x.answer.at x.answer.same x.answer.verdict c.refuse_target.ensures (assign_refused x.answer (c.requires.operand text f a) o.uncut (assign_listed c.cur_kind.ensures c.is_assignment_operator.ensures c.if-not-is_assignment_operator.false) (inl (no_array x.answer.label.kind (sym (c.is_array_or_object.ensures _ _ _ _ x.holds) ∙ c.if-is_array_or_object.false))) (c.in_default.ensures _ _ _ _ x.holds))
 
 pub advance-requires-clause-at : goal.advance-requires-clause-at
 advance-requires-clause-at t c = standing (c.in_ok-_power.ensures _ _ (c.in_ok-left.ensures _ _ c.requires.at).answer.at).at

@@ -17,13 +17,13 @@ returns-in_err-target t c = λ text f first a na s k x h.
 pub advance-requires-clause-at : goal.advance-requires-clause-at
 advance-requires-clause-at t c =
     let r = c.requires.read in
-    let z = c.in_ok-target.ensures r.text r.flags r.first r.begins r.start_is r.kept_is r.read r.array in
+    let z = c.in_ok-target.ensures r.text r.flags r.first r.begins r.start_is r.kept_is r.read r.literal in
     standing z.stands_at
 
 pub advance-requires-clause-whole : goal.advance-requires-clause-whole
 advance-requires-clause-whole t c =
     let r = c.requires.read in
-    let z = c.in_ok-target.ensures r.text r.flags r.first r.begins r.start_is r.kept_is r.read r.array in
+    let z = c.in_ok-target.ensures r.text r.flags r.first r.begins r.start_is r.kept_is r.read r.literal in
     (z.cut ∙ c.requires.whole, ap (λ (v : Token). is_last v.kind) z.token ∙ ap is_last c.requires.equals)
 
 pub returns-in_err-advance : goal.returns-in_err-advance
@@ -34,7 +34,7 @@ returns-in_err-advance t c = λ text f first a na s k x h.
 pub assignment-requires : goal.assignment-requires
 assignment-requires t c =
     let r = c.requires.read in
-    let z = c.in_ok-target.ensures r.text r.flags r.first r.begins r.start_is r.kept_is r.read r.array in
+    let z = c.in_ok-target.ensures r.text r.flags r.first r.begins r.start_is r.kept_is r.read r.literal in
     let m = c.in_ok-advance.ensures _ _ z.stands_at in
     let n = nested_room z.stands_at m in
     let e = room_same r.read.answer.at z.stands_at z.place in
@@ -50,7 +50,7 @@ returns-in_err-right t c = λ text f first a na s k x h.
 pub end_span-span-requires : goal.end_span-span-requires
 end_span-span-requires t c =
     let r = c.requires.read in
-    let z = c.in_ok-target.ensures r.text r.flags r.first r.begins r.start_is r.kept_is r.read r.array in
+    let z = c.in_ok-target.ensures r.text r.flags r.first r.begins r.start_is r.kept_is r.read r.literal in
     let m = c.in_ok-advance.ensures _ _ z.stands_at in
     let y = (c.in_ok-right.ensures _ _ m.at).answer in
     let e = z.place in

@@ -4,9 +4,9 @@ use Rattle.js_cursor.specs.Places.{goal as source}
 use Rattle.js_targets.specs.Taken.{PlaceTold}
 use Rattle.js_targets.specs.Targets.{Spotted, Fits}
 use Rattle.js_targets.specs.declared.widening.Widening.{Widening}
-use Rattle.js_targets.specs.declared.widening.Widening.TheVariants.{Rest, Operator}
+use Rattle.js_targets.specs.declared.widening.Widening.TheVariants.{Rest, RestTarget, Operator}
 use Rattle.js_targets.proofs.ConvertedNodes.{map_ok}
-use Rattle.js_targets.proofs.PlacesTold.{operator_marked}
+use Rattle.js_targets.proofs.PlacesTold.{argument_marked, operator_marked}
 use Rattle.js_targets.proofs.widening.tell_place.Goals as goal
 
 pub tell_comma-requires-clause-ended : goal.tell_comma-requires-clause-ended
@@ -14,6 +14,12 @@ tell_comma-requires-clause-ended g c = subst (λ (w : Widening). Fits c.args.p.n
 
 pub tell_operator-requires-clause-mark : goal.tell_operator-requires-clause-mark
 tell_operator-requires-clause-mark g c = operator_marked (source c.args.p.now) c.in-Operator.element (subst (λ (w : Widening). Spotted c.args.p.now.text w) c.in-Operator.is c.requires.spotted)
+
+pub tell_rest_target-requires-clause-mark : goal.tell_rest_target-requires-clause-mark
+tell_rest_target-requires-clause-mark g c = argument_marked (source c.args.p.now) c.in-RestTarget.argument (subst (λ (w : Widening). Spotted c.args.p.now.text w) c.in-RestTarget.is c.requires.spotted)
+
+pub returns-in-RestTarget : goal.returns-in-RestTarget
+returns-in-RestTarget g c = subst (λ (w : Widening). IfOk c.tell_rest_target.result (λ _. PlaceTold w c.args.p.now c.tell_rest_target.new.p)) (sym c.in-RestTarget.is) (map_ok c.tell_rest_target.result (λ x k. inr ((λ n. n), (_, refl, k))) c.tell_rest_target.ensures)
 
 pub returns-in-Rest : goal.returns-in-Rest
 returns-in-Rest g c = subst (λ (w : Widening). IfOk c.tell_comma.result (λ _. PlaceTold w c.args.p.now c.tell_comma.new.p)) (sym c.in-Rest.is) c.tell_comma.ensures

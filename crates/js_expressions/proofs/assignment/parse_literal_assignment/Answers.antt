@@ -7,7 +7,7 @@ use Rattle.js_expressions.proofs.Assignments.{row_assign}
 use Rattle.js_parsing.proofs.Giving.{memory_stops}
 use Rattle.js_parsing.proofs.Moving.{standing}
 use Rattle.js_parsing.proofs.Nesting.{nested_room}
-use Rattle.js_expressions.proofs.assignment.parse_array_assignment.Goals as goal
+use Rattle.js_expressions.proofs.assignment.parse_literal_assignment.Goals as goal
 
 pub returns-then-at : goal.returns-then-at
 returns-then-at t c = c.parse_destructuring_assignment.ensures
