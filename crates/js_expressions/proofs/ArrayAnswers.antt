@@ -78,7 +78,7 @@ module _ {text : List ℕ} {f : Flags} {p q : Parser} (x : Answer text f (at Sho
   listed = subst (λ (v : Kind). one_of_kinds assign_operators v ≡ true) (sym k) refl
 
   to_array : Goes rule (Lex text) (after (at Assignment f)) end (rule (at Assignment f)) p.prev_token_end (array_part f) p.prev_token_end (λ us. us) (still 0)
-  to_array = to_parts f p.prev_token_end na.1 ▹ (right (no_conditional x (no_question x na c listed) (all_assign x na c listed)) ▹ right (no_branch (assign_part f) assign_operators (λ o m. fails_node inside_full (not_target x (plain full) o m (literal_no_target x.label x.slots h)))))
+  to_array = to_parts f p.prev_token_end na ▹ (right (no_conditional x (no_question x na c listed) (all_assign x na c listed)) ▹ right (no_branch (assign_part f) assign_operators (λ o m. fails_node inside_full (not_target x (plain full) o m (literal_no_target x.label x.slots h)))))
 
   -- no target of the other kind stands there
   no_other : Fails rule (Lex text) signs end (such (at (target_name (not (is_object x.label.kind))) f) always) p.prev_token_end

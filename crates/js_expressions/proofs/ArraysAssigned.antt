@@ -87,11 +87,6 @@ literal_stands source text s s' from f l cs ls y part b d true k u e = (
   (refl, refl),
 )
 
--- what is no literal is no array
-pub no_array : (k : NodeKind) → is_literal k ≡ false → is_array k ≡ false
-no_array array_expression h = absurd (false≢true (sym h))
-no_array _ h = refl
-
 primary_of : {f : Flags} {l : Label} {cs : Slots} {i j : ℕ} {ls rest : Lexemes} → Literal f l cs i ls j rest → Takes rule (rule (at Primary f)) end (tree l cs end) i ls end j rest
 primary_of (of_array d) = by_brackets d
 primary_of {f} (of_object d) = by_braces f d

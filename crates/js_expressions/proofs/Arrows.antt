@@ -69,7 +69,7 @@ use Rattle.js_cursor.specs.Notes.{Notes}
 use Rattle.js_parsing.specs.Contexts.{arrow_body, braced_body}
 use Rattle.js_expressions.specs.Arrows.{body_of, head_of, late_arrow, ArrowBehind, BeforeArrow, a_head, told_head, ToldHead, ChecksLine, FindsHead, Head, HeadOrNone, IsHead, IsHeadHere, IsRefusedHead, NoArrowHere, NoAssignment, Single, Unmoved, NoneLooked}
 use Rattle.js_parsing.specs.Heads.{NoHead, NotedHeads}
-use Rattle.js_expressions.specs.Rests.{OnlyOperandHere, Unbraced}
+use Rattle.js_expressions.specs.Rests.{OnlyOperandHere}
 use Rattle.js_expressions.specs.Closings.{ArrowBehindOne}
 use Rattle.js_expressions.proofs.Closings.{closes_alike, one_is}
 use Rattle.js_cursor.specs.Tokens.{may_be_read_again}
@@ -524,19 +524,8 @@ neither {p} n m = λ text f a. by text f p.token.escaped refl a
 pub unmoved_none : {p q : Parser} → Standing p → Unmoved p q → NoArrowHere p → NoArrowHere q
 unmoved_none {p} {q} a u n = λ text f b. subst (λ (s : ℕ). Underived text (at Arrow' f) s) (sym u.place) (subst (λ (g : Flags). Underived text (at Arrow' g) p.prev_token_end) (sym (flags_same p q u.same.ctx u.same.follows.source_type u.same.options) ∙ b.flags_are) (subst (λ (t : List ℕ). Underived t (at Arrow' (flags_of p)) p.prev_token_end) (sym u.same.follows.text ∙ b.text_is) (n _ _ a)))
 
--- no brace stands here
-pub unbraced_here : {text : List ℕ} {f : Flags} {p : Parser} → At text f p → (p.token.kind ≡ LCurly → ⊥) → Unbraced text p.prev_token_end
-unfolding covers apart
-unbraced_here {text} {f} {p} a n y l = go (same_kind LCurly y.kind) refl
-  where
-    go : (b : Bool) → same_kind LCurly y.kind ≡ b → same_kind LCurly y.kind ≡ false
-    go true e = absurd (not_here a (LCurly ∷ []) refl (other_kind LCurly p.token.kind n) y l (rw e refl))
-    go false e = e
-
-pub only_operand : {p q : Parser} → Standing p → (p.token.kind ≡ LCurly → ⊥) → Unmoved p q → NoArrowHere p → OnlyOperandHere q
-only_operand {p} {q} a k u n = λ text f b.
-    let x : Unbraced text p.prev_token_end = subst (λ (t : List ℕ). Unbraced t p.prev_token_end) (sym u.same.follows.text ∙ b.text_is) (unbraced_here a k) in
-    (subst (λ (s : ℕ). Unbraced text s) (sym u.place) x, unmoved_none a u n text f b)
+pub only_operand : {p q : Parser} → Standing p → Unmoved p q → NoArrowHere p → OnlyOperandHere q
+only_operand a u n = λ text f b. unmoved_none a u n text f b
 
 pub from_unmoved : (text : List ℕ) (f : Flags) (n : Symbol) {p q : Parser} (w : Parser) (r : Result NodeId Stop) → Unmoved p q → Outcome text f n q w r → Outcome text f n p w r
 from_unmoved text f n {p} {q} w (Ok id) u x = record {

@@ -44,9 +44,9 @@ use Rattle.js_targets.specs.Targets.{target_of, TargetNode}
 use Rattle.js_targets.proofs.Assigned.{an_assign, Assigns, assigns, assign_slots, assign_part, then_assign, not_target, assigned}
 use Rattle.js_expressions.proofs.Conditionals.{no_conditional}
 use Rattle.js_parsing.proofs.Signs.{other_kind}
-use Rattle.js_targets.proofs.ArraysBeforeSigns.{is_cover, no_array_there, not_wide, target_no_array}
-use Rattle.js_expressions.specs.Rests.{OnlyOperand, Unbraced}
-use Rattle.js_targets.specs.Targets.{is_array}
+use Rattle.js_targets.proofs.ArraysBeforeSigns.{is_cover, no_array, no_array_there, no_object_there, not_wide, target_no_literal}
+use Rattle.js_expressions.specs.Rests.{OnlyOperand}
+use Rattle.js_targets.specs.Targets.{is_literal}
 use Rattle.js_targets.proofs.Covers.{row_of_target, lexed_there, no_simple_there, underived_there}
 use Rattle.js_parsing.proofs.Here.{told, found}
 use Rattle.js_parsing.proofs.MadeNodes.{two_held, one_lies}
@@ -56,14 +56,6 @@ use Rattle.js_parsing.proofs.Paths.{Path, ◌⟼◌, ◌⟶◌, ◌⟶✗◌, to
 use Rattle.js_parsing.proofs.Signs.{none_kept, plain_of}
 use Rattle.js_targets.proofs.Targets.{of_short}
 use Rattle.js_parsing.proofs.Tight.{read_plain}
-
--- where no brace stands, no object target is derived
-pub no_object_taken : (f : Flags) {text : List ℕ} {s : ℕ} → Unbraced text s → {ts vs : Slots} {j : ℕ} {ls rest : Lexemes} → Lexes (Lex text) s ls → Takes rule (symbol ObjectTarget f) end ts s ls vs j rest → ⊥
-unfolding rule rule_of
-no_object_taken f nb m (is_such (is_node (is_seq (is_lexeme {x = z} q) e)) g) = false≢true (sym (nb z m.0) ∙ (and_parts (same_kind LCurly z.kind) (not z.escaped) q).0)
-
-pub no_object_here : (f : Flags) {text : List ℕ} {X : Test} {s : ℕ} → Unbraced text s → Fails rule (Lex text) X end (symbol ObjectTarget f) s
-no_object_here f nb = record { no = λ ts vs k ls rest l d e. no_object_taken f nb l d }
 
 -- the sign behind was told whole
 pub shifted : {text : List ℕ} {f : Flags} {n : Symbol} {p q t : Parser} {id : NodeId} {power : ℕ} → Numbered text f n p q id → Tightness text f q t power → Numbered text f n p t id
@@ -120,11 +112,11 @@ module _ {text : List ℕ} {f : Flags} {p q : Parser} (x : Answer text f (at Sho
   no_question = other_kind Question q.token.kind (λ e. false≢true (subst (λ (k : Kind). one_of_kinds assign_operators k ≡ true) e u))
 
   -- an array literal before `=` aside
-  to_assign : (is_array x.label.kind ≡ false) ⊎ (same_kind Eq q.token.kind ≡ false) → Goes rule (Lex text) (after (at Assignment f)) end (rule (at Assignment f)) p.prev_token_end (assign_part f q.token.kind) p.prev_token_end (λ us. us) (still 0)
-  to_assign b = assigned na.0 na.1 x q.token.kind u sign_here (no_conditional x no_question all_assign) b
+  to_assign : (is_literal x.label.kind ≡ false) ⊎ (same_kind Eq q.token.kind ≡ false) → Goes rule (Lex text) (after (at Assignment f)) end (rule (at Assignment f)) p.prev_token_end (assign_part f q.token.kind) p.prev_token_end (λ us. us) (still 0)
+  to_assign b = assigned na x q.token.kind u sign_here (no_conditional x no_question all_assign) b
 
   -- the left side is no target
-  pub assign_refused : (is_array x.label.kind ≡ false) ⊎ (same_kind Eq q.token.kind ≡ false) → target_of x.label x.slots ≡ None → Underived text (at Assignment f) p.prev_token_end
+  pub assign_refused : (is_literal x.label.kind ≡ false) ⊎ (same_kind Eq q.token.kind ≡ false) → target_of x.label x.slots ≡ None → Underived text (at Assignment f) p.prev_token_end
   assign_refused b e = fails_by (to_assign b ▹✗ fails_node (inside_second f q.token.kind p.prev_token_end) (not_target x (second f) q.token.kind u e))
 
   module _ {r : Parser} (m : Moved text f q r) (t : Tree) (e : target_of x.label x.slots ≡ Some t) where
@@ -132,10 +124,10 @@ module _ {text : List ℕ} {f : Flags} {p q : Parser} (x : Answer text f (at Sho
     sign_read = then_assign x (second f) q.token.kind u t e ⟶ token q.token.kind x.at refl plain_here (assigns q.token.kind u).is_read m
 
     pub right_fails : Underived text (at Assignment f) r.prev_token_end → Underived text (at Assignment f) p.prev_token_end
-    right_fails n = fails_by (to_assign (inl (target_no_array x.label x.slots t e)) ▹✗ fails_node (inside_second f q.token.kind p.prev_token_end) (sign_read ⟶✗ weaken_fails_on n (on_second f t.label t.slots r.prev_token_end)))
+    right_fails n = fails_by (to_assign (inl (target_no_literal x.label x.slots t e)) ▹✗ fails_node (inside_second f q.token.kind p.prev_token_end) (sign_read ⟶✗ weaken_fails_on n (on_second f t.label t.slots r.prev_token_end)))
 
     assign_path : {w : Parser} → At text f p → (y : Answer text f (at Assignment f) r w) → Path text f (after (at Assignment f)) (rule (at Assignment f)) p nothing w (tree (label_here assignment_expression (of q.token.kind) p w) (tree t.label t.slots (tree y.label y.slots end)))
-    assign_path a y = to_assign (inl (target_no_array x.label x.slots t e)) ⟼ noded_by a (inside_second f q.token.kind p.prev_token_end) (sign_read ⟶ last_called y (on_second f t.label t.slots r.prev_token_end))
+    assign_path a y = to_assign (inl (target_no_literal x.label x.slots t e)) ⟼ noded_by a (inside_second f q.token.kind p.prev_token_end) (sign_read ⟶ last_called y (on_second f t.label t.slots r.prev_token_end))
 
 -- ---- the tables
 
@@ -191,8 +183,8 @@ assign_answers {text} {f} {p} {q} {r} {w} {z} {left} {target} {second} {id} {o} 
 
 -- ---- what is told of a left side that is no target
 
-pub assign_marked : {text : List ℕ} {f : Flags} {p q : Parser} → At text f p → Unbraced text p.prev_token_end → (x : Answer text f (at Short f) p q) → q.cut ≡ false → one_of_kinds assign_operators q.token.kind ≡ true → is_array x.label.kind ≡ false → target_of x.label x.slots ≡ None → (start : ℕ) → start ≡ p.token.span.start → length q.errors ≡ length p.errors → Mark (goal q) q.text (no_target_at start q.prev_token_end)
-assign_marked {text} {f} {p} {q} a nb x c u b e start d k = subst (λ (v : List ℕ). Mark (goal q) v (no_target_at start q.prev_token_end)) (sym x.at.text_is) it
+pub assign_marked : {text : List ℕ} {f : Flags} {p q : Parser} → At text f p → (x : Answer text f (at Short f) p q) → q.cut ≡ false → one_of_kinds assign_operators q.token.kind ≡ true → is_literal x.label.kind ≡ false → target_of x.label x.slots ≡ None → (start : ℕ) → start ≡ p.token.span.start → length q.errors ≡ length p.errors → Mark (goal q) q.text (no_target_at start q.prev_token_end)
+assign_marked {text} {f} {p} {q} a x c u b e start d k = subst (λ (v : List ℕ). Mark (goal q) v (no_target_at start q.prev_token_end)) (sym x.at.text_is) it
   where
     g : Assigns q.token.kind
     g = assigns q.token.kind u
@@ -216,7 +208,7 @@ assign_marked {text} {f} {p} {q} a nb x c u b e start d k = subst (λ (v : List 
           within = (subst (λ (v : List ℕ). IsCharBoundary v q.prev_token_end) x.at.text_is x.at.at.between).0;
           begins_between = subst (λ (v : ℕ). IsCharBoundary text v) (sym d) (subst (λ (v : List ℕ). IsCharBoundary v p.token.span.start) a.text_is a.at.lies.starts_whole);
           ends_between = subst (λ (v : List ℕ). IsCharBoundary v q.prev_token_end) x.at.text_is x.at.at.between;
-          stands = (inr (underived_there x a z stood.0 stood.1 f Target (record { start = start; end = q.prev_token_end }) d refl (λ t h. no_target f (λ t h. no_object_taken f nb m h) (λ t h. no_simple_there x a z stood.0 stood.1 (of_short f) e follows t h) (λ t h. no_array_there (not_wide a) (is_cover a) z b stood.0 m sign h) t h)), (refl, refl));
+          stands = (inr (underived_there x a z stood.0 stood.1 f Target (record { start = start; end = q.prev_token_end }) d refl (λ t h. no_target f (λ t h. no_object_there (not_wide a) (is_cover a) z b stood.0 m sign h) (λ t h. no_simple_there x a z stood.0 stood.1 (of_short f) e follows t h) (λ t h. no_array_there (not_wide a) (is_cover a) z (no_array x.label.kind b) stood.0 m sign h) t h)), (refl, refl));
         }
 
 pub assign_whole : {text : List ℕ} {f : Flags} {p q : Parser} {power : ℕ} → Tightness text f p q power → one_of_kinds assign_operators q.token.kind ≡ true → (q.cut ≡ false) × (is_last q.token.kind ≡ false)

@@ -184,10 +184,10 @@ module _ {text : List ℕ} {f : Flags} {p q : Parser} (x : Answer text f (at Sho
   branches_only e = right (last_called x (same_read (at Assignment f) (at Short f) short_passes refl) ⟶✗ no_end e)
 
   wrapped : {w : Parser} {l : Label} {cs : Slots} → OnlyOperand text f p.prev_token_end → q.token.kind ≡ Question → Path text f (after (at Assignment f)) (conditional_part f) p nothing w (tree l cs) → Path text f (after (at Assignment f)) (rule (at Assignment f)) p nothing w (tree l cs)
-  wrapped na e r = unassigned na.0 na.1 x (no_sign e) ⟼ by_symbol_as (λ l cs vs y d. d) (branches_only e ⟼ r)
+  wrapped na e r = unassigned na x (no_sign e) ⟼ by_symbol_as (λ l cs vs y d. d) (branches_only e ⟼ r)
 
   wrapped_fails : OnlyOperand text f p.prev_token_end → q.token.kind ≡ Question → Fails rule (Lex text) (third f) end (conditional_slots f) p.prev_token_end → Underived text (at Assignment f) p.prev_token_end
-  wrapped_fails na e n = fails_by (unassigned na.0 na.1 x (no_sign e) ▹✗ fails_rule {X' = after (at Assignment f)} (λ l cs vs y d. d) (branches_only e ▹✗ fails_node (inside_third f p.prev_token_end) n))
+  wrapped_fails na e n = fails_by (unassigned na x (no_sign e) ▹✗ fails_rule {X' = after (at Assignment f)} (λ l cs vs y d. d) (branches_only e ▹✗ fails_node (inside_third f p.prev_token_end) n))
 
   module _ {r : Parser} (na : OnlyOperand text f p.prev_token_end) (e : q.token.kind ≡ Question) (m : Moved text f q r) where
     asked : Path text f (third f) (conditional_slots f) p (symbol Assignment (plus_in f) ▸ tok Colon ▸ symbol Assignment f) r (tree x.label x.slots)

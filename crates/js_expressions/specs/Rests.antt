@@ -16,18 +16,14 @@ use Rattle.js_parsing.specs.Answers.{Numbered, Outcome, Underived}
 use Rattle.js_parsing.specs.Lexemes.{Lex}
 use Rattle.js_parsing.specs.States.{At}
 
--- no brace that opens stands at the place
-abbrev pub Unbraced : List ℕ → ℕ → Type 0
-Unbraced text s = (y : Lexeme) → Lex text s y → same_kind LCurly y.kind ≡ false
-
--- neither an object literal nor an arrow function begins at the place
+-- no arrow function begins at the place
 abbrev pub OnlyOperand : List ℕ → Flags → ℕ → Type 0
-OnlyOperand text f s = Unbraced text s × Underived text (at Arrow' f) s
+OnlyOperand text f s = Underived text (at Arrow' f) s
 
 abbrev pub OnlyOperandHere : Parser → Type 0
 OnlyOperandHere p = (text : List ℕ) (f : Flags) → At text f p → OnlyOperand text f p.prev_token_end
 
--- A ShortCircuitExpression was read up to the old state, where no object literal and no arrow function begins; what is read now makes an AssignmentExpression of it.
+-- A ShortCircuitExpression was read up to the old state, where no arrow function begins; what is read now makes an AssignmentExpression of it.
 abbrev pub ReadsConditional : ℕ → NodeId → Parser → Parser → Result NodeId Stop → Type 0
 ReadsConditional start id old new r = (text : List ℕ) (f : Flags) (first : Parser) → At text f first → OnlyOperand text f first.prev_token_end → start ≡ first.token.span.start → Numbered text f (at Short f) first old id → Outcome text f (at Assignment f) first new r
 

@@ -31,7 +31,7 @@ use js_targets::array_target::literal_target;
 use js_targets::cover::{cover, is_array_or_object, refuse_target, tell_not_simple};
 use js_tree::{NodeId, NodeKind, Op};
 
-/// An AssignmentExpression (ECMA-262, section 13.15); none begins with a brace yet.
+/// An AssignmentExpression (ECMA-262, section 13.15).
 pub fn parse_assignment_expression<C: ParserConfig, N: Nested<C>>(
     p: &mut ParserImpl<'_, C>,
     nested: &N,
@@ -40,9 +40,6 @@ pub fn parse_assignment_expression<C: ParserConfig, N: Nested<C>>(
     requires nests { CanNest (N.can nested.now) (room p.old) }
     ensures { Answers (at Assignment) p.old p.new result }
 {
-    if p.at(Kind::LCurly) {
-        return Err(p.set_unexpected());
-    }
     let start = p.cur_start();
     if let Some(parameters) = parse_arrow_head(p, nested)? {
         return parse_arrow_function_expression(p, nested, start, parameters);

@@ -6,7 +6,7 @@ use Rattle.js_base.specs.declared.kind.Kind.TheVariants.{Eq, LCurly}
 use Rattle.js_base.specs.Kinds.{same_kind, one_of_kinds}
 use Rattle.js_base.proofs.KindLemmas.{kind_of_same}
 use Rattle.js_grammar.specs.Trees.{NodeKind, Op, Label, Slots, end, tree, Tree, of, array_expression, assignment_expression, object_expression}
-use Rattle.js_grammar.specs.Grammar.{Lexeme, Lexemes, last, Look, here, seen, is, alt, seq, such, nothing, ◌▸◌, ◌◇◌, Takes, is_lexeme, is_seq, is_left, is_right, is_such, is_node}
+use Rattle.js_grammar.specs.Grammar.{Lexeme, Lexemes, last, next, Look, here, seen, is, alt, seq, such, nothing, ◌▸◌, ◌◇◌, Takes, is_lexeme, is_seq, is_left, is_right, is_such, is_node}
 use Rattle.js_grammar.specs.Insertion.{Row, after_expression, assign_operators}
 use Rattle.js_grammar.specs.Lexed.{Lexes}
 use Rattle.js_grammar.specs.Parsing.{Test, always, Admits, Fails}
@@ -21,7 +21,7 @@ use Rattle.js_cursor.specs.Parsers.{Parser}
 use Rattle.js_parsing.specs.Answers.{Answer, Stretch, Underived}
 use Rattle.js_parsing.specs.Lexemes.{Lex}
 use Rattle.js_parsing.specs.States.{At}
-use Rattle.js_targets.specs.Targets.{is_array, target_of}
+use Rattle.js_targets.specs.Targets.{is_array, is_literal, is_object, target_of}
 use Rattle.js_targets.proofs.ArrayTargets.{array_up, object_up}
 use Rattle.js_targets.proofs.Targets.{by_primary, of_short}
 use Rattle.js_parsing.proofs.Verdicts.{either_way}
@@ -54,13 +54,25 @@ unfolding covers
 signs_follow true = refl
 signs_follow false = refl
 
--- what has a simple target is no array literal
-target_kind : (k : NodeKind) (o : Op) (fl : ℕ) (p : _) (cs : Slots) (t : Tree) → target_of (record { kind = k; op = o; flags = fl; span = p }) cs ≡ Some t → is_array k ≡ false
+-- what has a simple target is no literal
+target_kind : (k : NodeKind) (o : Op) (fl : ℕ) (p : _) (cs : Slots) (t : Tree) → target_of (record { kind = k; op = o; flags = fl; span = p }) cs ≡ Some t → is_literal k ≡ false
 target_kind array_expression o fl p cs t e = absurd (cc)
+target_kind object_expression o fl p cs t e = absurd (cc)
 target_kind _ o fl p cs t e = refl
 
-pub target_no_array : (l : Label) (cs : Slots) (t : Tree) → target_of l cs ≡ Some t → is_array l.kind ≡ false
-target_no_array l cs t e = target_kind l.kind l.op l.flags l.span cs t e
+pub target_no_literal : (l : Label) (cs : Slots) (t : Tree) → target_of l cs ≡ Some t → is_literal l.kind ≡ false
+target_no_literal l cs t e = target_kind l.kind l.op l.flags l.span cs t e
+
+-- what is no literal is no array
+pub no_array : (k : NodeKind) → is_literal k ≡ false → is_array k ≡ false
+no_array array_expression h = absurd (false≢true (sym h))
+no_array _ h = refl
+
+array_literal : (k : NodeKind) → is_array k ≡ true → is_literal k ≡ true
+array_literal k h = ap (λ (b : Bool). b || is_object k) h
+
+object_literal : {k : NodeKind} → k ≡ object_expression → is_literal k ≡ true
+object_literal e = subst (λ (k : NodeKind). is_literal k ≡ true) (sym e) refl
 
 an_equals : (y : Lexeme) → IsTrue (seen (is Eq) y) → IsTrue (seen signs y)
 an_equals y q = let z = and_parts (same_kind Eq y.kind) (not y.escaped) q in and_from (one_of_kinds assign_operators y.kind) (not y.escaped) (subst (λ (v : Kind). one_of_kinds assign_operators v ≡ true) (kind_of_same Eq y.kind z.0) refl) z.1
@@ -86,10 +98,6 @@ object_before_a_sign f l cs us h y q = admits (at Short f) (tree l cs us) y (sub
 pub before_others : {f : Flags} {ks vs : Slots} {l : Label} {cs : Slots} {i j : ℕ} {ls rest : Lexemes} → Takes rule (such (at Short f) always) end (tree l cs end) i ls end j rest → Takes rule (such (at Short f) always) ks (tree l cs vs) i ls vs j rest
 before_others (is_such d h) = is_such d h
 
--- no brace that opens stands there
-abbrev pub NoBrace : List ℕ → ℕ → Type 0
-NoBrace text s = (y : Lexeme) → Lex text s y → same_kind LCurly y.kind ≡ false
-
 module _ {f : Flags} (w : f.wide ≡ false) (v : f.cover ≡ true) where
   pub literal : {ks ts us vs : Slots} {i j : ℕ} {ls rest : Lexemes} → Takes rule (symbol ArrayTarget f) ks ts i ls us j rest → Literal f ks vs i ls j rest
   literal {ks} {vs = vs} (is_such d h) = let x = array_up f w v d in record { label = x.label; slots = x.slots; array = x.array; takes = anew ((of_short f).up (by_primary x.derived)) }
@@ -108,6 +116,27 @@ module _ {f : Flags} (w : f.wide ≡ false) (v : f.cover ≡ true) where
       let z = r.goes.only (tree x.label x.slots end) end j ls (last y) m x.takes (before_a_sign x y q) in
       false≢true (sym n ∙ (sym (ap (λ (v : Label). is_array v.kind) (label_is z.2)) ∙ x.array))
 
+  -- nor an object target
+  pub no_object_there : {text : List ℕ} {s s' : ℕ} {l : Label} {cs : Slots} {pass : Lexemes → Lexemes} → Stretch text (after (at Short f)) (such (at Short f) always) s nothing s' (tree l cs) pass → is_literal l.kind ≡ false → {ts : Slots} {j : ℕ} {ls : Lexemes} (y : Lexeme) → Lexes (Lex text) s ls → IsTrue (seen signs y) → Takes rule (symbol ObjectTarget f) end ts s ls end j (last y) → ⊥
+  no_object_there r n {j = j} {ls} y m q (is_such d g) =
+      let x = object_up f w v d in
+      let z = r.goes.only (tree x.label x.slots end) end j ls (last y) m (before_others ((of_short f).up (by_primary x.derived))) (object_before_a_sign f x.label x.slots end x.object y q) in
+      false≢true (sym n ∙ (sym (ap (λ (v : Label). is_literal v.kind) (label_is z.2)) ∙ object_literal x.object))
+
+  -- a literal isn't derived where another tree was read, or where no `=` stands behind it
+  another : {text : List ℕ} {s s' : ℕ} {l m : Label} {cs ds us : Slots} {pass : Lexemes → Lexemes} {j : ℕ} {y : Lexeme} {ls ms : Lexemes} → Stretch text (after (at Short f)) (such (at Short f) always) s nothing s' (tree l cs) pass → (is_literal l.kind ≡ false) ⊎ ((y : Lexeme) → Lex text s' y → IsTrue (seen (is Eq) y) → ⊥) → is_literal m.kind ≡ true → Lexes (Lex text) s ls → Takes rule (such (at Short f) always) end (tree m ds us) s ls us j (next y ms) → Admits (after (at Short f)) (tree m ds us) y → IsTrue (seen (is Eq) y) → ⊥
+  another {text} {s} {s'} {l} {m} {cs} {ds} {us} {pass} {j} {y} {ls} {ms} r h t c d a q = by h
+    where
+      z : (vs : Slots) × (ls' : Lexemes) × (tree m ds us ≡ tree l cs vs) × Lexes (Lex text) s' ls' × Takes rule nothing end vs s' ls' us j (next y ms) × (ls ≡ pass ls')
+      z = r.goes.only (tree m ds us) us j ls (next y ms) c d a
+
+      stands : Lex text s' y
+      stands = here_at (Lex text) (next y ms) (subst (λ (v : Lexemes). Lexes (Lex text) s' v) (ends z.4).2 z.3)
+
+      by : (is_literal l.kind ≡ false) ⊎ ((y : Lexeme) → Lex text s' y → IsTrue (seen (is Eq) y) → ⊥) → ⊥
+      by (inl n) = false≢true (sym n ∙ (sym (ap (λ (v : Label). is_literal v.kind) (label_is z.2)) ∙ t))
+      by (inr n) = n y stands q
+
   module _ {text : List ℕ} {X : Test} {s : ℕ} where
     -- nothing was read
     pub no_array_unread : Underived text (at Short f) s → Fails rule (Lex text) X end (array_slots f) s
@@ -118,27 +147,13 @@ module _ {f : Flags} (w : f.wide ≡ false) (v : f.cover ≡ true) where
         go ts vs k ls rest l (is_seq {us = us} {j = j} {mid = mid} (is_right (is_such d h)) (is_seq (is_lexeme {x = y} q) b)) = let x = object_up f w v d in n.no (tree x.label x.slots us) us j ls mid l (before_others ((of_short f).up (by_primary x.derived))) (object_before_a_sign f x.label x.slots us x.object y (an_equals y q))
 
     -- it was read as another tree; or no `=` stands behind it
-    pub no_array_read : NoBrace text s → {s' : ℕ} {l : Label} {cs : Slots} {pass : Lexemes → Lexemes} → Stretch text (after (at Short f)) (such (at Short f) always) s nothing s' (tree l cs) pass → (is_array l.kind ≡ false) ⊎ ((y : Lexeme) → Lex text s' y → IsTrue (seen (is Eq) y) → ⊥) → Fails rule (Lex text) X end (array_slots f) s
-    unfolding rule rule_of
-    no_array_read nb {s'} {l} {cs} {pass} r h = record { no = λ ts vs k ls rest m d e. go ts vs k ls rest m d }
+    pub no_array_read : {s' : ℕ} {l : Label} {cs : Slots} {pass : Lexemes → Lexemes} → Stretch text (after (at Short f)) (such (at Short f) always) s nothing s' (tree l cs) pass → (is_literal l.kind ≡ false) ⊎ ((y : Lexeme) → Lex text s' y → IsTrue (seen (is Eq) y) → ⊥) → Fails rule (Lex text) X end (array_slots f) s
+    no_array_read r h = record { no = λ ts vs k ls rest m d e. go ts vs k ls rest m d }
       where
         go : (ts vs : Slots) (k : ℕ) (ls rest : Lexemes) → Lexes (Lex text) s ls → Takes rule (array_slots f) end ts s ls vs k rest → ⊥
-        go ts vs k ls rest m (is_seq {us = us} {j = j} {mid = mid} (is_left d) (is_seq (is_lexeme {x = y} q) b)) = by h
-          where
-            x : Literal f end us s ls j mid
-            x = literal {vs = us} d
-
-            z : (vs : Slots) × (ls' : Lexemes) × (tree x.label x.slots us ≡ tree l cs vs) × Lexes (Lex text) s' ls' × Takes rule nothing end vs s' ls' us j mid × (ls ≡ pass ls')
-            z = r.goes.only (tree x.label x.slots us) us j ls mid m x.takes (before_a_sign x y (an_equals y q))
-
-            stands : Lex text s' y
-            stands = here_at (Lex text) mid (subst (λ (v : Lexemes). Lexes (Lex text) s' v) (ends z.4).2 z.3)
-
-            by : (is_array l.kind ≡ false) ⊎ ((y : Lexeme) → Lex text s' y → IsTrue (seen (is Eq) y) → ⊥) → ⊥
-            by (inl n) = false≢true (sym n ∙ (sym (ap (λ (v : Label). is_array v.kind) (label_is z.2)) ∙ x.array))
-            by (inr n) = n y stands q
-        go ts vs k ls rest m (is_seq (is_right (is_such (is_node (is_seq (is_lexeme {x = z} q) e)) g)) b) = false≢true (sym (nb z m.0) ∙ (and_parts (same_kind LCurly z.kind) (not z.escaped) q).0)
+        go ts vs k ls rest m (is_seq {us = us} (is_left d) (is_seq (is_lexeme {x = y} q) b)) = let x = literal {ks = end} {vs = us} d in another {us = us} r h (array_literal x.label.kind x.array) m x.takes (before_a_sign x y (an_equals y q)) q
+        go ts vs k ls rest m (is_seq {us = us} (is_right (is_such d g)) (is_seq (is_lexeme {x = y} q) b)) = let x = object_up f w v d in another {us = us} r h (object_literal x.object) m (before_others ((of_short f).up (by_primary x.derived))) (object_before_a_sign f x.label x.slots us x.object y (an_equals y q)) q
 
 -- between two states
-pub no_array_part : {text : List ℕ} {f : Flags} {X : Test} {p q : Parser} → NoBrace text p.prev_token_end → (x : Answer text f (at Short f) p q) → (is_array x.label.kind ≡ false) ⊎ ((y : Lexeme) → Lex text q.prev_token_end y → IsTrue (seen (is Eq) y) → ⊥) → Fails rule (Lex text) X end (array_slots f) p.prev_token_end
-no_array_part b x h = either_way x.verdict (λ y. no_array_read (not_wide x.at) (is_cover x.at) b y h) (λ n. no_array_unread (not_wide x.at) (is_cover x.at) n)
+pub no_array_part : {text : List ℕ} {f : Flags} {X : Test} {p q : Parser} → (x : Answer text f (at Short f) p q) → (is_literal x.label.kind ≡ false) ⊎ ((y : Lexeme) → Lex text q.prev_token_end y → IsTrue (seen (is Eq) y) → ⊥) → Fails rule (Lex text) X end (array_slots f) p.prev_token_end
+no_array_part x h = either_way x.verdict (λ y. no_array_read (not_wide x.at) (is_cover x.at) y h) (λ n. no_array_unread (not_wide x.at) (is_cover x.at) n)

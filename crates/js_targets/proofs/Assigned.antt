@@ -26,8 +26,8 @@ use Rattle.js_parsing.specs.Answers.{Underived, Answer}
 use Rattle.js_parsing.specs.Lexemes.{Lex, read_kinds}
 use Rattle.js_targets.specs.Targets.{target_of}
 use Rattle.js_targets.proofs.Covers.{row_of_target, target_path, target_fails, target_unread}
-use Rattle.js_targets.proofs.ArraysBeforeSigns.{NoBrace, array_part, no_array_part, no_array_unread}
-use Rattle.js_targets.specs.Targets.{is_array}
+use Rattle.js_targets.proofs.ArraysBeforeSigns.{array_part, no_array_part, no_array_unread}
+use Rattle.js_targets.specs.Targets.{is_literal}
 use Rattle.js_parsing.proofs.Dead.{live, lives}
 use Rattle.js_parsing.proofs.Paths.{Path, ◌⟶✗◌}
 use Rattle.js_targets.proofs.Targets.{of_short}
@@ -164,8 +164,8 @@ is_sign : (o : Kind) (y : Lexeme) → one_of_kinds assign_operators o ≡ true �
 is_sign o y h s = let z = and_parts (same_kind o y.kind) (not y.escaped) s in and_from _ _ (subst (λ (k : Kind). one_of_kinds assign_operators k ≡ true) (kind_of_same o y.kind z.0) h) z.1
 
 -- no assignment operator stands behind a ShortCircuitExpression
-pub unassigned : {text : List ℕ} {f : Flags} {p q : Parser} → NoBrace text p.prev_token_end → Underived text (at Arrow' f) p.prev_token_end → Answer text f (at Short f) p q → ((y : Lexeme) → Lex text q.prev_token_end y → IsTrue (seen an_assign y) → ⊥) → Goes rule (Lex text) (after (at Assignment f)) end (rule (at Assignment f)) p.prev_token_end (such (at Conditional f) always) p.prev_token_end (λ us. us) (still 0)
-unassigned {f = f} {p = p} nb a x n = to_parts f p.prev_token_end a ▹ left (fails_alt (no_branch (assign_part f) assign_operators (λ o h. fails_node inside_full (no_assign_slots x (plain full) o h (λ y l s. n y l (is_sign o y h s))))) (fails_node inside_full (no_array_part nb x (inr (λ y l s. n y l (is_sign Eq y refl s))))))
+pub unassigned : {text : List ℕ} {f : Flags} {p q : Parser} → Underived text (at Arrow' f) p.prev_token_end → Answer text f (at Short f) p q → ((y : Lexeme) → Lex text q.prev_token_end y → IsTrue (seen an_assign y) → ⊥) → Goes rule (Lex text) (after (at Assignment f)) end (rule (at Assignment f)) p.prev_token_end (such (at Conditional f) always) p.prev_token_end (λ us. us) (still 0)
+unassigned {f = f} {p = p} a x n = to_parts f p.prev_token_end a ▹ left (fails_alt (no_branch (assign_part f) assign_operators (λ o h. fails_node inside_full (no_assign_slots x (plain full) o h (λ y l s. n y l (is_sign o y h s))))) (fails_node inside_full (no_array_part x (inr (λ y l s. n y l (is_sign Eq y refl s))))))
 
 no_assignment : {text : List ℕ} {X : Test} (f : Flags) {s : ℕ} → f.wide ≡ false → f.cover ≡ true → Underived text (at Short f) s → Fails rule (Lex text) X end (alt (branches assign_operators (assign_part f)) (array_part f)) s
 no_assignment f {s} w v x = fails_alt (no_branch (assign_part f) assign_operators (λ o h. fails_node inside_full (part_fails (target_unread (of_short f) (assign_heads f) x) (before_sign f o h (plain full) s)))) (fails_node inside_full (no_array_unread w v x))
@@ -181,9 +181,9 @@ nothing_assigned f {s} w v a x = to_parts f s a ▹ left (no_assignment f w v x)
 all_distinct : distinct assign_operators ≡ true
 all_distinct = refl
 
-pub assigned : {text : List ℕ} {f : Flags} {p q : Parser} → NoBrace text p.prev_token_end → Underived text (at Arrow' f) p.prev_token_end → (x : Answer text f (at Short f) p q) → (o : Kind) → one_of_kinds assign_operators o ≡ true → ((y : Lexeme) → Lex text q.prev_token_end y → y.kind ≡ o) → Fails rule (Lex text) (after (at Assignment f)) end (such (at Conditional f) always) p.prev_token_end → (is_array x.label.kind ≡ false) ⊎ (same_kind Eq o ≡ false) → Goes rule (Lex text) (after (at Assignment f)) end (rule (at Assignment f)) p.prev_token_end (assign_part f o) p.prev_token_end (λ us. us) (still 0)
-assigned {text} {f} {p} {q} nb a x o h k n b = to_parts f p.prev_token_end a ▹ (right n ▹ (left (fails_node inside_full (no_array_part nb x (other b))) ▹ one_branch (assign_part f) assign_operators o h all_distinct (λ i m d. fails_node inside_full (no_assign_slots x (plain full) i m (λ y l s. false≢true (sym d ∙ subst (λ (v : Kind). same_kind i v ≡ true) (k y l) (and_parts (same_kind i y.kind) (not y.escaped) s).0))))))
+pub assigned : {text : List ℕ} {f : Flags} {p q : Parser} → Underived text (at Arrow' f) p.prev_token_end → (x : Answer text f (at Short f) p q) → (o : Kind) → one_of_kinds assign_operators o ≡ true → ((y : Lexeme) → Lex text q.prev_token_end y → y.kind ≡ o) → Fails rule (Lex text) (after (at Assignment f)) end (such (at Conditional f) always) p.prev_token_end → (is_literal x.label.kind ≡ false) ⊎ (same_kind Eq o ≡ false) → Goes rule (Lex text) (after (at Assignment f)) end (rule (at Assignment f)) p.prev_token_end (assign_part f o) p.prev_token_end (λ us. us) (still 0)
+assigned {text} {f} {p} {q} a x o h k n b = to_parts f p.prev_token_end a ▹ (right n ▹ (left (fails_node inside_full (no_array_part x (other b))) ▹ one_branch (assign_part f) assign_operators o h all_distinct (λ i m d. fails_node inside_full (no_assign_slots x (plain full) i m (λ y l s. false≢true (sym d ∙ subst (λ (v : Kind). same_kind i v ≡ true) (k y l) (and_parts (same_kind i y.kind) (not y.escaped) s).0))))))
   where
-    other : (is_array x.label.kind ≡ false) ⊎ (same_kind Eq o ≡ false) → (is_array x.label.kind ≡ false) ⊎ ((y : Lexeme) → Lex text q.prev_token_end y → IsTrue (seen (is Eq) y) → ⊥)
+    other : (is_literal x.label.kind ≡ false) ⊎ (same_kind Eq o ≡ false) → (is_literal x.label.kind ≡ false) ⊎ ((y : Lexeme) → Lex text q.prev_token_end y → IsTrue (seen (is Eq) y) → ⊥)
     other (inl e) = inl e
     other (inr e) = inr (λ y l s. false≢true (sym e ∙ subst (λ (v : Kind). same_kind Eq v ≡ true) (k y l) (and_parts (same_kind Eq y.kind) (not y.escaped) s).0))

@@ -1,19 +1,12 @@
 use Rattle.std.proofs.Common.{arith, ap, sym, ◌∙◌, length}
-use Rattle.std.proofs.lemmas.Bool.{false≢true}
 use Rattle.std.proofs.lemmas.Result.{err_from_is_err_and}
 use Rattle.std.specs.Prelude.{Ok, Err}
 use Rattle.js_tree.proofs.HoldingLemmas.{Holds-below}
 use Rattle.js_grammar.specs.Productions.{at, Assignment}
 use Rattle.js_expressions.proofs.Arrows.{before_at, before_further, before_same, from_unmoved, none_found, refused, refused_so, only_operand, some_found}
-use Rattle.js_base.specs.Kinds.{one_of_kinds}
-use Rattle.js_parsing.specs.Lexemes.{unbuilt_kinds}
 use Rattle.js_parsing.proofs.Moving.{standing}
-use Rattle.js_parsing.proofs.Unbuilt.{gives_up_unless}
 use Rattle.js_parsing.proofs.Nesting.{nests_later, later_room}
 use Rattle.js_expressions.proofs.assignment.parse_assignment_expression.Goals as goal
-
-pub returns-then-at : goal.returns-then-at
-returns-then-at g c = λ text f a. gives_up_unless _ _ c.set_unexpected.result a c.set_unexpected.ensures (λ u. absurd (false≢true (sym u ∙ ap (one_of_kinds unbuilt_kinds) (c.at.ensures.0 c.if-at.true))))
 
 pub parse_arrow_function_expression-requires-clause-at : goal.parse_arrow_function_expression-requires-clause-at
 parse_arrow_function_expression-requires-clause-at g c = standing (before_at ((some_found _ c.parse_arrow_head.new.p _ _ c.in-Some.is c.in_ok-parameters.ensures).1 _ _ c.requires.at))
@@ -39,7 +32,7 @@ pub parse_assignment_without_arrow-requires-clause-nests : goal.parse_assignment
 parse_assignment_without_arrow-requires-clause-nests g c = nests_later c.requires.nests (let u = (none_found _ c.parse_arrow_head.new.p _ c.in_default.is c.in_ok-parameters.ensures).0.place in later_room (omega arith) (none_found _ c.parse_arrow_head.new.p _ c.in_default.is c.in_ok-parameters.ensures).0.same)
 
 pub parse_assignment_without_arrow-requires-clause-operand : goal.parse_assignment_without_arrow-requires-clause-operand
-parse_assignment_without_arrow-requires-clause-operand g c = only_operand c.requires.at (λ k. false≢true (sym c.if-at.false ∙ c.at.ensures.1 k)) (none_found _ c.parse_arrow_head.new.p _ c.in_default.is c.in_ok-parameters.ensures).0 (none_found _ c.parse_arrow_head.new.p _ c.in_default.is c.in_ok-parameters.ensures).1
+parse_assignment_without_arrow-requires-clause-operand g c = only_operand c.requires.at (none_found _ c.parse_arrow_head.new.p _ c.in_default.is c.in_ok-parameters.ensures).0 (none_found _ c.parse_arrow_head.new.p _ c.in_default.is c.in_ok-parameters.ensures).1
 
 pub returns-in_err-operand : goal.returns-in_err-operand
 returns-in_err-operand g c = λ text f a.

@@ -1,6 +1,6 @@
 use Rattle.std.proofs.Common.{inl, arith, sym, ◌∙◌}
 use Rattle.std.proofs.lemmas.Result.{err_from_is_err_and}
-use Rattle.js_expressions.proofs.ArraysAssigned.{no_array, not_simple_marked}
+use Rattle.js_expressions.proofs.ArraysAssigned.{not_simple_marked}
 use Rattle.js_expressions.proofs.Assignments.{shifted, assign_listed, row_assign, assign_answers, assign_marked, assign_refused, assign_whole, right_fails}
 use Rattle.js_targets.proofs.ArraysBeforeSigns.{is_cover, not_wide}
 use Rattle.js_expressions.proofs.Conditionals.{test_none}
@@ -96,14 +96,14 @@ refuse_target-requires-clause-marked t c = λ k.
     let y = c.in_ok-left.ensures _ _ c.requires.at in
     let o = c.in_ok-_power.ensures _ _ y.answer.at in
     let x = shifted y o in
-    assign_marked c.requires.at (c.requires.operand _ _ c.requires.at).0 x.answer o.uncut (assign_listed c.cur_kind.ensures c.is_assignment_operator.ensures c.if-not-is_assignment_operator.false) (no_array x.answer.label.kind (sym (c.is_array_or_object.ensures _ _ _ _ x.holds) ∙ c.if-is_array_or_object.false)) (c.in_default.ensures _ _ _ _ x.holds) _ c.cur_start-start.ensures (k ∙ c.kept_so_far-kept.ensures)
+    assign_marked c.requires.at x.answer o.uncut (assign_listed c.cur_kind.ensures c.is_assignment_operator.ensures c.if-not-is_assignment_operator.false) (sym (c.is_array_or_object.ensures _ _ _ _ x.holds) ∙ c.if-is_array_or_object.false) (c.in_default.ensures _ _ _ _ x.holds) _ c.cur_start-start.ensures (k ∙ c.kept_so_far-kept.ensures)
 
 pub returns-in_default : goal.returns-in_default
 returns-in_default t c = λ text f a.
     let y = c.in_ok-left.ensures text f a in
     let o = c.in_ok-_power.ensures text f y.answer.at in
     let x = shifted y o in
-    refused _ _ x.answer.at x.answer.same x.answer.verdict c.refuse_target.ensures (assign_refused x.answer (c.requires.operand text f a) o.uncut (assign_listed c.cur_kind.ensures c.is_assignment_operator.ensures c.if-not-is_assignment_operator.false) (inl (no_array x.answer.label.kind (sym (c.is_array_or_object.ensures _ _ _ _ x.holds) ∙ c.if-is_array_or_object.false))) (c.in_default.ensures _ _ _ _ x.holds))
+    refused _ _ x.answer.at x.answer.same x.answer.verdict c.refuse_target.ensures (assign_refused x.answer (c.requires.operand text f a) o.uncut (assign_listed c.cur_kind.ensures c.is_assignment_operator.ensures c.if-not-is_assignment_operator.false) (inl (sym (c.is_array_or_object.ensures _ _ _ _ x.holds) ∙ c.if-is_array_or_object.false)) (c.in_default.ensures _ _ _ _ x.holds))
 
 pub advance-requires-clause-at : goal.advance-requires-clause-at
 advance-requires-clause-at t c = standing (c.in_ok-_power.ensures _ _ (c.in_ok-left.ensures _ _ c.requires.at).answer.at).at
