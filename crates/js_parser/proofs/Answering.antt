@@ -29,10 +29,10 @@ use Rattle.js_base.specs.declared.token.Token.{Token}
 use Rattle.js_lex.specs.Kept.{LieIn}
 use Rattle.js_lex.specs.declared.comment.Comment.{Comment}
 use Rattle.js_lex.specs.declared.output.LexerOutput.{LexerOutput}
-use Rattle.js_parser.specs.Readings.{HasNoReading, HasNoReadingBy, IsOnlyReadingBy, EndsUnbuilt, AreOf}
+use Rattle.js_parser.specs.Readings.{HasNoReading, HasNoReadingBy, IsOnlyReadingBy, AreOf}
 use Rattle.js_parser.specs.Leftover.{leftover, with_leftover}
 use Rattle.js_parser.specs.NodeSpans.{SlotsLie}
-use Rattle.js_parser.proofs.Leftovers.{covered, in_program, leftover_early, leftover_lie, leftover_marked, leftover_none, none_before, none_braceless_strict, none_leftover, none_strict, only_strict, spans_lie, spans_marked}
+use Rattle.js_parser.proofs.Leftovers.{covered, in_program, leftover_early, leftover_lie, leftover_marked, leftover_none, none_before, none_leftover, none_strict, only_strict, spans_lie, spans_marked}
 use Rattle.js_grammar.specs.CoverInitialisers.{initialised_in}
 use Rattle.js_grammar.proofs.CoverInitialisers.{Marked}
 use Rattle.js_tree.specs.Covering.{placed}
@@ -159,8 +159,7 @@ taken_answer {text} {s} {o} {asks} {p} {ids} span nodes out kept spans a b t n i
           inside = slots_inside;
           nodes_lie = all_lie;
           clean = λ z. absurd (some (sym (ap (λ (x : LexerOutput). x.errors) in_order) ∙ z));
-          unclean = λ z u. none_strict (by_cover.1 some);
-          braceless = λ z v r c. none_strict (by_cover.1 some) v r;
+          unclean = λ z. none_strict (by_cover.1 some);
           early = λ z. h.early;
           stopped = λ z. absurd (false≢true z);
           ended = λ z y. false≢true z;
@@ -191,8 +190,7 @@ taken_answer {text} {s} {o} {asks} {p} {ids} span nodes out kept spans a b t n i
           inside = slots_inside;
           nodes_lie = all_lie;
           clean = λ z. only_strict (outside ∙ left_none z) read;
-          unclean = λ z u. strict_none z;
-          braceless = λ z v r c. strict_none z v r;
+          unclean = λ z. strict_none z;
           early = λ z. leftover_early spans;
           stopped = λ z. absurd (false≢true z);
           ended = λ z y. false≢true z;
@@ -241,8 +239,7 @@ refused_answer {text} {s} {o} {p} {ids} ns span nodes told out kept n a b k z t 
   inside = tt;
   nodes_lie = subst (λ (ms : List Node). NodesLie text ms) (sym (t ∙ ap (λ (ms : List Node). with_program (program_node span ids) ms) same)) (program_lie (program_node span ids) p.nodes (subst (λ (v : Span). LiesIn v text) (sym (span_is span a (b ∙ ap (λ (v : List ℕ). length v) h.is_of.text_is))) whole) h.lies);
   clean = λ y. absurd (some y);
-  unclean = λ y n. none_strict (h.none (λ u. n (refl, ends_so u)));
-  braceless = λ y. none_braceless_strict h.braceless;
+  unclean = λ y. none_strict h.none;
   early = λ q. absurd (false≢true (sym q));
   stopped = λ q. h.stopped;
   ended = λ q y. some y;
@@ -255,20 +252,6 @@ refused_answer {text} {s} {o} {p} {ids} ns span nodes told out kept n a b k z t 
 
     are_faults : All (IsFault (goal_of s) text) told
     are_faults = subst (λ (ds : List Diagnostic). All (IsFault (goal_of s) text) ds) (sym k) (All-take (IsFault (goal_of s) text) n p.lexer.kept.errors (faults h.is_of))
-
-    ends_so : EndsUnbuilt text p.errors → EndsUnbuilt text out.errors
-    ends_so u = record {
-      place = u.place;
-      reached = u.reached;
-      brace = u.brace;
-      stands = u.stands;
-      kind = u.kind;
-      before = told ++ u.before;
-      last = u.last;
-      is = ap (λ (x : LexerOutput). x.errors) e ∙ (ap (λ (ds : List Diagnostic). told ++ ds) u.is ∙ sym (append_assoc told u.before (u.last ∷ [])));
-      ends = u.ends;
-      begins = u.begins;
-    }
 
     some : out.errors ≡ [] → ⊥
     some y = h.some (second_empty told p.errors (sym (ap (λ (x : LexerOutput). x.errors) e) ∙ y))

@@ -3,7 +3,7 @@ use Rattle.std.proofs.Common.{ℕ, ◌≡◌, true, not, List, [], ◌∷◌, So
 use Rattle.std.specs.Prelude.{IsUtf8, codes, Option}
 use Rattle.std.proofs.lemmas.Bool.{false≢true, and_parts, and_from}
 use Rattle.js_base.specs.declared.kind.Kind.{Kind}
-use Rattle.js_base.specs.declared.kind.Kind.TheVariants.{Eof, HashbangComment, LCurly, RCurly}
+use Rattle.js_base.specs.declared.kind.Kind.TheVariants.{Eof, HashbangComment}
 use Rattle.js_base.specs.declared.options.ParseOptions.{ParseOptions}
 use Rattle.js_base.specs.declared.source_type.SourceType.{SourceType}
 use Rattle.js_base.specs.Kinds.{same_kind, one_of_kinds}
@@ -29,24 +29,12 @@ use Rattle.js_lex.specs.States.{goal_of}
 use Rattle.js_parsing.specs.Lexemes.{Faultless, is_read, read_kinds}
 use Rattle.js_tree.specs.Nodes.{Node}
 use Rattle.js_parser.specs.Parsed.{options_of, IsAnswer}
-use Rattle.js_parser.specs.Readings.{parameters, read_at, Reading, IsOnlyReading, HasNoBracelessReading, AllBraceless, AreRead, from_text_start, behind_a_hashbang}
+use Rattle.js_parser.specs.Readings.{parameters, read_at, Reading, IsOnlyReading, HasNoReading, AreRead, from_text_start, behind_a_hashbang}
 use Rattle.js_parser.specs.CoreAnswers.{IsOnlyCoreReading, HasNoCoreReading, IsCoreAnswer}
 
 -- a core lexeme is read
 read_so : (y : Lexeme) → core_lexeme y ≡ true → is_read y ≡ true
 read_so y h = let k = and_parts (one_of_kinds core_kinds y.kind) (not y.escaped) h in and_from _ _ (every_at (one_of_kinds read_kinds) core_kinds y.kind k.0 refl) k.1
-
--- and no brace
-no_brace : (y : Lexeme) → core_lexeme y ≡ true → one_of_kinds (LCurly ∷ RCurly ∷ []) y.kind ≡ false
-no_brace y h = is_not (one_of_kinds (LCurly ∷ RCurly ∷ []) y.kind) (every_at (λ k. not (one_of_kinds (LCurly ∷ RCurly ∷ []) k)) core_kinds y.kind (and_parts (one_of_kinds core_kinds y.kind) (not y.escaped) h).0 refl)
-  where
-    is_not : (b : Bool) → not b ≡ true → b ≡ false
-    is_not true e = absurd (false≢true e)
-    is_not false e = refl
-
-all_braceless : (ls : Lexemes) → AllCore ls → AllBraceless ls
-all_braceless (last x) c = no_brace x c
-all_braceless (next x ls) c = (no_brace x c.0, all_braceless ls c.1)
 
 all_read : (text : List ℕ) (goal : Goal) (s : ℕ) (ls : Lexemes) → Lexes (Lex (passing_of goal) text) s ls → AllCore ls → Lexes (Faultless goal text) s ls
 all_read text goal s (last x) l c = (l, read_so x c)
@@ -109,9 +97,8 @@ module _ {text : List ℕ} (u : IsUtf8 text) (s : CoreSource text) where
     pub only_core : (t : Tree) → IsOnlyReading text goal o t → IsOnlyCoreReading text o.allow_v8 t
     only_core t x = record { reading = to_core_reading t x.reading; only = λ v r. (x.only v (to_reading v r)).0 }
 
-    pub none_core : HasNoBracelessReading text goal o → HasNoCoreReading text o.allow_v8
-    unfolding to_reading
-    none_core n t r = n t (to_reading t r) (all_braceless r.lexemes (core_lexemes text u s script r.lexemes r.lexed))
+    pub none_core : HasNoReading text goal o → HasNoCoreReading text o.allow_v8
+    none_core n t r = n t (to_reading t r)
 
 -- what is answered for a text, if it is a core text
 pub core_answer : {text : List ℕ} {given read taken : SourceType} {o : ParseOptions} {nodes : List Node} {out : LexerOutput} {fatal : Bool} → goal_of read ≡ read_at (goal_of given) → taken ≡ read → IsAnswer text (goal_of read) (options_of o) nodes out fatal → IsUtf8 text → CoreSource text → IsCoreAnswer text given taken o.allow_v8_intrinsics nodes out.errors
@@ -119,7 +106,7 @@ core_answer {read = read} {o = o} settled same a u s = record {
   tree = a.tree;
   is_tree = a.is_tree;
   clean = λ z. only_core u s (goal_of read) (options_of o) a.tree (a.clean z);
-  unclean = λ n. none_core u s (goal_of read) (options_of o) (a.braceless n);
+  unclean = λ n. none_core u s (goal_of read) (options_of o) (a.unclean n);
   inside = a.told.lie;
   as_script = λ e. ap goal_of same ∙ (settled ∙ ap read_at e);
 }

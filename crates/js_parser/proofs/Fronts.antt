@@ -26,7 +26,7 @@ use Rattle.js_statements.specs.StatementLists.{with_directives}
 use Rattle.js_statements.specs.declared.statement_list.StatementList.TheVariants.{Text}
 use Rattle.js_parsing.proofs.Kept.{faults_aside}
 use Rattle.js_parser.specs.Kept.{each_of, each_read, comments_before, blanks_before, TellsEach, TellsRead}
-use Rattle.js_parser.specs.Readings.{AllBraceless, AreRead, from_text_start, behind_a_hashbang}
+use Rattle.js_parser.specs.Readings.{AreRead, from_text_start, behind_a_hashbang}
 use Rattle.js_parser.proofs.Hashbangs.{program_label, behind_comment, behind_hashbang, without_hashbang, from_hashbang, from_start, alone}
 
 -- a hashbang comment stands at the text's start
@@ -73,8 +73,6 @@ pub record Front (text : List ℕ) (source : Goal) (f : Flags) (s : ℕ) (front 
   pub joins : (ls : Lexemes) → Lexes (Faultless source text) s ls → AreRead text source (put ls)
   pub derives : (slots : Slots) (ls : Lexemes) (place : ℕ) (final : Lexeme) → Takes rule (with_directives Text f) end slots s ls end place (last final) → Takes rule (rule (at Program f)) end (tree (program_label final.to) (front slots) end) 0 (put ls) end place (last final)
   pub parts : (t : Tree) (ls : Lexemes) (l : AreRead text source ls) (place : ℕ) (final : Lexeme) → Derives rule (at Program f) t 0 ls place (last final) → Parts text source f s front put t ls l place final
-  pub braceless : (ls : Lexemes) → AllBraceless (put ls) → AllBraceless ls
-  pub ends : (ls : Lexemes) → ends_once (put ls) ≡ true → ends_once ls ≡ true
 
 -- at the start
 pub at_the_start : {text : List ℕ} {source : Goal} {f : Flags} → (HasHashbang text → ⊥) → Front text source f 0 (λ us. us) (λ ls. ls)
@@ -82,8 +80,6 @@ at_the_start {text} {source} {f} n = record {
   joins = λ ls l. from_text_start l;
   derives = λ slots ls place final d. from_start d;
   parts = go;
-  braceless = λ ls h. h;
-  ends = λ ls h. h;
 }
   where
     go : (t : Tree) (ls : Lexemes) (l : AreRead text source ls) (place : ℕ) (final : Lexeme) → Derives rule (at Program f) t 0 ls place (last final) → Parts text source f 0 (λ us. us) (λ ls. ls) t ls l place final
@@ -98,8 +94,6 @@ behind_a_comment {text} {source} {f} {y} h = record {
   joins = λ ls l. behind_a_hashbang (record { comment = y; stands = h; others = ls; is = refl; lexed = l });
   derives = λ slots ls place final d. from_hashbang (kind_of_hashbang h) (escaped_of_hashbang h) d;
   parts = go;
-  braceless = λ ls b. b.1;
-  ends = λ ls e. (and_parts _ (ends_once ls) e).1;
 }
   where
     go : (t : Tree) (ls : Lexemes) (l : AreRead text source ls) (place : ℕ) (final : Lexeme) → Derives rule (at Program f) t 0 ls place (last final) → Parts text source f y.to (behind_comment y) (λ ms. next y ms) t ls l place final

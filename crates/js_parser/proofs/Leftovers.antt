@@ -27,7 +27,7 @@ use Rattle.js_parsing.proofs.Kept.{faults_aside}
 use Rattle.js_parser.specs.Kept.{IsKeptOf}
 use Rattle.js_parser.specs.Leftover.{leftover, with_leftover}
 use Rattle.js_parser.specs.NodeSpans.{SlotsLie}
-use Rattle.js_parser.specs.Readings.{parameters, AreRead, from_text_start, behind_a_hashbang, ReadingBy, IsOnlyReadingBy, HasNoReadingBy, HasNoBracelessReadingBy}
+use Rattle.js_parser.specs.Readings.{parameters, AreRead, from_text_start, behind_a_hashbang, ReadingBy, IsOnlyReadingBy, HasNoReadingBy}
 
 module _ {text : List ℕ} {goal : Goal} {o : Options} where
   -- a strict reading is one by the cover grammar
@@ -36,9 +36,6 @@ module _ {text : List ℕ} {goal : Goal} {o : Options} where
 
   pub none_strict : HasNoReadingBy true text goal o → HasNoReadingBy false text goal o
   none_strict n t r = n t (covered r)
-
-  pub none_braceless_strict : HasNoBracelessReadingBy true text goal o → HasNoBracelessReadingBy false text goal o
-  none_braceless_strict n t r b = n t (covered r) b
 
   -- and the other way round, where no shorthand has an initialiser
   pub only_strict : {t : Tree} → initialised_in (tree t.label t.slots end) ≡ [] → IsOnlyReadingBy true text goal o t → IsOnlyReadingBy false text goal o t

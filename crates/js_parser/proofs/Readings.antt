@@ -32,8 +32,8 @@ use Rattle.js_cursor.specs.Starts.{Starts}
 use Rattle.js_cursor.specs.Tokens.{IsToken, whole as whole_token, sign as sign_token, nothing as no_token}
 use Rattle.js_cursor.specs.declared.stop.Stop.{Stop}
 use Rattle.js_cursor.specs.declared.stop.Stop.TheVariants.{Fatal, NoMemory}
-use Rattle.js_parsing.specs.Answers.{Stretch, Verdict, Unbuilt, clean, unclean}
-use Rattle.js_parsing.specs.Lexemes.{Lex, Braceless, NoneToEnd, is_read, last_of, read_kinds}
+use Rattle.js_parsing.specs.Answers.{Stretch, Verdict, clean, unclean}
+use Rattle.js_parsing.specs.Lexemes.{Lex, is_read, read_kinds}
 use Rattle.js_parsing.specs.States.{At, IsPlain, whole, sign, nothing as no_lexeme, flags_of, Standing, NodesLie, SpansLie}
 use Rattle.js_statements.specs.StatementLists.{at_end, with_directives, statements, NoList, Taken, AllTaken, AllRefused}
 use Rattle.js_statements.specs.declared.statement_list.StatementList.TheVariants.{Text}
@@ -41,7 +41,7 @@ use Rattle.js_parsing.proofs.Beginning.{begins, begins_with_hashbang, behind_fir
 use Rattle.js_parsing.proofs.Giving.{fails_none}
 use Rattle.js_parsing.proofs.Here.{told, plain_kind, kind_here}
 use Rattle.js_parsing.proofs.Paths.{at_kind}
-use Rattle.js_parsing.proofs.Unbuilt.{last_is, same_some}
+use Rattle.js_parsing.proofs.Unbuilt.{nothing_unbuilt}
 use Rattle.js_statements.proofs.StatementLists.{none_left, text_ends}
 use Rattle.js_parsing.proofs.Verdicts.{grown_some}
 use Rattle.js_cursor.specs.Starts.{is_module, is_commonjs}
@@ -63,7 +63,7 @@ use Rattle.js_parser.proofs.Fronts.{Front, Parts, kind_of_hashbang, none_begins,
 use Rattle.js_parsing.proofs.MadeNodes.{leaf_held, one_lies}
 use Rattle.js_parsing.proofs.Moving.{standing, beside_nodes}
 use Rattle.js_parser.specs.Parsed.{options_of, IsAnswer}
-use Rattle.js_parser.specs.Readings.{parameters, AllBraceless, ReadingBy, IsOnlyReadingBy, HasNoReadingBy, HasNoBracelessReadingBy, EndsUnbuilt}
+use Rattle.js_parser.specs.Readings.{parameters, ReadingBy, IsOnlyReadingBy, HasNoReadingBy}
 use Rattle.js_parser.specs.Taken.{FoundNothing, ReadOrNot, ProgramTaken, ProgramStops}
 use Rattle.js_parser.proofs.Answering.{first_empty, second_empty}
 use Rattle.js_base.specs.declared.source_type.Goal.TheVariants as source
@@ -174,15 +174,6 @@ all_aside text source s (next x ls) l = (faults_aside source l.0, all_aside text
 abbrev any_body : {text : List ℕ} (source : Goal) {f : Flags} {s : ℕ} {ts : Slots} {ls : Lexemes} → Body (Faultless source text) f s ts ls → Body (Lex text) f s ts ls
 any_body {text} source {s = s} {ls = ls} b = record { lexed = all_aside text source s ls b.lexed; place = b.place; final = b.final; is_end = b.is_end; derived = b.derived }
 
--- and without braces, if none is among them
-all_braceless : (text : List ℕ) (source : Goal) (s : ℕ) (ls : Lexemes) → Lexes (Faultless source text) s ls → AllBraceless ls → Lexes (Braceless text) s ls
-all_braceless text source s (last x) l b = (faults_aside source l, b)
-all_braceless text source s (next x ls) l b = ((faults_aside source l.0, b.0), all_braceless text source x.to ls l.1 b.1)
-
-last_ends : (ls : Lexemes) → ends_once ls ≡ true → (last_of ls).kind ≡ Eof
-last_ends (last x) e = sym (kind_of_same Eof x.kind e)
-last_ends (next x ls) e = last_ends ls (and_parts _ (ends_once ls) e).1
-
 -- readings are lists behind the text's front
 module _ {text : List ℕ} {source : Goal} {f : Flags} {s : ℕ} {front : Slots → Slots} {put : Lexemes → Lexemes} {o : Options} (k : f ≡ covering source o) (opens : Front text source f s front put) where
   parts_of : {t : Tree} (r : ReadingBy true text source o t) → Parts text source f s front put t r.lexemes r.lexed r.place r.final
@@ -193,31 +184,6 @@ module _ {text : List ℕ} {source : Goal} {f : Flags} {s : ℕ} {front : Slots 
 
   none_at_all : NoList text Text (with_directives Text f) s → HasNoReadingBy true text source o
   none_at_all n t r = no_list n (any_body source (body_of r))
-
-  -- where no lexemes without braces lead on to the text's end, no reading is without braces
-  none_braceless : NoneToEnd text s → HasNoBracelessReadingBy true text source o
-  none_braceless n t r b =
-      let p = parts_of r in
-      let e = ends_once_by (at Program (covering source o)) t r.derived (subst (λ (k : Kind). same_kind Eof k ≡ true) (sym r.is_end) refl) in
-      n p.others (all_braceless text source s p.others p.lexed (opens.braceless p.others (subst AllBraceless p.lexemes b))) (last_ends p.others (opens.ends p.others (subst (λ (ls : Lexemes). ends_once ls ≡ true) p.lexemes e)))
-
--- what an outsider sees where a parser stopped at what isn't built yet
-ends_unbuilt : {text : List ℕ} {q : Parser} → IsAt q → q.text ≡ text → EndedByLast q.errors → Unbuilt q → EndsUnbuilt text q.errors
-ends_unbuilt {q = q} a t z u = record {
-  place = q.prev_token_end;
-  reached = subst (λ (w : List ℕ). Reached w q.prev_token_end) t a.reached;
-  brace = u.lexeme;
-  stands = subst (λ (w : List ℕ). Lex w q.prev_token_end u.lexeme) t u.stands;
-  kind = u.kind;
-  before = z.before;
-  last = z.last;
-  is = z.is;
-  ends = z.ends;
-  begins = ap (λ (d : Diagnostic). d.span.start) same ∙ (u.begins ∙ u.tells.start);
-}
-  where
-    same : z.last ≡ u.last
-    same = same_some (sym (last_is z.before z.last) ∙ (ap (λ (ds : List Diagnostic). slice_get ds (length ds - 1)) (sym z.is) ∙ u.is))
 
 pub cons_some : {K : Type 0} (x : K) (xs : List K) → x ∷ xs ≡ [] → ⊥
 cons_some x xs e = cc
@@ -423,9 +389,6 @@ module _ {text : List ℕ} {f : Flags} {source : SourceType} {o : ParseOptions} 
   none : NoList text Text (with_directives Text f) v.prev_token_end → HasNoReadingBy true text (goal_of source) (options_of o)
   none n = none_at_all b.parameters_are b.opens (subst (λ (i : ℕ). NoList text Text (with_directives Text f) i) b.place n)
 
-  no_braceless : NoneToEnd v.text v.prev_token_end → HasNoBracelessReadingBy true text (goal_of source) (options_of o)
-  no_braceless n = none_braceless b.parameters_are b.opens (subst (λ (i : ℕ). NoneToEnd text i) b.place (subst (λ (w : List ℕ). NoneToEnd w v.prev_token_end) b.stands.text_is n))
-
   module _ {q : Parser} {ids : List (Option NodeId)} (t : Taken text f Text (with_directives Text f) (statements Text f) v q ids) where
     walk : Walked text (record { source = goal_of source; keeps_tokens = v.lexer.keeps_tokens; place = s; kept = record v.lexer.kept { tokens = kept_before v.lexer v.token } }) (spot q) t.pass
     walk = walked_from (λ i. record { source = goal_of (b.read_as i); keeps_tokens = v.lexer.keeps_tokens; place = b.place i; kept = record v.lexer.kept { tokens = kept_before v.lexer v.token } }) t.walked
@@ -473,8 +436,7 @@ module _ {text : List ℕ} {f : Flags} {source : SourceType} {o : ParseOptions} 
     stopped = r.stopped (All-same IsEarly v.errors [] b.errors (All-nil IsEarly));
     lies = subst (λ (w : List ℕ). NodesLie w q.nodes) (r.follows.text ∙ b.stands.text_is) (r.lies b.lies);
     some = grown_some r.grown;
-    none = λ n. none (r.none (λ u. n (ends_unbuilt r.at (r.follows.text ∙ b.stands.text_is) (r.stopped (All-same IsEarly v.errors [] b.errors (All-nil IsEarly))) u)));
-    braceless = λ t w c. none (r.none (λ u. no_braceless (r.met u) t w c)) t w;
+    none = none (r.none nothing_unbuilt);
   }
   stops_so q NoMemory h = tt
 

@@ -14,7 +14,7 @@ use Rattle.js_lex.specs.declared.output.LexerOutput.{LexerOutput}
 use Rattle.js_tree.specs.Nodes.{Node}
 use Rattle.js_tree.specs.Holding.{IsTree, program_tree}
 use Rattle.js_parser.specs.NodeSpans.{NodeLies, SlotsLie}
-use Rattle.js_parser.specs.Readings.{read_at, HasNoReading, HasNoBracelessReading, IsOnlyReading, EndsUnbuilt, AreOf}
+use Rattle.js_parser.specs.Readings.{read_at, HasNoReading, IsOnlyReading, AreOf}
 use Rattle.std.specs.List.{All}
 use Rattle.js_parsing.specs.Classes.{IsEarly, EndedByLast}
 use Rattle.js_parsing.specs.States.{NodesLie}
@@ -23,7 +23,7 @@ use Rattle.js_parsing.specs.States.{NodesLie}
 abbrev pub options_of : ParseOptions → Options
 options_of o = record { allow_return = o.allow_return_outside_function; preserve_parens = o.preserve_parens; allow_v8 = o.allow_v8_intrinsics }
 
--- The answer for a text at a goal. Where nothing was found the tree is its only reading. Where something was, it has none without braces: a text that has a reading without braces is accepted. And it has none at all, unless a fatal diagnostic ended the parse at an opening brace where a production would have to be built that isn't yet. All spans of what was kept lie in the text and split no character, and so do those of all nodes, whether anything was found or not. Of what the parser itself found, each is of the class Early, but for a fatal diagnostic, which is the last one and of the class Syntax, Form or Lexical. After a fatal diagnostic Program has the whole text and no child, and no token was kept.
+-- The answer for a text at a goal. Where nothing was found the tree is its only reading. Where something was, it has none. All spans of what was kept lie in the text and split no character, and so do those of all nodes, whether anything was found or not. Of what the parser itself found, each is of the class Early, but for a fatal diagnostic, which is the last one and of the class Syntax, Form or Lexical. After a fatal diagnostic Program has the whole text and no child, and no token was kept.
 pub record IsAnswer (text : List ℕ) (goal : Goal) (o : Options) (nodes : List Node) (out : LexerOutput) (fatal : Bool) : Type 0 where
   pub told : AreOf goal text out.errors
   pub lie : LieIn text out
@@ -33,8 +33,7 @@ pub record IsAnswer (text : List ℕ) (goal : Goal) (o : Options) (nodes : List 
   pub inside : SlotsLie text tree.slots
   pub nodes_lie : NodesLie text nodes
   pub clean : out.errors ≡ [] → IsOnlyReading text goal o tree
-  pub unclean : (out.errors ≡ [] → ⊥) → ((fatal ≡ true) × EndsUnbuilt text out.errors → ⊥) → HasNoReading text goal o
-  pub braceless : (out.errors ≡ [] → ⊥) → HasNoBracelessReading text goal o
+  pub unclean : (out.errors ≡ [] → ⊥) → HasNoReading text goal o
   pub early : fatal ≡ false → All IsEarly told.told
   pub stopped : fatal ≡ true → EndedByLast told.told
   pub ended : fatal ≡ true → out.errors ≡ [] → ⊥

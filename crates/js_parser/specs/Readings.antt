@@ -1,17 +1,15 @@
 -- What it is that a tree is a reading of a text, and what diagnostics tell of it.
-use Rattle.std.specs.Prelude.{ℕ, ◌≡◌, Bool, true, false, ◌||◌, List, [], ◌∷◌, ◌++◌}
+use Rattle.std.specs.Prelude.{ℕ, ◌≡◌, Bool, true, false, ◌||◌, List, ◌++◌}
 use Rattle.std.specs.List.{All}
 use Rattle.js_base.specs.declared.diagnostic.Diagnostic.{Diagnostic}
 use Rattle.js_base.specs.declared.diagnostic.DiagnosticClass.TheVariants.{Lexical}
-use Rattle.js_base.specs.declared.kind.Kind.TheVariants.{Eof, LCurly, RCurly}
-use Rattle.js_base.specs.Kinds.{one_of_kinds}
+use Rattle.js_base.specs.declared.kind.Kind.TheVariants.{Eof}
 use Rattle.js_base.specs.Diagnostics.{class_of}
 use Rattle.js_base.specs.Spans.{LiesIn}
 use Rattle.js_grammar.specs.Trees.{Tree}
 use Rattle.js_grammar.specs.Grammar.{Lexeme, Lexemes, last, next, Derives}
 use Rattle.js_grammar.specs.Lexed.{Lexes}
 use Rattle.js_grammar.specs.Lexemes.{hashbang}
-use Rattle.js_grammar.specs.LexicalFaults.{Reached}
 use Rattle.js_grammar.specs.Marks.{Mark}
 use Rattle.js_grammar.specs.Options.{Options, is_module, is_commonjs}
 use Rattle.js_grammar.specs.Productions.{Flags, at, Program}
@@ -20,8 +18,7 @@ use Rattle.js_grammar.specs.Settings.{Goal, script, unambiguous}
 use Rattle.js_grammar.specs.Table.{rule}
 use Rattle.js_lex.specs.Reading.{LexemeBehind}
 use Rattle.js_cursor.specs.Places.{IsFault}
-use Rattle.js_parsing.specs.Classes.{EndsParse}
-use Rattle.js_parsing.specs.Lexemes.{Faultless, Lex, unbuilt_kinds}
+use Rattle.js_parsing.specs.Lexemes.{Faultless}
 
 -- The goal at which a text is read: an unambiguous one as a script, since what shows a module isn't read yet.
 abbrev pub read_at : Goal → Goal
@@ -74,18 +71,6 @@ HasNoReadingBy cover text goal o = (t : Tree) → ReadingBy cover text goal o t 
 abbrev pub HasNoReading : List ℕ → Goal → Options → Type 0
 HasNoReading text goal o = HasNoReadingBy false text goal o
 
--- no brace is among them
-abbrev pub AllBraceless : Lexemes → Type 0
-AllBraceless (last x) = one_of_kinds (LCurly ∷ RCurly ∷ []) x.kind ≡ false
-AllBraceless (next x ls) = (one_of_kinds (LCurly ∷ RCurly ∷ []) x.kind ≡ false) × AllBraceless ls
-
--- no lexemes of those kinds without braces are a program
-abbrev pub HasNoBracelessReadingBy : Bool → List ℕ → Goal → Options → Type 0
-HasNoBracelessReadingBy cover text goal o = (t : Tree) (r : ReadingBy cover text goal o t) → AllBraceless r.lexemes → ⊥
-
-abbrev pub HasNoBracelessReading : List ℕ → Goal → Options → Type 0
-HasNoBracelessReading text goal o = HasNoBracelessReadingBy false text goal o
-
 -- The tree is a reading; every reading is this tree, over the same lexemes.
 pub record IsOnlyReadingBy (cover : Bool) (text : List ℕ) (goal : Goal) (o : Options) (tree : Tree) : Type 0 where
   pub reading : ReadingBy cover text goal o tree
@@ -103,16 +88,3 @@ pub record AreOf (goal : Goal) (text : List ℕ) (found : List Diagnostic) : Typ
   pub lexical : All (λ d. class_of d.kind ≡ Lexical) faults
   pub marked : All (Mark goal text) told
   pub lie : All (λ d. LiesIn d.span text) found
-
--- The last diagnostic, of a class that ends a parse, begins at an opening brace, which is a lexeme behind a place that lexemes lead to: where a production would have to be built that isn't yet, a parse ends so.
-pub record EndsUnbuilt (text : List ℕ) (found : List Diagnostic) : Type 0 where
-  pub place : ℕ
-  pub reached : Reached text place
-  pub brace : Lexeme
-  pub stands : Lex text place brace
-  pub kind : one_of_kinds unbuilt_kinds brace.kind ≡ true
-  pub before : List Diagnostic
-  pub last : Diagnostic
-  pub is : found ≡ before ++ last ∷ []
-  pub ends : EndsParse last
-  pub begins : last.span.start ≡ brace.from

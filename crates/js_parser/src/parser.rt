@@ -69,10 +69,8 @@ impl<'a, C: ParserConfig> Parser<'a, C> {
         }
     }
 
-    /// Reads the text. Without diagnostics the tree is the only one that Program derives from the text's lexemes. Where
-    /// something was found, Program derives none without braces, and none at all, unless a fatal diagnostic ended the
-    /// parse at an opening brace where a production would have to be built that isn't yet. All this of lexemes of the
-    /// kinds that are read so far.
+    /// Reads the text. Without diagnostics the tree is the only one that Program derives from the text's lexemes; where
+    /// something was found, Program derives none. All this of lexemes of the kinds that are read so far.
     pub fn parse(self) -> Result<ParserReturn, NoMemory>
         // For a core text, with parentheses kept, at any goal and V8 setting: nothing is found exactly where the text
         // has a reading, which is then the tree, and is the only one.

@@ -124,3 +124,7 @@ gives_up_unless p q {F} Fatal a g x = gives_up_or (IsUnexpected p) p q Fatal a g
     go true k n = absurd (n (unbuilt_here p k g.1 g.2))
     go false k n = x k
 gives_up_unless p q NoMemory a g x = tt
+
+-- all that begins with the kinds that are read is built
+pub nothing_unbuilt : {p : Parser} → Unbuilt p → ⊥
+nothing_unbuilt u = false≢true u.kind

@@ -116,7 +116,7 @@ Lex text s y = StandsBehind all_faults text s y × IsTrue (is_read y)
 
 -- A production that isn't built yet begins with a lexeme of these kinds. Where none of those that are built begins with it, a parser stops there, and nothing is said of what is derived.
 abbrev pub unbuilt_kinds : List Kind
-unbuilt_kinds = LCurly ∷ []
+unbuilt_kinds = []
 
 -- a lexeme that is read, and no brace
 abbrev pub Braceless : List ℕ → ℕ → Lexeme → Type 0

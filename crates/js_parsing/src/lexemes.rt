@@ -250,11 +250,11 @@ pub fn reads_here<C: ParserConfig>(p: &ParserImpl<'_, C>) -> bool
     !token.escaped() && is_read_kind(token.kind())
 }
 
-/// Whether a production that isn't built yet begins with this lexeme.
-pub fn is_unbuilt(kind: Kind) -> bool
-    ensures { result ≡ one_of_kinds unbuilt_kinds kind }
+/// Whether a production that isn't built yet begins with this lexeme: all that begins with the kinds that are read is built.
+pub fn is_unbuilt(_kind: Kind) -> bool
+    ensures { result ≡ one_of_kinds unbuilt_kinds _kind }
 {
-    matches!(kind, Kind::LCurly)
+    false
 }
 
 /// Whether the parser has stopped at such a lexeme: the last diagnostic was told of it.

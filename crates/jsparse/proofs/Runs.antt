@@ -13,13 +13,11 @@ use Rattle.jsparse.specs.Outputs.{Accepts, Refuses, Gives, WritesReading, Writes
 use Rattle.js_grammar.specs.Settings.{Settings}
 use Rattle.js_grammar.specs.CommandLine.{Admitted}
 use Rattle.js_grammar.specs.CoreTexts.{CoreSource}
-use Rattle.js_grammar.specs.Lines.{tree_text}
 use Rattle.js_grammar.specs.Options.{options_of}
-use Rattle.js_grammar.specs.Trees.{Tree}
-use Rattle.js_parser.specs.Readings.{read_at, AllBraceless, Reading}
+use Rattle.js_parser.specs.Readings.{read_at}
 use Rattle.js_parser.proofs.CoreTexts.{only_core, none_core}
 use Rattle.jsparse.specs.Words.{Sets}
-use Rattle.jsparse.specs.Runs.{limit, Gave, IsText, IsLong, ReadsUpTo, Told, Answers, HasCause, FitsWords, LeavesSink, LeavesSource, ComesBefore, IsAnswerBy, IsAnswerTo, IsCoreAnswerTo, WritesBraceless}
+use Rattle.jsparse.specs.Runs.{limit, Gave, IsText, IsLong, ReadsUpTo, Told, Answers, HasCause, FitsWords, LeavesSink, LeavesSource, ComesBefore, IsAnswerBy, IsAnswerTo, IsCoreAnswerTo}
 use Rattle.jsparse.specs.Steps.{Made, ReadPiece, ReadCause, StopCause, TookFront, PutCause}
 
 -- A fault of a part of a time is one of the whole.
@@ -224,7 +222,7 @@ writes_reading : (s : Settings) (text out : List ℕ) → IsUtf8 text → CoreSo
 writes_reading s text out u c a = record { tree = a.tree; only = only_core u c (read_at s.goal) (options_of s) a.tree a.only; lines = a.lines }
 
 writes_diagnostics : (s : Settings) (text out : List ℕ) → IsUtf8 text → CoreSource text → Refuses s text out → WritesDiagnostics s.allow_v8 text out
-writes_diagnostics s text out u c r = record { none = none_core u c (read_at s.goal) (options_of s) r.braceless; found = r.found; some = r.some; inside = r.told.lie; lines = r.lines }
+writes_diagnostics s text out u c r = record { none = none_core u c (read_at s.goal) (options_of s) r.none; found = r.found; some = r.some; inside = r.told.lie; lines = r.lines }
 
 answer_by : {A B C D : List ℕ → Type 0} → ((out : List ℕ) → A out → C out) → ((out : List ℕ) → B out → D out) → (t : Told) (status : Status) → IsAnswerBy A B t status → IsAnswerBy C D t status
 answer_by f g t Ok (out, a, w, l) = (out, f out a, w, l)
@@ -240,16 +238,3 @@ answer_by f g t TooLong h = h
 pub core_answer_if_told : (status : Status) (words : List (List ℕ)) (t : Told) (given : Option (List ℕ)) → t.given ≡ given → FitsWords status words → HasCause status words t → IfSome given (λ text. IsText text → CoreSource text → (s : Settings) → Admitted words s → AsksForTree s → IsCoreAnswerTo s text t status)
 core_answer_if_told status words t None e f h = tt
 core_answer_if_told status words t (Some text) e f h = λ is c s a asks. answer_by (λ out x. writes_reading s text out is.utf8 c x) (λ out x. writes_diagnostics s text out is.utf8 c x) t status (answer_to_text status words t text s e is a f h)
-
--- ---- texts with a reading without braces
-
--- a reading is the only one
-writes_this : (s : Settings) (text : List ℕ) (tree : Tree) → Reading text (read_at s.goal) (options_of s) tree → (out : List ℕ) → Accepts s text out → out ≡ tree_text tree
-writes_this s text tree r out a = a.lines ∙ ap tree_text (sym (a.only.only tree r).0)
-
-not_refused : (s : Settings) (text : List ℕ) (tree : Tree) (r : Reading text (read_at s.goal) (options_of s) tree) → AllBraceless r.lexemes → (out : List ℕ) → Refuses s text out → ⊥
-not_refused s text tree r b out x = x.braceless tree r b
-
-pub braceless_if_told : (status : Status) (words : List (List ℕ)) (t : Told) (given : Option (List ℕ)) → t.given ≡ given → FitsWords status words → HasCause status words t → IfSome given (λ text. IsText text → (s : Settings) → Admitted words s → WritesBraceless s text t status)
-braceless_if_told status words t None e f h = tt
-braceless_if_told status words t (Some text) e f h = λ is s a tree r b. answer_by (writes_this s text tree r) (not_refused s text tree r b) t status (answer_to_text status words t text s e is a f h)

@@ -1,4 +1,4 @@
--- What is put out for a text: the lines of its only reading, or of diagnostics.
+-- What is put out for a text: the lines of its only reading, or of diagnostics, where it has none.
 use Rattle.std.specs.Prelude.{ℕ, ◌≡◌, Bool, true, false, List, [], None}
 use Rattle.std.specs.List.{All}
 use Rattle.js_base.specs.declared.diagnostic.Diagnostic.{Diagnostic}
@@ -8,7 +8,7 @@ use Rattle.js_grammar.specs.Options.{options_of}
 use Rattle.js_grammar.specs.Settings.{Settings, prints_tree}
 use Rattle.js_base.specs.Spans.{LiesIn}
 use Rattle.js_parser.specs.CoreAnswers.{IsOnlyCoreReading, HasNoCoreReading}
-use Rattle.js_parser.specs.Readings.{read_at, HasNoReading, HasNoBracelessReading, IsOnlyReading, EndsUnbuilt, AreOf}
+use Rattle.js_parser.specs.Readings.{read_at, HasNoReading, IsOnlyReading, AreOf}
 
 -- The output is the lines of the text's only reading.
 pub record Accepts (s : Settings) (text out : List ℕ) : Type 0 where
@@ -16,14 +16,13 @@ pub record Accepts (s : Settings) (text out : List ℕ) : Type 0 where
   pub only : IsOnlyReading text (read_at s.goal) (options_of s) tree
   pub lines : out ≡ tree_text tree
 
--- The text has no reading without braces; and none at all, unless the last diagnostic begins at an opening brace where a production would have to be built that isn't yet. The output is the lines of diagnostics, one at least. Each has its mark, and a span in the text.
+-- The text has no reading; the output is the lines of diagnostics, one at least. Each has its mark, and a span in the text.
 pub record Refuses (s : Settings) (text out : List ℕ) : Type 0 where
   pub found : List Diagnostic
   pub some : found ≡ [] → ⊥
   pub told : AreOf (read_at s.goal) text found
   pub lines : out ≡ diagnostic_text found
-  pub none : (EndsUnbuilt text found → ⊥) → HasNoReading text (read_at s.goal) (options_of s)
-  pub braceless : HasNoBracelessReading text (read_at s.goal) (options_of s)
+  pub none : HasNoReading text (read_at s.goal) (options_of s)
 
 -- true, where the text is refused
 abbrev pub Gives : Settings → List ℕ → Bool → List ℕ → Type 0

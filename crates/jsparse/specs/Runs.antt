@@ -6,11 +6,7 @@ use Rattle.jsparse.specs.declared.status.Status.{Status}
 use Rattle.jsparse.specs.declared.status.Status.TheVariants.{Ok, Refused, Usage, ReadFault, WriteFault, NoMemory, NotUtf8, TooLong}
 use Rattle.jsparse.specs.Ends.{IsFault}
 use Rattle.jsparse.specs.Words.{NoneAdmitted, Sets}
-use Rattle.js_grammar.specs.Lines.{tree_text}
-use Rattle.js_grammar.specs.Options.{options_of}
 use Rattle.js_grammar.specs.Settings.{Settings}
-use Rattle.js_grammar.specs.Trees.{Tree}
-use Rattle.js_parser.specs.Readings.{read_at, AllBraceless, Reading}
 use Rattle.js_grammar.specs.CommandLine.{Admitted}
 use Rattle.jsparse.specs.Outputs.{Accepts, Refuses, WritesReading, WritesDiagnostics}
 
@@ -141,13 +137,9 @@ IsAnswerBy Accepted Rejected t NoMemory = Unit {0}
 IsAnswerBy Accepted Rejected t NotUtf8 = ⊥
 IsAnswerBy Accepted Rejected t TooLong = ⊥
 
--- The same where the words set this, of the text's only reading and of diagnostics.
+-- The same where the words set this, of the text's only reading and of diagnostics where it has none.
 abbrev pub IsAnswerTo : Settings → List ℕ → Told → Status → Type 0
 IsAnswerTo s text t status = IsAnswerBy (Accepts s text) (Refuses s text) t status
-
--- The same of a text that has a reading without braces: it isn't refused, and this reading is written.
-abbrev pub WritesBraceless : Settings → List ℕ → Told → Status → Type 0
-WritesBraceless s text t status = (tree : Tree) (r : Reading text (read_at s.goal) (options_of s) tree) → AllBraceless r.lexemes → IsAnswerBy (λ out. out ≡ tree_text tree) (λ out. ⊥) t status
 
 -- The same of a core text.
 abbrev pub IsCoreAnswerTo : Settings → List ℕ → Told → Status → Type 0

@@ -8,7 +8,7 @@ ghost use Rattle.js_grammar.specs.CoreTexts.{CoreSource};
 ghost use Rattle.js_grammar.specs.Settings.{Settings as Set};
 ghost use Rattle.jsparse.specs.Ends.{IsFault};
 ghost use Rattle.jsparse.specs.Outputs.{AsksForTree};
-ghost use Rattle.jsparse.specs.Runs.{limit, ReadsUpTo, Gave, told, HasCause, FitsWords, LeavesSink, LeavesSource, ComesBefore, IsAnswerTo, IsCoreAnswerTo, IsText, WritesBraceless};
+ghost use Rattle.jsparse.specs.Runs.{limit, ReadsUpTo, Gave, told, HasCause, FitsWords, LeavesSink, LeavesSource, ComesBefore, IsAnswerTo, IsCoreAnswerTo, IsText};
 ghost use Rattle.jsparse.specs.Steps.{ReadPiece, ReadCause, StopCause, Made, TookFront, PutCause};
 ghost use Rattle.jsparse.specs.Words.{settings_of};
 
@@ -164,17 +164,10 @@ pub fn run<S: Source, K: Sink>(
         IsCoreAnswerTo s text (told S.remaining S.faults K.taken K.faults source.old source.new sink.old sink.new) result) }
 
     // Where the words are admitted and the source tells its bytes, and these are a text: its only reading is written
-    // and 0 answered, or diagnostics with their marks are written and 1 answered; then it has no reading without
-    // braces, and none at all, unless the last diagnostic begins at an opening brace where a production would have to
-    // be built that isn't yet; faults and want of memory aside. Readings are over lexemes of the kinds that are read
-    // so far.
+    // and 0 answered, or it has none, diagnostics with their marks are written and 1 answered; faults and want of
+    // memory aside. Readings are over lexemes of the kinds that are read so far.
     ensures headline { IfSome (S.remaining source.old) (λ text. IsText text → (s : Set) → Admitted (map string_bytes words.now.items) s →
         IsAnswerTo s text (told S.remaining S.faults K.taken K.faults source.old source.new sink.old sink.new) result) }
-
-    // A text that has a reading without braces isn't refused, and this reading is written; faults and want of memory
-    // aside.
-    ensures braceless { IfSome (S.remaining source.old) (λ text. IsText text → (s : Set) → Admitted (map string_bytes words.now.items) s →
-        WritesBraceless s text (told S.remaining S.faults K.taken K.faults source.old source.new sink.old sink.new) result) }
 
     // Each status has its cause.
     ensures cause { HasCause result (map string_bytes words.now.items) (told S.remaining S.faults K.taken K.faults source.old source.new sink.old sink.new) }

@@ -1,6 +1,6 @@
 use Rattle.std.proofs.Common.{refl, map, string_bytes, Global}
 use Rattle.jsparse.specs.Runs.{told}
-use Rattle.jsparse.proofs.Runs.{answer_if_told, braceless_if_told, core_answer_if_told, long_if_told, no_text_if_told}
+use Rattle.jsparse.proofs.Runs.{answer_if_told, core_answer_if_told, long_if_told, no_text_if_told}
 use Rattle.jsparse.proofs.run.run.Goals as goal
 
 pub returns-clause-headline : goal.returns-clause-headline
@@ -12,12 +12,6 @@ returns-clause-headline g c =
 pub returns-clause-core_headline : goal.returns-clause-core_headline
 returns-clause-core_headline g c =
     core_answer_if_told c.steps.result (map (string_bytes {Z = Global}) c.args.words.now.items)
-    (told g.S.Source.remaining g.S.Source.faults g.K.Sink.taken g.K.Sink.faults c.args.source.now c.steps.new.source c.args.sink.now c.steps.new.sink)
-    (g.S.Source.remaining c.args.source.now) refl c.steps.ensures.words c.steps.ensures.cause
-
-pub returns-clause-braceless : goal.returns-clause-braceless
-returns-clause-braceless g c =
-    braceless_if_told c.steps.result (map (string_bytes {Z = Global}) c.args.words.now.items)
     (told g.S.Source.remaining g.S.Source.faults g.K.Sink.taken g.K.Sink.faults c.args.source.now c.steps.new.source c.args.sink.now c.steps.new.sink)
     (g.S.Source.remaining c.args.source.now) refl c.steps.ensures.words c.steps.ensures.cause
 
