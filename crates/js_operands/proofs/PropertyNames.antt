@@ -168,7 +168,7 @@ pub number_outcome : (text : List ℕ) (f : Flags) (p q : Parser) (nk : NodeKind
 number_outcome text f p q nk o k (Ok id) a s i h u v e m =
     let t = m text f a in
     leaf_named a s t (subst (λ (x : NodeKindMade). Path text f (plain full) (name false false f) p nothing t.mid (tree (label_here (kind_of x) (op_of o) p t.mid) end)) (sym u)
-        (subst (λ (x : OpMade). Path text f (plain full) (name false false f) p nothing t.mid (tree (label_here (kind_of (node_of_number k)) (op_of x) p t.mid) end)) (sym v) (number_path k h text f p t.mid a (sym i) e t.moved)))
+    (subst (λ (x : OpMade). Path text f (plain full) (name false false f) p nothing t.mid (tree (label_here (kind_of (node_of_number k)) (op_of x) p t.mid) end)) (sym v) (number_path k h text f p t.mid a (sym i) e t.moved)))
 number_outcome text f p q nk o k (Err Fatal) a s i h u v e m = absurd m
 number_outcome text f p q nk o k (Err NoMemory) a s i h u v e m = tt
 

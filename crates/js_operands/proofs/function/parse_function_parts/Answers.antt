@@ -29,8 +29,8 @@ pub returns-in_err-parameters : goal.returns-in_err-parameters
 returns-in_err-parameters g c =
     let p = err_from_is_err_and c.from_residual-in_err-parameters.result c.from_residual-in_err-parameters.ensures.1 in
     rw (p.1, p.2) (λ text f a.
-        let m = c.in_ok-advance.ensures text f a in
-        parameters_stop c.args.form a c.requires.word m c.in_ok-is_generator.is_generator c.eat.new.self c.in_ok-is_generator.ensures c.parse_function_name.new.p c.in_ok-name.name c.in_ok-name.ensures _ _ (c.in_err-parameters.ensures text f (named_at c.args.form a c.requires.word m c.in_ok-is_generator.is_generator c.eat.new.self c.in_ok-is_generator.ensures c.parse_function_name.new.p c.in_ok-name.name c.in_ok-name.ensures)))
+    let m = c.in_ok-advance.ensures text f a in
+    parameters_stop c.args.form a c.requires.word m c.in_ok-is_generator.is_generator c.eat.new.self c.in_ok-is_generator.ensures c.parse_function_name.new.p c.in_ok-name.name c.in_ok-name.ensures _ _ (c.in_err-parameters.ensures text f (named_at c.args.form a c.requires.word m c.in_ok-is_generator.is_generator c.eat.new.self c.in_ok-is_generator.ensures c.parse_function_name.new.p c.in_ok-name.name c.in_ok-name.ensures)))
 
 pub body_of_function-requires-clause-at : goal.body_of_function-requires-clause-at
 body_of_function-requires-clause-at g c =
@@ -49,9 +49,9 @@ pub returns-in_err-body : goal.returns-in_err-body
 returns-in_err-body g c =
     let p = err_from_is_err_and c.from_residual-in_err-body.result c.from_residual-in_err-body.ensures.1 in
     rw (p.1, p.2) (λ text f a.
-        let m = c.in_ok-advance.ensures text f a in
-        let x = c.in_ok-parameters.ensures text f (named_at c.args.form a c.requires.word m c.in_ok-is_generator.is_generator c.eat.new.self c.in_ok-is_generator.ensures c.parse_function_name.new.p c.in_ok-name.name c.in_ok-name.ensures) in
-        body_stops c.args.form a c.requires.word m c.in_ok-is_generator.is_generator c.eat.new.self c.in_ok-is_generator.ensures c.parse_function_name.new.p c.in_ok-name.name c.in_ok-name.ensures x _ _ (c.in_err-body.ensures text f (headed_at c.args.form a c.requires.word m c.in_ok-is_generator.is_generator c.eat.new.self c.in_ok-is_generator.ensures c.parse_function_name.new.p c.in_ok-name.name c.in_ok-name.ensures x)))
+    let m = c.in_ok-advance.ensures text f a in
+    let x = c.in_ok-parameters.ensures text f (named_at c.args.form a c.requires.word m c.in_ok-is_generator.is_generator c.eat.new.self c.in_ok-is_generator.ensures c.parse_function_name.new.p c.in_ok-name.name c.in_ok-name.ensures) in
+    body_stops c.args.form a c.requires.word m c.in_ok-is_generator.is_generator c.eat.new.self c.in_ok-is_generator.ensures c.parse_function_name.new.p c.in_ok-name.name c.in_ok-name.ensures x _ _ (c.in_err-body.ensures text f (headed_at c.args.form a c.requires.word m c.in_ok-is_generator.is_generator c.eat.new.self c.in_ok-is_generator.ensures c.parse_function_name.new.p c.in_ok-name.name c.in_ok-name.ensures x)))
 
 pub returns : goal.returns
 returns g c = λ text f a.
