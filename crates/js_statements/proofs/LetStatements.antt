@@ -8,7 +8,7 @@ use Rattle.js_base.specs.declared.span.Span.{Span}
 use Rattle.js_base.specs.declared.kind.Kind.{Kind}
 use Rattle.js_base.specs.declared.kind.Kind.TheVariants.{Colon, Const, LBrack, LCurly, Let, RAngle, Undetermined}
 use Rattle.js_base.specs.declared.token.Token.{Token}
-use Rattle.js_base.specs.Kinds.{same_kind}
+use Rattle.js_base.specs.Kinds.{same_kind, one_of_kinds}
 use Rattle.js_grammar.specs.Conditions.{ends_in_sub}
 use Rattle.js_grammar.specs.Words.{'async'}
 use Rattle.js_grammar.specs.Trees.{end}
@@ -19,7 +19,7 @@ use Rattle.js_grammar.specs.Productions.{Statement as AStatement}
 use Rattle.js_grammar.specs.Productions.{sym as symbol}
 use Rattle.js_grammar.specs.Table.{rule, rule_of}
 use Rattle.js_grammar.proofs.Looks.{covers, covered, apart, not_both}
-use Rattle.js_grammar.proofs.Calculus.{◌▹◌, ◌▹✗◌, right, fails_alt, fails_node, fails_rule, inside_full}
+use Rattle.js_grammar.proofs.Calculus.{◌▹◌, ◌▹✗◌, looks, right, fails_alt, fails_node, fails_rule, inside_full}
 use Rattle.js_tree.specs.declared.id.NodeId.{NodeId}
 use Rattle.js_tree.specs.declared.op.DeclarationKind.{DeclarationKind}
 use Rattle.js_tree.specs.declared.op.DeclarationKind.TheVariants as declared
@@ -35,8 +35,9 @@ use Rattle.js_parsing.specs.Classes.{IsEarly}
 use Rattle.js_parsing.specs.Lexemes.{Lex, spot}
 use Rattle.js_parsing.specs.Stands.{StandsHere}
 use Rattle.js_parsing.specs.States.{At}
-use Rattle.js_parsing.specs.Statements.{after_statement, no_link, NoStatement, Statement, StatementOutcome, TakesStatement}
-use Rattle.js_parsing.proofs.Ahead.{pass_over, reads_other, reads_not_then}
+use Rattle.js_parsing.specs.Statements.{after_statement, no_link, statement_kinds, NoStatement, Statement, StatementOutcome, TakesStatement}
+use Rattle.js_parsing.proofs.Ahead.{pass_over, reads_not_then}
+use Rattle.js_parsing.proofs.Here.{kind_here}
 use Rattle.js_parsing.proofs.Dead.{lives}
 use Rattle.js_parsing.proofs.Giving.{kept_one}
 use Rattle.js_parsing.proofs.Moving.{same_both, stops_so}
@@ -51,9 +52,9 @@ use Rattle.js_statements.specs.DeclarationStatements.{Declaration, ReadsDeclarat
 use Rattle.js_statements.specs.LetStatements.{behind_let, BeginsLexical, FindsLexical, LetBegins, LetHere, NoLet, TellsLexical}
 use Rattle.js_statements.proofs.DeclarationStatements.{as_statement, const_alone, const_listed, declaration_read, no_const_body}
 use Rattle.js_statements.proofs.LetLookaheads.{ends_at, followed, not_followed, ◌⇒✗◌}
-use Rattle.js_statements.proofs.Statements.{item_left, labels_fail, never_open, no_expression, no_symbol, sub_left}
+use Rattle.js_statements.proofs.Statements.{item_left, labels_fail, never_open, no_expression, no_function, no_function_body, no_symbol, sub_left}
 use Rattle.js_statements.proofs.WordStatements.{unlinked}
-use Rattle.js_grammar.specs.Productions.{is_one_of, function_on_line}
+use Rattle.js_grammar.specs.Productions.{is_one_of, other, function_on_line}
 
 -- ---- where `let` begins a declaration
 
@@ -86,7 +87,7 @@ module _ {text : List ℕ} {f : Flags} {p : Parser} (a : At text f p) {b : Bool}
   -- before `[` no expression statement begins so
   let_expression : same_kind LBrack h.kind ≡ true → {X : Test} → Fails rule (Lex text) X end (symbol ExprStmt f) p.prev_token_end
   unfolding rule rule_of apart
-  let_expression k = fails_rule {X' = plain full} (λ l cs vs y e. (refl, refl)) (fails_node inside_full (pass_over (reads_other (is_one_of no_expression) refl) ▹✗ (pass_over (reads_not_then (is 'async') function_on_line refl) ▹✗ followed a (is LBrack) h.here (λ z l. and_from _ _ (ap (same_kind LBrack) (kind_behind z l) ∙ k) (ap not (read_plain z l.1))))))
+  let_expression k = fails_rule {X' = plain full} (λ l cs vs y e. (refl, refl)) (fails_node inside_full (pass_over (looks (other (is_one_of no_expression)) (λ y l. subst (λ (k : Kind). not (one_of_kinds no_expression k && not y.escaped) ≡ true) (sym (kind_here a h.here.0 refl y l)) refl)) ▹✗ (pass_over (reads_not_then (is 'async') function_on_line refl) ▹✗ followed a (is LBrack) h.here (λ z l. and_from _ _ (ap (same_kind LBrack) (kind_behind z l) ∙ k) (ap not (read_plain z l.1))))))
 
 -- in a list
 module _ {text : List ℕ} {f : Flags} {p : Parser} (a : At text f p) (h : LetHere true p) where
@@ -98,7 +99,7 @@ module _ {text : List ℕ} {f : Flags} {p : Parser} (a : At text f p) (h : LetHe
       by false k = followed a (word_or (LCurly ∷ [])) h.here (λ z l. or_word h.kind h.goes_on k z (kind_behind a h z l))
 
   let_listed : {X : Test} → Goes rule (Lex text) X end (rule (at ListItem f)) p.prev_token_end (symbol Lexical f) p.prev_token_end (λ us. us) (still 0)
-  let_listed {X} = subst (λ (g : G). Goes rule (Lex text) X end (rule (at ListItem f)) p.prev_token_end g p.prev_token_end (λ us. us) (still 0)) (item_left f) (lives (rule (at ListItem f))) ▹ right (let_statement a h) ▹ right no_expression_item
+  let_listed {X} = subst (λ (g : G). Goes rule (Lex text) X end (rule (at ListItem f)) p.prev_token_end g p.prev_token_end (λ us. us) (still 0)) (item_left f) (lives (rule (at ListItem f))) ▹ right (let_statement a h) ▹ right no_expression_item ▹ right (no_function a (ap (one_of_kinds statement_kinds) h.here.0))
 
   let_alone : {X : Test} → Goes rule (Lex text) X end (rule (at Lexical f)) p.prev_token_end (declaration declared.Let f) p.prev_token_end (λ us. us) (still 0)
   unfolding rule rule_of covers
@@ -106,7 +107,7 @@ module _ {text : List ℕ} {f : Flags} {p : Parser} (a : At text f p) (h : LetHe
 
 -- as a body
 no_let_body : {text : List ℕ} {f : Flags} {p : Parser} → At text f p → LetHere false p → NoStatement text (at Sub f) p.prev_token_end
-no_let_body {text} {f} {p} a h = no_symbol (subst (λ (g : G). Goes rule (Lex text) (after_statement (at Sub f)) end (rule (at Sub f)) p.prev_token_end g p.prev_token_end (λ us. us) (still 0)) (sub_left f) (lives (rule (at Sub f))) ▹✗ fails_alt (let_statement a h) (let_expression a h h.goes_on))
+no_let_body {text} {f} {p} a h = no_symbol (subst (λ (g : G). Goes rule (Lex text) (after_statement (at Sub f)) end (rule (at Sub f)) p.prev_token_end g p.prev_token_end (λ us. us) (still 0)) (sub_left f) (lives (rule (at Sub f))) ▹✗ fails_alt (let_statement a h) (fails_alt (let_expression a h h.goes_on) (no_function_body a (ap (one_of_kinds statement_kinds) h.here.0))))
 
 -- ---- of both words
 

@@ -71,6 +71,13 @@ return_ends : (f : Flags) {ds : Slots} {i j : ℕ} {ls mid : Lexemes} → Takes 
 return_ends f {mid = mid} (is_seq (is_lexeme c) (is_left (is_seq (is_look w) (is_such {l = l} {cs = cs} d t)))) y h = (refl, (expression_ended f no_link (is_such {ks = end} {us = end} d t) y h).1)
 return_ends f {mid = mid} (is_seq (is_lexeme c) (is_right is_empty_slot)) y h = (refl, closing (by_edge y (hole end)) no_link (here mid) h)
 
+-- an Expression in its slot
+on_argument : (f : Flags) {s : ℕ} → On rule (behind_return f) (after (at Expression f)) end (such (at Expression f) always) s
+on_argument f = record { admits = λ ts vs k ls rest d e. go ts d e }
+  where
+    go : (ts : Slots) {i k : ℕ} {vs : Slots} {ls rest : Lexemes} → Takes rule (such (at Expression f) always) end ts i ls vs k rest → Admits (behind_return f) ts (here rest) → Admits (after (at Expression f)) ts (here rest)
+    go ts {rest = rest} (is_such {l = l} {cs = cs} {us = us} d t) e = admits (at Expression f) (tree l cs us) (here rest) e.1
+
 module _ {text : List ℕ} {f : Flags} where
   to_its_end : {p q : Parser} {h : Slots → Slots} → ((us : Slots) → h us ≡ append (h end) us) → Path text f (behind_return f) (return_slots f) p nothing q h → Path text f (plain no_link) (ended by_edge (return_slots f)) p (semicolon (goes_on (edge after_word after_word (h end)))) q h
   to_its_end m x = record {
@@ -82,13 +89,6 @@ module _ {text : List ℕ} {f : Flags} where
         (λ y. record { reach = y.reach; near = y.near; goes = ends_by y.goes m (λ y l. refl) (λ cs j ls mid l d h. return_ends f d (here ls) h) })
         (λ n. fails_ended n (λ cs j ls mid l d h. return_ends f d (here ls) h));
   }
-
-  -- an Expression in its slot
-  on_argument : {s : ℕ} → On rule (behind_return f) (after (at Expression f)) end (such (at Expression f) always) s
-  on_argument = record { admits = λ ts vs k ls rest d e. go ts d e }
-    where
-      go : (ts : Slots) {i k : ℕ} {vs : Slots} {ls rest : Lexemes} → Takes rule (such (at Expression f) always) end ts i ls vs k rest → Admits (behind_return f) ts (here rest) → Admits (after (at Expression f)) ts (here rest)
-      go ts {rest = rest} (is_such {l = l} {cs = cs} {us = us} d t) e = admits (at Expression f) (tree l cs us) (here rest) e.1
 
 -- ---- what stands behind the word
 
@@ -203,7 +203,7 @@ module _ {text : List ℕ} {f : Flags} {p q : Parser} (a : At text f p) (h : Sta
 
   argument_read : f.in_ ≡ true → {r : Parser} {id : NodeId} → (MayEnd q → ⊥) → Numbered text f (at Expression f) q r id → Argument text f p r (Some id)
   argument_read i {r} {id} e x =
-      let y = to_argument e ⟶ last_called x.answer on_argument in
+      let y = to_argument e ⟶ last_called x.answer (on_argument f) in
       record {
         slots = tree x.answer.label x.answer.slots;
         appends = λ us. refl;
@@ -219,7 +219,7 @@ module _ {text : List ℕ} {f : Flags} {p q : Parser} (a : At text f p) (h : Sta
   taken i None (e, z) = subst (λ (v : Parser). Argument text f p v None) (sym z) (nothing_read e)
 
   pub argument_stops : (b : Bool) (r : Parser) (e : Stop) → TakesArgument q r (Err e) → Stops p r e (NoStatement text (placed b f) p.prev_token_end)
-  argument_stops b r e (w, x) = stops_behind r e m.same (λ g. grown_then m.kept g) (λ n. return_none b (λ i. fails_ended (to_argument w ⟶✗ weaken_fails_on n on_argument) (λ ds j ls mid l d h. return_ends f d (here ls) h))) (x text f m.at)
+  argument_stops b r e (w, x) = stops_behind r e m.same (λ g. grown_then m.kept g) (λ n. return_none b (λ i. fails_ended (to_argument w ⟶✗ weaken_fails_on n (on_argument f)) (λ ds j ls mid l d h. return_ends f d (here ls) h))) (x text f m.at)
 
   -- ---- the whole
 
@@ -262,6 +262,15 @@ module _ {text : List ℕ} {f : Flags} {p q : Parser} (a : At text f p) (h : Sta
         checked_path : (b : Bool) → Path text f (after_statement (placed b f)) (such (placed b f) always) p nothing w (tree (label_here return_statement no_op p v) (its.slots end))
         checked_path b = go c
           where
+            ctx_is : {b : Bool} → has_flag return_flag v.ctx ≡ b → f.return_ ≡ b
+            ctx_is e = sym (ap (λ (g : Flags). g.return_) whole.at.flags_are) ∙ e
+
+            without : has_flag return_flag v.ctx ≡ false → f.return_ ≡ false
+            without e = ctx_is e
+
+            within : has_flag return_flag v.ctx ≡ true → f.return_ ≡ true
+            within e = ctx_is e
+
             go : ChecksReturn word v w → Path text f (after_statement (placed b f)) (such (placed b f) always) p nothing w (tree (label_here return_statement no_op p v) (its.slots end))
             go (inl (n, k)) = record {
               at = told_at k whole.at;
@@ -271,15 +280,6 @@ module _ {text : List ℕ} {f : Flags} {p q : Parser} (a : At text f p) (h : Sta
               verdict = unclean (grown_behind whole.verdict (kept_one k)) (stray b (without n));
             }
             go (inr (y, q)) = subst (λ (u : Parser). Path text f (after_statement (placed b f)) (such (placed b f) always) p nothing u (tree (label_here return_statement no_op p v) (its.slots end))) (sym q) (return_path b (within y))
-
-            ctx_is : {b : Bool} → has_flag return_flag v.ctx ≡ b → f.return_ ≡ b
-            ctx_is e = sym (ap (λ (g : Flags). g.return_) whole.at.flags_are) ∙ e
-
-            without : has_flag return_flag v.ctx ≡ false → f.return_ ≡ false
-            without e = ctx_is e
-
-            within : has_flag return_flag v.ctx ≡ true → f.return_ ≡ true
-            within e = ctx_is e
 
         checked_same : Same v w
         checked_same = go c

@@ -15,7 +15,7 @@ use Rattle.js_base.specs.Kinds.{same_kind, one_of_kinds}
 use Rattle.js_base.proofs.KindLemmas.{kind_of_same}
 use Rattle.js_base.specs.Texts.{words}
 use Rattle.js_grammar.specs.Words.{'let', 'const', 'async', 'function', 'class'}
-use Rattle.js_grammar.specs.Trees.{Label, Slots, end, tree, no_op, variable_declaration, empty_statement, expression_statement, label_identifier}
+use Rattle.js_grammar.specs.Trees.{Label, Slots, end, tree, no_op, function_declaration, variable_declaration, empty_statement, expression_statement, label_identifier}
 use Rattle.js_grammar.specs.Grammar.{Lexeme, Lexemes, Look, here, seen, is, may_omit, alt, such, when, ended, semicolon, nothing, next, label_of, ◌▸◌, Takes, is_seq, is_lexeme, is_such, is_node, is_ended, commas}
 use Rattle.js_grammar.specs.Insertion.{Row, after_expression, may_bind, goes_on, by_edge}
 use Rattle.js_grammar.specs.Conditions.{ends_in_sub, lacks_else}
@@ -23,12 +23,14 @@ use Rattle.js_grammar.specs.Lexed.{Lexes}
 use Rattle.js_grammar.specs.Lexemes.{is_escaped}
 use Rattle.js_grammar.specs.Parsing.{Test, plain, behind, full, always, still, Goes, Fails, Admits}
 use Rattle.js_grammar.specs.Productions.{G, Flags, Symbol, at, op as op_node, other, if_next, not_then, is_one_of, word_or, function_on_line, tok, ListItem, Block, Empty, ExprStmt, Expression, Labeled, LabelIdentifier, Lexical, Sub, Break, Continue, Debugger, Do, If, Return, Throw, Var, While, With}
+use Rattle.js_grammar.specs.Productions.{BindingIdentifier}
+use Rattle.js_grammar.specs.Productions.{Function as AFunction}
 use Rattle.js_grammar.specs.Productions.{Statement as AStatement}
 use Rattle.js_grammar.specs.Productions.{sym as symbol}
-use Rattle.js_grammar.specs.Table.{rule, rule_of, identifier, declarator, declarators}
+use Rattle.js_grammar.specs.Table.{rule, rule_of, function_of, identifier, declarator, declarators}
 use Rattle.js_grammar.specs.Follow.{row_of, looser, after}
 use Rattle.js_grammar.proofs.Looks.{covers, covered, apart, not_both}
-use Rattle.js_grammar.proofs.Calculus.{◌▹◌, ◌▹✗◌, left, right, ends_by, looks, by_omission, fails_ended, fails_semicolon, fails_rule, fails_node, fails_alt, inside_plain, ends, closes}
+use Rattle.js_grammar.proofs.Calculus.{◌▹◌, ◌▹✗◌, left, right, ends_by, looks, by_omission, fails_ended, fails_semicolon, fails_rule, fails_node, fails_alt, inside_plain, ends, closes, weaken_fails_on}
 use Rattle.js_grammar.proofs.FollowLaws.{admits, expression_ended}
 use Rattle.js_grammar.proofs.RightEdges.{at_row}
 use Rattle.js_grammar.proofs.First.{starts}
@@ -314,11 +316,11 @@ pub statement_left : (f : Flags) → live (rule (at AStatement f)) ≡ alt (symb
 unfolding rule rule_of apart
 statement_left f = refl
 
-pub sub_left : (f : Flags) → live (rule (at Sub f)) ≡ alt (such (at AStatement f) always) (symbol ExprStmt f)
+pub sub_left : (f : Flags) → live (rule (at Sub f)) ≡ alt (such (at AStatement f) always) (alt (symbol ExprStmt f) (function_of function_declaration (symbol BindingIdentifier f) false false f))
 unfolding rule rule_of apart
 sub_left f = refl
 
-pub item_left : (f : Flags) → live (rule (at ListItem f)) ≡ alt (such (at AStatement f) always) (alt (not_then (is 'let') (word_or (LCurly ∷ [])) ▸ symbol ExprStmt f) (symbol Lexical f))
+pub item_left : (f : Flags) → live (rule (at ListItem f)) ≡ alt (such (at AStatement f) always) (alt (not_then (is 'let') (word_or (LCurly ∷ [])) ▸ symbol ExprStmt f) (alt (symbol AFunction f) (symbol Lexical f)))
 unfolding rule rule_of apart
 item_left f = refl
 
@@ -395,6 +397,15 @@ pub no_label_at : {text : List ℕ} {f : Flags} {p : Parser} → At text f p →
 unfolding covers apart
 no_label_at {f = f} a n X = fails_at a {X = X} (symbol Labeled f) name_kinds refl n
 
+-- nor a declaration of a function
+pub no_function : {text : List ℕ} {f : Flags} {p : Parser} {X : Test} → At text f p → one_of_kinds statement_kinds p.token.kind ≡ false → Fails rule (Lex text) X end (symbol AFunction f) p.prev_token_end
+unfolding covers apart
+no_function {f = f} a n = weaken_fails_on (fails_at a {X = plain full} (symbol AFunction f) statement_kinds refl n) (record { admits = λ ts vs k ls rest d e. (refl, refl) })
+
+pub no_function_body : {text : List ℕ} {f : Flags} {p : Parser} {X : Test} → At text f p → one_of_kinds statement_kinds p.token.kind ≡ false → Fails rule (Lex text) X end (function_of function_declaration (symbol BindingIdentifier f) false false f) p.prev_token_end
+unfolding covers apart
+no_function_body {f = f} a n = weaken_fails_on (fails_at a {X = plain full} (function_of function_declaration (symbol BindingIdentifier f) false false f) statement_kinds refl n) (record { admits = λ ts vs k ls rest d e. (refl, refl) })
+
 -- no declaration stands here
 pub no_lexical : {text : List ℕ} {f : Flags} {p : Parser} {X : Test} → At text f p → one_of_kinds statement_kinds p.token.kind ≡ false → LetIsName text true p.prev_token_end → Fails rule (Lex text) X end (symbol Lexical f) p.prev_token_end
 unfolding covers apart rule rule_of
@@ -417,40 +428,40 @@ module _ {text : List ℕ} {f : Flags} {p : Parser} (a : At text f p) (n : one_o
 
   pub to_statement : (b : Bool) → LetIsName text b p.prev_token_end → Leads text (after_statement (placed b f)) (rule (placed b f)) p.prev_token_end (symbol ExprStmt f)
   unfolding apart covers
-  to_statement true u = at_once (subst (λ (g : G). Goes rule (Lex text) (after_statement (at ListItem f)) end (rule (at ListItem f)) p.prev_token_end g p.prev_token_end (λ us. us) (still 0)) (item_left f) (lives (rule (at ListItem f))) ▹ right no_statement ▹ left (no_lexical a n u))
+  to_statement true u = at_once (subst (λ (g : G). Goes rule (Lex text) (after_statement (at ListItem f)) end (rule (at ListItem f)) p.prev_token_end g p.prev_token_end (λ us. us) (still 0)) (item_left f) (lives (rule (at ListItem f))) ▹ right no_statement ▹ left (fails_alt (no_function a n) (no_lexical a n u)))
       ⇒ not_followed a (word_or (LCurly ∷ [])) (λ y z l q m h. false≢true (sym (u y z l q m) ∙ covered (word_or (LCurly ∷ [])) (λ k w e. behind_let true k) refl z.kind z.newline z.escaped h))
-  to_statement false u = at_once (subst (λ (g : G). Goes rule (Lex text) (after_statement (at Sub f)) end (rule (at Sub f)) p.prev_token_end g p.prev_token_end (λ us. us) (still 0)) (sub_left f) (lives (rule (at Sub f))) ▹ right no_statement)
+  to_statement false u = at_once (subst (λ (g : G). Goes rule (Lex text) (after_statement (at Sub f)) end (rule (at Sub f)) p.prev_token_end g p.prev_token_end (λ us. us) (still 0)) (sub_left f) (lives (rule (at Sub f))) ▹ right no_statement ▹ left (no_function_body a n))
 
 -- as the body of another statement, or in a list
 pub named_in_body : {text : List ℕ} {s : ℕ} (b : Bool) → LetIsName text b s → LetIsName text false s
 named_in_body true u = name_in_body u
 named_in_body false u = u
 
--- no brace stands here
-not_braced : (k : Kind) → one_of_kinds statement_kinds k ≡ false → one_of_kinds (LCurly ∷ []) k ≡ false
+-- neither a brace nor `function` stands here
+not_braced : (k : Kind) → one_of_kinds statement_kinds k ≡ false → one_of_kinds (LCurly ∷ 'function' ∷ []) k ≡ false
 unfolding covers
-not_braced k h = go (one_of_kinds (LCurly ∷ []) k) refl
+not_braced k h = go (one_of_kinds (LCurly ∷ 'function' ∷ []) k) refl
   where
-    go : (b : Bool) → one_of_kinds (LCurly ∷ []) k ≡ b → one_of_kinds (LCurly ∷ []) k ≡ false
-    go true e = absurd (false≢true (sym h ∙ covered (λ k w e. one_of_kinds (LCurly ∷ []) k) (λ k w e. one_of_kinds statement_kinds k) refl k false false e))
+    go : (b : Bool) → one_of_kinds (LCurly ∷ 'function' ∷ []) k ≡ b → one_of_kinds (LCurly ∷ 'function' ∷ []) k ≡ false
+    go true e = absurd (false≢true (sym h ∙ covered (λ k w e. one_of_kinds (LCurly ∷ 'function' ∷ []) k) (λ k w e. one_of_kinds statement_kinds k) refl k false false e))
     go false e = e
 
--- of what begins no expression statement, a brace alone is read
-begins_none : covers (λ k w e. one_of_kinds no_expression k && one_of_kinds read_kinds k) (λ k w e. one_of_kinds (LCurly ∷ []) k) ≡ true
+-- of what begins no expression statement, these alone are read
+begins_none : covers (λ k w e. one_of_kinds no_expression k && one_of_kinds read_kinds k) (λ k w e. one_of_kinds (LCurly ∷ 'function' ∷ []) k) ≡ true
 unfolding covers
 begins_none = refl
 
-to_expression : {text : List ℕ} {f : Flags} {p : Parser} → At text f p → one_of_kinds (LCurly ∷ []) p.token.kind ≡ false → LetIsName text false p.prev_token_end → Leads text (plain no_link) (if_next (other (is_one_of no_expression)) ▸ not_then (is 'async') function_on_line ▸ not_then (is 'let') (is LBrack) ▸ ended by_edge (symbol Expression f)) p.prev_token_end (ended by_edge (symbol Expression f))
+to_expression : {text : List ℕ} {f : Flags} {p : Parser} → At text f p → one_of_kinds (LCurly ∷ 'function' ∷ []) p.token.kind ≡ false → LetIsName text false p.prev_token_end → Leads text (plain no_link) (if_next (other (is_one_of no_expression)) ▸ not_then (is 'async') function_on_line ▸ not_then (is 'let') (is LBrack) ▸ ended by_edge (symbol Expression f)) p.prev_token_end (ended by_edge (symbol Expression f))
 unfolding apart
 to_expression {text} {f} {p} a c u = at_once (pass_over (looks (other (is_one_of no_expression)) (λ y l. go y l (one_of_kinds no_expression y.kind) refl)) ▹ pass_over (reads_not_then (is 'async') function_on_line refl))
     ⇒ not_followed a (is LBrack) (λ y z l q m h. false≢true (sym (u y z l q m) ∙ (and_parts (same_kind LBrack z.kind) (not z.escaped) h).0))
   where
     go : (y : Lexeme) → Lex text p.prev_token_end y → (b : Bool) → one_of_kinds no_expression y.kind ≡ b → seen (other (is_one_of no_expression)) y ≡ true
-    go y l true e = absurd (not_here a (LCurly ∷ []) refl c y l (covered (λ k w e. one_of_kinds no_expression k && one_of_kinds read_kinds k) (λ k w e. one_of_kinds (LCurly ∷ []) k) begins_none y.kind y.newline y.escaped (and_from _ _ e (and_parts (one_of_kinds read_kinds y.kind) (not y.escaped) l.1).0)))
+    go y l true e = absurd (not_here a (LCurly ∷ 'function' ∷ []) refl c y l (covered (λ k w e. one_of_kinds no_expression k && one_of_kinds read_kinds k) (λ k w e. one_of_kinds (LCurly ∷ 'function' ∷ []) k) begins_none y.kind y.newline y.escaped (and_from _ _ e (and_parts (one_of_kinds read_kinds y.kind) (not y.escaped) l.1).0)))
     go y l false e = rw e refl
 
 -- an expression that was read, where no statement ends behind it
-pub no_expression_ends : {text : List ℕ} {f : Flags} {p q : Parser} (b : Bool) → At text f p → one_of_kinds (LCurly ∷ []) p.token.kind ≡ false → LetIsName text b p.prev_token_end → (x : Answer text f (at Expression f) p q) → Fails rule (Lex text) (plain no_link) end (semicolon (goes_on (row_of x.label x.slots))) q.prev_token_end → Fails rule (Lex text) (after_statement (placed b f)) end (symbol ExprStmt f) p.prev_token_end
+pub no_expression_ends : {text : List ℕ} {f : Flags} {p q : Parser} (b : Bool) → At text f p → one_of_kinds (LCurly ∷ 'function' ∷ []) p.token.kind ≡ false → LetIsName text b p.prev_token_end → (x : Answer text f (at Expression f) p q) → Fails rule (Lex text) (plain no_link) end (semicolon (goes_on (row_of x.label x.slots))) q.prev_token_end → Fails rule (Lex text) (after_statement (placed b f)) end (symbol ExprStmt f) p.prev_token_end
 unfolding rule rule_of covers
 no_expression_ends {f = f} {p = p} b a c u x m = fails_rule {X' = plain no_link} (λ l cs vs y e. ((and_parts _ _ e.0).0, refl)) (fails_node (inside_plain refl) (to_expression a c (named_in_body b u) ⇒✗ (to_semicolon (λ ds i j ls mid d. d) (expression_path x) ⟶✗ m)))
 

@@ -87,7 +87,7 @@ line_omits : covers (λ k w e. w && not (same_kind kind.Semicolon k)) (may_omit 
 unfolding covers
 line_omits = refl
 
-closing : (p F : Look) (y : Lexeme) → IsTrue (seen (closes p F) y) → IsTrue (seen closes_or_line y)
+pub closing : (p F : Look) (y : Lexeme) → IsTrue (seen (closes p F) y) → IsTrue (seen closes_or_line y)
 closing p F y h = either_of (seen semicolon_look y) _ h (λ s. covered semicolon_look closes_or_line semicolon_closes y.kind y.newline y.escaped s) (λ s. covered (may_omit p) closes_or_line (omitted_so p) y.kind y.newline y.escaped (and_parts (seen (may_omit p) y) (seen F y) s).0)
 
 module _ {text : List ℕ} {f : Flags} where
@@ -106,7 +106,7 @@ module _ {text : List ℕ} {f : Flags} where
   omits_word a (inl e) n y l = omits_at_end a after_word e n y l
   omits_word a (inr w) n y l = covered (λ k w e. w && not (same_kind kind.Semicolon k)) (may_omit (goes_on after_word)) line_omits y.kind y.newline y.escaped (and_from _ _ (newline_here a y l ∙ w) (ap not (no_semicolon a n y l)))
 
-  ends_so : {g : G} {p q r : Parser} {h : Slots → Slots} → EndsStatement q r → Path text f (plain no_link) g p (semicolon (goes_on after_word)) q h → Path text f (plain no_link) g p nothing r h
+  pub ends_so : {g : G} {p q r : Parser} {h : Slots → Slots} → EndsStatement q r → Path text f (plain no_link) g p (semicolon (goes_on after_word)) q h → Path text f (plain no_link) g p nothing r h
   ends_so (v, inl (k, m)) t = t ⟶ semicolon_path t.at (goes_on after_word) k (moves (whole_semicolon t.at k) m t.at)
   ends_so {g} {p} {h = h} (v, inr (n, m, e)) t = subst (λ (w : Parser). Path text f (plain no_link) g p nothing w h) (sym e) (t ⟝ by_omission (goes_on after_word) (omits_word t.at m n))
 

@@ -74,3 +74,6 @@ returns-in-Var g c = λ b u. c.parse_variable_statement.ensures b
 
 pub returns-in-Semicolon : goal.returns-in-Semicolon
 returns-in-Semicolon g c = λ b u. c.parse_empty_statement.ensures b
+
+pub returns-in-LCurly : goal.returns-in-LCurly
+returns-in-LCurly g c = λ b u. c.parse_block_statement.ensures b

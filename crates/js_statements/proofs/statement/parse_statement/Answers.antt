@@ -12,3 +12,6 @@ pub returns : goal.returns
 returns g c =
     let z = none_found false c.args.p.now c.lexical_kind.new.p _ c.in_default.is c.in_ok-kind.ensures in
     taken_from (at Sub) c.args.p.now c.lexical_kind.new.p _ _ z.0 (c.parse_any_statement.ensures false (subst (λ (v : Parser). NoLet false v) (sym z.0) z.2))
+
+pub returns-then-stands : goal.returns-then-stands
+returns-then-stands g c = taken_from (at Sub) c.args.p.now c.lexical_kind.new.p _ _ (none_found false c.args.p.now c.lexical_kind.new.p _ c.in_default.is c.in_ok-kind.ensures).0 c.parse_function_as_body.ensures

@@ -12,3 +12,6 @@ pub returns : goal.returns
 returns g c =
     let z = none_found true c.args.p.now c.lexical_kind.new.p _ c.in_default.is c.in_ok-kind.ensures in
     taken_from (at ListItem) c.args.p.now c.lexical_kind.new.p _ _ z.0 (c.parse_any_statement.ensures true (subst (λ (v : Parser). NoLet true v) (sym z.0) z.2))
+
+pub returns-then-stands : goal.returns-then-stands
+returns-then-stands g c = taken_from (at ListItem) c.args.p.now c.lexical_kind.new.p _ _ (none_found true c.args.p.now c.lexical_kind.new.p _ c.in_default.is c.in_ok-kind.ensures).0 c.parse_function_declaration.ensures
