@@ -20,7 +20,9 @@ ghost use Rattle.js_targets.specs.Targets.{Converted, OfNode, Stood, argument_pl
 ghost use Rattle.js_targets.specs.declared.widening.Widening.TheVariants as widening;
 ghost use Rattle.js_targets.specs.Targets as target;
 
-use crate::cover::{child_at, is_literal, is_object, only_child, refuse_target, simple_target, two_children};
+use crate::cover::{
+    child_at, is_literal, is_object, only_child, refuse_target, simple_target, two_children,
+};
 use crate::widening::{Notes, Widening, tell_places};
 use js_base::{AssignmentOperator, DiagnosticKind, NoMemory, Span};
 use js_cursor::{ParserImpl, Stop};
