@@ -243,7 +243,7 @@ no_conditional {text} {f} {p} {q} x n s = fails_rule {X' = after (at Assignment 
 -- the test alone
 pub test_alone : {text : List ℕ} {f : Flags} {p q : Parser} {id : NodeId} → OnlyOperand text f p.prev_token_end → Numbered text f (at Short f) p q id → one_of_kinds (Question ∷ []) q.token.kind ≡ false → ((y : Lexeme) → Lex text q.prev_token_end y → IsTrue (seen an_assign y) → ⊥) → Numbered text f (at Assignment f) p q id
 unfolding covers lift
-test_alone {text} {f} {p} a x n z = lift (at Assignment f) (at Conditional f) refl refl text p.prev_token_end (unassigned a.0 a.1 x.answer z) refl
+test_alone {text} {f} {p} a x n z = lift (at Assignment f) (at Conditional f) refl refl text p.prev_token_end (unassigned a x.answer z) refl
     (lift (at Conditional f) (at Short f) refl refl text p.prev_token_end (no_branches x.answer n) refl x (operand_assigned (row_of x.answer.label x.answer.slots) x.answer.row) (behind_test x.answer n))
     (operand_assigned (row_of x.answer.label x.answer.slots) x.answer.row) (behind_alone x.answer n z)
 

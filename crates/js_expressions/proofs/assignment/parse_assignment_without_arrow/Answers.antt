@@ -12,7 +12,7 @@ use Rattle.js_parsing.proofs.Verdicts.{after, grown_then}
 use Rattle.js_expressions.proofs.assignment.parse_assignment_without_arrow.Goals as goal
 
 pub returns-in_err-left : goal.returns-in_err-left
-returns-in_err-left t c = λ text f a. let p = err_from_is_err_and c.from_residual.result c.from_residual.ensures.1 in rw (p.1, p.2) (stops_so _ _ _ (λ z. test_none f (not_wide a) (is_cover a) (c.requires.operand text f a).1 z) (c.in_err-left.ensures text f a))
+returns-in_err-left t c = λ text f a. let p = err_from_is_err_and c.from_residual.result c.from_residual.ensures.1 in rw (p.1, p.2) (stops_so _ _ _ (λ z. test_none f (not_wide a) (is_cover a) (c.requires.operand text f a) z) (c.in_err-left.ensures text f a))
 
 pub parse_conditional_expression_rest-requires-clause-at : goal.parse_conditional_expression_rest-requires-clause-at
 parse_conditional_expression_rest-requires-clause-at t c = standing (c.in_ok-_power.ensures _ _ (c.in_ok-left.ensures _ _ c.requires.at).answer.at).at
