@@ -64,10 +64,10 @@ use Rattle.js_cursor.specs.Parsers.{Parser}
 use Rattle.js_cursor.specs.Places.{IsAt}
 use Rattle.js_cursor.proofs.Changing.{came_back, back_follows}
 use Rattle.js_cursor.proofs.Later.{keeps_follows}
-use Rattle.js_parsing.specs.Answers.{Underived, Answer, Answers, beside, Numbered, Outcome, Refuses, Stretch, Stops, Grown, StopsUnbuilt, Unbuilt, Verdict, clean, unclean}
+use Rattle.js_parsing.specs.Answers.{Underived, Answer, Answers, beside, Numbered, Outcome, Refuses, Stretch, Stops, Grown, Verdict, clean, unclean}
 use Rattle.js_cursor.specs.Notes.{Notes}
 use Rattle.js_parsing.specs.Contexts.{arrow_body, braced_body}
-use Rattle.js_expressions.specs.Arrows.{body_of, head_of, late_arrow, ArrowBehind, BeforeArrow, a_head, told_head, ToldHead, ChecksLine, FindsHead, Head, HeadOrNone, IsHead, IsHeadHere, IsRefusedHead, NoArrowHere, NoAssignment, Single, Unmoved, NoneLooked}
+use Rattle.js_expressions.specs.Arrows.{body_of, head_of, late_arrow, ArrowBehind, BeforeArrow, a_head, told_head, ToldHead, ChecksLine, FindsHead, Head, LooksForHead, IsHead, IsHeadHere, IsRefusedHead, NoArrowHere, Single, Unmoved, NoneLooked}
 use Rattle.js_parsing.specs.Heads.{NoHead, NotedHeads}
 use Rattle.js_expressions.specs.Rests.{OnlyOperandHere}
 use Rattle.js_expressions.specs.Closings.{ArrowBehindOne}
@@ -85,6 +85,7 @@ use Rattle.js_parsing.proofs.Signs.{other_kind, plain_sign}
 use Rattle.js_parsing.proofs.Dead.{live, lives}
 use Rattle.js_expressions.proofs.Exponents.{longer}
 use Rattle.js_parsing.proofs.Told.{beside_errors}
+use Rattle.js_parsing.proofs.Unbuilt.{nothing_unbuilt}
 use Rattle.js_parsing.proofs.ToEnd.{to_end_stays}
 use Rattle.js_parsing.proofs.Giving.{kept_one}
 use Rattle.js_parsing.proofs.Here.{alike, angled, found, plainly, one_plain, newline_here, kind_here, told, uncut}
@@ -466,26 +467,12 @@ module _ {p q : Parser} {kept : ℕ} (a : Standing p) (k : p.token.kind ≡ LPar
 pub start_between : {p q : Parser} {id : NodeId} {start : ℕ} → Standing p → Answers (at Params) p q (Ok id) → start ≡ p.prev_token_end → IsCharBoundary q.text start
 start_between {p} {q} a x e = let y = (x _ _ a).answer in subst (λ (v : ℕ). IsCharBoundary q.text v) (sym e) (subst (λ (t : List ℕ). IsCharBoundary t p.prev_token_end) (sym y.at.text_is) a.at.between)
 
--- they can't be read, and no production stopped them that isn't built yet
-pub head_refused : {p q : Parser} (e : Stop) → Standing p → e ≡ Fatal → (Unbuilt q → ⊥) → ((text : List ℕ) (f : Flags) → At text f p → Stops p q e (Underived text (at Params f) p.prev_token_end)) → NoneLooked p q
-head_refused {p} {q} e a i u s = go (λ text f b. subst (λ (v : Stop). Stops p q v (Underived text (at Params f) p.prev_token_end)) i (s text f b))
+-- they can't be read
+pub head_refused : {p q : Parser} (e : Stop) → Standing p → e ≡ Fatal → ((text : List ℕ) (f : Flags) → At text f p → Stops p q e (Underived text (at Params f) p.prev_token_end)) → NoneLooked p q
+head_refused {p} {q} e a i s = go (λ text f b. subst (λ (v : Stop). Stops p q v (Underived text (at Params f) p.prev_token_end)) i (s text f b))
   where
     go : ((text : List ℕ) (f : Flags) → At text f p → Refuses p q (Underived text (at Params f) p.prev_token_end)) → NoneLooked p q
-    go x = let y = x _ _ a in ((y.follows, y.at), y.heads, λ text f b. no_parameters b ((x text f b).none u), y.lies)
-
--- the parser stands where they stopped
-pub refused_at : {p q : Parser} (e : Stop) → Standing p → e ≡ Fatal → ((text : List ℕ) (f : Flags) → At text f p → Stops p q e (Underived text (at Params f) p.prev_token_end)) → IsAt q
-refused_at {p} {q} e a i s = go (subst (λ (v : Stop). Stops p q v (Underived p.text (at Params (flags_of p)) p.prev_token_end)) i (s _ _ a))
-  where
-    go : {F : Type 0} → Refuses p q F → IsAt q
-    go x = x.at
-
--- such a one stopped them
-pub head_unbuilt : {p q : Parser} (e : Stop) → e ≡ Fatal → Unbuilt q → ((text : List ℕ) (f : Flags) → At text f p → Stops p q e (Underived text (at Params f) p.prev_token_end)) → NoAssignment p q Fatal
-head_unbuilt {p} {q} e i u s = λ text f a. go (subst (λ (v : Stop). Stops p q v (Underived text (at Params f) p.prev_token_end)) i (s text f a))
-  where
-    go : {F G : Type 0} → Refuses p q F → Refuses p q G
-    go x = record { at = x.at; follows = x.follows; grown = x.grown; stopped = x.stopped; lies = x.lies; heads = x.heads; none = λ n. absurd (n u); met = x.met }
+    go x = let y = x _ _ a in ((y.follows, y.at), y.heads, λ text f b. no_parameters b ((x text f b).none nothing_unbuilt), y.lies)
 
 pub some_found : (p q : Parser) (id : NodeId) (r : Option NodeId) → r ≡ Some id → FindsHead p q r → IsHeadHere p q id
 some_found p q id r e h = subst (FindsHead p q) e h
@@ -493,20 +480,14 @@ some_found p q id r e h = subst (FindsHead p q) e h
 pub none_found : (p q : Parser) (r : Option NodeId) → r ≡ None → FindsHead p q r → Unmoved p q × NoArrowHere p
 none_found p q r e h = subst (FindsHead p q) e h
 
-pub none_looked : (p q : Parser) (r : Option NodeId) → r ≡ None → HeadOrNone p q r → NoneLooked p q
-none_looked p q r e h = subst (HeadOrNone p q) e h
+pub none_looked : (p q : Parser) (r : Option NodeId) → r ≡ None → LooksForHead p q r → NoneLooked p q
+none_looked p q r e h = subst (LooksForHead p q) e h
 
-pub stops_looked : (p o q : Parser) (e : Stop) → o ≡ p → NoAssignment o q e → NoAssignment p q e
-stops_looked p o q e s h = subst (λ (z : Parser). NoAssignment z q e) s h
-
-pub some_looked : (p o q : Parser) (id : NodeId) (r : Option NodeId) → o ≡ p → r ≡ Some id → HeadOrNone o q r → IsHeadHere p q id
-some_looked p o q id r s e h = subst (λ (z : Parser). IsHeadHere z q id) s (subst (HeadOrNone o q) e h)
+pub some_looked : (p o q : Parser) (id : NodeId) (r : Option NodeId) → o ≡ p → r ≡ Some id → LooksForHead o q r → IsHeadHere p q id
+some_looked p o q id r s e h = subst (λ (z : Parser). IsHeadHere z q id) s (subst (LooksForHead o q) e h)
 
 pub head_so : (start kept : ℕ) (q : Parser) {b r : Bool} → r ≡ b → IsHead start kept q r → IsHead start kept q b
 head_so start kept q e h = subst (λ (v : Bool). IsHead start kept q v) e h
-
-pub unbuilt_so : (q : Parser) {b r : Bool} → r ≡ b → StopsUnbuilt q r → StopsUnbuilt q b
-unbuilt_so q e h = subst (λ (v : Bool). StopsUnbuilt q v) e h
 
 pub refused_so : (kept : ℕ) (p : Parser) {r : Bool} → r ≡ true → IsRefusedHead kept p r → (length p.errors ≡ kept → ⊥) × (p.token.kind ≡ Arrow)
 refused_so kept p e h = subst (λ (b : Bool). IsRefusedHead kept p b) e h

@@ -104,14 +104,9 @@ abbrev pub NoneLooked : Parser → Parser → Type 0
 NoneLooked p q = GoesOn p q × NotedHeads q × NoHeadHere p × (SpansLie p → NodesLie q.text q.nodes)
 
 -- a head was read; or none stands here, and the parser went on
-abbrev pub HeadOrNone : Parser → Parser → Option NodeId → Type 0
-HeadOrNone p q (Some id) = IsHeadHere p q id
-HeadOrNone p q None = NoneLooked p q
-
--- the same, or the parser stopped where nothing is derived or a production would have to be built
-abbrev pub LooksForHead : Parser → Parser → Result (Option NodeId) Stop → Type 0
-LooksForHead p q (Ok found) = HeadOrNone p q found
-LooksForHead p q (Err e) = NoAssignment p q e
+abbrev pub LooksForHead : Parser → Parser → Option NodeId → Type 0
+LooksForHead p q (Some id) = IsHeadHere p q id
+LooksForHead p q None = NoneLooked p q
 
 -- whether `=>` stands behind the current lexeme
 abbrev pub ArrowBehind : Parser → Parser → Bool → Type 0

@@ -13,7 +13,7 @@ use Rattle.js_expressions.specs.Arrows.{NoArrowHere}
 use Rattle.js_expressions.specs.declared.lookahead.HeadLookahead.{HeadLookahead}
 use Rattle.js_expressions.specs.declared.lookahead.HeadLookahead.TheVariants as lookahead
 
--- a lexeme that begins an expression, and neither a parameter nor a rest
+-- some of the lexemes that begin an expression, and neither a parameter nor a rest
 abbrev pub begins_operand : Kind → Bool
 begins_operand k = ((one_of_kinds literal_kinds k || is_some (row_of unary_operators k)) || is_some (row_of update_operators k)) || one_of_kinds (LParen ∷ This ∷ New ∷ []) k
 

@@ -38,5 +38,3 @@ update_kinds = Plus2 ∷ Minus2 ∷ []
 -- An array or object literal was read up to the old state, by a call before which so many diagnostics were kept; with what is read now it is an assignment.
 abbrev pub AssignsLiteral : ℕ → NodeId → ℕ → Parser → Parser → Result NodeId Stop → Type 0
 AssignsLiteral start id kept old new r = (text : List ℕ) (f : Flags) (first : Parser) → At text f first → OnlyOperand text f first.prev_token_end → start ≡ first.token.span.start → kept ≡ length first.errors → (x : Numbered text f (at Short f) first old id) → is_literal x.answer.label.kind ≡ true → Outcome text f (at Assignment f) first new r
-
--- ---- array targets (13.15.5)

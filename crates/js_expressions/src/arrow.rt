@@ -21,7 +21,7 @@ use js_lex::ParserConfig;
 use js_operands::primary::parse_leaf;
 use js_parsing::context::{assignment_in_arrow, body_in_arrow};
 use js_parsing::diagnostics::{diagnostic_at, kept_so_far};
-use js_parsing::lexemes::{advance, name_stands, stands, stopped_unbuilt};
+use js_parsing::lexemes::{advance, name_stands, stands};
 use js_parsing::nested::Nested;
 use js_parsing::nodes::{make_one, make_two, make_with_optional};
 use js_patterns::parameters::parse_formal_parameters;
@@ -123,7 +123,7 @@ fn parse_certain_head<C: ParserConfig, N: Nested<C>>(
 }
 
 /// FormalParameters in parentheses, where `=>` stands behind them: an attempt, which is taken back where it fails. That is
-/// noted, and not tried again. `Fatal` where it stops at a production that isn't built yet.
+/// noted, and not tried again.
 #[inline(never)]
 fn try_parse_parenthesized_head<C: ParserConfig, N: Nested<C>>(
     p: &mut ParserImpl<'_, C>,
@@ -132,7 +132,7 @@ fn try_parse_parenthesized_head<C: ParserConfig, N: Nested<C>>(
     requires at { Standing p.old }
     requires nests { CanNest (N.can nested.now) (room p.old) }
     requires open { p.old.token.kind ≡ LParen }
-    ensures { SearchesHead p.old p.new result }
+    ensures { MatchResult result (λ found. FindsHead p.old p.new found) OnlyMemory }
 {
     let place = p.prev_token_end();
     if p.arrow_failed(place) {
@@ -148,8 +148,7 @@ fn try_parse_parenthesized_head<C: ParserConfig, N: Nested<C>>(
 }
 
 /// FormalParameters in parentheses, where they can be read and `=>` stands behind them, also where something is told of
-/// them. None: no arrow function stands here, and the parser is somewhere behind. `Fatal` where a production stopped them
-/// that isn't built yet: nothing is said of heads then.
+/// them. None: no arrow function stands here, and the parser is somewhere behind.
 fn parse_parenthesized_head<C: ParserConfig, N: Nested<C>>(
     p: &mut ParserImpl<'_, C>,
     nested: &N,
@@ -157,7 +156,7 @@ fn parse_parenthesized_head<C: ParserConfig, N: Nested<C>>(
     requires at { Standing p.old }
     requires nests { CanNest (N.can nested.now) (room p.old) }
     requires open { p.old.token.kind ≡ LParen }
-    ensures { LooksForHead p.old p.new result }
+    ensures { MatchResult result (λ found. LooksForHead p.old p.new found) OnlyMemory }
 {
     let start = p.prev_token_end();
     let kept = kept_so_far(p);
@@ -169,13 +168,7 @@ fn parse_parenthesized_head<C: ParserConfig, N: Nested<C>>(
                 Ok(None)
             }
         }
-        Err(Stop::Fatal) => {
-            if stopped_unbuilt(p) {
-                Err(Stop::Fatal)
-            } else {
-                Ok(None)
-            }
-        }
+        Err(Stop::Fatal) => Ok(None),
         Err(Stop::NoMemory) => Err(Stop::NoMemory),
     }
 }

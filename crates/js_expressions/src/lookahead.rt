@@ -39,7 +39,8 @@ pub(crate) fn is_parenthesized_head<C: ParserConfig>(
     Ok(HeadLookahead::Maybe)
 }
 
-/// Whether a lexeme begins an expression, and neither a parameter nor a rest.
+/// Whether a lexeme is one of those that begin an expression, and neither a parameter nor a rest: a literal, a sign, `(`,
+/// `this` or `new`.
 fn begins_no_parameter(kind: Kind) -> bool
     ensures { result ≡ begins_operand kind }
 {

@@ -1,4 +1,5 @@
-//! Operands: literals, parentheses, arrays, and left-hand sides (ECMA-262, sections 13.2 and 13.3).
+//! Operands: literals, parentheses, arrays, objects, functions and left-hand sides (ECMA-262, sections 13.2, 13.3, 15.2,
+//! 15.4 and 15.5).
 #![tactic(auto)]
 
 pub mod arguments;

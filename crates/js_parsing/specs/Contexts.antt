@@ -12,7 +12,7 @@ arrow_body f = record f { yield_ = false; await_ = false }
 abbrev pub braced_body : Flags → Flags
 braced_body f = record (arrow_body f) { in_ = true; return_ = true }
 
--- from the parameters around a method to those of its parameters; it is a generator or not (ECMA-262, 15.4, 15.5)
+-- from what is in force around a method to what is in its parameters; it is a generator or not (ECMA-262, 15.4, 15.5)
 pub record EntersMethod (generator : Bool) (old new : Context) : Type 0 where
   pub allows_in : has_flag in_flag new ≡ true
   pub allows_yield : has_flag yield_flag new ≡ generator

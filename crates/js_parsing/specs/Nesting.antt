@@ -41,7 +41,7 @@ Reading goal.Exponentiation old new r = Answers (at Exponent) old new r
 Reading goal.Binding old new r = Answers (at Binding) old new r
 Reading goal.Params old new r = Answers (at Params) old new r
 
--- How many levels of depth it takes: what stands between brackets is read through all levels of operators again; an item of a list of statements, a body in braces, and parameters take two.
+-- How many levels of depth it takes: what stands between brackets is read through all levels of operators again; an item of a list of statements, a body in braces, and the parameters of a method take two.
 abbrev pub levels_of : Goal → ℕ
 levels_of goal.Expression = 4
 levels_of goal.Element = 4

@@ -133,7 +133,7 @@ pub fn body_of_function<C: ParserConfig, N: Nested<C>>(
     Ok(body)
 }
 
-/// The parameters in force for the parameters of a method, which is a generator or not.
+/// What is in force while the parameters of a method are read, which is a generator or not.
 fn in_method(outer: Context, generator: bool) -> Context
     ensures { EntersMethod generator outer result }
 {

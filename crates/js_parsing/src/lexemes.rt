@@ -151,7 +151,7 @@ fn is_read_reserved_word(kind: Kind) -> bool
 }
 
 /// Whether what stands here is known to end an operand: an operator that groups to the left, a part of a conditional
-/// expression, a comma, a semicolon, a closing bracket, or the end of the text.
+/// expression, a comma, a semicolon, `)`, `]`, or the end of the text.
 pub fn ends_operand<C: ParserConfig>(p: &mut ParserImpl<'_, C>) -> Result<bool, Stop>
     requires { Standing p.old }
     ensures { MatchResult result (λ b. EndsOperand p.old p.new b) OnlyMemory }

@@ -16,9 +16,9 @@ use js_tree::NodeId;
 pub enum MethodForm {
     /// FormalParameters: those of a method that is no getter and no setter.
     Method,
-    /// None: a getter's.
+    /// Those of a getter, of which there are none.
     Getter,
-    /// One FormalParameter: a setter's.
+    /// Those of a setter: one FormalParameter.
     Setter,
 }
 

@@ -30,7 +30,7 @@ use js_tree::{NodeId, NodeKind, Op};
 /// Where a rest stands.
 #[derive(Clone, Copy)]
 pub(crate) enum RestPlace {
-    /// In an array pattern.
+    /// In an array or object pattern.
     Pattern,
     /// Among formal parameters.
     Parameters,

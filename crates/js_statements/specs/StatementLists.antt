@@ -102,7 +102,7 @@ OpeningTaken old new id false = (l : StatementList) (text : List ℕ) (f : Flags
 abbrev pub OpeningRefused : Parser → Parser → Stop → Type 0
 OpeningRefused old new e = (l : StatementList) (text : List ℕ) (f : Flags) → At text f old → Stops old new e (NoList text l (with_directives l f) old.prev_token_end)
 
--- directives were taken, as many as stand there, and statements may follow
+-- directives or statements were taken, and statements may follow
 abbrev pub DirectivesTaken : StatementList → Parser → Parser → List (Option NodeId) → Type 0
 DirectivesTaken l old new ids = (text : List ℕ) (f : Flags) → At text f old → Taken text f l (list_of l f) (statements l f) old new ids
 

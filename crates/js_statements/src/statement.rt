@@ -72,8 +72,8 @@ pub fn parse_statement<C: ParserConfig, N: Nested<C>>(
     parse_any_statement(p, nested)
 }
 
-/// A Statement, wherever it stands, where no LexicalDeclaration does: by the lexeme that it begins with; a LabelledStatement or an ExpressionStatement where
-/// that is none of a statement's own.
+/// A Statement, wherever it stands, where no LexicalDeclaration and no function does: by the lexeme that it begins with; a
+/// LabelledStatement or an ExpressionStatement where that is none of a statement's own.
 fn parse_any_statement<C: ParserConfig, N: Nested<C>>(
     p: &mut ParserImpl<'_, C>,
     nested: &N,

@@ -96,7 +96,7 @@ pub Found-step : {ns : List Node} (ps : List NodeId) (id : NodeId) (found : List
 Found-step {ns} ps id found whole w =
     let x = Stacked-pop ps id w.rest w.stacked in
     subst (λ (v : List Span). Found ns (ps ++ below_all id.0 (node_at ns id).children) (v ++ cond (is_covering (node_at ns id)) ((node_at ns id).span ∷ []) []) whole) (sym w.is)
-      (opened id id.0 ps x.rest w.done whole refl (x.means).stands x.stacked (w.parts ∙ ap (λ (v : List TreeSpan). w.done ++ v) (x.whole ∙ ap (λ (v : List TreeSpan). v ++ x.rest) (x.means).is)))
+    (opened id id.0 ps x.rest w.done whole refl (x.means).stands x.stacked (w.parts ∙ ap (λ (v : List TreeSpan). w.done ++ v) (x.whole ∙ ap (λ (v : List TreeSpan). v ++ x.rest) (x.means).is)))
 
 pub Found-below : {ns : List Node} (ps : List NodeId) (id : NodeId) (found : List Span) (whole : List TreeSpan) → Found ns (ps ++ id ∷ []) found whole → id.0 < length ns
 Found-below ps id found whole w = let x = Stacked-pop ps id w.rest w.stacked in stands_below (x.means).stands

@@ -13,7 +13,11 @@ use std::alloc::Global;
 
 impl Columns {
     /// Puts the children of a node on the stack.
-    pub(crate) fn push_children_of(&self, stack: &mut Vec<NodeId>, id: NodeId) -> Result<(), NoMemory>
+    pub(crate) fn push_children_of(
+        &self,
+        stack: &mut Vec<NodeId>,
+        id: NodeId,
+    ) -> Result<(), NoMemory>
         ensures { OnOk result (stack.new.items ≡ stack.old.items ++ below_all id.0 (node_at self.now id).children) }
     {
         if !self.contains(id) {

@@ -29,7 +29,7 @@ impl Columns {
             && self.children(id).len() > 2
     }
 
-    /// Whether any node is one, in the tree or not.
+    /// Whether any node is one, in the tree or not. A walk of the tree is due only then.
     fn has_initialized(&self) -> bool
         ensures { result ≡ false → (id : NodeId) → id.0 < length self.now → is_covering (node_at self.now id) ≡ false }
     {

@@ -1,5 +1,5 @@
 use Rattle.js_parsing.proofs.Moving.{standing}
-use Rattle.js_expressions.proofs.Arrows.{head_read, head_refused, head_so, head_unbuilt, head_unread, refused_at, start_between, unbuilt_so}
+use Rattle.js_expressions.proofs.Arrows.{head_read, head_refused, head_so, head_unread, start_between}
 use Rattle.js_expressions.proofs.arrow.parse_parenthesized_head.Goals as goal
 
 pub is_head-requires-clause-at : goal.is_head-requires-clause-at
@@ -14,11 +14,5 @@ returns-then-branch g c = head_read c.requires.at c.requires.open c.kept_so_far-
 pub returns-else-branch : goal.returns-else-branch
 returns-else-branch g c = head_unread c.requires.at c.requires.open c.kept_so_far-kept.ensures c.in-Ok.ensures (head_so _ _ c.parse_formal_parameters.new.p c.if-branch.false c.in_ok-is_head-in-Ok.ensures)
 
-pub stopped_unbuilt-requires : goal.stopped_unbuilt-requires
-stopped_unbuilt-requires g c = record { at = refused_at _ c.requires.at c.in-Err-Fatal.field-0-is c.in-Err-Fatal.ensures }
-
-pub returns-then-stopped_unbuilt : goal.returns-then-stopped_unbuilt
-returns-then-stopped_unbuilt g c = head_unbuilt _ c.in-Err-Fatal.field-0-is (unbuilt_so c.parse_formal_parameters.new.p c.if-stopped_unbuilt.true c.stopped_unbuilt.ensures) c.in-Err-Fatal.ensures
-
-pub returns-else-stopped_unbuilt : goal.returns-else-stopped_unbuilt
-returns-else-stopped_unbuilt g c = head_refused _ c.requires.at c.in-Err-Fatal.field-0-is (unbuilt_so c.parse_formal_parameters.new.p c.if-stopped_unbuilt.false c.stopped_unbuilt.ensures) c.in-Err-Fatal.ensures
+pub returns-in-Err-Fatal : goal.returns-in-Err-Fatal
+returns-in-Err-Fatal g c = head_refused _ c.requires.at c.in-Err-Fatal.field-0-is c.in-Err-Fatal.ensures

@@ -1,11 +1,10 @@
 use Rattle.std.proofs.Common.{ap, refl, subst}
-use Rattle.std.proofs.lemmas.Result.{err_from_is_err_and}
 use Rattle.js_cursor.specs.Tokens.{may_be_read_again}
 use Rattle.js_cursor.specs.Parsers.{Parser}
 use Rattle.js_cursor.specs.Checkpoints.{GoesOn}
 use Rattle.js_cursor.proofs.Changing.{may_return}
 use Rattle.js_expressions.specs.Arrows.{NoHeadHere}
-use Rattle.js_expressions.proofs.Arrows.{none_looked, some_looked, stops_looked, unmoved, went_back}
+use Rattle.js_expressions.proofs.Arrows.{none_looked, some_looked, unmoved, went_back}
 use Rattle.js_expressions.proofs.NotedHeads.{noted_here, noted_none}
 use Rattle.js_expressions.proofs.arrow.try_parse_parenthesized_head.Goals as goal
 use Rattle.js_parsing.specs.States.{NodesLie, SpansLie}
@@ -18,11 +17,6 @@ rewind-requires-clause-at g c = (none_looked _ c.parse_parenthesized_head.new.p 
 
 pub rewind-requires-clause-may : goal.rewind-requires-clause-may
 rewind-requires-clause-may g c = may_return c.requires.at.at c.in_ok-here.ensures.remembers c.in_ok-here.ensures.same (none_looked _ c.parse_parenthesized_head.new.p _ c.in_default.is c.in_ok-parameters.ensures).0.0
-
-pub returns-in_err-parameters : goal.returns-in_err-parameters
-returns-in_err-parameters g c =
-    let p = err_from_is_err_and c.from_residual-in_err-parameters.result c.from_residual-in_err-parameters.ensures.1 in
-    rw (p.1, p.2) (stops_looked _ _ _ _ c.in_ok-here.ensures.same c.in_err-parameters.ensures)
 
 pub returns-in-Some : goal.returns-in-Some
 returns-in-Some g c = some_looked _ _ c.parse_parenthesized_head.new.p _ _ c.in_ok-here.ensures.same c.in-Some.is c.in_ok-parameters.ensures
