@@ -138,6 +138,9 @@ fn is_read_reserved_word(kind: Kind) -> bool
             | Kind::Continue
             | Kind::Debugger
             | Kind::Throw
+            | Kind::Try
+            | Kind::Catch
+            | Kind::Finally
             | Kind::If
             | Kind::Else
             | Kind::While
