@@ -138,6 +138,12 @@ fn is_read_reserved_word(kind: Kind) -> bool
             | Kind::Continue
             | Kind::Debugger
             | Kind::Throw
+            | Kind::Switch
+            | Kind::Case
+            | Kind::Default
+            | Kind::Try
+            | Kind::Catch
+            | Kind::Finally
             | Kind::If
             | Kind::Else
             | Kind::While

@@ -6,4 +6,6 @@ pub mod compound_statement;
 pub mod declaration_statement;
 pub mod statement;
 pub mod statement_list;
+pub mod switch_statement;
+pub mod try_statement;
 pub mod word_statement;

@@ -19,6 +19,8 @@ use crate::compound_statement::{
 use crate::declaration_statement::{
     lexical_kind, parse_lexical_body, parse_lexical_declaration, parse_variable_statement,
 };
+use crate::switch_statement::parse_switch_statement;
+use crate::try_statement::parse_try_statement;
 use crate::word_statement::{
     parse_break_statement, parse_continue_statement, parse_debugger_statement,
     parse_throw_statement,
@@ -90,6 +92,8 @@ fn parse_any_statement<C: ParserConfig, N: Nested<C>>(
         Kind::Break => parse_break_statement(p),
         Kind::Continue => parse_continue_statement(p),
         Kind::Throw => parse_throw_statement(p, nested),
+        Kind::Switch => parse_switch_statement(p, nested),
+        Kind::Try => parse_try_statement(p, nested),
         Kind::Debugger => parse_debugger_statement(p),
         Kind::Var => parse_variable_statement(p, nested),
         _ => parse_expression_or_labeled_statement(p, nested),
