@@ -8,6 +8,7 @@ use Rattle.js_base.specs.declared.diagnostic.DiagnosticKind.TheVariants.{ExpectT
 use Rattle.js_base.specs.declared.span.Span.{Span}
 use Rattle.js_base.specs.Kinds.{same_kind, one_of_kinds}
 use Rattle.js_base.specs.Texts.{words}
+use Rattle.js_grammar.specs.Insertion.{is_word as names_any}
 use Rattle.js_grammar.specs.Lexemes.{is_word}
 use Rattle.js_grammar.specs.Trees.{Slots, end, tree, Label, no_op, assignment_pattern, binding_identifier, binding_property, identifier_name}
 use Rattle.js_grammar.specs.Grammar.{Lexeme, Lexemes, Look, last, next, here, seen, ahead, alt, exact, label_of, seq, such, nothing, Takes, is_seq, is_ahead, is_such, is_node, is_lexeme, ◌▸◌}
@@ -81,12 +82,12 @@ behind_ahead {text} {X} {X'} {a} {b} {s} c n = record { no = λ ts vs k ls rest 
     go ts vs k ls rest l (is_seq {us = us} (is_ahead d) d') e = n.no us vs k ls rest l d' (c ts us (here rest) e)
 
 -- each name is a word
-name_words : covers a_name (λ k w e. is_word k) ≡ true
-unfolding covers words
+name_words : covers a_name (λ k w e. names_any k) ≡ true
+unfolding covers
 name_words = refl
 
-name_word : (k : Kind) → one_of_kinds name_kinds k ≡ true → is_word k ≡ true
-name_word k h = covered a_name (λ k w e. is_word k) name_words k false false h
+name_word : (k : Kind) → one_of_kinds name_kinds k ≡ true → names_any k ≡ true
+name_word k h = covered a_name (λ k w e. names_any k) name_words k false false h
 
 no_end_name : (k : Kind) → one_of_kinds name_kinds k ≡ true → one_of_kinds (Eof ∷ []) k ≡ false
 unfolding apart
@@ -136,7 +137,7 @@ module _ {text : List ℕ} {f : Flags} {first keyed p : Parser} {binding : NodeI
   name_bound : {X : Test} → Path text f X (symbol BindingIdentifier f) first nothing p (tree (label_here binding_identifier no_op first n.mid) end)
   name_bound {X} = subst (λ (r : Parser). Path text f X (symbol BindingIdentifier f) first nothing r (tree (label_here binding_identifier no_op first n.mid) end)) (sym n.stays) (renoded p.nodes (bound_path n.at n.kind n.plain n.moved))
 
-  at_here : At text f p
+  pub at_here : At text f p
   at_here = (name_bound {X = plain full}).at
 
   -- it has no initialiser
@@ -245,7 +246,7 @@ module _ {text : List ℕ} {f : Flags} where
         element_stops w e z = stops_behind w e (same_both x.same m.same) (λ g. grown_behind x.verdict (grown_then m.kept g)) (λ u. fails_rule {X' = behind_item} (λ l cs vs y d. (d.0, refl)) (by_name c n x.other ▹✗ fails_node (inside_plain {F' = next_kinds} ends_itself) (due ⟶✗ u))) z
 
         pub property_answers : {w z : Parser} {value id : NodeId} {number : ℕ} (s : Span) → (y : ItemTaken text f (at BElement f) r w value) → number ≡ flag c computed_flag → s.start ≡ p.token.span.start → s.end ≡ w.prev_token_end → MadeHere (property_label number s) (Some key ∷ Some value ∷ []) w z id → ItemTaken text f (at PatternProperty f) p z id
-        property_answers {w} {z} {value} {id} {number} s y b d i t = item_answers z whole same_here made.stays (two_held made x.holds x.keeps held kept) (Keeps-trans x.keeps (Keeps-trans kept (Keeps-made made.made))) (made_lies same_here y.at (let g = whole.further in omega arith) made refl)
+        property_answers {w} {z} {value} {id} {number} s y b d i t = item_answers z whole same_here made.stays (two_held made x.holds x.keeps held kept) (Keeps-trans x.keeps (Keeps-trans kept (Keeps-made made.made))) (made_lies same_here y.at.at (let g = whole.further in omega arith) made refl)
           where
             l : property_label number s ≡ flagged_here binding_property no_op (flag c computed_flag) p w
             l = rw (b, d, i) refl
@@ -339,7 +340,7 @@ module _ {text : List ℕ} {f : Flags} {p : Parser} (a : At text f p) where
           again : Same p r
           again = subst (λ (z : Parser). Same p z) (sym d.stays) (same_with r.nodes (named t).same (Keeps-trans keyed (Keeps-made d.made)) (λ b h. lies h))
 
-      module _ {r v : Parser} {binding value : NodeId} (x : BoundTaken text f p q v value) where
+      module _ {v : Parser} {value : NodeId} (x : BoundTaken text f p q v value) where
         bound_read : Path text f behind_item (bound_by_name f) p nothing v (tree x.label x.slots)
         bound_read = record { at = x.at; further = x.further; pass = x.pass; walked = x.walked; verdict = x.verdict }
 

@@ -53,7 +53,7 @@ walked_reached (one_more w i) r = reached_next (walked_reached w r) i.stood
 walked_reached (more_faults w ds n) r = walked_reached w r
 
 -- the last one ends there
-last_edge : {source : Goal} {text : List ℕ} {s e : Spot} {pass : Lexemes → Lexemes} → Walked text s e pass → Reached text s.place → s.place < e.place → EdgeOf source text e.place
+pub last_edge : {source : Goal} {text : List ℕ} {s e : Spot} {pass : Lexemes → Lexemes} → Walked text s e pass → Reached text s.place → s.place < e.place → EdgeOf source text e.place
 last_edge nowhere r l = absurd (omega arith)
 last_edge (one_more w i) r l = the_end (a_lexeme (walked_reached w r) i.stood) refl
 last_edge (more_faults w ds n) r l = last_edge w r l

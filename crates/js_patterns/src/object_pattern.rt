@@ -175,7 +175,8 @@ fn parse_name_initialiser<C: ParserConfig, N: Nested<C>>(
     requires at { Standing p.old }
     requires nests { CanNest (N.can nested.now) (room p.old + 1) }
     requires before { start ≤ p.old.prev_token_end }
-    ensures { AddsInitialiser start binding p.old p.new result }
+    ensures answers { AddsInitialiser start binding p.old p.new result }
+    ensures behind { IfOk result (λ _. start ≤ p.new.prev_token_end) }
 {
     if !p.at(Kind::Eq) {
         return Ok(binding);

@@ -1,4 +1,4 @@
-use Rattle.std.proofs.Common.{[], refl, subst, sym}
+use Rattle.std.proofs.Common.{[], ◌≡◌, refl, subst, sym}
 use Rattle.js_base.specs.declared.diagnostic.Diagnostic.{Diagnostic}
 use Rattle.js_base.specs.declared.kind.Kind.TheVariants.{RCurly}
 use Rattle.js_parsing.specs.Classes.{EndsParse}
@@ -17,7 +17,7 @@ set_fatal_error-requires-clause-mark g c = mark_later (c.in-Ok.ensures _ _ c.req
 pub returns-in-Ok : goal.returns-in-Ok
 returns-in-Ok g c = λ text f a.
     let x = c.in-Ok.ensures text f a [] in
-    stops_behind _ _ x.same (λ e. after x.verdict e) (λ n. tt) (gives_up (λ (d : Diagnostic). d ≡ c.args.unnamed) _ _ _ x.at c.set_fatal_error.ensures (λ d u. subst EndsParse (sym u) c.requires.ends_unnamed) tt)
+    stops_behind _ _ x.same (λ e. after x.verdict e) (λ n. tt) (gives_up (λ (d : Diagnostic). d ≡ c.args.unnamed) _ _ {F = Unit {0}} _ x.at c.set_fatal_error.ensures (λ d u. subst EndsParse (sym u) c.requires.ends_unnamed) tt)
 
 pub returns-in-Err : goal.returns-in-Err
 returns-in-Err g c = λ text f a. stops_so _ _ _ (λ n. tt) (c.in-Err.ensures text f a)
