@@ -58,7 +58,7 @@ use Rattle.js_statements.proofs.StatementLists.{none_left}
 use Rattle.js_statements.proofs.WordStatements.{Alone, alone_fails, alone_path}
 
 -- a path, and what passes some lexemes behind it or none
-then_some : {text : List ℕ} {X : Test} {f f' : Flags} {g g' g'' : G} {p q r : Parser} {h i : Slots → Slots} {pass : Lexemes → Lexemes} → Path text f X g p g' q h → At text f' r → q.prev_token_end ≤ r.prev_token_end → Walked text (spot q) (spot r) pass
+pub then_some : {text : List ℕ} {X : Test} {f f' : Flags} {g g' g'' : G} {p q r : Parser} {h i : Slots → Slots} {pass : Lexemes → Lexemes} → Path text f X g p g' q h → At text f' r → q.prev_token_end ≤ r.prev_token_end → Walked text (spot q) (spot r) pass
     → Verdict q.errors r.errors (Stretch text (behind X h) g' q.prev_token_end g'' r.prev_token_end i pass) (Fails rule (Lex text) (behind X h) end g' q.prev_token_end) → Path text f' X g p g'' r (λ us. h (i us))
 then_some {pass = w} a b l u v = record {
   at = b;
@@ -214,3 +214,20 @@ module _ {text : List ℕ} {f : Flags} {p q : Parser} {ids : List (Option NodeId
       let l : plain_label node.FunctionBody op.None s ≡ label_here function_body no_op p q = rw (g, d) refl in
       let made : MadeHere (label_here function_body no_op p q) ids q w id = subst (λ v. MadeHere v ids q w id) l i in
       by_path body_path x.same made.stays (λ y l. refl) refl (node_held made x.holds) (Keeps-trans x.keeps (Keeps-made made.made)) refl (one_lies made)
+
+-- ---- a block as a part
+
+pub part_none : {text : List ℕ} {f : Flags} {s : ℕ} → NoBraces text list.Block f s → Underived text (at Block f) s
+unfolding rule rule_of
+part_none n = fails_by (fails_node inside_full n)
+
+module _ {text : List ℕ} {f : Flags} {p q : Parser} {ids : List (Option NodeId)} (a : At text f p) (x : BracesTaken text f list.Block p q ids) where
+  part_path : Path text f (after (at Block f)) (rule (at Block f)) p nothing q (tree (label_here block_statement no_op p q) (x.slots end))
+  unfolding rule rule_of
+  part_path = noded a (braces_read x)
+
+  pub part_answers : {w : Parser} {id : NodeId} (s : Span) → s.start ≡ p.token.span.start → s.end ≡ q.prev_token_end → MadeHere (plain_label node.BlockStatement op.None s) ids q w id → Numbered text f (at Block f) p w id
+  part_answers {w} {id} s g d i =
+      let l : plain_label node.BlockStatement op.None s ≡ label_here block_statement no_op p q = rw (g, d) refl in
+      let made : MadeHere (label_here block_statement no_op p q) ids q w id = subst (λ v. MadeHere v ids q w id) l i in
+      by_path part_path x.same made.stays (λ y l. refl) refl (node_held made x.holds) (Keeps-trans x.keeps (Keeps-made made.made)) refl (one_lies made)

@@ -7,4 +7,5 @@ pub mod LetStatements
 pub mod StatementLists
 pub mod Statements
 pub mod Strings
+pub mod TryStatements
 pub mod WordStatements
