@@ -1,5 +1,5 @@
 -- The `try` statement (ECMA-262, 14.15): its clauses, and the whole.
-use Rattle.std.proofs.Common.{ℕ, ◌≡◌, ◌≤◌, ◌<◌, max, List, [], ◌∷◌, length, Option, Some, None, Bool, true, false, not, IsCharBoundary, refl, sym, ap, subst, arith, ◌∙◌}
+use Rattle.std.proofs.Common.{ℕ, ◌≡◌, ◌≤◌, ◌<◌, max, List, [], ◌∷◌, length, Option, Some, None, Bool, true, false, not, ◌||◌, IsCharBoundary, refl, sym, ap, subst, arith, ◌∙◌}
 use Rattle.std.specs.Prelude.{Ok, Err}
 use Rattle.std.proofs.lemmas.Bool.{false≢true, and_parts}
 use Rattle.js_base.specs.declared.diagnostic.Diagnostic.{Diagnostic}
@@ -11,6 +11,7 @@ use Rattle.js_base.specs.Texts.{words}
 use Rattle.js_grammar.specs.Trees.{Label, Slots, append, end, hole, tree, no_op, catch_clause, catch_parameter, try_statement}
 use Rattle.js_grammar.specs.Grammar.{Lexemes, Look, here, is, empty_slot, seq, nothing, Takes, is_empty_slot, ◌▸◌, ◌◇◌}
 use Rattle.js_grammar.specs.Lexed.{Lexes}
+use Rattle.js_grammar.specs.Lexemes.{is_word}
 use Rattle.js_grammar.specs.Parsing.{Test, plain, full, behind, always, still, Admits, Goes, Fails}
 use Rattle.js_grammar.specs.Productions.{G, Flags, at, tok, mk, slot, Binding, Block, Try}
 use Rattle.js_grammar.specs.Productions.{Catch as ACatch}
@@ -47,7 +48,7 @@ use Rattle.js_parsing.specs.Moves.{Moved, MadeHere, plain_label}
 use Rattle.js_parsing.specs.Stands.{StandsHere}
 use Rattle.js_parsing.specs.States.{At, Same, NodesLie}
 use Rattle.js_parsing.specs.Statements.{placed, after_statement, NoStatement, Statement}
-use Rattle.js_parsing.proofs.Giving.{kept_one}
+use Rattle.js_parsing.proofs.Giving.{fails_escaped, kept_one}
 use Rattle.js_parsing.proofs.Here.{kind_here}
 use Rattle.js_parsing.proofs.MadeNodes.{node_held, one_lies, made_lies}
 use Rattle.js_parsing.proofs.Moving.{beside_nodes, same_both, same_itself, same_with, stops_behind, stops_so}
@@ -85,8 +86,8 @@ pub part_read : {text : List ℕ} {f : Flags} {g : G} {p q : Parser} {id : NodeI
 part_read x = record { at = x.at; further = x.further; pass = x.pass; walked = x.walked; verdict = x.verdict }
 
 -- its node was made
-whole_made : {text : List ℕ} {f : Flags} {g : G} {p q : Parser} (w : Parser) {l : Label} {cs : Slots} {ids : List (Option NodeId)} {id : NodeId} → Path text f (plain full) g p nothing q (tree l cs) → Same p q → w ≡ record q { nodes = w.nodes } → Holds w.nodes (length p.nodes) (length w.nodes) id.0 l cs → Keeps p.nodes w.nodes → (IsCharBoundary p.text p.token.span.start → NodesLie q.text q.nodes → NodesLie q.text w.nodes) → WholePart text f g p w id
-whole_made {text} {f} {g} {p} {q} w {l} {cs} {ids} {id} r s m h k i = go w.nodes m h k i
+whole_made : {text : List ℕ} {f : Flags} {g : G} {p q : Parser} (w : Parser) {l : Label} {cs : Slots} {id : NodeId} → Path text f (plain full) g p nothing q (tree l cs) → Same p q → w ≡ record q { nodes = w.nodes } → Holds w.nodes (length p.nodes) (length w.nodes) id.0 l cs → Keeps p.nodes w.nodes → (IsCharBoundary p.text p.token.span.start → NodesLie q.text q.nodes → NodesLie q.text w.nodes) → WholePart text f g p w id
+whole_made {text} {f} {g} {p} {q} w {l} {cs} {id} r s m h k i = go w.nodes m h k i
   where
     go : (ns : List Node) → w ≡ record q { nodes = ns } → Holds w.nodes (length p.nodes) (length w.nodes) id.0 l cs → Keeps p.nodes w.nodes → (IsCharBoundary p.text p.token.span.start → NodesLie q.text q.nodes → NodesLie q.text w.nodes) → WholePart text f g p w id
     go ns m h k i = subst (λ (z : Parser). WholePart text f g p z id) (sym m) (record {
@@ -102,13 +103,13 @@ whole_made {text} {f} {g} {p} {q} w {l} {cs} {ids} {id} r s m h k i = go w.nodes
       keeps = subst (λ (z : Parser). Keeps p.nodes z.nodes) m k;
     })
 
-pub part_stops : {g : Flags → G} (k : Kind) (p q : Parser) (e : Stop) → StandsHere p k true → ((text : List ℕ) (f : Flags) → At text f p → Stops p q e (NoPart text (g f) p.prev_token_end)) → TakesPart k g p q (Err e)
-part_stops k p q Fatal h s = (h, s)
-part_stops k p q NoMemory h s = tt
+pub part_stops : (g : Flags → G) (k : Kind) (p q : Parser) (e : Stop) → StandsHere p k true → ((text : List ℕ) (f : Flags) → At text f p → Stops p q e (NoPart text (g f) p.prev_token_end)) → TakesPart k g p q (Err e)
+part_stops g k p q Fatal h s = (h, s)
+part_stops g k p q NoMemory h s = tt
 
-pub part_memory : {g : Flags → G} (k : Kind) (p q : Parser) (e : Stop) → OnlyMemory e → TakesPart k g p q (Err e)
-part_memory k p q Fatal m = absurd m
-part_memory k p q NoMemory m = tt
+pub part_memory : (g : Flags → G) (k : Kind) (p q : Parser) (e : Stop) → OnlyMemory e → TakesPart k g p q (Err e)
+part_memory g k p q Fatal m = absurd m
+part_memory g k p q NoMemory m = tt
 
 -- the lexeme that is due last doesn't stand here
 pub no_last : {text : List ℕ} {f : Flags} {p : Parser} → At text f p → (k : Kind) → is_right_angle k ≡ false → StandsHere p k false → NoPart text (tok k) p.prev_token_end
@@ -189,6 +190,10 @@ module _ {text : List ℕ} {f : Flags} {p q : Parser} (a : At text f p) (h : Sta
 
 -- ---- a Catch
 
+paren_plain : (is_word kind.LParen || same_kind kind.PrivateIdentifier kind.LParen) ≡ false
+unfolding words
+paren_plain = refl
+
 abbrev brace_next : Look
 brace_next k w e = same_kind kind.LCurly k
 
@@ -243,11 +248,7 @@ module _ {text : List ℕ} {f : Flags} {p q : Parser} (a : At text f p) (h : Sta
   })
     where
       none_here : StandsHere q kind.LParen false → one_of_kinds (kind.LParen ∷ []) q.token.kind ≡ false
-      none_here n = other_kind kind.LParen q.token.kind (λ k. n k (plain_paren k))
-        where
-          plain_paren : q.token.kind ≡ kind.LParen → q.token.escaped ≡ false
-          unfolding words
-          plain_paren k = plain_sign kind.LParen m.at k refl refl refl
+      none_here n = other_kind kind.LParen q.token.kind (λ k. n k (plain_sign kind.LParen m.at k refl refl paren_plain))
   parameter_read {r} (Some id) (k, t) =
       let x = t text f m.at in
       record {
@@ -300,8 +301,13 @@ past_hole = then_by {X' = plain full} reads_empty_slot (record { admits = λ ts 
 
 module _ {text : List ℕ} {f : Flags} {p : Parser} (a : At text f p) where
   -- no clause begins here
-  no_catch_here : {X : Test} → StandsHere p kind.Catch false → Fails rule (Lex text) X end (with_catch f) p.prev_token_end
-  no_catch_here n = fails_here firsts (λ y l c. stands_not a refl n y l (sym (kind_of_same kind.Catch y.kind c)))
+  no_catch_here : StandsHere p kind.Catch false → Fails rule (Lex text) (plain no_clause) end (with_catch f) p.prev_token_end
+  unfolding covers apart
+  no_catch_here n = by p.token.escaped refl
+    where
+      by : (b : Bool) → p.token.escaped ≡ b → Fails rule (Lex text) (plain no_clause) end (with_catch f) p.prev_token_end
+      by true e = fails_escaped a e
+      by false e = fails_at a {X = plain no_clause} (with_catch f) (kind.Catch ∷ []) refl (other_kind kind.Catch p.token.kind (λ k. n k e))
 
   no_finally_here : {X : Test} → StandsHere p kind.Finally false → Fails rule (Lex text) X end (finally_of f) p.prev_token_end
   no_finally_here n = no_token a kind.Finally refl n
@@ -313,7 +319,7 @@ module _ {text : List ℕ} {f : Flags} {p : Parser} (a : At text f p) where
   not_finally : StandsHere p kind.Catch true → StandsHere p kind.Finally false
   not_finally h i j = let z : kind.Catch ≡ kind.Finally = sym h.0 ∙ i in cc
 
-  no_clauses : {X : Test} → StandsHere p kind.Catch false → StandsHere p kind.Finally false → Fails rule (Lex text) X end (clauses_of f) p.prev_token_end
+  no_clauses : StandsHere p kind.Catch false → StandsHere p kind.Finally false → Fails rule (Lex text) (plain no_clause) end (clauses_of f) p.prev_token_end
   no_clauses n m = fails_alt (no_catch_here n) (no_second m)
 
   module _ (h : StandsHere p kind.Catch true) where
@@ -406,28 +412,28 @@ pub handler_refused : {text : List ℕ} {f : Flags} {p : Parser} → At text f p
 handler_refused {text} {f} {p} a w Fatal (h, z) = stops_so p w Fatal (λ n. no_clauses_at_catch a h n) (z text f a)
 handler_refused a w NoMemory z = tt
 
-pub clauses_refused : {text : List ℕ} {f : Flags} {p q : Parser} → At text f p → (handler : Option NodeId) → TakesPart kind.Catch (symbol ACatch) p q (Ok handler) → (w : Parser) (e : Stop) → TakesPart kind.Finally finally_of q w (Err e) → Stops p w e (Fails rule (Lex text) (plain no_clause) end (clauses_of f) p.prev_token_end)
-clauses_refused a None (n, i) w e z = uncaught_stops a n w e (subst (λ (v : Parser). TakesPart kind.Finally finally_of v w (Err e)) i z)
-clauses_refused {text} {f} a (Some id) (h, t) w e z = caught_stops a h (t text f a) w e z
+pub clauses_refused : {text : List ℕ} {f : Flags} {p : Parser} (q : Parser) → At text f p → (handler : Option NodeId) → TakesPart kind.Catch (symbol ACatch) p q (Ok handler) → (w : Parser) (e : Stop) → TakesPart kind.Finally finally_of q w (Err e) → Stops p w e (Fails rule (Lex text) (plain no_clause) end (clauses_of f) p.prev_token_end)
+clauses_refused q a None (n, i) w e z = uncaught_stops a n w e (subst (λ (v : Parser). TakesPart kind.Finally finally_of v w (Err e)) i z)
+clauses_refused {text} {f} q a (Some id) (h, t) w e z = caught_stops a h (t text f a) w e z
 
-pub clauses_read : {text : List ℕ} {f : Flags} {p q r : Parser} → At text f p → (handler finalizer : Option NodeId) → neither handler finalizer ≡ false → TakesPart kind.Catch (symbol ACatch) p q (Ok handler) → TakesPart kind.Finally finally_of q r (Ok finalizer) → ClausesTaken text f p r handler finalizer
-clauses_read a None None h x y = absurd (false≢true (sym h))
-clauses_read {r = r} a None (Some last) h (n, i) y = uncaught_with a n (subst (λ (v : Parser). TakesPart kind.Finally finally_of v r (Ok (Some last))) i y)
-clauses_read {text} {f} a (Some id) None h (k, t) y = caught_alone a k (t text f a) y
-clauses_read {text} {f} a (Some id) (Some last) h (k, t) y = caught_with a k (t text f a) y
+pub clauses_read : {text : List ℕ} {f : Flags} {p : Parser} (q r : Parser) → At text f p → (handler finalizer : Option NodeId) → neither handler finalizer ≡ false → TakesPart kind.Catch (symbol ACatch) p q (Ok handler) → TakesPart kind.Finally finally_of q r (Ok finalizer) → ClausesTaken text f p r handler finalizer
+clauses_read q r a None None h x y = absurd (false≢true (sym h))
+clauses_read q r a None (Some last) h (n, i) y = uncaught_with a n (subst (λ (v : Parser). TakesPart kind.Finally finally_of v r (Ok (Some last))) i y)
+clauses_read {text} {f} q r a (Some id) None h (k, t) y = caught_alone a k (t text f a) y
+clauses_read {text} {f} q r a (Some id) (Some last) h (k, t) y = caught_with a k (t text f a) y
 
 -- neither stands there: nothing was passed
-pub missing_state : {p q r : Parser} (handler finalizer : Option NodeId) → neither handler finalizer ≡ true → TakesPart kind.Catch (symbol ACatch) p q (Ok handler) → TakesPart kind.Finally finally_of q r (Ok finalizer) → r ≡ p
-missing_state None None h (n, i) (m, j) = j ∙ i
-missing_state None (Some last) h x y = absurd (false≢true h)
-missing_state (Some id) None h x y = absurd (false≢true h)
-missing_state (Some id) (Some last) h x y = absurd (false≢true h)
+pub missing_state : (p q r : Parser) (handler finalizer : Option NodeId) → neither handler finalizer ≡ true → TakesPart kind.Catch (symbol ACatch) p q (Ok handler) → TakesPart kind.Finally finally_of q r (Ok finalizer) → r ≡ p
+missing_state p q r None None h (n, i) (m, j) = j ∙ i
+missing_state p q r None (Some last) h x y = absurd (false≢true h)
+missing_state p q r (Some id) None h x y = absurd (false≢true h)
+missing_state p q r (Some id) (Some last) h x y = absurd (false≢true h)
 
-pub clauses_missing : {text : List ℕ} {f : Flags} {p q r w : Parser} {d : Diagnostic} → At text f p → (handler finalizer : Option NodeId) → neither handler finalizer ≡ true → TakesPart kind.Catch (symbol ACatch) p q (Ok handler) → TakesPart kind.Finally finally_of q r (Ok finalizer) → KeepsOne d r w → IsEarly d → ClausesTaken text f p w handler finalizer
-clauses_missing {p = p} {w = w} {d = d} a None None h (n, i) (m, j) t y = missing_told a n (subst (λ (v : Parser). StandsHere v kind.Finally false) i m) (subst (λ (v : Parser). KeepsOne d v w) (j ∙ i) t) y
-clauses_missing a None (Some last) h x y t e = absurd (false≢true h)
-clauses_missing a (Some id) None h x y t e = absurd (false≢true h)
-clauses_missing a (Some id) (Some last) h x y t e = absurd (false≢true h)
+pub clauses_missing : {text : List ℕ} {f : Flags} {p : Parser} (q r : Parser) {w : Parser} {d : Diagnostic} → At text f p → (handler finalizer : Option NodeId) → neither handler finalizer ≡ true → TakesPart kind.Catch (symbol ACatch) p q (Ok handler) → TakesPart kind.Finally finally_of q r (Ok finalizer) → KeepsOne d r w → IsEarly d → ClausesTaken text f p w handler finalizer
+clauses_missing q r {w = w} {d = d} a None None h (n, i) (m, j) t y = missing_told a n (subst (λ (v : Parser). StandsHere v kind.Finally false) i m) (subst (λ (v : Parser). KeepsOne d v w) (j ∙ i) t) y
+clauses_missing q r a None (Some last) h x y t e = absurd (false≢true h)
+clauses_missing q r a (Some id) None h x y t e = absurd (false≢true h)
+clauses_missing q r a (Some id) (Some last) h x y t e = absurd (false≢true h)
 
 -- what is told of it has its mark
 pub missing_marked : {text : List ℕ} {f : Flags} {p r : Parser} (s : Span) {d : Diagnostic} → At text f p → r ≡ p → EdgeOf (goal p) p.text p.prev_token_end → s.start ≡ r.prev_token_end → s.end ≡ r.prev_token_end → d ≡ unrelated_at ExpectCatchFinally s → Mark (goal r) r.text d
@@ -460,16 +466,9 @@ try_slots f = tok kind.Try ▸ symbol Block f ▸ clauses_of f
 
 -- behind a statement no clause stands
 behind_clauses : (f : Flags) (b : Bool) → Heads (after_statement (placed b f)) (plain no_clause)
-behind_clauses f true = λ l cs vs y d. (covered (after_statement (placed true f)).base no_clause clause_apart_true y.kind y.newline y.escaped d.0, refl)
-  where
-    clause_apart_true : covers (after_statement (placed true f)).base no_clause ≡ true
-    unfolding covers
-    clause_apart_true = refl
-behind_clauses f false = λ l cs vs y d. (covered (after_statement (placed false f)).base no_clause clause_apart_false y.kind y.newline y.escaped d.0, refl)
-  where
-    clause_apart_false : covers (after_statement (placed false f)).base no_clause ≡ true
-    unfolding covers
-    clause_apart_false = refl
+unfolding covers
+behind_clauses f true = λ l cs vs y d. (covered (after_statement (placed true f)).base no_clause refl y.kind y.newline y.escaped d.0, refl)
+behind_clauses f false = λ l cs vs y d. (covered (after_statement (placed false f)).base no_clause refl y.kind y.newline y.escaped d.0, refl)
 
 still_behind : Heads (plain no_clause) (plain no_clause)
 still_behind = λ l cs vs y d. (d.0, refl)

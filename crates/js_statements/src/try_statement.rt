@@ -64,8 +64,9 @@ fn parse_clauses<C: ParserConfig, N: Nested<C>>(
     if !is_missing(handler, finalizer) {
         return Ok((handler, finalizer));
     }
-    let place = p.prev_token_end();
-    let missing = diagnostic_at(DiagnosticKind::ExpectCatchFinally, Span::new(place, place));
+    let end = p.prev_token_end();
+    let span = Span::empty(end);
+    let missing = diagnostic_at(DiagnosticKind::ExpectCatchFinally, span);
     p.error(missing)?;
     Ok((handler, finalizer))
 }

@@ -20,7 +20,7 @@ advance-requires-clause-whole t c = word_here Catch c.requires.at (stands_so c.a
 pub returns-in_err-advance : goal.returns-in_err-advance
 returns-in_err-advance t c =
     let p = err_from_is_err_and c.from_residual.result c.from_residual.ensures.1 in
-    rw (p.1, p.2) (part_memory {g = sym ACatch} Catch c.args.p.now c.advance.new.p _ c.in_err-advance.ensures)
+    rw (p.1, p.2) (part_memory (sym ACatch) Catch c.args.p.now c.advance.new.p _ c.in_err-advance.ensures)
 
 pub parse_catch_parameter-requires-clause-at : goal.parse_catch_parameter-requires-clause-at
 parse_catch_parameter-requires-clause-at t c = standing (c.in_ok-advance.ensures _ _ c.requires.at).at
@@ -32,7 +32,7 @@ pub returns-in_err-parameter : goal.returns-in_err-parameter
 returns-in_err-parameter t c =
     let p = err_from_is_err_and c.from_residual-in_err-parameter.result c.from_residual-in_err-parameter.ensures.1 in
     let h = stands_so c.args.p.now Catch c.if-not-stands.false c.stands.ensures in
-    rw (p.1, p.2) (part_stops {g = sym ACatch} Catch c.args.p.now c.parse_catch_parameter.new.p _ h (λ text f a. parameter_stops a h (c.in_ok-advance.ensures text f a) _ _ c.in_err-parameter.ensures))
+    rw (p.1, p.2) (part_stops (sym ACatch) Catch c.args.p.now c.parse_catch_parameter.new.p _ h (λ text f a. parameter_stops a h (c.in_ok-advance.ensures text f a) _ _ c.in_err-parameter.ensures))
 
 pub parse_block-requires-clause-at : goal.parse_block-requires-clause-at
 parse_block-requires-clause-at t c =
@@ -58,7 +58,7 @@ pub returns-in_err-block : goal.returns-in_err-block
 returns-in_err-block t c =
     let p = err_from_is_err_and c.from_residual-in_err-block.result c.from_residual-in_err-block.ensures.1 in
     let h = stands_so c.args.p.now Catch c.if-not-stands.false c.stands.ensures in
-    rw (p.1, p.2) (part_stops {g = sym ACatch} Catch c.args.p.now c.parse_block.new.p _ h (λ text f a.
+    rw (p.1, p.2) (part_stops (sym ACatch) Catch c.args.p.now c.parse_block.new.p _ h (λ text f a.
         let m = c.in_ok-advance.ensures text f a in
         let x = parameter_read a h m c.in_ok-parameter.parameter c.in_ok-parameter.ensures in
         catch_stops a h m x _ _ (c.in_err-block.ensures text f (parameter_at a h m x))))

@@ -20,7 +20,7 @@ advance-requires-clause-whole t c = whole_sign LParen c.requires.at (stands_so c
 pub returns-in_err-advance : goal.returns-in_err-advance
 returns-in_err-advance t c =
     let p = err_from_is_err_and c.from_residual.result c.from_residual.ensures.1 in
-    rw (p.1, p.2) (part_memory {g = parameter_of} LParen c.args.p.now c.advance.new.p _ c.in_err-advance.ensures)
+    rw (p.1, p.2) (part_memory parameter_of LParen c.args.p.now c.advance.new.p _ c.in_err-advance.ensures)
 
 pub binding-requires : goal.binding-requires
 binding-requires t c =
@@ -31,7 +31,7 @@ pub returns-in_err-binding : goal.returns-in_err-binding
 returns-in_err-binding t c =
     let p = err_from_is_err_and c.from_residual-in_err-binding.result c.from_residual-in_err-binding.ensures.1 in
     let h = stands_so c.args.p.now LParen c.if-not-stands.false c.stands.ensures in
-    rw (p.1, p.2) (part_stops {g = parameter_of} LParen c.args.p.now c.binding.new.p _ h (λ text f a. let m = c.in_ok-advance.ensures text f a in binding_stops a h m _ _ (c.in_err-binding.ensures text f m.at)))
+    rw (p.1, p.2) (part_stops parameter_of LParen c.args.p.now c.binding.new.p _ h (λ text f a. let m = c.in_ok-advance.ensures text f a in binding_stops a h m _ _ (c.in_err-binding.ensures text f m.at)))
 
 pub end_span-span-requires : goal.end_span-span-requires
 end_span-span-requires t c =
@@ -51,7 +51,7 @@ pub returns-in_err-expect : goal.returns-in_err-expect
 returns-in_err-expect t c =
     let p = err_from_is_err_and c.from_residual-in_err-expect.result c.from_residual-in_err-expect.ensures.1 in
     let h = stands_so c.args.p.now LParen c.if-not-stands.false c.stands.ensures in
-    rw (p.1, p.2) (part_stops {g = parameter_of} LParen c.args.p.now c.expect.new.p _ h (λ text f a.
+    rw (p.1, p.2) (part_stops parameter_of LParen c.args.p.now c.expect.new.self _ h (λ text f a.
         let m = c.in_ok-advance.ensures text f a in
         let x = c.in_ok-binding.ensures text f m.at in
         let b = c.end_span-span.ensures.start ∙ c.cur_start-start.ensures in

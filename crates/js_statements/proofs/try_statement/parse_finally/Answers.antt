@@ -19,7 +19,7 @@ advance-requires-clause-whole t c = word_here Finally c.requires.at (stands_so c
 pub returns-in_err-advance : goal.returns-in_err-advance
 returns-in_err-advance t c =
     let p = err_from_is_err_and c.from_residual.result c.from_residual.ensures.1 in
-    rw (p.1, p.2) (part_memory {g = finally_of} Finally c.args.p.now c.advance.new.p _ c.in_err-advance.ensures)
+    rw (p.1, p.2) (part_memory finally_of Finally c.args.p.now c.advance.new.p _ c.in_err-advance.ensures)
 
 pub parse_block-requires-clause-at : goal.parse_block-requires-clause-at
 parse_block-requires-clause-at t c = standing (c.in_ok-advance.ensures _ _ c.requires.at).at
@@ -34,7 +34,7 @@ pub returns-in_err-block : goal.returns-in_err-block
 returns-in_err-block t c =
     let p = err_from_is_err_and c.from_residual-in_err-block.result c.from_residual-in_err-block.ensures.1 in
     let h = stands_so c.args.p.now Finally c.if-not-stands.false c.stands.ensures in
-    rw (p.1, p.2) (part_stops {g = finally_of} Finally c.args.p.now c.parse_block.new.p _ h (λ text f a. let m = c.in_ok-advance.ensures text f a in finally_stops a h m _ _ (c.in_err-block.ensures text f m.at)))
+    rw (p.1, p.2) (part_stops finally_of Finally c.args.p.now c.parse_block.new.p _ h (λ text f a. let m = c.in_ok-advance.ensures text f a in finally_stops a h m _ _ (c.in_err-block.ensures text f m.at)))
 
 pub returns : goal.returns
 returns t c =
