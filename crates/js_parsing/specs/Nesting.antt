@@ -41,7 +41,7 @@ Reading goal.Exponentiation old new r = Answers (at Exponent) old new r
 Reading goal.Binding old new r = Answers (at Binding) old new r
 Reading goal.Params old new r = Answers (at Params) old new r
 
--- How many levels of depth it takes: what stands between brackets is read through all levels of operators again; an item of a list of statements, a body in braces, and the parameters of a method take two.
+-- How many levels of depth it takes: what stands between brackets is read through all levels of operators again, and so is a function's body, which stands in an operand; an item of a list of statements and the parameters of a method take two.
 abbrev pub levels_of : Goal → ℕ
 levels_of goal.Expression = 4
 levels_of goal.Element = 4
@@ -52,7 +52,7 @@ levels_of goal.Exponentiation = 1
 levels_of goal.Statement = 1
 levels_of goal.Params = 1
 levels_of goal.ListItem = 2
-levels_of goal.Body = 2
+levels_of goal.Body = 4
 levels_of (goal.MethodParameters form) = 2
 
 -- how much of the text is left

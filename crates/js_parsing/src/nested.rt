@@ -51,13 +51,14 @@ pub enum Goal {
 
 impl Goal {
     /// How many levels of depth it takes: what stands between brackets is read through all levels of operators again, and
-    /// takes four times the stack of the others and more. What stands in braces takes twice as much as they do.
+    /// takes four times the stack of the others and more. So does a function's body, which stands in an operand. What stands
+    /// in other braces takes twice as much as they do.
     pub fn levels(self) -> u32
         ensures { result ≡ levels_of self }
     {
         match self {
-            Goal::Expression | Goal::Element | Goal::Binding => 4,
-            Goal::ListItem | Goal::Body | Goal::MethodParameters(_) => 2,
+            Goal::Expression | Goal::Element | Goal::Binding | Goal::Body => 4,
+            Goal::ListItem | Goal::MethodParameters(_) => 2,
             Goal::Assignment
             | Goal::Unary
             | Goal::Exponentiation
