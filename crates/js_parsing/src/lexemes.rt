@@ -140,6 +140,13 @@ fn is_read_reserved_word(kind: Kind) -> bool
             | Kind::Function
             | Kind::Debugger
             | Kind::Throw
+            | Kind::Switch
+            | Kind::Case
+            | Kind::Default
+            | Kind::Try
+            | Kind::Catch
+            | Kind::Finally
+            | Kind::For
             | Kind::If
             | Kind::Else
             | Kind::While

@@ -4,7 +4,10 @@
 pub mod block;
 pub mod compound_statement;
 pub mod declaration_statement;
+pub mod for_statement;
 pub mod function_statement;
 pub mod statement;
 pub mod statement_list;
+pub mod switch_statement;
+pub mod try_statement;
 pub mod word_statement;

@@ -19,7 +19,10 @@ use crate::compound_statement::{
 use crate::declaration_statement::{
     lexical_kind, parse_lexical_body, parse_lexical_declaration, parse_variable_statement,
 };
+use crate::for_statement::parse_for_statement;
 use crate::function_statement::{parse_function_as_body, parse_function_declaration};
+use crate::switch_statement::parse_switch_statement;
+use crate::try_statement::parse_try_statement;
 use crate::word_statement::{
     parse_break_statement, parse_continue_statement, parse_debugger_statement,
     parse_return_statement, parse_throw_statement,
@@ -95,10 +98,13 @@ fn parse_any_statement<C: ParserConfig, N: Nested<C>>(
         Kind::Do => parse_do_while_statement(p, nested),
         Kind::While => parse_while_statement(p, nested),
         Kind::With => parse_with_statement(p, nested),
+        Kind::For => parse_for_statement(p, nested),
         Kind::Break => parse_break_statement(p),
         Kind::Continue => parse_continue_statement(p),
         Kind::Return => parse_return_statement(p, nested),
         Kind::Throw => parse_throw_statement(p, nested),
+        Kind::Switch => parse_switch_statement(p, nested),
+        Kind::Try => parse_try_statement(p, nested),
         Kind::Debugger => parse_debugger_statement(p),
         Kind::Var => parse_variable_statement(p, nested),
         _ => parse_expression_or_labeled_statement(p, nested),
