@@ -133,7 +133,7 @@ fn make_coalesce<C: ParserConfig>(
 
 /// Operands, and operators between them that bind at least as tight as `least`, grouped to the left (ECMA-262, sections
 /// 13.6 to 13.13).
-fn parse_operators<C: ParserConfig, N: Nested<C>>(
+pub fn parse_operators<C: ParserConfig, N: Nested<C>>(
     p: &mut ParserImpl<'_, C>,
     nested: &N,
     least: u8,
