@@ -49,9 +49,9 @@ pub fn parse_block<C: ParserConfig, N: Nested<C>>(
     ensures { Answers (at Block) p.old p.new result }
 {
     let start = p.cur_start();
-    let items = parse_braces(p, nested, StatementList::Block)?;
+    let statements = parse_braces(p, nested, StatementList::Block)?;
     let span = p.end_span(start);
-    let node = make_list(p, NodeKind::BlockStatement, Op::None, span, items)?;
+    let node = make_list(p, NodeKind::BlockStatement, Op::None, span, statements)?;
     Ok(node)
 }
 

@@ -89,8 +89,7 @@ fn make_try<C: ParserConfig>(
     ensures { IfOk result (λ id. MadeHere (plain_label node.TryStatement op.None span) (Some block ∷ handler ∷ finalizer ∷ []) p.old p.new id) }
 {
     let children = [Some(block), handler, finalizer];
-    p.ast
-        .node_of_three(NodeKind::TryStatement, span, Op::None, no_flags(), children)
+    p.ast.node_of_three(NodeKind::TryStatement, span, Op::None, no_flags(), children)
 }
 
 /// A Catch (ECMA-262, section 14.15), where one stands here.

@@ -59,9 +59,9 @@ returns-in_err-block t c =
     let p = err_from_is_err_and c.from_residual-in_err-block.result c.from_residual-in_err-block.ensures.1 in
     let h = stands_so c.args.p.now Catch c.if-not-stands.false c.stands.ensures in
     rw (p.1, p.2) (part_stops (sym ACatch) Catch c.args.p.now c.parse_block.new.p _ h (λ text f a.
-        let m = c.in_ok-advance.ensures text f a in
-        let x = parameter_read a h m c.in_ok-parameter.parameter c.in_ok-parameter.ensures in
-        catch_stops a h m x _ _ (c.in_err-block.ensures text f (parameter_at a h m x))))
+    let m = c.in_ok-advance.ensures text f a in
+    let x = parameter_read a h m c.in_ok-parameter.parameter c.in_ok-parameter.ensures in
+    catch_stops a h m x _ _ (c.in_err-block.ensures text f (parameter_at a h m x))))
 
 pub end_span-span-requires : goal.end_span-span-requires
 end_span-span-requires t c =
@@ -73,8 +73,10 @@ end_span-span-requires t c =
 
 pub returns : goal.returns
 returns t c =
-    let h = stands_so c.args.p.now Catch c.if-not-stands.false c.stands.ensures in
-    (h, λ text f a.
-        let m = c.in_ok-advance.ensures text f a in
-        let x = parameter_read a h m c.in_ok-parameter.parameter c.in_ok-parameter.ensures in
-        catch_taken a h m x _ (c.in_ok-block.ensures text f (parameter_at a h m x)) (c.end_span-span.ensures.start ∙ c.cur_start-start.ensures) c.end_span-span.ensures.end c.in_ok-node.ensures)
+    let h = stands_so c.args.p.now Catch c.if-not-stands.false c.stands.ensures in (
+      h,
+      λ text f a.
+          let m = c.in_ok-advance.ensures text f a in
+          let x = parameter_read a h m c.in_ok-parameter.parameter c.in_ok-parameter.ensures in
+          catch_taken a h m x _ (c.in_ok-block.ensures text f (parameter_at a h m x)) (c.end_span-span.ensures.start ∙ c.cur_start-start.ensures) c.end_span-span.ensures.end c.in_ok-node.ensures,
+    )

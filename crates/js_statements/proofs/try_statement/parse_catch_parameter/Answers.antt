@@ -52,19 +52,21 @@ returns-in_err-expect t c =
     let p = err_from_is_err_and c.from_residual-in_err-expect.result c.from_residual-in_err-expect.ensures.1 in
     let h = stands_so c.args.p.now LParen c.if-not-stands.false c.stands.ensures in
     rw (p.1, p.2) (part_stops parameter_of LParen c.args.p.now c.expect.new.self _ h (λ text f a.
-        let m = c.in_ok-advance.ensures text f a in
-        let x = c.in_ok-binding.ensures text f m.at in
-        let b = c.end_span-span.ensures.start ∙ c.cur_start-start.ensures in
-        let z = parameter_made a h m x _ b c.end_span-span.ensures.end c.in_ok-node.ensures in
-        parameter_unclosed a h m x _ b c.end_span-span.ensures.end c.in_ok-node.ensures _ _ (unexpected z.at RParen _ _ c.in_err-expect.ensures (λ n. no_last z.at RParen refl n))))
+    let m = c.in_ok-advance.ensures text f a in
+    let x = c.in_ok-binding.ensures text f m.at in
+    let b = c.end_span-span.ensures.start ∙ c.cur_start-start.ensures in
+    let z = parameter_made a h m x _ b c.end_span-span.ensures.end c.in_ok-node.ensures in
+    parameter_unclosed a h m x _ b c.end_span-span.ensures.end c.in_ok-node.ensures _ _ (unexpected z.at RParen _ _ c.in_err-expect.ensures (λ n. no_last z.at RParen refl n))))
 
 pub returns : goal.returns
 returns t c =
     let h = stands_so c.args.p.now LParen c.if-not-stands.false c.stands.ensures in
-    let i = c.in_ok-expect.ensures in
-    (h, λ text f a.
-        let m = c.in_ok-advance.ensures text f a in
-        let x = c.in_ok-binding.ensures text f m.at in
-        let b = c.end_span-span.ensures.start ∙ c.cur_start-start.ensures in
-        let z = parameter_made a h m x _ b c.end_span-span.ensures.end c.in_ok-node.ensures in
-        parameter_taken a h m x _ b c.end_span-span.ensures.end c.in_ok-node.ensures i.0 (expected z.at RParen i.0 i.1 refl refl))
+    let i = c.in_ok-expect.ensures in (
+      h,
+      λ text f a.
+          let m = c.in_ok-advance.ensures text f a in
+          let x = c.in_ok-binding.ensures text f m.at in
+          let b = c.end_span-span.ensures.start ∙ c.cur_start-start.ensures in
+          let z = parameter_made a h m x _ b c.end_span-span.ensures.end c.in_ok-node.ensures in
+          parameter_taken a h m x _ b c.end_span-span.ensures.end c.in_ok-node.ensures i.0 (expected z.at RParen i.0 i.1 refl refl),
+    )
