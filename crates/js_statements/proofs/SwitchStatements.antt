@@ -1,5 +1,5 @@
 -- The `switch` statement (ECMA-262, 14.12): a clause, clauses one behind the other, and the whole.
-use Rattle.std.proofs.Common.{ℕ, ◌≡◌, ◌≤◌, ◌<◌, ◌⊎◌, inl, inr, max, List, [], ◌∷◌, ◌++◌, length, Option, Some, None, Bool, true, false, not, ◌||◌, IsTrue, IsCharBoundary, refl, sym, ap, subst, arith, ◌∙◌}
+use Rattle.std.proofs.Common.{ℕ, ◌≡◌, ◌≤◌, ◌<◌, ◌⊎◌, inl, inr, max, List, [], ◌∷◌, ◌++◌, length, Option, Some, None, Bool, true, false, not, ◌&&◌, ◌||◌, IsTrue, IsCharBoundary, refl, sym, ap, subst, arith, ◌∙◌}
 use Rattle.std.specs.Prelude.{◌↔◌, Result, Ok, Err}
 use Rattle.std.proofs.lemmas.Bool.{false≢true, and_parts}
 use Rattle.js_base.specs.declared.diagnostic.Diagnostic.{Diagnostic}
@@ -204,6 +204,22 @@ due_at q e h = go q.token.kind h refl
     go : (k : Kind) → one_of_kinds (kind.Case ∷ kind.Default ∷ kind.RCurly ∷ []) k ≡ true → q.token.kind ≡ k → ClauseDue q
     go k h = first_or (λ (v : Kind). q.token.kind ≡ v → ClauseDue q) kind.Case k _ _ refl h (λ i. inr (inl (i, e))) (λ h. first_or (λ (v : Kind). q.token.kind ≡ v → ClauseDue q) kind.Default k _ _ refl h (λ i. inl (i, e)) (λ h. first_or (λ (v : Kind). q.token.kind ≡ v → ClauseDue q) kind.RCurly k _ _ refl h (λ i. inr (inr (i, e))) (λ h. absurd (false≢true h))))
 
+-- as the code asks
+pub due_here : (q : Parser) → (ends_at list.Clause q.token.kind && not q.token.escaped) ≡ true → ClauseDue q
+due_here q h = go q.token.escaped refl
+  where
+    go : (c : Bool) → q.token.escaped ≡ c → ClauseDue q
+    go true e = absurd (false≢true (sym (ap not e) ∙ (and_parts (ends_at list.Clause q.token.kind) (not q.token.escaped) h).1))
+    go false e = due_at q e (and_parts (ends_at list.Clause q.token.kind) (not q.token.escaped) h).0
+
+due_true : (q : Parser) → ClauseDue q → (ends_at list.Clause q.token.kind && not q.token.escaped) ≡ true
+due_true q (inl h) = rw (h.0, h.1) refl
+due_true q (inr (inl h)) = rw (h.0, h.1) refl
+due_true q (inr (inr h)) = rw (h.0, h.1) refl
+
+pub undue_here : (q : Parser) → (ends_at list.Clause q.token.kind && not q.token.escaped) ≡ false → ClauseDue q → ⊥
+undue_here q h d = false≢true (sym h ∙ due_true q d)
+
 -- where nothing is due, none of these stands without an escape
 not_due : {text : List ℕ} {f : Flags} {q : Parser} {X : Test} {g : G} → At text f q → (ClauseDue q → ⊥) → (one_of_kinds (kind.Case ∷ kind.Default ∷ kind.RCurly ∷ []) q.token.kind ≡ false → Fails rule (Lex text) X end g q.prev_token_end) → Fails rule (Lex text) X end g q.prev_token_end
 not_due {text} {f} {q} {X} {g} a n h = by q.token.escaped refl
@@ -263,7 +279,7 @@ whole_clause false a y = by_symbol_as {X' = plain (at_end list.Clause)} (λ l cs
 
 -- ---- a clause behind others
 
-to_clauses : {text : List ℕ} (f : Flags) (s : ℕ) → Between rule (plain (at_end list.Block)) (plain (at_end list.Clause)) end (symbol ACase f) (clauses_of f) s
+to_clauses : (f : Flags) (s : ℕ) → Between rule (plain (at_end list.Block)) (plain (at_end list.Clause)) end (symbol ACase f) (clauses_of f) s
 unfolding covers
 to_clauses f s = by_first firsts (by_plain (at_end list.Clause)) refl
 
@@ -303,7 +319,7 @@ module _ {text : List ℕ} {f : Flags} {p : Parser} (a : At text f p) where
   -- what is left before a clause, and no clause
   next_fails : (d : Defaults) (b : Bool) → Begins b p → NoList text list.Clause (clause_of b f) p.prev_token_end → NoList text list.Block (left d f) p.prev_token_end
   next_fails Missing true h n = default_first h ▹✗ part_fails n (to_cases f p.prev_token_end true)
-  next_fails Missing false h n = case_first h ▹✗ part_fails n (to_clauses {text} f p.prev_token_end)
+  next_fails Missing false h n = case_first h ▹✗ part_fails n (to_clauses f p.prev_token_end)
   next_fails (One s) true h n = default_again h
   next_fails (One s) false h n = case_again h ▹✗ part_fails n (to_cases f p.prev_token_end false)
   next_fails Several b h n = fails_never
@@ -341,7 +357,7 @@ module _ {text : List ℕ} {f : Flags} {p : Parser} (a : At text f p) where
 
   next_read : (d : Defaults) (b : Bool) {q : Parser} {id : NodeId} → Begins b p → (c : OpenClause text f b p q id) → ClauseDue q → (s : Span) (r : Parser) (d' : Defaults) → Notes d b s q r d' → OneTaken text f list.Block (left d f) (left d' f) p r id
   next_read Missing true {q} {id} h c z s r d' (e, i) = subst (λ (v : Defaults). OneTaken text f list.Block (clauses_of f) (left v f) p r id) (sym i) (subst (λ (v : Parser). OneTaken text f list.Block (clauses_of f) (cases f) p v id) (sym e) (plain_taken c (default_first h ⟼ then_between (to_cases f p.prev_token_end true) (whole_clause true a (shut_path a c z)))))
-  next_read Missing false {q} {id} h c z s r d' (e, i) = subst (λ (v : Defaults). OneTaken text f list.Block (clauses_of f) (left v f) p r id) (sym i) (subst (λ (v : Parser). OneTaken text f list.Block (clauses_of f) (clauses_of f) p v id) (sym e) (plain_taken c (case_first h ⟼ then_between (to_clauses {text} f p.prev_token_end) (whole_clause false a (shut_path a c z)))))
+  next_read Missing false {q} {id} h c z s r d' (e, i) = subst (λ (v : Defaults). OneTaken text f list.Block (clauses_of f) (left v f) p r id) (sym i) (subst (λ (v : Parser). OneTaken text f list.Block (clauses_of f) (clauses_of f) p v id) (sym e) (plain_taken c (case_first h ⟼ then_between (to_clauses f p.prev_token_end) (whole_clause false a (shut_path a c z)))))
   next_read (One t) true {q} {id} h c z s r d' (k, i) = subst (λ (v : Defaults). OneTaken text f list.Block (cases f) (left v f) p r id) (sym i) (second_taken c h k)
   next_read (One t) false {q} {id} h c z s r d' (e, i) = subst (λ (v : Defaults). OneTaken text f list.Block (cases f) (left v f) p r id) (sym i) (subst (λ (v : Parser). OneTaken text f list.Block (cases f) (cases f) p v id) (sym e) (plain_taken c (case_again h ⟼ then_between (to_cases f p.prev_token_end false) (whole_clause false a (shut_path a c z)))))
   next_read Several true {q} {id} h c z s r d' (e, i) = subst (λ (v : Defaults). OneTaken text f list.Block never (left v f) p r id) (sym i) (subst (λ (v : Parser). OneTaken text f list.Block never never p v id) (sym e) (plain_taken c (never_on (shut_path a c z))))

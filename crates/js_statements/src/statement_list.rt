@@ -44,7 +44,7 @@ impl StatementList {
     }
 
     /// Whether a lexeme of this kind ends it.
-    fn ends_at(self, kind: Kind) -> bool
+    pub(crate) fn ends_at(self, kind: Kind) -> bool
         ensures { result ≡ ends_at self kind }
     {
         match self {

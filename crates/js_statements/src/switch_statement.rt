@@ -1,6 +1,6 @@
 //! The `switch` statement (ECMA-262, section 14.12).
 
-ghost use Rattle.std.specs.Prelude.{◌≡◌, ◌↔◌, IsTrue, true, IfOk, MatchResult};
+ghost use Rattle.std.specs.Prelude.{◌≡◌, ◌&&◌, not, true, IfOk, MatchResult};
 ghost use Rattle.js_base.specs.Contexts.{has_flag, in_flag};
 ghost use Rattle.js_base.specs.declared.kind.Kind.TheVariants.{Switch};
 ghost use Rattle.js_cursor.specs.Places.{IsAt};
@@ -8,8 +8,8 @@ ghost use Rattle.js_parsing.specs.Nesting.{CanNest, room};
 ghost use Rattle.js_parsing.specs.Stands.{StandsHere};
 ghost use Rattle.js_parsing.specs.States.{Standing};
 ghost use Rattle.js_parsing.specs.Statements.{TakesAnywhere};
-ghost use Rattle.js_statements.specs.StatementLists.{ends_list};
-ghost use Rattle.js_statements.specs.SwitchStatements.{AllClauses, ClauseBegins, ClauseDue, ClausesRefused, DueOr, MayNote, NextRefused, NextTaken, NoCaseBlockHere, Notes, ReadsClause, Stood, TakesCaseBlock, TakesTest, second_default};
+ghost use Rattle.js_statements.specs.StatementLists.{ends_at, ends_list};
+ghost use Rattle.js_statements.specs.SwitchStatements.{AllClauses, ClauseBegins, ClausesRefused, DueOr, MayNote, NextRefused, NextTaken, NoCaseBlockHere, Notes, ReadsClause, Stood, TakesCaseBlock, TakesTest, second_default};
 ghost use Rattle.js_statements.specs.declared.statement_list.StatementList.TheVariants.{Clause};
 
 use crate::compound_statement::parse_paren_expression;
@@ -18,7 +18,7 @@ use js_base::{Diagnostic, DiagnosticKind, Kind, NoMemory, Span};
 use js_cursor::{ParserImpl, Stop};
 use js_lex::ParserConfig;
 use js_parsing::diagnostics::diagnostic_at;
-use js_parsing::lexemes::{advance, stands};
+use js_parsing::lexemes::advance;
 use js_parsing::nested::Nested;
 use js_parsing::nodes::make_list;
 use js_tree::{NodeId, NodeKind, Op};
@@ -163,15 +163,16 @@ fn expect_clause<C: ParserConfig>(p: &mut ParserImpl<'_, C>) -> Result<(), Stop>
     if p.at(Kind::Undetermined) {
         return Err(p.set_unexpected());
     }
-    let due = diagnostic_at(DiagnosticKind::ExpectSwitchClause, p.cur_token().span());
+    let span = p.cur_token().span();
+    let due = diagnostic_at(DiagnosticKind::ExpectSwitchClause, span);
     Err(p.set_fatal_error(due))
 }
 
 /// Whether a clause begins here, or the CaseBlock ends.
 fn is_clause_due<C: ParserConfig>(p: &ParserImpl<'_, C>) -> bool
-    ensures { IsTrue result ↔ ClauseDue p.now }
+    ensures { result ≡ (ends_at Clause p.now.token.kind && not p.now.token.escaped) }
 {
-    stands(p, Kind::Case) || stands(p, Kind::Default) || stands(p, Kind::RCurly)
+    StatementList::Clause.ends_at(p.cur_kind()) && !p.cur_token().escaped()
 }
 
 /// A CaseClause or a DefaultClause (ECMA-262, section 14.12).

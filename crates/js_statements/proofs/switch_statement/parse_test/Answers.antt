@@ -14,8 +14,8 @@ returns-in_err-advance t c =
     let p = err_from_is_err_and c.from_residual.result c.from_residual.ensures.1 in
     rw (p.1, p.2) (test_memory c.args.p.now c.advance.new.p _ c.in_err-advance.ensures)
 
-pub returns-then-not-is_default : goal.returns-then-not-is_default
-returns-then-not-is_default t c = default_outcome _ _ (c.at-is_default.ensures.0 c.if-is_default.true) c.in_ok-advance.ensures
+pub returns-then-is_default : goal.returns-then-is_default
+returns-then-is_default t c = default_outcome _ _ (c.at-is_default.ensures.0 c.if-is_default.true) c.in_ok-advance.ensures
 
 pub expression-requires : goal.expression-requires
 expression-requires t c = let m = c.in_ok-advance.ensures _ _ c.requires.at in c.requires.nests _ _ (standing m.at) (nested_room c.requires.at m)
