@@ -379,7 +379,7 @@ module _ {text : List ℕ} {f : Flags} {sl : StatementList} {g : G} where
   }
 
   -- what is left is read as something else
-  taken_so : {g' g'' : G} {p q : Parser} {ids : List (Option NodeId)} → Taken text f sl g g' p q ids → Goes rule (Lex text) (plain (at_end sl)) end g' q.prev_token_end g'' q.prev_token_end (λ us. us) (still 0) → Taken text f sl g g'' p q ids
+  pub taken_so : {g' g'' : G} {p q : Parser} {ids : List (Option NodeId)} → Taken text f sl g g' p q ids → Goes rule (Lex text) (plain (at_end sl)) end g' q.prev_token_end g'' q.prev_token_end (λ us. us) (still 0) → Taken text f sl g g'' p q ids
   taken_so s h = record {
     at = s.at;
     same = s.same;
@@ -431,8 +431,8 @@ module _ {text : List ℕ} {f : Flags} {p q : Parser} {ids : List (Option NodeId
       ▹ untested sl f (λ y l h. not_here s.at (Str ∷ []) refl none y l (covered (is Str) (λ k w e. one_of_kinds (Str ∷ []) k) refl y.kind y.newline y.escaped h)))
 
 -- what ends the list doesn't stand where neither it nor an end stands
-pub goes_on_here : (sl : StatementList) {k : Kind} → ends_list sl k ≡ false → ends_at sl k ≡ false
-goes_on_here sl {k} h = or_first (ends_at sl k) (is_last k) h
+pub goes_on_here : (sl : StatementList) (k : Kind) → ends_list sl k ≡ false → ends_at sl k ≡ false
+goes_on_here sl k h = or_first (ends_at sl k) (is_last k) h
   where
     or_first : (b c : Bool) → (b || c) ≡ false → b ≡ false
     or_first true c g = absurd (false≢true (sym g))

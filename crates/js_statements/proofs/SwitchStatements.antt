@@ -138,9 +138,9 @@ word_whole a (inl h) = word_here kind.Default a h refl
 word_whole a (inr h) = word_here kind.Case a h refl
 
 -- one of the two
-pub begins_one : {p : Parser} → ClauseBegins p → (b : Bool) × Begins b p
-begins_one (inl h) = (true, h)
-begins_one (inr h) = (false, h)
+pub begins_one : (p : Parser) → ClauseBegins p → (b : Bool) × Begins b p
+begins_one p (inl h) = (true, h)
+begins_one p (inr h) = (false, h)
 
 -- ---- a clause, behind which more statements may follow
 
@@ -260,14 +260,14 @@ module _ {text : List ℕ} {f : Flags} {q : Parser} (a : At text f q) where
   list_shut (inr (inl h)) = more_of ▹ at_kind a kind.Case h.0 refl
   list_shut (inr (inr h)) = more_of ▹ at_kind a kind.RCurly h.0 refl
 
-clause_fails : {text : List ℕ} {f : Flags} {s : ℕ} (b : Bool) → NoList text list.Clause (clause_slots b f) s → NoList text list.Clause (clause_of b f) s
+clause_fails : {text : List ℕ} (f : Flags) {s : ℕ} (b : Bool) → NoList text list.Clause (clause_slots b f) s → NoList text list.Clause (clause_of b f) s
 unfolding rule rule_of covers
-clause_fails true n = fails_node (inside_plain {F' = at_end list.Clause} refl) n
-clause_fails false n = fails_rule {X' = plain (at_end list.Clause)} (λ l cs vs y d. (d.0, refl)) (fails_node (inside_plain {F' = at_end list.Clause} refl) n)
+clause_fails f true n = fails_node (inside_plain {F' = at_end list.Clause} refl) n
+clause_fails f false n = fails_rule {X' = plain (at_end list.Clause)} (λ l cs vs y d. (d.0, refl)) (fails_node (inside_plain {F' = at_end list.Clause} refl) n)
 
 module _ {text : List ℕ} {f : Flags} {b : Bool} {p q : Parser} {id : NodeId} (a : At text f p) (c : OpenClause text f b p q id) where
   open_fails : ends_list list.Clause q.token.kind ≡ true → (ClauseDue q → ⊥) → NoList text list.Clause (clause_of b f) p.prev_token_end
-  open_fails e n = clause_fails b (either_way c.verdict (λ y. y.goes ▹✗ list_open c.at e n) (λ n. n))
+  open_fails e n = clause_fails f b (either_way c.verdict (λ y. y.goes ▹✗ list_open c.at e n) (λ n. n))
 
   shut_path : ClauseDue q → Path text f (plain (at_end list.Clause)) (clause_slots b f) p nothing q c.slots
   shut_path d = record { at = c.at; further = c.further; pass = c.pass; walked = c.walked; verdict = verdict_of c.verdict (λ y. record { reach = max y.reach 0; near = let i = y.near in omega arith; goes = y.goes ▹ list_shut c.at d }) (λ n. n) }
@@ -386,16 +386,16 @@ noted {text} {f} {q} a d b s r d' n = go d b n
     go Several true n = stays n.0
     go Several false n = stays n.0
 
-pub begins_as : {p : Parser} → ClauseBegins p → (b : Bool) → IsTrue b ↔ (p.token.kind ≡ kind.Default) → Begins b p
-begins_as (inl h) true i = h
-begins_as (inl h) false i = absurd (false≢true (i.1 h.0))
-begins_as (inr h) true i = let z : kind.Case ≡ kind.Default = sym h.0 ∙ i.0 refl in absurd (cc)
-begins_as (inr h) false i = h
+pub begins_as : (p : Parser) → ClauseBegins p → (b : Bool) → IsTrue b ↔ (p.token.kind ≡ kind.Default) → Begins b p
+begins_as p (inl h) true i = h
+begins_as p (inl h) false i = absurd (false≢true (i.1 h.0))
+begins_as p (inr h) true i = let z : kind.Case ≡ kind.Default = sym h.0 ∙ i.0 refl in absurd (cc)
+begins_as p (inr h) false i = h
 
-due_on : {q r : Parser} → r.token ≡ q.token → ClauseDue q → ClauseDue r
-due_on e (inl h) = inl (ap (λ (t : Token). t.kind) e ∙ h.0, ap (λ (t : Token). t.escaped) e ∙ h.1)
-due_on e (inr (inl h)) = inr (inl (ap (λ (t : Token). t.kind) e ∙ h.0, ap (λ (t : Token). t.escaped) e ∙ h.1))
-due_on e (inr (inr h)) = inr (inr (ap (λ (t : Token). t.kind) e ∙ h.0, ap (λ (t : Token). t.escaped) e ∙ h.1))
+due_on : (q r : Parser) → r.token ≡ q.token → ClauseDue q → ClauseDue r
+due_on q r e (inl h) = inl (ap (λ (t : Token). t.kind) e ∙ h.0, ap (λ (t : Token). t.escaped) e ∙ h.1)
+due_on q r e (inr (inl h)) = inr (inl (ap (λ (t : Token). t.kind) e ∙ h.0, ap (λ (t : Token). t.escaped) e ∙ h.1))
+due_on q r e (inr (inr h)) = inr (inr (ap (λ (t : Token). t.kind) e ∙ h.0, ap (λ (t : Token). t.escaped) e ∙ h.1))
 
 -- where one stood lasts
 begins_later : {p q : Parser} {s : Span} → Same p q → BeginsWith (of_kinds (kind.Default ∷ [])) (goal p) p.text s → BeginsWith (of_kinds (kind.Default ∷ [])) (goal q) q.text s
@@ -474,10 +474,10 @@ module _ {text : List ℕ} {f : Flags} {p q : Parser} {b : Bool} {id : NodeId} (
   pub next_undue : (w : Parser) (e : Stop) → ends_list list.Clause q.token.kind ≡ true → Stops r w e (ClauseDue r → ⊥) → Stops p w e (NoList text list.Block (left d f) p.prev_token_end)
   next_undue w e l z =
       let y = noted c.at d b s r d' n in
-      stops_behind w e (same_both c.same y.same) (λ g. grown_behind c.verdict (y.grown g)) (λ x. next_fails a d b h (open_fails a c l (λ v. x (due_on y.token v)))) z
+      stops_behind w e (same_both c.same y.same) (λ g. grown_behind c.verdict (y.grown g)) (λ x. next_fails a d b h (open_fails a c l (λ v. x (due_on q r y.token v)))) z
 
-pub next_refused : {text : List ℕ} {f : Flags} {p : Parser} {b : Bool} → At text f p → Begins b p → (d : Defaults) (w : Parser) (e : Stop) → Stops p w e (NoList text list.Clause (clause_slots b f) p.prev_token_end) → Stops p w e (NoList text list.Block (left d f) p.prev_token_end)
-next_refused {p = p} {b} a h d w e z = stops_so p w e (λ n. next_fails a d b h (clause_fails b n)) z
+pub next_refused : {text : List ℕ} {f : Flags} {p : Parser} (b : Bool) → At text f p → Begins b p → (d : Defaults) (w : Parser) (e : Stop) → Stops p w e (NoList text list.Clause (clause_slots b f) p.prev_token_end) → Stops p w e (NoList text list.Block (left d f) p.prev_token_end)
+next_refused {f = f} {p} b a h d w e z = stops_so p w e (λ n. next_fails a d b h (clause_fails f b n)) z
 
 -- all that is said of it
 pub next_taken : {p q : Parser} (b : Bool) {id : NodeId} → At p.text (flags_of p) p → Begins b p → ((text : List ℕ) (f : Flags) → At text f p → OpenClause text f b p q id) → (d : Defaults) → Stood d p → (s : Span) → s.start ≡ p.token.span.start → s.end ≡ q.prev_token_end → (r : Parser) (d' : Defaults) → Notes d b s q r d' → (w : Parser) → ClauseDue r → w ≡ r → NextTaken d p w id d'
@@ -485,7 +485,7 @@ next_taken {p} {q} b {id} a h c d o s i j r d' n w z e = subst (λ (v : Parser).
   z,
   stood_next a h (c _ _ a) s i j d o r d' n,
   next_told a h (c _ _ a) s i j d r d' n,
-  λ text f a. let y = c text f a in next_read a d b h y (due_on (sym (noted y.at d b s r d' n).token) z) s r d' n,
+  λ text f a. let y = c text f a in next_read a d b h y (due_on r q (sym (noted y.at d b s r d' n).token) z) s r d' n,
 )
 
 -- ---- several clauses

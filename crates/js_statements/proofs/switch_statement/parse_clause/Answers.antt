@@ -14,7 +14,7 @@ returns-in_err-test-clause-read t c =
     rw (p.1, p.2) (λ b h text f a. c.in_err-test.ensures b h text f a)
 
 pub expect-requires : goal.expect-requires
-expect-requires t c = let h = begins_one c.requires.begins in (c.in_ok-test.ensures h.0 h.1 _ _ c.requires.at).at.at
+expect-requires t c = let h = begins_one c.args.p.now c.requires.begins in (c.in_ok-test.ensures h.0 h.1 _ _ c.requires.at).at.at
 
 pub returns-in_err-expect-clause-read : goal.returns-in_err-expect-clause-read
 returns-in_err-expect-clause-read t c =
@@ -23,14 +23,14 @@ returns-in_err-expect-clause-read t c =
 
 pub parse_directives_and_statements-requires-clause-at : goal.parse_directives_and_statements-requires-clause-at
 parse_directives_and_statements-requires-clause-at t c =
-    let h = begins_one c.requires.begins in
+    let h = begins_one c.args.p.now c.requires.begins in
     let x = c.in_ok-test.ensures h.0 h.1 _ _ c.requires.at in
     let i = c.in_ok-expect.ensures in
     standing (expected x.at Colon i.0 i.1 refl refl).at
 
 pub parse_directives_and_statements-requires-clause-nests : goal.parse_directives_and_statements-requires-clause-nests
 parse_directives_and_statements-requires-clause-nests t c =
-    let h = begins_one c.requires.begins in
+    let h = begins_one c.args.p.now c.requires.begins in
     let x = c.in_ok-test.ensures h.0 h.1 _ _ c.requires.at in
     let i = c.in_ok-expect.ensures in
     let r = later_room (let i = x.further in let j = c.requires.at.behind in omega arith) x.same in
@@ -39,7 +39,7 @@ parse_directives_and_statements-requires-clause-nests t c =
 
 pub parse_directives_and_statements-requires-clause-allows_in : goal.parse_directives_and_statements-requires-clause-allows_in
 parse_directives_and_statements-requires-clause-allows_in t c =
-    let h = begins_one c.requires.begins in
+    let h = begins_one c.args.p.now c.requires.begins in
     let x = c.in_ok-test.ensures h.0 h.1 _ _ c.requires.at in
     let i = c.in_ok-expect.ensures in
     ap (has_flag in_flag) (headed_same x i.0 (expected x.at Colon i.0 i.1 refl refl)).ctx ∙ c.requires.allows_in
@@ -55,7 +55,7 @@ returns-in_err-children-clause-read t c =
 
 pub end_span-span-requires : goal.end_span-span-requires
 end_span-span-requires t c =
-    let h = begins_one c.requires.begins in
+    let h = begins_one c.args.p.now c.requires.begins in
     let x = c.in_ok-test.ensures h.0 h.1 _ _ c.requires.at in
     let i = c.in_ok-expect.ensures in
     let m = expected x.at Colon i.0 i.1 refl refl in
