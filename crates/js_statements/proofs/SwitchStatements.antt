@@ -1,6 +1,6 @@
 -- The `switch` statement (ECMA-262, 14.12): a clause, clauses one behind the other, and the whole.
 use Rattle.std.proofs.Common.{ℕ, ◌≡◌, ◌≤◌, ◌<◌, ◌⊎◌, inl, inr, max, List, [], ◌∷◌, ◌++◌, length, Option, Some, None, Bool, true, false, not, ◌&&◌, ◌||◌, IsTrue, IsCharBoundary, refl, sym, ap, subst, arith, ◌∙◌}
-use Rattle.std.specs.Prelude.{◌↔◌, Result, Ok, Err}
+use Rattle.std.specs.Prelude.{◌↔◌, Ok, Err}
 use Rattle.std.proofs.lemmas.Bool.{false≢true, and_parts}
 use Rattle.js_base.specs.declared.diagnostic.Diagnostic.{Diagnostic}
 use Rattle.js_base.specs.declared.diagnostic.DiagnosticKind.TheVariants.{ExpectSwitchClause, ExpectToken}
@@ -12,10 +12,10 @@ use Rattle.js_base.specs.declared.token.Token.{Token}
 use Rattle.js_base.specs.Kinds.{same_kind, one_of_kinds}
 use Rattle.js_base.specs.Texts.{words}
 use Rattle.js_base.proofs.KindLemmas.{kind_of_same}
-use Rattle.js_grammar.specs.Trees.{Label, Slots, append, end, hole, tree, no_op, switch_case, switch_statement}
-use Rattle.js_grammar.specs.Grammar.{nothing, never, Takes, ◌▸◌}
-use Rattle.js_grammar.specs.Marks.{BeginsWith, LexemeAt, Mark, any_lexeme, of_kinds, the_start, the_end}
-use Rattle.js_grammar.specs.Parsing.{Test, plain, full, always, still, Goes, Fails}
+use Rattle.js_grammar.specs.Trees.{Label, Slots, end, hole, tree, no_op, switch_statement}
+use Rattle.js_grammar.specs.Grammar.{nothing, never, ◌▸◌}
+use Rattle.js_grammar.specs.Marks.{BeginsWith, Mark, of_kinds, the_start, the_end}
+use Rattle.js_grammar.specs.Parsing.{Test, plain, full, still, Goes, Fails}
 use Rattle.js_grammar.specs.Productions.{G, Flags, at, tok, Expression, Switch}
 use Rattle.js_grammar.specs.Productions.{Case as ACase}
 use Rattle.js_grammar.specs.Productions.{Statement as AStatement}
@@ -35,17 +35,16 @@ use Rattle.js_tree.specs.Nodes.{Node}
 use Rattle.js_tree.specs.Holding.{Holds, HoldsAll, Keeps}
 use Rattle.js_tree.proofs.HoldingLemmas.{Holds-kept, HoldsAll-append, HoldsAll-kept, HoldsAll-one, HoldsAll-one_hole, Keeps-made, Keeps-refl, Keeps-trans}
 use Rattle.js_cursor.specs.Moves.{Expects, GivesUp, IsKind, Keeps as KeepsOne, OnlyMemory, is_last}
-use Rattle.js_cursor.specs.Moves.{StandsHere as StandsAtSpan, at_lexeme}
+use Rattle.js_cursor.specs.Moves.{at_lexeme}
 use Rattle.js_cursor.specs.Parsers.{Parser}
 use Rattle.js_cursor.specs.Places.{IsAt, goal}
 use Rattle.js_cursor.specs.declared.stop.Stop.{Stop}
 use Rattle.js_cursor.specs.declared.stop.Stop.TheVariants.{Fatal, NoMemory}
 use Rattle.js_cursor.proofs.Standing.{mark_here}
-use Rattle.js_parsing.specs.Answers.{Answers, Grown, Numbered, Stops, Stretch, Underived, Verdict, unclean}
+use Rattle.js_parsing.specs.Answers.{Answers, Grown, Numbered, Stops, Underived, unclean}
 use Rattle.js_parsing.specs.Classes.{EndsParse}
-use Rattle.js_parsing.specs.Lexemes.{Lex, Walked, spot}
+use Rattle.js_parsing.specs.Lexemes.{Lex, spot}
 use Rattle.js_parsing.specs.Moves.{IsWholeHere, Moved, Moves, MadeHere, plain_label}
-use Rattle.js_parsing.specs.Nesting.{room}
 use Rattle.js_parsing.specs.Stands.{StandsHere}
 use Rattle.js_parsing.specs.States.{At, NodesLie, Same, flags_of}
 use Rattle.js_parsing.specs.Statements.{placed, after_statement, NoStatement, Statement}
@@ -67,7 +66,7 @@ use Rattle.js_statements.proofs.TryStatements.{past_hole, then_between}
 use Rattle.js_statements.proofs.WordStatements.{Alone, alone_fails, alone_path, word_here}
 use Rattle.js_statements.specs.CompoundStatements.{NoParens, ParensTaken, in_parens}
 use Rattle.js_statements.specs.StatementLists.{NoList, OneTaken, Taken, at_end, ends_at, ends_list, list_of, statements}
-use Rattle.js_statements.specs.SwitchStatements.{AllClauses, Begins, CaseBlockTaken, ClauseBegins, ClauseDue, DueOr, MayNote, NextTaken, NoCaseBlock, Notes, OpenClause, SomeTaken, Stood, TakesTest, TestTaken, ToldSeveral, case_block, cases, clause_label, clause_of, clause_slots, clauses_of, left, second_default, word_of}
+use Rattle.js_statements.specs.SwitchStatements.{Begins, CaseBlockTaken, ClauseBegins, ClauseDue, MayNote, NextTaken, NoCaseBlock, Notes, OpenClause, SomeTaken, Stood, TakesTest, TestTaken, ToldSeveral, case_block, cases, clause_label, clause_of, clause_slots, clauses_of, left, second_default}
 use Rattle.js_statements.specs.declared.statement_list.StatementList.TheVariants as list
 use Rattle.js_statements.specs.declared.switch_statement.Defaults.{Defaults}
 use Rattle.js_statements.specs.declared.switch_statement.Defaults.TheVariants.{Missing, One, Several}

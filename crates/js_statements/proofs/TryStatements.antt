@@ -9,10 +9,10 @@ use Rattle.js_base.specs.declared.span.Span.{Span}
 use Rattle.js_base.specs.Kinds.{same_kind, one_of_kinds}
 use Rattle.js_base.specs.Texts.{words}
 use Rattle.js_grammar.specs.Trees.{Label, Slots, append, end, hole, tree, no_op, catch_clause, catch_parameter, try_statement}
-use Rattle.js_grammar.specs.Grammar.{Lexemes, Look, here, is, empty_slot, seq, nothing, Takes, is_empty_slot, ◌▸◌, ◌◇◌}
+use Rattle.js_grammar.specs.Grammar.{Lexemes, Look, here, is, empty_slot, nothing, Takes, is_empty_slot, ◌▸◌}
 use Rattle.js_grammar.specs.Lexed.{Lexes}
 use Rattle.js_grammar.specs.Lexemes.{is_word}
-use Rattle.js_grammar.specs.Parsing.{Test, plain, full, behind, always, still, Admits, Goes, Fails}
+use Rattle.js_grammar.specs.Parsing.{Test, plain, full, still, Admits, Goes, Fails}
 use Rattle.js_grammar.specs.Productions.{G, Flags, at, tok, mk, slot, Binding, Block, Try}
 use Rattle.js_grammar.specs.Productions.{Catch as ACatch}
 use Rattle.js_grammar.specs.Productions.{Statement as AStatement}
@@ -22,7 +22,7 @@ use Rattle.js_base.proofs.KindLemmas.{kind_of_same}
 use Rattle.js_grammar.proofs.Looks.{covers, covered, apart}
 use Rattle.js_grammar.proofs.Calculus.{Between, Heads, fails_lexeme, ◌▹◌, ◌▹✗◌, by_plain, here_at, left, right, then_by, part_fails, fails_alt, fails_node, fails_rule, inside_full, inside_plain, reads_empty_slot, weaken_on, weaken_fails_on}
 use Rattle.js_grammar.proofs.FirstClaims.{firsts}
-use Rattle.js_grammar.proofs.FirstRules.{by_first, fails_here}
+use Rattle.js_grammar.proofs.FirstRules.{by_first}
 use Rattle.js_tree.specs.declared.id.NodeId.{NodeId}
 use Rattle.js_tree.specs.declared.kind.NodeKind.TheVariants as node
 use Rattle.js_tree.specs.declared.op.Op.TheVariants as op
@@ -41,7 +41,7 @@ use Rattle.js_cursor.specs.Moves.{IsKind, Keeps as KeepsOne, OnlyMemory}
 use Rattle.js_cursor.specs.Parsers.{Parser}
 use Rattle.js_cursor.specs.declared.stop.Stop.{Stop}
 use Rattle.js_cursor.specs.declared.stop.Stop.TheVariants.{Fatal, NoMemory}
-use Rattle.js_parsing.specs.Answers.{Numbered, Stops, Stretch, Underived, Verdict, unclean}
+use Rattle.js_parsing.specs.Answers.{Numbered, Stops, Underived, unclean}
 use Rattle.js_parsing.specs.Classes.{IsEarly}
 use Rattle.js_parsing.specs.Lexemes.{Lex, Spot, Walked, more_faults, nowhere, one_more, spot}
 use Rattle.js_parsing.specs.Moves.{Moved, MadeHere, plain_label}
@@ -52,7 +52,7 @@ use Rattle.js_parsing.proofs.Giving.{fails_escaped, kept_one}
 use Rattle.js_parsing.proofs.Here.{kind_here}
 use Rattle.js_parsing.proofs.MadeNodes.{node_held, one_lies, made_lies}
 use Rattle.js_parsing.proofs.Moving.{beside_nodes, same_both, same_itself, same_with, stops_behind, stops_so}
-use Rattle.js_parsing.proofs.Paths.{Path, ◌⟼◌, ◌⟶◌, ◌⟶✗◌, at_kind, fails_at, label_here, last_called, last_token, noded, noded_by, by_symbol_as, token, walked_both, walked_to}
+use Rattle.js_parsing.proofs.Paths.{Path, ◌⟼◌, ◌⟶◌, ◌⟶✗◌, at_kind, fails_at, label_here, last_called, last_token, noded, noded_by, by_symbol_as, token, walked_to}
 use Rattle.js_parsing.proofs.Signs.{other_kind, plain_sign, stands_not}
 use Rattle.js_parsing.proofs.Told.{told_at, told_same}
 use Rattle.js_parsing.proofs.Verdicts.{grown_then, verdict_of}
@@ -61,7 +61,7 @@ use Rattle.js_statements.proofs.Blocks.{then_some}
 use Rattle.js_statements.proofs.CompoundStatements.{no_token, then_fails}
 use Rattle.js_statements.proofs.Statements.{by_statement, never_open}
 use Rattle.js_statements.proofs.WordStatements.{Alone, alone_fails, alone_path}
-use Rattle.js_statements.specs.TryStatements.{ClausesTaken, NoPart, TakesClauses, TakesPart, WholePart, clauses_of, finally_of, neither, no_clause, parameter_of}
+use Rattle.js_statements.specs.TryStatements.{ClausesTaken, NoPart, TakesPart, WholePart, clauses_of, finally_of, neither, no_clause, parameter_of}
 
 -- ---- parts
 

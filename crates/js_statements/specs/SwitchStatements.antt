@@ -22,7 +22,7 @@ use Rattle.js_parsing.specs.Answers.{Grown, Verdict, Stretch, Stops}
 use Rattle.js_parsing.specs.Lexemes.{Lex, Walked, spot}
 use Rattle.js_parsing.specs.Stands.{StandsHere}
 use Rattle.js_parsing.specs.States.{At, Same}
-use Rattle.js_statements.specs.StatementLists.{NoList, OneTaken, Taken, at_end, ends_list, statements}
+use Rattle.js_statements.specs.StatementLists.{NoList, OneTaken, Taken, at_end, statements}
 use Rattle.js_statements.specs.declared.statement_list.StatementList.TheVariants.{Block, Clause}
 use Rattle.js_statements.specs.declared.switch_statement.Defaults.{Defaults}
 use Rattle.js_statements.specs.declared.switch_statement.Defaults.TheVariants.{Missing, One, Several}

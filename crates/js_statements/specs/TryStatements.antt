@@ -7,7 +7,7 @@ use Rattle.js_base.specs.declared.kind.Kind.TheVariants.{Catch, Finally}
 use Rattle.js_base.specs.Kinds.{one_of_kinds}
 use Rattle.js_grammar.specs.Trees.{Label, Slots, end as no_slots, tree, catch_parameter}
 use Rattle.js_grammar.specs.Grammar.{Lexemes, Look, empty_slot, nothing, ◌▸◌, ◌◇◌}
-use Rattle.js_grammar.specs.Parsing.{Fails, Test, full, plain}
+use Rattle.js_grammar.specs.Parsing.{Fails, full, plain}
 use Rattle.js_grammar.specs.Productions.{G, Flags, mk, parens, slot, sym, tok, Binding, Block}
 use Rattle.js_grammar.specs.Productions.{Catch as ACatch}
 use Rattle.js_grammar.specs.Table.{rule}

@@ -2,7 +2,6 @@ use Rattle.std.proofs.Common.{◌≡◌, ◌∙◌, ap, refl, sym}
 use Rattle.std.proofs.lemmas.Bool.{false≢true}
 use Rattle.js_base.specs.declared.diagnostic.DiagnosticKind.TheVariants.{ExpectSwitchClause}
 use Rattle.js_base.specs.declared.span.Span.{Span}
-use Rattle.js_base.specs.declared.token.Token.{Token}
 use Rattle.js_parsing.specs.Told.{unrelated_at}
 use Rattle.js_parsing.proofs.Giving.{gives_up_here}
 use Rattle.js_statements.proofs.SwitchStatements.{due_here, due_marked, due_stops, undue_here}

@@ -1,7 +1,6 @@
-use Rattle.std.proofs.Common.{ℕ, List, sym, ap, subst, arith, ◌∙◌}
+use Rattle.std.proofs.Common.{ℕ, List, sym, ◌∙◌}
 use Rattle.std.proofs.lemmas.Bool.{false≢true}
 use Rattle.std.proofs.lemmas.Result.{err_from_is_err_and}
-use Rattle.js_base.specs.Contexts.{has_flag, in_flag}
 use Rattle.js_grammar.specs.Grammar.{nothing}
 use Rattle.js_grammar.specs.Productions.{Flags}
 use Rattle.js_parsing.specs.Answers.{Stops}
