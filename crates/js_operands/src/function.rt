@@ -10,7 +10,7 @@ ghost use Rattle.js_parsing.specs.Stands.{StandsHere};
 ghost use Rattle.js_parsing.specs.States.{Standing};
 ghost use Rattle.js_tree.specs.declared.op.Op.TheVariants as op;
 ghost use Rattle.js_tree.specs.Labels.{number_of};
-ghost use Rattle.js_operands.specs.Functions.{TakesName, TakesParts};
+ghost use Rattle.js_operands.specs.Functions.{NamesFunction, TakesName, TakesParts};
 
 use crate::primary::parse_leaf;
 use js_base::{DiagnosticKind, Kind, NoMemory, Span};

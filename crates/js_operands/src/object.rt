@@ -1,6 +1,7 @@
 //! Object literals (ECMA-262, section 13.2.5).
 
 ghost use Rattle.std.specs.Prelude.{not, ◌&&◌, ◌≡◌, ◌+◌, ◌≤◌, ◌∷◌, [], true, false, MatchResult, IfOk, None, Some};
+ghost use Rattle.js_base.specs.Contexts.{has_flag, yield_flag, await_flag};
 ghost use Rattle.js_base.specs.Kinds.{one_of_kinds};
 ghost use Rattle.js_base.specs.declared.kind.Kind.TheVariants.{Colon, Comma, Dot3, Eq, LCurly, LParen, RBrack, RCurly, RParen, Star};
 ghost use Rattle.js_cursor.specs.Moves.{Opened};
@@ -155,7 +156,7 @@ fn parse_word_property<C: ParserConfig, N: Nested<C>>(
     if let Some(form) = accessor_form(word.kind(), p.cur_kind()) {
         return parse_accessor(p, nested, span.start, form);
     }
-    if is_name_here(p, word.kind()) && is_name_alone(p.cur_kind()) {
+    if is_shorthand(p, word.kind(), p.cur_kind()) {
         return parse_shorthand(p, nested, span);
     }
     let key = make_leaf(p, NodeKind::IdentifierName, Op::None, span)?;
@@ -197,10 +198,10 @@ fn accessor_form(word: Kind, behind: Kind) -> Option<MethodForm>
 }
 
 /// Whether a word before such a lexeme is a name alone: neither a value nor a method stands behind it.
-fn is_name_alone(behind: Kind) -> bool
-    ensures { result ≡ not (one_of_kinds (Colon ∷ LParen ∷ []) behind) }
+fn is_shorthand<C: ParserConfig>(p: &ParserImpl<'_, C>, word: Kind, behind: Kind) -> bool
+    ensures { result ≡ (may_name (has_flag yield_flag p.now.ctx) (has_flag await_flag p.now.ctx) word && not (one_of_kinds (Colon ∷ LParen ∷ []) behind)) }
 {
-    !matches!(behind, Kind::Colon | Kind::LParen)
+    is_name_here(p, word) && !matches!(behind, Kind::Colon | Kind::LParen)
 }
 
 /// A getter or a setter, from its name on; its `get` or `set` began at a place (ECMA-262, section 15.4).
