@@ -229,7 +229,7 @@ module _ {text : List ℕ} {f : Flags} {p q : Parser} (a : At text f p) (y : Beg
 
   -- ---- nothing behind it
 
-  no_delegate : {X : Test} → ({X : Test} → Fails rule (Lex text) X end (no_newline ▸ tok Star ▸ symbol Assignment f) q.prev_token_end) → Fails rule (Lex text) X end (delegate_part f) p.prev_token_end
+  no_delegate : {X : Test} → Fails rule (Lex text) (plain full) end (no_newline ▸ tok Star ▸ symbol Assignment f) q.prev_token_end → Fails rule (Lex text) X end (delegate_part f) p.prev_token_end
   no_delegate n = fails_node inside_full (yield_passed ⟶✗ n)
 
   pub bare_answers : {w : Parser} {id : NodeId} (s : Span) → Bare q → s.start ≡ p.token.span.start → s.end ≡ q.prev_token_end → MadeHere (plain_label node.YieldExpression op_made.None s) (None ∷ []) q w id → Numbered text f (at Assignment f) p w id
