@@ -1,4 +1,4 @@
-use Rattle.std.proofs.Common.{ap, ◌∙◌}
+use Rattle.std.proofs.Common.{true, ap, ◌∙◌}
 use Rattle.js_base.specs.declared.token.Token.{Token}
 use Rattle.js_parsing.proofs.NameKinds.{listed_here, name_at, name_whole}
 use Rattle.js_expressions.proofs.Arrows.{single_head, single_place}
