@@ -1,28 +1,32 @@
 //! The one function that recurses, and the calls for others.
 
-ghost use Rattle.std.specs.Prelude.{◌≡◌, true, MatchResult};
+ghost use Rattle.std.specs.Prelude.{◌≡◌, true, not, MatchResult};
 ghost use Rattle.js_base.specs.Contexts.{has_flag, in_flag};
-ghost use Rattle.js_grammar.specs.Productions.{at, Assignment, Binding, Expression, LeftHandSide, Params};
+ghost use Rattle.js_base.specs.Places.{is_single};
+ghost use Rattle.js_core.specs.Calls.{above};
+ghost use Rattle.js_grammar.specs.Productions.{at, Assignment, Binding, Body, Expression, LeftHandSide, Params};
+ghost use Rattle.js_operands.specs.PropertyNames.{NamesProperty};
 ghost use Rattle.js_parsing.specs.Answers.{Answers};
 ghost use Rattle.js_parsing.specs.Nesting.{CanNest, Reading, Ready, room};
+ghost use Rattle.js_parsing.specs.Statements.{TakesStatement, placed};
 ghost use Rattle.js_statements.specs.StatementLists.{AllRefused, AllTaken};
 ghost use Rattle.js_statements.specs.declared.statement_list.StatementList.TheVariants.{Text};
 ghost use Rattle.js_parsing.specs.States.{Standing};
 
-use js_base::Kind;
+use js_base::{Kind, Precedence, StatementContext};
 use js_cursor::{ParserImpl, Stop};
 use js_expressions::assignment::parse_assignment_expression;
-use js_expressions::operators::parse_exponentiation_expression;
+use js_expressions::operators::{self, parse_exponentiation_expression, parse_operators};
 use js_expressions::sequence::parse_sequence_expression;
 use js_expressions::unary::parse_unary_expression_or_higher;
 use js_lex::{ParserConfig, RuntimeParserConfig};
-use js_operands::left_hand_side;
+use js_operands::property_name::PropertyName;
+use js_operands::{left_hand_side, property_name};
 use js_parsing::nested::{By, Goal, Nested};
 use js_patterns::method_parameters::parse_method_parameters;
 use js_patterns::{binding, parameters};
-use js_statements::block::parse_function_body;
-use js_statements::statement::{parse_statement, parse_statement_list_item};
 use js_statements::statement_list::{StatementList, parse_directives_and_statements};
+use js_statements::{block, statement};
 use js_tree::NodeId;
 
 /// A parser that is told when the program runs whether it keeps the tokens.
@@ -44,9 +48,9 @@ pub fn parse_goal<C: ParserConfig, N: Nested<C>>(
         Goal::Unary => parse_unary_expression_or_higher(p, nested),
         Goal::Exponentiation => parse_exponentiation_expression(p, nested),
         Goal::Binding => binding::parse_binding_pattern(p, nested),
-        Goal::Statement => parse_statement(p, nested),
-        Goal::ListItem => parse_statement_list_item(p, nested),
-        Goal::Body => parse_function_body(p, nested),
+        Goal::Statement => statement::parse_statement(p, nested),
+        Goal::ListItem => statement::parse_statement_list_item(p, nested),
+        Goal::Body => block::parse_function_body(p, nested),
         Goal::Params => parse_parameters(p, nested),
         Goal::MethodParameters(form) => parse_method_parameters(p, nested, form),
     }
@@ -126,4 +130,64 @@ pub fn parse_statements(p: &mut Parser<'_>) -> Result<Vec<Option<NodeId>>, Stop>
     ensures { MatchResult result (λ v. AllTaken Text p.old p.new v.items) (λ e. AllRefused Text p.old p.new e) }
 {
     parse_directives_and_statements(p, &By(parse), StatementList::Text)
+}
+
+/// Operands, and operators between them that bind tighter than those of `least`; for `Comma` a ShortCircuitExpression
+/// (ECMA-262, sections 13.6 to 13.13).
+pub fn parse_binary_expression_or_higher(
+    p: &mut Parser<'_>,
+    least: Precedence,
+) -> Result<NodeId, Stop>
+    requires { Standing p.old }
+    ensures { Answers (above least) p.old p.new result }
+{
+    match least {
+        Precedence::Comma => operators::parse_binary_expression_or_higher(p, &By(parse)),
+        Precedence::NullishCoalescing => parse_operators(p, &By(parse), 5),
+        Precedence::LogicalOr => parse_operators(p, &By(parse), 6),
+        Precedence::LogicalAnd => parse_operators(p, &By(parse), 7),
+        Precedence::BitwiseOr => parse_operators(p, &By(parse), 8),
+        Precedence::BitwiseXor => parse_operators(p, &By(parse), 9),
+        Precedence::BitwiseAnd => parse_operators(p, &By(parse), 10),
+        Precedence::Equals => parse_operators(p, &By(parse), 11),
+        Precedence::Compare => parse_operators(p, &By(parse), 12),
+        Precedence::Shift => parse_operators(p, &By(parse), 13),
+        Precedence::Add => parse_operators(p, &By(parse), 14),
+        Precedence::Multiply | Precedence::Exponentiation => {
+            parse_exponentiation_expression(p, &By(parse))
+        }
+    }
+}
+
+/// A PropertyName (ECMA-262, section 13.2.5).
+pub fn parse_property_name(p: &mut Parser<'_>) -> Result<PropertyName, Stop>
+    requires { Standing p.old }
+    ensures { NamesProperty p.old p.new result }
+{
+    property_name::parse_property_name(p, &By(parse))
+}
+
+/// A FunctionBody in its braces (ECMA-262, section 15.2).
+pub fn parse_function_body(p: &mut Parser<'_>) -> Result<NodeId, Stop>
+    requires at { Standing p.old }
+    requires allows_in { has_flag in_flag p.old.ctx ≡ true }
+    ensures { Answers (at Body) p.old p.new result }
+{
+    parse(p, Goal::Body)
+}
+
+/// What stands where a statement may, by its place (ECMA-262, chapter 14): a StatementListItem in a list, or a Statement
+/// that is the body of another one.
+pub fn parse_statement_list_item(
+    p: &mut Parser<'_>,
+    context: StatementContext,
+) -> Result<NodeId, Stop>
+    requires at { Standing p.old }
+    requires allows_in { has_flag in_flag p.old.ctx ≡ true }
+    ensures { TakesStatement (placed (not (is_single context))) p.old p.new result }
+{
+    if context.is_single_statement() {
+        return parse(p, Goal::Statement);
+    }
+    parse(p, Goal::ListItem)
 }

@@ -14,3 +14,5 @@ pub mod Operations
 pub mod Refusals
 pub mod Sequences
 pub mod Updates
+pub mod Awaits
+pub mod Yields

@@ -22,7 +22,7 @@ use Rattle.js_grammar.specs.Conditions.{ends_in_sub, lacks_else}
 use Rattle.js_grammar.specs.Lexed.{Lexes}
 use Rattle.js_grammar.specs.Lexemes.{is_escaped}
 use Rattle.js_grammar.specs.Parsing.{Test, plain, behind, full, always, still, Goes, Fails, Admits}
-use Rattle.js_grammar.specs.Productions.{G, Flags, Symbol, at, op as op_node, other, if_next, not_then, is_one_of, word_or, function_on_line, tok, ListItem, Block, Empty, ExprStmt, Expression, Labeled, LabelIdentifier, Lexical, Sub, Break, Continue, Debugger, Do, If, Return, Throw, Var, While, With}
+use Rattle.js_grammar.specs.Productions.{G, Flags, Symbol, at, op as op_node, other, if_next, not_then, is_one_of, word_or, function_on_line, tok, ListItem, Block, Empty, ExprStmt, Expression, Labeled, LabelIdentifier, Lexical, Sub, Break, Continue, Debugger, Do, If, Return, Switch, Throw, Try, Var, While, With}
 use Rattle.js_grammar.specs.Productions.{BindingIdentifier}
 use Rattle.js_grammar.specs.Productions.{Function as AFunction}
 use Rattle.js_grammar.specs.Productions.{Statement as AStatement}
@@ -47,7 +47,7 @@ use Rattle.js_cursor.specs.Parsers.{Parser}
 use Rattle.js_cursor.specs.Moves.{MayEnd, EndsOr, GivesUp, IsUnexpected, OnlyMemory, ends_statement, is_last}
 use Rattle.js_cursor.specs.declared.stop.Stop.{Stop}
 use Rattle.js_cursor.specs.declared.stop.Stop.TheVariants.{Fatal, NoMemory}
-use Rattle.js_parsing.specs.Lexemes.{Lex, name_kinds, read_kinds}
+use Rattle.js_parsing.specs.Lexemes.{Lex, may_name, name_kinds, read_kinds}
 use Rattle.js_parsing.specs.States.{At, Same, NodesLie}
 use Rattle.js_parsing.specs.Moves.{IsWholeHere, Moved, MadeHere, LeafTaken, TakesLeaf, plain_label, unpassable}
 use Rattle.js_parsing.specs.Answers.{Underived, Answer, Numbered, Stops, beside}
@@ -55,7 +55,7 @@ use Rattle.js_parsing.specs.Statements.{placed, link_kinds, statement_kinds, no_
 use Rattle.js_declarations.specs.Declarations.{stops_row}
 use Rattle.js_parsing.proofs.Verdicts.{verdict_of, either_way}
 use Rattle.js_parsing.proofs.Moving.{moves, same_both, same_itself, same_with, beside_nodes}
-use Rattle.js_parsing.proofs.NameKinds.{name_whole}
+use Rattle.js_parsing.proofs.NameKinds.{name_whole, names_at, test_named}
 use Rattle.js_parsing.proofs.Here.{kind_here, newline_here, told, uncut}
 use Rattle.js_parsing.proofs.Dead.{live, lives}
 use Rattle.js_parsing.proofs.MadeNodes.{leaf_held, one_held, one_lies, LabelLies, from_start}
@@ -312,7 +312,7 @@ module _ {text : List ℕ} {f : Flags} where
 
 -- ---- what stands before
 
-pub statement_left : (f : Flags) → live (rule (at AStatement f)) ≡ alt (symbol Block f) (alt (symbol Empty f) (alt (symbol Var f) (alt (symbol If f) (alt (symbol Do f) (alt (symbol While f) (alt (symbol With f) (alt (symbol Continue f) (alt (symbol Break f) (alt (when f.return_ (symbol Return f)) (alt (symbol Throw f) (alt (symbol Debugger f) (symbol Labeled f))))))))))))
+pub statement_left : (f : Flags) → live (rule (at AStatement f)) ≡ alt (symbol Block f) (alt (symbol Empty f) (alt (symbol Var f) (alt (symbol If f) (alt (symbol Do f) (alt (symbol While f) (alt (symbol With f) (alt (symbol Continue f) (alt (symbol Break f) (alt (when f.return_ (symbol Return f)) (alt (symbol Throw f) (alt (symbol Switch f) (alt (symbol Try f) (alt (symbol Debugger f) (symbol Labeled f))))))))))))))
 unfolding rule rule_of apart
 statement_left f = refl
 
@@ -383,7 +383,7 @@ module _ {text : List ℕ} {f : Flags} {p q : Parser} (a : At text f p) (x : Ans
           go false e = absurd (not_here x.at (Colon ∷ []) refl (rw e refl) z h (or_left (same_kind Colon z.kind) false (and_parts (same_kind Colon z.kind) _ c).0))
 
       label : Lexes (Lex text) q.prev_token_end (next z rest) → y.to ≡ q.prev_token_end → IsLabel p.token q
-      label h e = let k = told a (name_whole a token_kind).0 y l in record { colon = colon_kind h.0; name = token_kind; plain = k.escaped ∙ read_plain y l.1; place = k.end ∙ e }
+      label h e = let k = told a (name_whole a token_kind).0 y l in record { colon = colon_kind h.0; name = sym (names_at x.at (λ (b : Bool). b) p.token.kind) ∙ subst (λ (v : Kind). may_name f.yield_ f.await_ v ≡ true) (sym k.kind) (test_named f y l.1 t); plain = k.escaped ∙ read_plain y l.1; place = k.end ∙ e }
 
   pub no_label : (X : Test) → Fails rule (Lex text) X end (symbol Labeled f) p.prev_token_end
   no_label X = labels_fail (λ y z rest l i t c. two_stand y z rest l i.0 i t c)
@@ -424,7 +424,8 @@ module _ {text : List ℕ} {f : Flags} {p : Parser} (a : At text f p) (n : one_o
   unfolding covers apart
   no_statement = fails_rule {X' = plain full} (λ l cs vs y e. (refl, refl)) (subst (λ (g : G). Goes rule (Lex text) (plain full) end (rule (at AStatement f)) p.prev_token_end g p.prev_token_end (λ us. us) (still 0)) (statement_left f) (lives (rule (at AStatement f)))
       ▹✗ fails_alt (none (symbol Block f) refl) (fails_alt (none (symbol Empty f) refl) (fails_alt (none (symbol Var f) refl) (fails_alt (none (symbol If f) refl) (fails_alt (none (symbol Do f) refl) (fails_alt (none (symbol While f) refl) (fails_alt (none (symbol With f) refl)
-      (fails_alt (none (symbol Continue f) refl) (fails_alt (none (symbol Break f) refl) (fails_alt (none (when f.return_ (symbol Return f)) refl) (fails_alt (none (symbol Throw f) refl) (fails_alt (none (symbol Debugger f) refl) (nl (plain full))))))))))))))
+      (fails_alt (none (symbol Continue f) refl) (fails_alt (none (symbol Break f) refl) (fails_alt (none (when f.return_ (symbol Return f)) refl) (fails_alt (none (symbol Throw f) refl)
+      (fails_alt (none (symbol Switch f) refl) (fails_alt (none (symbol Try f) refl) (fails_alt (none (symbol Debugger f) refl) (nl (plain full))))))))))))))))
 
   pub to_statement : (b : Bool) → LetIsName text b p.prev_token_end → Leads text (after_statement (placed b f)) (rule (placed b f)) p.prev_token_end (symbol ExprStmt f)
   unfolding apart covers
@@ -552,8 +553,8 @@ pub link_ends : {text : List ℕ} {f : Flags} (p q : Parser) (e : Stop) → At t
 link_ends p q e a v g = gives_up_here p q e a g (inl (and_parts p.token.is_on_new_line _ v).1)
 
 -- none of the kinds that begin a statement alone
-pub no_own_kind : (k : Kind) → (k ≡ LCurly → ⊥) → (k ≡ Semicolon → ⊥) → (k ≡ kind.If → ⊥) → (k ≡ kind.Do → ⊥) → (k ≡ kind.While → ⊥) → (k ≡ kind.With → ⊥) → (k ≡ kind.Break → ⊥) → (k ≡ kind.Continue → ⊥) → (k ≡ kind.Return → ⊥) → (k ≡ kind.Function → ⊥) → (k ≡ kind.Throw → ⊥) → (k ≡ kind.Debugger → ⊥) → (k ≡ kind.Var → ⊥) → (k ≡ kind.Const → ⊥) → one_of_kinds statement_kinds k ≡ false
-no_own_kind k m a b c d e f g r o h i j l = rw (not_kind LCurly k m, not_kind Semicolon k a, not_kind kind.If k b, not_kind kind.Do k c, not_kind kind.While k d, not_kind kind.With k e, not_kind kind.Break k f, not_kind kind.Continue k g, not_kind kind.Return k r, not_kind kind.Function k o, not_kind kind.Throw k h, not_kind kind.Debugger k i, not_kind kind.Var k j, not_kind kind.Const k l) refl
+pub no_own_kind : (k : Kind) → (k ≡ LCurly → ⊥) → (k ≡ Semicolon → ⊥) → (k ≡ kind.If → ⊥) → (k ≡ kind.Do → ⊥) → (k ≡ kind.While → ⊥) → (k ≡ kind.With → ⊥) → (k ≡ kind.Break → ⊥) → (k ≡ kind.Continue → ⊥) → (k ≡ kind.Return → ⊥) → (k ≡ kind.Function → ⊥) → (k ≡ kind.Throw → ⊥) → (k ≡ kind.Switch → ⊥) → (k ≡ kind.Try → ⊥) → (k ≡ kind.Debugger → ⊥) → (k ≡ kind.Var → ⊥) → (k ≡ kind.Const → ⊥) → one_of_kinds statement_kinds k ≡ false
+no_own_kind k m a b c d e f g r o h u v i j l = rw (not_kind LCurly k m, not_kind Semicolon k a, not_kind kind.If k b, not_kind kind.Do k c, not_kind kind.While k d, not_kind kind.With k e, not_kind kind.Break k f, not_kind kind.Continue k g, not_kind kind.Return k r, not_kind kind.Function k o, not_kind kind.Throw k h, not_kind kind.Switch k u, not_kind kind.Try k v, not_kind kind.Debugger k i, not_kind kind.Var k j, not_kind kind.Const k l) refl
 
 -- the code found no label
 pub no_colon : (p q : Parser) {t : Token} {b : Bool} → t ≡ p.token → IsTrue b ↔ IsLabel t q → b ≡ false → IsLabel p.token q → ⊥

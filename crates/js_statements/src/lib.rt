@@ -7,4 +7,6 @@ pub mod declaration_statement;
 pub mod function_statement;
 pub mod statement;
 pub mod statement_list;
+pub mod switch_statement;
+pub mod try_statement;
 pub mod word_statement;

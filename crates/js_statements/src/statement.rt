@@ -20,6 +20,8 @@ use crate::declaration_statement::{
     lexical_kind, parse_lexical_body, parse_lexical_declaration, parse_variable_statement,
 };
 use crate::function_statement::{parse_function_as_body, parse_function_declaration};
+use crate::switch_statement::parse_switch_statement;
+use crate::try_statement::parse_try_statement;
 use crate::word_statement::{
     parse_break_statement, parse_continue_statement, parse_debugger_statement,
     parse_return_statement, parse_throw_statement,
@@ -29,7 +31,7 @@ use js_cursor::{ParserImpl, Stop};
 use js_expressions::sequence::parse_sequence_expression;
 use js_lex::ParserConfig;
 use js_operands::primary::parse_leaf;
-use js_parsing::lexemes::{advance, is_name, stands};
+use js_parsing::lexemes::{advance, is_name_here, stands};
 use js_parsing::nested::Nested;
 use js_parsing::nodes::{make_leaf, make_one, make_two};
 use js_tree::{NodeId, NodeKind, Op};
@@ -99,6 +101,8 @@ fn parse_any_statement<C: ParserConfig, N: Nested<C>>(
         Kind::Continue => parse_continue_statement(p),
         Kind::Return => parse_return_statement(p, nested),
         Kind::Throw => parse_throw_statement(p, nested),
+        Kind::Switch => parse_switch_statement(p, nested),
+        Kind::Try => parse_try_statement(p, nested),
         Kind::Debugger => parse_debugger_statement(p),
         Kind::Var => parse_variable_statement(p, nested),
         _ => parse_expression_or_labeled_statement(p, nested),
@@ -164,7 +168,7 @@ fn is_label<C: ParserConfig>(p: &ParserImpl<'_, C>, first: Token) -> bool
     ensures { IsTrue result ↔ IsLabel first p.now }
 {
     p.at(Kind::Colon)
-        && is_name(first.kind())
+        && is_name_here(p, first.kind())
         && !first.escaped()
         && first.end() == p.prev_token_end()
 }
