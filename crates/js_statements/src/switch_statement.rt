@@ -56,8 +56,8 @@ pub fn parse_switch_statement<C: ParserConfig, N: Nested<C>>(
     Ok(node)
 }
 
-/// A CaseBlock (ECMA-262, section 14.12): clauses in braces.
-#[inline(never)]
+/// A CaseBlock (ECMA-262, section 14.12): clauses in braces. It takes no frame of its own, since statements nest in it.
+#[inline(always)]
 fn parse_case_block<C: ParserConfig, N: Nested<C>>(
     p: &mut ParserImpl<'_, C>,
     nested: &N,
@@ -74,6 +74,7 @@ fn parse_case_block<C: ParserConfig, N: Nested<C>>(
 }
 
 /// The clauses of a CaseBlock, up to its closing brace.
+#[inline(always)]
 fn parse_clauses<C: ParserConfig, N: Nested<C>>(
     p: &mut ParserImpl<'_, C>,
     nested: &N,
@@ -95,6 +96,7 @@ fn parse_clauses<C: ParserConfig, N: Nested<C>>(
 }
 
 /// A clause behind those that were read, and the DefaultClauses among all of them. The second one is told, and reading goes on.
+#[inline(always)]
 fn parse_next_clause<C: ParserConfig, N: Nested<C>>(
     p: &mut ParserImpl<'_, C>,
     nested: &N,
@@ -176,7 +178,7 @@ fn is_clause_due<C: ParserConfig>(p: &ParserImpl<'_, C>) -> bool
 }
 
 /// A CaseClause or a DefaultClause (ECMA-262, section 14.12).
-#[inline(never)]
+#[inline(always)]
 fn parse_clause<C: ParserConfig, N: Nested<C>>(
     p: &mut ParserImpl<'_, C>,
     nested: &N,
