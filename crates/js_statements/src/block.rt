@@ -38,7 +38,8 @@ pub fn parse_block_statement<C: ParserConfig, N: Nested<C>>(
     Ok(node)
 }
 
-/// A Block (ECMA-262, section 14.2).
+/// A Block (ECMA-262, section 14.2). It takes no frame of its own, since statements nest in it.
+#[inline(always)]
 pub fn parse_block<C: ParserConfig, N: Nested<C>>(
     p: &mut ParserImpl<'_, C>,
     nested: &N,
