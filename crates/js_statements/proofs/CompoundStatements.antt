@@ -61,12 +61,12 @@ use Rattle.js_statements.proofs.WordStatements.{Alone, alone_fails, alone_path, 
 
 -- ---- parts of a statement
 
-then_fails : {text : List ℕ} {X : Test} {a b : G} {s : ℕ} → Fails rule (Lex text) (plain full) end a s → Fails rule (Lex text) X end (seq a b) s
+pub then_fails : {text : List ℕ} {X : Test} {a b : G} {s : ℕ} → Fails rule (Lex text) (plain full) end a s → Fails rule (Lex text) X end (seq a b) s
 then_fails m = part_fails m (record { admits = λ ts us vs j k ls mid rest d d' e. (refl, refl) })
 
 module _ {text : List ℕ} {f : Flags} {X : Test} where
   -- a part, whatever stands behind it
-  then_part : {a b : G} {p q : Parser} {h : Slots → Slots} → Path text f (plain full) a p nothing q h → Path text f X (seq a b) p b q h
+  pub then_part : {a b : G} {p q : Parser} {h : Slots → Slots} → Path text f (plain full) a p nothing q h → Path text f X (seq a b) p b q h
   then_part x = record {
     at = x.at;
     further = x.further;
@@ -76,7 +76,7 @@ module _ {text : List ℕ} {f : Flags} {X : Test} where
   }
 
   -- a statement, the last part, by what may stand behind the whole
-  statement_read : {n : Symbol} {p q : Parser} {id : NodeId} (s : Statement text f n p q id) → On rule X (after_statement n) end (such n always) p.prev_token_end → Path text f X (such n always) p nothing q (tree s.label s.slots)
+  pub statement_read : {n : Symbol} {p q : Parser} {id : NodeId} (s : Statement text f n p q id) → On rule X (after_statement n) end (such n always) p.prev_token_end → Path text f X (such n always) p nothing q (tree s.label s.slots)
   statement_read s c = record { at = s.at; further = s.further; pass = s.pass; walked = s.walked; verdict = verdict_of s.verdict (λ y. record { reach = y.reach; near = y.near; goes = weaken_on y.goes c }) (λ n. weaken_fails_on n c) }
 
   -- or with something behind it
