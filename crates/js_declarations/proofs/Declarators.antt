@@ -57,7 +57,7 @@ use Rattle.js_parsing.proofs.Told.{told_at, told_same}
 use Rattle.js_parsing.proofs.Verdicts.{and_then, behind_none, either_way, grown_then, verdict_of}
 use Rattle.js_parsing.proofs.Verdicts.{after as grown_behind}
 
-eq_plain : (is_word Eq || same_kind PrivateIdentifier Eq) ≡ false
+pub eq_plain : (is_word Eq || same_kind PrivateIdentifier Eq) ≡ false
 unfolding words
 eq_plain = refl
 

@@ -1,5 +1,5 @@
 -- The first declarator in the head of a `for` (ECMA-262, 14.7.4, 14.7.5, B.3.5).
-use Rattle.std.proofs.Common.{ℕ, ◌≡◌, ◌<◌, ◌⊎◌, inl, inr, max, List, [], ◌∷◌, length, Option, Some, None, Bool, true, false, not, ◌&&◌, IsTrue, refl, sym, ap, subst, arith, ◌∙◌}
+use Rattle.std.proofs.Common.{ℕ, ◌≡◌, ◌<◌, ◌⊎◌, inl, inr, max, List, [], ◌∷◌, length, Option, Some, None, Bool, true, false, not, ◌&&◌, ◌||◌, IsTrue, refl, sym, ap, subst, arith, ◌∙◌}
 use Rattle.std.specs.Prelude.{IsCharBoundary, Result, Ok, Err}
 use Rattle.std.proofs.lemmas.Bool.{false≢true, and_from, and_parts}
 use Rattle.js_base.specs.declared.kind.Kind.{Kind}
@@ -7,7 +7,7 @@ use Rattle.js_base.specs.declared.kind.Kind.TheVariants.{Comma, Eq, In, LBrack, 
 use Rattle.js_base.specs.declared.span.Span.{Span}
 use Rattle.js_base.specs.Kinds.{same_kind, one_of_kinds}
 use Rattle.js_base.proofs.KindLemmas.{kind_of_same}
-use Rattle.js_grammar.specs.Trees.{Label, Slots, end, hole, tree, no_op, variable_declarator}
+use Rattle.js_grammar.specs.Trees.{Label, Slots, append, end, hole, tree, no_op, variable_declarator}
 use Rattle.js_grammar.specs.Grammar.{Lexeme, Lexemes, here, Look, seen, is, such, nothing, empty_slot, seq, Takes, is_nothing, is_lexeme, is_such, is_seq, is_left, is_right, is_empty_slot, is_node, is_commas, ◌▸◌}
 use Rattle.js_grammar.specs.Insertion.{Row}
 use Rattle.js_grammar.specs.Lexed.{Lexes}
@@ -25,40 +25,41 @@ use Rattle.js_tree.specs.declared.kind.NodeKind.TheVariants as node
 use Rattle.js_tree.specs.declared.op.Op.TheVariants as op
 use Rattle.js_tree.specs.Nodes.{Node}
 use Rattle.js_tree.specs.Holding.{Holds, HoldsAll, Keeps}
-use Rattle.js_tree.proofs.HoldingLemmas.{HoldsAll-one, HoldsAll-hole, Keeps-trans, Keeps-made}
+use Rattle.js_tree.proofs.HoldingLemmas.{HoldsAll-append, HoldsAll-kept, HoldsAll-one, HoldsAll-hole, Keeps-trans, Keeps-made}
 use Rattle.js_cursor.specs.Parsers.{Parser}
 use Rattle.js_cursor.specs.declared.stop.Stop.{Stop}
 use Rattle.js_parsing.specs.Answers.{Answer, Numbered, Stops, Stretch, Underived, Verdict}
 use Rattle.js_parsing.specs.Lexemes.{Lex, spot}
-use Rattle.js_parsing.specs.Moves.{Moved, MadeHere, plain_label}
+use Rattle.js_parsing.specs.Moves.{Moved, Moves, MadeHere, plain_label}
 use Rattle.js_parsing.specs.Stands.{NameHere, StandsHere}
 use Rattle.js_parsing.specs.States.{At, Same, NodesLie}
-use Rattle.js_declarations.specs.Declarations.{Declarator, EndsDeclarator, NoOne, list_of}
-use Rattle.js_declarations.specs.HeadDeclarators.{BesideThrough, BoundThrough, HeadRead, InitialisedAs, NoHeadDeclarator, ThroughHere, ValueRead, ValueTaken, bound_alone, goes_through, named_value}
+use Rattle.js_declarations.specs.Declarations.{Declarator, Declarators, DeclaratorsRead, EndsDeclarator, NoDeclarators, NoneOf, NoOne, list_of}
+use Rattle.js_declarations.specs.HeadDeclarators.{BesideThrough, BoundThrough, DeclaratorsBehind, HeadList, HeadRead, InitialisedAs, NoHeadDeclarator, NoneBehind, ThroughHere, ValueRead, ValueTaken, bound_alone, goes_through, named_value}
 use Rattle.js_declarations.specs.declared.head.HeadDeclarator.{HeadDeclarator}
 use Rattle.js_declarations.specs.declared.head.HeadForm.{HeadForm}
 use Rattle.js_declarations.specs.declared.head.HeadForm.TheVariants as form
-use Rattle.js_declarations.proofs.Declarators.{BindingRead, as_binding, bound, declared_bare, declared_with, initialiser_none, name_alone, no_eq_here, unbound}
+use Rattle.js_declarations.proofs.DeclaratorLists.{Underway, underway_end, underway_init, underway_step}
+use Rattle.js_declarations.proofs.Declarators.{BindingRead, as_binding, eq_plain, bound, declared_bare, declared_with, initialiser_none, name_alone, no_eq_here, unbound}
 use Rattle.js_patterns.proofs.Bindings.{no_binding, no_pattern_name}
 use Rattle.js_parsing.proofs.Giving.{fails_escaped}
 use Rattle.js_parsing.proofs.NameKinds.{no_name_here}
 use Rattle.js_parsing.specs.Lexemes.{name_kinds}
 use Rattle.js_parsing.proofs.MadeNodes.{node_held, two_held, made_lies}
 use Rattle.js_parsing.proofs.Moving.{beside_nodes, same_both, same_with, stops_behind}
-use Rattle.js_parsing.proofs.Paths.{Path, ◌⟶◌, ◌⟶✗◌, by_symbol_as, fails_at, label_here, last_called, noded, noded_by, token}
+use Rattle.js_parsing.proofs.Paths.{Path, ◌⟶◌, ◌⟶✗◌, by_symbol_as, fails_at, label_here, last_called, noded, noded_by, token, walked_both}
 use Rattle.js_parsing.proofs.Signs.{plain_sign, stands_not, stands_there}
-use Rattle.js_parsing.proofs.Verdicts.{either_way, grown_then, verdict_of}
+use Rattle.js_parsing.proofs.Verdicts.{and_then, either_way, grown_then, verdict_of}
 use Rattle.js_parsing.proofs.Verdicts.{after as grown_behind}
 
 -- ---- whether `in` or `of` stands there
 
 through_look : {text : List ℕ} {f : Flags} {q : Parser} → At text f q → ThroughHere q true → (y : Lexeme) → Lex text q.prev_token_end y → IsTrue (seen goes_through y)
-through_look a h y l = by h
+through_look {q = q} a h y l = by h
   where
-    with_kind : (k : Kind) → one_of_kinds (In ∷ Of ∷ []) k ≡ true → same_kind RAngle k ≡ false → StandsHere _ k true → IsTrue (seen goes_through y)
+    with_kind : (k : Kind) → one_of_kinds (In ∷ Of ∷ []) k ≡ true → same_kind RAngle k ≡ false → StandsHere q k true → IsTrue (seen goes_through y)
     with_kind k m r s = let z = stands_there a s.0 r y l in and_from (one_of_kinds (In ∷ Of ∷ []) y.kind) (not y.escaped) (ap (one_of_kinds (In ∷ Of ∷ [])) z.0 ∙ m) (ap not z.1)
 
-    by : ThroughHere _ true → IsTrue (seen goes_through y)
+    by : ThroughHere q true → IsTrue (seen goes_through y)
     by (inl s) = with_kind In refl refl s
     by (inr s) = with_kind Of refl refl s
 
@@ -186,7 +187,7 @@ no_named_value : {text : List ℕ} {f : Flags} {p : Parser} {X : Test} → At te
 no_named_value a h = fails_node inside_full (part_fails {X' = plain full} (no_identifier a h) (record { admits = λ ts us vs j k ls mid rest d d' e. (refl, refl) }))
 
 module _ {text : List ℕ} {f : Flags} {p q : Parser} (i : f.in_ ≡ false) (a : At text f p) (x : Answer text f (at Binding f) p q) (h : NameHere p true) (n : q.token.kind ≡ Eq) where
-  name_read : {X : Test} → BindingRead a x → Goes rule (Lex text) X end (symbol BindingIdentifier f) p.prev_token_end nothing q.prev_token_end (tree x.label x.slots) (record { reach = u.reach; pass = x.pass })
+  name_read : {X : Test} → (u : BindingRead a x) → Goes rule (Lex text) X end (symbol BindingIdentifier f) p.prev_token_end nothing q.prev_token_end (tree x.label x.slots) (record { reach = u.reach; pass = x.pass })
   name_read u = record {
     passes = u.goes.passes;
     sound = λ us vs k ls rest l r d. name_as a h (u.goes.passes.lexed ls l) (u.goes.sound us vs k ls rest l r d);
@@ -213,7 +214,7 @@ module _ {text : List ℕ} {f : Flags} {p q : Parser} (i : f.in_ ≡ false) (a :
 
     sign_read : {X : Test} → Path text f X (tok Eq ▸ symbol Assignment f) q (symbol Assignment f) r (λ us. us)
     unfolding rule
-    sign_read = token Eq x.at n (plain_sign Eq x.at n refl refl refl) refl m
+    sign_read = token Eq x.at n (plain_sign Eq x.at n refl refl eq_plain) refl m
 
     no_value_there : Underived text (at Assignment f) r.prev_token_end → Fails rule (Lex text) (plain (is In)) end (named_value f) p.prev_token_end
     unfolding rule rule_of
@@ -221,13 +222,13 @@ module _ {text : List ℕ} {f : Flags} {p q : Parser} (i : f.in_ ≡ false) (a :
 
     value_path : {v : Parser} → (y : Answer text f (at Assignment f) r v) → Path text f (plain (is In)) (named_value f) p nothing v (tree (label_here variable_declarator no_op p v) (tree x.label x.slots (tree y.label y.slots end)))
     unfolding rule rule_of
-    value_path y = noded_by a (record { ends = λ s cs vs j ls mid d e. e }) (then_value ⟶ by_symbol_as {X' = plain (is In)} (λ l cs vs y e. e) (sign_read ⟶ last_called y on_value))
+    value_path y = noded_by {X' = plain (is In)} a (record { ends = λ s cs vs j ls mid d e. e }) (then_value ⟶ by_symbol_as {X' = plain (is In)} (λ l cs vs y e. e) (sign_read ⟶ last_called y on_value))
 
 -- ---- what the call answers
 
-not_equals : {q : Parser} → ThroughHere q true → q.token.kind ≡ Eq → ⊥
-not_equals (inl s) e = let k : In ≡ Eq = sym s.0 ∙ e in cc
-not_equals (inr s) e = let k : Of ≡ Eq = sym s.0 ∙ e in cc
+not_equals : (q : Parser) → ThroughHere q true → q.token.kind ≡ Eq → ⊥
+not_equals q (inl s) e = let k : In ≡ Eq = sym s.0 ∙ e in cc
+not_equals q (inr s) e = let k : Of ≡ Eq = sym s.0 ∙ e in cc
 
 pub bound_answers : {text : List ℕ} {f : Flags} {p q w : Parser} {binding id : NodeId} (c : Bool) → At text f p → Numbered text f (at Binding f) p q binding → ThroughHere q true → (s : Span) → s.start ≡ p.token.span.start → s.end ≡ q.prev_token_end → MadeHere (plain_label node.VariableDeclarator op.None s) (Some binding ∷ None ∷ []) q w id → BoundThrough text f c p w id
 bound_answers {text} {f} {p} {q} {w} {binding} {id} c a x h s b d n =
@@ -247,7 +248,7 @@ bound_answers {text} {f} {p} {q} {w} {binding} {id} c a x h s b d n =
       walked = path.walked;
       verdict = path.verdict;
       no_list = no_list_read a x.answer c h;
-      no_value = no_value_read a x.answer (not_equals h);
+      no_value = no_value_read a x.answer (not_equals q h);
       holds = subst (λ (z : Parser). Holds z.nodes (length p.nodes) (length z.nodes) id.0 (label_here variable_declarator no_op p q) (tree x.answer.label x.answer.slots (hole end))) m g;
       keeps = subst (λ (z : Parser). Keeps p.nodes z.nodes) m k;
     })
@@ -301,3 +302,37 @@ none_at_head c a h = no_head_declarator c (no_binding a (λ k e. false≢true (a
 
 pub through_so : (p : Parser) {b r : Bool} → r ≡ b → ThroughHere p r → ThroughHere p b
 through_so p e h = subst (λ (v : Bool). ThroughHere p v) e h
+
+-- ---- the list of a head
+
+first_alone : {text : List ℕ} {f : Flags} {c : Bool} {o p : Parser} {first : NodeId} → At text f o → Declarator text f c o p first → (p.token.kind ≡ Comma → ⊥) → HeadList text f c o p (Some first ∷ [])
+first_alone a x n = let y = underway_end (underway_init a) x n in record { at = y.at; same = y.same; further = y.further; slots = y.slots; pass = y.pass; walked = y.walked; verdict = y.verdict; holds = y.holds; keeps = y.keeps }
+
+pub list_alone : {c : Bool} {p q : Parser} {first : NodeId} {ids : List (Option NodeId)} → ids ≡ Some first ∷ [] → q ≡ p → (p.token.kind ≡ Comma → ⊥) → DeclaratorsBehind c first p q ids
+list_alone {c} {p} {q} {first} {ids} e s n = ((λ k. s), (λ text f o a x. subst (λ (v : Parser). HeadList text f c o v ids) (sym s) (subst (λ (is : List (Option NodeId)). HeadList text f c o p is) (sym e) (first_alone a x n))))
+
+module _ {text : List ℕ} {f : Flags} {c : Bool} {o p q : Parser} {first : NodeId} (a : At text f o) (x : Declarator text f c o p first) (k : p.token.kind ≡ Comma) (m : Moved text f p q) where
+  underway : Underway text f c o q (Some first ∷ [])
+  underway = underway_step (underway_init a) x k m
+
+  others_stop : (v : Parser) (e : Stop) → Stops q v e (NoneOf text (list_of c f) q.prev_token_end) → Stops o v e (NoneOf text (list_of c f) o.prev_token_end)
+  others_stop v e s = let u = underway in stops_behind v e u.same (λ g. grown_behind u.verdict g) (λ n. either_way u.verdict (λ w. w.fails n) (λ z. z)) s
+
+  with_others : {v : Parser} {ids : List (Option NodeId)} → Declarators text f c q v ids → HeadList text f c o v (Some first ∷ ids)
+  with_others {v} {ids} y = let u = underway in record {
+    at = y.at;
+    same = same_both u.same y.same;
+    further = let i = u.forward in let j = y.further in omega arith;
+    slots = append u.prefix y.slots;
+    pass = λ ls. u.pass (y.pass ls);
+    walked = walked_both u.walked y.walked;
+    verdict = and_then u.verdict y.verdict (λ w z. w.goes v.prev_token_end y.slots y.pass z (let j = y.further in omega arith)) (λ z. z) (λ w n. w.fails n);
+    holds = HoldsAll-append (HoldsAll-kept y.keeps u.holds) y.holds;
+    keeps = Keeps-trans u.keeps y.keeps;
+  }
+
+pub list_more : {c : Bool} {p q v : Parser} {first : NodeId} {js ids : List (Option NodeId)} → ids ≡ Some first ∷ js → p.token.kind ≡ Comma → Moves p q → DeclaratorsRead c q v js → DeclaratorsBehind c first p v ids
+list_more {c} {p} {q} {v} {first} {js} {ids} e k m y = ((λ n. absurd (n k)), (λ text f o a x. subst (λ (is : List (Option NodeId)). HeadList text f c o v is) (sym e) (let w = m text f x.at in with_others a x k w (y text f w.at))))
+
+pub list_stops : {c : Bool} {p q : Parser} {first : NodeId} (v : Parser) (e : Stop) → p.token.kind ≡ Comma → Moves p q → NoDeclarators c q v e → NoneBehind c first p v e
+list_stops v e k m y = λ text f o a x. let w = m text f x.at in others_stop a x k w v e (y text f w.at)

@@ -1,6 +1,6 @@
 -- What is read of the first declarator in the head of a `for` (ECMA-262, 14.7.4, 14.7.5, B.3.5).
-use Rattle.std.specs.Prelude.{ℕ, ◌≡◌, ◌<◌, ◌⊎◌, ◌&&◌, not, Bool, true, false, List, [], ◌∷◌, length, Result, Ok, Err}
-use Rattle.js_base.specs.declared.kind.Kind.TheVariants.{In, Of, Semicolon}
+use Rattle.std.specs.Prelude.{ℕ, ◌≡◌, ◌<◌, ◌⊎◌, ◌&&◌, not, Bool, true, false, List, [], ◌∷◌, length, Option, Result, Ok, Err}
+use Rattle.js_base.specs.declared.kind.Kind.TheVariants.{Comma, In, Of, Semicolon}
 use Rattle.js_base.specs.Kinds.{one_of_kinds}
 use Rattle.js_grammar.specs.Trees.{Label, Slots, end as no_slots, tree, variable_declarator}
 use Rattle.js_grammar.specs.Grammar.{Lexemes, Look, is, empty_slot, nothing, ◌▸◌}
@@ -8,14 +8,14 @@ use Rattle.js_grammar.specs.Parsing.{plain, full, Fails}
 use Rattle.js_grammar.specs.Productions.{G, Flags, mk, sym, Binding, BindingIdentifier, Init}
 use Rattle.js_grammar.specs.Table.{rule, declarator}
 use Rattle.js_tree.specs.declared.id.NodeId.{NodeId}
-use Rattle.js_tree.specs.Holding.{Holds, Keeps}
+use Rattle.js_tree.specs.Holding.{Holds, HoldsAll, Keeps}
 use Rattle.js_cursor.specs.Parsers.{Parser}
 use Rattle.js_cursor.specs.declared.stop.Stop.{Stop}
 use Rattle.js_parsing.specs.Answers.{Verdict, Stretch, Stops}
 use Rattle.js_parsing.specs.Lexemes.{Lex, Walked, spot}
 use Rattle.js_parsing.specs.Stands.{StandsHere}
 use Rattle.js_parsing.specs.States.{At, Same}
-use Rattle.js_declarations.specs.Declarations.{Declarator, NoOne, list_of}
+use Rattle.js_declarations.specs.Declarations.{AllOf, Declarator, NoneOf, NoOne, list_of}
 use Rattle.js_declarations.specs.declared.head.HeadDeclarator.{HeadDeclarator}
 use Rattle.js_declarations.specs.declared.head.HeadForm.{HeadForm}
 use Rattle.js_declarations.specs.declared.head.HeadForm.TheVariants as form
@@ -91,3 +91,24 @@ HeadRead g text f c p q d = BesideThrough text f c g p q d.node
 abbrev pub ReadsHeadDeclarator : Bool → Parser → Parser → Result HeadDeclarator Stop → Type 0
 ReadsHeadDeclarator c p q (Ok d) = (text : List ℕ) (f : Flags) → At text f p → HeadRead d.form text f c p q d
 ReadsHeadDeclarator c p q (Err e) = (text : List ℕ) (f : Flags) → At text f p → Stops p q e (NoHeadDeclarator text f c p.prev_token_end)
+
+-- ---- the list of a head
+
+-- All declarators were read, from the first one on.
+pub record HeadList (text : List ℕ) (f : Flags) (c : Bool) (p q : Parser) (ids : List (Option NodeId)) : Type 0 where
+  pub at : At text f q
+  pub same : Same p q
+  pub further : p.prev_token_end < q.prev_token_end
+  pub slots : Slots
+  pub pass : Lexemes → Lexemes
+  pub walked : Walked text (spot p) (spot q) pass
+  pub verdict : Verdict p.errors q.errors (AllOf text (list_of c f) p.prev_token_end q.prev_token_end slots pass) (NoneOf text (list_of c f) p.prev_token_end)
+  pub holds : HoldsAll q.nodes (length p.nodes) (length q.nodes) ids slots
+  pub keeps : Keeps p.nodes q.nodes
+
+-- the first one was read from the state o on; nothing more was, where no comma stands behind it
+abbrev pub DeclaratorsBehind : Bool → NodeId → Parser → Parser → List (Option NodeId) → Type 0
+DeclaratorsBehind c first p q ids = ((p.token.kind ≡ Comma → ⊥) → q ≡ p) × ((text : List ℕ) (f : Flags) (o : Parser) → At text f o → Declarator text f c o p first → HeadList text f c o q ids)
+
+abbrev pub NoneBehind : Bool → NodeId → Parser → Parser → Stop → Type 0
+NoneBehind c first p q e = (text : List ℕ) (f : Flags) (o : Parser) → At text f o → Declarator text f c o p first → Stops o q e (NoneOf text (list_of c f) o.prev_token_end)

@@ -1,12 +1,12 @@
 //! The first declarator in the head of a `for` (ECMA-262, sections 14.7.4, 14.7.5 and B.3.5). `in` is no operator there.
 
-ghost use Rattle.std.specs.Prelude.{◌≡◌};
+ghost use Rattle.std.specs.Prelude.{MatchResult};
 ghost use Rattle.js_parsing.specs.Nesting.{CanNest, room};
 ghost use Rattle.js_parsing.specs.States.{Standing};
 ghost use Rattle.js_declarations.specs.Declarations.{is_constant};
-ghost use Rattle.js_declarations.specs.HeadDeclarators.{InitialisedAs, ReadsHeadDeclarator, ThroughHere};
+ghost use Rattle.js_declarations.specs.HeadDeclarators.{DeclaratorsBehind, InitialisedAs, NoneBehind, ReadsHeadDeclarator, ThroughHere};
 
-use crate::declaration::make_bare_declarator;
+use crate::declaration::{make_bare_declarator, parse_declarators};
 use js_base::Kind;
 use js_cursor::{ParserImpl, Stop};
 use js_lex::ParserConfig;
@@ -70,6 +70,28 @@ pub fn parse_head_declarator<C: ParserConfig, N: Nested<C>>(
     let node_kind = NodeKind::VariableDeclarator;
     let node = make_two(p, node_kind, Op::None, span, binding, initialiser)?;
     Ok(HeadDeclarator { node, form: initialised_form(is_name) })
+}
+
+/// All declarators of a head, of which the first one was read up to here: the others stand behind a comma.
+pub fn parse_declarators_behind<C: ParserConfig, N: Nested<C>>(
+    p: &mut ParserImpl<'_, C>,
+    nested: &N,
+    kind: DeclarationKind,
+    first: NodeId,
+) -> Result<Vec<Option<NodeId>>, Stop>
+    requires at { Standing p.old }
+    requires nests { CanNest (N.can nested.now) (room p.old) }
+    ensures { MatchResult result (λ v. DeclaratorsBehind (is_constant kind) first p.old p.new v.items) (λ e. NoneBehind (is_constant kind) first p.old p.new e) }
+{
+    if !p.at(Kind::Comma) {
+        let mut declarators = Vec::new(p.alloc);
+        declarators.push(Some(first))?;
+        return Ok(declarators);
+    }
+    advance(p)?;
+    let mut declarators = parse_declarators(p, nested, kind)?;
+    declarators.insert(0, Some(first))?;
+    Ok(declarators)
 }
 
 /// A name or a pattern, with an initialiser.

@@ -1,6 +1,6 @@
 -- The heads of `for` statements, between their parentheses (ECMA-262, 14.7.4, 14.7.5).
 use Rattle.std.proofs.Common.{ℕ, ◌≡◌, ◌≤◌, ◌<◌, ◌⊎◌, inl, inr, max, List, [], ◌∷◌, ◌++◌, length, Option, Some, None, Bool, true, false, not, ◌&&◌, IsTrue, refl, sym, ap, subst, arith, ◌∙◌}
-use Rattle.std.specs.Prelude.{Ok, Err}
+use Rattle.std.specs.Prelude.{Result, Ok, Err}
 use Rattle.std.proofs.lemmas.Bool.{false≢true, and_parts}
 use Rattle.js_base.specs.declared.diagnostic.Diagnostic.{Diagnostic}
 use Rattle.js_base.specs.declared.diagnostic.DiagnosticKind.TheVariants.{ExpectToken}
@@ -41,7 +41,7 @@ use Rattle.js_parsing.specs.Stands.{StandsHere}
 use Rattle.js_parsing.specs.States.{At, Same}
 use Rattle.js_statements.specs.declared.for_statement.Ending.{Ending}
 use Rattle.js_statements.specs.declared.for_statement.Ending.TheVariants as ending
-use Rattle.js_statements.specs.ForHeads.{EndsPart, FirstTaken, HeadTaken, NoFirst, NoHead, NoParensHead, NoPart, NoRest, ParensHeadTaken, PartTaken, RestTaken, TakesRest, behind_head, behind_rest, behind_slot, end_kind, first_part, head_part, rest_part}
+use Rattle.js_statements.specs.ForHeads.{EndsPart, FirstTaken, HeadTaken, NoFirst, NoHead, NoParensHead, NoPart, NoRest, ParensHeadTaken, PartTaken, RestTaken, TakesFirst, TakesHead, TakesRest, behind_head, behind_rest, behind_slot, end_kind, first_part, head_part, rest_part}
 use Rattle.js_parsing.proofs.Moving.{same_both, same_itself, stops_behind}
 use Rattle.js_parsing.proofs.Paths.{Path, ◌⟶◌, ◌⟶✗◌, fails_at, last_called, last_token, skips, token, walked_both, walked_one}
 use Rattle.js_parsing.proofs.Signs.{plain_sign, stands_not}
@@ -165,7 +165,7 @@ module _ {text : List ℕ} {f : Flags} {p : Parser} (a : At text f p) where
   }
 
   -- its end doesn't stand here
-  no_empty : (k : Kind) → EndsPart k → (p.token.kind ≡ k → ⊥) → Fails rule (Lex text) (plain (is k)) end empty_slot p.prev_token_end
+  pub no_empty : (k : Kind) → EndsPart k → (p.token.kind ≡ k → ⊥) → Fails rule (Lex text) (plain (is k)) end empty_slot p.prev_token_end
   no_empty k h n = record { no = λ ts vs j ls rest l d e. go l d e.0 }
     where
       go : {ts vs : Slots} {j : ℕ} {ls rest : Lexemes} → Lexes (Lex text) p.prev_token_end ls → Takes rule empty_slot end ts p.prev_token_end ls vs j rest → IsTrue (seen (is k) (here rest)) → ⊥
@@ -392,6 +392,13 @@ module _ {text : List ℕ} {f : Flags} {p q : Parser} {first : Option NodeId} (x
       held = r.held (length p.nodes) (x.slots end) x.held;
       keeps = Keeps-trans x.keeps r.keeps;
     }
+
+pub first_stops : {text : List ℕ} {f : Flags} {s : ℕ} (d : Ending) → NoFirst text d f s → NoHead text d f s
+first_stops {f = f} {s} d n = part_fails n (first_between d f _ s)
+
+pub head_answers : {p q v : Parser} {first : Option NodeId} (ids js : List (Option NodeId)) (r : Result Ending Stop) → ids ≡ first ∷ [] → TakesFirst p q (Ok first) → TakesRest q v ids js r → TakesHead p v js r
+head_answers {p} {q} {v} {first} ids js (Ok e) i x y = λ text f a. let z = x text f a in head_taken z a (subst (λ (is : List (Option NodeId)). RestTaken text f e q v is js) i (y text f z.at))
+head_answers {p} {q} {v} {first} ids js (Err s) i x y = λ text f a. let z = x text f a in rest_stops z v s (y text f z.at)
 
 -- ---- in its parentheses
 

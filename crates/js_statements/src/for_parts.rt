@@ -1,23 +1,27 @@
 //! The first part of the head of a `for` (ECMA-262, sections 14.7.4, 14.7.5 and B.3.5), where `in` is no operator.
 
-ghost use Rattle.std.specs.Prelude.{◌≡◌, ◌≤◌, true, false, length, MatchResult};
+ghost use Rattle.std.specs.Prelude.{◌≡◌, ◌≤◌, true, false, MatchResult};
 ghost use Rattle.js_base.specs.Contexts.{has_flag, in_flag};
 ghost use Rattle.js_cursor.specs.Moves.{OnlyMemory};
 ghost use Rattle.js_parsing.specs.Nesting.{CanNest, room};
 ghost use Rattle.js_parsing.specs.States.{Standing};
-ghost use Rattle.js_statements.specs.ForParts.{BeginsHead, FindsHead, TakesPartWithoutIn};
+ghost use Rattle.js_base.specs.declared.kind.Kind.TheVariants.{Semicolon};
+ghost use Rattle.js_declarations.specs.HeadDeclarators.{ThroughHere};
+ghost use Rattle.js_targets.specs.Taken.{EndsTarget};
+ghost use Rattle.js_statements.specs.ForParts.{BeginsHead, FindsHead, HeadExpressionRead, NoneBegins, TakesHeadTarget, TakesPartWithoutIn};
 
 use crate::declaration_statement::begins_let_declaration;
 use js_base::{DiagnosticKind, Kind, NoMemory, Span};
 use js_cursor::{ParserImpl, Stop};
-use js_declarations::declaration::parse_declarators;
-use js_declarations::head::{HeadForm, goes_through, parse_head_declarator};
+use js_declarations::head::{
+    HeadForm, goes_through, parse_declarators_behind, parse_head_declarator,
+};
 use js_expressions::sequence::parse_sequence_expression;
 use js_lex::ParserConfig;
 use js_parsing::diagnostics::{diagnostic_at, kept_so_far};
 use js_parsing::lexemes::{advance, stands};
 use js_parsing::nested::Nested;
-use js_parsing::nodes::make_list;
+use js_parsing::nodes::{make_list, make_one};
 use js_targets::array_target::literal_target;
 use js_targets::cover::{cover, is_array_or_object, refuse_target};
 use js_tree::{DeclarationKind, NodeId, NodeKind, Op};
@@ -27,6 +31,11 @@ pub fn parse_part_without_in<C: ParserConfig, N: Nested<C>>(
     p: &mut ParserImpl<'_, C>,
     nested: &N,
 ) -> Result<NodeId, Stop>
+    requires at { Standing p.old }
+    requires nests { CanNest (N.can nested.now) (room p.old) }
+    requires no_in { has_flag in_flag p.old.ctx ≡ false }
+    requires other { p.old.token.kind ≡ Semicolon → ⊥ }
+    ensures { TakesPartWithoutIn p.old p.new result }
 {
     match head_kind(p)? {
         Some(kind) => parse_head_declaration(p, nested, kind),
@@ -36,6 +45,8 @@ pub fn parse_part_without_in<C: ParserConfig, N: Nested<C>>(
 
 /// The kind of the declaration that begins in the head of a `for`; none where no declaration does.
 fn head_kind<C: ParserConfig>(p: &mut ParserImpl<'_, C>) -> Result<Option<DeclarationKind>, Stop>
+    requires { Standing p.old }
+    ensures { MatchResult result (λ found. FindsHead p.old p.new found) OnlyMemory }
 {
     if stands(p, Kind::Var) {
         return Ok(Some(DeclarationKind::Var));
@@ -55,6 +66,12 @@ fn parse_head_expression<C: ParserConfig, N: Nested<C>>(
     p: &mut ParserImpl<'_, C>,
     nested: &N,
 ) -> Result<NodeId, Stop>
+    requires at { Standing p.old }
+    requires nests { CanNest (N.can nested.now) (room p.old) }
+    requires no_in { has_flag in_flag p.old.ctx ≡ false }
+    requires other { p.old.token.kind ≡ Semicolon → ⊥ }
+    requires none { NoneBegins p.old }
+    ensures { TakesPartWithoutIn p.old p.new result }
 {
     let start = p.cur_start();
     let kept = kept_so_far(p);
@@ -78,6 +95,13 @@ fn head_target<C: ParserConfig>(
     expression: NodeId,
     kept: usize,
 ) -> Result<NodeId, Stop>
+    requires at { Standing p.old }
+    requires start { start ≤ p.old.prev_token_end }
+    requires whole { p.old.cut ≡ false }
+    requires sign { EndsTarget p.old }
+    requires through { ThroughHere p.old true }
+    requires read { HeadExpressionRead start expression kept p.old }
+    ensures { TakesHeadTarget start expression kept p.old p.new result }
 {
     if is_array_or_object(p, expression) {
         return literal_target(p, start, expression, kept);
@@ -94,69 +118,60 @@ fn parse_head_declaration<C: ParserConfig, N: Nested<C>>(
     nested: &N,
     kind: DeclarationKind,
 ) -> Result<NodeId, Stop>
+    requires at { Standing p.old }
+    requires nests { CanNest (N.can nested.now) (room p.old) }
+    requires no_in { has_flag in_flag p.old.ctx ≡ false }
+    requires begins { BeginsHead kind p.old }
+    ensures { TakesPartWithoutIn p.old p.new result }
 {
     let start = p.cur_start();
     advance(p)?;
     let first = parse_head_declarator(p, nested, kind)?;
-    let declarators = parse_other_declarators(p, nested, kind, first.node)?;
-    let span = p.end_span(start);
-    tell_head_fault(p, kind, first.form, declarators.len(), span)?;
     let op = Op::Declaration(kind);
+    if let HeadForm::Through = first.form {
+        let span = p.end_span(start);
+        let node = make_one(p, NodeKind::VariableDeclaration, op, span, first.node)?;
+        return Ok(node);
+    }
+    let alone = !p.at(Kind::Comma);
+    let declarators = parse_declarators_behind(p, nested, kind, first.node)?;
+    let span = p.end_span(start);
+    tell_head_fault(p, kind, first.form, alone, span)?;
     let node = make_list(p, NodeKind::VariableDeclaration, op, span, declarators)?;
     Ok(node)
 }
 
-/// All declarators of a head, of which the first one was read.
-fn parse_other_declarators<C: ParserConfig, N: Nested<C>>(
-    p: &mut ParserImpl<'_, C>,
-    nested: &N,
-    kind: DeclarationKind,
-    first: NodeId,
-) -> Result<Vec<Option<NodeId>>, Stop>
-{
-    if !p.at(Kind::Comma) {
-        let mut declarators = Vec::new(p.alloc);
-        declarators.push(Some(first))?;
-        return Ok(declarators);
-    }
-    advance(p)?;
-    let mut declarators = parse_declarators(p, nested, kind)?;
-    declarators.insert(0, Some(first))?;
-    Ok(declarators)
-}
-
-/// Tells what is wrong with so many declarators before `in` or `of`: there is one, without an initialiser. A name behind `var`
-/// may have one before `in` (ECMA-262, sections 14.7.5 and B.3.5).
+/// Tells what is wrong with declarators before `in` or `of`, of which the first one isn't bound alone, or stands before others. A
+/// name alone behind `var` may have an initialiser before `in` (ECMA-262, sections 14.7.5 and B.3.5).
 fn tell_head_fault<C: ParserConfig>(
     p: &mut ParserImpl<'_, C>,
     kind: DeclarationKind,
     form: HeadForm,
-    count: usize,
+    alone: bool,
     span: Span,
 ) -> Result<(), NoMemory>
 {
     if !goes_through(p) {
         return Ok(());
     }
-    match head_fault(kind, form, count, p.at(Kind::In)) {
+    match head_fault(kind, form, alone, p.at(Kind::In)) {
         Some(fault) => p.error(diagnostic_at(fault, span)),
         None => Ok(()),
     }
 }
 
-/// The fault of so many declarators before `in` or, else, `of`, of which the first has this form.
+/// The fault of declarators before `in` or, else, `of`, of which the first has this form.
 fn head_fault(
     kind: DeclarationKind,
     form: HeadForm,
-    count: usize,
+    alone: bool,
     before_in: bool,
 ) -> Option<DiagnosticKind>
 {
-    if count != 1 {
+    if !alone {
         return Some(DiagnosticKind::MultipleDeclarationsInForLoopHead);
     }
     match (form, kind) {
-        (HeadForm::Through | HeadForm::Bare, _) => None,
         (HeadForm::InitialisedName, DeclarationKind::Var) if before_in => None,
         (_, DeclarationKind::Let | DeclarationKind::Const) if before_in => {
             Some(DiagnosticKind::InitializerInForInLexicalDeclaration)

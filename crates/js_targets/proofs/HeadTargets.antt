@@ -37,12 +37,12 @@ through_covered : covers goes_through (behind_target false) ≡ true
 unfolding covers
 through_covered = refl
 
-pub goes_behind : {f : Flags} → f.in_ ≡ false → (y : Lexeme) → IsTrue (seen goes_through y) → IsTrue (seen (behind_target f.in_) y)
-goes_behind i y h = subst (λ (b : Bool). IsTrue (seen (behind_target b) y)) (sym i) (covered goes_through (behind_target false) through_covered y.kind y.newline y.escaped h)
+pub goes_behind : (f : Flags) → f.in_ ≡ false → (y : Lexeme) → IsTrue (seen goes_through y) → IsTrue (seen (behind_target f.in_) y)
+goes_behind f i y h = subst (λ (b : Bool). IsTrue (seen (behind_target b) y)) (sym i) (covered goes_through (behind_target false) through_covered y.kind y.newline y.escaped h)
 
 -- so before these
 pub before_these : {text : List ℕ} {f : Flags} {s : ℕ} → f.in_ ≡ false → Fails rule (Lex text) (signs f) end (symbol Target f) s → NoTargetFrom text f s
-before_these i n = weaken_fails_on n (record { admits = λ ts vs k ls rest d e. (goes_behind i (here rest) e.0, refl) })
+before_these {f = f} i n = weaken_fails_on n (record { admits = λ ts vs k ls rest d e. (goes_behind f i (here rest) e.0, refl) })
 
 -- ---- targets of the one kind or the other
 
@@ -91,7 +91,7 @@ none_before {text} {f} {p} {q} i x n = record { no = λ ts vs k ls rest l d e. g
     go : (ts vs : Slots) (k : ℕ) (ls rest : Lexemes) → Lexes (Lex text) p.prev_token_end ls → Takes rule (such (at Target f) always) end ts p.prev_token_end ls vs k rest → Admits (plain goes_through) ts (here rest) → ⊥
     go ts vs k ls rest l d e =
         let u = as_short text f (not_wide x.at) (is_cover x.at) l d in
-        let a = u.fits (here rest) (goes_behind i (here rest) e.0) in
+        let a = u.fits (here rest) (goes_behind f i (here rest) e.0) in
         either_way x.verdict
         (λ z. let y = z.goes.only (tree u.label u.slots vs) vs k ls rest l u.takes a in n (here rest) (here_at (Lex text) rest (subst (λ (v : Lexemes). Lexes (Lex text) q.prev_token_end v) (ends y.4).2 y.3)) e.0)
         (λ z. z.no (tree u.label u.slots vs) vs k ls rest l u.takes a)
