@@ -13,7 +13,7 @@ use Rattle.js_grammar.specs.Trees.{Label, Slots, append, end, hole, tree}
 use Rattle.js_grammar.specs.Grammar.{Lexeme, Lexemes, next, here, seen, is, such, empty_slot, nothing, seq, Takes, is_lexeme, is_seq, is_such, is_empty_slot, ◌▸◌, ◌◇◌}
 use Rattle.js_grammar.specs.Lexed.{Lexes}
 use Rattle.js_grammar.specs.Parsing.{Test, plain, full, always, passing, Admits, Goes, Fails}
-use Rattle.js_grammar.specs.Productions.{G, Flags, Symbol, at, parens, slot, tok, Assignment, Expression}
+use Rattle.js_grammar.specs.Productions.{G, Flags, Symbol, at, parens, slot, tok, Assignment, Expression, ForInit}
 use Rattle.js_grammar.specs.Productions.{sym as symbol}
 use Rattle.js_grammar.specs.Table.{rule}
 use Rattle.js_grammar.specs.Follow.{after, surest}
@@ -131,26 +131,38 @@ part_ends : (k : Kind) → EndsPart k → covers (is k) (surest Expression) ≡ 
 part_ends k (inl e) = subst (λ (v : Kind). covers (is v) (surest Expression) ≡ true) (sym e) semicolon_ends
 part_ends k (inr e) = subst (λ (v : Kind). covers (is v) (surest Expression) ≡ true) (sym e) paren_ends
 
--- neither begins an expression
-no_start : (f : Flags) → apart (starts first (symbol Expression f) (plain full).base) (λ k w e. same_kind kind.Semicolon k) ≡ true
-unfolding covers apart
-no_start f = refl
+-- what begins neither with a semicolon nor with a parenthesis that closes
+pub record BeginsElse (g : G) : Type 0 where
+  pub semicolon : apart (starts first g (plain full).base) (λ k w e. same_kind kind.Semicolon k) ≡ true
+  pub paren : apart (starts first g (plain full).base) (λ k w e. same_kind kind.RParen k) ≡ true
 
-no_start_paren : (f : Flags) → apart (starts first (symbol Expression f) (plain full).base) (λ k w e. same_kind kind.RParen k) ≡ true
+an_expression_begins : (f : Flags) → BeginsElse (symbol Expression f)
 unfolding covers apart
-no_start_paren f = refl
+an_expression_begins f = record { semicolon = refl; paren = refl }
 
--- none, where its end stands
+init_begins : (f : Flags) → BeginsElse (symbol ForInit f)
+unfolding covers apart
+init_begins f = record { semicolon = refl; paren = refl }
+
+in_begins : (f : Flags) → BeginsElse (first_part ending.In f)
+unfolding covers apart
+in_begins f = record { semicolon = refl; paren = refl }
+
+of_begins : (f : Flags) → BeginsElse (first_part ending.Of f)
+unfolding covers apart
+of_begins f = record { semicolon = refl; paren = refl }
+
+-- none, where one of them stands
 module _ {text : List ℕ} {f : Flags} {p : Parser} (a : At text f p) where
-  no_expression_at : (k : Kind) → EndsPart k → p.token.kind ≡ k → {X : Test} → Fails rule (Lex text) X end (symbol Expression f) p.prev_token_end
-  no_expression_at k h e = weaken_fails_on (fails_here firsts (λ y l s. by h y l s)) (record { admits = λ ts vs k ls rest d e. (refl, refl) })
+  none_at_end : {g : G} → BeginsElse g → (k : Kind) → EndsPart k → p.token.kind ≡ k → {X : Test} → Fails rule (Lex text) X end g p.prev_token_end
+  none_at_end {g} b k h e = weaken_fails_on (fails_here firsts (λ y l s. by h y l s)) (record { admits = λ ts vs k ls rest d e. (refl, refl) })
     where
-      by : EndsPart k → (y : Lexeme) → Lex text p.prev_token_end y → IsTrue (seen (starts first (symbol Expression f) (plain full).base) y) → ⊥
-      by (inl i) y l s = not_both (starts first (symbol Expression f) (plain full).base) (λ k w e. same_kind kind.Semicolon k) (no_start f) y.kind y.newline y.escaped s (ap (same_kind kind.Semicolon) (kind_here a (e ∙ i) refl y l))
-      by (inr i) y l s = not_both (starts first (symbol Expression f) (plain full).base) (λ k w e. same_kind kind.RParen k) (no_start_paren f) y.kind y.newline y.escaped s (ap (same_kind kind.RParen) (kind_here a (e ∙ i) refl y l))
+      by : EndsPart k → (y : Lexeme) → Lex text p.prev_token_end y → IsTrue (seen (starts first g (plain full).base) y) → ⊥
+      by (inl i) y l s = not_both (starts first g (plain full).base) (λ k w e. same_kind kind.Semicolon k) b.semicolon y.kind y.newline y.escaped s (ap (same_kind kind.Semicolon) (kind_here a (e ∙ i) refl y l))
+      by (inr i) y l s = not_both (starts first g (plain full).base) (λ k w e. same_kind kind.RParen k) b.paren y.kind y.newline y.escaped s (ap (same_kind kind.RParen) (kind_here a (e ∙ i) refl y l))
 
-  pub part_none : (k : Kind) → EndsPart k → p.token.kind ≡ k → PartTaken text f k p p None
-  part_none k h e = record {
+  pub part_none : (k j : Kind) → EndsPart j → p.token.kind ≡ j → PartTaken text f k p p None
+  part_none k j h e = record {
     at = a;
     same = same_itself;
     forward = omega arith;
@@ -159,7 +171,7 @@ module _ {text : List ℕ} {f : Flags} {p : Parser} (a : At text f p) where
     strips = λ us. refl;
     pass = λ ls. ls;
     walked = nowhere;
-    verdict = clean refl (record { reach = max 0 0; near = omega arith; goes = right (no_expression_at k h e) ▹ reads_empty_slot });
+    verdict = clean refl (record { reach = max 0 0; near = omega arith; goes = right (none_at_end (an_expression_begins f) j h e) ▹ reads_empty_slot });
     held = HoldsAll-one_hole p.nodes (length p.nodes) (length p.nodes) (omega arith);
     keeps = Keeps-refl p.nodes;
   }
@@ -194,6 +206,44 @@ module _ {text : List ℕ} {f : Flags} {p : Parser} (a : At text f p) where
     held = HoldsAll-one id x.holds;
     keeps = x.keeps;
   }
+
+-- no first part, where one of them stands
+pub none_first : {text : List ℕ} {f : Flags} {p : Parser} → At text f p → (j : Kind) → EndsPart j → p.token.kind ≡ j → FirstTaken text f p p None
+none_first {text} {f} {p} a j h e = record {
+  at = a;
+  same = same_itself;
+  forward = omega arith;
+  begins = omega arith;
+  slots = hole;
+  puts = λ us. refl;
+  strips = λ us. refl;
+  pass = λ ls. ls;
+  walked = nowhere;
+  read = λ d s. reads d s;
+  none = λ d s. fails d s;
+  kept = λ ds g. g;
+  held = HoldsAll-one_hole p.nodes (length p.nodes) (length p.nodes) (omega arith);
+  keeps = Keeps-refl p.nodes;
+}
+  where
+    apart_from : (w : Kind) → EndsPart j → (w ≡ kind.Semicolon → ⊥) → (w ≡ kind.RParen → ⊥) → p.token.kind ≡ w → ⊥
+    apart_from w (inl i) n m k = n (sym k ∙ (e ∙ i))
+    apart_from w (inr i) n m k = m (sym k ∙ (e ∙ i))
+
+    plain_here : EndsPart j → p.token.escaped ≡ false
+    unfolding words
+    plain_here (inl i) = plain_sign kind.Semicolon a (e ∙ i) refl refl refl
+    plain_here (inr i) = plain_sign kind.RParen a (e ∙ i) refl refl refl
+
+    reads : (d : Ending) → StandsHere p (end_kind d) true → Verdict p.errors p.errors (Stretch text (plain (is (end_kind d))) (first_part d f) p.prev_token_end nothing p.prev_token_end hole (λ ls. ls)) (NoFirst text d f p.prev_token_end)
+    reads ending.Semicolon s = clean refl (record { reach = max 0 0; near = omega arith; goes = right (none_at_end a (init_begins f) j h e) ▹ reads_empty_slot })
+    reads ending.In s = absurd (apart_from kind.In h (λ k. cc) (λ k. cc) s.0)
+    reads ending.Of s = absurd (apart_from kind.Of h (λ k. cc) (λ k. cc) s.0)
+
+    fails : (d : Ending) → StandsHere p (end_kind d) false → NoFirst text d f p.prev_token_end
+    fails ending.Semicolon s = fails_alt (none_at_end a (init_begins f) j h e) (no_empty a kind.Semicolon (inl refl) (λ k. s k (plain_here h)))
+    fails ending.In s = none_at_end a (in_begins f) j h e
+    fails ending.Of s = none_at_end a (of_begins f) j h e
 
 -- ---- the rest of the head
 

@@ -163,7 +163,7 @@ fn parse_part_before<C: ParserConfig, N: Nested<C>>(
     requires ends { EndsPart end }
     ensures { TakesPart end p.old p.new result }
 {
-    if p.at(end) {
+    if p.at(end) || p.at(Kind::RParen) {
         return Ok(None);
     }
     let part = nested.expression(p)?;

@@ -2,11 +2,8 @@ use Rattle.std.proofs.Common.{arith, sym, ◌∙◌}
 use Rattle.std.proofs.lemmas.Bool.{false≢true}
 use Rattle.std.proofs.lemmas.Result.{err_from_is_err_and}
 use Rattle.js_parsing.proofs.Moving.{standing, stops_so}
-use Rattle.js_statements.proofs.ForHeads.{part_none, part_some, part_unread}
+use Rattle.js_statements.proofs.ForHeads.{part_some, part_unread}
 use Rattle.js_statements.proofs.for_statement.parse_part_before.Goals as goal
-
-pub returns-then-at : goal.returns-then-at
-returns-then-at g c = λ text f a. part_none a c.args.end c.requires.ends (c.at.ensures.0 c.if-at.true)
 
 pub expression-requires : goal.expression-requires
 expression-requires g c = c.requires.nests _ _ c.requires.at (omega arith)
