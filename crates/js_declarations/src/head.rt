@@ -57,19 +57,28 @@ pub fn parse_head_declarator<C: ParserConfig, N: Nested<C>>(
     if goes_through(p) {
         let span = p.end_span(start);
         let node = make_with_optional(p, NodeKind::VariableDeclarator, span, binding, None)?;
-        return Ok(HeadDeclarator { node, form: HeadForm::Through });
+        return Ok(HeadDeclarator {
+            node,
+            form: HeadForm::Through,
+        });
     }
     if !p.at(Kind::Eq) {
         let span = p.end_span(start);
         let node = make_bare_declarator(p, kind, is_name, span, binding)?;
-        return Ok(HeadDeclarator { node, form: HeadForm::Bare });
+        return Ok(HeadDeclarator {
+            node,
+            form: HeadForm::Bare,
+        });
     }
     advance(p)?;
     let initialiser = nested.assignment(p)?;
     let span = p.end_span(start);
     let node_kind = NodeKind::VariableDeclarator;
     let node = make_two(p, node_kind, Op::None, span, binding, initialiser)?;
-    Ok(HeadDeclarator { node, form: initialised_form(is_name) })
+    Ok(HeadDeclarator {
+        node,
+        form: initialised_form(is_name),
+    })
 }
 
 /// All declarators of a head, of which the first one was read up to here: the others stand behind a comma.

@@ -60,10 +60,10 @@ assign_apart k h = go (one_of_kinds (In ∷ Of ∷ []) k) refl
     go false e = e
 
 -- where no target is derived, and what was read is none
-pub told_none : {text : List ℕ} {f : Flags} {p w : Parser} (r : Result NodeId Stop) → NoTargetFrom text f p.prev_token_end → IfOk r (λ id. IsNoTarget w id) → OperandOutcome text f p w r
-told_none (Ok id) n m = no_target m n
-told_none (Err Fatal) n m = n
-told_none (Err NoMemory) n m = tt
+pub told_none : {text : List ℕ} {f : Flags} (p w : Parser) (r : Result NodeId Stop) → NoTargetFrom text f p.prev_token_end → IfOk r (λ id. IsNoTarget w id) → OperandOutcome text f p w r
+told_none p w (Ok id) n m = no_target m n
+told_none p w (Err Fatal) n m = n
+told_none p w (Err NoMemory) n m = tt
 
 module _ {text : List ℕ} {f : Flags} {p : Parser} (i : f.in_ ≡ false) where
   -- an operand that can't be read
@@ -79,8 +79,8 @@ module _ {text : List ℕ} {f : Flags} {p : Parser} (i : f.in_ ≡ false) where
     behind_kind e = none_before i x.answer (none_goes_through x.answer.at e)
 
     -- before an assignment operator
-    pub behind_assign : {w : Parser} (r : Result NodeId Stop) → one_of_kinds assign_operators q.token.kind ≡ true → IfOk r (λ id. IsNoTarget w id) → OperandOutcome text f p w r
-    behind_assign r u m = told_none r (behind_kind (assign_apart q.token.kind u)) m
+    pub behind_assign : (w : Parser) (r : Result NodeId Stop) → one_of_kinds assign_operators q.token.kind ≡ true → IfOk r (λ id. IsNoTarget w id) → OperandOutcome text f p w r
+    behind_assign w r u m = told_none p w r (behind_kind (assign_apart q.token.kind u)) m
 
     -- alone, or before `?`
     pub behind_operand : (w : Parser) (r : Result NodeId Stop) → StaysOperand left q w r → OperandOutcome text f p w r
@@ -91,7 +91,7 @@ module _ {text : List ℕ} {f : Flags} {p : Parser} (i : f.in_ ≡ false) where
 
   -- an arrow function, where no operand stands
   pub behind_head : (w : Parser) (r : Result NodeId Stop) → At text f p → Underived text (at Short f) p.prev_token_end → IfOk r (λ id. IsNoTarget w id) → OperandOutcome text f p w r
-  behind_head w r a n m = told_none r (from_none a n) m
+  behind_head w r a n m = told_none p w r (from_none a n) m
 
   pub head_stopped : (q : Parser) (e : Stop) → At text f p → (e ≡ Fatal → NoOperandHere p) → OperandOutcome text f p q (Err e)
   head_stopped q Fatal a n = from_none a (n refl text f a)
@@ -99,15 +99,15 @@ module _ {text : List ℕ} {f : Flags} {p : Parser} (i : f.in_ ≡ false) where
 
   -- of what was read something was told, or a comma stands behind it
   pub refused_operand : {q : Parser} {id : NodeId} (w : Parser) (r : Result NodeId Stop) → At text f p → HeadOperand text f p q id → (length q.errors ≡ length p.errors → ⊥) → IfOk r (λ id. IsNoTarget w id) → OperandOutcome text f p w r
-  refused_operand w r a (operand x) n m = told_none r (from_none a (elim x.answer.verdict [
+  refused_operand w r a (operand x) n m = told_none p w r (from_none a (elim x.answer.verdict [
     | clean e z ↦ absurd (n (ap length e))
     | unclean g z ↦ z
   ])) m
-  refused_operand w r a (no_target k z) n m = told_none r z m
+  refused_operand w r a (no_target k z) n m = told_none p w r z m
 
   pub listed_operand : {q : Parser} {id : NodeId} (w : Parser) (r : Result NodeId Stop) → HeadOperand text f p q id → q.token.kind ≡ Comma → IfOk r (λ id. IsNoTarget w id) → OperandOutcome text f p w r
-  listed_operand w r (operand x) k m = told_none r (behind_kind x (ap (one_of_kinds (In ∷ Of ∷ [])) k)) m
-  listed_operand w r (no_target n z) k m = told_none r z m
+  listed_operand w r (operand x) k m = told_none p w r (behind_kind x (ap (one_of_kinds (In ∷ Of ∷ [])) k)) m
+  listed_operand w r (no_target n z) k m = told_none p w r z m
 
 -- where the parser is where it was
 pub operand_unmoved : (text : List ℕ) (f : Flags) {p q : Parser} (w : Parser) (r : Result NodeId Stop) → Unmoved p q → OperandOutcome text f q w r → OperandOutcome text f p w r

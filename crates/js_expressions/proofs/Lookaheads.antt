@@ -155,9 +155,12 @@ module _ {p : Parser} (k : p.token.kind ≡ LParen) (n : NoOperandHere p) where
   certain_stops q e s = ((λ text f a. stops_so p q e (λ m. unassigned a k (no_parameters a m) (n text f a)) (s text f a)), n)
 
   pub arrow_missing : {q : Parser} {id : NodeId} (w : Parser) (e : Stop) → Answers (at Params) p q (Ok id) → (q.token.kind ≡ Arrow → ⊥) → GivesUp (IsHere ExpectToken q None) q w e → NoAssignment p w e × NoOperandHere p
-  arrow_missing {q} w e x m g = ((λ text f a.
-      let y = (x text f a).answer in
-      stops_behind w e y.same (λ d. grown_behind y.verdict d) (λ z. z) (gives_up (IsHere ExpectToken q None) q w e y.at g (here_ends ExpectToken refl) (unassigned a k (unarrowed a y m) (n text f a)))), n)
+  arrow_missing {q} w e x m g = (
+    (λ text f a.
+        let y = (x text f a).answer in
+        stops_behind w e y.same (λ d. grown_behind y.verdict d) (λ z. z) (gives_up (IsHere ExpectToken q None) q w e y.at g (here_ends ExpectToken refl) (unassigned a k (unarrowed a y m) (n text f a)))),
+    n,
+  )
 
 -- what was seen
 pub head_alone : (p q : Parser) (h : HeadLookahead) → h ≡ lookahead.Head → LooksAhead p q h → (q ≡ p) × NoOperandHere p

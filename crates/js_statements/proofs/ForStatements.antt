@@ -121,11 +121,11 @@ module _ (f : Flags) (p : TreeSpan) (y : Lexeme) where
   abbrev made_by : Ending → Label
   made_by e = record { kind = kind_of (node_of e); op = no_op; flags = 0; span = p }
 
-  behind_two : {a l : Label} {as ds cs : Slots} → OneSlot (tree a as (tree l ds end)) cs → Ends (made_by ending.In) cs y → Admits (behind_for ending.In f) cs y
+  behind_two : {a l : Label} {bs ds cs : Slots} → OneSlot (tree a bs (tree l ds end)) cs → Ends (made_by ending.In) cs y → Admits (behind_for ending.In f) cs y
   behind_two a_hole x = x
   behind_two (a_tree m ms) x = x
 
-  behind_two_of : {a l : Label} {as ds cs : Slots} → OneSlot (tree a as (tree l ds end)) cs → Ends (made_by ending.Of) cs y → Admits (behind_for ending.Of f) cs y
+  behind_two_of : {a l : Label} {bs ds cs : Slots} → OneSlot (tree a bs (tree l ds end)) cs → Ends (made_by ending.Of) cs y → Admits (behind_for ending.Of f) cs y
   behind_two_of a_hole x = x
   behind_two_of (a_tree m ms) x = x
 
@@ -134,10 +134,10 @@ module _ (f : Flags) (p : TreeSpan) (y : Lexeme) where
   behind_three a_hole a_hole (a_tree c cs) x = x
   behind_three a_hole (a_tree b bs) a_hole x = x
   behind_three a_hole (a_tree b bs) (a_tree c cs) x = x
-  behind_three (a_tree a as) a_hole a_hole x = x
-  behind_three (a_tree a as) a_hole (a_tree c cs) x = x
-  behind_three (a_tree a as) (a_tree b bs) a_hole x = x
-  behind_three (a_tree a as) (a_tree b bs) (a_tree c cs) x = x
+  behind_three (a_tree a es) a_hole a_hole x = x
+  behind_three (a_tree a es) a_hole (a_tree c cs) x = x
+  behind_three (a_tree a es) (a_tree b bs) a_hole x = x
+  behind_three (a_tree a es) (a_tree b bs) (a_tree c cs) x = x
 
 inside_for : (b : Bool) (e : Ending) (f : Flags) (s : ℕ) → Inside rule (record { kind = kind_of (node_of e); op = no_op; flags = 0; extent = exact }) (after_statement (placed b f)) (behind_for e f) end (for_slots e f) s
 inside_for b e f s = record { ends = λ p cs vs j ls mid d x. go e p cs d (in_its_place b _ cs vs (here mid) x) }

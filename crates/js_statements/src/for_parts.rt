@@ -149,8 +149,7 @@ fn tell_head_fault<C: ParserConfig>(
     form: HeadForm,
     alone: bool,
     span: Span,
-) -> Result<(), NoMemory>
-{
+) -> Result<(), NoMemory> {
     if !goes_through(p) {
         return Ok(());
     }
@@ -166,8 +165,7 @@ fn head_fault(
     form: HeadForm,
     alone: bool,
     before_in: bool,
-) -> Option<DiagnosticKind>
-{
+) -> Option<DiagnosticKind> {
     if !alone {
         return Some(DiagnosticKind::MultipleDeclarationsInForLoopHead);
     }

@@ -80,7 +80,7 @@ pub returns-in_err-parameters-clause-answers : goal.returns-in_err-parameters-cl
 returns-in_err-parameters-clause-answers g c = λ text f a. let p = err_from_is_err_and c.from_residual.result c.from_residual.ensures.1 in rw (p.1, p.2) (c.in_err-parameters.ensures.0 text f a)
 
 pub returns-in_err-parameters-clause-operand : goal.returns-in_err-parameters-clause-operand
-returns-in_err-parameters-clause-operand g c = λ text f a i. let p = err_from_is_err_and c.from_residual.result c.from_residual.ensures.1 in rw (p.1, p.2) (head_stopped i _ _ a c.in_err-parameters.ensures.1)
+returns-in_err-parameters-clause-operand g c = λ text f a i. let p = err_from_is_err_and c.from_residual.result c.from_residual.ensures.1 in rw (p.1, p.2) (head_stopped i c.parse_arrow_head.new.p _ a c.in_err-parameters.ensures.1)
 
 pub returns-in-Some-clause-operand : goal.returns-in-Some-clause-operand
 returns-in-Some-clause-operand g c = λ text f a i. behind_head i _ _ a ((some_found _ c.parse_arrow_head.new.p _ _ c.in-Some.is c.in_ok-parameters.ensures).2 text f a) c.parse_arrow_function_expression.ensures.node
@@ -89,7 +89,7 @@ pub returns-in_err-operand-clause-operand : goal.returns-in_err-operand-clause-o
 returns-in_err-operand-clause-operand g c = λ text f a i.
     let p = err_from_is_err_and c.from_residual-in_err-operand.result c.from_residual-in_err-operand.ensures.1 in
     let u = (none_found _ c.parse_arrow_head.new.p _ c.in_default.is c.in_ok-parameters.ensures).0 in
-    rw (p.1, p.2) (operand_unmoved text f _ (Err _) u (c.in_err-operand.ensures.operand text f (u.at text f a) i))
+    rw (p.1, p.2) (operand_unmoved text f c.parse_assignment_without_arrow.new.p (Err _) u (c.in_err-operand.ensures.operand text f (u.at text f a) i))
 
 pub returns-then-not-is_refused_head-clause-operand : goal.returns-then-not-is_refused_head-clause-operand
 returns-then-not-is_refused_head-clause-operand g c = λ text f a i.

@@ -1,5 +1,6 @@
+use Rattle.std.specs.Prelude.{Ok, Err}
 use Rattle.js_expressions.proofs.HeadOperands.{behind_assign, behind_operand, made_no_target, operand_unread}
-use Rattle.std.proofs.Common.{inl, arith, sym, ◌∙◌}
+use Rattle.std.proofs.Common.{inl, arith, sym, ◌∙◌, refl}
 use Rattle.std.proofs.lemmas.Result.{err_from_is_err_and}
 use Rattle.js_expressions.proofs.ArraysAssigned.{not_simple_marked}
 use Rattle.js_expressions.proofs.Assignments.{shifted, assign_listed, row_assign, assign_answers, assign_marked, assign_refused, assign_whole, right_fails}
@@ -163,20 +164,20 @@ returns-then-not-is_assignment_operator-clause-operand t c = λ text f a i.
 pub returns-then-is_array_or_object-clause-operand : goal.returns-then-is_array_or_object-clause-operand
 returns-then-is_array_or_object-clause-operand t c = λ text f a i.
     let x = c.in_ok-left.ensures text f a in
-    behind_assign i (shifted x (c.in_ok-_power.ensures text f x.answer.at)) _ (assign_listed c.cur_kind.ensures c.is_assignment_operator.ensures c.if-not-is_assignment_operator.false) c.parse_literal_assignment.ensures.node
+    behind_assign i (shifted x (c.in_ok-_power.ensures text f x.answer.at)) _ _ (assign_listed c.cur_kind.ensures c.is_assignment_operator.ensures c.if-not-is_assignment_operator.false) c.parse_literal_assignment.ensures.node
 
 pub returns-in_default-clause-operand : goal.returns-in_default-clause-operand
 returns-in_default-clause-operand t c = λ text f a i.
     let x = c.in_ok-left.ensures text f a in
-    behind_assign i (shifted x (c.in_ok-_power.ensures text f x.answer.at)) (Err _) (assign_listed c.cur_kind.ensures c.is_assignment_operator.ensures c.if-not-is_assignment_operator.false) tt
+    behind_assign i (shifted x (c.in_ok-_power.ensures text f x.answer.at)) _ (Err _) (assign_listed c.cur_kind.ensures c.is_assignment_operator.ensures c.if-not-is_assignment_operator.false) tt
 
 pub returns-in_err-right-clause-operand : goal.returns-in_err-right-clause-operand
 returns-in_err-right-clause-operand t c = λ text f a i.
     let p = err_from_is_err_and c.from_residual-in_err-right.result c.from_residual-in_err-right.ensures.1 in
     let x = c.in_ok-left.ensures text f a in
-    rw (p.1, p.2) (behind_assign i (shifted x (c.in_ok-_power.ensures text f x.answer.at)) (Err _) (assign_listed c.cur_kind.ensures c.is_assignment_operator.ensures c.if-not-is_assignment_operator.false) tt)
+    rw (p.1, p.2) (behind_assign i (shifted x (c.in_ok-_power.ensures text f x.answer.at)) _ (Err _) (assign_listed c.cur_kind.ensures c.is_assignment_operator.ensures c.if-not-is_assignment_operator.false) tt)
 
 pub returns-clause-operand : goal.returns-clause-operand
 returns-clause-operand t c = λ text f a i.
     let x = c.in_ok-left.ensures text f a in
-    behind_assign i (shifted x (c.in_ok-_power.ensures text f x.answer.at)) (Ok _) (assign_listed c.cur_kind.ensures c.is_assignment_operator.ensures c.if-not-is_assignment_operator.false) (made_no_target refl (λ cs. refl) c.in_ok-node.ensures)
+    behind_assign i (shifted x (c.in_ok-_power.ensures text f x.answer.at)) _ (Ok _) (assign_listed c.cur_kind.ensures c.is_assignment_operator.ensures c.if-not-is_assignment_operator.false) (made_no_target refl (λ cs. refl) c.in_ok-node.ensures)

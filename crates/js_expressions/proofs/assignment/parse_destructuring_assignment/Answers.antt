@@ -1,5 +1,5 @@
 use Rattle.js_expressions.proofs.HeadOperands.{made_no_target}
-use Rattle.std.proofs.Common.{ap, arith, ◌∙◌}
+use Rattle.std.proofs.Common.{ap, arith, ◌∙◌, inl, refl}
 use Rattle.std.proofs.lemmas.Result.{err_from_is_err_and}
 use Rattle.js_base.specs.declared.token.Token.{Token}
 use Rattle.js_cursor.specs.Moves.{is_last}

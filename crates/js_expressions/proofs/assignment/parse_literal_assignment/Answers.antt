@@ -1,5 +1,5 @@
 use Rattle.js_expressions.proofs.HeadOperands.{made_no_target}
-use Rattle.std.proofs.Common.{ap, arith, ◌∙◌}
+use Rattle.std.proofs.Common.{ap, arith, ◌∙◌, refl}
 use Rattle.js_parsing.specs.Moves.{unpassable}
 use Rattle.std.proofs.lemmas.Result.{err_from_is_err_and}
 use Rattle.js_expressions.proofs.ArraysAssigned.{array_assigned, array_stops, no_equals, once_at, once_cut, once_kind, once_place, once_room}

@@ -1,5 +1,6 @@
+use Rattle.std.specs.Prelude.{Err}
 use Rattle.js_expressions.proofs.HeadOperands.{listed_operand, made_no_target}
-use Rattle.std.proofs.Common.{◌≡◌, ◌∙◌, ap, sym, arith, subst, Ok, List, ◌∷◌, [], ◌++◌, Some, Option}
+use Rattle.std.proofs.Common.{◌≡◌, ◌∙◌, ap, sym, arith, subst, Ok, List, ◌∷◌, [], ◌++◌, Some, Option, refl}
 use Rattle.std.proofs.lemmas.Bool.{false≢true}
 use Rattle.std.proofs.lemmas.Result.{err_from_is_err_and}
 use Rattle.js_grammar.specs.Productions.{at, Expression}
