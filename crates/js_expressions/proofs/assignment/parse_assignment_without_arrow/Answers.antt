@@ -169,13 +169,13 @@ returns-then-is_array_or_object-clause-operand t c = λ text f a i.
 pub returns-in_default-clause-operand : goal.returns-in_default-clause-operand
 returns-in_default-clause-operand t c = λ text f a i.
     let x = c.in_ok-left.ensures text f a in
-    behind_assign i (shifted x (c.in_ok-_power.ensures text f x.answer.at)) _ (Err _) (assign_listed c.cur_kind.ensures c.is_assignment_operator.ensures c.if-not-is_assignment_operator.false) tt
+    behind_assign i (shifted x (c.in_ok-_power.ensures text f x.answer.at)) c.args.p.now (Err _) (assign_listed c.cur_kind.ensures c.is_assignment_operator.ensures c.if-not-is_assignment_operator.false) tt
 
 pub returns-in_err-right-clause-operand : goal.returns-in_err-right-clause-operand
 returns-in_err-right-clause-operand t c = λ text f a i.
     let p = err_from_is_err_and c.from_residual-in_err-right.result c.from_residual-in_err-right.ensures.1 in
     let x = c.in_ok-left.ensures text f a in
-    rw (p.1, p.2) (behind_assign i (shifted x (c.in_ok-_power.ensures text f x.answer.at)) _ (Err _) (assign_listed c.cur_kind.ensures c.is_assignment_operator.ensures c.if-not-is_assignment_operator.false) tt)
+    rw (p.1, p.2) (behind_assign i (shifted x (c.in_ok-_power.ensures text f x.answer.at)) c.args.p.now (Err _) (assign_listed c.cur_kind.ensures c.is_assignment_operator.ensures c.if-not-is_assignment_operator.false) tt)
 
 pub returns-clause-operand : goal.returns-clause-operand
 returns-clause-operand t c = λ text f a i.

@@ -63,7 +63,7 @@ returns-then-not-at-clause-operand t c = λ text f a i. c.in_ok-first.ensures.op
 pub returns-in_err-item-clause-operand : goal.returns-in_err-item-clause-operand
 returns-in_err-item-clause-operand t c = λ text f a i.
     let p = err_from_is_err_and c.from_residual-in_err-item.result c.from_residual-in_err-item.ensures.1 in
-    rw (p.1, p.2) (listed_operand i _ (Err _) (c.in_ok-first.ensures.operand text f a i) (c.at.ensures.0 c.if-not-at.false) tt)
+    rw (p.1, p.2) (listed_operand i c.args.p.now (Err _) (c.in_ok-first.ensures.operand text f a i) (c.at.ensures.0 c.if-not-at.false) tt)
 
 pub returns-clause-operand : goal.returns-clause-operand
 returns-clause-operand t c = λ text f a i. listed_operand i _ (Ok _) (c.in_ok-first.ensures.operand text f a i) (c.at.ensures.0 c.if-not-at.false) (made_no_target refl (λ cs. refl) c.in_ok-node.ensures)
