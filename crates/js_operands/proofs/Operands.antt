@@ -36,7 +36,7 @@ use Rattle.js_cursor.specs.Parsers.{Parser}
 use Rattle.js_cursor.specs.Moves.{OnlyMemory}
 use Rattle.js_cursor.specs.declared.stop.Stop.{Stop}
 use Rattle.js_cursor.specs.declared.stop.Stop.TheVariants.{Fatal, NoMemory}
-use Rattle.js_parsing.specs.Lexemes.{Lex, is_read, name_kinds, read_kinds, slashes}
+use Rattle.js_parsing.specs.Lexemes.{Lex, Plain, is_read, name_kinds, read_kinds, slashes}
 use Rattle.js_parsing.specs.States.{At, Same, NodesLie}
 use Rattle.js_parsing.specs.Moves.{Moved, MadeHere, LeafTaken, TakesLeaf, plain_label}
 use Rattle.js_parsing.specs.Answers.{Underived, Answer, Numbered, Outcome, beside}
@@ -46,7 +46,8 @@ use Rattle.js_parsing.proofs.Moving.{neither, same_both, same_with, beside_nodes
 use Rattle.js_parsing.proofs.Dead.{live, lives}
 use Rattle.js_parsing.proofs.NameKinds.{at_name, name_apart, name_passes, name_read, name_test}
 use Rattle.js_parsing.proofs.MadeNodes.{leaf_held, one_held, LabelLies, from_start, one_lies}
-use Rattle.js_parsing.proofs.Paths.{reads, Path, ◌⟼◌, ◌⟶◌, ◌⟶✗◌, at_kind, fails_at, token, last_token, last_called, passes_test, noded, noded_by, by_symbol_as, label_here, read_of, walked_one}
+use Rattle.js_parsing.proofs.Tight.{plain_reads}
+use Rattle.js_parsing.proofs.Paths.{Path, ◌⟼◌, ◌⟶◌, ◌⟶✗◌, at_kind, fails_at, token, last_token, last_called, passes_test, noded, noded_by, by_symbol_as, label_here, read_of, walked_one}
 use Rattle.js_parsing.specs.Answers.{clean}
 
 -- a claim on each unary operator
@@ -67,7 +68,7 @@ unary_edge f k o s = record { ends = λ p cs vs j ls mid d e. go cs d e }
     go cs (is_seq (is_lexeme p) (is_such d c)) e = e
 
 -- an answer by the path of its symbol
-pub by_such : {text : List ℕ} {f : Flags} {n : Symbol} {p q w : Parser} {l : Label} {cs : Slots} {id : NodeId} → Path text f (after n) (such n always) p nothing q (tree l cs) → Same p q → w ≡ record q { nodes = w.nodes } → ((y : Lexeme) → Lex text q.prev_token_end y → IsTrue (seen (follow n (edge_of l cs)) y || seen beside y)) → may_end n.name (row_of l cs) ≡ true
+pub by_such : {text : List ℕ} {f : Flags} {n : Symbol} {p q w : Parser} {l : Label} {cs : Slots} {id : NodeId} → Path text f (after n) (such n always) p nothing q (tree l cs) → Same p q → w ≡ record q { nodes = w.nodes } → ((y : Lexeme) → Plain text q.prev_token_end y → IsTrue (seen (follow n (edge_of l cs)) y || seen beside y)) → may_end n.name (row_of l cs) ≡ true
     → Holds w.nodes (length p.nodes) (length w.nodes) id.0 l cs → Keeps p.nodes w.nodes → (l.span ≡ record { from = p.token.span.start; to = q.prev_token_end }) → (LabelLies q.text l → NodesLie q.text q.nodes → NodesLie q.text w.nodes) → Numbered text f n p w id
 by_such {text} {f} {n} {p} {q} {w} {l} {cs} {id} y b e s r h k i m = go w.nodes e h k m
   where
@@ -79,7 +80,7 @@ by_such {text} {f} {n} {p} {q} {w} {l} {cs} {id} y b e s r h k i m = go w.nodes 
     })
 
 -- and by that of its rule
-pub by_path : {text : List ℕ} {f : Flags} {n : Symbol} {p q w : Parser} {l : Label} {cs : Slots} {id : NodeId} → Path text f (after n) (rule n) p nothing q (tree l cs) → Same p q → w ≡ record q { nodes = w.nodes } → ((y : Lexeme) → Lex text q.prev_token_end y → IsTrue (seen (follow n (edge_of l cs)) y || seen beside y)) → may_end n.name (row_of l cs) ≡ true
+pub by_path : {text : List ℕ} {f : Flags} {n : Symbol} {p q w : Parser} {l : Label} {cs : Slots} {id : NodeId} → Path text f (after n) (rule n) p nothing q (tree l cs) → Same p q → w ≡ record q { nodes = w.nodes } → ((y : Lexeme) → Plain text q.prev_token_end y → IsTrue (seen (follow n (edge_of l cs)) y || seen beside y)) → may_end n.name (row_of l cs) ≡ true
     → Holds w.nodes (length p.nodes) (length w.nodes) id.0 l cs → Keeps p.nodes w.nodes → (l.span ≡ record { from = p.token.span.start; to = q.prev_token_end }) → (LabelLies q.text l → NodesLie q.text q.nodes → NodesLie q.text w.nodes) → Numbered text f n p w id
 by_path {n = n} a b e s r h k i m = by_such (by_symbol_as {X' = after n} (λ l cs vs y d. d) a) b e s r h k i m
 
@@ -190,9 +191,9 @@ name_path k h text f p q a e n s =
 abbrev no_function : Look
 no_function k w e = not (not w && (same_kind Function k && not e))
 
-pub behind_primary : (b : Bool) (l : Label) (cs : Slots) (text : List ℕ) (s : ℕ) (y : Lexeme) → Lex text s y → IsTrue (seen (follow_of Primary b (edge_of l cs)) y || seen beside y)
+pub behind_primary : (b : Bool) (l : Label) (cs : Slots) (text : List ℕ) (s : ℕ) (y : Lexeme) → Plain text s y → IsTrue (seen (follow_of Primary b (edge_of l cs)) y || seen beside y)
 unfolding covers
-behind_primary b l cs text s y h = covered reads (λ k w e. no_function k w e || beside k w e) refl y.kind y.newline y.escaped h.1
+behind_primary b l cs text s y h = covered plain_reads (λ k w e. no_function k w e || beside k w e) refl y.kind y.newline y.escaped h.1
 
 -- a node of one lexeme, read so
 pub leaf_answers : {text : List ℕ} {f : Flags} {p q : Parser} {id : NodeId} {nk : NodeKindMade} {no : OpMade} (k : Kind) → same_row after_expression (row_of (plain_label nk no p.token.span) end) ≡ true → Leaf (kind_of nk) (op_of no) k → At text f p → p.token.kind ≡ k → p.token.escaped ≡ false → LeafTaken nk no text f p q id → Numbered text f (at Primary f) p q id

@@ -66,7 +66,7 @@ use Rattle.js_parsing.proofs.Beginning.{behind_first}
 use Rattle.js_parsing.proofs.Classes.{unexpected_ends}
 use Rattle.js_parsing.proofs.Dead.{live, lives}
 use Rattle.js_parsing.proofs.Giving.{kept_one}
-use Rattle.js_parsing.proofs.Here.{alike, told_plain}
+use Rattle.js_parsing.proofs.Here.{alike, no_pattern_token, told_plain}
 use Rattle.js_parsing.proofs.Kept.{kept_for, passing_so}
 use Rattle.js_parsing.proofs.KeptTokens.{again_before, again_last, before_next, trivia_kept}
 use Rattle.js_parsing.proofs.MadeNodes.{leaf_held, one_lies}
@@ -103,6 +103,10 @@ by_sign P k h a b = go (slash_kinds k h)
     go : (k ≡ Slash) ⊎ (k ≡ SlashEq) → P k
     go (inl e) = subst P (sym e) a
     go (inr e) = subst P (sym e) b
+
+-- the token is none
+pub no_pattern_here : {text : List ℕ} {f : Flags} {p : Parser} → At text f p → p.token.kind ≡ RegExp → ⊥
+no_pattern_here a e = false≢true (sym (no_pattern_token a.plain) ∙ ap (same_kind RegExp) e)
 
 -- ---- the flags of a regular expression
 

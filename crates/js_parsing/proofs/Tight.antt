@@ -13,7 +13,7 @@ use Rattle.js_grammar.specs.Trees.{binary_expression, logical_expression}
 use Rattle.js_grammar.proofs.RightEdges.{of_operand}
 use Rattle.js_grammar.proofs.Looks.{covers, covered}
 use Rattle.js_grammar.proofs.Towers.{OneOf, head, later}
-use Rattle.js_parsing.specs.Lexemes.{is_plain, is_read, read_kinds}
+use Rattle.js_parsing.specs.Lexemes.{Lex, Plain, is_plain, is_read, read_kinds}
 use Rattle.js_parsing.specs.Answers.{beside}
 use Rattle.js_parsing.specs.Operators.{power_of}
 use Rattle.js_parsing.proofs.Paths.{reads}
@@ -115,6 +115,9 @@ read_plain y h = go y.escaped (and_parts (one_of_kinds read_kinds y.kind) (not y
 -- what is read by the plain goal is read
 pub plain_is_read : (y : Lexeme) → IsTrue (is_plain y) → IsTrue (is_read y)
 plain_is_read y h = (and_parts (is_read y) (not (same_kind RegExp y.kind)) h).0
+
+pub plain_lex : {text : List ℕ} {s : ℕ} {y : Lexeme} → Plain text s y → Lex text s y
+plain_lex {y = y} l = (l.0, plain_is_read y l.1)
 
 pub plain_is_none : (y : Lexeme) → IsTrue (is_plain y) → same_kind RegExp y.kind ≡ false
 plain_is_none y h = go (same_kind RegExp y.kind) (and_parts (is_read y) (not (same_kind RegExp y.kind)) h).1
