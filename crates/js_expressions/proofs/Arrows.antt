@@ -74,7 +74,7 @@ use Rattle.js_expressions.specs.Closings.{ArrowBehindOne}
 use Rattle.js_expressions.proofs.Closings.{closes_alike, one_is}
 use Rattle.js_cursor.specs.Tokens.{may_be_read_again}
 use Rattle.js_parsing.proofs.KeptTokens.{before_back, last_back}
-use Rattle.js_parsing.specs.Lexemes.{Lex, name_kinds, spot, slashes}
+use Rattle.js_parsing.specs.Lexemes.{Lex, name_kinds, spot, slashes, Plain}
 use Rattle.js_parsing.specs.Moves.{Moved, MadeHere, LeafTaken, TakesLeaf, plain_label}
 use Rattle.js_parsing.specs.States.{At, Same, Standing, flags_of, IsPlain, whole, sign, nothing as nothing_here, NodesLie, SpansLie}
 use Rattle.js_targets.proofs.ArraysBeforeSigns.{is_cover, not_wide}
@@ -639,7 +639,7 @@ body_row after_declarator h = absurd (false≢true h)
 body_row after_word h = absurd (false≢true h)
 
 -- behind an arrow function stands what may stand behind its body: behind one in braces anything, but a comma goes on with what is around
-behind_body : (b : Bool) {text : List ℕ} {f : Flags} {r w : Parser} (y : Answer text f (body_of b f) r w) (z : Lexeme) → Lex text w.prev_token_end z → IsTrue (seen (looser 2 f.in_ (row_of y.label y.slots)) z || seen beside z)
+behind_body : (b : Bool) {text : List ℕ} {f : Flags} {r w : Parser} (y : Answer text f (body_of b f) r w) (z : Lexeme) → Plain text w.prev_token_end z → IsTrue (seen (looser 2 f.in_ (row_of y.label y.slots)) z || seen beside z)
 behind_body false y z l = y.stops z l
 behind_body true {f = f} y z l = or_left _ _ (subst (λ (r : Row). IsTrue (seen (looser 2 f.in_ r) z)) (sym (body_row (row_of y.label y.slots) y.row)) (at_most (same_kind Comma z.kind && not z.escaped)))
   where
