@@ -137,7 +137,7 @@ open_plain = refl
 one_same : (k : Kind) → one_of_kinds (k ∷ []) k ≡ true
 one_same k = or_left (same_kind k k) false (same_self k)
 
-pub none_there : {text : List ℕ} {f : Flags} {p : Parser} (k : Kind) → At text f p → apart angles (λ x w e. one_of_kinds (k ∷ []) x) ≡ true → (p.token.kind ≡ k → ⊥) → NoneIs text p.prev_token_end k
+pub none_there : {text : List ℕ} {f : Flags} {p : Parser} (k : Kind) → At text f p → settles (k ∷ []) ≡ true → (p.token.kind ≡ k → ⊥) → NoneIs text p.prev_token_end k
 none_there {p = p} k a d n y l e = not_here a (k ∷ []) d (other_kind k p.token.kind n) y l (subst (λ v. one_of_kinds (k ∷ []) v ≡ true) (sym e) (one_same k))
 
 no_right_paren : {text : List ℕ} {f : Flags} {p : Parser} → At text f p → (p.token.kind ≡ RParen → ⊥) → NoneIs text p.prev_token_end RParen
@@ -165,7 +165,7 @@ module _ {text : List ℕ} {f : Flags} {p q : Parser} (a : At text f p) (k : p.t
         reach = 0;
         near = omega arith;
         goes = subst (λ (v : ℕ). Goes rule (Lex text) (plain full) end (rest_of false (item_of i f)) p.prev_token_end (seq (after_comma true (such (item_of i f) always)) (tok RParen)) v (λ us. us) (passing m.lexeme)) m.ends
-            (part firsts (is RParen) (comma_here true (such (item_of i f) always) (not_closed f i (is_one (stands_there a k refl) (λ e. cc))) l (is_that Comma m.lexeme (kind, bare)) (λ y z h. one_read a z l)) refl);
+            (part firsts (is RParen) (comma_here true (such (item_of i f) always) (not_closed f i (is_one (stands_there a k refl) (λ e. cc))) l (is_that Comma m.lexeme (kind, bare)) (λ y z h. one_read a (ap (one_of_kinds slashes) k) z l)) refl);
       }
 
 module _ {text : List ℕ} {f : Flags} {p q : Parser} (a : At text f p) where

@@ -110,7 +110,7 @@ unfolding rule rule_of
 name_numbered {text} {f} {g} {p} {q} {id} a h t =
     let l : plain_label node.BindingIdentifier op.None p.token.span ≡ label_here binding_identifier no_op p t.mid = ap (λ (v : ℕ). record { kind = binding_identifier; op = no_op; flags = 0; span = record { from = p.token.span.start; to = v } }) (t.moved.tells.end ∙ t.moved.ends) in
     let ks : Keeps p.nodes t.mid.nodes = subst (λ (ns : List Node). Keeps p.nodes ns) (sym t.moved.nodes) (Keeps-refl p.nodes) in
-    let y : Path text f (after (at BindingIdentifier g)) (rule (at BindingIdentifier g)) p nothing t.mid (tree (label_here binding_identifier no_op p t.mid) end) = noded a (one_path (name_test g) a t.moved (plain_leaf p.token.kind refl h.1 (name_read p.token.kind h.0) t.moved) (name_passes g t.moved.lexeme (subst (λ (k : Kind). one_of_kinds name_kinds k ≡ true) t.moved.tells.kind h.0))) in
+    let y : Path text f (after (at BindingIdentifier g)) (rule (at BindingIdentifier g)) p nothing t.mid (tree (label_here binding_identifier no_op p t.mid) end) = noded a (one_path (name_test g) a (name_apart slashes refl p.token.kind h.0) t.moved (plain_leaf p.token.kind refl h.1 (name_read p.token.kind h.0) t.moved) (name_passes g t.moved.lexeme (subst (λ (k : Kind). one_of_kinds name_kinds k ≡ true) t.moved.tells.kind h.0))) in
     by_path (subst (λ (v : Label). Path text f (after (at BindingIdentifier g)) (rule (at BindingIdentifier g)) p nothing t.mid (tree v end)) (sym l) y) t.moved.same t.made.stays (λ y i. refl) refl (leaf_held t.made ks) (Keeps-trans ks (Keeps-made t.made.made)) (ap (λ (v : Label). v.span) l) (one_lies t.made)
 
 abbrev rest_of : Bool → Flags → G

@@ -189,13 +189,13 @@ module _ {text : List ℕ} {f : Flags} {p q : Parser} (a : At text f p) (r : rea
 
   word_reads : Reads rule (Lex text) (plain full) end (symbol IdentifierName f) p.prev_token_end q.prev_token_end (tree word_label end) (passing m.lexeme)
   unfolding rule rule_of
-  word_reads = by_rule {X' = plain full} (λ l cs vs y d. (refl, refl)) (makes_by word_label inside_full (passes_test a any_word m word_is.0 word_is.1) (λ ls ls' l l'. ap label_from (begins_here a (here ls) (here_at (Lex text) ls l)))) refl
+  word_reads = by_rule {X' = plain full} (λ l cs vs y d. (refl, refl)) (makes_by word_label inside_full (passes_test a any_word (word_slashless p.token.kind r) m word_is.0 word_is.1) (λ ls ls' l l'. ap label_from (begins_here a (here ls) (here_at (Lex text) ls l)))) refl
     where
       label_from : ℕ → Label
       label_from v = record { kind = identifier_name; op = no_op; flags = 0; span = record { from = v; to = q.prev_token_end } }
 
   its : (y : Lexeme) → Lex text p.prev_token_end y → y ≡ m.lexeme
-  its y l = one_read a l (m.stood, word_is.0)
+  its y l = one_read a (word_slashless p.token.kind r) l (m.stood, word_is.0)
 
   ahead_goes : {X : Test} → Reads rule (Lex text) X end (ahead (symbol IdentifierName f)) p.prev_token_end p.prev_token_end (tree word_label end) (still (suc p.prev_token_end))
   ahead_goes = aheads (suc p.prev_token_end) there alone
