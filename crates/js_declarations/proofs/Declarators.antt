@@ -44,7 +44,8 @@ use Rattle.js_parsing.specs.Statements.{link_kinds, no_link}
 use Rattle.js_parsing.specs.Told.{unrelated_at}
 use Rattle.js_declarations.specs.Declarations.{One, NoOne, Declarator, EndsDeclarator, ChecksInitialiser, behind_row, ends_row, stops_row, missing}
 use Rattle.js_patterns.proofs.Bindings.{no_binding, no_pattern_name}
-use Rattle.js_parsing.proofs.NameKinds.{no_name_here}
+use Rattle.js_parsing.proofs.NamedFirsts.{fails_unnamed}
+use Rattle.js_parsing.proofs.NameKinds.{listed_here, listed_name, name_at, no_name_here}
 use Rattle.js_parsing.proofs.Giving.{fails_escaped, kept_one}
 use Rattle.js_parsing.proofs.Here.{begins_here, kind_here}
 use Rattle.js_parsing.proofs.MadeNodes.{node_held, two_held, made_lies}
@@ -101,7 +102,7 @@ unbound {text} {f} {s} c n = record { no = λ ts us k ls rest lx d h. go ts us k
 
 -- no lexeme stands here
 pub none_at : {text : List ℕ} {f : Flags} {p : Parser} (c : Bool) → At text f p → p.token.kind ≡ Undetermined → NoOne text (declarator c f) p.prev_token_end
-none_at c a h = unbound c (no_binding a (λ k e. false≢true (ap (same_kind LBrack) (sym h ∙ k))) (λ k e. false≢true (ap (same_kind LCurly) (sym h ∙ k))) (λ k e. false≢true (ap (one_of_kinds name_kinds) (sym h) ∙ k)))
+none_at c a h = unbound c (no_binding a (λ k e. false≢true (ap (same_kind LBrack) (sym h ∙ k))) (λ k e. false≢true (ap (same_kind LCurly) (sym h ∙ k))) (λ k e. false≢true (ap (one_of_kinds name_kinds) (sym h) ∙ listed_name _ _ _ k)))
 
 -- ---- what may stand behind a declarator
 
@@ -248,7 +249,7 @@ module _ {text : List ℕ} {f : Flags} {p q : Parser} (a : At text f p) (x : Ans
     where
       by : (b : Bool) → p.token.escaped ≡ b → Fails rule (Lex text) X end (symbol BindingIdentifier f) p.prev_token_end
       by true e = fails_escaped a e
-      by false e = fails_at a (symbol BindingIdentifier f) name_kinds refl (no_name_here p h e)
+      by false e = fails_unnamed a f (λ g. symbol BindingIdentifier g) [] refl refl refl refl refl (no_name_here f p (name_at false a h) e) refl
 
   -- an initialiser is missing
   none_bare : (c is_name : Bool) → (is_name ≡ false) ⊎ (c ≡ true) → NameHere p is_name → BindingRead a x → NoOne text (declarator c f) p.prev_token_end
@@ -267,7 +268,7 @@ module _ {text : List ℕ} {f : Flags} {p q : Parser} (a : At text f p) (x : Ans
     named : {ts us : Slots} {j : ℕ} {ls rest : Lexemes} → Lexes (Lex text) p.prev_token_end ls → Takes rule (symbol Binding f) end ts p.prev_token_end ls us j rest → Takes rule (symbol BindingIdentifier f) end ts p.prev_token_end ls us j rest
     unfolding rule rule_of covers apart
     named lx (is_such (is_left (is_such d t)) t') = is_such d refl
-    named {j = j} {ls = ls} {rest = rest} lx (is_such {l = l} {cs = cs} (is_right d) t') = absurd ((fails_at a {X = plain full} (symbol Pattern f) (LBrack ∷ LCurly ∷ []) refl (no_pattern_name p.token.kind h.0)).no (tree l cs end) end j ls rest lx d (refl, refl))
+    named {j = j} {ls = ls} {rest = rest} lx (is_such {l = l} {cs = cs} (is_right d) t') = absurd ((fails_at a {X = plain full} (symbol Pattern f) (LBrack ∷ LCurly ∷ []) refl (no_pattern_name p.token.kind (listed_here p h))).no (tree l cs end) end j ls rest lx d (refl, refl))
 
     one_bare : BindingRead a x → One text (declarator false f) p.prev_token_end q.prev_token_end (label_here variable_declarator no_op p q) (tree x.label x.slots (hole end)) x.pass
     one_bare u = record { reach = u.reach; near = u.near; passes = u.goes.passes; sound = λ us ls lx r. there us ls lx r; only = λ ts us k ls rest lx d e. back ts us k ls rest lx d }

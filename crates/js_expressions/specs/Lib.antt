@@ -4,3 +4,4 @@ pub mod Coalescing
 pub mod Exponents
 pub mod Lookaheads
 pub mod Rests
+pub mod Yields

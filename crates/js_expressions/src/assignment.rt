@@ -17,6 +17,7 @@ ghost use Rattle.js_parsing.specs.States.{Standing};
 
 use crate::arrow::{parse_arrow_function_expression, parse_arrow_head};
 use crate::operators::parse_binary_expression_or_higher;
+use crate::yield_expression::{begins_yield, parse_yield_expression};
 use js_base::{
     AssignmentOperator, Diagnostic, DiagnosticKind, Kind, Span, map_assignment_operator,
 };
@@ -40,6 +41,9 @@ pub fn parse_assignment_expression<C: ParserConfig, N: Nested<C>>(
     requires nests { CanNest (N.can nested.now) (room p.old) }
     ensures { Answers (at Assignment) p.old p.new result }
 {
+    if begins_yield(p) {
+        return parse_yield_expression(p, nested);
+    }
     let start = p.cur_start();
     if let Some(parameters) = parse_arrow_head(p, nested)? {
         return parse_arrow_function_expression(p, nested, start, parameters);

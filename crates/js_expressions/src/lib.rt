@@ -1,4 +1,4 @@
-//! Expressions: operators, assignments, arrow functions, sequences (ECMA-262, sections 13.4 to 13.16 and 15.3).
+//! Expressions: operators, assignments, arrow functions, sequences (ECMA-262, sections 13.4 to 13.16, 15.3, 15.5 and 15.8).
 #![tactic(auto)]
 
 pub mod arrow;
@@ -9,3 +9,4 @@ pub mod operators;
 pub mod sequence;
 pub mod unary;
 pub mod update;
+pub mod yield_expression;

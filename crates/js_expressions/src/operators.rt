@@ -1,6 +1,7 @@
 //! Operators between two operands (ECMA-262, sections 13.6 to 13.13).
 
 ghost use Rattle.std.specs.Prelude.{ℕ, ◌≡◌, ◌≤◌, ◌-◌, ◌∷◌, [], length, true, Some, IfOk};
+ghost use Rattle.js_base.specs.Contexts.{has_flag, await_flag};
 ghost use Rattle.js_base.specs.declared.kind.Kind.TheVariants.{Question2};
 ghost use Rattle.js_grammar.specs.Grammar.{Lexeme};
 ghost use Rattle.js_grammar.specs.Trees.{Label, Slots, logical_expression, of};
@@ -13,7 +14,7 @@ ghost use Rattle.js_targets.specs.Targets.{Stood};
 ghost use Rattle.js_grammar.specs.Levels.{level_at};
 ghost use Rattle.js_grammar.specs.Marks.{Mark};
 ghost use Rattle.js_cursor.specs.Places.{IsAt, goal};
-ghost use Rattle.js_expressions.specs.Exponents.{ChecksBase, unary_base};
+ghost use Rattle.js_expressions.specs.Exponents.{ChecksBase, begins_by_unary, unary_base};
 ghost use Rattle.js_grammar.specs.Productions.{at, Exponent, Short};
 ghost use Rattle.js_parsing.specs.Answers.{Answers};
 ghost use Rattle.js_parsing.specs.Moves.{MadeHere, operation_label};
@@ -21,7 +22,7 @@ ghost use Rattle.js_parsing.specs.Nesting.{CanNest, room};
 ghost use Rattle.js_parsing.specs.Operators.{power_of};
 ghost use Rattle.js_parsing.specs.States.{Standing};
 
-use crate::unary::parse_unary_expression_or_higher;
+use crate::unary::{begins_await, parse_unary_expression_or_higher};
 use js_base::{
     BinaryOperator, Diagnostic, DiagnosticKind, Kind, LogicalOperator, NoMemory,
     map_binary_operator, map_logical_operator,
@@ -171,7 +172,7 @@ pub fn parse_exponentiation_expression<C: ParserConfig, N: Nested<C>>(
     ensures { Answers (at Exponent) p.old p.new result }
 {
     let start = p.cur_start();
-    let is_unary = p.cur_kind().is_unary_operator();
+    let is_unary = begins_unary(p);
     let found = kept_so_far(p);
     let base = parse_unary_expression_or_higher(p, nested)?;
     if !p.at(Kind::Star2) {
@@ -184,6 +185,14 @@ pub fn parse_exponentiation_expression<C: ParserConfig, N: Nested<C>>(
     let op = Op::Binary(BinaryOperator::Exponential);
     let node = make_two(p, NodeKind::BinaryExpression, op, span, base, exponent)?;
     Ok(node)
+}
+
+/// Whether a unary operator or `await` stands here, before which no UpdateExpression begins.
+#[inline(always)]
+fn begins_unary<C: ParserConfig>(p: &ParserImpl<'_, C>) -> bool
+    ensures { result ≡ begins_by_unary (has_flag await_flag p.now.ctx) p.now.token.kind }
+{
+    p.cur_kind().is_unary_operator() || begins_await(p)
 }
 
 /// Tells of a base before `**` that begins with a unary operator, unless something was found in it: then it is no

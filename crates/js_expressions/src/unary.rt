@@ -1,7 +1,9 @@
-//! Unary operators (ECMA-262, section 13.5).
+//! Unary operators and `await` (ECMA-262, sections 13.5 and 15.8).
 
-ghost use Rattle.std.specs.Prelude.{◌≡◌, true, false};
-ghost use Rattle.js_base.specs.Kinds.{one_of_kinds};
+ghost use Rattle.std.specs.Prelude.{◌≡◌, ◌&&◌, true, false};
+ghost use Rattle.js_base.specs.Contexts.{has_flag, await_flag};
+ghost use Rattle.js_base.specs.declared.kind.Kind.TheVariants.{Await};
+ghost use Rattle.js_base.specs.Kinds.{one_of_kinds, same_kind};
 ghost use Rattle.js_grammar.specs.Productions.{at, Unary};
 ghost use Rattle.js_parsing.specs.Answers.{Answers};
 ghost use Rattle.js_parsing.specs.Nesting.{CanNest, room};
@@ -9,7 +11,7 @@ ghost use Rattle.js_parsing.specs.Operators.{unary_kinds};
 ghost use Rattle.js_parsing.specs.States.{Standing};
 
 use crate::update::parse_update_expression;
-use js_base::map_unary_operator;
+use js_base::{Kind, map_unary_operator};
 use js_cursor::{ParserImpl, Stop};
 use js_lex::ParserConfig;
 use js_parsing::lexemes::advance;
@@ -17,7 +19,7 @@ use js_parsing::nested::Nested;
 use js_parsing::nodes::make_one;
 use js_tree::{NodeId, NodeKind, Op};
 
-/// A UnaryExpression (ECMA-262, section 13.5): an operator and what it stands before, or an UpdateExpression.
+/// A UnaryExpression (ECMA-262, section 13.5): an operator or `await` and what it stands before, or an UpdateExpression.
 #[inline(always)]
 pub fn parse_unary_expression_or_higher<C: ParserConfig, N: Nested<C>>(
     p: &mut ParserImpl<'_, C>,
@@ -33,7 +35,39 @@ pub fn parse_unary_expression_or_higher<C: ParserConfig, N: Nested<C>>(
     if p.cur_kind().is_unary_operator() {
         return parse_unary_expression(p, nested);
     }
+    if begins_await(p) {
+        return parse_await_expression(p, nested);
+    }
     parse_update_expression(p, nested)
+}
+
+/// Whether an AwaitExpression begins here: `await` is no name where the parameter Await is on (ECMA-262, section 15.8).
+#[inline(always)]
+pub(crate) fn begins_await<C: ParserConfig>(p: &ParserImpl<'_, C>) -> bool
+    ensures { result ≡ (same_kind Await p.now.token.kind && has_flag await_flag p.now.ctx) }
+{
+    p.at(Kind::Await) && p.ctx.has_await()
+}
+
+/// An AwaitExpression (ECMA-262, section 15.8): `await`, and what it stands before.
+#[inline(never)]
+fn parse_await_expression<C: ParserConfig, N: Nested<C>>(
+    p: &mut ParserImpl<'_, C>,
+    nested: &N,
+) -> Result<NodeId, Stop>
+    requires at { Standing p.old }
+    requires nests { CanNest (N.can nested.now) (room p.old) }
+    requires word { p.old.token.kind ≡ Await }
+    requires awaits { has_flag await_flag p.old.ctx ≡ true }
+    requires plain { p.old.token.escaped ≡ false }
+    ensures { Answers (at Unary) p.old p.new result }
+{
+    let start = p.cur_start();
+    advance(p)?;
+    let argument = nested.unary(p)?;
+    let span = p.end_span(start);
+    let node = make_one(p, NodeKind::AwaitExpression, Op::None, span, argument)?;
+    Ok(node)
 }
 
 /// A unary operator, and what it stands before.

@@ -39,20 +39,21 @@ use Rattle.js_cursor.specs.declared.stop.Stop.{Stop}
 use Rattle.js_cursor.specs.declared.stop.Stop.TheVariants.{Fatal, NoMemory}
 use Rattle.js_parsing.specs.Answers.{Answer, Grown, Numbered, Outcome, Stops, Stretch, Underived, Verdict, unclean}
 use Rattle.js_parsing.specs.Arguments.{Partway}
-use Rattle.js_parsing.specs.Lexemes.{Lex, name_kinds, spot}
+use Rattle.js_parsing.specs.Lexemes.{Lex, may_name, name_kinds, spot}
 use Rattle.js_parsing.specs.Moves.{LeafTaken, Moved, MadeHere, plain_label, unpassable}
 use Rattle.js_parsing.specs.Nesting.{room}
-use Rattle.js_parsing.specs.Stands.{NameHere, StandsHere}
+use Rattle.js_parsing.specs.Stands.{NameHere, NameUnder, StandsHere}
 use Rattle.js_parsing.specs.States.{At, Same}
 use Rattle.js_operands.specs.declared.function.FunctionForm.{FunctionForm}
 use Rattle.js_operands.specs.declared.function.FunctionForm.TheVariants.{Declaration, Expression}
 use Rattle.js_operands.specs.declared.function.FunctionParts.{FunctionParts}
-use Rattle.js_operands.specs.Functions.{HeadRead, NoFunction, PartsTaken, TakesName, TakesParts, behind_star, function_kind, function_line, function_slots, name_part, nameless}
+use Rattle.js_operands.specs.Functions.{HeadRead, NamesFunction, NoFunction, PartsTaken, TakesName, TakesParts, behind_star, function_kind, function_line, function_slots, name_part, nameless}
 use Rattle.js_parsing.proofs.Giving.{fails_escaped, gives_up_here, kept_one}
 use Rattle.js_parsing.proofs.Here.{found, uncut}
 use Rattle.js_parsing.proofs.MadeNodes.{leaf_held, node_held, one_lies}
 use Rattle.js_parsing.proofs.Moving.{moves, same_both, same_itself, stops_behind}
-use Rattle.js_parsing.proofs.NameKinds.{name_apart, name_passes, name_read, name_test, no_name_here}
+use Rattle.js_parsing.proofs.NameKinds.{listed_name, name_apart, name_at, name_passes, name_read, name_test, no_name_here}
+use Rattle.js_parsing.proofs.NamedFirsts.{fails_unnamed}
 use Rattle.js_parsing.proofs.Parts.{part_called, part_from, part_goes, part_path, part_path_fails, part_sign, parts}
 use Rattle.js_parsing.proofs.Paths.{Path, ◌⟼◌, at_kind, fails_at, flagged_by, flagged_here, last_called, by_symbol_as, label_here, noded, not_here, read_of, walked_to}
 use Rattle.js_parsing.proofs.Signs.{other_kind, plain_sign, whole_sign}
@@ -104,13 +105,13 @@ last_part {n = n} {id = id} ids x c =
 
 -- ---- the name
 
--- a name that is bound, under any parameters
-name_numbered : {text : List ℕ} {f g : Flags} {p q : Parser} {id : NodeId} → At text f p → NameHere p true → LeafTaken node.BindingIdentifier op.None text f p q id → Numbered text f (at BindingIdentifier g) p q id
+-- a name that is bound, by other parameters than those at its place
+name_numbered : {text : List ℕ} {f g : Flags} {p q : Parser} {id : NodeId} → At text f p → NameUnder g.yield_ g.await_ p true → LeafTaken node.BindingIdentifier op.None text f p q id → Numbered text f (at BindingIdentifier g) p q id
 unfolding rule rule_of
 name_numbered {text} {f} {g} {p} {q} {id} a h t =
     let l : plain_label node.BindingIdentifier op.None p.token.span ≡ label_here binding_identifier no_op p t.mid = ap (λ (v : ℕ). record { kind = binding_identifier; op = no_op; flags = 0; span = record { from = p.token.span.start; to = v } }) (t.moved.tells.end ∙ t.moved.ends) in
     let ks : Keeps p.nodes t.mid.nodes = subst (λ (ns : List Node). Keeps p.nodes ns) (sym t.moved.nodes) (Keeps-refl p.nodes) in
-    let y : Path text f (after (at BindingIdentifier g)) (rule (at BindingIdentifier g)) p nothing t.mid (tree (label_here binding_identifier no_op p t.mid) end) = noded a (one_path (name_test g) a (name_apart slashes refl p.token.kind h.0) t.moved (plain_leaf p.token.kind refl h.1 (name_read p.token.kind h.0) t.moved) (name_passes g t.moved.lexeme (subst (λ (k : Kind). one_of_kinds name_kinds k ≡ true) t.moved.tells.kind h.0))) in
+    let y : Path text f (after (at BindingIdentifier g)) (rule (at BindingIdentifier g)) p nothing t.mid (tree (label_here binding_identifier no_op p t.mid) end) = noded a (one_path (name_test g) a (name_apart slashes refl p.token.kind (listed_name g.yield_ g.await_ p.token.kind h.0)) t.moved (plain_leaf p.token.kind refl h.1 (name_read p.token.kind (listed_name g.yield_ g.await_ p.token.kind h.0)) t.moved) (name_passes g t.moved.lexeme (subst (λ (k : Kind). may_name g.yield_ g.await_ k ≡ true) t.moved.tells.kind h.0))) in
     by_path (subst (λ (v : Label). Path text f (after (at BindingIdentifier g)) (rule (at BindingIdentifier g)) p nothing t.mid (tree v end)) (sym l) y) t.moved.same t.made.stays (λ y i. refl) refl (leaf_held t.made ks) (Keeps-trans ks (Keeps-made t.made.made)) (ap (λ (v : Label). v.span) l) (one_lies t.made)
 
 abbrev rest_of : Bool → Flags → G
@@ -127,24 +128,24 @@ any_between = record { admits = λ ts us vs j k ls mid rest d e h. (refl, refl) 
 
 module _ {text : List ℕ} {f : Flags} {r : Parser} (b : At text f r) where
   -- where no name stands
-  no_name_part : {X : Test} (g : Flags) → NameHere r false → Fails rule (Lex text) X end (symbol BindingIdentifier g) r.prev_token_end
+  no_name_part : {X : Test} (g : Flags) → NameUnder g.yield_ g.await_ r false → Fails rule (Lex text) X end (symbol BindingIdentifier g) r.prev_token_end
   unfolding covers apart
   no_name_part {X} g n = by r.token.escaped refl
     where
       by : (c : Bool) → r.token.escaped ≡ c → Fails rule (Lex text) X end (symbol BindingIdentifier g) r.prev_token_end
       by true e = fails_escaped b e
-      by false e = fails_at b (symbol BindingIdentifier g) name_kinds refl (no_name_here r n e)
+      by false e = fails_unnamed b g (λ g. symbol BindingIdentifier g) [] refl refl refl refl refl (no_name_here g r n e) refl
 
-  no_parenthesis : NameHere r true → one_of_kinds (LParen ∷ []) r.token.kind ≡ false
+  no_parenthesis : (y t : Bool) → NameUnder y t r true → one_of_kinds (LParen ∷ []) r.token.kind ≡ false
   unfolding apart
-  no_parenthesis h = name_apart (LParen ∷ []) refl r.token.kind h.0
+  no_parenthesis y t h = name_apart (LParen ∷ []) refl r.token.kind (listed_name y t r.token.kind h.0)
 
   -- a slot with a name, and an empty one
-  choose_name : (s : Bool) → NameHere r true → Goes rule (Lex text) (plain full) end (slot (symbol BindingIdentifier (params_of false s f)) ▸ rest_of s f) r.prev_token_end (symbol BindingIdentifier (params_of false s f) ▸ rest_of s f) r.prev_token_end (λ us. us) (still 0)
+  choose_name : (s : Bool) → NameUnder s false r true → Goes rule (Lex text) (plain full) end (slot (symbol BindingIdentifier (params_of false s f)) ▸ rest_of s f) r.prev_token_end (symbol BindingIdentifier (params_of false s f) ▸ rest_of s f) r.prev_token_end (λ us. us) (still 0)
   unfolding covers apart
-  choose_name s h = part_by {X' = plain opens} (left (fails_here firsts {X = plain opens} (λ y l t. not_here b (LParen ∷ []) refl (no_parenthesis h) y l (or_left (same_kind LParen y.kind) false t)))) (by_first firsts opens_surely refl)
+  choose_name s h = part_by {X' = plain opens} (left (fails_here firsts {X = plain opens} (λ y l t. not_here b (LParen ∷ []) refl (no_parenthesis s false h) y l (or_left (same_kind LParen y.kind) false t)))) (by_first firsts opens_surely refl)
 
-  choose_hole : (s : Bool) → NameHere r false → Goes rule (Lex text) (plain full) end (slot (symbol BindingIdentifier (params_of false s f)) ▸ rest_of s f) r.prev_token_end (rest_of s f) r.prev_token_end hole (still 0)
+  choose_hole : (s : Bool) → NameUnder s false r false → Goes rule (Lex text) (plain full) end (slot (symbol BindingIdentifier (params_of false s f)) ▸ rest_of s f) r.prev_token_end (rest_of s f) r.prev_token_end hole (still 0)
   choose_hole s n = part_by {X' = plain full} (right (no_name_part (params_of false s f) n)) any_between ▹ then_by {X' = plain full} reads_empty_slot any_between
 
 -- ---- a function
@@ -186,27 +187,27 @@ module _ {text : List ℕ} {f : Flags} {p q : Parser} (form : FunctionForm) (a :
 -- ---- the name
 
 -- the parts up to the name, of which none is derived where a declaration has none
-pub named : {text : List ℕ} {f : Flags} {p q : Parser} (form : FunctionForm) (a : At text f p) (h : StandsHere p Function true) (m : Moved text f p q) (s : Bool) (r : Parser) (c : Eats Star q r s) (t : Parser) (name : Option NodeId) → TakesName form r t (Ok name) → Partway text f (function_slots form s f) (rest_of s f) p t [] (name ∷ [])
+pub named : {text : List ℕ} {f : Flags} {p q : Parser} (form : FunctionForm) (a : At text f p) (h : StandsHere p Function true) (m : Moved text f p q) (s : Bool) (r : Parser) (c : Eats Star q r s) (t : Parser) (name : Option NodeId) → TakesName form s r t (Ok name) → Partway text f (function_slots form s f) (rest_of s f) p t [] (name ∷ [])
 unfolding covers
-named {text} {f} {p} {q} Declaration a h m s r c t (Some id) (n, l) = parts (starred Declaration a h m s r c) (part_called [] (name_numbered (star_at Declaration a h m s r c) n (l text f (star_at Declaration a h m s r c))) refl)
+named {text} {f} {p} {q} Declaration a h m s r c t (Some id) (n, l) = parts (starred Declaration a h m s r c) (part_called [] (name_numbered (star_at Declaration a h m s r c) (name_at true (star_at Declaration a h m s r c) n) (l text f (star_at Declaration a h m s r c))) refl)
 named {text} {f} {p} {q} Expression a h m s r c t (Some id) (n, l) = parts (part_goes (starred Expression a h m s r c) (choose_name (star_at Expression a h m s r c) s n)) (part_called [] (name_numbered (star_at Expression a h m s r c) n (l text f (star_at Expression a h m s r c))) refl)
 named {text} {f} {p} {q} Expression a h m s r c t None (n, e) = subst (λ (v : Parser). Partway text f (function_slots Expression s f) (rest_of s f) p v [] (None ∷ [])) (sym e) (part_hole (starred Expression a h m s r c) (choose_hole (star_at Expression a h m s r c) s n))
 named {text} {f} {p} {q} Declaration a h m s r c t None (n, k) =
     let x = starred Declaration a h m s r c in
     hole_behind x (told_at k x.at) (told_same k refl) (ap (λ (v : Parser). v.prev_token_end) k.is) (ap spot k.is) (ap (λ (v : Parser). v.nodes) k.is)
-    (unclean (grown_behind x.verdict (kept_one k)) (part_path_fails x (part_fails {X' = plain full} (no_name_part x.at f n) any_between)))
+    (unclean (grown_behind x.verdict (kept_one k)) (part_path_fails x (part_fails {X' = plain full} (no_name_part x.at f (name_at false x.at n)) any_between)))
 
-pub name_stops : {text : List ℕ} {f : Flags} {p q : Parser} (form : FunctionForm) (a : At text f p) (h : StandsHere p Function true) (m : Moved text f p q) (s : Bool) (r : Parser) (c : Eats Star q r s) (t : Parser) (e : Stop) → TakesName form r t (Err e) → Stops p t e (NoFunction text form f p.prev_token_end)
+pub name_stops : {text : List ℕ} {f : Flags} {p q : Parser} (form : FunctionForm) (a : At text f p) (h : StandsHere p Function true) (m : Moved text f p q) (s : Bool) (r : Parser) (c : Eats Star q r s) (t : Parser) (e : Stop) → TakesName form s r t (Err e) → Stops p t e (NoFunction text form f p.prev_token_end)
 name_stops {text} {f} {p} {q} Declaration a h m s r c t Fatal (d, n, g) =
     let x = starred Declaration a h m s r c in
-    stops_behind t Fatal x.same (λ k. grown_behind x.verdict k) (λ k. k) (gives_up_here r t Fatal x.at g (neither Declaration a h m s r c (part_fails {X' = plain full} (no_name_part x.at f n) any_between)))
+    stops_behind t Fatal x.same (λ k. grown_behind x.verdict k) (λ k. k) (gives_up_here r t Fatal x.at g (neither Declaration a h m s r c (part_fails {X' = plain full} (no_name_part x.at f (name_at false x.at n)) any_between)))
 name_stops Expression a h m s r c t Fatal (d, n, g) = absurd (cc)
 name_stops Declaration a h m s r c t NoMemory n = tt
 name_stops Expression a h m s r c t NoMemory n = tt
 
 -- ---- parameters and body
 
-module _ {text : List ℕ} {f : Flags} {p q : Parser} (form : FunctionForm) (a : At text f p) (h : StandsHere p Function true) (m : Moved text f p q) (s : Bool) (r : Parser) (c : Eats Star q r s) (t : Parser) (name : Option NodeId) (n : TakesName form r t (Ok name)) where
+module _ {text : List ℕ} {f : Flags} {p q : Parser} (form : FunctionForm) (a : At text f p) (h : StandsHere p Function true) (m : Moved text f p q) (s : Bool) (r : Parser) (c : Eats Star q r s) (t : Parser) (name : Option NodeId) (n : TakesName form s r t (Ok name)) where
   abbrev its : Partway text f (function_slots form s f) (rest_of s f) p t [] (name ∷ [])
   its = named form a h m s r c t name n
 
@@ -310,10 +311,14 @@ nameless_marked {text} {f} {p} s a h e =
     subst (λ (v : Span). Mark (goal p) p.text (nameless v)) (sym e) m
 
 -- what is said of a name that isn't there
-pub name_refused : (form : FunctionForm) (p q : Parser) (e : Stop) → (form ≡ Expression → ⊥) → NameHere p false → GivesUp (IsUnexpected p) p q e → TakesName form p q (Err e)
-name_refused Declaration p q Fatal n h g = (refl, h, g)
-name_refused Declaration p q NoMemory n h g = tt
-name_refused Expression p q e n h g = absurd (n refl)
+pub name_refused : (form : FunctionForm) (s : Bool) (p q : Parser) (e : Stop) → (form ≡ Expression → ⊥) → NamesFunction form s p false → GivesUp (IsUnexpected p) p q e → TakesName form s p q (Err e)
+name_refused Declaration s p q Fatal n h g = (refl, h, g)
+name_refused Declaration s p q NoMemory n h g = tt
+name_refused Expression s p q e n h g = absurd (n refl)
+
+-- whether a name stands here, by what a test says
+pub names_so : (form : FunctionForm) (s : Bool) (p : Parser) {b r : Bool} → r ≡ b → NamesFunction form s p r → NamesFunction form s p b
+names_so form s p e h = subst (λ (c : Bool). NamesFunction form s p c) e h
 
 -- less of the text is left behind what was read
 pub room_less : {text : List ℕ} {f : Flags} {p q : Parser} → At text f p → p.token.span.start < q.prev_token_end → Same p q → room q < room p

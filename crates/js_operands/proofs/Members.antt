@@ -46,7 +46,7 @@ use Rattle.js_cursor.specs.Moves.{Enters, GivesUp, Leaves, MovesOn, OnlyMemory, 
 use Rattle.js_cursor.specs.declared.stop.Stop.{Stop}
 use Rattle.js_cursor.specs.declared.stop.Stop.TheVariants.{Fatal, NoMemory}
 use Rattle.js_cursor.proofs.Later.{follows_on}
-use Rattle.js_parsing.specs.Lexemes.{Lex, is_read, read_kinds, read_word}
+use Rattle.js_parsing.specs.Lexemes.{Lex, is_read, read_kinds, read_word, name_kinds}
 use Rattle.js_parsing.specs.States.{At, Same, Standing}
 use Rattle.js_parsing.specs.Nesting.{room}
 use Rattle.js_parsing.proofs.Nesting.{nested_room, later_room}
@@ -64,6 +64,7 @@ use Rattle.js_parsing.proofs.Moving.{moves, same_both, beside_nodes, elsewhere, 
 use Rattle.js_parsing.proofs.MadeNodes.{leaf_held, node_held, one_lies, made_lies}
 use Rattle.js_parsing.proofs.Paths.{reads, Path, ◌⟶✗◌, skips, token, passes_test, read_of, walked_both, walked_one, noded, noding, label_here, fails_at}
 use Rattle.js_operands.proofs.Operands.{by_path, primary_fails, primary_kinds}
+use Rattle.js_parsing.proofs.NameKinds.{no_listed_name}
 use Rattle.js_parsing.proofs.Giving.{fails_none, gives_up}
 use Rattle.js_parsing.proofs.Signs.{AllAre, NoneIs}
 use Rattle.js_operands.proofs.Links.{NotCall, bases, before_chain, with_arguments, member_start, no_member, member_new, no_member_new, member_step, member_step_fails, member_end, no_new_before, new_unfollowed, no_new, new_member, new_bare, member_before_chain, no_call_at_all, no_call_behind, call_begin, call_step, call_step_fails, call_ends, base_member, base_call, base_none, chain_begin, no_first, chain_step, chain_step_fails, chain_ends, no_lhs, lhs_new, lhs_call, lhs_chain, call_unfollowed, member_before, member_alone, call_alone, no_lhs_here, call_heads, chain_heads}
@@ -407,7 +408,7 @@ no_arguments_here f n = fails_here firsts (λ y l h. n y l (sym (kind_of_same LP
 
 module _ {text : List ℕ} {f : Flags} {p q : Parser} (a : At text f p) (k : p.token.kind ≡ New) (n : p.token.escaped ≡ false) (m : Moved text f p q) where
   no_primary : Underived text (at Primary f) p.prev_token_end
-  no_primary = primary_fails a (subst (λ v. one_of_kinds primary_kinds v ≡ false) (sym k) refl)
+  no_primary = primary_fails a (no_listed_name f.yield_ f.await_ p.token.kind (subst (λ v. one_of_kinds name_kinds v ≡ false) (sym k) refl)) (subst (λ v. one_of_kinds primary_kinds v ≡ false) (sym k) refl)
 
   bare_fails : Underived text (at new_symbol f) q.prev_token_end → NoBareNew text f p.prev_token_end
   bare_fails z = fails_node (new_edge f p.prev_token_end) (token New a k n refl m ⟶✗ z)

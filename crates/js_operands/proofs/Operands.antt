@@ -36,7 +36,7 @@ use Rattle.js_cursor.specs.Parsers.{Parser}
 use Rattle.js_cursor.specs.Moves.{OnlyMemory}
 use Rattle.js_cursor.specs.declared.stop.Stop.{Stop}
 use Rattle.js_cursor.specs.declared.stop.Stop.TheVariants.{Fatal, NoMemory}
-use Rattle.js_parsing.specs.Lexemes.{Lex, Plain, is_read, name_kinds, read_kinds, slashes}
+use Rattle.js_parsing.specs.Lexemes.{Lex, Plain, is_read, may_name, name_kinds, read_kinds, slashes}
 use Rattle.js_parsing.specs.States.{At, Same, NodesLie}
 use Rattle.js_parsing.specs.Moves.{Moved, MadeHere, LeafTaken, TakesLeaf, plain_label}
 use Rattle.js_parsing.specs.Answers.{Underived, Answer, Numbered, Outcome, beside}
@@ -44,7 +44,8 @@ use Rattle.js_operands.specs.Numbers.{node_of_number, op_of_number}
 use Rattle.js_parsing.specs.Operators.{unary_kinds}
 use Rattle.js_parsing.proofs.Moving.{neither, same_both, same_with, beside_nodes}
 use Rattle.js_parsing.proofs.Dead.{live, lives}
-use Rattle.js_parsing.proofs.NameKinds.{at_name, name_apart, name_passes, name_read, name_test}
+use Rattle.js_parsing.proofs.NameKinds.{at_name, listed_name, name_apart, name_passes, name_read, name_test}
+use Rattle.js_parsing.proofs.NamedFirsts.{fails_unnamed}
 use Rattle.js_parsing.proofs.MadeNodes.{leaf_held, one_held, LabelLies, from_start, one_lies}
 use Rattle.js_parsing.proofs.Tight.{plain_reads}
 use Rattle.js_parsing.proofs.Paths.{Path, ◌⟼◌, ◌⟶◌, ◌⟶✗◌, at_kind, fails_at, token, last_token, last_called, passes_test, noded, noded_by, by_symbol_as, label_here, read_of, walked_one}
@@ -120,6 +121,9 @@ one_path test a u s r h = record { at = s.at; further = s.further; pass = _; wal
 pub plain_leaf : {text : List ℕ} {f : Flags} {p q : Parser} (k : Kind) → p.token.kind ≡ k → p.token.escaped ≡ false → one_of_kinds read_kinds k ≡ true → (s : Moved text f p q) → IsTrue (is_read s.lexeme)
 plain_leaf k e n r s = read_of s.lexeme (sym s.tells.kind ∙ e) (sym s.tells.escaped ∙ n) r
 
+abbrev pub LeafUnder : List ℕ → Flags → NodeKind → Op → Kind → Type 0
+LeafUnder text f l o k = (p q : Parser) → At text f p → p.token.kind ≡ k → p.token.escaped ≡ false → Moved text f p q → Path text f (after (at Primary f)) (rule (at Primary f)) p nothing q (tree (label_here l o p q) end)
+
 abbrev pub Leaf : NodeKind → Op → Kind → Type 0
 Leaf l o k = (text : List ℕ) (f : Flags) (p q : Parser) → At text f p → p.token.kind ≡ k → p.token.escaped ≡ false → Moved text f p q → Path text f (after (at Primary f)) (rule (at Primary f)) p nothing q (tree (label_here l o p q) end)
 
@@ -178,14 +182,14 @@ unfolding rule rule_of covers
 string_path text f p q a e n s = at_kind a Str e refl ⟼ noded a (last_token Str a e n refl s)
 
 -- a name
-pub name_leaf : {text : List ℕ} {f : Flags} {X : Test} {p q : Parser} → At text f p → one_of_kinds name_kinds p.token.kind ≡ true → p.token.escaped ≡ false → Moved text f p q → Path text f X (lexeme (name_test f)) p nothing q (λ us. us)
-name_leaf {f = f} {p = p} a h n s = one_path (name_test f) a (name_apart slashes refl p.token.kind h) s (plain_leaf p.token.kind refl n (name_read p.token.kind h) s) (name_passes f s.lexeme (subst (λ (k : Kind). one_of_kinds name_kinds k ≡ true) s.tells.kind h))
+pub name_leaf : {text : List ℕ} {f : Flags} {X : Test} {p q : Parser} → At text f p → may_name f.yield_ f.await_ p.token.kind ≡ true → p.token.escaped ≡ false → Moved text f p q → Path text f X (lexeme (name_test f)) p nothing q (λ us. us)
+name_leaf {f = f} {p = p} a h n s = one_path (name_test f) a (name_apart slashes refl p.token.kind (listed_name f.yield_ f.await_ p.token.kind h)) s (plain_leaf p.token.kind refl n (name_read p.token.kind (listed_name f.yield_ f.await_ p.token.kind h)) s) (name_passes f s.lexeme (subst (λ (k : Kind). may_name f.yield_ f.await_ k ≡ true) s.tells.kind h))
 
-pub name_path : (k : Kind) → one_of_kinds name_kinds k ≡ true → Leaf identifier_reference no_op k
+pub name_path : (text : List ℕ) (f : Flags) (k : Kind) → may_name f.yield_ f.await_ k ≡ true → LeafUnder text f identifier_reference no_op k
 unfolding rule rule_of covers
-name_path k h text f p q a e n s =
-    let i : one_of_kinds name_kinds p.token.kind ≡ true = ap (one_of_kinds name_kinds) e ∙ h in
-    at_name a i ⟼ by_symbol_as {X' = plain full} (λ l cs vs y d. (refl, refl)) (noded a (name_leaf a i n s))
+name_path text f k h p q a e n s =
+    let i : may_name f.yield_ f.await_ p.token.kind ≡ true = ap (may_name f.yield_ f.await_) e ∙ h in
+    at_name a (listed_name f.yield_ f.await_ p.token.kind i) ⟼ by_symbol_as {X' = plain full} (λ l cs vs y d. (refl, refl)) (noded a (name_leaf a i n s))
 
 -- behind a primary expression whatever may stand that is read
 abbrev no_function : Look
@@ -196,11 +200,11 @@ unfolding covers
 behind_primary b l cs text s y h = covered plain_reads (λ k w e. no_function k w e || beside k w e) refl y.kind y.newline y.escaped h.1
 
 -- a node of one lexeme, read so
-pub leaf_answers : {text : List ℕ} {f : Flags} {p q : Parser} {id : NodeId} {nk : NodeKindMade} {no : OpMade} (k : Kind) → same_row after_expression (row_of (plain_label nk no p.token.span) end) ≡ true → Leaf (kind_of nk) (op_of no) k → At text f p → p.token.kind ≡ k → p.token.escaped ≡ false → LeafTaken nk no text f p q id → Numbered text f (at Primary f) p q id
+pub leaf_answers : {text : List ℕ} {f : Flags} {p q : Parser} {id : NodeId} {nk : NodeKindMade} {no : OpMade} (k : Kind) → same_row after_expression (row_of (plain_label nk no p.token.span) end) ≡ true → LeafUnder text f (kind_of nk) (op_of no) k → At text f p → p.token.kind ≡ k → p.token.escaped ≡ false → LeafTaken nk no text f p q id → Numbered text f (at Primary f) p q id
 leaf_answers {text} {f} {p} {q} {id} {nk} {no} k r path a e n t =
     let l : plain_label nk no p.token.span ≡ label_here (kind_of nk) (op_of no) p t.mid = ap (λ (v : ℕ). record { kind = kind_of nk; op = op_of no; flags = 0; span = record { from = p.token.span.start; to = v } }) (t.moved.tells.end ∙ t.moved.ends) in
     let ks : Keeps p.nodes t.mid.nodes = subst (λ (ns : List Node). Keeps p.nodes ns) (sym t.moved.nodes) (Keeps-refl p.nodes) in
-    by_path (subst (λ (v : Label). Path text f (after (at Primary f)) (rule (at Primary f)) p nothing t.mid (tree v end)) (sym l) (path text f p t.mid a e n t.moved)) t.moved.same t.made.stays (behind_primary f.in_ (plain_label nk no p.token.span) end text t.mid.prev_token_end) r (leaf_held t.made ks) (Keeps-trans ks (Keeps-made t.made.made)) (ap (λ (v : Label). v.span) l) (one_lies t.made)
+    by_path (subst (λ (v : Label). Path text f (after (at Primary f)) (rule (at Primary f)) p nothing t.mid (tree v end)) (sym l) (path p t.mid a e n t.moved)) t.moved.same t.made.stays (behind_primary f.in_ (plain_label nk no p.token.span) end text t.mid.prev_token_end) r (leaf_held t.made ks) (Keeps-trans ks (Keeps-made t.made.made)) (ap (λ (v : Label). v.span) l) (one_lies t.made)
 
 -- a unary operation
 pub unary_answers : {text : List ℕ} {f : Flags} {p q r w : Parser} {id arg : NodeId} (k : Kind) (o : UnaryOperator) (s : Span) → one_of_kinds unary_kinds k ≡ true → unary_kind o ≡ k → At text f p → p.token.kind ≡ k → p.token.escaped ≡ false → (m : Moved text f p q) → (x : Numbered text f (at Unary f) q r arg) → s.start ≡ p.token.span.start → s.end ≡ r.prev_token_end → MadeHere (plain_label node.UnaryExpression (op.Unary o) s) (Some arg ∷ []) r w id → Numbered text f (at Unary f) p w id
@@ -210,18 +214,21 @@ unary_answers {text} {f} {p} {q} {r} {w} {id} {arg} k o s h u a e n m x b c d =
     let ks : Keeps p.nodes r.nodes = subst (λ (ns : List Node). Keeps ns r.nodes) m.nodes x.keeps in
     by_path (unary_path text f k h p q r a e n m x.answer) (same_both m.same x.answer.same) made.stays x.answer.stops x.answer.row (one_held p.nodes made (subst (λ (ns : List Node). Holds r.nodes (length ns) (length r.nodes) arg.0 x.answer.label x.answer.slots) m.nodes x.holds)) (Keeps-trans ks (Keeps-made made.made)) refl (one_lies made)
 
--- what a PrimaryExpression begins with
+-- what a PrimaryExpression begins with that is no name
 abbrev pub primary_kinds : List Kind
-primary_kinds = This ∷ Null ∷ True ∷ False ∷ Str ∷ RegExp ∷ Slash ∷ SlashEq ∷ LParen ∷ LBrack ∷ Function ∷ LCurly ∷ Percent ∷ number_kinds ++ name_kinds
+primary_kinds = This ∷ Null ∷ True ∷ False ∷ Str ∷ RegExp ∷ Slash ∷ SlashEq ∷ LParen ∷ LBrack ∷ Function ∷ LCurly ∷ Percent ∷ number_kinds
 
-pub primary_fails : {text : List ℕ} {f : Flags} {p : Parser} → At text f p → one_of_kinds primary_kinds p.token.kind ≡ false → Underived text (at Primary f) p.prev_token_end
+pub primary_fails : {text : List ℕ} {f : Flags} {p : Parser} → At text f p → may_name f.yield_ f.await_ p.token.kind ≡ false → one_of_kinds primary_kinds p.token.kind ≡ false → Underived text (at Primary f) p.prev_token_end
 unfolding rule rule_of covers apart
-primary_fails {f = f} a n = fails_by (lives (rule (at Primary f)) ▹✗ fails_at a {X = after (at Primary f)} (live (rule (at Primary f))) primary_kinds refl n)
+primary_fails {f = f} a m n = fails_by (lives (rule (at Primary f)) ▹✗ fails_unnamed a f {X = after (at Primary f)} (λ g. live (rule (at Primary g))) primary_kinds refl refl refl refl refl m n)
+
+pub leaf_under : (text : List ℕ) (f : Flags) (p q : Parser) (nk : NodeKindMade) (o : OpMade) (k : Kind) (r : Result NodeId Stop) → same_row after_expression (row_of (plain_label nk o p.token.span) end) ≡ true → LeafUnder text f (kind_of nk) (op_of o) k → At text f p → p.token.kind ≡ k → p.token.escaped ≡ false → MatchResult r (λ id. TakesLeaf nk o p q id) OnlyMemory → Outcome text f (at Primary f) p q r
+leaf_under text f p q nk o k (Ok id) r path a e n m = leaf_answers k r path a e n (m text f a)
+leaf_under text f p q nk o k (Err Fatal) r path a e n m = absurd m
+leaf_under text f p q nk o k (Err NoMemory) r path a e n m = tt
 
 pub leaf_outcome : (text : List ℕ) (f : Flags) (p q : Parser) (nk : NodeKindMade) (o : OpMade) (k : Kind) (r : Result NodeId Stop) → same_row after_expression (row_of (plain_label nk o p.token.span) end) ≡ true → Leaf (kind_of nk) (op_of o) k → At text f p → p.token.kind ≡ k → p.token.escaped ≡ false → MatchResult r (λ id. TakesLeaf nk o p q id) OnlyMemory → Outcome text f (at Primary f) p q r
-leaf_outcome text f p q nk o k (Ok id) r path a e n m = leaf_answers k r path a e n (m text f a)
-leaf_outcome text f p q nk o k (Err Fatal) r path a e n m = absurd m
-leaf_outcome text f p q nk o k (Err NoMemory) r path a e n m = tt
+leaf_outcome text f p q nk o k r e path = leaf_under text f p q nk o k r e (path text f)
 
 not_same : (a k : Kind) (b : Bool) → (k ≡ a → ⊥) → (same_kind a k || b) ≡ b
 not_same a k b n = go (same_kind a k) refl
@@ -230,12 +237,8 @@ not_same a k b n = go (same_kind a k) refl
     go true e = absurd (n (sym (kind_of_same a k e)))
     go false e = refl
 
-neither_list : (ks ls : List Kind) (k : Kind) → one_of_kinds ks k ≡ false → one_of_kinds ls k ≡ false → one_of_kinds (ks ++ ls) k ≡ false
-neither_list [] ls k h i = i
-neither_list (a ∷ ks) ls k h i = let z = neither (same_kind a k) (one_of_kinds ks k) h in rw (z.0, neither_list ks ls k z.1 i) refl
-
-pub none_of_these : (k : Kind) → one_of_kinds name_kinds k ≡ false → (k ≡ This → ⊥) → (k ≡ Null → ⊥) → (k ≡ True → ⊥) → (k ≡ False → ⊥) → (k ≡ Str → ⊥) → (k ≡ RegExp → ⊥) → (k ≡ Slash → ⊥) → (k ≡ SlashEq → ⊥) → (k ≡ LParen → ⊥) → (k ≡ LBrack → ⊥) → (k ≡ Function → ⊥) → (k ≡ LCurly → ⊥) → (k ≡ Percent → ⊥) → one_of_kinds number_kinds k ≡ false → one_of_kinds primary_kinds k ≡ false
-none_of_these k a b c d e f x y z g j o u h n = not_same This k _ b ∙ (not_same Null k _ c ∙ (not_same True k _ d ∙ (not_same False k _ e ∙ (not_same Str k _ f ∙ (not_same RegExp k _ x ∙ (not_same Slash k _ y ∙ (not_same SlashEq k _ z ∙ (not_same LParen k _ g ∙ (not_same LBrack k _ j ∙ (not_same Function k _ o ∙ (not_same LCurly k _ u ∙ (not_same Percent k _ h ∙ neither_list number_kinds name_kinds k n a))))))))))))
+pub none_of_these : (k : Kind) → (k ≡ This → ⊥) → (k ≡ Null → ⊥) → (k ≡ True → ⊥) → (k ≡ False → ⊥) → (k ≡ Str → ⊥) → (k ≡ RegExp → ⊥) → (k ≡ Slash → ⊥) → (k ≡ SlashEq → ⊥) → (k ≡ LParen → ⊥) → (k ≡ LBrack → ⊥) → (k ≡ Function → ⊥) → (k ≡ LCurly → ⊥) → (k ≡ Percent → ⊥) → one_of_kinds number_kinds k ≡ false → one_of_kinds primary_kinds k ≡ false
+none_of_these k b c d e f x y z g j o u h n = not_same This k _ b ∙ (not_same Null k _ c ∙ (not_same True k _ d ∙ (not_same False k _ e ∙ (not_same Str k _ f ∙ (not_same RegExp k _ x ∙ (not_same Slash k _ y ∙ (not_same SlashEq k _ z ∙ (not_same LParen k _ g ∙ (not_same LBrack k _ j ∙ (not_same Function k _ o ∙ (not_same LCurly k _ u ∙ (not_same Percent k _ h ∙ n))))))))))))
 
 -- a number, read so
 pub number_outcome : (text : List ℕ) (f : Flags) (p q : Parser) (nk : NodeKindMade) (o : OpMade) (k : Kind) (r : Result NodeId Stop) → one_of_kinds number_kinds p.token.kind ≡ true → k ≡ p.token.kind → nk ≡ node_of_number k → o ≡ op_of_number k → At text f p → p.token.escaped ≡ false → MatchResult r (λ id. TakesLeaf nk o p q id) OnlyMemory → Outcome text f (at Primary f) p q r

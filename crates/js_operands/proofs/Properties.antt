@@ -20,7 +20,8 @@ use Rattle.js_operands.specs.PropertyNames.{NameRead, NoName}
 use Rattle.js_operands.specs.Spreads.{spread}
 use Rattle.js_parsing.specs.declared.nested.MethodForm.TheVariants.{Method, Getter, Setter}
 use Rattle.js_parsing.specs.Arguments.{Partway, behind_item}
-use Rattle.js_parsing.specs.Lexemes.{Lex, name_kinds, read_word}
+use Rattle.js_parsing.specs.Lexemes.{Lex, may_name, name_kinds, read_word}
+use Rattle.js_parsing.proofs.NamedFirsts.{fails_unnamed}
 use Rattle.js_parsing.specs.Methods.{WholeTaken}
 use Rattle.js_parsing.specs.States.{At}
 use Rattle.js_parsing.proofs.Dead.{fails_dead}
@@ -135,6 +136,11 @@ module _ {text : List ℕ} {f : Flags} {p : Parser} (a : At text f p) where
   pub no_shorthand : one_of_kinds name_kinds p.token.kind ≡ false → Fails rule (Lex text) behind_item end (shorthand f) p.prev_token_end
   unfolding covers apart
   no_shorthand n = fails_at a (shorthand f) name_kinds refl n
+
+  -- nor where a word stands that is no name by the parameters in force
+  pub no_named_shorthand : may_name f.yield_ f.await_ p.token.kind ≡ false → Fails rule (Lex text) behind_item end (shorthand f) p.prev_token_end
+  unfolding covers apart
+  no_named_shorthand n = fails_unnamed a f (λ g. shorthand g) [] refl refl refl refl refl n refl
 
   pub no_spread : one_of_kinds (Dot3 ∷ []) p.token.kind ≡ false → Fails rule (Lex text) behind_item end (spread f) p.prev_token_end
   unfolding covers apart

@@ -25,7 +25,7 @@ use Rattle.js_operands.proofs.Wholes.{part_by}
 use Rattle.js_parsing.specs.declared.nested.MethodForm.{MethodForm}
 use Rattle.js_parsing.specs.declared.nested.MethodForm.TheVariants.{Method, Getter, Setter}
 use Rattle.js_parsing.specs.Arguments.{NoItem, Partway, behind_item}
-use Rattle.js_parsing.specs.Lexemes.{Lex, name_kinds, read_word}
+use Rattle.js_parsing.specs.Lexemes.{Lex, may_name, name_kinds, read_word}
 use Rattle.js_parsing.specs.Moves.{LeafTaken, MadeHere, Moved, Moves, plain_label}
 use Rattle.js_parsing.specs.Nesting.{room}
 use Rattle.js_base.specs.declared.span.Span.{Span}
@@ -38,7 +38,7 @@ use Rattle.js_parsing.proofs.Moving.{beside_nodes, neither}
 use Rattle.js_parsing.proofs.Parts.{part_from, part_sign, parts}
 use Rattle.js_parsing.proofs.Paths.{◌⟶✗◌, token}
 use Rattle.js_operands.proofs.Methods.{no_first}
-use Rattle.js_operands.proofs.Properties.{behind_shorthand, forms, kinds_apart, name_part, no_forms, no_getter, no_method, no_name_begins, no_setter, no_shorthand, no_spread, no_value, only_getters, only_method, only_named, only_setters, only_shorthand, only_spread, property_name_kinds, none_of_line, with_star, word_apart}
+use Rattle.js_operands.proofs.Properties.{behind_shorthand, forms, kinds_apart, name_part, no_forms, no_getter, no_method, no_name_begins, no_setter, no_named_shorthand, no_shorthand, no_spread, no_value, only_getters, only_method, only_named, only_setters, only_shorthand, only_spread, property_name_kinds, none_of_line, with_star, word_apart}
 use Rattle.js_operands.proofs.WordProperties.{no_accessor, no_dots, no_methods, no_star, no_values, not_alone, one_begins}
 
 abbrev read_words : Look
@@ -122,11 +122,11 @@ module _ {text : List ℕ} {f : Flags} {p : Parser} (a : At text f p) where
   module _ {q : Parser} (r : read_word p.token.kind ≡ true) (e : p.token.escaped ≡ false) (m : Moved text f p q) where
     -- an accessor
     no_shorthand_so : one_of_kinds behind_shorthand q.token.kind ≡ false → Fails rule (Lex text) behind_item end (shorthand f) p.prev_token_end
-    no_shorthand_so h = go (one_of_kinds name_kinds p.token.kind) refl
+    no_shorthand_so h = go (may_name f.yield_ f.await_ p.token.kind) refl
       where
-        go : (b : Bool) → one_of_kinds name_kinds p.token.kind ≡ b → Fails rule (Lex text) behind_item end (shorthand f) p.prev_token_end
+        go : (b : Bool) → may_name f.yield_ f.await_ p.token.kind ≡ b → Fails rule (Lex text) behind_item end (shorthand f) p.prev_token_end
         go true i = not_alone a i e m h
-        go false i = no_shorthand a i
+        go false i = no_named_shorthand a i
 
     pub accessor_only : (form : MethodForm) → Begins form p.token.kind × (one_of_kinds ends_name_kinds q.token.kind ≡ false) → Goes rule (Lex text) behind_item end (rule (at Property f)) p.prev_token_end (accessors form f) p.prev_token_end (λ us. us) (still 0)
     accessor_only Method z = absurd z.0
@@ -144,19 +144,19 @@ module _ {text : List ℕ} {f : Flags} {p : Parser} (a : At text f p) where
         only_shorthand f (λ c. let y = no_accessor a r e m n c in no_forms f c (no_values a r e m z.0 c) (no_methods a r e m z.1 c) y.0 y.1) (no_spread a (no_dots a r e m))
 
     -- its name with something behind it
-    pub word_only : form_of p.token.kind q.token.kind ≡ None → (one_of_kinds name_kinds p.token.kind && not (one_of_kinds (Colon ∷ LParen ∷ []) q.token.kind)) ≡ false → NoName text true f p.prev_token_end → Goes rule (Lex text) behind_item end (rule (at Property f)) p.prev_token_end (named false f) p.prev_token_end (λ us. us) (still 0)
+    pub word_only : form_of p.token.kind q.token.kind ≡ None → (may_name f.yield_ f.await_ p.token.kind && not (one_of_kinds (Colon ∷ LParen ∷ []) q.token.kind)) ≡ false → NoName text true f p.prev_token_end → Goes rule (Lex text) behind_item end (rule (at Property f)) p.prev_token_end (named false f) p.prev_token_end (λ us. us) (still 0)
     unfolding apart
     word_only n h o =
         let y = no_accessor a r e m n in
         only_named f false no_short (no_spread a (no_dots a r e m)) (y false).0 (y false).1 (no_forms f true (no_value a true o) (no_method a true (no_star a r e m) o) (y true).0 (y true).1)
       where
-        go : (b c : Bool) → one_of_kinds name_kinds p.token.kind ≡ b → one_of_kinds (Colon ∷ LParen ∷ []) q.token.kind ≡ c → (b && not c) ≡ false → Fails rule (Lex text) behind_item end (shorthand f) p.prev_token_end
+        go : (b c : Bool) → may_name f.yield_ f.await_ p.token.kind ≡ b → one_of_kinds (Colon ∷ LParen ∷ []) q.token.kind ≡ c → (b && not c) ≡ false → Fails rule (Lex text) behind_item end (shorthand f) p.prev_token_end
         go true true i j z = not_alone a i e m (kinds_apart (Colon ∷ LParen ∷ []) behind_shorthand refl q.token.kind j)
         go true false i j z = absurd (false≢true (sym z))
-        go false c i j z = no_shorthand a i
+        go false c i j z = no_named_shorthand a i
 
         no_short : Fails rule (Lex text) behind_item end (shorthand f) p.prev_token_end
-        no_short = go (one_of_kinds name_kinds p.token.kind) (one_of_kinds (Colon ∷ LParen ∷ []) q.token.kind) refl refl h
+        no_short = go (may_name f.yield_ f.await_ p.token.kind) (one_of_kinds (Colon ∷ LParen ∷ []) q.token.kind) refl refl h
 
 -- ---- an accessor, from its name on
 
@@ -205,8 +205,8 @@ no_value_or_method true false h = (refl, refl)
 no_value_or_method true true h = absurd (false≢true h)
 no_value_or_method false y h = absurd (false≢true h)
 
-pub no_shorthand_here : {w b k j : Kind} → w ≡ k → b ≡ j → (one_of_kinds name_kinds w && not (one_of_kinds (Colon ∷ LParen ∷ []) b)) ≡ false → (one_of_kinds name_kinds k && not (one_of_kinds (Colon ∷ LParen ∷ []) j)) ≡ false
-no_shorthand_here {w} {b} {k} {j} e h n = subst (λ (x : Kind). (one_of_kinds name_kinds x && not (one_of_kinds (Colon ∷ LParen ∷ []) j)) ≡ false) e (subst (λ (x : Kind). (one_of_kinds name_kinds w && not (one_of_kinds (Colon ∷ LParen ∷ []) x)) ≡ false) h n)
+pub no_shorthand_here : (y t : Bool) {w b k j : Kind} → w ≡ k → b ≡ j → (may_name y t w && not (one_of_kinds (Colon ∷ LParen ∷ []) b)) ≡ false → (may_name y t k && not (one_of_kinds (Colon ∷ LParen ∷ []) j)) ≡ false
+no_shorthand_here y t {w} {b} {k} {j} e h n = subst (λ (x : Kind). (may_name y t x && not (one_of_kinds (Colon ∷ LParen ∷ []) j)) ≡ false) e (subst (λ (x : Kind). (may_name y t w && not (one_of_kinds (Colon ∷ LParen ∷ []) x)) ≡ false) h n)
 
 -- a word that was passed, and its node
 module _ {text : List ℕ} {f : Flags} {p q : Parser} (a : At text f p) (r : read_word p.token.kind ≡ true) (e : p.token.escaped ≡ false) (ms : Moves p q) where

@@ -37,7 +37,8 @@ use Rattle.js_parsing.specs.declared.nested.MethodForm.TheVariants.{Method, Gett
 use Rattle.js_base.specs.declared.diagnostic.Diagnostic.{Diagnostic}
 use Rattle.js_parsing.specs.Answers.{Answer, Grown, Numbered, Stops, Underived}
 use Rattle.js_parsing.specs.Arguments.{PartTaken, behind_item}
-use Rattle.js_parsing.specs.Lexemes.{Lex, is_read, name_kinds, read_kinds, read_word}
+use Rattle.js_parsing.specs.Lexemes.{Lex, is_read, may_name, name_kinds, read_kinds, read_word}
+use Rattle.js_parsing.proofs.NameKinds.{listed_name}
 use Rattle.js_parsing.specs.Moves.{Moved, MadeHere, plain_label}
 use Rattle.js_parsing.specs.States.{At, Same, NodesLie}
 use Rattle.js_parsing.proofs.Here.{begins_here, kind_here}
@@ -231,7 +232,7 @@ module _ {text : List ℕ} {f : Flags} {p q : Parser} (a : At text f p) (r : rea
 pub name_word : (k : Kind) → one_of_kinds name_kinds k ≡ true → read_word k ≡ true
 name_word k h = or_left (one_of_kinds name_kinds k) _ h
 
-module _ {text : List ℕ} {f : Flags} {p q : Parser} (a : At text f p) (i : one_of_kinds name_kinds p.token.kind ≡ true) (n : p.token.escaped ≡ false) (m : Moved text f p q) where
+module _ {text : List ℕ} {f : Flags} {p q : Parser} (a : At text f p) (i : may_name f.yield_ f.await_ p.token.kind ≡ true) (n : p.token.escaped ≡ false) (m : Moved text f p q) where
   abbrev reference_label : Label
   reference_label = label_here identifier_reference no_op p q
 
@@ -246,7 +247,7 @@ module _ {text : List ℕ} {f : Flags} {p q : Parser} (a : At text f p) (i : one
   reference_path = by_symbol_as {X' = plain full} (λ l cs vs y d. (refl, refl)) (noded a (name_leaf a i n m))
 
   to_initialiser : Path text f behind_item inner p (initialiser f) q two
-  to_initialiser = ahead_then a (name_word p.token.kind i) n m (path_then reference_path)
+  to_initialiser = ahead_then a (name_word p.token.kind (listed_name f.yield_ f.await_ p.token.kind i)) n m (path_then reference_path)
 
   alone_path : (q.token.kind ≡ Eq → ⊥) → Path text f behind_item (shorthand f) p nothing q (tree (flagged_here object_property init shorthand_flag p q) (two end))
   unfolding covers apart

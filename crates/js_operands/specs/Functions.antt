@@ -20,7 +20,7 @@ use Rattle.js_parsing.specs.Answers.{Stops}
 use Rattle.js_parsing.specs.Arguments.{Partway}
 use Rattle.js_parsing.specs.Lexemes.{Lex, Walked, spot}
 use Rattle.js_parsing.specs.Moves.{TakesLeaf}
-use Rattle.js_parsing.specs.Stands.{NameHere}
+use Rattle.js_parsing.specs.Stands.{NameHere, NameUnder}
 use Rattle.js_parsing.specs.States.{At, Same}
 use Rattle.js_parsing.specs.Told.{unrelated_at}
 use Rattle.js_operands.specs.declared.function.FunctionForm.{FunctionForm}
@@ -78,10 +78,15 @@ TakesParts form old new (Err e) = (text : List ℕ) (f : Flags) → At text f ol
 abbrev pub nameless : Span → Diagnostic
 nameless s = unrelated_at ExpectFunctionName s
 
+-- whether its name stands here: that of an expression is a name by the parameters of the function itself, a generator or not
+abbrev pub NamesFunction : FunctionForm → Bool → Parser → Bool → Type 0
+NamesFunction Declaration generator p b = NameHere p b
+NamesFunction Expression generator p b = NameUnder generator false p b
+
 -- The name of a function, or none.
-abbrev pub TakesName : FunctionForm → Parser → Parser → Result (Option NodeId) Stop → Type 0
-TakesName form old new (Ok (Some id)) = NameHere old true × TakesLeaf node.BindingIdentifier op.None old new id
-TakesName Expression old new (Ok None) = NameHere old false × (new ≡ old)
-TakesName Declaration old new (Ok None) = NameHere old false × Keeps (nameless old.token.span) old new
-TakesName form old new (Err Fatal) = (form ≡ Declaration) × NameHere old false × GivesUp (IsUnexpected old) old new Fatal
-TakesName form old new (Err NoMemory) = Unit {0}
+abbrev pub TakesName : FunctionForm → Bool → Parser → Parser → Result (Option NodeId) Stop → Type 0
+TakesName form generator old new (Ok (Some id)) = NamesFunction form generator old true × TakesLeaf node.BindingIdentifier op.None old new id
+TakesName Expression generator old new (Ok None) = NameUnder generator false old false × (new ≡ old)
+TakesName Declaration generator old new (Ok None) = NameHere old false × Keeps (nameless old.token.span) old new
+TakesName form generator old new (Err Fatal) = (form ≡ Declaration) × NameHere old false × GivesUp (IsUnexpected old) old new Fatal
+TakesName form generator old new (Err NoMemory) = Unit {0}

@@ -23,7 +23,7 @@ use Rattle.js_parsing.specs.declared.nested.MethodForm.{MethodForm}
 use Rattle.js_parsing.specs.declared.nested.MethodForm.TheVariants.{Method, Getter, Setter}
 use Rattle.js_parsing.specs.Answers.{Stops}
 use Rattle.js_parsing.specs.Arguments.{Partway}
-use Rattle.js_parsing.specs.Lexemes.{Lex, name_kinds}
+use Rattle.js_parsing.specs.Lexemes.{Lex, may_name}
 use Rattle.js_parsing.specs.Methods.{parameters_of}
 use Rattle.js_parsing.specs.Moves.{Moved}
 use Rattle.js_parsing.specs.States.{At}
@@ -112,9 +112,9 @@ ReadsMethod start n form s old new r = (text : List ℕ) (f : Flags) (first : Pa
 abbrev pub ReadsBehindName : ℕ → PropertyName → Parser → Parser → Result NodeId Stop → Type 0
 ReadsBehindName start n old new r = (text : List ℕ) (f : Flags) (first : Parser) → At text f first → start ≡ first.token.span.start → one_of_kinds (Star ∷ []) first.token.kind ≡ false → NameRead text f n.computed first old n.key → PartOutcome text f (named n.computed f) first new r
 
--- a name stands here
-pub record IsName (p : Parser) : Type 0 where
-  pub kind : one_of_kinds name_kinds p.token.kind ≡ true
+-- a name stands here, by these parameters
+pub record IsName (f : Flags) (p : Parser) : Type 0 where
+  pub kind : may_name f.yield_ f.await_ p.token.kind ≡ true
   pub plain : p.token.escaped ≡ false
 
 -- Its first word was passed: what stands behind it makes of it an accessor, or a name alone.
@@ -122,7 +122,7 @@ abbrev pub ReadsAccessor : ℕ → MethodForm → Parser → Parser → Result N
 ReadsAccessor start form old new r = (text : List ℕ) (f : Flags) (first : Parser) → At text f first → start ≡ first.token.span.start → Begins form first.token.kind → first.token.escaped ≡ false → Moved text f first old → PartOutcome text f (accessors form f) first new r
 
 abbrev pub ReadsShorthand : Span → Parser → Parser → Result NodeId Stop → Type 0
-ReadsShorthand word old new r = (text : List ℕ) (f : Flags) (first : Parser) → At text f first → word ≡ first.token.span → IsName first → Moved text f first old → PartOutcome text f (shorthand f) first new r
+ReadsShorthand word old new r = (text : List ℕ) (f : Flags) (first : Parser) → At text f first → word ≡ first.token.span → IsName f first → Moved text f first old → PartOutcome text f (shorthand f) first new r
 
 -- ---- the list
 

@@ -10,7 +10,7 @@ ghost use Rattle.js_parsing.specs.Stands.{StandsHere};
 ghost use Rattle.js_parsing.specs.States.{Standing};
 ghost use Rattle.js_tree.specs.declared.op.Op.TheVariants as op;
 ghost use Rattle.js_tree.specs.Labels.{number_of};
-ghost use Rattle.js_operands.specs.Functions.{TakesName, TakesParts};
+ghost use Rattle.js_operands.specs.Functions.{NamesFunction, TakesName, TakesParts};
 
 use crate::primary::parse_leaf;
 use js_base::{DiagnosticKind, Kind, NoMemory, Span};
@@ -18,7 +18,7 @@ use js_cursor::{ParserImpl, Stop};
 use js_lex::ParserConfig;
 use js_parsing::context::{body_of_function, parameters_of_function};
 use js_parsing::diagnostics::diagnostic_at;
-use js_parsing::lexemes::{advance, name_stands};
+use js_parsing::lexemes::{advance, name_stands, name_stands_under};
 use js_parsing::nested::Nested;
 use js_tree::{NodeFlags, NodeId, NodeKind, Op};
 
@@ -78,7 +78,7 @@ pub fn parse_function_parts<C: ParserConfig, N: Nested<C>>(
 {
     advance(p)?;
     let is_generator = p.eat(Kind::Star)?;
-    let name = parse_function_name(p, form)?;
+    let name = parse_function_name(p, form, is_generator)?;
     let parameters = parameters_of_function(p, nested, is_generator)?;
     let head_end = p.prev_token_end();
     let body = body_of_function(p, nested, is_generator)?;
@@ -91,15 +91,31 @@ pub fn parse_function_parts<C: ParserConfig, N: Nested<C>>(
     })
 }
 
+/// Whether the name of a function stands here: that of an expression is a name by the parameters of the function itself
+/// (ECMA-262, sections 15.2 and 15.5).
+fn function_name_stands<C: ParserConfig>(
+    p: &ParserImpl<'_, C>,
+    form: FunctionForm,
+    is_generator: bool,
+) -> bool
+    ensures { NamesFunction form is_generator p.now result }
+{
+    match form {
+        FunctionForm::Declaration => name_stands(p),
+        FunctionForm::Expression => name_stands_under(p, is_generator, false),
+    }
+}
+
 /// The name of a function, or none. A declaration without one is told before its parameters, and reading goes on.
 fn parse_function_name<C: ParserConfig>(
     p: &mut ParserImpl<'_, C>,
     form: FunctionForm,
+    is_generator: bool,
 ) -> Result<Option<NodeId>, Stop>
     requires { Standing p.old }
-    ensures { TakesName form p.old p.new result }
+    ensures { TakesName form is_generator p.old p.new result }
 {
-    if name_stands(p) {
+    if function_name_stands(p, form, is_generator) {
         let name = parse_leaf(p, NodeKind::BindingIdentifier, Op::None)?;
         return Ok(Some(name));
     }

@@ -1,6 +1,7 @@
 //! Object literals (ECMA-262, section 13.2.5).
 
 ghost use Rattle.std.specs.Prelude.{not, ◌&&◌, ◌≡◌, ◌+◌, ◌≤◌, ◌∷◌, [], true, false, MatchResult, IfOk, None, Some};
+ghost use Rattle.js_base.specs.Contexts.{has_flag, yield_flag, await_flag};
 ghost use Rattle.js_base.specs.Kinds.{one_of_kinds};
 ghost use Rattle.js_base.specs.declared.kind.Kind.TheVariants.{Colon, Comma, Dot3, Eq, LCurly, LParen, RBrack, RCurly, RParen, Star};
 ghost use Rattle.js_cursor.specs.Moves.{Opened};
@@ -9,7 +10,7 @@ ghost use Rattle.js_tree.specs.Labels.{number_of};
 ghost use Rattle.js_tree.specs.declared.op.PropertyKind.TheVariants.{Init};
 ghost use Rattle.js_operands.specs.Objects.{NoProperties, Properties, ReadsAccessor, ReadsBehindName, ReadsMethod, ReadsShorthand, ReadsValue, TakesProperty, ends_name_kinds, flags_of_form, form_of, function_label, kind_of_form, method_left, property_label};
 ghost use Rattle.js_parsing.specs.Answers.{Answers};
-ghost use Rattle.js_parsing.specs.Lexemes.{name_kinds, read_word};
+ghost use Rattle.js_parsing.specs.Lexemes.{may_name, read_word};
 ghost use Rattle.js_parsing.specs.Lists.{ReadsItem};
 ghost use Rattle.js_parsing.specs.Methods.{ReadsWhole};
 ghost use Rattle.js_parsing.specs.Moves.{MadeHere};
@@ -23,7 +24,7 @@ use js_base::{Kind, NoMemory, Span};
 use js_cursor::{ParserImpl, Stop};
 use js_lex::ParserConfig;
 use js_parsing::context::{assignment_with_in, body_of_function, parameters_in_method};
-use js_parsing::lexemes::{advance, is_name, is_read_word, stands};
+use js_parsing::lexemes::{advance, is_name_here, is_read_word, stands};
 use js_parsing::nested::{MethodForm, Nested};
 use js_parsing::nodes::{make_leaf, make_list};
 use js_tree::{NodeFlags, NodeId, NodeKind, Op, PropertyKind};
@@ -155,7 +156,7 @@ fn parse_word_property<C: ParserConfig, N: Nested<C>>(
     if let Some(form) = accessor_form(word.kind(), p.cur_kind()) {
         return parse_accessor(p, nested, span.start, form);
     }
-    if is_shorthand(word.kind(), p.cur_kind()) {
+    if is_shorthand(p, word.kind(), p.cur_kind()) {
         return parse_shorthand(p, nested, span);
     }
     let key = make_leaf(p, NodeKind::IdentifierName, Op::None, span)?;
@@ -197,10 +198,10 @@ fn accessor_form(word: Kind, behind: Kind) -> Option<MethodForm>
 }
 
 /// Whether a word before such a lexeme is a name alone: neither a value nor a method stands behind it.
-fn is_shorthand(word: Kind, behind: Kind) -> bool
-    ensures { result ≡ (one_of_kinds name_kinds word && not (one_of_kinds (Colon ∷ LParen ∷ []) behind)) }
+fn is_shorthand<C: ParserConfig>(p: &ParserImpl<'_, C>, word: Kind, behind: Kind) -> bool
+    ensures { result ≡ (may_name (has_flag yield_flag p.now.ctx) (has_flag await_flag p.now.ctx) word && not (one_of_kinds (Colon ∷ LParen ∷ []) behind)) }
 {
-    is_name(word) && !matches!(behind, Kind::Colon | Kind::LParen)
+    is_name_here(p, word) && !matches!(behind, Kind::Colon | Kind::LParen)
 }
 
 /// A getter or a setter, from its name on; its `get` or `set` began at a place (ECMA-262, section 15.4).

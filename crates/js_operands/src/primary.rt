@@ -25,7 +25,7 @@ use js_base::{Kind, Span};
 use js_cursor::{ParserImpl, Stop};
 use js_lex::ParserConfig;
 use js_parsing::context::expression_with_in;
-use js_parsing::lexemes::{advance, is_name, stands};
+use js_parsing::lexemes::{advance, name_stands, stands};
 use js_parsing::nested::Nested;
 use js_parsing::nodes::{make_leaf, make_one};
 use js_tree::{BigintBase, NodeFlags, NodeId, NodeKind, NumberBase, Op, ParserAstBuilder};
@@ -43,7 +43,7 @@ pub fn parse_primary_expression<C: ParserConfig, N: Nested<C>>(
     if p.cur_token().escaped() {
         return Err(p.set_unexpected());
     }
-    if is_name(p.cur_kind()) {
+    if name_stands(p) {
         return parse_leaf(p, NodeKind::IdentifierReference, Op::None);
     }
     if p.cur_kind().is_number() {

@@ -13,6 +13,7 @@ pub mod KeptTokens
 pub mod MadeNodes
 pub mod Moving
 pub mod NameKinds
+pub mod NamedFirsts
 pub mod Nesting
 pub mod Parts
 pub mod Paths

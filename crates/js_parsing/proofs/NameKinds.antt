@@ -1,8 +1,9 @@
 -- What holds of the kinds of names, and what stands at a name.
 use Rattle.std.proofs.Common.{ℕ, ◌≡◌, Bool, true, false, not, ◌&&◌, ◌||◌, List, [], ◌∷◌, IsTrue, refl, sym, ap, subst, ◌∙◌}
-use Rattle.std.proofs.lemmas.Bool.{false≢true}
+use Rattle.std.proofs.lemmas.Bool.{false≢true, and_from}
 use Rattle.js_base.specs.declared.kind.Kind.{Kind}
 use Rattle.js_base.specs.declared.kind.Kind.TheVariants.{Yield, Await, RAngle}
+use Rattle.js_base.specs.Contexts.{has_flag, yield_flag, await_flag}
 use Rattle.js_base.specs.Kinds.{same_kind, one_of_kinds}
 use Rattle.js_base.proofs.KindLemmas.{kind_of_same}
 use Rattle.js_grammar.specs.Trees.{end}
@@ -16,12 +17,12 @@ use Rattle.js_grammar.proofs.Looks.{covers, covered, apart, not_both}
 use Rattle.js_grammar.proofs.FirstRules.{pick}
 use Rattle.js_cursor.specs.Moves.{is_last}
 use Rattle.js_cursor.specs.Parsers.{Parser}
-use Rattle.js_parsing.specs.Lexemes.{Lex, name_kinds, read_kinds}
+use Rattle.js_parsing.specs.Lexemes.{Lex, is_read, may_name, name_kinds, read_kinds}
 use Rattle.js_parsing.specs.Moves.{IsWholeHere}
-use Rattle.js_parsing.specs.Stands.{NameHere}
+use Rattle.js_parsing.specs.Stands.{NameHere, NameUnder}
 use Rattle.js_parsing.specs.States.{At}
 use Rattle.js_parsing.proofs.Here.{uncut}
-use Rattle.js_parsing.proofs.Paths.{angles, at_kinds}
+use Rattle.js_parsing.proofs.Paths.{angles, at_kinds, reads}
 
 -- the kinds of names
 abbrev pub a_name : Look
@@ -42,16 +43,53 @@ name_read k h = covered a_name name_is_read refl k false false h
 abbrev bindable : Bool → Bool → Look
 bindable y t a w e = may_bind a && not (same_kind Yield a && y) && not (same_kind Await a && t)
 
-names_bind : (y t : Bool) → covers a_name (bindable y t) ≡ true
+-- what is a name by these parameters
+abbrev named : Bool → Bool → Look
+named y t k w e = may_name y t k
+
+names_bind : (y t : Bool) → covers (named y t) (bindable y t) ≡ true
 unfolding covers
 names_bind true true = refl
 names_bind true false = refl
 names_bind false true = refl
 names_bind false false = refl
 
--- a name passes the test, whatever the parameters
-pub name_passes : (f : Flags) (y : Lexeme) → one_of_kinds name_kinds y.kind ≡ true → IsTrue (seen (name_test f) y)
-name_passes f y h = covered a_name (bindable f.yield_ f.await_) (names_bind f.yield_ f.await_) y.kind y.newline y.escaped h
+-- a name passes the test
+pub name_passes : (f : Flags) (y : Lexeme) → may_name f.yield_ f.await_ y.kind ≡ true → IsTrue (seen (name_test f) y)
+name_passes f y h = covered (named f.yield_ f.await_) (bindable f.yield_ f.await_) (names_bind f.yield_ f.await_) y.kind y.newline y.escaped h
+
+-- what is read and passes it is a name
+abbrev bindable_read : Bool → Bool → Look
+bindable_read y t k w e = bindable y t k w e && reads k w e
+
+passes_named : (y t : Bool) → covers (bindable_read y t) (named y t) ≡ true
+unfolding covers
+passes_named true true = refl
+passes_named true false = refl
+passes_named false true = refl
+passes_named false false = refl
+
+pub test_named : (f : Flags) (y : Lexeme) → IsTrue (is_read y) → IsTrue (seen (name_test f) y) → may_name f.yield_ f.await_ y.kind ≡ true
+test_named f y r h = covered (bindable_read f.yield_ f.await_) (named f.yield_ f.await_) (passes_named f.yield_ f.await_) y.kind y.newline y.escaped (and_from _ _ h r)
+
+-- it is one of the kinds of names
+names_listed : (y t : Bool) → covers (named y t) a_name ≡ true
+unfolding covers
+names_listed true true = refl
+names_listed true false = refl
+names_listed false true = refl
+names_listed false false = refl
+
+pub listed_name : (y t : Bool) (k : Kind) → may_name y t k ≡ true → one_of_kinds name_kinds k ≡ true
+listed_name y t k h = covered (named y t) a_name (names_listed y t) k false false h
+
+-- and what is none of these kinds is no name
+pub no_listed_name : (y t : Bool) (k : Kind) → one_of_kinds name_kinds k ≡ false → may_name y t k ≡ false
+no_listed_name y t k n = go (may_name y t k) refl
+  where
+    go : (b : Bool) → may_name y t k ≡ b → may_name y t k ≡ false
+    go true h = absurd (false≢true (sym n ∙ listed_name y t k h))
+    go false h = h
 
 -- it isn't the end of the text, and no sign that is cut
 abbrev no_end : Look
@@ -94,14 +132,26 @@ pub name_so : (p : Parser) {b r : Bool} → r ≡ b → NameHere p r → NameHer
 name_so p e s = subst (λ (c : Bool). NameHere p c) e s
 
 -- whether one stands here, by its kind and its escape
-pub name_is : (p : Parser) (b : Bool) → b ≡ one_of_kinds name_kinds p.token.kind → p.token.escaped ≡ false → NameHere p b
-name_is p true h e = (sym h, e)
-name_is p false h e = λ k n. false≢true (h ∙ k)
+pub name_is : (y t : Bool) (p : Parser) (b : Bool) → b ≡ may_name y t p.token.kind → p.token.escaped ≡ false → NameUnder y t p b
+name_is y t p true h e = (sym h, e)
+name_is y t p false h e = λ k n. false≢true (h ∙ k)
 
 -- none of another kind
-pub no_name_here : (p : Parser) → NameHere p false → p.token.escaped ≡ false → one_of_kinds name_kinds p.token.kind ≡ false
-no_name_here p n e = go (one_of_kinds name_kinds p.token.kind) refl
+pub no_name_here : (f : Flags) (p : Parser) → NameUnder f.yield_ f.await_ p false → p.token.escaped ≡ false → may_name f.yield_ f.await_ p.token.kind ≡ false
+no_name_here f p n e = go (may_name f.yield_ f.await_ p.token.kind) refl
   where
-    go : (b : Bool) → one_of_kinds name_kinds p.token.kind ≡ b → one_of_kinds name_kinds p.token.kind ≡ false
+    go : (b : Bool) → may_name f.yield_ f.await_ p.token.kind ≡ b → may_name f.yield_ f.await_ p.token.kind ≡ false
     go true h = absurd (n h e)
     go false h = h
+
+-- the parameters in force are those of the text's place
+pub name_at : {text : List ℕ} {f : Flags} {p : Parser} (b : Bool) → At text f p → NameHere p b → NameUnder f.yield_ f.await_ p b
+name_at {p = p} b a h = subst (λ (g : Flags). NameUnder g.yield_ g.await_ p b) a.flags_are h
+
+-- a name that stands here is one of the kinds
+pub listed_here : (p : Parser) → NameHere p true → one_of_kinds name_kinds p.token.kind ≡ true
+listed_here p h = listed_name (has_flag yield_flag p.ctx) (has_flag await_flag p.ctx) p.token.kind h.0
+
+-- which kinds are names is told by either, whatever is said of it
+pub names_at : {text : List ℕ} {f : Flags} {p : Parser} → At text f p → (P : Bool → Bool) (k : Kind) → P (may_name f.yield_ f.await_ k) ≡ P (may_name (has_flag yield_flag p.ctx) (has_flag await_flag p.ctx) k)
+names_at a P k = sym (ap (λ (g : Flags). P (may_name g.yield_ g.await_ k)) a.flags_are)

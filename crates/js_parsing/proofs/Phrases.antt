@@ -1,20 +1,20 @@
 -- What the parse functions of operands answer, from what the calls in them answer.
-use Rattle.std.proofs.Common.{ℕ, ◌≡◌, max, List, [], ◌∷◌, Bool, true, false, ◌||◌, IsTrue, refl, sym, subst, arith}
+use Rattle.std.proofs.Common.{ℕ, ◌≡◌, max, List, [], ◌∷◌, Bool, true, false, ◌||◌, IsTrue, refl, sym, subst, arith, ◌∙◌}
 use Rattle.std.specs.Prelude.{Result, Ok, Err}
 use Rattle.std.proofs.lemmas.Bool.{false≢true}
-use Rattle.js_base.specs.declared.kind.Kind.TheVariants.{Minus, Plus, Bang, Tilde, Typeof, Void, Delete}
+use Rattle.js_base.specs.declared.kind.Kind.TheVariants.{Minus, Plus, Bang, Tilde, Typeof, Void, Delete, Await}
 use Rattle.js_base.specs.declared.kind.Kind.{Kind}
-use Rattle.js_base.specs.Kinds.{one_of_kinds}
-use Rattle.js_grammar.specs.Trees.{Slots, end, tree, Label, unary_expression}
-use Rattle.js_grammar.specs.Grammar.{Lexeme, Lexemes, seen, such, nothing, alt, ◌▸◌}
-use Rattle.js_grammar.specs.Parsing.{always, Goes, still}
-use Rattle.js_grammar.specs.Productions.{G, Flags, Symbol, at, tok, op, branches, Unary, Update}
+use Rattle.js_base.specs.Kinds.{same_kind, one_of_kinds}
+use Rattle.js_grammar.specs.Trees.{Slots, end, tree, Label, unary_expression, await_expression}
+use Rattle.js_grammar.specs.Grammar.{Lexeme, Lexemes, seen, such, nothing, alt, when, ◌▸◌}
+use Rattle.js_grammar.specs.Parsing.{Test, always, Goes, Fails, still}
+use Rattle.js_grammar.specs.Productions.{G, Flags, Symbol, at, tok, mk, op, branches, Unary, Update}
 use Rattle.js_grammar.specs.Productions.{sym as symbol}
 use Rattle.js_grammar.specs.Table.{rule, rule_of}
 use Rattle.js_grammar.specs.Follow.{edge_of, row_of, follow, after}
 use Rattle.js_grammar.specs.Insertion.{Row, after_expression, after_postfix, after_body, after_yield, after_declarator, after_word}
 use Rattle.js_grammar.proofs.Looks.{covers, apart}
-use Rattle.js_grammar.proofs.Calculus.{◌▹◌, ◌▹✗◌, left, by_rule, weaken_on, weaken_fails_on}
+use Rattle.js_grammar.proofs.Calculus.{◌▹◌, ◌▹✗◌, left, by_rule, weaken_on, weaken_fails_on, fails_alt, fails_when}
 use Rattle.js_parsing.specs.Operators.{unary_kinds}
 use Rattle.js_parsing.proofs.Verdicts.{verdict_of}
 use Rattle.js_grammar.proofs.RightEdges.{may_end, of_operand, of_assignment, same_row}
@@ -27,8 +27,10 @@ use Rattle.js_parsing.specs.Lexemes.{Lex, Plain}
 use Rattle.js_parsing.specs.States.{At}
 use Rattle.js_parsing.specs.Answers.{Verdict, Stretch, Underived, Numbered, Outcome, beside}
 use Rattle.js_parsing.proofs.Dead.{live, lives}
-use Rattle.js_parsing.proofs.Paths.{fails_at}
+use Rattle.js_parsing.proofs.Paths.{reads, fails_at}
 use Rattle.js_parsing.proofs.Tight.{narrowing, plain_reads}
+use Rattle.js_parsing.proofs.Signs.{other_kind}
+use Rattle.js_base.proofs.KindLemmas.{kind_of_same}
 
 -- what is left of a line, where that is another symbol
 pub by_left : (n m : Symbol) → live (rule n) ≡ such m always → (text : List ℕ) (s : ℕ) → Goes rule (Lex text) (after n) end (rule n) s (such m always) s (λ us. us) (still 0)
@@ -120,17 +122,32 @@ primary_operand after_word h = absurd (false≢true h)
 abbrev pub unary_part : Flags → G
 unary_part f = branches (Minus ∷ Plus ∷ Bang ∷ Tilde ∷ Typeof ∷ Void ∷ Delete ∷ []) (λ o. op unary_expression o (tok o ▸ symbol Unary f))
 
-unary_left : (f : Flags) → live (rule (at Unary f)) ≡ alt (such (at Update f) always) (unary_part f)
+abbrev pub await_part : Flags → G
+await_part f = when f.await_ (mk await_expression (tok Await ▸ symbol Unary f))
+
+unary_left : (f : Flags) → live (rule (at Unary f)) ≡ alt (such (at Update f) always) (alt (unary_part f) (await_part f))
 unfolding rule rule_of apart
 unary_left f = refl
 
+pub unary_choice : {text : List ℕ} (f : Flags) (s : ℕ) → Goes rule (Lex text) (after (at Unary f)) end (rule (at Unary f)) s (alt (such (at Update f) always) (alt (unary_part f) (await_part f))) s (λ us. us) (still 0)
+unary_choice {text} f s = subst (λ (g : G). Goes rule (Lex text) (after (at Unary f)) end (rule (at Unary f)) s g s (λ us. us) (still 0)) (unary_left f) (lives (rule (at Unary f)))
+
+-- no AwaitExpression, where no `await` stands, or it is a name
+pub no_await : {text : List ℕ} {f : Flags} {p : Parser} {X : Test} → At text f p → (p.token.kind ≡ Await → f.await_ ≡ false) → Fails rule (Lex text) X end (await_part f) p.prev_token_end
+unfolding covers apart
+no_await {text} {f} {p} {X} a n = go (same_kind Await p.token.kind) refl
+  where
+    go : (b : Bool) → same_kind Await p.token.kind ≡ b → Fails rule (Lex text) X end (await_part f) p.prev_token_end
+    go true e = fails_when (n (sym (kind_of_same Await p.token.kind e)))
+    go false e = fails_at a (await_part f) (Await ∷ []) refl (other_kind Await p.token.kind (λ k. false≢true (sym e ∙ subst (λ (v : Kind). same_kind Await v ≡ true) (sym k) refl)))
+
 -- Answers of a symbol of which only another one is left.
 
--- where no unary operator stands
-no_operator : {text : List ℕ} {f : Flags} {p : Parser} → At text f p → one_of_kinds unary_kinds p.token.kind ≡ false → Goes rule (Lex text) (after (at Unary f)) end (rule (at Unary f)) p.prev_token_end (such (at Update f) always) p.prev_token_end (λ us. us) (still 0)
+-- where no unary operator stands, and no `await` of an AwaitExpression
+pub no_operator : {text : List ℕ} {f : Flags} {p : Parser} → At text f p → one_of_kinds unary_kinds p.token.kind ≡ false → (p.token.kind ≡ Await → f.await_ ≡ false) → Goes rule (Lex text) (after (at Unary f)) end (rule (at Unary f)) p.prev_token_end (such (at Update f) always) p.prev_token_end (λ us. us) (still 0)
 unfolding covers apart
-no_operator {text} {f} {p} a n = subst (λ (g : G). Goes rule (Lex text) (after (at Unary f)) end (rule (at Unary f)) p.prev_token_end g p.prev_token_end (λ us. us) (still 0)) (unary_left f) (lives (rule (at Unary f))) ▹ left (fails_at a {X = after (at Unary f)} (unary_part f) unary_kinds refl n)
+no_operator {text} {f} {p} a n m = unary_choice f p.prev_token_end ▹ left (fails_alt (fails_at a {X = after (at Unary f)} (unary_part f) unary_kinds refl n) (no_await a m))
 
-pub unary_result : {text : List ℕ} {f : Flags} {p : Parser} (q : Parser) (r : Result NodeId Stop) → At text f p → one_of_kinds unary_kinds p.token.kind ≡ false → Outcome text f (at Update f) p q r → Outcome text f (at Unary f) p q r
+pub unary_result : {text : List ℕ} {f : Flags} {p : Parser} (q : Parser) (r : Result NodeId Stop) → At text f p → one_of_kinds unary_kinds p.token.kind ≡ false → (p.token.kind ≡ Await → f.await_ ≡ false) → Outcome text f (at Update f) p q r → Outcome text f (at Unary f) p q r
 unfolding covers
-unary_result {text} {f} {p} q r a n x = lift_result (at Unary f) (at Update f) refl refl text f p q r (no_operator a n) (λ i y. y.answer.row) (λ i y z l. y.answer.stops z l) x
+unary_result {text} {f} {p} q r a n m x = lift_result (at Unary f) (at Update f) refl refl text f p q r (no_operator a n m) (λ i y. y.answer.row) (λ i y z l. y.answer.stops z l) x

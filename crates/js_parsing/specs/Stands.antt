@@ -2,11 +2,12 @@
 use Rattle.std.specs.Prelude.{ℕ, ◌≡◌, Bool, true, false, List, [], ◌∷◌}
 use Rattle.js_base.specs.declared.kind.Kind.{Kind}
 use Rattle.js_base.specs.declared.kind.Kind.TheVariants.{RBrack}
+use Rattle.js_base.specs.Contexts.{has_flag, yield_flag, await_flag}
 use Rattle.js_base.specs.Kinds.{one_of_kinds}
 use Rattle.js_grammar.specs.Grammar.{Lexeme}
 use Rattle.js_grammar.specs.Productions.{Flags}
 use Rattle.js_cursor.specs.Parsers.{Parser}
-use Rattle.js_parsing.specs.Lexemes.{Lex, name_kinds}
+use Rattle.js_parsing.specs.Lexemes.{Lex, may_name}
 use Rattle.js_parsing.specs.States.{At, Same}
 use Rattle.std.specs.Prelude.{◌||◌, IsTrue, nat_lt}
 use Rattle.js_base.specs.declared.kind.Kind.TheVariants.{Question, Colon, Comma, Semicolon, RParen, Eof}
@@ -17,10 +18,14 @@ abbrev pub StandsHere : Parser → Kind → Bool → Type 0
 StandsHere p k true = (p.token.kind ≡ k) × (p.token.escaped ≡ false)
 StandsHere p k false = p.token.kind ≡ k → p.token.escaped ≡ false → ⊥
 
--- whether a name stands here, without an escape
+-- whether a name stands here, without an escape, by the parameters Yield and Await
+abbrev pub NameUnder : Bool → Bool → Parser → Bool → Type 0
+NameUnder yields awaits p true = (may_name yields awaits p.token.kind ≡ true) × (p.token.escaped ≡ false)
+NameUnder yields awaits p false = may_name yields awaits p.token.kind ≡ true → p.token.escaped ≡ false → ⊥
+
+-- the same, by those in force
 abbrev pub NameHere : Parser → Bool → Type 0
-NameHere p true = (one_of_kinds name_kinds p.token.kind ≡ true) × (p.token.escaped ≡ false)
-NameHere p false = one_of_kinds name_kinds p.token.kind ≡ true → p.token.escaped ≡ false → ⊥
+NameHere p b = NameUnder (has_flag yield_flag p.ctx) (has_flag await_flag p.ctx) p b
 
 -- What may stand behind an operand that no link and no update goes on with.
 abbrev pub ending_kinds : List Kind

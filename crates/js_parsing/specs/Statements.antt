@@ -2,6 +2,7 @@
 use Rattle.std.specs.Prelude.{ℕ, ◌≡◌, ◌<◌, ◌⊎◌, Bool, true, false, not, ◌&&◌, List, [], ◌∷◌, length, Result, Ok, Err}
 use Rattle.js_base.specs.declared.kind.Kind.{Kind}
 use Rattle.js_base.specs.declared.kind.Kind.TheVariants.{Break, Colon, Const, Continue, Debugger, Do, Dot, Else, For, Function, If, LCurly, QuestionDot, Return, Semicolon, Switch, Throw, Try, Var, While, With, Arrow}
+use Rattle.js_base.specs.Contexts.{has_flag, yield_flag, await_flag}
 use Rattle.js_base.specs.Kinds.{same_kind, one_of_kinds}
 use Rattle.js_base.specs.declared.span.Span.{Span}
 use Rattle.js_base.specs.declared.token.Token.{Token}
@@ -16,7 +17,7 @@ use Rattle.js_tree.specs.Holding.{Holds, Keeps}
 use Rattle.js_cursor.specs.Parsers.{Parser}
 use Rattle.js_cursor.specs.Moves.{Ends, MayEnd}
 use Rattle.js_cursor.specs.declared.stop.Stop.{Stop}
-use Rattle.js_parsing.specs.Lexemes.{Lex, Walked, name_kinds, spot}
+use Rattle.js_parsing.specs.Lexemes.{Lex, Walked, may_name, spot}
 use Rattle.js_parsing.specs.States.{At, Same}
 use Rattle.js_parsing.specs.Answers.{Verdict, Stretch, Stops, Numbered}
 
@@ -82,7 +83,7 @@ EndsStatement old new = (old.token.is_on_new_line ≡ true → one_of_kinds link
 -- Behind a token a colon stands, and the token is a name: a label.
 pub record IsLabel (t : Token) (p : Parser) : Type 0 where
   pub colon : p.token.kind ≡ Colon
-  pub name : one_of_kinds name_kinds t.kind ≡ true
+  pub name : may_name (has_flag yield_flag p.ctx) (has_flag await_flag p.ctx) t.kind ≡ true
   pub plain : t.escaped ≡ false
   pub place : t.span.end ≡ p.prev_token_end
 

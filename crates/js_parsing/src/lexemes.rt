@@ -5,10 +5,10 @@ ghost use Rattle.js_cursor.specs.Moves.{OnlyMemory};
 ghost use Rattle.js_cursor.specs.Places.{IsAt};
 ghost use Rattle.js_parsing.specs.Answers.{StopsUnbuilt};
 ghost use Rattle.js_parsing.specs.States.{Standing};
-ghost use Rattle.js_base.specs.Contexts.{has_flag, in_flag};
+ghost use Rattle.js_base.specs.Contexts.{has_flag, in_flag, yield_flag, await_flag};
 ghost use Rattle.js_base.specs.Kinds.{one_of_kinds};
-ghost use Rattle.js_parsing.specs.Lexemes.{name_kinds, read_kinds, read_mark, read_operator, read_reserved, read_word, unbuilt_kinds};
-ghost use Rattle.js_parsing.specs.Stands.{EndsOperand, NameHere, ReadsHere, StandsHere};
+ghost use Rattle.js_parsing.specs.Lexemes.{may_name, name_kinds, read_kinds, read_mark, read_operator, read_reserved, read_word, unbuilt_kinds};
+ghost use Rattle.js_parsing.specs.Stands.{EndsOperand, NameHere, NameUnder, ReadsHere, StandsHere};
 ghost use Rattle.js_parsing.specs.Operators.{power_of};
 ghost use Rattle.js_parsing.specs.Moves.{IsCompleted, IsWholeHere, Moves, OperatorHere};
 
@@ -70,7 +70,7 @@ pub fn stands<C: ParserConfig>(p: &ParserImpl<'_, C>, kind: Kind) -> bool
     p.at(kind) && !p.cur_token().escaped()
 }
 
-/// Whether it is a name, or a word that is one wherever a name may stand (ECMA-262, section 13.1).
+/// Whether it is a name, or a word that may be one (ECMA-262, section 13.1).
 #[inline(always)]
 pub fn is_name(kind: Kind) -> bool
     ensures { result ≡ one_of_kinds name_kinds kind }
@@ -100,7 +100,41 @@ pub fn is_name(kind: Kind) -> bool
             | Kind::Satisfies
             | Kind::Constructor
             | Kind::TypeWord
+            | Kind::Yield
+            | Kind::Await
     )
+}
+
+/// Whether it is a name where the parameters Yield and Await are these: `yield` and `await` are none where theirs is on.
+#[inline(always)]
+pub fn is_name_under(kind: Kind, yields: bool, awaits: bool) -> bool
+    ensures { result ≡ may_name yields awaits kind }
+{
+    match kind {
+        Kind::Yield => !yields,
+        Kind::Await => !awaits,
+        _ => is_name(kind),
+    }
+}
+
+/// Whether it is a name under the parameters in force.
+#[inline(always)]
+pub fn is_name_here<C: ParserConfig>(p: &ParserImpl<'_, C>, kind: Kind) -> bool
+    ensures { result ≡ may_name (has_flag yield_flag p.now.ctx) (has_flag await_flag p.now.ctx) kind }
+{
+    is_name_under(kind, p.ctx.has_yield(), p.ctx.has_await())
+}
+
+/// Whether a name stands here, without an escape, where the parameters Yield and Await are these.
+#[inline(always)]
+pub fn name_stands_under<C: ParserConfig>(
+    p: &ParserImpl<'_, C>,
+    yields: bool,
+    awaits: bool,
+) -> bool
+    ensures { NameUnder yields awaits p.now result }
+{
+    is_name_under(p.cur_kind(), yields, awaits) && !p.cur_token().escaped()
 }
 
 /// Whether a name stands here, without an escape.
@@ -108,7 +142,7 @@ pub fn is_name(kind: Kind) -> bool
 pub fn name_stands<C: ParserConfig>(p: &ParserImpl<'_, C>) -> bool
     ensures { NameHere p.now result }
 {
-    is_name(p.cur_kind()) && !p.cur_token().escaped()
+    name_stands_under(p, p.ctx.has_yield(), p.ctx.has_await())
 }
 
 /// Whether it is a word that is read.

@@ -34,7 +34,7 @@ use Rattle.js_operands.proofs.Operands.{plain_leaf}
 use Rattle.js_operands.proofs.PropertyNames.{literal_kinds, word_named}
 use Rattle.js_parsing.specs.Answers.{Underived, Answer, Numbered, Stops}
 use Rattle.js_parsing.specs.Arguments.{behind_item, ItemTaken, NoItem, PartTaken}
-use Rattle.js_parsing.specs.Lexemes.{Lex, name_kinds}
+use Rattle.js_parsing.specs.Lexemes.{Lex, may_name, name_kinds}
 use Rattle.js_parsing.specs.Moves.{Moved, MadeHere, LeafTaken, TakesLeaf, plain_label}
 use Rattle.js_parsing.specs.Stands.{NameHere, StandsHere}
 use Rattle.js_parsing.specs.Nesting.{CanNest, room}
@@ -43,7 +43,8 @@ use Rattle.js_parsing.specs.States.{At, Same, NodesLie, Standing}
 use Rattle.js_parsing.proofs.Expected.{not_due, unexpected}
 use Rattle.js_parsing.proofs.Giving.{fails_escaped}
 use Rattle.js_parsing.proofs.Here.{begins_here, kind_here}
-use Rattle.js_parsing.proofs.NameKinds.{a_name, name_apart, name_read, no_name_here}
+use Rattle.js_parsing.proofs.NameKinds.{a_name, listed_name, name_apart, name_at, name_read, no_name_here}
+use Rattle.js_parsing.proofs.NamedFirsts.{fails_unnamed}
 use Rattle.js_parsing.proofs.MadeNodes.{LabelLies, from_start, leaf_held, two_held, made_lies, one_lies}
 use Rattle.js_parsing.proofs.Moving.{beside_nodes, same_both, same_with, stops_behind, stops_so}
 use Rattle.js_parsing.proofs.Paths.{Path, ◌⟼◌, ◌⟶◌, ◌⟶✗◌, at_kind, fails_at, flagged_by, flagged_here, label_here, last_called, noded_by, by_symbol_as, one_read, token}
@@ -270,18 +271,21 @@ module _ {text : List ℕ} {f : Flags} where
 
 module _ {text : List ℕ} {f : Flags} {p : Parser} (a : At text f p) where
   -- no name that may be bound stands here
-  pub no_shorthand : one_of_kinds name_kinds p.token.kind ≡ false → NoShorthand text f p.prev_token_end
+  pub no_shorthand : may_name f.yield_ f.await_ p.token.kind ≡ false → NoShorthand text f p.prev_token_end
   unfolding covers apart
-  no_shorthand n = fails_node inside_full (behind_ahead {X' = plain full} (λ ts us y e. (refl, refl)) (fails_at a (bound_by_name f) name_kinds refl n))
+  no_shorthand n = fails_node inside_full (behind_ahead {X' = plain full} (λ ts us y e. (refl, refl)) (fails_unnamed a f (λ g. bound_by_name g) [] refl refl refl refl refl n refl))
 
   pub no_shorthand_there : NameHere p false → NoShorthand text f p.prev_token_end
   no_shorthand_there s = by p.token.escaped refl
     where
       by : (b : Bool) → p.token.escaped ≡ b → NoShorthand text f p.prev_token_end
       by true e = fails_escaped a e
-      by false e = no_shorthand (no_name_here p s e)
+      by false e = no_shorthand (no_name_here f p (name_at false a s) e)
 
-  module _ (k : one_of_kinds name_kinds p.token.kind ≡ true) (e : p.token.escaped ≡ false) where
+  module _ (k : may_name f.yield_ f.await_ p.token.kind ≡ true) (e : p.token.escaped ≡ false) where
+    listed : one_of_kinds name_kinds p.token.kind ≡ true
+    listed = listed_name f.yield_ f.await_ p.token.kind k
+
     -- a name, and a colon
     pub no_shorthand_here : {q : Parser} → Moved text f p q → q.token.kind ≡ Colon → NoShorthand text f p.prev_token_end
     unfolding covers apart
@@ -292,7 +296,7 @@ module _ {text : List ℕ} {f : Flags} {p : Parser} (a : At text f p) where
 
     named : {q : Parser} {key : NodeId} → TakesLeaf node_kind.IdentifierName op_made.None p q key → NameRead text f false p q key
     unfolding apart
-    named {q} {key} t = word_named a (λ i j. false≢true (sym (name_apart (LBrack ∷ []) refl p.token.kind k) ∙ ap (one_of_kinds (LBrack ∷ [])) i)) (name_apart literal_kinds refl p.token.kind k) (name_taken text f p q (Ok key) a (or_left _ _ k) e t)
+    named {q} {key} t = word_named a (λ i j. false≢true (sym (name_apart (LBrack ∷ []) refl p.token.kind listed) ∙ ap (one_of_kinds (LBrack ∷ [])) i)) (name_apart literal_kinds refl p.token.kind listed) (name_taken text f p q (Ok key) a (or_left _ _ listed) e t)
 
     pub name_named : {q : Parser} {key : NodeId} → TakesLeaf node_kind.IdentifierName op_made.None p q key → NameRead text f false p q key
     name_named t = named t
@@ -354,7 +358,7 @@ module _ {text : List ℕ} {f : Flags} {p : Parser} (a : At text f p) where
             made = subst (λ (y : Label). MadeHere y (Some key ∷ Some value ∷ []) v w id) l z
 
             whole : Path text f behind_item (symbol PatternProperty f) p nothing v (tree (flagged_here binding_property no_op shorthand_flag p v) (tree (label_here identifier_name no_op p leaf.mid) end (tree x.label x.slots end)))
-            whole = by_symbol_as {X' = behind_item} (λ l cs vs y d. (d.0, refl)) (shorthand_alone ⟼ flagged_by a (inside_plain {F' = next_kinds} ends_itself) (key_first a k e leaf.moved bound_read))
+            whole = by_symbol_as {X' = behind_item} (λ l cs vs y d. (d.0, refl)) (shorthand_alone ⟼ flagged_by a (inside_plain {F' = next_kinds} ends_itself) (key_first a listed e leaf.moved bound_read))
 
       -- what it binds isn't derived
       pub bound_stops : (w : Parser) (i : Stop) → Stops p w i (Fails rule (Lex text) behind_item end (bound_by_name f) p.prev_token_end) → Stops p w i (NoItem text (at PatternProperty f) p.prev_token_end)
@@ -365,7 +369,7 @@ pub name_place : {text : List ℕ} {f : Flags} {p q : Parser} {key : NodeId} →
 name_place {text} {f} a t = let x = t text f a in x.moved.tells.end ∙ (x.moved.ends ∙ sym (ap (λ (z : Parser). z.prev_token_end) x.made.stays))
 
 -- a colon stands behind it
-pub no_shorthand_named : {text : List ℕ} {f : Flags} {p q : Parser} {key : NodeId} → At text f p → one_of_kinds name_kinds p.token.kind ≡ true → p.token.escaped ≡ false → TakesLeaf node_kind.IdentifierName op_made.None p q key → q.token.kind ≡ Colon → NoShorthand text f p.prev_token_end
+pub no_shorthand_named : {text : List ℕ} {f : Flags} {p q : Parser} {key : NodeId} → At text f p → may_name f.yield_ f.await_ p.token.kind ≡ true → p.token.escaped ≡ false → TakesLeaf node_kind.IdentifierName op_made.None p q key → q.token.kind ≡ Colon → NoShorthand text f p.prev_token_end
 no_shorthand_named {text} {f} a k e t c = let x = t text f a in no_shorthand_here a k e x.moved (sym (ap (λ (z : Parser). z.token.kind) x.made.stays) ∙ c)
 
 -- a node was made here

@@ -32,14 +32,14 @@ use Rattle.js_cursor.specs.Moves.{OnlyMemory}
 use Rattle.js_cursor.specs.declared.stop.Stop.{Stop}
 use Rattle.js_cursor.specs.declared.stop.Stop.TheVariants.{Fatal, NoMemory}
 use Rattle.js_parsing.specs.Answers.{Grown, Verdict, clean, unclean, Stretch, Underived, Answer, Numbered, Stops}
-use Rattle.js_parsing.specs.Lexemes.{Lex, Walked, name_kinds, Spot, spot, nowhere, one_more, more_faults}
+use Rattle.js_parsing.specs.Lexemes.{Lex, Walked, may_name, name_kinds, Spot, spot, nowhere, one_more, more_faults}
 use Rattle.js_parsing.specs.Nesting.{room}
 use Rattle.js_parsing.specs.Moves.{Moved, MadeHere, plain_label}
 use Rattle.js_parsing.specs.Statements.{placed, no_link, statement_kinds, after_statement, NoStatement, Statement, StatementOutcome, IsLabel}
 use Rattle.js_parsing.specs.States.{At, Same}
 use Rattle.js_parsing.proofs.Signs.{plain_sign}
 use Rattle.js_expressions.proofs.Conditionals.{colon_plain}
-use Rattle.js_parsing.proofs.NameKinds.{at_name, name_apart, name_passes, name_read, name_whole}
+use Rattle.js_parsing.proofs.NameKinds.{at_name, listed_name, name_apart, name_passes, name_read, name_whole, names_at}
 use Rattle.js_parsing.proofs.Dead.{lives}
 use Rattle.js_parsing.proofs.Here.{found, kind_here, uncut}
 use Rattle.js_parsing.proofs.MadeNodes.{leaf_held, two_held, one_lies, from_start}
@@ -138,12 +138,18 @@ made_in h n = ap (λ (v : Parser). has_flag in_flag v.ctx) n.stays ∙ h
 
 module _ {text : List ℕ} {f : Flags} {p q : Parser} (a : At text f p) (x : Answer text f (at Expression f) p q) (i : IsLabel p.token q) where
   -- the name
-  name : (y : Lexeme) × Lex text p.prev_token_end y × (one_of_kinds name_kinds y.kind ≡ true) × (y.to ≡ q.prev_token_end)
+  is_name : may_name f.yield_ f.await_ p.token.kind ≡ true
+  is_name = names_at x.at (λ (b : Bool). b) p.token.kind ∙ i.name
+
+  is_listed : one_of_kinds name_kinds p.token.kind ≡ true
+  is_listed = listed_name f.yield_ f.await_ p.token.kind is_name
+
+  name : (y : Lexeme) × Lex text p.prev_token_end y × (may_name f.yield_ f.await_ y.kind ≡ true) × (y.to ≡ q.prev_token_end)
   name =
-      let w = name_whole a i.name in
+      let w = name_whole a is_listed in
       let z = found a w.0 w.1 in
-      let k : one_of_kinds name_kinds z.0.kind ≡ true = subst (λ (v : Kind). one_of_kinds name_kinds v ≡ true) z.2.kind i.name in
-      (z.0, (z.1, read_of z.0 refl (sym z.2.escaped ∙ i.plain) (name_read z.0.kind k)), k, sym z.2.end ∙ i.place)
+      let k : may_name f.yield_ f.await_ z.0.kind ≡ true = subst (λ (v : Kind). may_name f.yield_ f.await_ v ≡ true) z.2.kind is_name in
+      (z.0, (z.1, read_of z.0 refl (sym z.2.escaped ∙ i.plain) (name_read z.0.kind (listed_name f.yield_ f.await_ z.0.kind k))), k, sym z.2.end ∙ i.place)
 
   looks_so : IsTrue (seen (name_look f) name.0)
   looks_so = name_passes f name.0 name.2
@@ -196,7 +202,7 @@ module _ {text : List ℕ} {f : Flags} {p q : Parser} (a : At text f p) (x : Ans
 
   to_labeled : {X : Test} → Goes rule (Lex text) X end (rule (at AStatement f)) p.prev_token_end (symbol Labeled f) p.prev_token_end (λ us. us) (still 0)
   unfolding rule rule_of covers
-  to_labeled = at_name a i.name
+  to_labeled = at_name a is_listed
 
   -- a colon stands behind `let`, where that is the label
   label_named : (b : Bool) → LetIsName text b p.prev_token_end
@@ -211,8 +217,8 @@ module _ {text : List ℕ} {f : Flags} {p q : Parser} (a : At text f p) (x : Ans
   -- it is no expression with a semicolon
   to_placed : (b : Bool) → Goes rule (Lex text) (after_statement (placed b f)) end (rule (placed b f)) p.prev_token_end (symbol AStatement f) p.prev_token_end (λ us. us) (still 0)
   unfolding apart covers
-  to_placed true = subst (λ (g : G). Goes rule (Lex text) (after_statement (at ListItem f)) end (rule (at ListItem f)) p.prev_token_end g p.prev_token_end (λ us. us) (still 0)) (item_left f) (lives (rule (at ListItem f))) ▹ left (fails_alt (not_followed a (word_or (LCurly ∷ [])) (λ y z l h m t. false≢true (sym (label_named true y z l h m) ∙ covered (word_or (LCurly ∷ [])) (λ k w e. behind_let true k) refl z.kind z.newline z.escaped t)) ⇒✗ no_expression_ends true a (name_apart (LCurly ∷ Function ∷ []) refl p.token.kind i.name) (label_named true) x (before_colon x.at (goes_on (row_of x.label x.slots)) i.colon)) (fails_alt (no_function a (name_apart statement_kinds refl p.token.kind i.name)) (no_lexical a (name_apart statement_kinds refl p.token.kind i.name) (label_named true))))
-  to_placed false = subst (λ (g : G). Goes rule (Lex text) (after_statement (at Sub f)) end (rule (at Sub f)) p.prev_token_end g p.prev_token_end (λ us. us) (still 0)) (sub_left f) (lives (rule (at Sub f))) ▹ left (fails_alt (no_expression_ends false a (name_apart (LCurly ∷ Function ∷ []) refl p.token.kind i.name) (label_named false) x (before_colon x.at (goes_on (row_of x.label x.slots)) i.colon)) (no_function_body a (name_apart statement_kinds refl p.token.kind i.name)))
+  to_placed true = subst (λ (g : G). Goes rule (Lex text) (after_statement (at ListItem f)) end (rule (at ListItem f)) p.prev_token_end g p.prev_token_end (λ us. us) (still 0)) (item_left f) (lives (rule (at ListItem f))) ▹ left (fails_alt (not_followed a (word_or (LCurly ∷ [])) (λ y z l h m t. false≢true (sym (label_named true y z l h m) ∙ covered (word_or (LCurly ∷ [])) (λ k w e. behind_let true k) refl z.kind z.newline z.escaped t)) ⇒✗ no_expression_ends true a (name_apart (LCurly ∷ Function ∷ []) refl p.token.kind is_listed) (label_named true) x (before_colon x.at (goes_on (row_of x.label x.slots)) i.colon)) (fails_alt (no_function a (name_apart statement_kinds refl p.token.kind is_listed)) (no_lexical a (name_apart statement_kinds refl p.token.kind is_listed) (label_named true))))
+  to_placed false = subst (λ (g : G). Goes rule (Lex text) (after_statement (at Sub f)) end (rule (at Sub f)) p.prev_token_end g p.prev_token_end (λ us. us) (still 0)) (sub_left f) (lives (rule (at Sub f))) ▹ left (fails_alt (no_expression_ends false a (name_apart (LCurly ∷ Function ∷ []) refl p.token.kind is_listed) (label_named false) x (before_colon x.at (goes_on (row_of x.label x.slots)) i.colon)) (no_function_body a (name_apart statement_kinds refl p.token.kind is_listed)))
 
   -- what is in the node can't be read
   labeled_fails : (b : Bool) → Fails rule (Lex text) (behind_label f) end (labeled_slots f) p.prev_token_end → NoStatement text (placed b f) p.prev_token_end

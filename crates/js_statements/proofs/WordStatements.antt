@@ -42,7 +42,8 @@ use Rattle.js_cursor.specs.declared.stop.Stop.TheVariants.{Fatal, NoMemory}
 use Rattle.js_parsing.specs.Answers.{Grown, Underived, Numbered, Stops, unclean}
 use Rattle.js_parsing.specs.Lexemes.{Lex, Walked, name_kinds, read_kinds, read_word, nowhere, spot}
 use Rattle.js_parsing.specs.Stands.{NameHere, StandsHere}
-use Rattle.js_parsing.proofs.NameKinds.{a_name, no_name_here}
+use Rattle.js_parsing.proofs.NamedFirsts.{fails_unnamed}
+use Rattle.js_parsing.proofs.NameKinds.{listed_here, name_at, a_name, no_name_here}
 use Rattle.js_parsing.specs.Moves.{IsWholeHere, LeafTaken, Moved, MadeHere, plain_label}
 use Rattle.js_parsing.specs.States.{At, Same}
 use Rattle.js_parsing.specs.Statements.{placed, no_link, after_statement, NoStatement, Statement, EndsStatement, NoEnd}
@@ -193,11 +194,11 @@ module _ {text : List ℕ} {f : Flags} {q : Parser} (a : At text f q) where
     where
       by : (b : Bool) → q.token.escaped ≡ b → Fails rule (Lex text) X end (no_newline ▸ symbol LabelIdentifier f) q.prev_token_end
       by true e = fails_escaped a e
-      by false e = fails_at a (no_newline ▸ symbol LabelIdentifier f) name_kinds refl (no_name_here q n e)
+      by false e = fails_unnamed a f (λ g. no_newline ▸ symbol LabelIdentifier g) [] refl refl refl refl refl (no_name_here f q (name_at false a n) e) refl
 
   -- nor a label, where the statement may end
   no_label : {X : Test} → MayEnd q → Fails rule (Lex text) X end (no_newline ▸ symbol LabelIdentifier f) q.prev_token_end
-  no_label (inl e) = no_name (λ k n. no_name_ends q.token.kind k e)
+  no_label (inl e) = no_name (λ k n. no_name_ends q.token.kind (listed_here q (k, n)) e)
   no_label (inr w) = part_fails {X' = plain full} (fails_look (λ k w e. not w) (λ y l h. false≢true (sym (ap not (newline_here a y l ∙ w)) ∙ h))) (record { admits = λ ts us vs j k ls mid rest d e h. (refl, refl) })
 
   -- where it may not, the slot isn't empty
@@ -213,7 +214,7 @@ module _ {text : List ℕ} {f : Flags} {q : Parser} (a : At text f q) where
 
   label_read : {X : Test} {r : Parser} → NameHere q true → Moved text f q r → Path text f X (symbol LabelIdentifier f) q nothing r (tree (label_here label_identifier no_op q r) end)
   unfolding rule rule_of
-  label_read h m = by_symbol_as {X' = plain full} (λ l cs vs y d. (refl, refl)) (noded a (name_leaf a h.0 h.1 m))
+  label_read h m = by_symbol_as {X' = plain full} (λ l cs vs y d. (refl, refl)) (let i = name_at true a h in noded a (name_leaf a i.0 i.1 m))
 
 module _ {text : List ℕ} {f : Flags} {p q : Parser} (k : Kind) (a : At text f p) (e : p.token.kind ≡ k) (n : p.token.escaped ≡ false) (i : one_of_kinds read_kinds k ≡ true) (m : Moved text f p q) where
   word_passed : {X : Test} {g : G} → Path text f X (tok k ▸ g) p g q (λ us. us)

@@ -32,7 +32,7 @@ use js_cursor::{ParserImpl, Stop};
 use js_expressions::sequence::parse_sequence_expression;
 use js_lex::ParserConfig;
 use js_operands::primary::parse_leaf;
-use js_parsing::lexemes::{advance, is_name, stands};
+use js_parsing::lexemes::{advance, is_name_here, stands};
 use js_parsing::nested::Nested;
 use js_parsing::nodes::{make_leaf, make_one, make_two};
 use js_tree::{NodeId, NodeKind, Op};
@@ -170,7 +170,7 @@ fn is_label<C: ParserConfig>(p: &ParserImpl<'_, C>, first: Token) -> bool
     ensures { IsTrue result ↔ IsLabel first p.now }
 {
     p.at(Kind::Colon)
-        && is_name(first.kind())
+        && is_name_here(p, first.kind())
         && !first.escaped()
         && first.end() == p.prev_token_end()
 }

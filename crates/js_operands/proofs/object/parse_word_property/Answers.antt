@@ -1,4 +1,4 @@
-use Rattle.std.proofs.Common.{◌≡◌, [], ◌∷◌, true, false, ◌&&◌, sym, ap, arith, ◌∙◌}
+use Rattle.std.proofs.Common.{◌≡◌, [], ◌∷◌, Bool, true, false, not, ◌&&◌, sym, ap, arith, ◌∙◌}
 use Rattle.js_base.specs.Kinds.{one_of_kinds}
 use Rattle.js_base.specs.declared.span.Span.{Span}
 use Rattle.js_base.specs.declared.token.Token.{Token}
@@ -7,7 +7,8 @@ use Rattle.js_operands.proofs.Members.{word_whole}
 use Rattle.js_operands.proofs.PropertyForms.{accessor_only, leaf_at, no_form, no_shorthand_here, no_value_or_method, one_form, shorthand_only, word_name, word_only}
 use Rattle.js_operands.proofs.WordProperties.{no_star}
 use Rattle.js_base.specs.declared.kind.Kind.TheVariants.{Colon, LParen}
-use Rattle.js_parsing.specs.Lexemes.{name_kinds}
+use Rattle.js_parsing.specs.Lexemes.{may_name}
+use Rattle.js_parsing.proofs.NameKinds.{names_at}
 use Rattle.js_operands.proofs.Wholes.{item_by}
 use Rattle.js_parsing.proofs.Moving.{standing}
 use Rattle.js_parsing.proofs.Nesting.{nested_room, nests_later}
@@ -52,9 +53,9 @@ returns-then-is_shorthand g c = λ text f a.
     let e : c.span-span.result ≡ c.args.p.now.token.span = c.span-span.ensures ∙ ap (λ (t : Token). t.span) c.cur_token-word.ensures in
     let k : c.kind.result ≡ c.args.p.now.token.kind = c.kind.ensures ∙ ap (λ (t : Token). t.kind) c.cur_token-word.ensures in
     let j : c.kind-2.result ≡ c.args.p.now.token.kind = c.kind-2.ensures ∙ ap (λ (t : Token). t.kind) c.cur_token-word.ensures in
-    let z = no_value_or_method (one_of_kinds name_kinds c.kind-2.result) (one_of_kinds (Colon ∷ LParen ∷ []) c.cur_kind-2.result) (sym c.is_shorthand.ensures ∙ c.if-is_shorthand.true) in
+    let z = no_value_or_method (may_name f.yield_ f.await_ c.kind-2.result) (one_of_kinds (Colon ∷ LParen ∷ []) c.cur_kind-2.result) (names_at m.at (λ (b : Bool). b && not (one_of_kinds (Colon ∷ LParen ∷ []) c.cur_kind-2.result)) c.kind-2.result ∙ (sym c.is_shorthand.ensures ∙ c.if-is_shorthand.true)) in
     item_by text f c.args.p.now (at Property f) _ c.parse_shorthand.result (shorthand_only a c.requires.word c.requires.plain m (no_form k c.cur_kind.ensures (sym c.accessor_form.ensures ∙ c.in_default.is)) (sym (ap (one_of_kinds (Colon ∷ LParen ∷ [])) c.cur_kind-2.ensures) ∙ z.1))
-    (c.parse_shorthand.ensures text f c.args.p.now a e (record { kind = sym (ap (one_of_kinds name_kinds) j) ∙ z.0; plain = c.requires.plain }) m)
+    (c.parse_shorthand.ensures text f c.args.p.now a e (record { kind = sym (ap (may_name f.yield_ f.await_) j) ∙ z.0; plain = c.requires.plain }) m)
 
 pub parse_behind_name-requires-clause-at : goal.parse_behind_name-requires-clause-at
 parse_behind_name-requires-clause-at g c = standing (leaf_at (c.in_ok-advance.ensures _ _ c.requires.at).at c.in_ok-key.ensures).0
@@ -78,5 +79,5 @@ returns g c = λ text f a.
     let j : c.kind-2.result ≡ c.args.p.now.token.kind = c.kind-2.ensures ∙ ap (λ (t : Token). t.kind) c.cur_token-word.ensures in
     let x = word_name a c.requires.word c.requires.plain c.in_ok-advance.ensures e c.in_ok-key.ensures in
     item_by text f c.args.p.now (at Property f) _ c.parse_behind_name.result
-    (word_only a c.requires.word c.requires.plain m (no_form k c.cur_kind.ensures (sym c.accessor_form.ensures ∙ c.in_default.is)) (no_shorthand_here j c.cur_kind-2.ensures (sym c.is_shorthand.ensures ∙ c.if-is_shorthand.false)) x.other)
+    (word_only a c.requires.word c.requires.plain m (no_form k c.cur_kind.ensures (sym c.accessor_form.ensures ∙ c.in_default.is)) (no_shorthand_here f.yield_ f.await_ j c.cur_kind-2.ensures (names_at m.at (λ (b : Bool). b && not (one_of_kinds (Colon ∷ LParen ∷ []) c.cur_kind-2.result)) c.kind-2.result ∙ (sym c.is_shorthand.ensures ∙ c.if-is_shorthand.false))) x.other)
     (c.parse_behind_name.ensures text f c.args.p.now a (ap (λ (s : Span). s.start) e) (no_star a c.requires.word c.requires.plain m) x)

@@ -1,6 +1,6 @@
 use Rattle.js_patterns.proofs.Bindings.{name_outcome, no_binding}
 use Rattle.js_parsing.proofs.Giving.{gives_up_here}
-use Rattle.js_parsing.proofs.NameKinds.{name_so, name_whole}
+use Rattle.js_parsing.proofs.NameKinds.{listed_here, name_so, name_whole}
 use Rattle.js_patterns.proofs.binding.parse_binding_identifier.Goals as goal
 
 pub returns-then-not-name_stands-clause-answers : goal.returns-then-not-name_stands-clause-answers
@@ -10,4 +10,4 @@ pub returns-clause-answers : goal.returns-clause-answers
 returns-clause-answers g c = λ text f a. name_outcome text f _ _ c.parse_leaf.result a (name_so c.args.p.now c.if-not-name_stands.false c.name_stands.ensures) c.parse_leaf.ensures
 
 pub parse_leaf-requires-clause-whole : goal.parse_leaf-requires-clause-whole
-parse_leaf-requires-clause-whole g c = name_whole c.requires.at (name_so c.args.p.now c.if-not-name_stands.false c.name_stands.ensures).0
+parse_leaf-requires-clause-whole g c = name_whole c.requires.at (listed_here c.args.p.now (name_so c.args.p.now c.if-not-name_stands.false c.name_stands.ensures))

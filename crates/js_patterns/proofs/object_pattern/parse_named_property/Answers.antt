@@ -5,13 +5,13 @@ use Rattle.js_base.specs.declared.span.Span.{Span}
 use Rattle.js_base.specs.declared.token.Token.{Token}
 use Rattle.js_parsing.proofs.Giving.{memory_stops}
 use Rattle.js_parsing.proofs.Moving.{standing}
-use Rattle.js_parsing.proofs.NameKinds.{name_whole}
+use Rattle.js_parsing.proofs.NameKinds.{listed_here, name_at, name_whole}
 use Rattle.js_parsing.proofs.Nesting.{nests_later, later_room}
 use Rattle.js_patterns.proofs.ObjectPatterns.{name_named, name_place, no_shorthand_named}
 use Rattle.js_patterns.proofs.object_pattern.parse_named_property.Goals as goal
 
 pub parse_leaf-requires-clause-whole : goal.parse_leaf-requires-clause-whole
-parse_leaf-requires-clause-whole g c = name_whole c.requires.at c.requires.name.0
+parse_leaf-requires-clause-whole g c = name_whole c.requires.at (listed_here c.args.p.now c.requires.name)
 
 pub returns-in_err-key : goal.returns-in_err-key
 returns-in_err-key g c = λ text f a.
@@ -41,7 +41,7 @@ parse_shorthand-requires-clause-ordered g c =
     let b = ap (λ (s : Span). s.start) s in let d = ap (λ (s : Span). s.end) s in omega arith
 
 pub returns-then-not-at : goal.returns-then-not-at
-returns-then-not-at g c = λ text f a. c.parse_shorthand.ensures text f _ a (c.span-name.ensures ∙ ap (λ (t : Token). t.span) c.cur_token.ensures) c.requires.name.0 c.requires.name.1 c.in_ok-key.ensures
+returns-then-not-at g c = λ text f a. c.parse_shorthand.ensures text f _ a (c.span-name.ensures ∙ ap (λ (t : Token). t.span) c.cur_token.ensures) (name_at true a c.requires.name).0 c.requires.name.1 c.in_ok-key.ensures
 
 pub parse_property_value-requires-clause-at : goal.parse_property_value-requires-clause-at
 parse_property_value-requires-clause-at g c = standing (name_named c.requires.at c.requires.name.0 c.requires.name.1 c.in_ok-key.ensures).at
@@ -58,4 +58,4 @@ parse_property_value-requires-clause-before g c =
     let b = ap (λ (s : Span). s.start) (c.span-name.ensures ∙ ap (λ (t : Token). t.span) c.cur_token.ensures) in omega arith
 
 pub returns : goal.returns
-returns g c = λ text f a. c.parse_property_value.ensures text f _ a (ap (λ (s : Span). s.start) (c.span-name.ensures ∙ ap (λ (t : Token). t.span) c.cur_token.ensures)) (name_named a c.requires.name.0 c.requires.name.1 c.in_ok-key.ensures) (no_shorthand_named a c.requires.name.0 c.requires.name.1 c.in_ok-key.ensures (c.at.ensures.0 c.if-not-at.false))
+returns g c = λ text f a. c.parse_property_value.ensures text f _ a (ap (λ (s : Span). s.start) (c.span-name.ensures ∙ ap (λ (t : Token). t.span) c.cur_token.ensures)) (name_named a (name_at true a c.requires.name).0 c.requires.name.1 c.in_ok-key.ensures) (no_shorthand_named a (name_at true a c.requires.name).0 c.requires.name.1 c.in_ok-key.ensures (c.at.ensures.0 c.if-not-at.false))

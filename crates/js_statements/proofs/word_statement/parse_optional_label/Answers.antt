@@ -1,7 +1,7 @@
 use Rattle.std.proofs.Common.{◌∙◌, sym, refl}
 use Rattle.std.proofs.lemmas.Bool.{false≢true}
 use Rattle.std.proofs.lemmas.Result.{err_from_is_err_and}
-use Rattle.js_parsing.proofs.NameKinds.{name_so, name_whole}
+use Rattle.js_parsing.proofs.NameKinds.{listed_here, name_so, name_whole}
 use Rattle.js_statements.proofs.WordStatements.{label_memory, label_told}
 use Rattle.js_statements.proofs.word_statement.parse_optional_label.Goals as goal
 
@@ -12,7 +12,7 @@ pub returns-then-not-name_stands : goal.returns-then-not-name_stands
 returns-then-not-name_stands g c = label_told _ _ c.set_unexpected.result (λ m. false≢true (sym c.if-can_insert_semicolon.false ∙ c.can_insert_semicolon.ensures.1 m)) (name_so c.args.p.now c.if-not-name_stands.true c.name_stands.ensures) c.set_unexpected.ensures
 
 pub parse_leaf-requires-clause-whole : goal.parse_leaf-requires-clause-whole
-parse_leaf-requires-clause-whole g c = name_whole c.requires (name_so c.args.p.now c.if-not-name_stands.false c.name_stands.ensures).0
+parse_leaf-requires-clause-whole g c = name_whole c.requires (listed_here c.args.p.now (name_so c.args.p.now c.if-not-name_stands.false c.name_stands.ensures))
 
 pub returns-in_err-label : goal.returns-in_err-label
 returns-in_err-label g c =

@@ -1,0 +1,129 @@
+//! YieldExpressions (ECMA-262, section 15.5).
+
+ghost use Rattle.std.specs.Prelude.{◌≡◌, ◌≤◌, ◌∷◌, [], Some, IfOk, true};
+ghost use Rattle.js_base.specs.declared.kind.Kind.TheVariants.{Star};
+ghost use Rattle.js_grammar.specs.Productions.{at, delegate_flag, Assignment};
+ghost use Rattle.js_tree.specs.declared.kind.NodeKind.TheVariants as node;
+ghost use Rattle.js_tree.specs.declared.op.Op.TheVariants as op;
+ghost use Rattle.js_expressions.specs.Yields.{BeginsYield, ReadsYield, other_arguments, yields_argument};
+ghost use Rattle.js_base.specs.Kinds.{one_of_kinds};
+ghost use Rattle.js_parsing.specs.Answers.{Answers};
+ghost use Rattle.js_parsing.specs.Moves.{MadeHere, plain_label};
+ghost use Rattle.js_parsing.specs.Nesting.{CanNest, room};
+ghost use Rattle.js_parsing.specs.States.{Standing};
+
+use js_base::{Kind, NoMemory, Span};
+use js_cursor::{ParserImpl, Stop};
+use js_lex::ParserConfig;
+use js_parsing::lexemes::{advance, stands};
+use js_parsing::nested::Nested;
+use js_parsing::nodes::make_optional;
+use js_tree::{NodeFlags, NodeId, NodeKind, Op};
+
+/// Whether a YieldExpression begins here: `yield` is no name where the parameter Yield is on.
+#[inline(always)]
+pub(crate) fn begins_yield<C: ParserConfig>(p: &ParserImpl<'_, C>) -> bool
+    ensures { BeginsYield p.now result }
+{
+    stands(p, Kind::Yield) && p.ctx.has_yield()
+}
+
+/// A YieldExpression: `yield` alone, or with an AssignmentExpression on its line, before which a `*` may stand.
+#[inline(never)]
+pub(crate) fn parse_yield_expression<C: ParserConfig, N: Nested<C>>(
+    p: &mut ParserImpl<'_, C>,
+    nested: &N,
+) -> Result<NodeId, Stop>
+    requires at { Standing p.old }
+    requires nests { CanNest (N.can nested.now) (room p.old) }
+    requires word { BeginsYield p.old true }
+    ensures { Answers (at Assignment) p.old p.new result }
+{
+    let start = p.cur_start();
+    advance(p)?;
+    if p.cur_token().is_on_new_line() || !begins_argument(p.cur_kind()) {
+        let span = p.end_span(start);
+        let node = make_optional(p, NodeKind::YieldExpression, span, None)?;
+        return Ok(node);
+    }
+    if p.at(Kind::Star) {
+        return parse_delegate(p, nested, start);
+    }
+    let argument = nested.assignment(p)?;
+    let span = p.end_span(start);
+    let node = make_optional(p, NodeKind::YieldExpression, span, Some(argument))?;
+    Ok(node)
+}
+
+/// The `*` of a `yield` that began at a place, and what it stands before.
+fn parse_delegate<C: ParserConfig, N: Nested<C>>(
+    p: &mut ParserImpl<'_, C>,
+    nested: &N,
+    start: u32,
+) -> Result<NodeId, Stop>
+    requires at { Standing p.old }
+    requires nests { CanNest (N.can nested.now) (room p.old) }
+    requires start { start ≤ p.old.prev_token_end }
+    requires star { p.old.token.kind ≡ Star }
+    ensures { ReadsYield start p.old p.new result }
+{
+    advance(p)?;
+    let argument = nested.assignment(p)?;
+    let span = p.end_span(start);
+    let node = make_delegate(p, span, argument)?;
+    Ok(node)
+}
+
+/// The node of a `yield` with a `*`.
+fn make_delegate<C: ParserConfig>(
+    p: &mut ParserImpl<'_, C>,
+    span: Span,
+    argument: NodeId,
+) -> Result<NodeId, NoMemory>
+    ensures { IfOk result (λ id. MadeHere (record (plain_label node.YieldExpression op.None span) { flags = delegate_flag }) (Some argument ∷ []) p.old p.new id) }
+{
+    let flags = NodeFlags {
+        delegate: true,
+        ..NodeFlags::default()
+    };
+    p.ast
+        .node_of_one(NodeKind::YieldExpression, span, Op::None, flags, Some(argument))
+}
+
+/// Whether the argument of a `yield` begins with this lexeme on its line, or its `*` does. A slash begins a regular
+/// expression there.
+fn begins_argument(kind: Kind) -> bool
+    ensures { result ≡ yields_argument kind }
+{
+    kind.is_binding_identifier()
+        || kind.is_literal()
+        || kind.is_unary_operator()
+        || kind.is_update_operator()
+        || begins_other_argument(kind)
+}
+
+/// Whether it is one of those that are no names, literals or operators before an operand.
+fn begins_other_argument(kind: Kind) -> bool
+    ensures { result ≡ one_of_kinds other_arguments kind }
+{
+    matches!(
+        kind,
+        Kind::Star
+            | Kind::Slash
+            | Kind::SlashEq
+            | Kind::This
+            | Kind::LParen
+            | Kind::LBrack
+            | Kind::LCurly
+            | Kind::Function
+            | Kind::Class
+            | Kind::At
+            | Kind::NoSubstitutionTemplate
+            | Kind::TemplateHead
+            | Kind::Percent
+            | Kind::New
+            | Kind::Import
+            | Kind::Super
+            | Kind::PrivateIdentifier
+    )
+}
