@@ -13,4 +13,5 @@ pub mod NotedHeads
 pub mod Operations
 pub mod Refusals
 pub mod Sequences
+pub mod SlashOperators
 pub mod Updates

@@ -37,7 +37,7 @@ use Rattle.js_cursor.specs.declared.stop.ListStep.TheVariants.{Element, End, End
 use Rattle.js_cursor.specs.declared.stop.Stop.{Stop}
 use Rattle.js_cursor.specs.declared.stop.Stop.TheVariants.{Fatal, NoMemory}
 use Rattle.js_parsing.proofs.Giving.{gives_up}
-use Rattle.js_parsing.specs.Lexemes.{Lex, nowhere}
+use Rattle.js_parsing.specs.Lexemes.{Lex, nowhere, slashes}
 use Rattle.js_parsing.specs.States.{At, Same, Standing, flags_of}
 use Rattle.js_parsing.specs.Nesting.{room}
 use Rattle.js_parsing.specs.Moves.{Moved, Moves, unpassable}
@@ -50,7 +50,7 @@ use Rattle.js_parsing.proofs.Signs.{AllAre, NoneIs}
 use Rattle.js_parsing.proofs.Signs.{stands_there}
 use Rattle.js_parsing.proofs.Moving.{same_both, same_itself, moves, standing, stops_behind}
 use Rattle.js_parsing.proofs.Nesting.{nested_room, later_room}
-use Rattle.js_parsing.proofs.Paths.{angles, walked_both, walked_one, one_read, passes, skips, read_of, not_here}
+use Rattle.js_parsing.proofs.Paths.{walked_both, walked_one, one_read, passes, skips, read_of, not_here, settles}
 use Rattle.js_parsing.proofs.Verdicts.{verdict_of, either_way, and_then}
 use Rattle.js_parsing.proofs.Verdicts.{after as grown_behind}
 use Rattle.js_parsing.proofs.Classes.{here_ends}

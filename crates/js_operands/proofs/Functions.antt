@@ -39,7 +39,7 @@ use Rattle.js_cursor.specs.declared.stop.Stop.{Stop}
 use Rattle.js_cursor.specs.declared.stop.Stop.TheVariants.{Fatal, NoMemory}
 use Rattle.js_parsing.specs.Answers.{Answer, Grown, Numbered, Outcome, Stops, Stretch, Underived, Verdict, unclean}
 use Rattle.js_parsing.specs.Arguments.{Partway}
-use Rattle.js_parsing.specs.Lexemes.{Lex, may_name, name_kinds, spot}
+use Rattle.js_parsing.specs.Lexemes.{Lex, may_name, name_kinds, spot, slashes}
 use Rattle.js_parsing.specs.Moves.{LeafTaken, Moved, MadeHere, plain_label, unpassable}
 use Rattle.js_parsing.specs.Nesting.{room}
 use Rattle.js_parsing.specs.Stands.{NameHere, NameUnder, StandsHere}

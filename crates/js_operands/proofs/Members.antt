@@ -5,7 +5,7 @@ use Rattle.std.specs.Prelude.{Result, Ok, Err, MatchResult}
 use Rattle.std.proofs.lemmas.Bool.{false≢true, and_parts, and_from}
 use Rattle.js_base.specs.declared.diagnostic.Diagnostic.{Diagnostic}
 use Rattle.js_base.specs.declared.kind.Kind.{Kind}
-use Rattle.js_base.specs.declared.kind.Kind.TheVariants.{RAngle, New, Dot, QuestionDot, LParen, LBrack, RBrack, PrivateIdentifier}
+use Rattle.js_base.specs.declared.kind.Kind.TheVariants.{RAngle, New, Dot, QuestionDot, LParen, LBrack, RBrack, PrivateIdentifier, RegExp}
 use Rattle.js_base.specs.declared.span.Span.{Span}
 use Rattle.js_base.specs.Kinds.{same_kind, one_of_kinds}
 use Rattle.js_base.specs.KindSets.{identifier_name_kinds}
@@ -46,7 +46,7 @@ use Rattle.js_cursor.specs.Moves.{Enters, GivesUp, Leaves, MovesOn, OnlyMemory, 
 use Rattle.js_cursor.specs.declared.stop.Stop.{Stop}
 use Rattle.js_cursor.specs.declared.stop.Stop.TheVariants.{Fatal, NoMemory}
 use Rattle.js_cursor.proofs.Later.{follows_on}
-use Rattle.js_parsing.specs.Lexemes.{Lex, is_read, read_kinds, read_word, name_kinds}
+use Rattle.js_parsing.specs.Lexemes.{Lex, is_read, read_kinds, read_word, name_kinds, slashes, Plain}
 use Rattle.js_parsing.specs.States.{At, Same, Standing}
 use Rattle.js_parsing.specs.Nesting.{room}
 use Rattle.js_parsing.proofs.Nesting.{nested_room, later_room}
@@ -57,7 +57,7 @@ use Rattle.js_operands.specs.Members.{no_link_behind, Taken, NoBareNew, NoMember
 use Rattle.js_operands.specs.Templates.{ChainGoesOn, ChainLinkOutcome, ReadsChainLink, Tagged, TagOutcome, heads}
 use Rattle.js_operands.proofs.Templates.{none_read, tag_taken}
 use Rattle.js_parsing.specs.Arguments.{Partway}
-use Rattle.js_parsing.proofs.Here.{told, angled, begins_here, uncut, found}
+use Rattle.js_parsing.proofs.Here.{angled, begins_here, uncut, found, told_plain}
 use Rattle.js_parsing.proofs.Verdicts.{verdict_of, either_way, and_then, behind_none, grown_then}
 use Rattle.js_parsing.proofs.Verdicts.{after as grown_behind}
 use Rattle.js_parsing.proofs.Moving.{moves, same_both, beside_nodes, elsewhere, at_depth, stops_behind, stops_in, stops_so, standing, same_with}
@@ -78,6 +78,7 @@ use Rattle.js_base.specs.Texts.{words}
 use Rattle.js_grammar.specs.Lexemes.{is_word as is_name_word}
 use Rattle.js_parsing.proofs.Classes.{here_ends}
 use Rattle.js_base.specs.declared.diagnostic.DiagnosticKind.TheVariants.{ExpectClosing}
+use Rattle.js_parsing.proofs.Tight.{plain_is_read, plain_lex}
 
 -- ---- which lexeme stands here
 

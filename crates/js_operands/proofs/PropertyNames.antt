@@ -39,7 +39,7 @@ use Rattle.js_operands.specs.Numbers.{node_of_number, op_of_number}
 use Rattle.js_operands.specs.PropertyNames.{NoName, NoNames, NameRead, NameOutcome}
 use Rattle.js_operands.proofs.Operands.{exponential_test, of_number, one_path, plain_leaf}
 use Rattle.js_parsing.specs.Answers.{Underived, Numbered, Outcome, Stops}
-use Rattle.js_parsing.specs.Lexemes.{Lex}
+use Rattle.js_parsing.specs.Lexemes.{Lex, slashes}
 use Rattle.js_parsing.specs.Moves.{IsWholeHere, LeafTaken, Moved, TakesLeaf, plain_label, unpassable}
 use Rattle.js_parsing.specs.Stands.{StandsHere}
 use Rattle.js_parsing.specs.States.{At, Same, NodesLie}

@@ -111,7 +111,7 @@ no_pattern_here a e = false≢true (sym (no_pattern_token a.plain) ∙ ap (same_
 -- ---- the flags of a regular expression
 
 -- its characters stand from its start to its end
-characters : {text : List ℕ} {s : ℕ} {y : Lexeme} → IsUtf8 text → IsCharBoundary text s → (h : StandsBehind all_faults text s y) → IsCharBoundary text y.from × Word text y.from y.to h.word
+pub characters : {text : List ℕ} {s : ℕ} {y : Lexeme} → IsUtf8 text → IsCharBoundary text s → (h : StandsBehind all_faults text s y) → IsCharBoundary text y.from × Word text y.from y.to h.word
 characters {text} {s} {y} u b h =
     let before : Word text s y.from (joined h.trivia) = subst (λ (n : ℕ). Word text s n (joined h.trivia)) (sym h.from) (front_word text s (joined h.trivia) (h.word ++ h.rest) u b h.stands.splits) in
     let here : behind text y.from ≡ h.word ++ h.rest = append_cancel_left (joined h.trivia) (behind text y.from) (h.word ++ h.rest) (sym before.splits ∙ h.stands.splits) in
@@ -397,8 +397,11 @@ module _ {text : List ℕ} {f : Flags} {p q : Parser} {at_end : ℕ} (a : At tex
           or_next true e = refl
           or_next false e = e
 
-      pub answers : {w : Parser} {id : NodeId} (s : Span) → s ≡ q.token.span → MadeHere (plain_label node.RegExpLiteral op.None s) [] r w id → Numbered text f (at Primary f) p w id
+      answers : {w : Parser} {id : NodeId} (s : Span) → s ≡ q.token.span → MadeHere (plain_label node.RegExpLiteral op.None s) [] r w id → Numbered text f (at Primary f) p w id
       answers {w} {id} s z made =
           let l : plain_label node.RegExpLiteral op.None s ≡ label_here reg_exp_literal no_op p r = λ j. record { kind = reg_exp_literal; op = no_op; flags = 0; span = record { from = (ap (λ (v : Span). v.start) z ∙ from) j; to = (ap (λ (v : Span). v.end) z ∙ (given.1.tells.end ∙ ends)) j } } in
           let ks : Keeps p.nodes r.nodes = subst (λ (ns : List Node). Keeps p.nodes ns) (sym nodes) (Keeps-refl p.nodes) in
           by_path (subst (λ (v : Label). Path text f (after (at Primary f)) (rule (at Primary f)) p nothing r (tree v end)) (sym l) path) same made.stays (behind_primary f.in_ (plain_label node.RegExpLiteral op.None s) end text r.prev_token_end) refl (leaf_held made ks) (Keeps-trans ks (Keeps-made made.made)) (ap (λ (v : Label). v.span) l) (one_lies made)
+
+    pub literal_answers : {r w : Parser} {id : NodeId} (s : Span) → MovesOn q r → s ≡ q.token.span → MadeHere (plain_label node.RegExpLiteral op.None s) [] r w id → Numbered text f (at Primary f) p w id
+    literal_answers s m z made = answers (passes_on m) s z made

@@ -47,7 +47,7 @@ use Rattle.js_parsing.proofs.Moving.{beside_nodes, same_both, same_with, stops_b
 use Rattle.js_parsing.proofs.Paths.{Path, ◌⟼◌, ◌⟶◌, ◌⟶✗◌, by_symbol_as, fails_at, flagged_by, flagged_here, label_here, last_called, noded, one_read, passes_test, read_of, token}
 use Rattle.js_parsing.proofs.Signs.{other_kind, plain_sign}
 use Rattle.js_parsing.proofs.Verdicts.{grown_then, verdict_of}
-use Rattle.js_operands.proofs.Members.{name_of}
+use Rattle.js_operands.proofs.Members.{name_of, word_slashless}
 use Rattle.js_operands.proofs.Methods.{no_first}
 use Rattle.js_operands.proofs.Operands.{name_leaf}
 use Rattle.js_operands.proofs.Properties.{behind_shorthand, initialiser, kinds_apart, no_getter, no_method, no_name_begins, no_setter, no_value, property_name_kinds, without_star, word_apart}
