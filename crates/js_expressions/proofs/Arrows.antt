@@ -2,6 +2,7 @@
 use Rattle.std.proofs.Common.{ℕ, ◌≡◌, ◌<◌, ◌⊎◌, inl, inr, List, [], ◌∷◌, length, Bool, true, false, not, cond, ◌&&◌, ◌||◌, IsTrue, Option, Some, None, refl, sym, ap, subst, arith, ◌∙◌}
 use Rattle.std.specs.Prelude.{IsCharBoundary, Result, Ok, Err, nat_lt}
 use Rattle.std.proofs.lemmas.Bool.{false≢true, and_parts, and_from, or_left, or_right}
+use Rattle.js_base.specs.Contexts.{has_flag, yield_flag}
 use Rattle.js_base.specs.declared.kind.Kind.{Kind}
 use Rattle.js_base.specs.declared.kind.Kind.TheVariants.{Arrow, Await, Comma, LParen, LCurly, RAngle, Yield, RegExp}
 use Rattle.js_base.specs.declared.span.Span.{Span}
@@ -57,7 +58,7 @@ use Rattle.js_cursor.specs.declared.checkpoint.ParserCheckpoint.{ParserCheckpoin
 use Rattle.js_cursor.specs.declared.stop.Stop.{Stop}
 use Rattle.js_cursor.specs.declared.stop.Stop.TheVariants.{Fatal}
 use Rattle.js_parsing.specs.Stands.{NameHere, StandsHere}
-use Rattle.js_parsing.proofs.NameKinds.{a_name, name_apart, name_test, name_whole, no_name_here, or_kind}
+use Rattle.js_parsing.proofs.NameKinds.{a_name, listed_name, name_apart, name_at, name_test, name_whole, no_name_here, or_kind}
 use Rattle.js_parsing.proofs.Giving.{fails_escaped}
 use Rattle.js_cursor.specs.Moves.{is_last}
 use Rattle.js_cursor.specs.Parsers.{Parser}
@@ -74,11 +75,14 @@ use Rattle.js_expressions.specs.Closings.{ArrowBehindOne}
 use Rattle.js_expressions.proofs.Closings.{closes_alike, one_is}
 use Rattle.js_cursor.specs.Tokens.{may_be_read_again}
 use Rattle.js_parsing.proofs.KeptTokens.{before_back, last_back}
-use Rattle.js_parsing.specs.Lexemes.{Lex, name_kinds, spot, slashes, Plain}
+use Rattle.js_parsing.specs.Lexemes.{Lex, name_kinds, spot, slashes, Plain, may_name}
 use Rattle.js_parsing.specs.Moves.{Moved, MadeHere, LeafTaken, TakesLeaf, plain_label}
 use Rattle.js_parsing.specs.States.{At, Same, Standing, flags_of, IsPlain, whole, sign, nothing as nothing_here, NodesLie, SpansLie}
 use Rattle.js_targets.proofs.ArraysBeforeSigns.{is_cover, not_wide}
-use Rattle.js_targets.proofs.Assigned.{arrow_passes, only_arrow}
+use Rattle.js_targets.proofs.Assigned.{arrow_passes, no_yield, only_arrow}
+use Rattle.js_targets.specs.Others.{NoYield}
+use Rattle.js_parsing.proofs.NamedFirsts.{fails_unnamed}
+use Rattle.js_expressions.specs.Yields.{BeginsYield}
 use Rattle.js_expressions.proofs.Assignments.{by_second, second}
 use Rattle.js_expressions.proofs.Conditionals.{conditional_none}
 use Rattle.js_parsing.proofs.Signs.{other_kind, plain_sign}
@@ -259,9 +263,9 @@ module _ {text : List ℕ} (f : Flags) where
 -- ---- where none is derived
 
 -- neither a name nor a parenthesis stands here
-pub no_head_here : {text : List ℕ} {f : Flags} {p : Parser} → At text f p → one_of_kinds (LParen ∷ name_kinds) p.token.kind ≡ false → Underived text (at Arrow' f) p.prev_token_end
+pub no_head_here : {text : List ℕ} {f : Flags} {p : Parser} → At text f p → may_name f.yield_ f.await_ p.token.kind ≡ false → one_of_kinds (LParen ∷ []) p.token.kind ≡ false → Underived text (at Arrow' f) p.prev_token_end
 unfolding covers apart
-no_head_here {f = f} a n = no_arrow f (fails_at a (head_of f ▸ behind_head f) (LParen ∷ name_kinds) refl n)
+no_head_here {f = f} a m n = no_arrow f (fails_unnamed a f {X = plain full} (λ g. head_of g ▸ behind_head g) (LParen ∷ []) refl refl refl refl refl m n)
 
 -- no `=>` stands behind the first name or parentheses
 one_arrow : {text : List ℕ} {f : Flags} {s : ℕ} {X : Test} → ((ls mid : Lexemes) (e : ℕ) → Lexes (Lex text) s ls → One [] ls e mid → same_kind Arrow (here mid).kind ≡ true → ⊥) → Fails rule (Lex text) X end (head_of f ▸ behind_head f) s
@@ -292,8 +296,8 @@ module _ {text : List ℕ} {f : Flags} {p : Parser} (a : At text f p) where
   name_only k = fails_at a (symbol Params f) (LParen ∷ []) refl (name_apart (LParen ∷ []) refl _ k)
 
   -- a name as the parameters
-  name_path : {q : Parser} → one_of_kinds name_kinds p.token.kind ≡ true → p.token.escaped ≡ false → Moved text f p q → Path text f (plain full) (head_of f) p nothing q (tree (label_here formal_parameters no_op p q) (tree (label_here formal_parameter no_op p q) (tree (label_here binding_identifier no_op p q) end (hole end)) end))
-  name_path k e m = left (name_only k) ⟼ noded a (noded a (ended_by (then_any (bound_path a k e m)) reads_empty_slot))
+  name_path : {q : Parser} → may_name f.yield_ f.await_ p.token.kind ≡ true → p.token.escaped ≡ false → Moved text f p q → Path text f (plain full) (head_of f) p nothing q (tree (label_here formal_parameters no_op p q) (tree (label_here formal_parameter no_op p q) (tree (label_here binding_identifier no_op p q) end (hole end)) end))
+  name_path k e m = left (name_only (listed_name f.yield_ f.await_ p.token.kind k)) ⟼ noded a (noded a (ended_by (then_any (bound_path a k e m)) reads_empty_slot))
 
   -- parentheses as the parameters
   no_name : {X : Test} → p.token.kind ≡ LParen → Fails rule (Lex text) X end (mk formal_parameters (mk formal_parameter (symbol BindingIdentifier f ▸ empty_slot))) p.prev_token_end
@@ -367,8 +371,12 @@ module _ {text : List ℕ} {f : Flags} {p : Parser} {t : Token} (a : At text f p
 
 -- ---- what is answered of a head
 
-head_of_path : {text : List ℕ} {f : Flags} {p q : Parser} (w : Parser) {l : Label} {cs : Slots} {id : NodeId} → Path text f (plain full) (head_of f) p nothing q (tree l cs) → q.errors ≡ p.errors → Same p q → w ≡ record q { nodes = w.nodes } → Holds w.nodes (length p.nodes) (length w.nodes) id.0 l cs → Keeps p.nodes w.nodes → (IsCharBoundary p.text p.token.span.start → NodesLie q.text q.nodes → NodesLie q.text w.nodes) → Head text f p w id
-head_of_path {text} {f} {p} {q} w {l} {cs} {id} r e s n h k i = go w.nodes n h k i
+not_true : {b : Bool} → not b ≡ true → b ≡ false
+not_true {true} h = absurd (false≢true h)
+not_true {false} h = refl
+
+head_of_path : {text : List ℕ} {f : Flags} {p q : Parser} (w : Parser) {l : Label} {cs : Slots} {id : NodeId} → NoYield text f p.prev_token_end → Path text f (plain full) (head_of f) p nothing q (tree l cs) → q.errors ≡ p.errors → Same p q → w ≡ record q { nodes = w.nodes } → Holds w.nodes (length p.nodes) (length w.nodes) id.0 l cs → Keeps p.nodes w.nodes → (IsCharBoundary p.text p.token.span.start → NodesLie q.text q.nodes → NodesLie q.text w.nodes) → Head text f p w id
+head_of_path {text} {f} {p} {q} w {l} {cs} {id} y r e s n h k i = go w.nodes n h k i
   where
     go : (ns : List Node) → w ≡ record q { nodes = ns } → Holds w.nodes (length p.nodes) (length w.nodes) id.0 l cs → Keeps p.nodes w.nodes → (IsCharBoundary p.text p.token.span.start → NodesLie q.text q.nodes → NodesLie q.text w.nodes) → Head text f p w id
     go ns n h k i = subst (λ (z : Parser). Head text f p z id) (sym n) (record {
@@ -380,6 +388,7 @@ head_of_path {text} {f} {p} {q} w {l} {cs} {id} r e s n h k i = go w.nodes n h k
       slots = cs;
       pass = r.pass;
       walked = r.walked;
+      no_yield = y;
       read = none_kept r.verdict (ap length e);
       holds = subst (λ (z : Parser). Holds z.nodes (length p.nodes) (length z.nodes) id.0 l cs) n h;
       keeps = subst (λ (z : Parser). Keeps p.nodes z.nodes) n k;
@@ -408,14 +417,14 @@ name_found {p} {q} {w} {id} a b e s =
 
 -- parameters in parentheses
 pub parenthesized_head : {text : List ℕ} {f : Flags} {p q : Parser} {id : NodeId} → At text f p → p.token.kind ≡ LParen → Numbered text f (at Params f) p q id → length q.errors ≡ length p.errors → Head text f p q id
-parenthesized_head {p = p} {q = q} a k x e = head_of_path q (parameters_path a k x.answer) (by x.answer.verdict) x.answer.same refl x.holds x.keeps (λ b z. z)
+parenthesized_head {p = p} {q = q} a k x e = head_of_path q (no_yield a (λ i. let z : LParen ≡ Yield = sym k ∙ i in absurd (cc))) (parameters_path a k x.answer) (by x.answer.verdict) x.answer.same refl x.holds x.keeps (λ b z. z)
   where
     by : {C B : Type 0} → Verdict p.errors q.errors C B → q.errors ≡ p.errors
     by (clean i c) = i
     by (unclean g n) = absurd (longer g (sym e))
 
 -- a name
-pub single_head : {text : List ℕ} {f : Flags} {p q v w : Parser} {name parameter id : NodeId} (s : Span) → At text f p → one_of_kinds name_kinds p.token.kind ≡ true → p.token.escaped ≡ false → s ≡ p.token.span → LeafTaken node_kind.BindingIdentifier op_made.None text f p q name → MadeHere (plain_label node_kind.FormalParameter op_made.None s) (Some name ∷ None ∷ []) q v parameter → MadeHere (plain_label node_kind.FormalParameters op_made.None s) (Some parameter ∷ []) v w id → Head text f p w id
+pub single_head : {text : List ℕ} {f : Flags} {p q v w : Parser} {name parameter id : NodeId} (s : Span) → At text f p → may_name f.yield_ f.await_ p.token.kind ≡ true → p.token.escaped ≡ false → s ≡ p.token.span → LeafTaken node_kind.BindingIdentifier op_made.None text f p q name → MadeHere (plain_label node_kind.FormalParameter op_made.None s) (Some name ∷ None ∷ []) q v parameter → MadeHere (plain_label node_kind.FormalParameters op_made.None s) (Some parameter ∷ []) v w id → Head text f p w id
 single_head {text} {f} {p} {q} {v} {w} {name} {parameter} {id} s a k e b t n m =
     let i : p.token.span.end ≡ t.mid.prev_token_end = t.moved.tells.end ∙ t.moved.ends in
     let ks : Keeps p.nodes t.mid.nodes = subst (λ (ns : List Node). Keeps p.nodes ns) (sym t.moved.nodes) (Keeps-refl p.nodes) in
@@ -424,7 +433,7 @@ single_head {text} {f} {p} {q} {v} {w} {name} {parameter} {id} s a k e b t n m =
     let hv = node_held n (HoldsAll-hole (HoldsAll-one name h)) in
     let kv : Keeps p.nodes v.nodes = Keeps-trans kq (Keeps-made n.made) in
     let hw = node_held m (HoldsAll-one parameter hv) in
-    head_of_path w (subst (λ (x : ℕ). Path text f (plain full) (head_of f) p nothing t.mid (tree (label_to formal_parameters x) (tree (label_to formal_parameter x) (tree (label_to binding_identifier x) end (hole end)) end))) (sym i) (name_path a k e t.moved)) t.moved.kept t.moved.same (m.stays ∙ ap (λ (z : Parser). record z { nodes = w.nodes }) (n.stays ∙ ap (λ (z : Parser). record z { nodes = v.nodes }) t.made.stays))
+    head_of_path w (no_yield a (λ e. not_true (subst (λ (v : Kind). may_name f.yield_ f.await_ v ≡ true) e k))) (subst (λ (x : ℕ). Path text f (plain full) (head_of f) p nothing t.mid (tree (label_to formal_parameters x) (tree (label_to formal_parameter x) (tree (label_to binding_identifier x) end (hole end)) end))) (sym i) (name_path a k e t.moved)) t.moved.kept t.moved.same (m.stays ∙ ap (λ (z : Parser). record z { nodes = w.nodes }) (n.stays ∙ ap (λ (z : Parser). record z { nodes = v.nodes }) t.made.stays))
     (subst (λ (x : Span). Holds w.nodes (length p.nodes) (length w.nodes) id.0 (plain_label node_kind.FormalParameters op_made.None x) (tree (plain_label node_kind.FormalParameter op_made.None x) (tree (label_to binding_identifier p.token.span.end) end (hole end)) end)) b hw) (Keeps-trans kv (Keeps-made m.made))
     (λ c z. let y = from_start (plain_label node_kind.FormalParameters op_made.None s) t.moved.same t.moved.at.at (let j = t.moved.further in omega arith) (ap (λ (x : Span). record { from = x.start; to = x.end }) b ∙ ap (λ (x : ℕ). record { from = p.token.span.start; to = x }) i) c in one_lies m y (one_lies n y (one_lies t.made (subst (λ (x : Span). LabelLies t.mid.text (plain_label node_kind.BindingIdentifier op_made.None x)) b y) z)))
   where
@@ -455,7 +464,7 @@ no_operand_there {text} {f} {p} a k h = record { no = λ ts vs j ls rest m d e. 
 
 -- neither a head nor an operand begins here
 pub unassigned : {text : List ℕ} {f : Flags} {p : Parser} → At text f p → p.token.kind ≡ LParen → NoHead text f p.prev_token_end → Underived text (at Short f) p.prev_token_end → Underived text (at Assignment f) p.prev_token_end
-unassigned {f = f} a k n s = fails_by (only_arrow f (not_wide a) (is_cover a) (conditional_none f s) s ▹✗ weaken_fails_on (no_head_no_arrow a k n) (same_read (at Assignment f) (at Arrow' f) arrow_passes refl))
+unassigned {f = f} a k n s = fails_by (only_arrow f (not_wide a) (is_cover a) (no_yield a (λ i. let z : LParen ≡ Yield = sym k ∙ i in absurd (cc))) (conditional_none f s) s ▹✗ weaken_fails_on (no_head_no_arrow a k n) (same_read (at Assignment f) (at Arrow' f) arrow_passes refl))
 
 -- parameters of which something was told, where no operand begins
 told_parameters : {text : List ℕ} {f : Flags} {p q : Parser} {id : NodeId} → At text f p → p.token.kind ≡ LParen → Numbered text f (at Params f) p q id → Grown p.errors q.errors → Underived text (at Params f) p.prev_token_end → Underived text (at Short f) p.prev_token_end → ToldHead text f p q id
@@ -535,15 +544,30 @@ neither {p} n m = λ text f a. by text f p.token.escaped refl a
   where
     by : (text : List ℕ) (f : Flags) (b : Bool) → p.token.escaped ≡ b → At text f p → Underived text (at Arrow' f) p.prev_token_end
     by text f true e a = fails_escaped a e
-    by text f false e a = no_head_here a (or_kind LParen name_kinds p.token.kind (λ k. m k e) (no_name_here p n e))
+    by text f false e a = no_head_here a (no_name_here f p (name_at false a n) e) (or_kind LParen [] p.token.kind (λ k. m k e) refl)
 
 -- ---- where the parser is where it was
 
 pub unmoved_none : {p q : Parser} → Standing p → Unmoved p q → NoArrowHere p → NoArrowHere q
 unmoved_none {p} {q} a u n = λ text f b. subst (λ (s : ℕ). Underived text (at Arrow' f) s) (sym u.place) (subst (λ (g : Flags). Underived text (at Arrow' g) p.prev_token_end) (sym (flags_same p q u.same.ctx u.same.follows.source_type u.same.options) ∙ b.flags_are) (subst (λ (t : List ℕ). Underived t (at Arrow' (flags_of p)) p.prev_token_end) (sym u.same.follows.text ∙ b.text_is) (n _ _ a)))
 
-pub only_operand : {p q : Parser} → Standing p → Unmoved p q → NoArrowHere p → OnlyOperandHere q
-only_operand a u n = λ text f b. unmoved_none a u n text f b
+-- where no YieldExpression begins
+no_yield_here : {text : List ℕ} {f : Flags} {p : Parser} → At text f p → (BeginsYield p → ⊥) → NoYield text f p.prev_token_end
+no_yield_here {text} {f} {p} a n = go p.token.escaped refl
+  where
+    go : (b : Bool) → p.token.escaped ≡ b → NoYield text f p.prev_token_end
+    go true e = fails_escaped a e
+    go false e = no_yield a (λ k. by (has_flag yield_flag p.ctx) refl k e)
+
+    by : (b : Bool) → has_flag yield_flag p.ctx ≡ b → p.token.kind ≡ Yield → p.token.escaped ≡ false → f.yield_ ≡ false
+    by true i k e = absurd (n (record { kind = k; plain = e; yields = i }))
+    by false i k e = sym (ap (λ (g : Flags). g.yield_) a.flags_are) ∙ i
+
+unmoved_yield : {p q : Parser} → Standing p → Unmoved p q → (BeginsYield p → ⊥) → (text : List ℕ) (f : Flags) → At text f q → NoYield text f q.prev_token_end
+unmoved_yield {p} {q} a u n text f b = subst (λ (s : ℕ). NoYield text f s) (sym u.place) (subst (λ (g : Flags). NoYield text g p.prev_token_end) (sym (flags_same p q u.same.ctx u.same.follows.source_type u.same.options) ∙ b.flags_are) (subst (λ (t : List ℕ). NoYield t (flags_of p) p.prev_token_end) (sym u.same.follows.text ∙ b.text_is) (no_yield_here a n)))
+
+pub only_operand : {p q : Parser} → Standing p → (BeginsYield p → ⊥) → Unmoved p q → NoArrowHere p → OnlyOperandHere q
+only_operand a y u n = λ text f b. (unmoved_none a u n text f b, unmoved_yield a u y text f b)
 
 pub from_unmoved : (text : List ℕ) (f : Flags) (n : Symbol) {p q : Parser} (w : Parser) (r : Result NodeId Stop) → Unmoved p q → Outcome text f n q w r → Outcome text f n p w r
 from_unmoved text f n {p} {q} w (Ok id) u x = record {
@@ -660,7 +684,7 @@ module _ {text : List ℕ} {f : Flags} {o p : Parser} {id : NodeId} (h : Head te
       no_operand f (h.read.goes.passes.lexed (last y.0) y.1) z.1 ? z.2 y.2
 
   to_arrow : Goes rule (Lex text) (after (at Assignment f)) end (rule (at Assignment f)) o.prev_token_end (such (at Arrow' f) always) o.prev_token_end (λ us. us) (still 0)
-  to_arrow = only_arrow f (not_wide h.at) (is_cover h.at) (conditional_none f head_is_none) head_is_none
+  to_arrow = only_arrow f (not_wide h.at) (is_cover h.at) h.no_yield (conditional_none f head_is_none) head_is_none
 
   -- behind two slots may stand what may stand behind the second one
   inside_arrow : Inside rule arrow_made (after (at Assignment f)) (second f) end (arrow_slots f) o.prev_token_end

@@ -15,3 +15,5 @@ pub mod Refusals
 pub mod Sequences
 pub mod SlashOperators
 pub mod Updates
+pub mod Awaits
+pub mod Yields

@@ -4,7 +4,7 @@ use Rattle.std.specs.Prelude.{Ok}
 use Rattle.std.proofs.lemmas.Bool.{false≢true}
 use Rattle.js_base.specs.declared.diagnostic.DiagnosticKind.TheVariants.{ExpectToken}
 use Rattle.js_base.specs.declared.kind.Kind.{Kind}
-use Rattle.js_base.specs.declared.kind.Kind.TheVariants.{Arrow, Dot3, LParen, New, RAngle, RParen, RegExp, Slash, SlashEq}
+use Rattle.js_base.specs.declared.kind.Kind.TheVariants.{Arrow, Dot3, LParen, New, RAngle, RParen, RegExp, Slash, SlashEq, Await}
 use Rattle.js_base.specs.declared.token.Token.{Token}
 use Rattle.js_base.specs.Kinds.{same_kind, one_of_kinds}
 use Rattle.js_grammar.specs.Trees.{Slots, end, parenthesized_expression}
@@ -40,7 +40,7 @@ use Rattle.js_parsing.proofs.Giving.{gives_up}
 use Rattle.js_parsing.proofs.Here.{one_plain, plainly, told, uncut, unsettled, settled_kind, plain_there, plain_same, Plainly}
 use Rattle.js_parsing.proofs.Moving.{stops_behind, stops_so}
 use Rattle.js_parsing.proofs.Paths.{at_kind, fails_at}
-use Rattle.js_parsing.proofs.Phrases.{lift_fails, unary_part}
+use Rattle.js_parsing.proofs.Phrases.{no_operator, lift_fails, unary_part}
 use Rattle.js_parsing.proofs.Verdicts.{after as grown_behind}
 use Rattle.js_patterns.specs.Parameters.{parameters_left}
 use Rattle.js_patterns.proofs.ParameterLists.{no_params}
@@ -114,18 +114,13 @@ no_dots : (f : Flags) → apart (starts first (inner f ▸ tok RParen) (plain fu
 unfolding covers apart
 no_dots f = refl
 
-unary_left : (f : Flags) → live (rule (at Unary f)) ≡ alt (such (at Update f) always) (unary_part f)
-unfolding rule rule_of apart
-unary_left f = refl
-
 module _ {text : List ℕ} {f : Flags} {p : Parser} (a : At text f p) (k : p.token.kind ≡ LParen) where
   paren_alone : Goes rule (Lex text) (after (at Primary f)) end (rule (at Primary f)) p.prev_token_end (mk parenthesized_expression (tok LParen ▸ inner f ▸ tok RParen)) p.prev_token_end (λ us. us) (still 0)
   unfolding rule rule_of covers
   paren_alone = at_kind a LParen k refl
 
-  no_operator : Goes rule (Lex text) (after (at Unary f)) end (rule (at Unary f)) p.prev_token_end (such (at Update f) always) p.prev_token_end (λ us. us) (still 0)
-  unfolding covers apart
-  no_operator = subst (λ (g : G). Goes rule (Lex text) (after (at Unary f)) end (rule (at Unary f)) p.prev_token_end g p.prev_token_end (λ us. us) (still 0)) (unary_left f) (lives (rule (at Unary f))) ▹ left (fails_at a {X = after (at Unary f)} (unary_part f) unary_kinds refl (ap (one_of_kinds unary_kinds) k))
+  no_unary : Goes rule (Lex text) (after (at Unary f)) end (rule (at Unary f)) p.prev_token_end (such (at Update f) always) p.prev_token_end (λ us. us) (still 0)
+  no_unary = no_operator a (ap (one_of_kinds unary_kinds) k) (λ e. let q : LParen ≡ Await = sym k ∙ e in absurd (cc))
 
   -- `...` stands behind the parenthesis
   module _ (n : (y : Lexeme) → Lex text p.token.span.end y → y.kind ≡ Dot3) where
@@ -137,7 +132,7 @@ module _ {text : List ℕ} {f : Flags} {p : Parser} (a : At text f p) (k : p.tok
 
     pub no_operand_begins : Underived text (at Short f) p.prev_token_end
     unfolding covers
-    no_operand_begins = no_short f (fails_at_level 0 (omega arith) (power_none text f p.prev_token_end (lift_fails (at Unary f) (at Update f) refl refl text p.prev_token_end no_operator no_update)))
+    no_operand_begins = no_short f (fails_at_level 0 (omega arith) (power_none text f p.prev_token_end (lift_fails (at Unary f) (at Update f) refl refl text p.prev_token_end no_unary no_update)))
 
 -- ---- no head
 

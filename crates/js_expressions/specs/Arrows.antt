@@ -21,6 +21,7 @@ use Rattle.js_parsing.specs.Contexts.{arrow_body, braced_body}
 use Rattle.js_parsing.specs.Heads.{NoHead, NotedHeads}
 use Rattle.js_parsing.specs.Lexemes.{Lex, Walked, spot}
 use Rattle.js_parsing.specs.States.{At, Same, NodesLie, SpansLie}
+use Rattle.js_targets.specs.Others.{NoYield}
 
 -- what stands before `=>`: a name, or parameters in parentheses
 abbrev pub head_of : Flags → G
@@ -40,6 +41,7 @@ pub record Head (text : List ℕ) (f : Flags) (p q : Parser) (id : NodeId) : Typ
   pub slots : Slots
   pub pass : Lexemes → Lexemes
   pub walked : Walked text (spot p) (spot q) pass
+  pub no_yield : NoYield text f p.prev_token_end
   pub read : Stretch text (plain full) (head_of f) p.prev_token_end nothing q.prev_token_end (tree label slots) pass
   pub holds : Holds q.nodes (length p.nodes) (length q.nodes) id.0 label slots
   pub keeps : KeepsNodes p.nodes q.nodes

@@ -2,6 +2,7 @@
 use Rattle.std.specs.Prelude.{ℕ, ◌≡◌, ◌⊎◌, ◌&&◌, ◌||◌, Bool, true, None, length}
 use Rattle.js_base.specs.declared.kind.Kind.{Kind}
 use Rattle.js_base.specs.declared.kind.Kind.TheVariants.{Await}
+use Rattle.js_base.specs.Contexts.{has_flag, await_flag}
 use Rattle.js_base.specs.Kinds.{one_of_kinds, same_kind}
 use Rattle.js_base.specs.declared.diagnostic.Diagnostic.{Diagnostic}
 use Rattle.js_base.specs.declared.diagnostic.DiagnosticKind.TheVariants.{UnaryExponentiationLeftOperand}
@@ -12,6 +13,11 @@ use Rattle.js_parsing.specs.Operators.{unary_kinds}
 -- a unary expression there is no base
 abbrev pub unary_base : ℕ → ℕ → Diagnostic
 unary_base from to = record { kind = UnaryExponentiationLeftOperand; span = record { start = from; end = to }; first = None; second = None }
+
+-- `await` stands here, under Await
+pub record AwaitsHere (p : Parser) : Type 0 where
+  pub kind : p.token.kind ≡ Await
+  pub awaits : has_flag await_flag p.ctx ≡ true
 
 -- what begins a UnaryExpression and no UpdateExpression: a unary operator, and `await` under Await
 abbrev pub begins_by_unary : Bool → Kind → Bool

@@ -8,6 +8,7 @@ use Rattle.js_grammar.specs.Grammar.{Lexeme}
 use Rattle.js_grammar.specs.Marks.{LexemeAt, of_kinds}
 use Rattle.js_grammar.specs.Productions.{Flags, at, Arrow', Assignment, Short}
 use Rattle.js_tree.specs.declared.id.NodeId.{NodeId}
+use Rattle.js_targets.specs.Others.{OnlyOthers}
 use Rattle.js_targets.specs.Targets.{is_literal}
 use Rattle.js_cursor.specs.Parsers.{Parser}
 use Rattle.js_cursor.specs.Places.{goal}
@@ -16,14 +17,14 @@ use Rattle.js_parsing.specs.Answers.{Numbered, Outcome, Underived}
 use Rattle.js_parsing.specs.Lexemes.{Lex}
 use Rattle.js_parsing.specs.States.{At}
 
--- no arrow function begins at the place
+-- neither an arrow function nor a YieldExpression begins at the place
 abbrev pub OnlyOperand : List ℕ → Flags → ℕ → Type 0
-OnlyOperand text f s = Underived text (at Arrow' f) s
+OnlyOperand text f s = OnlyOthers text f s
 
 abbrev pub OnlyOperandHere : Parser → Type 0
 OnlyOperandHere p = (text : List ℕ) (f : Flags) → At text f p → OnlyOperand text f p.prev_token_end
 
--- A ShortCircuitExpression was read up to the old state, where no arrow function begins; what is read now makes an AssignmentExpression of it.
+-- A ShortCircuitExpression was read up to the old state, where neither an arrow function nor a YieldExpression begins; what is read now makes an AssignmentExpression of it.
 abbrev pub ReadsConditional : ℕ → NodeId → Parser → Parser → Result NodeId Stop → Type 0
 ReadsConditional start id old new r = (text : List ℕ) (f : Flags) (first : Parser) → At text f first → OnlyOperand text f first.prev_token_end → start ≡ first.token.span.start → Numbered text f (at Short f) first old id → Outcome text f (at Assignment f) first new r
 

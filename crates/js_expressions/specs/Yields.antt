@@ -12,13 +12,13 @@ use Rattle.js_cursor.specs.Parsers.{Parser}
 use Rattle.js_cursor.specs.declared.stop.Stop.{Stop}
 use Rattle.js_parsing.specs.Answers.{Outcome}
 use Rattle.js_parsing.specs.Moves.{Moved}
-use Rattle.js_parsing.specs.Stands.{StandsHere}
 use Rattle.js_parsing.specs.States.{At}
 
--- whether `yield` stands here, without an escape, under Yield
-abbrev pub BeginsYield : Parser → Bool → Type 0
-BeginsYield p true = StandsHere p Yield true × (has_flag yield_flag p.ctx ≡ true)
-BeginsYield p false = p.token.kind ≡ Yield → p.token.escaped ≡ false → has_flag yield_flag p.ctx ≡ false
+-- `yield` stands here, without an escape, under Yield
+pub record BeginsYield (p : Parser) : Type 0 where
+  pub kind : p.token.kind ≡ Yield
+  pub plain : p.token.escaped ≡ false
+  pub yields : has_flag yield_flag p.ctx ≡ true
 
 -- What begins an expression, and is no name, no literal and no operator before an operand, with the `*` of `yield`; a slash begins a regular expression.
 abbrev pub other_arguments : List Kind
@@ -30,4 +30,4 @@ yields_argument k = (((one_of_kinds binding_identifier_kinds k || one_of_kinds l
 
 -- What is read on behind `yield` on its line, which stood at the state `first` and was passed up to the old one.
 abbrev pub ReadsYield : ℕ → Parser → Parser → Result NodeId Stop → Type 0
-ReadsYield start old new r = (text : List ℕ) (f : Flags) (first : Parser) → At text f first → BeginsYield first true → Moved text f first old → old.token.is_on_new_line ≡ false → start ≡ first.token.span.start → Outcome text f (at Assignment f) first new r
+ReadsYield start old new r = (text : List ℕ) (f : Flags) (first : Parser) → At text f first → BeginsYield first → Moved text f first old → old.token.is_on_new_line ≡ false → start ≡ first.token.span.start → Outcome text f (at Assignment f) first new r

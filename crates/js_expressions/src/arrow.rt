@@ -2,13 +2,11 @@
 
 ghost use Rattle.std.specs.Prelude.{true, ◌≡◌, ◌≤◌, ◌+◌, MatchResult, IfOk, IsCharBoundary};
 ghost use Rattle.js_base.specs.declared.kind.Kind.TheVariants.{Arrow, LParen};
-ghost use Rattle.js_base.specs.Kinds.{one_of_kinds};
 ghost use Rattle.js_cursor.specs.Moves.{OnlyMemory};
 ghost use Rattle.js_grammar.specs.Productions.{at, Params};
 ghost use Rattle.js_parsing.specs.Answers.{Answers};
 ghost use Rattle.js_expressions.specs.Arrows.{ArrowBehind, ChecksLine, FindsHead, IsHead, LooksForHead, ReadsArrowBody, ReadsBody, ReadsHead, SearchesHead, Single};
 ghost use Rattle.js_expressions.specs.Lookaheads.{NoOperandHere};
-ghost use Rattle.js_parsing.specs.Lexemes.{name_kinds};
 ghost use Rattle.js_parsing.specs.Nesting.{CanNest, room};
 ghost use Rattle.js_parsing.specs.Stands.{NameHere};
 ghost use Rattle.js_parsing.specs.States.{Standing};
@@ -72,7 +70,7 @@ fn is_arrow_behind<C: ParserConfig>(p: &mut ParserImpl<'_, C>) -> Result<bool, S
 #[inline(never)]
 fn parse_single_parameter<C: ParserConfig>(p: &mut ParserImpl<'_, C>) -> Result<NodeId, Stop>
     requires at { Standing p.old }
-    requires name { one_of_kinds name_kinds p.old.token.kind ≡ true }
+    requires name { NameHere p.old true }
     ensures { MatchResult result (λ id. Single p.old p.new id) OnlyMemory }
 {
     let span = p.cur_token().span();

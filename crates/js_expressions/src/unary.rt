@@ -1,9 +1,8 @@
 //! Unary operators and `await` (ECMA-262, sections 13.5 and 15.8).
 
-ghost use Rattle.std.specs.Prelude.{◌≡◌, ◌&&◌, true, false};
-ghost use Rattle.js_base.specs.Contexts.{has_flag, await_flag};
-ghost use Rattle.js_base.specs.declared.kind.Kind.TheVariants.{Await};
-ghost use Rattle.js_base.specs.Kinds.{one_of_kinds, same_kind};
+ghost use Rattle.std.specs.Prelude.{◌≡◌, ◌↔◌, IsTrue, true, false};
+ghost use Rattle.js_base.specs.Kinds.{one_of_kinds};
+ghost use Rattle.js_expressions.specs.Exponents.{AwaitsHere};
 ghost use Rattle.js_grammar.specs.Productions.{at, Unary};
 ghost use Rattle.js_parsing.specs.Answers.{Answers};
 ghost use Rattle.js_parsing.specs.Nesting.{CanNest, room};
@@ -44,7 +43,7 @@ pub fn parse_unary_expression_or_higher<C: ParserConfig, N: Nested<C>>(
 /// Whether an AwaitExpression begins here: `await` is no name where the parameter Await is on (ECMA-262, section 15.8).
 #[inline(always)]
 pub(crate) fn begins_await<C: ParserConfig>(p: &ParserImpl<'_, C>) -> bool
-    ensures { result ≡ (same_kind Await p.now.token.kind && has_flag await_flag p.now.ctx) }
+    ensures { IsTrue result ↔ AwaitsHere p.now }
 {
     p.at(Kind::Await) && p.ctx.has_await()
 }
@@ -57,8 +56,7 @@ fn parse_await_expression<C: ParserConfig, N: Nested<C>>(
 ) -> Result<NodeId, Stop>
     requires at { Standing p.old }
     requires nests { CanNest (N.can nested.now) (room p.old) }
-    requires word { p.old.token.kind ≡ Await }
-    requires awaits { has_flag await_flag p.old.ctx ≡ true }
+    requires word { AwaitsHere p.old }
     requires plain { p.old.token.escaped ≡ false }
     ensures { Answers (at Unary) p.old p.new result }
 {

@@ -1,6 +1,6 @@
 //! YieldExpressions (ECMA-262, section 15.5).
 
-ghost use Rattle.std.specs.Prelude.{◌≡◌, ◌≤◌, ◌∷◌, [], Some, IfOk, true};
+ghost use Rattle.std.specs.Prelude.{◌≡◌, ◌≤◌, ◌∷◌, ◌||◌, ◌↔◌, [], Some, IfOk, IsTrue, not, true};
 ghost use Rattle.js_base.specs.declared.kind.Kind.TheVariants.{Star};
 ghost use Rattle.js_grammar.specs.Productions.{at, delegate_flag, Assignment};
 ghost use Rattle.js_tree.specs.declared.kind.NodeKind.TheVariants as node;
@@ -15,7 +15,7 @@ ghost use Rattle.js_parsing.specs.States.{Standing};
 use js_base::{Kind, NoMemory, Span};
 use js_cursor::{ParserImpl, Stop};
 use js_lex::ParserConfig;
-use js_parsing::lexemes::{advance, stands};
+use js_parsing::lexemes::advance;
 use js_parsing::nested::Nested;
 use js_parsing::nodes::make_optional;
 use js_tree::{NodeFlags, NodeId, NodeKind, Op};
@@ -23,9 +23,9 @@ use js_tree::{NodeFlags, NodeId, NodeKind, Op};
 /// Whether a YieldExpression begins here: `yield` is no name where the parameter Yield is on.
 #[inline(always)]
 pub(crate) fn begins_yield<C: ParserConfig>(p: &ParserImpl<'_, C>) -> bool
-    ensures { BeginsYield p.now result }
+    ensures { IsTrue result ↔ BeginsYield p.now }
 {
-    stands(p, Kind::Yield) && p.ctx.has_yield()
+    p.at(Kind::Yield) && !p.cur_token().escaped() && p.ctx.has_yield()
 }
 
 /// A YieldExpression: `yield` alone, or with an AssignmentExpression on its line, before which a `*` may stand.
@@ -36,12 +36,12 @@ pub(crate) fn parse_yield_expression<C: ParserConfig, N: Nested<C>>(
 ) -> Result<NodeId, Stop>
     requires at { Standing p.old }
     requires nests { CanNest (N.can nested.now) (room p.old) }
-    requires word { BeginsYield p.old true }
+    requires word { BeginsYield p.old }
     ensures { Answers (at Assignment) p.old p.new result }
 {
     let start = p.cur_start();
     advance(p)?;
-    if p.cur_token().is_on_new_line() || !begins_argument(p.cur_kind()) {
+    if is_bare(p) {
         let span = p.end_span(start);
         let node = make_optional(p, NodeKind::YieldExpression, span, None)?;
         return Ok(node);
@@ -53,6 +53,13 @@ pub(crate) fn parse_yield_expression<C: ParserConfig, N: Nested<C>>(
     let span = p.end_span(start);
     let node = make_optional(p, NodeKind::YieldExpression, span, Some(argument))?;
     Ok(node)
+}
+
+/// Whether a `yield` that was passed stands alone: nothing that begins its argument stands on its line.
+fn is_bare<C: ParserConfig>(p: &ParserImpl<'_, C>) -> bool
+    ensures { result ≡ (p.now.token.is_on_new_line || not (yields_argument p.now.token.kind)) }
+{
+    p.cur_token().is_on_new_line() || !begins_argument(p.cur_kind())
 }
 
 /// The `*` of a `yield` that began at a place, and what it stands before.

@@ -3,7 +3,7 @@ use Rattle.std.proofs.Common.{ℕ, ◌≡◌, ◌<◌, nat_lt, Bool, true, false
 use Rattle.std.proofs.lemmas.Bool.{false≢true, and_parts, ltb-true}
 use Rattle.js_grammar.specs.Trees.{NodeKind, Label, Slots, tree}
 use Rattle.js_grammar.specs.Grammar.{Lexemes, never, such, alt, when, node, Takes, is_left, is_right, is_when, is_node, is_such}
-use Rattle.js_grammar.specs.Productions.{G, Flags, Name, Symbol, pife_flag, Arrow', Expression, Assignment, Conditional, Short, Coalesce, Or, And, BitOr, BitXor, BitAnd, Equality, Relational, Shift, Additive, Multiply, Exponent, Unary, Update, LeftHandSide, New, Member, Call, Chain, Primary, FuncExpr, Object, IdentifierReference}
+use Rattle.js_grammar.specs.Productions.{G, Flags, Name, Symbol, pife_flag, Arrow', Expression, Assignment, Yield, Conditional, Short, Coalesce, Or, And, BitOr, BitXor, BitAnd, Equality, Relational, Shift, Additive, Multiply, Exponent, Unary, Update, LeftHandSide, New, Member, Call, Chain, Primary, FuncExpr, Object, IdentifierReference}
 use Rattle.js_grammar.specs.Table.{rule, rule_of}
 use Rattle.js_grammar.proofs.Looks.{apart}
 use Rattle.js_operands.specs.Marked.{is_function}
@@ -12,6 +12,7 @@ use Rattle.js_parsing.proofs.Dead.{AllRead, dead, none}
 abbrev passes_on : Name → Bool
 passes_on Expression = true
 passes_on Assignment = true
+passes_on Yield = true
 passes_on Conditional = true
 passes_on Short = true
 passes_on Coalesce = true
@@ -57,6 +58,7 @@ tame_at : (n : Name) (f : Flags) → passes_on n ≡ true → tame (rule_of n f)
 unfolding rule_of apart
 tame_at Expression f h = refl
 tame_at Assignment f h = refl
+tame_at Yield f h = refl
 tame_at Conditional f h = refl
 tame_at Short f h = refl
 tame_at Coalesce f h = refl

@@ -4,32 +4,35 @@ use Rattle.std.specs.Prelude.{IsSome, is_some}
 use Rattle.std.proofs.Common.{ℕ, ◌≡◌, ◌≤◌, ◌<◌, ◌⊎◌, inl, inr, List, [], ◌∷◌, length, Bool, true, false, not, ◌&&◌, ◌||◌, IsTrue, Option, Some, None, refl, sym, ap, subst, arith, ◌∙◌}
 use Rattle.std.proofs.lemmas.Bool.{false≢true, and_parts, and_from, or_left, or_right}
 use Rattle.js_base.specs.declared.kind.Kind.{Kind}
-use Rattle.js_base.specs.declared.kind.Kind.TheVariants.{Eq, RAngle, PrivateIdentifier, RegExp}
+use Rattle.js_base.specs.declared.kind.Kind.TheVariants.{Eq, RAngle, PrivateIdentifier, RegExp, Yield}
 use Rattle.js_base.specs.Kinds.{same_kind, one_of_kinds}
 use Rattle.js_base.specs.Texts.{words}
 use Rattle.js_base.proofs.KindLemmas.{kind_of_same}
 use Rattle.js_grammar.specs.Trees.{Span as TreeSpan, Label, Slots, end, tree, Tree, of, assignment_expression}
-use Rattle.js_grammar.specs.Grammar.{Lexeme, Lexemes, Look, here, seen, such, nothing, never, exact, alt, seq, is, Takes, ◌▸◌, is_seq, is_lexeme, is_such}
+use Rattle.js_grammar.specs.Grammar.{Lexeme, Lexemes, Look, here, seen, such, nothing, never, exact, alt, seq, is, when, Takes, ◌▸◌, is_seq, is_lexeme, is_such}
 use Rattle.js_grammar.specs.Insertion.{Row, after_expression, assign_operators}
 use Rattle.js_grammar.specs.Lexemes.{is_word}
 use Rattle.js_grammar.specs.Parsing.{Test, plain, full, always, Admits, Goes, Fails, still}
 use Rattle.js_grammar.specs.Productions.{G, Flags, Symbol, at, tok, op, branches, Arrow', Assignment, Conditional, Short, SimpleTarget}
-use Rattle.js_grammar.specs.Productions.{sym as symbol}
+use Rattle.js_grammar.specs.Productions.{sym as symbol, Yield as Yield'}
 use Rattle.js_grammar.specs.Table.{rule, rule_of}
 use Rattle.js_grammar.specs.Follow.{edge_of, row_of, follow, after, looser, widest}
 use Rattle.js_grammar.proofs.Looks.{covers, covered, apart, same_self, not_both}
-use Rattle.js_grammar.proofs.Calculus.{Between, Inside, inside_full, On, ◌▹◌, ◌▹✗◌, both, stay, left, right, then_by, part_fails, weaken_fails_on, fails_node, fails_alt, fails_lexeme}
+use Rattle.js_grammar.proofs.Calculus.{Between, Inside, inside_full, On, ◌▹◌, ◌▹✗◌, both, stay, left, right, then_by, part_fails, weaken_fails_on, fails_node, fails_alt, fails_lexeme, fails_when}
 use Rattle.js_grammar.proofs.FollowLaws.{admits, passes_on, same_read}
 use Rattle.js_cursor.specs.Parsers.{Parser}
 use Rattle.js_cursor.specs.Moves.{is_last}
 use Rattle.js_parsing.specs.Answers.{Underived, Answer}
+use Rattle.js_parsing.specs.States.{At}
 use Rattle.js_parsing.specs.Lexemes.{Lex, read_kinds}
+use Rattle.js_targets.specs.Others.{NoYield, OnlyOthers}
 use Rattle.js_targets.specs.Targets.{target_of}
 use Rattle.js_targets.proofs.Covers.{row_of_target, target_path, target_fails, target_unread}
 use Rattle.js_targets.proofs.ArraysBeforeSigns.{array_part, no_array_part, no_array_unread}
 use Rattle.js_targets.specs.Targets.{is_literal}
 use Rattle.js_parsing.proofs.Dead.{live, lives}
-use Rattle.js_parsing.proofs.Paths.{Path, ◌⟶✗◌}
+use Rattle.js_parsing.proofs.Paths.{Path, fails_at, ◌⟶✗◌}
+use Rattle.js_parsing.proofs.Signs.{other_kind}
 use Rattle.js_targets.proofs.Targets.{of_short}
 use Rattle.js_parsing.proofs.Verdicts.{verdict_of}
 
@@ -115,20 +118,33 @@ assign_slots f o = symbol SimpleTarget f ▸ behind_target f o
 abbrev pub assign_part : Flags → Kind → G
 assign_part f o = op assignment_expression o (assign_slots f o)
 
-pub assignment_left : (f : Flags) → live (rule (at Assignment f)) ≡ alt (such (at Conditional f) always) (alt (such (at Arrow' f) always) (alt (branches assign_operators (assign_part f)) (array_part f)))
+-- no YieldExpression begins where no `yield` stands, or it is a name
+pub no_yield : {text : List ℕ} {f : Flags} {p : Parser} → At text f p → (p.token.kind ≡ Yield → f.yield_ ≡ false) → NoYield text f p.prev_token_end
+unfolding covers apart
+no_yield {text} {f} {p} a n = go (same_kind Yield p.token.kind) refl
+  where
+    go : (b : Bool) → same_kind Yield p.token.kind ≡ b → NoYield text f p.prev_token_end
+    go true e = fails_when (n (sym (kind_of_same Yield p.token.kind e)))
+    go false e = fails_at a (when f.yield_ (symbol Yield' f)) (Yield ∷ []) refl (other_kind Yield p.token.kind (λ k. false≢true (sym e ∙ subst (λ (v : Kind). same_kind Yield v ≡ true) (sym k) refl)))
+
+pub assignment_left : (f : Flags) → live (rule (at Assignment f)) ≡ alt (such (at Conditional f) always) (alt (such (at Arrow' f) always) (alt (when f.yield_ (symbol Yield' f)) (alt (branches assign_operators (assign_part f)) (array_part f))))
 unfolding rule rule_of apart
 assignment_left f = refl
 
-pub to_choice : {text : List ℕ} (f : Flags) (s : ℕ) → Goes rule (Lex text) (after (at Assignment f)) end (rule (at Assignment f)) s (alt (such (at Conditional f) always) (alt (such (at Arrow' f) always) (alt (branches assign_operators (assign_part f)) (array_part f)))) s (λ us. us) (still 0)
-to_choice {text} f s = subst (λ (g : G). Goes rule (Lex text) (after (at Assignment f)) end (rule (at Assignment f)) s g s (λ us. us) (still 0)) (assignment_left f) (lives (rule (at Assignment f)))
+-- with all its parts
+pub all_parts : {text : List ℕ} (f : Flags) (s : ℕ) → Goes rule (Lex text) (after (at Assignment f)) end (rule (at Assignment f)) s (alt (such (at Conditional f) always) (alt (such (at Arrow' f) always) (alt (when f.yield_ (symbol Yield' f)) (alt (branches assign_operators (assign_part f)) (array_part f))))) s (λ us. us) (still 0)
+all_parts {text} f s = subst (λ (g : G). Goes rule (Lex text) (after (at Assignment f)) end (rule (at Assignment f)) s g s (λ us. us) (still 0)) (assignment_left f) (lives (rule (at Assignment f)))
+
+pub to_choice : {text : List ℕ} (f : Flags) (s : ℕ) → NoYield text f s → Goes rule (Lex text) (after (at Assignment f)) end (rule (at Assignment f)) s (alt (such (at Conditional f) always) (alt (such (at Arrow' f) always) (alt (branches assign_operators (assign_part f)) (array_part f)))) s (λ us. us) (still 0)
+to_choice f s y = all_parts f s ▹ both stay (both stay (right y))
 
 pub arrow_passes : passes_on Assignment Arrow' ≡ true
 unfolding covers
 arrow_passes = refl
 
 -- where no arrow function is derived
-pub to_parts : {text : List ℕ} (f : Flags) (s : ℕ) → Underived text (at Arrow' f) s → Goes rule (Lex text) (after (at Assignment f)) end (rule (at Assignment f)) s (alt (such (at Conditional f) always) (alt (branches assign_operators (assign_part f)) (array_part f))) s (λ us. us) (still 0)
-to_parts f s n = to_choice f s ▹ both stay (right (weaken_fails_on n (same_read (at Assignment f) (at Arrow' f) arrow_passes refl)))
+pub to_parts : {text : List ℕ} (f : Flags) (s : ℕ) → OnlyOthers text f s → Goes rule (Lex text) (after (at Assignment f)) end (rule (at Assignment f)) s (alt (such (at Conditional f) always) (alt (branches assign_operators (assign_part f)) (array_part f))) s (λ us. us) (still 0)
+to_parts f s n = to_choice f s n.1 ▹ both stay (right (weaken_fails_on n.0 (same_read (at Assignment f) (at Arrow' f) arrow_passes refl)))
 
 assign_follows : (b : Bool) → covers an_assign (looser 4 b after_expression) ≡ true
 unfolding covers
@@ -164,17 +180,17 @@ is_sign : (o : Kind) (y : Lexeme) → one_of_kinds assign_operators o ≡ true �
 is_sign o y h s = let z = and_parts (same_kind o y.kind) (not y.escaped) s in and_from _ _ (subst (λ (k : Kind). one_of_kinds assign_operators k ≡ true) (kind_of_same o y.kind z.0) h) z.1
 
 -- no assignment operator stands behind a ShortCircuitExpression
-pub unassigned : {text : List ℕ} {f : Flags} {p q : Parser} → Underived text (at Arrow' f) p.prev_token_end → Answer text f (at Short f) p q → ((y : Lexeme) → Lex text q.prev_token_end y → IsTrue (seen an_assign y) → ⊥) → Goes rule (Lex text) (after (at Assignment f)) end (rule (at Assignment f)) p.prev_token_end (such (at Conditional f) always) p.prev_token_end (λ us. us) (still 0)
+pub unassigned : {text : List ℕ} {f : Flags} {p q : Parser} → OnlyOthers text f p.prev_token_end → Answer text f (at Short f) p q → ((y : Lexeme) → Lex text q.prev_token_end y → IsTrue (seen an_assign y) → ⊥) → Goes rule (Lex text) (after (at Assignment f)) end (rule (at Assignment f)) p.prev_token_end (such (at Conditional f) always) p.prev_token_end (λ us. us) (still 0)
 unassigned {f = f} {p = p} a x n = to_parts f p.prev_token_end a ▹ left (fails_alt (no_branch (assign_part f) assign_operators (λ o h. fails_node inside_full (no_assign_slots x (plain full) o h (λ y l s. n y l (is_sign o y h s))))) (fails_node inside_full (no_array_part x (inr (λ y l s. n y l (is_sign Eq y refl s))))))
 
 no_assignment : {text : List ℕ} {X : Test} (f : Flags) {s : ℕ} → f.wide ≡ false → f.cover ≡ true → Underived text (at Short f) s → Fails rule (Lex text) X end (alt (branches assign_operators (assign_part f)) (array_part f)) s
 no_assignment f {s} w v x = fails_alt (no_branch (assign_part f) assign_operators (λ o h. fails_node inside_full (part_fails (target_unread (of_short f) (assign_heads f) x) (before_sign f o h (plain full) s)))) (fails_node inside_full (no_array_unread w v x))
 
 -- where neither a conditional expression nor a target begins, an arrow function is left
-pub only_arrow : {text : List ℕ} (f : Flags) {s : ℕ} → f.wide ≡ false → f.cover ≡ true → Fails rule (Lex text) (after (at Assignment f)) end (such (at Conditional f) always) s → Underived text (at Short f) s → Goes rule (Lex text) (after (at Assignment f)) end (rule (at Assignment f)) s (such (at Arrow' f) always) s (λ us. us) (still 0)
-only_arrow f {s} w v c x = to_choice f s ▹ (right c ▹ left (no_assignment f w v x))
+pub only_arrow : {text : List ℕ} (f : Flags) {s : ℕ} → f.wide ≡ false → f.cover ≡ true → NoYield text f s → Fails rule (Lex text) (after (at Assignment f)) end (such (at Conditional f) always) s → Underived text (at Short f) s → Goes rule (Lex text) (after (at Assignment f)) end (rule (at Assignment f)) s (such (at Arrow' f) always) s (λ us. us) (still 0)
+only_arrow f {s} w v y c x = to_choice f s y ▹ (right c ▹ left (no_assignment f w v x))
 
-pub nothing_assigned : {text : List ℕ} (f : Flags) {s : ℕ} → f.wide ≡ false → f.cover ≡ true → Underived text (at Arrow' f) s → Underived text (at Short f) s → Goes rule (Lex text) (after (at Assignment f)) end (rule (at Assignment f)) s (such (at Conditional f) always) s (λ us. us) (still 0)
+pub nothing_assigned : {text : List ℕ} (f : Flags) {s : ℕ} → f.wide ≡ false → f.cover ≡ true → OnlyOthers text f s → Underived text (at Short f) s → Goes rule (Lex text) (after (at Assignment f)) end (rule (at Assignment f)) s (such (at Conditional f) always) s (λ us. us) (still 0)
 nothing_assigned f {s} w v a x = to_parts f s a ▹ left (no_assignment f w v x)
 
 abbrev is_assign : Look
@@ -199,7 +215,7 @@ assign_plain k h = go (same_kind RegExp k) refl
 all_distinct : distinct assign_operators ≡ true
 all_distinct = refl
 
-pub assigned : {text : List ℕ} {f : Flags} {p q : Parser} → Underived text (at Arrow' f) p.prev_token_end → (x : Answer text f (at Short f) p q) → (o : Kind) → one_of_kinds assign_operators o ≡ true → ((y : Lexeme) → Lex text q.prev_token_end y → same_kind RegExp y.kind ≡ false → y.kind ≡ o) → Fails rule (Lex text) (after (at Assignment f)) end (such (at Conditional f) always) p.prev_token_end → (is_literal x.label.kind ≡ false) ⊎ (same_kind Eq o ≡ false) → Goes rule (Lex text) (after (at Assignment f)) end (rule (at Assignment f)) p.prev_token_end (assign_part f o) p.prev_token_end (λ us. us) (still 0)
+pub assigned : {text : List ℕ} {f : Flags} {p q : Parser} → OnlyOthers text f p.prev_token_end → (x : Answer text f (at Short f) p q) → (o : Kind) → one_of_kinds assign_operators o ≡ true → ((y : Lexeme) → Lex text q.prev_token_end y → same_kind RegExp y.kind ≡ false → y.kind ≡ o) → Fails rule (Lex text) (after (at Assignment f)) end (such (at Conditional f) always) p.prev_token_end → (is_literal x.label.kind ≡ false) ⊎ (same_kind Eq o ≡ false) → Goes rule (Lex text) (after (at Assignment f)) end (rule (at Assignment f)) p.prev_token_end (assign_part f o) p.prev_token_end (λ us. us) (still 0)
 assigned {text} {f} {p} {q} a x o h k n b = to_parts f p.prev_token_end a ▹ (right n ▹ (left (fails_node inside_full (no_array_part x (other b))) ▹ one_branch (assign_part f) assign_operators o h all_distinct (λ i m d. fails_node inside_full (no_assign_slots x (plain full) i m (λ y l s. let e = (and_parts (same_kind i y.kind) (not y.escaped) s).0 in false≢true (sym d ∙ subst (λ (v : Kind). same_kind i v ≡ true) (k y l (subst (λ (v : Kind). same_kind RegExp v ≡ false) (kind_of_same i y.kind e) (assign_plain i m))) e))))))
   where
     other : (is_literal x.label.kind ≡ false) ⊎ (same_kind Eq o ≡ false) → (is_literal x.label.kind ≡ false) ⊎ ((y : Lexeme) → Lex text q.prev_token_end y → IsTrue (seen (is Eq) y) → ⊥)

@@ -1,11 +1,11 @@
 use Rattle.std.proofs.Common.{ap, ◌∙◌}
 use Rattle.js_base.specs.declared.token.Token.{Token}
-use Rattle.js_parsing.proofs.NameKinds.{name_whole}
+use Rattle.js_parsing.proofs.NameKinds.{listed_here, name_at, name_whole}
 use Rattle.js_expressions.proofs.Arrows.{single_head, single_place}
 use Rattle.js_expressions.proofs.arrow.parse_single_parameter.Goals as goal
 
 pub returns : goal.returns
-returns g c = (single_place c.requires.at c.in_ok-name.ensures c.in_ok-parameter.ensures c.in_ok-parameters.ensures, λ text f a e. single_head _ a c.requires.name e (c.span-span.ensures ∙ ap (λ (t : Token). t.span) c.cur_token.ensures) (c.in_ok-name.ensures text f a) c.in_ok-parameter.ensures c.in_ok-parameters.ensures)
+returns g c = (single_place c.requires.at c.in_ok-name.ensures c.in_ok-parameter.ensures c.in_ok-parameters.ensures, λ text f a e. single_head _ a (name_at true a c.requires.name).0 e (c.span-span.ensures ∙ ap (λ (t : Token). t.span) c.cur_token.ensures) (c.in_ok-name.ensures text f a) c.in_ok-parameter.ensures c.in_ok-parameters.ensures)
 
 pub parse_leaf-requires-clause-whole : goal.parse_leaf-requires-clause-whole
-parse_leaf-requires-clause-whole g c = name_whole c.requires.at c.requires.name
+parse_leaf-requires-clause-whole g c = name_whole c.requires.at (listed_here c.args.p.now c.requires.name)

@@ -1,4 +1,5 @@
 use Rattle.std.proofs.Common.{arith, ap, sym, ◌∙◌, length}
+use Rattle.std.proofs.lemmas.Bool.{false≢true}
 use Rattle.std.proofs.lemmas.Result.{err_from_is_err_and}
 use Rattle.std.specs.Prelude.{Ok, Err}
 use Rattle.js_tree.proofs.HoldingLemmas.{Holds-below}
@@ -32,7 +33,7 @@ pub parse_assignment_without_arrow-requires-clause-nests : goal.parse_assignment
 parse_assignment_without_arrow-requires-clause-nests g c = nests_later c.requires.nests (let u = (none_found _ c.parse_arrow_head.new.p _ c.in_default.is c.in_ok-parameters.ensures).0.place in later_room (omega arith) (none_found _ c.parse_arrow_head.new.p _ c.in_default.is c.in_ok-parameters.ensures).0.same)
 
 pub parse_assignment_without_arrow-requires-clause-operand : goal.parse_assignment_without_arrow-requires-clause-operand
-parse_assignment_without_arrow-requires-clause-operand g c = only_operand c.requires.at (none_found _ c.parse_arrow_head.new.p _ c.in_default.is c.in_ok-parameters.ensures).0 (none_found _ c.parse_arrow_head.new.p _ c.in_default.is c.in_ok-parameters.ensures).1
+parse_assignment_without_arrow-requires-clause-operand g c = only_operand c.requires.at (λ h. false≢true (sym c.if-begins_yield.false ∙ c.begins_yield.ensures.1 h)) (none_found _ c.parse_arrow_head.new.p _ c.in_default.is c.in_ok-parameters.ensures).0 (none_found _ c.parse_arrow_head.new.p _ c.in_default.is c.in_ok-parameters.ensures).1
 
 pub returns-in_err-operand : goal.returns-in_err-operand
 returns-in_err-operand g c = λ text f a.
@@ -74,3 +75,6 @@ returns g c = λ text f a.
     let u = (none_found _ c.parse_arrow_head.new.p _ c.in_default.is c.in_ok-parameters.ensures).0 in
     let x = from_unmoved text f (at Assignment f) _ (Ok _) u (c.in_ok-operand.ensures text f (u.at text f a)) in
     c.parse_arrow_function_expression-2.ensures text f c.args.p.now a c.cur_start-start.ensures (refused x (λ e. (refused_so _ c.parse_assignment_without_arrow.new.p c.if-not-is_refused_head.false c.is_refused_head.ensures).0 (e ∙ sym (c.kept_so_far-kept.ensures ∙ ap length u.kept))))
+
+pub parse_yield_expression-requires-clause-word : goal.parse_yield_expression-requires-clause-word
+parse_yield_expression-requires-clause-word g c = c.begins_yield.ensures.0 c.if-begins_yield.true

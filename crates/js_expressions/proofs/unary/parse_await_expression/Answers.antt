@@ -1,0 +1,32 @@
+use Rattle.std.proofs.Common.{◌∙◌, ap, arith}
+use Rattle.std.proofs.lemmas.Result.{err_from_is_err_and}
+use Rattle.js_parsing.specs.Lexemes.{read_word}
+use Rattle.js_parsing.proofs.Moving.{standing, stops_behind}
+use Rattle.js_parsing.proofs.Nesting.{nested_room}
+use Rattle.js_parsing.proofs.Verdicts.{grown_then}
+use Rattle.js_operands.proofs.Members.{word_whole}
+use Rattle.js_expressions.proofs.Awaits.{await_answers, await_fails, awaits_at}
+use Rattle.js_expressions.proofs.unary.parse_await_expression.Goals as goal
+
+pub advance-requires-clause-whole : goal.advance-requires-clause-whole
+advance-requires-clause-whole t c = word_whole c.requires.at (ap read_word c.requires.word.kind)
+
+pub unary-requires : goal.unary-requires
+unary-requires t c = let m = c.in_ok-advance.ensures _ _ c.requires.at in c.requires.nests _ _ (standing m.at) (nested_room c.requires.at m)
+
+pub returns-in_err-argument : goal.returns-in_err-argument
+returns-in_err-argument t c = λ text f a.
+    let p = err_from_is_err_and c.from_residual-in_err-argument.result c.from_residual-in_err-argument.ensures.1 in
+    let m = c.in_ok-advance.ensures text f a in
+    rw (p.1, p.2) (stops_behind _ _ m.same (λ g. grown_then m.kept g) (await_fails a c.requires.word.kind (awaits_at a c.requires.word.awaits) c.requires.plain m) (c.in_err-argument.ensures text f m.at))
+
+pub end_span-span-requires : goal.end_span-span-requires
+end_span-span-requires t c =
+    let m = c.in_ok-advance.ensures _ _ c.requires.at in
+    let x = (c.in_ok-argument.ensures _ _ m.at).answer in
+    let a = m.further in let b = x.further in let d = m.at.behind in let s = c.cur_start-start.ensures in omega arith
+
+pub returns : goal.returns
+returns t c = λ text f a.
+    let m = c.in_ok-advance.ensures text f a in
+    await_answers a c.requires.word.kind (awaits_at a c.requires.word.awaits) c.requires.plain m _ (c.in_ok-argument.ensures text f m.at) (c.end_span-span.ensures.start ∙ c.cur_start-start.ensures) c.end_span-span.ensures.end c.in_ok-node.ensures

@@ -1,0 +1,56 @@
+use Rattle.std.proofs.Common.{◌≡◌, sym, ap, arith, ◌∙◌}
+use Rattle.std.proofs.lemmas.Bool.{false≢true}
+use Rattle.std.proofs.lemmas.Result.{err_from_is_err_and}
+use Rattle.js_parsing.specs.Lexemes.{read_word}
+use Rattle.js_parsing.proofs.Moving.{standing, stops_behind}
+use Rattle.js_parsing.proofs.Nesting.{nested_room, nests_later}
+use Rattle.js_parsing.proofs.Verdicts.{grown_then}
+use Rattle.js_operands.proofs.Members.{word_whole}
+use Rattle.js_expressions.proofs.Yields.{argued_is, argument_answers, argument_none, bare_answers, bare_is}
+use Rattle.js_expressions.proofs.yield_expression.parse_yield_expression.Goals as goal
+
+pub advance-requires-clause-whole : goal.advance-requires-clause-whole
+advance-requires-clause-whole g c = word_whole c.requires.at (ap read_word c.requires.word.kind)
+
+pub end_span-span-requires : goal.end_span-span-requires
+end_span-span-requires g c = let m = c.in_ok-advance.ensures _ _ c.requires.at in let a = m.further in let s = c.cur_start-start.ensures in omega arith
+
+pub returns-then-is_bare : goal.returns-then-is_bare
+returns-then-is_bare g c = λ text f a. bare_answers a c.requires.word (c.in_ok-advance.ensures text f a) _ (bare_is (sym c.is_bare.ensures ∙ c.if-is_bare.true)) (c.end_span-span.ensures.start ∙ c.cur_start-start.ensures) c.end_span-span.ensures.end c.in_ok-node.ensures
+
+pub parse_delegate-requires-clause-at : goal.parse_delegate-requires-clause-at
+parse_delegate-requires-clause-at g c = standing (c.in_ok-advance.ensures _ _ c.requires.at).at
+
+pub parse_delegate-requires-clause-nests : goal.parse_delegate-requires-clause-nests
+parse_delegate-requires-clause-nests g c = nests_later c.requires.nests (let r = nested_room c.requires.at (c.in_ok-advance.ensures _ _ c.requires.at) in omega arith)
+
+pub parse_delegate-requires-clause-start : goal.parse_delegate-requires-clause-start
+parse_delegate-requires-clause-start g c = let m = c.in_ok-advance.ensures _ _ c.requires.at in let a = m.further in let s = c.cur_start-start.ensures in omega arith
+
+pub parse_delegate-requires-clause-star : goal.parse_delegate-requires-clause-star
+parse_delegate-requires-clause-star g c = c.at.ensures.0 c.if-at.true
+
+pub returns-then-at : goal.returns-then-at
+returns-then-at g c = λ text f a. c.parse_delegate.ensures text f c.args.p.now a c.requires.word (c.in_ok-advance.ensures text f a) (argued_is (sym c.is_bare.ensures ∙ c.if-is_bare.false)).0 c.cur_start-start.ensures
+
+pub assignment-requires : goal.assignment-requires
+assignment-requires g c = let m = c.in_ok-advance.ensures _ _ c.requires.at in c.requires.nests _ _ (standing m.at) (nested_room c.requires.at m)
+
+pub returns-in_err-argument : goal.returns-in_err-argument
+returns-in_err-argument g c = λ text f a.
+    let p = err_from_is_err_and c.from_residual-in_err-argument.result c.from_residual-in_err-argument.ensures.1 in
+    let m = c.in_ok-advance.ensures text f a in
+    let z = argued_is (sym c.is_bare.ensures ∙ c.if-is_bare.false) in
+    rw (p.1, p.2) (stops_behind _ _ m.same (λ g. grown_then m.kept g) (argument_none a c.requires.word m z.0 z.1 (λ k. false≢true (sym c.if-at.false ∙ c.at.ensures.1 k))) (c.in_err-argument.ensures text f m.at))
+
+pub end_span-span-2-requires : goal.end_span-span-2-requires
+end_span-span-2-requires g c =
+    let m = c.in_ok-advance.ensures _ _ c.requires.at in
+    let x = (c.in_ok-argument.ensures _ _ m.at).answer in
+    let a = m.further in let b = x.further in let d = m.at.behind in let s = c.cur_start-start.ensures in omega arith
+
+pub returns : goal.returns
+returns g c = λ text f a.
+    let m = c.in_ok-advance.ensures text f a in
+    let z = argued_is (sym c.is_bare.ensures ∙ c.if-is_bare.false) in
+    argument_answers a c.requires.word m z.0 z.1 _ (λ k. false≢true (sym c.if-at.false ∙ c.at.ensures.1 k)) (c.in_ok-argument.ensures text f m.at) (c.end_span-span-2.ensures.start ∙ c.cur_start-start.ensures) c.end_span-span-2.ensures.end c.in_ok-node-2.ensures
