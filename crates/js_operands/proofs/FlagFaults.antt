@@ -66,17 +66,14 @@ right_flag before f h = go (one_of (codes "dgimsuvy") f) (one_of before f) refl 
   where
     go : (a b : Bool) → one_of (codes "dgimsuvy") f ≡ a → one_of before f ≡ b → (one_of (codes "dgimsuvy") f ≡ true) × (one_of before f ≡ false)
     go true false d e = (d, e)
-    go true true d e = absurd (false≢true (sym ((λ i. not (d i) || e i)) ∙ h))
-    go false b d e = absurd (false≢true (sym (sym ((λ i. not (d i) || one_of before f)) ∙ h)))
+    go true true d e = absurd (false≢true (sym (sym (λ i. not (d i) || e i) ∙ h)))
+    go false b d e = absurd (false≢true (sym (sym (λ i. not (d i) || one_of before f) ∙ h)))
 
 -- the flags are right, and stand not yet before, exactly where none is told
 pub flags_right : (i : ℕ) (before fs : List ℕ) → flag_faults i before fs ≡ [] → (are_flags fs && apart before fs) ≡ true
 flags_right i before [] e = refl
-flags_right i before (f ∷ fs) e = go (is_wrong_flag before f) refl e
+flags_right i before (f ∷ fs) e = go (is_wrong_flag before f) refl e (λ k. (λ j. are_flags fs && sym (split before f fs) j) ∙ flags_right (i + width (f ∷ [])) (before ++ f ∷ []) fs k)
   where
-    later : flag_faults (i + width (f ∷ [])) (before ++ f ∷ []) fs ≡ [] → (are_flags fs && (apart before fs && not (one_of fs f))) ≡ true
-    later k = (λ j. are_flags fs && sym (split before f fs) j) ∙ flags_right (i + width (f ∷ [])) (before ++ f ∷ []) fs k
-
     all : (a b c d e : Bool) → a ≡ true → b ≡ false → (c && (d && not e)) ≡ true → (((a && not e) && c) && (not b && d)) ≡ true
     all true false true true false p q r = refl
     all true false true true true p q r = r
@@ -85,9 +82,9 @@ flags_right i before (f ∷ fs) e = go (is_wrong_flag before f) refl e
     all true true c d e p q r = absurd (false≢true (sym q))
     all false b c d e p q r = absurd (false≢true p)
 
-    go : (w : Bool) → is_wrong_flag before f ≡ w → elim w as (λ _. List Diagnostic) [ true ↦ fault i f fs ∷ flag_faults (i + width (f ∷ [])) (before ++ f ∷ []) fs | false ↦ flag_faults (i + width (f ∷ [])) (before ++ f ∷ []) fs ] ≡ [] → (are_flags (f ∷ fs) && apart before (f ∷ fs)) ≡ true
-    go true w k = absurd (let z = k in cc)
-    go false w k = let z = right_flag before f w in all (one_of (codes "dgimsuvy") f) (one_of before f) (are_flags fs) (apart before fs) (one_of fs f) z.0 z.1 (later k)
+    go : (w : Bool) → is_wrong_flag before f ≡ w → elim w as (λ _. List Diagnostic) [ true ↦ fault i f fs ∷ flag_faults (i + width (f ∷ [])) (before ++ f ∷ []) fs | false ↦ flag_faults (i + width (f ∷ [])) (before ++ f ∷ []) fs ] ≡ [] → (flag_faults (i + width (f ∷ [])) (before ++ f ∷ []) fs ≡ [] → (are_flags fs && (apart before fs && not (one_of fs f))) ≡ true) → (are_flags (f ∷ fs) && apart before (f ∷ fs)) ≡ true
+    go true w k later = absurd (let z = k in cc)
+    go false w k later = let z = right_flag before f w in all (one_of (codes "dgimsuvy") f) (one_of before f) (are_flags fs) (apart before fs) (one_of fs f) z.0 z.1 (later k)
 
 pub none_told : (i : ℕ) (before fs : List ℕ) → (are_flags fs && apart before fs) ≡ true → flag_faults i before fs ≡ []
 none_told i before [] h = refl

@@ -181,9 +181,14 @@ pub string_path : Leaf string_literal no_op Str
 unfolding rule rule_of covers
 string_path text f p q a e n s = at_kind a Str e refl ⟼ noded a (last_token Str a e n refl s)
 
+-- no name is a sign that may stand at a regular expression
+pub name_slashless : (k : Kind) → one_of_kinds name_kinds k ≡ true → one_of_kinds slashes k ≡ false
+unfolding apart
+name_slashless k h = name_apart slashes refl k h
+
 -- a name
 pub name_leaf : {text : List ℕ} {f : Flags} {X : Test} {p q : Parser} → At text f p → may_name f.yield_ f.await_ p.token.kind ≡ true → p.token.escaped ≡ false → Moved text f p q → Path text f X (lexeme (name_test f)) p nothing q (λ us. us)
-name_leaf {f = f} {p = p} a h n s = one_path (name_test f) a (name_apart slashes refl p.token.kind (listed_name f.yield_ f.await_ p.token.kind h)) s (plain_leaf p.token.kind refl n (name_read p.token.kind (listed_name f.yield_ f.await_ p.token.kind h)) s) (name_passes f s.lexeme (subst (λ (k : Kind). may_name f.yield_ f.await_ k ≡ true) s.tells.kind h))
+name_leaf {f = f} {p = p} a h n s = one_path (name_test f) a (name_slashless p.token.kind (listed_name f.yield_ f.await_ p.token.kind h)) s (plain_leaf p.token.kind refl n (name_read p.token.kind (listed_name f.yield_ f.await_ p.token.kind h)) s) (name_passes f s.lexeme (subst (λ (k : Kind). may_name f.yield_ f.await_ k ≡ true) s.tells.kind h))
 
 pub name_path : (text : List ℕ) (f : Flags) (k : Kind) → may_name f.yield_ f.await_ k ≡ true → LeafUnder text f identifier_reference no_op k
 unfolding rule rule_of covers

@@ -10,6 +10,7 @@ use Rattle.js_base.specs.declared.kind.Kind.TheVariants.{Eof, RAngle, RegExp, Sl
 use Rattle.js_base.specs.declared.span.Span.{Span}
 use Rattle.js_base.specs.declared.token.Token.{Token}
 use Rattle.js_base.specs.Kinds.{same_kind, one_of_kinds}
+use Rattle.js_base.specs.Texts.{words}
 use Rattle.js_base.proofs.KindLemmas.{kind_of_same}
 use Rattle.js_grammar.specs.Trees.{Label, end, tree, no_op, reg_exp_literal}
 use Rattle.js_grammar.specs.Characters.{width}
@@ -138,7 +139,7 @@ goal_of_flags unambiguous w h = h
 
 -- of any passing its goal is that of regular expressions
 any_goal : {m : Passing} {text : List ℕ} {s : ℕ} {y : Lexeme} (h : StandsBehind m text s y) → y.kind ≡ RegExp → h.goal ≡ regular_expression
-any_goal h k = pattern_goal (passing_so h refl refl) k
+any_goal h k = pattern_goal (record { trivia = h.trivia; goal = h.goal; word = h.word; rest = h.rest; stands = h.stands; lexeme = h.lexeme; comments = refl; flags = refl; from = h.from; to = h.to; newline = h.newline; escaped = h.escaped; units = h.units }) k
 
 read_slash : (k : Kind) → one_of_kinds slashes k ≡ true → one_of_kinds read_kinds k ≡ true
 read_slash k h = by_sign (λ j. one_of_kinds read_kinds j ≡ true) k h refl refl
@@ -147,9 +148,9 @@ no_pattern_sign : (k : Kind) → one_of_kinds slashes k ≡ true → same_kind R
 no_pattern_sign k h = by_sign (λ j. same_kind RegExp j ≡ false) k h refl refl
 
 -- The faults of the flags were kept: the lexeme has none exactly where none was, if what stands before it has none.
-pattern_so : {source : Goal} {text : List ℕ} {s at_end : ℕ} {y : Lexeme} {t : Token} {faults : List Diagnostic} → IsUtf8 text → IsCharBoundary text s → (h : StandsBehind all_faults text s y) → y.kind ≡ RegExp → IsTrue (is_read y) → Tells y t → FlagsStand text at_end t faults
+pattern_so : (source : Goal) (at_end : ℕ) {text : List ℕ} {s : ℕ} {y : Lexeme} {t : Token} {faults : List Diagnostic} → IsUtf8 text → IsCharBoundary text s → (h : StandsBehind all_faults text s y) → y.kind ≡ RegExp → IsTrue (is_read y) → Tells y t → FlagsStand text at_end t faults
     → (faults ≡ [] → IsRight source text s → Faultless source text s y) × ((faults ≡ [] → ⊥) → Faultless source text s y → ⊥)
-pattern_so {source} {text} {s} {at_end} {y} {t} {faults} u b h k r e x = (right, wrong)
+pattern_so source at_end {text} {s} {y} {t} {faults} u b h k r e x = (right, wrong)
   where
     determined : same_kind Undetermined t.kind ≡ false
     determined = ap (same_kind Undetermined) (e.kind ∙ k)
@@ -183,7 +184,7 @@ pattern_so {source} {text} {s} {at_end} {y} {t} {faults} u b h k r e x = (right,
 -- ---- where a slash is read again
 
 module _ {text : List ℕ} {f : Flags} {p q : Parser} {at_end : ℕ} (a : At text f p) (u : one_of_kinds slashes p.token.kind ≡ true) (i : IsRegularExpression at_end p q) where
-  h : ReadAgain regular_expression p q
+  abbrev h : ReadAgain regular_expression p q
   h = i.read
 
   -- the sign, as the plain goal gives it
@@ -258,10 +259,10 @@ module _ {text : List ℕ} {f : Flags} {p q : Parser} {at_end : ℕ} (a : At tex
         go true e x = absurd (n (sym (kind_of_same Undetermined q.token.kind e)))
         go false e x = (x.0, subst (λ (v : List ℕ). GivesLexeme regular_expression (λ z. z) v p.prev_token_end q.token) (a.at.reads ∙ a.text_is) x.1)
 
-    y : Lexeme
+    abbrev y : Lexeme
     y = given.1.lexeme
 
-    stood : StandsBehind all_faults text p.prev_token_end y
+    abbrev stood : StandsBehind all_faults text p.prev_token_end y
     stood = given.1.stands.lex
 
     kind : y.kind ≡ RegExp
@@ -271,6 +272,7 @@ module _ {text : List ℕ} {f : Flags} {p q : Parser} {at_end : ℕ} (a : At tex
     token_kind = given.1.tells.kind ∙ kind
 
     plain : y.escaped ≡ false
+    unfolding words
     plain = stood.escaped ∙ ap (λ (v : Kind). is_escaped v stood.word) kind
 
     read_so : IsTrue (is_read y)
@@ -334,7 +336,7 @@ module _ {text : List ℕ} {f : Flags} {p q : Parser} {at_end : ℕ} (a : At tex
       further : p.token.span.start < r.prev_token_end
       further = let e = ends in let t = given.1.tells.start in let s = from in let l = lexeme_some stood (λ z. false≢true (ap (same_kind Eof) (sym kind ∙ z))) in omega arith
 
-      news : News
+      abbrev news : News
       news = record {
         token = q.token;
         comments = each_at (comment_at r.token.span.start) q.lexer.place m.next.pieces;
@@ -356,7 +358,7 @@ module _ {text : List ℕ} {f : Flags} {p q : Parser} {at_end : ℕ} (a : At tex
 
       is_pattern : IsPattern text (spot p) y h.faults
       is_pattern =
-          let x = pattern_so {source = goal p} {faults = h.going_on} a_utf8 a_between stood kind read_so given.1.tells (subst (λ (t : List ℕ). FlagsStand t at_end q.token h.going_on) a.text_is i.flags) in
+          let x = pattern_so (goal p) at_end {faults = h.going_on} a_utf8 a_between stood kind read_so given.1.tells (subst (λ (t : List ℕ). FlagsStand t at_end q.token h.going_on) a.text_is i.flags) in
           record { is = kind; none = subst (λ (ds : List Diagnostic). ds ≡ [] → IsRight (goal p) text p.prev_token_end → Faultless (goal p) text p.prev_token_end y) (sym given.0) x.0; some = subst (λ (ds : List Diagnostic). (ds ≡ [] → ⊥) → Faultless (goal p) text p.prev_token_end y → ⊥) (sym given.0) x.1 }
         where
           a_utf8 : IsUtf8 text
