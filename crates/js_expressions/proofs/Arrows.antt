@@ -371,9 +371,9 @@ module _ {text : List ℕ} {f : Flags} {p : Parser} {t : Token} (a : At text f p
 
 -- ---- what is answered of a head
 
-not_true : {b : Bool} → not b ≡ true → b ≡ false
-not_true {true} h = absurd (false≢true h)
-not_true {false} h = refl
+not_true : (b : Bool) → not b ≡ true → b ≡ false
+not_true true h = absurd (false≢true h)
+not_true false h = refl
 
 head_of_path : {text : List ℕ} {f : Flags} {p q : Parser} (w : Parser) {l : Label} {cs : Slots} {id : NodeId} → NoYield text f p.prev_token_end → Path text f (plain full) (head_of f) p nothing q (tree l cs) → q.errors ≡ p.errors → Same p q → w ≡ record q { nodes = w.nodes } → Holds w.nodes (length p.nodes) (length w.nodes) id.0 l cs → Keeps p.nodes w.nodes → (IsCharBoundary p.text p.token.span.start → NodesLie q.text q.nodes → NodesLie q.text w.nodes) → Head text f p w id
 head_of_path {text} {f} {p} {q} w {l} {cs} {id} y r e s n h k i = go w.nodes n h k i
@@ -433,7 +433,7 @@ single_head {text} {f} {p} {q} {v} {w} {name} {parameter} {id} s a k e b t n m =
     let hv = node_held n (HoldsAll-hole (HoldsAll-one name h)) in
     let kv : Keeps p.nodes v.nodes = Keeps-trans kq (Keeps-made n.made) in
     let hw = node_held m (HoldsAll-one parameter hv) in
-    head_of_path w (no_yield a (λ e. not_true (subst (λ (v : Kind). may_name f.yield_ f.await_ v ≡ true) e k))) (subst (λ (x : ℕ). Path text f (plain full) (head_of f) p nothing t.mid (tree (label_to formal_parameters x) (tree (label_to formal_parameter x) (tree (label_to binding_identifier x) end (hole end)) end))) (sym i) (name_path a k e t.moved)) t.moved.kept t.moved.same (m.stays ∙ ap (λ (z : Parser). record z { nodes = w.nodes }) (n.stays ∙ ap (λ (z : Parser). record z { nodes = v.nodes }) t.made.stays))
+    head_of_path w (no_yield a (λ e. not_true f.yield_ (subst (λ (v : Kind). may_name f.yield_ f.await_ v ≡ true) e k))) (subst (λ (x : ℕ). Path text f (plain full) (head_of f) p nothing t.mid (tree (label_to formal_parameters x) (tree (label_to formal_parameter x) (tree (label_to binding_identifier x) end (hole end)) end))) (sym i) (name_path a k e t.moved)) t.moved.kept t.moved.same (m.stays ∙ ap (λ (z : Parser). record z { nodes = w.nodes }) (n.stays ∙ ap (λ (z : Parser). record z { nodes = v.nodes }) t.made.stays))
     (subst (λ (x : Span). Holds w.nodes (length p.nodes) (length w.nodes) id.0 (plain_label node_kind.FormalParameters op_made.None x) (tree (plain_label node_kind.FormalParameter op_made.None x) (tree (label_to binding_identifier p.token.span.end) end (hole end)) end)) b hw) (Keeps-trans kv (Keeps-made m.made))
     (λ c z. let y = from_start (plain_label node_kind.FormalParameters op_made.None s) t.moved.same t.moved.at.at (let j = t.moved.further in omega arith) (ap (λ (x : Span). record { from = x.start; to = x.end }) b ∙ ap (λ (x : ℕ). record { from = p.token.span.start; to = x }) i) c in one_lies m y (one_lies n y (one_lies t.made (subst (λ (x : Span). LabelLies t.mid.text (plain_label node_kind.BindingIdentifier op_made.None x)) b y) z)))
   where
@@ -555,13 +555,13 @@ unmoved_none {p} {q} a u n = λ text f b. subst (λ (s : ℕ). Underived text (a
 no_yield_here : {text : List ℕ} {f : Flags} {p : Parser} → At text f p → (BeginsYield p → ⊥) → NoYield text f p.prev_token_end
 no_yield_here {text} {f} {p} a n = go p.token.escaped refl
   where
-    go : (b : Bool) → p.token.escaped ≡ b → NoYield text f p.prev_token_end
-    go true e = fails_escaped a e
-    go false e = no_yield a (λ k. by (has_flag yield_flag p.ctx) refl k e)
-
     by : (b : Bool) → has_flag yield_flag p.ctx ≡ b → p.token.kind ≡ Yield → p.token.escaped ≡ false → f.yield_ ≡ false
     by true i k e = absurd (n (record { kind = k; plain = e; yields = i }))
     by false i k e = sym (ap (λ (g : Flags). g.yield_) a.flags_are) ∙ i
+
+    go : (b : Bool) → p.token.escaped ≡ b → NoYield text f p.prev_token_end
+    go true e = fails_escaped a e
+    go false e = no_yield a (λ k. by (has_flag yield_flag p.ctx) refl k e)
 
 unmoved_yield : {p q : Parser} → Standing p → Unmoved p q → (BeginsYield p → ⊥) → (text : List ℕ) (f : Flags) → At text f q → NoYield text f q.prev_token_end
 unmoved_yield {p} {q} a u n text f b = subst (λ (s : ℕ). NoYield text f s) (sym u.place) (subst (λ (g : Flags). NoYield text g p.prev_token_end) (sym (flags_same p q u.same.ctx u.same.follows.source_type u.same.options) ∙ b.flags_are) (subst (λ (t : List ℕ). NoYield t (flags_of p) p.prev_token_end) (sym u.same.follows.text ∙ b.text_is) (no_yield_here a n)))

@@ -283,12 +283,12 @@ module _ {text : List ℕ} {f : Flags} {p q : Parser} (a : At text f p) (y : Beg
           (one_held p.nodes made (subst (λ (ns : List Node). Holds r.nodes (length ns) (length r.nodes) arg.0 x.answer.label x.answer.slots) (ms.nodes ∙ m.nodes) x.holds)) (Keeps-trans ks (Keeps-made made.made)) refl (one_lies made)
 
 -- what the test of what stands behind it says
-pub bare_is : {w y : Bool} → (w || not y) ≡ true → (w ≡ true) ⊎ (y ≡ false)
-bare_is {true} {y} h = inl refl
-bare_is {false} {true} h = absurd (false≢true h)
-bare_is {false} {false} h = inr refl
+pub bare_is : (w y : Bool) → (w || not y) ≡ true → (w ≡ true) ⊎ (y ≡ false)
+bare_is true y h = inl refl
+bare_is false true h = absurd (false≢true h)
+bare_is false false h = inr refl
 
-pub argued_is : {w y : Bool} → (w || not y) ≡ false → (w ≡ false) × (y ≡ true)
-argued_is {true} {y} h = absurd (false≢true (sym h))
-argued_is {false} {true} h = (refl, refl)
-argued_is {false} {false} h = absurd (false≢true (sym h))
+pub argued_is : (w y : Bool) → (w || not y) ≡ false → (w ≡ false) × (y ≡ true)
+argued_is true y h = absurd (false≢true (sym h))
+argued_is false true h = (refl, refl)
+argued_is false false h = absurd (false≢true (sym h))

@@ -93,8 +93,13 @@ fn make_delegate<C: ParserConfig>(
         delegate: true,
         ..NodeFlags::default()
     };
-    p.ast
-        .node_of_one(NodeKind::YieldExpression, span, Op::None, flags, Some(argument))
+    p.ast.node_of_one(
+        NodeKind::YieldExpression,
+        span,
+        Op::None,
+        flags,
+        Some(argument),
+    )
 }
 
 /// Whether the argument of a `yield` begins with this lexeme on its line, or its `*` does. A slash begins a regular

@@ -127,11 +127,7 @@ pub fn is_name_here<C: ParserConfig>(p: &ParserImpl<'_, C>, kind: Kind) -> bool
 
 /// Whether a name stands here, without an escape, where the parameters Yield and Await are these.
 #[inline(always)]
-pub fn name_stands_under<C: ParserConfig>(
-    p: &ParserImpl<'_, C>,
-    yields: bool,
-    awaits: bool,
-) -> bool
+pub fn name_stands_under<C: ParserConfig>(p: &ParserImpl<'_, C>, yields: bool, awaits: bool) -> bool
     ensures { NameUnder yields awaits p.now result }
 {
     is_name_under(p.cur_kind(), yields, awaits) && !p.cur_token().escaped()

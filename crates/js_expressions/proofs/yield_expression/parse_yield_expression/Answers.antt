@@ -16,7 +16,7 @@ pub end_span-span-requires : goal.end_span-span-requires
 end_span-span-requires g c = let m = c.in_ok-advance.ensures _ _ c.requires.at in let a = m.further in let s = c.cur_start-start.ensures in omega arith
 
 pub returns-then-is_bare : goal.returns-then-is_bare
-returns-then-is_bare g c = λ text f a. bare_answers a c.requires.word (c.in_ok-advance.ensures text f a) _ (bare_is (sym c.is_bare.ensures ∙ c.if-is_bare.true)) (c.end_span-span.ensures.start ∙ c.cur_start-start.ensures) c.end_span-span.ensures.end c.in_ok-node.ensures
+returns-then-is_bare g c = λ text f a. bare_answers a c.requires.word (c.in_ok-advance.ensures text f a) _ (bare_is _ _ (sym c.is_bare.ensures ∙ c.if-is_bare.true)) (c.end_span-span.ensures.start ∙ c.cur_start-start.ensures) c.end_span-span.ensures.end c.in_ok-node.ensures
 
 pub parse_delegate-requires-clause-at : goal.parse_delegate-requires-clause-at
 parse_delegate-requires-clause-at g c = standing (c.in_ok-advance.ensures _ _ c.requires.at).at
@@ -31,7 +31,7 @@ pub parse_delegate-requires-clause-star : goal.parse_delegate-requires-clause-st
 parse_delegate-requires-clause-star g c = c.at.ensures.0 c.if-at.true
 
 pub returns-then-at : goal.returns-then-at
-returns-then-at g c = λ text f a. c.parse_delegate.ensures text f c.args.p.now a c.requires.word (c.in_ok-advance.ensures text f a) (argued_is (sym c.is_bare.ensures ∙ c.if-is_bare.false)).0 c.cur_start-start.ensures
+returns-then-at g c = λ text f a. c.parse_delegate.ensures text f c.args.p.now a c.requires.word (c.in_ok-advance.ensures text f a) (argued_is _ _ (sym c.is_bare.ensures ∙ c.if-is_bare.false)).0 c.cur_start-start.ensures
 
 pub assignment-requires : goal.assignment-requires
 assignment-requires g c = let m = c.in_ok-advance.ensures _ _ c.requires.at in c.requires.nests _ _ (standing m.at) (nested_room c.requires.at m)
@@ -40,7 +40,7 @@ pub returns-in_err-argument : goal.returns-in_err-argument
 returns-in_err-argument g c = λ text f a.
     let p = err_from_is_err_and c.from_residual-in_err-argument.result c.from_residual-in_err-argument.ensures.1 in
     let m = c.in_ok-advance.ensures text f a in
-    let z = argued_is (sym c.is_bare.ensures ∙ c.if-is_bare.false) in
+    let z = argued_is _ _ (sym c.is_bare.ensures ∙ c.if-is_bare.false) in
     rw (p.1, p.2) (stops_behind _ _ m.same (λ g. grown_then m.kept g) (argument_none a c.requires.word m z.0 z.1 (λ k. false≢true (sym c.if-at.false ∙ c.at.ensures.1 k))) (c.in_err-argument.ensures text f m.at))
 
 pub end_span-span-2-requires : goal.end_span-span-2-requires
@@ -52,5 +52,5 @@ end_span-span-2-requires g c =
 pub returns : goal.returns
 returns g c = λ text f a.
     let m = c.in_ok-advance.ensures text f a in
-    let z = argued_is (sym c.is_bare.ensures ∙ c.if-is_bare.false) in
+    let z = argued_is _ _ (sym c.is_bare.ensures ∙ c.if-is_bare.false) in
     argument_answers a c.requires.word m z.0 z.1 _ (λ k. false≢true (sym c.if-at.false ∙ c.at.ensures.1 k)) (c.in_ok-argument.ensures text f m.at) (c.end_span-span-2.ensures.start ∙ c.cur_start-start.ensures) c.end_span-span-2.ensures.end c.in_ok-node-2.ensures
