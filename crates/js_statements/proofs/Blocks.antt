@@ -39,7 +39,7 @@ use Rattle.js_parsing.specs.Moves.{Moved, MadeHere, plain_label}
 use Rattle.js_parsing.specs.States.{At, Same}
 use Rattle.js_parsing.specs.Statements.{placed, after_statement, NoStatement, Statement}
 use Rattle.js_statements.specs.Blocks.{BracesTaken, NoBraces, in_braces}
-use Rattle.js_statements.specs.StatementLists.{NoList, Taken, at_end, end_kind, ends_in_brace, ends_list, list_of, statements}
+use Rattle.js_statements.specs.StatementLists.{NoList, Taken, at_end, ends_at, ends_in_brace, ends_list, list_of, statements}
 use Rattle.js_statements.specs.declared.statement_list.StatementList.{StatementList}
 use Rattle.js_statements.specs.declared.statement_list.StatementList.TheVariants as list
 use Rattle.js_parsing.proofs.Classes.{here_ends}
@@ -58,7 +58,7 @@ use Rattle.js_statements.proofs.StatementLists.{none_left}
 use Rattle.js_statements.proofs.WordStatements.{Alone, alone_fails, alone_path}
 
 -- a path, and what passes some lexemes behind it or none
-then_some : {text : List ℕ} {X : Test} {f f' : Flags} {g g' g'' : G} {p q r : Parser} {h i : Slots → Slots} {pass : Lexemes → Lexemes} → Path text f X g p g' q h → At text f' r → q.prev_token_end ≤ r.prev_token_end → Walked text (spot q) (spot r) pass
+pub then_some : {text : List ℕ} {X : Test} {f f' : Flags} {g g' g'' : G} {p q r : Parser} {h i : Slots → Slots} {pass : Lexemes → Lexemes} → Path text f X g p g' q h → At text f' r → q.prev_token_end ≤ r.prev_token_end → Walked text (spot q) (spot r) pass
     → Verdict q.errors r.errors (Stretch text (behind X h) g' q.prev_token_end g'' r.prev_token_end i pass) (Fails rule (Lex text) (behind X h) end g' q.prev_token_end) → Path text f' X g p g'' r (λ us. h (i us))
 then_some {pass = w} a b l u v = record {
   at = b;
@@ -71,7 +71,7 @@ then_some {pass = w} a b l u v = record {
 -- ---- what ends the list
 
 -- no lexeme that is read stands where none is told
-none_told : {text : List ℕ} {f : Flags} {q : Parser} → At text f q → q.token.kind ≡ kind.Undetermined → (y : Lexeme) → Lex text q.prev_token_end y → ⊥
+pub none_told : {text : List ℕ} {f : Flags} {q : Parser} → At text f q → q.token.kind ≡ kind.Undetermined → (y : Lexeme) → Lex text q.prev_token_end y → ⊥
 none_told a e y l = false≢true (sym (ap (one_of_kinds read_kinds) (kind_here a e refl y l)) ∙ (and_parts (one_of_kinds read_kinds y.kind) (not y.escaped) l.1).0)
 
 module _ {text : List ℕ} {f : Flags} {q : Parser} (a : At text f q) where
@@ -81,6 +81,7 @@ module _ {text : List ℕ} {f : Flags} {q : Parser} (a : At text f q) where
   list_closes list.Text h e = absurd (false≢true h)
   list_closes list.Block h e = more_of ▹ at_kind a kind.RCurly e refl
   list_closes list.Body h e = more_of ▹ at_kind a kind.RCurly e refl
+  list_closes list.Clause h e = absurd (false≢true h)
 
   -- at the end of the text it is open
   open_at_end : (sl : StatementList) → ends_in_brace sl ≡ true → q.token.kind ≡ kind.Eof → NoList text sl (statements sl f) q.prev_token_end
@@ -88,15 +89,17 @@ module _ {text : List ℕ} {f : Flags} {q : Parser} (a : At text f q) where
   open_at_end list.Text h e = absurd (false≢true h)
   open_at_end list.Block h e = more_of ▹✗ (at_kind a kind.Eof e refl ▹✗ fails_never)
   open_at_end list.Body h e = more_of ▹✗ (at_kind a kind.Eof e refl ▹✗ fails_never)
+  open_at_end list.Clause h e = absurd (false≢true h)
 
   -- and where a closing brace is due and doesn't stand
   list_open : (sl : StatementList) → ends_in_brace sl ≡ true → ends_list sl q.token.kind ≡ true → (q.token.kind ≡ kind.RCurly → ⊥) → NoList text sl (statements sl f) q.prev_token_end
-  list_open sl h e n = first (same_kind (end_kind sl) q.token.kind) refl e
+  list_open sl h e n = first (ends_at sl q.token.kind) refl e
     where
-      brace : (sl : StatementList) → ends_in_brace sl ≡ true → end_kind sl ≡ kind.RCurly
-      brace list.Text h = absurd (false≢true h)
-      brace list.Block h = refl
-      brace list.Body h = refl
+      brace : (sl : StatementList) → ends_in_brace sl ≡ true → ends_at sl q.token.kind ≡ true → q.token.kind ≡ kind.RCurly
+      brace list.Text h k = absurd (false≢true h)
+      brace list.Block h k = sym (kind_of_same kind.RCurly q.token.kind k)
+      brace list.Body h k = sym (kind_of_same kind.RCurly q.token.kind k)
+      brace list.Clause h k = absurd (false≢true h)
 
       third : (c : Bool) → same_kind kind.Undetermined q.token.kind ≡ c → c ≡ true → NoList text sl (statements sl f) q.prev_token_end
       third true k i = fails_none (none_told a (sym (kind_of_same kind.Undetermined q.token.kind k)))
@@ -106,8 +109,8 @@ module _ {text : List ℕ} {f : Flags} {q : Parser} (a : At text f q) where
       second true k i = open_at_end sl h (sym (kind_of_same kind.Eof q.token.kind k))
       second false k i = third (same_kind kind.Undetermined q.token.kind) refl i
 
-      first : (b : Bool) → same_kind (end_kind sl) q.token.kind ≡ b → (b || is_last q.token.kind) ≡ true → NoList text sl (statements sl f) q.prev_token_end
-      first true k i = absurd (n (sym (kind_of_same (end_kind sl) q.token.kind k) ∙ brace sl h))
+      first : (b : Bool) → ends_at sl q.token.kind ≡ b → (b || is_last q.token.kind) ≡ true → NoList text sl (statements sl f) q.prev_token_end
+      first true k i = absurd (n (brace sl h k))
       first false k i = second (same_kind kind.Eof q.token.kind) refl i
 
 -- a closing brace ends the list
@@ -116,6 +119,7 @@ unfolding covers
 before_brace list.Text f s h = absurd (false≢true h)
 before_brace list.Block f s h = by_first firsts (by_plain (at_end list.Block)) refl
 before_brace list.Body f s h = by_first firsts (by_plain (at_end list.Body)) refl
+before_brace list.Clause f s h = absurd (false≢true h)
 
 -- ---- the braces
 
@@ -214,3 +218,20 @@ module _ {text : List ℕ} {f : Flags} {p q : Parser} {ids : List (Option NodeId
       let l : plain_label node.FunctionBody op.None s ≡ label_here function_body no_op p q = rw (g, d) refl in
       let made : MadeHere (label_here function_body no_op p q) ids q w id = subst (λ v. MadeHere v ids q w id) l i in
       by_path body_path x.same made.stays (λ y l. refl) refl (node_held made x.holds) (Keeps-trans x.keeps (Keeps-made made.made)) refl (one_lies made)
+
+-- ---- a block as a part
+
+pub part_none : {text : List ℕ} {f : Flags} {s : ℕ} → NoBraces text list.Block f s → Underived text (at Block f) s
+unfolding rule rule_of
+part_none n = fails_by (fails_node inside_full n)
+
+module _ {text : List ℕ} {f : Flags} {p q : Parser} {ids : List (Option NodeId)} (a : At text f p) (x : BracesTaken text f list.Block p q ids) where
+  part_path : Path text f (after (at Block f)) (rule (at Block f)) p nothing q (tree (label_here block_statement no_op p q) (x.slots end))
+  unfolding rule rule_of
+  part_path = noded a (braces_read x)
+
+  pub part_answers : {w : Parser} {id : NodeId} (s : Span) → s.start ≡ p.token.span.start → s.end ≡ q.prev_token_end → MadeHere (plain_label node.BlockStatement op.None s) ids q w id → Numbered text f (at Block f) p w id
+  part_answers {w} {id} s g d i =
+      let l : plain_label node.BlockStatement op.None s ≡ label_here block_statement no_op p q = rw (g, d) refl in
+      let made : MadeHere (label_here block_statement no_op p q) ids q w id = subst (λ v. MadeHere v ids q w id) l i in
+      by_path part_path x.same made.stays (λ y l. refl) refl (node_held made x.holds) (Keeps-trans x.keeps (Keeps-made made.made)) refl (one_lies made)

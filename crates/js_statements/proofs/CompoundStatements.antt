@@ -61,12 +61,12 @@ use Rattle.js_statements.proofs.WordStatements.{Alone, alone_fails, alone_path, 
 
 -- ---- parts of a statement
 
-then_fails : {text : List ℕ} {X : Test} {a b : G} {s : ℕ} → Fails rule (Lex text) (plain full) end a s → Fails rule (Lex text) X end (seq a b) s
+pub then_fails : {text : List ℕ} {X : Test} {a b : G} {s : ℕ} → Fails rule (Lex text) (plain full) end a s → Fails rule (Lex text) X end (seq a b) s
 then_fails m = part_fails m (record { admits = λ ts us vs j k ls mid rest d d' e. (refl, refl) })
 
 module _ {text : List ℕ} {f : Flags} {X : Test} where
   -- a part, whatever stands behind it
-  then_part : {a b : G} {p q : Parser} {h : Slots → Slots} → Path text f (plain full) a p nothing q h → Path text f X (seq a b) p b q h
+  pub then_part : {a b : G} {p q : Parser} {h : Slots → Slots} → Path text f (plain full) a p nothing q h → Path text f X (seq a b) p b q h
   then_part x = record {
     at = x.at;
     further = x.further;
@@ -139,7 +139,7 @@ parens_taken {text} {f} {p} {q} {r} {u} {id} a k m x c d =
       keeps = subst (λ (ns : List Node). Keeps p.nodes ns) (sym d.nodes) (subst (λ (ns : List Node). Keeps ns r.nodes) m.nodes x.keeps);
     }
 
-parens_read : {text : List ℕ} {f : Flags} {p q : Parser} {id : NodeId} (x : ParensTaken text f p q id) → Path text f (plain full) (in_parens f) p nothing q (tree x.label x.slots)
+pub parens_read : {text : List ℕ} {f : Flags} {p q : Parser} {id : NodeId} (x : ParensTaken text f p q id) → Path text f (plain full) (in_parens f) p nothing q (tree x.label x.slots)
 parens_read x = record { at = x.at; further = x.further; pass = x.pass; walked = x.walked; verdict = x.verdict }
 
 -- ---- while and with

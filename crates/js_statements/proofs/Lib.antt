@@ -9,4 +9,6 @@ pub mod Returns
 pub mod StatementLists
 pub mod Statements
 pub mod Strings
+pub mod SwitchStatements
+pub mod TryStatements
 pub mod WordStatements

@@ -4,7 +4,7 @@ use Rattle.std.proofs.Common.{ℕ, ◌≡◌, ◌<◌, max, List, [], ◌∷◌,
 use Rattle.std.specs.Prelude.{◌↔◌}
 use Rattle.std.proofs.lemmas.Bool.{false≢true, and_parts, and_from}
 use Rattle.js_base.specs.declared.kind.Kind.{Kind}
-use Rattle.js_base.specs.declared.kind.Kind.TheVariants.{Eof, RCurly, Let, Str, Undetermined}
+use Rattle.js_base.specs.declared.kind.Kind.TheVariants.{Case, Default, Eof, RCurly, Let, Str, Undetermined}
 use Rattle.js_base.specs.declared.span.Span.{Span}
 use Rattle.js_base.specs.Contexts.{has_flag, in_flag}
 use Rattle.js_base.specs.Kinds.{same_kind, one_of_kinds}
@@ -18,7 +18,7 @@ use Rattle.js_grammar.specs.Productions.{G, Flags, at, opt, ListItem, Item, Labe
 use Rattle.js_grammar.specs.Productions.{sym as symbol}
 use Rattle.js_grammar.specs.Table.{rule, rule_of, string}
 use Rattle.js_grammar.specs.Follow.{row_of, after}
-use Rattle.js_grammar.proofs.Looks.{covers, covered, same_self, apart}
+use Rattle.js_grammar.proofs.Looks.{covers, covered, apart}
 use Rattle.js_grammar.proofs.Calculus.{Between, Sure, ◌▹◌, ◌▹✗◌, stay, same, passes_none, left, right, by_plain, by_rule, then_by, tested, more_of, part_fails, fails_alt, fails_test, fails_tested, fails_ended, fails_rule, fails_node, inside_plain, here_at}
 use Rattle.js_grammar.proofs.FirstRules.{by_first}
 use Rattle.js_grammar.proofs.FirstClaims.{firsts}
@@ -40,9 +40,9 @@ use Rattle.js_parsing.specs.Nesting.{room}
 use Rattle.js_parsing.specs.Moves.{MadeHere, plain_label}
 use Rattle.js_parsing.specs.Answers.{Grown, Verdict, clean, unclean, Stretch, Underived, Answer, Numbered}
 use Rattle.js_parsing.specs.Statements.{statement_kinds, no_link, after_statement, NoStatement, Statement, EndsStatement, NoEnd}
-use Rattle.js_statements.specs.StatementLists.{at_end, end_kind, ends_list, has_directives, item_of, list_of, with_directives, statements, NoList, OneTaken, Taken, OpeningTaken}
+use Rattle.js_statements.specs.StatementLists.{at_end, ends_at, ends_list, has_directives, item_of, list_of, with_directives, statements, NoList, OneTaken, Taken, OpeningTaken}
 use Rattle.js_statements.specs.declared.statement_list.StatementList.{StatementList}
-use Rattle.js_statements.specs.declared.statement_list.StatementList.TheVariants.{Text, Block, Body}
+use Rattle.js_statements.specs.declared.statement_list.StatementList.TheVariants.{Text, Block, Body, Clause}
 use Rattle.js_parsing.proofs.Verdicts.{verdict_of, either_way, and_then}
 use Rattle.js_parsing.proofs.Moving.{same_both, same_itself, same_with, beside_nodes}
 use Rattle.js_parsing.proofs.Dead.{fails_dead}
@@ -67,7 +67,7 @@ cleanly : {K : Type 0} {p q : List K} {C B : Type 0} → q ≡ p → Verdict p q
 cleanly e (clean h c) = c
 cleanly e (unclean g n) = absurd (not_grown e g)
 
-uncleanly : {K : Type 0} {p q : List K} {C B : Type 0} → Grown p q → Verdict p q C B → B
+pub uncleanly : {K : Type 0} {p q : List K} {C B : Type 0} → Grown p q → Verdict p q C B → B
 uncleanly g (clean h c) = absurd (not_grown h g)
 uncleanly g (unclean h n) = n
 
@@ -85,9 +85,9 @@ directives f = symbol Directive f
 abbrev behind_directives : StatementList → Flags → G
 behind_directives sl f = opt (seq (such (at (item_of sl) f) not_string) (statements sl f))
 
--- one directive more, or none
-split : {text : List ℕ} {X : Test} {s : ℕ} (sl : StatementList) (f : Flags) → Goes rule (Lex text) X end (with_directives sl f) s (alt (seq (directives f) (with_directives sl f)) (behind_directives sl f)) s (λ us. us) (still 0)
-split sl f = same (λ ts us i j ls rest d. to d) (λ ts us i j ls rest d. of d)
+-- several, and something behind them: one more, or none
+pub unrolled : {text : List ℕ} {X : Test} {a b : G} {s : ℕ} → Goes rule (Lex text) X end (seq (many a) b) s (alt (seq a (seq (many a) b)) b) s (λ us. us) (still 0)
+unrolled = same (λ ts us i j ls rest d. to d) (λ ts us i j ls rest d. of d)
   where
     to : {a b : G} {ks ts us : Slots} {i j : ℕ} {ls rest : Lexemes} → Takes rule (seq (many a) b) ks ts i ls us j rest → Takes rule (alt (seq a (seq (many a) b)) b) ks ts i ls us j rest
     to (is_seq (is_many (is_left (is_seq d e))) r) = is_left (is_seq d (is_seq e r))
@@ -96,6 +96,10 @@ split sl f = same (λ ts us i j ls rest d. to d) (λ ts us i j ls rest d. of d)
     of : {a b : G} {ks ts us : Slots} {i j : ℕ} {ls rest : Lexemes} → Takes rule (alt (seq a (seq (many a) b)) b) ks ts i ls us j rest → Takes rule (seq (many a) b) ks ts i ls us j rest
     of (is_left (is_seq d (is_seq e r))) = is_seq (is_many (is_left (is_seq d e))) r
     of (is_right r) = is_seq (is_many (is_right is_nothing)) r
+
+-- one directive more, or none
+split : {text : List ℕ} {X : Test} {s : ℕ} (sl : StatementList) (f : Flags) → Goes rule (Lex text) X end (with_directives sl f) s (alt (seq (directives f) (with_directives sl f)) (behind_directives sl f)) s (λ us. us) (still 0)
+split sl f = unrolled
 
 -- what may stand behind every statement
 abbrev surely_behind : StatementList → Look
@@ -110,12 +114,14 @@ unfolding covers
 before_statements Text {f} = by_first firsts (surely_statement Text f) refl
 before_statements Block {f} = by_first firsts (surely_statement Block f) refl
 before_statements Body {f} = by_first firsts (surely_statement Body f) refl
+before_statements Clause {f} = by_first firsts (surely_statement Clause f) refl
 
 before_list : (sl : StatementList) {f : Flags} {ks : Slots} {a : G} {s : ℕ} → Between rule (plain (at_end sl)) (plain no_link) ks a (with_directives sl f) s
 unfolding covers
 before_list Text = by_first firsts (by_plain no_link) refl
 before_list Block = by_first firsts (by_plain no_link) refl
 before_list Body = by_first firsts (by_plain no_link) refl
+before_list Clause = by_first firsts (by_plain no_link) refl
 
 -- ---- items
 
@@ -127,20 +133,26 @@ item_stretch : (sl : StatementList) {text : List ℕ} {f : Flags} {s s' : ℕ} {
 item_stretch Text {f = f} y = record { reach = max 0 y.reach; near = let k = y.near in omega arith; goes = by_rule {X' = after_statement (at Item f)} (λ l cs vs z d. d) (item_rule f ▹ y.goes) refl }
 item_stretch Block y = y
 item_stretch Body y = y
+item_stretch Clause y = y
 
 no_item : (sl : StatementList) {text : List ℕ} {f : Flags} {s : ℕ} → NoStatement text (at ListItem f) s → NoStatement text (at (item_of sl) f) s
 no_item Text {f = f} n = fails_rule {X' = after_statement (at Item f)} (λ l cs vs y e. e) (item_rule f ▹✗ n)
 no_item Block n = n
 no_item Body n = n
+no_item Clause n = n
+
+not_the_one : (a k : Kind) → same_kind a k ≡ false → one_of_kinds (a ∷ []) k ≡ false
+not_the_one a k n = ap (λ (b : Bool). b || false) n
 
 -- it isn't what ends the list that stands here
-not_end : (sl : StatementList) {text : List ℕ} {f : Flags} {p : Parser} → At text f p → (p.token.kind ≡ end_kind sl → ⊥) → Fails rule (Lex text) (plain (at_end sl)) end nothing p.prev_token_end
+not_end : (sl : StatementList) {text : List ℕ} {f : Flags} {p : Parser} → At text f p → ends_at sl p.token.kind ≡ false → Fails rule (Lex text) (plain (at_end sl)) end nothing p.prev_token_end
 unfolding covers apart
-not_end Text {p = p} a n = fails_at a {X = plain (at_end Text)} nothing (Eof ∷ []) refl (none_of_one Eof p.token.kind n)
-not_end Block {p = p} a n = fails_at a {X = plain (at_end Block)} nothing (RCurly ∷ []) refl (none_of_one RCurly p.token.kind n)
-not_end Body {p = p} a n = fails_at a {X = plain (at_end Body)} nothing (RCurly ∷ []) refl (none_of_one RCurly p.token.kind n)
+not_end Text {p = p} a n = fails_at a {X = plain (at_end Text)} nothing (Eof ∷ []) refl (not_the_one Eof p.token.kind n)
+not_end Block {p = p} a n = fails_at a {X = plain (at_end Block)} nothing (RCurly ∷ []) refl (not_the_one RCurly p.token.kind n)
+not_end Body {p = p} a n = fails_at a {X = plain (at_end Body)} nothing (RCurly ∷ []) refl (not_the_one RCurly p.token.kind n)
+not_end Clause {p = p} a n = fails_at a {X = plain (at_end Clause)} nothing (Case ∷ Default ∷ RCurly ∷ []) refl n
 
-module _ {text : List ℕ} {f : Flags} {p : Parser} (a : At text f p) (sl : StatementList) (n : p.token.kind ≡ end_kind sl → ⊥) where
+module _ {text : List ℕ} {f : Flags} {p : Parser} (a : At text f p) (sl : StatementList) (n : ends_at sl p.token.kind ≡ false) where
   one_more : {s : ℕ} {l : Label} {cs : Slots} {pass : Lexemes → Lexemes} → Stretch text (after_statement (at (item_of sl) f)) (symbol (item_of sl) f) p.prev_token_end nothing s (tree l cs) pass → Stretch text (plain (at_end sl)) (statements sl f) p.prev_token_end (statements sl f) s (tree l cs) pass
   one_more y = record { reach = max 0 (max 0 y.reach); near = let k = y.near in omega arith; goes = more_of ▹ left (not_end sl a n) ▹ then_by y.goes (before_statements sl) }
 
@@ -239,10 +251,11 @@ abbrev left_by : StatementList → Bool → Flags → G
 left_by sl b f = cond b (with_directives sl f) (statements sl f)
 
 module _ {text : List ℕ} {f : Flags} {p : Parser} (a : At text f p) (s : p.token.kind ≡ Str) where
-  not_eof : (sl : StatementList) → p.token.kind ≡ end_kind sl → ⊥
-  not_eof Text e = let k : Str ≡ Eof = sym s ∙ e in absurd (cc)
-  not_eof Block e = let k : Str ≡ RCurly = sym s ∙ e in absurd (cc)
-  not_eof Body e = let k : Str ≡ RCurly = sym s ∙ e in absurd (cc)
+  not_eof : (sl : StatementList) → ends_at sl p.token.kind ≡ false
+  not_eof Text = ap (ends_at Text) s
+  not_eof Block = ap (ends_at Block) s
+  not_eof Body = ap (ends_at Body) s
+  not_eof Clause = ap (ends_at Clause) s
 
   pub no_own_kind : one_of_kinds statement_kinds p.token.kind ≡ false
   no_own_kind = ap (one_of_kinds statement_kinds) s
@@ -366,7 +379,7 @@ module _ {text : List ℕ} {f : Flags} {sl : StatementList} {g : G} where
   }
 
   -- what is left is read as something else
-  taken_so : {g' g'' : G} {p q : Parser} {ids : List (Option NodeId)} → Taken text f sl g g' p q ids → Goes rule (Lex text) (plain (at_end sl)) end g' q.prev_token_end g'' q.prev_token_end (λ us. us) (still 0) → Taken text f sl g g'' p q ids
+  pub taken_so : {g' g'' : G} {p q : Parser} {ids : List (Option NodeId)} → Taken text f sl g g' p q ids → Goes rule (Lex text) (plain (at_end sl)) end g' q.prev_token_end g'' q.prev_token_end (λ us. us) (still 0) → Taken text f sl g g'' p q ids
   taken_so s h = record {
     at = s.at;
     same = s.same;
@@ -388,6 +401,7 @@ item_stating : (sl : StatementList) (f : Flags) → stating (such (at (item_of s
 item_stating Text f = refl
 item_stating Block f = refl
 item_stating Body f = refl
+item_stating Clause f = refl
 
 -- where no string stands, statements follow, and none is one of a string alone
 untested : {text : List ℕ} {X : Test} {s : ℕ} (sl : StatementList) (f : Flags) → ((y : Lexeme) → Lex text s y → IsTrue (seen (is Str) y) → ⊥) → Goes rule (Lex text) X end (behind_directives sl f) s (statements sl f) s (λ us. us) (still 0)
@@ -417,8 +431,8 @@ module _ {text : List ℕ} {f : Flags} {p q : Parser} {ids : List (Option NodeId
       ▹ untested sl f (λ y l h. not_here s.at (Str ∷ []) refl none y l (covered (is Str) (λ k w e. one_of_kinds (Str ∷ []) k) refl y.kind y.newline y.escaped h)))
 
 -- what ends the list doesn't stand where neither it nor an end stands
-pub goes_on_here : (sl : StatementList) {k : Kind} → ends_list sl k ≡ false → k ≡ end_kind sl → ⊥
-goes_on_here sl {k} h e = false≢true (sym (or_first (same_kind (end_kind sl) k) (is_last k) h) ∙ rw e (same_self (end_kind sl)))
+pub goes_on_here : (sl : StatementList) (k : Kind) → ends_list sl k ≡ false → ends_at sl k ≡ false
+goes_on_here sl k h = or_first (ends_at sl k) (is_last k) h
   where
     or_first : (b c : Bool) → (b || c) ≡ false → b ≡ false
     or_first true c g = absurd (false≢true (sym g))
@@ -457,11 +471,13 @@ pub list_is : (sl : StatementList) (f : Flags) → has_directives sl ≡ true �
 list_is Text f h = refl
 list_is Block f h = absurd (false≢true h)
 list_is Body f h = refl
+list_is Clause f h = absurd (false≢true h)
 
 pub list_alone : (sl : StatementList) (f : Flags) → has_directives sl ≡ false → list_of sl f ≡ statements sl f
 list_alone Text f h = absurd (false≢true (sym h))
 list_alone Block f h = refl
 list_alone Body f h = absurd (false≢true (sym h))
+list_alone Clause f h = refl
 
 pub as_list : {text : List ℕ} {f : Flags} (sl : StatementList) {p q : Parser} {ids : List (Option NodeId)} → has_directives sl ≡ true → Taken text f sl (with_directives sl f) (statements sl f) p q ids → Taken text f sl (list_of sl f) (statements sl f) p q ids
 as_list {text} {f} sl {p} {q} {ids} h x = subst (λ (g : G). Taken text f sl g (statements sl f) p q ids) (sym (list_is sl f h)) x

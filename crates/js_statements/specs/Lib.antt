@@ -4,4 +4,6 @@ pub mod DeclarationStatements
 pub mod FunctionStatements
 pub mod LetStatements
 pub mod StatementLists
+pub mod SwitchStatements
+pub mod TryStatements
 pub mod WordStatements

@@ -1,8 +1,8 @@
--- What is taken of directives and statements, one behind the other, up to what ends the list (ECMA-262, 11.2.1, 14.2, 15.2, 16.1).
-use Rattle.std.specs.Prelude.{ℕ, ◌≡◌, ◌<◌, ◌≤◌, ◌||◌, Bool, true, false, List, length, Option}
+-- What is taken of directives and statements, one behind the other, up to what ends the list (ECMA-262, 11.2.1, 14.2, 14.12, 15.2, 16.1).
+use Rattle.std.specs.Prelude.{ℕ, ◌≡◌, ◌<◌, ◌≤◌, ◌||◌, Bool, true, false, List, [], ◌∷◌, length, Option}
 use Rattle.js_base.specs.declared.kind.Kind.{Kind}
-use Rattle.js_base.specs.declared.kind.Kind.TheVariants.{Eof, RCurly}
-use Rattle.js_base.specs.Kinds.{same_kind}
+use Rattle.js_base.specs.declared.kind.Kind.TheVariants.{Case, Default, Eof, RCurly}
+use Rattle.js_base.specs.Kinds.{same_kind, one_of_kinds}
 use Rattle.js_grammar.specs.Trees.{Label, Slots, end as no_slots, tree, append}
 use Rattle.js_grammar.specs.Grammar.{Lexemes, Look, many}
 use Rattle.js_grammar.specs.Parsing.{plain, Fails}
@@ -17,38 +17,42 @@ use Rattle.js_parsing.specs.Lexemes.{Lex, Walked, spot}
 use Rattle.js_parsing.specs.States.{At, Same}
 use Rattle.js_parsing.specs.Answers.{Verdict, Stretch, Stops}
 use Rattle.js_statements.specs.declared.statement_list.StatementList.{StatementList}
-use Rattle.js_statements.specs.declared.statement_list.StatementList.TheVariants.{Text, Block, Body}
+use Rattle.js_statements.specs.declared.statement_list.StatementList.TheVariants.{Text, Block, Body, Clause}
 
 -- whether it begins with directives
 abbrev pub has_directives : StatementList → Bool
 has_directives Text = true
 has_directives Block = false
 has_directives Body = true
+has_directives Clause = false
 
--- the kind of the lexeme that ends it
-abbrev pub end_kind : StatementList → Kind
-end_kind Text = Eof
-end_kind Block = RCurly
-end_kind Body = RCurly
+-- a lexeme of this kind ends it
+abbrev pub ends_at : StatementList → Kind → Bool
+ends_at Text k = same_kind Eof k
+ends_at Block k = same_kind RCurly k
+ends_at Body k = same_kind RCurly k
+ends_at Clause k = one_of_kinds (Case ∷ Default ∷ RCurly ∷ []) k
 
 abbrev pub at_end : StatementList → Look
-at_end l k w e = same_kind (end_kind l) k
+at_end l k w e = ends_at l k
 
 -- that lexeme, or the text's end, or what begins no lexeme
 abbrev pub ends_list : StatementList → Kind → Bool
-ends_list l k = same_kind (end_kind l) k || is_last k
+ends_list l k = ends_at l k || is_last k
 
 -- it stands in braces
 abbrev pub ends_in_brace : StatementList → Bool
 ends_in_brace Text = false
 ends_in_brace Block = true
 ends_in_brace Body = true
+ends_in_brace Clause = false
 
 -- its items
 abbrev pub item_of : StatementList → Name
 item_of Text = Item
 item_of Block = ListItem
 item_of Body = ListItem
+item_of Clause = ListItem
 
 -- directives and then statements; statements alone
 abbrev pub with_directives : StatementList → Flags → G
@@ -62,6 +66,7 @@ abbrev pub list_of : StatementList → Flags → G
 list_of Text f = with_directives Text f
 list_of Block f = statements Block f
 list_of Body f = with_directives Body f
+list_of Clause f = statements Clause f
 
 -- nothing is derived from the place up to what ends the list
 abbrev pub NoList : List ℕ → StatementList → G → ℕ → Type 0

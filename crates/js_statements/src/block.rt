@@ -3,7 +3,7 @@
 ghost use Rattle.std.specs.Prelude.{◌≡◌, true, MatchResult};
 ghost use Rattle.js_base.specs.Contexts.{has_flag, in_flag};
 ghost use Rattle.js_base.specs.declared.kind.Kind.TheVariants.{LCurly};
-ghost use Rattle.js_grammar.specs.Productions.{at, Body};
+ghost use Rattle.js_grammar.specs.Productions.{at, Block, Body};
 ghost use Rattle.js_parsing.specs.Answers.{Answers};
 ghost use Rattle.js_parsing.specs.Nesting.{CanNest, room};
 ghost use Rattle.js_parsing.specs.States.{Standing};
@@ -35,6 +35,23 @@ pub fn parse_block_statement<C: ParserConfig, N: Nested<C>>(
     let items = parse_braces(p, nested, StatementList::Block)?;
     let span = p.end_span(start);
     let node = make_list(p, NodeKind::BlockStatement, Op::None, span, items)?;
+    Ok(node)
+}
+
+/// A Block (ECMA-262, section 14.2).
+pub fn parse_block<C: ParserConfig, N: Nested<C>>(
+    p: &mut ParserImpl<'_, C>,
+    nested: &N,
+) -> Result<NodeId, Stop>
+    requires at { Standing p.old }
+    requires nests { CanNest (N.can nested.now) (room p.old) }
+    requires allows_in { has_flag in_flag p.old.ctx ≡ true }
+    ensures { Answers (at Block) p.old p.new result }
+{
+    let start = p.cur_start();
+    let statements = parse_braces(p, nested, StatementList::Block)?;
+    let span = p.end_span(start);
+    let node = make_list(p, NodeKind::BlockStatement, Op::None, span, statements)?;
     Ok(node)
 }
 

@@ -1,14 +1,13 @@
-//! Directives and statements, one behind the other, and what stands in braces (ECMA-262, sections 11.2.1, 14.2, 15.2 and
-//! 16.1).
+//! Directives and statements, one behind the other, and what stands in braces (ECMA-262, sections 11.2.1, 14.2, 14.12, 15.2
+//! and 16.1).
 
 ghost use Rattle.std.specs.Prelude.{◌≡◌, ◌<◌, ◌+◌, ◌↔◌, IsTrue, true, cond, length, MatchResult};
 ghost use Rattle.js_base.specs.Contexts.{has_flag, in_flag};
 ghost use Rattle.js_base.specs.declared.kind.Kind.TheVariants.{Str};
-ghost use Rattle.js_base.specs.Kinds.{same_kind};
 ghost use Rattle.js_tree.specs.Nodes.{node_at};
 ghost use Rattle.js_tree.specs.declared.kind.NodeKind.TheVariants.{Directive, ExpressionStatement, StringLiteral};
 ghost use Rattle.js_parsing.specs.Nesting.{CanNest, room};
-ghost use Rattle.js_statements.specs.StatementLists.{AllRefused, AllTaken, DirectivesTaken, OpeningRefused, OpeningTaken, end_kind, ends_list, has_directives};
+ghost use Rattle.js_statements.specs.StatementLists.{AllRefused, AllTaken, DirectivesTaken, OpeningRefused, OpeningTaken, ends_at, ends_list, has_directives};
 ghost use Rattle.js_parsing.specs.States.{Standing};
 
 use crate::statement::end_statement;
@@ -29,6 +28,8 @@ pub enum StatementList {
     Block,
     /// In a FunctionBody, up to its closing brace (ECMA-262, section 15.2).
     Body,
+    /// In a CaseClause or a DefaultClause, up to the next one or the closing brace (ECMA-262, section 14.12).
+    Clause,
 }
 
 impl StatementList {
@@ -38,17 +39,18 @@ impl StatementList {
     {
         match self {
             StatementList::Text | StatementList::Body => true,
-            StatementList::Block => false,
+            StatementList::Block | StatementList::Clause => false,
         }
     }
 
     /// Whether a lexeme of this kind ends it.
-    fn ends_at(self, kind: Kind) -> bool
-        ensures { result ≡ same_kind (end_kind self) kind }
+    pub(crate) fn ends_at(self, kind: Kind) -> bool
+        ensures { result ≡ ends_at self kind }
     {
         match self {
             StatementList::Text => matches!(kind, Kind::Eof),
             StatementList::Block | StatementList::Body => matches!(kind, Kind::RCurly),
+            StatementList::Clause => matches!(kind, Kind::Case | Kind::Default | Kind::RCurly),
         }
     }
 }
@@ -82,7 +84,7 @@ fn at_last<C: ParserConfig>(p: &ParserImpl<'_, C>, list: StatementList) -> bool
 }
 
 /// Directives, as long as a string alone is a statement; and a statement that begins with a string and is none. A Block has no
-/// directives.
+/// directives, nor has a clause.
 fn parse_directives<C: ParserConfig, N: Nested<C>>(
     p: &mut ParserImpl<'_, C>,
     nested: &N,

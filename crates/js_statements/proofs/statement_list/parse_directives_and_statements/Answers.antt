@@ -18,15 +18,15 @@ pub returns-in_err-statement : goal.returns-in_err-statement
 returns-in_err-statement t c =
     let p = err_from_is_err_and c.from_residual-in_err-statement.result c.from_residual-in_err-statement.ensures.1 in
     let s = c.statements.invariant in
-    let n = goes_on_here c.args.list (sym c.at_last.ensures ∙ c.statements-test.true) in
+    let n = goes_on_here c.args.list _ (sym c.at_last.ensures ∙ c.statements-test.true) in
     rw (p.1, p.2) (at_any (λ (text : List ℕ) (f : Flags). Stops c.args.p.now c.list_item.new.p _ (NoList text c.args.list (list_of c.args.list f) c.args.p.now.prev_token_end)) (stops_behind _ _ s.same (λ g. after s.verdict g) (λ z. none_left s (no_statement_here s.at c.args.list n z)) (c.in_err-statement.ensures _ _ s.at)))
 
 pub statements-smaller : goal.statements-smaller
 statements-smaller t c =
     let s = c.statements.invariant in
-    smaller_room s.at (statement_taken s.at c.args.list (goes_on_here c.args.list (sym c.at_last.ensures ∙ c.statements-test.true)) (c.in_ok-statement.ensures _ _ s.at))
+    smaller_room s.at (statement_taken s.at c.args.list (goes_on_here c.args.list _ (sym c.at_last.ensures ∙ c.statements-test.true)) (c.in_ok-statement.ensures _ _ s.at))
 
 pub statements-preserved : goal.statements-preserved
 statements-preserved t c =
     let s = c.statements.invariant in
-    one_taken_more s (statement_taken s.at c.args.list (goes_on_here c.args.list (sym c.at_last.ensures ∙ c.statements-test.true)) (c.in_ok-statement.ensures _ _ s.at)) c.in_ok-push.ensures.items
+    one_taken_more s (statement_taken s.at c.args.list (goes_on_here c.args.list _ (sym c.at_last.ensures ∙ c.statements-test.true)) (c.in_ok-statement.ensures _ _ s.at)) c.in_ok-push.ensures.items
