@@ -361,7 +361,7 @@ module _ {text : List ℕ} {f : Flags} where
           pass = pair_pass;
           walked = walked_to (sym c.spot_is) (walked_both s.walked (walked_both (walked_one m) x.answer.walked));
           verdict = subst (λ (e : ℕ). Verdict p.errors w.errors (Begun text f p.prev_token_end p.token.span.start pair_label pair_slots pair_pass e) Nowhere) (sym c.place) c.verdict;
-          stops = subst (λ (e : ℕ). (y : Lexeme) → Lex text e y → IsTrue (seen (looser 5 f.in_ (row_of pair_label pair_slots)) y || seen beside y)) (sym c.place) pair_stops;
+          stops = subst (λ (e : ℕ). (y : Lexeme) → Plain text e y → IsTrue (seen (looser 5 f.in_ (row_of pair_label pair_slots)) y || seen beside y)) (sym c.place) pair_stops;
           holds = two_held n s.holds s.keeps right_held right_keeps;
           keeps = Keeps-trans s.keeps (Keeps-trans right_keeps (Keeps-made n.made));
         })

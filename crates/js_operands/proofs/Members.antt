@@ -190,7 +190,7 @@ no_name {text} {f} {p} a r = fails_by (fails_node inside_full (fails_lexeme any_
 pub taken : {text : List ℕ} {f : Flags} {n : Symbol} {p q : Parser} {id : NodeId} (x : Numbered text f n p q id) → same_row after_expression (row_of x.answer.label x.answer.slots) ≡ true → Taken text f p q id (λ l cs pass s'. Stretch text (after n) (such n always) p.prev_token_end nothing s' (tree l cs) pass) (Underived text n p.prev_token_end)
 taken x r = record { at = x.answer.at; same = x.answer.same; further = x.answer.further; label = x.answer.label; slots = x.answer.slots; row = r; pass = x.answer.pass; walked = x.answer.walked; verdict = x.answer.verdict; holds = x.holds; keeps = x.keeps }
 
-pub numbered : {text : List ℕ} {f : Flags} {n : Symbol} {p q : Parser} {id : NodeId} (x : Taken text f p q id (λ l cs pass s'. Stretch text (after n) (such n always) p.prev_token_end nothing s' (tree l cs) pass) (Underived text n p.prev_token_end)) → may_end n.name (row_of x.label x.slots) ≡ true → ((y : Lexeme) → Lex text q.prev_token_end y → IsTrue (seen (follow n (edge_of x.label x.slots)) y || seen beside y)) → Numbered text f n p q id
+pub numbered : {text : List ℕ} {f : Flags} {n : Symbol} {p q : Parser} {id : NodeId} (x : Taken text f p q id (λ l cs pass s'. Stretch text (after n) (such n always) p.prev_token_end nothing s' (tree l cs) pass) (Underived text n p.prev_token_end)) → may_end n.name (row_of x.label x.slots) ≡ true → ((y : Lexeme) → Plain text q.prev_token_end y → IsTrue (seen (follow n (edge_of x.label x.slots)) y || seen beside y)) → Numbered text f n p q id
 numbered x r s = record { answer = record { at = x.at; same = x.same; further = x.further; label = x.label; slots = x.slots; stops = s; row = r; pass = x.pass; walked = x.walked; verdict = x.verdict }; holds = x.holds; keeps = x.keeps }
 
 pub retake : {text : List ℕ} {f : Flags} {C D : Label → Slots → (Lexemes → Lexemes) → ℕ → Type 0} {A B : Type 0} {p q : Parser} {id : NodeId} → Taken text f p q id C A → ((l : Label) (cs : Slots) (pass : Lexemes → Lexemes) → C l cs pass q.prev_token_end → D l cs pass q.prev_token_end) → (A → B) → Taken text f p q id D B
