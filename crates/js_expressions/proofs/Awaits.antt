@@ -24,7 +24,7 @@ use Rattle.js_tree.specs.Nodes.{Node}
 use Rattle.js_tree.specs.Holding.{Holds, Keeps}
 use Rattle.js_tree.proofs.HoldingLemmas.{Keeps-trans, Keeps-made}
 use Rattle.js_cursor.specs.Parsers.{Parser}
-use Rattle.js_expressions.specs.Exponents.{AwaitsHere, begins_by_unary}
+use Rattle.js_expressions.specs.Exponents.{AwaitsHere}
 use Rattle.js_parsing.specs.Answers.{Underived, Answer, Numbered}
 use Rattle.js_parsing.specs.Lexemes.{Lex}
 use Rattle.js_parsing.specs.Moves.{Moved, MadeHere, plain_label}
@@ -73,17 +73,3 @@ not_awaiting {f = f} {p = p} a n k = go (has_flag await_flag p.ctx) refl
 
 pub awaits_at : {text : List ℕ} {f : Flags} {p : Parser} → At text f p → has_flag await_flag p.ctx ≡ true → f.await_ ≡ true
 awaits_at a h = sym (ap (λ (g : Flags). g.await_) a.flags_are) ∙ h
-
--- whether a unary operator or `await` stands here, by two tests
-both_tests : (o : Bool) {p : Parser} (b : Bool) → (IsTrue b → AwaitsHere p) → (AwaitsHere p → IsTrue b) → (o || b) ≡ (o || (same_kind Await p.token.kind && has_flag await_flag p.ctx))
-both_tests true b f g = refl
-both_tests false {p} true f g = let h = f refl in sym (rw (h.kind, h.awaits) refl)
-both_tests false {p} false f g = go (same_kind Await p.token.kind) (has_flag await_flag p.ctx) refl refl
-  where
-    go : (c d : Bool) → same_kind Await p.token.kind ≡ c → has_flag await_flag p.ctx ≡ d → false ≡ (c && d)
-    go true true i j = absurd (false≢true (g (record { kind = sym (kind_of_same Await p.token.kind i); awaits = j })))
-    go true false i j = refl
-    go false d i j = refl
-
-pub begun_unary : {p : Parser} (o b : Bool) → o ≡ one_of_kinds unary_kinds p.token.kind → (IsTrue b → AwaitsHere p) → (AwaitsHere p → IsTrue b) → (o || b) ≡ begins_by_unary (has_flag await_flag p.ctx) p.token.kind
-begun_unary {p} o b e f g = both_tests o b f g ∙ ap (λ (c : Bool). c || (same_kind Await p.token.kind && has_flag await_flag p.ctx)) e

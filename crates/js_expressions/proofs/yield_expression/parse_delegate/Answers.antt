@@ -15,7 +15,7 @@ pub advance-requires-clause-whole : goal.advance-requires-clause-whole
 advance-requires-clause-whole g c = (uncut c.requires.at (ap (same_kind RAngle) c.requires.star), ap unpassable c.requires.star)
 
 pub returns-in_err-advance : goal.returns-in_err-advance
-returns-in_err-advance g c = λ text f first a y m w s. let p = err_from_is_err_and c.from_residual-in_err-advance.result c.from_residual-in_err-advance.ensures.1 in rw (p.1, p.2) (memory_stops _ _ _ _ c.in_err-advance.ensures)
+returns-in_err-advance g c = λ text f first a y m w s. let p = err_from_is_err_and c.from_residual.result c.from_residual.ensures.1 in rw (p.1, p.2) (memory_stops _ _ _ _ c.in_err-advance.ensures)
 
 pub assignment-requires : goal.assignment-requires
 assignment-requires g c = let m = c.in_ok-advance.ensures _ _ c.requires.at in c.requires.nests _ _ (standing m.at) (nested_room c.requires.at m)

@@ -43,8 +43,8 @@ returns-in_err-argument g c = λ text f a.
     let z = argued_is _ _ (sym c.is_bare.ensures ∙ c.if-is_bare.false) in
     rw (p.1, p.2) (stops_behind _ _ m.same (λ g. grown_then m.kept g) (argument_none a c.requires.word m z.0 z.1 (λ k. false≢true (sym c.if-at.false ∙ c.at.ensures.1 k))) (c.in_err-argument.ensures text f m.at))
 
-pub end_span-span-2-requires : goal.end_span-span-2-requires
-end_span-span-2-requires g c =
+pub end_span-span-requires-2 : goal.end_span-span-requires-2
+end_span-span-requires-2 g c =
     let m = c.in_ok-advance.ensures _ _ c.requires.at in
     let x = (c.in_ok-argument.ensures _ _ m.at).answer in
     let a = m.further in let b = x.further in let d = m.at.behind in let s = c.cur_start-start.ensures in omega arith
