@@ -176,7 +176,6 @@ fn is_read_reserved_word(kind: Kind) -> bool
             | Kind::Try
             | Kind::Catch
             | Kind::Finally
-            | Kind::For
             | Kind::If
             | Kind::Else
             | Kind::While
