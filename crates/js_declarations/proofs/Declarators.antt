@@ -36,7 +36,7 @@ use Rattle.js_base.specs.declared.diagnostic.DiagnosticClass.TheVariants.{Early}
 use Rattle.js_base.specs.Diagnostics.{class_of}
 use Rattle.js_cursor.specs.Moves.{Keeps as KeepsOne}
 use Rattle.js_parsing.specs.Answers.{Grown, Verdict, Stretch, Underived, Answer, Numbered, Stops, beside, unclean}
-use Rattle.js_parsing.specs.Lexemes.{Lex, Walked, name_kinds, spot}
+use Rattle.js_parsing.specs.Lexemes.{Lex, Walked, name_kinds, spot, Plain}
 use Rattle.js_parsing.specs.Moves.{Moved, MadeHere, plain_label}
 use Rattle.js_parsing.specs.Stands.{NameHere}
 use Rattle.js_parsing.specs.States.{At, Same, NodesLie}
@@ -53,7 +53,7 @@ use Rattle.js_parsing.proofs.Moving.{beside_nodes, same_both, same_with, stops_b
 use Rattle.js_parsing.proofs.Paths.{fails_at, label_here, not_here, skips, walked_both, walked_one, walked_to}
 use Rattle.js_parsing.proofs.Phrases.{narrow_assignment, narrow_operand}
 use Rattle.js_parsing.proofs.Signs.{other_kind, plain_sign}
-use Rattle.js_parsing.proofs.Tight.{narrows, read_plain}
+use Rattle.js_parsing.proofs.Tight.{narrows, read_plain, plain_is_read, plain_lex}
 use Rattle.js_parsing.proofs.Told.{told_at, told_same}
 use Rattle.js_parsing.proofs.Verdicts.{and_then, behind_none, either_way, grown_then, verdict_of}
 use Rattle.js_parsing.proofs.Verdicts.{after as grown_behind}
@@ -293,7 +293,7 @@ module _ {text : List ℕ} {f : Flags} {p q : Parser} (a : At text f p) (x : Ans
 -- a node of a declarator was made
 declared : {text : List ℕ} {f : Flags} {c : Bool} {p w : Parser} (q : Parser) {l : Label} {cs : Slots} {id : NodeId} {pass : Lexemes → Lexemes} → At text f q → Same p q → p.token.span.start < q.prev_token_end → Walked text (spot p) (spot q) pass
     → Verdict p.errors q.errors (One text (declarator c f) p.prev_token_end q.prev_token_end l cs pass) (NoOne text (declarator c f) p.prev_token_end) → apart (is Comma) (ends_row (row_of l cs)) ≡ true
-    → (f.in_ ≡ true → (q.token.kind ≡ Comma → ⊥) → (y : Lexeme) → Lex text q.prev_token_end y → IsTrue (seen (stops_row (row_of l cs)) y)) → w ≡ record q { nodes = w.nodes } → Holds w.nodes (length p.nodes) (length w.nodes) id.0 l cs → Keeps p.nodes w.nodes
+    → (f.in_ ≡ true → (q.token.kind ≡ Comma → ⊥) → (y : Lexeme) → Plain text q.prev_token_end y → IsTrue (seen (stops_row (row_of l cs)) y)) → w ≡ record q { nodes = w.nodes } → Holds w.nodes (length p.nodes) (length w.nodes) id.0 l cs → Keeps p.nodes w.nodes
     → (IsCharBoundary p.text p.token.span.start → NodesLie q.text q.nodes → NodesLie q.text w.nodes) → Declarator text f c p w id
 declared {text} {f} {c} {p} {w} q {l} {cs} {id} {pass} at same further walked verdict comma stops m h k i = go w.nodes m h k i
   where
@@ -314,19 +314,19 @@ declared {text} {f} {c} {p} {w} q {l} {cs} {id} {pass} at same further walked ve
     })
 
 -- nothing goes on with an initialiser that no comma stands behind
-value_ends : {text : List ℕ} {f : Flags} {r v : Parser} → (y : Answer text f (at Assignment f) r v) → f.in_ ≡ true → (v.token.kind ≡ Comma → ⊥) → (z : Lexeme) → Lex text v.prev_token_end z → IsTrue (seen (stops_row (row_of y.label y.slots)) z)
+value_ends : {text : List ℕ} {f : Flags} {r v : Parser} → (y : Answer text f (at Assignment f) r v) → f.in_ ≡ true → (v.token.kind ≡ Comma → ⊥) → (z : Lexeme) → Plain text v.prev_token_end z → IsTrue (seen (stops_row (row_of y.label y.slots)) z)
 unfolding covers apart
 value_ends {text} {f} {r} {v} y i n z l =
     let row = row_of y.label y.slots in
     let s = narrows 2 1 (Comma ∷ []) f.in_ row (narrow_assignment 2 1 (Comma ∷ []) (narrow_operand 2 1 (Comma ∷ []) refl refl refl refl) refl refl refl refl f.in_ row y.row) z l.1 (no_comma (one_of_kinds (Comma ∷ []) z.kind) refl) (y.stops z l) in
-    covered (ends_value row) (stops_row row) (value_stops row) z.kind z.newline z.escaped (and_from _ _ (ap not (read_plain z l.1)) (subst (λ (b : Bool). IsTrue (seen (looser 1 b row) z || seen beside z)) i s))
+    covered (ends_value row) (stops_row row) (value_stops row) z.kind z.newline z.escaped (and_from _ _ (ap not (read_plain z (plain_is_read z l.1))) (subst (λ (b : Bool). IsTrue (seen (looser 1 b row) z || seen beside z)) i s))
   where
     no_comma : (b : Bool) → one_of_kinds (Comma ∷ []) z.kind ≡ b → one_of_kinds (Comma ∷ []) z.kind ≡ false
-    no_comma true e = absurd (not_here y.at (Comma ∷ []) refl (other_kind Comma v.token.kind n) z l e)
+    no_comma true e = absurd (not_here y.at (Comma ∷ []) refl (other_kind Comma v.token.kind n) z (plain_lex l) e)
     no_comma false e = e
 
 -- nor with a name alone that neither stands behind
-name_ends : {text : List ℕ} {f : Flags} {q : Parser} → At text f q → (q.token.kind ≡ Eq → ⊥) → (q.token.kind ≡ Comma → ⊥) → (y : Lexeme) → Lex text q.prev_token_end y → IsTrue (seen (stops_row after_declarator) y)
+name_ends : {text : List ℕ} {f : Flags} {q : Parser} → At text f q → (q.token.kind ≡ Eq → ⊥) → (q.token.kind ≡ Comma → ⊥) → (y : Lexeme) → Plain text q.prev_token_end y → IsTrue (seen (stops_row after_declarator) y)
 unfolding apart
 name_ends {q = q} a n m y l = or_right (one_of_kinds link_kinds y.kind) _ (ap not (neither (one_of_kinds (Eq ∷ Comma ∷ []) y.kind) refl))
   where
@@ -338,7 +338,7 @@ name_ends {q = q} a n m y l = or_right (one_of_kinds link_kinds y.kind) _ (ap no
         by false e = other_kind Comma q.token.kind m
 
     neither : (b : Bool) → one_of_kinds (Eq ∷ Comma ∷ []) y.kind ≡ b → one_of_kinds (Eq ∷ Comma ∷ []) y.kind ≡ false
-    neither true e = absurd (not_here a (Eq ∷ Comma ∷ []) refl none y l e)
+    neither true e = absurd (not_here a (Eq ∷ Comma ∷ []) refl none y (plain_lex l) e)
     neither false e = e
 
 module _ {text : List ℕ} {f : Flags} {p q : Parser} {binding : NodeId} (a : At text f p) (x : Numbered text f (at Binding f) p q binding) where

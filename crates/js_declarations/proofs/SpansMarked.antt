@@ -17,7 +17,7 @@ use Rattle.js_cursor.specs.Parsers.{Parser}
 use Rattle.js_cursor.specs.Places.{goal}
 use Rattle.js_cursor.proofs.Moving.{reached_next}
 use Rattle.js_cursor.proofs.Standing.{counts}
-use Rattle.js_parsing.specs.Lexemes.{Spot, Walked, nowhere, one_more, more_faults, spot}
+use Rattle.js_parsing.specs.Lexemes.{Spot, Walked, nowhere, one_more, read_again, more_faults, spot}
 use Rattle.js_parsing.specs.States.{At, Same}
 use Rattle.js_parsing.specs.Told.{unrelated_at}
 use Rattle.js_declarations.specs.Declarations.{missing, no_initialiser}
@@ -25,13 +25,15 @@ use Rattle.js_declarations.specs.Declarations.{missing, no_initialiser}
 -- what is walked to from a place that is reached is reached
 reached_along : {text : List ℕ} {s e : Spot} {pass : Lexemes → Lexemes} → Walked text s e pass → Reached text s.place → Reached text e.place
 reached_along nowhere r = r
-reached_along (one_more w i) r = reached_next (reached_along w r) i.stood
+reached_along (one_more w i n) r = reached_next (reached_along w r) i.stood
+reached_along (read_again w ds k i) r = reached_next (reached_along w r) i.stood
 reached_along (more_faults w ds n) r = reached_along w r
 
 -- and a lexeme ends there
 ends_along : {text : List ℕ} {s e : Spot} {pass : Lexemes → Lexemes} (source : Goal) → Walked text s e pass → Reached text s.place → s.place < e.place → EdgeOf source text e.place
 ends_along source nowhere r h = absurd (omega arith)
-ends_along source (one_more w i) r h = the_end (a_lexeme (reached_along w r) i.stood) refl
+ends_along source (one_more w i n) r h = the_end (a_lexeme (reached_along w r) i.stood) refl
+ends_along source (read_again w ds k i) r h = the_end (a_lexeme (reached_along w r) i.stood) refl
 ends_along source (more_faults w ds n) r h = ends_along source w r h
 
 module _ {text : List ℕ} {f : Flags} {p q : Parser} {pass : Lexemes → Lexemes} (a : At text f p) (n : p.token.kind ≡ Undetermined → ⊥) (b : At text f q) (c : Same p q) (w : Walked text (spot p) (spot q) pass) (l : p.token.span.start < q.prev_token_end) where

@@ -4,7 +4,7 @@ use Rattle.std.specs.Prelude.{IsCharBoundary, Result, Ok, Err, nat_lt}
 use Rattle.std.proofs.lemmas.Bool.{false≢true, and_parts, and_from, or_left, or_right}
 use Rattle.js_base.specs.Contexts.{has_flag, yield_flag}
 use Rattle.js_base.specs.declared.kind.Kind.{Kind}
-use Rattle.js_base.specs.declared.kind.Kind.TheVariants.{Arrow, Await, Comma, LParen, LCurly, RAngle, Yield}
+use Rattle.js_base.specs.declared.kind.Kind.TheVariants.{Arrow, Await, Comma, LParen, LCurly, RAngle, Yield, RegExp}
 use Rattle.js_base.specs.declared.span.Span.{Span}
 use Rattle.js_base.specs.Kinds.{same_kind, one_of_kinds}
 use Rattle.js_base.specs.Texts.{words}
@@ -75,7 +75,7 @@ use Rattle.js_expressions.specs.Closings.{ArrowBehindOne}
 use Rattle.js_expressions.proofs.Closings.{closes_alike, one_is}
 use Rattle.js_cursor.specs.Tokens.{may_be_read_again}
 use Rattle.js_parsing.proofs.KeptTokens.{before_back, last_back}
-use Rattle.js_parsing.specs.Lexemes.{Lex, may_name, name_kinds, spot}
+use Rattle.js_parsing.specs.Lexemes.{Lex, name_kinds, spot, slashes, Plain, may_name}
 use Rattle.js_parsing.specs.Moves.{Moved, MadeHere, LeafTaken, TakesLeaf, plain_label}
 use Rattle.js_parsing.specs.States.{At, Same, Standing, flags_of, IsPlain, whole, sign, nothing as nothing_here, NodesLie, SpansLie}
 use Rattle.js_targets.proofs.ArraysBeforeSigns.{is_cover, not_wide}
@@ -92,10 +92,10 @@ use Rattle.js_parsing.proofs.Told.{beside_errors}
 use Rattle.js_parsing.proofs.Unbuilt.{nothing_unbuilt}
 use Rattle.js_parsing.proofs.ToEnd.{to_end_stays}
 use Rattle.js_parsing.proofs.Giving.{kept_one}
-use Rattle.js_parsing.proofs.Here.{alike, angled, found, plainly, one_plain, newline_here, kind_here, told, uncut}
+use Rattle.js_parsing.proofs.Here.{alike, angled, found, plainly, one_plain, newline_here, kind_here, told, uncut, told_plain, plain_there, Plainly}
 use Rattle.js_parsing.proofs.MadeNodes.{leaf_held, node_held, two_held, one_lies, LabelLies, from_start}
 use Rattle.js_parsing.proofs.Moving.{beside_nodes, flags_same, heads_kept, same_both, same_itself, same_with, stops_behind, nodes_lie}
-use Rattle.js_operands.proofs.Operands.{by_path, by_such}
+use Rattle.js_operands.proofs.Operands.{by_path, by_such, name_slashless}
 use Rattle.js_patterns.proofs.Bindings.{bound_path, ended_by, then_any}
 use Rattle.js_parsing.proofs.Paths.{Path, ◌⟼◌, ◌⟶◌, ◌⟶✗◌, fails_at, not_here, token, last_called, noded, noded_by, by_symbol_as, label_here, read_of, walked_both, walked_from, walked_one}
 use Rattle.js_parsing.proofs.Signs.{none_kept, plain_of}
@@ -105,22 +105,59 @@ use Rattle.js_parsing.proofs.Verdicts.{grown_first, grown_then, grown_both}
 use Rattle.js_parsing.specs.Classes.{IsEarly}
 use Rattle.js_parsing.proofs.Classes.{kept_early}
 use Rattle.std.proofs.lemmas.List.Elements.{All-same}
+use Rattle.js_grammar.proofs.Alike.{lex-same}
 
 -- ---- what begins like a head, with `=>` behind it, is no operand
 
 none_open : {b : ℕ} {s : List ℕ} → Some [] ≡ Some (b ∷ s) → ⊥
 none_open e = cc
 
--- two lists of lexemes from one place go on alike
-agree : (text : List ℕ) (s : ℕ) {st : List ℕ} {ls ls' r r' : Lexemes} {e e' : ℕ} → Lexes (Lex text) s ls → Lexes (Lex text) s ls' → One st ls e r → One st ls' e' r' → (e ≡ e') × Lexes (Lex text) e r × Lexes (Lex text) e' r'
-agree text s l m (the_last {x = x} p) (the_last {x = y} q) = (ap (λ (z : Lexeme). z.to) (alike l.0 m.0), l.1, m.1)
-agree text s {st = st} l m (the_last {x = x} p) (and_more {x = y} q o) = absurd (none_open (sym p ∙ (ap (λ (z : Lexeme). move (bracket z.kind) st) (alike l.0 m.0) ∙ q)))
-agree text s {st = st} l m (and_more {x = x} p o) (the_last {x = y} q) = absurd (none_open (sym q ∙ (ap (λ (z : Lexeme). move (bracket z.kind) st) (sym (alike l.0 m.0)) ∙ p)))
-agree text s {st = st} {r' = r'} {e' = e'} l m (and_more {b = b} {s = t} {x = x} p o) (and_more {b = c} {s = u} {x = y} {ls = ls'} q o') =
-    let w : x ≡ y = alike l.0 m.0 in
+-- a lexeme that is the same in every lexical goal
+abbrev calm : Kind → Bool
+calm k = not (one_of_kinds (RegExp ∷ slashes) k)
+
+-- each lexeme is, up to where no bracket is open
+abbrev AllCalm : {st : List ℕ} {ls r : Lexemes} {e : ℕ} → One st ls e r → Type 0
+AllCalm (the_last {x = x} p) = calm x.kind ≡ true
+AllCalm (and_more {x = x} p o) = (calm x.kind ≡ true) × AllCalm o
+
+-- it is what stands there
+one_calm : {text : List ℕ} {s : ℕ} {x y : Lexeme} → Lex text s x → Lex text s y → calm x.kind ≡ true → x ≡ y
+one_calm {text} {s} {x} {y} l m c = by (plain_there m)
+  where
+    parts : (a b : Bool) → not (a || b) ≡ true → (a ≡ false) × (b ≡ false)
+    parts true b h = absurd (false≢true h)
+    parts false true h = absurd (false≢true h)
+    parts false false h = (refl, refl)
+
+    k : (same_kind RegExp x.kind ≡ false) × (one_of_kinds slashes x.kind ≡ false)
+    k = parts (same_kind RegExp x.kind) (one_of_kinds slashes x.kind) c
+
+    by : Plainly text s y → x ≡ y
+    by z = which z.which
+      where
+        same : x ≡ z.lexeme
+        same = lex-same l.0 z.stands.lex (plainly l.0 l.1 k.0 ∙ sym z.stands.of_goal)
+
+        which : (z.lexeme ≡ y) ⊎ ((y.kind ≡ RegExp) × (one_of_kinds slashes z.lexeme.kind ≡ true)) → x ≡ y
+        which (inl e) = same ∙ e
+        which (inr e) = absurd (false≢true (sym k.1 ∙ subst (λ (v : Lexeme). one_of_kinds slashes v.kind ≡ true) (sym same) e.1))
+
+-- two lists of lexemes from one place go on alike, where those of the first are the same in every lexical goal
+agree : (text : List ℕ) (s : ℕ) {st : List ℕ} {ls ls' r r' : Lexemes} {e e' : ℕ} → Lexes (Lex text) s ls → Lexes (Lex text) s ls' → (o : One st ls e r) → One st ls' e' r' → AllCalm o → (e ≡ e') × Lexes (Lex text) e r × Lexes (Lex text) e' r'
+agree text s l m (the_last {x = x} p) (the_last {x = y} q) c = (ap (λ (z : Lexeme). z.to) (one_calm l.0 m.0 c), l.1, m.1)
+agree text s {st = st} l m (the_last {x = x} p) (and_more {x = y} q o) c = absurd (none_open (sym p ∙ (ap (λ (z : Lexeme). move (bracket z.kind) st) (one_calm l.0 m.0 c) ∙ q)))
+agree text s {st = st} l m (and_more {x = x} p o) (the_last {x = y} q) c = absurd (none_open (sym q ∙ (ap (λ (z : Lexeme). move (bracket z.kind) st) (sym (one_calm l.0 m.0 c.0)) ∙ p)))
+agree text s {st = st} {r' = r'} {e' = e'} l m (and_more {b = b} {s = t} {x = x} p o) (and_more {b = c} {s = u} {x = y} {ls = ls'} q o') d =
+    let w : x ≡ y = one_calm l.0 m.0 d.0 in
     let v : Some (c ∷ u) ≡ Some (b ∷ t) = sym q ∙ (ap (λ (z : Lexeme). move (bracket z.kind) st) (sym w) ∙ p) in
     let z : c ∷ u ≡ b ∷ t = cc in
-    agree text x.to l.1 (subst (λ (x : Lexeme). Lexes (Lex text) x.to ls') (sym w) m.1) o (subst (λ (n : List ℕ). One n ls' e' r') z o')
+    agree text x.to l.1 (subst (λ (x : Lexeme). Lexes (Lex text) x.to ls') (sym w) m.1) o (subst (λ (n : List ℕ). One n ls' e' r') z o') d.1
+
+-- the first one is
+first_calm : {st : List ℕ} {ls r : Lexemes} {e : ℕ} (o : One st ls e r) → AllCalm o → calm (here ls).kind ≡ true
+first_calm (the_last p) c = c
+first_calm (and_more p o) c = c.0
 
 -- an arrow binds tighter than any operator
 abbrev an_arrow : Look
@@ -141,15 +178,15 @@ contrary : (b : Bool) → not b ≡ true → b ≡ true → ⊥
 contrary true h e = false≢true h
 contrary false h e = false≢true e
 
-pub no_operand : {text : List ℕ} (f : Flags) {s : ℕ} {ls r : Lexemes} {e : ℕ} → Lexes (Lex text) s ls → One [] ls e r → IsTrue (seen begins_head (here ls)) → same_kind Arrow (here r).kind ≡ true → Underived text (at Short f) s
-no_operand {text} f {s} {ls} {r} {e} l o b k = record { no = λ ts vs j ls' rest m d a. go ts m d a }
+pub no_operand : {text : List ℕ} (f : Flags) {s : ℕ} {ls r : Lexemes} {e : ℕ} → Lexes (Lex text) s ls → (o : One [] ls e r) → AllCalm o → IsTrue (seen begins_head (here ls)) → same_kind Arrow (here r).kind ≡ true → Underived text (at Short f) s
+no_operand {text} f {s} {ls} {r} {e} l o c b k = record { no = λ ts vs j ls' rest m d a. go ts m d a }
   where
     go : (ts : Slots) {vs : Slots} {j : ℕ} {ls' rest : Lexemes} → Lexes (Lex text) s ls' → Takes rule (such (at Short f) always) end ts s ls' vs j rest → Admits (after (at Short f)) ts (here rest) → ⊥
     go ts {ls' = ls'} {rest = rest} m d a =
-        let same : here ls ≡ here ls' = alike (here_at (Lex text) ls l) (here_at (Lex text) ls' m) in
+        let same : here ls ≡ here ls' = one_calm (here_at (Lex text) ls l) (here_at (Lex text) ls' m) (first_calm o c) in
         let z = operand_taken (at Short f) refl d (subst (λ (y : Lexeme). IsTrue (seen begins_head y)) same b) in
-        let g = agree text s l m o z.2 in
-        let w : here r ≡ here z.1 = alike (here_at (Lex text) r g.1) (subst (λ (v : ℕ). Lex text v (here z.1)) (sym g.0) (here_at (Lex text) z.1 g.2)) in
+        let g = agree text s l m o z.2 c in
+        let w : here r ≡ here z.1 = one_calm (here_at (Lex text) r g.1) (subst (λ (v : ℕ). Lex text v (here z.1)) (sym g.0) (here_at (Lex text) z.1 g.2)) (ap calm (sym (kind_of_same Arrow (here r).kind k))) in
         let arrow : same_kind Arrow (here z.1).kind ≡ true = subst (λ (y : Lexeme). same_kind Arrow y.kind ≡ true) w k in
         let read : Lex text e (here r) = here_at (Lex text) r g.1 in
         elim z.3 [
@@ -247,7 +284,7 @@ unfolding bracket move
 no_arrow_behind {text} {f} {p} a k n = no_arrow f (one_arrow (λ ls mid e l o q. go ls mid e l o q))
   where
     there : (x : Lexeme) → Lex text p.prev_token_end x → (bracket x.kind ≡ bracket_plain) × (p.token.span.end ≡ x.to)
-    there x l = let t = told a (name_whole a k).0 x l in (name_no_bracket x.kind (subst (λ (v : Kind). one_of_kinds name_kinds v ≡ true) t.kind k), t.end)
+    there x l = let t = told a (name_whole a k).0 (name_slashless p.token.kind k) x l in (name_no_bracket x.kind (subst (λ (v : Kind). one_of_kinds name_kinds v ≡ true) t.kind k), t.end)
 
     go : (ls mid : Lexemes) (e : ℕ) → Lexes (Lex text) p.prev_token_end ls → One [] ls e mid → same_kind Arrow (here mid).kind ≡ true → ⊥
     go ls mid e l (the_last {x = x} m) q = n (here mid) (subst (λ (v : ℕ). Lex text v (here mid)) (sym (there x l.0).1) (here_at (Lex text) mid l.1)) (sym (kind_of_same Arrow (here mid).kind q))
@@ -319,8 +356,8 @@ module _ {text : List ℕ} {f : Flags} {p : Parser} {t : Token} (a : At text f p
   -- an arrow is told where it stands
   pub arrow_peeked : (y : Lexeme) → Lex text p.token.span.end y → y.kind ≡ Arrow → t.kind ≡ Arrow
   arrow_peeked y l k = given_behind
-      (λ d u n. absurd (n.none y (record { lex = l.0; of_goal = plainly l.0 l.1 })))
-      (λ x. x.tells.kind ∙ (ap (λ (z : Lexeme). z.kind) (cut_same x.lexeme (ap is_right_angle (ap (λ (z : Lexeme). z.kind) (sym (one_plain l x)) ∙ k))) ∙ (ap (λ (z : Lexeme). z.kind) (sym (one_plain l x)) ∙ k)))
+      (λ d u n. absurd (n.none y (record { lex = l.0; of_goal = plainly l.0 l.1 (ap (same_kind RegExp) k) })))
+      (λ x. x.tells.kind ∙ (ap (λ (z : Lexeme). z.kind) (cut_same x.lexeme (ap is_right_angle (ap (λ (z : Lexeme). z.kind) (sym (one_plain l (ap (same_kind RegExp) k) x)) ∙ k))) ∙ (ap (λ (z : Lexeme). z.kind) (sym (one_plain l (ap (same_kind RegExp) k) x)) ∙ k)))
 
   pub arrow_told : t.kind ≡ Arrow → (y : Lexeme) × Lex text p.token.span.end y × (y.kind ≡ Arrow)
   arrow_told k = given_behind (λ d u n. let w : Arrow ≡ Undetermined = sym k ∙ u in absurd (cc)) (λ x. by x (is_right_angle x.lexeme.kind) refl)
@@ -363,7 +400,7 @@ arrow_is_here {p = p} a y l k = by p.cut refl
   where
     by : (b : Bool) → p.cut ≡ b → p.token.kind ≡ Arrow
     by true e = absurd (false≢true (ap is_right_angle (sym k) ∙ angled a e y l))
-    by false e = (told a e y l).kind ∙ k
+    by false e = (told_plain a e y (ap (same_kind RegExp) k) l).kind ∙ k
 
 pub behind_so : (p q : Parser) {b r : Bool} → r ≡ b → ArrowBehind p q r → ArrowBehind p q b
 behind_so p q e h = subst (λ (v : Bool). ArrowBehind p q v) e h
@@ -416,7 +453,7 @@ no_operand_there {text} {f} {p} a k h = record { no = λ ts vs j ls rest m d e. 
         let z = operand_taken (at Short f) refl d (or_right (may_bind (here ls).kind) (same_kind LParen (here ls).kind) (ap (same_kind LParen) paren)) in
         let g = closes_alike text p.prev_token_end m z.2 h.closing in
         let l : Lex text z.0 (here z.1) = here_at (Lex text) z.1 g.1 in
-        let w : here z.1 ≡ h.arrow = one_is l (subst (λ (v : ℕ). LexemeBehind division text v h.arrow) (sym g.0) h.stands) in
+        let w : here z.1 ≡ h.arrow = one_is l (subst (λ (v : ℕ). LexemeBehind division text v h.arrow) (sym g.0) h.stands, ap (one_of_kinds slashes) h.is) in
         let arrow : same_kind Arrow (here z.1).kind ≡ true = ap (same_kind Arrow) (ap (λ (y : Lexeme). y.kind) w ∙ h.is) in
         elim z.3 [
           | inl q ↦
@@ -626,7 +663,7 @@ body_row after_declarator h = absurd (false≢true h)
 body_row after_word h = absurd (false≢true h)
 
 -- behind an arrow function stands what may stand behind its body: behind one in braces anything, but a comma goes on with what is around
-behind_body : (b : Bool) {text : List ℕ} {f : Flags} {r w : Parser} (y : Answer text f (body_of b f) r w) (z : Lexeme) → Lex text w.prev_token_end z → IsTrue (seen (looser 2 f.in_ (row_of y.label y.slots)) z || seen beside z)
+behind_body : (b : Bool) {text : List ℕ} {f : Flags} {r w : Parser} (y : Answer text f (body_of b f) r w) (z : Lexeme) → Plain text w.prev_token_end z → IsTrue (seen (looser 2 f.in_ (row_of y.label y.slots)) z || seen beside z)
 behind_body false y z l = y.stops z l
 behind_body true {f = f} y z l = or_left _ _ (subst (λ (r : Row). IsTrue (seen (looser 2 f.in_ r) z)) (sym (body_row (row_of y.label y.slots) y.row)) (at_most (same_kind Comma z.kind && not z.escaped)))
   where
@@ -644,7 +681,7 @@ module _ {text : List ℕ} {f : Flags} {o p : Parser} {id : NodeId} (h : Head te
       let y = arrow_here h.at k in
       let d = h.read.goes.sound end end p.prev_token_end (last y.0) (last y.0) y.1 (inl h.read.near) is_nothing in
       let z = head_one d in
-      no_operand f (h.read.goes.passes.lexed (last y.0) y.1) z.1 z.2 y.2
+      no_operand f (h.read.goes.passes.lexed (last y.0) y.1) z.1 ? z.2 y.2
 
   to_arrow : Goes rule (Lex text) (after (at Assignment f)) end (rule (at Assignment f)) o.prev_token_end (such (at Arrow' f) always) o.prev_token_end (λ us. us) (still 0)
   to_arrow = only_arrow f (not_wide h.at) (is_cover h.at) h.no_yield (conditional_none f head_is_none) head_is_none

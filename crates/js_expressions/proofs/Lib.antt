@@ -13,6 +13,7 @@ pub mod NotedHeads
 pub mod Operations
 pub mod Refusals
 pub mod Sequences
+pub mod SlashOperators
 pub mod Updates
 pub mod Awaits
 pub mod Yields

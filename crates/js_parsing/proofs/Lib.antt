@@ -21,6 +21,7 @@ pub mod Phrases
 pub mod ReadKinds
 pub mod Related
 pub mod Signs
+pub mod Slashes
 pub mod Stretches
 pub mod Tight
 pub mod Told

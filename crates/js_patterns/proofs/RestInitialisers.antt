@@ -28,7 +28,7 @@ use Rattle.js_cursor.proofs.Standing.{counts, lexeme_here}
 use Rattle.js_parsing.specs.Answers.{Underived, Numbered, Stops, unclean}
 use Rattle.js_parsing.specs.Arguments.{ItemTaken, NoItem, behind_item}
 use Rattle.js_parsing.specs.Classes.{IsEarly}
-use Rattle.js_parsing.specs.Lexemes.{Spot, Walked, nowhere, one_more, more_faults, spot}
+use Rattle.js_parsing.specs.Lexemes.{Spot, Walked, nowhere, one_more, read_again, more_faults, spot}
 use Rattle.js_parsing.specs.Moves.{Moved, MadeHere, plain_label}
 use Rattle.js_parsing.specs.States.{At, Same}
 use Rattle.js_parsing.specs.Told.{unrelated_at}
@@ -49,13 +49,15 @@ use Rattle.js_patterns.proofs.Bindings.{item_answers, no_initialised}
 -- lexemes lead on
 walked_reached : {text : List ℕ} {s e : Spot} {pass : Lexemes → Lexemes} → Walked text s e pass → Reached text s.place → Reached text e.place
 walked_reached nowhere r = r
-walked_reached (one_more w i) r = reached_next (walked_reached w r) i.stood
+walked_reached (one_more w i n) r = reached_next (walked_reached w r) i.stood
+walked_reached (read_again w ds k i) r = reached_next (walked_reached w r) i.stood
 walked_reached (more_faults w ds n) r = walked_reached w r
 
 -- the last one ends there
 pub last_edge : {source : Goal} {text : List ℕ} {s e : Spot} {pass : Lexemes → Lexemes} → Walked text s e pass → Reached text s.place → s.place < e.place → EdgeOf source text e.place
 last_edge nowhere r l = absurd (omega arith)
-last_edge (one_more w i) r l = the_end (a_lexeme (walked_reached w r) i.stood) refl
+last_edge (one_more w i n) r l = the_end (a_lexeme (walked_reached w r) i.stood) refl
+last_edge (read_again w ds k i) r l = the_end (a_lexeme (walked_reached w r) i.stood) refl
 last_edge (more_faults w ds n) r l = last_edge w r l
 
 -- the current lexeme begins there

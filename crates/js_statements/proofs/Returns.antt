@@ -47,7 +47,7 @@ use Rattle.js_parsing.specs.Statements.{placed, no_link, after_statement, NoStat
 use Rattle.js_statements.specs.WordStatements.{ChecksReturn, TakesArgument, stray_return}
 use Rattle.js_parsing.proofs.Ahead.{pass_over}
 use Rattle.js_parsing.proofs.Giving.{kept_one}
-use Rattle.js_parsing.proofs.Here.{found, kind_here, newline_here, uncut}
+use Rattle.js_parsing.proofs.Here.{found, kind_here, newline_here, uncut, unsettled}
 use Rattle.js_parsing.proofs.MadeNodes.{node_held, one_lies}
 use Rattle.js_parsing.proofs.Moving.{same_both, same_itself, stops_behind}
 use Rattle.js_parsing.proofs.Paths.{Path, ◌⟼◌, ◌⟶◌, ◌⟶✗◌, at_kind, fails_at, token, last_called, noded_by, by_symbol_as, label_here, walked_to}
@@ -106,16 +106,16 @@ abbrev may_close : Look
 may_close k w e = ends_statement k
 
 abbrev angled : Look
-angled k w e = same_kind kind.RAngle k
+angled k w e = one_of_kinds unsettled k
 
 no_angle : apart may_close angled ≡ true
 unfolding apart
 no_angle = refl
 
-uncut_end : (k : Kind) → ends_statement k ≡ true → same_kind kind.RAngle k ≡ false
-uncut_end k h = go (same_kind kind.RAngle k) refl
+uncut_end : (k : Kind) → ends_statement k ≡ true → one_of_kinds unsettled k ≡ false
+uncut_end k h = go (one_of_kinds unsettled k) refl
   where
-    go : (b : Bool) → same_kind kind.RAngle k ≡ b → same_kind kind.RAngle k ≡ false
+    go : (b : Bool) → one_of_kinds unsettled k ≡ b → one_of_kinds unsettled k ≡ false
     go true e = absurd (not_both may_close angled no_angle k false false h e)
     go false e = e
 

@@ -43,7 +43,7 @@ use Rattle.js_cursor.specs.declared.stop.Stop.{Stop}
 use Rattle.js_cursor.specs.declared.stop.Stop.TheVariants.{Fatal, NoMemory}
 use Rattle.js_parsing.specs.Answers.{Numbered, Stops, Underived, unclean}
 use Rattle.js_parsing.specs.Classes.{IsEarly}
-use Rattle.js_parsing.specs.Lexemes.{Lex, Spot, Walked, more_faults, nowhere, one_more, spot}
+use Rattle.js_parsing.specs.Lexemes.{Lex, Spot, Walked, more_faults, nowhere, one_more, read_again, spot}
 use Rattle.js_parsing.specs.Moves.{Moved, MadeHere, plain_label}
 use Rattle.js_parsing.specs.Stands.{StandsHere}
 use Rattle.js_parsing.specs.States.{At, Same, NodesLie}
@@ -445,12 +445,14 @@ missing_marked {p = p} {r} s {d} a e g b c h = subst (λ (v : Diagnostic). Mark 
 -- lexemes lead on, and the last one ends there
 walked_reached : {text : List ℕ} {s e : Spot} {pass : Lexemes → Lexemes} → Walked text s e pass → Reached text s.place → Reached text e.place
 walked_reached nowhere r = r
-walked_reached (one_more w i) r = reached_next (walked_reached w r) i.stood
+walked_reached (one_more w i n) r = reached_next (walked_reached w r) i.stood
+walked_reached (read_again w ds k i) r = reached_next (walked_reached w r) i.stood
 walked_reached (more_faults w ds n) r = walked_reached w r
 
 last_edge : {source : Goal} {text : List ℕ} {s e : Spot} {pass : Lexemes → Lexemes} → Walked text s e pass → Reached text s.place → s.place < e.place → EdgeOf source text e.place
 last_edge nowhere r l = absurd (omega arith)
-last_edge (one_more w i) r l = the_end (a_lexeme (walked_reached w r) i.stood) refl
+last_edge (one_more w i n) r l = the_end (a_lexeme (walked_reached w r) i.stood) refl
+last_edge (read_again w ds k i) r l = the_end (a_lexeme (walked_reached w r) i.stood) refl
 last_edge (more_faults w ds n) r l = last_edge w r l
 
 pub block_edge : {text : List ℕ} {f : Flags} {p q r : Parser} {id : NodeId} → Moved text f p q → Numbered text f (at Block f) q r id → EdgeOf (goal r) r.text r.prev_token_end

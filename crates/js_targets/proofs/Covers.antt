@@ -15,7 +15,7 @@ use Rattle.js_grammar.proofs.Calculus.{ends, here_at, label_is, slots_are}
 use Rattle.js_grammar.proofs.FollowLaws.{admits}
 use Rattle.js_cursor.specs.Parsers.{Parser}
 use Rattle.js_parsing.specs.Answers.{Answer, Stretch}
-use Rattle.js_parsing.specs.Lexemes.{Lex, Walked, Spot, nowhere, one_more, more_faults}
+use Rattle.js_parsing.specs.Lexemes.{Lex, Walked, Spot, nowhere, one_more, read_again, more_faults}
 use Rattle.js_parsing.specs.States.{At}
 use Rattle.js_targets.specs.Targets.{target_of}
 use Rattle.js_parsing.proofs.Here.{begins_here}
@@ -114,12 +114,14 @@ module _ {text : List ℕ} {f : Flags} {n : Symbol} {p q : Parser} (w : Passes n
 
 front_of : {text : List ℕ} {s s' : Spot} {pass : Lexemes → Lexemes} → Walked text s s' pass → {to : ℕ} {ms rest : Lexemes} → Front to ms rest → Front to (pass ms) rest
 front_of nowhere h = h
-front_of (one_more w i) h = front_of w (more h)
+front_of (one_more w i r) h = front_of w (more h)
+front_of (read_again w ds k i) h = front_of w (more h)
 front_of (more_faults w ds n) h = front_of w h
 
 pub front : {text : List ℕ} {s s' : Spot} {pass : Lexemes → Lexemes} → Walked text s s' pass → s.place < s'.place → (ms : Lexemes) → Front s'.place (pass ms) ms
 front nowhere h ms = absurd (omega arith)
-front (one_more w i) h ms = front_of w (one refl)
+front (one_more w i r) h ms = front_of w (one refl)
+front (read_again w ds k i) h ms = front_of w (one refl)
 front (more_faults w ds n) h ms = front w h ms
 
 all_stand : (text : List ℕ) (s : ℕ) (ls : Lexemes) → Lexes (Lex text) s ls → Lexes (StandsBehind all_faults text) s ls
