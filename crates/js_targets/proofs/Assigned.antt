@@ -193,13 +193,13 @@ only_arrow f {s} w v y c x = to_choice f s y ▹ (right c ▹ left (no_assignmen
 pub nothing_assigned : {text : List ℕ} (f : Flags) {s : ℕ} → f.wide ≡ false → f.cover ≡ true → OnlyOthers text f s → Underived text (at Short f) s → Goes rule (Lex text) (after (at Assignment f)) end (rule (at Assignment f)) s (such (at Conditional f) always) s (λ us. us) (still 0)
 nothing_assigned f {s} w v a x = to_parts f s a ▹ left (no_assignment f w v x)
 
-abbrev is_assign : Look
-is_assign k w e = one_of_kinds assign_operators k
+abbrev an_assign_kind : Look
+an_assign_kind k w e = one_of_kinds assign_operators k
 
-abbrev a_pattern : Look
-a_pattern k w e = same_kind RegExp k
+abbrev is_pattern : Look
+is_pattern k w e = same_kind RegExp k
 
-no_assign_pattern : apart is_assign a_pattern ≡ true
+no_assign_pattern : apart an_assign_kind is_pattern ≡ true
 unfolding apart
 no_assign_pattern = refl
 
@@ -208,7 +208,7 @@ pub assign_plain : (k : Kind) → one_of_kinds assign_operators k ≡ true → s
 assign_plain k h = go (same_kind RegExp k) refl
   where
     go : (b : Bool) → same_kind RegExp k ≡ b → same_kind RegExp k ≡ false
-    go true e = absurd (not_both is_assign a_pattern no_assign_pattern k false false h e)
+    go true e = absurd (not_both an_assign_kind is_pattern no_assign_pattern k false false h e)
     go false e = e
 
 -- one stands there

@@ -6,7 +6,7 @@ use Rattle.js_base.specs.declared.kind.Kind.TheVariants.{Eq, Colon, Comma, Dot3,
 use Rattle.js_base.specs.Kinds.{same_kind, one_of_kinds}
 use Rattle.js_base.proofs.KindLemmas.{kind_of_same}
 use Rattle.js_grammar.specs.Trees.{NodeKind, Op, Span, Label, Slots, end, hole, tree, Tree, of, no_op, init, assignment_expression, spread_element, function_expression, array_assignment_target, object_assignment_target, assignment_target_rest, assignment_target_with_default, assignment_target_property_identifier, assignment_target_property_property, append}
-use Rattle.js_grammar.specs.Grammar.{Lexeme, Lexemes, last, next, here, seen, is, such, when, nothing, never, many, empty_slot, seq, ◌▸◌, ◌◇◌, Takes, is_nothing, is_lexeme, is_empty_slot, is_seq, is_left, is_right, is_when, is_ahead, is_many, is_such, is_node}
+use Rattle.js_grammar.specs.Grammar.{Lexeme, Lexemes, last, next, here, seen, is, such, when, nothing, never, many, empty_slot, seq, ◌▸◌, ◌◇◌, Takes, is_nothing, is_lexeme, is_empty_slot, is_seq, is_left, is_right, is_when, is_ahead, is_many, is_such, is_node, Look}
 use Rattle.js_grammar.specs.Insertion.{assign_operators}
 use Rattle.js_grammar.specs.Lexed.{Lexes, Lex as StandsBehind, all_faults}
 use Rattle.js_grammar.specs.LexicalFaults.{Reached}
@@ -42,10 +42,10 @@ lexeme_between {text} {s} {y} u b l =
 abbrev closes_a_literal : Look
 closes_a_literal k w e = one_of_kinds (RBrack ∷ RCurly ∷ []) k
 
-abbrev a_pattern : Look
-a_pattern k w e = same_kind RegExp k
+abbrev is_pattern : Look
+is_pattern k w e = same_kind RegExp k
 
-no_pattern_closes : apart closes_a_literal a_pattern ≡ true
+no_pattern_closes : apart closes_a_literal is_pattern ≡ true
 unfolding apart
 no_pattern_closes = refl
 
@@ -54,7 +54,7 @@ pub bracket_plain : (k : Kind) → one_of_kinds (RBrack ∷ RCurly ∷ []) k ≡
 bracket_plain k h = go (same_kind RegExp k) refl
   where
     go : (b : Bool) → same_kind RegExp k ≡ b → same_kind RegExp k ≡ false
-    go true e = absurd (not_both closes_a_literal a_pattern no_pattern_closes k false false h e)
+    go true e = absurd (not_both closes_a_literal is_pattern no_pattern_closes k false false h e)
     go false e = e
 
 -- lexemes that are reached from the text's start
