@@ -42,10 +42,10 @@ lexeme_between {text} {s} {y} u b l =
 abbrev closes_a_literal : Look
 closes_a_literal k w e = one_of_kinds (RBrack ∷ RCurly ∷ []) k
 
-abbrev is_pattern : Look
-is_pattern k w e = same_kind RegExp k
+abbrev a_regular_expression : Look
+a_regular_expression k w e = same_kind RegExp k
 
-no_pattern_closes : apart closes_a_literal is_pattern ≡ true
+no_pattern_closes : apart closes_a_literal a_regular_expression ≡ true
 unfolding apart
 no_pattern_closes = refl
 
@@ -54,7 +54,7 @@ pub bracket_plain : (k : Kind) → one_of_kinds (RBrack ∷ RCurly ∷ []) k ≡
 bracket_plain k h = go (same_kind RegExp k) refl
   where
     go : (b : Bool) → same_kind RegExp k ≡ b → same_kind RegExp k ≡ false
-    go true e = absurd (not_both closes_a_literal is_pattern no_pattern_closes k false false h e)
+    go true e = absurd (not_both closes_a_literal a_regular_expression no_pattern_closes k false false h e)
     go false e = e
 
 -- lexemes that are reached from the text's start
