@@ -4,6 +4,7 @@
 pub mod block;
 pub mod compound_statement;
 pub mod declaration_statement;
+pub mod for_parts;
 pub mod for_statement;
 pub mod function_statement;
 pub mod statement;
