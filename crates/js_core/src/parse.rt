@@ -4,9 +4,10 @@ ghost use Rattle.std.specs.Prelude.{◌≡◌, true, not, MatchResult};
 ghost use Rattle.js_base.specs.Contexts.{has_flag, in_flag};
 ghost use Rattle.js_base.specs.Places.{is_single};
 ghost use Rattle.js_core.specs.Calls.{above};
-ghost use Rattle.js_grammar.specs.Productions.{at, Assignment, Binding, Body, Expression, LeftHandSide, Params};
+ghost use Rattle.js_grammar.specs.Productions.{at, Assignment, Binding, Body, Exponent, Expression, LeftHandSide, Params};
 ghost use Rattle.js_operands.specs.PropertyNames.{NamesProperty};
 ghost use Rattle.js_parsing.specs.Answers.{Answers};
+ghost use Rattle.js_parsing.specs.Methods.{ReadsWhole, parameters_of};
 ghost use Rattle.js_parsing.specs.Nesting.{CanNest, Reading, Ready, room};
 ghost use Rattle.js_parsing.specs.Statements.{TakesStatement, placed};
 ghost use Rattle.js_statements.specs.StatementLists.{AllRefused, AllTaken};
@@ -22,7 +23,7 @@ use js_expressions::unary::parse_unary_expression_or_higher;
 use js_lex::{ParserConfig, RuntimeParserConfig};
 use js_operands::property_name::PropertyName;
 use js_operands::{left_hand_side, property_name};
-use js_parsing::nested::{By, Goal, Nested};
+use js_parsing::nested::{By, Goal, MethodForm, Nested};
 use js_patterns::method_parameters::parse_method_parameters;
 use js_patterns::{binding, parameters};
 use js_statements::statement_list::{StatementList, parse_directives_and_statements};
@@ -46,17 +47,45 @@ pub fn parse_goal<C: ParserConfig, N: Nested<C>>(
         Goal::Expression => parse_sequence_expression(p, nested),
         Goal::Assignment | Goal::Element => parse_assignment_expression(p, nested),
         Goal::Unary => parse_unary_expression_or_higher(p, nested),
-        Goal::Exponentiation => parse_exponentiation_expression(p, nested),
+        Goal::Exponentiation => parse_exponentiation(p, nested),
         Goal::Binding => binding::parse_binding_pattern(p, nested),
         Goal::Statement => statement::parse_statement(p, nested),
         Goal::ListItem => statement::parse_statement_list_item(p, nested),
         Goal::Body => block::parse_function_body(p, nested),
         Goal::Params => parse_parameters(p, nested),
-        Goal::MethodParameters(form) => parse_method_parameters(p, nested, form),
+        Goal::MethodParameters(form) => parse_parameters_of_method(p, nested, form),
     }
 }
 
-/// FormalParameters in their parentheses (ECMA-262, section 15.1).
+/// An ExponentiationExpression (ECMA-262, section 13.6), in a frame of its own, so that the function that recurses has a small one.
+#[inline(never)]
+fn parse_exponentiation<C: ParserConfig, N: Nested<C>>(
+    p: &mut ParserImpl<'_, C>,
+    nested: &N,
+) -> Result<NodeId, Stop>
+    requires at { Standing p.old }
+    requires nests { CanNest (N.can nested.now) (room p.old) }
+    ensures { Answers (at Exponent) p.old p.new result }
+{
+    parse_exponentiation_expression(p, nested)
+}
+
+/// The parameters of a method (ECMA-262, section 15.4), in a frame of their own too.
+#[inline(never)]
+fn parse_parameters_of_method<C: ParserConfig, N: Nested<C>>(
+    p: &mut ParserImpl<'_, C>,
+    nested: &N,
+    form: MethodForm,
+) -> Result<NodeId, Stop>
+    requires at { Standing p.old }
+    requires nests { CanNest (N.can nested.now) (room p.old) }
+    ensures { ReadsWhole (parameters_of form) p.old p.new result }
+{
+    parse_method_parameters(p, nested, form)
+}
+
+/// FormalParameters in their parentheses (ECMA-262, section 15.1), in a frame of their own too.
+#[inline(never)]
 fn parse_parameters<C: ParserConfig, N: Nested<C>>(
     p: &mut ParserImpl<'_, C>,
     nested: &N,

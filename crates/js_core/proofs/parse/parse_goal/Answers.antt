@@ -14,7 +14,7 @@ pub returns-in-Unary : goal.returns-in-Unary
 returns-in-Unary t c = rw (c.in-Unary.is) c.parse_unary_expression_or_higher.ensures
 
 pub returns-in-Exponentiation : goal.returns-in-Exponentiation
-returns-in-Exponentiation t c = rw (c.in-Exponentiation.is) c.parse_exponentiation_expression.ensures
+returns-in-Exponentiation t c = rw (c.in-Exponentiation.is) c.parse_exponentiation.ensures
 
 pub returns-in-Expression : goal.returns-in-Expression
 returns-in-Expression t c = rw (c.in-Expression.is) c.parse_sequence_expression.ensures
@@ -38,10 +38,10 @@ pub parse_parameters-requires-clause-at : goal.parse_parameters-requires-clause-
 parse_parameters-requires-clause-at t c = ready_at c.args.goal c.requires.at
 
 pub returns-in-MethodParameters : goal.returns-in-MethodParameters
-returns-in-MethodParameters t c = rw (c.in-MethodParameters.is) c.parse_method_parameters.ensures
+returns-in-MethodParameters t c = rw (c.in-MethodParameters.is) c.parse_parameters_of_method.ensures
 
-pub parse_method_parameters-requires-clause-at : goal.parse_method_parameters-requires-clause-at
-parse_method_parameters-requires-clause-at t c = ready_at c.args.goal c.requires.at
+pub parse_parameters_of_method-requires-clause-at : goal.parse_parameters_of_method-requires-clause-at
+parse_parameters_of_method-requires-clause-at t c = ready_at c.args.goal c.requires.at
 
 pub parse_sequence_expression-requires-clause-at : goal.parse_sequence_expression-requires-clause-at
 parse_sequence_expression-requires-clause-at t c = ready_at c.args.goal c.requires.at
@@ -52,8 +52,8 @@ parse_assignment_expression-requires-clause-at t c = ready_at c.args.goal c.requ
 pub parse_unary_expression_or_higher-requires-clause-at : goal.parse_unary_expression_or_higher-requires-clause-at
 parse_unary_expression_or_higher-requires-clause-at t c = ready_at c.args.goal c.requires.at
 
-pub parse_exponentiation_expression-requires-clause-at : goal.parse_exponentiation_expression-requires-clause-at
-parse_exponentiation_expression-requires-clause-at t c = ready_at c.args.goal c.requires.at
+pub parse_exponentiation-requires-clause-at : goal.parse_exponentiation-requires-clause-at
+parse_exponentiation-requires-clause-at t c = ready_at c.args.goal c.requires.at
 
 pub parse_binding_pattern-requires-clause-at : goal.parse_binding_pattern-requires-clause-at
 parse_binding_pattern-requires-clause-at t c = ready_at c.args.goal c.requires.at
