@@ -51,7 +51,7 @@ pub fn parse_goal<C: ParserConfig, N: Nested<C>>(
         Goal::Binding => binding::parse_binding_pattern(p, nested),
         Goal::Statement => statement::parse_statement(p, nested),
         Goal::ListItem => statement::parse_statement_list_item(p, nested),
-        Goal::Body => block::parse_function_body(p, nested),
+        Goal::Body => parse_body(p, nested),
         Goal::Params => parse_parameters(p, nested),
         Goal::MethodParameters(form) => parse_parameters_of_method(p, nested, form),
     }
@@ -68,6 +68,20 @@ fn parse_exponentiation<C: ParserConfig, N: Nested<C>>(
     ensures { Answers (at Exponent) p.old p.new result }
 {
     parse_exponentiation_expression(p, nested)
+}
+
+/// A FunctionBody in its braces (ECMA-262, section 15.2), in a frame of its own too.
+#[inline(never)]
+fn parse_body<C: ParserConfig, N: Nested<C>>(
+    p: &mut ParserImpl<'_, C>,
+    nested: &N,
+) -> Result<NodeId, Stop>
+    requires at { Standing p.old }
+    requires nests { CanNest (N.can nested.now) (room p.old) }
+    requires allows_in { has_flag in_flag p.old.ctx ≡ true }
+    ensures { Answers (at Body) p.old p.new result }
+{
+    block::parse_function_body(p, nested)
 }
 
 /// The parameters of a method (ECMA-262, section 15.4), in a frame of their own too.

@@ -29,7 +29,7 @@ pub returns-in-ListItem : goal.returns-in-ListItem
 returns-in-ListItem t c = rw (c.in-ListItem.is) c.parse_statement_list_item.ensures
 
 pub returns-in-Body : goal.returns-in-Body
-returns-in-Body t c = rw (c.in-Body.is) c.parse_function_body.ensures
+returns-in-Body t c = rw (c.in-Body.is) c.parse_body.ensures
 
 pub returns-in-Params : goal.returns-in-Params
 returns-in-Params t c = rw (c.in-Params.is) c.parse_parameters.ensures
@@ -70,8 +70,8 @@ parse_statement_list_item-requires-clause-at t c = ready_at c.args.goal c.requir
 pub parse_statement_list_item-requires-clause-allows_in : goal.parse_statement_list_item-requires-clause-allows_in
 parse_statement_list_item-requires-clause-allows_in t c = (subst (λ (g : Goal). Ready g c.args.p.now) c.in-ListItem.is c.requires.at).1
 
-pub parse_function_body-requires-clause-at : goal.parse_function_body-requires-clause-at
-parse_function_body-requires-clause-at t c = ready_at c.args.goal c.requires.at
+pub parse_body-requires-clause-at : goal.parse_body-requires-clause-at
+parse_body-requires-clause-at t c = ready_at c.args.goal c.requires.at
 
-pub parse_function_body-requires-clause-allows_in : goal.parse_function_body-requires-clause-allows_in
-parse_function_body-requires-clause-allows_in t c = (subst (λ (g : Goal). Ready g c.args.p.now) c.in-Body.is c.requires.at).1
+pub parse_body-requires-clause-allows_in : goal.parse_body-requires-clause-allows_in
+parse_body-requires-clause-allows_in t c = (subst (λ (g : Goal). Ready g c.args.p.now) c.in-Body.is c.requires.at).1
