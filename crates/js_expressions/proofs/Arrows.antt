@@ -394,6 +394,21 @@ head_of_path {text} {f} {p} {q} w {l} {cs} {id} y r e s n h k i = go w.nodes n h
       keeps = subst (λ (z : Parser). Keeps p.nodes z.nodes) n k;
     })
 
+-- the `=>` that stands here
+arrow_here : {text : List ℕ} {f : Flags} {p : Parser} → At text f p → p.token.kind ≡ Arrow → (y : Lexeme) × Lex text p.prev_token_end y × (same_kind Arrow y.kind ≡ true)
+arrow_here a k =
+    let z = found a (uncut a (ap (same_kind RAngle) k)) (ap is_last k) in
+    let e : z.0.kind ≡ Arrow = sym z.2.kind ∙ k in
+    (z.0, (z.1, read_of z.0 e (sym z.2.escaped ∙ plain_sign Arrow a k refl refl arrow_plain) refl), ap (same_kind Arrow) e)
+
+-- where a head was read, no operand is derived
+pub head_no_operand : {text : List ℕ} {f : Flags} {o p : Parser} {id : NodeId} → Head text f o p id → p.token.kind ≡ Arrow → Underived text (at Short f) o.prev_token_end
+head_no_operand {f = f} {p = p} h k =
+    let y = arrow_here h.at k in
+    let d = h.read.goes.sound end end p.prev_token_end (last y.0) (last y.0) y.1 (inl h.read.near) is_nothing in
+    let z = head_one d in
+    no_operand f (h.read.goes.passes.lexed (last y.0) y.1) z.1 z.2 y.2
+
 -- so the arrow that stands behind is the token
 pub arrow_is_here : {text : List ℕ} {f : Flags} {p : Parser} → At text f p → (y : Lexeme) → Lex text p.prev_token_end y → y.kind ≡ Arrow → p.token.kind ≡ Arrow
 arrow_is_here {p = p} a y l k = by p.cut refl
@@ -413,7 +428,8 @@ pub name_found : {p q w : Parser} {id : NodeId} → Standing p → ArrowBehind p
 name_found {p} {q} {w} {id} a b e s =
     let z = subst (λ (v : Parser). Single v w id) b.0 s in
     let y = b.1 _ _ a in
-    (arrow_is_here (z.1 _ _ a e).at y.0 (subst (λ (v : ℕ). Lex p.text v y.0) (sym z.0) y.1) y.2, λ text f a. a_head (z.1 text f a e))
+    let k = arrow_is_here (z.1 _ _ a e).at y.0 (subst (λ (v : ℕ). Lex p.text v y.0) (sym z.0) y.1) y.2 in
+    (k, (λ text f a. a_head (z.1 text f a e)), (λ text f a. head_no_operand (z.1 text f a e) k))
 
 -- parameters in parentheses
 pub parenthesized_head : {text : List ℕ} {f : Flags} {p q : Parser} {id : NodeId} → At text f p → p.token.kind ≡ LParen → Numbered text f (at Params f) p q id → length q.errors ≡ length p.errors → Head text f p q id
@@ -493,8 +509,12 @@ certain_head a k s x = elim x.answer.verdict [
 module _ {p q : Parser} {kept : ℕ} (a : Standing p) (k : p.token.kind ≡ LParen) (n : kept ≡ length p.errors) where
   -- parameters, and whether they are a head
   pub head_read : {id : NodeId} {start : ℕ} → start ≡ p.prev_token_end → Answers (at Params) p q (Ok id) → IsHead start kept q true → IsHeadHere p q id
-  head_read {id} {start} t x h = (h.1, λ text f a. by h.0 a (x text f a))
+  head_read {id} {start} t x h = (h.1, (λ text f a. by h.0 a (x text f a)), (λ text f a. none h.0 a (x text f a)))
     where
+      none : {text : List ℕ} {f : Flags} → (length q.errors ≡ kept) ⊎ ArrowBehindOne q.text start → At text f p → Numbered text f (at Params f) p q id → Underived text (at Short f) p.prev_token_end
+      none (inl e) a y = head_no_operand (parenthesized_head a k y (e ∙ n)) h.1
+      none {text} (inr c) a y = no_operand_there a k (subst (λ (v : ℕ). ArrowBehindOne text v) t (subst (λ (v : List ℕ). ArrowBehindOne v start) y.answer.at.text_is c))
+
       by : {text : List ℕ} {f : Flags} → (length q.errors ≡ kept) ⊎ ArrowBehindOne q.text start → At text f p → Numbered text f (at Params f) p q id → BeforeArrow text f p q id
       by (inl e) a y = a_head (parenthesized_head a k y (e ∙ n))
       by {text} {f} (inr c) a y = elim y.answer.verdict [
@@ -617,13 +637,6 @@ went_back {p} {q} {r} o m f n l g =
 
 -- ---- an arrow function
 
--- the `=>` that stands here
-arrow_here : {text : List ℕ} {f : Flags} {p : Parser} → At text f p → p.token.kind ≡ Arrow → (y : Lexeme) × Lex text p.prev_token_end y × (same_kind Arrow y.kind ≡ true)
-arrow_here a k =
-    let z = found a (uncut a (ap (same_kind RAngle) k)) (ap is_last k) in
-    let e : z.0.kind ≡ Arrow = sym z.2.kind ∙ k in
-    (z.0, (z.1, read_of z.0 e (sym z.2.escaped ∙ plain_sign Arrow a k refl refl arrow_plain) refl), ap (same_kind Arrow) e)
-
 -- what a later call says of what was kept
 behind : {K : Type 0} {p q r : List K} {C B : Type 0} → Grown p q → Verdict q r C B → Grown p r
 behind g (clean e c) = grown_first g e
@@ -677,11 +690,7 @@ row_of_body true y = subst (λ (r : Row). may_end Assignment r ≡ true) (sym (b
 
 module _ {text : List ℕ} {f : Flags} {o p : Parser} {id : NodeId} (h : Head text f o p id) (k : p.token.kind ≡ Arrow) where
   head_is_none : Underived text (at Short f) o.prev_token_end
-  head_is_none =
-      let y = arrow_here h.at k in
-      let d = h.read.goes.sound end end p.prev_token_end (last y.0) (last y.0) y.1 (inl h.read.near) is_nothing in
-      let z = head_one d in
-      no_operand f (h.read.goes.passes.lexed (last y.0) y.1) z.1 ? z.2 y.2
+  head_is_none = head_no_operand h k
 
   to_arrow : Goes rule (Lex text) (after (at Assignment f)) end (rule (at Assignment f)) o.prev_token_end (such (at Arrow' f) always) o.prev_token_end (λ us. us) (still 0)
   to_arrow = only_arrow f (not_wide h.at) (is_cover h.at) h.no_yield (conditional_none f head_is_none) head_is_none

@@ -8,6 +8,7 @@ pub mod Coalescing
 pub mod Conditionals
 pub mod Exponents
 pub mod FreeOfContext
+pub mod HeadOperands
 pub mod Lookaheads
 pub mod NotedHeads
 pub mod Operations

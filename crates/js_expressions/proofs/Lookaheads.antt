@@ -45,8 +45,8 @@ use Rattle.js_parsing.proofs.Verdicts.{after as grown_behind}
 use Rattle.js_patterns.specs.Parameters.{parameters_left}
 use Rattle.js_patterns.proofs.ParameterLists.{no_params}
 use Rattle.js_grammar.specs.Grammar.{alt}
-use Rattle.js_expressions.specs.Arrows.{IsHeadHere, NoArrowHere, NoAssignment, Unmoved}
-use Rattle.js_expressions.specs.Lookaheads.{begins_operand, LooksAhead, NoOperandHere}
+use Rattle.js_expressions.specs.Arrows.{IsHeadHere, NoArrowHere, NoAssignment, Unmoved, NoOperandHere}
+use Rattle.js_expressions.specs.Lookaheads.{begins_operand, LooksAhead}
 use Rattle.js_expressions.specs.declared.lookahead.HeadLookahead.{HeadLookahead}
 use Rattle.js_expressions.specs.declared.lookahead.HeadLookahead.TheVariants as lookahead
 use Rattle.js_expressions.specs.Rests.{update_kinds}
@@ -163,15 +163,18 @@ looks_none h k o = λ text f a. no_head_no_arrow a k (no_parameters a (no_head_b
 -- parameters where nothing else can stand
 module _ {p : Parser} (k : p.token.kind ≡ LParen) (n : NoOperandHere p) where
   pub certain_read : {q : Parser} {id : NodeId} → Answers (at Params) p q (Ok id) → q.token.kind ≡ Arrow → IsHeadHere p q id
-  certain_read x e = (e, λ text f a. certain_head a k (n text f a) (x text f a))
+  certain_read x e = (e, (λ text f a. certain_head a k (n text f a) (x text f a)), n)
 
-  pub certain_stops : (q : Parser) (e : Stop) → ((text : List ℕ) (f : Flags) → At text f p → Stops p q e (Underived text (at Params f) p.prev_token_end)) → NoAssignment p q e
-  certain_stops q e s = λ text f a. stops_so p q e (λ m. unassigned a k (no_parameters a m) (n text f a)) (s text f a)
+  pub certain_stops : (q : Parser) (e : Stop) → ((text : List ℕ) (f : Flags) → At text f p → Stops p q e (Underived text (at Params f) p.prev_token_end)) → NoAssignment p q e × NoOperandHere p
+  certain_stops q e s = ((λ text f a. stops_so p q e (λ m. unassigned a k (no_parameters a m) (n text f a)) (s text f a)), n)
 
-  pub arrow_missing : {q : Parser} {id : NodeId} (w : Parser) (e : Stop) → Answers (at Params) p q (Ok id) → (q.token.kind ≡ Arrow → ⊥) → GivesUp (IsHere ExpectToken q None) q w e → NoAssignment p w e
-  arrow_missing {q} w e x m g = λ text f a.
-      let y = (x text f a).answer in
-      stops_behind w e y.same (λ d. grown_behind y.verdict d) (λ z. z) (gives_up (IsHere ExpectToken q None) q w e y.at g (here_ends ExpectToken refl) (unassigned a k (unarrowed a y m) (n text f a)))
+  pub arrow_missing : {q : Parser} {id : NodeId} (w : Parser) (e : Stop) → Answers (at Params) p q (Ok id) → (q.token.kind ≡ Arrow → ⊥) → GivesUp (IsHere ExpectToken q None) q w e → NoAssignment p w e × NoOperandHere p
+  arrow_missing {q} w e x m g = (
+    (λ text f a.
+        let y = (x text f a).answer in
+        stops_behind w e y.same (λ d. grown_behind y.verdict d) (λ z. z) (gives_up (IsHere ExpectToken q None) q w e y.at g (here_ends ExpectToken refl) (unassigned a k (unarrowed a y m) (n text f a)))),
+    n,
+  )
 
 -- what was seen
 pub head_alone : (p q : Parser) (h : HeadLookahead) → h ≡ lookahead.Head → LooksAhead p q h → (q ≡ p) × NoOperandHere p

@@ -9,11 +9,12 @@ use Rattle.js_base.specs.declared.span.Span.{Span}
 use Rattle.js_grammar.specs.Trees.{Label, Slots, tree, formal_parameters, formal_parameter}
 use Rattle.js_grammar.specs.Grammar.{Lexeme, Lexemes, empty_slot, nothing, ◌▸◌, ◌◇◌}
 use Rattle.js_grammar.specs.Parsing.{plain, full}
-use Rattle.js_grammar.specs.Productions.{G, Flags, Symbol, at, sym, mk, Arrow', Assignment, BindingIdentifier, Body, Params}
+use Rattle.js_grammar.specs.Productions.{G, Flags, Symbol, at, sym, mk, Arrow', Assignment, BindingIdentifier, Body, Params, Short}
 use Rattle.js_tree.specs.declared.id.NodeId.{NodeId}
 use Rattle.js_tree.specs.Holding.{Holds, Keeps as KeepsNodes}
 use Rattle.js_cursor.specs.Checkpoints.{GoesOn}
 use Rattle.js_cursor.specs.Moves.{Keeps}
+use Rattle.js_cursor.specs.declared.stop.Stop.TheVariants.{Fatal}
 use Rattle.js_cursor.specs.Parsers.{Parser}
 use Rattle.js_cursor.specs.declared.stop.Stop.{Stop}
 use Rattle.js_parsing.specs.Answers.{Answers, Grown, Outcome, Stops, Stretch, Underived}
@@ -30,6 +31,10 @@ head_of f = mk formal_parameters (mk formal_parameter (sym BindingIdentifier f �
 -- no arrow function is derived here
 abbrev pub NoArrowHere : Parser → Type 0
 NoArrowHere p = (text : List ℕ) (f : Flags) → At text f p → Underived text (at Arrow' f) p.prev_token_end
+
+-- no operand is derived here
+abbrev pub NoOperandHere : Parser → Type 0
+NoOperandHere p = (text : List ℕ) (f : Flags) → At text f p → Underived text (at Short f) p.prev_token_end
 
 -- What stands before `=>` was read, and nothing was told of it: a node made in the call stands for its tree.
 pub record Head (text : List ℕ) (f : Flags) (p q : Parser) (id : NodeId) : Type 0 where
@@ -66,7 +71,7 @@ pub data BeforeArrow (text : List ℕ) (f : Flags) (o p : Parser) (id : NodeId) 
   told_head : ToldHead text f o p id → BeforeArrow text f o p id
 
 abbrev pub IsHeadHere : Parser → Parser → NodeId → Type 0
-IsHeadHere p q id = (q.token.kind ≡ Arrow) × ((text : List ℕ) (f : Flags) → At text f p → BeforeArrow text f p q id)
+IsHeadHere p q id = (q.token.kind ≡ Arrow) × ((text : List ℕ) (f : Flags) → At text f p → BeforeArrow text f p q id) × NoOperandHere p
 
 -- The parser is where it was; nodes may have been made.
 pub record Unmoved (p q : Parser) : Type 0 where
@@ -87,15 +92,15 @@ FindsHead p q None = Unmoved p q × NoArrowHere p
 abbrev pub NoAssignment : Parser → Parser → Stop → Type 0
 NoAssignment p q e = (text : List ℕ) (f : Flags) → At text f p → Stops p q e (Underived text (at Assignment f) p.prev_token_end)
 
--- the same, or nothing is derived here
+-- the same, or nothing is derived here, no operand either
 abbrev pub SearchesHead : Parser → Parser → Result (Option NodeId) Stop → Type 0
 SearchesHead p q (Ok found) = FindsHead p q found
-SearchesHead p q (Err e) = NoAssignment p q e
+SearchesHead p q (Err e) = NoAssignment p q e × (e ≡ Fatal → NoOperandHere p)
 
 -- a head was read, or nothing is derived here
 abbrev pub ReadsHead : Parser → Parser → Result NodeId Stop → Type 0
 ReadsHead p q (Ok id) = IsHeadHere p q id
-ReadsHead p q (Err e) = NoAssignment p q e
+ReadsHead p q (Err e) = NoAssignment p q e × NoOperandHere p
 
 -- no parameters in parentheses with `=>` behind them are derived here
 abbrev pub NoHeadHere : Parser → Type 0

@@ -9,17 +9,13 @@ use Rattle.js_grammar.specs.Productions.{Flags, at, Short}
 use Rattle.js_cursor.specs.Parsers.{Parser}
 use Rattle.js_parsing.specs.Answers.{Underived}
 use Rattle.js_parsing.specs.States.{At}
-use Rattle.js_expressions.specs.Arrows.{NoArrowHere}
+use Rattle.js_expressions.specs.Arrows.{NoArrowHere, NoOperandHere}
 use Rattle.js_expressions.specs.declared.lookahead.HeadLookahead.{HeadLookahead}
 use Rattle.js_expressions.specs.declared.lookahead.HeadLookahead.TheVariants as lookahead
 
 -- some of the lexemes that begin an expression, and neither a parameter nor a rest
 abbrev pub begins_operand : Kind → Bool
 begins_operand k = ((one_of_kinds literal_kinds k || is_some (row_of unary_operators k)) || is_some (row_of update_operators k)) || one_of_kinds (LParen ∷ This ∷ New ∷ []) k
-
--- no operand is derived here
-abbrev pub NoOperandHere : Parser → Type 0
-NoOperandHere p = (text : List ℕ) (f : Flags) → At text f p → Underived text (at Short f) p.prev_token_end
 
 -- nothing has changed
 abbrev pub LooksAhead : Parser → Parser → HeadLookahead → Type 0

@@ -7,6 +7,8 @@ ghost use Rattle.js_grammar.specs.Productions.{at, Params};
 ghost use Rattle.js_parsing.specs.Answers.{Answers};
 ghost use Rattle.js_expressions.specs.Arrows.{ArrowBehind, ChecksLine, FindsHead, IsHead, LooksForHead, ReadsArrowBody, ReadsBody, ReadsHead, SearchesHead, Single};
 ghost use Rattle.js_expressions.specs.Lookaheads.{NoOperandHere};
+ghost use Rattle.js_expressions.specs.HeadOperands.{IsNoTarget};
+ghost use Rattle.js_parsing.specs.Lexemes.{name_kinds};
 ghost use Rattle.js_parsing.specs.Nesting.{CanNest, room};
 ghost use Rattle.js_parsing.specs.Stands.{NameHere};
 ghost use Rattle.js_parsing.specs.States.{Standing};
@@ -204,7 +206,8 @@ pub(crate) fn parse_arrow_function_expression<C: ParserConfig, N: Nested<C>>(
     requires nests { CanNest (N.can nested.now) (room p.old) }
     requires start { start ≤ p.old.prev_token_end }
     requires arrow { p.old.token.kind ≡ Arrow }
-    ensures { ReadsBody start parameters p.old p.new result }
+    ensures answers { ReadsBody start parameters p.old p.new result }
+    ensures node { IfOk result (λ id. IsNoTarget p.new id) }
 {
     check_line(p)?;
     advance(p)?;

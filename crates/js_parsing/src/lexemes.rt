@@ -176,6 +176,7 @@ fn is_read_reserved_word(kind: Kind) -> bool
             | Kind::Try
             | Kind::Catch
             | Kind::Finally
+            | Kind::For
             | Kind::If
             | Kind::Else
             | Kind::While

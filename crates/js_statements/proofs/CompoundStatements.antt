@@ -76,7 +76,7 @@ module _ {text : List ℕ} {f : Flags} {X : Test} where
   }
 
   -- a statement, the last part, by what may stand behind the whole
-  statement_read : {n : Symbol} {p q : Parser} {id : NodeId} (s : Statement text f n p q id) → On rule X (after_statement n) end (such n always) p.prev_token_end → Path text f X (such n always) p nothing q (tree s.label s.slots)
+  pub statement_read : {n : Symbol} {p q : Parser} {id : NodeId} (s : Statement text f n p q id) → On rule X (after_statement n) end (such n always) p.prev_token_end → Path text f X (such n always) p nothing q (tree s.label s.slots)
   statement_read s c = record { at = s.at; further = s.further; pass = s.pass; walked = s.walked; verdict = verdict_of s.verdict (λ y. record { reach = y.reach; near = y.near; goes = weaken_on y.goes c }) (λ n. weaken_fails_on n c) }
 
   -- or with something behind it

@@ -22,7 +22,7 @@ use Rattle.js_grammar.specs.Conditions.{ends_in_sub, lacks_else}
 use Rattle.js_grammar.specs.Lexed.{Lexes}
 use Rattle.js_grammar.specs.Lexemes.{is_escaped}
 use Rattle.js_grammar.specs.Parsing.{Test, plain, behind, full, always, still, Goes, Fails, Admits}
-use Rattle.js_grammar.specs.Productions.{G, Flags, Symbol, at, op as op_node, other, if_next, not_then, is_one_of, word_or, function_on_line, tok, ListItem, Block, Empty, ExprStmt, Expression, Labeled, LabelIdentifier, Lexical, Sub, Break, Continue, Debugger, Do, If, Return, Switch, Throw, Try, Var, While, With}
+use Rattle.js_grammar.specs.Productions.{G, Flags, Symbol, at, op as op_node, other, if_next, not_then, is_one_of, word_or, function_on_line, tok, ListItem, Block, Empty, ExprStmt, Expression, Labeled, LabelIdentifier, Lexical, Sub, Break, Continue, Debugger, Do, For, ForIn, ForOf, If, Return, Switch, Throw, Try, Var, While, With}
 use Rattle.js_grammar.specs.Productions.{BindingIdentifier}
 use Rattle.js_grammar.specs.Productions.{Function as AFunction}
 use Rattle.js_grammar.specs.Productions.{Statement as AStatement}
@@ -357,7 +357,7 @@ module _ {text : List ℕ} {f : Flags} where
 
 -- ---- what stands before
 
-pub statement_left : (f : Flags) → live (rule (at AStatement f)) ≡ alt (symbol Block f) (alt (symbol Empty f) (alt (symbol Var f) (alt (symbol If f) (alt (symbol Do f) (alt (symbol While f) (alt (symbol With f) (alt (symbol Continue f) (alt (symbol Break f) (alt (when f.return_ (symbol Return f)) (alt (symbol Throw f) (alt (symbol Switch f) (alt (symbol Try f) (alt (symbol Debugger f) (symbol Labeled f))))))))))))))
+pub statement_left : (f : Flags) → live (rule (at AStatement f)) ≡ alt (symbol Block f) (alt (symbol Empty f) (alt (symbol Var f) (alt (symbol If f) (alt (symbol Do f) (alt (symbol While f) (alt (symbol With f) (alt (symbol For f) (alt (symbol ForIn f) (alt (symbol ForOf f) (alt (symbol Continue f) (alt (symbol Break f) (alt (when f.return_ (symbol Return f)) (alt (symbol Throw f) (alt (symbol Switch f) (alt (symbol Try f) (alt (symbol Debugger f) (symbol Labeled f)))))))))))))))))
 unfolding rule rule_of apart
 statement_left f = refl
 
@@ -469,8 +469,8 @@ module _ {text : List ℕ} {f : Flags} {p : Parser} (a : At text f p) (n : one_o
   unfolding covers apart
   no_statement = fails_rule {X' = plain full} (λ l cs vs y e. (refl, refl)) (subst (λ (g : G). Goes rule (Lex text) (plain full) end (rule (at AStatement f)) p.prev_token_end g p.prev_token_end (λ us. us) (still 0)) (statement_left f) (lives (rule (at AStatement f)))
       ▹✗ fails_alt (none (symbol Block f) refl) (fails_alt (none (symbol Empty f) refl) (fails_alt (none (symbol Var f) refl) (fails_alt (none (symbol If f) refl) (fails_alt (none (symbol Do f) refl) (fails_alt (none (symbol While f) refl) (fails_alt (none (symbol With f) refl)
-      (fails_alt (none (symbol Continue f) refl) (fails_alt (none (symbol Break f) refl) (fails_alt (none (when f.return_ (symbol Return f)) refl) (fails_alt (none (symbol Throw f) refl)
-      (fails_alt (none (symbol Switch f) refl) (fails_alt (none (symbol Try f) refl) (fails_alt (none (symbol Debugger f) refl) (nl (plain full))))))))))))))))
+      (fails_alt (none (symbol For f) refl) (fails_alt (none (symbol ForIn f) refl) (fails_alt (none (symbol ForOf f) refl) (fails_alt (none (symbol Continue f) refl) (fails_alt (none (symbol Break f) refl) (fails_alt (none (when f.return_ (symbol Return f)) refl) (fails_alt (none (symbol Throw f) refl)
+      (fails_alt (none (symbol Switch f) refl) (fails_alt (none (symbol Try f) refl) (fails_alt (none (symbol Debugger f) refl) (nl (plain full)))))))))))))))))))
 
   pub to_statement : (b : Bool) → LetIsName text b p.prev_token_end → Leads text (after_statement (placed b f)) (rule (placed b f)) p.prev_token_end (symbol ExprStmt f)
   unfolding apart covers
@@ -598,8 +598,8 @@ pub link_ends : {text : List ℕ} {f : Flags} (p q : Parser) (e : Stop) → At t
 link_ends p q e a v g = gives_up_here p q e a g (inl (and_parts p.token.is_on_new_line _ v).1)
 
 -- none of the kinds that begin a statement alone
-pub no_own_kind : (k : Kind) → (k ≡ LCurly → ⊥) → (k ≡ Semicolon → ⊥) → (k ≡ kind.If → ⊥) → (k ≡ kind.Do → ⊥) → (k ≡ kind.While → ⊥) → (k ≡ kind.With → ⊥) → (k ≡ kind.Break → ⊥) → (k ≡ kind.Continue → ⊥) → (k ≡ kind.Return → ⊥) → (k ≡ kind.Function → ⊥) → (k ≡ kind.Throw → ⊥) → (k ≡ kind.Switch → ⊥) → (k ≡ kind.Try → ⊥) → (k ≡ kind.Debugger → ⊥) → (k ≡ kind.Var → ⊥) → (k ≡ kind.Const → ⊥) → one_of_kinds statement_kinds k ≡ false
-no_own_kind k m a b c d e f g r o h u v i j l = rw (not_kind LCurly k m, not_kind Semicolon k a, not_kind kind.If k b, not_kind kind.Do k c, not_kind kind.While k d, not_kind kind.With k e, not_kind kind.Break k f, not_kind kind.Continue k g, not_kind kind.Return k r, not_kind kind.Function k o, not_kind kind.Throw k h, not_kind kind.Switch k u, not_kind kind.Try k v, not_kind kind.Debugger k i, not_kind kind.Var k j, not_kind kind.Const k l) refl
+pub no_own_kind : (k : Kind) → (k ≡ LCurly → ⊥) → (k ≡ Semicolon → ⊥) → (k ≡ kind.If → ⊥) → (k ≡ kind.Do → ⊥) → (k ≡ kind.While → ⊥) → (k ≡ kind.With → ⊥) → (k ≡ kind.Break → ⊥) → (k ≡ kind.Continue → ⊥) → (k ≡ kind.Return → ⊥) → (k ≡ kind.Function → ⊥) → (k ≡ kind.Throw → ⊥) → (k ≡ kind.Switch → ⊥) → (k ≡ kind.Try → ⊥) → (k ≡ kind.For → ⊥) → (k ≡ kind.Debugger → ⊥) → (k ≡ kind.Var → ⊥) → (k ≡ kind.Const → ⊥) → one_of_kinds statement_kinds k ≡ false
+no_own_kind k m a b c d e f g r o h u v w i j l = rw (not_kind LCurly k m, not_kind Semicolon k a, not_kind kind.If k b, not_kind kind.Do k c, not_kind kind.While k d, not_kind kind.With k e, not_kind kind.Break k f, not_kind kind.Continue k g, not_kind kind.Return k r, not_kind kind.Function k o, not_kind kind.Throw k h, not_kind kind.Switch k u, not_kind kind.Try k v, not_kind kind.For k w, not_kind kind.Debugger k i, not_kind kind.Var k j, not_kind kind.Const k l) refl
 
 -- the code found no label
 pub no_colon : (p q : Parser) {t : Token} {b : Bool} → t ≡ p.token → IsTrue b ↔ IsLabel t q → b ≡ false → IsLabel p.token q → ⊥

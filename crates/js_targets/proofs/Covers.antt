@@ -39,11 +39,11 @@ pub row_of_target : (l : Label) (cs : Slots) (t : Tree) → target_of l cs ≡ S
 row_of_target l cs t e = target_row l.kind l.op l.flags l.span cs t e
 
 -- A target that was taken, as the expression.
-record Taken (n : Symbol) (ks : Slots) (t : Tree) (i : ℕ) (ls : Lexemes) (us : Slots) (j : ℕ) (rest : Lexemes) : Type 0 where
-  label : Label
-  slots : Slots
-  has : target_of label slots ≡ Some t
-  takes : Takes rule (such n always) ks (tree label slots us) i ls us j rest
+pub record Taken (n : Symbol) (ks : Slots) (t : Tree) (i : ℕ) (ls : Lexemes) (us : Slots) (j : ℕ) (rest : Lexemes) : Type 0 where
+  pub label : Label
+  pub slots : Slots
+  pub has : target_of label slots ≡ Some t
+  pub takes : Takes rule (such n always) ks (tree label slots us) i ls us j rest
 
 module _ {n : Symbol} {f : Flags} (w : Passes n (at LeftHandSide f)) where
   as_target : {ks us vs : Slots} {l : Label} {cs : Slots} {i j : ℕ} {ls rest : Lexemes} (t : Tree) → target_of l cs ≡ Some t → Takes rule (such n always) ks (tree l cs us) i ls vs j rest → Takes rule (such (at SimpleTarget f) always) ks (tree t.label t.slots us) i ls vs j rest
@@ -52,7 +52,7 @@ module _ {n : Symbol} {f : Flags} (w : Passes n (at LeftHandSide f)) where
       anew : {ks us : Slots} {l : Label} {cs : Slots} {i j : ℕ} {ls rest : Lexemes} → Takes rule (such (at SimpleTarget f) always) end (tree l cs end) i ls end j rest → Takes rule (such (at SimpleTarget f) always) ks (tree l cs us) i ls us j rest
       anew (is_such d c) = is_such d c
 
-  of_derived : {ks us : Slots} (t : Tree) {i j : ℕ} {ls rest : Lexemes} → Takes rule (rule (at SimpleTarget f)) end (tree t.label t.slots end) i ls end j rest → Taken n ks t i ls us j rest
+  pub of_derived : {ks us : Slots} (t : Tree) {i j : ℕ} {ls rest : Lexemes} → Takes rule (rule (at SimpleTarget f)) end (tree t.label t.slots end) i ls end j rest → Taken n ks t i ls us j rest
   of_derived {ks} {us} t d = let x = target_left_hand_side t d in record { label = x.label; slots = x.slots; has = x.has; takes = anew (w.up x.derived) }
     where
       anew : {l : Label} {cs : Slots} {i j : ℕ} {ls rest : Lexemes} → Takes rule (such n always) end (tree l cs end) i ls end j rest → Takes rule (such n always) ks (tree l cs us) i ls us j rest

@@ -1,0 +1,171 @@
+//! `for` statements (ECMA-262, sections 14.7.4 and 14.7.5).
+
+ghost use Rattle.std.specs.Prelude.{◌≡◌, ◌+◌, true, []};
+ghost use Rattle.js_base.specs.Contexts.{has_flag, in_flag};
+ghost use Rattle.js_base.specs.declared.kind.Kind.TheVariants.{For};
+ghost use Rattle.js_parsing.specs.Nesting.{CanNest, room};
+ghost use Rattle.js_parsing.specs.Stands.{StandsHere};
+ghost use Rattle.js_parsing.specs.States.{Standing};
+ghost use Rattle.js_parsing.specs.Statements.{TakesAnywhere};
+ghost use Rattle.js_statements.specs.ForHeads.{EndsPart, TakesFirst, TakesHead, TakesParensHead, TakesPart, TakesRest, node_of};
+
+use crate::for_parts::parse_part_without_in;
+use js_base::Kind;
+use js_cursor::{ParserImpl, Stop};
+use js_lex::ParserConfig;
+use js_operands::primary::close_parentheses;
+use js_parsing::context::{context, set_context};
+use js_parsing::lexemes::{advance, stands};
+use js_parsing::nested::Nested;
+use js_parsing::nodes::make_list;
+use js_tree::{NodeId, NodeKind, Op};
+
+/// How the first part of the head of a `for` ends, which decides what the statement is.
+#[derive(Clone, Copy)]
+pub enum Ending {
+    /// By a semicolon, in a ForStatement (ECMA-262, section 14.7.4).
+    Semicolon,
+    /// By `in`, in a ForInOfStatement (14.7.5).
+    In,
+    /// By `of`, in a ForInOfStatement (14.7.5).
+    Of,
+}
+
+impl Ending {
+    /// The kind of the statement's node.
+    fn node_kind(self) -> NodeKind
+        ensures { result ≡ node_of self }
+    {
+        match self {
+            Ending::Semicolon => NodeKind::ForStatement,
+            Ending::In => NodeKind::ForInStatement,
+            Ending::Of => NodeKind::ForOfStatement,
+        }
+    }
+}
+
+/// A ForStatement, or a ForInOfStatement with `in` or `of` (ECMA-262, sections 14.7.4 and 14.7.5). Which of them it is, is known
+/// behind the first part of its head.
+#[inline(never)]
+pub fn parse_for_statement<C: ParserConfig, N: Nested<C>>(
+    p: &mut ParserImpl<'_, C>,
+    nested: &N,
+) -> Result<NodeId, Stop>
+    requires at { Standing p.old }
+    requires nests { CanNest (N.can nested.now) (room p.old) }
+    requires allows_in { has_flag in_flag p.old.ctx ≡ true }
+    requires word { StandsHere p.old For true }
+    ensures { TakesAnywhere p.old p.new result }
+{
+    let start = p.cur_start();
+    advance(p)?;
+    let mut children = Vec::new(p.alloc);
+    let ending = parse_paren_for_head(p, nested, &mut children)?;
+    let body = nested.statement(p)?;
+    children.push(Some(body))?;
+    let span = p.end_span(start);
+    let node = make_list(p, ending.node_kind(), Op::None, span, children)?;
+    Ok(node)
+}
+
+/// The head of a `for` in its parentheses: its parts are put behind the children.
+fn parse_paren_for_head<C: ParserConfig, N: Nested<C>>(
+    p: &mut ParserImpl<'_, C>,
+    nested: &N,
+    children: &mut Vec<Option<NodeId>>,
+) -> Result<Ending, Stop>
+    requires at { Standing p.old }
+    requires nests { CanNest (N.can nested.now) (room p.old) }
+    requires none { children.old.items ≡ [] }
+    ensures { TakesParensHead p.old p.new children.new.items result }
+{
+    let opening = p.cur_token().span();
+    p.expect(Kind::LParen)?;
+    let ending = parse_for_head(p, nested, children)?;
+    close_parentheses(p, opening)?;
+    Ok(ending)
+}
+
+/// What stands between the parentheses of a `for`: its parts are put behind the children.
+fn parse_for_head<C: ParserConfig, N: Nested<C>>(
+    p: &mut ParserImpl<'_, C>,
+    nested: &N,
+    children: &mut Vec<Option<NodeId>>,
+) -> Result<Ending, Stop>
+    requires at { Standing p.old }
+    requires nests { CanNest (N.can nested.now) (room p.old) }
+    requires none { children.old.items ≡ [] }
+    ensures { TakesHead p.old p.new children.new.items result }
+{
+    let first = parse_first_part(p, nested)?;
+    children.push(first)?;
+    parse_head_rest(p, nested, children)
+}
+
+/// The first part of the head: a declaration or an expression, where `in` is no operator, or nothing.
+fn parse_first_part<C: ParserConfig, N: Nested<C>>(
+    p: &mut ParserImpl<'_, C>,
+    nested: &N,
+) -> Result<Option<NodeId>, Stop>
+    requires at { Standing p.old }
+    requires nests { CanNest (N.can nested.now) (room p.old) }
+    ensures { TakesFirst p.old p.new result }
+{
+    if p.at(Kind::Semicolon) || p.at(Kind::RParen) {
+        return Ok(None);
+    }
+    let outer = context(p);
+    set_context(p, outer.and_in(false));
+    let first = parse_part_without_in(p, nested)?;
+    set_context(p, outer);
+    Ok(Some(first))
+}
+
+/// The rest of the head from what ends its first part on.
+fn parse_head_rest<C: ParserConfig, N: Nested<C>>(
+    p: &mut ParserImpl<'_, C>,
+    nested: &N,
+    children: &mut Vec<Option<NodeId>>,
+) -> Result<Ending, Stop>
+    requires at { Standing p.old }
+    requires nests { CanNest (N.can nested.now) (room p.old) }
+    ensures { TakesRest p.old p.new children.old.items children.new.items result }
+{
+    if stands(p, Kind::In) {
+        advance(p)?;
+        let right = nested.expression(p)?;
+        children.push(Some(right))?;
+        return Ok(Ending::In);
+    }
+    if stands(p, Kind::Of) {
+        advance(p)?;
+        let right = nested.assignment(p)?;
+        children.push(Some(right))?;
+        return Ok(Ending::Of);
+    }
+    p.expect(Kind::Semicolon)?;
+    let test = parse_part_before(p, nested, Kind::Semicolon)?;
+    children.push(test)?;
+    p.expect(Kind::Semicolon)?;
+    let update = parse_part_before(p, nested, Kind::RParen)?;
+    children.push(update)?;
+    Ok(Ending::Semicolon)
+}
+
+/// A later part of the head of a ForStatement: an Expression, or none before what ends it (ECMA-262, section 14.7.4).
+fn parse_part_before<C: ParserConfig, N: Nested<C>>(
+    p: &mut ParserImpl<'_, C>,
+    nested: &N,
+    end: Kind,
+) -> Result<Option<NodeId>, Stop>
+    requires at { Standing p.old }
+    requires nests { CanNest (N.can nested.now) (room p.old + 1) }
+    requires ends { EndsPart end }
+    ensures { TakesPart end p.old p.new result }
+{
+    if p.at(end) || p.at(Kind::RParen) {
+        return Ok(None);
+    }
+    let part = nested.expression(p)?;
+    Ok(Some(part))
+}
