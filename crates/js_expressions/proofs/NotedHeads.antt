@@ -10,7 +10,7 @@ use Rattle.js_grammar.specs.Productions.{Flags, sym as symbol, tok, Params}
 use Rattle.js_grammar.specs.Table.{rule}
 use Rattle.js_base.specs.declared.kind.Kind.TheVariants.{Arrow, LParen}
 use Rattle.js_cursor.specs.Moves.{NotesArrow}
-use Rattle.js_cursor.specs.Notes.{Notes, is_failed}
+use Rattle.js_cursor.specs.Notes.{NotedAt, Notes, is_noted}
 use Rattle.js_cursor.specs.Parsers.{Parser}
 use Rattle.js_cursor.specs.Places.{IsAt}
 use Rattle.js_cursor.proofs.Changing.{noted_on}
@@ -36,9 +36,9 @@ no_head_alike {text} f g {s} e n = record { no = λ ts vs j ls rest l d a. go ts
     go ts vs j ls rest l (is_seq d c) = n.no ts vs j ls rest l (is_seq (params_alike g f e d (all_read text s ls l)) c) (refl, refl)
 
 -- none stands here, by what is noted
-pub noted_none : {p : Parser} {place : ℕ} {b : Bool} → p.token.kind ≡ LParen → place ≡ p.prev_token_end → b ≡ is_failed p.state.failed (has_flag await_flag p.ctx) (has_flag yield_flag p.ctx) place → b ≡ true → NoArrowHere p
+pub noted_none : {p : Parser} {place : ℕ} {b : Bool} → p.token.kind ≡ LParen → place ≡ p.prev_token_end → b ≡ is_noted p.state.failed (has_flag await_flag p.ctx) (has_flag yield_flag p.ctx) place → b ≡ true → NoArrowHere p
 noted_none {p} {place} k i h e = λ text f a.
-    let n : NoHead p.text (flags_of p) p.prev_token_end = subst (λ (s : ℕ). NoHead p.text (flags_of p) s) i (a.heads (flags_of p) place (sym h ∙ e)) in
+    let n : NoHead p.text (flags_of p) p.prev_token_end = subst (λ (s : ℕ). NoHead p.text (flags_of p) s) i (a.heads.0 (flags_of p) place (sym h ∙ e)) in
     no_head_no_arrow a k (subst (λ (g : Flags). NoHead text g p.prev_token_end) a.flags_are (subst (λ (t : List ℕ). NoHead t (flags_of p) p.prev_token_end) a.text_is n))
 
 abbrev same_bool : Bool → Bool → Bool
@@ -58,7 +58,7 @@ same_self false = refl
 
 -- what is noted is so still
 pub noted_so : {p q : Parser} {place : ℕ} → Standing p → place ≡ p.prev_token_end → NoHeadHere p → NotesArrow place p q → NotedHeads q
-noted_so {p} {q} {place} a i n h = subst NotedHeads (sym h.is) (λ f s k. go f s k (same_bool f.await_ (has_flag await_flag p.ctx) && (same_bool f.yield_ (has_flag yield_flag p.ctx) && nat_eq s place)) refl)
+noted_so {p} {q} {place} a i n h = subst NotedHeads (sym h.is) (λ f s k. go f s k (same_bool f.await_ (has_flag await_flag p.ctx) && (same_bool f.yield_ (has_flag yield_flag p.ctx) && nat_eq s place)) refl, λ f s k. a.heads.1 f s (subst (λ (v : NotedAt). is_noted v f.await_ f.yield_ s ≡ true) h.noted.operands k))
   where
     all : (f : Flags) (s : ℕ) → (f.await_ ≡ has_flag await_flag p.ctx) × (f.yield_ ≡ has_flag yield_flag p.ctx) × (s ≡ place) → (same_bool f.await_ (has_flag await_flag p.ctx) && (same_bool f.yield_ (has_flag yield_flag p.ctx) && nat_eq s place)) ≡ true
     all f s w = rw (w.0, w.1, w.2) (and_from (same_bool (has_flag await_flag p.ctx) (has_flag await_flag p.ctx)) (same_bool (has_flag yield_flag p.ctx) (has_flag yield_flag p.ctx) && nat_eq place place) (same_self (has_flag await_flag p.ctx)) (and_from (same_bool (has_flag yield_flag p.ctx) (has_flag yield_flag p.ctx)) (nat_eq place place) (same_self (has_flag yield_flag p.ctx)) (eq-eqb place place refl)))
@@ -66,12 +66,12 @@ noted_so {p} {q} {place} a i n h = subst NotedHeads (sym h.is) (λ f s k. go f s
     here : (f : Flags) (s : ℕ) → f.await_ ≡ has_flag await_flag p.ctx → f.yield_ ≡ has_flag yield_flag p.ctx → s ≡ place → NoHead p.text (throughout p f) s
     here f s x y z = subst (λ (v : ℕ). NoHead p.text (throughout p f) v) (sym (z ∙ i)) (no_head_alike (flags_of p) (throughout p f) (λ j. record (flags_of p) { await_ = sym x j; yield_ = sym y j }) (n _ _ a))
 
-    go : (f : Flags) (s : ℕ) → is_failed q.state.failed f.await_ f.yield_ s ≡ true → (b : Bool) → (same_bool f.await_ (has_flag await_flag p.ctx) && (same_bool f.yield_ (has_flag yield_flag p.ctx) && nat_eq s place)) ≡ b → NoHead p.text (throughout p f) s
+    go : (f : Flags) (s : ℕ) → is_noted q.state.failed f.await_ f.yield_ s ≡ true → (b : Bool) → (same_bool f.await_ (has_flag await_flag p.ctx) && (same_bool f.yield_ (has_flag yield_flag p.ctx) && nat_eq s place)) ≡ b → NoHead p.text (throughout p f) s
     go f s k true e =
         let x = and_parts (same_bool f.await_ (has_flag await_flag p.ctx)) _ e in
         let y = and_parts (same_bool f.yield_ (has_flag yield_flag p.ctx)) _ x.1 in
         here f s (same_true _ _ x.0) (same_true _ _ y.0) (eqb-true s place y.1)
-    go f s k false e = a.heads f s (sym (h.noted.failed.others f.await_ f.yield_ s (λ w. apart f s e w)) ∙ k)
+    go f s k false e = a.heads.0 f s (sym (h.noted.failed.others f.await_ f.yield_ s (λ w. apart f s e w)) ∙ k)
       where
         apart : (f : Flags) (s : ℕ) → (same_bool f.await_ (has_flag await_flag p.ctx) && (same_bool f.yield_ (has_flag yield_flag p.ctx) && nat_eq s place)) ≡ false → (f.await_ ≡ has_flag await_flag p.ctx) × (f.yield_ ≡ has_flag yield_flag p.ctx) × (s ≡ place) → ⊥
         apart f s e w = false≢true (sym e ∙ all f s w)
