@@ -1,7 +1,7 @@
 -- The parameters of an arrow function are derived as arguments too, over the same lexemes: by the cover grammar (CoverParenthesizedExpressionAndArrowParameterList, ECMA-262, 13.2).
-use Rattle.std.proofs.Common.{ℕ, zero, suc, ◌+◌, ◌<◌, arith, ◌≡◌, true, false, IsTrue, refl}
-use Rattle.js_base.specs.declared.kind.Kind.TheVariants.{Comma, Colon, Dot3, Eq}
-use Rattle.js_grammar.specs.Trees.{Slots, end, hole, tree, binding_rest_element}
+use Rattle.std.proofs.Common.{ℕ, zero, suc, ◌<◌, arith, ◌≡◌, true, false, IsTrue, refl}
+use Rattle.js_base.specs.declared.kind.Kind.TheVariants.{LBrack, RBrack, LCurly, RCurly, Comma, Colon, Dot3, Eq}
+use Rattle.js_grammar.specs.Trees.{Label, Slots, end, hole, tree, binding_rest_element}
 use Rattle.js_grammar.specs.Grammar.{Lexeme, Lexemes, next, seen, is, nothing, never, empty_slot, many, commas, such, ◌▸◌, ◌◇◌, Takes, is_nothing, is_lexeme, is_ahead, is_empty_slot, is_seq, is_left, is_right, is_when, is_many, is_commas, is_such, is_node}
 use Rattle.js_grammar.specs.Parsing.{always}
 use Rattle.js_grammar.specs.Productions.{G, Flags, at, mk, opt, tok, plus_in, Params, Param, Rest, Init, Assignment, Argument, LeftHandSide, IdentifierReference, BindingIdentifier, SimpleTarget, Target, ArrayTarget, ObjectTarget, TargetElement, TargetProperty, Binding, BElement, Pattern, PatternProperty, BindingRest}
@@ -43,14 +43,6 @@ simple_target : (f : Flags) {i j : ℕ} {ls rest : Lexemes} → One (at SimpleTa
 unfolding rule rule_of
 simple_target f x = record { label = x.label; slots = x.slots; derived = is_left (is_such x.derived refl) }
 
-array_target : (f : Flags) {i j : ℕ} {ls rest : Lexemes} → One (at ArrayTarget f) i ls j rest → One (at Target f) i ls j rest
-unfolding rule rule_of
-array_target f x = record { label = x.label; slots = x.slots; derived = is_right (is_left (is_such x.derived refl)) }
-
-object_target : (f : Flags) {i j : ℕ} {ls rest : Lexemes} → One (at ObjectTarget f) i ls j rest → One (at Target f) i ls j rest
-unfolding rule rule_of
-object_target f x = record { label = x.label; slots = x.slots; derived = is_right (is_right (is_such x.derived refl)) }
-
 -- an element, without an initialiser and with one
 bare_element : (f : Flags) {i j : ℕ} {ls rest : Lexemes} → One (at Target f) i ls j rest → One (at TargetElement f) i ls j rest
 unfolding rule rule_of
@@ -77,6 +69,36 @@ computed_property : (f : Flags) {ts us : Slots} {i j k : ℕ} {x : Lexeme} {ls m
 unfolding rule rule_of
 computed_property f m q e = record { label = _; slots = _; derived = is_right (is_right (is_node (is_seq ((framed m).2 (tree e.label e.slots end)) (is_seq (is_lexeme q) (is_such e.derived refl))))) }
 
+-- elements of an array, one more before others, and the last; properties of an object likewise
+more_elements : (f : Flags) {i j k : ℕ} {x : Lexeme} {ls mid rest : Lexemes} → One (at TargetElement f) i ls j (next x mid) → IsTrue (seen (is Comma) x) → Some' (many (target_step f)) x.to mid k rest → Some' (many (target_step f)) i ls k rest
+more_elements f e q m = λ vs. let y = m vs in (tree e.label e.slots y.0, is_many (is_left (is_seq (is_right (is_seq (is_such e.derived refl) (is_lexeme q))) y.1)))
+
+more_gaps : (f : Flags) {i k : ℕ} {x : Lexeme} {ls rest : Lexemes} → IsTrue (seen (is Comma) x) → Some' (many (target_step f)) x.to ls k rest → Some' (many (target_step f)) i (next x ls) k rest
+more_gaps f q m = λ vs. let y = m vs in (hole y.0, is_many (is_left (is_seq (is_left (is_seq is_empty_slot (is_lexeme q))) y.1)))
+
+last_element : (f : Flags) {i j : ℕ} {ls rest : Lexemes} → One (at TargetElement f) i ls j rest → Some' (target_last f) i ls j rest
+last_element f e = λ vs. (tree e.label e.slots vs, is_left (is_such e.derived refl))
+
+rest_element : (f : Flags) {i j : ℕ} {x : Lexeme} {ls rest : Lexemes} → IsTrue (seen (is Dot3) x) → One (at Target f) x.to ls j rest → Some' (target_last f) i (next x ls) j rest
+rest_element f q e = λ vs. (_, is_right (is_left (is_seq (is_node (is_seq (is_lexeme q) (is_such {l = e.label} {cs = e.slots} e.derived refl))) (is_right is_nothing))))
+
+array_of : (f : Flags) {i j k : ℕ} {x y : Lexeme} {ls mid rest : Lexemes} → IsTrue (seen (is LBrack) x) → Some' (many (target_step f)) x.to ls j mid → Some' (target_last f) j mid k (next y rest) → IsTrue (seen (is RBrack) y) → One (at Target f) i (next x ls) y.to rest
+unfolding rule rule_of
+array_of f q m l p = let b = l end in let a = m b.0 in record { label = _; slots = _; derived = is_right (is_left (is_such (is_node (is_seq (is_lexeme q) (is_seq (is_seq a.1 b.1) (is_lexeme p)))) refl)) }
+
+more_properties : (f : Flags) {i j k : ℕ} {x : Lexeme} {ls mid rest : Lexemes} → One (at TargetProperty f) i ls j (next x mid) → IsTrue (seen (is Comma) x) → Some' (many (target_property f)) x.to mid k rest → Some' (many (target_property f)) i ls k rest
+more_properties f e q m = λ vs. let y = m vs in (tree e.label e.slots y.0, is_many (is_left (is_seq (is_right (is_seq (is_such e.derived refl) (is_lexeme q))) y.1)))
+
+last_of_them : (f : Flags) {i j : ℕ} {ls rest : Lexemes} → One (at TargetProperty f) i ls j rest → Some' (last_property f) i ls j rest
+last_of_them f e = λ vs. (tree e.label e.slots vs, is_left (is_such e.derived refl))
+
+rest_property : (f : Flags) {i j : ℕ} {x : Lexeme} {ls rest : Lexemes} → IsTrue (seen (is Dot3) x) → One (at SimpleTarget f) x.to ls j rest → Some' (last_property f) i (next x ls) j rest
+rest_property f q e = λ vs. (_, is_right (is_left (is_seq (is_node (is_seq (is_lexeme q) (is_left (is_such {l = e.label} {cs = e.slots} e.derived refl)))) (is_right is_nothing))))
+
+object_of : (f : Flags) {i j k : ℕ} {x y : Lexeme} {ls mid rest : Lexemes} → IsTrue (seen (is LCurly) x) → Some' (many (target_property f)) x.to ls j mid → Some' (last_property f) j mid k (next y rest) → IsTrue (seen (is RCurly) y) → One (at Target f) i (next x ls) y.to rest
+unfolding rule rule_of
+object_of f q m l p = let b = l end in let a = m b.0 in record { label = _; slots = _; derived = is_right (is_right (is_such (is_node (is_seq (is_lexeme q) (is_seq (is_seq a.1 b.1) (is_lexeme p)))) refl)) }
+
 -- bindings whose derivations are smaller than n are targets
 abbrev UpTo : Flags → ℕ → Type 0
 UpTo f n = (ts us : Slots) (i j : ℕ) (ls rest : Lexemes) (d : Takes rule (rule (at Binding f)) end ts i ls us j rest) → deep d < n → One (at Target f) i ls j rest
@@ -90,13 +112,13 @@ module _ (f : Flags) where
 
     many_at : {ks ts us : Slots} {i j : ℕ} {ls rest : Lexemes} (d : Takes rule (many (binding_step f)) ks ts i ls us j rest) → deep d < n → Some' (many (target_step f)) i ls j rest
     many_at (is_many (is_right is_nothing)) c = λ vs. (vs, is_many (is_right is_nothing))
-    many_at (is_many (is_left (is_seq (is_left (is_seq is_empty_slot (is_lexeme q))) m))) c = λ vs. let x = many_at m (omega arith) vs in (hole x.0, is_many (is_left (is_seq (is_left (is_seq is_empty_slot (is_lexeme q))) x.1)))
-    many_at (is_many (is_left (is_seq (is_right (is_seq (is_such d h) (is_lexeme q))) m))) c = λ vs. let x = many_at m (omega arith) vs in let e = element_at d (omega arith) in (tree e.label e.slots x.0, is_many (is_left (is_seq (is_right (is_seq (is_such e.derived refl) (is_lexeme q))) x.1)))
+    many_at (is_many (is_left (is_seq (is_left (is_seq is_empty_slot (is_lexeme q))) m))) c = more_gaps f q (many_at m (omega arith))
+    many_at (is_many (is_left (is_seq (is_right (is_seq (is_such d h) (is_lexeme q))) m))) c = more_elements f (element_at d (omega arith)) q (many_at m (omega arith))
 
     last_at : {ks ts us : Slots} {i j : ℕ} {ls rest : Lexemes} (d : Takes rule (binding_last f) ks ts i ls us j rest) → deep d < n → Some' (target_last f) i ls j rest
     unfolding rule rule_of
-    last_at (is_left (is_such d h)) c = λ vs. let e = element_at d (omega arith) in (tree e.label e.slots vs, is_left (is_such e.derived refl))
-    last_at (is_right (is_left (is_such (is_node (is_seq (is_lexeme q) (is_such d h))) g))) c = λ vs. let e = up _ _ _ _ _ _ d (omega arith) in (_, is_right (is_left (is_seq (is_node (is_seq (is_lexeme q) (is_such e.derived refl))) (is_right is_nothing))))
+    last_at (is_left (is_such d h)) c = last_element f (element_at d (omega arith))
+    last_at (is_right (is_left (is_such (is_node (is_seq (is_lexeme q) (is_such d h))) g))) c = rest_element f q (up _ _ _ _ _ _ d (omega arith))
     last_at (is_right (is_right is_nothing)) c = λ vs. (vs, is_right (is_right is_nothing))
 
     property_at : {ts us : Slots} {i j : ℕ} {ls rest : Lexemes} (d : Takes rule (rule (at PatternProperty f)) end ts i ls us j rest) → deep d < n → One (at TargetProperty f) i ls j rest
@@ -109,23 +131,17 @@ module _ (f : Flags) where
     properties_at : {ks ts us : Slots} {i j : ℕ} {ls rest : Lexemes} (d : Takes rule (many (pattern_property f)) ks ts i ls us j rest) → deep d < n → Some' (many (target_property f)) i ls j rest
     properties_at (is_many (is_right is_nothing)) c = λ vs. (vs, is_many (is_right is_nothing))
     properties_at (is_many (is_left (is_seq (is_left z) m))) c = elim z [ ]
-    properties_at (is_many (is_left (is_seq (is_right (is_seq (is_such d h) (is_lexeme q))) m))) c = λ vs. let x = properties_at m (omega arith) vs in let e = property_at d (omega arith) in (tree e.label e.slots x.0, is_many (is_left (is_seq (is_right (is_seq (is_such e.derived refl) (is_lexeme q))) x.1)))
+    properties_at (is_many (is_left (is_seq (is_right (is_seq (is_such d h) (is_lexeme q))) m))) c = more_properties f (property_at d (omega arith)) q (properties_at m (omega arith))
 
     last_property_at : {ks ts us : Slots} {i j : ℕ} {ls rest : Lexemes} (d : Takes rule (last_pattern_property f) ks ts i ls us j rest) → deep d < n → Some' (last_property f) i ls j rest
-    last_property_at (is_left (is_such d h)) c = λ vs. let e = property_at d (omega arith) in (tree e.label e.slots vs, is_left (is_such e.derived refl))
-    last_property_at (is_right (is_left (is_node (is_seq (is_lexeme q) d)))) c = λ vs. let e = name_target f (reference f d) in (_, is_right (is_left (is_seq (is_node (is_seq (is_lexeme q) (is_left (is_such e.derived refl)))) (is_right is_nothing))))
+    last_property_at (is_left (is_such d h)) c = last_of_them f (property_at d (omega arith))
+    last_property_at (is_right (is_left (is_node (is_seq (is_lexeme q) d)))) c = rest_property f q (name_target f (reference f d))
     last_property_at (is_right (is_right is_nothing)) c = λ vs. (vs, is_right (is_right is_nothing))
 
     pattern_at : {ts us : Slots} {i j : ℕ} {ls rest : Lexemes} (d : Takes rule (rule (at Pattern f)) end ts i ls us j rest) → deep d < n → One (at Target f) i ls j rest
     unfolding rule rule_of
-    pattern_at (is_left (is_node (is_seq (is_lexeme q) (is_seq (is_seq m l) (is_lexeme p))))) c =
-        let y = last_at l (omega arith) end in
-        let x = many_at m (omega arith) y.0 in
-        array_target f (record { label = _; slots = _; derived = is_node (is_seq (is_lexeme q) (is_seq (is_seq x.1 y.1) (is_lexeme p))) })
-    pattern_at (is_right (is_node (is_seq (is_lexeme q) (is_seq (is_seq m l) (is_lexeme p))))) c =
-        let y = last_property_at l (omega arith) end in
-        let x = properties_at m (omega arith) y.0 in
-        object_target f (record { label = _; slots = _; derived = is_node (is_seq (is_lexeme q) (is_seq (is_seq x.1 y.1) (is_lexeme p))) })
+    pattern_at (is_left (is_node (is_seq (is_lexeme q) (is_seq (is_seq m l) (is_lexeme p))))) c = array_of f q (many_at m (omega arith)) (last_at l (omega arith)) p
+    pattern_at (is_right (is_node (is_seq (is_lexeme q) (is_seq (is_seq m l) (is_lexeme p))))) c = object_of f q (properties_at m (omega arith)) (last_property_at l (omega arith)) p
 
     one_deeper : UpTo f (suc n)
     unfolding rule rule_of
@@ -141,7 +157,7 @@ module _ (f : Flags) where
 
 -- ---- a parameter, as an argument
 
-raised : (f : Flags) {l : _} {cs : Slots} {i j : ℕ} {ls rest : Lexemes} → Takes rule (such (at LeftHandSide f) always) end (tree l cs end) i ls end j rest → One (at Assignment (plus_in f)) i ls j rest
+raised : (f : Flags) {l : Label} {cs : Slots} {i j : ℕ} {ls rest : Lexemes} → Takes rule (such (at LeftHandSide f) always) end (tree l cs end) i ls end j rest → One (at Assignment (plus_in f)) i ls j rest
 raised f {l} {cs} d = record { label = l; slots = cs; derived = of_such ((of_assignment (plus_in f)).up (any_in LeftHandSide f (plus_in f) refl refl d)) }
   where
     of_such : {i j : ℕ} {ls rest : Lexemes} → Takes rule (symbol Assignment (plus_in f)) end (tree l cs end) i ls end j rest → Takes rule (rule (at Assignment (plus_in f))) end (tree l cs end) i ls end j rest
