@@ -9,9 +9,11 @@ pub mod Conditionals
 pub mod Exponents
 pub mod FreeOfContext
 pub mod HeadOperands
+pub mod HeadsAsArguments
 pub mod Lookaheads
 pub mod NotedHeads
 pub mod Operations
+pub mod ParenthesizedFronts
 pub mod Refusals
 pub mod Sequences
 pub mod SlashOperators
