@@ -13,7 +13,7 @@ use Rattle.js_grammar.specs.Insertion.{after_yield}
 use Rattle.js_grammar.specs.Lexed.{Lexes}
 use Rattle.js_grammar.specs.Lexemes.{is_word}
 use Rattle.js_grammar.specs.Parsing.{Test, plain, full, Admits, always, Goes, Fails, still}
-use Rattle.js_grammar.specs.Productions.{G, Flags, at, tok, mk, make, slot, no_newline, delegate_flag, Arrow', Assignment, Conditional}
+use Rattle.js_grammar.specs.Productions.{G, Flags, at, tok, mk, make, slot, no_newline, delegate_flag, Arrow', Assignment, Conditional, Target}
 use Rattle.js_grammar.specs.Productions.{sym as symbol, Yield as Yield'}
 use Rattle.js_grammar.specs.Table.{rule, rule_of}
 use Rattle.js_grammar.specs.FirstSets.{first}
@@ -46,6 +46,7 @@ use Rattle.js_parsing.proofs.Paths.{Path, angles, reads, ◌⟼◌, ◌⟶◌, �
 use Rattle.js_parsing.proofs.Signs.{other_kind, plain_sign}
 use Rattle.js_operands.proofs.Operands.{by_path}
 use Rattle.js_patterns.proofs.Bindings.{ended_by}
+use Rattle.js_targets.specs.Taken.{NoTargetFrom, goes_through}
 use Rattle.js_targets.proofs.Assigned.{assign_part, all_parts}
 use Rattle.js_targets.proofs.ArraysBeforeSigns.{array_part}
 use Rattle.js_grammar.specs.Insertion.{assign_operators}
@@ -202,6 +203,11 @@ module _ {text : List ℕ} {f : Flags} {q : Parser} (b : At text f q) where
 
 begun : {text : List ℕ} {f : Flags} {p : Parser} → At text f p → BeginsYield p → f.yield_ ≡ true
 begun a y = sym (ap (λ (g : Flags). g.yield_) a.flags_are) ∙ y.yields
+
+-- no target begins with it
+pub yield_no_target : {text : List ℕ} {f : Flags} {p : Parser} → At text f p → BeginsYield p → NoTargetFrom text f p.prev_token_end
+unfolding apart
+yield_no_target a y = fails_at_yield a _ {X = plain goes_through} (λ g. symbol Target g) refl refl y.kind (begun a y)
 
 star_plain : (is_word Star || same_kind PrivateIdentifier Star) ≡ false
 unfolding words

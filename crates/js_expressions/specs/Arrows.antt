@@ -77,8 +77,8 @@ IsHeadHere p q id = (q.token.kind ≡ Arrow) × ((text : List ℕ) (f : Flags) �
 
 -- Parameters were read, and `=>` stands behind them: whether an operand begins there too is known where something was told of them.
 pub data HeadRead (text : List ℕ) (f : Flags) (o p : Parser) (id : NodeId) : Type 0 where
-  clean_head : Head text f o p id → HeadRead text f o p id
-  unclean_head : ToldHead text f o p id → Underived text (at Short f) o.prev_token_end → HeadRead text f o p id
+  read_clean : Head text f o p id → HeadRead text f o p id
+  read_unclean : ToldHead text f o p id → Underived text (at Short f) o.prev_token_end → HeadRead text f o p id
 
 abbrev pub IsHeadRead : Parser → Parser → NodeId → Type 0
 IsHeadRead p q id = (q.token.kind ≡ Arrow) × ((text : List ℕ) (f : Flags) → At text f p → HeadRead text f p q id)
