@@ -577,11 +577,11 @@ some_found p q id r e h = subst (FindsHead p q) e h
 pub none_found : (p q : Parser) (r : Option NodeId) → r ≡ None → FindsHead p q r → Unmoved p q × NoArrowHere p
 none_found p q r e h = subst (FindsHead p q) e h
 
-pub none_looked : (p q : Parser) (r : Option NodeId) → r ≡ None → LooksForHead p q r → NoneLooked p q
-none_looked p q r e h = subst (LooksForHead p q) e h
+pub none_looked : (p o q : Parser) (r : Option NodeId) → o ≡ p → r ≡ None → LooksForHead o q r → NoneLooked p q
+none_looked p o q r s e h = subst (λ (z : Parser). NoneLooked z q) s (subst (LooksForHead o q) e h)
 
-pub some_looked : (p q : Parser) (id : NodeId) (r : Option NodeId) → r ≡ Some id → LooksForHead p q r → IsHeadRead p q id
-some_looked p q id r e h = subst (LooksForHead p q) e h
+pub some_looked : (p o q : Parser) (id : NodeId) (r : Option NodeId) → o ≡ p → r ≡ Some id → LooksForHead o q r → IsHeadRead p q id
+some_looked p o q id r s e h = subst (λ (z : Parser). IsHeadRead z q id) s (subst (LooksForHead o q) e h)
 
 pub head_so : (start kept : ℕ) (q : Parser) {b r : Bool} → r ≡ b → IsHead start kept q r → IsHead start kept q b
 head_so start kept q e h = subst (λ (v : Bool). IsHead start kept q v) e h

@@ -1,6 +1,6 @@
 -- Heads of arrow functions in which a slash stands (ECMA-262, 15.3): what stands there is read as arguments too, and those are read over one list of lexemes alone, or none.
 use Rattle.std.proofs.Common.{ℕ, ◌≡◌, ◌≤◌, ◌⊎◌, inl, inr, List, [], ◌∷◌, length, Bool, true, false, not, ◌&&◌, IsTrue, Option, Some, None, refl, sym, ap, subst, arith, ◌∙◌}
-use Rattle.std.specs.Prelude.{IsCharBoundary, IsUtf8}
+use Rattle.std.specs.Prelude.{IsCharBoundary, IsUtf8, MatchResult, Result, Ok, Err}
 use Rattle.std.proofs.lemmas.Bool.{and_parts, false≢true}
 use Rattle.js_base.specs.Contexts.{has_flag, await_flag, yield_flag}
 use Rattle.js_base.specs.Kinds.{same_kind}
@@ -11,7 +11,7 @@ use Rattle.js_grammar.specs.Trees.{Slots, end, tree}
 use Rattle.js_grammar.specs.Grammar.{Lexeme, Lexemes, here, nothing, Takes, is_lexeme, is_seq, ◌▸◌}
 use Rattle.js_grammar.specs.Lexed.{Lexes}
 use Rattle.js_grammar.specs.Parsing.{Fails, plain, full}
-use Rattle.js_grammar.specs.Productions.{Flags, Symbol, at, tok, Arrow', Assignment, Params, Short}
+use Rattle.js_grammar.specs.Productions.{Flags, Symbol, at, tok, Assignment, Params, Short}
 use Rattle.js_grammar.specs.Productions.{sym as symbol}
 use Rattle.js_grammar.specs.Table.{rule, args}
 use Rattle.js_grammar.proofs.Calculus.{ends, here_at}
@@ -19,6 +19,7 @@ use Rattle.js_grammar.proofs.Heads.{One}
 use Rattle.js_tree.specs.declared.id.NodeId.{NodeId}
 use Rattle.js_tree.proofs.HoldingLemmas.{Holds-wider, Keeps-longer, Keeps-trans}
 use Rattle.js_cursor.specs.Checkpoints.{GoesOn}
+use Rattle.js_cursor.specs.Moves.{OnlyMemory}
 use Rattle.js_cursor.specs.Notes.{is_noted}
 use Rattle.js_cursor.specs.Parsers.{Parser}
 use Rattle.js_cursor.specs.declared.stop.Stop.{Stop}
@@ -29,13 +30,13 @@ use Rattle.js_parsing.specs.Heads.{NoHead, NotedHeads, OnlyArrow}
 use Rattle.js_parsing.specs.Lexemes.{Lex}
 use Rattle.js_parsing.specs.States.{At, Same, Standing, NodesLie, SpansLie, flags_of}
 use Rattle.js_parsing.proofs.Here.{kind_here}
-use Rattle.js_parsing.proofs.Moving.{flags_same, same_both}
+use Rattle.js_parsing.proofs.Moving.{flags_same, same_both, standing}
 use Rattle.js_parsing.proofs.Paths.{walked_from}
 use Rattle.js_parsing.proofs.Unbuilt.{nothing_unbuilt}
 use Rattle.js_parsing.proofs.Verdicts.{either_way}
 use Rattle.js_targets.specs.Others.{NoYield}
 use Rattle.js_targets.proofs.ArraysBeforeSigns.{is_cover, not_wide}
-use Rattle.js_expressions.specs.Arrows.{ArgumentsTold, BeforeArrow, a_head, told_head, FindsHead, Head, head_of, HeadRead, read_clean, read_unclean, IsHeadHere, IsHeadRead, NoArrowHere, NoHeadHere, NoneLooked, NoOperandHere, NoSlash, OnlyArrowHere, OperandExcluded, SlashFound, ToldHead, Unmoved}
+use Rattle.js_expressions.specs.Arrows.{ArgumentsTold, AttemptsHead, BeforeArrow, a_head, told_head, Head, head_of, HeadRead, read_clean, read_unclean, IsHeadHere, IsHeadRead, NoHeadHere, NoneLooked, NoOperandHere, NoSlash, OnlyArrowHere, OperandExcluded, SlashFound, ToldHead, Unmoved}
 use Rattle.js_expressions.proofs.Arrows.{AllCalm, arrow_is_here, head_no_operand}
 use Rattle.js_expressions.proofs.HeadsAsArguments.{params_as_arguments}
 use Rattle.js_expressions.proofs.NotedHeads.{noted_operand}
@@ -133,6 +134,13 @@ module _ {p : Parser} (k : p.token.kind ≡ LParen) where
 
 -- ---- the parser goes back, and reads again
 
+pub head_stands : {p q : Parser} {id : NodeId} → Standing p → IsHeadRead p q id → Standing q
+head_stands {p} {q} {id} a x = by (x.1 _ _ a)
+  where
+    by : {text : List ℕ} {f : Flags} → HeadRead text f p q id → Standing q
+    by (read_clean h) = standing h.at
+    by (read_unclean t s) = standing t.at
+
 -- behind a head the parser went on
 pub head_went_on : {p q : Parser} {id : NodeId} → Standing p → IsHeadRead p q id → GoesOn p q × NotedHeads q × (SpansLie p → NodesLie q.text q.nodes)
 head_went_on {p} {q} {id} a x = by (x.1 _ _ a)
@@ -200,6 +208,19 @@ module _ {p r : Parser} (u : Unmoved p r) where
   before_from_there (told_head h) = told_head (told_from_there h)
 
   -- what is found after the parser went back
-  pub finds_from_there : {q : Parser} (found : Option NodeId) → FindsHead r q found → FindsHead p q found
-  finds_from_there {q} (Some id) x = (x.0, (λ text f a. before_from_there (x.1 text f (u.at text f a))), operand_from x.2)
-  finds_from_there {q} None x = (unmoved_both u x.0, λ text f a. subst (λ (s : ℕ). Underived text (at Arrow' f) s) u.place (x.1 text f (u.at text f a)))
+  pub attempted_there : {q : Parser} (found : Option NodeId) → AttemptsHead r q found → AttemptsHead p q found
+  attempted_there {q} (Some id) x = (x.0, (λ text f a. before_from_there (x.1 text f (u.at text f a))), operand_from x.2)
+  attempted_there {q} None x = (unmoved_both u x.0, λ text f a. subst (λ (s : ℕ). NoHead text f s) u.place (x.1 text f (u.at text f a)))
+
+pub attempts_there : {p r q : Parser} (x : Result (Option NodeId) Stop) → Unmoved p r → MatchResult x (λ found. AttemptsHead r q found) OnlyMemory → MatchResult x (λ found. AttemptsHead p q found) OnlyMemory
+attempts_there (Ok found) u h = attempted_there u found h
+attempts_there (Err e) u h = h
+
+pub told_from : (p o q : Parser) (b : Bool) → o ≡ p → ArgumentsTold o q b → ArgumentsTold p q b
+told_from p o q b s h = subst (λ (z : Parser). ArgumentsTold z q b) s h
+
+pub some_attempted : (p q : Parser) (id : NodeId) (r : Option NodeId) → r ≡ Some id → AttemptsHead p q r → IsHeadHere p q id
+some_attempted p q id r e h = subst (AttemptsHead p q) e h
+
+pub none_attempted : (p q : Parser) (r : Option NodeId) → r ≡ None → AttemptsHead p q r → Unmoved p q × NoHeadHere p
+none_attempted p q r e h = subst (AttemptsHead p q) e h

@@ -134,6 +134,11 @@ ReadsHead p q (Err e) = NoAssignment p q e × NoOperandHere p
 abbrev pub NoHeadHere : Parser → Type 0
 NoHeadHere p = (text : List ℕ) (f : Flags) → At text f p → NoHead text f p.prev_token_end
 
+-- a head was read; or none in parentheses stands here, and the parser is where it was
+abbrev pub AttemptsHead : Parser → Parser → Option NodeId → Type 0
+AttemptsHead p q (Some id) = IsHeadHere p q id
+AttemptsHead p q None = Unmoved p q × NoHeadHere p
+
 -- none stands here, and the parser went on; the nodes that were made since lie in the text
 abbrev pub NoneLooked : Parser → Parser → Type 0
 NoneLooked p q = GoesOn p q × NotedHeads q × NoHeadHere p × (SpansLie p → NodesLie q.text q.nodes)

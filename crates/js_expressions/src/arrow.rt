@@ -5,7 +5,7 @@ ghost use Rattle.js_base.specs.declared.kind.Kind.TheVariants.{Arrow, LParen};
 ghost use Rattle.js_cursor.specs.Moves.{OnlyMemory};
 ghost use Rattle.js_grammar.specs.Productions.{at, Params};
 ghost use Rattle.js_parsing.specs.Answers.{Answers};
-ghost use Rattle.js_expressions.specs.Arrows.{ArgumentsTold, ArrowBehind, ChecksLine, FindsHead, IsHead, LooksForHead, OperandExcluded, ReadsArrowBody, ReadsBody, ReadsHead, SearchesHead, Single, SlashFound};
+ghost use Rattle.js_expressions.specs.Arrows.{ArgumentsTold, ArrowBehind, AttemptsHead, ChecksLine, FindsHead, IsHead, LooksForHead, OperandExcluded, ReadsArrowBody, ReadsBody, ReadsHead, SearchesHead, Single, SlashFound};
 ghost use Rattle.js_expressions.specs.Lookaheads.{NoOperandHere};
 ghost use Rattle.js_expressions.specs.HeadOperands.{IsNoTarget};
 ghost use Rattle.js_parsing.specs.Lexemes.{name_kinds};
@@ -123,8 +123,8 @@ fn parse_certain_head<C: ParserConfig, N: Nested<C>>(
     Ok(parameters)
 }
 
-/// FormalParameters in parentheses, where `=>` stands behind them: an attempt, which is taken back where it fails. That is
-/// noted, and not tried again.
+/// FormalParameters in parentheses, where `=>` stands behind them: an attempt. Where it fails, that is noted, and not tried
+/// again.
 #[inline(never)]
 fn try_parse_parenthesized_head<C: ParserConfig, N: Nested<C>>(
     p: &mut ParserImpl<'_, C>,
@@ -139,6 +139,24 @@ fn try_parse_parenthesized_head<C: ParserConfig, N: Nested<C>>(
     if p.arrow_failed(place) {
         return Ok(None);
     }
+    if let Some(parameters) = attempt_head(p, nested)? {
+        return Ok(Some(parameters));
+    }
+    p.note_arrow_failed(place)?;
+    Ok(None)
+}
+
+/// The same attempt, which is taken back where it fails.
+fn attempt_head<C: ParserConfig, N: Nested<C>>(
+    p: &mut ParserImpl<'_, C>,
+    nested: &N,
+) -> Result<Option<NodeId>, Stop>
+    requires at { Standing p.old }
+    requires nests { CanNest (N.can nested.now) (room p.old) }
+    requires open { p.old.token.kind ≡ LParen }
+    ensures { MatchResult result (λ found. AttemptsHead p.old p.new found) OnlyMemory }
+{
+    let place = p.prev_token_end();
     let kept = kept_so_far(p);
     let here = p.checkpoint()?;
     if let Some(parameters) = parse_parenthesized_head(p, nested)? {
@@ -146,10 +164,9 @@ fn try_parse_parenthesized_head<C: ParserConfig, N: Nested<C>>(
             return Ok(Some(parameters));
         }
         p.rewind(here);
-        return parse_head_again(p, nested);
+        return attempt_head_again(p, nested);
     }
     p.rewind(here);
-    p.note_arrow_failed(place)?;
     Ok(None)
 }
 
@@ -187,25 +204,24 @@ fn has_slash(text: &str, start: u32, end: u32) -> bool
 /// read over one list of lexemes alone, and a head or an operand here begins with such; so if `=>` stands behind them, no
 /// operand stands here, which is noted.
 #[inline(never)]
-fn parse_head_again<C: ParserConfig, N: Nested<C>>(
+fn attempt_head_again<C: ParserConfig, N: Nested<C>>(
     p: &mut ParserImpl<'_, C>,
     nested: &N,
 ) -> Result<Option<NodeId>, Stop>
     requires at { Standing p.old }
     requires nests { CanNest (N.can nested.now) (room p.old) }
     requires open { p.old.token.kind ≡ LParen }
-    ensures { MatchResult result (λ found. FindsHead p.old p.new found) OnlyMemory }
+    ensures { MatchResult result (λ found. AttemptsHead p.old p.new found) OnlyMemory }
 {
     let place = p.prev_token_end();
     let here = p.checkpoint()?;
     let found = is_arrow_behind_arguments(p, nested)?;
     p.rewind(here);
     if !found {
-        p.note_arrow_failed(place)?;
         return Ok(None);
     }
     p.note_operand_failed(place)?;
-    parse_noted_head(p, nested)
+    attempt_noted_head(p, nested)
 }
 
 /// Whether `=>` stands behind what can be read as arguments. If not, no parameters stand here with `=>` behind them.
@@ -226,8 +242,8 @@ fn is_arrow_behind_arguments<C: ParserConfig, N: Nested<C>>(
     }
 }
 
-/// FormalParameters in parentheses with `=>` behind them, where no operand stands.
-fn parse_noted_head<C: ParserConfig, N: Nested<C>>(
+/// FormalParameters in parentheses, where `=>` stands behind them and no operand stands here.
+fn attempt_noted_head<C: ParserConfig, N: Nested<C>>(
     p: &mut ParserImpl<'_, C>,
     nested: &N,
 ) -> Result<Option<NodeId>, Stop>
@@ -235,15 +251,13 @@ fn parse_noted_head<C: ParserConfig, N: Nested<C>>(
     requires nests { CanNest (N.can nested.now) (room p.old) }
     requires open { p.old.token.kind ≡ LParen }
     requires noted { NoOperandHere p.old }
-    ensures { MatchResult result (λ found. FindsHead p.old p.new found) OnlyMemory }
+    ensures { MatchResult result (λ found. AttemptsHead p.old p.new found) OnlyMemory }
 {
-    let place = p.prev_token_end();
     let here = p.checkpoint()?;
     if let Some(parameters) = parse_parenthesized_head(p, nested)? {
         return Ok(Some(parameters));
     }
     p.rewind(here);
-    p.note_arrow_failed(place)?;
     Ok(None)
 }
 
