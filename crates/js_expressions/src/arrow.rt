@@ -5,8 +5,7 @@ ghost use Rattle.js_base.specs.declared.kind.Kind.TheVariants.{Arrow, LParen};
 ghost use Rattle.js_cursor.specs.Moves.{OnlyMemory};
 ghost use Rattle.js_grammar.specs.Productions.{at, Params};
 ghost use Rattle.js_parsing.specs.Answers.{Answers};
-ghost use Rattle.js_expressions.specs.Arrows.{ArgumentsTold, ArrowBehind, AttemptsHead, ChecksLine, FindsHead, IsHead, LooksForHead, OperandExcluded, ReadsArrowBody, ReadsBody, ReadsHead, SearchesHead, Single, SlashFound};
-ghost use Rattle.js_expressions.specs.Lookaheads.{NoOperandHere};
+ghost use Rattle.js_expressions.specs.Arrows.{ArgumentsTold, ArrowBehind, AttemptsHead, ChecksLine, FindsHead, IsHead, LooksForHead, NoOperandHere, OperandExcluded, ReadsArrowBody, ReadsBody, ReadsHead, SearchesHead, Single, SlashFound};
 ghost use Rattle.js_expressions.specs.HeadOperands.{IsNoTarget};
 ghost use Rattle.js_parsing.specs.Lexemes.{name_kinds};
 ghost use Rattle.js_parsing.specs.Nesting.{CanNest, room};
@@ -147,6 +146,7 @@ fn try_parse_parenthesized_head<C: ParserConfig, N: Nested<C>>(
 }
 
 /// The same attempt, which is taken back where it fails.
+#[inline(always)]
 fn attempt_head<C: ParserConfig, N: Nested<C>>(
     p: &mut ParserImpl<'_, C>,
     nested: &N,
@@ -263,6 +263,7 @@ fn attempt_noted_head<C: ParserConfig, N: Nested<C>>(
 
 /// FormalParameters in parentheses, where they can be read and `=>` stands behind them, also where something is told of
 /// them. None: no arrow function stands here, and the parser is somewhere behind.
+#[inline(always)]
 fn parse_parenthesized_head<C: ParserConfig, N: Nested<C>>(
     p: &mut ParserImpl<'_, C>,
     nested: &N,
