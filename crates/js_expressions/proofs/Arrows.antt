@@ -412,9 +412,9 @@ arrow_here a k =
     (z.0, (z.1, read_of z.0 e (sym z.2.escaped ∙ plain_sign Arrow a k refl refl arrow_plain) refl), ap (same_kind Arrow) e, z.2.start)
 
 -- what stands behind them
-one_behind : {text : List ℕ} (s : ℕ) {st : List ℕ} {ls r : Lexemes} {e : ℕ} → Lexes (Lex text) s ls → One st ls e r → Lexes (Lex text) e r
-one_behind s l (the_last m) = l.1
-one_behind s l (and_more {x = x} m o) = one_behind x.to l.1 o
+one_behind : (text : List ℕ) (s : ℕ) {st : List ℕ} {ls r : Lexemes} {e : ℕ} → Lexes (Lex text) s ls → One st ls e r → Lexes (Lex text) e r
+one_behind text s l (the_last m) = l.1
+one_behind text s l (and_more {x = x} m o) = one_behind text x.to l.1 o
 
 -- its trivia stands between
 lexeme_from : {text : List ℕ} {s : ℕ} {y : Lexeme} → Lex text s y → s ≤ y.from
@@ -427,7 +427,7 @@ head_no_operand {text} {f} {o} {p} h k c =
     let d = h.read.goes.sound end end p.prev_token_end (last y.0) (last y.0) y.1 (inl h.read.near) is_nothing in
     let z = head_one d in
     let l = h.read.goes.passes.lexed (last y.0) y.1 in
-    let e : z.0 ≤ p.token.span.start = (let i = lexeme_from (one_behind o.prev_token_end l z.1) in let j = y.3 in omega arith) in
+    let e : z.0 ≤ p.token.span.start = (let i = lexeme_from (one_behind text o.prev_token_end l z.1) in let j = y.3 in omega arith) in
     no_operand f l z.1 (c _ _ z.0 l z.1 e) z.2 y.2
 
 -- so the arrow that stands behind is the token

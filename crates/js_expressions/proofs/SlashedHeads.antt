@@ -95,9 +95,9 @@ slash_so text s e i h = subst (λ (v : Bool). SlashFound text s e v) i h
 pub excluded_so : (place kept : ℕ) (q : Parser) {b r : Bool} → r ≡ b → OperandExcluded place kept q r → OperandExcluded place kept q b
 excluded_so place kept q e h = subst (λ (v : Bool). OperandExcluded place kept q v) e h
 
-pub excluded_noted : {place kept : ℕ} {q : Parser} (r : Bool) → r ≡ is_noted q.state.operands (has_flag await_flag q.ctx) (has_flag yield_flag q.ctx) place → OperandExcluded place kept q r
-excluded_noted true e = inr (inr (sym e))
-excluded_noted false e = tt
+pub excluded_noted : (place kept : ℕ) (q : Parser) (r : Bool) → r ≡ is_noted q.state.operands (has_flag await_flag q.ctx) (has_flag yield_flag q.ctx) place → OperandExcluded place kept q r
+excluded_noted place kept q true e = inr (inr (sym e))
+excluded_noted place kept q false e = tt
 
 module _ {p : Parser} (k : p.token.kind ≡ LParen) where
   -- by arguments that stand before `=>`
@@ -106,7 +106,7 @@ module _ {p : Parser} (k : p.token.kind ≡ LParen) where
 
   -- where no slash stands in it
   slashless : {text : List ℕ} {f : Flags} {q : Parser} {id : NodeId} → At text f p → Head text f p q id → q.token.kind ≡ Arrow → NoSlash text p.prev_token_end q.token.span.start → Underived text (at Short f) p.prev_token_end
-  slashless {text} {q = q} a h r n = head_no_operand h r (λ ls rest e l o b. all_calm p.prev_token_end (subst (λ (t : List ℕ). IsUtf8 t) a.text_is a.at.utf8) (subst (λ (t : List ℕ). IsCharBoundary t p.prev_token_end) a.text_is a.at.between) l o (λ i c d. n i c (omega arith)))
+  slashless {text} {q = q} a h r n = head_no_operand h r (λ ls rest e l o b. all_calm text p.prev_token_end (subst (λ (t : List ℕ). IsUtf8 t) a.text_is a.at.utf8) (subst (λ (t : List ℕ). IsCharBoundary t p.prev_token_end) a.text_is a.at.between) l o (λ i c d. n i c (omega arith)))
 
   pub head_settled : {q : Parser} {id : NodeId} (place kept : ℕ) → kept ≡ length p.errors → place ≡ p.prev_token_end → IsHeadRead p q id → OperandExcluded place kept q true → IsHeadHere p q id
   head_settled {q} {id} place kept n i x o = (x.0, (λ text f a. before a (x.1 text f a)), (λ text f a. none a (x.1 text f a)))
@@ -208,13 +208,13 @@ module _ {p r : Parser} (u : Unmoved p r) where
   before_from_there (told_head h) = told_head (told_from_there h)
 
   -- what is found after the parser went back
-  pub attempted_there : {q : Parser} (found : Option NodeId) → AttemptsHead r q found → AttemptsHead p q found
-  attempted_there {q} (Some id) x = (x.0, (λ text f a. before_from_there (x.1 text f (u.at text f a))), operand_from x.2)
-  attempted_there {q} None x = (unmoved_both u x.0, λ text f a. subst (λ (s : ℕ). NoHead text f s) u.place (x.1 text f (u.at text f a)))
+  pub attempted_there : (q : Parser) (found : Option NodeId) → AttemptsHead r q found → AttemptsHead p q found
+  attempted_there q (Some id) x = (x.0, (λ text f a. before_from_there (x.1 text f (u.at text f a))), operand_from x.2)
+  attempted_there q None x = (unmoved_both u x.0, λ text f a. subst (λ (s : ℕ). NoHead text f s) u.place (x.1 text f (u.at text f a)))
 
-pub attempts_there : {p r q : Parser} (x : Result (Option NodeId) Stop) → Unmoved p r → MatchResult x (λ found. AttemptsHead r q found) OnlyMemory → MatchResult x (λ found. AttemptsHead p q found) OnlyMemory
-attempts_there (Ok found) u h = attempted_there u found h
-attempts_there (Err e) u h = h
+pub attempts_there : {p r : Parser} (q : Parser) (x : Result (Option NodeId) Stop) → Unmoved p r → MatchResult x (λ found. AttemptsHead r q found) OnlyMemory → MatchResult x (λ found. AttemptsHead p q found) OnlyMemory
+attempts_there q (Ok found) u h = attempted_there u q found h
+attempts_there q (Err e) u h = h
 
 pub told_from : (p o q : Parser) (b : Bool) → o ≡ p → ArgumentsTold o q b → ArgumentsTold p q b
 told_from p o q b s h = subst (λ (z : Parser). ArgumentsTold z q b) s h

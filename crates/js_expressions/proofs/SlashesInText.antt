@@ -140,9 +140,9 @@ lexeme_between {text} {s} {y} u b l =
     let here : behind text y.from ≡ h.word ++ h.rest = cancel (joined h.trivia) (behind text y.from) (h.word ++ h.rest) (sym v.splits ∙ h.stands.splits) in
     subst (λ (n : ℕ). IsCharBoundary text n) (sym h.to) (front_word text y.from h.word h.rest u v.boundary here).boundary
 
-one_further : {text : List ℕ} (s : ℕ) {st : List ℕ} {ls r : Lexemes} {e : ℕ} → Lexes (Lex text) s ls → One st ls e r → s ≤ e
-one_further s l (the_last m) = lexeme_to l.0
-one_further s l (and_more {x = x} m o) = let a = lexeme_to l.0 in let b = one_further x.to l.1 o in omega arith
+one_further : (text : List ℕ) (s : ℕ) {st : List ℕ} {ls r : Lexemes} {e : ℕ} → Lexes (Lex text) s ls → One st ls e r → s ≤ e
+one_further text s l (the_last m) = lexeme_to l.0
+one_further text s l (and_more {x = x} m o) = let a = lexeme_to l.0 in let b = one_further text x.to l.1 o in omega arith
 
 -- where no slash stands up to where it ends
 lexeme_calm : {text : List ℕ} {s e : ℕ} {y : Lexeme} → IsUtf8 text → IsCharBoundary text s → NoSlash text s e → Lex text s y → y.to ≤ e → calm y.kind ≡ true
@@ -152,6 +152,14 @@ lexeme_calm {text} {s} {e} {y} u b n l h = go (calm y.kind) refl
     go true i = i
     go false i = let a = slash_at u b l i in absurd (n y.from a.behind (let j = a.inside in omega arith) a.is)
 
-pub all_calm : {text : List ℕ} (s : ℕ) {st : List ℕ} {ls r : Lexemes} {e : ℕ} → IsUtf8 text → IsCharBoundary text s → Lexes (Lex text) s ls → (o : One st ls e r) → NoSlash text s e → AllCalm o
-all_calm s u b l (the_last m) n = lexeme_calm u b n l.0 (omega arith)
-all_calm s u b l (and_more {x = x} m o) n = (lexeme_calm u b n l.0 (one_further x.to l.1 o), all_calm x.to u (lexeme_between u b l.0) l.1 o (λ k a c. n k (let d = lexeme_to l.0 in omega arith) c))
+pub all_calm : (text : List ℕ) (s : ℕ) {st : List ℕ} {ls r : Lexemes} {e : ℕ} → IsUtf8 text → IsCharBoundary text s → Lexes (Lex text) s ls → (o : One st ls e r) → NoSlash text s e → AllCalm o
+all_calm text s u b l (the_last m) n = lexeme_calm u b n l.0 (omega arith)
+all_calm text s u b l (and_more {x = x} m o) n = (lexeme_calm u b n l.0 (one_further text x.to l.1 o), all_calm text x.to u (lexeme_between u b l.0) l.1 o (λ k a c. n k (let d = lexeme_to l.0 in omega arith) c))
+
+-- ---- what was looked at so far
+
+pub no_slash_more : {text bytes : List ℕ} {s i : ℕ} → NoSlash text s i → bytes ≡ text → (slice_index bytes i ≡ 47 → ⊥) → NoSlash text s (i + 1)
+no_slash_more {text} {bytes} {s} {i} n e m k a b h = elim (cases_lt k i) [
+  | inl l ↦ n k a l h
+  | inr l ↦ let z : k ≡ i = omega arith in m (subst (λ (t : List ℕ). slice_index t i ≡ 47) (sym e) (subst (λ (v : ℕ). slice_index text v ≡ 47) z h))
+]

@@ -7,8 +7,8 @@ use Rattle.js_expressions.proofs.Arrows.{none_looked, some_looked, went_back}
 use Rattle.js_expressions.proofs.SlashedHeads.{attempts_there, excluded_so, head_settled, head_stands, head_went_on}
 use Rattle.js_expressions.proofs.arrow.attempt_head.Goals as goal
 
-pub excludes_operand-requires : goal.excludes_operand-requires
-excludes_operand-requires g c = head_stands c.requires.at (some_looked _ _ c.parse_parenthesized_head.new.p _ _ c.in_ok-here.ensures.same c.in-Some.is c.in_ok-parameters.ensures)
+pub excludes_operand-requires-clause-at : goal.excludes_operand-requires-clause-at
+excludes_operand-requires-clause-at g c = head_stands c.requires.at (some_looked _ _ c.parse_parenthesized_head.new.p _ _ c.in_ok-here.ensures.same c.in-Some.is c.in_ok-parameters.ensures)
 
 pub returns-then-excludes_operand : goal.returns-then-excludes_operand
 returns-then-excludes_operand g c = head_settled c.requires.open _ _ c.kept_so_far-kept.ensures c.prev_token_end-place.ensures (some_looked _ _ c.parse_parenthesized_head.new.p _ _ c.in_ok-here.ensures.same c.in-Some.is c.in_ok-parameters.ensures) (excluded_so _ _ c.parse_parenthesized_head.new.p c.if-excludes_operand.true c.excludes_operand.ensures)
@@ -38,7 +38,7 @@ attempt_head_again-requires-clause-open g c =
 pub returns-in-Some : goal.returns-in-Some
 returns-in-Some g c =
     let x = head_went_on c.requires.at (some_looked _ _ c.parse_parenthesized_head.new.p _ _ c.in_ok-here.ensures.same c.in-Some.is c.in_ok-parameters.ensures) in
-    attempts_there _ (went_back (ap may_be_read_again c.requires.open) c.in_ok-here.ensures.remembers x.0 x.1 x.2 c.rewind.ensures) c.attempt_head_again.ensures
+    attempts_there c.attempt_head_again.new.p _ (went_back (ap may_be_read_again c.requires.open) c.in_ok-here.ensures.remembers x.0 x.1 x.2 c.rewind.ensures) c.attempt_head_again.ensures
 
 pub rewind-requires-2-clause-at : goal.rewind-requires-2-clause-at
 rewind-requires-2-clause-at g c = (none_looked _ _ c.parse_parenthesized_head.new.p _ c.in_ok-here.ensures.same c.in_default.is c.in_ok-parameters.ensures).0.1
