@@ -174,7 +174,7 @@ fn attempt_head<C: ParserConfig, N: Nested<C>>(
 /// was told of the head, that is known. Else lexemes might be read otherwise from that place, if a slash stands between,
 /// with which a regular expression may begin; but not where that was looked for before.
 fn excludes_operand<C: ParserConfig>(p: &ParserImpl<'_, C>, place: u32, kept: usize) -> bool
-    requires at { Standing p.now }
+    requires { Standing p.now }
     ensures { OperandExcluded place kept p.now result }
 {
     if kept_so_far(p) != kept {

@@ -7,8 +7,8 @@ use Rattle.js_expressions.proofs.Arrows.{none_looked, some_looked, went_back}
 use Rattle.js_expressions.proofs.SlashedHeads.{attempts_there, excluded_so, head_settled, head_stands, head_went_on}
 use Rattle.js_expressions.proofs.arrow.attempt_head.Goals as goal
 
-pub excludes_operand-requires-clause-at : goal.excludes_operand-requires-clause-at
-excludes_operand-requires-clause-at g c = head_stands c.requires.at (some_looked _ _ c.parse_parenthesized_head.new.p _ _ c.in_ok-here.ensures.same c.in-Some.is c.in_ok-parameters.ensures)
+pub excludes_operand-requires : goal.excludes_operand-requires
+excludes_operand-requires g c = head_stands c.requires.at (some_looked _ _ c.parse_parenthesized_head.new.p _ _ c.in_ok-here.ensures.same c.in-Some.is c.in_ok-parameters.ensures)
 
 pub returns-then-excludes_operand : goal.returns-then-excludes_operand
 returns-then-excludes_operand g c = head_settled c.requires.open _ _ c.kept_so_far-kept.ensures c.prev_token_end-place.ensures (some_looked _ _ c.parse_parenthesized_head.new.p _ _ c.in_ok-here.ensures.same c.in-Some.is c.in_ok-parameters.ensures) (excluded_so _ _ c.parse_parenthesized_head.new.p c.if-excludes_operand.true c.excludes_operand.ensures)
