@@ -260,7 +260,7 @@ postfix_answers {text} {f} {p} {q} {r} {z} {operand} {target} {id} {o} s a n x w
     let h : Holds r.nodes (length p.nodes) (length r.nodes) target.0 t.tree.label t.tree.slots = subst (λ (ns : List Node). Holds ns (length p.nodes) (length ns) target.0 t.tree.label t.tree.slots) (sym m.nodes) t.holds in
     let k : Keeps p.nodes r.nodes = subst (λ (ns : List Node). Keeps p.nodes ns) (sym m.nodes) x.keeps in
     by_path (postfix_path a n x.answer w q.token.kind u refl e m t.tree t.is) (same_both x.answer.same m.same) made.stays
-    (λ y i. covered reads (λ k w e. looser 16 f.in_ after_postfix k w e || beside k w e) (behind_sign f.in_) y.kind y.newline y.escaped i.1) refl (one_held p.nodes made h) (Keeps-trans k (Keeps-made made.made)) refl (one_lies made)
+    (λ y i. covered reads (λ k w e. looser 16 f.in_ after_postfix k w e || beside k w e) (behind_sign f.in_) y.kind y.newline y.escaped (plain_is_read y i.1)) refl (one_held p.nodes made h) (Keeps-trans k (Keeps-made made.made)) refl (one_lies made)
 
 -- ---- a prefix operator
 
