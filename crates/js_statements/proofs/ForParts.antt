@@ -91,7 +91,7 @@ ending_angle ending.Of = refl
 pub path_not : {text : List ℕ} {f f' : Flags} {g : G} {p q : Parser} {h : Slots → Slots} (e : Ending) → Path text f (plain (is (end_kind e))) g p nothing q h → At text f' q → StandsHere q (end_kind e) false → Fails rule (Lex text) (plain (is (end_kind e))) end g p.prev_token_end
 path_not e y a n = either_way y.verdict (λ z. stretch_not (end_kind e) z (stands_not a (ending_angle e) n)) (λ z. z)
 
-look_in : (y : Lexeme) → IsTrue (seen (is kind.In) y) → IsTrue (seen goes_through y)
+pub look_in : (y : Lexeme) → IsTrue (seen (is kind.In) y) → IsTrue (seen goes_through y)
 look_in y q = let z = and_parts (same_kind kind.In y.kind) (not y.escaped) q in and_from (one_of_kinds (kind.In ∷ kind.Of ∷ []) y.kind) (not y.escaped) (subst (λ (k : Kind). one_of_kinds (kind.In ∷ kind.Of ∷ []) k ≡ true) (kind_of_same kind.In y.kind z.0) refl) z.1
 
 look_of : (y : Lexeme) → IsTrue (seen (is kind.Of) y) → IsTrue (seen goes_through y)
