@@ -1,5 +1,5 @@
 -- A declaration as the first part of the head of a `for` (ECMA-262, 14.7.4, 14.7.5, B.3.5).
-use Rattle.std.proofs.Common.{ℕ, ◌≡◌, ◌≤◌, ◌<◌, ◌⊎◌, inl, inr, max, List, [], ◌∷◌, length, Option, Some, None, Bool, true, false, not, ◌&&◌, IsTrue, refl, sym, ap, subst, arith, ◌∙◌}
+use Rattle.std.proofs.Common.{ℕ, ◌≡◌, ◌≤◌, ◌<◌, ◌⊎◌, inl, inr, max, List, [], ◌∷◌, length, Option, Some, None, Bool, true, false, not, ◌&&◌, IsTrue, refl, sym, ap, subst, arith, ◌∙◌, ◌||◌}
 use Rattle.std.specs.Prelude.{IsCharBoundary}
 use Rattle.std.proofs.lemmas.Bool.{false≢true, and_from, and_parts, or_left, or_right}
 use Rattle.js_base.specs.declared.diagnostic.Diagnostic.{Diagnostic}
@@ -61,14 +61,14 @@ use Rattle.js_parsing.proofs.Giving.{kept_one}
 use Rattle.js_parsing.proofs.Here.{begins_here}
 use Rattle.js_parsing.proofs.MadeNodes.{node_held, made_lies}
 use Rattle.js_parsing.proofs.Moving.{beside_nodes, same_both, same_with, stops_behind}
-use Rattle.js_parsing.proofs.Paths.{Path, ◌⟼◌, ◌⟶◌, at_kind, by_symbol_as, label_here, noded, noded_by, skips, token, walked_both, walked_one, walked_to}
+use Rattle.js_parsing.proofs.Paths.{Path, ◌⟼◌, ◌⟶◌, at_kind, by_symbol_as, label_here, noded_by, noding, skips, token, walked_both, walked_one, walked_to}
 use Rattle.js_parsing.proofs.Signs.{stands_not}
 use Rattle.js_parsing.proofs.Told.{told_at, told_same}
 use Rattle.js_parsing.proofs.Verdicts.{behind_none, either_way, grown_both, grown_then, verdict_of}
 use Rattle.js_parsing.proofs.Verdicts.{after as grown_behind}
 use Rattle.js_statements.proofs.CompoundStatements.{no_token}
 use Rattle.js_statements.proofs.ForHeads.{no_empty}
-use Rattle.js_statements.proofs.ForParts.{look_in, path_not, stretch_not, without}
+use Rattle.js_statements.proofs.ForParts.{look_in, path_not, stretch_not, verdict_not, without}
 use Rattle.js_statements.proofs.LetLookaheads.{followed, is_let}
 
 -- ---- the word, and what it leaves of the three lines
@@ -79,15 +79,15 @@ bound_node w f = op variable_declaration w (tok w ▸ bound_alone f)
 abbrev pub value_node : Flags → G
 value_node f = op variable_declaration kind.Var (tok kind.Var ▸ mk variable_declarator (symbol BindingIdentifier f ▸ symbol Init (minus_in f)))
 
-pub word_stands : (k : DeclarationKind) {p : Parser} → BeginsHead k p → StandsHere p (declaration_kind k) true
-word_stands declared.Var h = h
-word_stands declared.Const h = h
-word_stands declared.Let h = h.here
+pub word_stands : (k : DeclarationKind) (p : Parser) → BeginsHead k p → StandsHere p (declaration_kind k) true
+word_stands declared.Var p h = h
+word_stands declared.Const p h = h
+word_stands declared.Let p h = h.here
 
-var_stands : (k : DeclarationKind) {p : Parser} → BeginsHead k p → is_var k ≡ true → StandsHere p kind.Var true
-var_stands declared.Var h e = h
-var_stands declared.Const h e = absurd (false≢true e)
-var_stands declared.Let h e = absurd (false≢true e)
+var_stands : (k : DeclarationKind) (p : Parser) → BeginsHead k p → is_var k ≡ true → StandsHere p kind.Var true
+var_stands declared.Var p h e = h
+var_stands declared.Const p h e = absurd (false≢true e)
+var_stands declared.Let p h e = absurd (false≢true e)
 
 var_kind : (k : DeclarationKind) → is_var k ≡ true → kind.Var ≡ declaration_kind k
 var_kind declared.Var e = refl
@@ -99,15 +99,15 @@ word_read declared.Var = refl
 word_read declared.Const = refl
 word_read declared.Let = refl
 
-not_semicolon : (k : DeclarationKind) {p : Parser} → StandsHere p (declaration_kind k) true → p.token.kind ≡ kind.Semicolon → ⊥
-not_semicolon declared.Var h e = let z : kind.Var ≡ kind.Semicolon = sym h.0 ∙ e in cc
-not_semicolon declared.Const h e = let z : kind.Const ≡ kind.Semicolon = sym h.0 ∙ e in cc
-not_semicolon declared.Let h e = let z : kind.Let ≡ kind.Semicolon = sym h.0 ∙ e in cc
+not_semicolon : (k : DeclarationKind) (p : Parser) → StandsHere p (declaration_kind k) true → p.token.kind ≡ kind.Semicolon → ⊥
+not_semicolon declared.Var p h e = let z : kind.Var ≡ kind.Semicolon = sym h.0 ∙ e in cc
+not_semicolon declared.Const p h e = let z : kind.Const ≡ kind.Semicolon = sym h.0 ∙ e in cc
+not_semicolon declared.Let p h e = let z : kind.Let ≡ kind.Semicolon = sym h.0 ∙ e in cc
 
-pub a_lexeme_stands : (k : DeclarationKind) {p : Parser} → StandsHere p (declaration_kind k) true → p.token.kind ≡ kind.Undetermined → ⊥
-a_lexeme_stands declared.Var h e = let z : kind.Var ≡ kind.Undetermined = sym h.0 ∙ e in cc
-a_lexeme_stands declared.Const h e = let z : kind.Const ≡ kind.Undetermined = sym h.0 ∙ e in cc
-a_lexeme_stands declared.Let h e = let z : kind.Let ≡ kind.Undetermined = sym h.0 ∙ e in cc
+pub a_lexeme_stands : (k : DeclarationKind) (p : Parser) → StandsHere p (declaration_kind k) true → p.token.kind ≡ kind.Undetermined → ⊥
+a_lexeme_stands declared.Var p h e = let z : kind.Var ≡ kind.Undetermined = sym h.0 ∙ e in cc
+a_lexeme_stands declared.Const p h e = let z : kind.Const ≡ kind.Undetermined = sym h.0 ∙ e in cc
+a_lexeme_stands declared.Let p h e = let z : kind.Let ≡ kind.Undetermined = sym h.0 ∙ e in cc
 
 let_goes_on : covers (λ k w e. behind_let true k) (word_or (kind.LBrack ∷ kind.LCurly ∷ [])) ≡ true
 unfolding covers
@@ -117,7 +117,7 @@ module _ {text : List ℕ} {f : Flags} {s : Parser} (a : At text f s) where
   declared_by_let : {X : Test} {g : G} → LetHere true s → Fails rule (Lex text) X end (not_then (is kind.Let) (word_or (kind.LBrack ∷ kind.LCurly ∷ [])) ▸ g) s.prev_token_end
   declared_by_let h = followed a (word_or (kind.LBrack ∷ kind.LCurly ∷ [])) h.here (λ z l. covered (λ k w e. behind_let true k) (word_or (kind.LBrack ∷ kind.LCurly ∷ [])) let_goes_on z.kind z.newline z.escaped (ap (behind_let true) (h.behind text f a z l) ∙ h.goes_on))
 
-  other_word : {X : Test} {g : G} (w v : Kind) → is_right_angle w ≡ false → (v ≡ w → ⊥) → StandsHere s v true → Fails rule (Lex text) X end (op variable_declaration w (tok w ▸ g)) s.prev_token_end
+  other_word : {X : Test} {g : G} (w v : Kind) → (is_right_angle w || same_kind kind.RegExp w) ≡ false → (v ≡ w → ⊥) → StandsHere s v true → Fails rule (Lex text) X end (op variable_declaration w (tok w ▸ g)) s.prev_token_end
   other_word w v r n h = fails_node inside_full (no_token a w r (λ i j. n (sym h.0 ∙ i)))
 
   -- what is bound
@@ -162,9 +162,9 @@ module _ {text : List ℕ} {f : Flags} {s : Parser} (a : At text f s) where
 semicolon_ends_list : (r : Row) (y : Lexeme) → IsTrue (seen (is kind.Semicolon) y) → IsTrue (seen (ends_row r) y)
 semicolon_ends_list r y q = or_left _ _ q
 
-module _ {text : List ℕ} {f : Flags} {s q : Parser} (a : At text f s) (w : Kind) {g : G} {us : Slots} {pass : Lexemes → Lexemes} where
-  list_noded : AllOf text g s.prev_token_end q.prev_token_end us pass → Stretch text (plain (is kind.Semicolon)) (op variable_declaration w g) s.prev_token_end nothing q.prev_token_end (tree (label_here variable_declaration (of w) s q) us) pass
-  list_noded v = record { reach = v.reach; near = v.near; goes = record { passes = v.passes; sound = λ vs ws k ls rest l r d. there vs ws k ls rest l r d; only = λ ts vs k ls rest l d e. back ts vs k ls rest l d e } }
+module _ {text : List ℕ} {f : Flags} {s : Parser} (a : At text f s) (w : Kind) {g : G} where
+  list_noded : (q : Parser) {us : Slots} {pass : Lexemes → Lexemes} → AllOf text g s.prev_token_end q.prev_token_end us pass → Stretch text (plain (is kind.Semicolon)) (op variable_declaration w g) s.prev_token_end nothing q.prev_token_end (tree (label_here variable_declaration (of w) s q) us) pass
+  list_noded q {us} {pass} v = record { reach = v.reach; near = v.near; goes = record { passes = v.passes; sound = λ vs ws k ls rest l r d. there vs ws k ls rest l r d; only = λ ts vs k ls rest l d e. back ts vs k ls rest l d e } }
     where
       labelled : ℕ → ℕ → Label
       labelled i j = record { kind = variable_declaration; op = of w; flags = 0; span = record { from = i; to = j } }
@@ -249,15 +249,15 @@ module _ {text : List ℕ} {f : Flags} {p : Parser} (a : At text f p) where
       })
 
   -- that none is derived was told
-  told_read : {q r : Parser} {us : Slots} {l : Label} {pass : Lexemes → Lexemes} {d : Diagnostic} → At text f q → Same p q → p.token.span.start < q.prev_token_end → Walked text (spot p) (spot q) pass → ({ds : List Diagnostic} → Grown q.errors ds → Grown p.errors ds) → ((e : Ending) → NoFirst text e f p.prev_token_end) → IsEarly d → KeepsOne d q r → FirstRead text f p r us l pass
+  told_read : {q r : Parser} {us : Slots} {l : Label} {pass : Lexemes → Lexemes} {d : Diagnostic} → At text f q → Same p q → p.token.span.start < q.prev_token_end → Walked text (spot p) (spot q) pass → ((ds : List Diagnostic) → Grown q.errors ds → Grown p.errors ds) → ((e : Ending) → NoFirst text e f p.prev_token_end) → IsEarly d → KeepsOne d q r → FirstRead text f p r us l pass
   told_read b s j w g n y u = record {
     at = told_at u b;
     same = same_both s (told_same u y);
     further = let e = ap (λ (z : Parser). z.prev_token_end) u.is in omega arith;
     walked = walked_to (sym (ap spot u.is)) w;
-    read = λ e z. unclean (g (kept_one u)) (n e);
+    read = λ e z. unclean (g _ (kept_one u)) (n e);
     none = λ e z. n e;
-    kept = λ ds d. g (grown_both (kept_one u) d);
+    kept = λ ds d. g ds (grown_both (kept_one u) d);
   }
 
 -- ---- behind the word
@@ -267,13 +267,13 @@ module _ {text : List ℕ} {f : Flags} {p q : Parser} (k : DeclarationKind) (a :
   word = declaration_kind k
 
   here_word : StandsHere p (declaration_kind k) true
-  here_word = word_stands k b
+  here_word = word_stands k p b
 
   behind_word : {X : Test} {g : G} → Goes rule (Lex text) X end (tok (declaration_kind k) ▸ g) p.prev_token_end g q.prev_token_end (λ us. us) (passing m.lexeme)
   behind_word = skips a (declaration_kind k) here_word.0 here_word.1 (word_read k) m
 
   no_init_node : Fails rule (Lex text) (plain (is kind.Semicolon)) end (op variable_declaration (declaration_kind k) (declarators (declaration_kind k) f)) p.prev_token_end → NoFirst text ending.Semicolon f p.prev_token_end
-  no_init_node n = fails_alt (fails_rule {X' = plain (is kind.Semicolon)} (λ l cs vs y e. e) (init_word a k b ▹✗ subst (λ (g : Flags). Fails rule (Lex text) (plain (is kind.Semicolon)) end (op variable_declaration (declaration_kind k) (declarators (declaration_kind k) g)) p.prev_token_end) (sym (without i)) n)) (no_empty a kind.Semicolon (inl refl) (not_semicolon k here_word))
+  no_init_node n = fails_alt (fails_rule {X' = plain (is kind.Semicolon)} (λ l cs vs y e. e) (init_word a k b ▹✗ subst (λ (g : Flags). Fails rule (Lex text) (plain (is kind.Semicolon)) end (op variable_declaration (declaration_kind k) (declarators (declaration_kind k) g)) p.prev_token_end) (sym (without i)) n)) (no_empty a kind.Semicolon (inl refl) (not_semicolon k p here_word))
 
   no_value_node : Fails rule (Lex text) (plain (is kind.In)) end (named_value f) q.prev_token_end → Fails rule (Lex text) (plain (is kind.In)) end (value_node f) p.prev_token_end
   no_value_node n = by k b m
@@ -310,14 +310,22 @@ module _ {text : List ℕ} {f : Flags} {p q : Parser} (k : DeclarationKind) (a :
     abbrev bound_slots : Slots
     bound_slots = tree x.label x.slots end
 
-    bound_path : {X : Test} → Path text f X (bound_node (declaration_kind k) f) p nothing r (tree (label_here variable_declaration (of (declaration_kind k)) p r) bound_slots)
-    bound_path = noded a (token (declaration_kind k) a here_word.0 here_word.1 (word_read k) m ⟶ record { at = x.at; further = x.further; pass = x.pass; walked = x.walked; verdict = x.verdict })
+    abbrev bound_pass : Lexemes → Lexemes
+    bound_pass ls = next m.lexeme (x.pass ls)
 
-    bound_in : Path text f (plain (is kind.In)) (first_part ending.In f) p nothing r (tree (label_here variable_declaration (of (declaration_kind k)) p r) bound_slots)
-    bound_in = in_bound a k b (no_value_node x.no_value) ⟼ bound_path
+    bound_verdict : (e : Ending) → Goes rule (Lex text) (plain (is (end_kind e))) end (first_part e f) p.prev_token_end (bound_node (declaration_kind k) f) p.prev_token_end (λ us. us) (still 0) → Verdict p.errors r.errors (Stretch text (plain (is (end_kind e))) (first_part e f) p.prev_token_end nothing r.prev_token_end (tree (label_here variable_declaration (of (declaration_kind k)) p r) bound_slots) bound_pass) (NoFirst text e f p.prev_token_end)
+    bound_verdict e l = behind_none m.kept (verdict_of x.verdict (λ y. made y) (λ n. l ▹✗ fails_node inside_full (behind_word ▹✗ n)))
+      where
+        made : Stretch text (plain full) (bound_alone f) q.prev_token_end nothing r.prev_token_end (tree x.label x.slots) x.pass → Stretch text (plain (is (end_kind e))) (first_part e f) p.prev_token_end nothing r.prev_token_end (tree (label_here variable_declaration (of (declaration_kind k)) p r) bound_slots) bound_pass
+        made y =
+            let z = noding {X = plain (is (end_kind e))} {X' = plain full} {k = variable_declaration} {o = of (declaration_kind k)} {pass = bound_pass} r a inside_full (record { reach = max 0 y.reach; near = let i = y.near in omega arith; goes = behind_word ▹ y.goes }) in
+            record { reach = max 0 z.reach; near = let i = z.near in omega arith; goes = l ▹ z.goes }
 
-    bound_of : Path text f (plain (is kind.Of)) (first_part ending.Of f) p nothing r (tree (label_here variable_declaration (of (declaration_kind k)) p r) bound_slots)
-    bound_of = of_bound a k b ⟼ bound_path
+    bound_in : Verdict p.errors r.errors (Stretch text (plain (is kind.In)) (first_part ending.In f) p.prev_token_end nothing r.prev_token_end (tree (label_here variable_declaration (of (declaration_kind k)) p r) bound_slots) bound_pass) (NoFirst text ending.In f p.prev_token_end)
+    bound_in = bound_verdict ending.In (in_bound a k b (no_value_node x.no_value))
+
+    bound_of : Verdict p.errors r.errors (Stretch text (plain (is kind.Of)) (first_part ending.Of f) p.prev_token_end nothing r.prev_token_end (tree (label_here variable_declaration (of (declaration_kind k)) p r) bound_slots) bound_pass) (NoFirst text ending.Of f p.prev_token_end)
+    bound_of = bound_verdict ending.Of (of_bound a k b)
 
     no_list_there : NoFirst text ending.Semicolon f p.prev_token_end
     no_list_there = no_init_node (fails_node {X' = plain (is kind.Semicolon)} (record { ends = λ s cs vs j ls mid d e. e }) (behind_word ▹✗ x.no_list))
@@ -339,13 +347,13 @@ module _ {text : List ℕ} {f : Flags} {p q : Parser} (k : DeclarationKind) (a :
       where
         reads : (e : Ending) → StandsHere r (end_kind e) true → Verdict p.errors r.errors (Stretch text (plain (is (end_kind e))) (first_part e f) p.prev_token_end nothing r.prev_token_end (tree (label_here variable_declaration (of (declaration_kind k)) p r) bound_slots) (λ ls. next m.lexeme (x.pass ls))) (NoFirst text e f p.prev_token_end)
         reads ending.Semicolon s = absurd (none_ends x.here s)
-        reads ending.In s = bound_in.verdict
-        reads ending.Of s = bound_of.verdict
+        reads ending.In s = bound_in
+        reads ending.Of s = bound_of
 
         fails : (e : Ending) → StandsHere r (end_kind e) false → NoFirst text e f p.prev_token_end
         fails ending.Semicolon s = no_list_there
-        fails ending.In s = path_not ending.In bound_in x.at s
-        fails ending.Of s = path_not ending.Of bound_of x.at s
+        fails ending.In s = verdict_not ending.In bound_in x.at s
+        fails ending.Of s = verdict_not ending.Of bound_of x.at s
 
   -- ---- declarators
   module _ {r v : Parser} {g : HeadForm} {first : NodeId} {ids : List (Option NodeId)} (x : BesideThrough text f (is_constant k) g q r first) (y : HeadList text f (is_constant k) q v ids) where
@@ -355,11 +363,11 @@ module _ {text : List ℕ} {f : Flags} {p q : Parser} (k : DeclarationKind) (a :
       further = let j = m.further in let d = y.further in omega arith;
       pass = λ ls. next m.lexeme (y.pass ls);
       walked = walked_both (walked_one m) y.walked;
-      verdict = behind_none m.kept (verdict_of y.verdict (λ z. list_noded a (declaration_kind k) (all_behind behind_word z (let d = y.further in omega arith))) (λ n. no_list_node a (declaration_kind k) (none_behind behind_word n)));
+      verdict = behind_none m.kept (verdict_of y.verdict (λ z. list_noded a (declaration_kind k) v (all_behind behind_word z (let d = y.further in omega arith))) (λ n. no_list_node a (declaration_kind k) (none_behind behind_word n)));
     }
 
     init_path : Path text f (plain (is kind.Semicolon)) (first_part ending.Semicolon f) p nothing v (tree (label_here variable_declaration (of (declaration_kind k)) p v) y.slots)
-    init_path = left (no_empty a kind.Semicolon (inl refl) (not_semicolon k here_word)) ⟼ by_symbol_as {X' = plain (is kind.Semicolon)} (λ l cs vs y e. e) (init_word a k b ⟼ subst (λ (h : Flags). Path text f (plain (is kind.Semicolon)) (op variable_declaration (declaration_kind k) (declarators (declaration_kind k) h)) p nothing v (tree (label_here variable_declaration (of (declaration_kind k)) p v) y.slots)) (sym (without i)) list_path)
+    init_path = left (no_empty a kind.Semicolon (inl refl) (not_semicolon k p here_word)) ⟼ by_symbol_as {X' = plain (is kind.Semicolon)} (λ l cs vs y e. e) (init_word a k b ⟼ subst (λ (h : Flags). Path text f (plain (is kind.Semicolon)) (op variable_declaration (declaration_kind k) (declarators (declaration_kind k) h)) p nothing v (tree (label_here variable_declaration (of (declaration_kind k)) p v) y.slots)) (sym (without i)) list_path)
 
     list_grown : {ds : List Diagnostic} → Grown v.errors ds → Grown p.errors ds
     list_grown g = grown_then m.kept (grown_behind y.verdict g)
@@ -403,7 +411,7 @@ module _ {text : List ℕ} {f : Flags} {p q : Parser} (k : DeclarationKind) (a :
     list_nones c h n ending.Of = no_of x.not_alone
 
     list_told : {u : Parser} {d : Diagnostic} (c : Bool) → StandsHere v (through_kind c) true → NoFirst text ending.In f p.prev_token_end → IsEarly d → KeepsOne d v u → FirstRead text f p u y.slots (label_here variable_declaration (of (declaration_kind k)) p v) init_path.pass
-    list_told c h n e z = told_read a y.at list_same list_further init_path.walked (λ g. list_grown g) (λ d. list_nones c h n d) e z
+    list_told c h n e z = told_read a y.at list_same list_further init_path.walked (λ ds g. list_grown g) (λ d. list_nones c h n d) e z
 
     -- a name with an initialiser isn't derived before `in` where that doesn't stand behind the first one, nor another one
     no_value_there : StandsHere r kind.In false → Fails rule (Lex text) (plain (is kind.In)) end (named_value f) q.prev_token_end
@@ -439,7 +447,7 @@ module _ {text : List ℕ} {f : Flags} {p q : Parser} (k : DeclarationKind) (a :
     value = x.value i
 
     behind_var : {X : Test} {w : G} → Path text f X (tok kind.Var ▸ w) p w q (λ us. us)
-    behind_var = let z = var_stands k b v in token kind.Var a z.0 z.1 refl m
+    behind_var = let z = var_stands k p b v in token kind.Var a z.0 z.1 refl m
 
     value_path : Path text f (plain (is kind.In)) (first_part ending.In f) p nothing r (tree (label_here variable_declaration (of kind.Var) p r) (tree value.label value.slots end))
     value_path = in_value a k b v (no_bound_node (before_in x.not_alone)) ⟼ subst (λ (g : Flags). Path text f (plain (is kind.In)) (op variable_declaration kind.Var (tok kind.Var ▸ mk variable_declarator (symbol BindingIdentifier f ▸ symbol Init g))) p nothing r (tree (label_here variable_declaration (of kind.Var) p r) (tree value.label value.slots end))) (sym (without i))
@@ -468,20 +476,20 @@ module _ {text : List ℕ} {f : Flags} {p q : Parser} (k : DeclarationKind) (a :
 
   -- ---- what the call answers
 
-  made_of : {r v w : Parser} {us : Slots} {pass : Lexemes → Lexemes} {ids : List (Option NodeId)} {id : NodeId} (s : Span) → s.start ≡ p.token.span.start → s.end ≡ r.prev_token_end → v.nodes ≡ r.nodes → v.prev_token_end ≡ r.prev_token_end → FirstRead text f p v us (label_here variable_declaration (of (declaration_kind k)) p r) pass → HoldsAll r.nodes (length q.nodes) (length r.nodes) ids us → Keeps q.nodes r.nodes → MadeHere (plain_label node.VariableDeclaration (made_op.Declaration k) s) ids v w id → FirstTaken text f p w (Some id)
-  made_of {r} {v} {w} {us} {pass} {ids} {id} s c d e o x h z n =
+  made_of : (r : Parser) {v w : Parser} {us : Slots} {pass : Lexemes → Lexemes} {ids : List (Option NodeId)} {id : NodeId} (s : Span) → s.start ≡ p.token.span.start → s.end ≡ r.prev_token_end → v.nodes ≡ r.nodes → v.prev_token_end ≡ r.prev_token_end → FirstRead text f p v us (label_here variable_declaration (of (declaration_kind k)) p r) pass → HoldsAll r.nodes (length q.nodes) (length r.nodes) ids us → Keeps q.nodes r.nodes → MadeHere (plain_label node.VariableDeclaration (made_op.Declaration k) s) ids v w id → FirstTaken text f p w (Some id)
+  made_of r {v} {w} {us} {pass} {ids} {id} s c d e o x h z n =
       let l : plain_label node.VariableDeclaration (made_op.Declaration k) s ≡ label_here variable_declaration (of (declaration_kind k)) p r = rw (c, d) refl in
       let hp : HoldsAll r.nodes (length p.nodes) (length r.nodes) ids us = subst (λ (ns : List Node). HoldsAll r.nodes (length ns) (length r.nodes) ids us) m.nodes h in
       let kp : Keeps p.nodes r.nodes = subst (λ (ns : List Node). Keeps ns r.nodes) m.nodes z in
       first_made a x (subst (λ (ns : List Node). HoldsAll ns (length p.nodes) (length ns) ids us) (sym e) hp) (subst (λ (ns : List Node). Keeps p.nodes ns) (sym e) kp) (ap (λ (j : ℕ). record { from = p.token.span.start; to = j }) (sym o)) (subst (λ (u : Label). MadeHere u ids v w id) l n)
 
   -- of one declarator
-  module _ {r v w : Parser} {first id : NodeId} (j : r.token.kind ≡ kind.Comma → ⊥) (s : Span) (c : s.start ≡ p.token.span.start) (d : s.end ≡ r.prev_token_end) (n : MadeHere (plain_label node.VariableDeclaration (made_op.Declaration k) s) (Some first ∷ []) v w id) where
+  module _ (r : Parser) {v w : Parser} {first id : NodeId} (j : r.token.kind ≡ kind.Comma → ⊥) (s : Span) (c : s.start ≡ p.token.span.start) (d : s.end ≡ r.prev_token_end) (n : MadeHere (plain_label node.VariableDeclaration (made_op.Declaration k) s) (Some first ∷ []) v w id) where
     bound_answers : BoundThrough text f (is_constant k) q r first → TellsHead k form.Through true r v → FirstTaken text f p w (Some id)
     bound_answers x t = by t
       where
         stays : v ≡ r → FirstTaken text f p w (Some id)
-        stays e = made_of s c d (ap (λ (z : Parser). z.nodes) e) (ap (λ (z : Parser). z.prev_token_end) e) (subst (λ (z : Parser). FirstRead text f p z (bound_slots x) (label_here variable_declaration (of (declaration_kind k)) p r) (λ ls. next m.lexeme (x.pass ls))) (sym e) (bound_read x)) (HoldsAll-one first x.holds) x.keeps n
+        stays e = made_of r s c d (ap (λ (z : Parser). z.nodes) e) (ap (λ (z : Parser). z.prev_token_end) e) (subst (λ (z : Parser). FirstRead text f p z (bound_slots x) (label_here variable_declaration (of (declaration_kind k)) p r) (λ ls. next m.lexeme (x.pass ls))) (sym e) (bound_read x)) (HoldsAll-one first x.holds) x.keeps n
 
         by : TellsHead k form.Through true r v → FirstTaken text f p w (Some id)
         by (none_stands h e) = stays e
@@ -493,7 +501,7 @@ module _ {text : List ℕ} {f : Flags} {p q : Parser} (k : DeclarationKind) (a :
       alone = (list_alone refl refl j).1 text f q m.at x.read
 
       one_answers : TellsHead k g true r v → FirstTaken text f p w (Some id)
-      one_answers (none_stands h e) = made_of s c d (ap (λ (z : Parser). z.nodes) e) (ap (λ (z : Parser). z.prev_token_end) e) (subst (λ (z : Parser). FirstRead text f p z alone.slots (label_here variable_declaration (of (declaration_kind k)) p r) (init_path x alone).pass) (sym e) (list_read x alone h (no_in_there x alone h.0))) alone.holds alone.keeps n
+      one_answers (none_stands h e) = made_of r s c d (ap (λ (z : Parser). z.nodes) e) (ap (λ (z : Parser). z.prev_token_end) e) (subst (λ (z : Parser). FirstRead text f p z alone.slots (label_here variable_declaration (of (declaration_kind k)) p r) (init_path x alone).pass) (sym e) (list_read x alone h (no_in_there x alone h.0))) alone.holds alone.keeps n
       one_answers (may_be h u o e) = by g l x h u o
         where
           by : (g : HeadForm) → (g ≡ form.Through → ⊥) → BesideThrough text f (is_constant k) g q r first → (h : Bool) → StandsHere r (through_kind h) true → may_stand k g true h ≡ true → FirstTaken text f p w (Some id)
@@ -505,8 +513,8 @@ module _ {text : List ℕ} {f : Flags} {p q : Parser} (k : DeclarationKind) (a :
               let y = (list_alone refl refl j).1 text f q m.at x.read in
               let v = (and_parts (is_var k) true o).0 in
               let z = value_read x y v u in
-              made_of s c d (ap (λ (z : Parser). z.nodes) e) (ap (λ (z : Parser). z.prev_token_end) e) (subst (λ (z : Parser). FirstRead text f p z (tree (value x y v u).label (value x y v u).slots end) (label_here variable_declaration (of (declaration_kind k)) p r) (value_path x y v u).pass) (sym e) z) (HoldsAll-one first (value x y v u).holds) x.read.keeps n
-      one_answers (may_not h u o e y z) = made_of s c d (ap (λ (z : Parser). z.nodes) z.is) (ap (λ (z : Parser). z.prev_token_end) z.is) (list_told x alone h u (by h u o) y z) alone.holds alone.keeps n
+              made_of r s c d (ap (λ (z : Parser). z.nodes) e) (ap (λ (z : Parser). z.prev_token_end) e) (subst (λ (z : Parser). FirstRead text f p z (tree (value x y v u).label (value x y v u).slots end) (label_here variable_declaration (of (declaration_kind k)) p r) (value_path x y v u).pass) (sym e) z) (HoldsAll-one first (value x y v u).holds) x.read.keeps n
+      one_answers (may_not h u o e y z) = made_of r s c d (ap (λ (z : Parser). z.nodes) z.is) (ap (λ (z : Parser). z.prev_token_end) z.is) (list_told x alone h u (by h u o) y z) alone.holds alone.keeps n
         where
           by : (h : Bool) → StandsHere r (through_kind h) true → may_stand k g true h ≡ false → NoFirst text ending.In f p.prev_token_end
           by true u o = no_in_told x alone o
@@ -519,11 +527,11 @@ module _ {text : List ℕ} {f : Flags} {p q : Parser} (k : DeclarationKind) (a :
     one_first form.InitialisedPattern x t = one_answers form.InitialisedPattern (λ e. cc) x t
 
   -- of several
-  module _ {r : Parser} {first : NodeId} (j : r.token.kind ≡ kind.Comma) where
+  module _ (r : Parser) (j : r.token.kind ≡ kind.Comma) where
     no_in_here : StandsHere r kind.In false
     no_in_here = not_in r kind.Comma (λ e. cc) j
 
-    not_through : (g : HeadForm) → HeadRead g text f (is_constant k) q r (record { node = first; form = g }) → BesideThrough text f (is_constant k) g q r first
+    not_through : {first : NodeId} (g : HeadForm) → HeadRead g text f (is_constant k) q r (record { node = first; form = g }) → BesideThrough text f (is_constant k) g q r first
     not_through form.Through x = absurd (by x.here)
       where
         by : ThroughHere r true → ⊥
@@ -533,11 +541,11 @@ module _ {text : List ℕ} {f : Flags} {p q : Parser} (k : DeclarationKind) (a :
     not_through form.InitialisedName x = x
     not_through form.InitialisedPattern x = x
 
-    pub first_of_several : (g : HeadForm) → HeadRead g text f (is_constant k) q r (record { node = first; form = g }) → {u : Parser} {ids : List (Option NodeId)} → DeclaratorsBehind (is_constant k) first r u ids → HeadList text f (is_constant k) q u ids
-    first_of_several g x y = y.1 text f q m.at (not_through g x).read
+    pub first_of_several : (first : NodeId) (g : HeadForm) → HeadRead g text f (is_constant k) q r (record { node = first; form = g }) → {u : Parser} {ids : List (Option NodeId)} → DeclaratorsBehind (is_constant k) first r u ids → HeadList text f (is_constant k) q u ids
+    first_of_several first g x y = y.1 text f q m.at (not_through g x).read
 
-    pub others_stop : (g : HeadForm) → HeadRead g text f (is_constant k) q r (record { node = first; form = g }) → (u : Parser) (e : Stop) → NoneBehind (is_constant k) first r u e → Stops p u e ((e : Ending) → NoFirst text e f p.prev_token_end)
-    others_stop g x u e y = let z = not_through g x in stops_behind u e m.same (λ g. grown_then m.kept g) (λ n d. none_first_of z n d) (y text f q m.at z.read)
+    pub others_stop : (first : NodeId) (g : HeadForm) → HeadRead g text f (is_constant k) q r (record { node = first; form = g }) → (u : Parser) (e : Stop) → NoneBehind (is_constant k) first r u e → Stops p u e ((e : Ending) → NoFirst text e f p.prev_token_end)
+    others_stop first g x u e y = let z = not_through g x in stops_behind u e m.same (λ g. grown_then m.kept g) (λ n d. none_first_of z n d) (y text f q m.at z.read)
       where
         none_value : (g : HeadForm) → BesideThrough text f (is_constant k) g q r first → ValueRead g text f q r first → Fails rule (Lex text) (plain (is kind.In)) end (named_value f) q.prev_token_end
         none_value form.InitialisedName z v = either_way v.verdict (λ w. stretch_not kind.In w (stands_not z.read.at refl no_in_here)) (λ w. w)
@@ -550,21 +558,21 @@ module _ {text : List ℕ} {f : Flags} {p q : Parser} (k : DeclarationKind) (a :
         none_first_of z n ending.In = no_in z.not_alone (no_value_node (none_value g z (z.value i)))
         none_first_of z n ending.Of = no_of z.not_alone
 
-    pub several_first : (g : HeadForm) → HeadRead g text f (is_constant k) q r (record { node = first; form = g }) → {u v w : Parser} {ids : List (Option NodeId)} {id : NodeId} → HeadList text f (is_constant k) q u ids → (s : Span) → s.start ≡ p.token.span.start → s.end ≡ u.prev_token_end → TellsHead k g false u v → MadeHere (plain_label node.VariableDeclaration (made_op.Declaration k) s) ids v w id → FirstTaken text f p w (Some id)
-    several_first g t {u} {v} {w} {ids} {id} y s c d (none_stands h e) n = let x = not_through g t in made_of s c d (ap (λ (z : Parser). z.nodes) e) (ap (λ (z : Parser). z.prev_token_end) e) (subst (λ (z : Parser). FirstRead text f p z y.slots (label_here variable_declaration (of (declaration_kind k)) p u) (init_path x y).pass) (sym e) (list_read x y h (no_in_there x y no_in_here))) y.holds y.keeps n
-    several_first g t y s c d (may_be h u o e) n = absurd (false≢true o)
-    several_first g t y s c d (may_not h o q' e z l) n = let x = not_through g t in made_of s c d (ap (λ (z : Parser). z.nodes) l.is) (ap (λ (z : Parser). z.prev_token_end) l.is) (list_told x y h o (no_in_there x y no_in_here) z l) y.holds y.keeps n
+    pub several_first : (first : NodeId) (g : HeadForm) → HeadRead g text f (is_constant k) q r (record { node = first; form = g }) → {u v w : Parser} {ids : List (Option NodeId)} {id : NodeId} → HeadList text f (is_constant k) q u ids → (s : Span) → s.start ≡ p.token.span.start → s.end ≡ u.prev_token_end → TellsHead k g false u v → MadeHere (plain_label node.VariableDeclaration (made_op.Declaration k) s) ids v w id → FirstTaken text f p w (Some id)
+    several_first first g t {u} {v} {w} {ids} {id} y s c d (none_stands h e) n = let x = not_through g t in made_of u s c d (ap (λ (z : Parser). z.nodes) e) (ap (λ (z : Parser). z.prev_token_end) e) (subst (λ (z : Parser). FirstRead text f p z y.slots (label_here variable_declaration (of (declaration_kind k)) p u) (init_path x y).pass) (sym e) (list_read x y h (no_in_there x y no_in_here))) y.holds y.keeps n
+    several_first first g t y s c d (may_be h u o e) n = absurd (false≢true o)
+    several_first first g t {u} y s c d (may_not h o i' e z l) n = let x = not_through g t in made_of u s c d (ap (λ (z : Parser). z.nodes) l.is) (ap (λ (z : Parser). z.prev_token_end) l.is) (list_told x y h o (no_in_there x y no_in_here) z l) y.holds y.keeps n
 
   -- ---- marks
 
   pub list_reached : {v : Parser} {ids : List (Option NodeId)} → HeadList text f (is_constant k) q v ids → ReadTo text f p v
   list_reached y = record { at = y.at; same = same_both m.same y.same; further = let j = m.further in let o = m.at.behind in let d = y.further in omega arith; pass = λ ls. next m.lexeme (y.pass ls); walked = walked_both (walked_one m) y.walked }
 
-  pub one_reached : (g : HeadForm) {r : Parser} {first : NodeId} → HeadRead g text f (is_constant k) q r (record { node = first; form = g }) → ReadTo text f p r
-  one_reached form.Through x = record { at = x.at; same = same_both m.same x.same; further = let j = m.further in let o = m.at.behind in let d = x.further in omega arith; pass = λ ls. next m.lexeme (x.pass ls); walked = walked_both (walked_one m) x.walked }
-  one_reached form.Bare x = record { at = x.read.at; same = same_both m.same x.read.same; further = let j = m.further in let o = m.at.behind in let d = x.read.further in omega arith; pass = λ ls. next m.lexeme (x.read.pass ls); walked = walked_both (walked_one m) x.read.walked }
-  one_reached form.InitialisedName x = record { at = x.read.at; same = same_both m.same x.read.same; further = let j = m.further in let o = m.at.behind in let d = x.read.further in omega arith; pass = λ ls. next m.lexeme (x.read.pass ls); walked = walked_both (walked_one m) x.read.walked }
-  one_reached form.InitialisedPattern x = record { at = x.read.at; same = same_both m.same x.read.same; further = let j = m.further in let o = m.at.behind in let d = x.read.further in omega arith; pass = λ ls. next m.lexeme (x.read.pass ls); walked = walked_both (walked_one m) x.read.walked }
+  pub one_reached : (g : HeadForm) (r : Parser) (first : NodeId) → HeadRead g text f (is_constant k) q r (record { node = first; form = g }) → ReadTo text f p r
+  one_reached form.Through r first x = record { at = x.at; same = same_both m.same x.same; further = let j = m.further in let o = m.at.behind in let d = x.further in omega arith; pass = λ ls. next m.lexeme (x.pass ls); walked = walked_both (walked_one m) x.walked }
+  one_reached form.Bare r first x = record { at = x.read.at; same = same_both m.same x.read.same; further = let j = m.further in let o = m.at.behind in let d = x.read.further in omega arith; pass = λ ls. next m.lexeme (x.read.pass ls); walked = walked_both (walked_one m) x.read.walked }
+  one_reached form.InitialisedName r first x = record { at = x.read.at; same = same_both m.same x.read.same; further = let j = m.further in let o = m.at.behind in let d = x.read.further in omega arith; pass = λ ls. next m.lexeme (x.read.pass ls); walked = walked_both (walked_one m) x.read.walked }
+  one_reached form.InitialisedPattern r first x = record { at = x.read.at; same = same_both m.same x.read.same; further = let j = m.further in let o = m.at.behind in let d = x.read.further in omega arith; pass = λ ls. next m.lexeme (x.read.pass ls); walked = walked_both (walked_one m) x.read.walked }
 
   pub fault_marked : {r : Parser} → ReadTo text f p r → (s : Span) → s.start ≡ p.token.span.start → s.end ≡ r.prev_token_end → (d : DiagnosticKind) → HeadFault d → Mark (goal r) r.text (unrelated_at d s)
   fault_marked {r} x s c e d h = by h
@@ -573,6 +581,6 @@ module _ {text : List ℕ} {f : Flags} {p q : Parser} (k : DeclarationKind) (a :
       marked d m v e = subst (λ (z : DiagnosticKind). Mark (goal r) r.text (unrelated_at z s)) (sym e) m
 
       by : HeadFault d → Mark (goal r) r.text (unrelated_at d s)
-      by (inl q) = marked fault.MultipleDeclarationsInForLoopHead (span_marked a (a_lexeme_stands k here_word) x.at x.same x.walked x.further fault.MultipleDeclarationsInForLoopHead s refl (λ s i j. ((i, j), (refl, refl))) c e) d q
-      by (inr (inl q)) = marked fault.InitializerInForInLexicalDeclaration (span_marked a (a_lexeme_stands k here_word) x.at x.same x.walked x.further fault.InitializerInForInLexicalDeclaration s refl (λ s i j. ((i, j), (refl, refl))) c e) d q
-      by (inr (inr q)) = marked fault.InitializerInForHead (span_marked a (a_lexeme_stands k here_word) x.at x.same x.walked x.further fault.InitializerInForHead s refl (λ s i j. ((i, j), (refl, refl))) c e) d q
+      by (inl q) = marked fault.MultipleDeclarationsInForLoopHead (span_marked a (a_lexeme_stands k p here_word) x.at x.same x.walked x.further fault.MultipleDeclarationsInForLoopHead s refl (λ s i j. ((i, j), (refl, refl))) c e) d q
+      by (inr (inl q)) = marked fault.InitializerInForInLexicalDeclaration (span_marked a (a_lexeme_stands k p here_word) x.at x.same x.walked x.further fault.InitializerInForInLexicalDeclaration s refl (λ s i j. ((i, j), (refl, refl))) c e) d q
+      by (inr (inr q)) = marked fault.InitializerInForHead (span_marked a (a_lexeme_stands k p here_word) x.at x.same x.walked x.further fault.InitializerInForHead s refl (λ s i j. ((i, j), (refl, refl))) c e) d q

@@ -21,6 +21,7 @@ use Rattle.js_grammar.proofs.Looks.{covers, covered, apart}
 use Rattle.js_grammar.proofs.Calculus.{On, ◌▹◌, ◌▹✗◌, ends, here_at, left, right, looks, same, part_fails, fails_alt, fails_look, fails_node, fails_rule, inside_full, weaken_fails_on, weaken_on}
 use Rattle.js_tree.specs.declared.id.NodeId.{NodeId}
 use Rattle.js_tree.specs.Holding.{Holds, HoldsAll, Keeps}
+use Rattle.js_tree.specs.Nodes.{Node}
 use Rattle.js_tree.proofs.HoldingLemmas.{HoldsAll-one}
 use Rattle.js_lex.specs.Reading.{is_right_angle}
 use Rattle.js_cursor.specs.Parsers.{Parser}
@@ -82,14 +83,17 @@ stretch_not {text} {g} {s} {s'} k z n = record { no = λ ts vs j ls rest l d e. 
         let y = z.goes.only ts vs j ls rest l d e in
         n (here rest) (here_at (Lex text) rest (subst (λ (v : Lexemes). Lexes (Lex text) s' v) (ends y.4).2 y.3)) (sym (kind_of_same k (here rest).kind (and_parts (same_kind k (here rest).kind) (not (here rest).escaped) e.0).0))
 
-ending_angle : (e : Ending) → is_right_angle (end_kind e) ≡ false
+ending_angle : (e : Ending) → (is_right_angle (end_kind e) || same_kind kind.RegExp (end_kind e)) ≡ false
 ending_angle ending.Semicolon = refl
 ending_angle ending.In = refl
 ending_angle ending.Of = refl
 
--- of a path that ends where another lexeme stands
+-- of what ends where another lexeme stands
+pub verdict_not : {text : List ℕ} {f : Flags} {g : G} {s : ℕ} {q : Parser} {es ds : List Diagnostic} {h : Slots → Slots} {pass : Lexemes → Lexemes} (e : Ending) → Verdict es ds (Stretch text (plain (is (end_kind e))) g s nothing q.prev_token_end h pass) (Fails rule (Lex text) (plain (is (end_kind e))) end g s) → At text f q → StandsHere q (end_kind e) false → Fails rule (Lex text) (plain (is (end_kind e))) end g s
+verdict_not e v a n = either_way v (λ z. stretch_not (end_kind e) z (stands_not a (ending_angle e) n)) (λ z. z)
+
 pub path_not : {text : List ℕ} {f f' : Flags} {g : G} {p q : Parser} {h : Slots → Slots} (e : Ending) → Path text f (plain (is (end_kind e))) g p nothing q h → At text f' q → StandsHere q (end_kind e) false → Fails rule (Lex text) (plain (is (end_kind e))) end g p.prev_token_end
-path_not e y a n = either_way y.verdict (λ z. stretch_not (end_kind e) z (stands_not a (ending_angle e) n)) (λ z. z)
+path_not e y a n = verdict_not e y.verdict a n
 
 pub look_in : (y : Lexeme) → IsTrue (seen (is kind.In) y) → IsTrue (seen goes_through y)
 look_in y q = let z = and_parts (same_kind kind.In y.kind) (not y.escaped) q in and_from (one_of_kinds (kind.In ∷ kind.Of ∷ []) y.kind) (not y.escaped) (subst (λ (k : Kind). one_of_kinds (kind.In ∷ kind.Of ∷ []) k ≡ true) (kind_of_same kind.In y.kind z.0) refl) z.1
@@ -119,7 +123,7 @@ module _ {text : List ℕ} {f : Flags} {p : Parser} (a : At text f p) (n : NoneB
   name_here : LetIsName text true p.prev_token_end
   name_here = n.2 text f a
 
-  no_word : {X : Test} {g : G} (w : Kind) → is_right_angle w ≡ false → StandsHere p w false → Fails rule (Lex text) X end (op variable_declaration w (tok w ▸ g)) p.prev_token_end
+  no_word : {X : Test} {g : G} (w : Kind) → (is_right_angle w || same_kind kind.RegExp w) ≡ false → StandsHere p w false → Fails rule (Lex text) X end (op variable_declaration w (tok w ▸ g)) p.prev_token_end
   no_word w r s = fails_node inside_full (no_token a w r s)
 
   no_let_word : {X : Test} (g : G) → covers (starts first g full) (λ k w e. behind_let true k) ≡ true → Fails rule (Lex text) X end (op variable_declaration kind.Let (tok kind.Let ▸ g)) p.prev_token_end
@@ -227,25 +231,19 @@ module _ {text : List ℕ} {f : Flags} {p : Parser} (a : At text f p) (n : NoneB
 
     -- one before `in` or `of`, as the target that it is; it doesn't begin with `let` before `of`
     module _ {q r : Parser} {id target : NodeId} (x : Numbered text f (at Expression f) p q id) (t : HeadTargetTaken text f p q r target) where
-      target_path : (e : Ending) → (e ≡ ending.Semicolon → ⊥) → Path text f (plain (is (end_kind e))) (symbol Target f) p nothing r (tree t.label t.slots)
-      target_path e m = record {
-        at = t.path.at;
-        further = t.path.further;
-        pass = t.path.pass;
-        walked = t.path.walked;
-        verdict = verdict_of t.path.verdict (λ y. record { reach = y.reach; near = y.near; goes = weaken_on y.goes (on_through e m) }) (λ y. weaken_fails_on y (on_through e m));
-      }
+      target_verdict : (e : Ending) → (e ≡ ending.Semicolon → ⊥) → Verdict p.errors r.errors (Stretch text (plain (is (end_kind e))) (symbol Target f) p.prev_token_end nothing r.prev_token_end (tree t.label t.slots) t.path.pass) (Fails rule (Lex text) (plain (is (end_kind e))) end (symbol Target f) p.prev_token_end)
+      target_verdict e m = verdict_of t.path.verdict (λ y. record { reach = y.reach; near = y.near; goes = weaken_on y.goes (on_through e m) }) (λ y. weaken_fails_on y (on_through e m))
         where
           on_through : (e : Ending) → (e ≡ ending.Semicolon → ⊥) → On rule (plain (is (end_kind e))) (plain goes_through) end (symbol Target f) p.prev_token_end
           on_through ending.Semicolon m = absurd (m refl)
           on_through ending.In m = record { admits = λ ts vs k ls rest d e. (look_in (here rest) e.0, refl) }
           on_through ending.Of m = record { admits = λ ts vs k ls rest d e. (look_of (here rest) e.0, refl) }
 
-      in_path : Path text f (plain (is kind.In)) (first_part ending.In f) p nothing r (tree t.label t.slots)
-      in_path = leads_to a in_leads (target_path ending.In (λ k. cc))
+      in_verdict : Verdict p.errors r.errors (Stretch text (plain (is kind.In)) (first_part ending.In f) p.prev_token_end nothing r.prev_token_end (tree t.label t.slots) t.path.pass) (NoFirst text ending.In f p.prev_token_end)
+      in_verdict = let l = in_leads {X = plain (is kind.In)} in verdict_of (target_verdict ending.In (λ k. cc)) (λ z. record { reach = max l.reach z.reach; near = let i = l.near in let j = z.near in let o = t.path.further in let u = a.behind in omega arith; goes = l.goes ▹ z.goes }) (λ z. l.goes ▹✗ z)
 
-      of_path : StandsHere p kind.Let false → Path text f (plain (is kind.Of)) (first_part ending.Of f) p nothing r (tree t.label t.slots)
-      of_path s = of_leads s ⟼ target_path ending.Of (λ k. cc)
+      of_verdict : StandsHere p kind.Let false → Verdict p.errors r.errors (Stretch text (plain (is kind.Of)) (first_part ending.Of f) p.prev_token_end nothing r.prev_token_end (tree t.label t.slots) t.path.pass) (NoFirst text ending.Of f p.prev_token_end)
+      of_verdict s = verdict_of (target_verdict ending.Of (λ k. cc)) (λ z. record { reach = max 0 z.reach; near = let j = z.near in omega arith; goes = of_leads s ▹ z.goes }) (λ z. of_leads s ▹✗ z)
 
       no_semicolon : ThroughHere r true → StandsHere r kind.Semicolon true → ⊥
       no_semicolon (inl h) s = let k : kind.In ≡ kind.Semicolon = sym h.0 ∙ s.0 in cc
@@ -264,7 +262,7 @@ module _ {text : List ℕ} {f : Flags} {p : Parser} (a : At text f p) (n : NoneB
         where
           by : (b : Bool) × StandsHere p kind.Let b → NoFirst text ending.Of f p.prev_token_end
           by (true, l) = no_of_let l
-          by (false, l) = path_not ending.Of (of_path l) t.path.at s
+          by (false, l) = verdict_not ending.Of (of_verdict l) t.path.at s
 
       target_grown : {ds : List Diagnostic} → Grown r.errors ds → Grown p.errors ds
       target_grown g = grown_behind t.path.verdict g
@@ -289,16 +287,16 @@ module _ {text : List ℕ} {f : Flags} {p : Parser} (a : At text f p) (n : NoneB
         where
           of_read : (b : Bool) × StandsHere p kind.Let b → StandsHere r kind.Of true → Verdict p.errors r.errors (Stretch text (plain (is kind.Of)) (first_part ending.Of f) p.prev_token_end nothing r.prev_token_end (tree t.label t.slots) t.path.pass) (NoFirst text ending.Of f p.prev_token_end)
           of_read (true, l) s = absurd (n l s)
-          of_read (false, l) s = (of_path l).verdict
+          of_read (false, l) s = of_verdict l
 
           reads : (e : Ending) → StandsHere r (end_kind e) true → Verdict p.errors r.errors (Stretch text (plain (is (end_kind e))) (first_part e f) p.prev_token_end nothing r.prev_token_end (tree t.label t.slots) t.path.pass) (NoFirst text e f p.prev_token_end)
           reads ending.Semicolon s = absurd (no_semicolon h s)
-          reads ending.In s = in_path.verdict
+          reads ending.In s = in_verdict
           reads ending.Of s = of_read (stands_let a) s
 
           fails : (e : Ending) → StandsHere r (end_kind e) false → NoFirst text e f p.prev_token_end
           fails ending.Semicolon s = no_init_there hq
-          fails ending.In s = path_not ending.In in_path t.path.at s
+          fails ending.In s = verdict_not ending.In in_verdict t.path.at s
           fails ending.Of s = no_of s
 
       -- one that begins with `let` before `of`, which was told
@@ -334,7 +332,7 @@ module _ {text : List ℕ} {f : Flags} {p : Parser} (a : At text f p) (n : NoneB
 
           fails : (e : Ending) → StandsHere r (end_kind e) false → NoFirst text e f p.prev_token_end
           fails ending.Semicolon s = no_init_there hq
-          fails ending.In s = path_not ending.In in_path t.path.at s
+          fails ending.In s = verdict_not ending.In in_verdict t.path.at s
           fails ending.Of s = absurd (s o.0 o.1)
 
 -- ---- the target that an expression stands for
@@ -433,7 +431,7 @@ module _ {text : List ℕ} {f : Flags} {p q : Parser} {id : NodeId} (a : At text
           within = (subst (λ (v : List ℕ). IsCharBoundary v q.prev_token_end) x.answer.at.text_is x.answer.at.at.between).0;
           begins_between = subst (λ (v : ℕ). IsCharBoundary text v) (sym d) (subst (λ (v : List ℕ). IsCharBoundary v p.token.span.start) a.text_is a.at.lies.starts_whole);
           ends_between = subst (λ (v : List ℕ). IsCharBoundary v q.prev_token_end) x.answer.at.text_is x.answer.at.at.between;
-          stands = (inr (underived_there x.answer a z y l f Target (record { start = start; end = q.prev_token_end }) d refl (λ t g. none_there.no (tree t.label t.slots end) end q.prev_token_end (x.answer.pass (last y)) (last y) (lexed_there x.answer a z y l) (is_such g refl) ((behind t).2, refl))), (refl, refl));
+          stands = (inr (underived_there x.answer a z y l f Target (record { start = start; end = q.prev_token_end }) d refl (λ u g. none_there.no (tree u.label u.slots end) end q.prev_token_end (x.answer.pass (last y)) (last y) (lexed_there x.answer a z y l) (is_such g refl) ((behind t).2, refl))), (refl, refl));
         }
 
 -- as a call needs it
