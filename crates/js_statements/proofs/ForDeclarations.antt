@@ -508,7 +508,7 @@ module _ {text : List ℕ} {f : Flags} {p q : Parser} (k : DeclarationKind) (a :
           by form.Through l x h u o = absurd (l refl)
           by form.Bare l x h u o = absurd (false≢true o)
           by form.InitialisedPattern l x h u o = absurd (false≢true o)
-          by form.InitialisedName l x false u o = absurd (false≢true (sym (and_parts (is_var k) false o).1))
+          by form.InitialisedName l x false u o = absurd (false≢true (and_parts (is_var k) false o).1)
           by form.InitialisedName l x true u o =
               let y = (list_alone refl refl j).1 text f q m.at x.read in
               let v = (and_parts (is_var k) true o).0 in

@@ -368,8 +368,8 @@ module _ {text : List ℕ} {f : Flags} {p : Parser} (a : At text f p) where
             slots_are : (us : Slots) → t.slots (w.slots us) ≡ append both_slots us
             slots_are us = t.puts (w.slots us) ∙ (ap (λ (z : Slots). append (t.slots end) z) (w.puts us) ∙ sym (append_assoc (t.slots end) (w.slots end) us))
 
-            pub semicolons_taken : {ids is js : List (Option NodeId)} → is ≡ ids ++ test ∷ [] → js ≡ is ++ update ∷ [] → RestTaken text f ending.Semicolon p v ids js
-            semicolons_taken {ids} {is} {js} e g = record {
+            pub semicolons_taken : {ids hs js : List (Option NodeId)} → hs ≡ ids ++ test ∷ [] → js ≡ hs ++ update ∷ [] → RestTaken text f ending.Semicolon p v ids js
+            semicolons_taken {ids} {hs} {js} e g = record {
               here = k;
               same = same_both m.same (same_both t.same (same_both o.same w.same));
               slots = both_slots;
@@ -389,7 +389,7 @@ module _ {text : List ℕ} {f : Flags} {p : Parser} (a : At text f p) where
                 held_both lo us h =
                     let a1 : HoldsAll r.nodes (length p.nodes) (length r.nodes) (test ∷ []) (t.slots end) = subst (λ (ns : List Node). HoldsAll r.nodes (length ns) (length r.nodes) (test ∷ []) (t.slots end)) m.nodes t.held in
                     let a2 : HoldsAll v.nodes (length r.nodes) (length v.nodes) (update ∷ []) (w.slots end) = subst (λ (ns : List Node). HoldsAll v.nodes (length ns) (length v.nodes) (update ∷ []) (w.slots end)) o.nodes w.held in
-                    let b1 : HoldsAll r.nodes lo (length r.nodes) is (append us (t.slots end)) = subst (λ (xs : List (Option NodeId)). HoldsAll r.nodes lo (length r.nodes) xs (append us (t.slots end))) (sym e) (HoldsAll-append (HoldsAll-kept kt h) a1) in
+                    let b1 : HoldsAll r.nodes lo (length r.nodes) hs (append us (t.slots end)) = subst (λ (xs : List (Option NodeId)). HoldsAll r.nodes lo (length r.nodes) xs (append us (t.slots end))) (sym e) (HoldsAll-append (HoldsAll-kept kt h) a1) in
                     let b2 : HoldsAll v.nodes lo (length v.nodes) js (append (append us (t.slots end)) (w.slots end)) = subst (λ (xs : List (Option NodeId)). HoldsAll v.nodes lo (length v.nodes) xs (append (append us (t.slots end)) (w.slots end))) (sym g) (HoldsAll-append (HoldsAll-kept kw b1) a2) in
                     subst (λ (z : Slots). HoldsAll v.nodes lo (length v.nodes) js z) (append_assoc us (t.slots end) (w.slots end)) b2
 

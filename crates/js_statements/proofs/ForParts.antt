@@ -2,6 +2,9 @@
 use Rattle.std.proofs.Common.{ℕ, ◌≡◌, ◌≤◌, ◌<◌, ◌⊎◌, inl, inr, max, List, [], ◌∷◌, length, Option, Some, None, Bool, true, false, not, ◌&&◌, ◌||◌, IsTrue, refl, sym, ap, subst, arith, ◌∙◌}
 use Rattle.std.proofs.lemmas.Bool.{false≢true, and_from, and_parts}
 use Rattle.js_base.specs.declared.diagnostic.Diagnostic.{Diagnostic}
+use Rattle.js_base.specs.declared.diagnostic.DiagnosticKind.TheVariants.{ForLoopLetReservedWord}
+use Rattle.js_declarations.proofs.SpansMarked.{span_marked}
+use Rattle.js_parsing.specs.Told.{unrelated_at}
 use Rattle.js_base.specs.declared.kind.Kind.{Kind}
 use Rattle.js_base.specs.declared.kind.Kind.TheVariants as kind
 use Rattle.js_base.specs.Kinds.{same_kind, one_of_kinds}
@@ -67,9 +70,10 @@ use Rattle.js_targets.specs.Taken.{LiteralRead, TakesTarget, no_target_at}
 use Rattle.js_targets.specs.Targets.{IsTarget, is_literal, target_of}
 use Rattle.js_targets.proofs.ArraysConverted.{signs}
 use Rattle.js_targets.proofs.Covers.{lexed_there, underived_there}
-use Rattle.js_targets.proofs.HeadTargets.{before_these, goes_behind, literal_none, literal_path, simple_none, simple_path}
+use Rattle.js_targets.proofs.HeadTargets.{before_these, goes_behind, none_before, literal_none, literal_path, simple_none, simple_path}
 use Rattle.js_targets.proofs.Refused.{refused}
-use Rattle.js_expressions.specs.HeadOperands.{HeadOperand, no_target, operand}
+use Rattle.js_expressions.specs.HeadOperands.{HeadOperand, OperandOutcome, no_target, operand}
+use Rattle.js_cursor.specs.declared.stop.Stop.TheVariants.{Fatal, NoMemory}
 use Rattle.js_statements.proofs.ForHeads.{no_empty, on_semicolon}
 use Rattle.js_statements.proofs.LetLookaheads.{Leads, at_once, followed, is_let, leads_to, no_let, not_followed, stands_let, ◌⇒◌, ◌⇒✗◌}
 
@@ -100,6 +104,29 @@ look_in y q = let z = and_parts (same_kind kind.In y.kind) (not y.escaped) q in 
 
 look_of : (y : Lexeme) → IsTrue (seen (is kind.Of) y) → IsTrue (seen goes_through y)
 look_of y q = let z = and_parts (same_kind kind.Of y.kind) (not y.escaped) q in and_from (one_of_kinds (kind.In ∷ kind.Of ∷ []) y.kind) (not y.escaped) (subst (λ (k : Kind). one_of_kinds (kind.In ∷ kind.Of ∷ []) k ≡ true) (kind_of_same kind.Of y.kind z.0) refl) z.1
+
+in_or_of : (k : Kind) → one_of_kinds (kind.In ∷ kind.Of ∷ []) k ≡ true → (k ≡ kind.In) ⊎ (k ≡ kind.Of)
+in_or_of k h = by (same_kind kind.In k) refl h
+  where
+    last : (b : Bool) → same_kind kind.Of k ≡ b → (b || false) ≡ true → (k ≡ kind.In) ⊎ (k ≡ kind.Of)
+    last true e h = inr (sym (kind_of_same kind.Of k e))
+    last false e h = absurd (false≢true h)
+
+    by : (b : Bool) → same_kind kind.In k ≡ b → (b || (same_kind kind.Of k || false)) ≡ true → (k ≡ kind.In) ⊎ (k ≡ kind.Of)
+    by true e h = inl (sym (kind_of_same kind.In k e))
+    by false e h = last (same_kind kind.Of k) refl h
+
+-- neither stands there
+through_not : {text : List ℕ} {f : Flags} {q : Parser} → At text f q → ThroughHere q false → (y : Lexeme) → Lex text q.prev_token_end y → IsTrue (seen goes_through y) → ⊥
+through_not a n y l h = by (in_or_of y.kind (and_parts (one_of_kinds (kind.In ∷ kind.Of ∷ []) y.kind) (not y.escaped) h).0)
+  where
+    by : (y.kind ≡ kind.In) ⊎ (y.kind ≡ kind.Of) → ⊥
+    by (inl e) = stands_not a refl n.0 y l e
+    by (inr e) = stands_not a refl n.1 y l e
+
+pub through_so : (q r : Parser) → r.token ≡ q.token → ThroughHere q true → ThroughHere r true
+through_so q r e (inl h) = inl (ap (λ (z : Token). z.kind) e ∙ h.0, ap (λ (z : Token). z.escaped) e ∙ h.1)
+through_so q r e (inr h) = inr (ap (λ (z : Token). z.kind) e ∙ h.0, ap (λ (z : Token). z.escaped) e ∙ h.1)
 
 -- ---- where no declaration begins
 
@@ -229,6 +256,34 @@ module _ {text : List ℕ} {f : Flags} {p : Parser} (a : At text f p) (n : NoneB
         fails ending.In s = no_target_part ending.In (λ k. cc) z
         fails ending.Of s = no_target_part ending.Of (λ k. cc) z
 
+    -- whether it is a target or not
+    pub expression_alone : {q : Parser} {id : NodeId} (x : Numbered text f (at Expression f) p q id) → HeadOperand text f p q id → ThroughHere q false → FirstTaken text f p q (Some id)
+    expression_alone {q} {id} x y h = expression_first x h (by y)
+      where
+        by : HeadOperand text f p q id → NoTargetFrom text f p.prev_token_end
+        by (no_target m z) = z
+        by (operand y) = none_before i y.answer (through_not y.answer.at h)
+
+    -- one before `in` or `of` is none before a semicolon
+    no_init_through : {q : Parser} {id : NodeId} (x : Numbered text f (at Expression f) p q id) → ThroughHere q true → NoFirst text ending.Semicolon f p.prev_token_end
+    no_init_through {q} x h = path_not ending.Semicolon (init_path x.answer) x.answer.at (by h)
+      where
+        by : ThroughHere q true → StandsHere q kind.Semicolon false
+        by (inl h) = λ k e. let w : kind.In ≡ kind.Semicolon = sym h.0 ∙ k in cc
+        by (inr h) = λ k e. let w : kind.Of ≡ kind.Semicolon = sym h.0 ∙ k in cc
+
+    pub head_unread : (q : Parser) (x : Stop) → Stops p q x (Underived text (at Expression f) p.prev_token_end) → OperandOutcome text f p q (Err x) → Stops p q x ((e : Ending) → NoFirst text e f p.prev_token_end)
+    head_unread q Fatal s z = stops_so p q Fatal (λ n e. nothing_first n z e) s
+    head_unread q NoMemory s z = tt
+
+    pub target_unread : {q : Parser} {id : NodeId} (x : Numbered text f (at Expression f) p q id) → ThroughHere q true → (r : Parser) (e : Stop) → Stops p r e (NoTargetFrom text f p.prev_token_end) → Stops p r e ((d : Ending) → NoFirst text d f p.prev_token_end)
+    target_unread {q} x h r e s = stops_so p r e (λ z d. by d z) s
+      where
+        by : (d : Ending) → NoTargetFrom text f p.prev_token_end → NoFirst text d f p.prev_token_end
+        by ending.Semicolon z = no_init_through x h
+        by ending.In z = no_target_part ending.In (λ k. cc) z
+        by ending.Of z = no_target_part ending.Of (λ k. cc) z
+
     -- one before `in` or `of`, as the target that it is; it doesn't begin with `let` before `of`
     module _ {q r : Parser} {id target : NodeId} (x : Numbered text f (at Expression f) p q id) (t : HeadTargetTaken text f p q r target) where
       target_verdict : (e : Ending) → (e ≡ ending.Semicolon → ⊥) → Verdict p.errors r.errors (Stretch text (plain (is (end_kind e))) (symbol Target f) p.prev_token_end nothing r.prev_token_end (tree t.label t.slots) t.path.pass) (Fails rule (Lex text) (plain (is (end_kind e))) end (symbol Target f) p.prev_token_end)
@@ -251,11 +306,7 @@ module _ {text : List ℕ} {f : Flags} {p : Parser} (a : At text f p) (n : NoneB
 
       -- no semicolon stands behind it
       no_init_there : ThroughHere q true → NoFirst text ending.Semicolon f p.prev_token_end
-      no_init_there h = path_not ending.Semicolon (init_path x.answer) x.answer.at (by h)
-        where
-          by : ThroughHere q true → StandsHere q kind.Semicolon false
-          by (inl h) = λ k e. let w : kind.In ≡ kind.Semicolon = sym h.0 ∙ k in cc
-          by (inr h) = λ k e. let w : kind.Of ≡ kind.Semicolon = sym h.0 ∙ k in cc
+      no_init_there h = no_init_through x h
 
       no_of : StandsHere r kind.Of false → NoFirst text ending.Of f p.prev_token_end
       no_of s = by (stands_let a)
@@ -445,3 +496,9 @@ literal_read {start} {kept} {id} {q} h t = by h.operand
 pub literal_outcome : {start kept : ℕ} {id : NodeId} {q : Parser} (w : Parser) (r : Result NodeId Stop) → OfTree q id (λ lo hi l cs. is_literal l.kind ≡ true) → TakesTarget start id kept q w r → TakesHeadTarget start id kept q w r
 literal_outcome w (Ok t) h y = λ text f p a i s k x o. literal_taken a i x o h s k y
 literal_outcome w (Err e) h y = λ text f p a i s k x o. literal_stops a i x o h s k w e y
+
+-- ---- `let` before `of`
+
+-- what is told of it has its mark
+pub let_marked : {text : List ℕ} {f : Flags} {p q r : Parser} {target : NodeId} → At text f p → StandsHere p kind.Let true → HeadTargetTaken text f p q r target → (s : Span) {d : Diagnostic} → d ≡ unrelated_at ForLoopLetReservedWord s → s.start ≡ p.token.span.start → s.end ≡ r.prev_token_end → Mark (goal r) r.text d
+let_marked {p = p} a h t s e c d = span_marked a (λ k. let z : kind.Let ≡ kind.Undetermined = sym h.0 ∙ k in cc) t.path.at t.same t.path.walked t.path.further ForLoopLetReservedWord s e (λ s i j. ((i, j), (refl, refl))) c d

@@ -305,16 +305,16 @@ module _ {text : List ℕ} {f : Flags} {w : Bool} {p q : Parser} (a : At text f 
   listed true = at_kind a kind.For h.0 refl
   listed false = at_kind a kind.For h.0 refl
 
-  none_of_three : (b : Bool) → ({X : Test} (d : Ending) → Fails rule (Lex text) X end (symbol (name_of d) f) p.prev_token_end) → NoStatement text (placed b f) p.prev_token_end
-  none_of_three b n = no_symbol (listed b ▹✗ fails_rule {X' = plain full} (λ l cs vs y d. (refl, refl)) (all_three ▹✗ fails_alt (n ending.Semicolon) (fails_alt (n ending.In) (n ending.Of))))
+  none_of_three : (b : Bool) → ((X : Test) (d : Ending) → Fails rule (Lex text) X end (symbol (name_of d) f) p.prev_token_end) → NoStatement text (placed b f) p.prev_token_end
+  none_of_three b n = no_symbol (listed b ▹✗ fails_rule {X' = plain full} (λ l cs vs y d. (refl, refl)) (all_three ▹✗ fails_alt (n _ ending.Semicolon) (fails_alt (n _ ending.In) (n _ ending.Of))))
 
   pub for_stops : (b : Bool) (r : Parser) (x : Stop) → Stops q r x ((d : Ending) → NoParensHead text d f q.prev_token_end) → Stops p r x (NoStatement text (placed b f) p.prev_token_end)
-  for_stops b r x s = stops_behind r x m.same (λ g. grown_then m.kept g) (λ n. none_of_three b (λ d. no_line d (n d))) s
+  for_stops b r x s = stops_behind r x m.same (λ g. grown_then m.kept g) (λ n. none_of_three b (λ X d. no_line d (n d))) s
 
-  only_line : (e : Ending) → ({X : Test} (d : Ending) → (d ≡ e → ⊥) → Fails rule (Lex text) X end (symbol (name_of d) f) p.prev_token_end) → {X : Test} → Goes rule (Lex text) X end (rule (at AStatement f)) p.prev_token_end (symbol (name_of e) f) p.prev_token_end (λ us. us) (still 0)
-  only_line ending.Semicolon n = all_three ▹ left (fails_alt (n ending.In (λ k. cc)) (n ending.Of (λ k. cc)))
-  only_line ending.In n = all_three ▹ (right (n ending.Semicolon (λ k. cc)) ▹ left (n ending.Of (λ k. cc)))
-  only_line ending.Of n = all_three ▹ (right (n ending.Semicolon (λ k. cc)) ▹ right (n ending.In (λ k. cc)))
+  only_line : (e : Ending) → ((X : Test) (d : Ending) → (d ≡ e → ⊥) → Fails rule (Lex text) X end (symbol (name_of d) f) p.prev_token_end) → {X : Test} → Goes rule (Lex text) X end (rule (at AStatement f)) p.prev_token_end (symbol (name_of e) f) p.prev_token_end (λ us. us) (still 0)
+  only_line ending.Semicolon n = all_three ▹ left (fails_alt (n _ ending.In (λ k. cc)) (n _ ending.Of (λ k. cc)))
+  only_line ending.In n = all_three ▹ (right (n _ ending.Semicolon (λ k. cc)) ▹ left (n _ ending.Of (λ k. cc)))
+  only_line ending.Of n = all_three ▹ (right (n _ ending.Semicolon (λ k. cc)) ▹ right (n _ ending.In (λ k. cc)))
 
   module _ {r : Parser} {e : Ending} {ids : List (Option NodeId)} (x : ParensHeadTaken text f e q r ids) where
     pub head_same : Same p r
@@ -328,7 +328,7 @@ module _ {text : List ℕ} {f : Flags} {w : Bool} {p q : Parser} (a : At text f 
 
     -- with `await` another one than that of `of`
     unfit_none : (b : Bool) → (Fits w e → ⊥) → NoStatement text (placed b f) p.prev_token_end
-    unfit_none b i = none_of_three b (λ d. by d (which e d))
+    unfit_none b i = none_of_three b (λ X d. by d (which e d))
       where
         by : {X : Test} (d : Ending) → (d ≡ e) ⊎ (d ≡ e → ⊥) → Fails rule (Lex text) X end (symbol (name_of d) f) p.prev_token_end
         by d (inl k) = fails_rule {X' = plain full} (λ l cs vs y d. (refl, refl)) (m.dead d (λ z. i (subst (λ (v : Ending). Fits w v) k z)))
@@ -339,7 +339,7 @@ module _ {text : List ℕ} {f : Flags} {w : Bool} {p q : Parser} (a : At text f 
 
     module _ (i : Fits w e) where
       alone : Alone text f (name_of e) p.prev_token_end
-      alone = record { listed = λ b X. listed b; alone = λ X. only_line e (λ d n. other_lines d n) }
+      alone = record { listed = λ b X. listed b; alone = λ X. only_line e (λ X d n. other_lines d n) }
 
       head_read : Path text f (behind_for e f) (for_slots w e f) p (symbol Sub f) r (λ us. append x.slots us)
       head_read = m.opened e i ⟶ then_part x.path
