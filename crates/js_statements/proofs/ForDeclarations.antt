@@ -1,6 +1,8 @@
 -- A declaration as the first part of the head of a `for` (ECMA-262, 14.7.4, 14.7.5, B.3.5).
 use Rattle.std.proofs.Common.{ℕ, ◌≡◌, ◌≤◌, ◌<◌, ◌⊎◌, inl, inr, max, List, [], ◌∷◌, length, Option, Some, None, Bool, true, false, not, ◌&&◌, IsTrue, refl, sym, ap, subst, arith, ◌∙◌, ◌||◌}
-use Rattle.std.specs.Prelude.{IsCharBoundary}
+use Rattle.std.specs.Prelude.{IsCharBoundary, ◌↔◌}
+use Rattle.js_base.specs.Diagnostics.{class_of}
+use Rattle.js_base.specs.declared.diagnostic.DiagnosticClass.TheVariants.{Early}
 use Rattle.std.proofs.lemmas.Bool.{false≢true, and_from, and_parts, or_left, or_right}
 use Rattle.js_base.specs.declared.diagnostic.Diagnostic.{Diagnostic}
 use Rattle.js_base.specs.declared.diagnostic.DiagnosticKind.{DiagnosticKind}
@@ -55,7 +57,7 @@ use Rattle.js_declarations.proofs.SpansMarked.{span_marked}
 use Rattle.js_statements.specs.declared.for_statement.Ending.{Ending}
 use Rattle.js_statements.specs.declared.for_statement.Ending.TheVariants as ending
 use Rattle.js_statements.specs.ForHeads.{FirstTaken, NoFirst, behind_slot, end_kind, first_part}
-use Rattle.js_statements.specs.ForParts.{BeginsHead, HeadFault, TakesPartWithoutIn, TellsHead, is_var, may_be, may_not, may_stand, none_stands, through_kind}
+use Rattle.js_statements.specs.ForParts.{BeginsHead, FaultOf, HeadFault, TakesPartWithoutIn, TellsHead, is_var, may_be, may_not, may_stand, none_stands, through_kind}
 use Rattle.js_statements.specs.LetStatements.{behind_let, LetHere}
 use Rattle.js_parsing.proofs.Giving.{kept_one}
 use Rattle.js_parsing.proofs.Here.{begins_here}
@@ -584,3 +586,34 @@ module _ {text : List ℕ} {f : Flags} {p q : Parser} (k : DeclarationKind) (a :
       by (inl q) = marked fault.MultipleDeclarationsInForLoopHead (span_marked a (a_lexeme_stands k p here_word) x.at x.same x.walked x.further fault.MultipleDeclarationsInForLoopHead s refl (λ s i j. ((i, j), (refl, refl))) c e) d q
       by (inr (inl q)) = marked fault.InitializerInForInLexicalDeclaration (span_marked a (a_lexeme_stands k p here_word) x.at x.same x.walked x.further fault.InitializerInForInLexicalDeclaration s refl (λ s i j. ((i, j), (refl, refl))) c e) d q
       by (inr (inr q)) = marked fault.InitializerInForHead (span_marked a (a_lexeme_stands k p here_word) x.at x.same x.walked x.further fault.InitializerInForHead s refl (λ s i j. ((i, j), (refl, refl))) c e) d q
+
+-- ---- what is told
+
+early_fault : (d : DiagnosticKind) → HeadFault d → class_of d ≡ Early
+early_fault d (inl e) = ap class_of e
+early_fault d (inr (inl e)) = ap class_of e
+early_fault d (inr (inr e)) = ap class_of e
+
+-- which of the two stands here
+through_by : (p : Parser) (b : Bool) → ThroughHere p true → IsTrue b ↔ (p.token.kind ≡ kind.In) → StandsHere p (through_kind b) true
+through_by p b (inl h) i = subst (λ (c : Bool). StandsHere p (through_kind c) true) (sym (i.1 h.0)) h
+through_by p true (inr h) i = absurd (let z : kind.Of ≡ kind.In = sym h.0 ∙ i.0 refl in cc)
+through_by p false (inr h) i = h
+
+module _ (k : DeclarationKind) (g : HeadForm) (alone : Bool) (p q : Parser) (b : Bool) (r : Option DiagnosticKind) (h : ThroughHere p true) (i : IsTrue b ↔ (p.token.kind ≡ kind.In)) (o : FaultOf (may_stand k g alone b) r) where
+  pub fault_is : (d : DiagnosticKind) → r ≡ Some d → (may_stand k g alone b ≡ false) × HeadFault d
+  fault_is d e = by (may_stand k g alone b) refl (subst (λ (z : Option DiagnosticKind). FaultOf (may_stand k g alone b) z) e o)
+    where
+      by : (c : Bool) → may_stand k g alone b ≡ c → FaultOf c (Some d) → (may_stand k g alone b ≡ false) × HeadFault d
+      by true e z = absurd (let w : Some d ≡ None = z in cc)
+      by false e z = (e, z)
+
+  pub fault_told : (d : DiagnosticKind) (s : Span) → r ≡ Some d → KeepsOne (unrelated_at d s) p q → TellsHead k g alone p q
+  fault_told d s e u = let z = fault_is d e in may_not b (through_by p b h i) z.0 (unrelated_at d s) (early_fault d z.1) u
+
+  pub no_fault : r ≡ None → q ≡ p → TellsHead k g alone p q
+  no_fault e u = may_be b (through_by p b h i) (by (may_stand k g alone b) refl (subst (λ (z : Option DiagnosticKind). FaultOf (may_stand k g alone b) z) e o)) u
+    where
+      by : (c : Bool) → may_stand k g alone b ≡ c → FaultOf c None → may_stand k g alone b ≡ true
+      by true e z = e
+      by false e z = absurd z

@@ -5,6 +5,7 @@ use Rattle.js_base.specs.declared.diagnostic.Diagnostic.{Diagnostic}
 use Rattle.js_base.specs.declared.diagnostic.DiagnosticKind.TheVariants.{ForLoopLetReservedWord}
 use Rattle.js_declarations.proofs.SpansMarked.{span_marked}
 use Rattle.js_parsing.specs.Told.{unrelated_at}
+use Rattle.js_base.specs.Contexts.{has_flag, in_flag}
 use Rattle.js_base.specs.declared.kind.Kind.{Kind}
 use Rattle.js_base.specs.declared.kind.Kind.TheVariants as kind
 use Rattle.js_base.specs.Kinds.{same_kind, one_of_kinds}
@@ -38,7 +39,7 @@ use Rattle.js_declarations.specs.HeadDeclarators.{ThroughHere}
 use Rattle.js_statements.specs.declared.for_statement.Ending.{Ending}
 use Rattle.js_statements.specs.declared.for_statement.Ending.TheVariants as ending
 use Rattle.js_statements.specs.ForHeads.{FirstTaken, NoFirst, end_kind, first_part}
-use Rattle.js_statements.specs.ForParts.{HeadExpressionRead, HeadTargetTaken, NoneBegins, TakesHeadTarget}
+use Rattle.js_statements.specs.ForParts.{ChecksLet, HeadExpressionRead, HeadTargetTaken, NoneBegins, TakesHeadTarget}
 use Rattle.js_statements.specs.LetStatements.{behind_let, LetIsName}
 use Rattle.js_parsing.proofs.Ahead.{pass_over, reads_not_then}
 use Rattle.js_parsing.proofs.Moving.{stops_so}
@@ -124,9 +125,9 @@ through_not a n y l h = by (in_or_of y.kind (and_parts (one_of_kinds (kind.In �
     by (inl e) = stands_not a refl n.0 y l e
     by (inr e) = stands_not a refl n.1 y l e
 
-pub through_so : (q r : Parser) → r.token ≡ q.token → ThroughHere q true → ThroughHere r true
-through_so q r e (inl h) = inl (ap (λ (z : Token). z.kind) e ∙ h.0, ap (λ (z : Token). z.escaped) e ∙ h.1)
-through_so q r e (inr h) = inr (ap (λ (z : Token). z.kind) e ∙ h.0, ap (λ (z : Token). z.escaped) e ∙ h.1)
+pub through_at : (q r : Parser) → r.token ≡ q.token → ThroughHere q true → ThroughHere r true
+through_at q r e (inl h) = inl (ap (λ (z : Token). z.kind) e ∙ h.0, ap (λ (z : Token). z.escaped) e ∙ h.1)
+through_at q r e (inr h) = inr (ap (λ (z : Token). z.kind) e ∙ h.0, ap (λ (z : Token). z.escaped) e ∙ h.1)
 
 -- ---- where no declaration begins
 
@@ -386,6 +387,15 @@ module _ {text : List ℕ} {f : Flags} {p : Parser} (a : At text f p) (n : NoneB
           fails ending.In s = verdict_not ending.In in_verdict t.path.at s
           fails ending.Of s = absurd (s o.0 o.1)
 
+      -- whether it was told or not
+      pub checked_first : ThroughHere q true → (b : Bool) → StandsHere p kind.Let b → {w : Parser} {s : Span} → ChecksLet b s r w → FirstTaken text f p w (Some target)
+      checked_first hq b l {w} {s} (inl (e, o, u)) = told_first hq (subst (λ (c : Bool). StandsHere p kind.Let c) e l) o u refl
+      checked_first hq b l {w} {s} (inr (m, e)) = subst (λ (z : Parser). FirstTaken text f p z (Some target)) (sym e) (target_first hq (through_at q r t.token hq) (λ h o. m (by b l h) o))
+        where
+          by : (b : Bool) → StandsHere p kind.Let b → StandsHere p kind.Let true → b ≡ true
+          by true l h = refl
+          by false l h = absurd (l h.0 h.1)
+
 -- ---- the target that an expression stands for
 
 -- before `in` and `of`
@@ -502,3 +512,10 @@ literal_outcome w (Err e) h y = λ text f p a i s k x o. literal_stops a i x o h
 -- what is told of it has its mark
 pub let_marked : {text : List ℕ} {f : Flags} {p q r : Parser} {target : NodeId} → At text f p → StandsHere p kind.Let true → HeadTargetTaken text f p q r target → (s : Span) {d : Diagnostic} → d ≡ unrelated_at ForLoopLetReservedWord s → s.start ≡ p.token.span.start → s.end ≡ r.prev_token_end → Mark (goal r) r.text d
 let_marked {p = p} a h t s e c d = span_marked a (λ k. let z : kind.Let ≡ kind.Undetermined = sym h.0 ∙ k in cc) t.path.at t.same t.path.walked t.path.further ForLoopLetReservedWord s e (λ s i j. ((i, j), (refl, refl))) c d
+
+pub through_uncut : {text : List ℕ} {f : Flags} {q : Parser} → At text f q → ThroughHere q true → q.cut ≡ false
+through_uncut a (inl h) = uncut a (ap (same_kind kind.RAngle) h.0)
+through_uncut a (inr h) = uncut a (ap (same_kind kind.RAngle) h.0)
+
+pub without_in : {text : List ℕ} {f : Flags} {p : Parser} → At text f p → has_flag in_flag p.ctx ≡ false → f.in_ ≡ false
+without_in a h = sym (ap (λ (g : Flags). g.in_) a.flags_are) ∙ h

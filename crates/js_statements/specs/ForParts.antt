@@ -4,6 +4,8 @@ use Rattle.js_base.specs.declared.diagnostic.Diagnostic.{Diagnostic}
 use Rattle.js_base.specs.declared.diagnostic.DiagnosticKind.{DiagnosticKind}
 use Rattle.js_base.specs.declared.diagnostic.DiagnosticKind.TheVariants as fault
 use Rattle.js_base.specs.declared.kind.Kind.{Kind}
+use Rattle.js_base.specs.declared.span.Span.{Span}
+use Rattle.js_parsing.specs.Told.{unrelated_at}
 use Rattle.js_base.specs.declared.kind.Kind.TheVariants as kind
 use Rattle.js_grammar.specs.Trees.{Label, Slots, tree}
 use Rattle.js_grammar.specs.Grammar.{nothing}
@@ -84,6 +86,10 @@ pub data TellsHead (k : DeclarationKind) (g : HeadForm) (alone : Bool) (p q : Pa
   may_not : (b : Bool) → StandsHere p (through_kind b) true → may_stand k g alone b ≡ false → (d : Diagnostic) → IsEarly d → KeepsOne d p q → TellsHead k g alone p q
 
 -- ---- the target that an expression stands for
+
+-- `let` before `of` was told; or it doesn't stand so
+abbrev pub ChecksLet : Bool → Span → Parser → Parser → Type 0
+ChecksLet is_let s p q = ((is_let ≡ true) × StandsHere p kind.Of true × KeepsOne (unrelated_at fault.ForLoopLetReservedWord s) p q) ⊎ ((is_let ≡ true → StandsHere p kind.Of true → ⊥) × (q ≡ p))
 
 -- An expression was read up to this state, by a call before which so many diagnostics were kept; `in` or `of` stands behind it.
 pub record HeadExpressionRead (start : ℕ) (id : NodeId) (kept : ℕ) (q : Parser) : Type 0 where

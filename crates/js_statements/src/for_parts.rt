@@ -3,6 +3,7 @@
 ghost use Rattle.std.specs.Prelude.{◌≡◌, ◌≤◌, true, false, IfOk, MatchResult};
 ghost use Rattle.js_base.specs.Contexts.{has_flag, in_flag};
 ghost use Rattle.js_base.specs.declared.diagnostic.DiagnosticKind.{DiagnosticKind};
+ghost use Rattle.js_base.specs.declared.diagnostic.DiagnosticKind.TheVariants.{ForLoopLetReservedWord};
 ghost use Rattle.js_cursor.specs.Moves.{OnlyMemory};
 ghost use Rattle.js_cursor.specs.Places.{IsAt, goal};
 ghost use Rattle.js_grammar.specs.Marks.{Mark};
@@ -12,7 +13,7 @@ ghost use Rattle.js_parsing.specs.States.{Standing};
 ghost use Rattle.js_base.specs.declared.kind.Kind.TheVariants.{Semicolon};
 ghost use Rattle.js_declarations.specs.HeadDeclarators.{ThroughHere};
 ghost use Rattle.js_targets.specs.Taken.{EndsTarget};
-ghost use Rattle.js_statements.specs.ForParts.{BeginsHead, FaultOf, FindsHead, HeadExpressionRead, HeadFault, NoneBegins, TakesHeadTarget, TakesPartWithoutIn, TellsHead, is_var, may_stand};
+ghost use Rattle.js_statements.specs.ForParts.{BeginsHead, ChecksLet, FaultOf, FindsHead, HeadExpressionRead, HeadFault, NoneBegins, TakesHeadTarget, TakesPartWithoutIn, TellsHead, is_var, may_stand};
 
 use crate::declaration_statement::begins_let_declaration;
 use js_base::{DiagnosticKind, Kind, NoMemory, Span};
@@ -85,11 +86,29 @@ fn parse_head_expression<C: ParserConfig, N: Nested<C>>(
         return Ok(expression);
     }
     let target = head_target(p, start, expression, kept)?;
-    if is_let && stands(p, Kind::Of) {
-        let span = p.end_span(start);
-        p.error(diagnostic_at(DiagnosticKind::ForLoopLetReservedWord, span))?;
-    }
+    let span = p.end_span(start);
+    check_let(p, is_let, span)?;
     Ok(target)
+}
+
+/// Tells of a target before `of` that begins with `let` (ECMA-262, section 14.7.5).
+fn check_let<C: ParserConfig>(
+    p: &mut ParserImpl<'_, C>,
+    is_let: bool,
+    span: Span,
+) -> Result<(), NoMemory>
+    requires at { IsAt p.old }
+    requires mark { is_let ≡ true → Mark (goal p.old) p.old.text (unrelated_at ForLoopLetReservedWord span) }
+    ensures { IfOk result (λ _. ChecksLet is_let span p.old p.new) }
+{
+    if !is_let {
+        return Ok(());
+    }
+    if !stands(p, Kind::Of) {
+        return Ok(());
+    }
+    p.error(diagnostic_at(DiagnosticKind::ForLoopLetReservedWord, span))?;
+    Ok(())
 }
 
 /// The target that an expression before `in` or `of` stands for, which begins at a place, when so many diagnostics were kept.
@@ -161,7 +180,10 @@ fn tell_head_fault<C: ParserConfig>(
         return Ok(());
     }
     match head_fault(kind, form, alone, p.at(Kind::In)) {
-        Some(fault) => p.error(diagnostic_at(fault, span)),
+        Some(fault) => {
+            p.error(diagnostic_at(fault, span))?;
+            Ok(())
+        }
         None => Ok(()),
     }
 }

@@ -1,26 +1,17 @@
-use Rattle.std.proofs.Common.{rules, ◌≡◌, ◌≤◌, true, false, IfOk, MatchResult, ℕ, ◌+◌, ◌-◌, ◌*◌, ◌<◌, length, ◌/◌, ◌%◌, Bool, nat_eq, nat_lt, List, [], ◌∷◌, ◌++◌, slice_index_or, slice_set, bit_and, bit_or, Fits, w8, w32, w64, Bor, MutBor}
-use Rattle.js_base.specs.Contexts.{has_flag, in_flag}
-use Rattle.js_base.specs.declared.diagnostic.DiagnosticKind.{DiagnosticKind}
-use Rattle.js_cursor.specs.Moves.{OnlyMemory}
-use Rattle.js_cursor.specs.Places.{IsAt}
+use Rattle.std.proofs.Common.{refl, sym, subst}
+use Rattle.js_base.specs.declared.diagnostic.Diagnostic.{Diagnostic}
 use Rattle.js_grammar.specs.Marks.{Mark}
-use Rattle.js_parsing.specs.Told.{unrelated_at}
-use Rattle.js_parsing.specs.Nesting.{CanNest, room}
-use Rattle.js_parsing.specs.States.{Standing}
-use Rattle.js_base.specs.declared.kind.Kind.TheVariants.{Semicolon}
-use Rattle.js_declarations.specs.HeadDeclarators.{ThroughHere}
-use Rattle.js_targets.specs.Taken.{EndsTarget}
-use Rattle.js_statements.specs.ForParts.{BeginsHead, FaultOf, FindsHead, HeadExpressionRead, HeadFault, NoneBegins, TakesHeadTarget, TakesPartWithoutIn, TellsHead, is_var, may_stand}
+use Rattle.js_cursor.specs.Moves.{Keeps}
+use Rattle.js_cursor.specs.Places.{goal as goal_at}
+use Rattle.js_declarations.proofs.HeadDeclarators.{through_so}
+use Rattle.js_statements.proofs.ForDeclarations.{fault_is, fault_told, no_fault}
 use Rattle.js_statements.proofs.for_parts.tell_head_fault.Goals as goal
 
--- src/for_parts.rt:164:24
 pub error-requires-clause-mark : goal.error-requires-clause-mark
-error-requires-clause-mark g c = ?
+error-requires-clause-mark g c = subst (λ (d : Diagnostic). Mark (goal_at c.args.p.now) c.args.p.now.text d) (sym c.diagnostic_at.ensures) (c.requires.mark _ (fault_is c.args.kind c.args.form c.args.alone c.args.p.now c.args.p.now _ _ (through_so _ c.if-not-goes_through.false c.goes_through.ensures) c.at.ensures c.head_fault.ensures _ c.in-Some.is).1)
 
--- src/for_parts.rt:149:1
 pub returns-in-Some : goal.returns-in-Some
-returns-in-Some g c = ?
+returns-in-Some g c = fault_told c.args.kind c.args.form c.args.alone c.args.p.now _ _ _ (through_so _ c.if-not-goes_through.false c.goes_through.ensures) c.at.ensures c.head_fault.ensures _ _ c.in-Some.is (subst (λ (d : Diagnostic). Keeps d c.args.p.now _) c.diagnostic_at.ensures c.in_ok-error.ensures)
 
--- src/for_parts.rt:149:1
 pub returns-in-None : goal.returns-in-None
-returns-in-None g c = ?
+returns-in-None g c = no_fault c.args.kind c.args.form c.args.alone c.args.p.now _ _ _ (through_so _ c.if-not-goes_through.false c.goes_through.ensures) c.at.ensures c.head_fault.ensures c.in-None.is refl
