@@ -20,10 +20,9 @@ parse_head_declarator-requires-clause-nests g c =
     nests_later c.requires.nests (later_room (let i = m.further in let j = c.requires.at.behind in omega arith) m.same)
 
 pub returns-in_err-first : goal.returns-in_err-first
-returns-in_err-first g c = λ text f a.
+returns-in_err-first g c =
     let p = err_from_is_err_and c.from_residual-in_err-first.result c.from_residual-in_err-first.ensures.1 in
-    let m = c.in_ok-advance.ensures text f a in
-    rw (p.1, p.2) (head_stops c.args.kind a c.requires.begins (without_in a c.requires.no_in) m _ _ (c.in_err-first.ensures text f m.at))
+    rw (p.1, p.2) (λ text f a. let m = c.in_ok-advance.ensures text f a in head_stops c.args.kind a c.requires.begins (without_in a c.requires.no_in) m _ _ (c.in_err-first.ensures text f m.at))
 
 pub end_span-span-requires : goal.end_span-span-requires
 end_span-span-requires g c =
@@ -59,10 +58,9 @@ parse_declarators_behind-requires-clause-nests g c =
     nests_later c.requires.nests (later_room (let i = x.further in let j = c.requires.at.behind in omega arith) x.same)
 
 pub returns-in_err-declarators : goal.returns-in_err-declarators
-returns-in_err-declarators g c = λ text f a.
+returns-in_err-declarators g c =
     let p = err_from_is_err_and c.from_residual-in_err-declarators.result c.from_residual-in_err-declarators.ensures.1 in
-    let m = c.in_ok-advance.ensures text f a in
-    rw (p.1, p.2) (others_stop c.args.kind a c.requires.begins (without_in a c.requires.no_in) m _ (c.at.ensures.0 c.if-not-at.false) c.in_ok-first.first.node c.in_ok-first.first.form (c.in_ok-first.ensures text f m.at) _ _ c.in_err-declarators.ensures)
+    rw (p.1, p.2) (λ text f a. let m = c.in_ok-advance.ensures text f a in others_stop c.args.kind a c.requires.begins (without_in a c.requires.no_in) m _ (c.at.ensures.0 c.if-not-at.false) c.in_ok-first.first.node c.in_ok-first.first.form (c.in_ok-first.ensures text f m.at) _ _ c.in_err-declarators.ensures)
 
 pub end_span-span-requires-2 : goal.end_span-span-requires-2
 end_span-span-requires-2 g c =

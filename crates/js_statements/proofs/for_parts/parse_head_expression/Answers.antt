@@ -9,15 +9,14 @@ use Rattle.js_statements.proofs.ForParts.{checked_first, expression_alone, head_
 use Rattle.js_statements.proofs.for_parts.parse_head_expression.Goals as goal
 
 pub returns-in_err-expression : goal.returns-in_err-expression
-returns-in_err-expression g c = λ text f a.
+returns-in_err-expression g c =
     let p = err_from_is_err_and c.from_residual-in_err-expression.result c.from_residual-in_err-expression.ensures.1 in
-    let i = without_in a c.requires.no_in in
-    rw (p.1, p.2) (head_unread a c.requires.none i c.requires.other _ _ (c.in_err-expression.ensures.answers text f a) (c.in_err-expression.ensures.operand text f a i))
+    rw (p.1, p.2) (λ text f a. let i = without_in a c.requires.no_in in head_unread a c.requires.none i c.requires.other _ _ (c.in_err-expression.ensures.answers text f a) (c.in_err-expression.ensures.operand text f a i))
 
 pub returns-then-not-goes_through : goal.returns-then-not-goes_through
 returns-then-not-goes_through g c = λ text f a.
     let i = without_in a c.requires.no_in in
-    expression_alone a c.requires.none i c.requires.other (c.in_ok-expression.ensures.answers text f a) (c.in_ok-expression.ensures.operand text f a i) (through_so _ c.if-not-goes_through.true c.goes_through.ensures)
+    expression_alone a c.requires.none i c.requires.other (c.in_ok-expression.ensures.answers text f a) (c.in_ok-expression.ensures.operand text f a i) (through_so c.parse_sequence_expression.new.p c.if-not-goes_through.true c.goes_through.ensures)
 
 pub head_target-requires-clause-at : goal.head_target-requires-clause-at
 head_target-requires-clause-at g c = standing (c.in_ok-expression.ensures.answers _ _ c.requires.at).answer.at
@@ -26,10 +25,10 @@ pub head_target-requires-clause-start : goal.head_target-requires-clause-start
 head_target-requires-clause-start g c = let x = (c.in_ok-expression.ensures.answers _ _ c.requires.at).answer in let i = x.further in let s = c.cur_start-start.ensures in omega arith
 
 pub head_target-requires-clause-whole : goal.head_target-requires-clause-whole
-head_target-requires-clause-whole g c = through_uncut (c.in_ok-expression.ensures.answers _ _ c.requires.at).answer.at (through_so _ c.if-not-goes_through.false c.goes_through.ensures)
+head_target-requires-clause-whole g c = through_uncut (c.in_ok-expression.ensures.answers _ _ c.requires.at).answer.at (through_so c.parse_sequence_expression.new.p c.if-not-goes_through.false c.goes_through.ensures)
 
 pub head_target-requires-clause-sign : goal.head_target-requires-clause-sign
-head_target-requires-clause-sign g c = inr (ap (has_flag in_flag) (c.in_ok-expression.ensures.answers _ _ c.requires.at).answer.same.ctx ∙ c.requires.no_in, through_so _ c.if-not-goes_through.false c.goes_through.ensures)
+head_target-requires-clause-sign g c = inr (ap (has_flag in_flag) (c.in_ok-expression.ensures.answers _ _ c.requires.at).answer.same.ctx ∙ c.requires.no_in, through_so c.parse_sequence_expression.new.p c.if-not-goes_through.false c.goes_through.ensures)
 
 pub head_target-requires-clause-read : goal.head_target-requires-clause-read
 head_target-requires-clause-read g c = record {
@@ -45,11 +44,9 @@ head_target-requires-clause-read g c = record {
 }
 
 pub returns-in_err-target : goal.returns-in_err-target
-returns-in_err-target g c = λ text f a.
+returns-in_err-target g c =
     let p = err_from_is_err_and c.from_residual-in_err-target.result c.from_residual-in_err-target.ensures.1 in
-    let i = without_in a c.requires.no_in in
-    let x = c.in_ok-expression.ensures.answers text f a in
-    rw (p.1, p.2) (target_unread a c.requires.none i c.requires.other x (through_so _ c.if-not-goes_through.false c.goes_through.ensures) _ _ (c.in_err-target.ensures text f _ a i c.cur_start-start.ensures c.kept_so_far-kept.ensures x (c.in_ok-expression.ensures.operand text f a i)))
+    rw (p.1, p.2) (λ text f a. let i = without_in a c.requires.no_in in let x = c.in_ok-expression.ensures.answers text f a in target_unread a c.requires.none i c.requires.other x (through_so c.parse_sequence_expression.new.p c.if-not-goes_through.false c.goes_through.ensures) _ _ (c.in_err-target.ensures text f _ a i c.cur_start-start.ensures c.kept_so_far-kept.ensures x (c.in_ok-expression.ensures.operand text f a i)))
 
 pub end_span-span-requires : goal.end_span-span-requires
 end_span-span-requires g c =
@@ -67,4 +64,4 @@ returns g c = λ text f a.
     let i = without_in a c.requires.no_in in
     let x = c.in_ok-expression.ensures.answers text f a in
     let t = c.in_ok-target.ensures text f _ a i c.cur_start-start.ensures c.kept_so_far-kept.ensures x (c.in_ok-expression.ensures.operand text f a i) in
-    checked_first a c.requires.none i c.requires.other x t (through_so _ c.if-not-goes_through.false c.goes_through.ensures) _ c.stands-is_let.ensures c.in_ok-check_let.ensures
+    checked_first a c.requires.none i c.requires.other x t (through_so c.parse_sequence_expression.new.p c.if-not-goes_through.false c.goes_through.ensures) _ c.stands-is_let.ensures c.in_ok-check_let.ensures

@@ -15,7 +15,9 @@ pub parse_part_without_in-requires-clause-nests : goal.parse_part_without_in-req
 parse_part_without_in-requires-clause-nests g c = nests_later c.requires.nests (let e = ap room c.set_context.ensures in omega arith)
 
 pub returns-in_err-first : goal.returns-in_err-first
-returns-in_err-first g c = λ text f a. let p = err_from_is_err_and c.from_residual.result c.from_residual.ensures.1 in rw (p.1, p.2) (first_stops_outside text f _ _ _ _ _ a.at c.set_context.ensures (c.in_err-first.ensures text _ (no_in_at a c.context-outer.ensures c.and_in.ensures c.set_context.ensures)))
+returns-in_err-first g c =
+    let p = err_from_is_err_and c.from_residual.result c.from_residual.ensures.1 in
+    rw (p.1, p.2) (λ text f a. first_stops_outside text f _ _ _ _ _ a.at c.set_context.ensures (c.in_err-first.ensures text _ (no_in_at a c.context-outer.ensures c.and_in.ensures c.set_context.ensures)))
 
 pub returns : goal.returns
 returns g c = λ text f a. first_outside a c.context-outer.ensures c.set_context.ensures (c.in_ok-first.ensures text _ (no_in_at a c.context-outer.ensures c.and_in.ensures c.set_context.ensures)) c.set_context-2.ensures

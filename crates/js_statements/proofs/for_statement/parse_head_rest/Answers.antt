@@ -16,10 +16,9 @@ pub expression-requires : goal.expression-requires
 expression-requires g c = let m = c.in_ok-advance.ensures _ _ c.requires.at in c.requires.nests _ _ (standing m.at) (nested_room c.requires.at m)
 
 pub returns-in_err-right : goal.returns-in_err-right
-returns-in_err-right g c = λ text f a.
+returns-in_err-right g c =
     let p = err_from_is_err_and c.from_residual-in_err-right.result c.from_residual-in_err-right.ensures.1 in
-    let m = c.in_ok-advance.ensures text f a in
-    rw (p.1, p.2) (in_stops a m (stands_so c.args.p.now In c.if-stands.true c.stands.ensures) _ _ (c.in_err-right.ensures text f m.at))
+    rw (p.1, p.2) (λ text f a. let m = c.in_ok-advance.ensures text f a in in_stops a m (stands_so c.args.p.now In c.if-stands.true c.stands.ensures) _ _ (c.in_err-right.ensures text f m.at))
 
 pub returns-then-stands : goal.returns-then-stands
 returns-then-stands g c = λ text f a.

@@ -13,9 +13,9 @@ use Rattle.js_statements.proofs.ForHeads.{head_grown, head_stops, paren_missing,
 use Rattle.js_statements.proofs.for_statement.parse_paren_for_head.Goals as goal
 
 pub returns-in_err-expect : goal.returns-in_err-expect
-returns-in_err-expect g c = λ text f a.
+returns-in_err-expect g c =
     let p = err_from_is_err_and c.from_residual.result c.from_residual.ensures.1 in
-    rw (p.1, p.2) (unexpected a LParen _ _ c.in_err-expect.ensures (λ n d. paren_missing a n d))
+    rw (p.1, p.2) (λ text f a. unexpected a LParen _ _ c.in_err-expect.ensures (λ n d. paren_missing a n d))
 
 pub parse_for_head-requires-clause-at : goal.parse_for_head-requires-clause-at
 parse_for_head-requires-clause-at g c = let i = c.in_ok-expect.ensures in standing (expected c.requires.at LParen i.0 i.1 refl refl).at
@@ -24,11 +24,9 @@ pub parse_for_head-requires-clause-nests : goal.parse_for_head-requires-clause-n
 parse_for_head-requires-clause-nests g c = let i = c.in_ok-expect.ensures in nests_later c.requires.nests (let r = nested_room c.requires.at (expected c.requires.at LParen i.0 i.1 refl refl) in omega arith)
 
 pub returns-in_err-ending : goal.returns-in_err-ending
-returns-in_err-ending g c = λ text f a.
+returns-in_err-ending g c =
     let p = err_from_is_err_and c.from_residual-in_err-ending.result c.from_residual-in_err-ending.ensures.1 in
-    let i = c.in_ok-expect.ensures in
-    let m = expected a LParen i.0 i.1 refl refl in
-    rw (p.1, p.2) (head_stops a i.0 m _ _ (c.in_err-ending.ensures text f m.at))
+    rw (p.1, p.2) (λ text f a. let i = c.in_ok-expect.ensures in let m = expected a LParen i.0 i.1 refl refl in head_stops a i.0 m _ _ (c.in_err-ending.ensures text f m.at))
 
 pub returns : goal.returns
 returns g c = λ text f a.
