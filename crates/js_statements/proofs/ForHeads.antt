@@ -41,7 +41,7 @@ use Rattle.js_parsing.specs.Stands.{StandsHere}
 use Rattle.js_parsing.specs.States.{At, Same}
 use Rattle.js_statements.specs.declared.for_statement.Ending.{Ending}
 use Rattle.js_statements.specs.declared.for_statement.Ending.TheVariants as ending
-use Rattle.js_statements.specs.ForHeads.{EndsPart, FirstTaken, HeadTaken, NoFirst, NoHead, NoParensHead, NoPart, NoRest, ParensHeadTaken, PartTaken, RestTaken, TakesFirst, TakesHead, TakesRest, behind_head, behind_rest, behind_slot, end_kind, first_part, head_part, rest_part}
+use Rattle.js_statements.specs.ForHeads.{AtEnd, EndsPart, FirstTaken, HeadTaken, NoFirst, NoHead, NoParensHead, NoPart, NoRest, ParensHeadTaken, PartTaken, RestTaken, TakesFirst, TakesHead, TakesRest, behind_head, behind_rest, behind_slot, end_kind, first_part, head_part, rest_part}
 use Rattle.js_parsing.proofs.Moving.{same_both, same_itself, stops_behind}
 use Rattle.js_parsing.proofs.Paths.{Path, ◌⟶◌, ◌⟶✗◌, fails_at, last_called, last_token, skips, token, walked_both, walked_one}
 use Rattle.js_parsing.proofs.Signs.{plain_sign, stands_not}
@@ -244,6 +244,17 @@ none_first {text} {f} {p} a j h e = record {
     fails ending.Semicolon s = fails_alt (none_at_end a (init_begins f) j h e) (no_empty a kind.Semicolon (inl refl) (λ k. s k (plain_here h)))
     fails ending.In s = none_at_end a (in_begins f) j h e
     fails ending.Of s = none_at_end a (of_begins f) j h e
+
+pub at_end_so : (k : Kind) (p : Parser) {b r : Bool} → r ≡ b → AtEnd k p r → AtEnd k p b
+at_end_so k p e h = subst (λ (v : Bool). AtEnd k p v) e h
+
+pub part_empty : {text : List ℕ} {f : Flags} {p : Parser} → At text f p → (k : Kind) → EndsPart k → AtEnd k p true → PartTaken text f k p p None
+part_empty a k h (inl e) = part_none a k k h e
+part_empty a k h (inr e) = part_none a k kind.RParen (inr refl) e
+
+pub first_empty : {text : List ℕ} {f : Flags} {p : Parser} → At text f p → AtEnd kind.Semicolon p true → FirstTaken text f p p None
+first_empty a (inl e) = none_first a kind.Semicolon (inl refl) e
+first_empty a (inr e) = none_first a kind.RParen (inr refl) e
 
 -- ---- the rest of the head
 

@@ -23,6 +23,7 @@ use Rattle.js_grammar.proofs.FirstClaims.{firsts}
 use Rattle.js_grammar.proofs.FirstRules.{fails_here}
 use Rattle.js_grammar.proofs.Looks.{covers, covered, apart}
 use Rattle.js_grammar.proofs.Calculus.{On, ◌▹◌, ◌▹✗◌, ends, here_at, left, right, looks, same, part_fails, fails_alt, fails_look, fails_node, fails_rule, inside_full, weaken_fails_on, weaken_on}
+use Rattle.js_tree.specs.declared.op.DeclarationKind.{DeclarationKind}
 use Rattle.js_tree.specs.declared.id.NodeId.{NodeId}
 use Rattle.js_tree.specs.Holding.{Holds, HoldsAll, Keeps}
 use Rattle.js_tree.specs.Nodes.{Node}
@@ -39,7 +40,7 @@ use Rattle.js_declarations.specs.HeadDeclarators.{ThroughHere}
 use Rattle.js_statements.specs.declared.for_statement.Ending.{Ending}
 use Rattle.js_statements.specs.declared.for_statement.Ending.TheVariants as ending
 use Rattle.js_statements.specs.ForHeads.{FirstTaken, NoFirst, end_kind, first_part}
-use Rattle.js_statements.specs.ForParts.{ChecksLet, HeadExpressionRead, HeadTargetTaken, NoneBegins, TakesHeadTarget}
+use Rattle.js_statements.specs.ForParts.{BeginsHead, ChecksLet, FindsHead, HeadExpressionRead, HeadTargetTaken, NoneBegins, TakesHeadTarget, TakesPartWithoutIn}
 use Rattle.js_statements.specs.LetStatements.{behind_let, LetIsName}
 use Rattle.js_parsing.proofs.Ahead.{pass_over, reads_not_then}
 use Rattle.js_parsing.proofs.Moving.{stops_so}
@@ -519,3 +520,14 @@ through_uncut a (inr h) = uncut a (ap (same_kind kind.RAngle) h.0)
 
 pub without_in : {text : List ℕ} {f : Flags} {p : Parser} → At text f p → has_flag in_flag p.ctx ≡ false → f.in_ ≡ false
 without_in a h = sym (ap (λ (g : Flags). g.in_) a.flags_are) ∙ h
+
+-- ---- what begins the head
+
+pub found_head : (p q : Parser) (r : Option DeclarationKind) (k : DeclarationKind) → r ≡ Some k → FindsHead p q r → (q ≡ p) × BeginsHead k p
+found_head p q r k e h = subst (λ (v : Option DeclarationKind). FindsHead p q v) e h
+
+pub none_in_head : (p q : Parser) (r : Option DeclarationKind) → r ≡ None → FindsHead p q r → (q ≡ p) × NoneBegins p
+none_in_head p q r e h = subst (λ (v : Option DeclarationKind). FindsHead p q v) e h
+
+pub part_from : (p q w : Parser) (r : Result NodeId Stop) → q ≡ p → TakesPartWithoutIn q w r → TakesPartWithoutIn p w r
+part_from p q w r e h = subst (λ (v : Parser). TakesPartWithoutIn v w r) e h

@@ -10,7 +10,7 @@ ghost use Rattle.js_parsing.specs.Nesting.{CanNest, room};
 ghost use Rattle.js_parsing.specs.Stands.{StandsHere};
 ghost use Rattle.js_parsing.specs.States.{Standing};
 ghost use Rattle.js_parsing.specs.Statements.{TakesAnywhere};
-ghost use Rattle.js_statements.specs.ForHeads.{EndsPart, TakesFirst, TakesHead, TakesParensHead, TakesPart, TakesRest, node_of};
+ghost use Rattle.js_statements.specs.ForHeads.{AtEnd, EndsPart, TakesFirst, TakesHead, TakesParensHead, TakesPart, TakesRest, node_of};
 ghost use Rattle.js_statements.specs.ForWords.{PassesAwait, for_label, is_of};
 ghost use Rattle.js_tree.specs.Labels.{number_of};
 
@@ -171,7 +171,7 @@ fn parse_first_part<C: ParserConfig, N: Nested<C>>(
     requires nests { CanNest (N.can nested.now) (room p.old) }
     ensures { TakesFirst p.old p.new result }
 {
-    if p.at(Kind::Semicolon) || p.at(Kind::RParen) {
+    if at_end(p, Kind::Semicolon) {
         return Ok(None);
     }
     let outer = context(p);
@@ -223,9 +223,16 @@ fn parse_part_before<C: ParserConfig, N: Nested<C>>(
     requires ends { EndsPart end }
     ensures { TakesPart end p.old p.new result }
 {
-    if p.at(end) || p.at(Kind::RParen) {
+    if at_end(p, end) {
         return Ok(None);
     }
     let part = nested.expression(p)?;
     Ok(Some(part))
+}
+
+/// Whether what ends a part of the head stands here, or the parenthesis that closes.
+fn at_end<C: ParserConfig>(p: &ParserImpl<'_, C>, end: Kind) -> bool
+    ensures { AtEnd end p.now result }
+{
+    p.at(end) || p.at(Kind::RParen)
 }
