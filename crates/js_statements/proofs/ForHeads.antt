@@ -1,6 +1,6 @@
 -- The heads of `for` statements, between their parentheses (ECMA-262, 14.7.4, 14.7.5).
 use Rattle.std.proofs.Common.{ℕ, ◌≡◌, ◌≤◌, ◌<◌, ◌⊎◌, inl, inr, max, List, [], ◌∷◌, ◌++◌, length, Option, Some, None, Bool, true, false, not, ◌&&◌, IsTrue, refl, sym, ap, subst, arith, ◌∙◌, ◌||◌}
-use Rattle.std.specs.Prelude.{Result, Ok, Err}
+use Rattle.std.specs.Prelude.{Result, Ok, Err, ◌↔◌}
 use Rattle.std.proofs.lemmas.Bool.{false≢true, and_parts}
 use Rattle.js_base.specs.declared.diagnostic.Diagnostic.{Diagnostic}
 use Rattle.js_base.specs.declared.diagnostic.DiagnosticKind.TheVariants.{ExpectToken}
@@ -247,6 +247,10 @@ none_first {text} {f} {p} a j h e = record {
 
 pub at_end_so : (k : Kind) (p : Parser) {b r : Bool} → r ≡ b → AtEnd k p r → AtEnd k p b
 at_end_so k p e h = subst (λ (v : Bool). AtEnd k p v) e h
+
+pub at_end_by : (k : Kind) (p : Parser) (b : Bool) → (p.token.kind ≡ k → ⊥) → IsTrue b ↔ (p.token.kind ≡ kind.RParen) → AtEnd k p b
+at_end_by k p true n i = inr (i.0 refl)
+at_end_by k p false n i = (n, λ e. false≢true (i.1 e))
 
 pub part_empty : {text : List ℕ} {f : Flags} {p : Parser} → At text f p → (k : Kind) → EndsPart k → AtEnd k p true → PartTaken text f k p p None
 part_empty a k h (inl e) = part_none a k k h e

@@ -531,3 +531,9 @@ none_in_head p q r e h = subst (λ (v : Option DeclarationKind). FindsHead p q v
 
 pub part_from : (p q w : Parser) (r : Result NodeId Stop) → q ≡ p → TakesPartWithoutIn q w r → TakesPartWithoutIn p w r
 part_from p q w r e h = subst (λ (v : Parser). TakesPartWithoutIn v w r) e h
+
+pub cover_is : (q : Parser) (id : NodeId) (r s : Option NodeId) → r ≡ s → OfTree q id (λ lo hi l cs. IsTarget q.nodes lo hi l cs r) → OfTree q id (λ lo hi l cs. IsTarget q.nodes lo hi l cs s)
+cover_is q id r s e h = subst (λ (v : Option NodeId). OfTree q id (λ lo hi l cs. IsTarget q.nodes lo hi l cs v)) e h
+
+pub head_marked : {start kept : ℕ} {id : NodeId} {q : Parser} → HeadExpressionRead start id kept q → OfTree q id (λ lo hi l cs. is_literal l.kind ≡ false) → OfTree q id (λ lo hi l cs. target_of l cs ≡ None) → ThroughHere q true → length q.errors ≡ kept → Mark (goal q) q.text (no_target_at start q.prev_token_end)
+head_marked r h e t n = none_marked r.begins r.no_in r.read r.operand h e t _ r.start_is (n ∙ r.kept_is)

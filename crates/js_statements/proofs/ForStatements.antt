@@ -16,6 +16,7 @@ use Rattle.js_grammar.specs.Follow.{behind_statement, by_tree, edge_of, widest}
 use Rattle.js_grammar.proofs.Looks.{covers, covered}
 use Rattle.js_grammar.proofs.Calculus.{Inside, On, ◌▹◌, ◌▹✗◌, done, fails_alt, fails_node, fails_rule, fails_under, fails_when, inside_full, passes_none, left, right, stay, where_true, weaken_fails_on}
 use Rattle.js_tree.specs.declared.id.NodeId.{NodeId}
+use Rattle.js_tree.specs.declared.kind.NodeKind.{NodeKind as MadeKind}
 use Rattle.js_tree.specs.declared.op.Op.TheVariants as op
 use Rattle.js_tree.specs.Labels.{kind_of}
 use Rattle.js_tree.specs.Nodes.{Node}
@@ -357,9 +358,9 @@ module _ {text : List ℕ} {f : Flags} {w : Bool} {p q : Parser} (a : At text f 
         pub for_further : p.token.span.start < v.prev_token_end
         for_further = (for_path true).further
 
-        pub for_answers : (b : Bool) {u : Parser} {id : NodeId} {js : List (Option NodeId)} (s : Span) → js ≡ ids ++ Some body ∷ [] → s.start ≡ p.token.span.start → s.end ≡ v.prev_token_end → MadeHere (for_label (node_of e) w s) js v u id → Statement text f (placed b f) p u id
-        for_answers b {u} {id} {js} s g c d n =
-            let l : for_label (node_of e) w s ≡ flagged_here (kind_of (node_of e)) no_op (flag w await_flag) p v = rw (c, d) refl in
+        pub for_answers : (b : Bool) {u : Parser} {id : NodeId} {js : List (Option NodeId)} (s : Span) → js ≡ ids ++ Some body ∷ [] → s.start ≡ p.token.span.start → s.end ≡ v.prev_token_end → (k : MadeKind) → k ≡ node_of e → MadeHere (for_label k w s) js v u id → Statement text f (placed b f) p u id
+        for_answers b {u} {id} {js} s g c d k o n =
+            let l : for_label k w s ≡ flagged_here (kind_of (node_of e)) no_op (flag w await_flag) p v = rw (o, c, d) refl in
             let made : MadeHere (flagged_here (kind_of (node_of e)) no_op (flag w await_flag) p v) js v u id = subst (λ (t : Label). MadeHere t js v u id) l n in
             let kr : Keeps p.nodes r.nodes = subst (λ (ns : List Node). Keeps ns r.nodes) m.nodes x.keeps in
             let hr : HoldsAll r.nodes (length p.nodes) (length r.nodes) ids x.slots = subst (λ (ns : List Node). HoldsAll r.nodes (length ns) (length r.nodes) ids x.slots) m.nodes x.held in

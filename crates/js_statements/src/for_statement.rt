@@ -234,5 +234,8 @@ fn parse_part_before<C: ParserConfig, N: Nested<C>>(
 fn at_end<C: ParserConfig>(p: &ParserImpl<'_, C>, end: Kind) -> bool
     ensures { AtEnd end p.now result }
 {
-    p.at(end) || p.at(Kind::RParen)
+    if p.at(end) {
+        return true;
+    }
+    p.at(Kind::RParen)
 }

@@ -10,7 +10,7 @@ use Rattle.js_statements.proofs.for_parts.parse_head_expression.Goals as goal
 
 pub returns-in_err-expression : goal.returns-in_err-expression
 returns-in_err-expression g c =
-    let p = err_from_is_err_and c.from_residual-in_err-expression.result c.from_residual-in_err-expression.ensures.1 in
+    let p = err_from_is_err_and c.from_residual.result c.from_residual.ensures.1 in
     rw (p.1, p.2) (λ text f a. let i = without_in a c.requires.no_in in head_unread a c.requires.none i c.requires.other _ _ (c.in_err-expression.ensures.answers text f a) (c.in_err-expression.ensures.operand text f a i))
 
 pub returns-then-not-goes_through : goal.returns-then-not-goes_through

@@ -18,7 +18,7 @@ pub parse_head_declaration-requires-clause-no_in : goal.parse_head_declaration-r
 parse_head_declaration-requires-clause-no_in g c = let z = found_head c.args.p.now c.head_kind.new.p _ _ c.in-Some.is c.in_ok-kind.ensures in ap (λ (v : Parser). has_flag in_flag v.ctx) z.0 ∙ c.requires.no_in
 
 pub parse_head_declaration-requires-clause-begins : goal.parse_head_declaration-requires-clause-begins
-parse_head_declaration-requires-clause-begins g c = let z = found_head c.args.p.now c.head_kind.new.p _ _ c.in-Some.is c.in_ok-kind.ensures in subst (λ (v : Parser). BeginsHead _ v) (sym z.0) z.1
+parse_head_declaration-requires-clause-begins g c = let z = found_head c.args.p.now c.head_kind.new.p _ _ c.in-Some.is c.in_ok-kind.ensures in subst (λ (v : Parser). BeginsHead c.in-Some.kind v) (sym z.0) z.1
 
 pub parse_head_expression-requires-clause-at : goal.parse_head_expression-requires-clause-at
 parse_head_expression-requires-clause-at g c = let z = none_in_head c.args.p.now c.head_kind.new.p _ c.in-None.is c.in_ok-kind.ensures in subst (λ (v : Parser). Standing v) (sym z.0) c.requires.at

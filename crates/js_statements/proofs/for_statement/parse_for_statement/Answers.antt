@@ -1,11 +1,8 @@
-use Rattle.std.proofs.Common.{ap, arith, refl, subst, sym, ◌∙◌}
+use Rattle.std.proofs.Common.{ap, arith, refl, sym, ◌∙◌}
 use Rattle.std.proofs.lemmas.Result.{err_from_is_err_and}
 use Rattle.js_base.specs.Contexts.{has_flag, in_flag}
 use Rattle.js_base.specs.declared.kind.Kind.TheVariants.{For}
-use Rattle.js_tree.specs.declared.kind.NodeKind.{NodeKind}
-use Rattle.js_parsing.specs.Moves.{MadeHere}
 use Rattle.js_parsing.proofs.Moving.{standing}
-use Rattle.js_statements.specs.ForWords.{for_label}
 use Rattle.js_parsing.proofs.Nesting.{later_room, nests_later}
 use Rattle.js_statements.proofs.ForStatements.{begun, body_stops, fits_so, for_answers, for_further, for_stops, head_same, unfit, unfit_stops}
 use Rattle.js_statements.proofs.WordStatements.{word_here}
@@ -66,4 +63,4 @@ pub returns : goal.returns
 returns g c = λ b text f a.
     let m = begun a c.requires.word (c.in_ok-advance.ensures text f a) _ _ c.in_ok-is_await.ensures in
     let x = c.in_ok-ending.ensures text f m.at in
-    for_answers a c.requires.word m x (fits_so _ _ (sym c.has_its_of.ensures ∙ c.if-not-has_its_of.false)) (c.in_ok-body.ensures text f x.path.at) b _ c.in_ok-push.ensures.items (c.end_span-span.ensures.start ∙ c.cur_start-start.ensures) c.end_span-span.ensures.end (subst (λ (k : NodeKind). MadeHere (for_label k _ _) _ _ _ _) c.node_kind.ensures c.in_ok-node.ensures)
+    for_answers a c.requires.word m x (fits_so _ _ (sym c.has_its_of.ensures ∙ c.if-not-has_its_of.false)) (c.in_ok-body.ensures text f x.path.at) b _ c.in_ok-push.ensures.items (c.end_span-span.ensures.start ∙ c.cur_start-start.ensures) c.end_span-span.ensures.end c.node_kind.result c.node_kind.ensures c.in_ok-node.ensures
