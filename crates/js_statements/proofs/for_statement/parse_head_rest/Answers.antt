@@ -65,8 +65,8 @@ returns-in_err-expect-2 g c =
     let p = err_from_is_err_and c.from_residual-in_err-expect-2.result c.from_residual-in_err-expect-2.ensures.1 in
     let i = c.in_ok-expect.ensures in
     rw (p.1, p.2) (λ text f a.
-        let m = expected a Semicolon i.0 i.1 refl refl in
-        second_stops a m i.0 (c.in_ok-test.ensures text f m.at) _ _ c.in_err-expect-2.ensures)
+    let m = expected a Semicolon i.0 i.1 refl refl in
+    second_stops a m i.0 (c.in_ok-test.ensures text f m.at) _ _ c.in_err-expect-2.ensures)
 
 pub parse_part_before-requires-2-clause-at : goal.parse_part_before-requires-2-clause-at
 parse_part_before-requires-2-clause-at g c =
@@ -89,10 +89,10 @@ returns-in_err-update g c =
     let i = c.in_ok-expect.ensures in
     let j = c.in_ok-expect-2.ensures in
     rw (p.1, p.2) (λ text f a.
-        let m = expected a Semicolon i.0 i.1 refl refl in
-        let t = c.in_ok-test.ensures text f m.at in
-        let o = expected t.at Semicolon j.0 j.1 refl refl in
-        update_stops a m i.0 t j.0 o _ _ (c.in_err-update.ensures text f o.at))
+    let m = expected a Semicolon i.0 i.1 refl refl in
+    let t = c.in_ok-test.ensures text f m.at in
+    let o = expected t.at Semicolon j.0 j.1 refl refl in
+    update_stops a m i.0 t j.0 o _ _ (c.in_err-update.ensures text f o.at))
 
 pub returns : goal.returns
 returns g c = λ text f a.

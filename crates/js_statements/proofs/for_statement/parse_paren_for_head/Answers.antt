@@ -46,9 +46,9 @@ returns-in_err-close_parentheses g c =
     let p = err_from_is_err_and c.from_residual-in_err-close_parentheses.result c.from_residual-in_err-close_parentheses.ensures.1 in
     let i = c.in_ok-expect.ensures in
     rw (p.1, p.2) (λ text f a.
-        let m = expected a LParen i.0 i.1 refl refl in
-        let x = c.in_ok-ending.ensures text f m.at in
-        stops_behind _ _ (same_both m.same x.same) (λ d. head_grown a i.0 m x d) (λ n. unclosed_all a i.0 m x n) (unclosed _ _ _ x.path.at c.in_err-close_parentheses.ensures (λ n. n)))
+    let m = expected a LParen i.0 i.1 refl refl in
+    let x = c.in_ok-ending.ensures text f m.at in
+    stops_behind _ _ (same_both m.same x.same) (λ d. head_grown a i.0 m x d) (λ n. unclosed_all a i.0 m x n) (unclosed _ _ _ x.path.at c.in_err-close_parentheses.ensures (λ n. n)))
 
 pub returns : goal.returns
 returns g c = λ text f a.
