@@ -3,7 +3,7 @@ use Rattle.std.proofs.Common.{ℕ, ◌≡◌, ◌<◌, ◌⊎◌, inl, inr, max,
 use Rattle.std.specs.Prelude.{IsCharBoundary, Result, Ok, Err}
 use Rattle.std.proofs.lemmas.Bool.{false≢true, and_from, and_parts}
 use Rattle.js_base.specs.declared.kind.Kind.{Kind}
-use Rattle.js_base.specs.declared.kind.Kind.TheVariants.{Comma, Eq, In, LBrack, LCurly, Of, RAngle, Semicolon, Undetermined}
+use Rattle.js_base.specs.declared.kind.Kind.TheVariants.{Comma, Eq, In, LBrack, LCurly, Of, Semicolon, Undetermined}
 use Rattle.js_base.specs.declared.span.Span.{Span}
 use Rattle.js_base.specs.Kinds.{same_kind, one_of_kinds}
 use Rattle.js_base.proofs.KindLemmas.{kind_of_same}
@@ -42,6 +42,7 @@ use Rattle.js_declarations.proofs.DeclaratorLists.{Underway, underway_end, under
 use Rattle.js_declarations.proofs.Declarators.{BindingRead, as_binding, eq_plain, bound, declared_bare, declared_with, initialiser_none, name_alone, no_eq_here, unbound}
 use Rattle.js_patterns.proofs.Bindings.{no_binding, no_pattern_name}
 use Rattle.js_parsing.proofs.Giving.{fails_escaped}
+use Rattle.js_parsing.proofs.Here.{unsettled}
 use Rattle.js_parsing.proofs.NameKinds.{no_name_here}
 use Rattle.js_parsing.specs.Lexemes.{name_kinds}
 use Rattle.js_parsing.proofs.MadeNodes.{node_held, two_held, made_lies}
@@ -56,7 +57,7 @@ use Rattle.js_parsing.proofs.Verdicts.{after as grown_behind}
 through_look : {text : List ℕ} {f : Flags} {q : Parser} → At text f q → ThroughHere q true → (y : Lexeme) → Lex text q.prev_token_end y → IsTrue (seen goes_through y)
 through_look {q = q} a h y l = by h
   where
-    with_kind : (k : Kind) → one_of_kinds (In ∷ Of ∷ []) k ≡ true → same_kind RAngle k ≡ false → StandsHere q k true → IsTrue (seen goes_through y)
+    with_kind : (k : Kind) → one_of_kinds (In ∷ Of ∷ []) k ≡ true → one_of_kinds unsettled k ≡ false → StandsHere q k true → IsTrue (seen goes_through y)
     with_kind k m r s = let z = stands_there a s.0 r y l in and_from (one_of_kinds (In ∷ Of ∷ []) y.kind) (not y.escaped) (ap (one_of_kinds (In ∷ Of ∷ [])) z.0 ∙ m) (ap not z.1)
 
     by : ThroughHere q true → IsTrue (seen goes_through y)

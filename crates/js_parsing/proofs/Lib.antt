@@ -4,6 +4,7 @@ pub mod Bracketed
 pub mod Contexts
 pub mod Dead
 pub mod Deeper
+pub mod Edges
 pub mod Expected
 pub mod FreeOfIn
 pub mod Giving

@@ -132,7 +132,6 @@ no_name_pattern true false = refl
 no_name_pattern false true = refl
 no_name_pattern false false = refl
 
-
 either_of : {F : Type 0} (a b : Bool) → (a || b) ≡ true → (a ≡ true → F) → (b ≡ true → F) → F
 either_of true b h f g = f refl
 either_of false b h f g = g h

@@ -30,11 +30,9 @@ use Rattle.js_tree.specs.Nodes.{Node}
 use Rattle.js_tree.specs.Holding.{Holds, HoldsAll, Keeps}
 use Rattle.js_tree.proofs.HoldingLemmas.{Holds-kept, HoldsAll-append, HoldsAll-hole, HoldsAll-next, HoldsAll-one, HoldsAll-one_hole, HoldsAll-two, Keeps-made, Keeps-refl, Keeps-trans}
 use Rattle.js_base.specs.declared.diagnostic.DiagnosticKind.TheVariants.{ExpectCatchFinally}
-use Rattle.js_cursor.proofs.Moving.{reached_next}
 use Rattle.js_cursor.specs.Places.{goal}
 use Rattle.js_grammar.specs.LexicalFaults.{Reached}
-use Rattle.js_grammar.specs.Marks.{EdgeOf, Mark, a_lexeme, the_end}
-use Rattle.js_grammar.specs.Settings.{Goal}
+use Rattle.js_grammar.specs.Marks.{EdgeOf, Mark}
 use Rattle.js_lex.specs.Reading.{is_right_angle}
 use Rattle.js_parsing.specs.Told.{unrelated_at}
 use Rattle.js_cursor.specs.Moves.{IsKind, Keeps as KeepsOne, OnlyMemory}
@@ -43,11 +41,12 @@ use Rattle.js_cursor.specs.declared.stop.Stop.{Stop}
 use Rattle.js_cursor.specs.declared.stop.Stop.TheVariants.{Fatal, NoMemory}
 use Rattle.js_parsing.specs.Answers.{Numbered, Stops, Underived, unclean}
 use Rattle.js_parsing.specs.Classes.{IsEarly}
-use Rattle.js_parsing.specs.Lexemes.{Lex, Spot, Walked, more_faults, nowhere, one_more, read_again, spot}
+use Rattle.js_parsing.specs.Lexemes.{Lex, spot}
 use Rattle.js_parsing.specs.Moves.{Moved, MadeHere, plain_label}
 use Rattle.js_parsing.specs.Stands.{StandsHere}
 use Rattle.js_parsing.specs.States.{At, Same, NodesLie}
 use Rattle.js_parsing.specs.Statements.{placed, after_statement, NoStatement, Statement}
+use Rattle.js_parsing.proofs.Edges.{last_edge}
 use Rattle.js_parsing.proofs.Giving.{fails_escaped, kept_one}
 use Rattle.js_parsing.proofs.Here.{kind_here}
 use Rattle.js_parsing.proofs.MadeNodes.{node_held, one_lies, made_lies}
@@ -442,19 +441,7 @@ missing_marked {p = p} {r} s {d} a e g b c h = subst (λ (v : Diagnostic). Mark 
   stands = ((subst (λ (v : ℕ). EdgeOf (goal p) p.text v) (sym (b ∙ ap (λ (v : Parser). v.prev_token_end) e)) g, subst (λ (v : ℕ). EdgeOf (goal p) p.text v) (sym (c ∙ ap (λ (v : Parser). v.prev_token_end) e)) g), (refl, refl));
 }))
 
--- lexemes lead on, and the last one ends there
-walked_reached : {text : List ℕ} {s e : Spot} {pass : Lexemes → Lexemes} → Walked text s e pass → Reached text s.place → Reached text e.place
-walked_reached nowhere r = r
-walked_reached (one_more w i n) r = reached_next (walked_reached w r) i.stood
-walked_reached (read_again w ds k i) r = reached_next (walked_reached w r) i.stood
-walked_reached (more_faults w ds n) r = walked_reached w r
-
-last_edge : {source : Goal} {text : List ℕ} {s e : Spot} {pass : Lexemes → Lexemes} → Walked text s e pass → Reached text s.place → s.place < e.place → EdgeOf source text e.place
-last_edge nowhere r l = absurd (omega arith)
-last_edge (one_more w i n) r l = the_end (a_lexeme (walked_reached w r) i.stood) refl
-last_edge (read_again w ds k i) r l = the_end (a_lexeme (walked_reached w r) i.stood) refl
-last_edge (more_faults w ds n) r l = last_edge w r l
-
+-- a block ends at a lexeme's end
 pub block_edge : {text : List ℕ} {f : Flags} {p q r : Parser} {id : NodeId} → Moved text f p q → Numbered text f (at Block f) q r id → EdgeOf (goal r) r.text r.prev_token_end
 block_edge {q = q} {r} m x = subst (λ (t : List ℕ). EdgeOf (goal r) t r.prev_token_end) (sym x.answer.at.text_is) (last_edge x.answer.walked (subst (λ (t : List ℕ). Reached t q.prev_token_end) m.at.text_is m.at.at.reached) (let b = m.at.behind in let c = x.answer.further in omega arith))
 
