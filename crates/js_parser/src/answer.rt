@@ -71,7 +71,8 @@ pub fn taken(
     let tree = parts.ast.finish(span, items)?;
     let found = joined(kept.errors, parts.errors)?;
     let clashes = flag_clashes(alloc, &tree, source)?;
-    let diagnostics = with_leftover(found, clashes, tree.cover_initializers(alloc)?)?;
+    let covers = tree.cover_initializers(alloc)?;
+    let diagnostics = with_leftover(found, clashes, covers)?;
     let (module_record, _) = parts.module_record_builder.build()?;
     Ok(ParserReturn {
         program: Program {
