@@ -1,19 +1,16 @@
 -- What a parse answers, from what holds of the parser at its end.
-use Rattle.std.proofs.Common.{Bool, ℕ, ◌≡◌, inl, inr, List, [], ◌∷◌, ◌++◌, length, map, take, true, false, Option, None, append_assoc, refl, sym, ap, subst, arith, ◌∙◌}
+use Rattle.std.proofs.Common.{Bool, ℕ, ◌≡◌, inl, inr, List, [], ◌∷◌, ◌++◌, length, map, take, true, false, Option, None, refl, sym, ap, subst, arith, ◌∙◌}
 use Rattle.std.specs.List.{All}
 use Rattle.std.specs.Prelude.{IsCharBoundary, IsUtf8, Result, Ok, Err, IfOk}
 use Rattle.std.proofs.lemmas.List.Elements.{All-append, All-take, All-weaker, All-nil}
 use Rattle.js_base.specs.declared.diagnostic.Diagnostic.{Diagnostic}
-use Rattle.js_base.specs.declared.diagnostic.DiagnosticKind.{DiagnosticKind}
 use Rattle.js_base.specs.declared.diagnostic.DiagnosticKind.TheVariants.{OverlongSource}
-use Rattle.js_base.specs.declared.diagnostic.DiagnosticKind.TheVariants as fault
 use Rattle.js_base.specs.declared.diagnostic.DiagnosticClass.TheVariants.{Lexical}
 use Rattle.js_base.specs.Diagnostics.{class_of}
-use Rattle.js_grammar.specs.LexicalFaults.{FaultyBehind}
 use Rattle.js_base.specs.declared.options.ParseOptions.{ParseOptions}
 use Rattle.js_base.specs.declared.source_type.SourceType.{SourceType}
 use Rattle.js_base.specs.declared.span.Span.{Span}
-use Rattle.js_grammar.specs.Trees.{Slots, end, tree, Tree, Span as TreeSpan}
+use Rattle.js_grammar.specs.Trees.{Slots, end, tree, Tree}
 use Rattle.js_grammar.specs.Marks.{Mark}
 use Rattle.js_lex.specs.States.{goal_of}
 use Rattle.js_tree.specs.declared.id.NodeId.{NodeId}

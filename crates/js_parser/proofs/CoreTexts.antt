@@ -1,5 +1,5 @@
 -- A core text's readings by the whole table, over the kinds of lexemes that are read so far, are its readings by the core grammar.
-use Rattle.std.proofs.Common.{ℕ, ◌≡◌, true, not, List, [], ◌∷◌, Some, None, refl, sym, subst, ap, ◌∙◌, Bool, false}
+use Rattle.std.proofs.Common.{ℕ, ◌≡◌, true, not, List, Some, None, refl, sym, subst, ap, ◌∙◌, Bool, false}
 use Rattle.std.specs.Prelude.{IsUtf8, codes, Option}
 use Rattle.std.proofs.lemmas.Bool.{false≢true, and_parts, and_from}
 use Rattle.js_base.specs.declared.kind.Kind.{Kind}

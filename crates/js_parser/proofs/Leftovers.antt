@@ -1,5 +1,5 @@
 -- From what the cover grammar derives to readings: where no shorthand has an initialiser (ECMA-262, 13.2.5.1), and no regular expression the flags `u` and `v` (22.2.3.4).
-use Rattle.std.proofs.Common.{Bool, ℕ, ◌≡◌, ◌⊎◌, inl, inr, List, [], ◌∷◌, ◌++◌, map, cond, append-nil, length, ◌≤◌, true, false, refl, sym, ap, subst, arith, ◌∙◌}
+use Rattle.std.proofs.Common.{Bool, ℕ, ◌≡◌, inl, List, [], ◌∷◌, ◌++◌, map, cond, append-nil, true, false, refl, sym, subst}
 use Rattle.std.specs.List.{All}
 use Rattle.std.specs.Prelude.{None}
 use Rattle.std.proofs.lemmas.List.Elements.{All-nil, All-cons, All-head, All-tail, All-append, All-map, All-weaker}
@@ -12,11 +12,11 @@ use Rattle.js_base.specs.declared.span.Span.{Span}
 use Rattle.js_base.specs.Spans.{LiesIn}
 use Rattle.js_grammar.specs.Trees.{Slots, end, hole, tree, Tree, Span as TreeSpan, program}
 use Rattle.js_grammar.specs.Grammar.{Lexemes, last, next}
-use Rattle.js_grammar.specs.Lexed.{Lex as StandsBehind, Lexes, all_faults}
+use Rattle.js_grammar.specs.Lexed.{Lexes}
 use Rattle.js_grammar.specs.LexicalFaults.{Reached}
 use Rattle.js_grammar.specs.Marks.{Mark, StandsAt}
 use Rattle.js_grammar.specs.EarlyRules.{everywhere, not_u_and_v}
-use Rattle.js_grammar.specs.CoverInitialisers.{is_initialised, initialised_in, with_cover}
+use Rattle.js_grammar.specs.CoverInitialisers.{initialised_in, with_cover}
 use Rattle.js_grammar.specs.Options.{Options}
 use Rattle.js_grammar.specs.Settings.{Goal}
 use Rattle.js_grammar.proofs.CoverInitialisers.{Each, Led, Marked, each_listed, initialisers_marked, program_loosely, program_strictly, strict_has_none, placed}
@@ -65,7 +65,7 @@ module _ {text : List ℕ} {goal : Goal} {o : Options} where
   none_leftover {t} n x u r =
       let e = (x.only u (covered r.strict)).0 in
       n (nothing_broken (not_u_and_v text) (tree t.label t.slots end) (subst (λ (v : Tree). everywhere (not_u_and_v text) (tree v.label v.slots end) ≡ true) e r.early.not_u_and_v))
-        (subst (λ (v : Tree). initialised_in (tree v.label v.slots end) ≡ []) e (strict_has_none Program (with_cover false (parameters goal o)) refl refl u r.strict.derived))
+      (subst (λ (v : Tree). initialised_in (tree v.label v.slots end) ≡ []) e (strict_has_none Program (with_cover false (parameters goal o)) refl refl u r.strict.derived))
 
   -- what was kept is of the lexemes of a strict reading too
   pub kept_strict : {t : Tree} (r : ReadingBy false text goal o t) (asks : Bool) (out : LexerOutput) → IsKeptOf (covered r) asks out → IsKeptOf r asks out
@@ -104,8 +104,8 @@ clashes_lie text end h = All-nil (Lies text)
 clashes_lie text (hole us) h = clashes_lie text us h
 clashes_lie text (tree l cs us) h =
     All-append (Lies text) (cond (not_u_and_v text l cs) [] (l.span ∷ [])) (clashing_in text cs ++ clashing_in text us)
-      (own_listed (Lies text) (not_u_and_v text l cs) l.span (λ e. h.0))
-      (All-append (Lies text) (clashing_in text cs) (clashing_in text us) (clashes_lie text cs h.1) (clashes_lie text us h.2))
+    (own_listed (Lies text) (not_u_and_v text l cs) l.span (λ e. h.0))
+    (All-append (Lies text) (clashing_in text cs) (clashing_in text us) (clashes_lie text cs h.1) (clashes_lie text us h.2))
 
 -- two facts of each
 both : {X : Type 0} (P Q : X → Type 0) (xs : List X) → All P xs → All Q xs → All (λ x. P x × Q x) xs
@@ -136,8 +136,8 @@ module _ (goal : Goal) (text : List ℕ) (kind : DiagnosticKind) where
 pub leftover_marked : (goal : Goal) (text : List ℕ) (clashes covers : List TreeSpan) → All (Edged goal text) clashes → All (Lies text) clashes → All (Marked text) covers → All (Lies text) covers → All (Mark goal text) (leftover (map made clashes) (map made covers))
 leftover_marked goal text clashes covers e l m k =
     All-append (Mark goal text) (told_at RegExpFlagUAndV (map made clashes)) (told_at CoverInitializedName (map made covers))
-      (told_marked goal text RegExpFlagUAndV clashes (All-weaker (Edged goal text) (λ (s : TreeSpan). StandsAt RegExpFlagUAndV goal text (made s) None None) (λ s h. (h, (refl, refl))) clashes e) l)
-      (told_marked goal text CoverInitializedName covers (All-weaker (Marked text) (λ (s : TreeSpan). StandsAt CoverInitializedName goal text (made s) None None) (λ s h. (h, (refl, refl))) covers m) k)
+    (told_marked goal text RegExpFlagUAndV clashes (All-weaker (Edged goal text) (λ (s : TreeSpan). StandsAt RegExpFlagUAndV goal text (made s) None None) (λ s h. (h, (refl, refl))) clashes e) l)
+    (told_marked goal text CoverInitializedName covers (All-weaker (Marked text) (λ (s : TreeSpan). StandsAt CoverInitializedName goal text (made s) None None) (λ s h. (h, (refl, refl))) covers m) k)
 
 pub leftover_lie : (goal : Goal) (text : List ℕ) (clashes covers : List TreeSpan) → All (Lies text) clashes → All (Lies text) covers → All (λ (d : Diagnostic). LiesIn d.span text) (leftover (map made clashes) (map made covers))
 leftover_lie goal text clashes covers l k = All-append (λ (d : Diagnostic). LiesIn d.span text) (told_at RegExpFlagUAndV (map made clashes)) (told_at CoverInitializedName (map made covers)) (told_lie goal text RegExpFlagUAndV clashes l) (told_lie goal text CoverInitializedName covers k)

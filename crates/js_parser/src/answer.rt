@@ -200,11 +200,7 @@ fn with_leftover(
 }
 
 /// Tells a diagnostic of a kind at each span.
-fn tell_each(
-    all: &mut Diagnostics,
-    kind: DiagnosticKind,
-    spans: &[Span],
-) -> Result<(), NoMemory>
+fn tell_each(all: &mut Diagnostics, kind: DiagnosticKind, spans: &[Span]) -> Result<(), NoMemory>
     ensures { OnOk result (all.new ≡ all.old ++ told_at kind spans.now) }
 {
     let mut i = 0;
