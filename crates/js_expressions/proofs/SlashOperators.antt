@@ -1,5 +1,5 @@
 -- The loop over operators where a regular expression may stand in the place of the division sign: nothing goes on with it, and nothing ends before it (ECMA-262, 12).
-use Rattle.std.proofs.Common.{ℕ, zero, suc, ◌≡◌, ◌≤◌, ◌<◌, ◌+◌, ◌⊎◌, inl, inr, Bool, true, false, ◌||◌, List, [], ◌∷◌, IsTrue, refl, sym, ap, subst, arith, ◌∙◌}
+use Rattle.std.proofs.Common.{ℕ, zero, suc, ◌≡◌, ◌≤◌, ◌+◌, ◌⊎◌, inl, Bool, true, false, ◌||◌, List, [], ◌∷◌, IsTrue, refl, sym, ap, subst, arith, ◌∙◌}
 use Rattle.std.proofs.lemmas.Bool.{false≢true, ltb-true}
 use Rattle.js_base.specs.declared.kind.Kind.{Kind}
 use Rattle.js_base.specs.declared.kind.Kind.TheVariants.{RegExp, Slash, SlashEq}
@@ -7,13 +7,12 @@ use Rattle.js_base.specs.Kinds.{same_kind, one_of_kinds}
 use Rattle.js_base.proofs.KindLemmas.{kind_of_same}
 use Rattle.js_grammar.specs.Trees.{Label, Slots, end, tree}
 use Rattle.js_grammar.specs.Grammar.{Lexeme, seen, such}
-use Rattle.js_grammar.specs.Insertion.{Row}
 use Rattle.js_grammar.specs.Parsing.{Admits, Fails, Reads, Way, always, joined, full, plain}
 use Rattle.js_grammar.proofs.First.{starts}
 use Rattle.js_grammar.specs.Productions.{Flags, Symbol}
 use Rattle.js_grammar.specs.Table.{rule}
 use Rattle.js_grammar.specs.Levels.{feet_at, level_at, node_at, operators_at, operators_of, top_level}
-use Rattle.js_grammar.specs.Follow.{after, edge_of, first_edge, follow, looser, row_of, tight}
+use Rattle.js_grammar.specs.Follow.{after, first_edge, follow, looser, row_of, tight}
 use Rattle.js_grammar.specs.FirstSets.{first}
 use Rattle.js_grammar.proofs.FirstClaims.{firsts}
 use Rattle.js_grammar.proofs.FollowLaws.{counts_as_slash}

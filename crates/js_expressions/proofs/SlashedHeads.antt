@@ -1,5 +1,5 @@
 -- Heads of arrow functions in which a slash stands (ECMA-262, 15.3): what stands there is read as arguments too, and those are read over one list of lexemes alone, or none.
-use Rattle.std.proofs.Common.{ℕ, ◌≡◌, ◌≤◌, ◌⊎◌, inl, inr, List, [], ◌∷◌, length, Bool, true, false, not, ◌&&◌, IsTrue, Option, Some, None, refl, sym, ap, subst, arith, ◌∙◌}
+use Rattle.std.proofs.Common.{ℕ, ◌≡◌, ◌⊎◌, inl, inr, List, length, Bool, true, false, not, IsTrue, Option, Some, None, refl, sym, ap, subst, arith, ◌∙◌}
 use Rattle.std.specs.Prelude.{IsCharBoundary, IsUtf8, MatchResult, Result, Ok, Err}
 use Rattle.std.proofs.lemmas.Bool.{and_parts, false≢true}
 use Rattle.js_base.specs.Contexts.{has_flag, await_flag, yield_flag}
@@ -8,14 +8,13 @@ use Rattle.js_base.specs.declared.diagnostic.Diagnostic.{Diagnostic}
 use Rattle.js_base.specs.declared.kind.Kind.TheVariants.{Arrow, LParen}
 use Rattle.js_base.proofs.KindLemmas.{kind_of_same}
 use Rattle.js_grammar.specs.Trees.{Slots, end, tree}
-use Rattle.js_grammar.specs.Grammar.{Lexeme, Lexemes, here, nothing, Takes, is_lexeme, is_seq, ◌▸◌}
+use Rattle.js_grammar.specs.Grammar.{Lexemes, here, nothing, Takes, is_lexeme, is_seq, ◌▸◌}
 use Rattle.js_grammar.specs.Lexed.{Lexes}
 use Rattle.js_grammar.specs.Parsing.{Fails, plain, full}
-use Rattle.js_grammar.specs.Productions.{Flags, Symbol, at, tok, Assignment, Params, Short}
+use Rattle.js_grammar.specs.Productions.{Flags, at, tok, Assignment, Params, Short}
 use Rattle.js_grammar.specs.Productions.{sym as symbol}
 use Rattle.js_grammar.specs.Table.{rule, args}
 use Rattle.js_grammar.proofs.Calculus.{ends, here_at}
-use Rattle.js_grammar.proofs.Heads.{One}
 use Rattle.js_tree.specs.declared.id.NodeId.{NodeId}
 use Rattle.js_tree.proofs.HoldingLemmas.{Holds-wider, Keeps-longer, Keeps-trans}
 use Rattle.js_cursor.specs.Checkpoints.{GoesOn}
@@ -24,11 +23,11 @@ use Rattle.js_cursor.specs.Notes.{is_noted}
 use Rattle.js_cursor.specs.Parsers.{Parser}
 use Rattle.js_cursor.specs.declared.stop.Stop.{Stop}
 use Rattle.js_cursor.specs.declared.stop.Stop.TheVariants.{Fatal}
-use Rattle.js_parsing.specs.Answers.{Grown, Refuses, Stops, Stretch, Underived, clean, unclean}
+use Rattle.js_parsing.specs.Answers.{Grown, Refuses, Stops, Stretch, Underived}
 use Rattle.js_parsing.specs.Arguments.{Arguments, NoArguments, Partway, item_of, list_of}
 use Rattle.js_parsing.specs.Heads.{NoHead, NotedHeads, OnlyArrow}
 use Rattle.js_parsing.specs.Lexemes.{Lex}
-use Rattle.js_parsing.specs.States.{At, Same, Standing, NodesLie, SpansLie, flags_of}
+use Rattle.js_parsing.specs.States.{At, Standing, NodesLie, SpansLie, flags_of}
 use Rattle.js_parsing.proofs.Here.{kind_here}
 use Rattle.js_parsing.proofs.Moving.{flags_same, same_both, standing}
 use Rattle.js_parsing.proofs.Paths.{walked_from}
@@ -36,8 +35,8 @@ use Rattle.js_parsing.proofs.Unbuilt.{nothing_unbuilt}
 use Rattle.js_parsing.proofs.Verdicts.{either_way}
 use Rattle.js_targets.specs.Others.{NoYield}
 use Rattle.js_targets.proofs.ArraysBeforeSigns.{is_cover, not_wide}
-use Rattle.js_expressions.specs.Arrows.{ArgumentsTold, AttemptsHead, BeforeArrow, a_head, told_head, Head, head_of, HeadRead, read_clean, read_unclean, IsHeadHere, IsHeadRead, NoHeadHere, NoneLooked, NoOperandHere, NoSlash, OnlyArrowHere, OperandExcluded, SlashFound, ToldHead, Unmoved}
-use Rattle.js_expressions.proofs.Arrows.{AllCalm, arrow_is_here, head_no_operand}
+use Rattle.js_expressions.specs.Arrows.{ArgumentsTold, AttemptsHead, BeforeArrow, a_head, told_head, Head, head_of, HeadRead, read_clean, read_unclean, IsHeadHere, IsHeadRead, NoHeadHere, NoneLooked, NoOperandHere, NoSlash, OperandExcluded, SlashFound, ToldHead, Unmoved}
+use Rattle.js_expressions.proofs.Arrows.{arrow_is_here, head_no_operand}
 use Rattle.js_expressions.proofs.HeadsAsArguments.{params_as_arguments}
 use Rattle.js_expressions.proofs.NotedHeads.{noted_operand}
 use Rattle.js_expressions.proofs.ParenthesizedFronts.{no_operand_before}

@@ -1,15 +1,15 @@
 -- A lexeme that begins with a slash has that byte in the text; where none stands, lexemes are the same in every lexical goal (ECMA-262, 12).
-use Rattle.std.proofs.Common.{ℕ, ◌+◌, ◌≡◌, ◌≤◌, ◌<◌, ◌⊎◌, inl, inr, Bool, true, false, not, ◌||◌, List, [], ◌∷◌, ◌++◌, length, Option, Some, None, refl, sym, ap, subst, arith, ◌∙◌}
+use Rattle.std.proofs.Common.{ℕ, ◌+◌, ◌≡◌, ◌≤◌, ◌<◌, ◌⊎◌, inl, inr, Bool, true, false, not, ◌||◌, List, [], ◌∷◌, ◌++◌, length, Some, refl, sym, ap, subst, arith, ◌∙◌}
 use Rattle.std.specs.Prelude.{IsCharBoundary, IsUtf8, slice_index}
 use Rattle.std.specs.Char.{len_utf8}
 use Rattle.std.proofs.lemmas.Bool.{cases_lt, false≢true}
 use Rattle.js_base.specs.declared.kind.Kind.{Kind}
-use Rattle.js_base.specs.declared.kind.Kind.TheVariants.{Eof, RegExp, Slash, SlashEq}
+use Rattle.js_base.specs.declared.kind.Kind.TheVariants.{RegExp, Slash, SlashEq}
 use Rattle.js_base.specs.Kinds.{same_kind, one_of_kinds}
 use Rattle.js_base.proofs.KindLemmas.{kind_of_same}
 use Rattle.js_grammar.specs.Characters.{width}
 use Rattle.js_grammar.specs.Grammar.{Lexeme, Lexemes}
-use Rattle.js_grammar.specs.Lexed.{Lex as StandsBehind, Lexes, all_faults}
+use Rattle.js_grammar.specs.Lexed.{Lexes}
 use Rattle.js_grammar.specs.LexicalFaults.{behind}
 use Rattle.js_grammar.specs.Longest.{joined}
 use Rattle.js_grammar.specs.Lexemes.{LexicalGoal, division, regular_expression, kind_in}

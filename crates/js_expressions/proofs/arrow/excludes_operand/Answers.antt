@@ -1,4 +1,3 @@
-use Rattle.std.proofs.Common.{inl, inr, sym, ◌∙◌}
 use Rattle.js_expressions.proofs.SlashedHeads.{excluded_noted}
 use Rattle.js_expressions.proofs.arrow.excludes_operand.Goals as goal
 
