@@ -71,6 +71,7 @@ pub record Reading (text : List ℕ) (goal : Goal) (o : Options) (t : Tree) : Ty
 abbrev pub HasNoReadingBy : Bool → List ℕ → Goal → Options → Type 0
 HasNoReadingBy cover text goal o = (t : Tree) → ReadingBy cover text goal o t → ⊥
 
+-- no tree is a reading
 abbrev pub HasNoReading : List ℕ → Goal → Options → Type 0
 HasNoReading text goal o = (t : Tree) → Reading text goal o t → ⊥
 
