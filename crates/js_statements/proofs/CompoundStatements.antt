@@ -35,7 +35,7 @@ use Rattle.js_tree.specs.Nodes.{Node}
 use Rattle.js_tree.specs.Holding.{Holds, HoldsAll, Keeps}
 use Rattle.js_tree.proofs.HoldingLemmas.{Holds-kept, HoldsAll-append, HoldsAll-hole, HoldsAll-one, HoldsAll-two, Keeps-made, Keeps-trans}
 use Rattle.js_lex.specs.Reading.{is_right_angle}
-use Rattle.js_cursor.specs.Moves.{Eats, Expects, IsKind, MovesOn, OnlyMemory, is_last}
+use Rattle.js_cursor.specs.Moves.{Eats, Expects, IsKind, MovesOn, OnlyMemory}
 use Rattle.js_cursor.specs.Parsers.{Parser}
 use Rattle.js_cursor.specs.declared.stop.Stop.{Stop}
 use Rattle.js_cursor.specs.declared.stop.Stop.TheVariants.{Fatal, NoMemory}

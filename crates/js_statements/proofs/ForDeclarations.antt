@@ -1,5 +1,5 @@
 -- A declaration as the first part of the head of a `for` (ECMA-262, 14.7.4, 14.7.5, B.3.5).
-use Rattle.std.proofs.Common.{ℕ, ◌≡◌, ◌≤◌, ◌<◌, ◌⊎◌, inl, inr, max, List, [], ◌∷◌, length, Option, Some, None, Bool, true, false, not, ◌&&◌, IsTrue, refl, sym, ap, subst, arith, ◌∙◌, ◌||◌}
+use Rattle.std.proofs.Common.{ℕ, ◌≡◌, ◌<◌, inl, inr, max, List, [], ◌∷◌, length, Option, Some, None, Bool, true, false, not, ◌&&◌, IsTrue, refl, sym, ap, subst, arith, ◌∙◌, ◌||◌}
 use Rattle.std.specs.Prelude.{IsCharBoundary, ◌↔◌}
 use Rattle.js_base.specs.Diagnostics.{class_of}
 use Rattle.js_base.specs.declared.diagnostic.DiagnosticClass.TheVariants.{Early}
@@ -10,16 +10,15 @@ use Rattle.js_base.specs.declared.diagnostic.DiagnosticKind.TheVariants as fault
 use Rattle.js_base.specs.declared.kind.Kind.{Kind}
 use Rattle.js_base.specs.declared.kind.Kind.TheVariants as kind
 use Rattle.js_base.specs.declared.span.Span.{Span}
-use Rattle.js_base.specs.declared.token.Token.{Token}
 use Rattle.js_base.specs.Kinds.{same_kind, one_of_kinds}
 use Rattle.js_base.proofs.KindLemmas.{kind_of_same}
 use Rattle.js_grammar.specs.Marks.{Mark}
-use Rattle.js_grammar.specs.Trees.{Label, Slots, append, end, tree, of, variable_declaration, variable_declarator}
-use Rattle.js_grammar.specs.Grammar.{Lexeme, Lexemes, Look, next, here, seen, is, nothing, empty_slot, commas, seq, alt, Takes, is_nothing, is_node, is_commas, is_seq, is_left, is_right, is_lexeme, ◌▸◌, ◌◇◌}
+use Rattle.js_grammar.specs.Trees.{Label, Slots, end, tree, of, variable_declaration, variable_declarator}
+use Rattle.js_grammar.specs.Grammar.{Lexeme, Lexemes, Look, next, here, seen, is, nothing, Takes, is_nothing, is_node, is_commas, is_seq, is_left, is_right, is_lexeme, ◌▸◌}
 use Rattle.js_grammar.specs.Insertion.{Row, after_word, edge}
 use Rattle.js_grammar.specs.Lexed.{Lexes}
 use Rattle.js_grammar.specs.Parsing.{Test, plain, full, passing, still, Admits, Goes, Fails, Reaches}
-use Rattle.js_grammar.specs.Productions.{G, Flags, at, minus_in, mk, not_then, op, other, tok, word_or, BindingIdentifier, ForInit, Init, Target}
+use Rattle.js_grammar.specs.Productions.{G, Flags, at, minus_in, mk, not_then, op, other, tok, word_or, BindingIdentifier, ForInit, Init}
 use Rattle.js_grammar.specs.Productions.{sym as symbol}
 use Rattle.js_grammar.specs.Table.{rule, rule_of, declarator, declarators, for_binding}
 use Rattle.js_grammar.proofs.Looks.{covers, covered, apart}
@@ -38,7 +37,7 @@ use Rattle.js_cursor.specs.Moves.{Keeps as KeepsOne}
 use Rattle.js_cursor.specs.Parsers.{Parser}
 use Rattle.js_cursor.specs.Places.{goal}
 use Rattle.js_cursor.specs.declared.stop.Stop.{Stop}
-use Rattle.js_parsing.specs.Answers.{Grown, Stops, Stretch, Verdict, clean, unclean}
+use Rattle.js_parsing.specs.Answers.{Grown, Stops, Stretch, Verdict, unclean}
 use Rattle.js_parsing.specs.Classes.{IsEarly}
 use Rattle.js_parsing.specs.Lexemes.{Lex, Walked, read_kinds, spot}
 use Rattle.js_parsing.specs.Moves.{MadeHere, Moved, plain_label}
@@ -48,7 +47,6 @@ use Rattle.js_parsing.specs.Told.{unrelated_at}
 use Rattle.js_declarations.specs.Declarations.{AllOf, NoneOf, NoOne, ends_row, is_constant, list_of}
 use Rattle.js_declarations.specs.HeadDeclarators.{BesideThrough, BoundThrough, DeclaratorsBehind, HeadList, HeadRead, NoHeadDeclarator, NoneBehind, ThroughHere, ValueRead, ValueTaken, bound_alone, named_value}
 use Rattle.js_declarations.specs.HeadDeclarators.{goes_through as ends_head}
-use Rattle.js_declarations.specs.declared.head.HeadDeclarator.{HeadDeclarator}
 use Rattle.js_declarations.specs.declared.head.HeadForm.{HeadForm}
 use Rattle.js_declarations.specs.declared.head.HeadForm.TheVariants as form
 use Rattle.js_declarations.proofs.DeclaratorLists.{all_behind, none_behind}
@@ -56,8 +54,8 @@ use Rattle.js_declarations.proofs.HeadDeclarators.{list_alone}
 use Rattle.js_declarations.proofs.SpansMarked.{span_marked}
 use Rattle.js_statements.specs.declared.for_statement.Ending.{Ending}
 use Rattle.js_statements.specs.declared.for_statement.Ending.TheVariants as ending
-use Rattle.js_statements.specs.ForHeads.{FirstTaken, NoFirst, behind_slot, end_kind, first_part}
-use Rattle.js_statements.specs.ForParts.{BeginsHead, FaultOf, HeadFault, TakesPartWithoutIn, TellsHead, is_var, may_be, may_not, may_stand, none_stands, through_kind}
+use Rattle.js_statements.specs.ForHeads.{FirstTaken, NoFirst, end_kind, first_part}
+use Rattle.js_statements.specs.ForParts.{BeginsHead, FaultOf, HeadFault, TellsHead, is_var, may_be, may_not, may_stand, none_stands, through_kind}
 use Rattle.js_statements.specs.LetStatements.{behind_let, LetHere}
 use Rattle.js_parsing.proofs.Giving.{kept_one}
 use Rattle.js_parsing.proofs.Here.{begins_here}

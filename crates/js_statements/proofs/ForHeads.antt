@@ -1,5 +1,5 @@
 -- The heads of `for` statements, between their parentheses (ECMA-262, 14.7.4, 14.7.5).
-use Rattle.std.proofs.Common.{ℕ, ◌≡◌, ◌≤◌, ◌<◌, ◌⊎◌, inl, inr, max, List, [], ◌∷◌, ◌++◌, length, Option, Some, None, Bool, true, false, not, ◌&&◌, IsTrue, refl, sym, ap, subst, arith, ◌∙◌, ◌||◌}
+use Rattle.std.proofs.Common.{ℕ, ◌≡◌, ◌<◌, ◌⊎◌, inl, inr, max, List, [], ◌∷◌, ◌++◌, length, Option, Some, None, Bool, true, false, not, IsTrue, refl, sym, ap, subst, arith, ◌∙◌, ◌||◌}
 use Rattle.std.specs.Prelude.{Result, Ok, Err, ◌↔◌}
 use Rattle.std.proofs.lemmas.Bool.{false≢true, and_parts}
 use Rattle.js_base.specs.declared.diagnostic.Diagnostic.{Diagnostic}
@@ -9,17 +9,17 @@ use Rattle.js_base.specs.declared.kind.Kind.TheVariants as kind
 use Rattle.js_base.specs.Kinds.{same_kind, one_of_kinds}
 use Rattle.js_base.specs.Texts.{words}
 use Rattle.js_base.proofs.KindLemmas.{kind_of_same}
-use Rattle.js_grammar.specs.Trees.{Label, Slots, append, end, hole, tree}
-use Rattle.js_grammar.specs.Grammar.{Lexeme, Lexemes, next, here, seen, is, such, empty_slot, nothing, seq, Takes, is_lexeme, is_seq, is_such, is_empty_slot, ◌▸◌, ◌◇◌}
+use Rattle.js_grammar.specs.Trees.{Slots, append, end, hole, tree}
+use Rattle.js_grammar.specs.Grammar.{Lexeme, Lexemes, next, here, seen, is, such, empty_slot, nothing, Takes, is_lexeme, is_seq, is_empty_slot, ◌▸◌}
 use Rattle.js_grammar.specs.Lexed.{Lexes}
-use Rattle.js_grammar.specs.Parsing.{Test, plain, full, always, passing, Admits, Goes, Fails}
+use Rattle.js_grammar.specs.Parsing.{Test, plain, full, always, passing, Goes, Fails}
 use Rattle.js_grammar.specs.Productions.{G, Flags, Symbol, at, parens, slot, tok, Assignment, Expression, ForInit}
 use Rattle.js_grammar.specs.Productions.{sym as symbol}
 use Rattle.js_grammar.specs.Table.{rule}
 use Rattle.js_grammar.specs.Follow.{after, surest}
 use Rattle.js_grammar.proofs.Frame.{append_assoc}
 use Rattle.js_grammar.proofs.Looks.{covers, covered, apart, not_both, same_self}
-use Rattle.js_grammar.proofs.Calculus.{Between, On, ◌▹◌, ◌▹✗◌, ends, here_at, left, right, then_by, part_fails, fails_alt, fails_lexeme, reads_empty_slot, weaken_fails_on, weaken_on}
+use Rattle.js_grammar.proofs.Calculus.{Between, On, ◌▹◌, ◌▹✗◌, here_at, left, right, then_by, part_fails, fails_alt, reads_empty_slot, weaken_fails_on, weaken_on}
 use Rattle.js_grammar.specs.FirstSets.{first}
 use Rattle.js_grammar.proofs.First.{starts}
 use Rattle.js_grammar.proofs.FirstClaims.{firsts}
@@ -34,11 +34,11 @@ use Rattle.js_lex.specs.Reading.{is_right_angle}
 use Rattle.js_cursor.specs.Moves.{Expects, IsKind}
 use Rattle.js_cursor.specs.Parsers.{Parser}
 use Rattle.js_cursor.specs.declared.stop.Stop.{Stop}
-use Rattle.js_parsing.specs.Answers.{Answer, Grown, Numbered, Stops, Stretch, Underived, Verdict, clean}
-use Rattle.js_parsing.specs.Lexemes.{Lex, nowhere, read_kinds}
+use Rattle.js_parsing.specs.Answers.{Grown, Numbered, Stops, Stretch, Underived, Verdict, clean}
+use Rattle.js_parsing.specs.Lexemes.{Lex, nowhere}
 use Rattle.js_parsing.specs.Moves.{Moved}
 use Rattle.js_parsing.specs.Stands.{StandsHere}
-use Rattle.js_parsing.specs.States.{At, Same}
+use Rattle.js_parsing.specs.States.{At}
 use Rattle.js_statements.specs.declared.for_statement.Ending.{Ending}
 use Rattle.js_statements.specs.declared.for_statement.Ending.TheVariants as ending
 use Rattle.js_statements.specs.ForHeads.{AtEnd, EndsPart, FirstTaken, HeadTaken, NoFirst, NoHead, NoParensHead, NoPart, NoRest, ParensHeadTaken, PartTaken, RestTaken, TakesFirst, TakesHead, TakesRest, behind_head, behind_rest, behind_slot, end_kind, first_part, head_part, rest_part}

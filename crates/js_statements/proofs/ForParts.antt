@@ -1,5 +1,5 @@
 -- The first part of the head of a `for` (ECMA-262, 14.7.4, 14.7.5).
-use Rattle.std.proofs.Common.{ℕ, ◌≡◌, ◌≤◌, ◌<◌, ◌⊎◌, inl, inr, max, List, [], ◌∷◌, length, Option, Some, None, Bool, true, false, not, ◌&&◌, ◌||◌, IsTrue, refl, sym, ap, subst, arith, ◌∙◌}
+use Rattle.std.proofs.Common.{ℕ, ◌≡◌, ◌⊎◌, inl, inr, max, List, [], ◌∷◌, length, Option, Some, None, Bool, true, false, not, ◌||◌, IsTrue, refl, sym, ap, subst, arith, ◌∙◌}
 use Rattle.std.proofs.lemmas.Bool.{false≢true, and_from, and_parts}
 use Rattle.js_base.specs.declared.diagnostic.Diagnostic.{Diagnostic}
 use Rattle.js_base.specs.declared.diagnostic.DiagnosticKind.TheVariants.{ForLoopLetReservedWord}
@@ -10,11 +10,11 @@ use Rattle.js_base.specs.declared.kind.Kind.{Kind}
 use Rattle.js_base.specs.declared.kind.Kind.TheVariants as kind
 use Rattle.js_base.specs.Kinds.{same_kind, one_of_kinds}
 use Rattle.js_base.proofs.KindLemmas.{kind_of_same}
-use Rattle.js_grammar.specs.Trees.{Label, Slots, append, end, hole, tree, variable_declaration, variable_declarator}
-use Rattle.js_grammar.specs.Grammar.{Lexeme, Lexemes, Look, here, seen, is, such, empty_slot, nothing, commas, seq, alt, Takes, is_seq, is_lexeme, is_node, ◌▸◌, ◌◇◌}
+use Rattle.js_grammar.specs.Trees.{Label, Slots, end, tree, variable_declaration, variable_declarator}
+use Rattle.js_grammar.specs.Grammar.{Lexeme, Lexemes, here, seen, is, such, empty_slot, nothing, commas, Takes, is_seq, is_lexeme, is_node, ◌▸◌}
 use Rattle.js_grammar.specs.Lexed.{Lexes}
 use Rattle.js_grammar.specs.Parsing.{Test, plain, full, always, still, Admits, Goes, Fails}
-use Rattle.js_grammar.specs.Productions.{G, Flags, at, branches, if_next, minus_in, mk, not_then, op, other, slot, tok, word_or, Binding, BindingIdentifier, Expression, ForInit, Init, Target}
+use Rattle.js_grammar.specs.Productions.{G, Flags, at, branches, minus_in, mk, not_then, op, other, tok, word_or, Binding, Expression, ForInit, Target}
 use Rattle.js_grammar.specs.Productions.{sym as symbol}
 use Rattle.js_grammar.specs.Table.{rule, rule_of, declarator, declarators, for_binding, words_of_declarations}
 use Rattle.js_grammar.specs.FirstSets.{first}
@@ -22,10 +22,10 @@ use Rattle.js_grammar.proofs.First.{starts}
 use Rattle.js_grammar.proofs.FirstClaims.{firsts}
 use Rattle.js_grammar.proofs.FirstRules.{fails_here}
 use Rattle.js_grammar.proofs.Looks.{covers, covered, apart}
-use Rattle.js_grammar.proofs.Calculus.{On, ◌▹◌, ◌▹✗◌, ends, here_at, left, right, looks, same, part_fails, fails_alt, fails_look, fails_node, fails_rule, inside_full, weaken_fails_on, weaken_on}
+use Rattle.js_grammar.proofs.Calculus.{On, ◌▹◌, ◌▹✗◌, ends, here_at, left, looks, same, part_fails, fails_alt, fails_look, fails_node, fails_rule, inside_full, weaken_fails_on, weaken_on}
 use Rattle.js_tree.specs.declared.op.DeclarationKind.{DeclarationKind}
 use Rattle.js_tree.specs.declared.id.NodeId.{NodeId}
-use Rattle.js_tree.specs.Holding.{Holds, HoldsAll, Keeps}
+use Rattle.js_tree.specs.Holding.{Holds, Keeps}
 use Rattle.js_tree.specs.Nodes.{Node}
 use Rattle.js_tree.proofs.HoldingLemmas.{HoldsAll-one}
 use Rattle.js_lex.specs.Reading.{is_right_angle}
@@ -34,7 +34,7 @@ use Rattle.js_cursor.specs.declared.stop.Stop.{Stop}
 use Rattle.js_parsing.specs.Answers.{Answer, Grown, Numbered, Stops, Stretch, Underived, Verdict}
 use Rattle.js_parsing.specs.Lexemes.{Lex}
 use Rattle.js_parsing.specs.Stands.{StandsHere}
-use Rattle.js_parsing.specs.States.{At, Same}
+use Rattle.js_parsing.specs.States.{At}
 use Rattle.js_targets.specs.Taken.{NoTargetFrom, goes_through}
 use Rattle.js_declarations.specs.HeadDeclarators.{ThroughHere}
 use Rattle.js_statements.specs.declared.for_statement.Ending.{Ending}
@@ -77,7 +77,7 @@ use Rattle.js_targets.proofs.Refused.{refused}
 use Rattle.js_expressions.specs.HeadOperands.{HeadOperand, OperandOutcome, no_target, operand}
 use Rattle.js_cursor.specs.declared.stop.Stop.TheVariants.{Fatal, NoMemory}
 use Rattle.js_statements.proofs.ForHeads.{no_empty, on_semicolon}
-use Rattle.js_statements.proofs.LetLookaheads.{Leads, at_once, followed, is_let, leads_to, no_let, not_followed, stands_let, ◌⇒◌, ◌⇒✗◌}
+use Rattle.js_statements.proofs.LetLookaheads.{Leads, at_once, is_let, leads_to, no_let, not_followed, stands_let, ◌⇒◌, ◌⇒✗◌}
 
 -- ---- whatever is read before a lexeme that doesn't stand there
 

@@ -1,5 +1,5 @@
 -- `for` statements, whose head was read (ECMA-262, 14.7.4, 14.7.5).
-use Rattle.std.proofs.Common.{ℕ, ◌≡◌, ◌<◌, ◌⊎◌, inl, inr, cond, List, [], ◌∷◌, ◌++◌, length, Option, Some, None, Bool, true, false, not, ◌&&◌, ◌||◌, IsTrue, refl, sym, ap, subst, arith, ◌∙◌}
+use Rattle.std.proofs.Common.{ℕ, ◌≡◌, ◌<◌, ◌⊎◌, inl, inr, cond, List, [], ◌∷◌, ◌++◌, length, Option, Some, Bool, true, false, not, ◌&&◌, ◌||◌, IsTrue, refl, sym, ap, subst, arith, ◌∙◌}
 use Rattle.std.proofs.lemmas.Bool.{false≢true, and_parts}
 use Rattle.js_base.specs.declared.diagnostic.Diagnostic.{Diagnostic}
 use Rattle.js_base.specs.declared.kind.Kind.TheVariants as kind
@@ -20,7 +20,7 @@ use Rattle.js_tree.specs.declared.kind.NodeKind.{NodeKind as MadeKind}
 use Rattle.js_tree.specs.declared.op.Op.TheVariants as op
 use Rattle.js_tree.specs.Labels.{kind_of}
 use Rattle.js_tree.specs.Nodes.{Node}
-use Rattle.js_tree.specs.Holding.{Holds, HoldsAll, Keeps}
+use Rattle.js_tree.specs.Holding.{HoldsAll, Keeps}
 use Rattle.js_tree.proofs.HoldingLemmas.{HoldsAll-next, Keeps-made, Keeps-trans}
 use Rattle.js_base.specs.Kinds.{one_of_kinds}
 use Rattle.js_cursor.specs.Moves.{GivesUp, IsUnexpected}

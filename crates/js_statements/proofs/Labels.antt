@@ -32,7 +32,7 @@ use Rattle.js_cursor.specs.Moves.{OnlyMemory}
 use Rattle.js_cursor.specs.declared.stop.Stop.{Stop}
 use Rattle.js_cursor.specs.declared.stop.Stop.TheVariants.{Fatal, NoMemory}
 use Rattle.js_parsing.specs.Answers.{Grown, Verdict, clean, unclean, Stretch, Underived, Answer, Numbered, Stops}
-use Rattle.js_parsing.specs.Lexemes.{Lex, Walked, may_name, name_kinds, Spot, spot, nowhere, one_more, more_faults, slashes, read_again}
+use Rattle.js_parsing.specs.Lexemes.{Lex, Walked, may_name, name_kinds, Spot, spot, nowhere, one_more, more_faults, read_again}
 use Rattle.js_parsing.specs.Nesting.{room}
 use Rattle.js_parsing.specs.Moves.{Moved, MadeHere, plain_label}
 use Rattle.js_parsing.specs.Statements.{placed, no_link, statement_kinds, after_statement, NoStatement, Statement, StatementOutcome, IsLabel}
@@ -44,7 +44,7 @@ use Rattle.js_parsing.proofs.Dead.{lives}
 use Rattle.js_parsing.proofs.Here.{found, kind_here, uncut}
 use Rattle.js_parsing.proofs.MadeNodes.{leaf_held, two_held, one_lies, from_start}
 use Rattle.js_parsing.proofs.Moving.{same_both, same_itself, same_with, beside_nodes, stops_behind}
-use Rattle.js_parsing.proofs.Paths.{Path, ◌⟼◌, ◌⟶◌, ◌⟶✗◌, at_kind, one_read, read_of, token, noded, noded_by, by_symbol_as, label_here}
+use Rattle.js_parsing.proofs.Paths.{Path, ◌⟼◌, ◌⟶◌, ◌⟶✗◌, one_read, read_of, token, noded, noded_by, by_symbol_as, label_here}
 use Rattle.js_statements.proofs.Statements.{by_statement, no_function, no_function_body, no_symbol, no_lexical, no_expression_ends, before_colon, item_left, sub_left, colon_ends}
 use Rattle.js_statements.specs.LetStatements.{behind_let, LetIsName}
 use Rattle.js_statements.proofs.LetLookaheads.{not_followed, ◌⇒✗◌}

@@ -44,7 +44,7 @@ use Rattle.js_tree.specs.Nodes.{Node}
 use Rattle.js_tree.specs.Holding.{Holds, Keeps}
 use Rattle.js_tree.proofs.HoldingLemmas.{Keeps-refl, Keeps-trans, Keeps-made}
 use Rattle.js_cursor.specs.Parsers.{Parser}
-use Rattle.js_cursor.specs.Moves.{MayEnd, EndsOr, GivesUp, IsUnexpected, OnlyMemory, ends_statement, is_last}
+use Rattle.js_cursor.specs.Moves.{MayEnd, EndsOr, GivesUp, IsUnexpected, OnlyMemory, ends_statement}
 use Rattle.js_cursor.specs.declared.stop.Stop.{Stop}
 use Rattle.js_cursor.specs.declared.stop.Stop.TheVariants.{Fatal, NoMemory}
 use Rattle.js_parsing.specs.Lexemes.{Lex, may_name, name_kinds, read_kinds, slashes, Plain}
@@ -55,7 +55,7 @@ use Rattle.js_parsing.specs.Statements.{placed, link_kinds, statement_kinds, no_
 use Rattle.js_declarations.specs.Declarations.{stops_row}
 use Rattle.js_parsing.proofs.Verdicts.{verdict_of, either_way}
 use Rattle.js_parsing.proofs.Moving.{moves, same_both, same_itself, same_with, beside_nodes}
-use Rattle.js_parsing.proofs.NameKinds.{name_whole, names_at, test_named, name_apart}
+use Rattle.js_parsing.proofs.NameKinds.{name_whole, names_at, test_named}
 use Rattle.js_parsing.proofs.Here.{kind_here, newline_here, told, uncut, unsettled}
 use Rattle.js_parsing.proofs.Dead.{live, lives}
 use Rattle.js_parsing.proofs.MadeNodes.{leaf_held, one_held, one_lies, LabelLies, from_start}

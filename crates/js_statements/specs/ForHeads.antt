@@ -1,9 +1,8 @@
 -- The heads of `for` statements, between their parentheses (ECMA-262, 14.7.4, 14.7.5, B.3.5).
-use Rattle.std.specs.Prelude.{ℕ, ◌≡◌, ◌≤◌, ◌<◌, ◌⊎◌, Bool, true, false, List, [], ◌∷◌, length, Option, Some, None, Result, Ok, Err}
+use Rattle.std.specs.Prelude.{ℕ, ◌≡◌, ◌≤◌, ◌⊎◌, Bool, true, false, List, [], ◌∷◌, length, Option, Result, Ok, Err}
 use Rattle.js_base.specs.declared.diagnostic.Diagnostic.{Diagnostic}
 use Rattle.js_base.specs.declared.kind.Kind.{Kind}
 use Rattle.js_base.specs.declared.kind.Kind.TheVariants as kind
-use Rattle.js_base.specs.Texts.{words}
 use Rattle.js_grammar.specs.Trees.{Slots, append, hole, tree, end as no_slots, variable_declaration, variable_declarator}
 use Rattle.js_grammar.specs.Grammar.{Lexemes, is, nothing, ◌▸◌, ◌◇◌}
 use Rattle.js_grammar.specs.Parsing.{plain, full, Fails}

@@ -1,4 +1,4 @@
-use Rattle.std.proofs.Common.{Bool, ap, arith, inr, refl, subst, sym, ◌∙◌}
+use Rattle.std.proofs.Common.{Bool, ap, arith, inr, refl, subst, ◌∙◌}
 use Rattle.std.proofs.lemmas.Result.{err_from_is_err_and}
 use Rattle.js_base.specs.Contexts.{has_flag, in_flag}
 use Rattle.js_base.specs.declared.kind.Kind.TheVariants.{Let}

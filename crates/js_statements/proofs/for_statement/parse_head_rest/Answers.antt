@@ -1,6 +1,6 @@
-use Rattle.std.proofs.Common.{arith, inl, inr, refl, ◌∙◌}
+use Rattle.std.proofs.Common.{arith, refl}
 use Rattle.std.proofs.lemmas.Result.{err_from_is_err_and}
-use Rattle.js_base.specs.declared.kind.Kind.TheVariants.{In, Of, RParen, Semicolon}
+use Rattle.js_base.specs.declared.kind.Kind.TheVariants.{In, Of, Semicolon}
 use Rattle.js_operands.proofs.Members.{stands_so}
 use Rattle.js_parsing.proofs.Moving.{standing}
 use Rattle.js_parsing.proofs.Nesting.{later_room, nested_room, nests_later}

@@ -1,4 +1,4 @@
-use Rattle.std.proofs.Common.{List, ◌∷◌, [], ap, arith, refl, subst, sym, ◌∙◌}
+use Rattle.std.proofs.Common.{◌∷◌, [], ap, arith, refl, subst, sym, ◌∙◌}
 use Rattle.std.proofs.lemmas.Result.{err_from_is_err_and}
 use Rattle.js_base.specs.declared.kind.Kind.TheVariants.{LBrack, LCurly, LParen, TemplateHead, TemplateMiddle}
 use Rattle.js_base.specs.declared.span.Span.{Span}
