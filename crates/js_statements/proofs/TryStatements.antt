@@ -41,7 +41,7 @@ use Rattle.js_cursor.specs.declared.stop.Stop.{Stop}
 use Rattle.js_cursor.specs.declared.stop.Stop.TheVariants.{Fatal, NoMemory}
 use Rattle.js_parsing.specs.Answers.{Numbered, Stops, Underived, unclean}
 use Rattle.js_parsing.specs.Classes.{IsEarly}
-use Rattle.js_parsing.specs.Lexemes.{Lex, spot}
+use Rattle.js_parsing.specs.Lexemes.{Lex, spot, nowhere}
 use Rattle.js_parsing.specs.Moves.{Moved, MadeHere, plain_label}
 use Rattle.js_parsing.specs.Stands.{StandsHere}
 use Rattle.js_parsing.specs.States.{At, Same, NodesLie}
