@@ -128,7 +128,9 @@ fn await_flags(is_await: bool) -> NodeFlags
     flags
 }
 
-/// The head of a `for` in its parentheses: its parts are put behind the children.
+/// The head of a `for` in its parentheses: its parts are put behind the children. It has a frame of its own, so that statements
+/// that nest have small ones.
+#[inline(never)]
 fn parse_paren_for_head<C: ParserConfig, N: Nested<C>>(
     p: &mut ParserImpl<'_, C>,
     nested: &N,
