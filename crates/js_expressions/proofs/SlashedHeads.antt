@@ -94,9 +94,13 @@ slash_so text s e i h = subst (λ (v : Bool). SlashFound text s e v) i h
 pub excluded_so : (place kept : ℕ) (q : Parser) {b r : Bool} → r ≡ b → OperandExcluded place kept q r → OperandExcluded place kept q b
 excluded_so place kept q e h = subst (λ (v : Bool). OperandExcluded place kept q v) e h
 
-pub excluded_noted : (place kept : ℕ) (q : Parser) (r : Bool) → r ≡ is_noted q.state.operands (has_flag await_flag q.ctx) (has_flag yield_flag q.ctx) place → OperandExcluded place kept q r
-excluded_noted place kept q true e = inr (inr (sym e))
-excluded_noted place kept q false e = tt
+-- it is noted, or no slash stands between
+pub excluded_noted : (place kept : ℕ) (q : Parser) {b : Bool} → b ≡ is_noted q.state.operands (has_flag await_flag q.ctx) (has_flag yield_flag q.ctx) place → b ≡ true → OperandExcluded place kept q true
+excluded_noted place kept q h e = inr (inr (sym h ∙ e))
+
+pub excluded_unslashed : (place kept : ℕ) (q : Parser) {e : ℕ} (b : Bool) → e ≡ q.token.span.start → SlashFound q.text place e b → OperandExcluded place kept q (not b)
+excluded_unslashed place kept q true i h = tt
+excluded_unslashed place kept q false i h = inr (inl (subst (λ (v : ℕ). NoSlash q.text place v) i h))
 
 module _ {p : Parser} (k : p.token.kind ≡ LParen) where
   -- by arguments that stand before `=>`

@@ -171,8 +171,9 @@ fn attempt_head<C: ParserConfig, N: Nested<C>>(
 }
 
 /// Whether no operand stands where a head was read from a place on, when so many diagnostics were kept. Where something
-/// was told of the head, that is known. Else lexemes might be read otherwise from that place, if a slash stands between,
-/// with which a regular expression may begin; but not where that was looked for before.
+/// was told of the head, that is known; so it is where it was looked for before, which is asked before the text is looked
+/// through. Else lexemes might be read otherwise from that place, if a slash stands between, with which a regular
+/// expression may begin.
 fn excludes_operand<C: ParserConfig>(p: &ParserImpl<'_, C>, place: u32, kept: usize) -> bool
     requires { Standing p.now }
     ensures { OperandExcluded place kept p.now result }
@@ -180,10 +181,10 @@ fn excludes_operand<C: ParserConfig>(p: &ParserImpl<'_, C>, place: u32, kept: us
     if kept_so_far(p) != kept {
         return true;
     }
-    if !has_slash(p.source_text, place, p.cur_start()) {
+    if p.operand_failed(place) {
         return true;
     }
-    p.operand_failed(place)
+    !has_slash(p.source_text, place, p.cur_start())
 }
 
 /// Whether a slash stands between two places.
