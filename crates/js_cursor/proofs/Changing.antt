@@ -22,7 +22,7 @@ use Rattle.js_cursor.proofs.StillKept.{still_itself, still_back, comments_back, 
 use Rattle.js_lex.specs.Kept.{lengths_of, first_kept}
 use Rattle.js_base.specs.declared.token.Token.{Token}
 use Rattle.js_cursor.specs.Places.{IsAt, KeptBefore}
-use Rattle.js_cursor.specs.Moves.{MovesOn, Enters, Leaves, NotesArrow, GivesUp}
+use Rattle.js_cursor.specs.Moves.{MovesOn, Enters, Leaves, NotesArrow, NotesNoOperand, GivesUp}
 use Rattle.js_cursor.proofs.Later.{keeps_follows, first_part, moves_on_follow, moved_at, may_go_back}
 
 -- ---- what stands after one change more
@@ -140,13 +140,16 @@ module _ {p : Parser} where
   pub noted_on : {place : ℕ} {q : Parser} → IsAt p → NotesArrow place p q → GoesOn p q
   noted_on {place} {q} a h = subst (GoesOn p) (sym h.is) (notes_set q.state [] [] a (h.noted.covers ∙ sym (append-nil p.state.covers)) (h.noted.commas ∙ sym (append-nil p.state.commas)) (record { covers = subst (λ v. StandBefore v p.token.span.start) (sym h.noted.covers) a.noted.covers; commas = subst (λ v. StandBefore v p.token.span.start) (sym h.noted.commas) a.noted.commas }))
 
+  pub operand_noted_on : {place : ℕ} {q : Parser} → IsAt p → NotesNoOperand place p q → GoesOn p q
+  operand_noted_on {place} {q} a h = subst (GoesOn p) (sym h.is) (notes_set q.state [] [] a (h.noted.covers ∙ sym (append-nil p.state.covers)) (h.noted.commas ∙ sym (append-nil p.state.commas)) (record { covers = subst (λ v. StandBefore v p.token.span.start) (sym h.noted.covers) a.noted.covers; commas = subst (λ v. StandBefore v p.token.span.start) (sym h.noted.commas) a.noted.commas }))
+
   -- what stays when a function gives up
   pub gave_up_on : {P : Diagnostic → Type 0} {q : Parser} → GivesUp P p q Fatal → GoesOn p q
   gave_up_on h = (keeps_follows h.2, h.2.at)
 
 -- ---- back
 
--- The parser is back where it was: what it had kept and noted there is what it keeps, nodes and failed heads aside.
+-- The parser is back where it was: what it had kept and noted there is what it keeps, nodes and what stands nowhere aside.
 pub record IsBack (p r : Parser) : Type 0 where
   pub text : r.text ≡ p.text
   pub source_type : r.source_type ≡ p.source_type

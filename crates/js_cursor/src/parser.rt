@@ -6,10 +6,10 @@ ghost use Rattle.js_grammar.specs.Lexemes.{template_tail};
 ghost use Rattle.js_base.specs.Sources.{is_goal};
 ghost use Rattle.js_base.specs.declared.source_type.Goal.TheVariants.{Unambiguous};
 ghost use Rattle.js_base.specs.Contexts.{has_flag, await_flag, yield_flag};
-ghost use Rattle.js_cursor.specs.Notes.{is_failed};
+ghost use Rattle.js_cursor.specs.Notes.{is_noted};
 ghost use Rattle.js_cursor.specs.Starts.{AtStart, Starts};
 ghost use Rattle.js_cursor.specs.Places.{IsAt};
-ghost use Rattle.js_cursor.specs.Moves.{IsWhole, Passed, Completed, ReadAgain, IsRegularExpression, Peeks, Told, MovesOn, OnlyMemory, Enters, Leaves, NotesArrow};
+ghost use Rattle.js_cursor.specs.Moves.{IsWhole, Passed, Completed, ReadAgain, IsRegularExpression, Peeks, Told, MovesOn, OnlyMemory, Enters, Leaves, NotesArrow, NotesNoOperand};
 
 use crate::kinds::{is_kind, is_last};
 use crate::state::ParserState;
@@ -256,7 +256,7 @@ impl<'a, C: ParserConfig> ParserImpl<'a, C> {
     /// Whether it is known that no head of an arrow function stands at a place, under the parameters Await and Yield that
     /// are in force.
     pub fn arrow_failed(&self, place: u32) -> bool
-        ensures { result ≡ is_failed self.now.state.failed (has_flag await_flag self.now.ctx) (has_flag yield_flag self.now.ctx) place }
+        ensures { result ≡ is_noted self.now.state.failed (has_flag await_flag self.now.ctx) (has_flag yield_flag self.now.ctx) place }
     {
         self.state
             .arrow_failed(self.ctx.has_await(), self.ctx.has_yield(), place)
@@ -271,6 +271,26 @@ impl<'a, C: ParserConfig> ParserImpl<'a, C> {
     {
         self.state
             .note_arrow_failed(self.ctx.has_await(), self.ctx.has_yield(), place)
+    }
+
+    /// Whether it is known that no operand stands at a place, since the head of an arrow function does, under the
+    /// parameters Await and Yield that are in force.
+    pub fn operand_failed(&self, place: u32) -> bool
+        ensures { result ≡ is_noted self.now.state.operands (has_flag await_flag self.now.ctx) (has_flag yield_flag self.now.ctx) place }
+    {
+        self.state
+            .operand_failed(self.ctx.has_await(), self.ctx.has_yield(), place)
+    }
+
+    /// Notes that none stands there, under the parameters that are in force. It stays noted when the parser goes back. The
+    /// only error is want of memory, and then all stays.
+    pub fn note_operand_failed(&mut self, place: u32) -> Result<(), NoMemory>
+        requires { IsAt self.old }
+        ensures ok { OnOk result (NotesNoOperand place self.old self.new) }
+        ensures err { OnErr result (self.new ≡ self.old) }
+    {
+        self.state
+            .note_operand_failed(self.ctx.has_await(), self.ctx.has_yield(), place)
     }
 
     /// Goes so many levels deeper. `NoMemory` exactly where that is deeper than `MAX_DEPTH`, and all then stays.

@@ -2,7 +2,7 @@
 
 ghost use Rattle.std.specs.Prelude.{◌≡◌, ℕ, Bool, false, [], ◌∷◌, ◌++◌, length, take, Some, OnOk, OnErr};
 ghost use Rattle.js_cursor.specs.Histories.{standing, without, Pops};
-ghost use Rattle.js_cursor.specs.Notes.{HasNone, NotesFailed, NotesHead, is_failed};
+ghost use Rattle.js_cursor.specs.Notes.{HasNone, NotesFailed, NotesOperand, NotesPlace, is_noted};
 
 use crate::history::History;
 use js_base::{NoMemory, Span};
@@ -20,28 +20,28 @@ pub struct CoverInitializer {
     pub init: NodeId,
 }
 
-/// The places at which no head of an arrow function was found, by the parameters Await and Yield.
+/// Places, by the parameters Await and Yield.
 #[derive(Drop)]
-pub(crate) struct FailedHeads {
+pub(crate) struct NotedPlaces {
     neither: BTreeSet<u32>,
     awaits: BTreeSet<u32>,
     yields: BTreeSet<u32>,
     both: BTreeSet<u32>,
 }
 
-impl Model for FailedHeads {
-    ghost use Rattle.js_cursor.specs.Notes.{Heads};
+impl Model for NotedPlaces {
+    ghost use Rattle.js_cursor.specs.Notes.{NotedAt};
 
-    ghost Value = { Heads };
+    ghost Value = { NotedAt };
 
     ghost view = { λ f. record { neither = f.neither.keys; awaits = f.awaits.keys; yields = f.yields.keys; both = f.both.keys } };
 }
 
-impl FailedHeads {
+impl NotedPlaces {
     fn new(alloc: Global) -> Self
-        ensures { (awaits : Bool) (yields : Bool) (place : ℕ) → is_failed result awaits yields place ≡ false }
+        ensures { (awaits : Bool) (yields : Bool) (place : ℕ) → is_noted result awaits yields place ≡ false }
     {
-        FailedHeads {
+        NotedPlaces {
             neither: BTreeSet::new(alloc),
             awaits: BTreeSet::new(alloc),
             yields: BTreeSet::new(alloc),
@@ -50,7 +50,7 @@ impl FailedHeads {
     }
 
     fn contains(&self, awaits: bool, yields: bool, place: u32) -> bool
-        ensures { result ≡ is_failed self.now awaits yields place }
+        ensures { result ≡ is_noted self.now awaits yields place }
     {
         match (awaits, yields) {
             (true, true) => self.both.contains(&place),
@@ -61,7 +61,7 @@ impl FailedHeads {
     }
 
     fn insert(&mut self, awaits: bool, yields: bool, place: u32) -> Result<(), NoMemory>
-        ensures ok { OnOk result (NotesHead awaits yields place self.old self.new) }
+        ensures ok { OnOk result (NotesPlace awaits yields place self.old self.new) }
         ensures err { OnErr result (self.new ≡ self.old) }
     {
         match (awaits, yields) {
@@ -74,12 +74,13 @@ impl FailedHeads {
     }
 }
 
-/// What a parser notes on its way: where no head of an arrow function was found, and the shorthands with `=` and the
-/// commas at the end of a list that are judged once it is known whether a target stands there. Contracts see it as
-/// `Notes`.
+/// What a parser notes on its way: where no head of an arrow function was found, where no operand was found, since such a
+/// head stands there, and the shorthands with `=` and the commas at the end of a list that are judged once it is known
+/// whether a target stands there. Contracts see it as `Notes`.
 #[derive(Drop)]
 pub struct ParserState {
-    failed: FailedHeads,
+    failed: NotedPlaces,
+    operands: NotedPlaces,
     covers: History<CoverInitializer>,
     commas: History<Span>,
 }
@@ -89,7 +90,7 @@ impl Model for ParserState {
 
     ghost Value = { Notes };
 
-    ghost view = { λ s. record { failed = s.failed; covers = s.covers; commas = s.commas } };
+    ghost view = { λ s. record { failed = s.failed; operands = s.operands; covers = s.covers; commas = s.commas } };
 }
 
 impl ParserState {
@@ -98,7 +99,8 @@ impl ParserState {
         ensures { HasNone result }
     {
         ParserState {
-            failed: FailedHeads::new(alloc),
+            failed: NotedPlaces::new(alloc),
+            operands: NotedPlaces::new(alloc),
             covers: History::new(alloc),
             commas: History::new(alloc),
         }
@@ -152,7 +154,7 @@ impl ParserState {
 
     /// Whether no head of an arrow function was found at a place, under these parameters.
     pub(crate) fn arrow_failed(&self, awaits: bool, yields: bool, place: u32) -> bool
-        ensures { result ≡ is_failed self.now.failed awaits yields place }
+        ensures { result ≡ is_noted self.now.failed awaits yields place }
     {
         self.failed.contains(awaits, yields, place)
     }
@@ -170,6 +172,26 @@ impl ParserState {
         self.failed.insert(awaits, yields, place)
     }
 
+    /// Whether no operand was found at a place, under these parameters.
+    pub(crate) fn operand_failed(&self, awaits: bool, yields: bool, place: u32) -> bool
+        ensures { result ≡ is_noted self.now.operands awaits yields place }
+    {
+        self.operands.contains(awaits, yields, place)
+    }
+
+    /// Notes that none was. The only error is want of memory, and then all stays.
+    pub(crate) fn note_operand_failed(
+        &mut self,
+        awaits: bool,
+        yields: bool,
+        place: u32,
+    ) -> Result<(), NoMemory>
+        ensures ok { OnOk result (NotesOperand awaits yields place self.old self.new) }
+        ensures err { OnErr result (self.new ≡ self.old) }
+    {
+        self.operands.insert(awaits, yields, place)
+    }
+
     /// How many changes made the shorthands.
     pub(crate) fn covers_len(&self) -> usize
         ensures { result ≡ length self.now.covers }
@@ -184,7 +206,7 @@ impl ParserState {
         self.commas.len()
     }
 
-    /// Takes back all changes but the first ones of each kind; where no head was found stays.
+    /// Takes back all changes but the first ones of each kind; where no head or no operand was found stays.
     pub(crate) fn truncate(&mut self, covers: usize, commas: usize)
         ensures { self.new ≡ record self.old { covers = take covers self.old.covers; commas = take commas self.old.commas } }
     {

@@ -510,6 +510,7 @@ enum Deed {
     Pop,
     Comma,
     Memo,
+    OperandMemo,
 }
 
 /// A shorthand at the text's start.
@@ -620,6 +621,15 @@ fn note_head(p: &mut Parser<'_>) -> Result<(), Stop>
     Ok(())
 }
 
+/// It is noted that no operand stands there.
+fn note_operand(p: &mut Parser<'_>) -> Result<(), Stop>
+    requires { IsAt p.old }
+    ensures { IfOk result (λ _. GoesOn p.old p.new) }
+{
+    p.note_operand_failed(0)?;
+    Ok(())
+}
+
 /// Does it. The place of what is noted is the text's start, before the current lexeme.
 fn make_deed(p: &mut Parser<'_>, deed: Deed) -> Result<(), Stop>
     requires at { IsAt p.old }
@@ -634,6 +644,7 @@ fn make_deed(p: &mut Parser<'_>, deed: Deed) -> Result<(), Stop>
         Deed::Cover => return keep_cover(p, other_cover()),
         Deed::Comma => return keep_comma(p),
         Deed::Memo => return note_head(p),
+        Deed::OperandMemo => return note_operand(p),
         Deed::Parameter => set_parameter(p),
         Deed::Take => take_cover(p),
         Deed::Pop => pop_cover(p),
@@ -661,6 +672,7 @@ struct Shown {
     yields: bool,
     depth: u32,
     failed: bool,
+    operand_failed: bool,
     comma: Option<Span>,
     first: Option<CoverInitializer>,
     second: Option<CoverInitializer>,
@@ -675,24 +687,27 @@ fn show(p: &mut Parser<'_>) -> Shown {
         yields: p.ctx.has_yield(),
         depth: p.depth,
         failed: p.arrow_failed(0),
+        operand_failed: p.operand_failed(0),
         comma: p.state.trailing_comma(0),
         first: p.state.pop_cover_initializer(),
         second: p.state.pop_cover_initializer(),
     }
 }
 
-/// The deed, and whether it is known afterwards that no head of an arrow function stands at the text's start.
-static DEEDS: [(Deed, bool); 10] = [
-    (Deed::Move, false),
-    (Deed::Diagnostic, false),
-    (Deed::Visit, false),
-    (Deed::Parameter, false),
-    (Deed::Enter, false),
-    (Deed::Cover, false),
-    (Deed::Take, false),
-    (Deed::Pop, false),
-    (Deed::Comma, false),
-    (Deed::Memo, true),
+/// The deed, and whether it is known afterwards that no head of an arrow function, or no operand, stands at the text's
+/// start.
+static DEEDS: [(Deed, bool, bool); 11] = [
+    (Deed::Move, false, false),
+    (Deed::Diagnostic, false, false),
+    (Deed::Visit, false, false),
+    (Deed::Parameter, false, false),
+    (Deed::Enter, false, false),
+    (Deed::Cover, false, false),
+    (Deed::Take, false, false),
+    (Deed::Pop, false, false),
+    (Deed::Comma, false, false),
+    (Deed::Memo, true, false),
+    (Deed::OperandMemo, false, true),
 ];
 
 /// Notes a shorthand, does a deed and goes back.
@@ -708,7 +723,7 @@ fn there_and_back(p: &mut Parser<'_>, deed: Deed) -> Result<(), Stop>
 
 #[test]
 fn deeds(rt: HostRuntime) {
-    for &(deed, failed) in &DEEDS {
+    for &(deed, failed, operand_failed) in &DEEDS {
         match Parser::new(
             rt.alloc(),
             " a /*1*/ 'b",
@@ -726,6 +741,7 @@ fn deeds(rt: HostRuntime) {
                     yields: false,
                     depth: 0,
                     failed,
+                    operand_failed,
                     comma: None,
                     first: Some(cover()),
                     second: None,

@@ -140,7 +140,7 @@ pub record Underway (text : List ℕ) (f : Flags) (c : Bool) (p q : Parser) (ids
   pub holds : HoldsAll q.nodes (length p.nodes) (length q.nodes) ids prefix
   pub keeps : Keeps p.nodes q.nodes
 
-underway_init : {text : List ℕ} {f : Flags} {c : Bool} {p : Parser} → At text f p → Underway text f c p p []
+pub underway_init : {text : List ℕ} {f : Flags} {c : Bool} {p : Parser} → At text f p → Underway text f c p p []
 underway_init {p = p} a = record { at = a; same = same_itself; forward = omega arith; prefix = end; pass = λ ls. ls; walked = nowhere; verdict = clean refl (record { goes = λ e us through w i. w; fails = λ n. n }); holds = HoldsAll-none p.nodes (length p.nodes) (length p.nodes) (omega arith); keeps = Keeps-refl p.nodes }
 
 module _ {text : List ℕ} {f : Flags} {c : Bool} {p q v : Parser} {ids : List (Option NodeId)} {id : NodeId} (s : Underway text f c p q ids) (x : Declarator text f c q v id) where
@@ -148,7 +148,7 @@ module _ {text : List ℕ} {f : Flags} {c : Bool} {p q v : Parser} {ids : List (
   held = HoldsAll-next id x.keeps s.holds x.holds
 
   -- no comma stands behind it
-  underway_end : (v.token.kind ≡ Comma → ⊥) → Declarators text f c p v (ids ++ Some id ∷ [])
+  pub underway_end : (v.token.kind ≡ Comma → ⊥) → Declarators text f c p v (ids ++ Some id ∷ [])
   underway_end n = record {
     at = x.at;
     same = same_both s.same x.same;
@@ -171,7 +171,7 @@ module _ {text : List ℕ} {f : Flags} {c : Bool} {p q v : Parser} {ids : List (
       fails = λ w. u.fails (none_next c y x.comma (commas_here x.at k) (none_behind (comma_goes c x.at k m) w));
     }
 
-    underway_step : Underway text f c p r (ids ++ Some id ∷ [])
+    pub underway_step : Underway text f c p r (ids ++ Some id ∷ [])
     underway_step = record {
       at = m.at;
       same = same_both s.same (same_both x.same m.same);

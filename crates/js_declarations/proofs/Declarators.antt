@@ -36,7 +36,7 @@ use Rattle.js_base.specs.declared.diagnostic.DiagnosticClass.TheVariants.{Early}
 use Rattle.js_base.specs.Diagnostics.{class_of}
 use Rattle.js_cursor.specs.Moves.{Keeps as KeepsOne}
 use Rattle.js_parsing.specs.Answers.{Grown, Verdict, Stretch, Underived, Answer, Numbered, Stops, beside, unclean}
-use Rattle.js_parsing.specs.Lexemes.{Lex, Walked, name_kinds, spot}
+use Rattle.js_parsing.specs.Lexemes.{Lex, Walked, name_kinds, spot, Plain}
 use Rattle.js_parsing.specs.Moves.{Moved, MadeHere, plain_label}
 use Rattle.js_parsing.specs.Stands.{NameHere}
 use Rattle.js_parsing.specs.States.{At, Same, NodesLie}
@@ -53,12 +53,12 @@ use Rattle.js_parsing.proofs.Moving.{beside_nodes, same_both, same_with, stops_b
 use Rattle.js_parsing.proofs.Paths.{fails_at, label_here, not_here, skips, walked_both, walked_one, walked_to}
 use Rattle.js_parsing.proofs.Phrases.{narrow_assignment, narrow_operand}
 use Rattle.js_parsing.proofs.Signs.{other_kind, plain_sign}
-use Rattle.js_parsing.proofs.Tight.{narrows, read_plain}
+use Rattle.js_parsing.proofs.Tight.{narrows, read_plain, plain_is_read, plain_lex}
 use Rattle.js_parsing.proofs.Told.{told_at, told_same}
 use Rattle.js_parsing.proofs.Verdicts.{and_then, behind_none, either_way, grown_then, verdict_of}
 use Rattle.js_parsing.proofs.Verdicts.{after as grown_behind}
 
-eq_plain : (is_word Eq || same_kind PrivateIdentifier Eq) ≡ false
+pub eq_plain : (is_word Eq || same_kind PrivateIdentifier Eq) ≡ false
 unfolding words
 eq_plain = refl
 
@@ -76,19 +76,19 @@ abbrev initialised : Flags → G
 initialised f = symbol Binding f ▸ symbol Init f
 
 -- a name that is bound is what is bound
-as_binding : {f : Flags} {ks ts us : Slots} {i j : ℕ} {ls rest : Lexemes} → Takes rule (symbol BindingIdentifier f) ks ts i ls us j rest → Takes rule (symbol Binding f) ks ts i ls us j rest
+pub as_binding : {f : Flags} {ks ts us : Slots} {i j : ℕ} {ls rest : Lexemes} → Takes rule (symbol BindingIdentifier f) ks ts i ls us j rest → Takes rule (symbol Binding f) ks ts i ls us j rest
 unfolding rule rule_of
 as_binding (is_such d t) = is_such (is_left (is_such d refl)) refl
 
 -- what is derived of a name alone
-record NameAlone (f : Flags) (c : Bool) (ts us : Slots) (s : ℕ) (ls : Lexemes) (k : ℕ) (rest : Lexemes) : Type 0 where
-  no_constant : c ≡ false
-  label : Label
-  slots : Slots
-  is : ts ≡ tree label slots (hole us)
-  taken : Takes rule (symbol BindingIdentifier f) end (tree label slots (hole us)) s ls (hole us) k rest
+pub record NameAlone (f : Flags) (c : Bool) (ts us : Slots) (s : ℕ) (ls : Lexemes) (k : ℕ) (rest : Lexemes) : Type 0 where
+  pub no_constant : c ≡ false
+  pub label : Label
+  pub slots : Slots
+  pub is : ts ≡ tree label slots (hole us)
+  pub taken : Takes rule (symbol BindingIdentifier f) end (tree label slots (hole us)) s ls (hole us) k rest
 
-name_alone : {f : Flags} (c : Bool) {ts us : Slots} {s k : ℕ} {ls rest : Lexemes} → Takes rule (bare c f) end ts s ls us k rest → NameAlone f c ts us s ls k rest
+pub name_alone : {f : Flags} (c : Bool) {ts us : Slots} {s k : ℕ} {ls rest : Lexemes} → Takes rule (bare c f) end ts s ls us k rest → NameAlone f c ts us s ls k rest
 name_alone false (is_seq (is_such {l = l} {cs = ds} d t) is_empty_slot) = record { no_constant = refl; label = l; slots = ds; is = refl; taken = is_such d t }
 name_alone true d = elim d [ ]
 
@@ -117,7 +117,7 @@ eq_apart = refl
 goes_on_with : {text : List ℕ} {f : Flags} {q : Parser} → At text f q → q.token.kind ≡ Eq → (y : Lexeme) → Lex text q.prev_token_end y → IsTrue (seen (behind_row after_declarator) y) → ⊥
 goes_on_with a k y l h = not_both an_eq (behind_row after_declarator) eq_apart y.kind y.newline y.escaped (subst (λ (v : Kind). same_kind Eq v ≡ true) (sym (kind_here a k refl y l)) refl) h
 
-no_eq_here : {text : List ℕ} {f : Flags} {q : Parser} → At text f q → (q.token.kind ≡ Eq → ⊥) → (y : Lexeme) → Lex text q.prev_token_end y → IsTrue (seen (is Eq) y) → ⊥
+pub no_eq_here : {text : List ℕ} {f : Flags} {q : Parser} → At text f q → (q.token.kind ≡ Eq → ⊥) → (y : Lexeme) → Lex text q.prev_token_end y → IsTrue (seen (is Eq) y) → ⊥
 unfolding apart
 no_eq_here {q = q} a n y l h = not_here a (Eq ∷ []) refl (other_kind Eq q.token.kind n) y l (or_left (same_kind Eq y.kind) false (and_parts (same_kind Eq y.kind) (not y.escaped) h).0)
 
@@ -154,11 +154,11 @@ value_stops r = at_row (λ r. covers (ends_value r) (stops_row r)) refl r
 -- ---- what was read of it
 
 module _ {text : List ℕ} {f : Flags} {p q : Parser} (a : At text f p) (x : Answer text f (at Binding f) p q) where
-  abbrev BindingRead : Type 0
+  abbrev pub BindingRead : Type 0
   BindingRead = Stretch text (after (at Binding f)) (such (at Binding f) always) p.prev_token_end nothing q.prev_token_end (tree x.label x.slots) x.pass
 
   -- whatever is bound there is this
-  bound : BindingRead → (ts us : Slots) (j : ℕ) (ls mid : Lexemes) → Lexes (Lex text) p.prev_token_end ls → Takes rule (symbol Binding f) end ts p.prev_token_end ls us j mid → (ts ≡ tree x.label x.slots us) × (j ≡ q.prev_token_end) × Lexes (Lex text) q.prev_token_end mid × (ls ≡ x.pass mid)
+  pub bound : BindingRead → (ts us : Slots) (j : ℕ) (ls mid : Lexemes) → Lexes (Lex text) p.prev_token_end ls → Takes rule (symbol Binding f) end ts p.prev_token_end ls us j mid → (ts ≡ tree x.label x.slots us) × (j ≡ q.prev_token_end) × Lexes (Lex text) q.prev_token_end mid × (ls ≡ x.pass mid)
   bound u ts us j ls mid lx d = let z = u.goes.only ts us j ls mid lx d (refl, refl) in let n = ends z.4 in (z.2 ∙ ap (λ (v : Slots). tree x.label x.slots v) n.0, sym n.1, subst (λ (v : Lexemes). Lexes (Lex text) q.prev_token_end v) n.2 z.3, z.5 ∙ ap x.pass n.2)
 
 abbrev labelled : ℕ → ℕ → Label
@@ -175,7 +175,7 @@ three_passed f g h a b c d = a ∙ ap f (b ∙ ap g (c ∙ ap h d))
 -- ---- with an initialiser
 
 module _ {text : List ℕ} {f : Flags} {p q r : Parser} (a : At text f p) (x : Answer text f (at Binding f) p q) (k : q.token.kind ≡ Eq) (m : Moved text f q r) where
-  sign_passed : Goes rule (Lex text) (plain full) end (tok Eq ▸ symbol Assignment f) q.prev_token_end (symbol Assignment f) r.prev_token_end (λ us. us) (passing m.lexeme)
+  pub sign_passed : Goes rule (Lex text) (plain full) end (tok Eq ▸ symbol Assignment f) q.prev_token_end (symbol Assignment f) r.prev_token_end (λ us. us) (passing m.lexeme)
   sign_passed = skips x.at Eq k (plain_sign Eq x.at k refl refl eq_plain) refl m
 
   not_bare : (c : Bool) → BindingRead a x → (cs : Slots) (j : ℕ) (ls rest : Lexemes) → Lexes (Lex text) p.prev_token_end ls → Takes rule (bare c f) end cs p.prev_token_end ls end j rest → IsTrue (seen (behind_row (edge after_expression after_declarator cs)) (here rest)) → ⊥
@@ -238,12 +238,12 @@ module _ {text : List ℕ} {f : Flags} {p q r : Parser} (a : At text f p) (x : A
 -- ---- without one
 
 module _ {text : List ℕ} {f : Flags} {p q : Parser} (a : At text f p) (x : Answer text f (at Binding f) p q) (n : q.token.kind ≡ Eq → ⊥) where
-  not_initialised : BindingRead a x → (cs : Slots) (k : ℕ) (ls rest : Lexemes) → Lexes (Lex text) p.prev_token_end ls → Takes rule (initialised f) end cs p.prev_token_end ls end k rest → ⊥
+  pub not_initialised : BindingRead a x → (cs : Slots) (k : ℕ) (ls rest : Lexemes) → Lexes (Lex text) p.prev_token_end ls → Takes rule (initialised f) end cs p.prev_token_end ls end k rest → ⊥
   unfolding rule rule_of
   not_initialised u cs k ls rest lx (is_seq {us = ws} {j = j} {mid = mid} b (is_such (is_seq (is_lexeme {x = z} e) i) t)) = let g = bound a x u cs ws j ls mid lx b in no_eq_here x.at n z g.2.0 e
 
   -- no name stands here
-  no_name : {X : Test} → NameHere p false → Fails rule (Lex text) X end (symbol BindingIdentifier f) p.prev_token_end
+  pub no_name : {X : Test} → NameHere p false → Fails rule (Lex text) X end (symbol BindingIdentifier f) p.prev_token_end
   unfolding covers apart
   no_name {X} h = by p.token.escaped refl
     where
@@ -265,7 +265,7 @@ module _ {text : List ℕ} {f : Flags} {p q : Parser} (a : At text f p) (x : Ans
 
   module _ (h : NameHere p true) where
     -- what is bound there is a name
-    named : {ts us : Slots} {j : ℕ} {ls rest : Lexemes} → Lexes (Lex text) p.prev_token_end ls → Takes rule (symbol Binding f) end ts p.prev_token_end ls us j rest → Takes rule (symbol BindingIdentifier f) end ts p.prev_token_end ls us j rest
+    pub named : {ts us : Slots} {j : ℕ} {ls rest : Lexemes} → Lexes (Lex text) p.prev_token_end ls → Takes rule (symbol Binding f) end ts p.prev_token_end ls us j rest → Takes rule (symbol BindingIdentifier f) end ts p.prev_token_end ls us j rest
     unfolding rule rule_of covers apart
     named lx (is_such (is_left (is_such d t)) t') = is_such d refl
     named {j = j} {ls = ls} {rest = rest} lx (is_such {l = l} {cs = cs} (is_right d) t') = absurd ((fails_at a {X = plain full} (symbol Pattern f) (LBrack ∷ LCurly ∷ []) refl (no_pattern_name p.token.kind (listed_here p h))).no (tree l cs end) end j ls rest lx d (refl, refl))
@@ -293,7 +293,7 @@ module _ {text : List ℕ} {f : Flags} {p q : Parser} (a : At text f p) (x : Ans
 -- a node of a declarator was made
 declared : {text : List ℕ} {f : Flags} {c : Bool} {p w : Parser} (q : Parser) {l : Label} {cs : Slots} {id : NodeId} {pass : Lexemes → Lexemes} → At text f q → Same p q → p.token.span.start < q.prev_token_end → Walked text (spot p) (spot q) pass
     → Verdict p.errors q.errors (One text (declarator c f) p.prev_token_end q.prev_token_end l cs pass) (NoOne text (declarator c f) p.prev_token_end) → apart (is Comma) (ends_row (row_of l cs)) ≡ true
-    → (f.in_ ≡ true → (q.token.kind ≡ Comma → ⊥) → (y : Lexeme) → Lex text q.prev_token_end y → IsTrue (seen (stops_row (row_of l cs)) y)) → w ≡ record q { nodes = w.nodes } → Holds w.nodes (length p.nodes) (length w.nodes) id.0 l cs → Keeps p.nodes w.nodes
+    → (f.in_ ≡ true → (q.token.kind ≡ Comma → ⊥) → (y : Lexeme) → Plain text q.prev_token_end y → IsTrue (seen (stops_row (row_of l cs)) y)) → w ≡ record q { nodes = w.nodes } → Holds w.nodes (length p.nodes) (length w.nodes) id.0 l cs → Keeps p.nodes w.nodes
     → (IsCharBoundary p.text p.token.span.start → NodesLie q.text q.nodes → NodesLie q.text w.nodes) → Declarator text f c p w id
 declared {text} {f} {c} {p} {w} q {l} {cs} {id} {pass} at same further walked verdict comma stops m h k i = go w.nodes m h k i
   where
@@ -314,19 +314,19 @@ declared {text} {f} {c} {p} {w} q {l} {cs} {id} {pass} at same further walked ve
     })
 
 -- nothing goes on with an initialiser that no comma stands behind
-value_ends : {text : List ℕ} {f : Flags} {r v : Parser} → (y : Answer text f (at Assignment f) r v) → f.in_ ≡ true → (v.token.kind ≡ Comma → ⊥) → (z : Lexeme) → Lex text v.prev_token_end z → IsTrue (seen (stops_row (row_of y.label y.slots)) z)
+value_ends : {text : List ℕ} {f : Flags} {r v : Parser} → (y : Answer text f (at Assignment f) r v) → f.in_ ≡ true → (v.token.kind ≡ Comma → ⊥) → (z : Lexeme) → Plain text v.prev_token_end z → IsTrue (seen (stops_row (row_of y.label y.slots)) z)
 unfolding covers apart
 value_ends {text} {f} {r} {v} y i n z l =
     let row = row_of y.label y.slots in
     let s = narrows 2 1 (Comma ∷ []) f.in_ row (narrow_assignment 2 1 (Comma ∷ []) (narrow_operand 2 1 (Comma ∷ []) refl refl refl refl) refl refl refl refl f.in_ row y.row) z l.1 (no_comma (one_of_kinds (Comma ∷ []) z.kind) refl) (y.stops z l) in
-    covered (ends_value row) (stops_row row) (value_stops row) z.kind z.newline z.escaped (and_from _ _ (ap not (read_plain z l.1)) (subst (λ (b : Bool). IsTrue (seen (looser 1 b row) z || seen beside z)) i s))
+    covered (ends_value row) (stops_row row) (value_stops row) z.kind z.newline z.escaped (and_from _ _ (ap not (read_plain z (plain_is_read z l.1))) (subst (λ (b : Bool). IsTrue (seen (looser 1 b row) z || seen beside z)) i s))
   where
     no_comma : (b : Bool) → one_of_kinds (Comma ∷ []) z.kind ≡ b → one_of_kinds (Comma ∷ []) z.kind ≡ false
-    no_comma true e = absurd (not_here y.at (Comma ∷ []) refl (other_kind Comma v.token.kind n) z l e)
+    no_comma true e = absurd (not_here y.at (Comma ∷ []) refl (other_kind Comma v.token.kind n) z (plain_lex l) e)
     no_comma false e = e
 
 -- nor with a name alone that neither stands behind
-name_ends : {text : List ℕ} {f : Flags} {q : Parser} → At text f q → (q.token.kind ≡ Eq → ⊥) → (q.token.kind ≡ Comma → ⊥) → (y : Lexeme) → Lex text q.prev_token_end y → IsTrue (seen (stops_row after_declarator) y)
+name_ends : {text : List ℕ} {f : Flags} {q : Parser} → At text f q → (q.token.kind ≡ Eq → ⊥) → (q.token.kind ≡ Comma → ⊥) → (y : Lexeme) → Plain text q.prev_token_end y → IsTrue (seen (stops_row after_declarator) y)
 unfolding apart
 name_ends {q = q} a n m y l = or_right (one_of_kinds link_kinds y.kind) _ (ap not (neither (one_of_kinds (Eq ∷ Comma ∷ []) y.kind) refl))
   where
@@ -338,12 +338,12 @@ name_ends {q = q} a n m y l = or_right (one_of_kinds link_kinds y.kind) _ (ap no
         by false e = other_kind Comma q.token.kind m
 
     neither : (b : Bool) → one_of_kinds (Eq ∷ Comma ∷ []) y.kind ≡ b → one_of_kinds (Eq ∷ Comma ∷ []) y.kind ≡ false
-    neither true e = absurd (not_here a (Eq ∷ Comma ∷ []) refl none y l e)
+    neither true e = absurd (not_here a (Eq ∷ Comma ∷ []) refl none y (plain_lex l) e)
     neither false e = e
 
 module _ {text : List ℕ} {f : Flags} {p q : Parser} {binding : NodeId} (a : At text f p) (x : Numbered text f (at Binding f) p q binding) where
   module _ {r : Parser} (k : q.token.kind ≡ Eq) (m : Moved text f q r) where
-    initialiser_none : (c : Bool) → Underived text (at Assignment f) r.prev_token_end → NoOne text (declarator c f) p.prev_token_end
+    pub initialiser_none : (c : Bool) → Underived text (at Assignment f) r.prev_token_end → NoOne text (declarator c f) p.prev_token_end
     initialiser_none c n = either_way x.answer.verdict (λ u. no_value a x.answer k m c u n) (λ b. unbound c b)
 
     pub initialiser_stops : (c : Bool) (v : Parser) (e : Stop) → Stops r v e (Underived text (at Assignment f) r.prev_token_end) → Stops p v e (NoOne text (declarator c f) p.prev_token_end)

@@ -1,3 +1,4 @@
 pub mod DeclaratorLists
 pub mod Declarators
+pub mod HeadDeclarators
 pub mod SpansMarked

@@ -8,38 +8,25 @@ use Rattle.js_base.specs.declared.source_type.SourceType.{SourceType}
 use Rattle.js_base.specs.declared.span.Span.{Span}
 use Rattle.js_grammar.specs.Grammar.{Lexemes}
 use Rattle.js_grammar.specs.LexicalFaults.{Reached}
-use Rattle.js_grammar.specs.Marks.{EdgeOf, Mark, StandsAt, a_lexeme, the_end, the_start}
+use Rattle.js_grammar.specs.Marks.{EdgeOf, Mark, StandsAt, the_start}
 use Rattle.js_grammar.specs.Productions.{Flags}
-use Rattle.js_grammar.specs.Settings.{Goal}
 use Rattle.js_lex.specs.States.{goal_of}
 use Rattle.js_cursor.specs.Moves.{at_lexeme}
 use Rattle.js_cursor.specs.Parsers.{Parser}
 use Rattle.js_cursor.specs.Places.{goal}
-use Rattle.js_cursor.proofs.Moving.{reached_next}
 use Rattle.js_cursor.proofs.Standing.{counts}
-use Rattle.js_parsing.specs.Lexemes.{Spot, Walked, nowhere, one_more, more_faults, spot}
+use Rattle.js_parsing.specs.Lexemes.{Walked, spot}
 use Rattle.js_parsing.specs.States.{At, Same}
 use Rattle.js_parsing.specs.Told.{unrelated_at}
+use Rattle.js_parsing.proofs.Edges.{last_edge}
 use Rattle.js_declarations.specs.Declarations.{missing, no_initialiser}
-
--- what is walked to from a place that is reached is reached
-reached_along : {text : List ℕ} {s e : Spot} {pass : Lexemes → Lexemes} → Walked text s e pass → Reached text s.place → Reached text e.place
-reached_along nowhere r = r
-reached_along (one_more w i) r = reached_next (reached_along w r) i.stood
-reached_along (more_faults w ds n) r = reached_along w r
-
--- and a lexeme ends there
-ends_along : {text : List ℕ} {s e : Spot} {pass : Lexemes → Lexemes} (source : Goal) → Walked text s e pass → Reached text s.place → s.place < e.place → EdgeOf source text e.place
-ends_along source nowhere r h = absurd (omega arith)
-ends_along source (one_more w i) r h = the_end (a_lexeme (reached_along w r) i.stood) refl
-ends_along source (more_faults w ds n) r h = ends_along source w r h
 
 module _ {text : List ℕ} {f : Flags} {p q : Parser} {pass : Lexemes → Lexemes} (a : At text f p) (n : p.token.kind ≡ Undetermined → ⊥) (b : At text f q) (c : Same p q) (w : Walked text (spot p) (spot q) pass) (l : p.token.span.start < q.prev_token_end) where
   pub span_marked : (k : DiagnosticKind) (s : Span) {d : Diagnostic} → d ≡ unrelated_at k s → ((s : Span) → EdgeOf (goal p) p.text s.start → EdgeOf (goal p) p.text s.end → StandsAt k (goal p) p.text s None None) → s.start ≡ p.token.span.start → s.end ≡ q.prev_token_end → Mark (goal q) q.text d
   span_marked k s {d} g h i j = subst (λ (t : List ℕ). Mark (goal q) t d) (sym c.follows.text) (subst (λ (v : SourceType). Mark (goal_of v) p.text d) (sym c.follows.source_type) (subst (λ (v : Diagnostic). Mark (goal p) p.text v) (sym g) it))
     where
       ending : EdgeOf (goal p) p.text q.prev_token_end
-      ending = subst (λ (t : List ℕ). EdgeOf (goal p) t q.prev_token_end) (sym a.text_is) (ends_along (goal p) w (subst (λ (t : List ℕ). Reached t p.prev_token_end) a.text_is a.at.reached) (let e = a.behind in omega arith))
+      ending = subst (λ (t : List ℕ). EdgeOf (goal p) t q.prev_token_end) (sym a.text_is) (last_edge w (subst (λ (t : List ℕ). Reached t p.prev_token_end) a.text_is a.at.reached) (let e = a.behind in omega arith))
 
       it : Mark (goal p) p.text (unrelated_at k s)
       it =

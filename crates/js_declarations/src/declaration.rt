@@ -87,7 +87,7 @@ fn parse_variable_declarator<C: ParserConfig, N: Nested<C>>(
 }
 
 /// A declarator without an initialiser, whose span is that of what is bound.
-fn make_bare_declarator<C: ParserConfig>(
+pub(crate) fn make_bare_declarator<C: ParserConfig>(
     p: &mut ParserImpl<'_, C>,
     kind: DeclarationKind,
     is_name: bool,

@@ -2,3 +2,4 @@
 #![tactic(auto)]
 
 pub mod declaration;
+pub mod head;

@@ -1,5 +1,5 @@
 -- Answers of assignments to array and object targets (ECMA-262, 13.15.5).
-use Rattle.std.proofs.Common.{ℕ, ◌≡◌, List, [], ◌∷◌, ◌+◌, ◌-◌, length, Bool, true, false, not, Some, refl, sym, ap, subst, arith, ◌∙◌}
+use Rattle.std.proofs.Common.{ℕ, ◌≡◌, List, [], ◌∷◌, ◌+◌, ◌-◌, length, true, false, not, Some, refl, sym, ap, subst, ◌∙◌}
 use Rattle.std.proofs.lemmas.Bool.{and_parts, and_from}
 use Rattle.js_base.specs.declared.kind.Kind.{Kind}
 use Rattle.js_base.specs.declared.kind.Kind.TheVariants.{Eq}
@@ -15,7 +15,7 @@ use Rattle.js_grammar.specs.Productions.{Flags, at, tok, Assignment, Short, Arra
 use Rattle.js_grammar.specs.Productions.{sym as symbol}
 use Rattle.js_grammar.specs.Table.{rule}
 use Rattle.js_grammar.specs.Follow.{after}
-use Rattle.js_grammar.proofs.Calculus.{Between, Inside, inside_full, ◌▹◌, ◌▹✗◌, left, right, fails_alt, fails_node, then_by, part_fails, weaken_fails_on}
+use Rattle.js_grammar.proofs.Calculus.{Between, Inside, inside_full, ◌▹◌, ◌▹✗◌, left, right, fails_node, then_by, part_fails, weaken_fails_on}
 use Rattle.js_grammar.proofs.FollowLaws.{fails_by}
 use Rattle.js_tree.specs.declared.id.NodeId.{NodeId}
 use Rattle.js_tree.specs.declared.kind.NodeKind.TheVariants as node
@@ -33,8 +33,10 @@ use Rattle.js_parsing.specs.States.{At}
 use Rattle.js_targets.specs.Targets.{is_object, is_literal}
 use Rattle.js_expressions.specs.Rests.{OnlyOperand}
 use Rattle.js_targets.proofs.Refused.{literal_no_target}
-use Rattle.js_targets.proofs.ArraysBeforeSigns.{array_slots, array_part, is_cover, not_wide}
-use Rattle.js_targets.proofs.ArraysConverted.{signs, no_other_there, no_target_unread}
+use Rattle.js_targets.proofs.ArraysBeforeSigns.{array_slots, array_part}
+use Rattle.js_targets.proofs.ArraysConverted.{signs}
+use Rattle.js_targets.proofs.HeadTargets.{converted_path, neither, no_other, of_either}
+use Rattle.js_targets.proofs.TargetsTaken.{assign_behind}
 use Rattle.js_targets.proofs.Assigned.{assign_part, no_branch, not_target, to_parts}
 use Rattle.js_expressions.proofs.Assignments.{all_assign, no_question, on_second, plain_here, second}
 use Rattle.js_expressions.proofs.Conditionals.{no_conditional}
@@ -42,8 +44,7 @@ use Rattle.js_parsing.proofs.MadeNodes.{two_held, one_lies}
 use Rattle.js_parsing.proofs.Moving.{same_both}
 use Rattle.js_operands.proofs.Operands.{by_path}
 use Rattle.js_parsing.proofs.Paths.{Path, ◌⟼◌, ◌⟶◌, ◌⟶✗◌, label_here, last_called, noded_by, token}
-use Rattle.js_targets.proofs.Targets.{kind_of_literal}
-use Rattle.js_parsing.proofs.Verdicts.{either_way, verdict_of}
+use Rattle.js_parsing.proofs.Verdicts.{verdict_of}
 
 -- as much is left where the place is the same
 pub room_same : {text : List ℕ} {f g : Flags} {p q : Parser} → At text f p → At text g q → q.prev_token_end ≡ p.prev_token_end → room q ≡ room p
@@ -58,20 +59,11 @@ inside_array f s = record { ends = λ p cs vs j ls mid d e. go p cs vs d e }
     go p cs vs (is_seq (is_left (is_such a b)) (is_seq (is_lexeme c) (is_such d e))) x = x
     go p cs vs (is_seq (is_right (is_such a b)) (is_seq (is_lexeme c) (is_such d e))) x = x
 
-before_equals : (f : Flags) (X : Test) (s : ℕ) → Between rule X signs end (alt (symbol ArrayTarget f) (symbol ObjectTarget f)) (tok Eq ▸ symbol Assignment f) s
+before_equals : (f : Flags) (X : Test) (s : ℕ) → Between rule X (signs f) end (alt (symbol ArrayTarget f) (symbol ObjectTarget f)) (tok Eq ▸ symbol Assignment f) s
 before_equals f X s = record { admits = λ ts us vs j k ls mid rest d d' e. go ts d' }
   where
-    go : (ts : Slots) {us vs : Slots} {j k : ℕ} {mid rest : Lexemes} → Takes rule (tok Eq ▸ symbol Assignment f) end us j mid vs k rest → Admits signs ts (here mid)
-    go ts (is_seq (is_lexeme {x = x} q) d) = let z = and_parts (same_kind Eq x.kind) (not x.escaped) q in (and_from (one_of_kinds assign_operators x.kind) (not x.escaped) (subst (λ (k : Kind). one_of_kinds assign_operators k ≡ true) (kind_of_same Eq x.kind z.0) refl) z.1, refl)
-
--- of the two kinds of targets one fails
-neither : {text : List ℕ} {f : Flags} {s : ℕ} (o : Bool) → Fails rule (Lex text) signs end (such (at (target_name o) f) always) s → Fails rule (Lex text) signs end (such (at (target_name (not o)) f) always) s → Fails rule (Lex text) signs end (alt (symbol ArrayTarget f) (symbol ObjectTarget f)) s
-neither false n m = fails_alt n m
-neither true n m = fails_alt m n
-
-of_either : {text : List ℕ} {f : Flags} {p r : Parser} {g : Slots → Slots} (o : Bool) → Fails rule (Lex text) signs end (such (at (target_name (not o)) f) always) p.prev_token_end → Path text f signs (such (at (target_name o) f) always) p nothing r g → Path text f signs (alt (symbol ArrayTarget f) (symbol ObjectTarget f)) p nothing r g
-of_either false n t = left n ⟼ t
-of_either true n t = right n ⟼ t
+    go : (ts : Slots) {us vs : Slots} {j k : ℕ} {mid rest : Lexemes} → Takes rule (tok Eq ▸ symbol Assignment f) end us j mid vs k rest → Admits (signs f) ts (here mid)
+    go ts (is_seq (is_lexeme {x = x} q) d) = let z = and_parts (same_kind Eq x.kind) (not x.escaped) q in (assign_behind f.in_ x (and_from (one_of_kinds assign_operators x.kind) (not x.escaped) (subst (λ (k : Kind). one_of_kinds assign_operators k ≡ true) (kind_of_same Eq x.kind z.0) refl) z.1), refl)
 
 module _ {text : List ℕ} {f : Flags} {p q : Parser} (x : Answer text f (at Short f) p q) (na : OnlyOperand text f p.prev_token_end) (c : q.cut ≡ false) (k : q.token.kind ≡ Eq) (h : is_literal x.label.kind ≡ true) where
   listed : one_of_kinds assign_operators q.token.kind ≡ true
@@ -80,19 +72,12 @@ module _ {text : List ℕ} {f : Flags} {p q : Parser} (x : Answer text f (at Sho
   to_array : Goes rule (Lex text) (after (at Assignment f)) end (rule (at Assignment f)) p.prev_token_end (array_part f) p.prev_token_end (λ us. us) (still 0)
   to_array = to_parts f p.prev_token_end na ▹ (right (no_conditional x (no_question x na c listed) (all_assign x na c listed)) ▹ right (no_branch (assign_part f) assign_operators (λ o m. fails_node inside_full (not_target x (plain full) o m (literal_no_target x.label x.slots h)))))
 
-  -- no target of the other kind stands there
-  no_other : Fails rule (Lex text) signs end (such (at (target_name (not (is_object x.label.kind))) f) always) p.prev_token_end
-  no_other = either_way x.verdict (λ z. no_other_there (not_wide x.at) (is_cover x.at) (is_object x.label.kind) z (kind_of_literal x.label.kind h)) (λ n. no_target_unread (not (is_object x.label.kind)) (not_wide x.at) (is_cover x.at) n)
-
-  pub without_target : Fails rule (Lex text) signs end (such (at (target_name (is_object x.label.kind)) f) always) p.prev_token_end → Underived text (at Assignment f) p.prev_token_end
-  without_target n = fails_by (to_array ▹✗ fails_node (inside_array f p.prev_token_end) (part_fails (neither (is_object x.label.kind) n no_other) (before_equals f (second f) p.prev_token_end)))
+  pub without_target : Fails rule (Lex text) (signs f) end (such (at (target_name (is_object x.label.kind)) f) always) p.prev_token_end → Underived text (at Assignment f) p.prev_token_end
+  without_target n = fails_by (to_array ▹✗ fails_node (inside_array f p.prev_token_end) (part_fails (neither (is_object x.label.kind) n (no_other x h)) (before_equals f (second f) p.prev_token_end)))
 
   module _ {r : Parser} {id : NodeId} (t : TargetTaken (is_object x.label.kind) text f p q r id) where
-    target_path : Path text f signs (such (at (target_name (is_object x.label.kind)) f) always) p nothing r (tree t.label t.slots)
-    target_path = record { at = t.stands_at; further = let a = x.further in let b = t.place in omega arith; pass = t.pass; walked = t.walked; verdict = t.verdict }
-
-    either_target : Path text f signs (alt (symbol ArrayTarget f) (symbol ObjectTarget f)) p nothing r (tree t.label t.slots)
-    either_target = of_either (is_object x.label.kind) no_other target_path
+    either_target : Path text f (signs f) (alt (symbol ArrayTarget f) (symbol ObjectTarget f)) p nothing r (tree t.label t.slots)
+    either_target = of_either (is_object x.label.kind) (no_other x h) (converted_path x h t)
 
     then_equals : Path text f (second f) (array_slots f) p (tok Eq ▸ symbol Assignment f) r (tree t.label t.slots)
     then_equals = let y = either_target in record { at = y.at; further = y.further; pass = y.pass; walked = y.walked; verdict = verdict_of y.verdict (λ z. record { reach = z.reach; near = z.near; goes = then_by z.goes (before_equals f (second f) p.prev_token_end) }) (λ n. part_fails n (before_equals f (second f) p.prev_token_end)) }

@@ -1,10 +1,10 @@
 -- Arrow functions (ECMA-262, 15.3), and where none is derived.
-use Rattle.std.proofs.Common.{ℕ, ◌≡◌, ◌<◌, ◌⊎◌, inl, inr, List, [], ◌∷◌, length, Bool, true, false, not, cond, ◌&&◌, ◌||◌, IsTrue, Option, Some, None, refl, sym, ap, subst, arith, ◌∙◌}
+use Rattle.std.proofs.Common.{ℕ, ◌≡◌, ◌≤◌, ◌<◌, ◌⊎◌, inl, inr, List, [], ◌∷◌, length, Bool, true, false, not, cond, ◌&&◌, ◌||◌, IsTrue, Option, Some, None, refl, sym, ap, subst, arith, ◌∙◌}
 use Rattle.std.specs.Prelude.{IsCharBoundary, Result, Ok, Err, nat_lt}
 use Rattle.std.proofs.lemmas.Bool.{false≢true, and_parts, and_from, or_left, or_right}
 use Rattle.js_base.specs.Contexts.{has_flag, yield_flag}
 use Rattle.js_base.specs.declared.kind.Kind.{Kind}
-use Rattle.js_base.specs.declared.kind.Kind.TheVariants.{Arrow, Await, Comma, LParen, LCurly, RAngle, Yield}
+use Rattle.js_base.specs.declared.kind.Kind.TheVariants.{Arrow, Await, Comma, LParen, LCurly, RAngle, Yield, RegExp}
 use Rattle.js_base.specs.declared.span.Span.{Span}
 use Rattle.js_base.specs.Kinds.{same_kind, one_of_kinds}
 use Rattle.js_base.specs.Texts.{words}
@@ -68,14 +68,14 @@ use Rattle.js_cursor.proofs.Later.{keeps_follows}
 use Rattle.js_parsing.specs.Answers.{Underived, Answer, Answers, beside, Numbered, Outcome, Refuses, Stretch, Stops, Grown, Verdict, clean, unclean}
 use Rattle.js_cursor.specs.Notes.{Notes}
 use Rattle.js_parsing.specs.Contexts.{arrow_body, braced_body}
-use Rattle.js_expressions.specs.Arrows.{body_of, head_of, late_arrow, ArrowBehind, BeforeArrow, a_head, told_head, ToldHead, ChecksLine, FindsHead, Head, LooksForHead, IsHead, IsHeadHere, IsRefusedHead, NoArrowHere, Single, Unmoved, NoneLooked}
+use Rattle.js_expressions.specs.Arrows.{body_of, head_of, late_arrow, ArrowBehind, BeforeArrow, a_head, told_head, ToldHead, HeadRead, read_clean, read_unclean, ChecksLine, FindsHead, Head, LooksForHead, IsHead, IsHeadHere, IsHeadRead, IsRefusedHead, NoArrowHere, Single, Unmoved, NoneLooked}
 use Rattle.js_parsing.specs.Heads.{NoHead, NotedHeads}
 use Rattle.js_expressions.specs.Rests.{OnlyOperandHere}
 use Rattle.js_expressions.specs.Closings.{ArrowBehindOne}
 use Rattle.js_expressions.proofs.Closings.{closes_alike, one_is}
 use Rattle.js_cursor.specs.Tokens.{may_be_read_again}
 use Rattle.js_parsing.proofs.KeptTokens.{before_back, last_back}
-use Rattle.js_parsing.specs.Lexemes.{Lex, may_name, name_kinds, spot}
+use Rattle.js_parsing.specs.Lexemes.{Lex, name_kinds, spot, slashes, Plain, may_name}
 use Rattle.js_parsing.specs.Moves.{Moved, MadeHere, LeafTaken, TakesLeaf, plain_label}
 use Rattle.js_parsing.specs.States.{At, Same, Standing, flags_of, IsPlain, whole, sign, nothing as nothing_here, NodesLie, SpansLie}
 use Rattle.js_targets.proofs.ArraysBeforeSigns.{is_cover, not_wide}
@@ -92,10 +92,10 @@ use Rattle.js_parsing.proofs.Told.{beside_errors}
 use Rattle.js_parsing.proofs.Unbuilt.{nothing_unbuilt}
 use Rattle.js_parsing.proofs.ToEnd.{to_end_stays}
 use Rattle.js_parsing.proofs.Giving.{kept_one}
-use Rattle.js_parsing.proofs.Here.{alike, angled, found, plainly, one_plain, newline_here, kind_here, told, uncut}
+use Rattle.js_parsing.proofs.Here.{alike, angled, found, plainly, one_plain, newline_here, kind_here, told, uncut, told_plain, plain_there, Plainly}
 use Rattle.js_parsing.proofs.MadeNodes.{leaf_held, node_held, two_held, one_lies, LabelLies, from_start}
 use Rattle.js_parsing.proofs.Moving.{beside_nodes, flags_same, heads_kept, same_both, same_itself, same_with, stops_behind, nodes_lie}
-use Rattle.js_operands.proofs.Operands.{by_path, by_such}
+use Rattle.js_operands.proofs.Operands.{by_path, by_such, name_slashless}
 use Rattle.js_patterns.proofs.Bindings.{bound_path, ended_by, then_any}
 use Rattle.js_parsing.proofs.Paths.{Path, ◌⟼◌, ◌⟶◌, ◌⟶✗◌, fails_at, not_here, token, last_called, noded, noded_by, by_symbol_as, label_here, read_of, walked_both, walked_from, walked_one}
 use Rattle.js_parsing.proofs.Signs.{none_kept, plain_of}
@@ -105,22 +105,59 @@ use Rattle.js_parsing.proofs.Verdicts.{grown_first, grown_then, grown_both}
 use Rattle.js_parsing.specs.Classes.{IsEarly}
 use Rattle.js_parsing.proofs.Classes.{kept_early}
 use Rattle.std.proofs.lemmas.List.Elements.{All-same}
+use Rattle.js_grammar.proofs.Alike.{lex-same}
 
 -- ---- what begins like a head, with `=>` behind it, is no operand
 
 none_open : {b : ℕ} {s : List ℕ} → Some [] ≡ Some (b ∷ s) → ⊥
 none_open e = cc
 
--- two lists of lexemes from one place go on alike
-agree : (text : List ℕ) (s : ℕ) {st : List ℕ} {ls ls' r r' : Lexemes} {e e' : ℕ} → Lexes (Lex text) s ls → Lexes (Lex text) s ls' → One st ls e r → One st ls' e' r' → (e ≡ e') × Lexes (Lex text) e r × Lexes (Lex text) e' r'
-agree text s l m (the_last {x = x} p) (the_last {x = y} q) = (ap (λ (z : Lexeme). z.to) (alike l.0 m.0), l.1, m.1)
-agree text s {st = st} l m (the_last {x = x} p) (and_more {x = y} q o) = absurd (none_open (sym p ∙ (ap (λ (z : Lexeme). move (bracket z.kind) st) (alike l.0 m.0) ∙ q)))
-agree text s {st = st} l m (and_more {x = x} p o) (the_last {x = y} q) = absurd (none_open (sym q ∙ (ap (λ (z : Lexeme). move (bracket z.kind) st) (sym (alike l.0 m.0)) ∙ p)))
-agree text s {st = st} {r' = r'} {e' = e'} l m (and_more {b = b} {s = t} {x = x} p o) (and_more {b = c} {s = u} {x = y} {ls = ls'} q o') =
-    let w : x ≡ y = alike l.0 m.0 in
+-- a lexeme that is the same in every lexical goal
+abbrev pub calm : Kind → Bool
+calm k = not (one_of_kinds (RegExp ∷ slashes) k)
+
+-- each lexeme is, up to where no bracket is open
+abbrev pub AllCalm : {st : List ℕ} {ls r : Lexemes} {e : ℕ} → One st ls e r → Type 0
+AllCalm (the_last {x = x} p) = calm x.kind ≡ true
+AllCalm (and_more {x = x} p o) = (calm x.kind ≡ true) × AllCalm o
+
+-- it is what stands there
+one_calm : {text : List ℕ} {s : ℕ} {x y : Lexeme} → Lex text s x → Lex text s y → calm x.kind ≡ true → x ≡ y
+one_calm {text} {s} {x} {y} l m c = by (plain_there m)
+  where
+    parts : (a b : Bool) → not (a || b) ≡ true → (a ≡ false) × (b ≡ false)
+    parts true b h = absurd (false≢true h)
+    parts false true h = absurd (false≢true h)
+    parts false false h = (refl, refl)
+
+    k : (same_kind RegExp x.kind ≡ false) × (one_of_kinds slashes x.kind ≡ false)
+    k = parts (same_kind RegExp x.kind) (one_of_kinds slashes x.kind) c
+
+    by : Plainly text s y → x ≡ y
+    by z = which z.which
+      where
+        same : x ≡ z.lexeme
+        same = lex-same l.0 z.stands.lex (plainly l.0 l.1 k.0 ∙ sym z.stands.of_goal)
+
+        which : (z.lexeme ≡ y) ⊎ ((y.kind ≡ RegExp) × (one_of_kinds slashes z.lexeme.kind ≡ true)) → x ≡ y
+        which (inl e) = same ∙ e
+        which (inr e) = absurd (false≢true (sym k.1 ∙ subst (λ (v : Lexeme). one_of_kinds slashes v.kind ≡ true) (sym same) e.1))
+
+-- two lists of lexemes from one place go on alike, where those of the first are the same in every lexical goal
+agree : (text : List ℕ) (s : ℕ) {st : List ℕ} {ls ls' r r' : Lexemes} {e e' : ℕ} → Lexes (Lex text) s ls → Lexes (Lex text) s ls' → (o : One st ls e r) → One st ls' e' r' → AllCalm o → (e ≡ e') × Lexes (Lex text) e r × Lexes (Lex text) e' r'
+agree text s l m (the_last {x = x} p) (the_last {x = y} q) c = (ap (λ (z : Lexeme). z.to) (one_calm l.0 m.0 c), l.1, m.1)
+agree text s {st = st} l m (the_last {x = x} p) (and_more {x = y} q o) c = absurd (none_open (sym p ∙ (ap (λ (z : Lexeme). move (bracket z.kind) st) (one_calm l.0 m.0 c) ∙ q)))
+agree text s {st = st} l m (and_more {x = x} p o) (the_last {x = y} q) c = absurd (none_open (sym q ∙ (ap (λ (z : Lexeme). move (bracket z.kind) st) (sym (one_calm l.0 m.0 c.0)) ∙ p)))
+agree text s {st = st} {r' = r'} {e' = e'} l m (and_more {b = b} {s = t} {x = x} p o) (and_more {b = c} {s = u} {x = y} {ls = ls'} q o') d =
+    let w : x ≡ y = one_calm l.0 m.0 d.0 in
     let v : Some (c ∷ u) ≡ Some (b ∷ t) = sym q ∙ (ap (λ (z : Lexeme). move (bracket z.kind) st) (sym w) ∙ p) in
     let z : c ∷ u ≡ b ∷ t = cc in
-    agree text x.to l.1 (subst (λ (x : Lexeme). Lexes (Lex text) x.to ls') (sym w) m.1) o (subst (λ (n : List ℕ). One n ls' e' r') z o')
+    agree text x.to l.1 (subst (λ (x : Lexeme). Lexes (Lex text) x.to ls') (sym w) m.1) o (subst (λ (n : List ℕ). One n ls' e' r') z o') d.1
+
+-- the first one is
+first_calm : {st : List ℕ} {ls r : Lexemes} {e : ℕ} (o : One st ls e r) → AllCalm o → calm (here ls).kind ≡ true
+first_calm (the_last p) c = c
+first_calm (and_more p o) c = c.0
 
 -- an arrow binds tighter than any operator
 abbrev an_arrow : Look
@@ -141,15 +178,15 @@ contrary : (b : Bool) → not b ≡ true → b ≡ true → ⊥
 contrary true h e = false≢true h
 contrary false h e = false≢true e
 
-pub no_operand : {text : List ℕ} (f : Flags) {s : ℕ} {ls r : Lexemes} {e : ℕ} → Lexes (Lex text) s ls → One [] ls e r → IsTrue (seen begins_head (here ls)) → same_kind Arrow (here r).kind ≡ true → Underived text (at Short f) s
-no_operand {text} f {s} {ls} {r} {e} l o b k = record { no = λ ts vs j ls' rest m d a. go ts m d a }
+pub no_operand : {text : List ℕ} (f : Flags) {s : ℕ} {ls r : Lexemes} {e : ℕ} → Lexes (Lex text) s ls → (o : One [] ls e r) → AllCalm o → IsTrue (seen begins_head (here ls)) → same_kind Arrow (here r).kind ≡ true → Underived text (at Short f) s
+no_operand {text} f {s} {ls} {r} {e} l o c b k = record { no = λ ts vs j ls' rest m d a. go ts m d a }
   where
     go : (ts : Slots) {vs : Slots} {j : ℕ} {ls' rest : Lexemes} → Lexes (Lex text) s ls' → Takes rule (such (at Short f) always) end ts s ls' vs j rest → Admits (after (at Short f)) ts (here rest) → ⊥
     go ts {ls' = ls'} {rest = rest} m d a =
-        let same : here ls ≡ here ls' = alike (here_at (Lex text) ls l) (here_at (Lex text) ls' m) in
+        let same : here ls ≡ here ls' = one_calm (here_at (Lex text) ls l) (here_at (Lex text) ls' m) (first_calm o c) in
         let z = operand_taken (at Short f) refl d (subst (λ (y : Lexeme). IsTrue (seen begins_head y)) same b) in
-        let g = agree text s l m o z.2 in
-        let w : here r ≡ here z.1 = alike (here_at (Lex text) r g.1) (subst (λ (v : ℕ). Lex text v (here z.1)) (sym g.0) (here_at (Lex text) z.1 g.2)) in
+        let g = agree text s l m o z.2 c in
+        let w : here r ≡ here z.1 = one_calm (here_at (Lex text) r g.1) (subst (λ (v : ℕ). Lex text v (here z.1)) (sym g.0) (here_at (Lex text) z.1 g.2)) (ap calm (sym (kind_of_same Arrow (here r).kind k))) in
         let arrow : same_kind Arrow (here z.1).kind ≡ true = subst (λ (y : Lexeme). same_kind Arrow y.kind ≡ true) w k in
         let read : Lex text e (here r) = here_at (Lex text) r g.1 in
         elim z.3 [
@@ -242,12 +279,22 @@ name_no_bracket : (k : Kind) → one_of_kinds name_kinds k ≡ true → bracket 
 unfolding apart
 name_no_bracket k h = not_bracket k false false (λ b. not_both a_name brackets refl k false false h b)
 
+calm_name : (k : Kind) → one_of_kinds name_kinds k ≡ true → calm k ≡ true
+unfolding covers apart
+calm_name k h = ap not (name_apart (RegExp ∷ slashes) refl k h)
+
+-- nor does a name begin with a slash
+name_calm : {ls r : Lexemes} {e : ℕ} (o : One [] ls e r) → one_of_kinds name_kinds (here ls).kind ≡ true → AllCalm o
+unfolding bracket move
+name_calm (the_last {x = x} m) h = calm_name x.kind h
+name_calm (and_more {b = b} {s = t} {x = x} m o) h = absurd (none_open (subst (λ (v : Bracket). move v [] ≡ Some (b ∷ t)) (name_no_bracket x.kind h) m))
+
 pub no_arrow_behind : {text : List ℕ} {f : Flags} {p : Parser} → At text f p → one_of_kinds name_kinds p.token.kind ≡ true → ((y : Lexeme) → Lex text p.token.span.end y → y.kind ≡ Arrow → ⊥) → Underived text (at Arrow' f) p.prev_token_end
 unfolding bracket move
 no_arrow_behind {text} {f} {p} a k n = no_arrow f (one_arrow (λ ls mid e l o q. go ls mid e l o q))
   where
     there : (x : Lexeme) → Lex text p.prev_token_end x → (bracket x.kind ≡ bracket_plain) × (p.token.span.end ≡ x.to)
-    there x l = let t = told a (name_whole a k).0 x l in (name_no_bracket x.kind (subst (λ (v : Kind). one_of_kinds name_kinds v ≡ true) t.kind k), t.end)
+    there x l = let t = told a (name_whole a k).0 (name_slashless p.token.kind k) x l in (name_no_bracket x.kind (subst (λ (v : Kind). one_of_kinds name_kinds v ≡ true) t.kind k), t.end)
 
     go : (ls mid : Lexemes) (e : ℕ) → Lexes (Lex text) p.prev_token_end ls → One [] ls e mid → same_kind Arrow (here mid).kind ≡ true → ⊥
     go ls mid e l (the_last {x = x} m) q = n (here mid) (subst (λ (v : ℕ). Lex text v (here mid)) (sym (there x l.0).1) (here_at (Lex text) mid l.1)) (sym (kind_of_same Arrow (here mid).kind q))
@@ -319,8 +366,8 @@ module _ {text : List ℕ} {f : Flags} {p : Parser} {t : Token} (a : At text f p
   -- an arrow is told where it stands
   pub arrow_peeked : (y : Lexeme) → Lex text p.token.span.end y → y.kind ≡ Arrow → t.kind ≡ Arrow
   arrow_peeked y l k = given_behind
-      (λ d u n. absurd (n.none y (record { lex = l.0; of_goal = plainly l.0 l.1 })))
-      (λ x. x.tells.kind ∙ (ap (λ (z : Lexeme). z.kind) (cut_same x.lexeme (ap is_right_angle (ap (λ (z : Lexeme). z.kind) (sym (one_plain l x)) ∙ k))) ∙ (ap (λ (z : Lexeme). z.kind) (sym (one_plain l x)) ∙ k)))
+      (λ d u n. absurd (n.none y (record { lex = l.0; of_goal = plainly l.0 l.1 (ap (same_kind RegExp) k) })))
+      (λ x. x.tells.kind ∙ (ap (λ (z : Lexeme). z.kind) (cut_same x.lexeme (ap is_right_angle (ap (λ (z : Lexeme). z.kind) (sym (one_plain l (ap (same_kind RegExp) k) x)) ∙ k))) ∙ (ap (λ (z : Lexeme). z.kind) (sym (one_plain l (ap (same_kind RegExp) k) x)) ∙ k)))
 
   pub arrow_told : t.kind ≡ Arrow → (y : Lexeme) × Lex text p.token.span.end y × (y.kind ≡ Arrow)
   arrow_told k = given_behind (λ d u n. let w : Arrow ≡ Undetermined = sym k ∙ u in absurd (cc)) (λ x. by x (is_right_angle x.lexeme.kind) refl)
@@ -357,26 +404,64 @@ head_of_path {text} {f} {p} {q} w {l} {cs} {id} y r e s n h k i = go w.nodes n h
       keeps = subst (λ (z : Parser). Keeps p.nodes z.nodes) n k;
     })
 
+-- the `=>` that stands here
+arrow_here : {text : List ℕ} {f : Flags} {p : Parser} → At text f p → p.token.kind ≡ Arrow → (y : Lexeme) × Lex text p.prev_token_end y × (same_kind Arrow y.kind ≡ true) × (p.token.span.start ≡ y.from)
+arrow_here a k =
+    let z = found a (uncut a (ap (same_kind RAngle) k)) (ap is_last k) in
+    let e : z.0.kind ≡ Arrow = sym z.2.kind ∙ k in
+    (z.0, (z.1, read_of z.0 e (sym z.2.escaped ∙ plain_sign Arrow a k refl refl arrow_plain) refl), ap (same_kind Arrow) e, z.2.start)
+
+-- what stands behind them
+one_behind : (text : List ℕ) (s : ℕ) {st : List ℕ} {ls r : Lexemes} {e : ℕ} → Lexes (Lex text) s ls → One st ls e r → Lexes (Lex text) e r
+one_behind text s l (the_last m) = l.1
+one_behind text s l (and_more {x = x} m o) = one_behind text x.to l.1 o
+
+-- its trivia stands between
+lexeme_from : {text : List ℕ} {s : ℕ} {y : Lexeme} → Lex text s y → s ≤ y.from
+lexeme_from l = let e = l.0.from in omega arith
+
+-- where a head was read whose lexemes are the same in every lexical goal, no operand is derived
+pub head_no_operand : {text : List ℕ} {f : Flags} {o p : Parser} {id : NodeId} → Head text f o p id → p.token.kind ≡ Arrow → ((ls r : Lexemes) (e : ℕ) → Lexes (Lex text) o.prev_token_end ls → (z : One [] ls e r) → e ≤ p.token.span.start → AllCalm z) → Underived text (at Short f) o.prev_token_end
+head_no_operand {text} {f} {o} {p} h k c =
+    let y = arrow_here h.at k in
+    let d = h.read.goes.sound end end p.prev_token_end (last y.0) (last y.0) y.1 (inl h.read.near) is_nothing in
+    let z = head_one d in
+    let l = h.read.goes.passes.lexed (last y.0) y.1 in
+    let e : z.0 ≤ p.token.span.start = (let i = lexeme_from (one_behind text o.prev_token_end l z.1) in let j = y.3 in omega arith) in
+    no_operand f l z.1 (c _ _ z.0 l z.1 e) z.2 y.2
+
 -- so the arrow that stands behind is the token
 pub arrow_is_here : {text : List ℕ} {f : Flags} {p : Parser} → At text f p → (y : Lexeme) → Lex text p.prev_token_end y → y.kind ≡ Arrow → p.token.kind ≡ Arrow
 arrow_is_here {p = p} a y l k = by p.cut refl
   where
     by : (b : Bool) → p.cut ≡ b → p.token.kind ≡ Arrow
     by true e = absurd (false≢true (ap is_right_angle (sym k) ∙ angled a e y l))
-    by false e = (told a e y l).kind ∙ k
+    by false e = (told_plain a e y (ap (same_kind RegExp) k) l).kind ∙ k
 
 pub behind_so : (p q : Parser) {b r : Bool} → r ≡ b → ArrowBehind p q r → ArrowBehind p q b
 behind_so p q e h = subst (λ (v : Bool). ArrowBehind p q v) e h
 
 pub unmoved : {p q : Parser} → q ≡ p → Unmoved p q
-unmoved {p} e = subst (Unmoved p) (sym e) (record { at = λ text f a. a; same = same_itself; kept = refl; place = refl; spot_is = refl; start = refl; keeps = Keeps-refl p.nodes })
+unmoved {p} e = subst (Unmoved p) (sym e) (record { at = λ text f a. a; same = same_itself; kept = refl; place = refl; spot_is = refl; start = refl; kind = refl; keeps = Keeps-refl p.nodes })
 
 -- the node of a name stands before the arrow
-pub name_found : {p q w : Parser} {id : NodeId} → Standing p → ArrowBehind p q true → p.token.escaped ≡ false → Single q w id → IsHeadHere p w id
-name_found {p} {q} {w} {id} a b e s =
-    let z = subst (λ (v : Parser). Single v w id) b.0 s in
-    let y = b.1 _ _ a in
-    (arrow_is_here (z.1 _ _ a e).at y.0 (subst (λ (v : ℕ). Lex p.text v y.0) (sym z.0) y.1) y.2, λ text f a. a_head (z.1 text f a e))
+pub name_found : {p q w : Parser} {id : NodeId} → Standing p → one_of_kinds name_kinds p.token.kind ≡ true → ArrowBehind p q true → p.token.escaped ≡ false → Single q w id → IsHeadHere p w id
+name_found {p} {q} {w} {id} a n b e s = (k, (λ text f a. a_head (head text f a) (none text f a)), none)
+  where
+    z : Single p w id
+    z = subst (λ (v : Parser). Single v w id) b.0 s
+
+    head : (text : List ℕ) (f : Flags) → At text f p → Head text f p w id
+    head text f a = z.1 text f a e
+
+    k : w.token.kind ≡ Arrow
+    k = let y = b.1 _ _ a in arrow_is_here (head _ _ a).at y.0 (subst (λ (v : ℕ). Lex p.text v y.0) (sym z.0) y.1) y.2
+
+    named : {text : List ℕ} {f : Flags} → At text f p → (x : Lexeme) → Lex text p.prev_token_end x → one_of_kinds name_kinds x.kind ≡ true
+    named a x l = subst (λ (v : Kind). one_of_kinds name_kinds v ≡ true) (told a (name_whole a n).0 (name_slashless p.token.kind n) x l).kind n
+
+    none : (text : List ℕ) (f : Flags) → At text f p → Underived text (at Short f) p.prev_token_end
+    none text f a = head_no_operand (head text f a) k (λ ls r i l o b. name_calm o (named a (here ls) (here_at (Lex text) ls l)))
 
 -- parameters in parentheses
 pub parenthesized_head : {text : List ℕ} {f : Flags} {p q : Parser} {id : NodeId} → At text f p → p.token.kind ≡ LParen → Numbered text f (at Params f) p q id → length q.errors ≡ length p.errors → Head text f p q id
@@ -416,7 +501,7 @@ no_operand_there {text} {f} {p} a k h = record { no = λ ts vs j ls rest m d e. 
         let z = operand_taken (at Short f) refl d (or_right (may_bind (here ls).kind) (same_kind LParen (here ls).kind) (ap (same_kind LParen) paren)) in
         let g = closes_alike text p.prev_token_end m z.2 h.closing in
         let l : Lex text z.0 (here z.1) = here_at (Lex text) z.1 g.1 in
-        let w : here z.1 ≡ h.arrow = one_is l (subst (λ (v : ℕ). LexemeBehind division text v h.arrow) (sym g.0) h.stands) in
+        let w : here z.1 ≡ h.arrow = one_is l (subst (λ (v : ℕ). LexemeBehind division text v h.arrow) (sym g.0) h.stands, ap (one_of_kinds slashes) h.is) in
         let arrow : same_kind Arrow (here z.1).kind ≡ true = ap (same_kind Arrow) (ap (λ (y : Lexeme). y.kind) w ∙ h.is) in
         elim z.3 [
           | inl q ↦
@@ -449,21 +534,24 @@ told_parameters {text} {f} {p} a k x g n s =
 -- parameters where no operand begins
 pub certain_head : {text : List ℕ} {f : Flags} {p q : Parser} {id : NodeId} → At text f p → p.token.kind ≡ LParen → Underived text (at Short f) p.prev_token_end → Numbered text f (at Params f) p q id → BeforeArrow text f p q id
 certain_head a k s x = elim x.answer.verdict [
-  | clean e z ↦ a_head (parenthesized_head a k x (ap length e))
+  | clean e z ↦ a_head (parenthesized_head a k x (ap length e)) s
   | unclean g z ↦ told_head (told_parameters a k x g z s)
 ]
 
 module _ {p q : Parser} {kept : ℕ} (a : Standing p) (k : p.token.kind ≡ LParen) (n : kept ≡ length p.errors) where
   -- parameters, and whether they are a head
-  pub head_read : {id : NodeId} {start : ℕ} → start ≡ p.prev_token_end → Answers (at Params) p q (Ok id) → IsHead start kept q true → IsHeadHere p q id
-  head_read {id} {start} t x h = (h.1, λ text f a. by h.0 a (x text f a))
+  pub head_read : {id : NodeId} {start : ℕ} → start ≡ p.prev_token_end → Answers (at Params) p q (Ok id) → IsHead start kept q true → IsHeadRead p q id
+  head_read {id} {start} t x h = (h.1, (λ text f a. by h.0 a (x text f a)))
     where
-      by : {text : List ℕ} {f : Flags} → (length q.errors ≡ kept) ⊎ ArrowBehindOne q.text start → At text f p → Numbered text f (at Params f) p q id → BeforeArrow text f p q id
-      by (inl e) a y = a_head (parenthesized_head a k y (e ∙ n))
+      by : {text : List ℕ} {f : Flags} → (length q.errors ≡ kept) ⊎ ArrowBehindOne q.text start → At text f p → Numbered text f (at Params f) p q id → HeadRead text f p q id
+      by (inl e) a y = read_clean (parenthesized_head a k y (e ∙ n))
       by {text} {f} (inr c) a y = elim y.answer.verdict [
-        | clean e z ↦ a_head (parenthesized_head a k y (ap length e))
-        | unclean g z ↦ told_head (told_parameters a k y g z (no_operand_there a k (subst (λ (v : ℕ). ArrowBehindOne text v) t (subst (λ (v : List ℕ). ArrowBehindOne v start) y.answer.at.text_is c))))
+        | clean e z ↦ read_clean (parenthesized_head a k y (ap length e))
+        | unclean g z ↦ read_unclean (told_parameters a k y g z none) none
       ]
+        where
+          none : Underived text (at Short f) p.prev_token_end
+          none = no_operand_there a k (subst (λ (v : ℕ). ArrowBehindOne text v) t (subst (λ (v : List ℕ). ArrowBehindOne v start) y.answer.at.text_is c))
 
   pub head_unread : {id : NodeId} → Answers (at Params) p q (Ok id) → (length q.errors ≡ kept → ⊥) ⊎ (q.token.kind ≡ Arrow → ⊥) → NoneLooked p q
   head_unread x h = let y = (x _ _ a).answer in ((y.same.follows, y.at.at), y.at.heads, λ text f a. by h (x text f a).answer a, λ w. (y.same.lies w).1)
@@ -489,11 +577,11 @@ some_found p q id r e h = subst (FindsHead p q) e h
 pub none_found : (p q : Parser) (r : Option NodeId) → r ≡ None → FindsHead p q r → Unmoved p q × NoArrowHere p
 none_found p q r e h = subst (FindsHead p q) e h
 
-pub none_looked : (p q : Parser) (r : Option NodeId) → r ≡ None → LooksForHead p q r → NoneLooked p q
-none_looked p q r e h = subst (LooksForHead p q) e h
+pub none_looked : (p o q : Parser) (r : Option NodeId) → o ≡ p → r ≡ None → LooksForHead o q r → NoneLooked p q
+none_looked p o q r s e h = subst (λ (z : Parser). NoneLooked z q) s (subst (LooksForHead o q) e h)
 
-pub some_looked : (p o q : Parser) (id : NodeId) (r : Option NodeId) → o ≡ p → r ≡ Some id → LooksForHead o q r → IsHeadHere p q id
-some_looked p o q id r s e h = subst (λ (z : Parser). IsHeadHere z q id) s (subst (LooksForHead o q) e h)
+pub some_looked : (p o q : Parser) (id : NodeId) (r : Option NodeId) → o ≡ p → r ≡ Some id → LooksForHead o q r → IsHeadRead p q id
+some_looked p o q id r s e h = subst (λ (z : Parser). IsHeadRead z q id) s (subst (LooksForHead o q) e h)
 
 pub head_so : (start kept : ℕ) (q : Parser) {b r : Bool} → r ≡ b → IsHead start kept q r → IsHead start kept q b
 head_so start kept q e h = subst (λ (v : Bool). IsHead start kept q v) e h
@@ -564,7 +652,7 @@ went_back {p} {q} {r} o m f n l g =
     let b = came_back m f.0 g in
     let s : Same p r = record { follows = back_follows m f.0 g; options = g.options ∙ f.0.options; ctx = b.ctx; depth = b.depth; visits = b.visits; early = λ h. All-same IsEarly r.errors p.errors b.errors h; lies = λ h. (g.at.lies.starts_whole, nodes_lie q r g.text g.nodes (l h)); meets = to_end_stays p r b.text b.prev_token_end } in
     record {
-      at = λ text f a. record { text_is = b.text ∙ a.text_is; flags_are = flags_same p r b.ctx b.source_type s.options ∙ a.flags_are; at = g.at; plain = plain_back b.token b.cut b.prev_token_end a.plain; behind = let i = b.prev_token_end in let j = ap (λ z. z.span.start) b.token in let k = a.behind in omega arith; heads = heads_kept q r g.text g.source_type g.options (ap (λ (z : Notes). z.failed) g.state) n; kept_last = last_back p.lexer r.lexer b.token b.keeps_tokens (b.tokens o) a.kept_last };
+      at = λ text f a. record { text_is = b.text ∙ a.text_is; flags_are = flags_same p r b.ctx b.source_type s.options ∙ a.flags_are; at = g.at; plain = plain_back b.token b.cut b.prev_token_end a.plain; behind = let i = b.prev_token_end in let j = ap (λ z. z.span.start) b.token in let k = a.behind in omega arith; heads = heads_kept q r g.text g.source_type g.options (ap (λ (z : Notes). z.failed) g.state) (ap (λ (z : Notes). z.operands) g.state) n; kept_last = last_back p.lexer r.lexer b.token b.keeps_tokens (b.tokens o) a.kept_last };
       same = s;
       kept = b.errors;
       place = b.prev_token_end;
@@ -575,17 +663,11 @@ went_back {p} {q} {r} o m f n l g =
         kept = record { comments = b.comments i; irregular_whitespaces = b.blanks i; tokens = before_back p.lexer r.lexer b.token b.keeps_tokens (b.tokens o) i; errors = b.faults i };
       };
       start = ap (λ z. z.span.start) b.token;
+      kind = ap (λ z. z.kind) b.token;
       keeps = s.follows.nodes;
     }
 
 -- ---- an arrow function
-
--- the `=>` that stands here
-arrow_here : {text : List ℕ} {f : Flags} {p : Parser} → At text f p → p.token.kind ≡ Arrow → (y : Lexeme) × Lex text p.prev_token_end y × (same_kind Arrow y.kind ≡ true)
-arrow_here a k =
-    let z = found a (uncut a (ap (same_kind RAngle) k)) (ap is_last k) in
-    let e : z.0.kind ≡ Arrow = sym z.2.kind ∙ k in
-    (z.0, (z.1, read_of z.0 e (sym z.2.escaped ∙ plain_sign Arrow a k refl refl arrow_plain) refl), ap (same_kind Arrow) e)
 
 -- what a later call says of what was kept
 behind : {K : Type 0} {p q r : List K} {C B : Type 0} → Grown p q → Verdict q r C B → Grown p r
@@ -626,7 +708,7 @@ body_row after_declarator h = absurd (false≢true h)
 body_row after_word h = absurd (false≢true h)
 
 -- behind an arrow function stands what may stand behind its body: behind one in braces anything, but a comma goes on with what is around
-behind_body : (b : Bool) {text : List ℕ} {f : Flags} {r w : Parser} (y : Answer text f (body_of b f) r w) (z : Lexeme) → Lex text w.prev_token_end z → IsTrue (seen (looser 2 f.in_ (row_of y.label y.slots)) z || seen beside z)
+behind_body : (b : Bool) {text : List ℕ} {f : Flags} {r w : Parser} (y : Answer text f (body_of b f) r w) (z : Lexeme) → Plain text w.prev_token_end z → IsTrue (seen (looser 2 f.in_ (row_of y.label y.slots)) z || seen beside z)
 behind_body false y z l = y.stops z l
 behind_body true {f = f} y z l = or_left _ _ (subst (λ (r : Row). IsTrue (seen (looser 2 f.in_ r) z)) (sym (body_row (row_of y.label y.slots) y.row)) (at_most (same_kind Comma z.kind && not z.escaped)))
   where
@@ -638,16 +720,9 @@ row_of_body : (b : Bool) {text : List ℕ} {f : Flags} {r w : Parser} (y : Answe
 row_of_body false y = y.row
 row_of_body true y = subst (λ (r : Row). may_end Assignment r ≡ true) (sym (body_row (row_of y.label y.slots) y.row)) refl
 
-module _ {text : List ℕ} {f : Flags} {o p : Parser} {id : NodeId} (h : Head text f o p id) (k : p.token.kind ≡ Arrow) where
-  head_is_none : Underived text (at Short f) o.prev_token_end
-  head_is_none =
-      let y = arrow_here h.at k in
-      let d = h.read.goes.sound end end p.prev_token_end (last y.0) (last y.0) y.1 (inl h.read.near) is_nothing in
-      let z = head_one d in
-      no_operand f (h.read.goes.passes.lexed (last y.0) y.1) z.1 z.2 y.2
-
+module _ {text : List ℕ} {f : Flags} {o p : Parser} {id : NodeId} (h : Head text f o p id) (v : Underived text (at Short f) o.prev_token_end) (k : p.token.kind ≡ Arrow) where
   to_arrow : Goes rule (Lex text) (after (at Assignment f)) end (rule (at Assignment f)) o.prev_token_end (such (at Arrow' f) always) o.prev_token_end (λ us. us) (still 0)
-  to_arrow = only_arrow f (not_wide h.at) (is_cover h.at) h.no_yield (conditional_none f head_is_none) head_is_none
+  to_arrow = only_arrow f (not_wide h.at) (is_cover h.at) h.no_yield (conditional_none f v) v
 
   -- behind two slots may stand what may stand behind the second one
   inside_arrow : Inside rule arrow_made (after (at Assignment f)) (second f) end (arrow_slots f) o.prev_token_end
@@ -714,36 +789,36 @@ line_nodes : {p q : Parser} → ChecksLine p q → q.nodes ≡ p.nodes
 line_nodes (inl (e, c)) = ap (λ (z : Parser). z.nodes) c.is
 line_nodes (inr (e, i)) = ap (λ (z : Parser). z.nodes) i
 
-module _ {text : List ℕ} {f : Flags} {o p q r : Parser} {id : NodeId} (h : Head text f o p id) (k : p.token.kind ≡ Arrow) (c : ChecksLine p q) (m : Moved text f q r) (b : Bool) (i : same_kind LCurly r.token.kind ≡ b) where
+module _ {text : List ℕ} {f : Flags} {o p q r : Parser} {id : NodeId} (h : Head text f o p id) (v : Underived text (at Short f) o.prev_token_end) (k : p.token.kind ≡ Arrow) (c : ChecksLine p q) (m : Moved text f q r) (b : Bool) (i : same_kind LCurly r.token.kind ≡ b) where
   -- the body can't be read
   pub arrow_stops : (w : Parser) (e : Stop) → Stops r w e (Underived text (body_of b f) r.prev_token_end) → Stops o w e (Underived text (at Assignment f) o.prev_token_end)
   arrow_stops w e s = go c m s
     where
       go : {q : Parser} → ChecksLine p q → Moved text f q r → Stops r w e (Underived text (body_of b f) r.prev_token_end) → Stops o w e (Underived text (at Assignment f) o.prev_token_end)
-      go (inl (l, c)) m s = stops_behind w e (same_both h.same (same_both (line_same (inl (l, c))) m.same)) (λ g. grown_then h.kept (grown_both (kept_one c) (grown_then m.kept g))) (λ z. fails_by (late_rule h k l)) s
-      go (inr (n, j)) m s = stops_behind w e (same_both h.same (same_both (line_same (inr (n, j))) m.same)) (λ g. grown_then (m.kept ∙ (ap (λ (z : Parser). z.errors) j ∙ h.kept)) g) (λ z. body_fails h k n (subst (λ (z : Parser). Moved text f z r) j m) b i z) s
+      go (inl (l, c)) m s = stops_behind w e (same_both h.same (same_both (line_same (inl (l, c))) m.same)) (λ g. grown_then h.kept (grown_both (kept_one c) (grown_then m.kept g))) (λ z. fails_by (late_rule h v k l)) s
+      go (inr (n, j)) m s = stops_behind w e (same_both h.same (same_both (line_same (inr (n, j))) m.same)) (λ g. grown_then (m.kept ∙ (ap (λ (z : Parser). z.errors) j ∙ h.kept)) g) (λ z. body_fails h v k n (subst (λ (z : Parser). Moved text f z r) j m) b i z) s
 
   arrow_path : {w : Parser} → At text f o → (y : Answer text f (body_of b f) r w) → Path text f (after (at Assignment f)) (rule (at Assignment f)) o nothing w (tree (label_here arrow_function_expression no_op o w) (tree h.label h.slots (tree y.label y.slots end)))
   arrow_path {w} a y = go c m
     where
       go : {q : Parser} → ChecksLine p q → Moved text f q r → Path text f (after (at Assignment f)) (rule (at Assignment f)) o nothing w (tree (label_here arrow_function_expression no_op o w) (tree h.label h.slots (tree y.label y.slots end)))
-      go (inr (n, j)) m = body_path h k n (subst (λ (z : Parser). Moved text f z r) j m) b i a y
+      go (inr (n, j)) m = body_path h v k n (subst (λ (z : Parser). Moved text f z r) j m) b i a y
       go {q} (inl (l, c)) m = record {
         at = y.at;
-        further = let v = h.further in let d = line_place (inl (l, c)) in let e = (line_at h.at (inl (l, c))).behind in let g = m.further in let u = m.at.behind in let j = y.further in omega arith;
+        further = let j = h.further in let d = line_place (inl (l, c)) in let e = (line_at h.at (inl (l, c))).behind in let g = m.further in let u = m.at.behind in let i = y.further in omega arith;
         pass = λ ls. h.pass (next m.lexeme (y.pass ls));
         walked = walked_both h.walked (walked_both (walked_from (line_spot (inl (l, c))) (walked_one m)) y.walked);
-        verdict = unclean (grown_then h.kept (behind (grown_first (kept_one c) m.kept) y.verdict)) (late_rule h k l);
+        verdict = unclean (grown_then h.kept (behind (grown_first (kept_one c) m.kept) y.verdict)) (late_rule h v k l);
       }
 
   pub arrow_answers : {w z : Parser} {body made : NodeId} (s : Span) → At text f o → (y : Numbered text f (body_of b f) r w body) → s.start ≡ o.token.span.start → s.end ≡ w.prev_token_end → MadeHere (plain_label node_kind.ArrowFunctionExpression op_made.None s) (Some id ∷ Some body ∷ []) w z made → Numbered text f (at Assignment f) o z made
   arrow_answers {w} {z} {body} {made} s a y u d n =
       let l : plain_label node_kind.ArrowFunctionExpression op_made.None s ≡ label_here arrow_function_expression no_op o w = rw (u, d) refl in
-      let x : MadeHere (label_here arrow_function_expression no_op o w) (Some id ∷ Some body ∷ []) w z made = subst (λ (v : Label). MadeHere v (Some id ∷ Some body ∷ []) w z made) l n in
+      let x : MadeHere (label_here arrow_function_expression no_op o w) (Some id ∷ Some body ∷ []) w z made = subst (λ (j : Label). MadeHere j (Some id ∷ Some body ∷ []) w z made) l n in
       let e : r.nodes ≡ p.nodes = m.nodes ∙ line_nodes c in
       let g : Holds w.nodes (length p.nodes) (length w.nodes) body.0 y.answer.label y.answer.slots = subst (λ (ns : List Node). Holds w.nodes (length ns) (length w.nodes) body.0 y.answer.label y.answer.slots) e y.holds in
-      let v : Keeps p.nodes w.nodes = subst (λ (ns : List Node). Keeps ns w.nodes) e y.keeps in
-      by_path (arrow_path a y.answer) (same_both h.same (same_both (line_same c) (same_both m.same y.answer.same))) x.stays (λ j t. behind_body b y.answer j t) (row_of_body b y.answer) (two_held x h.holds h.keeps g v) (Keeps-trans h.keeps (Keeps-trans v (Keeps-made x.made))) refl (one_lies x)
+      let i : Keeps p.nodes w.nodes = subst (λ (ns : List Node). Keeps ns w.nodes) e y.keeps in
+      by_path (arrow_path a y.answer) (same_both h.same (same_both (line_same c) (same_both m.same y.answer.same))) x.stays (λ j t. behind_body b y.answer j t) (row_of_body b y.answer) (two_held x h.holds h.keeps g i) (Keeps-trans h.keeps (Keeps-trans i (Keeps-made x.made))) refl (one_lies x)
 
 -- ---- and behind what was no head
 
@@ -758,15 +833,15 @@ line_grown (inl (e, c)) g = grown_both g (kept_one c)
 line_grown (inr (e, i)) g = grown_first g (ap (λ (z : Parser). z.errors) i)
 
 pub before_at : {text : List ℕ} {f : Flags} {o p : Parser} {id : NodeId} → BeforeArrow text f o p id → At text f p
-before_at (a_head h) = h.at
+before_at (a_head h v) = h.at
 before_at (told_head x) = x.at
 
 pub before_same : {text : List ℕ} {f : Flags} {o p : Parser} {id : NodeId} → BeforeArrow text f o p id → Same o p
-before_same (a_head h) = h.same
+before_same (a_head h v) = h.same
 before_same (told_head x) = x.same
 
 pub before_further : {text : List ℕ} {f : Flags} {o p : Parser} {id : NodeId} → BeforeArrow text f o p id → o.token.span.start < p.prev_token_end
-before_further (a_head h) = h.further
+before_further (a_head h v) = h.further
 before_further (told_head x) = x.further
 
 -- an AssignmentExpression of which something was told
@@ -786,11 +861,11 @@ refused x n = let t = told_of x n in told_head (record {
 })
 
 pub before_stops : {text : List ℕ} {f : Flags} {o p q r : Parser} {id : NodeId} → BeforeArrow text f o p id → p.token.kind ≡ Arrow → ChecksLine p q → Moved text f q r → (b : Bool) → same_kind LCurly r.token.kind ≡ b → (w : Parser) (e : Stop) → Stops r w e (Underived text (body_of b f) r.prev_token_end) → Stops o w e (Underived text (at Assignment f) o.prev_token_end)
-before_stops (a_head h) k c m b i w e s = arrow_stops h k c m b i w e s
+before_stops (a_head h v) k c m b i w e s = arrow_stops h v k c m b i w e s
 before_stops (told_head x) k c m b i w e s = stops_behind w e (same_both x.same (same_both (line_same c) m.same)) (λ g. grown_both (grown_first (line_grown c x.grown) m.kept) g) (λ z. x.none) s
 
 pub before_answers : {text : List ℕ} {f : Flags} {o p q r w z : Parser} {id body made : NodeId} → BeforeArrow text f o p id → p.token.kind ≡ Arrow → ChecksLine p q → Moved text f q r → (b : Bool) → same_kind LCurly r.token.kind ≡ b → (s : Span) → At text f o → Numbered text f (body_of b f) r w body → s.start ≡ o.token.span.start → s.end ≡ w.prev_token_end → MadeHere (plain_label node_kind.ArrowFunctionExpression op_made.None s) (Some id ∷ Some body ∷ []) w z made → Numbered text f (at Assignment f) o z made
-before_answers (a_head h) k c m b i s a y u d n = arrow_answers h k c m b i s a y u d n
+before_answers (a_head h v) k c m b i s a y u d n = arrow_answers h v k c m b i s a y u d n
 before_answers {text} {f} {o} {p} {q} {r} {w} {z} {id} {body} {made} (told_head v) k c m b t s a y u d n =
     let l : plain_label node_kind.ArrowFunctionExpression op_made.None s ≡ label_here arrow_function_expression no_op o w = rw (u, d) refl in
     let x : MadeHere (label_here arrow_function_expression no_op o w) (Some id ∷ Some body ∷ []) w z made = subst (λ (j : Label). MadeHere j (Some id ∷ Some body ∷ []) w z made) l n in

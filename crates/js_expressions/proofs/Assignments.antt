@@ -2,25 +2,24 @@
 use Rattle.js_targets.proofs.Refused.{no_target, short_follows}
 use Rattle.std.proofs.Common.{ℕ, ◌≡◌, ◌⊎◌, inl, inr, List, [], ◌∷◌, length, Bool, true, false, not, ◌||◌, IsTrue, Option, Some, None, refl, sym, ap, subst, arith, ◌∙◌}
 use Rattle.std.specs.Prelude.{IsCharBoundary, is_some, if◌then◌else◌}
-use Rattle.std.proofs.lemmas.Bool.{false≢true, and_from, and_parts}
+use Rattle.std.proofs.lemmas.Bool.{false≢true, and_from}
 use Rattle.js_base.specs.declared.diagnostic.Diagnostic.{Diagnostic}
 use Rattle.js_base.specs.declared.kind.Kind.{Kind}
-use Rattle.js_base.specs.declared.kind.Kind.TheVariants.{Question, Eq, LCurly}
+use Rattle.js_base.specs.declared.kind.Kind.TheVariants.{Question, Eq, RegExp}
 use Rattle.js_base.specs.declared.operator.AssignmentOperator.{AssignmentOperator}
 use Rattle.js_base.specs.declared.span.Span.{Span}
 use Rattle.js_base.specs.Kinds.{same_kind, one_of_kinds}
 use Rattle.js_base.specs.Operators.{row_of as row_in, assignment_operators}
 use Rattle.js_base.proofs.KindLemmas.{kind_of_same}
 use Rattle.js_grammar.specs.Trees.{Span as TreeSpan, Label, Slots, end, tree, Tree, of, assignment_expression}
-use Rattle.js_grammar.specs.Grammar.{Lexeme, Lexemes, Look, here, seen, such, nothing, exact, Takes, is_seq, is_lexeme, is_such, is_node}
+use Rattle.js_grammar.specs.Grammar.{Lexeme, Lexemes, Look, here, seen, such, nothing, exact, Takes, is_seq, is_lexeme, is_such}
 use Rattle.js_grammar.specs.Insertion.{Row, after_expression, assign_operators}
 use Rattle.js_grammar.specs.Lexemes.{is_escaped}
 use Rattle.js_grammar.specs.Marks.{Mark}
-use Rattle.js_grammar.specs.Parsing.{Test, always, Admits, Fails, Goes, still}
-use Rattle.js_grammar.specs.Productions.{Flags, Symbol, at, Assignment, ObjectTarget, Short, Target}
+use Rattle.js_grammar.specs.Parsing.{Test, always, Admits, Goes, still}
+use Rattle.js_grammar.specs.Productions.{Flags, Symbol, at, Assignment, Short, Target}
 use Rattle.js_grammar.specs.Productions.{sym as symbol}
-use Rattle.js_grammar.specs.Table.{rule, rule_of}
-use Rattle.js_grammar.specs.Lexed.{Lexes}
+use Rattle.js_grammar.specs.Table.{rule}
 use Rattle.js_grammar.specs.Follow.{edge_of, follow, after, looser, widest}
 use Rattle.js_grammar.proofs.Looks.{covered}
 use Rattle.js_grammar.proofs.Calculus.{On, Inside, ◌▹✗◌, fails_node, weaken_fails_on}
@@ -36,7 +35,7 @@ use Rattle.js_cursor.specs.Parsers.{Parser}
 use Rattle.js_cursor.specs.Moves.{is_last}
 use Rattle.js_cursor.specs.Places.{goal}
 use Rattle.js_parsing.specs.Answers.{Underived, Answer, Numbered, Stretch, Verdict}
-use Rattle.js_parsing.specs.Lexemes.{Lex}
+use Rattle.js_parsing.specs.Lexemes.{Lex, Plain}
 use Rattle.js_parsing.specs.Moves.{Moved, MadeHere, Tightness, plain_label}
 use Rattle.js_targets.specs.Taken.{no_target_at}
 use Rattle.js_parsing.specs.States.{At}
@@ -48,14 +47,14 @@ use Rattle.js_targets.proofs.ArraysBeforeSigns.{is_cover, no_array, no_array_the
 use Rattle.js_expressions.specs.Rests.{OnlyOperand}
 use Rattle.js_targets.specs.Targets.{is_literal}
 use Rattle.js_targets.proofs.Covers.{row_of_target, lexed_there, no_simple_there, underived_there}
-use Rattle.js_parsing.proofs.Here.{told, found}
+use Rattle.js_parsing.proofs.Here.{found, told_plain}
 use Rattle.js_parsing.proofs.MadeNodes.{two_held, one_lies}
 use Rattle.js_parsing.proofs.Moving.{same_both}
 use Rattle.js_operands.proofs.Operands.{by_path}
 use Rattle.js_parsing.proofs.Paths.{Path, ◌⟼◌, ◌⟶◌, ◌⟶✗◌, token, last_called, noded_by, label_here, read_of, walked_to}
 use Rattle.js_parsing.proofs.Signs.{none_kept, plain_of}
 use Rattle.js_targets.proofs.Targets.{of_short}
-use Rattle.js_parsing.proofs.Tight.{read_plain}
+use Rattle.js_parsing.proofs.Tight.{read_plain, plain_is_read, plain_lex, plain_is_none}
 
 -- the sign behind was told whole
 pub shifted : {text : List ℕ} {f : Flags} {n : Symbol} {p q t : Parser} {id : NodeId} {power : ℕ} → Numbered text f n p q id → Tightness text f q t power → Numbered text f n p t id
@@ -66,7 +65,7 @@ shifted {text} {f} {n} {p} {q} {t} {id} x o = record {
     further = let a = x.answer.further in let b = o.place in omega arith;
     label = x.answer.label;
     slots = x.answer.slots;
-    stops = λ y l. x.answer.stops y (subst (λ (v : ℕ). Lex text v y) o.place l);
+    stops = λ y l. x.answer.stops y (subst (λ (v : ℕ). Plain text v y) o.place l);
     row = x.answer.row;
     pass = x.answer.pass;
     walked = walked_to (sym o.spot_is) x.answer.walked;
@@ -99,11 +98,11 @@ on_second f a ds s = record { admits = λ ts vs k ls rest d e. go ts vs d e }
     go ts vs (is_such d h) x = absurd (false≢true x.1)
 
 module _ {text : List ℕ} {f : Flags} {p q : Parser} (x : Answer text f (at Short f) p q) (na : OnlyOperand text f p.prev_token_end) (c : q.cut ≡ false) (u : one_of_kinds assign_operators q.token.kind ≡ true) where
-  sign_here : (y : Lexeme) → Lex text q.prev_token_end y → y.kind ≡ q.token.kind
-  sign_here y l = sym (told x.at c y l).kind
+  sign_here : (y : Lexeme) → Lex text q.prev_token_end y → same_kind RegExp y.kind ≡ false → y.kind ≡ q.token.kind
+  sign_here y l r = sym (told_plain x.at c y r l).kind
 
-  pub all_assign : (y : Lexeme) → Lex text q.prev_token_end y → IsTrue (seen an_assign y)
-  all_assign y l = and_from _ _ (subst (λ (k : Kind). one_of_kinds assign_operators k ≡ true) (sym (sign_here y l)) u) (ap not (read_plain y l.1))
+  pub all_assign : (y : Lexeme) → Plain text q.prev_token_end y → IsTrue (seen an_assign y)
+  all_assign y l = and_from _ _ (subst (λ (k : Kind). one_of_kinds assign_operators k ≡ true) (sym (sign_here y (plain_lex l) (plain_is_none y l.1))) u) (ap not (read_plain y (plain_is_read y l.1)))
 
   pub plain_here : q.token.escaped ≡ false
   plain_here = let z = found x.at c (assigns q.token.kind u).no_end in z.2.escaped ∙ plain_of q.token.kind z.1.word z.0.escaped (subst (λ (v : Kind). z.0.escaped ≡ is_escaped v z.1.word) (sym z.2.kind) z.1.escaped) (assigns q.token.kind u).unescaped

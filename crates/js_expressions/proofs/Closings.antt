@@ -3,10 +3,10 @@ use Rattle.std.proofs.Common.{ℕ, ◌≡◌, Bool, true, false, not, cond, ◌|
 use Rattle.std.specs.Prelude.{IsCharBoundary, IsUtf8, Result, Ok, Err, IfOk}
 use Rattle.std.proofs.lemmas.Bool.{false≢true, eq-eqb}
 use Rattle.js_base.specs.declared.kind.Kind.{Kind}
-use Rattle.js_base.specs.declared.kind.Kind.TheVariants.{Arrow, LParen, LBrack, LCurly, RParen, RBrack, RCurly, RAngle, Undetermined}
+use Rattle.js_base.specs.declared.kind.Kind.TheVariants.{Arrow, LParen, LBrack, LCurly, RParen, RBrack, RCurly, RAngle, Undetermined, RegExp, Slash, SlashEq}
 use Rattle.js_base.specs.declared.diagnostic.Diagnostic.{Diagnostic}
 use Rattle.js_base.specs.declared.token.Token.{Token}
-use Rattle.js_base.specs.Kinds.{same_kind}
+use Rattle.js_base.specs.Kinds.{same_kind, one_of_kinds}
 use Rattle.js_base.proofs.KindLemmas.{kind_of_same}
 use Rattle.js_grammar.specs.Brackets.{Bracket, plain, opens, closes, bracket, move, pop}
 use Rattle.js_grammar.specs.Grammar.{Lexeme, Lexemes}
@@ -17,10 +17,11 @@ use Rattle.js_grammar.proofs.Heads.{One, the_last, and_more}
 use Rattle.js_lex.specs.Reading.{cut, is_right_angle, Tells, GivesLexeme, GivesNone, GivesBehind, LexemeBehind, Outcome}
 use Rattle.js_lex.proofs.Again.{cut_same, passed}
 use Rattle.js_lex.proofs.StringPlaces.{front_word}
-use Rattle.js_parsing.specs.Lexemes.{Lex}
+use Rattle.js_parsing.specs.Lexemes.{Lex, slashes}
 use Rattle.js_parsing.proofs.Here.{plainly}
 use Rattle.js_expressions.specs.declared.closing.OpenBracket.{OpenBracket}
-use Rattle.js_expressions.specs.Closings.{number_of, Closing, closed, inside, ArrowBehindOne, open_behind, tells_whole, BracketPassed, LastClosed, Opened, ArrowStands, ArrowFound}
+use Rattle.js_expressions.specs.Closings.{number_of, Closing, closed, inside, ArrowBehindOne, open_behind, tells_whole, BracketPassed, LastClosed, Opened, ArrowStands, ArrowFound, Settled}
+use Rattle.js_parsing.proofs.Slashes.{slash_there}
 
 -- ---- lists of brackets
 
@@ -113,8 +114,8 @@ pub no_bracket : (k : Kind) (st : List ℕ) → (k ≡ LParen → ⊥) → (k �
 unfolding bracket
 no_bracket k st a b c d e f = plain_move k st (rw (differs LParen k a, differs LBrack k b, differs LCurly k c, differs RParen k d, differs RBrack k e, differs RCurly k f) refl)
 
-pub is_whole : (k : Kind) → (k ≡ RAngle → ⊥) → (k ≡ Undetermined → ⊥) → tells_whole k ≡ true
-is_whole k a b = rw (differs RAngle k a, differs Undetermined k b) refl
+pub is_whole : (k : Kind) → (k ≡ RAngle → ⊥) → (k ≡ Undetermined → ⊥) → (k ≡ Slash → ⊥) → (k ≡ SlashEq → ⊥) → tells_whole k ≡ true
+is_whole k a b c d = rw (differs RAngle k a, differs Undetermined k b, differs Slash k c, differs SlashEq k d) refl
 
 -- ---- the token behind a place
 
@@ -126,13 +127,13 @@ module _ {text : List ℕ} {e : ℕ} {t : Token} (g : GivesBehind text e t) wher
   pub whole_behind : tells_whole t.kind ≡ true → (y : Lexeme) × LexemeBehind division text e y × Tells y t
   whole_behind w = go (same_kind Undetermined t.kind) refl behind_it
     where
-      both : (a b : Bool) → not (a || (b || false)) ≡ true → (a ≡ false) × (b ≡ false)
-      both true b h = absurd (false≢true h)
-      both false true h = absurd (false≢true h)
-      both false false h = (refl, refl)
+      both : (a b c : Bool) → not (a || (b || c)) ≡ true → (a ≡ false) × (b ≡ false)
+      both true b c h = absurd (false≢true h)
+      both false true c h = absurd (false≢true h)
+      both false false c h = (refl, refl)
 
       parts : (same_kind RAngle t.kind ≡ false) × (same_kind Undetermined t.kind ≡ false)
-      parts = both (same_kind RAngle t.kind) (same_kind Undetermined t.kind) w
+      parts = both (same_kind RAngle t.kind) (same_kind Undetermined t.kind) (one_of_kinds slashes t.kind) w
 
       by : (x : GivesLexeme division cut text e t) → (b : Bool) → is_right_angle x.lexeme.kind ≡ b → (y : Lexeme) × LexemeBehind division text e y × Tells y t
       by x true q = absurd (false≢true (sym parts.0 ∙ (let c : (cut x.lexeme).kind ≡ RAngle = rw (q, cut) refl in ap (same_kind RAngle) (x.tells.kind ∙ c))))
@@ -141,6 +142,19 @@ module _ {text : List ℕ} {e : ℕ} {t : Token} (g : GivesBehind text e t) wher
       go : (r : Bool) → same_kind Undetermined t.kind ≡ r → elim r as (λ _. Type 0) [ true ↦ (d : Diagnostic) × ((g.next).faults ≡ d ∷ []) × GivesNone division (g.before).goal text e t d | false ↦ ((g.next).faults ≡ []) × GivesLexeme division cut text e t ] → (y : Lexeme) × LexemeBehind division text e y × Tells y t
       go true q x = absurd (false≢true (sym parts.1 ∙ q))
       go false q x = by x.1 (is_right_angle x.1.lexeme.kind) refl
+
+  -- it begins with no slash
+  no_slash_behind : tells_whole t.kind ≡ true → one_of_kinds slashes t.kind ≡ false
+  no_slash_behind w = third (same_kind RAngle t.kind) (same_kind Undetermined t.kind) (one_of_kinds slashes t.kind) w
+    where
+      third : (a b c : Bool) → not (a || (b || c)) ≡ true → c ≡ false
+      third true b c h = absurd (false≢true h)
+      third false true c h = absurd (false≢true h)
+      third false false true h = absurd (false≢true h)
+      third false false false h = refl
+
+  pub settled_behind : (w : tells_whole t.kind ≡ true) → (y : Lexeme) × Settled text e y × Tells y t
+  settled_behind w = let x = whole_behind w in (x.0, (x.1, subst (λ (k : Kind). one_of_kinds slashes k ≡ false) x.2.kind (no_slash_behind w)), x.2)
 
   pub arrow_behind : t.kind ≡ Arrow → (y : Lexeme) × LexemeBehind division text e y × (y.kind ≡ Arrow)
   arrow_behind k = let x = whole_behind (ap tells_whole k) in (x.0, x.1, sym x.2.kind ∙ k)
@@ -162,8 +176,8 @@ pub passed_none : {text : List ℕ} {start : ℕ} {old : List OpenBracket} → I
 passed_none {text} {start} {old} b h = record { between = b; leads = λ e c. subst (λ (bs : List OpenBracket). Closing text (open_behind [] bs) start e) h c }
 
 module _ {text : List ℕ} {start place : ℕ} {old : List OpenBracket} (new : List OpenBracket) {t : Token} {to : ℕ} (u : IsUtf8 text) (z : PassedTo text start old place) (g : GivesBehind text place t) (w : tells_whole t.kind ≡ true) (m : move (bracket t.kind) (open_behind [] old) ≡ Some (open_behind [] new)) (d : to ≡ t.span.end) where
-  next_lexeme : (y : Lexeme) × LexemeBehind division text place y × Tells y t
-  next_lexeme = whole_behind g w
+  next_lexeme : (y : Lexeme) × Settled text place y × Tells y t
+  next_lexeme = settled_behind g w
 
   ends_there : to ≡ next_lexeme.0.to
   ends_there = d ∙ next_lexeme.2.end
@@ -172,7 +186,7 @@ module _ {text : List ℕ} {start place : ℕ} {old : List OpenBracket} (new : L
   moved = ap (λ (k : Kind). move (bracket k) (open_behind [] old)) (sym next_lexeme.2.kind) ∙ m
 
   between_there : IsCharBoundary text to
-  between_there = subst (λ (v : ℕ). IsCharBoundary text v) (sym ends_there) (plain_between u z.between next_lexeme.1)
+  between_there = subst (λ (v : ℕ). IsCharBoundary text v) (sym ends_there) (plain_between u z.between next_lexeme.1.0)
 
   -- some brackets are old behind it
   pub passed_on : (length new ≡ 0 → ⊥) → PassedTo text start new to
@@ -202,8 +216,14 @@ module _ {text : List ℕ} {start place : ℕ} {old : List OpenBracket} (new : L
 
 -- ---- the lexemes of an operand go the same way
 
-pub one_is : {text : List ℕ} {s : ℕ} {x y : Lexeme} → Lex text s x → LexemeBehind division text s y → x ≡ y
-one_is l h = lex-same l.0 h.lex (plainly l.0 l.1 ∙ sym h.of_goal)
+pub one_is : {text : List ℕ} {s : ℕ} {x y : Lexeme} → Lex text s x → Settled text s y → x ≡ y
+one_is {text} {s} {x} {y} l h = go (same_kind RegExp x.kind) refl
+  where
+    go : (b : Bool) → same_kind RegExp x.kind ≡ b → x ≡ y
+    go false r = lex-same l.0 h.0.lex (plainly l.0 l.1 r ∙ sym h.0.of_goal)
+    go true r =
+        let z = slash_there l.0 (sym (kind_of_same RegExp x.kind r)) in
+        absurd (false≢true (sym h.1 ∙ subst (λ (v : Lexeme). one_of_kinds slashes v.kind ≡ true) (lex-same z.stands.lex h.0.lex (z.stands.of_goal ∙ sym h.0.of_goal)) z.is))
 
 none_left : {b : ℕ} {s : List ℕ} → Some [] ≡ Some (b ∷ s) → ⊥
 none_left e = cc

@@ -35,7 +35,7 @@ use Rattle.js_cursor.specs.declared.stop.Stop.{Stop}
 use Rattle.js_parsing.specs.Answers.{Grown, Verdict, clean, unclean, Stretch, Underived, Numbered, Stops, beside}
 use Rattle.js_targets.specs.Targets.{Stood}
 use Rattle.js_expressions.specs.Coalescing.{is_or_and, mixed_at, ChecksMixed}
-use Rattle.js_parsing.specs.Lexemes.{Lex, Walked, spot}
+use Rattle.js_parsing.specs.Lexemes.{Lex, Walked, spot, Plain}
 use Rattle.js_parsing.specs.Moves.{Moved, MadeHere, IsWholeHere}
 use Rattle.js_parsing.specs.States.{At, Same}
 use Rattle.js_expressions.proofs.Coalescing.{Begun, operand, operands, coalesced, part, PartReads, AllSigns, NoSign, as_bit_or, no_bit_or, unread_operand, no_short, kind_of_or, begun_alone, begun_fails, begun_step}
@@ -49,7 +49,7 @@ use Rattle.js_parsing.proofs.Moving.{stops_behind, same_both, same_itself, same_
 use Rattle.js_parsing.proofs.Paths.{skips, not_here, read_of, walked_both, walked_one, walked_to}
 use Rattle.js_parsing.proofs.Phrases.{narrow_operand}
 use Rattle.js_parsing.proofs.Signs.{none_kept}
-use Rattle.js_parsing.proofs.Tight.{narrows, read_plain}
+use Rattle.js_parsing.proofs.Tight.{narrows, read_plain, plain_lex}
 use Rattle.js_parsing.proofs.Verdicts.{verdict_of, either_way, and_then, behind_none, grown_then}
 use Rattle.js_parsing.proofs.Verdicts.{after as grown_behind}
 use Rattle.js_parsing.specs.Classes.{EndsParse}
@@ -75,7 +75,7 @@ pub record Operands (text : List ℕ) (f : Flags) (p q : Parser) (id : NodeId) :
   pub pass : Lexemes → Lexemes
   pub walked : Walked text (spot p) (spot q) pass
   pub verdict : Verdict p.errors q.errors (Begun text f p.prev_token_end p.token.span.start label slots pass q.prev_token_end) (Unread text f p.prev_token_end)
-  pub stops : (y : Lexeme) → Lex text q.prev_token_end y → IsTrue (seen (looser 5 f.in_ (row_of label slots)) y || seen beside y)
+  pub stops : (y : Lexeme) → Plain text q.prev_token_end y → IsTrue (seen (looser 5 f.in_ (row_of label slots)) y || seen beside y)
   pub holds : Holds q.nodes (length p.nodes) (length q.nodes) id.0 label slots
   pub keeps : Keeps p.nodes q.nodes
 
@@ -132,7 +132,7 @@ module _ {text : List ℕ} {f : Flags} where
       further = s.further;
       label = s.label;
       slots = s.slots;
-      stops = λ y l. narrows 5 4 (Question2 ∷ []) f.in_ (row_of s.label s.slots) (narrow_operand 5 4 (Question2 ∷ []) refl refl refl refl f.in_ (row_of s.label s.slots) s.row) y l.1 (no_kind y l) (s.stops y l);
+      stops = λ y l. narrows 5 4 (Question2 ∷ []) f.in_ (row_of s.label s.slots) (narrow_operand 5 4 (Question2 ∷ []) refl refl refl refl f.in_ (row_of s.label s.slots) s.row) y l.1 (no_kind y (plain_lex l)) (s.stops y l);
       row = s.row;
       pass = s.pass;
       walked = s.walked;
@@ -346,7 +346,7 @@ module _ {text : List ℕ} {f : Flags} where
       pub mixed_else : {a b c : Bool} → a ≡ is_or_and s.label.op → a ≡ false → b ≡ c → c ≡ is_or_and x.answer.label.op → b ≡ is_mixed
       mixed_else e h i j = rw (sym e ∙ h) (i ∙ j)
 
-      pair_stops : (y : Lexeme) → Lex text v.prev_token_end y → IsTrue (seen (looser 5 f.in_ (row_of pair_label pair_slots)) y || seen beside y)
+      pair_stops : (y : Lexeme) → Plain text v.prev_token_end y → IsTrue (seen (looser 5 f.in_ (row_of pair_label pair_slots)) y || seen beside y)
       pair_stops y l = x.answer.stops y l
 
       module _ {w : Parser} (c : Checked text f p v w pair_label pair_slots pair_pass) where
@@ -361,7 +361,7 @@ module _ {text : List ℕ} {f : Flags} where
           pass = pair_pass;
           walked = walked_to (sym c.spot_is) (walked_both s.walked (walked_both (walked_one m) x.answer.walked));
           verdict = subst (λ (e : ℕ). Verdict p.errors w.errors (Begun text f p.prev_token_end p.token.span.start pair_label pair_slots pair_pass e) Nowhere) (sym c.place) c.verdict;
-          stops = subst (λ (e : ℕ). (y : Lexeme) → Lex text e y → IsTrue (seen (looser 5 f.in_ (row_of pair_label pair_slots)) y || seen beside y)) (sym c.place) pair_stops;
+          stops = subst (λ (e : ℕ). (y : Lexeme) → Plain text e y → IsTrue (seen (looser 5 f.in_ (row_of pair_label pair_slots)) y || seen beside y)) (sym c.place) pair_stops;
           holds = two_held n s.holds s.keeps right_held right_keeps;
           keeps = Keeps-trans s.keeps (Keeps-trans right_keeps (Keeps-made n.made));
         })

@@ -4,7 +4,7 @@ use Rattle.std.proofs.Common.{ℕ, ◌≡◌, ◌≤◌, List, [], ◌∷◌, le
 use Rattle.std.specs.Prelude.{Err}
 use Rattle.std.proofs.lemmas.Bool.{false≢true, and_from, and_parts}
 use Rattle.js_base.specs.declared.kind.Kind.{Kind}
-use Rattle.js_base.specs.declared.kind.Kind.TheVariants.{Question, Colon, PrivateIdentifier, Undetermined}
+use Rattle.js_base.specs.declared.kind.Kind.TheVariants.{Question, Colon, PrivateIdentifier, Undetermined, RegExp}
 use Rattle.js_base.specs.declared.span.Span.{Span}
 use Rattle.js_base.specs.Kinds.{same_kind, one_of_kinds}
 use Rattle.js_base.specs.Texts.{words}
@@ -13,7 +13,7 @@ use Rattle.js_grammar.specs.Grammar.{Lexeme, Lexemes, Look, here, seen, such, no
 use Rattle.js_grammar.specs.Insertion.{Row, after_expression, after_postfix, after_body, after_yield, after_declarator, after_word, assign_operators}
 use Rattle.js_grammar.specs.Lexemes.{is_word}
 use Rattle.js_grammar.specs.Parsing.{Test, always, Admits, Goes, Fails, still}
-use Rattle.js_grammar.specs.Productions.{G, Flags, at, tok, mk, plus_in, Arrow', Assignment, Conditional, Short}
+use Rattle.js_grammar.specs.Productions.{G, Flags, at, tok, mk, plus_in, Assignment, Conditional, Short}
 use Rattle.js_grammar.specs.Productions.{sym as symbol}
 use Rattle.js_grammar.specs.Table.{rule, rule_of}
 use Rattle.js_grammar.specs.Follow.{edge_of, row_of, follow, after, looser, widest}
@@ -44,18 +44,18 @@ use Rattle.js_cursor.proofs.Standing.{mark_here}
 use Rattle.js_expressions.specs.Rests.{Asked, OnlyOperand}
 use Rattle.js_parsing.specs.Moves.{Passes}
 use Rattle.js_parsing.proofs.Giving.{gives_up}
-use Rattle.js_parsing.specs.Lexemes.{Lex}
+use Rattle.js_parsing.specs.Lexemes.{Lex, Plain}
 use Rattle.js_parsing.specs.States.{At, Same}
 use Rattle.js_parsing.specs.Moves.{Moved, MadeHere, plain_label}
 use Rattle.js_parsing.specs.Answers.{Underived, Answer, Numbered, Stops, beside}
-use Rattle.js_targets.proofs.Assigned.{an_assign, unassigned, nothing_assigned}
-use Rattle.js_parsing.proofs.Here.{told, kind_here}
+use Rattle.js_targets.proofs.Assigned.{an_assign, unassigned, nothing_assigned, assign_plain}
+use Rattle.js_parsing.proofs.Here.{kind_here, told_plain}
 use Rattle.js_parsing.proofs.MadeNodes.{node_held, one_lies}
 use Rattle.js_parsing.proofs.Moving.{same_both}
 use Rattle.js_operands.proofs.Operands.{by_path}
 use Rattle.js_parsing.proofs.Paths.{Path, ◌⟼◌, ◌⟶◌, ◌⟶✗◌, fails_at, not_here, token, called, last_called, noded_by, by_symbol_as, label_here}
 use Rattle.js_parsing.proofs.Phrases.{lift, lift_fails, narrow_operand, operand_assigned}
-use Rattle.js_parsing.proofs.Tight.{narrows, read_plain}
+use Rattle.js_parsing.proofs.Tight.{narrows, read_plain, plain_is_read, plain_lex, plain_so}
 use Rattle.js_parsing.specs.Classes.{EndsParse}
 
 pub question_plain : (is_word Question || same_kind PrivateIdentifier Question) ≡ false
@@ -157,13 +157,13 @@ module _ {text : List ℕ} {f : Flags} {p q : Parser} (x : Answer text f (at Sho
   unfolding rule rule_of covers apart
   no_branches n = left (fails_node inside_full (called x refl ⟶✗ fails_at x.at (branches_behind f) (Question ∷ []) refl n))
 
-  behind_test : one_of_kinds (Question ∷ []) q.token.kind ≡ false → (y : Lexeme) → Lex text q.prev_token_end y → IsTrue (seen (looser 3 f.in_ (row_of x.label x.slots)) y || seen beside y)
+  behind_test : one_of_kinds (Question ∷ []) q.token.kind ≡ false → (y : Lexeme) → Plain text q.prev_token_end y → IsTrue (seen (looser 3 f.in_ (row_of x.label x.slots)) y || seen beside y)
   unfolding covers apart
-  behind_test n y l = narrows 4 3 (Question ∷ []) f.in_ (row_of x.label x.slots) (narrow_operand 4 3 (Question ∷ []) refl refl refl refl f.in_ (row_of x.label x.slots) x.row) y l.1 (none_here (Question ∷ []) x.at y (λ h. not_here x.at (Question ∷ []) refl n y l h)) (x.stops y l)
+  behind_test n y l = narrows 4 3 (Question ∷ []) f.in_ (row_of x.label x.slots) (narrow_operand 4 3 (Question ∷ []) refl refl refl refl f.in_ (row_of x.label x.slots) x.row) y l.1 (none_here (Question ∷ []) x.at y (λ h. not_here x.at (Question ∷ []) refl n y (plain_lex l) h)) (x.stops y l)
 
-  behind_alone : one_of_kinds (Question ∷ []) q.token.kind ≡ false → ((y : Lexeme) → Lex text q.prev_token_end y → IsTrue (seen an_assign y) → ⊥) → (y : Lexeme) → Lex text q.prev_token_end y → IsTrue (seen (looser 2 f.in_ (row_of x.label x.slots)) y || seen beside y)
+  behind_alone : one_of_kinds (Question ∷ []) q.token.kind ≡ false → ((y : Lexeme) → Lex text q.prev_token_end y → IsTrue (seen an_assign y) → ⊥) → (y : Lexeme) → Plain text q.prev_token_end y → IsTrue (seen (looser 2 f.in_ (row_of x.label x.slots)) y || seen beside y)
   unfolding covers
-  behind_alone n z y l = narrows 3 2 assign_operators f.in_ (row_of x.label x.slots) (narrow_operand 3 2 assign_operators refl refl refl refl f.in_ (row_of x.label x.slots) x.row) y l.1 (none_here assign_operators x.at y (λ h. z y l (and_from _ _ h (ap not (read_plain y l.1))))) (behind_test n y l)
+  behind_alone n z y l = narrows 3 2 assign_operators f.in_ (row_of x.label x.slots) (narrow_operand 3 2 assign_operators refl refl refl refl f.in_ (row_of x.label x.slots) x.row) y l.1 (none_here assign_operators x.at y (λ h. z y (plain_lex l) (and_from _ _ h (ap not (read_plain y (plain_is_read y l.1)))))) (behind_test n y l)
 
   -- a `?` is no assignment operator
   no_sign : q.token.kind ≡ Question → (y : Lexeme) → Lex text q.prev_token_end y → IsTrue (seen an_assign y) → ⊥
@@ -231,12 +231,31 @@ assign_binds b after_yield h = absurd (false≢true h)
 assign_binds b after_declarator h = absurd (false≢true h)
 assign_binds b after_word h = absurd (false≢true h)
 
-pub no_conditional : {text : List ℕ} {f : Flags} {p q : Parser} → Answer text f (at Short f) p q → one_of_kinds (Question ∷ []) q.token.kind ≡ false → ((y : Lexeme) → Lex text q.prev_token_end y → IsTrue (seen an_assign y)) → Fails rule (Lex text) (after (at Assignment f)) end (such (at Conditional f) always) p.prev_token_end
+-- nor before a regular expression, which counts as the division sign
+abbrev a_pattern : Look
+a_pattern k w e = same_kind RegExp k && not e
+
+pattern_binds : (b : Bool) (r : Row) → of_operand r ≡ true → covers a_pattern (λ k w e. not (looser 2 b r k w e)) ≡ true
+unfolding covers
+pattern_binds true after_expression h = refl
+pattern_binds true after_postfix h = refl
+pattern_binds false after_expression h = refl
+pattern_binds false after_postfix h = refl
+pattern_binds b after_body h = absurd (false≢true h)
+pattern_binds b after_yield h = absurd (false≢true h)
+pattern_binds b after_declarator h = absurd (false≢true h)
+pattern_binds b after_word h = absurd (false≢true h)
+
+pub no_conditional : {text : List ℕ} {f : Flags} {p q : Parser} → Answer text f (at Short f) p q → one_of_kinds (Question ∷ []) q.token.kind ≡ false → ((y : Lexeme) → Plain text q.prev_token_end y → IsTrue (seen an_assign y)) → Fails rule (Lex text) (after (at Assignment f)) end (such (at Conditional f) always) p.prev_token_end
 unfolding rule rule_of covers apart
 no_conditional {text} {f} {p} {q} x n s = fails_rule {X' = after (at Assignment f)} (λ l cs vs y d. d) (fails_alt (last_called x (same_read (at Assignment f) (at Short f) short_passes refl) ⟶✗ fails_nothing (λ ts y l h. no y l h.1)) (fails_node inside_full (called x refl ⟶✗ fails_at x.at (branches_behind f) (Question ∷ []) refl n)))
   where
     no : (y : Lexeme) → Lex text q.prev_token_end y → IsTrue (seen (looser 2 f.in_ (row_of x.label x.slots)) y) → ⊥
-    no y l h = contrary (seen (looser 2 f.in_ (row_of x.label x.slots)) y) (covered an_assign (λ k w e. not (looser 2 f.in_ (row_of x.label x.slots) k w e)) (assign_binds f.in_ (row_of x.label x.slots) x.row) y.kind y.newline y.escaped (s y l)) h
+    no y l h = by (same_kind RegExp y.kind) refl
+      where
+        by : (b : Bool) → same_kind RegExp y.kind ≡ b → ⊥
+        by false e = contrary (seen (looser 2 f.in_ (row_of x.label x.slots)) y) (covered an_assign (λ k w e. not (looser 2 f.in_ (row_of x.label x.slots) k w e)) (assign_binds f.in_ (row_of x.label x.slots) x.row) y.kind y.newline y.escaped (s y (l.0, plain_so y l.1 e))) h
+        by true e = contrary (seen (looser 2 f.in_ (row_of x.label x.slots)) y) (covered a_pattern (λ k w e. not (looser 2 f.in_ (row_of x.label x.slots) k w e)) (pattern_binds f.in_ (row_of x.label x.slots) x.row) y.kind y.newline y.escaped (and_from _ _ e (ap not (read_plain y l.1)))) h
 
 -- ---- answers
 
@@ -292,4 +311,4 @@ colon_missing p q Fatal a h = gives_up EndsParse p q Fatal a h.1 (λ d u. u) (ot
 colon_missing p q NoMemory a h = tt
 
 pub no_assign_here : {text : List ℕ} {f : Flags} {q : Parser} → At text f q → q.cut ≡ false → one_of_kinds assign_operators q.token.kind ≡ false → (y : Lexeme) → Lex text q.prev_token_end y → IsTrue (seen an_assign y) → ⊥
-no_assign_here a c n y l s = false≢true (sym n ∙ subst (λ (k : Kind). one_of_kinds assign_operators k ≡ true) (sym (told a c y l).kind) (and_parts (one_of_kinds assign_operators y.kind) (not y.escaped) s).0)
+no_assign_here a c n y l s = false≢true (sym n ∙ subst (λ (k : Kind). one_of_kinds assign_operators k ≡ true) (sym (told_plain a c y (assign_plain y.kind (and_parts (one_of_kinds assign_operators y.kind) (not y.escaped) s).0) l).kind) (and_parts (one_of_kinds assign_operators y.kind) (not y.escaped) s).0)

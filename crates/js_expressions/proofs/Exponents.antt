@@ -52,17 +52,16 @@ use Rattle.js_parsing.specs.States.{At}
 use Rattle.js_parsing.specs.Moves.{Moved, MadeHere, IsWholeHere, plain_label, unpassable}
 use Rattle.js_parsing.specs.Answers.{Grown, Verdict, clean, unclean, Stretch, Underived, Answer, Numbered}
 use Rattle.js_parsing.proofs.Signs.{plain_sign, other_kind}
-use Rattle.js_parsing.proofs.Dead.{fails_dead}
 use Rattle.js_parsing.proofs.Giving.{kept_one}
 use Rattle.js_parsing.proofs.Told.{beside_errors}
-use Rattle.js_parsing.proofs.Here.{kind_here, found, uncut, begins_here}
+use Rattle.js_parsing.proofs.Here.{kind_here, found, uncut, begins_here, unsettled}
 use Rattle.js_parsing.proofs.MadeNodes.{two_held, one_lies}
 use Rattle.js_parsing.proofs.Moving.{same_both}
 use Rattle.js_operands.proofs.Operands.{by_path, of_unary}
 use Rattle.js_parsing.proofs.Paths.{Path, ◌⟼◌, ◌⟶◌, ◌⟶✗◌, fails_at, not_here, token, called, last_called, noded_by, label_here, read_of}
-use Rattle.js_parsing.proofs.Phrases.{lift, narrow_operand, no_await, unary_part}
+use Rattle.js_parsing.proofs.Phrases.{lift, narrow_operand, unary_part, no_await}
+use Rattle.js_parsing.proofs.Tight.{narrows, read_plain, plain_lex}
 use Rattle.js_parsing.proofs.NamedFirsts.{fails_at_await}
-use Rattle.js_parsing.proofs.Tight.{narrows, read_plain}
 use Rattle.js_parsing.proofs.Verdicts.{verdict_of, either_way}
 use Rattle.js_parsing.proofs.Verdicts.{after as grown_behind}
 use Rattle.js_parsing.specs.Classes.{IsEarly}
@@ -127,8 +126,8 @@ exponent_passes : passes_on Exponent Unary ≡ true
 unfolding covers
 exponent_passes = refl
 
-not_angle : (k : Kind) → one_of_kinds unary_kinds k ≡ true → same_kind RAngle k ≡ false
-not_angle k h = of_unary (λ k. same_kind RAngle k ≡ false) k h refl refl refl refl refl refl refl
+not_angle : (k : Kind) → one_of_kinds unary_kinds k ≡ true → one_of_kinds unsettled k ≡ false
+not_angle k h = of_unary (λ k. one_of_kinds unsettled k ≡ false) k h refl refl refl refl refl refl refl
 
 module _ {text : List ℕ} {f : Flags} where
   base_unread : {X : Test} {s : ℕ} → Underived text (at Unary f) s → Fails rule (Lex text) X end (power_slots f) s
@@ -160,7 +159,7 @@ power_alone {text} {f} {p} {q} x n =
     let r = row_of x.answer.label x.answer.slots in
     let none : Fails rule (Lex text) (after (at Exponent f)) end (power_part f) p.prev_token_end = either_way x.answer.verdict (λ y. fails_node inside_full (no_power y (star_none x.answer.at n))) (λ m. fails_node inside_full (base_unread m)) in
     lift (at Exponent f) (at Unary f) refl refl text p.prev_token_end (left none) refl x x.answer.row
-    (λ y l. narrows 16 15 (Star2 ∷ []) f.in_ r (narrow_operand 16 15 (Star2 ∷ []) refl refl refl refl f.in_ r x.answer.row) y l.1 (no_kind y l) (x.answer.stops y l))
+    (λ y l. narrows 16 15 (Star2 ∷ []) f.in_ r (narrow_operand 16 15 (Star2 ∷ []) refl refl refl refl f.in_ r x.answer.row) y l.1 (no_kind y (plain_lex l)) (x.answer.stops y l))
   where
     no_kind : (y : Lexeme) → Lex text q.prev_token_end y → one_of_kinds (Star2 ∷ []) y.kind ≡ false
     no_kind y l = other_kind Star2 y.kind (λ e. star_none x.answer.at n y l (and_from _ _ (subst (λ (v : Kind). same_kind Star2 v ≡ true) (sym e) refl) (ap not (read_plain y l.1))))

@@ -8,11 +8,17 @@ pub mod Coalescing
 pub mod Conditionals
 pub mod Exponents
 pub mod FreeOfContext
+pub mod HeadOperands
+pub mod HeadsAsArguments
 pub mod Lookaheads
 pub mod NotedHeads
 pub mod Operations
+pub mod ParenthesizedFronts
 pub mod Refusals
 pub mod Sequences
+pub mod SlashedHeads
+pub mod SlashOperators
+pub mod SlashesInText
 pub mod Updates
 pub mod Awaits
 pub mod Yields

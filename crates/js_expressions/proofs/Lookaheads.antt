@@ -1,10 +1,10 @@
 -- What the lexeme behind an opening parenthesis says of the head of an arrow function (ECMA-262, 15.3).
-use Rattle.std.proofs.Common.{ℕ, ◌≡◌, List, Bool, true, false, IsTrue, None, refl, sym, ap, subst, arith, ◌∙◌}
+use Rattle.std.proofs.Common.{ℕ, ◌≡◌, ◌⊎◌, List, Bool, true, false, IsTrue, None, refl, sym, ap, subst, arith, ◌∙◌, inl, inr}
 use Rattle.std.specs.Prelude.{Ok}
 use Rattle.std.proofs.lemmas.Bool.{false≢true}
 use Rattle.js_base.specs.declared.diagnostic.DiagnosticKind.TheVariants.{ExpectToken}
 use Rattle.js_base.specs.declared.kind.Kind.{Kind}
-use Rattle.js_base.specs.declared.kind.Kind.TheVariants.{Arrow, Dot3, LParen, New, RAngle, RParen, Await}
+use Rattle.js_base.specs.declared.kind.Kind.TheVariants.{Arrow, Dot3, LParen, New, RAngle, RParen, RegExp, Slash, SlashEq, Await}
 use Rattle.js_base.specs.declared.token.Token.{Token}
 use Rattle.js_base.specs.Kinds.{same_kind, one_of_kinds}
 use Rattle.js_grammar.specs.Trees.{Slots, end, parenthesized_expression}
@@ -16,7 +16,7 @@ use Rattle.js_grammar.specs.Productions.{G, Flags, at, tok, mk, plus_in, with_pi
 use Rattle.js_grammar.specs.Table.{rule, rule_of}
 use Rattle.js_grammar.specs.FirstSets.{first}
 use Rattle.js_grammar.specs.Follow.{after}
-use Rattle.js_grammar.proofs.Calculus.{◌▹◌, ◌▹✗◌, left, fails_node, inside_full}
+use Rattle.js_grammar.proofs.Calculus.{◌▹◌, ◌▹✗◌, fails_node, inside_full}
 use Rattle.js_grammar.proofs.First.{starts}
 use Rattle.js_grammar.proofs.FirstClaims.{firsts}
 use Rattle.js_grammar.proofs.FirstRules.{fails_here}
@@ -31,22 +31,20 @@ use Rattle.js_cursor.specs.declared.stop.Stop.{Stop}
 use Rattle.js_operands.proofs.Links.{no_lhs_here}
 use Rattle.js_operands.proofs.Members.{no_head}
 use Rattle.js_parsing.specs.Answers.{Answers, Stops, Underived}
-use Rattle.js_parsing.specs.Lexemes.{Lex}
+use Rattle.js_parsing.specs.Lexemes.{Lex, slashes}
 use Rattle.js_parsing.specs.Operators.{unary_kinds}
 use Rattle.js_parsing.specs.States.{At}
 use Rattle.js_parsing.proofs.Classes.{here_ends}
-use Rattle.js_parsing.proofs.Dead.{live, lives}
 use Rattle.js_parsing.proofs.Giving.{gives_up}
-use Rattle.js_parsing.proofs.Here.{one_plain, plainly, told, uncut}
+use Rattle.js_parsing.proofs.Here.{one_plain, plainly, told, uncut, unsettled, settled_kind, plain_there, plain_same, Plainly}
 use Rattle.js_parsing.proofs.Moving.{stops_behind, stops_so}
-use Rattle.js_parsing.proofs.Paths.{at_kind, fails_at}
-use Rattle.js_parsing.proofs.Phrases.{no_operator, lift_fails, unary_part}
+use Rattle.js_parsing.proofs.Paths.{at_kind}
+use Rattle.js_parsing.proofs.Phrases.{no_operator, lift_fails}
 use Rattle.js_parsing.proofs.Verdicts.{after as grown_behind}
 use Rattle.js_patterns.specs.Parameters.{parameters_left}
 use Rattle.js_patterns.proofs.ParameterLists.{no_params}
-use Rattle.js_grammar.specs.Grammar.{alt}
-use Rattle.js_expressions.specs.Arrows.{IsHeadHere, NoArrowHere, NoAssignment, Unmoved}
-use Rattle.js_expressions.specs.Lookaheads.{begins_operand, LooksAhead, NoOperandHere}
+use Rattle.js_expressions.specs.Arrows.{IsHeadHere, NoArrowHere, NoAssignment, Unmoved, NoOperandHere}
+use Rattle.js_expressions.specs.Lookaheads.{begins_operand, LooksAhead}
 use Rattle.js_expressions.specs.declared.lookahead.HeadLookahead.{HeadLookahead}
 use Rattle.js_expressions.specs.declared.lookahead.HeadLookahead.TheVariants as lookahead
 use Rattle.js_expressions.specs.Rests.{update_kinds}
@@ -60,20 +58,37 @@ use Rattle.js_expressions.proofs.Updates.{nothing_read}
 
 module _ {text : List ℕ} {f : Flags} {p : Parser} {t : Token} (a : At text f p) (h : Peeks p t) where
   -- a token that isn't `>` tells its kind
-  pub peeked_kind : same_kind RAngle t.kind ≡ false → (y : Lexeme) → Lex text p.token.span.end y → y.kind ≡ t.kind
-  peeked_kind r y l = given_behind a h
-      (λ d u n. absurd (n.none y (record { lex = l.0; of_goal = plainly l.0 l.1 })))
+  pub peeked_kind : one_of_kinds unsettled t.kind ≡ false → (y : Lexeme) → Lex text p.token.span.end y → y.kind ≡ t.kind
+  peeked_kind u y l = given_behind a h
+      (λ d u n. let z = plain_there l in absurd (n.none z.lexeme z.stands))
       (λ x. by x (is_right_angle x.lexeme.kind) refl)
     where
+      r : same_kind RAngle t.kind ≡ false
+      r = (settled_kind t.kind u).0
+
+      -- it is no regular expression, since no slash stands there by the plain goal
+      of_plain : (x : GivesLexeme division cut text p.token.span.end t) → is_right_angle x.lexeme.kind ≡ false → y ≡ x.lexeme
+      of_plain x e = which z.which
+        where
+          z : Plainly text p.token.span.end y
+          z = plain_there l
+
+          same : x.lexeme ≡ z.lexeme
+          same = plain_same z x
+
+          which : (z.lexeme ≡ y) ⊎ ((y.kind ≡ RegExp) × (one_of_kinds slashes z.lexeme.kind ≡ true)) → y ≡ x.lexeme
+          which (inl k) = sym (same ∙ k)
+          which (inr k) = absurd (false≢true (sym (settled_kind t.kind u).1 ∙ subst (λ (v : Kind). one_of_kinds slashes v ≡ true) (ap (λ (v : Lexeme). v.kind) (sym same ∙ sym (cut_same x.lexeme e)) ∙ sym x.tells.kind) k.1))
+
       by : (x : GivesLexeme division cut text p.token.span.end t) → (b : Bool) → is_right_angle x.lexeme.kind ≡ b → y.kind ≡ t.kind
       by x true e = absurd (false≢true (sym r ∙ (let c : (cut x.lexeme).kind ≡ RAngle = rw (e, cut) refl in ap (same_kind RAngle) (x.tells.kind ∙ c))))
-      by x false e = ap (λ (z : Lexeme). z.kind) (one_plain l x) ∙ (ap (λ (z : Lexeme). z.kind) (sym (cut_same x.lexeme e)) ∙ sym x.tells.kind)
+      by x false e = ap (λ (z : Lexeme). z.kind) (of_plain x e) ∙ (ap (λ (z : Lexeme). z.kind) (sym (cut_same x.lexeme e)) ∙ sym x.tells.kind)
 
   -- a lexeme that doesn't begin with `>` is told whole
-  pub peeked_whole : (y : Lexeme) → Lex text p.token.span.end y → is_right_angle y.kind ≡ false → y.kind ≡ t.kind
-  peeked_whole y l r = given_behind a h
-      (λ d u n. absurd (n.none y (record { lex = l.0; of_goal = plainly l.0 l.1 })))
-      (λ x. let e = one_plain l x in ap (λ (z : Lexeme). z.kind) e ∙ (ap (λ (z : Lexeme). z.kind) (sym (cut_same x.lexeme (sym (ap (λ (z : Lexeme). is_right_angle z.kind) e) ∙ r))) ∙ sym x.tells.kind))
+  pub peeked_whole : (y : Lexeme) → Lex text p.token.span.end y → is_right_angle y.kind ≡ false → same_kind RegExp y.kind ≡ false → y.kind ≡ t.kind
+  peeked_whole y l r n = given_behind a h
+      (λ d u i. absurd (i.none y (record { lex = l.0; of_goal = plainly l.0 l.1 n })))
+      (λ x. let e = one_plain l n x in ap (λ (z : Lexeme). z.kind) e ∙ (ap (λ (z : Lexeme). z.kind) (sym (cut_same x.lexeme (sym (ap (λ (z : Lexeme). is_right_angle z.kind) e) ∙ r))) ∙ sym x.tells.kind))
 
 -- nothing that may begin what is due behind a parenthesis stands there
 behind_paren : {text : List ℕ} {f : Flags} {p : Parser} {X : Test} {g : G} → At text f p → p.token.kind ≡ LParen → ((y : Lexeme) → Lex text p.token.span.end y → IsTrue (seen (starts first g (plain full).base) y) → ⊥) → Fails rule (Lex text) X end (tok LParen ▸ g) p.prev_token_end
@@ -81,7 +96,7 @@ behind_paren {text} {f} {p} {X} {g} a k n = record { no = λ ts vs j ls rest l d
   where
     go : (ts vs : Slots) (j : ℕ) (ls rest : Lexemes) → Lexes (Lex text) p.prev_token_end ls → Takes rule (tok LParen ▸ g) end ts p.prev_token_end ls vs j rest → ⊥
     go ts vs j ls rest l (is_seq (is_lexeme {x = x} {ls = mid} q) d) =
-        let e : p.token.span.end ≡ x.to = (told a (uncut a (ap (same_kind RAngle) k)) x l.0).end in
+        let e : p.token.span.end ≡ x.to = (told a (uncut a (ap (same_kind RAngle) k)) (ap (one_of_kinds slashes) k) x l.0).end in
         let z : Fails rule (Lex text) (plain full) end g x.to = fails_here firsts {X = plain full} (λ y i s. n y (subst (λ (v : ℕ). Lex text v y) (sym e) i) s) in
         z.no ts vs j mid rest l.1 d (refl, refl)
 
@@ -126,8 +141,10 @@ no_parameter : (f : Flags) → apart (starts first (parameters_left f) (plain fu
 unfolding covers apart
 no_parameter f = refl
 
-not_angle : (k : Kind) → begins_operand k ≡ true → same_kind RAngle k ≡ false
+not_angle : (k : Kind) → begins_operand k ≡ true → one_of_kinds unsettled k ≡ false
 not_angle RAngle h = absurd (false≢true h)
+not_angle Slash h = absurd (false≢true h)
+not_angle SlashEq h = absurd (false≢true h)
 not_angle _ h = refl
 
 pub no_head_begins : {text : List ℕ} {f : Flags} {p : Parser} {t : Token} → At text f p → p.token.kind ≡ LParen → Peeks p t → begins_operand t.kind ≡ true → Underived text (at Params f) p.prev_token_end
@@ -136,7 +153,7 @@ no_head_begins {text} {f} {p} {t} a k h o = no_params f (behind_paren a k (λ y 
 -- ---- what is answered
 
 pub looks_head : {p : Parser} {t : Token} → Peeks p t → p.token.kind ≡ LParen → t.kind ≡ Dot3 → NoOperandHere p
-looks_head {p} {t} h k d = λ text f a. no_operand_begins a k (λ y l. peeked_kind a h (ap (same_kind RAngle) d) y l ∙ d)
+looks_head {p} {t} h k d = λ text f a. no_operand_begins a k (λ y l. peeked_kind a h (ap (one_of_kinds unsettled) d) y l ∙ d)
 
 pub looks_none : {p : Parser} {t : Token} → Peeks p t → p.token.kind ≡ LParen → begins_operand t.kind ≡ true → NoArrowHere p
 looks_none h k o = λ text f a. no_head_no_arrow a k (no_parameters a (no_head_begins a k h o))
@@ -144,15 +161,18 @@ looks_none h k o = λ text f a. no_head_no_arrow a k (no_parameters a (no_head_b
 -- parameters where nothing else can stand
 module _ {p : Parser} (k : p.token.kind ≡ LParen) (n : NoOperandHere p) where
   pub certain_read : {q : Parser} {id : NodeId} → Answers (at Params) p q (Ok id) → q.token.kind ≡ Arrow → IsHeadHere p q id
-  certain_read x e = (e, λ text f a. certain_head a k (n text f a) (x text f a))
+  certain_read x e = (e, (λ text f a. certain_head a k (n text f a) (x text f a)), n)
 
-  pub certain_stops : (q : Parser) (e : Stop) → ((text : List ℕ) (f : Flags) → At text f p → Stops p q e (Underived text (at Params f) p.prev_token_end)) → NoAssignment p q e
-  certain_stops q e s = λ text f a. stops_so p q e (λ m. unassigned a k (no_parameters a m) (n text f a)) (s text f a)
+  pub certain_stops : (q : Parser) (e : Stop) → ((text : List ℕ) (f : Flags) → At text f p → Stops p q e (Underived text (at Params f) p.prev_token_end)) → NoAssignment p q e × NoOperandHere p
+  certain_stops q e s = ((λ text f a. stops_so p q e (λ m. unassigned a k (no_parameters a m) (n text f a)) (s text f a)), n)
 
-  pub arrow_missing : {q : Parser} {id : NodeId} (w : Parser) (e : Stop) → Answers (at Params) p q (Ok id) → (q.token.kind ≡ Arrow → ⊥) → GivesUp (IsHere ExpectToken q None) q w e → NoAssignment p w e
-  arrow_missing {q} w e x m g = λ text f a.
-      let y = (x text f a).answer in
-      stops_behind w e y.same (λ d. grown_behind y.verdict d) (λ z. z) (gives_up (IsHere ExpectToken q None) q w e y.at g (here_ends ExpectToken refl) (unassigned a k (unarrowed a y m) (n text f a)))
+  pub arrow_missing : {q : Parser} {id : NodeId} (w : Parser) (e : Stop) → Answers (at Params) p q (Ok id) → (q.token.kind ≡ Arrow → ⊥) → GivesUp (IsHere ExpectToken q None) q w e → NoAssignment p w e × NoOperandHere p
+  arrow_missing {q} w e x m g = (
+    (λ text f a.
+        let y = (x text f a).answer in
+        stops_behind w e y.same (λ d. grown_behind y.verdict d) (λ z. z) (gives_up (IsHere ExpectToken q None) q w e y.at g (here_ends ExpectToken refl) (unassigned a k (unarrowed a y m) (n text f a)))),
+    n,
+  )
 
 -- what was seen
 pub head_alone : (p q : Parser) (h : HeadLookahead) → h ≡ lookahead.Head → LooksAhead p q h → (q ≡ p) × NoOperandHere p

@@ -3,8 +3,8 @@ use Rattle.std.proofs.Common.{ℕ, zero, suc, ◌≡◌, ◌<◌, ◌≤◌, ◌
 use Rattle.std.proofs.lemmas.Bool.{false≢true, and_parts, or_left, or_right, ltb-true, lt-ltb}
 use Rattle.js_base.specs.declared.diagnostic.Diagnostic.{Diagnostic}
 use Rattle.js_base.specs.declared.kind.Kind.{Kind}
-use Rattle.js_base.specs.declared.kind.Kind.TheVariants.{PrivateIdentifier, Eof, Undetermined}
-use Rattle.js_base.specs.Kinds.{one_of_kinds}
+use Rattle.js_base.specs.declared.kind.Kind.TheVariants.{PrivateIdentifier, Eof, RegExp, Slash, Undetermined}
+use Rattle.js_base.specs.Kinds.{same_kind, one_of_kinds}
 use Rattle.js_grammar.specs.Trees.{Label, Slots, end, tree}
 use Rattle.js_grammar.specs.Grammar.{Lexeme, Lexemes, next, seen, seq, such, nothing}
 use Rattle.js_grammar.specs.Insertion.{Row, edge_is_last}
@@ -18,7 +18,8 @@ use Rattle.js_grammar.proofs.Towers.{OneOf, head, later, linked_label}
 use Rattle.js_grammar.proofs.Loops.{Around}
 use Rattle.js_grammar.proofs.Operators.{levels, operates}
 use Rattle.js_grammar.proofs.OperatorEdges.{level_looser, operator_exactly, operator_level}
-use Rattle.js_grammar.proofs.OperatorLoops.{loop_start, loop_start_fails, loop_step, loop_step_fails, loop_end}
+use Rattle.js_grammar.proofs.OperatorLoops.{loop_start, loop_start_fails, loop_end}
+use Rattle.js_expressions.proofs.SlashOperators.{division_sign, operator_plain, slash_step, slash_step_fails}
 use Rattle.js_grammar.proofs.RightEdges.{of_operand, may_end}
 use Rattle.js_tree.specs.declared.id.NodeId.{NodeId}
 use Rattle.js_tree.specs.Nodes.{Node}
@@ -28,14 +29,14 @@ use Rattle.js_cursor.specs.Moves.{is_last}
 use Rattle.js_cursor.specs.declared.stop.Stop.{Stop}
 use Rattle.js_cursor.specs.Parsers.{Parser}
 use Rattle.std.specs.Prelude.{Result}
-use Rattle.js_parsing.specs.Lexemes.{Lex, Walked, spot, read_kinds}
+use Rattle.js_parsing.specs.Lexemes.{Lex, Plain, Walked, spot, read_kinds}
 use Rattle.js_parsing.specs.States.{At, Same, flags_of}
 use Rattle.js_parsing.specs.Moves.{Moved, Tightness, MadeHere, operation_label}
 use Rattle.js_parsing.specs.Operators.{power_of}
 use Rattle.js_parsing.specs.Answers.{Grown, Verdict, Stretch, Underived, Numbered, Outcome, beside}
-use Rattle.js_parsing.proofs.Here.{told, begins_here, found}
+use Rattle.js_parsing.proofs.Here.{told_plain, begins_here, found, no_pattern_token, slash_here}
 use Rattle.js_parsing.proofs.Paths.{skips, read_of, walked_both, walked_one, walked_to, walked_from}
-use Rattle.js_parsing.proofs.Tight.{stops_by_power, power_listed, Level, level_of, read_plain, operator_read, power_anywhere}
+use Rattle.js_parsing.proofs.Tight.{stops_by_power, power_listed, Level, level_of, read_plain, operator_read, plain_is_none, plain_is_read, plain_lex, plain_so, power_anywhere}
 use Rattle.js_parsing.proofs.Verdicts.{verdict_of, either_way, and_then, behind_none, grown_then}
 use Rattle.js_parsing.proofs.Verdicts.{after as grown_behind}
 use Rattle.js_parsing.proofs.Moving.{same_both, same_with, beside_nodes}
@@ -60,8 +61,8 @@ pub record Operand (text : List ℕ) (f : Flags) (m : ℕ) (p q : Parser) (id : 
   pub cap : ℕ
   pub low : cap ≤ 10
   pub verdict : Verdict p.errors q.errors (Ring text f m p.prev_token_end p.token.span.start cap label slots q.prev_token_end pass) (Underived text (level_at f m) p.prev_token_end)
-  pub stops : (y : Lexeme) → Lex text q.prev_token_end y → IsTrue (seen (looser (cap + 6) f.in_ (row_of label slots)) y || seen beside y)
-  pub loose : (y : Lexeme) → Lex text q.prev_token_end y → IsTrue (seen (looser 15 f.in_ (row_of label slots)) y || seen beside y)
+  pub stops : (y : Lexeme) → Plain text q.prev_token_end y → IsTrue (seen (looser (cap + 6) f.in_ (row_of label slots)) y || seen beside y)
+  pub loose : (y : Lexeme) → Plain text q.prev_token_end y → IsTrue (seen (looser 15 f.in_ (row_of label slots)) y || seen beside y)
   pub holds : Holds q.nodes (length p.nodes) (length q.nodes) id.0 label slots
   pub keeps : Keeps p.nodes q.nodes
 
@@ -189,17 +190,21 @@ module _ {text : List ℕ} {f : Flags} where
     above = let h = strong.1 in let i = it.is in omega arith
 
     -- the operator stands behind the operand
-    here : (y : Lexeme) → Lex text q.prev_token_end y → (y.kind ≡ t.token.kind) × (y.escaped ≡ false)
-    here y l = (sym (told o.at o.uncut y (subst (λ (v : ℕ). Lex text v y) (sym o.place) l)).kind, read_plain y l.1)
+    here : (y : Lexeme) → Plain text q.prev_token_end y → (y.kind ≡ t.token.kind) × (y.escaped ≡ false)
+    here y l = (sym (told_plain o.at o.uncut y (plain_is_none y l.1) (subst (λ (v : ℕ). Lex text v y) (sym o.place) (plain_lex l))).kind, read_plain y (plain_is_read y l.1))
+
+    -- a regular expression may stand in the place of the division sign
+    pattern_here : (y : Lexeme) → Lex text q.prev_token_end y → y.kind ≡ RegExp → t.token.kind ≡ Slash
+    pattern_here y l e = division_sign f.in_ t.token.kind (slash_here o.at y (subst (λ (v : ℕ). Lex text v y) (sym o.place) l) e) (let h = strong.1 in omega arith)
 
     abbrev link_label : ℕ → Label
     link_label to = linked_label (operates f it.level t.token.kind) p.token.span.start to
 
-    standing : (y : Lexeme) × Lex text q.prev_token_end y
+    standing : (y : Lexeme) × Plain text q.prev_token_end y
     standing =
         let z = found o.at o.uncut not_last in
         let h = strong.1 in
-        (z.0, subst (λ (v : ℕ). Lex text v z.0) o.place (z.1, read_of z.0 (sym z.2.kind) (sym z.2.escaped ∙ strong.0) (operator_read f.in_ t.token.kind true (omega arith)).0))
+        (z.0, subst (λ (v : ℕ). Plain text v z.0) o.place (z.1, plain_so z.0 (read_of z.0 (sym z.2.kind) (sym z.2.escaped ∙ strong.0) (operator_read f.in_ t.token.kind true (omega arith)).0) (ap (same_kind RegExp) (sym z.2.kind) ∙ no_pattern_token o.at.plain)))
 
     -- it binds no tighter than what was read
     within : of_operand (row_of s.label s.slots) ≡ true → it.level ≤ s.cap
@@ -237,7 +242,7 @@ module _ {text : List ℕ} {f : Flags} where
       skip {X} {b} = subst (λ (v : ℕ). Goes rule (Lex text) X end (seq (tok t.token.kind) b) v b r.prev_token_end (λ us. us) (passing d.lexeme)) o.place (skips o.at t.token.kind refl strong.0 (let h = strong.1 in (operator_read f.in_ t.token.kind true (omega arith)).0) d)
 
       ring_fails : Ring text f m p.prev_token_end p.token.span.start s.cap s.label s.slots q.prev_token_end s.pass → Underived text (level_at f (it.level + 1)) r.prev_token_end → Underived text (level_at f m) p.prev_token_end
-      ring_fails u n = loop_step_fails f u.around here above (within s.row) it.top it.among s.row (skip ▹✗ n)
+      ring_fails u n = slash_step_fails f here pattern_here above (within s.row) it.top it.among s.row u.around (skip ▹✗ n)
 
       pub right_less : At text f p → length r.text + 1 - r.prev_token_end < length p.text + 1 - p.prev_token_end
       right_less a = let b = o.place in let g = o.at.behind in let e = d.further in let i = s.further in let j = a.behind in let k = a.at.between.0 in let t = d.at.text_is in let u = a.text_is in omega (arith, ap length t, ap length u)
@@ -280,10 +285,10 @@ module _ {text : List ℕ} {f : Flags} where
         ring_step y u = record {
           reach = max u.reach (max 0 y.reach);
           near = let i = u.near in let j = y.near in let k = forward in omega arith;
-          around = loop_step f u.around here above (within s.row) it.top it.among s.row (skip ▹ y.goes);
+          around = slash_step f here pattern_here above (within s.row) it.top it.among s.row u.around (skip ▹ y.goes);
         }
 
-        step_stops : (y : Lexeme) → Lex text v.prev_token_end y → IsTrue (seen (looser (it.level + 6) f.in_ (row_of (link_label v.prev_token_end) (tree s.label s.slots (tree x.answer.label x.answer.slots end)))) y || seen beside y)
+        step_stops : (y : Lexeme) → Plain text v.prev_token_end y → IsTrue (seen (looser (it.level + 6) f.in_ (row_of (link_label v.prev_token_end) (tree s.label s.slots (tree x.answer.label x.answer.slots end)))) y || seen beside y)
         step_stops y l = rw (edge_last it.level) (subst (λ (n : ℕ). (seen (looser n f.in_ (row_of x.answer.label x.answer.slots)) y || seen beside y) ≡ true) (let z : it.level + 1 + 5 ≡ it.level + 6 = omega arith in z) (subst (λ b. (b || seen beside y) ≡ true) (level_looser f (it.level + 1) (tree x.answer.label x.answer.slots end) y (let h = it.top in omega arith)) (x.answer.stops y l)))
 
         pub operand_step : {w : Parser} {made : NodeId} → MadeHere (link_label v.prev_token_end) (Some id ∷ Some right ∷ []) v w made → Operand text f m p w made
@@ -307,15 +312,15 @@ module _ {text : List ℕ} {f : Flags} where
 
   -- no operator of these levels stands here
   module _ {m : ℕ} {p q t : Parser} {id : NodeId} (s : Operand text f m p q id) {power : ℕ} (o : Tightness text f q t power) (c : power < m + 5) where
-    weak : (y : Lexeme) → Lex text q.prev_token_end y → power_of f.in_ y.kind < m + 5
+    weak : (y : Lexeme) → Plain text q.prev_token_end y → power_of f.in_ y.kind < m + 5
     weak y l =
-        let z = told o.at o.uncut y (subst (λ (v : ℕ). Lex text v y) (sym o.place) l) in
-        let e : t.token.escaped ≡ false = z.escaped ∙ read_plain y l.1 in
+        let z = told_plain o.at o.uncut y (plain_is_none y l.1) (subst (λ (v : ℕ). Lex text v y) (sym o.place) (plain_lex l)) in
+        let e : t.token.escaped ≡ false = z.escaped ∙ read_plain y (plain_is_read y l.1) in
         let h : power ≡ power_of f.in_ t.token.kind = o.is ∙ ap (λ (b : Bool). cond b 0 (power_of f.in_ t.token.kind)) e in
         let k : power_of f.in_ t.token.kind ≡ power_of f.in_ y.kind = ap (power_of f.in_) z.kind in omega arith
 
     no_operator : (q' : ℕ) → m ≤ q' → q' ≤ s.cap → (y : Lexeme) → Lex text q.prev_token_end y → OneOf y.kind (operators_at f q') → ⊥
-    no_operator q' a b y l i = let h = operator_level f q' i in let o = listed_low f.in_ q' i in let k = power_listed f.in_ y l.1 (omega arith) (omega arith) in let w = weak y l in absurd (omega arith)
+    no_operator q' a b y l i = let h = operator_level f q' i in let o = listed_low f.in_ q' i in let p : Plain text q.prev_token_end y = (l.0, plain_so y l.1 (operator_plain f q' i)) in let k = power_listed f.in_ y p.1 (omega arith) (omega arith) in let w = weak y p in absurd (omega arith)
 
     pub operands_answer : m ≤ 10 → Numbered text f (level_at f m) p t id
     operands_answer h = record {
@@ -325,7 +330,7 @@ module _ {text : List ℕ} {f : Flags} where
         further = let a = s.further in let b = o.place in omega arith;
         label = s.label;
         slots = s.slots;
-        stops = λ y l. let k = subst (λ (v : ℕ). Lex text v y) o.place l in subst (λ b. (b || seen beside y) ≡ true) (sym (level_looser f m (tree s.label s.slots end) y h)) (stops_by_power (m + 5) f.in_ (row_of s.label s.slots) s.row y l.1 (s.loose y k) (weak y k) (omega arith));
+        stops = λ y l. let k = subst (λ (v : ℕ). Plain text v y) o.place l in subst (λ b. (b || seen beside y) ≡ true) (sym (level_looser f m (tree s.label s.slots end) y h)) (stops_by_power (m + 5) f.in_ (row_of s.label s.slots) s.row y l.1 (s.loose y k) (weak y k) (omega arith));
         row = level_rows f m _ ∙ s.row;
         pass = s.pass;
         walked = walked_to (sym o.spot_is) s.walked;

@@ -36,7 +36,7 @@ use Rattle.js_targets.specs.Targets.{target_of, Stood}
 use Rattle.js_targets.proofs.Covers.{row_of_target, Untargeted, no_target_there}
 use Rattle.js_parsing.proofs.Here.{found, uncut}
 use Rattle.js_parsing.proofs.Moving.{same_itself, same_both}
-use Rattle.js_parsing.proofs.Paths.{read_of, not_here, angles}
+use Rattle.js_parsing.proofs.Paths.{read_of, not_here, settles}
 use Rattle.js_targets.proofs.Targets.{passes_itself, of_unary}
 use Rattle.js_parsing.proofs.Tight.{read_plain}
 use Rattle.js_expressions.proofs.Updates.{of_update, update_plain, a_postfix, postfix_here, line_here}
@@ -128,7 +128,7 @@ pub both_of : {r : Bool} (n u : Bool) → r ≡ (not n && u) → r ≡ true → 
 both_of true u e h = absurd (false≢true (sym e ∙ h))
 both_of false u e h = (refl, sym e ∙ h)
 
-apart_updates : apart angles (λ k w e. one_of_kinds update_kinds k) ≡ true
+apart_updates : settles update_kinds ≡ true
 unfolding apart
 apart_updates = refl
 

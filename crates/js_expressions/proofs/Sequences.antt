@@ -27,7 +27,7 @@ use Rattle.js_tree.specs.Nodes.{Node}
 use Rattle.js_tree.specs.Holding.{Holds, HoldsAll, Keeps}
 use Rattle.js_tree.proofs.HoldingLemmas.{HoldsAll-one, HoldsAll-next, Keeps-trans, Keeps-made}
 use Rattle.js_cursor.specs.Parsers.{Parser}
-use Rattle.js_parsing.specs.Lexemes.{Lex, Walked, spot}
+use Rattle.js_parsing.specs.Lexemes.{Lex, Walked, spot, Plain}
 use Rattle.js_parsing.specs.States.{At, Same}
 use Rattle.js_parsing.specs.Moves.{Moved, MadeHere, plain_label}
 use Rattle.js_parsing.specs.Nesting.{room}
@@ -40,7 +40,7 @@ use Rattle.js_parsing.proofs.Nesting.{later_room}
 use Rattle.js_operands.proofs.Operands.{by_path}
 use Rattle.js_parsing.proofs.Paths.{Path, skips, not_here, walked_both, walked_one, label_here}
 use Rattle.js_parsing.proofs.Phrases.{lift, narrow_operand, narrow_assignment}
-use Rattle.js_parsing.proofs.Tight.{narrows, read_plain}
+use Rattle.js_parsing.proofs.Tight.{narrows, read_plain, plain_lex}
 use Rattle.js_parsing.proofs.Verdicts.{verdict_of, either_way, and_then, behind_none, grown_then}
 use Rattle.js_parsing.proofs.Verdicts.{after as grown_behind}
 
@@ -283,7 +283,7 @@ alone_result {text} {f} {p} {q} x n =
     let r = row_of x.answer.label x.answer.slots in
     let others_fail : Fails rule (Lex text) (after (at Expression f)) end (sequence f) p.prev_token_end = either_way x.answer.verdict (λ y. no_sequence (none_together y (no_comma_here x.answer.at n))) (λ z. no_sequence (no_first z)) in
     lift (at Expression f) (at Assignment f) refl refl text p.prev_token_end (left others_fail) refl x x.answer.row
-    (λ y l. narrows 2 1 (Comma ∷ []) f.in_ r (narrow_assignment 2 1 (Comma ∷ []) (narrow_operand 2 1 (Comma ∷ []) refl refl refl refl) refl refl refl refl f.in_ r x.answer.row) y l.1 (no_kind y l) (x.answer.stops y l))
+    (λ y l. narrows 2 1 (Comma ∷ []) f.in_ r (narrow_assignment 2 1 (Comma ∷ []) (narrow_operand 2 1 (Comma ∷ []) refl refl refl refl) refl refl refl refl f.in_ r x.answer.row) y l.1 (no_kind y (plain_lex l)) (x.answer.stops y l))
   where
     no_kind : (y : Lexeme) → Lex text q.prev_token_end y → one_of_kinds (Comma ∷ []) y.kind ≡ false
     no_kind y l = other_kind Comma y.kind (λ e. no_comma_here x.answer.at n y l (and_from _ _ (subst (λ (v : Kind). same_kind Comma v ≡ true) (sym e) refl) (ap not (read_plain y l.1))))
@@ -412,6 +412,6 @@ module _ {text : List ℕ} {f : Flags} {p q r : Parser} {ids : List (Option Node
         no_kind : (y : Lexeme) → Lex text v.prev_token_end y → one_of_kinds (Comma ∷ []) y.kind ≡ false
         no_kind y l = other_kind Comma y.kind (λ e. no_comma_here x.answer.at n y l (and_from _ _ (subst (λ (v : Kind). same_kind Comma v ≡ true) (sym e) refl) (ap not (read_plain y l.1))))
 
-        stops : (y : Lexeme) → Lex text v.prev_token_end y → IsTrue (seen (looser 1 f.in_ (row_of (label_here sequence_expression no_op p v) (append s.prefix (tree x.answer.label x.answer.slots end)))) y || seen beside y)
+        stops : (y : Lexeme) → Plain text v.prev_token_end y → IsTrue (seen (looser 1 f.in_ (row_of (label_here sequence_expression no_op p v) (append s.prefix (tree x.answer.label x.answer.slots end)))) y || seen beside y)
         stops y l = subst (λ (r : Row). IsTrue (seen (looser 1 f.in_ r) y || seen beside y)) (sym row_last)
-            (narrows 2 1 (Comma ∷ []) f.in_ (row_of x.answer.label x.answer.slots) (narrow_assignment 2 1 (Comma ∷ []) (narrow_operand 2 1 (Comma ∷ []) refl refl refl refl) refl refl refl refl f.in_ (row_of x.answer.label x.answer.slots) x.answer.row) y l.1 (no_kind y l) (x.answer.stops y l))
+            (narrows 2 1 (Comma ∷ []) f.in_ (row_of x.answer.label x.answer.slots) (narrow_assignment 2 1 (Comma ∷ []) (narrow_operand 2 1 (Comma ∷ []) refl refl refl refl) refl refl refl refl f.in_ (row_of x.answer.label x.answer.slots) x.answer.row) y l.1 (no_kind y (plain_lex l)) (x.answer.stops y l))

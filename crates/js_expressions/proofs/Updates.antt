@@ -9,8 +9,8 @@ use Rattle.js_base.specs.Kinds.{same_kind, one_of_kinds}
 use Rattle.js_base.specs.Operators.{row_of as row_in, update_operators}
 use Rattle.js_base.specs.Texts.{words}
 use Rattle.js_base.proofs.KindLemmas.{kind_of_same}
-use Rattle.js_grammar.specs.Trees.{Slots, end, tree, Tree, Label, NodeKind, Op, of, update_expression}
-use Rattle.js_grammar.specs.Grammar.{Lexeme, Look, here, seen, such, nothing, exact, alt, ◌▸◌}
+use Rattle.js_grammar.specs.Trees.{Slots, end, tree, Tree, Label, of, update_expression}
+use Rattle.js_grammar.specs.Grammar.{Lexeme, Look, seen, such, nothing, exact, alt, ◌▸◌}
 use Rattle.js_grammar.specs.Insertion.{Row, after_expression, after_postfix}
 use Rattle.js_grammar.specs.Lexemes.{is_word}
 use Rattle.js_grammar.specs.Parsing.{Test, plain, full, always, Admits, Goes, Fails, still}
@@ -20,7 +20,7 @@ use Rattle.js_grammar.specs.Table.{rule, rule_of}
 use Rattle.js_grammar.specs.Follow.{row_of, after, looser, widest}
 use Rattle.js_grammar.proofs.Lexemes.{first_or}
 use Rattle.js_grammar.proofs.Looks.{covers, covered, apart}
-use Rattle.js_grammar.proofs.Calculus.{Inside, makes_by, here_at, ◌▹◌, ◌▹✗◌, left, right, then_by, looks, fails_node, inside_full, fails_alt, fails_nothing, weaken_fails_on}
+use Rattle.js_grammar.proofs.Calculus.{Inside, ◌▹◌, ◌▹✗◌, left, right, then_by, looks, fails_node, inside_full, fails_alt, fails_nothing, weaken_fails_on}
 use Rattle.js_grammar.proofs.FirstClaims.{firsts}
 use Rattle.js_grammar.proofs.FirstRules.{then, fails_part, fails_here}
 use Rattle.js_grammar.proofs.FollowLaws.{admits, same_read, fails_by, passes_on}
@@ -33,7 +33,7 @@ use Rattle.js_tree.specs.Holding.{Holds, Keeps}
 use Rattle.js_tree.proofs.HoldingLemmas.{Keeps-trans, Keeps-made}
 use Rattle.js_cursor.specs.Parsers.{Parser}
 use Rattle.js_cursor.specs.Moves.{is_last}
-use Rattle.js_parsing.specs.Lexemes.{Lex, is_read, read_kinds}
+use Rattle.js_parsing.specs.Lexemes.{Lex, is_read, read_kinds, Plain}
 use Rattle.js_expressions.specs.Rests.{update_kinds}
 use Rattle.js_parsing.specs.States.{At}
 use Rattle.js_parsing.specs.Moves.{Moved, MadeHere, plain_label}
@@ -41,19 +41,22 @@ use Rattle.js_parsing.specs.Answers.{Underived, Answer, Numbered, beside}
 use Rattle.js_targets.specs.Targets.{target_of, TargetNode}
 use Rattle.js_parsing.proofs.Signs.{plain_sign}
 use Rattle.js_targets.proofs.Covers.{row_of_target, target_path, target_fails, target_unread}
-use Rattle.js_parsing.proofs.Here.{told, kind_here, uncut, begins_here}
+use Rattle.js_parsing.proofs.Here.{kind_here, unsettled, newline_here}
 use Rattle.js_parsing.proofs.MadeNodes.{one_held, one_lies}
 use Rattle.js_parsing.proofs.Moving.{same_both}
 use Rattle.js_operands.proofs.Operands.{by_path}
 use Rattle.js_parsing.proofs.Paths.{reads, Path, ◌⟼◌, ◌⟶◌, ◌⟶✗◌, at_kind, fails_at, token, last_token, last_called, noded, flagged_by, flagged_here, label_here}
 use Rattle.js_parsing.proofs.Phrases.{lift, plain_row, primary_operand}
 use Rattle.js_targets.proofs.Targets.{passes_itself, of_unary}
-use Rattle.js_parsing.proofs.Tight.{read_plain}
+use Rattle.js_parsing.proofs.Tight.{read_plain, plain_is_read, plain_lex}
 use Rattle.js_parsing.proofs.Verdicts.{verdict_of}
 
 -- a claim on both operators
 pub of_update : (P : Kind → Type 0) (k : Kind) → one_of_kinds update_kinds k ≡ true → P Plus2 → P Minus2 → P k
 of_update P k h a b = first_or P Plus2 k _ _ refl h a (λ h. first_or P Minus2 k _ _ refl h b (λ h. absurd (false≢true h)))
+
+pub update_settled : (k : Kind) → one_of_kinds update_kinds k ≡ true → one_of_kinds unsettled k ≡ false
+update_settled k h = of_update (λ k. one_of_kinds unsettled k ≡ false) k h refl refl
 
 pub update_plain : (k : Kind) → one_of_kinds update_kinds k ≡ true → ((is_word k || same_kind PrivateIdentifier k) ≡ false) × (same_kind RAngle k ≡ false) × (is_last k ≡ false)
 unfolding words
@@ -153,10 +156,10 @@ module _ {text : List ℕ} {f : Flags} {p q : Parser} (x : Answer text f (at Lef
 -- the operator that stands behind is one
 module _ {text : List ℕ} {f : Flags} {q : Parser} (a : At text f q) (h : one_of_kinds update_kinds q.token.kind ≡ true) where
   pub stands_here : (y : Lexeme) → Lex text q.prev_token_end y → y.kind ≡ q.token.kind
-  stands_here y l = kind_here a refl (update_plain q.token.kind h).1 y l
+  stands_here y l = kind_here a refl (update_settled q.token.kind h) y l
 
   pub line_here : (y : Lexeme) → Lex text q.prev_token_end y → y.newline ≡ q.token.is_on_new_line
-  line_here y l = sym (told a (uncut a (update_plain q.token.kind h).1) y l).newline
+  line_here y l = newline_here a y l
 
   pub postfix_here : q.token.is_on_new_line ≡ false → (y : Lexeme) → Lex text q.prev_token_end y → IsTrue (seen a_postfix y)
   postfix_here n y l = rw (line_here y l ∙ n, stands_here y l, read_plain y l.1, h) refl
@@ -198,8 +201,8 @@ left_alone {text} {f} {p} {q} a n x h = lift (at Update f) (at LeftHandSide f) r
         last_of false p true d e n s = refl
         last_of false p false d e n s = s
 
-    narrower : (y : Lexeme) → Lex text q.prev_token_end y → IsTrue (seen (looser 16 f.in_ (row_of x.answer.label x.answer.slots)) y || seen beside y)
-    narrower y l = subst (λ (r : Row). IsTrue (seen (looser 16 f.in_ r) y || seen beside y)) (sym row) (below f.in_ y l.1 (h y l) (x.answer.stops y l))
+    narrower : (y : Lexeme) → Plain text q.prev_token_end y → IsTrue (seen (looser 16 f.in_ (row_of x.answer.label x.answer.slots)) y || seen beside y)
+    narrower y l = subst (λ (r : Row). IsTrue (seen (looser 16 f.in_ r) y || seen beside y)) (sym row) (below f.in_ y (plain_is_read y l.1) (h y (plain_lex l)) (x.answer.stops y l))
 
 pub nothing_read : {text : List ℕ} {f : Flags} {p : Parser} → At text f p → one_of_kinds update_kinds p.token.kind ≡ false → Underived text (at LeftHandSide f) p.prev_token_end → Underived text (at Update f) p.prev_token_end
 unfolding rule rule_of covers apart
@@ -257,7 +260,7 @@ postfix_answers {text} {f} {p} {q} {r} {z} {operand} {target} {id} {o} s a n x w
     let h : Holds r.nodes (length p.nodes) (length r.nodes) target.0 t.tree.label t.tree.slots = subst (λ (ns : List Node). Holds ns (length p.nodes) (length ns) target.0 t.tree.label t.tree.slots) (sym m.nodes) t.holds in
     let k : Keeps p.nodes r.nodes = subst (λ (ns : List Node). Keeps p.nodes ns) (sym m.nodes) x.keeps in
     by_path (postfix_path a n x.answer w q.token.kind u refl e m t.tree t.is) (same_both x.answer.same m.same) made.stays
-    (λ y i. covered reads (λ k w e. looser 16 f.in_ after_postfix k w e || beside k w e) (behind_sign f.in_) y.kind y.newline y.escaped i.1) refl (one_held p.nodes made h) (Keeps-trans k (Keeps-made made.made)) refl (one_lies made)
+    (λ y i. covered reads (λ k w e. looser 16 f.in_ after_postfix k w e || beside k w e) (behind_sign f.in_) y.kind y.newline y.escaped (plain_is_read y i.1)) refl (one_held p.nodes made h) (Keeps-trans k (Keeps-made made.made)) refl (one_lies made)
 
 -- ---- a prefix operator
 

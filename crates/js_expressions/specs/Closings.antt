@@ -1,4 +1,4 @@
--- Where the parentheses close that begin at a place: by the lexemes of the plain lexical goal.
+-- Where the parentheses close that begin at a place, where no lexeme between begins with a slash: then they are the same in every lexical goal.
 use Rattle.std.specs.Prelude.{ℕ, ◌≡◌, Bool, true, false, IsTrue, not, List, [], ◌∷◌, Some}
 use Rattle.js_base.specs.declared.kind.Kind.{Kind}
 use Rattle.js_base.specs.declared.kind.Kind.TheVariants.{Arrow, RAngle, Undetermined}
@@ -7,13 +7,18 @@ use Rattle.js_grammar.specs.Brackets.{bracket, move, pop}
 use Rattle.js_grammar.specs.Grammar.{Lexeme}
 use Rattle.js_grammar.specs.Lexemes.{division}
 use Rattle.js_lex.specs.Reading.{LexemeBehind}
+use Rattle.js_parsing.specs.Lexemes.{slashes}
 use Rattle.js_expressions.specs.declared.closing.OpenBracket.{OpenBracket}
 use Rattle.js_expressions.specs.declared.closing.OpenBracket.TheVariants.{Round, Square, Curly}
 
+-- a lexeme that is the same in every lexical goal
+abbrev pub Settled : List ℕ → ℕ → Lexeme → Type 0
+Settled text s y = LexemeBehind division text s y × (one_of_kinds slashes y.kind ≡ false)
+
 -- With these brackets open at a place: the lexemes from there on up to the one behind which none is open, and the place there.
 pub data Closing (text : List ℕ) : List ℕ → ℕ → ℕ → Type 0 where
-  closed : {st : List ℕ} {s : ℕ} {y : Lexeme} → LexemeBehind division text s y → move (bracket y.kind) st ≡ Some [] → Closing text st s y.to
-  inside : {st u : List ℕ} {b s e : ℕ} {y : Lexeme} → LexemeBehind division text s y → move (bracket y.kind) st ≡ Some (b ∷ u) → Closing text (b ∷ u) y.to e → Closing text st s e
+  closed : {st : List ℕ} {s : ℕ} {y : Lexeme} → Settled text s y → move (bracket y.kind) st ≡ Some [] → Closing text st s y.to
+  inside : {st u : List ℕ} {b s e : ℕ} {y : Lexeme} → Settled text s y → move (bracket y.kind) st ≡ Some (b ∷ u) → Closing text (b ∷ u) y.to e → Closing text st s e
 
 -- `=>` stands behind the name or the parentheses that begin at a place.
 pub record ArrowBehindOne (text : List ℕ) (s : ℕ) : Type 0 where
@@ -34,9 +39,9 @@ abbrev pub open_behind : List ℕ → List OpenBracket → List ℕ
 open_behind st [] = st
 open_behind st (b ∷ bs) = open_behind (number_of b ∷ st) bs
 
--- a token that tells a whole lexeme
+-- a token that tells a whole lexeme, the same in every lexical goal
 abbrev pub tells_whole : Kind → Bool
-tells_whole k = not (one_of_kinds (RAngle ∷ Undetermined ∷ []) k)
+tells_whole k = not (one_of_kinds (RAngle ∷ Undetermined ∷ slashes) k)
 
 -- A lexeme was passed, and these brackets are open behind it; false says nothing.
 abbrev pub BracketPassed : Kind → List OpenBracket → List OpenBracket → Bool → Type 0

@@ -1,6 +1,6 @@
 //! Assignments and conditional expressions (ECMA-262, sections 13.14 and 13.15).
 
-ghost use Rattle.std.specs.Prelude.{◌≡◌, ◌≤◌, ◌<◌, true, false, length};
+ghost use Rattle.std.specs.Prelude.{◌≡◌, ◌≤◌, ◌<◌, true, false, length, IfOk};
 ghost use Rattle.js_base.specs.Kinds.{one_of_kinds, same_kind};
 ghost use Rattle.js_grammar.specs.Insertion.{assign_operators};
 ghost use Rattle.js_base.specs.declared.kind.Kind.TheVariants.{Colon, Eq};
@@ -9,6 +9,7 @@ ghost use Rattle.js_cursor.specs.Places.{goal};
 ghost use Rattle.js_grammar.specs.Productions.{at, Assignment};
 ghost use Rattle.js_parsing.specs.Answers.{Answers};
 ghost use Rattle.js_expressions.specs.Arrows.{IsRefusedHead};
+ghost use Rattle.js_expressions.specs.HeadOperands.{IsNoTarget, StaysOperand, TellsOperand};
 ghost use Rattle.js_parsing.specs.Nesting.{CanNest, room};
 ghost use Rattle.js_targets.specs.Taken.{LiteralRead, not_simple_at};
 ghost use Rattle.js_expressions.specs.Rests.{AssignsLiteral, Asked, OnlyOperandHere, ReadsConditional};
@@ -39,7 +40,8 @@ pub fn parse_assignment_expression<C: ParserConfig, N: Nested<C>>(
 ) -> Result<NodeId, Stop>
     requires at { Standing p.old }
     requires nests { CanNest (N.can nested.now) (room p.old) }
-    ensures { Answers (at Assignment) p.old p.new result }
+    ensures answers { Answers (at Assignment) p.old p.new result }
+    ensures operand { TellsOperand p.old p.new result }
 {
     if begins_yield(p) {
         return parse_yield_expression(p, nested);
@@ -75,7 +77,8 @@ fn parse_assignment_without_arrow<C: ParserConfig, N: Nested<C>>(
     requires at { Standing p.old }
     requires nests { CanNest (N.can nested.now) (room p.old) }
     requires operand { OnlyOperandHere p.old }
-    ensures { Answers (at Assignment) p.old p.new result }
+    ensures answers { Answers (at Assignment) p.old p.new result }
+    ensures operand { TellsOperand p.old p.new result }
 {
     let start = p.cur_start();
     let kept = kept_so_far(p);
@@ -116,7 +119,8 @@ fn parse_literal_assignment<C: ParserConfig, N: Nested<C>>(
     requires operator { one_of_kinds assign_operators p.old.token.kind ≡ true }
     requires read { LiteralRead start left kept p.old }
     requires marked { same_kind Eq p.old.token.kind ≡ false → length p.old.errors ≡ kept → Mark (goal p.old) p.old.text (not_simple_at start p.old.prev_token_end) }
-    ensures { AssignsLiteral start left kept p.old p.new result }
+    ensures answers { AssignsLiteral start left kept p.old p.new result }
+    ensures node { IfOk result (λ id. IsNoTarget p.new id) }
 {
     if p.at(Kind::Eq) {
         return parse_destructuring_assignment(p, nested, start, left, kept);
@@ -146,7 +150,8 @@ fn parse_destructuring_assignment<C: ParserConfig, N: Nested<C>>(
     requires whole { p.old.cut ≡ false }
     requires equals { p.old.token.kind ≡ Eq }
     requires read { LiteralRead start left kept p.old }
-    ensures { AssignsLiteral start left kept p.old p.new result }
+    ensures answers { AssignsLiteral start left kept p.old p.new result }
+    ensures node { IfOk result (λ id. IsNoTarget p.new id) }
 {
     let target = literal_target(p, start, left, kept)?;
     advance(p)?;
@@ -171,7 +176,8 @@ fn parse_conditional_expression_rest<C: ParserConfig, N: Nested<C>>(
     requires start { start ≤ p.old.prev_token_end }
     requires whole { p.old.cut ≡ false }
     requires unassigned { one_of_kinds assign_operators p.old.token.kind ≡ false }
-    ensures { ReadsConditional start test p.old p.new result }
+    ensures answers { ReadsConditional start test p.old p.new result }
+    ensures operand { StaysOperand test p.old p.new result }
 {
     if !p.at(Kind::Question) {
         return Ok(test);

@@ -20,7 +20,8 @@ pub(crate) enum OpenBracket {
 }
 
 /// Whether `=>` stands behind the parentheses that begin behind a place. It is false, too, where a sign that begins with
-/// `>` stands between them, since of such a sign the lexer tells a part.
+/// `>` stands between them, since of such a sign the lexer tells a part, and where a slash does, with which a regular
+/// expression may begin.
 pub(crate) fn is_arrow_behind_one<C: ParserConfig>(
     p: &ParserImpl<'_, C>,
     start: u32,
@@ -67,6 +68,7 @@ fn pass_bracket(brackets: &mut Vec<OpenBracket>, kind: Kind) -> Result<bool, NoM
         Kind::RBrack => Ok(close_last(brackets, OpenBracket::Square)),
         Kind::RCurly => Ok(close_last(brackets, OpenBracket::Curly)),
         Kind::RAngle => Ok(false),
+        Kind::Slash | Kind::SlashEq => Ok(false),
         Kind::Undetermined => Ok(false),
         _ => Ok(true),
     }

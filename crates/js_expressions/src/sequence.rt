@@ -3,6 +3,7 @@
 ghost use Rattle.std.specs.Prelude.{◌≡◌, ◌≤◌, ◌∷◌, [], Some};
 ghost use Rattle.js_base.specs.declared.kind.Kind.TheVariants.{Comma};
 ghost use Rattle.js_grammar.specs.Productions.{at, Expression};
+ghost use Rattle.js_expressions.specs.HeadOperands.{TellsOperand};
 ghost use Rattle.js_parsing.specs.Answers.{Answers};
 ghost use Rattle.js_parsing.specs.Nesting.{CanNest, room};
 ghost use Rattle.js_parsing.specs.States.{Standing};
@@ -23,7 +24,8 @@ pub fn parse_sequence_expression<C: ParserConfig, N: Nested<C>>(
 ) -> Result<NodeId, Stop>
     requires at { Standing p.old }
     requires nests { CanNest (N.can nested.now) (room p.old) }
-    ensures { Answers (at Expression) p.old p.new result }
+    ensures answers { Answers (at Expression) p.old p.new result }
+    ensures operand { TellsOperand p.old p.new result }
 {
     let start = p.cur_start();
     let first = parse_assignment_expression(p, nested)?;

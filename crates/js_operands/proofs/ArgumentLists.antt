@@ -37,7 +37,7 @@ use Rattle.js_cursor.specs.declared.stop.ListStep.TheVariants.{Element, End, End
 use Rattle.js_cursor.specs.declared.stop.Stop.{Stop}
 use Rattle.js_cursor.specs.declared.stop.Stop.TheVariants.{Fatal, NoMemory}
 use Rattle.js_parsing.proofs.Giving.{gives_up}
-use Rattle.js_parsing.specs.Lexemes.{Lex, nowhere}
+use Rattle.js_parsing.specs.Lexemes.{Lex, nowhere, slashes}
 use Rattle.js_parsing.specs.States.{At, Same, Standing, flags_of}
 use Rattle.js_parsing.specs.Nesting.{room}
 use Rattle.js_parsing.specs.Moves.{Moved, Moves, unpassable}
@@ -50,7 +50,7 @@ use Rattle.js_parsing.proofs.Signs.{AllAre, NoneIs}
 use Rattle.js_parsing.proofs.Signs.{stands_there}
 use Rattle.js_parsing.proofs.Moving.{same_both, same_itself, moves, standing, stops_behind}
 use Rattle.js_parsing.proofs.Nesting.{nested_room, later_room}
-use Rattle.js_parsing.proofs.Paths.{angles, walked_both, walked_one, one_read, passes, skips, read_of, not_here}
+use Rattle.js_parsing.proofs.Paths.{walked_both, walked_one, one_read, passes, skips, read_of, not_here, settles}
 use Rattle.js_parsing.proofs.Verdicts.{verdict_of, either_way, and_then}
 use Rattle.js_parsing.proofs.Verdicts.{after as grown_behind}
 use Rattle.js_parsing.proofs.Classes.{here_ends}
@@ -137,7 +137,7 @@ open_plain = refl
 one_same : (k : Kind) → one_of_kinds (k ∷ []) k ≡ true
 one_same k = or_left (same_kind k k) false (same_self k)
 
-pub none_there : {text : List ℕ} {f : Flags} {p : Parser} (k : Kind) → At text f p → apart angles (λ x w e. one_of_kinds (k ∷ []) x) ≡ true → (p.token.kind ≡ k → ⊥) → NoneIs text p.prev_token_end k
+pub none_there : {text : List ℕ} {f : Flags} {p : Parser} (k : Kind) → At text f p → settles (k ∷ []) ≡ true → (p.token.kind ≡ k → ⊥) → NoneIs text p.prev_token_end k
 none_there {p = p} k a d n y l e = not_here a (k ∷ []) d (other_kind k p.token.kind n) y l (subst (λ v. one_of_kinds (k ∷ []) v ≡ true) (sym e) (one_same k))
 
 no_right_paren : {text : List ℕ} {f : Flags} {p : Parser} → At text f p → (p.token.kind ≡ RParen → ⊥) → NoneIs text p.prev_token_end RParen
@@ -165,7 +165,7 @@ module _ {text : List ℕ} {f : Flags} {p q : Parser} (a : At text f p) (k : p.t
         reach = 0;
         near = omega arith;
         goes = subst (λ (v : ℕ). Goes rule (Lex text) (plain full) end (rest_of false (item_of i f)) p.prev_token_end (seq (after_comma true (such (item_of i f) always)) (tok RParen)) v (λ us. us) (passing m.lexeme)) m.ends
-            (part firsts (is RParen) (comma_here true (such (item_of i f) always) (not_closed f i (is_one (stands_there a k refl) (λ e. cc))) l (is_that Comma m.lexeme (kind, bare)) (λ y z h. one_read a z l)) refl);
+            (part firsts (is RParen) (comma_here true (such (item_of i f) always) (not_closed f i (is_one (stands_there a k refl) (λ e. cc))) l (is_that Comma m.lexeme (kind, bare)) (λ y z h. one_read a (ap (one_of_kinds slashes) k) z l)) refl);
       }
 
 module _ {text : List ℕ} {f : Flags} {p q : Parser} (a : At text f p) where

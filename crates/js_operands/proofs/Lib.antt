@@ -1,5 +1,6 @@
 pub mod ArgumentLists
 pub mod Arrays
+mod FlagFaults
 pub mod Functions
 pub mod Intrinsics
 pub mod Links
@@ -12,6 +13,7 @@ pub mod Properties
 pub mod PropertyForms
 pub mod PropertyLists
 pub mod PropertyNames
+pub mod RegularExpressions
 pub mod Spreads
 pub mod Tame
 mod PartInsides

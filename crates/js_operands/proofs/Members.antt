@@ -5,7 +5,7 @@ use Rattle.std.specs.Prelude.{Result, Ok, Err, MatchResult}
 use Rattle.std.proofs.lemmas.Bool.{false≢true, and_parts, and_from}
 use Rattle.js_base.specs.declared.diagnostic.Diagnostic.{Diagnostic}
 use Rattle.js_base.specs.declared.kind.Kind.{Kind}
-use Rattle.js_base.specs.declared.kind.Kind.TheVariants.{RAngle, New, Dot, QuestionDot, LParen, LBrack, RBrack, PrivateIdentifier}
+use Rattle.js_base.specs.declared.kind.Kind.TheVariants.{RAngle, New, Dot, QuestionDot, LParen, LBrack, RBrack, PrivateIdentifier, RegExp}
 use Rattle.js_base.specs.declared.span.Span.{Span}
 use Rattle.js_base.specs.Kinds.{same_kind, one_of_kinds}
 use Rattle.js_base.specs.KindSets.{identifier_name_kinds}
@@ -46,7 +46,7 @@ use Rattle.js_cursor.specs.Moves.{Enters, GivesUp, Leaves, MovesOn, OnlyMemory, 
 use Rattle.js_cursor.specs.declared.stop.Stop.{Stop}
 use Rattle.js_cursor.specs.declared.stop.Stop.TheVariants.{Fatal, NoMemory}
 use Rattle.js_cursor.proofs.Later.{follows_on}
-use Rattle.js_parsing.specs.Lexemes.{Lex, is_read, read_kinds, read_word, name_kinds}
+use Rattle.js_parsing.specs.Lexemes.{Lex, is_read, read_kinds, read_word, name_kinds, slashes, Plain}
 use Rattle.js_parsing.specs.States.{At, Same, Standing}
 use Rattle.js_parsing.specs.Nesting.{room}
 use Rattle.js_parsing.proofs.Nesting.{nested_room, later_room}
@@ -57,7 +57,7 @@ use Rattle.js_operands.specs.Members.{no_link_behind, Taken, NoBareNew, NoMember
 use Rattle.js_operands.specs.Templates.{ChainGoesOn, ChainLinkOutcome, ReadsChainLink, Tagged, TagOutcome, heads}
 use Rattle.js_operands.proofs.Templates.{none_read, tag_taken}
 use Rattle.js_parsing.specs.Arguments.{Partway}
-use Rattle.js_parsing.proofs.Here.{told, angled, begins_here, uncut, found}
+use Rattle.js_parsing.proofs.Here.{angled, begins_here, uncut, found, told_plain}
 use Rattle.js_parsing.proofs.Verdicts.{verdict_of, either_way, and_then, behind_none, grown_then}
 use Rattle.js_parsing.proofs.Verdicts.{after as grown_behind}
 use Rattle.js_parsing.proofs.Moving.{moves, same_both, beside_nodes, elsewhere, at_depth, stops_behind, stops_in, stops_so, standing, same_with}
@@ -78,6 +78,7 @@ use Rattle.js_base.specs.Texts.{words}
 use Rattle.js_grammar.specs.Lexemes.{is_word as is_name_word}
 use Rattle.js_parsing.proofs.Classes.{here_ends}
 use Rattle.js_base.specs.declared.diagnostic.DiagnosticKind.TheVariants.{ExpectClosing}
+use Rattle.js_parsing.proofs.Tight.{plain_is_read, plain_lex}
 
 -- ---- which lexeme stands here
 
@@ -121,6 +122,18 @@ no_angles : apart angles any_word ≡ true
 unfolding apart
 no_angles = refl
 
+-- no word is a sign that may stand at a regular expression
+words_slashless : apart read_words (λ k w e. one_of_kinds slashes k) ≡ true
+unfolding apart
+words_slashless = refl
+
+pub word_slashless : (k : Kind) → read_word k ≡ true → one_of_kinds slashes k ≡ false
+word_slashless k r = go (one_of_kinds slashes k) refl
+  where
+    go : (b : Bool) → one_of_kinds slashes k ≡ b → one_of_kinds slashes k ≡ false
+    go true h = absurd (not_both read_words (λ k w e. one_of_kinds slashes k) words_slashless k false false r h)
+    go false h = h
+
 pub word_whole : {text : List ℕ} {f : Flags} {p : Parser} → At text f p → read_word p.token.kind ≡ true → IsWholeHere p
 word_whole {p = p} a r =
     let z = covered read_words (λ k w e. one_of_kinds read_kinds k && (is_word k && (not (unpassable k) && not (same_kind RAngle k)))) read_are p.token.kind false false r in
@@ -134,6 +147,10 @@ word_whole {p = p} a r =
     uncut_here : same_kind RAngle p.token.kind ≡ false → p.cut ≡ false
     uncut_here n = uncut a n
 
+no_patterns : apart any_word (λ k w e. same_kind RegExp k) ≡ true
+unfolding apart
+no_patterns = refl
+
 pub name_of : (text : List ℕ) (f : Flags) (p q : Parser) → At text f p → read_word p.token.kind ≡ true → p.token.escaped ≡ false → (s : Moved text f p q) → Path text f (after (at IdentifierName f)) (rule (at IdentifierName f)) p nothing q (tree (label_here identifier_name no_op p q) end)
 unfolding rule rule_of
 name_of text f p q a r n s =
@@ -141,7 +158,7 @@ name_of text f p q a r n s =
     let x = and_parts (one_of_kinds read_kinds p.token.kind) (is_word p.token.kind && (not (unpassable p.token.kind) && not (same_kind RAngle p.token.kind))) z in
     let w = (and_parts (is_word p.token.kind) (not (unpassable p.token.kind) && not (same_kind RAngle p.token.kind)) x.1).0 in
     let l : IsTrue (is_read s.lexeme) = read_of s.lexeme (sym s.tells.kind) (sym s.tells.escaped ∙ n) x.0 in
-    noded a (record { at = s.at; further = s.further; pass = _; walked = walked_one s; verdict = clean s.kept (record { reach = 0; near = omega arith; goes = passes_test a any_word s l (subst (λ k. is_word k ≡ true) s.tells.kind w) }) })
+    noded a (record { at = s.at; further = s.further; pass = _; walked = walked_one s; verdict = clean s.kept (record { reach = 0; near = omega arith; goes = passes_test a any_word (word_slashless p.token.kind r) s l (subst (λ k. is_word k ≡ true) s.tells.kind w) }) })
 
 pub name_taken : (text : List ℕ) (f : Flags) (p q : Parser) (r : Result NodeId Stop) → At text f p → read_word p.token.kind ≡ true → p.token.escaped ≡ false → MatchResult r (λ id. TakesLeaf node.IdentifierName op.None p q id) OnlyMemory → Outcome text f (at IdentifierName f) p q r
 name_taken text f p q (Ok id) a r n m =
@@ -157,16 +174,23 @@ pub no_name : {text : List ℕ} {f : Flags} {p : Parser} → At text f p → rea
 unfolding rule rule_of
 no_name {text} {f} {p} a r = fails_by (fails_node inside_full (fails_lexeme any_word (λ y l h. go p.cut refl y l h)))
   where
+    no_pattern_word : (y : Lexeme) → is_word y.kind ≡ true → same_kind RegExp y.kind ≡ false
+    no_pattern_word y h = by (same_kind RegExp y.kind) refl
+      where
+        by : (b : Bool) → same_kind RegExp y.kind ≡ b → same_kind RegExp y.kind ≡ false
+        by true e = absurd (not_both any_word (λ k w e. same_kind RegExp k) no_patterns y.kind y.newline y.escaped h e)
+        by false e = e
+
     go : (b : Bool) → p.cut ≡ b → (y : Lexeme) → Lex text p.prev_token_end y → is_word y.kind ≡ true → ⊥
     go true c y l h = not_both angles any_word no_angles y.kind y.newline y.escaped (angled a c y l) h
-    go false c y l h = false≢true (sym r ∙ subst (λ k. read_word k ≡ true) (sym (told a c y l).kind) (covered (λ k w e. reads k w e && is_word k) read_words words_read y.kind y.newline y.escaped (and_from _ _ l.1 h)))
+    go false c y l h = false≢true (sym r ∙ subst (λ k. read_word k ≡ true) (sym (told_plain a c y (no_pattern_word y h) l).kind) (covered (λ k w e. reads k w e && is_word k) read_words words_read y.kind y.newline y.escaped (and_from _ _ l.1 h)))
 
 -- ---- what was taken
 
 pub taken : {text : List ℕ} {f : Flags} {n : Symbol} {p q : Parser} {id : NodeId} (x : Numbered text f n p q id) → same_row after_expression (row_of x.answer.label x.answer.slots) ≡ true → Taken text f p q id (λ l cs pass s'. Stretch text (after n) (such n always) p.prev_token_end nothing s' (tree l cs) pass) (Underived text n p.prev_token_end)
 taken x r = record { at = x.answer.at; same = x.answer.same; further = x.answer.further; label = x.answer.label; slots = x.answer.slots; row = r; pass = x.answer.pass; walked = x.answer.walked; verdict = x.answer.verdict; holds = x.holds; keeps = x.keeps }
 
-pub numbered : {text : List ℕ} {f : Flags} {n : Symbol} {p q : Parser} {id : NodeId} (x : Taken text f p q id (λ l cs pass s'. Stretch text (after n) (such n always) p.prev_token_end nothing s' (tree l cs) pass) (Underived text n p.prev_token_end)) → may_end n.name (row_of x.label x.slots) ≡ true → ((y : Lexeme) → Lex text q.prev_token_end y → IsTrue (seen (follow n (edge_of x.label x.slots)) y || seen beside y)) → Numbered text f n p q id
+pub numbered : {text : List ℕ} {f : Flags} {n : Symbol} {p q : Parser} {id : NodeId} (x : Taken text f p q id (λ l cs pass s'. Stretch text (after n) (such n always) p.prev_token_end nothing s' (tree l cs) pass) (Underived text n p.prev_token_end)) → may_end n.name (row_of x.label x.slots) ≡ true → ((y : Lexeme) → Plain text q.prev_token_end y → IsTrue (seen (follow n (edge_of x.label x.slots)) y || seen beside y)) → Numbered text f n p q id
 numbered x r s = record { answer = record { at = x.at; same = x.same; further = x.further; label = x.label; slots = x.slots; stops = s; row = r; pass = x.pass; walked = x.walked; verdict = x.verdict }; holds = x.holds; keeps = x.keeps }
 
 pub retake : {text : List ℕ} {f : Flags} {C D : Label → Slots → (Lexemes → Lexemes) → ℕ → Type 0} {A B : Type 0} {p q : Parser} {id : NodeId} → Taken text f p q id C A → ((l : Label) (cs : Slots) (pass : Lexemes → Lexemes) → C l cs pass q.prev_token_end → D l cs pass q.prev_token_end) → (A → B) → Taken text f p q id D B
@@ -587,11 +611,11 @@ unfolding covers
 no_more_at true = refl
 no_more_at false = refl
 
-lhs_stops : {text : List ℕ} {s : ℕ} (b : Bool) → ((y : Lexeme) → Lex text s y → one_of_kinds link_kinds y.kind ≡ false) → (d : Edge) (y : Lexeme) → Lex text s y → IsTrue (seen (follow_of LeftHandSide b d) y || seen beside y)
-lhs_stops b n d y l = go (one_of_kinds link_kinds y.kind) refl (covered reads (no_more b) (no_more_at b) y.kind y.newline y.escaped l.1)
+lhs_stops : {text : List ℕ} {s : ℕ} (b : Bool) → ((y : Lexeme) → Lex text s y → one_of_kinds link_kinds y.kind ≡ false) → (d : Edge) (y : Lexeme) → Plain text s y → IsTrue (seen (follow_of LeftHandSide b d) y || seen beside y)
+lhs_stops b n d y l = go (one_of_kinds link_kinds y.kind) refl (covered reads (no_more b) (no_more_at b) y.kind y.newline y.escaped (plain_is_read y l.1))
   where
     go : (c : Bool) → one_of_kinds link_kinds y.kind ≡ c → (c || (nat_lt (tight b after_expression y.kind y.newline y.escaped) 17 || beside y.kind y.newline y.escaped)) ≡ true → (nat_lt (tight b after_expression y.kind y.newline y.escaped) 17 || beside y.kind y.newline y.escaped) ≡ true
-    go true e h = absurd (false≢true (sym (n y l) ∙ e))
+    go true e h = absurd (false≢true (sym (n y (plain_lex l)) ∙ e))
     go false e h = h
 
 pub lhs_callee : {text : List ℕ} {f : Flags} {o p : Parser} {id : NodeId} → (x : CalleeTaken text f o p id) → NoAccess text p → NoParen text p → StandsHere p QuestionDot false → Numbered text f (at LeftHandSide f) o p id

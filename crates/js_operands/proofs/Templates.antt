@@ -6,7 +6,7 @@ use Rattle.std.proofs.lemmas.List.Elements.{All-same}
 use Rattle.js_base.specs.declared.diagnostic.Diagnostic.{Diagnostic}
 use Rattle.js_base.specs.declared.diagnostic.DiagnosticKind.TheVariants.{OptionalChainTaggedTemplate}
 use Rattle.js_base.specs.declared.kind.Kind.{Kind}
-use Rattle.js_base.specs.declared.kind.Kind.TheVariants.{LCurly, RAngle, RCurly, TemplateMiddle, TemplateTail, Undetermined}
+use Rattle.js_base.specs.declared.kind.Kind.TheVariants.{LCurly, RAngle, RCurly, RegExp, TemplateMiddle, TemplateTail, Undetermined}
 use Rattle.js_base.specs.declared.span.Span.{Span}
 use Rattle.js_base.specs.Kinds.{same_kind, one_of_kinds}
 use Rattle.js_base.specs.Spans.{LiesIn}
@@ -20,7 +20,7 @@ use Rattle.js_grammar.specs.Marks.{Mark, EdgeOf, IsLexemeOf, the_start, the_end,
 use Rattle.js_grammar.specs.Productions.{Flags, Symbol}
 use Rattle.js_grammar.specs.Settings.{Goal}
 use Rattle.js_grammar.proofs.Calculus.{here_at}
-use Rattle.js_grammar.proofs.Looks.{covers, covered}
+use Rattle.js_grammar.proofs.Looks.{apart, covers, covered, not_both}
 use Rattle.js_lex.specs.Comments.{each_at, comment_at, irregular_at, html_fault_at}
 use Rattle.js_lex.specs.Reading.{cut, in_a_module, is_kept, is_right_angle, Tells, GivesLexeme, GivesNone, LexemeBehind, Outcome}
 use Rattle.js_lex.specs.States.{goal_of}
@@ -53,6 +53,7 @@ use Rattle.js_parsing.specs.Told.{unrelated_at}
 use Rattle.js_parsing.proofs.Classes.{unexpected_ends}
 use Rattle.js_parsing.proofs.Giving.{fails_none, kept_one}
 use Rattle.js_parsing.proofs.Here.{found, kind_here, told, uncut}
+use Rattle.js_parsing.proofs.ReadKinds.{unread_no_slash}
 use Rattle.js_parsing.proofs.Kept.{kept_for}
 use Rattle.js_parsing.proofs.KeptTokens.{again_before, again_last, before_next, next_kept_last, trivia_kept}
 use Rattle.js_parsing.proofs.MadeNodes.{leaf_held, made_lies, node_held, one_lies}
@@ -97,6 +98,18 @@ part_whole k h =
 part_passes : (k : Kind) → one_of_kinds parts k ≡ true → (is_last k ≡ false) × (same_kind RAngle k ≡ false)
 part_passes k h = part_whole k h
 
+no_pattern_parts : apart (λ k w e. one_of_kinds parts k) (λ k w e. same_kind RegExp k) ≡ true
+unfolding apart
+no_pattern_parts = refl
+
+-- none is a regular expression
+part_plain : (k : Kind) → one_of_kinds parts k ≡ true → same_kind RegExp k ≡ false
+part_plain k h = go (same_kind RegExp k) refl
+  where
+    go : (b : Bool) → same_kind RegExp k ≡ b → same_kind RegExp k ≡ false
+    go true e = absurd (not_both (λ k w e. one_of_kinds parts k) (λ k w e. same_kind RegExp k) no_pattern_parts k false false h e)
+    go false e = e
+
 head_part : (k : Kind) → one_of_kinds heads k ≡ true → (one_of_kinds parts k ≡ true) × (one_of_kinds read_kinds k ≡ false)
 head_part k h =
     let z = and_parts (one_of_kinds parts k) (not (one_of_kinds read_kinds k)) (covered (λ k w e. one_of_kinds heads k) (λ k w e. one_of_kinds parts k && not (one_of_kinds read_kinds k)) head_kinds k false false h) in
@@ -106,7 +119,7 @@ head_part k h =
 
 -- no lexeme that is read stands where the token tells another one
 unread : {text : List ℕ} {f : Flags} {p : Parser} → At text f p → p.cut ≡ false → one_of_kinds read_kinds p.token.kind ≡ false → (y : Lexeme) → Lex text p.prev_token_end y → ⊥
-unread a c r y l = false≢true (sym r ∙ subst (λ (v : Kind). one_of_kinds read_kinds v ≡ true) (sym (told a c y l).kind) (and_parts (one_of_kinds read_kinds y.kind) (not y.escaped) l.1).0)
+unread {p = p} a c r y l = false≢true (sym r ∙ subst (λ (v : Kind). one_of_kinds read_kinds v ≡ true) (sym (told a c (unread_no_slash p.token.kind r) y l).kind) (and_parts (one_of_kinds read_kinds y.kind) (not y.escaped) l.1).0)
 
 module _ {text : List ℕ} {f : Flags} {p : Parser} (a : At text f p) (h : one_of_kinds heads p.token.kind ≡ true) where
   head_passes : (is_last p.token.kind ≡ false) × (same_kind RAngle p.token.kind ≡ false)
@@ -176,7 +189,7 @@ module _ {text : List ℕ} {f : Flags} {p q : Parser} (a : PartAt text f p) wher
       at = h.at;
       plain = subst (λ (v : List ℕ). IsPlain v q) text_is (plain_given h.next.faults h.at.token outcome);
       behind = let s = h.next.start in let e = place in omega arith;
-      heads = heads_kept p q h.stays.text h.stays.source_type h.stays.options (ap (λ (n : Notes). n.failed) h.stays.state) a.heads;
+      heads = heads_kept p q h.stays.text h.stays.source_type h.stays.options (ap (λ (n : Notes). n.failed) h.stays.state) (ap (λ (n : Notes). n.operands) h.stays.state) a.heads;
       kept_last = next_kept_last h.next;
     }
 
@@ -208,7 +221,7 @@ module _ {text : List ℕ} {f : Flags} {p q : Parser} (a : PartAt text f p) wher
         counts = part_counts p.token.kind a.part;
         faults = subst (λ (v : Goal). KeptFor v text h.lexeme.to news.faults) a.at.reads_for (there (λ v i. KeptFor p.lexer.goal v i news.faults) (kept_for h.next));
         trivia = there (λ v i. TriviaKept v i news.comments news.blanks) (trivia_kept h.next);
-      }));
+      }) (part_plain h.lexeme.kind (subst (λ (k : Kind). one_of_kinds parts k ≡ true) h.tells.kind a.part)));
       last = last_is;
     }
       where
@@ -307,7 +320,7 @@ module _ {text : List ℕ} {f : Flags} {p q : Parser} (a : At text f p) (k : p.t
         part = tail_kind;
         braces = λ y l. only_brace y (subst (λ (n : ℕ). Braceless text n y) h.place l);
         behind = let s = h.again.start in let g = a.behind in let l = h.place in omega arith;
-        heads = heads_kept p q h.stays.text h.stays.source_type h.stays.options (ap (λ (n : Notes). n.failed) h.stays.state) a.heads;
+        heads = heads_kept p q h.stays.text h.stays.source_type h.stays.options (ap (λ (n : Notes). n.failed) h.stays.state) (ap (λ (n : Notes). n.operands) h.stays.state) a.heads;
         kept_last = again_last p.lexer q.lexer p.token q.token h.again.same.keeps_tokens h.again.tokens counted.0 counted.1 a.kept_last;
       };
       same = same_of h.at (read_again_follows h) h.stays.nodes h.stays.errors h.stays.options h.stays.ctx h.stays.depth h.stays.visits (to_end_stays p q h.stays.text h.place);
@@ -331,7 +344,7 @@ module _ {text : List ℕ} {f : Flags} {p q : Parser} (a : At text f p) (k : p.t
     grown = grown_then h.stays.errors (kept_one g.2);
     stopped = λ w. record { before = q.errors; last = g.0; is = ap (λ (z : Parser). z.errors) g.2.is; early = All-same IsEarly q.errors p.errors h.stays.errors w; ends = unexpected_ends h.at g.0 g.1 };
     lies = λ l. nodes_lie p r (text_stays) (nodes_stay) l.1;
-    heads = subst NotedHeads (sym g.2.is) (heads_kept p q h.stays.text h.stays.source_type h.stays.options (ap (λ (n : Notes). n.failed) h.stays.state) a.heads);
+    heads = subst NotedHeads (sym g.2.is) (heads_kept p q h.stays.text h.stays.source_type h.stays.options (ap (λ (n : Notes). n.failed) h.stays.state) (ap (λ (n : Notes). n.operands) h.stays.state) a.heads);
     none = λ u. tt;
     met = λ u. subst (λ (t : List ℕ). NoneToEnd t p.prev_token_end) (sym a.text_is) (to_end_none only_brace);
   }

@@ -11,6 +11,7 @@ ghost use Rattle.js_tree.specs.Labels.{kind_of};
 ghost use Rattle.js_operands.specs.Marked.{Marks, MarksNode};
 ghost use Rattle.js_operands.specs.Marked as marked;
 ghost use Rattle.js_parsing.specs.Moves.{IsWholeHere, TakesLeaf};
+ghost use Rattle.js_parsing.specs.Lexemes.{slashes};
 ghost use Rattle.js_parsing.specs.Nesting.{CanNest, room};
 ghost use Rattle.js_operands.specs.Numbers.{node_of_number, op_of_number};
 ghost use Rattle.js_parsing.specs.Moves.{Passes};
@@ -29,7 +30,7 @@ use js_parsing::nested::Nested;
 use js_parsing::nodes::{make_leaf, make_one};
 use js_tree::{BigintBase, NodeFlags, NodeId, NodeKind, NumberBase, Op, ParserAstBuilder};
 
-/// A PrimaryExpression (ECMA-262, section 13.2): a name, a literal, an array, an object literal, a function, parentheses or a
+/// A PrimaryExpression (ECMA-262, section 13.2): a name, a literal, a regular expression, an array, an object literal, a function, parentheses or a
 /// call of V8.
 pub fn parse_primary_expression<C: ParserConfig, N: Nested<C>>(
     p: &mut ParserImpl<'_, C>,
@@ -53,6 +54,7 @@ pub fn parse_primary_expression<C: ParserConfig, N: Nested<C>>(
         Kind::Null => parse_leaf(p, NodeKind::NullLiteral, Op::None),
         Kind::True | Kind::False => parse_leaf(p, NodeKind::BooleanLiteral, Op::None),
         Kind::Str => parse_leaf(p, NodeKind::StringLiteral, Op::None),
+        Kind::Slash | Kind::SlashEq => parse_literal_regexp(p),
         Kind::LParen => parse_parenthesized_expression(p, nested),
         Kind::LBrack => parse_array_expression(p, nested),
         Kind::Function => parse_function_expression(p, nested),
@@ -158,6 +160,24 @@ fn mark_in_parentheses<C: ParserConfig>(p: &mut ParserImpl<'_, C>, expression: N
     ensures { Marks expression p.old p.new }
 {
     mark_function(&mut p.ast, expression);
+}
+
+/// A RegularExpressionLiteral (ECMA-262, sections 13.2.7.3, 12.9.5): at an operand's place a slash, or `/=`, begins
+/// nothing else, so it is read again.
+#[inline(never)]
+fn parse_literal_regexp<C: ParserConfig>(p: &mut ParserImpl<'_, C>) -> Result<NodeId, Stop>
+    requires at { Standing p.old }
+    requires sign { one_of_kinds slashes p.old.token.kind ≡ true }
+    ensures { Answers (at Primary) p.old p.new result }
+{
+    p.re_lex_regex()?;
+    if p.at(Kind::Undetermined) {
+        return Err(p.set_unexpected());
+    }
+    let span = p.cur_token().span();
+    p.bump_any()?;
+    let node = make_leaf(p, NodeKind::RegExpLiteral, Op::None, span)?;
+    Ok(node)
 }
 
 /// Moves on over the closing parenthesis, whose opening one stood at a span.

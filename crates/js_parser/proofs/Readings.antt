@@ -1,9 +1,9 @@
 -- From the statements that were taken to the readings of the whole text.
-use Rattle.std.proofs.Common.{ℕ, ◌-◌, zero, suc, ◌&&◌, take, ◌≡◌, max, ◌⊎◌, inl, inr, List, [], ◌∷◌, ◌++◌, length, Bool, true, false, not, ◌||◌, IsTrue, Option, refl, sym, ap, subst, arith, ◌∙◌}
-use Rattle.std.proofs.lemmas.Bool.{and_parts, and_from}
+use Rattle.std.proofs.Common.{ℕ, zero, suc, ◌&&◌, take, ◌≡◌, max, ◌⊎◌, inl, inr, List, [], ◌∷◌, ◌++◌, length, Bool, true, false, not, ◌||◌, IsTrue, Option, refl, sym, ap, subst, arith, ◌∙◌}
+use Rattle.std.proofs.lemmas.Bool.{and_from}
 use Rattle.js_base.specs.declared.diagnostic.Diagnostic.{Diagnostic}
 use Rattle.js_base.specs.declared.kind.Kind.{Kind}
-use Rattle.js_base.specs.declared.kind.Kind.TheVariants.{Eof, Undetermined, RAngle, HashbangComment}
+use Rattle.js_base.specs.declared.kind.Kind.TheVariants.{Eof, Undetermined, RAngle, RegExp, HashbangComment}
 use Rattle.js_base.specs.declared.options.ParseOptions.{ParseOptions}
 use Rattle.js_base.specs.declared.source_type.SourceType.{SourceType}
 use Rattle.js_base.specs.Kinds.{same_kind, one_of_kinds}
@@ -11,35 +11,32 @@ use Rattle.js_base.specs.Texts.{words}
 use Rattle.js_base.proofs.KindLemmas.{kind_of_same}
 use Rattle.js_grammar.specs.Trees.{Label, Slots, end, tree, Tree, no_op, hashbang}
 use Rattle.js_grammar.specs.Grammar.{Lexeme, Lexemes, last, next, here, Takes, is_nothing}
-use Rattle.js_grammar.specs.Lexed.{Lexes, Lex as StandsBehind, all_faults, ends_once}
+use Rattle.js_grammar.specs.Lexed.{Lexes, Lex as StandsBehind, all_faults}
 use Rattle.js_grammar.specs.Lexemes.{is_escaped, division}
-use Rattle.js_grammar.specs.LexicalFaults.{Reached}
 use Rattle.js_grammar.specs.Parsing.{plain, Reads}
 use Rattle.js_grammar.specs.Productions.{Flags, at, Program}
 use Rattle.js_grammar.specs.Table.{rule, rule_of}
 use Rattle.js_grammar.proofs.Looks.{covers}
 use Rattle.js_grammar.proofs.Calculus.{◌▹◌, more_of, here_at, ends, label_is, slots_are}
-use Rattle.js_grammar.proofs.Alike.{lex-same}
-use Rattle.js_grammar.proofs.NoEnd.{ends_once_by}
 use Rattle.js_lex.specs.States.{goal_of}
 use Rattle.js_lex.specs.declared.output.LexerOutput.{LexerOutput}
 use Rattle.js_tree.specs.declared.id.NodeId.{NodeId}
 use Rattle.js_tree.specs.Holding.{HoldsAll, program_tree}
 use Rattle.js_cursor.specs.Parsers.{Parser}
-use Rattle.js_cursor.specs.Places.{IsAt, goal}
+use Rattle.js_cursor.specs.Places.{goal}
 use Rattle.js_cursor.specs.Moves.{is_last}
 use Rattle.js_cursor.specs.Starts.{Starts}
 use Rattle.js_cursor.specs.Tokens.{IsToken, whole as whole_token, sign as sign_token, nothing as no_token}
 use Rattle.js_cursor.specs.declared.stop.Stop.{Stop}
 use Rattle.js_cursor.specs.declared.stop.Stop.TheVariants.{Fatal, NoMemory}
 use Rattle.js_parsing.specs.Answers.{Stretch, Verdict, clean, unclean}
-use Rattle.js_parsing.specs.Lexemes.{Lex, is_read, read_kinds}
+use Rattle.js_parsing.specs.Lexemes.{IsRight, Lex, is_read, read_kinds, slashes}
 use Rattle.js_parsing.specs.States.{At, IsPlain, whole, sign, nothing as no_lexeme, flags_of, Standing, NodesLie, SpansLie}
 use Rattle.js_statements.specs.StatementLists.{at_end, with_directives, statements, NoList, Taken, AllTaken, AllRefused}
 use Rattle.js_statements.specs.declared.statement_list.StatementList.TheVariants.{Text}
 use Rattle.js_parsing.proofs.Beginning.{begins, begins_with_hashbang, behind_first, none_noted}
 use Rattle.js_parsing.proofs.Giving.{fails_none}
-use Rattle.js_parsing.proofs.Here.{told, plain_kind, kind_here}
+use Rattle.js_parsing.proofs.Here.{alike, told, plain_there, kind_here}
 use Rattle.js_parsing.proofs.Paths.{at_kind}
 use Rattle.js_parsing.proofs.Unbuilt.{nothing_unbuilt}
 use Rattle.js_statements.proofs.StatementLists.{none_left, text_ends}
@@ -48,7 +45,7 @@ use Rattle.js_cursor.specs.Starts.{is_module, is_commonjs}
 use Rattle.js_tree.specs.Nodes.{Node, empty_program}
 use Rattle.js_tree.proofs.HoldingLemmas.{HoldsAll-wider, HoldsAll-append, HoldsAll-one, Holds-kept, Holds-wider, Keeps-refl}
 use Rattle.std.specs.Prelude.{Result, Ok, Err, MatchResult}
-use Rattle.std.specs.Prelude.{Some, slice_get}
+use Rattle.std.specs.Prelude.{Some}
 use Rattle.js_base.specs.Contexts.{has_flag, in_flag, yield_flag, await_flag, return_flag, new_target_flag}
 use Rattle.js_cursor.specs.Moves.{Passed}
 use Rattle.js_parsing.specs.Moves.{MadeHere, plain_label}
@@ -74,7 +71,7 @@ use Rattle.js_grammar.specs.Options.{Options, is_module as in_module, is_commonj
 use Rattle.js_grammar.specs.Settings.{Goal, script, module_goal, commonjs, unambiguous}
 use Rattle.js_lex.specs.Comments.{each_at, comment_at, irregular_at, html_fault_at}
 use Rattle.js_lex.specs.Reading.{in_a_module, is_kept, kept_token, LexemeBehind, GivesFirst, GivesNext}
-use Rattle.js_parsing.specs.Lexemes.{Faultless, KeptFor, TriviaKept, kept_before, Spot, spot, Walked, nowhere, one_more, more_faults}
+use Rattle.js_parsing.specs.Lexemes.{Faultless, KeptFor, TriviaKept, kept_before, Spot, spot, Walked, nowhere, one_more, read_again, more_faults}
 use Rattle.js_parsing.proofs.KeptTokens.{before_next, trivia_kept}
 use Rattle.js_parser.specs.Kept.{KeepsRight, each_of, comments_before, blanks_before, TellsEach, IsKeptOf}
 use Rattle.js_parsing.proofs.Paths.{behind_walk}
@@ -83,7 +80,7 @@ use Rattle.js_base.specs.declared.token.Token.{Token}
 use Rattle.js_parsing.proofs.Kept.{kept_for, faults_aside}
 use Rattle.js_parsing.proofs.Paths.{walked_from}
 use Rattle.std.proofs.lemmas.List.Elements.{All-same, All-nil, All-cons}
-use Rattle.js_parsing.specs.Classes.{IsEarly, EndedByLast}
+use Rattle.js_parsing.specs.Classes.{IsEarly}
 use Rattle.std.proofs.lemmas.Str.{IsCharBoundary-start}
 use Rattle.js_base.specs.Spans.{LiesIn}
 
@@ -125,7 +122,7 @@ module _ {text : List ℕ} {f : Flags} {q : Parser} (a : At text f q) (e : q.tok
   end_kind y l = kind_here a e refl y l
 
   end_place : (y : Lexeme) → Lex text q.prev_token_end y → y.to ≡ q.token.span.end
-  end_place y l = sym (told a (let z = end_kind y l in uncut_end a.plain) y l).end
+  end_place y l = sym (told a (let z = end_kind y l in uncut_end a.plain) (ap (one_of_kinds slashes) e) y l).end
     where
       uncut_end : IsPlain text q → q.cut ≡ false
       uncut_end (whole c n x) = c
@@ -133,7 +130,7 @@ module _ {text : List ℕ} {f : Flags} {q : Parser} (a : At text f q) (e : q.tok
       uncut_end (no_lexeme c k n) = c
 
   same_end : {z : Lexeme} → Lex text q.prev_token_end z → z ≡ (end_here a e).0
-  same_end {z} m = let y = end_here a e in lex-same m.0 y.1.0 (plain_kind m.0 (and_parts (one_of_kinds read_kinds z.kind) _ m.1).0 ∙ sym (plain_kind y.1.0 (and_parts (one_of_kinds read_kinds y.0.kind) _ y.1.1).0))
+  same_end {z} m = let y = end_here a e in alike m y.1 (ap (same_kind RegExp) (end_kind z m ∙ sym y.2))
 
   module _ {s : ℕ} {slots : Slots → Slots} {pass : Lexemes → Lexemes} (u : Stretch text (plain (at_end Text)) (with_directives Text f) s (statements Text f) q.prev_token_end slots pass) where
     list_reads : Reads rule (Lex text) (plain (at_end Text)) end (with_directives Text f) s q.prev_token_end slots (record { reach = max u.reach (max 0 0); pass = pass })
@@ -188,37 +185,52 @@ module _ {text : List ℕ} {source : Goal} {f : Flags} {s : ℕ} {front : Slots 
 pub cons_some : {K : Type 0} (x : K) (xs : List K) → x ∷ xs ≡ [] → ⊥
 cons_some x xs e = cc
 
--- the lexeme that stands there has no fault
+-- the lexeme of the plain goal that stands there has no fault
 abbrev Right : List ℕ → Spot → Type 0
-Right text s = (y : Lexeme) → Lex text s.place y → Faultless s.source text s.place y
+Right text s = IsRight s.source text s.place
 
 module _ {text : List ℕ} where
   -- where no fault was kept, none stands anywhere on the way
   right_there : {s s' : Spot} {pass : Lexemes → Lexemes} → Walked text s s' pass → s'.kept.errors ≡ [] → ((s.kept.errors ≡ []) → Right text s) → Right text s'
   right_there nowhere e h = h e
-  right_there (one_more {s' = m} {n = n} w i) e h = i.faults.none (second_empty m.kept.errors n.faults e)
+  right_there (one_more {s' = m} {n = n} w i r) e h = i.faults.none (second_empty m.kept.errors n.faults e)
+  right_there (read_again {s' = m} {n = n} w ds k i) e h = i.faults.none (second_empty (m.kept.errors ++ ds) n.faults e)
   right_there (more_faults {s' = m} w ds n) e h = right_there w (first_empty m.kept.errors ds e) h
 
   source_kept : {s s' : Spot} {pass : Lexemes → Lexemes} → Walked text s s' pass → s'.source ≡ s.source
   source_kept nowhere = refl
-  source_kept (one_more w i) = source_kept w
+  source_kept (one_more w i r) = source_kept w
+  source_kept (read_again w ds k i) = source_kept w
   source_kept (more_faults w ds n) = source_kept w
 
   all_right : {s s' : Spot} {pass : Lexemes → Lexemes} (w : Walked text s s' pass) → s'.kept.errors ≡ [] → ((s.kept.errors ≡ []) → Right text s) → (ms : Lexemes) → Lexes (Lex text) s.place (pass ms) → Lexes (Faultless s'.source text) s'.place ms → Lexes (Faultless s.source text) s.place (pass ms)
   all_right nowhere e h ms l r = r
-  all_right (one_more {s' = m} {x = x} {n = n} w i) e h ms l r =
+  all_right (one_more {s' = m} {x = x} {n = n} w i p) e h ms l r =
       let none = first_empty m.kept.errors n.faults e in
-      all_right w none h (next x ms) l (right_there w none h x (behind_walk (Lex text) w (next x ms) l).0, r)
+      all_right w none h (next x ms) l (right_there w none h x (behind_walk (Lex text) w (next x ms) l).0 p, r)
+  all_right (read_again {s' = m} {x = x} {n = n} w ds k i) e h ms l r =
+      let both = first_empty (m.kept.errors ++ ds) n.faults e in
+      let none = first_empty m.kept.errors ds both in
+      all_right w none h (next x ms) l (k.none (second_empty m.kept.errors ds both) (right_there w none h), r)
   all_right (more_faults {s' = m} w ds n) e h ms l r = all_right w (first_empty m.kept.errors ds e) h ms l r
 
   -- where some fault was kept, one stands on the way, or here
   some_wrong : {s s' : Spot} {pass : Lexemes → Lexemes} (w : Walked text s s' pass) → (s'.kept.errors ≡ [] → ⊥) → ((s.kept.errors ≡ [] → ⊥) → (y : Lexeme) → Faultless s.source text s.place y → ⊥) → (ms : Lexemes) → Lexes (Faultless s.source text) s.place (pass ms) → ⊥
   some_wrong {s} nowhere n h ms r = h n (here ms) (here_at (Faultless s.source text) ms r)
-  some_wrong {s} (one_more {s' = m} {x = x} {n = news} w i) n h ms r = go news.faults refl (λ o. some_wrong w o h (next x ms) r)
+  some_wrong {s} (one_more {s' = m} {x = x} {n = news} w i p) n h ms r = go news.faults refl (λ o. some_wrong w o h (next x ms) r)
     where
       go : (ds : List Diagnostic) → news.faults ≡ ds → ((m.kept.errors ≡ [] → ⊥) → ⊥) → ⊥
       go [] e again = again (λ z. n (λ j. z j ++ e j))
       go (d ∷ ds) e again = i.faults.some (λ z. cons_some d ds (sym e ∙ z)) (here ms) (here_at (Faultless m.source text) ms (subst (λ (v : Goal). Lexes (Faultless v text) x.to ms) (sym (source_kept w)) (behind_walk (Faultless s.source text) w (next x ms) r).1))
+  some_wrong {s} (read_again {s' = m} {x = x} {n = news} w ds k i) n h ms r = go ds refl news.faults refl (λ o. some_wrong w o h (next x ms) r)
+    where
+      there : Lexes (Faultless m.source text) m.place (next x ms)
+      there = subst (λ (v : Goal). Lexes (Faultless v text) m.place (next x ms)) (sym (source_kept w)) (behind_walk (Faultless s.source text) w (next x ms) r)
+
+      go : (cs : List Diagnostic) → ds ≡ cs → (fs : List Diagnostic) → news.faults ≡ fs → ((m.kept.errors ≡ [] → ⊥) → ⊥) → ⊥
+      go [] d [] e again = again (λ z. n (λ j. (z j ++ d j) ++ e j))
+      go (c ∷ cs) d fs e again = k.some (λ z. cons_some c cs (sym d ∙ z)) there.0
+      go [] d (f ∷ fs) e again = i.faults.some (λ z. cons_some f fs (sym e ∙ z)) (here ms) (here_at (Faultless m.source text) ms there.1)
   some_wrong {s} (more_faults {pass = pass} w ds n) k h ms r = n ms (all_aside text s.source s.place (pass ms) r)
 
 -- The statements that were taken up to the text's end, by the faults that were kept.
@@ -226,7 +238,7 @@ module _ {text : List ℕ} {f : Flags} {q : Parser} (a : At text f q) (e : q.tok
     {keeps : Bool} {kept : LexerOutput} (w : Walked text (record { source = source; keeps_tokens = keeps; place = s; kept = kept }) (spot q) pass) (first : KeptFor source text s kept.errors) where
   right_body : q.lexer.kept.errors ≡ [] → Body (Faultless source text) f s (slots end) (pass (last (end_here a e).0))
   right_body z = let x = any_so a e u in let y = end_here a e in record {
-    lexed = all_right w z (λ v. first.none v) (last y.0) x.lexed (right_there w z (λ v. first.none v) y.0 y.1);
+    lexed = all_right w z (λ v. first.none v) (last y.0) x.lexed (right_there w z (λ v. first.none v) y.0 y.1 (ap (same_kind RegExp) y.2));
     place = x.place;
     final = x.final;
     is_end = x.is_end;
@@ -308,7 +320,7 @@ module _ {text : List ℕ} {f : Flags} {q : Parser} (a : At text f q) (e : q.tok
       go : IsPlain text q → (y : Lexeme) → Lex text q.prev_token_end y → ⊥
       go (whole c n x) y l = n e
       go (sign c k x) y l = let z : RAngle ≡ Undetermined = sym k ∙ e in cc
-      go (no_lexeme c k n) y l = n y (record { lex = l.0; of_goal = plain_kind l.0 (and_parts (one_of_kinds read_kinds y.kind) _ l.1).0 })
+      go (no_lexeme c k n) y l = let z = plain_there l in n z.lexeme z.stands
 
   fault_kept : q.lexer.kept.errors ≡ [] → ⊥
   fault_kept h = go a.at.token

@@ -29,11 +29,11 @@ hashbang_kind x = x.tells.kind ∙ hashbang_is x.stands.lex.word x.lexeme.kind (
 
 -- nothing is noted where a text begins
 pub none_noted : (p : Parser) → HasNone p.state → NotedHeads p
-none_noted p n = λ f s k. absurd (false≢true (sym (n.failed f.await_ f.yield_ s) ∙ k))
+none_noted p n = (λ f s k. absurd (false≢true (sym (n.failed f.await_ f.yield_ s) ∙ k)), λ f s k. absurd (false≢true (sym (n.operands f.await_ f.yield_ s) ∙ k)))
 
 -- Behind a lexeme of whichever goal the plain goal gives the next token.
 pub behind_first : {p q : Parser} → IsAt p → NotedHeads p → Passed p q → Standing q
-behind_first {p} {q} b n h = record { text_is = refl; flags_are = refl; at = h.at; plain = plain_given h.next.faults h.at.token outcome; behind = let s = h.next.start in let e = place in omega arith; heads = heads_kept p q h.stays.text h.stays.source_type h.stays.options (ap (λ (m : Notes). m.failed) h.stays.state) n; kept_last = next_kept_last h.next }
+behind_first {p} {q} b n h = record { text_is = refl; flags_are = refl; at = h.at; plain = plain_given h.next.faults h.at.token outcome; behind = let s = h.next.start in let e = place in omega arith; heads = heads_kept p q h.stays.text h.stays.source_type h.stays.options (ap (λ (m : Notes). m.failed) h.stays.state) (ap (λ (m : Notes). m.operands) h.stays.state) n; kept_last = next_kept_last h.next }
   where
     reads : p.lexer.text ≡ q.text
     reads = b.reads ∙ sym h.stays.text

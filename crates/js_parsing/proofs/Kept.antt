@@ -1,12 +1,11 @@
 -- The faults that the lexer keeps with a token are those of what stands at its place.
-use Rattle.std.proofs.Common.{ℕ, ◌+◌, ◌≡◌, Bool, true, false, not, ◌||◌, List, [], ◌∷◌, ◌++◌, None, refl, sym, subst}
+use Rattle.std.proofs.Common.{ℕ, ◌+◌, ◌≡◌, Bool, true, false, not, ◌||◌, List, [], ◌∷◌, ◌++◌, None, refl, sym, ap, subst}
 use Rattle.std.proofs.lemmas.Bool.{false≢true, and_parts, and_from}
 use Rattle.js_base.specs.declared.diagnostic.Diagnostic.{Diagnostic}
 use Rattle.js_base.specs.declared.kind.Kind.{Kind}
 use Rattle.js_base.specs.declared.kind.Kind.TheVariants.{RegExp, Undetermined}
 use Rattle.js_base.specs.declared.token.Token.{Token}
-use Rattle.js_base.specs.Kinds.{same_kind, one_of_kinds}
-use Rattle.js_base.proofs.KindLemmas.{kind_of_same}
+use Rattle.js_base.specs.Kinds.{same_kind}
 use Rattle.js_grammar.specs.Characters.{width}
 use Rattle.js_grammar.specs.Grammar.{Lexeme}
 use Rattle.js_grammar.specs.Trivia.{is_html_comment, lack_html_comments}
@@ -19,8 +18,8 @@ use Rattle.js_lex.specs.Comments.{each_at, html_fault_at, span_at}
 use Rattle.js_base.specs.declared.diagnostic.DiagnosticKind.TheVariants.{HtmlCommentInModule}
 use Rattle.js_lex.specs.Reading.{cut, in_a_module, GivesNext, GivesNone, GivesLexeme}
 use Rattle.js_lex.specs.States.{State}
-use Rattle.js_parsing.specs.Lexemes.{Lex, Faultless, KeptFor, read_kinds}
-use Rattle.js_parsing.proofs.Here.{plainly}
+use Rattle.js_parsing.specs.Lexemes.{Lex, Faultless, KeptFor}
+use Rattle.js_parsing.proofs.Here.{plain_there}
 
 -- one of the two lists holds something
 both_none : {K : Type 0} (a b : List K) → a ++ b ≡ [] → (a ≡ []) × (b ≡ [])
@@ -65,19 +64,11 @@ none_kept in_module b ps s q h = subst (λ (v : Bool). each_at (html_fault_at v)
 none_kept in_script b ps s q h = subst (λ (v : Bool). each_at (html_fault_at v) s ps ≡ []) (sym q) (never_kept ps s)
 none_kept all_faults b ps s q h = subst (λ (v : Bool). each_at (html_fault_at v) s ps ≡ []) (sym q) (never_kept ps s)
 
--- no regular expression is read, so no flag is wrong
-no_flags : (m : Passing) (k : Kind) (w : List ℕ) → one_of_kinds read_kinds k ≡ true → flags_right m k w ≡ true
+-- of what is no regular expression no flag is wrong
+no_flags : (m : Passing) (k : Kind) (w : List ℕ) → same_kind RegExp k ≡ false → flags_right m k w ≡ true
 no_flags all_faults k w h = refl
-no_flags in_script k w h = go (same_kind RegExp k) refl
-  where
-    go : (b : Bool) → same_kind RegExp k ≡ b → (not b || flags_pass (flags w)) ≡ true
-    go true e = absurd (false≢true (subst (λ (v : Kind). one_of_kinds read_kinds v ≡ true) (sym (kind_of_same RegExp k e)) h))
-    go false e = refl
-no_flags in_module k w h = go (same_kind RegExp k) refl
-  where
-    go : (b : Bool) → same_kind RegExp k ≡ b → (not b || flags_pass (flags w)) ≡ true
-    go true e = absurd (false≢true (subst (λ (v : Kind). one_of_kinds read_kinds v ≡ true) (sym (kind_of_same RegExp k e)) h))
-    go false e = refl
+no_flags in_script k w h = ap (λ (b : Bool). not b || flags_pass (flags w)) h
+no_flags in_module k w h = ap (λ (b : Bool). not b || flags_pass (flags w)) h
 
 -- whichever faults pass, where they aren't there
 pub passing_so : {m n : Passing} {text : List ℕ} {s : ℕ} {y : Lexeme} (h : StandsBehind m text s y) → comments_pass n h.trivia ≡ true → flags_right n y.kind h.word ≡ true → StandsBehind n text s y
@@ -91,12 +82,12 @@ module _ {old new : State} {t : Token} (g : GivesNext division old new t) where
   pub kept_for : KeptFor old.goal old.text old.place (each_at (html_fault_at (in_a_module old.goal)) old.place g.pieces ++ g.faults)
   kept_for = record { none = right; some = wrong }
     where
-      right : each_at (html_fault_at (in_a_module old.goal)) old.place g.pieces ++ g.faults ≡ [] → (y : Lexeme) → Lex old.text old.place y → Faultless old.goal old.text old.place y
-      right e y l =
+      right : each_at (html_fault_at (in_a_module old.goal)) old.place g.pieces ++ g.faults ≡ [] → (y : Lexeme) → Lex old.text old.place y → same_kind RegExp y.kind ≡ false → Faultless old.goal old.text old.place y
+      right e y l r =
           let h = both_none _ g.faults e in
           let same = stands-same g.stands l.0.stands in
           let c : comments_pass (passing_of old.goal) g.pieces ≡ true = comments_right (passing_of old.goal) (in_a_module old.goal) g.pieces old.place refl h.0 in
-          (passing_so l.0 (subst (λ (ps : List (List ℕ)). comments_pass (passing_of old.goal) ps ≡ true) same.pieces c) (no_flags (passing_of old.goal) y.kind l.0.word (and_parts (one_of_kinds read_kinds y.kind) (not y.escaped) l.1).0), l.1)
+          (passing_so l.0 (subst (λ (ps : List (List ℕ)). comments_pass (passing_of old.goal) ps ≡ true) same.pieces c) (no_flags (passing_of old.goal) y.kind l.0.word r), l.1)
 
       wrong : (each_at (html_fault_at (in_a_module old.goal)) old.place g.pieces ++ g.faults ≡ [] → ⊥) → (y : Lexeme) → Faultless old.goal old.text old.place y → ⊥
       wrong n y l = by (same_kind Undetermined t.kind) g.outcome
@@ -105,5 +96,5 @@ module _ {old new : State} {t : Token} (g : GivesNext division old new t) where
           quiet = let same = stands-same g.stands l.0.stands in none_kept (passing_of old.goal) (in_a_module old.goal) g.pieces old.place refl (subst (λ (ps : List (List ℕ)). comments_pass (passing_of old.goal) ps ≡ true) (sym same.pieces) l.0.comments)
 
           by : (b : Bool) → elim b as (λ _. Type 0) [ true ↦ (d : Diagnostic) × (g.faults ≡ d ∷ []) × GivesNone division old.goal old.text old.place t d | false ↦ (g.faults ≡ []) × GivesLexeme division cut old.text old.place t ] → ⊥
-          by true x = let z = faults_aside old.goal l in x.2.none y (record { lex = z.0; of_goal = plainly z.0 z.1 })
+          by true x = let z = plain_there (faults_aside old.goal l) in x.2.none z.lexeme z.stands
           by false x = n (none_of_two _ g.faults quiet x.0)

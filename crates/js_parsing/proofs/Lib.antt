@@ -4,6 +4,7 @@ pub mod Bracketed
 pub mod Contexts
 pub mod Dead
 pub mod Deeper
+pub mod Edges
 pub mod Expected
 pub mod FreeOfIn
 pub mod Giving
@@ -21,6 +22,7 @@ pub mod Phrases
 pub mod ReadKinds
 pub mod Related
 pub mod Signs
+pub mod Slashes
 pub mod Stretches
 pub mod Tight
 pub mod Told

@@ -5,7 +5,7 @@ use Rattle.js_base.specs.Contexts.{has_flag, in_flag}
 use Rattle.std.proofs.lemmas.Bool.{false≢true}
 use Rattle.js_base.specs.declared.diagnostic.Diagnostic.{Diagnostic}
 use Rattle.js_base.specs.declared.kind.Kind.{Kind}
-use Rattle.js_base.specs.declared.kind.Kind.TheVariants.{LCurly, RAngle, Undetermined}
+use Rattle.js_base.specs.declared.kind.Kind.TheVariants.{LCurly, RAngle, RegExp, Undetermined}
 use Rattle.js_base.specs.declared.token.Token.{Token}
 use Rattle.js_base.specs.Kinds.{same_kind, one_of_kinds}
 use Rattle.js_base.proofs.KindLemmas.{kind_of_same}
@@ -33,15 +33,15 @@ use Rattle.js_cursor.proofs.Later.{passed_follows, read_again_follows, follows_i
 use Rattle.js_cursor.proofs.Changing.{fields_at, fields_set, entered_on}
 use Rattle.js_base.specs.declared.options.ParseOptions.{ParseOptions}
 use Rattle.js_base.specs.declared.source_type.SourceType.{SourceType}
-use Rattle.js_cursor.specs.Notes.{Heads, Notes, is_failed}
+use Rattle.js_cursor.specs.Notes.{NotedAt, Notes, is_noted}
 use Rattle.js_cursor.specs.Starts.{is_module}
-use Rattle.js_parsing.specs.Heads.{NoHead, NotedHeads, throughout}
+use Rattle.js_parsing.specs.Heads.{NoHead, NotedHeads, OnlyArrow, throughout}
 use Rattle.js_parsing.specs.Lexemes.{KeptFor, NoneToEnd, TriviaKept, News, read_kinds}
 use Rattle.js_parsing.proofs.KeptTokens.{counts_here, completed_counts, before_next, next_kept_last, again_before, again_last, trivia_kept}
 use Rattle.js_parsing.specs.States.{At, Standing, IsPlain, whole, sign, nothing, Same, flags_of, NodesLie, SpansLie}
 use Rattle.js_parsing.specs.Moves.{IsCompleted, IsWholeHere, Moved, Moves, Tightness}
 use Rattle.js_parsing.specs.Operators.{power_of}
-use Rattle.js_parsing.proofs.Here.{plain_kind, uncut}
+use Rattle.js_parsing.proofs.Here.{no_pattern_token, plain_kind, uncut}
 use Rattle.js_parsing.proofs.Kept.{kept_for}
 use Rattle.js_parsing.proofs.ToEnd.{to_end_passed, to_end_stays}
 use Rattle.js_lex.specs.Comments.{each_at, comment_at, irregular_at, html_fault_at}
@@ -66,7 +66,7 @@ plain_given {text} {p} {source} faults k o = go p.cut refl k (same_kind Undeterm
         by true e =
             let c : (cut z.lexeme).kind ≡ RAngle = rw (e, cut) refl in
             let r : x.lexeme.kind ≡ RAngle = sym x.tells.kind ∙ (z.tells.kind ∙ c) in
-            whole q n (record { lexeme = x.lexeme; stands = record { lex = x.stands.lex; of_goal = plain_kind x.stands.lex (ap (one_of_kinds read_kinds) r) }; tells = x.tells; separated = x.separated })
+            whole q n (record { lexeme = x.lexeme; stands = record { lex = x.stands.lex; of_goal = plain_kind x.stands.lex (ap (one_of_kinds read_kinds) r) (ap (same_kind RegExp) r) }; tells = x.tells; separated = x.separated })
 
     go : (b : Bool) → p.cut ≡ b → IsToken source text p.prev_token_end p.lexer.kept.errors p.token b → (r : Bool) → same_kind Undetermined p.token.kind ≡ r → elim r as (λ _. Type 0) [ true ↦ (d : Diagnostic) × (faults ≡ d ∷ []) × GivesNone division source text p.prev_token_end p.token d | false ↦ (faults ≡ []) × GivesLexeme division cut text p.prev_token_end p.token ] → IsPlain text p
     go true q (sign_token e x) r h y = sign q e x
@@ -79,12 +79,14 @@ pub flags_same : (p q : Parser) → q.ctx ≡ p.ctx → q.source_type ≡ p.sour
 flags_same p q c s o = rw (c, s, o) refl
 
 -- what is noted of heads stays right where the text and what is noted stay
-pub heads_kept : (p q : Parser) → q.text ≡ p.text → q.source_type ≡ p.source_type → q.options ≡ p.options → q.state.failed ≡ p.state.failed → NotedHeads p → NotedHeads q
-heads_kept p q t s o h n = λ f x k.
-    subst (λ (v : List ℕ). NoHead v (throughout q f) x) (sym t)
-    (subst (λ (v : SourceType). NoHead p.text (record f { module_goal = is_module v; v8 = q.options.allow_v8_intrinsics; cover = true; wide = false }) x) (sym s)
-    (subst (λ (v : ParseOptions). NoHead p.text (record f { module_goal = is_module p.source_type; v8 = v.allow_v8_intrinsics; cover = true; wide = false }) x) (sym o)
-    (n f x (subst (λ (v : Heads). is_failed v f.await_ f.yield_ x ≡ true) h k))))
+pub heads_kept : (p q : Parser) → q.text ≡ p.text → q.source_type ≡ p.source_type → q.options ≡ p.options → q.state.failed ≡ p.state.failed → q.state.operands ≡ p.state.operands → NotedHeads p → NotedHeads q
+heads_kept p q t s o h g n = (λ f x k. stays NoHead f x (n.0 f x (subst (λ (v : NotedAt). is_noted v f.await_ f.yield_ x ≡ true) h k)), λ f x k. stays OnlyArrow f x (n.1 f x (subst (λ (v : NotedAt). is_noted v f.await_ f.yield_ x ≡ true) g k)))
+  where
+    stays : (P : List ℕ → Flags → ℕ → Type 0) → (f : Flags) (x : ℕ) → P p.text (throughout p f) x → P q.text (throughout q f) x
+    stays P f x z =
+        subst (λ (v : List ℕ). P v (throughout q f) x) (sym t)
+        (subst (λ (v : SourceType). P p.text (record f { module_goal = is_module v; v8 = q.options.allow_v8_intrinsics; cover = true; wide = false }) x) (sym s)
+        (subst (λ (v : ParseOptions). P p.text (record f { module_goal = is_module p.source_type; v8 = v.allow_v8_intrinsics; cover = true; wide = false }) x) (sym o) z))
 
 pub same_itself : {p : Parser} → Same p p
 same_itself {p} = record { follows = follows_itself p; options = refl; ctx = refl; depth = refl; visits = refl; early = λ h. h; lies = λ h. h; meets = λ h. h }
@@ -116,7 +118,7 @@ module _ {text : List ℕ} {f : Flags} {p : Parser} where
     at = h.at;
     plain = subst (λ (v : List ℕ). IsPlain v q) text_is (plain_given h.next.faults h.at.token outcome);
     behind = let s = h.next.start in let e = place in omega arith;
-    heads = heads_kept p q h.stays.text h.stays.source_type h.stays.options (ap (λ (n : Notes). n.failed) h.stays.state) a.heads;
+    heads = heads_kept p q h.stays.text h.stays.source_type h.stays.options (ap (λ (n : Notes). n.failed) h.stays.state) (ap (λ (n : Notes). n.operands) h.stays.state) a.heads;
     kept_last = next_kept_last h.next;
   }
     where
@@ -143,6 +145,7 @@ module _ {text : List ℕ} {f : Flags} {p : Parser} where
     kept = s.stays.errors;
     lexeme = s.lexeme;
     stood = subst (λ (v : List ℕ). StandsBehind all_faults v p.prev_token_end s.lexeme) a.text_is s.stood;
+    plain = ap (same_kind RegExp) (sym s.tells.kind) ∙ no_pattern_token a.plain;
     tells = s.tells;
     ends = sym s.moved;
     further = further n s;
@@ -202,7 +205,7 @@ completes {text} {f} {p} {q} (inr e) b n a h = record {
     at = b;
     plain = plain;
     behind = let s = e.1.again.start in let g = a.behind in let l = e.1.place in omega arith;
-    heads = heads_kept p q e.1.stays.text e.1.stays.source_type e.1.stays.options (ap (λ (n : Notes). n.failed) e.1.stays.state) a.heads;
+    heads = heads_kept p q e.1.stays.text e.1.stays.source_type e.1.stays.options (ap (λ (n : Notes). n.failed) e.1.stays.state) (ap (λ (n : Notes). n.operands) e.1.stays.state) a.heads;
     kept_last = again_last p.lexer q.lexer p.token q.token e.1.again.same.keeps_tokens e.1.again.tokens counted.0 counted.1 a.kept_last;
   };
   same = same_of b (read_again_follows e.1) e.1.stays.nodes e.1.stays.errors e.1.stays.options e.1.stays.ctx e.1.stays.depth e.1.stays.visits (to_end_stays p q e.1.stays.text e.1.place);

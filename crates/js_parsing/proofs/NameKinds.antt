@@ -131,11 +131,6 @@ or_kind a ks k n m = go (same_kind a k) refl
 pub name_so : (p : Parser) {b r : Bool} → r ≡ b → NameHere p r → NameHere p b
 name_so p e s = subst (λ (c : Bool). NameHere p c) e s
 
--- whether one stands here, by its kind and its escape
-pub name_is : (y t : Bool) (p : Parser) (b : Bool) → b ≡ may_name y t p.token.kind → p.token.escaped ≡ false → NameUnder y t p b
-name_is y t p true h e = (sym h, e)
-name_is y t p false h e = λ k n. false≢true (h ∙ k)
-
 -- none of another kind
 pub no_name_here : (f : Flags) (p : Parser) → NameUnder f.yield_ f.await_ p false → p.token.escaped ≡ false → may_name f.yield_ f.await_ p.token.kind ≡ false
 no_name_here f p n e = go (may_name f.yield_ f.await_ p.token.kind) refl

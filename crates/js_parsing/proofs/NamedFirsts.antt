@@ -2,7 +2,7 @@
 use Rattle.std.proofs.Common.{ℕ, ◌≡◌, Bool, true, false, not, ◌&&◌, ◌||◌, List, [], ◌∷◌, IsTrue, refl, sym, subst, ◌∙◌}
 use Rattle.std.proofs.lemmas.Bool.{false≢true, and_from}
 use Rattle.js_base.specs.declared.kind.Kind.{Kind}
-use Rattle.js_base.specs.declared.kind.Kind.TheVariants.{Yield, Await}
+use Rattle.js_base.specs.declared.kind.Kind.TheVariants.{Yield, Await, RegExp}
 use Rattle.js_base.specs.Kinds.{same_kind, one_of_kinds}
 use Rattle.js_grammar.specs.Trees.{end}
 use Rattle.js_grammar.specs.Grammar.{Lexeme, Look, seen}
@@ -16,8 +16,8 @@ use Rattle.js_grammar.proofs.FirstRules.{fails_here}
 use Rattle.js_cursor.specs.Parsers.{Parser}
 use Rattle.js_parsing.specs.Lexemes.{Lex, may_name}
 use Rattle.js_parsing.specs.States.{At}
-use Rattle.js_parsing.proofs.Here.{told, angled, kind_here}
-use Rattle.js_parsing.proofs.Paths.{angles, reads}
+use Rattle.js_parsing.proofs.Here.{told_plain, angled, kind_here}
+use Rattle.js_parsing.proofs.Paths.{angles, not_here, reads, settles}
 
 -- What begins with a name, or with what no name begins, but never with `await` under Await.
 abbrev pub named_first : Name → Bool
@@ -124,9 +124,13 @@ no_name_angle true false = refl
 no_name_angle false true = refl
 no_name_angle false false = refl
 
-either_false : (a b : Bool) → a ≡ false → b ≡ false → (a || b) ≡ true → ⊥
-either_false true b h i e = false≢true (sym h)
-either_false false b h i e = false≢true (sym i ∙ e)
+-- nor does a regular expression
+no_name_pattern : (y t : Bool) → apart (λ k w e. same_kind RegExp k) (a_name_under y t) ≡ true
+unfolding apart
+no_name_pattern true true = refl
+no_name_pattern true false = refl
+no_name_pattern false true = refl
+no_name_pattern false false = refl
 
 either_of : {F : Type 0} (a b : Bool) → (a || b) ≡ true → (a ≡ true → F) → (b ≡ true → F) → F
 either_of true b h f g = f refl
@@ -134,18 +138,20 @@ either_of false b h f g = g h
 
 module _ {text : List ℕ} {o : Flags} {p : Parser} (a : At text o p) (f : Flags) where
   -- no name by these parameters stands here, and none of these kinds
-  no_name_there : (ks : List Kind) → apart angles (λ k w e. one_of_kinds ks k) ≡ true → may_name f.yield_ f.await_ p.token.kind ≡ false → one_of_kinds ks p.token.kind ≡ false → (y : Lexeme) → Lex text p.prev_token_end y → (may_name f.yield_ f.await_ y.kind || one_of_kinds ks y.kind) ≡ true → ⊥
-  no_name_there ks d n m y l h = go p.cut refl
+  no_name_there : (ks : List Kind) → settles ks ≡ true → may_name f.yield_ f.await_ p.token.kind ≡ false → one_of_kinds ks p.token.kind ≡ false → (y : Lexeme) → Lex text p.prev_token_end y → (may_name f.yield_ f.await_ y.kind || one_of_kinds ks y.kind) ≡ true → ⊥
+  no_name_there ks d n m y l h = either_of (may_name f.yield_ f.await_ y.kind) (one_of_kinds ks y.kind) h (λ i. named i p.cut refl) (λ i. not_here a ks d m y l i)
     where
-      go : (b : Bool) → p.cut ≡ b → ⊥
-      go true e = either_of (may_name f.yield_ f.await_ y.kind) (one_of_kinds ks y.kind) h
-          (λ i. not_both angles (a_name_under f.yield_ f.await_) (no_name_angle f.yield_ f.await_) y.kind y.newline y.escaped (angled a e y l) i)
-          (λ i. not_both angles (λ k w e. one_of_kinds ks k) d y.kind y.newline y.escaped (angled a e y l) i)
-      go false e = either_false (may_name f.yield_ f.await_ p.token.kind) (one_of_kinds ks p.token.kind) n m (subst (λ (v : Kind). (may_name f.yield_ f.await_ v || one_of_kinds ks v) ≡ true) (sym (told a e y l).kind) h)
+      no_pattern_named : may_name f.yield_ f.await_ y.kind ≡ true → (r : Bool) → same_kind RegExp y.kind ≡ r → same_kind RegExp y.kind ≡ false
+      no_pattern_named i true q = absurd (not_both (λ k w e. same_kind RegExp k) (a_name_under f.yield_ f.await_) (no_name_pattern f.yield_ f.await_) y.kind y.newline y.escaped q i)
+      no_pattern_named i false q = q
+
+      named : may_name f.yield_ f.await_ y.kind ≡ true → (b : Bool) → p.cut ≡ b → ⊥
+      named i true e = not_both angles (a_name_under f.yield_ f.await_) (no_name_angle f.yield_ f.await_) y.kind y.newline y.escaped (angled a e y l) i
+      named i false e = false≢true (sym n ∙ subst (λ (v : Kind). may_name f.yield_ f.await_ v ≡ true) (sym (told_plain a e y (no_pattern_named i (same_kind RegExp y.kind) refl) l).kind) i)
 
   -- nothing that may begin g stands here
   pub fails_unnamed : {X : Test} (g : Flags → G) (ks : List Kind) → begins_named true true (g (with_flags true true f)) X.base ks ≡ true → begins_named true false (g (with_flags true false f)) X.base ks ≡ true → begins_named false true (g (with_flags false true f)) X.base ks ≡ true → begins_named false false (g (with_flags false false f)) X.base ks ≡ true
-      → apart angles (λ k w e. one_of_kinds ks k) ≡ true → may_name f.yield_ f.await_ p.token.kind ≡ false → one_of_kinds ks p.token.kind ≡ false → Fails rule (Lex text) X end (g f) p.prev_token_end
+      → settles ks ≡ true → may_name f.yield_ f.await_ p.token.kind ≡ false → one_of_kinds ks p.token.kind ≡ false → Fails rule (Lex text) X end (g f) p.prev_token_end
   fails_unnamed {X} g ks c1 c2 c3 c4 d n m = fails_here firsts_by (λ y l h. no_name_there ks d n m y l (covered (λ k w e. starts first_by (g f) X.base k w e && reads k w e) (λ k w e. may_name f.yield_ f.await_ k || one_of_kinds ks k) (by_flags (λ y t. begins_named y t (g (with_flags y t f)) X.base ks ≡ true) c1 c2 c3 c4 f.yield_ f.await_) y.kind y.newline y.escaped (and_from _ _ h l.1)))
 
   -- what doesn't begin with `yield` under Yield

@@ -1,8 +1,8 @@
 -- Readings between two states of a parser.
-use Rattle.std.proofs.Common.{ℕ, ◌≡◌, ◌<◌, max, List, [], ◌∷◌, Bool, true, false, not, ◌&&◌, IsTrue, refl, sym, ap, subst, arith, ◌∙◌}
+use Rattle.std.proofs.Common.{ℕ, ◌≡◌, ◌<◌, max, List, [], ◌∷◌, ◌⊎◌, inl, inr, Bool, true, false, not, ◌&&◌, ◌||◌, IsTrue, refl, sym, ap, subst, arith, ◌∙◌}
 use Rattle.std.proofs.lemmas.Bool.{false≢true, and_parts, and_from}
 use Rattle.js_base.specs.declared.kind.Kind.{Kind}
-use Rattle.js_base.specs.declared.kind.Kind.TheVariants.{RAngle}
+use Rattle.js_base.specs.declared.kind.Kind.TheVariants.{RAngle, RegExp, Slash, SlashEq}
 use Rattle.js_base.specs.Kinds.{same_kind, one_of_kinds}
 use Rattle.js_base.proofs.KindLemmas.{kind_of_same}
 use Rattle.js_grammar.specs.Trees.{Slots, end, tree, Label, Op, NodeKind}
@@ -19,26 +19,27 @@ use Rattle.js_grammar.proofs.First.{starts}
 use Rattle.js_grammar.proofs.FirstClaims.{firsts}
 use Rattle.js_grammar.proofs.FirstRules.{by_first, fails_here, picks, pick}
 use Rattle.js_grammar.proofs.FollowLaws.{surely}
-use Rattle.js_grammar.proofs.Alike.{lex-same}
 use Rattle.js_lex.specs.Reading.{is_right_angle}
 use Rattle.js_cursor.specs.Parsers.{Parser}
-use Rattle.js_parsing.specs.Lexemes.{Lex, Walked, Spot, spot, nowhere, one_more, more_faults, is_read, read_kinds}
+use Rattle.js_parsing.specs.Lexemes.{Lex, Walked, Spot, spot, nowhere, one_more, read_again, more_faults, is_read, read_kinds, slashes}
 use Rattle.js_parsing.specs.States.{At}
 use Rattle.js_parsing.specs.Moves.{Moved}
 use Rattle.js_parsing.specs.Answers.{Verdict, clean, Stretch, Answer}
-use Rattle.js_parsing.proofs.Here.{told, angled, begins_here, kind_here, plain_kind, uncut}
+use Rattle.js_parsing.proofs.Here.{alike, angled, begins_here, kind_here, no_pattern, slash_here, told_plain, uncut, unsettled}
 use Rattle.js_parsing.proofs.Verdicts.{verdict_of, either_way, and_then}
 
 -- lexemes behind those that were passed
 abbrev pub behind_walk : (L : ℕ → Lexeme → Type 0) {text : List ℕ} {s s' : Spot} {pass : Lexemes → Lexemes} → Walked text s s' pass → (ms : Lexemes) → Lexes L s.place (pass ms) → Lexes L s'.place ms
 behind_walk L nowhere ms l = l
-behind_walk L (one_more {x = x} w i) ms l = (behind_walk L w (next x ms) l).1
+behind_walk L (one_more {x = x} w i r) ms l = (behind_walk L w (next x ms) l).1
+behind_walk L (read_again {x = x} w ds k i) ms l = (behind_walk L w (next x ms) l).1
 behind_walk L (more_faults w ds n) ms l = behind_walk L w ms l
 
 -- a walk, and another behind it
 pub walked_both : {text : List ℕ} {s s' s'' : Spot} {f h : Lexemes → Lexemes} → Walked text s s' f → Walked text s' s'' h → Walked text s s'' (λ ls. f (h ls))
 walked_both a nowhere = a
-walked_both a (one_more b i) = one_more (walked_both a b) i
+walked_both a (one_more b i r) = one_more (walked_both a b) i r
+walked_both a (read_again b ds k i) = read_again (walked_both a b) ds k i
 walked_both {text} a (more_faults {pass = h} b ds n) = more_faults (walked_both a b) ds (λ ls l. n ls (behind_walk (Lex text) a (h ls) l))
 
 pub walked_to : {text : List ℕ} {s e e' : Spot} {f : Lexemes → Lexemes} → e ≡ e' → Walked text s e f → Walked text s e' f
@@ -48,7 +49,7 @@ pub walked_from : {text : List ℕ} {s s' e : Spot} {f : Lexemes → Lexemes} �
 walked_from {text} {e = e} {f = f} q w = subst (λ v. Walked text v e f) q w
 
 pub walked_one : {text : List ℕ} {f : Flags} {p q : Parser} → (s : Moved text f p q) → Walked text (spot p) (spot q) (λ ls. next s.lexeme ls)
-walked_one s = walked_to (sym s.spot_is) (one_more nowhere s.is_new)
+walked_one s = walked_to (sym s.spot_is) (one_more nowhere s.is_new s.plain)
 
 -- the lexemes that are read
 abbrev pub reads : Look
@@ -57,9 +58,17 @@ reads k w e = one_of_kinds read_kinds k && not e
 abbrev pub angles : Look
 angles k w e = is_right_angle k
 
--- of what may begin g, those kinds that are read are among these, and none begins with `>`
+-- Whether none of these kinds stands here is told by the token: none begins with `>`; a regular expression is among them only with both signs that may stand in its place.
+abbrev pub settles : List Kind → Bool
+settles ks = apart angles (λ k w e. one_of_kinds ks k) && (not (one_of_kinds ks RegExp) || (one_of_kinds ks Slash && one_of_kinds ks SlashEq))
+
+-- and whether one does
+abbrev pub settled : List Kind → Bool
+settled ks = apart angles (λ k w e. one_of_kinds ks k) && (one_of_kinds ks RegExp || not (one_of_kinds ks Slash || one_of_kinds ks SlashEq))
+
+-- of what may begin g, those kinds that are read are among these, of which the token tells whether one stands here
 abbrev pub begins_by : G → Look → List Kind → Bool
-begins_by g F ks = covers (λ k w e. starts first g F k w e && reads k w e) (λ k w e. one_of_kinds ks k) && apart angles (λ k w e. one_of_kinds ks k)
+begins_by g F ks = covers (λ k w e. starts first g F k w e && reads k w e) (λ k w e. one_of_kinds ks k) && settles ks
 
 -- a token of a kind that is read is the whole of a lexeme that is
 pub read_of : (y : Lexeme) {k : Kind} → y.kind ≡ k → y.escaped ≡ false → one_of_kinds read_kinds k ≡ true → IsTrue (is_read y)
@@ -73,13 +82,44 @@ no_angle ks d k h = go (same_kind RAngle k) refl
     go true e = absurd (not_both angles (λ k w e. one_of_kinds ks k) d k false false (subst (λ v. is_right_angle v ≡ true) (kind_of_same RAngle k e) refl) h)
     go false e = e
 
+or_false : (b : Bool) → (b || false) ≡ true → b ≡ true
+or_false true h = refl
+or_false false h = h
+
+unless : (a b : Bool) → a ≡ true → (not a || b) ≡ true → b ≡ true
+unless true b e h = h
+unless false b e h = absurd (false≢true e)
+
+no_second : (a b : Bool) → b ≡ true → not (a || b) ≡ false
+no_second true b e = refl
+no_second false b e = ap not e
+
 module _ {text : List ℕ} {f : Flags} {p : Parser} (a : At text f p) where
-  pub not_here : (ks : List Kind) → apart angles (λ k w e. one_of_kinds ks k) ≡ true → one_of_kinds ks p.token.kind ≡ false → (y : Lexeme) → Lex text p.prev_token_end y → one_of_kinds ks y.kind ≡ true → ⊥
-  not_here ks d n y l h = go p.cut refl
+  -- one of the two signs stands at a regular expression
+  sign_here : (y : Lexeme) → Lex text p.prev_token_end y → y.kind ≡ RegExp → (p.token.kind ≡ Slash) ⊎ (p.token.kind ≡ SlashEq)
+  sign_here y l e = by (same_kind Slash p.token.kind) refl (slash_here a y l e)
     where
-      go : (b : Bool) → p.cut ≡ b → ⊥
-      go true e = not_both angles (λ k w e. one_of_kinds ks k) d y.kind y.newline y.escaped (angled a e y l) h
-      go false e = false≢true (sym n ∙ subst (λ v. one_of_kinds ks v ≡ true) (sym (told a e y l).kind) h)
+      by : (b : Bool) → same_kind Slash p.token.kind ≡ b → (b || (same_kind SlashEq p.token.kind || false)) ≡ true → (p.token.kind ≡ Slash) ⊎ (p.token.kind ≡ SlashEq)
+      by true i h = inl (sym (kind_of_same Slash p.token.kind i))
+      by false i h = inr (sym (kind_of_same SlashEq p.token.kind (or_false (same_kind SlashEq p.token.kind) h)))
+
+  pub not_here : (ks : List Kind) → settles ks ≡ true → one_of_kinds ks p.token.kind ≡ false → (y : Lexeme) → Lex text p.prev_token_end y → one_of_kinds ks y.kind ≡ true → ⊥
+  not_here ks d n y l h = go p.cut refl (same_kind RegExp y.kind) refl
+    where
+      c : (apart angles (λ k w e. one_of_kinds ks k) ≡ true) × ((not (one_of_kinds ks RegExp) || (one_of_kinds ks Slash && one_of_kinds ks SlashEq)) ≡ true)
+      c = and_parts (apart angles (λ k w e. one_of_kinds ks k)) _ d
+
+      both_signs : y.kind ≡ RegExp → (one_of_kinds ks Slash ≡ true) × (one_of_kinds ks SlashEq ≡ true)
+      both_signs e = and_parts (one_of_kinds ks Slash) (one_of_kinds ks SlashEq) (unless (one_of_kinds ks RegExp) _ (subst (λ v. one_of_kinds ks v ≡ true) e h) c.1)
+
+      either : y.kind ≡ RegExp → (p.token.kind ≡ Slash) ⊎ (p.token.kind ≡ SlashEq) → ⊥
+      either e (inl k) = false≢true (sym n ∙ (ap (one_of_kinds ks) k ∙ (both_signs e).0))
+      either e (inr k) = false≢true (sym n ∙ (ap (one_of_kinds ks) k ∙ (both_signs e).1))
+
+      go : (b : Bool) → p.cut ≡ b → (r : Bool) → same_kind RegExp y.kind ≡ r → ⊥
+      go true e r q = not_both angles (λ k w e. one_of_kinds ks k) c.0 y.kind y.newline y.escaped (angled a e y l) h
+      go false e false q = false≢true (sym n ∙ subst (λ v. one_of_kinds ks v ≡ true) (sym (told_plain a e y q l).kind) h)
+      go false e true q = let k = sym (kind_of_same RegExp y.kind q) in either k (sign_here y l k)
 
   -- nothing that may begin g stands here
   pub fails_at : {X : Test} (g : G) (ks : List Kind) → begins_by g X.base ks ≡ true → one_of_kinds ks p.token.kind ≡ false → Fails rule (Lex text) X end g p.prev_token_end
@@ -87,30 +127,46 @@ module _ {text : List ℕ} {f : Flags} {p : Parser} (a : At text f p) where
       fails_here firsts (λ y l h. not_here ks z.1 n y l (covered (λ k w e. starts first g X.base k w e && reads k w e) (λ k w e. one_of_kinds ks k) z.0 y.kind y.newline y.escaped (and_from _ _ h l.1)))
 
   -- a choice, cut down at the kind that stands here
-  pub at_kind : {X : Test} {g : G} (k : Kind) → p.token.kind ≡ k → same_kind RAngle k ≡ false → Goes rule (Lex text) X end g p.prev_token_end (pick first X.base g (k ∷ [])) p.prev_token_end (λ us. us) (still 0)
+  pub at_kind : {X : Test} {g : G} (k : Kind) → p.token.kind ≡ k → one_of_kinds unsettled k ≡ false → Goes rule (Lex text) X end g p.prev_token_end (pick first X.base g (k ∷ [])) p.prev_token_end (λ us. us) (still 0)
   at_kind {X} {g} k e n = picks firsts (k ∷ []) (λ y l. subst (λ v. one_of_kinds (k ∷ []) v ≡ true) (sym (kind_here a e n y l)) (one_kind k)) g
     where
       one_kind : (k : Kind) → one_of_kinds (k ∷ []) k ≡ true
       one_kind k = rw (same_self k) refl
 
   -- and at the kinds of which one stands here
-  pub at_kinds : {X : Test} {g : G} (ks : List Kind) → apart angles (λ k w e. one_of_kinds ks k) ≡ true → one_of_kinds ks p.token.kind ≡ true → Goes rule (Lex text) X end g p.prev_token_end (pick first X.base g ks) p.prev_token_end (λ us. us) (still 0)
-  at_kinds {g = g} ks d h = picks firsts ks (λ y l. subst (λ v. one_of_kinds ks v ≡ true) (told a (uncut a (no_angle ks d p.token.kind h)) y l).kind h) g
+  pub at_kinds : {X : Test} {g : G} (ks : List Kind) → settled ks ≡ true → one_of_kinds ks p.token.kind ≡ true → Goes rule (Lex text) X end g p.prev_token_end (pick first X.base g ks) p.prev_token_end (λ us. us) (still 0)
+  at_kinds {g = g} ks d h = picks firsts ks (λ y l. go y l (same_kind RegExp y.kind) refl) g
+    where
+      c : (apart angles (λ k w e. one_of_kinds ks k) ≡ true) × ((one_of_kinds ks RegExp || not (one_of_kinds ks Slash || one_of_kinds ks SlashEq)) ≡ true)
+      c = and_parts (apart angles (λ k w e. one_of_kinds ks k)) _ d
 
-  -- two lexemes that are read are one
-  pub one_read : {y z : Lexeme} → Lex text p.prev_token_end y → Lex text p.prev_token_end z → y ≡ z
-  one_read l m = lex-same l.0 m.0 (plain_kind l.0 (and_parts _ _ l.1).0 ∙ sym (plain_kind m.0 (and_parts _ _ m.1).0))
+      signs : (b : Bool) → (b || not (one_of_kinds ks Slash || one_of_kinds ks SlashEq)) ≡ true → (p.token.kind ≡ Slash) ⊎ (p.token.kind ≡ SlashEq) → b ≡ true
+      signs true q k = refl
+      signs false q (inl k) = absurd (false≢true (sym (ap (λ (v : Bool). not (v || one_of_kinds ks SlashEq)) (sym (ap (one_of_kinds ks) k) ∙ h)) ∙ q))
+      signs false q (inr k) = absurd (false≢true (sym (no_second (one_of_kinds ks Slash) (one_of_kinds ks SlashEq) (sym (ap (one_of_kinds ks) k) ∙ h)) ∙ q))
 
-  -- a lexeme that passes a test was passed
-  pub passes_test : {X : Test} {q : Parser} (test : Look) → (s : Moved text f p q) → IsTrue (is_read s.lexeme) → IsTrue (seen test s.lexeme) → Reads rule (Lex text) X end (lexeme test) p.prev_token_end q.prev_token_end (λ us. us) (passing s.lexeme)
-  passes_test {X} {q} test s r h = subst (λ v. Reads rule (Lex text) X end (lexeme test) p.prev_token_end v (λ us. us) (passing s.lexeme)) s.ends (reads_lexeme test (s.stood, r) h (λ y l z. one_read l (s.stood, r)))
+      go : (y : Lexeme) → Lex text p.prev_token_end y → (r : Bool) → same_kind RegExp y.kind ≡ r → one_of_kinds ks y.kind ≡ true
+      go y l false q = subst (λ v. one_of_kinds ks v ≡ true) (told_plain a (uncut a (no_angle ks c.0 p.token.kind h)) y q l).kind h
+      go y l true q = let k = sym (kind_of_same RegExp y.kind q) in subst (λ v. one_of_kinds ks v ≡ true) (sym k) (signs (one_of_kinds ks RegExp) c.1 (sign_here y l k))
+
+  -- a lexeme that passes a test, which no regular expression passes that might stand in its place, was passed
+  pub passes_unless : {X : Test} {q : Parser} (test : Look) → (s : Moved text f p q) → IsTrue (is_read s.lexeme) → IsTrue (seen test s.lexeme) → ((y : Lexeme) → Lex text p.prev_token_end y → IsTrue (seen test y) → same_kind RegExp y.kind ≡ false) → Reads rule (Lex text) X end (lexeme test) p.prev_token_end q.prev_token_end (λ us. us) (passing s.lexeme)
+  passes_unless {X} {q} test s r h n = subst (λ v. Reads rule (Lex text) X end (lexeme test) p.prev_token_end v (λ us. us) (passing s.lexeme)) s.ends (reads_lexeme test (s.stood, r) h (λ y l z. alike l (s.stood, r) (n y l z ∙ sym s.plain)))
+
+  -- two lexemes that are read are one, but at one of the two signs
+  pub one_read : one_of_kinds slashes p.token.kind ≡ false → {y z : Lexeme} → Lex text p.prev_token_end y → Lex text p.prev_token_end z → y ≡ z
+  one_read u {y} {z} l m = alike l m (no_pattern a u y l ∙ sym (no_pattern a u z m))
+
+  pub passes_test : {X : Test} {q : Parser} (test : Look) → one_of_kinds slashes p.token.kind ≡ false → (s : Moved text f p q) → IsTrue (is_read s.lexeme) → IsTrue (seen test s.lexeme) → Reads rule (Lex text) X end (lexeme test) p.prev_token_end q.prev_token_end (λ us. us) (passing s.lexeme)
+  passes_test test u s r h = passes_unless test s r h (λ y l z. no_pattern a u y l)
 
   -- the lexeme of a kind was passed
   pub passes : {X : Test} {q : Parser} (k : Kind) → p.token.kind ≡ k → p.token.escaped ≡ false → one_of_kinds read_kinds k ≡ true → (s : Moved text f p q) → Reads rule (Lex text) X end (tok k) p.prev_token_end q.prev_token_end (λ us. us) (passing s.lexeme)
   passes k e n r s =
       let kind : s.lexeme.kind ≡ k = sym s.tells.kind ∙ e in
       let plain : s.lexeme.escaped ≡ false = sym s.tells.escaped ∙ n in
-      passes_test (is k) s (read_of s.lexeme kind plain r) (and_from _ _ (subst (λ v. same_kind k v ≡ true) (sym kind) (same_self k)) (ap not plain))
+      passes_unless (is k) s (read_of s.lexeme kind plain r) (and_from _ _ (subst (λ v. same_kind k v ≡ true) (sym kind) (same_self k)) (ap not plain))
+      (λ y l z. subst (λ v. same_kind RegExp v ≡ false) (kind ∙ kind_of_same k y.kind (and_parts (same_kind k y.kind) (not y.escaped) z).0) s.plain)
 
   pub skips : {X : Test} {b : G} {q : Parser} (k : Kind) → p.token.kind ≡ k → p.token.escaped ≡ false → one_of_kinds read_kinds k ≡ true → (s : Moved text f p q) → Goes rule (Lex text) X end (seq (tok k) b) p.prev_token_end b q.prev_token_end (λ us. us) (passing s.lexeme)
   skips k e n r s = then_by {X' = plain full} (passes k e n r s) (record { admits = λ ts us vs j k ls mid rest d d' h. (refl, refl) })

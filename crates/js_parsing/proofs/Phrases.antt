@@ -23,12 +23,12 @@ use Rattle.js_tree.specs.declared.id.NodeId.{NodeId}
 use Rattle.js_cursor.specs.Parsers.{Parser}
 use Rattle.js_cursor.specs.declared.stop.Stop.{Stop}
 use Rattle.js_cursor.specs.declared.stop.Stop.TheVariants.{Fatal, NoMemory}
-use Rattle.js_parsing.specs.Lexemes.{Lex}
+use Rattle.js_parsing.specs.Lexemes.{Lex, Plain}
 use Rattle.js_parsing.specs.States.{At}
 use Rattle.js_parsing.specs.Answers.{Verdict, Stretch, Underived, Numbered, Outcome, beside}
 use Rattle.js_parsing.proofs.Dead.{live, lives}
 use Rattle.js_parsing.proofs.Paths.{reads, fails_at}
-use Rattle.js_parsing.proofs.Tight.{narrowing}
+use Rattle.js_parsing.proofs.Tight.{narrowing, plain_reads}
 use Rattle.js_parsing.proofs.Signs.{other_kind}
 use Rattle.js_base.proofs.KindLemmas.{kind_of_same}
 
@@ -44,7 +44,7 @@ module _ (n m : Symbol) (h : passes_on n.name m.name ≡ true) (i : n.flags.in_ 
   pub lift_stretch : {s' : ℕ} {l : Label} {cs : Slots} {pass : Lexemes → Lexemes} → Stretch text (after m) (such m always) s nothing s' (tree l cs) pass → Stretch text (after n) (such n always) s nothing s' (tree l cs) pass
   lift_stretch y = record { reach = max 0 y.reach; near = let k = y.near in omega arith; goes = by_rule {X' = after n} (λ l cs vs z d. d) (g ▹ weaken_on y.goes (same_read n m h i)) refl }
 
-  unfoldable pub lift : {f : Flags} {p q : Parser} {id : NodeId} → p.prev_token_end ≡ s → (x : Numbered text f m p q id) → may_end n.name (row_of x.answer.label x.answer.slots) ≡ true → ((y : Lexeme) → Lex text q.prev_token_end y → IsTrue (seen (follow n (edge_of x.answer.label x.answer.slots)) y || seen beside y)) → Numbered text f n p q id
+  unfoldable pub lift : {f : Flags} {p q : Parser} {id : NodeId} → p.prev_token_end ≡ s → (x : Numbered text f m p q id) → may_end n.name (row_of x.answer.label x.answer.slots) ≡ true → ((y : Lexeme) → Plain text q.prev_token_end y → IsTrue (seen (follow n (edge_of x.answer.label x.answer.slots)) y || seen beside y)) → Numbered text f n p q id
   lift {p = p} {q = q} e x r k = record {
     answer = record {
       at = x.answer.at;
@@ -67,14 +67,14 @@ module _ (n m : Symbol) (h : passes_on n.name m.name ≡ true) (i : n.flags.in_ 
 module _ (n m : Symbol) (h : passes_on n.name m.name ≡ true) (i : n.flags.in_ ≡ m.flags.in_) where
   pub lift_result : (text : List ℕ) (f : Flags) (p q : Parser) (r : Result NodeId Stop) → Goes rule (Lex text) (after n) end (rule n) p.prev_token_end (such m always) p.prev_token_end (λ us. us) (still 0)
       → ((id : NodeId) (x : Numbered text f m p q id) → may_end n.name (row_of x.answer.label x.answer.slots) ≡ true)
-      → ((id : NodeId) (x : Numbered text f m p q id) (y : Lexeme) → Lex text q.prev_token_end y → IsTrue (seen (follow n (edge_of x.answer.label x.answer.slots)) y || seen beside y))
+      → ((id : NodeId) (x : Numbered text f m p q id) (y : Lexeme) → Plain text q.prev_token_end y → IsTrue (seen (follow n (edge_of x.answer.label x.answer.slots)) y || seen beside y))
       → Outcome text f m p q r → Outcome text f n p q r
   lift_result text f p q (Ok id) g r k x = lift n m h i text p.prev_token_end g refl x (r id x) (k id x)
   lift_result text f p q (Err Fatal) g r k x = record { at = x.at; follows = x.follows; grown = x.grown; stopped = x.stopped; lies = x.lies; heads = x.heads; none = λ u. lift_fails n m h i text p.prev_token_end g (x.none u); met = x.met }
   lift_result text f p q (Err NoMemory) g r k x = tt
 
 -- What binds an operand less than n, binds it less than m, if it is none of these kinds; the checks compute.
-pub narrow_operand : (n m : ℕ) (ks : List Kind) → covers reads (narrowing n m ks true after_expression) ≡ true → covers reads (narrowing n m ks false after_expression) ≡ true → covers reads (narrowing n m ks true after_postfix) ≡ true → covers reads (narrowing n m ks false after_postfix) ≡ true → (b : Bool) (r : Row) → of_operand r ≡ true → covers reads (narrowing n m ks b r) ≡ true
+pub narrow_operand : (n m : ℕ) (ks : List Kind) → covers plain_reads (narrowing n m ks true after_expression) ≡ true → covers plain_reads (narrowing n m ks false after_expression) ≡ true → covers plain_reads (narrowing n m ks true after_postfix) ≡ true → covers plain_reads (narrowing n m ks false after_postfix) ≡ true → (b : Bool) (r : Row) → of_operand r ≡ true → covers plain_reads (narrowing n m ks b r) ≡ true
 narrow_operand n m ks c d g h true after_expression o = c
 narrow_operand n m ks c d g h false after_expression o = d
 narrow_operand n m ks c d g h true after_postfix o = g
@@ -85,7 +85,7 @@ narrow_operand n m ks c d g h b after_declarator o = absurd (false≢true o)
 narrow_operand n m ks c d g h b after_word o = absurd (false≢true o)
 
 -- and so an assignment, which may be a function or a `yield` as well
-pub narrow_assignment : (n m : ℕ) (ks : List Kind) → ((b : Bool) (r : Row) → of_operand r ≡ true → covers reads (narrowing n m ks b r) ≡ true) → covers reads (narrowing n m ks true after_body) ≡ true → covers reads (narrowing n m ks false after_body) ≡ true → covers reads (narrowing n m ks true after_yield) ≡ true → covers reads (narrowing n m ks false after_yield) ≡ true → (b : Bool) (r : Row) → of_assignment r ≡ true → covers reads (narrowing n m ks b r) ≡ true
+pub narrow_assignment : (n m : ℕ) (ks : List Kind) → ((b : Bool) (r : Row) → of_operand r ≡ true → covers plain_reads (narrowing n m ks b r) ≡ true) → covers plain_reads (narrowing n m ks true after_body) ≡ true → covers plain_reads (narrowing n m ks false after_body) ≡ true → covers plain_reads (narrowing n m ks true after_yield) ≡ true → covers plain_reads (narrowing n m ks false after_yield) ≡ true → (b : Bool) (r : Row) → of_assignment r ≡ true → covers plain_reads (narrowing n m ks b r) ≡ true
 narrow_assignment n m ks a c d g h b after_expression o = a b after_expression refl
 narrow_assignment n m ks a c d g h b after_postfix o = a b after_postfix refl
 narrow_assignment n m ks a c d g h true after_body o = c

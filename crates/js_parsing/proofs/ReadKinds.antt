@@ -11,7 +11,7 @@ use Rattle.js_grammar.specs.Productions.{Flags}
 use Rattle.js_grammar.specs.Lexemes.{is_word}
 use Rattle.js_grammar.proofs.Looks.{covers, covered}
 use Rattle.js_cursor.specs.Parsers.{Parser}
-use Rattle.js_parsing.specs.Lexemes.{Lex, read_kinds}
+use Rattle.js_parsing.specs.Lexemes.{Lex, read_kinds, slashes}
 use Rattle.js_parsing.specs.Stands.{ReadsHere}
 use Rattle.js_parsing.specs.States.{At, Standing, IsPlain, whole, sign, nothing as no_lexeme}
 use Rattle.js_parsing.proofs.Here.{cut_angle, cut_escaped, escaped_here, told}
@@ -41,14 +41,35 @@ read_there {text} {p = p} a e r = go a.plain
         (x.lexeme, (x.stands.lex, read_of x.lexeme refl (sym (cut_escaped x.lexeme) ∙ (sym x.tells.escaped ∙ e)) z.0))
     go (no_lexeme c k n) = absurd (false≢true (sym (ap (one_of_kinds read_kinds) k) ∙ r))
 
+abbrev a_slash : Look
+a_slash k w e = one_of_kinds slashes k
+
+abbrev any_read : Look
+any_read k w e = one_of_kinds read_kinds k
+
+slashes_read : covers a_slash any_read ≡ true
+unfolding covers
+slashes_read = refl
+
+-- what isn't read is none of the signs that may stand at a regular expression
+pub unread_no_slash : (k : Kind) → one_of_kinds read_kinds k ≡ false → one_of_kinds slashes k ≡ false
+unread_no_slash k r = go (one_of_kinds slashes k) refl
+  where
+    go : (b : Bool) → one_of_kinds slashes k ≡ b → one_of_kinds slashes k ≡ false
+    go true h = absurd (false≢true (sym r ∙ covered a_slash any_read slashes_read k false false h))
+    go false h = h
+
 -- it is what stands there
 none_there : {text : List ℕ} {f : Flags} {p : Parser} → At text f p → one_of_kinds read_kinds p.token.kind ≡ false → (y : Lexeme) → Lex text p.prev_token_end y → ⊥
 none_there {text} {p = p} a r y l = go a.plain
   where
+    by : p.cut ≡ false → ⊥
+    by c = false≢true (sym r ∙ subst (λ (v : Kind). one_of_kinds read_kinds v ≡ true) (sym (told a c (unread_no_slash p.token.kind r) y l).kind) (and_parts (one_of_kinds read_kinds y.kind) (not y.escaped) l.1).0)
+
     go : IsPlain text p → ⊥
-    go (whole c n x) = false≢true (sym r ∙ subst (λ (v : Kind). one_of_kinds read_kinds v ≡ true) (sym (told a c y l).kind) (and_parts (one_of_kinds read_kinds y.kind) (not y.escaped) l.1).0)
+    go (whole c n x) = by c
     go (sign c k x) = false≢true (sym r ∙ ap (one_of_kinds read_kinds) k)
-    go (no_lexeme c k n) = false≢true (sym r ∙ subst (λ (v : Kind). one_of_kinds read_kinds v ≡ true) (sym (told a c y l).kind) (and_parts (one_of_kinds read_kinds y.kind) (not y.escaped) l.1).0)
+    go (no_lexeme c k n) = by c
 
 pub reads_escaped : {p : Parser} → Standing p → p.token.escaped ≡ true → ReadsHere p false
 reads_escaped a e y l = false≢true (sym (read_plain y l.1) ∙ (escaped_here a y l ∙ e))

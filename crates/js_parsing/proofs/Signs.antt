@@ -2,7 +2,7 @@
 use Rattle.std.proofs.Common.{ℕ, ◌≡◌, ◌≤◌, List, [], ◌∷◌, length, Bool, true, false, ◌&&◌, ◌||◌, IsTrue, refl, sym, ap, subst, arith, ◌∙◌}
 use Rattle.std.proofs.lemmas.Bool.{false≢true}
 use Rattle.js_base.specs.declared.kind.Kind.{Kind}
-use Rattle.js_base.specs.declared.kind.Kind.TheVariants.{Question, Colon, PrivateIdentifier, RAngle, Undetermined}
+use Rattle.js_base.specs.declared.kind.Kind.TheVariants.{Question, Colon, PrivateIdentifier, RAngle, RegExp, Undetermined}
 use Rattle.js_base.specs.declared.span.Span.{Span}
 use Rattle.js_base.specs.Kinds.{same_kind, one_of_kinds}
 use Rattle.js_base.specs.Texts.{words}
@@ -16,7 +16,7 @@ use Rattle.js_base.proofs.KindLemmas.{kind_of_same}
 use Rattle.js_grammar.specs.Lexed.{Lex as StandsBehind, all_faults}
 use Rattle.js_parsing.specs.Lexemes.{Lex}
 use Rattle.js_parsing.specs.States.{At}
-use Rattle.js_parsing.proofs.Here.{found, told, uncut, kind_here}
+use Rattle.js_parsing.proofs.Here.{found, told_plain, uncut, kind_here, unsettled}
 use Rattle.js_parsing.proofs.Tight.{read_plain}
 use Rattle.std.proofs.Common.{◌<◌, ◌⊎◌, inl, inr, length-append, cond, nat_lt}
 use Rattle.std.proofs.lemmas.Bool.{or_left, or_right, lt-ltb}
@@ -129,12 +129,19 @@ abbrev pub NoneIs : List ℕ → ℕ → Kind → Type 0
 NoneIs text s k = (y : Lexeme) → Lex text s y → y.kind ≡ k → ⊥
 
 module _ {text : List ℕ} {f : Flags} {p : Parser} (a : At text f p) where
-  pub stands_there : {k : Kind} → p.token.kind ≡ k → same_kind RAngle k ≡ false → AllAre text p.prev_token_end k
+  pub stands_there : {k : Kind} → p.token.kind ≡ k → one_of_kinds unsettled k ≡ false → AllAre text p.prev_token_end k
   stands_there e n y l = (kind_here a e n y l, read_plain y l.1)
 
-  pub stands_not : {k : Kind} → is_right_angle k ≡ false → StandsHere p k false → NoneIs text p.prev_token_end k
+  pub stands_not : {k : Kind} → (is_right_angle k || same_kind RegExp k) ≡ false → StandsHere p k false → NoneIs text p.prev_token_end k
   stands_not {k} n s y l e = go p.cut refl
     where
+      apart_both : (a b : Bool) → (a || b) ≡ false → (a ≡ false) × (b ≡ false)
+      apart_both true b h = absurd (false≢true (sym h))
+      apart_both false b h = (refl, h)
+
+      neither : (is_right_angle k ≡ false) × (same_kind RegExp k ≡ false)
+      neither = apart_both (is_right_angle k) (same_kind RegExp k) n
+
       go : (b : Bool) → p.cut ≡ b → ⊥
-      go true c = false≢true (sym n ∙ subst (λ v. is_right_angle v ≡ true) e (angled a c y l))
-      go false c = s ((told a c y l).kind ∙ e) (sym (escaped_here a y l) ∙ read_plain y l.1)
+      go true c = false≢true (sym neither.0 ∙ subst (λ v. is_right_angle v ≡ true) e (angled a c y l))
+      go false c = s ((told_plain a c y (ap (same_kind RegExp) e ∙ neither.1) l).kind ∙ e) (sym (escaped_here a y l) ∙ read_plain y l.1)

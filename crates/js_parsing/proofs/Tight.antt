@@ -1,5 +1,5 @@
 -- How tight the lexemes that are read bind what stands before them: as their power as operators says, or hardly at all.
-use Rattle.std.proofs.Common.{ℕ, ◌≡◌, ◌≤◌, ◌<◌, ◌+◌, Bool, true, false, not, cond, ◌&&◌, ◌||◌, IsTrue, List, [], ◌∷◌, refl, sym, arith, nat_lt, ◌∙◌}
+use Rattle.std.proofs.Common.{ℕ, ◌≡◌, ◌≤◌, ◌<◌, ◌+◌, Bool, true, false, not, cond, ◌&&◌, ◌||◌, IsTrue, List, [], ◌∷◌, refl, sym, ap, arith, nat_lt, ◌∙◌}
 use Rattle.std.proofs.lemmas.Bool.{false≢true, and_parts, and_from, or_left, or_right, lt-ltb, ltb-true, eqb-true}
 use Rattle.std.specs.Prelude.{nat_eq}
 use Rattle.js_base.specs.declared.kind.Kind.{Kind}
@@ -13,10 +13,16 @@ use Rattle.js_grammar.specs.Trees.{binary_expression, logical_expression}
 use Rattle.js_grammar.proofs.RightEdges.{of_operand}
 use Rattle.js_grammar.proofs.Looks.{covers, covered}
 use Rattle.js_grammar.proofs.Towers.{OneOf, head, later}
-use Rattle.js_parsing.specs.Lexemes.{is_read, read_kinds}
+use Rattle.js_parsing.specs.Lexemes.{Lex, Plain, is_plain, is_read, read_kinds}
 use Rattle.js_parsing.specs.Answers.{beside}
 use Rattle.js_parsing.specs.Operators.{power_of}
 use Rattle.js_parsing.proofs.Paths.{reads}
+use Rattle.js_base.specs.declared.kind.Kind.TheVariants.{RegExp}
+use Rattle.js_base.specs.Kinds.{same_kind}
+
+-- the lexemes that are read, but regular expressions
+abbrev pub plain_reads : Look
+plain_reads k w e = reads k w e && not (same_kind RegExp k)
 
 -- What binds less than n, and more than m at most by these kinds, binds less than m; or it may stand behind `async` alone.
 abbrev pub narrowing : ℕ → ℕ → List Kind → Bool → Row → Look
@@ -28,14 +34,14 @@ narrowed true true false o h n x = refl
 narrowed true false false o h n x = absurd (false≢true (sym n ∙ h))
 narrowed false c false o h n x = absurd (false≢true x)
 
-pub narrows : (n m : ℕ) (ks : List Kind) (b : Bool) (r : Row) → covers reads (narrowing n m ks b r) ≡ true → (y : Lexeme) → IsTrue (is_read y) → one_of_kinds ks y.kind ≡ false → IsTrue (seen (looser n b r) y || seen beside y) → IsTrue (seen (looser m b r) y || seen beside y)
-narrows n m ks b r c y h o x = narrowed (seen (looser n b r) y) (seen (looser m b r) y) (seen beside y) (one_of_kinds ks y.kind) (covered reads (narrowing n m ks b r) c y.kind y.newline y.escaped h) o x
+pub narrows : (n m : ℕ) (ks : List Kind) (b : Bool) (r : Row) → covers plain_reads (narrowing n m ks b r) ≡ true → (y : Lexeme) → IsTrue (is_plain y) → one_of_kinds ks y.kind ≡ false → IsTrue (seen (looser n b r) y || seen beside y) → IsTrue (seen (looser m b r) y || seen beside y)
+narrows n m ks b r c y h o x = narrowed (seen (looser n b r) y) (seen (looser m b r) y) (seen beside y) (one_of_kinds ks y.kind) (covered plain_reads (narrowing n m ks b r) c y.kind y.newline y.escaped h) o x
 
 -- What is no link binds by its power as an operator between two operands, or hardly at all.
 abbrev by_power : Bool → Row → Look
 by_power b r k w e = not (nat_lt (tight b r k w e) 15) || (not (nat_lt (power_of b k) (tight b r k w e)) || (nat_lt (tight b r k w e) 5 || beside k w e))
 
-by_power_at : (b : Bool) (r : Row) → of_operand r ≡ true → covers reads (by_power b r) ≡ true
+by_power_at : (b : Bool) (r : Row) → of_operand r ≡ true → covers plain_reads (by_power b r) ≡ true
 unfolding covers
 by_power_at true after_expression h = refl
 by_power_at true after_postfix h = refl
@@ -57,8 +63,8 @@ less_or t p n false false q h x l k = go (nat_lt t 15) (nat_lt p t) refl h x
     go false b e h x = absurd (false≢true x)
 
 -- what is no link, and binds by less than n as an operator, stands behind an operand of that level
-pub stops_by_power : (n : ℕ) (b : Bool) (r : Row) → of_operand r ≡ true → (y : Lexeme) → IsTrue (is_read y) → IsTrue (seen (looser 15 b r) y || seen beside y) → power_of b y.kind < n → 5 ≤ n → IsTrue (seen (looser n b r) y || seen beside y)
-stops_by_power n b r o y h x l k = less_or (tight b r y.kind y.newline y.escaped) (power_of b y.kind) n (beside y.kind y.newline y.escaped) (nat_lt (tight b r y.kind y.newline y.escaped) 5) refl (covered reads (by_power b r) (by_power_at b r o) y.kind y.newline y.escaped h) x l k
+pub stops_by_power : (n : ℕ) (b : Bool) (r : Row) → of_operand r ≡ true → (y : Lexeme) → IsTrue (is_plain y) → IsTrue (seen (looser 15 b r) y || seen beside y) → power_of b y.kind < n → 5 ≤ n → IsTrue (seen (looser n b r) y || seen beside y)
+stops_by_power n b r o y h x l k = less_or (tight b r y.kind y.newline y.escaped) (power_of b y.kind) n (beside y.kind y.newline y.escaped) (nat_lt (tight b r y.kind y.newline y.escaped) 5) refl (covered plain_reads (by_power b r) (by_power_at b r o) y.kind y.newline y.escaped h) x l k
 
 -- The level of an operator.
 pub record Level (b : Bool) (k : Kind) : Type 0 where
@@ -106,6 +112,23 @@ read_plain y h = go y.escaped (and_parts (one_of_kinds read_kinds y.kind) (not y
     go true q = absurd (false≢true q)
     go false q = refl
 
+-- what is read by the plain goal is read
+pub plain_is_read : (y : Lexeme) → IsTrue (is_plain y) → IsTrue (is_read y)
+plain_is_read y h = (and_parts (is_read y) (not (same_kind RegExp y.kind)) h).0
+
+pub plain_lex : {text : List ℕ} {s : ℕ} {y : Lexeme} → Plain text s y → Lex text s y
+plain_lex {y = y} l = (l.0, plain_is_read y l.1)
+
+pub plain_is_none : (y : Lexeme) → IsTrue (is_plain y) → same_kind RegExp y.kind ≡ false
+plain_is_none y h = go (same_kind RegExp y.kind) (and_parts (is_read y) (not (same_kind RegExp y.kind)) h).1
+  where
+    go : (x : Bool) → not x ≡ true → x ≡ false
+    go true q = absurd (false≢true q)
+    go false q = refl
+
+pub plain_so : (y : Lexeme) → IsTrue (is_read y) → same_kind RegExp y.kind ≡ false → IsTrue (is_plain y)
+plain_so y h r = and_from _ _ h (ap not r)
+
 -- operators are read, and none is what may stand behind `async` alone
 abbrev binds : Bool → Look
 binds b k w e = nat_lt 0 (power_of b k) && not e
@@ -125,13 +148,13 @@ operator_read b k w h = and_parts _ _ (covered (binds b) is_operator (binds_at b
 abbrev as_listed : Bool → Look
 as_listed b k w e = nat_lt (binding b k) 5 || (nat_lt 14 (binding b k) || nat_eq (binding b k) (power_of b k))
 
-listed_at : (b : Bool) → covers reads (as_listed b) ≡ true
+listed_at : (b : Bool) → covers plain_reads (as_listed b) ≡ true
 unfolding covers
 listed_at true = refl
 listed_at false = refl
 
-pub power_listed : (b : Bool) (y : Lexeme) → IsTrue (is_read y) → 5 ≤ binding b y.kind → binding b y.kind ≤ 14 → binding b y.kind ≡ power_of b y.kind
-power_listed b y h l m = go (nat_lt (binding b y.kind) 5) (nat_lt 14 (binding b y.kind)) refl refl (covered reads (as_listed b) (listed_at b) y.kind y.newline y.escaped h)
+pub power_listed : (b : Bool) (y : Lexeme) → IsTrue (is_plain y) → 5 ≤ binding b y.kind → binding b y.kind ≤ 14 → binding b y.kind ≡ power_of b y.kind
+power_listed b y h l m = go (nat_lt (binding b y.kind) 5) (nat_lt 14 (binding b y.kind)) refl refl (covered plain_reads (as_listed b) (listed_at b) y.kind y.newline y.escaped h)
   where
     go : (c d : Bool) → nat_lt (binding b y.kind) 5 ≡ c → nat_lt 14 (binding b y.kind) ≡ d → (c || (d || nat_eq (binding b y.kind) (power_of b y.kind))) ≡ true → binding b y.kind ≡ power_of b y.kind
     go true d e g x = absurd (let i = ltb-true (binding b y.kind) 5 e in omega arith)

@@ -1,18 +1,18 @@
 -- Whether lexemes without braces lead to the end of the text.
-use Rattle.std.proofs.Common.{ℕ, ◌≡◌, true, false, List, [], ◌∷◌, refl, sym, ap, subst, ◌∙◌}
+use Rattle.std.proofs.Common.{ℕ, ◌≡◌, Bool, true, false, ◌||◌, List, [], ◌∷◌, refl, sym, ap, subst, ◌∙◌}
 use Rattle.std.proofs.lemmas.Bool.{false≢true}
-use Rattle.js_base.specs.declared.kind.Kind.TheVariants.{Eof, LCurly, RCurly}
-use Rattle.js_base.specs.Kinds.{one_of_kinds}
+use Rattle.js_base.specs.declared.kind.Kind.TheVariants.{Eof, RegExp}
+use Rattle.js_base.specs.declared.kind.Kind.{Kind}
+use Rattle.js_base.specs.Kinds.{same_kind, one_of_kinds}
 use Rattle.js_grammar.specs.Grammar.{Lexeme, Look, last, next}
 use Rattle.js_grammar.specs.Lexed.{Lexes}
 use Rattle.js_grammar.specs.Productions.{Flags}
-use Rattle.js_grammar.proofs.Looks.{covers, covered}
 use Rattle.js_cursor.specs.Parsers.{Parser}
 use Rattle.js_cursor.specs.Moves.{is_last}
-use Rattle.js_parsing.specs.Lexemes.{Braceless, NoneToEnd, unbuilt_kinds}
+use Rattle.js_parsing.specs.Lexemes.{Braceless, NoneToEnd, slashes}
 use Rattle.js_parsing.specs.States.{At}
 use Rattle.js_parsing.specs.Answers.{Unbuilt}
-use Rattle.js_parsing.proofs.Here.{alike, told}
+use Rattle.js_parsing.proofs.Here.{told_plain}
 
 -- over each lexeme that may stand here: none is the end, and each ends where none lead on
 pub to_end_over : {text : List ℕ} {s e : ℕ} → ((y : Lexeme) → Braceless text s y → (y.kind ≡ Eof → ⊥) × (y.to ≡ e)) → NoneToEnd text e → NoneToEnd text s
@@ -28,22 +28,20 @@ to_end_none h (next y ls) l k = h y l.0
 pub to_end_stays : (p q : Parser) → q.text ≡ p.text → q.prev_token_end ≡ p.prev_token_end → NoneToEnd q.text q.prev_token_end → NoneToEnd p.text p.prev_token_end
 to_end_stays p q t e n = subst (λ (v : List ℕ). NoneToEnd v p.prev_token_end) t (subst (λ (s : ℕ). NoneToEnd q.text s) e n)
 
+-- it begins with no slash
+pub no_slash : (k : Kind) → one_of_kinds (RegExp ∷ slashes) k ≡ false → (same_kind RegExp k ≡ false) × (one_of_kinds slashes k ≡ false)
+no_slash k n = go (same_kind RegExp k) refl n
+  where
+    go : (b : Bool) → same_kind RegExp k ≡ b → (b || one_of_kinds slashes k) ≡ false → (same_kind RegExp k ≡ false) × (one_of_kinds slashes k ≡ false)
+    go true e h = absurd (false≢true (sym h))
+    go false e h = (e, h)
+
 -- the current token was passed
 pub to_end_passed : {text : List ℕ} {f : Flags} {p : Parser} {e : ℕ} → At text f p → p.cut ≡ false → is_last p.token.kind ≡ false → p.token.span.end ≡ e → NoneToEnd text e → NoneToEnd text p.prev_token_end
 to_end_passed {text} {p = p} {e} a c n t = to_end_over (λ y l.
-    let z = told a c y l.0 in
+    let z = told_plain a c y (no_slash y.kind l.2).0 l.0 in
     (λ k. false≢true (sym n ∙ ap is_last (z.kind ∙ k)), sym z.end ∙ t))
 
-abbrev unbuilt : Look
-unbuilt k w e = one_of_kinds unbuilt_kinds k
-
-abbrev a_brace : Look
-a_brace k w e = one_of_kinds (LCurly ∷ RCurly ∷ []) k
-
-unbuilt_braces : covers unbuilt a_brace ≡ true
-unfolding covers
-unbuilt_braces = refl
-
--- what isn't built yet begins with a brace
+-- nothing begins with what isn't built yet
 pub unbuilt_to_end : {p : Parser} → Unbuilt p → NoneToEnd p.text p.prev_token_end
-unbuilt_to_end u = to_end_none (λ y l. false≢true (sym l.1 ∙ subst (λ (v : Lexeme). one_of_kinds (LCurly ∷ RCurly ∷ []) v.kind ≡ true) (alike u.stands l.0) (covered unbuilt a_brace unbuilt_braces u.lexeme.kind false false u.kind)))
+unbuilt_to_end u = to_end_none (λ y l. false≢true u.kind)

@@ -18,7 +18,7 @@ use Rattle.js_cursor.specs.Parsers.{Parser}
 use Rattle.js_cursor.specs.Places.{IsAt}
 use Rattle.js_cursor.specs.declared.stop.Stop.{Stop}
 use Rattle.js_cursor.specs.declared.stop.Stop.TheVariants.{Fatal, NoMemory}
-use Rattle.js_parsing.specs.Lexemes.{Lex, NoneToEnd, Walked, spot, unbuilt_kinds}
+use Rattle.js_parsing.specs.Lexemes.{Lex, NoneToEnd, Plain, Walked, spot, unbuilt_kinds}
 use Rattle.js_parsing.specs.Heads.{NotedHeads}
 use Rattle.js_parsing.specs.States.{At, Same, NodesLie, SpansLie}
 use Rattle.js_parsing.specs.Classes.{IsEarly, EndedByLast}
@@ -56,7 +56,7 @@ pub record Answer (text : List ℕ) (f : Flags) (n : Symbol) (old new : Parser) 
   pub further : old.token.span.start < new.prev_token_end
   pub label : Label
   pub slots : Slots
-  pub stops : (y : Lexeme) → Lex text new.prev_token_end y → IsTrue (seen (follow n (edge_of label slots)) y || seen beside y)
+  pub stops : (y : Lexeme) → Plain text new.prev_token_end y → IsTrue (seen (follow n (edge_of label slots)) y || seen beside y)
   pub row : may_end n.name (row_of label slots) ≡ true
   pub pass : Lexemes → Lexemes
   pub walked : Walked text (spot old) (spot new) pass

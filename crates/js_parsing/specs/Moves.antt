@@ -4,7 +4,7 @@ use Rattle.js_grammar.specs.Grammar.{Lexeme}
 use Rattle.js_grammar.specs.Lexed.{Lex as StandsBehind, all_faults}
 use Rattle.js_grammar.specs.Productions.{Flags}
 use Rattle.js_base.specs.declared.kind.Kind.{Kind}
-use Rattle.js_base.specs.declared.kind.Kind.TheVariants.{Amp2, LCurly, Pipe2, RAngle}
+use Rattle.js_base.specs.declared.kind.Kind.TheVariants.{Amp2, LCurly, Pipe2, RAngle, RegExp}
 use Rattle.js_base.specs.Kinds.{same_kind, one_of_kinds}
 use Rattle.js_grammar.specs.Trees.{Label, of, binary_expression, logical_expression}
 use Rattle.js_lex.specs.Reading.{Tells}
@@ -43,6 +43,7 @@ pub record Moved (text : List ℕ) (f : Flags) (old new : Parser) : Type 0 where
   pub kept : new.errors ≡ old.errors
   pub lexeme : Lexeme
   pub stood : StandsBehind all_faults text old.prev_token_end lexeme
+  pub plain : same_kind RegExp lexeme.kind ≡ false
   pub tells : Tells lexeme old.token
   pub ends : lexeme.to ≡ new.prev_token_end
   pub further : old.token.span.start < new.prev_token_end

@@ -176,6 +176,7 @@ fn is_read_reserved_word(kind: Kind) -> bool
             | Kind::Try
             | Kind::Catch
             | Kind::Finally
+            | Kind::For
             | Kind::If
             | Kind::Else
             | Kind::While
@@ -237,7 +238,8 @@ fn is_read_operator(kind: Kind) -> bool
     )
 }
 
-/// Whether it is another sign that is read, a string or the end of the text; no operator of an assignment.
+/// Whether it is another sign that is read, a string, a regular expression or the end of the text; no operator of an
+/// assignment.
 fn is_read_mark(kind: Kind) -> bool
     ensures { result ≡ read_mark kind }
 {
@@ -245,6 +247,7 @@ fn is_read_mark(kind: Kind) -> bool
         kind,
         Kind::Eof
             | Kind::Str
+            | Kind::RegExp
             | Kind::Bang
             | Kind::Tilde
             | Kind::Plus2

@@ -40,7 +40,7 @@ use Rattle.js_parsing.specs.Lists.{NoneLeft, OneMore}
 use Rattle.js_parsing.specs.Moves.{Moved, MadeHere, plain_label}
 use Rattle.js_parsing.specs.States.{At}
 use Rattle.js_parsing.proofs.Dead.{fails_dead}
-use Rattle.js_parsing.proofs.Here.{kind_here}
+use Rattle.js_parsing.proofs.Here.{kind_here, unsettled}
 use Rattle.js_parsing.proofs.MadeNodes.{node_held, one_lies}
 use Rattle.js_parsing.proofs.Moving.{stops_so}
 use Rattle.js_parsing.proofs.Parts.{part_path, part_path_fails, part_sign, part_last, parts}
@@ -63,7 +63,7 @@ no_gap = fails_dead never refl
 
 module _ {text : List ℕ} {f : Flags} {p : Parser} (a : At text f p) where
   -- nothing that begins with the lexeme that stands here
-  not_begun : {g : G} (k : Kind) → p.token.kind ≡ k → same_kind RAngle k ≡ false → ((w e : Bool) → starts first_of g full k w e ≡ false) → NoneLeft text g p.prev_token_end
+  not_begun : {g : G} (k : Kind) → p.token.kind ≡ k → one_of_kinds unsettled k ≡ false → ((w e : Bool) → starts first_of g full k w e ≡ false) → NoneLeft text g p.prev_token_end
   not_begun {g} k i n h = fails_here firsts (λ y l c. false≢true (sym (h y.newline y.escaped) ∙ subst (λ (v : Kind). starts first_of g full v y.newline y.escaped ≡ true) (kind_here a i n y l) c))
 
   no_rest_at : one_of_kinds (Dot3 ∷ []) p.token.kind ≡ false → NoneLeft text (rest_of f) p.prev_token_end

@@ -37,6 +37,7 @@ use Rattle.js_parsing.specs.Lexemes.{Lex}
 use Rattle.js_parsing.specs.Moves.{Moved, MadeHere, plain_label}
 use Rattle.js_parsing.specs.States.{At, Same}
 use Rattle.js_parsing.specs.Told.{unrelated_at}
+use Rattle.js_parsing.proofs.Edges.{last_edge}
 use Rattle.js_parsing.proofs.MadeNodes.{held_label, one_held, made_lies}
 use Rattle.js_parsing.proofs.Moving.{same_both, stops_behind}
 use Rattle.js_parsing.proofs.Paths.{Path, ◌⟶◌, ◌⟶✗◌, label_here, noded_by, token}
@@ -46,7 +47,6 @@ use Rattle.js_parsing.proofs.Verdicts.{after as grown_behind}
 use Rattle.js_patterns.specs.Bindings.{RestBegins}
 use Rattle.js_patterns.specs.ObjectPatterns.{rest_of, BindsName}
 use Rattle.js_patterns.proofs.Bindings.{item_answers}
-use Rattle.js_patterns.proofs.RestInitialisers.{last_edge}
 
 dots_plain : (is_word Dot3 || same_kind PrivateIdentifier Dot3) ≡ false
 unfolding words

@@ -6,7 +6,7 @@ use Rattle.js_base.specs.declared.source_type.SourceType.{SourceType}
 use Rattle.js_base.specs.declared.span.Span.{Span}
 use Rattle.js_base.specs.Diagnostics.{class_of}
 use Rattle.js_grammar.specs.LexicalFaults.{Reached}
-use Rattle.js_grammar.specs.Marks.{EdgeOf, Mark, StandsAt, a_lexeme, the_end, the_start}
+use Rattle.js_grammar.specs.Marks.{EdgeOf, Mark, StandsAt, the_start}
 use Rattle.js_grammar.specs.Settings.{Goal}
 use Rattle.js_grammar.specs.Trees.{Label, end, tree, no_op, assignment_pattern}
 use Rattle.js_grammar.specs.Grammar.{Lexemes, next, such, nothing}
@@ -23,15 +23,15 @@ use Rattle.js_cursor.specs.Moves.{Keeps as KeepsOne}
 use Rattle.js_cursor.specs.Parsers.{Parser}
 use Rattle.js_cursor.specs.Places.{goal}
 use Rattle.js_cursor.specs.declared.stop.Stop.{Stop}
-use Rattle.js_cursor.proofs.Moving.{reached_next}
 use Rattle.js_cursor.proofs.Standing.{counts, lexeme_here}
 use Rattle.js_parsing.specs.Answers.{Underived, Numbered, Stops, unclean}
 use Rattle.js_parsing.specs.Arguments.{ItemTaken, NoItem, behind_item}
 use Rattle.js_parsing.specs.Classes.{IsEarly}
-use Rattle.js_parsing.specs.Lexemes.{Spot, Walked, nowhere, one_more, more_faults, spot}
+use Rattle.js_parsing.specs.Lexemes.{spot}
 use Rattle.js_parsing.specs.Moves.{Moved, MadeHere, plain_label}
 use Rattle.js_parsing.specs.States.{At, Same}
 use Rattle.js_parsing.specs.Told.{unrelated_at}
+use Rattle.js_parsing.proofs.Edges.{last_edge}
 use Rattle.js_parsing.proofs.Giving.{kept_one}
 use Rattle.js_parsing.proofs.MadeNodes.{two_held, made_lies}
 use Rattle.js_parsing.proofs.Moving.{same_both, stops_behind}
@@ -45,18 +45,6 @@ use Rattle.js_patterns.specs.Bindings.{initialiser_kind, RestBegins}
 use Rattle.js_patterns.proofs.Bindings.{item_answers, no_initialised}
 
 -- ---- where it begins and ends
-
--- lexemes lead on
-walked_reached : {text : List ℕ} {s e : Spot} {pass : Lexemes → Lexemes} → Walked text s e pass → Reached text s.place → Reached text e.place
-walked_reached nowhere r = r
-walked_reached (one_more w i) r = reached_next (walked_reached w r) i.stood
-walked_reached (more_faults w ds n) r = walked_reached w r
-
--- the last one ends there
-pub last_edge : {source : Goal} {text : List ℕ} {s e : Spot} {pass : Lexemes → Lexemes} → Walked text s e pass → Reached text s.place → s.place < e.place → EdgeOf source text e.place
-last_edge nowhere r l = absurd (omega arith)
-last_edge (one_more w i) r l = the_end (a_lexeme (walked_reached w r) i.stood) refl
-last_edge (more_faults w ds n) r l = last_edge w r l
 
 -- the current lexeme begins there
 pub rest_begins : {text : List ℕ} {f : Flags} {p q : Parser} {start : ℕ} → At text f p → (p.token.kind ≡ Undetermined → ⊥) → Same p q → p.token.span.start < q.prev_token_end → start ≡ p.token.span.start → RestBegins start q

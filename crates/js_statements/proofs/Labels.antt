@@ -32,7 +32,7 @@ use Rattle.js_cursor.specs.Moves.{OnlyMemory}
 use Rattle.js_cursor.specs.declared.stop.Stop.{Stop}
 use Rattle.js_cursor.specs.declared.stop.Stop.TheVariants.{Fatal, NoMemory}
 use Rattle.js_parsing.specs.Answers.{Grown, Verdict, clean, unclean, Stretch, Underived, Answer, Numbered, Stops}
-use Rattle.js_parsing.specs.Lexemes.{Lex, Walked, may_name, name_kinds, Spot, spot, nowhere, one_more, more_faults}
+use Rattle.js_parsing.specs.Lexemes.{Lex, Walked, may_name, name_kinds, Spot, spot, nowhere, one_more, more_faults, read_again}
 use Rattle.js_parsing.specs.Nesting.{room}
 use Rattle.js_parsing.specs.Moves.{Moved, MadeHere, plain_label}
 use Rattle.js_parsing.specs.Statements.{placed, no_link, statement_kinds, after_statement, NoStatement, Statement, StatementOutcome, IsLabel}
@@ -44,7 +44,7 @@ use Rattle.js_parsing.proofs.Dead.{lives}
 use Rattle.js_parsing.proofs.Here.{found, kind_here, uncut}
 use Rattle.js_parsing.proofs.MadeNodes.{leaf_held, two_held, one_lies, from_start}
 use Rattle.js_parsing.proofs.Moving.{same_both, same_itself, same_with, beside_nodes, stops_behind}
-use Rattle.js_parsing.proofs.Paths.{Path, ◌⟼◌, ◌⟶◌, ◌⟶✗◌, at_kind, one_read, read_of, token, noded, noded_by, by_symbol_as, label_here}
+use Rattle.js_parsing.proofs.Paths.{Path, ◌⟼◌, ◌⟶◌, ◌⟶✗◌, one_read, read_of, token, noded, noded_by, by_symbol_as, label_here}
 use Rattle.js_statements.proofs.Statements.{by_statement, no_function, no_function_body, no_symbol, no_lexical, no_expression_ends, before_colon, item_left, sub_left, colon_ends}
 use Rattle.js_statements.specs.LetStatements.{behind_let, LetIsName}
 use Rattle.js_statements.proofs.LetLookaheads.{not_followed, ◌⇒✗◌}
@@ -52,6 +52,7 @@ use Rattle.js_statements.proofs.Strings.{name_look, name_node, name_expression}
 use Rattle.js_parsing.proofs.Tight.{read_plain}
 use Rattle.js_parsing.proofs.Verdicts.{verdict_of, grown_then}
 use Rattle.js_parsing.proofs.Verdicts.{after as grown_behind}
+use Rattle.js_operands.proofs.Operands.{name_slashless}
 
 -- ---- what may stand behind
 
@@ -105,19 +106,25 @@ size (next x ls) = suc (size ls)
 
 walk_longer : {text : List ℕ} {s e : Spot} {pass : Lexemes → Lexemes} → Walked text s e pass → (ls : Lexemes) → size ls ≤ size (pass ls)
 walk_longer nowhere ls = omega arith
-walk_longer (one_more {x = x} w i) ls = let h = walk_longer w (next x ls) in omega arith
+walk_longer (one_more {x = x} w i r) ls = let h = walk_longer w (next x ls) in omega arith
+walk_longer (read_again {x = x} w ds k i) ls = let h = walk_longer w (next x ls) in omega arith
 walk_longer (more_faults w ds n) ls = walk_longer w ls
 
 -- over none, or over one at least
 none_or_more : {text : List ℕ} {s e : Spot} {pass : Lexemes → Lexemes} → Walked text s e pass → ((ls : Lexemes) → pass ls ≡ ls) ⊎ ((ls : Lexemes) → size ls < size (pass ls))
 none_or_more nowhere = inl (λ ls. refl)
-none_or_more (one_more {x = x} w i) = inr (λ ls. let h = walk_longer w (next x ls) in omega arith)
+none_or_more (one_more {x = x} w i r) = inr (λ ls. let h = walk_longer w (next x ls) in omega arith)
+none_or_more (read_again {x = x} w ds k i) = inr (λ ls. let h = walk_longer w (next x ls) in omega arith)
 none_or_more (more_faults w ds n) = none_or_more w
 
 one_lexeme : {text : List ℕ} {s e : Spot} {pass : Lexemes → Lexemes} → Walked text s e pass → (y z : Lexeme) → pass (last z) ≡ next y (last z) → (ls : Lexemes) → pass ls ≡ next y ls
 one_lexeme nowhere y z h ls = let b = ap size h in absurd (omega arith)
 one_lexeme (more_faults w ds n) y z h ls = one_lexeme w y z h ls
-one_lexeme (one_more {x = x} w i) y z h ls = elim (none_or_more w) [
+one_lexeme (one_more {x = x} w i r) y z h ls = elim (none_or_more w) [
+  | inl e ↦ e (next x ls) ∙ ap (λ (v : Lexeme). next v ls) (ap here (sym (e (next x (last z))) ∙ h))
+  | inr m ↦ let a = m (next x (last z)) in let b = ap size h in absurd (omega arith)
+]
+one_lexeme (read_again {x = x} w ds k i) y z h ls = elim (none_or_more w) [
   | inl e ↦ e (next x ls) ∙ ap (λ (v : Lexeme). next v ls) (ap here (sym (e (next x (last z))) ∙ h))
   | inr m ↦ let a = m (next x (last z)) in let b = ap size h in absurd (omega arith)
 ]
@@ -193,7 +200,7 @@ module _ {text : List ℕ} {f : Flags} {p q : Parser} (a : At text f p) (x : Ans
     further = x.further;
     pass = λ ls. next name.0 ls;
     walked = subst (λ (h : Lexemes → Lexemes). Walked text (spot p) (spot q) h) (λ i ls. clean_name.1 ls i) x.walked;
-    verdict = clean clean_name.0 (record { reach = 0; near = omega arith; goes = subst (λ (e : ℕ). Reads rule (Lex text) (plain full) end (lexeme (name_look f)) p.prev_token_end e (λ us. us) (passing name.0)) name.3 (reads_lexeme (name_look f) name.1 looks_so (λ z l h. one_read a l name.1)) });
+    verdict = clean clean_name.0 (record { reach = 0; near = omega arith; goes = subst (λ (e : ℕ). Reads rule (Lex text) (plain full) end (lexeme (name_look f)) p.prev_token_end e (λ us. us) (passing name.0)) name.3 (reads_lexeme (name_look f) name.1 looks_so (λ z l h. one_read a (name_slashless p.token.kind is_listed) l name.1)) });
   }
 
   pub label_path : Path text f (plain full) (symbol LabelIdentifier f) p nothing q (tree (label_here label_identifier no_op p q) end)
@@ -207,7 +214,7 @@ module _ {text : List ℕ} {f : Flags} {p q : Parser} (a : At text f p) (x : Ans
   -- a colon stands behind `let`, where that is the label
   label_named : (b : Bool) → LetIsName text b p.prev_token_end
   label_named b y z l h m =
-      let e : y.to ≡ q.prev_token_end = ap (λ (v : Lexeme). v.to) (one_read a l name.1) ∙ name.3 in
+      let e : y.to ≡ q.prev_token_end = ap (λ (v : Lexeme). v.to) (one_read a (name_slashless p.token.kind is_listed) l name.1) ∙ name.3 in
       no_colon_behind b (kind_here x.at i.colon refl z (subst (λ (v : ℕ). Lex text v z) e m))
     where
       no_colon_behind : (b : Bool) → z.kind ≡ Colon → behind_let b z.kind ≡ false

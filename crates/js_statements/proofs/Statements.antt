@@ -7,7 +7,7 @@ use Rattle.std.specs.Prelude.{◌↔◌, Result, Ok, Err, MatchResult}
 use Rattle.js_base.specs.declared.token.Token.{Token}
 use Rattle.std.proofs.lemmas.Bool.{false≢true, or_left, and_from, and_parts}
 use Rattle.js_base.specs.declared.kind.Kind.{Kind}
-use Rattle.js_base.specs.declared.kind.Kind.TheVariants.{Colon, Yield, Semicolon, RCurly, Eof, RAngle, LCurly, LBrack, At as at_sign}
+use Rattle.js_base.specs.declared.kind.Kind.TheVariants.{Colon, Yield, Semicolon, RCurly, Eof, RAngle, LCurly, LBrack, At as at_sign, RegExp}
 use Rattle.js_base.specs.declared.kind.Kind.TheVariants as kind
 use Rattle.js_base.specs.declared.span.Span.{Span}
 use Rattle.js_base.specs.Contexts.{has_flag, in_flag}
@@ -22,7 +22,7 @@ use Rattle.js_grammar.specs.Conditions.{ends_in_sub, lacks_else}
 use Rattle.js_grammar.specs.Lexed.{Lexes}
 use Rattle.js_grammar.specs.Lexemes.{is_escaped}
 use Rattle.js_grammar.specs.Parsing.{Test, plain, behind, full, always, still, Goes, Fails, Admits}
-use Rattle.js_grammar.specs.Productions.{G, Flags, Symbol, at, op as op_node, other, if_next, not_then, is_one_of, word_or, function_on_line, tok, ListItem, Block, Empty, ExprStmt, Expression, Labeled, LabelIdentifier, Lexical, Sub, Break, Continue, Debugger, Do, If, Return, Switch, Throw, Try, Var, While, With}
+use Rattle.js_grammar.specs.Productions.{G, Flags, Symbol, at, op as op_node, other, if_next, not_then, is_one_of, word_or, function_on_line, tok, ListItem, Block, Empty, ExprStmt, Expression, Labeled, LabelIdentifier, Lexical, Sub, Break, Continue, Debugger, Do, For, ForIn, ForOf, If, Return, Switch, Throw, Try, Var, While, With}
 use Rattle.js_grammar.specs.Productions.{BindingIdentifier}
 use Rattle.js_grammar.specs.Productions.{Function as AFunction}
 use Rattle.js_grammar.specs.Productions.{Statement as AStatement}
@@ -44,10 +44,10 @@ use Rattle.js_tree.specs.Nodes.{Node}
 use Rattle.js_tree.specs.Holding.{Holds, Keeps}
 use Rattle.js_tree.proofs.HoldingLemmas.{Keeps-refl, Keeps-trans, Keeps-made}
 use Rattle.js_cursor.specs.Parsers.{Parser}
-use Rattle.js_cursor.specs.Moves.{MayEnd, EndsOr, GivesUp, IsUnexpected, OnlyMemory, ends_statement, is_last}
+use Rattle.js_cursor.specs.Moves.{MayEnd, EndsOr, GivesUp, IsUnexpected, OnlyMemory, ends_statement}
 use Rattle.js_cursor.specs.declared.stop.Stop.{Stop}
 use Rattle.js_cursor.specs.declared.stop.Stop.TheVariants.{Fatal, NoMemory}
-use Rattle.js_parsing.specs.Lexemes.{Lex, may_name, name_kinds, read_kinds}
+use Rattle.js_parsing.specs.Lexemes.{Lex, may_name, name_kinds, read_kinds, slashes, Plain}
 use Rattle.js_parsing.specs.States.{At, Same, NodesLie}
 use Rattle.js_parsing.specs.Moves.{IsWholeHere, Moved, MadeHere, LeafTaken, TakesLeaf, plain_label, unpassable}
 use Rattle.js_parsing.specs.Answers.{Underived, Answer, Numbered, Stops, beside}
@@ -56,15 +56,17 @@ use Rattle.js_declarations.specs.Declarations.{stops_row}
 use Rattle.js_parsing.proofs.Verdicts.{verdict_of, either_way}
 use Rattle.js_parsing.proofs.Moving.{moves, same_both, same_itself, same_with, beside_nodes}
 use Rattle.js_parsing.proofs.NameKinds.{name_whole, names_at, test_named}
-use Rattle.js_parsing.proofs.Here.{kind_here, newline_here, told, uncut}
+use Rattle.js_parsing.proofs.Here.{kind_here, newline_here, told, uncut, unsettled}
 use Rattle.js_parsing.proofs.Dead.{live, lives}
 use Rattle.js_parsing.proofs.MadeNodes.{leaf_held, one_held, one_lies, LabelLies, from_start}
 use Rattle.js_parsing.proofs.Paths.{begins_by, reads, Path, ◌⟼◌, ◌⟶◌, ◌⟶✗◌, at_kind, not_here, fails_at, last_token, noded, noded_by, by_symbol_as, label_here}
-use Rattle.js_parsing.proofs.Tight.{read_plain}
+use Rattle.js_parsing.proofs.Tight.{read_plain, plain_so}
 use Rattle.js_statements.proofs.Strings.{name_look, name_node, name_expression}
 use Rattle.js_parsing.proofs.Giving.{gives_up, gives_up_here}
 use Rattle.js_parsing.proofs.Classes.{here_ends}
 use Rattle.js_base.specs.declared.diagnostic.DiagnosticKind.TheVariants.{ExpectToken}
+use Rattle.js_parsing.proofs.Slashes.{slash_there}
+use Rattle.js_operands.proofs.Operands.{name_slashless}
 
 -- a path, and a choice at its end
 infixl 19 ◌⟝◌
@@ -117,7 +119,7 @@ unfolding covers
 omitted_so p = refl
 
 abbrev angled : Look
-angled k w e = same_kind RAngle k
+angled k w e = one_of_kinds unsettled k
 
 abbrev a_link : Look
 a_link k w e = one_of_kinds link_kinds k
@@ -163,6 +165,31 @@ not_kind a k n = go (same_kind a k) refl
 pub none_of_one : (a k : Kind) → (k ≡ a → ⊥) → one_of_kinds (a ∷ []) k ≡ false
 none_of_one a k n = rw (not_kind a k n) refl
 
+-- one of the two signs that may stand at a regular expression, on a new line
+abbrev slash_on_line : Look
+slash_on_line k w e = one_of_kinds slashes k && (not e && w)
+
+abbrev slash_is : Look
+slash_is k w e = one_of_kinds read_kinds k && not (same_kind RegExp k)
+
+slash_read : covers (λ k w e. one_of_kinds slashes k) slash_is ≡ true
+unfolding covers
+slash_read = refl
+
+abbrev stays : Row → Look
+stays r k w e = looser 1 true r k w e || beside k w e
+
+abbrev pattern_omits : Row → Look
+pattern_omits r k w e = may_omit (goes_on r) RegExp w e
+
+slash_omits : (r : Row) → covers (λ k w e. slash_on_line k w e && stays r k w e) (pattern_omits r) ≡ true
+unfolding covers
+slash_omits r = at_row (λ r. covers (λ k w e. slash_on_line k w e && stays r k w e) (pattern_omits r)) refl r
+
+slash_stops : (r : Row) → covers (λ k w e. slash_on_line k w e && stops_row r k w e) (pattern_omits r) ≡ true
+unfolding covers
+slash_stops r = at_row (λ r. covers (λ k w e. slash_on_line k w e && stops_row r k w e) (pattern_omits r)) refl r
+
 module _ {text : List ℕ} {f : Flags} {q : Parser} (a : At text f q) where
   pub whole_semicolon : q.token.kind ≡ Semicolon → IsWholeHere q
   whole_semicolon e = (uncut a (ap (same_kind RAngle) e), ap unpassable e)
@@ -179,10 +206,10 @@ module _ {text : List ℕ} {f : Flags} {q : Parser} (a : At text f q) where
   pub omits_at_end : (r : Row) → ends_statement q.token.kind ≡ true → (q.token.kind ≡ Semicolon → ⊥) → (y : Lexeme) → Lex text q.prev_token_end y → IsTrue (seen (may_omit (goes_on r)) y)
   omits_at_end r e n y l = subst (λ (k : Kind). may_omit (goes_on r) k y.newline y.escaped ≡ true) (sym (kind_here a refl angle y l)) (covered at_an_end (may_omit (goes_on r)) (end_omits r) q.token.kind y.newline y.escaped (and_from _ _ e (ap not (not_kind Semicolon q.token.kind n))))
     where
-      angle : same_kind RAngle q.token.kind ≡ false
-      angle = go (same_kind RAngle q.token.kind) refl
+      angle : one_of_kinds unsettled q.token.kind ≡ false
+      angle = go (one_of_kinds unsettled q.token.kind) refl
         where
-          go : (b : Bool) → same_kind RAngle q.token.kind ≡ b → same_kind RAngle q.token.kind ≡ false
+          go : (b : Bool) → one_of_kinds unsettled q.token.kind ≡ b → one_of_kinds unsettled q.token.kind ≡ false
           go true h = absurd (not_both may_close angled no_angle q.token.kind false false e h)
           go false h = h
 
@@ -202,17 +229,35 @@ module _ {text : List ℕ} {f : Flags} {q : Parser} (a : At text f q) where
       go true h = absurd (not_here a link_kinds refl v y l h)
       go false h = ap not h
 
+  -- Before a regular expression on a new line a semicolon is left out wherever one is before the sign that may stand in its place.
+  pattern_omitted : (S : Row → Look) → ((r : Row) → covers (λ k w e. slash_on_line k w e && S r k w e) (pattern_omits r) ≡ true) → (r : Row) → ((z : Lexeme) → Plain text q.prev_token_end z → IsTrue (seen (S r) z)) → q.token.is_on_new_line ≡ true → (y : Lexeme) → Lex text q.prev_token_end y → y.kind ≡ RegExp → IsTrue (seen (may_omit (goes_on r)) y)
+  pattern_omitted S c r s w y l e =
+      let z = slash_there l.0 e in
+      let n : z.lexeme.escaped ≡ false = z.escaped ∙ read_plain y l.1 in
+      let k = and_parts (one_of_kinds read_kinds z.lexeme.kind) (not (same_kind RegExp z.lexeme.kind)) (covered (λ k w e. one_of_kinds slashes k) slash_is slash_read z.lexeme.kind false false z.is) in
+      let p : Plain text q.prev_token_end z.lexeme = (z.stands.lex, and_from _ _ (and_from _ _ k.0 (ap not n)) k.1) in
+      let o = covered (λ k w e. slash_on_line k w e && S r k w e) (pattern_omits r) (c r) z.lexeme.kind z.lexeme.newline z.lexeme.escaped (and_from _ _ (and_from _ _ z.is (and_from _ _ (ap not n) (z.newline ∙ (newline_here a y l ∙ w)))) (s z.lexeme p)) in
+      subst (λ (j : Kind). may_omit (goes_on r) j y.newline y.escaped ≡ true) (sym e) (subst (λ (b : Bool). may_omit (goes_on r) RegExp b y.escaped ≡ true) z.newline (subst (λ (b : Bool). may_omit (goes_on r) RegExp z.lexeme.newline b ≡ true) z.escaped o))
+
   -- on a new line, where the expression before ends
-  omits_on_line : (r : Row) → ((y : Lexeme) → Lex text q.prev_token_end y → IsTrue (seen (looser 1 true r) y || seen beside y)) → q.token.is_on_new_line ≡ true → one_of_kinds link_kinds q.token.kind ≡ false → (q.token.kind ≡ Semicolon → ⊥) → (y : Lexeme) → Lex text q.prev_token_end y → IsTrue (seen (may_omit (goes_on r)) y)
+  omits_on_line : (r : Row) → ((y : Lexeme) → Plain text q.prev_token_end y → IsTrue (seen (looser 1 true r) y || seen beside y)) → q.token.is_on_new_line ≡ true → one_of_kinds link_kinds q.token.kind ≡ false → (q.token.kind ≡ Semicolon → ⊥) → (y : Lexeme) → Lex text q.prev_token_end y → IsTrue (seen (may_omit (goes_on r)) y)
   unfolding apart
-  omits_on_line r s w v n y l = covered (on_a_line r) (may_omit (goes_on r)) (line_omits r) y.kind y.newline y.escaped (and_from _ _ (ap not (read_plain y l.1)) (and_from _ _ (s y l) (and_from _ _ (newline_here a y l ∙ w) (and_from _ _ (unlinked_at v y l) (ap not (no_semicolon n y l))))))
+  omits_on_line r s w v n y l = go (same_kind RegExp y.kind) refl
+    where
+      go : (b : Bool) → same_kind RegExp y.kind ≡ b → IsTrue (seen (may_omit (goes_on r)) y)
+      go true e = pattern_omitted stays slash_omits r s w y l (sym (kind_of_same RegExp y.kind e))
+      go false e = covered (on_a_line r) (may_omit (goes_on r)) (line_omits r) y.kind y.newline y.escaped (and_from _ _ (ap not (read_plain y l.1)) (and_from _ _ (s y (l.0, plain_so y l.1 e)) (and_from _ _ (newline_here a y l ∙ w) (and_from _ _ (unlinked_at v y l) (ap not (no_semicolon n y l))))))
 
   -- on a new line, where nothing goes on
-  pub omits_stopped : (r : Row) → ((y : Lexeme) → Lex text q.prev_token_end y → IsTrue (seen (stops_row r) y)) → (q.token.is_on_new_line ≡ true → one_of_kinds link_kinds q.token.kind ≡ false) → MayEnd q → (q.token.kind ≡ Semicolon → ⊥) → (y : Lexeme) → Lex text q.prev_token_end y → IsTrue (seen (may_omit (goes_on r)) y)
+  pub omits_stopped : (r : Row) → ((y : Lexeme) → Plain text q.prev_token_end y → IsTrue (seen (stops_row r) y)) → (q.token.is_on_new_line ≡ true → one_of_kinds link_kinds q.token.kind ≡ false) → MayEnd q → (q.token.kind ≡ Semicolon → ⊥) → (y : Lexeme) → Lex text q.prev_token_end y → IsTrue (seen (may_omit (goes_on r)) y)
   omits_stopped r s v (inl e) n y l = omits_at_end r e n y l
-  omits_stopped r s v (inr w) n y l = covered (stops_on_line r) (may_omit (goes_on r)) (stop_omits r) y.kind y.newline y.escaped (and_from _ _ (s y l) (and_from _ _ (newline_here a y l ∙ w) (and_from _ _ (unlinked_at (v w) y l) (ap not (no_semicolon n y l)))))
+  omits_stopped r s v (inr w) n y l = go (same_kind RegExp y.kind) refl
+    where
+      go : (b : Bool) → same_kind RegExp y.kind ≡ b → IsTrue (seen (may_omit (goes_on r)) y)
+      go true e = pattern_omitted stops_row slash_stops r s w y l (sym (kind_of_same RegExp y.kind e))
+      go false e = covered (stops_on_line r) (may_omit (goes_on r)) (stop_omits r) y.kind y.newline y.escaped (and_from _ _ (s y (l.0, plain_so y l.1 e)) (and_from _ _ (newline_here a y l ∙ w) (and_from _ _ (unlinked_at (v w) y l) (ap not (no_semicolon n y l)))))
 
-  omits : (r : Row) → ((y : Lexeme) → Lex text q.prev_token_end y → IsTrue (seen (looser 1 true r) y || seen beside y)) → (q.token.is_on_new_line ≡ true → one_of_kinds link_kinds q.token.kind ≡ false) → MayEnd q → (q.token.kind ≡ Semicolon → ⊥) → (y : Lexeme) → Lex text q.prev_token_end y → IsTrue (seen (may_omit (goes_on r)) y)
+  omits : (r : Row) → ((y : Lexeme) → Plain text q.prev_token_end y → IsTrue (seen (looser 1 true r) y || seen beside y)) → (q.token.is_on_new_line ≡ true → one_of_kinds link_kinds q.token.kind ≡ false) → MayEnd q → (q.token.kind ≡ Semicolon → ⊥) → (y : Lexeme) → Lex text q.prev_token_end y → IsTrue (seen (may_omit (goes_on r)) y)
   omits r s v (inl e) n = omits_at_end r e n
   omits r s v (inr w) n = omits_on_line r s w (v w) n
 
@@ -221,10 +266,10 @@ module _ {text : List ℕ} {f : Flags} {q : Parser} (a : At text f q) where
   unfolding apart
   linked p v = fails_here firsts (λ y l h. go y (subst (λ (k : Kind). one_of_kinds link_kinds k ≡ true) (sym (kind_here a refl angle y l)) v) h)
     where
-      angle : same_kind RAngle q.token.kind ≡ false
-      angle = by (same_kind RAngle q.token.kind) refl
+      angle : one_of_kinds unsettled q.token.kind ≡ false
+      angle = by (one_of_kinds unsettled q.token.kind) refl
         where
-          by : (b : Bool) → same_kind RAngle q.token.kind ≡ b → same_kind RAngle q.token.kind ≡ false
+          by : (b : Bool) → one_of_kinds unsettled q.token.kind ≡ b → one_of_kinds unsettled q.token.kind ≡ false
           by true h = absurd (not_both a_link angled no_angled_link q.token.kind false false v h)
           by false h = h
 
@@ -299,7 +344,7 @@ module _ {text : List ℕ} {f : Flags} where
   expression_path x = record { at = x.at; further = x.further; pass = x.pass; walked = x.walked; verdict = x.verdict }
 
   -- where `in` is an operator, as in every statement
-  line_stops : {p q : Parser} → f.in_ ≡ true → (x : Answer text f (at Expression f) p q) → (y : Lexeme) → Lex text q.prev_token_end y → IsTrue (seen (looser 1 true (row_of x.label x.slots)) y || seen beside y)
+  line_stops : {p q : Parser} → f.in_ ≡ true → (x : Answer text f (at Expression f) p q) → (y : Lexeme) → Plain text q.prev_token_end y → IsTrue (seen (looser 1 true (row_of x.label x.slots)) y || seen beside y)
   line_stops i x y l = subst (λ (b : Bool). IsTrue (seen (looser 1 b (row_of x.label x.slots)) y || seen beside y)) i (x.stops y l)
 
   -- and its end
@@ -312,7 +357,7 @@ module _ {text : List ℕ} {f : Flags} where
 
 -- ---- what stands before
 
-pub statement_left : (f : Flags) → live (rule (at AStatement f)) ≡ alt (symbol Block f) (alt (symbol Empty f) (alt (symbol Var f) (alt (symbol If f) (alt (symbol Do f) (alt (symbol While f) (alt (symbol With f) (alt (symbol Continue f) (alt (symbol Break f) (alt (when f.return_ (symbol Return f)) (alt (symbol Throw f) (alt (symbol Switch f) (alt (symbol Try f) (alt (symbol Debugger f) (symbol Labeled f))))))))))))))
+pub statement_left : (f : Flags) → live (rule (at AStatement f)) ≡ alt (symbol Block f) (alt (symbol Empty f) (alt (symbol Var f) (alt (symbol If f) (alt (symbol Do f) (alt (symbol While f) (alt (symbol With f) (alt (symbol For f) (alt (symbol ForIn f) (alt (symbol ForOf f) (alt (symbol Continue f) (alt (symbol Break f) (alt (when f.return_ (symbol Return f)) (alt (symbol Throw f) (alt (symbol Switch f) (alt (symbol Try f) (alt (symbol Debugger f) (symbol Labeled f)))))))))))))))))
 unfolding rule rule_of apart
 statement_left f = refl
 
@@ -383,7 +428,7 @@ module _ {text : List ℕ} {f : Flags} {p q : Parser} (a : At text f p) (x : Ans
           go false e = absurd (not_here x.at (Colon ∷ []) refl (rw e refl) z h (or_left (same_kind Colon z.kind) false (and_parts (same_kind Colon z.kind) _ c).0))
 
       label : Lexes (Lex text) q.prev_token_end (next z rest) → y.to ≡ q.prev_token_end → IsLabel p.token q
-      label h e = let k = told a (name_whole a token_kind).0 y l in record { colon = colon_kind h.0; name = sym (names_at x.at (λ (b : Bool). b) p.token.kind) ∙ subst (λ (v : Kind). may_name f.yield_ f.await_ v ≡ true) (sym k.kind) (test_named f y l.1 t); plain = k.escaped ∙ read_plain y l.1; place = k.end ∙ e }
+      label h e = let k = told a (name_whole a token_kind).0 (name_slashless p.token.kind token_kind) y l in record { colon = colon_kind h.0; name = sym (names_at x.at (λ (b : Bool). b) p.token.kind) ∙ subst (λ (v : Kind). may_name f.yield_ f.await_ v ≡ true) (sym k.kind) (test_named f y l.1 t); plain = k.escaped ∙ read_plain y l.1; place = k.end ∙ e }
 
   pub no_label : (X : Test) → Fails rule (Lex text) X end (symbol Labeled f) p.prev_token_end
   no_label X = labels_fail (λ y z rest l i t c. two_stand y z rest l i.0 i t c)
@@ -424,8 +469,8 @@ module _ {text : List ℕ} {f : Flags} {p : Parser} (a : At text f p) (n : one_o
   unfolding covers apart
   no_statement = fails_rule {X' = plain full} (λ l cs vs y e. (refl, refl)) (subst (λ (g : G). Goes rule (Lex text) (plain full) end (rule (at AStatement f)) p.prev_token_end g p.prev_token_end (λ us. us) (still 0)) (statement_left f) (lives (rule (at AStatement f)))
       ▹✗ fails_alt (none (symbol Block f) refl) (fails_alt (none (symbol Empty f) refl) (fails_alt (none (symbol Var f) refl) (fails_alt (none (symbol If f) refl) (fails_alt (none (symbol Do f) refl) (fails_alt (none (symbol While f) refl) (fails_alt (none (symbol With f) refl)
-      (fails_alt (none (symbol Continue f) refl) (fails_alt (none (symbol Break f) refl) (fails_alt (none (when f.return_ (symbol Return f)) refl) (fails_alt (none (symbol Throw f) refl)
-      (fails_alt (none (symbol Switch f) refl) (fails_alt (none (symbol Try f) refl) (fails_alt (none (symbol Debugger f) refl) (nl (plain full))))))))))))))))
+      (fails_alt (none (symbol For f) refl) (fails_alt (none (symbol ForIn f) refl) (fails_alt (none (symbol ForOf f) refl) (fails_alt (none (symbol Continue f) refl) (fails_alt (none (symbol Break f) refl) (fails_alt (none (when f.return_ (symbol Return f)) refl) (fails_alt (none (symbol Throw f) refl)
+      (fails_alt (none (symbol Switch f) refl) (fails_alt (none (symbol Try f) refl) (fails_alt (none (symbol Debugger f) refl) (nl (plain full)))))))))))))))))))
 
   pub to_statement : (b : Bool) → LetIsName text b p.prev_token_end → Leads text (after_statement (placed b f)) (rule (placed b f)) p.prev_token_end (symbol ExprStmt f)
   unfolding apart covers
@@ -553,8 +598,8 @@ pub link_ends : {text : List ℕ} {f : Flags} (p q : Parser) (e : Stop) → At t
 link_ends p q e a v g = gives_up_here p q e a g (inl (and_parts p.token.is_on_new_line _ v).1)
 
 -- none of the kinds that begin a statement alone
-pub no_own_kind : (k : Kind) → (k ≡ LCurly → ⊥) → (k ≡ Semicolon → ⊥) → (k ≡ kind.If → ⊥) → (k ≡ kind.Do → ⊥) → (k ≡ kind.While → ⊥) → (k ≡ kind.With → ⊥) → (k ≡ kind.Break → ⊥) → (k ≡ kind.Continue → ⊥) → (k ≡ kind.Return → ⊥) → (k ≡ kind.Function → ⊥) → (k ≡ kind.Throw → ⊥) → (k ≡ kind.Switch → ⊥) → (k ≡ kind.Try → ⊥) → (k ≡ kind.Debugger → ⊥) → (k ≡ kind.Var → ⊥) → (k ≡ kind.Const → ⊥) → one_of_kinds statement_kinds k ≡ false
-no_own_kind k m a b c d e f g r o h u v i j l = rw (not_kind LCurly k m, not_kind Semicolon k a, not_kind kind.If k b, not_kind kind.Do k c, not_kind kind.While k d, not_kind kind.With k e, not_kind kind.Break k f, not_kind kind.Continue k g, not_kind kind.Return k r, not_kind kind.Function k o, not_kind kind.Throw k h, not_kind kind.Switch k u, not_kind kind.Try k v, not_kind kind.Debugger k i, not_kind kind.Var k j, not_kind kind.Const k l) refl
+pub no_own_kind : (k : Kind) → (k ≡ LCurly → ⊥) → (k ≡ Semicolon → ⊥) → (k ≡ kind.If → ⊥) → (k ≡ kind.Do → ⊥) → (k ≡ kind.While → ⊥) → (k ≡ kind.With → ⊥) → (k ≡ kind.Break → ⊥) → (k ≡ kind.Continue → ⊥) → (k ≡ kind.Return → ⊥) → (k ≡ kind.Function → ⊥) → (k ≡ kind.Throw → ⊥) → (k ≡ kind.Switch → ⊥) → (k ≡ kind.Try → ⊥) → (k ≡ kind.For → ⊥) → (k ≡ kind.Debugger → ⊥) → (k ≡ kind.Var → ⊥) → (k ≡ kind.Const → ⊥) → one_of_kinds statement_kinds k ≡ false
+no_own_kind k m a b c d e f g r o h u v w i j l = rw (not_kind LCurly k m, not_kind Semicolon k a, not_kind kind.If k b, not_kind kind.Do k c, not_kind kind.While k d, not_kind kind.With k e, not_kind kind.Break k f, not_kind kind.Continue k g, not_kind kind.Return k r, not_kind kind.Function k o, not_kind kind.Throw k h, not_kind kind.Switch k u, not_kind kind.Try k v, not_kind kind.For k w, not_kind kind.Debugger k i, not_kind kind.Var k j, not_kind kind.Const k l) refl
 
 -- the code found no label
 pub no_colon : (p q : Parser) {t : Token} {b : Bool} → t ≡ p.token → IsTrue b ↔ IsLabel t q → b ≡ false → IsLabel p.token q → ⊥

@@ -30,11 +30,9 @@ use Rattle.js_tree.specs.Nodes.{Node}
 use Rattle.js_tree.specs.Holding.{Holds, HoldsAll, Keeps}
 use Rattle.js_tree.proofs.HoldingLemmas.{Holds-kept, HoldsAll-append, HoldsAll-hole, HoldsAll-next, HoldsAll-one, HoldsAll-one_hole, HoldsAll-two, Keeps-made, Keeps-refl, Keeps-trans}
 use Rattle.js_base.specs.declared.diagnostic.DiagnosticKind.TheVariants.{ExpectCatchFinally}
-use Rattle.js_cursor.proofs.Moving.{reached_next}
 use Rattle.js_cursor.specs.Places.{goal}
 use Rattle.js_grammar.specs.LexicalFaults.{Reached}
-use Rattle.js_grammar.specs.Marks.{EdgeOf, Mark, a_lexeme, the_end}
-use Rattle.js_grammar.specs.Settings.{Goal}
+use Rattle.js_grammar.specs.Marks.{EdgeOf, Mark}
 use Rattle.js_lex.specs.Reading.{is_right_angle}
 use Rattle.js_parsing.specs.Told.{unrelated_at}
 use Rattle.js_cursor.specs.Moves.{IsKind, Keeps as KeepsOne, OnlyMemory}
@@ -43,13 +41,14 @@ use Rattle.js_cursor.specs.declared.stop.Stop.{Stop}
 use Rattle.js_cursor.specs.declared.stop.Stop.TheVariants.{Fatal, NoMemory}
 use Rattle.js_parsing.specs.Answers.{Numbered, Stops, Underived, unclean}
 use Rattle.js_parsing.specs.Classes.{IsEarly}
-use Rattle.js_parsing.specs.Lexemes.{Lex, Spot, Walked, more_faults, nowhere, one_more, spot}
+use Rattle.js_parsing.specs.Lexemes.{Lex, spot, nowhere}
 use Rattle.js_parsing.specs.Moves.{Moved, MadeHere, plain_label}
 use Rattle.js_parsing.specs.Stands.{StandsHere}
 use Rattle.js_parsing.specs.States.{At, Same, NodesLie}
 use Rattle.js_parsing.specs.Statements.{placed, after_statement, NoStatement, Statement}
+use Rattle.js_parsing.proofs.Edges.{last_edge}
 use Rattle.js_parsing.proofs.Giving.{fails_escaped, kept_one}
-use Rattle.js_parsing.proofs.Here.{kind_here}
+use Rattle.js_parsing.proofs.Here.{kind_here, unsettled}
 use Rattle.js_parsing.proofs.MadeNodes.{node_held, one_lies, made_lies}
 use Rattle.js_parsing.proofs.Moving.{beside_nodes, same_both, same_itself, same_with, stops_behind, stops_so}
 use Rattle.js_parsing.proofs.Paths.{Path, ◌⟼◌, ◌⟶◌, ◌⟶✗◌, at_kind, fails_at, label_here, last_called, last_token, noded, noded_by, by_symbol_as, token, walked_to}
@@ -109,7 +108,7 @@ part_memory g k p q Fatal m = absurd m
 part_memory g k p q NoMemory m = tt
 
 -- the lexeme that is due last doesn't stand here
-pub no_last : {text : List ℕ} {f : Flags} {p : Parser} → At text f p → (k : Kind) → is_right_angle k ≡ false → StandsHere p k false → NoPart text (tok k) p.prev_token_end
+pub no_last : {text : List ℕ} {f : Flags} {p : Parser} → At text f p → (k : Kind) → (is_right_angle k || same_kind kind.RegExp k) ≡ false → StandsHere p k false → NoPart text (tok k) p.prev_token_end
 no_last a k n s = fails_lexeme (is k) (λ y l h. stands_not a n s y l (sym (kind_of_same k y.kind (and_parts (same_kind k y.kind) (not y.escaped) h).0)))
 
 -- ---- a Block
@@ -202,7 +201,7 @@ unfolding covers
 before_block f s = by_first firsts (by_plain brace_next) refl
 
 -- an empty slot stands before none but these
-no_slot : {text : List ℕ} {f : Flags} {q : Parser} (F : Look) (k : Kind) → At text f q → q.token.kind ≡ k → same_kind kind.RAngle k ≡ false → ((w e : Bool) → F k w e ≡ false) → Fails rule (Lex text) (plain F) end empty_slot q.prev_token_end
+no_slot : {text : List ℕ} {f : Flags} {q : Parser} (F : Look) (k : Kind) → At text f q → q.token.kind ≡ k → one_of_kinds unsettled k ≡ false → ((w e : Bool) → F k w e ≡ false) → Fails rule (Lex text) (plain F) end empty_slot q.prev_token_end
 no_slot {text} {f} {q} F k a h r n = record { no = λ ts vs j ls rest l d e. go ts vs j ls rest l d e }
   where
     go : (ts vs : Slots) (j : ℕ) (ls rest : Lexemes) → Lexes (Lex text) q.prev_token_end ls → Takes rule empty_slot end ts q.prev_token_end ls vs j rest → Admits (plain F) ts (here rest) → ⊥
@@ -442,17 +441,7 @@ missing_marked {p = p} {r} s {d} a e g b c h = subst (λ (v : Diagnostic). Mark 
   stands = ((subst (λ (v : ℕ). EdgeOf (goal p) p.text v) (sym (b ∙ ap (λ (v : Parser). v.prev_token_end) e)) g, subst (λ (v : ℕ). EdgeOf (goal p) p.text v) (sym (c ∙ ap (λ (v : Parser). v.prev_token_end) e)) g), (refl, refl));
 }))
 
--- lexemes lead on, and the last one ends there
-walked_reached : {text : List ℕ} {s e : Spot} {pass : Lexemes → Lexemes} → Walked text s e pass → Reached text s.place → Reached text e.place
-walked_reached nowhere r = r
-walked_reached (one_more w i) r = reached_next (walked_reached w r) i.stood
-walked_reached (more_faults w ds n) r = walked_reached w r
-
-last_edge : {source : Goal} {text : List ℕ} {s e : Spot} {pass : Lexemes → Lexemes} → Walked text s e pass → Reached text s.place → s.place < e.place → EdgeOf source text e.place
-last_edge nowhere r l = absurd (omega arith)
-last_edge (one_more w i) r l = the_end (a_lexeme (walked_reached w r) i.stood) refl
-last_edge (more_faults w ds n) r l = last_edge w r l
-
+-- a block ends at a lexeme's end
 pub block_edge : {text : List ℕ} {f : Flags} {p q r : Parser} {id : NodeId} → Moved text f p q → Numbered text f (at Block f) q r id → EdgeOf (goal r) r.text r.prev_token_end
 block_edge {q = q} {r} m x = subst (λ (t : List ℕ). EdgeOf (goal r) t r.prev_token_end) (sym x.answer.at.text_is) (last_edge x.answer.walked (subst (λ (t : List ℕ). Reached t q.prev_token_end) m.at.text_is m.at.at.reached) (let b = m.at.behind in let c = x.answer.further in omega arith))
 

@@ -19,6 +19,7 @@ use crate::compound_statement::{
 use crate::declaration_statement::{
     lexical_kind, parse_lexical_body, parse_lexical_declaration, parse_variable_statement,
 };
+use crate::for_statement::parse_for_statement;
 use crate::function_statement::{parse_function_as_body, parse_function_declaration};
 use crate::switch_statement::parse_switch_statement;
 use crate::try_statement::parse_try_statement;
@@ -97,6 +98,7 @@ fn parse_any_statement<C: ParserConfig, N: Nested<C>>(
         Kind::Do => parse_do_while_statement(p, nested),
         Kind::While => parse_while_statement(p, nested),
         Kind::With => parse_with_statement(p, nested),
+        Kind::For => parse_for_statement(p, nested),
         Kind::Break => parse_break_statement(p),
         Kind::Continue => parse_continue_statement(p),
         Kind::Return => parse_return_statement(p, nested),

@@ -3,20 +3,22 @@ use Rattle.std.proofs.Common.{ℕ, ◌≡◌, ◌≤◌, ◌<◌, ◌⊎◌, inl
 use Rattle.std.specs.Prelude.{IsCharBoundary, IsUtf8}
 use Rattle.std.proofs.lemmas.Bool.{false≢true, and_parts, and_from}
 use Rattle.js_base.specs.declared.kind.Kind.{Kind}
-use Rattle.js_base.specs.declared.kind.Kind.TheVariants.{Eq, Comma, RBrack, RCurly, Question}
+use Rattle.js_base.specs.declared.kind.Kind.TheVariants.{Eq, Comma, RBrack, RCurly, Question, RegExp}
 use Rattle.js_base.specs.declared.span.Span.{Span}
 use Rattle.js_base.specs.Kinds.{same_kind, one_of_kinds}
 use Rattle.js_base.proofs.KindLemmas.{kind_of_same}
-use Rattle.js_grammar.specs.Trees.{Span as TreeSpan, NodeKind, Label, Slots, end, tree, Tree, of, array_assignment_target, assignment_expression}
+use Rattle.js_grammar.specs.Trees.{Span as TreeSpan, NodeKind, Op, Label, Slots, end, tree, Tree, of, array_assignment_target, assignment_expression}
 use Rattle.js_grammar.specs.Grammar.{Lexeme, Lexemes, last, next, Look, here, seen, is, such, nothing, exact, alt, seq, Takes, Derives, is_nothing, is_lexeme, is_seq, is_left, is_right, is_such, ◌▸◌}
-use Rattle.js_grammar.specs.Insertion.{assign_operators}
+use Rattle.js_grammar.specs.Insertion.{Row, after_expression, assign_operators}
 use Rattle.js_grammar.specs.Lexed.{Lexes}
 use Rattle.js_grammar.specs.LexicalFaults.{Reached}
 use Rattle.js_grammar.specs.Parsing.{Test, plain, full, always, Admits, Goes, Reads, Fails, Reaches, still, Way}
 use Rattle.js_grammar.specs.Productions.{G, Flags, Symbol, at, tok, op, Arrow', Assignment, Short, LeftHandSide, ArrayTarget, ObjectTarget}
 use Rattle.js_grammar.specs.Productions.{sym as symbol}
 use Rattle.js_grammar.specs.Table.{rule}
-use Rattle.js_grammar.specs.Follow.{after, widest}
+use Rattle.js_grammar.specs.Follow.{after, looser, row_of, widest}
+use Rattle.js_grammar.proofs.FollowLaws.{admits}
+use Rattle.js_grammar.proofs.Looks.{covers, covered}
 use Rattle.js_grammar.specs.Marks.{loose}
 use Rattle.js_grammar.proofs.Loose.{strict_is_loose}
 use Rattle.js_grammar.proofs.Behind.{lexed_behind}
@@ -24,14 +26,14 @@ use Rattle.js_grammar.proofs.Calculus.{Between, Inside, inside_full, ends, label
 use Rattle.js_cursor.specs.Parsers.{Parser}
 use Rattle.js_parsing.specs.Answers.{Stretch, Underived}
 use Rattle.js_parsing.specs.Lexemes.{Lex}
-use Rattle.js_targets.specs.Taken.{assigns_next, target_name}
+use Rattle.js_targets.specs.Taken.{behind_target, target_name}
 use Rattle.js_targets.specs.Targets.{Each, Closed, Fits, Narrow, Shut, Spotted, in_literal, is_array, is_object, literal_kind, relabelled, pattern_kind, elements_in, places_in}
 use Rattle.js_targets.specs.declared.widening.Widening.{Widening}
 use Rattle.js_targets.specs.declared.widening.Widening.TheVariants.{Rest, RestTarget, Operator}
 use Rattle.js_targets.proofs.Spots.{literal_spots}
-use Rattle.js_targets.proofs.ArraysBeforeSigns.{array_before_a_sign, before_others, object_before_a_sign}
+use Rattle.js_targets.proofs.ArraysBeforeSigns.{before_others}
 use Rattle.js_parsing.proofs.Here.{alike}
-use Rattle.js_targets.proofs.LiteralsAsTargets.{Targeted, literal_target}
+use Rattle.js_targets.proofs.LiteralsAsTargets.{Targeted, literal_target, bracket_plain}
 use Rattle.js_targets.proofs.Targets.{by_primary, is_literal_kind, may_literal, of_short}
 use Rattle.js_targets.proofs.TargetsAsLiterals.{literal_back}
 
@@ -39,25 +41,25 @@ use Rattle.js_targets.proofs.TargetsAsLiterals.{literal_back}
 
 shut_narrow : (text : List ℕ) (ws : List Widening) → Each (Shut text) ws → Each (Narrow text) ws
 shut_narrow text [] h = tt
-shut_narrow text (Rest s ∷ ws) h = (λ y l k. false≢true (ap (one_of_kinds (RBrack ∷ RCurly ∷ [])) (sym k ∙ ap (λ (z : Lexeme). z.kind) (alike l h.0.stands)) ∙ h.0.is), shut_narrow text ws h.1)
+shut_narrow text (Rest s ∷ ws) h = (λ y l k. false≢true (ap (one_of_kinds (RBrack ∷ RCurly ∷ [])) (sym k ∙ ap (λ (z : Lexeme). z.kind) (alike l h.0.stands (ap (same_kind RegExp) k ∙ sym (bracket_plain h.0.bracket.kind h.0.is)))) ∙ h.0.is), shut_narrow text ws h.1)
 shut_narrow text (RestTarget s ∷ ws) h = absurd h.0
 shut_narrow text (Operator s ∷ ws) h = absurd h.0
 
-anew : {n : Symbol} {ks vs : Slots} {l : Label} {cs : Slots} {i j : ℕ} {ls rest : Lexemes} → Takes rule (such n always) end (tree l cs end) i ls end j rest → Takes rule (such n always) ks (tree l cs vs) i ls vs j rest
+pub anew : {n : Symbol} {ks vs : Slots} {l : Label} {cs : Slots} {i j : ℕ} {ls rest : Lexemes} → Takes rule (such n always) end (tree l cs end) i ls end j rest → Takes rule (such n always) ks (tree l cs vs) i ls vs j rest
 anew (is_such d h) = is_such d h
 
 module _ (text : List ℕ) (f : Flags) (w : f.wide ≡ false) (v : f.cover ≡ true) where
   -- a target, as an expression
-  record Sourced (o : Bool) (ks us : Slots) (a : Label) (bs : Slots) (i : ℕ) (ls : Lexemes) (j : ℕ) (rest : Lexemes) : Type 0 where
-    label : Label
-    slots : Slots
-    kind : label.kind ≡ literal_kind o
-    target : a ≡ relabelled (pattern_kind o) label
-    covers : elements_in (in_literal o) slots ≡ Some bs
-    opened : Each (Narrow text) (places_in (in_literal o) slots)
-    takes : Takes rule (such (at Short f) always) ks (tree label slots us) i ls us j rest
+  pub record Sourced (o : Bool) (ks us : Slots) (a : Label) (bs : Slots) (i : ℕ) (ls : Lexemes) (j : ℕ) (rest : Lexemes) : Type 0 where
+    pub label : Label
+    pub slots : Slots
+    pub kind : label.kind ≡ literal_kind o
+    pub target : a ≡ relabelled (pattern_kind o) label
+    pub covers : elements_in (in_literal o) slots ≡ Some bs
+    pub opened : Each (Narrow text) (places_in (in_literal o) slots)
+    pub takes : Takes rule (such (at Short f) always) ks (tree label slots us) i ls us j rest
 
-  sourced : (o : Bool) {ks us : Slots} {a : Label} {bs : Slots} {i j : ℕ} {ls rest : Lexemes} → Lexes (Lex text) i ls → Takes rule (rule (at (target_name o) f)) end (tree a bs end) i ls end j rest → Sourced o ks us a bs i ls j rest
+  pub sourced : (o : Bool) {ks us : Slots} {a : Label} {bs : Slots} {i j : ℕ} {ls rest : Lexemes} → Lexes (Lex text) i ls → Takes rule (rule (at (target_name o) f)) end (tree a bs end) i ls end j rest → Sourced o ks us a bs i ls j rest
   sourced o {ks} {us} {a} {bs} m d =
       let x = literal_back text f w v o d m in
       record {
@@ -70,18 +72,27 @@ module _ (text : List ℕ) (f : Flags) (w : f.wide ≡ false) (v : f.cover ≡ t
         takes = anew ((of_short f).up (by_primary x.derived));
       }
 
--- before an assignment operator a literal may stand
-sign_admitted : (o : Bool) (f : Flags) (l : Label) (cs us : Slots) (y : Lexeme) → l.kind ≡ literal_kind o → IsTrue (seen assigns_next y) → Admits (after (at Short f)) (tree l cs us) y
-sign_admitted false f l cs us y h q = array_before_a_sign f l cs us (ap is_array h) y q
-sign_admitted true f l cs us y h q = object_before_a_sign f l cs us h y q
+-- a literal's right edge is its own
+literal_row : (o : Bool) (k : NodeKind) (p : Op) (fl : ℕ) (s : TreeSpan) (cs : Slots) → k ≡ literal_kind o → row_of (record { kind = k; op = p; flags = fl; span = s }) cs ≡ after_expression
+literal_row false k p fl s cs e = subst (λ (v : NodeKind). row_of (record { kind = v; op = p; flags = fl; span = s }) cs ≡ after_expression) (sym e) refl
+literal_row true k p fl s cs e = subst (λ (v : NodeKind). row_of (record { kind = v; op = p; flags = fl; span = s }) cs ≡ after_expression) (sym e) refl
+
+pub targets_follow : (b : Bool) → covers (behind_target b) (looser 4 b after_expression) ≡ true
+unfolding covers
+targets_follow true = refl
+targets_follow false = refl
+
+-- before what may stand behind a target a literal may stand
+pub sign_admitted : (o : Bool) (f : Flags) (l : Label) (cs us : Slots) (y : Lexeme) → l.kind ≡ literal_kind o → IsTrue (seen (behind_target f.in_) y) → Admits (after (at Short f)) (tree l cs us) y
+sign_admitted o f l cs us y h q = admits (at Short f) (tree l cs us) y (subst (λ (r : Row). IsTrue (seen (looser 4 f.in_ r) y)) (sym (literal_row o l.kind l.op l.flags l.span cs h)) (covered (behind_target f.in_) (looser 4 f.in_ after_expression) (targets_follow f.in_) y.kind y.newline y.escaped q))
 
 -- the two are apart
 other_kind : (o : Bool) → literal_kind (not o) ≡ literal_kind o → ⊥
 other_kind false e = false≢true (ap is_array e)
 other_kind true e = false≢true (sym (ap is_array e))
 
-abbrev pub signs : Test
-signs = plain assigns_next
+abbrev pub signs : Flags → Test
+signs f = plain (behind_target f.in_)
 
 -- what was read, and may be followed by an assignment operator, is the only one
 module _ {text : List ℕ} {f : Flags} (w : f.wide ≡ false) (v : f.cover ≡ true) {s s' : ℕ} {l : Label} {cs : Slots} {pass : Lexemes → Lexemes} (o : Bool) (z : Stretch text (after (at Short f)) (such (at Short f) always) s nothing s' (tree l cs) pass) (h : l.kind ≡ literal_kind o) where
@@ -96,7 +107,7 @@ module _ {text : List ℕ} {f : Flags} (w : f.wide ≡ false) (v : f.cover ≡ t
     takes : Takes rule nothing end us s' behind vs k rest
     list : ls ≡ pass behind
 
-  there : {a : Label} {bs vs : Slots} {k : ℕ} {ls rest : Lexemes} → Lexes (Lex text) s ls → Takes rule (rule (at (target_name o) f)) end (tree a bs end) s ls end k rest → IsTrue (seen assigns_next (here rest)) → (us : Slots) × There a bs us vs ls k rest
+  there : {a : Label} {bs vs : Slots} {k : ℕ} {ls rest : Lexemes} → Lexes (Lex text) s ls → Takes rule (rule (at (target_name o) f)) end (tree a bs end) s ls end k rest → IsTrue (seen (behind_target f.in_) (here rest)) → (us : Slots) × There a bs us vs ls k rest
   there {a} {bs} {vs} {k} {ls} {rest} m d q =
       let x = sourced text f w v o {ks = end} {us = vs} m d in
       let y = z.goes.only (tree x.label x.slots vs) vs k ls rest m x.takes (sign_admitted o f x.label x.slots vs (here rest) x.kind q) in
@@ -115,31 +126,31 @@ module _ {text : List ℕ} {f : Flags} (w : f.wide ≡ false) (v : f.cover ≡ t
       )
 
   -- none stands there, where the literal is converted to none, or it is wider than one
-  pub no_target_there : (elements_in (in_literal o) cs ≡ None) ⊎ (Each (Narrow text) (places_in (in_literal o) cs) → ⊥) → Fails rule (Lex text) signs end (such (at (target_name o) f) always) s
+  pub no_target_there : (elements_in (in_literal o) cs ≡ None) ⊎ (Each (Narrow text) (places_in (in_literal o) cs) → ⊥) → Fails rule (Lex text) (signs f) end (such (at (target_name o) f) always) s
   no_target_there n = record { no = λ ts vs k ls rest m d q. go ts vs k ls rest m d q }
     where
       by : {a : Label} {bs us vs : Slots} {ls : Lexemes} {k : ℕ} {rest : Lexemes} → There a bs us vs ls k rest → (elements_in (in_literal o) cs ≡ None) ⊎ (Each (Narrow text) (places_in (in_literal o) cs) → ⊥) → ⊥
       by {bs = bs} x (inl e) = let c : None ≡ Some bs = sym e ∙ x.covers in cc
       by x (inr g) = g x.opened
 
-      go : (ts vs : Slots) (k : ℕ) (ls rest : Lexemes) → Lexes (Lex text) s ls → Takes rule (such (at (target_name o) f) always) end ts s ls vs k rest → Admits signs ts (here rest) → ⊥
+      go : (ts vs : Slots) (k : ℕ) (ls rest : Lexemes) → Lexes (Lex text) s ls → Takes rule (such (at (target_name o) f) always) end ts s ls vs k rest → Admits (signs f) ts (here rest) → ⊥
       go ts vs k ls rest m (is_such d c) q = by (there {vs = vs} m d q.0).1 n
 
   -- nor is a target of the other kind
-  pub no_other_there : Fails rule (Lex text) signs end (such (at (target_name (not o)) f) always) s
+  pub no_other_there : Fails rule (Lex text) (signs f) end (such (at (target_name (not o)) f) always) s
   no_other_there = record { no = λ ts vs k ls rest m d q. go ts vs k ls rest m d q }
     where
-      go : (ts vs : Slots) (k : ℕ) (ls rest : Lexemes) → Lexes (Lex text) s ls → Takes rule (such (at (target_name (not o)) f) always) end ts s ls vs k rest → Admits signs ts (here rest) → ⊥
+      go : (ts vs : Slots) (k : ℕ) (ls rest : Lexemes) → Lexes (Lex text) s ls → Takes rule (such (at (target_name (not o)) f) always) end ts s ls vs k rest → Admits (signs f) ts (here rest) → ⊥
       go ts vs k ls rest m (is_such d c) q =
           let x = sourced text f w v (not o) {ks = end} {us = vs} m d in
           let y = z.goes.only (tree x.label x.slots vs) vs k ls rest m x.takes (sign_admitted (not o) f x.label x.slots vs (here rest) x.kind q.0) in
           other_kind o (sym x.kind ∙ (ap (λ (n : Label). n.kind) (label_is y.2) ∙ h))
 
   -- where it is converted to none, none is derived, of whichever kind
-  pub none_derived : elements_in (in_literal o) cs ≡ None → {ts : Slots} {k : ℕ} {ls : Lexemes} (b : Bool) (y : Lexeme) → Lexes (Lex text) s ls → IsTrue (seen assigns_next y) → Takes rule (symbol (target_name b) f) end ts s ls end k (last y) → ⊥
+  pub none_derived : elements_in (in_literal o) cs ≡ None → {ts : Slots} {k : ℕ} {ls : Lexemes} (b : Bool) (y : Lexeme) → Lexes (Lex text) s ls → IsTrue (seen (behind_target f.in_) y) → Takes rule (symbol (target_name b) f) end ts s ls end k (last y) → ⊥
   none_derived n {ts} {k} {ls} b y m q d = by o b no_other_there (no_target_there (inl n)) d
     where
-      by : (o b : Bool) → Fails rule (Lex text) signs end (such (at (target_name (not o)) f) always) s → Fails rule (Lex text) signs end (such (at (target_name o) f) always) s → Takes rule (symbol (target_name b) f) end ts s ls end k (last y) → ⊥
+      by : (o b : Bool) → Fails rule (Lex text) (signs f) end (such (at (target_name (not o)) f) always) s → Fails rule (Lex text) (signs f) end (such (at (target_name o) f) always) s → Takes rule (symbol (target_name b) f) end ts s ls end k (last y) → ⊥
       by false false e g d = g.no ts end k ls (last y) m d (q, refl)
       by false true e g d = e.no ts end k ls (last y) m d (q, refl)
       by true false e g d = e.no ts end k ls (last y) m d (q, refl)
@@ -150,7 +161,7 @@ module _ {text : List ℕ} {f : Flags} (w : f.wide ≡ false) (v : f.cover ≡ t
     targeted : {ls rest : Lexemes} {j : ℕ} → Lexes (Lex text) s ls → Takes rule (rule (at Short f)) end (tree l cs end) s ls end j rest → Targeted text o f l cs ds s ls j rest
     targeted m d = literal_target text o ds h e u r b m ((of_short f).down (may_literal l.kind (is_literal_kind o l.kind h)) (is_such d refl))
 
-    pub target_there : Each (Narrow text) (places_in (in_literal o) cs) → Stretch text signs (such (at (target_name o) f) always) s nothing s' (tree (relabelled (pattern_kind o) l) ds) pass
+    pub target_there : Each (Narrow text) (places_in (in_literal o) cs) → Stretch text (signs f) (such (at (target_name o) f) always) s nothing s' (tree (relabelled (pattern_kind o) l) ds) pass
     target_there n = record {
       reach = z.reach;
       near = z.near;
@@ -164,7 +175,7 @@ module _ {text : List ℕ} {f : Flags} (w : f.wide ≡ false) (v : f.cover ≡ t
         sound : {us vs : Slots} {k : ℕ} {ls rest : Lexemes} → Lexes (Lex text) s ls → Takes rule (such (at Short f) always) end (tree l cs us) s ls vs k rest → Takes rule (such (at (target_name o) f) always) end (tree (relabelled (pattern_kind o) l) ds us) s ls vs k rest
         sound m (is_such d c) = anew ((targeted m d).takes (inr n))
 
-        only : (ts vs : Slots) (k : ℕ) (ls rest : Lexemes) → Lexes (Lex text) s ls → Takes rule (such (at (target_name o) f) always) end ts s ls vs k rest → Admits signs ts (here rest) → (us : Slots) × (ls' : Lexemes) × (ts ≡ tree (relabelled (pattern_kind o) l) ds us) × Lexes (Lex text) s' ls' × Takes rule nothing end us s' ls' vs k rest × (ls ≡ pass ls')
+        only : (ts vs : Slots) (k : ℕ) (ls rest : Lexemes) → Lexes (Lex text) s ls → Takes rule (such (at (target_name o) f) always) end ts s ls vs k rest → Admits (signs f) ts (here rest) → (us : Slots) × (ls' : Lexemes) × (ts ≡ tree (relabelled (pattern_kind o) l) ds us) × Lexes (Lex text) s' ls' × Takes rule nothing end us s' ls' vs k rest × (ls ≡ pass ls')
         only ts vs k ls rest m (is_such {l = a} {cs = bs} d c) q =
             let y = there {vs = vs} m d q.0 in
             let x = y.1 in
@@ -198,8 +209,8 @@ module _ {text : List ℕ} {f : Flags} (w : f.wide ≡ false) (v : f.cover ≡ t
       by m (is_such d c) = literal_spots text u o h r b m ((of_short f).down (may_literal l.kind (is_literal_kind o l.kind h)) (is_such d refl))
 
 -- nothing was read there
-pub no_target_unread : {text : List ℕ} {f : Flags} (o : Bool) → f.wide ≡ false → f.cover ≡ true → {s : ℕ} → Underived text (at Short f) s → Fails rule (Lex text) signs end (such (at (target_name o) f) always) s
+pub no_target_unread : {text : List ℕ} {f : Flags} (o : Bool) → f.wide ≡ false → f.cover ≡ true → {s : ℕ} → Underived text (at Short f) s → Fails rule (Lex text) (signs f) end (such (at (target_name o) f) always) s
 no_target_unread {text} {f} o w v {s} n = record { no = λ ts vs k ls rest m d q. go ts vs k ls rest m d q }
   where
-    go : (ts vs : Slots) (k : ℕ) (ls rest : Lexemes) → Lexes (Lex text) s ls → Takes rule (such (at (target_name o) f) always) end ts s ls vs k rest → Admits signs ts (here rest) → ⊥
+    go : (ts vs : Slots) (k : ℕ) (ls rest : Lexemes) → Lexes (Lex text) s ls → Takes rule (such (at (target_name o) f) always) end ts s ls vs k rest → Admits (signs f) ts (here rest) → ⊥
     go ts vs k ls rest m (is_such d c) q = let x = sourced text f w v o {ks = end} {us = vs} m d in n.no (tree x.label x.slots vs) vs k ls rest m x.takes (sign_admitted o f x.label x.slots vs (here rest) x.kind q.0)

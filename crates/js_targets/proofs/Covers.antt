@@ -15,7 +15,7 @@ use Rattle.js_grammar.proofs.Calculus.{ends, here_at, label_is, slots_are}
 use Rattle.js_grammar.proofs.FollowLaws.{admits}
 use Rattle.js_cursor.specs.Parsers.{Parser}
 use Rattle.js_parsing.specs.Answers.{Answer, Stretch}
-use Rattle.js_parsing.specs.Lexemes.{Lex, Walked, Spot, nowhere, one_more, more_faults}
+use Rattle.js_parsing.specs.Lexemes.{Lex, Walked, Spot, nowhere, one_more, read_again, more_faults}
 use Rattle.js_parsing.specs.States.{At}
 use Rattle.js_targets.specs.Targets.{target_of}
 use Rattle.js_parsing.proofs.Here.{begins_here}
@@ -39,11 +39,11 @@ pub row_of_target : (l : Label) (cs : Slots) (t : Tree) → target_of l cs ≡ S
 row_of_target l cs t e = target_row l.kind l.op l.flags l.span cs t e
 
 -- A target that was taken, as the expression.
-record Taken (n : Symbol) (ks : Slots) (t : Tree) (i : ℕ) (ls : Lexemes) (us : Slots) (j : ℕ) (rest : Lexemes) : Type 0 where
-  label : Label
-  slots : Slots
-  has : target_of label slots ≡ Some t
-  takes : Takes rule (such n always) ks (tree label slots us) i ls us j rest
+pub record Taken (n : Symbol) (ks : Slots) (t : Tree) (i : ℕ) (ls : Lexemes) (us : Slots) (j : ℕ) (rest : Lexemes) : Type 0 where
+  pub label : Label
+  pub slots : Slots
+  pub has : target_of label slots ≡ Some t
+  pub takes : Takes rule (such n always) ks (tree label slots us) i ls us j rest
 
 module _ {n : Symbol} {f : Flags} (w : Passes n (at LeftHandSide f)) where
   as_target : {ks us vs : Slots} {l : Label} {cs : Slots} {i j : ℕ} {ls rest : Lexemes} (t : Tree) → target_of l cs ≡ Some t → Takes rule (such n always) ks (tree l cs us) i ls vs j rest → Takes rule (such (at SimpleTarget f) always) ks (tree t.label t.slots us) i ls vs j rest
@@ -52,7 +52,7 @@ module _ {n : Symbol} {f : Flags} (w : Passes n (at LeftHandSide f)) where
       anew : {ks us : Slots} {l : Label} {cs : Slots} {i j : ℕ} {ls rest : Lexemes} → Takes rule (such (at SimpleTarget f) always) end (tree l cs end) i ls end j rest → Takes rule (such (at SimpleTarget f) always) ks (tree l cs us) i ls us j rest
       anew (is_such d c) = is_such d c
 
-  of_derived : {ks us : Slots} (t : Tree) {i j : ℕ} {ls rest : Lexemes} → Takes rule (rule (at SimpleTarget f)) end (tree t.label t.slots end) i ls end j rest → Taken n ks t i ls us j rest
+  pub of_derived : {ks us : Slots} (t : Tree) {i j : ℕ} {ls rest : Lexemes} → Takes rule (rule (at SimpleTarget f)) end (tree t.label t.slots end) i ls end j rest → Taken n ks t i ls us j rest
   of_derived {ks} {us} t d = let x = target_left_hand_side t d in record { label = x.label; slots = x.slots; has = x.has; takes = anew (w.up x.derived) }
     where
       anew : {l : Label} {cs : Slots} {i j : ℕ} {ls rest : Lexemes} → Takes rule (such n always) end (tree l cs end) i ls end j rest → Takes rule (such n always) ks (tree l cs us) i ls us j rest
@@ -114,12 +114,14 @@ module _ {text : List ℕ} {f : Flags} {n : Symbol} {p q : Parser} (w : Passes n
 
 front_of : {text : List ℕ} {s s' : Spot} {pass : Lexemes → Lexemes} → Walked text s s' pass → {to : ℕ} {ms rest : Lexemes} → Front to ms rest → Front to (pass ms) rest
 front_of nowhere h = h
-front_of (one_more w i) h = front_of w (more h)
+front_of (one_more w i r) h = front_of w (more h)
+front_of (read_again w ds k i) h = front_of w (more h)
 front_of (more_faults w ds n) h = front_of w h
 
 pub front : {text : List ℕ} {s s' : Spot} {pass : Lexemes → Lexemes} → Walked text s s' pass → s.place < s'.place → (ms : Lexemes) → Front s'.place (pass ms) ms
 front nowhere h ms = absurd (omega arith)
-front (one_more w i) h ms = front_of w (one refl)
+front (one_more w i r) h ms = front_of w (one refl)
+front (read_again w ds k i) h ms = front_of w (one refl)
 front (more_faults w ds n) h ms = front w h ms
 
 all_stand : (text : List ℕ) (s : ℕ) (ls : Lexemes) → Lexes (Lex text) s ls → Lexes (StandsBehind all_faults text) s ls

@@ -7,6 +7,7 @@ pub mod ConvertedNodes
 pub mod CoveredNodes
 pub mod Covers
 pub mod Edges
+pub mod HeadTargets
 pub mod LiteralsAsTargets
 pub mod PlacesTold
 pub mod Properties

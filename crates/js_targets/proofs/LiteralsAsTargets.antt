@@ -2,11 +2,11 @@
 use Rattle.std.proofs.Common.{ℕ, ◌≡◌, ◌⊎◌, inl, inr, Bool, true, false, cond, not, ◌&&◌, ◌||◌, IsTrue, List, [], ◌∷◌, ◌++◌, Option, Some, None, refl, sym, ap, subst, ◌∙◌}
 use Rattle.std.proofs.lemmas.Bool.{false≢true, and_parts, or_left, or_right}
 use Rattle.js_base.specs.declared.kind.Kind.{Kind}
-use Rattle.js_base.specs.declared.kind.Kind.TheVariants.{Eq, Colon, Comma, Dot3, LBrack, RBrack, LCurly, RCurly}
+use Rattle.js_base.specs.declared.kind.Kind.TheVariants.{Eq, Colon, Comma, Dot3, LBrack, RBrack, LCurly, RCurly, RegExp}
 use Rattle.js_base.specs.Kinds.{same_kind, one_of_kinds}
 use Rattle.js_base.proofs.KindLemmas.{kind_of_same}
 use Rattle.js_grammar.specs.Trees.{NodeKind, Op, Span, Label, Slots, end, hole, tree, Tree, of, no_op, init, assignment_expression, spread_element, function_expression, array_assignment_target, object_assignment_target, assignment_target_rest, assignment_target_with_default, assignment_target_property_identifier, assignment_target_property_property, append}
-use Rattle.js_grammar.specs.Grammar.{Lexeme, Lexemes, last, next, here, seen, is, such, when, nothing, never, many, empty_slot, seq, ◌▸◌, ◌◇◌, Takes, is_nothing, is_lexeme, is_empty_slot, is_seq, is_left, is_right, is_when, is_ahead, is_many, is_such, is_node}
+use Rattle.js_grammar.specs.Grammar.{Lexeme, Lexemes, last, next, here, seen, is, such, when, nothing, never, many, empty_slot, seq, ◌▸◌, ◌◇◌, Takes, is_nothing, is_lexeme, is_empty_slot, is_seq, is_left, is_right, is_when, is_ahead, is_many, is_such, is_node, Look}
 use Rattle.js_grammar.specs.Insertion.{assign_operators}
 use Rattle.js_grammar.specs.Lexed.{Lexes, Lex as StandsBehind, all_faults}
 use Rattle.js_grammar.specs.LexicalFaults.{Reached}
@@ -19,9 +19,8 @@ use Rattle.js_grammar.proofs.Calculus.{here_at}
 use Rattle.js_cursor.proofs.Moving.{reached_next}
 use Rattle.js_operands.specs.Arrays.{elements}
 use Rattle.js_parsing.specs.Lexemes.{Lex}
-use Rattle.js_parsing.proofs.Here.{plainly}
-use Rattle.js_lex.proofs.Again.{passed}
-use Rattle.js_lex.proofs.StringPlaces.{front_word}
+use Rattle.js_operands.proofs.RegularExpressions.{characters}
+use Rattle.js_grammar.proofs.Looks.{apart, not_both}
 use Rattle.std.specs.Prelude.{IsUtf8, IsCharBoundary}
 use Rattle.js_targets.specs.Taken.{target_name}
 use Rattle.js_targets.specs.Targets.{literal_kind, Each, IsIn, Closed, Narrow, Fits, Within, in_literal, in_property, within, is_elision, is_spread, is_property, is_assignment, is_equals, is_wide, is_array, is_object, is_literal, is_pattern, is_target, target_of, relabelled, pattern_kind, literal_tree, slot_of, rest_slot, shorthand_slot, behind_first, initialiser_in, reference_slot, named_slot, property_slot, element_slot, are_none, followed, before_all, before_value, elements_in, operator_places, literal_places, argument_places, property_places, places_of, places_in, made_span}
@@ -37,9 +36,26 @@ use Rattle.js_targets.proofs.Targets.{array_line, may_literal, is_literal_kind, 
 -- a lexeme begins and ends between characters
 pub lexeme_between : {text : List ℕ} {s : ℕ} {y : Lexeme} → IsUtf8 text → IsCharBoundary text s → Lex text s y → IsCharBoundary text y.from × IsCharBoundary text y.to
 lexeme_between {text} {s} {y} u b l =
-    let p = passed u b (record { lex = l.0; of_goal = plainly l.0 l.1 }) in
-    let w = front_word text y.from p.word p.rest u p.stands.boundary p.here in
-    (p.stands.boundary, subst (λ (v : ℕ). IsCharBoundary text v) (sym p.to) w.boundary)
+    let c = characters u b l.0 in
+    (c.0, c.1.boundary)
+
+abbrev closes_a_literal : Look
+closes_a_literal k w e = one_of_kinds (RBrack ∷ RCurly ∷ []) k
+
+abbrev a_regular_expression : Look
+a_regular_expression k w e = same_kind RegExp k
+
+no_pattern_closes : apart closes_a_literal a_regular_expression ≡ true
+unfolding apart
+no_pattern_closes = refl
+
+-- what closes a literal is no regular expression
+pub bracket_plain : (k : Kind) → one_of_kinds (RBrack ∷ RCurly ∷ []) k ≡ true → same_kind RegExp k ≡ false
+bracket_plain k h = go (same_kind RegExp k) refl
+  where
+    go : (b : Bool) → same_kind RegExp k ≡ b → same_kind RegExp k ≡ false
+    go true e = absurd (not_both closes_a_literal a_regular_expression no_pattern_closes k false false h e)
+    go false e = e
 
 -- lexemes that are reached from the text's start
 abbrev pub Led : List ℕ → ℕ → Lexeme → Type 0

@@ -1,7 +1,9 @@
 -- What is told of an expression that is no target, and what the conversion of an array or object literal to a target answers (ECMA-262, 13.15.5).
-use Rattle.std.specs.Prelude.{ℕ, ◌≡◌, ◌⊎◌, ◌&&◌, not, Bool, true, cond, List, length, Option, Some, None, Result, Ok, Err}
+use Rattle.std.specs.Prelude.{ℕ, ◌≡◌, ◌⊎◌, ◌&&◌, not, Bool, true, false, cond, List, [], ◌∷◌, length, Option, Some, None, Result, Ok, Err}
 use Rattle.js_base.specs.declared.diagnostic.Diagnostic.{Diagnostic}
 use Rattle.js_base.specs.declared.diagnostic.DiagnosticKind.TheVariants as fault
+use Rattle.js_base.specs.declared.kind.Kind.TheVariants.{Eq, In, Of}
+use Rattle.js_base.specs.Contexts.{has_flag, in_flag}
 use Rattle.js_base.specs.Kinds.{one_of_kinds}
 use Rattle.js_grammar.specs.Trees.{Label, Slots, end as no_slots, tree}
 use Rattle.js_base.specs.declared.span.Span.{Span}
@@ -10,7 +12,7 @@ use Rattle.js_grammar.specs.Insertion.{assign_operators}
 use Rattle.js_grammar.specs.Parsing.{always, plain, Fails}
 use Rattle.js_grammar.specs.Table.{rule}
 use Rattle.js_grammar.specs.Marks.{loose}
-use Rattle.js_grammar.specs.Productions.{Flags, Name, at, ArrayTarget, ObjectTarget, Short}
+use Rattle.js_grammar.specs.Productions.{Flags, Name, at, ArrayTarget, ObjectTarget, Short, Target}
 use Rattle.js_tree.specs.declared.id.NodeId.{NodeId}
 use Rattle.js_tree.specs.Holding.{Holds, Keeps as KeepsNodes}
 use Rattle.js_cursor.specs.Moves.{GivesUp, Keeps}
@@ -23,6 +25,7 @@ use Rattle.js_cursor.specs.declared.stop.Stop.{Stop}
 use Rattle.js_cursor.specs.declared.stop.Stop.TheVariants.{Fatal}
 use Rattle.js_parsing.specs.Answers.{Numbered, Stops, Stretch, Verdict}
 use Rattle.js_parsing.specs.Lexemes.{Lex, Walked, spot}
+use Rattle.js_parsing.specs.Stands.{StandsHere}
 use Rattle.js_parsing.specs.States.{At, Same}
 use Rattle.js_parsing.specs.Classes.{IsEarly}
 
@@ -43,9 +46,22 @@ not_simple_at from to = record { kind = fault.AssignmentIsNotSimple; span = reco
 abbrev pub TellsOnce : Diagnostic → ℕ → Parser → Parser → Type 0
 TellsOnce d kept old new = Keeps d old new ⊎ ((length old.errors ≡ kept → ⊥) × (new ≡ old))
 
--- an assignment operator
-abbrev pub assigns_next : Look
-assigns_next k w e = one_of_kinds assign_operators k && not e
+-- What may stand behind a target: an assignment operator, and where `in` is no operator, as in the head of a `for`, `in` or `of` too. By the parameter In.
+abbrev pub behind_target : Bool → Look
+behind_target true k w e = one_of_kinds assign_operators k && not e
+behind_target false k w e = one_of_kinds (In ∷ Of ∷ assign_operators) k && not e
+
+-- `in` or `of`, before which a target stands in the head of a `for` (14.7.5)
+abbrev pub goes_through : Look
+goes_through k w e = one_of_kinds (In ∷ Of ∷ []) k && not e
+
+-- no target before these is derived from the place
+abbrev pub NoTargetFrom : List ℕ → Flags → ℕ → Type 0
+NoTargetFrom text f s = Fails rule (Lex text) (plain goes_through) no_slots (such (at Target f) always) s
+
+-- such a lexeme stands here, behind a literal
+abbrev pub EndsTarget : Parser → Type 0
+EndsTarget p = (p.token.kind ≡ Eq) ⊎ ((has_flag in_flag p.ctx ≡ false) × (StandsHere p In true ⊎ StandsHere p Of true))
 
 -- what is told of a place where the literal is wider
 abbrev pub TellsOf : Widening → Diagnostic → Type 0
@@ -90,14 +106,14 @@ pub record TargetTaken (in_object : Bool) (text : List ℕ) (f : Flags) (first o
   pub slots : Slots
   pub pass : Lexemes → Lexemes
   pub walked : Walked text (spot first) (spot new) pass
-  pub verdict : Verdict first.errors new.errors (Stretch text (plain assigns_next) (such (at (target_name in_object) f) always) first.prev_token_end nothing new.prev_token_end (tree label slots) pass) (Fails rule (Lex text) (plain assigns_next) no_slots (such (at (target_name in_object) f) always) first.prev_token_end)
+  pub verdict : Verdict first.errors new.errors (Stretch text (plain (behind_target f.in_)) (such (at (target_name in_object) f) always) first.prev_token_end nothing new.prev_token_end (tree label slots) pass) (Fails rule (Lex text) (plain (behind_target f.in_)) no_slots (such (at (target_name in_object) f) always) first.prev_token_end)
   pub loosely : length old.errors ≡ length first.errors → (y : Lexeme) → Lex text new.prev_token_end y → Derives rule (at (target_name in_object) (loose f)) (record { label = label; slots = slots }) first.prev_token_end (pass (last y)) new.prev_token_end (last y)
   pub holds : Holds new.nodes (length first.nodes) (length new.nodes) id.0 label slots
   pub keeps : KeepsNodes first.nodes new.nodes
 
 abbrev pub TargetOutcome : Bool → List ℕ → Flags → Parser → Parser → Parser → Result NodeId Stop → Type 0
 TargetOutcome in_object text f first old new (Ok id) = TargetTaken in_object text f first old new id
-TargetOutcome in_object text f first old new (Err e) = Stops first new e (Fails rule (Lex text) (plain assigns_next) no_slots (such (at (target_name in_object) f) always) first.prev_token_end)
+TargetOutcome in_object text f first old new (Err e) = Stops first new e (Fails rule (Lex text) (plain (behind_target f.in_)) no_slots (such (at (target_name in_object) f) always) first.prev_token_end)
 
 abbrev pub TakesTarget : ℕ → NodeId → ℕ → Parser → Parser → Result NodeId Stop → Type 0
 TakesTarget start id kept old new r = (text : List ℕ) (f : Flags) (first : Parser) → At text f first → start ≡ first.token.span.start → kept ≡ length first.errors → (x : Numbered text f (at Short f) first old id) → is_literal x.answer.label.kind ≡ true → TargetOutcome (is_object x.answer.label.kind) text f first old new r

@@ -9,12 +9,11 @@ ghost use Rattle.js_tree.specs.declared.op.Op.TheVariants as op;
 ghost use Rattle.js_parsing.specs.Moves.{plain_label};
 ghost use Rattle.js_tree.specs.Labels.{kind_of, op_of, label_of};
 ghost use Rattle.js_tree.specs.Nodes.{label, node_at};
-ghost use Rattle.js_base.specs.declared.kind.Kind.TheVariants.{Eq};
 ghost use Rattle.js_cursor.specs.Places.{goal};
 ghost use Rattle.js_grammar.specs.Marks.{Mark};
 ghost use Rattle.js_cursor.specs.Moves.{GivesUp};
 ghost use Rattle.js_parsing.specs.Classes.{EndsParse};
-ghost use Rattle.js_targets.specs.Taken.{LiteralRead, TakesTarget, refusal_at};
+ghost use Rattle.js_targets.specs.Taken.{EndsTarget, LiteralRead, TakesTarget, refusal_at};
 ghost use Rattle.js_parsing.specs.States.{Standing};
 ghost use Rattle.js_targets.specs.Targets.{Converted, OfNode, Stood, argument_places, element_slot, elements_in, in_literal, in_property, literal_places, literal_tree, made_span, noted_in, operator_places, one_node, one_slot, relabelled, rest_slot, places_in, places_of, property_places, property_slot, shorthand_slot, slot_of, target_by, unnoted, within, Noded};
 ghost use Rattle.js_targets.specs.declared.widening.Widening.TheVariants as widening;
@@ -379,7 +378,7 @@ pub fn literal_target<C: ParserConfig>(
     requires at { Standing p.old }
     requires start { start ≤ p.old.prev_token_end }
     requires whole { p.old.cut ≡ false }
-    requires equals { p.old.token.kind ≡ Eq }
+    requires sign { EndsTarget p.old }
     requires read { LiteralRead start id kept p.old }
     ensures { TakesTarget start id kept p.old p.new result }
 {

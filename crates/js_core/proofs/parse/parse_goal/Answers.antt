@@ -6,8 +6,8 @@ use Rattle.js_core.proofs.parse.parse_goal.Goals as goal
 
 pub returns-in-Assignment : goal.returns-in-Assignment
 returns-in-Assignment t c = elim c.in-Assignment.is [
-  | inl e ↦ rw e c.parse_assignment_expression.ensures
-  | inr e ↦ rw e c.parse_assignment_expression.ensures
+  | inl e ↦ rw e c.parse_assignment_expression.ensures.answers
+  | inr e ↦ rw e c.parse_assignment_expression.ensures.answers
 ]
 
 pub returns-in-Unary : goal.returns-in-Unary
@@ -17,7 +17,7 @@ pub returns-in-Exponentiation : goal.returns-in-Exponentiation
 returns-in-Exponentiation t c = rw (c.in-Exponentiation.is) c.parse_exponentiation.ensures
 
 pub returns-in-Expression : goal.returns-in-Expression
-returns-in-Expression t c = rw (c.in-Expression.is) c.parse_sequence_expression.ensures
+returns-in-Expression t c = rw (c.in-Expression.is) c.parse_sequence_expression.ensures.answers
 
 pub returns-in-Binding : goal.returns-in-Binding
 returns-in-Binding t c = rw (c.in-Binding.is) c.parse_binding_pattern.ensures

@@ -1,3 +1,4 @@
+use Rattle.js_expressions.proofs.HeadOperands.{made_no_target}
 use Rattle.std.proofs.Common.{arith, refl, ap, ◌∙◌}
 use Rattle.std.proofs.lemmas.Result.{err_from_is_err_and}
 use Rattle.js_base.specs.declared.kind.Kind.TheVariants.{Arrow}
@@ -23,8 +24,8 @@ parse_arrow_body-requires-clause-nests g c =
     let s = later_room (let e = line_place c.in_ok-check_line.ensures in omega arith) (line_same c.in_ok-check_line.ensures) in
     nests_later c.requires.nests (omega arith)
 
-pub returns-in_err-body : goal.returns-in_err-body
-returns-in_err-body g c = λ text f o a e h.
+pub returns-in_err-body-clause-answers : goal.returns-in_err-body-clause-answers
+returns-in_err-body-clause-answers g c = λ text f o a e h.
     let p = err_from_is_err_and c.from_residual-in_err-body.result c.from_residual-in_err-body.ensures.1 in
     let m = c.in_ok-advance.ensures text f (line_at (before_at h) c.in_ok-check_line.ensures) in
     let x = c.in_err-body.ensures in
@@ -37,8 +38,11 @@ end_span-span-requires g c =
     let y = (c.in_ok-body.ensures.2 _ _ m.at).answer in
     let s = c.requires.start in let e = line_place c.in_ok-check_line.ensures in let d = b.behind in let h = m.further in let i = m.at.behind in let j = y.further in omega arith
 
-pub returns : goal.returns
-returns g c = λ text f o a e h.
+pub returns-clause-answers : goal.returns-clause-answers
+returns-clause-answers g c = λ text f o a e h.
     let m = c.in_ok-advance.ensures text f (line_at (before_at h) c.in_ok-check_line.ensures) in
     let x = c.in_ok-body.ensures in
     before_answers h c.requires.arrow c.in_ok-check_line.ensures m x.0 x.1 _ a (x.2 text f m.at) (c.end_span-span.ensures.start ∙ e) c.end_span-span.ensures.end c.in_ok-node.ensures
+
+pub returns-clause-node : goal.returns-clause-node
+returns-clause-node g c = made_no_target refl (λ cs. refl) c.in_ok-node.ensures

@@ -1,4 +1,6 @@
-use Rattle.std.proofs.Common.{inl, arith, sym, ◌∙◌}
+use Rattle.std.specs.Prelude.{Ok, Err}
+use Rattle.js_expressions.proofs.HeadOperands.{behind_assign, behind_operand, made_no_target, operand_unread}
+use Rattle.std.proofs.Common.{inl, arith, sym, ◌∙◌, refl}
 use Rattle.std.proofs.lemmas.Result.{err_from_is_err_and}
 use Rattle.js_expressions.proofs.ArraysAssigned.{not_simple_marked}
 use Rattle.js_expressions.proofs.Assignments.{shifted, assign_listed, row_assign, assign_answers, assign_marked, assign_refused, assign_whole, right_fails}
@@ -11,8 +13,8 @@ use Rattle.js_expressions.proofs.Refusals.{stood}
 use Rattle.js_parsing.proofs.Verdicts.{after, grown_then}
 use Rattle.js_expressions.proofs.assignment.parse_assignment_without_arrow.Goals as goal
 
-pub returns-in_err-left : goal.returns-in_err-left
-returns-in_err-left t c = λ text f a. let p = err_from_is_err_and c.from_residual.result c.from_residual.ensures.1 in rw (p.1, p.2) (stops_so _ _ _ (λ z. test_none f (not_wide a) (is_cover a) (c.requires.operand text f a) z) (c.in_err-left.ensures text f a))
+pub returns-in_err-left-clause-answers : goal.returns-in_err-left-clause-answers
+returns-in_err-left-clause-answers t c = λ text f a. let p = err_from_is_err_and c.from_residual.result c.from_residual.ensures.1 in rw (p.1, p.2) (stops_so _ _ _ (λ z. test_none f (not_wide a) (is_cover a) (c.requires.operand text f a) z) (c.in_err-left.ensures text f a))
 
 pub parse_conditional_expression_rest-requires-clause-at : goal.parse_conditional_expression_rest-requires-clause-at
 parse_conditional_expression_rest-requires-clause-at t c = standing (c.in_ok-_power.ensures _ _ (c.in_ok-left.ensures _ _ c.requires.at).answer.at).at
@@ -33,10 +35,10 @@ parse_conditional_expression_rest-requires-clause-whole t c = (c.in_ok-_power.en
 pub parse_conditional_expression_rest-requires-clause-unassigned : goal.parse_conditional_expression_rest-requires-clause-unassigned
 parse_conditional_expression_rest-requires-clause-unassigned t c = assign_listed c.cur_kind.ensures c.is_assignment_operator.ensures c.if-not-is_assignment_operator.true
 
-pub returns-then-not-is_assignment_operator : goal.returns-then-not-is_assignment_operator
-returns-then-not-is_assignment_operator t c = λ text f a.
+pub returns-then-not-is_assignment_operator-clause-answers : goal.returns-then-not-is_assignment_operator-clause-answers
+returns-then-not-is_assignment_operator-clause-answers t c = λ text f a.
     let x = c.in_ok-left.ensures text f a in
-    c.parse_conditional_expression_rest.ensures text f _ a (c.requires.operand text f a) c.cur_start-start.ensures (shifted x (c.in_ok-_power.ensures text f x.answer.at))
+    c.parse_conditional_expression_rest.ensures.answers text f _ a (c.requires.operand text f a) c.cur_start-start.ensures (shifted x (c.in_ok-_power.ensures text f x.answer.at))
 
 pub is_array_or_object-requires : goal.is_array_or_object-requires
 is_array_or_object-requires t c = let x = c.in_ok-left.ensures _ _ c.requires.at in stood (shifted x (c.in_ok-_power.ensures _ _ x.answer.at))
@@ -74,11 +76,11 @@ parse_literal_assignment-requires-clause-marked t c = λ n k.
     let x = shifted y o in
     not_simple_marked c.requires.at x.answer o.uncut (assign_listed c.cur_kind.ensures c.is_assignment_operator.ensures c.if-not-is_assignment_operator.false) (sym (c.is_array_or_object.ensures _ _ _ _ x.holds) ∙ c.if-is_array_or_object.true) n _ c.cur_start-start.ensures (k ∙ c.kept_so_far-kept.ensures)
 
-pub returns-then-is_array_or_object : goal.returns-then-is_array_or_object
-returns-then-is_array_or_object t c = λ text f a.
+pub returns-then-is_array_or_object-clause-answers : goal.returns-then-is_array_or_object-clause-answers
+returns-then-is_array_or_object-clause-answers t c = λ text f a.
     let y = c.in_ok-left.ensures text f a in
     let x = shifted y (c.in_ok-_power.ensures text f y.answer.at) in
-    c.parse_literal_assignment.ensures text f _ a (c.requires.operand text f a) c.cur_start-start.ensures c.kept_so_far-kept.ensures x (sym (c.is_array_or_object.ensures _ _ _ _ x.holds) ∙ c.if-is_array_or_object.true)
+    c.parse_literal_assignment.ensures.answers text f _ a (c.requires.operand text f a) c.cur_start-start.ensures c.kept_so_far-kept.ensures x (sym (c.is_array_or_object.ensures _ _ _ _ x.holds) ∙ c.if-is_array_or_object.true)
 
 pub cover-requires : goal.cover-requires
 cover-requires t c = let x = c.in_ok-left.ensures _ _ c.requires.at in stood (shifted x (c.in_ok-_power.ensures _ _ x.answer.at))
@@ -98,8 +100,8 @@ refuse_target-requires-clause-marked t c = λ k.
     let x = shifted y o in
     assign_marked c.requires.at x.answer o.uncut (assign_listed c.cur_kind.ensures c.is_assignment_operator.ensures c.if-not-is_assignment_operator.false) (sym (c.is_array_or_object.ensures _ _ _ _ x.holds) ∙ c.if-is_array_or_object.false) (c.in_default.ensures _ _ _ _ x.holds) _ c.cur_start-start.ensures (k ∙ c.kept_so_far-kept.ensures)
 
-pub returns-in_default : goal.returns-in_default
-returns-in_default t c = λ text f a.
+pub returns-in_default-clause-answers : goal.returns-in_default-clause-answers
+returns-in_default-clause-answers t c = λ text f a.
     let y = c.in_ok-left.ensures text f a in
     let o = c.in_ok-_power.ensures text f y.answer.at in
     let x = shifted y o in
@@ -121,8 +123,8 @@ assignment-requires t c =
     let s = later_room (let a = x.further in let b = c.requires.at.behind in omega arith) x.same in
     c.requires.nests _ _ (standing m.at) (omega arith)
 
-pub returns-in_err-right : goal.returns-in_err-right
-returns-in_err-right t c = λ text f a.
+pub returns-in_err-right-clause-answers : goal.returns-in_err-right-clause-answers
+returns-in_err-right-clause-answers t c = λ text f a.
     let p = err_from_is_err_and c.from_residual-in_err-right.result c.from_residual-in_err-right.ensures.1 in
     let y = c.in_ok-left.ensures text f a in
     let o = c.in_ok-_power.ensures text f y.answer.at in
@@ -140,8 +142,8 @@ end_span-span-requires t c =
     let r = (c.in_ok-right.ensures _ _ m.at).answer in
     let a = x.further in let b = o.at.behind in let d = m.further in let e = m.at.behind in let g = r.further in let s = c.cur_start-start.ensures in omega arith
 
-pub returns : goal.returns
-returns t c = λ text f a.
+pub returns-clause-answers : goal.returns-clause-answers
+returns-clause-answers t c = λ text f a.
     let y = c.in_ok-left.ensures text f a in
     let o = c.in_ok-_power.ensures text f y.answer.at in
     let x = shifted y o in
@@ -150,3 +152,32 @@ returns t c = λ text f a.
 
 pub operator_here-requires : goal.operator_here-requires
 operator_here-requires t c = standing (c.in_ok-left.ensures _ _ c.requires.at).answer.at
+
+pub returns-in_err-left-clause-operand : goal.returns-in_err-left-clause-operand
+returns-in_err-left-clause-operand t c = λ text f a i. let p = err_from_is_err_and c.from_residual.result c.from_residual.ensures.1 in rw (p.1, p.2) (operand_unread i _ _ a (c.in_err-left.ensures text f a))
+
+pub returns-then-not-is_assignment_operator-clause-operand : goal.returns-then-not-is_assignment_operator-clause-operand
+returns-then-not-is_assignment_operator-clause-operand t c = λ text f a i.
+    let x = c.in_ok-left.ensures text f a in
+    behind_operand i (shifted x (c.in_ok-_power.ensures text f x.answer.at)) _ _ c.parse_conditional_expression_rest.ensures.operand
+
+pub returns-then-is_array_or_object-clause-operand : goal.returns-then-is_array_or_object-clause-operand
+returns-then-is_array_or_object-clause-operand t c = λ text f a i.
+    let x = c.in_ok-left.ensures text f a in
+    behind_assign i (shifted x (c.in_ok-_power.ensures text f x.answer.at)) _ _ (assign_listed c.cur_kind.ensures c.is_assignment_operator.ensures c.if-not-is_assignment_operator.false) c.parse_literal_assignment.ensures.node
+
+pub returns-in_default-clause-operand : goal.returns-in_default-clause-operand
+returns-in_default-clause-operand t c = λ text f a i.
+    let x = c.in_ok-left.ensures text f a in
+    behind_assign i (shifted x (c.in_ok-_power.ensures text f x.answer.at)) c.args.p.now (Err _) (assign_listed c.cur_kind.ensures c.is_assignment_operator.ensures c.if-not-is_assignment_operator.false) tt
+
+pub returns-in_err-right-clause-operand : goal.returns-in_err-right-clause-operand
+returns-in_err-right-clause-operand t c = λ text f a i.
+    let p = err_from_is_err_and c.from_residual-in_err-right.result c.from_residual-in_err-right.ensures.1 in
+    let x = c.in_ok-left.ensures text f a in
+    rw (p.1, p.2) (behind_assign i (shifted x (c.in_ok-_power.ensures text f x.answer.at)) c.args.p.now (Err _) (assign_listed c.cur_kind.ensures c.is_assignment_operator.ensures c.if-not-is_assignment_operator.false) tt)
+
+pub returns-clause-operand : goal.returns-clause-operand
+returns-clause-operand t c = λ text f a i.
+    let x = c.in_ok-left.ensures text f a in
+    behind_assign i (shifted x (c.in_ok-_power.ensures text f x.answer.at)) _ (Ok _) (assign_listed c.cur_kind.ensures c.is_assignment_operator.ensures c.if-not-is_assignment_operator.false) (made_no_target refl (λ cs. refl) c.in_ok-node.ensures)

@@ -1,4 +1,5 @@
-use Rattle.std.proofs.Common.{ap, arith, ◌∙◌}
+use Rattle.js_expressions.proofs.HeadOperands.{made_no_target}
+use Rattle.std.proofs.Common.{ap, arith, ◌∙◌, inl, refl}
 use Rattle.std.proofs.lemmas.Result.{err_from_is_err_and}
 use Rattle.js_base.specs.declared.token.Token.{Token}
 use Rattle.js_cursor.specs.Moves.{is_last}
@@ -9,8 +10,8 @@ use Rattle.js_parsing.proofs.Nesting.{nested_room}
 use Rattle.js_parsing.proofs.Verdicts.{after, grown_then}
 use Rattle.js_expressions.proofs.assignment.parse_destructuring_assignment.Goals as goal
 
-pub returns-in_err-target : goal.returns-in_err-target
-returns-in_err-target t c = λ text f first a na s k x h.
+pub returns-in_err-target-clause-answers : goal.returns-in_err-target-clause-answers
+returns-in_err-target-clause-answers t c = λ text f first a na s k x h.
     let p = err_from_is_err_and c.from_residual.result c.from_residual.ensures.1 in
     rw (p.1, p.2) (stops_so first _ _ (λ n. without_target x.answer na c.requires.whole c.requires.equals h n) (c.in_err-target.ensures text f first a s k x h))
 
@@ -26,8 +27,8 @@ advance-requires-clause-whole t c =
     let z = c.in_ok-target.ensures r.text r.flags r.first r.begins r.start_is r.kept_is r.read r.literal in
     (z.cut ∙ c.requires.whole, ap (λ (v : Token). is_last v.kind) z.token ∙ ap is_last c.requires.equals)
 
-pub returns-in_err-advance : goal.returns-in_err-advance
-returns-in_err-advance t c = λ text f first a na s k x h.
+pub returns-in_err-advance-clause-answers : goal.returns-in_err-advance-clause-answers
+returns-in_err-advance-clause-answers t c = λ text f first a na s k x h.
     let p = err_from_is_err_and c.from_residual-in_err-advance.result c.from_residual-in_err-advance.ensures.1 in
     rw (p.1, p.2) (memory_stops _ _ _ _ c.in_err-advance.ensures)
 
@@ -40,8 +41,8 @@ assignment-requires t c =
     let e = room_same r.read.answer.at z.stands_at z.place in
     c.requires.nests _ _ (standing m.at) (omega arith)
 
-pub returns-in_err-right : goal.returns-in_err-right
-returns-in_err-right t c = λ text f first a na s k x h.
+pub returns-in_err-right-clause-answers : goal.returns-in_err-right-clause-answers
+returns-in_err-right-clause-answers t c = λ text f first a na s k x h.
     let p = err_from_is_err_and c.from_residual-in_err-right.result c.from_residual-in_err-right.ensures.1 in
     let z = c.in_ok-target.ensures text f first a s k x h in
     let m = c.in_ok-advance.ensures text f z.stands_at in
@@ -56,8 +57,14 @@ end_span-span-requires t c =
     let e = z.place in
     let g = z.stands_at.behind in let d = m.further in let h = m.at.behind in let i = y.further in let s = c.requires.start in omega arith
 
-pub returns : goal.returns
-returns t c = λ text f first a na s k x h.
+pub returns-clause-answers : goal.returns-clause-answers
+returns-clause-answers t c = λ text f first a na s k x h.
     let z = c.in_ok-target.ensures text f first a s k x h in
     let m = c.in_ok-advance.ensures text f z.stands_at in
     array_answers x.answer na c.requires.whole c.requires.equals h z m _ a (c.in_ok-right.ensures text f m.at) (c.end_span-span.ensures.start ∙ s) c.end_span-span.ensures.end c.in_ok-node.ensures
+
+pub returns-clause-node : goal.returns-clause-node
+returns-clause-node t c = made_no_target refl (λ cs. refl) c.in_ok-node.ensures
+
+pub literal_target-requires-clause-sign : goal.literal_target-requires-clause-sign
+literal_target-requires-clause-sign t c = inl c.requires.equals

@@ -15,31 +15,31 @@ pub refuse_literal-requires-clause-marked : goal.refuse_literal-requires-clause-
 refuse_literal-requires-clause-marked g c = λ n.
     let r = c.requires.read in
     let v = subst (λ (found : Option NodeId). LiteralAnswer c.args.p.now.nodes c.convert.new.p.nodes c.args.id unnoted (noted_in c.convert.new.notes) found) c.in_default.is (subst (λ (xs : List Widening). LiteralAnswer c.args.p.now.nodes c.convert.new.p.nodes c.args.id (record { places = xs; misplaced = None }) (noted_in c.convert.new.notes) c.in_ok-target.field-0) c.new.ensures.items c.in_ok-target.ensures.found) in
-    refused_marked r.begins r.read c.requires.whole c.requires.equals r.literal c.in_ok-target.ensures.stays v c.args.start r.start_is (n ∙ r.kept_is)
+    refused_marked r.begins r.read c.requires.whole c.requires.sign r.literal c.in_ok-target.ensures.stays v c.args.start r.start_is (n ∙ r.kept_is)
 
 pub returns-in_default : goal.returns-in_default
 returns-in_default g c = λ text f first a s k x h.
     let v = subst (λ (found : Option NodeId). LiteralAnswer c.args.p.now.nodes c.convert.new.p.nodes c.args.id unnoted (noted_in c.convert.new.notes) found) c.in_default.is (subst (λ (xs : List Widening). LiteralAnswer c.args.p.now.nodes c.convert.new.p.nodes c.args.id (record { places = xs; misplaced = None }) (noted_in c.convert.new.notes) c.in_ok-target.field-0) c.new.ensures.items c.in_ok-target.ensures.found) in
-    array_refusal a x c.requires.whole c.requires.equals h c.in_ok-target.ensures.stays v c.refuse_literal.new.p c.refuse_literal.result c.refuse_literal.ensures
+    array_refusal a x c.requires.whole c.requires.sign h c.in_ok-target.ensures.stays v c.refuse_literal.new.p c.refuse_literal.result c.refuse_literal.ensures
 
 pub tell_places-requires-clause-fits : goal.tell_places-requires-clause-fits
 tell_places-requires-clause-fits g c =
     let r = c.requires.read in
     let v = subst (λ (found : Option NodeId). LiteralAnswer c.args.p.now.nodes c.convert.new.p.nodes c.args.id unnoted (noted_in c.convert.new.notes) found) c.in-Some.is (subst (λ (xs : List Widening). LiteralAnswer c.args.p.now.nodes c.convert.new.p.nodes c.args.id (record { places = xs; misplaced = None }) (noted_in c.convert.new.notes) c.in_ok-target.field-0) c.new.ensures.items c.in_ok-target.ensures.found) in
-    places_fit r.begins r.read c.requires.whole c.requires.equals r.literal c.in_ok-target.ensures.stays v (sym (ap (λ (z : Parser). length z.errors) c.in_ok-target.ensures.stays) ∙ (sym c.kept_so_far.ensures ∙ (c.if-kept_so_far-kept.true ∙ r.kept_is)))
+    places_fit r.begins r.read c.requires.whole c.requires.sign r.literal c.in_ok-target.ensures.stays v (sym (ap (λ (z : Parser). length z.errors) c.in_ok-target.ensures.stays) ∙ (sym c.kept_so_far.ensures ∙ (c.if-kept_so_far-kept.true ∙ r.kept_is)))
 
 pub tell_places-requires-clause-spotted : goal.tell_places-requires-clause-spotted
 tell_places-requires-clause-spotted g c =
     let r = c.requires.read in
     let v = subst (λ (found : Option NodeId). LiteralAnswer c.args.p.now.nodes c.convert.new.p.nodes c.args.id unnoted (noted_in c.convert.new.notes) found) c.in-Some.is (subst (λ (xs : List Widening). LiteralAnswer c.args.p.now.nodes c.convert.new.p.nodes c.args.id (record { places = xs; misplaced = None }) (noted_in c.convert.new.notes) c.in_ok-target.field-0) c.new.ensures.items c.in_ok-target.ensures.found) in
-    places_spotted r.begins r.read c.requires.whole c.requires.equals r.literal c.in_ok-target.ensures.stays v (sym (ap (λ (z : Parser). length z.errors) c.in_ok-target.ensures.stays) ∙ (sym c.kept_so_far.ensures ∙ (c.if-kept_so_far-kept.true ∙ r.kept_is)))
+    places_spotted r.begins r.read c.requires.whole c.requires.sign r.literal c.in_ok-target.ensures.stays v (sym (ap (λ (z : Parser). length z.errors) c.in_ok-target.ensures.stays) ∙ (sym c.kept_so_far.ensures ∙ (c.if-kept_so_far-kept.true ∙ r.kept_is)))
 
 pub returns : goal.returns
 returns g c = λ text f first a s k x h.
     let v = subst (λ (found : Option NodeId). LiteralAnswer c.args.p.now.nodes c.convert.new.p.nodes c.args.id unnoted (noted_in c.convert.new.notes) found) c.in-Some.is (subst (λ (xs : List Widening). LiteralAnswer c.args.p.now.nodes c.convert.new.p.nodes c.args.id (record { places = xs; misplaced = None }) (noted_in c.convert.new.notes) c.in_ok-target.field-0) c.new.ensures.items c.in_ok-target.ensures.found) in
     elim c.if-kept_so_far-kept.branch [
-      | then-kept_so_far-kept+in_ok-tell_places w ↦ subst (λ (z : Parser). TargetTaken (is_object x.answer.label.kind) text f first c.args.p.now z c.in-Some.target) (sym w.p-is) (taken_told a x c.requires.whole c.requires.equals h c.in_ok-target.ensures.stays v w.in_ok-tell_places.ensures)
-      | else-kept_so_far-kept w ↦ subst (λ (z : Parser). TargetTaken (is_object x.answer.label.kind) text f first c.args.p.now z c.in-Some.target) (sym w.p-is) (taken_kept a x c.requires.whole c.requires.equals h c.in_ok-target.ensures.stays v (λ e. w.if-kept_so_far-kept.false (c.kept_so_far.ensures ∙ (e ∙ sym k))))
+      | then-kept_so_far-kept+in_ok-tell_places w ↦ subst (λ (z : Parser). TargetTaken (is_object x.answer.label.kind) text f first c.args.p.now z c.in-Some.target) (sym w.p-is) (taken_told a x c.requires.whole c.requires.sign h c.in_ok-target.ensures.stays v w.in_ok-tell_places.ensures)
+      | else-kept_so_far-kept w ↦ subst (λ (z : Parser). TargetTaken (is_object x.answer.label.kind) text f first c.args.p.now z c.in-Some.target) (sym w.p-is) (taken_kept a x c.requires.whole c.requires.sign h c.in_ok-target.ensures.stays v (λ e. w.if-kept_so_far-kept.false (c.kept_so_far.ensures ∙ (e ∙ sym k))))
     ]
 
 pub refuse_literal-requires-clause-at : goal.refuse_literal-requires-clause-at

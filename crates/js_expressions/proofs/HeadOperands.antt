@@ -1,0 +1,116 @@
+-- Whether the first expression in the head of a `for` may be a target (ECMA-262, 14.7.5).
+use Rattle.std.proofs.Common.{ℕ, ◌≡◌, inl, inr, List, [], ◌∷◌, length, get_or, Bool, true, false, not, IsTrue, None, refl, sym, ap, subst, ◌∙◌}
+use Rattle.std.proofs.lemmas.Bool.{and_parts}
+use Rattle.std.proofs.lemmas.List.{get_or_push}
+use Rattle.std.specs.Prelude.{Option, Result, Ok, Err, IfOk}
+use Rattle.js_base.specs.declared.kind.Kind.{Kind}
+use Rattle.js_base.specs.declared.kind.Kind.TheVariants.{Comma, In, Of}
+use Rattle.js_base.specs.Kinds.{one_of_kinds}
+use Rattle.js_grammar.specs.Trees.{Label, Slots}
+use Rattle.js_grammar.specs.Grammar.{Lexeme, seen}
+use Rattle.js_grammar.specs.Insertion.{assign_operators}
+use Rattle.js_grammar.specs.Productions.{Flags, at, Short}
+use Rattle.js_grammar.proofs.Looks.{apart, not_both}
+use Rattle.js_tree.specs.declared.id.NodeId.{NodeId}
+use Rattle.js_tree.specs.Holding.{Made, Stands, stands}
+use Rattle.js_tree.specs.Nodes.{Node, empty_program, label}
+use Rattle.js_cursor.specs.Parsers.{Parser}
+use Rattle.js_cursor.specs.declared.stop.Stop.{Stop}
+use Rattle.js_cursor.specs.declared.stop.Stop.TheVariants.{Fatal, NoMemory}
+use Rattle.js_parsing.specs.Answers.{Numbered, Stops, Underived, clean, unclean}
+use Rattle.js_parsing.specs.Lexemes.{Lex}
+use Rattle.js_parsing.specs.Moves.{MadeHere}
+use Rattle.js_parsing.specs.States.{At}
+use Rattle.js_parsing.proofs.Paths.{not_here}
+use Rattle.js_parsing.proofs.Unbuilt.{nothing_unbuilt}
+use Rattle.js_targets.specs.Taken.{NoTargetFrom, goes_through}
+use Rattle.js_targets.specs.Targets.{is_literal, target_of}
+use Rattle.js_targets.proofs.ArraysBeforeSigns.{is_cover, not_wide}
+use Rattle.js_targets.proofs.HeadTargets.{before_these, none_before, none_unread}
+use Rattle.js_expressions.specs.Arrows.{NoOperandHere, Unmoved}
+use Rattle.js_expressions.specs.HeadOperands.{HeadOperand, IsNoTarget, OperandOutcome, StaysOperand, no_target, operand}
+use Rattle.js_expressions.proofs.Arrows.{from_unmoved}
+
+-- ---- the node that was made
+
+made_node : {n : Node} {ns ms : List Node} {id : NodeId} → Made n ns ms id → get_or ms id.0 empty_program ≡ n
+made_node {n} {ns} {id = id} m = ap (λ (xs : List Node). get_or xs id.0 empty_program) m.nodes ∙ get_or_push ns n empty_program id.0 (sym m.number)
+
+held_label : {ns : List Node} {id : ℕ} {l : Label} {cs : Slots} {rs : List ℕ} → Stands ns id l cs rs → l ≡ label (get_or ns id empty_program)
+held_label (stands id i a) = refl
+
+pub made_no_target : {l : Label} {ids : List (Option NodeId)} {p q : Parser} {id : NodeId} → is_literal l.kind ≡ false → ((cs : Slots) → target_of l cs ≡ None) → MadeHere l ids p q id → IsNoTarget q id
+made_no_target {l} a b m = λ lo hi k cs h.
+    let e : k ≡ l = held_label h.stands ∙ (ap label (made_node m.made) ∙ m.label_is) in
+    (subst (λ (v : Label). is_literal v.kind ≡ false) (sym e) a, subst (λ (v : Label). target_of v cs ≡ None) (sym e) (b cs))
+
+-- ---- what stands behind an operand
+
+pub none_goes_through : {text : List ℕ} {f : Flags} {q : Parser} → At text f q → one_of_kinds (In ∷ Of ∷ []) q.token.kind ≡ false → (y : Lexeme) → Lex text q.prev_token_end y → IsTrue (seen goes_through y) → ⊥
+unfolding apart
+none_goes_through a e y l h = not_here a (In ∷ Of ∷ []) refl e y l (and_parts (one_of_kinds (In ∷ Of ∷ []) y.kind) (not y.escaped) h).0
+
+assign_apart : (k : Kind) → one_of_kinds assign_operators k ≡ true → one_of_kinds (In ∷ Of ∷ []) k ≡ false
+unfolding apart
+assign_apart k h = go (one_of_kinds (In ∷ Of ∷ []) k) refl
+  where
+    go : (b : Bool) → one_of_kinds (In ∷ Of ∷ []) k ≡ b → one_of_kinds (In ∷ Of ∷ []) k ≡ false
+    go true e = absurd (not_both (λ k w e. one_of_kinds assign_operators k) (λ k w e. one_of_kinds (In ∷ Of ∷ []) k) refl k false false h e)
+    go false e = e
+
+-- where no target is derived, and what was read is none
+pub told_none : {text : List ℕ} {f : Flags} (p w : Parser) (r : Result NodeId Stop) → NoTargetFrom text f p.prev_token_end → IfOk r (λ id. IsNoTarget w id) → OperandOutcome text f p w r
+told_none p w (Ok id) n m = no_target m n
+told_none p w (Err Fatal) n m = n
+told_none p w (Err NoMemory) n m = tt
+
+module _ {text : List ℕ} {f : Flags} {p : Parser} (i : f.in_ ≡ false) where
+  -- an operand that can't be read
+  from_none : At text f p → Underived text (at Short f) p.prev_token_end → NoTargetFrom text f p.prev_token_end
+  from_none a n = before_these i (none_unread (not_wide a) (is_cover a) n)
+
+  pub operand_unread : (q : Parser) (e : Stop) → At text f p → Stops p q e (Underived text (at Short f) p.prev_token_end) → OperandOutcome text f p q (Err e)
+  operand_unread q Fatal a s = from_none a (s.none nothing_unbuilt)
+  operand_unread q NoMemory a s = tt
+
+  module _ {q : Parser} {left : NodeId} (x : Numbered text f (at Short f) p q left) where
+    behind_kind : one_of_kinds (In ∷ Of ∷ []) q.token.kind ≡ false → NoTargetFrom text f p.prev_token_end
+    behind_kind e = none_before i x.answer (none_goes_through x.answer.at e)
+
+    -- before an assignment operator
+    pub behind_assign : (w : Parser) (r : Result NodeId Stop) → one_of_kinds assign_operators q.token.kind ≡ true → IfOk r (λ id. IsNoTarget w id) → OperandOutcome text f p w r
+    behind_assign w r u m = told_none p w r (behind_kind (assign_apart q.token.kind u)) m
+
+    -- alone, or before `?`
+    pub behind_operand : (w : Parser) (r : Result NodeId Stop) → StaysOperand left q w r → OperandOutcome text f p w r
+    behind_operand w (Ok id) (inl (e, s)) = operand (subst (λ (v : Parser). Numbered text f (at Short f) p v id) (sym s) (subst (λ (n : NodeId). Numbered text f (at Short f) p q n) (sym e) x))
+    behind_operand w (Ok id) (inr (k, n)) = no_target n (behind_kind (ap (one_of_kinds (In ∷ Of ∷ [])) k))
+    behind_operand w (Err Fatal) k = behind_kind (ap (one_of_kinds (In ∷ Of ∷ [])) k)
+    behind_operand w (Err NoMemory) k = tt
+
+  -- an arrow function, where no operand stands
+  pub behind_head : (w : Parser) (r : Result NodeId Stop) → At text f p → Underived text (at Short f) p.prev_token_end → IfOk r (λ id. IsNoTarget w id) → OperandOutcome text f p w r
+  behind_head w r a n m = told_none p w r (from_none a n) m
+
+  pub head_stopped : (q : Parser) (e : Stop) → At text f p → (e ≡ Fatal → NoOperandHere p) → OperandOutcome text f p q (Err e)
+  head_stopped q Fatal a n = from_none a (n refl text f a)
+  head_stopped q NoMemory a n = tt
+
+  -- of what was read something was told, or a comma stands behind it
+  pub refused_operand : {q : Parser} {id : NodeId} (w : Parser) (r : Result NodeId Stop) → At text f p → HeadOperand text f p q id → (length q.errors ≡ length p.errors → ⊥) → IfOk r (λ id. IsNoTarget w id) → OperandOutcome text f p w r
+  refused_operand w r a (operand x) n m = told_none p w r (from_none a (elim x.answer.verdict [
+    | clean e z ↦ absurd (n (ap length e))
+    | unclean g z ↦ z
+  ])) m
+  refused_operand w r a (no_target k z) n m = told_none p w r z m
+
+  pub listed_operand : {q : Parser} {id : NodeId} (w : Parser) (r : Result NodeId Stop) → HeadOperand text f p q id → q.token.kind ≡ Comma → IfOk r (λ id. IsNoTarget w id) → OperandOutcome text f p w r
+  listed_operand w r (operand x) k m = told_none p w r (behind_kind x (ap (one_of_kinds (In ∷ Of ∷ [])) k)) m
+  listed_operand w r (no_target n z) k m = told_none p w r z m
+
+-- where the parser is where it was
+pub operand_unmoved : (text : List ℕ) (f : Flags) {p q : Parser} (w : Parser) (r : Result NodeId Stop) → Unmoved p q → OperandOutcome text f q w r → OperandOutcome text f p w r
+operand_unmoved text f w (Ok id) u (operand x) = operand (from_unmoved text f (at Short f) w (Ok id) u x)
+operand_unmoved text f w (Ok id) u (no_target n z) = no_target n (subst (λ (s : ℕ). NoTargetFrom text f s) u.place z)
+operand_unmoved text f w (Err Fatal) u z = subst (λ (s : ℕ). NoTargetFrom text f s) u.place z
+operand_unmoved text f w (Err NoMemory) u z = tt

@@ -1,0 +1,36 @@
+-- What the head of a `for` asks of its first expression: whether it may be a target before `in` or `of` (ECMA-262, 14.7.5). It is asked where `in` is no operator.
+use Rattle.std.specs.Prelude.{ℕ, ◌≡◌, ◌⊎◌, false, List, None, Result, Ok, Err}
+use Rattle.js_base.specs.declared.kind.Kind.TheVariants.{Question}
+use Rattle.js_grammar.specs.Trees.{Label, Slots}
+use Rattle.js_grammar.specs.Productions.{Flags, at, Short}
+use Rattle.js_tree.specs.declared.id.NodeId.{NodeId}
+use Rattle.js_tree.specs.Holding.{Holds}
+use Rattle.js_cursor.specs.Parsers.{Parser}
+use Rattle.js_cursor.specs.declared.stop.Stop.{Stop}
+use Rattle.js_cursor.specs.declared.stop.Stop.TheVariants.{Fatal, NoMemory}
+use Rattle.js_parsing.specs.Answers.{Numbered}
+use Rattle.js_parsing.specs.States.{At}
+use Rattle.js_targets.specs.Taken.{NoTargetFrom}
+use Rattle.js_targets.specs.Targets.{is_literal, target_of}
+
+-- the node's tree is neither a literal nor a simple target, in parentheses or not
+abbrev pub IsNoTarget : Parser → NodeId → Type 0
+IsNoTarget p id = (lo hi : ℕ) (l : Label) (cs : Slots) → Holds p.nodes lo hi id.0 l cs → (is_literal l.kind ≡ false) × (target_of l cs ≡ None)
+
+-- An operand alone was read, a ShortCircuitExpression; or something else was, and no target before `in` or `of` is derived from there.
+pub data HeadOperand (text : List ℕ) (f : Flags) (p q : Parser) (id : NodeId) : Type 0 where
+  operand : Numbered text f (at Short f) p q id → HeadOperand text f p q id
+  no_target : IsNoTarget q id → NoTargetFrom text f p.prev_token_end → HeadOperand text f p q id
+
+abbrev pub OperandOutcome : List ℕ → Flags → Parser → Parser → Result NodeId Stop → Type 0
+OperandOutcome text f p q (Ok id) = HeadOperand text f p q id
+OperandOutcome text f p q (Err Fatal) = NoTargetFrom text f p.prev_token_end
+OperandOutcome text f p q (Err NoMemory) = Unit {0}
+
+abbrev pub TellsOperand : Parser → Parser → Result NodeId Stop → Type 0
+TellsOperand p q r = (text : List ℕ) (f : Flags) → At text f p → f.in_ ≡ false → OperandOutcome text f p q r
+
+-- Behind an operand nothing more was read; or `?` stands there, and what was read with it is no target.
+abbrev pub StaysOperand : NodeId → Parser → Parser → Result NodeId Stop → Type 0
+StaysOperand test p q (Ok id) = ((id ≡ test) × (q ≡ p)) ⊎ ((p.token.kind ≡ Question) × IsNoTarget q id)
+StaysOperand test p q (Err e) = p.token.kind ≡ Question

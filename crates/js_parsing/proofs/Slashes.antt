@@ -1,0 +1,140 @@
+-- What begins with a slash: the division sign and `/=` by the plain lexical goal, a regular expression by its own (ECMA-262, 12).
+use Rattle.std.proofs.Common.{ℕ, ◌+◌, ◌≡◌, ◌==◌, ◌⊎◌, inl, inr, Bool, true, false, not, ◌&&◌, ◌||◌, List, [], ◌∷◌, ◌++◌, Option, Some, None, IsTrue, refl, sym, ap, subst, arith, ◌∙◌}
+use Rattle.std.specs.Prelude.{codes, is_some}
+use Rattle.std.proofs.lemmas.Bool.{false≢true, and_from, eqb-true}
+use Rattle.js_base.specs.declared.kind.Kind.{Kind}
+use Rattle.js_base.specs.declared.kind.Kind.TheVariants.{Eof, HashbangComment, RegExp, Slash, SlashEq, TemplateMiddle, TemplateTail}
+use Rattle.js_base.specs.Characters.{one_of, is_decimal}
+use Rattle.js_base.specs.Kinds.{same_kind, one_of_kinds}
+use Rattle.js_base.specs.Texts.{text_of, words, punctuators}
+use Rattle.js_base.proofs.KindLemmas.{kind_of_same}
+use Rattle.js_grammar.specs.Characters.{width, begins}
+use Rattle.js_grammar.specs.Grammar.{Lexeme}
+use Rattle.js_grammar.specs.Longest.{longest, none_longer, joined}
+use Rattle.js_grammar.specs.Trivia.{are_trivia}
+use Rattle.js_grammar.specs.RegularExpressions.{flags, flagged, behind_pattern}
+use Rattle.js_grammar.specs.Lexemes.{LexicalGoal, division, regular_expression, template_tail, hashbang, kind_in, plain_kind, lexemes_in, may_precede, punctuator_kind, is_escaped, units_of}
+use Rattle.js_grammar.specs.Lexed.{Lex as StandsBehind, Stands, IsLexeme, all_faults}
+use Rattle.js_grammar.proofs.QuickLexemes.{none_goes_on, none_goes_on-is}
+use Rattle.js_lex.specs.Reading.{LexemeBehind}
+use Rattle.js_lex.specs.Punctuators.{punctuator_of}
+use Rattle.js_lex.proofs.KindsOfLexemes.{no_plain, plain_end, pattern_is, tail_is, hashbang_is}
+use Rattle.js_lex.proofs.Punctuators.{kind_some}
+use Rattle.js_parsing.specs.Lexemes.{slashes}
+
+-- a lexeme of this kind is one of its own lexical goal
+pub pattern_goal : {text : List ℕ} {s : ℕ} {y : Lexeme} (h : StandsBehind all_faults text s y) → y.kind ≡ RegExp → h.goal ≡ regular_expression
+pattern_goal {y = y} h k = go h.goal refl
+  where
+    of_goal : (g : LexicalGoal) → h.goal ≡ g → kind_in g h.word h.rest ≡ Some RegExp
+    of_goal g e = subst (λ (v : LexicalGoal). kind_in v h.word h.rest ≡ Some RegExp) e (h.lexeme.kind ∙ ap Some k)
+
+    plain : (w rest : List ℕ) → plain_kind w rest ≡ Some RegExp → ⊥
+    plain [] rest q = let z : RegExp ≡ Eof = (plain_end rest RegExp q).0 in cc
+    plain (c ∷ cs) rest q = false≢true (sym (no_plain RegExp c cs rest RegExp refl q))
+
+    tail : (RegExp ≡ TemplateMiddle) ⊎ (RegExp ≡ TemplateTail) → ⊥
+    tail (inl e) = cc
+    tail (inr e) = cc
+
+    go : (g : LexicalGoal) → h.goal ≡ g → h.goal ≡ regular_expression
+    go regular_expression e = e
+    go division e = absurd (plain h.word h.rest (of_goal division e))
+    go template_tail e = absurd (tail (tail_is h.word RegExp (of_goal template_tail e)))
+    go hashbang e = absurd (let z : RegExp ≡ HashbangComment = hashbang_is h.word RegExp (of_goal hashbang e) in cc)
+
+-- its first two characters
+record Opens (w : List ℕ) : Type 0 where
+  second : ℕ
+  others : List ℕ
+  is : w ≡ 47 ∷ second ∷ others
+  opens_none : one_of (codes "*/") second ≡ false
+
+opened : (w : List ℕ) (k : Kind) → flagged (flags w) ≡ Some k → Opens w
+opened [] k h = absurd (let z = h in cc)
+opened (a ∷ []) k h = absurd (let z = h in cc)
+opened (a ∷ c ∷ cs) k h = go (a == 47) (one_of (codes "*/") c) refl refl
+  where
+    of_both : (b d : Bool) → (a == 47) ≡ b → one_of (codes "*/") c ≡ d → flagged (elim (b && not d) as (λ _. Option (List ℕ)) [ true ↦ behind_pattern false false (c ∷ cs) | false ↦ None ]) ≡ Some k
+    of_both b d e f = (λ i. flagged (elim (sym e i && not (sym f i)) as (λ _. Option (List ℕ)) [ true ↦ behind_pattern false false (c ∷ cs) | false ↦ None ])) ∙ h
+
+    go : (b d : Bool) → (a == 47) ≡ b → one_of (codes "*/") c ≡ d → Opens (a ∷ c ∷ cs)
+    go true false e f = record { second = c; others = cs; is = ap (λ (x : ℕ). x ∷ c ∷ cs) (eqb-true a 47 e); opens_none = f }
+    go true true e f = absurd (let z = of_both true true e f in cc)
+    go false d e f = absurd (let z = of_both false d e f in cc)
+
+-- ---- the sign that stands there by the plain goal
+
+slash_longest : (i c : ℕ) (rest : List ℕ) → one_of (codes "*/") c ≡ false → (c == 61) ≡ false → IsLexeme division i (47 ∷ []) (c ∷ rest) Slash
+unfolding punctuators
+slash_longest i c rest n e = record { longest = and_from (lexemes_in division (47 ∷ []) (c ∷ rest)) _ (ap is_some kind) (none_goes_on-is division (47 ∷ []) (c ∷ rest) none); kind = kind; begins = refl; apart = refl }
+  where
+    kind : kind_in division (47 ∷ []) (c ∷ rest) ≡ Some Slash
+    kind = kind_some (47 ∷ []) (c ∷ rest) Slash refl (ap not n)
+
+    none : none_goes_on division (47 ∷ []) (c ∷ rest) ≡ true
+    none = rw (none_goes_on, e) refl
+
+slash_equals_longest : (i : ℕ) (rest : List ℕ) → IsLexeme division i (47 ∷ 61 ∷ []) rest SlashEq
+unfolding punctuators
+slash_equals_longest i rest = record { longest = and_from (lexemes_in division (47 ∷ 61 ∷ []) rest) _ (ap is_some kind) (none_goes_on-is division (47 ∷ 61 ∷ []) rest (none rest)); kind = kind; begins = refl; apart = refl }
+  where
+    kind : kind_in division (47 ∷ 61 ∷ []) rest ≡ Some SlashEq
+    kind = kind_some (47 ∷ 61 ∷ []) rest SlashEq refl refl
+
+    none : (rest : List ℕ) → none_goes_on division (47 ∷ 61 ∷ []) rest ≡ true
+    none [] = refl
+    none (d ∷ rest) = refl
+
+-- behind a place from which a regular expression may be read, by the plain goal one of the two signs stands
+pub record SlashThere (text : List ℕ) (s : ℕ) (y : Lexeme) : Type 0 where
+  pub lexeme : Lexeme
+  pub stands : LexemeBehind division text s lexeme
+  pub is : one_of_kinds slashes lexeme.kind ≡ true
+  pub from : lexeme.from ≡ y.from
+  pub newline : lexeme.newline ≡ y.newline
+  pub escaped : lexeme.escaped ≡ y.escaped
+
+pub slash_there : {text : List ℕ} {s : ℕ} {y : Lexeme} → StandsBehind all_faults text s y → y.kind ≡ RegExp → SlashThere text s y
+unfolding words
+slash_there {text} {s} {y} h k = go (o.second == 61) refl
+  where
+    o : Opens h.word
+    o = opened h.word RegExp (subst (λ (g : LexicalGoal). kind_in g h.word h.rest ≡ Some RegExp) (pattern_goal h k) (h.lexeme.kind ∙ ap Some k))
+
+    here : h.word ++ h.rest ≡ 47 ∷ o.second ∷ (o.others ++ h.rest)
+    here = ap (λ (w : List ℕ). w ++ h.rest) o.is
+
+    plain : y.escaped ≡ false
+    plain = h.escaped ∙ ap (λ (v : Kind). is_escaped v h.word) k
+
+    of_sign : (w rest : List ℕ) (j : Kind) → h.word ++ h.rest ≡ w ++ rest → one_of_kinds slashes j ≡ true → is_escaped j w ≡ false → IsLexeme division y.from w rest j → SlashThere text s y
+    of_sign w rest j e i n l = record {
+      lexeme = record { kind = j; from = y.from; to = y.from + width w; newline = y.newline; escaped = false; units = units_of j w };
+      stands = record {
+        lex = record {
+          trivia = h.trivia;
+          goal = division;
+          word = w;
+          rest = rest;
+          stands = record { within = h.stands.within; splits = h.stands.splits ∙ ap (λ (v : List ℕ). joined h.trivia ++ v) e; trivia = subst (λ (v : List ℕ). are_trivia (s == 0) h.trivia v ≡ true) e h.stands.trivia };
+          lexeme = l;
+          comments = refl;
+          flags = refl;
+          from = h.from;
+          to = refl;
+          newline = h.newline;
+          escaped = sym n;
+          units = refl;
+        };
+        of_goal = refl;
+      };
+      is = i;
+      from = refl;
+      newline = refl;
+      escaped = sym plain;
+    }
+
+    go : (b : Bool) → (o.second == 61) ≡ b → SlashThere text s y
+    go false e = of_sign (47 ∷ []) (o.second ∷ (o.others ++ h.rest)) Slash here refl refl (slash_longest y.from o.second (o.others ++ h.rest) o.opens_none e)
+    go true e = of_sign (47 ∷ 61 ∷ []) (o.others ++ h.rest) SlashEq (here ∙ ap (λ (c : ℕ). 47 ∷ c ∷ (o.others ++ h.rest)) (eqb-true o.second 61 e)) refl refl (slash_equals_longest y.from (o.others ++ h.rest))
