@@ -1,7 +1,7 @@
 -- What the current token says of every lexeme that may stand at its place.
 use Rattle.std.proofs.Common.{ℕ, ◌≡◌, ◌⊎◌, inl, inr, Bool, true, false, not, cond, ◌&&◌, ◌||◌, List, [], ◌∷◌, IsTrue, refl, sym, ap, subst, ◌∙◌}
 use Rattle.std.specs.Prelude.{Some}
-use Rattle.std.proofs.lemmas.Bool.{false≢true, and_parts}
+use Rattle.std.proofs.lemmas.Bool.{false≢true, and_parts, or_left, or_right}
 use Rattle.js_base.specs.declared.kind.Kind.{Kind}
 use Rattle.js_base.specs.declared.kind.Kind.TheVariants.{RAngle, RCurly, RegExp, TemplateMiddle, TemplateTail, HashbangComment, Undetermined}
 use Rattle.js_base.specs.declared.token.Token.{Token}
@@ -97,14 +97,14 @@ plain_same z x = lex-same x.stands.lex z.stands.lex (x.stands.of_goal ∙ sym z.
 pub signs_are : (y k : Kind) → one_of_kinds (signs_of y) k ≡ true → one_of_kinds signs k ≡ true
 signs_are y k h = go (same_kind RegExp y) (one_of_kinds template_tails y) h
   where
+    or_false : (b : Bool) → (b || false) ≡ true → b ≡ true
+    or_false true q = refl
+    or_false false q = q
+
     go : (b c : Bool) → one_of_kinds (cond b slashes (cond c (RCurly ∷ []) [])) k ≡ true → one_of_kinds signs k ≡ true
     go true c q = or_right (same_kind RCurly k) _ q
     go false true q = or_left (same_kind RCurly k) _ (or_false (same_kind RCurly k) q)
     go false false q = absurd (false≢true q)
-
-    or_false : (b : Bool) → (b || false) ≡ true → b ≡ true
-    or_false true q = refl
-    or_false false q = q
 
 abbrev a_sign : Look
 a_sign k w e = one_of_kinds signs k
