@@ -39,7 +39,7 @@ use Rattle.js_operands.specs.Numbers.{node_of_number, op_of_number}
 use Rattle.js_operands.specs.PropertyNames.{NoName, NoNames, NameRead, NameOutcome}
 use Rattle.js_operands.proofs.Operands.{exponential_test, of_number, one_path, plain_leaf}
 use Rattle.js_parsing.specs.Answers.{Underived, Numbered, Outcome, Stops}
-use Rattle.js_parsing.specs.Lexemes.{Lex, slashes}
+use Rattle.js_parsing.specs.Lexemes.{Lex, signs}
 use Rattle.js_parsing.specs.Moves.{IsWholeHere, LeafTaken, Moved, TakesLeaf, plain_label, unpassable}
 use Rattle.js_parsing.specs.Stands.{StandsHere}
 use Rattle.js_parsing.specs.States.{At, Same, NodesLie}
@@ -152,8 +152,8 @@ number_path k h = of_number NumberPath k h
     (λ text f p q a e n s. at_kind a Binary e refl ⟼ noded a (last_token Binary a e n refl s))
     (λ text f p q a e n s. at_kind a Octal e refl ⟼ noded a (last_token Octal a e n refl s))
     (λ text f p q a e n s. at_kind a Hex e refl ⟼ noded a (last_token Hex a e n refl s))
-    (λ text f p q a e n s. at_kind a PositiveExponential e refl ⟼ noded a (one_path exponential_test a (ap (one_of_kinds slashes) e) s (plain_leaf PositiveExponential e n refl s) (rw (sym s.tells.kind ∙ e, sym s.tells.escaped ∙ n) refl)))
-    (λ text f p q a e n s. at_kind a NegativeExponential e refl ⟼ noded a (one_path exponential_test a (ap (one_of_kinds slashes) e) s (plain_leaf NegativeExponential e n refl s) (rw (sym s.tells.kind ∙ e, sym s.tells.escaped ∙ n) refl)))
+    (λ text f p q a e n s. at_kind a PositiveExponential e refl ⟼ noded a (one_path exponential_test a (ap (one_of_kinds signs) e) s (plain_leaf PositiveExponential e n refl s) (rw (sym s.tells.kind ∙ e, sym s.tells.escaped ∙ n) refl)))
+    (λ text f p q a e n s. at_kind a NegativeExponential e refl ⟼ noded a (one_path exponential_test a (ap (one_of_kinds signs) e) s (plain_leaf NegativeExponential e n refl s) (rw (sym s.tells.kind ∙ e, sym s.tells.escaped ∙ n) refl)))
     (λ text f p q a e n s. at_kind a DecimalBigInt e refl ⟼ noded a (last_token DecimalBigInt a e n refl s))
     (λ text f p q a e n s. at_kind a BinaryBigInt e refl ⟼ noded a (last_token BinaryBigInt a e n refl s))
     (λ text f p q a e n s. at_kind a OctalBigInt e refl ⟼ noded a (last_token OctalBigInt a e n refl s))

@@ -6,7 +6,7 @@ use Rattle.std.proofs.lemmas.List.Elements.{All-same}
 use Rattle.std.proofs.lemmas.List.{append_cancel_left}
 use Rattle.js_base.specs.declared.diagnostic.Diagnostic.{Diagnostic}
 use Rattle.js_base.specs.declared.kind.Kind.{Kind}
-use Rattle.js_base.specs.declared.kind.Kind.TheVariants.{Eof, RAngle, RegExp, Slash, SlashEq, Undetermined}
+use Rattle.js_base.specs.declared.kind.Kind.TheVariants.{Eof, RAngle, RCurly, RegExp, Slash, SlashEq, TemplateMiddle, TemplateTail, Undetermined}
 use Rattle.js_base.specs.declared.span.Span.{Span}
 use Rattle.js_base.specs.declared.token.Token.{Token}
 use Rattle.js_base.specs.Kinds.{same_kind, one_of_kinds}
@@ -60,22 +60,22 @@ use Rattle.js_cursor.proofs.Moving.{lexeme_some}
 use Rattle.js_parsing.specs.Answers.{Numbered, Stops, Underived, clean}
 use Rattle.js_parsing.specs.Classes.{IsEarly}
 use Rattle.js_parsing.specs.Heads.{NotedHeads}
-use Rattle.js_parsing.specs.Lexemes.{Faultless, IsNew, IsPattern, IsRight, KeptFor, KeptLast, Lex, News, NoneToEnd, TriviaKept, Walked, is_read, kept_before, nowhere, onward, read_again, read_kinds, slashes, spot, with_faults}
+use Rattle.js_parsing.specs.Lexemes.{Faultless, IsNew, IsReread, IsRight, KeptFor, KeptLast, Lex, News, NoneToEnd, TriviaKept, Walked, goal_for, is_read, kept_before, nowhere, onward, other_goals, read_again, read_kinds, signs_of, slashes, spot, with_faults}
 use Rattle.js_parsing.specs.Moves.{MadeHere, plain_label}
 use Rattle.js_parsing.specs.States.{At, IsPlain, whole, sign, nothing as none_stands, Same, flags_of}
 use Rattle.js_parsing.proofs.Beginning.{behind_first}
 use Rattle.js_parsing.proofs.Classes.{unexpected_ends}
 use Rattle.js_parsing.proofs.Dead.{live, lives}
 use Rattle.js_parsing.proofs.Giving.{kept_one}
-use Rattle.js_parsing.proofs.Here.{alike, no_pattern_token, told_plain}
+use Rattle.js_parsing.proofs.Here.{alike, plain_token, sign_here, told_plain}
 use Rattle.js_parsing.proofs.Kept.{kept_for, passing_so}
 use Rattle.js_parsing.proofs.KeptTokens.{again_before, again_last, before_next, trivia_kept}
 use Rattle.js_parsing.proofs.MadeNodes.{leaf_held, one_lies}
 use Rattle.js_parsing.proofs.Moving.{flags_same, heads_kept, nodes_lie}
 use Rattle.js_parsing.proofs.Paths.{Path, ◌⟼◌, at_kinds, label_here, noded, reads, walked_to}
-use Rattle.js_parsing.proofs.Slashes.{SlashThere, pattern_goal, slash_there}
+use Rattle.js_parsing.proofs.Slashes.{SignThere, pattern_goal, sign_there}
 use Rattle.js_parsing.proofs.Signs.{whole_sign}
-use Rattle.js_parsing.proofs.ToEnd.{no_slash, to_end_none}
+use Rattle.js_parsing.proofs.ToEnd.{to_end_none}
 use Rattle.js_parsing.proofs.Unbuilt.{nothing_unbuilt}
 use Rattle.js_parsing.proofs.Verdicts.{grown_then}
 use Rattle.js_operands.proofs.FlagFaults.{are_right, none_wrong}
@@ -107,7 +107,7 @@ by_sign P k h a b = go (slash_kinds k h)
 
 -- the token is none
 pub no_pattern_here : {text : List ℕ} {f : Flags} {p : Parser} → At text f p → p.token.kind ≡ RegExp → ⊥
-no_pattern_here a e = false≢true (sym (no_pattern_token a.plain) ∙ ap (same_kind RegExp) e)
+no_pattern_here a e = false≢true (sym (plain_token a.plain) ∙ ap (one_of_kinds other_goals) e)
 
 -- ---- the flags of a regular expression
 
@@ -144,8 +144,8 @@ any_goal h k = pattern_goal (record { trivia = h.trivia; goal = h.goal; word = h
 read_slash : (k : Kind) → one_of_kinds slashes k ≡ true → one_of_kinds read_kinds k ≡ true
 read_slash k h = by_sign (λ j. one_of_kinds read_kinds j ≡ true) k h refl refl
 
-no_pattern_sign : (k : Kind) → one_of_kinds slashes k ≡ true → same_kind RegExp k ≡ false
-no_pattern_sign k h = by_sign (λ j. same_kind RegExp j ≡ false) k h refl refl
+plain_sign_of : (k : Kind) → one_of_kinds slashes k ≡ true → one_of_kinds other_goals k ≡ false
+plain_sign_of k h = by_sign (λ j. one_of_kinds other_goals j ≡ false) k h refl refl
 
 -- The faults of the flags were kept: the lexeme has none exactly where none was, if what stands before it has none.
 pattern_so : (source : Goal) (at_end : ℕ) {text : List ℕ} {s : ℕ} {y : Lexeme} {t : Token} {faults : List Diagnostic} → IsUtf8 text → IsCharBoundary text s → (h : StandsBehind all_faults text s y) → y.kind ≡ RegExp → IsTrue (is_read y) → Tells y t → FlagsStand text at_end t faults
@@ -168,9 +168,10 @@ pattern_so source at_end {text} {s} {y} {t} {faults} u b h k r e x = (right, wro
 
     right : faults ≡ [] → IsRight source text s → Faultless source text s y
     right z sound =
-        let l = slash_there h k in
-        let n : IsTrue (is_read l.lexeme) = and_from _ _ (read_slash l.lexeme.kind l.is) (ap not l.escaped ∙ (and_parts (one_of_kinds read_kinds y.kind) (not y.escaped) r).1) in
-        let f = sound l.lexeme (l.stands.lex, n) (no_pattern_sign l.lexeme.kind l.is) in
+        let l = sign_there h (ap (one_of_kinds other_goals) k) in
+        let slash : one_of_kinds slashes l.lexeme.kind ≡ true = subst (λ (v : Kind). one_of_kinds (signs_of v) l.lexeme.kind ≡ true) k l.is in
+        let n : IsTrue (is_read l.lexeme) = and_from _ _ (read_slash l.lexeme.kind slash) (ap not l.escaped ∙ (and_parts (one_of_kinds read_kinds y.kind) (not y.escaped) r).1) in
+        let f = sound l.lexeme (l.stands.lex, n) (plain_sign_of l.lexeme.kind slash) in
         let c : comments_pass (passing_of source) h.trivia ≡ true = subst (λ (ps : List (List ℕ)). comments_pass (passing_of source) ps ≡ true) (stands-same f.0.stands h.stands).pieces f.0.comments in
         let w : flags_pass (flags h.word) ≡ true = ap flags_pass are ∙ are_right at_end stand.0 (sym stand.3 ∙ z) in
         (passing_so h c (subst (λ (j : Kind). flags_right (passing_of source) j h.word ≡ true) (sym k) (flags_of_goal source h.word w)), r)
@@ -220,15 +221,25 @@ module _ {text : List ℕ} {f : Flags} {p q : Parser} {at_end : ℕ} (a : At tex
   abbrev operand_kinds : Look
   operand_kinds k w e = starts first (live (rule (at Primary f))) (after (at Primary f)).base k w e
 
+  -- no other lexeme of another goal begins with it
+  pattern_of : (k : Kind) → one_of_kinds other_goals k ≡ true → one_of_kinds (signs_of k) p.token.kind ≡ true → k ≡ RegExp
+  pattern_of k h s =
+      first_or (λ (v : Kind). one_of_kinds (signs_of v) p.token.kind ≡ true → v ≡ RegExp) RegExp k _ _ refl h (λ s. refl) (λ h.
+      first_or (λ (v : Kind). one_of_kinds (signs_of v) p.token.kind ≡ true → v ≡ RegExp) TemplateMiddle k _ _ refl h (λ s. absurd (no_brace s)) (λ h.
+      first_or (λ (v : Kind). one_of_kinds (signs_of v) p.token.kind ≡ true → v ≡ RegExp) TemplateTail k _ _ refl h (λ s. absurd (no_brace s)) (λ h. absurd (false≢true h)))) s
+    where
+      no_brace : one_of_kinds (RCurly ∷ []) p.token.kind ≡ true → ⊥
+      no_brace b = false≢true (sym (by_sign (λ j. one_of_kinds (RCurly ∷ []) j ≡ false) p.token.kind u refl refl) ∙ b)
+
   no_operand : ((y : Lexeme) → Lex text p.prev_token_end y → y.kind ≡ RegExp → ⊥) → Underived text (at Primary f) p.prev_token_end
   unfolding rule rule_of covers apart
-  no_operand n = fails_by (lives (rule (at Primary f)) ▹✗ fails_here firsts (λ y l s. go y l s (same_kind RegExp y.kind) refl))
+  no_operand n = fails_by (lives (rule (at Primary f)) ▹✗ fails_here firsts (λ y l s. go y l s (one_of_kinds other_goals y.kind) refl))
     where
       a_sign : Look
       a_sign k w e = one_of_kinds slashes k
 
-      go : (y : Lexeme) → Lex text p.prev_token_end y → IsTrue (operand_kinds y.kind y.newline y.escaped) → (b : Bool) → same_kind RegExp y.kind ≡ b → ⊥
-      go y l s true e = n y l (sym (kind_of_same RegExp y.kind e))
+      go : (y : Lexeme) → Lex text p.prev_token_end y → IsTrue (operand_kinds y.kind y.newline y.escaped) → (b : Bool) → one_of_kinds other_goals y.kind ≡ b → ⊥
+      go y l s true e = n y l (pattern_of y.kind e (sign_here a y l e))
       go y l s false e = not_both a_sign operand_kinds refl y.kind y.newline y.escaped (subst (λ (k : Kind). one_of_kinds slashes k ≡ true) (told_plain a uncut_here y e l).kind u) s
 
   -- where none is read, none stands there
@@ -325,7 +336,7 @@ module _ {text : List ℕ} {f : Flags} {p q : Parser} {at_end : ℕ} (a : At tex
       }
         where
           meets_so : NoneToEnd text r.prev_token_end → NoneToEnd text p.prev_token_end
-          meets_so z = to_end_none (λ x l. let k = no_slash x.kind l.2 in false≢true (sym k.1 ∙ subst (λ (v : Kind). one_of_kinds slashes v ≡ true) (told_plain a uncut_here x k.0 l.0).kind u))
+          meets_so z = to_end_none (λ x l. false≢true (sym l.3 ∙ subst (λ (v : Kind). one_of_kinds slashes v ≡ true) (told_plain a uncut_here x l.2 l.0).kind u))
 
       nodes : r.nodes ≡ p.nodes
       nodes = m.stays.nodes ∙ h.stays.nodes
@@ -356,10 +367,10 @@ module _ {text : List ℕ} {f : Flags} {p q : Parser} {at_end : ℕ} (a : At tex
         trivia = there (λ v j. TriviaKept v j news.comments news.blanks) (trivia_kept m.next);
       }
 
-      is_pattern : IsPattern text (spot p) y h.faults
+      is_pattern : IsReread text (spot p) y h.faults
       is_pattern =
           let x = pattern_so (goal p) at_end {faults = h.going_on} a_utf8 a_between stood kind read_so given.1.tells (subst (λ (t : List ℕ). FlagsStand t at_end q.token h.going_on) a.text_is i.flags) in
-          record { is = kind; none = subst (λ (ds : List Diagnostic). ds ≡ [] → IsRight (goal p) text p.prev_token_end → Faultless (goal p) text p.prev_token_end y) (sym given.0) x.0; some = subst (λ (ds : List Diagnostic). (ds ≡ [] → ⊥) → Faultless (goal p) text p.prev_token_end y → ⊥) (sym given.0) x.1 }
+          record { is = ap (one_of_kinds other_goals) kind; none = subst (λ (ds : List Diagnostic). ds ≡ [] → IsRight (goal p) text p.prev_token_end → Faultless (goal p) text p.prev_token_end y) (sym given.0) x.0; some = subst (λ (ds : List Diagnostic). (ds ≡ [] → ⊥) → Faultless (goal p) text p.prev_token_end y → ⊥) (sym given.0) x.1 }
         where
           a_utf8 : IsUtf8 text
           a_utf8 = subst IsUtf8 a.text_is a.at.utf8
@@ -389,7 +400,7 @@ module _ {text : List ℕ} {f : Flags} {p q : Parser} {at_end : ℕ} (a : At tex
       reads_one : {X : Test} → Reads rule (Lex text) X end (tok RegExp) p.prev_token_end r.prev_token_end (λ us. us) (passing y)
       reads_one {X} = subst (λ (v : ℕ). Reads rule (Lex text) X end (lexeme (is RegExp)) p.prev_token_end v (λ us. us) (passing y)) ends
           (reads_lexeme (is RegExp) (stood, read_so) (and_from _ _ (subst (λ (k : Kind). same_kind RegExp k ≡ true) (sym kind) refl) (ap not plain))
-          (λ z l t. alike l (stood, read_so) ((and_parts (same_kind RegExp z.kind) (not z.escaped) t).0 ∙ sym (ap (same_kind RegExp) kind))))
+          (λ z l t. alike l (stood, read_so) (sym (ap goal_for (kind_of_same RegExp z.kind (and_parts (same_kind RegExp z.kind) (not z.escaped) t).0)) ∙ sym (ap goal_for kind))))
 
       path : Path text f (after (at Primary f)) (rule (at Primary f)) p nothing r (tree (label_here reg_exp_literal no_op p r) end)
       unfolding rule rule_of covers apart

@@ -65,7 +65,7 @@ none_kept in_script b ps s q h = subst (λ (v : Bool). each_at (html_fault_at v)
 none_kept all_faults b ps s q h = subst (λ (v : Bool). each_at (html_fault_at v) s ps ≡ []) (sym q) (never_kept ps s)
 
 -- of what is no regular expression no flag is wrong
-no_flags : (m : Passing) (k : Kind) (w : List ℕ) → same_kind RegExp k ≡ false → flags_right m k w ≡ true
+pub no_flags : (m : Passing) (k : Kind) (w : List ℕ) → same_kind RegExp k ≡ false → flags_right m k w ≡ true
 no_flags all_faults k w h = refl
 no_flags in_script k w h = ap (λ (b : Bool). not b || flags_pass (flags w)) h
 no_flags in_module k w h = ap (λ (b : Bool). not b || flags_pass (flags w)) h

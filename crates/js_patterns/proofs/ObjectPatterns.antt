@@ -30,11 +30,11 @@ use Rattle.js_cursor.specs.Moves.{Expects, IsKind}
 use Rattle.js_cursor.specs.declared.stop.Stop.{Stop}
 use Rattle.js_operands.specs.PropertyNames.{NameRead, NoName}
 use Rattle.js_operands.proofs.Members.{name_taken}
-use Rattle.js_operands.proofs.Operands.{plain_leaf, name_slashless}
+use Rattle.js_operands.proofs.Operands.{plain_leaf, name_signless}
 use Rattle.js_operands.proofs.PropertyNames.{literal_kinds, word_named}
 use Rattle.js_parsing.specs.Answers.{Underived, Answer, Numbered, Stops}
 use Rattle.js_parsing.specs.Arguments.{behind_item, ItemTaken, NoItem, PartTaken}
-use Rattle.js_parsing.specs.Lexemes.{Lex, may_name, name_kinds, slashes}
+use Rattle.js_parsing.specs.Lexemes.{Lex, may_name, name_kinds, signs}
 use Rattle.js_parsing.specs.Moves.{Moved, MadeHere, LeafTaken, TakesLeaf, plain_label}
 use Rattle.js_parsing.specs.Stands.{NameHere, StandsHere}
 use Rattle.js_parsing.specs.Nesting.{CanNest, room}
@@ -100,7 +100,7 @@ module _ {text : List ℕ} {f : Flags} {p q : Parser} (a : At text f p) (k : one
 
   -- the lexeme that stands here is the one that was passed
   is_it : (y : Lexeme) → Lex text p.prev_token_end y → y ≡ m.lexeme
-  is_it y l = one_read a (name_slashless p.token.kind k) l (m.stood, plain_leaf p.token.kind refl e (name_read p.token.kind k) m)
+  is_it y l = one_read a (name_signless p.token.kind k) l (m.stood, plain_leaf p.token.kind refl e (name_read p.token.kind k) m)
 
   named_kind : (y : Lexeme) → Lex text p.prev_token_end y → one_of_kinds name_kinds y.kind ≡ true
   named_kind y l = subst (λ (v : Kind). one_of_kinds name_kinds v ≡ true) (m.tells.kind ∙ sym (ap (λ (z : Lexeme). z.kind) (is_it y l))) k

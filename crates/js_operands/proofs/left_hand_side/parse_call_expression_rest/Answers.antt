@@ -19,29 +19,5 @@ returns-in_err-left t c = λ text f o a e x n.
 pub links-init : goal.links-init
 links-init t c = next_loop (start_loop c.requires.at c.requires.start) c.in_ok-left.ensures (λ text f o a e x. call_first a x (stands_so c.args.p.now LParen c.if-not-stands.false c.stands.ensures) e (c.in_ok-left.ensures text f x.at))
 
-pub parse_link-requires-in-links-clause-at : goal.parse_link-requires-in-links-clause-at
-parse_link-requires-in-links-clause-at t c = c.links.invariant.at
-
-pub parse_link-requires-in-links-clause-nests : goal.parse_link-requires-in-links-clause-nests
-parse_link-requires-in-links-clause-nests t c = nests_later c.requires.nests c.links.invariant.later
-
-pub parse_link-requires-in-links-clause-start : goal.parse_link-requires-in-links-clause-start
-parse_link-requires-in-links-clause-start t c = c.links.invariant.before
-
-pub parse_link-requires-in-links-clause-link : goal.parse_link-requires-in-links-clause-link
-parse_link-requires-in-links-clause-link t c = here_so c.links.p base.Call c.links-test.true c.link_here.ensures
-
-pub returns-in_err-left-2 : goal.returns-in_err-left-2
-returns-in_err-left-2 t c = λ text f o a e x n.
-    let p = err_from_is_err_and c.from_residual-in_err-left-2.result c.from_residual-in_err-left-2.ensures.1 in
-    let z = c.links.invariant.goes text f o a e x in
-    rw (p.1, p.2) (call_stops z (here_so c.links.p base.Call c.links-test.true c.link_here.ensures) _ _ (c.in_err-left-2.ensures text f z.at))
-
-pub links-smaller : goal.links-smaller
-links-smaller t c = link_less c.links.invariant.at (c.in_ok-left-2.ensures _ _ c.links.invariant.at)
-
-pub links-preserved : goal.links-preserved
-links-preserved t c = next_loop c.links.invariant c.in_ok-left-2.ensures (λ text f o a e x. let z = c.links.invariant.goes text f o a e x in call_linked z (here_so c.links.p base.Call c.links-test.true c.link_here.ensures) e (c.in_ok-left-2.ensures text f z.at))
-
 pub returns : goal.returns
-returns t c = λ text f o a e x n. call_closed (c.links.invariant.goes text f o a e x) (here_so c.links.p base.Call c.links-test.false c.link_here.ensures)
+returns t c = λ text f o a e x n. call_closed (c.links.invariant.goes text f o a e x) (goes_on_so c.links.p base.Call c.links-test.false c.goes_on.ensures)
