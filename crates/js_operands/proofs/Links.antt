@@ -135,14 +135,17 @@ another a n y l e = n (sym (a y l).0 ∙ e)
 abbrev pub tagged : Flags → Link Symbol
 tagged f = link tagged_template_expression no_op 0 (such (at Template f) always)
 
+-- neither a member, a call nor a chain ends before a template
+member_apart : (f : Flags) (k : Kind) (l : Label) (cs : Slots) (w : Bool) → one_of_kinds heads k ≡ true → follow_of Member f.in_ (edge_of l cs) k w false ≡ false
+member_apart f k l cs w h = first_or (λ (v : Kind). follow_of Member f.in_ (edge_of l cs) v w false ≡ false) NoSubstitutionTemplate k _ _ refl h refl (λ h. first_or (λ (v : Kind). follow_of Member f.in_ (edge_of l cs) v w false ≡ false) TemplateHead k _ _ refl h refl (λ h. absurd (false≢true h)))
+
+call_apart : (f : Flags) (k : Kind) (l : Label) (cs : Slots) (w : Bool) → one_of_kinds heads k ≡ true → follow_of Call f.in_ (edge_of l cs) k w false ≡ false
+call_apart f k l cs w h = first_or (λ (v : Kind). follow_of Call f.in_ (edge_of l cs) v w false ≡ false) NoSubstitutionTemplate k _ _ refl h refl (λ h. first_or (λ (v : Kind). follow_of Call f.in_ (edge_of l cs) v w false ≡ false) TemplateHead k _ _ refl h refl (λ h. absurd (false≢true h)))
+
+template_apart : (f : Flags) (k : Kind) (l : Label) (cs : Slots) (w : Bool) → one_of_kinds heads k ≡ true → follow_of Links f.in_ (edge_of l cs) k w false ≡ false
+template_apart f k l cs w h = first_or (λ (v : Kind). follow_of Links f.in_ (edge_of l cs) v w false ≡ false) NoSubstitutionTemplate k _ _ refl h refl (λ h. first_or (λ (v : Kind). follow_of Links f.in_ (edge_of l cs) v w false ≡ false) TemplateHead k _ _ refl h refl (λ h. absurd (false≢true h)))
+
 module _ {text : List ℕ} (f : Flags) where
-  -- neither a member nor a call ends before a template
-  member_apart : (k : Kind) (l : Label) (cs : Slots) (w : Bool) → one_of_kinds heads k ≡ true → follow_of Member f.in_ (edge_of l cs) k w false ≡ false
-  member_apart k l cs w h = first_or (λ (v : Kind). follow_of Member f.in_ (edge_of l cs) v w false ≡ false) NoSubstitutionTemplate k _ _ refl h refl (λ h. first_or (λ (v : Kind). follow_of Member f.in_ (edge_of l cs) v w false ≡ false) TemplateHead k _ _ refl h refl (λ h. absurd (false≢true h)))
-
-  call_apart : (k : Kind) (l : Label) (cs : Slots) (w : Bool) → one_of_kinds heads k ≡ true → follow_of Call f.in_ (edge_of l cs) k w false ≡ false
-  call_apart k l cs w h = first_or (λ (v : Kind). follow_of Call f.in_ (edge_of l cs) v w false ≡ false) NoSubstitutionTemplate k _ _ refl h refl (λ h. first_or (λ (v : Kind). follow_of Call f.in_ (edge_of l cs) v w false ≡ false) TemplateHead k _ _ refl h refl (λ h. absurd (false≢true h)))
-
   -- ---- members
 
   member_foot : {X : Test} {s : ℕ} → Goes rule (Lex text) X end (base_of is_member Member f) s (alt (such (at Primary f) always) (new_with f)) s (λ us. us) (still 0)
@@ -213,11 +216,11 @@ module _ {text : List ℕ} (f : Flags) where
   pub member_template : {s s' s'' from : ℕ} {l : Label} {cs : Slots} {pass more : Lexemes → Lexemes} {h : Slots → Slots} (k : Kind) → one_of_kinds heads k ≡ true → Looped text (members f) (after (at Member f)) s from l cs pass s' → AllAre text s' k → s' ≤ s'' → Stretch text (plain full) (tagged f).part s' nothing s'' h more
       → Looped text (members f) (after (at Member f)) s from (tagged_label from s'') (tree l cs (h end)) (λ ls. pass (more ls)) s''
   unfolding member_links rule_of covers
-  member_template {l = l} {cs = cs} k i x z o y = record { reach = max x.reach y.reach; near = let i = x.near in let j = y.near in omega arith; around = chain_step_by firsts (climbs is_member Member f) (member_links f) {F' = full} k x.around (λ y i. (z y i).0) (search (this, of_left, of_right) depth 14) (template_access k i) (not_before_access k l cs (λ w. member_apart k l cs w i) z) y.goes refl refl }
+  member_template {l = l} {cs = cs} k i x z o y = record { reach = max x.reach y.reach; near = let i = x.near in let j = y.near in omega arith; around = chain_step_by firsts (climbs is_member Member f) (member_links f) {F' = full} k x.around (λ y i. (z y i).0) (search (this, of_left, of_right) depth 14) (template_access k i) (not_before_access k l cs (λ w. member_apart f k l cs w i) z) y.goes refl refl }
 
   pub member_template_fails : {s s' from : ℕ} {l : Label} {cs : Slots} {pass : Lexemes → Lexemes} (k : Kind) → one_of_kinds heads k ≡ true → Looped text (members f) (after (at Member f)) s from l cs pass s' → AllAre text s' k → Fails rule (Lex text) (plain full) end (tagged f).part s' → Underived text (at Member f) s
   unfolding member_links rule_of covers
-  member_template_fails {l = l} {cs = cs} k i a z r = chain_step_fails_by firsts (climbs is_member Member f) (member_links f) {F' = full} {x = tagged f} k a.around (λ y i. (z y i).0) (search (this, of_left, of_right) depth 14) (template_access k i) (not_before_access k l cs (λ w. member_apart k l cs w i) z) (λ l cs vs y e. e) r refl refl
+  member_template_fails {l = l} {cs = cs} k i a z r = chain_step_fails_by firsts (climbs is_member Member f) (member_links f) {F' = full} {x = tagged f} k a.around (λ y i. (z y i).0) (search (this, of_left, of_right) depth 14) (template_access k i) (not_before_access k l cs (λ w. member_apart f k l cs w i) z) (λ l cs vs y e. e) r refl refl
 
   -- no access stands here
   pub member_end : {s s' from : ℕ} {l : Label} {cs : Slots} {pass : Lexemes → Lexemes} → Looped text (members f) (after (at Member f)) s from l cs pass s' → ((y : Lexeme) → Lex text s' y → one_of_kinds access_kinds y.kind ≡ false) → Stretch text (after (at Member f)) (such (at Member f) always) s nothing s' (tree l cs) pass
@@ -336,11 +339,11 @@ module _ {text : List ℕ} (f : Flags) where
   pub call_template : {s s' s'' from : ℕ} {l : Label} {cs : Slots} {pass more : Lexemes → Lexemes} {h : Slots → Slots} (k : Kind) → one_of_kinds heads k ≡ true → Looped text (calls f) (after (at Call f)) s from l cs pass s' → AllAre text s' k → s' ≤ s'' → Stretch text (plain full) (tagged f).part s' nothing s'' h more
       → Looped text (calls f) (after (at Call f)) s from (tagged_label from s'') (tree l cs (h end)) (λ ls. pass (more ls)) s''
   unfolding call_links rule_of covers
-  call_template {l = l} {cs = cs} k i x z o y = record { reach = max x.reach y.reach; near = let i = x.near in let j = y.near in omega arith; around = chain_step_by firsts (climbs is_call Call f) (call_links f) {F' = full} k x.around (λ y i. (z y i).0) (search (this, of_left, of_right) depth 14) (template_call k i) (not_before_call k l cs (λ w. call_apart k l cs w i) z) y.goes refl refl }
+  call_template {l = l} {cs = cs} k i x z o y = record { reach = max x.reach y.reach; near = let i = x.near in let j = y.near in omega arith; around = chain_step_by firsts (climbs is_call Call f) (call_links f) {F' = full} k x.around (λ y i. (z y i).0) (search (this, of_left, of_right) depth 14) (template_call k i) (not_before_call k l cs (λ w. call_apart f k l cs w i) z) y.goes refl refl }
 
   pub call_template_fails : {X : Test} {s s' from : ℕ} {l : Label} {cs : Slots} {pass : Lexemes → Lexemes} (k : Kind) → one_of_kinds heads k ≡ true → Heads X (after (at Call f)) → Looped text (calls f) (after (at Call f)) s from l cs pass s' → AllAre text s' k → Fails rule (Lex text) (plain full) end (tagged f).part s' → Fails rule (Lex text) X end (such (at Call f) always) s
   unfolding call_links rule_of covers
-  call_template_fails {l = l} {cs = cs} k i p x z r = chain_step_fails_by firsts (climbs is_call Call f) (call_links f) {F' = full} {x = tagged f} k x.around (λ y i. (z y i).0) (search (this, of_left, of_right) depth 14) (template_call k i) (not_before_call k l cs (λ w. call_apart k l cs w i) z) p r refl refl
+  call_template_fails {l = l} {cs = cs} k i p x z r = chain_step_fails_by firsts (climbs is_call Call f) (call_links f) {F' = full} {x = tagged f} k x.around (λ y i. (z y i).0) (search (this, of_left, of_right) depth 14) (template_call k i) (not_before_call k l cs (λ w. call_apart f k l cs w i) z) p r refl refl
 
   pub call_ends : {s s' from : ℕ} {l : Label} {cs : Slots} {pass : Lexemes → Lexemes} → Looped text (calls f) (after (at Call f)) s from l cs pass s' → ((y : Lexeme) → Lex text s' y → one_of_kinds call_kinds y.kind ≡ false) → Stretch text (after (at Call f)) (such (at Call f) always) s nothing s' (tree l cs) pass
   call_ends a n = record { reach = a.reach; near = a.near; goes = chain_end firsts (climbs is_call Call f) (call_links f) (λ l cs vs y e. e) a.around (λ y l t. false≢true (sym (n y l) ∙ covered (λ k w e. linked_starts firsts (call_links f) k w e && reads k w e) (λ k w e. one_of_kinds call_kinds k) (call_starts f) y.kind y.newline y.escaped (and_from _ _ t l.1))) }
@@ -478,16 +481,13 @@ module _ {text : List ℕ} (f : Flags) where
     chain_step_fails by_index false z r = no_chain (chain_step_fails_by firsts (climbs is_links Links f) (chain_links f) {F' = full} {x = chained f by_index false} LBrack x.around (λ y i. (z y i).0) (search (this, of_left, of_right) depth 14) bracket_link (not_before_link LBrack l cs (λ w. refl) z) (λ l cs vs y e. e) (r by_index false) refl refl)
 
   -- where a template stands, no link of a chain can be read
-  template_apart : (k : Kind) (l : Label) (cs : Slots) (w : Bool) → one_of_kinds heads k ≡ true → follow_of Links f.in_ (edge_of l cs) k w false ≡ false
-  template_apart k l cs w h = first_or (λ (v : Kind). follow_of Links f.in_ (edge_of l cs) v w false ≡ false) NoSubstitutionTemplate k _ _ refl h refl (λ h. first_or (λ (v : Kind). follow_of Links f.in_ (edge_of l cs) v w false ≡ false) TemplateHead k _ _ refl h refl (λ h. absurd (false≢true h)))
-
   no_template_link : {s : ℕ} (k : Kind) → one_of_kinds heads k ≡ true → (x' : Link Symbol) → OneOf x' (beginning firsts (chain_links f) k) → (x' ≡ chained f by_name true) ⊎ Fails rule (Lex text) (plain full) end x'.part s
   unfolding chain_links rule_of apart
   no_template_link {s} k h = first_or (λ (v : Kind). (x' : Link Symbol) → OneOf x' (beginning firsts (chain_links f) v) → (x' ≡ chained f by_name true) ⊎ Fails rule (Lex text) (plain full) end x'.part s) NoSubstitutionTemplate k _ _ refl h (λ x' i. elim i [ ]) (λ h. first_or (λ (v : Kind). (x' : Link Symbol) → OneOf x' (beginning firsts (chain_links f) v) → (x' ≡ chained f by_name true) ⊎ Fails rule (Lex text) (plain full) end x'.part s) TemplateHead k _ _ refl h (λ x' i. elim i [ ]) (λ h. absurd (false≢true h)))
 
   pub chain_template_fails : {s s' from : ℕ} {l : Label} {cs : Slots} {pass : Lexemes → Lexemes} (k : Kind) → one_of_kinds heads k ≡ true → Looped text (chains f) (after (at Links f)) s from l cs pass s' → AllAre text s' k → ((c : LinkForm) (o : Bool) → Fails rule (Lex text) (plain full) end (chained f c o).part s') → Underived text (at Chain f) s
   unfolding chain_links rule_of covers
-  chain_template_fails {l = l} {cs = cs} k i x z r = no_chain (chain_step_fails_by firsts (climbs is_links Links f) (chain_links f) {F' = full} {x = chained f by_name true} k x.around (λ y i. (z y i).0) (search (this, of_left, of_right) depth 14) (no_template_link k i) (not_before_link k l cs (λ w. template_apart k l cs w i) z) (λ l cs vs y e. e) (r by_name true) refl refl)
+  chain_template_fails {l = l} {cs = cs} k i x z r = no_chain (chain_step_fails_by firsts (climbs is_links Links f) (chain_links f) {F' = full} {x = chained f by_name true} k x.around (λ y i. (z y i).0) (search (this, of_left, of_right) depth 14) (no_template_link k i) (not_before_link k l cs (λ w. template_apart f k l cs w i) z) (λ l cs vs y e. e) (r by_name true) refl refl)
 
   -- no link stands here
   pub chain_ends : {s s' from : ℕ} {l : Label} {cs : Slots} {pass : Lexemes → Lexemes} → Looped text (chains f) (after (at Links f)) s from l cs pass s' → ((y : Lexeme) → Lex text s' y → one_of_kinds link_kinds y.kind ≡ false) → Stretch text (after (at Links f)) (such (at Links f) always) s nothing s' (tree l cs) pass

@@ -32,6 +32,7 @@ use Rattle.js_grammar.proofs.First.{starts}
 use Rattle.js_grammar.proofs.FirstClaims.{firsts}
 use Rattle.js_grammar.proofs.FirstRules.{fails_here}
 use Rattle.js_grammar.proofs.FollowLaws.{fails_by}
+use Rattle.js_grammar.proofs.Lexemes.{first_or}
 use Rattle.js_grammar.proofs.Looks.{apart, covers, covered, not_both}
 use Rattle.js_grammar.specs.FirstSets.{first}
 use Rattle.js_lex.specs.Comments.{each_at, comment_at, irregular_at, html_fault_at}

@@ -54,7 +54,8 @@ use Rattle.js_cursor.specs.declared.stop.Stop.{Stop}
 use Rattle.js_cursor.specs.declared.stop.Stop.TheVariants.{Fatal, NoMemory}
 use Rattle.js_cursor.proofs.Later.{keeps_follows, passed_follows, read_again_follows, follows_on}
 use Rattle.js_cursor.proofs.Moving.{lexeme_some}
-use Rattle.js_parsing.specs.Answers.{Answer, Grown, Numbered, Outcome, Stops, Underived, clean, unclean}
+use Rattle.js_parsing.specs.Answers.{Answer, Grown, Numbered, Stops, Underived, clean, unclean}
+use Rattle.js_parsing.specs.Answers.{Outcome as Answered}
 use Rattle.js_parsing.specs.Arguments.{Partway}
 use Rattle.js_parsing.specs.Classes.{IsEarly}
 use Rattle.js_parsing.specs.Heads.{NotedHeads}
@@ -727,7 +728,7 @@ module _ {text : List ℕ} {f : Flags} {p : Parser} (a : At text f p) (h : one_o
     keeps = x.keeps;
   }
 
-pub template_outcome : (text : List ℕ) (f : Flags) (p q : Parser) (r : Result NodeId Stop) → At text f p → one_of_kinds heads p.token.kind ≡ true → TemplateOutcome text f p q r → Outcome text f (at Primary f) p q r
+pub template_outcome : (text : List ℕ) (f : Flags) (p q : Parser) (r : Result NodeId Stop) → At text f p → one_of_kinds heads p.token.kind ≡ true → TemplateOutcome text f p q r → Answered text f (at Primary f) p q r
 template_outcome text f p q (Ok id) a h x = as_primary a h x.read
 template_outcome text f p q (Err e) a h x = stops_so p q e (λ n. no_primary a h n) x
 

@@ -3,7 +3,7 @@ use Rattle.std.proofs.Common.{ℕ, ◌≡◌, ◌≤◌, ◌<◌, ◌⊎◌, inl
 use Rattle.std.specs.Prelude.{IsCharBoundary, IsUtf8}
 use Rattle.std.proofs.lemmas.Bool.{false≢true, and_parts, and_from}
 use Rattle.js_base.specs.declared.kind.Kind.{Kind}
-use Rattle.js_base.specs.declared.kind.Kind.TheVariants.{Eq, Comma, RBrack, RCurly, Question, RegExp}
+use Rattle.js_base.specs.declared.kind.Kind.TheVariants.{Eq, Comma, RBrack, RCurly, Question}
 use Rattle.js_base.specs.declared.span.Span.{Span}
 use Rattle.js_base.specs.Kinds.{same_kind, one_of_kinds}
 use Rattle.js_base.proofs.KindLemmas.{kind_of_same}
@@ -25,14 +25,14 @@ use Rattle.js_grammar.proofs.Behind.{lexed_behind}
 use Rattle.js_grammar.proofs.Calculus.{Between, Inside, inside_full, ends, label_is, slots_are, ◌▹◌, left, right, fails_alt, fails_node, then_by, part_fails}
 use Rattle.js_cursor.specs.Parsers.{Parser}
 use Rattle.js_parsing.specs.Answers.{Stretch, Underived}
-use Rattle.js_parsing.specs.Lexemes.{Lex}
+use Rattle.js_parsing.specs.Lexemes.{Lex, other_goals}
 use Rattle.js_targets.specs.Taken.{behind_target, target_name}
 use Rattle.js_targets.specs.Targets.{Each, Closed, Fits, Narrow, Shut, Spotted, in_literal, is_array, is_object, literal_kind, relabelled, pattern_kind, elements_in, places_in}
 use Rattle.js_targets.specs.declared.widening.Widening.{Widening}
 use Rattle.js_targets.specs.declared.widening.Widening.TheVariants.{Rest, RestTarget, Operator}
 use Rattle.js_targets.proofs.Spots.{literal_spots}
 use Rattle.js_targets.proofs.ArraysBeforeSigns.{before_others}
-use Rattle.js_parsing.proofs.Here.{alike}
+use Rattle.js_parsing.proofs.Here.{alike_plain}
 use Rattle.js_targets.proofs.LiteralsAsTargets.{Targeted, literal_target, bracket_plain}
 use Rattle.js_targets.proofs.Targets.{by_primary, is_literal_kind, may_literal, of_short}
 use Rattle.js_targets.proofs.TargetsAsLiterals.{literal_back}
@@ -41,7 +41,7 @@ use Rattle.js_targets.proofs.TargetsAsLiterals.{literal_back}
 
 shut_narrow : (text : List ℕ) (ws : List Widening) → Each (Shut text) ws → Each (Narrow text) ws
 shut_narrow text [] h = tt
-shut_narrow text (Rest s ∷ ws) h = (λ y l k. false≢true (ap (one_of_kinds (RBrack ∷ RCurly ∷ [])) (sym k ∙ ap (λ (z : Lexeme). z.kind) (alike l h.0.stands (ap (same_kind RegExp) k ∙ sym (bracket_plain h.0.bracket.kind h.0.is)))) ∙ h.0.is), shut_narrow text ws h.1)
+shut_narrow text (Rest s ∷ ws) h = (λ y l k. false≢true (ap (one_of_kinds (RBrack ∷ RCurly ∷ [])) (sym k ∙ ap (λ (z : Lexeme). z.kind) (alike_plain l h.0.stands (ap (one_of_kinds other_goals) k) (bracket_plain h.0.bracket.kind h.0.is))) ∙ h.0.is), shut_narrow text ws h.1)
 shut_narrow text (RestTarget s ∷ ws) h = absurd h.0
 shut_narrow text (Operator s ∷ ws) h = absurd h.0
 

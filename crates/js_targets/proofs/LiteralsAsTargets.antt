@@ -2,7 +2,7 @@
 use Rattle.std.proofs.Common.{ℕ, ◌≡◌, ◌⊎◌, inl, inr, Bool, true, false, cond, not, ◌&&◌, ◌||◌, IsTrue, List, [], ◌∷◌, ◌++◌, Option, Some, None, refl, sym, ap, subst, ◌∙◌}
 use Rattle.std.proofs.lemmas.Bool.{false≢true, and_parts, or_left, or_right}
 use Rattle.js_base.specs.declared.kind.Kind.{Kind}
-use Rattle.js_base.specs.declared.kind.Kind.TheVariants.{Eq, Colon, Comma, Dot3, LBrack, RBrack, LCurly, RCurly, RegExp}
+use Rattle.js_base.specs.declared.kind.Kind.TheVariants.{Eq, Colon, Comma, Dot3, LBrack, RBrack, LCurly, RCurly}
 use Rattle.js_base.specs.Kinds.{same_kind, one_of_kinds}
 use Rattle.js_base.proofs.KindLemmas.{kind_of_same}
 use Rattle.js_grammar.specs.Trees.{NodeKind, Op, Span, Label, Slots, end, hole, tree, Tree, of, no_op, init, assignment_expression, spread_element, function_expression, array_assignment_target, object_assignment_target, assignment_target_rest, assignment_target_with_default, assignment_target_property_identifier, assignment_target_property_property, append}
@@ -18,7 +18,7 @@ use Rattle.js_grammar.proofs.Behind.{lexed_behind}
 use Rattle.js_grammar.proofs.Calculus.{here_at}
 use Rattle.js_cursor.proofs.Moving.{reached_next}
 use Rattle.js_operands.specs.Arrays.{elements}
-use Rattle.js_parsing.specs.Lexemes.{Lex}
+use Rattle.js_parsing.specs.Lexemes.{Lex, other_goals}
 use Rattle.js_operands.proofs.RegularExpressions.{characters}
 use Rattle.js_grammar.proofs.Looks.{apart, not_both}
 use Rattle.std.specs.Prelude.{IsUtf8, IsCharBoundary}
@@ -42,19 +42,19 @@ lexeme_between {text} {s} {y} u b l =
 abbrev closes_a_literal : Look
 closes_a_literal k w e = one_of_kinds (RBrack ∷ RCurly ∷ []) k
 
-abbrev a_regular_expression : Look
-a_regular_expression k w e = same_kind RegExp k
+abbrev of_another_goal : Look
+of_another_goal k w e = one_of_kinds other_goals k
 
-no_pattern_closes : apart closes_a_literal a_regular_expression ≡ true
+no_other_closes : apart closes_a_literal of_another_goal ≡ true
 unfolding apart
-no_pattern_closes = refl
+no_other_closes = refl
 
--- what closes a literal is no regular expression
-pub bracket_plain : (k : Kind) → one_of_kinds (RBrack ∷ RCurly ∷ []) k ≡ true → same_kind RegExp k ≡ false
-bracket_plain k h = go (same_kind RegExp k) refl
+-- what closes a literal is of the plain lexical goal
+pub bracket_plain : (k : Kind) → one_of_kinds (RBrack ∷ RCurly ∷ []) k ≡ true → one_of_kinds other_goals k ≡ false
+bracket_plain k h = go (one_of_kinds other_goals k) refl
   where
-    go : (b : Bool) → same_kind RegExp k ≡ b → same_kind RegExp k ≡ false
-    go true e = absurd (not_both closes_a_literal a_regular_expression no_pattern_closes k false false h e)
+    go : (b : Bool) → one_of_kinds other_goals k ≡ b → one_of_kinds other_goals k ≡ false
+    go true e = absurd (not_both closes_a_literal of_another_goal no_other_closes k false false h e)
     go false e = e
 
 -- lexemes that are reached from the text's start
