@@ -556,7 +556,7 @@ template_fails : {text : List ℕ} (f : Flags) {s : ℕ} → Underived text (at 
 template_fails f n = weaken_fails n (λ ts y e. (refl, refl))
 
 tagged_taken : {text : List ℕ} {f : Flags} {C D : Label → Slots → (Lexemes → Lexemes) → ℕ → Type 0} {A : Type 0} {o p w : Parser} {left id : NodeId} {start : ℕ} (x : Taken text f o p left C A) → start ≡ o.token.span.start → (y : Templated text f start left p w id)
-    → ({h : Slots → Slots} (pass : Lexemes → Lexemes) → C x.label x.slots x.pass p.prev_token_end → p.prev_token_end ≤ y.behind.prev_token_end → Stretch text (plain full) (such (at Template f) always) p.prev_token_end nothing y.behind.prev_token_end h pass → D (tagged_label o.token.span.start y.behind.prev_token_end) (tree x.label x.slots (h end)) (λ ls. x.pass (pass ls)) y.behind.prev_token_end)
+    → ((pass : Lexemes → Lexemes) → C x.label x.slots x.pass p.prev_token_end → p.prev_token_end ≤ y.behind.prev_token_end → Stretch text (plain full) (such (at Template f) always) p.prev_token_end nothing y.behind.prev_token_end (tree y.taken.answer.label y.taken.answer.slots) pass → D (tagged_label o.token.span.start y.behind.prev_token_end) (tree x.label x.slots (tree y.taken.answer.label y.taken.answer.slots end)) (λ ls. x.pass (pass ls)) y.behind.prev_token_end)
     → (C x.label x.slots x.pass p.prev_token_end → Fails rule (Lex text) (plain full) end (such (at Template f) always) p.prev_token_end → A) → Taken text f o w id D A
 tagged_taken {o = o} {p = p} {w = w} {left = left} {id = id} x e y good bad =
     step_taken x (template_path y.taken) y.taken.answer.same y.taken.keeps (HoldsAll-next y.template y.taken.keeps (HoldsAll-one left x.holds) y.taken.holds)

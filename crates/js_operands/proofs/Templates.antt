@@ -25,7 +25,7 @@ use Rattle.js_grammar.specs.Productions.{Expression, Flags, G, Primary, Symbol, 
 use Rattle.js_grammar.specs.Productions.{sym as symbol}
 use Rattle.js_grammar.specs.Follow.{after}
 use Rattle.js_grammar.specs.Settings.{Goal}
-use Rattle.js_grammar.proofs.Calculus.{Between, ◌▹◌, ◌▹✗◌, by_rule, weaken, weaken_fails, here_at, inside_full, makes_by, part_fails, reads_lexeme, same, then_by}
+use Rattle.js_grammar.proofs.Calculus.{Between, ◌▹◌, ◌▹✗◌, by_rule, fails_node, weaken, weaken_fails, here_at, inside_full, makes_by, part_fails, reads_lexeme, same, then_by}
 use Rattle.js_grammar.proofs.First.{starts}
 use Rattle.js_grammar.proofs.FirstClaims.{firsts}
 use Rattle.js_grammar.proofs.FirstRules.{by_first, fails_here, picks}
@@ -80,7 +80,7 @@ use Rattle.js_parsing.proofs.Paths.{at_kind, at_kinds, fails_at, label_here, nod
 use Rattle.js_parsing.proofs.Signs.{closing_there, plain_of, span_is}
 use Rattle.js_parsing.proofs.Told.{told_at, told_same}
 use Rattle.js_parsing.proofs.ToEnd.{to_end_none, to_end_passed, to_end_stays}
-use Rattle.js_parsing.proofs.Verdicts.{grown_then, verdict_of}
+use Rattle.js_parsing.proofs.Verdicts.{either_way, grown_then, verdict_of}
 use Rattle.js_parsing.proofs.Verdicts.{after as grown_behind}
 use Rattle.js_operands.specs.Members.{LinkForm, NoLink, Taken, by_call, by_index, by_name}
 use Rattle.js_operands.specs.Templates.{BeginsPart, NoTail, PartAt, PartBegun, PartTaken, Tagged, TakesPart, TellsTemplate, TemplateOutcome, TemplateTaken, Templated, element_label, heads, inside_end, left_of, literal, parts, tagged_label, tail_of, LastIs, last_parts}
@@ -316,14 +316,14 @@ part_taken {text} {f} {p} {q} {w} {id} last s m l b c n e = subst (λ (z : Parse
 
 -- ---- the grammar of the parts
 
-module _ {text : List ℕ} (f : Flags) {s : ℕ} where
-  tail_starts : covers (λ k w e. starts first (tail_of f) full k w e) (λ k w e. one_of_kinds template_tails k) ≡ true
-  unfolding covers
-  tail_starts = refl
+tail_starts : (f : Flags) → covers (λ k w e. starts first (tail_of f) full k w e) (λ k w e. one_of_kinds template_tails k) ≡ true
+unfolding covers
+tail_starts f = refl
 
+module _ {text : List ℕ} (f : Flags) {s : ℕ} where
   -- no part that begins with a brace stands there
   no_part : ((y : Lexeme) → Lex text s y → one_of_kinds template_tails y.kind ≡ true → ⊥) → NoTail text f s
-  no_part n = fails_here firsts (λ y l h. n y l (covered (λ k w e. starts first (tail_of f) full k w e) (λ k w e. one_of_kinds template_tails k) tail_starts y.kind y.newline y.escaped h))
+  no_part n = fails_here firsts (λ y l h. n y l (covered (λ k w e. starts first (tail_of f) full k w e) (λ k w e. one_of_kinds template_tails k) (tail_starts f) y.kind y.newline y.escaped h))
 
 -- ---- a part was read again
 
@@ -488,7 +488,7 @@ part_goes {text} {f} {X} {p} {q} {id} {b} k d a x e i j =
     label : read_label ≡ element b p
     label = λ m. record { kind = template_element; op = no_op; flags = cond (sym e m) tail_flag 0; span = record { from = p.token.span.start + 1; to = sym x.tells.end m - cond ((sym j ∙ shorter) m) 1 2 } }
 
-anything_behind : {text : List ℕ} {a b : G} {s : ℕ} → Between rule (plain full) (plain full) end a b s
+anything_behind : {a b : G} {s : ℕ} → Between rule (plain full) (plain full) end a b s
 anything_behind = record { admits = λ ts us vs j k ls mid rest d d' h. (refl, refl) }
 
 -- what stands behind an Expression: a part with another one, or the last part
