@@ -46,17 +46,17 @@ links-smaller-then-begins_template t c = tagged_less c.links.invariant.at (c.in_
 pub links-preserved-then-begins_template : goal.links-preserved-then-begins_template
 links-preserved-then-begins_template t c = next_tagged c.links.invariant c.in_ok-left-2.ensures (λ text f o a e x. let z = c.links.invariant.goes text f o a e x in call_tagged z (ap (one_of_kinds heads) (sym c.cur_kind.ensures) ∙ (sym c.begins_template.ensures ∙ c.if-begins_template.true)) e (c.in_ok-left-2.ensures text f z.at))
 
-pub parse_link-requires-in-links-clause-at : goal.parse_link-requires-in-links-clause-at
-parse_link-requires-in-links-clause-at t c = c.links.invariant.at
+pub parse_link-requires-else-begins_template-clause-at : goal.parse_link-requires-else-begins_template-clause-at
+parse_link-requires-else-begins_template-clause-at t c = c.links.invariant.at
 
-pub parse_link-requires-in-links-clause-nests : goal.parse_link-requires-in-links-clause-nests
-parse_link-requires-in-links-clause-nests t c = nests_later c.requires.nests c.links.invariant.later
+pub parse_link-requires-else-begins_template-clause-nests : goal.parse_link-requires-else-begins_template-clause-nests
+parse_link-requires-else-begins_template-clause-nests t c = nests_later c.requires.nests c.links.invariant.later
 
-pub parse_link-requires-in-links-clause-start : goal.parse_link-requires-in-links-clause-start
-parse_link-requires-in-links-clause-start t c = c.links.invariant.before
+pub parse_link-requires-else-begins_template-clause-start : goal.parse_link-requires-else-begins_template-clause-start
+parse_link-requires-else-begins_template-clause-start t c = c.links.invariant.before
 
-pub parse_link-requires-in-links-clause-link : goal.parse_link-requires-in-links-clause-link
-parse_link-requires-in-links-clause-link t c = link_left base.Call (goes_on_so c.links.p base.Call c.links-test.true c.goes_on.ensures) (ap (one_of_kinds heads) (sym c.cur_kind.ensures) ∙ (sym c.begins_template.ensures ∙ c.if-begins_template.false))
+pub parse_link-requires-else-begins_template-clause-link : goal.parse_link-requires-else-begins_template-clause-link
+parse_link-requires-else-begins_template-clause-link t c = link_left base.Call (goes_on_so c.links.p base.Call c.links-test.true c.goes_on.ensures) (ap (one_of_kinds heads) (sym c.cur_kind.ensures) ∙ (sym c.begins_template.ensures ∙ c.if-begins_template.false))
 
 pub returns-in_err-left-3 : goal.returns-in_err-left-3
 returns-in_err-left-3 t c = λ text f o a e x n.
