@@ -31,7 +31,7 @@ use Rattle.js_cursor.specs.Parsers.{Parser}
 use Rattle.js_cursor.specs.Places.{goal}
 use Rattle.js_grammar.specs.Settings.{Goal}
 use Rattle.js_lex.specs.States.{goal_of}
-use Rattle.js_cursor.specs.Moves.{MovesOn, Opened, GivesUp, Steps, is_last, IsHere}
+use Rattle.js_cursor.specs.Moves.{MovesOn, Opened, GivesUp, Steps, IsHere}
 use Rattle.js_cursor.specs.declared.stop.ListStep.{ListStep}
 use Rattle.js_cursor.specs.declared.stop.ListStep.TheVariants.{Element, End, EndAfterComma}
 use Rattle.js_cursor.specs.declared.stop.Stop.{Stop}

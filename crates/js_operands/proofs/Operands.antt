@@ -1,7 +1,7 @@
 -- Names, literals, and what a unary operator stands before.
-use Rattle.std.proofs.Common.{ℕ, ◌≡◌, List, [], ◌∷◌, ◌++◌, length, Bool, true, false, not, ◌&&◌, ◌||◌, IsTrue, Some, refl, sym, ap, subst, arith, ◌∙◌}
+use Rattle.std.proofs.Common.{ℕ, ◌≡◌, List, [], ◌∷◌, length, Bool, true, false, not, ◌&&◌, ◌||◌, IsTrue, Some, refl, sym, ap, subst, arith, ◌∙◌}
 use Rattle.std.specs.Prelude.{Result, Ok, Err, MatchResult, Option, is_some, if◌then◌else◌}
-use Rattle.std.proofs.lemmas.Bool.{false≢true, or_left}
+use Rattle.std.proofs.lemmas.Bool.{false≢true}
 use Rattle.js_base.specs.declared.kind.Kind.{Kind}
 use Rattle.js_base.specs.declared.kind.Kind.TheVariants.{This, Null, True, False, Decimal, Float, Binary, Octal, Hex, PositiveExponential, NegativeExponential, DecimalBigInt, BinaryBigInt, OctalBigInt, HexBigInt, Str, RegExp, Slash, SlashEq, NoSubstitutionTemplate, TemplateHead, LParen, LBrack, LCurly, Percent, Minus, Plus, Bang, Tilde, Typeof, Void, Delete, Function}
 use Rattle.js_base.specs.declared.operator.UnaryOperator.{UnaryOperator}
@@ -36,19 +36,19 @@ use Rattle.js_cursor.specs.Parsers.{Parser}
 use Rattle.js_cursor.specs.Moves.{OnlyMemory}
 use Rattle.js_cursor.specs.declared.stop.Stop.{Stop}
 use Rattle.js_cursor.specs.declared.stop.Stop.TheVariants.{Fatal, NoMemory}
-use Rattle.js_parsing.specs.Lexemes.{Lex, Plain, is_read, may_name, name_kinds, read_kinds, signs}
+use Rattle.js_parsing.specs.Lexemes.{Plain, is_read, may_name, name_kinds, read_kinds, signs}
 use Rattle.js_parsing.specs.States.{At, Same, NodesLie}
 use Rattle.js_parsing.specs.Moves.{Moved, MadeHere, LeafTaken, TakesLeaf, plain_label}
 use Rattle.js_parsing.specs.Answers.{Underived, Answer, Numbered, Outcome, beside}
 use Rattle.js_operands.specs.Numbers.{node_of_number, op_of_number}
 use Rattle.js_parsing.specs.Operators.{unary_kinds}
-use Rattle.js_parsing.proofs.Moving.{neither, same_both, same_with, beside_nodes}
+use Rattle.js_parsing.proofs.Moving.{same_both, same_with, beside_nodes}
 use Rattle.js_parsing.proofs.Dead.{live, lives}
 use Rattle.js_parsing.proofs.NameKinds.{at_name, listed_name, name_apart, name_passes, name_read, name_test}
 use Rattle.js_parsing.proofs.NamedFirsts.{fails_unnamed}
 use Rattle.js_parsing.proofs.MadeNodes.{leaf_held, one_held, LabelLies, from_start, one_lies}
 use Rattle.js_parsing.proofs.Tight.{plain_reads}
-use Rattle.js_parsing.proofs.Paths.{Path, ◌⟼◌, ◌⟶◌, ◌⟶✗◌, at_kind, fails_at, token, last_token, last_called, passes_test, noded, noded_by, by_symbol_as, label_here, read_of, walked_one}
+use Rattle.js_parsing.proofs.Paths.{Path, ◌⟼◌, ◌⟶◌, ◌⟶✗◌, at_kind, token, last_token, last_called, passes_test, noded, noded_by, by_symbol_as, label_here, read_of, walked_one}
 use Rattle.js_parsing.specs.Answers.{clean}
 
 -- a claim on each unary operator

@@ -42,7 +42,7 @@ use Rattle.js_operands.specs.Objects.{object_of, properties, Properties, TakesPr
 use Rattle.js_parsing.specs.Stands.{StandsHere}
 use Rattle.js_parsing.specs.Moves.{Moved, Moves, MadeHere, plain_label, unpassable}
 use Rattle.js_parsing.specs.Nesting.{room}
-use Rattle.js_operands.proofs.ArgumentLists.{is_that, none_there}
+use Rattle.js_operands.proofs.ArgumentLists.{none_there}
 use Rattle.js_operands.proofs.Arrays.{turned}
 use Rattle.js_parsing.proofs.Bracketed.{opened_here, opened_later}
 use Rattle.js_parsing.proofs.Signs.{plain_sign}

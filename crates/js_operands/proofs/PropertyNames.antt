@@ -1,5 +1,5 @@
 -- Names of properties (ECMA-262, 13.2.5): a word, a string, a number, or an expression in brackets.
-use Rattle.std.proofs.Common.{ℕ, ◌≡◌, ◌≤◌, List, [], ◌∷◌, length, Option, Some, Bool, true, false, not, ◌&&◌, ◌||◌, IsTrue, refl, sym, ap, subst, arith, ◌∙◌}
+use Rattle.std.proofs.Common.{ℕ, ◌≡◌, List, [], ◌∷◌, length, Option, Bool, true, false, not, ◌&&◌, ◌||◌, refl, sym, ap, subst, arith, ◌∙◌}
 use Rattle.std.specs.Prelude.{Result, Ok, Err, MatchResult}
 use Rattle.std.proofs.lemmas.Bool.{false≢true, and_parts}
 use Rattle.js_base.specs.declared.kind.Kind.{Kind}
@@ -10,9 +10,9 @@ use Rattle.js_base.specs.Kinds.{same_kind, one_of_kinds}
 use Rattle.js_base.specs.KindSets.{number_kinds}
 use Rattle.js_base.specs.Texts.{words}
 use Rattle.js_base.proofs.KindLemmas.{kind_of_same}
-use Rattle.js_grammar.specs.Trees.{Label, Op, NodeKind, Slots, end, tree, no_op, of, string_literal, numeric_literal}
+use Rattle.js_grammar.specs.Trees.{Label, end, tree, no_op, string_literal}
 use Rattle.js_grammar.specs.Lexemes.{is_word}
-use Rattle.js_grammar.specs.Grammar.{Look, is, never, nothing, ◌▸◌, ◌◇◌}
+use Rattle.js_grammar.specs.Grammar.{never, nothing, ◌▸◌, ◌◇◌}
 use Rattle.js_grammar.specs.Parsing.{plain, full, Fails}
 use Rattle.js_grammar.specs.Productions.{G, Flags, at, tok, plus_in, Assignment, IdentifierName}
 use Rattle.js_grammar.specs.Productions.{sym as symbol}

@@ -1,6 +1,6 @@
 -- A regular expression (ECMA-262, 13.2.7.3, 12.9.5): the slash that stands at an operand's place is read again, and what is read so is passed.
-use Rattle.std.proofs.Common.{ℕ, ◌+◌, ◌≡◌, ◌<◌, ◌⊎◌, inl, inr, Bool, true, false, not, ◌&&◌, ◌||◌, List, [], ◌∷◌, ◌++◌, length, Option, Some, None, IsTrue, refl, sym, ap, subst, arith, ◌∙◌}
-use Rattle.std.specs.Prelude.{IsCharBoundary, IsUtf8, Result, Ok, Err, MatchResult, chars, slice_range}
+use Rattle.std.proofs.Common.{ℕ, ◌≡◌, ◌<◌, ◌⊎◌, inl, inr, Bool, true, false, not, ◌||◌, List, [], ◌∷◌, ◌++◌, Some, IsTrue, refl, sym, ap, subst, arith, ◌∙◌}
+use Rattle.std.specs.Prelude.{IsCharBoundary, IsUtf8, chars, slice_range}
 use Rattle.std.proofs.lemmas.Bool.{false≢true, and_parts, and_from}
 use Rattle.std.proofs.lemmas.List.Elements.{All-same}
 use Rattle.std.proofs.lemmas.List.{append_cancel_left}
@@ -13,17 +13,15 @@ use Rattle.js_base.specs.Kinds.{same_kind, one_of_kinds}
 use Rattle.js_base.specs.Texts.{words}
 use Rattle.js_base.proofs.KindLemmas.{kind_of_same}
 use Rattle.js_grammar.specs.Trees.{Label, end, tree, no_op, reg_exp_literal}
-use Rattle.js_grammar.specs.Characters.{width}
 use Rattle.js_grammar.specs.Grammar.{Lexeme, Look, is, lexeme, next, nothing}
 use Rattle.js_grammar.specs.Lexemes.{LexicalGoal, division, is_escaped, kind_in, regular_expression}
-use Rattle.js_grammar.specs.Lexed.{IsLexeme, Lex as StandsBehind, Passing, in_script, in_module, all_faults, passing_of, comments_pass, flags_right}
+use Rattle.js_grammar.specs.Lexed.{IsLexeme, Lex as StandsBehind, Passing, all_faults, passing_of, comments_pass, flags_right}
 use Rattle.js_grammar.specs.Longest.{joined}
 use Rattle.js_grammar.specs.LexicalFaults.{behind}
 use Rattle.js_grammar.specs.Parsing.{Test, passing, Reads}
 use Rattle.js_grammar.specs.Productions.{Flags, Primary, at, tok}
-use Rattle.js_grammar.specs.RegularExpressions.{are_flags, flags, flags_pass}
-use Rattle.js_grammar.specs.Follow.{after, row_of}
-use Rattle.js_grammar.specs.Insertion.{after_expression}
+use Rattle.js_grammar.specs.RegularExpressions.{flags, flags_pass}
+use Rattle.js_grammar.specs.Follow.{after}
 use Rattle.js_grammar.specs.Settings.{Goal, script, module_goal, commonjs, unambiguous}
 use Rattle.js_grammar.specs.Table.{rule, rule_of}
 use Rattle.js_grammar.proofs.Alike.{stands-same}
@@ -33,11 +31,11 @@ use Rattle.js_grammar.proofs.FirstClaims.{firsts}
 use Rattle.js_grammar.proofs.FirstRules.{fails_here}
 use Rattle.js_grammar.proofs.FollowLaws.{fails_by}
 use Rattle.js_grammar.proofs.Lexemes.{first_or}
-use Rattle.js_grammar.proofs.Looks.{apart, covers, covered, not_both}
+use Rattle.js_grammar.proofs.Looks.{apart, covers, not_both}
 use Rattle.js_grammar.specs.FirstSets.{first}
 use Rattle.js_lex.specs.Comments.{each_at, comment_at, irregular_at, html_fault_at}
 use Rattle.js_lex.specs.Places.{Word}
-use Rattle.js_lex.specs.Reading.{cut, flag_faults, in_a_module, is_kept, is_right_angle, kept_token, FlagsStand, Tells, GivesLexeme, GivesNone, LexemeBehind, Outcome}
+use Rattle.js_lex.specs.Reading.{flag_faults, in_a_module, is_kept, is_right_angle, kept_token, FlagsStand, Tells, GivesLexeme, GivesNone, LexemeBehind, Outcome}
 use Rattle.js_lex.specs.States.{goal_of}
 use Rattle.js_lex.proofs.Again.{cut_same}
 use Rattle.js_lex.proofs.Flags.{spelled}
@@ -53,7 +51,7 @@ use Rattle.js_cursor.specs.Moves.{Completed, GivesUp, IsRegularExpression, IsUne
 use Rattle.js_cursor.specs.Notes.{Notes}
 use Rattle.js_cursor.specs.Parsers.{Parser}
 use Rattle.js_cursor.specs.Places.{IsAt, goal}
-use Rattle.js_cursor.specs.Tokens.{IsToken, whole as whole_token, sign as sign_token, nothing as no_token}
+use Rattle.js_cursor.specs.Tokens.{IsToken, sign as sign_token}
 use Rattle.js_cursor.specs.declared.stop.Stop.{Stop}
 use Rattle.js_cursor.specs.declared.stop.Stop.TheVariants.{Fatal, NoMemory}
 use Rattle.js_cursor.proofs.Later.{keeps_follows, passed_follows, read_again_follows, follows_on}
@@ -73,8 +71,8 @@ use Rattle.js_parsing.proofs.Kept.{kept_for, passing_so}
 use Rattle.js_parsing.proofs.KeptTokens.{again_before, again_last, before_next, trivia_kept}
 use Rattle.js_parsing.proofs.MadeNodes.{leaf_held, one_lies}
 use Rattle.js_parsing.proofs.Moving.{flags_same, heads_kept, nodes_lie}
-use Rattle.js_parsing.proofs.Paths.{Path, ◌⟼◌, at_kinds, label_here, noded, reads, walked_to}
-use Rattle.js_parsing.proofs.Slashes.{SignThere, pattern_goal, sign_there}
+use Rattle.js_parsing.proofs.Paths.{Path, ◌⟼◌, at_kinds, label_here, noded, walked_to}
+use Rattle.js_parsing.proofs.Slashes.{pattern_goal, sign_there}
 use Rattle.js_parsing.proofs.Signs.{whole_sign}
 use Rattle.js_parsing.proofs.ToEnd.{to_end_none}
 use Rattle.js_parsing.proofs.Unbuilt.{nothing_unbuilt}

@@ -12,7 +12,7 @@ use Rattle.js_base.specs.Kinds.{same_kind, one_of_kinds}
 use Rattle.js_base.specs.Spans.{LiesIn}
 use Rattle.js_base.specs.Texts.{words}
 use Rattle.js_base.proofs.KindLemmas.{kind_of_same}
-use Rattle.js_grammar.specs.Trees.{Label, Slots, append, end, no_op, template_element, template_literal, tree}
+use Rattle.js_grammar.specs.Trees.{Label, Slots, end, no_op, template_element, template_literal, tree}
 use Rattle.js_grammar.specs.Grammar.{Lexeme, Lexemes, Look, Takes, alt, here, is, is_left, is_many, is_nothing, is_right, is_seq, many, next, nothing, seen, seq}
 use Rattle.js_grammar.specs.FirstSets.{first}
 use Rattle.js_grammar.specs.Parsing.{Fails, Goes, Reads, Test, full, passing, plain, still}
@@ -43,7 +43,7 @@ use Rattle.js_tree.specs.declared.kind.NodeKind.TheVariants as node
 use Rattle.js_tree.specs.declared.op.Op.TheVariants as op
 use Rattle.js_tree.specs.Nodes.{Node}
 use Rattle.js_tree.specs.Holding.{Holds, HoldsAll, Keeps}
-use Rattle.js_tree.proofs.HoldingLemmas.{HoldsAll-none, HoldsAll-one, HoldsAll-two, HoldsAll-next, Keeps-refl, Keeps-trans, Keeps-made}
+use Rattle.js_tree.proofs.HoldingLemmas.{HoldsAll-none, HoldsAll-two, HoldsAll-next, Keeps-refl, Keeps-trans, Keeps-made}
 use Rattle.js_cursor.specs.Checkpoints.{Follows}
 use Rattle.js_cursor.specs.Moves.{Completed, GivesUp, IsUnexpected, Keeps as KeepsOne, MovesOn, Passed as PassedOn, ReadAgain, is_last}
 use Rattle.js_cursor.specs.Notes.{Notes}
