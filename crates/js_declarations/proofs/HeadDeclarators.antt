@@ -43,7 +43,8 @@ use Rattle.js_declarations.proofs.Declarators.{BindingRead, as_binding, eq_plain
 use Rattle.js_patterns.proofs.Bindings.{no_binding, no_pattern_name}
 use Rattle.js_parsing.proofs.Giving.{fails_escaped}
 use Rattle.js_parsing.proofs.Here.{unsettled}
-use Rattle.js_parsing.proofs.NameKinds.{no_name_here}
+use Rattle.js_parsing.proofs.NameKinds.{listed_here, listed_name, name_at, no_name_here}
+use Rattle.js_parsing.proofs.NamedFirsts.{fails_unnamed}
 use Rattle.js_parsing.specs.Lexemes.{name_kinds}
 use Rattle.js_parsing.proofs.MadeNodes.{node_held, two_held, made_lies}
 use Rattle.js_parsing.proofs.Moving.{beside_nodes, same_both, same_with, stops_behind}
@@ -173,7 +174,7 @@ module _ {text : List ℕ} {f : Flags} {p q : Parser} (a : At text f p) (x : Ans
 name_as : {text : List ℕ} {f : Flags} {p : Parser} → At text f p → NameHere p true → {ts us : Slots} {j : ℕ} {ls rest : Lexemes} → Lexes (Lex text) p.prev_token_end ls → Takes rule (symbol Binding f) end ts p.prev_token_end ls us j rest → Takes rule (symbol BindingIdentifier f) end ts p.prev_token_end ls us j rest
 unfolding rule rule_of covers apart
 name_as a h l (is_such (is_left (is_such d t)) t') = is_such d refl
-name_as {f = f} {p = p} a h {j = j} {ls = ls} {rest = rest} l (is_such {l = m} {cs = cs} (is_right d) t') = absurd ((fails_at a {X = plain full} (symbol Pattern f) (LBrack ∷ LCurly ∷ []) refl (no_pattern_name p.token.kind h.0)).no (tree m cs end) end j ls rest l d (refl, refl))
+name_as {f = f} {p = p} a h {j = j} {ls = ls} {rest = rest} l (is_such {l = m} {cs = cs} (is_right d) t') = absurd ((fails_at a {X = plain full} (symbol Pattern f) (LBrack ∷ LCurly ∷ []) refl (no_pattern_name p.token.kind (listed_here p h))).no (tree m cs end) end j ls rest l d (refl, refl))
 
 -- where none stands, no name is derived
 no_identifier : {text : List ℕ} {f : Flags} {p : Parser} {X : Test} → At text f p → NameHere p false → Fails rule (Lex text) X end (symbol BindingIdentifier f) p.prev_token_end
@@ -182,7 +183,7 @@ no_identifier {text} {f} {p} {X} a h = by p.token.escaped refl
   where
     by : (b : Bool) → p.token.escaped ≡ b → Fails rule (Lex text) X end (symbol BindingIdentifier f) p.prev_token_end
     by true e = fails_escaped a e
-    by false e = fails_at a (symbol BindingIdentifier f) name_kinds refl (no_name_here p h e)
+    by false e = fails_unnamed a f (λ g. symbol BindingIdentifier g) [] refl refl refl refl refl (no_name_here f p (name_at false a h) e) refl
 
 no_named_value : {text : List ℕ} {f : Flags} {p : Parser} {X : Test} → At text f p → NameHere p false → Fails rule (Lex text) X end (named_value f) p.prev_token_end
 no_named_value a h = fails_node inside_full (part_fails {X' = plain full} (no_identifier a h) (record { admits = λ ts us vs j k ls mid rest d d' e. (refl, refl) }))
@@ -299,7 +300,7 @@ module _ {text : List ℕ} {f : Flags} {p q r : Parser} {binding : NodeId} (a : 
 
 -- where no lexeme stands
 pub none_at_head : {text : List ℕ} {f : Flags} {p : Parser} (c : Bool) → At text f p → p.token.kind ≡ Undetermined → NoHeadDeclarator text f c p.prev_token_end
-none_at_head c a h = no_head_declarator c (no_binding a (λ k e. false≢true (ap (same_kind LBrack) (sym h ∙ k))) (λ k e. false≢true (ap (same_kind LCurly) (sym h ∙ k))) (λ k e. false≢true (ap (one_of_kinds name_kinds) (sym h) ∙ k)))
+none_at_head c a h = no_head_declarator c (no_binding a (λ k e. false≢true (ap (same_kind LBrack) (sym h ∙ k))) (λ k e. false≢true (ap (same_kind LCurly) (sym h ∙ k))) (λ k e. false≢true (ap (one_of_kinds name_kinds) (sym h) ∙ listed_name _ _ _ k)))
 
 pub through_so : (p : Parser) {b r : Bool} → r ≡ b → ThroughHere p r → ThroughHere p b
 through_so p e h = subst (λ (v : Bool). ThroughHere p v) e h

@@ -1,5 +1,5 @@
 -- Answers of assignments to array and object targets (ECMA-262, 13.15.5).
-use Rattle.std.proofs.Common.{ℕ, ◌≡◌, List, [], ◌∷◌, ◌+◌, ◌-◌, length, Bool, true, false, not, Some, refl, sym, ap, subst, arith, ◌∙◌}
+use Rattle.std.proofs.Common.{ℕ, ◌≡◌, List, [], ◌∷◌, ◌+◌, ◌-◌, length, true, false, not, Some, refl, sym, ap, subst, ◌∙◌}
 use Rattle.std.proofs.lemmas.Bool.{and_parts, and_from}
 use Rattle.js_base.specs.declared.kind.Kind.{Kind}
 use Rattle.js_base.specs.declared.kind.Kind.TheVariants.{Eq}
@@ -15,7 +15,7 @@ use Rattle.js_grammar.specs.Productions.{Flags, at, tok, Assignment, Short, Arra
 use Rattle.js_grammar.specs.Productions.{sym as symbol}
 use Rattle.js_grammar.specs.Table.{rule}
 use Rattle.js_grammar.specs.Follow.{after}
-use Rattle.js_grammar.proofs.Calculus.{Between, Inside, inside_full, ◌▹◌, ◌▹✗◌, left, right, fails_alt, fails_node, then_by, part_fails, weaken_fails_on}
+use Rattle.js_grammar.proofs.Calculus.{Between, Inside, inside_full, ◌▹◌, ◌▹✗◌, left, right, fails_node, then_by, part_fails, weaken_fails_on}
 use Rattle.js_grammar.proofs.FollowLaws.{fails_by}
 use Rattle.js_tree.specs.declared.id.NodeId.{NodeId}
 use Rattle.js_tree.specs.declared.kind.NodeKind.TheVariants as node
@@ -33,7 +33,7 @@ use Rattle.js_parsing.specs.States.{At}
 use Rattle.js_targets.specs.Targets.{is_object, is_literal}
 use Rattle.js_expressions.specs.Rests.{OnlyOperand}
 use Rattle.js_targets.proofs.Refused.{literal_no_target}
-use Rattle.js_targets.proofs.ArraysBeforeSigns.{array_slots, array_part, is_cover, not_wide}
+use Rattle.js_targets.proofs.ArraysBeforeSigns.{array_slots, array_part}
 use Rattle.js_targets.proofs.ArraysConverted.{signs}
 use Rattle.js_targets.proofs.HeadTargets.{converted_path, neither, no_other, of_either}
 use Rattle.js_targets.proofs.TargetsTaken.{assign_behind}
@@ -44,8 +44,7 @@ use Rattle.js_parsing.proofs.MadeNodes.{two_held, one_lies}
 use Rattle.js_parsing.proofs.Moving.{same_both}
 use Rattle.js_operands.proofs.Operands.{by_path}
 use Rattle.js_parsing.proofs.Paths.{Path, ◌⟼◌, ◌⟶◌, ◌⟶✗◌, label_here, last_called, noded_by, token}
-use Rattle.js_targets.proofs.Targets.{kind_of_literal}
-use Rattle.js_parsing.proofs.Verdicts.{either_way, verdict_of}
+use Rattle.js_parsing.proofs.Verdicts.{verdict_of}
 
 -- as much is left where the place is the same
 pub room_same : {text : List ℕ} {f g : Flags} {p q : Parser} → At text f p → At text g q → q.prev_token_end ≡ p.prev_token_end → room q ≡ room p

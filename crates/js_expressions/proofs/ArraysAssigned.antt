@@ -12,7 +12,7 @@ use Rattle.js_base.specs.declared.operator.AssignmentOperator.{AssignmentOperato
 use Rattle.js_base.specs.declared.span.Span.{Span}
 use Rattle.js_base.specs.Kinds.{same_kind, one_of_kinds}
 use Rattle.js_base.specs.Operators.{row_of as row_in, assignment_operators}
-use Rattle.js_grammar.specs.Trees.{NodeKind, Label, Slots, end, tree, of, array_expression, assignment_expression}
+use Rattle.js_grammar.specs.Trees.{Label, Slots, end, tree, of, assignment_expression}
 use Rattle.js_grammar.specs.Grammar.{Lexeme, Lexemes, here, last, such, nothing, Takes, is_nothing}
 use Rattle.js_grammar.specs.Insertion.{assign_operators}
 use Rattle.js_grammar.specs.Lexemes.{is_escaped}
@@ -39,7 +39,7 @@ use Rattle.js_parsing.specs.Moves.{Moved, MadeHere, plain_label}
 use Rattle.js_parsing.specs.Nesting.{room}
 use Rattle.js_targets.specs.Taken.{TellsOnce, not_simple_at}
 use Rattle.js_parsing.specs.States.{At, Same}
-use Rattle.js_targets.specs.Targets.{is_array, is_object, is_literal, literal_kind}
+use Rattle.js_targets.specs.Targets.{is_object, is_literal, literal_kind}
 use Rattle.js_expressions.specs.Rests.{OnlyOperand}
 use Rattle.js_targets.proofs.Assigned.{assigns}
 use Rattle.js_expressions.proofs.Assignments.{assign_refused, assign_named}

@@ -1,5 +1,5 @@
 -- Arrow functions (ECMA-262, 15.3), and where none is derived.
-use Rattle.std.proofs.Common.{ℕ, ◌≡◌, ◌<◌, ◌⊎◌, inl, inr, List, [], ◌∷◌, length, Bool, true, false, not, cond, ◌&&◌, ◌||◌, IsTrue, Option, Some, None, refl, sym, ap, subst, arith, ◌∙◌}
+use Rattle.std.proofs.Common.{ℕ, ◌≡◌, ◌≤◌, ◌<◌, ◌⊎◌, inl, inr, List, [], ◌∷◌, length, Bool, true, false, not, cond, ◌&&◌, ◌||◌, IsTrue, Option, Some, None, refl, sym, ap, subst, arith, ◌∙◌}
 use Rattle.std.specs.Prelude.{IsCharBoundary, Result, Ok, Err, nat_lt}
 use Rattle.std.proofs.lemmas.Bool.{false≢true, and_parts, and_from, or_left, or_right}
 use Rattle.js_base.specs.Contexts.{has_flag, yield_flag}
@@ -68,7 +68,7 @@ use Rattle.js_cursor.proofs.Later.{keeps_follows}
 use Rattle.js_parsing.specs.Answers.{Underived, Answer, Answers, beside, Numbered, Outcome, Refuses, Stretch, Stops, Grown, Verdict, clean, unclean}
 use Rattle.js_cursor.specs.Notes.{Notes}
 use Rattle.js_parsing.specs.Contexts.{arrow_body, braced_body}
-use Rattle.js_expressions.specs.Arrows.{body_of, head_of, late_arrow, ArrowBehind, BeforeArrow, a_head, told_head, ToldHead, ChecksLine, FindsHead, Head, LooksForHead, IsHead, IsHeadHere, IsRefusedHead, NoArrowHere, Single, Unmoved, NoneLooked}
+use Rattle.js_expressions.specs.Arrows.{body_of, head_of, late_arrow, ArrowBehind, BeforeArrow, a_head, told_head, ToldHead, HeadRead, read_clean, read_unclean, ChecksLine, FindsHead, Head, LooksForHead, IsHead, IsHeadHere, IsHeadRead, IsRefusedHead, NoArrowHere, Single, Unmoved, NoneLooked}
 use Rattle.js_parsing.specs.Heads.{NoHead, NotedHeads}
 use Rattle.js_expressions.specs.Rests.{OnlyOperandHere}
 use Rattle.js_expressions.specs.Closings.{ArrowBehindOne}
@@ -113,11 +113,11 @@ none_open : {b : ℕ} {s : List ℕ} → Some [] ≡ Some (b ∷ s) → ⊥
 none_open e = cc
 
 -- a lexeme that is the same in every lexical goal
-abbrev calm : Kind → Bool
+abbrev pub calm : Kind → Bool
 calm k = not (one_of_kinds (RegExp ∷ slashes) k)
 
 -- each lexeme is, up to where no bracket is open
-abbrev AllCalm : {st : List ℕ} {ls r : Lexemes} {e : ℕ} → One st ls e r → Type 0
+abbrev pub AllCalm : {st : List ℕ} {ls r : Lexemes} {e : ℕ} → One st ls e r → Type 0
 AllCalm (the_last {x = x} p) = calm x.kind ≡ true
 AllCalm (and_more {x = x} p o) = (calm x.kind ≡ true) × AllCalm o
 
@@ -279,6 +279,16 @@ name_no_bracket : (k : Kind) → one_of_kinds name_kinds k ≡ true → bracket 
 unfolding apart
 name_no_bracket k h = not_bracket k false false (λ b. not_both a_name brackets refl k false false h b)
 
+calm_name : (k : Kind) → one_of_kinds name_kinds k ≡ true → calm k ≡ true
+unfolding covers apart
+calm_name k h = ap not (name_apart (RegExp ∷ slashes) refl k h)
+
+-- nor does a name begin with a slash
+name_calm : {ls r : Lexemes} {e : ℕ} (o : One [] ls e r) → one_of_kinds name_kinds (here ls).kind ≡ true → AllCalm o
+unfolding bracket move
+name_calm (the_last {x = x} m) h = calm_name x.kind h
+name_calm (and_more {b = b} {s = t} {x = x} m o) h = absurd (none_open (subst (λ (v : Bracket). move v [] ≡ Some (b ∷ t)) (name_no_bracket x.kind h) m))
+
 pub no_arrow_behind : {text : List ℕ} {f : Flags} {p : Parser} → At text f p → one_of_kinds name_kinds p.token.kind ≡ true → ((y : Lexeme) → Lex text p.token.span.end y → y.kind ≡ Arrow → ⊥) → Underived text (at Arrow' f) p.prev_token_end
 unfolding bracket move
 no_arrow_behind {text} {f} {p} a k n = no_arrow f (one_arrow (λ ls mid e l o q. go ls mid e l o q))
@@ -395,19 +405,30 @@ head_of_path {text} {f} {p} {q} w {l} {cs} {id} y r e s n h k i = go w.nodes n h
     })
 
 -- the `=>` that stands here
-arrow_here : {text : List ℕ} {f : Flags} {p : Parser} → At text f p → p.token.kind ≡ Arrow → (y : Lexeme) × Lex text p.prev_token_end y × (same_kind Arrow y.kind ≡ true)
+arrow_here : {text : List ℕ} {f : Flags} {p : Parser} → At text f p → p.token.kind ≡ Arrow → (y : Lexeme) × Lex text p.prev_token_end y × (same_kind Arrow y.kind ≡ true) × (p.token.span.start ≡ y.from)
 arrow_here a k =
     let z = found a (uncut a (ap (same_kind RAngle) k)) (ap is_last k) in
     let e : z.0.kind ≡ Arrow = sym z.2.kind ∙ k in
-    (z.0, (z.1, read_of z.0 e (sym z.2.escaped ∙ plain_sign Arrow a k refl refl arrow_plain) refl), ap (same_kind Arrow) e)
+    (z.0, (z.1, read_of z.0 e (sym z.2.escaped ∙ plain_sign Arrow a k refl refl arrow_plain) refl), ap (same_kind Arrow) e, z.2.start)
 
--- where a head was read, no operand is derived
-pub head_no_operand : {text : List ℕ} {f : Flags} {o p : Parser} {id : NodeId} → Head text f o p id → p.token.kind ≡ Arrow → Underived text (at Short f) o.prev_token_end
-head_no_operand {f = f} {p = p} h k =
+-- what stands behind them
+one_behind : (text : List ℕ) (s : ℕ) {st : List ℕ} {ls r : Lexemes} {e : ℕ} → Lexes (Lex text) s ls → One st ls e r → Lexes (Lex text) e r
+one_behind text s l (the_last m) = l.1
+one_behind text s l (and_more {x = x} m o) = one_behind text x.to l.1 o
+
+-- its trivia stands between
+lexeme_from : {text : List ℕ} {s : ℕ} {y : Lexeme} → Lex text s y → s ≤ y.from
+lexeme_from l = let e = l.0.from in omega arith
+
+-- where a head was read whose lexemes are the same in every lexical goal, no operand is derived
+pub head_no_operand : {text : List ℕ} {f : Flags} {o p : Parser} {id : NodeId} → Head text f o p id → p.token.kind ≡ Arrow → ((ls r : Lexemes) (e : ℕ) → Lexes (Lex text) o.prev_token_end ls → (z : One [] ls e r) → e ≤ p.token.span.start → AllCalm z) → Underived text (at Short f) o.prev_token_end
+head_no_operand {text} {f} {o} {p} h k c =
     let y = arrow_here h.at k in
     let d = h.read.goes.sound end end p.prev_token_end (last y.0) (last y.0) y.1 (inl h.read.near) is_nothing in
     let z = head_one d in
-    no_operand f (h.read.goes.passes.lexed (last y.0) y.1) z.1 z.2 y.2
+    let l = h.read.goes.passes.lexed (last y.0) y.1 in
+    let e : z.0 ≤ p.token.span.start = (let i = lexeme_from (one_behind text o.prev_token_end l z.1) in let j = y.3 in omega arith) in
+    no_operand f l z.1 (c _ _ z.0 l z.1 e) z.2 y.2
 
 -- so the arrow that stands behind is the token
 pub arrow_is_here : {text : List ℕ} {f : Flags} {p : Parser} → At text f p → (y : Lexeme) → Lex text p.prev_token_end y → y.kind ≡ Arrow → p.token.kind ≡ Arrow
@@ -421,15 +442,26 @@ pub behind_so : (p q : Parser) {b r : Bool} → r ≡ b → ArrowBehind p q r �
 behind_so p q e h = subst (λ (v : Bool). ArrowBehind p q v) e h
 
 pub unmoved : {p q : Parser} → q ≡ p → Unmoved p q
-unmoved {p} e = subst (Unmoved p) (sym e) (record { at = λ text f a. a; same = same_itself; kept = refl; place = refl; spot_is = refl; start = refl; keeps = Keeps-refl p.nodes })
+unmoved {p} e = subst (Unmoved p) (sym e) (record { at = λ text f a. a; same = same_itself; kept = refl; place = refl; spot_is = refl; start = refl; kind = refl; keeps = Keeps-refl p.nodes })
 
 -- the node of a name stands before the arrow
-pub name_found : {p q w : Parser} {id : NodeId} → Standing p → ArrowBehind p q true → p.token.escaped ≡ false → Single q w id → IsHeadHere p w id
-name_found {p} {q} {w} {id} a b e s =
-    let z = subst (λ (v : Parser). Single v w id) b.0 s in
-    let y = b.1 _ _ a in
-    let k = arrow_is_here (z.1 _ _ a e).at y.0 (subst (λ (v : ℕ). Lex p.text v y.0) (sym z.0) y.1) y.2 in
-    (k, (λ text f a. a_head (z.1 text f a e)), (λ text f a. head_no_operand (z.1 text f a e) k))
+pub name_found : {p q w : Parser} {id : NodeId} → Standing p → one_of_kinds name_kinds p.token.kind ≡ true → ArrowBehind p q true → p.token.escaped ≡ false → Single q w id → IsHeadHere p w id
+name_found {p} {q} {w} {id} a n b e s = (k, (λ text f a. a_head (head text f a) (none text f a)), none)
+  where
+    z : Single p w id
+    z = subst (λ (v : Parser). Single v w id) b.0 s
+
+    head : (text : List ℕ) (f : Flags) → At text f p → Head text f p w id
+    head text f a = z.1 text f a e
+
+    k : w.token.kind ≡ Arrow
+    k = let y = b.1 _ _ a in arrow_is_here (head _ _ a).at y.0 (subst (λ (v : ℕ). Lex p.text v y.0) (sym z.0) y.1) y.2
+
+    named : {text : List ℕ} {f : Flags} → At text f p → (x : Lexeme) → Lex text p.prev_token_end x → one_of_kinds name_kinds x.kind ≡ true
+    named a x l = subst (λ (v : Kind). one_of_kinds name_kinds v ≡ true) (told a (name_whole a n).0 (name_slashless p.token.kind n) x l).kind n
+
+    none : (text : List ℕ) (f : Flags) → At text f p → Underived text (at Short f) p.prev_token_end
+    none text f a = head_no_operand (head text f a) k (λ ls r i l o b. name_calm o (named a (here ls) (here_at (Lex text) ls l)))
 
 -- parameters in parentheses
 pub parenthesized_head : {text : List ℕ} {f : Flags} {p q : Parser} {id : NodeId} → At text f p → p.token.kind ≡ LParen → Numbered text f (at Params f) p q id → length q.errors ≡ length p.errors → Head text f p q id
@@ -502,25 +534,24 @@ told_parameters {text} {f} {p} a k x g n s =
 -- parameters where no operand begins
 pub certain_head : {text : List ℕ} {f : Flags} {p q : Parser} {id : NodeId} → At text f p → p.token.kind ≡ LParen → Underived text (at Short f) p.prev_token_end → Numbered text f (at Params f) p q id → BeforeArrow text f p q id
 certain_head a k s x = elim x.answer.verdict [
-  | clean e z ↦ a_head (parenthesized_head a k x (ap length e))
+  | clean e z ↦ a_head (parenthesized_head a k x (ap length e)) s
   | unclean g z ↦ told_head (told_parameters a k x g z s)
 ]
 
 module _ {p q : Parser} {kept : ℕ} (a : Standing p) (k : p.token.kind ≡ LParen) (n : kept ≡ length p.errors) where
   -- parameters, and whether they are a head
-  pub head_read : {id : NodeId} {start : ℕ} → start ≡ p.prev_token_end → Answers (at Params) p q (Ok id) → IsHead start kept q true → IsHeadHere p q id
-  head_read {id} {start} t x h = (h.1, (λ text f a. by h.0 a (x text f a)), (λ text f a. none h.0 a (x text f a)))
+  pub head_read : {id : NodeId} {start : ℕ} → start ≡ p.prev_token_end → Answers (at Params) p q (Ok id) → IsHead start kept q true → IsHeadRead p q id
+  head_read {id} {start} t x h = (h.1, (λ text f a. by h.0 a (x text f a)))
     where
-      none : {text : List ℕ} {f : Flags} → (length q.errors ≡ kept) ⊎ ArrowBehindOne q.text start → At text f p → Numbered text f (at Params f) p q id → Underived text (at Short f) p.prev_token_end
-      none (inl e) a y = head_no_operand (parenthesized_head a k y (e ∙ n)) h.1
-      none {text} (inr c) a y = no_operand_there a k (subst (λ (v : ℕ). ArrowBehindOne text v) t (subst (λ (v : List ℕ). ArrowBehindOne v start) y.answer.at.text_is c))
-
-      by : {text : List ℕ} {f : Flags} → (length q.errors ≡ kept) ⊎ ArrowBehindOne q.text start → At text f p → Numbered text f (at Params f) p q id → BeforeArrow text f p q id
-      by (inl e) a y = a_head (parenthesized_head a k y (e ∙ n))
+      by : {text : List ℕ} {f : Flags} → (length q.errors ≡ kept) ⊎ ArrowBehindOne q.text start → At text f p → Numbered text f (at Params f) p q id → HeadRead text f p q id
+      by (inl e) a y = read_clean (parenthesized_head a k y (e ∙ n))
       by {text} {f} (inr c) a y = elim y.answer.verdict [
-        | clean e z ↦ a_head (parenthesized_head a k y (ap length e))
-        | unclean g z ↦ told_head (told_parameters a k y g z (no_operand_there a k (subst (λ (v : ℕ). ArrowBehindOne text v) t (subst (λ (v : List ℕ). ArrowBehindOne v start) y.answer.at.text_is c))))
+        | clean e z ↦ read_clean (parenthesized_head a k y (ap length e))
+        | unclean g z ↦ read_unclean (told_parameters a k y g z none) none
       ]
+        where
+          none : Underived text (at Short f) p.prev_token_end
+          none = no_operand_there a k (subst (λ (v : ℕ). ArrowBehindOne text v) t (subst (λ (v : List ℕ). ArrowBehindOne v start) y.answer.at.text_is c))
 
   pub head_unread : {id : NodeId} → Answers (at Params) p q (Ok id) → (length q.errors ≡ kept → ⊥) ⊎ (q.token.kind ≡ Arrow → ⊥) → NoneLooked p q
   head_unread x h = let y = (x _ _ a).answer in ((y.same.follows, y.at.at), y.at.heads, λ text f a. by h (x text f a).answer a, λ w. (y.same.lies w).1)
@@ -546,11 +577,11 @@ some_found p q id r e h = subst (FindsHead p q) e h
 pub none_found : (p q : Parser) (r : Option NodeId) → r ≡ None → FindsHead p q r → Unmoved p q × NoArrowHere p
 none_found p q r e h = subst (FindsHead p q) e h
 
-pub none_looked : (p q : Parser) (r : Option NodeId) → r ≡ None → LooksForHead p q r → NoneLooked p q
-none_looked p q r e h = subst (LooksForHead p q) e h
+pub none_looked : (p o q : Parser) (r : Option NodeId) → o ≡ p → r ≡ None → LooksForHead o q r → NoneLooked p q
+none_looked p o q r s e h = subst (λ (z : Parser). NoneLooked z q) s (subst (LooksForHead o q) e h)
 
-pub some_looked : (p o q : Parser) (id : NodeId) (r : Option NodeId) → o ≡ p → r ≡ Some id → LooksForHead o q r → IsHeadHere p q id
-some_looked p o q id r s e h = subst (λ (z : Parser). IsHeadHere z q id) s (subst (LooksForHead o q) e h)
+pub some_looked : (p o q : Parser) (id : NodeId) (r : Option NodeId) → o ≡ p → r ≡ Some id → LooksForHead o q r → IsHeadRead p q id
+some_looked p o q id r s e h = subst (λ (z : Parser). IsHeadRead z q id) s (subst (LooksForHead o q) e h)
 
 pub head_so : (start kept : ℕ) (q : Parser) {b r : Bool} → r ≡ b → IsHead start kept q r → IsHead start kept q b
 head_so start kept q e h = subst (λ (v : Bool). IsHead start kept q v) e h
@@ -632,6 +663,7 @@ went_back {p} {q} {r} o m f n l g =
         kept = record { comments = b.comments i; irregular_whitespaces = b.blanks i; tokens = before_back p.lexer r.lexer b.token b.keeps_tokens (b.tokens o) i; errors = b.faults i };
       };
       start = ap (λ z. z.span.start) b.token;
+      kind = ap (λ z. z.kind) b.token;
       keeps = s.follows.nodes;
     }
 
@@ -688,12 +720,9 @@ row_of_body : (b : Bool) {text : List ℕ} {f : Flags} {r w : Parser} (y : Answe
 row_of_body false y = y.row
 row_of_body true y = subst (λ (r : Row). may_end Assignment r ≡ true) (sym (body_row (row_of y.label y.slots) y.row)) refl
 
-module _ {text : List ℕ} {f : Flags} {o p : Parser} {id : NodeId} (h : Head text f o p id) (k : p.token.kind ≡ Arrow) where
-  head_is_none : Underived text (at Short f) o.prev_token_end
-  head_is_none = head_no_operand h k
-
+module _ {text : List ℕ} {f : Flags} {o p : Parser} {id : NodeId} (h : Head text f o p id) (v : Underived text (at Short f) o.prev_token_end) (k : p.token.kind ≡ Arrow) where
   to_arrow : Goes rule (Lex text) (after (at Assignment f)) end (rule (at Assignment f)) o.prev_token_end (such (at Arrow' f) always) o.prev_token_end (λ us. us) (still 0)
-  to_arrow = only_arrow f (not_wide h.at) (is_cover h.at) h.no_yield (conditional_none f head_is_none) head_is_none
+  to_arrow = only_arrow f (not_wide h.at) (is_cover h.at) h.no_yield (conditional_none f v) v
 
   -- behind two slots may stand what may stand behind the second one
   inside_arrow : Inside rule arrow_made (after (at Assignment f)) (second f) end (arrow_slots f) o.prev_token_end
@@ -760,36 +789,36 @@ line_nodes : {p q : Parser} → ChecksLine p q → q.nodes ≡ p.nodes
 line_nodes (inl (e, c)) = ap (λ (z : Parser). z.nodes) c.is
 line_nodes (inr (e, i)) = ap (λ (z : Parser). z.nodes) i
 
-module _ {text : List ℕ} {f : Flags} {o p q r : Parser} {id : NodeId} (h : Head text f o p id) (k : p.token.kind ≡ Arrow) (c : ChecksLine p q) (m : Moved text f q r) (b : Bool) (i : same_kind LCurly r.token.kind ≡ b) where
+module _ {text : List ℕ} {f : Flags} {o p q r : Parser} {id : NodeId} (h : Head text f o p id) (v : Underived text (at Short f) o.prev_token_end) (k : p.token.kind ≡ Arrow) (c : ChecksLine p q) (m : Moved text f q r) (b : Bool) (i : same_kind LCurly r.token.kind ≡ b) where
   -- the body can't be read
   pub arrow_stops : (w : Parser) (e : Stop) → Stops r w e (Underived text (body_of b f) r.prev_token_end) → Stops o w e (Underived text (at Assignment f) o.prev_token_end)
   arrow_stops w e s = go c m s
     where
       go : {q : Parser} → ChecksLine p q → Moved text f q r → Stops r w e (Underived text (body_of b f) r.prev_token_end) → Stops o w e (Underived text (at Assignment f) o.prev_token_end)
-      go (inl (l, c)) m s = stops_behind w e (same_both h.same (same_both (line_same (inl (l, c))) m.same)) (λ g. grown_then h.kept (grown_both (kept_one c) (grown_then m.kept g))) (λ z. fails_by (late_rule h k l)) s
-      go (inr (n, j)) m s = stops_behind w e (same_both h.same (same_both (line_same (inr (n, j))) m.same)) (λ g. grown_then (m.kept ∙ (ap (λ (z : Parser). z.errors) j ∙ h.kept)) g) (λ z. body_fails h k n (subst (λ (z : Parser). Moved text f z r) j m) b i z) s
+      go (inl (l, c)) m s = stops_behind w e (same_both h.same (same_both (line_same (inl (l, c))) m.same)) (λ g. grown_then h.kept (grown_both (kept_one c) (grown_then m.kept g))) (λ z. fails_by (late_rule h v k l)) s
+      go (inr (n, j)) m s = stops_behind w e (same_both h.same (same_both (line_same (inr (n, j))) m.same)) (λ g. grown_then (m.kept ∙ (ap (λ (z : Parser). z.errors) j ∙ h.kept)) g) (λ z. body_fails h v k n (subst (λ (z : Parser). Moved text f z r) j m) b i z) s
 
   arrow_path : {w : Parser} → At text f o → (y : Answer text f (body_of b f) r w) → Path text f (after (at Assignment f)) (rule (at Assignment f)) o nothing w (tree (label_here arrow_function_expression no_op o w) (tree h.label h.slots (tree y.label y.slots end)))
   arrow_path {w} a y = go c m
     where
       go : {q : Parser} → ChecksLine p q → Moved text f q r → Path text f (after (at Assignment f)) (rule (at Assignment f)) o nothing w (tree (label_here arrow_function_expression no_op o w) (tree h.label h.slots (tree y.label y.slots end)))
-      go (inr (n, j)) m = body_path h k n (subst (λ (z : Parser). Moved text f z r) j m) b i a y
+      go (inr (n, j)) m = body_path h v k n (subst (λ (z : Parser). Moved text f z r) j m) b i a y
       go {q} (inl (l, c)) m = record {
         at = y.at;
-        further = let v = h.further in let d = line_place (inl (l, c)) in let e = (line_at h.at (inl (l, c))).behind in let g = m.further in let u = m.at.behind in let j = y.further in omega arith;
+        further = let j = h.further in let d = line_place (inl (l, c)) in let e = (line_at h.at (inl (l, c))).behind in let g = m.further in let u = m.at.behind in let i = y.further in omega arith;
         pass = λ ls. h.pass (next m.lexeme (y.pass ls));
         walked = walked_both h.walked (walked_both (walked_from (line_spot (inl (l, c))) (walked_one m)) y.walked);
-        verdict = unclean (grown_then h.kept (behind (grown_first (kept_one c) m.kept) y.verdict)) (late_rule h k l);
+        verdict = unclean (grown_then h.kept (behind (grown_first (kept_one c) m.kept) y.verdict)) (late_rule h v k l);
       }
 
   pub arrow_answers : {w z : Parser} {body made : NodeId} (s : Span) → At text f o → (y : Numbered text f (body_of b f) r w body) → s.start ≡ o.token.span.start → s.end ≡ w.prev_token_end → MadeHere (plain_label node_kind.ArrowFunctionExpression op_made.None s) (Some id ∷ Some body ∷ []) w z made → Numbered text f (at Assignment f) o z made
   arrow_answers {w} {z} {body} {made} s a y u d n =
       let l : plain_label node_kind.ArrowFunctionExpression op_made.None s ≡ label_here arrow_function_expression no_op o w = rw (u, d) refl in
-      let x : MadeHere (label_here arrow_function_expression no_op o w) (Some id ∷ Some body ∷ []) w z made = subst (λ (v : Label). MadeHere v (Some id ∷ Some body ∷ []) w z made) l n in
+      let x : MadeHere (label_here arrow_function_expression no_op o w) (Some id ∷ Some body ∷ []) w z made = subst (λ (j : Label). MadeHere j (Some id ∷ Some body ∷ []) w z made) l n in
       let e : r.nodes ≡ p.nodes = m.nodes ∙ line_nodes c in
       let g : Holds w.nodes (length p.nodes) (length w.nodes) body.0 y.answer.label y.answer.slots = subst (λ (ns : List Node). Holds w.nodes (length ns) (length w.nodes) body.0 y.answer.label y.answer.slots) e y.holds in
-      let v : Keeps p.nodes w.nodes = subst (λ (ns : List Node). Keeps ns w.nodes) e y.keeps in
-      by_path (arrow_path a y.answer) (same_both h.same (same_both (line_same c) (same_both m.same y.answer.same))) x.stays (λ j t. behind_body b y.answer j t) (row_of_body b y.answer) (two_held x h.holds h.keeps g v) (Keeps-trans h.keeps (Keeps-trans v (Keeps-made x.made))) refl (one_lies x)
+      let i : Keeps p.nodes w.nodes = subst (λ (ns : List Node). Keeps ns w.nodes) e y.keeps in
+      by_path (arrow_path a y.answer) (same_both h.same (same_both (line_same c) (same_both m.same y.answer.same))) x.stays (λ j t. behind_body b y.answer j t) (row_of_body b y.answer) (two_held x h.holds h.keeps g i) (Keeps-trans h.keeps (Keeps-trans i (Keeps-made x.made))) refl (one_lies x)
 
 -- ---- and behind what was no head
 
@@ -804,15 +833,15 @@ line_grown (inl (e, c)) g = grown_both g (kept_one c)
 line_grown (inr (e, i)) g = grown_first g (ap (λ (z : Parser). z.errors) i)
 
 pub before_at : {text : List ℕ} {f : Flags} {o p : Parser} {id : NodeId} → BeforeArrow text f o p id → At text f p
-before_at (a_head h) = h.at
+before_at (a_head h v) = h.at
 before_at (told_head x) = x.at
 
 pub before_same : {text : List ℕ} {f : Flags} {o p : Parser} {id : NodeId} → BeforeArrow text f o p id → Same o p
-before_same (a_head h) = h.same
+before_same (a_head h v) = h.same
 before_same (told_head x) = x.same
 
 pub before_further : {text : List ℕ} {f : Flags} {o p : Parser} {id : NodeId} → BeforeArrow text f o p id → o.token.span.start < p.prev_token_end
-before_further (a_head h) = h.further
+before_further (a_head h v) = h.further
 before_further (told_head x) = x.further
 
 -- an AssignmentExpression of which something was told
@@ -832,11 +861,11 @@ refused x n = let t = told_of x n in told_head (record {
 })
 
 pub before_stops : {text : List ℕ} {f : Flags} {o p q r : Parser} {id : NodeId} → BeforeArrow text f o p id → p.token.kind ≡ Arrow → ChecksLine p q → Moved text f q r → (b : Bool) → same_kind LCurly r.token.kind ≡ b → (w : Parser) (e : Stop) → Stops r w e (Underived text (body_of b f) r.prev_token_end) → Stops o w e (Underived text (at Assignment f) o.prev_token_end)
-before_stops (a_head h) k c m b i w e s = arrow_stops h k c m b i w e s
+before_stops (a_head h v) k c m b i w e s = arrow_stops h v k c m b i w e s
 before_stops (told_head x) k c m b i w e s = stops_behind w e (same_both x.same (same_both (line_same c) m.same)) (λ g. grown_both (grown_first (line_grown c x.grown) m.kept) g) (λ z. x.none) s
 
 pub before_answers : {text : List ℕ} {f : Flags} {o p q r w z : Parser} {id body made : NodeId} → BeforeArrow text f o p id → p.token.kind ≡ Arrow → ChecksLine p q → Moved text f q r → (b : Bool) → same_kind LCurly r.token.kind ≡ b → (s : Span) → At text f o → Numbered text f (body_of b f) r w body → s.start ≡ o.token.span.start → s.end ≡ w.prev_token_end → MadeHere (plain_label node_kind.ArrowFunctionExpression op_made.None s) (Some id ∷ Some body ∷ []) w z made → Numbered text f (at Assignment f) o z made
-before_answers (a_head h) k c m b i s a y u d n = arrow_answers h k c m b i s a y u d n
+before_answers (a_head h v) k c m b i s a y u d n = arrow_answers h v k c m b i s a y u d n
 before_answers {text} {f} {o} {p} {q} {r} {w} {z} {id} {body} {made} (told_head v) k c m b t s a y u d n =
     let l : plain_label node_kind.ArrowFunctionExpression op_made.None s ≡ label_here arrow_function_expression no_op o w = rw (u, d) refl in
     let x : MadeHere (label_here arrow_function_expression no_op o w) (Some id ∷ Some body ∷ []) w z made = subst (λ (j : Label). MadeHere j (Some id ∷ Some body ∷ []) w z made) l n in

@@ -2,25 +2,24 @@
 use Rattle.js_targets.proofs.Refused.{no_target, short_follows}
 use Rattle.std.proofs.Common.{ℕ, ◌≡◌, ◌⊎◌, inl, inr, List, [], ◌∷◌, length, Bool, true, false, not, ◌||◌, IsTrue, Option, Some, None, refl, sym, ap, subst, arith, ◌∙◌}
 use Rattle.std.specs.Prelude.{IsCharBoundary, is_some, if◌then◌else◌}
-use Rattle.std.proofs.lemmas.Bool.{false≢true, and_from, and_parts}
+use Rattle.std.proofs.lemmas.Bool.{false≢true, and_from}
 use Rattle.js_base.specs.declared.diagnostic.Diagnostic.{Diagnostic}
 use Rattle.js_base.specs.declared.kind.Kind.{Kind}
-use Rattle.js_base.specs.declared.kind.Kind.TheVariants.{Question, Eq, LCurly, RegExp}
+use Rattle.js_base.specs.declared.kind.Kind.TheVariants.{Question, Eq, RegExp}
 use Rattle.js_base.specs.declared.operator.AssignmentOperator.{AssignmentOperator}
 use Rattle.js_base.specs.declared.span.Span.{Span}
 use Rattle.js_base.specs.Kinds.{same_kind, one_of_kinds}
 use Rattle.js_base.specs.Operators.{row_of as row_in, assignment_operators}
 use Rattle.js_base.proofs.KindLemmas.{kind_of_same}
 use Rattle.js_grammar.specs.Trees.{Span as TreeSpan, Label, Slots, end, tree, Tree, of, assignment_expression}
-use Rattle.js_grammar.specs.Grammar.{Lexeme, Lexemes, Look, here, seen, such, nothing, exact, Takes, is_seq, is_lexeme, is_such, is_node}
+use Rattle.js_grammar.specs.Grammar.{Lexeme, Lexemes, Look, here, seen, such, nothing, exact, Takes, is_seq, is_lexeme, is_such}
 use Rattle.js_grammar.specs.Insertion.{Row, after_expression, assign_operators}
 use Rattle.js_grammar.specs.Lexemes.{is_escaped}
 use Rattle.js_grammar.specs.Marks.{Mark}
-use Rattle.js_grammar.specs.Parsing.{Test, always, Admits, Fails, Goes, still}
-use Rattle.js_grammar.specs.Productions.{Flags, Symbol, at, Assignment, ObjectTarget, Short, Target}
+use Rattle.js_grammar.specs.Parsing.{Test, always, Admits, Goes, still}
+use Rattle.js_grammar.specs.Productions.{Flags, Symbol, at, Assignment, Short, Target}
 use Rattle.js_grammar.specs.Productions.{sym as symbol}
-use Rattle.js_grammar.specs.Table.{rule, rule_of}
-use Rattle.js_grammar.specs.Lexed.{Lexes}
+use Rattle.js_grammar.specs.Table.{rule}
 use Rattle.js_grammar.specs.Follow.{edge_of, follow, after, looser, widest}
 use Rattle.js_grammar.proofs.Looks.{covered}
 use Rattle.js_grammar.proofs.Calculus.{On, Inside, ◌▹✗◌, fails_node, weaken_fails_on}

@@ -1,15 +1,12 @@
 -- AwaitExpressions (ECMA-262, 15.8).
-use Rattle.std.proofs.Common.{ℕ, ◌≡◌, Bool, true, false, not, ◌&&◌, ◌||◌, IsTrue, List, [], ◌∷◌, length, Some, refl, sym, ap, subst, ◌∙◌}
-use Rattle.std.proofs.lemmas.Bool.{false≢true}
+use Rattle.std.proofs.Common.{ℕ, ◌≡◌, Bool, true, false, IsTrue, List, [], ◌∷◌, length, Some, refl, sym, ap, subst, ◌∙◌}
 use Rattle.js_base.specs.Contexts.{has_flag, await_flag}
-use Rattle.js_base.specs.declared.kind.Kind.{Kind}
 use Rattle.js_base.specs.declared.kind.Kind.TheVariants.{Await}
 use Rattle.js_base.specs.declared.span.Span.{Span}
-use Rattle.js_base.specs.Kinds.{same_kind, one_of_kinds}
-use Rattle.js_base.proofs.KindLemmas.{kind_of_same}
+use Rattle.js_base.specs.Kinds.{one_of_kinds}
 use Rattle.js_grammar.specs.Trees.{Label, Slots, end, tree, await_expression, no_op}
-use Rattle.js_grammar.specs.Grammar.{Lexemes, here, seen, exact, such, nothing, Takes, is_seq, is_lexeme, is_such, ◌▸◌}
-use Rattle.js_grammar.specs.Parsing.{Admits, always, Goes, still}
+use Rattle.js_grammar.specs.Grammar.{Lexemes, here, seen, exact, nothing, Takes, is_seq, is_lexeme, is_such, ◌▸◌}
+use Rattle.js_grammar.specs.Parsing.{Admits, Goes, still}
 use Rattle.js_grammar.specs.Productions.{Flags, at, tok, mk, Unary, Update}
 use Rattle.js_grammar.specs.Productions.{sym as symbol}
 use Rattle.js_grammar.specs.Table.{rule}

@@ -13,7 +13,7 @@ use Rattle.js_grammar.specs.Grammar.{Lexeme, Lexemes, Look, here, seen, such, no
 use Rattle.js_grammar.specs.Insertion.{Row, after_expression, after_postfix, after_body, after_yield, after_declarator, after_word, assign_operators}
 use Rattle.js_grammar.specs.Lexemes.{is_word}
 use Rattle.js_grammar.specs.Parsing.{Test, always, Admits, Goes, Fails, still}
-use Rattle.js_grammar.specs.Productions.{G, Flags, at, tok, mk, plus_in, Arrow', Assignment, Conditional, Short}
+use Rattle.js_grammar.specs.Productions.{G, Flags, at, tok, mk, plus_in, Assignment, Conditional, Short}
 use Rattle.js_grammar.specs.Productions.{sym as symbol}
 use Rattle.js_grammar.specs.Table.{rule, rule_of}
 use Rattle.js_grammar.specs.Follow.{edge_of, row_of, follow, after, looser, widest}

@@ -52,7 +52,6 @@ use Rattle.js_parsing.specs.States.{At}
 use Rattle.js_parsing.specs.Moves.{Moved, MadeHere, IsWholeHere, plain_label, unpassable}
 use Rattle.js_parsing.specs.Answers.{Grown, Verdict, clean, unclean, Stretch, Underived, Answer, Numbered}
 use Rattle.js_parsing.proofs.Signs.{plain_sign, other_kind}
-use Rattle.js_parsing.proofs.Dead.{fails_dead}
 use Rattle.js_parsing.proofs.Giving.{kept_one}
 use Rattle.js_parsing.proofs.Told.{beside_errors}
 use Rattle.js_parsing.proofs.Here.{kind_here, found, uncut, begins_here, unsettled}

@@ -1,10 +1,10 @@
--- Formal parameters are read alike whatever In, Return and NewTarget are around them (ECMA-262, 15.1): an initialiser stands under In, a `return` in a body alone, and `target` isn't read yet.
+-- Formal parameters and arguments are read alike whatever In, Return and NewTarget are around them (ECMA-262, 13.3.8 and 15.1): an initialiser and an argument stand under In, a `return` in a body alone, and `target` isn't read yet.
 use Rattle.std.proofs.Common.{ℕ, ◌≡◌, Bool, true, false, not, cond, IsTrue, refl, sym, subst, ◌∙◌, rules}
 use Rattle.js_grammar.specs.Trees.{Slots, tree}
 use Rattle.js_grammar.specs.Grammar.{Lexemes, here, seen, nothing, never, lexeme, look, text, ahead, empty_slot, seq, alt, when, many, commas, such, marked, node, ended, keep, kept, label_of, semicolon, commas_once, Takes, is_nothing, is_lexeme, is_look, is_text, is_ahead, is_empty_slot, is_seq, is_left, is_right, is_when, is_many, is_commas, is_such, is_marked, is_node, is_ended, is_keep, is_kept}
 use Rattle.js_grammar.specs.Parsing.{always}
 use Rattle.js_grammar.specs.Productions.{G, Flags, Name, Symbol, at, Program, Directive, Item, ListItem, Statement, Sub, Block, Empty, ExprStmt, Var, Lexical, Init, If, Do, While, With, For, ForInit, ForIn, ForOf, Continue, Break, Return, Throw, Switch, Case, Try, Catch, Debugger, Labeled, Function, FuncExpr, Params, Param, Rest, Body, Arrow', Class, ClassExpr, ClassBody, Element, Decorator, DecoratorMember, Object, Property, Expression, Assignment, Yield, Conditional, Short, Coalesce, Or, And, BitOr, BitXor, BitAnd, Equality, Relational, Shift, Additive, Multiply, Exponent, Unary, Update, LeftHandSide, New, Member, Call, Chain, Links, Super, Argument, Primary, Template, IdentifierReference, BindingIdentifier, LabelIdentifier, IdentifierName, PrivateName, SimpleTarget, Target, ArrayTarget, ObjectTarget, TargetElement, TargetProperty, Binding, BElement, Pattern, PatternProperty, BindingRest, ImportDecl, Spec, ExportName, Attrs, Attr, ExportDecl, LooseHead}
-use Rattle.js_grammar.specs.Table.{rule, rule_of}
+use Rattle.js_grammar.specs.Table.{rule, rule_of, args}
 use Rattle.js_grammar.proofs.Looks.{apart}
 use Rattle.js_parsing.proofs.Dead.{AllRead, dead, none, stays}
 
@@ -126,7 +126,7 @@ akin_at With f b c d = search rules
 akin_at For f b c d = search rules
 akin_at ForInit f b c d = search rules
 akin_at ForIn f b c d = search rules
-akin_at ForOf f b c d = ((refl, (refl, (refl, (tt, ((refl, ((search rules, (refl, search rules)), refl)), search rules))))), search rules)
+akin_at ForOf f b c d = ((refl, (refl, (refl, (tt, ((refl, ((search rules, (refl, search rules)), refl)), search rules))))), (refl, (refl, (refl, (refl, ((refl, ((search rules, (refl, search rules)), refl)), search rules))))))
 akin_at Continue f b c d = search rules
 akin_at Break f b c d = search rules
 akin_at Return f b c d = search rules
@@ -259,3 +259,6 @@ related g h e d r = absurd e
 
 pub params_alike : (f g : Flags) → g ≡ record f { in_ = g.in_; return_ = g.return_; new_target = g.new_target } → {ks ts us : Slots} {i j : ℕ} {ls rest : Lexemes} → Takes rule (such (at Params f) always) ks ts i ls us j rest → AllRead ls → Takes rule (such (at Params g) always) ks ts i ls us j rest
 params_alike f g e d r = related (such (at Params f) always) (such (at Params g) always) ((refl, e, tt, tt), refl) d r
+
+pub args_alike : (f g : Flags) → g ≡ record f { in_ = g.in_; return_ = g.return_; new_target = g.new_target } → {ks ts us : Slots} {i j : ℕ} {ls rest : Lexemes} → Takes rule (args f) ks ts i ls us j rest → AllRead ls → Takes rule (args g) ks ts i ls us j rest
+args_alike f g e d r = related (args f) (args g) (refl, (((refl, ((refl, e, tt, tt), refl)), tt), refl)) d r

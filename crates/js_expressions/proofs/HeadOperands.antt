@@ -1,10 +1,10 @@
 -- Whether the first expression in the head of a `for` may be a target (ECMA-262, 14.7.5).
-use Rattle.std.proofs.Common.{ℕ, ◌≡◌, inl, inr, List, [], ◌∷◌, length, get_or, Bool, true, false, not, ◌&&◌, IsTrue, None, refl, sym, ap, subst, ◌∙◌}
+use Rattle.std.proofs.Common.{ℕ, ◌≡◌, inl, inr, List, [], ◌∷◌, length, get_or, Bool, true, false, not, IsTrue, None, refl, sym, ap, subst, ◌∙◌}
 use Rattle.std.proofs.lemmas.Bool.{and_parts}
 use Rattle.std.proofs.lemmas.List.{get_or_push}
 use Rattle.std.specs.Prelude.{Option, Result, Ok, Err, IfOk}
 use Rattle.js_base.specs.declared.kind.Kind.{Kind}
-use Rattle.js_base.specs.declared.kind.Kind.TheVariants.{Comma, In, Of, Question}
+use Rattle.js_base.specs.declared.kind.Kind.TheVariants.{Comma, In, Of}
 use Rattle.js_base.specs.Kinds.{one_of_kinds}
 use Rattle.js_grammar.specs.Trees.{Label, Slots}
 use Rattle.js_grammar.specs.Grammar.{Lexeme, seen}
@@ -12,9 +12,8 @@ use Rattle.js_grammar.specs.Insertion.{assign_operators}
 use Rattle.js_grammar.specs.Productions.{Flags, at, Short}
 use Rattle.js_grammar.proofs.Looks.{apart, not_both}
 use Rattle.js_tree.specs.declared.id.NodeId.{NodeId}
-use Rattle.js_tree.specs.Holding.{Holds, Made, Stands, stands}
+use Rattle.js_tree.specs.Holding.{Made, Stands, stands}
 use Rattle.js_tree.specs.Nodes.{Node, empty_program, label}
-use Rattle.js_cursor.specs.Moves.{OnlyMemory}
 use Rattle.js_cursor.specs.Parsers.{Parser}
 use Rattle.js_cursor.specs.declared.stop.Stop.{Stop}
 use Rattle.js_cursor.specs.declared.stop.Stop.TheVariants.{Fatal, NoMemory}
@@ -28,7 +27,7 @@ use Rattle.js_targets.specs.Taken.{NoTargetFrom, goes_through}
 use Rattle.js_targets.specs.Targets.{is_literal, target_of}
 use Rattle.js_targets.proofs.ArraysBeforeSigns.{is_cover, not_wide}
 use Rattle.js_targets.proofs.HeadTargets.{before_these, none_before, none_unread}
-use Rattle.js_expressions.specs.Arrows.{FindsHead, NoOperandHere, SearchesHead, Unmoved}
+use Rattle.js_expressions.specs.Arrows.{NoOperandHere, Unmoved}
 use Rattle.js_expressions.specs.HeadOperands.{HeadOperand, IsNoTarget, OperandOutcome, StaysOperand, no_target, operand}
 use Rattle.js_expressions.proofs.Arrows.{from_unmoved}
 

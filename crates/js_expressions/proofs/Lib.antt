@@ -16,7 +16,9 @@ pub mod Operations
 pub mod ParenthesizedFronts
 pub mod Refusals
 pub mod Sequences
+pub mod SlashedHeads
 pub mod SlashOperators
+pub mod SlashesInText
 pub mod Updates
 pub mod Awaits
 pub mod Yields

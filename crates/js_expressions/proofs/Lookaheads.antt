@@ -1,5 +1,5 @@
 -- What the lexeme behind an opening parenthesis says of the head of an arrow function (ECMA-262, 15.3).
-use Rattle.std.proofs.Common.{ℕ, ◌≡◌, List, Bool, true, false, IsTrue, None, refl, sym, ap, subst, arith, ◌∙◌, inl, inr}
+use Rattle.std.proofs.Common.{ℕ, ◌≡◌, ◌⊎◌, List, Bool, true, false, IsTrue, None, refl, sym, ap, subst, arith, ◌∙◌, inl, inr}
 use Rattle.std.specs.Prelude.{Ok}
 use Rattle.std.proofs.lemmas.Bool.{false≢true}
 use Rattle.js_base.specs.declared.diagnostic.DiagnosticKind.TheVariants.{ExpectToken}
@@ -16,7 +16,7 @@ use Rattle.js_grammar.specs.Productions.{G, Flags, at, tok, mk, plus_in, with_pi
 use Rattle.js_grammar.specs.Table.{rule, rule_of}
 use Rattle.js_grammar.specs.FirstSets.{first}
 use Rattle.js_grammar.specs.Follow.{after}
-use Rattle.js_grammar.proofs.Calculus.{◌▹◌, ◌▹✗◌, left, fails_node, inside_full}
+use Rattle.js_grammar.proofs.Calculus.{◌▹◌, ◌▹✗◌, fails_node, inside_full}
 use Rattle.js_grammar.proofs.First.{starts}
 use Rattle.js_grammar.proofs.FirstClaims.{firsts}
 use Rattle.js_grammar.proofs.FirstRules.{fails_here}
@@ -35,16 +35,14 @@ use Rattle.js_parsing.specs.Lexemes.{Lex, slashes}
 use Rattle.js_parsing.specs.Operators.{unary_kinds}
 use Rattle.js_parsing.specs.States.{At}
 use Rattle.js_parsing.proofs.Classes.{here_ends}
-use Rattle.js_parsing.proofs.Dead.{live, lives}
 use Rattle.js_parsing.proofs.Giving.{gives_up}
 use Rattle.js_parsing.proofs.Here.{one_plain, plainly, told, uncut, unsettled, settled_kind, plain_there, plain_same, Plainly}
 use Rattle.js_parsing.proofs.Moving.{stops_behind, stops_so}
-use Rattle.js_parsing.proofs.Paths.{at_kind, fails_at}
-use Rattle.js_parsing.proofs.Phrases.{no_operator, lift_fails, unary_part}
+use Rattle.js_parsing.proofs.Paths.{at_kind}
+use Rattle.js_parsing.proofs.Phrases.{no_operator, lift_fails}
 use Rattle.js_parsing.proofs.Verdicts.{after as grown_behind}
 use Rattle.js_patterns.specs.Parameters.{parameters_left}
 use Rattle.js_patterns.proofs.ParameterLists.{no_params}
-use Rattle.js_grammar.specs.Grammar.{alt}
 use Rattle.js_expressions.specs.Arrows.{IsHeadHere, NoArrowHere, NoAssignment, Unmoved, NoOperandHere}
 use Rattle.js_expressions.specs.Lookaheads.{begins_operand, LooksAhead}
 use Rattle.js_expressions.specs.declared.lookahead.HeadLookahead.{HeadLookahead}

@@ -320,7 +320,7 @@ module _ {text : List ℕ} {f : Flags} where
         let k : power_of f.in_ t.token.kind ≡ power_of f.in_ y.kind = ap (power_of f.in_) z.kind in omega arith
 
     no_operator : (q' : ℕ) → m ≤ q' → q' ≤ s.cap → (y : Lexeme) → Lex text q.prev_token_end y → OneOf y.kind (operators_at f q') → ⊥
-    no_operator q' a b y l i = let h = operator_level f q' i in let o = listed_low f.in_ q' i in let p = (l.0, plain_so y l.1 (operator_plain f q' i)) in let k = power_listed f.in_ y p.1 (omega arith) (omega arith) in let w = weak y p in absurd (omega arith)
+    no_operator q' a b y l i = let h = operator_level f q' i in let o = listed_low f.in_ q' i in let p : Plain text q.prev_token_end y = (l.0, plain_so y l.1 (operator_plain f q' i)) in let k = power_listed f.in_ y p.1 (omega arith) (omega arith) in let w = weak y p in absurd (omega arith)
 
     pub operands_answer : m ≤ 10 → Numbered text f (level_at f m) p t id
     operands_answer h = record {

@@ -1,5 +1,5 @@
 -- The loop over operators where a regular expression may stand in the place of the division sign: nothing goes on with it, and nothing ends before it (ECMA-262, 12).
-use Rattle.std.proofs.Common.{ℕ, zero, suc, ◌≡◌, ◌≤◌, ◌<◌, ◌+◌, ◌⊎◌, inl, inr, Bool, true, false, ◌||◌, List, [], ◌∷◌, IsTrue, refl, sym, ap, subst, arith, ◌∙◌}
+use Rattle.std.proofs.Common.{ℕ, zero, suc, ◌≡◌, ◌≤◌, ◌+◌, ◌⊎◌, inl, Bool, true, false, ◌||◌, List, [], ◌∷◌, IsTrue, refl, sym, ap, subst, arith, ◌∙◌}
 use Rattle.std.proofs.lemmas.Bool.{false≢true, ltb-true}
 use Rattle.js_base.specs.declared.kind.Kind.{Kind}
 use Rattle.js_base.specs.declared.kind.Kind.TheVariants.{RegExp, Slash, SlashEq}
@@ -7,22 +7,21 @@ use Rattle.js_base.specs.Kinds.{same_kind, one_of_kinds}
 use Rattle.js_base.proofs.KindLemmas.{kind_of_same}
 use Rattle.js_grammar.specs.Trees.{Label, Slots, end, tree}
 use Rattle.js_grammar.specs.Grammar.{Lexeme, seen, such}
-use Rattle.js_grammar.specs.Insertion.{Row}
 use Rattle.js_grammar.specs.Parsing.{Admits, Fails, Reads, Way, always, joined, full, plain}
 use Rattle.js_grammar.proofs.First.{starts}
 use Rattle.js_grammar.specs.Productions.{Flags, Symbol}
 use Rattle.js_grammar.specs.Table.{rule}
 use Rattle.js_grammar.specs.Levels.{feet_at, level_at, node_at, operators_at, operators_of, top_level}
-use Rattle.js_grammar.specs.Follow.{after, edge_of, first_edge, follow, looser, row_of, tight}
+use Rattle.js_grammar.specs.Follow.{after, first_edge, follow, looser, row_of, tight}
 use Rattle.js_grammar.specs.FirstSets.{first}
 use Rattle.js_grammar.proofs.FirstClaims.{firsts}
 use Rattle.js_grammar.proofs.FollowLaws.{counts_as_slash}
-use Rattle.js_grammar.proofs.Loops.{Alone, Around, one_operator, part_at, step, step_fails}
+use Rattle.js_grammar.proofs.Loops.{Alone, Around, Step, one_operator, part_at, step, step_fails}
 use Rattle.js_grammar.proofs.OperatorEdges.{level_looser, one_level, operator_edges, operator_exactly}
 use Rattle.js_grammar.proofs.OperatorLoops.{operand_follow}
 use Rattle.js_grammar.proofs.Operators.{climbs, levels, operates}
 use Rattle.js_grammar.proofs.RightEdges.{of_operand}
-use Rattle.js_grammar.proofs.Towers.{Link, OneOf, Step, head, later, linked_label}
+use Rattle.js_grammar.proofs.Towers.{Link, OneOf, head, later, linked_label}
 use Rattle.js_parsing.specs.Lexemes.{Lex, Plain, slashes}
 use Rattle.js_parsing.specs.Operators.{power_of}
 use Rattle.js_parsing.proofs.Tight.{plain_so, read_plain}
@@ -30,6 +29,7 @@ use Rattle.js_parsing.proofs.Tight.{plain_so, read_plain}
 -- ---- no operator is a regular expression
 
 among_plain : (ks : List Kind) {k : Kind} → OneOf k ks → one_of_kinds ks RegExp ≡ false → same_kind RegExp k ≡ false
+among_plain [] i n = elim i [ ]
 among_plain (x ∷ ks) {k} head n = go (same_kind RegExp k) refl
   where
     go : (b : Bool) → same_kind RegExp k ≡ b → same_kind RegExp k ≡ false
@@ -69,19 +69,19 @@ division_sign b k h l = go (same_kind Slash k) (same_kind SlashEq k) refl refl h
 
 -- ---- the operator that stands here
 
+-- nothing that ends here may stand before it
+ends_not : (f : Flags) {m q : ℕ} {k : Kind} (l : Label) (cs : Slots) → m ≤ q → q ≤ 9 → OneOf k (operators_at f q) → of_operand (row_of l cs) ≡ true → (y : Lexeme) → (y.kind ≡ k) × (y.escaped ≡ false) → follow (level_at f m) (first_edge (tree l cs end)) y.kind y.newline y.escaped ≡ true → ⊥
+ends_not f {m} {q} {k} l cs a d i o y z e =
+    let t : looser (m + 5) f.in_ (row_of l cs) y.kind y.newline y.escaped ≡ true = sym (level_looser f m (tree l cs end) y (omega arith)) ∙ e in
+    let u : looser (m + 5) f.in_ (row_of l cs) k y.newline false ≡ true = subst (λ v. looser (m + 5) f.in_ (row_of l cs) k y.newline v ≡ true) z.1 (subst (λ v. looser (m + 5) f.in_ (row_of l cs) v y.newline y.escaped ≡ true) z.0 t) in
+    let v = ltb-true (tight f.in_ (row_of l cs) k y.newline false) (m + 5) u in
+    let w = operator_exactly f q i (row_of l cs) y.newline o in
+    absurd (omega arith)
+
 module _ (f : Flags) {text : List ℕ} where
   module _ {m c s' q : ℕ} {k : Kind} {l : Label} {cs : Slots} (h : (y : Lexeme) → Plain text s' y → (y.kind ≡ k) × (y.escaped ≡ false)) (p : (y : Lexeme) → Lex text s' y → y.kind ≡ RegExp → k ≡ Slash) (a : m ≤ q) (b : q ≤ c) (d : q ≤ 9) (i : OneOf k (operators_at f q)) (o : of_operand (row_of l cs) ≡ true) where
-    -- nothing that ends here may stand before it
-    ends_not : (y : Lexeme) → (y.kind ≡ k) × (y.escaped ≡ false) → follow (level_at f m) (first_edge (tree l cs end)) y.kind y.newline y.escaped ≡ true → ⊥
-    ends_not y z e =
-        let t : looser (m + 5) f.in_ (row_of l cs) y.kind y.newline y.escaped ≡ true = sym (level_looser f m (tree l cs end) y (omega arith)) ∙ e in
-        let u : looser (m + 5) f.in_ (row_of l cs) k y.newline false ≡ true = subst (λ v. looser (m + 5) f.in_ (row_of l cs) k y.newline v ≡ true) z.1 (subst (λ v. looser (m + 5) f.in_ (row_of l cs) v y.newline y.escaped ≡ true) z.0 t) in
-        let v = ltb-true (tight f.in_ (row_of l cs) k y.newline false) (m + 5) u in
-        let w = operator_exactly f q i (row_of l cs) y.newline o in
-        absurd (omega arith)
-
     plainly_alone : Alone firsts (Plain text) (after (level_at f m)) (levels f) m c s' q (operates f q k) l cs
-    plainly_alone = one_operator firsts (level_at f) top_level node_at (feet_at f) (operators_at f) (climbs f) k (λ y z. (h y z).0) a b d i (λ q' j. one_level f q q' i j) (λ y z e. ends_not y (h y z) e.1)
+    plainly_alone = one_operator firsts (level_at f) top_level node_at (feet_at f) (operators_at f) (climbs f) k (λ y z. (h y z).0) a b d i (λ q' j. one_level f q q' i j) (λ y z e. ends_not f l cs a d i o y (h y z) e.1)
 
     alone : Alone firsts (Lex text) (after (level_at f m)) (levels f) m c s' q (operates f q k) l cs
     alone = record { step = plainly_alone.step; other = others; goes_on = goes_on }
@@ -101,7 +101,7 @@ module _ (f : Flags) {text : List ℕ} where
             go true r =
                 let is : y.kind ≡ RegExp = sym (kind_of_same RegExp y.kind r) in
                 let slash : follow (level_at f m) (first_edge (tree l cs end)) Slash y.newline y.escaped ≡ true = sym (counts_as_slash (level_at f m) (first_edge (tree l cs end)) y.newline y.escaped) ∙ subst (λ (v : Kind). follow (level_at f m) (first_edge (tree l cs end)) v y.newline y.escaped ≡ true) is e.1 in
-                ends_not (record y { kind = Slash }) (sym (p y n is), read_plain y n.1) slash
+                ends_not f l cs a d i o (record y { kind = Slash }) (sym (p y n is), read_plain y n.1) slash
 
     pub slash_step : {s from s'' : ℕ} {way rm : Way} {g : Slots → Slots} → Around (Lex text) (after (level_at f m)) (levels f) m s from c l cs s' way → Reads rule (Lex text) (after (level_at f (q + 1))) end (operates f q k).part s' s'' g rm → Around (Lex text) (after (level_at f m)) (levels f) m s from q (linked_label (operates f q k) from s'') (tree l cs (g end)) s'' (joined way rm)
     slash_step x r = step firsts x alone r (operator_edges f m q k a d) (operand_follow f m q (q + 1) (omega arith) (inl (omega arith)))

@@ -9,8 +9,8 @@ use Rattle.js_base.specs.Kinds.{same_kind, one_of_kinds}
 use Rattle.js_base.specs.Operators.{row_of as row_in, update_operators}
 use Rattle.js_base.specs.Texts.{words}
 use Rattle.js_base.proofs.KindLemmas.{kind_of_same}
-use Rattle.js_grammar.specs.Trees.{Slots, end, tree, Tree, Label, NodeKind, Op, of, update_expression}
-use Rattle.js_grammar.specs.Grammar.{Lexeme, Look, here, seen, such, nothing, exact, alt, ◌▸◌}
+use Rattle.js_grammar.specs.Trees.{Slots, end, tree, Tree, Label, of, update_expression}
+use Rattle.js_grammar.specs.Grammar.{Lexeme, Look, seen, such, nothing, exact, alt, ◌▸◌}
 use Rattle.js_grammar.specs.Insertion.{Row, after_expression, after_postfix}
 use Rattle.js_grammar.specs.Lexemes.{is_word}
 use Rattle.js_grammar.specs.Parsing.{Test, plain, full, always, Admits, Goes, Fails, still}
@@ -20,7 +20,7 @@ use Rattle.js_grammar.specs.Table.{rule, rule_of}
 use Rattle.js_grammar.specs.Follow.{row_of, after, looser, widest}
 use Rattle.js_grammar.proofs.Lexemes.{first_or}
 use Rattle.js_grammar.proofs.Looks.{covers, covered, apart}
-use Rattle.js_grammar.proofs.Calculus.{Inside, makes_by, here_at, ◌▹◌, ◌▹✗◌, left, right, then_by, looks, fails_node, inside_full, fails_alt, fails_nothing, weaken_fails_on}
+use Rattle.js_grammar.proofs.Calculus.{Inside, ◌▹◌, ◌▹✗◌, left, right, then_by, looks, fails_node, inside_full, fails_alt, fails_nothing, weaken_fails_on}
 use Rattle.js_grammar.proofs.FirstClaims.{firsts}
 use Rattle.js_grammar.proofs.FirstRules.{then, fails_part, fails_here}
 use Rattle.js_grammar.proofs.FollowLaws.{admits, same_read, fails_by, passes_on}
@@ -41,7 +41,7 @@ use Rattle.js_parsing.specs.Answers.{Underived, Answer, Numbered, beside}
 use Rattle.js_targets.specs.Targets.{target_of, TargetNode}
 use Rattle.js_parsing.proofs.Signs.{plain_sign}
 use Rattle.js_targets.proofs.Covers.{row_of_target, target_path, target_fails, target_unread}
-use Rattle.js_parsing.proofs.Here.{kind_here, uncut, begins_here, unsettled, newline_here}
+use Rattle.js_parsing.proofs.Here.{kind_here, unsettled, newline_here}
 use Rattle.js_parsing.proofs.MadeNodes.{one_held, one_lies}
 use Rattle.js_parsing.proofs.Moving.{same_both}
 use Rattle.js_operands.proofs.Operands.{by_path}
@@ -260,7 +260,7 @@ postfix_answers {text} {f} {p} {q} {r} {z} {operand} {target} {id} {o} s a n x w
     let h : Holds r.nodes (length p.nodes) (length r.nodes) target.0 t.tree.label t.tree.slots = subst (λ (ns : List Node). Holds ns (length p.nodes) (length ns) target.0 t.tree.label t.tree.slots) (sym m.nodes) t.holds in
     let k : Keeps p.nodes r.nodes = subst (λ (ns : List Node). Keeps p.nodes ns) (sym m.nodes) x.keeps in
     by_path (postfix_path a n x.answer w q.token.kind u refl e m t.tree t.is) (same_both x.answer.same m.same) made.stays
-    (λ y i. covered reads (λ k w e. looser 16 f.in_ after_postfix k w e || beside k w e) (behind_sign f.in_) y.kind y.newline y.escaped i.1) refl (one_held p.nodes made h) (Keeps-trans k (Keeps-made made.made)) refl (one_lies made)
+    (λ y i. covered reads (λ k w e. looser 16 f.in_ after_postfix k w e || beside k w e) (behind_sign f.in_) y.kind y.newline y.escaped (plain_is_read y i.1)) refl (one_held p.nodes made h) (Keeps-trans k (Keeps-made made.made)) refl (one_lies made)
 
 -- ---- a prefix operator
 

@@ -1,19 +1,19 @@
 -- YieldExpressions (ECMA-262, 15.5).
-use Rattle.std.proofs.Common.{ℕ, ◌≡◌, ◌<◌, ◌⊎◌, inl, inr, Bool, true, false, not, ◌&&◌, ◌||◌, IsTrue, List, [], ◌∷◌, length, Option, Some, None, refl, sym, ap, subst, arith, ◌∙◌}
-use Rattle.std.proofs.lemmas.Bool.{false≢true, and_parts, and_from, or_left}
-use Rattle.js_base.specs.Contexts.{has_flag, yield_flag}
+use Rattle.std.proofs.Common.{ℕ, ◌≡◌, ◌⊎◌, inl, inr, Bool, true, false, not, ◌&&◌, ◌||◌, IsTrue, List, [], ◌∷◌, length, Some, None, refl, sym, ap, subst, ◌∙◌}
+use Rattle.std.proofs.lemmas.Bool.{false≢true, and_from, or_left}
 use Rattle.js_base.specs.declared.kind.Kind.{Kind}
-use Rattle.js_base.specs.declared.kind.Kind.TheVariants.{PrivateIdentifier, RAngle, Star, Yield}
+use Rattle.js_base.specs.declared.kind.Kind.TheVariants.{PrivateIdentifier, RAngle, RegExp, Star, Yield}
 use Rattle.js_base.specs.declared.span.Span.{Span}
 use Rattle.js_base.specs.Kinds.{same_kind, one_of_kinds}
 use Rattle.js_base.specs.Texts.{words}
+use Rattle.js_base.proofs.KindLemmas.{kind_of_same}
 use Rattle.js_grammar.specs.Trees.{Span as TreeSpan, Label, Slots, end, hole, tree, yield_expression, no_op}
 use Rattle.js_grammar.specs.Grammar.{Lexeme, Lexemes, Look, here, seen, exact, such, nothing, alt, empty_slot, Takes, is_seq, is_left, is_right, is_lexeme, is_look, is_such, is_empty_slot, ◌▸◌}
 use Rattle.js_grammar.specs.Insertion.{after_yield}
 use Rattle.js_grammar.specs.Lexed.{Lexes}
 use Rattle.js_grammar.specs.Lexemes.{is_word}
 use Rattle.js_grammar.specs.Parsing.{Test, plain, full, Admits, always, Goes, Fails, still}
-use Rattle.js_grammar.specs.Productions.{G, Flags, at, tok, mk, make, slot, no_newline, delegate_flag, Arrow', Assignment, Conditional}
+use Rattle.js_grammar.specs.Productions.{G, Flags, at, tok, mk, make, slot, no_newline, delegate_flag, Arrow', Assignment, Conditional, Target}
 use Rattle.js_grammar.specs.Productions.{sym as symbol, Yield as Yield'}
 use Rattle.js_grammar.specs.Table.{rule, rule_of}
 use Rattle.js_grammar.specs.FirstSets.{first}
@@ -30,22 +30,22 @@ use Rattle.js_tree.specs.declared.op.Op.TheVariants as op_made
 use Rattle.js_tree.specs.Nodes.{Node}
 use Rattle.js_tree.specs.Holding.{Holds, Keeps}
 use Rattle.js_tree.proofs.HoldingLemmas.{HoldsAll-one_hole, Keeps-refl, Keeps-trans, Keeps-made, Keeps-longer}
-use Rattle.js_lex.specs.Reading.{is_right_angle}
 use Rattle.js_cursor.specs.Parsers.{Parser}
-use Rattle.js_cursor.specs.declared.stop.Stop.{Stop}
-use Rattle.js_parsing.specs.Answers.{Underived, Answer, Numbered, Stops, beside}
-use Rattle.js_parsing.specs.Lexemes.{Lex}
+use Rattle.js_parsing.specs.Answers.{Underived, Answer, Numbered}
+use Rattle.js_parsing.specs.Lexemes.{Lex, slashes}
 use Rattle.js_parsing.specs.Moves.{Moved, MadeHere, plain_label}
 use Rattle.js_parsing.specs.States.{At}
 use Rattle.js_parsing.proofs.Ahead.{pass_over}
-use Rattle.js_parsing.proofs.Here.{told, angled, uncut, kind_here, newline_here}
+use Rattle.js_parsing.proofs.Here.{told, told_plain, angled, uncut, kind_here, newline_here}
 use Rattle.js_parsing.proofs.MadeNodes.{node_held, one_held, one_lies}
 use Rattle.js_parsing.proofs.Moving.{same_both}
 use Rattle.js_parsing.proofs.NamedFirsts.{fails_at_yield}
 use Rattle.js_parsing.proofs.Paths.{Path, angles, reads, ◌⟼◌, ◌⟶◌, ◌⟶✗◌, fails_at, token, last_called, noded_by, flagged_by, flagged_here, label_here, by_symbol_as}
 use Rattle.js_parsing.proofs.Signs.{other_kind, plain_sign}
+use Rattle.js_parsing.proofs.Tight.{plain_lex}
 use Rattle.js_operands.proofs.Operands.{by_path}
 use Rattle.js_patterns.proofs.Bindings.{ended_by}
+use Rattle.js_targets.specs.Taken.{NoTargetFrom, goes_through}
 use Rattle.js_targets.proofs.Assigned.{assign_part, all_parts}
 use Rattle.js_targets.proofs.ArraysBeforeSigns.{array_part}
 use Rattle.js_grammar.specs.Insertion.{assign_operators}
@@ -133,6 +133,21 @@ argument_whole : covers an_argument no_argument_angle ≡ true
 unfolding covers
 argument_whole = refl
 
+abbrev a_slash : Look
+a_slash k w e = one_of_kinds slashes k
+
+slash_argued : covers a_slash an_argument ≡ true
+unfolding covers
+slash_argued = refl
+
+-- a slash begins one
+no_slash : (k : Kind) → yields_argument k ≡ false → one_of_kinds slashes k ≡ false
+no_slash k n = go (one_of_kinds slashes k) refl
+  where
+    go : (b : Bool) → one_of_kinds slashes k ≡ b → one_of_kinds slashes k ≡ false
+    go true e = absurd (false≢true (sym n ∙ covered a_slash an_argument slash_argued k false false e))
+    go false e = e
+
 not_so : (b : Bool) → not b ≡ true → b ≡ false
 not_so true h = absurd (false≢true h)
 not_so false h = refl
@@ -144,7 +159,11 @@ Bare q = (q.token.is_on_new_line ≡ true) ⊎ (yields_argument q.token.kind ≡
 module _ {text : List ℕ} {f : Flags} {q : Parser} (b : At text f q) where
   -- one stands here
   argument_there : yields_argument q.token.kind ≡ true → (y : Lexeme) → Lex text q.prev_token_end y → yields_argument y.kind ≡ true
-  argument_there h y l = subst (λ (v : Kind). yields_argument v ≡ true) (told b (uncut b (not_so (same_kind RAngle q.token.kind) (covered an_argument no_argument_angle argument_whole q.token.kind false false h))) y l).kind h
+  argument_there h y l = go (same_kind RegExp y.kind) refl
+    where
+      go : (r : Bool) → same_kind RegExp y.kind ≡ r → yields_argument y.kind ≡ true
+      go true e = subst (λ (v : Kind). yields_argument v ≡ true) (kind_of_same RegExp y.kind e) refl
+      go false e = subst (λ (v : Kind). yields_argument v ≡ true) (told_plain b (uncut b (not_so (same_kind RAngle q.token.kind) (covered an_argument no_argument_angle argument_whole q.token.kind false false h))) y e l).kind h
 
   -- or none does
   no_argument_there : yields_argument q.token.kind ≡ false → (y : Lexeme) → Lex text q.prev_token_end y → yields_argument y.kind ≡ true → ⊥
@@ -152,7 +171,7 @@ module _ {text : List ℕ} {f : Flags} {q : Parser} (b : At text f q) where
     where
       go : (c : Bool) → q.cut ≡ c → ⊥
       go true e = not_both angles an_argument no_angle y.kind y.newline y.escaped (angled b e y l) h
-      go false e = false≢true (sym n ∙ subst (λ (v : Kind). yields_argument v ≡ true) (sym (told b e y l).kind) h)
+      go false e = false≢true (sym n ∙ subst (λ (v : Kind). yields_argument v ≡ true) (sym (told b e (no_slash q.token.kind n) y l).kind) h)
 
   no_argument : {X : Test} (g : G) → covers (λ k w e. starts first g X.base k w e && reads k w e) an_argument ≡ true → yields_argument q.token.kind ≡ false → Fails rule (Lex text) X end g q.prev_token_end
   no_argument {X} g c n = fails_here firsts (λ y l h. no_argument_there n y l (covered (λ k w e. starts first g X.base k w e && reads k w e) an_argument c y.kind y.newline y.escaped (and_from _ _ h l.1)))
@@ -203,6 +222,11 @@ module _ {text : List ℕ} {f : Flags} {q : Parser} (b : At text f q) where
 begun : {text : List ℕ} {f : Flags} {p : Parser} → At text f p → BeginsYield p → f.yield_ ≡ true
 begun a y = sym (ap (λ (g : Flags). g.yield_) a.flags_are) ∙ y.yields
 
+-- no target begins with it
+pub yield_no_target : {text : List ℕ} {f : Flags} {p : Parser} → At text f p → BeginsYield p → NoTargetFrom text f p.prev_token_end
+unfolding apart
+yield_no_target a y = fails_at_yield a _ {X = plain goes_through} (λ g. symbol Target g) refl refl y.kind (begun a y)
+
 star_plain : (is_word Star || same_kind PrivateIdentifier Star) ≡ false
 unfolding words
 star_plain = refl
@@ -237,7 +261,7 @@ module _ {text : List ℕ} {f : Flags} {p q : Parser} (a : At text f p) (y : Beg
       let l : plain_label node.YieldExpression op_made.None s ≡ label_here yield_expression no_op p q = rw (b, c) refl in
       let made : MadeHere (label_here yield_expression no_op p q) (None ∷ []) q w id = subst (λ (v : Label). MadeHere v (None ∷ []) q w id) l d in
       let ks : Keeps p.nodes q.nodes = subst (λ (ns : List Node). Keeps p.nodes ns) (sym m.nodes) (Keeps-refl p.nodes) in
-      by_path (wrapped (left (no_delegate (bare_delegate m.at h)) ⟼ noded_by a (inside_yield f p.prev_token_end) (ended_by yield_passed (right (bare_argument m.at h) ▹ reads_empty_slot)))) m.same made.stays (λ z i. or_left _ _ (bare_loose m.at h z i)) refl
+      by_path (wrapped (left (no_delegate (bare_delegate m.at h)) ⟼ noded_by a (inside_yield f p.prev_token_end) (ended_by yield_passed (right (bare_argument m.at h) ▹ reads_empty_slot)))) m.same made.stays (λ z i. or_left _ _ (bare_loose m.at h z (plain_lex i))) refl
       (node_held made (HoldsAll-one_hole q.nodes (length p.nodes) (length q.nodes) (Keeps-longer ks))) (Keeps-trans ks (Keeps-made made.made)) refl (one_lies made)
 
   module _ (w : q.token.is_on_new_line ≡ false) where

@@ -1,8 +1,9 @@
 -- What the parse functions of arrow functions answer (ECMA-262, 15.3).
-use Rattle.std.specs.Prelude.{ℕ, ◌≡◌, ◌<◌, ◌⊎◌, Bool, true, false, List, Option, Some, None, length, Result, Ok, Err}
+use Rattle.std.specs.Prelude.{ℕ, ◌≡◌, ◌≤◌, ◌<◌, ◌⊎◌, slice_index, Bool, true, false, List, Option, Some, None, length, Result, Ok, Err}
 use Rattle.js_base.specs.declared.diagnostic.Diagnostic.{Diagnostic}
 use Rattle.js_base.specs.declared.diagnostic.DiagnosticKind.TheVariants.{LineterminatorBeforeArrow}
 use Rattle.js_base.specs.declared.kind.Kind.TheVariants.{Arrow, LCurly}
+use Rattle.js_base.specs.Contexts.{has_flag, await_flag, yield_flag}
 use Rattle.js_base.specs.Kinds.{same_kind}
 use Rattle.js_expressions.specs.Closings.{ArrowBehindOne}
 use Rattle.js_base.specs.declared.span.Span.{Span}
@@ -14,12 +15,13 @@ use Rattle.js_tree.specs.declared.id.NodeId.{NodeId}
 use Rattle.js_tree.specs.Holding.{Holds, Keeps as KeepsNodes}
 use Rattle.js_cursor.specs.Checkpoints.{GoesOn}
 use Rattle.js_cursor.specs.Moves.{Keeps}
+use Rattle.js_cursor.specs.Notes.{is_noted}
 use Rattle.js_cursor.specs.declared.stop.Stop.TheVariants.{Fatal}
 use Rattle.js_cursor.specs.Parsers.{Parser}
 use Rattle.js_cursor.specs.declared.stop.Stop.{Stop}
 use Rattle.js_parsing.specs.Answers.{Answers, Grown, Outcome, Stops, Stretch, Underived}
 use Rattle.js_parsing.specs.Contexts.{arrow_body, braced_body}
-use Rattle.js_parsing.specs.Heads.{NoHead, NotedHeads}
+use Rattle.js_parsing.specs.Heads.{NoHead, NotedHeads, OnlyArrow}
 use Rattle.js_parsing.specs.Lexemes.{Lex, Walked, spot}
 use Rattle.js_parsing.specs.States.{At, Same, NodesLie, SpansLie}
 use Rattle.js_targets.specs.Others.{NoYield}
@@ -65,13 +67,38 @@ pub record ToldHead (text : List ℕ) (f : Flags) (p q : Parser) (id : NodeId) :
   pub holds : Holds q.nodes (length p.nodes) (length q.nodes) id.0 label slots
   pub keeps : KeepsNodes p.nodes q.nodes
 
--- what stands before `=>`
+-- what stands before `=>`; no operand begins with it
 pub data BeforeArrow (text : List ℕ) (f : Flags) (o p : Parser) (id : NodeId) : Type 0 where
-  a_head : Head text f o p id → BeforeArrow text f o p id
+  a_head : Head text f o p id → Underived text (at Short f) o.prev_token_end → BeforeArrow text f o p id
   told_head : ToldHead text f o p id → BeforeArrow text f o p id
 
 abbrev pub IsHeadHere : Parser → Parser → NodeId → Type 0
 IsHeadHere p q id = (q.token.kind ≡ Arrow) × ((text : List ℕ) (f : Flags) → At text f p → BeforeArrow text f p q id) × NoOperandHere p
+
+-- Parameters were read, and `=>` stands behind them: whether an operand begins there too is known where something was told of them.
+pub data HeadRead (text : List ℕ) (f : Flags) (o p : Parser) (id : NodeId) : Type 0 where
+  read_clean : Head text f o p id → HeadRead text f o p id
+  read_unclean : ToldHead text f o p id → Underived text (at Short f) o.prev_token_end → HeadRead text f o p id
+
+abbrev pub IsHeadRead : Parser → Parser → NodeId → Type 0
+IsHeadRead p q id = (q.token.kind ≡ Arrow) × ((text : List ℕ) (f : Flags) → At text f p → HeadRead text f p q id)
+
+-- no slash stands in the text between two places
+abbrev pub NoSlash : List ℕ → ℕ → ℕ → Type 0
+NoSlash text s e = (k : ℕ) → s ≤ k → k < e → slice_index text k ≡ 47 → ⊥
+
+abbrev pub SlashFound : List ℕ → ℕ → ℕ → Bool → Type 0
+SlashFound text s e true = Unit {0}
+SlashFound text s e false = NoSlash text s e
+
+-- Something was told of the head that was read from the place on, or no slash stands in it, or it's noted that no operand begins there.
+abbrev pub OperandExcluded : ℕ → ℕ → Parser → Bool → Type 0
+OperandExcluded place kept q true = (length q.errors ≡ kept → ⊥) ⊎ (NoSlash q.text place q.token.span.start ⊎ (is_noted q.state.operands (has_flag await_flag q.ctx) (has_flag yield_flag q.ctx) place ≡ true))
+OperandExcluded place kept q false = Unit {0}
+
+-- behind arguments that are derived from here `=>` stands
+abbrev pub OnlyArrowHere : Parser → Type 0
+OnlyArrowHere p = (text : List ℕ) (f : Flags) → At text f p → OnlyArrow text f p.prev_token_end
 
 -- The parser is where it was; nodes may have been made.
 pub record Unmoved (p q : Parser) : Type 0 where
@@ -81,6 +108,7 @@ pub record Unmoved (p q : Parser) : Type 0 where
   pub place : q.prev_token_end ≡ p.prev_token_end
   pub spot_is : spot q ≡ spot p
   pub start : q.token.span.start ≡ p.token.span.start
+  pub kind : q.token.kind ≡ p.token.kind
   pub keeps : KeepsNodes p.nodes q.nodes
 
 -- a head was read; or none stands here, and the parser is where it was
@@ -106,14 +134,24 @@ ReadsHead p q (Err e) = NoAssignment p q e × NoOperandHere p
 abbrev pub NoHeadHere : Parser → Type 0
 NoHeadHere p = (text : List ℕ) (f : Flags) → At text f p → NoHead text f p.prev_token_end
 
+-- a head was read; or none in parentheses stands here, and the parser is where it was
+abbrev pub AttemptsHead : Parser → Parser → Option NodeId → Type 0
+AttemptsHead p q (Some id) = IsHeadHere p q id
+AttemptsHead p q None = Unmoved p q × NoHeadHere p
+
 -- none stands here, and the parser went on; the nodes that were made since lie in the text
 abbrev pub NoneLooked : Parser → Parser → Type 0
 NoneLooked p q = GoesOn p q × NotedHeads q × NoHeadHere p × (SpansLie p → NodesLie q.text q.nodes)
 
 -- a head was read; or none stands here, and the parser went on
 abbrev pub LooksForHead : Parser → Parser → Option NodeId → Type 0
-LooksForHead p q (Some id) = IsHeadHere p q id
+LooksForHead p q (Some id) = IsHeadRead p q id
 LooksForHead p q None = NoneLooked p q
+
+-- `=>` stands behind all arguments that are derived from here; or no head stands here; and the parser went on
+abbrev pub ArgumentsTold : Parser → Parser → Bool → Type 0
+ArgumentsTold p q true = GoesOn p q × NotedHeads q × OnlyArrowHere p × (SpansLie p → NodesLie q.text q.nodes)
+ArgumentsTold p q false = NoneLooked p q
 
 -- whether `=>` stands behind the current lexeme
 abbrev pub ArrowBehind : Parser → Parser → Bool → Type 0

@@ -1,20 +1,17 @@
 -- What is read behind something that was read before.
-use Rattle.std.specs.Prelude.{ℕ, ◌≡◌, ◌≤◌, true, false, List, [], ◌∷◌, length, Result}
+use Rattle.std.specs.Prelude.{ℕ, ◌≡◌, ◌≤◌, true, List, [], ◌∷◌, length, Result}
 use Rattle.js_base.specs.declared.kind.Kind.{Kind}
-use Rattle.js_base.specs.declared.kind.Kind.TheVariants.{Question, Plus2, Minus2, LCurly}
+use Rattle.js_base.specs.declared.kind.Kind.TheVariants.{Question, Plus2, Minus2}
 use Rattle.js_base.specs.declared.span.Span.{Span}
-use Rattle.js_base.specs.Kinds.{same_kind}
-use Rattle.js_grammar.specs.Grammar.{Lexeme}
 use Rattle.js_grammar.specs.Marks.{LexemeAt, of_kinds}
-use Rattle.js_grammar.specs.Productions.{Flags, at, Arrow', Assignment, Short}
+use Rattle.js_grammar.specs.Productions.{Flags, at, Assignment, Short}
 use Rattle.js_tree.specs.declared.id.NodeId.{NodeId}
 use Rattle.js_targets.specs.Others.{OnlyOthers}
 use Rattle.js_targets.specs.Targets.{is_literal}
 use Rattle.js_cursor.specs.Parsers.{Parser}
 use Rattle.js_cursor.specs.Places.{goal}
 use Rattle.js_cursor.specs.declared.stop.Stop.{Stop}
-use Rattle.js_parsing.specs.Answers.{Numbered, Outcome, Underived}
-use Rattle.js_parsing.specs.Lexemes.{Lex}
+use Rattle.js_parsing.specs.Answers.{Numbered, Outcome}
 use Rattle.js_parsing.specs.States.{At}
 
 -- neither an arrow function nor a YieldExpression begins at the place

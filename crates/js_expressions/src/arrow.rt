@@ -1,12 +1,11 @@
 //! Arrow functions (ECMA-262, section 15.3).
 
-ghost use Rattle.std.specs.Prelude.{true, ◌≡◌, ◌≤◌, ◌+◌, MatchResult, IfOk, IsCharBoundary};
+ghost use Rattle.std.specs.Prelude.{true, ◌≡◌, ◌≤◌, ◌+◌, length, MatchResult, IfOk, IsCharBoundary};
 ghost use Rattle.js_base.specs.declared.kind.Kind.TheVariants.{Arrow, LParen};
 ghost use Rattle.js_cursor.specs.Moves.{OnlyMemory};
 ghost use Rattle.js_grammar.specs.Productions.{at, Params};
 ghost use Rattle.js_parsing.specs.Answers.{Answers};
-ghost use Rattle.js_expressions.specs.Arrows.{ArrowBehind, ChecksLine, FindsHead, IsHead, LooksForHead, ReadsArrowBody, ReadsBody, ReadsHead, SearchesHead, Single};
-ghost use Rattle.js_expressions.specs.Lookaheads.{NoOperandHere};
+ghost use Rattle.js_expressions.specs.Arrows.{ArgumentsTold, ArrowBehind, AttemptsHead, ChecksLine, FindsHead, IsHead, LooksForHead, NoOperandHere, OperandExcluded, ReadsArrowBody, ReadsBody, ReadsHead, SearchesHead, Single, SlashFound};
 ghost use Rattle.js_expressions.specs.HeadOperands.{IsNoTarget};
 ghost use Rattle.js_parsing.specs.Lexemes.{name_kinds};
 ghost use Rattle.js_parsing.specs.Nesting.{CanNest, room};
@@ -18,6 +17,7 @@ use crate::lookahead::{HeadLookahead, is_parenthesized_head};
 use js_base::{DiagnosticKind, Kind, NoMemory};
 use js_cursor::{ParserImpl, Stop};
 use js_lex::ParserConfig;
+use js_operands::arguments::parse_call_arguments;
 use js_operands::primary::parse_leaf;
 use js_parsing::context::{assignment_in_arrow, body_in_arrow};
 use js_parsing::diagnostics::{diagnostic_at, kept_so_far};
@@ -122,8 +122,8 @@ fn parse_certain_head<C: ParserConfig, N: Nested<C>>(
     Ok(parameters)
 }
 
-/// FormalParameters in parentheses, where `=>` stands behind them: an attempt, which is taken back where it fails. That is
-/// noted, and not tried again.
+/// FormalParameters in parentheses, where `=>` stands behind them: an attempt. Where it fails, that is noted, and not tried
+/// again.
 #[inline(never)]
 fn try_parse_parenthesized_head<C: ParserConfig, N: Nested<C>>(
     p: &mut ParserImpl<'_, C>,
@@ -138,17 +138,132 @@ fn try_parse_parenthesized_head<C: ParserConfig, N: Nested<C>>(
     if p.arrow_failed(place) {
         return Ok(None);
     }
+    if let Some(parameters) = attempt_head(p, nested)? {
+        return Ok(Some(parameters));
+    }
+    p.note_arrow_failed(place)?;
+    Ok(None)
+}
+
+/// The same attempt, which is taken back where it fails.
+#[inline(always)]
+fn attempt_head<C: ParserConfig, N: Nested<C>>(
+    p: &mut ParserImpl<'_, C>,
+    nested: &N,
+) -> Result<Option<NodeId>, Stop>
+    requires at { Standing p.old }
+    requires nests { CanNest (N.can nested.now) (room p.old) }
+    requires open { p.old.token.kind ≡ LParen }
+    ensures { MatchResult result (λ found. AttemptsHead p.old p.new found) OnlyMemory }
+{
+    let place = p.prev_token_end();
+    let kept = kept_so_far(p);
+    let here = p.checkpoint()?;
+    if let Some(parameters) = parse_parenthesized_head(p, nested)? {
+        if excludes_operand(p, place, kept) {
+            return Ok(Some(parameters));
+        }
+        p.rewind(here);
+        return attempt_head_again(p, nested);
+    }
+    p.rewind(here);
+    Ok(None)
+}
+
+/// Whether no operand stands where a head was read from a place on, when so many diagnostics were kept. Where something
+/// was told of the head, that is known. Else lexemes might be read otherwise from that place, if a slash stands between,
+/// with which a regular expression may begin; but not where that was looked for before.
+fn excludes_operand<C: ParserConfig>(p: &ParserImpl<'_, C>, place: u32, kept: usize) -> bool
+    requires { Standing p.now }
+    ensures { OperandExcluded place kept p.now result }
+{
+    if kept_so_far(p) != kept {
+        return true;
+    }
+    if !has_slash(p.source_text, place, p.cur_start()) {
+        return true;
+    }
+    p.operand_failed(place)
+}
+
+/// Whether a slash stands between two places.
+fn has_slash(text: &str, start: u32, end: u32) -> bool
+    requires { end ≤ length text.now }
+    ensures { SlashFound text.now start end result }
+{
+    let bytes = text.as_bytes();
+    'places: for place in start..end {
+        if bytes[place as usize] == b'/' {
+            return true;
+        }
+    }
+    false
+}
+
+/// FormalParameters in parentheses, where a slash stands in them: what stands here is read as arguments first. Those are
+/// read over one list of lexemes alone, and a head or an operand here begins with such; so if `=>` stands behind them, no
+/// operand stands here, which is noted.
+#[inline(never)]
+fn attempt_head_again<C: ParserConfig, N: Nested<C>>(
+    p: &mut ParserImpl<'_, C>,
+    nested: &N,
+) -> Result<Option<NodeId>, Stop>
+    requires at { Standing p.old }
+    requires nests { CanNest (N.can nested.now) (room p.old) }
+    requires open { p.old.token.kind ≡ LParen }
+    ensures { MatchResult result (λ found. AttemptsHead p.old p.new found) OnlyMemory }
+{
+    let place = p.prev_token_end();
+    let here = p.checkpoint()?;
+    let found = is_arrow_behind_arguments(p, nested)?;
+    p.rewind(here);
+    if !found {
+        return Ok(None);
+    }
+    p.note_operand_failed(place)?;
+    attempt_noted_head(p, nested)
+}
+
+/// Whether `=>` stands behind what can be read as arguments. If not, no parameters stand here with `=>` behind them.
+fn is_arrow_behind_arguments<C: ParserConfig, N: Nested<C>>(
+    p: &mut ParserImpl<'_, C>,
+    nested: &N,
+) -> Result<bool, Stop>
+    requires at { Standing p.old }
+    requires nests { CanNest (N.can nested.now) (room p.old) }
+    requires open { p.old.token.kind ≡ LParen }
+    ensures { MatchResult result (λ found. ArgumentsTold p.old p.new found) OnlyMemory }
+{
+    let none = Vec::new(p.alloc);
+    match parse_call_arguments(p, nested, true, none) {
+        Ok(_arguments) => Ok(p.at(Kind::Arrow)),
+        Err(Stop::Fatal) => Ok(false),
+        Err(Stop::NoMemory) => Err(Stop::NoMemory),
+    }
+}
+
+/// FormalParameters in parentheses, where `=>` stands behind them and no operand stands here.
+fn attempt_noted_head<C: ParserConfig, N: Nested<C>>(
+    p: &mut ParserImpl<'_, C>,
+    nested: &N,
+) -> Result<Option<NodeId>, Stop>
+    requires at { Standing p.old }
+    requires nests { CanNest (N.can nested.now) (room p.old) }
+    requires open { p.old.token.kind ≡ LParen }
+    requires noted { NoOperandHere p.old }
+    ensures { MatchResult result (λ found. AttemptsHead p.old p.new found) OnlyMemory }
+{
     let here = p.checkpoint()?;
     if let Some(parameters) = parse_parenthesized_head(p, nested)? {
         return Ok(Some(parameters));
     }
     p.rewind(here);
-    p.note_arrow_failed(place)?;
     Ok(None)
 }
 
 /// FormalParameters in parentheses, where they can be read and `=>` stands behind them, also where something is told of
 /// them. None: no arrow function stands here, and the parser is somewhere behind.
+#[inline(always)]
 fn parse_parenthesized_head<C: ParserConfig, N: Nested<C>>(
     p: &mut ParserImpl<'_, C>,
     nested: &N,

@@ -5,6 +5,7 @@ ghost use Rattle.js_base.specs.declared.kind.Kind.TheVariants.{Star};
 ghost use Rattle.js_grammar.specs.Productions.{at, delegate_flag, Assignment};
 ghost use Rattle.js_tree.specs.declared.kind.NodeKind.TheVariants as node;
 ghost use Rattle.js_tree.specs.declared.op.Op.TheVariants as op;
+ghost use Rattle.js_expressions.specs.HeadOperands.{IsNoTarget};
 ghost use Rattle.js_expressions.specs.Yields.{BeginsYield, ReadsYield, other_arguments, yields_argument};
 ghost use Rattle.js_base.specs.Kinds.{one_of_kinds};
 ghost use Rattle.js_parsing.specs.Answers.{Answers};
@@ -37,7 +38,8 @@ pub(crate) fn parse_yield_expression<C: ParserConfig, N: Nested<C>>(
     requires at { Standing p.old }
     requires nests { CanNest (N.can nested.now) (room p.old) }
     requires word { BeginsYield p.old }
-    ensures { Answers (at Assignment) p.old p.new result }
+    ensures answers { Answers (at Assignment) p.old p.new result }
+    ensures node { IfOk result (λ id. IsNoTarget p.new id) }
 {
     let start = p.cur_start();
     advance(p)?;
@@ -72,7 +74,8 @@ fn parse_delegate<C: ParserConfig, N: Nested<C>>(
     requires nests { CanNest (N.can nested.now) (room p.old) }
     requires start { start ≤ p.old.prev_token_end }
     requires star { p.old.token.kind ≡ Star }
-    ensures { ReadsYield start p.old p.new result }
+    ensures answers { ReadsYield start p.old p.new result }
+    ensures node { IfOk result (λ id. IsNoTarget p.new id) }
 {
     advance(p)?;
     let argument = nested.assignment(p)?;

@@ -1,19 +1,16 @@
 -- What a parse answers, from what holds of the parser at its end.
-use Rattle.std.proofs.Common.{Bool, ℕ, ◌≡◌, inl, inr, List, [], ◌∷◌, ◌++◌, length, map, take, true, false, Option, None, append_assoc, refl, sym, ap, subst, arith, ◌∙◌}
+use Rattle.std.proofs.Common.{Bool, ℕ, ◌≡◌, inl, inr, List, [], ◌∷◌, ◌++◌, length, map, take, true, false, Option, None, refl, sym, ap, subst, arith, ◌∙◌}
 use Rattle.std.specs.List.{All}
 use Rattle.std.specs.Prelude.{IsCharBoundary, IsUtf8, Result, Ok, Err, IfOk}
 use Rattle.std.proofs.lemmas.List.Elements.{All-append, All-take, All-weaker, All-nil}
 use Rattle.js_base.specs.declared.diagnostic.Diagnostic.{Diagnostic}
-use Rattle.js_base.specs.declared.diagnostic.DiagnosticKind.{DiagnosticKind}
 use Rattle.js_base.specs.declared.diagnostic.DiagnosticKind.TheVariants.{OverlongSource}
-use Rattle.js_base.specs.declared.diagnostic.DiagnosticKind.TheVariants as fault
 use Rattle.js_base.specs.declared.diagnostic.DiagnosticClass.TheVariants.{Lexical}
 use Rattle.js_base.specs.Diagnostics.{class_of}
-use Rattle.js_grammar.specs.LexicalFaults.{FaultyBehind}
 use Rattle.js_base.specs.declared.options.ParseOptions.{ParseOptions}
 use Rattle.js_base.specs.declared.source_type.SourceType.{SourceType}
 use Rattle.js_base.specs.declared.span.Span.{Span}
-use Rattle.js_grammar.specs.Trees.{Slots, end, tree, Tree, Span as TreeSpan}
+use Rattle.js_grammar.specs.Trees.{Slots, end, tree, Tree}
 use Rattle.js_grammar.specs.Marks.{Mark}
 use Rattle.js_lex.specs.States.{goal_of}
 use Rattle.js_tree.specs.declared.id.NodeId.{NodeId}
@@ -21,7 +18,7 @@ use Rattle.js_tree.specs.Nodes.{Node, empty_program, program_node}
 use Rattle.js_tree.specs.Holding.{HoldsAll, IsTree, program_tree, with_program}
 use Rattle.js_tree.proofs.HoldingLemmas.{HoldsAll-none}
 use Rattle.js_cursor.specs.Parsers.{Parser}
-use Rattle.js_cursor.specs.Places.{IsFault}
+use Rattle.js_cursor.specs.Places.{IsAt, IsFault}
 use Rattle.std.proofs.lemmas.Bool.{false≢true}
 use Rattle.std.proofs.lemmas.Str.{IsCharBoundary-start, IsCharBoundary-end}
 use Rattle.js_base.specs.Spans.{LiesIn}
@@ -30,9 +27,11 @@ use Rattle.js_lex.specs.Kept.{LieIn}
 use Rattle.js_lex.specs.declared.comment.Comment.{Comment}
 use Rattle.js_lex.specs.declared.output.LexerOutput.{LexerOutput}
 use Rattle.js_parser.specs.Readings.{HasNoReading, HasNoReadingBy, IsOnlyReadingBy, AreOf}
+use Rattle.js_parser.specs.EarlyErrors.{clashing_in}
+use Rattle.js_parser.proofs.RegExpSpans.{Edged}
 use Rattle.js_parser.specs.Leftover.{leftover, with_leftover}
 use Rattle.js_parser.specs.NodeSpans.{SlotsLie}
-use Rattle.js_parser.proofs.Leftovers.{covered, in_program, leftover_early, leftover_lie, leftover_marked, leftover_none, none_before, none_leftover, none_strict, only_strict, spans_lie, spans_marked}
+use Rattle.js_parser.proofs.Leftovers.{covered, in_program, clash_in_program, clashes_edged, clashes_lie, leftover_early, leftover_lie, leftover_marked, leftover_none, none_before, none_leftover, none_read, only_read, spans_lie, spans_marked}
 use Rattle.js_grammar.specs.CoverInitialisers.{initialised_in}
 use Rattle.js_grammar.proofs.CoverInitialisers.{Marked}
 use Rattle.js_tree.specs.Covering.{placed}
@@ -121,8 +120,12 @@ by_found text s o p cs found e (inr (z, r)) = (λ x. absurd (z (let k = sym e �
 one_at_least : (d : Diagnostic) (ds : List Diagnostic) → d ∷ ds ≡ [] → ⊥
 one_at_least d ds e = cc
 
-pub taken_answer : {text : List ℕ} {s : SourceType} {o : ParseOptions} {asks : Bool} {p : Parser} {ids : List (Option NodeId)} (span : Span) (nodes : List Node) (out kept : LexerOutput) (spans : List Span) → span.start ≡ 0 → span.end ≡ p.token.span.end → ((cs : Slots) → HoldsAll p.nodes 1 (length p.nodes) ids cs → IsTree nodes (program_tree span cs)) → nodes ≡ with_program (program_node span ids) p.nodes → ((t : Tree) → IsTree nodes t → spans ≡ map placed (initialised_in t.slots)) → out ≡ record kept { errors = with_leftover (p.lexer.kept.errors ++ p.errors) spans } → LieIn p.lexer.text kept → ProgramTaken text s o asks p ids → IsAnswer text (goal_of s) (options_of o) nodes out false
-taken_answer {text} {s} {o} {asks} {p} {ids} span nodes out kept spans a b t n i e l h = go (p.lexer.kept.errors ++ p.errors) refl
+-- what stands before the end of the current lexeme lies in the text
+pub nodes_lie : {p : Parser} {ids : List (Option NodeId)} (span : Span) (nodes : List Node) → span.start ≡ 0 → span.end ≡ p.token.span.end → nodes ≡ with_program (program_node span ids) p.nodes → IsAt p → NodesLie p.text p.nodes → NodesLie p.text nodes
+nodes_lie {p} {ids} span nodes a b n h l = subst (λ (ns : List Node). NodesLie p.text ns) (sym n) (program_lie (program_node span ids) p.nodes (subst (λ (v : Span). LiesIn v p.text) (sym (span_is span a b)) (record { ordered = omega arith; starts_whole = IsCharBoundary-start p.text h.utf8; ends_whole = h.lies.ends_whole })) l)
+
+pub taken_answer : {text : List ℕ} {s : SourceType} {o : ParseOptions} {asks : Bool} {p : Parser} {ids : List (Option NodeId)} (span : Span) (nodes : List Node) (out kept : LexerOutput) (clashes covers : List Span) → span.start ≡ 0 → span.end ≡ p.token.span.end → ((cs : Slots) → HoldsAll p.nodes 1 (length p.nodes) ids cs → IsTree nodes (program_tree span cs)) → nodes ≡ with_program (program_node span ids) p.nodes → ((t : Tree) → IsTree nodes t → clashes ≡ map placed (clashing_in p.text t.slots)) → ((t : Tree) → IsTree nodes t → covers ≡ map placed (initialised_in t.slots)) → out ≡ record kept { errors = with_leftover (p.lexer.kept.errors ++ p.errors) clashes covers } → LieIn p.lexer.text kept → ProgramTaken text s o asks p ids → IsAnswer text (goal_of s) (options_of o) nodes out false
+taken_answer {text} {s} {o} {asks} {p} {ids} span nodes out kept clashes covers a b t n f i e l h = go (p.lexer.kept.errors ++ p.errors) refl
   where
     program : Tree
     program = program_tree (record { start = 0; end = p.token.span.end }) h.slots
@@ -136,18 +139,27 @@ taken_answer {text} {s} {o} {asks} {p} {ids} span nodes out kept spans a b t n i
     slots_inside : SlotsLie text h.slots
     slots_inside = slots_lie h.lies (h.holds).stands
 
-    spans_are : spans ≡ map placed (initialised_in h.slots)
-    spans_are = i program whole
+    clashes_are : clashes ≡ map placed (clashing_in text h.slots)
+    clashes_are = subst (λ (w : List ℕ). clashes ≡ map placed (clashing_in w h.slots)) h.is_of.text_is (f program whole)
+
+    covers_are : covers ≡ map placed (initialised_in h.slots)
+    covers_are = i program whole
+
+    left_is : leftover clashes covers ≡ leftover (map placed (clashing_in text h.slots)) (map placed (initialised_in h.slots))
+    left_is = λ j. leftover (clashes_are j) (covers_are j)
 
     outside : initialised_in (tree program.label program.slots end) ≡ initialised_in h.slots
     outside = in_program program refl
+
+    clash_outside : clashing_in text (tree program.label program.slots end) ≡ clashing_in text h.slots
+    clash_outside = clash_in_program text (record { start = 0; end = p.token.span.end }) h.slots
 
     by_cover : (p.lexer.kept.errors ++ p.errors ≡ [] → IsOnlyReadingBy true text (goal_of s) (options_of o) program) × ((p.lexer.kept.errors ++ p.errors ≡ [] → ⊥) → HasNoReadingBy true text (goal_of s) (options_of o))
     by_cover = by_found text s o p h.slots (p.lexer.kept.errors ++ p.errors) refl h.outcome
 
     go : (ds : List Diagnostic) → p.lexer.kept.errors ++ p.errors ≡ ds → IsAnswer text (goal_of s) (options_of o) nodes out false
     go (d ∷ ds) q =
-        let same : with_leftover (p.lexer.kept.errors ++ p.errors) spans ≡ p.lexer.kept.errors ++ p.errors = ap (λ (v : List Diagnostic). with_leftover v spans) q ∙ sym q in
+        let same : with_leftover (p.lexer.kept.errors ++ p.errors) clashes covers ≡ p.lexer.kept.errors ++ p.errors = ap (λ (v : List Diagnostic). with_leftover v clashes covers) q ∙ sym q in
         let some : p.lexer.kept.errors ++ p.errors ≡ [] → ⊥ = λ z. one_at_least d ds (sym q ∙ z) in
         let in_order : out ≡ record kept { errors = p.lexer.kept.errors ++ p.errors } = e ∙ ap (λ (v : List Diagnostic). record kept { errors = v }) same in
         record {
@@ -159,7 +171,7 @@ taken_answer {text} {s} {o} {asks} {p} {ids} span nodes out kept spans a b t n i
           inside = slots_inside;
           nodes_lie = all_lie;
           clean = λ z. absurd (some (sym (ap (λ (x : LexerOutput). x.errors) in_order) ∙ z));
-          unclean = λ z. none_strict (by_cover.1 some);
+          unclean = λ z. none_read (by_cover.1 some);
           early = λ z. h.early;
           stopped = λ z. absurd (false≢true z);
           ended = λ z y. false≢true z;
@@ -167,31 +179,33 @@ taken_answer {text} {s} {o} {asks} {p} {ids} span nodes out kept spans a b t n i
           no_tokens = λ z. absurd (false≢true z);
         }
     go [] q =
-        let found_is : out.errors ≡ leftover spans = ap (λ (x : LexerOutput). x.errors) e ∙ ap (λ (v : List Diagnostic). with_leftover v spans) q in
+        let found_is : out.errors ≡ leftover clashes covers = ap (λ (x : LexerOutput). x.errors) e ∙ ap (λ (v : List Diagnostic). with_leftover v clashes covers) q in
         let read = by_cover.0 q in
-        let none_left : initialised_in h.slots ≡ [] → out.errors ≡ [] = λ z. found_is ∙ (ap leftover spans_are ∙ ap (λ (v : List TreeSpan). leftover (map placed v)) z) in
-        let left_none : out.errors ≡ [] → initialised_in h.slots ≡ [] = λ z. leftover_none (initialised_in h.slots) (sym (ap leftover spans_are) ∙ (sym found_is ∙ z)) in
-        let strict_none : (out.errors ≡ [] → ⊥) → HasNoReading text (goal_of s) (options_of o) = λ z. none_leftover (λ y. z (none_left (sym outside ∙ y))) read in
-        let inner_lie : All (λ d. LiesIn d.span text) (leftover spans) = subst (λ (v : List Span). All (λ d. LiesIn d.span text) (leftover v)) (sym spans_are) (leftover_lie text (initialised_in h.slots) (spans_lie text h.slots slots_inside)) in
+        let none_left : clashing_in text h.slots ≡ [] → initialised_in h.slots ≡ [] → out.errors ≡ [] = λ y z. found_is ∙ (left_is ∙ (λ j. leftover (map placed (y j)) (map placed (z j)))) in
+        let left_none : out.errors ≡ [] → (clashing_in text h.slots ≡ []) × (initialised_in h.slots ≡ []) = λ z. leftover_none (clashing_in text h.slots) (initialised_in h.slots) (sym left_is ∙ (sym found_is ∙ z)) in
+        let none : (out.errors ≡ [] → ⊥) → HasNoReading text (goal_of s) (options_of o) = λ z. none_leftover (λ x y. z (none_left (sym clash_outside ∙ x) (sym outside ∙ y))) read in
+        let clashes_inside = clashes_lie text h.slots slots_inside in
+        let covers_inside = spans_lie text h.slots slots_inside in
+        let inner_lie : All (λ d. LiesIn d.span text) (leftover clashes covers) = subst (λ (ds : List Diagnostic). All (λ d. LiesIn d.span text) ds) (sym left_is) (leftover_lie (goal_of s) text (clashing_in text h.slots) (initialised_in h.slots) clashes_inside covers_inside) in
         record {
           told = record {
             faults = [];
-            told = leftover spans;
+            told = leftover clashes covers;
             in_order = found_is;
             faulty = All-nil (IsFault (goal_of s) text);
             lexical = All-nil (λ d. class_of d.kind ≡ Lexical);
-            marked = subst (λ (v : List Span). All (Mark (goal_of s) text) (leftover v)) (sym spans_are) (leftover_marked (goal_of s) text (initialised_in h.slots) (subst (All (Marked text)) outside (spans_marked read.reading)) (spans_lie text h.slots slots_inside));
+            marked = subst (λ (ds : List Diagnostic). All (Mark (goal_of s) text) ds) (sym left_is) (leftover_marked (goal_of s) text (clashing_in text h.slots) (initialised_in h.slots) (subst (All (Edged (goal_of s) text)) clash_outside (clashes_edged read.reading)) clashes_inside (subst (All (Marked text)) outside (spans_marked read.reading)) covers_inside);
             lie = subst (All (λ d. LiesIn d.span text)) (sym found_is) inner_lie;
           };
-          lie = lies_with h.is_of kept out (leftover spans) (e ∙ ap (λ (v : List Diagnostic). record kept { errors = with_leftover v spans }) q) l inner_lie;
+          lie = lies_with h.is_of kept out (leftover clashes covers) (e ∙ ap (λ (v : List Diagnostic). record kept { errors = with_leftover v clashes covers }) q) l inner_lie;
           tree = program;
           is_tree = whole;
           program_lies = up_to_token h.is_of;
           inside = slots_inside;
           nodes_lie = all_lie;
-          clean = λ z. only_strict (outside ∙ left_none z) read;
-          unclean = λ z. strict_none z;
-          early = λ z. leftover_early spans;
+          clean = λ z. let x = left_none z in only_read (clash_outside ∙ x.0) (outside ∙ x.1) read;
+          unclean = λ z. none z;
+          early = λ z. leftover_early clashes covers;
           stopped = λ z. absurd (false≢true z);
           ended = λ z y. false≢true z;
           childless = λ z. absurd (false≢true z);
@@ -199,16 +213,16 @@ taken_answer {text} {s} {o} {asks} {p} {ids} span nodes out kept spans a b t n i
         }
 
 -- and what was kept
-pub taken_kept : {text : List ℕ} {s : SourceType} {o : ParseOptions} {asks : Bool} {p : Parser} {ids : List (Option NodeId)} (out kept : LexerOutput) (spans : List Span) → out ≡ record kept { errors = with_leftover (p.lexer.kept.errors ++ p.errors) spans } → kept ≡ p.lexer.kept → ProgramTaken text s o asks p ids → KeepsRight text (goal_of s) (options_of o) asks out
-taken_kept {text} {s} {o} {asks} {p} out kept spans e same h = record {
+pub taken_kept : {text : List ℕ} {s : SourceType} {o : ParseOptions} {asks : Bool} {p : Parser} {ids : List (Option NodeId)} (out kept : LexerOutput) (clashes covers : List Span) → out ≡ record kept { errors = with_leftover (p.lexer.kept.errors ++ p.errors) clashes covers } → kept ≡ p.lexer.kept → ProgramTaken text s o asks p ids → KeepsRight text (goal_of s) (options_of o) asks out
+taken_kept {text} {s} {o} {asks} {p} out kept clashes covers e same h = record {
   unasked = λ a. ap (λ (x : LexerOutput). x.tokens) e ∙ (ap (λ (x : LexerOutput). x.tokens) same ∙ h.unasked a);
   kept = λ z t r.
-      let none = none_before (p.lexer.kept.errors ++ p.errors) spans (sym (ap (λ (x : LexerOutput). x.errors) e) ∙ z) in
-      let k = h.kept (record { faults = first_empty p.lexer.kept.errors p.errors none; errors = second_empty p.lexer.kept.errors p.errors none }) t (covered r) in
+      let none = none_before (p.lexer.kept.errors ++ p.errors) clashes covers (sym (ap (λ (x : LexerOutput). x.errors) e) ∙ z) in
+      let k = h.kept (record { faults = first_empty p.lexer.kept.errors p.errors none; errors = second_empty p.lexer.kept.errors p.errors none }) t (covered r.strict) in
       record {
         comments = ap (λ (x : LexerOutput). x.comments) e ∙ (ap (λ (x : LexerOutput). x.comments) same ∙ k.comments);
         blanks = ap (λ (x : LexerOutput). x.irregular_whitespaces) e ∙ (ap (λ (x : LexerOutput). x.irregular_whitespaces) same ∙ k.blanks);
-        tokens = λ a. subst (λ (ts : List Token). TellsRead text (goal_of s) r.lexemes r.lexed ts) (sym (ap (λ (x : LexerOutput). x.tokens) e ∙ ap (λ (x : LexerOutput). x.tokens) same)) (k.tokens a);
+        tokens = λ a. subst (λ (ts : List Token). TellsRead text (goal_of s) r.strict.lexemes r.strict.lexed ts) (sym (ap (λ (x : LexerOutput). x.tokens) e ∙ ap (λ (x : LexerOutput). x.tokens) same)) (k.tokens a);
       };
 }
 
@@ -239,7 +253,7 @@ refused_answer {text} {s} {o} {p} {ids} ns span nodes told out kept n a b k z t 
   inside = tt;
   nodes_lie = subst (λ (ms : List Node). NodesLie text ms) (sym (t ∙ ap (λ (ms : List Node). with_program (program_node span ids) ms) same)) (program_lie (program_node span ids) p.nodes (subst (λ (v : Span). LiesIn v text) (sym (span_is span a (b ∙ ap (λ (v : List ℕ). length v) h.is_of.text_is))) whole) h.lies);
   clean = λ y. absurd (some y);
-  unclean = λ y. none_strict h.none;
+  unclean = λ y. none_read h.none;
   early = λ q. absurd (false≢true (sym q));
   stopped = λ q. h.stopped;
   ended = λ q y. some y;

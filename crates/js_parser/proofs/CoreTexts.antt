@@ -1,5 +1,5 @@
 -- A core text's readings by the whole table, over the kinds of lexemes that are read so far, are its readings by the core grammar.
-use Rattle.std.proofs.Common.{ℕ, ◌≡◌, true, not, List, [], ◌∷◌, Some, None, refl, sym, subst, ap, ◌∙◌, Bool, false}
+use Rattle.std.proofs.Common.{ℕ, ◌≡◌, true, not, List, Some, None, refl, sym, subst, ap, ◌∙◌, Bool, false}
 use Rattle.std.specs.Prelude.{IsUtf8, codes, Option}
 use Rattle.std.proofs.lemmas.Bool.{false≢true, and_parts, and_from}
 use Rattle.js_base.specs.declared.kind.Kind.{Kind}
@@ -9,18 +9,19 @@ use Rattle.js_base.specs.declared.source_type.SourceType.{SourceType}
 use Rattle.js_base.specs.Kinds.{same_kind, one_of_kinds}
 use Rattle.js_base.proofs.KindLemmas.{kind_of_same}
 use Rattle.js_grammar.specs.Trees.{Tree}
-use Rattle.js_grammar.specs.Grammar.{Lexeme, Lexemes, last, next}
+use Rattle.js_grammar.specs.Grammar.{Lexeme, Lexemes, last, next, Derives}
 use Rattle.js_grammar.specs.Productions.{Program, at}
 use Rattle.js_grammar.specs.Lexemes.{LexicalGoal, kind_in, hashbang, hashbang_kind}
 use Rattle.js_grammar.specs.Lexed.{Lex, Lexes, Lexed, all_faults, passing_of}
 use Rattle.js_grammar.specs.Trivia.{after, within_line}
 use Rattle.js_grammar.specs.Settings.{Goal, script}
-use Rattle.js_grammar.specs.Options.{Options}
-use Rattle.js_grammar.specs.CoreGrammar.{core_kinds}
+use Rattle.js_grammar.specs.Options.{Options, program_flags}
+use Rattle.js_grammar.specs.CoreGrammar.{core_kinds, core_rule}
 use Rattle.js_grammar.specs.CoreTexts.{CoreSource}
-use Rattle.js_grammar.specs.CoreReadings.{core_lexeme, AllCore, IsReading}
+use Rattle.js_grammar.specs.CoreReadings.{core_lexeme, core_options, AllCore, IsReading}
 use Rattle.js_grammar.proofs.CoreDerivations.{every_at}
 use Rattle.js_grammar.proofs.CoreLexed.{core_first, core_lexemes}
+use Rattle.js_grammar.proofs.CoreTrees.{derived_plain, derived_spared, early_spared, pure_plain}
 use Rattle.js_grammar.proofs.CoreValid.{to_core, to_whole, lexed_at}
 use Rattle.js_grammar.proofs.NoEnd.{ends_once_by, ends_behind}
 use Rattle.js_lex.specs.declared.output.LexerOutput.{LexerOutput}
@@ -29,7 +30,8 @@ use Rattle.js_lex.specs.States.{goal_of}
 use Rattle.js_parsing.specs.Lexemes.{Faultless, is_read, read_kinds}
 use Rattle.js_tree.specs.Nodes.{Node}
 use Rattle.js_parser.specs.Parsed.{options_of, IsAnswer}
-use Rattle.js_parser.specs.Readings.{parameters, read_at, Reading, IsOnlyReading, HasNoReading, AreRead, from_text_start, behind_a_hashbang}
+use Rattle.js_parser.specs.Readings.{parameters, read_at, Reading, ReadingBy, IsOnlyReading, HasNoReading, AreRead, from_text_start, behind_a_hashbang}
+use Rattle.js_parser.specs.EarlyErrors.{MeetsEarlyRules}
 use Rattle.js_parser.specs.CoreAnswers.{IsOnlyCoreReading, HasNoCoreReading, IsCoreAnswer}
 
 -- a core lexeme is read
@@ -64,21 +66,29 @@ module _ {text : List ℕ} (u : IsUtf8 text) (s : CoreSource text) where
     all_plain ls (from_text_start l) = plainly text goal 0 ls l
     all_plain ls (behind_a_hashbang b) = absurd (no_hashbang b.comment b.stands)
 
-    lexed_whole : {t : Tree} (r : Reading text goal o t) → Lexed goal text r.lexemes
+    lexed_whole : {t : Tree} (r : ReadingBy false text goal o t) → Lexed goal text r.lexemes
     lexed_whole {t} r = record {
       lexes = all_plain r.lexemes r.lexed;
       ends = ends_once_by (at Program (parameters goal o)) t r.derived (subst (λ (k : Kind). same_kind Eof k ≡ true) (sym r.is_end) refl);
     }
 
     pub to_core_reading : (t : Tree) → Reading text goal o t → IsReading text o.allow_v8 t
-    to_core_reading t r = let l = lexed_whole r in record {
+    to_core_reading t r = let d = r.strict in let l = lexed_whole d in record {
       core = s;
-      lexemes = r.lexemes;
+      lexemes = d.lexemes;
       lexed = lexed_at script u s l;
-      end = r.place;
-      final = r.final;
-      derived = to_core (record { in_ = refl; v8 = refl; wide = refl }) t (core_lexemes text u s goal r.lexemes l) r.derived;
+      end = d.place;
+      final = d.final;
+      derived = to_core (record { in_ = refl; v8 = refl; wide = refl }) t (core_lexemes text u s goal d.lexemes l) d.derived;
     }
+
+    -- no core tree breaks an early rule
+    core_early : (t : Tree) → IsReading text o.allow_v8 t → MeetsEarlyRules text t
+    core_early t r =
+        let n = at Program (program_flags script (core_options o.allow_v8)) in
+        let p = pure_plain t (derived_plain n t refl r.derived) in
+        let e = early_spared text t (derived_spared n t refl (subst (λ (v : Tree). Derives core_rule n v 0 r.lexemes r.end (last r.final)) (sym p) r.derived)) in
+        record { not_u_and_v = e.not_u_and_v }
 
     pub to_reading : (t : Tree) → IsReading text o.allow_v8 t → Reading text goal o t
     to_reading t r =
@@ -86,12 +96,15 @@ module _ {text : List ℕ} (u : IsUtf8 text) (s : CoreSource text) where
         let l = lexed_at goal u s r.lexed in
         let d = to_whole {g = parameters goal o} (record { in_ = refl; v8 = refl; wide = refl }) t c r.derived in
         record {
-          lexemes = r.lexemes;
-          lexed = from_text_start (all_read text goal 0 r.lexemes l.lexes c);
-          place = r.end;
-          final = r.final;
-          is_end = sym (kind_of_same Eof r.final.kind (ends_behind (at Program (parameters goal o)) t d l.ends));
-          derived = d;
+          strict = record {
+            lexemes = r.lexemes;
+            lexed = from_text_start (all_read text goal 0 r.lexemes l.lexes c);
+            place = r.end;
+            final = r.final;
+            is_end = sym (kind_of_same Eof r.final.kind (ends_behind (at Program (parameters goal o)) t d l.ends));
+            derived = d;
+          };
+          early = core_early t r;
         }
 
     pub only_core : (t : Tree) → IsOnlyReading text goal o t → IsOnlyCoreReading text o.allow_v8 t

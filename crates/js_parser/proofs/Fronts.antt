@@ -10,7 +10,7 @@ use Rattle.js_grammar.specs.Trees.{Slots, end, tree, Tree}
 use Rattle.js_grammar.specs.Characters.{width}
 use Rattle.js_grammar.specs.Grammar.{Lexeme, Lexemes, last, next, Takes, Derives}
 use Rattle.js_grammar.specs.Longest.{joined}
-use Rattle.js_grammar.specs.Lexed.{Lexes, IsLexeme, ends_once}
+use Rattle.js_grammar.specs.Lexed.{Lexes, IsLexeme}
 use Rattle.js_grammar.specs.Lexemes.{LexicalGoal, kind_in, may_begin, is_escaped, hashbang}
 use Rattle.js_grammar.specs.Productions.{Flags, at, Program}
 use Rattle.js_grammar.specs.Settings.{Goal}

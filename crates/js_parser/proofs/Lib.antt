@@ -5,4 +5,7 @@ pub mod Readings
 pub mod NodeSpans
 pub mod Answering
 pub mod CoreTexts
+pub mod FlagScans
+pub mod Clashes
+pub mod RegExpSpans
 pub mod Leftovers

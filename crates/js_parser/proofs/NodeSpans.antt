@@ -1,5 +1,5 @@
 -- Where nodes stand in a text, and where those of the tree that they stand for.
-use Rattle.std.proofs.Common.{ℕ, List, ◌∷◌, Option, drop}
+use Rattle.std.proofs.Common.{ℕ, List, Option, drop}
 use Rattle.std.proofs.lemmas.List.Elements.{All-cons, All-drop, All-get_or}
 use Rattle.js_base.specs.Spans.{LiesIn}
 use Rattle.js_grammar.specs.Trees.{Label, Slots}

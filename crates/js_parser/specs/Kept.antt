@@ -52,4 +52,4 @@ pub record IsKeptOf {cover : Bool} {text : List ℕ} {goal : Goal} {o : Options}
 -- Tokens are kept only where they were asked for. Where nothing was found, what was kept is of the lexemes of each reading.
 pub record KeepsRight (text : List ℕ) (goal : Goal) (o : Options) (asks : Bool) (out : LexerOutput) : Type 0 where
   pub unasked : asks ≡ false → out.tokens ≡ []
-  pub kept : out.errors ≡ [] → (t : Tree) (r : Reading text goal o t) → IsKeptOf r asks out
+  pub kept : out.errors ≡ [] → (t : Tree) (r : Reading text goal o t) → IsKeptOf r.strict asks out

@@ -1,3 +1,6 @@
+pub mod EarlyErrors
+pub mod FlagScans
+pub mod Clashes
 pub mod Readings
 pub mod Kept
 pub mod Parsed

@@ -19,6 +19,7 @@ use Rattle.js_grammar.specs.Table.{rule}
 use Rattle.js_lex.specs.Reading.{LexemeBehind}
 use Rattle.js_cursor.specs.Places.{IsFault}
 use Rattle.js_parsing.specs.Lexemes.{Faultless}
+use Rattle.js_parser.specs.EarlyErrors.{MeetsEarlyRules}
 
 -- The goal at which a text is read: an unambiguous one as a script, since what shows a module isn't read yet.
 abbrev pub read_at : Goal → Goal
@@ -61,23 +62,28 @@ pub record ReadingBy (cover : Bool) (text : List ℕ) (goal : Goal) (o : Options
   pub is_end : final.kind ≡ Eof
   pub derived : Derives rule (at Program (with_cover cover (parameters goal o))) t 0 lexemes place (last final)
 
-abbrev pub Reading : List ℕ → Goal → Options → Tree → Type 0
-Reading text goal o t = ReadingBy false text goal o t
+-- A tree that is derived strictly, and meets the early rules.
+pub record Reading (text : List ℕ) (goal : Goal) (o : Options) (t : Tree) : Type 0 where
+  pub strict : ReadingBy false text goal o t
+  pub early : MeetsEarlyRules text t
 
 -- no lexemes of those kinds are a program
 abbrev pub HasNoReadingBy : Bool → List ℕ → Goal → Options → Type 0
 HasNoReadingBy cover text goal o = (t : Tree) → ReadingBy cover text goal o t → ⊥
 
+-- no tree is a reading
 abbrev pub HasNoReading : List ℕ → Goal → Options → Type 0
-HasNoReading text goal o = HasNoReadingBy false text goal o
+HasNoReading text goal o = (t : Tree) → Reading text goal o t → ⊥
 
--- The tree is a reading; every reading is this tree, over the same lexemes.
+-- The tree is derived; every one that is derived is this tree, over the same lexemes.
 pub record IsOnlyReadingBy (cover : Bool) (text : List ℕ) (goal : Goal) (o : Options) (tree : Tree) : Type 0 where
   pub reading : ReadingBy cover text goal o tree
   pub only : (t : Tree) (r : ReadingBy cover text goal o t) → (t ≡ tree) × (r.lexemes ≡ reading.lexemes)
 
-abbrev pub IsOnlyReading : List ℕ → Goal → Options → Tree → Type 0
-IsOnlyReading text goal o tree = IsOnlyReadingBy false text goal o tree
+-- The tree is a reading; every reading is this tree, over the same lexemes.
+pub record IsOnlyReading (text : List ℕ) (goal : Goal) (o : Options) (tree : Tree) : Type 0 where
+  pub reading : Reading text goal o tree
+  pub only : (t : Tree) (r : Reading text goal o t) → (t ≡ tree) × (r.strict.lexemes ≡ reading.strict.lexemes)
 
 -- Diagnostics of a text: faults of lexemes, of the class Lexical, and behind them what the parser found. Each has what its kind says at its span, which lies in the text and splits no character.
 pub record AreOf (goal : Goal) (text : List ℕ) (found : List Diagnostic) : Type 0 where

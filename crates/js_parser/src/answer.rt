@@ -1,15 +1,17 @@
 //! What a parse answers.
 
-ghost use Rattle.std.specs.Prelude.{ℕ, ◌≡◌, ◌++◌, Bool, List, [], IfOk, take};
+ghost use Rattle.std.specs.Prelude.{ℕ, ◌≡◌, ◌++◌, Bool, List, [], IfOk, OnOk, take};
 ghost use Rattle.js_base.specs.declared.options.ParseOptions.{ParseOptions};
 ghost use Rattle.js_base.specs.declared.source_type.SourceType.{SourceType};
 ghost use Rattle.js_cursor.specs.Places.{IsAt};
 ghost use Rattle.js_lex.specs.States.{goal_of};
+ghost use Rattle.js_parsing.specs.States.{NodesLie};
 ghost use Rattle.js_parser.specs.Kept.{KeepsRight};
-ghost use Rattle.js_parser.specs.Leftover.{with_leftover};
+ghost use Rattle.js_parser.specs.Leftover.{told_at, with_leftover};
 ghost use Rattle.js_parser.specs.Parsed.{options_of, IsAnswer, IsOverlong};
 ghost use Rattle.js_parser.specs.Taken.{ProgramTaken, ProgramRefused};
 
+use crate::early::flag_clashes;
 use js_base::{
     Diagnostic, DiagnosticClass, DiagnosticKind, Diagnostics, Kind, NoMemory, SourceType, Span,
     Spans, Tokens,
@@ -55,17 +57,22 @@ pub fn taken(
     p: Parser<'_>,
     items: Vec<Option<NodeId>>,
 ) -> Result<ParserReturn, NoMemory>
+    requires at { IsAt p }
+    requires lie { NodesLie p.text p.nodes }
     ensures answer { IfOk result (λ r. (text : List ℕ) (s : SourceType) (o : ParseOptions) (asks : Bool) → ProgramTaken text s o asks p.entry items.items → IsAnswer text (goal_of s) (options_of o) r.program.tree (record { comments = r.program.comments; irregular_whitespaces = r.irregular_whitespaces; tokens = r.tokens; errors = r.diagnostics }) r.fatal_error) }
     ensures kept { IfOk result (λ r. (text : List ℕ) (s : SourceType) (o : ParseOptions) (asks : Bool) → ProgramTaken text s o asks p.entry items.items → KeepsRight text (goal_of s) (options_of o) asks (record { comments = r.program.comments; irregular_whitespaces = r.irregular_whitespaces; tokens = r.tokens; errors = r.diagnostics })) }
     ensures source_type { IfOk result (λ r. r.program.source_type ≡ source_type) }
 {
     let alloc = p.alloc;
+    let source = p.source_text;
     let span = Span::new(0, p.cur_token().end());
     let parts = p.into_parts();
     let kept = parts.lexer.finish();
     let tree = parts.ast.finish(span, items)?;
     let found = joined(kept.errors, parts.errors)?;
-    let diagnostics = with_cover_initializers(found, tree.cover_initializers(alloc)?)?;
+    let clashes = flag_clashes(alloc, &tree, source)?;
+    let covers = tree.cover_initializers(alloc)?;
+    let diagnostics = with_leftover(found, clashes, covers)?;
     let (module_record, _) = parts.module_record_builder.build()?;
     Ok(ParserReturn {
         program: Program {
@@ -166,26 +173,47 @@ fn fewer_faults(tells_fault: bool, faults: Diagnostics) -> Diagnostics
     faults
 }
 
-/// Where nothing was found, a diagnostic for each shorthand with an initialiser that no target took (CoverInitializedName,
-/// ECMA-262, section 13.2.5.1), by its span.
-fn with_cover_initializers(found: Diagnostics, spans: Vec<Span>) -> Result<Diagnostics, NoMemory>
-    ensures { IfOk result (λ all. all ≡ with_leftover found spans.items) }
+/// Where nothing was found, a diagnostic for each regular expression with the flags `u` and `v` (ECMA-262, section 22.2.3.4),
+/// and then for each shorthand with an initialiser that no target took (CoverInitializedName, section 13.2.5.1), by its span.
+fn with_leftover(
+    found: Diagnostics,
+    clashes: Vec<Span>,
+    covers: Vec<Span>,
+) -> Result<Diagnostics, NoMemory>
+    ensures { IfOk result (λ all. all ≡ with_leftover found clashes.items covers.items) }
 {
     let mut all = found;
     if all.len() > 0 {
         return Ok(all);
     }
+    tell_each(
+        &mut all,
+        DiagnosticKind::RegExpFlagUAndV,
+        clashes.as_slice(),
+    )?;
+    tell_each(
+        &mut all,
+        DiagnosticKind::CoverInitializedName,
+        covers.as_slice(),
+    )?;
+    Ok(all)
+}
+
+/// Tells a diagnostic of a kind at each span.
+fn tell_each(all: &mut Diagnostics, kind: DiagnosticKind, spans: &[Span]) -> Result<(), NoMemory>
+    ensures { OnOk result (all.new ≡ all.old ++ told_at kind spans.now) }
+{
     let mut i = 0;
     'spans: while i < spans.len() {
         all.push(Diagnostic {
-            kind: DiagnosticKind::CoverInitializedName,
+            kind,
             span: spans[i],
             first: None,
             second: None,
         })?;
         i += 1;
     }
-    Ok(all)
+    Ok(())
 }
 
 /// One list behind another.

@@ -2,6 +2,8 @@
 #![tactic(auto)]
 
 mod answer;
+mod early;
+mod flags;
 mod parser;
 mod program;
 

@@ -1,5 +1,5 @@
 -- Statements that hold other ones (ECMA-262, 14.6, 14.7.2, 14.7.3, 14.11).
-use Rattle.std.proofs.Common.{ℕ, ◌≡◌, ◌<◌, inl, inr, List, [], ◌∷◌, length, Option, Some, None, Bool, true, false, not, ◌&&◌, IsTrue, refl, sym, ap, subst, arith, ◌∙◌}
+use Rattle.std.proofs.Common.{ℕ, ◌≡◌, ◌<◌, inl, inr, List, [], ◌∷◌, length, Option, Some, None, Bool, true, false, not, ◌&&◌, IsTrue, refl, sym, ap, subst, arith, ◌∙◌, ◌||◌}
 use Rattle.std.specs.Prelude.{Ok, Err}
 use Rattle.std.proofs.lemmas.Bool.{false≢true, and_parts}
 use Rattle.js_base.specs.declared.diagnostic.Diagnostic.{Diagnostic}
@@ -35,7 +35,7 @@ use Rattle.js_tree.specs.Nodes.{Node}
 use Rattle.js_tree.specs.Holding.{Holds, HoldsAll, Keeps}
 use Rattle.js_tree.proofs.HoldingLemmas.{Holds-kept, HoldsAll-append, HoldsAll-hole, HoldsAll-one, HoldsAll-two, Keeps-made, Keeps-trans}
 use Rattle.js_lex.specs.Reading.{is_right_angle}
-use Rattle.js_cursor.specs.Moves.{Eats, Expects, IsKind, MovesOn, OnlyMemory, is_last}
+use Rattle.js_cursor.specs.Moves.{Eats, Expects, IsKind, MovesOn, OnlyMemory}
 use Rattle.js_cursor.specs.Parsers.{Parser}
 use Rattle.js_cursor.specs.declared.stop.Stop.{Stop}
 use Rattle.js_cursor.specs.declared.stop.Stop.TheVariants.{Fatal, NoMemory}
@@ -85,7 +85,7 @@ module _ {text : List ℕ} {f : Flags} {X : Test} where
 
 module _ {text : List ℕ} {f : Flags} {p : Parser} (a : At text f p) where
   -- a lexeme that is due doesn't stand here
-  pub no_token : {X : Test} {g : G} (k : Kind) → is_right_angle k ≡ false → StandsHere p k false → Fails rule (Lex text) X end (tok k ▸ g) p.prev_token_end
+  pub no_token : {X : Test} {g : G} (k : Kind) → (is_right_angle k || same_kind kind.RegExp k) ≡ false → StandsHere p k false → Fails rule (Lex text) X end (tok k ▸ g) p.prev_token_end
   no_token k n s = then_fails (fails_lexeme (is k) (λ y l h. stands_not a n s y l (sym (kind_of_same k y.kind (and_parts (same_kind k y.kind) (not y.escaped) h).0))))
 
   -- which was told

@@ -1,9 +1,7 @@
 -- The first part of the head of a `for`, read where `in` is no operator, as it stands where it is one (ECMA-262, 14.7.4, 14.7.5).
-use Rattle.std.proofs.Common.{ℕ, ◌≡◌, max, List, length, Option, Bool, refl, sym, ap, subst, rules, arith, ◌∙◌}
+use Rattle.std.proofs.Common.{ℕ, ◌≡◌, max, List, Option, refl, sym, ap, subst, rules, arith, ◌∙◌}
 use Rattle.js_base.specs.declared.context.Context.{Context}
-use Rattle.js_base.specs.Contexts.{SetsFlag, in_flag}
-use Rattle.js_grammar.specs.Trees.{Slots, end}
-use Rattle.js_grammar.specs.Grammar.{Lexemes, Takes}
+use Rattle.js_grammar.specs.Trees.{end}
 use Rattle.js_grammar.specs.Parsing.{Test, still, Goes}
 use Rattle.js_grammar.specs.Productions.{Flags, minus_in}
 use Rattle.js_grammar.specs.Table.{rule}

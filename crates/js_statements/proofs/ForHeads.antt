@@ -1,6 +1,6 @@
 -- The heads of `for` statements, between their parentheses (ECMA-262, 14.7.4, 14.7.5).
-use Rattle.std.proofs.Common.{ℕ, ◌≡◌, ◌≤◌, ◌<◌, ◌⊎◌, inl, inr, max, List, [], ◌∷◌, ◌++◌, length, Option, Some, None, Bool, true, false, not, ◌&&◌, IsTrue, refl, sym, ap, subst, arith, ◌∙◌}
-use Rattle.std.specs.Prelude.{Result, Ok, Err}
+use Rattle.std.proofs.Common.{ℕ, ◌≡◌, ◌<◌, ◌⊎◌, inl, inr, max, List, [], ◌∷◌, ◌++◌, length, Option, Some, None, Bool, true, false, not, IsTrue, refl, sym, ap, subst, arith, ◌∙◌, ◌||◌}
+use Rattle.std.specs.Prelude.{Result, Ok, Err, ◌↔◌}
 use Rattle.std.proofs.lemmas.Bool.{false≢true, and_parts}
 use Rattle.js_base.specs.declared.diagnostic.Diagnostic.{Diagnostic}
 use Rattle.js_base.specs.declared.diagnostic.DiagnosticKind.TheVariants.{ExpectToken}
@@ -8,18 +8,18 @@ use Rattle.js_base.specs.declared.kind.Kind.{Kind}
 use Rattle.js_base.specs.declared.kind.Kind.TheVariants as kind
 use Rattle.js_base.specs.Kinds.{same_kind, one_of_kinds}
 use Rattle.js_base.specs.Texts.{words}
-use Rattle.js_base.proofs.KindLemmas.{kind_of_same, same_self}
-use Rattle.js_grammar.specs.Trees.{Label, Slots, append, end, hole, tree}
-use Rattle.js_grammar.specs.Grammar.{Lexeme, Lexemes, next, here, seen, is, such, empty_slot, nothing, seq, Takes, is_lexeme, is_seq, is_such, is_empty_slot, ◌▸◌, ◌◇◌}
+use Rattle.js_base.proofs.KindLemmas.{kind_of_same}
+use Rattle.js_grammar.specs.Trees.{Slots, append, end, hole, tree}
+use Rattle.js_grammar.specs.Grammar.{Lexeme, Lexemes, next, here, seen, is, such, empty_slot, nothing, Takes, is_lexeme, is_seq, is_empty_slot, ◌▸◌}
 use Rattle.js_grammar.specs.Lexed.{Lexes}
-use Rattle.js_grammar.specs.Parsing.{Test, plain, full, always, passing, Admits, Goes, Fails}
+use Rattle.js_grammar.specs.Parsing.{Test, plain, full, always, passing, Goes, Fails}
 use Rattle.js_grammar.specs.Productions.{G, Flags, Symbol, at, parens, slot, tok, Assignment, Expression, ForInit}
 use Rattle.js_grammar.specs.Productions.{sym as symbol}
 use Rattle.js_grammar.specs.Table.{rule}
 use Rattle.js_grammar.specs.Follow.{after, surest}
 use Rattle.js_grammar.proofs.Frame.{append_assoc}
-use Rattle.js_grammar.proofs.Looks.{covers, covered, apart, not_both}
-use Rattle.js_grammar.proofs.Calculus.{Between, On, ◌▹◌, ◌▹✗◌, ends, here_at, left, right, then_by, part_fails, fails_alt, fails_lexeme, reads_empty_slot, weaken_fails_on}
+use Rattle.js_grammar.proofs.Looks.{covers, covered, apart, not_both, same_self}
+use Rattle.js_grammar.proofs.Calculus.{Between, On, ◌▹◌, ◌▹✗◌, here_at, left, right, then_by, part_fails, fails_alt, reads_empty_slot, weaken_fails_on, weaken_on}
 use Rattle.js_grammar.specs.FirstSets.{first}
 use Rattle.js_grammar.proofs.First.{starts}
 use Rattle.js_grammar.proofs.FirstClaims.{firsts}
@@ -34,14 +34,14 @@ use Rattle.js_lex.specs.Reading.{is_right_angle}
 use Rattle.js_cursor.specs.Moves.{Expects, IsKind}
 use Rattle.js_cursor.specs.Parsers.{Parser}
 use Rattle.js_cursor.specs.declared.stop.Stop.{Stop}
-use Rattle.js_parsing.specs.Answers.{Answer, Grown, Numbered, Stops, Stretch, Underived, Verdict, clean}
-use Rattle.js_parsing.specs.Lexemes.{Lex, nowhere, read_kinds}
+use Rattle.js_parsing.specs.Answers.{Grown, Numbered, Stops, Stretch, Underived, Verdict, clean}
+use Rattle.js_parsing.specs.Lexemes.{Lex, nowhere}
 use Rattle.js_parsing.specs.Moves.{Moved}
 use Rattle.js_parsing.specs.Stands.{StandsHere}
-use Rattle.js_parsing.specs.States.{At, Same}
+use Rattle.js_parsing.specs.States.{At}
 use Rattle.js_statements.specs.declared.for_statement.Ending.{Ending}
 use Rattle.js_statements.specs.declared.for_statement.Ending.TheVariants as ending
-use Rattle.js_statements.specs.ForHeads.{EndsPart, FirstTaken, HeadTaken, NoFirst, NoHead, NoParensHead, NoPart, NoRest, ParensHeadTaken, PartTaken, RestTaken, TakesFirst, TakesHead, TakesRest, behind_head, behind_rest, behind_slot, end_kind, first_part, head_part, rest_part}
+use Rattle.js_statements.specs.ForHeads.{AtEnd, EndsPart, FirstTaken, HeadTaken, NoFirst, NoHead, NoParensHead, NoPart, NoRest, ParensHeadTaken, PartTaken, RestTaken, TakesFirst, TakesHead, TakesRest, behind_head, behind_rest, behind_slot, end_kind, first_part, head_part, rest_part}
 use Rattle.js_parsing.proofs.Moving.{same_both, same_itself, stops_behind}
 use Rattle.js_parsing.proofs.Paths.{Path, ◌⟶◌, ◌⟶✗◌, fails_at, last_called, last_token, skips, token, walked_both, walked_one}
 use Rattle.js_parsing.proofs.Signs.{plain_sign, stands_not}
@@ -60,16 +60,16 @@ stands_either p k = by (same_kind k p.token.kind) refl p.token.escaped refl
     by false h c e = inr (λ i j. false≢true (sym h ∙ (ap (same_kind k) i ∙ same_self k)))
 
 -- one of the three at the most
-pub apart_ends : {q : Parser} (e d : Ending) → (d ≡ e → ⊥) → StandsHere q (end_kind e) true → StandsHere q (end_kind d) false
-apart_ends ending.Semicolon ending.Semicolon n h = absurd (n refl)
-apart_ends ending.Semicolon ending.In n h = λ k i. let w : kind.Semicolon ≡ kind.In = sym h.0 ∙ k in cc
-apart_ends ending.Semicolon ending.Of n h = λ k i. let w : kind.Semicolon ≡ kind.Of = sym h.0 ∙ k in cc
-apart_ends ending.In ending.Semicolon n h = λ k i. let w : kind.In ≡ kind.Semicolon = sym h.0 ∙ k in cc
-apart_ends ending.In ending.In n h = absurd (n refl)
-apart_ends ending.In ending.Of n h = λ k i. let w : kind.In ≡ kind.Of = sym h.0 ∙ k in cc
-apart_ends ending.Of ending.Semicolon n h = λ k i. let w : kind.Of ≡ kind.Semicolon = sym h.0 ∙ k in cc
-apart_ends ending.Of ending.In n h = λ k i. let w : kind.Of ≡ kind.In = sym h.0 ∙ k in cc
-apart_ends ending.Of ending.Of n h = absurd (n refl)
+pub apart_ends : (q : Parser) (e d : Ending) → (d ≡ e → ⊥) → StandsHere q (end_kind e) true → StandsHere q (end_kind d) false
+apart_ends q ending.Semicolon ending.Semicolon n h = absurd (n refl)
+apart_ends q ending.Semicolon ending.In n h = λ k i. let w : kind.Semicolon ≡ kind.In = sym h.0 ∙ k in cc
+apart_ends q ending.Semicolon ending.Of n h = λ k i. let w : kind.Semicolon ≡ kind.Of = sym h.0 ∙ k in cc
+apart_ends q ending.In ending.Semicolon n h = λ k i. let w : kind.In ≡ kind.Semicolon = sym h.0 ∙ k in cc
+apart_ends q ending.In ending.In n h = absurd (n refl)
+apart_ends q ending.In ending.Of n h = λ k i. let w : kind.In ≡ kind.Of = sym h.0 ∙ k in cc
+apart_ends q ending.Of ending.Semicolon n h = λ k i. let w : kind.Of ≡ kind.Semicolon = sym h.0 ∙ k in cc
+apart_ends q ending.Of ending.In n h = λ k i. let w : kind.Of ≡ kind.In = sym h.0 ∙ k in cc
+apart_ends q ending.Of ending.Of n h = absurd (n refl)
 
 -- the same one, or another
 pub which : (e d : Ending) → (d ≡ e) ⊎ (d ≡ e → ⊥)
@@ -155,7 +155,7 @@ of_begins f = record { semicolon = refl; paren = refl }
 -- none, where one of them stands
 module _ {text : List ℕ} {f : Flags} {p : Parser} (a : At text f p) where
   none_at_end : {g : G} → BeginsElse g → (k : Kind) → EndsPart k → p.token.kind ≡ k → {X : Test} → Fails rule (Lex text) X end g p.prev_token_end
-  none_at_end {g} b k h e = weaken_fails_on (fails_here firsts (λ y l s. by h y l s)) (record { admits = λ ts vs k ls rest d e. (refl, refl) })
+  none_at_end {g} b k h e = weaken_fails_on {X = plain full} (fails_here firsts (λ y l s. by h y l s)) (record { admits = λ ts vs k ls rest d e. (refl, refl) })
     where
       by : EndsPart k → (y : Lexeme) → Lex text p.prev_token_end y → IsTrue (seen (starts first g (plain full).base) y) → ⊥
       by (inl i) y l s = not_both (starts first g (plain full).base) (λ k w e. same_kind kind.Semicolon k) b.semicolon y.kind y.newline y.escaped s (ap (same_kind kind.Semicolon) (kind_here a (e ∙ i) refl y l))
@@ -183,9 +183,9 @@ module _ {text : List ℕ} {f : Flags} {p : Parser} (a : At text f p) where
       go : {ts vs : Slots} {j : ℕ} {ls rest : Lexemes} → Lexes (Lex text) p.prev_token_end ls → Takes rule empty_slot end ts p.prev_token_end ls vs j rest → IsTrue (seen (is k) (here rest)) → ⊥
       go {ls = ls} l is_empty_slot q = stands_not a (angle h) (λ i j. n i) (here ls) (here_at (Lex text) ls l) (sym (kind_of_same k (here ls).kind (and_parts (same_kind k (here ls).kind) (not (here ls).escaped) q).0))
         where
-          angle : EndsPart k → is_right_angle k ≡ false
-          angle (inl i) = ap is_right_angle i
-          angle (inr i) = ap is_right_angle i
+          angle : EndsPart k → (is_right_angle k || same_kind kind.RegExp k) ≡ false
+          angle (inl i) = ap (λ (v : Kind). is_right_angle v || same_kind kind.RegExp v) i
+          angle (inr i) = ap (λ (v : Kind). is_right_angle v || same_kind kind.RegExp v) i
 
   pub part_unread : (k : Kind) → EndsPart k → (p.token.kind ≡ k → ⊥) → Underived text (at Expression f) p.prev_token_end → NoPart text k f p.prev_token_end
   part_unread k h n z = fails_alt (weaken_fails_on z (on_end k (at Expression f) (part_ends k h))) (no_empty k h n)
@@ -200,15 +200,16 @@ module _ {text : List ℕ} {f : Flags} {p : Parser} (a : At text f p) where
     strips = λ us. refl;
     pass = x.answer.pass;
     walked = x.answer.walked;
-    verdict = verdict_of (last_called x.answer (on_end k (at Expression f) (part_ends k h))).verdict
-        (λ y. record { reach = max 0 y.reach; near = let i = y.near in omega arith; goes = left (no_empty k h n) ▹ y.goes })
-        (λ z. fails_alt z (no_empty k h n));
+    verdict = verdict_of x.answer.verdict
+        (λ y. record { reach = max 0 y.reach; near = let i = y.near in omega arith; goes = left (no_empty k h n) ▹ weaken_on y.goes (on_end k (at Expression f) (part_ends k h)) })
+        (λ z. fails_alt (weaken_fails_on z (on_end k (at Expression f) (part_ends k h))) (no_empty k h n));
     held = HoldsAll-one id x.holds;
     keeps = x.keeps;
   }
 
 -- no first part, where one of them stands
 pub none_first : {text : List ℕ} {f : Flags} {p : Parser} → At text f p → (j : Kind) → EndsPart j → p.token.kind ≡ j → FirstTaken text f p p None
+unfolding words
 none_first {text} {f} {p} a j h e = record {
   at = a;
   same = same_itself;
@@ -231,7 +232,6 @@ none_first {text} {f} {p} a j h e = record {
     apart_from w (inr i) n m k = m (sym k ∙ (e ∙ i))
 
     plain_here : EndsPart j → p.token.escaped ≡ false
-    unfolding words
     plain_here (inl i) = plain_sign kind.Semicolon a (e ∙ i) refl refl refl
     plain_here (inr i) = plain_sign kind.RParen a (e ∙ i) refl refl refl
 
@@ -245,6 +245,21 @@ none_first {text} {f} {p} a j h e = record {
     fails ending.In s = none_at_end a (in_begins f) j h e
     fails ending.Of s = none_at_end a (of_begins f) j h e
 
+pub at_end_so : (k : Kind) (p : Parser) {b r : Bool} → r ≡ b → AtEnd k p r → AtEnd k p b
+at_end_so k p e h = subst (λ (v : Bool). AtEnd k p v) e h
+
+pub at_end_by : (k : Kind) (p : Parser) (b : Bool) → (p.token.kind ≡ k → ⊥) → IsTrue b ↔ (p.token.kind ≡ kind.RParen) → AtEnd k p b
+at_end_by k p true n i = inr (i.0 refl)
+at_end_by k p false n i = (n, λ e. false≢true (i.1 e))
+
+pub part_empty : {text : List ℕ} {f : Flags} {p : Parser} → At text f p → (k : Kind) → EndsPart k → AtEnd k p true → PartTaken text f k p p None
+part_empty a k h (inl e) = part_none a k k h e
+part_empty a k h (inr e) = part_none a k kind.RParen (inr refl) e
+
+pub first_empty : {text : List ℕ} {f : Flags} {p : Parser} → At text f p → AtEnd kind.Semicolon p true → FirstTaken text f p p None
+first_empty a (inl e) = none_first a kind.Semicolon (inl refl) e
+first_empty a (inr e) = none_first a kind.RParen (inr refl) e
+
 -- ---- the rest of the head
 
 module _ {text : List ℕ} {f : Flags} {p : Parser} (a : At text f p) where
@@ -256,7 +271,7 @@ module _ {text : List ℕ} {f : Flags} {p : Parser} (a : At text f p) where
   pub rest_fails : (e : Ending) → StandsHere p (end_kind e) true → NoRest text e f p.prev_token_end → (d : Ending) → NoRest text d f p.prev_token_end
   rest_fails e h n d = elim (which e d) [
     | inl i ↦ subst (λ (v : Ending). NoRest text v f p.prev_token_end) (sym i) n
-    | inr i ↦ rest_missing d (apart_ends e d i h)
+    | inr i ↦ rest_missing d (apart_ends p e d i h)
   ]
 
   -- neither `in` nor `of` stands here, nor a semicolon
@@ -265,7 +280,7 @@ module _ {text : List ℕ} {f : Flags} {p : Parser} (a : At text f p) where
   none_of_three i o s ending.In = rest_missing ending.In i
   none_of_three i o s ending.Of = rest_missing ending.Of o
 
-  pub semicolon_missing : {ids js : List (Option NodeId)} (q : Parser) (x : Stop) → StandsHere p kind.In false → StandsHere p kind.Of false → Expects (IsKind kind.Semicolon) ExpectToken None p q (Err x) → Stops p q x ((d : Ending) → NoRest text d f p.prev_token_end)
+  pub semicolon_missing : (q : Parser) (x : Stop) → StandsHere p kind.In false → StandsHere p kind.Of false → Expects (IsKind kind.Semicolon) ExpectToken None p q (Err x) → Stops p q x ((d : Ending) → NoRest text d f p.prev_token_end)
   semicolon_missing q x i o e = unexpected a kind.Semicolon q x e (λ s d. none_of_three i o s d)
 
   -- a word and what stands behind it
@@ -362,14 +377,14 @@ module _ {text : List ℕ} {f : Flags} {p : Parser} (a : At text f p) where
               verdict = behind_none m.kept (and_then t.verdict (behind_none o.kept w.verdict) (λ y z. whole y z) (λ n. test_fails n) (λ y n. first_semicolon ▹✗ (behind_test y ▹✗ (second_semicolon ▹✗ n))));
             }
 
-            both_slots : Slots
+            abbrev both_slots : Slots
             both_slots = append (t.slots end) (w.slots end)
 
             slots_are : (us : Slots) → t.slots (w.slots us) ≡ append both_slots us
             slots_are us = t.puts (w.slots us) ∙ (ap (λ (z : Slots). append (t.slots end) z) (w.puts us) ∙ sym (append_assoc (t.slots end) (w.slots end) us))
 
-            pub semicolons_taken : {ids is js : List (Option NodeId)} → is ≡ ids ++ test ∷ [] → js ≡ is ++ update ∷ [] → RestTaken text f ending.Semicolon p v ids js
-            semicolons_taken {ids} {is} {js} e g = record {
+            pub semicolons_taken : {ids hs js : List (Option NodeId)} → hs ≡ ids ++ test ∷ [] → js ≡ hs ++ update ∷ [] → RestTaken text f ending.Semicolon p v ids js
+            semicolons_taken {ids} {hs} {js} e g = record {
               here = k;
               same = same_both m.same (same_both t.same (same_both o.same w.same));
               slots = both_slots;
@@ -389,7 +404,7 @@ module _ {text : List ℕ} {f : Flags} {p : Parser} (a : At text f p) where
                 held_both lo us h =
                     let a1 : HoldsAll r.nodes (length p.nodes) (length r.nodes) (test ∷ []) (t.slots end) = subst (λ (ns : List Node). HoldsAll r.nodes (length ns) (length r.nodes) (test ∷ []) (t.slots end)) m.nodes t.held in
                     let a2 : HoldsAll v.nodes (length r.nodes) (length v.nodes) (update ∷ []) (w.slots end) = subst (λ (ns : List Node). HoldsAll v.nodes (length ns) (length v.nodes) (update ∷ []) (w.slots end)) o.nodes w.held in
-                    let b1 : HoldsAll r.nodes lo (length r.nodes) is (append us (t.slots end)) = subst (λ (xs : List (Option NodeId)). HoldsAll r.nodes lo (length r.nodes) xs (append us (t.slots end))) (sym e) (HoldsAll-append (HoldsAll-kept kt h) a1) in
+                    let b1 : HoldsAll r.nodes lo (length r.nodes) hs (append us (t.slots end)) = subst (λ (xs : List (Option NodeId)). HoldsAll r.nodes lo (length r.nodes) xs (append us (t.slots end))) (sym e) (HoldsAll-append (HoldsAll-kept kt h) a1) in
                     let b2 : HoldsAll v.nodes lo (length v.nodes) js (append (append us (t.slots end)) (w.slots end)) = subst (λ (xs : List (Option NodeId)). HoldsAll v.nodes lo (length v.nodes) xs (append (append us (t.slots end)) (w.slots end))) (sym g) (HoldsAll-append (HoldsAll-kept kw b1) a2) in
                     subst (λ (z : Slots). HoldsAll v.nodes lo (length v.nodes) js z) (append_assoc us (t.slots end) (w.slots end)) b2
 
@@ -421,7 +436,7 @@ module _ {text : List ℕ} {f : Flags} {p q : Parser} {first : Option NodeId} (x
         start_before : p.token.span.start < v.prev_token_end
         start_before = let i = x.begins in let j = r.path.further in omega arith
 
-    slots_there : Slots
+    abbrev slots_there : Slots
     slots_there = append (x.slots end) r.slots
 
     slots_so : (us : Slots) → x.slots (append r.slots us) ≡ append slots_there us
@@ -438,17 +453,17 @@ module _ {text : List ℕ} {f : Flags} {p q : Parser} {first : Option NodeId} (x
       slots = slots_there;
       strips = λ us. strips_there e r us;
       path = subst (λ (h : Slots → Slots). Path text f (plain (is kind.RParen)) (head_part e f) p nothing v h) (λ i us. slots_so us i) head_slots;
-      others = λ d n. no_head d (rest_missing x.at d (apart_ends e d n r.here));
+      others = λ d n. no_head d (rest_missing x.at d (apart_ends q e d n r.here));
       held = r.held (length p.nodes) (x.slots end) x.held;
       keeps = Keeps-trans x.keeps r.keeps;
     }
 
-pub first_stops : {text : List ℕ} {f : Flags} {s : ℕ} (d : Ending) → NoFirst text d f s → NoHead text d f s
-first_stops {f = f} {s} d n = part_fails n (first_between d f _ s)
+pub first_stops : {text : List ℕ} (f : Flags) {s : ℕ} (d : Ending) → NoFirst text d f s → NoHead text d f s
+first_stops f {s} d n = part_fails n (first_between d f _ s)
 
-pub head_answers : {p q v : Parser} {first : Option NodeId} (ids js : List (Option NodeId)) (r : Result Ending Stop) → ids ≡ first ∷ [] → TakesFirst p q (Ok first) → TakesRest q v ids js r → TakesHead p v js r
-head_answers {p} {q} {v} {first} ids js (Ok e) i x y = λ text f a. let z = x text f a in head_taken z a (subst (λ (is : List (Option NodeId)). RestTaken text f e q v is js) i (y text f z.at))
-head_answers {p} {q} {v} {first} ids js (Err s) i x y = λ text f a. let z = x text f a in rest_stops z v s (y text f z.at)
+pub head_answers : {p q : Parser} (v : Parser) {first : Option NodeId} (ids js : List (Option NodeId)) (r : Result Ending Stop) → ids ≡ first ∷ [] → TakesFirst p q (Ok first) → TakesRest q v ids js r → TakesHead p v js r
+head_answers {p} {q} v {first} ids js (Ok e) i x y = λ text f a. let z = x text f a in head_taken z a (subst (λ (is : List (Option NodeId)). RestTaken text f e q v is js) i (y text f z.at))
+head_answers {p} {q} v {first} ids js (Err s) i x y = λ text f a. let z = x text f a in rest_stops z v s (y text f z.at)
 
 -- ---- in its parentheses
 
@@ -478,7 +493,7 @@ module _ {text : List ℕ} {f : Flags} {p : Parser} (a : At text f p) where
 
       unclosed_head : one_of_kinds (kind.RParen ∷ []) r.token.kind ≡ false → NoParensHead text e f p.prev_token_end
       unfolding covers apart
-      unclosed_head n = opened e ⟶ then_closed ⟶✗ fails_at x.path.at {X = plain full} (tok kind.RParen) (kind.RParen ∷ []) refl n
+      unclosed_head n = opened e ⟶✗ (then_closed ⟶✗ fails_at x.path.at {X = plain full} (tok kind.RParen) (kind.RParen ∷ []) refl n)
 
       pub unclosed_all : one_of_kinds (kind.RParen ∷ []) r.token.kind ≡ false → (d : Ending) → NoParensHead text d f p.prev_token_end
       unclosed_all n d = elim (which e d) [

@@ -1,16 +1,20 @@
 -- The first part of the head of a `for` (ECMA-262, 14.7.4, 14.7.5).
-use Rattle.std.proofs.Common.{ℕ, ◌≡◌, ◌≤◌, ◌<◌, ◌⊎◌, inl, inr, max, List, [], ◌∷◌, length, Option, Some, None, Bool, true, false, not, ◌&&◌, ◌||◌, IsTrue, refl, sym, ap, subst, arith, ◌∙◌}
+use Rattle.std.proofs.Common.{ℕ, ◌≡◌, ◌⊎◌, inl, inr, max, List, [], ◌∷◌, length, Option, Some, None, Bool, true, false, not, ◌||◌, IsTrue, refl, sym, ap, subst, arith, ◌∙◌}
 use Rattle.std.proofs.lemmas.Bool.{false≢true, and_from, and_parts}
 use Rattle.js_base.specs.declared.diagnostic.Diagnostic.{Diagnostic}
+use Rattle.js_base.specs.declared.diagnostic.DiagnosticKind.TheVariants.{ForLoopLetReservedWord}
+use Rattle.js_declarations.proofs.SpansMarked.{span_marked}
+use Rattle.js_parsing.specs.Told.{unrelated_at}
+use Rattle.js_base.specs.Contexts.{has_flag, in_flag}
 use Rattle.js_base.specs.declared.kind.Kind.{Kind}
 use Rattle.js_base.specs.declared.kind.Kind.TheVariants as kind
 use Rattle.js_base.specs.Kinds.{same_kind, one_of_kinds}
 use Rattle.js_base.proofs.KindLemmas.{kind_of_same}
-use Rattle.js_grammar.specs.Trees.{Label, Slots, append, end, hole, tree, variable_declaration, variable_declarator}
-use Rattle.js_grammar.specs.Grammar.{Lexeme, Lexemes, Look, here, seen, is, such, empty_slot, nothing, commas, seq, alt, Takes, is_seq, is_lexeme, is_node, ◌▸◌, ◌◇◌}
+use Rattle.js_grammar.specs.Trees.{Label, Slots, end, tree, variable_declaration, variable_declarator}
+use Rattle.js_grammar.specs.Grammar.{Lexeme, Lexemes, here, seen, is, such, empty_slot, nothing, commas, Takes, is_seq, is_lexeme, is_node, ◌▸◌}
 use Rattle.js_grammar.specs.Lexed.{Lexes}
 use Rattle.js_grammar.specs.Parsing.{Test, plain, full, always, still, Admits, Goes, Fails}
-use Rattle.js_grammar.specs.Productions.{G, Flags, at, branches, if_next, minus_in, mk, not_then, op, other, slot, tok, word_or, Binding, BindingIdentifier, Expression, ForInit, Init, Target}
+use Rattle.js_grammar.specs.Productions.{G, Flags, at, branches, minus_in, mk, not_then, op, other, tok, word_or, Binding, Expression, ForInit, Target}
 use Rattle.js_grammar.specs.Productions.{sym as symbol}
 use Rattle.js_grammar.specs.Table.{rule, rule_of, declarator, declarators, for_binding, words_of_declarations}
 use Rattle.js_grammar.specs.FirstSets.{first}
@@ -18,9 +22,11 @@ use Rattle.js_grammar.proofs.First.{starts}
 use Rattle.js_grammar.proofs.FirstClaims.{firsts}
 use Rattle.js_grammar.proofs.FirstRules.{fails_here}
 use Rattle.js_grammar.proofs.Looks.{covers, covered, apart}
-use Rattle.js_grammar.proofs.Calculus.{On, ◌▹◌, ◌▹✗◌, ends, here_at, left, right, looks, same, part_fails, fails_alt, fails_look, fails_node, fails_rule, inside_full, weaken_fails_on, weaken_on}
+use Rattle.js_grammar.proofs.Calculus.{On, ◌▹◌, ◌▹✗◌, ends, here_at, left, looks, same, part_fails, fails_alt, fails_look, fails_node, fails_rule, inside_full, weaken_fails_on, weaken_on}
+use Rattle.js_tree.specs.declared.op.DeclarationKind.{DeclarationKind}
 use Rattle.js_tree.specs.declared.id.NodeId.{NodeId}
-use Rattle.js_tree.specs.Holding.{Holds, HoldsAll, Keeps}
+use Rattle.js_tree.specs.Holding.{Holds, Keeps}
+use Rattle.js_tree.specs.Nodes.{Node}
 use Rattle.js_tree.proofs.HoldingLemmas.{HoldsAll-one}
 use Rattle.js_lex.specs.Reading.{is_right_angle}
 use Rattle.js_cursor.specs.Parsers.{Parser}
@@ -28,13 +34,13 @@ use Rattle.js_cursor.specs.declared.stop.Stop.{Stop}
 use Rattle.js_parsing.specs.Answers.{Answer, Grown, Numbered, Stops, Stretch, Underived, Verdict}
 use Rattle.js_parsing.specs.Lexemes.{Lex}
 use Rattle.js_parsing.specs.Stands.{StandsHere}
-use Rattle.js_parsing.specs.States.{At, Same}
+use Rattle.js_parsing.specs.States.{At}
 use Rattle.js_targets.specs.Taken.{NoTargetFrom, goes_through}
 use Rattle.js_declarations.specs.HeadDeclarators.{ThroughHere}
 use Rattle.js_statements.specs.declared.for_statement.Ending.{Ending}
 use Rattle.js_statements.specs.declared.for_statement.Ending.TheVariants as ending
 use Rattle.js_statements.specs.ForHeads.{FirstTaken, NoFirst, end_kind, first_part}
-use Rattle.js_statements.specs.ForParts.{HeadExpressionRead, HeadTargetTaken, NoneBegins, TakesHeadTarget}
+use Rattle.js_statements.specs.ForParts.{BeginsHead, ChecksLet, FindsHead, HeadExpressionRead, HeadTargetTaken, NoneBegins, TakesHeadTarget, TakesPartWithoutIn}
 use Rattle.js_statements.specs.LetStatements.{behind_let, LetIsName}
 use Rattle.js_parsing.proofs.Ahead.{pass_over, reads_not_then}
 use Rattle.js_parsing.proofs.Moving.{stops_so}
@@ -66,11 +72,12 @@ use Rattle.js_targets.specs.Taken.{LiteralRead, TakesTarget, no_target_at}
 use Rattle.js_targets.specs.Targets.{IsTarget, is_literal, target_of}
 use Rattle.js_targets.proofs.ArraysConverted.{signs}
 use Rattle.js_targets.proofs.Covers.{lexed_there, underived_there}
-use Rattle.js_targets.proofs.HeadTargets.{before_these, goes_behind, literal_none, literal_path, simple_none, simple_path}
+use Rattle.js_targets.proofs.HeadTargets.{before_these, goes_behind, none_before, literal_none, literal_path, simple_none, simple_path}
 use Rattle.js_targets.proofs.Refused.{refused}
-use Rattle.js_expressions.specs.HeadOperands.{HeadOperand, no_target, operand}
+use Rattle.js_expressions.specs.HeadOperands.{HeadOperand, OperandOutcome, no_target, operand}
+use Rattle.js_cursor.specs.declared.stop.Stop.TheVariants.{Fatal, NoMemory}
 use Rattle.js_statements.proofs.ForHeads.{no_empty, on_semicolon}
-use Rattle.js_statements.proofs.LetLookaheads.{Leads, at_once, followed, is_let, leads_to, no_let, not_followed, stands_let, ◌⇒◌, ◌⇒✗◌}
+use Rattle.js_statements.proofs.LetLookaheads.{Leads, at_once, is_let, leads_to, no_let, not_followed, stands_let, ◌⇒◌, ◌⇒✗◌}
 
 -- ---- whatever is read before a lexeme that doesn't stand there
 
@@ -82,20 +89,46 @@ stretch_not {text} {g} {s} {s'} k z n = record { no = λ ts vs j ls rest l d e. 
         let y = z.goes.only ts vs j ls rest l d e in
         n (here rest) (here_at (Lex text) rest (subst (λ (v : Lexemes). Lexes (Lex text) s' v) (ends y.4).2 y.3)) (sym (kind_of_same k (here rest).kind (and_parts (same_kind k (here rest).kind) (not (here rest).escaped) e.0).0))
 
-ending_angle : (e : Ending) → is_right_angle (end_kind e) ≡ false
+ending_angle : (e : Ending) → (is_right_angle (end_kind e) || same_kind kind.RegExp (end_kind e)) ≡ false
 ending_angle ending.Semicolon = refl
 ending_angle ending.In = refl
 ending_angle ending.Of = refl
 
--- of a path that ends where another lexeme stands
-pub path_not : {text : List ℕ} {f f' : Flags} {g : G} {p q : Parser} {h : Slots → Slots} (e : Ending) → Path text f (plain (is (end_kind e))) g p nothing q h → At text f' q → StandsHere q (end_kind e) false → Fails rule (Lex text) (plain (is (end_kind e))) end g p.prev_token_end
-path_not e y a n = either_way y.verdict (λ z. stretch_not (end_kind e) z (stands_not a (ending_angle e) n)) (λ z. z)
+-- of what ends where another lexeme stands
+pub verdict_not : {text : List ℕ} {f : Flags} {g : G} {s : ℕ} {q : Parser} {es ds : List Diagnostic} {h : Slots → Slots} {pass : Lexemes → Lexemes} (e : Ending) → Verdict es ds (Stretch text (plain (is (end_kind e))) g s nothing q.prev_token_end h pass) (Fails rule (Lex text) (plain (is (end_kind e))) end g s) → At text f q → StandsHere q (end_kind e) false → Fails rule (Lex text) (plain (is (end_kind e))) end g s
+verdict_not e v a n = either_way v (λ z. stretch_not (end_kind e) z (stands_not a (ending_angle e) n)) (λ z. z)
 
-look_in : (y : Lexeme) → IsTrue (seen (is kind.In) y) → IsTrue (seen goes_through y)
+pub path_not : {text : List ℕ} {f f' : Flags} {g : G} {p q : Parser} {h : Slots → Slots} (e : Ending) → Path text f (plain (is (end_kind e))) g p nothing q h → At text f' q → StandsHere q (end_kind e) false → Fails rule (Lex text) (plain (is (end_kind e))) end g p.prev_token_end
+path_not e y a n = verdict_not e y.verdict a n
+
+pub look_in : (y : Lexeme) → IsTrue (seen (is kind.In) y) → IsTrue (seen goes_through y)
 look_in y q = let z = and_parts (same_kind kind.In y.kind) (not y.escaped) q in and_from (one_of_kinds (kind.In ∷ kind.Of ∷ []) y.kind) (not y.escaped) (subst (λ (k : Kind). one_of_kinds (kind.In ∷ kind.Of ∷ []) k ≡ true) (kind_of_same kind.In y.kind z.0) refl) z.1
 
 look_of : (y : Lexeme) → IsTrue (seen (is kind.Of) y) → IsTrue (seen goes_through y)
 look_of y q = let z = and_parts (same_kind kind.Of y.kind) (not y.escaped) q in and_from (one_of_kinds (kind.In ∷ kind.Of ∷ []) y.kind) (not y.escaped) (subst (λ (k : Kind). one_of_kinds (kind.In ∷ kind.Of ∷ []) k ≡ true) (kind_of_same kind.Of y.kind z.0) refl) z.1
+
+in_or_of : (k : Kind) → one_of_kinds (kind.In ∷ kind.Of ∷ []) k ≡ true → (k ≡ kind.In) ⊎ (k ≡ kind.Of)
+in_or_of k h = by (same_kind kind.In k) refl h
+  where
+    last : (b : Bool) → same_kind kind.Of k ≡ b → (b || false) ≡ true → (k ≡ kind.In) ⊎ (k ≡ kind.Of)
+    last true e h = inr (sym (kind_of_same kind.Of k e))
+    last false e h = absurd (false≢true h)
+
+    by : (b : Bool) → same_kind kind.In k ≡ b → (b || (same_kind kind.Of k || false)) ≡ true → (k ≡ kind.In) ⊎ (k ≡ kind.Of)
+    by true e h = inl (sym (kind_of_same kind.In k e))
+    by false e h = last (same_kind kind.Of k) refl h
+
+-- neither stands there
+through_not : {text : List ℕ} {f : Flags} {q : Parser} → At text f q → ThroughHere q false → (y : Lexeme) → Lex text q.prev_token_end y → IsTrue (seen goes_through y) → ⊥
+through_not a n y l h = by (in_or_of y.kind (and_parts (one_of_kinds (kind.In ∷ kind.Of ∷ []) y.kind) (not y.escaped) h).0)
+  where
+    by : (y.kind ≡ kind.In) ⊎ (y.kind ≡ kind.Of) → ⊥
+    by (inl e) = stands_not a refl n.0 y l e
+    by (inr e) = stands_not a refl n.1 y l e
+
+pub through_at : (q r : Parser) → r.token ≡ q.token → ThroughHere q true → ThroughHere r true
+through_at q r e (inl h) = inl (ap (λ (z : Token). z.kind) e ∙ h.0, ap (λ (z : Token). z.escaped) e ∙ h.1)
+through_at q r e (inr h) = inr (ap (λ (z : Token). z.kind) e ∙ h.0, ap (λ (z : Token). z.escaped) e ∙ h.1)
 
 -- ---- where no declaration begins
 
@@ -119,7 +152,7 @@ module _ {text : List ℕ} {f : Flags} {p : Parser} (a : At text f p) (n : NoneB
   name_here : LetIsName text true p.prev_token_end
   name_here = n.2 text f a
 
-  no_word : {X : Test} {g : G} (w : Kind) → is_right_angle w ≡ false → StandsHere p w false → Fails rule (Lex text) X end (op variable_declaration w (tok w ▸ g)) p.prev_token_end
+  no_word : {X : Test} {g : G} (w : Kind) → (is_right_angle w || same_kind kind.RegExp w) ≡ false → StandsHere p w false → Fails rule (Lex text) X end (op variable_declaration w (tok w ▸ g)) p.prev_token_end
   no_word w r s = fails_node inside_full (no_token a w r s)
 
   no_let_word : {X : Test} (g : G) → covers (starts first g full) (λ k w e. behind_let true k) ≡ true → Fails rule (Lex text) X end (op variable_declaration kind.Let (tok kind.Let ▸ g)) p.prev_token_end
@@ -225,27 +258,49 @@ module _ {text : List ℕ} {f : Flags} {p : Parser} (a : At text f p) (n : NoneB
         fails ending.In s = no_target_part ending.In (λ k. cc) z
         fails ending.Of s = no_target_part ending.Of (λ k. cc) z
 
+    -- whether it is a target or not
+    pub expression_alone : {q : Parser} {id : NodeId} (x : Numbered text f (at Expression f) p q id) → HeadOperand text f p q id → ThroughHere q false → FirstTaken text f p q (Some id)
+    expression_alone {q} {id} x y h = expression_first x h (by y)
+      where
+        by : HeadOperand text f p q id → NoTargetFrom text f p.prev_token_end
+        by (no_target m z) = z
+        by (operand y) = none_before i y.answer (through_not y.answer.at h)
+
+    -- one before `in` or `of` is none before a semicolon
+    no_init_through : {q : Parser} {id : NodeId} (x : Numbered text f (at Expression f) p q id) → ThroughHere q true → NoFirst text ending.Semicolon f p.prev_token_end
+    no_init_through {q} x h = path_not ending.Semicolon (init_path x.answer) x.answer.at (by h)
+      where
+        by : ThroughHere q true → StandsHere q kind.Semicolon false
+        by (inl h) = λ k e. let w : kind.In ≡ kind.Semicolon = sym h.0 ∙ k in cc
+        by (inr h) = λ k e. let w : kind.Of ≡ kind.Semicolon = sym h.0 ∙ k in cc
+
+    pub head_unread : (q : Parser) (x : Stop) → Stops p q x (Underived text (at Expression f) p.prev_token_end) → OperandOutcome text f p q (Err x) → Stops p q x ((e : Ending) → NoFirst text e f p.prev_token_end)
+    head_unread q Fatal s z = stops_so p q Fatal (λ n e. nothing_first n z e) s
+    head_unread q NoMemory s z = tt
+
+    pub target_unread : {q : Parser} {id : NodeId} (x : Numbered text f (at Expression f) p q id) → ThroughHere q true → (r : Parser) (e : Stop) → Stops p r e (NoTargetFrom text f p.prev_token_end) → Stops p r e ((d : Ending) → NoFirst text d f p.prev_token_end)
+    target_unread {q} x h r e s = stops_so p r e (λ z d. by d z) s
+      where
+        by : (d : Ending) → NoTargetFrom text f p.prev_token_end → NoFirst text d f p.prev_token_end
+        by ending.Semicolon z = no_init_through x h
+        by ending.In z = no_target_part ending.In (λ k. cc) z
+        by ending.Of z = no_target_part ending.Of (λ k. cc) z
+
     -- one before `in` or `of`, as the target that it is; it doesn't begin with `let` before `of`
     module _ {q r : Parser} {id target : NodeId} (x : Numbered text f (at Expression f) p q id) (t : HeadTargetTaken text f p q r target) where
-      target_path : (e : Ending) → (e ≡ ending.Semicolon → ⊥) → Path text f (plain (is (end_kind e))) (symbol Target f) p nothing r (tree t.label t.slots)
-      target_path e m = record {
-        at = t.path.at;
-        further = t.path.further;
-        pass = t.path.pass;
-        walked = t.path.walked;
-        verdict = verdict_of t.path.verdict (λ y. record { reach = y.reach; near = y.near; goes = weaken_on y.goes (on_through e m) }) (λ y. weaken_fails_on y (on_through e m));
-      }
+      target_verdict : (e : Ending) → (e ≡ ending.Semicolon → ⊥) → Verdict p.errors r.errors (Stretch text (plain (is (end_kind e))) (symbol Target f) p.prev_token_end nothing r.prev_token_end (tree t.label t.slots) t.path.pass) (Fails rule (Lex text) (plain (is (end_kind e))) end (symbol Target f) p.prev_token_end)
+      target_verdict e m = verdict_of t.path.verdict (λ y. record { reach = y.reach; near = y.near; goes = weaken_on y.goes (on_through e m) }) (λ y. weaken_fails_on y (on_through e m))
         where
           on_through : (e : Ending) → (e ≡ ending.Semicolon → ⊥) → On rule (plain (is (end_kind e))) (plain goes_through) end (symbol Target f) p.prev_token_end
           on_through ending.Semicolon m = absurd (m refl)
           on_through ending.In m = record { admits = λ ts vs k ls rest d e. (look_in (here rest) e.0, refl) }
           on_through ending.Of m = record { admits = λ ts vs k ls rest d e. (look_of (here rest) e.0, refl) }
 
-      in_path : Path text f (plain (is kind.In)) (first_part ending.In f) p nothing r (tree t.label t.slots)
-      in_path = leads_to a in_leads (target_path ending.In (λ k. cc))
+      in_verdict : Verdict p.errors r.errors (Stretch text (plain (is kind.In)) (first_part ending.In f) p.prev_token_end nothing r.prev_token_end (tree t.label t.slots) t.path.pass) (NoFirst text ending.In f p.prev_token_end)
+      in_verdict = let l = in_leads {X = plain (is kind.In)} in verdict_of (target_verdict ending.In (λ k. cc)) (λ z. record { reach = max l.reach z.reach; near = let i = l.near in let j = z.near in let o = t.path.further in let u = a.behind in omega arith; goes = l.goes ▹ z.goes }) (λ z. l.goes ▹✗ z)
 
-      of_path : StandsHere p kind.Let false → Path text f (plain (is kind.Of)) (first_part ending.Of f) p nothing r (tree t.label t.slots)
-      of_path s = of_leads s ⟼ target_path ending.Of (λ k. cc)
+      of_verdict : StandsHere p kind.Let false → Verdict p.errors r.errors (Stretch text (plain (is kind.Of)) (first_part ending.Of f) p.prev_token_end nothing r.prev_token_end (tree t.label t.slots) t.path.pass) (NoFirst text ending.Of f p.prev_token_end)
+      of_verdict s = verdict_of (target_verdict ending.Of (λ k. cc)) (λ z. record { reach = max 0 z.reach; near = let j = z.near in omega arith; goes = of_leads s ▹ z.goes }) (λ z. of_leads s ▹✗ z)
 
       no_semicolon : ThroughHere r true → StandsHere r kind.Semicolon true → ⊥
       no_semicolon (inl h) s = let k : kind.In ≡ kind.Semicolon = sym h.0 ∙ s.0 in cc
@@ -253,18 +308,14 @@ module _ {text : List ℕ} {f : Flags} {p : Parser} (a : At text f p) (n : NoneB
 
       -- no semicolon stands behind it
       no_init_there : ThroughHere q true → NoFirst text ending.Semicolon f p.prev_token_end
-      no_init_there h = path_not ending.Semicolon (init_path x.answer) x.answer.at (by h)
-        where
-          by : ThroughHere q true → StandsHere q kind.Semicolon false
-          by (inl h) = λ k e. let w : kind.In ≡ kind.Semicolon = sym h.0 ∙ k in cc
-          by (inr h) = λ k e. let w : kind.Of ≡ kind.Semicolon = sym h.0 ∙ k in cc
+      no_init_there h = no_init_through x h
 
       no_of : StandsHere r kind.Of false → NoFirst text ending.Of f p.prev_token_end
       no_of s = by (stands_let a)
         where
           by : (b : Bool) × StandsHere p kind.Let b → NoFirst text ending.Of f p.prev_token_end
           by (true, l) = no_of_let l
-          by (false, l) = path_not ending.Of (of_path l) t.path.at s
+          by (false, l) = verdict_not ending.Of (of_verdict l) t.path.at s
 
       target_grown : {ds : List Diagnostic} → Grown r.errors ds → Grown p.errors ds
       target_grown g = grown_behind t.path.verdict g
@@ -289,16 +340,16 @@ module _ {text : List ℕ} {f : Flags} {p : Parser} (a : At text f p) (n : NoneB
         where
           of_read : (b : Bool) × StandsHere p kind.Let b → StandsHere r kind.Of true → Verdict p.errors r.errors (Stretch text (plain (is kind.Of)) (first_part ending.Of f) p.prev_token_end nothing r.prev_token_end (tree t.label t.slots) t.path.pass) (NoFirst text ending.Of f p.prev_token_end)
           of_read (true, l) s = absurd (n l s)
-          of_read (false, l) s = (of_path l).verdict
+          of_read (false, l) s = of_verdict l
 
           reads : (e : Ending) → StandsHere r (end_kind e) true → Verdict p.errors r.errors (Stretch text (plain (is (end_kind e))) (first_part e f) p.prev_token_end nothing r.prev_token_end (tree t.label t.slots) t.path.pass) (NoFirst text e f p.prev_token_end)
           reads ending.Semicolon s = absurd (no_semicolon h s)
-          reads ending.In s = in_path.verdict
+          reads ending.In s = in_verdict
           reads ending.Of s = of_read (stands_let a) s
 
           fails : (e : Ending) → StandsHere r (end_kind e) false → NoFirst text e f p.prev_token_end
           fails ending.Semicolon s = no_init_there hq
-          fails ending.In s = path_not ending.In in_path t.path.at s
+          fails ending.In s = verdict_not ending.In in_verdict t.path.at s
           fails ending.Of s = no_of s
 
       -- one that begins with `let` before `of`, which was told
@@ -334,8 +385,17 @@ module _ {text : List ℕ} {f : Flags} {p : Parser} (a : At text f p) (n : NoneB
 
           fails : (e : Ending) → StandsHere r (end_kind e) false → NoFirst text e f p.prev_token_end
           fails ending.Semicolon s = no_init_there hq
-          fails ending.In s = path_not ending.In in_path t.path.at s
+          fails ending.In s = verdict_not ending.In in_verdict t.path.at s
           fails ending.Of s = absurd (s o.0 o.1)
+
+      -- whether it was told or not
+      pub checked_first : ThroughHere q true → (b : Bool) → StandsHere p kind.Let b → {w : Parser} {s : Span} → ChecksLet b s r w → FirstTaken text f p w (Some target)
+      checked_first hq b l {w} {s} (inl (e, o, u)) = told_first hq (subst (λ (c : Bool). StandsHere p kind.Let c) e l) o u refl
+      checked_first hq b l {w} {s} (inr (m, e)) = subst (λ (z : Parser). FirstTaken text f p z (Some target)) (sym e) (target_first hq (through_at q r t.token hq) (λ h o. m (by b l h) o))
+        where
+          by : (b : Bool) → StandsHere p kind.Let b → StandsHere p kind.Let true → b ≡ true
+          by true l h = refl
+          by false l h = absurd (l h.0 h.1)
 
 -- ---- the target that an expression stands for
 
@@ -433,7 +493,7 @@ module _ {text : List ℕ} {f : Flags} {p q : Parser} {id : NodeId} (a : At text
           within = (subst (λ (v : List ℕ). IsCharBoundary v q.prev_token_end) x.answer.at.text_is x.answer.at.at.between).0;
           begins_between = subst (λ (v : ℕ). IsCharBoundary text v) (sym d) (subst (λ (v : List ℕ). IsCharBoundary v p.token.span.start) a.text_is a.at.lies.starts_whole);
           ends_between = subst (λ (v : List ℕ). IsCharBoundary v q.prev_token_end) x.answer.at.text_is x.answer.at.at.between;
-          stands = (inr (underived_there x.answer a z y l f Target (record { start = start; end = q.prev_token_end }) d refl (λ t g. none_there.no (tree t.label t.slots end) end q.prev_token_end (x.answer.pass (last y)) (last y) (lexed_there x.answer a z y l) (is_such g refl) ((behind t).2, refl))), (refl, refl));
+          stands = (inr (underived_there x.answer a z y l f Target (record { start = start; end = q.prev_token_end }) d refl (λ u g. none_there.no (tree u.label u.slots end) end q.prev_token_end (x.answer.pass (last y)) (last y) (lexed_there x.answer a z y l) (is_such g refl) ((behind t).2, refl))), (refl, refl));
         }
 
 -- as a call needs it
@@ -447,3 +507,33 @@ literal_read {start} {kept} {id} {q} h t = by h.operand
 pub literal_outcome : {start kept : ℕ} {id : NodeId} {q : Parser} (w : Parser) (r : Result NodeId Stop) → OfTree q id (λ lo hi l cs. is_literal l.kind ≡ true) → TakesTarget start id kept q w r → TakesHeadTarget start id kept q w r
 literal_outcome w (Ok t) h y = λ text f p a i s k x o. literal_taken a i x o h s k y
 literal_outcome w (Err e) h y = λ text f p a i s k x o. literal_stops a i x o h s k w e y
+
+-- ---- `let` before `of`
+
+-- what is told of it has its mark
+pub let_marked : {text : List ℕ} {f : Flags} {p q r : Parser} {target : NodeId} → At text f p → StandsHere p kind.Let true → HeadTargetTaken text f p q r target → (s : Span) {d : Diagnostic} → d ≡ unrelated_at ForLoopLetReservedWord s → s.start ≡ p.token.span.start → s.end ≡ r.prev_token_end → Mark (goal r) r.text d
+let_marked {p = p} a h t s e c d = span_marked a (λ k. let z : kind.Let ≡ kind.Undetermined = sym h.0 ∙ k in cc) t.path.at t.same t.path.walked t.path.further ForLoopLetReservedWord s e (λ s i j. ((i, j), (refl, refl))) c d
+
+pub through_uncut : {text : List ℕ} {f : Flags} {q : Parser} → At text f q → ThroughHere q true → q.cut ≡ false
+through_uncut a (inl h) = uncut a (ap (same_kind kind.RAngle) h.0)
+through_uncut a (inr h) = uncut a (ap (same_kind kind.RAngle) h.0)
+
+pub without_in : {text : List ℕ} {f : Flags} {p : Parser} → At text f p → has_flag in_flag p.ctx ≡ false → f.in_ ≡ false
+without_in a h = sym (ap (λ (g : Flags). g.in_) a.flags_are) ∙ h
+
+-- ---- what begins the head
+
+pub found_head : (p q : Parser) (r : Option DeclarationKind) (k : DeclarationKind) → r ≡ Some k → FindsHead p q r → (q ≡ p) × BeginsHead k p
+found_head p q r k e h = subst (λ (v : Option DeclarationKind). FindsHead p q v) e h
+
+pub none_in_head : (p q : Parser) (r : Option DeclarationKind) → r ≡ None → FindsHead p q r → (q ≡ p) × NoneBegins p
+none_in_head p q r e h = subst (λ (v : Option DeclarationKind). FindsHead p q v) e h
+
+pub part_from : (p q w : Parser) (r : Result NodeId Stop) → q ≡ p → TakesPartWithoutIn q w r → TakesPartWithoutIn p w r
+part_from p q w r e h = subst (λ (v : Parser). TakesPartWithoutIn v w r) e h
+
+pub cover_is : (q : Parser) (id : NodeId) (r s : Option NodeId) → r ≡ s → OfTree q id (λ lo hi l cs. IsTarget q.nodes lo hi l cs r) → OfTree q id (λ lo hi l cs. IsTarget q.nodes lo hi l cs s)
+cover_is q id r s e h = subst (λ (v : Option NodeId). OfTree q id (λ lo hi l cs. IsTarget q.nodes lo hi l cs v)) e h
+
+pub head_marked : {start kept : ℕ} {id : NodeId} {q : Parser} → HeadExpressionRead start id kept q → OfTree q id (λ lo hi l cs. is_literal l.kind ≡ false) → OfTree q id (λ lo hi l cs. target_of l cs ≡ None) → ThroughHere q true → length q.errors ≡ kept → Mark (goal q) q.text (no_target_at start q.prev_token_end)
+head_marked r h e t n = none_marked r.begins r.no_in r.read r.operand h e t _ r.start_is (n ∙ r.kept_is)

@@ -32,7 +32,7 @@ use Rattle.js_cursor.specs.Moves.{OnlyMemory}
 use Rattle.js_cursor.specs.declared.stop.Stop.{Stop}
 use Rattle.js_cursor.specs.declared.stop.Stop.TheVariants.{Fatal, NoMemory}
 use Rattle.js_parsing.specs.Answers.{Grown, Verdict, clean, unclean, Stretch, Underived, Answer, Numbered, Stops}
-use Rattle.js_parsing.specs.Lexemes.{Lex, Walked, may_name, name_kinds, Spot, spot, nowhere, one_more, more_faults, slashes, read_again}
+use Rattle.js_parsing.specs.Lexemes.{Lex, Walked, may_name, name_kinds, Spot, spot, nowhere, one_more, more_faults, read_again}
 use Rattle.js_parsing.specs.Nesting.{room}
 use Rattle.js_parsing.specs.Moves.{Moved, MadeHere, plain_label}
 use Rattle.js_parsing.specs.Statements.{placed, no_link, statement_kinds, after_statement, NoStatement, Statement, StatementOutcome, IsLabel}
@@ -44,7 +44,7 @@ use Rattle.js_parsing.proofs.Dead.{lives}
 use Rattle.js_parsing.proofs.Here.{found, kind_here, uncut}
 use Rattle.js_parsing.proofs.MadeNodes.{leaf_held, two_held, one_lies, from_start}
 use Rattle.js_parsing.proofs.Moving.{same_both, same_itself, same_with, beside_nodes, stops_behind}
-use Rattle.js_parsing.proofs.Paths.{Path, ◌⟼◌, ◌⟶◌, ◌⟶✗◌, at_kind, one_read, read_of, token, noded, noded_by, by_symbol_as, label_here}
+use Rattle.js_parsing.proofs.Paths.{Path, ◌⟼◌, ◌⟶◌, ◌⟶✗◌, one_read, read_of, token, noded, noded_by, by_symbol_as, label_here}
 use Rattle.js_statements.proofs.Statements.{by_statement, no_function, no_function_body, no_symbol, no_lexical, no_expression_ends, before_colon, item_left, sub_left, colon_ends}
 use Rattle.js_statements.specs.LetStatements.{behind_let, LetIsName}
 use Rattle.js_statements.proofs.LetLookaheads.{not_followed, ◌⇒✗◌}
@@ -200,7 +200,7 @@ module _ {text : List ℕ} {f : Flags} {p q : Parser} (a : At text f p) (x : Ans
     further = x.further;
     pass = λ ls. next name.0 ls;
     walked = subst (λ (h : Lexemes → Lexemes). Walked text (spot p) (spot q) h) (λ i ls. clean_name.1 ls i) x.walked;
-    verdict = clean clean_name.0 (record { reach = 0; near = omega arith; goes = subst (λ (e : ℕ). Reads rule (Lex text) (plain full) end (lexeme (name_look f)) p.prev_token_end e (λ us. us) (passing name.0)) name.3 (reads_lexeme (name_look f) name.1 looks_so (λ z l h. one_read a l name.1)) });
+    verdict = clean clean_name.0 (record { reach = 0; near = omega arith; goes = subst (λ (e : ℕ). Reads rule (Lex text) (plain full) end (lexeme (name_look f)) p.prev_token_end e (λ us. us) (passing name.0)) name.3 (reads_lexeme (name_look f) name.1 looks_so (λ z l h. one_read a (name_signless p.token.kind is_listed) l name.1)) });
   }
 
   pub label_path : Path text f (plain full) (symbol LabelIdentifier f) p nothing q (tree (label_here label_identifier no_op p q) end)
@@ -214,7 +214,7 @@ module _ {text : List ℕ} {f : Flags} {p q : Parser} (a : At text f p) (x : Ans
   -- a colon stands behind `let`, where that is the label
   label_named : (b : Bool) → LetIsName text b p.prev_token_end
   label_named b y z l h m =
-      let e : y.to ≡ q.prev_token_end = ap (λ (v : Lexeme). v.to) (one_read a (name_signless p.token.kind i.name) l name.1) ∙ name.3 in
+      let e : y.to ≡ q.prev_token_end = ap (λ (v : Lexeme). v.to) (one_read a (name_signless p.token.kind is_listed) l name.1) ∙ name.3 in
       no_colon_behind b (kind_here x.at i.colon refl z (subst (λ (v : ℕ). Lex text v z) e m))
     where
       no_colon_behind : (b : Bool) → z.kind ≡ Colon → behind_let b z.kind ≡ false

@@ -56,10 +56,10 @@ leads_to a l y = record {
 -- ---- what stands here and behind
 
 module _ {text : List ℕ} {f : Flags} {p : Parser} (a : At text f p) where
-  is_let : StandsHere p Let true → (y : Lexeme) → Lex text p.prev_token_end y → IsTrue (seen (is Let) y)
+  pub is_let : StandsHere p Let true → (y : Lexeme) → Lex text p.prev_token_end y → IsTrue (seen (is Let) y)
   is_let h y l = and_from _ _ (subst (λ (k : Kind). same_kind Let k ≡ true) (sym (kind_here a h.0 refl y l)) refl) (ap not (escaped_here a y l ∙ h.1))
 
-  no_let : StandsHere p Let false → (y : Lexeme) → Lex text p.prev_token_end y → IsTrue (seen (is Let) y) → ⊥
+  pub no_let : StandsHere p Let false → (y : Lexeme) → Lex text p.prev_token_end y → IsTrue (seen (is Let) y) → ⊥
   no_let n y l q =
       let k : y.kind ≡ Let = sym (kind_of_same Let y.kind (and_parts (same_kind Let y.kind) (not y.escaped) q).0) in
       let t = told_plain a (go p.cut refl k l) y (ap (same_kind RegExp) k) l in
@@ -76,7 +76,7 @@ module _ {text : List ℕ} {f : Flags} {p : Parser} (a : At text f p) where
   pub ends_at : StandsHere p Let true → (y : Lexeme) → Lex text p.prev_token_end y → y.to ≡ p.token.span.end
   ends_at h y l = sym (told a (uncut a (ap (same_kind RAngle) h.0)) (ap (one_of_kinds slashes) h.0) y l).end
 
-  stands_let : (b : Bool) × StandsHere p Let b
+  pub stands_let : (b : Bool) × StandsHere p Let b
   stands_let = by (same_kind Let p.token.kind) refl p.token.escaped refl
     where
       by : (b : Bool) → same_kind Let p.token.kind ≡ b → (e : Bool) → p.token.escaped ≡ e → (b : Bool) × StandsHere p Let b

@@ -1,6 +1,12 @@
+pub mod BindingsFreeOfIn
 pub mod Blocks
 pub mod CompoundStatements
 pub mod DeclarationStatements
+pub mod ForContexts
+pub mod ForDeclarations
+pub mod ForHeads
+pub mod ForParts
+pub mod ForStatements
 pub mod FunctionStatements
 pub mod Labels
 pub mod LetLookaheads

@@ -1,5 +1,5 @@
 -- `return` (ECMA-262, 14.10): with an Expression or none, in the body of a function alone.
-use Rattle.std.proofs.Common.{ℕ, ◌≡◌, ◌≤◌, inl, inr, max, List, [], ◌∷◌, length, Option, Some, None, Bool, true, false, not, ◌&&◌, IsTrue, refl, sym, ap, subst, arith, ◌∙◌, ◌<◌}
+use Rattle.std.proofs.Common.{ℕ, ◌≡◌, inl, inr, List, [], ◌∷◌, length, Option, Some, None, Bool, true, false, not, IsTrue, refl, sym, ap, subst, ◌∙◌, ◌<◌}
 use Rattle.std.specs.Prelude.{Ok, Err}
 use Rattle.std.proofs.lemmas.Bool.{false≢true}
 use Rattle.js_base.specs.Contexts.{has_flag, return_flag}
@@ -19,9 +19,9 @@ use Rattle.js_grammar.specs.Productions.{G, Flags, at, tok, slot, no_newline, Ex
 use Rattle.js_grammar.specs.Productions.{Statement as AStatement}
 use Rattle.js_grammar.specs.Productions.{sym as symbol}
 use Rattle.js_grammar.specs.Table.{rule, rule_of}
-use Rattle.js_grammar.specs.Follow.{edge_of, follow, row_of, after}
+use Rattle.js_grammar.specs.Follow.{edge_of, follow, after}
 use Rattle.js_grammar.proofs.Looks.{covers, apart, not_both}
-use Rattle.js_grammar.proofs.Calculus.{On, here_at, ◌▹◌, ◌▹✗◌, closes, left, right, looks, ends_by, part_fails, reads_empty_slot, where_true, fails_alt, fails_ended, fails_look, fails_node, fails_rule, fails_under, fails_when, inside_plain, weaken_fails_on}
+use Rattle.js_grammar.proofs.Calculus.{On, here_at, ◌▹◌, ◌▹✗◌, closes, left, right, looks, ends_by, part_fails, reads_empty_slot, where_true, fails_ended, fails_look, fails_node, fails_rule, fails_under, fails_when, inside_plain, weaken_fails_on}
 use Rattle.js_grammar.specs.FirstSets.{first}
 use Rattle.js_grammar.proofs.First.{starts}
 use Rattle.js_grammar.proofs.FirstClaims.{firsts}
@@ -38,7 +38,7 @@ use Rattle.js_cursor.specs.Moves.{MayEnd, ends_statement, is_last}
 use Rattle.js_cursor.specs.Parsers.{Parser}
 use Rattle.js_cursor.specs.Places.{goal}
 use Rattle.js_cursor.specs.declared.stop.Stop.{Stop}
-use Rattle.js_parsing.specs.Answers.{Grown, Numbered, Stops, Underived, unclean}
+use Rattle.js_parsing.specs.Answers.{Grown, Numbered, Stops, unclean}
 use Rattle.js_parsing.specs.Lexemes.{Lex, spot}
 use Rattle.js_parsing.specs.Moves.{Moved, MadeHere, plain_label}
 use Rattle.js_parsing.specs.Stands.{StandsHere}
@@ -50,9 +50,9 @@ use Rattle.js_parsing.proofs.Giving.{kept_one}
 use Rattle.js_parsing.proofs.Here.{found, kind_here, newline_here, uncut, unsettled}
 use Rattle.js_parsing.proofs.MadeNodes.{node_held, one_lies}
 use Rattle.js_parsing.proofs.Moving.{same_both, same_itself, stops_behind}
-use Rattle.js_parsing.proofs.Paths.{Path, ◌⟼◌, ◌⟶◌, ◌⟶✗◌, at_kind, fails_at, token, last_called, noded_by, by_symbol_as, label_here, walked_to}
+use Rattle.js_parsing.proofs.Paths.{Path, ◌⟶◌, ◌⟶✗◌, at_kind, token, last_called, noded_by, by_symbol_as, label_here, walked_to}
 use Rattle.js_parsing.proofs.Told.{told_at, told_same}
-use Rattle.js_parsing.proofs.Verdicts.{after as grown_behind, grown_both, grown_first, grown_on, grown_then, verdict_of}
+use Rattle.js_parsing.proofs.Verdicts.{after as grown_behind, grown_then, verdict_of}
 use Rattle.js_statements.proofs.Statements.{◌⟝◌, by_such_statement, closes_or_line, end_path, ended_so, never_open, no_close, no_symbol, unended}
 use Rattle.js_statements.proofs.WordStatements.{Alone, alone_path, closing, ends_so, still_unlinked, unlinked}
 

@@ -48,7 +48,7 @@ use Rattle.js_parsing.specs.States.{At, Same, NodesLie}
 use Rattle.js_parsing.specs.Statements.{placed, after_statement, NoStatement, Statement}
 use Rattle.js_parsing.proofs.Edges.{last_edge}
 use Rattle.js_parsing.proofs.Giving.{fails_escaped, kept_one}
-use Rattle.js_parsing.proofs.Here.{kind_here}
+use Rattle.js_parsing.proofs.Here.{kind_here, unsettled}
 use Rattle.js_parsing.proofs.MadeNodes.{node_held, one_lies, made_lies}
 use Rattle.js_parsing.proofs.Moving.{beside_nodes, same_both, same_itself, same_with, stops_behind, stops_so}
 use Rattle.js_parsing.proofs.Paths.{Path, ◌⟼◌, ◌⟶◌, ◌⟶✗◌, at_kind, fails_at, label_here, last_called, last_token, noded, noded_by, by_symbol_as, token, walked_to}
@@ -108,7 +108,7 @@ part_memory g k p q Fatal m = absurd m
 part_memory g k p q NoMemory m = tt
 
 -- the lexeme that is due last doesn't stand here
-pub no_last : {text : List ℕ} {f : Flags} {p : Parser} → At text f p → (k : Kind) → is_right_angle k ≡ false → StandsHere p k false → NoPart text (tok k) p.prev_token_end
+pub no_last : {text : List ℕ} {f : Flags} {p : Parser} → At text f p → (k : Kind) → (is_right_angle k || same_kind kind.RegExp k) ≡ false → StandsHere p k false → NoPart text (tok k) p.prev_token_end
 no_last a k n s = fails_lexeme (is k) (λ y l h. stands_not a n s y l (sym (kind_of_same k y.kind (and_parts (same_kind k y.kind) (not y.escaped) h).0)))
 
 -- ---- a Block
@@ -201,7 +201,7 @@ unfolding covers
 before_block f s = by_first firsts (by_plain brace_next) refl
 
 -- an empty slot stands before none but these
-no_slot : {text : List ℕ} {f : Flags} {q : Parser} (F : Look) (k : Kind) → At text f q → q.token.kind ≡ k → same_kind kind.RAngle k ≡ false → ((w e : Bool) → F k w e ≡ false) → Fails rule (Lex text) (plain F) end empty_slot q.prev_token_end
+no_slot : {text : List ℕ} {f : Flags} {q : Parser} (F : Look) (k : Kind) → At text f q → q.token.kind ≡ k → one_of_kinds unsettled k ≡ false → ((w e : Bool) → F k w e ≡ false) → Fails rule (Lex text) (plain F) end empty_slot q.prev_token_end
 no_slot {text} {f} {q} F k a h r n = record { no = λ ts vs j ls rest l d e. go ts vs j ls rest l d e }
   where
     go : (ts vs : Slots) (j : ℕ) (ls rest : Lexemes) → Lexes (Lex text) q.prev_token_end ls → Takes rule empty_slot end ts q.prev_token_end ls vs j rest → Admits (plain F) ts (here rest) → ⊥

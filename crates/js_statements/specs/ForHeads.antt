@@ -1,9 +1,8 @@
 -- The heads of `for` statements, between their parentheses (ECMA-262, 14.7.4, 14.7.5, B.3.5).
-use Rattle.std.specs.Prelude.{ℕ, ◌≡◌, ◌≤◌, ◌<◌, ◌⊎◌, true, false, List, [], ◌∷◌, length, Option, Some, None, Result, Ok, Err}
+use Rattle.std.specs.Prelude.{ℕ, ◌≡◌, ◌≤◌, ◌⊎◌, Bool, true, false, List, [], ◌∷◌, length, Option, Result, Ok, Err}
 use Rattle.js_base.specs.declared.diagnostic.Diagnostic.{Diagnostic}
 use Rattle.js_base.specs.declared.kind.Kind.{Kind}
 use Rattle.js_base.specs.declared.kind.Kind.TheVariants as kind
-use Rattle.js_base.specs.Texts.{words}
 use Rattle.js_grammar.specs.Trees.{Slots, append, hole, tree, end as no_slots, variable_declaration, variable_declarator}
 use Rattle.js_grammar.specs.Grammar.{Lexemes, is, nothing, ◌▸◌, ◌◇◌}
 use Rattle.js_grammar.specs.Parsing.{plain, full, Fails}
@@ -101,6 +100,11 @@ TakesFirst p q (Err x) = (text : List ℕ) (f : Flags) → At text f p → Stops
 -- what ends it
 abbrev pub EndsPart : Kind → Type 0
 EndsPart k = (k ≡ kind.Semicolon) ⊎ (k ≡ kind.RParen)
+
+-- whether it stands here, or the parenthesis that closes
+abbrev pub AtEnd : Kind → Parser → Bool → Type 0
+AtEnd k p true = (p.token.kind ≡ k) ⊎ (p.token.kind ≡ kind.RParen)
+AtEnd k p false = (p.token.kind ≡ k → ⊥) × (p.token.kind ≡ kind.RParen → ⊥)
 
 abbrev pub NoPart : List ℕ → Kind → Flags → ℕ → Type 0
 NoPart text k f s = Fails rule (Lex text) (plain (is k)) no_slots (slot (sym Expression f)) s

@@ -1,5 +1,11 @@
 -- The first part of the head of a `for` (ECMA-262, 14.7.4, 14.7.5, B.3.5), where `in` is no operator.
-use Rattle.std.specs.Prelude.{ℕ, ◌≡◌, ◌⊎◌, Bool, true, false, List, length, Option, Some, None, Result, Ok, Err}
+use Rattle.std.specs.Prelude.{ℕ, ◌≡◌, ◌⊎◌, ◌&&◌, Bool, true, false, List, length, Option, Some, None, Result, Ok, Err}
+use Rattle.js_base.specs.declared.diagnostic.Diagnostic.{Diagnostic}
+use Rattle.js_base.specs.declared.diagnostic.DiagnosticKind.{DiagnosticKind}
+use Rattle.js_base.specs.declared.diagnostic.DiagnosticKind.TheVariants as fault
+use Rattle.js_base.specs.declared.kind.Kind.{Kind}
+use Rattle.js_base.specs.declared.span.Span.{Span}
+use Rattle.js_parsing.specs.Told.{unrelated_at}
 use Rattle.js_base.specs.declared.kind.Kind.TheVariants as kind
 use Rattle.js_grammar.specs.Trees.{Label, Slots, tree}
 use Rattle.js_grammar.specs.Grammar.{nothing}
@@ -9,14 +15,19 @@ use Rattle.js_tree.specs.declared.id.NodeId.{NodeId}
 use Rattle.js_tree.specs.declared.op.DeclarationKind.{DeclarationKind}
 use Rattle.js_tree.specs.declared.op.DeclarationKind.TheVariants as declared
 use Rattle.js_tree.specs.Holding.{Holds, Keeps}
+use Rattle.js_cursor.specs.Moves.{Keeps as KeepsOne}
 use Rattle.js_cursor.specs.Parsers.{Parser}
 use Rattle.js_cursor.specs.declared.stop.Stop.{Stop}
 use Rattle.js_parsing.specs.Answers.{Numbered, Stops}
+use Rattle.js_parsing.specs.Classes.{IsEarly}
 use Rattle.js_parsing.specs.Stands.{StandsHere}
 use Rattle.js_parsing.specs.States.{At, Same}
 use Rattle.js_parsing.proofs.Paths.{Path}
 use Rattle.js_targets.specs.Taken.{NoTargetFrom, goes_through}
 use Rattle.js_expressions.specs.HeadOperands.{HeadOperand}
+use Rattle.js_declarations.specs.HeadDeclarators.{ThroughHere}
+use Rattle.js_declarations.specs.declared.head.HeadForm.{HeadForm}
+use Rattle.js_declarations.specs.declared.head.HeadForm.TheVariants as form
 use Rattle.js_statements.specs.declared.for_statement.Ending.{Ending}
 use Rattle.js_statements.specs.ForHeads.{FirstTaken, NoFirst}
 use Rattle.js_statements.specs.LetStatements.{LetHere, NoLet}
@@ -39,6 +50,46 @@ FindsHead p q None = (q ≡ p) × NoneBegins p
 abbrev pub TakesPartWithoutIn : Parser → Parser → Result NodeId Stop → Type 0
 TakesPartWithoutIn p q (Ok id) = (text : List ℕ) (f : Flags) → At text f p → FirstTaken text f p q (Some id)
 TakesPartWithoutIn p q (Err x) = (text : List ℕ) (f : Flags) → At text f p → Stops p q x ((e : Ending) → NoFirst text e f p.prev_token_end)
+
+-- ---- what is told of declarators before `in` and `of`
+
+abbrev pub is_var : DeclarationKind → Bool
+is_var declared.Var = true
+is_var declared.Const = false
+is_var declared.Let = false
+
+-- Whether declarators may stand before `in` or, else, `of`, the first of which has this form: what is bound alone, and behind `var` a name with an initialiser before `in` (B.3.5).
+abbrev pub may_stand : DeclarationKind → HeadForm → Bool → Bool → Bool
+may_stand k g false before_in = false
+may_stand k form.Through true before_in = true
+may_stand k form.Bare true before_in = false
+may_stand k form.InitialisedName true before_in = is_var k && before_in
+may_stand k form.InitialisedPattern true before_in = false
+
+abbrev pub HeadFault : DiagnosticKind → Type 0
+HeadFault d = (d ≡ fault.MultipleDeclarationsInForLoopHead) ⊎ ((d ≡ fault.InitializerInForInLexicalDeclaration) ⊎ (d ≡ fault.InitializerInForHead))
+
+abbrev pub FaultOf : Bool → Option DiagnosticKind → Type 0
+FaultOf true r = r ≡ None
+FaultOf false None = ⊥
+FaultOf false (Some d) = HeadFault d
+
+-- `in` or, else, `of`
+abbrev pub through_kind : Bool → Kind
+through_kind true = kind.In
+through_kind false = kind.Of
+
+-- Neither stands here; or the declarators may stand before it; or they may not, which was told.
+pub data TellsHead (k : DeclarationKind) (g : HeadForm) (alone : Bool) (p q : Parser) : Type 0 where
+  none_stands : ThroughHere p false → q ≡ p → TellsHead k g alone p q
+  may_be : (b : Bool) → StandsHere p (through_kind b) true → may_stand k g alone b ≡ true → q ≡ p → TellsHead k g alone p q
+  may_not : (b : Bool) → StandsHere p (through_kind b) true → may_stand k g alone b ≡ false → (d : Diagnostic) → IsEarly d → KeepsOne d p q → TellsHead k g alone p q
+
+-- ---- the target that an expression stands for
+
+-- `let` before `of` was told; or it doesn't stand so
+abbrev pub ChecksLet : Bool → Span → Parser → Parser → Type 0
+ChecksLet is_let s p q = ((is_let ≡ true) × StandsHere p kind.Of true × KeepsOne (unrelated_at fault.ForLoopLetReservedWord s) p q) ⊎ ((is_let ≡ true → StandsHere p kind.Of true → ⊥) × (q ≡ p))
 
 -- An expression was read up to this state, by a call before which so many diagnostics were kept; `in` or `of` stands behind it.
 pub record HeadExpressionRead (start : ℕ) (id : NodeId) (kept : ℕ) (q : Parser) : Type 0 where

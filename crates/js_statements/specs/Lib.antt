@@ -1,6 +1,9 @@
 pub mod Blocks
 pub mod CompoundStatements
 pub mod DeclarationStatements
+pub mod ForHeads
+pub mod ForParts
+pub mod ForWords
 pub mod FunctionStatements
 pub mod LetStatements
 pub mod StatementLists

@@ -1,14 +1,19 @@
 //! The first part of the head of a `for` (ECMA-262, sections 14.7.4, 14.7.5 and B.3.5), where `in` is no operator.
 
-ghost use Rattle.std.specs.Prelude.{◌≡◌, ◌≤◌, true, false, MatchResult};
+ghost use Rattle.std.specs.Prelude.{◌≡◌, ◌≤◌, true, false, IfOk, MatchResult};
 ghost use Rattle.js_base.specs.Contexts.{has_flag, in_flag};
+ghost use Rattle.js_base.specs.declared.diagnostic.DiagnosticKind.{DiagnosticKind};
+ghost use Rattle.js_base.specs.declared.diagnostic.DiagnosticKind.TheVariants.{ForLoopLetReservedWord};
 ghost use Rattle.js_cursor.specs.Moves.{OnlyMemory};
+ghost use Rattle.js_cursor.specs.Places.{IsAt, goal};
+ghost use Rattle.js_grammar.specs.Marks.{Mark};
+ghost use Rattle.js_parsing.specs.Told.{unrelated_at};
 ghost use Rattle.js_parsing.specs.Nesting.{CanNest, room};
 ghost use Rattle.js_parsing.specs.States.{Standing};
 ghost use Rattle.js_base.specs.declared.kind.Kind.TheVariants.{Semicolon};
 ghost use Rattle.js_declarations.specs.HeadDeclarators.{ThroughHere};
 ghost use Rattle.js_targets.specs.Taken.{EndsTarget};
-ghost use Rattle.js_statements.specs.ForParts.{BeginsHead, FindsHead, HeadExpressionRead, NoneBegins, TakesHeadTarget, TakesPartWithoutIn};
+ghost use Rattle.js_statements.specs.ForParts.{BeginsHead, ChecksLet, FaultOf, FindsHead, HeadExpressionRead, HeadFault, NoneBegins, TakesHeadTarget, TakesPartWithoutIn, TellsHead, is_var, may_stand};
 
 use crate::declaration_statement::begins_let_declaration;
 use js_base::{DiagnosticKind, Kind, NoMemory, Span};
@@ -81,11 +86,29 @@ fn parse_head_expression<C: ParserConfig, N: Nested<C>>(
         return Ok(expression);
     }
     let target = head_target(p, start, expression, kept)?;
-    if is_let && stands(p, Kind::Of) {
-        let span = p.end_span(start);
-        p.error(diagnostic_at(DiagnosticKind::ForLoopLetReservedWord, span))?;
-    }
+    let span = p.end_span(start);
+    check_let(p, is_let, span)?;
     Ok(target)
+}
+
+/// Tells of a target before `of` that begins with `let` (ECMA-262, section 14.7.5).
+fn check_let<C: ParserConfig>(
+    p: &mut ParserImpl<'_, C>,
+    is_let: bool,
+    span: Span,
+) -> Result<(), NoMemory>
+    requires at { IsAt p.old }
+    requires mark { is_let ≡ true → Mark (goal p.old) p.old.text (unrelated_at ForLoopLetReservedWord span) }
+    ensures { IfOk result (λ _. ChecksLet is_let span p.old p.new) }
+{
+    if !is_let {
+        return Ok(());
+    }
+    if !stands(p, Kind::Of) {
+        return Ok(());
+    }
+    p.error(diagnostic_at(DiagnosticKind::ForLoopLetReservedWord, span))?;
+    Ok(())
 }
 
 /// The target that an expression before `in` or `of` stands for, which begins at a place, when so many diagnostics were kept.
@@ -128,52 +151,77 @@ fn parse_head_declaration<C: ParserConfig, N: Nested<C>>(
     advance(p)?;
     let first = parse_head_declarator(p, nested, kind)?;
     let op = Op::Declaration(kind);
-    if let HeadForm::Through = first.form {
+    if !p.at(Kind::Comma) {
         let span = p.end_span(start);
+        tell_head_fault(p, kind, first.form, true, span)?;
         let node = make_one(p, NodeKind::VariableDeclaration, op, span, first.node)?;
         return Ok(node);
     }
-    let alone = !p.at(Kind::Comma);
     let declarators = parse_declarators_behind(p, nested, kind, first.node)?;
     let span = p.end_span(start);
-    tell_head_fault(p, kind, first.form, alone, span)?;
+    tell_head_fault(p, kind, first.form, false, span)?;
     let node = make_list(p, NodeKind::VariableDeclaration, op, span, declarators)?;
     Ok(node)
 }
 
-/// Tells what is wrong with declarators before `in` or `of`, of which the first one isn't bound alone, or stands before others. A
-/// name alone behind `var` may have an initialiser before `in` (ECMA-262, sections 14.7.5 and B.3.5).
+/// Tells what is wrong with the declarators before `in` or `of`, which stand at this span.
 fn tell_head_fault<C: ParserConfig>(
     p: &mut ParserImpl<'_, C>,
     kind: DeclarationKind,
     form: HeadForm,
     alone: bool,
     span: Span,
-) -> Result<(), NoMemory> {
+) -> Result<(), NoMemory>
+    requires at { IsAt p.old }
+    requires mark { (d : DiagnosticKind) → HeadFault d → Mark (goal p.old) p.old.text (unrelated_at d span) }
+    ensures { IfOk result (λ _. TellsHead kind form alone p.old p.new) }
+{
     if !goes_through(p) {
         return Ok(());
     }
     match head_fault(kind, form, alone, p.at(Kind::In)) {
-        Some(fault) => p.error(diagnostic_at(fault, span)),
+        Some(fault) => {
+            p.error(diagnostic_at(fault, span))?;
+            Ok(())
+        }
         None => Ok(()),
     }
 }
 
-/// The fault of declarators before `in` or, else, `of`, of which the first has this form.
+/// The fault of declarators before `in` or, else, `of`, the first of which has this form and stands alone or before others; none
+/// where they may stand there.
 fn head_fault(
     kind: DeclarationKind,
     form: HeadForm,
     alone: bool,
     before_in: bool,
-) -> Option<DiagnosticKind> {
+) -> Option<DiagnosticKind>
+    ensures { FaultOf (may_stand kind form alone before_in) result }
+{
     if !alone {
         return Some(DiagnosticKind::MultipleDeclarationsInForLoopHead);
     }
-    match (form, kind) {
-        (HeadForm::InitialisedName, DeclarationKind::Var) if before_in => None,
-        (_, DeclarationKind::Let | DeclarationKind::Const) if before_in => {
-            Some(DiagnosticKind::InitializerInForInLexicalDeclaration)
-        }
-        _ => Some(DiagnosticKind::InitializerInForHead),
+    match form {
+        HeadForm::Through => None,
+        HeadForm::InitialisedName if is_var(kind) && before_in => None,
+        _ => Some(initialiser_fault(kind, before_in)),
     }
+}
+
+/// What is told of an initialiser before `in` or, else, `of`.
+fn initialiser_fault(kind: DeclarationKind, before_in: bool) -> DiagnosticKind
+    ensures { HeadFault result }
+{
+    if before_in && !is_var(kind) {
+        DiagnosticKind::InitializerInForInLexicalDeclaration
+    } else {
+        DiagnosticKind::InitializerInForHead
+    }
+}
+
+/// Whether the declaration begins with `var`.
+fn is_var(kind: DeclarationKind) -> bool
+    ensures { result ≡ is_var kind }
+{
+    matches!(kind, DeclarationKind::Var)
 }

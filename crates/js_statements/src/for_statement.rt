@@ -1,24 +1,28 @@
 //! `for` statements (ECMA-262, sections 14.7.4 and 14.7.5).
 
-ghost use Rattle.std.specs.Prelude.{◌≡◌, ◌+◌, true, []};
+ghost use Rattle.std.specs.Prelude.{◌≡◌, ◌+◌, ◌||◌, not, true, [], IfOk, MatchResult};
 ghost use Rattle.js_base.specs.Contexts.{has_flag, in_flag};
 ghost use Rattle.js_base.specs.declared.kind.Kind.TheVariants.{For};
+ghost use Rattle.js_cursor.specs.Moves.{OnlyMemory};
+ghost use Rattle.js_grammar.specs.Productions.{await_flag, flag};
+ghost use Rattle.js_parsing.specs.Moves.{MadeHere};
 ghost use Rattle.js_parsing.specs.Nesting.{CanNest, room};
 ghost use Rattle.js_parsing.specs.Stands.{StandsHere};
 ghost use Rattle.js_parsing.specs.States.{Standing};
 ghost use Rattle.js_parsing.specs.Statements.{TakesAnywhere};
-ghost use Rattle.js_statements.specs.ForHeads.{EndsPart, TakesFirst, TakesHead, TakesParensHead, TakesPart, TakesRest, node_of};
+ghost use Rattle.js_statements.specs.ForHeads.{AtEnd, EndsPart, TakesFirst, TakesHead, TakesParensHead, TakesPart, TakesRest, node_of};
+ghost use Rattle.js_statements.specs.ForWords.{PassesAwait, for_label, is_of};
+ghost use Rattle.js_tree.specs.Labels.{number_of};
 
 use crate::for_parts::parse_part_without_in;
-use js_base::Kind;
+use js_base::{Kind, NoMemory, Span};
 use js_cursor::{ParserImpl, Stop};
 use js_lex::ParserConfig;
 use js_operands::primary::close_parentheses;
 use js_parsing::context::{context, set_context};
 use js_parsing::lexemes::{advance, stands};
 use js_parsing::nested::Nested;
-use js_parsing::nodes::make_list;
-use js_tree::{NodeId, NodeKind, Op};
+use js_tree::{NodeFlags, NodeId, NodeKind, Op};
 
 /// How the first part of the head of a `for` ends, which decides what the statement is.
 #[derive(Clone, Copy)]
@@ -42,10 +46,17 @@ impl Ending {
             Ending::Of => NodeKind::ForOfStatement,
         }
     }
+
+    /// Whether it is `of`.
+    fn is_of(self) -> bool
+        ensures { result ≡ is_of self }
+    {
+        matches!(self, Ending::Of)
+    }
 }
 
 /// A ForStatement, or a ForInOfStatement with `in` or `of` (ECMA-262, sections 14.7.4 and 14.7.5). Which of them it is, is known
-/// behind the first part of its head.
+/// behind the first part of its head. `await` behind the word stands in one with `of` alone.
 #[inline(never)]
 pub fn parse_for_statement<C: ParserConfig, N: Nested<C>>(
     p: &mut ParserImpl<'_, C>,
@@ -59,13 +70,62 @@ pub fn parse_for_statement<C: ParserConfig, N: Nested<C>>(
 {
     let start = p.cur_start();
     advance(p)?;
+    let is_await = pass_await(p)?;
     let mut children = Vec::new(p.alloc);
     let ending = parse_paren_for_head(p, nested, &mut children)?;
+    if !has_its_of(is_await, ending) {
+        return Err(p.set_unexpected());
+    }
     let body = nested.statement(p)?;
     children.push(Some(body))?;
     let span = p.end_span(start);
-    let node = make_list(p, ending.node_kind(), Op::None, span, children)?;
+    let node = make_for(p, ending.node_kind(), span, is_await, children)?;
     Ok(node)
+}
+
+/// Passes `await` behind `for`, where the parameter Await is on; whether it stood there (ECMA-262, section 14.7.5).
+fn pass_await<C: ParserConfig>(p: &mut ParserImpl<'_, C>) -> Result<bool, Stop>
+    requires { Standing p.old }
+    ensures { MatchResult result (λ found. PassesAwait p.old p.new found) OnlyMemory }
+{
+    if !stands(p, Kind::Await) {
+        return Ok(false);
+    }
+    if !context(p).has_await() {
+        return Ok(false);
+    }
+    advance(p)?;
+    Ok(true)
+}
+
+/// Whether the head ends its first part by `of`, where `await` stands before it.
+fn has_its_of(is_await: bool, ending: Ending) -> bool
+    ensures { result ≡ (not is_await || is_of ending) }
+{
+    !is_await || ending.is_of()
+}
+
+/// A node of a `for` statement.
+fn make_for<C: ParserConfig>(
+    p: &mut ParserImpl<'_, C>,
+    kind: NodeKind,
+    span: Span,
+    is_await: bool,
+    children: Vec<Option<NodeId>>,
+) -> Result<NodeId, NoMemory>
+    ensures { IfOk result (λ id. MadeHere (for_label kind is_await span) children.items p.old p.new id) }
+{
+    let flags = await_flags(is_await);
+    p.ast.node(kind, span, Op::None, flags, None, children)
+}
+
+/// The flags of a `for` statement, with `await` or without.
+fn await_flags(is_await: bool) -> NodeFlags
+    ensures { number_of result ≡ flag is_await await_flag }
+{
+    let mut flags = NodeFlags::default();
+    flags.is_await = is_await;
+    flags
 }
 
 /// The head of a `for` in its parentheses: its parts are put behind the children.
@@ -111,7 +171,7 @@ fn parse_first_part<C: ParserConfig, N: Nested<C>>(
     requires nests { CanNest (N.can nested.now) (room p.old) }
     ensures { TakesFirst p.old p.new result }
 {
-    if p.at(Kind::Semicolon) || p.at(Kind::RParen) {
+    if at_end(p, Kind::Semicolon) {
         return Ok(None);
     }
     let outer = context(p);
@@ -163,9 +223,19 @@ fn parse_part_before<C: ParserConfig, N: Nested<C>>(
     requires ends { EndsPart end }
     ensures { TakesPart end p.old p.new result }
 {
-    if p.at(end) || p.at(Kind::RParen) {
+    if at_end(p, end) {
         return Ok(None);
     }
     let part = nested.expression(p)?;
     Ok(Some(part))
+}
+
+/// Whether what ends a part of the head stands here, or the parenthesis that closes.
+fn at_end<C: ParserConfig>(p: &ParserImpl<'_, C>, end: Kind) -> bool
+    ensures { AtEnd end p.now result }
+{
+    if p.at(end) {
+        return true;
+    }
+    p.at(Kind::RParen)
 }

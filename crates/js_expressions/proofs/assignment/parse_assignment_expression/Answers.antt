@@ -1,4 +1,4 @@
-use Rattle.js_expressions.proofs.HeadOperands.{behind_head, head_stopped, operand_unmoved, refused_operand}
+use Rattle.js_expressions.proofs.HeadOperands.{behind_head, head_stopped, operand_unmoved, refused_operand, told_none}
 use Rattle.std.proofs.Common.{arith, ap, sym, ◌∙◌, length}
 use Rattle.std.proofs.lemmas.Bool.{false≢true}
 use Rattle.std.proofs.lemmas.Result.{err_from_is_err_and}
@@ -8,6 +8,7 @@ use Rattle.js_grammar.specs.Productions.{at, Assignment}
 use Rattle.js_expressions.proofs.Arrows.{before_at, before_further, before_same, from_unmoved, none_found, refused, refused_so, only_operand, some_found}
 use Rattle.js_parsing.proofs.Moving.{standing}
 use Rattle.js_parsing.proofs.Nesting.{nests_later, later_room}
+use Rattle.js_expressions.proofs.Yields.{yield_no_target}
 use Rattle.js_expressions.proofs.assignment.parse_assignment_expression.Goals as goal
 
 pub parse_arrow_function_expression-requires-clause-at : goal.parse_arrow_function_expression-requires-clause-at
@@ -105,3 +106,6 @@ returns-clause-operand g c = λ text f a i.
 
 pub parse_yield_expression-requires-clause-word : goal.parse_yield_expression-requires-clause-word
 parse_yield_expression-requires-clause-word g c = c.begins_yield.ensures.0 c.if-begins_yield.true
+
+pub returns-then-begins_yield-clause-operand : goal.returns-then-begins_yield-clause-operand
+returns-then-begins_yield-clause-operand g c = λ text f a i. told_none _ _ _ (yield_no_target a (c.begins_yield.ensures.0 c.if-begins_yield.true)) c.parse_yield_expression.ensures.node

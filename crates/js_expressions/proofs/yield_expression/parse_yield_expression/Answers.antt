@@ -1,4 +1,4 @@
-use Rattle.std.proofs.Common.{◌≡◌, sym, ap, arith, ◌∙◌}
+use Rattle.std.proofs.Common.{refl, sym, ap, arith, ◌∙◌}
 use Rattle.std.proofs.lemmas.Bool.{false≢true}
 use Rattle.std.proofs.lemmas.Result.{err_from_is_err_and}
 use Rattle.js_parsing.specs.Lexemes.{read_word}
@@ -6,6 +6,7 @@ use Rattle.js_parsing.proofs.Moving.{standing, stops_behind}
 use Rattle.js_parsing.proofs.Nesting.{nested_room, nests_later}
 use Rattle.js_parsing.proofs.Verdicts.{grown_then}
 use Rattle.js_operands.proofs.Members.{word_whole}
+use Rattle.js_expressions.proofs.HeadOperands.{made_no_target}
 use Rattle.js_expressions.proofs.Yields.{argued_is, argument_answers, argument_none, bare_answers, bare_is}
 use Rattle.js_expressions.proofs.yield_expression.parse_yield_expression.Goals as goal
 
@@ -15,8 +16,8 @@ advance-requires-clause-whole g c = word_whole c.requires.at (ap read_word c.req
 pub end_span-span-requires : goal.end_span-span-requires
 end_span-span-requires g c = let m = c.in_ok-advance.ensures _ _ c.requires.at in let a = m.further in let s = c.cur_start-start.ensures in omega arith
 
-pub returns-then-is_bare : goal.returns-then-is_bare
-returns-then-is_bare g c = λ text f a. bare_answers a c.requires.word (c.in_ok-advance.ensures text f a) _ (bare_is _ _ (sym c.is_bare.ensures ∙ c.if-is_bare.true)) (c.end_span-span.ensures.start ∙ c.cur_start-start.ensures) c.end_span-span.ensures.end c.in_ok-node.ensures
+pub returns-then-is_bare-clause-answers : goal.returns-then-is_bare-clause-answers
+returns-then-is_bare-clause-answers g c = λ text f a. bare_answers a c.requires.word (c.in_ok-advance.ensures text f a) _ (bare_is _ _ (sym c.is_bare.ensures ∙ c.if-is_bare.true)) (c.end_span-span.ensures.start ∙ c.cur_start-start.ensures) c.end_span-span.ensures.end c.in_ok-node.ensures
 
 pub parse_delegate-requires-clause-at : goal.parse_delegate-requires-clause-at
 parse_delegate-requires-clause-at g c = standing (c.in_ok-advance.ensures _ _ c.requires.at).at
@@ -30,14 +31,14 @@ parse_delegate-requires-clause-start g c = let m = c.in_ok-advance.ensures _ _ c
 pub parse_delegate-requires-clause-star : goal.parse_delegate-requires-clause-star
 parse_delegate-requires-clause-star g c = c.at.ensures.0 c.if-at.true
 
-pub returns-then-at : goal.returns-then-at
-returns-then-at g c = λ text f a. c.parse_delegate.ensures text f c.args.p.now a c.requires.word (c.in_ok-advance.ensures text f a) (argued_is _ _ (sym c.is_bare.ensures ∙ c.if-is_bare.false)).0 c.cur_start-start.ensures
+pub returns-then-at-clause-answers : goal.returns-then-at-clause-answers
+returns-then-at-clause-answers g c = λ text f a. c.parse_delegate.ensures.answers text f c.args.p.now a c.requires.word (c.in_ok-advance.ensures text f a) (argued_is _ _ (sym c.is_bare.ensures ∙ c.if-is_bare.false)).0 c.cur_start-start.ensures
 
 pub assignment-requires : goal.assignment-requires
 assignment-requires g c = let m = c.in_ok-advance.ensures _ _ c.requires.at in c.requires.nests _ _ (standing m.at) (nested_room c.requires.at m)
 
-pub returns-in_err-argument : goal.returns-in_err-argument
-returns-in_err-argument g c = λ text f a.
+pub returns-in_err-argument-clause-answers : goal.returns-in_err-argument-clause-answers
+returns-in_err-argument-clause-answers g c = λ text f a.
     let p = err_from_is_err_and c.from_residual-in_err-argument.result c.from_residual-in_err-argument.ensures.1 in
     let m = c.in_ok-advance.ensures text f a in
     let z = argued_is _ _ (sym c.is_bare.ensures ∙ c.if-is_bare.false) in
@@ -49,8 +50,14 @@ end_span-span-requires-2 g c =
     let x = (c.in_ok-argument.ensures _ _ m.at).answer in
     let a = m.further in let b = x.further in let d = m.at.behind in let s = c.cur_start-start.ensures in omega arith
 
-pub returns : goal.returns
-returns g c = λ text f a.
+pub returns-clause-answers : goal.returns-clause-answers
+returns-clause-answers g c = λ text f a.
     let m = c.in_ok-advance.ensures text f a in
     let z = argued_is _ _ (sym c.is_bare.ensures ∙ c.if-is_bare.false) in
     argument_answers a c.requires.word m z.0 z.1 _ (λ k. false≢true (sym c.if-at.false ∙ c.at.ensures.1 k)) (c.in_ok-argument.ensures text f m.at) (c.end_span-span-2.ensures.start ∙ c.cur_start-start.ensures) c.end_span-span-2.ensures.end c.in_ok-node-2.ensures
+
+pub returns-then-is_bare-clause-node : goal.returns-then-is_bare-clause-node
+returns-then-is_bare-clause-node g c = made_no_target refl (λ cs. refl) c.in_ok-node.ensures
+
+pub returns-clause-node : goal.returns-clause-node
+returns-clause-node g c = made_no_target refl (λ cs. refl) c.in_ok-node-2.ensures

@@ -9,7 +9,7 @@ returns-then-can_insert_semicolon g c = (c.can_insert_semicolon.ensures.0 c.if-c
 pub returns-in_err-argument : goal.returns-in_err-argument
 returns-in_err-argument g c =
     let p = err_from_is_err_and c.from_residual.result c.from_residual.ensures.1 in
-    rw (p.1, p.2) (λ m. false≢true (sym c.if-can_insert_semicolon.false ∙ c.can_insert_semicolon.ensures.1 m), c.in_err-argument.ensures)
+    rw (p.1, p.2) (λ m. false≢true (sym c.if-can_insert_semicolon.false ∙ c.can_insert_semicolon.ensures.1 m), c.in_err-argument.ensures.answers)
 
 pub returns : goal.returns
-returns g c = (λ m. false≢true (sym c.if-can_insert_semicolon.false ∙ c.can_insert_semicolon.ensures.1 m), c.in_ok-argument.ensures)
+returns g c = (λ m. false≢true (sym c.if-can_insert_semicolon.false ∙ c.can_insert_semicolon.ensures.1 m), c.in_ok-argument.ensures.answers)
