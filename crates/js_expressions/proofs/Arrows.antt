@@ -458,7 +458,7 @@ name_found {p} {q} {w} {id} a n b e s = (k, (λ text f a. a_head (head text f a)
     k = let y = b.1 _ _ a in arrow_is_here (head _ _ a).at y.0 (subst (λ (v : ℕ). Lex p.text v y.0) (sym z.0) y.1) y.2
 
     named : {text : List ℕ} {f : Flags} → At text f p → (x : Lexeme) → Lex text p.prev_token_end x → one_of_kinds name_kinds x.kind ≡ true
-    named a x l = subst (λ (v : Kind). one_of_kinds name_kinds v ≡ true) (told a (name_whole a n).0 (name_slashless p.token.kind n) x l).kind n
+    named a x l = subst (λ (v : Kind). one_of_kinds name_kinds v ≡ true) (told a (name_whole a n).0 (name_signless p.token.kind n) x l).kind n
 
     none : (text : List ℕ) (f : Flags) → At text f p → Underived text (at Short f) p.prev_token_end
     none text f a = head_no_operand (head text f a) k (λ ls r i l o b. name_calm o (named a (here ls) (here_at (Lex text) ls l)))
