@@ -1,24 +1,24 @@
 -- Assignments to simple targets (ECMA-262, 13.15), and where none stands.
 use Rattle.js_base.specs.Operators.{row_of as row_in, assignment_operators}
 use Rattle.std.specs.Prelude.{IsSome, is_some}
-use Rattle.std.proofs.Common.{ℕ, ◌≡◌, ◌≤◌, ◌<◌, ◌⊎◌, inl, inr, List, [], ◌∷◌, length, Bool, true, false, not, ◌&&◌, ◌||◌, IsTrue, Option, Some, None, refl, sym, ap, subst, arith, ◌∙◌}
+use Rattle.std.proofs.Common.{ℕ, ◌≡◌, ◌⊎◌, inl, inr, List, [], ◌∷◌, Bool, true, false, not, ◌&&◌, ◌||◌, IsTrue, Option, Some, None, refl, sym, ap, subst, ◌∙◌}
 use Rattle.std.proofs.lemmas.Bool.{false≢true, and_parts, and_from, or_left, or_right}
 use Rattle.js_base.specs.declared.kind.Kind.{Kind}
 use Rattle.js_base.specs.declared.kind.Kind.TheVariants.{Eq, RAngle, PrivateIdentifier, Yield}
 use Rattle.js_base.specs.Kinds.{same_kind, one_of_kinds}
 use Rattle.js_base.specs.Texts.{words}
 use Rattle.js_base.proofs.KindLemmas.{kind_of_same}
-use Rattle.js_grammar.specs.Trees.{Span as TreeSpan, Label, Slots, end, tree, Tree, of, assignment_expression}
-use Rattle.js_grammar.specs.Grammar.{Lexeme, Lexemes, Look, here, seen, such, nothing, never, exact, alt, seq, is, when, Takes, ◌▸◌, is_seq, is_lexeme, is_such}
+use Rattle.js_grammar.specs.Trees.{Label, Slots, end, tree, Tree, assignment_expression}
+use Rattle.js_grammar.specs.Grammar.{Lexeme, Lexemes, Look, here, seen, such, alt, is, when, Takes, ◌▸◌, is_seq, is_lexeme}
 use Rattle.js_grammar.specs.Insertion.{Row, after_expression, assign_operators}
 use Rattle.js_grammar.specs.Lexemes.{is_word}
 use Rattle.js_grammar.specs.Parsing.{Test, plain, full, always, Admits, Goes, Fails, still}
-use Rattle.js_grammar.specs.Productions.{G, Flags, Symbol, at, tok, op, branches, Arrow', Assignment, Conditional, Short, SimpleTarget}
+use Rattle.js_grammar.specs.Productions.{G, Flags, at, tok, op, branches, Arrow', Assignment, Conditional, Short, SimpleTarget}
 use Rattle.js_grammar.specs.Productions.{sym as symbol, Yield as Yield'}
 use Rattle.js_grammar.specs.Table.{rule, rule_of}
-use Rattle.js_grammar.specs.Follow.{edge_of, row_of, follow, after, looser, widest}
+use Rattle.js_grammar.specs.Follow.{after, looser}
 use Rattle.js_grammar.proofs.Looks.{covers, covered, apart, same_self, not_both}
-use Rattle.js_grammar.proofs.Calculus.{Between, Inside, inside_full, On, ◌▹◌, ◌▹✗◌, both, stay, left, right, then_by, part_fails, weaken_fails_on, fails_node, fails_alt, fails_lexeme, fails_when}
+use Rattle.js_grammar.proofs.Calculus.{Between, inside_full, ◌▹◌, both, stay, left, right, then_by, part_fails, weaken_fails_on, fails_node, fails_alt, fails_lexeme, fails_when}
 use Rattle.js_grammar.proofs.FollowLaws.{admits, passes_on, same_read}
 use Rattle.js_cursor.specs.Parsers.{Parser}
 use Rattle.js_cursor.specs.Moves.{is_last}
