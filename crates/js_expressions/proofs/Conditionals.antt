@@ -4,7 +4,7 @@ use Rattle.std.proofs.Common.{ℕ, ◌≡◌, ◌≤◌, List, [], ◌∷◌, le
 use Rattle.std.specs.Prelude.{Err}
 use Rattle.std.proofs.lemmas.Bool.{false≢true, and_from, and_parts}
 use Rattle.js_base.specs.declared.kind.Kind.{Kind}
-use Rattle.js_base.specs.declared.kind.Kind.TheVariants.{Question, Colon, PrivateIdentifier, Undetermined, RegExp}
+use Rattle.js_base.specs.declared.kind.Kind.TheVariants.{Question, Colon, PrivateIdentifier, Undetermined, RCurly, RegExp, TemplateMiddle, TemplateTail}
 use Rattle.js_base.specs.declared.span.Span.{Span}
 use Rattle.js_base.specs.Kinds.{same_kind, one_of_kinds}
 use Rattle.js_base.specs.Texts.{words}
@@ -45,6 +45,7 @@ use Rattle.js_expressions.specs.Rests.{Asked, OnlyOperand}
 use Rattle.js_parsing.specs.Moves.{Passes}
 use Rattle.js_parsing.proofs.Giving.{gives_up}
 use Rattle.js_parsing.specs.Lexemes.{Lex, Plain, is_read, other_goals, signs_of}
+use Rattle.js_grammar.proofs.Lexemes.{first_or}
 use Rattle.js_parsing.proofs.Slashes.{sign_there}
 use Rattle.js_parsing.specs.States.{At, Same}
 use Rattle.js_parsing.specs.Moves.{Moved, MadeHere, plain_label}
@@ -54,7 +55,7 @@ use Rattle.js_parsing.proofs.Here.{kind_here, told_plain}
 use Rattle.js_parsing.proofs.MadeNodes.{node_held, one_lies}
 use Rattle.js_parsing.proofs.Moving.{same_both}
 use Rattle.js_operands.proofs.Operands.{by_path}
-use Rattle.js_parsing.proofs.Paths.{Path, ◌⟼◌, ◌⟶◌, ◌⟶✗◌, fails_at, not_here, token, called, last_called, noded_by, by_symbol_as, label_here}
+use Rattle.js_parsing.proofs.Paths.{Path, ◌⟼◌, ◌⟶◌, ◌⟶✗◌, fails_at, not_here, token, called, last_called, noded_by, by_symbol_as, label_here, read_of}
 use Rattle.js_parsing.proofs.Phrases.{lift, lift_fails, narrow_operand, operand_assigned}
 use Rattle.js_parsing.proofs.Tight.{narrows, read_plain, plain_is_read, plain_lex, plain_so}
 use Rattle.js_parsing.specs.Classes.{EndsParse}
