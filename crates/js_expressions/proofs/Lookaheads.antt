@@ -2,7 +2,7 @@
 use Rattle.std.proofs.Common.{ℕ, ◌≡◌, ◌⊎◌, List, Bool, true, false, IsTrue, None, refl, sym, ap, subst, arith, ◌∙◌, inl, inr}
 use Rattle.std.specs.Prelude.{Ok}
 use Rattle.std.proofs.lemmas.Bool.{false≢true}
-use Rattle.js_base.specs.declared.diagnostic.DiagnosticKind.TheVariants.{ExpectToken}
+use Rattle.js_base.specs.declared.diagnostic.DiagnosticKind.TheVariants.{RCurly, ExpectToken}
 use Rattle.js_base.specs.declared.kind.Kind.{Kind}
 use Rattle.js_base.specs.declared.kind.Kind.TheVariants.{Arrow, Dot3, LParen, New, RAngle, RParen, RegExp, Slash, SlashEq, Await}
 use Rattle.js_base.specs.declared.token.Token.{Token}
@@ -145,6 +145,7 @@ not_angle : (k : Kind) → begins_operand k ≡ true → one_of_kinds unsettled 
 not_angle RAngle h = absurd (false≢true h)
 not_angle Slash h = absurd (false≢true h)
 not_angle SlashEq h = absurd (false≢true h)
+not_angle RCurly h = absurd (false≢true h)
 not_angle _ h = refl
 
 pub no_head_begins : {text : List ℕ} {f : Flags} {p : Parser} {t : Token} → At text f p → p.token.kind ≡ LParen → Peeks p t → begins_operand t.kind ≡ true → Underived text (at Params f) p.prev_token_end
