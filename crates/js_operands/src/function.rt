@@ -179,7 +179,7 @@ pub fn make_function<C: ParserConfig>(
 }
 
 /// The flags of a function, which is asynchronous or not, and a generator or not.
-pub(crate) fn function_flags(is_async: bool, is_generator: bool) -> NodeFlags
+pub fn function_flags(is_async: bool, is_generator: bool) -> NodeFlags
     ensures { number_of result ≡ flag is_async async_flag + flag is_generator generator_flag }
 {
     NodeFlags {
