@@ -1,5 +1,6 @@
 pub mod ArgumentLists
 pub mod Arrays
+pub mod AsyncWords
 mod FlagFaults
 pub mod Functions
 pub mod Intrinsics
