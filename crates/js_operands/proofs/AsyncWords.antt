@@ -1,32 +1,47 @@
 -- `async` and what stands behind it: `function` on its line, or something else (ECMA-262, 15.6, 15.8).
-use Rattle.std.proofs.Common.{ℕ, ◌≡◌, ◌⊎◌, inl, inr, List, [], ◌∷◌, Bool, true, false, not, ◌||◌, IsTrue, refl, sym, ap, subst, ◌∙◌}
-use Rattle.std.proofs.lemmas.Bool.{false≢true}
+use Rattle.std.proofs.Common.{ℕ, ◌≡◌, ◌⊎◌, inl, inr, List, [], ◌∷◌, Bool, true, false, not, ◌&&◌, ◌||◌, IsTrue, Option, refl, sym, ap, subst, ◌∙◌}
+use Rattle.std.specs.Prelude.{Result, Ok, Err, MatchResult}
+use Rattle.std.proofs.lemmas.Bool.{false≢true, and_parts}
 use Rattle.js_base.specs.declared.diagnostic.Diagnostic.{Diagnostic}
 use Rattle.js_base.specs.declared.kind.Kind.{Kind}
 use Rattle.js_base.specs.declared.kind.Kind.TheVariants.{Async, Function, PrivateIdentifier, RAngle, RegExp, Undetermined}
 use Rattle.js_base.specs.declared.token.Token.{Token}
-use Rattle.js_base.specs.Kinds.{same_kind}
+use Rattle.js_base.specs.Kinds.{same_kind, one_of_kinds}
 use Rattle.js_base.specs.Texts.{words}
 use Rattle.js_base.proofs.KindLemmas.{kind_of_same}
-use Rattle.js_grammar.specs.Trees.{end}
-use Rattle.js_grammar.specs.Grammar.{Lexeme, Look, ◌▸◌}
+use Rattle.js_grammar.specs.Trees.{Slots, end}
+use Rattle.js_grammar.specs.Grammar.{Lexeme, Lexemes, Look, here, seen, is, Takes, is_lexeme, is_node, is_such, ◌▸◌}
 use Rattle.js_grammar.specs.Lexemes.{division}
-use Rattle.js_grammar.specs.Parsing.{Test, plain, full, still, Goes, Fails}
-use Rattle.js_grammar.specs.Productions.{G, Flags, no_newline}
-use Rattle.js_grammar.specs.Table.{rule}
-use Rattle.js_grammar.proofs.Calculus.{looks, part_fails, fails_look}
+use Rattle.js_grammar.specs.Parsing.{Test, plain, full, still, Admits, Goes, Fails}
+use Rattle.js_grammar.specs.Productions.{G, Flags, at, no_newline, tok, FuncExpr, IdentifierReference, Primary}
+use Rattle.js_grammar.specs.Productions.{sym as symbol}
+use Rattle.js_grammar.specs.Lexed.{Lexes}
+use Rattle.js_grammar.specs.Follow.{after, widest}
+use Rattle.js_grammar.proofs.Alike.{lex-same}
+use Rattle.js_grammar.proofs.Looks.{covers, apart}
+use Rattle.js_grammar.specs.Table.{rule, rule_of}
+use Rattle.js_grammar.proofs.Calculus.{Between, ◌▹✗◌, done, fails_alt, fails_lexeme, fails_node, fails_rule, here_at, inside_full, looks, part_by, part_fails, fails_look}
 use Rattle.js_lex.specs.Reading.{Tells, cut, is_right_angle, GivesLexeme, GivesNone, Outcome as Given}
 use Rattle.js_lex.proofs.Again.{cut_same}
-use Rattle.js_cursor.specs.Moves.{Peeks}
+use Rattle.js_cursor.specs.Moves.{OnlyMemory, Peeks}
+use Rattle.js_cursor.specs.declared.stop.Stop.{Stop}
 use Rattle.js_cursor.specs.Parsers.{Parser}
-use Rattle.js_parsing.specs.Lexemes.{Lex}
+use Rattle.js_tree.specs.declared.id.NodeId.{NodeId}
+use Rattle.js_parsing.specs.Arguments.{Partway}
+use Rattle.js_parsing.specs.Lexemes.{Lex, name_kinds, slashes}
+use Rattle.js_parsing.specs.Moves.{Moved}
 use Rattle.js_parsing.specs.Stands.{StandsHere}
 use Rattle.js_parsing.specs.States.{At}
-use Rattle.js_operands.specs.Functions.{FunctionNext}
+use Rattle.js_operands.specs.Functions.{FunctionBehind, FunctionHere, FunctionNext, function_line}
+use Rattle.js_operands.specs.declared.function.FunctionForm.TheVariants.{Expression}
 use Rattle.js_parsing.proofs.Ahead.{pass_over}
-use Rattle.js_parsing.proofs.Here.{angled, newline_here, one_plain, plainly, told_plain}
-use Rattle.js_parsing.proofs.Paths.{read_of}
+use Rattle.js_parsing.proofs.Here.{angled, newline_here, one_plain, plain_there, plainly, told, told_plain, uncut}
+use Rattle.js_parsing.proofs.NameKinds.{name_apart}
+use Rattle.js_parsing.proofs.Parts.{part_path_fails, part_sign}
+use Rattle.js_parsing.proofs.Paths.{fails_at, read_of}
+use Rattle.js_parsing.proofs.Signs.{other_kind}
 use Rattle.js_parsing.proofs.Tight.{read_plain}
+use Rattle.js_parsing.proofs.Verdicts.{verdict_of}
 
 -- ---- what stands behind the current lexeme, as a peek tells it
 
@@ -89,3 +104,102 @@ module _ {text : List ℕ} {f : Flags} {q : Parser} (b : At text f q) where
       go : (c : Bool) → q.cut ≡ c → Tells y q.token
       go true e = absurd (false≢true (sym (ap is_right_angle k) ∙ angled b e y l))
       go false e = told_plain b e y (ap (same_kind RegExp) k) l
+
+-- ---- parts
+
+pub any_between : {a b : G} {s : ℕ} → Between rule (plain full) (plain full) end a b s
+any_between = record { admits = λ ts us vs j k ls mid rest d e h. (refl, refl) }
+
+-- a part of what is left, with something behind it
+pub part_within : {text : List ℕ} {f : Flags} {a a' b : G} {p q : Parser} {ids js : List (Option NodeId)} → Partway text f a a' p q ids js → Partway text f (a ▸ b) (a' ▸ b) p q ids js
+part_within x = record {
+  at = x.at;
+  same = x.same;
+  further = x.further;
+  slots = x.slots;
+  puts = x.puts;
+  pass = x.pass;
+  walked = x.walked;
+  verdict = verdict_of x.verdict (λ y. record { reach = y.reach; near = y.near; goes = part_by {X' = plain full} y.goes any_between }) (λ n. part_fails {X' = plain full} n any_between);
+  holds = x.holds;
+  keeps = x.keeps;
+}
+
+-- ---- what isn't derived
+
+-- where `function` stands, nothing else does
+one_function : {text : List ℕ} {s : ℕ} {y z : Lexeme} → Lex text s y → y.kind ≡ Function → Lex text s z → z ≡ y
+one_function l k j =
+    let w = plain_there j in
+    let e = lex-same w.stands.lex l.0 (w.stands.of_goal ∙ sym (plainly l.0 l.1 (ap (same_kind RegExp) k))) in
+    elim w.which [
+      | inl i ↦ sym i ∙ e
+      | inr i ↦ absurd (false≢true (sym (ap (λ (y : Lexeme). one_of_kinds slashes y.kind) e ∙ ap (one_of_kinds slashes) k) ∙ i.1))
+    ]
+
+module _ {text : List ℕ} {f : Flags} {p : Parser} (a : At text f p) where
+  -- no name ends before `function` on its line
+  pub no_reference : StandsHere p Async true → FunctionNext p true → Fails rule (Lex text) (after (at Primary f)) end (symbol IdentifierReference f) p.prev_token_end
+  unfolding rule rule_of
+  no_reference k n = record { no = λ ts vs j ls rest l d e. by ts vs l d e }
+    where
+      there : (y z : Lexeme) → Lex text p.prev_token_end y → Lex text y.to z → IsTrue (seen (widest Primary) z) → ⊥
+      there y z l m e =
+          let w = n text f a in
+          let t = told a (uncut a (ap (same_kind RAngle) k.0)) (ap (one_of_kinds slashes) k.0) y l in
+          let i : z ≡ w.0 = one_function w.1 w.2 (subst (λ (u : ℕ). Lex text u z) (sym t.end) m) in
+          false≢true (sym (ap (λ (v : Lexeme). seen (widest Primary) v) i ∙ rw (w.2, w.3, read_plain w.0 w.1.1) refl) ∙ e)
+
+      within : (cs vs : Slots) {i j : ℕ} {ls rest : Lexemes} → Lexes (Lex text) p.prev_token_end ls → Takes rule (rule (at IdentifierReference f)) end cs i ls vs j rest → IsTrue (seen (widest Primary) (here rest)) → ⊥
+      within cs vs l (is_node (is_lexeme {x = x} {ls = more} q)) e = there x (here more) l.0 (here_at (Lex text) more l.1) e
+
+      by : (ts vs : Slots) {j : ℕ} {ls rest : Lexemes} → Lexes (Lex text) p.prev_token_end ls → Takes rule (symbol IdentifierReference f) end ts p.prev_token_end ls vs j rest → Admits (after (at Primary f)) ts (here rest) → ⊥
+      by ts vs l (is_such d c) e = within _ _ l d e.0
+
+  -- no asynchronous function begins here
+  module _ {q : Parser} (s : StandsHere p Async false ⊎ FunctionNext p false) (u : p.token.escaped ≡ false) (m : Moved text f p q) where
+    pub no_async : (g : G) → Fails rule (Lex text) (plain full) end ((tok Async ▸ no_newline) ▸ tok Function ▸ g) p.prev_token_end
+    unfolding covers apart
+    no_async g = by s
+      where
+        behind : FunctionNext p false → (w : Bool) → q.token.is_on_new_line ≡ w → Fails rule (Lex text) (plain full) end (no_newline ▸ tok Function ▸ g) q.prev_token_end
+        behind n true w = no_same_line m.at w
+        behind n false w = same_line m.at w ▹✗ part_fails {X' = plain full} (fails_lexeme (is Function) (λ y l h. n text f a y (subst (λ (v : ℕ). Lex text v y) (sym (m.tells.end ∙ m.ends)) l) (sym (kind_of_same Function y.kind (and_parts (same_kind Function y.kind) (not y.escaped) h).0)) (newline_here m.at y l ∙ w))) any_between
+
+        at_async : FunctionNext p false → (b : Bool) → same_kind Async p.token.kind ≡ b → Fails rule (Lex text) (plain full) end ((tok Async ▸ no_newline) ▸ tok Function ▸ g) p.prev_token_end
+        at_async n true k = part_path_fails (part_within (part_sign Async a (sym (kind_of_same Async p.token.kind k)) u refl m)) (behind n q.token.is_on_new_line refl)
+        at_async n false k = elsewhere (ap (λ (b : Bool). b || false) k)
+
+        elsewhere : one_of_kinds (Async ∷ []) p.token.kind ≡ false → Fails rule (Lex text) (plain full) end ((tok Async ▸ no_newline) ▸ tok Function ▸ g) p.prev_token_end
+        elsewhere k = part_fails {X' = plain full} (part_fails {X' = plain full} (fails_at a (tok Async) (Async ∷ []) refl k) any_between) any_between
+
+        by : StandsHere p Async false ⊎ FunctionNext p false → Fails rule (Lex text) (plain full) end ((tok Async ▸ no_newline) ▸ tok Function ▸ g) p.prev_token_end
+        by (inl n) = elsewhere (other_kind Async p.token.kind (λ k. n k u))
+        by (inr n) = at_async n (same_kind Async p.token.kind) refl
+
+    -- nor is a function expression derived at a name
+    pub no_expression : one_of_kinds name_kinds p.token.kind ≡ true → Fails rule (Lex text) (after (at Primary f)) end (symbol FuncExpr f) p.prev_token_end
+    unfolding rule rule_of covers apart
+    no_expression k = fails_rule {X' = plain full} (λ l cs vs y d. (refl, refl)) (fails_alt (fails_alt (plainly_none false) (plainly_none true)) (fails_alt (none_so false) (none_so true)))
+      where
+        plainly_none : (s : Bool) → Fails rule (Lex text) (plain full) end (function_line Expression false s f) p.prev_token_end
+        plainly_none s = fails_node inside_full (done ▹✗ part_fails {X' = plain full} (fails_at a (tok Function) (Function ∷ []) refl (name_apart (Function ∷ []) refl p.token.kind k)) any_between)
+
+        none_so : (s : Bool) → Fails rule (Lex text) (plain full) end (function_line Expression true s f) p.prev_token_end
+        none_so s = fails_node inside_full (no_async _)
+
+-- ---- what is answered of it
+
+pub here_so : {p : Parser} {k : Kind} {r b : Bool} → r ≡ b → StandsHere p k r → StandsHere p k b
+here_so {p} {k} e h = subst (λ (c : Bool). StandsHere p k c) e h
+
+pub begins_there : {p : Parser} → StandsHere p Function true → FunctionHere p p true
+begins_there h = (refl, inl h)
+
+pub none_there : {p : Parser} → StandsHere p Function false → StandsHere p Async false → FunctionHere p p false
+none_there n m = (refl, (n, inl m))
+
+pub by_next : {p q : Parser} (r : Result Bool Stop) → StandsHere p Function false → StandsHere p Async true → MatchResult r (λ b. FunctionBehind p q b) OnlyMemory → MatchResult r (λ b. FunctionHere p q b) OnlyMemory
+by_next (Ok true) n h x = (x.0, inr (h, x.1))
+by_next (Ok false) n h x = (x.0, (n, inr x.1))
+by_next (Err e) n h x = x

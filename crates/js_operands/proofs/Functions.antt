@@ -21,7 +21,7 @@ use Rattle.js_grammar.specs.Table.{rule, rule_of}
 use Rattle.js_grammar.specs.Follow.{after, surest}
 use Rattle.js_grammar.proofs.Frame.{append_assoc}
 use Rattle.js_grammar.proofs.Looks.{covers, covered, apart}
-use Rattle.js_grammar.proofs.Calculus.{Between, Sure, inside_full, ◌▹◌, ◌▹✗◌, done, left, right, stay, part_by, part_fails, then_by, reads_empty_slot, fails_alt, fails_node, fails_rule, weaken_fails_on}
+use Rattle.js_grammar.proofs.Calculus.{Sure, inside_full, ◌▹◌, ◌▹✗◌, done, left, right, stay, part_by, part_fails, then_by, reads_empty_slot, fails_alt, fails_node, fails_rule, weaken_fails_on}
 use Rattle.js_grammar.proofs.FirstClaims.{firsts}
 use Rattle.js_grammar.proofs.FirstRules.{by_first, fails_here}
 use Rattle.js_grammar.proofs.FollowLaws.{fails_by, surely}
@@ -59,7 +59,7 @@ use Rattle.js_parsing.proofs.Paths.{Path, ◌⟼◌, at_kind, fails_at, flagged_
 use Rattle.js_parsing.proofs.Signs.{other_kind, plain_sign, whole_sign}
 use Rattle.js_parsing.proofs.Told.{told_at, told_same}
 use Rattle.js_parsing.proofs.Tight.{read_plain}
-use Rattle.js_operands.proofs.AsyncWords.{function_here, same_line}
+use Rattle.js_operands.proofs.AsyncWords.{any_between, function_here, no_reference, part_within, same_line}
 use Rattle.js_parsing.proofs.Verdicts.{after as grown_behind, grown_then, verdict_of}
 use Rattle.js_operands.proofs.Operands.{behind_primary, by_path, by_such, one_path, plain_leaf, name_slashless}
 
@@ -125,9 +125,6 @@ opens k w e = same_kind LParen k
 opens_surely : Sure opens (plain opens)
 opens_surely = record { admits = λ ts y h. (h, refl) }
 
-any_between : {a b : G} {s : ℕ} → Between rule (plain full) (plain full) end a b s
-any_between = record { admits = λ ts us vs j k ls mid rest d e h. (refl, refl) }
-
 module _ {text : List ℕ} {f : Flags} {r : Parser} (b : At text f r) where
   -- where no name stands
   no_name_part : {X : Test} (g : Flags) → NameUnder g.yield_ g.await_ r false → Fails rule (Lex text) X end (symbol BindingIdentifier g) r.prev_token_end
@@ -152,23 +149,8 @@ module _ {text : List ℕ} {f : Flags} {r : Parser} (b : At text f r) where
 
 -- ---- its words
 
--- a part of what is left, with something behind it
-part_within : {text : List ℕ} {f : Flags} {a a' b : G} {p q : Parser} {ids js : List (Option NodeId)} → Partway text f a a' p q ids js → Partway text f (a ▸ b) (a' ▸ b) p q ids js
-part_within x = record {
-  at = x.at;
-  same = x.same;
-  further = x.further;
-  slots = x.slots;
-  puts = x.puts;
-  pass = x.pass;
-  walked = x.walked;
-  verdict = verdict_of x.verdict (λ y. record { reach = y.reach; near = y.near; goes = part_by {X' = plain full} y.goes any_between }) (λ n. part_fails {X' = plain full} n any_between);
-  holds = x.holds;
-  keeps = x.keeps;
-}
-
 -- what stands at `async` and at `function`
-module _ {text : List ℕ} {f : Flags} {p o : Parser} (a : At text f p) (h : BeginsFunction p) where
+module _ {text : List ℕ} {f : Flags} {p : Parser} (o : Parser) (a : At text f p) (h : BeginsFunction p) where
   async_moved : Eats Async p o true → Moved text f p o
   async_moved (k, v) = moves (whole_sign Async a k.0 refl refl) v a
 
@@ -184,11 +166,11 @@ module _ {text : List ℕ} {f : Flags} {p o : Parser} (a : At text f p) (h : Beg
           let t = function_here m.at y.0 (subst (λ (u : ℕ). Lex text u y.0) (m.tells.end ∙ m.ends) y.1) y.2 in
           ((t.kind ∙ y.2, t.escaped ∙ read_plain y.0 y.1.1), t.newline ∙ y.3)
 
-  word_at : (b : Bool) → Eats Async p o b → At text f o
+  pub word_at : (b : Bool) → Eats Async p o b → At text f o
   word_at true e = (async_moved e).at
   word_at false (n, e) = subst (λ (v : Parser). At text f v) (sym e) a
 
-  word_here : (b : Bool) → Eats Async p o b → StandsHere o Function true
+  pub word_here : (b : Bool) → Eats Async p o b → StandsHere o Function true
   word_here true e = (behind_async e).0
   word_here false (n, e) = subst (λ (v : Parser). StandsHere v Function true) (sym e) (go h)
     where
@@ -197,13 +179,13 @@ module _ {text : List ℕ} {f : Flags} {p o : Parser} (a : At text f p) (h : Beg
       go (inr w) = absurd (n w.0)
 
   -- the words were passed
-  words_passed : {q : Parser} {g : G} (b : Bool) → Eats Async p o b → Moved text f o q → Partway text f (only b (tok Async ▸ no_newline) ▸ tok Function ▸ g) g p q [] []
-  words_passed true e m =
+  words_passed : {q : Parser} (g : G) (b : Bool) → Eats Async p o b → Moved text f o q → Partway text f (only b (tok Async ▸ no_newline) ▸ tok Function ▸ g) g p q [] []
+  words_passed g true e m =
       let w = behind_async e in
       parts (part_goes (part_within (part_sign Async a e.0.0 e.0.1 refl (async_moved e))) (same_line (async_moved e).at w.1)) (part_sign Function (async_moved e).at w.0.0 w.0.1 refl m)
-  words_passed {q = q} false (n, e) m =
+  words_passed {q} g false (n, e) m =
       let w = word_here false (n, e) in
-      part_from done (subst (λ (v : Parser). Partway text f (tok Function ▸ _) _ v q [] []) e (part_sign Function (word_at false (n, e)) w.0 w.1 refl m))
+      part_from done (subst (λ (v : Parser). Partway text f (tok Function ▸ g) g v q [] []) e (part_sign Function (word_at false (n, e)) w.0 w.1 refl m))
 
   -- what begins with the other word isn't derived
   other_word : {g : G} (b : Bool) → Eats Async p o b → Fails rule (Lex text) (plain full) end (only (not b) (tok Async ▸ no_newline) ▸ tok Function ▸ g) p.prev_token_end
@@ -215,7 +197,7 @@ module _ {text : List ℕ} {f : Flags} {p o : Parser} (a : At text f p) (h : Beg
 
 module _ {text : List ℕ} {f : Flags} {p o q : Parser} (form : FunctionForm) (a : At text f p) (h : BeginsFunction p) (n : Bool) (w : Eats Async p o n) (m : Moved text f o q) where
   begun : (s : Bool) → Partway text f (function_slots form n s f) (only s (tok Star) ▸ behind_star form n s f) p q [] []
-  begun s = words_passed a h n w m
+  begun s = words_passed o a h (only s (tok Star) ▸ behind_star form n s f) n w m
 
   -- ---- the star
 
@@ -236,7 +218,7 @@ module _ {text : List ℕ} {f : Flags} {p o q : Parser} (form : FunctionForm) (a
 
   -- nor is one that begins with the other word
   other_lines : (s : Bool) → Fails rule (Lex text) (plain full) end (function_line form (not n) s f) p.prev_token_end
-  other_lines s = fails_node inside_full (other_word a h n w)
+  other_lines s = fails_node inside_full (other_word o a h n w)
 
   all_four : (s : Bool) → Fails rule (Lex text) (plain full) end (function_line form n s f) p.prev_token_end → Fails rule (Lex text) (plain full) end (function_line form n (not s) f) p.prev_token_end → NoFunction text form f p.prev_token_end
   all_four s x y = by n (both s x y) other_lines
@@ -350,17 +332,13 @@ pub none_left : {text : List ℕ} {s : ℕ} (f : Flags) (form : FunctionForm) �
 none_left f form n = fails_alt (fails_alt (n false false) (n false true)) (fails_alt (n true false) (n true true))
 
 module _ {text : List ℕ} {f : Flags} {p : Parser} (a : At text f p) (h : BeginsFunction p) where
-  -- a name doesn't end before `function` on its line
-  no_reference : StandsHere p Async true → FunctionNext p true → Fails rule (Lex text) (after (at Primary f)) end (symbol IdentifierReference f) p.prev_token_end
-  no_reference k n = record { no = λ ts vs j ls rest l d e. ? }
-
   to_function : Goes rule (Lex text) (after (at Primary f)) end (rule (at Primary f)) p.prev_token_end (symbol FuncExpr f) p.prev_token_end (λ us. us) (still 0)
   unfolding rule rule_of covers
   to_function = by h
     where
       by : BeginsFunction p → Goes rule (Lex text) (after (at Primary f)) end (rule (at Primary f)) p.prev_token_end (symbol FuncExpr f) p.prev_token_end (λ us. us) (still 0)
       by (inl w) = at_kind a Function w.0 refl
-      by (inr w) = at_kind a Async w.0.0 refl ▹ right (no_reference w.0 w.1)
+      by (inr w) = at_kind a Async w.0.0 refl ▹ right (no_reference a w.0 w.1)
 
   to_lines : Goes rule (Lex text) (plain full) end (rule (at FuncExpr f)) p.prev_token_end (four_lines Expression f) p.prev_token_end (λ us. us) (still 0)
   unfolding rule rule_of
