@@ -8,7 +8,7 @@ ghost use Rattle.js_cursor.specs.Moves.{Opened};
 ghost use Rattle.js_grammar.specs.Productions.{at, body_of, computed_flag, flag, generator_flag, method_flag, params_of, shorthand_flag, Primary, Property};
 ghost use Rattle.js_tree.specs.Labels.{number_of};
 ghost use Rattle.js_tree.specs.declared.op.PropertyKind.TheVariants.{Init};
-ghost use Rattle.js_operands.specs.Objects.{NoProperties, Properties, ReadsAccessor, ReadsBehindName, ReadsMethod, ReadsShorthand, ReadsValue, TakesProperty, ends_name_kinds, flags_of_form, form_of, function_label, kind_of_form, method_left, property_label};
+ghost use Rattle.js_operands.specs.Objects.{NoProperties, Properties, ReadsAccessor, ReadsAsyncMethod, ReadsBehindName, begins_async, ReadsMethod, ReadsShorthand, ReadsValue, TakesProperty, ends_name_kinds, flags_of_form, form_of, function_label, kind_of_form, method_left, property_label};
 ghost use Rattle.js_parsing.specs.Answers.{Answers};
 ghost use Rattle.js_parsing.specs.Lexemes.{may_name, read_word};
 ghost use Rattle.js_parsing.specs.Lists.{ReadsItem};
