@@ -1,5 +1,6 @@
 pub mod ArgumentLists
 pub mod Arrays
+mod AsyncMethods
 pub mod AsyncWords
 mod FlagFaults
 pub mod Functions

@@ -178,10 +178,16 @@ module _ {text : List ℕ} {f : Flags} {p q : Parser} (a : At text f p) (r : rea
       go true true false k e w h = at_async k (same_line m.at w ▹✗ behind b e)
       go true false false k e w h = absurd (false≢true (sym h))
 
+  -- nor one without `async`
+  pub no_plain : one_of_kinds (LParen ∷ []) q.token.kind ≡ false → (c : Bool) → Fails rule (Lex text) (plain full) end (name c false f ▸ method_left Method false false f) p.prev_token_end
+  unfolding covers apart
+  no_plain h true = no_first no_bracket
+  no_plain h false = word_path ⟶✗ fails_at m.at (method_left Method false false f) (LParen ∷ []) refl h
+
   pub no_methods : ((c : Bool) → NoAsyncMethod text c f p.prev_token_end) → one_of_kinds (LParen ∷ []) q.token.kind ≡ false → (c : Bool) → Fails rule (Lex text) behind_item end (with_method c f) p.prev_token_end
   unfolding covers apart
   no_methods k h true = no_method a true no_star (k true) no_bracket
-  no_methods k h false = fails_node inside_full (without_star a false no_star (k false) ▹✗ (word_path ⟶✗ fails_at m.at (method_left Method false false f) (LParen ∷ []) refl h))
+  no_methods k h false = fails_node inside_full (without_star a false no_star (k false) ▹✗ no_plain h false)
 
   -- no accessor, where a name ends behind `get` and `set`
   no_getter_behind : one_of_kinds ends_name_kinds q.token.kind ≡ true → (c : Bool) → Fails rule (Lex text) behind_item end (getter_of c f) p.prev_token_end

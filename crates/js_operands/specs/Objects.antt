@@ -138,7 +138,7 @@ ReadsAccessor start form old new r = (text : List ℕ) (f : Flags) (first : Pars
 
 -- its `async` was passed, and what stands behind it on the line makes of it a method
 abbrev pub ReadsAsyncMethod : ℕ → Parser → Parser → Result NodeId Stop → Type 0
-ReadsAsyncMethod start old new r = (text : List ℕ) (f : Flags) (first : Parser) → At text f first → start ≡ first.token.span.start → first.token.kind ≡ Async → first.token.escaped ≡ false → Moved text f first old → PartOutcome text f (methods f) first new r
+ReadsAsyncMethod start old new r = (text : List ℕ) (f : Flags) (first : Parser) → At text f first → start ≡ first.token.span.start → first.token.kind ≡ Async → first.token.escaped ≡ false → one_of_kinds ends_name_kinds old.token.kind ≡ false → Moved text f first old → PartOutcome text f (methods f) first new r
 
 abbrev pub ReadsShorthand : Span → Parser → Parser → Result NodeId Stop → Type 0
 ReadsShorthand word old new r = (text : List ℕ) (f : Flags) (first : Parser) → At text f first → word ≡ first.token.span → IsName f first → Moved text f first old → PartOutcome text f (shorthand f) first new r
