@@ -203,9 +203,9 @@ fn try_parse_head_under<C: ParserConfig, N: Nested<C>>(
     ensures { MatchResult result (λ found. AttemptsHeadUnder inner p.old p.new found) OnlyMemory }
 {
     let outer = context(p);
-    let place = p.prev_token_end();
+    let start = p.prev_token_end();
     set_context(p, inner);
-    if p.arrow_failed(place) {
+    if p.arrow_failed(start) {
         set_context(p, outer);
         return Ok(None);
     }
@@ -213,7 +213,7 @@ fn try_parse_head_under<C: ParserConfig, N: Nested<C>>(
     let found = parse_parenthesized_head(p, nested)?;
     if found.is_none() {
         p.rewind(here);
-        p.note_arrow_failed(place)?;
+        p.note_arrow_failed(start)?;
     }
     set_context(p, outer);
     Ok(found)

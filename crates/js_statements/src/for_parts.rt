@@ -106,10 +106,7 @@ fn check_async<C: ParserConfig>(
     requires mark { Mark (goal p.old) p.old.text (unrelated_at ForLoopAsyncOf first.span) }
     ensures { IfOk result (λ _. ChecksAsync is_await first p.old p.new) }
 {
-    if is_await || !is_async_alone(p, first) {
-        return Ok(());
-    }
-    if !stands(p, Kind::Of) {
+    if is_await || !is_async_alone(p, first) || !stands(p, Kind::Of) {
         return Ok(());
     }
     p.error(diagnostic_at(DiagnosticKind::ForLoopAsyncOf, first.span()))?;
