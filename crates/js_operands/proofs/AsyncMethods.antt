@@ -22,10 +22,12 @@ use Rattle.js_parsing.specs.declared.nested.MethodForm.TheVariants.{Method}
 use Rattle.js_parsing.specs.Arguments.{Partway, behind_item}
 use Rattle.js_parsing.specs.Lexemes.{Lex, read_word}
 use Rattle.js_parsing.specs.Moves.{Moved}
-use Rattle.js_parsing.specs.States.{At}
+use Rattle.js_parsing.specs.States.{At, Same}
+use Rattle.js_parsing.specs.Nesting.{room}
 use Rattle.js_operands.specs.Objects.{async_line, begins_async, ends_name_kinds, method_left, methods, with_method}
 use Rattle.js_operands.specs.PropertyNames.{NameRead, NoName, NoNames}
-use Rattle.js_parsing.proofs.Moving.{moves}
+use Rattle.js_parsing.proofs.Moving.{moves, same_itself}
+use Rattle.js_parsing.proofs.Nesting.{nested_room}
 use Rattle.js_parsing.proofs.Parts.{part_from, part_goes, part_path_fails, part_sign, parts}
 use Rattle.js_parsing.proofs.Paths.{fails_at}
 use Rattle.js_parsing.proofs.Signs.{other_kind, plain_sign, whole_sign}
@@ -38,6 +40,32 @@ use Rattle.js_operands.proofs.WordProperties.{no_plain}
 star_plain : (is_word Star || same_kind PrivateIdentifier Star) ≡ false
 unfolding words
 star_plain = refl
+
+-- ---- a star that was passed, or not
+
+module _ {text : List ℕ} {f : Flags} {q r : Parser} (a : At text f q) where
+  star_moved : Eats Star q r true → Moved text f q r
+  star_moved (h, v) = moves (whole_sign Star a h.0 refl refl) v a
+
+  pub eaten_at : (s : Bool) → Eats Star q r s → At text f r
+  eaten_at true h = (star_moved h).at
+  eaten_at false (n, i) = subst (λ (v : Parser). At text f v) (sym i) a
+
+  pub eaten_same : (s : Bool) → Eats Star q r s → Same q r
+  eaten_same true h = (star_moved h).same
+  eaten_same false (n, i) = subst (λ (v : Parser). Same q v) (sym i) same_itself
+
+  pub eaten_kept : (s : Bool) → Eats Star q r s → r.errors ≡ q.errors
+  eaten_kept true h = (star_moved h).kept
+  eaten_kept false (n, i) = ap (λ (v : Parser). v.errors) i
+
+  pub eaten_room : (s : Bool) → Eats Star q r s → room r ≤ room q
+  eaten_room true h = let l = nested_room a (star_moved h) in omega arith
+  eaten_room false (n, i) = let l = ap room i in omega arith
+
+  pub eaten_further : (s : Bool) → Eats Star q r s → q.prev_token_end ≤ r.prev_token_end
+  eaten_further true h = let l = (star_moved h).further in let b = a.behind in omega arith
+  eaten_further false (n, i) = let l = ap (λ (v : Parser). v.prev_token_end) i in omega arith
 
 module _ {text : List ℕ} {f : Flags} {p q : Parser} (a : At text f p) (k : p.token.kind ≡ Async) (e : p.token.escaped ≡ false) (m : Moved text f p q) (w : q.token.is_on_new_line ≡ false) (z : one_of_kinds ends_name_kinds q.token.kind ≡ false) where
   begun : (c s : Bool) → Partway text f (async_line c s f) (only s (tok Star) ▸ nothing ▸ name c false f ▸ method_left Method true s f) p q [] []

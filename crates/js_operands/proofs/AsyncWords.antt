@@ -32,7 +32,7 @@ use Rattle.js_parsing.specs.Lexemes.{Lex, name_kinds, slashes}
 use Rattle.js_parsing.specs.Moves.{Moved}
 use Rattle.js_parsing.specs.Stands.{StandsHere}
 use Rattle.js_parsing.specs.States.{At}
-use Rattle.js_operands.specs.Functions.{FunctionBehind, FunctionHere, FunctionNext, function_line}
+use Rattle.js_operands.specs.Functions.{BeginsFunction, FunctionBehind, FunctionHere, FunctionNext, function_line}
 use Rattle.js_operands.specs.declared.function.FunctionForm.TheVariants.{Expression}
 use Rattle.js_parsing.proofs.Ahead.{pass_over}
 use Rattle.js_parsing.proofs.Here.{angled, newline_here, one_plain, plain_there, plainly, told, told_plain, uncut}
@@ -203,3 +203,9 @@ pub by_next : {p q : Parser} (r : Result Bool Stop) → StandsHere p Function fa
 by_next (Ok true) n h x = (x.0, inr (h, x.1))
 by_next (Ok false) n h x = (x.0, (n, inr x.1))
 by_next (Err e) n h x = x
+
+pub found_so : {p q : Parser} {r b : Bool} → r ≡ b → FunctionHere p q r → FunctionHere p q b
+found_so {p} {q} e h = subst (λ (c : Bool). FunctionHere p q c) e h
+
+pub begun_at : {p q : Parser} → FunctionHere p q true → BeginsFunction q
+begun_at h = subst (λ (v : Parser). BeginsFunction v) (sym h.0) h.1
