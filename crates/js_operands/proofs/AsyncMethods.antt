@@ -43,7 +43,7 @@ star_plain = refl
 
 -- ---- a star that was passed, or not
 
-module _ {text : List ℕ} {f : Flags} {q r : Parser} (a : At text f q) where
+module _ {text : List ℕ} {f : Flags} {q : Parser} (r : Parser) (a : At text f q) where
   star_moved : Eats Star q r true → Moved text f q r
   star_moved (h, v) = moves (whole_sign Star a h.0 refl refl) v a
 

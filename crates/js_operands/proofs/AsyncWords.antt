@@ -190,8 +190,8 @@ module _ {text : List ℕ} {f : Flags} {p : Parser} (a : At text f p) where
 
 -- ---- what is answered of it
 
-pub here_so : {p : Parser} {k : Kind} {r b : Bool} → r ≡ b → StandsHere p k r → StandsHere p k b
-here_so {p} {k} e h = subst (λ (c : Bool). StandsHere p k c) e h
+pub here_so : (p : Parser) (k : Kind) {r b : Bool} → r ≡ b → StandsHere p k r → StandsHere p k b
+here_so p k e h = subst (λ (c : Bool). StandsHere p k c) e h
 
 pub begins_there : {p : Parser} → StandsHere p Function true → FunctionHere p p true
 begins_there h = (refl, inl h)
@@ -199,13 +199,13 @@ begins_there h = (refl, inl h)
 pub none_there : {p : Parser} → StandsHere p Function false → StandsHere p Async false → FunctionHere p p false
 none_there n m = (refl, (n, inl m))
 
-pub by_next : {p q : Parser} (r : Result Bool Stop) → StandsHere p Function false → StandsHere p Async true → MatchResult r (λ b. FunctionBehind p q b) OnlyMemory → MatchResult r (λ b. FunctionHere p q b) OnlyMemory
-by_next (Ok true) n h x = (x.0, inr (h, x.1))
-by_next (Ok false) n h x = (x.0, (n, inr x.1))
-by_next (Err e) n h x = x
+pub by_next : (p q : Parser) (r : Result Bool Stop) → StandsHere p Function false → StandsHere p Async true → MatchResult r (λ b. FunctionBehind p q b) OnlyMemory → MatchResult r (λ b. FunctionHere p q b) OnlyMemory
+by_next p q (Ok true) n h x = (x.0, inr (h, x.1))
+by_next p q (Ok false) n h x = (x.0, (n, inr x.1))
+by_next p q (Err e) n h x = x
 
-pub found_so : {p q : Parser} {r b : Bool} → r ≡ b → FunctionHere p q r → FunctionHere p q b
-found_so {p} {q} e h = subst (λ (c : Bool). FunctionHere p q c) e h
+pub found_so : (p q : Parser) {r b : Bool} → r ≡ b → FunctionHere p q r → FunctionHere p q b
+found_so p q e h = subst (λ (c : Bool). FunctionHere p q c) e h
 
 pub begun_at : {p q : Parser} → FunctionHere p q true → BeginsFunction q
 begun_at h = subst (λ (v : Parser). BeginsFunction v) (sym h.0) h.1

@@ -60,7 +60,7 @@ no_word_of ls d k h = go (one_of_kinds ls k) refl
 no_sign_of : (a b k : Kind) → one_of_kinds (a ∷ b ∷ []) k ≡ false → (one_of_kinds (a ∷ []) k ≡ false) × (one_of_kinds (b ∷ []) k ≡ false)
 no_sign_of a b k h = let z = neither (same_kind a k) (same_kind b k || false) h in (ap (λ (x : Bool). x || false) z.0, z.1)
 
-no_kind_of : (a b k : Kind) (ks : List Kind) → one_of_kinds (a ∷ b ∷ ks) k ≡ false → (one_of_kinds (a ∷ []) k ≡ false) × (one_of_kinds (b ∷ []) k ≡ false) × (one_of_kinds ks k ≡ false)
+pub no_kind_of : (a b k : Kind) (ks : List Kind) → one_of_kinds (a ∷ b ∷ ks) k ≡ false → (one_of_kinds (a ∷ []) k ≡ false) × (one_of_kinds (b ∷ []) k ≡ false) × (one_of_kinds ks k ≡ false)
 no_kind_of a b k ks h = let z = neither (same_kind a k) _ h in let y = neither (same_kind b k) _ z.1 in (ap (λ (x : Bool). x || false) z.0, ap (λ (x : Bool). x || false) y.0, y.1)
 
 module _ {text : List ℕ} {f : Flags} {p : Parser} (a : At text f p) where
