@@ -166,12 +166,12 @@ module _ {text : List ℕ} {f : Flags} {p : Parser} (a : At text f p) where
         behind n true w = no_same_line m.at w
         behind n false w = same_line m.at w ▹✗ part_fails {X' = plain full} (fails_lexeme (is Function) (λ y l h. n text f a y (subst (λ (v : ℕ). Lex text v y) (sym (m.tells.end ∙ m.ends)) l) (sym (kind_of_same Function y.kind (and_parts (same_kind Function y.kind) (not y.escaped) h).0)) (newline_here m.at y l ∙ w))) any_between
 
+        elsewhere : one_of_kinds (Async ∷ []) p.token.kind ≡ false → Fails rule (Lex text) (plain full) end ((tok Async ▸ no_newline) ▸ tok Function ▸ g) p.prev_token_end
+        elsewhere k = part_fails {X' = plain full} (part_fails {X' = plain full} (fails_at a (tok Async) (Async ∷ []) refl k) any_between) any_between
+
         at_async : FunctionNext p false → (b : Bool) → same_kind Async p.token.kind ≡ b → Fails rule (Lex text) (plain full) end ((tok Async ▸ no_newline) ▸ tok Function ▸ g) p.prev_token_end
         at_async n true k = part_path_fails (part_within (part_sign Async a (sym (kind_of_same Async p.token.kind k)) u refl m)) (behind n q.token.is_on_new_line refl)
         at_async n false k = elsewhere (ap (λ (b : Bool). b || false) k)
-
-        elsewhere : one_of_kinds (Async ∷ []) p.token.kind ≡ false → Fails rule (Lex text) (plain full) end ((tok Async ▸ no_newline) ▸ tok Function ▸ g) p.prev_token_end
-        elsewhere k = part_fails {X' = plain full} (part_fails {X' = plain full} (fails_at a (tok Async) (Async ∷ []) refl k) any_between) any_between
 
         by : StandsHere p Async false ⊎ FunctionNext p false → Fails rule (Lex text) (plain full) end ((tok Async ▸ no_newline) ▸ tok Function ▸ g) p.prev_token_end
         by (inl n) = elsewhere (other_kind Async p.token.kind (λ k. n k u))

@@ -238,10 +238,10 @@ leaf_under text f p q nk o k (Err Fatal) r path a e n m = absurd m
 leaf_under text f p q nk o k (Err NoMemory) r path a e n m = tt
 
 -- a name
-pub name_outcome : {text : List ℕ} {f : Flags} {p q : Parser} (r : Result NodeId Stop) → At text f p → may_name f.yield_ f.await_ p.token.kind ≡ true → p.token.escaped ≡ false → NoFunctionHere p → MatchResult r (λ id. TakesLeaf node.IdentifierReference op.None p q id) OnlyMemory → Outcome text f (at Primary f) p q r
-name_outcome {text} {f} (Ok id) a h n z m = leaf_made refl (λ q s. name_path a h n z s) (m text f a)
-name_outcome (Err Fatal) a h n z m = absurd m
-name_outcome (Err NoMemory) a h n z m = tt
+pub name_outcome : {text : List ℕ} {f : Flags} {p : Parser} (q : Parser) (r : Result NodeId Stop) → At text f p → may_name f.yield_ f.await_ p.token.kind ≡ true → p.token.escaped ≡ false → NoFunctionHere p → MatchResult r (λ id. TakesLeaf node.IdentifierReference op.None p q id) OnlyMemory → Outcome text f (at Primary f) p q r
+name_outcome {text} {f} q (Ok id) a h n z m = leaf_made refl (λ q s. name_path a h n z s) (m text f a)
+name_outcome q (Err Fatal) a h n z m = absurd m
+name_outcome q (Err NoMemory) a h n z m = tt
 
 pub leaf_outcome : (text : List ℕ) (f : Flags) (p q : Parser) (nk : NodeKindMade) (o : OpMade) (k : Kind) (r : Result NodeId Stop) → same_row after_expression (row_of (plain_label nk o p.token.span) end) ≡ true → Leaf (kind_of nk) (op_of o) k → At text f p → p.token.kind ≡ k → p.token.escaped ≡ false → MatchResult r (λ id. TakesLeaf nk o p q id) OnlyMemory → Outcome text f (at Primary f) p q r
 leaf_outcome text f p q nk o k r e path = leaf_under text f p q nk o k r e (path text f)

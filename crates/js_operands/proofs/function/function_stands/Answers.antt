@@ -5,7 +5,7 @@ pub returns-then-stands : goal.returns-then-stands
 returns-then-stands g c = begins_there (here_so _ _ c.if-stands.true c.stands.ensures)
 
 pub returns-then-not-stands : goal.returns-then-not-stands
-returns-then-not-stands g c = none_there (here_so _ _ c.if-stands.false c.stands.ensures) (here_so _ _ c.if-not-stands.false c.stands-2.ensures)
+returns-then-not-stands g c = none_there (here_so _ _ c.if-stands.false c.stands.ensures) (here_so _ _ c.if-not-stands.true c.stands-2.ensures)
 
 pub returns : goal.returns
-returns g c = by_next _ _ _ (here_so _ _ c.if-stands.false c.stands.ensures) (here_so _ _ c.if-not-stands.true c.stands-2.ensures) c.is_function_behind.ensures
+returns g c = by_next _ _ _ (here_so _ _ c.if-stands.false c.stands.ensures) (here_so _ _ c.if-not-stands.false c.stands-2.ensures) c.is_function_behind.ensures

@@ -13,8 +13,8 @@ advance-requires-clause-at g c = standing (word_at _ c.requires.at c.requires.wo
 pub advance-requires-clause-whole : goal.advance-requires-clause-whole
 advance-requires-clause-whole g c = whole_sign Function (word_at _ c.requires.at c.requires.word c.in_ok-is_async.is_async c.in_ok-is_async.ensures) (word_here _ c.requires.at c.requires.word c.in_ok-is_async.is_async c.in_ok-is_async.ensures).0 refl refl
 
-pub eat-2-requires : goal.eat-2-requires
-eat-2-requires g c = (c.in_ok-advance.ensures _ _ (word_at _ c.requires.at c.requires.word c.in_ok-is_async.is_async c.in_ok-is_async.ensures)).at.at
+pub eat-requires-2 : goal.eat-requires-2
+eat-requires-2 g c = (c.in_ok-advance.ensures _ _ (word_at _ c.requires.at c.requires.word c.in_ok-is_async.is_async c.in_ok-is_async.ensures)).at.at
 
 pub parse_function_name-requires : goal.parse_function_name-requires
 parse_function_name-requires g c = standing (star_at c.args.form c.requires.at c.requires.word c.in_ok-is_async.is_async c.in_ok-is_async.ensures (c.in_ok-advance.ensures _ _ (word_at _ c.requires.at c.requires.word c.in_ok-is_async.is_async c.in_ok-is_async.ensures)) c.in_ok-is_generator.is_generator c.eat-2.new.self c.in_ok-is_generator.ensures)
