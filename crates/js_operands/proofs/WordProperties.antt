@@ -170,7 +170,7 @@ module _ {text : List ℕ} {f : Flags} {p q : Parser} (a : At text f p) (r : rea
       behind false e = done ▹✗ (done ▹✗ no_first (no_name_begins m.at c (kinds_apart ends_name_kinds property_name_kinds refl q.token.kind e)))
 
       at_async : same_kind Async p.token.kind ≡ true → Fails rule (Lex text) (plain full) end (no_newline ▸ only b (tok Star) ▸ nothing ▸ name c false f ▸ method_left Method true b f) q.prev_token_end → Fails rule (Lex text) (plain full) end (async_line c b f) p.prev_token_end
-      at_async k i = part_path_fails (part_within (part_sign Async a (sym (kind_of_same Async p.token.kind k)) n refl m)) i
+      at_async k i = part_path_fails {ids = []} {js = []} (part_within (part_sign Async a (sym (kind_of_same Async p.token.kind k)) n refl m)) i
 
       go : (x y z : Bool) → same_kind Async p.token.kind ≡ x → one_of_kinds ends_name_kinds q.token.kind ≡ y → q.token.is_on_new_line ≡ z → (if y || z then false else x) ≡ false → Fails rule (Lex text) (plain full) end (async_line c b f) p.prev_token_end
       go false y z k e w h = no_async_line a c (ap (λ (x : Bool). x || false) k) b

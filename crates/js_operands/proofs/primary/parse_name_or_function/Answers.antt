@@ -15,25 +15,25 @@ use Rattle.js_operands.proofs.Operands.{name_outcome}
 use Rattle.js_operands.proofs.primary.parse_name_or_function.Goals as goal
 
 pub parse_function_expression-requires-clause-at : goal.parse_function_expression-requires-clause-at
-parse_function_expression-requires-clause-at g c = subst (λ (v : Parser). Standing v) (sym (found_so _ _ c.if-branch.true c.in_ok-function_stands.ensures).0) c.requires.at
+parse_function_expression-requires-clause-at g c = subst (λ (v : Parser). Standing v) (sym (found_so c.args.p.now c.function_stands.new.p c.if-branch.true c.in_ok-function_stands.ensures).0) c.requires.at
 
 pub parse_function_expression-requires-clause-nests : goal.parse_function_expression-requires-clause-nests
-parse_function_expression-requires-clause-nests g c = subst (λ (v : Parser). CanNest _ (room v)) (sym (found_so _ _ c.if-branch.true c.in_ok-function_stands.ensures).0) c.requires.nests
+parse_function_expression-requires-clause-nests g c = subst (λ (v : Parser). CanNest _ (room v)) (sym (found_so c.args.p.now c.function_stands.new.p c.if-branch.true c.in_ok-function_stands.ensures).0) c.requires.nests
 
 pub parse_function_expression-requires-clause-word : goal.parse_function_expression-requires-clause-word
-parse_function_expression-requires-clause-word g c = begun_at (found_so _ _ c.if-branch.true c.in_ok-function_stands.ensures)
+parse_function_expression-requires-clause-word g c = begun_at (found_so c.args.p.now c.function_stands.new.p c.if-branch.true c.in_ok-function_stands.ensures)
 
 pub returns-then-branch : goal.returns-then-branch
-returns-then-branch g c = subst (λ (v : Parser). Answers (at Primary) v _ _) (found_so _ _ c.if-branch.true c.in_ok-function_stands.ensures).0 c.parse_function_expression.ensures
+returns-then-branch g c = subst (λ (v : Parser). Answers (at Primary) v _ _) (found_so c.args.p.now c.function_stands.new.p c.if-branch.true c.in_ok-function_stands.ensures).0 c.parse_function_expression.ensures
 
 pub parse_leaf-requires-clause-at : goal.parse_leaf-requires-clause-at
-parse_leaf-requires-clause-at g c = subst (λ (v : Parser). Standing v) (sym (found_so _ _ c.if-branch.false c.in_ok-function_stands.ensures).0) c.requires.at
+parse_leaf-requires-clause-at g c = subst (λ (v : Parser). Standing v) (sym (found_so c.args.p.now c.function_stands.new.p c.if-branch.false c.in_ok-function_stands.ensures).0) c.requires.at
 
 pub parse_leaf-requires-clause-whole : goal.parse_leaf-requires-clause-whole
-parse_leaf-requires-clause-whole g c = subst (λ (v : Parser). IsWholeHere v) (sym (found_so _ _ c.if-branch.false c.in_ok-function_stands.ensures).0) (name_whole c.requires.at (listed_here _ c.requires.name))
+parse_leaf-requires-clause-whole g c = subst (λ (v : Parser). IsWholeHere v) (sym (found_so c.args.p.now c.function_stands.new.p c.if-branch.false c.in_ok-function_stands.ensures).0) (name_whole c.requires.at (listed_here _ c.requires.name))
 
 pub returns : goal.returns
 returns g c = λ text f a.
-    let s = found_so _ _ c.if-branch.false c.in_ok-function_stands.ensures in
+    let s = found_so c.args.p.now c.function_stands.new.p c.if-branch.false c.in_ok-function_stands.ensures in
     let n = name_at true a c.requires.name in
     name_outcome _ c.parse_leaf.result a n.0 n.1 s.1 (subst (λ (v : Parser). MatchResult c.parse_leaf.result (λ id. TakesLeaf node.IdentifierReference op.None v _ id) OnlyMemory) s.0 c.parse_leaf.ensures)
