@@ -66,7 +66,7 @@ use Rattle.js_parsing.proofs.Giving.{gives_up, gives_up_here}
 use Rattle.js_parsing.proofs.Classes.{here_ends}
 use Rattle.js_base.specs.declared.diagnostic.DiagnosticKind.TheVariants.{ExpectToken}
 use Rattle.js_parsing.proofs.Slashes.{slash_there}
-use Rattle.js_operands.proofs.Operands.{name_slashless}
+use Rattle.js_operands.proofs.Operands.{name_signless}
 
 -- a path, and a choice at its end
 infixl 19 ◌⟝◌
@@ -428,7 +428,7 @@ module _ {text : List ℕ} {f : Flags} {p q : Parser} (a : At text f p) (x : Ans
           go false e = absurd (not_here x.at (Colon ∷ []) refl (rw e refl) z h (or_left (same_kind Colon z.kind) false (and_parts (same_kind Colon z.kind) _ c).0))
 
       label : Lexes (Lex text) q.prev_token_end (next z rest) → y.to ≡ q.prev_token_end → IsLabel p.token q
-      label h e = let k = told a (name_whole a token_kind).0 (name_slashless p.token.kind token_kind) y l in record { colon = colon_kind h.0; name = sym (names_at x.at (λ (b : Bool). b) p.token.kind) ∙ subst (λ (v : Kind). may_name f.yield_ f.await_ v ≡ true) (sym k.kind) (test_named f y l.1 t); plain = k.escaped ∙ read_plain y l.1; place = k.end ∙ e }
+      label h e = let k = told a (name_whole a token_kind).0 (name_signless p.token.kind token_kind) y l in record { colon = colon_kind h.0; name = sym (names_at x.at (λ (b : Bool). b) p.token.kind) ∙ subst (λ (v : Kind). may_name f.yield_ f.await_ v ≡ true) (sym k.kind) (test_named f y l.1 t); plain = k.escaped ∙ read_plain y l.1; place = k.end ∙ e }
 
   pub no_label : (X : Test) → Fails rule (Lex text) X end (symbol Labeled f) p.prev_token_end
   no_label X = labels_fail (λ y z rest l i t c. two_stand y z rest l i.0 i t c)
