@@ -77,6 +77,7 @@ none_told a e y l = false≢true (sym (ap (one_of_kinds read_kinds) (kind_here a
 
 -- at a brace a choice is cut down to what begins with it, or with a part of a template that may stand in its place
 pub at_brace : {text : List ℕ} {f : Flags} {q : Parser} {X : Test} {g : G} → At text f q → q.token.kind ≡ kind.RCurly → Goes rule (Lex text) X end g q.prev_token_end (pick first_of X.base g (kind.RCurly ∷ template_tails)) q.prev_token_end (λ us. us) (still 0)
+unfolding apart
 at_brace a e = at_kinds a (kind.RCurly ∷ template_tails) refl (ap (one_of_kinds (kind.RCurly ∷ template_tails)) e)
 
 module _ {text : List ℕ} {f : Flags} {q : Parser} (a : At text f q) where

@@ -186,9 +186,9 @@ slash_read = refl
 abbrev a_part : Look
 a_part k w e = one_of_kinds other_goals k && not (same_kind RegExp k)
 
-part_omits : (p : Look) → covers a_part (may_omit p) ≡ true
+part_omits : (r : Row) → covers a_part (may_omit (goes_on r)) ≡ true
 unfolding covers
-part_omits p = refl
+part_omits r = at_row (λ r. covers a_part (may_omit (goes_on r))) refl r
 
 abbrev stays : Row → Look
 stays r k w e = looser 1 true r k w e || beside k w e
@@ -248,7 +248,7 @@ module _ {text : List ℕ} {f : Flags} {q : Parser} (a : At text f q) where
 
   -- Before a regular expression on a new line a semicolon is left out wherever one is before the sign that may stand in its place; before a part of a template one is, as before the brace.
   pattern_omitted : (S : Row → Look) → ((r : Row) → covers (λ k w e. slash_on_line k w e && S r k w e) (pattern_omits r) ≡ true) → (r : Row) → ((z : Lexeme) → Plain text q.prev_token_end z → IsTrue (seen (S r) z)) → q.token.is_on_new_line ≡ true → (y : Lexeme) → Lex text q.prev_token_end y → one_of_kinds other_goals y.kind ≡ true → (b : Bool) → same_kind RegExp y.kind ≡ b → IsTrue (seen (may_omit (goes_on r)) y)
-  pattern_omitted S c r s w y l o false n = covered a_part (may_omit (goes_on r)) (part_omits (goes_on r)) y.kind y.newline y.escaped (and_from _ _ o (ap not n))
+  pattern_omitted S c r s w y l o false n = covered a_part (may_omit (goes_on r)) (part_omits r) y.kind y.newline y.escaped (and_from _ _ o (ap not n))
   pattern_omitted S c r s w y l h true i =
       let e : y.kind ≡ RegExp = sym (kind_of_same RegExp y.kind i) in
       let z = sign_there l.0 h in
