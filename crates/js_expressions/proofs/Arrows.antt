@@ -120,11 +120,11 @@ AllCalm (and_more {x = x} p o) = (calm x.kind ≡ true) × AllCalm o
 
 -- two lists of lexemes from one place go on alike, where those of the first are so
 agree : (text : List ℕ) (s : ℕ) {st : List ℕ} {ls ls' r r' : Lexemes} {e e' : ℕ} → Lexes (Lex text) s ls → Lexes (Lex text) s ls' → (o : One st ls e r) → One st ls' e' r' → AllCalm o → (e ≡ e') × Lexes (Lex text) e r × Lexes (Lex text) e' r'
-agree text s l m (the_last {x = x} p) (the_last {x = y} q) c = (ap (λ (z : Lexeme). z.to) (one_move l.0 m.0 c p q), l.1, m.1)
-agree text s {st = st} l m (the_last {x = x} p) (and_more {x = y} q o) c = absurd (none_open (sym p ∙ (ap (λ (z : Lexeme). move (bracket z.kind) st) (one_move l.0 m.0 c p q) ∙ q)))
-agree text s {st = st} l m (and_more {x = x} p o) (the_last {x = y} q) c = absurd (none_open (sym q ∙ (ap (λ (z : Lexeme). move (bracket z.kind) st) (sym (one_move l.0 m.0 c.0 p q)) ∙ p)))
+agree text s {st = st} l m (the_last {x = x} p) (the_last {x = y} q) c = (ap (λ (z : Lexeme). z.to) (one_move st l.0 m.0 c p q), l.1, m.1)
+agree text s {st = st} l m (the_last {x = x} p) (and_more {x = y} q o) c = absurd (none_open (sym p ∙ (ap (λ (z : Lexeme). move (bracket z.kind) st) (one_move st l.0 m.0 c p q) ∙ q)))
+agree text s {st = st} l m (and_more {x = x} p o) (the_last {x = y} q) c = absurd (none_open (sym q ∙ (ap (λ (z : Lexeme). move (bracket z.kind) st) (sym (one_move st l.0 m.0 c.0 p q)) ∙ p)))
 agree text s {st = st} {r' = r'} {e' = e'} l m (and_more {b = b} {s = t} {x = x} p o) (and_more {b = c} {s = u} {x = y} {ls = ls'} q o') d =
-    let w : x ≡ y = one_move l.0 m.0 d.0 p q in
+    let w : x ≡ y = one_move st l.0 m.0 d.0 p q in
     let v : Some (c ∷ u) ≡ Some (b ∷ t) = sym q ∙ (ap (λ (z : Lexeme). move (bracket z.kind) st) (sym w) ∙ p) in
     let z : c ∷ u ≡ b ∷ t = cc in
     agree text x.to l.1 (subst (λ (x : Lexeme). Lexes (Lex text) x.to ls') (sym w) m.1) o (subst (λ (n : List ℕ). One n ls' e' r') z o') d.1

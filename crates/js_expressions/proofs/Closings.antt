@@ -214,18 +214,18 @@ module _ {text : List ℕ} {start place : ℕ} {old : List OpenBracket} (new : L
 
 -- ---- the lexemes of an operand go the same way
 
-one_is : {text : List ℕ} {s : ℕ} {x y : Lexeme} {st u v : List ℕ} → Lex text s x → Settled text s y → move (bracket x.kind) st ≡ Some u → move (bracket y.kind) st ≡ Some v → x ≡ y
-one_is l h p q = one_plain_move l h.0 h.1 p q
+one_is : {text : List ℕ} {s : ℕ} {x y : Lexeme} (st : List ℕ) {u v : List ℕ} → Lex text s x → Settled text s y → move (bracket x.kind) st ≡ Some u → move (bracket y.kind) st ≡ Some v → x ≡ y
+one_is st l h p q = one_plain_move st l h.0 h.1 p q
 
 none_left : {b : ℕ} {s : List ℕ} → Some [] ≡ Some (b ∷ s) → ⊥
 none_left e = cc
 
 pub closes_alike : (text : List ℕ) (s : ℕ) {st : List ℕ} {ls r : Lexemes} {e e' : ℕ} → Lexes (Lex text) s ls → One st ls e r → Closing text st s e' → (e ≡ e') × Lexes (Lex text) e r
-closes_alike text s l (the_last {x = x} p) (closed {y = y} h q) = (ap (λ (z : Lexeme). z.to) (one_is l.0 h p q), l.1)
-closes_alike text s {st = st} l (the_last {x = x} p) (inside {y = y} h q c) = absurd (none_left (sym p ∙ (ap (λ (z : Lexeme). move (bracket z.kind) st) (one_is l.0 h p q) ∙ q)))
-closes_alike text s {st = st} l (and_more {x = x} p o) (closed {y = y} h q) = absurd (none_left (sym q ∙ (ap (λ (z : Lexeme). move (bracket z.kind) st) (sym (one_is l.0 h p q)) ∙ p)))
+closes_alike text s {st = st} l (the_last {x = x} p) (closed {y = y} h q) = (ap (λ (z : Lexeme). z.to) (one_is st l.0 h p q), l.1)
+closes_alike text s {st = st} l (the_last {x = x} p) (inside {y = y} h q c) = absurd (none_left (sym p ∙ (ap (λ (z : Lexeme). move (bracket z.kind) st) (one_is st l.0 h p q) ∙ q)))
+closes_alike text s {st = st} l (and_more {x = x} p o) (closed {y = y} h q) = absurd (none_left (sym q ∙ (ap (λ (z : Lexeme). move (bracket z.kind) st) (sym (one_is st l.0 h p q)) ∙ p)))
 closes_alike text s {st = st} {e = e} {e' = e'} l (and_more {b = b} {s = t} {x = x} {ls = ls} {rest = r} p o) (inside {u = v} {b = c} {y = y} h q d) =
-    let w : x ≡ y = one_is l.0 h p q in
+    let w : x ≡ y = one_is st l.0 h p q in
     let g : Some (b ∷ t) ≡ Some (c ∷ v) = sym p ∙ (ap (λ (z : Lexeme). move (bracket z.kind) st) w ∙ q) in
     let z : b ∷ t ≡ c ∷ v = cc in
     closes_alike text y.to (subst (λ (k : Lexeme). Lexes (Lex text) k.to ls) w l.1) (subst (λ (n : List ℕ). One n ls e r) z o) d

@@ -82,14 +82,12 @@ brace_open : (st : List ℕ) {u : List ℕ} → move (bracket RCurly) st ≡ Som
 unfolding bracket move
 brace_open st m = last_open 3 st m
 
+other_bracket : {s t : List ℕ} → 4 ∷ s ≡ 3 ∷ t → ⊥
+other_bracket e = cc
+
 -- a part of a template and a brace don't close the same bracket
 never_both : (k : Kind) (st : List ℕ) {u v : List ℕ} → one_of_kinds template_tails k ≡ true → move (bracket k) st ≡ Some u → move (bracket RCurly) st ≡ Some v → ⊥
-never_both k st h m n =
-    let a = tail_open k st h m in
-    let b = brace_open st n in
-    let e : 4 ∷ a.0 ≡ 3 ∷ b.0 = sym a.1 ∙ b.1 in
-    let d : 4 ≡ 3 = cc in
-    absurd (omega arith)
+never_both k st h m n = other_bracket (sym (tail_open k st h m).1 ∙ (brace_open st n).1)
 
 -- ---- the lexemes behind a place
 
@@ -122,19 +120,19 @@ pub one_alone : {text : List ℕ} {s : ℕ} {x y : Lexeme} → Lex text s x → 
 one_alone l m o n = sym (one_told m (record { lex = l.0; of_goal = plainly l.0 l.1 o }) n)
 
 -- where both move on from the same open brackets, a part of a template doesn't begin with the other one
-no_part : {x y : Lexeme} {st u v : List ℕ} → BeginsWith x y → same_kind RegExp x.kind ≡ false → move (bracket x.kind) st ≡ Some u → move (bracket y.kind) st ≡ Some v → ⊥
-no_part {x} {y} {st} {u} {v} i n p q = never_both x.kind st (tail_of x.kind i.0 n) p (subst (λ (k : Kind). move (bracket k) st ≡ Some v) (brace_of x.kind y.kind i.0 n i.1) q)
+no_part : (x y : Lexeme) (st : List ℕ) {u v : List ℕ} → BeginsWith x y → same_kind RegExp x.kind ≡ false → move (bracket x.kind) st ≡ Some u → move (bracket y.kind) st ≡ Some v → ⊥
+no_part x y st {u} {v} i n p q = never_both x.kind st (tail_of x.kind i.0 n) p (subst (λ (k : Kind). move (bracket k) st ≡ Some v) (brace_of x.kind y.kind i.0 n i.1) q)
 
-pub one_plain_move : {text : List ℕ} {s : ℕ} {x y : Lexeme} {st u v : List ℕ} → Lex text s x → LexemeBehind division text s y → one_of_kinds slashes y.kind ≡ false → move (bracket x.kind) st ≡ Some u → move (bracket y.kind) st ≡ Some v → x ≡ y
-one_plain_move {text} {s} {x} {y} l h n p q = go (beside_plain l h)
+pub one_plain_move : {text : List ℕ} {s : ℕ} {x y : Lexeme} (st : List ℕ) {u v : List ℕ} → Lex text s x → LexemeBehind division text s y → one_of_kinds slashes y.kind ≡ false → move (bracket x.kind) st ≡ Some u → move (bracket y.kind) st ≡ Some v → x ≡ y
+one_plain_move {text} {s} {x} {y} st l h n p q = go (beside_plain l h)
   where
     go : (x ≡ y) ⊎ BeginsWith x y → x ≡ y
     go (inl e) = e
-    go (inr i) = absurd (no_part i (unslashed x.kind y.kind i.1 n) p q)
+    go (inr i) = absurd (no_part x y st i (unslashed x.kind y.kind i.1 n) p q)
 
 -- two of which one begins with no slash
-pub one_move : {text : List ℕ} {s : ℕ} {x y : Lexeme} {st u v : List ℕ} → Lex text s x → Lex text s y → calm x.kind ≡ true → move (bracket x.kind) st ≡ Some u → move (bracket y.kind) st ≡ Some v → x ≡ y
-one_move {text} {s} {x} {y} l m c p q = go z.which (beside_plain l z.stands)
+pub one_move : {text : List ℕ} {s : ℕ} {x y : Lexeme} (st : List ℕ) {u v : List ℕ} → Lex text s x → Lex text s y → calm x.kind ≡ true → move (bracket x.kind) st ≡ Some u → move (bracket y.kind) st ≡ Some v → x ≡ y
+one_move {text} {s} {x} {y} st l m c p q = go z.which (beside_plain l z.stands)
   where
     k : (same_kind RegExp x.kind ≡ false) × (one_of_kinds slashes x.kind ≡ false)
     k = calm_kind x.kind c
@@ -154,8 +152,8 @@ one_move {text} {s} {x} {y} l m c p q = go z.which (beside_plain l z.stands)
 
     go : (z.lexeme ≡ y) ⊎ BeginsWith y z.lexeme → (x ≡ z.lexeme) ⊎ BeginsWith x z.lexeme → x ≡ y
     go (inl e) (inl d) = d ∙ e
-    go (inl e) (inr i) = absurd (no_part (subst (BeginsWith x) e i) k.0 p q)
-    go (inr j) (inl d) = let w = sign_same j d in absurd (no_part w (unslashed y.kind x.kind w.1 k.1) q p)
+    go (inl e) (inr i) = absurd (no_part x y st (subst (BeginsWith x) e i) k.0 p q)
+    go (inr j) (inl d) = let w = sign_same j d in absurd (no_part y x st w (unslashed y.kind x.kind w.1 k.1) q p)
     go (inr j) (inr i) = both i j
 
 -- where a part of a template may be read, a brace stands by the plain goal

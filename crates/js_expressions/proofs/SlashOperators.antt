@@ -16,7 +16,6 @@ use Rattle.js_grammar.specs.Follow.{after, first_edge, follow, looser, row_of, t
 use Rattle.js_grammar.specs.FirstSets.{first}
 use Rattle.js_grammar.proofs.FirstClaims.{firsts}
 use Rattle.js_grammar.proofs.FollowLaws.{counts_as_slash}
-use Rattle.js_grammar.proofs.Heads.{falsely}
 use Rattle.js_grammar.proofs.Looks.{apart, not_both, same_self}
 use Rattle.js_grammar.proofs.Loops.{Alone, Around, Step, listed, one_operator, part_at, step, step_fails}
 use Rattle.js_grammar.proofs.OperatorEdges.{level_looser, one_level, operator_edges, operator_exactly}
@@ -56,7 +55,11 @@ operator_apart : (f : Flags) (q : ℕ) {k : Kind} → OneOf k (operators_at f q)
 operator_apart f q {k} i h = not_both (an_operator f.in_ q) a_brace (operators_plain f.in_ q) k false false (listed (operators_at f q) i same_self) h
 
 pub operator_plain : (f : Flags) (q : ℕ) {k : Kind} → OneOf k (operators_at f q) → one_of_kinds other_goals k ≡ false
-operator_plain f q {k} i = falsely _ (λ h. operator_apart f q i (or_right (same_kind RCurly k) _ h))
+operator_plain f q {k} i = go (one_of_kinds other_goals k) refl
+  where
+    go : (b : Bool) → one_of_kinds other_goals k ≡ b → one_of_kinds other_goals k ≡ false
+    go true h = absurd (operator_apart f q i (or_right (same_kind RCurly k) _ h))
+    go false h = h
 
 -- of the two signs that may stand at a regular expression, the division sign alone is an operator between operands
 pub division_sign : (b : Bool) (k : Kind) → one_of_kinds slashes k ≡ true → 1 ≤ power_of b k → k ≡ Slash
