@@ -387,7 +387,7 @@ one_behind text s l (and_more {x = x} m o) = one_behind text x.to l.1 o
 lexeme_from : {text : List ℕ} {s : ℕ} {y : Lexeme} → Lex text s y → s ≤ y.from
 lexeme_from l = let e = l.0.from in omega arith
 
--- where a head was read whose lexemes are the same in every lexical goal, no operand is derived
+-- where a head was read, and none of its lexemes is a regular expression or a sign that begins with a slash, no operand is derived
 pub head_no_operand : {text : List ℕ} {f : Flags} {o p : Parser} {id : NodeId} → Head text f o p id → p.token.kind ≡ Arrow → ((ls r : Lexemes) (e : ℕ) → Lexes (Lex text) o.prev_token_end ls → (z : One [] ls e r) → e ≤ p.token.span.start → AllCalm z) → Underived text (at Short f) o.prev_token_end
 head_no_operand {text} {f} {o} {p} h k c =
     let y = arrow_here h.at k in
