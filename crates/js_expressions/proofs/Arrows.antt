@@ -138,7 +138,7 @@ unfolding covers
 heads_alone = refl
 
 same_head : {text : List ℕ} {s : ℕ} {x y : Lexeme} → Lex text s x → Lex text s y → IsTrue (seen begins_head x) → x ≡ y
-same_head {x = x} l m b = go (one_of_kinds other_goals x.kind) refl (one_of_kinds signs x.kind) refl (covered begins_head stands_alone heads_alone x.kind x.newline x.escaped b)
+same_head {x = x} {y = y} l m b = go (one_of_kinds other_goals x.kind) refl (one_of_kinds signs x.kind) refl (covered begins_head stands_alone heads_alone x.kind x.newline x.escaped b)
   where
     go : (a : Bool) → one_of_kinds other_goals x.kind ≡ a → (c : Bool) → one_of_kinds signs x.kind ≡ c → not (a || c) ≡ true → x ≡ y
     go true o c n h = absurd (false≢true h)
@@ -159,7 +159,7 @@ no_operand {text} f {s} {ls} {r} {e} l o c b k = record { no = λ ts vs j ls' re
         let w : here r ≡ here z.1 = same_arrow (here_at (Lex text) r g.1) (subst (λ (v : ℕ). Lex text v (here z.1)) (sym g.0) (here_at (Lex text) z.1 g.2)) (sym (kind_of_same Arrow (here r).kind k)) in
         let arrow : same_kind Arrow (here z.1).kind ≡ true = subst (λ (y : Lexeme). same_kind Arrow y.kind ≡ true) w k in
         elim z.3 [
-          | inl q ↦ no_arrow_admitted f ts m d a (ap (λ (v : Lexemes). same_kind Arrow (here v).kind) q ∙ arrow)
+          | inl q ↦ no_arrow_admitted text f ts m d a (ap (λ (v : Lexemes). same_kind Arrow (here v).kind) q ∙ arrow)
           | inr n ↦ false≢true (sym n ∙ arrow)
         ]
 
@@ -471,7 +471,7 @@ no_operand_there {text} {f} {p} a k h = record { no = λ ts vs j ls rest m d e. 
         let w : here z.1 ≡ h.arrow = one_told l (subst (λ (v : ℕ). LexemeBehind division text v h.arrow) (sym g.0) h.stands) (ap (one_of_kinds signs) h.is) in
         let arrow : same_kind Arrow (here z.1).kind ≡ true = ap (same_kind Arrow) (ap (λ (y : Lexeme). y.kind) w ∙ h.is) in
         elim z.3 [
-          | inl q ↦ no_arrow_admitted f ts m d e (ap (λ (v : Lexemes). same_kind Arrow (here v).kind) q ∙ arrow)
+          | inl q ↦ no_arrow_admitted text f ts m d e (ap (λ (v : Lexemes). same_kind Arrow (here v).kind) q ∙ arrow)
           | inr n ↦ false≢true (sym n ∙ arrow)
         ]
 

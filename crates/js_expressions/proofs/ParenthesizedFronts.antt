@@ -297,9 +297,9 @@ contrary true h e = false≢true h
 contrary false h e = false≢true e
 
 -- nor may it stand behind an operand
-pub no_arrow_admitted : {text : List ℕ} (f : Flags) (ts : Slots) {vs : Slots} {s j : ℕ} {ls rest : Lexemes} → Lexes (Lex text) s ls → Takes rule (such (at Short f) always) end ts s ls vs j rest → Admits (after (at Short f)) ts (here rest) → same_kind Arrow (here rest).kind ≡ true → ⊥
-no_arrow_admitted {text} f ts {j = j} {rest = rest} m d a q =
-    let l : Lex text j (here rest) = here_at (Lex text) rest (lexed_behind (Lex text) d m) in
+pub no_arrow_admitted : (source : List ℕ) (f : Flags) (ts : Slots) {vs : Slots} {s j : ℕ} {ls rest : Lexemes} → Lexes (Lex source) s ls → Takes rule (such (at Short f) always) end ts s ls vs j rest → Admits (after (at Short f)) ts (here rest) → same_kind Arrow (here rest).kind ≡ true → ⊥
+no_arrow_admitted source f ts {j = j} {rest = rest} m d a q =
+    let l : Lex source j (here rest) = here_at (Lex source) rest (lexed_behind (Lex source) d m) in
     contrary (seen (looser 4 f.in_ (first_row ts)) (here rest)) (covered an_arrow (λ k w e. not (looser 4 f.in_ (first_row ts) k w e)) (arrow_binds f.in_ (first_row ts) (row_claimed d)) (here rest).kind (here rest).newline (here rest).escaped (and_from _ _ q (ap not (read_plain (here rest) l.1)))) a.1
 
 -- where parentheses that are derived as arguments have `=>` behind them, no operand begins
@@ -315,4 +315,4 @@ no_operand_before {text} {f} {s} n k = record { no = λ ts vs j ls rest m d a. g
         by : (b : Bool) → same_kind Arrow (here z.2).kind ≡ b → (rest ≡ z.2) ⊎ (same_kind Arrow (here z.2).kind ≡ false) → ⊥
         by false e x = n.no z.0 end z.1 ls z.2 m z.3 (ap not e, refl)
         by true e (inr x) = false≢true (sym x ∙ e)
-        by true e (inl x) = no_arrow_admitted f ts m d a (ap (λ (v : Lexemes). same_kind Arrow (here v).kind) x ∙ e)
+        by true e (inl x) = no_arrow_admitted text f ts m d a (ap (λ (v : Lexemes). same_kind Arrow (here v).kind) x ∙ e)
