@@ -62,7 +62,7 @@ use Rattle.js_parsing.proofs.Moving.{standing, beside_nodes}
 use Rattle.js_parser.specs.Parsed.{options_of, IsAnswer}
 use Rattle.js_parser.specs.Readings.{parameters, ReadingBy, IsOnlyReadingBy, HasNoReadingBy}
 use Rattle.js_parser.specs.Taken.{FoundNothing, ReadOrNot, ProgramTaken, ProgramStops}
-use Rattle.js_parser.proofs.Answering.{first_empty, second_empty}
+use Rattle.js_parser.proofs.Lists.{first_empty, second_empty}
 use Rattle.js_base.specs.declared.source_type.Goal.TheVariants as source
 use Rattle.js_grammar.specs.Grammar.{Derives}
 use Rattle.js_grammar.specs.CoverInitialisers.{with_cover}
