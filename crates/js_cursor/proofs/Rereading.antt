@@ -27,7 +27,7 @@ use Rattle.js_lex.proofs.KindsOfLexemes.{plain_end, pattern_is, tail_is, hashban
 use Rattle.js_cursor.specs.Parsers.{Parser}
 use Rattle.js_cursor.specs.Tokens.{IsToken, whole, sign, nothing}
 use Rattle.js_cursor.specs.Places.{IsAt, IsFault, goal}
-use Rattle.js_cursor.specs.Moves.{ReadAgain, IsRegularExpression, Peeks}
+use Rattle.js_cursor.specs.Moves.{ReadAgain, IsRegularExpression, IsTemplatePart, Peeks}
 use Rattle.js_cursor.proofs.Moving.{stays, still_before}
 
 -- the signs in whose place a regular expression or a template part may be read
@@ -198,8 +198,12 @@ pub read_again_seen : {p q : Parser} → p ≡ q → {g : LexicalGoal} {l : Stat
 read_again_seen {p} {q} v {g} {l} {t} {going_on} {faults} a m x = subst (λ (r : Parser). ReadAgain g r (record p { lexer = l; token = t })) v (read_again (subst IsAt (sym v) a) (ap (λ (r : Parser). may_be_more r.token.kind) v ∙ m) x)
 
 -- the same where the lexer told the faults too
-pub template_seen : {p q : Parser} → p ≡ q → {l : State} {t : Token} → IsAt q → q.token.kind ≡ RCurly → (faults : List Diagnostic) × GivesAgain template_tail p.lexer l p.token t [] faults → ReadAgain template_tail q (record p { lexer = l; token = t })
-template_seen {p} {q} v a k x = read_again_seen v a (brace_may q.token.kind k) x.1
+template_again : {p : Parser} {l : State} {t : Token} → IsAt p → may_be_more p.token.kind ≡ true → (faults : List Diagnostic) × GivesAgain template_tail p.lexer l p.token t [] faults → IsTemplatePart p (record p { lexer = l; token = t })
+unfolding read_again
+template_again a m x = record { read = read_again a m x.1; quiet = refl }
+
+pub template_seen : {p q : Parser} → p ≡ q → {l : State} {t : Token} → IsAt q → q.token.kind ≡ RCurly → (faults : List Diagnostic) × GivesAgain template_tail p.lexer l p.token t [] faults → IsTemplatePart q (record p { lexer = l; token = t })
+template_seen {p} {q} v {l} {t} a k x = subst (λ (r : Parser). IsTemplatePart r (record p { lexer = l; token = t })) v (template_again (subst IsAt (sym v) a) (ap (λ (r : Parser). may_be_more r.token.kind) v ∙ brace_may q.token.kind k) x)
 
 regular_expression_again : {p : Parser} {l : State} {t : Token} {end : ℕ} → IsAt p → may_be_more p.token.kind ≡ true → (going_on : List Diagnostic) × (faults : List Diagnostic) × GivesAgain regular_expression p.lexer l p.token t going_on faults × FlagsStand p.lexer.text end t going_on → IsRegularExpression end p (record p { lexer = l; token = t })
 unfolding read_again

@@ -1,5 +1,5 @@
 -- What holds at another depth, and when a parser went back.
-use Rattle.std.proofs.Common.{ℕ, ◌+◌, ◌-◌, ◌≡◌, ◌≤◌, ◌<◌, List, length, take, refl, sym, ap, subst, arith, ◌∙◌}
+use Rattle.std.proofs.Common.{ℕ, ◌+◌, ◌-◌, ◌≡◌, ◌≤◌, List, length, take, refl, sym, ap, subst, arith, ◌∙◌}
 use Rattle.std.specs.Prelude.{IsCharBoundary}
 use Rattle.std.proofs.lemmas.List.Elements.{All-take, All-same}
 use Rattle.js_base.specs.declared.diagnostic.Diagnostic.{Diagnostic}

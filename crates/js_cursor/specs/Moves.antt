@@ -8,7 +8,7 @@ use Rattle.js_base.specs.declared.span.Span.{Span}
 use Rattle.js_base.specs.declared.token.Token.{Token}
 use Rattle.js_base.specs.Kinds.{same_kind}
 use Rattle.js_grammar.specs.Grammar.{Lexeme}
-use Rattle.js_grammar.specs.Lexemes.{LexicalGoal, division, regular_expression}
+use Rattle.js_grammar.specs.Lexemes.{LexicalGoal, division, regular_expression, template_tail}
 use Rattle.js_grammar.specs.Lexed.{Lex, all_faults}
 use Rattle.js_lex.specs.Reading.{Tells, GivesNext, GivesAgain, FlagsStand}
 use Rattle.js_lex.specs.States.{State, SameText}
@@ -68,6 +68,11 @@ pub record ReadAgain (goal : LexicalGoal) (old new : Parser) : Type 0 where
 pub record IsRegularExpression (end : ℕ) (old new : Parser) : Type 0 where
   pub read : ReadAgain regular_expression old new
   pub flags : FlagsStand old.text end new.token read.going_on
+
+-- a `}` was read again as the beginning of a template part, which has no faults of its own (12.9.6)
+pub record IsTemplatePart (old new : Parser) : Type 0 where
+  pub read : ReadAgain template_tail old new
+  pub quiet : read.going_on ≡ []
 
 -- what the lexer would give next, and nothing else
 pub record Peeks (p : Parser) (t : Token) : Type 0 where

@@ -9,7 +9,7 @@ ghost use Rattle.js_base.specs.Contexts.{has_flag, await_flag, yield_flag};
 ghost use Rattle.js_cursor.specs.Notes.{is_noted};
 ghost use Rattle.js_cursor.specs.Starts.{AtStart, Starts};
 ghost use Rattle.js_cursor.specs.Places.{IsAt};
-ghost use Rattle.js_cursor.specs.Moves.{IsWhole, Passed, Completed, ReadAgain, IsRegularExpression, Peeks, Told, MovesOn, OnlyMemory, Enters, Leaves, NotesArrow, NotesNoOperand};
+ghost use Rattle.js_cursor.specs.Moves.{IsWhole, Passed, Completed, ReadAgain, IsRegularExpression, IsTemplatePart, Peeks, Told, MovesOn, OnlyMemory, Enters, Leaves, NotesArrow, NotesNoOperand};
 
 use crate::kinds::{is_kind, is_last};
 use crate::state::ParserState;
@@ -247,7 +247,7 @@ impl<'a, C: ParserConfig> ParserImpl<'a, C> {
     pub fn re_lex_template_tail(&mut self) -> Result<(), Stop>
         requires at { IsAt self.old }
         requires kind { self.old.token.kind ≡ RCurly }
-        ensures { MatchResult result (λ _. ReadAgain template_tail self.old self.new) OnlyMemory }
+        ensures { MatchResult result (λ _. IsTemplatePart self.old self.new) OnlyMemory }
     {
         self.token = self.lexer.re_lex_template_tail(self.token)?;
         Ok(())

@@ -5,7 +5,7 @@ use Rattle.std.specs.Prelude.{IsCharBoundary, is_some, if◌then◌else◌}
 use Rattle.std.proofs.lemmas.Bool.{false≢true, and_from}
 use Rattle.js_base.specs.declared.diagnostic.Diagnostic.{Diagnostic}
 use Rattle.js_base.specs.declared.kind.Kind.{Kind}
-use Rattle.js_base.specs.declared.kind.Kind.TheVariants.{Question, Eq, RegExp}
+use Rattle.js_base.specs.declared.kind.Kind.TheVariants.{Question, Eq}
 use Rattle.js_base.specs.declared.operator.AssignmentOperator.{AssignmentOperator}
 use Rattle.js_base.specs.declared.span.Span.{Span}
 use Rattle.js_base.specs.Kinds.{same_kind, one_of_kinds}
@@ -35,7 +35,7 @@ use Rattle.js_cursor.specs.Parsers.{Parser}
 use Rattle.js_cursor.specs.Moves.{is_last}
 use Rattle.js_cursor.specs.Places.{goal}
 use Rattle.js_parsing.specs.Answers.{Underived, Answer, Numbered, Stretch, Verdict}
-use Rattle.js_parsing.specs.Lexemes.{Lex, Plain}
+use Rattle.js_parsing.specs.Lexemes.{Lex, Plain, other_goals}
 use Rattle.js_parsing.specs.Moves.{Moved, MadeHere, Tightness, plain_label}
 use Rattle.js_targets.specs.Taken.{no_target_at}
 use Rattle.js_parsing.specs.States.{At}
@@ -98,7 +98,7 @@ on_second f a ds s = record { admits = λ ts vs k ls rest d e. go ts vs d e }
     go ts vs (is_such d h) x = absurd (false≢true x.1)
 
 module _ {text : List ℕ} {f : Flags} {p q : Parser} (x : Answer text f (at Short f) p q) (na : OnlyOperand text f p.prev_token_end) (c : q.cut ≡ false) (u : one_of_kinds assign_operators q.token.kind ≡ true) where
-  sign_here : (y : Lexeme) → Lex text q.prev_token_end y → same_kind RegExp y.kind ≡ false → y.kind ≡ q.token.kind
+  sign_here : (y : Lexeme) → Lex text q.prev_token_end y → one_of_kinds other_goals y.kind ≡ false → y.kind ≡ q.token.kind
   sign_here y l r = sym (told_plain x.at c y r l).kind
 
   pub all_assign : (y : Lexeme) → Plain text q.prev_token_end y → IsTrue (seen an_assign y)

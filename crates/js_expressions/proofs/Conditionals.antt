@@ -44,7 +44,8 @@ use Rattle.js_cursor.proofs.Standing.{mark_here}
 use Rattle.js_expressions.specs.Rests.{Asked, OnlyOperand}
 use Rattle.js_parsing.specs.Moves.{Passes}
 use Rattle.js_parsing.proofs.Giving.{gives_up}
-use Rattle.js_parsing.specs.Lexemes.{Lex, Plain}
+use Rattle.js_parsing.specs.Lexemes.{Lex, Plain, other_goals}
+use Rattle.js_expressions.proofs.OnePlace.{brace_stands}
 use Rattle.js_parsing.specs.States.{At, Same}
 use Rattle.js_parsing.specs.Moves.{Moved, MadeHere, plain_label}
 use Rattle.js_parsing.specs.Answers.{Underived, Answer, Numbered, Stops, beside}
@@ -251,11 +252,19 @@ unfolding rule rule_of covers apart
 no_conditional {text} {f} {p} {q} x n s = fails_rule {X' = after (at Assignment f)} (λ l cs vs y d. d) (fails_alt (last_called x (same_read (at Assignment f) (at Short f) short_passes refl) ⟶✗ fails_nothing (λ ts y l h. no y l h.1)) (fails_node inside_full (called x refl ⟶✗ fails_at x.at (branches_behind f) (Question ∷ []) refl n)))
   where
     no : (y : Lexeme) → Lex text q.prev_token_end y → IsTrue (seen (looser 2 f.in_ (row_of x.label x.slots)) y) → ⊥
-    no y l h = by (same_kind RegExp y.kind) refl
+    no y l h = by (one_of_kinds other_goals y.kind) refl
       where
-        by : (b : Bool) → same_kind RegExp y.kind ≡ b → ⊥
+        -- a template part begins with a brace by the plain goal, which is no operator
+        no_part : one_of_kinds other_goals y.kind ≡ true → same_kind RegExp y.kind ≡ false → ⊥
+        no_part o n = let z = brace_stands l o n in false≢true (ap (one_of_kinds assign_operators) (sym z.2) ∙ (and_parts (one_of_kinds assign_operators z.0.kind) _ (s z.0 z.1)).0)
+
+        of_another : (b : Bool) → same_kind RegExp y.kind ≡ b → one_of_kinds other_goals y.kind ≡ true → ⊥
+        of_another true e o = contrary (seen (looser 2 f.in_ (row_of x.label x.slots)) y) (covered a_pattern (λ k w e. not (looser 2 f.in_ (row_of x.label x.slots) k w e)) (pattern_binds f.in_ (row_of x.label x.slots) x.row) y.kind y.newline y.escaped (and_from _ _ e (ap not (read_plain y l.1)))) h
+        of_another false e o = no_part o e
+
+        by : (b : Bool) → one_of_kinds other_goals y.kind ≡ b → ⊥
         by false e = contrary (seen (looser 2 f.in_ (row_of x.label x.slots)) y) (covered an_assign (λ k w e. not (looser 2 f.in_ (row_of x.label x.slots) k w e)) (assign_binds f.in_ (row_of x.label x.slots) x.row) y.kind y.newline y.escaped (s y (l.0, plain_so y l.1 e))) h
-        by true e = contrary (seen (looser 2 f.in_ (row_of x.label x.slots)) y) (covered a_pattern (λ k w e. not (looser 2 f.in_ (row_of x.label x.slots) k w e)) (pattern_binds f.in_ (row_of x.label x.slots) x.row) y.kind y.newline y.escaped (and_from _ _ e (ap not (read_plain y l.1)))) h
+        by true e = of_another (same_kind RegExp y.kind) refl e
 
 -- ---- answers
 

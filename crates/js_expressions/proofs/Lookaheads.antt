@@ -4,7 +4,7 @@ use Rattle.std.specs.Prelude.{Ok}
 use Rattle.std.proofs.lemmas.Bool.{false≢true}
 use Rattle.js_base.specs.declared.diagnostic.DiagnosticKind.TheVariants.{ExpectToken}
 use Rattle.js_base.specs.declared.kind.Kind.{Kind}
-use Rattle.js_base.specs.declared.kind.Kind.TheVariants.{Arrow, Dot3, LParen, New, RAngle, RParen, RegExp, Slash, SlashEq, Await}
+use Rattle.js_base.specs.declared.kind.Kind.TheVariants.{Arrow, Dot3, LParen, New, RAngle, RCurly, RParen, Slash, SlashEq, Await}
 use Rattle.js_base.specs.declared.token.Token.{Token}
 use Rattle.js_base.specs.Kinds.{same_kind, one_of_kinds}
 use Rattle.js_grammar.specs.Trees.{Slots, end, parenthesized_expression}
@@ -31,12 +31,12 @@ use Rattle.js_cursor.specs.declared.stop.Stop.{Stop}
 use Rattle.js_operands.proofs.Links.{no_lhs_here}
 use Rattle.js_operands.proofs.Members.{no_head}
 use Rattle.js_parsing.specs.Answers.{Answers, Stops, Underived}
-use Rattle.js_parsing.specs.Lexemes.{Lex, slashes}
+use Rattle.js_parsing.specs.Lexemes.{Lex, other_goals, signs, signs_of}
 use Rattle.js_parsing.specs.Operators.{unary_kinds}
 use Rattle.js_parsing.specs.States.{At}
 use Rattle.js_parsing.proofs.Classes.{here_ends}
 use Rattle.js_parsing.proofs.Giving.{gives_up}
-use Rattle.js_parsing.proofs.Here.{one_plain, plainly, told, uncut, unsettled, settled_kind, plain_there, plain_same, Plainly}
+use Rattle.js_parsing.proofs.Here.{signs_are, one_plain, plainly, told, uncut, unsettled, settled_kind, plain_there, plain_same, Plainly}
 use Rattle.js_parsing.proofs.Moving.{stops_behind, stops_so}
 use Rattle.js_parsing.proofs.Paths.{at_kind}
 use Rattle.js_parsing.proofs.Phrases.{no_operator, lift_fails}
@@ -66,7 +66,7 @@ module _ {text : List ℕ} {f : Flags} {p : Parser} {t : Token} (a : At text f p
       r : same_kind RAngle t.kind ≡ false
       r = (settled_kind t.kind u).0
 
-      -- it is no regular expression, since no slash stands there by the plain goal
+      -- it is of no other goal, since no sign of one stands there by the plain goal
       of_plain : (x : GivesLexeme division cut text p.token.span.end t) → is_right_angle x.lexeme.kind ≡ false → y ≡ x.lexeme
       of_plain x e = which z.which
         where
@@ -76,16 +76,16 @@ module _ {text : List ℕ} {f : Flags} {p : Parser} {t : Token} (a : At text f p
           same : x.lexeme ≡ z.lexeme
           same = plain_same z x
 
-          which : (z.lexeme ≡ y) ⊎ ((y.kind ≡ RegExp) × (one_of_kinds slashes z.lexeme.kind ≡ true)) → y ≡ x.lexeme
+          which : (z.lexeme ≡ y) ⊎ ((one_of_kinds other_goals y.kind ≡ true) × (one_of_kinds (signs_of y.kind) z.lexeme.kind ≡ true)) → y ≡ x.lexeme
           which (inl k) = sym (same ∙ k)
-          which (inr k) = absurd (false≢true (sym (settled_kind t.kind u).1 ∙ subst (λ (v : Kind). one_of_kinds slashes v ≡ true) (ap (λ (v : Lexeme). v.kind) (sym same ∙ sym (cut_same x.lexeme e)) ∙ sym x.tells.kind) k.1))
+          which (inr k) = absurd (false≢true (sym (settled_kind t.kind u).1 ∙ subst (λ (v : Kind). one_of_kinds signs v ≡ true) (ap (λ (v : Lexeme). v.kind) (sym same ∙ sym (cut_same x.lexeme e)) ∙ sym x.tells.kind) (signs_are y.kind z.lexeme.kind k.1)))
 
       by : (x : GivesLexeme division cut text p.token.span.end t) → (b : Bool) → is_right_angle x.lexeme.kind ≡ b → y.kind ≡ t.kind
       by x true e = absurd (false≢true (sym r ∙ (let c : (cut x.lexeme).kind ≡ RAngle = rw (e, cut) refl in ap (same_kind RAngle) (x.tells.kind ∙ c))))
       by x false e = ap (λ (z : Lexeme). z.kind) (of_plain x e) ∙ (ap (λ (z : Lexeme). z.kind) (sym (cut_same x.lexeme e)) ∙ sym x.tells.kind)
 
   -- a lexeme that doesn't begin with `>` is told whole
-  pub peeked_whole : (y : Lexeme) → Lex text p.token.span.end y → is_right_angle y.kind ≡ false → same_kind RegExp y.kind ≡ false → y.kind ≡ t.kind
+  pub peeked_whole : (y : Lexeme) → Lex text p.token.span.end y → is_right_angle y.kind ≡ false → one_of_kinds other_goals y.kind ≡ false → y.kind ≡ t.kind
   peeked_whole y l r n = given_behind a h
       (λ d u i. absurd (i.none y (record { lex = l.0; of_goal = plainly l.0 l.1 n })))
       (λ x. let e = one_plain l n x in ap (λ (z : Lexeme). z.kind) e ∙ (ap (λ (z : Lexeme). z.kind) (sym (cut_same x.lexeme (sym (ap (λ (z : Lexeme). is_right_angle z.kind) e) ∙ r))) ∙ sym x.tells.kind))
@@ -96,7 +96,7 @@ behind_paren {text} {f} {p} {X} {g} a k n = record { no = λ ts vs j ls rest l d
   where
     go : (ts vs : Slots) (j : ℕ) (ls rest : Lexemes) → Lexes (Lex text) p.prev_token_end ls → Takes rule (tok LParen ▸ g) end ts p.prev_token_end ls vs j rest → ⊥
     go ts vs j ls rest l (is_seq (is_lexeme {x = x} {ls = mid} q) d) =
-        let e : p.token.span.end ≡ x.to = (told a (uncut a (ap (same_kind RAngle) k)) (ap (one_of_kinds slashes) k) x l.0).end in
+        let e : p.token.span.end ≡ x.to = (told a (uncut a (ap (same_kind RAngle) k)) (ap (one_of_kinds signs) k) x l.0).end in
         let z : Fails rule (Lex text) (plain full) end g x.to = fails_here firsts {X = plain full} (λ y i s. n y (subst (λ (v : ℕ). Lex text v y) (sym e) i) s) in
         z.no ts vs j mid rest l.1 d (refl, refl)
 
@@ -145,6 +145,7 @@ not_angle : (k : Kind) → begins_operand k ≡ true → one_of_kinds unsettled 
 not_angle RAngle h = absurd (false≢true h)
 not_angle Slash h = absurd (false≢true h)
 not_angle SlashEq h = absurd (false≢true h)
+not_angle RCurly h = absurd (false≢true h)
 not_angle _ h = refl
 
 pub no_head_begins : {text : List ℕ} {f : Flags} {p : Parser} {t : Token} → At text f p → p.token.kind ≡ LParen → Peeks p t → begins_operand t.kind ≡ true → Underived text (at Params f) p.prev_token_end

@@ -4,7 +4,7 @@ use Rattle.std.proofs.lemmas.Bool.{false≢true, and_parts, or_left, or_right, l
 use Rattle.js_base.specs.declared.diagnostic.Diagnostic.{Diagnostic}
 use Rattle.js_base.specs.declared.kind.Kind.{Kind}
 use Rattle.js_base.specs.declared.kind.Kind.TheVariants.{PrivateIdentifier, Eof, RegExp, Slash, Undetermined}
-use Rattle.js_base.specs.Kinds.{same_kind, one_of_kinds}
+use Rattle.js_base.specs.Kinds.{one_of_kinds}
 use Rattle.js_grammar.specs.Trees.{Label, Slots, end, tree}
 use Rattle.js_grammar.specs.Grammar.{Lexeme, Lexemes, next, seen, seq, such, nothing}
 use Rattle.js_grammar.specs.Insertion.{Row, edge_is_last}
@@ -29,12 +29,12 @@ use Rattle.js_cursor.specs.Moves.{is_last}
 use Rattle.js_cursor.specs.declared.stop.Stop.{Stop}
 use Rattle.js_cursor.specs.Parsers.{Parser}
 use Rattle.std.specs.Prelude.{Result}
-use Rattle.js_parsing.specs.Lexemes.{Lex, Plain, Walked, spot, read_kinds}
+use Rattle.js_parsing.specs.Lexemes.{Lex, Plain, other_goals, Walked, spot, read_kinds}
 use Rattle.js_parsing.specs.States.{At, Same, flags_of}
 use Rattle.js_parsing.specs.Moves.{Moved, Tightness, MadeHere, operation_label}
 use Rattle.js_parsing.specs.Operators.{power_of}
 use Rattle.js_parsing.specs.Answers.{Grown, Verdict, Stretch, Underived, Numbered, Outcome, beside}
-use Rattle.js_parsing.proofs.Here.{told_plain, begins_here, found, no_pattern_token, slash_here}
+use Rattle.js_parsing.proofs.Here.{told_plain, begins_here, found, plain_token, slash_here}
 use Rattle.js_parsing.proofs.Paths.{skips, read_of, walked_both, walked_one, walked_to, walked_from}
 use Rattle.js_parsing.proofs.Tight.{stops_by_power, power_listed, Level, level_of, read_plain, operator_read, plain_is_none, plain_is_read, plain_lex, plain_so, power_anywhere}
 use Rattle.js_parsing.proofs.Verdicts.{verdict_of, either_way, and_then, behind_none, grown_then}
@@ -204,7 +204,7 @@ module _ {text : List ℕ} {f : Flags} where
     standing =
         let z = found o.at o.uncut not_last in
         let h = strong.1 in
-        (z.0, subst (λ (v : ℕ). Plain text v z.0) o.place (z.1, plain_so z.0 (read_of z.0 (sym z.2.kind) (sym z.2.escaped ∙ strong.0) (operator_read f.in_ t.token.kind true (omega arith)).0) (ap (same_kind RegExp) (sym z.2.kind) ∙ no_pattern_token o.at.plain)))
+        (z.0, subst (λ (v : ℕ). Plain text v z.0) o.place (z.1, plain_so z.0 (read_of z.0 (sym z.2.kind) (sym z.2.escaped ∙ strong.0) (operator_read f.in_ t.token.kind true (omega arith)).0) (ap (one_of_kinds other_goals) (sym z.2.kind) ∙ plain_token o.at.plain)))
 
     -- it binds no tighter than what was read
     within : of_operand (row_of s.label s.slots) ≡ true → it.level ≤ s.cap

@@ -4,7 +4,7 @@ use Rattle.std.proofs.lemmas.Bool.{false≢true, or_left, or_right, and_from, an
 use Rattle.js_base.specs.declared.kind.Kind.{Kind}
 use Rattle.js_base.specs.declared.kind.Kind.TheVariants.{Eof, RCurly, Semicolon, Comma}
 use Rattle.js_grammar.specs.Trees.{Span, Label, Slots, end, hole, tree, Tree, append}
-use Rattle.js_grammar.specs.Grammar.{Lexeme, Lexemes, last, next, here, Look, seen, Make, label_of, is, may_omit, Grammar, nothing, never, lexeme, look, text, ahead, empty_slot, seq, alt, when, many, commas, such, marked, node, ended, keep, kept, many_once, commas_once, semicolon, ◌◇◌, Takes, is_nothing, is_lexeme, is_look, is_text, is_ahead, is_empty_slot, is_seq, is_left, is_right, is_when, is_many, is_commas, is_such, is_marked, is_node, is_ended, is_keep, is_kept}
+use Rattle.js_grammar.specs.Grammar.{Lexeme, Lexemes, last, next, here, Look, seen, Make, label_of, is, begins_with_brace, may_omit, Grammar, nothing, never, lexeme, look, text, ahead, empty_slot, seq, alt, when, many, commas, such, marked, node, ended, keep, kept, many_once, commas_once, semicolon, ◌◇◌, Takes, is_nothing, is_lexeme, is_look, is_text, is_ahead, is_empty_slot, is_seq, is_left, is_right, is_when, is_many, is_commas, is_such, is_marked, is_node, is_ended, is_keep, is_kept}
 use Rattle.js_base.specs.Kinds.{same_kind}
 use Rattle.js_base.proofs.KindLemmas.{kind_of_same}
 use Rattle.js_grammar.specs.Lexed.{Lexes}
@@ -46,12 +46,12 @@ found : {N : Type 0} {rule : N → Grammar N} (Lex : ℕ → Lexeme → Type 0) 
 found Lex ks m ds us vs s' k ls rest to q l is_nothing e = (vs, ls, (λ i. tree (to (label_is q i)) (slots_are q i) vs), l, is_nothing, e)
 
 -- a semicolon is not left out where it stands
-no_omission : (w p : Bool) → (same_kind Eof Semicolon || same_kind RCurly Semicolon || (w && not (same_kind Semicolon Semicolon) && not p)) ≡ true → ⊥
+no_omission : (w p : Bool) → (same_kind Eof Semicolon || begins_with_brace Semicolon || (w && not (same_kind Semicolon Semicolon) && not p)) ≡ true → ⊥
 no_omission true p h = false≢true h
 no_omission false p h = false≢true h
 
-no_semicolon : (w e : Bool) (k : Kind) (p : Bool) → (same_kind Eof k || same_kind RCurly k || (w && not (same_kind Semicolon k) && not p)) ≡ true → (same_kind Semicolon k && not e) ≡ true → ⊥
-no_semicolon w e k p h q = let z = kind_of_same Semicolon k (and_parts (same_kind Semicolon k) (not e) q).0 in no_omission w p (subst (λ v. (same_kind Eof v || same_kind RCurly v || (w && not (same_kind Semicolon v) && not p)) ≡ true) (sym z) h)
+no_semicolon : (w e : Bool) (k : Kind) (p : Bool) → (same_kind Eof k || begins_with_brace k || (w && not (same_kind Semicolon k) && not p)) ≡ true → (same_kind Semicolon k && not e) ≡ true → ⊥
+no_semicolon w e k p h q = let z = kind_of_same Semicolon k (and_parts (same_kind Semicolon k) (not e) q).0 in no_omission w p (subst (λ v. (same_kind Eof v || begins_with_brace v || (w && not (same_kind Semicolon v) && not p)) ≡ true) (sym z) h)
 
 -- what remains behind the comma of an item
 abbrev pub after_comma : {N : Type 0} → Bool → Grammar N → Grammar N
@@ -512,7 +512,7 @@ module _ {N : Type 0} {rule : N → Grammar N} {Lex : ℕ → Lexeme → Type 0}
   by_semicolon {s} {x} p l e f one = left (fails_look (may_omit p) (λ y i h. none y (one y i) h)) ▹ reads_lexeme (is Semicolon) l (rw (e, f) refl) (λ y i h. one y i)
     where
       none : (y : Lexeme) → y ≡ x → IsTrue (seen (may_omit p) y) → ⊥
-      none y q h = no_omission y.newline (seen p y) (subst (λ k. (same_kind Eof k || same_kind RCurly k || (y.newline && not (same_kind Semicolon k) && not (seen p y))) ≡ true) (ap (λ z. z.kind) q ∙ e) h)
+      none y q h = no_omission y.newline (seen p y) (subst (λ k. (same_kind Eof k || begins_with_brace k || (y.newline && not (same_kind Semicolon k) && not (seen p y))) ≡ true) (ap (λ z. z.kind) q ∙ e) h)
 
   pub by_omission : {s : ℕ} (p : Look) → ((y : Lexeme) → Lex s y → IsTrue (seen (may_omit p) y)) → Reads rule Lex X ks (semicolon p) s s (λ us. us) (joined (still 0) (still 0))
   by_omission {s} p h = right (fails_lexeme (is Semicolon) (λ y i q. no_semicolon y.newline y.escaped y.kind (seen p y) (h y i) q)) ▹ looks (may_omit p) h

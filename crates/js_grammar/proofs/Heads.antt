@@ -7,7 +7,7 @@ use Rattle.js_base.specs.Kinds.{same_kind}
 use Rattle.js_base.proofs.KindLemmas.{kind_of_same}
 use Rattle.js_grammar.specs.Trees.{Slots, end}
 use Rattle.js_grammar.specs.Grammar.{Lexeme, Lexemes, next, here, Look, seen, nothing, never, lexeme, look, text, ahead, empty_slot, seq, alt, when, many, commas, such, marked, node, ended, keep, kept, Takes, is_nothing, is_lexeme, is_look, is_text, is_ahead, is_empty_slot, is_seq, is_left, is_right, is_when, is_many, is_commas, is_such, is_marked, is_node, is_ended, is_keep, is_kept}
-use Rattle.js_grammar.specs.Brackets.{Bracket, plain, opens, closes, pop, bracket, move, Runs, stop, go_on}
+use Rattle.js_grammar.specs.Brackets.{Bracket, plain, opens, closes, reopens, pop, stay, bracket, move, Runs, stop, go_on}
 use Rattle.js_grammar.specs.Insertion.{may_bind}
 use Rattle.js_grammar.specs.Parsing.{full, always}
 use Rattle.js_grammar.specs.FirstSets.{first}
@@ -101,11 +101,21 @@ pop_under b (c ∷ s) t e = go (nat_eq b c) e
     go true q = let r : s ≡ t = cc in ap (λ (u : List ℕ). Some (u ++ 1 ∷ [])) r
     go false q = absurd (cc)
 
+stay_under : (b : ℕ) (s t : List ℕ) → stay b s ≡ Some t → stay b (s ++ 1 ∷ []) ≡ Some (t ++ 1 ∷ [])
+unfolding stay
+stay_under b [] t e = absurd (cc)
+stay_under b (c ∷ s) t e = go (nat_eq b c) e
+  where
+    go : (v : Bool) → cond v (Some (c ∷ s)) None ≡ Some t → cond v (Some (c ∷ s ++ 1 ∷ [])) None ≡ Some (t ++ 1 ∷ [])
+    go true q = let r : c ∷ s ≡ t = cc in ap (λ (u : List ℕ). Some (u ++ 1 ∷ [])) r
+    go false q = absurd (cc)
+
 move_under : (b : Bracket) (s t : List ℕ) → move b s ≡ Some t → move b (s ++ 1 ∷ []) ≡ Some (t ++ 1 ∷ [])
 unfolding move
 move_under plain s t e = let r : s ≡ t = cc in ap (λ (u : List ℕ). Some (u ++ 1 ∷ [])) r
 move_under (opens b) s t e = let r : b ∷ s ≡ t = cc in ap (λ (u : List ℕ). Some (u ++ 1 ∷ [])) r
 move_under (closes b) s t e = pop_under b s t e
+move_under (reopens b) s t e = stay_under b s t e
 
 -- one more open bracket around
 stays_open : {x : Lexeme} {ls rest : Lexemes} {e : ℕ} (st t : List ℕ) → move (bracket x.kind) st ≡ Some (t ++ 1 ∷ []) → One (t ++ 1 ∷ []) ls e rest → One st (next x ls) e rest

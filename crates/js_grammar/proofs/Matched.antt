@@ -2,12 +2,12 @@
 use Rattle.std.proofs.Common.{ℕ, List, [], ◌∷◌, ◌++◌, ◌≡◌, Bool, true, false, not, ◌&&◌, ◌||◌, IsTrue, refl, ap₂, sym, subst, cond, nat_eq, eqb-true, Some}
 use Rattle.std.proofs.lemmas.Bool.{false≢true, and_parts}
 use Rattle.js_base.specs.declared.kind.Kind.{Kind}
-use Rattle.js_base.specs.declared.kind.Kind.TheVariants.{LParen, RParen, LBrack, RBrack, LCurly, RCurly, Comma, Semicolon}
+use Rattle.js_base.specs.declared.kind.Kind.TheVariants.{LParen, RParen, LBrack, RBrack, LCurly, RCurly, TemplateHead, TemplateMiddle, TemplateTail, Comma, Semicolon}
 use Rattle.js_base.specs.Kinds.{same_kind}
 use Rattle.js_base.proofs.KindLemmas.{kind_of_same}
 use Rattle.js_grammar.specs.Trees.{Tree, Slots}
 use Rattle.js_grammar.specs.Grammar.{Lexeme, Lexemes, next, Look, seen, is, Grammar, nothing, never, lexeme, look, text, ahead, empty_slot, seq, alt, when, many, commas, such, marked, node, ended, keep, kept, Takes, Derives, is_nothing, is_lexeme, is_look, is_text, is_ahead, is_empty_slot, is_seq, is_left, is_right, is_when, is_many, is_commas, is_such, is_marked, is_node, is_ended, is_keep, is_kept}
-use Rattle.js_grammar.specs.Brackets.{plain, opens, closes, pop, bracket, move, Runs, stop, go_on}
+use Rattle.js_grammar.specs.Brackets.{Bracket, plain, opens, closes, reopens, pop, stay, bracket, move, Runs, stop, go_on}
 use Rattle.js_grammar.proofs.Looks.{apart, covers, covered, not_both}
 
 join : {s t u : List ℕ} {ls mid rest : Lexemes} → Runs s ls t mid → Runs t mid u rest → Runs s ls u rest
@@ -41,15 +41,19 @@ abbrev pub pops : ℕ → List ℕ → Effect
 pops b [] = unknown
 pops b (c ∷ s) = cond (nat_eq b c) (leaves s) unknown
 
+abbrev pub stays : ℕ → List ℕ → Effect
+stays b [] = unknown
+stays b (c ∷ s) = cond (nat_eq b c) (leaves (c ∷ s)) unknown
+
 abbrev pub kind_is : Kind → Look
 kind_is c k w e = same_kind c k
 
 abbrev pub brackets : Look
-brackets k w e = same_kind LParen k || (same_kind LBrack k || (same_kind LCurly k || (same_kind RParen k || (same_kind RBrack k || same_kind RCurly k))))
+brackets k w e = same_kind LParen k || (same_kind LBrack k || (same_kind LCurly k || (same_kind TemplateHead k || (same_kind RParen k || (same_kind RBrack k || (same_kind RCurly k || (same_kind TemplateTail k || same_kind TemplateMiddle k)))))))
 
 abbrev pub lexeme_effect : Look → List ℕ → Effect
-lexeme_effect p s = cond (apart p brackets) (leaves s) (cond (covers p (kind_is LParen)) (leaves (1 ∷ s)) (cond (covers p (kind_is LBrack)) (leaves (2 ∷ s)) (cond (covers p (kind_is LCurly)) (leaves (3 ∷ s))
-    (cond (covers p (kind_is RParen)) (pops 1 s) (cond (covers p (kind_is RBrack)) (pops 2 s) (cond (covers p (kind_is RCurly)) (pops 3 s) unknown))))))
+lexeme_effect p s = cond (apart p brackets) (leaves s) (cond (covers p (kind_is LParen)) (leaves (1 ∷ s)) (cond (covers p (kind_is LBrack)) (leaves (2 ∷ s)) (cond (covers p (kind_is LCurly)) (leaves (3 ∷ s)) (cond (covers p (kind_is TemplateHead)) (leaves (4 ∷ s))
+    (cond (covers p (kind_is RParen)) (pops 1 s) (cond (covers p (kind_is RBrack)) (pops 2 s) (cond (covers p (kind_is RCurly)) (pops 3 s) (cond (covers p (kind_is TemplateTail)) (pops 4 s) (cond (covers p (kind_is TemplateMiddle)) (stays 4 s) unknown)))))))))
 
 abbrev pub then_effect : Effect → (List ℕ → Effect) → Effect
 then_effect empty g = empty
@@ -84,16 +88,19 @@ effect kept s = leaves s
 
 pub not_bracket : (k : Kind) (w e : Bool) → (brackets k w e ≡ true → ⊥) → bracket k ≡ plain
 unfolding bracket
-not_bracket k w e h = by_six (same_kind LParen k) (same_kind LBrack k) (same_kind LCurly k) (same_kind RParen k) (same_kind RBrack k) (same_kind RCurly k) h
+not_bracket k w e h = by_nine (same_kind LParen k) (same_kind LBrack k) (same_kind LCurly k) (same_kind TemplateHead k) (same_kind RParen k) (same_kind RBrack k) (same_kind RCurly k) (same_kind TemplateTail k) (same_kind TemplateMiddle k) h
   where
-    by_six : (a b c d e f : Bool) → ((a || (b || (c || (d || (e || f))))) ≡ true → ⊥) → cond a (opens 1) (cond b (opens 2) (cond c (opens 3) (cond d (closes 1) (cond e (closes 2) (cond f (closes 3) plain))))) ≡ plain
-    by_six true b c d e f h = absurd (h refl)
-    by_six false true c d e f h = absurd (h refl)
-    by_six false false true d e f h = absurd (h refl)
-    by_six false false false true e f h = absurd (h refl)
-    by_six false false false false true f h = absurd (h refl)
-    by_six false false false false false true h = absurd (h refl)
-    by_six false false false false false false h = refl
+    next_one : (a : Bool) {b : Bool} (v w : Bracket) → ((a || b) ≡ true → ⊥) → ((b ≡ true → ⊥) → w ≡ plain) → cond a v w ≡ plain
+    next_one true v w h n = absurd (h refl)
+    next_one false v w h n = n h
+
+    last_one : (a : Bool) (v : Bracket) → (a ≡ true → ⊥) → cond a v plain ≡ plain
+    last_one true v h = absurd (h refl)
+    last_one false v h = refl
+
+    by_nine : (a b c d e f g i j : Bool) → ((a || (b || (c || (d || (e || (f || (g || (i || j)))))))) ≡ true → ⊥)
+        → cond a (opens 1) (cond b (opens 2) (cond c (opens 3) (cond d (opens 4) (cond e (closes 1) (cond f (closes 2) (cond g (closes 3) (cond i (closes 4) (cond j (reopens 4) plain)))))))) ≡ plain
+    by_nine a b c d e f g i j h = next_one a _ _ h (λ h. next_one b _ _ h (λ h. next_one c _ _ h (λ h. next_one d _ _ h (λ h. next_one e _ _ h (λ h. next_one f _ _ h (λ h. next_one g _ _ h (λ h. next_one i _ _ h (λ h. last_one j _ h))))))))
 
 -- what an effect says of a part, with the brackets s open in it and st around it
 abbrev pub Meets : Effect → List ℕ → List ℕ → Lexemes → Lexemes → Type 0
@@ -191,6 +198,15 @@ module _ (st : List ℕ) (x : Lexeme) (ls : Lexemes) where
       go true q = one_move k (d ∷ s) s e (rw (c, q, pop, move) refl)
       go false q = tt
 
+  stayed : (b : ℕ) (k : Kind) → bracket k ≡ reopens b → (s : List ℕ) → x.kind ≡ k → Meets (stays b s) s st (next x ls) ls
+  unfolding stay move
+  stayed b k c [] e = tt
+  stayed b k c (d ∷ s) e = go (nat_eq b d) refl
+    where
+      go : (y : Bool) → nat_eq b d ≡ y → Meets (cond y (leaves (d ∷ s)) unknown) (d ∷ s) st (next x ls) ls
+      go true q = one_move k (d ∷ s) (d ∷ s) e (rw (c, q, stay, move) refl)
+      go false q = tt
+
   lexeme_meets : (p : Look) (s : List ℕ) → IsTrue (seen p x) → Meets (lexeme_effect p s) s st (next x ls) ls
   unfolding bracket move pop
   lexeme_meets p s e =
@@ -199,9 +215,12 @@ module _ (st : List ℕ) (x : Lexeme) (ls : Lexemes) where
       (choose (covers p (kind_is LParen)) _ _ s (λ h. one_move LParen s (1 ∷ s) (named LParen h) refl)
       (choose (covers p (kind_is LBrack)) _ _ s (λ h. one_move LBrack s (2 ∷ s) (named LBrack h) refl)
       (choose (covers p (kind_is LCurly)) _ _ s (λ h. one_move LCurly s (3 ∷ s) (named LCurly h) refl)
+      (choose (covers p (kind_is TemplateHead)) _ _ s (λ h. one_move TemplateHead s (4 ∷ s) (named TemplateHead h) refl)
       (choose (covers p (kind_is RParen)) _ _ s (λ h. popped 1 RParen refl s (named RParen h))
       (choose (covers p (kind_is RBrack)) _ _ s (λ h. popped 2 RBrack refl s (named RBrack h))
-      (choose (covers p (kind_is RCurly)) _ _ s (λ h. popped 3 RCurly refl s (named RCurly h)) tt))))))
+      (choose (covers p (kind_is RCurly)) _ _ s (λ h. popped 3 RCurly refl s (named RCurly h))
+      (choose (covers p (kind_is TemplateTail)) _ _ s (λ h. popped 4 TemplateTail refl s (named TemplateTail h))
+      (choose (covers p (kind_is TemplateMiddle)) _ _ s (λ h. stayed 4 TemplateMiddle refl s (named TemplateMiddle h)) tt)))))))))
 
 -- a comma or a semicolon is no bracket
 plain_one : (k : Kind) → bracket k ≡ plain → {x : Lexeme} {ls : Lexemes} → IsTrue (seen (is k) x) → (s : List ℕ) → Runs s (next x ls) s ls

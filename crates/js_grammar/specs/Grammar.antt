@@ -1,8 +1,8 @@
 -- What a grammar is, and what it takes: whatever the language.
-use Rattle.std.specs.Prelude.{ℕ, ◌-◌, ◌+◌, Bool, not, cond, ◌&&◌, ◌||◌, List, ◌≡◌, IsTrue}
+use Rattle.std.specs.Prelude.{ℕ, ◌-◌, ◌+◌, Bool, not, cond, ◌&&◌, ◌||◌, List, [], ◌∷◌, ◌≡◌, IsTrue}
 use Rattle.js_base.specs.declared.kind.Kind.{Kind}
-use Rattle.js_base.specs.declared.kind.Kind.TheVariants.{Eof, RCurly, Comma, Semicolon}
-use Rattle.js_base.specs.Kinds.{same_kind}
+use Rattle.js_base.specs.declared.kind.Kind.TheVariants.{Eof, RCurly, Comma, Semicolon, TemplateMiddle, TemplateTail}
+use Rattle.js_base.specs.Kinds.{same_kind, one_of_kinds}
 use Rattle.js_grammar.specs.Trees.{NodeKind, Op, Span, Label, Slots, end, hole, tree, Tree, append}
 
 pub record Lexeme : Type 0 where
@@ -36,9 +36,13 @@ seen p l = p l.kind l.newline l.escaped
 abbrev pub is : Kind → Look
 is k a w e = same_kind k a && not e
 
--- A semicolon may be left out before the end, a brace, and a lexeme on a new line that is none and doesn't go on.
+-- a lexeme that begins with `}`: which of them stands there depends on the lexical goal
+abbrev pub begins_with_brace : Kind → Bool
+begins_with_brace k = one_of_kinds (RCurly ∷ TemplateMiddle ∷ TemplateTail ∷ []) k
+
+-- A semicolon may be left out before the end, a brace, and a lexeme on a new line that is none and doesn't go on. A template's middle or tail counts as the brace that it begins with; no production has one behind a semicolon.
 abbrev pub may_omit : Look → Look
-may_omit goes_on k w e = same_kind Eof k || same_kind RCurly k || (w && not (same_kind Semicolon k) && not (goes_on k w e))
+may_omit goes_on k w e = same_kind Eof k || begins_with_brace k || (w && not (same_kind Semicolon k) && not (goes_on k w e))
 
 -- Where a node's span runs: over its lexemes, inside them by so many bytes at each end, or over the whole text.
 pub data Extent : Type 0 where

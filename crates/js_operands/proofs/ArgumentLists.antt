@@ -31,13 +31,13 @@ use Rattle.js_cursor.specs.Parsers.{Parser}
 use Rattle.js_cursor.specs.Places.{goal}
 use Rattle.js_grammar.specs.Settings.{Goal}
 use Rattle.js_lex.specs.States.{goal_of}
-use Rattle.js_cursor.specs.Moves.{MovesOn, Opened, GivesUp, Steps, is_last, IsHere}
+use Rattle.js_cursor.specs.Moves.{MovesOn, Opened, GivesUp, Steps, IsHere}
 use Rattle.js_cursor.specs.declared.stop.ListStep.{ListStep}
 use Rattle.js_cursor.specs.declared.stop.ListStep.TheVariants.{Element, End, EndAfterComma}
 use Rattle.js_cursor.specs.declared.stop.Stop.{Stop}
 use Rattle.js_cursor.specs.declared.stop.Stop.TheVariants.{Fatal, NoMemory}
 use Rattle.js_parsing.proofs.Giving.{gives_up}
-use Rattle.js_parsing.specs.Lexemes.{Lex, nowhere, slashes}
+use Rattle.js_parsing.specs.Lexemes.{Lex, nowhere, signs}
 use Rattle.js_parsing.specs.States.{At, Same, Standing, flags_of}
 use Rattle.js_parsing.specs.Nesting.{room}
 use Rattle.js_parsing.specs.Moves.{Moved, Moves, unpassable}
@@ -165,7 +165,7 @@ module _ {text : List ℕ} {f : Flags} {p q : Parser} (a : At text f p) (k : p.t
         reach = 0;
         near = omega arith;
         goes = subst (λ (v : ℕ). Goes rule (Lex text) (plain full) end (rest_of false (item_of i f)) p.prev_token_end (seq (after_comma true (such (item_of i f) always)) (tok RParen)) v (λ us. us) (passing m.lexeme)) m.ends
-            (part firsts (is RParen) (comma_here true (such (item_of i f) always) (not_closed f i (is_one (stands_there a k refl) (λ e. cc))) l (is_that Comma m.lexeme (kind, bare)) (λ y z h. one_read a (ap (one_of_kinds slashes) k) z l)) refl);
+            (part firsts (is RParen) (comma_here true (such (item_of i f) always) (not_closed f i (is_one (stands_there a k refl) (λ e. cc))) l (is_that Comma m.lexeme (kind, bare)) (λ y z h. one_read a (ap (one_of_kinds signs) k) z l)) refl);
       }
 
 module _ {text : List ℕ} {f : Flags} {p q : Parser} (a : At text f p) where

@@ -28,7 +28,7 @@ use Rattle.js_tree.specs.declared.op.Op.TheVariants as op
 use Rattle.js_tree.specs.Nodes.{Node}
 use Rattle.js_tree.specs.Holding.{Holds, Keeps}
 use Rattle.js_tree.proofs.HoldingLemmas.{HoldsAll-none, HoldsAll-next, Keeps-refl, Keeps-trans, Keeps-made}
-use Rattle.js_cursor.specs.Moves.{MovesOn, Opened, GivesUp, Steps, OnlyMemory, is_last, IsHere}
+use Rattle.js_cursor.specs.Moves.{MovesOn, Opened, GivesUp, Steps, OnlyMemory, IsHere}
 use Rattle.js_cursor.specs.Parsers.{Parser}
 use Rattle.js_cursor.specs.declared.stop.ListStep.{ListStep}
 use Rattle.js_cursor.specs.declared.stop.ListStep.TheVariants.{Element, End, EndAfterComma}

@@ -1,20 +1,18 @@
 -- Functions and generators (ECMA-262, 15.2, 15.5), part by part.
-use Rattle.std.proofs.Common.{ℕ, ◌≡◌, ◌+◌, ◌<◌, ◌≤◌, max, List, [], ◌∷◌, ◌++◌, length, Option, Some, None, Bool, true, false, not, ◌&&◌, ◌||◌, IsTrue, refl, sym, ap, subst, arith, ◌∙◌}
+use Rattle.std.proofs.Common.{ℕ, ◌≡◌, ◌+◌, ◌<◌, max, List, [], ◌∷◌, ◌++◌, length, Option, Some, None, Bool, true, false, not, ◌||◌, refl, sym, ap, subst, arith, ◌∙◌}
 use Rattle.std.specs.Prelude.{Ok, Err}
-use Rattle.std.proofs.lemmas.Bool.{false≢true, or_left}
-use Rattle.js_base.specs.declared.diagnostic.Diagnostic.{Diagnostic}
+use Rattle.std.proofs.lemmas.Bool.{or_left}
 use Rattle.js_base.specs.declared.kind.Kind.{Kind}
 use Rattle.js_base.specs.declared.kind.Kind.TheVariants.{Function, LParen, PrivateIdentifier, RAngle, Star}
-use Rattle.js_base.specs.declared.source_type.SourceType.{SourceType}
 use Rattle.js_base.specs.declared.span.Span.{Span}
 use Rattle.js_base.specs.Kinds.{same_kind, one_of_kinds}
 use Rattle.js_base.specs.Texts.{words}
 use Rattle.js_grammar.specs.Lexemes.{is_word}
 use Rattle.js_grammar.specs.Trees.{Slots, end, hole, tree, append, Label, no_op, binding_identifier, function_expression}
-use Rattle.js_grammar.specs.Grammar.{Lexeme, Look, here, seen, empty_slot, nothing, such, ◌▸◌, ◌◇◌}
+use Rattle.js_grammar.specs.Grammar.{Look, here, nothing, such, ◌▸◌, ◌◇◌}
 use Rattle.js_grammar.specs.Lexed.{Lex as StandsBehind, all_faults}
 use Rattle.js_grammar.specs.Marks.{Mark, a_lexeme, the_start, the_end}
-use Rattle.js_grammar.specs.Parsing.{Test, plain, full, always, still, joined, Goes, Fails}
+use Rattle.js_grammar.specs.Parsing.{Test, plain, full, always, still, Goes, Fails}
 use Rattle.js_grammar.specs.Productions.{G, Flags, Symbol, at, async_flag, flag, generator_flag, only, slot, tok, params_of, body_of, BindingIdentifier, Body, FuncExpr, Params, Primary}
 use Rattle.js_grammar.specs.Productions.{sym as symbol}
 use Rattle.js_grammar.specs.Table.{rule, rule_of}
@@ -29,25 +27,24 @@ use Rattle.js_tree.specs.declared.id.NodeId.{NodeId}
 use Rattle.js_tree.specs.declared.kind.NodeKind.TheVariants as node
 use Rattle.js_tree.specs.declared.op.Op.TheVariants as op
 use Rattle.js_tree.specs.Nodes.{Node}
-use Rattle.js_tree.specs.Holding.{Holds, HoldsAll, Keeps}
+use Rattle.js_tree.specs.Holding.{HoldsAll, Keeps}
 use Rattle.js_tree.proofs.HoldingLemmas.{HoldsAll-hole, HoldsAll-next, HoldsAll-none, Keeps-refl, Keeps-trans, Keeps-made}
-use Rattle.js_lex.specs.States.{goal_of}
-use Rattle.js_cursor.specs.Moves.{Eats, GivesUp, IsKind, IsUnexpected, Keeps as KeepsOne, OnlyMemory, is_last}
+use Rattle.js_cursor.specs.Moves.{Eats, GivesUp, IsUnexpected, is_last}
 use Rattle.js_cursor.specs.Parsers.{Parser}
 use Rattle.js_cursor.specs.Places.{goal}
 use Rattle.js_cursor.specs.declared.stop.Stop.{Stop}
 use Rattle.js_cursor.specs.declared.stop.Stop.TheVariants.{Fatal, NoMemory}
-use Rattle.js_parsing.specs.Answers.{Answer, Grown, Numbered, Outcome, Stops, Stretch, Underived, Verdict, unclean}
+use Rattle.js_parsing.specs.Answers.{Numbered, Stops, Stretch, Underived, Verdict, unclean}
 use Rattle.js_parsing.specs.Arguments.{Partway}
-use Rattle.js_parsing.specs.Lexemes.{Lex, may_name, name_kinds, spot, slashes}
-use Rattle.js_parsing.specs.Moves.{LeafTaken, Moved, MadeHere, plain_label, unpassable}
+use Rattle.js_parsing.specs.Lexemes.{Lex, may_name, name_kinds, spot}
+use Rattle.js_parsing.specs.Moves.{LeafTaken, Moved, MadeHere, plain_label}
 use Rattle.js_parsing.specs.Nesting.{room}
-use Rattle.js_parsing.specs.Stands.{NameHere, NameUnder, StandsHere}
+use Rattle.js_parsing.specs.Stands.{NameUnder, StandsHere}
 use Rattle.js_parsing.specs.States.{At, Same}
 use Rattle.js_operands.specs.declared.function.FunctionForm.{FunctionForm}
 use Rattle.js_operands.specs.declared.function.FunctionForm.TheVariants.{Declaration, Expression}
 use Rattle.js_operands.specs.declared.function.FunctionParts.{FunctionParts}
-use Rattle.js_operands.specs.Functions.{HeadRead, NamesFunction, NoFunction, PartsTaken, TakesName, TakesParts, behind_star, function_kind, function_line, function_slots, name_part, nameless}
+use Rattle.js_operands.specs.Functions.{NamesFunction, NoFunction, PartsTaken, TakesName, behind_star, function_line, function_slots, nameless}
 use Rattle.js_parsing.proofs.Giving.{fails_escaped, gives_up_here, kept_one}
 use Rattle.js_parsing.proofs.Here.{found, uncut}
 use Rattle.js_parsing.proofs.MadeNodes.{leaf_held, node_held, one_lies}
@@ -55,11 +52,11 @@ use Rattle.js_parsing.proofs.Moving.{moves, same_both, same_itself, stops_behind
 use Rattle.js_parsing.proofs.NameKinds.{listed_name, name_apart, name_at, name_passes, name_read, name_test, no_name_here}
 use Rattle.js_parsing.proofs.NamedFirsts.{fails_unnamed}
 use Rattle.js_parsing.proofs.Parts.{part_called, part_from, part_goes, part_path, part_path_fails, part_sign, parts}
-use Rattle.js_parsing.proofs.Paths.{Path, ◌⟼◌, at_kind, fails_at, flagged_by, flagged_here, last_called, by_symbol_as, label_here, noded, not_here, read_of, walked_to}
+use Rattle.js_parsing.proofs.Paths.{Path, ◌⟼◌, at_kind, fails_at, flagged_by, flagged_here, last_called, by_symbol_as, label_here, noded, not_here, walked_to}
 use Rattle.js_parsing.proofs.Signs.{other_kind, plain_sign, whole_sign}
 use Rattle.js_parsing.proofs.Told.{told_at, told_same}
-use Rattle.js_parsing.proofs.Verdicts.{after as grown_behind, grown_then, verdict_of}
-use Rattle.js_operands.proofs.Operands.{behind_primary, by_path, by_such, one_path, plain_leaf, name_slashless}
+use Rattle.js_parsing.proofs.Verdicts.{after as grown_behind, verdict_of}
+use Rattle.js_operands.proofs.Operands.{behind_primary, by_path, one_path, plain_leaf, name_signless}
 
 star_plain : (is_word Star || same_kind PrivateIdentifier Star) ≡ false
 unfolding words
@@ -111,7 +108,7 @@ unfolding rule rule_of
 name_numbered {text} {f} {g} {p} {q} {id} a h t =
     let l : plain_label node.BindingIdentifier op.None p.token.span ≡ label_here binding_identifier no_op p t.mid = ap (λ (v : ℕ). record { kind = binding_identifier; op = no_op; flags = 0; span = record { from = p.token.span.start; to = v } }) (t.moved.tells.end ∙ t.moved.ends) in
     let ks : Keeps p.nodes t.mid.nodes = subst (λ (ns : List Node). Keeps p.nodes ns) (sym t.moved.nodes) (Keeps-refl p.nodes) in
-    let y : Path text f (after (at BindingIdentifier g)) (rule (at BindingIdentifier g)) p nothing t.mid (tree (label_here binding_identifier no_op p t.mid) end) = noded a (one_path (name_test g) a (name_slashless p.token.kind (listed_name g.yield_ g.await_ p.token.kind h.0)) t.moved (plain_leaf p.token.kind refl h.1 (name_read p.token.kind (listed_name g.yield_ g.await_ p.token.kind h.0)) t.moved) (name_passes g t.moved.lexeme (subst (λ (k : Kind). may_name g.yield_ g.await_ k ≡ true) t.moved.tells.kind h.0))) in
+    let y : Path text f (after (at BindingIdentifier g)) (rule (at BindingIdentifier g)) p nothing t.mid (tree (label_here binding_identifier no_op p t.mid) end) = noded a (one_path (name_test g) a (name_signless p.token.kind (listed_name g.yield_ g.await_ p.token.kind h.0)) t.moved (plain_leaf p.token.kind refl h.1 (name_read p.token.kind (listed_name g.yield_ g.await_ p.token.kind h.0)) t.moved) (name_passes g t.moved.lexeme (subst (λ (k : Kind). may_name g.yield_ g.await_ k ≡ true) t.moved.tells.kind h.0))) in
     by_path (subst (λ (v : Label). Path text f (after (at BindingIdentifier g)) (rule (at BindingIdentifier g)) p nothing t.mid (tree v end)) (sym l) y) t.moved.same t.made.stays (λ y i. refl) refl (leaf_held t.made ks) (Keeps-trans ks (Keeps-made t.made.made)) (ap (λ (v : Label). v.span) l) (one_lies t.made)
 
 abbrev rest_of : Bool → Flags → G

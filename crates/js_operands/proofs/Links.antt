@@ -6,10 +6,10 @@ use Rattle.js_base.specs.declared.kind.Kind.{Kind}
 use Rattle.js_base.specs.declared.kind.Kind.TheVariants.{Dot, QuestionDot, New, LParen, LBrack, NoSubstitutionTemplate, TemplateHead, Function}
 use Rattle.js_base.specs.Kinds.{same_kind, one_of_kinds}
 use Rattle.js_base.proofs.KindLemmas.{kind_of_same}
-use Rattle.js_grammar.specs.Trees.{Slots, end, tree, Label, no_op, call_expression, new_expression}
+use Rattle.js_grammar.specs.Trees.{Slots, end, tree, Label, no_op, call_expression, new_expression, tagged_template_expression}
 use Rattle.js_grammar.specs.Grammar.{Lexeme, Lexemes, Look, here, is, seen, such, alt, never, node, seq, nothing}
 use Rattle.js_grammar.specs.Parsing.{Test, plain, full, always, still, joined, Goes, Reads, Fails, Admits}
-use Rattle.js_grammar.specs.Productions.{G, Flags, Symbol, at, tok, optional_flag, Primary, Member, Call, Chain, Links, Super, LeftHandSide}
+use Rattle.js_grammar.specs.Productions.{G, Flags, Symbol, at, tok, optional_flag, Primary, Member, Call, Chain, Links, Super, LeftHandSide, Template}
 use Rattle.js_grammar.specs.Productions.{New as new_symbol}
 use Rattle.js_grammar.specs.Table.{rule, rule_of, args}
 use Rattle.js_grammar.specs.Insertion.{after_expression}
@@ -22,10 +22,12 @@ use Rattle.js_grammar.proofs.FollowLaws.{admits, fails_by, same_read}
 use Rattle.js_grammar.proofs.Loops.{chain_start, chain_start_fails, chain_step_by, chain_step_fails_by, chain_end, linked_starts, beginning, unfollowed}
 use Rattle.js_grammar.proofs.Towers.{Link, link, linked_label, make_of, this, of_left, of_right, OneOf, head, later}
 use Rattle.js_grammar.proofs.Chains.{is_member, is_call, is_links, base_of, climbs, member_links, call_links, chain_links, members, calls, chains}
+use Rattle.js_grammar.proofs.Lexemes.{first_or}
 use Rattle.js_grammar.proofs.LinkLoops.{private, member_name, member_index}
 use Rattle.js_parsing.specs.Lexemes.{Lex}
 use Rattle.js_parsing.specs.Answers.{Stretch, Underived}
-use Rattle.js_operands.specs.Members.{Looped, NoBareNew, NoMember, without_arguments, link_kinds, LinkForm, by_name, by_call, by_index, chained, admits as admits_link, OnlyLink, sign_of, node_of, link_label}
+use Rattle.js_operands.specs.Templates.{heads, tagged_label}
+use Rattle.js_operands.specs.Members.{Looped, NoBareNew, NoMember, without_arguments, access_kinds, link_kinds, LinkForm, by_name, by_call, by_index, chained, admits as admits_link, OnlyLink, sign_of, node_of, link_label}
 use Rattle.js_operands.specs.declared.left_hand_side.LinkBase.TheVariants.{Member as OfMember'}
 use Rattle.js_parsing.proofs.Dead.{dead, fails_dead, live, lives}
 use Rattle.js_parsing.proofs.Paths.{reads}
@@ -55,9 +57,9 @@ unfolding covers
 below_call true = refl
 below_call false = refl
 
--- what begins an access
-abbrev access_kinds : List Kind
-access_kinds = Dot ∷ LBrack ∷ []
+-- what goes on with a call
+abbrev pub call_kinds : List Kind
+call_kinds = Dot ∷ LBrack ∷ LParen ∷ NoSubstitutionTemplate ∷ TemplateHead ∷ []
 
 module _ (f : Flags) where
   -- `new` with arguments
@@ -108,7 +110,7 @@ module _ (f : Flags) where
   unfolding rule rule_of apart
   lhs_left = refl
 
-  call_starts : covers (λ k w e. linked_starts firsts (call_links f) k w e && reads k w e) (λ k w e. one_of_kinds (Dot ∷ LBrack ∷ LParen ∷ []) k) ≡ true
+  call_starts : covers (λ k w e. linked_starts firsts (call_links f) k w e && reads k w e) (λ k w e. one_of_kinds call_kinds k) ≡ true
   unfolding call_links rule_of covers
   call_starts = refl
 
@@ -128,6 +130,20 @@ parens_differ e = cc
 
 another : {text : List ℕ} {s : ℕ} {j k : Kind} → AllAre text s k → (k ≡ j → ⊥) → NoneIs text s j
 another a n y l e = n (sym (a y l).0 ∙ e)
+
+-- a tagged template
+abbrev pub tagged : Flags → Link Symbol
+tagged f = link tagged_template_expression no_op 0 (such (at Template f) always)
+
+-- neither a member, a call nor a chain ends before a template
+member_apart : (f : Flags) (k : Kind) (l : Label) (cs : Slots) (w : Bool) → one_of_kinds heads k ≡ true → follow_of Member f.in_ (edge_of l cs) k w false ≡ false
+member_apart f k l cs w h = first_or (λ (v : Kind). follow_of Member f.in_ (edge_of l cs) v w false ≡ false) NoSubstitutionTemplate k _ _ refl h refl (λ h. first_or (λ (v : Kind). follow_of Member f.in_ (edge_of l cs) v w false ≡ false) TemplateHead k _ _ refl h refl (λ h. absurd (false≢true h)))
+
+call_apart : (f : Flags) (k : Kind) (l : Label) (cs : Slots) (w : Bool) → one_of_kinds heads k ≡ true → follow_of Call f.in_ (edge_of l cs) k w false ≡ false
+call_apart f k l cs w h = first_or (λ (v : Kind). follow_of Call f.in_ (edge_of l cs) v w false ≡ false) NoSubstitutionTemplate k _ _ refl h refl (λ h. first_or (λ (v : Kind). follow_of Call f.in_ (edge_of l cs) v w false ≡ false) TemplateHead k _ _ refl h refl (λ h. absurd (false≢true h)))
+
+template_apart : (f : Flags) (k : Kind) (l : Label) (cs : Slots) (w : Bool) → one_of_kinds heads k ≡ true → follow_of Links f.in_ (edge_of l cs) k w false ≡ false
+template_apart f k l cs w h = first_or (λ (v : Kind). follow_of Links f.in_ (edge_of l cs) v w false ≡ false) NoSubstitutionTemplate k _ _ refl h refl (λ h. first_or (λ (v : Kind). follow_of Links f.in_ (edge_of l cs) v w false ≡ false) TemplateHead k _ _ refl h refl (λ h. absurd (false≢true h)))
 
 module _ {text : List ℕ} (f : Flags) where
   -- ---- members
@@ -183,6 +199,28 @@ module _ {text : List ℕ} (f : Flags) where
   member_step_fails {l = l} {cs = cs} by_name q a z r = chain_step_fails_by firsts (climbs is_member Member f) (member_links f) {F' = full} {x = chained f by_name false} Dot a.around (λ y i. (z y i).0) (search (this, of_left, of_right) depth 14) dot_access (not_before_access Dot l cs (λ w. refl) z) (λ l cs vs y e. e) r refl refl
   member_step_fails {l = l} {cs = cs} by_index q a z r = chain_step_fails_by firsts (climbs is_member Member f) (member_links f) {F' = full} {x = chained f by_index false} LBrack a.around (λ y i. (z y i).0) (search (this, of_left, of_right) depth 14) bracket_access (not_before_access LBrack l cs (λ w. refl) z) (λ l cs vs y e. e) r refl refl
   member_step_fails by_call q a z r = absurd (false≢true q)
+
+  -- a template behind it
+  template_access : {s : ℕ} (k : Kind) → one_of_kinds heads k ≡ true → (x' : Link Symbol) → OneOf x' (beginning firsts (member_links f) k) → (x' ≡ tagged f) ⊎ Fails rule (Lex text) (plain full) end x'.part s
+  unfolding member_links rule_of apart
+  template_access {s} k h = first_or (λ (v : Kind). (x' : Link Symbol) → OneOf x' (beginning firsts (member_links f) v) → (x' ≡ tagged f) ⊎ Fails rule (Lex text) (plain full) end x'.part s) NoSubstitutionTemplate k _ _ refl h (λ x' i. alone x' i) (λ h. first_or (λ (v : Kind). (x' : Link Symbol) → OneOf x' (beginning firsts (member_links f) v) → (x' ≡ tagged f) ⊎ Fails rule (Lex text) (plain full) end x'.part s) TemplateHead k _ _ refl h (λ x' i. with_more x' i) (λ h. absurd (false≢true h)))
+    where
+      alone : (x' : Link Symbol) → OneOf x' (beginning firsts (member_links f) NoSubstitutionTemplate) → (x' ≡ tagged f) ⊎ Fails rule (Lex text) (plain full) end x'.part s
+      alone x' head = inl refl
+      alone x' (later i) = elim i [ ]
+
+      with_more : (x' : Link Symbol) → OneOf x' (beginning firsts (member_links f) TemplateHead) → (x' ≡ tagged f) ⊎ Fails rule (Lex text) (plain full) end x'.part s
+      with_more x' head = inl refl
+      with_more x' (later i) = elim i [ ]
+
+  pub member_template : {s s' s'' from : ℕ} {l : Label} {cs : Slots} {pass more : Lexemes → Lexemes} {h : Slots → Slots} (k : Kind) → one_of_kinds heads k ≡ true → Looped text (members f) (after (at Member f)) s from l cs pass s' → AllAre text s' k → s' ≤ s'' → Stretch text (plain full) (tagged f).part s' nothing s'' h more
+      → Looped text (members f) (after (at Member f)) s from (tagged_label from s'') (tree l cs (h end)) (λ ls. pass (more ls)) s''
+  unfolding member_links rule_of covers
+  member_template {l = l} {cs = cs} k i x z o y = record { reach = max x.reach y.reach; near = let i = x.near in let j = y.near in omega arith; around = chain_step_by firsts (climbs is_member Member f) (member_links f) {F' = full} k x.around (λ y i. (z y i).0) (search (this, of_left, of_right) depth 14) (template_access k i) (not_before_access k l cs (λ w. member_apart f k l cs w i) z) y.goes refl refl }
+
+  pub member_template_fails : {s s' from : ℕ} {l : Label} {cs : Slots} {pass : Lexemes → Lexemes} (k : Kind) → one_of_kinds heads k ≡ true → Looped text (members f) (after (at Member f)) s from l cs pass s' → AllAre text s' k → Fails rule (Lex text) (plain full) end (tagged f).part s' → Underived text (at Member f) s
+  unfolding member_links rule_of covers
+  member_template_fails {l = l} {cs = cs} k i a z r = chain_step_fails_by firsts (climbs is_member Member f) (member_links f) {F' = full} {x = tagged f} k a.around (λ y i. (z y i).0) (search (this, of_left, of_right) depth 14) (template_access k i) (not_before_access k l cs (λ w. member_apart f k l cs w i) z) (λ l cs vs y e. e) r refl refl
 
   -- no access stands here
   pub member_end : {s s' from : ℕ} {l : Label} {cs : Slots} {pass : Lexemes → Lexemes} → Looped text (members f) (after (at Member f)) s from l cs pass s' → ((y : Lexeme) → Lex text s' y → one_of_kinds access_kinds y.kind ≡ false) → Stretch text (after (at Member f)) (such (at Member f) always) s nothing s' (tree l cs) pass
@@ -285,8 +323,30 @@ module _ {text : List ℕ} (f : Flags) where
   call_step_fails {l = l} {cs = cs} by_name p x z r = chain_step_fails_by firsts (climbs is_call Call f) (call_links f) {F' = full} {x = chained f by_name false} Dot x.around (λ y i. (z y i).0) (search (this, of_left, of_right) depth 14) dot_call (not_before_call Dot l cs (λ w. refl) z) p r refl refl
   call_step_fails {l = l} {cs = cs} by_index p x z r = chain_step_fails_by firsts (climbs is_call Call f) (call_links f) {F' = full} {x = chained f by_index false} LBrack x.around (λ y i. (z y i).0) (search (this, of_left, of_right) depth 14) bracket_call (not_before_call LBrack l cs (λ w. refl) z) p r refl refl
 
-  pub call_ends : {s s' from : ℕ} {l : Label} {cs : Slots} {pass : Lexemes → Lexemes} → Looped text (calls f) (after (at Call f)) s from l cs pass s' → ((y : Lexeme) → Lex text s' y → one_of_kinds (Dot ∷ LBrack ∷ LParen ∷ []) y.kind ≡ false) → Stretch text (after (at Call f)) (such (at Call f) always) s nothing s' (tree l cs) pass
-  call_ends a n = record { reach = a.reach; near = a.near; goes = chain_end firsts (climbs is_call Call f) (call_links f) (λ l cs vs y e. e) a.around (λ y l t. false≢true (sym (n y l) ∙ covered (λ k w e. linked_starts firsts (call_links f) k w e && reads k w e) (λ k w e. one_of_kinds (Dot ∷ LBrack ∷ LParen ∷ []) k) (call_starts f) y.kind y.newline y.escaped (and_from _ _ t l.1))) }
+  -- a template behind it
+  template_call : {s : ℕ} (k : Kind) → one_of_kinds heads k ≡ true → (x' : Link Symbol) → OneOf x' (beginning firsts (call_links f) k) → (x' ≡ tagged f) ⊎ Fails rule (Lex text) (plain full) end x'.part s
+  unfolding call_links rule_of apart
+  template_call {s} k h = first_or (λ (v : Kind). (x' : Link Symbol) → OneOf x' (beginning firsts (call_links f) v) → (x' ≡ tagged f) ⊎ Fails rule (Lex text) (plain full) end x'.part s) NoSubstitutionTemplate k _ _ refl h (λ x' i. alone x' i) (λ h. first_or (λ (v : Kind). (x' : Link Symbol) → OneOf x' (beginning firsts (call_links f) v) → (x' ≡ tagged f) ⊎ Fails rule (Lex text) (plain full) end x'.part s) TemplateHead k _ _ refl h (λ x' i. with_more x' i) (λ h. absurd (false≢true h)))
+    where
+      alone : (x' : Link Symbol) → OneOf x' (beginning firsts (call_links f) NoSubstitutionTemplate) → (x' ≡ tagged f) ⊎ Fails rule (Lex text) (plain full) end x'.part s
+      alone x' head = inl refl
+      alone x' (later i) = elim i [ ]
+
+      with_more : (x' : Link Symbol) → OneOf x' (beginning firsts (call_links f) TemplateHead) → (x' ≡ tagged f) ⊎ Fails rule (Lex text) (plain full) end x'.part s
+      with_more x' head = inl refl
+      with_more x' (later i) = elim i [ ]
+
+  pub call_template : {s s' s'' from : ℕ} {l : Label} {cs : Slots} {pass more : Lexemes → Lexemes} {h : Slots → Slots} (k : Kind) → one_of_kinds heads k ≡ true → Looped text (calls f) (after (at Call f)) s from l cs pass s' → AllAre text s' k → s' ≤ s'' → Stretch text (plain full) (tagged f).part s' nothing s'' h more
+      → Looped text (calls f) (after (at Call f)) s from (tagged_label from s'') (tree l cs (h end)) (λ ls. pass (more ls)) s''
+  unfolding call_links rule_of covers
+  call_template {l = l} {cs = cs} k i x z o y = record { reach = max x.reach y.reach; near = let i = x.near in let j = y.near in omega arith; around = chain_step_by firsts (climbs is_call Call f) (call_links f) {F' = full} k x.around (λ y i. (z y i).0) (search (this, of_left, of_right) depth 14) (template_call k i) (not_before_call k l cs (λ w. call_apart f k l cs w i) z) y.goes refl refl }
+
+  pub call_template_fails : {X : Test} {s s' from : ℕ} {l : Label} {cs : Slots} {pass : Lexemes → Lexemes} (k : Kind) → one_of_kinds heads k ≡ true → Heads X (after (at Call f)) → Looped text (calls f) (after (at Call f)) s from l cs pass s' → AllAre text s' k → Fails rule (Lex text) (plain full) end (tagged f).part s' → Fails rule (Lex text) X end (such (at Call f) always) s
+  unfolding call_links rule_of covers
+  call_template_fails {l = l} {cs = cs} k i p x z r = chain_step_fails_by firsts (climbs is_call Call f) (call_links f) {F' = full} {x = tagged f} k x.around (λ y i. (z y i).0) (search (this, of_left, of_right) depth 14) (template_call k i) (not_before_call k l cs (λ w. call_apart f k l cs w i) z) p r refl refl
+
+  pub call_ends : {s s' from : ℕ} {l : Label} {cs : Slots} {pass : Lexemes → Lexemes} → Looped text (calls f) (after (at Call f)) s from l cs pass s' → ((y : Lexeme) → Lex text s' y → one_of_kinds call_kinds y.kind ≡ false) → Stretch text (after (at Call f)) (such (at Call f) always) s nothing s' (tree l cs) pass
+  call_ends a n = record { reach = a.reach; near = a.near; goes = chain_end firsts (climbs is_call Call f) (call_links f) (λ l cs vs y e. e) a.around (λ y l t. false≢true (sym (n y l) ∙ covered (λ k w e. linked_starts firsts (call_links f) k w e && reads k w e) (λ k w e. one_of_kinds call_kinds k) (call_starts f) y.kind y.newline y.escaped (and_from _ _ t l.1))) }
 
   -- ---- optional chains
 
@@ -419,6 +479,15 @@ module _ {text : List ℕ} (f : Flags) where
     chain_step_fails by_call false z r = no_chain (chain_step_fails_by firsts (climbs is_links Links f) (chain_links f) {F' = full} {x = chained f by_call false} LParen x.around (λ y i. (z y i).0) (search (this, of_left, of_right) depth 14) paren_link (not_before_link LParen l cs (λ w. refl) z) (λ l cs vs y e. e) (r by_call false) refl refl)
     chain_step_fails by_name false z r = no_chain (chain_step_fails_by firsts (climbs is_links Links f) (chain_links f) {F' = full} {x = chained f by_name false} Dot x.around (λ y i. (z y i).0) (search (this, of_left, of_right) depth 14) dot_link (not_before_link Dot l cs (λ w. refl) z) (λ l cs vs y e. e) (r by_name false) refl refl)
     chain_step_fails by_index false z r = no_chain (chain_step_fails_by firsts (climbs is_links Links f) (chain_links f) {F' = full} {x = chained f by_index false} LBrack x.around (λ y i. (z y i).0) (search (this, of_left, of_right) depth 14) bracket_link (not_before_link LBrack l cs (λ w. refl) z) (λ l cs vs y e. e) (r by_index false) refl refl)
+
+  -- where a template stands, no link of a chain can be read
+  no_template_link : {s : ℕ} (k : Kind) → one_of_kinds heads k ≡ true → (x' : Link Symbol) → OneOf x' (beginning firsts (chain_links f) k) → (x' ≡ chained f by_name true) ⊎ Fails rule (Lex text) (plain full) end x'.part s
+  unfolding chain_links rule_of apart
+  no_template_link {s} k h = first_or (λ (v : Kind). (x' : Link Symbol) → OneOf x' (beginning firsts (chain_links f) v) → (x' ≡ chained f by_name true) ⊎ Fails rule (Lex text) (plain full) end x'.part s) NoSubstitutionTemplate k _ _ refl h (λ x' i. elim i [ ]) (λ h. first_or (λ (v : Kind). (x' : Link Symbol) → OneOf x' (beginning firsts (chain_links f) v) → (x' ≡ chained f by_name true) ⊎ Fails rule (Lex text) (plain full) end x'.part s) TemplateHead k _ _ refl h (λ x' i. elim i [ ]) (λ h. absurd (false≢true h)))
+
+  pub chain_template_fails : {s s' from : ℕ} {l : Label} {cs : Slots} {pass : Lexemes → Lexemes} (k : Kind) → one_of_kinds heads k ≡ true → Looped text (chains f) (after (at Links f)) s from l cs pass s' → AllAre text s' k → ((c : LinkForm) (o : Bool) → Fails rule (Lex text) (plain full) end (chained f c o).part s') → Underived text (at Chain f) s
+  unfolding chain_links rule_of covers
+  chain_template_fails {l = l} {cs = cs} k i x z r = no_chain (chain_step_fails_by firsts (climbs is_links Links f) (chain_links f) {F' = full} {x = chained f by_name true} k x.around (λ y i. (z y i).0) (search (this, of_left, of_right) depth 14) (no_template_link k i) (not_before_link k l cs (λ w. template_apart f k l cs w i) z) (λ l cs vs y e. e) (r by_name true) refl refl)
 
   -- no link stands here
   pub chain_ends : {s s' from : ℕ} {l : Label} {cs : Slots} {pass : Lexemes → Lexemes} → Looped text (chains f) (after (at Links f)) s from l cs pass s' → ((y : Lexeme) → Lex text s' y → one_of_kinds link_kinds y.kind ≡ false) → Stretch text (after (at Links f)) (such (at Links f) always) s nothing s' (tree l cs) pass

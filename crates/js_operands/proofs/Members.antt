@@ -5,7 +5,7 @@ use Rattle.std.specs.Prelude.{Result, Ok, Err, MatchResult}
 use Rattle.std.proofs.lemmas.Bool.{false≢true, and_parts, and_from}
 use Rattle.js_base.specs.declared.diagnostic.Diagnostic.{Diagnostic}
 use Rattle.js_base.specs.declared.kind.Kind.{Kind}
-use Rattle.js_base.specs.declared.kind.Kind.TheVariants.{RAngle, New, Dot, QuestionDot, LParen, LBrack, RBrack, PrivateIdentifier, RegExp}
+use Rattle.js_base.specs.declared.kind.Kind.TheVariants.{RAngle, New, Dot, QuestionDot, LParen, LBrack, NoSubstitutionTemplate, RBrack, PrivateIdentifier, TemplateHead}
 use Rattle.js_base.specs.declared.span.Span.{Span}
 use Rattle.js_base.specs.Kinds.{same_kind, one_of_kinds}
 use Rattle.js_base.specs.KindSets.{identifier_name_kinds}
@@ -14,7 +14,7 @@ use Rattle.js_grammar.specs.Trees.{Slots, end, tree, Label, no_op, identifier_na
 use Rattle.js_grammar.specs.Grammar.{Lexeme, Lexemes, Look, next, seen, exact, seq, such, nothing, ◌▸◌}
 use Rattle.js_grammar.specs.Insertion.{after_expression, is_word}
 use Rattle.js_grammar.specs.Parsing.{plain, full, always, Fails}
-use Rattle.js_grammar.specs.Productions.{G, Flags, Symbol, at, tok, plus_in, IdentifierName, Expression, Primary, Member, LeftHandSide}
+use Rattle.js_grammar.specs.Productions.{G, Flags, Symbol, at, tok, plus_in, IdentifierName, Expression, Primary, Member, LeftHandSide, Template}
 use Rattle.js_grammar.specs.Productions.{New as new_symbol, sym as symbol}
 use Rattle.js_grammar.specs.Table.{rule, rule_of, args}
 use Rattle.js_grammar.specs.Follow.{Edge, row_of, edge_of, follow, follow_of, after, tight}
@@ -46,16 +46,16 @@ use Rattle.js_cursor.specs.Moves.{Enters, GivesUp, Leaves, MovesOn, OnlyMemory, 
 use Rattle.js_cursor.specs.declared.stop.Stop.{Stop}
 use Rattle.js_cursor.specs.declared.stop.Stop.TheVariants.{Fatal, NoMemory}
 use Rattle.js_cursor.proofs.Later.{follows_on}
-use Rattle.js_parsing.specs.Lexemes.{Lex, is_read, read_kinds, read_word, name_kinds, slashes, Plain}
+use Rattle.js_parsing.specs.Lexemes.{Lex, is_read, read_kinds, read_word, name_kinds, other_goals, signs, Plain}
 use Rattle.js_parsing.specs.States.{At, Same, Standing}
 use Rattle.js_parsing.specs.Nesting.{room}
 use Rattle.js_parsing.proofs.Nesting.{nested_room, later_room}
 use Rattle.js_parsing.specs.Moves.{Moved, MadeHere, TakesLeaf, IsWholeHere, plain_label, unpassable}
 use Rattle.js_parsing.specs.Answers.{Grown, Verdict, clean, Stretch, Underived, Numbered, Outcome, Stops, beside}
 use Rattle.js_parsing.specs.Stands.{StandsHere}
-use Rattle.js_operands.specs.Members.{no_link_behind, Taken, NoBareNew, NoMember, Headed, a_member, a_new, MemberSoFar, NoAccess, NoParen, NoLhs, HeadOutcome, link_kinds, LinkForm, by_name, by_call, by_index, indexed, admits, chained, sign_of, link_label, NoLink, OnlyLink, Linked, LinkHere, a_link, no_link, ReadsLink, WithArguments, MakesWithArguments, WithIndex, MakesWithIndex, LinkOutcome, Beyond, CallSoFar, ChainSoFar, Callee, a_head, a_call, CalleeOutcome, TellsChain}
-use Rattle.js_operands.specs.Templates.{ChainGoesOn, ChainLinkOutcome, ReadsChainLink, Tagged, TagOutcome, heads}
-use Rattle.js_operands.proofs.Templates.{none_read, tag_taken}
+use Rattle.js_operands.specs.Members.{access_kinds, no_link_behind, Taken, NoBareNew, NoMember, Headed, a_member, a_new, MemberSoFar, NoAccess, NoParen, NoLhs, HeadOutcome, link_kinds, LinkForm, by_name, by_call, by_index, indexed, admits, chained, sign_of, link_label, NoLink, OnlyLink, Linked, LinkHere, a_link, no_link, ReadsLink, WithArguments, MakesWithArguments, WithIndex, MakesWithIndex, LinkOutcome, Beyond, CallSoFar, ChainSoFar, Callee, a_head, a_call, CalleeOutcome, TellsChain}
+use Rattle.js_operands.specs.Templates.{ChainLinkOutcome, GoesOn, ReadsChainLink, ReadsTagged, Tagged, TagOutcome, TagSign, Templated, heads, tagged_label}
+use Rattle.js_operands.proofs.Templates.{heads_there, tag_taken}
 use Rattle.js_parsing.specs.Arguments.{Partway}
 use Rattle.js_parsing.proofs.Here.{angled, begins_here, uncut, found, told_plain}
 use Rattle.js_parsing.proofs.Verdicts.{verdict_of, either_way, and_then, behind_none, grown_then}
@@ -65,9 +65,9 @@ use Rattle.js_parsing.proofs.MadeNodes.{leaf_held, node_held, one_lies, made_lie
 use Rattle.js_parsing.proofs.Paths.{reads, Path, ◌⟶✗◌, skips, token, passes_test, read_of, walked_both, walked_one, noded, noding, label_here, fails_at}
 use Rattle.js_operands.proofs.Operands.{by_path, primary_fails, primary_kinds}
 use Rattle.js_parsing.proofs.NameKinds.{no_listed_name}
-use Rattle.js_parsing.proofs.Giving.{fails_none, gives_up}
+use Rattle.js_parsing.proofs.Giving.{gives_up}
 use Rattle.js_parsing.proofs.Signs.{AllAre, NoneIs}
-use Rattle.js_operands.proofs.Links.{NotCall, bases, before_chain, with_arguments, member_start, no_member, member_new, no_member_new, member_step, member_step_fails, member_end, no_new_before, new_unfollowed, no_new, new_member, new_bare, member_before_chain, no_call_at_all, no_call_behind, call_begin, call_step, call_step_fails, call_ends, base_member, base_call, base_none, chain_begin, no_first, chain_step, chain_step_fails, chain_ends, no_lhs, lhs_new, lhs_call, lhs_chain, call_unfollowed, member_before, member_alone, call_alone, no_lhs_here, call_heads, chain_heads}
+use Rattle.js_operands.proofs.Links.{call_kinds, call_template, call_template_fails, chain_template_fails, member_template, member_template_fails, NotCall, bases, before_chain, with_arguments, member_start, no_member, member_new, no_member_new, member_step, member_step_fails, member_end, no_new_before, new_unfollowed, no_new, new_member, new_bare, member_before_chain, no_call_at_all, no_call_behind, call_begin, call_step, call_step_fails, call_ends, base_member, base_call, base_none, chain_begin, no_first, chain_step, chain_step_fails, chain_ends, no_lhs, lhs_new, lhs_call, lhs_chain, call_unfollowed, member_before, member_alone, call_alone, no_lhs_here, call_heads, chain_heads}
 use Rattle.js_operands.proofs.Links.{no_link as no_chain_link}
 use Rattle.js_parsing.proofs.Stretches.{stretches}
 use Rattle.js_parsing.proofs.Parts.{part_path, part_path_fails, parts, part_sign, part_last, part_called}
@@ -90,14 +90,25 @@ none_of ks n y l = go (one_of_kinds ks y.kind) refl
     go true e = absurd (n y.kind e y l refl)
     go false e = refl
 
-no_access_kind : {text : List ℕ} {s : ℕ} → NoneIs text s Dot × NoneIs text s LBrack → (y : Lexeme) → Lex text s y → one_of_kinds (Dot ∷ LBrack ∷ []) y.kind ≡ false
-no_access_kind {text} {s} n = none_of (Dot ∷ LBrack ∷ []) (λ k h. first_or (λ k. NoneIs text s k) Dot k _ _ refl h n.0 (λ h. first_or (λ k. NoneIs text s k) LBrack k _ _ refl h n.1 (λ h. absurd (false≢true h))))
+-- of these none is another kind that is among them
+none_among : {text : List ℕ} {s : ℕ} (ks : List Kind) → ((y : Lexeme) → Lex text s y → one_of_kinds ks y.kind ≡ false) → (k : Kind) → one_of_kinds ks k ≡ true → NoneIs text s k
+none_among ks n k h y l e = false≢true (sym (n y l) ∙ subst (λ (v : Kind). one_of_kinds ks v ≡ true) (sym e) h)
 
-no_call_kind : {text : List ℕ} {s : ℕ} → NoneIs text s Dot × NoneIs text s LBrack → NoneIs text s LParen → (y : Lexeme) → Lex text s y → one_of_kinds (Dot ∷ LBrack ∷ LParen ∷ []) y.kind ≡ false
-no_call_kind {text} {s} n m = none_of (Dot ∷ LBrack ∷ LParen ∷ []) (λ k h. first_or (λ k. NoneIs text s k) Dot k _ _ refl h n.0 (λ h. first_or (λ k. NoneIs text s k) LBrack k _ _ refl h n.1 (λ h. first_or (λ k. NoneIs text s k) LParen k _ _ refl h m (λ h. absurd (false≢true h)))))
+abbrev NoneOf : List ℕ → ℕ → List Kind → Type 0
+NoneOf text s ks = (y : Lexeme) → Lex text s y → one_of_kinds ks y.kind ≡ false
 
-no_link_kind : {text : List ℕ} {s : ℕ} → NoneIs text s Dot × NoneIs text s LBrack → NoneIs text s QuestionDot → NoneIs text s LParen → (y : Lexeme) → Lex text s y → one_of_kinds link_kinds y.kind ≡ false
-no_link_kind {text} {s} n m o = none_of link_kinds (λ k h. first_or (λ k. NoneIs text s k) Dot k _ _ refl h n.0 (λ h. first_or (λ k. NoneIs text s k) LBrack k _ _ refl h n.1 (λ h. first_or (λ k. NoneIs text s k) QuestionDot k _ _ refl h m (λ h. first_or (λ k. NoneIs text s k) LParen k _ _ refl h o (λ h. absurd (false≢true h))))))
+no_access_kind : {text : List ℕ} {s : ℕ} → NoneIs text s Dot → NoneIs text s LBrack → NoneIs text s NoSubstitutionTemplate → NoneIs text s TemplateHead → NoneOf text s access_kinds
+no_access_kind {text} {s} a b c d = none_of access_kinds (λ k h. first_or (λ k. NoneIs text s k) Dot k _ _ refl h a (λ h. first_or (λ k. NoneIs text s k) LBrack k _ _ refl h b (λ h. first_or (λ k. NoneIs text s k) NoSubstitutionTemplate k _ _ refl h c (λ h. first_or (λ k. NoneIs text s k) TemplateHead k _ _ refl h d (λ h. absurd (false≢true h))))))
+
+no_call_kind : {text : List ℕ} {s : ℕ} → NoneOf text s access_kinds → NoneIs text s LParen → NoneOf text s call_kinds
+no_call_kind {text} {s} n m = none_of call_kinds (λ k h. first_or (λ k. NoneIs text s k) Dot k _ _ refl h (none_among access_kinds n Dot refl) (λ h. first_or (λ k. NoneIs text s k) LBrack k _ _ refl h (none_among access_kinds n LBrack refl) (λ h. first_or (λ k. NoneIs text s k) LParen k _ _ refl h m (λ h. first_or (λ k. NoneIs text s k) NoSubstitutionTemplate k _ _ refl h (none_among access_kinds n NoSubstitutionTemplate refl) (λ h. first_or (λ k. NoneIs text s k) TemplateHead k _ _ refl h (none_among access_kinds n TemplateHead refl) (λ h. absurd (false≢true h)))))))
+
+no_link_kind : {text : List ℕ} {s : ℕ} → NoneOf text s access_kinds → NoneIs text s QuestionDot → NoneIs text s LParen → NoneOf text s link_kinds
+no_link_kind {text} {s} n m o = none_of link_kinds (λ k h. first_or (λ k. NoneIs text s k) Dot k _ _ refl h (none_among access_kinds n Dot refl) (λ h. first_or (λ k. NoneIs text s k) LBrack k _ _ refl h (none_among access_kinds n LBrack refl) (λ h. first_or (λ k. NoneIs text s k) NoSubstitutionTemplate k _ _ refl h (none_among access_kinds n NoSubstitutionTemplate refl) (λ h. first_or (λ k. NoneIs text s k) TemplateHead k _ _ refl h (none_among access_kinds n TemplateHead refl) (λ h. first_or (λ k. NoneIs text s k) QuestionDot k _ _ refl h m (λ h. first_or (λ k. NoneIs text s k) LParen k _ _ refl h o (λ h. absurd (false≢true h))))))))
+
+-- no template begins here
+no_head_here : {text : List ℕ} {f : Flags} {p : Parser} → At text f p → one_of_kinds heads p.token.kind ≡ false → NoneIs text p.prev_token_end NoSubstitutionTemplate × NoneIs text p.prev_token_end TemplateHead
+no_head_here a n = (stands_not a refl (λ e i. false≢true (sym n ∙ ap (one_of_kinds heads) e)), stands_not a refl (λ e i. false≢true (sym n ∙ ap (one_of_kinds heads) e)))
 
 -- ---- names behind a sign
 
@@ -122,16 +133,16 @@ no_angles : apart angles any_word ≡ true
 unfolding apart
 no_angles = refl
 
--- no word is a sign that may stand at a regular expression
-words_slashless : apart read_words (λ k w e. one_of_kinds slashes k) ≡ true
+-- no word is a sign with which a lexeme of another goal begins
+words_signless : apart read_words (λ k w e. one_of_kinds signs k) ≡ true
 unfolding apart
-words_slashless = refl
+words_signless = refl
 
-pub word_slashless : (k : Kind) → read_word k ≡ true → one_of_kinds slashes k ≡ false
-word_slashless k r = go (one_of_kinds slashes k) refl
+pub word_signless : (k : Kind) → read_word k ≡ true → one_of_kinds signs k ≡ false
+word_signless k r = go (one_of_kinds signs k) refl
   where
-    go : (b : Bool) → one_of_kinds slashes k ≡ b → one_of_kinds slashes k ≡ false
-    go true h = absurd (not_both read_words (λ k w e. one_of_kinds slashes k) words_slashless k false false r h)
+    go : (b : Bool) → one_of_kinds signs k ≡ b → one_of_kinds signs k ≡ false
+    go true h = absurd (not_both read_words (λ k w e. one_of_kinds signs k) words_signless k false false r h)
     go false h = h
 
 pub word_whole : {text : List ℕ} {f : Flags} {p : Parser} → At text f p → read_word p.token.kind ≡ true → IsWholeHere p
@@ -147,9 +158,9 @@ word_whole {p = p} a r =
     uncut_here : same_kind RAngle p.token.kind ≡ false → p.cut ≡ false
     uncut_here n = uncut a n
 
-no_patterns : apart any_word (λ k w e. same_kind RegExp k) ≡ true
+no_others : apart any_word (λ k w e. one_of_kinds other_goals k) ≡ true
 unfolding apart
-no_patterns = refl
+no_others = refl
 
 pub name_of : (text : List ℕ) (f : Flags) (p q : Parser) → At text f p → read_word p.token.kind ≡ true → p.token.escaped ≡ false → (s : Moved text f p q) → Path text f (after (at IdentifierName f)) (rule (at IdentifierName f)) p nothing q (tree (label_here identifier_name no_op p q) end)
 unfolding rule rule_of
@@ -158,7 +169,7 @@ name_of text f p q a r n s =
     let x = and_parts (one_of_kinds read_kinds p.token.kind) (is_word p.token.kind && (not (unpassable p.token.kind) && not (same_kind RAngle p.token.kind))) z in
     let w = (and_parts (is_word p.token.kind) (not (unpassable p.token.kind) && not (same_kind RAngle p.token.kind)) x.1).0 in
     let l : IsTrue (is_read s.lexeme) = read_of s.lexeme (sym s.tells.kind) (sym s.tells.escaped ∙ n) x.0 in
-    noded a (record { at = s.at; further = s.further; pass = _; walked = walked_one s; verdict = clean s.kept (record { reach = 0; near = omega arith; goes = passes_test a any_word (word_slashless p.token.kind r) s l (subst (λ k. is_word k ≡ true) s.tells.kind w) }) })
+    noded a (record { at = s.at; further = s.further; pass = _; walked = walked_one s; verdict = clean s.kept (record { reach = 0; near = omega arith; goes = passes_test a any_word (word_signless p.token.kind r) s l (subst (λ k. is_word k ≡ true) s.tells.kind w) }) })
 
 pub name_taken : (text : List ℕ) (f : Flags) (p q : Parser) (r : Result NodeId Stop) → At text f p → read_word p.token.kind ≡ true → p.token.escaped ≡ false → MatchResult r (λ id. TakesLeaf node.IdentifierName op.None p q id) OnlyMemory → Outcome text f (at IdentifierName f) p q r
 name_taken text f p q (Ok id) a r n m =
@@ -169,21 +180,33 @@ name_taken text f p q (Ok id) a r n m =
 name_taken text f p q (Err Fatal) a r n m = absurd m
 name_taken text f p q (Err NoMemory) a r n m = tt
 
+-- no template begins with a word
+heads_no_words : apart (λ k w e. one_of_kinds heads k) read_words ≡ true
+unfolding apart
+heads_no_words = refl
+
+head_word : (k : Kind) → one_of_kinds heads k ≡ true → read_word k ≡ false
+head_word k h = go (read_word k) refl
+  where
+    go : (b : Bool) → read_word k ≡ b → read_word k ≡ false
+    go true e = absurd (not_both (λ k w e. one_of_kinds heads k) read_words heads_no_words k false false h e)
+    go false e = e
+
 -- no word that is read
 pub no_name : {text : List ℕ} {f : Flags} {p : Parser} → At text f p → read_word p.token.kind ≡ false → Underived text (at IdentifierName f) p.prev_token_end
 unfolding rule rule_of
 no_name {text} {f} {p} a r = fails_by (fails_node inside_full (fails_lexeme any_word (λ y l h. go p.cut refl y l h)))
   where
-    no_pattern_word : (y : Lexeme) → is_word y.kind ≡ true → same_kind RegExp y.kind ≡ false
-    no_pattern_word y h = by (same_kind RegExp y.kind) refl
+    no_other_word : (y : Lexeme) → is_word y.kind ≡ true → one_of_kinds other_goals y.kind ≡ false
+    no_other_word y h = by (one_of_kinds other_goals y.kind) refl
       where
-        by : (b : Bool) → same_kind RegExp y.kind ≡ b → same_kind RegExp y.kind ≡ false
-        by true e = absurd (not_both any_word (λ k w e. same_kind RegExp k) no_patterns y.kind y.newline y.escaped h e)
+        by : (b : Bool) → one_of_kinds other_goals y.kind ≡ b → one_of_kinds other_goals y.kind ≡ false
+        by true e = absurd (not_both any_word (λ k w e. one_of_kinds other_goals k) no_others y.kind y.newline y.escaped h e)
         by false e = e
 
     go : (b : Bool) → p.cut ≡ b → (y : Lexeme) → Lex text p.prev_token_end y → is_word y.kind ≡ true → ⊥
     go true c y l h = not_both angles any_word no_angles y.kind y.newline y.escaped (angled a c y l) h
-    go false c y l h = false≢true (sym r ∙ subst (λ k. read_word k ≡ true) (sym (told_plain a c y (no_pattern_word y h) l).kind) (covered (λ k w e. reads k w e && is_word k) read_words words_read y.kind y.newline y.escaped (and_from _ _ l.1 h)))
+    go false c y l h = false≢true (sym r ∙ subst (λ k. read_word k ≡ true) (sym (told_plain a c y (no_other_word y h) l).kind) (covered (λ k w e. reads k w e && is_word k) read_words words_read y.kind y.newline y.escaped (and_from _ _ l.1 h)))
 
 -- ---- what was taken
 
@@ -364,10 +387,11 @@ member_stops {text} {f} {o} {p} w e x k z = stops_behind w e x.same (λ g. grown
     at_link : LinkHere p base.Member true → {l : Label} {cs : Slots} {pass : Lexemes → Lexemes} → MemberSoFar text f o.prev_token_end o.token.span.start l cs pass p.prev_token_end → ((c : LinkForm) (d : Bool) → NoLink text f p.prev_token_end c d) → NoMember text f o.prev_token_end
     at_link (a_link c d s h) u n = member_bad o p c d (of_member c d h) (all_signs x.at c d s) u (n c d)
 
-pub member_closed : {text : List ℕ} {f : Flags} {o p : Parser} {id : NodeId} → (x : Membered text f o p id) → LinkHere p base.Member false → HeadOutcome text f o p (Ok id)
-member_closed {text} {f} {o} {p} x (no_link g) =
-    let none : NoAccess text p = (stands_not x.at refl (g by_name false refl), stands_not x.at refl (g by_index false refl)) in
-    (retake x (λ l cs pass c. a_member (member_end f c.0 (no_access_kind none)) c.1) (λ n. n), none)
+pub member_closed : {text : List ℕ} {f : Flags} {o p : Parser} {id : NodeId} → (x : Membered text f o p id) → GoesOn base.Member p false → HeadOutcome text f o p (Ok id)
+member_closed {text} {f} {o} {p} x (no_link g, n) =
+    let h = no_head_here x.at n in
+    let none : NoAccess text p = no_access_kind (stands_not x.at refl (g by_name false refl)) (stands_not x.at refl (g by_index false refl)) h.0 h.1 in
+    (retake x (λ l cs pass c. a_member (member_end f c.0 none) c.1) (λ n. n), none)
 
 -- a lexeme stands here
 lexeme_there : {text : List ℕ} {f : Flags} {p : Parser} {k : Kind} → At text f p → StandsHere p k true → same_kind RAngle k ≡ false → is_last k ≡ false → one_of_kinds read_kinds k ≡ true → (y : Lexeme) × Lex text p.prev_token_end y × (y.kind ≡ k)
@@ -440,7 +464,7 @@ module _ {text : List ℕ} {f : Flags} {p q : Parser} (a : At text f p) (k : p.t
     callee_room = let i = later_room (let j = callee_taken.further in let d = m.at.behind in omega arith) callee_taken.same in let r = nested_room a m in omega arith
 
     no_access : NoAccess text w
-    no_access = subst (λ (v : ℕ). NoneIs text v Dot × NoneIs text v LBrack) (sym (ap (λ (z : Parser). z.prev_token_end) l.is)) x.1
+    no_access = subst (λ (v : ℕ). NoneOf text v access_kinds) (sym (ap (λ (z : Parser). z.prev_token_end) l.is)) x.1
 
     pub new_grown : {ds : List Diagnostic} → Grown w.errors ds → Grown p.errors ds
     new_grown g = grown_then m.kept (grown_behind callee_taken.verdict g)
@@ -522,6 +546,29 @@ module _ {text : List ℕ} {f : Flags} {p q : Parser} (a : At text f p) (k : p.t
           whole (a_member c b) z i = (member_new f no_primary (stretches new_skips (stretches (member_then f c) z i) (let d = m.at.behind in let e = callee_taken.further in omega arith)) (begins_here a), bare_none (a_member c b))
           whole (a_new z c b) u i = absurd (let y = lexeme_there callee_taken.at s refl refl refl in false≢true (sym (b y.0 y.1) ∙ subst (λ (v : Kind). one_of_kinds link_kinds v ≡ true) (sym y.2) refl))
 
+-- ---- tagged templates
+
+-- what a template is derived by, behind whatever stands before
+template_path : {text : List ℕ} {f : Flags} {p q : Parser} {id : NodeId} (x : Numbered text f (at Template f) p q id) → Path text f (plain full) (such (at Template f) always) p nothing q (tree x.answer.label x.answer.slots)
+template_path x = record { at = x.answer.at; further = x.answer.further; pass = x.answer.pass; walked = x.answer.walked; verdict = verdict_of x.answer.verdict (λ y. record { reach = y.reach; near = y.near; goes = weaken y.goes (λ ts y e. (refl, refl)) }) (λ z. weaken_fails z (λ ts y e. (refl, refl))) }
+
+template_fails : {text : List ℕ} (f : Flags) {s : ℕ} → Underived text (at Template f) s → Fails rule (Lex text) (plain full) end (such (at Template f) always) s
+template_fails f n = weaken_fails n (λ ts y e. (refl, refl))
+
+tagged_taken : {text : List ℕ} {f : Flags} {C D : Label → Slots → (Lexemes → Lexemes) → ℕ → Type 0} {A : Type 0} {o p w : Parser} {left id : NodeId} {start : ℕ} (x : Taken text f o p left C A) → start ≡ o.token.span.start → (y : Templated text f start left p w id)
+    → ((pass : Lexemes → Lexemes) → C x.label x.slots x.pass p.prev_token_end → p.prev_token_end ≤ y.behind.prev_token_end → Stretch text (plain full) (such (at Template f) always) p.prev_token_end nothing y.behind.prev_token_end (tree y.taken.answer.label y.taken.answer.slots) pass → D (tagged_label o.token.span.start y.behind.prev_token_end) (tree x.label x.slots (tree y.taken.answer.label y.taken.answer.slots end)) (λ ls. x.pass (pass ls)) y.behind.prev_token_end)
+    → (C x.label x.slots x.pass p.prev_token_end → Fails rule (Lex text) (plain full) end (such (at Template f) always) p.prev_token_end → A) → Taken text f o w id D A
+tagged_taken {o = o} {p = p} {w = w} {left = left} {id = id} x e y good bad =
+    step_taken x (template_path y.taken) y.taken.answer.same y.taken.keeps (HoldsAll-next y.template y.taken.keeps (HoldsAll-one left x.holds) y.taken.holds)
+    (subst (λ (v : ℕ). MadeHere (tagged_label v y.behind.prev_token_end) (Some left ∷ Some y.template ∷ []) y.behind w id) e y.made) refl refl (λ pass c i z. good pass c i z) bad
+
+module _ {text : List ℕ} {f : Flags} {o p : Parser} {left : NodeId} (x : Membered text f o p left) (h : one_of_kinds heads p.token.kind ≡ true) where
+  pub member_tagged : {w : Parser} {id : NodeId} {start : ℕ} → start ≡ o.token.span.start → Templated text f start left p w id → Membered text f o w id
+  member_tagged e y = tagged_taken x e y (λ pass c i z. (member_template f p.token.kind h c.0 (heads_there x.at h) i z, c.1)) (λ c n. (member_template_fails f p.token.kind h c.0 (heads_there x.at h) n, c.1))
+
+  pub member_tag_stops : (w : Parser) (e : Stop) → Stops p w e (Underived text (at Template f) p.prev_token_end) → Stops o w e (NoMember text f o.prev_token_end)
+  member_tag_stops w e z = stops_behind w e x.same (λ g. grown_behind x.verdict g) (λ n. either_way x.verdict (λ c. (member_template_fails f p.token.kind h c.0 (heads_there x.at h) (template_fails f n), c.1)) (λ n. n)) z
+
 -- ---- calls
 
 abbrev pub Called : List ℕ → Flags → Parser → Parser → NodeId → Type 0
@@ -592,9 +639,20 @@ module _ {text : List ℕ} {f : Flags} {o p : Parser} {left : NodeId} (x : Calle
       at_link : LinkHere p base.Call true → {l : Label} {cs : Slots} {pass : Lexemes → Lexemes} → CallSoFar text f o.prev_token_end o.token.span.start l cs pass p.prev_token_end → ((c : LinkForm) (d : Bool) → NoLink text f p.prev_token_end c d) → NoLhs text f o.prev_token_end
       at_link (a_link c d s e) u n = call_bad c d (of_call c d e) s u (n c d)
 
-pub call_closed : {text : List ℕ} {f : Flags} {o p : Parser} {id : NodeId} → (x : Called text f o p id) → LinkHere p base.Call false → CalleeOutcome text f o p (Ok id)
-call_closed {text} {f} {o} {p} x (no_link g) =
-    let none : NoAccess text p = (stands_not x.at refl (g by_name false refl), stands_not x.at refl (g by_index false refl)) in
+module _ {text : List ℕ} {f : Flags} {o p : Parser} {left : NodeId} (x : Called text f o p left) (h : one_of_kinds heads p.token.kind ≡ true) where
+  no_call_tagged : {l : Label} {cs : Slots} {pass : Lexemes → Lexemes} → CallSoFar text f o.prev_token_end o.token.span.start l cs pass p.prev_token_end → Fails rule (Lex text) (plain full) end (such (at Template f) always) p.prev_token_end → NoLhs text f o.prev_token_end
+  no_call_tagged u n = no_lhs f u.1.no_new (call_template_fails f p.token.kind h (λ l cs vs y e. call_heads f l cs vs y e) u.0 (heads_there x.at h) n) (no_first f (base_none f u.1.no_member (call_template_fails f p.token.kind h (λ l cs vs y e. chain_heads f l cs vs y e) u.0 (heads_there x.at h) n)))
+
+  pub call_tagged : {w : Parser} {id : NodeId} {start : ℕ} → start ≡ o.token.span.start → Templated text f start left p w id → Called text f o w id
+  call_tagged e y = tagged_taken x e y (λ pass c i z. (call_template f p.token.kind h c.0 (heads_there x.at h) i z, c.1)) (λ c n. no_call_tagged c n)
+
+  pub call_tag_stops : (w : Parser) (e : Stop) → Stops p w e (Underived text (at Template f) p.prev_token_end) → Stops o w e (NoLhs text f o.prev_token_end)
+  call_tag_stops w e z = stops_behind w e x.same (λ g. grown_behind x.verdict g) (λ n. either_way x.verdict (λ c. no_call_tagged c (template_fails f n)) (λ n. n)) z
+
+pub call_closed : {text : List ℕ} {f : Flags} {o p : Parser} {id : NodeId} → (x : Called text f o p id) → GoesOn base.Call p false → CalleeOutcome text f o p (Ok id)
+call_closed {text} {f} {o} {p} x (no_link g, n) =
+    let h = no_head_here x.at n in
+    let none : NoAccess text p = no_access_kind (stands_not x.at refl (g by_name false refl)) (stands_not x.at refl (g by_index false refl)) h.0 h.1 in
     let parens : NoParen text p = stands_not x.at refl (g by_call false refl) in
     (retake x (λ l cs pass c. a_call (call_ends f c.0 (no_call_kind none parens)) c.1) (λ n. n), none, parens)
 
@@ -669,30 +727,40 @@ module _ {text : List ℕ} {f : Flags} {o p : Parser} {left : NodeId} (a : At te
 module _ {text : List ℕ} {f : Flags} {o p : Parser} {left : NodeId} (x : Chained text f o p left) where
   -- by what stands here
   abbrev Sign : Type 0
-  Sign = (c : LinkForm) × (d : Bool) × AllAre text p.prev_token_end (sign_of c d)
+  Sign = ((c : LinkForm) × (d : Bool) × AllAre text p.prev_token_end (sign_of c d)) ⊎ ((k : Kind) × (one_of_kinds heads k ≡ true) × AllAre text p.prev_token_end k)
 
   chain_none : Sign → {l : Label} {cs : Slots} {pass : Lexemes → Lexemes} → ChainSoFar text f o.prev_token_end o.token.span.start l cs pass p.prev_token_end → ((c : LinkForm) (d : Bool) → NoLink text f p.prev_token_end c d) → NoLhs text f o.prev_token_end
-  chain_none z u n = no_lhs f u.1 u.2 (chain_step_fails f u.0 z.0 z.1 z.2 n)
+  chain_none (inl z) u n = no_lhs f u.1 u.2 (chain_step_fails f u.0 z.0 z.1 z.2 n)
+  chain_none (inr z) u n = no_lhs f u.1 u.2 (chain_template_fails f z.0 z.1 u.0 z.2 n)
+
+  -- `?.` or a template
+  tag_sign : TagSign text p.prev_token_end → Sign
+  tag_sign (k, h, z) = go (same_kind QuestionDot k) refl h
+    where
+      go : (b : Bool) → same_kind QuestionDot k ≡ b → (b || one_of_kinds heads k) ≡ true → Sign
+      go true e q = inl (by_name, true, subst (λ (v : Kind). AllAre text p.prev_token_end v) (sym (kind_of_same QuestionDot k e)) z)
+      go false e q = inr (k, q, z)
 
   chain_linked : {w : Parser} {id : NodeId} {start : ℕ} → start ≡ o.token.span.start → Linked text f start left p w id → Chained text f o w id
-  chain_linked e y = link_taken x e y (λ pass c i z. (chain_step f c.0 y.form y.optional (all_signs x.at y.form y.optional y.sign) y.only i z, c.1, c.2)) (λ c n. chain_none (y.form, y.optional, all_signs x.at y.form y.optional y.sign) c (none_of_links y.form y.optional y.only n))
+  chain_linked e y = link_taken x e y (λ pass c i z. (chain_step f c.0 y.form y.optional (all_signs x.at y.form y.optional y.sign) y.only i z, c.1, c.2)) (λ c n. chain_none (inl (y.form, y.optional, all_signs x.at y.form y.optional y.sign)) c (none_of_links y.form y.optional y.only n))
 
   pub chain_on : {w : Parser} {id : NodeId} {start : ℕ} → start ≡ o.token.span.start → Linked text f start left p w id ⊎ Tagged text f start left p w id → Chained text f o w id
   chain_on e (inl y) = chain_linked e y
-  chain_on e (inr y) = tag_taken x e y (λ c. chain_none (by_name, true, y.signs) c y.none)
+  chain_on e (inr y) = tag_taken x e y (λ c. chain_none (tag_sign y.sign) c y.none)
 
-  pub chain_stops : (w : Parser) (e : Stop) → ChainGoesOn p true → Stops p w e ((c : LinkForm) (d : Bool) → NoLink text f p.prev_token_end c d) → Stops o w e (NoLhs text f o.prev_token_end)
+  pub chain_stops : (w : Parser) (e : Stop) → GoesOn base.Chain p true → Stops p w e ((c : LinkForm) (d : Bool) → NoLink text f p.prev_token_end c d) → Stops o w e (NoLhs text f o.prev_token_end)
   chain_stops w e k z = stops_behind w e x.same (λ g. grown_behind x.verdict g) (λ n. either_way x.verdict (λ c. chain_none (sign_here k) c n) (λ n. n)) z
     where
       sign_here : LinkHere p base.Chain true ⊎ (one_of_kinds heads p.token.kind ≡ true) → Sign
-      sign_here (inl (a_link c d s h)) = (c, d, all_signs x.at c d s)
-      sign_here (inr h) = (by_name, true, λ y l. absurd (none_read x.at h y l))
+      sign_here (inl (a_link c d s h)) = inl (c, d, all_signs x.at c d s)
+      sign_here (inr h) = inr (p.token.kind, h, heads_there x.at h)
 
-pub chain_done : {text : List ℕ} {f : Flags} {o p w : Parser} {left id : NodeId} {s : Span} → At text f o → (x : Chained text f o p left) → LinkHere p base.Chain false → s.start ≡ o.token.span.start → s.end ≡ p.prev_token_end → MadeHere (plain_label node.ChainExpression op.None s) (Some left ∷ []) p w id → Numbered text f (at LeftHandSide f) o w id
+pub chain_done : {text : List ℕ} {f : Flags} {o p w : Parser} {left id : NodeId} {s : Span} → At text f o → (x : Chained text f o p left) → GoesOn base.Chain p false → s.start ≡ o.token.span.start → s.end ≡ p.prev_token_end → MadeHere (plain_label node.ChainExpression op.None s) (Some left ∷ []) p w id → Numbered text f (at LeftHandSide f) o w id
 unfolding rule rule_of
-chain_done {text} {f} {o} {p} {w} {left} {id} {s} a x (no_link g) b c d =
+chain_done {text} {f} {o} {p} {w} {left} {id} {s} a x (no_link g, m) b c d =
     let made : MadeHere (label_here chain_expression no_op o p) (Some left ∷ []) p w id = subst (λ (z : Label). MadeHere z (Some left ∷ []) p w id) (rw (b, c) refl) d in
-    let none = no_link_kind (stands_not x.at refl (g by_name false refl), stands_not x.at refl (g by_index false refl)) (stands_not x.at refl (g by_name true refl)) (stands_not x.at refl (g by_call false refl)) in
+    let h = no_head_here x.at m in
+    let none = no_link_kind (no_access_kind (stands_not x.at refl (g by_name false refl)) (stands_not x.at refl (g by_index false refl)) h.0 h.1) (stands_not x.at refl (g by_name true refl)) (stands_not x.at refl (g by_call false refl)) in
     let y = wrap_taken x made refl refl (λ c. lhs_chain f c.1 c.2 (noding p a (record { ends = λ q cs vs j ls mid d e. e }) (chain_ends f c.0 none))) (λ n. n) in
     numbered y y.row (lhs_stops f.in_ (subst (λ (v : ℕ). (y : Lexeme) → Lex text v y → one_of_kinds link_kinds y.kind ≡ false) (sym (ap (λ (z : Parser). z.prev_token_end) made.stays)) none) (edge_of y.label y.slots))
 
@@ -840,17 +908,20 @@ module _ {text : List ℕ} {f : Flags} {p : Parser} (a : At text f p) where
 
     -- a template stands there: no link does
     module _ (h : one_of_kinds heads mid.token.kind ≡ true) where
+      no_sign : (k : Kind) → one_of_kinds heads k ≡ false → NoneIs text mid.prev_token_end k
+      no_sign k n y l e = false≢true (sym n ∙ subst (λ (v : Kind). one_of_kinds heads v ≡ true) (sym (heads_there m.at h y l).0 ∙ e) h)
+
       none_behind : (d : LinkForm) → NotBehind d
-      none_behind by_call = fails_none (none_read m.at h)
-      none_behind by_name = fails_none (none_read m.at h)
-      none_behind by_index = fails_none (none_read m.at h)
+      none_behind by_call = no_arguments_here f (λ y l e. no_sign LParen refl y l e)
+      none_behind by_name = no_name m.at (head_word mid.token.kind h)
+      none_behind by_index = no_index_here (λ y l e. no_sign LBrack refl y l e)
 
       no_link_at_all : (c : LinkForm) (o : Bool) → NoLink text f p.prev_token_end c o
       no_link_at_all = none_of_links by_call true (one_link by_call (λ d n. none_behind d)) (lacks by_call (none_behind by_call))
 
       pub optional_tagged : (start : ℕ) (left : NodeId) (q : Parser) (r : Result NodeId Stop) → TagOutcome text f start left mid q r → ChainLinkOutcome text f start left p q r
       optional_tagged start left q (Ok id) y = inr (record {
-        signs = stands_there a s.0 refl;
+        sign = (QuestionDot, refl, stands_there a s.0 refl);
         none = no_link_at_all;
         behind = y.behind;
         template = y.template;
@@ -947,6 +1018,22 @@ next_loop l y h =
     let x = y _ _ l.at in
     record { at = standing (link_at l.at x); before = let a = l.before in let b = link_behind l.at x in omega arith; later = let a = l.later in let b = link_less l.at x in omega arith; goes = h }
 
+-- the same of a tagged template
+module _ {text : List ℕ} {f : Flags} {start : ℕ} {left id : NodeId} {p w : Parser} (a : At text f p) (y : Templated text f start left p w id) where
+  tagged_at : At text f w
+  tagged_at = subst (λ (z : Parser). At text f z) (sym y.made.stays) (beside_nodes w.nodes y.taken.answer.at)
+
+  tagged_behind : p.prev_token_end < w.prev_token_end
+  tagged_behind = let b = a.behind in let c = y.taken.answer.further in let d = ap (λ (z : Parser). z.prev_token_end) y.made.stays in omega arith
+
+  pub tagged_less : room w < room p
+  tagged_less = let b = tagged_behind in let c = tagged_at.at.between.0 in let d = tagged_at.text_is in let e = a.text_is in omega (arith, ap length d, ap length e)
+
+pub next_tagged : {start : ℕ} {p q w : Parser} {left id : NodeId} {G H : Type 0} → LinkLoop start p q G → ReadsTagged start left q w (Ok id) → H → LinkLoop start p w H
+next_tagged l y h =
+    let x = y _ _ l.at in
+    record { at = standing (tagged_at l.at x); before = let a = l.before in let b = tagged_behind l.at x in omega arith; later = let a = l.later in let b = tagged_less l.at x in omega arith; goes = h }
+
 -- the same of a link of a chain
 module _ {text : List ℕ} {f : Flags} {start : ℕ} {left id : NodeId} {p w : Parser} (a : At text f p) where
   chain_at : Linked text f start left p w id ⊎ Tagged text f start left p w id → At text f w
@@ -983,17 +1070,22 @@ member_too (a_link by_name true s e) = absurd (false≢true e)
 member_too (a_link by_index true s e) = absurd (false≢true e)
 
 -- neither a template nor `?.`
-pub call_left : {p : Parser} → ChainGoesOn p true → one_of_kinds heads p.token.kind ≡ false → StandsHere p QuestionDot false → LinkHere p base.Call true
+pub call_left : {p : Parser} → GoesOn base.Chain p true → one_of_kinds heads p.token.kind ≡ false → StandsHere p QuestionDot false → LinkHere p base.Call true
 call_left (inr h) n m = absurd (false≢true (sym n ∙ h))
 call_left (inl (a_link c true s e)) n m = absurd (m s.0 s.1)
 call_left (inl (a_link c false s e)) n m = a_link c false s refl
 
-pub goes_on_so : (p : Parser) {b r : Bool} → r ≡ b → ChainGoesOn p r → ChainGoesOn p b
-goes_on_so p e s = subst (λ (c : Bool). ChainGoesOn p c) e s
+pub goes_on_so : (p : Parser) (h : LinkBase) {b r : Bool} → r ≡ b → GoesOn h p r → GoesOn h p b
+goes_on_so p h e s = subst (λ (c : Bool). GoesOn h p c) e s
 
-pub goes_on : (p : Parser) (b : Bool) → one_of_kinds heads p.token.kind ≡ false → LinkHere p base.Chain b → ChainGoesOn p b
-goes_on p true n s = inl s
-goes_on p false n s = (s, n)
+pub goes_on : (p : Parser) (h : LinkBase) (b : Bool) → one_of_kinds heads p.token.kind ≡ false → LinkHere p h b → GoesOn h p b
+goes_on p h true n s = inl s
+goes_on p h false n s = (s, n)
+
+-- no template: a link
+pub link_left : {p : Parser} (h : LinkBase) → GoesOn h p true → one_of_kinds heads p.token.kind ≡ false → LinkHere p h true
+link_left h (inl s) n = s
+link_left h (inr k) n = absurd (false≢true (sym n ∙ k))
 
 -- a link of a chain is one, or a template
 pub link_is : (text : List ℕ) (f : Flags) (start : ℕ) (left : NodeId) (p q : Parser) (r : Result NodeId Stop) → LinkOutcome text f start left p q r → ChainLinkOutcome text f start left p q r

@@ -1,9 +1,9 @@
 -- Names, literals, and what a unary operator stands before.
-use Rattle.std.proofs.Common.{ℕ, ◌≡◌, List, [], ◌∷◌, ◌++◌, length, Bool, true, false, not, ◌&&◌, ◌||◌, IsTrue, Some, refl, sym, ap, subst, arith, ◌∙◌}
+use Rattle.std.proofs.Common.{ℕ, ◌≡◌, List, [], ◌∷◌, length, Bool, true, false, not, ◌&&◌, ◌||◌, IsTrue, Some, refl, sym, ap, subst, arith, ◌∙◌}
 use Rattle.std.specs.Prelude.{Result, Ok, Err, MatchResult, Option, is_some, if◌then◌else◌}
-use Rattle.std.proofs.lemmas.Bool.{false≢true, or_left}
+use Rattle.std.proofs.lemmas.Bool.{false≢true}
 use Rattle.js_base.specs.declared.kind.Kind.{Kind}
-use Rattle.js_base.specs.declared.kind.Kind.TheVariants.{This, Null, True, False, Decimal, Float, Binary, Octal, Hex, PositiveExponential, NegativeExponential, DecimalBigInt, BinaryBigInt, OctalBigInt, HexBigInt, Str, RegExp, Slash, SlashEq, LParen, LBrack, LCurly, Percent, Minus, Plus, Bang, Tilde, Typeof, Void, Delete, Function}
+use Rattle.js_base.specs.declared.kind.Kind.TheVariants.{This, Null, True, False, Decimal, Float, Binary, Octal, Hex, PositiveExponential, NegativeExponential, DecimalBigInt, BinaryBigInt, OctalBigInt, HexBigInt, Str, RegExp, Slash, SlashEq, NoSubstitutionTemplate, TemplateHead, LParen, LBrack, LCurly, Percent, Minus, Plus, Bang, Tilde, Typeof, Void, Delete, Function}
 use Rattle.js_base.specs.declared.operator.UnaryOperator.{UnaryOperator}
 use Rattle.js_base.specs.Kinds.{same_kind, one_of_kinds}
 use Rattle.js_base.specs.KindSets.{number_kinds}
@@ -36,19 +36,19 @@ use Rattle.js_cursor.specs.Parsers.{Parser}
 use Rattle.js_cursor.specs.Moves.{OnlyMemory}
 use Rattle.js_cursor.specs.declared.stop.Stop.{Stop}
 use Rattle.js_cursor.specs.declared.stop.Stop.TheVariants.{Fatal, NoMemory}
-use Rattle.js_parsing.specs.Lexemes.{Lex, Plain, is_read, may_name, name_kinds, read_kinds, slashes}
+use Rattle.js_parsing.specs.Lexemes.{Plain, is_read, may_name, name_kinds, read_kinds, signs}
 use Rattle.js_parsing.specs.States.{At, Same, NodesLie}
 use Rattle.js_parsing.specs.Moves.{Moved, MadeHere, LeafTaken, TakesLeaf, plain_label}
 use Rattle.js_parsing.specs.Answers.{Underived, Answer, Numbered, Outcome, beside}
 use Rattle.js_operands.specs.Numbers.{node_of_number, op_of_number}
 use Rattle.js_parsing.specs.Operators.{unary_kinds}
-use Rattle.js_parsing.proofs.Moving.{neither, same_both, same_with, beside_nodes}
+use Rattle.js_parsing.proofs.Moving.{same_both, same_with, beside_nodes}
 use Rattle.js_parsing.proofs.Dead.{live, lives}
 use Rattle.js_parsing.proofs.NameKinds.{at_name, listed_name, name_apart, name_passes, name_read, name_test}
 use Rattle.js_parsing.proofs.NamedFirsts.{fails_unnamed}
 use Rattle.js_parsing.proofs.MadeNodes.{leaf_held, one_held, LabelLies, from_start, one_lies}
 use Rattle.js_parsing.proofs.Tight.{plain_reads}
-use Rattle.js_parsing.proofs.Paths.{Path, ◌⟼◌, ◌⟶◌, ◌⟶✗◌, at_kind, fails_at, token, last_token, last_called, passes_test, noded, noded_by, by_symbol_as, label_here, read_of, walked_one}
+use Rattle.js_parsing.proofs.Paths.{Path, ◌⟼◌, ◌⟶◌, ◌⟶✗◌, at_kind, token, last_token, last_called, passes_test, noded, noded_by, by_symbol_as, label_here, read_of, walked_one}
 use Rattle.js_parsing.specs.Answers.{clean}
 
 -- a claim on each unary operator
@@ -115,7 +115,7 @@ unary_fails text f k h = of_unary (NoOperand text f) k h
 
 -- ---- one lexeme
 
-pub one_path : {text : List ℕ} {f : Flags} {X : Test} {p q : Parser} (test : Look) → At text f p → one_of_kinds slashes p.token.kind ≡ false → (s : Moved text f p q) → IsTrue (is_read s.lexeme) → IsTrue (seen test s.lexeme) → Path text f X (lexeme test) p nothing q (λ us. us)
+pub one_path : {text : List ℕ} {f : Flags} {X : Test} {p q : Parser} (test : Look) → At text f p → one_of_kinds signs p.token.kind ≡ false → (s : Moved text f p q) → IsTrue (is_read s.lexeme) → IsTrue (seen test s.lexeme) → Path text f X (lexeme test) p nothing q (λ us. us)
 one_path test a u s r h = record { at = s.at; further = s.further; pass = _; walked = walked_one s; verdict = clean s.kept (record { reach = 0; near = omega arith; goes = passes_test a test u s r h }) }
 
 pub plain_leaf : {text : List ℕ} {f : Flags} {p q : Parser} (k : Kind) → p.token.kind ≡ k → p.token.escaped ≡ false → one_of_kinds read_kinds k ≡ true → (s : Moved text f p q) → IsTrue (is_read s.lexeme)
@@ -140,11 +140,11 @@ boolean_test k w e = one_of_kinds (True ∷ False ∷ []) k && not e
 
 pub true_path : Leaf boolean_literal no_op True
 unfolding rule rule_of covers
-true_path text f p q a e n s = at_kind a True e refl ⟼ noded a (one_path boolean_test a (ap (one_of_kinds slashes) e) s (plain_leaf True e n refl s) (rw (sym s.tells.kind ∙ e, sym s.tells.escaped ∙ n) refl))
+true_path text f p q a e n s = at_kind a True e refl ⟼ noded a (one_path boolean_test a (ap (one_of_kinds signs) e) s (plain_leaf True e n refl s) (rw (sym s.tells.kind ∙ e, sym s.tells.escaped ∙ n) refl))
 
 pub false_path : Leaf boolean_literal no_op False
 unfolding rule rule_of covers
-false_path text f p q a e n s = at_kind a False e refl ⟼ noded a (one_path boolean_test a (ap (one_of_kinds slashes) e) s (plain_leaf False e n refl s) (rw (sym s.tells.kind ∙ e, sym s.tells.escaped ∙ n) refl))
+false_path text f p q a e n s = at_kind a False e refl ⟼ noded a (one_path boolean_test a (ap (one_of_kinds signs) e) s (plain_leaf False e n refl s) (rw (sym s.tells.kind ∙ e, sym s.tells.escaped ∙ n) refl))
 
 -- numbers
 pub of_number : (P : Kind → Type 0) (k : Kind) → one_of_kinds number_kinds k ≡ true → P Decimal → P Float → P Binary → P Octal → P Hex → P PositiveExponential → P NegativeExponential → P DecimalBigInt → P BinaryBigInt → P OctalBigInt → P HexBigInt → P k
@@ -164,8 +164,8 @@ number_path k h = of_number NumberPath k h
     (λ text f p q a e n s. at_kind a Binary e refl ⟼ noded a (last_token Binary a e n refl s))
     (λ text f p q a e n s. at_kind a Octal e refl ⟼ noded a (last_token Octal a e n refl s))
     (λ text f p q a e n s. at_kind a Hex e refl ⟼ noded a (last_token Hex a e n refl s))
-    (λ text f p q a e n s. at_kind a PositiveExponential e refl ⟼ noded a (one_path exponential_test a (ap (one_of_kinds slashes) e) s (plain_leaf PositiveExponential e n refl s) (rw (sym s.tells.kind ∙ e, sym s.tells.escaped ∙ n) refl)))
-    (λ text f p q a e n s. at_kind a NegativeExponential e refl ⟼ noded a (one_path exponential_test a (ap (one_of_kinds slashes) e) s (plain_leaf NegativeExponential e n refl s) (rw (sym s.tells.kind ∙ e, sym s.tells.escaped ∙ n) refl)))
+    (λ text f p q a e n s. at_kind a PositiveExponential e refl ⟼ noded a (one_path exponential_test a (ap (one_of_kinds signs) e) s (plain_leaf PositiveExponential e n refl s) (rw (sym s.tells.kind ∙ e, sym s.tells.escaped ∙ n) refl)))
+    (λ text f p q a e n s. at_kind a NegativeExponential e refl ⟼ noded a (one_path exponential_test a (ap (one_of_kinds signs) e) s (plain_leaf NegativeExponential e n refl s) (rw (sym s.tells.kind ∙ e, sym s.tells.escaped ∙ n) refl)))
     (λ text f p q a e n s. at_kind a DecimalBigInt e refl ⟼ noded a (last_token DecimalBigInt a e n refl s))
     (λ text f p q a e n s. at_kind a BinaryBigInt e refl ⟼ noded a (last_token BinaryBigInt a e n refl s))
     (λ text f p q a e n s. at_kind a OctalBigInt e refl ⟼ noded a (last_token OctalBigInt a e n refl s))
@@ -181,14 +181,14 @@ pub string_path : Leaf string_literal no_op Str
 unfolding rule rule_of covers
 string_path text f p q a e n s = at_kind a Str e refl ⟼ noded a (last_token Str a e n refl s)
 
--- no name is a sign that may stand at a regular expression
-pub name_slashless : (k : Kind) → one_of_kinds name_kinds k ≡ true → one_of_kinds slashes k ≡ false
+-- no name is a sign with which a lexeme of another goal begins
+pub name_signless : (k : Kind) → one_of_kinds name_kinds k ≡ true → one_of_kinds signs k ≡ false
 unfolding apart
-name_slashless k h = name_apart slashes refl k h
+name_signless k h = name_apart signs refl k h
 
 -- a name
 pub name_leaf : {text : List ℕ} {f : Flags} {X : Test} {p q : Parser} → At text f p → may_name f.yield_ f.await_ p.token.kind ≡ true → p.token.escaped ≡ false → Moved text f p q → Path text f X (lexeme (name_test f)) p nothing q (λ us. us)
-name_leaf {f = f} {p = p} a h n s = one_path (name_test f) a (name_slashless p.token.kind (listed_name f.yield_ f.await_ p.token.kind h)) s (plain_leaf p.token.kind refl n (name_read p.token.kind (listed_name f.yield_ f.await_ p.token.kind h)) s) (name_passes f s.lexeme (subst (λ (k : Kind). may_name f.yield_ f.await_ k ≡ true) s.tells.kind h))
+name_leaf {f = f} {p = p} a h n s = one_path (name_test f) a (name_signless p.token.kind (listed_name f.yield_ f.await_ p.token.kind h)) s (plain_leaf p.token.kind refl n (name_read p.token.kind (listed_name f.yield_ f.await_ p.token.kind h)) s) (name_passes f s.lexeme (subst (λ (k : Kind). may_name f.yield_ f.await_ k ≡ true) s.tells.kind h))
 
 pub name_path : (text : List ℕ) (f : Flags) (k : Kind) → may_name f.yield_ f.await_ k ≡ true → LeafUnder text f identifier_reference no_op k
 unfolding rule rule_of covers
@@ -221,7 +221,7 @@ unary_answers {text} {f} {p} {q} {r} {w} {id} {arg} k o s h u a e n m x b c d =
 
 -- what a PrimaryExpression begins with that is no name
 abbrev pub primary_kinds : List Kind
-primary_kinds = This ∷ Null ∷ True ∷ False ∷ Str ∷ RegExp ∷ Slash ∷ SlashEq ∷ LParen ∷ LBrack ∷ Function ∷ LCurly ∷ Percent ∷ number_kinds
+primary_kinds = This ∷ Null ∷ True ∷ False ∷ Str ∷ RegExp ∷ Slash ∷ SlashEq ∷ NoSubstitutionTemplate ∷ TemplateHead ∷ LParen ∷ LBrack ∷ Function ∷ LCurly ∷ Percent ∷ number_kinds
 
 pub primary_fails : {text : List ℕ} {f : Flags} {p : Parser} → At text f p → may_name f.yield_ f.await_ p.token.kind ≡ false → one_of_kinds primary_kinds p.token.kind ≡ false → Underived text (at Primary f) p.prev_token_end
 unfolding rule rule_of covers apart
@@ -242,8 +242,8 @@ not_same a k b n = go (same_kind a k) refl
     go true e = absurd (n (sym (kind_of_same a k e)))
     go false e = refl
 
-pub none_of_these : (k : Kind) → (k ≡ This → ⊥) → (k ≡ Null → ⊥) → (k ≡ True → ⊥) → (k ≡ False → ⊥) → (k ≡ Str → ⊥) → (k ≡ RegExp → ⊥) → (k ≡ Slash → ⊥) → (k ≡ SlashEq → ⊥) → (k ≡ LParen → ⊥) → (k ≡ LBrack → ⊥) → (k ≡ Function → ⊥) → (k ≡ LCurly → ⊥) → (k ≡ Percent → ⊥) → one_of_kinds number_kinds k ≡ false → one_of_kinds primary_kinds k ≡ false
-none_of_these k b c d e f x y z g j o u h n = not_same This k _ b ∙ (not_same Null k _ c ∙ (not_same True k _ d ∙ (not_same False k _ e ∙ (not_same Str k _ f ∙ (not_same RegExp k _ x ∙ (not_same Slash k _ y ∙ (not_same SlashEq k _ z ∙ (not_same LParen k _ g ∙ (not_same LBrack k _ j ∙ (not_same Function k _ o ∙ (not_same LCurly k _ u ∙ (not_same Percent k _ h ∙ n))))))))))))
+pub none_of_these : (k : Kind) → (k ≡ This → ⊥) → (k ≡ Null → ⊥) → (k ≡ True → ⊥) → (k ≡ False → ⊥) → (k ≡ Str → ⊥) → (k ≡ RegExp → ⊥) → (k ≡ Slash → ⊥) → (k ≡ SlashEq → ⊥) → (k ≡ NoSubstitutionTemplate → ⊥) → (k ≡ TemplateHead → ⊥) → (k ≡ LParen → ⊥) → (k ≡ LBrack → ⊥) → (k ≡ Function → ⊥) → (k ≡ LCurly → ⊥) → (k ≡ Percent → ⊥) → one_of_kinds number_kinds k ≡ false → one_of_kinds primary_kinds k ≡ false
+none_of_these k b c d e f x y z v w g j o u h n = not_same This k _ b ∙ (not_same Null k _ c ∙ (not_same True k _ d ∙ (not_same False k _ e ∙ (not_same Str k _ f ∙ (not_same RegExp k _ x ∙ (not_same Slash k _ y ∙ (not_same SlashEq k _ z ∙ (not_same NoSubstitutionTemplate k _ v ∙ (not_same TemplateHead k _ w ∙ (not_same LParen k _ g ∙ (not_same LBrack k _ j ∙ (not_same Function k _ o ∙ (not_same LCurly k _ u ∙ (not_same Percent k _ h ∙ n))))))))))))))
 
 -- a number, read so
 pub number_outcome : (text : List ℕ) (f : Flags) (p q : Parser) (nk : NodeKindMade) (o : OpMade) (k : Kind) (r : Result NodeId Stop) → one_of_kinds number_kinds p.token.kind ≡ true → k ≡ p.token.kind → nk ≡ node_of_number k → o ≡ op_of_number k → At text f p → p.token.escaped ≡ false → MatchResult r (λ id. TakesLeaf nk o p q id) OnlyMemory → Outcome text f (at Primary f) p q r

@@ -1,6 +1,5 @@
 -- The line of a property (ECMA-262, 13.2.5): which of its forms is left, by what stands where it begins and behind its name.
-use Rattle.std.proofs.Common.{ℕ, ◌≡◌, ◌≤◌, ◌⊎◌, Bool, true, false, not, ◌&&◌, ◌||◌, List, [], ◌∷◌, ◌++◌, Some, refl, ap, subst, ◌∙◌}
-use Rattle.std.proofs.lemmas.Bool.{false≢true}
+use Rattle.std.proofs.Common.{ℕ, ◌≡◌, Bool, true, false, not, List, [], ◌∷◌, ◌++◌, Some, refl, ap, subst}
 use Rattle.js_base.specs.KindSets.{number_kinds}
 use Rattle.js_base.specs.Kinds.{one_of_kinds}
 use Rattle.js_base.specs.declared.kind.Kind.{Kind}
@@ -26,7 +25,7 @@ use Rattle.js_parsing.specs.Methods.{WholeTaken}
 use Rattle.js_parsing.specs.States.{At}
 use Rattle.js_parsing.proofs.Dead.{fails_dead}
 use Rattle.js_parsing.proofs.Parts.{part_from}
-use Rattle.js_parsing.proofs.Paths.{◌⟼◌, ◌⟶◌, ◌⟶✗◌, fails_at, token}
+use Rattle.js_parsing.proofs.Paths.{◌⟶✗◌, fails_at}
 use Rattle.js_operands.proofs.Methods.{no_first}
 use Rattle.js_operands.proofs.Wholes.{part_under, whole_part}
 

@@ -1,5 +1,5 @@
 -- Which form of a property stands here (ECMA-262, 13.2.5), and how it is read from its beginning.
-use Rattle.std.proofs.Common.{ℕ, ◌≡◌, ◌≤◌, Bool, true, false, not, ◌&&◌, ◌||◌, List, [], ◌∷◌, ◌++◌, Some, None, refl, sym, ap, subst, ◌∙◌}
+use Rattle.std.proofs.Common.{ℕ, ◌≡◌, Bool, true, false, not, ◌&&◌, ◌||◌, List, [], ◌∷◌, Some, None, refl, sym, ap, subst, ◌∙◌}
 use Rattle.std.specs.Prelude.{Result, Ok}
 use Rattle.std.proofs.lemmas.Bool.{false≢true}
 use Rattle.js_base.specs.Kinds.{same_kind, one_of_kinds}
@@ -7,13 +7,13 @@ use Rattle.js_base.specs.Texts.{words}
 use Rattle.js_base.specs.declared.kind.Kind.{Kind}
 use Rattle.js_base.specs.declared.kind.Kind.TheVariants.{Colon, Dot3, Get, LBrack, LParen, PrivateIdentifier, Set, Star}
 use Rattle.js_grammar.specs.Lexemes.{is_word}
-use Rattle.js_grammar.specs.Grammar.{Look, nothing, ◌▸◌}
+use Rattle.js_grammar.specs.Grammar.{Look, nothing}
 use Rattle.js_grammar.specs.Parsing.{still, Goes, Fails}
 use Rattle.js_grammar.specs.Productions.{Flags, at, Property}
 use Rattle.js_grammar.specs.Table.{rule, getter, plain_method, setter}
 use Rattle.js_grammar.specs.Trees.{Label, end}
 use Rattle.js_grammar.proofs.Looks.{covers, covered, apart}
-use Rattle.js_grammar.proofs.Calculus.{◌▹◌, ◌▹✗◌, done, fails_alt, fails_node, fails_rule, inside_full, left, right}
+use Rattle.js_grammar.proofs.Calculus.{◌▹✗◌, done, fails_alt, fails_node, fails_rule, inside_full, left, right}
 use Rattle.js_tree.specs.declared.id.NodeId.{NodeId}
 use Rattle.js_cursor.specs.Parsers.{Parser}
 use Rattle.js_operands.specs.Objects.{Begins, accessors, ReadsMethod, ends_name_kinds, form_of, getter_of, method_left, named, setter_of, shorthand, with_method}

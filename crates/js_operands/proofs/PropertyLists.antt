@@ -34,7 +34,7 @@ use Rattle.js_cursor.specs.declared.stop.ListStep.{ListStep}
 use Rattle.js_cursor.specs.declared.stop.ListStep.TheVariants.{Element, End, EndAfterComma}
 use Rattle.js_cursor.specs.declared.stop.Stop.{Stop}
 use Rattle.js_cursor.specs.declared.stop.Stop.TheVariants.{Fatal, NoMemory}
-use Rattle.js_parsing.specs.Lexemes.{Lex}
+use Rattle.js_parsing.specs.Lexemes.{Lex, template_tails}
 use Rattle.js_parsing.specs.States.{At, Standing}
 use Rattle.js_parsing.specs.Answers.{Stretch, Underived, Numbered, Stops}
 use Rattle.js_parsing.specs.Arguments.{Partway, ItemTaken, NoItem, behind_item}
@@ -42,15 +42,15 @@ use Rattle.js_operands.specs.Objects.{object_of, properties, Properties, TakesPr
 use Rattle.js_parsing.specs.Stands.{StandsHere}
 use Rattle.js_parsing.specs.Moves.{Moved, Moves, MadeHere, plain_label, unpassable}
 use Rattle.js_parsing.specs.Nesting.{room}
-use Rattle.js_operands.proofs.ArgumentLists.{is_that, none_there}
+use Rattle.js_operands.proofs.ArgumentLists.{none_there}
 use Rattle.js_operands.proofs.Arrays.{turned}
 use Rattle.js_parsing.proofs.Bracketed.{opened_here, opened_later}
 use Rattle.js_parsing.proofs.Signs.{plain_sign}
 use Rattle.js_parsing.proofs.Giving.{gives_up}
 use Rattle.js_parsing.proofs.Here.{uncut}
-use Rattle.js_parsing.proofs.Signs.{AllAre, NoneIs}
+use Rattle.js_parsing.proofs.Signs.{AllClose, NoneIs}
 use Rattle.js_parsing.proofs.MadeNodes.{node_held, one_lies}
-use Rattle.js_parsing.proofs.Signs.{stands_not, stands_there}
+use Rattle.js_parsing.proofs.Signs.{AllAre, closing_there, stands_not, stands_there}
 use Rattle.js_parsing.proofs.Moving.{moves, standing, stops_behind, stops_so}
 use Rattle.js_parsing.proofs.Nesting.{nested_room, later_room}
 use Rattle.js_operands.proofs.Operands.{by_path, behind_primary}
@@ -96,7 +96,10 @@ ends_there : (f : Flags) → covers (starts first_of (after_item true (property 
 unfolding covers
 ends_there f = refl
 
-begins_apart : (f : Flags) → apart (first_of (at Property f)) (is RCurly) ≡ true
+abbrev closing : Look
+closing k w e = one_of_kinds (RCurly ∷ template_tails) k
+
+begins_apart : (f : Flags) → apart (first_of (at Property f)) closing ≡ true
 unfolding apart
 begins_apart f = refl
 
@@ -113,15 +116,15 @@ module _ {text : List ℕ} (f : Flags) {s : ℕ} where
   not_closed : NoneIs text s RCurly → Fails rule (Lex text) (plain (is RCurly)) end nothing s
   not_closed n = fails_nothing (λ ts y l e. none_so n y l e.0)
 
-  no_more : AllAre text s RCurly → Fails rule (Lex text) (plain (is RCurly)) end (commas true (property f)) s
-  no_more a = fails_here firsts (λ y l h. not_both (first_of (at Property f)) (is RCurly) (begins_apart f) y.kind y.newline y.escaped h (is_that RCurly y (a y l)))
+  no_more : AllClose text s → Fails rule (Lex text) (plain (is RCurly)) end (commas true (property f)) s
+  no_more a = fails_here firsts (λ y l h. not_both (first_of (at Property f)) closing (begins_apart f) y.kind y.newline y.escaped h (a y l).0)
 
   -- a property is due
   property_due : NoneIs text s RCurly → Goes rule (Lex text) (plain full) end (properties f) s (seq (commas true (property f)) (tok RCurly)) s (λ us. us) (still 0)
   unfolding covers
   property_due n = part firsts (is RCurly) (left (not_closed n)) refl
 
-  closes : AllAre text s RCurly → Goes rule (Lex text) (plain full) end (properties f) s (tok RCurly) s (λ us. us) (still 0)
+  closes : AllClose text s → Goes rule (Lex text) (plain full) end (properties f) s (tok RCurly) s (λ us. us) (still 0)
   unfolding covers
   closes a = part firsts (is RCurly) (right (no_more a)) refl ▹ done
 
@@ -149,10 +152,10 @@ module _ {text : List ℕ} {f : Flags} {p : Parser} (a : At text f p) where
   -- the closing brace stands here
   module _ (k : p.token.kind ≡ RCurly) where
     rest_closes : Goes rule (Lex text) (plain full) end (rest f) p.prev_token_end (properties f) p.prev_token_end (λ us. us) (still 0)
-    rest_closes = no_comma_left f (all_apart (stands_there a k refl) (λ e. cc)) ▹ turned (closes f (stands_there a k refl))
+    rest_closes = no_comma_left f (λ y l e. false≢true (ap (one_of_kinds (RCurly ∷ template_tails)) (sym e) ∙ (closing_there a k y l).0)) ▹ turned (closes f (closing_there a k))
 
     pub properties_end : {q : Parser} (ids : List (Option NodeId)) → Moved text f p q → Partway text f (properties f) nothing p q ids ids
-    properties_end ids m = part_from (closes f (stands_there a k refl)) (part_last RCurly a k (plain_sign RCurly a k refl refl closing_plain) refl m)
+    properties_end ids m = part_from (closes f (closing_there a k)) (part_last RCurly a k (plain_sign RCurly a k refl refl closing_plain) refl m)
 
   -- a comma stands here
   module _ (k : p.token.kind ≡ Comma) where

@@ -1,5 +1,5 @@
 -- Names of properties (ECMA-262, 13.2.5): a word, a string, a number, or an expression in brackets.
-use Rattle.std.proofs.Common.{ℕ, ◌≡◌, ◌≤◌, List, [], ◌∷◌, length, Option, Some, Bool, true, false, not, ◌&&◌, ◌||◌, IsTrue, refl, sym, ap, subst, arith, ◌∙◌}
+use Rattle.std.proofs.Common.{ℕ, ◌≡◌, List, [], ◌∷◌, length, Option, Bool, true, false, not, ◌&&◌, ◌||◌, refl, sym, ap, subst, arith, ◌∙◌}
 use Rattle.std.specs.Prelude.{Result, Ok, Err, MatchResult}
 use Rattle.std.proofs.lemmas.Bool.{false≢true, and_parts}
 use Rattle.js_base.specs.declared.kind.Kind.{Kind}
@@ -10,9 +10,9 @@ use Rattle.js_base.specs.Kinds.{same_kind, one_of_kinds}
 use Rattle.js_base.specs.KindSets.{number_kinds}
 use Rattle.js_base.specs.Texts.{words}
 use Rattle.js_base.proofs.KindLemmas.{kind_of_same}
-use Rattle.js_grammar.specs.Trees.{Label, Op, NodeKind, Slots, end, tree, no_op, of, string_literal, numeric_literal}
+use Rattle.js_grammar.specs.Trees.{Label, end, tree, no_op, string_literal}
 use Rattle.js_grammar.specs.Lexemes.{is_word}
-use Rattle.js_grammar.specs.Grammar.{Look, is, never, nothing, ◌▸◌, ◌◇◌}
+use Rattle.js_grammar.specs.Grammar.{never, nothing, ◌▸◌, ◌◇◌}
 use Rattle.js_grammar.specs.Parsing.{plain, full, Fails}
 use Rattle.js_grammar.specs.Productions.{G, Flags, at, tok, plus_in, Assignment, IdentifierName}
 use Rattle.js_grammar.specs.Productions.{sym as symbol}
@@ -39,7 +39,7 @@ use Rattle.js_operands.specs.Numbers.{node_of_number, op_of_number}
 use Rattle.js_operands.specs.PropertyNames.{NoName, NoNames, NameRead, NameOutcome}
 use Rattle.js_operands.proofs.Operands.{exponential_test, of_number, one_path, plain_leaf}
 use Rattle.js_parsing.specs.Answers.{Underived, Numbered, Outcome, Stops}
-use Rattle.js_parsing.specs.Lexemes.{Lex, slashes}
+use Rattle.js_parsing.specs.Lexemes.{Lex, signs}
 use Rattle.js_parsing.specs.Moves.{IsWholeHere, LeafTaken, Moved, TakesLeaf, plain_label, unpassable}
 use Rattle.js_parsing.specs.Stands.{StandsHere}
 use Rattle.js_parsing.specs.States.{At, Same, NodesLie}
@@ -152,8 +152,8 @@ number_path k h = of_number NumberPath k h
     (λ text f p q a e n s. at_kind a Binary e refl ⟼ noded a (last_token Binary a e n refl s))
     (λ text f p q a e n s. at_kind a Octal e refl ⟼ noded a (last_token Octal a e n refl s))
     (λ text f p q a e n s. at_kind a Hex e refl ⟼ noded a (last_token Hex a e n refl s))
-    (λ text f p q a e n s. at_kind a PositiveExponential e refl ⟼ noded a (one_path exponential_test a (ap (one_of_kinds slashes) e) s (plain_leaf PositiveExponential e n refl s) (rw (sym s.tells.kind ∙ e, sym s.tells.escaped ∙ n) refl)))
-    (λ text f p q a e n s. at_kind a NegativeExponential e refl ⟼ noded a (one_path exponential_test a (ap (one_of_kinds slashes) e) s (plain_leaf NegativeExponential e n refl s) (rw (sym s.tells.kind ∙ e, sym s.tells.escaped ∙ n) refl)))
+    (λ text f p q a e n s. at_kind a PositiveExponential e refl ⟼ noded a (one_path exponential_test a (ap (one_of_kinds signs) e) s (plain_leaf PositiveExponential e n refl s) (rw (sym s.tells.kind ∙ e, sym s.tells.escaped ∙ n) refl)))
+    (λ text f p q a e n s. at_kind a NegativeExponential e refl ⟼ noded a (one_path exponential_test a (ap (one_of_kinds signs) e) s (plain_leaf NegativeExponential e n refl s) (rw (sym s.tells.kind ∙ e, sym s.tells.escaped ∙ n) refl)))
     (λ text f p q a e n s. at_kind a DecimalBigInt e refl ⟼ noded a (last_token DecimalBigInt a e n refl s))
     (λ text f p q a e n s. at_kind a BinaryBigInt e refl ⟼ noded a (last_token BinaryBigInt a e n refl s))
     (λ text f p q a e n s. at_kind a OctalBigInt e refl ⟼ noded a (last_token OctalBigInt a e n refl s))

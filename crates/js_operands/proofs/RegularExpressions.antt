@@ -1,29 +1,27 @@
 -- A regular expression (ECMA-262, 13.2.7.3, 12.9.5): the slash that stands at an operand's place is read again, and what is read so is passed.
-use Rattle.std.proofs.Common.{ℕ, ◌+◌, ◌≡◌, ◌<◌, ◌⊎◌, inl, inr, Bool, true, false, not, ◌&&◌, ◌||◌, List, [], ◌∷◌, ◌++◌, length, Option, Some, None, IsTrue, refl, sym, ap, subst, arith, ◌∙◌}
-use Rattle.std.specs.Prelude.{IsCharBoundary, IsUtf8, Result, Ok, Err, MatchResult, chars, slice_range}
+use Rattle.std.proofs.Common.{ℕ, ◌≡◌, ◌<◌, ◌⊎◌, inl, inr, Bool, true, false, not, ◌||◌, List, [], ◌∷◌, ◌++◌, Some, IsTrue, refl, sym, ap, subst, arith, ◌∙◌}
+use Rattle.std.specs.Prelude.{IsCharBoundary, IsUtf8, chars, slice_range}
 use Rattle.std.proofs.lemmas.Bool.{false≢true, and_parts, and_from}
 use Rattle.std.proofs.lemmas.List.Elements.{All-same}
 use Rattle.std.proofs.lemmas.List.{append_cancel_left}
 use Rattle.js_base.specs.declared.diagnostic.Diagnostic.{Diagnostic}
 use Rattle.js_base.specs.declared.kind.Kind.{Kind}
-use Rattle.js_base.specs.declared.kind.Kind.TheVariants.{Eof, RAngle, RegExp, Slash, SlashEq, Undetermined}
+use Rattle.js_base.specs.declared.kind.Kind.TheVariants.{Eof, RAngle, RCurly, RegExp, Slash, SlashEq, TemplateMiddle, TemplateTail, Undetermined}
 use Rattle.js_base.specs.declared.span.Span.{Span}
 use Rattle.js_base.specs.declared.token.Token.{Token}
 use Rattle.js_base.specs.Kinds.{same_kind, one_of_kinds}
 use Rattle.js_base.specs.Texts.{words}
 use Rattle.js_base.proofs.KindLemmas.{kind_of_same}
 use Rattle.js_grammar.specs.Trees.{Label, end, tree, no_op, reg_exp_literal}
-use Rattle.js_grammar.specs.Characters.{width}
 use Rattle.js_grammar.specs.Grammar.{Lexeme, Look, is, lexeme, next, nothing}
 use Rattle.js_grammar.specs.Lexemes.{LexicalGoal, division, is_escaped, kind_in, regular_expression}
-use Rattle.js_grammar.specs.Lexed.{IsLexeme, Lex as StandsBehind, Passing, in_script, in_module, all_faults, passing_of, comments_pass, flags_right}
+use Rattle.js_grammar.specs.Lexed.{IsLexeme, Lex as StandsBehind, Passing, all_faults, passing_of, comments_pass, flags_right}
 use Rattle.js_grammar.specs.Longest.{joined}
 use Rattle.js_grammar.specs.LexicalFaults.{behind}
 use Rattle.js_grammar.specs.Parsing.{Test, passing, Reads}
 use Rattle.js_grammar.specs.Productions.{Flags, Primary, at, tok}
-use Rattle.js_grammar.specs.RegularExpressions.{are_flags, flags, flags_pass}
-use Rattle.js_grammar.specs.Follow.{after, row_of}
-use Rattle.js_grammar.specs.Insertion.{after_expression}
+use Rattle.js_grammar.specs.RegularExpressions.{flags, flags_pass}
+use Rattle.js_grammar.specs.Follow.{after}
 use Rattle.js_grammar.specs.Settings.{Goal, script, module_goal, commonjs, unambiguous}
 use Rattle.js_grammar.specs.Table.{rule, rule_of}
 use Rattle.js_grammar.proofs.Alike.{stands-same}
@@ -32,11 +30,12 @@ use Rattle.js_grammar.proofs.First.{starts}
 use Rattle.js_grammar.proofs.FirstClaims.{firsts}
 use Rattle.js_grammar.proofs.FirstRules.{fails_here}
 use Rattle.js_grammar.proofs.FollowLaws.{fails_by}
-use Rattle.js_grammar.proofs.Looks.{apart, covers, covered, not_both}
+use Rattle.js_grammar.proofs.Lexemes.{first_or}
+use Rattle.js_grammar.proofs.Looks.{apart, covers, not_both}
 use Rattle.js_grammar.specs.FirstSets.{first}
 use Rattle.js_lex.specs.Comments.{each_at, comment_at, irregular_at, html_fault_at}
 use Rattle.js_lex.specs.Places.{Word}
-use Rattle.js_lex.specs.Reading.{cut, flag_faults, in_a_module, is_kept, is_right_angle, kept_token, FlagsStand, Tells, GivesLexeme, GivesNone, LexemeBehind, Outcome}
+use Rattle.js_lex.specs.Reading.{flag_faults, in_a_module, is_kept, is_right_angle, kept_token, FlagsStand, Tells, GivesLexeme, GivesNone, LexemeBehind, Outcome}
 use Rattle.js_lex.specs.States.{goal_of}
 use Rattle.js_lex.proofs.Again.{cut_same}
 use Rattle.js_lex.proofs.Flags.{spelled}
@@ -52,7 +51,7 @@ use Rattle.js_cursor.specs.Moves.{Completed, GivesUp, IsRegularExpression, IsUne
 use Rattle.js_cursor.specs.Notes.{Notes}
 use Rattle.js_cursor.specs.Parsers.{Parser}
 use Rattle.js_cursor.specs.Places.{IsAt, goal}
-use Rattle.js_cursor.specs.Tokens.{IsToken, whole as whole_token, sign as sign_token, nothing as no_token}
+use Rattle.js_cursor.specs.Tokens.{IsToken, sign as sign_token}
 use Rattle.js_cursor.specs.declared.stop.Stop.{Stop}
 use Rattle.js_cursor.specs.declared.stop.Stop.TheVariants.{Fatal, NoMemory}
 use Rattle.js_cursor.proofs.Later.{keeps_follows, passed_follows, read_again_follows, follows_on}
@@ -60,22 +59,22 @@ use Rattle.js_cursor.proofs.Moving.{lexeme_some}
 use Rattle.js_parsing.specs.Answers.{Numbered, Stops, Underived, clean}
 use Rattle.js_parsing.specs.Classes.{IsEarly}
 use Rattle.js_parsing.specs.Heads.{NotedHeads}
-use Rattle.js_parsing.specs.Lexemes.{Faultless, IsNew, IsPattern, IsRight, KeptFor, KeptLast, Lex, News, NoneToEnd, TriviaKept, Walked, is_read, kept_before, nowhere, onward, read_again, read_kinds, slashes, spot, with_faults}
+use Rattle.js_parsing.specs.Lexemes.{Faultless, IsNew, IsReread, IsRight, KeptFor, KeptLast, Lex, News, NoneToEnd, TriviaKept, Walked, goal_for, is_read, kept_before, nowhere, onward, other_goals, read_again, read_kinds, signs_of, slashes, spot, with_faults}
 use Rattle.js_parsing.specs.Moves.{MadeHere, plain_label}
 use Rattle.js_parsing.specs.States.{At, IsPlain, whole, sign, nothing as none_stands, Same, flags_of}
 use Rattle.js_parsing.proofs.Beginning.{behind_first}
 use Rattle.js_parsing.proofs.Classes.{unexpected_ends}
 use Rattle.js_parsing.proofs.Dead.{live, lives}
 use Rattle.js_parsing.proofs.Giving.{kept_one}
-use Rattle.js_parsing.proofs.Here.{alike, no_pattern_token, told_plain}
+use Rattle.js_parsing.proofs.Here.{alike, plain_token, sign_here, told_plain}
 use Rattle.js_parsing.proofs.Kept.{kept_for, passing_so}
 use Rattle.js_parsing.proofs.KeptTokens.{again_before, again_last, before_next, trivia_kept}
 use Rattle.js_parsing.proofs.MadeNodes.{leaf_held, one_lies}
 use Rattle.js_parsing.proofs.Moving.{flags_same, heads_kept, nodes_lie}
-use Rattle.js_parsing.proofs.Paths.{Path, ◌⟼◌, at_kinds, label_here, noded, reads, walked_to}
-use Rattle.js_parsing.proofs.Slashes.{SlashThere, pattern_goal, slash_there}
+use Rattle.js_parsing.proofs.Paths.{Path, ◌⟼◌, at_kinds, label_here, noded, walked_to}
+use Rattle.js_parsing.proofs.Slashes.{pattern_goal, sign_there}
 use Rattle.js_parsing.proofs.Signs.{whole_sign}
-use Rattle.js_parsing.proofs.ToEnd.{no_slash, to_end_none}
+use Rattle.js_parsing.proofs.ToEnd.{to_end_none}
 use Rattle.js_parsing.proofs.Unbuilt.{nothing_unbuilt}
 use Rattle.js_parsing.proofs.Verdicts.{grown_then}
 use Rattle.js_operands.proofs.FlagFaults.{are_right, none_wrong}
@@ -107,7 +106,7 @@ by_sign P k h a b = go (slash_kinds k h)
 
 -- the token is none
 pub no_pattern_here : {text : List ℕ} {f : Flags} {p : Parser} → At text f p → p.token.kind ≡ RegExp → ⊥
-no_pattern_here a e = false≢true (sym (no_pattern_token a.plain) ∙ ap (same_kind RegExp) e)
+no_pattern_here a e = false≢true (sym (plain_token a.plain) ∙ ap (one_of_kinds other_goals) e)
 
 -- ---- the flags of a regular expression
 
@@ -144,8 +143,8 @@ any_goal h k = pattern_goal (record { trivia = h.trivia; goal = h.goal; word = h
 read_slash : (k : Kind) → one_of_kinds slashes k ≡ true → one_of_kinds read_kinds k ≡ true
 read_slash k h = by_sign (λ j. one_of_kinds read_kinds j ≡ true) k h refl refl
 
-no_pattern_sign : (k : Kind) → one_of_kinds slashes k ≡ true → same_kind RegExp k ≡ false
-no_pattern_sign k h = by_sign (λ j. same_kind RegExp j ≡ false) k h refl refl
+plain_sign_of : (k : Kind) → one_of_kinds slashes k ≡ true → one_of_kinds other_goals k ≡ false
+plain_sign_of k h = by_sign (λ j. one_of_kinds other_goals j ≡ false) k h refl refl
 
 -- The faults of the flags were kept: the lexeme has none exactly where none was, if what stands before it has none.
 pattern_so : (source : Goal) (at_end : ℕ) {text : List ℕ} {s : ℕ} {y : Lexeme} {t : Token} {faults : List Diagnostic} → IsUtf8 text → IsCharBoundary text s → (h : StandsBehind all_faults text s y) → y.kind ≡ RegExp → IsTrue (is_read y) → Tells y t → FlagsStand text at_end t faults
@@ -168,9 +167,10 @@ pattern_so source at_end {text} {s} {y} {t} {faults} u b h k r e x = (right, wro
 
     right : faults ≡ [] → IsRight source text s → Faultless source text s y
     right z sound =
-        let l = slash_there h k in
-        let n : IsTrue (is_read l.lexeme) = and_from _ _ (read_slash l.lexeme.kind l.is) (ap not l.escaped ∙ (and_parts (one_of_kinds read_kinds y.kind) (not y.escaped) r).1) in
-        let f = sound l.lexeme (l.stands.lex, n) (no_pattern_sign l.lexeme.kind l.is) in
+        let l = sign_there h (ap (one_of_kinds other_goals) k) in
+        let slash : one_of_kinds slashes l.lexeme.kind ≡ true = subst (λ (v : Kind). one_of_kinds (signs_of v) l.lexeme.kind ≡ true) k l.is in
+        let n : IsTrue (is_read l.lexeme) = and_from _ _ (read_slash l.lexeme.kind slash) (ap not l.escaped ∙ (and_parts (one_of_kinds read_kinds y.kind) (not y.escaped) r).1) in
+        let f = sound l.lexeme (l.stands.lex, n) (plain_sign_of l.lexeme.kind slash) in
         let c : comments_pass (passing_of source) h.trivia ≡ true = subst (λ (ps : List (List ℕ)). comments_pass (passing_of source) ps ≡ true) (stands-same f.0.stands h.stands).pieces f.0.comments in
         let w : flags_pass (flags h.word) ≡ true = ap flags_pass are ∙ are_right at_end stand.0 (sym stand.3 ∙ z) in
         (passing_so h c (subst (λ (j : Kind). flags_right (passing_of source) j h.word ≡ true) (sym k) (flags_of_goal source h.word w)), r)
@@ -220,15 +220,25 @@ module _ {text : List ℕ} {f : Flags} {p q : Parser} {at_end : ℕ} (a : At tex
   abbrev operand_kinds : Look
   operand_kinds k w e = starts first (live (rule (at Primary f))) (after (at Primary f)).base k w e
 
+  -- no other lexeme of another goal begins with it
+  pattern_of : (k : Kind) → one_of_kinds other_goals k ≡ true → one_of_kinds (signs_of k) p.token.kind ≡ true → k ≡ RegExp
+  pattern_of k h s =
+      first_or (λ (v : Kind). one_of_kinds (signs_of v) p.token.kind ≡ true → v ≡ RegExp) RegExp k _ _ refl h (λ s. refl) (λ h.
+      first_or (λ (v : Kind). one_of_kinds (signs_of v) p.token.kind ≡ true → v ≡ RegExp) TemplateMiddle k _ _ refl h (λ s. absurd (no_brace s)) (λ h.
+      first_or (λ (v : Kind). one_of_kinds (signs_of v) p.token.kind ≡ true → v ≡ RegExp) TemplateTail k _ _ refl h (λ s. absurd (no_brace s)) (λ h. absurd (false≢true h)))) s
+    where
+      no_brace : one_of_kinds (RCurly ∷ []) p.token.kind ≡ true → ⊥
+      no_brace b = false≢true (sym (by_sign (λ j. one_of_kinds (RCurly ∷ []) j ≡ false) p.token.kind u refl refl) ∙ b)
+
   no_operand : ((y : Lexeme) → Lex text p.prev_token_end y → y.kind ≡ RegExp → ⊥) → Underived text (at Primary f) p.prev_token_end
   unfolding rule rule_of covers apart
-  no_operand n = fails_by (lives (rule (at Primary f)) ▹✗ fails_here firsts (λ y l s. go y l s (same_kind RegExp y.kind) refl))
+  no_operand n = fails_by (lives (rule (at Primary f)) ▹✗ fails_here firsts (λ y l s. go y l s (one_of_kinds other_goals y.kind) refl))
     where
       a_sign : Look
       a_sign k w e = one_of_kinds slashes k
 
-      go : (y : Lexeme) → Lex text p.prev_token_end y → IsTrue (operand_kinds y.kind y.newline y.escaped) → (b : Bool) → same_kind RegExp y.kind ≡ b → ⊥
-      go y l s true e = n y l (sym (kind_of_same RegExp y.kind e))
+      go : (y : Lexeme) → Lex text p.prev_token_end y → IsTrue (operand_kinds y.kind y.newline y.escaped) → (b : Bool) → one_of_kinds other_goals y.kind ≡ b → ⊥
+      go y l s true e = n y l (pattern_of y.kind e (sign_here a y l e))
       go y l s false e = not_both a_sign operand_kinds refl y.kind y.newline y.escaped (subst (λ (k : Kind). one_of_kinds slashes k ≡ true) (told_plain a uncut_here y e l).kind u) s
 
   -- where none is read, none stands there
@@ -325,7 +335,7 @@ module _ {text : List ℕ} {f : Flags} {p q : Parser} {at_end : ℕ} (a : At tex
       }
         where
           meets_so : NoneToEnd text r.prev_token_end → NoneToEnd text p.prev_token_end
-          meets_so z = to_end_none (λ x l. let k = no_slash x.kind l.2 in false≢true (sym k.1 ∙ subst (λ (v : Kind). one_of_kinds slashes v ≡ true) (told_plain a uncut_here x k.0 l.0).kind u))
+          meets_so z = to_end_none (λ x l. false≢true (sym l.3 ∙ subst (λ (v : Kind). one_of_kinds slashes v ≡ true) (told_plain a uncut_here x l.2 l.0).kind u))
 
       nodes : r.nodes ≡ p.nodes
       nodes = m.stays.nodes ∙ h.stays.nodes
@@ -356,10 +366,10 @@ module _ {text : List ℕ} {f : Flags} {p q : Parser} {at_end : ℕ} (a : At tex
         trivia = there (λ v j. TriviaKept v j news.comments news.blanks) (trivia_kept m.next);
       }
 
-      is_pattern : IsPattern text (spot p) y h.faults
+      is_pattern : IsReread text (spot p) y h.faults
       is_pattern =
           let x = pattern_so (goal p) at_end {faults = h.going_on} a_utf8 a_between stood kind read_so given.1.tells (subst (λ (t : List ℕ). FlagsStand t at_end q.token h.going_on) a.text_is i.flags) in
-          record { is = kind; none = subst (λ (ds : List Diagnostic). ds ≡ [] → IsRight (goal p) text p.prev_token_end → Faultless (goal p) text p.prev_token_end y) (sym given.0) x.0; some = subst (λ (ds : List Diagnostic). (ds ≡ [] → ⊥) → Faultless (goal p) text p.prev_token_end y → ⊥) (sym given.0) x.1 }
+          record { is = ap (one_of_kinds other_goals) kind; none = subst (λ (ds : List Diagnostic). ds ≡ [] → IsRight (goal p) text p.prev_token_end → Faultless (goal p) text p.prev_token_end y) (sym given.0) x.0; some = subst (λ (ds : List Diagnostic). (ds ≡ [] → ⊥) → Faultless (goal p) text p.prev_token_end y → ⊥) (sym given.0) x.1 }
         where
           a_utf8 : IsUtf8 text
           a_utf8 = subst IsUtf8 a.text_is a.at.utf8
@@ -389,7 +399,7 @@ module _ {text : List ℕ} {f : Flags} {p q : Parser} {at_end : ℕ} (a : At tex
       reads_one : {X : Test} → Reads rule (Lex text) X end (tok RegExp) p.prev_token_end r.prev_token_end (λ us. us) (passing y)
       reads_one {X} = subst (λ (v : ℕ). Reads rule (Lex text) X end (lexeme (is RegExp)) p.prev_token_end v (λ us. us) (passing y)) ends
           (reads_lexeme (is RegExp) (stood, read_so) (and_from _ _ (subst (λ (k : Kind). same_kind RegExp k ≡ true) (sym kind) refl) (ap not plain))
-          (λ z l t. alike l (stood, read_so) ((and_parts (same_kind RegExp z.kind) (not z.escaped) t).0 ∙ sym (ap (same_kind RegExp) kind))))
+          (λ z l t. alike l (stood, read_so) (sym (ap goal_for (kind_of_same RegExp z.kind (and_parts (same_kind RegExp z.kind) (not z.escaped) t).0)) ∙ sym (ap goal_for kind))))
 
       path : Path text f (after (at Primary f)) (rule (at Primary f)) p nothing r (tree (label_here reg_exp_literal no_op p r) end)
       unfolding rule rule_of covers apart

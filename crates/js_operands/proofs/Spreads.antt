@@ -46,7 +46,7 @@ use Rattle.js_operands.proofs.Wholes.{item_by, part_answers}
 use Rattle.js_parsing.proofs.MadeNodes.{one_held, one_lies}
 use Rattle.js_parsing.proofs.Signs.{stands_not, stands_there}
 use Rattle.js_parsing.proofs.Moving.{same_both, stops_so, stops_behind}
-use Rattle.js_parsing.proofs.Paths.{Path, ◌⟼◌, ◌⟶◌, ◌⟶✗◌, token, last_called, noded_by, label_here, walked_from}
+use Rattle.js_parsing.proofs.Paths.{Path, ◌⟶◌, ◌⟶✗◌, token, last_called, noded_by, label_here, walked_from}
 use Rattle.js_parsing.proofs.Verdicts.{verdict_of, grown_both, grown_on}
 use Rattle.js_parsing.proofs.Giving.{kept_one}
 use Rattle.js_parsing.proofs.Told.{told_same, lexeme_marked}

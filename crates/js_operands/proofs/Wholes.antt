@@ -1,5 +1,5 @@
 -- Parts of a node that anything may follow, one behind the other; and what is made of them.
-use Rattle.std.proofs.Common.{ℕ, ◌≡◌, max, List, [], ◌∷◌, ◌++◌, length, Option, Some, None, refl, sym, subst, arith, ◌∙◌}
+use Rattle.std.proofs.Common.{ℕ, ◌≡◌, max, List, [], ◌∷◌, ◌++◌, length, Option, Some, None, refl, sym, subst, arith}
 use Rattle.std.specs.Prelude.{Result, Ok, Err}
 use Rattle.js_grammar.specs.Trees.{Label, Slots, end, hole, tree}
 use Rattle.js_grammar.specs.Grammar.{seq, such, nothing, empty_slot}

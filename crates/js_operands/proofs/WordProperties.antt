@@ -47,7 +47,7 @@ use Rattle.js_parsing.proofs.Moving.{beside_nodes, same_both, same_with, stops_b
 use Rattle.js_parsing.proofs.Paths.{Path, ◌⟼◌, ◌⟶◌, ◌⟶✗◌, by_symbol_as, fails_at, flagged_by, flagged_here, label_here, last_called, noded, one_read, passes_test, read_of, token}
 use Rattle.js_parsing.proofs.Signs.{other_kind, plain_sign}
 use Rattle.js_parsing.proofs.Verdicts.{grown_then, verdict_of}
-use Rattle.js_operands.proofs.Members.{name_of, word_slashless}
+use Rattle.js_operands.proofs.Members.{name_of, word_signless}
 use Rattle.js_operands.proofs.Methods.{no_first}
 use Rattle.js_operands.proofs.Operands.{name_leaf}
 use Rattle.js_operands.proofs.Properties.{behind_shorthand, initialiser, kinds_apart, no_getter, no_method, no_name_begins, no_setter, no_value, property_name_kinds, without_star, word_apart}
@@ -190,13 +190,13 @@ module _ {text : List ℕ} {f : Flags} {p q : Parser} (a : At text f p) (r : rea
 
   word_reads : Reads rule (Lex text) (plain full) end (symbol IdentifierName f) p.prev_token_end q.prev_token_end (tree word_label end) (passing m.lexeme)
   unfolding rule rule_of
-  word_reads = by_rule {X' = plain full} (λ l cs vs y d. (refl, refl)) (makes_by word_label inside_full (passes_test a any_word (word_slashless p.token.kind r) m word_is.0 word_is.1) (λ ls ls' l l'. ap label_from (begins_here a (here ls) (here_at (Lex text) ls l)))) refl
+  word_reads = by_rule {X' = plain full} (λ l cs vs y d. (refl, refl)) (makes_by word_label inside_full (passes_test a any_word (word_signless p.token.kind r) m word_is.0 word_is.1) (λ ls ls' l l'. ap label_from (begins_here a (here ls) (here_at (Lex text) ls l)))) refl
     where
       label_from : ℕ → Label
       label_from v = record { kind = identifier_name; op = no_op; flags = 0; span = record { from = v; to = q.prev_token_end } }
 
   its : (y : Lexeme) → Lex text p.prev_token_end y → y ≡ m.lexeme
-  its y l = one_read a (word_slashless p.token.kind r) l (m.stood, word_is.0)
+  its y l = one_read a (word_signless p.token.kind r) l (m.stood, word_is.0)
 
   ahead_goes : {X : Test} → Reads rule (Lex text) X end (ahead (symbol IdentifierName f)) p.prev_token_end p.prev_token_end (tree word_label end) (still (suc p.prev_token_end))
   ahead_goes = aheads (suc p.prev_token_end) there alone

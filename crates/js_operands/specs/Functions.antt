@@ -1,8 +1,8 @@
 -- Functions and generators (ECMA-262, 15.2, 15.5), and their parts.
-use Rattle.std.specs.Prelude.{ℕ, ◌≡◌, ◌<◌, ◌⊎◌, Bool, true, false, not, List, [], ◌∷◌, Option, Some, None, Result, Ok, Err}
+use Rattle.std.specs.Prelude.{ℕ, ◌≡◌, ◌<◌, Bool, true, false, not, List, [], ◌∷◌, Option, Some, None, Result, Ok, Err}
 use Rattle.js_base.specs.declared.diagnostic.Diagnostic.{Diagnostic}
 use Rattle.js_base.specs.declared.diagnostic.DiagnosticKind.TheVariants.{ExpectFunctionName}
-use Rattle.js_base.specs.declared.kind.Kind.TheVariants.{Function as a_function, LParen, Star}
+use Rattle.js_base.specs.declared.kind.Kind.TheVariants.{Function as a_function, Star}
 use Rattle.js_base.specs.declared.span.Span.{Span}
 use Rattle.js_grammar.specs.Trees.{NodeKind, end as no_slots, function_declaration, function_expression}
 use Rattle.js_grammar.specs.Grammar.{Lexemes, nothing, ◌▸◌}

@@ -5,7 +5,7 @@ use Rattle.js_base.specs.declared.diagnostic.Diagnostic.{Diagnostic}
 use Rattle.js_base.specs.declared.diagnostic.DiagnosticKind.TheVariants.{InvalidNewOptionalChain, IdentifierExpectedAfterQuestionDot}
 use Rattle.js_base.specs.declared.span.Span.{Span}
 use Rattle.js_base.specs.declared.kind.Kind.{Kind}
-use Rattle.js_base.specs.declared.kind.Kind.TheVariants.{New, Dot, QuestionDot, LParen, LBrack, RBrack}
+use Rattle.js_base.specs.declared.kind.Kind.TheVariants.{New, Dot, QuestionDot, LParen, LBrack, NoSubstitutionTemplate, RBrack, TemplateHead}
 use Rattle.js_base.specs.Kinds.{one_of_kinds}
 use Rattle.js_grammar.specs.Trees.{NodeKind as TreeKind, Slots, end, tree, Label, no_op, static_member_expression, computed_member_expression, call_expression, new_expression}
 use Rattle.js_grammar.specs.Grammar.{Lexeme, Lexemes, is, such, nothing, ◌▸◌}
@@ -75,7 +75,11 @@ abbrev pub NoMember : List ℕ → Flags → ℕ → Type 0
 NoMember text f s = Underived text (at Member f) s × NoBareNew text f s
 
 abbrev pub link_kinds : List Kind
-link_kinds = Dot ∷ LBrack ∷ QuestionDot ∷ LParen ∷ []
+link_kinds = Dot ∷ LBrack ∷ NoSubstitutionTemplate ∷ TemplateHead ∷ QuestionDot ∷ LParen ∷ []
+
+-- those of members, which go on with a call too
+abbrev pub access_kinds : List Kind
+access_kinds = Dot ∷ LBrack ∷ NoSubstitutionTemplate ∷ TemplateHead ∷ []
 
 -- A MemberExpression; or a NewExpression that is none, behind which no link stands.
 pub data Headed (text : List ℕ) (f : Flags) (s : ℕ) (l : Label) (cs : Slots) (pass : Lexemes → Lexemes) (s' : ℕ) : Type 0 where
@@ -86,11 +90,11 @@ pub data Headed (text : List ℕ) (f : Flags) (s : ℕ) (l : Label) (cs : Slots)
 abbrev pub MemberSoFar : List ℕ → Flags → ℕ → ℕ → Label → Slots → (Lexemes → Lexemes) → ℕ → Type 0
 MemberSoFar text f s from l cs pass s' = Looped text (members f) (after (at Member f)) s from l cs pass s' × NoBareNew text f s
 
--- neither `.` nor `[` stands here
+-- neither `.` nor `[` stands here, nor a template
 abbrev pub NoAccess : List ℕ → Parser → Type 0
-NoAccess text q = ((y : Lexeme) → Lex text q.prev_token_end y → y.kind ≡ Dot → ⊥) × ((y : Lexeme) → Lex text q.prev_token_end y → y.kind ≡ LBrack → ⊥)
+NoAccess text q = (y : Lexeme) → Lex text q.prev_token_end y → one_of_kinds access_kinds y.kind ≡ false
 
--- what LeftHandSideExpressions begin with, behind which no name and no expression in brackets stands
+-- what LeftHandSideExpressions begin with, behind which no name, no expression in brackets and no template stands
 abbrev pub HeadOutcome : List ℕ → Flags → Parser → Parser → Result NodeId Stop → Type 0
 HeadOutcome text f p q (Ok id) = Taken text f p q id (λ l cs pass s'. Headed text f p.prev_token_end l cs pass s') (NoMember text f p.prev_token_end) × NoAccess text q
 HeadOutcome text f p q (Err e) = Stops p q e (NoMember text f p.prev_token_end)

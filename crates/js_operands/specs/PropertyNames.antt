@@ -1,5 +1,5 @@
 -- What the parse functions of names of properties answer (ECMA-262, 13.2.5).
-use Rattle.std.specs.Prelude.{ℕ, ◌≡◌, ◌<◌, List, Bool, true, false, not, length, Result, Ok, Err}
+use Rattle.std.specs.Prelude.{ℕ, ◌<◌, List, Bool, true, false, not, length, Result, Ok, Err}
 use Rattle.js_grammar.specs.Trees.{Label, Slots, end, tree}
 use Rattle.js_grammar.specs.Grammar.{Lexemes, nothing}
 use Rattle.js_grammar.specs.Parsing.{plain, full, Fails}

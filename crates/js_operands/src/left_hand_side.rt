@@ -10,7 +10,7 @@ ghost use Rattle.js_grammar.specs.Marks.{Mark};
 ghost use Rattle.js_cursor.specs.Places.{goal};
 ghost use Rattle.js_parsing.specs.Lexemes.{read_word};
 ghost use Rattle.js_operands.specs.Members.{CallsMember, ChainsCallee, GoesOnMember, Heads, LinkHere, MakesWithArguments, MakesWithIndex, ReadsLink, TellsChain, flagged_label, no_link_behind};
-ghost use Rattle.js_operands.specs.Templates.{ChainGoesOn, ReadsChainLink};
+ghost use Rattle.js_operands.specs.Templates.{GoesOn, ReadsChainLink};
 ghost use Rattle.js_parsing.specs.Stands.{StandsHere};
 ghost use Rattle.js_operands.specs.Members as members;
 ghost use Rattle.js_parsing.specs.Moves.{MadeHere};
@@ -20,7 +20,7 @@ ghost use Rattle.js_operands.specs.declared.left_hand_side.LinkBase.TheVariants 
 
 use crate::arguments::parse_call_arguments;
 use crate::primary::{parse_leaf, parse_primary_expression};
-use crate::template::{begins_template, parse_chained_template};
+use crate::template::{begins_template, parse_chained_template, parse_tagged_template};
 use js_base::{DiagnosticKind, Kind, NoMemory, Span};
 use js_cursor::{ParserImpl, Stop};
 use js_lex::ParserConfig;
@@ -99,7 +99,7 @@ fn refuse_chain<C: ParserConfig>(p: &mut ParserImpl<'_, C>) -> Stop
     p.set_fatal_error(diagnostic_at(DiagnosticKind::InvalidNewOptionalChain, sign))
 }
 
-/// The names and the expressions in brackets behind a member.
+/// The names, the expressions in brackets and the templates behind a member.
 fn parse_member_expression_rest<C: ParserConfig, N: Nested<C>>(
     p: &mut ParserImpl<'_, C>,
     nested: &N,
@@ -112,13 +112,17 @@ fn parse_member_expression_rest<C: ParserConfig, N: Nested<C>>(
     ensures { GoesOnMember start member p.old p.new result }
 {
     let mut left = member;
-    'links: while link_here(p, LinkBase::Member) {
-        left = parse_link(p, nested, start, left)?;
+    'links: while goes_on(p, LinkBase::Member) {
+        if begins_template(p.cur_kind()) {
+            left = parse_tagged_template(p, nested, start, left)?;
+        } else {
+            left = parse_link(p, nested, start, left)?;
+        }
     }
     Ok(left)
 }
 
-/// The calls behind a member, where one stands, and the names and expressions in brackets behind them.
+/// The calls behind a member, where one stands, and the names, expressions in brackets and templates behind them.
 fn parse_call_expression_rest<C: ParserConfig, N: Nested<C>>(
     p: &mut ParserImpl<'_, C>,
     nested: &N,
@@ -134,8 +138,12 @@ fn parse_call_expression_rest<C: ParserConfig, N: Nested<C>>(
         return Ok(member);
     }
     let mut left = parse_link(p, nested, start, member)?;
-    'links: while link_here(p, LinkBase::Call) {
-        left = parse_link(p, nested, start, left)?;
+    'links: while goes_on(p, LinkBase::Call) {
+        if begins_template(p.cur_kind()) {
+            left = parse_tagged_template(p, nested, start, left)?;
+        } else {
+            left = parse_link(p, nested, start, left)?;
+        }
     }
     Ok(left)
 }
@@ -156,7 +164,7 @@ fn parse_optional_chain<C: ParserConfig, N: Nested<C>>(
         return Ok(callee);
     }
     let mut left = parse_optional_link(p, nested, start, callee)?;
-    'links: while chain_goes_on(p) {
+    'links: while goes_on(p, LinkBase::Chain) {
         left = parse_chain_link(p, nested, start, left)?;
     }
     let span = p.end_span(start);
@@ -186,14 +194,14 @@ fn link_here<C: ParserConfig>(p: &ParserImpl<'_, C>, base: LinkBase) -> bool
     }
 }
 
-/// Whether an optional chain goes on here: with a link, or with a template, which may not stand there.
-fn chain_goes_on<C: ParserConfig>(p: &ParserImpl<'_, C>) -> bool
-    ensures { ChainGoesOn p.now result }
+/// Whether such a base goes on here: with a link, or with a template, which may not stand behind an optional chain.
+fn goes_on<C: ParserConfig>(p: &ParserImpl<'_, C>, base: LinkBase) -> bool
+    ensures { GoesOn base p.now result }
 {
     if begins_template(p.cur_kind()) {
         return true;
     }
-    link_here(p, LinkBase::Chain)
+    link_here(p, base)
 }
 
 /// The link of an optional chain that stands here, behind what was read; or a template, of which is told that it stands
@@ -208,7 +216,7 @@ fn parse_chain_link<C: ParserConfig, N: Nested<C>>(
     requires at { Standing p.old }
     requires nests { CanNest (N.can nested.now) (room p.old) }
     requires start { start ≤ p.old.prev_token_end }
-    requires link { ChainGoesOn p.old true }
+    requires link { GoesOn base.Chain p.old true }
     ensures { ReadsChainLink start left p.old p.new result }
 {
     if begins_template(p.cur_kind()) {

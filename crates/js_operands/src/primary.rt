@@ -21,6 +21,7 @@ use crate::array::parse_array_expression;
 use crate::function::parse_function_expression;
 use crate::left_hand_side::{parse_identifier_name, parse_with_arguments};
 use crate::object::parse_object_expression;
+use crate::template::parse_template;
 use js_base::{Kind, Span};
 use js_cursor::{ParserImpl, Stop};
 use js_lex::ParserConfig;
@@ -55,6 +56,7 @@ pub fn parse_primary_expression<C: ParserConfig, N: Nested<C>>(
         Kind::True | Kind::False => parse_leaf(p, NodeKind::BooleanLiteral, Op::None),
         Kind::Str => parse_leaf(p, NodeKind::StringLiteral, Op::None),
         Kind::Slash | Kind::SlashEq => parse_literal_regexp(p),
+        Kind::NoSubstitutionTemplate | Kind::TemplateHead => parse_template(p, nested),
         Kind::LParen => parse_parenthesized_expression(p, nested),
         Kind::LBrack => parse_array_expression(p, nested),
         Kind::Function => parse_function_expression(p, nested),

@@ -1,13 +1,14 @@
-//! Templates behind optional chains, which may not stand there (ECMA-262, section 13.3.1.1).
+//! Templates, and tagged ones (ECMA-262, sections 13.2.8, 13.3.11); behind an optional chain none may stand (13.3.1.1).
 
 ghost use Rattle.std.specs.Prelude.{◌≡◌, ◌≤◌, ◌∷◌, [], true, IfOk, MatchResult};
 ghost use Rattle.js_base.specs.Kinds.{one_of_kinds};
 ghost use Rattle.js_cursor.specs.Moves.{OnlyMemory};
-ghost use Rattle.js_operands.specs.Templates.{BeginsPart, TakesPart, StandingPart, TagsTemplate, TakesTemplate, TellsTemplate, element_label, heads, inside_end, inside_fits, last_parts};
+ghost use Rattle.js_operands.specs.Templates.{BeginsPart, ReadsTagged, TakesPart, StandingPart, TagsTemplate, TakesTemplate, TellsTemplate, element_label, heads, inside_end, inside_fits, last_parts};
 ghost use Rattle.js_parsing.specs.Moves.{MadeHere};
 ghost use Rattle.js_parsing.specs.Nesting.{CanNest, room};
 ghost use Rattle.js_parsing.specs.States.{Standing};
-ghost use Rattle.js_grammar.specs.Productions.{tail_flag};
+ghost use Rattle.js_grammar.specs.Productions.{at, tail_flag, Primary};
+ghost use Rattle.js_parsing.specs.Answers.{Answers};
 ghost use Rattle.js_tree.specs.Labels.{number_of};
 ghost use Rattle.std.specs.Prelude.{cond, ◌+◌};
 
@@ -34,6 +35,41 @@ pub fn begins_template(kind: Kind) -> bool
     ensures { result ≡ one_of_kinds heads kind }
 {
     matches!(kind, Kind::NoSubstitutionTemplate | Kind::TemplateHead)
+}
+
+/// A TemplateLiteral as a PrimaryExpression.
+#[inline(never)]
+pub fn parse_template<C: ParserConfig, N: Nested<C>>(
+    p: &mut ParserImpl<'_, C>,
+    nested: &N,
+) -> Result<NodeId, Stop>
+    requires at { Standing p.old }
+    requires nests { CanNest (N.can nested.now) (room p.old) }
+    requires template { one_of_kinds heads p.old.token.kind ≡ true }
+    ensures { Answers (at Primary) p.old p.new result }
+{
+    parse_template_literal(p, nested)
+}
+
+/// The template behind a member or a call, and the node of both.
+#[inline(never)]
+pub fn parse_tagged_template<C: ParserConfig, N: Nested<C>>(
+    p: &mut ParserImpl<'_, C>,
+    nested: &N,
+    start: u32,
+    tag: NodeId,
+) -> Result<NodeId, Stop>
+    requires at { Standing p.old }
+    requires nests { CanNest (N.can nested.now) (room p.old) }
+    requires start { start ≤ p.old.prev_token_end }
+    requires template { one_of_kinds heads p.old.token.kind ≡ true }
+    ensures { ReadsTagged start tag p.old p.new result }
+{
+    let template = parse_template_literal(p, nested)?;
+    let span = p.end_span(start);
+    let kind = NodeKind::TaggedTemplateExpression;
+    let node = make_two(p, kind, Op::None, span, tag, template)?;
+    Ok(node)
 }
 
 /// The template behind what was read of an optional chain: it is told of, from its first to its last backquote, and

@@ -1,9 +1,9 @@
 -- What the current token says of every lexeme that may stand at its place.
-use Rattle.std.proofs.Common.{ℕ, ◌≡◌, ◌⊎◌, inl, inr, Bool, true, false, not, ◌&&◌, ◌||◌, List, [], ◌∷◌, IsTrue, refl, sym, ap, subst, ◌∙◌}
+use Rattle.std.proofs.Common.{ℕ, ◌≡◌, ◌⊎◌, inl, inr, Bool, true, false, not, cond, ◌&&◌, ◌||◌, List, [], ◌∷◌, IsTrue, refl, sym, ap, subst, ◌∙◌}
 use Rattle.std.specs.Prelude.{Some}
-use Rattle.std.proofs.lemmas.Bool.{false≢true, and_parts}
+use Rattle.std.proofs.lemmas.Bool.{false≢true, and_parts, or_left, or_right}
 use Rattle.js_base.specs.declared.kind.Kind.{Kind}
-use Rattle.js_base.specs.declared.kind.Kind.TheVariants.{RAngle, RegExp, TemplateMiddle, TemplateTail, HashbangComment, Undetermined}
+use Rattle.js_base.specs.declared.kind.Kind.TheVariants.{RAngle, RCurly, RegExp, TemplateMiddle, TemplateTail, HashbangComment, Undetermined}
 use Rattle.js_base.specs.declared.token.Token.{Token}
 use Rattle.js_base.specs.Kinds.{same_kind, one_of_kinds}
 use Rattle.js_grammar.specs.Grammar.{Lexeme, Look}
@@ -12,94 +12,122 @@ use Rattle.js_grammar.specs.Lexed.{Lex as StandsBehind, all_faults}
 use Rattle.js_grammar.specs.Productions.{Flags}
 use Rattle.js_base.proofs.KindLemmas.{kind_of_same}
 use Rattle.js_grammar.proofs.Alike.{lex-same}
+use Rattle.js_grammar.proofs.Lexemes.{first_or}
 use Rattle.js_grammar.proofs.Looks.{covers, covered}
 use Rattle.js_lex.specs.Reading.{cut, is_right_angle, Tells, GivesLexeme, LexemeBehind}
 use Rattle.js_lex.proofs.Again.{cut_same}
 use Rattle.js_lex.proofs.KindsOfLexemes.{pattern_is, tail_is, hashbang_is}
 use Rattle.js_cursor.specs.Parsers.{Parser}
 use Rattle.js_cursor.specs.Moves.{is_last}
-use Rattle.js_parsing.specs.Lexemes.{Lex, is_read, read_kinds, slashes}
+use Rattle.js_parsing.specs.Lexemes.{Lex, goal_for, is_read, other_goals, read_kinds, signs, signs_of, slashes, template_tails}
 use Rattle.js_parsing.specs.States.{At, IsPlain, whole, sign, nothing}
-use Rattle.js_parsing.proofs.Slashes.{SlashThere, pattern_goal, slash_there}
+use Rattle.js_parsing.proofs.Slashes.{SignThere, pattern_goal, sign_there, tail_goal}
 
--- a lexeme of a kind that is read, and no regular expression, is one of the plain lexical goal
-pub plain_kind : {text : List ℕ} {s : ℕ} {y : Lexeme} (h : StandsBehind all_faults text s y) → one_of_kinds read_kinds y.kind ≡ true → same_kind RegExp y.kind ≡ false → h.goal ≡ division
-plain_kind {y = y} h kinds r = go h.goal refl h.lexeme.kind
+-- two lexical goals of kinds that are read
+pub goal_here : (k : Kind) → one_of_kinds other_goals k ≡ false → goal_for k ≡ division
+goal_here k n = go (same_kind RegExp k) refl (one_of_kinds template_tails k) refl n
+  where
+    go : (b : Bool) → same_kind RegExp k ≡ b → (c : Bool) → one_of_kinds template_tails k ≡ c → (b || c) ≡ false → goal_for k ≡ division
+    go true e c f q = absurd (false≢true (sym q))
+    go false e true f q = absurd (false≢true (sym q))
+    go false e false f q = rw (e, f) refl
+
+-- a lexeme of a kind that is read is one of its lexical goal
+pub goal_is : {text : List ℕ} {s : ℕ} {y : Lexeme} (h : StandsBehind all_faults text s y) → one_of_kinds read_kinds y.kind ≡ true → h.goal ≡ goal_for y.kind
+goal_is {y = y} h kinds = go (same_kind RegExp y.kind) refl (one_of_kinds template_tails y.kind) refl
   where
     is_none : (k : Kind) → one_of_kinds read_kinds k ≡ false → y.kind ≡ k → ⊥
     is_none k n e = false≢true (sym n ∙ subst (λ v. one_of_kinds read_kinds v ≡ true) e kinds)
 
-    tail : (y.kind ≡ TemplateMiddle) ⊎ (y.kind ≡ TemplateTail) → ⊥
-    tail (inl e) = is_none TemplateMiddle refl e
-    tail (inr e) = is_none TemplateTail refl e
+    tail : (y.kind ≡ TemplateMiddle) ⊎ (y.kind ≡ TemplateTail) → one_of_kinds template_tails y.kind ≡ true
+    tail (inl e) = ap (one_of_kinds template_tails) e
+    tail (inr e) = ap (one_of_kinds template_tails) e
 
-    go : (g : LexicalGoal) → h.goal ≡ g → kind_in h.goal h.word h.rest ≡ Some y.kind → h.goal ≡ division
-    go division e q = e
-    go regular_expression e q = absurd (false≢true (sym r ∙ ap (same_kind RegExp) (pattern_is h.word y.kind (subst (λ (v : LexicalGoal). kind_in v h.word h.rest ≡ Some y.kind) e q))))
-    go template_tail e q = absurd (tail (tail_is h.word y.kind (subst (λ (v : LexicalGoal). kind_in v h.word h.rest ≡ Some y.kind) e q)))
-    go hashbang e q = absurd (is_none HashbangComment refl (hashbang_is h.word y.kind (subst (λ (v : LexicalGoal). kind_in v h.word h.rest ≡ Some y.kind) e q)))
+    plain : same_kind RegExp y.kind ≡ false → one_of_kinds template_tails y.kind ≡ false → (g : LexicalGoal) → h.goal ≡ g → kind_in h.goal h.word h.rest ≡ Some y.kind → h.goal ≡ division
+    plain r t division e q = e
+    plain r t regular_expression e q = absurd (false≢true (sym r ∙ ap (same_kind RegExp) (pattern_is h.word y.kind (subst (λ (v : LexicalGoal). kind_in v h.word h.rest ≡ Some y.kind) e q))))
+    plain r t template_tail e q = absurd (false≢true (sym t ∙ tail (tail_is h.word y.kind (subst (λ (v : LexicalGoal). kind_in v h.word h.rest ≡ Some y.kind) e q))))
+    plain r t hashbang e q = absurd (is_none HashbangComment refl (hashbang_is h.word y.kind (subst (λ (v : LexicalGoal). kind_in v h.word h.rest ≡ Some y.kind) e q)))
 
-pub plainly : {text : List ℕ} {s : ℕ} {y : Lexeme} (h : StandsBehind all_faults text s y) → IsTrue (is_read y) → same_kind RegExp y.kind ≡ false → h.goal ≡ division
+    go : (b : Bool) → same_kind RegExp y.kind ≡ b → (c : Bool) → one_of_kinds template_tails y.kind ≡ c → h.goal ≡ goal_for y.kind
+    go true e c f = pattern_goal h (sym (kind_of_same RegExp y.kind e)) ∙ sym (ap (λ (v : Bool). cond v regular_expression (cond (one_of_kinds template_tails y.kind) template_tail division)) e)
+    go false e true f = tail_goal h f ∙ rw (e, f) refl
+    go false e false f = plain e f h.goal refl h.lexeme.kind ∙ rw (e, f) refl
+
+-- a lexeme of a kind that is read, and of no other lexical goal, is one of the plain one
+pub plain_kind : {text : List ℕ} {s : ℕ} {y : Lexeme} (h : StandsBehind all_faults text s y) → one_of_kinds read_kinds y.kind ≡ true → one_of_kinds other_goals y.kind ≡ false → h.goal ≡ division
+plain_kind {y = y} h kinds r = goal_is h kinds ∙ goal_here y.kind r
+
+pub plainly : {text : List ℕ} {s : ℕ} {y : Lexeme} (h : StandsBehind all_faults text s y) → IsTrue (is_read y) → one_of_kinds other_goals y.kind ≡ false → h.goal ≡ division
 plainly {y = y} h r = plain_kind h (and_parts (one_of_kinds read_kinds y.kind) (not y.escaped) r).0
 
--- two lexemes that are read behind one place are one, if both are regular expressions or neither is
-pub alike : {text : List ℕ} {s : ℕ} {y z : Lexeme} → Lex text s y → Lex text s z → same_kind RegExp y.kind ≡ same_kind RegExp z.kind → y ≡ z
-alike {y = y} {z} l m e = go (same_kind RegExp y.kind) refl
-  where
-    go : (b : Bool) → same_kind RegExp y.kind ≡ b → y ≡ z
-    go true h = lex-same l.0 m.0 (pattern_goal l.0 (sym (kind_of_same RegExp y.kind h)) ∙ sym (pattern_goal m.0 (sym (kind_of_same RegExp z.kind (sym e ∙ h)))))
-    go false h = lex-same l.0 m.0 (plainly l.0 l.1 h ∙ sym (plainly m.0 m.1 (sym e ∙ h)))
+-- two lexemes that are read behind one place are one, if they are of one lexical goal
+pub alike : {text : List ℕ} {s : ℕ} {y z : Lexeme} → Lex text s y → Lex text s z → goal_for y.kind ≡ goal_for z.kind → y ≡ z
+alike {y = y} {z} l m e = lex-same l.0 m.0 (goal_is l.0 (and_parts (one_of_kinds read_kinds y.kind) (not y.escaped) l.1).0 ∙ (e ∙ sym (goal_is m.0 (and_parts (one_of_kinds read_kinds z.kind) (not z.escaped) m.1).0)))
 
--- two that pass a test of kinds which a regular expression passes alone, or not at all
-pub alike_by : {text : List ℕ} {s : ℕ} {y z : Lexeme} (b : Bool) → Lex text s y → Lex text s z → same_kind RegExp y.kind ≡ b → same_kind RegExp z.kind ≡ b → y ≡ z
-alike_by b l m h k = alike l m (h ∙ sym k)
+-- two of the plain one
+pub alike_plain : {text : List ℕ} {s : ℕ} {y z : Lexeme} → Lex text s y → Lex text s z → one_of_kinds other_goals y.kind ≡ false → one_of_kinds other_goals z.kind ≡ false → y ≡ z
+alike_plain {y = y} {z} l m h k = alike l m (goal_here y.kind h ∙ sym (goal_here z.kind k))
 
 -- two lexemes of the plain goal behind one place are one
-pub one_plain : {text : List ℕ} {s : ℕ} {y : Lexeme} {shown : Lexeme → Lexeme} {t : Token} → Lex text s y → same_kind RegExp y.kind ≡ false → (x : GivesLexeme division shown text s t) → y ≡ x.lexeme
+pub one_plain : {text : List ℕ} {s : ℕ} {y : Lexeme} {shown : Lexeme → Lexeme} {t : Token} → Lex text s y → one_of_kinds other_goals y.kind ≡ false → (x : GivesLexeme division shown text s t) → y ≡ x.lexeme
 one_plain h r x = lex-same h.0 x.stands.lex (plainly h.0 h.1 r ∙ sym x.stands.of_goal)
 
--- The lexeme of the plain goal where a lexeme that is read stands: this one, or the sign that a regular expression begins with.
+-- The lexeme of the plain goal where a lexeme that is read stands: this one, or the sign that one of another goal begins with.
 pub record Plainly (text : List ℕ) (s : ℕ) (y : Lexeme) : Type 0 where
   pub lexeme : Lexeme
   pub stands : LexemeBehind division text s lexeme
   pub from : lexeme.from ≡ y.from
   pub newline : lexeme.newline ≡ y.newline
   pub escaped : lexeme.escaped ≡ y.escaped
-  pub which : (lexeme ≡ y) ⊎ ((y.kind ≡ RegExp) × (one_of_kinds slashes lexeme.kind ≡ true))
+  pub which : (lexeme ≡ y) ⊎ ((one_of_kinds other_goals y.kind ≡ true) × (one_of_kinds (signs_of y.kind) lexeme.kind ≡ true))
 
 pub plain_there : {text : List ℕ} {s : ℕ} {y : Lexeme} → Lex text s y → Plainly text s y
-plain_there {text} {s} {y} l = go (same_kind RegExp y.kind) refl
+plain_there {text} {s} {y} l = go (one_of_kinds other_goals y.kind) refl
   where
-    go : (b : Bool) → same_kind RegExp y.kind ≡ b → Plainly text s y
+    go : (b : Bool) → one_of_kinds other_goals y.kind ≡ b → Plainly text s y
     go false h = record { lexeme = y; stands = record { lex = l.0; of_goal = plainly l.0 l.1 h }; from = refl; newline = refl; escaped = refl; which = inl refl }
-    go true h = let k : y.kind ≡ RegExp = sym (kind_of_same RegExp y.kind h) in let z = slash_there l.0 k in record { lexeme = z.lexeme; stands = z.stands; from = z.from; newline = z.newline; escaped = z.escaped; which = inr (k, z.is) }
+    go true h = let z = sign_there l.0 h in record { lexeme = z.lexeme; stands = z.stands; from = z.from; newline = z.newline; escaped = z.escaped; which = inr (h, z.is) }
 
 -- what the plain goal gives there is this
 pub plain_same : {text : List ℕ} {s : ℕ} {y : Lexeme} {shown : Lexeme → Lexeme} {t : Token} (z : Plainly text s y) (x : GivesLexeme division shown text s t) → x.lexeme ≡ z.lexeme
 plain_same z x = lex-same x.stands.lex z.stands.lex (x.stands.of_goal ∙ sym z.stands.of_goal)
 
-abbrev slash : Look
-slash k w e = one_of_kinds slashes k
+-- the signs of a kind are signs
+pub signs_are : (y k : Kind) → one_of_kinds (signs_of y) k ≡ true → one_of_kinds signs k ≡ true
+signs_are y k h = go (same_kind RegExp y) (one_of_kinds template_tails y) h
+  where
+    or_false : (b : Bool) → (b || false) ≡ true → b ≡ true
+    or_false true q = refl
+    or_false false q = q
+
+    go : (b c : Bool) → one_of_kinds (cond b slashes (cond c (RCurly ∷ []) [])) k ≡ true → one_of_kinds signs k ≡ true
+    go true c q = or_right (same_kind RCurly k) _ q
+    go false true q = or_left (same_kind RCurly k) _ (or_false (same_kind RCurly k) q)
+    go false false q = absurd (false≢true q)
+
+abbrev a_sign : Look
+a_sign k w e = one_of_kinds signs k
 
 abbrev no_sign : Look
 no_sign k w e = not (is_right_angle k) && not (one_of_kinds (RAngle ∷ Undetermined ∷ []) k)
 
-slashes_apart : covers slash no_sign ≡ true
+signs_apart : covers a_sign no_sign ≡ true
 unfolding covers
-slashes_apart = refl
+signs_apart = refl
 
--- neither of the two signs begins with `>`
-pub slash_no_angle : (k : Kind) → one_of_kinds slashes k ≡ true → is_right_angle k ≡ true → ⊥
-slash_no_angle k h r = false≢true (ap not (sym r) ∙ (and_parts (not (is_right_angle k)) _ (covered slash no_sign slashes_apart k false false h)).0)
+-- none of the signs begins with `>`
+pub sign_no_angle : (k : Kind) → one_of_kinds signs k ≡ true → is_right_angle k ≡ true → ⊥
+sign_no_angle k h r = false≢true (ap not (sym r) ∙ (and_parts (not (is_right_angle k)) _ (covered a_sign no_sign signs_apart k false false h)).0)
 
 -- the kinds of a token by which it isn't settled which lexeme stands at its place
 abbrev pub unsettled : List Kind
-unsettled = RAngle ∷ slashes
+unsettled = RAngle ∷ signs
 
-pub settled_kind : (k : Kind) → one_of_kinds unsettled k ≡ false → (same_kind RAngle k ≡ false) × (one_of_kinds slashes k ≡ false)
+pub settled_kind : (k : Kind) → one_of_kinds unsettled k ≡ false → (same_kind RAngle k ≡ false) × (one_of_kinds signs k ≡ false)
 settled_kind k n = go (same_kind RAngle k) refl n
   where
-    go : (b : Bool) → same_kind RAngle k ≡ b → (b || one_of_kinds slashes k) ≡ false → (same_kind RAngle k ≡ false) × (one_of_kinds slashes k ≡ false)
+    go : (b : Bool) → same_kind RAngle k ≡ b → (b || one_of_kinds signs k) ≡ false → (same_kind RAngle k ≡ false) × (one_of_kinds signs k ≡ false)
     go true e h = absurd (false≢true (sym h))
     go false e h = (e, h)
 
@@ -131,22 +159,35 @@ cut_newline y = go (is_right_angle y.kind) refl
     go true q = rw (q, cut) refl
     go false q = ap (λ (z : Lexeme). z.newline) (cut_same y q)
 
--- the plain goal gives no regular expression
-pub no_pattern_token : {text : List ℕ} {p : Parser} → IsPlain text p → same_kind RegExp p.token.kind ≡ false
-no_pattern_token {text} {p} a = go (same_kind RegExp p.token.kind) refl a
-  where
-    given : {t : Token} {shown : Lexeme → Lexeme} (x : GivesLexeme division shown text p.prev_token_end t) → x.lexeme.kind ≡ RegExp → ⊥
-    given x e = let z : division ≡ regular_expression = sym x.stands.of_goal ∙ pattern_goal x.stands.lex e in cc
+abbrev another : Look
+another k w e = one_of_kinds other_goals k
 
-    go : (b : Bool) → same_kind RegExp p.token.kind ≡ b → IsPlain text p → same_kind RegExp p.token.kind ≡ false
+abbrev any_read : Look
+any_read k w e = one_of_kinds read_kinds k
+
+others_read : covers another any_read ≡ true
+unfolding covers
+others_read = refl
+
+-- the plain goal gives no lexeme of another one
+pub plain_token : {text : List ℕ} {p : Parser} → IsPlain text p → one_of_kinds other_goals p.token.kind ≡ false
+plain_token {text} {p} a = go (one_of_kinds other_goals p.token.kind) refl a
+  where
+    apart : (k : Kind) → one_of_kinds other_goals k ≡ true → division ≡ goal_for k → ⊥
+    apart k h e = first_or (λ (v : Kind). division ≡ goal_for v → ⊥) RegExp k _ _ refl h (λ e. cc) (λ h. first_or (λ (v : Kind). division ≡ goal_for v → ⊥) TemplateMiddle k _ _ refl h (λ e. cc) (λ h. first_or (λ (v : Kind). division ≡ goal_for v → ⊥) TemplateTail k _ _ refl h (λ e. cc) (λ h. absurd (false≢true h)))) e
+
+    given : {t : Token} {shown : Lexeme → Lexeme} (x : GivesLexeme division shown text p.prev_token_end t) → one_of_kinds other_goals x.lexeme.kind ≡ true → ⊥
+    given x h = apart x.lexeme.kind h (sym x.stands.of_goal ∙ goal_is x.stands.lex (covered another any_read others_read x.lexeme.kind false false h))
+
+    go : (b : Bool) → one_of_kinds other_goals p.token.kind ≡ b → IsPlain text p → one_of_kinds other_goals p.token.kind ≡ false
     go false e z = e
-    go true e (whole q n x) = absurd (given x (sym x.tells.kind ∙ sym (kind_of_same RegExp p.token.kind e)))
-    go true e (sign q k x) = ap (same_kind RegExp) k
-    go true e (nothing q k n) = ap (same_kind RegExp) k
+    go true e (whole q n x) = absurd (given x (ap (one_of_kinds other_goals) (sym x.tells.kind) ∙ e))
+    go true e (sign q k x) = ap (one_of_kinds other_goals) k
+    go true e (nothing q k n) = ap (one_of_kinds other_goals) k
 
 module _ {text : List ℕ} {f : Flags} {p : Parser} (a : At text f p) where
-  -- the token tells the lexeme that stands there, unless that is a regular expression
-  pub told_plain : p.cut ≡ false → (y : Lexeme) → same_kind RegExp y.kind ≡ false → Lex text p.prev_token_end y → Tells y p.token
+  -- the token tells the lexeme that stands there, unless that is one of another goal
+  pub told_plain : p.cut ≡ false → (y : Lexeme) → one_of_kinds other_goals y.kind ≡ false → Lex text p.prev_token_end y → Tells y p.token
   told_plain c y r l = go a.plain
     where
       go : IsPlain text p → Tells y p.token
@@ -154,31 +195,35 @@ module _ {text : List ℕ} {f : Flags} {p : Parser} (a : At text f p) where
       go (sign q k x) = absurd (false≢true (sym c ∙ q))
       go (nothing q k n) = absurd (n y (record { lex = l.0; of_goal = plainly l.0 l.1 r }))
 
-  -- where one stands, the token is one of the two signs
-  pub slash_here : (y : Lexeme) → Lex text p.prev_token_end y → y.kind ≡ RegExp → one_of_kinds slashes p.token.kind ≡ true
-  slash_here y l e = go a.plain
+  -- where one stands, the token is one of its signs
+  pub sign_here : (y : Lexeme) → Lex text p.prev_token_end y → one_of_kinds other_goals y.kind ≡ true → one_of_kinds (signs_of y.kind) p.token.kind ≡ true
+  sign_here y l e = go a.plain
     where
-      z : SlashThere text p.prev_token_end y
-      z = slash_there l.0 e
+      z : SignThere text p.prev_token_end y
+      z = sign_there l.0 e
 
-      go : IsPlain text p → one_of_kinds slashes p.token.kind ≡ true
-      go (whole q n x) = subst (λ (k : Kind). one_of_kinds slashes k ≡ true) (ap (λ (v : Lexeme). v.kind) (lex-same z.stands.lex x.stands.lex (z.stands.of_goal ∙ sym x.stands.of_goal)) ∙ sym x.tells.kind) z.is
+      go : IsPlain text p → one_of_kinds (signs_of y.kind) p.token.kind ≡ true
+      go (whole q n x) = subst (λ (k : Kind). one_of_kinds (signs_of y.kind) k ≡ true) (ap (λ (v : Lexeme). v.kind) (lex-same z.stands.lex x.stands.lex (z.stands.of_goal ∙ sym x.stands.of_goal)) ∙ sym x.tells.kind) z.is
       go (sign q k x) =
           let same : z.lexeme ≡ x.lexeme = lex-same z.stands.lex x.stands.lex (z.stands.of_goal ∙ sym x.stands.of_goal) in
-          absurd (slash_no_angle x.lexeme.kind (subst (λ (v : Lexeme). one_of_kinds slashes v.kind ≡ true) same z.is) (cut_angle x.lexeme (sym x.tells.kind ∙ k)))
+          absurd (sign_no_angle x.lexeme.kind (signs_are y.kind x.lexeme.kind (subst (λ (v : Lexeme). one_of_kinds (signs_of y.kind) v.kind ≡ true) same z.is)) (cut_angle x.lexeme (sym x.tells.kind ∙ k)))
       go (nothing q k n) = absurd (n z.lexeme z.stands)
 
-  -- where the token is neither of them, none stands
-  pub no_pattern : one_of_kinds slashes p.token.kind ≡ false → (y : Lexeme) → Lex text p.prev_token_end y → same_kind RegExp y.kind ≡ false
-  no_pattern u y l = go (same_kind RegExp y.kind) refl
+  -- where a regular expression stands, the token is one of the two slashes
+  pub slash_here : (y : Lexeme) → Lex text p.prev_token_end y → y.kind ≡ RegExp → one_of_kinds slashes p.token.kind ≡ true
+  slash_here y l e = subst (λ (k : Kind). one_of_kinds (signs_of k) p.token.kind ≡ true) e (sign_here y l (ap (one_of_kinds other_goals) e))
+
+  -- where the token is none of the signs, none stands
+  pub no_other : one_of_kinds signs p.token.kind ≡ false → (y : Lexeme) → Lex text p.prev_token_end y → one_of_kinds other_goals y.kind ≡ false
+  no_other u y l = go (one_of_kinds other_goals y.kind) refl
     where
-      go : (b : Bool) → same_kind RegExp y.kind ≡ b → same_kind RegExp y.kind ≡ false
-      go true e = absurd (false≢true (sym u ∙ slash_here y l (sym (kind_of_same RegExp y.kind e))))
+      go : (b : Bool) → one_of_kinds other_goals y.kind ≡ b → one_of_kinds other_goals y.kind ≡ false
+      go true e = absurd (false≢true (sym u ∙ signs_are y.kind p.token.kind (sign_here y l e)))
       go false e = e
 
   -- then the token tells the lexeme, whichever stands there
-  pub told : p.cut ≡ false → one_of_kinds slashes p.token.kind ≡ false → (y : Lexeme) → Lex text p.prev_token_end y → Tells y p.token
-  told c u y l = told_plain c y (no_pattern u y l) l
+  pub told : p.cut ≡ false → one_of_kinds signs p.token.kind ≡ false → (y : Lexeme) → Lex text p.prev_token_end y → Tells y p.token
+  told c u y l = told_plain c y (no_other u y l) l
 
   -- of a sign that was cut off, the lexeme is one that begins with it
   pub angled : p.cut ≡ true → (y : Lexeme) → Lex text p.prev_token_end y → is_right_angle y.kind ≡ true
@@ -194,9 +239,9 @@ module _ {text : List ℕ} {f : Flags} {p : Parser} (a : At text f p) where
           angle : is_right_angle z.lexeme.kind ≡ true
           angle = subst (λ (v : Lexeme). is_right_angle v.kind ≡ true) (plain_same z x) (cut_angle x.lexeme (sym x.tells.kind ∙ k))
 
-          by : (z.lexeme ≡ y) ⊎ ((y.kind ≡ RegExp) × (one_of_kinds slashes z.lexeme.kind ≡ true)) → is_right_angle y.kind ≡ true
+          by : (z.lexeme ≡ y) ⊎ ((one_of_kinds other_goals y.kind ≡ true) × (one_of_kinds (signs_of y.kind) z.lexeme.kind ≡ true)) → is_right_angle y.kind ≡ true
           by (inl e) = subst (λ (v : Lexeme). is_right_angle v.kind ≡ true) e angle
-          by (inr e) = absurd (slash_no_angle z.lexeme.kind e.1 angle)
+          by (inr e) = absurd (sign_no_angle z.lexeme.kind (signs_are y.kind z.lexeme.kind e.1) angle)
       go (nothing q k n) = absurd (false≢true (sym q ∙ c))
 
   -- it begins where the token does
@@ -244,9 +289,9 @@ module _ {text : List ℕ} {f : Flags} {p : Parser} (a : At text f p) where
       go (sign q k x) = absurd (false≢true (sym n ∙ ap (same_kind RAngle) k))
       go (nothing q k m) = q
 
-  -- what stands there is of the token's kind, but where that is cut off or one of the two signs
+  -- what stands there is of the token's kind, but where that is cut off or one of the signs
   pub kind_here : {k : Kind} → p.token.kind ≡ k → one_of_kinds unsettled k ≡ false → (y : Lexeme) → Lex text p.prev_token_end y → y.kind ≡ k
-  kind_here {k} e n y l = let z = settled_kind k n in sym (told (uncut (ap (same_kind RAngle) e ∙ z.0)) (ap (one_of_kinds slashes) e ∙ z.1) y l).kind ∙ e
+  kind_here {k} e n y l = let z = settled_kind k n in sym (told (uncut (ap (same_kind RAngle) e ∙ z.0)) (ap (one_of_kinds signs) e ∙ z.1) y l).kind ∙ e
 
   -- a lexeme that may be passed stands there
   pub found : p.cut ≡ false → is_last p.token.kind ≡ false → (y : Lexeme) × StandsBehind all_faults text p.prev_token_end y × Tells y p.token

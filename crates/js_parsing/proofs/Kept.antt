@@ -5,7 +5,7 @@ use Rattle.js_base.specs.declared.diagnostic.Diagnostic.{Diagnostic}
 use Rattle.js_base.specs.declared.kind.Kind.{Kind}
 use Rattle.js_base.specs.declared.kind.Kind.TheVariants.{RegExp, Undetermined}
 use Rattle.js_base.specs.declared.token.Token.{Token}
-use Rattle.js_base.specs.Kinds.{same_kind}
+use Rattle.js_base.specs.Kinds.{one_of_kinds, same_kind}
 use Rattle.js_grammar.specs.Characters.{width}
 use Rattle.js_grammar.specs.Grammar.{Lexeme}
 use Rattle.js_grammar.specs.Trivia.{is_html_comment, lack_html_comments}
@@ -18,7 +18,7 @@ use Rattle.js_lex.specs.Comments.{each_at, html_fault_at, span_at}
 use Rattle.js_base.specs.declared.diagnostic.DiagnosticKind.TheVariants.{HtmlCommentInModule}
 use Rattle.js_lex.specs.Reading.{cut, in_a_module, GivesNext, GivesNone, GivesLexeme}
 use Rattle.js_lex.specs.States.{State}
-use Rattle.js_parsing.specs.Lexemes.{Lex, Faultless, KeptFor}
+use Rattle.js_parsing.specs.Lexemes.{Lex, Faultless, KeptFor, other_goals, template_tails}
 use Rattle.js_parsing.proofs.Here.{plain_there}
 
 -- one of the two lists holds something
@@ -65,10 +65,18 @@ none_kept in_script b ps s q h = subst (λ (v : Bool). each_at (html_fault_at v)
 none_kept all_faults b ps s q h = subst (λ (v : Bool). each_at (html_fault_at v) s ps ≡ []) (sym q) (never_kept ps s)
 
 -- of what is no regular expression no flag is wrong
-no_flags : (m : Passing) (k : Kind) (w : List ℕ) → same_kind RegExp k ≡ false → flags_right m k w ≡ true
+pub no_flags : (m : Passing) (k : Kind) (w : List ℕ) → same_kind RegExp k ≡ false → flags_right m k w ≡ true
 no_flags all_faults k w h = refl
 no_flags in_script k w h = ap (λ (b : Bool). not b || flags_pass (flags w)) h
 no_flags in_module k w h = ap (λ (b : Bool). not b || flags_pass (flags w)) h
+
+-- nor is one of the plain lexical goal
+no_pattern : (k : Kind) → one_of_kinds other_goals k ≡ false → same_kind RegExp k ≡ false
+no_pattern k n = go (same_kind RegExp k) n
+  where
+    go : (b : Bool) → (b || one_of_kinds template_tails k) ≡ false → b ≡ false
+    go true h = h
+    go false h = refl
 
 -- whichever faults pass, where they aren't there
 pub passing_so : {m n : Passing} {text : List ℕ} {s : ℕ} {y : Lexeme} (h : StandsBehind m text s y) → comments_pass n h.trivia ≡ true → flags_right n y.kind h.word ≡ true → StandsBehind n text s y
@@ -82,12 +90,12 @@ module _ {old new : State} {t : Token} (g : GivesNext division old new t) where
   pub kept_for : KeptFor old.goal old.text old.place (each_at (html_fault_at (in_a_module old.goal)) old.place g.pieces ++ g.faults)
   kept_for = record { none = right; some = wrong }
     where
-      right : each_at (html_fault_at (in_a_module old.goal)) old.place g.pieces ++ g.faults ≡ [] → (y : Lexeme) → Lex old.text old.place y → same_kind RegExp y.kind ≡ false → Faultless old.goal old.text old.place y
+      right : each_at (html_fault_at (in_a_module old.goal)) old.place g.pieces ++ g.faults ≡ [] → (y : Lexeme) → Lex old.text old.place y → one_of_kinds other_goals y.kind ≡ false → Faultless old.goal old.text old.place y
       right e y l r =
           let h = both_none _ g.faults e in
           let same = stands-same g.stands l.0.stands in
           let c : comments_pass (passing_of old.goal) g.pieces ≡ true = comments_right (passing_of old.goal) (in_a_module old.goal) g.pieces old.place refl h.0 in
-          (passing_so l.0 (subst (λ (ps : List (List ℕ)). comments_pass (passing_of old.goal) ps ≡ true) same.pieces c) (no_flags (passing_of old.goal) y.kind l.0.word r), l.1)
+          (passing_so l.0 (subst (λ (ps : List (List ℕ)). comments_pass (passing_of old.goal) ps ≡ true) same.pieces c) (no_flags (passing_of old.goal) y.kind l.0.word (no_pattern y.kind r)), l.1)
 
       wrong : (each_at (html_fault_at (in_a_module old.goal)) old.place g.pieces ++ g.faults ≡ [] → ⊥) → (y : Lexeme) → Faultless old.goal old.text old.place y → ⊥
       wrong n y l = by (same_kind Undetermined t.kind) g.outcome

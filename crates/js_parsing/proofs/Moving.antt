@@ -5,7 +5,7 @@ use Rattle.js_base.specs.Contexts.{has_flag, in_flag}
 use Rattle.std.proofs.lemmas.Bool.{false≢true}
 use Rattle.js_base.specs.declared.diagnostic.Diagnostic.{Diagnostic}
 use Rattle.js_base.specs.declared.kind.Kind.{Kind}
-use Rattle.js_base.specs.declared.kind.Kind.TheVariants.{LCurly, RAngle, RegExp, Undetermined}
+use Rattle.js_base.specs.declared.kind.Kind.TheVariants.{LCurly, RAngle, Undetermined}
 use Rattle.js_base.specs.declared.token.Token.{Token}
 use Rattle.js_base.specs.Kinds.{same_kind, one_of_kinds}
 use Rattle.js_base.proofs.KindLemmas.{kind_of_same}
@@ -36,12 +36,12 @@ use Rattle.js_base.specs.declared.source_type.SourceType.{SourceType}
 use Rattle.js_cursor.specs.Notes.{NotedAt, Notes, is_noted}
 use Rattle.js_cursor.specs.Starts.{is_module}
 use Rattle.js_parsing.specs.Heads.{NoHead, NotedHeads, OnlyArrow, throughout}
-use Rattle.js_parsing.specs.Lexemes.{KeptFor, NoneToEnd, TriviaKept, News, read_kinds}
+use Rattle.js_parsing.specs.Lexemes.{KeptFor, NoneToEnd, TriviaKept, News, other_goals, read_kinds}
 use Rattle.js_parsing.proofs.KeptTokens.{counts_here, completed_counts, before_next, next_kept_last, again_before, again_last, trivia_kept}
 use Rattle.js_parsing.specs.States.{At, Standing, IsPlain, whole, sign, nothing, Same, flags_of, NodesLie, SpansLie}
 use Rattle.js_parsing.specs.Moves.{IsCompleted, IsWholeHere, Moved, Moves, Tightness}
 use Rattle.js_parsing.specs.Operators.{power_of}
-use Rattle.js_parsing.proofs.Here.{no_pattern_token, plain_kind, uncut}
+use Rattle.js_parsing.proofs.Here.{plain_token, plain_kind, uncut}
 use Rattle.js_parsing.proofs.Kept.{kept_for}
 use Rattle.js_parsing.proofs.ToEnd.{to_end_passed, to_end_stays}
 use Rattle.js_lex.specs.Comments.{each_at, comment_at, irregular_at, html_fault_at}
@@ -66,7 +66,7 @@ plain_given {text} {p} {source} faults k o = go p.cut refl k (same_kind Undeterm
         by true e =
             let c : (cut z.lexeme).kind ≡ RAngle = rw (e, cut) refl in
             let r : x.lexeme.kind ≡ RAngle = sym x.tells.kind ∙ (z.tells.kind ∙ c) in
-            whole q n (record { lexeme = x.lexeme; stands = record { lex = x.stands.lex; of_goal = plain_kind x.stands.lex (ap (one_of_kinds read_kinds) r) (ap (same_kind RegExp) r) }; tells = x.tells; separated = x.separated })
+            whole q n (record { lexeme = x.lexeme; stands = record { lex = x.stands.lex; of_goal = plain_kind x.stands.lex (ap (one_of_kinds read_kinds) r) (ap (one_of_kinds other_goals) r) }; tells = x.tells; separated = x.separated })
 
     go : (b : Bool) → p.cut ≡ b → IsToken source text p.prev_token_end p.lexer.kept.errors p.token b → (r : Bool) → same_kind Undetermined p.token.kind ≡ r → elim r as (λ _. Type 0) [ true ↦ (d : Diagnostic) × (faults ≡ d ∷ []) × GivesNone division source text p.prev_token_end p.token d | false ↦ (faults ≡ []) × GivesLexeme division cut text p.prev_token_end p.token ] → IsPlain text p
     go true q (sign_token e x) r h y = sign q e x
@@ -145,7 +145,7 @@ module _ {text : List ℕ} {f : Flags} {p : Parser} where
     kept = s.stays.errors;
     lexeme = s.lexeme;
     stood = subst (λ (v : List ℕ). StandsBehind all_faults v p.prev_token_end s.lexeme) a.text_is s.stood;
-    plain = ap (same_kind RegExp) (sym s.tells.kind) ∙ no_pattern_token a.plain;
+    plain = ap (one_of_kinds other_goals) (sym s.tells.kind) ∙ plain_token a.plain;
     tells = s.tells;
     ends = sym s.moved;
     further = further n s;

@@ -2,7 +2,7 @@
 use Rattle.std.proofs.Common.{ℕ, ◌≡◌, Bool, true, false, not, ◌&&◌, ◌||◌, List, [], ◌∷◌, IsTrue, refl, sym, subst, ◌∙◌}
 use Rattle.std.proofs.lemmas.Bool.{false≢true, and_from}
 use Rattle.js_base.specs.declared.kind.Kind.{Kind}
-use Rattle.js_base.specs.declared.kind.Kind.TheVariants.{Yield, Await, RegExp}
+use Rattle.js_base.specs.declared.kind.Kind.TheVariants.{Yield, Await}
 use Rattle.js_base.specs.Kinds.{same_kind, one_of_kinds}
 use Rattle.js_grammar.specs.Trees.{end}
 use Rattle.js_grammar.specs.Grammar.{Lexeme, Look, seen}
@@ -14,7 +14,7 @@ use Rattle.js_grammar.proofs.Looks.{covers, covered, apart, not_both}
 use Rattle.js_grammar.proofs.First.{FirstSets, starts}
 use Rattle.js_grammar.proofs.FirstRules.{fails_here}
 use Rattle.js_cursor.specs.Parsers.{Parser}
-use Rattle.js_parsing.specs.Lexemes.{Lex, may_name}
+use Rattle.js_parsing.specs.Lexemes.{Lex, may_name, other_goals}
 use Rattle.js_parsing.specs.States.{At}
 use Rattle.js_parsing.proofs.Here.{told_plain, angled, kind_here}
 use Rattle.js_parsing.proofs.Paths.{angles, not_here, reads, settles}
@@ -124,13 +124,13 @@ no_name_angle true false = refl
 no_name_angle false true = refl
 no_name_angle false false = refl
 
--- nor does a regular expression
-no_name_pattern : (y t : Bool) → apart (λ k w e. same_kind RegExp k) (a_name_under y t) ≡ true
+-- nor does a lexeme of another goal
+no_name_other : (y t : Bool) → apart (λ k w e. one_of_kinds other_goals k) (a_name_under y t) ≡ true
 unfolding apart
-no_name_pattern true true = refl
-no_name_pattern true false = refl
-no_name_pattern false true = refl
-no_name_pattern false false = refl
+no_name_other true true = refl
+no_name_other true false = refl
+no_name_other false true = refl
+no_name_other false false = refl
 
 either_of : {F : Type 0} (a b : Bool) → (a || b) ≡ true → (a ≡ true → F) → (b ≡ true → F) → F
 either_of true b h f g = f refl
@@ -141,13 +141,13 @@ module _ {text : List ℕ} {o : Flags} {p : Parser} (a : At text o p) (f : Flags
   no_name_there : (ks : List Kind) → settles ks ≡ true → may_name f.yield_ f.await_ p.token.kind ≡ false → one_of_kinds ks p.token.kind ≡ false → (y : Lexeme) → Lex text p.prev_token_end y → (may_name f.yield_ f.await_ y.kind || one_of_kinds ks y.kind) ≡ true → ⊥
   no_name_there ks d n m y l h = either_of (may_name f.yield_ f.await_ y.kind) (one_of_kinds ks y.kind) h (λ i. named i p.cut refl) (λ i. not_here a ks d m y l i)
     where
-      no_pattern_named : may_name f.yield_ f.await_ y.kind ≡ true → (r : Bool) → same_kind RegExp y.kind ≡ r → same_kind RegExp y.kind ≡ false
-      no_pattern_named i true q = absurd (not_both (λ k w e. same_kind RegExp k) (a_name_under f.yield_ f.await_) (no_name_pattern f.yield_ f.await_) y.kind y.newline y.escaped q i)
-      no_pattern_named i false q = q
+      no_other_named : may_name f.yield_ f.await_ y.kind ≡ true → (r : Bool) → one_of_kinds other_goals y.kind ≡ r → one_of_kinds other_goals y.kind ≡ false
+      no_other_named i true q = absurd (not_both (λ k w e. one_of_kinds other_goals k) (a_name_under f.yield_ f.await_) (no_name_other f.yield_ f.await_) y.kind y.newline y.escaped q i)
+      no_other_named i false q = q
 
       named : may_name f.yield_ f.await_ y.kind ≡ true → (b : Bool) → p.cut ≡ b → ⊥
       named i true e = not_both angles (a_name_under f.yield_ f.await_) (no_name_angle f.yield_ f.await_) y.kind y.newline y.escaped (angled a e y l) i
-      named i false e = false≢true (sym n ∙ subst (λ (v : Kind). may_name f.yield_ f.await_ v ≡ true) (sym (told_plain a e y (no_pattern_named i (same_kind RegExp y.kind) refl) l).kind) i)
+      named i false e = false≢true (sym n ∙ subst (λ (v : Kind). may_name f.yield_ f.await_ v ≡ true) (sym (told_plain a e y (no_other_named i (one_of_kinds other_goals y.kind) refl) l).kind) i)
 
   -- nothing that may begin g stands here
   pub fails_unnamed : {X : Test} (g : Flags → G) (ks : List Kind) → begins_named true true (g (with_flags true true f)) X.base ks ≡ true → begins_named true false (g (with_flags true false f)) X.base ks ≡ true → begins_named false true (g (with_flags false true f)) X.base ks ≡ true → begins_named false false (g (with_flags false false f)) X.base ks ≡ true

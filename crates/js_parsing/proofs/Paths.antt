@@ -2,7 +2,7 @@
 use Rattle.std.proofs.Common.{ℕ, ◌≡◌, ◌<◌, max, List, [], ◌∷◌, ◌⊎◌, inl, inr, Bool, true, false, not, ◌&&◌, ◌||◌, IsTrue, refl, sym, ap, subst, arith, ◌∙◌}
 use Rattle.std.proofs.lemmas.Bool.{false≢true, and_parts, and_from}
 use Rattle.js_base.specs.declared.kind.Kind.{Kind}
-use Rattle.js_base.specs.declared.kind.Kind.TheVariants.{RAngle, RegExp, Slash, SlashEq}
+use Rattle.js_base.specs.declared.kind.Kind.TheVariants.{RAngle}
 use Rattle.js_base.specs.Kinds.{same_kind, one_of_kinds}
 use Rattle.js_base.proofs.KindLemmas.{kind_of_same}
 use Rattle.js_grammar.specs.Trees.{Slots, end, tree, Label, Op, NodeKind}
@@ -12,7 +12,9 @@ use Rattle.js_grammar.specs.Parsing.{still, passing, Test, plain, behind, full, 
 use Rattle.js_grammar.specs.Productions.{G, Flags, Symbol, tok, make}
 use Rattle.js_grammar.specs.Table.{rule}
 use Rattle.js_grammar.specs.FirstSets.{first}
+use Rattle.js_grammar.specs.Pruning.{every_kind}
 use Rattle.js_grammar.specs.Follow.{surest, after}
+use Rattle.js_grammar.proofs.Lexemes.{first_or}
 use Rattle.js_grammar.proofs.Looks.{covers, covered, same_self, apart, not_both}
 use Rattle.js_grammar.proofs.Calculus.{On, Inside, Heads, here_at, ◌▹◌, ◌▹✗◌, then_by, weaken_on, weaken_fails_on, makes_by, by_rule, fails_rule, part_fails, fails_node, reads_lexeme}
 use Rattle.js_grammar.proofs.First.{starts}
@@ -21,11 +23,11 @@ use Rattle.js_grammar.proofs.FirstRules.{by_first, fails_here, picks, pick}
 use Rattle.js_grammar.proofs.FollowLaws.{surely}
 use Rattle.js_lex.specs.Reading.{is_right_angle}
 use Rattle.js_cursor.specs.Parsers.{Parser}
-use Rattle.js_parsing.specs.Lexemes.{Lex, Walked, Spot, spot, nowhere, one_more, read_again, more_faults, is_read, read_kinds, slashes}
+use Rattle.js_parsing.specs.Lexemes.{Lex, Walked, Spot, spot, nowhere, one_more, read_again, more_faults, is_read, other_goals, read_kinds, signs, signs_of}
 use Rattle.js_parsing.specs.States.{At}
 use Rattle.js_parsing.specs.Moves.{Moved}
 use Rattle.js_parsing.specs.Answers.{Verdict, clean, Stretch, Answer}
-use Rattle.js_parsing.proofs.Here.{alike, angled, begins_here, kind_here, no_pattern, slash_here, told_plain, uncut, unsettled}
+use Rattle.js_parsing.proofs.Here.{alike_plain, angled, begins_here, kind_here, no_other, sign_here, told_plain, uncut, unsettled}
 use Rattle.js_parsing.proofs.Verdicts.{verdict_of, either_way, and_then}
 
 -- lexemes behind those that were passed
@@ -58,13 +60,13 @@ reads k w e = one_of_kinds read_kinds k && not e
 abbrev pub angles : Look
 angles k w e = is_right_angle k
 
--- Whether none of these kinds stands here is told by the token: none begins with `>`; a regular expression is among them only with both signs that may stand in its place.
+-- Whether none of these kinds stands here is told by the token: none begins with `>`; a kind of another lexical goal is among them only with all signs that may stand in its place.
 abbrev pub settles : List Kind → Bool
-settles ks = apart angles (λ k w e. one_of_kinds ks k) && (not (one_of_kinds ks RegExp) || (one_of_kinds ks Slash && one_of_kinds ks SlashEq))
+settles ks = apart angles (λ k w e. one_of_kinds ks k) && every_kind (λ o. not (one_of_kinds ks o) || every_kind (one_of_kinds ks) (signs_of o)) other_goals
 
 -- and whether one does
 abbrev pub settled : List Kind → Bool
-settled ks = apart angles (λ k w e. one_of_kinds ks k) && (one_of_kinds ks RegExp || not (one_of_kinds ks Slash || one_of_kinds ks SlashEq))
+settled ks = apart angles (λ k w e. one_of_kinds ks k) && every_kind (λ o. one_of_kinds ks o || every_kind (λ k. not (one_of_kinds ks k)) (signs_of o)) other_goals
 
 -- of what may begin g, those kinds that are read are among these, of which the token tells whether one stands here
 abbrev pub begins_by : G → Look → List Kind → Bool
@@ -82,44 +84,46 @@ no_angle ks d k h = go (same_kind RAngle k) refl
     go true e = absurd (not_both angles (λ k w e. one_of_kinds ks k) d k false false (subst (λ v. is_right_angle v ≡ true) (kind_of_same RAngle k e) refl) h)
     go false e = e
 
-or_false : (b : Bool) → (b || false) ≡ true → b ≡ true
-or_false true h = refl
-or_false false h = h
-
 unless : (a b : Bool) → a ≡ true → (not a || b) ≡ true → b ≡ true
 unless true b e h = h
 unless false b e h = absurd (false≢true e)
 
-no_second : (a b : Bool) → b ≡ true → not (a || b) ≡ false
-no_second true b e = refl
-no_second false b e = ap not e
+or_not : (a b : Bool) → (a || b) ≡ true → b ≡ false → a ≡ true
+or_not true b h e = refl
+or_not false b h e = absurd (false≢true (sym e ∙ h))
+
+-- what holds of each kind of a list holds of one of them
+of_every : (P : Kind → Bool) (ks : List Kind) (k : Kind) → every_kind P ks ≡ true → one_of_kinds ks k ≡ true → P k ≡ true
+of_every P [] k e h = absurd (false≢true h)
+of_every P (a ∷ ks) k e h = first_or (λ (v : Kind). P v ≡ true) a k _ _ refl h (and_parts (P a) (every_kind P ks) e).0 (λ q. of_every P ks k (and_parts (P a) (every_kind P ks) e).1 q)
+
+is_not : (b : Bool) → not b ≡ true → b ≡ false
+is_not true h = absurd (false≢true h)
+is_not false h = refl
+
+-- of kinds that settle what stands there, the signs of one of another goal are among them
+all_signs : (ks : List Kind) (o k : Kind) → every_kind (λ o. not (one_of_kinds ks o) || every_kind (one_of_kinds ks) (signs_of o)) other_goals ≡ true → one_of_kinds other_goals o ≡ true → one_of_kinds (signs_of o) k ≡ true → one_of_kinds ks o ≡ true → one_of_kinds ks k ≡ true
+all_signs ks o k e i j h = of_every (one_of_kinds ks) (signs_of o) k (unless (one_of_kinds ks o) _ h (of_every (λ o. not (one_of_kinds ks o) || every_kind (one_of_kinds ks) (signs_of o)) other_goals o e i)) j
+
+-- and where one of its signs is among them, so is it
+with_signs : (ks : List Kind) (o k : Kind) → every_kind (λ o. one_of_kinds ks o || every_kind (λ k. not (one_of_kinds ks k)) (signs_of o)) other_goals ≡ true → one_of_kinds other_goals o ≡ true → one_of_kinds (signs_of o) k ≡ true → one_of_kinds ks k ≡ true → one_of_kinds ks o ≡ true
+with_signs ks o k e i j h = go (every_kind (λ k. not (one_of_kinds ks k)) (signs_of o)) refl (of_every (λ o. one_of_kinds ks o || every_kind (λ k. not (one_of_kinds ks k)) (signs_of o)) other_goals o e i)
+  where
+    go : (b : Bool) → every_kind (λ k. not (one_of_kinds ks k)) (signs_of o) ≡ b → (one_of_kinds ks o || b) ≡ true → one_of_kinds ks o ≡ true
+    go true f q = absurd (false≢true (sym (is_not (one_of_kinds ks k) (of_every (λ k. not (one_of_kinds ks k)) (signs_of o) k f j)) ∙ h))
+    go false f q = or_not (one_of_kinds ks o) false q refl
 
 module _ {text : List ℕ} {f : Flags} {p : Parser} (a : At text f p) where
-  -- one of the two signs stands at a regular expression
-  sign_here : (y : Lexeme) → Lex text p.prev_token_end y → y.kind ≡ RegExp → (p.token.kind ≡ Slash) ⊎ (p.token.kind ≡ SlashEq)
-  sign_here y l e = by (same_kind Slash p.token.kind) refl (slash_here a y l e)
-    where
-      by : (b : Bool) → same_kind Slash p.token.kind ≡ b → (b || (same_kind SlashEq p.token.kind || false)) ≡ true → (p.token.kind ≡ Slash) ⊎ (p.token.kind ≡ SlashEq)
-      by true i h = inl (sym (kind_of_same Slash p.token.kind i))
-      by false i h = inr (sym (kind_of_same SlashEq p.token.kind (or_false (same_kind SlashEq p.token.kind) h)))
-
   pub not_here : (ks : List Kind) → settles ks ≡ true → one_of_kinds ks p.token.kind ≡ false → (y : Lexeme) → Lex text p.prev_token_end y → one_of_kinds ks y.kind ≡ true → ⊥
-  not_here ks d n y l h = go p.cut refl (same_kind RegExp y.kind) refl
+  not_here ks d n y l h = go p.cut refl (one_of_kinds other_goals y.kind) refl
     where
-      c : (apart angles (λ k w e. one_of_kinds ks k) ≡ true) × ((not (one_of_kinds ks RegExp) || (one_of_kinds ks Slash && one_of_kinds ks SlashEq)) ≡ true)
+      c : (apart angles (λ k w e. one_of_kinds ks k) ≡ true) × (every_kind (λ o. not (one_of_kinds ks o) || every_kind (one_of_kinds ks) (signs_of o)) other_goals ≡ true)
       c = and_parts (apart angles (λ k w e. one_of_kinds ks k)) _ d
 
-      both_signs : y.kind ≡ RegExp → (one_of_kinds ks Slash ≡ true) × (one_of_kinds ks SlashEq ≡ true)
-      both_signs e = and_parts (one_of_kinds ks Slash) (one_of_kinds ks SlashEq) (unless (one_of_kinds ks RegExp) _ (subst (λ v. one_of_kinds ks v ≡ true) e h) c.1)
-
-      either : y.kind ≡ RegExp → (p.token.kind ≡ Slash) ⊎ (p.token.kind ≡ SlashEq) → ⊥
-      either e (inl k) = false≢true (sym n ∙ (ap (one_of_kinds ks) k ∙ (both_signs e).0))
-      either e (inr k) = false≢true (sym n ∙ (ap (one_of_kinds ks) k ∙ (both_signs e).1))
-
-      go : (b : Bool) → p.cut ≡ b → (r : Bool) → same_kind RegExp y.kind ≡ r → ⊥
+      go : (b : Bool) → p.cut ≡ b → (r : Bool) → one_of_kinds other_goals y.kind ≡ r → ⊥
       go true e r q = not_both angles (λ k w e. one_of_kinds ks k) c.0 y.kind y.newline y.escaped (angled a e y l) h
       go false e false q = false≢true (sym n ∙ subst (λ v. one_of_kinds ks v ≡ true) (sym (told_plain a e y q l).kind) h)
-      go false e true q = let k = sym (kind_of_same RegExp y.kind q) in either k (sign_here y l k)
+      go false e true q = false≢true (sym n ∙ all_signs ks y.kind p.token.kind c.1 q (sign_here a y l q) h)
 
   -- nothing that may begin g stands here
   pub fails_at : {X : Test} (g : G) (ks : List Kind) → begins_by g X.base ks ≡ true → one_of_kinds ks p.token.kind ≡ false → Fails rule (Lex text) X end g p.prev_token_end
@@ -135,30 +139,25 @@ module _ {text : List ℕ} {f : Flags} {p : Parser} (a : At text f p) where
 
   -- and at the kinds of which one stands here
   pub at_kinds : {X : Test} {g : G} (ks : List Kind) → settled ks ≡ true → one_of_kinds ks p.token.kind ≡ true → Goes rule (Lex text) X end g p.prev_token_end (pick first X.base g ks) p.prev_token_end (λ us. us) (still 0)
-  at_kinds {g = g} ks d h = picks firsts ks (λ y l. go y l (same_kind RegExp y.kind) refl) g
+  at_kinds {g = g} ks d h = picks firsts ks (λ y l. go y l (one_of_kinds other_goals y.kind) refl) g
     where
-      c : (apart angles (λ k w e. one_of_kinds ks k) ≡ true) × ((one_of_kinds ks RegExp || not (one_of_kinds ks Slash || one_of_kinds ks SlashEq)) ≡ true)
+      c : (apart angles (λ k w e. one_of_kinds ks k) ≡ true) × (every_kind (λ o. one_of_kinds ks o || every_kind (λ k. not (one_of_kinds ks k)) (signs_of o)) other_goals ≡ true)
       c = and_parts (apart angles (λ k w e. one_of_kinds ks k)) _ d
 
-      signs : (b : Bool) → (b || not (one_of_kinds ks Slash || one_of_kinds ks SlashEq)) ≡ true → (p.token.kind ≡ Slash) ⊎ (p.token.kind ≡ SlashEq) → b ≡ true
-      signs true q k = refl
-      signs false q (inl k) = absurd (false≢true (sym (ap (λ (v : Bool). not (v || one_of_kinds ks SlashEq)) (sym (ap (one_of_kinds ks) k) ∙ h)) ∙ q))
-      signs false q (inr k) = absurd (false≢true (sym (no_second (one_of_kinds ks Slash) (one_of_kinds ks SlashEq) (sym (ap (one_of_kinds ks) k) ∙ h)) ∙ q))
-
-      go : (y : Lexeme) → Lex text p.prev_token_end y → (r : Bool) → same_kind RegExp y.kind ≡ r → one_of_kinds ks y.kind ≡ true
+      go : (y : Lexeme) → Lex text p.prev_token_end y → (r : Bool) → one_of_kinds other_goals y.kind ≡ r → one_of_kinds ks y.kind ≡ true
       go y l false q = subst (λ v. one_of_kinds ks v ≡ true) (told_plain a (uncut a (no_angle ks c.0 p.token.kind h)) y q l).kind h
-      go y l true q = let k = sym (kind_of_same RegExp y.kind q) in subst (λ v. one_of_kinds ks v ≡ true) (sym k) (signs (one_of_kinds ks RegExp) c.1 (sign_here y l k))
+      go y l true q = with_signs ks y.kind p.token.kind c.1 q (sign_here a y l q) h
 
-  -- a lexeme that passes a test, which no regular expression passes that might stand in its place, was passed
-  pub passes_unless : {X : Test} {q : Parser} (test : Look) → (s : Moved text f p q) → IsTrue (is_read s.lexeme) → IsTrue (seen test s.lexeme) → ((y : Lexeme) → Lex text p.prev_token_end y → IsTrue (seen test y) → same_kind RegExp y.kind ≡ false) → Reads rule (Lex text) X end (lexeme test) p.prev_token_end q.prev_token_end (λ us. us) (passing s.lexeme)
-  passes_unless {X} {q} test s r h n = subst (λ v. Reads rule (Lex text) X end (lexeme test) p.prev_token_end v (λ us. us) (passing s.lexeme)) s.ends (reads_lexeme test (s.stood, r) h (λ y l z. alike l (s.stood, r) (n y l z ∙ sym s.plain)))
+  -- a lexeme that passes a test, which no lexeme of another goal passes that might stand in its place, was passed
+  pub passes_unless : {X : Test} {q : Parser} (test : Look) → (s : Moved text f p q) → IsTrue (is_read s.lexeme) → IsTrue (seen test s.lexeme) → ((y : Lexeme) → Lex text p.prev_token_end y → IsTrue (seen test y) → one_of_kinds other_goals y.kind ≡ false) → Reads rule (Lex text) X end (lexeme test) p.prev_token_end q.prev_token_end (λ us. us) (passing s.lexeme)
+  passes_unless {X} {q} test s r h n = subst (λ v. Reads rule (Lex text) X end (lexeme test) p.prev_token_end v (λ us. us) (passing s.lexeme)) s.ends (reads_lexeme test (s.stood, r) h (λ y l z. alike_plain l (s.stood, r) (n y l z) s.plain))
 
-  -- two lexemes that are read are one, but at one of the two signs
-  pub one_read : one_of_kinds slashes p.token.kind ≡ false → {y z : Lexeme} → Lex text p.prev_token_end y → Lex text p.prev_token_end z → y ≡ z
-  one_read u {y} {z} l m = alike l m (no_pattern a u y l ∙ sym (no_pattern a u z m))
+  -- two lexemes that are read are one, but at one of the signs
+  pub one_read : one_of_kinds signs p.token.kind ≡ false → {y z : Lexeme} → Lex text p.prev_token_end y → Lex text p.prev_token_end z → y ≡ z
+  one_read u {y} {z} l m = alike_plain l m (no_other a u y l) (no_other a u z m)
 
-  pub passes_test : {X : Test} {q : Parser} (test : Look) → one_of_kinds slashes p.token.kind ≡ false → (s : Moved text f p q) → IsTrue (is_read s.lexeme) → IsTrue (seen test s.lexeme) → Reads rule (Lex text) X end (lexeme test) p.prev_token_end q.prev_token_end (λ us. us) (passing s.lexeme)
-  passes_test test u s r h = passes_unless test s r h (λ y l z. no_pattern a u y l)
+  pub passes_test : {X : Test} {q : Parser} (test : Look) → one_of_kinds signs p.token.kind ≡ false → (s : Moved text f p q) → IsTrue (is_read s.lexeme) → IsTrue (seen test s.lexeme) → Reads rule (Lex text) X end (lexeme test) p.prev_token_end q.prev_token_end (λ us. us) (passing s.lexeme)
+  passes_test test u s r h = passes_unless test s r h (λ y l z. no_other a u y l)
 
   -- the lexeme of a kind was passed
   pub passes : {X : Test} {q : Parser} (k : Kind) → p.token.kind ≡ k → p.token.escaped ≡ false → one_of_kinds read_kinds k ≡ true → (s : Moved text f p q) → Reads rule (Lex text) X end (tok k) p.prev_token_end q.prev_token_end (λ us. us) (passing s.lexeme)
@@ -166,7 +165,7 @@ module _ {text : List ℕ} {f : Flags} {p : Parser} (a : At text f p) where
       let kind : s.lexeme.kind ≡ k = sym s.tells.kind ∙ e in
       let plain : s.lexeme.escaped ≡ false = sym s.tells.escaped ∙ n in
       passes_unless (is k) s (read_of s.lexeme kind plain r) (and_from _ _ (subst (λ v. same_kind k v ≡ true) (sym kind) (same_self k)) (ap not plain))
-      (λ y l z. subst (λ v. same_kind RegExp v ≡ false) (kind ∙ kind_of_same k y.kind (and_parts (same_kind k y.kind) (not y.escaped) z).0) s.plain)
+      (λ y l z. subst (λ v. one_of_kinds other_goals v ≡ false) (kind ∙ kind_of_same k y.kind (and_parts (same_kind k y.kind) (not y.escaped) z).0) s.plain)
 
   pub skips : {X : Test} {b : G} {q : Parser} (k : Kind) → p.token.kind ≡ k → p.token.escaped ≡ false → one_of_kinds read_kinds k ≡ true → (s : Moved text f p q) → Goes rule (Lex text) X end (seq (tok k) b) p.prev_token_end b q.prev_token_end (λ us. us) (passing s.lexeme)
   skips k e n r s = then_by {X' = plain full} (passes k e n r s) (record { admits = λ ts us vs j k ls mid rest d d' h. (refl, refl) })

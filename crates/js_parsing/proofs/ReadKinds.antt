@@ -11,7 +11,7 @@ use Rattle.js_grammar.specs.Productions.{Flags}
 use Rattle.js_grammar.specs.Lexemes.{is_word}
 use Rattle.js_grammar.proofs.Looks.{covers, covered}
 use Rattle.js_cursor.specs.Parsers.{Parser}
-use Rattle.js_parsing.specs.Lexemes.{Lex, read_kinds, slashes}
+use Rattle.js_parsing.specs.Lexemes.{Lex, read_kinds, signs}
 use Rattle.js_parsing.specs.Stands.{ReadsHere}
 use Rattle.js_parsing.specs.States.{At, Standing, IsPlain, whole, sign, nothing as no_lexeme}
 use Rattle.js_parsing.proofs.Here.{cut_angle, cut_escaped, escaped_here, told}
@@ -41,22 +41,22 @@ read_there {text} {p = p} a e r = go a.plain
         (x.lexeme, (x.stands.lex, read_of x.lexeme refl (sym (cut_escaped x.lexeme) ∙ (sym x.tells.escaped ∙ e)) z.0))
     go (no_lexeme c k n) = absurd (false≢true (sym (ap (one_of_kinds read_kinds) k) ∙ r))
 
-abbrev a_slash : Look
-a_slash k w e = one_of_kinds slashes k
+abbrev a_sign : Look
+a_sign k w e = one_of_kinds signs k
 
 abbrev any_read : Look
 any_read k w e = one_of_kinds read_kinds k
 
-slashes_read : covers a_slash any_read ≡ true
+signs_read : covers a_sign any_read ≡ true
 unfolding covers
-slashes_read = refl
+signs_read = refl
 
--- what isn't read is none of the signs that may stand at a regular expression
-pub unread_no_slash : (k : Kind) → one_of_kinds read_kinds k ≡ false → one_of_kinds slashes k ≡ false
-unread_no_slash k r = go (one_of_kinds slashes k) refl
+-- what isn't read is none of the signs with which a lexeme of another goal begins
+pub unread_no_sign : (k : Kind) → one_of_kinds read_kinds k ≡ false → one_of_kinds signs k ≡ false
+unread_no_sign k r = go (one_of_kinds signs k) refl
   where
-    go : (b : Bool) → one_of_kinds slashes k ≡ b → one_of_kinds slashes k ≡ false
-    go true h = absurd (false≢true (sym r ∙ covered a_slash any_read slashes_read k false false h))
+    go : (b : Bool) → one_of_kinds signs k ≡ b → one_of_kinds signs k ≡ false
+    go true h = absurd (false≢true (sym r ∙ covered a_sign any_read signs_read k false false h))
     go false h = h
 
 -- it is what stands there
@@ -64,7 +64,7 @@ none_there : {text : List ℕ} {f : Flags} {p : Parser} → At text f p → one_
 none_there {text} {p = p} a r y l = go a.plain
   where
     by : p.cut ≡ false → ⊥
-    by c = false≢true (sym r ∙ subst (λ (v : Kind). one_of_kinds read_kinds v ≡ true) (sym (told a c (unread_no_slash p.token.kind r) y l).kind) (and_parts (one_of_kinds read_kinds y.kind) (not y.escaped) l.1).0)
+    by c = false≢true (sym r ∙ subst (λ (v : Kind). one_of_kinds read_kinds v ≡ true) (sym (told a c (unread_no_sign p.token.kind r) y l).kind) (and_parts (one_of_kinds read_kinds y.kind) (not y.escaped) l.1).0)
 
     go : IsPlain text p → ⊥
     go (whole c n x) = by c

@@ -2,7 +2,7 @@
 use Rattle.std.proofs.Common.{ℕ, ◌≡◌, ◌≤◌, List, [], ◌∷◌, length, Bool, true, false, ◌&&◌, ◌||◌, IsTrue, refl, sym, ap, subst, arith, ◌∙◌}
 use Rattle.std.proofs.lemmas.Bool.{false≢true}
 use Rattle.js_base.specs.declared.kind.Kind.{Kind}
-use Rattle.js_base.specs.declared.kind.Kind.TheVariants.{Question, Colon, PrivateIdentifier, RAngle, RegExp, Undetermined}
+use Rattle.js_base.specs.declared.kind.Kind.TheVariants.{Question, Colon, PrivateIdentifier, RAngle, Undetermined}
 use Rattle.js_base.specs.declared.span.Span.{Span}
 use Rattle.js_base.specs.Kinds.{same_kind, one_of_kinds}
 use Rattle.js_base.specs.Texts.{words}
@@ -14,7 +14,7 @@ use Rattle.js_cursor.specs.Parsers.{Parser}
 use Rattle.js_cursor.specs.Moves.{is_last}
 use Rattle.js_base.proofs.KindLemmas.{kind_of_same}
 use Rattle.js_grammar.specs.Lexed.{Lex as StandsBehind, all_faults}
-use Rattle.js_parsing.specs.Lexemes.{Lex}
+use Rattle.js_parsing.specs.Lexemes.{Lex, other_goals}
 use Rattle.js_parsing.specs.States.{At}
 use Rattle.js_parsing.proofs.Here.{found, told_plain, uncut, kind_here, unsettled}
 use Rattle.js_parsing.proofs.Tight.{read_plain}
@@ -33,7 +33,9 @@ use Rattle.js_parsing.proofs.Paths.{read_of}
 use Rattle.js_parsing.proofs.Tight.{operator_read}
 use Rattle.js_lex.specs.Reading.{is_right_angle}
 use Rattle.js_parsing.specs.Stands.{StandsHere}
-use Rattle.js_parsing.proofs.Here.{angled, escaped_here}
+use Rattle.js_parsing.proofs.Here.{angled, escaped_here, sign_here}
+use Rattle.js_base.specs.declared.kind.Kind.TheVariants.{RCurly, RegExp}
+use Rattle.js_parsing.specs.Lexemes.{slashes, template_tails}
 
 unescaped : (k : Kind) (u : List ℕ) → (is_word k || same_kind PrivateIdentifier k) ≡ false → is_escaped k u ≡ false
 unescaped k u w = ap (λ (b : Bool). b && has_backslash u) w
@@ -132,16 +134,33 @@ module _ {text : List ℕ} {f : Flags} {p : Parser} (a : At text f p) where
   pub stands_there : {k : Kind} → p.token.kind ≡ k → one_of_kinds unsettled k ≡ false → AllAre text p.prev_token_end k
   stands_there e n y l = (kind_here a e n y l, read_plain y l.1)
 
-  pub stands_not : {k : Kind} → (is_right_angle k || same_kind RegExp k) ≡ false → StandsHere p k false → NoneIs text p.prev_token_end k
+  pub stands_not : {k : Kind} → (is_right_angle k || one_of_kinds other_goals k) ≡ false → StandsHere p k false → NoneIs text p.prev_token_end k
   stands_not {k} n s y l e = go p.cut refl
     where
       apart_both : (a b : Bool) → (a || b) ≡ false → (a ≡ false) × (b ≡ false)
       apart_both true b h = absurd (false≢true (sym h))
       apart_both false b h = (refl, h)
 
-      neither : (is_right_angle k ≡ false) × (same_kind RegExp k ≡ false)
-      neither = apart_both (is_right_angle k) (same_kind RegExp k) n
+      neither : (is_right_angle k ≡ false) × (one_of_kinds other_goals k ≡ false)
+      neither = apart_both (is_right_angle k) (one_of_kinds other_goals k) n
 
       go : (b : Bool) → p.cut ≡ b → ⊥
       go true c = false≢true (sym neither.0 ∙ subst (λ v. is_right_angle v ≡ true) e (angled a c y l))
-      go false c = s ((told_plain a c y (ap (same_kind RegExp) e ∙ neither.1) l).kind ∙ e) (sym (escaped_here a y l) ∙ read_plain y l.1)
+      go false c = s ((told_plain a c y (ap (one_of_kinds other_goals) e ∙ neither.1) l).kind ∙ e) (sym (escaped_here a y l) ∙ read_plain y l.1)
+
+-- what stands there is the closing brace, or a part of a template that begins with it
+abbrev pub AllClose : List ℕ → ℕ → Type 0
+AllClose text s = (y : Lexeme) → Lex text s y → (one_of_kinds (RCurly ∷ template_tails) y.kind ≡ true) × (y.escaped ≡ false)
+
+pub closing_there : {text : List ℕ} {f : Flags} {p : Parser} → At text f p → p.token.kind ≡ RCurly → AllClose text p.prev_token_end
+closing_there {text} {p = p} a e y l = (go (one_of_kinds other_goals y.kind) refl, read_plain y l.1)
+  where
+    -- no regular expression begins with a brace
+    tail : (b c : Bool) → (b || c) ≡ true → one_of_kinds (cond b slashes (cond c (RCurly ∷ []) [])) p.token.kind ≡ true → c ≡ true
+    tail b true h s = refl
+    tail true false h s = absurd (false≢true (ap (one_of_kinds slashes) (sym e) ∙ s))
+    tail false false h s = h
+
+    go : (r : Bool) → one_of_kinds other_goals y.kind ≡ r → one_of_kinds (RCurly ∷ template_tails) y.kind ≡ true
+    go false q = or_left (same_kind RCurly y.kind) _ (subst (λ (v : Kind). same_kind RCurly v ≡ true) (sym e ∙ (told_plain a (uncut a (ap (same_kind RAngle) e)) y q l).kind) refl)
+    go true q = or_right (same_kind RCurly y.kind) _ (tail (same_kind RegExp y.kind) (one_of_kinds template_tails y.kind) q (sign_here a y l q))

@@ -13,16 +13,14 @@ use Rattle.js_grammar.specs.Trees.{binary_expression, logical_expression}
 use Rattle.js_grammar.proofs.RightEdges.{of_operand}
 use Rattle.js_grammar.proofs.Looks.{covers, covered}
 use Rattle.js_grammar.proofs.Towers.{OneOf, head, later}
-use Rattle.js_parsing.specs.Lexemes.{Lex, Plain, is_plain, is_read, read_kinds}
+use Rattle.js_parsing.specs.Lexemes.{Lex, Plain, is_plain, is_read, other_goals, read_kinds}
 use Rattle.js_parsing.specs.Answers.{beside}
 use Rattle.js_parsing.specs.Operators.{power_of}
 use Rattle.js_parsing.proofs.Paths.{reads}
-use Rattle.js_base.specs.declared.kind.Kind.TheVariants.{RegExp}
-use Rattle.js_base.specs.Kinds.{same_kind}
 
--- the lexemes that are read, but regular expressions
+-- the lexemes that are read by the plain goal
 abbrev pub plain_reads : Look
-plain_reads k w e = reads k w e && not (same_kind RegExp k)
+plain_reads k w e = reads k w e && not (one_of_kinds other_goals k)
 
 -- What binds less than n, and more than m at most by these kinds, binds less than m; or it may stand behind `async` alone.
 abbrev pub narrowing : ℕ → ℕ → List Kind → Bool → Row → Look
@@ -114,19 +112,19 @@ read_plain y h = go y.escaped (and_parts (one_of_kinds read_kinds y.kind) (not y
 
 -- what is read by the plain goal is read
 pub plain_is_read : (y : Lexeme) → IsTrue (is_plain y) → IsTrue (is_read y)
-plain_is_read y h = (and_parts (is_read y) (not (same_kind RegExp y.kind)) h).0
+plain_is_read y h = (and_parts (is_read y) (not (one_of_kinds other_goals y.kind)) h).0
 
 pub plain_lex : {text : List ℕ} {s : ℕ} {y : Lexeme} → Plain text s y → Lex text s y
 plain_lex {y = y} l = (l.0, plain_is_read y l.1)
 
-pub plain_is_none : (y : Lexeme) → IsTrue (is_plain y) → same_kind RegExp y.kind ≡ false
-plain_is_none y h = go (same_kind RegExp y.kind) (and_parts (is_read y) (not (same_kind RegExp y.kind)) h).1
+pub plain_is_none : (y : Lexeme) → IsTrue (is_plain y) → one_of_kinds other_goals y.kind ≡ false
+plain_is_none y h = go (one_of_kinds other_goals y.kind) (and_parts (is_read y) (not (one_of_kinds other_goals y.kind)) h).1
   where
     go : (x : Bool) → not x ≡ true → x ≡ false
     go true q = absurd (false≢true q)
     go false q = refl
 
-pub plain_so : (y : Lexeme) → IsTrue (is_read y) → same_kind RegExp y.kind ≡ false → IsTrue (is_plain y)
+pub plain_so : (y : Lexeme) → IsTrue (is_read y) → one_of_kinds other_goals y.kind ≡ false → IsTrue (is_plain y)
 plain_so y h r = and_from _ _ h (ap not r)
 
 -- operators are read, and none is what may stand behind `async` alone

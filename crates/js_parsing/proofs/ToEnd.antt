@@ -1,7 +1,7 @@
--- Whether lexemes without braces lead to the end of the text.
+-- Whether lexemes that are the same in every lexical goal lead to the end of the text.
 use Rattle.std.proofs.Common.{ℕ, ◌≡◌, Bool, true, false, ◌||◌, List, [], ◌∷◌, refl, sym, ap, subst, ◌∙◌}
 use Rattle.std.proofs.lemmas.Bool.{false≢true}
-use Rattle.js_base.specs.declared.kind.Kind.TheVariants.{Eof, RegExp}
+use Rattle.js_base.specs.declared.kind.Kind.TheVariants.{Eof}
 use Rattle.js_base.specs.declared.kind.Kind.{Kind}
 use Rattle.js_base.specs.Kinds.{same_kind, one_of_kinds}
 use Rattle.js_grammar.specs.Grammar.{Lexeme, Look, last, next}
@@ -9,7 +9,7 @@ use Rattle.js_grammar.specs.Lexed.{Lexes}
 use Rattle.js_grammar.specs.Productions.{Flags}
 use Rattle.js_cursor.specs.Parsers.{Parser}
 use Rattle.js_cursor.specs.Moves.{is_last}
-use Rattle.js_parsing.specs.Lexemes.{Braceless, NoneToEnd, slashes}
+use Rattle.js_parsing.specs.Lexemes.{Braceless, NoneToEnd}
 use Rattle.js_parsing.specs.States.{At}
 use Rattle.js_parsing.specs.Answers.{Unbuilt}
 use Rattle.js_parsing.proofs.Here.{told_plain}
@@ -28,18 +28,10 @@ to_end_none h (next y ls) l k = h y l.0
 pub to_end_stays : (p q : Parser) → q.text ≡ p.text → q.prev_token_end ≡ p.prev_token_end → NoneToEnd q.text q.prev_token_end → NoneToEnd p.text p.prev_token_end
 to_end_stays p q t e n = subst (λ (v : List ℕ). NoneToEnd v p.prev_token_end) t (subst (λ (s : ℕ). NoneToEnd q.text s) e n)
 
--- it begins with no slash
-pub no_slash : (k : Kind) → one_of_kinds (RegExp ∷ slashes) k ≡ false → (same_kind RegExp k ≡ false) × (one_of_kinds slashes k ≡ false)
-no_slash k n = go (same_kind RegExp k) refl n
-  where
-    go : (b : Bool) → same_kind RegExp k ≡ b → (b || one_of_kinds slashes k) ≡ false → (same_kind RegExp k ≡ false) × (one_of_kinds slashes k ≡ false)
-    go true e h = absurd (false≢true (sym h))
-    go false e h = (e, h)
-
 -- the current token was passed
 pub to_end_passed : {text : List ℕ} {f : Flags} {p : Parser} {e : ℕ} → At text f p → p.cut ≡ false → is_last p.token.kind ≡ false → p.token.span.end ≡ e → NoneToEnd text e → NoneToEnd text p.prev_token_end
 to_end_passed {text} {p = p} {e} a c n t = to_end_over (λ y l.
-    let z = told_plain a c y (no_slash y.kind l.2).0 l.0 in
+    let z = told_plain a c y l.2 l.0 in
     (λ k. false≢true (sym n ∙ ap is_last (z.kind ∙ k)), sym z.end ∙ t))
 
 -- nothing begins with what isn't built yet

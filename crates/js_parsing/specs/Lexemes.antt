@@ -2,10 +2,11 @@
 use Rattle.std.specs.Prelude.{ℕ, ◌-◌, ◌≡◌, Bool, true, false, not, cond, ◌&&◌, ◌||◌, List, [], ◌∷◌, ◌++◌, length, take, IsTrue}
 use Rattle.js_base.specs.declared.diagnostic.Diagnostic.{Diagnostic}
 use Rattle.js_base.specs.declared.kind.Kind.{Kind}
-use Rattle.js_base.specs.declared.kind.Kind.TheVariants.{Ident, Let, Static, Implements, Interface, Package, Private, Protected, Public, Of, Get, Set, As, From, Assert, Accessor, Using, Defer, Source, Meta, Satisfies, Constructor, TypeWord, Yield, Await, This, Null, True, False, Typeof, Void, Delete, In, Instanceof, Decimal, Float, Binary, Octal, Hex, PositiveExponential, NegativeExponential, DecimalBigInt, BinaryBigInt, OctalBigInt, HexBigInt, Str, RegExp, Tilde, Bang, Plus, Minus, Star, Star2, Slash, Percent, Eq2, Eq3, Neq, Neq2, LAngle, LtEq, RAngle, GtEq, ShiftLeft, ShiftRight, ShiftRight3, Amp, Amp2, Pipe, Pipe2, Caret, Question, Colon, Comma, Eof, Dot, QuestionDot, New, Break, Continue, Return, Debugger, Function, Throw, Switch, Case, Default, Try, Catch, Finally, For, If, Else, While, Do, With, Var, Const, Plus2, Minus2, Eq, PlusEq, MinusEq, StarEq, SlashEq, PercentEq, ShiftLeftEq, ShiftRightEq, ShiftRight3Eq, PipeEq, CaretEq, AmpEq, Amp2Eq, Pipe2Eq, Question2Eq, Star2Eq, Semicolon, LParen, RParen, Question2, LBrack, RBrack, LCurly, RCurly, Dot3, Arrow}
+use Rattle.js_base.specs.declared.kind.Kind.TheVariants.{Ident, Let, Static, Implements, Interface, Package, Private, Protected, Public, Of, Get, Set, As, From, Assert, Accessor, Using, Defer, Source, Meta, Satisfies, Constructor, TypeWord, Yield, Await, This, Null, True, False, Typeof, Void, Delete, In, Instanceof, Decimal, Float, Binary, Octal, Hex, PositiveExponential, NegativeExponential, DecimalBigInt, BinaryBigInt, OctalBigInt, HexBigInt, Str, RegExp, NoSubstitutionTemplate, TemplateHead, TemplateMiddle, TemplateTail, Tilde, Bang, Plus, Minus, Star, Star2, Slash, Percent, Eq2, Eq3, Neq, Neq2, LAngle, LtEq, RAngle, GtEq, ShiftLeft, ShiftRight, ShiftRight3, Amp, Amp2, Pipe, Pipe2, Caret, Question, Colon, Comma, Eof, Dot, QuestionDot, New, Break, Continue, Return, Debugger, Function, Throw, Switch, Case, Default, Try, Catch, Finally, For, If, Else, While, Do, With, Var, Const, Plus2, Minus2, Eq, PlusEq, MinusEq, StarEq, SlashEq, PercentEq, ShiftLeftEq, ShiftRightEq, ShiftRight3Eq, PipeEq, CaretEq, AmpEq, Amp2Eq, Pipe2Eq, Question2Eq, Star2Eq, Semicolon, LParen, RParen, Question2, LBrack, RBrack, LCurly, RCurly, Dot3, Arrow}
 use Rattle.js_base.specs.Kinds.{same_kind, one_of_kinds}
 use Rattle.js_grammar.specs.Grammar.{Lexeme, Lexemes, last, next}
 use Rattle.js_grammar.specs.Lexed.{Lex as StandsBehind, Lexes, all_faults, passing_of}
+use Rattle.js_grammar.specs.Lexemes.{LexicalGoal, division, regular_expression, template_tail}
 use Rattle.js_grammar.specs.Settings.{Goal}
 use Rattle.js_base.specs.declared.span.Span.{Span}
 use Rattle.js_base.specs.declared.token.Token.{Token}
@@ -28,11 +29,31 @@ may_name yields awaits Await = not awaits
 may_name yields awaits k = one_of_kinds name_kinds k
 
 abbrev pub read_kinds : List Kind
-read_kinds = Eof ∷ This ∷ Null ∷ True ∷ False ∷ Typeof ∷ Void ∷ Delete ∷ In ∷ Instanceof ∷ Decimal ∷ Float ∷ Binary ∷ Octal ∷ Hex ∷ PositiveExponential ∷ NegativeExponential ∷ DecimalBigInt ∷ BinaryBigInt ∷ OctalBigInt ∷ HexBigInt ∷ Str ∷ RegExp ∷ Tilde ∷ Bang ∷ Plus ∷ Minus ∷ Star ∷ Star2 ∷ Slash ∷ Percent ∷ Eq2 ∷ Eq3 ∷ Neq ∷ Neq2 ∷ LAngle ∷ LtEq ∷ RAngle ∷ GtEq ∷ ShiftLeft ∷ ShiftRight ∷ ShiftRight3 ∷ Amp ∷ Amp2 ∷ Pipe ∷ Pipe2 ∷ Caret ∷ Question ∷ Question2 ∷ Colon ∷ Comma ∷ Dot ∷ QuestionDot ∷ New ∷ Break ∷ Continue ∷ Return ∷ Function ∷ Debugger ∷ Throw ∷ Switch ∷ Case ∷ Default ∷ Try ∷ Catch ∷ Finally ∷ For ∷ If ∷ Else ∷ While ∷ Do ∷ With ∷ Var ∷ Const ∷ Plus2 ∷ Minus2 ∷ Eq ∷ PlusEq ∷ MinusEq ∷ StarEq ∷ SlashEq ∷ PercentEq ∷ ShiftLeftEq ∷ ShiftRightEq ∷ ShiftRight3Eq ∷ PipeEq ∷ CaretEq ∷ AmpEq ∷ Amp2Eq ∷ Pipe2Eq ∷ Question2Eq ∷ Star2Eq ∷ Semicolon ∷ LParen ∷ RParen ∷ LBrack ∷ RBrack ∷ LCurly ∷ RCurly ∷ Dot3 ∷ Arrow ∷ name_kinds
+read_kinds = Eof ∷ This ∷ Null ∷ True ∷ False ∷ Typeof ∷ Void ∷ Delete ∷ In ∷ Instanceof ∷ Decimal ∷ Float ∷ Binary ∷ Octal ∷ Hex ∷ PositiveExponential ∷ NegativeExponential ∷ DecimalBigInt ∷ BinaryBigInt ∷ OctalBigInt ∷ HexBigInt ∷ Str ∷ RegExp ∷ NoSubstitutionTemplate ∷ TemplateHead ∷ TemplateMiddle ∷ TemplateTail ∷ Tilde ∷ Bang ∷ Plus ∷ Minus ∷ Star ∷ Star2 ∷ Slash ∷ Percent ∷ Eq2 ∷ Eq3 ∷ Neq ∷ Neq2 ∷ LAngle ∷ LtEq ∷ RAngle ∷ GtEq ∷ ShiftLeft ∷ ShiftRight ∷ ShiftRight3 ∷ Amp ∷ Amp2 ∷ Pipe ∷ Pipe2 ∷ Caret ∷ Question ∷ Question2 ∷ Colon ∷ Comma ∷ Dot ∷ QuestionDot ∷ New ∷ Break ∷ Continue ∷ Return ∷ Function ∷ Debugger ∷ Throw ∷ Switch ∷ Case ∷ Default ∷ Try ∷ Catch ∷ Finally ∷ For ∷ If ∷ Else ∷ While ∷ Do ∷ With ∷ Var ∷ Const ∷ Plus2 ∷ Minus2 ∷ Eq ∷ PlusEq ∷ MinusEq ∷ StarEq ∷ SlashEq ∷ PercentEq ∷ ShiftLeftEq ∷ ShiftRightEq ∷ ShiftRight3Eq ∷ PipeEq ∷ CaretEq ∷ AmpEq ∷ Amp2Eq ∷ Pipe2Eq ∷ Question2Eq ∷ Star2Eq ∷ Semicolon ∷ LParen ∷ RParen ∷ LBrack ∷ RBrack ∷ LCurly ∷ RCurly ∷ Dot3 ∷ Arrow ∷ name_kinds
 
 -- The signs that may stand where a regular expression begins: which of them it is depends on the lexical goal (ECMA-262, 12).
 abbrev pub slashes : List Kind
 slashes = Slash ∷ SlashEq ∷ []
+
+-- the parts of a template that begin with `}`
+abbrev pub template_tails : List Kind
+template_tails = TemplateMiddle ∷ TemplateTail ∷ []
+
+-- what other lexical goals than the plain one give
+abbrev pub other_goals : List Kind
+other_goals = RegExp ∷ template_tails
+
+-- the lexical goal of a kind that is read
+abbrev pub goal_for : Kind → LexicalGoal
+goal_for k = cond (same_kind RegExp k) regular_expression (cond (one_of_kinds template_tails k) template_tail division)
+
+-- the signs, by the plain lexical goal, with which a lexeme of another one begins
+abbrev pub signs_of : Kind → List Kind
+signs_of k = cond (same_kind RegExp k) slashes (cond (one_of_kinds template_tails k) (RCurly ∷ []) [])
+
+-- all of these signs
+abbrev pub signs : List Kind
+signs = RCurly ∷ slashes
 
 -- a lexeme of these kinds, without an escape
 abbrev pub is_read : Lexeme → Bool
@@ -108,6 +129,10 @@ abbrev pub read_mark : Kind → Bool
 read_mark Eof = true
 read_mark Str = true
 read_mark RegExp = true
+read_mark NoSubstitutionTemplate = true
+read_mark TemplateHead = true
+read_mark TemplateMiddle = true
+read_mark TemplateTail = true
 read_mark Bang = true
 read_mark Tilde = true
 read_mark Plus2 = true
@@ -132,9 +157,9 @@ read_mark _ = false
 abbrev pub Lex : List ℕ → ℕ → Lexeme → Type 0
 Lex text s y = StandsBehind all_faults text s y × IsTrue (is_read y)
 
--- It is read by the plain lexical goal: it is no regular expression.
+-- It is read by the plain lexical goal.
 abbrev pub is_plain : Lexeme → Bool
-is_plain y = is_read y && not (same_kind RegExp y.kind)
+is_plain y = is_read y && not (one_of_kinds other_goals y.kind)
 
 abbrev pub Plain : List ℕ → ℕ → Lexeme → Type 0
 Plain text s y = StandsBehind all_faults text s y × IsTrue (is_plain y)
@@ -143,9 +168,9 @@ Plain text s y = StandsBehind all_faults text s y × IsTrue (is_plain y)
 abbrev pub unbuilt_kinds : List Kind
 unbuilt_kinds = []
 
--- a lexeme that is read, the same in every lexical goal: no brace, and nothing that begins with a slash
+-- a lexeme that is read, the same in every lexical goal: nothing that begins with a brace or a slash
 abbrev pub Braceless : List ℕ → ℕ → Lexeme → Type 0
-Braceless text s y = Lex text s y × (one_of_kinds (LCurly ∷ RCurly ∷ []) y.kind ≡ false) × (one_of_kinds (RegExp ∷ slashes) y.kind ≡ false)
+Braceless text s y = Lex text s y × (one_of_kinds (LCurly ∷ RCurly ∷ []) y.kind ≡ false) × (one_of_kinds other_goals y.kind ≡ false) × (one_of_kinds slashes y.kind ≡ false)
 
 abbrev pub last_of : Lexemes → Lexeme
 last_of (last x) = x
@@ -161,9 +186,9 @@ Faultless source text s y = StandsBehind (passing_of source) text s y × IsTrue 
 
 -- the lexeme of the plain lexical goal that stands there has no fault
 abbrev pub IsRight : Goal → List ℕ → ℕ → Type 0
-IsRight source text place = (y : Lexeme) → Lex text place y → same_kind RegExp y.kind ≡ false → Faultless source text place y
+IsRight source text place = (y : Lexeme) → Lex text place y → one_of_kinds other_goals y.kind ≡ false → Faultless source text place y
 
--- These faults were kept for what stands behind the place, as it is read by the plain lexical goal: none, where the lexeme that stands there has none; some, where it has one, or where none stands. A regular expression has those too, and may have others.
+-- These faults were kept for what stands behind the place, as it is read by the plain lexical goal: none, where the lexeme that stands there has none; some, where it has one, or where none stands. A lexeme of another goal has those too, and may have others.
 pub record KeptFor (source : Goal) (text : List ℕ) (place : ℕ) (faults : List Diagnostic) : Type 0 where
   pub none : faults ≡ [] → IsRight source text place
   pub some : (faults ≡ [] → ⊥) → (y : Lexeme) → Faultless source text place y → ⊥
@@ -222,15 +247,15 @@ pub record IsNew (text : List ℕ) (s : Spot) (x : Lexeme) (n : News) : Type 0 w
 abbrev pub with_faults : Spot → List Diagnostic → Spot
 with_faults s ds = record s { kept = record s.kept { errors = s.kept.errors ++ ds } }
 
--- A regular expression was read where a slash stood, and these faults were kept then: none, where it has none but those of what stands before it; some, where a flag is wrong (12.9.5).
-pub record IsPattern (text : List ℕ) (s : Spot) (x : Lexeme) (faults : List Diagnostic) : Type 0 where
-  pub is : x.kind ≡ RegExp
+-- A lexeme of another goal was read where one of its signs stood, and these faults were kept then: none, where it has none but those of what stands before it; some, where a flag of a regular expression is wrong (12.9.5).
+pub record IsReread (text : List ℕ) (s : Spot) (x : Lexeme) (faults : List Diagnostic) : Type 0 where
+  pub is : one_of_kinds other_goals x.kind ≡ true
   pub none : faults ≡ [] → IsRight s.source text s.place → Faultless s.source text s.place x
   pub some : (faults ≡ [] → ⊥) → Faultless s.source text s.place x → ⊥
 
--- Lexemes, one behind the other, lead from one place to another, with what was kept for each: `pass` puts them before those from there on. A regular expression is read again in place, and its own faults are kept then. Where not all of the lexemes are read, more faults may have been kept for a place: a part of a template is read there again.
+-- Lexemes, one behind the other, lead from one place to another, with what was kept for each: `pass` puts them before those from there on. A lexeme of another goal is read again in place, and its own faults are kept then. Where not all of the lexemes are read, more faults may have been kept for a place: no part of a template ends there, or no regular expression does.
 pub data Walked (text : List ℕ) (s : Spot) : Spot → (Lexemes → Lexemes) → Type 0 where
   nowhere : Walked text s s (λ ls. ls)
-  one_more : {s' : Spot} {pass : Lexemes → Lexemes} {x : Lexeme} {n : News} → Walked text s s' pass → IsNew text s' x n → same_kind RegExp x.kind ≡ false → Walked text s (onward s' x n) (λ ls. pass (next x ls))
-  read_again : {s' : Spot} {pass : Lexemes → Lexemes} {x : Lexeme} {n : News} → Walked text s s' pass → (ds : List Diagnostic) → IsPattern text s' x ds → IsNew text s' x n → Walked text s (onward (with_faults s' ds) x n) (λ ls. pass (next x ls))
+  one_more : {s' : Spot} {pass : Lexemes → Lexemes} {x : Lexeme} {n : News} → Walked text s s' pass → IsNew text s' x n → one_of_kinds other_goals x.kind ≡ false → Walked text s (onward s' x n) (λ ls. pass (next x ls))
+  read_again : {s' : Spot} {pass : Lexemes → Lexemes} {x : Lexeme} {n : News} → Walked text s s' pass → (ds : List Diagnostic) → IsReread text s' x ds → IsNew text s' x n → Walked text s (onward (with_faults s' ds) x n) (λ ls. pass (next x ls))
   more_faults : {s' : Spot} {pass : Lexemes → Lexemes} → Walked text s s' pass → (ds : List Diagnostic) → ((ls : Lexemes) → Lexes (Lex text) s.place (pass ls) → ⊥) → Walked text s (with_faults s' ds) pass

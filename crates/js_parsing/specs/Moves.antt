@@ -4,7 +4,7 @@ use Rattle.js_grammar.specs.Grammar.{Lexeme}
 use Rattle.js_grammar.specs.Lexed.{Lex as StandsBehind, all_faults}
 use Rattle.js_grammar.specs.Productions.{Flags}
 use Rattle.js_base.specs.declared.kind.Kind.{Kind}
-use Rattle.js_base.specs.declared.kind.Kind.TheVariants.{Amp2, LCurly, Pipe2, RAngle, RegExp}
+use Rattle.js_base.specs.declared.kind.Kind.TheVariants.{Amp2, LCurly, Pipe2, RAngle}
 use Rattle.js_base.specs.Kinds.{same_kind, one_of_kinds}
 use Rattle.js_grammar.specs.Trees.{Label, of, binary_expression, logical_expression}
 use Rattle.js_lex.specs.Reading.{Tells}
@@ -18,7 +18,7 @@ use Rattle.js_tree.specs.Holding.{Made}
 use Rattle.js_cursor.specs.Parsers.{Parser}
 use Rattle.js_cursor.specs.Moves.{Completed, is_last}
 use Rattle.js_cursor.specs.Places.{IsAt}
-use Rattle.js_parsing.specs.Lexemes.{News, IsNew, onward, spot}
+use Rattle.js_parsing.specs.Lexemes.{News, IsNew, onward, other_goals, spot}
 use Rattle.js_parsing.specs.Operators.{power_of}
 use Rattle.js_parsing.specs.Classes.{EndsParse}
 use Rattle.js_parsing.specs.States.{At, Same}
@@ -43,7 +43,7 @@ pub record Moved (text : List ℕ) (f : Flags) (old new : Parser) : Type 0 where
   pub kept : new.errors ≡ old.errors
   pub lexeme : Lexeme
   pub stood : StandsBehind all_faults text old.prev_token_end lexeme
-  pub plain : same_kind RegExp lexeme.kind ≡ false
+  pub plain : one_of_kinds other_goals lexeme.kind ≡ false
   pub tells : Tells lexeme old.token
   pub ends : lexeme.to ≡ new.prev_token_end
   pub further : old.token.span.start < new.prev_token_end

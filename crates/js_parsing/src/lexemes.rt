@@ -238,8 +238,8 @@ fn is_read_operator(kind: Kind) -> bool
     )
 }
 
-/// Whether it is another sign that is read, a string, a regular expression or the end of the text; no operator of an
-/// assignment.
+/// Whether it is another sign that is read, a string, a regular expression, a part of a template or the end of the
+/// text; no operator of an assignment.
 fn is_read_mark(kind: Kind) -> bool
     ensures { result ≡ read_mark kind }
 {
@@ -248,6 +248,10 @@ fn is_read_mark(kind: Kind) -> bool
         Kind::Eof
             | Kind::Str
             | Kind::RegExp
+            | Kind::NoSubstitutionTemplate
+            | Kind::TemplateHead
+            | Kind::TemplateMiddle
+            | Kind::TemplateTail
             | Kind::Bang
             | Kind::Tilde
             | Kind::Plus2

@@ -15,7 +15,6 @@ use Rattle.js_grammar.specs.Productions.{G, Flags, Symbol, at, tok, mk, plus_in,
 use Rattle.js_grammar.specs.Productions.{sym as symbol}
 use Rattle.js_grammar.specs.Table.{rule, rule_of}
 use Rattle.js_grammar.specs.Follow.{after, surest}
-use Rattle.js_base.proofs.KindLemmas.{kind_of_same}
 use Rattle.js_grammar.proofs.Looks.{covers, covered, apart}
 use Rattle.js_grammar.proofs.Calculus.{On, ◌▹◌, ◌▹✗◌, left, right, part_fails, then_by, weaken_fails_on, fails_alt, fails_node, fails_nothing, fails_rule, inside_full, inside_plain}
 use Rattle.js_grammar.proofs.FollowLaws.{surely, fails_by}
@@ -26,7 +25,7 @@ use Rattle.js_tree.specs.Nodes.{Node}
 use Rattle.js_tree.specs.Holding.{Holds, HoldsAll, Keeps}
 use Rattle.js_tree.proofs.HoldingLemmas.{HoldsAll-none, Keeps-refl, Keeps-trans, Keeps-made}
 use Rattle.js_cursor.specs.Parsers.{Parser}
-use Rattle.js_cursor.specs.Moves.{GivesUp, MovesOn, OnlyMemory, is_last, IsHere}
+use Rattle.js_cursor.specs.Moves.{GivesUp, MovesOn, OnlyMemory, IsHere}
 use Rattle.js_cursor.specs.declared.stop.Stop.{Stop}
 use Rattle.js_cursor.specs.declared.stop.Stop.TheVariants.{Fatal, NoMemory}
 use Rattle.js_parsing.specs.Answers.{Underived, Answer, Numbered, Outcome, Stops}
@@ -38,7 +37,7 @@ use Rattle.js_parsing.specs.Moves.{Moved, MadeHere, LeafTaken, TakesLeaf, plain_
 use Rattle.js_parsing.specs.States.{At, Same, NodesLie}
 use Rattle.js_parsing.proofs.Signs.{other_kind, plain_sign, whole_sign}
 use Rattle.js_parsing.proofs.Giving.{fails_escaped, gives_up}
-use Rattle.js_parsing.proofs.Here.{kind_here, uncut}
+use Rattle.js_parsing.proofs.Here.{kind_here}
 use Rattle.js_parsing.proofs.MadeNodes.{leaf_held, node_held, one_held, two_held, one_lies, made_lies}
 use Rattle.js_parsing.proofs.Moving.{beside_nodes, moves, same_both, same_with, stops_behind}
 use Rattle.js_operands.proofs.Operands.{by_path, name_leaf}

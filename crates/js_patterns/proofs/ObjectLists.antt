@@ -1,10 +1,8 @@
 -- Object patterns (ECMA-262, 14.3.3): the list between the braces, what is left of it behind a property or a rest.
-use Rattle.std.proofs.Common.{ℕ, ◌≡◌, ◌≤◌, List, [], ◌∷◌, ◌++◌, length, Option, Some, None, Bool, true, false, IsTrue, ◌||◌, refl, sym, ap, subst, arith, ◌∙◌}
-use Rattle.std.specs.Prelude.{Err}
+use Rattle.std.proofs.Common.{ℕ, ◌≡◌, List, [], ◌∷◌, ◌++◌, length, Option, Some, Bool, true, false, ◌||◌, refl, sym, ap, subst, arith, ◌∙◌}
 use Rattle.std.proofs.lemmas.Bool.{false≢true}
 use Rattle.js_base.specs.declared.kind.Kind.{Kind}
-use Rattle.js_base.specs.declared.kind.Kind.TheVariants.{RAngle, LCurly, RCurly, Comma, Dot3, PrivateIdentifier}
-use Rattle.js_base.specs.declared.diagnostic.DiagnosticKind.TheVariants.{ExpectClosing}
+use Rattle.js_base.specs.declared.kind.Kind.TheVariants.{LCurly, RCurly, Comma, Dot3, PrivateIdentifier}
 use Rattle.js_base.specs.declared.span.Span.{Span}
 use Rattle.js_base.specs.Kinds.{same_kind, one_of_kinds}
 use Rattle.js_base.specs.Texts.{words}
@@ -17,7 +15,7 @@ use Rattle.js_grammar.specs.Productions.{sym as symbol}
 use Rattle.js_grammar.specs.Table.{rule, rule_of}
 use Rattle.js_grammar.specs.FirstSets.{first as first_of}
 use Rattle.js_grammar.specs.Follow.{after}
-use Rattle.js_grammar.proofs.Looks.{covers, apart}
+use Rattle.js_grammar.proofs.Looks.{covers, apart, not_both}
 use Rattle.js_grammar.proofs.Calculus.{◌▹✗◌, fails_node, fails_rule, inside_full}
 use Rattle.js_grammar.proofs.First.{starts}
 use Rattle.js_grammar.proofs.FirstClaims.{firsts}
@@ -35,7 +33,7 @@ use Rattle.js_operands.proofs.Arrays.{behind_one}
 use Rattle.js_operands.proofs.Operands.{by_path}
 use Rattle.js_parsing.specs.Answers.{Underived, Numbered, Stops}
 use Rattle.js_parsing.specs.Arguments.{Partway, ItemTaken, NoItem, PartTaken, behind_item}
-use Rattle.js_parsing.specs.Lexemes.{Lex}
+use Rattle.js_parsing.specs.Lexemes.{Lex, template_tails}
 use Rattle.js_parsing.specs.Lists.{NoneLeft, OneMore}
 use Rattle.js_parsing.specs.Moves.{Moved, MadeHere, plain_label}
 use Rattle.js_parsing.specs.States.{At}
@@ -45,7 +43,7 @@ use Rattle.js_parsing.proofs.MadeNodes.{node_held, one_lies}
 use Rattle.js_parsing.proofs.Moving.{stops_so}
 use Rattle.js_parsing.proofs.Parts.{part_path, part_path_fails, part_sign, part_last, parts}
 use Rattle.js_parsing.proofs.Paths.{Path, ◌⟼◌, at_kind, by_symbol_as, fails_at, label_here, noded}
-use Rattle.js_parsing.proofs.Signs.{plain_sign}
+use Rattle.js_parsing.proofs.Signs.{closing_there, plain_sign}
 use Rattle.js_patterns.specs.ObjectPatterns.{properties_left, rest_of}
 use Rattle.js_patterns.proofs.Lists.{end_due, item_comma, item_due, item_fails, item_last, item_more, last_due, more_from, none_yet}
 
@@ -74,10 +72,14 @@ module _ {text : List ℕ} {f : Flags} {p : Parser} (a : At text f p) where
   unfolding covers apart
   no_end_at n = fails_at a (tok RCurly) (RCurly ∷ []) refl n
 
+  no_property_here : p.token.kind ≡ RCurly → NoneLeft text (symbol PatternProperty f) p.prev_token_end
+  unfolding apart
+  no_property_here k = fails_here firsts (λ y l c. not_both (λ k w e. starts first_of (symbol PatternProperty f) full k w e) (λ k w e. one_of_kinds (RCurly ∷ template_tails) k) refl y.kind y.newline y.escaped c (closing_there a k y l).0)
+
   -- the closing brace stands here
   pub properties_closed : {ids : List (Option NodeId)} → p.token.kind ≡ RCurly → OneMore text f (properties_left f) (tok RCurly) p p ids ids
   unfolding covers
-  properties_closed {ids} k = more_from (end_due never (symbol PatternProperty f) (rest_of f) RCurly no_gap (not_begun RCurly k refl (λ w e. refl)) (no_rest_at (ap (one_of_kinds (Dot3 ∷ [])) k))) (none_yet ids a)
+  properties_closed {ids} k = more_from (end_due never (symbol PatternProperty f) (rest_of f) RCurly no_gap (no_property_here k) (no_rest_at (ap (one_of_kinds (Dot3 ∷ [])) k))) (none_yet ids a)
 
   -- neither that nor a rest
   module _ (n : one_of_kinds (RCurly ∷ Dot3 ∷ []) p.token.kind ≡ false) where

@@ -1,6 +1,6 @@
 -- Properties of object patterns (ECMA-262, 14.3.3): names that are bound, and names with what is bound by them.
-use Rattle.std.proofs.Common.{ℕ, ◌+◌, ◌≡◌, ◌≤◌, ◌<◌, ◌⊎◌, inl, inr, max, suc, List, [], ◌∷◌, length, Option, Some, Bool, true, false, not, ◌||◌, IsTrue, IsCharBoundary, refl, sym, ap, subst, arith, ◌∙◌}
-use Rattle.std.specs.Prelude.{Result, Ok, Err, None}
+use Rattle.std.proofs.Common.{ℕ, ◌+◌, ◌≡◌, inl, inr, max, suc, List, [], ◌∷◌, length, Some, Bool, true, false, not, ◌||◌, IsCharBoundary, refl, sym, ap, subst, arith, ◌∙◌}
+use Rattle.std.specs.Prelude.{Ok, Err, None}
 use Rattle.std.proofs.lemmas.Bool.{false≢true, or_left}
 use Rattle.js_base.specs.declared.kind.Kind.{Kind}
 use Rattle.js_base.specs.declared.kind.Kind.TheVariants.{LBrack, RBrack, RCurly, RParen, Colon, Comma, Eof, Eq, PrivateIdentifier}
@@ -11,10 +11,10 @@ use Rattle.js_base.specs.Texts.{words}
 use Rattle.js_grammar.specs.Insertion.{is_word as names_any}
 use Rattle.js_grammar.specs.Lexemes.{is_word}
 use Rattle.js_grammar.specs.Trees.{Slots, end, tree, Label, no_op, assignment_pattern, binding_identifier, binding_property, identifier_name}
-use Rattle.js_grammar.specs.Grammar.{Lexeme, Lexemes, Look, last, next, here, seen, ahead, alt, exact, label_of, seq, such, nothing, Takes, is_seq, is_ahead, is_such, is_node, is_lexeme, ◌▸◌}
+use Rattle.js_grammar.specs.Grammar.{Lexeme, Lexemes, Look, last, next, here, ahead, alt, exact, label_of, nothing, Takes, is_seq, is_ahead, is_such, is_node, is_lexeme, ◌▸◌}
 use Rattle.js_grammar.specs.Lexed.{Lexes}
-use Rattle.js_grammar.specs.Parsing.{Test, Way, Reaches, Admits, plain, full, always, behind, still, Goes, Fails}
-use Rattle.js_grammar.specs.Productions.{G, Flags, Symbol, at, tok, mk, make, plus_in, flag, computed_flag, shorthand_flag, Assignment, BElement, BindingIdentifier, IdentifierName, Init, PatternProperty}
+use Rattle.js_grammar.specs.Parsing.{Test, Reaches, Admits, plain, full, behind, still, Goes, Fails}
+use Rattle.js_grammar.specs.Productions.{G, Flags, at, tok, mk, make, plus_in, flag, computed_flag, shorthand_flag, Assignment, BElement, BindingIdentifier, IdentifierName, Init, PatternProperty}
 use Rattle.js_grammar.specs.Productions.{sym as symbol}
 use Rattle.js_grammar.specs.Table.{rule, rule_of, name}
 use Rattle.js_grammar.proofs.Looks.{covers, covered, apart}
@@ -30,11 +30,11 @@ use Rattle.js_cursor.specs.Moves.{Expects, IsKind}
 use Rattle.js_cursor.specs.declared.stop.Stop.{Stop}
 use Rattle.js_operands.specs.PropertyNames.{NameRead, NoName}
 use Rattle.js_operands.proofs.Members.{name_taken}
-use Rattle.js_operands.proofs.Operands.{plain_leaf, name_slashless}
+use Rattle.js_operands.proofs.Operands.{plain_leaf, name_signless}
 use Rattle.js_operands.proofs.PropertyNames.{literal_kinds, word_named}
 use Rattle.js_parsing.specs.Answers.{Underived, Answer, Numbered, Stops}
-use Rattle.js_parsing.specs.Arguments.{behind_item, ItemTaken, NoItem, PartTaken}
-use Rattle.js_parsing.specs.Lexemes.{Lex, may_name, name_kinds, slashes}
+use Rattle.js_parsing.specs.Arguments.{behind_item, ItemTaken, NoItem}
+use Rattle.js_parsing.specs.Lexemes.{Lex, may_name, name_kinds}
 use Rattle.js_parsing.specs.Moves.{Moved, MadeHere, LeafTaken, TakesLeaf, plain_label}
 use Rattle.js_parsing.specs.Stands.{NameHere, StandsHere}
 use Rattle.js_parsing.specs.Nesting.{CanNest, room}
@@ -47,7 +47,7 @@ use Rattle.js_parsing.proofs.NameKinds.{a_name, listed_name, name_apart, name_at
 use Rattle.js_parsing.proofs.NamedFirsts.{fails_unnamed}
 use Rattle.js_parsing.proofs.MadeNodes.{LabelLies, from_start, leaf_held, two_held, made_lies, one_lies}
 use Rattle.js_parsing.proofs.Moving.{beside_nodes, same_both, same_with, stops_behind, stops_so}
-use Rattle.js_parsing.proofs.Paths.{Path, ◌⟼◌, ◌⟶◌, ◌⟶✗◌, at_kind, fails_at, flagged_by, flagged_here, label_here, last_called, noded_by, by_symbol_as, one_read, token}
+use Rattle.js_parsing.proofs.Paths.{Path, ◌⟼◌, ◌⟶◌, ◌⟶✗◌, fails_at, flagged_by, flagged_here, label_here, last_called, noded_by, by_symbol_as, one_read, token}
 use Rattle.js_parsing.proofs.Signs.{other_kind, plain_sign}
 use Rattle.js_parsing.proofs.Verdicts.{verdict_of, grown_then}
 use Rattle.js_parsing.proofs.Verdicts.{after as grown_behind}
@@ -100,7 +100,7 @@ module _ {text : List ℕ} {f : Flags} {p q : Parser} (a : At text f p) (k : one
 
   -- the lexeme that stands here is the one that was passed
   is_it : (y : Lexeme) → Lex text p.prev_token_end y → y ≡ m.lexeme
-  is_it y l = one_read a (name_slashless p.token.kind k) l (m.stood, plain_leaf p.token.kind refl e (name_read p.token.kind k) m)
+  is_it y l = one_read a (name_signless p.token.kind k) l (m.stood, plain_leaf p.token.kind refl e (name_read p.token.kind k) m)
 
   named_kind : (y : Lexeme) → Lex text p.prev_token_end y → one_of_kinds name_kinds y.kind ≡ true
   named_kind y l = subst (λ (v : Kind). one_of_kinds name_kinds v ≡ true) (m.tells.kind ∙ sym (ap (λ (z : Lexeme). z.kind) (is_it y l))) k

@@ -1,10 +1,8 @@
 -- The rest of an object pattern (ECMA-262, 14.3.3): it binds a name.
-use Rattle.std.proofs.Common.{ℕ, ◌≡◌, ◌≤◌, ◌<◌, List, [], ◌∷◌, ◌++◌, length, Option, Some, None, Bool, true, false, ◌||◌, IsCharBoundary, refl, sym, ap, subst, arith, ◌∙◌}
-use Rattle.std.specs.Prelude.{Err}
+use Rattle.std.proofs.Common.{ℕ, ◌≡◌, ◌<◌, List, [], ◌∷◌, length, Some, Bool, true, false, ◌||◌, IsCharBoundary, refl, sym, ap, subst, arith, ◌∙◌}
 use Rattle.js_base.specs.declared.diagnostic.Diagnostic.{Diagnostic}
 use Rattle.js_base.specs.declared.diagnostic.DiagnosticKind.TheVariants.{InvalidBindingRestElement}
-use Rattle.js_base.specs.declared.kind.Kind.TheVariants.{RBrack, RCurly, RParen, Comma, Dot3, PrivateIdentifier, Undetermined}
-use Rattle.js_base.specs.declared.source_type.SourceType.{SourceType}
+use Rattle.js_base.specs.declared.kind.Kind.TheVariants.{RBrack, RCurly, RParen, Comma, Dot3, PrivateIdentifier}
 use Rattle.js_base.specs.declared.span.Span.{Span}
 use Rattle.js_base.specs.Kinds.{same_kind, one_of_kinds}
 use Rattle.js_base.specs.Texts.{words}
@@ -12,15 +10,14 @@ use Rattle.js_grammar.specs.Lexemes.{is_word}
 use Rattle.js_grammar.specs.LexicalFaults.{Reached}
 use Rattle.js_grammar.specs.Marks.{EdgeOf, Mark}
 use Rattle.js_grammar.specs.Trees.{Label, NodeKind, Slots, end, tree, no_op, array_pattern, object_pattern, binding_identifier, binding_rest_element}
-use Rattle.js_grammar.specs.Grammar.{Lexemes, Look, here, such, nothing, Takes, is_such, is_left, is_right, is_node, ◌▸◌}
+use Rattle.js_grammar.specs.Grammar.{Lexemes, Look, here, nothing, Takes, is_such, is_left, is_right, is_node, ◌▸◌}
 use Rattle.js_grammar.specs.Lexed.{Lexes}
-use Rattle.js_grammar.specs.Parsing.{Admits, always, Goes, Fails}
+use Rattle.js_grammar.specs.Parsing.{Admits, Fails}
 use Rattle.js_grammar.specs.Productions.{Flags, at, tok, Binding, BindingIdentifier}
 use Rattle.js_grammar.specs.Productions.{sym as symbol}
 use Rattle.js_grammar.specs.Table.{rule, rule_of}
 use Rattle.js_grammar.proofs.Looks.{covers}
 use Rattle.js_grammar.proofs.Calculus.{fails_node, inside_plain}
-use Rattle.js_lex.specs.States.{goal_of}
 use Rattle.js_tree.specs.declared.id.NodeId.{NodeId}
 use Rattle.js_tree.specs.declared.kind.NodeKind.TheVariants as node_kind
 use Rattle.js_tree.specs.declared.op.Op.TheVariants as op_made

@@ -9,7 +9,7 @@ use Rattle.js_grammar.specs.LexicalFaults.{Reached}
 use Rattle.js_grammar.specs.Marks.{EdgeOf, Mark, StandsAt, the_start}
 use Rattle.js_grammar.specs.Settings.{Goal}
 use Rattle.js_grammar.specs.Trees.{Label, end, tree, no_op, assignment_pattern}
-use Rattle.js_grammar.specs.Grammar.{Lexemes, next, such, nothing}
+use Rattle.js_grammar.specs.Grammar.{next, such, nothing}
 use Rattle.js_grammar.specs.Parsing.{always}
 use Rattle.js_grammar.specs.Productions.{Flags, at, plus_in, Assignment, Binding}
 use Rattle.js_lex.specs.States.{goal_of}

@@ -1,6 +1,5 @@
 -- What the parse functions of object patterns speak of (ECMA-262, 14.3.3).
 use Rattle.std.specs.Prelude.{ℕ, ◌≡◌, ◌<◌, Bool, true, false, List, length, Result, Ok, Err}
-use Rattle.js_base.specs.Kinds.{one_of_kinds}
 use Rattle.js_base.specs.declared.kind.Kind.TheVariants.{Dot3, RCurly}
 use Rattle.js_base.specs.declared.span.Span.{Span}
 use Rattle.js_grammar.specs.Trees.{Label, NodeKind, Slots, tree, no_op, assignment_pattern, binding_identifier, binding_property, binding_rest_element}

@@ -1,7 +1,5 @@
 -- Declarations of functions and generators, in lists and as the bodies of other statements (ECMA-262, 15.2, 15.5, B.3.1, B.3.3).
 use Rattle.std.proofs.Common.{ℕ, ◌≡◌, ◌<◌, inl, inr, List, [], ◌∷◌, length, Some, Bool, true, false, not, refl, sym, ap, subst, arith, ◌∙◌}
-use Rattle.std.specs.Prelude.{Ok, Err}
-use Rattle.std.proofs.lemmas.Bool.{false≢true}
 use Rattle.js_base.specs.declared.diagnostic.DiagnosticKind.TheVariants.{GeneratorFunctionDeclaration}
 use Rattle.js_base.specs.declared.kind.Kind.TheVariants as kind
 use Rattle.js_base.specs.declared.source_type.SourceType.{SourceType}
@@ -10,7 +8,7 @@ use Rattle.js_grammar.specs.Marks.{Mark}
 use Rattle.js_grammar.specs.Trees.{Label, Slots, end, tree, no_op, function_declaration}
 use Rattle.js_grammar.specs.Grammar.{such, nothing, ◌◇◌}
 use Rattle.js_grammar.specs.Parsing.{plain, full, always, still, Goes, Fails}
-use Rattle.js_grammar.specs.Productions.{Flags, Symbol, at, flag, generator_flag, ListItem, Sub}
+use Rattle.js_grammar.specs.Productions.{Flags, at, flag, generator_flag, ListItem, Sub}
 use Rattle.js_grammar.specs.Productions.{Function as AFunction}
 use Rattle.js_grammar.specs.Productions.{sym as symbol}
 use Rattle.js_grammar.specs.Table.{rule, rule_of}
@@ -25,8 +23,7 @@ use Rattle.js_tree.proofs.HoldingLemmas.{HoldsAll-none, Keeps-trans, Keeps-made}
 use Rattle.js_lex.specs.States.{goal_of}
 use Rattle.js_cursor.specs.Parsers.{Parser}
 use Rattle.js_cursor.specs.Places.{goal}
-use Rattle.js_cursor.specs.declared.stop.Stop.{Stop}
-use Rattle.js_parsing.specs.Answers.{Stops, unclean}
+use Rattle.js_parsing.specs.Answers.{unclean}
 use Rattle.js_parsing.specs.Lexemes.{Lex, spot}
 use Rattle.js_parsing.specs.Moves.{MadeHere, plain_label}
 use Rattle.js_parsing.specs.Stands.{StandsHere}
@@ -40,7 +37,7 @@ use Rattle.js_statements.specs.FunctionStatements.{ChecksGenerator, generator_bo
 use Rattle.js_declarations.proofs.SpansMarked.{span_marked}
 use Rattle.js_parsing.proofs.Giving.{kept_one}
 use Rattle.js_parsing.proofs.MadeNodes.{node_held, one_lies}
-use Rattle.js_parsing.proofs.Moving.{same_both, same_itself, stops_so}
+use Rattle.js_parsing.proofs.Moving.{same_both, same_itself}
 use Rattle.js_parsing.proofs.Parts.{part_path}
 use Rattle.js_parsing.proofs.Paths.{Path, ◌⟼◌, at_kind, by_symbol_as, flagged_by, flagged_here, walked_to}
 use Rattle.js_parsing.proofs.Told.{told_at, told_same}

@@ -7,7 +7,6 @@ use Rattle.js_base.specs.declared.kind.Kind.{Kind}
 use Rattle.js_base.specs.declared.span.Span.{Span}
 use Rattle.js_base.specs.Contexts.{has_flag, in_flag}
 use Rattle.js_base.specs.Kinds.{same_kind, one_of_kinds}
-use Rattle.js_grammar.specs.Words.{'let'}
 use Rattle.js_grammar.specs.Trees.{Span as TreeSpan, Label, Slots, end, tree, no_op, labeled_statement, label_identifier}
 use Rattle.js_grammar.specs.Grammar.{Lexeme, Lexemes, Look, last, next, here, seen, is, exact, lexeme, seq, such, nothing, label_of, Takes, is_seq, is_lexeme, is_such, ◌▸◌}
 use Rattle.js_grammar.specs.Parsing.{Test, plain, full, always, still, passing, Admits, Goes, Reads, Fails}
@@ -52,7 +51,7 @@ use Rattle.js_statements.proofs.Strings.{name_look, name_node, name_expression}
 use Rattle.js_parsing.proofs.Tight.{read_plain}
 use Rattle.js_parsing.proofs.Verdicts.{verdict_of, grown_then}
 use Rattle.js_parsing.proofs.Verdicts.{after as grown_behind}
-use Rattle.js_operands.proofs.Operands.{name_slashless}
+use Rattle.js_operands.proofs.Operands.{name_signless}
 
 -- ---- what may stand behind
 
@@ -200,7 +199,7 @@ module _ {text : List ℕ} {f : Flags} {p q : Parser} (a : At text f p) (x : Ans
     further = x.further;
     pass = λ ls. next name.0 ls;
     walked = subst (λ (h : Lexemes → Lexemes). Walked text (spot p) (spot q) h) (λ i ls. clean_name.1 ls i) x.walked;
-    verdict = clean clean_name.0 (record { reach = 0; near = omega arith; goes = subst (λ (e : ℕ). Reads rule (Lex text) (plain full) end (lexeme (name_look f)) p.prev_token_end e (λ us. us) (passing name.0)) name.3 (reads_lexeme (name_look f) name.1 looks_so (λ z l h. one_read a (name_slashless p.token.kind is_listed) l name.1)) });
+    verdict = clean clean_name.0 (record { reach = 0; near = omega arith; goes = subst (λ (e : ℕ). Reads rule (Lex text) (plain full) end (lexeme (name_look f)) p.prev_token_end e (λ us. us) (passing name.0)) name.3 (reads_lexeme (name_look f) name.1 looks_so (λ z l h. one_read a (name_signless p.token.kind is_listed) l name.1)) });
   }
 
   pub label_path : Path text f (plain full) (symbol LabelIdentifier f) p nothing q (tree (label_here label_identifier no_op p q) end)
@@ -214,7 +213,7 @@ module _ {text : List ℕ} {f : Flags} {p q : Parser} (a : At text f p) (x : Ans
   -- a colon stands behind `let`, where that is the label
   label_named : (b : Bool) → LetIsName text b p.prev_token_end
   label_named b y z l h m =
-      let e : y.to ≡ q.prev_token_end = ap (λ (v : Lexeme). v.to) (one_read a (name_slashless p.token.kind is_listed) l name.1) ∙ name.3 in
+      let e : y.to ≡ q.prev_token_end = ap (λ (v : Lexeme). v.to) (one_read a (name_signless p.token.kind is_listed) l name.1) ∙ name.3 in
       no_colon_behind b (kind_here x.at i.colon refl z (subst (λ (v : ℕ). Lex text v z) e m))
     where
       no_colon_behind : (b : Bool) → z.kind ≡ Colon → behind_let b z.kind ≡ false

@@ -3,12 +3,10 @@ use Rattle.std.proofs.Common.{ℕ, ◌≡◌, Bool, true, false, not, ◌&&◌, 
 use Rattle.std.proofs.lemmas.Bool.{false≢true, and_parts, or_left, or_right}
 use Rattle.js_base.specs.declared.kind.Kind.{Kind}
 use Rattle.js_base.specs.declared.kind.Kind.TheVariants.{Eq, Comma, Dot3, RBrack}
-use Rattle.js_base.specs.Kinds.{same_kind}
 use Rattle.js_base.proofs.KindLemmas.{kind_of_same}
-use Rattle.js_grammar.specs.Trees.{NodeKind, Op, no_op, Span, Label, Slots, end, hole, tree, of, assignment_expression, elision, spread_element}
-use Rattle.js_grammar.specs.Grammar.{Lexeme, Lexemes, next, here, seen, is, nothing, never, lexeme, look, text, ahead, empty_slot, seq, alt, when, many, commas, such, marked, node, ended, keep, kept, ◌▸◌, ◌◇◌, Takes, is_nothing, is_lexeme, is_look, is_text, is_ahead, is_empty_slot, is_seq, is_left, is_right, is_when, is_many, is_commas, is_such, is_marked, is_node, is_ended, is_keep, is_kept}
+use Rattle.js_grammar.specs.Trees.{NodeKind, no_op, Label, Slots, end, tree, of, assignment_expression, elision, spread_element}
+use Rattle.js_grammar.specs.Grammar.{Lexeme, Lexemes, next, here, seen, is, never, alt, when, such, node, keep, ◌▸◌, ◌◇◌, Takes, is_nothing, is_lexeme, is_look, is_text, is_ahead, is_empty_slot, is_seq, is_left, is_right, is_when, is_many, is_commas, is_such, is_marked, is_node, is_ended, is_keep, is_kept}
 use Rattle.js_grammar.specs.Insertion.{assign_operators}
-use Rattle.js_grammar.specs.Parsing.{always}
 use Rattle.js_grammar.specs.Productions.{G, Flags, Name, Symbol, at, tok, op, branches, plus_in, Argument, Assignment, Conditional, Short, Coalesce, Or, And, BitOr, BitXor, BitAnd, Equality, Relational, Shift, Additive, Multiply, Exponent, Unary, Update, LeftHandSide, New, Member, Call, Chain, Primary, IdentifierReference, Object, FuncExpr, ClassExpr, Template, Arrow', Yield, SimpleTarget, ArrayTarget, ObjectTarget, Target}
 use Rattle.js_grammar.specs.Productions.{sym as symbol}
 use Rattle.js_grammar.specs.Table.{rule, rule_of}

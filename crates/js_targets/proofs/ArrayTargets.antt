@@ -1,14 +1,13 @@
 -- What is derived as an array target is derived as an array literal too, over the same lexemes (ECMA-262, 13.15.5).
-use Rattle.std.proofs.Common.{ℕ, zero, suc, ◌+◌, ◌<◌, arith, ◌≡◌, Bool, true, false, not, ◌&&◌, ◌||◌, IsTrue, List, [], ◌∷◌, refl, sym, ap, subst, ◌∙◌}
+use Rattle.std.proofs.Common.{ℕ, zero, suc, ◌+◌, ◌<◌, arith, ◌≡◌, Bool, true, false, not, ◌&&◌, ◌||◌, IsTrue, List, [], ◌∷◌, refl, sym, ◌∙◌}
 use Rattle.std.proofs.lemmas.Bool.{false≢true, and_parts}
 use Rattle.js_base.specs.declared.kind.Kind.{Kind}
 use Rattle.js_base.specs.declared.kind.Kind.TheVariants.{Await, Yield, Eq, Colon, Comma, Dot3, LBrack, RBrack, LCurly, RCurly, PlusEq, MinusEq, StarEq, SlashEq, PercentEq, ShiftLeftEq, ShiftRightEq, ShiftRight3Eq, PipeEq, CaretEq, AmpEq, Amp2Eq, Pipe2Eq, Question2Eq, Star2Eq}
 use Rattle.js_base.specs.Kinds.{same_kind}
-use Rattle.js_grammar.specs.Trees.{NodeKind, Label, Slots, end, hole, tree, Tree, of, array_expression, assignment_target_rest, assignment_target_with_default, elision, object_expression}
-use Rattle.js_grammar.specs.Grammar.{Lexeme, Lexemes, Look, next, seen, is, commas, is_commas, is_ahead, is_keep, alt, seq, such, many, nothing, never, empty_slot, when, ◌▸◌, ◌◇◌, Takes, is_nothing, is_lexeme, is_empty_slot, is_seq, is_left, is_right, is_when, is_many, is_such, is_node, is_look, is_text, is_marked, is_ended, is_kept}
-use Rattle.js_grammar.specs.Insertion.{assign_operators}
+use Rattle.js_grammar.specs.Trees.{Label, Slots, end, tree, assignment_target_rest, assignment_target_with_default, elision, object_expression}
+use Rattle.js_grammar.specs.Grammar.{Lexeme, Lexemes, Look, next, seen, is, commas, is_commas, is_ahead, is_keep, seq, such, many, nothing, never, empty_slot, when, ◌▸◌, ◌◇◌, Takes, is_nothing, is_lexeme, is_empty_slot, is_seq, is_left, is_right, is_when, is_many, is_such, is_node, is_look, is_text, is_marked, is_ended, is_kept}
 use Rattle.js_grammar.specs.Parsing.{always}
-use Rattle.js_grammar.specs.Productions.{G, Flags, Symbol, at, tok, mk, op, opt, slot, branches, IdentifierReference, Init, Property, TargetProperty, plus_in, Argument, Assignment, LeftHandSide, Primary, SimpleTarget, Target, ArrayTarget, ObjectTarget, TargetElement}
+use Rattle.js_grammar.specs.Productions.{G, Flags, Symbol, at, tok, mk, opt, slot, branches, IdentifierReference, Init, Property, TargetProperty, plus_in, Argument, Assignment, LeftHandSide, Primary, SimpleTarget, Target, ArrayTarget, ObjectTarget, TargetElement}
 use Rattle.js_grammar.specs.Productions.{sym as symbol}
 use Rattle.js_grammar.specs.Table.{rule, rule_of, rest_of, name}
 use Rattle.js_base.specs.Texts.{words}

@@ -1,18 +1,18 @@
 -- Array targets before `=` (ECMA-262, 13.15.5), where what stands there was read as an expression.
-use Rattle.std.proofs.Common.{ℕ, ◌≡◌, ◌⊎◌, inl, inr, Bool, true, false, not, ◌&&◌, ◌||◌, IsTrue, Option, Some, List, refl, sym, ap, subst, ◌∙◌}
+use Rattle.std.proofs.Common.{ℕ, ◌≡◌, ◌⊎◌, inl, inr, Bool, true, false, not, ◌&&◌, ◌||◌, IsTrue, Some, List, refl, sym, ap, subst, ◌∙◌}
 use Rattle.std.proofs.lemmas.Bool.{false≢true, and_parts, and_from}
 use Rattle.js_base.specs.declared.kind.Kind.{Kind}
-use Rattle.js_base.specs.declared.kind.Kind.TheVariants.{Eq, LCurly}
+use Rattle.js_base.specs.declared.kind.Kind.TheVariants.{Eq}
 use Rattle.js_base.specs.Kinds.{same_kind, one_of_kinds}
 use Rattle.js_base.proofs.KindLemmas.{kind_of_same}
-use Rattle.js_grammar.specs.Trees.{NodeKind, Op, Label, Slots, end, tree, Tree, of, array_expression, assignment_expression, object_expression}
-use Rattle.js_grammar.specs.Grammar.{Lexeme, Lexemes, last, next, Look, here, seen, is, alt, seq, such, nothing, ◌▸◌, ◌◇◌, Takes, is_lexeme, is_seq, is_left, is_right, is_such, is_node}
+use Rattle.js_grammar.specs.Trees.{NodeKind, Op, Label, Slots, end, tree, Tree, array_expression, assignment_expression, object_expression}
+use Rattle.js_grammar.specs.Grammar.{Lexeme, Lexemes, last, next, Look, seen, is, such, nothing, ◌▸◌, ◌◇◌, Takes, is_lexeme, is_seq, is_left, is_right, is_such}
 use Rattle.js_grammar.specs.Insertion.{Row, after_expression, assign_operators}
 use Rattle.js_grammar.specs.Lexed.{Lexes}
 use Rattle.js_grammar.specs.Parsing.{Test, always, Admits, Fails}
-use Rattle.js_grammar.specs.Productions.{G, Flags, Symbol, at, tok, op, Assignment, Short, ArrayTarget, ObjectTarget, LeftHandSide}
+use Rattle.js_grammar.specs.Productions.{G, Flags, at, tok, op, Assignment, Short, ArrayTarget, ObjectTarget}
 use Rattle.js_grammar.specs.Productions.{sym as symbol}
-use Rattle.js_grammar.specs.Table.{rule, rule_of}
+use Rattle.js_grammar.specs.Table.{rule}
 use Rattle.js_grammar.specs.Follow.{row_of, after, looser}
 use Rattle.js_grammar.proofs.Calculus.{ends, here_at, label_is}
 use Rattle.js_grammar.proofs.FollowLaws.{admits}

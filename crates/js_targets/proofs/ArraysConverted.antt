@@ -1,38 +1,32 @@
 -- Array and object literals before `=` that are targets, and those that are none (ECMA-262, 13.15.5).
-use Rattle.std.proofs.Common.{ℕ, ◌≡◌, ◌≤◌, ◌<◌, ◌⊎◌, inl, inr, List, [], ◌∷◌, length, Bool, true, false, not, ◌&&◌, ◌||◌, IsTrue, Option, Some, None, refl, sym, ap, subst, arith, ◌∙◌}
+use Rattle.std.proofs.Common.{ℕ, ◌≡◌, ◌⊎◌, inl, inr, List, [], ◌∷◌, Bool, true, false, not, IsTrue, Some, None, refl, sym, ap, subst, ◌∙◌}
 use Rattle.std.specs.Prelude.{IsCharBoundary, IsUtf8}
-use Rattle.std.proofs.lemmas.Bool.{false≢true, and_parts, and_from}
-use Rattle.js_base.specs.declared.kind.Kind.{Kind}
-use Rattle.js_base.specs.declared.kind.Kind.TheVariants.{Eq, Comma, RBrack, RCurly, Question, RegExp}
-use Rattle.js_base.specs.declared.span.Span.{Span}
-use Rattle.js_base.specs.Kinds.{same_kind, one_of_kinds}
-use Rattle.js_base.proofs.KindLemmas.{kind_of_same}
-use Rattle.js_grammar.specs.Trees.{Span as TreeSpan, NodeKind, Op, Label, Slots, end, tree, Tree, of, array_assignment_target, assignment_expression}
-use Rattle.js_grammar.specs.Grammar.{Lexeme, Lexemes, last, next, Look, here, seen, is, such, nothing, exact, alt, seq, Takes, Derives, is_nothing, is_lexeme, is_seq, is_left, is_right, is_such, ◌▸◌}
-use Rattle.js_grammar.specs.Insertion.{Row, after_expression, assign_operators}
+use Rattle.std.proofs.lemmas.Bool.{false≢true}
+use Rattle.js_base.specs.declared.kind.Kind.TheVariants.{RBrack, RCurly}
+use Rattle.js_base.specs.Kinds.{one_of_kinds}
+use Rattle.js_grammar.specs.Trees.{Span as TreeSpan, NodeKind, Op, Label, Slots, end, tree}
+use Rattle.js_grammar.specs.Grammar.{Lexeme, Lexemes, last, here, seen, such, nothing, Takes, Derives, is_nothing, is_such}
+use Rattle.js_grammar.specs.Insertion.{Row, after_expression}
 use Rattle.js_grammar.specs.Lexed.{Lexes}
 use Rattle.js_grammar.specs.LexicalFaults.{Reached}
-use Rattle.js_grammar.specs.Parsing.{Test, plain, full, always, Admits, Goes, Reads, Fails, Reaches, still, Way}
-use Rattle.js_grammar.specs.Productions.{G, Flags, Symbol, at, tok, op, Arrow', Assignment, Short, LeftHandSide, ArrayTarget, ObjectTarget}
+use Rattle.js_grammar.specs.Parsing.{Test, plain, always, Admits, Fails}
+use Rattle.js_grammar.specs.Productions.{Flags, Symbol, at, Short, LeftHandSide}
 use Rattle.js_grammar.specs.Productions.{sym as symbol}
 use Rattle.js_grammar.specs.Table.{rule}
-use Rattle.js_grammar.specs.Follow.{after, looser, row_of, widest}
+use Rattle.js_grammar.specs.Follow.{after, looser, row_of}
 use Rattle.js_grammar.proofs.FollowLaws.{admits}
 use Rattle.js_grammar.proofs.Looks.{covers, covered}
 use Rattle.js_grammar.specs.Marks.{loose}
 use Rattle.js_grammar.proofs.Loose.{strict_is_loose}
-use Rattle.js_grammar.proofs.Behind.{lexed_behind}
-use Rattle.js_grammar.proofs.Calculus.{Between, Inside, inside_full, ends, label_is, slots_are, ◌▹◌, left, right, fails_alt, fails_node, then_by, part_fails}
-use Rattle.js_cursor.specs.Parsers.{Parser}
+use Rattle.js_grammar.proofs.Calculus.{ends, label_is, slots_are}
 use Rattle.js_parsing.specs.Answers.{Stretch, Underived}
-use Rattle.js_parsing.specs.Lexemes.{Lex}
+use Rattle.js_parsing.specs.Lexemes.{Lex, other_goals}
 use Rattle.js_targets.specs.Taken.{behind_target, target_name}
-use Rattle.js_targets.specs.Targets.{Each, Closed, Fits, Narrow, Shut, Spotted, in_literal, is_array, is_object, literal_kind, relabelled, pattern_kind, elements_in, places_in}
+use Rattle.js_targets.specs.Targets.{Each, Fits, Narrow, Shut, Spotted, in_literal, is_array, literal_kind, relabelled, pattern_kind, elements_in, places_in}
 use Rattle.js_targets.specs.declared.widening.Widening.{Widening}
 use Rattle.js_targets.specs.declared.widening.Widening.TheVariants.{Rest, RestTarget, Operator}
 use Rattle.js_targets.proofs.Spots.{literal_spots}
-use Rattle.js_targets.proofs.ArraysBeforeSigns.{before_others}
-use Rattle.js_parsing.proofs.Here.{alike}
+use Rattle.js_parsing.proofs.Here.{alike_plain}
 use Rattle.js_targets.proofs.LiteralsAsTargets.{Targeted, literal_target, bracket_plain}
 use Rattle.js_targets.proofs.Targets.{by_primary, is_literal_kind, may_literal, of_short}
 use Rattle.js_targets.proofs.TargetsAsLiterals.{literal_back}
@@ -41,7 +35,7 @@ use Rattle.js_targets.proofs.TargetsAsLiterals.{literal_back}
 
 shut_narrow : (text : List ℕ) (ws : List Widening) → Each (Shut text) ws → Each (Narrow text) ws
 shut_narrow text [] h = tt
-shut_narrow text (Rest s ∷ ws) h = (λ y l k. false≢true (ap (one_of_kinds (RBrack ∷ RCurly ∷ [])) (sym k ∙ ap (λ (z : Lexeme). z.kind) (alike l h.0.stands (ap (same_kind RegExp) k ∙ sym (bracket_plain h.0.bracket.kind h.0.is)))) ∙ h.0.is), shut_narrow text ws h.1)
+shut_narrow text (Rest s ∷ ws) h = (λ y l k. false≢true (ap (one_of_kinds (RBrack ∷ RCurly ∷ [])) (sym k ∙ ap (λ (z : Lexeme). z.kind) (alike_plain l h.0.stands (ap (one_of_kinds other_goals) k) (bracket_plain h.0.bracket.kind h.0.is))) ∙ h.0.is), shut_narrow text ws h.1)
 shut_narrow text (RestTarget s ∷ ws) h = absurd h.0
 shut_narrow text (Operator s ∷ ws) h = absurd h.0
 

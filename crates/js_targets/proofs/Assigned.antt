@@ -1,30 +1,30 @@
 -- Assignments to simple targets (ECMA-262, 13.15), and where none stands.
 use Rattle.js_base.specs.Operators.{row_of as row_in, assignment_operators}
 use Rattle.std.specs.Prelude.{IsSome, is_some}
-use Rattle.std.proofs.Common.{ℕ, ◌≡◌, ◌≤◌, ◌<◌, ◌⊎◌, inl, inr, List, [], ◌∷◌, length, Bool, true, false, not, ◌&&◌, ◌||◌, IsTrue, Option, Some, None, refl, sym, ap, subst, arith, ◌∙◌}
+use Rattle.std.proofs.Common.{ℕ, ◌≡◌, ◌⊎◌, inl, inr, List, [], ◌∷◌, Bool, true, false, not, ◌&&◌, ◌||◌, IsTrue, Option, Some, None, refl, sym, ap, subst, ◌∙◌}
 use Rattle.std.proofs.lemmas.Bool.{false≢true, and_parts, and_from, or_left, or_right}
 use Rattle.js_base.specs.declared.kind.Kind.{Kind}
-use Rattle.js_base.specs.declared.kind.Kind.TheVariants.{Eq, RAngle, PrivateIdentifier, RegExp, Yield}
+use Rattle.js_base.specs.declared.kind.Kind.TheVariants.{Eq, RAngle, PrivateIdentifier, Yield}
 use Rattle.js_base.specs.Kinds.{same_kind, one_of_kinds}
 use Rattle.js_base.specs.Texts.{words}
 use Rattle.js_base.proofs.KindLemmas.{kind_of_same}
-use Rattle.js_grammar.specs.Trees.{Span as TreeSpan, Label, Slots, end, tree, Tree, of, assignment_expression}
-use Rattle.js_grammar.specs.Grammar.{Lexeme, Lexemes, Look, here, seen, such, nothing, never, exact, alt, seq, is, when, Takes, ◌▸◌, is_seq, is_lexeme, is_such}
+use Rattle.js_grammar.specs.Trees.{Label, Slots, end, tree, Tree, assignment_expression}
+use Rattle.js_grammar.specs.Grammar.{Lexeme, Lexemes, Look, here, seen, such, alt, is, when, Takes, ◌▸◌, is_seq, is_lexeme}
 use Rattle.js_grammar.specs.Insertion.{Row, after_expression, assign_operators}
 use Rattle.js_grammar.specs.Lexemes.{is_word}
 use Rattle.js_grammar.specs.Parsing.{Test, plain, full, always, Admits, Goes, Fails, still}
-use Rattle.js_grammar.specs.Productions.{G, Flags, Symbol, at, tok, op, branches, Arrow', Assignment, Conditional, Short, SimpleTarget}
+use Rattle.js_grammar.specs.Productions.{G, Flags, at, tok, op, branches, Arrow', Assignment, Conditional, Short, SimpleTarget}
 use Rattle.js_grammar.specs.Productions.{sym as symbol, Yield as Yield'}
 use Rattle.js_grammar.specs.Table.{rule, rule_of}
-use Rattle.js_grammar.specs.Follow.{edge_of, row_of, follow, after, looser, widest}
+use Rattle.js_grammar.specs.Follow.{after, looser}
 use Rattle.js_grammar.proofs.Looks.{covers, covered, apart, same_self, not_both}
-use Rattle.js_grammar.proofs.Calculus.{Between, Inside, inside_full, On, ◌▹◌, ◌▹✗◌, both, stay, left, right, then_by, part_fails, weaken_fails_on, fails_node, fails_alt, fails_lexeme, fails_when}
+use Rattle.js_grammar.proofs.Calculus.{Between, inside_full, ◌▹◌, both, stay, left, right, then_by, part_fails, weaken_fails_on, fails_node, fails_alt, fails_lexeme, fails_when}
 use Rattle.js_grammar.proofs.FollowLaws.{admits, passes_on, same_read}
 use Rattle.js_cursor.specs.Parsers.{Parser}
 use Rattle.js_cursor.specs.Moves.{is_last}
 use Rattle.js_parsing.specs.Answers.{Underived, Answer}
 use Rattle.js_parsing.specs.States.{At}
-use Rattle.js_parsing.specs.Lexemes.{Lex, read_kinds}
+use Rattle.js_parsing.specs.Lexemes.{Lex, other_goals, read_kinds}
 use Rattle.js_targets.specs.Others.{NoYield, OnlyOthers}
 use Rattle.js_targets.specs.Targets.{target_of}
 use Rattle.js_targets.proofs.Covers.{row_of_target, target_path, target_fails, target_unread}
@@ -196,28 +196,28 @@ nothing_assigned f {s} w v a x = to_parts f s a ▹ left (no_assignment f w v x)
 abbrev an_assign_kind : Look
 an_assign_kind k w e = one_of_kinds assign_operators k
 
-abbrev is_pattern : Look
-is_pattern k w e = same_kind RegExp k
+abbrev another_goal : Look
+another_goal k w e = one_of_kinds other_goals k
 
-no_assign_pattern : apart an_assign_kind is_pattern ≡ true
+no_assign_other : apart an_assign_kind another_goal ≡ true
 unfolding apart
-no_assign_pattern = refl
+no_assign_other = refl
 
--- no regular expression is an operator of an assignment
-pub assign_plain : (k : Kind) → one_of_kinds assign_operators k ≡ true → same_kind RegExp k ≡ false
-assign_plain k h = go (same_kind RegExp k) refl
+-- no lexeme of another goal is an operator of an assignment
+pub assign_plain : (k : Kind) → one_of_kinds assign_operators k ≡ true → one_of_kinds other_goals k ≡ false
+assign_plain k h = go (one_of_kinds other_goals k) refl
   where
-    go : (b : Bool) → same_kind RegExp k ≡ b → same_kind RegExp k ≡ false
-    go true e = absurd (not_both an_assign_kind is_pattern no_assign_pattern k false false h e)
+    go : (b : Bool) → one_of_kinds other_goals k ≡ b → one_of_kinds other_goals k ≡ false
+    go true e = absurd (not_both an_assign_kind another_goal no_assign_other k false false h e)
     go false e = e
 
 -- one stands there
 all_distinct : distinct assign_operators ≡ true
 all_distinct = refl
 
-pub assigned : {text : List ℕ} {f : Flags} {p q : Parser} → OnlyOthers text f p.prev_token_end → (x : Answer text f (at Short f) p q) → (o : Kind) → one_of_kinds assign_operators o ≡ true → ((y : Lexeme) → Lex text q.prev_token_end y → same_kind RegExp y.kind ≡ false → y.kind ≡ o) → Fails rule (Lex text) (after (at Assignment f)) end (such (at Conditional f) always) p.prev_token_end → (is_literal x.label.kind ≡ false) ⊎ (same_kind Eq o ≡ false) → Goes rule (Lex text) (after (at Assignment f)) end (rule (at Assignment f)) p.prev_token_end (assign_part f o) p.prev_token_end (λ us. us) (still 0)
-assigned {text} {f} {p} {q} a x o h k n b = to_parts f p.prev_token_end a ▹ (right n ▹ (left (fails_node inside_full (no_array_part x (other b))) ▹ one_branch (assign_part f) assign_operators o h all_distinct (λ i m d. fails_node inside_full (no_assign_slots x (plain full) i m (λ y l s. let e = (and_parts (same_kind i y.kind) (not y.escaped) s).0 in false≢true (sym d ∙ subst (λ (v : Kind). same_kind i v ≡ true) (k y l (subst (λ (v : Kind). same_kind RegExp v ≡ false) (kind_of_same i y.kind e) (assign_plain i m))) e))))))
+pub assigned : {text : List ℕ} {f : Flags} {p q : Parser} → OnlyOthers text f p.prev_token_end → (x : Answer text f (at Short f) p q) → (o : Kind) → one_of_kinds assign_operators o ≡ true → ((y : Lexeme) → Lex text q.prev_token_end y → one_of_kinds other_goals y.kind ≡ false → y.kind ≡ o) → Fails rule (Lex text) (after (at Assignment f)) end (such (at Conditional f) always) p.prev_token_end → (is_literal x.label.kind ≡ false) ⊎ (same_kind Eq o ≡ false) → Goes rule (Lex text) (after (at Assignment f)) end (rule (at Assignment f)) p.prev_token_end (assign_part f o) p.prev_token_end (λ us. us) (still 0)
+assigned {text} {f} {p} {q} a x o h k n b = to_parts f p.prev_token_end a ▹ (right n ▹ (left (fails_node inside_full (no_array_part x (other b))) ▹ one_branch (assign_part f) assign_operators o h all_distinct (λ i m d. fails_node inside_full (no_assign_slots x (plain full) i m (λ y l s. let e = (and_parts (same_kind i y.kind) (not y.escaped) s).0 in false≢true (sym d ∙ subst (λ (v : Kind). same_kind i v ≡ true) (k y l (subst (λ (v : Kind). one_of_kinds other_goals v ≡ false) (kind_of_same i y.kind e) (assign_plain i m))) e))))))
   where
     other : (is_literal x.label.kind ≡ false) ⊎ (same_kind Eq o ≡ false) → (is_literal x.label.kind ≡ false) ⊎ ((y : Lexeme) → Lex text q.prev_token_end y → IsTrue (seen (is Eq) y) → ⊥)
     other (inl e) = inl e
-    other (inr e) = inr (λ y l s. let i = (and_parts (same_kind Eq y.kind) (not y.escaped) s).0 in false≢true (sym e ∙ subst (λ (v : Kind). same_kind Eq v ≡ true) (k y l (ap (same_kind RegExp) (sym (kind_of_same Eq y.kind i)))) i))
+    other (inr e) = inr (λ y l s. let i = (and_parts (same_kind Eq y.kind) (not y.escaped) s).0 in false≢true (sym e ∙ subst (λ (v : Kind). same_kind Eq v ≡ true) (k y l (ap (one_of_kinds other_goals) (sym (kind_of_same Eq y.kind i)))) i))

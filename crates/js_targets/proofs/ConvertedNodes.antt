@@ -6,7 +6,7 @@ use Rattle.std.proofs.lemmas.Bool.{false≢true, or_left, or_right, eqb-true, eq
 use Rattle.std.proofs.lemmas.List.{get_or_append_left}
 use Rattle.std.proofs.lemmas.Option.{slice_get_within, get_or_from_slice_get}
 use Rattle.js_grammar.specs.Productions.{has_flag, shorthand_flag}
-use Rattle.js_grammar.specs.Trees.{NodeKind, Op, Span, Label, Slots, end, hole, tree, Tree, append, elision, identifier_reference, static_member_expression, computed_member_expression, private_field_expression, parenthesized_expression, array_expression, object_expression, object_property, spread_element, array_assignment_target, object_assignment_target, assignment_target_rest, assignment_expression, assignment_target_with_default}
+use Rattle.js_grammar.specs.Trees.{NodeKind, Op, Span, Label, Slots, end, hole, tree, Tree, append, elision, identifier_reference, static_member_expression, computed_member_expression, private_field_expression, parenthesized_expression, array_expression, object_expression, object_property, spread_element, assignment_target_rest, assignment_expression, assignment_target_with_default}
 use Rattle.js_tree.specs.declared.id.NodeId.{NodeId}
 use Rattle.js_base.specs.declared.span.Span.{Span as MadeSpan}
 use Rattle.js_tree.specs.declared.kind.NodeKind.{NodeKind as MadeKind}
@@ -16,9 +16,9 @@ use Rattle.js_tree.specs.Nodes.{Node, label, node_at, empty_program}
 use Rattle.js_tree.specs.Holding.{Stands, StandsAll, no_slots, next_child, next_hole, AreDistinct, AreWithin, Holds, Keeps}
 use Rattle.js_tree.proofs.HoldingLemmas.{Stands-kept, Stands-within, Keeps-refl, Keeps-trans, Keeps-made, Keeps-longer, AreWithin-wider, StandsAll-wider}
 use Rattle.js_parsing.specs.Moves.{plain_label}
-use Rattle.js_targets.specs.Targets.{Within, in_literal, in_property, within, is_parens, is_elision, is_spread, is_property, is_assignment, is_equals, operator_places, literal_places, argument_places, property_places, is_object, is_literal, is_target, is_pattern, pattern_kind, target_of, target_in, Stood, Only, relabelled, literal_tree, target_by, slot_of, rest_slot, reference_slot, behind_first, shorthand_slot, named_slot, property_slot, element_slot, are_none, followed, before_all, elements_in, places_of, places_in, made_span, Noted, unnoted, Blames, IsIn, Slotted, Converts, Refuses, Converted, converts, refuses, one_slot, one_node, OfNode, Noded}
+use Rattle.js_targets.specs.Targets.{Within, in_literal, in_property, within, is_parens, is_elision, is_spread, is_property, is_assignment, operator_places, literal_places, argument_places, property_places, is_object, is_literal, is_target, is_pattern, pattern_kind, target_of, target_in, Stood, Only, relabelled, literal_tree, target_by, slot_of, rest_slot, reference_slot, behind_first, shorthand_slot, named_slot, property_slot, element_slot, are_none, followed, before_all, elements_in, places_of, places_in, made_span, Noted, unnoted, Blames, IsIn, Slotted, Converts, Refuses, Converted, converts, refuses, one_slot, one_node, OfNode, Noded}
 use Rattle.js_targets.specs.declared.widening.Widening.{Widening}
-use Rattle.js_targets.specs.declared.widening.Widening.TheVariants.{Rest, Operator}
+use Rattle.js_targets.specs.declared.widening.Widening.TheVariants.{Rest}
 use Rattle.js_tree.specs.declared.kind.NodeKind.TheVariants as node
 use Rattle.js_targets.proofs.LiteralsAsTargets.{before_of, no_end, is_end, element_some, places_assigned}
 use Rattle.js_targets.proofs.TargetsAsLiterals.{target_kind}

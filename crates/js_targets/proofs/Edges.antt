@@ -1,7 +1,6 @@
 -- Where what is taken from lexemes begins and ends.
-use Rattle.std.proofs.Common.{ℕ, ◌≡◌, ◌≤◌, ◌⊎◌, inl, inr, List, refl, sym, ap, subst, arith, ◌∙◌}
+use Rattle.std.proofs.Common.{ℕ, ◌≡◌, ◌≤◌, ◌⊎◌, inl, inr, List, refl, sym, subst, arith, ◌∙◌}
 use Rattle.std.specs.Prelude.{IsUtf8, IsCharBoundary}
-use Rattle.js_base.specs.declared.span.Span.{Span}
 use Rattle.js_grammar.specs.Trees.{Slots}
 use Rattle.js_grammar.specs.Grammar.{Lexeme, Lexemes, last, next, here, Grammar, Takes, is_nothing, is_lexeme, is_look, is_text, is_ahead, is_empty_slot, is_seq, is_left, is_right, is_when, is_many, is_commas, is_such, is_marked, is_node, is_ended, is_keep, is_kept}
 use Rattle.js_grammar.specs.Lexed.{Lexes}

@@ -1,12 +1,12 @@
 -- What was read as a ShortCircuitExpression, read as the target in the head of a `for` (ECMA-262, 14.7.5).
-use Rattle.std.proofs.Common.{ℕ, ◌≡◌, ◌<◌, ◌⊎◌, List, [], ◌∷◌, length, Bool, true, false, not, ◌&&◌, IsTrue, Option, Some, None, refl, sym, ap, subst, arith, ◌∙◌}
+use Rattle.std.proofs.Common.{ℕ, ◌≡◌, List, Bool, true, false, not, IsTrue, Some, None, refl, sym, ap, subst, arith, ◌∙◌}
 use Rattle.std.proofs.lemmas.Bool.{false≢true}
 use Rattle.js_grammar.specs.Trees.{Label, Slots, Tree, end, tree}
-use Rattle.js_grammar.specs.Grammar.{Lexeme, Lexemes, Look, here, seen, such, nothing, alt, Takes, is_such, is_left, is_right, ◌▸◌, ◌◇◌}
+use Rattle.js_grammar.specs.Grammar.{Lexeme, Lexemes, here, seen, such, nothing, alt, Takes, is_such, is_left, is_right}
 use Rattle.js_grammar.specs.Insertion.{Row, after_expression}
 use Rattle.js_grammar.specs.Lexed.{Lexes}
-use Rattle.js_grammar.specs.Parsing.{Test, always, plain, Admits, Fails}
-use Rattle.js_grammar.specs.Productions.{Flags, Symbol, at, Short, SimpleTarget, Target, ArrayTarget, ObjectTarget}
+use Rattle.js_grammar.specs.Parsing.{always, plain, Admits, Fails}
+use Rattle.js_grammar.specs.Productions.{Flags, at, Short, SimpleTarget, Target, ArrayTarget, ObjectTarget}
 use Rattle.js_grammar.specs.Productions.{sym as symbol}
 use Rattle.js_grammar.specs.Table.{rule, rule_of}
 use Rattle.js_grammar.specs.Follow.{after, looser}
@@ -20,7 +20,7 @@ use Rattle.js_parsing.specs.Lexemes.{Lex}
 use Rattle.js_parsing.proofs.Paths.{Path, ◌⟼◌, by_symbol_as}
 use Rattle.js_parsing.proofs.Verdicts.{either_way}
 use Rattle.js_targets.specs.Taken.{NoTargetFrom, TargetTaken, behind_target, goes_through, target_name}
-use Rattle.js_targets.specs.Targets.{is_literal, is_object, literal_kind, target_of}
+use Rattle.js_targets.specs.Targets.{is_literal, is_object, target_of}
 use Rattle.js_targets.proofs.ArraysBeforeSigns.{is_cover, not_wide, target_no_literal}
 use Rattle.js_targets.proofs.ArraysConverted.{no_other_there, no_target_unread, sign_admitted, signs, sourced, targets_follow}
 use Rattle.js_targets.proofs.Covers.{of_derived, row_of_target, target_fails, target_path, target_unread}

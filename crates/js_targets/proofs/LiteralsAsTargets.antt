@@ -1,35 +1,34 @@
 -- A literal whose elements are those of a target is derived as this target, over the same lexemes, where it is as narrow as one (ECMA-262, 13.15.5).
-use Rattle.std.proofs.Common.{ℕ, ◌≡◌, ◌⊎◌, inl, inr, Bool, true, false, cond, not, ◌&&◌, ◌||◌, IsTrue, List, [], ◌∷◌, ◌++◌, Option, Some, None, refl, sym, ap, subst, ◌∙◌}
+use Rattle.std.proofs.Common.{ℕ, ◌≡◌, ◌⊎◌, inl, inr, Bool, true, false, cond, ◌&&◌, ◌||◌, IsTrue, List, [], ◌∷◌, ◌++◌, Option, Some, None, refl, sym, ap, subst, ◌∙◌}
 use Rattle.std.proofs.lemmas.Bool.{false≢true, and_parts, or_left, or_right}
 use Rattle.js_base.specs.declared.kind.Kind.{Kind}
-use Rattle.js_base.specs.declared.kind.Kind.TheVariants.{Eq, Colon, Comma, Dot3, LBrack, RBrack, LCurly, RCurly, RegExp}
+use Rattle.js_base.specs.declared.kind.Kind.TheVariants.{Eq, Colon, Comma, Dot3, LBrack, RBrack, LCurly, RCurly}
 use Rattle.js_base.specs.Kinds.{same_kind, one_of_kinds}
 use Rattle.js_base.proofs.KindLemmas.{kind_of_same}
-use Rattle.js_grammar.specs.Trees.{NodeKind, Op, Span, Label, Slots, end, hole, tree, Tree, of, no_op, init, assignment_expression, spread_element, function_expression, array_assignment_target, object_assignment_target, assignment_target_rest, assignment_target_with_default, assignment_target_property_identifier, assignment_target_property_property, append}
-use Rattle.js_grammar.specs.Grammar.{Lexeme, Lexemes, last, next, here, seen, is, such, when, nothing, never, many, empty_slot, seq, ◌▸◌, ◌◇◌, Takes, is_nothing, is_lexeme, is_empty_slot, is_seq, is_left, is_right, is_when, is_ahead, is_many, is_such, is_node, Look}
+use Rattle.js_grammar.specs.Trees.{NodeKind, Op, Span, Label, Slots, end, hole, tree, Tree, no_op, init, assignment_expression, spread_element, function_expression, array_assignment_target, object_assignment_target, assignment_target_rest, assignment_target_with_default, assignment_target_property_property, append}
+use Rattle.js_grammar.specs.Grammar.{Lexeme, Lexemes, last, next, here, seen, is, such, when, nothing, never, empty_slot, ◌▸◌, ◌◇◌, Takes, is_nothing, is_lexeme, is_empty_slot, is_seq, is_left, is_right, is_when, is_ahead, is_many, is_such, is_node, Look}
 use Rattle.js_grammar.specs.Insertion.{assign_operators}
-use Rattle.js_grammar.specs.Lexed.{Lexes, Lex as StandsBehind, all_faults}
+use Rattle.js_grammar.specs.Lexed.{Lexes}
 use Rattle.js_grammar.specs.LexicalFaults.{Reached}
 use Rattle.js_grammar.specs.Parsing.{always}
-use Rattle.js_grammar.specs.Productions.{G, branches, Flags, at, tok, mk, items, plus_in, flag, has_flag, computed_flag, shorthand_flag, Argument, Assignment, LeftHandSide, Object, Property, SimpleTarget, Target, ArrayTarget, ObjectTarget, TargetElement, TargetProperty}
+use Rattle.js_grammar.specs.Productions.{G, branches, Flags, at, tok, mk, items, plus_in, flag, has_flag, computed_flag, shorthand_flag, Assignment, LeftHandSide, SimpleTarget, Target, ArrayTarget, ObjectTarget, TargetElement, TargetProperty}
 use Rattle.js_grammar.specs.Productions.{sym as symbol}
 use Rattle.js_grammar.specs.Table.{rule, rule_of, rest_of, name}
 use Rattle.js_grammar.proofs.Behind.{lexed_behind}
-use Rattle.js_grammar.proofs.Calculus.{here_at}
 use Rattle.js_cursor.proofs.Moving.{reached_next}
 use Rattle.js_operands.specs.Arrays.{elements}
-use Rattle.js_parsing.specs.Lexemes.{Lex}
+use Rattle.js_parsing.specs.Lexemes.{Lex, other_goals}
 use Rattle.js_operands.proofs.RegularExpressions.{characters}
 use Rattle.js_grammar.proofs.Looks.{apart, not_both}
 use Rattle.std.specs.Prelude.{IsUtf8, IsCharBoundary}
 use Rattle.js_targets.specs.Taken.{target_name}
-use Rattle.js_targets.specs.Targets.{literal_kind, Each, IsIn, Closed, Narrow, Fits, Within, in_literal, in_property, within, is_elision, is_spread, is_property, is_assignment, is_equals, is_wide, is_array, is_object, is_literal, is_pattern, is_target, target_of, relabelled, pattern_kind, literal_tree, slot_of, rest_slot, shorthand_slot, behind_first, initialiser_in, reference_slot, named_slot, property_slot, element_slot, are_none, followed, before_all, before_value, elements_in, operator_places, literal_places, argument_places, property_places, places_of, places_in, made_span}
+use Rattle.js_targets.specs.Targets.{literal_kind, Each, IsIn, Closed, Narrow, Fits, in_literal, in_property, within, is_elision, is_spread, is_property, is_assignment, is_equals, is_wide, is_object, is_literal, is_pattern, is_target, target_of, relabelled, pattern_kind, literal_tree, slot_of, rest_slot, shorthand_slot, behind_first, reference_slot, named_slot, property_slot, element_slot, are_none, followed, before_all, before_value, elements_in, operator_places, literal_places, places_of, places_in, made_span}
 use Rattle.js_targets.specs.declared.widening.Widening.{Widening}
 use Rattle.js_targets.specs.declared.widening.Widening.TheVariants.{Rest, RestTarget, Operator}
-use Rattle.js_targets.proofs.ArrayElements.{is_part, a_slots, a_part, operated_line, gap_label, no_gap, Initialised, initialised, Step, closes, gap, item, final, step_of, Element, an_expression, a_spread, element_of}
+use Rattle.js_targets.proofs.ArrayElements.{a_slots, a_part, operated_line, gap_label, no_gap, Initialised, initialised, Step, closes, gap, item, final, step_of, Element, an_expression, a_spread, element_of}
 use Rattle.js_targets.proofs.Properties.{property_label, shorthand_line, PropertyOf, a_shorthand, a_value, a_method, a_spread as a_spread_property, property_of, properties_on, PropertyStep, shuts, property, last_property, property_step}
 use Rattle.js_parsing.proofs.FreeOfIn.{any_in}
-use Rattle.js_targets.proofs.Targets.{array_line, may_literal, is_literal_kind, Literal, of_array, of_object, literal_shape, of_assignment, may_target, left_hand_side_target}
+use Rattle.js_targets.proofs.Targets.{may_literal, is_literal_kind, Literal, of_array, of_object, literal_shape, of_assignment, may_target, left_hand_side_target}
 
 -- ---- what stands behind a rest
 
@@ -42,19 +41,19 @@ lexeme_between {text} {s} {y} u b l =
 abbrev closes_a_literal : Look
 closes_a_literal k w e = one_of_kinds (RBrack ∷ RCurly ∷ []) k
 
-abbrev a_regular_expression : Look
-a_regular_expression k w e = same_kind RegExp k
+abbrev of_another_goal : Look
+of_another_goal k w e = one_of_kinds other_goals k
 
-no_pattern_closes : apart closes_a_literal a_regular_expression ≡ true
+no_other_closes : apart closes_a_literal of_another_goal ≡ true
 unfolding apart
-no_pattern_closes = refl
+no_other_closes = refl
 
--- what closes a literal is no regular expression
-pub bracket_plain : (k : Kind) → one_of_kinds (RBrack ∷ RCurly ∷ []) k ≡ true → same_kind RegExp k ≡ false
-bracket_plain k h = go (same_kind RegExp k) refl
+-- what closes a literal is of the plain lexical goal
+pub bracket_plain : (k : Kind) → one_of_kinds (RBrack ∷ RCurly ∷ []) k ≡ true → one_of_kinds other_goals k ≡ false
+bracket_plain k h = go (one_of_kinds other_goals k) refl
   where
-    go : (b : Bool) → same_kind RegExp k ≡ b → same_kind RegExp k ≡ false
-    go true e = absurd (not_both closes_a_literal a_regular_expression no_pattern_closes k false false h e)
+    go : (b : Bool) → one_of_kinds other_goals k ≡ b → one_of_kinds other_goals k ≡ false
+    go true e = absurd (not_both closes_a_literal of_another_goal no_other_closes k false false h e)
     go false e = e
 
 -- lexemes that are reached from the text's start

@@ -7,13 +7,13 @@ use Rattle.std.proofs.lemmas.Bool.{false≢true, and_from, or_right}
 use Rattle.js_base.specs.declared.diagnostic.Diagnostic.{Diagnostic}
 use Rattle.js_base.specs.declared.diagnostic.DiagnosticKind.TheVariants.{RestElementTrailingComma, InvalidAssignmentTargetDefaultValueOperator, InvalidRestAssignmentTarget, SpreadLastElement}
 use Rattle.js_base.specs.declared.kind.Kind.{Kind}
-use Rattle.js_base.specs.declared.kind.Kind.TheVariants.{Comma, Dot3, RBrack, RParen, RCurly, RAngle, Undetermined, PrivateIdentifier, RegExp}
+use Rattle.js_base.specs.declared.kind.Kind.TheVariants.{Comma, Dot3, RBrack, RParen, RCurly, RAngle, Undetermined, PrivateIdentifier}
 use Rattle.js_base.specs.declared.span.Span.{Span}
 use Rattle.js_base.specs.declared.token.Token.{Token}
 use Rattle.js_base.specs.Kinds.{same_kind, one_of_kinds}
 use Rattle.js_base.specs.Texts.{words}
 use Rattle.js_base.proofs.KindLemmas.{kind_of_same}
-use Rattle.js_grammar.specs.Grammar.{Lexeme, next}
+use Rattle.js_grammar.specs.Grammar.{Lexeme}
 use Rattle.js_grammar.specs.Lexemes.{division, is_word, is_escaped}
 use Rattle.js_grammar.specs.Marks.{Mark, a_lexeme, the_start, the_end}
 use Rattle.js_parsing.specs.Told.{unrelated_at}
@@ -22,9 +22,8 @@ use Rattle.js_grammar.specs.Settings.{Goal}
 use Rattle.js_lex.specs.Reading.{cut, is_right_angle, Tells, GivesLexeme, GivesNone, GivesBehind, Outcome}
 use Rattle.js_lex.proofs.Again.{cut_same}
 use Rattle.js_cursor.specs.Parsers.{Parser}
-use Rattle.js_cursor.specs.Places.{goal}
 use Rattle.js_parsing.specs.Answers.{Grown, Verdict, clean, unclean}
-use Rattle.js_parsing.specs.Lexemes.{Lex}
+use Rattle.js_parsing.specs.Lexemes.{Lex, other_goals}
 use Rattle.js_base.specs.Diagnostics.{class_of}
 use Rattle.js_parsing.specs.Classes.{IsEarly}
 use Rattle.js_targets.specs.Taken.{PlaceTold, PlacesTold, TellsOf}
@@ -33,7 +32,7 @@ use Rattle.js_targets.specs.declared.widening.Widening.{Widening}
 use Rattle.js_targets.specs.declared.widening.Widening.TheVariants.{Rest, RestTarget, Operator}
 use Rattle.js_targets.specs.Targets.{Each, Open, Closed, Followed, Ended, Narrow, Fits, Spanned, Spotted}
 use Rattle.js_parsing.proofs.Giving.{kept_one}
-use Rattle.js_parsing.proofs.Here.{alike, plainly, one_plain}
+use Rattle.js_parsing.proofs.Here.{alike_plain, plainly, one_plain}
 use Rattle.js_targets.proofs.LiteralsAsTargets.{lexeme_between, bracket_plain}
 use Rattle.js_parsing.proofs.Moving.{same_both, same_itself}
 use Rattle.js_parsing.proofs.Paths.{read_of}
@@ -78,8 +77,8 @@ module _ {text : List ℕ} {e : ℕ} {t : Token} (g : GivesBehind text e t) wher
   -- a comma is told where it stands
   comma_seen : (y : Lexeme) → Lex text e y → y.kind ≡ Comma → t.kind ≡ Comma
   comma_seen y l k = given
-      (λ d u n. absurd (n.none y (record { lex = l.0; of_goal = plainly l.0 l.1 (ap (same_kind RegExp) k) })))
-      (λ x. x.tells.kind ∙ (ap (λ (z : Lexeme). z.kind) (cut_same x.lexeme (ap is_right_angle (ap (λ (z : Lexeme). z.kind) (sym (one_plain l (ap (same_kind RegExp) k) x)) ∙ k))) ∙ (ap (λ (z : Lexeme). z.kind) (sym (one_plain l (ap (same_kind RegExp) k) x)) ∙ k)))
+      (λ d u n. absurd (n.none y (record { lex = l.0; of_goal = plainly l.0 l.1 (ap (one_of_kinds other_goals) k) })))
+      (λ x. x.tells.kind ∙ (ap (λ (z : Lexeme). z.kind) (cut_same x.lexeme (ap is_right_angle (ap (λ (z : Lexeme). z.kind) (sym (one_plain l (ap (one_of_kinds other_goals) k) x)) ∙ k))) ∙ (ap (λ (z : Lexeme). z.kind) (sym (one_plain l (ap (one_of_kinds other_goals) k) x)) ∙ k)))
 
   comma_there : t.kind ≡ Comma → CommaThere text e t
   comma_there k = given (λ d u n. let w : Comma ≡ Undetermined = sym k ∙ u in absurd (cc)) (λ x. by x (is_right_angle x.lexeme.kind) refl)
@@ -99,8 +98,8 @@ module _ {text : List ℕ} {e : ℕ} {t : Token} (g : GivesBehind text e t) wher
   not_open k o = let c = comma_there k in o c.comma c.stands c.is
 
   followed_there : (c : CommaThere text e t) → Closed text e ⊎ Followed text e → Closed text c.comma.to
-  followed_there c (inl z) = absurd (false≢true (ap (one_of_kinds (RBrack ∷ RCurly ∷ [])) (sym c.is ∙ ap (λ (y : Lexeme). y.kind) (alike c.stands z.stands (ap (same_kind RegExp) c.is ∙ sym (bracket_plain z.bracket.kind z.is)))) ∙ z.is))
-  followed_there c (inr z) = subst (λ (y : Lexeme). Closed text y.to) (alike z.stands c.stands (ap (same_kind RegExp) z.is ∙ sym (ap (same_kind RegExp) c.is))) z.behind
+  followed_there c (inl z) = absurd (false≢true (ap (one_of_kinds (RBrack ∷ RCurly ∷ [])) (sym c.is ∙ ap (λ (y : Lexeme). y.kind) (alike_plain c.stands z.stands (ap (one_of_kinds other_goals) c.is) (bracket_plain z.bracket.kind z.is))) ∙ z.is))
+  followed_there c (inr z) = subst (λ (y : Lexeme). Closed text y.to) (alike_plain z.stands c.stands (ap (one_of_kinds other_goals) z.is) (ap (one_of_kinds other_goals) c.is)) z.behind
 
   pub comma_marked : (source : Goal) (s : Span) → IsUtf8 text → Ended text e → t.kind ≡ Comma → s ≡ t.span → Mark source text (record { kind = RestElementTrailingComma; span = s; first = None; second = None })
   comma_marked source s u h k q =

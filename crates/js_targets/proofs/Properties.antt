@@ -1,11 +1,10 @@
 -- What a property of an object literal is: a name alone, a name and a value, a method, or a spread (ECMA-262, 13.2.5).
 use Rattle.std.proofs.Common.{ℕ, ◌≡◌, Bool, true, false, ◌&&◌, IsTrue, refl, sym, subst}
 use Rattle.std.proofs.lemmas.Bool.{false≢true, and_parts}
-use Rattle.js_base.specs.declared.kind.Kind.{Kind}
 use Rattle.js_base.specs.declared.kind.Kind.TheVariants.{Colon, Comma, Dot3, RCurly}
-use Rattle.js_grammar.specs.Trees.{NodeKind, Op, no_op, init, of, Label, Slots, end, hole, tree, object_property, spread_element, function_expression}
-use Rattle.js_grammar.specs.Grammar.{Lexeme, Lexemes, next, here, seen, is, nothing, never, lexeme, look, text, ahead, empty_slot, seq, alt, when, many, commas, such, marked, node, ended, keep, kept, ◌▸◌, ◌◇◌, Takes, is_nothing, is_lexeme, is_look, is_text, is_ahead, is_empty_slot, is_seq, is_left, is_right, is_when, is_many, is_commas, is_such, is_marked, is_node, is_ended, is_keep, is_kept}
-use Rattle.js_grammar.specs.Productions.{G, Flags, Symbol, at, tok, opt, flag, has_flag, computed_flag, shorthand_flag, plus_in, Assignment, Init, Property, IdentifierName, IdentifierReference}
+use Rattle.js_grammar.specs.Trees.{Op, no_op, init, of, Label, Slots, end, tree, object_property, spread_element, function_expression}
+use Rattle.js_grammar.specs.Grammar.{Lexeme, Lexemes, next, here, seen, is, nothing, never, ahead, alt, when, such, node, ◌▸◌, Takes, is_nothing, is_lexeme, is_look, is_text, is_ahead, is_empty_slot, is_seq, is_left, is_right, is_when, is_many, is_commas, is_such, is_marked, is_node, is_ended, is_keep, is_kept}
+use Rattle.js_grammar.specs.Productions.{G, Flags, at, tok, opt, flag, has_flag, computed_flag, shorthand_flag, plus_in, Assignment, Init, Property, IdentifierName, IdentifierReference}
 use Rattle.js_grammar.specs.Productions.{sym as symbol}
 use Rattle.js_grammar.specs.Words.{'get', 'set'}
 use Rattle.js_grammar.specs.Table.{rule, rule_of, name, plain_method, getter, setter}

@@ -1,5 +1,5 @@
 -- What is told of an expression that is no target.
-use Rattle.std.proofs.Common.{ℕ, ◌≡◌, inl, inr, List, length, Bool, true, false, None, refl, sym, subst}
+use Rattle.std.proofs.Common.{ℕ, ◌≡◌, List, Bool, true, false, None, refl}
 use Rattle.std.proofs.lemmas.Bool.{false≢true}
 use Rattle.js_grammar.specs.Grammar.{Lexemes}
 use Rattle.js_grammar.specs.Insertion.{after_expression}
@@ -8,7 +8,6 @@ use Rattle.js_grammar.specs.Follow.{looser}
 use Rattle.js_grammar.proofs.Looks.{covers}
 use Rattle.js_cursor.specs.Parsers.{Parser}
 use Rattle.js_cursor.specs.declared.stop.Stop.{Stop}
-use Rattle.js_cursor.specs.declared.stop.Stop.TheVariants.{Fatal}
 use Rattle.js_parsing.specs.Answers.{Verdict, Stops}
 use Rattle.js_parsing.specs.States.{At, Same}
 use Rattle.js_targets.specs.Targets.{target_of}

@@ -1,12 +1,12 @@
 -- Numbers of nodes from before and of new ones, of which none is reached twice.
-use Rattle.std.proofs.Common.{ℕ, ◌≡◌, ◌<◌, ◌≤◌, ◌⊎◌, inl, inr, suc, List, [], ◌∷◌, ◌++◌, length, Option, Some, None, refl, sym, ap, subst, arith, ◌∙◌, append-nil, append_assoc, length-append}
+use Rattle.std.proofs.Common.{ℕ, ◌≡◌, ◌<◌, ◌≤◌, ◌⊎◌, inl, inr, List, [], ◌∷◌, ◌++◌, length, Option, Some, None, refl, sym, ap, subst, arith, ◌∙◌, append-nil, append_assoc}
 use Rattle.std.specs.Prelude.{get_or}
 use Rattle.std.proofs.lemmas.List.{get_or_append_left, get_or_push, length_push}
 use Rattle.js_grammar.specs.Trees.{Label, Slots, end, hole, tree, append}
 use Rattle.js_tree.specs.declared.id.NodeId.{NodeId}
 use Rattle.js_tree.specs.Nodes.{Node, label, node_at, empty_program}
-use Rattle.js_tree.specs.Holding.{Stands, stands, StandsAll, no_slots, next_child, next_hole, AreWithin, AreDistinct, AreApart, Lacks, Holds, HoldsAll, Keeps, Made}
-use Rattle.js_tree.proofs.HoldingLemmas.{AreWithin-wider, AreDistinct-append, Stands-kept, StandsAll-kept, StandsAll-wider, Stands-within, StandsAll-within, Stands-below, Keeps-longer, Keeps-made, AgreeOn, StandsAll-agree}
+use Rattle.js_tree.specs.Holding.{Stands, stands, StandsAll, no_slots, next_child, next_hole, AreWithin, AreDistinct, AreApart, Lacks, Keeps}
+use Rattle.js_tree.proofs.HoldingLemmas.{AreDistinct-append, StandsAll-kept, StandsAll-wider, StandsAll-within, Stands-below, Keeps-longer, Keeps-made, AgreeOn, StandsAll-agree}
 use Rattle.js_targets.specs.Targets.{Each, IsIn, Reused, Slotted, Noded}
 
 -- ---- lists of numbers

@@ -1,28 +1,27 @@
 -- What stands in a literal where it may be wider than a target: spreads, literals as their arguments, and assignments (ECMA-262, 13.2.4, 13.2.5, 13.15.5).
-use Rattle.std.proofs.Common.{ℕ, ◌≡◌, Bool, true, false, not, cond, ◌&&◌, ◌||◌, IsTrue, List, [], ◌∷◌, ◌++◌, refl, sym, ap, subst, ◌∙◌}
+use Rattle.std.proofs.Common.{ℕ, ◌≡◌, Bool, true, false, not, cond, IsTrue, List, [], ◌∷◌, ◌++◌, refl, sym, ap, subst}
 use Rattle.std.specs.Prelude.{IsUtf8, IsCharBoundary}
 use Rattle.std.proofs.lemmas.Bool.{false≢true, and_parts, or_left, or_right}
 use Rattle.js_base.specs.declared.kind.Kind.{Kind}
 use Rattle.js_base.specs.declared.kind.Kind.TheVariants.{Dot3}
-use Rattle.js_base.specs.declared.span.Span.{Span}
 use Rattle.js_base.specs.Kinds.{same_kind}
 use Rattle.js_base.proofs.KindLemmas.{kind_of_same}
-use Rattle.js_grammar.specs.Trees.{Span as TreeSpan, NodeKind, Op, Label, Slots, end, hole, tree, function_expression}
-use Rattle.js_grammar.specs.Grammar.{Lexeme, Lexemes, next, here, seen, is, such, ◌▸◌, Takes, is_lexeme, is_seq, is_such, is_node}
+use Rattle.js_grammar.specs.Trees.{Span as TreeSpan, Label, Slots, end, hole, tree, function_expression}
+use Rattle.js_grammar.specs.Grammar.{Lexeme, Lexemes, next, seen, is, such, ◌▸◌, Takes, is_lexeme, is_seq, is_such, is_node}
 use Rattle.js_grammar.specs.Lexed.{Lexes}
 use Rattle.js_grammar.specs.LexicalFaults.{Reached}
 use Rattle.js_grammar.specs.Parsing.{always}
-use Rattle.js_grammar.specs.Productions.{Flags, at, tok, has_flag, shorthand_flag, plus_in, Assignment, LeftHandSide, Object, SimpleTarget}
+use Rattle.js_grammar.specs.Productions.{Flags, at, tok, has_flag, shorthand_flag, plus_in, Assignment, LeftHandSide, SimpleTarget}
 use Rattle.js_grammar.specs.Table.{rule, rule_of}
 use Rattle.js_grammar.proofs.Behind.{lexed_behind}
 use Rattle.js_parsing.specs.Lexemes.{Lex}
 use Rattle.js_targets.specs.declared.widening.Widening.{Widening}
 use Rattle.js_targets.specs.declared.widening.Widening.TheVariants.{Rest, RestTarget, Operator}
-use Rattle.js_targets.specs.Targets.{Each, Spanned, Spotted, in_literal, in_property, within, is_elision, is_spread, is_property, is_assignment, is_object, is_literal, literal_kind, is_equals, is_wide, made_span, operator_places, literal_places, argument_places, property_places, places_of, places_in}
-use Rattle.js_targets.proofs.Properties.{PropertyOf, a_shorthand, a_value, a_method, a_spread as a_spread_property, property_of, PropertyStep, shuts, property, last_property, property_step}
-use Rattle.js_targets.proofs.ArrayElements.{gap_label, no_gap, Operated, operated, Step, closes, gap, item, final, step_of, Element, an_expression, a_spread, element_of}
+use Rattle.js_targets.specs.Targets.{Each, Spanned, Spotted, in_literal, within, is_elision, is_spread, is_property, is_assignment, is_object, is_literal, literal_kind, is_equals, made_span, operator_places, literal_places, argument_places, property_places, places_of, places_in}
+use Rattle.js_targets.proofs.Properties.{PropertyOf, a_shorthand, a_value, a_method, a_spread as a_spread_property, property_of, PropertyStep, property, last_property, property_step}
+use Rattle.js_targets.proofs.ArrayElements.{no_gap, Operated, operated, Step, gap, item, final, step_of, Element, an_expression, a_spread, element_of}
 use Rattle.js_targets.proofs.Edges.{Ends, taken, one_ends, then_ends, ends_then, spanned}
-use Rattle.js_targets.proofs.LiteralsAsTargets.{Led, led, all_of, lexeme_between, other_operator, places_literal, source}
+use Rattle.js_targets.proofs.LiteralsAsTargets.{Led, led, all_of, other_operator, places_literal, source}
 use Rattle.js_targets.proofs.Targets.{Literal, of_array, of_object, literal_shape, is_literal_kind, may_literal, of_assignment}
 
 module _ (text : List ℕ) (u : IsUtf8 text) where

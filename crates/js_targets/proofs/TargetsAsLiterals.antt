@@ -2,14 +2,14 @@
 use Rattle.std.proofs.Common.{ℕ, zero, suc, ◌<◌, arith, ◌≡◌, Bool, true, false, not, cond, ◌&&◌, ◌||◌, IsTrue, List, [], ◌∷◌, ◌++◌, Option, Some, None, refl, sym, ap, subst, ◌∙◌}
 use Rattle.std.proofs.lemmas.Bool.{false≢true, and_parts, or_left, or_right}
 use Rattle.js_base.specs.declared.kind.Kind.{Kind}
-use Rattle.js_base.specs.declared.kind.Kind.TheVariants.{Eq, Await, Yield, Colon, Comma, Dot3, LBrack, RBrack, LCurly, RCurly, PlusEq, MinusEq, StarEq, SlashEq, PercentEq, ShiftLeftEq, ShiftRightEq, ShiftRight3Eq, PipeEq, CaretEq, AmpEq, Amp2Eq, Pipe2Eq, Question2Eq, Star2Eq}
+use Rattle.js_base.specs.declared.kind.Kind.TheVariants.{Eq, Await, Yield, Colon, Comma, Dot3, RBrack, RCurly, PlusEq, MinusEq, StarEq, SlashEq, PercentEq, ShiftLeftEq, ShiftRightEq, ShiftRight3Eq, PipeEq, CaretEq, AmpEq, Amp2Eq, Pipe2Eq, Question2Eq, Star2Eq}
 use Rattle.js_base.specs.Kinds.{same_kind, one_of_kinds}
 use Rattle.js_base.proofs.KindLemmas.{kind_of_same}
 use Rattle.js_grammar.specs.Trees.{NodeKind, Op, Span, Label, Slots, end, hole, tree, Tree, of, no_op, init, identifier_reference, static_member_expression, computed_member_expression, private_field_expression, parenthesized_expression, array_expression, object_expression, assignment_expression, spread_element, array_assignment_target, object_assignment_target, assignment_target_rest, assignment_target_with_default, assignment_target_property_identifier, assignment_target_property_property}
-use Rattle.js_grammar.specs.Grammar.{Lexeme, Lexemes, last, next, here, seen, is, such, nothing, many, empty_slot, seq, ◌▸◌, ◌◇◌, Takes, is_nothing, is_lexeme, is_empty_slot, is_seq, is_left, is_right, is_when, is_many, is_commas, is_such, is_node, is_ahead}
+use Rattle.js_grammar.specs.Grammar.{Lexeme, Lexemes, next, here, seen, is, such, many, ◌▸◌, Takes, is_nothing, is_lexeme, is_empty_slot, is_seq, is_left, is_right, is_when, is_many, is_commas, is_such, is_node, is_ahead}
 use Rattle.js_grammar.specs.Lexed.{Lexes}
 use Rattle.js_grammar.specs.Parsing.{always}
-use Rattle.js_grammar.specs.Productions.{G, Flags, Symbol, at, tok, mk, slot, plus_in, flag, computed_flag, shorthand_flag, Argument, Assignment, LeftHandSide, Primary, Object, Property, Init, IdentifierReference, SimpleTarget, Target, ArrayTarget, ObjectTarget, TargetElement, TargetProperty}
+use Rattle.js_grammar.specs.Productions.{G, Flags, Symbol, at, tok, slot, plus_in, flag, computed_flag, shorthand_flag, Argument, Assignment, LeftHandSide, Primary, Property, Init, IdentifierReference, SimpleTarget, Target, ArrayTarget, ObjectTarget, TargetElement, TargetProperty}
 use Rattle.js_grammar.specs.Productions.{sym as symbol}
 use Rattle.js_grammar.specs.Table.{rule, rule_of, name}
 use Rattle.js_grammar.proofs.Behind.{lexed_behind}
@@ -18,7 +18,7 @@ use Rattle.js_parsing.specs.Lexemes.{Lex}
 use Rattle.js_targets.specs.declared.widening.Widening.{Widening}
 use Rattle.js_targets.specs.declared.widening.Widening.TheVariants.{Rest}
 use Rattle.js_targets.specs.Taken.{target_name}
-use Rattle.js_targets.specs.Targets.{Each, Closed, Shut, in_literal, in_property, within, is_array, is_object, is_literal, literal_kind, is_pattern, is_target, is_parens, target_in, target_of, relabelled, pattern_kind, before_all, before_value, followed, named_slot, elements_in, argument_places, places_of, places_in}
+use Rattle.js_targets.specs.Targets.{Each, Closed, Shut, in_literal, within, is_literal, literal_kind, is_pattern, is_target, is_parens, target_in, target_of, relabelled, pattern_kind, before_all, before_value, followed, named_slot, elements_in, argument_places, places_of, places_in}
 use Rattle.js_targets.proofs.ArrayElements.{gap_label}
 use Rattle.js_targets.proofs.ArrayTargets.{target_step, target_last, literal_step, literal_last, no_other, target_property, last_property, properties, bound_word, deep}
 use Rattle.js_parsing.proofs.FreeOfIn.{any_in}

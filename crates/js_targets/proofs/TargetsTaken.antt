@@ -15,7 +15,7 @@ use Rattle.js_grammar.specs.Lexemes.{is_escaped}
 use Rattle.js_grammar.specs.LexicalFaults.{Reached}
 use Rattle.js_grammar.specs.Marks.{loose, Mark}
 use Rattle.js_grammar.specs.Parsing.{always, Fails}
-use Rattle.js_grammar.specs.Productions.{Flags, at, Short, ArrayTarget, Target}
+use Rattle.js_grammar.specs.Productions.{Flags, at, Short, Target}
 use Rattle.js_grammar.specs.Table.{rule}
 use Rattle.js_grammar.specs.Follow.{after, edge_of, follow, looser}
 use Rattle.js_grammar.proofs.Looks.{covers, covered}

@@ -3,6 +3,7 @@ use Rattle.std.proofs.lemmas.Bool.{false≢true}
 use Rattle.std.proofs.lemmas.Result.{err_from_is_err_and}
 use Rattle.js_base.specs.declared.kind.Kind.TheVariants.{Comma}
 use Rattle.js_tree.specs.declared.id.NodeId.{NodeId}
+use Rattle.js_parsing.proofs.Giving.{memory_stops}
 use Rattle.js_parsing.proofs.Moving.{standing}
 use Rattle.js_parsing.proofs.Nesting.{nested_room, nests_later}
 use Rattle.js_parsing.proofs.Signs.{whole_sign}
@@ -17,6 +18,11 @@ advance-requires-clause-at g c = c.requires.at
 
 pub advance-requires-clause-whole : goal.advance-requires-clause-whole
 advance-requires-clause-whole g c = whole_sign Comma c.requires.at (c.at.ensures.0 c.if-not-at.false) refl refl
+
+pub returns-in_err-advance : goal.returns-in_err-advance
+returns-in_err-advance g c =
+    let p = err_from_is_err_and c.from_residual-in_err-advance.result c.from_residual-in_err-advance.ensures.1 in
+    rw (p.1, p.2) (λ text f o a d. memory_stops _ _ _ _ c.in_err-advance.ensures)
 
 pub parse_declarators-requires-clause-at : goal.parse_declarators-requires-clause-at
 parse_declarators-requires-clause-at g c = standing (c.in_ok-advance.ensures _ _ c.requires.at).at

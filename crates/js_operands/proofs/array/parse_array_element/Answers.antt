@@ -3,7 +3,6 @@ use Rattle.js_parsing.specs.Moves.{unpassable}
 use Rattle.std.proofs.lemmas.Result.{err_from_is_err_and}
 use Rattle.js_base.specs.declared.kind.Kind.TheVariants.{RAngle, Comma}
 use Rattle.js_base.specs.Kinds.{same_kind}
-use Rattle.js_cursor.specs.Moves.{is_last}
 use Rattle.js_operands.proofs.Arrays.{gap_outcome, item_stops, item_taken, step_stops, step_taken}
 use Rattle.js_parsing.proofs.Bracketed.{opened_later}
 use Rattle.js_parsing.proofs.Here.{uncut}

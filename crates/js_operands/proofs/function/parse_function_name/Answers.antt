@@ -1,5 +1,5 @@
 use Rattle.std.proofs.Common.{◌∙◌, ap, refl, sym, subst, false}
-use Rattle.std.specs.Prelude.{Ok, Option, None}
+use Rattle.std.specs.Prelude.{Ok, None}
 use Rattle.js_base.specs.declared.diagnostic.Diagnostic.{Diagnostic}
 use Rattle.js_base.specs.declared.token.Token.{Token}
 use Rattle.js_grammar.specs.Marks.{Mark}

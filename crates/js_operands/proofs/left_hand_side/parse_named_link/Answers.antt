@@ -3,7 +3,6 @@ use Rattle.js_parsing.specs.Moves.{unpassable}
 use Rattle.std.proofs.lemmas.Result.{err_from_is_err_and}
 use Rattle.js_base.specs.declared.kind.Kind.TheVariants.{RAngle}
 use Rattle.js_base.specs.Kinds.{same_kind}
-use Rattle.js_cursor.specs.Moves.{is_last}
 use Rattle.js_parsing.proofs.Here.{uncut}
 use Rattle.js_parsing.proofs.Moving.{standing}
 use Rattle.js_operands.proofs.Members.{name_link, no_name_link}

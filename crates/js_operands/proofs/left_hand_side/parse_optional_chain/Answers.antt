@@ -2,6 +2,7 @@ use Rattle.std.proofs.Common.{◌∙◌}
 use Rattle.js_base.specs.declared.kind.Kind.TheVariants.{QuestionDot}
 use Rattle.std.proofs.lemmas.Result.{err_from_is_err_and}
 use Rattle.js_operands.proofs.Members.{chain_begun, chain_done, chain_first_stops, chain_less, chain_on, chain_stops, goes_on_so, lhs_callee, next_chain, stands_so, start_loop}
+use Rattle.js_operands.specs.declared.left_hand_side.LinkBase.TheVariants as base
 use Rattle.js_parsing.proofs.Nesting.{nests_later}
 use Rattle.js_operands.proofs.left_hand_side.parse_optional_chain.Goals as goal
 
@@ -29,13 +30,13 @@ pub parse_chain_link-requires-clause-start : goal.parse_chain_link-requires-clau
 parse_chain_link-requires-clause-start t c = c.links.invariant.before
 
 pub parse_chain_link-requires-clause-link : goal.parse_chain_link-requires-clause-link
-parse_chain_link-requires-clause-link t c = goes_on_so c.links.p c.links-test.true c.chain_goes_on.ensures
+parse_chain_link-requires-clause-link t c = goes_on_so c.links.p base.Chain c.links-test.true c.goes_on.ensures
 
 pub returns-in_err-left-2 : goal.returns-in_err-left-2
 returns-in_err-left-2 t c = λ text f o a e x n m.
     let p = err_from_is_err_and c.from_residual-in_err-left-2.result c.from_residual-in_err-left-2.ensures.1 in
     let z = c.links.invariant.goes text f o a e x in
-    rw (p.1, p.2) (chain_stops z _ _ (goes_on_so c.links.p c.links-test.true c.chain_goes_on.ensures) (c.in_err-left-2.ensures text f z.at))
+    rw (p.1, p.2) (chain_stops z _ _ (goes_on_so c.links.p base.Chain c.links-test.true c.goes_on.ensures) (c.in_err-left-2.ensures text f z.at))
 
 pub links-smaller : goal.links-smaller
 links-smaller t c = chain_less c.links.invariant.at (c.in_ok-left-2.ensures _ _ c.links.invariant.at)
@@ -44,4 +45,4 @@ pub links-preserved : goal.links-preserved
 links-preserved t c = next_chain c.links.invariant c.in_ok-left-2.ensures (λ text f o a e x. let z = c.links.invariant.goes text f o a e x in chain_on z e (c.in_ok-left-2.ensures text f z.at))
 
 pub returns : goal.returns
-returns t c = λ text f o a e x n m. chain_done a (c.links.invariant.goes text f o a e x) (goes_on_so c.links.p c.links-test.false c.chain_goes_on.ensures).0 (c.end_span-span.ensures.start ∙ e) c.end_span-span.ensures.end c.in_ok-chain.ensures
+returns t c = λ text f o a e x n m. chain_done a (c.links.invariant.goes text f o a e x) (goes_on_so c.links.p base.Chain c.links-test.false c.goes_on.ensures) (c.end_span-span.ensures.start ∙ e) c.end_span-span.ensures.end c.in_ok-chain.ensures

@@ -3,7 +3,6 @@ use Rattle.js_parsing.specs.Moves.{unpassable}
 use Rattle.std.proofs.lemmas.Result.{err_from_is_err_and}
 use Rattle.js_base.specs.declared.kind.Kind.TheVariants.{LBrack, LParen, RAngle}
 use Rattle.js_base.specs.Kinds.{one_of_kinds, same_kind}
-use Rattle.js_cursor.specs.Moves.{is_last}
 use Rattle.js_base.specs.declared.token.Token.{Token}
 use Rattle.js_parsing.specs.Lexemes.{read_word}
 use Rattle.js_parsing.proofs.Giving.{gives_up}

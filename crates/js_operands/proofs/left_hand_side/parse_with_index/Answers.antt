@@ -5,7 +5,7 @@ use Rattle.js_base.specs.declared.span.Span.{Span}
 use Rattle.js_base.specs.declared.token.Token.{Token}
 use Rattle.js_base.specs.declared.kind.Kind.TheVariants.{RAngle, LParen, LBrack, LCurly, TemplateHead, TemplateMiddle}
 use Rattle.js_base.specs.Kinds.{same_kind, one_of_kinds}
-use Rattle.js_cursor.specs.Moves.{Opened, is_last}
+use Rattle.js_cursor.specs.Moves.{Opened}
 use Rattle.js_parsing.proofs.Bracketed.{opened_here, opened_later}
 use Rattle.js_parsing.proofs.Here.{uncut}
 use Rattle.js_operands.proofs.Members.{no_index, index_closed, index_part, unclosed_stops}

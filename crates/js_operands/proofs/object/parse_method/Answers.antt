@@ -1,4 +1,4 @@
-use Rattle.std.proofs.Common.{◌≡◌, [], ◌∷◌, arith, ◌∙◌}
+use Rattle.std.proofs.Common.{arith}
 use Rattle.std.proofs.lemmas.Result.{err_from_is_err_and}
 use Rattle.js_operands.specs.Objects.{flags_of_form, op_of_form}
 use Rattle.js_operands.proofs.Methods.{method_made, method_stops, method_taken}

@@ -1,6 +1,5 @@
 use Rattle.std.proofs.Common.{◌≡◌, sym, ◌∙◌}
 use Rattle.std.proofs.lemmas.Bool.{false≢true}
-use Rattle.js_base.specs.declared.span.Span.{Span}
 use Rattle.js_operands.proofs.RegularExpressions.{literal_answers, none_stops, which_sign}
 use Rattle.js_operands.proofs.primary.parse_literal_regexp.Goals as goal
 

@@ -8,6 +8,7 @@ use Rattle.js_parsing.proofs.Giving.{gives_up_here, fails_escaped}
 use Rattle.js_parsing.proofs.NameKinds.{listed_here, name_at, name_so, name_whole, no_name_here}
 use Rattle.js_operands.proofs.Operands.{leaf_outcome, leaf_under, name_path, this_path, null_path, true_path, false_path, string_path, primary_fails, none_of_these}
 use Rattle.js_parsing.specs.Lexemes.{slashes}
+use Rattle.js_operands.specs.Templates.{heads}
 use Rattle.js_operands.proofs.RegularExpressions.{no_pattern_here}
 use Rattle.js_operands.proofs.primary.parse_primary_expression.Goals as goal
 
@@ -43,8 +44,14 @@ parse_literal_regexp-requires-clause-sign t c = elim c.in-Slash.is [
   | inr e ↦ ap (one_of_kinds slashes) (sym c.cur_kind-2.ensures ∙ e)
 ]
 
+pub parse_template-requires-clause-template : goal.parse_template-requires-clause-template
+parse_template-requires-clause-template t c = elim c.in-NoSubstitutionTemplate.is [
+  | inl e ↦ ap (one_of_kinds heads) (sym c.cur_kind-2.ensures ∙ e)
+  | inr e ↦ ap (one_of_kinds heads) (sym c.cur_kind-2.ensures ∙ e)
+]
+
 pub returns-in_default : goal.returns-in_default
-returns-in_default t c = λ text f a. gives_up_here _ _ c.set_unexpected-in_default.result a c.set_unexpected-in_default.ensures (primary_fails a (no_name_here f c.args.p.now (name_at false a (name_so c.args.p.now c.if-name_stands.false c.name_stands.ensures)) (let e : c.args.p.now.token.escaped ≡ false = search in e)) (none_of_these _ (λ e. c.in_default.not-This (c.cur_kind-2.ensures ∙ e)) (λ e. c.in_default.not-Null (c.cur_kind-2.ensures ∙ e)) (λ e. c.in_default.not-True (c.cur_kind-2.ensures ∙ e)) (λ e. c.in_default.not-False (c.cur_kind-2.ensures ∙ e)) (λ e. c.in_default.not-Str (c.cur_kind-2.ensures ∙ e)) (no_pattern_here a) (λ e. c.in_default.not-Slash (c.cur_kind-2.ensures ∙ e)) (λ e. c.in_default.not-SlashEq (c.cur_kind-2.ensures ∙ e)) (λ e. c.in_default.not-LParen (c.cur_kind-2.ensures ∙ e)) (λ e. c.in_default.not-LBrack (c.cur_kind-2.ensures ∙ e)) (λ e. c.in_default.not-Function (c.cur_kind-2.ensures ∙ e)) (λ e. c.in_default.not-LCurly (c.cur_kind-2.ensures ∙ e)) (λ e. c.in_default.not-Percent (c.cur_kind-2.ensures ∙ e)) (sym (ap (one_of_kinds number_kinds) c.cur_kind.ensures) ∙ (sym c.is_number.ensures ∙ c.if-is_number.false))))
+returns-in_default t c = λ text f a. gives_up_here _ _ c.set_unexpected-in_default.result a c.set_unexpected-in_default.ensures (primary_fails a (no_name_here f c.args.p.now (name_at false a (name_so c.args.p.now c.if-name_stands.false c.name_stands.ensures)) (let e : c.args.p.now.token.escaped ≡ false = search in e)) (none_of_these _ (λ e. c.in_default.not-This (c.cur_kind-2.ensures ∙ e)) (λ e. c.in_default.not-Null (c.cur_kind-2.ensures ∙ e)) (λ e. c.in_default.not-True (c.cur_kind-2.ensures ∙ e)) (λ e. c.in_default.not-False (c.cur_kind-2.ensures ∙ e)) (λ e. c.in_default.not-Str (c.cur_kind-2.ensures ∙ e)) (no_pattern_here a) (λ e. c.in_default.not-Slash (c.cur_kind-2.ensures ∙ e)) (λ e. c.in_default.not-SlashEq (c.cur_kind-2.ensures ∙ e)) (λ e. c.in_default.not-NoSubstitutionTemplate (c.cur_kind-2.ensures ∙ e)) (λ e. c.in_default.not-TemplateHead (c.cur_kind-2.ensures ∙ e)) (λ e. c.in_default.not-LParen (c.cur_kind-2.ensures ∙ e)) (λ e. c.in_default.not-LBrack (c.cur_kind-2.ensures ∙ e)) (λ e. c.in_default.not-Function (c.cur_kind-2.ensures ∙ e)) (λ e. c.in_default.not-LCurly (c.cur_kind-2.ensures ∙ e)) (λ e. c.in_default.not-Percent (c.cur_kind-2.ensures ∙ e)) (sym (ap (one_of_kinds number_kinds) c.cur_kind.ensures) ∙ (sym c.is_number.ensures ∙ c.if-is_number.false))))
 
 pub parse_function_expression-requires-clause-word : goal.parse_function_expression-requires-clause-word
 parse_function_expression-requires-clause-word t c = (sym c.cur_kind-2.ensures ∙ c.in-Function.is, (let e : c.args.p.now.token.escaped ≡ false = search in e))

@@ -3,7 +3,6 @@ use Rattle.js_parsing.specs.Moves.{unpassable}
 use Rattle.std.proofs.lemmas.Result.{err_from_is_err_and}
 use Rattle.js_base.specs.declared.kind.Kind.TheVariants.{LParen, RAngle}
 use Rattle.js_base.specs.Kinds.{same_kind}
-use Rattle.js_cursor.specs.Moves.{is_last}
 use Rattle.js_parsing.proofs.Giving.{gives_up_here}
 use Rattle.js_parsing.proofs.Here.{uncut}
 use Rattle.js_operands.proofs.Intrinsics.{no_v8, v8_same, v8_grown, v8_name_fails, v8_option, v8_outcome, v8_room, v8_start, v8_unopened}

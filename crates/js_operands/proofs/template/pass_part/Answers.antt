@@ -10,5 +10,7 @@ inside-span-requires g c = subst (λ (t : Token). inside_fits t) (sym c.cur_toke
 
 pub returns : goal.returns
 returns g c = λ text f a.
+    let from = c.inside-span.ensures.start ∙ ap (λ (t : Token). t.span.start + 1) c.cur_token-token.ensures in
+    let to = c.inside-span.ensures.end ∙ ap inside_end c.cur_token-token.ensures in
     part_taken c.is_last_part-is_last.result c.inside-span.result (part_moves a c.in_ok-bump_any.ensures)
-    (inside_lies c.inside-span.result a (c.inside-span.ensures.start ∙ ap (λ (t : Token). t.span.start + 1) c.cur_token-token.ensures) (c.inside-span.ensures.end ∙ ap inside_end c.cur_token-token.ensures)) c.in_ok-element.ensures (c.is_last_part-is_last.ensures ∙ ap (one_of_kinds last_parts) (c.kind.ensures ∙ ap (λ (t : Token). t.kind) c.cur_token-token.ensures))
+    (inside_lies c.inside-span.result a from to) from to c.in_ok-element.ensures (c.is_last_part-is_last.ensures ∙ ap (one_of_kinds last_parts) (c.kind.ensures ∙ ap (λ (t : Token). t.kind) c.cur_token-token.ensures))

@@ -1,4 +1,4 @@
-use Rattle.std.proofs.Common.{true, ◌≡◌, arith, ap, refl, sym, ◌∙◌}
+use Rattle.std.proofs.Common.{true, arith, ap, sym, ◌∙◌}
 use Rattle.std.proofs.lemmas.Bool.{false≢true}
 use Rattle.std.proofs.lemmas.Result.{err_from_is_err_and}
 use Rattle.js_base.specs.declared.span.Span.{Span}

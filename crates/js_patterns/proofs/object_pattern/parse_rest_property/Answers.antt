@@ -1,8 +1,8 @@
 use Rattle.std.proofs.Common.{◌∙◌, ap, arith, refl, subst, sym}
 use Rattle.std.proofs.lemmas.Bool.{false≢true}
 use Rattle.std.proofs.lemmas.Result.{err_from_is_err_and}
-use Rattle.js_base.specs.declared.diagnostic.DiagnosticKind.TheVariants.{BindingRestElementLast, InvalidBindingRestElement}
-use Rattle.js_base.specs.declared.kind.Kind.TheVariants.{Dot3, RCurly}
+use Rattle.js_base.specs.declared.diagnostic.DiagnosticKind.TheVariants.{BindingRestElementLast}
+use Rattle.js_base.specs.declared.kind.Kind.TheVariants.{Dot3}
 use Rattle.js_cursor.specs.Parsers.{Parser}
 use Rattle.js_tree.proofs.HoldingLemmas.{Holds-below}
 use Rattle.js_parsing.specs.Classes.{EndsParse}

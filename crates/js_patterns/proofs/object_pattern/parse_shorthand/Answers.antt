@@ -1,9 +1,6 @@
-use Rattle.std.proofs.Common.{◌≡◌, arith, ap, refl, sym, ◌∙◌}
+use Rattle.std.proofs.Common.{arith, ap, ◌∙◌}
 use Rattle.std.proofs.lemmas.Result.{err_from_is_err_and}
 use Rattle.js_base.specs.declared.span.Span.{Span}
-use Rattle.js_parsing.proofs.Giving.{memory_stops}
-use Rattle.js_parsing.proofs.Moving.{standing}
-use Rattle.js_parsing.proofs.Nesting.{nests_later}
 use Rattle.js_patterns.proofs.ObjectPatterns.{bound_stops, made_at, made_nests, name_passed, shorthand_answers}
 use Rattle.js_patterns.proofs.object_pattern.parse_shorthand.Goals as goal
 

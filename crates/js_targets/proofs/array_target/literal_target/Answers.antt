@@ -1,11 +1,11 @@
-use Rattle.std.proofs.Common.{◌≡◌, ℕ, List, [], Option, Some, None, length, sym, ap, subst, ◌∙◌}
+use Rattle.std.proofs.Common.{List, Option, None, length, sym, ap, subst, ◌∙◌}
 use Rattle.js_parsing.specs.States.{At, flags_of}
 use Rattle.js_parsing.proofs.Moving.{beside_nodes, standing}
 use Rattle.js_tree.specs.declared.id.NodeId.{NodeId}
 use Rattle.js_cursor.specs.Parsers.{Parser}
 use Rattle.js_targets.specs.declared.widening.Widening.{Widening}
 use Rattle.js_targets.specs.Taken.{TargetTaken}
-use Rattle.js_targets.specs.Targets.{is_object, Noted, noted_in, unnoted}
+use Rattle.js_targets.specs.Targets.{is_object, noted_in, unnoted}
 use Rattle.js_targets.proofs.ConvertedNodes.{LiteralAnswer}
 use Rattle.js_targets.proofs.TargetsTaken.{array_refusal, refused_marked, places_fit, places_spotted, taken_kept, taken_told}
 use Rattle.js_targets.proofs.array_target.literal_target.Goals.{then-kept_so_far-kept+in_ok-tell_places, else-kept_so_far-kept}

@@ -1,6 +1,5 @@
 use Rattle.std.proofs.Common.{◌≡◌, inl, inr, refl, List, ℕ, sym, ap, subst, ◌∙◌}
 use Rattle.js_base.specs.declared.diagnostic.Diagnostic.{Diagnostic}
-use Rattle.js_base.specs.declared.kind.Kind.TheVariants.{Comma}
 use Rattle.js_grammar.specs.Marks.{Mark}
 use Rattle.js_lex.specs.Reading.{GivesBehind}
 use Rattle.js_lex.specs.States.{State}

@@ -1,10 +1,9 @@
-use Rattle.std.proofs.Common.{◌≡◌, inr, refl, sym, subst}
+use Rattle.std.proofs.Common.{inr, refl, sym, subst}
 use Rattle.std.specs.Prelude.{IfOk}
 use Rattle.js_cursor.specs.Places.{goal as source}
 use Rattle.js_targets.specs.Taken.{PlaceTold}
 use Rattle.js_targets.specs.Targets.{Spotted, Fits}
 use Rattle.js_targets.specs.declared.widening.Widening.{Widening}
-use Rattle.js_targets.specs.declared.widening.Widening.TheVariants.{Rest, RestTarget, Operator}
 use Rattle.js_targets.proofs.ConvertedNodes.{map_ok}
 use Rattle.js_targets.proofs.PlacesTold.{argument_marked, operator_marked}
 use Rattle.js_targets.proofs.widening.tell_place.Goals as goal

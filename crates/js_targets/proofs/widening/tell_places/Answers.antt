@@ -1,4 +1,4 @@
-use Rattle.std.proofs.Common.{◌≡◌, ◌+◌, ◌<◌, refl, sym, ap, arith, length, ◌∙◌}
+use Rattle.std.proofs.Common.{◌<◌, refl, arith, length}
 use Rattle.std.proofs.lemmas.Option.{slice_get_read}
 use Rattle.js_parsing.proofs.Moving.{standing}
 use Rattle.js_targets.proofs.PlacesTold.{next_place, place_fits, place_spotted, places_begin, places_end, places_next}

@@ -2,10 +2,10 @@ use Rattle.std.proofs.Common.{ap, inr, sym, ◌∙◌}
 use Rattle.js_base.specs.Kinds.{one_of_kinds}
 use Rattle.js_operands.specs.Templates.{heads}
 use Rattle.js_operands.proofs.Members.{goes_on}
-use Rattle.js_operands.proofs.left_hand_side.chain_goes_on.Goals as goal
+use Rattle.js_operands.proofs.left_hand_side.goes_on.Goals as goal
 
 pub returns-then-begins_template : goal.returns-then-begins_template
 returns-then-begins_template g c = inr (ap (one_of_kinds heads) (sym c.cur_kind.ensures) ∙ (sym c.begins_template.ensures ∙ c.if-begins_template.true))
 
 pub returns : goal.returns
-returns g c = goes_on c.args.p.now c.link_here.result (ap (one_of_kinds heads) (sym c.cur_kind.ensures) ∙ (sym c.begins_template.ensures ∙ c.if-begins_template.false)) c.link_here.ensures
+returns g c = goes_on c.args.p.now c.args.base c.link_here.result (ap (one_of_kinds heads) (sym c.cur_kind.ensures) ∙ (sym c.begins_template.ensures ∙ c.if-begins_template.false)) c.link_here.ensures
