@@ -1,4 +1,4 @@
-//! Arrow functions (ECMA-262, section 15.3).
+//! Arrow functions (ECMA-262, sections 15.3 and 15.9).
 
 ghost use Rattle.std.specs.Prelude.{true, ◌≡◌, ◌≤◌, ◌+◌, length, MatchResult, IfOk, IsCharBoundary};
 ghost use Rattle.js_base.specs.declared.kind.Kind.TheVariants.{Arrow, LParen};
@@ -14,28 +14,73 @@ ghost use Rattle.js_parsing.specs.States.{Standing};
 
 use crate::closing::is_arrow_behind_one;
 use crate::lookahead::{HeadLookahead, is_parenthesized_head};
-use js_base::{DiagnosticKind, Kind, NoMemory};
+use js_base::{Context, DiagnosticKind, Kind, NoMemory, Span};
 use js_cursor::{ParserImpl, Stop};
 use js_lex::ParserConfig;
 use js_operands::arguments::parse_call_arguments;
+use js_operands::function::function_flags;
 use js_operands::primary::parse_leaf;
-use js_parsing::context::{assignment_in_arrow, body_in_arrow};
+use js_parsing::context::{assignment_in_arrow, body_in_arrow, context, set_context};
 use js_parsing::diagnostics::{diagnostic_at, kept_so_far};
-use js_parsing::lexemes::{advance, name_stands, stands};
+use js_parsing::lexemes::{advance, is_name, name_stands, name_stands_under, stands};
 use js_parsing::nested::Nested;
-use js_parsing::nodes::{make_one, make_two, make_with_optional};
+use js_parsing::nodes::{make_one, make_with_optional};
 use js_patterns::parameters::parse_formal_parameters;
 use js_tree::{NodeId, NodeKind, Op};
 
-/// The parameters of an arrow function, where they stand here with `=>` behind them: a name, or a list in parentheses.
-/// None where no arrow function stands, and the parser is then where it was. `Fatal` where nothing but one can stand.
+/// What stands before the `=>` of an arrow function.
+#[derive(Clone, Copy)]
+pub(crate) struct ArrowHead {
+    /// Whether `async` stands before its parameters.
+    pub is_async: bool,
+    /// Its FormalParameters.
+    pub parameters: NodeId,
+}
+
+/// The head of an arrow function, where it stands here with `=>` behind it: a name, or a list in parentheses, and `async`
+/// before either. None where no arrow function stands, and the parser is then where it was. `Fatal` where nothing but one
+/// can stand.
 pub(crate) fn parse_arrow_head<C: ParserConfig, N: Nested<C>>(
+    p: &mut ParserImpl<'_, C>,
+    nested: &N,
+) -> Result<Option<ArrowHead>, Stop>
+    requires at { Standing p.old }
+    requires nests { CanNest (N.can nested.now) (room p.old) }
+    ensures { SearchesHead p.old p.new result }
+{
+    if let Some(parameters) = parse_async_head(p, nested)? {
+        return Ok(Some(ArrowHead {
+            is_async: true,
+            parameters,
+        }));
+    }
+    let found = parse_plain_head(p, nested)?;
+    Ok(plain_head(found))
+}
+
+/// These parameters as a head without `async`.
+fn plain_head(found: Option<NodeId>) -> Option<ArrowHead>
+    ensures { IsPlainHead found result }
+{
+    match found {
+        Some(parameters) => {
+            Some(ArrowHead {
+                is_async: false,
+                parameters,
+            })
+        }
+        None => None,
+    }
+}
+
+/// The parameters of an arrow function without `async`, where they stand here with `=>` behind them.
+fn parse_plain_head<C: ParserConfig, N: Nested<C>>(
     p: &mut ParserImpl<'_, C>,
     nested: &N,
 ) -> Result<Option<NodeId>, Stop>
     requires at { Standing p.old }
     requires nests { CanNest (N.can nested.now) (room p.old) }
-    ensures { SearchesHead p.old p.new result }
+    ensures { SearchesPlainHead p.old p.new result }
 {
     if name_stands(p) {
         return parse_name_head(p);
@@ -44,6 +89,156 @@ pub(crate) fn parse_arrow_head<C: ParserConfig, N: Nested<C>>(
         return parse_head_at_parenthesis(p, nested);
     }
     Ok(None)
+}
+
+/// The parameters of an asynchronous arrow function, where `async` stands here, they on its line, and `=>` behind them
+/// (ECMA-262, section 15.9): an attempt, which is taken back where it fails.
+fn parse_async_head<C: ParserConfig, N: Nested<C>>(
+    p: &mut ParserImpl<'_, C>,
+    nested: &N,
+) -> Result<Option<NodeId>, Stop>
+    requires at { Standing p.old }
+    requires nests { CanNest (N.can nested.now) (room p.old) }
+    ensures { MatchResult result (λ found. FindsAsyncHead p.old p.new found) OnlyMemory }
+{
+    if !begins_async_head(p)? {
+        return Ok(None);
+    }
+    let here = p.checkpoint()?;
+    advance(p)?;
+    if let Some(parameters) = parse_head_behind_async(p, nested)? {
+        return Ok(Some(parameters));
+    }
+    p.rewind(here);
+    Ok(None)
+}
+
+/// Whether `async` stands here, and a name or `(` behind it on its line.
+fn begins_async_head<C: ParserConfig>(p: &mut ParserImpl<'_, C>) -> Result<bool, Stop>
+    requires { Standing p.old }
+    ensures { MatchResult result (λ found. AsyncHeadBegins p.old p.new found) OnlyMemory }
+{
+    if !stands(p, Kind::Async) {
+        return Ok(false);
+    }
+    let next = p.peek_token()?;
+    if next.is_on_new_line() {
+        return Ok(false);
+    }
+    Ok(matches!(next.kind(), Kind::LParen) || is_name(next.kind()))
+}
+
+/// The parameters of an asynchronous arrow function, behind its `async`. None: no asynchronous arrow function begins with
+/// the word, and the parser is somewhere behind.
+fn parse_head_behind_async<C: ParserConfig, N: Nested<C>>(
+    p: &mut ParserImpl<'_, C>,
+    nested: &N,
+) -> Result<Option<NodeId>, Stop>
+    requires at { Standing p.old }
+    requires nests { CanNest (N.can nested.now) (room p.old) }
+    ensures { MatchResult result (λ found. HeadBehindAsync p.old p.new found) OnlyMemory }
+{
+    if stands(p, Kind::LParen) {
+        return parse_async_head_at_parenthesis(p, nested);
+    }
+    if name_stands_under(p, context(p).has_yield(), true) {
+        return parse_name_head(p);
+    }
+    Ok(None)
+}
+
+/// FormalParameters in parentheses behind `async`, where `=>` stands behind them; they are read under Await. What begins
+/// here may be the arguments of a call too, also where `...` stands behind the parenthesis.
+fn parse_async_head_at_parenthesis<C: ParserConfig, N: Nested<C>>(
+    p: &mut ParserImpl<'_, C>,
+    nested: &N,
+) -> Result<Option<NodeId>, Stop>
+    requires at { Standing p.old }
+    requires nests { CanNest (N.can nested.now) (room p.old) }
+    requires open { p.old.token.kind ≡ LParen }
+    ensures { MatchResult result (λ found. AttemptsAsyncHead p.old p.new found) OnlyMemory }
+{
+    match is_parenthesized_head(p)? {
+        HeadLookahead::NoHead => Ok(None),
+        HeadLookahead::Head | HeadLookahead::Maybe => attempt_async_head(p, nested),
+    }
+}
+
+/// FormalParameters in parentheses behind `async`, where `=>` stands behind them and no call stands there.
+fn attempt_async_head<C: ParserConfig, N: Nested<C>>(
+    p: &mut ParserImpl<'_, C>,
+    nested: &N,
+) -> Result<Option<NodeId>, Stop>
+    requires at { Standing p.old }
+    requires nests { CanNest (N.can nested.now) (room p.old) }
+    requires open { p.old.token.kind ≡ LParen }
+    ensures { MatchResult result (λ found. AttemptsAsyncHead p.old p.new found) OnlyMemory }
+{
+    let inner = context(p).and_await(true);
+    let place = p.prev_token_end();
+    let kept = kept_so_far(p);
+    let here = p.checkpoint()?;
+    let found = try_parse_head_under(p, nested, inner)?;
+    if found.is_none() || excludes_operand(p, place, kept) {
+        return Ok(found);
+    }
+    p.rewind(here);
+    if is_call(p, nested)? {
+        return Ok(None);
+    }
+    p.note_operand_failed(place)?;
+    try_parse_head_under(p, nested, inner)
+}
+
+/// FormalParameters in parentheses under other parameters, where `=>` stands behind them. Where they don't, that is noted,
+/// and not tried again.
+fn try_parse_head_under<C: ParserConfig, N: Nested<C>>(
+    p: &mut ParserImpl<'_, C>,
+    nested: &N,
+    inner: Context,
+) -> Result<Option<NodeId>, Stop>
+    requires at { Standing p.old }
+    requires nests { CanNest (N.can nested.now) (room p.old) }
+    requires open { p.old.token.kind ≡ LParen }
+    ensures { MatchResult result (λ found. AttemptsHeadUnder inner p.old p.new found) OnlyMemory }
+{
+    let outer = context(p);
+    let start = p.prev_token_end();
+    set_context(p, inner);
+    if p.arrow_failed(start) {
+        set_context(p, outer);
+        return Ok(None);
+    }
+    let here = p.checkpoint()?;
+    let found = parse_parenthesized_head(p, nested)?;
+    if found.is_none() {
+        p.rewind(here);
+        p.note_arrow_failed(start)?;
+    }
+    set_context(p, outer);
+    Ok(found)
+}
+
+/// Whether what stands here can be read as the arguments of a call, with something else than `=>` behind them; the parser
+/// is then where it was.
+fn is_call<C: ParserConfig, N: Nested<C>>(
+    p: &mut ParserImpl<'_, C>,
+    nested: &N,
+) -> Result<bool, Stop>
+    requires at { Standing p.old }
+    requires nests { CanNest (N.can nested.now) (room p.old) }
+    requires open { p.old.token.kind ≡ LParen }
+    ensures { MatchResult result (λ found. CallTold p.old p.new found) OnlyMemory }
+{
+    let here = p.checkpoint()?;
+    let none = Vec::new(p.alloc);
+    let found = match parse_call_arguments(p, nested, true, none) {
+        Ok(_arguments) => !p.at(Kind::Arrow),
+        Err(Stop::Fatal) => false,
+        Err(Stop::NoMemory) => return Err(Stop::NoMemory),
+    };
+    p.rewind(here);
+    Ok(found)
 }
 
 /// A name as the only parameter of an arrow function, where `=>` stands behind it.
@@ -309,44 +504,60 @@ fn is_head<C: ParserConfig>(
     is_arrow_behind_one(p, start)
 }
 
-/// An arrow function, whose parameters were read from a place on (ECMA-262, section 15.3), or parentheses in their place,
+/// An arrow function, whose head was read from a place on (ECMA-262, sections 15.3 and 15.9), or parentheses in its place,
 /// of which something was told.
 #[inline(never)]
 pub(crate) fn parse_arrow_function_expression<C: ParserConfig, N: Nested<C>>(
     p: &mut ParserImpl<'_, C>,
     nested: &N,
     start: u32,
-    parameters: NodeId,
+    head: ArrowHead,
 ) -> Result<NodeId, Stop>
     requires at { Standing p.old }
     requires nests { CanNest (N.can nested.now) (room p.old) }
     requires start { start ≤ p.old.prev_token_end }
     requires arrow { p.old.token.kind ≡ Arrow }
-    ensures answers { ReadsBody start parameters p.old p.new result }
+    ensures answers { ReadsBody start head p.old p.new result }
     ensures node { IfOk result (λ id. IsNoTarget p.new id) }
 {
     check_line(p)?;
     advance(p)?;
-    let body = parse_arrow_body(p, nested)?;
+    let body = parse_arrow_body(p, nested, head.is_async)?;
     let span = p.end_span(start);
-    let kind = NodeKind::ArrowFunctionExpression;
-    let node = make_two(p, kind, Op::None, span, parameters, body)?;
+    let node = make_arrow_function(p, span, head, body)?;
     Ok(node)
 }
 
-/// The body of an arrow function (ECMA-262, section 15.3): in braces, or an expression.
+/// The node of an arrow function.
+fn make_arrow_function<C: ParserConfig>(
+    p: &mut ParserImpl<'_, C>,
+    span: Span,
+    head: ArrowHead,
+    body: NodeId,
+) -> Result<NodeId, NoMemory>
+    ensures { IfOk result (λ id. MadeHere (arrow_label head.is_async span) (Some head.parameters ∷ Some body ∷ []) p.old p.new id) }
+{
+    let kind = NodeKind::ArrowFunctionExpression;
+    let flags = function_flags(head.is_async, false);
+    let parameters = Some(head.parameters);
+    p.ast
+        .node_of_two(kind, span, Op::None, flags, parameters, Some(body))
+}
+
+/// The body of an arrow function (ECMA-262, sections 15.3 and 15.9): in braces, or an expression.
 fn parse_arrow_body<C: ParserConfig, N: Nested<C>>(
     p: &mut ParserImpl<'_, C>,
     nested: &N,
+    is_async: bool,
 ) -> Result<NodeId, Stop>
     requires at { Standing p.old }
     requires nests { CanNest (N.can nested.now) (room p.old + 1) }
-    ensures { ReadsArrowBody p.old p.new result }
+    ensures { ReadsArrowBody is_async p.old p.new result }
 {
     if p.at(Kind::LCurly) {
-        return body_in_arrow(p, nested);
+        return body_in_arrow(p, nested, is_async);
     }
-    assignment_in_arrow(p, nested)
+    assignment_in_arrow(p, nested, is_async)
 }
 
 /// Tells of `=>` on a new line.

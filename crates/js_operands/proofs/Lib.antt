@@ -1,5 +1,7 @@
 pub mod ArgumentLists
 pub mod Arrays
+mod AsyncMethods
+pub mod AsyncWords
 mod FlagFaults
 pub mod Functions
 pub mod Intrinsics

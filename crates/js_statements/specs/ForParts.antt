@@ -5,6 +5,7 @@ use Rattle.js_base.specs.declared.diagnostic.DiagnosticKind.{DiagnosticKind}
 use Rattle.js_base.specs.declared.diagnostic.DiagnosticKind.TheVariants as fault
 use Rattle.js_base.specs.declared.kind.Kind.{Kind}
 use Rattle.js_base.specs.declared.span.Span.{Span}
+use Rattle.js_base.specs.declared.token.Token.{Token}
 use Rattle.js_parsing.specs.Told.{unrelated_at}
 use Rattle.js_base.specs.declared.kind.Kind.TheVariants as kind
 use Rattle.js_grammar.specs.Trees.{Label, Slots, tree}
@@ -47,9 +48,9 @@ FindsHead p q (Some k) = (q ≡ p) × BeginsHead k p
 FindsHead p q None = (q ≡ p) × NoneBegins p
 
 -- the first part was read, one that isn't empty; or none is derived, whatever ends it
-abbrev pub TakesPartWithoutIn : Parser → Parser → Result NodeId Stop → Type 0
-TakesPartWithoutIn p q (Ok id) = (text : List ℕ) (f : Flags) → At text f p → FirstTaken text f p q (Some id)
-TakesPartWithoutIn p q (Err x) = (text : List ℕ) (f : Flags) → At text f p → Stops p q x ((e : Ending) → NoFirst text e f p.prev_token_end)
+abbrev pub TakesPartWithoutIn : Bool → Parser → Parser → Result NodeId Stop → Type 0
+TakesPartWithoutIn w p q (Ok id) = (text : List ℕ) (f : Flags) → At text f p → FirstTaken text f w p q (Some id)
+TakesPartWithoutIn w p q (Err x) = (text : List ℕ) (f : Flags) → At text f p → Stops p q x ((e : Ending) → NoFirst text w e f p.prev_token_end)
 
 -- ---- what is told of declarators before `in` and `of`
 
@@ -90,6 +91,14 @@ pub data TellsHead (k : DeclarationKind) (g : HeadForm) (alone : Bool) (p q : Pa
 -- `let` before `of` was told; or it doesn't stand so
 abbrev pub ChecksLet : Bool → Span → Parser → Parser → Type 0
 ChecksLet is_let s p q = ((is_let ≡ true) × StandsHere p kind.Of true × KeepsOne (unrelated_at fault.ForLoopLetReservedWord s) p q) ⊎ ((is_let ≡ true → StandsHere p kind.Of true → ⊥) × (q ≡ p))
+
+-- The token that was passed last is this one, `async` without an escape.
+abbrev pub IsAsyncAlone : Token → Parser → Type 0
+IsAsyncAlone first p = (first.kind ≡ kind.Async) × (first.escaped ≡ false) × (first.span.end ≡ p.prev_token_end)
+
+-- `async` alone before `of` was told, where no `await` stands before the head; or it doesn't stand so
+abbrev pub ChecksAsync : Bool → Token → Parser → Parser → Type 0
+ChecksAsync w first p q = ((w ≡ false) × IsAsyncAlone first p × StandsHere p kind.Of true × KeepsOne (unrelated_at fault.ForLoopAsyncOf first.span) p q) ⊎ ((w ≡ false → IsAsyncAlone first p → StandsHere p kind.Of true → ⊥) × (q ≡ p))
 
 -- An expression was read up to this state, by a call before which so many diagnostics were kept; `in` or `of` stands behind it.
 pub record HeadExpressionRead (start : ℕ) (id : NodeId) (kept : ℕ) (q : Parser) : Type 0 where

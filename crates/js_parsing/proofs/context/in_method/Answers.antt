@@ -6,7 +6,7 @@ pub returns : goal.returns
 returns c = record {
   allows_in = c.and_new_target.ensures.others in_flag (λ e. cc) ∙ (c.and_await.ensures.others in_flag (λ e. cc) ∙ (c.and_yield.ensures.others in_flag (λ e. cc) ∙ c.and_in.ensures.flag));
   allows_yield = c.and_new_target.ensures.others yield_flag (λ e. cc) ∙ (c.and_await.ensures.others yield_flag (λ e. cc) ∙ c.and_yield.ensures.flag);
-  no_await = c.and_new_target.ensures.others await_flag (λ e. cc) ∙ c.and_await.ensures.flag;
+  allows_await = c.and_new_target.ensures.others await_flag (λ e. cc) ∙ c.and_await.ensures.flag;
   allows_new_target = c.and_new_target.ensures.flag;
   returns_same = c.and_new_target.ensures.others return_flag (λ e. cc) ∙ (c.and_await.ensures.others return_flag (λ e. cc) ∙ (c.and_yield.ensures.others return_flag (λ e. cc) ∙ c.and_in.ensures.others return_flag (λ e. cc)));
 }
