@@ -2,7 +2,7 @@
 
 ghost use Rattle.std.specs.Prelude.{◌≡◌, ℕ, Bool, false, [], ◌∷◌, ◌++◌, length, take, Some, OnOk, OnErr};
 ghost use Rattle.js_cursor.specs.Histories.{standing, without, Pops};
-ghost use Rattle.js_cursor.specs.Notes.{HasNone, NotesFailed, NotesOperand, NotesPlace, is_noted};
+ghost use Rattle.js_cursor.specs.Notes.{HasNone, Inserts, NotesFailed, NotesOperand, NotesPlace, is_noted, stands_in};
 
 use crate::history::History;
 use js_base::{NoMemory, Span};
@@ -20,16 +20,16 @@ pub struct CoverInitializer {
     pub init: NodeId,
 }
 
-/// Places, by the parameters Await and Yield.
+/// Places, by whether `await` and `yield` are names.
 #[derive(Drop)]
-pub(crate) struct NotedPlaces {
+pub(crate) struct NotedAtNames {
     neither: BTreeSet<u32>,
     awaits: BTreeSet<u32>,
     yields: BTreeSet<u32>,
     both: BTreeSet<u32>,
 }
 
-impl Model for NotedPlaces {
+impl Model for NotedAtNames {
     ghost use Rattle.js_cursor.specs.Notes.{NotedAt};
 
     ghost Value = { NotedAt };
@@ -37,11 +37,11 @@ impl Model for NotedPlaces {
     ghost view = { λ f. record { neither = f.neither.keys; awaits = f.awaits.keys; yields = f.yields.keys; both = f.both.keys } };
 }
 
-impl NotedPlaces {
+impl NotedAtNames {
     fn new(alloc: Global) -> Self
-        ensures { (awaits : Bool) (yields : Bool) (place : ℕ) → is_noted result awaits yields place ≡ false }
+        ensures { (awaits : Bool) (yields : Bool) (place : ℕ) → stands_in result awaits yields place ≡ false }
     {
-        NotedPlaces {
+        NotedAtNames {
             neither: BTreeSet::new(alloc),
             awaits: BTreeSet::new(alloc),
             yields: BTreeSet::new(alloc),
@@ -50,7 +50,7 @@ impl NotedPlaces {
     }
 
     fn contains(&self, awaits: bool, yields: bool, place: u32) -> bool
-        ensures { result ≡ is_noted self.now awaits yields place }
+        ensures { result ≡ stands_in self.now awaits yields place }
     {
         match (awaits, yields) {
             (true, true) => self.both.contains(&place),
@@ -61,7 +61,7 @@ impl NotedPlaces {
     }
 
     fn insert(&mut self, awaits: bool, yields: bool, place: u32) -> Result<(), NoMemory>
-        ensures ok { OnOk result (NotesPlace awaits yields place self.old self.new) }
+        ensures ok { OnOk result (Inserts awaits yields place self.old self.new) }
         ensures err { OnErr result (self.new ≡ self.old) }
     {
         match (awaits, yields) {
@@ -71,6 +71,59 @@ impl NotedPlaces {
             (false, false) => self.neither.insert(place)?,
         };
         Ok(())
+    }
+}
+
+/// Places, by these and by whether `await` is an operator.
+#[derive(Drop)]
+pub(crate) struct NotedPlaces {
+    without: NotedAtNames,
+    within: NotedAtNames,
+}
+
+impl Model for NotedPlaces {
+    ghost use Rattle.js_cursor.specs.Notes.{Noted};
+
+    ghost Value = { Noted };
+
+    ghost view = { λ f. record { without = f.without; within = f.within } };
+}
+
+impl NotedPlaces {
+    fn new(alloc: Global) -> Self
+        ensures { (awaits : Bool) (operates : Bool) (yields : Bool) (place : ℕ) → is_noted result awaits operates yields place ≡ false }
+    {
+        NotedPlaces {
+            without: NotedAtNames::new(alloc),
+            within: NotedAtNames::new(alloc),
+        }
+    }
+
+    fn contains(&self, awaits: bool, operates: bool, yields: bool, place: u32) -> bool
+        ensures { result ≡ is_noted self.now awaits operates yields place }
+    {
+        if operates {
+            self.within.contains(awaits, yields, place)
+        } else {
+            self.without.contains(awaits, yields, place)
+        }
+    }
+
+    fn insert(
+        &mut self,
+        awaits: bool,
+        operates: bool,
+        yields: bool,
+        place: u32,
+    ) -> Result<(), NoMemory>
+        ensures ok { OnOk result (NotesPlace awaits operates yields place self.old self.new) }
+        ensures err { OnErr result (self.new ≡ self.old) }
+    {
+        if operates {
+            self.within.insert(awaits, yields, place)
+        } else {
+            self.without.insert(awaits, yields, place)
+        }
     }
 }
 
@@ -153,43 +206,57 @@ impl ParserState {
     }
 
     /// Whether no head of an arrow function was found at a place, under these parameters.
-    pub(crate) fn arrow_failed(&self, awaits: bool, yields: bool, place: u32) -> bool
-        ensures { result ≡ is_noted self.now.failed awaits yields place }
+    pub(crate) fn arrow_failed(
+        &self,
+        awaits: bool,
+        operates: bool,
+        yields: bool,
+        place: u32,
+    ) -> bool
+        ensures { result ≡ is_noted self.now.failed awaits operates yields place }
     {
-        self.failed.contains(awaits, yields, place)
+        self.failed.contains(awaits, operates, yields, place)
     }
 
     /// Notes that none was. The only error is want of memory, and then all stays.
     pub(crate) fn note_arrow_failed(
         &mut self,
         awaits: bool,
+        operates: bool,
         yields: bool,
         place: u32,
     ) -> Result<(), NoMemory>
-        ensures ok { OnOk result (NotesFailed awaits yields place self.old self.new) }
+        ensures ok { OnOk result (NotesFailed awaits operates yields place self.old self.new) }
         ensures err { OnErr result (self.new ≡ self.old) }
     {
-        self.failed.insert(awaits, yields, place)
+        self.failed.insert(awaits, operates, yields, place)
     }
 
     /// Whether no operand was found at a place, under these parameters.
-    pub(crate) fn operand_failed(&self, awaits: bool, yields: bool, place: u32) -> bool
-        ensures { result ≡ is_noted self.now.operands awaits yields place }
+    pub(crate) fn operand_failed(
+        &self,
+        awaits: bool,
+        operates: bool,
+        yields: bool,
+        place: u32,
+    ) -> bool
+        ensures { result ≡ is_noted self.now.operands awaits operates yields place }
     {
-        self.operands.contains(awaits, yields, place)
+        self.operands.contains(awaits, operates, yields, place)
     }
 
     /// Notes that none was. The only error is want of memory, and then all stays.
     pub(crate) fn note_operand_failed(
         &mut self,
         awaits: bool,
+        operates: bool,
         yields: bool,
         place: u32,
     ) -> Result<(), NoMemory>
-        ensures ok { OnOk result (NotesOperand awaits yields place self.old self.new) }
+        ensures ok { OnOk result (NotesOperand awaits operates yields place self.old self.new) }
         ensures err { OnErr result (self.new ≡ self.old) }
     {
-        self.operands.insert(awaits, yields, place)
+        self.operands.insert(awaits, operates, yields, place)
     }
 
     /// How many changes made the shorthands.

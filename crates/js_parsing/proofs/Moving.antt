@@ -33,7 +33,7 @@ use Rattle.js_cursor.proofs.Later.{passed_follows, read_again_follows, follows_i
 use Rattle.js_cursor.proofs.Changing.{fields_at, fields_set, entered_on}
 use Rattle.js_base.specs.declared.options.ParseOptions.{ParseOptions}
 use Rattle.js_base.specs.declared.source_type.SourceType.{SourceType}
-use Rattle.js_cursor.specs.Notes.{NotedAt, Notes, is_noted}
+use Rattle.js_cursor.specs.Notes.{Noted, Notes, is_noted}
 use Rattle.js_cursor.specs.Starts.{is_module}
 use Rattle.js_parsing.specs.Heads.{NoHead, NotedHeads, OnlyArrow, throughout}
 use Rattle.js_parsing.specs.Lexemes.{KeptFor, NoneToEnd, TriviaKept, News, other_goals, read_kinds}
@@ -80,7 +80,7 @@ flags_same p q c s o = rw (c, s, o) refl
 
 -- what is noted of heads stays right where the text and what is noted stay
 pub heads_kept : (p q : Parser) → q.text ≡ p.text → q.source_type ≡ p.source_type → q.options ≡ p.options → q.state.failed ≡ p.state.failed → q.state.operands ≡ p.state.operands → NotedHeads p → NotedHeads q
-heads_kept p q t s o h g n = (λ f x k. stays NoHead f x (n.0 f x (subst (λ (v : NotedAt). is_noted v f.await_ f.yield_ x ≡ true) h k)), λ f x k. stays OnlyArrow f x (n.1 f x (subst (λ (v : NotedAt). is_noted v f.await_ f.yield_ x ≡ true) g k)))
+heads_kept p q t s o h g n = (λ f x k. stays NoHead f x (n.0 f x (subst (λ (v : Noted). is_noted v f.await_ f.awaits f.yield_ x ≡ true) h k)), λ f x k. stays OnlyArrow f x (n.1 f x (subst (λ (v : Noted). is_noted v f.await_ f.awaits f.yield_ x ≡ true) g k)))
   where
     stays : (P : List ℕ → Flags → ℕ → Type 0) → (f : Flags) (x : ℕ) → P p.text (throughout p f) x → P q.text (throughout q f) x
     stays P f x z =

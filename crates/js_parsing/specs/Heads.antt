@@ -26,4 +26,4 @@ OnlyArrow text f s = Fails rule (Lex text) (plain (other (λ k w e. same_kind Ar
 
 -- Whatever is noted is so: no head is derived from the place, or no operand, under the parameters Await and Yield by which it is noted, whatever the others are that a production may set.
 abbrev pub NotedHeads : Parser → Type 0
-NotedHeads p = ((f : Flags) (s : ℕ) → is_noted p.state.failed f.await_ f.yield_ s ≡ true → NoHead p.text (throughout p f) s) × ((f : Flags) (s : ℕ) → is_noted p.state.operands f.await_ f.yield_ s ≡ true → OnlyArrow p.text (throughout p f) s)
+NotedHeads p = ((f : Flags) (s : ℕ) → is_noted p.state.failed f.await_ f.awaits f.yield_ s ≡ true → NoHead p.text (throughout p f) s) × ((f : Flags) (s : ℕ) → is_noted p.state.operands f.await_ f.awaits f.yield_ s ≡ true → OnlyArrow p.text (throughout p f) s)

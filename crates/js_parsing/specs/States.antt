@@ -1,7 +1,7 @@
 -- The state of a parser at the beginning of a production: the grammar parameters in force, and what stands at its place.
 use Rattle.std.specs.Prelude.{ℕ, ◌≡◌, ◌≤◌, true, false, List, IsCharBoundary}
 use Rattle.js_base.specs.declared.kind.Kind.TheVariants.{RAngle, Undetermined}
-use Rattle.js_base.specs.Contexts.{has_flag, in_flag, yield_flag, await_flag, return_flag, new_target_flag}
+use Rattle.js_base.specs.Contexts.{has_flag, reads_await, in_flag, yield_flag, await_flag, return_flag, new_target_flag}
 use Rattle.js_grammar.specs.Grammar.{Lexeme}
 use Rattle.js_grammar.specs.Lexemes.{division}
 use Rattle.js_grammar.specs.Productions.{Flags}
@@ -23,6 +23,7 @@ flags_of p = record {
   in_ = has_flag in_flag p.ctx;
   yield_ = has_flag yield_flag p.ctx;
   await_ = has_flag await_flag p.ctx;
+  awaits = reads_await p.ctx;
   return_ = has_flag return_flag p.ctx;
   new_target = has_flag new_target_flag p.ctx;
   module_goal = is_module p.source_type;

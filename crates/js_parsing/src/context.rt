@@ -3,7 +3,7 @@
 ghost use Rattle.std.specs.Prelude.{◌≡◌, ◌+◌};
 ghost use Rattle.js_grammar.specs.Productions.{at, body_of, params_of, plus_in, Assignment, Body, Expression, Params};
 ghost use Rattle.js_parsing.specs.Answers.{Answers};
-ghost use Rattle.js_parsing.specs.Contexts.{EntersMethod, arrow_body, braced_body};
+ghost use Rattle.js_parsing.specs.Contexts.{EntersMethod, SetsAwait, arrow_body, braced_body};
 ghost use Rattle.js_parsing.specs.Methods.{ReadsWhole, parameters_of};
 ghost use Rattle.js_parsing.specs.Nesting.{CanNest, room};
 ghost use Rattle.js_parsing.specs.States.{Standing};
@@ -26,6 +26,13 @@ pub fn set_context<C: ParserConfig>(p: &mut ParserImpl<'_, C>, ctx: Context)
     ensures { p.new ≡ record p.old { ctx = ctx } }
 {
     p.ctx = ctx;
+}
+
+/// With `await` as an operator and no name, or as a name and no operator.
+fn with_await(ctx: Context, is_operator: bool) -> Context
+    ensures { SetsAwait is_operator ctx result }
+{
+    ctx.and_await(is_operator).and_await_expression(is_operator)
 }
 
 /// An AssignmentExpression between brackets, under In.
@@ -56,7 +63,7 @@ pub fn assignment_in_arrow<C: ParserConfig, N: Nested<C>>(
     ensures { Answers (λ f. at Assignment (arrow_body is_async f)) p.old p.new result }
 {
     let outer = context(p);
-    set_context(p, outer.and_yield(false).and_await(is_async));
+    set_context(p, with_await(outer.and_yield(false), is_async));
     let assignment = nested.assignment(p)?;
     set_context(p, outer);
     Ok(assignment)
@@ -74,7 +81,7 @@ pub fn body_in_arrow<C: ParserConfig, N: Nested<C>>(
     ensures { Answers (λ f. at Body (braced_body is_async f)) p.old p.new result }
 {
     let outer = context(p);
-    let without = outer.and_yield(false).and_await(is_async);
+    let without = with_await(outer.and_yield(false), is_async);
     set_context(p, without.and_in(true).and_return(true));
     let body = nested.body(p)?;
     set_context(p, outer);
@@ -110,7 +117,7 @@ pub fn parameters_of_function<C: ParserConfig, N: Nested<C>>(
     ensures { Answers (λ f. at Params (params_of is_async is_generator f)) p.old p.new result }
 {
     let outer = context(p);
-    let inner = outer.and_in(true).and_yield(is_generator).and_await(is_async);
+    let inner = with_await(outer.and_in(true).and_yield(is_generator), is_async);
     set_context(p, inner.and_new_target(true));
     let parameters = nested.parameters(p)?;
     set_context(p, outer);
@@ -130,7 +137,7 @@ pub fn body_of_function<C: ParserConfig, N: Nested<C>>(
     ensures { Answers (λ f. at Body (body_of is_async is_generator f)) p.old p.new result }
 {
     let outer = context(p);
-    let inner = outer.and_in(true).and_yield(is_generator).and_await(is_async);
+    let inner = with_await(outer.and_in(true).and_yield(is_generator), is_async);
     set_context(p, inner.and_new_target(true).and_return(true));
     let body = nested.body(p)?;
     set_context(p, outer);
@@ -141,11 +148,7 @@ pub fn body_of_function<C: ParserConfig, N: Nested<C>>(
 fn in_method(outer: Context, is_async: bool, generator: bool) -> Context
     ensures { EntersMethod is_async generator outer result }
 {
-    outer
-        .and_in(true)
-        .and_yield(generator)
-        .and_await(is_async)
-        .and_new_target(true)
+    with_await(outer.and_in(true).and_yield(generator), is_async).and_new_target(true)
 }
 
 /// The parameters of a method, which is asynchronous or not, and a generator or not, in their parentheses, one level deeper
