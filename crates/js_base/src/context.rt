@@ -3,7 +3,7 @@
 ghost use Rattle.std.specs.Prelude.{⊤, ◌≡◌, ◌<◌, ◌^◌, [], ◌∷◌, codes, if◌then◌else◌};
 ghost use Rattle.std.specs.Int.RustNames.{bit_or};
 ghost use Rattle.bitflags.specs.Sets.{without};
-ghost use Rattle.js_base.specs.Contexts.{AddsFlag, SetsFlag, has_flag, in_flag, yield_flag, await_flag, return_flag, decorator_flag, disallow_conditional_types_flag, ambient_flag, top_level_flag, new_target_flag, await_expression_flag, reads_await};
+ghost use Rattle.js_base.specs.Contexts.{AddsFlag, SetsFlag, bits_of, has_flag, in_flag, yield_flag, await_flag, return_flag, decorator_flag, disallow_conditional_types_flag, ambient_flag, top_level_flag, new_target_flag, await_expression_flag, reads_await};
 
 use bitflags::{Flag, Flags, bitflag_items};
 
@@ -138,6 +138,13 @@ impl Context {
         ensures { result ≡ has_flag await_expression_flag self }
     {
         self.contains(Context::AwaitExpression)
+    }
+
+    /// The bits of the set.
+    pub fn number(self) -> u16
+        ensures { result ≡ bits_of self }
+    {
+        self.0
     }
 
     /// Whether an AwaitExpression is read: `await` is no name, and it is an operator.

@@ -5,7 +5,6 @@ ghost use Rattle.js_base.specs.declared.kind.Kind.TheVariants.{RAngle, RCurly, S
 ghost use Rattle.js_grammar.specs.Lexemes.{template_tail};
 ghost use Rattle.js_base.specs.Sources.{is_goal};
 ghost use Rattle.js_base.specs.declared.source_type.Goal.TheVariants.{Unambiguous};
-ghost use Rattle.js_base.specs.Contexts.{has_flag, await_flag, reads_await, yield_flag};
 ghost use Rattle.js_cursor.specs.Notes.{is_noted};
 ghost use Rattle.js_cursor.specs.Starts.{AtStart, Starts};
 ghost use Rattle.js_cursor.specs.Places.{IsAt};
@@ -255,14 +254,12 @@ impl<'a, C: ParserConfig> ParserImpl<'a, C> {
         Ok(())
     }
 
-    /// Whether it is known that no head of an arrow function stands at a place, under the parameters Await and Yield that
-    /// are in force.
+    /// Whether it is known that no head of an arrow function stands at a place, under the parameters that are in
+    /// force.
     pub fn arrow_failed(&self, place: u32) -> bool
-        ensures { result ≡ is_noted self.now.state.failed (has_flag await_flag self.now.ctx) (reads_await self.now.ctx) (has_flag yield_flag self.now.ctx) place }
+        ensures { result ≡ is_noted self.now.state.failed self.now.ctx place }
     {
-        let ctx = self.ctx;
-        self.state
-            .arrow_failed(ctx.has_await(), ctx.reads_await(), ctx.has_yield(), place)
+        self.state.arrow_failed(self.ctx, place)
     }
 
     /// Notes that none stands there, under the parameters that are in force. It stays noted when the parser goes back. The
@@ -272,19 +269,15 @@ impl<'a, C: ParserConfig> ParserImpl<'a, C> {
         ensures ok { OnOk result (NotesArrow place self.old self.new) }
         ensures err { OnErr result (self.new ≡ self.old) }
     {
-        let ctx = self.ctx;
-        self.state
-            .note_arrow_failed(ctx.has_await(), ctx.reads_await(), ctx.has_yield(), place)
+        self.state.note_arrow_failed(self.ctx, place)
     }
 
     /// Whether it is known that no operand stands at a place, since the head of an arrow function does, under the
-    /// parameters Await and Yield that are in force.
+    /// parameters that are in force.
     pub fn operand_failed(&self, place: u32) -> bool
-        ensures { result ≡ is_noted self.now.state.operands (has_flag await_flag self.now.ctx) (reads_await self.now.ctx) (has_flag yield_flag self.now.ctx) place }
+        ensures { result ≡ is_noted self.now.state.operands self.now.ctx place }
     {
-        let ctx = self.ctx;
-        self.state
-            .operand_failed(ctx.has_await(), ctx.reads_await(), ctx.has_yield(), place)
+        self.state.operand_failed(self.ctx, place)
     }
 
     /// Notes that none stands there, under the parameters that are in force. It stays noted when the parser goes back. The
@@ -294,9 +287,7 @@ impl<'a, C: ParserConfig> ParserImpl<'a, C> {
         ensures ok { OnOk result (NotesNoOperand place self.old self.new) }
         ensures err { OnErr result (self.new ≡ self.old) }
     {
-        let ctx = self.ctx;
-        self.state
-            .note_operand_failed(ctx.has_await(), ctx.reads_await(), ctx.has_yield(), place)
+        self.state.note_operand_failed(self.ctx, place)
     }
 
     /// Goes so many levels deeper. `NoMemory` exactly where that is deeper than `MAX_DEPTH`, and all then stays.

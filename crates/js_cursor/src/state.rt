@@ -1,11 +1,11 @@
 //! What a parser notes on its way.
 
-ghost use Rattle.std.specs.Prelude.{◌≡◌, ℕ, Bool, false, [], ◌∷◌, ◌++◌, length, take, Some, OnOk, OnErr};
+ghost use Rattle.std.specs.Prelude.{◌≡◌, ℕ, List, [], ◌∷◌, ◌++◌, length, take, Some, OnOk, OnErr};
 ghost use Rattle.js_cursor.specs.Histories.{standing, without, Pops};
-ghost use Rattle.js_cursor.specs.Notes.{HasNone, Inserts, NotesFailed, NotesOperand, NotesPlace, is_noted, stands_in};
+ghost use Rattle.js_cursor.specs.Notes.{HasNone, NotesFailed, NotesOperand, NotesPlace, is_noted, noted_number};
 
 use crate::history::History;
-use js_base::{NoMemory, Span};
+use js_base::{Context, NoMemory, Span};
 use js_tree::NodeId;
 use std::alloc::Global;
 use std::collections::BTreeSet;
@@ -20,110 +20,46 @@ pub struct CoverInitializer {
     pub init: NodeId,
 }
 
-/// Places, by whether `await` and `yield` are names.
-#[derive(Drop)]
-pub(crate) struct NotedAtNames {
-    neither: BTreeSet<u32>,
-    awaits: BTreeSet<u32>,
-    yields: BTreeSet<u32>,
-    both: BTreeSet<u32>,
-}
-
-impl Model for NotedAtNames {
-    ghost use Rattle.js_cursor.specs.Notes.{NotedAt};
-
-    ghost Value = { NotedAt };
-
-    ghost view = { λ f. record { neither = f.neither.keys; awaits = f.awaits.keys; yields = f.yields.keys; both = f.both.keys } };
-}
-
-impl NotedAtNames {
-    fn new(alloc: Global) -> Self
-        ensures { (awaits : Bool) (yields : Bool) (place : ℕ) → stands_in result awaits yields place ≡ false }
-    {
-        NotedAtNames {
-            neither: BTreeSet::new(alloc),
-            awaits: BTreeSet::new(alloc),
-            yields: BTreeSet::new(alloc),
-            both: BTreeSet::new(alloc),
-        }
-    }
-
-    fn contains(&self, awaits: bool, yields: bool, place: u32) -> bool
-        ensures { result ≡ stands_in self.now awaits yields place }
-    {
-        match (awaits, yields) {
-            (true, true) => self.both.contains(&place),
-            (true, false) => self.awaits.contains(&place),
-            (false, true) => self.yields.contains(&place),
-            (false, false) => self.neither.contains(&place),
-        }
-    }
-
-    fn insert(&mut self, awaits: bool, yields: bool, place: u32) -> Result<(), NoMemory>
-        ensures ok { OnOk result (Inserts awaits yields place self.old self.new) }
-        ensures err { OnErr result (self.new ≡ self.old) }
-    {
-        match (awaits, yields) {
-            (true, true) => self.both.insert(place)?,
-            (true, false) => self.awaits.insert(place)?,
-            (false, true) => self.yields.insert(place)?,
-            (false, false) => self.neither.insert(place)?,
-        };
-        Ok(())
-    }
-}
-
-/// Places, by these and by whether `await` is an operator.
+/// Places, each by the parameters in force there.
 #[derive(Drop)]
 pub(crate) struct NotedPlaces {
-    without: NotedAtNames,
-    within: NotedAtNames,
+    numbers: BTreeSet<u64>,
 }
 
 impl Model for NotedPlaces {
-    ghost use Rattle.js_cursor.specs.Notes.{Noted};
+    ghost Value = { List ℕ };
 
-    ghost Value = { Noted };
+    ghost view = { λ f. f.numbers.keys };
+}
 
-    ghost view = { λ f. record { without = f.without; within = f.within } };
+/// A place and the parameters in force there, as one number.
+fn noted_number(ctx: Context, place: u32) -> u64
+    ensures { result ≡ noted_number ctx place }
+{
+    u64::from(place) * 65_536 + u64::from(ctx.number())
 }
 
 impl NotedPlaces {
     fn new(alloc: Global) -> Self
-        ensures { (awaits : Bool) (operates : Bool) (yields : Bool) (place : ℕ) → is_noted result awaits operates yields place ≡ false }
+        ensures { result ≡ [] }
     {
         NotedPlaces {
-            without: NotedAtNames::new(alloc),
-            within: NotedAtNames::new(alloc),
+            numbers: BTreeSet::new(alloc),
         }
     }
 
-    fn contains(&self, awaits: bool, operates: bool, yields: bool, place: u32) -> bool
-        ensures { result ≡ is_noted self.now awaits operates yields place }
+    fn contains(&self, ctx: Context, place: u32) -> bool
+        ensures { result ≡ is_noted self.now ctx place }
     {
-        if operates {
-            self.within.contains(awaits, yields, place)
-        } else {
-            self.without.contains(awaits, yields, place)
-        }
+        self.numbers.contains(&noted_number(ctx, place))
     }
 
-    fn insert(
-        &mut self,
-        awaits: bool,
-        operates: bool,
-        yields: bool,
-        place: u32,
-    ) -> Result<(), NoMemory>
-        ensures ok { OnOk result (NotesPlace awaits operates yields place self.old self.new) }
+    fn insert(&mut self, ctx: Context, place: u32) -> Result<(), NoMemory>
+        ensures ok { OnOk result (NotesPlace ctx place self.old self.new) }
         ensures err { OnErr result (self.new ≡ self.old) }
     {
-        if operates {
-            self.within.insert(awaits, yields, place)
-        } else {
-            self.without.insert(awaits, yields, place)
-        }
+        self.numbers.insert(noted_number(ctx, place))?;
+        Ok(())
     }
 }
 
@@ -206,57 +142,41 @@ impl ParserState {
     }
 
     /// Whether no head of an arrow function was found at a place, under these parameters.
-    pub(crate) fn arrow_failed(
-        &self,
-        awaits: bool,
-        operates: bool,
-        yields: bool,
-        place: u32,
-    ) -> bool
-        ensures { result ≡ is_noted self.now.failed awaits operates yields place }
+    pub(crate) fn arrow_failed(&self, ctx: Context, place: u32) -> bool
+        ensures { result ≡ is_noted self.now.failed ctx place }
     {
-        self.failed.contains(awaits, operates, yields, place)
+        self.failed.contains(ctx, place)
     }
 
     /// Notes that none was. The only error is want of memory, and then all stays.
     pub(crate) fn note_arrow_failed(
         &mut self,
-        awaits: bool,
-        operates: bool,
-        yields: bool,
+        ctx: Context,
         place: u32,
     ) -> Result<(), NoMemory>
-        ensures ok { OnOk result (NotesFailed awaits operates yields place self.old self.new) }
+        ensures ok { OnOk result (NotesFailed ctx place self.old self.new) }
         ensures err { OnErr result (self.new ≡ self.old) }
     {
-        self.failed.insert(awaits, operates, yields, place)
+        self.failed.insert(ctx, place)
     }
 
     /// Whether no operand was found at a place, under these parameters.
-    pub(crate) fn operand_failed(
-        &self,
-        awaits: bool,
-        operates: bool,
-        yields: bool,
-        place: u32,
-    ) -> bool
-        ensures { result ≡ is_noted self.now.operands awaits operates yields place }
+    pub(crate) fn operand_failed(&self, ctx: Context, place: u32) -> bool
+        ensures { result ≡ is_noted self.now.operands ctx place }
     {
-        self.operands.contains(awaits, operates, yields, place)
+        self.operands.contains(ctx, place)
     }
 
     /// Notes that none was. The only error is want of memory, and then all stays.
     pub(crate) fn note_operand_failed(
         &mut self,
-        awaits: bool,
-        operates: bool,
-        yields: bool,
+        ctx: Context,
         place: u32,
     ) -> Result<(), NoMemory>
-        ensures ok { OnOk result (NotesOperand awaits operates yields place self.old self.new) }
+        ensures ok { OnOk result (NotesOperand ctx place self.old self.new) }
         ensures err { OnErr result (self.new ≡ self.old) }
     {
-        self.operands.insert(awaits, operates, yields, place)
+        self.operands.insert(ctx, place)
     }
 
     /// How many changes made the shorthands.
