@@ -1,7 +1,7 @@
 -- Arrow functions (ECMA-262, 15.3), and where none is derived.
 use Rattle.std.proofs.Common.{ℕ, ◌≡◌, ◌≤◌, ◌<◌, ◌⊎◌, inl, inr, List, [], ◌∷◌, length, Bool, true, false, not, cond, ◌&&◌, ◌||◌, IsTrue, Option, Some, None, refl, sym, ap, subst, arith, ◌∙◌}
 use Rattle.std.specs.Prelude.{IsCharBoundary, Result, Ok, Err, nat_lt}
-use Rattle.std.proofs.lemmas.Bool.{false≢true, and_parts, and_from, or_left, or_right}
+use Rattle.std.proofs.lemmas.Bool.{false≢true, and_parts, or_left, or_right}
 use Rattle.js_base.specs.Contexts.{has_flag, yield_flag}
 use Rattle.js_base.specs.declared.kind.Kind.{Kind}
 use Rattle.js_base.specs.declared.kind.Kind.TheVariants.{Arrow, Await, Comma, LParen, LCurly, RAngle, Yield, RegExp}
@@ -23,9 +23,9 @@ use Rattle.js_grammar.specs.Table.{rule, rule_of}
 use Rattle.js_grammar.specs.Follow.{after, looser, row_of, widest}
 use Rattle.js_grammar.proofs.Heads.{One, the_last, and_more, begins_head, operand_taken, in_one, one_name}
 use Rattle.js_grammar.proofs.Looks.{covers, covered, apart, not_both}
-use Rattle.js_grammar.proofs.RightEdges.{may_end, of_operand, first_row}
+use Rattle.js_grammar.proofs.RightEdges.{may_end}
 use Rattle.js_grammar.proofs.Calculus.{On, Inside, inside_full, ◌▹◌, ◌▹✗◌, here_at, done, left, right, looks, part_fails, fails_node, fails_look}
-use Rattle.js_grammar.proofs.FollowLaws.{row_claimed, fails_by}
+use Rattle.js_grammar.proofs.FollowLaws.{fails_by}
 use Rattle.js_base.specs.declared.token.Token.{Token}
 use Rattle.js_grammar.specs.Grammar.{empty_slot}
 use Rattle.js_grammar.specs.Lexemes.{is_word, division}
@@ -72,10 +72,12 @@ use Rattle.js_expressions.specs.Arrows.{body_of, head_of, late_arrow, ArrowBehin
 use Rattle.js_parsing.specs.Heads.{NoHead, NotedHeads}
 use Rattle.js_expressions.specs.Rests.{OnlyOperandHere}
 use Rattle.js_expressions.specs.Closings.{ArrowBehindOne}
-use Rattle.js_expressions.proofs.Closings.{closes_alike, one_is}
+use Rattle.js_expressions.proofs.Closings.{closes_alike}
+use Rattle.js_expressions.proofs.OnePlace.{calm, one_alone, one_move, one_told}
+use Rattle.js_expressions.proofs.ParenthesizedFronts.{no_arrow_admitted}
 use Rattle.js_cursor.specs.Tokens.{may_be_read_again}
 use Rattle.js_parsing.proofs.KeptTokens.{before_back, last_back}
-use Rattle.js_parsing.specs.Lexemes.{Lex, name_kinds, spot, slashes, Plain, may_name}
+use Rattle.js_parsing.specs.Lexemes.{Lex, name_kinds, other_goals, signs, spot, slashes, Plain, may_name}
 use Rattle.js_parsing.specs.Moves.{Moved, MadeHere, LeafTaken, TakesLeaf, plain_label}
 use Rattle.js_parsing.specs.States.{At, Same, Standing, flags_of, IsPlain, whole, sign, nothing as nothing_here, NodesLie, SpansLie}
 use Rattle.js_targets.proofs.ArraysBeforeSigns.{is_cover, not_wide}
@@ -92,7 +94,7 @@ use Rattle.js_parsing.proofs.Told.{beside_errors}
 use Rattle.js_parsing.proofs.Unbuilt.{nothing_unbuilt}
 use Rattle.js_parsing.proofs.ToEnd.{to_end_stays}
 use Rattle.js_parsing.proofs.Giving.{kept_one}
-use Rattle.js_parsing.proofs.Here.{alike, angled, found, plainly, one_plain, newline_here, kind_here, told, uncut, told_plain, plain_there, Plainly}
+use Rattle.js_parsing.proofs.Here.{angled, found, plainly, one_plain, newline_here, kind_here, told, uncut, told_plain}
 use Rattle.js_parsing.proofs.MadeNodes.{leaf_held, node_held, two_held, one_lies, LabelLies, from_start}
 use Rattle.js_parsing.proofs.Moving.{beside_nodes, flags_same, heads_kept, same_both, same_itself, same_with, stops_behind, nodes_lie}
 use Rattle.js_operands.proofs.Operands.{by_path, by_such, name_signless}
@@ -105,94 +107,59 @@ use Rattle.js_parsing.proofs.Verdicts.{grown_first, grown_then, grown_both}
 use Rattle.js_parsing.specs.Classes.{IsEarly}
 use Rattle.js_parsing.proofs.Classes.{kept_early}
 use Rattle.std.proofs.lemmas.List.Elements.{All-same}
-use Rattle.js_grammar.proofs.Alike.{lex-same}
 
 -- ---- what begins like a head, with `=>` behind it, is no operand
 
 none_open : {b : ℕ} {s : List ℕ} → Some [] ≡ Some (b ∷ s) → ⊥
 none_open e = cc
 
--- a lexeme that is the same in every lexical goal
-abbrev pub calm : Kind → Bool
-calm k = not (one_of_kinds (RegExp ∷ slashes) k)
-
--- each lexeme is, up to where no bracket is open
+-- each lexeme is neither a regular expression nor a sign that begins with a slash, up to where no bracket is open
 abbrev pub AllCalm : {st : List ℕ} {ls r : Lexemes} {e : ℕ} → One st ls e r → Type 0
 AllCalm (the_last {x = x} p) = calm x.kind ≡ true
 AllCalm (and_more {x = x} p o) = (calm x.kind ≡ true) × AllCalm o
 
--- it is what stands there
-one_calm : {text : List ℕ} {s : ℕ} {x y : Lexeme} → Lex text s x → Lex text s y → calm x.kind ≡ true → x ≡ y
-one_calm {text} {s} {x} {y} l m c = by (plain_there m)
-  where
-    parts : (a b : Bool) → not (a || b) ≡ true → (a ≡ false) × (b ≡ false)
-    parts true b h = absurd (false≢true h)
-    parts false true h = absurd (false≢true h)
-    parts false false h = (refl, refl)
-
-    k : (same_kind RegExp x.kind ≡ false) × (one_of_kinds slashes x.kind ≡ false)
-    k = parts (same_kind RegExp x.kind) (one_of_kinds slashes x.kind) c
-
-    by : Plainly text s y → x ≡ y
-    by z = which z.which
-      where
-        same : x ≡ z.lexeme
-        same = lex-same l.0 z.stands.lex (plainly l.0 l.1 k.0 ∙ sym z.stands.of_goal)
-
-        which : (z.lexeme ≡ y) ⊎ ((y.kind ≡ RegExp) × (one_of_kinds slashes z.lexeme.kind ≡ true)) → x ≡ y
-        which (inl e) = same ∙ e
-        which (inr e) = absurd (false≢true (sym k.1 ∙ subst (λ (v : Lexeme). one_of_kinds slashes v.kind ≡ true) (sym same) e.1))
-
--- two lists of lexemes from one place go on alike, where those of the first are the same in every lexical goal
+-- two lists of lexemes from one place go on alike, where those of the first are so
 agree : (text : List ℕ) (s : ℕ) {st : List ℕ} {ls ls' r r' : Lexemes} {e e' : ℕ} → Lexes (Lex text) s ls → Lexes (Lex text) s ls' → (o : One st ls e r) → One st ls' e' r' → AllCalm o → (e ≡ e') × Lexes (Lex text) e r × Lexes (Lex text) e' r'
-agree text s l m (the_last {x = x} p) (the_last {x = y} q) c = (ap (λ (z : Lexeme). z.to) (one_calm l.0 m.0 c), l.1, m.1)
-agree text s {st = st} l m (the_last {x = x} p) (and_more {x = y} q o) c = absurd (none_open (sym p ∙ (ap (λ (z : Lexeme). move (bracket z.kind) st) (one_calm l.0 m.0 c) ∙ q)))
-agree text s {st = st} l m (and_more {x = x} p o) (the_last {x = y} q) c = absurd (none_open (sym q ∙ (ap (λ (z : Lexeme). move (bracket z.kind) st) (sym (one_calm l.0 m.0 c.0)) ∙ p)))
+agree text s {st = st} l m (the_last {x = x} p) (the_last {x = y} q) c = (ap (λ (z : Lexeme). z.to) (one_move st l.0 m.0 c p q), l.1, m.1)
+agree text s {st = st} l m (the_last {x = x} p) (and_more {x = y} q o) c = absurd (none_open (sym p ∙ (ap (λ (z : Lexeme). move (bracket z.kind) st) (one_move st l.0 m.0 c p q) ∙ q)))
+agree text s {st = st} l m (and_more {x = x} p o) (the_last {x = y} q) c = absurd (none_open (sym q ∙ (ap (λ (z : Lexeme). move (bracket z.kind) st) (sym (one_move st l.0 m.0 c.0 p q)) ∙ p)))
 agree text s {st = st} {r' = r'} {e' = e'} l m (and_more {b = b} {s = t} {x = x} p o) (and_more {b = c} {s = u} {x = y} {ls = ls'} q o') d =
-    let w : x ≡ y = one_calm l.0 m.0 d.0 in
+    let w : x ≡ y = one_move st l.0 m.0 d.0 p q in
     let v : Some (c ∷ u) ≡ Some (b ∷ t) = sym q ∙ (ap (λ (z : Lexeme). move (bracket z.kind) st) (sym w) ∙ p) in
     let z : c ∷ u ≡ b ∷ t = cc in
     agree text x.to l.1 (subst (λ (x : Lexeme). Lexes (Lex text) x.to ls') (sym w) m.1) o (subst (λ (n : List ℕ). One n ls' e' r') z o') d.1
 
--- the first one is
-first_calm : {st : List ℕ} {ls r : Lexemes} {e : ℕ} (o : One st ls e r) → AllCalm o → calm (here ls).kind ≡ true
-first_calm (the_last p) c = c
-first_calm (and_more p o) c = c.0
+-- what a head begins with stands alone, and so does its arrow
+abbrev stands_alone : Look
+stands_alone k w e = not (one_of_kinds other_goals k || one_of_kinds signs k)
 
--- an arrow binds tighter than any operator
-abbrev an_arrow : Look
-an_arrow k w e = same_kind Arrow k && not e
-
-arrow_binds : (b : Bool) (r : Row) → of_operand r ≡ true → covers an_arrow (λ k w e. not (looser 4 b r k w e)) ≡ true
+heads_alone : covers begins_head stands_alone ≡ true
 unfolding covers
-arrow_binds true after_expression h = refl
-arrow_binds true after_postfix h = refl
-arrow_binds false after_expression h = refl
-arrow_binds false after_postfix h = refl
-arrow_binds b after_body h = absurd (false≢true h)
-arrow_binds b after_yield h = absurd (false≢true h)
-arrow_binds b after_declarator h = absurd (false≢true h)
-arrow_binds b after_word h = absurd (false≢true h)
+heads_alone = refl
 
-contrary : (b : Bool) → not b ≡ true → b ≡ true → ⊥
-contrary true h e = false≢true h
-contrary false h e = false≢true e
+same_head : {text : List ℕ} {s : ℕ} {x y : Lexeme} → Lex text s x → Lex text s y → IsTrue (seen begins_head x) → x ≡ y
+same_head {x = x} {y = y} l m b = go (one_of_kinds other_goals x.kind) refl (one_of_kinds signs x.kind) refl (covered begins_head stands_alone heads_alone x.kind x.newline x.escaped b)
+  where
+    go : (a : Bool) → one_of_kinds other_goals x.kind ≡ a → (c : Bool) → one_of_kinds signs x.kind ≡ c → not (a || c) ≡ true → x ≡ y
+    go true o c n h = absurd (false≢true h)
+    go false o true n h = absurd (false≢true h)
+    go false o false n h = one_alone l m o n
+
+same_arrow : {text : List ℕ} {s : ℕ} {x y : Lexeme} → Lex text s x → Lex text s y → x.kind ≡ Arrow → x ≡ y
+same_arrow l m k = one_alone l m (ap (one_of_kinds other_goals) k) (ap (one_of_kinds signs) k)
 
 pub no_operand : {text : List ℕ} (f : Flags) {s : ℕ} {ls r : Lexemes} {e : ℕ} → Lexes (Lex text) s ls → (o : One [] ls e r) → AllCalm o → IsTrue (seen begins_head (here ls)) → same_kind Arrow (here r).kind ≡ true → Underived text (at Short f) s
 no_operand {text} f {s} {ls} {r} {e} l o c b k = record { no = λ ts vs j ls' rest m d a. go ts m d a }
   where
     go : (ts : Slots) {vs : Slots} {j : ℕ} {ls' rest : Lexemes} → Lexes (Lex text) s ls' → Takes rule (such (at Short f) always) end ts s ls' vs j rest → Admits (after (at Short f)) ts (here rest) → ⊥
     go ts {ls' = ls'} {rest = rest} m d a =
-        let same : here ls ≡ here ls' = one_calm (here_at (Lex text) ls l) (here_at (Lex text) ls' m) (first_calm o c) in
+        let same : here ls ≡ here ls' = same_head (here_at (Lex text) ls l) (here_at (Lex text) ls' m) b in
         let z = operand_taken (at Short f) refl d (subst (λ (y : Lexeme). IsTrue (seen begins_head y)) same b) in
         let g = agree text s l m o z.2 c in
-        let w : here r ≡ here z.1 = one_calm (here_at (Lex text) r g.1) (subst (λ (v : ℕ). Lex text v (here z.1)) (sym g.0) (here_at (Lex text) z.1 g.2)) (ap calm (sym (kind_of_same Arrow (here r).kind k))) in
+        let w : here r ≡ here z.1 = same_arrow (here_at (Lex text) r g.1) (subst (λ (v : ℕ). Lex text v (here z.1)) (sym g.0) (here_at (Lex text) z.1 g.2)) (sym (kind_of_same Arrow (here r).kind k)) in
         let arrow : same_kind Arrow (here z.1).kind ≡ true = subst (λ (y : Lexeme). same_kind Arrow y.kind ≡ true) w k in
-        let read : Lex text e (here r) = here_at (Lex text) r g.1 in
         elim z.3 [
-          | inl q ↦
-              let t : here rest ≡ here r = ap here q ∙ sym w in
-              contrary (seen (looser 4 f.in_ (first_row ts)) (here rest)) (covered an_arrow (λ k w e. not (looser 4 f.in_ (first_row ts) k w e)) (arrow_binds f.in_ (first_row ts) (row_claimed d)) (here rest).kind (here rest).newline (here rest).escaped (subst (λ (y : Lexeme). IsTrue (seen an_arrow y)) (sym t) (and_from _ _ k (ap not (read_plain (here r) read.1))))) a.1
+          | inl q ↦ no_arrow_admitted text f ts m d a (ap (λ (v : Lexemes). same_kind Arrow (here v).kind) q ∙ arrow)
           | inr n ↦ false≢true (sym n ∙ arrow)
         ]
 
@@ -366,8 +333,8 @@ module _ {text : List ℕ} {f : Flags} {p : Parser} {t : Token} (a : At text f p
   -- an arrow is told where it stands
   pub arrow_peeked : (y : Lexeme) → Lex text p.token.span.end y → y.kind ≡ Arrow → t.kind ≡ Arrow
   arrow_peeked y l k = given_behind
-      (λ d u n. absurd (n.none y (record { lex = l.0; of_goal = plainly l.0 l.1 (ap (same_kind RegExp) k) })))
-      (λ x. x.tells.kind ∙ (ap (λ (z : Lexeme). z.kind) (cut_same x.lexeme (ap is_right_angle (ap (λ (z : Lexeme). z.kind) (sym (one_plain l (ap (same_kind RegExp) k) x)) ∙ k))) ∙ (ap (λ (z : Lexeme). z.kind) (sym (one_plain l (ap (same_kind RegExp) k) x)) ∙ k)))
+      (λ d u n. absurd (n.none y (record { lex = l.0; of_goal = plainly l.0 l.1 (ap (one_of_kinds other_goals) k) })))
+      (λ x. x.tells.kind ∙ (ap (λ (z : Lexeme). z.kind) (cut_same x.lexeme (ap is_right_angle (ap (λ (z : Lexeme). z.kind) (sym (one_plain l (ap (one_of_kinds other_goals) k) x)) ∙ k))) ∙ (ap (λ (z : Lexeme). z.kind) (sym (one_plain l (ap (one_of_kinds other_goals) k) x)) ∙ k)))
 
   pub arrow_told : t.kind ≡ Arrow → (y : Lexeme) × Lex text p.token.span.end y × (y.kind ≡ Arrow)
   arrow_told k = given_behind (λ d u n. let w : Arrow ≡ Undetermined = sym k ∙ u in absurd (cc)) (λ x. by x (is_right_angle x.lexeme.kind) refl)
@@ -420,7 +387,7 @@ one_behind text s l (and_more {x = x} m o) = one_behind text x.to l.1 o
 lexeme_from : {text : List ℕ} {s : ℕ} {y : Lexeme} → Lex text s y → s ≤ y.from
 lexeme_from l = let e = l.0.from in omega arith
 
--- where a head was read whose lexemes are the same in every lexical goal, no operand is derived
+-- where a head was read, and none of its lexemes is a regular expression or a sign that begins with a slash, no operand is derived
 pub head_no_operand : {text : List ℕ} {f : Flags} {o p : Parser} {id : NodeId} → Head text f o p id → p.token.kind ≡ Arrow → ((ls r : Lexemes) (e : ℕ) → Lexes (Lex text) o.prev_token_end ls → (z : One [] ls e r) → e ≤ p.token.span.start → AllCalm z) → Underived text (at Short f) o.prev_token_end
 head_no_operand {text} {f} {o} {p} h k c =
     let y = arrow_here h.at k in
@@ -436,7 +403,7 @@ arrow_is_here {p = p} a y l k = by p.cut refl
   where
     by : (b : Bool) → p.cut ≡ b → p.token.kind ≡ Arrow
     by true e = absurd (false≢true (ap is_right_angle (sym k) ∙ angled a e y l))
-    by false e = (told_plain a e y (ap (same_kind RegExp) k) l).kind ∙ k
+    by false e = (told_plain a e y (ap (one_of_kinds other_goals) k) l).kind ∙ k
 
 pub behind_so : (p q : Parser) {b r : Bool} → r ≡ b → ArrowBehind p q r → ArrowBehind p q b
 behind_so p q e h = subst (λ (v : Bool). ArrowBehind p q v) e h
@@ -501,12 +468,10 @@ no_operand_there {text} {f} {p} a k h = record { no = λ ts vs j ls rest m d e. 
         let z = operand_taken (at Short f) refl d (or_right (may_bind (here ls).kind) (same_kind LParen (here ls).kind) (ap (same_kind LParen) paren)) in
         let g = closes_alike text p.prev_token_end m z.2 h.closing in
         let l : Lex text z.0 (here z.1) = here_at (Lex text) z.1 g.1 in
-        let w : here z.1 ≡ h.arrow = one_is l (subst (λ (v : ℕ). LexemeBehind division text v h.arrow) (sym g.0) h.stands, ap (one_of_kinds slashes) h.is) in
+        let w : here z.1 ≡ h.arrow = one_told l (subst (λ (v : ℕ). LexemeBehind division text v h.arrow) (sym g.0) h.stands) (ap (one_of_kinds signs) h.is) in
         let arrow : same_kind Arrow (here z.1).kind ≡ true = ap (same_kind Arrow) (ap (λ (y : Lexeme). y.kind) w ∙ h.is) in
         elim z.3 [
-          | inl q ↦
-              let t : here rest ≡ here z.1 = ap here q in
-              contrary (seen (looser 4 f.in_ (first_row ts)) (here rest)) (covered an_arrow (λ k w e. not (looser 4 f.in_ (first_row ts) k w e)) (arrow_binds f.in_ (first_row ts) (row_claimed d)) (here rest).kind (here rest).newline (here rest).escaped (subst (λ (y : Lexeme). IsTrue (seen an_arrow y)) (sym t) (and_from _ _ arrow (ap not (read_plain (here z.1) l.1))))) e.1
+          | inl q ↦ no_arrow_admitted text f ts m d e (ap (λ (v : Lexemes). same_kind Arrow (here v).kind) q ∙ arrow)
           | inr n ↦ false≢true (sym n ∙ arrow)
         ]
 

@@ -5,7 +5,7 @@ use Rattle.std.specs.Prelude.{IsCharBoundary, is_some, if◌then◌else◌}
 use Rattle.std.proofs.lemmas.Bool.{false≢true, and_from}
 use Rattle.js_base.specs.declared.diagnostic.Diagnostic.{Diagnostic}
 use Rattle.js_base.specs.declared.kind.Kind.{Kind}
-use Rattle.js_base.specs.declared.kind.Kind.TheVariants.{Question, Eq, RegExp}
+use Rattle.js_base.specs.declared.kind.Kind.TheVariants.{Question, Eq}
 use Rattle.js_base.specs.declared.operator.AssignmentOperator.{AssignmentOperator}
 use Rattle.js_base.specs.declared.span.Span.{Span}
 use Rattle.js_base.specs.Kinds.{same_kind, one_of_kinds}

@@ -3,7 +3,7 @@ use Rattle.std.proofs.Common.{ℕ, ◌≡◌, Bool, true, false, not, cond, ◌|
 use Rattle.std.specs.Prelude.{IsCharBoundary, IsUtf8, Result, Ok, Err, IfOk}
 use Rattle.std.proofs.lemmas.Bool.{false≢true, eq-eqb}
 use Rattle.js_base.specs.declared.kind.Kind.{Kind}
-use Rattle.js_base.specs.declared.kind.Kind.TheVariants.{Arrow, LParen, LBrack, LCurly, RParen, RBrack, RCurly, RAngle, Undetermined, RegExp, Slash, SlashEq}
+use Rattle.js_base.specs.declared.kind.Kind.TheVariants.{Arrow, LParen, LBrack, LCurly, RParen, RBrack, RCurly, TemplateHead, TemplateMiddle, TemplateTail, RAngle, Undetermined, Slash, SlashEq}
 use Rattle.js_base.specs.declared.diagnostic.Diagnostic.{Diagnostic}
 use Rattle.js_base.specs.declared.token.Token.{Token}
 use Rattle.js_base.specs.Kinds.{same_kind, one_of_kinds}
@@ -12,16 +12,14 @@ use Rattle.js_grammar.specs.Brackets.{Bracket, plain, opens, closes, bracket, mo
 use Rattle.js_grammar.specs.Grammar.{Lexeme, Lexemes}
 use Rattle.js_grammar.specs.Lexed.{Lexes}
 use Rattle.js_grammar.specs.Lexemes.{division}
-use Rattle.js_grammar.proofs.Alike.{lex-same}
 use Rattle.js_grammar.proofs.Heads.{One, the_last, and_more}
 use Rattle.js_lex.specs.Reading.{cut, is_right_angle, Tells, GivesLexeme, GivesNone, GivesBehind, LexemeBehind, Outcome}
 use Rattle.js_lex.proofs.Again.{cut_same, passed}
 use Rattle.js_lex.proofs.StringPlaces.{front_word}
 use Rattle.js_parsing.specs.Lexemes.{Lex, slashes}
-use Rattle.js_parsing.proofs.Here.{plainly}
 use Rattle.js_expressions.specs.declared.closing.OpenBracket.{OpenBracket}
 use Rattle.js_expressions.specs.Closings.{number_of, Closing, closed, inside, ArrowBehindOne, open_behind, tells_whole, BracketPassed, LastClosed, Opened, ArrowStands, ArrowFound, Settled}
-use Rattle.js_parsing.proofs.Slashes.{slash_there}
+use Rattle.js_expressions.proofs.OnePlace.{one_plain_move}
 
 -- ---- lists of brackets
 
@@ -110,9 +108,9 @@ square_closed st = closed_move RBrack 2 st square_closes
 pub curly_closed : (st : List ℕ) → move (bracket RCurly) st ≡ pop 3 st
 curly_closed st = closed_move RCurly 3 st curly_closes
 
-pub no_bracket : (k : Kind) (st : List ℕ) → (k ≡ LParen → ⊥) → (k ≡ LBrack → ⊥) → (k ≡ LCurly → ⊥) → (k ≡ RParen → ⊥) → (k ≡ RBrack → ⊥) → (k ≡ RCurly → ⊥) → move (bracket k) st ≡ Some st
+pub no_bracket : (k : Kind) (st : List ℕ) → (k ≡ LParen → ⊥) → (k ≡ LBrack → ⊥) → (k ≡ LCurly → ⊥) → (k ≡ TemplateHead → ⊥) → (k ≡ RParen → ⊥) → (k ≡ RBrack → ⊥) → (k ≡ RCurly → ⊥) → (k ≡ TemplateTail → ⊥) → (k ≡ TemplateMiddle → ⊥) → move (bracket k) st ≡ Some st
 unfolding bracket
-no_bracket k st a b c d e f = plain_move k st (rw (differs LParen k a, differs LBrack k b, differs LCurly k c, differs RParen k d, differs RBrack k e, differs RCurly k f) refl)
+no_bracket k st a b c d e f g h i = plain_move k st (rw (differs LParen k a, differs LBrack k b, differs LCurly k c, differs TemplateHead k d, differs RParen k e, differs RBrack k f, differs RCurly k g, differs TemplateTail k h, differs TemplateMiddle k i) refl)
 
 pub is_whole : (k : Kind) → (k ≡ RAngle → ⊥) → (k ≡ Undetermined → ⊥) → (k ≡ Slash → ⊥) → (k ≡ SlashEq → ⊥) → tells_whole k ≡ true
 is_whole k a b c d = rw (differs RAngle k a, differs Undetermined k b, differs Slash k c, differs SlashEq k d) refl
@@ -216,24 +214,18 @@ module _ {text : List ℕ} {start place : ℕ} {old : List OpenBracket} (new : L
 
 -- ---- the lexemes of an operand go the same way
 
-pub one_is : {text : List ℕ} {s : ℕ} {x y : Lexeme} → Lex text s x → Settled text s y → x ≡ y
-one_is {text} {s} {x} {y} l h = go (same_kind RegExp x.kind) refl
-  where
-    go : (b : Bool) → same_kind RegExp x.kind ≡ b → x ≡ y
-    go false r = lex-same l.0 h.0.lex (plainly l.0 l.1 r ∙ sym h.0.of_goal)
-    go true r =
-        let z = slash_there l.0 (sym (kind_of_same RegExp x.kind r)) in
-        absurd (false≢true (sym h.1 ∙ subst (λ (v : Lexeme). one_of_kinds slashes v.kind ≡ true) (lex-same z.stands.lex h.0.lex (z.stands.of_goal ∙ sym h.0.of_goal)) z.is))
+one_is : {text : List ℕ} {s : ℕ} {x y : Lexeme} (st : List ℕ) {u v : List ℕ} → Lex text s x → Settled text s y → move (bracket x.kind) st ≡ Some u → move (bracket y.kind) st ≡ Some v → x ≡ y
+one_is st l h p q = one_plain_move st l h.0 h.1 p q
 
 none_left : {b : ℕ} {s : List ℕ} → Some [] ≡ Some (b ∷ s) → ⊥
 none_left e = cc
 
 pub closes_alike : (text : List ℕ) (s : ℕ) {st : List ℕ} {ls r : Lexemes} {e e' : ℕ} → Lexes (Lex text) s ls → One st ls e r → Closing text st s e' → (e ≡ e') × Lexes (Lex text) e r
-closes_alike text s l (the_last {x = x} p) (closed {y = y} h q) = (ap (λ (z : Lexeme). z.to) (one_is l.0 h), l.1)
-closes_alike text s {st = st} l (the_last {x = x} p) (inside {y = y} h q c) = absurd (none_left (sym p ∙ (ap (λ (z : Lexeme). move (bracket z.kind) st) (one_is l.0 h) ∙ q)))
-closes_alike text s {st = st} l (and_more {x = x} p o) (closed {y = y} h q) = absurd (none_left (sym q ∙ (ap (λ (z : Lexeme). move (bracket z.kind) st) (sym (one_is l.0 h)) ∙ p)))
+closes_alike text s {st = st} l (the_last {x = x} p) (closed {y = y} h q) = (ap (λ (z : Lexeme). z.to) (one_is st l.0 h p q), l.1)
+closes_alike text s {st = st} l (the_last {x = x} p) (inside {y = y} h q c) = absurd (none_left (sym p ∙ (ap (λ (z : Lexeme). move (bracket z.kind) st) (one_is st l.0 h p q) ∙ q)))
+closes_alike text s {st = st} l (and_more {x = x} p o) (closed {y = y} h q) = absurd (none_left (sym q ∙ (ap (λ (z : Lexeme). move (bracket z.kind) st) (sym (one_is st l.0 h p q)) ∙ p)))
 closes_alike text s {st = st} {e = e} {e' = e'} l (and_more {b = b} {s = t} {x = x} {ls = ls} {rest = r} p o) (inside {u = v} {b = c} {y = y} h q d) =
-    let w : x ≡ y = one_is l.0 h in
+    let w : x ≡ y = one_is st l.0 h p q in
     let g : Some (b ∷ t) ≡ Some (c ∷ v) = sym p ∙ (ap (λ (z : Lexeme). move (bracket z.kind) st) w ∙ q) in
     let z : b ∷ t ≡ c ∷ v = cc in
     closes_alike text y.to (subst (λ (k : Lexeme). Lexes (Lex text) k.to ls) w l.1) (subst (λ (n : List ℕ). One n ls e r) z o) d

@@ -4,7 +4,7 @@ use Rattle.std.proofs.Common.{ℕ, ◌≡◌, ◌≤◌, List, [], ◌∷◌, le
 use Rattle.std.specs.Prelude.{Err}
 use Rattle.std.proofs.lemmas.Bool.{false≢true, and_from, and_parts}
 use Rattle.js_base.specs.declared.kind.Kind.{Kind}
-use Rattle.js_base.specs.declared.kind.Kind.TheVariants.{Question, Colon, PrivateIdentifier, Undetermined, RCurly, RegExp, TemplateMiddle, TemplateTail}
+use Rattle.js_base.specs.declared.kind.Kind.TheVariants.{Question, Colon, PrivateIdentifier, Undetermined, RegExp}
 use Rattle.js_base.specs.declared.span.Span.{Span}
 use Rattle.js_base.specs.Kinds.{same_kind, one_of_kinds}
 use Rattle.js_base.specs.Texts.{words}
@@ -44,9 +44,8 @@ use Rattle.js_cursor.proofs.Standing.{mark_here}
 use Rattle.js_expressions.specs.Rests.{Asked, OnlyOperand}
 use Rattle.js_parsing.specs.Moves.{Passes}
 use Rattle.js_parsing.proofs.Giving.{gives_up}
-use Rattle.js_parsing.specs.Lexemes.{Lex, Plain, is_read, other_goals, signs_of}
-use Rattle.js_grammar.proofs.Lexemes.{first_or}
-use Rattle.js_parsing.proofs.Slashes.{sign_there}
+use Rattle.js_parsing.specs.Lexemes.{Lex, Plain, other_goals}
+use Rattle.js_expressions.proofs.OnePlace.{brace_stands}
 use Rattle.js_parsing.specs.States.{At, Same}
 use Rattle.js_parsing.specs.Moves.{Moved, MadeHere, plain_label}
 use Rattle.js_parsing.specs.Answers.{Underived, Answer, Numbered, Stops, beside}
@@ -55,7 +54,7 @@ use Rattle.js_parsing.proofs.Here.{kind_here, told_plain}
 use Rattle.js_parsing.proofs.MadeNodes.{node_held, one_lies}
 use Rattle.js_parsing.proofs.Moving.{same_both}
 use Rattle.js_operands.proofs.Operands.{by_path}
-use Rattle.js_parsing.proofs.Paths.{Path, ◌⟼◌, ◌⟶◌, ◌⟶✗◌, fails_at, not_here, token, called, last_called, noded_by, by_symbol_as, label_here, read_of}
+use Rattle.js_parsing.proofs.Paths.{Path, ◌⟼◌, ◌⟶◌, ◌⟶✗◌, fails_at, not_here, token, called, last_called, noded_by, by_symbol_as, label_here}
 use Rattle.js_parsing.proofs.Phrases.{lift, lift_fails, narrow_operand, operand_assigned}
 use Rattle.js_parsing.proofs.Tight.{narrows, read_plain, plain_is_read, plain_lex, plain_so}
 use Rattle.js_parsing.specs.Classes.{EndsParse}
@@ -248,13 +247,6 @@ pattern_binds b after_yield h = absurd (false≢true h)
 pattern_binds b after_declarator h = absurd (false≢true h)
 pattern_binds b after_word h = absurd (false≢true h)
 
--- of the other goals' lexemes all but regular expressions begin with a brace
-brace_of : (y k : Kind) → one_of_kinds other_goals y ≡ true → same_kind RegExp y ≡ false → one_of_kinds (signs_of y) k ≡ true → k ≡ RCurly
-brace_of y k o n s = first_or (λ (v : Kind). same_kind RegExp v ≡ false → one_of_kinds (signs_of v) k ≡ true → k ≡ RCurly) RegExp y _ _ refl o (λ n s. absurd (false≢true (sym n))) (λ o. first_or (λ (v : Kind). same_kind RegExp v ≡ false → one_of_kinds (signs_of v) k ≡ true → k ≡ RCurly) TemplateMiddle y _ _ refl o (λ n s. brace s) (λ o. first_or (λ (v : Kind). same_kind RegExp v ≡ false → one_of_kinds (signs_of v) k ≡ true → k ≡ RCurly) TemplateTail y _ _ refl o (λ n s. brace s) (λ o. absurd (false≢true o)))) n s
-  where
-    brace : one_of_kinds (RCurly ∷ []) k ≡ true → k ≡ RCurly
-    brace h = first_or (λ (v : Kind). v ≡ RCurly) RCurly k _ _ refl h refl (λ h. absurd (false≢true h))
-
 pub no_conditional : {text : List ℕ} {f : Flags} {p q : Parser} → Answer text f (at Short f) p q → one_of_kinds (Question ∷ []) q.token.kind ≡ false → ((y : Lexeme) → Plain text q.prev_token_end y → IsTrue (seen an_assign y)) → Fails rule (Lex text) (after (at Assignment f)) end (such (at Conditional f) always) p.prev_token_end
 unfolding rule rule_of covers apart
 no_conditional {text} {f} {p} {q} x n s = fails_rule {X' = after (at Assignment f)} (λ l cs vs y d. d) (fails_alt (last_called x (same_read (at Assignment f) (at Short f) short_passes refl) ⟶✗ fails_nothing (λ ts y l h. no y l h.1)) (fails_node inside_full (called x refl ⟶✗ fails_at x.at (branches_behind f) (Question ∷ []) refl n)))
@@ -264,11 +256,7 @@ no_conditional {text} {f} {p} {q} x n s = fails_rule {X' = after (at Assignment 
       where
         -- a template part begins with a brace by the plain goal, which is no operator
         no_part : one_of_kinds other_goals y.kind ≡ true → same_kind RegExp y.kind ≡ false → ⊥
-        no_part o n =
-            let z = sign_there l.0 o in
-            let k : z.lexeme.kind ≡ RCurly = brace_of y.kind z.lexeme.kind o n z.is in
-            let r : IsTrue (is_read z.lexeme) = read_of z.lexeme k (z.escaped ∙ read_plain y l.1) refl in
-            false≢true (ap (one_of_kinds assign_operators) (sym k) ∙ (and_parts (one_of_kinds assign_operators z.lexeme.kind) _ (s z.lexeme (z.stands.lex, plain_so z.lexeme r (ap (one_of_kinds other_goals) k)))).0)
+        no_part o n = let z = brace_stands l o n in false≢true (ap (one_of_kinds assign_operators) (sym z.2) ∙ (and_parts (one_of_kinds assign_operators z.0.kind) _ (s z.0 z.1)).0)
 
         of_another : (b : Bool) → same_kind RegExp y.kind ≡ b → one_of_kinds other_goals y.kind ≡ true → ⊥
         of_another true e o = contrary (seen (looser 2 f.in_ (row_of x.label x.slots)) y) (covered a_pattern (λ k w e. not (looser 2 f.in_ (row_of x.label x.slots) k w e)) (pattern_binds f.in_ (row_of x.label x.slots) x.row) y.kind y.newline y.escaped (and_from _ _ e (ap not (read_plain y l.1)))) h

@@ -12,6 +12,7 @@ pub mod HeadOperands
 pub mod HeadsAsArguments
 pub mod Lookaheads
 pub mod NotedHeads
+pub mod OnePlace
 pub mod Operations
 pub mod ParenthesizedFronts
 pub mod Refusals

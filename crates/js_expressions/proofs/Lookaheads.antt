@@ -4,7 +4,7 @@ use Rattle.std.specs.Prelude.{Ok}
 use Rattle.std.proofs.lemmas.Bool.{false≢true}
 use Rattle.js_base.specs.declared.diagnostic.DiagnosticKind.TheVariants.{ExpectToken}
 use Rattle.js_base.specs.declared.kind.Kind.{Kind}
-use Rattle.js_base.specs.declared.kind.Kind.TheVariants.{Arrow, Dot3, LParen, New, RAngle, RCurly, RParen, RegExp, Slash, SlashEq, Await}
+use Rattle.js_base.specs.declared.kind.Kind.TheVariants.{Arrow, Dot3, LParen, New, RAngle, RCurly, RParen, Slash, SlashEq, Await}
 use Rattle.js_base.specs.declared.token.Token.{Token}
 use Rattle.js_base.specs.Kinds.{same_kind, one_of_kinds}
 use Rattle.js_grammar.specs.Trees.{Slots, end, parenthesized_expression}

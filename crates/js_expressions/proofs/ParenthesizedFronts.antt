@@ -296,12 +296,18 @@ contrary : (b : Bool) → not b ≡ true → b ≡ true → ⊥
 contrary true h e = false≢true h
 contrary false h e = false≢true e
 
+-- nor may it stand behind an operand
+pub no_arrow_admitted : (source : List ℕ) (f : Flags) (ts : Slots) {vs : Slots} {s j : ℕ} {ls rest : Lexemes} → Lexes (Lex source) s ls → Takes rule (such (at Short f) always) end ts s ls vs j rest → Admits (after (at Short f)) ts (here rest) → same_kind Arrow (here rest).kind ≡ true → ⊥
+no_arrow_admitted source f ts {j = j} {rest = rest} m d a q =
+    let l : Lex source j (here rest) = here_at (Lex source) rest (lexed_behind (Lex source) d m) in
+    contrary (seen (looser 4 f.in_ (first_row ts)) (here rest)) (covered an_arrow (λ k w e. not (looser 4 f.in_ (first_row ts) k w e)) (arrow_binds f.in_ (first_row ts) (row_claimed d)) (here rest).kind (here rest).newline (here rest).escaped (and_from _ _ q (ap not (read_plain (here rest) l.1)))) a.1
+
 -- where parentheses that are derived as arguments have `=>` behind them, no operand begins
 pub no_operand_before : {text : List ℕ} {f : Flags} {s : ℕ} → OnlyArrow text f s → ((y : Lexeme) → Lex text s y → y.kind ≡ LParen) → Underived text (at Short f) s
 no_operand_before {text} {f} {s} n k = record { no = λ ts vs j ls rest m d a. go ts m d a }
   where
     go : (ts : Slots) {vs : Slots} {j : ℕ} {ls rest : Lexemes} → Lexes (Lex text) s ls → Takes rule (such (at Short f) always) end ts s ls vs j rest → Admits (after (at Short f)) ts (here rest) → ⊥
-    go ts {j = j} {ls = ls} {rest = rest} m d a = by (same_kind Arrow (here z.2).kind) refl z.4
+    go ts {ls = ls} {rest = rest} m d a = by (same_kind Arrow (here z.2).kind) refl z.4
       where
         z : (vs : Slots) × (e : ℕ) × (r : Lexemes) × Takes rule (args f) end vs s ls end e r × ((rest ≡ r) ⊎ (same_kind Arrow (here r).kind ≡ false))
         z = parenthesized_front f d (ap (same_kind LParen) (k (here ls) (here_at (Lex text) ls m)))
@@ -309,7 +315,4 @@ no_operand_before {text} {f} {s} n k = record { no = λ ts vs j ls rest m d a. g
         by : (b : Bool) → same_kind Arrow (here z.2).kind ≡ b → (rest ≡ z.2) ⊎ (same_kind Arrow (here z.2).kind ≡ false) → ⊥
         by false e x = n.no z.0 end z.1 ls z.2 m z.3 (ap not e, refl)
         by true e (inr x) = false≢true (sym x ∙ e)
-        by true e (inl x) =
-            let l : Lex text j (here rest) = here_at (Lex text) rest (lexed_behind (Lex text) d m) in
-            let q : same_kind Arrow (here rest).kind ≡ true = ap (λ (v : Lexemes). same_kind Arrow (here v).kind) x ∙ e in
-            contrary (seen (looser 4 f.in_ (first_row ts)) (here rest)) (covered an_arrow (λ k w e. not (looser 4 f.in_ (first_row ts) k w e)) (arrow_binds f.in_ (first_row ts) (row_claimed d)) (here rest).kind (here rest).newline (here rest).escaped (and_from _ _ q (ap not (read_plain (here rest) l.1)))) a.1
+        by true e (inl x) = no_arrow_admitted text f ts m d a (ap (λ (v : Lexemes). same_kind Arrow (here v).kind) x ∙ e)

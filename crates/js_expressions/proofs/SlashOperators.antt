@@ -1,12 +1,12 @@
--- The loop over operators where a regular expression may stand in the place of the division sign: nothing goes on with it, and nothing ends before it (ECMA-262, 12).
-use Rattle.std.proofs.Common.{ℕ, zero, suc, ◌≡◌, ◌≤◌, ◌+◌, ◌⊎◌, inl, Bool, true, false, ◌||◌, List, [], ◌∷◌, IsTrue, refl, sym, ap, subst, arith, ◌∙◌}
-use Rattle.std.proofs.lemmas.Bool.{false≢true, ltb-true}
+-- The loop over operators where a regular expression may stand in the place of the division sign: nothing goes on with it, and nothing ends before it (ECMA-262, 12). Where a part of a template may stand, so may a brace, which is no operator.
+use Rattle.std.proofs.Common.{ℕ, zero, suc, ◌≡◌, ◌≤◌, ◌+◌, ◌⊎◌, inl, Bool, true, false, ◌||◌, List, ◌∷◌, IsTrue, refl, sym, ap, subst, arith, ◌∙◌}
+use Rattle.std.proofs.lemmas.Bool.{false≢true, ltb-true, or_right}
 use Rattle.js_base.specs.declared.kind.Kind.{Kind}
-use Rattle.js_base.specs.declared.kind.Kind.TheVariants.{RegExp, Slash, SlashEq}
+use Rattle.js_base.specs.declared.kind.Kind.TheVariants.{RCurly, RegExp, Slash, SlashEq}
 use Rattle.js_base.specs.Kinds.{same_kind, one_of_kinds}
 use Rattle.js_base.proofs.KindLemmas.{kind_of_same}
 use Rattle.js_grammar.specs.Trees.{Label, Slots, end, tree}
-use Rattle.js_grammar.specs.Grammar.{Lexeme, seen, such}
+use Rattle.js_grammar.specs.Grammar.{Lexeme, Look, seen, such}
 use Rattle.js_grammar.specs.Parsing.{Admits, Fails, Reads, Way, always, joined, full, plain}
 use Rattle.js_grammar.proofs.First.{starts}
 use Rattle.js_grammar.specs.Productions.{Flags, Symbol}
@@ -16,32 +16,28 @@ use Rattle.js_grammar.specs.Follow.{after, first_edge, follow, looser, row_of, t
 use Rattle.js_grammar.specs.FirstSets.{first}
 use Rattle.js_grammar.proofs.FirstClaims.{firsts}
 use Rattle.js_grammar.proofs.FollowLaws.{counts_as_slash}
-use Rattle.js_grammar.proofs.Loops.{Alone, Around, Step, one_operator, part_at, step, step_fails}
+use Rattle.js_grammar.proofs.Looks.{apart, not_both, same_self}
+use Rattle.js_grammar.proofs.Loops.{Alone, Around, Step, listed, one_operator, part_at, step, step_fails}
 use Rattle.js_grammar.proofs.OperatorEdges.{level_looser, one_level, operator_edges, operator_exactly}
 use Rattle.js_grammar.proofs.OperatorLoops.{operand_follow}
 use Rattle.js_grammar.proofs.Operators.{climbs, levels, operates}
 use Rattle.js_grammar.proofs.RightEdges.{of_operand}
-use Rattle.js_grammar.proofs.Towers.{Link, OneOf, head, later, linked_label}
-use Rattle.js_parsing.specs.Lexemes.{Lex, Plain, slashes}
+use Rattle.js_grammar.proofs.Towers.{Link, OneOf, linked_label}
+use Rattle.js_parsing.specs.Lexemes.{Lex, Plain, other_goals, slashes}
 use Rattle.js_parsing.specs.Operators.{power_of}
 use Rattle.js_parsing.proofs.Tight.{plain_so, read_plain}
+use Rattle.js_expressions.proofs.OnePlace.{brace_stands}
 
--- ---- no operator is a regular expression
+-- ---- no operator is of another lexical goal, nor a brace
 
-among_plain : (ks : List Kind) {k : Kind} → OneOf k ks → one_of_kinds ks RegExp ≡ false → same_kind RegExp k ≡ false
-among_plain [] i n = elim i [ ]
-among_plain (x ∷ ks) {k} head n = go (same_kind RegExp k) refl
-  where
-    go : (b : Bool) → same_kind RegExp k ≡ b → same_kind RegExp k ≡ false
-    go true e = absurd (false≢true (sym n ∙ ap (λ (v : Kind). same_kind v RegExp || one_of_kinds ks RegExp) (sym (kind_of_same RegExp k e))))
-    go false e = e
-among_plain (x ∷ ks) {k} (later i) n = among_plain ks i (behind (same_kind x RegExp) (one_of_kinds ks RegExp) n)
-  where
-    behind : (a b : Bool) → (a || b) ≡ false → b ≡ false
-    behind true b h = absurd (false≢true (sym h))
-    behind false b h = h
+abbrev an_operator : Bool → ℕ → Look
+an_operator b q k w e = one_of_kinds (operators_of b q) k
 
-operators_plain : (b : Bool) (q : ℕ) → one_of_kinds (operators_of b q) RegExp ≡ false
+abbrev a_brace : Look
+a_brace k w e = one_of_kinds (RCurly ∷ other_goals) k
+
+operators_plain : (b : Bool) (q : ℕ) → apart (an_operator b q) a_brace ≡ true
+unfolding apart
 operators_plain b zero = refl
 operators_plain b (suc zero) = refl
 operators_plain b (suc (suc zero)) = refl
@@ -55,8 +51,15 @@ operators_plain b (suc (suc (suc (suc (suc (suc (suc (suc zero)))))))) = refl
 operators_plain b (suc (suc (suc (suc (suc (suc (suc (suc (suc zero))))))))) = refl
 operators_plain b (suc (suc (suc (suc (suc (suc (suc (suc (suc (suc q)))))))))) = refl
 
-pub operator_plain : (f : Flags) (q : ℕ) {k : Kind} → OneOf k (operators_at f q) → same_kind RegExp k ≡ false
-operator_plain f q i = among_plain (operators_at f q) i (operators_plain f.in_ q)
+operator_apart : (f : Flags) (q : ℕ) {k : Kind} → OneOf k (operators_at f q) → one_of_kinds (RCurly ∷ other_goals) k ≡ true → ⊥
+operator_apart f q {k} i h = not_both (an_operator f.in_ q) a_brace (operators_plain f.in_ q) k false false (listed (operators_at f q) i same_self) h
+
+pub operator_plain : (f : Flags) (q : ℕ) {k : Kind} → OneOf k (operators_at f q) → one_of_kinds other_goals k ≡ false
+operator_plain f q {k} i = go (one_of_kinds other_goals k) refl
+  where
+    go : (b : Bool) → one_of_kinds other_goals k ≡ b → one_of_kinds other_goals k ≡ false
+    go true h = absurd (operator_apart f q i (or_right (same_kind RCurly k) _ h))
+    go false h = h
 
 -- of the two signs that may stand at a regular expression, the division sign alone is an operator between operands
 pub division_sign : (b : Bool) (k : Kind) → one_of_kinds slashes k ≡ true → 1 ≤ power_of b k → k ≡ Slash
@@ -93,15 +96,22 @@ module _ (f : Flags) {text : List ℕ} where
             let v : q' ≡ q = one_level f q q' i (subst (λ (a : Kind). OneOf a (operators_at f q')) same r.0) in
             inl (v, r.1 ∙ (ap (λ (a : Kind). operates f q' a) same ∙ ap (λ (a : ℕ). operates f a k) v))
 
+        -- where a part of a template may be read, a brace stands, which is no operator
+        no_part : (y : Lexeme) → Lex text s' y → one_of_kinds other_goals y.kind ≡ true → same_kind RegExp y.kind ≡ false → ⊥
+        no_part y n e r = let z = brace_stands n e r in operator_apart f q i (ap (one_of_kinds (RCurly ∷ other_goals)) (sym (h z.0 z.1).0 ∙ z.2))
+
+        of_pattern : (y : Lexeme) → Lex text s' y → y.kind ≡ RegExp → Admits (after (level_at f m)) (tree l cs end) y → ⊥
+        of_pattern y n is e =
+            let slash : follow (level_at f m) (first_edge (tree l cs end)) Slash y.newline y.escaped ≡ true = sym (counts_as_slash (level_at f m) (first_edge (tree l cs end)) y.newline y.escaped) ∙ subst (λ (v : Kind). follow (level_at f m) (first_edge (tree l cs end)) v y.newline y.escaped ≡ true) is e.1 in
+            ends_not f l cs a d i o (record y { kind = Slash }) (sym (p y n is), read_plain y n.1) slash
+
         goes_on : (y : Lexeme) → Lex text s' y → Admits (after (level_at f m)) (tree l cs end) y → ⊥
-        goes_on y n e = go (same_kind RegExp y.kind) refl
+        goes_on y n e = go (one_of_kinds other_goals y.kind) refl (same_kind RegExp y.kind) refl
           where
-            go : (x : Bool) → same_kind RegExp y.kind ≡ x → ⊥
-            go false r = plainly_alone.goes_on y (n.0, plain_so y n.1 r) e
-            go true r =
-                let is : y.kind ≡ RegExp = sym (kind_of_same RegExp y.kind r) in
-                let slash : follow (level_at f m) (first_edge (tree l cs end)) Slash y.newline y.escaped ≡ true = sym (counts_as_slash (level_at f m) (first_edge (tree l cs end)) y.newline y.escaped) ∙ subst (λ (v : Kind). follow (level_at f m) (first_edge (tree l cs end)) v y.newline y.escaped ≡ true) is e.1 in
-                ends_not f l cs a d i o (record y { kind = Slash }) (sym (p y n is), read_plain y n.1) slash
+            go : (x : Bool) → one_of_kinds other_goals y.kind ≡ x → (z : Bool) → same_kind RegExp y.kind ≡ z → ⊥
+            go false r z t = plainly_alone.goes_on y (n.0, plain_so y n.1 r) e
+            go true r true t = of_pattern y n (sym (kind_of_same RegExp y.kind t)) e
+            go true r false t = no_part y n r t
 
     pub slash_step : {s from s'' : ℕ} {way rm : Way} {g : Slots → Slots} → Around (Lex text) (after (level_at f m)) (levels f) m s from c l cs s' way → Reads rule (Lex text) (after (level_at f (q + 1))) end (operates f q k).part s' s'' g rm → Around (Lex text) (after (level_at f m)) (levels f) m s from q (linked_label (operates f q k) from s'') (tree l cs (g end)) s'' (joined way rm)
     slash_step x r = step firsts x alone r (operator_edges f m q k a d) (operand_follow f m q (q + 1) (omega arith) (inl (omega arith)))

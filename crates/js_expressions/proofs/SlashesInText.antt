@@ -1,4 +1,4 @@
--- A lexeme that begins with a slash has that byte in the text; where none stands, lexemes are the same in every lexical goal (ECMA-262, 12).
+-- A lexeme that begins with a slash has that byte in the text; where none stands, no lexeme is a regular expression or such a sign (ECMA-262, 12).
 use Rattle.std.proofs.Common.{ℕ, ◌+◌, ◌≡◌, ◌≤◌, ◌<◌, ◌⊎◌, inl, inr, Bool, true, false, not, ◌||◌, List, [], ◌∷◌, ◌++◌, length, Some, refl, sym, ap, subst, arith, ◌∙◌}
 use Rattle.std.specs.Prelude.{IsCharBoundary, IsUtf8, slice_index}
 use Rattle.std.specs.Char.{len_utf8}
@@ -21,11 +21,12 @@ use Rattle.js_lex.proofs.KindsOfLexemes.{plain_end, slash_word, slash_equals_wor
 use Rattle.js_lex.proofs.Places.{at_end, peeks}
 use Rattle.js_lex.proofs.StringPlaces.{front_word}
 use Rattle.js_lex.proofs.TriviaLemmas.{some_width}
-use Rattle.js_parsing.specs.Lexemes.{Lex, slashes}
+use Rattle.js_parsing.specs.Lexemes.{Lex, other_goals, signs_of, slashes}
 use Rattle.js_parsing.proofs.Here.{plainly}
-use Rattle.js_parsing.proofs.Slashes.{pattern_goal, slash_there}
+use Rattle.js_parsing.proofs.Slashes.{pattern_goal, sign_there}
 use Rattle.js_expressions.specs.Arrows.{NoSlash}
-use Rattle.js_expressions.proofs.Arrows.{AllCalm, calm}
+use Rattle.js_expressions.proofs.Arrows.{AllCalm}
+use Rattle.js_expressions.proofs.OnePlace.{calm}
 
 -- ---- the words
 
@@ -36,6 +37,12 @@ slash_kind k h = go (same_kind Slash k) (same_kind SlashEq k) refl refl h
     go true b e f h = inl (sym (kind_of_same Slash k e))
     go false true e f h = inr (sym (kind_of_same SlashEq k f))
     go false false e f h = absurd (false≢true h)
+
+sign_plain : (k : Kind) → one_of_kinds slashes k ≡ true → one_of_kinds other_goals k ≡ false
+sign_plain k h = elim (slash_kind k h) [
+  | inl e ↦ ap (one_of_kinds other_goals) e
+  | inr e ↦ ap (one_of_kinds other_goals) e
+]
 
 -- a sign begins with a slash
 sign_word : (w rest : List ℕ) (k : Kind) → kind_in division w rest ≡ Some k → (k ≡ Slash) ⊎ (k ≡ SlashEq) → (cs : List ℕ) × (w ≡ 47 ∷ cs)
@@ -111,8 +118,8 @@ slash_at {text} {s} {y} u b l c = go (same_kind RegExp y.kind) refl
     go : (r : Bool) → same_kind RegExp y.kind ≡ r → SlashAt text s y
     go true e =
         let k : y.kind ≡ RegExp = sym (kind_of_same RegExp y.kind e) in
-        let z = slash_there l.0 k in
-        let a = at_sign z.stands z.is in
+        let z = sign_there l.0 (ap (one_of_kinds other_goals) k) in
+        let a = at_sign z.stands (subst (λ (v : Kind). one_of_kinds (signs_of v) z.lexeme.kind ≡ true) k z.is) in
         record {
           behind = subst (λ (v : ℕ). s ≤ v) z.from a.0;
           inside = to_end (pattern_word l.0.word l.0.rest y.kind (subst (λ (g : LexicalGoal). kind_in g l.0.word l.0.rest ≡ Some y.kind) (pattern_goal l.0 k) l.0.lexeme.kind));
@@ -120,7 +127,7 @@ slash_at {text} {s} {y} u b l c = go (same_kind RegExp y.kind) refl
         }
     go false e =
         let k = sign (same_kind RegExp y.kind) c e in
-        let g = plainly l.0 l.1 e in
+        let g = plainly l.0 l.1 (sign_plain y.kind k) in
         let a = at_sign (record { lex = l.0; of_goal = g }) k in
         let w = sign_word l.0.word l.0.rest y.kind (subst (λ (g : LexicalGoal). kind_in g l.0.word l.0.rest ≡ Some y.kind) g l.0.lexeme.kind) (slash_kind y.kind k) in
         record { behind = a.0; inside = to_end (subst (λ (v : List ℕ). 0 < width v) (sym w.1) (some_width 47 w.0)); is = a.1 }

@@ -1,8 +1,8 @@
 -- YieldExpressions (ECMA-262, 15.5).
 use Rattle.std.proofs.Common.{ℕ, ◌≡◌, ◌⊎◌, inl, inr, Bool, true, false, not, ◌&&◌, ◌||◌, IsTrue, List, [], ◌∷◌, length, Some, None, refl, sym, ap, subst, ◌∙◌}
-use Rattle.std.proofs.lemmas.Bool.{false≢true, and_from, or_left}
+use Rattle.std.proofs.lemmas.Bool.{false≢true, and_from, or_left, or_right}
 use Rattle.js_base.specs.declared.kind.Kind.{Kind}
-use Rattle.js_base.specs.declared.kind.Kind.TheVariants.{PrivateIdentifier, RAngle, RegExp, Star, Yield}
+use Rattle.js_base.specs.declared.kind.Kind.TheVariants.{PrivateIdentifier, RAngle, RCurly, RegExp, Star, Yield}
 use Rattle.js_base.specs.declared.span.Span.{Span}
 use Rattle.js_base.specs.Kinds.{same_kind, one_of_kinds}
 use Rattle.js_base.specs.Texts.{words}
@@ -32,11 +32,11 @@ use Rattle.js_tree.specs.Holding.{Holds, Keeps}
 use Rattle.js_tree.proofs.HoldingLemmas.{HoldsAll-one_hole, Keeps-refl, Keeps-trans, Keeps-made, Keeps-longer}
 use Rattle.js_cursor.specs.Parsers.{Parser}
 use Rattle.js_parsing.specs.Answers.{Underived, Answer, Numbered}
-use Rattle.js_parsing.specs.Lexemes.{Lex, slashes}
+use Rattle.js_parsing.specs.Lexemes.{Lex, other_goals, slashes, template_tails}
 use Rattle.js_parsing.specs.Moves.{Moved, MadeHere, plain_label}
 use Rattle.js_parsing.specs.States.{At}
 use Rattle.js_parsing.proofs.Ahead.{pass_over}
-use Rattle.js_parsing.proofs.Here.{told, told_plain, angled, uncut, kind_here, newline_here}
+use Rattle.js_parsing.proofs.Here.{told_plain, angled, uncut, kind_here, newline_here, sign_here, slash_here}
 use Rattle.js_parsing.proofs.MadeNodes.{node_held, one_held, one_lies}
 use Rattle.js_parsing.proofs.Moving.{same_both}
 use Rattle.js_parsing.proofs.NamedFirsts.{fails_at_yield}
@@ -44,6 +44,7 @@ use Rattle.js_parsing.proofs.Paths.{Path, angles, reads, ◌⟼◌, ◌⟶◌, �
 use Rattle.js_parsing.proofs.Signs.{other_kind, plain_sign}
 use Rattle.js_parsing.proofs.Tight.{plain_lex}
 use Rattle.js_operands.proofs.Operands.{by_path}
+use Rattle.js_expressions.proofs.OnePlace.{brace_of, tail_of}
 use Rattle.js_patterns.proofs.Bindings.{ended_by}
 use Rattle.js_targets.specs.Taken.{NoTargetFrom, goes_through}
 use Rattle.js_targets.proofs.Assigned.{assign_part, all_parts}
@@ -140,13 +141,13 @@ slash_argued : covers a_slash an_argument ≡ true
 unfolding covers
 slash_argued = refl
 
--- a slash begins one
-no_slash : (k : Kind) → yields_argument k ≡ false → one_of_kinds slashes k ≡ false
-no_slash k n = go (one_of_kinds slashes k) refl
-  where
-    go : (b : Bool) → one_of_kinds slashes k ≡ b → one_of_kinds slashes k ≡ false
-    go true e = absurd (false≢true (sym n ∙ covered a_slash an_argument slash_argued k false false e))
-    go false e = e
+abbrev a_brace : Look
+a_brace k w e = one_of_kinds (RCurly ∷ template_tails) k
+
+-- neither a brace nor a part of a template that begins with one begins an argument
+no_brace : apart an_argument a_brace ≡ true
+unfolding apart
+no_brace = refl
 
 not_so : (b : Bool) → not b ≡ true → b ≡ false
 not_so true h = absurd (false≢true h)
@@ -159,19 +160,22 @@ Bare q = (q.token.is_on_new_line ≡ true) ⊎ (yields_argument q.token.kind ≡
 module _ {text : List ℕ} {f : Flags} {q : Parser} (b : At text f q) where
   -- one stands here
   argument_there : yields_argument q.token.kind ≡ true → (y : Lexeme) → Lex text q.prev_token_end y → yields_argument y.kind ≡ true
-  argument_there h y l = go (same_kind RegExp y.kind) refl
+  argument_there h y l = go (one_of_kinds other_goals y.kind) refl (same_kind RegExp y.kind) refl
     where
-      go : (r : Bool) → same_kind RegExp y.kind ≡ r → yields_argument y.kind ≡ true
-      go true e = subst (λ (v : Kind). yields_argument v ≡ true) (kind_of_same RegExp y.kind e) refl
-      go false e = subst (λ (v : Kind). yields_argument v ≡ true) (told_plain b (uncut b (not_so (same_kind RAngle q.token.kind) (covered an_argument no_argument_angle argument_whole q.token.kind false false h))) y e l).kind h
+      go : (r : Bool) → one_of_kinds other_goals y.kind ≡ r → (t : Bool) → same_kind RegExp y.kind ≡ t → yields_argument y.kind ≡ true
+      go true o true e = subst (λ (v : Kind). yields_argument v ≡ true) (kind_of_same RegExp y.kind e) refl
+      go true o false e = absurd (false≢true (sym (ap yields_argument (brace_of y.kind q.token.kind o e (sign_here b y l o))) ∙ h))
+      go false o t e = subst (λ (v : Kind). yields_argument v ≡ true) (told_plain b (uncut b (not_so (same_kind RAngle q.token.kind) (covered an_argument no_argument_angle argument_whole q.token.kind false false h))) y o l).kind h
 
   -- or none does
   no_argument_there : yields_argument q.token.kind ≡ false → (y : Lexeme) → Lex text q.prev_token_end y → yields_argument y.kind ≡ true → ⊥
-  no_argument_there n y l h = go q.cut refl
+  no_argument_there n y l h = go q.cut refl (one_of_kinds other_goals y.kind) refl (same_kind RegExp y.kind) refl
     where
-      go : (c : Bool) → q.cut ≡ c → ⊥
-      go true e = not_both angles an_argument no_angle y.kind y.newline y.escaped (angled b e y l) h
-      go false e = false≢true (sym n ∙ subst (λ (v : Kind). yields_argument v ≡ true) (sym (told b e (no_slash q.token.kind n) y l).kind) h)
+      go : (c : Bool) → q.cut ≡ c → (r : Bool) → one_of_kinds other_goals y.kind ≡ r → (t : Bool) → same_kind RegExp y.kind ≡ t → ⊥
+      go true e r o t i = not_both angles an_argument no_angle y.kind y.newline y.escaped (angled b e y l) h
+      go false e true o true i = false≢true (sym n ∙ covered a_slash an_argument slash_argued q.token.kind false false (slash_here b y l (sym (kind_of_same RegExp y.kind i))))
+      go false e true o false i = not_both an_argument a_brace no_brace y.kind y.newline y.escaped h (or_right (same_kind RCurly y.kind) _ (tail_of y.kind o i))
+      go false e false o t i = false≢true (sym n ∙ subst (λ (v : Kind). yields_argument v ≡ true) (sym (told_plain b e y o l).kind) h)
 
   no_argument : {X : Test} (g : G) → covers (λ k w e. starts first g X.base k w e && reads k w e) an_argument ≡ true → yields_argument q.token.kind ≡ false → Fails rule (Lex text) X end g q.prev_token_end
   no_argument {X} g c n = fails_here firsts (λ y l h. no_argument_there n y l (covered (λ k w e. starts first g X.base k w e && reads k w e) an_argument c y.kind y.newline y.escaped (and_from _ _ h l.1)))

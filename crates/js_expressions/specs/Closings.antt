@@ -1,4 +1,4 @@
--- Where the parentheses close that begin at a place, where no lexeme between begins with a slash: then they are the same in every lexical goal.
+-- Where the parentheses close that begin at a place, by lexemes of the plain lexical goal of which none begins with a slash.
 use Rattle.std.specs.Prelude.{ℕ, ◌≡◌, Bool, true, false, IsTrue, not, List, [], ◌∷◌, Some}
 use Rattle.js_base.specs.declared.kind.Kind.{Kind}
 use Rattle.js_base.specs.declared.kind.Kind.TheVariants.{Arrow, RAngle, Undetermined}
@@ -11,7 +11,7 @@ use Rattle.js_parsing.specs.Lexemes.{slashes}
 use Rattle.js_expressions.specs.declared.closing.OpenBracket.{OpenBracket}
 use Rattle.js_expressions.specs.declared.closing.OpenBracket.TheVariants.{Round, Square, Curly}
 
--- a lexeme that is the same in every lexical goal
+-- a lexeme of the plain lexical goal, with which no regular expression may begin
 abbrev pub Settled : List ℕ → ℕ → Lexeme → Type 0
 Settled text s y = LexemeBehind division text s y × (one_of_kinds slashes y.kind ≡ false)
 
@@ -39,7 +39,7 @@ abbrev pub open_behind : List ℕ → List OpenBracket → List ℕ
 open_behind st [] = st
 open_behind st (b ∷ bs) = open_behind (number_of b ∷ st) bs
 
--- a token that tells a whole lexeme, the same in every lexical goal
+-- a token that tells a whole lexeme, with which no regular expression may begin
 abbrev pub tells_whole : Kind → Bool
 tells_whole k = not (one_of_kinds (RAngle ∷ Undetermined ∷ slashes) k)
 

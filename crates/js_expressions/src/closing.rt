@@ -20,8 +20,9 @@ pub(crate) enum OpenBracket {
 }
 
 /// Whether `=>` stands behind the parentheses that begin behind a place. It is false, too, where a sign that begins with
-/// `>` stands between them, since of such a sign the lexer tells a part, and where a slash does, with which a regular
-/// expression may begin.
+/// `>` stands between them, since of such a sign the lexer tells a part, where a slash does, with which a regular
+/// expression may begin, and where a template with an expression in it does, since its other parts are lexemes of another
+/// lexical goal.
 pub(crate) fn is_arrow_behind_one<C: ParserConfig>(
     p: &ParserImpl<'_, C>,
     start: u32,
@@ -55,8 +56,8 @@ fn is_arrow_at<C: ParserConfig>(p: &ParserImpl<'_, C>, place: u32) -> Result<boo
     Ok(matches!(next.kind(), Kind::Arrow))
 }
 
-/// Passes a lexeme: a bracket is opened, or closes the one that was opened last. False where it closes none, or where the
-/// lexeme isn't told whole.
+/// Passes a lexeme: a bracket is opened, or closes the one that was opened last. False where it closes none, where the
+/// lexeme isn't told whole, or where it is a part of a template.
 fn pass_bracket(brackets: &mut Vec<OpenBracket>, kind: Kind) -> Result<bool, NoMemory>
     ensures { IfOk result (λ passed. BracketPassed kind brackets.old.items brackets.new.items passed) }
 {
@@ -69,6 +70,7 @@ fn pass_bracket(brackets: &mut Vec<OpenBracket>, kind: Kind) -> Result<bool, NoM
         Kind::RCurly => Ok(close_last(brackets, OpenBracket::Curly)),
         Kind::RAngle => Ok(false),
         Kind::Slash | Kind::SlashEq => Ok(false),
+        Kind::TemplateHead | Kind::TemplateMiddle | Kind::TemplateTail => Ok(false),
         Kind::Undetermined => Ok(false),
         _ => Ok(true),
     }

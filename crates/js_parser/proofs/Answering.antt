@@ -26,12 +26,13 @@ use Rattle.js_base.specs.declared.token.Token.{Token}
 use Rattle.js_lex.specs.Kept.{LieIn}
 use Rattle.js_lex.specs.declared.comment.Comment.{Comment}
 use Rattle.js_lex.specs.declared.output.LexerOutput.{LexerOutput}
+use Rattle.js_parser.proofs.Lists.{first_empty, second_empty}
 use Rattle.js_parser.specs.Readings.{HasNoReading, HasNoReadingBy, IsOnlyReadingBy, AreOf}
-use Rattle.js_parser.specs.EarlyErrors.{clashing_in}
-use Rattle.js_parser.proofs.RegExpSpans.{Edged}
+use Rattle.js_parser.specs.Broken.{told_in}
+use Rattle.js_parser.specs.declared.early.Position.TheVariants.{Anywhere}
 use Rattle.js_parser.specs.Leftover.{leftover, with_leftover}
 use Rattle.js_parser.specs.NodeSpans.{SlotsLie}
-use Rattle.js_parser.proofs.Leftovers.{covered, in_program, clash_in_program, clashes_edged, clashes_lie, leftover_early, leftover_lie, leftover_marked, leftover_none, none_before, none_leftover, none_read, only_read, spans_lie, spans_marked}
+use Rattle.js_parser.proofs.Leftovers.{all_early, covered, early_marked, in_program, told_in_program, leftover_early, leftover_marked, leftover_none, none_before, none_leftover, none_read, only_read, spans_lie, spans_marked}
 use Rattle.js_grammar.specs.CoverInitialisers.{initialised_in}
 use Rattle.js_grammar.proofs.CoverInitialisers.{Marked}
 use Rattle.js_tree.specs.Covering.{placed}
@@ -44,17 +45,9 @@ use Rattle.js_parser.proofs.NodeSpans.{slots_lie, program_lie}
 use Rattle.js_parser.specs.Taken.{IsOf, ReadOrNot, ProgramTaken, ProgramRefused, ProgramStops}
 use Rattle.js_cursor.specs.declared.stop.Stop.{Stop}
 use Rattle.js_cursor.specs.declared.stop.Stop.TheVariants.{Fatal}
+use Rattle.js_parsing.specs.Classes.{IsEarly}
 use Rattle.js_parsing.proofs.Classes.{lexical_by}
 use Rattle.js_parsing.specs.States.{NodesLie}
-
--- both lists are empty
-pub first_empty : {K : Type 0} (a b : List K) → a ++ b ≡ [] → a ≡ []
-first_empty [] b e = refl
-first_empty (x ∷ a) b e = cc
-
-pub second_empty : {K : Type 0} (a b : List K) → a ++ b ≡ [] → b ≡ []
-second_empty [] b e = e
-second_empty (x ∷ a) b e = cc
 
 none_of_two : {K : Type 0} (a b : List K) → a ≡ [] → b ≡ [] → a ++ b ≡ []
 none_of_two a b e f = λ i. e i ++ f i
@@ -79,8 +72,11 @@ module _ {text : List ℕ} {s : SourceType} {p : Parser} (t : IsOf text s p) whe
   marks = subst (λ (w : List ℕ). All (Mark (goal_of s) w) p.errors) t.text_is (subst (λ (v : SourceType). All (Mark (goal_of v) p.text) p.errors) t.source_type t.at.marked)
 
   -- and lies in the text
+  each_lies : (found : List Diagnostic) → All (Mark (goal_of s) text) found → All (λ d. LiesIn d.span text) found
+  each_lies found h = All-weaker (Mark (goal_of s) text) (λ d. LiesIn d.span text) (λ d m. record { ordered = m.ordered; starts_whole = m.begins_between; ends_whole = m.ends_between }) found h
+
   marks_lie : All (λ d. LiesIn d.span text) p.errors
-  marks_lie = All-weaker (Mark (goal_of s) text) (λ d. LiesIn d.span text) (λ d m. record { ordered = m.ordered; starts_whole = m.begins_between; ends_whole = m.ends_between }) p.errors marks
+  marks_lie = each_lies p.errors marks
 
   faults_lie : (kept : List Diagnostic) → All (IsFault (goal_of s) text) kept → All (λ d. LiesIn d.span text) kept
   faults_lie kept h = All-weaker (IsFault (goal_of s) text) (λ d. LiesIn d.span text) (λ d f. record { ordered = (let l = f.faulty.ordered in omega arith); starts_whole = f.faulty.begins_between; ends_whole = f.faulty.ends_between }) kept h
@@ -124,8 +120,8 @@ one_at_least d ds e = cc
 pub nodes_lie : {p : Parser} {ids : List (Option NodeId)} (span : Span) (nodes : List Node) → span.start ≡ 0 → span.end ≡ p.token.span.end → nodes ≡ with_program (program_node span ids) p.nodes → IsAt p → NodesLie p.text p.nodes → NodesLie p.text nodes
 nodes_lie {p} {ids} span nodes a b n h l = subst (λ (ns : List Node). NodesLie p.text ns) (sym n) (program_lie (program_node span ids) p.nodes (subst (λ (v : Span). LiesIn v p.text) (sym (span_is span a b)) (record { ordered = omega arith; starts_whole = IsCharBoundary-start p.text h.utf8; ends_whole = h.lies.ends_whole })) l)
 
-pub taken_answer : {text : List ℕ} {s : SourceType} {o : ParseOptions} {asks : Bool} {p : Parser} {ids : List (Option NodeId)} (span : Span) (nodes : List Node) (out kept : LexerOutput) (clashes covers : List Span) → span.start ≡ 0 → span.end ≡ p.token.span.end → ((cs : Slots) → HoldsAll p.nodes 1 (length p.nodes) ids cs → IsTree nodes (program_tree span cs)) → nodes ≡ with_program (program_node span ids) p.nodes → ((t : Tree) → IsTree nodes t → clashes ≡ map placed (clashing_in p.text t.slots)) → ((t : Tree) → IsTree nodes t → covers ≡ map placed (initialised_in t.slots)) → out ≡ record kept { errors = with_leftover (p.lexer.kept.errors ++ p.errors) clashes covers } → LieIn p.lexer.text kept → ProgramTaken text s o asks p ids → IsAnswer text (goal_of s) (options_of o) nodes out false
-taken_answer {text} {s} {o} {asks} {p} {ids} span nodes out kept clashes covers a b t n f i e l h = go (p.lexer.kept.errors ++ p.errors) refl
+pub taken_answer : {text : List ℕ} {s : SourceType} {o : ParseOptions} {asks : Bool} {p : Parser} {ids : List (Option NodeId)} (span : Span) (nodes : List Node) (out kept : LexerOutput) (early : List Diagnostic) (covers : List Span) → span.start ≡ 0 → span.end ≡ p.token.span.end → ((cs : Slots) → HoldsAll p.nodes 1 (length p.nodes) ids cs → IsTree nodes (program_tree span cs)) → nodes ≡ with_program (program_node span ids) p.nodes → ((t : Tree) → IsTree nodes t → early ≡ told_in p.text Anywhere t.slots) → ((t : Tree) → IsTree nodes t → covers ≡ map placed (initialised_in t.slots)) → out ≡ record kept { errors = with_leftover (p.lexer.kept.errors ++ p.errors) early covers } → LieIn p.lexer.text kept → ProgramTaken text s o asks p ids → IsAnswer text (goal_of s) (options_of o) nodes out false
+taken_answer {text} {s} {o} {asks} {p} {ids} span nodes out kept early covers a b t n f i e l h = go (p.lexer.kept.errors ++ p.errors) refl
   where
     program : Tree
     program = program_tree (record { start = 0; end = p.token.span.end }) h.slots
@@ -139,27 +135,27 @@ taken_answer {text} {s} {o} {asks} {p} {ids} span nodes out kept clashes covers 
     slots_inside : SlotsLie text h.slots
     slots_inside = slots_lie h.lies (h.holds).stands
 
-    clashes_are : clashes ≡ map placed (clashing_in text h.slots)
-    clashes_are = subst (λ (w : List ℕ). clashes ≡ map placed (clashing_in w h.slots)) h.is_of.text_is (f program whole)
+    early_is : early ≡ told_in text Anywhere h.slots
+    early_is = subst (λ (w : List ℕ). early ≡ told_in w Anywhere h.slots) h.is_of.text_is (f program whole)
 
     covers_are : covers ≡ map placed (initialised_in h.slots)
     covers_are = i program whole
 
-    left_is : leftover clashes covers ≡ leftover (map placed (clashing_in text h.slots)) (map placed (initialised_in h.slots))
-    left_is = λ j. leftover (clashes_are j) (covers_are j)
+    left_is : leftover early covers ≡ leftover (told_in text Anywhere h.slots) (map placed (initialised_in h.slots))
+    left_is = λ j. leftover (early_is j) (covers_are j)
 
     outside : initialised_in (tree program.label program.slots end) ≡ initialised_in h.slots
     outside = in_program program refl
 
-    clash_outside : clashing_in text (tree program.label program.slots end) ≡ clashing_in text h.slots
-    clash_outside = clash_in_program text (record { start = 0; end = p.token.span.end }) h.slots
+    told_outside : told_in text Anywhere (tree program.label program.slots end) ≡ told_in text Anywhere h.slots
+    told_outside = told_in_program text (record { start = 0; end = p.token.span.end }) h.slots
 
     by_cover : (p.lexer.kept.errors ++ p.errors ≡ [] → IsOnlyReadingBy true text (goal_of s) (options_of o) program) × ((p.lexer.kept.errors ++ p.errors ≡ [] → ⊥) → HasNoReadingBy true text (goal_of s) (options_of o))
     by_cover = by_found text s o p h.slots (p.lexer.kept.errors ++ p.errors) refl h.outcome
 
     go : (ds : List Diagnostic) → p.lexer.kept.errors ++ p.errors ≡ ds → IsAnswer text (goal_of s) (options_of o) nodes out false
     go (d ∷ ds) q =
-        let same : with_leftover (p.lexer.kept.errors ++ p.errors) clashes covers ≡ p.lexer.kept.errors ++ p.errors = ap (λ (v : List Diagnostic). with_leftover v clashes covers) q ∙ sym q in
+        let same : with_leftover (p.lexer.kept.errors ++ p.errors) early covers ≡ p.lexer.kept.errors ++ p.errors = ap (λ (v : List Diagnostic). with_leftover v early covers) q ∙ sym q in
         let some : p.lexer.kept.errors ++ p.errors ≡ [] → ⊥ = λ z. one_at_least d ds (sym q ∙ z) in
         let in_order : out ≡ record kept { errors = p.lexer.kept.errors ++ p.errors } = e ∙ ap (λ (v : List Diagnostic). record kept { errors = v }) same in
         record {
@@ -179,33 +175,32 @@ taken_answer {text} {s} {o} {asks} {p} {ids} span nodes out kept clashes covers 
           no_tokens = λ z. absurd (false≢true z);
         }
     go [] q =
-        let found_is : out.errors ≡ leftover clashes covers = ap (λ (x : LexerOutput). x.errors) e ∙ ap (λ (v : List Diagnostic). with_leftover v clashes covers) q in
+        let found_is : out.errors ≡ leftover early covers = ap (λ (x : LexerOutput). x.errors) e ∙ ap (λ (v : List Diagnostic). with_leftover v early covers) q in
         let read = by_cover.0 q in
-        let none_left : clashing_in text h.slots ≡ [] → initialised_in h.slots ≡ [] → out.errors ≡ [] = λ y z. found_is ∙ (left_is ∙ (λ j. leftover (map placed (y j)) (map placed (z j)))) in
-        let left_none : out.errors ≡ [] → (clashing_in text h.slots ≡ []) × (initialised_in h.slots ≡ []) = λ z. leftover_none (clashing_in text h.slots) (initialised_in h.slots) (sym left_is ∙ (sym found_is ∙ z)) in
-        let none : (out.errors ≡ [] → ⊥) → HasNoReading text (goal_of s) (options_of o) = λ z. none_leftover (λ x y. z (none_left (sym clash_outside ∙ x) (sym outside ∙ y))) read in
-        let clashes_inside = clashes_lie text h.slots slots_inside in
-        let covers_inside = spans_lie text h.slots slots_inside in
-        let inner_lie : All (λ d. LiesIn d.span text) (leftover clashes covers) = subst (λ (ds : List Diagnostic). All (λ d. LiesIn d.span text) ds) (sym left_is) (leftover_lie (goal_of s) text (clashing_in text h.slots) (initialised_in h.slots) clashes_inside covers_inside) in
+        let none_left : told_in text Anywhere h.slots ≡ [] → initialised_in h.slots ≡ [] → out.errors ≡ [] = λ y z. found_is ∙ (left_is ∙ (λ j. leftover (y j) (map placed (z j)))) in
+        let left_none : out.errors ≡ [] → (told_in text Anywhere h.slots ≡ []) × (initialised_in h.slots ≡ []) = λ z. leftover_none (told_in text Anywhere h.slots) (initialised_in h.slots) (sym left_is ∙ (sym found_is ∙ z)) in
+        let none : (out.errors ≡ [] → ⊥) → HasNoReading text (goal_of s) (options_of o) = λ z. none_leftover (λ x y. z (none_left (sym told_outside ∙ x) (sym outside ∙ y))) read in
+        let left_marked : All (Mark (goal_of s) text) (leftover early covers) = subst (All (Mark (goal_of s) text)) (sym left_is) (leftover_marked (goal_of s) text (told_in text Anywhere h.slots) (initialised_in h.slots) (early_marked read.reading slots_inside) (subst (All (Marked text)) outside (spans_marked read.reading)) (spans_lie text h.slots slots_inside)) in
+        let left_lie : All (λ d. LiesIn d.span text) (leftover early covers) = each_lies h.is_of (leftover early covers) left_marked in
         record {
           told = record {
             faults = [];
-            told = leftover clashes covers;
+            told = leftover early covers;
             in_order = found_is;
             faulty = All-nil (IsFault (goal_of s) text);
             lexical = All-nil (λ d. class_of d.kind ≡ Lexical);
-            marked = subst (λ (ds : List Diagnostic). All (Mark (goal_of s) text) ds) (sym left_is) (leftover_marked (goal_of s) text (clashing_in text h.slots) (initialised_in h.slots) (subst (All (Edged (goal_of s) text)) clash_outside (clashes_edged read.reading)) clashes_inside (subst (All (Marked text)) outside (spans_marked read.reading)) covers_inside);
-            lie = subst (All (λ d. LiesIn d.span text)) (sym found_is) inner_lie;
+            marked = left_marked;
+            lie = subst (All (λ d. LiesIn d.span text)) (sym found_is) left_lie;
           };
-          lie = lies_with h.is_of kept out (leftover clashes covers) (e ∙ ap (λ (v : List Diagnostic). record kept { errors = with_leftover v clashes covers }) q) l inner_lie;
+          lie = lies_with h.is_of kept out (leftover early covers) (e ∙ ap (λ (v : List Diagnostic). record kept { errors = with_leftover v early covers }) q) l left_lie;
           tree = program;
           is_tree = whole;
           program_lies = up_to_token h.is_of;
           inside = slots_inside;
           nodes_lie = all_lie;
-          clean = λ z. let x = left_none z in only_read (clash_outside ∙ x.0) (outside ∙ x.1) read;
+          clean = λ z. let x = left_none z in only_read (told_outside ∙ x.0) (outside ∙ x.1) read;
           unclean = λ z. none z;
-          early = λ z. leftover_early clashes covers;
+          early = λ z. leftover_early early covers (subst (All IsEarly) (sym early_is) (all_early text Anywhere h.slots));
           stopped = λ z. absurd (false≢true z);
           ended = λ z y. false≢true z;
           childless = λ z. absurd (false≢true z);
@@ -213,11 +208,11 @@ taken_answer {text} {s} {o} {asks} {p} {ids} span nodes out kept clashes covers 
         }
 
 -- and what was kept
-pub taken_kept : {text : List ℕ} {s : SourceType} {o : ParseOptions} {asks : Bool} {p : Parser} {ids : List (Option NodeId)} (out kept : LexerOutput) (clashes covers : List Span) → out ≡ record kept { errors = with_leftover (p.lexer.kept.errors ++ p.errors) clashes covers } → kept ≡ p.lexer.kept → ProgramTaken text s o asks p ids → KeepsRight text (goal_of s) (options_of o) asks out
-taken_kept {text} {s} {o} {asks} {p} out kept clashes covers e same h = record {
+pub taken_kept : {text : List ℕ} {s : SourceType} {o : ParseOptions} {asks : Bool} {p : Parser} {ids : List (Option NodeId)} (out kept : LexerOutput) (early : List Diagnostic) (covers : List Span) → out ≡ record kept { errors = with_leftover (p.lexer.kept.errors ++ p.errors) early covers } → kept ≡ p.lexer.kept → ProgramTaken text s o asks p ids → KeepsRight text (goal_of s) (options_of o) asks out
+taken_kept {text} {s} {o} {asks} {p} out kept early covers e same h = record {
   unasked = λ a. ap (λ (x : LexerOutput). x.tokens) e ∙ (ap (λ (x : LexerOutput). x.tokens) same ∙ h.unasked a);
   kept = λ z t r.
-      let none = none_before (p.lexer.kept.errors ++ p.errors) clashes covers (sym (ap (λ (x : LexerOutput). x.errors) e) ∙ z) in
+      let none = none_before (p.lexer.kept.errors ++ p.errors) early covers (sym (ap (λ (x : LexerOutput). x.errors) e) ∙ z) in
       let k = h.kept (record { faults = first_empty p.lexer.kept.errors p.errors none; errors = second_empty p.lexer.kept.errors p.errors none }) t (covered r.strict) in
       record {
         comments = ap (λ (x : LexerOutput). x.comments) e ∙ (ap (λ (x : LexerOutput). x.comments) same ∙ k.comments);

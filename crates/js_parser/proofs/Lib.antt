@@ -1,3 +1,4 @@
+pub mod Lists
 pub mod Walks
 pub mod Hashbangs
 pub mod Fronts
@@ -6,6 +7,7 @@ pub mod NodeSpans
 pub mod Answering
 pub mod CoreTexts
 pub mod FlagScans
-pub mod Clashes
-pub mod RegExpSpans
+pub mod Broken
+pub mod EarlyErrors
+pub mod EarlyMarks
 pub mod Leftovers

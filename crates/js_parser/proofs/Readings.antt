@@ -3,7 +3,7 @@ use Rattle.std.proofs.Common.{ℕ, zero, suc, ◌&&◌, take, ◌≡◌, max, �
 use Rattle.std.proofs.lemmas.Bool.{and_from}
 use Rattle.js_base.specs.declared.diagnostic.Diagnostic.{Diagnostic}
 use Rattle.js_base.specs.declared.kind.Kind.{Kind}
-use Rattle.js_base.specs.declared.kind.Kind.TheVariants.{Eof, Undetermined, RAngle, RegExp, HashbangComment}
+use Rattle.js_base.specs.declared.kind.Kind.TheVariants.{Eof, Undetermined, RAngle, HashbangComment}
 use Rattle.js_base.specs.declared.options.ParseOptions.{ParseOptions}
 use Rattle.js_base.specs.declared.source_type.SourceType.{SourceType}
 use Rattle.js_base.specs.Kinds.{same_kind, one_of_kinds}
@@ -30,7 +30,7 @@ use Rattle.js_cursor.specs.Tokens.{IsToken, whole as whole_token, sign as sign_t
 use Rattle.js_cursor.specs.declared.stop.Stop.{Stop}
 use Rattle.js_cursor.specs.declared.stop.Stop.TheVariants.{Fatal, NoMemory}
 use Rattle.js_parsing.specs.Answers.{Stretch, Verdict, clean, unclean}
-use Rattle.js_parsing.specs.Lexemes.{IsRight, Lex, is_read, read_kinds, slashes}
+use Rattle.js_parsing.specs.Lexemes.{IsRight, Lex, goal_for, is_read, other_goals, read_kinds, signs}
 use Rattle.js_parsing.specs.States.{At, IsPlain, whole, sign, nothing as no_lexeme, flags_of, Standing, NodesLie, SpansLie}
 use Rattle.js_statements.specs.StatementLists.{at_end, with_directives, statements, NoList, Taken, AllTaken, AllRefused}
 use Rattle.js_statements.specs.declared.statement_list.StatementList.TheVariants.{Text}
@@ -62,7 +62,7 @@ use Rattle.js_parsing.proofs.Moving.{standing, beside_nodes}
 use Rattle.js_parser.specs.Parsed.{options_of, IsAnswer}
 use Rattle.js_parser.specs.Readings.{parameters, ReadingBy, IsOnlyReadingBy, HasNoReadingBy}
 use Rattle.js_parser.specs.Taken.{FoundNothing, ReadOrNot, ProgramTaken, ProgramStops}
-use Rattle.js_parser.proofs.Answering.{first_empty, second_empty}
+use Rattle.js_parser.proofs.Lists.{first_empty, second_empty}
 use Rattle.js_base.specs.declared.source_type.Goal.TheVariants as source
 use Rattle.js_grammar.specs.Grammar.{Derives}
 use Rattle.js_grammar.specs.CoverInitialisers.{with_cover}
@@ -122,7 +122,7 @@ module _ {text : List ℕ} {f : Flags} {q : Parser} (a : At text f q) (e : q.tok
   end_kind y l = kind_here a e refl y l
 
   end_place : (y : Lexeme) → Lex text q.prev_token_end y → y.to ≡ q.token.span.end
-  end_place y l = sym (told a (let z = end_kind y l in uncut_end a.plain) (ap (one_of_kinds slashes) e) y l).end
+  end_place y l = sym (told a (let z = end_kind y l in uncut_end a.plain) (ap (one_of_kinds signs) e) y l).end
     where
       uncut_end : IsPlain text q → q.cut ≡ false
       uncut_end (whole c n x) = c
@@ -130,7 +130,7 @@ module _ {text : List ℕ} {f : Flags} {q : Parser} (a : At text f q) (e : q.tok
       uncut_end (no_lexeme c k n) = c
 
   same_end : {z : Lexeme} → Lex text q.prev_token_end z → z ≡ (end_here a e).0
-  same_end {z} m = let y = end_here a e in alike m y.1 (ap (same_kind RegExp) (end_kind z m ∙ sym y.2))
+  same_end {z} m = let y = end_here a e in alike m y.1 (ap goal_for (end_kind z m ∙ sym y.2))
 
   module _ {s : ℕ} {slots : Slots → Slots} {pass : Lexemes → Lexemes} (u : Stretch text (plain (at_end Text)) (with_directives Text f) s (statements Text f) q.prev_token_end slots pass) where
     list_reads : Reads rule (Lex text) (plain (at_end Text)) end (with_directives Text f) s q.prev_token_end slots (record { reach = max u.reach (max 0 0); pass = pass })
@@ -238,7 +238,7 @@ module _ {text : List ℕ} {f : Flags} {q : Parser} (a : At text f q) (e : q.tok
     {keeps : Bool} {kept : LexerOutput} (w : Walked text (record { source = source; keeps_tokens = keeps; place = s; kept = kept }) (spot q) pass) (first : KeptFor source text s kept.errors) where
   right_body : q.lexer.kept.errors ≡ [] → Body (Faultless source text) f s (slots end) (pass (last (end_here a e).0))
   right_body z = let x = any_so a e u in let y = end_here a e in record {
-    lexed = all_right w z (λ v. first.none v) (last y.0) x.lexed (right_there w z (λ v. first.none v) y.0 y.1 (ap (same_kind RegExp) y.2));
+    lexed = all_right w z (λ v. first.none v) (last y.0) x.lexed (right_there w z (λ v. first.none v) y.0 y.1 (ap (one_of_kinds other_goals) y.2));
     place = x.place;
     final = x.final;
     is_end = x.is_end;

@@ -8,6 +8,10 @@ use Rattle.js_parser.specs.declared.flags.Read.TheVariants.{Nothing, Slash, Patt
 abbrev pub both_among : List ℕ → Bool
 both_among fs = one_of fs 117 && one_of fs 118
 
+-- the flags of a regular expression of these characters
+abbrev pub has_both : List ℕ → Bool
+has_both w = both_among (unwrap_or (flags w) [])
+
 -- with these characters behind that part
 abbrev pub both_behind : Read → List ℕ → Bool
 both_behind Nothing cs = both_among (unwrap_or (flags cs) [])

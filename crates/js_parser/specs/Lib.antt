@@ -1,6 +1,6 @@
 pub mod EarlyErrors
 pub mod FlagScans
-pub mod Clashes
+pub mod Broken
 pub mod Readings
 pub mod Kept
 pub mod Parsed

@@ -11,7 +11,7 @@ ghost use Rattle.js_parser.specs.Leftover.{told_at, with_leftover};
 ghost use Rattle.js_parser.specs.Parsed.{options_of, IsAnswer, IsOverlong};
 ghost use Rattle.js_parser.specs.Taken.{ProgramTaken, ProgramRefused};
 
-use crate::early::flag_clashes;
+use crate::early::early_errors;
 use js_base::{
     Diagnostic, DiagnosticClass, DiagnosticKind, Diagnostics, Kind, NoMemory, SourceType, Span,
     Spans, Tokens,
@@ -70,9 +70,9 @@ pub fn taken(
     let kept = parts.lexer.finish();
     let tree = parts.ast.finish(span, items)?;
     let found = joined(kept.errors, parts.errors)?;
-    let clashes = flag_clashes(alloc, &tree, source)?;
+    let early = early_errors(alloc, &tree, source)?;
     let covers = tree.cover_initializers(alloc)?;
-    let diagnostics = with_leftover(found, clashes, covers)?;
+    let diagnostics = with_leftover(found, early, covers)?;
     let (module_record, _) = parts.module_record_builder.build()?;
     Ok(ParserReturn {
         program: Program {
@@ -173,24 +173,19 @@ fn fewer_faults(tells_fault: bool, faults: Diagnostics) -> Diagnostics
     faults
 }
 
-/// Where nothing was found, a diagnostic for each regular expression with the flags `u` and `v` (ECMA-262, section 22.2.3.4),
-/// and then for each shorthand with an initialiser that no target took (CoverInitializedName, section 13.2.5.1), by its span.
+/// Where nothing was found, what is told of the early rules, and then a diagnostic for each shorthand with an initialiser
+/// that no target took (CoverInitializedName, section 13.2.5.1), by its span.
 fn with_leftover(
     found: Diagnostics,
-    clashes: Vec<Span>,
+    early: Diagnostics,
     covers: Vec<Span>,
 ) -> Result<Diagnostics, NoMemory>
-    ensures { IfOk result (λ all. all ≡ with_leftover found clashes.items covers.items) }
+    ensures { IfOk result (λ all. all ≡ with_leftover found early covers.items) }
 {
-    let mut all = found;
-    if all.len() > 0 {
-        return Ok(all);
+    if found.len() > 0 {
+        return Ok(found);
     }
-    tell_each(
-        &mut all,
-        DiagnosticKind::RegExpFlagUAndV,
-        clashes.as_slice(),
-    )?;
+    let mut all = early;
     tell_each(
         &mut all,
         DiagnosticKind::CoverInitializedName,

@@ -1,97 +1,204 @@
 //! Early rules (ECMA-262, section 5.2.7) that a tree is looked through for, since the grammar doesn't have them.
 
-ghost use Rattle.std.specs.Prelude.{◌≡◌, ◌<◌, ◌++◌, [], false, length, map, not, IfOk, OnOk, Bool};
-ghost use Rattle.std.specs.List.{All, list_any};
+ghost use Rattle.std.specs.Prelude.{◌≡◌, ◌<◌, ◌≤◌, ◌++◌, length, true, false, None, IfOk, OnOk};
+ghost use Rattle.std.specs.List.{All};
 ghost use Rattle.js_base.specs.Spans.{LiesIn};
-ghost use Rattle.js_grammar.specs.EarlyRules.{not_u_and_v};
-ghost use Rattle.js_grammar.specs.Trees.{end, Tree as SeenTree};
-ghost use Rattle.js_tree.specs.Covering.{placed};
+ghost use Rattle.js_grammar.specs.Trees.{Tree as SeenTree};
 ghost use Rattle.js_tree.specs.Holding.{IsTree};
-ghost use Rattle.js_tree.specs.Nodes.{label, node_at};
-ghost use Rattle.js_tree.specs.Parts.{below_all};
-ghost use Rattle.js_parser.specs.EarlyErrors.{clashing_in};
-ghost use Rattle.js_parser.specs.Clashes.{is_reg_exp, clash_at};
+ghost use Rattle.js_tree.specs.Labels.{kind_of};
+ghost use Rattle.js_tree.specs.Nodes.{node_at};
+ghost use Rattle.js_parser.specs.declared.early.Position.TheVariants.{Anywhere, InTemplate};
+ghost use Rattle.js_parser.specs.Broken.{past, within, rule_at, told_of, told_in, pending, pending_within, pending_alike, first_end};
 
 use crate::flags::has_u_and_v;
-use js_base::{NoMemory, Span};
+use js_base::{Diagnostic, DiagnosticKind, Diagnostics, NoMemory};
 use js_tree::{NodeId, NodeKind, Tree};
 use std::alloc::Global;
 
-/// The spans of the regular expressions in the tree that have the flags `u` and `v`, both (ECMA-262, section 22.2.3.4), in
-/// its order. The only error is want of memory.
-pub fn flag_clashes(alloc: Global, tree: &Tree, source: &str) -> Result<Vec<Span>, NoMemory>
-    requires { All (λ n. LiesIn n.span source.now) tree.now }
-    ensures { IfOk result (λ spans. (t : SeenTree) → IsTree tree.now t → spans.items ≡ map placed (clashing_in source.now t.slots)) }
-{
-    let mut spans = Vec::new(alloc);
-    if !has_reg_exp(tree.kinds()) {
-        return Ok(spans);
-    }
-    let mut stack = Vec::new(alloc);
-    push_children(&mut stack, tree.kinds().len(), tree.children(NodeId(0)))?;
-    'nodes: while let Some(id) = stack.pop() {
-        note_clash(&mut spans, tree, id, source)?;
-        push_children_of(&mut stack, tree, id)?;
-    }
-    Ok(spans)
+/// Where a node stands, as far as a rule asks.
+#[derive(Debug, Clone, Copy)]
+enum Position {
+    /// Where none asks.
+    Anywhere,
+    /// As the tag of a template.
+    Tag,
+    /// Behind the tag of a template.
+    Tagged,
+    /// In a template that isn't tagged.
+    InTemplate,
 }
 
-/// Whether any node is a regular expression, in the tree or not. A walk of the tree is due only then.
-fn has_reg_exp(kinds: &[NodeKind]) -> bool
-    ensures { result ≡ list_any is_reg_exp kinds.now }
-{
-    for kind in kinds {
-        if matches!(kind, NodeKind::RegExpLiteral) {
-            return true;
+impl Position {
+    /// That of what stands behind a node at this one.
+    fn past(self) -> Position
+        ensures { result ≡ past self }
+    {
+        match self {
+            Position::Tag => Position::Tagged,
+            other => other,
         }
     }
-    false
+
+    /// That of the first child of a node at this one.
+    fn within(self, kind: NodeKind) -> Position
+        ensures { result ≡ within self (kind_of kind) }
+    {
+        match kind {
+            NodeKind::TaggedTemplateExpression => Position::Tag,
+            NodeKind::TemplateLiteral => match self {
+                Position::Tagged => Position::Anywhere,
+                _ => Position::InTemplate,
+            },
+            _ => Position::Anywhere,
+        }
+    }
 }
 
-/// Whether the node is a regular expression with both flags.
-fn is_clash(tree: &Tree, id: NodeId, source: &str) -> bool
+/// A node that is still to be looked at.
+#[derive(Debug, Clone, Copy)]
+struct Pending {
+    id: NodeId,
+    position: Position,
+}
+
+/// A diagnostic for each node of the tree that breaks a rule, in its order: a regular expression with the flags `u` and
+/// `v`, both (section 22.2.3.4), and a part without a cooked text of a template that isn't tagged (sections 13.2.8.1 and
+/// 12.9.6.2). The only error is want of memory.
+pub fn early_errors(alloc: Global, tree: &Tree, source: &str) -> Result<Diagnostics, NoMemory>
+    requires { All (λ n. LiesIn n.span source.now) tree.now }
+    ensures { IfOk result (λ told. (t : SeenTree) → IsTree tree.now t → told ≡ told_in source.now Anywhere t.slots) }
+{
+    let mut told = Diagnostics::new(alloc);
+    if !has_suspect(alloc, tree, source)? {
+        return Ok(told);
+    }
+    let mut stack = Vec::new(alloc);
+    push_children(&mut stack, Position::Anywhere, tree.kinds().len(), tree.children(NodeId(0)))?;
+    'nodes: while let Some(node) = stack.pop() {
+        tell(&mut told, alloc, tree, node, source)?;
+        push_within(&mut stack, tree, node)?;
+    }
+    Ok(told)
+}
+
+/// Whether any node breaks a rule where most is asked, in the tree or not. A walk of the tree is due only then.
+fn has_suspect(alloc: Global, tree: &Tree, source: &str) -> Result<bool, NoMemory>
+    requires { All (λ n. LiesIn n.span source.now) tree.now }
+    ensures some { IfOk result (λ found. found ≡ true → 0 < length tree.now) }
+    ensures none { IfOk result (λ found. found ≡ false → (id : NodeId) → id.0 < length tree.now → rule_at source.now tree.now id InTemplate ≡ None) }
+{
+    for i in 0..tree.kinds().len() {
+        if broken_rule(alloc, tree, NodeId(i), Position::InTemplate, source)?.is_some() {
+            return Ok(true);
+        }
+    }
+    Ok(false)
+}
+
+/// The rule that the node breaks, standing at the position.
+fn broken_rule(
+    alloc: Global,
+    tree: &Tree,
+    id: NodeId,
+    position: Position,
+    source: &str,
+) -> Result<Option<DiagnosticKind>, NoMemory>
     requires contained { id.0 < length tree.now }
     requires lies { LiesIn (node_at tree.now id).span source.now }
-    ensures { result ≡ not (not_u_and_v source.now (label (node_at tree.now id)) end) }
+    ensures { IfOk result (λ kind. kind ≡ rule_at source.now tree.now id position) }
 {
-    matches!(tree.kind(id), NodeKind::RegExpLiteral) && has_u_and_v(tree.text(id, source))
+    match (tree.kind(id), position) {
+        (NodeKind::RegExpLiteral, _) if has_u_and_v(tree.text(id, source)) => {
+            Ok(Some(DiagnosticKind::RegExpFlagUAndV))
+        }
+        (NodeKind::TemplateElement, Position::InTemplate)
+            if tree.cooked(alloc, id, source)?.is_none() =>
+        {
+            Ok(Some(DiagnosticKind::TemplateLiteral))
+        }
+        _ => Ok(None),
+    }
 }
 
-/// Notes the node's span, if it is one.
-fn note_clash(spans: &mut Vec<Span>, tree: &Tree, id: NodeId, source: &str) -> Result<(), NoMemory>
+/// Tells that the node breaks a rule, if it does.
+fn tell(
+    told: &mut Diagnostics,
+    alloc: Global,
+    tree: &Tree,
+    node: Pending,
+    source: &str,
+) -> Result<(), NoMemory>
     requires { All (λ n. LiesIn n.span source.now) tree.now }
-    ensures { OnOk result (spans.new.items ≡ spans.old.items ++ clash_at source.now tree.now id) }
+    ensures { OnOk result (told.new ≡ told.old ++ told_of source.now tree.now node) }
 {
-    if tree.contains(id) && is_clash(tree, id, source) {
-        spans.push(tree.span(id))?;
+    if !tree.contains(node.id) {
+        return Ok(());
     }
-    Ok(())
+    let Some(kind) = broken_rule(alloc, tree, node.id, node.position, source)? else {
+        return Ok(());
+    };
+    told.push(Diagnostic {
+        kind,
+        span: tree.span(node.id),
+        first: None,
+        second: None,
+    })
 }
 
 /// Puts the children of the node on the stack, the first on top; a child's number lies below its node's.
-fn push_children_of(stack: &mut Vec<NodeId>, tree: &Tree, id: NodeId) -> Result<(), NoMemory>
-    ensures { OnOk result (stack.new.items ≡ stack.old.items ++ below_all id.0 (node_at tree.now id).children) }
+fn push_within(stack: &mut Vec<Pending>, tree: &Tree, node: Pending) -> Result<(), NoMemory>
+    ensures { OnOk result (stack.new.items ≡ stack.old.items ++ pending_within tree.now node) }
 {
-    if tree.contains(id) {
-        push_children(stack, id.0, tree.children(id))?;
+    if !tree.contains(node.id) {
+        return Ok(());
     }
-    Ok(())
+    let first = node.position.within(tree.kind(node.id));
+    push_children(stack, first, node.id.0, tree.children(node.id))
 }
 
-/// Puts the children in slots on the stack, the first on top, but for those whose number isn't below the bound.
+/// Puts the children in slots on the stack, the first on top and at the position, but for those whose number isn't below
+/// the bound.
 fn push_children(
-    stack: &mut Vec<NodeId>,
+    stack: &mut Vec<Pending>,
+    first: Position,
     below: usize,
     slots: &[Option<NodeId>],
 ) -> Result<(), NoMemory>
-    ensures { OnOk result (stack.new.items ≡ stack.old.items ++ below_all below slots.now) }
+    ensures { OnOk result (stack.new.items ≡ stack.old.items ++ pending first below slots.now) }
+{
+    let end = first_end(slots);
+    push_alike(stack, first.past(), below, &slots[end..])?;
+    push_alike(stack, first, below, &slots[..end])
+}
+
+/// Where the first child's slot ends; all slots, where none has a child.
+fn first_end(slots: &[Option<NodeId>]) -> usize
+    ensures is { result ≡ first_end slots.now }
+    ensures within { result ≤ length slots.now }
+{
+    for i in 0..slots.len() {
+        if slots[i].is_some() {
+            return i + 1;
+        }
+    }
+    slots.len()
+}
+
+/// The same of children that stand at one position, all of them.
+fn push_alike(
+    stack: &mut Vec<Pending>,
+    position: Position,
+    below: usize,
+    slots: &[Option<NodeId>],
+) -> Result<(), NoMemory>
+    ensures { OnOk result (stack.new.items ≡ stack.old.items ++ pending_alike position below slots.now) }
 {
     let mut i = slots.len();
     while i > 0 {
         i -= 1;
-        if let Some(child) = slots[i] {
-            if child.0 < below {
-                stack.push(child)?;
+        if let Some(id) = slots[i] {
+            if id.0 < below {
+                stack.push(Pending { id, position })?;
             }
         }
     }

@@ -21,7 +21,8 @@ use Rattle.js_grammar.specs.Follow.{after}
 use Rattle.js_grammar.proofs.Looks.{covers, apart}
 use Rattle.js_grammar.proofs.Calculus.{Between, ◌▹◌, ◌▹✗◌, by_plain, inside_full, more_of, then_by, part_fails, fails_never, fails_node}
 use Rattle.js_grammar.proofs.FirstClaims.{firsts}
-use Rattle.js_grammar.proofs.FirstRules.{by_first}
+use Rattle.js_grammar.specs.FirstSets.{first as first_of}
+use Rattle.js_grammar.proofs.FirstRules.{by_first, pick}
 use Rattle.js_grammar.proofs.FollowLaws.{fails_by}
 use Rattle.js_tree.specs.declared.id.NodeId.{NodeId}
 use Rattle.js_tree.specs.declared.kind.NodeKind.TheVariants as node
@@ -34,7 +35,7 @@ use Rattle.js_cursor.specs.Parsers.{Parser}
 use Rattle.js_cursor.specs.declared.stop.Stop.{Stop}
 use Rattle.js_cursor.specs.declared.stop.Stop.TheVariants.{Fatal, NoMemory}
 use Rattle.js_parsing.specs.Answers.{Grown, Numbered, Stops, Stretch, Underived, Verdict}
-use Rattle.js_parsing.specs.Lexemes.{Lex, Walked, read_kinds, spot}
+use Rattle.js_parsing.specs.Lexemes.{Lex, Walked, read_kinds, spot, template_tails}
 use Rattle.js_parsing.specs.Moves.{Moved, MadeHere, plain_label}
 use Rattle.js_parsing.specs.States.{At, Same}
 use Rattle.js_parsing.specs.Statements.{placed, after_statement, NoStatement, Statement}
@@ -47,7 +48,7 @@ use Rattle.js_parsing.proofs.Giving.{fails_none, gives_up}
 use Rattle.js_parsing.proofs.Here.{kind_here, uncut}
 use Rattle.js_parsing.proofs.MadeNodes.{node_held, one_lies}
 use Rattle.js_parsing.proofs.Moving.{moves, same_both, stops_behind}
-use Rattle.js_parsing.proofs.Paths.{Path, ◌⟶◌, ◌⟶✗◌, at_kind, label_here, last_token, noded, token, walked_both}
+use Rattle.js_parsing.proofs.Paths.{Path, ◌⟶◌, ◌⟶✗◌, at_kind, at_kinds, label_here, last_token, noded, token, walked_both}
 use Rattle.js_parsing.proofs.Signs.{plain_sign}
 use Rattle.js_parsing.proofs.Verdicts.{and_then, grown_then, verdict_of}
 use Rattle.js_parsing.proofs.Verdicts.{after as grown_behind}
@@ -74,13 +75,18 @@ then_some {pass = w} a b l u v = record {
 pub none_told : {text : List ℕ} {f : Flags} {q : Parser} → At text f q → q.token.kind ≡ kind.Undetermined → (y : Lexeme) → Lex text q.prev_token_end y → ⊥
 none_told a e y l = false≢true (sym (ap (one_of_kinds read_kinds) (kind_here a e refl y l)) ∙ (and_parts (one_of_kinds read_kinds y.kind) (not y.escaped) l.1).0)
 
+-- at a brace a choice is cut down to what begins with it, or with a part of a template that may stand in its place
+pub at_brace : {text : List ℕ} {f : Flags} {q : Parser} {X : Test} {g : G} → At text f q → q.token.kind ≡ kind.RCurly → Goes rule (Lex text) X end g q.prev_token_end (pick first_of X.base g (kind.RCurly ∷ template_tails)) q.prev_token_end (λ us. us) (still 0)
+unfolding apart
+at_brace a e = at_kinds a (kind.RCurly ∷ template_tails) refl (ap (one_of_kinds (kind.RCurly ∷ template_tails)) e)
+
 module _ {text : List ℕ} {f : Flags} {q : Parser} (a : At text f q) where
   -- a brace closes it
   list_closes : (sl : StatementList) → ends_in_brace sl ≡ true → q.token.kind ≡ kind.RCurly → Goes rule (Lex text) (plain (at_end sl)) end (statements sl f) q.prev_token_end nothing q.prev_token_end (λ us. us) (still 0)
   unfolding rule rule_of covers
   list_closes list.Text h e = absurd (false≢true h)
-  list_closes list.Block h e = more_of ▹ at_kind a kind.RCurly e refl
-  list_closes list.Body h e = more_of ▹ at_kind a kind.RCurly e refl
+  list_closes list.Block h e = more_of ▹ at_brace a e
+  list_closes list.Body h e = more_of ▹ at_brace a e
   list_closes list.Clause h e = absurd (false≢true h)
 
   -- at the end of the text it is open

@@ -40,7 +40,7 @@ use Rattle.js_cursor.specs.Parsers.{Parser}
 use Rattle.js_cursor.specs.declared.stop.Stop.{Stop}
 use Rattle.js_cursor.specs.declared.stop.Stop.TheVariants.{Fatal, NoMemory}
 use Rattle.js_parsing.specs.Answers.{Answer, Grown, Numbered, Stops, Underived}
-use Rattle.js_parsing.specs.Lexemes.{Lex, read_kinds}
+use Rattle.js_parsing.specs.Lexemes.{Lex, other_goals, read_kinds}
 use Rattle.js_parsing.specs.Moves.{IsWholeHere, Moved, Moves, MadeHere, plain_label, unpassable}
 use Rattle.js_parsing.specs.Stands.{StandsHere}
 use Rattle.js_parsing.specs.States.{At, Same}
@@ -85,7 +85,7 @@ module _ {text : List ℕ} {f : Flags} {X : Test} where
 
 module _ {text : List ℕ} {f : Flags} {p : Parser} (a : At text f p) where
   -- a lexeme that is due doesn't stand here
-  pub no_token : {X : Test} {g : G} (k : Kind) → (is_right_angle k || same_kind kind.RegExp k) ≡ false → StandsHere p k false → Fails rule (Lex text) X end (tok k ▸ g) p.prev_token_end
+  pub no_token : {X : Test} {g : G} (k : Kind) → (is_right_angle k || one_of_kinds other_goals k) ≡ false → StandsHere p k false → Fails rule (Lex text) X end (tok k ▸ g) p.prev_token_end
   no_token k n s = then_fails (fails_lexeme (is k) (λ y l h. stands_not a n s y l (sym (kind_of_same k y.kind (and_parts (same_kind k y.kind) (not y.escaped) h).0))))
 
   -- which was told

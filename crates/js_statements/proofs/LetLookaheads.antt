@@ -2,7 +2,7 @@
 use Rattle.std.proofs.Common.{ℕ, suc, ◌≡◌, ◌≤◌, max, List, Bool, true, false, not, IsTrue, refl, sym, ap, subst, arith, ◌∙◌}
 use Rattle.std.proofs.lemmas.Bool.{false≢true, and_from, and_parts}
 use Rattle.js_base.specs.declared.kind.Kind.{Kind}
-use Rattle.js_base.specs.declared.kind.Kind.TheVariants.{Eof, LBrack, Let, RAngle, RegExp}
+use Rattle.js_base.specs.declared.kind.Kind.TheVariants.{Eof, LBrack, Let, RAngle}
 use Rattle.js_base.specs.Kinds.{same_kind, one_of_kinds}
 use Rattle.js_base.proofs.KindLemmas.{kind_of_same}
 use Rattle.js_grammar.specs.Trees.{Slots, end}
@@ -15,7 +15,7 @@ use Rattle.js_grammar.proofs.Looks.{covers, covered}
 use Rattle.js_grammar.proofs.Calculus.{◌▹◌, ◌▹✗◌, here_at, left, right, looks, two_ahead, then_by, part_fails, fails_alt, fails_look, fails_lexeme, fails_ahead}
 use Rattle.js_lex.specs.Reading.{is_right_angle}
 use Rattle.js_cursor.specs.Parsers.{Parser}
-use Rattle.js_parsing.specs.Lexemes.{Lex, slashes}
+use Rattle.js_parsing.specs.Lexemes.{Lex, other_goals, signs}
 use Rattle.js_parsing.specs.Stands.{StandsHere}
 use Rattle.js_parsing.specs.States.{At}
 use Rattle.js_parsing.proofs.Here.{angled, escaped_here, kind_here, told, uncut, told_plain}
@@ -62,7 +62,7 @@ module _ {text : List ℕ} {f : Flags} {p : Parser} (a : At text f p) where
   pub no_let : StandsHere p Let false → (y : Lexeme) → Lex text p.prev_token_end y → IsTrue (seen (is Let) y) → ⊥
   no_let n y l q =
       let k : y.kind ≡ Let = sym (kind_of_same Let y.kind (and_parts (same_kind Let y.kind) (not y.escaped) q).0) in
-      let t = told_plain a (go p.cut refl k l) y (ap (same_kind RegExp) k) l in
+      let t = told_plain a (go p.cut refl k l) y (ap (one_of_kinds other_goals) k) l in
       n (t.kind ∙ k) (t.escaped ∙ plain y.escaped (and_parts (same_kind Let y.kind) (not y.escaped) q).1)
     where
       plain : (b : Bool) → not b ≡ true → b ≡ false
@@ -74,7 +74,7 @@ module _ {text : List ℕ} {f : Flags} {p : Parser} (a : At text f p) where
       go false c k l = c
 
   pub ends_at : StandsHere p Let true → (y : Lexeme) → Lex text p.prev_token_end y → y.to ≡ p.token.span.end
-  ends_at h y l = sym (told a (uncut a (ap (same_kind RAngle) h.0)) (ap (one_of_kinds slashes) h.0) y l).end
+  ends_at h y l = sym (told a (uncut a (ap (same_kind RAngle) h.0)) (ap (one_of_kinds signs) h.0) y l).end
 
   pub stands_let : (b : Bool) × StandsHere p Let b
   stands_let = by (same_kind Let p.token.kind) refl p.token.escaped refl

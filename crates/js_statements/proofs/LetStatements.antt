@@ -6,7 +6,7 @@ use Rattle.js_base.specs.declared.diagnostic.Diagnostic.{Diagnostic}
 use Rattle.js_base.specs.declared.diagnostic.DiagnosticKind.TheVariants.{LexicalDeclarationSingleStatement}
 use Rattle.js_base.specs.declared.span.Span.{Span}
 use Rattle.js_base.specs.declared.kind.Kind.{Kind}
-use Rattle.js_base.specs.declared.kind.Kind.TheVariants.{Colon, Const, LBrack, LCurly, Let, RegExp, Undetermined}
+use Rattle.js_base.specs.declared.kind.Kind.TheVariants.{Colon, Const, LBrack, LCurly, Let, Undetermined}
 use Rattle.js_base.specs.declared.token.Token.{Token}
 use Rattle.js_base.specs.Kinds.{same_kind, one_of_kinds}
 use Rattle.js_grammar.specs.Conditions.{ends_in_sub}
@@ -32,7 +32,7 @@ use Rattle.js_cursor.specs.Parsers.{Parser}
 use Rattle.js_cursor.specs.declared.stop.Stop.{Stop}
 use Rattle.js_parsing.specs.Answers.{unclean}
 use Rattle.js_parsing.specs.Classes.{IsEarly}
-use Rattle.js_parsing.specs.Lexemes.{Lex, spot}
+use Rattle.js_parsing.specs.Lexemes.{Lex, other_goals, spot}
 use Rattle.js_parsing.specs.Stands.{StandsHere}
 use Rattle.js_parsing.specs.States.{At}
 use Rattle.js_parsing.specs.Statements.{after_statement, no_link, statement_kinds, NoStatement, Statement, StatementOutcome, TakesStatement}
@@ -198,15 +198,15 @@ not_right_angle b k h = go (is_right_angle k) refl
     go true e = absurd (none b h e)
     go false e = e
 
-not_pattern : (b : Bool) (k : Kind) → behind_let b k ≡ true → same_kind RegExp k ≡ false
+not_other_goal : (b : Bool) (k : Kind) → behind_let b k ≡ true → one_of_kinds other_goals k ≡ false
 unfolding apart
-not_pattern b k h = go (same_kind RegExp k) refl
+not_other_goal b k h = go (one_of_kinds other_goals k) refl
   where
-    none : (b : Bool) → behind_let b k ≡ true → same_kind RegExp k ≡ true → ⊥
-    none true h e = not_both (λ k w e. behind_let true k) (λ k w e. same_kind RegExp k) refl k false false h e
-    none false h e = not_both (λ k w e. behind_let false k) (λ k w e. same_kind RegExp k) refl k false false h e
+    none : (b : Bool) → behind_let b k ≡ true → one_of_kinds other_goals k ≡ true → ⊥
+    none true h e = not_both (λ k w e. behind_let true k) (λ k w e. one_of_kinds other_goals k) refl k false false h e
+    none false h e = not_both (λ k w e. behind_let false k) (λ k w e. one_of_kinds other_goals k) refl k false false h e
 
-    go : (c : Bool) → same_kind RegExp k ≡ c → same_kind RegExp k ≡ false
+    go : (c : Bool) → one_of_kinds other_goals k ≡ c → one_of_kinds other_goals k ≡ false
     go true e = absurd (none b h e)
     go false e = e
 
@@ -214,7 +214,7 @@ pub let_unseen : (b : Bool) {p : Parser} {t : Token} → StandsHere p Let true �
 let_unseen b {p} {t} h k g = λ text f a y z l q m. go text f a z (subst (λ (v : ℕ). Lex text v z) (ends_at a h y l) m) (behind_let b z.kind) refl
   where
     go : (text : List ℕ) (f : Flags) → At text f p → (z : Lexeme) → Lex text p.token.span.end z → (c : Bool) → behind_let b z.kind ≡ c → behind_let b z.kind ≡ false
-    go text f a z m true e = absurd (false≢true (sym g ∙ (sym (ap (behind_let b) (peeked_whole a k z m (not_right_angle b z.kind e) (not_pattern b z.kind e))) ∙ e)))
+    go text f a z m true e = absurd (false≢true (sym g ∙ (sym (ap (behind_let b) (peeked_whole a k z m (not_right_angle b z.kind e) (not_other_goal b z.kind e))) ∙ e)))
     go text f a z m false e = e
 
 pub let_begins : (b : Bool) (p q : Parser) (t : Token) (k : Kind) (r : Bool) → StandsHere p Let true → q ≡ p → Peeks p t → k ≡ t.kind → r ≡ behind_let b k → LetBegins b p q r

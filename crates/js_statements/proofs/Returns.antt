@@ -34,7 +34,7 @@ use Rattle.js_tree.specs.Nodes.{Node}
 use Rattle.js_tree.specs.Holding.{Holds, HoldsAll, Keeps}
 use Rattle.js_tree.proofs.HoldingLemmas.{HoldsAll-one, HoldsAll-one_hole, Keeps-longer, Keeps-refl, Keeps-trans, Keeps-made}
 use Rattle.js_lex.specs.States.{goal_of}
-use Rattle.js_cursor.specs.Moves.{MayEnd, ends_statement, is_last}
+use Rattle.js_cursor.specs.Moves.{MayEnd, is_last}
 use Rattle.js_cursor.specs.Parsers.{Parser}
 use Rattle.js_cursor.specs.Places.{goal}
 use Rattle.js_cursor.specs.declared.stop.Stop.{Stop}
@@ -47,13 +47,13 @@ use Rattle.js_parsing.specs.Statements.{placed, no_link, after_statement, NoStat
 use Rattle.js_statements.specs.WordStatements.{ChecksReturn, TakesArgument, stray_return}
 use Rattle.js_parsing.proofs.Ahead.{pass_over}
 use Rattle.js_parsing.proofs.Giving.{kept_one}
-use Rattle.js_parsing.proofs.Here.{found, kind_here, newline_here, uncut, unsettled}
+use Rattle.js_parsing.proofs.Here.{found, newline_here, uncut}
 use Rattle.js_parsing.proofs.MadeNodes.{node_held, one_lies}
 use Rattle.js_parsing.proofs.Moving.{same_both, same_itself, stops_behind}
 use Rattle.js_parsing.proofs.Paths.{Path, ◌⟶◌, ◌⟶✗◌, at_kind, token, last_called, noded_by, by_symbol_as, label_here, walked_to}
 use Rattle.js_parsing.proofs.Told.{told_at, told_same}
 use Rattle.js_parsing.proofs.Verdicts.{after as grown_behind, grown_then, verdict_of}
-use Rattle.js_statements.proofs.Statements.{◌⟝◌, by_such_statement, closes_or_line, end_path, ended_so, never_open, no_close, no_symbol, unended}
+use Rattle.js_statements.proofs.Statements.{◌⟝◌, by_such_statement, closer_here, closes_here, closes_or_line, end_path, ended_so, never_open, no_close, no_symbol, unended}
 use Rattle.js_statements.proofs.WordStatements.{Alone, alone_path, closing, ends_so, still_unlinked, unlinked}
 
 abbrev return_slots : Flags → G
@@ -102,28 +102,11 @@ record Argument (text : List ℕ) (f : Flags) (p r : Parser) (argument : Option 
   held : HoldsAll r.nodes (length p.nodes) (length r.nodes) (argument ∷ []) (slots end)
   keeps : Keeps p.nodes r.nodes
 
-abbrev may_close : Look
-may_close k w e = ends_statement k
-
-abbrev angled : Look
-angled k w e = one_of_kinds unsettled k
-
-no_angle : apart may_close angled ≡ true
-unfolding apart
-no_angle = refl
-
-uncut_end : (k : Kind) → ends_statement k ≡ true → one_of_kinds unsettled k ≡ false
-uncut_end k h = go (one_of_kinds unsettled k) refl
-  where
-    go : (b : Bool) → one_of_kinds unsettled k ≡ b → one_of_kinds unsettled k ≡ false
-    go true e = absurd (not_both may_close angled no_angle k false false h e)
-    go false e = e
-
 abbrev on_line : Flags → G
 on_line f = no_newline ▸ symbol Expression f
 
 -- no expression begins with what a statement ends before
-none_begins : (f : Flags) → apart may_close (starts first (on_line f) full) ≡ true
+none_begins : (f : Flags) → apart closes_here (starts first (on_line f) full) ≡ true
 unfolding apart
 none_begins f = refl
 
@@ -133,7 +116,7 @@ module _ {text : List ℕ} {f : Flags} {q : Parser} (a : At text f q) where
 
   -- none stands there, where the statement may end
   no_argument : MayEnd q → Fails rule (Lex text) (behind_return f) end (on_line f) q.prev_token_end
-  no_argument (inl e) = fails_here firsts (λ y l h. not_both may_close (starts first (on_line f) full) (none_begins f) y.kind y.newline y.escaped (subst (λ (k : Kind). ends_statement k ≡ true) (sym (kind_here a refl (uncut_end q.token.kind e) y l)) e) h)
+  no_argument (inl e) = fails_here firsts (λ y l h. not_both closes_here (starts first (on_line f) full) (none_begins f) y.kind y.newline y.escaped (closer_here a e y l) h)
   no_argument (inr w) = new_line w
 
   -- where it may not, the slot isn't empty

@@ -5,7 +5,7 @@ use Rattle.js_statements.proofs.LetLookaheads.{Leads, at_once, ◌⇒◌, ◌⇒
 use Rattle.std.proofs.Common.{ℕ, ◌≡◌, ◌≤◌, max, inl, inr, List, [], ◌∷◌, length, Bool, true, false, not, ◌&&◌, ◌||◌, IsTrue, Some, refl, sym, ap, subst, arith, ◌∙◌}
 use Rattle.std.specs.Prelude.{◌↔◌, Result, Ok, Err, MatchResult}
 use Rattle.js_base.specs.declared.token.Token.{Token}
-use Rattle.std.proofs.lemmas.Bool.{false≢true, or_left, and_from, and_parts}
+use Rattle.std.proofs.lemmas.Bool.{false≢true, not-true, or_left, and_from, and_parts}
 use Rattle.js_base.specs.declared.kind.Kind.{Kind}
 use Rattle.js_base.specs.declared.kind.Kind.TheVariants.{Colon, Yield, Semicolon, RCurly, Eof, RAngle, LCurly, LBrack, At as at_sign, RegExp}
 use Rattle.js_base.specs.declared.kind.Kind.TheVariants as kind
@@ -47,7 +47,7 @@ use Rattle.js_cursor.specs.Parsers.{Parser}
 use Rattle.js_cursor.specs.Moves.{MayEnd, EndsOr, GivesUp, IsUnexpected, OnlyMemory, ends_statement}
 use Rattle.js_cursor.specs.declared.stop.Stop.{Stop}
 use Rattle.js_cursor.specs.declared.stop.Stop.TheVariants.{Fatal, NoMemory}
-use Rattle.js_parsing.specs.Lexemes.{Lex, may_name, name_kinds, read_kinds, slashes, Plain}
+use Rattle.js_parsing.specs.Lexemes.{Lex, may_name, name_kinds, other_goals, read_kinds, signs_of, slashes, template_tails, Plain}
 use Rattle.js_parsing.specs.States.{At, Same, NodesLie}
 use Rattle.js_parsing.specs.Moves.{IsWholeHere, Moved, MadeHere, LeafTaken, TakesLeaf, plain_label, unpassable}
 use Rattle.js_parsing.specs.Answers.{Underived, Answer, Numbered, Stops, beside}
@@ -56,7 +56,8 @@ use Rattle.js_declarations.specs.Declarations.{stops_row}
 use Rattle.js_parsing.proofs.Verdicts.{verdict_of, either_way}
 use Rattle.js_parsing.proofs.Moving.{moves, same_both, same_itself, same_with, beside_nodes}
 use Rattle.js_parsing.proofs.NameKinds.{name_whole, names_at, test_named}
-use Rattle.js_parsing.proofs.Here.{kind_here, newline_here, told, uncut, unsettled}
+use Rattle.js_parsing.proofs.Here.{kind_here, newline_here, plain_token, told, uncut, unsettled}
+use Rattle.js_parsing.proofs.Signs.{closing_there}
 use Rattle.js_parsing.proofs.Dead.{live, lives}
 use Rattle.js_parsing.proofs.MadeNodes.{leaf_held, one_held, one_lies, LabelLies, from_start}
 use Rattle.js_parsing.proofs.Paths.{begins_by, reads, Path, ◌⟼◌, ◌⟶◌, ◌⟶✗◌, at_kind, not_here, fails_at, last_token, noded, noded_by, by_symbol_as, label_here}
@@ -65,7 +66,7 @@ use Rattle.js_statements.proofs.Strings.{name_look, name_node, name_expression}
 use Rattle.js_parsing.proofs.Giving.{gives_up, gives_up_here}
 use Rattle.js_parsing.proofs.Classes.{here_ends}
 use Rattle.js_base.specs.declared.diagnostic.DiagnosticKind.TheVariants.{ExpectToken}
-use Rattle.js_parsing.proofs.Slashes.{slash_there}
+use Rattle.js_parsing.proofs.Slashes.{sign_there}
 use Rattle.js_operands.proofs.Operands.{name_signless}
 
 -- a path, and a choice at its end
@@ -91,25 +92,35 @@ stop_omits : (r : Row) → covers (stops_on_line r) (may_omit (goes_on r)) ≡ t
 unfolding covers
 stop_omits r = at_row (λ r. covers (stops_on_line r) (may_omit (goes_on r))) refl r
 
+-- before these a statement ends, wherever they stand
+abbrev pub closers : List Kind
+closers = Semicolon ∷ RCurly ∷ Eof ∷ template_tails
+
+abbrev pub closes_here : Look
+closes_here k w e = one_of_kinds closers k
+
 abbrev at_an_end : Look
-at_an_end k w e = ends_statement k && not (same_kind Semicolon k)
+at_an_end k w e = closes_here k w e && not (same_kind Semicolon k)
 
 end_omits : (r : Row) → covers at_an_end (may_omit (goes_on r)) ≡ true
 unfolding covers
 end_omits r = at_row (λ r. covers at_an_end (may_omit (goes_on r))) refl r
 
-abbrev closers : List Kind
-closers = Semicolon ∷ RCurly ∷ Eof ∷ []
-
-abbrev closes_here : Look
-closes_here k w e = one_of_kinds closers k
-
 abbrev may_close : Look
 may_close k w e = ends_statement k
 
-closers_end : covers closes_here may_close ≡ true
+plain_closers_end : covers (λ k w e. closes_here k w e && not (one_of_kinds other_goals k)) may_close ≡ true
 unfolding covers
-closers_end = refl
+plain_closers_end = refl
+
+-- at a brace a part of a template may stand
+a_brace_closes : covers (λ k w e. one_of_kinds (RCurly ∷ template_tails) k) closes_here ≡ true
+unfolding covers
+a_brace_closes = refl
+
+settled_end : covers (λ k w e. may_close k w e && not (same_kind RCurly k)) (λ k w e. closes_here k w e && not (one_of_kinds unsettled k)) ≡ true
+unfolding covers
+settled_end = refl
 
 abbrev pub closes_or_line : Look
 closes_or_line k w e = one_of_kinds closers k || w
@@ -150,10 +161,6 @@ pub either_of : {T : Type 0} (b c : Bool) → (b || c) ≡ true → (b ≡ true 
 either_of true c h g i = g refl
 either_of false c h g i = i h
 
-no_angle : apart may_close angled ≡ true
-unfolding apart
-no_angle = refl
-
 not_kind : (a k : Kind) → (k ≡ a → ⊥) → same_kind a k ≡ false
 not_kind a k n = go (same_kind a k) refl
   where
@@ -170,11 +177,18 @@ abbrev slash_on_line : Look
 slash_on_line k w e = one_of_kinds slashes k && (not e && w)
 
 abbrev slash_is : Look
-slash_is k w e = one_of_kinds read_kinds k && not (same_kind RegExp k)
+slash_is k w e = one_of_kinds read_kinds k && not (one_of_kinds other_goals k)
 
 slash_read : covers (λ k w e. one_of_kinds slashes k) slash_is ≡ true
 unfolding covers
 slash_read = refl
+
+abbrev a_part : Look
+a_part k w e = one_of_kinds other_goals k && not (same_kind RegExp k)
+
+part_omits : (r : Row) → covers a_part (may_omit (goes_on r)) ≡ true
+unfolding covers
+part_omits r = at_row (λ r. covers a_part (may_omit (goes_on r))) refl r
 
 abbrev stays : Row → Look
 stays r k w e = looser 1 true r k w e || beside k w e
@@ -202,16 +216,15 @@ module _ {text : List ℕ} {f : Flags} {q : Parser} (a : At text f q) where
   unfolding covers
   semicolon_path p e s = at_kind a Semicolon e refl ⟼ last_token Semicolon a e (plain_semicolon e s) refl s
 
-  -- at a brace and at the end of the text
-  pub omits_at_end : (r : Row) → ends_statement q.token.kind ≡ true → (q.token.kind ≡ Semicolon → ⊥) → (y : Lexeme) → Lex text q.prev_token_end y → IsTrue (seen (may_omit (goes_on r)) y)
-  omits_at_end r e n y l = subst (λ (k : Kind). may_omit (goes_on r) k y.newline y.escaped ≡ true) (sym (kind_here a refl angle y l)) (covered at_an_end (may_omit (goes_on r)) (end_omits r) q.token.kind y.newline y.escaped (and_from _ _ e (ap not (not_kind Semicolon q.token.kind n))))
+  -- where the token says that a statement may end, whichever lexeme stands there says so
+  pub closer_here : ends_statement q.token.kind ≡ true → (y : Lexeme) → Lex text q.prev_token_end y → IsTrue (seen closes_here y)
+  closer_here e y l = go (same_kind RCurly q.token.kind) refl
     where
-      angle : one_of_kinds unsettled q.token.kind ≡ false
-      angle = go (one_of_kinds unsettled q.token.kind) refl
-        where
-          go : (b : Bool) → one_of_kinds unsettled q.token.kind ≡ b → one_of_kinds unsettled q.token.kind ≡ false
-          go true h = absurd (not_both may_close angled no_angle q.token.kind false false e h)
-          go false h = h
+      go : (b : Bool) → same_kind RCurly q.token.kind ≡ b → IsTrue (seen closes_here y)
+      go true k = covered (λ k w e. one_of_kinds (RCurly ∷ template_tails) k) closes_here a_brace_closes y.kind y.newline y.escaped (closing_there a (sym (kind_of_same RCurly q.token.kind k)) y l).0
+      go false k =
+          let z = and_parts (one_of_kinds closers q.token.kind) _ (covered (λ k w e. may_close k w e && not (same_kind RCurly k)) (λ k w e. closes_here k w e && not (one_of_kinds unsettled k)) settled_end q.token.kind false false (and_from _ _ e (ap not k))) in
+          subst (λ (k : Kind). one_of_kinds closers k ≡ true) (sym (kind_here a refl (not-true (one_of_kinds unsettled q.token.kind) z.1) y l)) z.0
 
   pub no_semicolon : (q.token.kind ≡ Semicolon → ⊥) → (y : Lexeme) → Lex text q.prev_token_end y → same_kind Semicolon y.kind ≡ false
   unfolding apart
@@ -221,6 +234,10 @@ module _ {text : List ℕ} {f : Flags} {q : Parser} (a : At text f q) where
       go true h = absurd (not_here a (Semicolon ∷ []) refl (none_of_one Semicolon q.token.kind n) y l (rw h refl))
       go false h = h
 
+  -- at a brace and at the end of the text
+  pub omits_at_end : (r : Row) → ends_statement q.token.kind ≡ true → (q.token.kind ≡ Semicolon → ⊥) → (y : Lexeme) → Lex text q.prev_token_end y → IsTrue (seen (may_omit (goes_on r)) y)
+  omits_at_end r e n y l = covered at_an_end (may_omit (goes_on r)) (end_omits r) y.kind y.newline y.escaped (and_from _ _ (closer_here e y l) (ap not (no_semicolon n y l)))
+
   unlinked_at : one_of_kinds link_kinds q.token.kind ≡ false → (y : Lexeme) → Lex text q.prev_token_end y → not (one_of_kinds link_kinds y.kind) ≡ true
   unfolding apart
   unlinked_at v y l = go (one_of_kinds link_kinds y.kind) refl
@@ -229,32 +246,35 @@ module _ {text : List ℕ} {f : Flags} {q : Parser} (a : At text f q) where
       go true h = absurd (not_here a link_kinds refl v y l h)
       go false h = ap not h
 
-  -- Before a regular expression on a new line a semicolon is left out wherever one is before the sign that may stand in its place.
-  pattern_omitted : (S : Row → Look) → ((r : Row) → covers (λ k w e. slash_on_line k w e && S r k w e) (pattern_omits r) ≡ true) → (r : Row) → ((z : Lexeme) → Plain text q.prev_token_end z → IsTrue (seen (S r) z)) → q.token.is_on_new_line ≡ true → (y : Lexeme) → Lex text q.prev_token_end y → y.kind ≡ RegExp → IsTrue (seen (may_omit (goes_on r)) y)
-  pattern_omitted S c r s w y l e =
-      let z = slash_there l.0 e in
+  -- Before a regular expression on a new line a semicolon is left out wherever one is before the sign that may stand in its place; before a part of a template one is, as before the brace.
+  pattern_omitted : (S : Row → Look) → ((r : Row) → covers (λ k w e. slash_on_line k w e && S r k w e) (pattern_omits r) ≡ true) → (r : Row) → ((z : Lexeme) → Plain text q.prev_token_end z → IsTrue (seen (S r) z)) → q.token.is_on_new_line ≡ true → (y : Lexeme) → Lex text q.prev_token_end y → one_of_kinds other_goals y.kind ≡ true → (b : Bool) → same_kind RegExp y.kind ≡ b → IsTrue (seen (may_omit (goes_on r)) y)
+  pattern_omitted S c r s w y l o false n = covered a_part (may_omit (goes_on r)) (part_omits r) y.kind y.newline y.escaped (and_from _ _ o (ap not n))
+  pattern_omitted S c r s w y l h true i =
+      let e : y.kind ≡ RegExp = sym (kind_of_same RegExp y.kind i) in
+      let z = sign_there l.0 h in
+      let a_slash : one_of_kinds slashes z.lexeme.kind ≡ true = subst (λ (k : Kind). one_of_kinds (signs_of k) z.lexeme.kind ≡ true) e z.is in
       let n : z.lexeme.escaped ≡ false = z.escaped ∙ read_plain y l.1 in
-      let k = and_parts (one_of_kinds read_kinds z.lexeme.kind) (not (same_kind RegExp z.lexeme.kind)) (covered (λ k w e. one_of_kinds slashes k) slash_is slash_read z.lexeme.kind false false z.is) in
+      let k = and_parts (one_of_kinds read_kinds z.lexeme.kind) _ (covered (λ k w e. one_of_kinds slashes k) slash_is slash_read z.lexeme.kind false false a_slash) in
       let p : Plain text q.prev_token_end z.lexeme = (z.stands.lex, and_from _ _ (and_from _ _ k.0 (ap not n)) k.1) in
-      let o = covered (λ k w e. slash_on_line k w e && S r k w e) (pattern_omits r) (c r) z.lexeme.kind z.lexeme.newline z.lexeme.escaped (and_from _ _ (and_from _ _ z.is (and_from _ _ (ap not n) (z.newline ∙ (newline_here a y l ∙ w)))) (s z.lexeme p)) in
+      let o = covered (λ k w e. slash_on_line k w e && S r k w e) (pattern_omits r) (c r) z.lexeme.kind z.lexeme.newline z.lexeme.escaped (and_from _ _ (and_from _ _ a_slash (and_from _ _ (ap not n) (z.newline ∙ (newline_here a y l ∙ w)))) (s z.lexeme p)) in
       subst (λ (j : Kind). may_omit (goes_on r) j y.newline y.escaped ≡ true) (sym e) (subst (λ (b : Bool). may_omit (goes_on r) RegExp b y.escaped ≡ true) z.newline (subst (λ (b : Bool). may_omit (goes_on r) RegExp z.lexeme.newline b ≡ true) z.escaped o))
 
   -- on a new line, where the expression before ends
   omits_on_line : (r : Row) → ((y : Lexeme) → Plain text q.prev_token_end y → IsTrue (seen (looser 1 true r) y || seen beside y)) → q.token.is_on_new_line ≡ true → one_of_kinds link_kinds q.token.kind ≡ false → (q.token.kind ≡ Semicolon → ⊥) → (y : Lexeme) → Lex text q.prev_token_end y → IsTrue (seen (may_omit (goes_on r)) y)
   unfolding apart
-  omits_on_line r s w v n y l = go (same_kind RegExp y.kind) refl
+  omits_on_line r s w v n y l = go (one_of_kinds other_goals y.kind) refl
     where
-      go : (b : Bool) → same_kind RegExp y.kind ≡ b → IsTrue (seen (may_omit (goes_on r)) y)
-      go true e = pattern_omitted stays slash_omits r s w y l (sym (kind_of_same RegExp y.kind e))
+      go : (b : Bool) → one_of_kinds other_goals y.kind ≡ b → IsTrue (seen (may_omit (goes_on r)) y)
+      go true e = pattern_omitted stays slash_omits r s w y l e (same_kind RegExp y.kind) refl
       go false e = covered (on_a_line r) (may_omit (goes_on r)) (line_omits r) y.kind y.newline y.escaped (and_from _ _ (ap not (read_plain y l.1)) (and_from _ _ (s y (l.0, plain_so y l.1 e)) (and_from _ _ (newline_here a y l ∙ w) (and_from _ _ (unlinked_at v y l) (ap not (no_semicolon n y l))))))
 
   -- on a new line, where nothing goes on
   pub omits_stopped : (r : Row) → ((y : Lexeme) → Plain text q.prev_token_end y → IsTrue (seen (stops_row r) y)) → (q.token.is_on_new_line ≡ true → one_of_kinds link_kinds q.token.kind ≡ false) → MayEnd q → (q.token.kind ≡ Semicolon → ⊥) → (y : Lexeme) → Lex text q.prev_token_end y → IsTrue (seen (may_omit (goes_on r)) y)
   omits_stopped r s v (inl e) n y l = omits_at_end r e n y l
-  omits_stopped r s v (inr w) n y l = go (same_kind RegExp y.kind) refl
+  omits_stopped r s v (inr w) n y l = go (one_of_kinds other_goals y.kind) refl
     where
-      go : (b : Bool) → same_kind RegExp y.kind ≡ b → IsTrue (seen (may_omit (goes_on r)) y)
-      go true e = pattern_omitted stops_row slash_stops r s w y l (sym (kind_of_same RegExp y.kind e))
+      go : (b : Bool) → one_of_kinds other_goals y.kind ≡ b → IsTrue (seen (may_omit (goes_on r)) y)
+      go true e = pattern_omitted stops_row slash_stops r s w y l e (same_kind RegExp y.kind) refl
       go false e = covered (stops_on_line r) (may_omit (goes_on r)) (stop_omits r) y.kind y.newline y.escaped (and_from _ _ (s y (l.0, plain_so y l.1 e)) (and_from _ _ (newline_here a y l ∙ w) (and_from _ _ (unlinked_at (v w) y l) (ap not (no_semicolon n y l)))))
 
   omits : (r : Row) → ((y : Lexeme) → Plain text q.prev_token_end y → IsTrue (seen (looser 1 true r) y || seen beside y)) → (q.token.is_on_new_line ≡ true → one_of_kinds link_kinds q.token.kind ≡ false) → MayEnd q → (q.token.kind ≡ Semicolon → ⊥) → (y : Lexeme) → Lex text q.prev_token_end y → IsTrue (seen (may_omit (goes_on r)) y)
@@ -293,7 +313,7 @@ module _ {text : List ℕ} {f : Flags} {q : Parser} (a : At text f q) where
       none = by (one_of_kinds closers q.token.kind) refl
         where
           by : (b : Bool) → one_of_kinds closers q.token.kind ≡ b → one_of_kinds closers q.token.kind ≡ false
-          by true h = absurd (m (inl (covered closes_here may_close closers_end q.token.kind false false h)))
+          by true h = absurd (m (inl (covered (λ k w e. closes_here k w e && not (one_of_kinds other_goals k)) may_close plain_closers_end q.token.kind false false (and_from _ _ h (ap not (plain_token a.plain))))))
           by false h = h
 
       go : (b : Bool) → one_of_kinds closers y.kind ≡ b → (b || y.newline) ≡ true → ⊥

@@ -58,7 +58,7 @@ use Rattle.js_parsing.proofs.Signs.{plain_sign}
 use Rattle.js_parsing.proofs.Told.{lexeme_marked, told_at, told_same}
 use Rattle.js_parsing.proofs.Verdicts.{either_way, grown_both, grown_on, grown_then, verdict_of}
 use Rattle.js_parsing.proofs.Verdicts.{after as grown_behind}
-use Rattle.js_statements.proofs.Blocks.{none_told, then_some}
+use Rattle.js_statements.proofs.Blocks.{at_brace, none_told, then_some}
 use Rattle.js_statements.proofs.CompoundStatements.{no_token, parens_read, then_fails, then_part, unexpected}
 use Rattle.js_statements.proofs.StatementLists.{none_left, none_taken, one_taken_more, taken_so, uncleanly, unrolled}
 use Rattle.js_statements.proofs.Statements.{by_statement, never_open, ◌⟝◌}
@@ -257,7 +257,7 @@ module _ {text : List ℕ} {f : Flags} {q : Parser} (a : At text f q) where
   unfolding rule rule_of covers
   list_shut (inl h) = more_of ▹ at_kind a kind.Default h.0 refl
   list_shut (inr (inl h)) = more_of ▹ at_kind a kind.Case h.0 refl
-  list_shut (inr (inr h)) = more_of ▹ at_kind a kind.RCurly h.0 refl
+  list_shut (inr (inr h)) = more_of ▹ at_brace a h.0
 
 clause_fails : {text : List ℕ} (f : Flags) {s : ℕ} (b : Bool) → NoList text list.Clause (clause_slots b f) s → NoList text list.Clause (clause_of b f) s
 unfolding rule rule_of covers
@@ -519,8 +519,8 @@ module _ {text : List ℕ} {f : Flags} {p : Parser} where
 
   pub all_taken : {q : Parser} {ids : List (Option NodeId)} (d : Defaults) → SomeTaken text f d p q ids → q.token.kind ≡ kind.RCurly → Taken text f list.Block (clauses_of f) nothing p q ids
   unfolding covers
-  all_taken Missing s k = taken_so s.taken (unrolled ▹ at_kind s.taken.at kind.RCurly k refl)
-  all_taken (One t) s k = taken_so s.taken (more_of ▹ at_kind s.taken.at kind.RCurly k refl)
+  all_taken Missing s k = taken_so s.taken (unrolled ▹ at_brace s.taken.at k)
+  all_taken (One t) s k = taken_so s.taken (more_of ▹ at_brace s.taken.at k)
   all_taken Several s k = let y = s.taken in record {
     at = y.at;
     same = y.same;

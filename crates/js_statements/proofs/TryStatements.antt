@@ -41,7 +41,7 @@ use Rattle.js_cursor.specs.declared.stop.Stop.{Stop}
 use Rattle.js_cursor.specs.declared.stop.Stop.TheVariants.{Fatal, NoMemory}
 use Rattle.js_parsing.specs.Answers.{Numbered, Stops, Underived, unclean}
 use Rattle.js_parsing.specs.Classes.{IsEarly}
-use Rattle.js_parsing.specs.Lexemes.{Lex, spot, nowhere}
+use Rattle.js_parsing.specs.Lexemes.{Lex, other_goals, spot, nowhere}
 use Rattle.js_parsing.specs.Moves.{Moved, MadeHere, plain_label}
 use Rattle.js_parsing.specs.Stands.{StandsHere}
 use Rattle.js_parsing.specs.States.{At, Same, NodesLie}
@@ -108,7 +108,7 @@ part_memory g k p q Fatal m = absurd m
 part_memory g k p q NoMemory m = tt
 
 -- the lexeme that is due last doesn't stand here
-pub no_last : {text : List ℕ} {f : Flags} {p : Parser} → At text f p → (k : Kind) → (is_right_angle k || same_kind kind.RegExp k) ≡ false → StandsHere p k false → NoPart text (tok k) p.prev_token_end
+pub no_last : {text : List ℕ} {f : Flags} {p : Parser} → At text f p → (k : Kind) → (is_right_angle k || one_of_kinds other_goals k) ≡ false → StandsHere p k false → NoPart text (tok k) p.prev_token_end
 no_last a k n s = fails_lexeme (is k) (λ y l h. stands_not a n s y l (sym (kind_of_same k y.kind (and_parts (same_kind k y.kind) (not y.escaped) h).0)))
 
 -- ---- a Block

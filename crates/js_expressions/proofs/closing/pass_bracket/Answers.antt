@@ -22,4 +22,4 @@ pub returns-in-RCurly : goal.returns-in-RCurly
 returns-in-RCurly c = closed_passed c.args.kind Curly c.args.brackets.now.items c.close_last-in-RCurly.new.brackets.items c.close_last-in-RCurly.result c.in-RCurly.is refl curly_closed c.close_last-in-RCurly.ensures
 
 pub returns-in_default : goal.returns-in_default
-returns-in_default c = (is_whole c.args.kind c.in_default.not-RAngle c.in_default.not-Undetermined c.in_default.not-Slash c.in_default.not-SlashEq, no_bracket c.args.kind _ c.in_default.not-LParen c.in_default.not-LBrack c.in_default.not-LCurly c.in_default.not-RParen c.in_default.not-RBrack c.in_default.not-RCurly)
+returns-in_default c = (is_whole c.args.kind c.in_default.not-RAngle c.in_default.not-Undetermined c.in_default.not-Slash c.in_default.not-SlashEq, no_bracket c.args.kind _ c.in_default.not-LParen c.in_default.not-LBrack c.in_default.not-LCurly c.in_default.not-TemplateHead c.in_default.not-RParen c.in_default.not-RBrack c.in_default.not-RCurly c.in_default.not-TemplateTail c.in_default.not-TemplateMiddle)

@@ -2,7 +2,8 @@ use Rattle.std.proofs.Common.{sym, length, take, ap, subst, ◌++◌, ◌∙◌}
 use Rattle.js_cursor.specs.Parsers.{Parser}
 use Rattle.js_lex.specs.Kept.{LieIn}
 use Rattle.js_lex.specs.States.{State}
-use Rattle.js_parser.proofs.Answering.{refused_answer, found_kept, second_empty}
+use Rattle.js_parser.proofs.Answering.{refused_answer, found_kept}
+use Rattle.js_parser.proofs.Lists.{second_empty}
 use Rattle.js_parser.proofs.answer.refused.Goals as goal
 
 pub returns-clause-answer : goal.returns-clause-answer

@@ -1,0 +1,168 @@
+-- The walk that finds the nodes that break an early rule.
+use Rattle.std.proofs.Common.{◌≡◌, ℕ, ◌+◌, ◌<◌, Bool, true, false, cond, List, [], ◌∷◌, ◌++◌, length, map, take, drop, Option, Some, None, get_or, slice_get, nat_lt, refl, ap, sym, ◌∙◌, subst, arith, lt-ltb, ltb-true, ltb-false, append_assoc, append-nil}
+use Rattle.std.specs.Prelude.{is_some}
+use Rattle.std.proofs.lemmas.Bool.{false≢true}
+use Rattle.js_base.specs.declared.diagnostic.Diagnostic.{Diagnostic}
+use Rattle.js_base.specs.declared.diagnostic.DiagnosticKind.{DiagnosticKind}
+use Rattle.js_grammar.specs.NodeNames.{characters_at}
+use Rattle.js_grammar.specs.Trees.{NodeKind, reg_exp_literal, template_element, Label, Slots, Tree}
+use Rattle.js_tree.specs.declared.id.NodeId.{NodeId}
+use Rattle.js_tree.specs.Labels.{kind_of}
+use Rattle.js_tree.specs.Nodes.{Node, label, node_at, empty_program}
+use Rattle.js_tree.specs.Covering.{placed}
+use Rattle.js_tree.specs.Holding.{Stands, stands, StandsAll, no_slots, next_child, next_hole, IsTree}
+use Rattle.js_tree.specs.Parts.{below_all}
+use Rattle.js_tree.proofs.CountLemmas.{children_lighter}
+use Rattle.js_tree.proofs.StackLemmas.{Stacked, bottom, Stacked-push, Stacked-pop, Stacked-none}
+use Rattle.js_tree.proofs.WeightLemmas.{stack_weight}
+use Rattle.js_parser.specs.Broken.{past, within, broken_rule, told_rule, told_in, rule_at, told_of, pending, pending_within, pending_alike, first_end}
+use Rattle.js_parser.specs.declared.early.Pending.{Pending}
+use Rattle.js_parser.specs.declared.early.Position.{Position}
+use Rattle.js_parser.specs.declared.early.Position.TheVariants.{Anywhere, Tag, Tagged, InTemplate}
+
+-- ---- the stack
+
+past_past : (p : Position) → past (past p) ≡ past p
+past_past Anywhere = refl
+past_past Tag = refl
+past_past Tagged = refl
+past_past InTemplate = refl
+
+pending_behind : (p : Position) (b : ℕ) (ids : List (Option NodeId)) → past p ≡ p → pending p b ids ≡ pending_alike p b ids
+pending_behind p b [] e = refl
+pending_behind p b (None ∷ ids) e = pending_behind p b ids e
+pending_behind p b (Some id ∷ ids) e = ap (λ (v : List Pending). v ++ cond (nat_lt id.0 b) (record { id = id; position = p } ∷ []) []) (ap (λ (q : Position). pending q b ids) e ∙ pending_behind p b ids e)
+
+-- the first child at its position, the others past it
+pending_parts : (p : Position) (b : ℕ) (ids : List (Option NodeId)) → pending_alike (past p) b (drop (first_end ids) ids) ++ pending_alike p b (take (first_end ids) ids) ≡ pending p b ids
+pending_parts p b [] = refl
+pending_parts p b (None ∷ ids) = pending_parts p b ids
+pending_parts p b (Some id ∷ ids) = ap (λ (v : List Pending). v ++ cond (nat_lt id.0 b) (record { id = id; position = p } ∷ []) []) (sym (pending_behind (past p) b ids (past_past p)))
+
+-- those are pushed first
+pub pushed : (p : Position) (b n : ℕ) (ids : List (Option NodeId)) (old behind : List Pending) → n ≡ first_end ids → behind ≡ old ++ pending_alike (past p) b (drop n ids) → behind ++ pending_alike p b (take n ids) ≡ old ++ pending p b ids
+pushed p b n ids old behind e q = rw (q, e, append_assoc) (ap (λ (v : List Pending). old ++ v) (pending_parts p b ids))
+
+abbrev id_of : Pending → NodeId
+id_of n = n.id
+
+-- what is still to be looked at weighs what its numbers do
+abbrev pub pending_weight : List Node → List Pending → ℕ
+pending_weight ns ps = stack_weight ns (map (λ n. n.id) ps)
+
+map_append : (a b : List Pending) → map id_of (a ++ b) ≡ map id_of a ++ map id_of b
+map_append [] b = refl
+map_append (x ∷ a) b = ap (λ (v : List NodeId). x.id ∷ v) (map_append a b)
+
+own_id : (t : Bool) (id : NodeId) (p : Position) → map id_of (cond t (record { id = id; position = p } ∷ []) []) ≡ cond t (id ∷ []) []
+own_id true id p = refl
+own_id false id p = refl
+
+ids_of : (p : Position) (b : ℕ) (ids : List (Option NodeId)) → map id_of (pending p b ids) ≡ below_all b ids
+ids_of p b [] = refl
+ids_of p b (None ∷ ids) = ids_of p b ids
+ids_of p b (Some id ∷ ids) = map_append (pending (past p) b ids) (cond (nat_lt id.0 b) (record { id = id; position = p } ∷ []) []) ∙ (λ i. ids_of (past p) b ids i ++ own_id (nat_lt id.0 b) id p i)
+
+pub within_lighter : (ns : List Node) (ps : List Pending) (n : Pending) → pending_weight ns (ps ++ pending_within ns n) < pending_weight ns (ps ++ n ∷ [])
+within_lighter ns ps n =
+    let p = within n.position (kind_of (node_at ns n.id).kind) in
+    rw (map_append ps (pending_within ns n), map_append ps (n ∷ []), ids_of p n.id.0 (node_at ns n.id).children) (children_lighter ns (map id_of ps) n.id)
+
+-- ---- what is told
+
+-- of a node and its slots
+abbrev pub told_from : List ℕ → Position → Label → Slots → List Diagnostic
+told_from text p l cs = told_rule (broken_rule p l.kind (characters_at text l)) (placed l.span) ++ told_in text (within p l.kind) cs
+
+-- an item of the stack: what is told of what it stands for
+pub record Means (text : List ℕ) (ns : List Node) (n : Pending) (v : List Diagnostic) : Type 0 where
+  pub label : Label
+  pub slots : Slots
+  pub numbers : List ℕ
+  pub stands : Stands ns n.id.0 label slots numbers
+  pub is : v ≡ told_from text n.position label slots
+
+before_rest : (a b u c : List Diagnostic) → (a ++ b) ++ (c ++ u) ≡ (a ++ (b ++ c)) ++ u
+before_rest a b u c = simp append_assoc
+
+stacked_all : {text : List ℕ} {ns : List Node} {below : ℕ} {ids : List (Option NodeId)} {cs : Slots} {rs : List ℕ} (p : Position) (ps : List Pending) (u : List Diagnostic) → StandsAll ns below ids cs rs → Stacked (Means text ns) ps u → Stacked (Means text ns) (ps ++ pending p below ids) (told_in text p cs ++ u)
+stacked_all p ps u no_slots r = rw append-nil r
+stacked_all {text} {ns} {below} p ps u (next_child {id = id} {ids = ids} {l = l} {cs = cs} {us = us} {rs = rs} {ss = ss} b h a) r =
+    let n : Pending = record { id = id; position = p } in
+    let s = Stacked-push (ps ++ pending (past p) below ids) n (told_in text (past p) us ++ u) (told_from text p l cs) (stacked_all (past p) ps u a r) (record { label = l; slots = cs; numbers = rs; stands = h; is = refl }) in
+    rw (lt-ltb id.0 below b, ← append_assoc ps (pending (past p) below ids) (n ∷ [])) (subst (λ (t : List Diagnostic). Stacked (Means text ns) (ps ++ pending (past p) below ids ++ n ∷ []) t) (before_rest (told_rule (broken_rule p l.kind (characters_at text l)) (placed l.span)) (told_in text (within p l.kind) cs) u (told_in text (past p) us)) s)
+stacked_all p ps u (next_hole a) r = stacked_all p ps u a r
+
+-- these were told, and the stack has the others
+pub record Telling (text : List ℕ) (ns : List Node) (ps : List Pending) (told whole : List Diagnostic) : Type 0 where
+  pub rest : List Diagnostic
+  pub stacked : Stacked (Means text ns) ps rest
+  pub parts : whole ≡ told ++ rest
+
+first_is : (ns : List Node) (p : Node) → slice_get ns 0 ≡ Some p → get_or ns 0 empty_program ≡ p
+first_is [] p e = absurd (let k = e in cc)
+first_is (n ∷ ns) p e = let q : n ≡ p = cc in q
+
+pub telling_start : (text : List ℕ) (ns : List Node) (t : Tree) → IsTree ns t → Telling text ns (pending Anywhere (length ns) (node_at ns (record { 0 = 0 })).children) [] (told_in text Anywhere t.slots)
+telling_start text ns t h =
+    rw (first_is ns h.program h.first) record { rest = told_in text Anywhere t.slots ++ []; stacked = stacked_all Anywhere [] [] (h.children).stands (bottom refl); parts = sym (append-nil (told_in text Anywhere t.slots)) }
+
+opened : {text : List ℕ} {ns : List Node} {l : Label} {cs : Slots} {rs : List ℕ} (n : Pending) (m : ℕ) (ps : List Pending) (u told whole : List Diagnostic) → n.id.0 ≡ m → Stands ns m l cs rs → Stacked (Means text ns) ps u → whole ≡ told ++ (told_from text n.position l cs ++ u) → Telling text ns (ps ++ pending_within ns n) (told ++ told_of text ns n) whole
+opened {text} {ns} n m ps u told whole e (stands {cs} {rs} k h a) r q =
+    let one = label (get_or ns k empty_program) in
+    let inner = told_in text (within n.position one.kind) cs in
+    rw e record {
+      rest = inner ++ u;
+      stacked = stacked_all (within n.position one.kind) ps u a r;
+      parts = q ∙ regrouped told (told_rule (broken_rule n.position one.kind (characters_at text one)) (placed one.span)) inner u;
+    }
+  where
+    regrouped : (a b c d : List Diagnostic) → a ++ ((b ++ c) ++ d) ≡ (a ++ b) ++ (c ++ d)
+    regrouped a b c d = simp append_assoc
+
+pub telling_step : {text : List ℕ} {ns : List Node} (ps : List Pending) (n : Pending) (told whole : List Diagnostic) → Telling text ns (ps ++ n ∷ []) told whole → Telling text ns (ps ++ pending_within ns n) (told ++ told_of text ns n) whole
+telling_step {text} {ns} ps n told whole w =
+    let x = Stacked-pop ps n w.rest w.stacked in
+    opened n n.id.0 ps x.rest told whole refl (x.means).stands x.stacked (w.parts ∙ ap (λ (v : List Diagnostic). told ++ v) (x.whole ∙ ap (λ (v : List Diagnostic). v ++ x.rest) (x.means).is))
+
+pub telling_end : {text : List ℕ} {ns : List Node} (told whole : List Diagnostic) → Telling text ns [] told whole → told ≡ whole
+telling_end told whole w = sym (append-nil told) ∙ (ap (λ (v : List Diagnostic). told ++ v) (sym (Stacked-none w.stacked)) ∙ sym w.parts)
+
+-- ---- where no node breaks a rule
+
+-- elsewhere no more is asked of a node
+most_asked : (p : Position) (k : NodeKind) (w : List ℕ) → broken_rule InTemplate k w ≡ None → broken_rule p k w ≡ None
+most_asked p reg_exp_literal w e = e
+most_asked Anywhere template_element w e = refl
+most_asked Tag template_element w e = refl
+most_asked Tagged template_element w e = refl
+most_asked InTemplate template_element w e = e
+most_asked p k w e = refl
+
+module _ (text : List ℕ) {ns : List Node} (n : (id : NodeId) → id.0 < length ns → rule_at text ns id InTemplate ≡ None) where
+  mutual
+    none_from : {id : ℕ} {l : Label} {cs : Slots} {rs : List ℕ} (p : Position) → Stands ns id l cs rs → told_from text p l cs ≡ []
+    none_from p (stands {cs} {rs} id h a) =
+        let one = label (get_or ns id empty_program) in
+        let none : broken_rule p one.kind (characters_at text one) ≡ None = most_asked p one.kind (characters_at text one) (n (record { 0 = id }) h) in
+        rw none (none_all (within p one.kind) a)
+
+    none_all : {b : ℕ} {ids : List (Option NodeId)} {cs : Slots} {rs : List ℕ} (p : Position) → StandsAll ns b ids cs rs → told_in text p cs ≡ []
+    none_all p no_slots = refl
+    none_all p (next_child {l = l} {cs = cs} {us = us} b h a) = sym (append_assoc (told_rule (broken_rule p l.kind (characters_at text l)) (placed l.span)) (told_in text (within p l.kind) cs) (told_in text (past p) us)) ∙ (ap (λ (v : List Diagnostic). v ++ told_in text (past p) us) (none_from p h) ∙ none_all (past p) a)
+    none_all p (next_hole a) = none_all p a
+
+  pub none_told : (t : Tree) → IsTree ns t → told_in text Anywhere t.slots ≡ []
+  none_told t h = none_all Anywhere (h.children).stands
+
+-- up to a number none breaks a rule, and that one doesn't
+pub one_more : (text : List ℕ) (ns : List Node) (i : ℕ) → ((id : NodeId) → id.0 < i → rule_at text ns id InTemplate ≡ None) → rule_at text ns (record { 0 = i }) InTemplate ≡ None → (id : NodeId) → id.0 < i + 1 → rule_at text ns id InTemplate ≡ None
+one_more text ns i n e id h = go (nat_lt id.0 i) refl
+  where
+    go : (b : Bool) → nat_lt id.0 i ≡ b → rule_at text ns id InTemplate ≡ None
+    go true q = n id (ltb-true id.0 i q)
+    go false q = let w = ltb-false id.0 i q in let z : id.0 ≡ i = omega arith in subst (λ (m : ℕ). rule_at text ns (record { 0 = m }) InTemplate ≡ None) (sym z) e
+
+pub no_rule : (r : Option DiagnosticKind) → is_some r ≡ false → r ≡ None
+no_rule None e = refl
+no_rule (Some k) e = absurd (false≢true (sym e))

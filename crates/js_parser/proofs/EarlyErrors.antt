@@ -1,0 +1,150 @@
+-- Nothing is told of a tree exactly where it meets the early rules.
+use Rattle.std.proofs.Common.{◌≡◌, ℕ, Bool, true, false, not, ◌&&◌, ◌||◌, cond, List, [], ◌++◌, Some, None, refl, sym, ◌∙◌}
+use Rattle.std.specs.Prelude.{is_some}
+use Rattle.std.proofs.lemmas.Bool.{false≢true, and_parts, and_from}
+use Rattle.js_base.specs.Decoding.{cooked}
+use Rattle.js_base.specs.declared.diagnostic.Diagnostic.{Diagnostic}
+use Rattle.js_base.specs.declared.diagnostic.DiagnosticKind.{DiagnosticKind}
+use Rattle.js_base.specs.declared.diagnostic.DiagnosticKind.TheVariants.{RegExpFlagUAndV, TemplateLiteral}
+use Rattle.js_base.specs.declared.span.Span.{Span as PlacedSpan}
+use Rattle.js_grammar.specs.EarlyRules.{everywhere, not_u_and_v, cooked_at, Place, anywhere, tag, tagged}
+use Rattle.js_grammar.specs.NodeNames.{characters_at}
+use Rattle.js_grammar.specs.Trees.{NodeKind, reg_exp_literal, tagged_template_expression, template_literal, template_element, Label, Op, Span, Slots, end, hole, tree, Tree}
+use Rattle.js_tree.specs.Covering.{placed}
+use Rattle.js_parser.proofs.Lists.{first_empty, second_empty}
+use Rattle.js_parser.specs.Broken.{past, within, broken_rule, told_rule, told_in}
+use Rattle.js_parser.specs.EarlyErrors.{MeetsEarlyRules}
+use Rattle.js_parser.specs.FlagScans.{has_both}
+use Rattle.js_parser.specs.declared.early.Position.{Position}
+use Rattle.js_parser.specs.declared.early.Position.TheVariants.{Anywhere, Tag, Tagged, InTemplate}
+
+abbrev place_of : Position → Place
+place_of Anywhere = anywhere
+place_of Tag = tag
+place_of Tagged = tagged
+place_of InTemplate = anywhere
+
+-- each part among the slots has a cooked text
+abbrev all_cooked : List ℕ → Slots → Bool
+all_cooked text end = true
+all_cooked text (hole us) = all_cooked text us
+all_cooked text (tree l cs us) = of_kind l.kind && all_cooked text us
+  where
+    of_kind : NodeKind → Bool
+    of_kind template_element = is_some (cooked (characters_at text l))
+    of_kind _ = true
+
+-- what is asked of the slots there, beside what is asked of each template within
+abbrev in_template : Position → Bool
+in_template InTemplate = true
+in_template _ = false
+
+abbrev asked : List ℕ → Position → Slots → Bool
+asked text p us = not (in_template p) || all_cooked text us
+
+record Meets (text : List ℕ) (p : Position) (us : Slots) : Type 0 where
+  flags : everywhere (not_u_and_v text) us ≡ true
+  cooked : cooked_at text (place_of p) us ≡ true
+  parts : asked text p us ≡ true
+
+abbrev labelled : NodeKind → Op → ℕ → Span → Label
+labelled k o n s = record { kind = k; op = o; flags = n; span = s }
+
+-- the rule on templates at a node
+at_node : (text : List ℕ) (p : Position) (k : NodeKind) (o : Op) (n : ℕ) (s : Span) (cs us : Slots) → cooked_at text (place_of p) (tree (labelled k o n s) cs us) ≡ (asked text (within p k) cs && (cooked_at text (place_of (within p k)) cs && cooked_at text (place_of (past p)) us))
+at_node text Anywhere tagged_template_expression o n s cs us = refl
+at_node text Tag tagged_template_expression o n s cs us = refl
+at_node text Tagged tagged_template_expression o n s cs us = refl
+at_node text InTemplate tagged_template_expression o n s cs us = refl
+at_node text Anywhere template_literal o n s cs us = refl
+at_node text Tag template_literal o n s cs us = refl
+at_node text Tagged template_literal o n s cs us = refl
+at_node text InTemplate template_literal o n s cs us = refl
+at_node text Anywhere k o n s cs us = refl
+at_node text Tag k o n s cs us = refl
+at_node text Tagged k o n s cs us = refl
+at_node text InTemplate k o n s cs us = refl
+
+none_or : (b : Bool) (k : DiagnosticKind) (s : PlacedSpan) → told_rule (cond b (Some k) None) s ≡ [] → not b ≡ true
+none_or true k s e = absurd (let z = e in cc)
+none_or false k s e = refl
+
+or_none : (b : Bool) (k : DiagnosticKind) (s : PlacedSpan) → not b ≡ true → told_rule (cond b (Some k) None) s ≡ []
+or_none true k s e = absurd (false≢true e)
+or_none false k s e = refl
+
+some_or : (b : Bool) (k : DiagnosticKind) (s : PlacedSpan) → told_rule (cond b None (Some k)) s ≡ [] → b ≡ true
+some_or true k s e = refl
+some_or false k s e = absurd (let z = e in cc)
+
+or_some : (b : Bool) (k : DiagnosticKind) (s : PlacedSpan) → b ≡ true → told_rule (cond b None (Some k)) s ≡ []
+or_some true k s e = refl
+or_some false k s e = absurd (false≢true e)
+
+-- what is told of a node itself
+abbrev own : List ℕ → Position → Label → List Diagnostic
+own text p l = told_rule (broken_rule p l.kind (characters_at text l)) (placed l.span)
+
+flags_right : (text : List ℕ) (p : Position) (k : NodeKind) (o : Op) (n : ℕ) (s : Span) (cs : Slots) → own text p (labelled k o n s) ≡ [] → not_u_and_v text (labelled k o n s) cs ≡ true
+flags_right text p reg_exp_literal o n s cs e = none_or (has_both (characters_at text (labelled reg_exp_literal o n s))) RegExpFlagUAndV (placed s) e
+flags_right text p k o n s cs e = refl
+
+part_right : (text : List ℕ) (p : Position) (k : NodeKind) (o : Op) (n : ℕ) (s : Span) (cs us : Slots) → own text p (labelled k o n s) ≡ [] → asked text p us ≡ true → asked text p (tree (labelled k o n s) cs us) ≡ true
+part_right text InTemplate template_element o n s cs us e a = and_from _ _ (some_or (is_some (cooked (characters_at text (labelled template_element o n s)))) TemplateLiteral (placed s) e) a
+part_right text InTemplate k o n s cs us e a = a
+part_right text p k o n s cs us e a = refl
+
+none_own : (text : List ℕ) (p : Position) (k : NodeKind) (o : Op) (n : ℕ) (s : Span) (cs us : Slots) → not_u_and_v text (labelled k o n s) cs ≡ true → asked text p (tree (labelled k o n s) cs us) ≡ true → own text p (labelled k o n s) ≡ []
+none_own text p reg_exp_literal o n s cs us f a = or_none (has_both (characters_at text (labelled reg_exp_literal o n s))) RegExpFlagUAndV (placed s) f
+none_own text InTemplate template_element o n s cs us f a = or_some (is_some (cooked (characters_at text (labelled template_element o n s)))) TemplateLiteral (placed s) (and_parts _ _ a).0
+none_own text p k o n s cs us f a = refl
+
+asked_behind : (text : List ℕ) (p : Position) (l : Label) (cs us : Slots) → asked text p (tree l cs us) ≡ true → asked text (past p) us ≡ true
+asked_behind text InTemplate l cs us a = (and_parts _ _ a).1
+asked_behind text p l cs us a = refl
+
+asked_past : (text : List ℕ) (p : Position) (us : Slots) → asked text (past p) us ≡ true → asked text p us ≡ true
+asked_past text InTemplate us a = a
+asked_past text p us a = refl
+
+none_asked : (text : List ℕ) (p : Position) → asked text p end ≡ true
+none_asked text InTemplate = refl
+none_asked text p = refl
+
+-- ---- both ways
+
+meets : (text : List ℕ) (p : Position) (us : Slots) → told_in text p us ≡ [] → Meets text p us
+meets text p end e = record { flags = refl; cooked = refl; parts = none_asked text p }
+meets text p (hole us) e = let x = meets text p us e in record { flags = x.flags; cooked = x.cooked; parts = x.parts }
+meets text p (tree l cs us) e =
+    let first = own text p l in
+    let inner = told_in text (within p l.kind) cs in
+    let behind = told_in text (past p) us in
+    let others = second_empty first (inner ++ behind) e in
+    let none = first_empty first (inner ++ behind) e in
+    let x = meets text (within p l.kind) cs (first_empty inner behind others) in
+    let y = meets text (past p) us (second_empty inner behind others) in
+    record {
+      flags = and_from _ _ (flags_right text p l.kind l.op l.flags l.span cs none) (and_from _ _ x.flags y.flags);
+      cooked = at_node text p l.kind l.op l.flags l.span cs us ∙ and_from _ _ x.parts (and_from _ _ x.cooked y.cooked);
+      parts = part_right text p l.kind l.op l.flags l.span cs us none (asked_past text p us y.parts);
+    }
+
+nothing : (text : List ℕ) (p : Position) (us : Slots) → Meets text p us → told_in text p us ≡ []
+nothing text p end m = refl
+nothing text p (hole us) m = nothing text p us (record { flags = m.flags; cooked = m.cooked; parts = m.parts })
+nothing text p (tree l cs us) m =
+    let f = and_parts (not_u_and_v text l cs) _ m.flags in
+    let g = and_parts (everywhere (not_u_and_v text) cs) _ f.1 in
+    let c = and_parts (asked text (within p l.kind) cs) _ (sym (at_node text p l.kind l.op l.flags l.span cs us) ∙ m.cooked) in
+    let d = and_parts (cooked_at text (place_of (within p l.kind)) cs) _ c.1 in
+    let none = none_own text p l.kind l.op l.flags l.span cs us f.0 m.parts in
+    let x = nothing text (within p l.kind) cs (record { flags = g.0; cooked = d.0; parts = c.0 }) in
+    let y = nothing text (past p) us (record { flags = g.1; cooked = d.1; parts = asked_behind text p l cs us m.parts }) in
+    λ i. none i ++ (x i ++ y i)
+
+pub none_broken : (text : List ℕ) (t : Tree) → told_in text Anywhere (tree t.label t.slots end) ≡ [] → MeetsEarlyRules text t
+none_broken text t e = let x = meets text Anywhere (tree t.label t.slots end) e in record { not_u_and_v = x.flags; cooked = x.cooked }
+
+pub nothing_told : (text : List ℕ) (t : Tree) → MeetsEarlyRules text t → told_in text Anywhere (tree t.label t.slots end) ≡ []
+nothing_told text t m = nothing text Anywhere (tree t.label t.slots end) (record { flags = m.not_u_and_v; cooked = m.cooked; parts = refl })
