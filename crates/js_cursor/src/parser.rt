@@ -5,6 +5,7 @@ ghost use Rattle.js_base.specs.declared.kind.Kind.TheVariants.{RAngle, RCurly, S
 ghost use Rattle.js_grammar.specs.Lexemes.{template_tail};
 ghost use Rattle.js_base.specs.Sources.{is_goal};
 ghost use Rattle.js_base.specs.declared.source_type.Goal.TheVariants.{Unambiguous};
+ghost use Rattle.js_base.specs.Contexts.{bits_of};
 ghost use Rattle.js_cursor.specs.Notes.{is_noted};
 ghost use Rattle.js_cursor.specs.Starts.{AtStart, Starts};
 ghost use Rattle.js_cursor.specs.Places.{IsAt};
@@ -257,7 +258,8 @@ impl<'a, C: ParserConfig> ParserImpl<'a, C> {
     /// Whether it is known that no head of an arrow function stands at a place, under the parameters that are in
     /// force.
     pub fn arrow_failed(&self, place: u32) -> bool
-        ensures { result ≡ is_noted self.now.state.failed self.now.ctx place }
+        ensures found { result ≡ is_noted self.now.state.failed self.now.ctx place }
+        ensures small { bits_of self.now.ctx < 65536 }
     {
         self.state.arrow_failed(self.ctx, place)
     }
@@ -275,7 +277,8 @@ impl<'a, C: ParserConfig> ParserImpl<'a, C> {
     /// Whether it is known that no operand stands at a place, since the head of an arrow function does, under the
     /// parameters that are in force.
     pub fn operand_failed(&self, place: u32) -> bool
-        ensures { result ≡ is_noted self.now.state.operands self.now.ctx place }
+        ensures found { result ≡ is_noted self.now.state.operands self.now.ctx place }
+        ensures small { bits_of self.now.ctx < 65536 }
     {
         self.state.operand_failed(self.ctx, place)
     }

@@ -1,6 +1,7 @@
 //! What a parser notes on its way.
 
-ghost use Rattle.std.specs.Prelude.{◌≡◌, ℕ, List, [], ◌∷◌, ◌++◌, length, take, Some, OnOk, OnErr};
+ghost use Rattle.std.specs.Prelude.{◌≡◌, ◌<◌, ℕ, List, [], ◌∷◌, ◌++◌, length, take, Some, OnOk, OnErr};
+ghost use Rattle.js_base.specs.Contexts.{bits_of};
 ghost use Rattle.js_cursor.specs.Histories.{standing, without, Pops};
 ghost use Rattle.js_cursor.specs.Notes.{HasNone, NotesFailed, NotesOperand, NotesPlace, is_noted, noted_number};
 
@@ -34,7 +35,8 @@ impl Model for NotedPlaces {
 
 /// A place and the parameters in force there, as one number.
 fn noted_number(ctx: Context, place: u32) -> u64
-    ensures { result ≡ noted_number ctx place }
+    ensures number { result ≡ noted_number ctx place }
+    ensures small { bits_of ctx < 65536 }
 {
     u64::from(place) * 65_536 + u64::from(ctx.number())
 }
@@ -49,7 +51,8 @@ impl NotedPlaces {
     }
 
     fn contains(&self, ctx: Context, place: u32) -> bool
-        ensures { result ≡ is_noted self.now ctx place }
+        ensures found { result ≡ is_noted self.now ctx place }
+        ensures small { bits_of ctx < 65536 }
     {
         self.numbers.contains(&noted_number(ctx, place))
     }
@@ -143,7 +146,8 @@ impl ParserState {
 
     /// Whether no head of an arrow function was found at a place, under these parameters.
     pub(crate) fn arrow_failed(&self, ctx: Context, place: u32) -> bool
-        ensures { result ≡ is_noted self.now.failed ctx place }
+        ensures found { result ≡ is_noted self.now.failed ctx place }
+        ensures small { bits_of ctx < 65536 }
     {
         self.failed.contains(ctx, place)
     }
@@ -162,7 +166,8 @@ impl ParserState {
 
     /// Whether no operand was found at a place, under these parameters.
     pub(crate) fn operand_failed(&self, ctx: Context, place: u32) -> bool
-        ensures { result ≡ is_noted self.now.operands ctx place }
+        ensures found { result ≡ is_noted self.now.operands ctx place }
+        ensures small { bits_of ctx < 65536 }
     {
         self.operands.contains(ctx, place)
     }
