@@ -13,7 +13,7 @@ use Rattle.js_parsing.specs.Answers.{Numbered, Stops, Underived}
 use Rattle.js_grammar.specs.Parsing.{plain, full, Fails}
 use Rattle.js_grammar.specs.Table.{rule}
 use Rattle.js_grammar.specs.Trees.{end}
-use Rattle.js_parsing.specs.Contexts.{EntersMethod, SetsAwait, arrow_body, arrow_head, braced_body}
+use Rattle.js_parsing.specs.Contexts.{EntersAsyncHead, EntersMethod, SetsAwait, arrow_body, arrow_head, braced_body}
 use Rattle.js_parsing.specs.Lexemes.{Lex}
 use Rattle.js_parsing.specs.Methods.{WholeTaken}
 use Rattle.js_parsing.specs.States.{At, IsPlain, whole, sign, nothing, flags_of}
@@ -46,45 +46,44 @@ module _ {text : List ℕ} where
   pub no_in_at : {f : Flags} {p q : Parser} {c d : Context} → At text f p → d ≡ p.ctx → SetsFlag in_flag false d c → q ≡ record p { ctx = c } → At text (minus_in f) q
   no_in_at {f} {p} {q} {c} {d} a e s h = subst (At text (minus_in f)) (sym h) (at_under c (without_in a (subst (λ (v : Context). SetsFlag in_flag false v c) e s)) a)
 
-  -- with Await
-  with_await : {f : Flags} {p : Parser} {c : Context} → At text f p → SetsFlag await_flag true p.ctx c → flags_of (record p { ctx = c }) ≡ record f { await_ = true }
-  with_await {f} {p} {c} a s = rw (s.others in_flag (λ e. cc), s.others yield_flag (λ e. cc), s.flag, s.others await_expression_flag (λ e. cc), s.others return_flag (λ e. cc), s.others new_target_flag (λ e. cc)) (ap (λ (g : Flags). record g { await_ = true }) a.flags_are)
-
   -- the parameters of an asynchronous arrow function
-  pub async_head_at : {f : Flags} {p q : Parser} {c d : Context} → At text f p → d ≡ p.ctx → SetsFlag await_flag true d c → q ≡ record p { ctx = c } → At text (arrow_head true f) q
-  async_head_at {f} {p} {q} {c} {d} a e s h = subst (λ (b : Bool). At text (record f { await_ = b }) q) (either_way f.await_) (subst (At text (record f { await_ = true })) (sym h) (at_under c (with_await a (subst (λ (v : Context). SetsFlag await_flag true v c) e s)) a))
+  in_head : {f : Flags} {p : Parser} {c : Context} → At text f p → EntersAsyncHead p.ctx c → flags_of (record p { ctx = c }) ≡ record f { await_ = true }
+  in_head {f} {p} {c} a s = rw (s.others in_flag (λ e. cc) (λ e. cc), s.others yield_flag (λ e. cc) (λ e. cc), s.reads, s.flag, s.others return_flag (λ e. cc) (λ e. cc), s.others new_target_flag (λ e. cc) (λ e. cc)) (ap (λ (g : Flags). record g { await_ = true }) a.flags_are)
+
+  pub async_head_at : {f : Flags} {p q : Parser} {c d : Context} → At text f p → d ≡ p.ctx → EntersAsyncHead d c → q ≡ record p { ctx = c } → At text (arrow_head true f) q
+  async_head_at {f} {p} {q} {c} {d} a e s h = subst (λ (b : Bool). At text (record f { await_ = b }) q) (either_way f.await_) (subst (At text (record f { await_ = true })) (sym h) (at_under c (in_head a (subst (λ (v : Context). EntersAsyncHead v c) e s)) a))
 
   -- without Yield, and under Await in an asynchronous one
   in_arrow : {m : Bool} {f : Flags} {p : Parser} {c d : Context} → At text f p → SetsFlag yield_flag false p.ctx c → SetsAwait m c d → flags_of (record p { ctx = d }) ≡ arrow_body m f
-  in_arrow {m} {f} {p} {c} {d} a s t = rw (t.others in_flag (λ e. cc) (λ e. cc), s.others in_flag (λ e. cc), t.others yield_flag (λ e. cc) (λ e. cc), s.flag, t.flag, t.reads, t.others return_flag (λ e. cc) (λ e. cc), s.others return_flag (λ e. cc), t.others new_target_flag (λ e. cc) (λ e. cc), s.others new_target_flag (λ e. cc)) (ap (arrow_body m) a.flags_are)
+  in_arrow {m} {f} {p} {c} {d} a s t = rw (t.others in_flag (λ e. cc) (λ e. cc), s.others in_flag (λ e. cc), t.others yield_flag (λ e. cc) (λ e. cc), s.flag, t.reads, t.flag, t.others return_flag (λ e. cc) (λ e. cc), s.others return_flag (λ e. cc), t.others new_target_flag (λ e. cc) (λ e. cc), s.others new_target_flag (λ e. cc)) (ap (arrow_body m) a.flags_are)
 
   pub arrow_at : {m : Bool} {f : Flags} {p q : Parser} {b c d : Context} → At text f p → b ≡ p.ctx → SetsFlag yield_flag false b c → SetsAwait m c d → q ≡ record p { ctx = d } → At text (arrow_body m f) q
   arrow_at {m} {f} {p} {q} {b} {c} {d} a e s t h = subst (At text (arrow_body m f)) (sym h) (at_under d (in_arrow a (subst (λ (v : Context). SetsFlag yield_flag false v c) e s) t) a)
 
   -- and with In and Return
   in_braces : {m : Bool} {f : Flags} {p : Parser} {c d e g : Context} → At text f p → SetsFlag yield_flag false p.ctx c → SetsAwait m c d → SetsFlag in_flag true d e → SetsFlag return_flag true e g → flags_of (record p { ctx = g }) ≡ braced_body m f
-  in_braces {m} {f} {p} {c} {d} {e} {g} a s t u v = rw (v.others in_flag (λ e. cc), u.flag, v.others yield_flag (λ e. cc), u.others yield_flag (λ e. cc), t.others yield_flag (λ e. cc) (λ e. cc), s.flag, v.others await_flag (λ e. cc), u.others await_flag (λ e. cc), t.flag, v.others await_expression_flag (λ e. cc), u.others await_expression_flag (λ e. cc), t.reads, v.flag, v.others new_target_flag (λ e. cc), u.others new_target_flag (λ e. cc), t.others new_target_flag (λ e. cc) (λ e. cc), s.others new_target_flag (λ e. cc)) (ap (braced_body m) a.flags_are)
+  in_braces {m} {f} {p} {c} {d} {e} {g} a s t u v = rw (v.others in_flag (λ e. cc), u.flag, v.others yield_flag (λ e. cc), u.others yield_flag (λ e. cc), t.others yield_flag (λ e. cc) (λ e. cc), s.flag, v.others await_flag (λ e. cc), u.others await_flag (λ e. cc), v.others await_expression_flag (λ e. cc), u.others await_expression_flag (λ e. cc), t.reads, t.flag, v.flag, v.others new_target_flag (λ e. cc), u.others new_target_flag (λ e. cc), t.others new_target_flag (λ e. cc) (λ e. cc), s.others new_target_flag (λ e. cc)) (ap (braced_body m) a.flags_are)
 
   pub braces_at : {m : Bool} {f : Flags} {p q : Parser} {b c d e g : Context} → At text f p → b ≡ p.ctx → SetsFlag yield_flag false b c → SetsAwait m c d → SetsFlag in_flag true d e → SetsFlag return_flag true e g → q ≡ record p { ctx = g } → At text (braced_body m f) q
   braces_at {m} {f} {p} {q} {b} {c} {d} {e} {g} a i s t u v h = subst (At text (braced_body m f)) (sym h) (at_under g (in_braces a (subst (λ (w : Context). SetsFlag yield_flag false w c) i s) t u v) a)
 
   -- the parameters of a function
   in_function : {f : Flags} {p : Parser} {m b : Bool} {c d e g : Context} → At text f p → SetsFlag in_flag true p.ctx c → SetsFlag yield_flag b c d → SetsAwait m d e → SetsFlag new_target_flag true e g → flags_of (record p { ctx = g }) ≡ params_of m b f
-  in_function {f} {p} {m} {b} {c} {d} {e} {g} a s t u v = rw (v.others in_flag (λ e. cc), u.others in_flag (λ e. cc) (λ e. cc), t.others in_flag (λ e. cc), s.flag, v.others yield_flag (λ e. cc), u.others yield_flag (λ e. cc) (λ e. cc), t.flag, v.others await_flag (λ e. cc), u.flag, v.others await_expression_flag (λ e. cc), u.reads, v.others return_flag (λ e. cc), u.others return_flag (λ e. cc) (λ e. cc), t.others return_flag (λ e. cc), s.others return_flag (λ e. cc), v.flag) (ap (params_of m b) a.flags_are)
+  in_function {f} {p} {m} {b} {c} {d} {e} {g} a s t u v = rw (v.others in_flag (λ e. cc), u.others in_flag (λ e. cc) (λ e. cc), t.others in_flag (λ e. cc), s.flag, v.others yield_flag (λ e. cc), u.others yield_flag (λ e. cc) (λ e. cc), t.flag, v.others await_flag (λ e. cc), v.others await_expression_flag (λ e. cc), u.reads, u.flag, v.others return_flag (λ e. cc), u.others return_flag (λ e. cc) (λ e. cc), t.others return_flag (λ e. cc), s.others return_flag (λ e. cc), v.flag) (ap (params_of m b) a.flags_are)
 
   pub parameters_at : {f : Flags} {p q : Parser} {m b : Bool} {o c d e g : Context} → At text f p → o ≡ p.ctx → SetsFlag in_flag true o c → SetsFlag yield_flag b c d → SetsAwait m d e → SetsFlag new_target_flag true e g → q ≡ record p { ctx = g } → At text (params_of m b f) q
   parameters_at {f} {p} {q} {m} {b} {o} {c} {d} {e} {g} a i s t u v h = subst (At text (params_of m b f)) (sym h) (at_under g (in_function a (subst (λ (w : Context). SetsFlag in_flag true w c) i s) t u v) a)
 
   -- and its body
   in_function_body : {f : Flags} {p : Parser} {m b : Bool} {c d e g h : Context} → At text f p → SetsFlag in_flag true p.ctx c → SetsFlag yield_flag b c d → SetsAwait m d e → SetsFlag new_target_flag true e g → SetsFlag return_flag true g h → flags_of (record p { ctx = h }) ≡ body_of m b f
-  in_function_body {f} {p} {m} {b} {c} {d} {e} {g} {h} a s t u v w = rw (w.others in_flag (λ e. cc), v.others in_flag (λ e. cc), u.others in_flag (λ e. cc) (λ e. cc), t.others in_flag (λ e. cc), s.flag, w.others yield_flag (λ e. cc), v.others yield_flag (λ e. cc), u.others yield_flag (λ e. cc) (λ e. cc), t.flag, w.others await_flag (λ e. cc), v.others await_flag (λ e. cc), u.flag, w.others await_expression_flag (λ e. cc), v.others await_expression_flag (λ e. cc), u.reads, w.flag, w.others new_target_flag (λ e. cc), v.flag) (ap (body_of m b) a.flags_are)
+  in_function_body {f} {p} {m} {b} {c} {d} {e} {g} {h} a s t u v w = rw (w.others in_flag (λ e. cc), v.others in_flag (λ e. cc), u.others in_flag (λ e. cc) (λ e. cc), t.others in_flag (λ e. cc), s.flag, w.others yield_flag (λ e. cc), v.others yield_flag (λ e. cc), u.others yield_flag (λ e. cc) (λ e. cc), t.flag, w.others await_flag (λ e. cc), v.others await_flag (λ e. cc), w.others await_expression_flag (λ e. cc), v.others await_expression_flag (λ e. cc), u.reads, u.flag, w.flag, w.others new_target_flag (λ e. cc), v.flag) (ap (body_of m b) a.flags_are)
 
   pub function_body_at : {f : Flags} {p q : Parser} {m b : Bool} {o c d e g h : Context} → At text f p → o ≡ p.ctx → SetsFlag in_flag true o c → SetsFlag yield_flag b c d → SetsAwait m d e → SetsFlag new_target_flag true e g → SetsFlag return_flag true g h → q ≡ record p { ctx = h } → At text (body_of m b f) q
   function_body_at {f} {p} {q} {m} {b} {o} {c} {d} {e} {g} {h} a i s t u v w j = subst (At text (body_of m b f)) (sym j) (at_under h (in_function_body a (subst (λ (x : Context). SetsFlag in_flag true x c) i s) t u v w) a)
 
   -- the parameters of a method
   in_params : {m b : Bool} {f : Flags} {p : Parser} {c : Context} → At text f p → EntersMethod m b p.ctx c → flags_of (record p { ctx = c }) ≡ params_of m b f
-  in_params {m} {b} a s = rw (s.allows_in, s.allows_yield, s.allows_await, s.awaits, s.allows_new_target, s.returns_same) (ap (λ (g : Flags). params_of m b g) a.flags_are)
+  in_params {m} {b} a s = rw (s.allows_in, s.allows_yield, s.awaits, s.allows_await, s.allows_new_target, s.returns_same) (ap (λ (g : Flags). params_of m b g) a.flags_are)
 
   pub params_at : {m b : Bool} {f : Flags} {p q : Parser} {c d : Context} → At text f p → d ≡ p.ctx → EntersMethod m b d c → q ≡ record p { ctx = c } → At text (params_of m b f) q
   params_at {m} {b} {f} {p} {q} {c} {d} a e s h = subst (At text (params_of m b f)) (sym h) (at_under c (in_params a (subst (λ (v : Context). EntersMethod m b v c) e s)) a)

@@ -22,6 +22,12 @@ pub record SetsAwait (value : Bool) (old new : Context) : Type 0 where
   pub reads : reads_await new ≡ value
   pub others : (j : ℕ) → j ≢ await_flag → j ≢ await_expression_flag → has_flag j new ≡ has_flag j old
 
+-- from what is in force around an asynchronous arrow function to what is in its parameters: `await` is no name, and an operator where it was one; every other flag stays
+pub record EntersAsyncHead (old new : Context) : Type 0 where
+  pub flag : has_flag await_flag new ≡ true
+  pub reads : reads_await new ≡ reads_await old
+  pub others : (j : ℕ) → j ≢ await_flag → j ≢ await_expression_flag → has_flag j new ≡ has_flag j old
+
 -- from what is in force around a method to what is in its parameters; it is asynchronous or not, and a generator or not (ECMA-262, 15.4, 15.5, 15.6, 15.8)
 pub record EntersMethod (asynchronous generator : Bool) (old new : Context) : Type 0 where
   pub allows_in : has_flag in_flag new ≡ true

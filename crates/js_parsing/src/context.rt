@@ -3,7 +3,7 @@
 ghost use Rattle.std.specs.Prelude.{◌≡◌, ◌+◌};
 ghost use Rattle.js_grammar.specs.Productions.{at, body_of, params_of, plus_in, Assignment, Body, Expression, Params};
 ghost use Rattle.js_parsing.specs.Answers.{Answers};
-ghost use Rattle.js_parsing.specs.Contexts.{EntersMethod, SetsAwait, arrow_body, braced_body};
+ghost use Rattle.js_parsing.specs.Contexts.{EntersAsyncHead, EntersMethod, SetsAwait, arrow_body, braced_body};
 ghost use Rattle.js_parsing.specs.Methods.{ReadsWhole, parameters_of};
 ghost use Rattle.js_parsing.specs.Nesting.{CanNest, room};
 ghost use Rattle.js_parsing.specs.States.{Standing};
@@ -33,6 +33,16 @@ fn with_await(ctx: Context, is_operator: bool) -> Context
     ensures { SetsAwait is_operator ctx result }
 {
     ctx.and_await(is_operator).and_await_expression(is_operator)
+}
+
+/// What is in force in the parameters of an asynchronous arrow function: `await` is no name there, and an operator where it
+/// is one around them (ECMA-262, section 15.9).
+pub fn in_async_head(outer: Context) -> Context
+    ensures { EntersAsyncHead outer result }
+{
+    outer
+        .and_await(true)
+        .and_await_expression(outer.reads_await())
 }
 
 /// An AssignmentExpression between brackets, under In.
