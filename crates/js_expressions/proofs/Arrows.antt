@@ -4,27 +4,27 @@ use Rattle.std.specs.Prelude.{IsCharBoundary, Result, Ok, Err, nat_lt}
 use Rattle.std.proofs.lemmas.Bool.{false≢true, and_parts, or_left, or_right}
 use Rattle.js_base.specs.Contexts.{has_flag, yield_flag}
 use Rattle.js_base.specs.declared.kind.Kind.{Kind}
-use Rattle.js_base.specs.declared.kind.Kind.TheVariants.{Arrow, Await, Comma, LParen, LCurly, RAngle, Yield, RegExp}
+use Rattle.js_base.specs.declared.kind.Kind.TheVariants.{Arrow, Await, Comma, LParen, LCurly, RAngle, Yield, RegExp, Async}
 use Rattle.js_base.specs.declared.span.Span.{Span}
 use Rattle.js_base.specs.Kinds.{same_kind, one_of_kinds}
 use Rattle.js_base.specs.Texts.{words}
 use Rattle.js_base.proofs.KindLemmas.{kind_of_same}
 use Rattle.js_grammar.specs.Trees.{Span as TreeSpan, Label, Slots, end, tree, no_op, arrow_function_expression}
-use Rattle.js_grammar.specs.Grammar.{Lexeme, Lexemes, Look, last, next, here, seen, is, such, nothing, exact, Make, node, Takes, ◌▸◌, ◌◇◌, is_nothing, is_seq, is_lexeme, is_look, is_such, is_left, is_right, is_node, is_empty_slot}
+use Rattle.js_grammar.specs.Grammar.{Lexeme, Lexemes, Look, last, next, here, seen, is, such, nothing, exact, Make, node, Takes, ◌▸◌, ◌◇◌, is_nothing, is_seq, is_lexeme, is_look, is_such, is_left, is_right, is_node, is_empty_slot, alt}
 use Rattle.js_grammar.specs.Brackets.{Bracket, bracket, move}
 use Rattle.js_grammar.specs.Brackets.{plain as bracket_plain}
 use Rattle.js_grammar.proofs.Matched.{brackets, not_bracket}
 use Rattle.js_grammar.specs.Insertion.{may_bind, Row, after_expression, after_postfix, after_body, after_yield, after_declarator, after_word}
 use Rattle.js_grammar.specs.Lexed.{Lexes}
 use Rattle.js_grammar.specs.Parsing.{Test, plain, full, always, Admits, Goes, Fails, still}
-use Rattle.js_grammar.specs.Productions.{G, Flags, Symbol, at, tok, mk, other, if_next, no_newline, Arrow', Assignment, Body, Params, Short}
+use Rattle.js_grammar.specs.Productions.{G, Flags, Symbol, at, tok, mk, other, if_next, no_newline, Arrow', Assignment, Body, Params, Short, flag, async_flag}
 use Rattle.js_grammar.specs.Productions.{sym as symbol}
-use Rattle.js_grammar.specs.Table.{rule, rule_of}
+use Rattle.js_grammar.specs.Table.{rule, rule_of, args}
 use Rattle.js_grammar.specs.Follow.{after, looser, row_of, widest}
 use Rattle.js_grammar.proofs.Heads.{One, the_last, and_more, begins_head, operand_taken, in_one, one_name}
 use Rattle.js_grammar.proofs.Looks.{covers, covered, apart, not_both}
 use Rattle.js_grammar.proofs.RightEdges.{may_end}
-use Rattle.js_grammar.proofs.Calculus.{On, Inside, inside_full, ◌▹◌, ◌▹✗◌, here_at, done, left, right, looks, part_fails, fails_node, fails_look}
+use Rattle.js_grammar.proofs.Calculus.{On, Inside, inside_full, ◌▹◌, ◌▹✗◌, here_at, done, left, right, looks, part_fails, fails_node, fails_look, fails_alt}
 use Rattle.js_grammar.proofs.FollowLaws.{fails_by}
 use Rattle.js_base.specs.declared.token.Token.{Token}
 use Rattle.js_grammar.specs.Grammar.{empty_slot}
@@ -58,7 +58,7 @@ use Rattle.js_cursor.specs.declared.checkpoint.ParserCheckpoint.{ParserCheckpoin
 use Rattle.js_cursor.specs.declared.stop.Stop.{Stop}
 use Rattle.js_cursor.specs.declared.stop.Stop.TheVariants.{Fatal}
 use Rattle.js_parsing.specs.Stands.{NameHere, StandsHere}
-use Rattle.js_parsing.proofs.NameKinds.{a_name, listed_name, name_apart, name_at, name_test, name_whole, no_name_here, or_kind}
+use Rattle.js_parsing.proofs.NameKinds.{a_name, listed_name, name_apart, name_at, name_test, name_whole, no_name_here, or_kind, listed_here}
 use Rattle.js_parsing.proofs.Giving.{fails_escaped}
 use Rattle.js_cursor.specs.Moves.{is_last}
 use Rattle.js_cursor.specs.Parsers.{Parser}
@@ -67,14 +67,15 @@ use Rattle.js_cursor.proofs.Changing.{came_back, back_follows}
 use Rattle.js_cursor.proofs.Later.{keeps_follows}
 use Rattle.js_parsing.specs.Answers.{Underived, Answer, Answers, beside, Numbered, Outcome, Refuses, Stretch, Stops, Grown, Verdict, clean, unclean}
 use Rattle.js_cursor.specs.Notes.{Notes}
-use Rattle.js_parsing.specs.Contexts.{arrow_body, braced_body}
-use Rattle.js_expressions.specs.Arrows.{body_of, head_of, late_arrow, ArrowBehind, BeforeArrow, a_head, told_head, ToldHead, HeadRead, read_clean, read_unclean, ChecksLine, FindsHead, Head, LooksForHead, IsHead, IsHeadHere, IsHeadRead, IsRefusedHead, NoArrowHere, Single, Unmoved, NoneLooked}
-use Rattle.js_parsing.specs.Heads.{NoHead, NotedHeads}
+use Rattle.js_parsing.specs.Contexts.{arrow_body, braced_body, arrow_head}
+use Rattle.js_expressions.specs.Arrows.{ArrowBehind, AsyncPassed, BeforeArrow, led_head, told_led, ChecksLine, FindsAnyHead, FindsHead, Head, HeadRead, read_clean, read_unclean, IsHead, IsHeadBefore, IsHeadHere, IsRefusedHead, Leads, LooksForHead, NamesHead, NoArrowHere, NoLed, NoLine, NoLineHere, NoParametersHere, OnlyLed, ParametersRead, PlainHead, a_head, told_head, Single, ToldHead, Unmoved, WentOn, arrow_label, body_of, head_of, late_arrow, lead_of, line_of}
+use Rattle.js_expressions.specs.declared.arrow.ArrowHead.{ArrowHead}
+use Rattle.js_parsing.specs.Heads.{NoHead, NotedHeads, OnlyArrow}
 use Rattle.js_expressions.specs.Rests.{OnlyOperandHere}
 use Rattle.js_expressions.specs.Closings.{ArrowBehindOne}
 use Rattle.js_expressions.proofs.Closings.{closes_alike}
 use Rattle.js_expressions.proofs.OnePlace.{calm, one_alone, one_move, one_told}
-use Rattle.js_expressions.proofs.ParenthesizedFronts.{no_arrow_admitted}
+use Rattle.js_expressions.proofs.ParenthesizedFronts.{no_arrow_admitted, args_one}
 use Rattle.js_cursor.specs.Tokens.{may_be_read_again}
 use Rattle.js_parsing.proofs.KeptTokens.{before_back, last_back}
 use Rattle.js_parsing.specs.Lexemes.{Lex, name_kinds, other_goals, signs, spot, slashes, Plain, may_name}
@@ -99,7 +100,7 @@ use Rattle.js_parsing.proofs.MadeNodes.{leaf_held, node_held, two_held, one_lies
 use Rattle.js_parsing.proofs.Moving.{beside_nodes, flags_same, heads_kept, same_both, same_itself, same_with, stops_behind, nodes_lie}
 use Rattle.js_operands.proofs.Operands.{by_path, by_such, name_signless}
 use Rattle.js_patterns.proofs.Bindings.{bound_path, ended_by, then_any}
-use Rattle.js_parsing.proofs.Paths.{Path, ◌⟼◌, ◌⟶◌, ◌⟶✗◌, fails_at, not_here, token, last_called, noded, noded_by, by_symbol_as, label_here, read_of, walked_both, walked_from, walked_one}
+use Rattle.js_parsing.proofs.Paths.{Path, ◌⟼◌, ◌⟶◌, ◌⟶✗◌, fails_at, not_here, token, last_called, noded, noded_by, by_symbol_as, label_here, read_of, walked_both, walked_from, walked_one, flagged_here, flagged_by}
 use Rattle.js_parsing.proofs.Signs.{none_kept, plain_of}
 use Rattle.js_parsing.proofs.Ahead.{pass_over}
 use Rattle.js_parsing.proofs.Tight.{read_plain}
@@ -693,13 +694,13 @@ behind g (clean e c) = grown_first g e
 behind g (unclean h n) = grown_both g h
 
 -- the body: in braces where a brace stands, else an expression
-to_body : {text : List ℕ} {f : Flags} {X : Test} {r : Parser} → At text f r → (b : Bool) → same_kind LCurly r.token.kind ≡ b → Goes rule (Lex text) X end (body_slots f) r.prev_token_end (such (body_of b f) always) r.prev_token_end (λ us. us) (still 0)
+to_body : {text : List ℕ} {f : Flags} {X : Test} {r : Parser} (m : Bool) → At text f r → (b : Bool) → same_kind LCurly r.token.kind ≡ b → Goes rule (Lex text) X end (body_slots m f) r.prev_token_end (such (body_of b m f) always) r.prev_token_end (λ us. us) (still 0)
 unfolding covers apart
-to_body {r = r} a true c = left (part_fails {X' = plain full} (fails_look (other (is LCurly)) (λ y l z. braced y (kind_here a (sym (kind_of_same LCurly r.token.kind c)) refl y l) (read_plain y l.1) z)) (record { admits = λ ts us vs j k ls mid rest d d' e. (refl, refl) }))
+to_body {r = r} m a true c = left (part_fails {X' = plain full} (fails_look (other (is LCurly)) (λ y l z. braced y (kind_here a (sym (kind_of_same LCurly r.token.kind c)) refl y l) (read_plain y l.1) z)) (record { admits = λ ts us vs j k ls mid rest d d' e. (refl, refl) }))
   where
     braced : (y : Lexeme) → y.kind ≡ LCurly → y.escaped ≡ false → IsTrue (seen (other (is LCurly)) y) → ⊥
     braced y k n z = let w : not (same_kind LCurly y.kind && not y.escaped) ≡ false = rw (k, n) refl in false≢true (sym w ∙ z)
-to_body {text} {f} {r = r} a false c = right (fails_at a (symbol Body (braced_body f)) (LCurly ∷ []) refl none) ▹ pass_over (looks (other (is LCurly)) (λ y l. unbraced y (same_kind LCurly y.kind) refl l))
+to_body {text} {f} {r = r} m a false c = right (fails_at a (symbol Body (braced_body m f)) (LCurly ∷ []) refl none) ▹ pass_over (looks (other (is LCurly)) (λ y l. unbraced y (same_kind LCurly y.kind) refl l))
   where
     none : one_of_kinds (LCurly ∷ []) r.token.kind ≡ false
     none = rw c refl
@@ -726,61 +727,105 @@ body_row after_declarator h = absurd (false≢true h)
 body_row after_word h = absurd (false≢true h)
 
 -- behind an arrow function stands what may stand behind its body: behind one in braces anything, but a comma goes on with what is around
-behind_body : (b : Bool) {text : List ℕ} {f : Flags} {r w : Parser} (y : Answer text f (body_of b f) r w) (z : Lexeme) → Plain text w.prev_token_end z → IsTrue (seen (looser 2 f.in_ (row_of y.label y.slots)) z || seen beside z)
-behind_body false y z l = y.stops z l
-behind_body true {f = f} y z l = or_left _ _ (subst (λ (r : Row). IsTrue (seen (looser 2 f.in_ r) z)) (sym (body_row (row_of y.label y.slots) y.row)) (at_most (same_kind Comma z.kind && not z.escaped)))
+behind_body : (b m : Bool) {text : List ℕ} {f : Flags} {r w : Parser} (y : Answer text f (body_of b m f) r w) (z : Lexeme) → Plain text w.prev_token_end z → IsTrue (seen (looser 2 f.in_ (row_of y.label y.slots)) z || seen beside z)
+behind_body false m y z l = y.stops z l
+behind_body true m {f = f} y z l = or_left _ _ (subst (λ (r : Row). IsTrue (seen (looser 2 f.in_ r) z)) (sym (body_row (row_of y.label y.slots) y.row)) (at_most (same_kind Comma z.kind && not z.escaped)))
   where
     at_most : (c : Bool) → nat_lt (cond c 1 0) 2 ≡ true
     at_most true = refl
     at_most false = refl
 
-row_of_body : (b : Bool) {text : List ℕ} {f : Flags} {r w : Parser} (y : Answer text f (body_of b f) r w) → may_end Assignment (row_of y.label y.slots) ≡ true
-row_of_body false y = y.row
-row_of_body true y = subst (λ (r : Row). may_end Assignment r ≡ true) (sym (body_row (row_of y.label y.slots) y.row)) refl
+row_of_body : (b m : Bool) {text : List ℕ} {f : Flags} {r w : Parser} (y : Answer text f (body_of b m f) r w) → may_end Assignment (row_of y.label y.slots) ≡ true
+row_of_body false m y = y.row
+row_of_body true m y = subst (λ (r : Row). may_end Assignment r ≡ true) (sym (body_row (row_of y.label y.slots) y.row)) refl
 
-module _ {text : List ℕ} {f : Flags} {o p : Parser} {id : NodeId} (h : Head text f o p id) (v : Underived text (at Short f) o.prev_token_end) (k : p.token.kind ≡ Arrow) where
-  to_arrow : Goes rule (Lex text) (after (at Assignment f)) end (rule (at Assignment f)) o.prev_token_end (such (at Arrow' f) always) o.prev_token_end (λ us. us) (still 0)
-  to_arrow = only_arrow f (not_wide h.at) (is_cover h.at) h.no_yield (conditional_none f v) v
+-- behind two slots may stand what may stand behind the second one
+arrow_inside : (a : Bool) (f : Flags) (s : ℕ) → Inside rule (arrow_made a) (after (at Assignment f)) (second f) end (arrow_slots a f) s
+arrow_inside a f s = record { ends = λ p cs vs j ls mid d e. go a p cs vs d e }
+  where
+    go : (a : Bool) (p : TreeSpan) (cs vs : Slots) {i j : ℕ} {ls mid : Lexemes} → Takes rule (arrow_slots a f) end cs i ls end j mid → Admits (after (at Assignment f)) (tree (record { kind = arrow_function_expression; op = no_op; flags = flag a async_flag; span = p }) cs vs) (here mid) → Admits (second f) cs (here mid)
+    go false s cs vs (is_seq is_nothing (is_seq (is_left (is_node b)) (is_seq (is_look c) (is_seq (is_lexeme d) (is_left (is_such e g)))))) x = x
+    go false s cs vs (is_seq is_nothing (is_seq (is_left (is_node b)) (is_seq (is_look c) (is_seq (is_lexeme d) (is_right (is_seq (is_look l) (is_such e g))))))) x = x
+    go false s cs vs (is_seq is_nothing (is_seq (is_right (is_such b m)) (is_seq (is_look c) (is_seq (is_lexeme d) (is_left (is_such e g)))))) x = x
+    go false s cs vs (is_seq is_nothing (is_seq (is_right (is_such b m)) (is_seq (is_look c) (is_seq (is_lexeme d) (is_right (is_seq (is_look l) (is_such e g))))))) x = x
+    go true s cs vs (is_seq (is_seq (is_lexeme q) (is_look w)) (is_seq (is_left (is_node b)) (is_seq (is_look c) (is_seq (is_lexeme d) (is_left (is_such e g)))))) x = x
+    go true s cs vs (is_seq (is_seq (is_lexeme q) (is_look w)) (is_seq (is_left (is_node b)) (is_seq (is_look c) (is_seq (is_lexeme d) (is_right (is_seq (is_look l) (is_such e g))))))) x = x
+    go true s cs vs (is_seq (is_seq (is_lexeme q) (is_look w)) (is_seq (is_right (is_such b m)) (is_seq (is_look c) (is_seq (is_lexeme d) (is_left (is_such e g)))))) x = x
+    go true s cs vs (is_seq (is_seq (is_lexeme q) (is_look w)) (is_seq (is_right (is_such b m)) (is_seq (is_look c) (is_seq (is_lexeme d) (is_right (is_seq (is_look l) (is_such e g))))))) x = x
 
-  -- behind two slots may stand what may stand behind the second one
-  inside_arrow : Inside rule arrow_made (after (at Assignment f)) (second f) end (arrow_slots f) o.prev_token_end
-  inside_arrow = record { ends = λ s cs vs j ls mid d e. go s cs vs d e }
-    where
-      go : (s : TreeSpan) (cs vs : Slots) {i j : ℕ} {ls mid : Lexemes} → Takes rule (arrow_slots f) end cs i ls end j mid → Admits (after (at Assignment f)) (tree (record { kind = arrow_function_expression; op = no_op; flags = 0; span = s }) cs vs) (here mid) → Admits (second f) cs (here mid)
-      go s cs vs (is_seq is_nothing (is_seq (is_left (is_node b)) (is_seq (is_look c) (is_seq (is_lexeme d) (is_left (is_such e g)))))) x = x
-      go s cs vs (is_seq is_nothing (is_seq (is_left (is_node b)) (is_seq (is_look c) (is_seq (is_lexeme d) (is_right (is_seq (is_look l) (is_such e g))))))) x = x
-      go s cs vs (is_seq is_nothing (is_seq (is_right (is_such b m)) (is_seq (is_look c) (is_seq (is_lexeme d) (is_left (is_such e g)))))) x = x
-      go s cs vs (is_seq is_nothing (is_seq (is_right (is_such b m)) (is_seq (is_look c) (is_seq (is_lexeme d) (is_right (is_seq (is_look l) (is_such e g))))))) x = x
+-- ---- the word before the head
 
-  on_body : (b : Bool) {e : ℕ} → On rule (record { base = widest Assignment; by = λ us. by_second f (tree h.label h.slots us) }) (after (body_of b f)) end (such (body_of b f) always) e
+async_path : {text : List ℕ} {f : Flags} {o l : Parser} → AsyncPassed text f o l → Path text f (plain full) (lead_of true) o nothing l (λ us. us)
+async_path x = ended_by (token Async x.at x.kind x.plain refl x.moved) (looks (λ k w e. not w) (λ y l. ap not (newline_here x.moved.at y l ∙ x.on_line)))
+
+lead_then : {text : List ℕ} (a : Bool) {f : Flags} {o l q : Parser} {X : Test} {b c : G} {i : Slots → Slots} → Leads a text f o l → Path text f X b l c q i → Path text f X (lead_of a ▸ b) o c q i
+lead_then true d r = then_any (async_path d) ⟶ r
+lead_then {text} false {f} {o} {l} {q} {X} {b} {c} {i} d r = subst (λ (v : Parser). Path text f X (nothing ▸ b) v c q i) d (done ⟼ r)
+
+lead_fails : {text : List ℕ} (a : Bool) {f : Flags} {o l : Parser} {X : Test} {b : G} → Leads a text f o l → Fails rule (Lex text) X end b l.prev_token_end → Fails rule (Lex text) X end (lead_of a ▸ b) o.prev_token_end
+lead_fails true d n = then_any (async_path d) ⟶✗ n
+lead_fails {text} false {f} {o} {l} {X} {b} d n = subst (λ (v : Parser). Fails rule (Lex text) X end (nothing ▸ b) v.prev_token_end) d (done ▹✗ n)
+
+lead_same : {text : List ℕ} (a : Bool) {f : Flags} {o l : Parser} → Leads a text f o l → Same o l
+lead_same true d = d.moved.same
+lead_same false {o = o} d = subst (λ (v : Parser). Same v _) d same_itself
+
+lead_kept : {text : List ℕ} (a : Bool) {f : Flags} {o l : Parser} → Leads a text f o l → l.errors ≡ o.errors
+lead_kept true d = d.moved.kept
+lead_kept false d = ap (λ (z : Parser). z.errors) d
+
+lead_nodes : {text : List ℕ} (a : Bool) {f : Flags} {o l : Parser} → Leads a text f o l → l.nodes ≡ o.nodes
+lead_nodes true d = d.moved.nodes
+lead_nodes false d = ap (λ (z : Parser). z.nodes) d
+
+lead_start : {text : List ℕ} (a : Bool) {f : Flags} {o l : Parser} → Leads a text f o l → o.token.span.start ≤ l.token.span.start
+lead_start true d = let g = d.moved.further in let b = d.moved.at.behind in omega arith
+lead_start false d = let e = ap (λ (z : Parser). z.token.span.start) d in omega arith
+
+lead_pass : {text : List ℕ} (a : Bool) {f : Flags} {o l : Parser} → Leads a text f o l → Lexemes → Lexemes
+lead_pass true d ls = next d.moved.lexeme ls
+lead_pass false d ls = ls
+
+-- and what was passed behind it
+led_walk : {text : List ℕ} (a : Bool) {f : Flags} {o l p : Parser} {pass : Lexemes → Lexemes} (d : Leads a text f o l) → Walked text (spot l) (spot p) pass → Walked text (spot o) (spot p) (λ ls. lead_pass a d (pass ls))
+led_walk true d w = walked_both (walked_one d.moved) w
+led_walk false d w = walked_from (ap spot d) w
+
+-- neither line
+no_led : {text : List ℕ} (a : Bool) (f : Flags) {s : ℕ} → NoLed a text f s → NoLed (not a) text f s → Underived text (at Arrow' f) s
+no_led true f n m = no_arrow f m n
+no_led false f n m = no_arrow f n m
+
+module _ {text : List ℕ} (a : Bool) {f : Flags} {o l p : Parser} {id : NodeId} (d : Leads a text f o l) (h : Head text f (arrow_head a f) l p id) (y : OnlyLed a text f o.prev_token_end) (k : p.token.kind ≡ Arrow) where
+  on_body : (b : Bool) {e : ℕ} → On rule (record { base = widest Assignment; by = λ us. by_second f (tree h.label h.slots us) }) (after (body_of b a f)) end (such (body_of b a f) always) e
   on_body true = record { admits = λ ts vs j ls rest d e. braced ts (here rest) }
     where
-      braced : (ts : Slots) (y : Lexeme) → Admits (after (at Body (braced_body f))) ts y
+      braced : (ts : Slots) (y : Lexeme) → Admits (after (at Body (braced_body a f))) ts y
       braced end y = (refl, refl)
       braced (hole us) y = (refl, refl)
       braced (tree l cs us) y = (refl, refl)
   on_body false = record { admits = λ ts vs j ls rest d e. go ts vs d e }
     where
-      go : (ts vs : Slots) {i j : ℕ} {ls rest : Lexemes} → Takes rule (such (at Assignment (arrow_body f)) always) end ts i ls vs j rest → Admits (record { base = widest Assignment; by = λ us. by_second f (tree h.label h.slots us) }) ts (here rest) → Admits (after (at Assignment (arrow_body f))) ts (here rest)
+      go : (ts vs : Slots) {i j : ℕ} {ls rest : Lexemes} → Takes rule (such (at Assignment (arrow_body a f)) always) end ts i ls vs j rest → Admits (record { base = widest Assignment; by = λ us. by_second f (tree h.label h.slots us) }) ts (here rest) → Admits (after (at Assignment (arrow_body a f))) ts (here rest)
       go ts end (is_such d c) x = x
       go ts vs (is_such d c) x = absurd (false≢true x.1)
 
-  head_path : Path text f (plain full) (head_of f) o nothing p (tree h.label h.slots)
+  head_path : Path text f (plain full) (head_of (arrow_head a f)) l nothing p (tree h.label h.slots)
   head_path = record { at = h.at; further = h.further; pass = h.pass; walked = h.walked; verdict = clean h.kept h.read }
 
   -- the line where `=>` stands on a new one
   late_rule : p.token.is_on_new_line ≡ true → Fails rule (Lex text) (after (at Assignment f)) end (rule (at Assignment f)) o.prev_token_end
-  late_rule w = to_arrow ▹✗ weaken_fails_on (no_arrow f (then_any head_path ⟶✗ part_fails {X' = plain full} (fails_look (λ k n e. not n) (λ y l z. false≢true (sym (ap not (newline_here h.at y l ∙ w)) ∙ z))) (record { admits = λ ts us vs j k ls mid rest d d' e. (refl, refl) }))) (same_read (at Assignment f) (at Arrow' f) arrow_passes refl)
+  late_rule w = y.arrow ▹✗ weaken_fails_on (no_led a f (lead_fails a d (then_any head_path ⟶✗ part_fails {X' = plain full} (fails_look (λ k n e. not n) (λ y l z. false≢true (sym (ap not (newline_here h.at y l ∙ w)) ∙ z))) (record { admits = λ ts us vs j k ls mid rest d d' e. (refl, refl) }))) y.other) (same_read (at Assignment f) (at Arrow' f) arrow_passes refl)
 
   module _ (n : p.token.is_on_new_line ≡ false) {r : Parser} (m : Moved text f p r) (b : Bool) (c : same_kind LCurly r.token.kind ≡ b) where
-    body_due : Path text f (second f) (arrow_slots f) o (such (body_of b f) always) r (tree h.label h.slots)
-    body_due = done ⟼ (then_any head_path ⟶ (pass_over (looks (λ k w e. not w) (λ y l. ap not (newline_here h.at y l ∙ n))) ⟼ ended_by (token Arrow h.at k (plain_sign Arrow h.at k refl refl arrow_plain) refl m) (to_body m.at b c)))
+    body_due : Path text f (second f) (arrow_slots a f) o (such (body_of b a f) always) r (tree h.label h.slots)
+    body_due = lead_then a d (then_any head_path ⟶ (pass_over (looks (λ k w e. not w) (λ y l. ap not (newline_here h.at y l ∙ n))) ⟼ ended_by (token Arrow h.at k (plain_sign Arrow h.at k refl refl arrow_plain) refl m) (to_body a m.at b c)))
 
-    body_fails : Underived text (body_of b f) r.prev_token_end → Underived text (at Assignment f) o.prev_token_end
-    body_fails z = fails_by (to_arrow ▹✗ fails_rule {X' = after (at Assignment f)} (λ l cs vs y d. d) (to_line f ▹✗ fails_node inside_arrow (body_due ⟶✗ weaken_fails_on z (on_body b))))
+    body_fails : Underived text (body_of b a f) r.prev_token_end → Underived text (at Assignment f) o.prev_token_end
+    body_fails z = fails_by (y.arrow ▹✗ fails_rule {X' = after (at Assignment f)} (λ l cs vs y d. d) (to_line f a y.other ▹✗ fails_node (arrow_inside a f o.prev_token_end) (body_due ⟶✗ weaken_fails_on z (on_body b))))
 
-    body_path : {w : Parser} → At text f o → (y : Answer text f (body_of b f) r w) → Path text f (after (at Assignment f)) (rule (at Assignment f)) o nothing w (tree (label_here arrow_function_expression no_op o w) (tree h.label h.slots (tree y.label y.slots end)))
-    body_path a y = to_arrow ⟼ by_symbol_as {X' = after (at Assignment f)} (λ l cs vs y d. d) (to_line f ⟼ noded_by a inside_arrow (body_due ⟶ last_called y (on_body b)))
+    body_path : {w : Parser} → At text f o → (x : Answer text f (body_of b a f) r w) → Path text f (after (at Assignment f)) (rule (at Assignment f)) o nothing w (tree (flagged_here arrow_function_expression no_op (flag a async_flag) o w) (tree h.label h.slots (tree x.label x.slots end)))
+    body_path s x = y.arrow ⟼ by_symbol_as {X' = after (at Assignment f)} (λ l cs vs y d. d) (to_line f a y.other ⟼ flagged_by s (arrow_inside a f o.prev_token_end) (body_due ⟶ last_called x (on_body b)))
 
 -- whether `=>` stands on a new line was looked at
 pub line_at : {text : List ℕ} {f : Flags} {p q : Parser} → At text f p → ChecksLine p q → At text f q
@@ -807,36 +852,44 @@ line_nodes : {p q : Parser} → ChecksLine p q → q.nodes ≡ p.nodes
 line_nodes (inl (e, c)) = ap (λ (z : Parser). z.nodes) c.is
 line_nodes (inr (e, i)) = ap (λ (z : Parser). z.nodes) i
 
-module _ {text : List ℕ} {f : Flags} {o p q r : Parser} {id : NodeId} (h : Head text f o p id) (v : Underived text (at Short f) o.prev_token_end) (k : p.token.kind ≡ Arrow) (c : ChecksLine p q) (m : Moved text f q r) (b : Bool) (i : same_kind LCurly r.token.kind ≡ b) where
+module _ {text : List ℕ} (a : Bool) {f : Flags} {o l p q r : Parser} {id : NodeId} (d : Leads a text f o l) (h : Head text f (arrow_head a f) l p id) (y : OnlyLed a text f o.prev_token_end) (k : p.token.kind ≡ Arrow) (c : ChecksLine p q) (m : Moved text f q r) (b : Bool) (i : same_kind LCurly r.token.kind ≡ b) where
+  up_to : Same o p
+  up_to = same_both (lead_same a d) h.same
+
+  nothing_told : p.errors ≡ o.errors
+  nothing_told = h.kept ∙ lead_kept a d
+
   -- the body can't be read
-  pub arrow_stops : (w : Parser) (e : Stop) → Stops r w e (Underived text (body_of b f) r.prev_token_end) → Stops o w e (Underived text (at Assignment f) o.prev_token_end)
+  pub arrow_stops : (w : Parser) (e : Stop) → Stops r w e (Underived text (body_of b a f) r.prev_token_end) → Stops o w e (Underived text (at Assignment f) o.prev_token_end)
   arrow_stops w e s = go c m s
     where
-      go : {q : Parser} → ChecksLine p q → Moved text f q r → Stops r w e (Underived text (body_of b f) r.prev_token_end) → Stops o w e (Underived text (at Assignment f) o.prev_token_end)
-      go (inl (l, c)) m s = stops_behind w e (same_both h.same (same_both (line_same (inl (l, c))) m.same)) (λ g. grown_then h.kept (grown_both (kept_one c) (grown_then m.kept g))) (λ z. fails_by (late_rule h v k l)) s
-      go (inr (n, j)) m s = stops_behind w e (same_both h.same (same_both (line_same (inr (n, j))) m.same)) (λ g. grown_then (m.kept ∙ (ap (λ (z : Parser). z.errors) j ∙ h.kept)) g) (λ z. body_fails h v k n (subst (λ (z : Parser). Moved text f z r) j m) b i z) s
+      go : {q : Parser} → ChecksLine p q → Moved text f q r → Stops r w e (Underived text (body_of b a f) r.prev_token_end) → Stops o w e (Underived text (at Assignment f) o.prev_token_end)
+      go (inl (l, c)) m s = stops_behind w e (same_both up_to (same_both (line_same (inl (l, c))) m.same)) (λ g. grown_then nothing_told (grown_both (kept_one c) (grown_then m.kept g))) (λ z. fails_by (late_rule a d h y k l)) s
+      go (inr (n, j)) m s = stops_behind w e (same_both up_to (same_both (line_same (inr (n, j))) m.same)) (λ g. grown_then (m.kept ∙ (ap (λ (z : Parser). z.errors) j ∙ nothing_told)) g) (λ z. body_fails a d h y k n (subst (λ (z : Parser). Moved text f z r) j m) b i z) s
 
-  arrow_path : {w : Parser} → At text f o → (y : Answer text f (body_of b f) r w) → Path text f (after (at Assignment f)) (rule (at Assignment f)) o nothing w (tree (label_here arrow_function_expression no_op o w) (tree h.label h.slots (tree y.label y.slots end)))
-  arrow_path {w} a y = go c m
+  arrow_path : {w : Parser} → At text f o → (x : Answer text f (body_of b a f) r w) → Path text f (after (at Assignment f)) (rule (at Assignment f)) o nothing w (tree (flagged_here arrow_function_expression no_op (flag a async_flag) o w) (tree h.label h.slots (tree x.label x.slots end)))
+  arrow_path {w} t x = go c m
     where
-      go : {q : Parser} → ChecksLine p q → Moved text f q r → Path text f (after (at Assignment f)) (rule (at Assignment f)) o nothing w (tree (label_here arrow_function_expression no_op o w) (tree h.label h.slots (tree y.label y.slots end)))
-      go (inr (n, j)) m = body_path h v k n (subst (λ (z : Parser). Moved text f z r) j m) b i a y
+      go : {q : Parser} → ChecksLine p q → Moved text f q r → Path text f (after (at Assignment f)) (rule (at Assignment f)) o nothing w (tree (flagged_here arrow_function_expression no_op (flag a async_flag) o w) (tree h.label h.slots (tree x.label x.slots end)))
+      go (inr (n, j)) m = body_path a d h y k n (subst (λ (z : Parser). Moved text f z r) j m) b i t x
       go {q} (inl (l, c)) m = record {
-        at = y.at;
-        further = let j = h.further in let d = line_place (inl (l, c)) in let e = (line_at h.at (inl (l, c))).behind in let g = m.further in let u = m.at.behind in let i = y.further in omega arith;
-        pass = λ ls. h.pass (next m.lexeme (y.pass ls));
-        walked = walked_both h.walked (walked_both (walked_from (line_spot (inl (l, c))) (walked_one m)) y.walked);
-        verdict = unclean (grown_then h.kept (behind (grown_first (kept_one c) m.kept) y.verdict)) (late_rule h v k l);
+        at = x.at;
+        further = let v = lead_start a d in let j = h.further in let d = line_place (inl (l, c)) in let e = (line_at h.at (inl (l, c))).behind in let g = m.further in let u = m.at.behind in let i = x.further in omega arith;
+        pass = _;
+        walked = walked_both (led_walk a d h.walked) (walked_both (walked_from (line_spot (inl (l, c))) (walked_one m)) x.walked);
+        verdict = unclean (grown_then nothing_told (behind (grown_first (kept_one c) m.kept) x.verdict)) (late_rule a d h y k l);
       }
 
-  pub arrow_answers : {w z : Parser} {body made : NodeId} (s : Span) → At text f o → (y : Numbered text f (body_of b f) r w body) → s.start ≡ o.token.span.start → s.end ≡ w.prev_token_end → MadeHere (plain_label node_kind.ArrowFunctionExpression op_made.None s) (Some id ∷ Some body ∷ []) w z made → Numbered text f (at Assignment f) o z made
-  arrow_answers {w} {z} {body} {made} s a y u d n =
-      let l : plain_label node_kind.ArrowFunctionExpression op_made.None s ≡ label_here arrow_function_expression no_op o w = rw (u, d) refl in
-      let x : MadeHere (label_here arrow_function_expression no_op o w) (Some id ∷ Some body ∷ []) w z made = subst (λ (j : Label). MadeHere j (Some id ∷ Some body ∷ []) w z made) l n in
+  pub arrow_answers : {w z : Parser} {body made : NodeId} (s : Span) → At text f o → (x : Numbered text f (body_of b a f) r w body) → s.start ≡ o.token.span.start → s.end ≡ w.prev_token_end → MadeHere (arrow_label a s) (Some id ∷ Some body ∷ []) w z made → Numbered text f (at Assignment f) o z made
+  arrow_answers {w} {z} {body} {made} s t y u v n =
+      let g : arrow_label a s ≡ flagged_here arrow_function_expression no_op (flag a async_flag) o w = rw (u, v) refl in
+      let x : MadeHere (flagged_here arrow_function_expression no_op (flag a async_flag) o w) (Some id ∷ Some body ∷ []) w z made = subst (λ (j : Label). MadeHere j (Some id ∷ Some body ∷ []) w z made) g n in
       let e : r.nodes ≡ p.nodes = m.nodes ∙ line_nodes c in
-      let g : Holds w.nodes (length p.nodes) (length w.nodes) body.0 y.answer.label y.answer.slots = subst (λ (ns : List Node). Holds w.nodes (length ns) (length w.nodes) body.0 y.answer.label y.answer.slots) e y.holds in
+      let j : Holds w.nodes (length p.nodes) (length w.nodes) body.0 y.answer.label y.answer.slots = subst (λ (ns : List Node). Holds w.nodes (length ns) (length w.nodes) body.0 y.answer.label y.answer.slots) e y.holds in
       let i : Keeps p.nodes w.nodes = subst (λ (ns : List Node). Keeps ns w.nodes) e y.keeps in
-      by_path (arrow_path a y.answer) (same_both h.same (same_both (line_same c) (same_both m.same y.answer.same))) x.stays (λ j t. behind_body b y.answer j t) (row_of_body b y.answer) (two_held x h.holds h.keeps g i) (Keeps-trans h.keeps (Keeps-trans i (Keeps-made x.made))) refl (one_lies x)
+      let hs : Holds p.nodes (length o.nodes) (length p.nodes) id.0 h.label h.slots = subst (λ (ns : List Node). Holds p.nodes (length ns) (length p.nodes) id.0 h.label h.slots) (lead_nodes a d) h.holds in
+      let ks : Keeps o.nodes p.nodes = subst (λ (ns : List Node). Keeps ns p.nodes) (lead_nodes a d) h.keeps in
+      by_path (arrow_path t y.answer) (same_both up_to (same_both (line_same c) (same_both m.same y.answer.same))) x.stays (λ j w. behind_body b a y.answer j w) (row_of_body b a y.answer) (two_held x hs ks j i) (Keeps-trans ks (Keeps-trans i (Keeps-made x.made))) refl (one_lies x)
 
 -- ---- and behind what was no head
 
@@ -850,54 +903,54 @@ line_grown : {p q : Parser} {ds : List Diagnostic} → ChecksLine p q → Grown 
 line_grown (inl (e, c)) g = grown_both g (kept_one c)
 line_grown (inr (e, i)) g = grown_first g (ap (λ (z : Parser). z.errors) i)
 
-pub before_at : {text : List ℕ} {f : Flags} {o p : Parser} {id : NodeId} → BeforeArrow text f o p id → At text f p
-before_at (a_head h v) = h.at
-before_at (told_head x) = x.at
+module _ {text : List ℕ} (a : Bool) {f : Flags} {o p : Parser} {id : NodeId} where
+  pub before_at : BeforeArrow a text f o p id → At text f p
+  before_at (led_head l d h y) = h.at
+  before_at (told_led x n) = x.at
 
-pub before_same : {text : List ℕ} {f : Flags} {o p : Parser} {id : NodeId} → BeforeArrow text f o p id → Same o p
-before_same (a_head h v) = h.same
-before_same (told_head x) = x.same
+  pub before_same : BeforeArrow a text f o p id → Same o p
+  before_same (led_head l d h y) = same_both (lead_same a d) h.same
+  before_same (told_led x n) = x.same
 
-pub before_further : {text : List ℕ} {f : Flags} {o p : Parser} {id : NodeId} → BeforeArrow text f o p id → o.token.span.start < p.prev_token_end
-before_further (a_head h v) = h.further
-before_further (told_head x) = x.further
+  pub before_further : BeforeArrow a text f o p id → o.token.span.start < p.prev_token_end
+  before_further (led_head l d h y) = let b = lead_start a d in let c = h.further in omega arith
+  before_further (told_led x n) = x.further
 
 -- an AssignmentExpression of which something was told
-pub refused : {text : List ℕ} {f : Flags} {o p : Parser} {id : NodeId} → Numbered text f (at Assignment f) o p id → (length p.errors ≡ length o.errors → ⊥) → BeforeArrow text f o p id
-refused x n = let t = told_of x n in told_head (record {
+pub refused : {text : List ℕ} {f : Flags} {o p : Parser} {id : NodeId} → Numbered text f (at Assignment f) o p id → (length p.errors ≡ length o.errors → ⊥) → BeforeArrow false text f o p id
+refused x n = let t = told_of x n in told_led (record {
   at = x.answer.at;
   same = x.answer.same;
   further = x.answer.further;
   grown = t.0;
-  none = t.1;
   label = x.answer.label;
   slots = x.answer.slots;
   pass = x.answer.pass;
   walked = x.answer.walked;
   holds = x.holds;
   keeps = x.keeps;
-})
+}) t.1
 
-pub before_stops : {text : List ℕ} {f : Flags} {o p q r : Parser} {id : NodeId} → BeforeArrow text f o p id → p.token.kind ≡ Arrow → ChecksLine p q → Moved text f q r → (b : Bool) → same_kind LCurly r.token.kind ≡ b → (w : Parser) (e : Stop) → Stops r w e (Underived text (body_of b f) r.prev_token_end) → Stops o w e (Underived text (at Assignment f) o.prev_token_end)
-before_stops (a_head h v) k c m b i w e s = arrow_stops h v k c m b i w e s
-before_stops (told_head x) k c m b i w e s = stops_behind w e (same_both x.same (same_both (line_same c) m.same)) (λ g. grown_both (grown_first (line_grown c x.grown) m.kept) g) (λ z. x.none) s
+pub before_stops : {text : List ℕ} (a : Bool) {f : Flags} {o p q r : Parser} {id : NodeId} → BeforeArrow a text f o p id → p.token.kind ≡ Arrow → ChecksLine p q → Moved text f q r → (b : Bool) → same_kind LCurly r.token.kind ≡ b → (w : Parser) (e : Stop) → Stops r w e (Underived text (body_of b a f) r.prev_token_end) → Stops o w e (Underived text (at Assignment f) o.prev_token_end)
+before_stops a (led_head l d h y) k c m b i w e s = arrow_stops a d h y k c m b i w e s
+before_stops a (told_led x n) k c m b i w e s = stops_behind w e (same_both x.same (same_both (line_same c) m.same)) (λ g. grown_both (grown_first (line_grown c x.grown) m.kept) g) (λ z. n) s
 
-pub before_answers : {text : List ℕ} {f : Flags} {o p q r w z : Parser} {id body made : NodeId} → BeforeArrow text f o p id → p.token.kind ≡ Arrow → ChecksLine p q → Moved text f q r → (b : Bool) → same_kind LCurly r.token.kind ≡ b → (s : Span) → At text f o → Numbered text f (body_of b f) r w body → s.start ≡ o.token.span.start → s.end ≡ w.prev_token_end → MadeHere (plain_label node_kind.ArrowFunctionExpression op_made.None s) (Some id ∷ Some body ∷ []) w z made → Numbered text f (at Assignment f) o z made
-before_answers (a_head h v) k c m b i s a y u d n = arrow_answers h v k c m b i s a y u d n
-before_answers {text} {f} {o} {p} {q} {r} {w} {z} {id} {body} {made} (told_head v) k c m b t s a y u d n =
-    let l : plain_label node_kind.ArrowFunctionExpression op_made.None s ≡ label_here arrow_function_expression no_op o w = rw (u, d) refl in
-    let x : MadeHere (label_here arrow_function_expression no_op o w) (Some id ∷ Some body ∷ []) w z made = subst (λ (j : Label). MadeHere j (Some id ∷ Some body ∷ []) w z made) l n in
+pub before_answers : {text : List ℕ} (a : Bool) {f : Flags} {o p q r w z : Parser} {id body made : NodeId} → BeforeArrow a text f o p id → p.token.kind ≡ Arrow → ChecksLine p q → Moved text f q r → (b : Bool) → same_kind LCurly r.token.kind ≡ b → (s : Span) → At text f o → Numbered text f (body_of b a f) r w body → s.start ≡ o.token.span.start → s.end ≡ w.prev_token_end → MadeHere (arrow_label a s) (Some id ∷ Some body ∷ []) w z made → Numbered text f (at Assignment f) o z made
+before_answers a (led_head l d h j) k c m b i s t y u v n = arrow_answers a d h j k c m b i s t y u v n
+before_answers {text} a {f} {o} {p} {q} {r} {w} {z} {id} {body} {made} (told_led v none) k c m b t s j y u d n =
+    let l : arrow_label a s ≡ flagged_here arrow_function_expression no_op (flag a async_flag) o w = rw (u, d) refl in
+    let x : MadeHere (flagged_here arrow_function_expression no_op (flag a async_flag) o w) (Some id ∷ Some body ∷ []) w z made = subst (λ (j : Label). MadeHere j (Some id ∷ Some body ∷ []) w z made) l n in
     let e : r.nodes ≡ p.nodes = m.nodes ∙ line_nodes c in
     let g : Holds w.nodes (length p.nodes) (length w.nodes) body.0 y.answer.label y.answer.slots = subst (λ (ns : List Node). Holds w.nodes (length ns) (length w.nodes) body.0 y.answer.label y.answer.slots) e y.holds in
     let i : Keeps p.nodes w.nodes = subst (λ (ns : List Node). Keeps ns w.nodes) e y.keeps in
-    let path : Path text f (after (at Assignment f)) (such (at Assignment f) always) o nothing w (tree (label_here arrow_function_expression no_op o w) (tree v.label v.slots (tree y.answer.label y.answer.slots end))) = record {
+    let path : Path text f (after (at Assignment f)) (such (at Assignment f) always) o nothing w (tree (flagged_here arrow_function_expression no_op (flag a async_flag) o w) (tree v.label v.slots (tree y.answer.label y.answer.slots end))) = record {
       at = y.answer.at;
       further = let u = v.further in let d = line_place c in let e = (line_at v.at c).behind in let g = m.further in let i = m.at.behind in let j = y.answer.further in omega arith;
       pass = λ ls. v.pass (next m.lexeme (y.answer.pass ls));
       walked = walked_both v.walked (walked_both (walked_from (line_spot c) (walked_one m)) y.answer.walked);
-      verdict = unclean (behind (grown_first (line_grown c v.grown) m.kept) y.answer.verdict) v.none;
+      verdict = unclean (behind (grown_first (line_grown c v.grown) m.kept) y.answer.verdict) none;
     } in
-    by_such path (same_both v.same (same_both (line_same c) (same_both m.same y.answer.same))) x.stays (λ j w. behind_body b y.answer j w) (row_of_body b y.answer) (two_held x v.holds v.keeps g i) (Keeps-trans v.keeps (Keeps-trans i (Keeps-made x.made))) refl (one_lies x)
+    by_such path (same_both v.same (same_both (line_same c) (same_both m.same y.answer.same))) x.stays (λ j w. behind_body b a y.answer j w) (row_of_body b a y.answer) (two_held x v.holds v.keeps g i) (Keeps-trans v.keeps (Keeps-trans i (Keeps-made x.made))) refl (one_lies x)
 
 -- it is told of the token that stands here
 pub late_told : {p q : Parser} {d : Diagnostic} (s : Span) → d ≡ unrelated_at LineterminatorBeforeArrow s → s ≡ p.token.span → Keeps_one d p q → Keeps_one (late_arrow p.token.span) p q

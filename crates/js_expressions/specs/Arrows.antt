@@ -106,6 +106,7 @@ IsHeadHere p q id = (q.token.kind ≡ Arrow) × ((text : List ℕ) (f : Flags) �
 
 -- `async` was passed, and what stands behind it stands on its line.
 pub record AsyncPassed (text : List ℕ) (f : Flags) (o p : Parser) : Type 0 where
+  pub at : At text f o
   pub kind : o.token.kind ≡ Async
   pub plain : o.token.escaped ≡ false
   pub moved : Moved text f o p
