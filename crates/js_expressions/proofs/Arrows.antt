@@ -473,7 +473,7 @@ no_yield_named : {text : List ℕ} {f : Flags} {p : Parser} → At text f p → 
 no_yield_named {f = f} a k = no_yield a (λ e. not_true f.yield_ (subst (λ (v : Kind). may_name f.yield_ f.await_ v ≡ true) e k))
 
 -- nor with a parenthesis
-no_yield_paren : {text : List ℕ} {f : Flags} {p : Parser} → At text f p → p.token.kind ≡ LParen → NoYield text f p.prev_token_end
+pub no_yield_paren : {text : List ℕ} {f : Flags} {p : Parser} → At text f p → p.token.kind ≡ LParen → NoYield text f p.prev_token_end
 no_yield_paren a k = no_yield a (λ i. let z : LParen ≡ Yield = sym k ∙ i in absurd (cc))
 
 -- no operand begins with it
