@@ -1,5 +1,6 @@
 pub mod ArrayAnswers
 pub mod ArraysAssigned
+pub mod AsyncHeads
 pub mod Arrows
 pub mod Assignments
 pub mod Closings
@@ -9,6 +10,7 @@ pub mod Coalescing
 pub mod Conditionals
 pub mod Exponents
 pub mod FreeOfAwait
+pub mod HeadContexts
 pub mod HeadOperands
 pub mod HeadsAsArguments
 pub mod Lookaheads

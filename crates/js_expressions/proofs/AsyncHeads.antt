@@ -1,0 +1,222 @@
+-- Arrow functions behind `async` (ECMA-262, 15.9): what stands there is a head alone, or none does.
+use Rattle.std.proofs.Common.{ℕ, ◌≡◌, ◌<◌, ◌⊎◌, inl, inr, List, [], ◌∷◌, length, Bool, true, false, not, ◌&&◌, ◌||◌, IsTrue, Option, Some, None, refl, sym, ap, subst, arith, ◌∙◌}
+use Rattle.std.specs.Prelude.{MatchResult, Result, Ok, Err}
+use Rattle.std.proofs.lemmas.Bool.{false≢true, and_parts, and_from}
+use Rattle.js_base.specs.declared.kind.Kind.{Kind}
+use Rattle.js_base.specs.declared.kind.Kind.TheVariants.{Arrow, Async, In, LBrack, LCurly, LParen, Of, Question, RAngle, Yield}
+use Rattle.js_base.specs.declared.token.Token.{Token}
+use Rattle.js_base.specs.Kinds.{same_kind, one_of_kinds}
+use Rattle.js_base.proofs.KindLemmas.{kind_of_same}
+use Rattle.js_grammar.specs.Trees.{Label, Slots, end, tree}
+use Rattle.js_grammar.specs.Grammar.{Lexeme, Lexemes, Look, here, next, seen, is, alt, such, Takes, is_seq, is_lexeme, is_look, is_left, is_right, is_such, is_node, ◌▸◌}
+use Rattle.js_grammar.specs.Follow.{after, looser}
+use Rattle.js_grammar.specs.Insertion.{Row, assign_operators, may_bind, after_expression, after_postfix, after_body, after_yield, after_declarator, after_word}
+use Rattle.js_grammar.specs.Lexed.{Lexes}
+use Rattle.js_grammar.specs.Parsing.{Admits, Fails, Goes, plain, full, always}
+use Rattle.js_grammar.specs.Productions.{G, Flags, Symbol, at, tok, Arrow', Assignment, Conditional, Short, SimpleTarget, Target, ArrayTarget, ObjectTarget}
+use Rattle.js_grammar.specs.Productions.{sym as symbol}
+use Rattle.js_grammar.specs.Table.{rule, rule_of, args}
+use Rattle.js_grammar.proofs.Behind.{lexed_behind}
+use Rattle.js_grammar.proofs.Calculus.{◌▹◌, ◌▹✗◌, here_at, left, right, fails_alt, fails_node, inside_full, weaken_fails_on}
+use Rattle.js_grammar.proofs.FollowLaws.{fails_by, row_claimed, same_read}
+use Rattle.js_grammar.proofs.Heads.{One, the_last, and_more, begins_head, of_operands, operand_taken}
+use Rattle.js_grammar.proofs.Looks.{apart, covers, covered, not_both}
+use Rattle.js_grammar.proofs.RightEdges.{first_row, of_operand}
+use Rattle.js_tree.specs.declared.id.NodeId.{NodeId}
+use Rattle.js_tree.specs.Holding.{Holds, Keeps}
+use Rattle.js_tree.specs.Nodes.{Node}
+use Rattle.js_cursor.specs.Checkpoints.{GoesOn}
+use Rattle.js_cursor.specs.Moves.{OnlyMemory, Peeks, is_last}
+use Rattle.js_cursor.specs.Parsers.{Parser}
+use Rattle.js_cursor.specs.declared.stop.Stop.{Stop}
+use Rattle.js_cursor.proofs.Later.{follows_on}
+use Rattle.js_parsing.specs.Answers.{Underived}
+use Rattle.js_parsing.specs.Contexts.{arrow_head}
+use Rattle.js_parsing.specs.Heads.{NoHead, OnlyArrow}
+use Rattle.js_parsing.specs.Lexemes.{Lex, name_kinds}
+use Rattle.js_parsing.specs.Moves.{Moved}
+use Rattle.js_parsing.specs.Stands.{StandsHere}
+use Rattle.js_parsing.specs.States.{At, Standing}
+use Rattle.js_parsing.proofs.Giving.{fails_escaped}
+use Rattle.js_parsing.proofs.Here.{found, kind_here, newline_here, told, uncut}
+use Rattle.js_parsing.proofs.Moving.{same_both}
+use Rattle.js_parsing.proofs.NameKinds.{name_whole}
+use Rattle.js_parsing.proofs.Paths.{fails_at, read_of, walked_both, walked_one}
+use Rattle.js_parsing.proofs.Signs.{other_kind}
+use Rattle.js_parsing.proofs.Tight.{read_plain}
+use Rattle.js_parsing.proofs.Verdicts.{grown_then}
+use Rattle.js_operands.proofs.Operands.{name_signless}
+use Rattle.js_targets.proofs.ArraysBeforeSigns.{array_part}
+use Rattle.js_targets.proofs.Assigned.{arrow_passes, assign_part, assign_slots, no_branch, no_yield, to_choice}
+use Rattle.js_expressions.specs.Arrows.{AsyncHeadBegins, AsyncPassed, BeforeArrow, led_head, told_led, BehindWord, FindsAsyncHead, HeadBehindAsync, HeadRead, read_clean, read_unclean, IsHeadBefore, IsHeadRead, NoAsyncHere, NoLed, NoLine, NoTargetHere, OnlyBehind, a_list, a_name, OnlyLed, ToldHead, Unmoved, WentOn, head_of, lead_of, line_of}
+use Rattle.js_expressions.specs.HeadOperands.{NoTargetPart}
+use Rattle.js_expressions.proofs.Arrows.{head_one, no_arrow, no_arrow_behind, no_async_here, no_head_no_line, no_plain_led}
+use Rattle.js_expressions.proofs.CalledFronts.{Front, word_alone, with_arguments, word_front}
+
+-- ---- the table, where `async` stands with a head behind it
+
+-- Behind the word: parentheses, with `=>` behind arguments, or a name with `=>` behind it.
+data Behind (text : List ℕ) (f : Flags) (s : ℕ) : Type 0 where
+  list_behind : ((y : Lexeme) → Lex text s y → y.kind ≡ LParen) → OnlyArrow text f s → Behind text f s
+  name_behind : ((y : Lexeme) → Lex text s y → (y.kind ≡ LParen → ⊥) × ((z : Lexeme) → Lex text y.to z → z.kind ≡ Arrow)) → Behind text f s
+
+-- What stands behind an operand that begins with the word: what stands behind the word, where the operand is that alone; or `=>`.
+data Stood (text : List ℕ) (s : ℕ) (ts : Slots) (rest : Lexemes) : Type 0 where
+  behind_word : Lexes (Lex text) s rest → first_row ts ≡ after_expression → Stood text s ts rest
+  at_arrow : same_kind Arrow (here rest).kind ≡ true → Stood text s ts rest
+
+-- lexemes of which one is passed
+one_passed : {ls rest : Lexemes} {e : ℕ} → One [] ls e rest → (x : Lexeme) × (mid : Lexemes) × (ls ≡ next x mid)
+one_passed (the_last {x = x} {ls = ls} m) = (x, ls, refl)
+one_passed (and_more {x = x} {ls = ls} m o) = (x, ls, refl)
+
+abbrev a_head_there : Look
+a_head_there k w e = begins_head k w e && (not w && not e)
+
+-- an operand doesn't end before a head on its line
+head_binds : (b : Bool) → covers a_head_there (λ k w e. not (looser 2 b after_expression k w e)) ≡ true
+unfolding covers
+head_binds true = refl
+head_binds false = refl
+
+abbrev an_arrow : Look
+an_arrow k w e = same_kind Arrow k && not e
+
+-- nor before `=>`
+arrow_binds : (b : Bool) (r : Row) → of_operand r ≡ true → covers an_arrow (λ k w e. not (looser 2 b r k w e)) ≡ true
+unfolding covers
+arrow_binds true after_expression h = refl
+arrow_binds true after_postfix h = refl
+arrow_binds false after_expression h = refl
+arrow_binds false after_postfix h = refl
+arrow_binds b after_body h = absurd (false≢true h)
+arrow_binds b after_yield h = absurd (false≢true h)
+arrow_binds b after_declarator h = absurd (false≢true h)
+arrow_binds b after_word h = absurd (false≢true h)
+
+contrary : (b : Bool) → not b ≡ true → b ≡ true → ⊥
+contrary true h e = false≢true h
+contrary false h e = false≢true e
+
+-- neither an operator of an assignment nor a question mark begins a head, nor is it `=>`
+abbrev begins_or_arrow : Look
+begins_or_arrow k w e = begins_head k w e || same_kind Arrow k
+
+abbrev an_assign_kind : Look
+an_assign_kind k w e = one_of_kinds assign_operators k
+
+assign_apart : apart begins_or_arrow an_assign_kind ≡ true
+unfolding apart
+assign_apart = refl
+
+abbrev a_question : Look
+a_question k w e = same_kind Question k
+
+question_apart : apart begins_or_arrow a_question ≡ true
+unfolding apart
+question_apart = refl
+
+module _ {text : List ℕ} {f : Flags} {s t : ℕ} (w : (y : Lexeme) → Lex text s y → (y.kind ≡ Async) × (y.to ≡ t)) (b : BehindWord text t) (o : Behind text f t) where
+  -- arguments that begin behind the word have `=>` behind them
+  arguments_arrow : {vs : Slots} {e : ℕ} {mid r : Lexemes} → Lexes (Lex text) t mid → Takes rule (args f) end vs t mid end e r → same_kind Arrow (here r).kind ≡ false → ⊥
+  arguments_arrow {vs} {e} {mid} {r} l d n = by o
+    where
+      opens : {ks ts us : Slots} {i j : ℕ} {ls rest : Lexemes} → Takes rule (args f) ks ts i ls us j rest → (here ls).kind ≡ LParen
+      opens (is_seq (is_lexeme {x = x} q) m) = sym (kind_of_same LParen x.kind (and_parts (same_kind LParen x.kind) _ q).0)
+
+      by : Behind text f t → ⊥
+      by (list_behind p m) = m.no vs end e mid r l d (ap not n, refl)
+      by (name_behind m) = (m (here mid) (here_at (Lex text) mid l)).0 (opens d)
+
+  stood : {n : Symbol} → of_operands n.name ≡ true → n.flags ≡ f → {ts us : Slots} {j : ℕ} {ls rest : Lexemes} → Lexes (Lex text) s ls → Takes rule (such n always) end ts s ls us j rest → Stood text t ts rest
+  stood {n} p q {ts} {us} {j} {ls} {rest} l d = front (one_passed (operand_taken n p d (ap (λ (k : Kind). may_bind k || same_kind LParen k) (w (here ls) (here_at (Lex text) ls l)).0)).2)
+    where
+      here_arrow : (r : Lexemes) → (same_kind Arrow (here r).kind ≡ false → ⊥) → same_kind Arrow (here r).kind ≡ true
+      here_arrow r n = go (same_kind Arrow (here r).kind) refl
+        where
+          go : (b : Bool) → same_kind Arrow (here r).kind ≡ b → same_kind Arrow (here r).kind ≡ true
+          go true e = e
+          go false e = absurd (n e)
+
+      by : (x : Lexeme) (mid : Lexemes) → x.to ≡ t → Lexes (Lex text) t mid → Front n.flags ts x mid rest → Stood text t ts rest
+      by x mid e m (word_alone r i) = behind_word (subst (λ (v : Lexemes). Lexes (Lex text) t v) (sym r) m) i
+      by x mid e m (with_arguments vs k r c g) =
+          let a : Takes rule (args f) end vs t mid end k r = subst (λ (v : ℕ). Takes rule (args f) end vs v mid end k r) e (subst (λ (v : Flags). Takes rule (args v) end vs x.to mid end k r) q c) in
+          let u = here_arrow r (arguments_arrow m a) in
+          elim g [
+            | inl i ↦ at_arrow (ap (λ (v : Lexemes). same_kind Arrow (here v).kind) i ∙ u)
+            | inr i ↦ absurd (false≢true (sym i ∙ u))
+          ]
+
+      front : (x : Lexeme) × (mid : Lexemes) × (ls ≡ next x mid) → Stood text t ts rest
+      front z =
+          let m : Lexes (Lex text) s (next z.0 z.1) = subst (λ (v : Lexemes). Lexes (Lex text) s v) z.2 l in
+          let e : z.0.to ≡ t = (w z.0 m.0).1 in
+          let g : Lexes (Lex text) t z.1 = subst (λ (v : ℕ). Lexes (Lex text) v z.1) e m.1 in
+          by z.0 z.1 e g (word_front n p (subst (λ (v : Lexemes). Takes rule (such n always) end ts s v us j rest) z.2 d) (ap (same_kind Async) (w z.0 m.0).0) (b (here z.1) (here_at (Lex text) z.1 g)).1)
+
+  -- what stands behind an operand begins a head or is `=>`
+  none_of : (p : Look) → apart begins_or_arrow p ≡ true → {ts : Slots} {rest : Lexemes} → Stood text t ts rest → IsTrue (seen p (here rest)) → ⊥
+  none_of p h {rest = rest} (behind_word l i) q = not_both begins_or_arrow p h (here rest).kind (here rest).newline (here rest).escaped (or_left _ _ (b (here rest) (here_at (Lex text) rest l)).1) q
+  none_of p h {rest = rest} (at_arrow u) q = not_both begins_or_arrow p h (here rest).kind (here rest).newline (here rest).escaped (or_right (begins_head (here rest).kind (here rest).newline (here rest).escaped) _ u) q
+
+  -- no operand ends there as an assignment does
+  no_end_there : {ts us : Slots} {j : ℕ} {ls rest : Lexemes} → Lexes (Lex text) s ls → Takes rule (such (at Short f) always) end ts s ls us j rest → IsTrue (seen (looser 2 f.in_ (first_row ts)) (here rest)) → ⊥
+  no_end_there {ts} {us} {j} {ls} {rest} l d a = by (stood {n = at Short f} refl refl l d)
+    where
+      lexed : Lexes (Lex text) j rest
+      lexed = lexed_behind (Lex text) d l
+
+      unescaped : (here rest).escaped ≡ false
+      unescaped = read_plain (here rest) (here_at (Lex text) rest lexed).1
+
+      by : Stood text t ts rest → ⊥
+      by (behind_word m i) =
+          let y = b (here rest) (here_at (Lex text) rest m) in
+          contrary (seen (looser 2 f.in_ (first_row ts)) (here rest)) (subst (λ (r : Row). not (seen (looser 2 f.in_ r) (here rest)) ≡ true) (sym i) (covered a_head_there (λ k w e. not (looser 2 f.in_ after_expression k w e)) (head_binds f.in_) (here rest).kind (here rest).newline (here rest).escaped (and_from _ _ y.1 (and_from _ _ (ap not y.0) (ap not unescaped))))) a
+      by (at_arrow u) = contrary (seen (looser 2 f.in_ (first_row ts)) (here rest)) (covered an_arrow (λ k w e. not (looser 2 f.in_ (first_row ts) k w e)) (arrow_binds f.in_ (first_row ts) (row_claimed d)) (here rest).kind (here rest).newline (here rest).escaped (and_from _ _ u (ap not unescaped))) a
+
+  conditional_fails : Fails rule (Lex text) (after (at Assignment f)) end (such (at Conditional f) always) s
+  conditional_fails = record { no = λ ts vs j ls rest l d a. go ts vs l d a.1 }
+    where
+      within : (cs : Slots) {l : Label} {us : Slots} {j : ℕ} {ls rest : Lexemes} → Lexes (Lex text) s ls → Takes rule (rule (at Conditional f)) end (tree l cs end) s ls us j rest → IsTrue (seen (looser 2 f.in_ (first_row (tree l cs end))) (here rest)) → ⊥
+      unfolding rule rule_of
+      within cs m (is_left (is_such d c)) a = no_end_there m (is_such d refl) a
+      within cs m (is_right (is_node (is_seq d (is_seq (is_lexeme {x = x} q) e)))) a = none_of a_question question_apart (stood {n = at Short f} refl refl m d) (and_parts (same_kind Question x.kind) _ q).0
+
+      go : (ts vs : Slots) {j : ℕ} {ls rest : Lexemes} → Lexes (Lex text) s ls → Takes rule (such (at Conditional f) always) end ts s ls vs j rest → IsTrue (seen (looser 2 f.in_ (first_row ts)) (here rest)) → ⊥
+      go ts vs l (is_such {cs = cs} d c) a = within cs l d a
+
+  assignments_fail : Fails rule (Lex text) (plain full) end (array_part f) s → Fails rule (Lex text) (after (at Assignment f)) end (alt (branches assign_operators (assign_part f)) (array_part f)) s
+  assignments_fail n = fails_alt (no_branch (assign_part f) assign_operators (λ k h. fails_node inside_full (no_slots_at k h))) (weaken_fails_on n (record { admits = λ ts vs k ls rest d e. (refl, refl) }))
+    where
+      no_slots_at : (k : Kind) → one_of_kinds assign_operators k ≡ true → Fails rule (Lex text) (plain full) end (assign_slots f k) s
+      no_slots_at k h = record { no = λ ts vs j ls rest l d a. go ts vs j ls rest l d }
+        where
+          go : (ts vs : Slots) (j : ℕ) (ls rest : Lexemes) → Lexes (Lex text) s ls → Takes rule (assign_slots f k) end ts s ls vs j rest → ⊥
+          go ts vs j ls rest l (is_seq d (is_seq (is_lexeme {x = x} q) e)) = none_of an_assign_kind assign_apart (stood {n = at SimpleTarget f} refl refl l d) (subst (λ (v : Kind). one_of_kinds assign_operators v ≡ true) (kind_of_same k x.kind (and_parts (same_kind k x.kind) _ q).0) h)
+
+  target_fails_there : Fails rule (Lex text) (plain full) end (alt (such (at ArrayTarget f) always) (such (at ObjectTarget f) always)) s → NoTargetPart text f s
+  target_fails_there n = record { no = λ ts vs j ls rest l d a. go l d a.0 }
+    where
+      of_name : {ts us : Slots} {i : ℕ} {ls : Lexemes} {z : Lexeme} {rest : Lexemes} → Lexes (Lex text) s ls → Takes rule (such (at SimpleTarget f) always) end ts s ls us i (next z rest) → IsTrue (one_of_kinds (In ∷ Of ∷ []) z.kind) → not (same_kind Arrow (here rest).kind) ≡ true → ⊥
+      of_name {z = z} {rest = rest} l d q e = by (stood {n = at SimpleTarget f} refl refl l d)
+        where
+          apart_paren : (k : Kind) → one_of_kinds (In ∷ Of ∷ []) k ≡ true → k ≡ LParen → ⊥
+          apart_paren k h i = false≢true (sym (ap (one_of_kinds (In ∷ Of ∷ [])) i) ∙ h)
+
+          apart_arrow : (k : Kind) → one_of_kinds (In ∷ Of ∷ []) k ≡ true → same_kind Arrow k ≡ true → ⊥
+          apart_arrow k h i = false≢true (sym (ap (one_of_kinds (In ∷ Of ∷ [])) (sym (kind_of_same Arrow k i))) ∙ h)
+
+          by : Stood text t _ (next z rest) → ⊥
+          by (at_arrow u) = apart_arrow z.kind q u
+          by (behind_word m i) = which o
+            where
+              which : Behind text f t → ⊥
+              which (list_behind p x) = apart_paren z.kind q (p z m.0)
+              which (name_behind p) = contrary (same_kind Arrow (here rest).kind) e (ap (same_kind Arrow) ((p z m.0).1 (here rest) (here_at (Lex text) rest m.1)))
+
+      go : {ts vs : Slots} {j : ℕ} {ls rest : Lexemes} → Lexes (Lex text) s ls → Takes rule (symbol Target f ▸ any_of (In ∷ Of ∷ [])) end ts s ls vs j rest → not (same_kind Arrow (here rest).kind) ≡ true → ⊥
+      unfolding rule rule_of
+      go l (is_seq (is_such (is_left (is_such d c)) h) (is_lexeme {x = z} q)) e = of_name l (is_such {us = end} d refl) (and_parts (one_of_kinds (In ∷ Of ∷ []) z.kind) _ q).0 e
+      go l (is_seq {j = i} {mid = mid} (is_such {l = k} {cs = cs} {ls = ls} (is_right d) h) m) e = n.no (tree k cs end) end i ls mid l d (refl, refl)
