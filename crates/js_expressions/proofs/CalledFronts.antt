@@ -196,7 +196,7 @@ behind_word f {a} {b} {ts} {us} {vs} {j} {k} {ls} {mid} {rest} x o q e d h u s =
 
     by : (stays b ≡ true) ⊎ ((begins_otherwise an_arrow b && (is_args b || begins_otherwise begins_head b)) ≡ true) → Called f (takes_one (seq a b)) false ts ls k rest
     by (inl i) = let z = stayed d i in alone (and_from (takes_one a) (stays b) o i) x (q ∙ ap (next x) (sym z.0)) (z.1 ∙ e) (λ n. absurd (false≢true n))
-    by (inr i) = elim either (is_args b) _ (and_parts (begins_otherwise an_arrow b) _ i).1 [
+    by (inr i) = elim (either (is_args b) _ (and_parts (begins_otherwise an_arrow b) _ i).1) [
       | inl c ↦ here_args c
       | inr c ↦ absurd (begun begins_head d c named)
     ]

@@ -62,7 +62,7 @@ state_noted {p} {r} {q} u i g n =
     at_noted text f b = subst (At text f) (sym i) (record { text_is = b.text_is; flags_are = b.flags_are; at = subst IsAt i g.1; plain = plain_of q.state b.plain; behind = b.behind; kept_last = b.kept_last; heads = subst NotedHeads i (n text f b) })
 
 -- what is said of a place is so where the parser went back to it
-there_too : {p r : Parser} (A : List ℕ → Flags → ℕ → Type 0) → Standing p → Unmoved p r → ((text : List ℕ) (f : Flags) → At text f p → A text f p.prev_token_end) → (text : List ℕ) (f : Flags) → At text f r → A text f r.prev_token_end
+pub there_too : {p r : Parser} (A : List ℕ → Flags → ℕ → Type 0) → Standing p → Unmoved p r → ((text : List ℕ) (f : Flags) → At text f p → A text f p.prev_token_end) → (text : List ℕ) (f : Flags) → At text f r → A text f r.prev_token_end
 there_too {p} {r} A a u n = λ text f b. subst (λ (s : ℕ). A text f s) (sym u.place) (subst (λ (t : List ℕ). A t f p.prev_token_end) (sym u.same.follows.text ∙ b.text_is) (subst (λ (g : Flags). A p.text g p.prev_token_end) (sym (flags_same p r u.same.ctx u.same.follows.source_type u.same.options) ∙ b.flags_are) (n _ _ a)))
 
 pub noted_here : {p r q : Parser} {place : ℕ} → Standing p → Unmoved p r → NoParametersHere p → place ≡ p.prev_token_end → NotesArrow place r q → Unmoved p q

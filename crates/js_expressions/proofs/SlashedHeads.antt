@@ -38,7 +38,7 @@ use Rattle.js_targets.proofs.ArraysBeforeSigns.{is_cover, not_wide}
 use Rattle.js_expressions.specs.Arrows.{ArgumentsTold, AttemptsHead, FindsHead, Head, HeadRead, read_clean, read_unclean, IsHeadRead, NoHeadHere, NoLine, NoSlash, OnlyArrowHere, OperandExcluded, PlainHead, a_head, told_head, SlashFound, ToldHead, TriesHead, Unmoved, WentOn, head_of}
 use Rattle.js_expressions.proofs.Arrows.{arrow_is_here, closed_arrow, head_only_arrow, no_head_no_line, no_yield_paren, plain_head_flags, unassigned}
 use Rattle.js_expressions.proofs.HeadsAsArguments.{params_as_arguments}
-use Rattle.js_expressions.proofs.NotedHeads.{noted_operand}
+use Rattle.js_expressions.proofs.NotedHeads.{noted_operand, there_too}
 use Rattle.js_expressions.proofs.ParenthesizedFronts.{no_operand_before}
 use Rattle.js_expressions.proofs.SlashesInText.{all_calm}
 use Rattle.js_parsing.specs.Contexts.{arrow_head}
@@ -219,6 +219,10 @@ module _ {p r : Parser} (u : Unmoved p r) where
   pub found_there : (q : Parser) (found : Option NodeId) → FindsHead r q found → FindsHead p q found
   found_there q (Some id) x = (x.0, (λ text f a. plain_from_there (x.1 text f (u.at text f a))), λ text f a. subst (λ (s : ℕ). Underived text (at Short f) s) u.place (x.2 text f (u.at text f a)))
   found_there q None x = (unmoved_both u x.0, λ text f a. subst (λ (s : ℕ). NoLine text f s) u.place (x.1 text f (u.at text f a)))
+
+-- that none stands here is so where the parser went back
+pub none_here : {p r : Parser} (b : Bool) → Standing p → Unmoved p r → NoHeadHere b p → NoHeadHere b r
+none_here b a u n = there_too (λ text f s. NoHead text (arrow_head b f) s) a u n
 
 pub attempts_there : {p r : Parser} (b : Bool) (q : Parser) (x : Result (Option NodeId) Stop) → Unmoved p r → MatchResult x (λ found. AttemptsHead b r q found) OnlyMemory → MatchResult x (λ found. AttemptsHead b p q found) OnlyMemory
 attempts_there b q (Ok found) u h = attempted_there u b q found h
