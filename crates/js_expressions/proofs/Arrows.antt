@@ -17,7 +17,7 @@ use Rattle.js_grammar.proofs.Matched.{brackets, not_bracket}
 use Rattle.js_grammar.specs.Insertion.{may_bind, Row, after_expression, after_postfix, after_body, after_yield, after_declarator, after_word}
 use Rattle.js_grammar.specs.Lexed.{Lexes}
 use Rattle.js_grammar.specs.Parsing.{Test, plain, full, always, Admits, Goes, Fails, still}
-use Rattle.js_grammar.specs.Productions.{G, Flags, Symbol, at, tok, mk, other, if_next, no_newline, Arrow', Assignment, Body, Params, Short, flag, async_flag}
+use Rattle.js_grammar.specs.Productions.{G, Flags, Symbol, at, tok, mk, other, if_next, no_newline, Arrow', Assignment, Body, Params, Short, flag, async_flag, generator_flag}
 use Rattle.js_grammar.specs.Productions.{sym as symbol}
 use Rattle.js_grammar.specs.Table.{rule, rule_of, args}
 use Rattle.js_grammar.specs.Follow.{after, looser, row_of, widest}
@@ -146,7 +146,7 @@ same_head {x = x} {y = y} l m b = go (one_of_kinds other_goals x.kind) refl (one
     go false o true n h = absurd (false≢true h)
     go false o false n h = one_alone l m o n
 
-same_arrow : {text : List ℕ} {s : ℕ} {x y : Lexeme} → Lex text s x → Lex text s y → x.kind ≡ Arrow → x ≡ y
+pub same_arrow : {text : List ℕ} {s : ℕ} {x y : Lexeme} → Lex text s x → Lex text s y → x.kind ≡ Arrow → x ≡ y
 same_arrow l m k = one_alone l m (ap (one_of_kinds other_goals) k) (ap (one_of_kinds signs) k)
 
 pub no_operand : {text : List ℕ} (f : Flags) {s : ℕ} {ls r : Lexemes} {e : ℕ} → Lexes (Lex text) s ls → (o : One [] ls e r) → AllCalm o → IsTrue (seen begins_head (here ls)) → same_kind Arrow (here r).kind ≡ true → Underived text (at Short f) s
@@ -621,6 +621,9 @@ neither {p} n m = λ text f a. by text f p.token.escaped refl a
 pub unmoved_none : {p q : Parser} → Standing p → Unmoved p q → NoArrowHere p → NoArrowHere q
 unmoved_none {p} {q} a u n = λ text f b. subst (λ (s : ℕ). Underived text (at Arrow' f) s) (sym u.place) (subst (λ (g : Flags). Underived text (at Arrow' g) p.prev_token_end) (sym (flags_same p q u.same.ctx u.same.follows.source_type u.same.options) ∙ b.flags_are) (subst (λ (t : List ℕ). Underived t (at Arrow' (flags_of p)) p.prev_token_end) (sym u.same.follows.text ∙ b.text_is) (n _ _ a)))
 
+pub unmoved_went_on : {p q : Parser} → Standing p → Unmoved p q → WentOn p q
+unmoved_went_on a u = let b = u.at _ _ a in ((u.same.follows, b.at), b.heads, λ w. (u.same.lies w).1)
+
 -- where no YieldExpression begins
 no_yield_here : {text : List ℕ} {f : Flags} {p : Parser} → At text f p → (BeginsYield p → ⊥) → NoYield text f p.prev_token_end
 no_yield_here {text} {f} {p} a n = go p.token.escaped refl
@@ -791,6 +794,10 @@ led_walk : {text : List ℕ} (a : Bool) {f : Flags} {o l p : Parser} {pass : Lex
 led_walk true d w = walked_both (walked_one d.moved) w
 led_walk false d w = walked_from (ap spot d) w
 
+arrow_flags : (a : Bool) → flag a async_flag + flag false generator_flag ≡ flag a async_flag
+arrow_flags true = refl
+arrow_flags false = refl
+
 -- neither line
 no_led : {text : List ℕ} (a : Bool) (f : Flags) {s : ℕ} → NoLed a text f s → NoLed (not a) text f s → Underived text (at Arrow' f) s
 no_led true f n m = no_arrow f m n
@@ -882,7 +889,7 @@ module _ {text : List ℕ} (a : Bool) {f : Flags} {o l p q r : Parser} {id : Nod
 
   pub arrow_answers : {w z : Parser} {body made : NodeId} (s : Span) → At text f o → (x : Numbered text f (body_of b a f) r w body) → s.start ≡ o.token.span.start → s.end ≡ w.prev_token_end → MadeHere (arrow_label a s) (Some id ∷ Some body ∷ []) w z made → Numbered text f (at Assignment f) o z made
   arrow_answers {w} {z} {body} {made} s t y u v n =
-      let g : arrow_label a s ≡ flagged_here arrow_function_expression no_op (flag a async_flag) o w = rw (u, v) refl in
+      let g : arrow_label a s ≡ flagged_here arrow_function_expression no_op (flag a async_flag) o w = rw (arrow_flags a, u, v) refl in
       let x : MadeHere (flagged_here arrow_function_expression no_op (flag a async_flag) o w) (Some id ∷ Some body ∷ []) w z made = subst (λ (j : Label). MadeHere j (Some id ∷ Some body ∷ []) w z made) g n in
       let e : r.nodes ≡ p.nodes = m.nodes ∙ line_nodes c in
       let j : Holds w.nodes (length p.nodes) (length w.nodes) body.0 y.answer.label y.answer.slots = subst (λ (ns : List Node). Holds w.nodes (length ns) (length w.nodes) body.0 y.answer.label y.answer.slots) e y.holds in
@@ -938,7 +945,7 @@ before_stops a (told_led x n) k c m b i w e s = stops_behind w e (same_both x.sa
 pub before_answers : {text : List ℕ} (a : Bool) {f : Flags} {o p q r w z : Parser} {id body made : NodeId} → BeforeArrow a text f o p id → p.token.kind ≡ Arrow → ChecksLine p q → Moved text f q r → (b : Bool) → same_kind LCurly r.token.kind ≡ b → (s : Span) → At text f o → Numbered text f (body_of b a f) r w body → s.start ≡ o.token.span.start → s.end ≡ w.prev_token_end → MadeHere (arrow_label a s) (Some id ∷ Some body ∷ []) w z made → Numbered text f (at Assignment f) o z made
 before_answers a (led_head l d h j) k c m b i s t y u v n = arrow_answers a d h j k c m b i s t y u v n
 before_answers {text} a {f} {o} {p} {q} {r} {w} {z} {id} {body} {made} (told_led v none) k c m b t s j y u d n =
-    let l : arrow_label a s ≡ flagged_here arrow_function_expression no_op (flag a async_flag) o w = rw (u, d) refl in
+    let l : arrow_label a s ≡ flagged_here arrow_function_expression no_op (flag a async_flag) o w = rw (arrow_flags a, u, d) refl in
     let x : MadeHere (flagged_here arrow_function_expression no_op (flag a async_flag) o w) (Some id ∷ Some body ∷ []) w z made = subst (λ (j : Label). MadeHere j (Some id ∷ Some body ∷ []) w z made) l n in
     let e : r.nodes ≡ p.nodes = m.nodes ∙ line_nodes c in
     let g : Holds w.nodes (length p.nodes) (length w.nodes) body.0 y.answer.label y.answer.slots = subst (λ (ns : List Node). Holds w.nodes (length ns) (length w.nodes) body.0 y.answer.label y.answer.slots) e y.holds in

@@ -1,19 +1,21 @@
 -- Arrow functions behind `async` (ECMA-262, 15.9): what stands there is a head alone, or none does.
 use Rattle.std.proofs.Common.{ℕ, ◌≡◌, ◌<◌, ◌⊎◌, inl, inr, List, [], ◌∷◌, length, Bool, true, false, not, ◌&&◌, ◌||◌, IsTrue, Option, Some, None, refl, sym, ap, subst, arith, ◌∙◌}
 use Rattle.std.specs.Prelude.{MatchResult, Result, Ok, Err}
-use Rattle.std.proofs.lemmas.Bool.{false≢true, and_parts, and_from}
+use Rattle.std.proofs.lemmas.Bool.{false≢true, and_parts, and_from, or_left, or_right}
 use Rattle.js_base.specs.declared.kind.Kind.{Kind}
-use Rattle.js_base.specs.declared.kind.Kind.TheVariants.{Arrow, Async, In, LBrack, LCurly, LParen, Of, Question, RAngle, Yield}
+use Rattle.js_base.specs.declared.kind.Kind.TheVariants.{Arrow, Async, In, LBrack, LCurly, LParen, Of, PrivateIdentifier, Question, RAngle, Yield}
 use Rattle.js_base.specs.declared.token.Token.{Token}
 use Rattle.js_base.specs.Kinds.{same_kind, one_of_kinds}
+use Rattle.js_base.specs.Texts.{words}
 use Rattle.js_base.proofs.KindLemmas.{kind_of_same}
 use Rattle.js_grammar.specs.Trees.{Label, Slots, end, tree}
 use Rattle.js_grammar.specs.Grammar.{Lexeme, Lexemes, Look, here, next, seen, is, alt, such, Takes, is_seq, is_lexeme, is_look, is_left, is_right, is_such, is_node, ◌▸◌}
 use Rattle.js_grammar.specs.Follow.{after, looser}
 use Rattle.js_grammar.specs.Insertion.{Row, assign_operators, may_bind, after_expression, after_postfix, after_body, after_yield, after_declarator, after_word}
 use Rattle.js_grammar.specs.Lexed.{Lexes}
+use Rattle.js_grammar.specs.Lexemes.{is_word}
 use Rattle.js_grammar.specs.Parsing.{Admits, Fails, Goes, plain, full, always}
-use Rattle.js_grammar.specs.Productions.{G, Flags, Symbol, at, tok, Arrow', Assignment, Conditional, Short, SimpleTarget, Target, ArrayTarget, ObjectTarget}
+use Rattle.js_grammar.specs.Productions.{Flags, Symbol, at, any_of, branches, Arrow', Assignment, Conditional, Short, SimpleTarget, Target, ArrayTarget, ObjectTarget}
 use Rattle.js_grammar.specs.Productions.{sym as symbol}
 use Rattle.js_grammar.specs.Table.{rule, rule_of, args}
 use Rattle.js_grammar.proofs.Behind.{lexed_behind}
@@ -33,22 +35,23 @@ use Rattle.js_cursor.proofs.Later.{follows_on}
 use Rattle.js_parsing.specs.Answers.{Underived}
 use Rattle.js_parsing.specs.Contexts.{arrow_head}
 use Rattle.js_parsing.specs.Heads.{NoHead, OnlyArrow}
-use Rattle.js_parsing.specs.Lexemes.{Lex, name_kinds}
+use Rattle.js_parsing.specs.Lexemes.{Lex, name_kinds, signs}
 use Rattle.js_parsing.specs.Moves.{Moved}
 use Rattle.js_parsing.specs.Stands.{StandsHere}
 use Rattle.js_parsing.specs.States.{At, Standing}
 use Rattle.js_parsing.proofs.Giving.{fails_escaped}
 use Rattle.js_parsing.proofs.Here.{found, kind_here, newline_here, told, uncut}
 use Rattle.js_parsing.proofs.Moving.{same_both}
-use Rattle.js_parsing.proofs.NameKinds.{name_whole}
+use Rattle.js_parsing.proofs.NameKinds.{name_apart, name_read, name_whole}
 use Rattle.js_parsing.proofs.Paths.{fails_at, read_of, walked_both, walked_one}
-use Rattle.js_parsing.proofs.Signs.{other_kind}
+use Rattle.js_parsing.proofs.Signs.{other_kind, plain_sign}
 use Rattle.js_parsing.proofs.Tight.{read_plain}
 use Rattle.js_parsing.proofs.Verdicts.{grown_then}
 use Rattle.js_operands.proofs.Operands.{name_signless}
 use Rattle.js_targets.proofs.ArraysBeforeSigns.{array_part}
 use Rattle.js_targets.proofs.Assigned.{arrow_passes, assign_part, assign_slots, no_branch, no_yield, to_choice}
-use Rattle.js_expressions.specs.Arrows.{AsyncHeadBegins, AsyncPassed, BeforeArrow, led_head, told_led, BehindWord, FindsAsyncHead, HeadBehindAsync, HeadRead, read_clean, read_unclean, IsHeadBefore, IsHeadRead, NoAsyncHere, NoLed, NoLine, NoTargetHere, OnlyBehind, a_list, a_name, OnlyLed, ToldHead, Unmoved, WentOn, head_of, lead_of, line_of}
+use Rattle.js_expressions.specs.Arrows.{AsyncHead, list_head, name_head, AsyncHeadBegins, AsyncPassed, AttemptsHead, BeforeArrow, led_head, told_led, BehindWord, FindsAnyHead, FindsAsyncHead, FindsHead, Head, HeadBehindAsync, HeadRead, read_clean, read_unclean, IsHeadBefore, IsHeadHere, IsPlainHead, NoAsyncHere, NoLed, NoLine, OnlyLed, PlainHead, a_head, told_head, SearchesHead, SearchesPlainHead, ToldHead, Unmoved, WentOn, head_of, lead_of, line_of}
+use Rattle.js_expressions.specs.declared.arrow.ArrowHead.{ArrowHead}
 use Rattle.js_expressions.specs.HeadOperands.{NoTargetPart}
 use Rattle.js_expressions.proofs.Arrows.{head_one, no_arrow, no_arrow_behind, no_async_here, no_head_no_line, no_plain_led}
 use Rattle.js_expressions.proofs.CalledFronts.{Front, word_alone, with_arguments, word_front}
@@ -220,3 +223,122 @@ module _ {text : List ℕ} {f : Flags} {s t : ℕ} (w : (y : Lexeme) → Lex tex
       unfolding rule rule_of
       go l (is_seq (is_such (is_left (is_such d c)) h) (is_lexeme {x = z} q)) e = of_name l (is_such {us = end} d refl) (and_parts (one_of_kinds (In ∷ Of ∷ []) z.kind) _ q).0 e
       go l (is_seq {j = i} {mid = mid} (is_such {l = k} {cs = cs} {ls = ls} (is_right d) h) m) e = n.no (tree k cs end) end i ls mid l d (refl, refl)
+
+-- ---- the state at `async`
+
+name_listed : one_of_kinds name_kinds Async ≡ true
+name_listed = refl
+
+module _ {text : List ℕ} {f : Flags} {p : Parser} (a : At text f p) (k : p.token.kind ≡ Async) where
+  the_word : (y : Lexeme) → Lex text p.prev_token_end y → (y.kind ≡ Async) × (y.to ≡ p.token.span.end)
+  the_word y l = let t = told a (uncut a (ap (same_kind RAngle) k)) (ap (one_of_kinds signs) k) y l in (sym t.kind ∙ k, sym t.end)
+
+  no_array : Fails rule (Lex text) (plain full) end (array_part f) p.prev_token_end
+  unfolding covers apart
+  no_array = fails_at a {X = plain full} (array_part f) (LBrack ∷ LCurly ∷ []) refl (ap (one_of_kinds (LBrack ∷ LCurly ∷ [])) k)
+
+  no_literal_target : Fails rule (Lex text) (plain full) end (alt (such (at ArrayTarget f) always) (such (at ObjectTarget f) always)) p.prev_token_end
+  unfolding covers apart
+  no_literal_target = fails_at a {X = plain full} (alt (such (at ArrayTarget f) always) (such (at ObjectTarget f) always)) (LBrack ∷ LCurly ∷ []) refl (ap (one_of_kinds (LBrack ∷ LCurly ∷ [])) k)
+
+  module _ (b : BehindWord text p.token.span.end) (o : Behind text f p.token.span.end) where
+    only_led : OnlyLed true text f p.prev_token_end
+    only_led = record {
+      arrow = to_choice f p.prev_token_end (no_yield a (λ e. let z : Async ≡ Yield = sym k ∙ e in absurd (cc))) ▹ (right (conditional_fails the_word b o) ▹ left (assignments_fail the_word b o no_array));
+      other = no_plain_led f (no_arrow_behind a (ap (one_of_kinds name_kinds) k ∙ name_listed) (λ y l e. false≢true (ap (λ (k : Kind). may_bind k || same_kind LParen k) (sym e) ∙ (b y l).1)));
+    }
+
+    no_target_there : NoTargetPart text f p.prev_token_end
+    no_target_there = target_fails_there the_word b o no_literal_target
+
+  -- where no head stands behind it
+  module _ {q : Parser} (m : Moved text f p q) where
+    word_ends : p.token.span.end ≡ q.prev_token_end
+    word_ends = m.tells.end ∙ m.ends
+
+    led_none : NoLine text (arrow_head true f) q.prev_token_end → NoLed true text f p.prev_token_end
+    led_none n = record { no = λ ts vs j ls rest l d e. go ts vs j ls rest l d }
+      where
+        go : (ts vs : Slots) (j : ℕ) (ls rest : Lexemes) → Lexes (Lex text) p.prev_token_end ls → Takes rule (lead_of true ▸ line_of (arrow_head true f)) end ts p.prev_token_end ls vs j rest → ⊥
+        go ts vs j ls rest l (is_seq (is_seq (is_lexeme {x = x} {ls = mid} c) (is_look w)) d) =
+            let e : x.to ≡ q.prev_token_end = (the_word x l.0).1 ∙ word_ends in
+            n.no ts vs j mid rest (subst (λ (v : ℕ). Lexes (Lex text) v mid) e l.1) (subst (λ (v : ℕ). Takes rule (line_of (arrow_head true f)) end ts v mid vs j rest) e d) (refl, refl)
+
+-- ---- a head behind it
+
+paren_plain : (is_word LParen || same_kind PrivateIdentifier LParen) ≡ false
+unfolding words
+paren_plain = refl
+
+module _ {text : List ℕ} {f : Flags} {q w : Parser} {id : NodeId} (a : At text f q) where
+  behind_so : AsyncHead text f q w id → Behind text f q.prev_token_end
+  unfolding apart
+  behind_so (list_head k h n) = list_behind (λ y l. kind_here a k refl y l) n
+  behind_so (name_head k e h n) = name_behind (λ y l.
+      let t = told a (name_whole a k).0 (name_signless q.token.kind k) y l in
+      ((λ i. false≢true (sym (name_apart (LParen ∷ []) refl q.token.kind k) ∙ ap (one_of_kinds (LParen ∷ [])) (t.kind ∙ i))), λ z m. n z (subst (λ (v : ℕ). Lex text v z) (sym t.end) m)))
+
+  on_its_line : BehindWord text q.prev_token_end → AsyncHead text f q w id → q.token.is_on_new_line ≡ false
+  on_its_line b (list_head k h n) =
+      let y = found a (uncut a (ap (same_kind RAngle) k)) (ap is_last k) in
+      let e : y.0.kind ≡ LParen = sym y.2.kind ∙ k in
+      y.2.newline ∙ (b y.0 (y.1, read_of y.0 e (sym y.2.escaped ∙ plain_sign LParen a k refl refl paren_plain) refl)).0
+  on_its_line b (name_head k e h n) =
+      let u = name_whole a k in
+      let y = found a u.0 u.1 in
+      y.2.newline ∙ (b y.0 (y.1, read_of y.0 (sym y.2.kind) (sym y.2.escaped ∙ e) (name_read q.token.kind k))).0
+
+-- what was told of parameters behind the word
+told_before : {text : List ℕ} {f : Flags} {p q w : Parser} {id : NodeId} → Moved text f p q → ToldHead text f q w id → ToldHead text f p w id
+told_before {text} {f} {p} {q} {w} {id} m t = record {
+  at = t.at;
+  same = same_both m.same t.same;
+  further = let g = m.further in let b = m.at.behind in let i = t.further in omega arith;
+  grown = grown_then m.kept t.grown;
+  label = t.label;
+  slots = t.slots;
+  pass = λ ls. next m.lexeme (t.pass ls);
+  walked = walked_both (walked_one m) t.walked;
+  holds = subst (λ (ns : List Node). Holds w.nodes (length ns) (length w.nodes) id.0 t.label t.slots) m.nodes t.holds;
+  keeps = subst (λ (ns : List Node). Keeps ns w.nodes) m.nodes t.keeps;
+}
+
+module _ {p q : Parser} (k : StandsHere p Async true) (b : (text : List ℕ) (f : Flags) → At text f p → BehindWord text p.token.span.end) (mv : (text : List ℕ) (f : Flags) → At text f p → Moved text f p q) where
+  module _ {w : Parser} {id : NodeId} (x : HeadBehindAsync q w (Some id)) where
+    module _ {text : List ℕ} {f : Flags} (a : At text f p) where
+      m : Moved text f p q
+      m = mv text f a
+
+      head : AsyncHead text f q w id
+      head = x.1 text f m.at
+
+      b_there : BehindWord text q.prev_token_end
+      b_there = subst (λ (v : ℕ). BehindWord text v) (word_ends a k.0 m) (b text f a)
+
+      behind_there : Behind text f p.token.span.end
+      behind_there = subst (λ (v : ℕ). Behind text f v) (sym (word_ends a k.0 m)) (behind_so m.at head)
+
+      only : OnlyLed true text f p.prev_token_end
+      only = only_led a k.0 (b text f a) behind_there
+
+      passed : AsyncPassed text f p q
+      passed = record { at = a; kind = k.0; plain = k.1; moved = m; on_line = on_its_line m.at b_there head }
+
+      -- where something was told of it
+      underived : q.token.kind ≡ LParen → NoHead text (arrow_head true f) q.prev_token_end → Underived text (at Assignment f) p.prev_token_end
+      underived e n = fails_by (only.arrow ▹✗ weaken_fails_on (no_arrow f only.other (led_none a k.0 m (no_head_no_line m.at e n))) (same_read (at Assignment f) (at Arrow' f) arrow_passes refl))
+
+      before : AsyncHead text f q w id → BeforeArrow true text f p w id
+      before (list_head e (read_clean h) n) = led_head q passed h only
+      before (list_head e (read_unclean t h c) n) = told_led (told_before m t) (underived e h)
+      before (name_head e i h n) = led_head q passed h only
+
+    async_head : IsHeadBefore true p w id
+    async_head = (x.0, (λ text f a. before a (head a)), λ text f a i. no_target_there a k.0 (b text f a) (behind_there a))
+
+  -- none stands behind it, and the parser went on
+  pub async_unread : {w : Parser} → Standing p → HeadBehindAsync q w None → WentOn p w × NoAsyncHere p
+  async_unread {w} a x = ((let m = mv _ _ a in (follows_on m.same.follows x.0.0.0, x.0.0.1), x.0.1, λ s. x.0.2 ((mv _ _ a).same.lies s)), λ text f b. led_none b k.0 (mv text f b) (x.1 text f (mv text f b).at))
+
+  pub async_read : {w : Parser} (id : NodeId) → HeadBehindAsync q w (Some id) → FindsAsyncHead p w (Some id)
+  async_read id x = async_head x

@@ -4,7 +4,7 @@ use Rattle.std.proofs.lemmas.Bool.{false≢true, and_parts, and_from, or_left, o
 use Rattle.js_base.specs.declared.kind.Kind.{Kind}
 use Rattle.js_base.specs.declared.kind.Kind.TheVariants.{Arrow, Async}
 use Rattle.js_base.specs.Kinds.{same_kind}
-use Rattle.js_grammar.specs.Trees.{Slots, end, tree}
+use Rattle.js_grammar.specs.Trees.{Slots, end, tree, append}
 use Rattle.js_grammar.specs.Grammar.{Lexeme, Lexemes, next, last, Look, Make, here, seen, nothing, never, lexeme, look, text, ahead, empty_slot, seq, alt, when, many, commas, such, marked, node, ended, keep, kept, label_of, Takes, is_nothing, is_lexeme, is_look, is_text, is_ahead, is_empty_slot, is_seq, is_left, is_right, is_when, is_many, is_commas, is_such, is_marked, is_node, is_ended, is_keep, is_kept}
 use Rattle.js_grammar.specs.FirstSets.{first}
 use Rattle.js_grammar.specs.Insertion.{Row, after_expression, after_postfix, after_body, after_yield, after_declarator, after_word, edge_is_last, own_row}
@@ -59,9 +59,10 @@ takes_one (such n c) = true
 takes_one (node m a) = takes_one a
 takes_one _ = false
 
--- it takes one tree
+-- where the word stands it takes one tree
 abbrev is_tree : G → Bool
 is_tree never = true
+is_tree (seq a b) = begins_otherwise the_word (seq a b)
 is_tree (alt a b) = is_tree a && is_tree b
 is_tree (when c a) = is_tree a
 is_tree (such n c) = true
@@ -182,20 +183,20 @@ stayed (is_look q) h = (refl, refl)
 stayed _ h = absurd (false≢true h)
 
 -- behind the word
-behind_word : (f : Flags) {a b : G} {ts us vs : Slots} {j k : ℕ} {ls mid rest : Lexemes} (x : Lexeme) → takes_one a ≡ true → ls ≡ next x mid → j ≡ x.to → Takes rule b end us j mid vs k rest → goes_behind b ≡ true → Same (is_args b) f b → Second ls → Called f (takes_one (seq a b)) false ts ls k rest
-behind_word f {a} {b} {ts} {us} {vs} {j} {k} {ls} {mid} {rest} x o q e d h u s = by (either (stays b) _ h)
+behind_word : (f : Flags) (a : G) {b : G} {ts us vs : Slots} {j k : ℕ} {ls mid rest : Lexemes} (t : Bool) (x : Lexeme) → (t ≡ true → ⊥) → takes_one a ≡ true → ls ≡ next x mid → j ≡ x.to → Takes rule b end us j mid vs k rest → goes_behind b ≡ true → Same (is_args b) f b → Second ls → Called f (takes_one (seq a b)) t ts ls k rest
+behind_word f a {b} {ts} {us} {vs} {j} {k} {ls} {mid} {rest} t x n o q e d h u s = by (either (stays b) _ h)
   where
     named : IsTrue (seen begins_head (here mid))
     named = subst Second q s
 
-    here_args : (is_args b ≡ true) → Called f (takes_one (seq a b)) false ts ls k rest
+    here_args : (is_args b ≡ true) → Called f (takes_one (seq a b)) t ts ls k rest
     here_args i =
         let c : b ≡ args f = subst (λ (v : Bool). Same v f b) i u in
         let z = framed (subst (λ (v : ℕ). Takes rule b end us v mid vs k rest) e d) in
-        more x mid q _ k rest (subst (λ (g : G). Takes rule g end _ x.to mid end k rest) c (z.2 end)) (inl refl)
+        more x mid q (append z.0 end) k rest (subst (λ (g : G). Takes rule g end (append z.0 end) x.to mid end k rest) c (z.2 end)) (inl refl)
 
-    by : (stays b ≡ true) ⊎ ((begins_otherwise an_arrow b && (is_args b || begins_otherwise begins_head b)) ≡ true) → Called f (takes_one (seq a b)) false ts ls k rest
-    by (inl i) = let z = stayed d i in alone (and_from (takes_one a) (stays b) o i) x (q ∙ ap (next x) (sym z.0)) (z.1 ∙ e) (λ n. absurd (false≢true n))
+    by : (stays b ≡ true) ⊎ ((begins_otherwise an_arrow b && (is_args b || begins_otherwise begins_head b)) ≡ true) → Called f (takes_one (seq a b)) t ts ls k rest
+    by (inl i) = let z = stayed d i in alone (and_from (takes_one a) (stays b) o i) x (q ∙ ap (next x) (sym z.0)) (z.1 ∙ e) (λ m. absurd (n m))
     by (inr i) = elim (either (is_args b) _ (and_parts (begins_otherwise an_arrow b) _ i).1) [
       | inl c ↦ here_args c
       | inr c ↦ absurd (begun begins_head d c named)
@@ -210,20 +211,20 @@ behind_arguments {b} {mid = mid} {r = r} {rest = rest} d h (inl q) = by (either 
     by (inl i) = inl ((stayed d i).0 ∙ q)
     by (inr i) = inr (falsely _ (λ k. begun an_arrow d (and_parts (begins_otherwise an_arrow b) _ i).0 (subst (λ (v : Lexemes). same_kind Arrow (here v).kind ≡ true) (sym q) k)))
 
-then_called : (f : Flags) {a b : G} {ts us vs : Slots} {i j k : ℕ} {ls mid rest : Lexemes} → Takes rule a end ts i ls us j mid → Takes rule b end us j mid vs k rest → calls (seq a b) ≡ true → Flagged f (seq a b) → IsTrue (seen the_word (here ls)) → Second ls → (calls a ≡ true → Called f (takes_one a) (is_tree a) ts ls j mid) → Called f (takes_one (seq a b)) false ts ls k rest
+then_called : (f : Flags) {a b : G} {ts us vs : Slots} {i j k : ℕ} {ls mid rest : Lexemes} → Takes rule a end ts i ls us j mid → Takes rule b end us j mid vs k rest → calls (seq a b) ≡ true → Flagged f (seq a b) → IsTrue (seen the_word (here ls)) → Second ls → (calls a ≡ true → Called f (takes_one a) (is_tree a) ts ls j mid) → Called f (takes_one (seq a b)) (is_tree (seq a b)) ts ls k rest
 then_called f {a} {b} {ts} {us} {vs} {i} {j} {k} {ls} {mid} {rest} d e h u q s go = by (either (begins_otherwise the_word (seq a b)) _ h)
   where
-    on : goes_behind b ≡ true → Called f (takes_one a) (is_tree a) ts ls j mid → Called f (takes_one (seq a b)) false ts ls k rest
-    on g (alone o x l m r) = behind_word f {a = a} x o l m e g u.1 s
+    on : goes_behind b ≡ true → Called f (takes_one a) (is_tree a) ts ls j mid → Called f (takes_one (seq a b)) (is_tree (seq a b)) ts ls k rest
+    on g (alone o x l m r) = behind_word f a (is_tree (seq a b)) x (λ n. begun the_word (is_seq d e) n q) o l m e g u.1 s
     on g (more x ms l vs n r t o) = more x ms l vs n r t (behind_arguments e g o)
 
-    by : (begins_otherwise the_word (seq a b) ≡ true) ⊎ ((calls a && goes_behind b) ≡ true) → Called f (takes_one (seq a b)) false ts ls k rest
+    by : (begins_otherwise the_word (seq a b) ≡ true) ⊎ ((calls a && goes_behind b) ≡ true) → Called f (takes_one (seq a b)) (is_tree (seq a b)) ts ls k rest
     by (inl c) = absurd (begun the_word (is_seq d e) c q)
     by (inr c) = let z = and_parts (calls a) (goes_behind b) c in on z.1 (go z.0)
 
 -- a node of it
-noded_call : (f : Flags) (m : Make) {a : G} {cs us : Slots} {ls rest : Lexemes} {j : ℕ} → (named_edge m || not (takes_one a)) ≡ true → Called f (takes_one a) (is_tree a) cs ls j rest → Called f (takes_one a) true (tree (label_of m ls j rest) cs us) ls j rest
-noded_call f m {a} {cs} {us} {ls} {rest} {j} h (alone o x q e r) = alone o x q e (λ k. by (either (named_edge m) _ h))
+noded_call : (f : Flags) (m : Make) (a : G) {cs us : Slots} {ls rest : Lexemes} {j : ℕ} → (named_edge m || not (takes_one a)) ≡ true → Called f (takes_one a) (is_tree a) cs ls j rest → Called f (takes_one a) true (tree (label_of m ls j rest) cs us) ls j rest
+noded_call f m a {cs} {us} {ls} {rest} {j} h (alone o x q e r) = alone o x q e (λ k. by (either (named_edge m) _ h))
   where
     row : (w : Row) → same_row after_expression w ≡ true → w ≡ after_expression
     row after_expression i = refl
@@ -240,7 +241,7 @@ noded_call f m {a} {cs} {us} {ls} {rest} {j} h (alone o x q e r) = alone o x q e
     by : (named_edge m ≡ true) ⊎ (not (takes_one a) ≡ true) → first_row (tree (label_of m ls j rest) cs us) ≡ after_expression
     by (inl i) = let z = and_parts (not (edge_is_last m.kind)) _ i in rw (off _ z.0) (row (own_row m.kind m.flags) z.1)
     by (inr i) = absurd (false≢true (sym (off _ i) ∙ o))
-noded_call f m h (more x mid q vs e r k o) = more x mid q vs e r k o
+noded_call f m a h (more x mid q vs e r k o) = more x mid q vs e r k o
 
 -- a symbol of operands
 by_symbol : (f : Flags) (n : Symbol) {ts us : Slots} {ls rest : Lexemes} {j : ℕ} → first_row us ≡ first_row ts → (of_operands n.name || apart (first n) the_word) ≡ true → Under (of_operands n.name) f n.flags → IsTrue (seen (starts first (rule n) full) (here ls)) → IsTrue (seen the_word (here ls)) → (calls (rule n) ≡ true → Flagged n.flags (rule n) → Called n.flags (takes_one (rule n)) (is_tree (rule n)) ts ls j rest) → Called f true true us ls j rest
@@ -261,7 +262,7 @@ called f (is_left {a = a} {b = b} d) h u q s = of_left (takes_one b) true (λ k.
 called f (is_right {a = a} {b = b} d) h u q s = of_right (takes_one a) true (λ k. (and_parts (is_tree a) (is_tree b) k).1) (called f d (and_parts (calls a) (calls b) h).1 u.1 q s)
 called f (is_when c d) h u q s = called f d h u q s
 called f (is_such {n = n} {ls = ls} d c) h u q s = by_symbol f n refl h u (starting firsts full d refl) q (λ k v. called n.flags d k v q s)
-called f (is_node {m = m} {a = a} d) h u q s = let z = and_parts (calls a) _ h in noded_call f m z.1 (called f d z.0 u q s)
+called f (is_node {m = m} {a = a} d) h u q s = let z = and_parts (calls a) _ h in noded_call f m a z.1 (called f d z.0 u q s)
 called f is_nothing h u q s = absurd (false≢true h)
 called f (is_look c) h u q s = absurd (false≢true h)
 called f (is_text c) h u q s = absurd (false≢true h)

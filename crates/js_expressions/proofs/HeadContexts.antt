@@ -1,10 +1,11 @@
 -- Heads of arrow functions are read under the parameters of their own, and those from before are in force again (ECMA-262, 15.9).
 use Rattle.std.proofs.Common.{ℕ, ◌≡◌, Bool, true, false, List, length, Option, Some, None, refl, sym, ap, subst, ◌∙◌}
 use Rattle.js_base.specs.declared.context.Context.{Context}
-use Rattle.js_grammar.specs.Grammar.{◌▸◌}
+use Rattle.js_grammar.specs.Grammar.{Lexeme, ◌▸◌}
 use Rattle.js_grammar.specs.Productions.{Flags, tok, Params}
 use Rattle.js_grammar.specs.Productions.{sym as symbol}
-use Rattle.js_base.specs.declared.kind.Kind.TheVariants.{Arrow}
+use Rattle.js_base.specs.declared.kind.Kind.TheVariants.{Arrow, LParen}
+use Rattle.js_base.specs.Kinds.{one_of_kinds}
 use Rattle.js_tree.specs.declared.id.NodeId.{NodeId}
 use Rattle.js_cursor.specs.Moves.{NotesArrow}
 use Rattle.js_cursor.specs.Parsers.{Parser}
@@ -13,14 +14,17 @@ use Rattle.js_cursor.proofs.Later.{follows_on}
 use Rattle.js_parsing.specs.Answers.{clean, unclean, Verdict}
 use Rattle.js_parsing.specs.Contexts.{arrow_head}
 use Rattle.js_parsing.specs.Heads.{NoHead}
+use Rattle.js_parsing.specs.Lexemes.{Lex, name_kinds}
 use Rattle.js_parsing.specs.Methods.{WholeTaken}
+use Rattle.js_parsing.specs.Stands.{NameHere, StandsHere}
 use Rattle.js_parsing.specs.States.{At, IsPlain, Standing, whole, sign, nothing as none_stands}
 use Rattle.js_parsing.proofs.Contexts.{async_head_at, whole_out_of_context}
 use Rattle.js_parsing.proofs.Moving.{flags_same, standing}
+use Rattle.js_parsing.proofs.NameKinds.{listed_here}
 use Rattle.js_parsing.proofs.Signs.{none_kept}
-use Rattle.js_expressions.specs.Arrows.{EntersHead, Head, HeadRead, IsHeadRead, NamesHead, NoHeadHere, NoLine, NoLineHere, NoParametersHere, TriesHead, TriesParameters, ToldHead, Unmoved, read_clean, read_unclean, head_of}
+use Rattle.js_expressions.specs.Arrows.{EntersHead, Head, HeadRead, HeadBehindAsync, name_head, NamesHead, NoHeadHere, NoLine, NoLineHere, NoParametersHere, TriesHead, TriesParameters, ToldHead, Unmoved, read_clean, read_unclean, head_of}
 use Rattle.js_expressions.specs.Closings.{ArrowBehindOne}
-use Rattle.js_expressions.proofs.Arrows.{plain_head_flags, unmoved}
+use Rattle.js_expressions.proofs.Arrows.{neither, plain_head_flags, same_arrow, unmoved, unmoved_went_on}
 use Rattle.js_expressions.proofs.NotedHeads.{noted_here}
 use Rattle.js_expressions.proofs.Exponents.{longer}
 
@@ -125,9 +129,32 @@ module _ (b : Bool) {p e : Parser} {c d : Context} (a : Standing p) (i : d ≡ p
   pub noted_back : {q w : Parser} {place : ℕ} → place ≡ p.prev_token_end → NoHeadHere b p → NotesArrow place e q → w ≡ record q { ctx = d } → Unmoved p w
   noted_back k n m j = unmoved_back a there i h j (noted_here head_stands_at (unmoved refl) (none_in n) (k ∙ ap (λ (z : Parser). z.prev_token_end) (sym h)) m)
 
-  -- a name behind `async`
-  pub named_back : {q w : Parser} {id : NodeId} → w ≡ record q { ctx = d } → NamesHead e q (Some id) → IsHeadRead b p w id
-  named_back j x = (ap (λ (z : Parser). z.token.kind) j ∙ x.0, λ text f a. read_back a i h j (read_clean (x.1 text (arrow_head b f) (head_at b a i s h))))
+  -- a name
+  named_back : {q w : Parser} {id : NodeId} → w ≡ record q { ctx = d } → NamesHead e q (Some id) → (text : List ℕ) (f : Flags) → At text f p → Head text f (arrow_head b f) p w id
+  named_back j x text f a = head_back a i h j (x.1 text (arrow_head b f) (head_at b a i s h))
 
   pub unnamed_back : {q w : Parser} → w ≡ record q { ctx = d } → Unmoved e q → NoLineHere e → Unmoved p w × ((text : List ℕ) (f : Flags) → At text f p → NoLine text (arrow_head b f) p.prev_token_end)
   unnamed_back j u n = (unmoved_back a there i h j u, λ text f a. subst (λ (v : ℕ). NoLine text (arrow_head b f) v) (ap (λ (z : Parser). z.prev_token_end) h) (n text (arrow_head b f) (head_at b a i s h)))
+
+-- ---- a name behind `async`
+
+module _ {p e : Parser} {c d : Context} (a : Standing p) (i : d ≡ p.ctx) (s : EntersHead true d c) (h : e ≡ record p { ctx = c }) where
+  pub name_read : {q w : Parser} → NameHere e true → w ≡ record q { ctx = d } → (found : Option NodeId) → NamesHead e q found → HeadBehindAsync p w found
+  name_read {q} {w} n j (Some id) x = (ap (λ (z : Parser). z.token.kind) j ∙ x.0, λ text f b. name_head (ap (λ (z : Parser). one_of_kinds name_kinds z.token.kind) (sym h) ∙ listed_here e n) (ap (λ (z : Parser). z.token.escaped) (sym h) ∙ n.1) (named_back true a i s h j x text f b) (arrow text f b))
+    where
+      arrow : (text : List ℕ) (f : Flags) → At text f p → (y : Lexeme) → Lex text p.token.span.end y → y.kind ≡ Arrow
+      arrow text f b y l =
+          let z = x.2 text (arrow_head true f) (head_at true b i s h) in
+          let m : Lex text p.token.span.end z.0 = subst (λ (v : ℕ). Lex text v z.0) (ap (λ (v : Parser). v.token.span.end) h) z.1 in
+          ap (λ (v : Lexeme). v.kind) (sym (same_arrow m l z.2)) ∙ z.2
+  name_read {q} {w} n j None x = none_left (unnamed_back true a i s h j x.0 x.1)
+    where
+      none_left : Unmoved p w × ((text : List ℕ) (f : Flags) → At text f p → NoLine text (arrow_head true f) p.prev_token_end) → HeadBehindAsync p w None
+      none_left u = (unmoved_went_on a u.0, u.1)
+
+  -- no name stands here
+  pub name_missing : {w : Parser} → StandsHere p LParen false → NameHere e false → w ≡ record e { ctx = d } → HeadBehindAsync p w None
+  name_missing {w} k n j = none_left (unnamed_back true a i s h j (unmoved refl) (neither n (subst (λ (z : Parser). StandsHere z LParen false) (sym h) k)))
+    where
+      none_left : Unmoved p w × ((text : List ℕ) (f : Flags) → At text f p → NoLine text (arrow_head true f) p.prev_token_end) → HeadBehindAsync p w None
+      none_left u = (unmoved_went_on a u.0, u.1)

@@ -1,5 +1,5 @@
 -- What the parse functions of arrow functions answer (ECMA-262, 15.3 and 15.9).
-use Rattle.std.specs.Prelude.{ℕ, ◌≡◌, ◌≤◌, ◌<◌, ◌⊎◌, slice_index, Bool, true, false, not, IsTrue, List, Option, Some, None, length, Result, Ok, Err}
+use Rattle.std.specs.Prelude.{ℕ, ◌≡◌, ◌≤◌, ◌<◌, ◌+◌, ◌⊎◌, slice_index, Bool, true, false, not, IsTrue, List, Option, Some, None, length, Result, Ok, Err}
 use Rattle.js_base.specs.Contexts.{bits_of}
 use Rattle.js_base.specs.declared.context.Context.{Context}
 use Rattle.js_base.specs.declared.diagnostic.Diagnostic.{Diagnostic}
@@ -11,7 +11,7 @@ use Rattle.js_grammar.specs.Trees.{Label, Slots, end as no_slots, tree, no_op, f
 use Rattle.js_grammar.specs.Grammar.{Lexeme, Lexemes, seen, empty_slot, nothing, such, ◌▸◌, ◌◇◌}
 use Rattle.js_grammar.specs.Follow.{after}
 use Rattle.js_grammar.specs.Parsing.{plain, full, always, still, Fails, Goes}
-use Rattle.js_grammar.specs.Productions.{G, Flags, Symbol, at, sym, tok, mk, only, no_newline, flag, async_flag, Arrow', Assignment, BindingIdentifier, Body, Params, Short}
+use Rattle.js_grammar.specs.Productions.{G, Flags, Symbol, at, sym, tok, mk, only, no_newline, flag, async_flag, generator_flag, Arrow', Assignment, BindingIdentifier, Body, Params, Short}
 use Rattle.js_grammar.specs.Table.{rule}
 use Rattle.js_grammar.proofs.Heads.{begins_head}
 use Rattle.js_tree.specs.declared.id.NodeId.{NodeId}
@@ -237,14 +237,14 @@ WentOn p q = GoesOn p q × NotedHeads q × (SpansLie p → NodesLie q.text q.nod
 abbrev pub NoHeadHere : Bool → Parser → Type 0
 NoHeadHere a p = (text : List ℕ) (f : Flags) → At text f p → NoHead text (arrow_head a f) p.prev_token_end
 
--- Behind the word of an arrow function: what `=>` stands behind, as arguments or as a name.
-pub data OnlyBehind (text : List ℕ) (f : Flags) (p : Parser) : Type 0 where
-  a_list : p.token.kind ≡ LParen → OnlyArrow text f p.prev_token_end → OnlyBehind text f p
-  a_name : one_of_kinds name_kinds p.token.kind ≡ true → ((y : Lexeme) → Lex text p.token.span.end y → y.kind ≡ Arrow) → OnlyBehind text f p
+-- Behind `async` parameters were read, and behind arguments `=>` stands; or a name was, with `=>` behind it.
+pub data AsyncHead (text : List ℕ) (f : Flags) (p q : Parser) (id : NodeId) : Type 0 where
+  list_head : p.token.kind ≡ LParen → HeadRead text f (arrow_head true f) p q id → OnlyArrow text f p.prev_token_end → AsyncHead text f p q id
+  name_head : one_of_kinds name_kinds p.token.kind ≡ true → p.token.escaped ≡ false → Head text f (arrow_head true f) p q id → ((y : Lexeme) → Lex text p.token.span.end y → y.kind ≡ Arrow) → AsyncHead text f p q id
 
 -- Behind `async` a head was read; or none stands there, and the parser went on.
 abbrev pub HeadBehindAsync : Parser → Parser → Option NodeId → Type 0
-HeadBehindAsync p q (Some id) = IsHeadRead true p q id × ((text : List ℕ) (f : Flags) → At text f p → OnlyBehind text f p)
+HeadBehindAsync p q (Some id) = (q.token.kind ≡ Arrow) × ((text : List ℕ) (f : Flags) → At text f p → AsyncHead text f p q id)
 HeadBehindAsync p q None = WentOn p q × ((text : List ℕ) (f : Flags) → At text f p → NoLine text (arrow_head true f) p.prev_token_end)
 
 -- the same of parameters in parentheses, behind `async` or not; where none stand, the parser is where it was
@@ -315,7 +315,7 @@ ReadsArrowBody a p q r = (b : Bool) × (same_kind LCurly p.token.kind ≡ b) × 
 
 -- the label of an arrow function
 abbrev pub arrow_label : Bool → Span → Label
-arrow_label a s = record { kind = arrow_function_expression; op = no_op; flags = flag a async_flag; span = record { from = s.start; to = s.end } }
+arrow_label a s = record { kind = arrow_function_expression; op = no_op; flags = flag a async_flag + flag false generator_flag; span = record { from = s.start; to = s.end } }
 
 -- An arrow function is read on from its `=>`: what stands before that was read from the state o on.
 abbrev pub ReadsBody : ℕ → ArrowHead → Parser → Parser → Result NodeId Stop → Type 0

@@ -7,6 +7,8 @@ ghost use Rattle.js_grammar.specs.Productions.{at, Params};
 ghost use Rattle.js_parsing.specs.Answers.{Answers};
 ghost use Rattle.js_expressions.specs.Arrows.{ArgumentsTold, ArrowBehind, AsyncHeadBegins, AttemptsHead, ChecksLine, EntersHead, FindsAsyncHead, FindsHead, HeadBehindAsync, IsHead, IsPlainHead, LooksForHead, NamesHead, NoHeadHere, NoOperandHere, OperandExcluded, ReadsArrowBody, ReadsBody, ReadsHead, SearchesHead, SearchesPlainHead, Single, SlashFound, TriesHead, TriesParameters, Unmoved, arrow_label};
 ghost use Rattle.js_expressions.specs.HeadOperands.{IsNoTarget};
+ghost use Rattle.js_base.specs.Kinds.{one_of_kinds};
+ghost use Rattle.js_parsing.specs.Lexemes.{name_kinds};
 ghost use Rattle.js_parsing.specs.Moves.{MadeHere};
 ghost use Rattle.js_parsing.specs.Nesting.{CanNest, room};
 ghost use Rattle.js_parsing.specs.Stands.{NameHere, StandsHere};
@@ -128,7 +130,17 @@ fn begins_async_head<C: ParserConfig>(p: &mut ParserImpl<'_, C>) -> Result<bool,
     if next.is_on_new_line() {
         return Ok(false);
     }
-    Ok(matches!(next.kind(), Kind::LParen) || is_name(next.kind()))
+    Ok(begins_parameters(next.kind()))
+}
+
+/// Whether it is a name or `(`.
+fn begins_parameters(kind: Kind) -> bool
+    ensures { result ≡ one_of_kinds (LParen ∷ name_kinds) kind }
+{
+    match kind {
+        Kind::LParen => true,
+        _ => is_name(kind),
+    }
 }
 
 /// The parameters of an asynchronous arrow function, behind its `async`. None: no asynchronous arrow function begins with
@@ -145,10 +157,10 @@ fn parse_head_behind_async<C: ParserConfig, N: Nested<C>>(
     if !stands(p, Kind::LParen) {
         return parse_name_behind_async(p);
     }
-    match is_parenthesized_head(p)? {
-        HeadLookahead::NoHead => Ok(None),
-        HeadLookahead::Head | HeadLookahead::Maybe => attempt_head(p, nested, true),
+    if let HeadLookahead::NoHead = is_parenthesized_head(p)? {
+        return Ok(None);
     }
+    attempt_head(p, nested, true)
 }
 
 /// A name as the only parameter of an asynchronous arrow function, where it stands here and `=>` behind it.
