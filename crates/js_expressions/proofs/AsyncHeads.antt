@@ -35,12 +35,12 @@ use Rattle.js_cursor.proofs.Later.{follows_on}
 use Rattle.js_parsing.specs.Answers.{Underived}
 use Rattle.js_parsing.specs.Contexts.{arrow_head}
 use Rattle.js_parsing.specs.Heads.{NoHead, OnlyArrow}
-use Rattle.js_parsing.specs.Lexemes.{Lex, name_kinds, signs}
+use Rattle.js_parsing.specs.Lexemes.{Lex, name_kinds, other_goals, read_kinds, signs}
 use Rattle.js_parsing.specs.Moves.{Moved}
 use Rattle.js_parsing.specs.Stands.{StandsHere}
 use Rattle.js_parsing.specs.States.{At, Standing}
 use Rattle.js_parsing.proofs.Giving.{fails_escaped}
-use Rattle.js_parsing.proofs.Here.{found, kind_here, newline_here, told, uncut}
+use Rattle.js_parsing.proofs.Here.{found, kind_here, one_plain, plainly, told, uncut, unsettled}
 use Rattle.js_parsing.proofs.Moving.{same_both}
 use Rattle.js_parsing.proofs.NameKinds.{name_apart, name_read, name_whole}
 use Rattle.js_parsing.proofs.Paths.{fails_at, read_of, walked_both, walked_one}
@@ -48,13 +48,20 @@ use Rattle.js_parsing.proofs.Signs.{other_kind, plain_sign}
 use Rattle.js_parsing.proofs.Tight.{read_plain}
 use Rattle.js_parsing.proofs.Verdicts.{grown_then}
 use Rattle.js_operands.proofs.Operands.{name_signless}
-use Rattle.js_targets.proofs.ArraysBeforeSigns.{array_part}
-use Rattle.js_targets.proofs.Assigned.{arrow_passes, assign_part, assign_slots, no_branch, no_yield, to_choice}
+use Rattle.js_targets.proofs.ArraysBeforeSigns.{array_part, is_cover, not_wide}
+use Rattle.js_targets.proofs.Assigned.{arrow_passes, assign_part, assign_slots, no_branch, no_yield, only_arrow, to_choice}
 use Rattle.js_expressions.specs.Arrows.{AsyncHead, list_head, name_head, AsyncHeadBegins, AsyncPassed, AttemptsHead, BeforeArrow, led_head, told_led, BehindWord, FindsAnyHead, FindsAsyncHead, FindsHead, Head, HeadBehindAsync, HeadRead, read_clean, read_unclean, IsHeadBefore, IsHeadHere, IsPlainHead, NoAsyncHere, NoLed, NoLine, OnlyLed, PlainHead, a_head, told_head, SearchesHead, SearchesPlainHead, ToldHead, Unmoved, WentOn, head_of, lead_of, line_of}
 use Rattle.js_expressions.specs.declared.arrow.ArrowHead.{ArrowHead}
 use Rattle.js_expressions.specs.HeadOperands.{NoTargetPart}
-use Rattle.js_expressions.proofs.Arrows.{head_one, no_arrow, no_arrow_behind, no_async_here, no_head_no_line, no_plain_led}
+use Rattle.js_expressions.proofs.Arrows.{from_unmoved, given_behind, head_one, no_arrow, no_arrow_behind, no_async_here, no_head_no_line, no_plain_led, plain_head_flags, unmoved, unmoved_went_on}
 use Rattle.js_expressions.proofs.CalledFronts.{Front, word_alone, with_arguments, word_front}
+use Rattle.js_lex.specs.Reading.{Tells, is_right_angle}
+use Rattle.js_lex.proofs.Again.{cut_same}
+use Rattle.js_expressions.specs.Lookaheads.{NoHeadThere}
+use Rattle.js_expressions.proofs.Conditionals.{conditional_none}
+use Rattle.js_expressions.proofs.HeadOperands.{from_none}
+use Rattle.js_expressions.proofs.Lookaheads.{peeked_kind}
+use Rattle.js_expressions.proofs.SlashedHeads.{found_there}
 
 -- ---- the table, where `async` stands with a head behind it
 
@@ -342,3 +349,125 @@ module _ {p q : Parser} (k : StandsHere p Async true) (b : (text : List ℕ) (f 
 
   pub async_read : {w : Parser} (id : NodeId) → HeadBehindAsync q w (Some id) → FindsAsyncHead p w (Some id)
   async_read id x = async_head x
+
+-- ---- whether one begins
+
+is_off : (b : Bool) → not b ≡ true → b ≡ false
+is_off true h = absurd (false≢true h)
+is_off false h = refl
+
+abbrev a_first : Look
+a_first k w e = one_of_kinds (LParen ∷ name_kinds) k
+
+firsts_begin : covers a_first begins_head ≡ true
+unfolding covers
+firsts_begin = refl
+
+firsts_settled : covers a_first (λ k w e. not (one_of_kinds unsettled k)) ≡ true
+unfolding covers
+firsts_settled = refl
+
+begins_plain : covers begins_head (λ k w e. not (is_right_angle k) && not (one_of_kinds other_goals k)) ≡ true
+unfolding covers
+begins_plain = refl
+
+begins_first : covers (λ k w e. begins_head k w e && one_of_kinds read_kinds k) a_first ≡ true
+unfolding covers
+begins_first = refl
+
+-- no head is derived behind the word, where none begins on its line
+led_unless : {text : List ℕ} {f : Flags} {p : Parser} → At text f p → p.token.kind ≡ Async → ((y : Lexeme) → Lex text p.token.span.end y → y.newline ≡ false → IsTrue (seen begins_head y) → ⊥) → NoLed true text f p.prev_token_end
+led_unless {text} {f} {p} a k n = record { no = λ ts vs j ls rest l d e. go ts vs j ls rest l d }
+  where
+    go : (ts vs : Slots) (j : ℕ) (ls rest : Lexemes) → Lexes (Lex text) p.prev_token_end ls → Takes rule (lead_of true ▸ line_of (arrow_head true f)) end ts p.prev_token_end ls vs j rest → ⊥
+    go ts vs j ls rest l (is_seq (is_seq (is_lexeme {x = x} {ls = mid} c) (is_look w)) (is_seq h d)) =
+        let y : Lex text x.to (here mid) = here_at (Lex text) mid l.1 in
+        n (here mid) (subst (λ (v : ℕ). Lex text v (here mid)) (the_word a k x l.0).1 y) (is_off (here mid).newline w) (head_one h).2
+
+module _ {text : List ℕ} {f : Flags} {p : Parser} {t : Token} (a : At text f p) (h : Peeks p t) where
+  -- what begins a head is told whole
+  head_told : (y : Lexeme) → Lex text p.token.span.end y → IsTrue (seen begins_head y) → Tells y t
+  head_told y l b = given_behind a h
+      (λ d u i. absurd (i.none y (record { lex = l.0; of_goal = plainly l.0 l.1 o })))
+      (λ x. let e = one_plain l o x in subst (λ (z : Lexeme). Tells z t) (cut_same x.lexeme (ap (λ (z : Lexeme). is_right_angle z.kind) (sym e) ∙ r) ∙ sym e) x.tells)
+    where
+      z : (not (is_right_angle y.kind) ≡ true) × (not (one_of_kinds other_goals y.kind) ≡ true)
+      z = and_parts (not (is_right_angle y.kind)) _ (covered begins_head (λ k w e. not (is_right_angle k) && not (one_of_kinds other_goals k)) begins_plain y.kind y.newline y.escaped b)
+
+      r : is_right_angle y.kind ≡ false
+      r = is_off _ z.0
+
+      o : one_of_kinds other_goals y.kind ≡ false
+      o = is_off _ z.1
+
+  -- it stands on a new line, or is none
+  async_late : p.token.kind ≡ Async → t.is_on_new_line ≡ true → NoLed true text f p.prev_token_end
+  async_late k w = led_unless a k (λ y l n b. false≢true (sym n ∙ (sym (head_told y l b).newline ∙ w)))
+
+  async_other : p.token.kind ≡ Async → one_of_kinds (LParen ∷ name_kinds) t.kind ≡ false → NoLed true text f p.prev_token_end
+  async_other k q = led_unless a k (λ y l n b. false≢true (sym q ∙ (ap (one_of_kinds (LParen ∷ name_kinds)) (head_told y l b).kind ∙ covered (λ k w e. begins_head k w e && one_of_kinds read_kinds k) a_first begins_first y.kind y.newline y.escaped (and_from _ _ b (and_parts (one_of_kinds read_kinds y.kind) _ l.1).0))))
+
+  async_follows : t.is_on_new_line ≡ false → one_of_kinds (LParen ∷ name_kinds) t.kind ≡ true → BehindWord text p.token.span.end
+  async_follows w q y l =
+      let i : y.kind ≡ t.kind = peeked_kind a h (is_off _ (covered a_first (λ k w e. not (one_of_kinds unsettled k)) firsts_settled t.kind false false q)) y l in
+      let b : IsTrue (seen begins_head y) = covered a_first begins_head firsts_begin y.kind y.newline y.escaped (ap (one_of_kinds (LParen ∷ name_kinds)) i ∙ q) in
+      (sym (head_told y l b).newline ∙ w, b)
+
+pub async_begins : {p q : Parser} {t : Token} → StandsHere p Async true → q ≡ p → Peeks p t → t.is_on_new_line ≡ false → (r : Bool) → r ≡ one_of_kinds (LParen ∷ name_kinds) t.kind → AsyncHeadBegins p q r
+async_begins k e h w true r = (e, k, λ text f a. async_follows a h w (sym r))
+async_begins k e h w false r = (e, λ text f a. async_other a h k.0 (sym r))
+
+pub async_on_new_line : {p : Parser} {t : Token} → StandsHere p Async true → Peeks p t → t.is_on_new_line ≡ true → NoAsyncHere p
+async_on_new_line k h w = λ text f a. async_late a h k.0 w
+
+pub no_async_word : {p : Parser} → StandsHere p Async false → NoAsyncHere p
+no_async_word {p} n = λ text f a. by p.token.escaped refl a
+  where
+    by : {text : List ℕ} {f : Flags} (b : Bool) → p.token.escaped ≡ b → At text f p → NoLed true text f p.prev_token_end
+    by true e a = fails_escaped a e
+    by false e a = no_async_here a (other_kind Async p.token.kind (λ k. n k e))
+
+pub begins_so : (p q : Parser) {b r : Bool} → r ≡ b → AsyncHeadBegins p q r → AsyncHeadBegins p q b
+begins_so p q e h = subst (λ (v : Bool). AsyncHeadBegins p q v) e h
+
+-- ---- what stands behind the word
+
+pub no_list_behind : {p q : Parser} → Standing p → p.token.kind ≡ LParen → (q ≡ p) × NoHeadThere p → HeadBehindAsync p q None
+no_list_behind a k x = (unmoved_went_on a (unmoved x.0), λ text f b. no_head_no_line b k (x.1 text f (arrow_head true f) b))
+
+list_behind_word : (p q : Parser) (found : Option NodeId) → Standing p → p.token.kind ≡ LParen → AttemptsHead true p q found → HeadBehindAsync p q found
+list_behind_word p q (Some id) a k x = (x.0.0, λ text f b. list_head k (x.0.1 text f b) (x.1 text f b))
+list_behind_word p q None a k x = (unmoved_went_on a x.0, λ text f b. no_head_no_line b k (x.1 text f b))
+
+pub lists_behind : (p o q : Parser) (r : Result (Option NodeId) Stop) → o ≡ p → Standing p → p.token.kind ≡ LParen → MatchResult r (λ found. AttemptsHead true o q found) OnlyMemory → MatchResult r (λ found. HeadBehindAsync p q found) OnlyMemory
+lists_behind p o q (Ok found) e a k x = list_behind_word p q found a k (subst (λ (z : Parser). AttemptsHead true z q found) e x)
+lists_behind p o q (Err e) i a k x = x
+
+pub none_behind : (p q : Parser) (r : Option NodeId) → r ≡ None → HeadBehindAsync p q r → HeadBehindAsync p q None
+none_behind p q r e h = subst (HeadBehindAsync p q) e h
+
+pub some_behind : (p q : Parser) (id : NodeId) (r : Option NodeId) → r ≡ Some id → HeadBehindAsync p q r → HeadBehindAsync p q (Some id)
+some_behind p q id r e h = subst (HeadBehindAsync p q) e h
+
+-- ---- a head, with `async` or without
+
+pub some_async : (p q : Parser) (id : NodeId) (r : Option NodeId) → r ≡ Some id → FindsAsyncHead p q r → IsHeadBefore true p q id
+some_async p q id r e h = subst (FindsAsyncHead p q) e h
+
+pub none_async : (p q : Parser) (r : Option NodeId) → r ≡ None → FindsAsyncHead p q r → Unmoved p q × NoAsyncHere p
+none_async p q r e h = subst (FindsAsyncHead p q) e h
+
+module _ {p r : Parser} (a : Standing p) (u : Unmoved p r) (n : NoAsyncHere p) where
+  plain_before : {text : List ℕ} {f : Flags} {q : Parser} {id : NodeId} → At text f p → PlainHead text f p q id → BeforeArrow false text f p q id
+  plain_before {text} {f} {q} {id} b (a_head h y v) = led_head p refl (subst (λ (g : Flags). Head text f g p q id) (sym (plain_head_flags f)) h) (record { arrow = only_arrow f (not_wide b) (is_cover b) y (conditional_none f v) v; other = n text f b })
+  plain_before b (told_head t v) = told_led t v
+
+  plain_any : (q : Parser) (found : Option NodeId) (res : Option ArrowHead) → FindsHead p q found → IsPlainHead found res → FindsAnyHead p q res
+  plain_any q (Some id) res y e = subst (FindsAnyHead p q) (sym e) (y.0, (λ text f b. plain_before b (y.1 text f b)), λ text f b i. from_none i b (y.2 text f b))
+  plain_any q None res y e = subst (FindsAnyHead p q) (sym e) (y.0, λ text f b. no_arrow f (no_plain_led f (y.1 text f b)) (n text f b))
+
+  pub plain_found : (q : Parser) (found : Option NodeId) (res : Option ArrowHead) → FindsHead r q found → IsPlainHead found res → FindsAnyHead p q res
+  plain_found q found res x e = plain_any q found res (found_there u q found x) e
+
+  pub plain_stops : (q : Parser) (e : Stop) → SearchesPlainHead r q (Err e) → SearchesHead p q (Err e)
+  plain_stops q e x = ((λ text f b. from_unmoved text f (at Assignment f) q (Err e) u (x.0 text f (u.at text f b))), λ i text f b. subst (λ (s : ℕ). Underived text (at Short f) s) u.place (x.1 i text f (u.at text f b)))
