@@ -187,10 +187,10 @@ module _ {text : List ℕ} {f : Flags} {s t : ℕ} (w : (y : Lexeme) → Lex tex
       by (at_arrow u) = contrary (seen (looser 2 f.in_ (first_row ts)) (here rest)) (covered an_arrow (λ k w e. not (looser 2 f.in_ (first_row ts) k w e)) (arrow_binds f.in_ (first_row ts) (row_claimed d)) (here rest).kind (here rest).newline (here rest).escaped (and_from _ _ u (ap not unescaped))) a
 
   conditional_fails : Fails rule (Lex text) (after (at Assignment f)) end (such (at Conditional f) always) s
+  unfolding rule rule_of
   conditional_fails = record { no = λ ts vs j ls rest l d a. go ts vs l d a.1 }
     where
       within : (cs : Slots) {l : Label} {us : Slots} {j : ℕ} {ls rest : Lexemes} → Lexes (Lex text) s ls → Takes rule (rule (at Conditional f)) end (tree l cs end) s ls us j rest → IsTrue (seen (looser 2 f.in_ (first_row (tree l cs end))) (here rest)) → ⊥
-      unfolding rule rule_of
       within cs m (is_left (is_such d c)) a = no_end_there m (is_such d refl) a
       within cs m (is_right (is_node (is_seq d (is_seq (is_lexeme {x = x} q) e)))) a = none_of a_question question_apart (stood {n = at Short f} refl refl m d) (and_parts (same_kind Question x.kind) _ q).0
 
@@ -207,6 +207,7 @@ module _ {text : List ℕ} {f : Flags} {s t : ℕ} (w : (y : Lexeme) → Lex tex
           go ts vs j ls rest l (is_seq d (is_seq (is_lexeme {x = x} q) e)) = none_of an_assign_kind assign_apart (stood {n = at SimpleTarget f} refl refl l d) (subst (λ (v : Kind). one_of_kinds assign_operators v ≡ true) (kind_of_same k x.kind (and_parts (same_kind k x.kind) _ q).0) h)
 
   target_fails_there : Fails rule (Lex text) (plain full) end (alt (such (at ArrayTarget f) always) (such (at ObjectTarget f) always)) s → NoTargetPart text f s
+  unfolding rule rule_of
   target_fails_there n = record { no = λ ts vs j ls rest l d a. go l d a.0 }
     where
       of_name : {ts us : Slots} {i : ℕ} {ls : Lexemes} {z : Lexeme} {rest : Lexemes} → Lexes (Lex text) s ls → Takes rule (such (at SimpleTarget f) always) end ts s ls us i (next z rest) → IsTrue (one_of_kinds (In ∷ Of ∷ []) z.kind) → not (same_kind Arrow (here rest).kind) ≡ true → ⊥
@@ -227,7 +228,6 @@ module _ {text : List ℕ} {f : Flags} {s t : ℕ} (w : (y : Lexeme) → Lex tex
               which (name_behind p) = contrary (same_kind Arrow (here rest).kind) e (ap (same_kind Arrow) ((p z m.0).1 (here rest) (here_at (Lex text) rest m.1)))
 
       go : {ts vs : Slots} {j : ℕ} {ls rest : Lexemes} → Lexes (Lex text) s ls → Takes rule (symbol Target f ▸ any_of (In ∷ Of ∷ [])) end ts s ls vs j rest → not (same_kind Arrow (here rest).kind) ≡ true → ⊥
-      unfolding rule rule_of
       go l (is_seq (is_such (is_left (is_such d c)) h) (is_lexeme {x = z} q)) e = of_name l (is_such {us = end} d refl) (and_parts (one_of_kinds (In ∷ Of ∷ []) z.kind) _ q).0 e
       go l (is_seq {j = i} {mid = mid} (is_such {l = k} {cs = cs} {ls = ls} (is_right d) h) m) e = n.no (tree k cs end) end i ls mid l d (refl, refl)
 
