@@ -27,7 +27,10 @@ use Rattle.js_grammar.proofs.RightEdges.{first_row, of_operand}
 use Rattle.js_tree.specs.declared.id.NodeId.{NodeId}
 use Rattle.js_tree.specs.Holding.{Holds, Keeps}
 use Rattle.js_tree.specs.Nodes.{Node}
-use Rattle.js_cursor.specs.Checkpoints.{GoesOn}
+use Rattle.js_cursor.specs.Checkpoints.{GoesBack, MayGoBack, Remembers}
+use Rattle.js_cursor.specs.Tokens.{may_be_read_again}
+use Rattle.js_cursor.specs.declared.checkpoint.ParserCheckpoint.{ParserCheckpoint}
+use Rattle.js_cursor.proofs.Changing.{may_return}
 use Rattle.js_cursor.specs.Moves.{OnlyMemory, Peeks, is_last}
 use Rattle.js_cursor.specs.Parsers.{Parser}
 use Rattle.js_cursor.specs.declared.stop.Stop.{Stop}
@@ -36,7 +39,7 @@ use Rattle.js_parsing.specs.Answers.{Underived}
 use Rattle.js_parsing.specs.Contexts.{arrow_head}
 use Rattle.js_parsing.specs.Heads.{NoHead, OnlyArrow}
 use Rattle.js_parsing.specs.Lexemes.{Lex, name_kinds, other_goals, read_kinds, signs}
-use Rattle.js_parsing.specs.Moves.{Moved}
+use Rattle.js_parsing.specs.Moves.{Moved, Moves}
 use Rattle.js_parsing.specs.Stands.{StandsHere}
 use Rattle.js_parsing.specs.States.{At, Standing}
 use Rattle.js_parsing.proofs.Giving.{fails_escaped}
@@ -53,7 +56,7 @@ use Rattle.js_targets.proofs.Assigned.{arrow_passes, assign_part, assign_slots, 
 use Rattle.js_expressions.specs.Arrows.{AsyncHead, list_head, name_head, AsyncHeadBegins, AsyncPassed, AttemptsHead, BeforeArrow, led_head, told_led, BehindWord, FindsAnyHead, FindsAsyncHead, FindsHead, Head, HeadBehindAsync, HeadRead, read_clean, read_unclean, IsHeadBefore, IsHeadHere, IsPlainHead, NoAsyncHere, NoLed, NoLine, OnlyLed, PlainHead, a_head, told_head, SearchesHead, SearchesPlainHead, ToldHead, Unmoved, WentOn, head_of, lead_of, line_of}
 use Rattle.js_expressions.specs.declared.arrow.ArrowHead.{ArrowHead}
 use Rattle.js_expressions.specs.HeadOperands.{NoTargetPart}
-use Rattle.js_expressions.proofs.Arrows.{from_unmoved, given_behind, head_one, no_arrow, no_arrow_behind, no_async_here, no_head_no_line, no_plain_led, plain_head_flags, unmoved, unmoved_went_on}
+use Rattle.js_expressions.proofs.Arrows.{from_unmoved, given_behind, head_one, no_arrow, no_arrow_behind, no_async_here, no_head_no_line, no_plain_led, plain_head_flags, unmoved, unmoved_went_on, went_back}
 use Rattle.js_expressions.proofs.CalledFronts.{Front, word_alone, with_arguments, word_front}
 use Rattle.js_lex.specs.Reading.{Tells, is_right_angle}
 use Rattle.js_lex.proofs.Again.{cut_same}
@@ -211,7 +214,7 @@ module _ {text : List ℕ} {f : Flags} {s t : ℕ} (w : (y : Lexeme) → Lex tex
   target_fails_there n = record { no = λ ts vs j ls rest l d a. go l d a.0 }
     where
       of_name : {ts us : Slots} {i : ℕ} {ls : Lexemes} {z : Lexeme} {rest : Lexemes} → Lexes (Lex text) s ls → Takes rule (such (at SimpleTarget f) always) end ts s ls us i (next z rest) → IsTrue (one_of_kinds (In ∷ Of ∷ []) z.kind) → not (same_kind Arrow (here rest).kind) ≡ true → ⊥
-      of_name {z = z} {rest = rest} l d q e = by (stood {n = at SimpleTarget f} refl refl l d)
+      of_name {ts} {us} {i} {ls} {z} {rest} l d q e = by (stood {n = at SimpleTarget f} refl refl l d)
         where
           apart_paren : (k : Kind) → one_of_kinds (In ∷ Of ∷ []) k ≡ true → k ≡ LParen → ⊥
           apart_paren k h i = false≢true (sym (ap (one_of_kinds (In ∷ Of ∷ [])) i) ∙ h)
@@ -219,7 +222,7 @@ module _ {text : List ℕ} {f : Flags} {s t : ℕ} (w : (y : Lexeme) → Lex tex
           apart_arrow : (k : Kind) → one_of_kinds (In ∷ Of ∷ []) k ≡ true → same_kind Arrow k ≡ true → ⊥
           apart_arrow k h i = false≢true (sym (ap (one_of_kinds (In ∷ Of ∷ [])) (sym (kind_of_same Arrow k i))) ∙ h)
 
-          by : Stood text t _ (next z rest) → ⊥
+          by : Stood text t ts (next z rest) → ⊥
           by (at_arrow u) = apart_arrow z.kind q u
           by (behind_word m i) = which o
             where
@@ -448,6 +451,17 @@ none_behind p q r e h = subst (HeadBehindAsync p q) e h
 
 pub some_behind : (p q : Parser) (id : NodeId) (r : Option NodeId) → r ≡ Some id → HeadBehindAsync p q r → HeadBehindAsync p q (Some id)
 some_behind p q id r e h = subst (HeadBehindAsync p q) e h
+
+-- `async` is passed from where it was looked at
+pub moves_from : {p o q : Parser} → o ≡ p → Moves o q → Moves p q
+moves_from {p} {o} {q} e m = subst (λ (z : Parser). Moves z q) e m
+
+-- the parser goes back to it
+pub back_to_word : {p o w r : Parser} {c : ParserCheckpoint} → o ≡ p → p.token.kind ≡ Async → Remembers o c → WentOn p w → GoesBack c w r → Unmoved p r
+back_to_word {p} {o} {w} {r} {c} e k m g b = went_back (ap may_be_read_again k) (subst (λ (z : Parser). Remembers z c) e m) g b
+
+pub may_go_to_word : {p o w : Parser} {c : ParserCheckpoint} → Standing p → o ≡ p → Remembers o c → WentOn p w → MayGoBack c w
+may_go_to_word {p} {o} {w} {c} a e m g = may_return a.at (subst (λ (z : Parser). Remembers z c) e m) refl g.0.0
 
 -- ---- a head, with `async` or without
 

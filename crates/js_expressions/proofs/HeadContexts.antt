@@ -12,7 +12,7 @@ use Rattle.js_cursor.specs.Parsers.{Parser}
 use Rattle.js_cursor.proofs.Changing.{ctx_set}
 use Rattle.js_cursor.proofs.Later.{follows_on}
 use Rattle.js_parsing.specs.Answers.{clean, unclean, Verdict}
-use Rattle.js_parsing.specs.Contexts.{arrow_head}
+use Rattle.js_parsing.specs.Contexts.{EntersAsyncHead, arrow_head}
 use Rattle.js_parsing.specs.Heads.{NoHead}
 use Rattle.js_parsing.specs.Lexemes.{Lex, name_kinds}
 use Rattle.js_parsing.specs.Methods.{WholeTaken}
@@ -32,6 +32,12 @@ use Rattle.js_expressions.proofs.Exponents.{longer}
 pub head_at : (b : Bool) {text : List ℕ} {f : Flags} {p q : Parser} {c d : Context} → At text f p → d ≡ p.ctx → EntersHead b d c → q ≡ record p { ctx = c } → At text (arrow_head b f) q
 head_at true a e s h = async_head_at a e s h
 head_at false {text} {f} {p} {q} {c} {d} a e s h = subst (At text (arrow_head false f)) (sym (h ∙ ap (λ (v : Context). record p { ctx = v }) (s ∙ e))) (subst (λ (g : Flags). At text g p) (sym (plain_head_flags f)) a)
+
+pub enters_async : {b : Bool} {old new : Context} → b ≡ true → EntersAsyncHead old new → EntersHead b old new
+enters_async {b} {old} {new} e h = subst (λ (v : Bool). EntersHead v old new) (sym e) h
+
+pub enters_plain : {b : Bool} {old : Context} → b ≡ false → EntersHead b old old
+enters_plain {b} {old} e = subst (λ (v : Bool). EntersHead v old old) (sym e) refl
 
 plain_in : {text : List ℕ} {p : Parser} (c : Context) → IsPlain text p → IsPlain text (record p { ctx = c })
 plain_in c (whole d n x) = whole d n x

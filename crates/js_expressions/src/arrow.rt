@@ -157,10 +157,10 @@ fn parse_head_behind_async<C: ParserConfig, N: Nested<C>>(
     if !stands(p, Kind::LParen) {
         return parse_name_behind_async(p);
     }
-    if let HeadLookahead::NoHead = is_parenthesized_head(p)? {
-        return Ok(None);
+    match is_parenthesized_head(p)? {
+        HeadLookahead::NoHead => Ok(None),
+        HeadLookahead::Head | HeadLookahead::Maybe => attempt_head(p, nested, true),
     }
-    attempt_head(p, nested, true)
 }
 
 /// A name as the only parameter of an asynchronous arrow function, where it stands here and `=>` behind it.
