@@ -1,5 +1,5 @@
 -- Arrow functions (ECMA-262, 15.3 and 15.9), and where none is derived.
-use Rattle.std.proofs.Common.{ℕ, ◌≡◌, ◌≤◌, ◌<◌, ◌⊎◌, inl, inr, List, [], ◌∷◌, length, Bool, true, false, not, cond, ◌&&◌, ◌||◌, IsTrue, Option, Some, None, refl, sym, ap, subst, arith, ◌∙◌}
+use Rattle.std.proofs.Common.{ℕ, ◌≡◌, ◌≤◌, ◌<◌, ◌⊎◌, inl, inr, List, [], ◌∷◌, length, Bool, true, false, not, cond, ◌&&◌, ◌||◌, IsTrue, Option, Some, None, refl, sym, ap, subst, arith, ◌∙◌, ◌+◌}
 use Rattle.std.specs.Prelude.{IsCharBoundary, Result, Ok, Err, nat_lt}
 use Rattle.std.proofs.lemmas.Bool.{false≢true, and_parts, or_left, or_right}
 use Rattle.js_base.specs.Contexts.{has_flag, yield_flag}
@@ -53,7 +53,7 @@ use Rattle.js_tree.specs.declared.op.Op.TheVariants as op_made
 use Rattle.js_tree.specs.Nodes.{Node}
 use Rattle.js_tree.specs.Holding.{Holds, Keeps}
 use Rattle.js_tree.proofs.HoldingLemmas.{Holds-wider, HoldsAll-one, HoldsAll-hole, Keeps-longer, Keeps-refl, Keeps-trans, Keeps-made}
-use Rattle.js_cursor.specs.Checkpoints.{Remembers, GoesBack, GoesOn}
+use Rattle.js_cursor.specs.Checkpoints.{Remembers, GoesBack}
 use Rattle.js_cursor.specs.declared.checkpoint.ParserCheckpoint.{ParserCheckpoint}
 use Rattle.js_cursor.specs.declared.stop.Stop.{Stop}
 use Rattle.js_cursor.specs.declared.stop.Stop.TheVariants.{Fatal}
@@ -70,7 +70,7 @@ use Rattle.js_cursor.specs.Notes.{Notes}
 use Rattle.js_parsing.specs.Contexts.{arrow_body, braced_body, arrow_head}
 use Rattle.js_expressions.specs.Arrows.{ArrowBehind, AsyncPassed, BeforeArrow, led_head, told_led, ChecksLine, FindsAnyHead, FindsHead, Head, HeadRead, read_clean, read_unclean, IsHead, IsHeadBefore, IsHeadHere, IsRefusedHead, Leads, LooksForHead, NamesHead, NoArrowHere, NoLed, NoLine, NoLineHere, NoParametersHere, OnlyLed, ParametersRead, PlainHead, a_head, told_head, Single, ToldHead, Unmoved, WentOn, arrow_label, body_of, head_of, late_arrow, lead_of, line_of}
 use Rattle.js_expressions.specs.declared.arrow.ArrowHead.{ArrowHead}
-use Rattle.js_parsing.specs.Heads.{NoHead, NotedHeads, OnlyArrow}
+use Rattle.js_parsing.specs.Heads.{NoHead, OnlyArrow}
 use Rattle.js_expressions.specs.Rests.{OnlyOperandHere}
 use Rattle.js_expressions.specs.Closings.{ArrowBehindOne}
 use Rattle.js_expressions.proofs.Closings.{closes_alike}
@@ -78,7 +78,7 @@ use Rattle.js_expressions.proofs.OnePlace.{calm, one_alone, one_move, one_told}
 use Rattle.js_expressions.proofs.ParenthesizedFronts.{no_arrow_admitted, args_one}
 use Rattle.js_cursor.specs.Tokens.{may_be_read_again}
 use Rattle.js_parsing.proofs.KeptTokens.{before_back, last_back}
-use Rattle.js_parsing.specs.Lexemes.{Lex, name_kinds, other_goals, signs, spot, slashes, Plain, may_name}
+use Rattle.js_parsing.specs.Lexemes.{Lex, name_kinds, other_goals, signs, spot, slashes, Plain, may_name, Walked}
 use Rattle.js_parsing.specs.Moves.{Moved, MadeHere, LeafTaken, TakesLeaf, plain_label}
 use Rattle.js_parsing.specs.States.{At, Same, Standing, flags_of, IsPlain, whole, sign, nothing as nothing_here, NodesLie, SpansLie}
 use Rattle.js_targets.proofs.ArraysBeforeSigns.{is_cover, not_wide}
@@ -89,7 +89,6 @@ use Rattle.js_expressions.specs.Yields.{BeginsYield}
 use Rattle.js_expressions.proofs.Assignments.{by_second, second}
 use Rattle.js_expressions.proofs.Conditionals.{conditional_none}
 use Rattle.js_parsing.proofs.Signs.{other_kind, plain_sign}
-use Rattle.js_parsing.proofs.Dead.{live, lives}
 use Rattle.js_expressions.proofs.Exponents.{longer}
 use Rattle.js_parsing.proofs.Told.{beside_errors}
 use Rattle.js_parsing.proofs.Unbuilt.{nothing_unbuilt}
@@ -100,7 +99,7 @@ use Rattle.js_parsing.proofs.MadeNodes.{leaf_held, node_held, two_held, one_lies
 use Rattle.js_parsing.proofs.Moving.{beside_nodes, flags_same, heads_kept, same_both, same_itself, same_with, stops_behind, nodes_lie}
 use Rattle.js_operands.proofs.Operands.{by_path, by_such, name_signless}
 use Rattle.js_patterns.proofs.Bindings.{bound_path, ended_by, then_any}
-use Rattle.js_parsing.proofs.Paths.{Path, ◌⟼◌, ◌⟶◌, ◌⟶✗◌, fails_at, not_here, token, last_called, noded, noded_by, by_symbol_as, label_here, read_of, walked_both, walked_from, walked_one, flagged_here, flagged_by}
+use Rattle.js_parsing.proofs.Paths.{Path, ◌⟼◌, ◌⟶◌, ◌⟶✗◌, fails_at, not_here, token, last_called, noded, by_symbol_as, label_here, read_of, walked_both, walked_from, walked_one, flagged_here, flagged_by}
 use Rattle.js_parsing.proofs.Signs.{none_kept, plain_of}
 use Rattle.js_parsing.proofs.Ahead.{pass_over}
 use Rattle.js_parsing.proofs.Tight.{read_plain}

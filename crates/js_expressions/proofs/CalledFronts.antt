@@ -1,11 +1,10 @@
 -- An operand that begins with the name `async`, behind which a parenthesis or another name stands: it ends behind the word, or goes on with arguments; and behind those it ends, or goes on with something else than `=>` (CoverCallExpressionAndAsyncArrowHead, ECMA-262, 13.3).
 use Rattle.std.proofs.Common.{ℕ, ◌≡◌, ◌⊎◌, inl, inr, Bool, true, false, not, ◌&&◌, ◌||◌, IsTrue, refl, sym, ap, subst, ◌∙◌, rules}
 use Rattle.std.proofs.lemmas.Bool.{false≢true, and_parts, and_from, or_left, or_right}
-use Rattle.js_base.specs.declared.kind.Kind.{Kind}
 use Rattle.js_base.specs.declared.kind.Kind.TheVariants.{Arrow, Async}
 use Rattle.js_base.specs.Kinds.{same_kind}
 use Rattle.js_grammar.specs.Trees.{Slots, end, tree, append}
-use Rattle.js_grammar.specs.Grammar.{Lexeme, Lexemes, next, last, Look, Make, here, seen, nothing, never, lexeme, look, text, ahead, empty_slot, seq, alt, when, many, commas, such, marked, node, ended, keep, kept, label_of, Takes, is_nothing, is_lexeme, is_look, is_text, is_ahead, is_empty_slot, is_seq, is_left, is_right, is_when, is_many, is_commas, is_such, is_marked, is_node, is_ended, is_keep, is_kept}
+use Rattle.js_grammar.specs.Grammar.{Lexeme, Lexemes, next, last, Look, Make, here, seen, nothing, never, lexeme, look, seq, alt, when, commas, such, node, label_of, Takes, is_nothing, is_lexeme, is_look, is_text, is_ahead, is_empty_slot, is_seq, is_left, is_right, is_when, is_many, is_commas, is_such, is_marked, is_node, is_ended, is_keep, is_kept}
 use Rattle.js_grammar.specs.FirstSets.{first}
 use Rattle.js_grammar.specs.Insertion.{Row, after_expression, after_postfix, after_body, after_yield, after_declarator, after_word, edge_is_last, own_row}
 use Rattle.js_grammar.specs.Parsing.{full, always}
@@ -15,7 +14,7 @@ use Rattle.js_grammar.proofs.First.{starts, starting}
 use Rattle.js_grammar.proofs.FirstClaims.{firsts}
 use Rattle.js_grammar.proofs.Frame.{framed}
 use Rattle.js_grammar.proofs.Heads.{begins_head, of_operands}
-use Rattle.js_grammar.proofs.Looks.{apart, covers, covered, not_both}
+use Rattle.js_grammar.proofs.Looks.{apart, covered, not_both}
 use Rattle.js_grammar.proofs.RightEdges.{first_row, same_row}
 
 abbrev the_word : Look

@@ -1,7 +1,6 @@
 -- It is noted where no head of an arrow function stands, and where no operand does.
 use Rattle.std.proofs.Common.{ℕ, ◌≡◌, ◌<◌, Bool, true, List, sym, ap, subst, ◌∙◌}
 use Rattle.js_base.specs.Contexts.{bits_of}
-use Rattle.js_base.specs.declared.context.Context.{Context}
 use Rattle.js_grammar.specs.Productions.{Flags}
 use Rattle.js_cursor.specs.Checkpoints.{GoesOn}
 use Rattle.js_cursor.specs.Moves.{NotesArrow, NotesNoOperand}

@@ -17,7 +17,6 @@ use Rattle.js_grammar.specs.Table.{rule, args}
 use Rattle.js_grammar.proofs.Calculus.{ends, here_at}
 use Rattle.js_tree.specs.declared.id.NodeId.{NodeId}
 use Rattle.js_tree.proofs.HoldingLemmas.{Holds-wider, Keeps-longer, Keeps-trans}
-use Rattle.js_cursor.specs.Checkpoints.{GoesOn}
 use Rattle.js_cursor.specs.Moves.{OnlyMemory}
 use Rattle.js_cursor.specs.Notes.{is_noted}
 use Rattle.js_cursor.specs.Parsers.{Parser}
@@ -25,11 +24,11 @@ use Rattle.js_cursor.specs.declared.stop.Stop.{Stop}
 use Rattle.js_cursor.specs.declared.stop.Stop.TheVariants.{Fatal}
 use Rattle.js_parsing.specs.Answers.{Grown, Refuses, Stops, Stretch, Underived}
 use Rattle.js_parsing.specs.Arguments.{Arguments, NoArguments, Partway, item_of, list_of}
-use Rattle.js_parsing.specs.Heads.{NoHead, NotedHeads, OnlyArrow}
+use Rattle.js_parsing.specs.Heads.{NoHead, OnlyArrow}
 use Rattle.js_parsing.specs.Lexemes.{Lex}
-use Rattle.js_parsing.specs.States.{At, Standing, NodesLie, SpansLie, flags_of}
+use Rattle.js_parsing.specs.States.{At, Standing}
 use Rattle.js_parsing.proofs.Here.{kind_here}
-use Rattle.js_parsing.proofs.Moving.{flags_same, same_both, standing}
+use Rattle.js_parsing.proofs.Moving.{same_both, standing}
 use Rattle.js_parsing.proofs.Paths.{walked_from}
 use Rattle.js_parsing.proofs.Unbuilt.{nothing_unbuilt}
 use Rattle.js_parsing.proofs.Verdicts.{either_way}

@@ -1,6 +1,5 @@
 use Rattle.std.proofs.Common.{ap, ◌∙◌}
 use Rattle.js_cursor.specs.Parsers.{Parser}
-use Rattle.js_parsing.proofs.Nesting.{nests_later, later_room}
 use Rattle.js_expressions.proofs.HeadContexts.{head_stands_at, tries_back}
 use Rattle.js_expressions.proofs.arrow.try_parse_head.Goals as goal
 
