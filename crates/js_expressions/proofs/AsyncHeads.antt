@@ -194,7 +194,7 @@ module _ {text : List ℕ} {f : Flags} {s t : ℕ} (w : (y : Lexeme) → Lex tex
   conditional_fails = record { no = λ ts vs j ls rest l d a. go ts vs l d a.1 }
     where
       within : (cs : Slots) {l : Label} {us : Slots} {j : ℕ} {ls rest : Lexemes} → Lexes (Lex text) s ls → Takes rule (rule (at Conditional f)) end (tree l cs end) s ls us j rest → IsTrue (seen (looser 2 f.in_ (first_row (tree l cs end))) (here rest)) → ⊥
-      within cs m (is_left (is_such d c)) a = no_end_there m (is_such d refl) a
+      within cs m (is_left (is_such d c)) a = no_end_there {us = end} m (is_such d refl) a
       within cs m (is_right (is_node (is_seq d (is_seq (is_lexeme {x = x} q) e)))) a = none_of a_question question_apart (stood {n = at Short f} refl refl m d) (and_parts (same_kind Question x.kind) _ q).0
 
       go : (ts vs : Slots) {j : ℕ} {ls rest : Lexemes} → Lexes (Lex text) s ls → Takes rule (such (at Conditional f) always) end ts s ls vs j rest → IsTrue (seen (looser 2 f.in_ (first_row ts)) (here rest)) → ⊥
