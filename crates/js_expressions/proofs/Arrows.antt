@@ -764,34 +764,35 @@ lead_then : {text : List ℕ} (a : Bool) {f : Flags} {o l q : Parser} {X : Test}
 lead_then true d r = then_any (async_path d) ⟶ r
 lead_then {text} false {f} {o} {l} {q} {X} {b} {c} {i} d r = subst (λ (v : Parser). Path text f X (nothing ▸ b) v c q i) d (done ⟼ r)
 
-lead_fails : {text : List ℕ} (a : Bool) {f : Flags} {o l : Parser} {X : Test} {b : G} → Leads a text f o l → Fails rule (Lex text) X end b l.prev_token_end → Fails rule (Lex text) X end (lead_of a ▸ b) o.prev_token_end
-lead_fails true d n = then_any (async_path d) ⟶✗ n
-lead_fails {text} false {f} {o} {l} {X} {b} d n = subst (λ (v : Parser). Fails rule (Lex text) X end (nothing ▸ b) v.prev_token_end) d (done ▹✗ n)
+module _ (text : List ℕ) (f : Flags) (o l : Parser) where
+  lead_fails : (a : Bool) {X : Test} {b : G} → Leads a text f o l → Fails rule (Lex text) X end b l.prev_token_end → Fails rule (Lex text) X end (lead_of a ▸ b) o.prev_token_end
+  lead_fails true d n = then_any (async_path d) ⟶✗ n
+  lead_fails false {X} {b} d n = subst (λ (v : Parser). Fails rule (Lex text) X end (nothing ▸ b) v.prev_token_end) d (done ▹✗ n)
 
-lead_same : {text : List ℕ} (a : Bool) {f : Flags} {o l : Parser} → Leads a text f o l → Same o l
-lead_same true d = d.moved.same
-lead_same false {o = o} d = subst (λ (v : Parser). Same v _) d same_itself
+  lead_same : (a : Bool) → Leads a text f o l → Same o l
+  lead_same true d = d.moved.same
+  lead_same false d = subst (λ (v : Parser). Same o v) (sym d) same_itself
 
-lead_kept : {text : List ℕ} (a : Bool) {f : Flags} {o l : Parser} → Leads a text f o l → l.errors ≡ o.errors
-lead_kept true d = d.moved.kept
-lead_kept false d = ap (λ (z : Parser). z.errors) d
+  lead_kept : (a : Bool) → Leads a text f o l → l.errors ≡ o.errors
+  lead_kept true d = d.moved.kept
+  lead_kept false d = ap (λ (z : Parser). z.errors) d
 
-lead_nodes : {text : List ℕ} (a : Bool) {f : Flags} {o l : Parser} → Leads a text f o l → l.nodes ≡ o.nodes
-lead_nodes true d = d.moved.nodes
-lead_nodes false d = ap (λ (z : Parser). z.nodes) d
+  lead_nodes : (a : Bool) → Leads a text f o l → l.nodes ≡ o.nodes
+  lead_nodes true d = d.moved.nodes
+  lead_nodes false d = ap (λ (z : Parser). z.nodes) d
 
-lead_start : {text : List ℕ} (a : Bool) {f : Flags} {o l : Parser} → Leads a text f o l → o.token.span.start ≤ l.token.span.start
-lead_start true d = let g = d.moved.further in let b = d.moved.at.behind in omega arith
-lead_start false d = let e = ap (λ (z : Parser). z.token.span.start) d in omega arith
+  lead_start : (a : Bool) → Leads a text f o l → o.token.span.start ≤ l.token.span.start
+  lead_start true d = let g = d.moved.further in let b = d.moved.at.behind in omega arith
+  lead_start false d = let e = ap (λ (z : Parser). z.token.span.start) d in omega arith
 
-lead_pass : {text : List ℕ} (a : Bool) {f : Flags} {o l : Parser} → Leads a text f o l → Lexemes → Lexemes
-lead_pass true d ls = next d.moved.lexeme ls
-lead_pass false d ls = ls
+  lead_pass : (a : Bool) → Leads a text f o l → Lexemes → Lexemes
+  lead_pass true d ls = next d.moved.lexeme ls
+  lead_pass false d ls = ls
 
--- and what was passed behind it
-led_walk : {text : List ℕ} (a : Bool) {f : Flags} {o l p : Parser} {pass : Lexemes → Lexemes} (d : Leads a text f o l) → Walked text (spot l) (spot p) pass → Walked text (spot o) (spot p) (λ ls. lead_pass a d (pass ls))
-led_walk true d w = walked_both (walked_one d.moved) w
-led_walk false d w = walked_from (ap spot d) w
+  -- and what was passed behind it
+  led_walk : (a : Bool) {p : Parser} {pass : Lexemes → Lexemes} (d : Leads a text f o l) → Walked text (spot l) (spot p) pass → Walked text (spot o) (spot p) (λ ls. lead_pass a d (pass ls))
+  led_walk true d w = walked_both (walked_one d.moved) w
+  led_walk false d w = walked_from (ap spot d) w
 
 arrow_flags : (a : Bool) → flag a async_flag + flag false generator_flag ≡ flag a async_flag
 arrow_flags true = refl
@@ -802,7 +803,7 @@ no_led : {text : List ℕ} (a : Bool) (f : Flags) {s : ℕ} → NoLed a text f s
 no_led true f n m = no_arrow f m n
 no_led false f n m = no_arrow f n m
 
-module _ {text : List ℕ} (a : Bool) {f : Flags} {o l p : Parser} {id : NodeId} (d : Leads a text f o l) (h : Head text f (arrow_head a f) l p id) (y : OnlyLed a text f o.prev_token_end) (k : p.token.kind ≡ Arrow) where
+module _ {text : List ℕ} (a : Bool) {f : Flags} (o : Parser) {l p : Parser} {id : NodeId} (d : Leads a text f o l) (h : Head text f (arrow_head a f) l p id) (y : OnlyLed a text f o.prev_token_end) (k : p.token.kind ≡ Arrow) where
   on_body : (b : Bool) {e : ℕ} → On rule (record { base = widest Assignment; by = λ us. by_second f (tree h.label h.slots us) }) (after (body_of b a f)) end (such (body_of b a f) always) e
   on_body true = record { admits = λ ts vs j ls rest d e. braced ts (here rest) }
     where
@@ -821,7 +822,7 @@ module _ {text : List ℕ} (a : Bool) {f : Flags} {o l p : Parser} {id : NodeId}
 
   -- the line where `=>` stands on a new one
   late_rule : p.token.is_on_new_line ≡ true → Fails rule (Lex text) (after (at Assignment f)) end (rule (at Assignment f)) o.prev_token_end
-  late_rule w = y.arrow ▹✗ weaken_fails_on (no_led a f (lead_fails a d (then_any head_path ⟶✗ part_fails {X' = plain full} (fails_look (λ k n e. not n) (λ y l z. false≢true (sym (ap not (newline_here h.at y l ∙ w)) ∙ z))) (record { admits = λ ts us vs j k ls mid rest d d' e. (refl, refl) }))) y.other) (same_read (at Assignment f) (at Arrow' f) arrow_passes refl)
+  late_rule w = y.arrow ▹✗ weaken_fails_on (no_led a f (lead_fails text f o l a d (then_any head_path ⟶✗ part_fails {X' = plain full} (fails_look (λ k n e. not n) (λ y l z. false≢true (sym (ap not (newline_here h.at y l ∙ w)) ∙ z))) (record { admits = λ ts us vs j k ls mid rest d d' e. (refl, refl) }))) y.other) (same_read (at Assignment f) (at Arrow' f) arrow_passes refl)
 
   module _ (n : p.token.is_on_new_line ≡ false) {r : Parser} (m : Moved text f p r) (b : Bool) (c : same_kind LCurly r.token.kind ≡ b) where
     body_due : Path text f (second f) (arrow_slots a f) o (such (body_of b a f) always) r (tree h.label h.slots)
@@ -858,32 +859,32 @@ line_nodes : {p q : Parser} → ChecksLine p q → q.nodes ≡ p.nodes
 line_nodes (inl (e, c)) = ap (λ (z : Parser). z.nodes) c.is
 line_nodes (inr (e, i)) = ap (λ (z : Parser). z.nodes) i
 
-module _ {text : List ℕ} (a : Bool) {f : Flags} {o l p q r : Parser} {id : NodeId} (d : Leads a text f o l) (h : Head text f (arrow_head a f) l p id) (y : OnlyLed a text f o.prev_token_end) (k : p.token.kind ≡ Arrow) (c : ChecksLine p q) (m : Moved text f q r) (b : Bool) (i : same_kind LCurly r.token.kind ≡ b) where
+module _ {text : List ℕ} (a : Bool) {f : Flags} (o : Parser) {l p q r : Parser} {id : NodeId} (d : Leads a text f o l) (h : Head text f (arrow_head a f) l p id) (y : OnlyLed a text f o.prev_token_end) (k : p.token.kind ≡ Arrow) (c : ChecksLine p q) (m : Moved text f q r) (b : Bool) (i : same_kind LCurly r.token.kind ≡ b) where
   up_to : Same o p
-  up_to = same_both (lead_same a d) h.same
+  up_to = same_both (lead_same text f o l a d) h.same
 
   nothing_told : p.errors ≡ o.errors
-  nothing_told = h.kept ∙ lead_kept a d
+  nothing_told = h.kept ∙ lead_kept text f o l a d
 
   -- the body can't be read
   pub arrow_stops : (w : Parser) (e : Stop) → Stops r w e (Underived text (body_of b a f) r.prev_token_end) → Stops o w e (Underived text (at Assignment f) o.prev_token_end)
   arrow_stops w e s = go c m s
     where
       go : {q : Parser} → ChecksLine p q → Moved text f q r → Stops r w e (Underived text (body_of b a f) r.prev_token_end) → Stops o w e (Underived text (at Assignment f) o.prev_token_end)
-      go (inl (l, c)) m s = stops_behind w e (same_both up_to (same_both (line_same (inl (l, c))) m.same)) (λ g. grown_then nothing_told (grown_both (kept_one c) (grown_then m.kept g))) (λ z. fails_by (late_rule a d h y k l)) s
-      go (inr (n, j)) m s = stops_behind w e (same_both up_to (same_both (line_same (inr (n, j))) m.same)) (λ g. grown_then (m.kept ∙ (ap (λ (z : Parser). z.errors) j ∙ nothing_told)) g) (λ z. body_fails a d h y k n (subst (λ (z : Parser). Moved text f z r) j m) b i z) s
+      go (inl (l, c)) m s = stops_behind w e (same_both up_to (same_both (line_same (inl (l, c))) m.same)) (λ g. grown_then nothing_told (grown_both (kept_one c) (grown_then m.kept g))) (λ z. fails_by (late_rule a o d h y k l)) s
+      go (inr (n, j)) m s = stops_behind w e (same_both up_to (same_both (line_same (inr (n, j))) m.same)) (λ g. grown_then (m.kept ∙ (ap (λ (z : Parser). z.errors) j ∙ nothing_told)) g) (λ z. body_fails a o d h y k n (subst (λ (z : Parser). Moved text f z r) j m) b i z) s
 
   arrow_path : {w : Parser} → At text f o → (x : Answer text f (body_of b a f) r w) → Path text f (after (at Assignment f)) (rule (at Assignment f)) o nothing w (tree (flagged_here arrow_function_expression no_op (flag a async_flag) o w) (tree h.label h.slots (tree x.label x.slots end)))
   arrow_path {w} t x = go c m
     where
       go : {q : Parser} → ChecksLine p q → Moved text f q r → Path text f (after (at Assignment f)) (rule (at Assignment f)) o nothing w (tree (flagged_here arrow_function_expression no_op (flag a async_flag) o w) (tree h.label h.slots (tree x.label x.slots end)))
-      go (inr (n, j)) m = body_path a d h y k n (subst (λ (z : Parser). Moved text f z r) j m) b i t x
-      go {q} (inl (l, c)) m = record {
+      go (inr (n, j)) m = body_path a o d h y k n (subst (λ (z : Parser). Moved text f z r) j m) b i t x
+      go {q} (inl (n, c)) m = record {
         at = x.at;
-        further = let v = lead_start a d in let j = h.further in let d = line_place (inl (l, c)) in let e = (line_at h.at (inl (l, c))).behind in let g = m.further in let u = m.at.behind in let i = x.further in omega arith;
+        further = let v = lead_start text f o l a d in let j = h.further in let d = line_place (inl (n, c)) in let e = (line_at h.at (inl (n, c))).behind in let g = m.further in let u = m.at.behind in let i = x.further in omega arith;
         pass = _;
-        walked = walked_both (led_walk a d h.walked) (walked_both (walked_from (line_spot (inl (l, c))) (walked_one m)) x.walked);
-        verdict = unclean (grown_then nothing_told (behind (grown_first (kept_one c) m.kept) x.verdict)) (late_rule a d h y k l);
+        walked = walked_both (led_walk text f o l a d h.walked) (walked_both (walked_from (line_spot (inl (n, c))) (walked_one m)) x.walked);
+        verdict = unclean (grown_then nothing_told (behind (grown_first (kept_one c) m.kept) x.verdict)) (late_rule a o d h y k n);
       }
 
   pub arrow_answers : {w z : Parser} {body made : NodeId} (s : Span) → At text f o → (x : Numbered text f (body_of b a f) r w body) → s.start ≡ o.token.span.start → s.end ≡ w.prev_token_end → MadeHere (arrow_label a s) (Some id ∷ Some body ∷ []) w z made → Numbered text f (at Assignment f) o z made
@@ -893,8 +894,8 @@ module _ {text : List ℕ} (a : Bool) {f : Flags} {o l p q r : Parser} {id : Nod
       let e : r.nodes ≡ p.nodes = m.nodes ∙ line_nodes c in
       let j : Holds w.nodes (length p.nodes) (length w.nodes) body.0 y.answer.label y.answer.slots = subst (λ (ns : List Node). Holds w.nodes (length ns) (length w.nodes) body.0 y.answer.label y.answer.slots) e y.holds in
       let i : Keeps p.nodes w.nodes = subst (λ (ns : List Node). Keeps ns w.nodes) e y.keeps in
-      let hs : Holds p.nodes (length o.nodes) (length p.nodes) id.0 h.label h.slots = subst (λ (ns : List Node). Holds p.nodes (length ns) (length p.nodes) id.0 h.label h.slots) (lead_nodes a d) h.holds in
-      let ks : Keeps o.nodes p.nodes = subst (λ (ns : List Node). Keeps ns p.nodes) (lead_nodes a d) h.keeps in
+      let hs : Holds p.nodes (length o.nodes) (length p.nodes) id.0 h.label h.slots = subst (λ (ns : List Node). Holds p.nodes (length ns) (length p.nodes) id.0 h.label h.slots) (lead_nodes text f o l a d) h.holds in
+      let ks : Keeps o.nodes p.nodes = subst (λ (ns : List Node). Keeps ns p.nodes) (lead_nodes text f o l a d) h.keeps in
       by_path (arrow_path t y.answer) (same_both up_to (same_both (line_same c) (same_both m.same y.answer.same))) x.stays (λ j w. behind_body b a y.answer j w) (row_of_body b a y.answer) (two_held x hs ks j i) (Keeps-trans ks (Keeps-trans i (Keeps-made x.made))) refl (one_lies x)
 
 -- ---- and behind what was no head
@@ -915,11 +916,11 @@ module _ {text : List ℕ} (a : Bool) {f : Flags} {o p : Parser} {id : NodeId} w
   before_at (told_led x n) = x.at
 
   pub before_same : BeforeArrow a text f o p id → Same o p
-  before_same (led_head l d h y) = same_both (lead_same a d) h.same
+  before_same (led_head l d h y) = same_both (lead_same text f o l a d) h.same
   before_same (told_led x n) = x.same
 
   pub before_further : BeforeArrow a text f o p id → o.token.span.start < p.prev_token_end
-  before_further (led_head l d h y) = let b = lead_start a d in let c = h.further in omega arith
+  before_further (led_head l d h y) = let b = lead_start text f o l a d in let c = h.further in omega arith
   before_further (told_led x n) = x.further
 
 -- an AssignmentExpression of which something was told
@@ -938,11 +939,11 @@ refused x n = let t = told_of x n in told_led (record {
 }) t.1
 
 pub before_stops : {text : List ℕ} (a : Bool) {f : Flags} {o p q r : Parser} {id : NodeId} → BeforeArrow a text f o p id → p.token.kind ≡ Arrow → ChecksLine p q → Moved text f q r → (b : Bool) → same_kind LCurly r.token.kind ≡ b → (w : Parser) (e : Stop) → Stops r w e (Underived text (body_of b a f) r.prev_token_end) → Stops o w e (Underived text (at Assignment f) o.prev_token_end)
-before_stops a (led_head l d h y) k c m b i w e s = arrow_stops a d h y k c m b i w e s
+before_stops a {f} {o} (led_head l d h y) k c m b i w e s = arrow_stops a o d h y k c m b i w e s
 before_stops a (told_led x n) k c m b i w e s = stops_behind w e (same_both x.same (same_both (line_same c) m.same)) (λ g. grown_both (grown_first (line_grown c x.grown) m.kept) g) (λ z. n) s
 
 pub before_answers : {text : List ℕ} (a : Bool) {f : Flags} {o p q r w z : Parser} {id body made : NodeId} → BeforeArrow a text f o p id → p.token.kind ≡ Arrow → ChecksLine p q → Moved text f q r → (b : Bool) → same_kind LCurly r.token.kind ≡ b → (s : Span) → At text f o → Numbered text f (body_of b a f) r w body → s.start ≡ o.token.span.start → s.end ≡ w.prev_token_end → MadeHere (arrow_label a s) (Some id ∷ Some body ∷ []) w z made → Numbered text f (at Assignment f) o z made
-before_answers a (led_head l d h j) k c m b i s t y u v n = arrow_answers a d h j k c m b i s t y u v n
+before_answers a {f} {o} (led_head l d h j) k c m b i s t y u v n = arrow_answers a o d h j k c m b i s t y u v n
 before_answers {text} a {f} {o} {p} {q} {r} {w} {z} {id} {body} {made} (told_led v none) k c m b t s j y u d n =
     let l : arrow_label a s ≡ flagged_here arrow_function_expression no_op (flag a async_flag) o w = rw (arrow_flags a, u, d) refl in
     let x : MadeHere (flagged_here arrow_function_expression no_op (flag a async_flag) o w) (Some id ∷ Some body ∷ []) w z made = subst (λ (j : Label). MadeHere j (Some id ∷ Some body ∷ []) w z made) l n in

@@ -36,8 +36,8 @@ head_at false {text} {f} {p} {q} {c} {d} a e s h = subst (At text (arrow_head fa
 pub enters_async : {b : Bool} {old new : Context} → b ≡ true → EntersAsyncHead old new → EntersHead b old new
 enters_async {b} {old} {new} e h = subst (λ (v : Bool). EntersHead v old new) (sym e) h
 
-pub enters_plain : {b : Bool} {old : Context} → b ≡ false → EntersHead b old old
-enters_plain {b} {old} e = subst (λ (v : Bool). EntersHead v old old) (sym e) refl
+pub enters_plain : {b : Bool} (old : Context) → b ≡ false → EntersHead b old old
+enters_plain {b} old e = subst (λ (v : Bool). EntersHead v old old) (sym e) refl
 
 plain_in : {text : List ℕ} {p : Parser} (c : Context) → IsPlain text p → IsPlain text (record p { ctx = c })
 plain_in c (whole d n x) = whole d n x
@@ -80,12 +80,9 @@ module _ {text : List ℕ} {f : Flags} {p e q w : Parser} {c d : Context} (a : A
         by y (clean k z) = absurd (longer x.grown (ap length (sym (errors k))))
         by y (unclean k z) = record { at = y.at; same = y.same; further = y.further; grown = k; label = y.label; slots = y.slots; pass = y.pass; walked = y.walked; holds = y.holds; keeps = y.keeps }
 
-    place : e.prev_token_end ≡ p.prev_token_end
-    place = ap (λ (z : Parser). z.prev_token_end) h
-
     read_back : HeadRead text g g e q id → HeadRead text f g p w id
     read_back (read_clean x) = read_clean (head_back x)
-    read_back (read_unclean t n k) = read_unclean (told_back t n) (subst (λ (s : ℕ). NoHead text g s) place n) (subst (λ (s : ℕ). ArrowBehindOne text s) place k)
+    read_back (read_unclean t n k) = read_unclean (told_back t n) (subst (λ (s : ℕ). NoHead text g s) (ap (λ (z : Parser). z.prev_token_end) h) n) (subst (λ (s : ℕ). ArrowBehindOne text s) (ap (λ (z : Parser). z.prev_token_end) h) k)
 
 -- where nothing was read the parser is where it was
 pub unmoved_back : {p e q w : Parser} {c d : Context} → Standing p → ((text : List ℕ) (f : Flags) → At text f p → (g : Flags) × At text g e) → d ≡ p.ctx → e ≡ record p { ctx = c } → w ≡ record q { ctx = d } → Unmoved e q → Unmoved p w
@@ -122,9 +119,9 @@ module _ (b : Bool) {p e : Parser} {c d : Context} (a : Standing p) (i : d ≡ p
   pub head_stands_at : Standing e
   head_stands_at = standing (head_at b a i s h)
 
-  pub tries_back : {q w : Parser} → w ≡ record q { ctx = d } → (found : Option NodeId) → TriesParameters e q found → TriesHead b p w found
-  tries_back {q} {w} j (Some id) x = (ap (λ (z : Parser). z.token.kind) j ∙ x.0, λ text f a. read_back a i h j (x.1 text (arrow_head b f) (head_at b a i s h)))
-  tries_back {q} {w} j None x = (unmoved_back a there i h j x.0, λ text f a. subst (λ (v : ℕ). NoHead text (arrow_head b f) v) (ap (λ (z : Parser). z.prev_token_end) h) (x.1 text (arrow_head b f) (head_at b a i s h)))
+  pub tries_back : (q : Parser) {w : Parser} → w ≡ record q { ctx = d } → (found : Option NodeId) → TriesParameters e q found → TriesHead b p w found
+  tries_back q {w} j (Some id) x = (ap (λ (z : Parser). z.token.kind) j ∙ x.0, λ text f a. read_back a i h j (x.1 text (arrow_head b f) (head_at b a i s h)))
+  tries_back q {w} j None x = (unmoved_back a there i h j x.0, λ text f a. subst (λ (v : ℕ). NoHead text (arrow_head b f) v) (ap (λ (z : Parser). z.prev_token_end) h) (x.1 text (arrow_head b f) (head_at b a i s h)))
 
   -- that none stands here is noted under the parameters of a head
   none_in : NoHeadHere b p → NoParametersHere e
@@ -145,15 +142,15 @@ module _ (b : Bool) {p e : Parser} {c d : Context} (a : Standing p) (i : d ≡ p
 -- ---- a name behind `async`
 
 module _ {p e : Parser} {c d : Context} (a : Standing p) (i : d ≡ p.ctx) (s : EntersHead true d c) (h : e ≡ record p { ctx = c }) where
-  pub name_read : {q w : Parser} → NameHere e true → w ≡ record q { ctx = d } → (found : Option NodeId) → NamesHead e q found → HeadBehindAsync p w found
-  name_read {q} {w} n j (Some id) x = (ap (λ (z : Parser). z.token.kind) j ∙ x.0, λ text f b. name_head (ap (λ (z : Parser). one_of_kinds name_kinds z.token.kind) (sym h) ∙ listed_here e n) (ap (λ (z : Parser). z.token.escaped) (sym h) ∙ n.1) (named_back true a i s h j x text f b) (arrow text f b))
+  pub name_read : (q : Parser) {w : Parser} → NameHere e true → w ≡ record q { ctx = d } → (found : Option NodeId) → NamesHead e q found → HeadBehindAsync p w found
+  name_read q {w} n j (Some id) x = (ap (λ (z : Parser). z.token.kind) j ∙ x.0, λ text f b. name_head (ap (λ (z : Parser). one_of_kinds name_kinds z.token.kind) (sym h) ∙ listed_here e n) (ap (λ (z : Parser). z.token.escaped) (sym h) ∙ n.1) (named_back true a i s h j x text f b) (arrow text f b))
     where
       arrow : (text : List ℕ) (f : Flags) → At text f p → (y : Lexeme) → Lex text p.token.span.end y → y.kind ≡ Arrow
       arrow text f b y l =
           let z = x.2 text (arrow_head true f) (head_at true b i s h) in
           let m : Lex text p.token.span.end z.0 = subst (λ (v : ℕ). Lex text v z.0) (ap (λ (v : Parser). v.token.span.end) h) z.1 in
           ap (λ (v : Lexeme). v.kind) (sym (same_arrow m l z.2)) ∙ z.2
-  name_read {q} {w} n j None x = none_left (unnamed_back true a i s h j x.0 x.1)
+  name_read q {w} n j None x = none_left (unnamed_back true a i s h j x.0 x.1)
     where
       none_left : Unmoved p w × ((text : List ℕ) (f : Flags) → At text f p → NoLine text (arrow_head true f) p.prev_token_end) → HeadBehindAsync p w None
       none_left u = (unmoved_went_on a u.0, u.1)

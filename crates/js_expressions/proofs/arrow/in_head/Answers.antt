@@ -5,4 +5,4 @@ pub returns-then-is_async : goal.returns-then-is_async
 returns-then-is_async c = enters_async c.if-is_async.true c.in_async_head.ensures
 
 pub returns : goal.returns
-returns c = enters_plain c.if-is_async.false
+returns c = enters_plain _ c.if-is_async.false

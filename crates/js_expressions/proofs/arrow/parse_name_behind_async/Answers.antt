@@ -13,4 +13,4 @@ pub parse_name_head-requires-clause-name : goal.parse_name_head-requires-clause-
 parse_name_head-requires-clause-name g c = name_so c.set_context.new.p c.if-not-name_stands.false c.name_stands.ensures
 
 pub returns : goal.returns
-returns g c = name_read c.requires.at c.context-outer.ensures c.in_async_head.ensures c.set_context.ensures (name_so c.set_context.new.p c.if-not-name_stands.false c.name_stands.ensures) c.set_context-3.ensures _ c.in_ok-found.ensures
+returns g c = name_read c.requires.at c.context-outer.ensures c.in_async_head.ensures c.set_context.ensures c.parse_name_head.new.p (name_so c.set_context.new.p c.if-not-name_stands.false c.name_stands.ensures) c.set_context-3.ensures _ c.in_ok-found.ensures

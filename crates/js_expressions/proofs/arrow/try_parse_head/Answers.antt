@@ -10,4 +10,4 @@ pub try_parse_parameters-requires-clause-open : goal.try_parse_parameters-requir
 try_parse_parameters-requires-clause-open g c = ap (λ (z : Parser). z.token.kind) c.set_context.ensures ∙ c.requires.open
 
 pub returns : goal.returns
-returns g c = tries_back c.args.is_async c.requires.at c.context-outer.ensures c.in_head.ensures c.set_context.ensures c.set_context-2.ensures _ c.in_ok-found.ensures
+returns g c = tries_back c.args.is_async c.requires.at c.context-outer.ensures c.in_head.ensures c.set_context.ensures c.try_parse_parameters.new.p c.set_context-2.ensures _ c.in_ok-found.ensures
