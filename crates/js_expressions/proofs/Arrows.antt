@@ -785,14 +785,14 @@ module _ (text : List ℕ) (f : Flags) (o l : Parser) where
   lead_start true d = let g = d.moved.further in let b = d.moved.at.behind in omega arith
   lead_start false d = let e = ap (λ (z : Parser). z.token.span.start) d in omega arith
 
-  lead_pass : (a : Bool) → Leads a text f o l → Lexemes → Lexemes
+  abbrev lead_pass : (a : Bool) → Leads a text f o l → Lexemes → Lexemes
   lead_pass true d ls = next d.moved.lexeme ls
   lead_pass false d ls = ls
 
   -- and what was passed behind it
-  led_walk : (a : Bool) {p : Parser} {pass : Lexemes → Lexemes} (d : Leads a text f o l) → Walked text (spot l) (spot p) pass → Walked text (spot o) (spot p) (λ ls. lead_pass a d (pass ls))
-  led_walk true d w = walked_both (walked_one d.moved) w
-  led_walk false d w = walked_from (ap spot d) w
+  led_walk : (a : Bool) (p : Parser) {pass : Lexemes → Lexemes} (d : Leads a text f o l) → Walked text (spot l) (spot p) pass → Walked text (spot o) (spot p) (λ ls. lead_pass a d (pass ls))
+  led_walk true p d w = walked_both (walked_one d.moved) w
+  led_walk false p d w = walked_from (ap spot d) w
 
 arrow_flags : (a : Bool) → flag a async_flag + flag false generator_flag ≡ flag a async_flag
 arrow_flags true = refl
@@ -882,8 +882,8 @@ module _ {text : List ℕ} (a : Bool) {f : Flags} (o : Parser) {l p q r : Parser
       go {q} (inl (n, c)) m = record {
         at = x.at;
         further = let v = lead_start text f o l a d in let j = h.further in let d = line_place (inl (n, c)) in let e = (line_at h.at (inl (n, c))).behind in let g = m.further in let u = m.at.behind in let i = x.further in omega arith;
-        pass = _;
-        walked = walked_both (led_walk text f o l a d h.walked) (walked_both (walked_from (line_spot (inl (n, c))) (walked_one m)) x.walked);
+        pass = λ ls. lead_pass text f o l a d (h.pass (next m.lexeme (x.pass ls)));
+        walked = walked_both (led_walk text f o l a p d h.walked) (walked_both (walked_from (line_spot (inl (n, c))) (walked_one m)) x.walked);
         verdict = unclean (grown_then nothing_told (behind (grown_first (kept_one c) m.kept) x.verdict)) (late_rule a o d h y k n);
       }
 
