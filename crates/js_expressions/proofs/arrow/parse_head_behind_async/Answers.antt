@@ -1,0 +1,17 @@
+use Rattle.js_base.specs.declared.kind.Kind.TheVariants.{LParen}
+use Rattle.js_operands.proofs.Members.{stands_so}
+use Rattle.js_expressions.proofs.AsyncHeads.{lists_behind, no_list_behind}
+use Rattle.js_expressions.proofs.Lookaheads.{maybe_seen, none_seen}
+use Rattle.js_expressions.proofs.arrow.parse_head_behind_async.Goals as goal
+
+pub parse_name_behind_async-requires-clause-no_list : goal.parse_name_behind_async-requires-clause-no_list
+parse_name_behind_async-requires-clause-no_list g c = stands_so c.args.p.now LParen c.if-not-stands.true c.stands.ensures
+
+pub is_parenthesized_head-requires-clause-open : goal.is_parenthesized_head-requires-clause-open
+is_parenthesized_head-requires-clause-open g c = (stands_so c.args.p.now LParen c.if-not-stands.false c.stands.ensures).0
+
+pub returns-in-NoHead : goal.returns-in-NoHead
+returns-in-NoHead g c = no_list_behind c.requires.at (stands_so c.args.p.now LParen c.if-not-stands.false c.stands.ensures).0 (none_seen c.args.p.now c.is_parenthesized_head.new.p c.in_ok-is_parenthesized_head.field-0 c.in-NoHead.is c.in_ok-is_parenthesized_head.ensures)
+
+pub returns : goal.returns
+returns g c = lists_behind c.args.p.now c.is_parenthesized_head.new.p c.attempt_head.new.p _ (maybe_seen c.args.p.now c.is_parenthesized_head.new.p c.in_ok-is_parenthesized_head.field-0 c.in_default.not-NoHead c.in_ok-is_parenthesized_head.ensures) c.requires.at (stands_so c.args.p.now LParen c.if-not-stands.false c.stands.ensures).0 c.attempt_head.ensures
