@@ -77,7 +77,7 @@ use Rattle.js_targets.proofs.Refused.{refused}
 use Rattle.js_expressions.specs.HeadOperands.{HeadOperand, OperandOutcome, no_target, operand}
 use Rattle.js_cursor.specs.declared.stop.Stop.TheVariants.{Fatal, NoMemory}
 use Rattle.js_statements.proofs.ForHeads.{no_empty, on_semicolon}
-use Rattle.js_statements.proofs.LetLookaheads.{Leads, at_once, is_let, leads_to, no_let, not_followed, stands_let, ◌⇒◌, ◌⇒✗◌}
+use Rattle.js_statements.proofs.WordLookaheads.{Leads, at_once, is_let, leads_to, no_let, not_followed, stands_let, ◌⇒◌, ◌⇒✗◌}
 
 -- ---- whatever is read before a lexeme that doesn't stand there
 

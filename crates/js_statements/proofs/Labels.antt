@@ -11,7 +11,7 @@ use Rattle.js_grammar.specs.Words.{'let'}
 use Rattle.js_grammar.specs.Trees.{Span as TreeSpan, Label, Slots, end, tree, no_op, labeled_statement, label_identifier}
 use Rattle.js_grammar.specs.Grammar.{Lexeme, Lexemes, Look, last, next, here, seen, is, exact, lexeme, seq, such, nothing, label_of, Takes, is_seq, is_lexeme, is_such, ◌▸◌}
 use Rattle.js_grammar.specs.Parsing.{Test, plain, full, always, still, passing, Admits, Goes, Reads, Fails}
-use Rattle.js_grammar.specs.Productions.{G, Flags, Symbol, at, tok, word_or, Expression, Labeled, LabelIdentifier, ListItem, Sub, function_on_line}
+use Rattle.js_grammar.specs.Productions.{G, Flags, Symbol, at, function_on_line, tok, word_or, Expression, Labeled, LabelIdentifier, ListItem, Sub}
 use Rattle.js_grammar.specs.Productions.{Statement as AStatement}
 use Rattle.js_grammar.specs.Productions.{sym as symbol}
 use Rattle.js_grammar.specs.Table.{rule, rule_of}
