@@ -163,7 +163,7 @@ behind_looks {text} {f} {X} {s} false n = record { no = λ ts vs k ls rest l d e
   where
     go : {ts vs : Slots} {k : ℕ} {ls rest : Lexemes} → Lexes (Lex text) s ls → Takes rule (if_next (other (is kind.Let)) ▸ not_then (is kind.Async) (is kind.Of) ▸ symbol Target f) end ts s ls vs k rest → Admits X ts (here rest) → ⊥
     go l (is_seq (is_look q) (is_seq (is_left (is_look r)) d)) e = n.no _ _ _ _ _ l d e
-    go l (is_seq (is_look q) (is_seq (is_right (is_ahead r)) d)) e = n.no _ _ _ _ _ l d e
+    go l (is_seq (is_look q) (is_seq (is_right (is_ahead (is_seq (is_lexeme r) (is_look o)))) d)) e = n.no _ _ _ _ _ l d e
 
 of_word : IsWord kind.Of
 of_word = record { settled = refl; plain = refl; goes_on = refl }
@@ -172,8 +172,8 @@ module _ {text : List ℕ} {f : Flags} (is_await : Bool) {p : Parser} (a : At te
   name_here : LetIsName text true p.prev_token_end
   name_here = n.2 text f a
 
-  no_word : {X : Test} {g : G} (w : Kind) → (is_right_angle w || one_of_kinds other_goals w) ≡ false → StandsHere p w false → Fails rule (Lex text) X end (op variable_declaration w (tok w ▸ g)) p.prev_token_end
-  no_word w r s = fails_node inside_full (no_token a w r s)
+  no_declared : {X : Test} {g : G} (w : Kind) → (is_right_angle w || one_of_kinds other_goals w) ≡ false → StandsHere p w false → Fails rule (Lex text) X end (op variable_declaration w (tok w ▸ g)) p.prev_token_end
+  no_declared w r s = fails_node inside_full (no_token a w r s)
 
   no_let_word : {X : Test} (g : G) → covers (starts first g full) (λ k w e. behind_let true k) ≡ true → Fails rule (Lex text) X end (op variable_declaration kind.Let (tok kind.Let ▸ g)) p.prev_token_end
   no_let_word g b = record { no = λ ts vs k ls rest l d e. go l d }
@@ -184,10 +184,10 @@ module _ {text : List ℕ} {f : Flags} (is_await : Bool) {p : Parser} (a : At te
           none.no us end _ more _ l.1 d (refl, refl)
 
   no_declarators : {X : Test} → Fails rule (Lex text) X end (branches words_of_declarations (λ w. op variable_declaration w (declarators w (minus_in f)))) p.prev_token_end
-  no_declarators = fails_alt (no_word kind.Var refl n.0) (fails_alt (no_let_word (commas false (declarator false (minus_in f))) (begins_list (minus_in f))) (no_word kind.Const refl n.1))
+  no_declarators = fails_alt (no_declared kind.Var refl n.0) (fails_alt (no_let_word (commas false (declarator false (minus_in f))) (begins_list (minus_in f))) (no_declared kind.Const refl n.1))
 
   no_binding : {X : Test} → Fails rule (Lex text) X end (for_binding f) p.prev_token_end
-  no_binding = fails_alt (no_word kind.Var refl n.0) (fails_alt (no_let_word (mk variable_declarator (symbol Binding f ▸ empty_slot)) (begins_bound f)) (no_word kind.Const refl n.1))
+  no_binding = fails_alt (no_declared kind.Var refl n.0) (fails_alt (no_let_word (mk variable_declarator (symbol Binding f ▸ empty_slot)) (begins_bound f)) (no_declared kind.Const refl n.1))
 
   -- no lexeme behind `let` makes it a declaration
   let_passes : {X : Test} {g : G} → Leads text X (not_then (is kind.Let) (word_or (kind.LBrack ∷ kind.LCurly ∷ [])) ▸ g) p.prev_token_end g
@@ -200,7 +200,7 @@ module _ {text : List ℕ} {f : Flags} (is_await : Bool) {p : Parser} (a : At te
 
   -- before `in` a target
   in_leads : {X : Test} → Leads text X (first_part is_await ending.In f) p.prev_token_end (symbol Target f)
-  in_leads = at_once (left (fails_alt no_binding (no_word kind.Var refl n.0))) ⇒ let_passes
+  in_leads = at_once (left (fails_alt no_binding (no_declared kind.Var refl n.0))) ⇒ let_passes
 
   not_let : StandsHere p kind.Let false → (y : Lexeme) → Lex text p.prev_token_end y → IsTrue (seen (other (is kind.Let)) y)
   not_let s y l = by (seen (is kind.Let) y) refl
@@ -569,9 +569,9 @@ pub let_checked : {b : Bool} {s : Span} {p q : Parser} → ChecksLet b s p q →
 let_checked (inl (e, o, u)) a = u.at
 let_checked (inr (n, e)) a = subst (λ (z : Parser). IsAt z) (sym e) a
 
-pub marked_behind : {b : Bool} {s : Span} {p q : Parser} {t : Token} {d : Diagnostic} → ChecksLet b s p q → (IsAsyncAlone t p → Mark (goal p) p.text d) → IsAsyncAlone t q → Mark (goal q) q.text d
-marked_behind {t = t} {d = d} (inl (e, o, u)) m = subst (λ (z : Parser). IsAsyncAlone t z → Mark (goal z) z.text d) (sym u.is) m
-marked_behind {t = t} {d = d} (inr (n, e)) m = subst (λ (z : Parser). IsAsyncAlone t z → Mark (goal z) z.text d) (sym e) m
+pub marked_behind : (t : Token) (d : Diagnostic) {b : Bool} {s : Span} {p q : Parser} → ChecksLet b s p q → (IsAsyncAlone t p → Mark (goal p) p.text d) → IsAsyncAlone t q → Mark (goal q) q.text d
+marked_behind t d (inl (e, o, u)) m = subst (λ (z : Parser). IsAsyncAlone t z → Mark (goal z) z.text d) (sym u.is) m
+marked_behind t d (inr (n, e)) m = subst (λ (z : Parser). IsAsyncAlone t z → Mark (goal z) z.text d) (sym e) m
 
 pub through_uncut : {text : List ℕ} {f : Flags} {q : Parser} → At text f q → ThroughHere q true → q.cut ≡ false
 through_uncut a (inl h) = uncut a (ap (same_kind kind.RAngle) h.0)
@@ -588,8 +588,8 @@ found_head p q r k e h = subst (λ (v : Option DeclarationKind). FindsHead p q v
 pub none_in_head : (p q : Parser) (r : Option DeclarationKind) → r ≡ None → FindsHead p q r → (q ≡ p) × NoneBegins p
 none_in_head p q r e h = subst (λ (v : Option DeclarationKind). FindsHead p q v) e h
 
-pub part_from : {is_await : Bool} (p q w : Parser) (r : Result NodeId Stop) → q ≡ p → TakesPartWithoutIn is_await q w r → TakesPartWithoutIn is_await p w r
-part_from {is_await} p q w r e h = subst (λ (v : Parser). TakesPartWithoutIn is_await v w r) e h
+pub part_from : (is_await : Bool) (p q w : Parser) (r : Result NodeId Stop) → q ≡ p → TakesPartWithoutIn is_await q w r → TakesPartWithoutIn is_await p w r
+part_from is_await p q w r e h = subst (λ (v : Parser). TakesPartWithoutIn is_await v w r) e h
 
 pub cover_is : (q : Parser) (id : NodeId) (r s : Option NodeId) → r ≡ s → OfTree q id (λ lo hi l cs. IsTarget q.nodes lo hi l cs r) → OfTree q id (λ lo hi l cs. IsTarget q.nodes lo hi l cs s)
 cover_is q id r s e h = subst (λ (v : Option NodeId). OfTree q id (λ lo hi l cs. IsTarget q.nodes lo hi l cs v)) e h

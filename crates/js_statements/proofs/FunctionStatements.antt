@@ -67,10 +67,10 @@ module _ {text : List ℕ} {f : Flags} {p : Parser} (a : At text f p) (h : Stand
 
   -- no colon stands there, so it is no label
   no_label_there : (X : Test) → Fails rule (Lex text) X end (symbol Labeled f) p.prev_token_end
+  unfolding apart
   no_label_there X = labels_fail (λ y z rest l i t c. apart_there z (on_line z (subst (λ (v : ℕ). Lex text v z) (ends_at a async_word h y l) i.0)) c)
     where
       apart_there : (z : Lexeme) → IsTrue (seen function_on_line z) → IsTrue (seen (is kind.Colon) z) → ⊥
-      unfolding apart
       apart_there z w c = not_both function_on_line (is kind.Colon) refl z.kind z.newline z.escaped w c
 
   no_statement_there : {X : Test} → Fails rule (Lex text) X end (symbol AStatement f) p.prev_token_end

@@ -112,10 +112,9 @@ fn check_async<C: ParserConfig>(
     if !is_async_alone(p, first) {
         return Ok(());
     }
-    if !stands(p, Kind::Of) {
-        return Ok(());
+    if stands(p, Kind::Of) {
+        p.error(diagnostic_at(DiagnosticKind::ForLoopAsyncOf, first.span()))?;
     }
-    p.error(diagnostic_at(DiagnosticKind::ForLoopAsyncOf, first.span()))?;
     Ok(())
 }
 
