@@ -67,7 +67,7 @@ check_async-requires-clause-at g c =
 pub check_async-requires-clause-mark : goal.check_async-requires-clause-mark
 check_async-requires-clause-mark g c =
     let t = c.in_ok-target.ensures _ _ _ c.requires.at c.requires.no_in c.cur_start-start.ensures c.kept_so_far-kept.ensures (c.in_ok-expression.ensures.answers _ _ c.requires.at) (c.in_ok-expression.ensures.operand _ _ c.requires.at c.requires.no_in) in
-    marked_behind _ _ c.in_ok-check_let.ensures (λ i. async_marked c.requires.at t _ c.cur_token-first.ensures i)
+    marked_behind c.cur_token-first.result _ c.in_ok-check_let.ensures (λ i. async_marked c.requires.at t _ c.cur_token-first.ensures i)
 
 pub returns : goal.returns
 returns g c = λ text f a.
