@@ -10,8 +10,11 @@ use Rattle.js_parsing.proofs.Nesting.{nests_later}
 use Rattle.js_operands.specs.Functions.{NoFunctionHere}
 use Rattle.js_operands.proofs.AsyncWords.{begun_at, found_so}
 use Rattle.js_statements.specs.LetStatements.{NoLet}
-use Rattle.js_statements.proofs.LetStatements.{none_found, taken_from}
+use Rattle.js_statements.proofs.LetStatements.{found_lexical, none_found, taken_from}
 use Rattle.js_statements.proofs.statement.parse_statement.Goals as goal
+
+pub returns-in-Some : goal.returns-in-Some
+returns-in-Some g c = taken_from (at Sub) c.args.p.now c.lexical_kind.new.p _ _ (found_lexical false c.args.p.now c.lexical_kind.new.p _ _ c.in-Some.is c.in_ok-kind.ensures).0 c.parse_lexical_body.ensures.taken
 
 pub function_stands-requires : goal.function_stands-requires
 function_stands-requires g c = let z = none_found false c.args.p.now c.lexical_kind.new.p _ c.in_default.is c.in_ok-kind.ensures in subst (λ (v : Parser). Standing v) (sym z.0) c.requires.at
