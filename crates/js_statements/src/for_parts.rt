@@ -103,13 +103,18 @@ fn check_async<C: ParserConfig>(
     is_await: bool,
 ) -> Result<(), NoMemory>
     requires at { IsAt p.old }
-    requires mark { Mark (goal p.old) p.old.text (unrelated_at ForLoopAsyncOf first.span) }
+    requires mark { IsAsyncAlone first p.old → Mark (goal p.old) p.old.text (unrelated_at ForLoopAsyncOf first.span) }
     ensures { IfOk result (λ _. ChecksAsync is_await first p.old p.new) }
 {
-    if is_await || !is_async_alone(p, first) || !stands(p, Kind::Of) {
+    if is_await {
         return Ok(());
     }
-    p.error(diagnostic_at(DiagnosticKind::ForLoopAsyncOf, first.span()))?;
+    if !is_async_alone(p, first) {
+        return Ok(());
+    }
+    if stands(p, Kind::Of) {
+        p.error(diagnostic_at(DiagnosticKind::ForLoopAsyncOf, first.span()))?;
+    }
     Ok(())
 }
 

@@ -91,7 +91,7 @@ fn pass_await<C: ParserConfig>(p: &mut ParserImpl<'_, C>) -> Result<bool, Stop>
     if !stands(p, Kind::Await) {
         return Ok(false);
     }
-    if !context(p).has_await() {
+    if !context(p).reads_await() {
         return Ok(false);
     }
     advance(p)?;

@@ -132,6 +132,7 @@ fn parse_expression_or_labeled_statement<C: ParserConfig, N: Nested<C>>(
     requires nests { CanNest (N.can nested.now) (room p.old) }
     requires allows_in { has_flag in_flag p.old.ctx ≡ true }
     requires other { one_of_kinds statement_kinds p.old.token.kind ≡ false }
+    requires no_function { NoFunctionHere p.old }
     ensures { TakesUndeclared p.old p.new result }
 {
     let start = p.cur_start();
