@@ -4,6 +4,8 @@ use Rattle.std.specs.Prelude.{Ok}
 use Rattle.std.proofs.lemmas.Bool.{false≢true, and_from, and_parts, or_left}
 use Rattle.js_base.specs.Kinds.{same_kind, one_of_kinds}
 use Rattle.js_base.specs.KindSets.{identifier_name_kinds}
+use Rattle.js_base.specs.Diagnostics.{class_of}
+use Rattle.js_base.specs.declared.diagnostic.Diagnostic.{Diagnostic}
 use Rattle.js_base.specs.declared.kind.Kind.{Kind}
 use Rattle.js_base.specs.declared.kind.Kind.TheVariants.{Dot, New, RAngle, Target}
 use Rattle.js_base.specs.declared.span.Span.{Span}
@@ -34,12 +36,13 @@ use Rattle.js_cursor.specs.Moves.{GivesUp, is_last}
 use Rattle.js_cursor.specs.Parsers.{Parser}
 use Rattle.js_cursor.specs.Places.{goal}
 use Rattle.js_cursor.specs.declared.stop.Stop.{Stop}
+use Rattle.js_cursor.specs.declared.stop.Stop.TheVariants.{Fatal, NoMemory}
 use Rattle.js_operands.specs.Members.{MemberSoFar, NoBareNew, NoMember}
 use Rattle.js_operands.specs.NewTargets.{BehindDot, BehindNew, ChecksTarget, TargetOutcome, no_target_at, outside_at, target_slots}
 use Rattle.js_operands.proofs.Links.{member_target, new_target, no_member_new, with_arguments}
 use Rattle.js_operands.proofs.Members.{bare_fails, called_member, new_skips, no_primary}
 use Rattle.js_parsing.specs.Answers.{Stops, Underived, Verdict, unclean}
-use Rattle.js_parsing.specs.Classes.{EndsParse}
+use Rattle.js_parsing.specs.Classes.{EndsParse, ends_parse}
 use Rattle.js_parsing.specs.Lexemes.{Lex, spot}
 use Rattle.js_parsing.specs.Moves.{MadeHere, Moved, plain_label}
 use Rattle.js_parsing.specs.Stands.{StandsHere}
@@ -174,6 +177,14 @@ module _ {text : List ℕ} {f : Flags} {q : Parser} {start : ℕ} (b : BehindDot
       (refl, refl),
     );
   }
+
+-- and it ends the parse
+pub other_ends : (s : Span) (d : Diagnostic) → d ≡ no_target_at s → EndsParse d
+other_ends s d e = ap (λ (v : Diagnostic). ends_parse (class_of v.kind)) e
+
+pub ends_so : (P : Diagnostic → Type 0) (p q : Parser) (e : Stop) → ((d : Diagnostic) → P d → EndsParse d) → GivesUp P p q e → GivesUp EndsParse p q e
+ends_so P p q Fatal h (d, i, k) = (d, h d i, k)
+ends_so P p q NoMemory h g = g
 
 -- ---- what is derived
 

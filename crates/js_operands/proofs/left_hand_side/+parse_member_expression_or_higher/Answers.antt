@@ -5,12 +5,49 @@ use Rattle.js_cursor.specs.Parsers.{Parser}
 use Rattle.js_parsing.specs.Nesting.{room}
 use Rattle.js_parsing.proofs.Giving.{gives_up}
 use Rattle.js_operands.proofs.Members.{at_callee, begun_at, callee_room, entered_stops, member_init, new_arguments_stop, new_same, new_grown, new_refused, new_taken, new_with_arguments, no_head, stands_so, start_before, taken_room}
+use Rattle.js_operands.proofs.NewTargets.{behind_new}
 use Rattle.js_parsing.proofs.Moving.{deeper, left_at, standing, stops_behind, stops_so}
 use Rattle.js_parsing.proofs.Nesting.{nested_room, nests_later, later_room}
 use Rattle.js_operands.proofs.left_hand_side.+parse_member_expression_or_higher.Goals as goal
 use Rattle.js_parsing.specs.Classes.{ends_parse}
 use Rattle.js_base.specs.Diagnostics.{class_of}
 use Rattle.js_base.specs.declared.diagnostic.DiagnosticKind.{DiagnosticKind}
+
+pub parse_new_target-requires-clause-at : goal.parse_new_target-requires-clause-at
+parse_new_target-requires-clause-at g t c = standing (c.in_ok-advance.ensures _ _ c.requires.at).at
+
+pub parse_new_target-requires-clause-behind : goal.parse_new_target-requires-clause-behind
+parse_new_target-requires-clause-behind g t c = behind_new c.requires.at (stands_so c.args.p.now New c.if-stands.true c.stands.ensures) c.cur_start-start.ensures (c.in_ok-advance.ensures _ _ c.requires.at)
+
+pub parse_new_target-requires-clause-dot : goal.parse_new_target-requires-clause-dot
+parse_new_target-requires-clause-dot g t c = stands_so c.advance.new.p Dot c.if-stands-2.true c.stands-then-stands.ensures
+
+pub returns-in_err-target : goal.returns-in_err-target
+returns-in_err-target g t c = λ text f a.
+    let p = err_from_is_err_and c.from_residual-in_err-target.result c.from_residual-in_err-target.ensures.1 in
+    let s = stands_so c.args.p.now New c.if-stands.true c.stands.ensures in
+    rw (p.1, p.2) (c.in_err-target.ensures text f c.args.p.now a s c.cur_start-start.ensures (c.in_ok-advance.ensures text f a))
+
+pub parse_member_expression_rest-requires-clause-at : goal.parse_member_expression_rest-requires-clause-at
+parse_member_expression_rest-requires-clause-at g t c =
+    let s = stands_so c.args.p.now New c.if-stands.true c.stands.ensures in
+    standing (c.in_ok-target.ensures _ _ c.args.p.now c.requires.at s c.cur_start-start.ensures (c.in_ok-advance.ensures _ _ c.requires.at)).at
+
+pub parse_member_expression_rest-requires-clause-nests : goal.parse_member_expression_rest-requires-clause-nests
+parse_member_expression_rest-requires-clause-nests g t c =
+    let s = stands_so c.args.p.now New c.if-stands.true c.stands.ensures in
+    nests_later c.requires.nests (taken_room c.requires.at (c.in_ok-target.ensures _ _ c.args.p.now c.requires.at s c.cur_start-start.ensures (c.in_ok-advance.ensures _ _ c.requires.at)))
+
+pub parse_member_expression_rest-requires-clause-start : goal.parse_member_expression_rest-requires-clause-start
+parse_member_expression_rest-requires-clause-start g t c =
+    let s = stands_so c.args.p.now New c.if-stands.true c.stands.ensures in
+    let i = (c.in_ok-target.ensures _ _ c.args.p.now c.requires.at s c.cur_start-start.ensures (c.in_ok-advance.ensures _ _ c.requires.at)).further in
+    let e = c.cur_start-start.ensures in omega arith
+
+pub returns-then-stands-2 : goal.returns-then-stands-2
+returns-then-stands-2 g t c = λ text f a.
+    let s = stands_so c.args.p.now New c.if-stands.true c.stands.ensures in
+    c.parse_member_expression_rest.ensures text f c.args.p.now c.cur_start-start.ensures (c.in_ok-target.ensures text f c.args.p.now a s c.cur_start-start.ensures (c.in_ok-advance.ensures text f a))
 
 pub enter-requires : goal.enter-requires
 enter-requires g t c = (c.in_ok-advance.ensures _ _ c.requires.at).at.at
