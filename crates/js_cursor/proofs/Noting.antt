@@ -9,7 +9,7 @@ use Rattle.js_base.specs.declared.context.Context.{Context}
 use Rattle.js_cursor.specs.Notes.{NotesPlace, is_noted, noted_number}
 use Rattle.js_cursor.proofs.Recording.{apart}
 
-of_bits : ℕ → Context
+abbrev of_bits : ℕ → Context
 of_bits n = record { 0 = n }
 
 same_context : (c d : Context) → bits_of c ≡ bits_of d → c ≡ d
