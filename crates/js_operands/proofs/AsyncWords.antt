@@ -4,7 +4,7 @@ use Rattle.std.specs.Prelude.{Result, Ok, Err, MatchResult}
 use Rattle.std.proofs.lemmas.Bool.{false≢true, and_parts}
 use Rattle.js_base.specs.declared.diagnostic.Diagnostic.{Diagnostic}
 use Rattle.js_base.specs.declared.kind.Kind.{Kind}
-use Rattle.js_base.specs.declared.kind.Kind.TheVariants.{Async, Function, PrivateIdentifier, RAngle, RegExp, Undetermined}
+use Rattle.js_base.specs.declared.kind.Kind.TheVariants.{Async, Function, RAngle, Undetermined}
 use Rattle.js_base.specs.declared.token.Token.{Token}
 use Rattle.js_base.specs.Kinds.{same_kind, one_of_kinds}
 use Rattle.js_base.specs.Texts.{words}
@@ -28,14 +28,14 @@ use Rattle.js_cursor.specs.declared.stop.Stop.{Stop}
 use Rattle.js_cursor.specs.Parsers.{Parser}
 use Rattle.js_tree.specs.declared.id.NodeId.{NodeId}
 use Rattle.js_parsing.specs.Arguments.{Partway}
-use Rattle.js_parsing.specs.Lexemes.{Lex, name_kinds, slashes}
+use Rattle.js_parsing.specs.Lexemes.{Lex, name_kinds, other_goals, signs}
 use Rattle.js_parsing.specs.Moves.{Moved}
 use Rattle.js_parsing.specs.Stands.{StandsHere}
 use Rattle.js_parsing.specs.States.{At}
 use Rattle.js_operands.specs.Functions.{BeginsFunction, FunctionBehind, FunctionHere, FunctionNext, function_line}
 use Rattle.js_operands.specs.declared.function.FunctionForm.TheVariants.{Expression}
 use Rattle.js_parsing.proofs.Ahead.{pass_over}
-use Rattle.js_parsing.proofs.Here.{angled, newline_here, one_plain, plain_there, plainly, told, told_plain, uncut}
+use Rattle.js_parsing.proofs.Here.{angled, newline_here, one_plain, plain_there, plainly, signs_are, told, told_plain, uncut}
 use Rattle.js_parsing.proofs.NameKinds.{name_apart}
 use Rattle.js_parsing.proofs.Parts.{part_path_fails, part_sign}
 use Rattle.js_parsing.proofs.Paths.{fails_at, read_of}
@@ -60,9 +60,9 @@ module _ {text : List ℕ} {f : Flags} {p : Parser} {t : Token} (a : At text f p
   -- `function` is told where it stands
   pub function_peeked : (y : Lexeme) → Lex text p.token.span.end y → y.kind ≡ Function → Tells y t
   function_peeked y l k = given_behind
-      (λ d u n. absurd (n.none y (record { lex = l.0; of_goal = plainly l.0 l.1 (ap (same_kind RegExp) k) })))
+      (λ d u n. absurd (n.none y (record { lex = l.0; of_goal = plainly l.0 l.1 (ap (one_of_kinds other_goals) k) })))
       (λ x.
-        let e : y ≡ x.lexeme = one_plain l (ap (same_kind RegExp) k) x in
+        let e : y ≡ x.lexeme = one_plain l (ap (one_of_kinds other_goals) k) x in
         let i : is_right_angle x.lexeme.kind ≡ false = ap is_right_angle (ap (λ (z : Lexeme). z.kind) (sym e) ∙ k) in
         subst (λ (z : Lexeme). Tells z t) (cut_same x.lexeme i ∙ sym e) x.tells)
 
@@ -103,7 +103,7 @@ module _ {text : List ℕ} {f : Flags} {q : Parser} (b : At text f q) where
     where
       go : (c : Bool) → q.cut ≡ c → Tells y q.token
       go true e = absurd (false≢true (sym (ap is_right_angle k) ∙ angled b e y l))
-      go false e = told_plain b e y (ap (same_kind RegExp) k) l
+      go false e = told_plain b e y (ap (one_of_kinds other_goals) k) l
 
 -- ---- parts
 
@@ -129,12 +129,12 @@ part_within x = record {
 
 -- where `function` stands, nothing else does
 one_function : {text : List ℕ} {s : ℕ} {y z : Lexeme} → Lex text s y → y.kind ≡ Function → Lex text s z → z ≡ y
-one_function l k j =
+one_function {z = z} l k j =
     let w = plain_there j in
-    let e = lex-same w.stands.lex l.0 (w.stands.of_goal ∙ sym (plainly l.0 l.1 (ap (same_kind RegExp) k))) in
+    let e = lex-same w.stands.lex l.0 (w.stands.of_goal ∙ sym (plainly l.0 l.1 (ap (one_of_kinds other_goals) k))) in
     elim w.which [
       | inl i ↦ sym i ∙ e
-      | inr i ↦ absurd (false≢true (sym (ap (λ (y : Lexeme). one_of_kinds slashes y.kind) e ∙ ap (one_of_kinds slashes) k) ∙ i.1))
+      | inr i ↦ absurd (false≢true (sym (ap (λ (y : Lexeme). one_of_kinds signs y.kind) e ∙ ap (one_of_kinds signs) k) ∙ signs_are z.kind w.lexeme.kind i.1))
     ]
 
 module _ {text : List ℕ} {f : Flags} {p : Parser} (a : At text f p) where
@@ -146,7 +146,7 @@ module _ {text : List ℕ} {f : Flags} {p : Parser} (a : At text f p) where
       there : (y z : Lexeme) → Lex text p.prev_token_end y → Lex text y.to z → IsTrue (seen (widest Primary) z) → ⊥
       there y z l m e =
           let w = n text f a in
-          let t = told a (uncut a (ap (same_kind RAngle) k.0)) (ap (one_of_kinds slashes) k.0) y l in
+          let t = told a (uncut a (ap (same_kind RAngle) k.0)) (ap (one_of_kinds signs) k.0) y l in
           let i : z ≡ w.0 = one_function w.1 w.2 (subst (λ (u : ℕ). Lex text u z) (sym t.end) m) in
           false≢true (sym (ap (λ (v : Lexeme). seen (widest Primary) v) i ∙ rw (w.2, w.3, read_plain w.0 w.1.1) refl) ∙ e)
 

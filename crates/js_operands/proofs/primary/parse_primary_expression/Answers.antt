@@ -19,7 +19,7 @@ pub parse_name_or_function-requires-clause-name : goal.parse_name_or_function-re
 parse_name_or_function-requires-clause-name t c = name_so c.args.p.now c.if-name_stands.true c.name_stands.ensures
 
 pub returns-in-This : goal.returns-in-This
-returns-in-This t c = λ text f a. leaf_outcome text f _ _ node.ThisExpression op.None This c.parse_leaf-in-This.result refl this_path a (sym c.cur_kind-2.ensures ∙ c.in-This.is) (let e : c.args.p.now.token.escaped ≡ false = search in e) c.parse_leaf-in-This.ensures
+returns-in-This t c = λ text f a. leaf_outcome text f _ _ node.ThisExpression op.None This c.parse_leaf.result refl this_path a (sym c.cur_kind-2.ensures ∙ c.in-This.is) (let e : c.args.p.now.token.escaped ≡ false = search in e) c.parse_leaf.ensures
 
 pub returns-in-Null : goal.returns-in-Null
 returns-in-Null t c = λ text f a. leaf_outcome text f _ _ node.NullLiteral op.None Null c.parse_leaf-in-Null.result refl null_path a (sym c.cur_kind-2.ensures ∙ c.in-Null.is) (let e : c.args.p.now.token.escaped ≡ false = search in e) c.parse_leaf-in-Null.ensures
