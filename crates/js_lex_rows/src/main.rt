@@ -1,45 +1,30 @@
 //! Reads rows of texts for the lexer, and says of each whether what is given and kept is what the row says.
 //!
-//! A row has four fields with ` ¦ ` between them: the goal and the config, what is asked for, the text, and what has to
-//! come. In the text `‹a0›` stands for the character of that number. Lines that begin with `--` are no rows.
+//! A row (see the crate `rows`) tells the goal and the config by which its text is read, and the words of what is asked for.
 #![tactic(auto)]
 
 mod asked;
 mod row;
 mod written;
 
-use crate::row::{Row, answer_of};
-use std::alloc::AllocError;
+use crate::row::answer_of;
+use js_base::NoMemory;
+use rows::{Answers, Row};
+use std::alloc::{AllocError, Global};
 use std::io;
 
-/// Whether a line is a row.
-fn is_row(line: &str) -> bool {
-    !(line.is_empty() || line.starts_with("--"))
+/// Lexers.
+struct Lexers;
+
+impl Answers for Lexers {
+    fn answer(&self, alloc: Global, row: &Row<'_>, text: &str) -> Result<String, AllocError> {
+        match answer_of(alloc, row, text) {
+            Ok(answer) => Ok(answer),
+            Err(NoMemory) => Err(AllocError),
+        }
+    }
 }
 
 fn main(rt: HostRuntime) -> io::Result<()> {
-    let mut right = 0u64;
-    let mut wrong = 0u64;
-    for line in rt.lines(rt.alloc()) {
-        let line = line?;
-        if !is_row(line.as_str()) {
-            continue;
-        }
-        let Some(row) = Row::read(line.as_str()) else {
-            println!(rt; "no row: {line}")?;
-            wrong = wrong.saturating_add(1);
-            continue;
-        };
-        let Ok(answer) = answer_of(rt.alloc(), &row) else {
-            return Err(AllocError.into());
-        };
-        if answer.as_str() == row.want {
-            right = right.saturating_add(1);
-        } else {
-            println!(rt; "{line}\n    gave: {answer}")?;
-            wrong = wrong.saturating_add(1);
-        }
-    }
-    println!(rt; "{right} rows hold, {wrong} do not")?;
-    Ok(())
+    rows::run(rt, &Lexers)
 }

@@ -2,7 +2,7 @@ pub mod RecordLemmas
 pub mod FirstLemmas
 pub mod ExportLemmas
 pub mod DistinctLemmas
-pub mod CheckedLemmas
+pub mod MadeLemmas
 pub mod PartLemmas
 pub mod LineLemmas
 pub mod KindLemmas

@@ -6,4 +6,3 @@ pub mod Exports
 pub mod Distinct
 pub mod NodeKinds
 pub mod Shown
-pub mod Checked

@@ -1,0 +1,2 @@
+mod CheckedLemmas
+mod LexemeLemmas
