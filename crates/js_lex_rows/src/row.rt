@@ -48,11 +48,7 @@ pub(crate) fn answer_of(alloc: Global, row: &Row<'_>, text: &str) -> Result<Stri
 }
 
 /// What comes of a row that is read with a parser's config.
-fn answer_for_a_parser(
-    alloc: Global,
-    read: Reading<'_>,
-    config: &str,
-) -> Result<String, NoMemory> {
+fn answer_for_a_parser(alloc: Global, read: Reading<'_>, config: &str) -> Result<String, NoMemory> {
     match config {
         "parser, tokens" => parse_row(alloc, read, TokensParserConfig),
         "parser, no tokens" => parse_row(alloc, read, NoTokensParserConfig),

@@ -1,5 +1,5 @@
 -- What is known of a text that is one lexeme.
-use Rattle.std.proofs.Common.{◌≡◌, ℕ, List, Some, length, true, ap, ◌∙◌, subst, take_all, le_refl}
+use Rattle.std.proofs.Common.{◌≡◌, ℕ, ◌-◌, List, Some, length, true, ap, ◌∙◌, subst, arith, take_all}
 use Rattle.std.specs.Prelude.{IsSome, chars, slice_range}
 use Rattle.js_base.specs.Decoding.{name_text}
 use Rattle.js_base.specs.Kinds.{one_of_kinds}
@@ -15,7 +15,7 @@ use Rattle.js_lex.proofs.NamesGiven.{name_given}
 
 -- the slice of the whole text
 all_of : (seen text : List ℕ) (a b : ℕ) → seen ≡ text → a ≡ 0 → b ≡ length text → slice_range seen a b ≡ text
-all_of seen text a b e f g = ap (λ (v : List ℕ). slice_range v a b) e ∙ ap (λ (n : ℕ). slice_range text n b) f ∙ ap (λ (n : ℕ). slice_range text 0 n) g ∙ take_all (length text) text (le_refl (length text))
+all_of seen text a b e f g = ap (λ (v : List ℕ). slice_range v a b) e ∙ ap (λ (n : ℕ). slice_range text n b) f ∙ ap (λ (n : ℕ). slice_range text 0 n) g ∙ take_all (length text - 0) text (omega arith)
 
 -- a token that was given, and goes from the text's start to its end
 module _ (old new : State) (t : Token) (text : List ℕ) (e : old.text ≡ text) (start : t.span.start ≡ 0) (end : t.span.end ≡ length text) (g : GivesNext division old new t) where

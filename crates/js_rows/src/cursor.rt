@@ -257,7 +257,12 @@ fn make(p: &mut Parser<'_>, asked: &str, told: &mut String) -> Result<(), Stop>
 fn push_place(out: &mut String, p: &Parser<'_>) -> Result<(), AllocError> {
     let token = p.cur_token();
     let (kind, end) = (token.kind().name(), p.prev_token_end());
-    write!(out, "{kind} {}..{} behind {end}", token.start(), token.end())
+    write!(
+        out,
+        "{kind} {}..{} behind {end}",
+        token.start(),
+        token.end()
+    )
 }
 
 /// Writes a shorthand that was kept.
@@ -305,7 +310,11 @@ fn push_kept(out: &mut String, p: Parser<'_>) -> Result<(), AllocError> {
 }
 
 /// What comes of what is asked of a parser at the start of a text.
-pub(crate) fn answer_of_words(alloc: Global, asked: &str, source: &str) -> Result<String, NoMemory> {
+pub(crate) fn answer_of_words(
+    alloc: Global,
+    asked: &str,
+    source: &str,
+) -> Result<String, NoMemory> {
     if source.len() > MAX_LEN {
         return Ok(String::from_str(alloc, "too long")?);
     }

@@ -6,9 +6,9 @@ use crate::nodes::Step;
 use crate::source::is_visited;
 use crate::written::push_diagnostics;
 use js_base::{NoMemory, SourceType, Span};
-use js_record::{ModuleRecord, ModuleRecordBuilder};
+use js_record::ModuleRecordBuilder;
 use js_tree::{NodeId, NodeKind, ParserAstBuilder};
-use std::alloc::Global;
+use std::alloc::{AllocError, Global};
 
 /// The span of the word `default` behind `export` in the rows.
 static DEFAULT_WORD: Span = Span { start: 7, end: 14 };
@@ -64,19 +64,23 @@ fn visit_all(
     Ok(true)
 }
 
-/// Writes the lines of a record, and whether a name is exported twice.
-fn push_record(out: &mut String, alloc: Global, record: &ModuleRecord) -> Result<(), NoMemory> {
-    let bytes = record.record_lines(alloc)?;
-    if let Ok(lines) = std::str::from_utf8(bytes.as_slice()) {
-        out.push_str(lines.trim_end())?;
-    }
-    if !record.exports_distinct() {
-        out.push_str("\ntwice")?;
+/// Writes lines one behind the other, with `; ` between them. They are of ASCII.
+fn push_lines(out: &mut String, lines: &[u8]) -> Result<(), AllocError> {
+    let mut has_ended = false;
+    for byte in lines {
+        if has_ended {
+            out.push_str("; ")?;
+        }
+        has_ended = *byte == b'\n';
+        if !has_ended {
+            out.push(*byte as char)?;
+        }
     }
     Ok(())
 }
 
-/// What comes of the nodes of a text, each visited when it is made: the lines of the record, and the errors.
+/// What comes of the nodes of a text, each visited when it is made: the lines of the record, whether a name is exported
+/// twice, and the errors.
 pub(crate) fn answer_of_nodes(
     alloc: Global,
     asked: &str,
@@ -89,12 +93,10 @@ pub(crate) fn answer_of_nodes(
     let mut out = String::new(alloc);
     let errors = builder.errors()?;
     let (record, _) = builder.build()?;
-    push_record(&mut out, alloc, &record)?;
-    let mut line = String::new(alloc);
-    for (number, piece) in out.split('\n').enumerate() {
-        line.push_str(if number == 0 { "" } else { "; " })?;
-        line.push_str(piece)?;
+    push_lines(&mut out, record.record_lines(alloc)?.as_slice())?;
+    if !record.exports_distinct() {
+        out.push_str("; twice")?;
     }
-    push_diagnostics(&mut line, &errors)?;
-    Ok(line)
+    push_diagnostics(&mut out, &errors)?;
+    Ok(out)
 }
