@@ -115,8 +115,8 @@ module _ {text : List ℕ} {f : Flags} {p q : Parser} (a : At text f p) (k : p.t
 pub async_so : {w k : Kind} {t u : Token} {r b : Bool} → w ≡ k → t ≡ u → r ≡ begins_async w t.kind t.is_on_new_line → r ≡ b → begins_async k u.kind u.is_on_new_line ≡ b
 async_so {w} {k} {t} {u} e h i j = sym (ap (λ (x : Kind). begins_async x t.kind t.is_on_new_line) e ∙ ap (λ (x : Token). begins_async k x.kind x.is_on_new_line) h) ∙ (sym i ∙ j)
 
-pub async_is : {k b : Kind} {w : Bool} → begins_async k b w ≡ true → (k ≡ Async) × (one_of_kinds ends_name_kinds b ≡ false) × (w ≡ false)
-async_is {k} {b} {w} h = go (one_of_kinds ends_name_kinds b) w (same_kind Async k) (λ i. sym (kind_of_same Async k i)) h
+pub async_is : (k b : Kind) (w : Bool) → begins_async k b w ≡ true → (k ≡ Async) × (one_of_kinds ends_name_kinds b ≡ false) × (w ≡ false)
+async_is k b w h = go (one_of_kinds ends_name_kinds b) w (same_kind Async k) (λ i. sym (kind_of_same Async k i)) h
   where
     go : (x y z : Bool) → (z ≡ true → k ≡ Async) → (if x || y then false else z) ≡ true → (k ≡ Async) × (x ≡ false) × (y ≡ false)
     go true y z i h = absurd (false≢true h)

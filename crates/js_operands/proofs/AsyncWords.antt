@@ -129,7 +129,7 @@ part_within x = record {
 
 -- where `function` stands, nothing else does
 one_function : {text : List ℕ} {s : ℕ} {y z : Lexeme} → Lex text s y → y.kind ≡ Function → Lex text s z → z ≡ y
-one_function l k j =
+one_function {z = z} l k j =
     let w = plain_there j in
     let e = lex-same w.stands.lex l.0 (w.stands.of_goal ∙ sym (plainly l.0 l.1 (ap (one_of_kinds other_goals) k))) in
     elim w.which [

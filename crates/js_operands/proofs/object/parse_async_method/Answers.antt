@@ -1,5 +1,6 @@
 use Rattle.std.proofs.Common.{arith, ◌∙◌}
 use Rattle.std.proofs.lemmas.Result.{err_from_is_err_and}
+use Rattle.js_parsing.proofs.Giving.{memory_stops}
 use Rattle.js_parsing.proofs.Moving.{same_both, standing, stops_behind}
 use Rattle.js_parsing.proofs.Nesting.{later_room, nests_later}
 use Rattle.js_parsing.proofs.Verdicts.{grown_then}
@@ -9,6 +10,9 @@ use Rattle.js_operands.proofs.object.parse_async_method.Goals as goal
 
 pub eat-requires : goal.eat-requires
 eat-requires g c = c.requires.at.at
+
+pub returns-in_err-generator : goal.returns-in_err-generator
+returns-in_err-generator g c = λ text f first a s k e z m. let p = err_from_is_err_and c.from_residual.result c.from_residual.ensures.1 in rw (p.1, p.2) (memory_stops _ _ _ _ c.in_err-generator.ensures)
 
 pub parse_property_name-requires-clause-at : goal.parse_property_name-requires-clause-at
 parse_property_name-requires-clause-at g c = standing (eaten_at _ c.requires.at c.in_ok-generator.generator c.in_ok-generator.ensures)

@@ -51,14 +51,14 @@ parse_async_method-requires-clause-before g c =
 pub parse_async_method-requires-clause-line : goal.parse_async_method-requires-clause-line
 parse_async_method-requires-clause-line g c =
     let i : c.kind-2.result ≡ c.args.p.now.token.kind = c.kind-2.ensures ∙ ap (λ (t : Token). t.kind) c.cur_token-word.ensures in
-    (async_is (async_so i c.cur_token.ensures c.begins_async_method.ensures c.if-begins_async_method.true)).2
+    (async_is c.args.p.now.token.kind c.advance.new.p.token.kind c.advance.new.p.token.is_on_new_line (async_so i c.cur_token.ensures c.begins_async_method.ensures c.if-begins_async_method.true)).2
 
 pub returns-then-begins_async_method : goal.returns-then-begins_async_method
 returns-then-begins_async_method g c = λ text f a.
     let m = c.in_ok-advance.ensures text f a in
     let e : c.span-span.result ≡ c.args.p.now.token.span = c.span-span.ensures ∙ ap (λ (t : Token). t.span) c.cur_token-word.ensures in
     let i : c.kind-2.result ≡ c.args.p.now.token.kind = c.kind-2.ensures ∙ ap (λ (t : Token). t.kind) c.cur_token-word.ensures in
-    let b = async_is (async_so i c.cur_token.ensures c.begins_async_method.ensures c.if-begins_async_method.true) in
+    let b = async_is c.args.p.now.token.kind c.advance.new.p.token.kind c.advance.new.p.token.is_on_new_line (async_so i c.cur_token.ensures c.begins_async_method.ensures c.if-begins_async_method.true) in
     item_by text f c.args.p.now (at Property f) _ c.parse_async_method.result (async_only a c.requires.word c.requires.plain m b.0 b.1) (c.parse_async_method.ensures text f c.args.p.now a (ap (λ (s : Span). s.start) e) b.0 c.requires.plain b.1 m)
 
 pub parse_shorthand-requires-clause-at : goal.parse_shorthand-requires-clause-at
