@@ -1,6 +1,6 @@
 //! Arrow functions (ECMA-262, sections 15.3 and 15.9).
 
-ghost use Rattle.std.specs.Prelude.{true, ◌≡◌, ◌≤◌, ◌+◌, [], ◌∷◌, Some, length, MatchResult, IfOk, IsCharBoundary};
+ghost use Rattle.std.specs.Prelude.{true, false, ◌≡◌, ◌≤◌, ◌+◌, [], ◌∷◌, Some, length, MatchResult, IfOk, IsCharBoundary};
 ghost use Rattle.js_base.specs.declared.kind.Kind.TheVariants.{Arrow, LParen};
 ghost use Rattle.js_cursor.specs.Moves.{OnlyMemory};
 ghost use Rattle.js_grammar.specs.Productions.{at, Params};
