@@ -289,24 +289,24 @@ module _ {text : List ℕ} {f : Flags} {p q : Parser} (a : PartAt text f p) wher
 -- with its node
 pub part_taken : {text : List ℕ} {f : Flags} {p q w : Parser} {id : NodeId} (last : Bool) (s : Span) → PartMoved text f p q → LiesIn s p.text → s.start ≡ p.token.span.start + 1 → s.end ≡ inside_end p.token → MadeHere (element_label last s) [] q w id → last ≡ one_of_kinds last_parts p.token.kind → PartTaken text f p w id last
 part_taken {text} {f} {p} {q} {w} {id} last s m l b c n e = subst (λ (z : Parser). PartTaken text f p z id last) (sym n.stays) (
-  record {
-    at = beside_nodes w.nodes m.at;
-    same = same_with w.nodes m.same keeps (λ b h. one_lies n (subst (λ (t : List ℕ). LiesIn s t) (sym m.same.follows.text) l) h);
-    kept = m.kept;
-    further = m.further;
-    lexeme = m.lexeme;
-    stands = m.stands;
-    tells = m.tells;
-    ends = m.ends;
-    news = m.news;
-    is_new = m.is_new;
-    spot_is = m.spot_is;
-    holds = subst (λ (v : Span). Holds w.nodes (length p.nodes) (length w.nodes) id.0 (element_label last v) end) (span_is s b c) (leaf_held n kept);
-    keeps = keeps;
-    last = last_beside w.nodes q.errors m.last;
-    is = e;
-  }
-)
+    record {
+      at = beside_nodes w.nodes m.at;
+      same = same_with w.nodes m.same keeps (λ b h. one_lies n (subst (λ (t : List ℕ). LiesIn s t) (sym m.same.follows.text) l) h);
+      kept = m.kept;
+      further = m.further;
+      lexeme = m.lexeme;
+      stands = m.stands;
+      tells = m.tells;
+      ends = m.ends;
+      news = m.news;
+      is_new = m.is_new;
+      spot_is = m.spot_is;
+      holds = subst (λ (v : Span). Holds w.nodes (length p.nodes) (length w.nodes) id.0 (element_label last v) end) (span_is s b c) (leaf_held n kept);
+      keeps = keeps;
+      last = last_beside w.nodes q.errors m.last;
+      is = e;
+    }
+    )
   where
     kept : Keeps p.nodes q.nodes
     kept = subst (λ (ns : List Node). Keeps p.nodes ns) (sym m.nodes) (Keeps-refl p.nodes)

@@ -1,6 +1,7 @@
 -- The walk that finds the nodes that break an early rule.
 use Rattle.std.proofs.Common.{◌≡◌, ℕ, ◌+◌, ◌<◌, Bool, true, false, cond, List, [], ◌∷◌, ◌++◌, length, map, take, drop, Option, Some, None, get_or, slice_get, nat_lt, refl, ap, sym, ◌∙◌, subst, arith, lt-ltb, ltb-true, ltb-false, append_assoc, append-nil}
 use Rattle.std.specs.Prelude.{is_some}
+use Rattle.std.proofs.lemmas.List.{map-append}
 use Rattle.std.proofs.lemmas.Bool.{false≢true}
 use Rattle.js_base.specs.declared.diagnostic.Diagnostic.{Diagnostic}
 use Rattle.js_base.specs.declared.diagnostic.DiagnosticKind.{DiagnosticKind}
@@ -50,10 +51,6 @@ id_of n = n.id
 abbrev pub pending_weight : List Node → List Pending → ℕ
 pending_weight ns ps = stack_weight ns (map (λ n. n.id) ps)
 
-map_append : (a b : List Pending) → map id_of (a ++ b) ≡ map id_of a ++ map id_of b
-map_append [] b = refl
-map_append (x ∷ a) b = ap (λ (v : List NodeId). x.id ∷ v) (map_append a b)
-
 own_id : (t : Bool) (id : NodeId) (p : Position) → map id_of (cond t (record { id = id; position = p } ∷ []) []) ≡ cond t (id ∷ []) []
 own_id true id p = refl
 own_id false id p = refl
@@ -61,12 +58,12 @@ own_id false id p = refl
 ids_of : (p : Position) (b : ℕ) (ids : List (Option NodeId)) → map id_of (pending p b ids) ≡ below_all b ids
 ids_of p b [] = refl
 ids_of p b (None ∷ ids) = ids_of p b ids
-ids_of p b (Some id ∷ ids) = map_append (pending (past p) b ids) (cond (nat_lt id.0 b) (record { id = id; position = p } ∷ []) []) ∙ (λ i. ids_of (past p) b ids i ++ own_id (nat_lt id.0 b) id p i)
+ids_of p b (Some id ∷ ids) = map-append id_of (pending (past p) b ids) (cond (nat_lt id.0 b) (record { id = id; position = p } ∷ []) []) ∙ (λ i. ids_of (past p) b ids i ++ own_id (nat_lt id.0 b) id p i)
 
 pub within_lighter : (ns : List Node) (ps : List Pending) (n : Pending) → pending_weight ns (ps ++ pending_within ns n) < pending_weight ns (ps ++ n ∷ [])
 within_lighter ns ps n =
     let p = within n.position (kind_of (node_at ns n.id).kind) in
-    rw (map_append ps (pending_within ns n), map_append ps (n ∷ []), ids_of p n.id.0 (node_at ns n.id).children) (children_lighter ns (map id_of ps) n.id)
+    rw (map-append id_of ps (pending_within ns n), map-append id_of ps (n ∷ []), ids_of p n.id.0 (node_at ns n.id).children) (children_lighter ns (map id_of ps) n.id)
 
 -- ---- what is told
 

@@ -73,7 +73,12 @@ pub fn early_errors(alloc: Global, tree: &Tree, source: &str) -> Result<Diagnost
         return Ok(told);
     }
     let mut stack = Vec::new(alloc);
-    push_children(&mut stack, Position::Anywhere, tree.kinds().len(), tree.children(NodeId(0)))?;
+    push_children(
+        &mut stack,
+        Position::Anywhere,
+        tree.kinds().len(),
+        tree.children(NodeId(0)),
+    )?;
     'nodes: while let Some(node) = stack.pop() {
         tell(&mut told, alloc, tree, node, source)?;
         push_within(&mut stack, tree, node)?;
@@ -112,8 +117,7 @@ fn broken_rule(
             Ok(Some(DiagnosticKind::RegExpFlagUAndV))
         }
         (NodeKind::TemplateElement, Position::InTemplate)
-            if tree.cooked(alloc, id, source)?.is_none() =>
-        {
+            if tree.cooked(alloc, id, source)?.is_none() => {
             Ok(Some(DiagnosticKind::TemplateLiteral))
         }
         _ => Ok(None),

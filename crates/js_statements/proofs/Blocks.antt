@@ -1,19 +1,18 @@
 -- Lists of statements in braces (ECMA-262, 14.2, 15.2).
-use Rattle.std.proofs.Common.{ℕ, ◌≡◌, ◌≤◌, max, List, [], ◌∷◌, length, Option, Bool, true, false, not, ◌&&◌, ◌||◌, IsTrue, refl, sym, ap, subst, arith, ◌∙◌}
-use Rattle.std.specs.Prelude.{Some, Ok, Err}
+use Rattle.std.proofs.Common.{ℕ, ◌≡◌, ◌≤◌, max, List, ◌∷◌, length, Option, Bool, true, false, not, ◌||◌, refl, sym, ap, subst, arith, ◌∙◌}
+use Rattle.std.specs.Prelude.{Some, Err}
 use Rattle.std.proofs.lemmas.Bool.{false≢true, and_parts}
 use Rattle.js_base.specs.declared.diagnostic.Diagnostic.{Diagnostic}
 use Rattle.js_base.specs.declared.diagnostic.DiagnosticKind.TheVariants.{ExpectClosing}
-use Rattle.js_base.specs.declared.kind.Kind.{Kind}
 use Rattle.js_base.specs.declared.kind.Kind.TheVariants as kind
 use Rattle.js_base.specs.declared.span.Span.{Span}
 use Rattle.js_base.specs.Kinds.{same_kind, one_of_kinds}
 use Rattle.js_base.specs.Texts.{words}
 use Rattle.js_base.proofs.KindLemmas.{kind_of_same}
 use Rattle.js_grammar.specs.Trees.{Slots, end, tree, no_op, block_statement, function_body}
-use Rattle.js_grammar.specs.Grammar.{Lexeme, Lexemes, nothing, such, ◌▸◌}
-use Rattle.js_grammar.specs.Parsing.{Test, plain, full, behind, always, still, Goes, Fails}
-use Rattle.js_grammar.specs.Productions.{G, Flags, at, tok, Block, Body, ListItem}
+use Rattle.js_grammar.specs.Grammar.{Lexeme, Lexemes, nothing, ◌▸◌}
+use Rattle.js_grammar.specs.Parsing.{Test, plain, full, behind, still, Goes, Fails}
+use Rattle.js_grammar.specs.Productions.{G, Flags, at, tok, Block, Body}
 use Rattle.js_grammar.specs.Productions.{Statement as AStatement}
 use Rattle.js_grammar.specs.Productions.{sym as symbol}
 use Rattle.js_grammar.specs.Table.{rule, rule_of}
@@ -28,7 +27,7 @@ use Rattle.js_tree.specs.declared.id.NodeId.{NodeId}
 use Rattle.js_tree.specs.declared.kind.NodeKind.TheVariants as node
 use Rattle.js_tree.specs.declared.op.Op.TheVariants as op
 use Rattle.js_tree.specs.Nodes.{Node}
-use Rattle.js_tree.specs.Holding.{Holds, HoldsAll, Keeps}
+use Rattle.js_tree.specs.Holding.{HoldsAll, Keeps}
 use Rattle.js_tree.proofs.HoldingLemmas.{Keeps-made, Keeps-trans}
 use Rattle.js_cursor.specs.Moves.{Expects, IsKind, MovesOn, is_last}
 use Rattle.js_cursor.specs.Parsers.{Parser}

@@ -17,7 +17,6 @@ use Rattle.js_grammar.proofs.Looks.{covers, covered}
 use Rattle.js_grammar.proofs.Calculus.{Inside, On, ◌▹◌, ◌▹✗◌, done, fails_alt, fails_node, fails_rule, fails_under, fails_when, inside_full, passes_none, left, right, stay, where_true, weaken_fails_on}
 use Rattle.js_tree.specs.declared.id.NodeId.{NodeId}
 use Rattle.js_tree.specs.declared.kind.NodeKind.{NodeKind as MadeKind}
-use Rattle.js_tree.specs.declared.op.Op.TheVariants as op
 use Rattle.js_tree.specs.Labels.{kind_of}
 use Rattle.js_tree.specs.Nodes.{Node}
 use Rattle.js_tree.specs.Holding.{HoldsAll, Keeps}

@@ -7,7 +7,6 @@ use Rattle.js_base.specs.declared.kind.Kind.{Kind}
 use Rattle.js_base.specs.declared.span.Span.{Span}
 use Rattle.js_base.specs.Contexts.{has_flag, in_flag}
 use Rattle.js_base.specs.Kinds.{same_kind, one_of_kinds}
-use Rattle.js_grammar.specs.Words.{'let'}
 use Rattle.js_grammar.specs.Trees.{Span as TreeSpan, Label, Slots, end, tree, no_op, labeled_statement, label_identifier}
 use Rattle.js_grammar.specs.Grammar.{Lexeme, Lexemes, Look, last, next, here, seen, is, exact, lexeme, seq, such, nothing, label_of, Takes, is_seq, is_lexeme, is_such, ◌▸◌}
 use Rattle.js_grammar.specs.Parsing.{Test, plain, full, always, still, passing, Admits, Goes, Reads, Fails}

@@ -4,11 +4,10 @@ use Rattle.std.specs.Prelude.{Ok, Err}
 use Rattle.std.proofs.lemmas.Bool.{false≢true}
 use Rattle.js_base.specs.Contexts.{has_flag, return_flag}
 use Rattle.js_base.specs.declared.diagnostic.Diagnostic.{Diagnostic}
-use Rattle.js_base.specs.declared.kind.Kind.{Kind}
 use Rattle.js_base.specs.declared.kind.Kind.TheVariants as kind
 use Rattle.js_base.specs.declared.source_type.SourceType.{SourceType}
 use Rattle.js_base.specs.declared.span.Span.{Span}
-use Rattle.js_base.specs.Kinds.{same_kind, one_of_kinds}
+use Rattle.js_base.specs.Kinds.{same_kind}
 use Rattle.js_grammar.specs.Trees.{Slots, end, hole, tree, append, Label, no_op, return_statement}
 use Rattle.js_grammar.specs.Grammar.{Lexeme, Lexemes, Look, here, seen, ended, semicolon, empty_slot, nothing, such, when, Takes, is_seq, is_lexeme, is_look, is_such, is_left, is_right, is_empty_slot, ◌▸◌}
 use Rattle.js_grammar.specs.Insertion.{after_word, edge, goes_on, by_edge}

@@ -55,7 +55,7 @@ use Rattle.js_operands.proofs.Members.{word_whole}
 use Rattle.js_parsing.proofs.MadeNodes.{leaf_held, node_held, one_held, one_lies, made_lies}
 use Rattle.js_parsing.proofs.Moving.{moves, same_both, same_itself, same_with, stops_behind}
 use Rattle.js_operands.proofs.Operands.{name_leaf}
-use Rattle.js_parsing.proofs.Paths.{Path, ◌⟼◌, ◌⟶◌, ◌⟶✗◌, at_kind, fails_at, token, last_token, noded, noded_by, by_symbol_as, label_here, walked_both, walked_from, walked_one}
+use Rattle.js_parsing.proofs.Paths.{Path, ◌⟼◌, ◌⟶◌, ◌⟶✗◌, at_kind, token, last_token, noded, noded_by, by_symbol_as, label_here, walked_both, walked_from, walked_one}
 use Rattle.js_statements.proofs.Statements.{◌⟝◌, by_statement, by_such_statement, closes_or_line, either_of, end_path, ended_so, expression_path, never_open, no_close, no_semicolon, no_symbol, omits_at_end, omitted_so, semicolon_closes, semicolon_look, semicolon_path, to_semicolon_of, unended, whole_semicolon}
 use Rattle.js_parsing.proofs.Ahead.{pass_over}
 use Rattle.js_parsing.proofs.Told.{told_at, told_same}

@@ -1,5 +1,5 @@
 -- Lists of statements in braces (ECMA-262, 14.2, 15.2).
-use Rattle.std.specs.Prelude.{ℕ, ◌≡◌, ◌<◌, List, length, Option}
+use Rattle.std.specs.Prelude.{ℕ, ◌<◌, List, length, Option}
 use Rattle.js_grammar.specs.Trees.{Slots, end as no_slots}
 use Rattle.js_grammar.specs.Grammar.{Lexemes, nothing}
 use Rattle.js_grammar.specs.Parsing.{Fails, full, plain}

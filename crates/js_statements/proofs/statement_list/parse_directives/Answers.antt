@@ -3,7 +3,7 @@ use Rattle.std.proofs.lemmas.Bool.{false≢true}
 use Rattle.std.proofs.lemmas.Result.{err_from_is_err_and}
 use Rattle.js_grammar.specs.Productions.{Flags}
 use Rattle.js_parsing.specs.Answers.{Stops}
-use Rattle.js_statements.specs.StatementLists.{Taken, NoList, list_of, with_directives, statements}
+use Rattle.js_statements.specs.StatementLists.{Taken, NoList, list_of, statements}
 use Rattle.js_parsing.proofs.Moving.{stops_behind}
 use Rattle.js_parsing.proofs.Nesting.{nests_later, later_room}
 use Rattle.js_parsing.proofs.Verdicts.{after}

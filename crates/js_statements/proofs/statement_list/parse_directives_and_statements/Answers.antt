@@ -1,4 +1,4 @@
-use Rattle.std.proofs.Common.{ℕ, List, sym, ap, arith, ◌∙◌}
+use Rattle.std.proofs.Common.{ℕ, List, sym, arith, ◌∙◌}
 use Rattle.std.proofs.lemmas.Result.{err_from_is_err_and}
 use Rattle.js_grammar.specs.Productions.{Flags}
 use Rattle.js_parsing.specs.Answers.{Stops}
