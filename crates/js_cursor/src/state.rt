@@ -153,11 +153,7 @@ impl ParserState {
     }
 
     /// Notes that none was. The only error is want of memory, and then all stays.
-    pub(crate) fn note_arrow_failed(
-        &mut self,
-        ctx: Context,
-        place: u32,
-    ) -> Result<(), NoMemory>
+    pub(crate) fn note_arrow_failed(&mut self, ctx: Context, place: u32) -> Result<(), NoMemory>
         ensures ok { OnOk result (NotesFailed ctx place self.old self.new) }
         ensures err { OnErr result (self.new ≡ self.old) }
     {
@@ -173,11 +169,7 @@ impl ParserState {
     }
 
     /// Notes that none was. The only error is want of memory, and then all stays.
-    pub(crate) fn note_operand_failed(
-        &mut self,
-        ctx: Context,
-        place: u32,
-    ) -> Result<(), NoMemory>
+    pub(crate) fn note_operand_failed(&mut self, ctx: Context, place: u32) -> Result<(), NoMemory>
         ensures ok { OnOk result (NotesOperand ctx place self.old self.new) }
         ensures err { OnErr result (self.new ≡ self.old) }
     {

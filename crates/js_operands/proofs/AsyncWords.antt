@@ -62,9 +62,9 @@ module _ {text : List ℕ} {f : Flags} {p : Parser} {t : Token} (a : At text f p
   function_peeked y l k = given_behind
       (λ d u n. absurd (n.none y (record { lex = l.0; of_goal = plainly l.0 l.1 (ap (one_of_kinds other_goals) k) })))
       (λ x.
-        let e : y ≡ x.lexeme = one_plain l (ap (one_of_kinds other_goals) k) x in
-        let i : is_right_angle x.lexeme.kind ≡ false = ap is_right_angle (ap (λ (z : Lexeme). z.kind) (sym e) ∙ k) in
-        subst (λ (z : Lexeme). Tells z t) (cut_same x.lexeme i ∙ sym e) x.tells)
+      let e : y ≡ x.lexeme = one_plain l (ap (one_of_kinds other_goals) k) x in
+      let i : is_right_angle x.lexeme.kind ≡ false = ap is_right_angle (ap (λ (z : Lexeme). z.kind) (sym e) ∙ k) in
+      subst (λ (z : Lexeme). Tells z t) (cut_same x.lexeme i ∙ sym e) x.tells)
 
   pub function_told : t.kind ≡ Function → t.escaped ≡ false → t.is_on_new_line ≡ false → (y : Lexeme) × Lex text p.token.span.end y × (y.kind ≡ Function) × (y.newline ≡ false)
   function_told k e w = given_behind (λ d u n. let w : Function ≡ Undetermined = sym k ∙ u in absurd (cc)) (λ x. by x (is_right_angle x.lexeme.kind) refl)

@@ -8,6 +8,7 @@ pub mod Intrinsics
 pub mod Links
 pub mod Marking
 pub mod Members
+pub mod NewTargets
 pub mod Methods
 pub mod Operands
 pub mod Parentheses

@@ -320,9 +320,7 @@ fn parse_behind_name<C: ParserConfig, N: Nested<C>>(
 {
     match p.cur_kind() {
         Kind::Colon => parse_value(p, nested, start, name),
-        Kind::LParen => {
-            parse_method(p, nested, start, name, MethodForm::Method, false, false)
-        }
+        Kind::LParen => { parse_method(p, nested, start, name, MethodForm::Method, false, false) }
         _ => Err(p.set_unexpected()),
     }
 }
