@@ -159,7 +159,7 @@ fn parse_head_behind_async<C: ParserConfig, N: Nested<C>>(
     }
     match is_parenthesized_head(p)? {
         HeadLookahead::NoHead => Ok(None),
-        HeadLookahead::Head | HeadLookahead::Maybe => attempt_head(p, nested, true),
+        _ => attempt_head(p, nested, true),
     }
 }
 

@@ -2,10 +2,11 @@
 use Rattle.std.proofs.Common.{ℕ, ◌≡◌, Bool, true, false, max, List, Option, refl, sym, ap, subst, rules, arith, ◌∙◌}
 use Rattle.js_base.specs.declared.context.Context.{Context}
 use Rattle.js_grammar.specs.Trees.{end}
-use Rattle.js_grammar.specs.Parsing.{Test, still, Goes}
+use Rattle.js_grammar.specs.Grammar.{is}
+use Rattle.js_grammar.specs.Parsing.{Test, plain, still, Goes}
 use Rattle.js_grammar.specs.Productions.{Flags, minus_in}
 use Rattle.js_grammar.specs.Table.{rule}
-use Rattle.js_grammar.proofs.Calculus.{same, ◌▹◌, ◌▹✗◌}
+use Rattle.js_grammar.proofs.Calculus.{part_by, same, ◌▹◌, ◌▹✗◌}
 use Rattle.js_tree.specs.declared.id.NodeId.{NodeId}
 use Rattle.js_cursor.specs.Parsers.{Parser}
 use Rattle.js_cursor.specs.Places.{IsAt}
@@ -20,7 +21,8 @@ use Rattle.js_parsing.proofs.Related.{Like}
 use Rattle.js_parsing.proofs.Verdicts.{verdict_of}
 use Rattle.js_statements.specs.declared.for_statement.Ending.{Ending}
 use Rattle.js_statements.specs.declared.for_statement.Ending.TheVariants as ending
-use Rattle.js_statements.specs.ForHeads.{FirstTaken, NoFirst, first_part}
+use Rattle.js_statements.specs.ForHeads.{FirstTaken, NoFirstPart, end_kind, first_part}
+use Rattle.js_statements.proofs.ForHeads.{last_between}
 use Rattle.js_statements.proofs.BindingsFreeOfIn.{ButIn, any_in_like}
 
 -- ---- the parts
@@ -41,8 +43,8 @@ module _ {text : List ℕ} (w : Bool) (e : Ending) (f : Flags) where
   inside : {X : Test} {s : ℕ} → Goes rule (Lex text) X end (first_part w e f) s (first_part w e (minus_in f)) s (λ us. us) (still 0)
   inside = same (λ ts us i j ls rest d. any_in_like (first_part w e f) (first_part w e (minus_in f)) (first_inside w e f) d) (λ ts us i j ls rest d. any_in_like (first_part w e (minus_in f)) (first_part w e f) (first_back w e f) d)
 
-  pub none_outside : {s : ℕ} → NoFirst text w e (minus_in f) s → NoFirst text w e f s
-  none_outside n = inside ▹✗ n
+  pub none_outside : {s : ℕ} → NoFirstPart text w e (minus_in f) s → NoFirstPart text w e f s
+  none_outside {s} n = part_by (inside {X = plain (is (end_kind e))}) (last_between (end_kind e) _ (first_part w e f) s) ▹✗ n
 
 -- ---- the states
 
@@ -76,5 +78,5 @@ module _ {text : List ℕ} where
   pub first_outside : {f : Flags} {w : Bool} {p o q v : Parser} {c d : Context} {first : Option NodeId} → At text f p → d ≡ p.ctx → o ≡ record p { ctx = c } → FirstTaken text (minus_in f) w o q first → v ≡ record q { ctx = d } → FirstTaken text f w p v first
   first_outside {f} {w} {p} {o} {q} {v} {c} {d} {first} a i h x j = subst (λ (r : Parser). FirstTaken text f w p r first) (sym (j ∙ ap (λ (u : Context). record q { ctx = u }) i)) (out_of a (subst (λ (r : Parser). FirstTaken text (minus_in f) w r q first) h x))
 
-pub first_stops_outside : (text : List ℕ) (f : Flags) (w : Bool) (p o q : Parser) (c : Context) (x : Stop) → IsAt p → o ≡ record p { ctx = c } → Stops o q x ((e : Ending) → NoFirst text w e (minus_in f) o.prev_token_end) → Stops p q x ((e : Ending) → NoFirst text w e f p.prev_token_end)
-first_stops_outside text f w p o q c x a h z = stops_later q x (ctx_set c a).0 (λ w. w) (λ w. w) (λ n. n) (λ g. g) (λ n e. none_outside w e f (n e)) (subst (λ (r : Parser). Stops r q x ((e : Ending) → NoFirst text w e (minus_in f) r.prev_token_end)) h z)
+pub first_stops_outside : (text : List ℕ) (f : Flags) (w : Bool) (p o q : Parser) (c : Context) (x : Stop) → IsAt p → o ≡ record p { ctx = c } → Stops o q x ((e : Ending) → NoFirstPart text w e (minus_in f) o.prev_token_end) → Stops p q x ((e : Ending) → NoFirstPart text w e f p.prev_token_end)
+first_stops_outside text f w p o q c x a h z = stops_later q x (ctx_set c a).0 (λ w. w) (λ w. w) (λ n. n) (λ g. g) (λ n e. none_outside w e f (n e)) (subst (λ (r : Parser). Stops r q x ((e : Ending) → NoFirstPart text w e (minus_in f) r.prev_token_end)) h z)

@@ -12,8 +12,8 @@ use Rattle.js_base.proofs.KindLemmas.{kind_of_same}
 use Rattle.js_grammar.specs.Trees.{Slots, append, end, hole, tree}
 use Rattle.js_grammar.specs.Grammar.{Lexeme, Lexemes, next, here, seen, is, such, empty_slot, nothing, Takes, is_lexeme, is_seq, is_empty_slot, ◌▸◌}
 use Rattle.js_grammar.specs.Lexed.{Lexes}
-use Rattle.js_grammar.specs.Parsing.{Test, plain, full, always, passing, Goes, Fails}
-use Rattle.js_grammar.specs.Productions.{G, Flags, Symbol, at, parens, slot, tok, Assignment, Expression, ForInit}
+use Rattle.js_grammar.specs.Parsing.{Test, Admits, plain, full, always, passing, Goes, Fails}
+use Rattle.js_grammar.specs.Productions.{G, Flags, Symbol, at, other, parens, slot, tok, Assignment, Expression, ForInit}
 use Rattle.js_grammar.specs.Productions.{sym as symbol}
 use Rattle.js_grammar.specs.Table.{rule}
 use Rattle.js_grammar.specs.Follow.{after, surest}
@@ -21,7 +21,7 @@ use Rattle.js_grammar.proofs.Frame.{append_assoc}
 use Rattle.js_grammar.proofs.Looks.{covers, covered, apart, not_both, same_self}
 use Rattle.js_grammar.proofs.Calculus.{Between, On, ◌▹◌, ◌▹✗◌, here_at, left, right, then_by, part_fails, fails_alt, reads_empty_slot, weaken_fails_on, weaken_on}
 use Rattle.js_grammar.specs.FirstSets.{first}
-use Rattle.js_grammar.proofs.First.{starts}
+use Rattle.js_grammar.proofs.First.{starts, starting}
 use Rattle.js_grammar.proofs.FirstClaims.{firsts}
 use Rattle.js_grammar.proofs.FirstRules.{fails_here}
 use Rattle.js_parsing.proofs.Here.{kind_here}
@@ -41,7 +41,7 @@ use Rattle.js_parsing.specs.Stands.{StandsHere}
 use Rattle.js_parsing.specs.States.{At}
 use Rattle.js_statements.specs.declared.for_statement.Ending.{Ending}
 use Rattle.js_statements.specs.declared.for_statement.Ending.TheVariants as ending
-use Rattle.js_statements.specs.ForHeads.{AtEnd, EndsPart, FirstTaken, HeadTaken, NoFirst, NoHead, NoParensHead, NoPart, NoRest, ParensHeadTaken, PartTaken, RestTaken, TakesFirst, TakesHead, TakesRest, behind_head, behind_rest, behind_slot, end_kind, first_part, head_part, rest_part}
+use Rattle.js_statements.specs.ForHeads.{AtEnd, EndsPart, FirstTaken, HeadTaken, NoFirst, NoFirstPart, NoHead, NoParensHead, NoPart, NoRest, ParensHeadTaken, PartTaken, RestTaken, TakesFirst, TakesHead, TakesRest, behind_head, behind_rest, behind_slot, end_kind, first_part, head_part, rest_part}
 use Rattle.js_parsing.proofs.Moving.{same_both, same_itself, stops_behind}
 use Rattle.js_parsing.proofs.Paths.{Path, ◌⟶◌, ◌⟶✗◌, fails_at, last_called, last_token, skips, token, walked_both, walked_one}
 use Rattle.js_parsing.proofs.Signs.{plain_sign, stands_not}
@@ -100,11 +100,39 @@ token_between k X a b s = record { admits = λ ts us vs j n ls mid rest d d' h. 
     go : {us vs : Slots} {j n : ℕ} {mid rest : Lexemes} → Takes rule (tok k ▸ b) end us j mid vs n rest → IsTrue (seen (is k) (here mid))
     go (is_seq (is_lexeme q) d) = q
 
-last_between : (k : Kind) (X : Test) (a : G) (s : ℕ) → Between rule X (plain (is k)) end a (tok k) s
+pub last_between : (k : Kind) (X : Test) (a : G) (s : ℕ) → Between rule X (plain (is k)) end a (tok k) s
 last_between k X a s = record { admits = λ ts us vs j n ls mid rest d d' h. (go d', refl) }
   where
     go : {us vs : Slots} {j n : ℕ} {mid rest : Lexemes} → Takes rule (tok k) end us j mid vs n rest → IsTrue (seen (is k) (here mid))
     go (is_lexeme q) = q
+
+-- none before that lexeme is none with it
+pub no_first_part : {text : List ℕ} {f : Flags} {s : ℕ} (w : Bool) (e : Ending) → NoFirst text w e f s → NoFirstPart text w e f s
+no_first_part {f = f} {s = s} w e n = part_fails n (last_between (end_kind e) _ (first_part w e f) s)
+
+-- `=>` doesn't begin what stands behind it
+abbrev behind_end : Ending → Flags → G
+behind_end ending.Semicolon f = slot (symbol Expression f) ▸ tok kind.Semicolon ▸ slot (symbol Expression f)
+behind_end ending.In f = symbol Expression f
+behind_end ending.Of f = symbol Assignment f
+
+no_arrow_behind : (e : Ending) (f : Flags) → covers (starts first (behind_end e f) (is kind.RParen)) (other (λ k n e. same_kind kind.Arrow k)) ≡ true
+unfolding covers
+no_arrow_behind ending.Semicolon f = refl
+no_arrow_behind ending.In f = refl
+no_arrow_behind ending.Of f = refl
+
+-- so no head is derived there
+pub no_head_from : {text : List ℕ} {f : Flags} {s : ℕ} (w : Bool) (e : Ending) → NoFirstPart text w e f s → NoHead text w e f s
+no_head_from {text} {f} {s} w e n = record { no = λ ts vs k ls rest l d h. go e n ts vs k ls rest l d h }
+  where
+    behind : (e : Ending) {ts vs : Slots} {j k : ℕ} {mid rest : Lexemes} → Takes rule (behind_end e f) end ts j mid vs k rest → IsTrue (seen (is kind.RParen) (here rest)) → IsTrue (seen (other (λ k n e. same_kind kind.Arrow k)) (here mid))
+    behind e {mid = mid} d h = covered (starts first (behind_end e f) (is kind.RParen)) (other (λ k n e. same_kind kind.Arrow k)) (no_arrow_behind e f) (here mid).kind (here mid).newline (here mid).escaped (starting firsts (is kind.RParen) d h)
+
+    go : (e : Ending) → NoFirstPart text w e f s → (ts vs : Slots) (k : ℕ) (ls rest : Lexemes) → Lexes (Lex text) s ls → Takes rule (head_part w e f) end ts s ls vs k rest → Admits (plain (is kind.RParen)) ts (here rest) → ⊥
+    go ending.Semicolon n ts vs k ls rest l (is_seq d (is_seq {us = us} {j = j} {mid = mid} c b)) h = n.no ts us j ls mid l (is_seq d c) (behind ending.Semicolon b h.0, refl)
+    go ending.In n ts vs k ls rest l (is_seq d (is_seq {us = us} {j = j} {mid = mid} c b)) h = n.no ts us j ls mid l (is_seq d c) (behind ending.In b h.0, refl)
+    go ending.Of n ts vs k ls rest l (is_seq d (is_seq {us = us} {j = j} {mid = mid} c b)) h = n.no ts us j ls mid l (is_seq d c) (behind ending.Of b h.0, refl)
 
 -- before these an expression ends
 paren_ends : covers (is kind.RParen) (surest Expression) ≡ true
@@ -236,15 +264,15 @@ none_first {text} {f} {p} a w j h e = record {
     plain_here (inl i) = plain_sign kind.Semicolon a (e ∙ i) refl refl refl
     plain_here (inr i) = plain_sign kind.RParen a (e ∙ i) refl refl refl
 
-    reads : (d : Ending) → StandsHere p (end_kind d) true → Verdict p.errors p.errors (Stretch text (plain (is (end_kind d))) (first_part w d f) p.prev_token_end nothing p.prev_token_end hole (λ ls. ls)) (NoFirst text w d f p.prev_token_end)
+    reads : (d : Ending) → StandsHere p (end_kind d) true → Verdict p.errors p.errors (Stretch text (plain (is (end_kind d))) (first_part w d f) p.prev_token_end nothing p.prev_token_end hole (λ ls. ls)) (NoFirstPart text w d f p.prev_token_end)
     reads ending.Semicolon s = clean refl (record { reach = max 0 0; near = omega arith; goes = right (none_at_end a (init_begins f) j h e) ▹ reads_empty_slot })
     reads ending.In s = absurd (apart_from kind.In h (λ k. cc) (λ k. cc) s.0)
     reads ending.Of s = absurd (apart_from kind.Of h (λ k. cc) (λ k. cc) s.0)
 
-    fails : (d : Ending) → StandsHere p (end_kind d) false → NoFirst text w d f p.prev_token_end
-    fails ending.Semicolon s = fails_alt (none_at_end a (init_begins f) j h e) (no_empty a kind.Semicolon (inl refl) (λ k. s k (plain_here h)))
-    fails ending.In s = none_at_end a (in_begins w f) j h e
-    fails ending.Of s = none_at_end a (of_begins w f) j h e
+    fails : (d : Ending) → StandsHere p (end_kind d) false → NoFirstPart text w d f p.prev_token_end
+    fails ending.Semicolon s = no_first_part w ending.Semicolon (fails_alt (none_at_end a (init_begins f) j h e) (no_empty a kind.Semicolon (inl refl) (λ k. s k (plain_here h))))
+    fails ending.In s = no_first_part w ending.In (none_at_end a (in_begins w f) j h e)
+    fails ending.Of s = no_first_part w ending.Of (none_at_end a (of_begins w f) j h e)
 
 pub at_end_so : (k : Kind) (p : Parser) {b r : Bool} → r ≡ b → AtEnd k p r → AtEnd k p b
 at_end_so k p e h = subst (λ (v : Bool). AtEnd k p v) e h
@@ -414,8 +442,8 @@ module _ {text : List ℕ} {f : Flags} {p : Parser} (a : At text f p) where
 module _ {text : List ℕ} {f : Flags} {w : Bool} {p q : Parser} {first : Option NodeId} (x : FirstTaken text f w p q first) where
   pub no_head : (d : Ending) → NoRest text d f q.prev_token_end → NoHead text w d f p.prev_token_end
   no_head d n = elim (stands_either q (end_kind d)) [
-    | inl h ↦ either_way (x.read d h) (λ y. then_by y.goes (first_between w d f _ p.prev_token_end) ▹✗ n) (λ z. part_fails z (first_between w d f _ p.prev_token_end))
-    | inr h ↦ part_fails (x.none d h) (first_between w d f _ p.prev_token_end)
+    | inl h ↦ either_way (x.read d h) (λ y. then_by y.goes (first_between w d f _ p.prev_token_end) ▹✗ n) (λ z. no_head_from w d z)
+    | inr h ↦ no_head_from w d (x.none d h)
   ]
 
   pub rest_stops : (v : Parser) (e : Stop) → Stops q v e ((d : Ending) → NoRest text d f q.prev_token_end) → Stops p v e ((d : Ending) → NoHead text w d f p.prev_token_end)
@@ -430,7 +458,7 @@ module _ {text : List ℕ} {f : Flags} {w : Bool} {p q : Parser} {first : Option
       walked = walked_both x.walked r.path.walked;
       verdict = and_then (x.read e r.here) r.path.verdict
           (λ y z. record { reach = max y.reach z.reach; near = let i = y.near in let j = z.near in let k = r.path.further in let l = x.at.behind in omega arith; goes = then_by y.goes (first_between w e f _ p.prev_token_end) ▹ z.goes })
-          (λ n. part_fails n (first_between w e f _ p.prev_token_end))
+          (λ n. no_head_from w e n)
           (λ y n. then_by y.goes (first_between w e f _ p.prev_token_end) ▹✗ n);
     }
       where
@@ -459,8 +487,6 @@ module _ {text : List ℕ} {f : Flags} {w : Bool} {p q : Parser} {first : Option
       keeps = Keeps-trans x.keeps r.keeps;
     }
 
-pub first_stops : {text : List ℕ} (f : Flags) {s : ℕ} (w : Bool) (d : Ending) → NoFirst text w d f s → NoHead text w d f s
-first_stops f {s} w d n = part_fails n (first_between w d f _ s)
 
 pub head_answers : {w : Bool} {p q : Parser} (v : Parser) {first : Option NodeId} (ids js : List (Option NodeId)) (r : Result Ending Stop) → ids ≡ first ∷ [] → TakesFirst w p q (Ok first) → TakesRest q v ids js r → TakesHead w p v js r
 head_answers {p} {q} v {first} ids js (Ok e) i x y = λ text f a. let z = x text f a in head_taken z a (subst (λ (is : List (Option NodeId)). RestTaken text f e q v is js) i (y text f z.at))

@@ -22,7 +22,7 @@ use Rattle.js_grammar.proofs.First.{starts}
 use Rattle.js_grammar.proofs.FirstClaims.{firsts}
 use Rattle.js_grammar.proofs.FirstRules.{fails_here}
 use Rattle.js_grammar.proofs.Looks.{covers, covered, apart}
-use Rattle.js_grammar.proofs.Calculus.{On, ◌▹◌, ◌▹✗◌, done, ends, here_at, left, looks, same, part_fails, fails_alt, fails_look, fails_node, fails_rule, inside_full, weaken_fails_on, weaken_on}
+use Rattle.js_grammar.proofs.Calculus.{On, ◌▹◌, ◌▹✗◌, done, ends, here_at, left, looks, part_by, same, part_fails, fails_alt, fails_look, fails_node, fails_rule, inside_full, weaken_fails_on, weaken_on}
 use Rattle.js_tree.specs.declared.op.DeclarationKind.{DeclarationKind}
 use Rattle.js_tree.specs.declared.id.NodeId.{NodeId}
 use Rattle.js_tree.specs.Holding.{Holds, Keeps}
@@ -35,11 +35,11 @@ use Rattle.js_parsing.specs.Answers.{Answer, Grown, Numbered, Stops, Stretch, Un
 use Rattle.js_parsing.specs.Lexemes.{Lex, other_goals}
 use Rattle.js_parsing.specs.Stands.{StandsHere}
 use Rattle.js_parsing.specs.States.{At}
-use Rattle.js_targets.specs.Taken.{NoTargetFrom, goes_through}
+use Rattle.js_targets.specs.Taken.{goes_through}
 use Rattle.js_declarations.specs.HeadDeclarators.{ThroughHere}
 use Rattle.js_statements.specs.declared.for_statement.Ending.{Ending}
 use Rattle.js_statements.specs.declared.for_statement.Ending.TheVariants as ending
-use Rattle.js_statements.specs.ForHeads.{FirstTaken, NoFirst, end_kind, first_part}
+use Rattle.js_statements.specs.ForHeads.{FirstTaken, NoFirst, NoFirstPart, end_kind, first_part}
 use Rattle.js_statements.specs.ForParts.{BeginsHead, ChecksAsync, ChecksLet, FindsHead, HeadExpressionRead, HeadTargetTaken, IsAsyncAlone, NoneBegins, TakesHeadTarget, TakesPartWithoutIn}
 use Rattle.js_statements.specs.LetStatements.{behind_let, LetIsName}
 use Rattle.js_parsing.proofs.Ahead.{pass_over}
@@ -72,11 +72,12 @@ use Rattle.js_targets.specs.Taken.{LiteralRead, TakesTarget, no_target_at}
 use Rattle.js_targets.specs.Targets.{IsTarget, is_literal, target_of}
 use Rattle.js_targets.proofs.ArraysConverted.{signs}
 use Rattle.js_targets.proofs.Covers.{lexed_there, underived_there}
-use Rattle.js_targets.proofs.HeadTargets.{before_these, goes_behind, none_before, literal_none, literal_path, simple_none, simple_path}
+use Rattle.js_targets.proofs.HeadTargets.{before_these, goes_behind, literal_none, literal_path, none_before, none_read_through, simple_none, simple_path}
 use Rattle.js_targets.proofs.Refused.{refused}
-use Rattle.js_expressions.specs.HeadOperands.{HeadOperand, OperandOutcome, no_target, operand}
+use Rattle.js_expressions.specs.HeadOperands.{HeadOperand, NoTargetPart, OperandOutcome, no_target, operand}
+use Rattle.js_expressions.proofs.HeadOperands.{target_part}
 use Rattle.js_cursor.specs.declared.stop.Stop.TheVariants.{Fatal, NoMemory}
-use Rattle.js_statements.proofs.ForHeads.{no_empty, on_semicolon}
+use Rattle.js_statements.proofs.ForHeads.{last_between, no_empty, no_first_part, on_semicolon}
 use Rattle.js_statements.proofs.Strings.{name_look, name_target}
 use Rattle.js_statements.proofs.WordLookaheads.{IsWord, Leads, async_word, at_once, elsewhere, ends_at, followed, is_word, leads_to, let_word, no_word, not_followed, stands_word, ◌⇒◌, ◌⇒✗◌}
 
@@ -165,6 +166,16 @@ behind_looks {text} {f} {X} {s} false n = record { no = λ ts vs k ls rest l d e
     go l (is_seq (is_look q) (is_seq (is_left (is_look r)) d)) e = n.no _ _ _ _ _ l d e
     go l (is_seq (is_look q) (is_seq (is_right (is_ahead (is_seq (is_lexeme r) (is_look o)))) d)) e = n.no _ _ _ _ _ l d e
 
+-- no line with `of`, where neither a target with it nor a declaration is derived
+no_of_part : {text : List ℕ} {f : Flags} {X : Test} {s : ℕ} (is_await : Bool) → Fails rule (Lex text) X end (symbol Target f ▸ tok kind.Of) s → Fails rule (Lex text) (plain full) end (for_binding f) s → Fails rule (Lex text) X end (first_part is_await ending.Of f ▸ tok kind.Of) s
+no_of_part {text} {f} {X} {s} is_await n m = record { no = λ ts vs k ls rest l d e. go is_await l d e }
+  where
+    go : (b : Bool) {ts vs : Slots} {k : ℕ} {ls rest : Lexemes} → Lexes (Lex text) s ls → Takes rule (first_part b ending.Of f ▸ tok kind.Of) end ts s ls vs k rest → Admits X ts (here rest) → ⊥
+    go true l (is_seq (is_left (is_seq (is_look q) (is_seq is_nothing d))) c) e = n.no _ _ _ _ _ l (is_seq d c) e
+    go false l (is_seq (is_left (is_seq (is_look q) (is_seq (is_left (is_look r)) d))) c) e = n.no _ _ _ _ _ l (is_seq d c) e
+    go false l (is_seq (is_left (is_seq (is_look q) (is_seq (is_right (is_ahead (is_seq (is_lexeme r) (is_look o)))) d))) c) e = n.no _ _ _ _ _ l (is_seq d c) e
+    go b l (is_seq (is_right d) c) e = m.no _ _ _ _ _ l d (refl, refl)
+
 of_word : IsWord kind.Of
 of_word = record { settled = refl; plain = refl; goes_on = refl }
 
@@ -223,16 +234,19 @@ module _ {text : List ℕ} {f : Flags} (is_await : Bool) {p : Parser} (a : At te
   no_of_async : {X : Test} → is_await ≡ false → StandsHere p kind.Async true → ((z : Lexeme) → Lex text p.token.span.end z → IsTrue (seen (is kind.Of) z)) → Fails rule (Lex text) X end (first_part is_await ending.Of f) p.prev_token_end
   no_of_async {X} e s o = subst (λ (b : Bool). Fails rule (Lex text) X end (first_part b ending.Of f) p.prev_token_end) (sym e) (fails_alt (pass_over (looks (other (is kind.Let)) (not_let (λ k i. let z : kind.Async ≡ kind.Let = sym s.0 ∙ k in cc))) ▹✗ followed a async_word (is kind.Of) s o) no_binding)
 
-  -- where no target is derived
-  through : (e : Ending) → (e ≡ ending.Semicolon → ⊥) → NoTargetFrom text f p.prev_token_end → Fails rule (Lex text) (plain (is (end_kind e))) end (symbol Target f) p.prev_token_end
-  through ending.Semicolon m z = absurd (m refl)
-  through ending.In m z = weaken_fails_on z (record { admits = λ ts vs k ls rest d e. (look_in (here rest) e.0, refl) })
-  through ending.Of m z = weaken_fails_on z (record { admits = λ ts vs k ls rest d e. (look_of (here rest) e.0, refl) })
+  -- where no target is derived before these
+  through : (e : Ending) → (e ≡ ending.Semicolon → ⊥) → NoTargetPart text f p.prev_token_end → Fails rule (Lex text) (plain (other (λ k w e. same_kind kind.Arrow k))) end (symbol Target f ▸ tok (end_kind e)) p.prev_token_end
+  through e m z = record { no = λ ts vs k ls rest l d h. go e m ts vs k ls rest l d h }
+    where
+      go : (e : Ending) → (e ≡ ending.Semicolon → ⊥) → (ts vs : Slots) (k : ℕ) (ls rest : Lexemes) → Lexes (Lex text) p.prev_token_end ls → Takes rule (symbol Target f ▸ tok (end_kind e)) end ts p.prev_token_end ls vs k rest → Admits (plain (other (λ k w e. same_kind kind.Arrow k))) ts (here rest) → ⊥
+      go ending.Semicolon m ts vs k ls rest l d h = absurd (m refl)
+      go ending.In m ts vs k ls rest l (is_seq {mid = mid} d (is_lexeme q)) h = z.no ts vs k ls rest l (is_seq d (is_lexeme (look_in (here mid) q))) h
+      go ending.Of m ts vs k ls rest l (is_seq {mid = mid} d (is_lexeme q)) h = z.no ts vs k ls rest l (is_seq d (is_lexeme (look_of (here mid) q))) h
 
-  pub no_target_part : (e : Ending) → (e ≡ ending.Semicolon → ⊥) → NoTargetFrom text f p.prev_token_end → NoFirst text is_await e f p.prev_token_end
+  pub no_target_part : (e : Ending) → (e ≡ ending.Semicolon → ⊥) → NoTargetPart text f p.prev_token_end → NoFirstPart text is_await e f p.prev_token_end
   no_target_part ending.Semicolon m z = absurd (m refl)
-  no_target_part ending.In m z = in_leads ⇒✗ through ending.In m z
-  no_target_part ending.Of m z = fails_alt (behind_looks is_await (through ending.Of m z)) no_binding
+  no_target_part ending.In m z = part_by (in_leads {X = plain (is kind.In)}).goes (last_between kind.In _ (first_part is_await ending.In f) p.prev_token_end) ▹✗ through ending.In m z
+  no_target_part ending.Of m z = no_of_part is_await (through ending.Of m z) no_binding
 
   -- ---- an expression
   module _ (i : f.in_ ≡ false) (o : p.token.kind ≡ kind.Semicolon → ⊥) where
@@ -246,13 +260,13 @@ module _ {text : List ℕ} {f : Flags} (is_await : Bool) {p : Parser} (a : At te
     no_init n = fails_alt (fails_rule {X' = plain (is kind.Semicolon)} (λ l cs vs y e. e) (init_leads ⇒✗ subst (λ (g : Flags). Fails rule (Lex text) (plain (is kind.Semicolon)) end (symbol Expression g) p.prev_token_end) (sym (without i)) (weaken_fails_on n on_semicolon))) (no_empty a kind.Semicolon (inl refl) o)
 
     -- none can be read
-    pub nothing_first : Underived text (at Expression f) p.prev_token_end → NoTargetFrom text f p.prev_token_end → (e : Ending) → NoFirst text is_await e f p.prev_token_end
-    nothing_first n z ending.Semicolon = no_init n
+    pub nothing_first : Underived text (at Expression f) p.prev_token_end → NoTargetPart text f p.prev_token_end → (e : Ending) → NoFirstPart text is_await e f p.prev_token_end
+    nothing_first n z ending.Semicolon = no_first_part is_await ending.Semicolon (no_init n)
     nothing_first n z ending.In = no_target_part ending.In (λ k. cc) z
     nothing_first n z ending.Of = no_target_part ending.Of (λ k. cc) z
 
     -- one before neither `in` nor `of`
-    pub expression_first : {q : Parser} {id : NodeId} (x : Numbered text f (at Expression f) p q id) → ThroughHere q false → NoTargetFrom text f p.prev_token_end → FirstTaken text f is_await p q (Some id)
+    pub expression_first : {q : Parser} {id : NodeId} (x : Numbered text f (at Expression f) p q id) → ThroughHere q false → NoTargetPart text f p.prev_token_end → FirstTaken text f is_await p q (Some id)
     expression_first {q} x t z = record {
       at = x.answer.at;
       same = x.answer.same;
@@ -270,13 +284,13 @@ module _ {text : List ℕ} {f : Flags} (is_await : Bool) {p : Parser} (a : At te
       keeps = x.keeps;
     }
       where
-        reads : (e : Ending) → StandsHere q (end_kind e) true → Verdict p.errors q.errors (Stretch text (plain (is (end_kind e))) (first_part is_await e f) p.prev_token_end nothing q.prev_token_end (tree x.answer.label x.answer.slots) (init_path x.answer).pass) (NoFirst text is_await e f p.prev_token_end)
-        reads ending.Semicolon s = (init_path x.answer).verdict
+        reads : (e : Ending) → StandsHere q (end_kind e) true → Verdict p.errors q.errors (Stretch text (plain (is (end_kind e))) (first_part is_await e f) p.prev_token_end nothing q.prev_token_end (tree x.answer.label x.answer.slots) (init_path x.answer).pass) (NoFirstPart text is_await e f p.prev_token_end)
+        reads ending.Semicolon s = verdict_of (init_path x.answer).verdict (λ y. y) (λ n. no_first_part is_await ending.Semicolon n)
         reads ending.In s = absurd (t.0 s.0 s.1)
         reads ending.Of s = absurd (t.1 s.0 s.1)
 
-        fails : (e : Ending) → StandsHere q (end_kind e) false → NoFirst text is_await e f p.prev_token_end
-        fails ending.Semicolon s = path_not ending.Semicolon (init_path x.answer) x.answer.at s
+        fails : (e : Ending) → StandsHere q (end_kind e) false → NoFirstPart text is_await e f p.prev_token_end
+        fails ending.Semicolon s = no_first_part is_await ending.Semicolon (path_not ending.Semicolon (init_path x.answer) x.answer.at s)
         fails ending.In s = no_target_part ending.In (λ k. cc) z
         fails ending.Of s = no_target_part ending.Of (λ k. cc) z
 
@@ -284,9 +298,9 @@ module _ {text : List ℕ} {f : Flags} (is_await : Bool) {p : Parser} (a : At te
     pub expression_alone : {q : Parser} {id : NodeId} (x : Numbered text f (at Expression f) p q id) → HeadOperand text f p q id → ThroughHere q false → FirstTaken text f is_await p q (Some id)
     expression_alone {q} {id} x y h = expression_first x h (by y)
       where
-        by : HeadOperand text f p q id → NoTargetFrom text f p.prev_token_end
+        by : HeadOperand text f p q id → NoTargetPart text f p.prev_token_end
         by (no_target m z) = z
-        by (operand y) = none_before i y.answer (through_not y.answer.at h)
+        by (operand y) = target_part (none_before i y.answer (through_not y.answer.at h))
 
     -- one before `in` or `of` is none before a semicolon
     no_init_through : {q : Parser} {id : NodeId} (x : Numbered text f (at Expression f) p q id) → ThroughHere q true → NoFirst text is_await ending.Semicolon f p.prev_token_end
@@ -296,15 +310,15 @@ module _ {text : List ℕ} {f : Flags} (is_await : Bool) {p : Parser} (a : At te
         by (inl h) = λ k e. let w : kind.In ≡ kind.Semicolon = sym h.0 ∙ k in cc
         by (inr h) = λ k e. let w : kind.Of ≡ kind.Semicolon = sym h.0 ∙ k in cc
 
-    pub head_unread : (q : Parser) (x : Stop) → Stops p q x (Underived text (at Expression f) p.prev_token_end) → OperandOutcome text f p q (Err x) → Stops p q x ((e : Ending) → NoFirst text is_await e f p.prev_token_end)
+    pub head_unread : (q : Parser) (x : Stop) → Stops p q x (Underived text (at Expression f) p.prev_token_end) → OperandOutcome text f p q (Err x) → Stops p q x ((e : Ending) → NoFirstPart text is_await e f p.prev_token_end)
     head_unread q Fatal s z = stops_so p q Fatal (λ n e. nothing_first n z e) s
     head_unread q NoMemory s z = tt
 
-    pub target_unread : {q : Parser} {id : NodeId} (x : Numbered text f (at Expression f) p q id) → ThroughHere q true → (r : Parser) (e : Stop) → Stops p r e (NoTargetFrom text f p.prev_token_end) → Stops p r e ((d : Ending) → NoFirst text is_await d f p.prev_token_end)
+    pub target_unread : {q : Parser} {id : NodeId} (x : Numbered text f (at Expression f) p q id) → ThroughHere q true → (r : Parser) (e : Stop) → Stops p r e (NoTargetPart text f p.prev_token_end) → Stops p r e ((d : Ending) → NoFirstPart text is_await d f p.prev_token_end)
     target_unread {q} x h r e s = stops_so p r e (λ z d. by d z) s
       where
-        by : (d : Ending) → NoTargetFrom text f p.prev_token_end → NoFirst text is_await d f p.prev_token_end
-        by ending.Semicolon z = no_init_through x h
+        by : (d : Ending) → NoTargetPart text f p.prev_token_end → NoFirstPart text is_await d f p.prev_token_end
+        by ending.Semicolon z = no_first_part is_await ending.Semicolon (no_init_through x h)
         by ending.In z = no_target_part ending.In (λ k. cc) z
         by ending.Of z = no_target_part ending.Of (λ k. cc) z
 
@@ -365,8 +379,8 @@ module _ {text : List ℕ} {f : Flags} (is_await : Bool) {p : Parser} (a : At te
         strips = λ us. refl;
         pass = t.path.pass;
         walked = t.path.walked;
-        read = λ e s. reads e s;
-        none = λ e s. fails e s;
+        read = λ e s. verdict_of (reads e s) (λ y. y) (λ n. no_first_part is_await e n);
+        none = λ e s. no_first_part is_await e (fails e s);
         kept = λ ds g. target_grown g;
         held = HoldsAll-one target t.holds;
         keeps = t.keeps;
@@ -402,8 +416,8 @@ module _ {text : List ℕ} {f : Flags} (is_await : Bool) {p : Parser} (a : At te
             strips = λ us. refl;
             pass = t.path.pass;
             walked = walked_to (sym (ap spot u.is)) t.path.walked;
-            read = λ e s. reads e (here_in token s);
-            none = λ e s. fails e (λ k i. s (ap (λ (z : Token). z.kind) token ∙ k) (ap (λ (z : Token). z.escaped) token ∙ i));
+            read = λ e s. verdict_of (reads e (here_in token s)) (λ y. y) (λ n. no_first_part is_await e n);
+            none = λ e s. no_first_part is_await e (fails e (λ k i. s (ap (λ (z : Token). z.kind) token ∙ k) (ap (λ (z : Token). z.escaped) token ∙ i)));
             kept = λ ds g. target_grown (grown_both (kept_one u) g);
             held = HoldsAll-one target (subst (λ (ns : List Node). Holds ns (length p.nodes) (length ns) target.0 t.label t.slots) (sym nodes) t.holds);
             keeps = subst (λ (ns : List Node). Keeps p.nodes ns) (sym nodes) t.keeps;
@@ -476,12 +490,12 @@ module _ {text : List ℕ} {f : Flags} {p q : Parser} {id : NodeId} (a : At text
             let w = t text f p a s k y l in
             record { same = w.same; place = w.place; token = w.token; label = w.label; slots = w.slots; path = before_path i (literal_path y.answer l w); holds = w.holds; keeps = w.keeps }
 
-    pub literal_stops : (r : Parser) (e : Stop) → TakesTarget start id kept q r (Err e) → Stops p r e (NoTargetFrom text f p.prev_token_end)
+    pub literal_stops : (r : Parser) (e : Stop) → TakesTarget start id kept q r (Err e) → Stops p r e (NoTargetPart text f p.prev_token_end)
     literal_stops r e t = by o
       where
-        by : HeadOperand text f p q id → Stops p r e (NoTargetFrom text f p.prev_token_end)
+        by : HeadOperand text f p q id → Stops p r e (NoTargetPart text f p.prev_token_end)
         by (no_target n z) = absurd (false≢true (sym (n _ _ _ _ x.holds).0 ∙ h _ _ _ _ x.holds))
-        by (operand y) = let l = h _ _ _ _ y.holds in stops_so p r e (λ n. before_these i (literal_none y.answer l n)) (t text f p a s k y l)
+        by (operand y) = let l = h _ _ _ _ y.holds in stops_so p r e (λ n. target_part (before_these i (literal_none y.answer l n))) (t text f p a s k y l)
 
   -- a simple one
   pub simple_taken : {target : NodeId} → OfTree q id (λ lo hi l cs. IsTarget q.nodes lo hi l cs (Some target)) → HeadTargetTaken text f p q q target
@@ -493,14 +507,14 @@ module _ {text : List ℕ} {f : Flags} {p q : Parser} {id : NodeId} (a : At text
 
   -- or none
   module _ (h : OfTree q id (λ lo hi l cs. is_literal l.kind ≡ false)) (e : OfTree q id (λ lo hi l cs. target_of l cs ≡ None)) where
-    none_there : NoTargetFrom text f p.prev_token_end
+    none_there : NoTargetPart text f p.prev_token_end
     none_there = by o
       where
-        by : HeadOperand text f p q id → NoTargetFrom text f p.prev_token_end
+        by : HeadOperand text f p q id → NoTargetPart text f p.prev_token_end
         by (no_target n z) = z
-        by (operand y) = before_these i (simple_none y.answer (h _ _ _ _ y.holds) (e _ _ _ _ y.holds))
+        by (operand y) = target_part (before_these i (simple_none y.answer (h _ _ _ _ y.holds) (e _ _ _ _ y.holds)))
 
-    pub simple_stops : (r : Parser) (s : Stop) → GivesUp EndsParse q r s → Stops p r s (NoTargetFrom text f p.prev_token_end)
+    pub simple_stops : (r : Parser) (s : Stop) → GivesUp EndsParse q r s → Stops p r s (NoTargetPart text f p.prev_token_end)
     simple_stops r s g = refused r s x.answer.at x.answer.same x.answer.verdict g none_there
 
     -- which has its mark
@@ -540,7 +554,7 @@ module _ {text : List ℕ} {f : Flags} {p q : Parser} {id : NodeId} (a : At text
           within = (subst (λ (v : List ℕ). IsCharBoundary v q.prev_token_end) x.answer.at.text_is x.answer.at.at.between).0;
           begins_between = subst (λ (v : ℕ). IsCharBoundary text v) (sym d) (subst (λ (v : List ℕ). IsCharBoundary v p.token.span.start) a.text_is a.at.lies.starts_whole);
           ends_between = subst (λ (v : List ℕ). IsCharBoundary v q.prev_token_end) x.answer.at.text_is x.answer.at.at.between;
-          stands = (inr (underived_there x.answer a z y l f Target (record { start = start; end = q.prev_token_end }) d refl (λ u g. none_there.no (tree u.label u.slots end) end q.prev_token_end (x.answer.pass (last y)) (last y) (lexed_there x.answer a z y l) (is_such g refl) ((behind t).2, refl))), (refl, refl));
+          stands = (inr (underived_there x.answer a z y l f Target (record { start = start; end = q.prev_token_end }) d refl (λ u g. none_read_through i a x.answer z (h _ _ _ _ x.holds) (e _ _ _ _ x.holds) y l (behind t).2 u g)), (refl, refl));
         }
 
 -- as a call needs it

@@ -3,6 +3,7 @@ use Rattle.std.specs.Prelude.{ℕ, ◌≡◌, ◌≤◌, ◌⊎◌, Bool, true, 
 use Rattle.js_base.specs.declared.diagnostic.Diagnostic.{Diagnostic}
 use Rattle.js_base.specs.declared.kind.Kind.{Kind}
 use Rattle.js_base.specs.declared.kind.Kind.TheVariants as kind
+use Rattle.js_base.specs.Kinds.{same_kind}
 use Rattle.js_grammar.specs.Trees.{Slots, append, hole, tree, end as no_slots, variable_declaration, variable_declarator}
 use Rattle.js_grammar.specs.Grammar.{Lexemes, is, nothing, ◌▸◌, ◌◇◌}
 use Rattle.js_grammar.specs.Parsing.{plain, full, Fails}
@@ -71,8 +72,13 @@ behind_head e ts = behind_rest e (behind_slot ts)
 
 -- ---- the first part
 
+-- none before the lexeme that ends it
 abbrev pub NoFirst : List ℕ → Bool → Ending → Flags → ℕ → Type 0
 NoFirst text w e f s = Fails rule (Lex text) (plain (is (end_kind e))) no_slots (first_part w e f) s
+
+-- None with that lexeme, and something else than `=>` behind it: `async of =>` begins an arrow function.
+abbrev pub NoFirstPart : List ℕ → Bool → Ending → Flags → ℕ → Type 0
+NoFirstPart text w e f s = Fails rule (Lex text) (plain (other (λ k n e. same_kind kind.Arrow k))) no_slots (first_part w e f ▸ tok (end_kind e)) s
 
 -- The first part was read, one slot, which may be empty. Before the lexeme that stands here it is this, or none is derived; before the others none is.
 pub record FirstTaken (text : List ℕ) (f : Flags) (w : Bool) (p q : Parser) (first : Option NodeId) : Type 0 where
@@ -85,15 +91,15 @@ pub record FirstTaken (text : List ℕ) (f : Flags) (w : Bool) (p q : Parser) (f
   pub strips : (us : Slots) → behind_slot (slots us) ≡ us
   pub pass : Lexemes → Lexemes
   pub walked : Walked text (spot p) (spot q) pass
-  pub read : (e : Ending) → StandsHere q (end_kind e) true → Verdict p.errors q.errors (Stretch text (plain (is (end_kind e))) (first_part w e f) p.prev_token_end nothing q.prev_token_end slots pass) (NoFirst text w e f p.prev_token_end)
-  pub none : (e : Ending) → StandsHere q (end_kind e) false → NoFirst text w e f p.prev_token_end
+  pub read : (e : Ending) → StandsHere q (end_kind e) true → Verdict p.errors q.errors (Stretch text (plain (is (end_kind e))) (first_part w e f) p.prev_token_end nothing q.prev_token_end slots pass) (NoFirstPart text w e f p.prev_token_end)
+  pub none : (e : Ending) → StandsHere q (end_kind e) false → NoFirstPart text w e f p.prev_token_end
   pub kept : (ds : List Diagnostic) → Grown q.errors ds → Grown p.errors ds
   pub held : HoldsAll q.nodes (length p.nodes) (length q.nodes) (first ∷ []) (slots no_slots)
   pub keeps : Keeps p.nodes q.nodes
 
 abbrev pub TakesFirst : Bool → Parser → Parser → Result (Option NodeId) Stop → Type 0
 TakesFirst w p q (Ok first) = (text : List ℕ) (f : Flags) → At text f p → FirstTaken text f w p q first
-TakesFirst w p q (Err x) = (text : List ℕ) (f : Flags) → At text f p → Stops p q x ((e : Ending) → NoFirst text w e f p.prev_token_end)
+TakesFirst w p q (Err x) = (text : List ℕ) (f : Flags) → At text f p → Stops p q x ((e : Ending) → NoFirstPart text w e f p.prev_token_end)
 
 -- ---- a later part of a ForStatement's head
 

@@ -24,13 +24,13 @@ use Rattle.js_parsing.specs.Classes.{IsEarly}
 use Rattle.js_parsing.specs.Stands.{StandsHere}
 use Rattle.js_parsing.specs.States.{At, Same}
 use Rattle.js_parsing.proofs.Paths.{Path}
-use Rattle.js_targets.specs.Taken.{NoTargetFrom, goes_through}
-use Rattle.js_expressions.specs.HeadOperands.{HeadOperand}
+use Rattle.js_targets.specs.Taken.{goes_through}
+use Rattle.js_expressions.specs.HeadOperands.{HeadOperand, NoTargetPart}
 use Rattle.js_declarations.specs.HeadDeclarators.{ThroughHere}
 use Rattle.js_declarations.specs.declared.head.HeadForm.{HeadForm}
 use Rattle.js_declarations.specs.declared.head.HeadForm.TheVariants as form
 use Rattle.js_statements.specs.declared.for_statement.Ending.{Ending}
-use Rattle.js_statements.specs.ForHeads.{FirstTaken, NoFirst}
+use Rattle.js_statements.specs.ForHeads.{FirstTaken, NoFirstPart}
 use Rattle.js_statements.specs.LetStatements.{LetHere, NoLet}
 
 -- a declaration of this kind begins here
@@ -50,7 +50,7 @@ FindsHead p q None = (q ≡ p) × NoneBegins p
 -- the first part was read, one that isn't empty; or none is derived, whatever ends it
 abbrev pub TakesPartWithoutIn : Bool → Parser → Parser → Result NodeId Stop → Type 0
 TakesPartWithoutIn w p q (Ok id) = (text : List ℕ) (f : Flags) → At text f p → FirstTaken text f w p q (Some id)
-TakesPartWithoutIn w p q (Err x) = (text : List ℕ) (f : Flags) → At text f p → Stops p q x ((e : Ending) → NoFirst text w e f p.prev_token_end)
+TakesPartWithoutIn w p q (Err x) = (text : List ℕ) (f : Flags) → At text f p → Stops p q x ((e : Ending) → NoFirstPart text w e f p.prev_token_end)
 
 -- ---- what is told of declarators before `in` and `of`
 
@@ -125,4 +125,4 @@ pub record HeadTargetTaken (text : List ℕ) (f : Flags) (first old new : Parser
 
 abbrev pub TakesHeadTarget : ℕ → NodeId → ℕ → Parser → Parser → Result NodeId Stop → Type 0
 TakesHeadTarget start id kept old new (Ok t) = (text : List ℕ) (f : Flags) (first : Parser) → At text f first → f.in_ ≡ false → start ≡ first.token.span.start → kept ≡ length first.errors → Numbered text f (at Expression f) first old id → HeadOperand text f first old id → HeadTargetTaken text f first old new t
-TakesHeadTarget start id kept old new (Err e) = (text : List ℕ) (f : Flags) (first : Parser) → At text f first → f.in_ ≡ false → start ≡ first.token.span.start → kept ≡ length first.errors → Numbered text f (at Expression f) first old id → HeadOperand text f first old id → Stops first new e (NoTargetFrom text f first.prev_token_end)
+TakesHeadTarget start id kept old new (Err e) = (text : List ℕ) (f : Flags) (first : Parser) → At text f first → f.in_ ≡ false → start ≡ first.token.span.start → kept ≡ length first.errors → Numbered text f (at Expression f) first old id → HeadOperand text f first old id → Stops first new e (NoTargetPart text f first.prev_token_end)

@@ -13,5 +13,5 @@ is_parenthesized_head-requires-clause-open g c = (stands_so c.args.p.now LParen 
 pub returns-in-NoHead : goal.returns-in-NoHead
 returns-in-NoHead g c = no_list_behind c.requires.at (stands_so c.args.p.now LParen c.if-not-stands.false c.stands.ensures).0 (none_seen c.args.p.now c.is_parenthesized_head.new.p c.in_ok-is_parenthesized_head.field-0 c.in-NoHead.is c.in_ok-is_parenthesized_head.ensures)
 
-pub returns-in-Head : goal.returns-in-Head
-returns-in-Head g c = lists_behind c.args.p.now c.is_parenthesized_head.new.p c.attempt_head.new.p _ (maybe_seen c.args.p.now c.is_parenthesized_head.new.p c.in_ok-is_parenthesized_head.field-0 c.in-Head c.in_ok-is_parenthesized_head.ensures) c.requires.at (stands_so c.args.p.now LParen c.if-not-stands.false c.stands.ensures).0 c.attempt_head.ensures
+pub returns-in_default : goal.returns-in_default
+returns-in_default g c = lists_behind c.args.p.now c.is_parenthesized_head.new.p c.attempt_head.new.p _ (maybe_seen c.args.p.now c.is_parenthesized_head.new.p c.in_ok-is_parenthesized_head.field-0 c.in_default.not-NoHead c.in_ok-is_parenthesized_head.ensures) c.requires.at (stands_so c.args.p.now LParen c.if-not-stands.false c.stands.ensures).0 c.attempt_head.ensures
