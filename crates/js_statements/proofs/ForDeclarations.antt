@@ -243,8 +243,8 @@ module _ {text : List ℕ} {f : Flags} (is_await : Bool) {p : Parser} (a : At te
         strips = λ vs. refl;
         pass = pass;
         walked = x.walked;
-        read = λ e s. verdict_of (x.read e s) (λ y. y) (λ n. no_first_part is_await e n);
-        none = λ e s. no_first_part is_await e (x.none e s);
+        read = λ e s. verdict_of (x.read e s) (λ y. y) (λ n. no_first_part f is_await e n);
+        none = λ e s. no_first_part f is_await e (x.none e s);
         kept = λ ds d. x.kept ds d;
         held = HoldsAll-one id (subst (λ (z : Parser). Holds z.nodes (length p.nodes) (length z.nodes) id.0 l us) m g);
         keeps = subst (λ (z : Parser). Keeps p.nodes z.nodes) m k';
@@ -343,7 +343,7 @@ module _ {text : List ℕ} {f : Flags} (is_await : Bool) {p q : Parser} (k : Dec
   head_none n ending.Of = no_of n.not_alone
 
   pub head_stops : (v : Parser) (e : Stop) → Stops q v e (NoHeadDeclarator text f (is_constant k) q.prev_token_end) → Stops p v e ((e : Ending) → NoFirstPart text is_await e f p.prev_token_end)
-  head_stops v e s = stops_behind v e m.same (λ g. grown_then m.kept g) (λ n d. no_first_part is_await d (head_none n d)) s
+  head_stops v e s = stops_behind v e m.same (λ g. grown_then m.kept g) (λ n d. no_first_part f is_await d (head_none n d)) s
 
   -- ---- before `in` or `of` what is bound alone
   module _ {r : Parser} {first : NodeId} (x : BoundThrough text f (is_constant k) q r first) where
@@ -572,7 +572,7 @@ module _ {text : List ℕ} {f : Flags} (is_await : Bool) {p q : Parser} (k : Dec
     no_in_here = not_in r kind.Comma (λ e. cc) j
 
     pub others_stop : (first : NodeId) (g : HeadForm) → HeadRead g text f (is_constant k) q r (record { node = first; form = g }) → (u : Parser) (e : Stop) → NoneBehind (is_constant k) first r u e → Stops p u e ((e : Ending) → NoFirstPart text is_await e f p.prev_token_end)
-    others_stop first g x u e y = let z = not_through k a b i m r j g x in stops_behind u e m.same (λ g. grown_then m.kept g) (λ n d. no_first_part is_await d (none_first_of z n d)) (y text f q m.at z.read)
+    others_stop first g x u e y = let z = not_through k a b i m r j g x in stops_behind u e m.same (λ g. grown_then m.kept g) (λ n d. no_first_part f is_await d (none_first_of z n d)) (y text f q m.at z.read)
       where
         none_value : (g : HeadForm) → BesideThrough text f (is_constant k) g q r first → ValueRead g text f q r first → Fails rule (Lex text) (plain (is kind.In)) end (named_value f) q.prev_token_end
         none_value form.InitialisedName z v = either_way v.verdict (λ w. stretch_not kind.In w (stands_not z.read.at refl no_in_here)) (λ w. w)

@@ -107,8 +107,8 @@ last_between k X a s = record { admits = λ ts us vs j n ls mid rest d d' h. (go
     go (is_lexeme q) = q
 
 -- none before that lexeme is none with it
-pub no_first_part : {text : List ℕ} {f : Flags} {s : ℕ} (w : Bool) (e : Ending) → NoFirst text w e f s → NoFirstPart text w e f s
-no_first_part {f = f} {s = s} w e n = part_fails n (last_between (end_kind e) _ (first_part w e f) s)
+pub no_first_part : {text : List ℕ} {s : ℕ} (f : Flags) (w : Bool) (e : Ending) → NoFirst text w e f s → NoFirstPart text w e f s
+no_first_part {s = s} f w e n = part_fails n (last_between (end_kind e) _ (first_part w e f) s)
 
 -- `=>` doesn't begin what stands behind it
 abbrev behind_end : Ending → Flags → G
@@ -123,8 +123,8 @@ no_arrow_behind ending.In f = refl
 no_arrow_behind ending.Of f = refl
 
 -- so no head is derived there
-pub no_head_from : {text : List ℕ} {f : Flags} {s : ℕ} (w : Bool) (e : Ending) → NoFirstPart text w e f s → NoHead text w e f s
-no_head_from {text} {f} {s} w e n = record { no = λ ts vs k ls rest l d h. go e n ts vs k ls rest l d h }
+pub no_head_from : {text : List ℕ} {s : ℕ} (f : Flags) (w : Bool) (e : Ending) → NoFirstPart text w e f s → NoHead text w e f s
+no_head_from {text} {s} f w e n = record { no = λ ts vs k ls rest l d h. go e n ts vs k ls rest l d h }
   where
     behind : (e : Ending) {ts vs : Slots} {j k : ℕ} {mid rest : Lexemes} → Takes rule (behind_end e f) end ts j mid vs k rest → IsTrue (seen (is kind.RParen) (here rest)) → IsTrue (seen (other (λ k n e. same_kind kind.Arrow k)) (here mid))
     behind e {mid = mid} d h = covered (starts first (behind_end e f) (is kind.RParen)) (other (λ k n e. same_kind kind.Arrow k)) (no_arrow_behind e f) (here mid).kind (here mid).newline (here mid).escaped (starting firsts (is kind.RParen) d h)
@@ -270,9 +270,9 @@ none_first {text} {f} {p} a w j h e = record {
     reads ending.Of s = absurd (apart_from kind.Of h (λ k. cc) (λ k. cc) s.0)
 
     fails : (d : Ending) → StandsHere p (end_kind d) false → NoFirstPart text w d f p.prev_token_end
-    fails ending.Semicolon s = no_first_part w ending.Semicolon (fails_alt (none_at_end a (init_begins f) j h e) (no_empty a kind.Semicolon (inl refl) (λ k. s k (plain_here h))))
-    fails ending.In s = no_first_part w ending.In (none_at_end a (in_begins w f) j h e)
-    fails ending.Of s = no_first_part w ending.Of (none_at_end a (of_begins w f) j h e)
+    fails ending.Semicolon s = no_first_part f w ending.Semicolon (fails_alt (none_at_end a (init_begins f) j h e) (no_empty a kind.Semicolon (inl refl) (λ k. s k (plain_here h))))
+    fails ending.In s = no_first_part f w ending.In (none_at_end a (in_begins w f) j h e)
+    fails ending.Of s = no_first_part f w ending.Of (none_at_end a (of_begins w f) j h e)
 
 pub at_end_so : (k : Kind) (p : Parser) {b r : Bool} → r ≡ b → AtEnd k p r → AtEnd k p b
 at_end_so k p e h = subst (λ (v : Bool). AtEnd k p v) e h
@@ -442,8 +442,8 @@ module _ {text : List ℕ} {f : Flags} {p : Parser} (a : At text f p) where
 module _ {text : List ℕ} {f : Flags} {w : Bool} {p q : Parser} {first : Option NodeId} (x : FirstTaken text f w p q first) where
   pub no_head : (d : Ending) → NoRest text d f q.prev_token_end → NoHead text w d f p.prev_token_end
   no_head d n = elim (stands_either q (end_kind d)) [
-    | inl h ↦ either_way (x.read d h) (λ y. then_by y.goes (first_between w d f _ p.prev_token_end) ▹✗ n) (λ z. no_head_from w d z)
-    | inr h ↦ no_head_from w d (x.none d h)
+    | inl h ↦ either_way (x.read d h) (λ y. then_by y.goes (first_between w d f _ p.prev_token_end) ▹✗ n) (λ z. no_head_from f w d z)
+    | inr h ↦ no_head_from f w d (x.none d h)
   ]
 
   pub rest_stops : (v : Parser) (e : Stop) → Stops q v e ((d : Ending) → NoRest text d f q.prev_token_end) → Stops p v e ((d : Ending) → NoHead text w d f p.prev_token_end)
@@ -458,7 +458,7 @@ module _ {text : List ℕ} {f : Flags} {w : Bool} {p q : Parser} {first : Option
       walked = walked_both x.walked r.path.walked;
       verdict = and_then (x.read e r.here) r.path.verdict
           (λ y z. record { reach = max y.reach z.reach; near = let i = y.near in let j = z.near in let k = r.path.further in let l = x.at.behind in omega arith; goes = then_by y.goes (first_between w e f _ p.prev_token_end) ▹ z.goes })
-          (λ n. no_head_from w e n)
+          (λ n. no_head_from f w e n)
           (λ y n. then_by y.goes (first_between w e f _ p.prev_token_end) ▹✗ n);
     }
       where
@@ -486,7 +486,6 @@ module _ {text : List ℕ} {f : Flags} {w : Bool} {p q : Parser} {first : Option
       held = r.held (length p.nodes) (x.slots end) x.held;
       keeps = Keeps-trans x.keeps r.keeps;
     }
-
 
 pub head_answers : {w : Bool} {p q : Parser} (v : Parser) {first : Option NodeId} (ids js : List (Option NodeId)) (r : Result Ending Stop) → ids ≡ first ∷ [] → TakesFirst w p q (Ok first) → TakesRest q v ids js r → TakesHead w p v js r
 head_answers {p} {q} v {first} ids js (Ok e) i x y = λ text f a. let z = x text f a in head_taken z a (subst (λ (is : List (Option NodeId)). RestTaken text f e q v is js) i (y text f z.at))

@@ -261,7 +261,7 @@ module _ {text : List ℕ} {f : Flags} (is_await : Bool) {p : Parser} (a : At te
 
     -- none can be read
     pub nothing_first : Underived text (at Expression f) p.prev_token_end → NoTargetPart text f p.prev_token_end → (e : Ending) → NoFirstPart text is_await e f p.prev_token_end
-    nothing_first n z ending.Semicolon = no_first_part is_await ending.Semicolon (no_init n)
+    nothing_first n z ending.Semicolon = no_first_part f is_await ending.Semicolon (no_init n)
     nothing_first n z ending.In = no_target_part ending.In (λ k. cc) z
     nothing_first n z ending.Of = no_target_part ending.Of (λ k. cc) z
 
@@ -285,12 +285,12 @@ module _ {text : List ℕ} {f : Flags} (is_await : Bool) {p : Parser} (a : At te
     }
       where
         reads : (e : Ending) → StandsHere q (end_kind e) true → Verdict p.errors q.errors (Stretch text (plain (is (end_kind e))) (first_part is_await e f) p.prev_token_end nothing q.prev_token_end (tree x.answer.label x.answer.slots) (init_path x.answer).pass) (NoFirstPart text is_await e f p.prev_token_end)
-        reads ending.Semicolon s = verdict_of (init_path x.answer).verdict (λ y. y) (λ n. no_first_part is_await ending.Semicolon n)
+        reads ending.Semicolon s = verdict_of (init_path x.answer).verdict (λ y. y) (λ n. no_first_part f is_await ending.Semicolon n)
         reads ending.In s = absurd (t.0 s.0 s.1)
         reads ending.Of s = absurd (t.1 s.0 s.1)
 
         fails : (e : Ending) → StandsHere q (end_kind e) false → NoFirstPart text is_await e f p.prev_token_end
-        fails ending.Semicolon s = no_first_part is_await ending.Semicolon (path_not ending.Semicolon (init_path x.answer) x.answer.at s)
+        fails ending.Semicolon s = no_first_part f is_await ending.Semicolon (path_not ending.Semicolon (init_path x.answer) x.answer.at s)
         fails ending.In s = no_target_part ending.In (λ k. cc) z
         fails ending.Of s = no_target_part ending.Of (λ k. cc) z
 
@@ -318,7 +318,7 @@ module _ {text : List ℕ} {f : Flags} (is_await : Bool) {p : Parser} (a : At te
     target_unread {q} x h r e s = stops_so p r e (λ z d. by d z) s
       where
         by : (d : Ending) → NoTargetPart text f p.prev_token_end → NoFirstPart text is_await d f p.prev_token_end
-        by ending.Semicolon z = no_first_part is_await ending.Semicolon (no_init_through x h)
+        by ending.Semicolon z = no_first_part f is_await ending.Semicolon (no_init_through x h)
         by ending.In z = no_target_part ending.In (λ k. cc) z
         by ending.Of z = no_target_part ending.Of (λ k. cc) z
 
@@ -379,8 +379,8 @@ module _ {text : List ℕ} {f : Flags} (is_await : Bool) {p : Parser} (a : At te
         strips = λ us. refl;
         pass = t.path.pass;
         walked = t.path.walked;
-        read = λ e s. verdict_of (reads e s) (λ y. y) (λ n. no_first_part is_await e n);
-        none = λ e s. no_first_part is_await e (fails e s);
+        read = λ e s. verdict_of (reads e s) (λ y. y) (λ n. no_first_part f is_await e n);
+        none = λ e s. no_first_part f is_await e (fails e s);
         kept = λ ds g. target_grown g;
         held = HoldsAll-one target t.holds;
         keeps = t.keeps;
@@ -416,8 +416,8 @@ module _ {text : List ℕ} {f : Flags} (is_await : Bool) {p : Parser} (a : At te
             strips = λ us. refl;
             pass = t.path.pass;
             walked = walked_to (sym (ap spot u.is)) t.path.walked;
-            read = λ e s. verdict_of (reads e (here_in token s)) (λ y. y) (λ n. no_first_part is_await e n);
-            none = λ e s. no_first_part is_await e (fails e (λ k i. s (ap (λ (z : Token). z.kind) token ∙ k) (ap (λ (z : Token). z.escaped) token ∙ i)));
+            read = λ e s. verdict_of (reads e (here_in token s)) (λ y. y) (λ n. no_first_part f is_await e n);
+            none = λ e s. no_first_part f is_await e (fails e (λ k i. s (ap (λ (z : Token). z.kind) token ∙ k) (ap (λ (z : Token). z.escaped) token ∙ i)));
             kept = λ ds g. target_grown (grown_both (kept_one u) g);
             held = HoldsAll-one target (subst (λ (ns : List Node). Holds ns (length p.nodes) (length ns) target.0 t.label t.slots) (sym nodes) t.holds);
             keeps = subst (λ (ns : List Node). Keeps p.nodes ns) (sym nodes) t.keeps;

@@ -27,5 +27,5 @@ returns-in-Some g c = λ text f first a i s k x o. simple_taken a i x o (cover_i
 pub returns-then-begins_async : goal.returns-then-begins_async
 returns-then-begins_async g c = λ text f first a i s k x o. simple_stops a i x o (λ lo hi l cs h. sym (c.is_array_or_object.ensures lo hi l cs h) ∙ c.if-is_array_or_object.false) (cover_is c.args.p.now c.args.expression c.cover.result None c.in-None.is c.cover.ensures) _ c.set_unexpected.result (ends_so _ _ _ c.set_unexpected.result (λ d e. unexpected_ends c.requires.at.at d e) c.set_unexpected.ensures)
 
-pub returns-in-None : goal.returns-in-None
-returns-in-None g c = λ text f first a i s k x o. simple_stops a i x o (λ lo hi l cs h. sym (c.is_array_or_object.ensures lo hi l cs h) ∙ c.if-is_array_or_object.false) (cover_is c.args.p.now c.args.expression c.cover.result None c.in-None.is c.cover.ensures) _ c.refuse_target.result c.refuse_target.ensures
+pub returns-else-begins_async : goal.returns-else-begins_async
+returns-else-begins_async g c = λ text f first a i s k x o. simple_stops a i x o (λ lo hi l cs h. sym (c.is_array_or_object.ensures lo hi l cs h) ∙ c.if-is_array_or_object.false) (cover_is c.args.p.now c.args.expression c.cover.result None c.in-None.is c.cover.ensures) _ c.refuse_target.result c.refuse_target.ensures
