@@ -1,5 +1,5 @@
 -- Sets of grammar parameters (ECMA-262, 5.1.5), by the bits that stand for them.
-use Rattle.std.specs.Prelude.{ℕ, Bool, ◌≡◌, ◌≢◌, ◌==◌, ◌||◌}
+use Rattle.std.specs.Prelude.{ℕ, Bool, ◌≡◌, ◌≢◌, ◌==◌, ◌&&◌, ◌||◌}
 use Rattle.std.specs.Int.{bit_at}
 use Rattle.js_base.specs.declared.context.Context.{Context}
 
@@ -35,9 +35,16 @@ top_level_flag = 7
 abbrev pub new_target_flag : ℕ
 new_target_flag = 8
 
+abbrev pub await_expression_flag : ℕ
+await_expression_flag = 9
+
 -- whether a set has the flag of a number
 abbrev pub has_flag : ℕ → Context → Bool
 has_flag k c = bit_at (bits_of c) k == 1
+
+-- `await` is no name, and it is an operator
+abbrev pub reads_await : Context → Bool
+reads_await c = has_flag await_flag c && has_flag await_expression_flag c
 
 -- one flag has the value, and every other flag stays
 pub record SetsFlag (k : ℕ) (value : Bool) (old new : Context) : Type 0 where

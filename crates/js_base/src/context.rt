@@ -3,7 +3,7 @@
 ghost use Rattle.std.specs.Prelude.{⊤, ◌≡◌, ◌<◌, ◌^◌, [], ◌∷◌, codes, if◌then◌else◌};
 ghost use Rattle.std.specs.Int.RustNames.{bit_or};
 ghost use Rattle.bitflags.specs.Sets.{without};
-ghost use Rattle.js_base.specs.Contexts.{AddsFlag, SetsFlag, has_flag, in_flag, yield_flag, await_flag, return_flag, decorator_flag, disallow_conditional_types_flag, ambient_flag, top_level_flag, new_target_flag};
+ghost use Rattle.js_base.specs.Contexts.{AddsFlag, SetsFlag, bits_of, has_flag, in_flag, yield_flag, await_flag, return_flag, decorator_flag, disallow_conditional_types_flag, ambient_flag, top_level_flag, new_target_flag, await_expression_flag, reads_await};
 
 use bitflags::{Flag, Flags, bitflag_items};
 
@@ -18,7 +18,7 @@ bitflag_items! {
         const In = 1;
         /// `yield` is an operator: the parameter Yield (15.5).
         const Yield = 2;
-        /// `await` is an operator: the parameter Await (15.8).
+        /// `await` is no name: the parameter Await (13.1).
         const Await = 4;
         /// `return` is read: the parameter Return (14.10).
         const Return = 8;
@@ -32,6 +32,9 @@ bitflag_items! {
         const TopLevel = 128;
         /// `new.target` is read (13.3.12): in a function, a static block or a field initializer.
         const NewTarget = 256;
+        /// `await` is an operator: the parameter Await (15.8). It is set where `Await` is, but not in the parameters of an
+        /// asynchronous arrow function that stands where `await` is none (15.9).
+        const AwaitExpression = 512;
     }
 }
 
@@ -40,7 +43,7 @@ impl Flags for Context {
 
     ghost exact = { ⊤ };
 
-    ghost table = { (codes "In", 1) ∷ (codes "Yield", 2) ∷ (codes "Await", 4) ∷ (codes "Return", 8) ∷ (codes "Decorator", 16) ∷ (codes "DisallowConditionalTypes", 32) ∷ (codes "Ambient", 64) ∷ (codes "TopLevel", 128) ∷ (codes "NewTarget", 256) ∷ [] };
+    ghost table = { (codes "In", 1) ∷ (codes "Yield", 2) ∷ (codes "Await", 4) ∷ (codes "Return", 8) ∷ (codes "Decorator", 16) ∷ (codes "DisallowConditionalTypes", 32) ∷ (codes "Ambient", 64) ∷ (codes "TopLevel", 128) ∷ (codes "NewTarget", 256) ∷ (codes "AwaitExpression", 512) ∷ [] };
 
     ghost set_of = { λ c. c.0 };
 
@@ -130,6 +133,27 @@ impl Context {
         self.contains(Context::NewTarget)
     }
 
+    /// Whether `AwaitExpression` is set.
+    pub fn has_await_expression(self) -> bool
+        ensures { result ≡ has_flag await_expression_flag self }
+    {
+        self.contains(Context::AwaitExpression)
+    }
+
+    /// The bits of the set.
+    pub fn number(self) -> u16
+        ensures { result ≡ bits_of self }
+    {
+        self.0
+    }
+
+    /// Whether an AwaitExpression is read: `await` is no name, and it is an operator.
+    pub fn reads_await(self) -> bool
+        ensures { result ≡ reads_await self }
+    {
+        self.has_await() && self.has_await_expression()
+    }
+
     /// Sets or clears `In`; every other flag stays.
     pub fn and_in(self, include: bool) -> Context
         ensures { SetsFlag in_flag include self result }
@@ -177,6 +201,13 @@ impl Context {
         ensures { SetsFlag new_target_flag include self result }
     {
         self.and(Context::NewTarget, include)
+    }
+
+    /// Sets or clears `AwaitExpression`; every other flag stays.
+    pub fn and_await_expression(self, include: bool) -> Context
+        ensures { SetsFlag await_expression_flag include self result }
+    {
+        self.and(Context::AwaitExpression, include)
     }
 
     /// Adds `Await` where `include`; every other flag stays.

@@ -1,4 +1,5 @@
 pub mod Recording
+pub mod Noting
 pub mod Moving
 pub mod Keeping
 pub mod KindTests

@@ -25,7 +25,7 @@ is_equal Less e = absurd (false≢true e)
 is_equal Equal e = refl
 is_equal Greater e = absurd (false≢true e)
 
-apart : (k q : ℕ) → (k == q) ≡ false → is_at (nat_cmp k) q ≡ false
+pub apart : (k q : ℕ) → (k == q) ≡ false → is_at (nat_cmp k) q ≡ false
 apart k q e = go (is_eq (nat_cmp k q)) refl
   where
     go : (b : Bool) → is_eq (nat_cmp k q) ≡ b → is_eq (nat_cmp k q) ≡ false

@@ -6,7 +6,7 @@ use Rattle.js_base.specs.declared.context.Context.{Context}
 use Rattle.js_base.specs.declared.options.ParseOptions.{ParseOptions}
 use Rattle.js_base.specs.declared.source_type.SourceType.{SourceType}
 use Rattle.js_base.specs.declared.source_type.Goal.TheVariants as source
-use Rattle.js_base.specs.Contexts.{SetsFlag, has_flag, await_flag, return_flag, new_target_flag}
+use Rattle.js_base.specs.Contexts.{SetsFlag, has_flag, await_flag, await_expression_flag, return_flag, new_target_flag}
 use Rattle.js_cursor.specs.Starts.{is_module, is_commonjs, AtStart}
 
 module_same : (s : SourceType) (b : Bool) → IsTrue b ↔ (s.goal ≡ source.Module) → b ≡ is_module s
@@ -33,19 +33,20 @@ commonjs_same s b h = go s.goal b h
     go source.Unambiguous true h = absurd (let z = h.0 refl in cc)
     go source.Unambiguous false h = refl
 
-pub at_start : {s : SourceType} {o : ParseOptions} {none one two three : Context} (in_module body returns : Bool) → none.0 ≡ 1 → IsTrue in_module ↔ (s.goal ≡ source.Module) → IsTrue body ↔ (s.goal ≡ source.CommonJs) → returns ≡ (body || o.allow_return_outside_function)
-    → SetsFlag await_flag in_module none one → SetsFlag return_flag returns one two → SetsFlag new_target_flag body two three → AtStart s o three
-at_start {s} {o} {none} {one} {two} {three} in_module body returns z m b r x y w = record {
-  in_ = other 0 (omega arith) (omega arith) (omega arith);
-  yield = other 1 (omega arith) (omega arith) (omega arith);
-  await = w.others 2 (omega arith) ∙ y.others 2 (omega arith) ∙ x.flag ∙ module_same s in_module m;
-  return = w.others 3 (omega arith) ∙ y.flag ∙ r ∙ ap (λ (v : Bool). v || o.allow_return_outside_function) (commonjs_same s body b);
-  decorator = other 4 (omega arith) (omega arith) (omega arith);
-  disallow_conditional_types = other 5 (omega arith) (omega arith) (omega arith);
-  ambient = other 6 (omega arith) (omega arith) (omega arith);
-  top_level = other 7 (omega arith) (omega arith) (omega arith);
+pub at_start : {s : SourceType} {o : ParseOptions} {none one two three four : Context} (in_module body returns : Bool) → none.0 ≡ 1 → IsTrue in_module ↔ (s.goal ≡ source.Module) → IsTrue body ↔ (s.goal ≡ source.CommonJs) → returns ≡ (body || o.allow_return_outside_function)
+    → SetsFlag await_flag in_module none one → SetsFlag await_expression_flag in_module one two → SetsFlag return_flag returns two three → SetsFlag new_target_flag body three four → AtStart s o four
+at_start {s} {o} {none} {one} {two} {three} {four} in_module body returns z m b r x v y w = record {
+  in_ = other 0 (omega arith) (omega arith) (omega arith) (omega arith);
+  yield = other 1 (omega arith) (omega arith) (omega arith) (omega arith);
+  await = w.others 2 (omega arith) ∙ y.others 2 (omega arith) ∙ v.others 2 (omega arith) ∙ x.flag ∙ module_same s in_module m;
+  return = w.others 3 (omega arith) ∙ y.flag ∙ r ∙ ap (λ (d : Bool). d || o.allow_return_outside_function) (commonjs_same s body b);
+  decorator = other 4 (omega arith) (omega arith) (omega arith) (omega arith);
+  disallow_conditional_types = other 5 (omega arith) (omega arith) (omega arith) (omega arith);
+  ambient = other 6 (omega arith) (omega arith) (omega arith) (omega arith);
+  top_level = other 7 (omega arith) (omega arith) (omega arith) (omega arith);
   new_target = w.flag ∙ commonjs_same s body b;
+  await_expression = w.others 9 (omega arith) ∙ y.others 9 (omega arith) ∙ v.flag ∙ module_same s in_module m;
 }
   where
-    other : (j : ℕ) → j ≢ 2 → j ≢ 3 → j ≢ 8 → has_flag j three ≡ (bit_at 1 j == 1)
-    other j p q t = w.others j t ∙ y.others j q ∙ x.others j p ∙ ap (λ (n : ℕ). bit_at n j == 1) z
+    other : (j : ℕ) → j ≢ 2 → j ≢ 3 → j ≢ 8 → j ≢ 9 → has_flag j four ≡ (bit_at 1 j == 1)
+    other j p q t i = w.others j t ∙ y.others j q ∙ v.others j i ∙ x.others j p ∙ ap (λ (n : ℕ). bit_at n j == 1) z

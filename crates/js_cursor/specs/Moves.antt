@@ -17,7 +17,6 @@ use Rattle.js_cursor.specs.declared.stop.Stop.TheVariants.{Fatal, NoMemory}
 use Rattle.js_cursor.specs.declared.stop.ListStep.{ListStep}
 use Rattle.js_cursor.specs.declared.stop.ListStep.TheVariants.{Element, End, EndAfterComma}
 use Rattle.js_base.specs.declared.diagnostic.DiagnosticKind.TheVariants.{UnexpectedToken, ExpectToken, ExpectClosingOrSeparator, MergeConflictMarker}
-use Rattle.js_base.specs.Contexts.{has_flag, await_flag, yield_flag}
 use Rattle.js_cursor.specs.Notes.{NotesFailed, NotesOperand}
 use Rattle.js_cursor.specs.Parsers.{Parser}
 use Rattle.js_grammar.specs.Marks.{LexemeAt, any_lexeme, opens, StandsAt, begins_some_marker, seven_from}
@@ -160,13 +159,13 @@ pub record Leaves (levels : ℕ) (old new : Parser) : Type 0 where
 -- It was noted that no head of an arrow function stands at a place, under the parameters that are in force; nothing else changes.
 pub record NotesArrow (place : ℕ) (old new : Parser) : Type 0 where
   pub is : new ≡ record old { state = new.state }
-  pub noted : NotesFailed (has_flag await_flag old.ctx) (has_flag yield_flag old.ctx) place old.state new.state
+  pub noted : NotesFailed old.ctx place old.state new.state
   pub at : IsAt new
 
 -- It was noted that no operand stands at a place.
 pub record NotesNoOperand (place : ℕ) (old new : Parser) : Type 0 where
   pub is : new ≡ record old { state = new.state }
-  pub noted : NotesOperand (has_flag await_flag old.ctx) (has_flag yield_flag old.ctx) place old.state new.state
+  pub noted : NotesOperand old.ctx place old.state new.state
   pub at : IsAt new
 
 -- This kind of diagnostic, with this related place, may be told of whatever lexeme stands behind the place of p.

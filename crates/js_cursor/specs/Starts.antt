@@ -4,7 +4,7 @@ use Rattle.js_base.specs.declared.context.Context.{Context}
 use Rattle.js_base.specs.declared.options.ParseOptions.{ParseOptions}
 use Rattle.js_base.specs.declared.source_type.SourceType.{SourceType}
 use Rattle.js_base.specs.declared.source_type.Goal.TheVariants as source
-use Rattle.js_base.specs.Contexts.{has_flag, in_flag, yield_flag, await_flag, return_flag, decorator_flag, disallow_conditional_types_flag, ambient_flag, top_level_flag, new_target_flag}
+use Rattle.js_base.specs.Contexts.{has_flag, in_flag, yield_flag, await_flag, return_flag, decorator_flag, disallow_conditional_types_flag, ambient_flag, top_level_flag, new_target_flag, await_expression_flag}
 use Rattle.js_tree.specs.Nodes.{empty_program}
 use Rattle.js_lex.specs.Kept.{IsEmpty}
 use Rattle.js_lex.specs.Reading.{GivesFirst}
@@ -30,6 +30,7 @@ pub record AtStart (source_type : SourceType) (options : ParseOptions) (c : Cont
   pub ambient : has_flag ambient_flag c ≡ false
   pub top_level : has_flag top_level_flag c ≡ false
   pub new_target : has_flag new_target_flag c ≡ is_commonjs source_type
+  pub await_expression : has_flag await_expression_flag c ≡ is_module source_type
 
 -- A parser at the start of a text: its first token is the current lexeme, and beyond the node of Program nothing was made or kept.
 pub record Starts (source : List ℕ) (read_as : SourceType) (asked : ParseOptions) (asks_for_tokens : Bool) (p : Parser) : Type 0 where

@@ -5,7 +5,7 @@ ghost use Rattle.js_base.specs.declared.kind.Kind.TheVariants.{RAngle, RCurly, S
 ghost use Rattle.js_grammar.specs.Lexemes.{template_tail};
 ghost use Rattle.js_base.specs.Sources.{is_goal};
 ghost use Rattle.js_base.specs.declared.source_type.Goal.TheVariants.{Unambiguous};
-ghost use Rattle.js_base.specs.Contexts.{has_flag, await_flag, yield_flag};
+ghost use Rattle.js_base.specs.Contexts.{bits_of};
 ghost use Rattle.js_cursor.specs.Notes.{is_noted};
 ghost use Rattle.js_cursor.specs.Starts.{AtStart, Starts};
 ghost use Rattle.js_cursor.specs.Places.{IsAt};
@@ -83,9 +83,11 @@ pub const MAX_DEPTH: u32 = 16_100;
 fn context_at_start(source_type: SourceType, options: ParseOptions) -> Context
     ensures { AtStart source_type options result }
 {
+    let awaits = source_type.is_module();
     let is_body = source_type.is_commonjs();
     Context::default()
-        .and_await(source_type.is_module())
+        .and_await(awaits)
+        .and_await_expression(awaits)
         .and_return(is_body || options.allow_return_outside_function)
         .and_new_target(is_body)
 }
@@ -253,13 +255,13 @@ impl<'a, C: ParserConfig> ParserImpl<'a, C> {
         Ok(())
     }
 
-    /// Whether it is known that no head of an arrow function stands at a place, under the parameters Await and Yield that
-    /// are in force.
+    /// Whether it is known that no head of an arrow function stands at a place, under the parameters that are in
+    /// force.
     pub fn arrow_failed(&self, place: u32) -> bool
-        ensures { result ≡ is_noted self.now.state.failed (has_flag await_flag self.now.ctx) (has_flag yield_flag self.now.ctx) place }
+        ensures found { result ≡ is_noted self.now.state.failed self.now.ctx place }
+        ensures small { bits_of self.now.ctx < 65536 }
     {
-        self.state
-            .arrow_failed(self.ctx.has_await(), self.ctx.has_yield(), place)
+        self.state.arrow_failed(self.ctx, place)
     }
 
     /// Notes that none stands there, under the parameters that are in force. It stays noted when the parser goes back. The
@@ -269,17 +271,16 @@ impl<'a, C: ParserConfig> ParserImpl<'a, C> {
         ensures ok { OnOk result (NotesArrow place self.old self.new) }
         ensures err { OnErr result (self.new ≡ self.old) }
     {
-        self.state
-            .note_arrow_failed(self.ctx.has_await(), self.ctx.has_yield(), place)
+        self.state.note_arrow_failed(self.ctx, place)
     }
 
     /// Whether it is known that no operand stands at a place, since the head of an arrow function does, under the
-    /// parameters Await and Yield that are in force.
+    /// parameters that are in force.
     pub fn operand_failed(&self, place: u32) -> bool
-        ensures { result ≡ is_noted self.now.state.operands (has_flag await_flag self.now.ctx) (has_flag yield_flag self.now.ctx) place }
+        ensures found { result ≡ is_noted self.now.state.operands self.now.ctx place }
+        ensures small { bits_of self.now.ctx < 65536 }
     {
-        self.state
-            .operand_failed(self.ctx.has_await(), self.ctx.has_yield(), place)
+        self.state.operand_failed(self.ctx, place)
     }
 
     /// Notes that none stands there, under the parameters that are in force. It stays noted when the parser goes back. The
@@ -289,8 +290,7 @@ impl<'a, C: ParserConfig> ParserImpl<'a, C> {
         ensures ok { OnOk result (NotesNoOperand place self.old self.new) }
         ensures err { OnErr result (self.new ≡ self.old) }
     {
-        self.state
-            .note_operand_failed(self.ctx.has_await(), self.ctx.has_yield(), place)
+        self.state.note_operand_failed(self.ctx, place)
     }
 
     /// Goes so many levels deeper. `NoMemory` exactly where that is deeper than `MAX_DEPTH`, and all then stays.

@@ -1,11 +1,12 @@
 //! What a parser notes on its way.
 
-ghost use Rattle.std.specs.Prelude.{◌≡◌, ℕ, Bool, false, [], ◌∷◌, ◌++◌, length, take, Some, OnOk, OnErr};
+ghost use Rattle.std.specs.Prelude.{◌≡◌, ◌<◌, ℕ, List, [], ◌∷◌, ◌++◌, length, take, Some, OnOk, OnErr};
+ghost use Rattle.js_base.specs.Contexts.{bits_of};
 ghost use Rattle.js_cursor.specs.Histories.{standing, without, Pops};
-ghost use Rattle.js_cursor.specs.Notes.{HasNone, NotesFailed, NotesOperand, NotesPlace, is_noted};
+ghost use Rattle.js_cursor.specs.Notes.{HasNone, NotesFailed, NotesOperand, NotesPlace, is_noted, noted_number};
 
 use crate::history::History;
-use js_base::{NoMemory, Span};
+use js_base::{Context, NoMemory, Span};
 use js_tree::NodeId;
 use std::alloc::Global;
 use std::collections::BTreeSet;
@@ -20,56 +21,47 @@ pub struct CoverInitializer {
     pub init: NodeId,
 }
 
-/// Places, by the parameters Await and Yield.
+/// Places, each by the parameters in force there.
 #[derive(Drop)]
 pub(crate) struct NotedPlaces {
-    neither: BTreeSet<u32>,
-    awaits: BTreeSet<u32>,
-    yields: BTreeSet<u32>,
-    both: BTreeSet<u32>,
+    numbers: BTreeSet<u64>,
 }
 
 impl Model for NotedPlaces {
-    ghost use Rattle.js_cursor.specs.Notes.{NotedAt};
+    ghost Value = { List ℕ };
 
-    ghost Value = { NotedAt };
+    ghost view = { λ f. f.numbers.keys };
+}
 
-    ghost view = { λ f. record { neither = f.neither.keys; awaits = f.awaits.keys; yields = f.yields.keys; both = f.both.keys } };
+/// A place and the parameters in force there, as one number.
+fn noted_number(ctx: Context, place: u32) -> u64
+    ensures number { result ≡ noted_number ctx place }
+    ensures small { bits_of ctx < 65536 }
+{
+    u64::from(place) * 65_536 + u64::from(ctx.number())
 }
 
 impl NotedPlaces {
     fn new(alloc: Global) -> Self
-        ensures { (awaits : Bool) (yields : Bool) (place : ℕ) → is_noted result awaits yields place ≡ false }
+        ensures { result ≡ [] }
     {
         NotedPlaces {
-            neither: BTreeSet::new(alloc),
-            awaits: BTreeSet::new(alloc),
-            yields: BTreeSet::new(alloc),
-            both: BTreeSet::new(alloc),
+            numbers: BTreeSet::new(alloc),
         }
     }
 
-    fn contains(&self, awaits: bool, yields: bool, place: u32) -> bool
-        ensures { result ≡ is_noted self.now awaits yields place }
+    fn contains(&self, ctx: Context, place: u32) -> bool
+        ensures found { result ≡ is_noted self.now ctx place }
+        ensures small { bits_of ctx < 65536 }
     {
-        match (awaits, yields) {
-            (true, true) => self.both.contains(&place),
-            (true, false) => self.awaits.contains(&place),
-            (false, true) => self.yields.contains(&place),
-            (false, false) => self.neither.contains(&place),
-        }
+        self.numbers.contains(&noted_number(ctx, place))
     }
 
-    fn insert(&mut self, awaits: bool, yields: bool, place: u32) -> Result<(), NoMemory>
-        ensures ok { OnOk result (NotesPlace awaits yields place self.old self.new) }
+    fn insert(&mut self, ctx: Context, place: u32) -> Result<(), NoMemory>
+        ensures ok { OnOk result (NotesPlace ctx place self.old self.new) }
         ensures err { OnErr result (self.new ≡ self.old) }
     {
-        match (awaits, yields) {
-            (true, true) => self.both.insert(place)?,
-            (true, false) => self.awaits.insert(place)?,
-            (false, true) => self.yields.insert(place)?,
-            (false, false) => self.neither.insert(place)?,
-        };
+        self.numbers.insert(noted_number(ctx, place))?;
         Ok(())
     }
 }
@@ -153,43 +145,35 @@ impl ParserState {
     }
 
     /// Whether no head of an arrow function was found at a place, under these parameters.
-    pub(crate) fn arrow_failed(&self, awaits: bool, yields: bool, place: u32) -> bool
-        ensures { result ≡ is_noted self.now.failed awaits yields place }
+    pub(crate) fn arrow_failed(&self, ctx: Context, place: u32) -> bool
+        ensures found { result ≡ is_noted self.now.failed ctx place }
+        ensures small { bits_of ctx < 65536 }
     {
-        self.failed.contains(awaits, yields, place)
+        self.failed.contains(ctx, place)
     }
 
     /// Notes that none was. The only error is want of memory, and then all stays.
-    pub(crate) fn note_arrow_failed(
-        &mut self,
-        awaits: bool,
-        yields: bool,
-        place: u32,
-    ) -> Result<(), NoMemory>
-        ensures ok { OnOk result (NotesFailed awaits yields place self.old self.new) }
+    pub(crate) fn note_arrow_failed(&mut self, ctx: Context, place: u32) -> Result<(), NoMemory>
+        ensures ok { OnOk result (NotesFailed ctx place self.old self.new) }
         ensures err { OnErr result (self.new ≡ self.old) }
     {
-        self.failed.insert(awaits, yields, place)
+        self.failed.insert(ctx, place)
     }
 
     /// Whether no operand was found at a place, under these parameters.
-    pub(crate) fn operand_failed(&self, awaits: bool, yields: bool, place: u32) -> bool
-        ensures { result ≡ is_noted self.now.operands awaits yields place }
+    pub(crate) fn operand_failed(&self, ctx: Context, place: u32) -> bool
+        ensures found { result ≡ is_noted self.now.operands ctx place }
+        ensures small { bits_of ctx < 65536 }
     {
-        self.operands.contains(awaits, yields, place)
+        self.operands.contains(ctx, place)
     }
 
     /// Notes that none was. The only error is want of memory, and then all stays.
-    pub(crate) fn note_operand_failed(
-        &mut self,
-        awaits: bool,
-        yields: bool,
-        place: u32,
-    ) -> Result<(), NoMemory>
-        ensures ok { OnOk result (NotesOperand awaits yields place self.old self.new) }
+    pub(crate) fn note_operand_failed(&mut self, ctx: Context, place: u32) -> Result<(), NoMemory>
+        ensures ok { OnOk result (NotesOperand ctx place self.old self.new) }
         ensures err { OnErr result (self.new ≡ self.old) }
     {
-        self.operands.insert(awaits, yields, place)
+        self.operands.insert(ctx, place)
     }
 
     /// How many changes made the shorthands.

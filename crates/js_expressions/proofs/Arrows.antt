@@ -1,30 +1,30 @@
--- Arrow functions (ECMA-262, 15.3), and where none is derived.
-use Rattle.std.proofs.Common.{ℕ, ◌≡◌, ◌≤◌, ◌<◌, ◌⊎◌, inl, inr, List, [], ◌∷◌, length, Bool, true, false, not, cond, ◌&&◌, ◌||◌, IsTrue, Option, Some, None, refl, sym, ap, subst, arith, ◌∙◌}
+-- Arrow functions (ECMA-262, 15.3 and 15.9), and where none is derived.
+use Rattle.std.proofs.Common.{ℕ, ◌≡◌, ◌≤◌, ◌<◌, ◌⊎◌, inl, inr, List, [], ◌∷◌, length, Bool, true, false, not, cond, ◌&&◌, ◌||◌, IsTrue, Option, Some, None, refl, sym, ap, subst, arith, ◌∙◌, ◌+◌}
 use Rattle.std.specs.Prelude.{IsCharBoundary, Result, Ok, Err, nat_lt}
 use Rattle.std.proofs.lemmas.Bool.{false≢true, and_parts, or_left, or_right}
 use Rattle.js_base.specs.Contexts.{has_flag, yield_flag}
 use Rattle.js_base.specs.declared.kind.Kind.{Kind}
-use Rattle.js_base.specs.declared.kind.Kind.TheVariants.{Arrow, Await, Comma, LParen, LCurly, RAngle, Yield, RegExp}
+use Rattle.js_base.specs.declared.kind.Kind.TheVariants.{Arrow, Await, Comma, LParen, LCurly, RAngle, Yield, RegExp, Async}
 use Rattle.js_base.specs.declared.span.Span.{Span}
 use Rattle.js_base.specs.Kinds.{same_kind, one_of_kinds}
 use Rattle.js_base.specs.Texts.{words}
 use Rattle.js_base.proofs.KindLemmas.{kind_of_same}
 use Rattle.js_grammar.specs.Trees.{Span as TreeSpan, Label, Slots, end, tree, no_op, arrow_function_expression}
-use Rattle.js_grammar.specs.Grammar.{Lexeme, Lexemes, Look, last, next, here, seen, is, such, nothing, exact, Make, node, Takes, ◌▸◌, ◌◇◌, is_nothing, is_seq, is_lexeme, is_look, is_such, is_left, is_right, is_node, is_empty_slot}
+use Rattle.js_grammar.specs.Grammar.{Lexeme, Lexemes, Look, last, next, here, seen, is, such, nothing, exact, Make, node, Takes, ◌▸◌, ◌◇◌, is_nothing, is_seq, is_lexeme, is_look, is_such, is_left, is_right, is_node, is_empty_slot, alt}
 use Rattle.js_grammar.specs.Brackets.{Bracket, bracket, move}
 use Rattle.js_grammar.specs.Brackets.{plain as bracket_plain}
 use Rattle.js_grammar.proofs.Matched.{brackets, not_bracket}
 use Rattle.js_grammar.specs.Insertion.{may_bind, Row, after_expression, after_postfix, after_body, after_yield, after_declarator, after_word}
 use Rattle.js_grammar.specs.Lexed.{Lexes}
 use Rattle.js_grammar.specs.Parsing.{Test, plain, full, always, Admits, Goes, Fails, still}
-use Rattle.js_grammar.specs.Productions.{G, Flags, Symbol, at, tok, mk, other, if_next, no_newline, Arrow', Assignment, Body, Params, Short}
+use Rattle.js_grammar.specs.Productions.{G, Flags, Symbol, at, tok, mk, other, if_next, no_newline, Arrow', Assignment, Body, Params, Short, flag, async_flag, generator_flag}
 use Rattle.js_grammar.specs.Productions.{sym as symbol}
-use Rattle.js_grammar.specs.Table.{rule, rule_of}
+use Rattle.js_grammar.specs.Table.{rule, rule_of, args}
 use Rattle.js_grammar.specs.Follow.{after, looser, row_of, widest}
 use Rattle.js_grammar.proofs.Heads.{One, the_last, and_more, begins_head, operand_taken, in_one, one_name}
 use Rattle.js_grammar.proofs.Looks.{covers, covered, apart, not_both}
 use Rattle.js_grammar.proofs.RightEdges.{may_end}
-use Rattle.js_grammar.proofs.Calculus.{On, Inside, inside_full, ◌▹◌, ◌▹✗◌, here_at, done, left, right, looks, part_fails, fails_node, fails_look}
+use Rattle.js_grammar.proofs.Calculus.{On, Inside, inside_full, ◌▹◌, ◌▹✗◌, here_at, done, left, right, looks, part_fails, fails_node, fails_look, fails_alt}
 use Rattle.js_grammar.proofs.FollowLaws.{fails_by}
 use Rattle.js_base.specs.declared.token.Token.{Token}
 use Rattle.js_grammar.specs.Grammar.{empty_slot}
@@ -53,12 +53,12 @@ use Rattle.js_tree.specs.declared.op.Op.TheVariants as op_made
 use Rattle.js_tree.specs.Nodes.{Node}
 use Rattle.js_tree.specs.Holding.{Holds, Keeps}
 use Rattle.js_tree.proofs.HoldingLemmas.{Holds-wider, HoldsAll-one, HoldsAll-hole, Keeps-longer, Keeps-refl, Keeps-trans, Keeps-made}
-use Rattle.js_cursor.specs.Checkpoints.{Remembers, GoesBack, GoesOn}
+use Rattle.js_cursor.specs.Checkpoints.{Remembers, GoesBack}
 use Rattle.js_cursor.specs.declared.checkpoint.ParserCheckpoint.{ParserCheckpoint}
 use Rattle.js_cursor.specs.declared.stop.Stop.{Stop}
 use Rattle.js_cursor.specs.declared.stop.Stop.TheVariants.{Fatal}
 use Rattle.js_parsing.specs.Stands.{NameHere, StandsHere}
-use Rattle.js_parsing.proofs.NameKinds.{a_name, listed_name, name_apart, name_at, name_test, name_whole, no_name_here, or_kind}
+use Rattle.js_parsing.proofs.NameKinds.{a_name, listed_name, name_apart, name_at, name_test, name_whole, no_name_here, or_kind, listed_here}
 use Rattle.js_parsing.proofs.Giving.{fails_escaped}
 use Rattle.js_cursor.specs.Moves.{is_last}
 use Rattle.js_cursor.specs.Parsers.{Parser}
@@ -67,17 +67,18 @@ use Rattle.js_cursor.proofs.Changing.{came_back, back_follows}
 use Rattle.js_cursor.proofs.Later.{keeps_follows}
 use Rattle.js_parsing.specs.Answers.{Underived, Answer, Answers, beside, Numbered, Outcome, Refuses, Stretch, Stops, Grown, Verdict, clean, unclean}
 use Rattle.js_cursor.specs.Notes.{Notes}
-use Rattle.js_parsing.specs.Contexts.{arrow_body, braced_body}
-use Rattle.js_expressions.specs.Arrows.{body_of, head_of, late_arrow, ArrowBehind, BeforeArrow, a_head, told_head, ToldHead, HeadRead, read_clean, read_unclean, ChecksLine, FindsHead, Head, LooksForHead, IsHead, IsHeadHere, IsHeadRead, IsRefusedHead, NoArrowHere, Single, Unmoved, NoneLooked}
-use Rattle.js_parsing.specs.Heads.{NoHead, NotedHeads}
+use Rattle.js_parsing.specs.Contexts.{arrow_body, braced_body, arrow_head}
+use Rattle.js_expressions.specs.Arrows.{ArrowBehind, AsyncPassed, BeforeArrow, led_head, told_led, ChecksLine, FindsAnyHead, FindsHead, Head, HeadRead, read_clean, read_unclean, IsHead, IsHeadBefore, IsHeadHere, IsRefusedHead, Leads, LooksForHead, NamesHead, NoArrowHere, NoLed, NoLine, NoLineHere, NoParametersHere, OnlyLed, ParametersRead, PlainHead, a_head, told_head, Single, ToldHead, Unmoved, WentOn, arrow_label, body_of, head_of, late_arrow, lead_of, line_of}
+use Rattle.js_expressions.specs.declared.arrow.ArrowHead.{ArrowHead}
+use Rattle.js_parsing.specs.Heads.{NoHead, OnlyArrow}
 use Rattle.js_expressions.specs.Rests.{OnlyOperandHere}
 use Rattle.js_expressions.specs.Closings.{ArrowBehindOne}
 use Rattle.js_expressions.proofs.Closings.{closes_alike}
 use Rattle.js_expressions.proofs.OnePlace.{calm, one_alone, one_move, one_told}
-use Rattle.js_expressions.proofs.ParenthesizedFronts.{no_arrow_admitted}
+use Rattle.js_expressions.proofs.ParenthesizedFronts.{no_arrow_admitted, args_one}
 use Rattle.js_cursor.specs.Tokens.{may_be_read_again}
 use Rattle.js_parsing.proofs.KeptTokens.{before_back, last_back}
-use Rattle.js_parsing.specs.Lexemes.{Lex, name_kinds, other_goals, signs, spot, slashes, Plain, may_name}
+use Rattle.js_parsing.specs.Lexemes.{Lex, name_kinds, other_goals, signs, spot, slashes, Plain, may_name, Walked}
 use Rattle.js_parsing.specs.Moves.{Moved, MadeHere, LeafTaken, TakesLeaf, plain_label}
 use Rattle.js_parsing.specs.States.{At, Same, Standing, flags_of, IsPlain, whole, sign, nothing as nothing_here, NodesLie, SpansLie}
 use Rattle.js_targets.proofs.ArraysBeforeSigns.{is_cover, not_wide}
@@ -88,7 +89,6 @@ use Rattle.js_expressions.specs.Yields.{BeginsYield}
 use Rattle.js_expressions.proofs.Assignments.{by_second, second}
 use Rattle.js_expressions.proofs.Conditionals.{conditional_none}
 use Rattle.js_parsing.proofs.Signs.{other_kind, plain_sign}
-use Rattle.js_parsing.proofs.Dead.{live, lives}
 use Rattle.js_expressions.proofs.Exponents.{longer}
 use Rattle.js_parsing.proofs.Told.{beside_errors}
 use Rattle.js_parsing.proofs.Unbuilt.{nothing_unbuilt}
@@ -99,7 +99,7 @@ use Rattle.js_parsing.proofs.MadeNodes.{leaf_held, node_held, two_held, one_lies
 use Rattle.js_parsing.proofs.Moving.{beside_nodes, flags_same, heads_kept, same_both, same_itself, same_with, stops_behind, nodes_lie}
 use Rattle.js_operands.proofs.Operands.{by_path, by_such, name_signless}
 use Rattle.js_patterns.proofs.Bindings.{bound_path, ended_by, then_any}
-use Rattle.js_parsing.proofs.Paths.{Path, ◌⟼◌, ◌⟶◌, ◌⟶✗◌, fails_at, not_here, token, last_called, noded, noded_by, by_symbol_as, label_here, read_of, walked_both, walked_from, walked_one}
+use Rattle.js_parsing.proofs.Paths.{Path, ◌⟼◌, ◌⟶◌, ◌⟶✗◌, fails_at, not_here, token, last_called, noded, by_symbol_as, label_here, read_of, walked_both, walked_from, walked_one, flagged_here, flagged_by}
 use Rattle.js_parsing.proofs.Signs.{none_kept, plain_of}
 use Rattle.js_parsing.proofs.Ahead.{pass_over}
 use Rattle.js_parsing.proofs.Tight.{read_plain}
@@ -145,7 +145,7 @@ same_head {x = x} {y = y} l m b = go (one_of_kinds other_goals x.kind) refl (one
     go false o true n h = absurd (false≢true h)
     go false o false n h = one_alone l m o n
 
-same_arrow : {text : List ℕ} {s : ℕ} {x y : Lexeme} → Lex text s x → Lex text s y → x.kind ≡ Arrow → x ≡ y
+pub same_arrow : {text : List ℕ} {s : ℕ} {x y : Lexeme} → Lex text s x → Lex text s y → x.kind ≡ Arrow → x ≡ y
 same_arrow l m k = one_alone l m (ap (one_of_kinds other_goals) k) (ap (one_of_kinds signs) k)
 
 pub no_operand : {text : List ℕ} (f : Flags) {s : ℕ} {ls r : Lexemes} {e : ℕ} → Lexes (Lex text) s ls → (o : One [] ls e r) → AllCalm o → IsTrue (seen begins_head (here ls)) → same_kind Arrow (here r).kind ≡ true → Underived text (at Short f) s
@@ -196,50 +196,68 @@ head_one {i = i} (is_right (is_such (is_node (is_seq (is_lexeme {x = x} q) e)) c
 
 -- ---- the line of arrow functions
 
-abbrev body_slots : Flags → G
-body_slots f = symbol Body (record (arrow_body f) { in_ = true; return_ = true }) ◇ if_next (other (is LCurly)) ▸ symbol Assignment (arrow_body f)
+abbrev body_slots : Bool → Flags → G
+body_slots a f = symbol Body (braced_body a f) ◇ if_next (other (is LCurly)) ▸ symbol Assignment (arrow_body a f)
 
-abbrev behind_head : Flags → G
-behind_head f = no_newline ▸ tok Arrow ▸ body_slots f
+abbrev behind_head : Bool → Flags → G
+behind_head a f = no_newline ▸ tok Arrow ▸ body_slots a f
 
-abbrev arrow_slots : Flags → G
-arrow_slots f = nothing ▸ head_of f ▸ behind_head f
+abbrev arrow_slots : Bool → Flags → G
+arrow_slots a f = lead_of a ▸ head_of (arrow_head a f) ▸ behind_head a f
 
-abbrev arrow_made : Make
-arrow_made = record { kind = arrow_function_expression; op = no_op; flags = 0; extent = exact }
+abbrev arrow_made : Bool → Make
+arrow_made a = record { kind = arrow_function_expression; op = no_op; flags = flag a async_flag; extent = exact }
 
-abbrev not_async : Flags → Flags
-not_async f = record f { await_ = f.await_ || false }
+abbrev arrow_line : Bool → Flags → G
+arrow_line a f = node (arrow_made a) (arrow_slots a f)
+
+both_lines : (f : Flags) → rule (at Arrow' f) ≡ alt (arrow_line false f) (arrow_line true f)
+unfolding rule rule_of
+both_lines f = refl
 
 or_false : (b : Bool) → (b || false) ≡ b
 or_false true = refl
 or_false false = refl
 
-arrow_left : (f : Flags) → live (rule (at Arrow' f)) ≡ node arrow_made (nothing ▸ head_of (not_async f) ▸ behind_head f)
-unfolding rule rule_of apart
-arrow_left f = refl
+-- without `async` the parameters are those around
+pub plain_head_flags : (f : Flags) → arrow_head false f ≡ f
+plain_head_flags f = ap (λ (b : Bool). record f { await_ = b }) (or_false f.await_)
 
-module _ {text : List ℕ} (f : Flags) where
-  to_line : {X : Test} {s : ℕ} → Goes rule (Lex text) X end (rule (at Arrow' f)) s (node arrow_made (arrow_slots f)) s (λ us. us) (still 0)
-  to_line {X} {s} = subst (λ (g : Flags). Goes rule (Lex text) X end (rule (at Arrow' f)) s (node arrow_made (nothing ▸ head_of g ▸ behind_head f)) s (λ us. us) (still 0)) (ap (λ (b : Bool). record f { await_ = b }) (or_false f.await_))
-      (subst (λ (g : G). Goes rule (Lex text) X end (rule (at Arrow' f)) s g s (λ us. us) (still 0)) (arrow_left f) (lives (rule (at Arrow' f))))
+module _ {text : List ℕ} (f : Flags) {s : ℕ} where
+  line_fails : (a : Bool) {X : Test} → NoLed a text f s → Fails rule (Lex text) X end (arrow_line a f) s
+  line_fails a n = fails_node inside_full (record { no = λ ts vs k ls rest l d e. go ts vs k ls rest l d })
+    where
+      go : (ts vs : Slots) (k : ℕ) (ls rest : Lexemes) → Lexes (Lex text) s ls → Takes rule (arrow_slots a f) end ts s ls vs k rest → ⊥
+      go ts vs k ls rest l (is_seq w (is_seq h (is_seq o (is_seq {us = us} {j = j} {mid = mid} q b)))) = n.no ts us j ls mid l (is_seq w (is_seq h (is_seq o q))) (refl, refl)
 
-  no_arrow : {s : ℕ} → Fails rule (Lex text) (plain full) end (head_of f ▸ behind_head f) s → Underived text (at Arrow' f) s
-  no_arrow n = fails_by (to_line ▹✗ fails_node inside_full (done ▹✗ n))
+  to_line : (a : Bool) {X : Test} → NoLed (not a) text f s → Goes rule (Lex text) X end (rule (at Arrow' f)) s (arrow_line a f) s (λ us. us) (still 0)
+  to_line true {X} n = subst (λ (g : G). Goes rule (Lex text) X end g s (arrow_line true f) s (λ us. us) (still 0)) (sym (both_lines f)) (right (line_fails false n))
+  to_line false {X} n = subst (λ (g : G). Goes rule (Lex text) X end g s (arrow_line false f) s (λ us. us) (still 0)) (sym (both_lines f)) (left (line_fails true n))
+
+  pub no_arrow : NoLed false text f s → NoLed true text f s → Underived text (at Arrow' f) s
+  no_arrow n m = fails_by (subst (λ (g : G). Fails rule (Lex text) (after (at Arrow' f)) end g s) (sym (both_lines f)) (fails_alt (line_fails false n) (line_fails true m)))
+
+  pub no_plain_led : NoLine text f s → NoLed false text f s
+  no_plain_led n = subst (λ (g : Flags). Fails rule (Lex text) (plain full) end (nothing ▸ line_of g) s) (sym (plain_head_flags f)) (done ▹✗ n)
 
 -- ---- where none is derived
 
 -- neither a name nor a parenthesis stands here
-pub no_head_here : {text : List ℕ} {f : Flags} {p : Parser} → At text f p → may_name f.yield_ f.await_ p.token.kind ≡ false → one_of_kinds (LParen ∷ []) p.token.kind ≡ false → Underived text (at Arrow' f) p.prev_token_end
+pub no_line_here : {text : List ℕ} {f : Flags} {p : Parser} → At text f p → may_name f.yield_ f.await_ p.token.kind ≡ false → one_of_kinds (LParen ∷ []) p.token.kind ≡ false → NoLine text f p.prev_token_end
 unfolding covers apart
-no_head_here {f = f} a m n = no_arrow f (fails_unnamed a f {X = plain full} (λ g. head_of g ▸ behind_head g) (LParen ∷ []) refl refl refl refl refl m n)
+no_line_here {f = f} a m n = fails_unnamed a f {X = plain full} line_of (LParen ∷ []) refl refl refl refl refl m n
+
+-- `async` doesn't stand here
+pub no_async_here : {text : List ℕ} {f : Flags} {p : Parser} → At text f p → one_of_kinds (Async ∷ []) p.token.kind ≡ false → NoLed true text f p.prev_token_end
+unfolding covers apart
+no_async_here {f = f} a n = fails_at a {X = plain full} (lead_of true ▸ line_of (arrow_head true f)) (Async ∷ []) refl n
 
 -- no `=>` stands behind the first name or parentheses
-one_arrow : {text : List ℕ} {f : Flags} {s : ℕ} {X : Test} → ((ls mid : Lexemes) (e : ℕ) → Lexes (Lex text) s ls → One [] ls e mid → same_kind Arrow (here mid).kind ≡ true → ⊥) → Fails rule (Lex text) X end (head_of f ▸ behind_head f) s
+one_arrow : {text : List ℕ} {f : Flags} {s : ℕ} {X : Test} → ((ls mid : Lexemes) (e : ℕ) → Lexes (Lex text) s ls → One [] ls e mid → same_kind Arrow (here mid).kind ≡ true → ⊥) → Fails rule (Lex text) X end (line_of f) s
 one_arrow {text} {f} {s} n = record { no = λ ts vs k ls rest l d e. go ts vs k ls rest l d }
   where
-    go : (ts vs : Slots) (k : ℕ) (ls rest : Lexemes) → Lexes (Lex text) s ls → Takes rule (head_of f ▸ behind_head f) end ts s ls vs k rest → ⊥
-    go ts vs k ls rest l (is_seq {mid = mid} d (is_seq (is_look w) (is_seq (is_lexeme {x = x} q) e))) = let z = head_one d in n ls mid z.0 l z.1 (and_parts (same_kind Arrow x.kind) _ q).0
+    go : (ts vs : Slots) (k : ℕ) (ls rest : Lexemes) → Lexes (Lex text) s ls → Takes rule (line_of f) end ts s ls vs k rest → ⊥
+    go ts vs k ls rest l (is_seq {mid = mid} d (is_seq (is_look w) (is_lexeme {x = x} q))) = let z = head_one d in n ls mid z.0 l z.1 (and_parts (same_kind Arrow x.kind) _ q).0
 
 -- a name is no bracket
 name_no_bracket : (k : Kind) → one_of_kinds name_kinds k ≡ true → bracket k ≡ bracket_plain
@@ -256,9 +274,9 @@ unfolding bracket move
 name_calm (the_last {x = x} m) h = calm_name x.kind h
 name_calm (and_more {b = b} {s = t} {x = x} m o) h = absurd (none_open (subst (λ (v : Bracket). move v [] ≡ Some (b ∷ t)) (name_no_bracket x.kind h) m))
 
-pub no_arrow_behind : {text : List ℕ} {f : Flags} {p : Parser} → At text f p → one_of_kinds name_kinds p.token.kind ≡ true → ((y : Lexeme) → Lex text p.token.span.end y → y.kind ≡ Arrow → ⊥) → Underived text (at Arrow' f) p.prev_token_end
+pub no_arrow_behind : {text : List ℕ} {f : Flags} {p : Parser} → At text f p → one_of_kinds name_kinds p.token.kind ≡ true → ((y : Lexeme) → Lex text p.token.span.end y → y.kind ≡ Arrow → ⊥) → NoLine text f p.prev_token_end
 unfolding bracket move
-no_arrow_behind {text} {f} {p} a k n = no_arrow f (one_arrow (λ ls mid e l o q. go ls mid e l o q))
+no_arrow_behind {text} {f} {p} a k n = one_arrow (λ ls mid e l o q. go ls mid e l o q)
   where
     there : (x : Lexeme) → Lex text p.prev_token_end x → (bracket x.kind ≡ bracket_plain) × (p.token.span.end ≡ x.to)
     there x l = let t = told a (name_whole a k).0 (name_signless p.token.kind k) x l in (name_no_bracket x.kind (subst (λ (v : Kind). one_of_kinds name_kinds v ≡ true) t.kind k), t.end)
@@ -277,24 +295,28 @@ module _ {text : List ℕ} {f : Flags} {p : Parser} (a : At text f p) where
   name_path k e m = left (name_only (listed_name f.yield_ f.await_ p.token.kind k)) ⟼ noded a (noded a (ended_by (then_any (bound_path a k e m)) reads_empty_slot))
 
   -- parentheses as the parameters
-  no_name : {X : Test} → p.token.kind ≡ LParen → Fails rule (Lex text) X end (mk formal_parameters (mk formal_parameter (symbol BindingIdentifier f ▸ empty_slot))) p.prev_token_end
+  no_name : (g : Flags) {X : Test} → p.token.kind ≡ LParen → Fails rule (Lex text) X end (mk formal_parameters (mk formal_parameter (symbol BindingIdentifier g ▸ empty_slot))) p.prev_token_end
   unfolding covers apart
-  no_name k = fails_at a (mk formal_parameters (mk formal_parameter (symbol BindingIdentifier f ▸ empty_slot))) name_kinds refl (ap (one_of_kinds name_kinds) k)
+  no_name g k = fails_at a (mk formal_parameters (mk formal_parameter (symbol BindingIdentifier g ▸ empty_slot))) name_kinds refl (ap (one_of_kinds name_kinds) k)
 
-  pub no_parameters : Underived text (at Params f) p.prev_token_end → NoHead text f p.prev_token_end
+  pub no_parameters : {g : Flags} → Underived text (at Params g) p.prev_token_end → NoHead text g p.prev_token_end
   no_parameters n = part_fails {X' = plain full} (weaken_fails_on n (record { admits = λ ts vs k ls rest d e. (refl, refl) })) (record { admits = λ ts us vs j k ls mid rest d d' e. (refl, refl) })
 
-  -- where no head in parentheses stands, no arrow function begins with a parenthesis
-  pub no_head_no_arrow : p.token.kind ≡ LParen → NoHead text f p.prev_token_end → Underived text (at Arrow' f) p.prev_token_end
-  no_head_no_arrow k n = no_arrow f (record { no = λ ts vs j ls rest l d e. go ts vs j ls rest l d })
+  -- where no head in parentheses stands, none begins with a parenthesis
+  pub no_head_no_line : {g : Flags} → p.token.kind ≡ LParen → NoHead text g p.prev_token_end → NoLine text g p.prev_token_end
+  no_head_no_line {g} k n = record { no = λ ts vs j ls rest l d e. go ts vs j ls rest l d }
     where
-      go : (ts vs : Slots) (j : ℕ) (ls rest : Lexemes) → Lexes (Lex text) p.prev_token_end ls → Takes rule (head_of f ▸ behind_head f) end ts p.prev_token_end ls vs j rest → ⊥
-      go ts vs j ls rest l (is_seq {us = us} {j = i} {mid = mid} (is_left d) e) = (no_name {X = plain full} k).no ts us i ls mid l d (refl, refl)
-      go ts vs j ls rest l (is_seq {us = us} (is_right d) (is_seq (is_look w) (is_seq {j = i} {mid = mid} (is_lexeme q) e))) = n.no ts us i ls mid l (is_seq d (is_lexeme q)) (refl, refl)
+      go : (ts vs : Slots) (j : ℕ) (ls rest : Lexemes) → Lexes (Lex text) p.prev_token_end ls → Takes rule (line_of g) end ts p.prev_token_end ls vs j rest → ⊥
+      go ts vs j ls rest l (is_seq {us = us} {j = i} {mid = mid} (is_left d) e) = (no_name g {X = plain full} k).no ts us i ls mid l d (refl, refl)
+      go ts vs j ls rest l (is_seq (is_right d) (is_seq (is_look w) (is_lexeme q))) = n.no ts vs j ls rest l (is_seq d (is_lexeme q)) (refl, refl)
+
+  -- so no arrow function does
+  pub no_head_no_arrow : p.token.kind ≡ LParen → NoHead text f p.prev_token_end → Underived text (at Arrow' f) p.prev_token_end
+  no_head_no_arrow k n = no_arrow f (no_plain_led f (no_head_no_line k n)) (no_async_here a (ap (one_of_kinds (Async ∷ [])) k))
 
   module _ {q : Parser} (k : p.token.kind ≡ LParen) (x : Answer text f (at Params f) p q) where
     parameters_path : Path text f (plain full) (head_of f) p nothing q (tree x.label x.slots)
-    parameters_path = right (no_name k) ⟼ last_called x (record { admits = λ ts vs k ls rest d e. (refl, refl) })
+    parameters_path = right (no_name f k) ⟼ last_called x (record { admits = λ ts vs k ls rest d e. (refl, refl) })
 
   module _ {q : Parser} (x : Answer text f (at Params f) p q) where
     parameters_alone : Path text f (plain full) (symbol Params f) p nothing q (tree x.label x.slots)
@@ -352,11 +374,11 @@ not_true : (b : Bool) → not b ≡ true → b ≡ false
 not_true true h = absurd (false≢true h)
 not_true false h = refl
 
-head_of_path : {text : List ℕ} {f : Flags} {p q : Parser} (w : Parser) {l : Label} {cs : Slots} {id : NodeId} → NoYield text f p.prev_token_end → Path text f (plain full) (head_of f) p nothing q (tree l cs) → q.errors ≡ p.errors → Same p q → w ≡ record q { nodes = w.nodes } → Holds w.nodes (length p.nodes) (length w.nodes) id.0 l cs → Keeps p.nodes w.nodes → (IsCharBoundary p.text p.token.span.start → NodesLie q.text q.nodes → NodesLie q.text w.nodes) → Head text f p w id
-head_of_path {text} {f} {p} {q} w {l} {cs} {id} y r e s n h k i = go w.nodes n h k i
+head_of_path : {text : List ℕ} {f : Flags} {p q : Parser} (w : Parser) {l : Label} {cs : Slots} {id : NodeId} → Path text f (plain full) (head_of f) p nothing q (tree l cs) → q.errors ≡ p.errors → Same p q → w ≡ record q { nodes = w.nodes } → Holds w.nodes (length p.nodes) (length w.nodes) id.0 l cs → Keeps p.nodes w.nodes → (IsCharBoundary p.text p.token.span.start → NodesLie q.text q.nodes → NodesLie q.text w.nodes) → Head text f f p w id
+head_of_path {text} {f} {p} {q} w {l} {cs} {id} r e s n h k i = go w.nodes n h k i
   where
-    go : (ns : List Node) → w ≡ record q { nodes = ns } → Holds w.nodes (length p.nodes) (length w.nodes) id.0 l cs → Keeps p.nodes w.nodes → (IsCharBoundary p.text p.token.span.start → NodesLie q.text q.nodes → NodesLie q.text w.nodes) → Head text f p w id
-    go ns n h k i = subst (λ (z : Parser). Head text f p z id) (sym n) (record {
+    go : (ns : List Node) → w ≡ record q { nodes = ns } → Holds w.nodes (length p.nodes) (length w.nodes) id.0 l cs → Keeps p.nodes w.nodes → (IsCharBoundary p.text p.token.span.start → NodesLie q.text q.nodes → NodesLie q.text w.nodes) → Head text f f p w id
+    go ns n h k i = subst (λ (z : Parser). Head text f f p z id) (sym n) (record {
       at = beside_nodes ns r.at;
       same = same_with ns s (subst (λ (z : Parser). Keeps p.nodes z.nodes) n k) (λ b z. subst (λ (v : Parser). NodesLie q.text v.nodes) n (i b z));
       further = r.further;
@@ -365,7 +387,6 @@ head_of_path {text} {f} {p} {q} w {l} {cs} {id} y r e s n h k i = go w.nodes n h
       slots = cs;
       pass = r.pass;
       walked = r.walked;
-      no_yield = y;
       read = none_kept r.verdict (ap length e);
       holds = subst (λ (z : Parser). Holds z.nodes (length p.nodes) (length z.nodes) id.0 l cs) n h;
       keeps = subst (λ (z : Parser). Keeps p.nodes z.nodes) n k;
@@ -388,7 +409,7 @@ lexeme_from : {text : List ℕ} {s : ℕ} {y : Lexeme} → Lex text s y → s �
 lexeme_from l = let e = l.0.from in omega arith
 
 -- where a head was read, and none of its lexemes is a regular expression or a sign that begins with a slash, no operand is derived
-pub head_no_operand : {text : List ℕ} {f : Flags} {o p : Parser} {id : NodeId} → Head text f o p id → p.token.kind ≡ Arrow → ((ls r : Lexemes) (e : ℕ) → Lexes (Lex text) o.prev_token_end ls → (z : One [] ls e r) → e ≤ p.token.span.start → AllCalm z) → Underived text (at Short f) o.prev_token_end
+head_no_operand : {text : List ℕ} {f : Flags} {o p : Parser} {id : NodeId} → Head text f f o p id → p.token.kind ≡ Arrow → ((ls r : Lexemes) (e : ℕ) → Lexes (Lex text) o.prev_token_end ls → (z : One [] ls e r) → e ≤ p.token.span.start → AllCalm z) → Underived text (at Short f) o.prev_token_end
 head_no_operand {text} {f} {o} {p} h k c =
     let y = arrow_here h.at k in
     let d = h.read.goes.sound end end p.prev_token_end (last y.0) (last y.0) y.1 (inl h.read.near) is_nothing in
@@ -396,6 +417,28 @@ head_no_operand {text} {f} {o} {p} h k c =
     let l = h.read.goes.passes.lexed (last y.0) y.1 in
     let e : z.0 ≤ p.token.span.start = (let i = lexeme_from (one_behind text o.prev_token_end l z.1) in let j = y.3 in omega arith) in
     no_operand f l z.1 (c _ _ z.0 l z.1 e) z.2 y.2
+
+-- of parameters so: behind arguments `=>` stands
+pub head_only_arrow : {text : List ℕ} {f g : Flags} {o p : Parser} {id : NodeId} → Head text f g o p id → p.token.kind ≡ Arrow → ((ls r : Lexemes) (e : ℕ) → Lexes (Lex text) o.prev_token_end ls → (z : One [] ls e r) → e ≤ p.token.span.start → AllCalm z) → OnlyArrow text f o.prev_token_end
+head_only_arrow {text} {f} {g} {o} {p} h k c = record { no = λ ts vs j ls rest m d a. go ts vs j ls rest m d a.0 }
+  where
+    y : (y : Lexeme) × Lex text p.prev_token_end y × (same_kind Arrow y.kind ≡ true) × (p.token.span.start ≡ y.from)
+    y = arrow_here h.at k
+
+    d : Takes rule (head_of g) end (tree h.label h.slots end) o.prev_token_end (h.pass (last y.0)) end p.prev_token_end (last y.0)
+    d = h.read.goes.sound end end p.prev_token_end (last y.0) (last y.0) y.1 (inl h.read.near) is_nothing
+
+    l : Lexes (Lex text) o.prev_token_end (h.pass (last y.0))
+    l = h.read.goes.passes.lexed (last y.0) y.1
+
+    go : (ts vs : Slots) (j : ℕ) (ls rest : Lexemes) → Lexes (Lex text) o.prev_token_end ls → Takes rule (args f) end ts o.prev_token_end ls vs j rest → not (same_kind Arrow (here rest).kind) ≡ true → ⊥
+    go ts vs j ls rest m e n =
+        let z = head_one d in
+        let x = args_one f e in
+        let b : z.0 ≤ p.token.span.start = (let i = lexeme_from (one_behind text o.prev_token_end l z.1) in let q = y.3 in omega arith) in
+        let q = agree text o.prev_token_end l m z.1 x.1 (c _ _ z.0 l z.1 b) in
+        let w : y.0 ≡ here rest = same_arrow (here_at (Lex text) (last y.0) q.1) (subst (λ (v : ℕ). Lex text v (here rest)) (sym q.0) (here_at (Lex text) rest q.2)) (sym (kind_of_same Arrow y.0.kind y.2)) in
+        false≢true (sym (ap not (subst (λ (v : Lexeme). same_kind Arrow v.kind ≡ true) w y.2)) ∙ n)
 
 -- so the arrow that stands behind is the token
 pub arrow_is_here : {text : List ℕ} {f : Flags} {p : Parser} → At text f p → (y : Lexeme) → Lex text p.prev_token_end y → y.kind ≡ Arrow → p.token.kind ≡ Arrow
@@ -412,34 +455,53 @@ pub unmoved : {p q : Parser} → q ≡ p → Unmoved p q
 unmoved {p} e = subst (Unmoved p) (sym e) (record { at = λ text f a. a; same = same_itself; kept = refl; place = refl; spot_is = refl; start = refl; kind = refl; keeps = Keeps-refl p.nodes })
 
 -- the node of a name stands before the arrow
-pub name_found : {p q w : Parser} {id : NodeId} → Standing p → one_of_kinds name_kinds p.token.kind ≡ true → ArrowBehind p q true → p.token.escaped ≡ false → Single q w id → IsHeadHere p w id
-name_found {p} {q} {w} {id} a n b e s = (k, (λ text f a. a_head (head text f a) (none text f a)), none)
+pub name_found : {p q w : Parser} {id : NodeId} → Standing p → ArrowBehind p q true → p.token.escaped ≡ false → Single q w id → NamesHead p w (Some id)
+name_found {p} {q} {w} {id} a b e s = (k, head, b.1)
   where
     z : Single p w id
     z = subst (λ (v : Parser). Single v w id) b.0 s
 
-    head : (text : List ℕ) (f : Flags) → At text f p → Head text f p w id
+    head : (text : List ℕ) (f : Flags) → At text f p → Head text f f p w id
     head text f a = z.1 text f a e
 
     k : w.token.kind ≡ Arrow
     k = let y = b.1 _ _ a in arrow_is_here (head _ _ a).at y.0 (subst (λ (v : ℕ). Lex p.text v y.0) (sym z.0) y.1) y.2
 
+-- no YieldExpression begins with a name
+no_yield_named : {text : List ℕ} {f : Flags} {p : Parser} → At text f p → may_name f.yield_ f.await_ p.token.kind ≡ true → NoYield text f p.prev_token_end
+no_yield_named {f = f} a k = no_yield a (λ e. not_true f.yield_ (subst (λ (v : Kind). may_name f.yield_ f.await_ v ≡ true) e k))
+
+-- nor with a parenthesis
+pub no_yield_paren : {text : List ℕ} {f : Flags} {p : Parser} → At text f p → p.token.kind ≡ LParen → NoYield text f p.prev_token_end
+no_yield_paren a k = no_yield a (λ i. let z : LParen ≡ Yield = sym k ∙ i in absurd (cc))
+
+-- no operand begins with it
+pub named_head : {p w : Parser} {id : NodeId} → Standing p → NameHere p true → NamesHead p w (Some id) → IsHeadHere p w id
+named_head {p} {w} {id} a n h = (h.0, (λ text f b. a_head (h.1 text f b) (no_yield_named b (name_at true b n).0) (none text f b)), none)
+  where
+    listed : one_of_kinds name_kinds p.token.kind ≡ true
+    listed = listed_here p n
+
     named : {text : List ℕ} {f : Flags} → At text f p → (x : Lexeme) → Lex text p.prev_token_end x → one_of_kinds name_kinds x.kind ≡ true
-    named a x l = subst (λ (v : Kind). one_of_kinds name_kinds v ≡ true) (told a (name_whole a n).0 (name_signless p.token.kind n) x l).kind n
+    named a x l = subst (λ (v : Kind). one_of_kinds name_kinds v ≡ true) (told a (name_whole a listed).0 (name_signless p.token.kind listed) x l).kind listed
 
     none : (text : List ℕ) (f : Flags) → At text f p → Underived text (at Short f) p.prev_token_end
-    none text f a = head_no_operand (head text f a) k (λ ls r i l o b. name_calm o (named a (here ls) (here_at (Lex text) ls l)))
+    none text f a = head_no_operand (h.1 text f a) h.0 (λ ls r i l o b. name_calm o (named a (here ls) (here_at (Lex text) ls l)))
+
+pub name_finds : (p q : Parser) (found : Option NodeId) → Standing p → NameHere p true → NamesHead p q found → FindsHead p q found
+name_finds p q (Some id) a n h = named_head a n h
+name_finds p q None a n h = h
 
 -- parameters in parentheses
-pub parenthesized_head : {text : List ℕ} {f : Flags} {p q : Parser} {id : NodeId} → At text f p → p.token.kind ≡ LParen → Numbered text f (at Params f) p q id → length q.errors ≡ length p.errors → Head text f p q id
-parenthesized_head {p = p} {q = q} a k x e = head_of_path q (no_yield a (λ i. let z : LParen ≡ Yield = sym k ∙ i in absurd (cc))) (parameters_path a k x.answer) (by x.answer.verdict) x.answer.same refl x.holds x.keeps (λ b z. z)
+pub parenthesized_head : {text : List ℕ} {f : Flags} {p q : Parser} {id : NodeId} → At text f p → p.token.kind ≡ LParen → Numbered text f (at Params f) p q id → length q.errors ≡ length p.errors → Head text f f p q id
+parenthesized_head {p = p} {q = q} a k x e = head_of_path q (parameters_path a k x.answer) (by x.answer.verdict) x.answer.same refl x.holds x.keeps (λ b z. z)
   where
     by : {C B : Type 0} → Verdict p.errors q.errors C B → q.errors ≡ p.errors
     by (clean i c) = i
     by (unclean g n) = absurd (longer g (sym e))
 
 -- a name
-pub single_head : {text : List ℕ} {f : Flags} {p q v w : Parser} {name parameter id : NodeId} (s : Span) → At text f p → may_name f.yield_ f.await_ p.token.kind ≡ true → p.token.escaped ≡ false → s ≡ p.token.span → LeafTaken node_kind.BindingIdentifier op_made.None text f p q name → MadeHere (plain_label node_kind.FormalParameter op_made.None s) (Some name ∷ None ∷ []) q v parameter → MadeHere (plain_label node_kind.FormalParameters op_made.None s) (Some parameter ∷ []) v w id → Head text f p w id
+pub single_head : {text : List ℕ} {f : Flags} {p q v w : Parser} {name parameter id : NodeId} (s : Span) → At text f p → may_name f.yield_ f.await_ p.token.kind ≡ true → p.token.escaped ≡ false → s ≡ p.token.span → LeafTaken node_kind.BindingIdentifier op_made.None text f p q name → MadeHere (plain_label node_kind.FormalParameter op_made.None s) (Some name ∷ None ∷ []) q v parameter → MadeHere (plain_label node_kind.FormalParameters op_made.None s) (Some parameter ∷ []) v w id → Head text f f p w id
 single_head {text} {f} {p} {q} {v} {w} {name} {parameter} {id} s a k e b t n m =
     let i : p.token.span.end ≡ t.mid.prev_token_end = t.moved.tells.end ∙ t.moved.ends in
     let ks : Keeps p.nodes t.mid.nodes = subst (λ (ns : List Node). Keeps p.nodes ns) (sym t.moved.nodes) (Keeps-refl p.nodes) in
@@ -448,7 +510,7 @@ single_head {text} {f} {p} {q} {v} {w} {name} {parameter} {id} s a k e b t n m =
     let hv = node_held n (HoldsAll-hole (HoldsAll-one name h)) in
     let kv : Keeps p.nodes v.nodes = Keeps-trans kq (Keeps-made n.made) in
     let hw = node_held m (HoldsAll-one parameter hv) in
-    head_of_path w (no_yield a (λ e. not_true f.yield_ (subst (λ (v : Kind). may_name f.yield_ f.await_ v ≡ true) e k))) (subst (λ (x : ℕ). Path text f (plain full) (head_of f) p nothing t.mid (tree (label_to formal_parameters x) (tree (label_to formal_parameter x) (tree (label_to binding_identifier x) end (hole end)) end))) (sym i) (name_path a k e t.moved)) t.moved.kept t.moved.same (m.stays ∙ ap (λ (z : Parser). record z { nodes = w.nodes }) (n.stays ∙ ap (λ (z : Parser). record z { nodes = v.nodes }) t.made.stays))
+    head_of_path w (subst (λ (x : ℕ). Path text f (plain full) (head_of f) p nothing t.mid (tree (label_to formal_parameters x) (tree (label_to formal_parameter x) (tree (label_to binding_identifier x) end (hole end)) end))) (sym i) (name_path a k e t.moved)) t.moved.kept t.moved.same (m.stays ∙ ap (λ (z : Parser). record z { nodes = w.nodes }) (n.stays ∙ ap (λ (z : Parser). record z { nodes = v.nodes }) t.made.stays))
     (subst (λ (x : Span). Holds w.nodes (length p.nodes) (length w.nodes) id.0 (plain_label node_kind.FormalParameters op_made.None x) (tree (plain_label node_kind.FormalParameter op_made.None x) (tree (label_to binding_identifier p.token.span.end) end (hole end)) end)) b hw) (Keeps-trans kv (Keeps-made m.made))
     (λ c z. let y = from_start (plain_label node_kind.FormalParameters op_made.None s) t.moved.same t.moved.at.at (let j = t.moved.further in omega arith) (ap (λ (x : Span). record { from = x.start; to = x.end }) b ∙ ap (λ (x : ℕ). record { from = p.token.span.start; to = x }) i) c in one_lies m y (one_lies n y (one_lies t.made (subst (λ (x : Span). LabelLies t.mid.text (plain_label node_kind.BindingIdentifier op_made.None x)) b y) z)))
   where
@@ -458,68 +520,58 @@ single_head {text} {f} {p} {q} {v} {w} {name} {parameter} {id} s a k e b t n m =
 pub single_place : {p q v w : Parser} {k : _} {o : _} {l m : Label} {ids js : List (Option NodeId)} {name parameter id : NodeId} → Standing p → TakesLeaf k o p q name → MadeHere l ids q v parameter → MadeHere m js v w id → w.prev_token_end ≡ p.token.span.end
 single_place a t n m = let x = t _ _ a in ap (λ (z : Parser). z.prev_token_end) m.stays ∙ (ap (λ (z : Parser). z.prev_token_end) n.stays ∙ (ap (λ (z : Parser). z.prev_token_end) x.made.stays ∙ sym (x.moved.tells.end ∙ x.moved.ends)))
 
--- nothing goes on from a parenthesis over `=>` behind the one that closes it
-no_operand_there : {text : List ℕ} {f : Flags} {p : Parser} → At text f p → p.token.kind ≡ LParen → ArrowBehindOne text p.prev_token_end → Underived text (at Short f) p.prev_token_end
-no_operand_there {text} {f} {p} a k h = record { no = λ ts vs j ls rest m d e. go ts m d e }
+-- where `=>` stands behind the parentheses that begin here, it stands behind arguments
+pub closed_arrow : {text : List ℕ} {f : Flags} {s : ℕ} → ArrowBehindOne text s → OnlyArrow text f s
+closed_arrow {text} {f} {s} h = record { no = λ ts vs j ls rest m d e. go ts vs j ls rest m d e.0 }
   where
-    go : (ts : Slots) {vs : Slots} {j : ℕ} {ls rest : Lexemes} → Lexes (Lex text) p.prev_token_end ls → Takes rule (such (at Short f) always) end ts p.prev_token_end ls vs j rest → Admits (after (at Short f)) ts (here rest) → ⊥
-    go ts {ls = ls} {rest = rest} m d e =
-        let paren : (here ls).kind ≡ LParen = kind_here a k refl (here ls) (here_at (Lex text) ls m) in
-        let z = operand_taken (at Short f) refl d (or_right (may_bind (here ls).kind) (same_kind LParen (here ls).kind) (ap (same_kind LParen) paren)) in
-        let g = closes_alike text p.prev_token_end m z.2 h.closing in
-        let l : Lex text z.0 (here z.1) = here_at (Lex text) z.1 g.1 in
-        let w : here z.1 ≡ h.arrow = one_told l (subst (λ (v : ℕ). LexemeBehind division text v h.arrow) (sym g.0) h.stands) (ap (one_of_kinds signs) h.is) in
-        let arrow : same_kind Arrow (here z.1).kind ≡ true = ap (same_kind Arrow) (ap (λ (y : Lexeme). y.kind) w ∙ h.is) in
-        elim z.3 [
-          | inl q ↦ no_arrow_admitted text f ts m d e (ap (λ (v : Lexemes). same_kind Arrow (here v).kind) q ∙ arrow)
-          | inr n ↦ false≢true (sym n ∙ arrow)
-        ]
+    go : (ts vs : Slots) (j : ℕ) (ls rest : Lexemes) → Lexes (Lex text) s ls → Takes rule (args f) end ts s ls vs j rest → not (same_kind Arrow (here rest).kind) ≡ true → ⊥
+    go ts vs j ls rest m d n =
+        let z = args_one f d in
+        let g = closes_alike text s m z.1 h.closing in
+        let l : Lex text z.0 (here rest) = here_at (Lex text) rest g.1 in
+        let w : here rest ≡ h.arrow = one_told l (subst (λ (v : ℕ). LexemeBehind division text v h.arrow) (sym g.0) h.stands) (ap (one_of_kinds signs) h.is) in
+        false≢true (sym (ap (λ (y : Lexeme). not (same_kind Arrow y.kind)) w ∙ ap (λ (k : Kind). not (same_kind Arrow k)) h.is) ∙ n)
 
 -- neither a head nor an operand begins here
 pub unassigned : {text : List ℕ} {f : Flags} {p : Parser} → At text f p → p.token.kind ≡ LParen → NoHead text f p.prev_token_end → Underived text (at Short f) p.prev_token_end → Underived text (at Assignment f) p.prev_token_end
-unassigned {f = f} a k n s = fails_by (only_arrow f (not_wide a) (is_cover a) (no_yield a (λ i. let z : LParen ≡ Yield = sym k ∙ i in absurd (cc))) (conditional_none f s) s ▹✗ weaken_fails_on (no_head_no_arrow a k n) (same_read (at Assignment f) (at Arrow' f) arrow_passes refl))
+unassigned {f = f} a k n s = fails_by (only_arrow f (not_wide a) (is_cover a) (no_yield_paren a k) (conditional_none f s) s ▹✗ weaken_fails_on (no_head_no_arrow a k n) (same_read (at Assignment f) (at Arrow' f) arrow_passes refl))
 
--- parameters of which something was told, where no operand begins
-told_parameters : {text : List ℕ} {f : Flags} {p q : Parser} {id : NodeId} → At text f p → p.token.kind ≡ LParen → Numbered text f (at Params f) p q id → Grown p.errors q.errors → Underived text (at Params f) p.prev_token_end → Underived text (at Short f) p.prev_token_end → ToldHead text f p q id
-told_parameters {text} {f} {p} a k x g n s =
-    record {
-      at = x.answer.at;
-      same = x.answer.same;
-      further = x.answer.further;
-      grown = g;
-      none = unassigned a k (no_parameters a n) s;
-      label = x.answer.label;
-      slots = x.answer.slots;
-      pass = x.answer.pass;
-      walked = x.answer.walked;
-      holds = x.holds;
-      keeps = x.keeps;
-    }
+-- parameters of which something was told
+told_parameters : {text : List ℕ} {f : Flags} {p q : Parser} {id : NodeId} → Numbered text f (at Params f) p q id → Grown p.errors q.errors → ToldHead text f p q id
+told_parameters x g = record {
+  at = x.answer.at;
+  same = x.answer.same;
+  further = x.answer.further;
+  grown = g;
+  label = x.answer.label;
+  slots = x.answer.slots;
+  pass = x.answer.pass;
+  walked = x.answer.walked;
+  holds = x.holds;
+  keeps = x.keeps;
+}
 
 -- parameters where no operand begins
-pub certain_head : {text : List ℕ} {f : Flags} {p q : Parser} {id : NodeId} → At text f p → p.token.kind ≡ LParen → Underived text (at Short f) p.prev_token_end → Numbered text f (at Params f) p q id → BeforeArrow text f p q id
+pub certain_head : {text : List ℕ} {f : Flags} {p q : Parser} {id : NodeId} → At text f p → p.token.kind ≡ LParen → Underived text (at Short f) p.prev_token_end → Numbered text f (at Params f) p q id → PlainHead text f p q id
 certain_head a k s x = elim x.answer.verdict [
-  | clean e z ↦ a_head (parenthesized_head a k x (ap length e)) s
-  | unclean g z ↦ told_head (told_parameters a k x g z s)
+  | clean e z ↦ a_head (parenthesized_head a k x (ap length e)) (no_yield_paren a k) s
+  | unclean g z ↦ told_head (told_parameters x g) (unassigned a k (no_parameters a z) s)
 ]
 
 module _ {p q : Parser} {kept : ℕ} (a : Standing p) (k : p.token.kind ≡ LParen) (n : kept ≡ length p.errors) where
   -- parameters, and whether they are a head
-  pub head_read : {id : NodeId} {start : ℕ} → start ≡ p.prev_token_end → Answers (at Params) p q (Ok id) → IsHead start kept q true → IsHeadRead p q id
+  pub head_read : {id : NodeId} {start : ℕ} → start ≡ p.prev_token_end → Answers (at Params) p q (Ok id) → IsHead start kept q true → ParametersRead p q id
   head_read {id} {start} t x h = (h.1, (λ text f a. by h.0 a (x text f a)))
     where
-      by : {text : List ℕ} {f : Flags} → (length q.errors ≡ kept) ⊎ ArrowBehindOne q.text start → At text f p → Numbered text f (at Params f) p q id → HeadRead text f p q id
+      by : {text : List ℕ} {f : Flags} → (length q.errors ≡ kept) ⊎ ArrowBehindOne q.text start → At text f p → Numbered text f (at Params f) p q id → HeadRead text f f p q id
       by (inl e) a y = read_clean (parenthesized_head a k y (e ∙ n))
       by {text} {f} (inr c) a y = elim y.answer.verdict [
         | clean e z ↦ read_clean (parenthesized_head a k y (ap length e))
-        | unclean g z ↦ read_unclean (told_parameters a k y g z none) none
+        | unclean g z ↦ read_unclean (told_parameters y g) (no_parameters a z) (subst (λ (v : ℕ). ArrowBehindOne text v) t (subst (λ (v : List ℕ). ArrowBehindOne v start) y.answer.at.text_is c))
       ]
-        where
-          none : Underived text (at Short f) p.prev_token_end
-          none = no_operand_there a k (subst (λ (v : ℕ). ArrowBehindOne text v) t (subst (λ (v : List ℕ). ArrowBehindOne v start) y.answer.at.text_is c))
 
-  pub head_unread : {id : NodeId} → Answers (at Params) p q (Ok id) → (length q.errors ≡ kept → ⊥) ⊎ (q.token.kind ≡ Arrow → ⊥) → NoneLooked p q
-  head_unread x h = let y = (x _ _ a).answer in ((y.same.follows, y.at.at), y.at.heads, λ text f a. by h (x text f a).answer a, λ w. (y.same.lies w).1)
+  pub head_unread : {id : NodeId} → Answers (at Params) p q (Ok id) → (length q.errors ≡ kept → ⊥) ⊎ (q.token.kind ≡ Arrow → ⊥) → WentOn p q × NoParametersHere p
+  head_unread x h = let y = (x _ _ a).answer in (((y.same.follows, y.at.at), y.at.heads, λ w. (y.same.lies w).1), λ text f a. by h (x text f a).answer a)
     where
       by : {text : List ℕ} {f : Flags} → (length q.errors ≡ kept → ⊥) ⊎ (q.token.kind ≡ Arrow → ⊥) → Answer text f (at Params f) p q → At text f p → NoHead text f p.prev_token_end
       by (inl m) x a = unclean_head a x (λ e. m (e ∙ sym n))
@@ -530,23 +582,24 @@ pub start_between : {p q : Parser} {id : NodeId} {start : ℕ} → Standing p �
 start_between {p} {q} a x e = let y = (x _ _ a).answer in subst (λ (v : ℕ). IsCharBoundary q.text v) (sym e) (subst (λ (t : List ℕ). IsCharBoundary t p.prev_token_end) (sym y.at.text_is) a.at.between)
 
 -- they can't be read
-pub head_refused : {p q : Parser} (e : Stop) → Standing p → e ≡ Fatal → ((text : List ℕ) (f : Flags) → At text f p → Stops p q e (Underived text (at Params f) p.prev_token_end)) → NoneLooked p q
+pub head_refused : {p q : Parser} (e : Stop) → Standing p → e ≡ Fatal → ((text : List ℕ) (f : Flags) → At text f p → Stops p q e (Underived text (at Params f) p.prev_token_end)) → WentOn p q × NoParametersHere p
 head_refused {p} {q} e a i s = go (λ text f b. subst (λ (v : Stop). Stops p q v (Underived text (at Params f) p.prev_token_end)) i (s text f b))
   where
-    go : ((text : List ℕ) (f : Flags) → At text f p → Refuses p q (Underived text (at Params f) p.prev_token_end)) → NoneLooked p q
-    go x = let y = x _ _ a in ((y.follows, y.at), y.heads, λ text f b. no_parameters b ((x text f b).none nothing_unbuilt), y.lies)
+    go : ((text : List ℕ) (f : Flags) → At text f p → Refuses p q (Underived text (at Params f) p.prev_token_end)) → WentOn p q × NoParametersHere p
+    go x = let y = x _ _ a in (((y.follows, y.at), y.heads, y.lies), λ text f b. no_parameters b ((x text f b).none nothing_unbuilt))
 
-pub some_found : (p q : Parser) (id : NodeId) (r : Option NodeId) → r ≡ Some id → FindsHead p q r → IsHeadHere p q id
-some_found p q id r e h = subst (FindsHead p q) e h
+-- what was found
+pub some_found : (p q : Parser) (head : ArrowHead) (r : Option ArrowHead) → r ≡ Some head → FindsAnyHead p q r → IsHeadBefore head.is_async p q head.parameters
+some_found p q head r e h = subst (FindsAnyHead p q) e h
 
-pub none_found : (p q : Parser) (r : Option NodeId) → r ≡ None → FindsHead p q r → Unmoved p q × NoArrowHere p
-none_found p q r e h = subst (FindsHead p q) e h
+pub none_found : (p q : Parser) (r : Option ArrowHead) → r ≡ None → FindsAnyHead p q r → Unmoved p q × NoArrowHere p
+none_found p q r e h = subst (FindsAnyHead p q) e h
 
-pub none_looked : (p o q : Parser) (r : Option NodeId) → o ≡ p → r ≡ None → LooksForHead o q r → NoneLooked p q
-none_looked p o q r s e h = subst (λ (z : Parser). NoneLooked z q) s (subst (LooksForHead o q) e h)
+pub none_looked : (p o q : Parser) (r : Option NodeId) → o ≡ p → r ≡ None → LooksForHead o q r → WentOn p q × NoParametersHere p
+none_looked p o q r s e h = subst (λ (z : Parser). WentOn z q × NoParametersHere z) s (subst (LooksForHead o q) e h)
 
-pub some_looked : (p o q : Parser) (id : NodeId) (r : Option NodeId) → o ≡ p → r ≡ Some id → LooksForHead o q r → IsHeadRead p q id
-some_looked p o q id r s e h = subst (λ (z : Parser). IsHeadRead z q id) s (subst (LooksForHead o q) e h)
+pub some_looked : (p o q : Parser) (id : NodeId) (r : Option NodeId) → o ≡ p → r ≡ Some id → LooksForHead o q r → ParametersRead p q id
+some_looked p o q id r s e h = subst (λ (z : Parser). ParametersRead z q id) s (subst (LooksForHead o q) e h)
 
 pub head_so : (start kept : ℕ) (q : Parser) {b r : Bool} → r ≡ b → IsHead start kept q r → IsHead start kept q b
 head_so start kept q e h = subst (λ (v : Bool). IsHead start kept q v) e h
@@ -555,17 +608,20 @@ pub refused_so : (kept : ℕ) (p : Parser) {r : Bool} → r ≡ true → IsRefus
 refused_so kept p e h = subst (λ (b : Bool). IsRefusedHead kept p b) e h
 
 -- neither a name nor a parenthesis
-pub neither : {p : Parser} → NameHere p false → StandsHere p LParen false → NoArrowHere p
+pub neither : {p : Parser} → NameHere p false → StandsHere p LParen false → NoLineHere p
 neither {p} n m = λ text f a. by text f p.token.escaped refl a
   where
-    by : (text : List ℕ) (f : Flags) (b : Bool) → p.token.escaped ≡ b → At text f p → Underived text (at Arrow' f) p.prev_token_end
+    by : (text : List ℕ) (f : Flags) (b : Bool) → p.token.escaped ≡ b → At text f p → NoLine text f p.prev_token_end
     by text f true e a = fails_escaped a e
-    by text f false e a = no_head_here a (no_name_here f p (name_at false a n) e) (or_kind LParen [] p.token.kind (λ k. m k e) refl)
+    by text f false e a = no_line_here a (no_name_here f p (name_at false a n) e) (or_kind LParen [] p.token.kind (λ k. m k e) refl)
 
 -- ---- where the parser is where it was
 
 pub unmoved_none : {p q : Parser} → Standing p → Unmoved p q → NoArrowHere p → NoArrowHere q
 unmoved_none {p} {q} a u n = λ text f b. subst (λ (s : ℕ). Underived text (at Arrow' f) s) (sym u.place) (subst (λ (g : Flags). Underived text (at Arrow' g) p.prev_token_end) (sym (flags_same p q u.same.ctx u.same.follows.source_type u.same.options) ∙ b.flags_are) (subst (λ (t : List ℕ). Underived t (at Arrow' (flags_of p)) p.prev_token_end) (sym u.same.follows.text ∙ b.text_is) (n _ _ a)))
+
+pub unmoved_went_on : {p q : Parser} → Standing p → Unmoved p q → WentOn p q
+unmoved_went_on a u = let b = u.at _ _ a in ((u.same.follows, b.at), b.heads, λ w. (u.same.lies w).1)
 
 -- where no YieldExpression begins
 no_yield_here : {text : List ℕ} {f : Flags} {p : Parser} → At text f p → (BeginsYield p → ⊥) → NoYield text f p.prev_token_end
@@ -612,8 +668,8 @@ plain_back {text} {p} {r} t c e (whole d n x) = whole (c ∙ d) (λ k. n (sym (a
 plain_back {text} {p} {r} t c e (sign d k x) = sign (c ∙ d) (ap (λ z. z.kind) t ∙ k) (subst (λ (v : ℕ). GivesLexeme division cut text v r.token) (sym e) (subst (λ (v : Token). GivesLexeme division cut text p.prev_token_end v) (sym t) x))
 plain_back {text} {p} {r} t c e (nothing_here d k n) = nothing_here (c ∙ d) (ap (λ z. z.kind) t ∙ k) (subst (λ (v : ℕ). (y : Lexeme) → LexemeBehind division text v y → ⊥) (sym e) n)
 
-pub went_back : {p q r : Parser} {c : ParserCheckpoint} → may_be_read_again p.token.kind ≡ false → Remembers p c → GoesOn p q → NotedHeads q → (SpansLie p → NodesLie q.text q.nodes) → GoesBack c q r → Unmoved p r
-went_back {p} {q} {r} o m f n l g =
+pub went_back : {p q r : Parser} {c : ParserCheckpoint} → may_be_read_again p.token.kind ≡ false → Remembers p c → WentOn p q → GoesBack c q r → Unmoved p r
+went_back {p} {q} {r} o m (f, n, l) g =
     let b = came_back m f.0 g in
     let s : Same p r = record { follows = back_follows m f.0 g; options = g.options ∙ f.0.options; ctx = b.ctx; depth = b.depth; visits = b.visits; early = λ h. All-same IsEarly r.errors p.errors b.errors h; lies = λ h. (g.at.lies.starts_whole, nodes_lie q r g.text g.nodes (l h)); meets = to_end_stays p r b.text b.prev_token_end } in
     record {
@@ -640,13 +696,13 @@ behind g (clean e c) = grown_first g e
 behind g (unclean h n) = grown_both g h
 
 -- the body: in braces where a brace stands, else an expression
-to_body : {text : List ℕ} {f : Flags} {X : Test} {r : Parser} → At text f r → (b : Bool) → same_kind LCurly r.token.kind ≡ b → Goes rule (Lex text) X end (body_slots f) r.prev_token_end (such (body_of b f) always) r.prev_token_end (λ us. us) (still 0)
+to_body : {text : List ℕ} {f : Flags} {X : Test} {r : Parser} (m : Bool) → At text f r → (b : Bool) → same_kind LCurly r.token.kind ≡ b → Goes rule (Lex text) X end (body_slots m f) r.prev_token_end (such (body_of b m f) always) r.prev_token_end (λ us. us) (still 0)
 unfolding covers apart
-to_body {r = r} a true c = left (part_fails {X' = plain full} (fails_look (other (is LCurly)) (λ y l z. braced y (kind_here a (sym (kind_of_same LCurly r.token.kind c)) refl y l) (read_plain y l.1) z)) (record { admits = λ ts us vs j k ls mid rest d d' e. (refl, refl) }))
+to_body {r = r} m a true c = left (part_fails {X' = plain full} (fails_look (other (is LCurly)) (λ y l z. braced y (kind_here a (sym (kind_of_same LCurly r.token.kind c)) refl y l) (read_plain y l.1) z)) (record { admits = λ ts us vs j k ls mid rest d d' e. (refl, refl) }))
   where
     braced : (y : Lexeme) → y.kind ≡ LCurly → y.escaped ≡ false → IsTrue (seen (other (is LCurly)) y) → ⊥
     braced y k n z = let w : not (same_kind LCurly y.kind && not y.escaped) ≡ false = rw (k, n) refl in false≢true (sym w ∙ z)
-to_body {text} {f} {r = r} a false c = right (fails_at a (symbol Body (braced_body f)) (LCurly ∷ []) refl none) ▹ pass_over (looks (other (is LCurly)) (λ y l. unbraced y (same_kind LCurly y.kind) refl l))
+to_body {text} {f} {r = r} m a false c = right (fails_at a (symbol Body (braced_body m f)) (LCurly ∷ []) refl none) ▹ pass_over (looks (other (is LCurly)) (λ y l. unbraced y (same_kind LCurly y.kind) refl l))
   where
     none : one_of_kinds (LCurly ∷ []) r.token.kind ≡ false
     none = rw c refl
@@ -673,61 +729,110 @@ body_row after_declarator h = absurd (false≢true h)
 body_row after_word h = absurd (false≢true h)
 
 -- behind an arrow function stands what may stand behind its body: behind one in braces anything, but a comma goes on with what is around
-behind_body : (b : Bool) {text : List ℕ} {f : Flags} {r w : Parser} (y : Answer text f (body_of b f) r w) (z : Lexeme) → Plain text w.prev_token_end z → IsTrue (seen (looser 2 f.in_ (row_of y.label y.slots)) z || seen beside z)
-behind_body false y z l = y.stops z l
-behind_body true {f = f} y z l = or_left _ _ (subst (λ (r : Row). IsTrue (seen (looser 2 f.in_ r) z)) (sym (body_row (row_of y.label y.slots) y.row)) (at_most (same_kind Comma z.kind && not z.escaped)))
+behind_body : (b m : Bool) {text : List ℕ} {f : Flags} {r w : Parser} (y : Answer text f (body_of b m f) r w) (z : Lexeme) → Plain text w.prev_token_end z → IsTrue (seen (looser 2 f.in_ (row_of y.label y.slots)) z || seen beside z)
+behind_body false m y z l = y.stops z l
+behind_body true m {f = f} y z l = or_left _ _ (subst (λ (r : Row). IsTrue (seen (looser 2 f.in_ r) z)) (sym (body_row (row_of y.label y.slots) y.row)) (at_most (same_kind Comma z.kind && not z.escaped)))
   where
     at_most : (c : Bool) → nat_lt (cond c 1 0) 2 ≡ true
     at_most true = refl
     at_most false = refl
 
-row_of_body : (b : Bool) {text : List ℕ} {f : Flags} {r w : Parser} (y : Answer text f (body_of b f) r w) → may_end Assignment (row_of y.label y.slots) ≡ true
-row_of_body false y = y.row
-row_of_body true y = subst (λ (r : Row). may_end Assignment r ≡ true) (sym (body_row (row_of y.label y.slots) y.row)) refl
+row_of_body : (b m : Bool) {text : List ℕ} {f : Flags} {r w : Parser} (y : Answer text f (body_of b m f) r w) → may_end Assignment (row_of y.label y.slots) ≡ true
+row_of_body false m y = y.row
+row_of_body true m y = subst (λ (r : Row). may_end Assignment r ≡ true) (sym (body_row (row_of y.label y.slots) y.row)) refl
 
-module _ {text : List ℕ} {f : Flags} {o p : Parser} {id : NodeId} (h : Head text f o p id) (v : Underived text (at Short f) o.prev_token_end) (k : p.token.kind ≡ Arrow) where
-  to_arrow : Goes rule (Lex text) (after (at Assignment f)) end (rule (at Assignment f)) o.prev_token_end (such (at Arrow' f) always) o.prev_token_end (λ us. us) (still 0)
-  to_arrow = only_arrow f (not_wide h.at) (is_cover h.at) h.no_yield (conditional_none f v) v
+-- behind two slots may stand what may stand behind the second one
+arrow_inside : (a : Bool) (f : Flags) (s : ℕ) → Inside rule (arrow_made a) (after (at Assignment f)) (second f) end (arrow_slots a f) s
+arrow_inside a f s = record { ends = λ p cs vs j ls mid d e. go a p cs vs d e }
+  where
+    go : (a : Bool) (p : TreeSpan) (cs vs : Slots) {i j : ℕ} {ls mid : Lexemes} → Takes rule (arrow_slots a f) end cs i ls end j mid → Admits (after (at Assignment f)) (tree (record { kind = arrow_function_expression; op = no_op; flags = flag a async_flag; span = p }) cs vs) (here mid) → Admits (second f) cs (here mid)
+    go false s cs vs (is_seq is_nothing (is_seq (is_left (is_node b)) (is_seq (is_look c) (is_seq (is_lexeme d) (is_left (is_such e g)))))) x = x
+    go false s cs vs (is_seq is_nothing (is_seq (is_left (is_node b)) (is_seq (is_look c) (is_seq (is_lexeme d) (is_right (is_seq (is_look l) (is_such e g))))))) x = x
+    go false s cs vs (is_seq is_nothing (is_seq (is_right (is_such b m)) (is_seq (is_look c) (is_seq (is_lexeme d) (is_left (is_such e g)))))) x = x
+    go false s cs vs (is_seq is_nothing (is_seq (is_right (is_such b m)) (is_seq (is_look c) (is_seq (is_lexeme d) (is_right (is_seq (is_look l) (is_such e g))))))) x = x
+    go true s cs vs (is_seq (is_seq (is_lexeme q) (is_look w)) (is_seq (is_left (is_node b)) (is_seq (is_look c) (is_seq (is_lexeme d) (is_left (is_such e g)))))) x = x
+    go true s cs vs (is_seq (is_seq (is_lexeme q) (is_look w)) (is_seq (is_left (is_node b)) (is_seq (is_look c) (is_seq (is_lexeme d) (is_right (is_seq (is_look l) (is_such e g))))))) x = x
+    go true s cs vs (is_seq (is_seq (is_lexeme q) (is_look w)) (is_seq (is_right (is_such b m)) (is_seq (is_look c) (is_seq (is_lexeme d) (is_left (is_such e g)))))) x = x
+    go true s cs vs (is_seq (is_seq (is_lexeme q) (is_look w)) (is_seq (is_right (is_such b m)) (is_seq (is_look c) (is_seq (is_lexeme d) (is_right (is_seq (is_look l) (is_such e g))))))) x = x
 
-  -- behind two slots may stand what may stand behind the second one
-  inside_arrow : Inside rule arrow_made (after (at Assignment f)) (second f) end (arrow_slots f) o.prev_token_end
-  inside_arrow = record { ends = λ s cs vs j ls mid d e. go s cs vs d e }
-    where
-      go : (s : TreeSpan) (cs vs : Slots) {i j : ℕ} {ls mid : Lexemes} → Takes rule (arrow_slots f) end cs i ls end j mid → Admits (after (at Assignment f)) (tree (record { kind = arrow_function_expression; op = no_op; flags = 0; span = s }) cs vs) (here mid) → Admits (second f) cs (here mid)
-      go s cs vs (is_seq is_nothing (is_seq (is_left (is_node b)) (is_seq (is_look c) (is_seq (is_lexeme d) (is_left (is_such e g)))))) x = x
-      go s cs vs (is_seq is_nothing (is_seq (is_left (is_node b)) (is_seq (is_look c) (is_seq (is_lexeme d) (is_right (is_seq (is_look l) (is_such e g))))))) x = x
-      go s cs vs (is_seq is_nothing (is_seq (is_right (is_such b m)) (is_seq (is_look c) (is_seq (is_lexeme d) (is_left (is_such e g)))))) x = x
-      go s cs vs (is_seq is_nothing (is_seq (is_right (is_such b m)) (is_seq (is_look c) (is_seq (is_lexeme d) (is_right (is_seq (is_look l) (is_such e g))))))) x = x
+-- ---- the word before the head
 
-  on_body : (b : Bool) {e : ℕ} → On rule (record { base = widest Assignment; by = λ us. by_second f (tree h.label h.slots us) }) (after (body_of b f)) end (such (body_of b f) always) e
+async_path : {text : List ℕ} {f : Flags} {o l : Parser} → AsyncPassed text f o l → Path text f (plain full) (lead_of true) o nothing l (λ us. us)
+async_path x = ended_by (token Async x.at x.kind x.plain refl x.moved) (looks (λ k w e. not w) (λ y l. ap not (newline_here x.moved.at y l ∙ x.on_line)))
+
+lead_then : {text : List ℕ} (a : Bool) {f : Flags} {o l q : Parser} {X : Test} {b c : G} {i : Slots → Slots} → Leads a text f o l → Path text f X b l c q i → Path text f X (lead_of a ▸ b) o c q i
+lead_then true d r = then_any (async_path d) ⟶ r
+lead_then {text} false {f} {o} {l} {q} {X} {b} {c} {i} d r = subst (λ (v : Parser). Path text f X (nothing ▸ b) v c q i) d (done ⟼ r)
+
+module _ (text : List ℕ) (f : Flags) (o l : Parser) where
+  lead_fails : (a : Bool) {X : Test} {b : G} → Leads a text f o l → Fails rule (Lex text) X end b l.prev_token_end → Fails rule (Lex text) X end (lead_of a ▸ b) o.prev_token_end
+  lead_fails true d n = then_any (async_path d) ⟶✗ n
+  lead_fails false {X} {b} d n = subst (λ (v : Parser). Fails rule (Lex text) X end (nothing ▸ b) v.prev_token_end) d (done ▹✗ n)
+
+  lead_same : (a : Bool) → Leads a text f o l → Same o l
+  lead_same true d = d.moved.same
+  lead_same false d = subst (λ (v : Parser). Same o v) (sym d) same_itself
+
+  lead_kept : (a : Bool) → Leads a text f o l → l.errors ≡ o.errors
+  lead_kept true d = d.moved.kept
+  lead_kept false d = ap (λ (z : Parser). z.errors) d
+
+  lead_nodes : (a : Bool) → Leads a text f o l → l.nodes ≡ o.nodes
+  lead_nodes true d = d.moved.nodes
+  lead_nodes false d = ap (λ (z : Parser). z.nodes) d
+
+  lead_start : (a : Bool) → Leads a text f o l → o.token.span.start ≤ l.token.span.start
+  lead_start true d = let g = d.moved.further in let b = d.moved.at.behind in omega arith
+  lead_start false d = let e = ap (λ (z : Parser). z.token.span.start) d in omega arith
+
+  abbrev lead_pass : (a : Bool) → Leads a text f o l → Lexemes → Lexemes
+  lead_pass true d ls = next d.moved.lexeme ls
+  lead_pass false d ls = ls
+
+  -- and what was passed behind it
+  led_walk : (a : Bool) (p : Parser) {pass : Lexemes → Lexemes} (d : Leads a text f o l) → Walked text (spot l) (spot p) pass → Walked text (spot o) (spot p) (λ ls. lead_pass a d (pass ls))
+  led_walk true p d w = walked_both (walked_one d.moved) w
+  led_walk false p d w = walked_from (ap spot d) w
+
+arrow_flags : (a : Bool) → flag a async_flag + flag false generator_flag ≡ flag a async_flag
+arrow_flags true = refl
+arrow_flags false = refl
+
+-- neither line
+no_led : {text : List ℕ} (a : Bool) (f : Flags) {s : ℕ} → NoLed a text f s → NoLed (not a) text f s → Underived text (at Arrow' f) s
+no_led true f n m = no_arrow f m n
+no_led false f n m = no_arrow f n m
+
+module _ {text : List ℕ} (a : Bool) {f : Flags} (o : Parser) {l p : Parser} {id : NodeId} (d : Leads a text f o l) (h : Head text f (arrow_head a f) l p id) (y : OnlyLed a text f o.prev_token_end) (k : p.token.kind ≡ Arrow) where
+  on_body : (b : Bool) {e : ℕ} → On rule (record { base = widest Assignment; by = λ us. by_second f (tree h.label h.slots us) }) (after (body_of b a f)) end (such (body_of b a f) always) e
   on_body true = record { admits = λ ts vs j ls rest d e. braced ts (here rest) }
     where
-      braced : (ts : Slots) (y : Lexeme) → Admits (after (at Body (braced_body f))) ts y
+      braced : (ts : Slots) (y : Lexeme) → Admits (after (at Body (braced_body a f))) ts y
       braced end y = (refl, refl)
       braced (hole us) y = (refl, refl)
       braced (tree l cs us) y = (refl, refl)
   on_body false = record { admits = λ ts vs j ls rest d e. go ts vs d e }
     where
-      go : (ts vs : Slots) {i j : ℕ} {ls rest : Lexemes} → Takes rule (such (at Assignment (arrow_body f)) always) end ts i ls vs j rest → Admits (record { base = widest Assignment; by = λ us. by_second f (tree h.label h.slots us) }) ts (here rest) → Admits (after (at Assignment (arrow_body f))) ts (here rest)
+      go : (ts vs : Slots) {i j : ℕ} {ls rest : Lexemes} → Takes rule (such (at Assignment (arrow_body a f)) always) end ts i ls vs j rest → Admits (record { base = widest Assignment; by = λ us. by_second f (tree h.label h.slots us) }) ts (here rest) → Admits (after (at Assignment (arrow_body a f))) ts (here rest)
       go ts end (is_such d c) x = x
       go ts vs (is_such d c) x = absurd (false≢true x.1)
 
-  head_path : Path text f (plain full) (head_of f) o nothing p (tree h.label h.slots)
+  head_path : Path text f (plain full) (head_of (arrow_head a f)) l nothing p (tree h.label h.slots)
   head_path = record { at = h.at; further = h.further; pass = h.pass; walked = h.walked; verdict = clean h.kept h.read }
 
   -- the line where `=>` stands on a new one
   late_rule : p.token.is_on_new_line ≡ true → Fails rule (Lex text) (after (at Assignment f)) end (rule (at Assignment f)) o.prev_token_end
-  late_rule w = to_arrow ▹✗ weaken_fails_on (no_arrow f (then_any head_path ⟶✗ part_fails {X' = plain full} (fails_look (λ k n e. not n) (λ y l z. false≢true (sym (ap not (newline_here h.at y l ∙ w)) ∙ z))) (record { admits = λ ts us vs j k ls mid rest d d' e. (refl, refl) }))) (same_read (at Assignment f) (at Arrow' f) arrow_passes refl)
+  late_rule w = y.arrow ▹✗ weaken_fails_on (no_led a f (lead_fails text f o l a d (then_any head_path ⟶✗ part_fails {X' = plain full} (fails_look (λ k n e. not n) (λ y l z. false≢true (sym (ap not (newline_here h.at y l ∙ w)) ∙ z))) (record { admits = λ ts us vs j k ls mid rest d d' e. (refl, refl) }))) y.other) (same_read (at Assignment f) (at Arrow' f) arrow_passes refl)
 
   module _ (n : p.token.is_on_new_line ≡ false) {r : Parser} (m : Moved text f p r) (b : Bool) (c : same_kind LCurly r.token.kind ≡ b) where
-    body_due : Path text f (second f) (arrow_slots f) o (such (body_of b f) always) r (tree h.label h.slots)
-    body_due = done ⟼ (then_any head_path ⟶ (pass_over (looks (λ k w e. not w) (λ y l. ap not (newline_here h.at y l ∙ n))) ⟼ ended_by (token Arrow h.at k (plain_sign Arrow h.at k refl refl arrow_plain) refl m) (to_body m.at b c)))
+    body_due : Path text f (second f) (arrow_slots a f) o (such (body_of b a f) always) r (tree h.label h.slots)
+    body_due = lead_then a d (then_any head_path ⟶ (pass_over (looks (λ k w e. not w) (λ y l. ap not (newline_here h.at y l ∙ n))) ⟼ ended_by (token Arrow h.at k (plain_sign Arrow h.at k refl refl arrow_plain) refl m) (to_body a m.at b c)))
 
-    body_fails : Underived text (body_of b f) r.prev_token_end → Underived text (at Assignment f) o.prev_token_end
-    body_fails z = fails_by (to_arrow ▹✗ fails_rule {X' = after (at Assignment f)} (λ l cs vs y d. d) (to_line f ▹✗ fails_node inside_arrow (body_due ⟶✗ weaken_fails_on z (on_body b))))
+    body_fails : Underived text (body_of b a f) r.prev_token_end → Underived text (at Assignment f) o.prev_token_end
+    body_fails z = fails_by (y.arrow ▹✗ fails_rule {X' = after (at Assignment f)} (λ l cs vs y d. d) (to_line f a y.other ▹✗ fails_node (arrow_inside a f o.prev_token_end) (body_due ⟶✗ weaken_fails_on z (on_body b))))
 
-    body_path : {w : Parser} → At text f o → (y : Answer text f (body_of b f) r w) → Path text f (after (at Assignment f)) (rule (at Assignment f)) o nothing w (tree (label_here arrow_function_expression no_op o w) (tree h.label h.slots (tree y.label y.slots end)))
-    body_path a y = to_arrow ⟼ by_symbol_as {X' = after (at Assignment f)} (λ l cs vs y d. d) (to_line f ⟼ noded_by a inside_arrow (body_due ⟶ last_called y (on_body b)))
+    body_path : {w : Parser} → At text f o → (x : Answer text f (body_of b a f) r w) → Path text f (after (at Assignment f)) (rule (at Assignment f)) o nothing w (tree (flagged_here arrow_function_expression no_op (flag a async_flag) o w) (tree h.label h.slots (tree x.label x.slots end)))
+    body_path s x = y.arrow ⟼ by_symbol_as {X' = after (at Assignment f)} (λ l cs vs y d. d) (to_line f a y.other ⟼ flagged_by s (arrow_inside a f o.prev_token_end) (body_due ⟶ last_called x (on_body b)))
 
 -- whether `=>` stands on a new line was looked at
 pub line_at : {text : List ℕ} {f : Flags} {p q : Parser} → At text f p → ChecksLine p q → At text f q
@@ -754,36 +859,44 @@ line_nodes : {p q : Parser} → ChecksLine p q → q.nodes ≡ p.nodes
 line_nodes (inl (e, c)) = ap (λ (z : Parser). z.nodes) c.is
 line_nodes (inr (e, i)) = ap (λ (z : Parser). z.nodes) i
 
-module _ {text : List ℕ} {f : Flags} {o p q r : Parser} {id : NodeId} (h : Head text f o p id) (v : Underived text (at Short f) o.prev_token_end) (k : p.token.kind ≡ Arrow) (c : ChecksLine p q) (m : Moved text f q r) (b : Bool) (i : same_kind LCurly r.token.kind ≡ b) where
+module _ {text : List ℕ} (a : Bool) {f : Flags} (o : Parser) {l p q r : Parser} {id : NodeId} (d : Leads a text f o l) (h : Head text f (arrow_head a f) l p id) (y : OnlyLed a text f o.prev_token_end) (k : p.token.kind ≡ Arrow) (c : ChecksLine p q) (m : Moved text f q r) (b : Bool) (i : same_kind LCurly r.token.kind ≡ b) where
+  up_to : Same o p
+  up_to = same_both (lead_same text f o l a d) h.same
+
+  nothing_told : p.errors ≡ o.errors
+  nothing_told = h.kept ∙ lead_kept text f o l a d
+
   -- the body can't be read
-  pub arrow_stops : (w : Parser) (e : Stop) → Stops r w e (Underived text (body_of b f) r.prev_token_end) → Stops o w e (Underived text (at Assignment f) o.prev_token_end)
+  pub arrow_stops : (w : Parser) (e : Stop) → Stops r w e (Underived text (body_of b a f) r.prev_token_end) → Stops o w e (Underived text (at Assignment f) o.prev_token_end)
   arrow_stops w e s = go c m s
     where
-      go : {q : Parser} → ChecksLine p q → Moved text f q r → Stops r w e (Underived text (body_of b f) r.prev_token_end) → Stops o w e (Underived text (at Assignment f) o.prev_token_end)
-      go (inl (l, c)) m s = stops_behind w e (same_both h.same (same_both (line_same (inl (l, c))) m.same)) (λ g. grown_then h.kept (grown_both (kept_one c) (grown_then m.kept g))) (λ z. fails_by (late_rule h v k l)) s
-      go (inr (n, j)) m s = stops_behind w e (same_both h.same (same_both (line_same (inr (n, j))) m.same)) (λ g. grown_then (m.kept ∙ (ap (λ (z : Parser). z.errors) j ∙ h.kept)) g) (λ z. body_fails h v k n (subst (λ (z : Parser). Moved text f z r) j m) b i z) s
+      go : {q : Parser} → ChecksLine p q → Moved text f q r → Stops r w e (Underived text (body_of b a f) r.prev_token_end) → Stops o w e (Underived text (at Assignment f) o.prev_token_end)
+      go (inl (l, c)) m s = stops_behind w e (same_both up_to (same_both (line_same (inl (l, c))) m.same)) (λ g. grown_then nothing_told (grown_both (kept_one c) (grown_then m.kept g))) (λ z. fails_by (late_rule a o d h y k l)) s
+      go (inr (n, j)) m s = stops_behind w e (same_both up_to (same_both (line_same (inr (n, j))) m.same)) (λ g. grown_then (m.kept ∙ (ap (λ (z : Parser). z.errors) j ∙ nothing_told)) g) (λ z. body_fails a o d h y k n (subst (λ (z : Parser). Moved text f z r) j m) b i z) s
 
-  arrow_path : {w : Parser} → At text f o → (y : Answer text f (body_of b f) r w) → Path text f (after (at Assignment f)) (rule (at Assignment f)) o nothing w (tree (label_here arrow_function_expression no_op o w) (tree h.label h.slots (tree y.label y.slots end)))
-  arrow_path {w} a y = go c m
+  arrow_path : {w : Parser} → At text f o → (x : Answer text f (body_of b a f) r w) → Path text f (after (at Assignment f)) (rule (at Assignment f)) o nothing w (tree (flagged_here arrow_function_expression no_op (flag a async_flag) o w) (tree h.label h.slots (tree x.label x.slots end)))
+  arrow_path {w} t x = go c m
     where
-      go : {q : Parser} → ChecksLine p q → Moved text f q r → Path text f (after (at Assignment f)) (rule (at Assignment f)) o nothing w (tree (label_here arrow_function_expression no_op o w) (tree h.label h.slots (tree y.label y.slots end)))
-      go (inr (n, j)) m = body_path h v k n (subst (λ (z : Parser). Moved text f z r) j m) b i a y
-      go {q} (inl (l, c)) m = record {
-        at = y.at;
-        further = let j = h.further in let d = line_place (inl (l, c)) in let e = (line_at h.at (inl (l, c))).behind in let g = m.further in let u = m.at.behind in let i = y.further in omega arith;
-        pass = λ ls. h.pass (next m.lexeme (y.pass ls));
-        walked = walked_both h.walked (walked_both (walked_from (line_spot (inl (l, c))) (walked_one m)) y.walked);
-        verdict = unclean (grown_then h.kept (behind (grown_first (kept_one c) m.kept) y.verdict)) (late_rule h v k l);
+      go : {q : Parser} → ChecksLine p q → Moved text f q r → Path text f (after (at Assignment f)) (rule (at Assignment f)) o nothing w (tree (flagged_here arrow_function_expression no_op (flag a async_flag) o w) (tree h.label h.slots (tree x.label x.slots end)))
+      go (inr (n, j)) m = body_path a o d h y k n (subst (λ (z : Parser). Moved text f z r) j m) b i t x
+      go {q} (inl (n, c)) m = record {
+        at = x.at;
+        further = let v = lead_start text f o l a d in let j = h.further in let d = line_place (inl (n, c)) in let e = (line_at h.at (inl (n, c))).behind in let g = m.further in let u = m.at.behind in let i = x.further in omega arith;
+        pass = λ ls. lead_pass text f o l a d (h.pass (next m.lexeme (x.pass ls)));
+        walked = walked_both (led_walk text f o l a p d h.walked) (walked_both (walked_from (line_spot (inl (n, c))) (walked_one m)) x.walked);
+        verdict = unclean (grown_then nothing_told (behind (grown_first (kept_one c) m.kept) x.verdict)) (late_rule a o d h y k n);
       }
 
-  pub arrow_answers : {w z : Parser} {body made : NodeId} (s : Span) → At text f o → (y : Numbered text f (body_of b f) r w body) → s.start ≡ o.token.span.start → s.end ≡ w.prev_token_end → MadeHere (plain_label node_kind.ArrowFunctionExpression op_made.None s) (Some id ∷ Some body ∷ []) w z made → Numbered text f (at Assignment f) o z made
-  arrow_answers {w} {z} {body} {made} s a y u d n =
-      let l : plain_label node_kind.ArrowFunctionExpression op_made.None s ≡ label_here arrow_function_expression no_op o w = rw (u, d) refl in
-      let x : MadeHere (label_here arrow_function_expression no_op o w) (Some id ∷ Some body ∷ []) w z made = subst (λ (j : Label). MadeHere j (Some id ∷ Some body ∷ []) w z made) l n in
+  pub arrow_answers : {w z : Parser} {body made : NodeId} (s : Span) → At text f o → (x : Numbered text f (body_of b a f) r w body) → s.start ≡ o.token.span.start → s.end ≡ w.prev_token_end → MadeHere (arrow_label a s) (Some id ∷ Some body ∷ []) w z made → Numbered text f (at Assignment f) o z made
+  arrow_answers {w} {z} {body} {made} s t y u v n =
+      let g : arrow_label a s ≡ flagged_here arrow_function_expression no_op (flag a async_flag) o w = rw (arrow_flags a, u, v) refl in
+      let x : MadeHere (flagged_here arrow_function_expression no_op (flag a async_flag) o w) (Some id ∷ Some body ∷ []) w z made = subst (λ (j : Label). MadeHere j (Some id ∷ Some body ∷ []) w z made) g n in
       let e : r.nodes ≡ p.nodes = m.nodes ∙ line_nodes c in
-      let g : Holds w.nodes (length p.nodes) (length w.nodes) body.0 y.answer.label y.answer.slots = subst (λ (ns : List Node). Holds w.nodes (length ns) (length w.nodes) body.0 y.answer.label y.answer.slots) e y.holds in
+      let j : Holds w.nodes (length p.nodes) (length w.nodes) body.0 y.answer.label y.answer.slots = subst (λ (ns : List Node). Holds w.nodes (length ns) (length w.nodes) body.0 y.answer.label y.answer.slots) e y.holds in
       let i : Keeps p.nodes w.nodes = subst (λ (ns : List Node). Keeps ns w.nodes) e y.keeps in
-      by_path (arrow_path a y.answer) (same_both h.same (same_both (line_same c) (same_both m.same y.answer.same))) x.stays (λ j t. behind_body b y.answer j t) (row_of_body b y.answer) (two_held x h.holds h.keeps g i) (Keeps-trans h.keeps (Keeps-trans i (Keeps-made x.made))) refl (one_lies x)
+      let hs : Holds p.nodes (length o.nodes) (length p.nodes) id.0 h.label h.slots = subst (λ (ns : List Node). Holds p.nodes (length ns) (length p.nodes) id.0 h.label h.slots) (lead_nodes text f o l a d) h.holds in
+      let ks : Keeps o.nodes p.nodes = subst (λ (ns : List Node). Keeps ns p.nodes) (lead_nodes text f o l a d) h.keeps in
+      by_path (arrow_path t y.answer) (same_both up_to (same_both (line_same c) (same_both m.same y.answer.same))) x.stays (λ j w. behind_body b a y.answer j w) (row_of_body b a y.answer) (two_held x hs ks j i) (Keeps-trans ks (Keeps-trans i (Keeps-made x.made))) refl (one_lies x)
 
 -- ---- and behind what was no head
 
@@ -797,54 +910,54 @@ line_grown : {p q : Parser} {ds : List Diagnostic} → ChecksLine p q → Grown 
 line_grown (inl (e, c)) g = grown_both g (kept_one c)
 line_grown (inr (e, i)) g = grown_first g (ap (λ (z : Parser). z.errors) i)
 
-pub before_at : {text : List ℕ} {f : Flags} {o p : Parser} {id : NodeId} → BeforeArrow text f o p id → At text f p
-before_at (a_head h v) = h.at
-before_at (told_head x) = x.at
+module _ {text : List ℕ} (a : Bool) {f : Flags} {o p : Parser} {id : NodeId} where
+  pub before_at : BeforeArrow a text f o p id → At text f p
+  before_at (led_head l d h y) = h.at
+  before_at (told_led x n) = x.at
 
-pub before_same : {text : List ℕ} {f : Flags} {o p : Parser} {id : NodeId} → BeforeArrow text f o p id → Same o p
-before_same (a_head h v) = h.same
-before_same (told_head x) = x.same
+  pub before_same : BeforeArrow a text f o p id → Same o p
+  before_same (led_head l d h y) = same_both (lead_same text f o l a d) h.same
+  before_same (told_led x n) = x.same
 
-pub before_further : {text : List ℕ} {f : Flags} {o p : Parser} {id : NodeId} → BeforeArrow text f o p id → o.token.span.start < p.prev_token_end
-before_further (a_head h v) = h.further
-before_further (told_head x) = x.further
+  pub before_further : BeforeArrow a text f o p id → o.token.span.start < p.prev_token_end
+  before_further (led_head l d h y) = let b = lead_start text f o l a d in let c = h.further in omega arith
+  before_further (told_led x n) = x.further
 
 -- an AssignmentExpression of which something was told
-pub refused : {text : List ℕ} {f : Flags} {o p : Parser} {id : NodeId} → Numbered text f (at Assignment f) o p id → (length p.errors ≡ length o.errors → ⊥) → BeforeArrow text f o p id
-refused x n = let t = told_of x n in told_head (record {
+pub refused : {text : List ℕ} {f : Flags} {o p : Parser} {id : NodeId} → Numbered text f (at Assignment f) o p id → (length p.errors ≡ length o.errors → ⊥) → BeforeArrow false text f o p id
+refused x n = let t = told_of x n in told_led (record {
   at = x.answer.at;
   same = x.answer.same;
   further = x.answer.further;
   grown = t.0;
-  none = t.1;
   label = x.answer.label;
   slots = x.answer.slots;
   pass = x.answer.pass;
   walked = x.answer.walked;
   holds = x.holds;
   keeps = x.keeps;
-})
+}) t.1
 
-pub before_stops : {text : List ℕ} {f : Flags} {o p q r : Parser} {id : NodeId} → BeforeArrow text f o p id → p.token.kind ≡ Arrow → ChecksLine p q → Moved text f q r → (b : Bool) → same_kind LCurly r.token.kind ≡ b → (w : Parser) (e : Stop) → Stops r w e (Underived text (body_of b f) r.prev_token_end) → Stops o w e (Underived text (at Assignment f) o.prev_token_end)
-before_stops (a_head h v) k c m b i w e s = arrow_stops h v k c m b i w e s
-before_stops (told_head x) k c m b i w e s = stops_behind w e (same_both x.same (same_both (line_same c) m.same)) (λ g. grown_both (grown_first (line_grown c x.grown) m.kept) g) (λ z. x.none) s
+pub before_stops : {text : List ℕ} (a : Bool) {f : Flags} {o p q r : Parser} {id : NodeId} → BeforeArrow a text f o p id → p.token.kind ≡ Arrow → ChecksLine p q → Moved text f q r → (b : Bool) → same_kind LCurly r.token.kind ≡ b → (w : Parser) (e : Stop) → Stops r w e (Underived text (body_of b a f) r.prev_token_end) → Stops o w e (Underived text (at Assignment f) o.prev_token_end)
+before_stops a {f} {o} (led_head l d h y) k c m b i w e s = arrow_stops a o d h y k c m b i w e s
+before_stops a (told_led x n) k c m b i w e s = stops_behind w e (same_both x.same (same_both (line_same c) m.same)) (λ g. grown_both (grown_first (line_grown c x.grown) m.kept) g) (λ z. n) s
 
-pub before_answers : {text : List ℕ} {f : Flags} {o p q r w z : Parser} {id body made : NodeId} → BeforeArrow text f o p id → p.token.kind ≡ Arrow → ChecksLine p q → Moved text f q r → (b : Bool) → same_kind LCurly r.token.kind ≡ b → (s : Span) → At text f o → Numbered text f (body_of b f) r w body → s.start ≡ o.token.span.start → s.end ≡ w.prev_token_end → MadeHere (plain_label node_kind.ArrowFunctionExpression op_made.None s) (Some id ∷ Some body ∷ []) w z made → Numbered text f (at Assignment f) o z made
-before_answers (a_head h v) k c m b i s a y u d n = arrow_answers h v k c m b i s a y u d n
-before_answers {text} {f} {o} {p} {q} {r} {w} {z} {id} {body} {made} (told_head v) k c m b t s a y u d n =
-    let l : plain_label node_kind.ArrowFunctionExpression op_made.None s ≡ label_here arrow_function_expression no_op o w = rw (u, d) refl in
-    let x : MadeHere (label_here arrow_function_expression no_op o w) (Some id ∷ Some body ∷ []) w z made = subst (λ (j : Label). MadeHere j (Some id ∷ Some body ∷ []) w z made) l n in
+pub before_answers : {text : List ℕ} (a : Bool) {f : Flags} {o p q r w z : Parser} {id body made : NodeId} → BeforeArrow a text f o p id → p.token.kind ≡ Arrow → ChecksLine p q → Moved text f q r → (b : Bool) → same_kind LCurly r.token.kind ≡ b → (s : Span) → At text f o → Numbered text f (body_of b a f) r w body → s.start ≡ o.token.span.start → s.end ≡ w.prev_token_end → MadeHere (arrow_label a s) (Some id ∷ Some body ∷ []) w z made → Numbered text f (at Assignment f) o z made
+before_answers a {f} {o} (led_head l d h j) k c m b i s t y u v n = arrow_answers a o d h j k c m b i s t y u v n
+before_answers {text} a {f} {o} {p} {q} {r} {w} {z} {id} {body} {made} (told_led v none) k c m b t s j y u d n =
+    let l : arrow_label a s ≡ flagged_here arrow_function_expression no_op (flag a async_flag) o w = rw (arrow_flags a, u, d) refl in
+    let x : MadeHere (flagged_here arrow_function_expression no_op (flag a async_flag) o w) (Some id ∷ Some body ∷ []) w z made = subst (λ (j : Label). MadeHere j (Some id ∷ Some body ∷ []) w z made) l n in
     let e : r.nodes ≡ p.nodes = m.nodes ∙ line_nodes c in
     let g : Holds w.nodes (length p.nodes) (length w.nodes) body.0 y.answer.label y.answer.slots = subst (λ (ns : List Node). Holds w.nodes (length ns) (length w.nodes) body.0 y.answer.label y.answer.slots) e y.holds in
     let i : Keeps p.nodes w.nodes = subst (λ (ns : List Node). Keeps ns w.nodes) e y.keeps in
-    let path : Path text f (after (at Assignment f)) (such (at Assignment f) always) o nothing w (tree (label_here arrow_function_expression no_op o w) (tree v.label v.slots (tree y.answer.label y.answer.slots end))) = record {
+    let path : Path text f (after (at Assignment f)) (such (at Assignment f) always) o nothing w (tree (flagged_here arrow_function_expression no_op (flag a async_flag) o w) (tree v.label v.slots (tree y.answer.label y.answer.slots end))) = record {
       at = y.answer.at;
       further = let u = v.further in let d = line_place c in let e = (line_at v.at c).behind in let g = m.further in let i = m.at.behind in let j = y.answer.further in omega arith;
       pass = λ ls. v.pass (next m.lexeme (y.answer.pass ls));
       walked = walked_both v.walked (walked_both (walked_from (line_spot c) (walked_one m)) y.answer.walked);
-      verdict = unclean (behind (grown_first (line_grown c v.grown) m.kept) y.answer.verdict) v.none;
+      verdict = unclean (behind (grown_first (line_grown c v.grown) m.kept) y.answer.verdict) none;
     } in
-    by_such path (same_both v.same (same_both (line_same c) (same_both m.same y.answer.same))) x.stays (λ j w. behind_body b y.answer j w) (row_of_body b y.answer) (two_held x v.holds v.keeps g i) (Keeps-trans v.keeps (Keeps-trans i (Keeps-made x.made))) refl (one_lies x)
+    by_such path (same_both v.same (same_both (line_same c) (same_both m.same y.answer.same))) x.stays (λ j w. behind_body b a y.answer j w) (row_of_body b a y.answer) (two_held x v.holds v.keeps g i) (Keeps-trans v.keeps (Keeps-trans i (Keeps-made x.made))) refl (one_lies x)
 
 -- it is told of the token that stands here
 pub late_told : {p q : Parser} {d : Diagnostic} (s : Span) → d ≡ unrelated_at LineterminatorBeforeArrow s → s ≡ p.token.span → Keeps_one d p q → Keeps_one (late_arrow p.token.span) p q

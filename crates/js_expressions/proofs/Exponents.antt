@@ -7,6 +7,7 @@ use Rattle.js_base.specs.declared.diagnostic.DiagnosticKind.TheVariants.{UnaryEx
 use Rattle.js_base.specs.declared.kind.Kind.{Kind}
 use Rattle.js_base.specs.declared.kind.Kind.TheVariants.{Await, RAngle, Star2}
 use Rattle.js_base.specs.declared.span.Span.{Span}
+use Rattle.js_base.specs.Contexts.{has_flag, await_flag, await_expression_flag}
 use Rattle.js_base.specs.Kinds.{same_kind, one_of_kinds}
 use Rattle.js_base.specs.Texts.{words}
 use Rattle.js_base.proofs.KindLemmas.{kind_of_same}
@@ -170,6 +171,10 @@ power_none text f s n = fails_by {s = at Exponent f} (fails_alt (weaken_fails_on
 
 -- ---- the base
 
+-- where `await` is an operator it is no name
+pub no_name_awaits : {text : List ℕ} {f : Flags} {p : Parser} → At text f p → f.awaits ≡ true → f.await_ ≡ true
+no_name_awaits {p = p} a h = sym (ap (λ (g : Flags). g.await_) a.flags_are) ∙ (and_parts (has_flag await_flag p.ctx) (has_flag await_expression_flag p.ctx) (ap (λ (g : Flags). g.awaits) a.flags_are ∙ h)).0
+
 -- neither a unary operator nor the `await` of an AwaitExpression
 both_false : (a b : Bool) → (a || b) ≡ false → (a ≡ false) × (b ≡ false)
 both_false true b h = absurd (false≢true (sym h))
@@ -180,12 +185,12 @@ no_unary b k h = let z = both_false (one_of_kinds unary_kinds k) _ h in (z.0, λ
 
 module _ {text : List ℕ} {f : Flags} {p : Parser} (a : At text f p) where
   -- where no operator stands, a UnaryExpression is an UpdateExpression
-  down : begins_by_unary f.await_ p.token.kind ≡ false → {ts vs : Slots} {k : ℕ} {ls rest : Lexemes} → Lexes (Lex text) p.prev_token_end ls → Takes rule (symbol Unary f) end ts p.prev_token_end ls vs k rest → Takes rule (symbol Update f) end ts p.prev_token_end ls vs k rest
+  down : begins_by_unary f.awaits p.token.kind ≡ false → {ts vs : Slots} {k : ℕ} {ls rest : Lexemes} → Lexes (Lex text) p.prev_token_end ls → Takes rule (symbol Unary f) end ts p.prev_token_end ls vs k rest → Takes rule (symbol Update f) end ts p.prev_token_end ls vs k rest
   unfolding rule rule_of covers apart
   down n {ls = ls} lx (is_such {l = l} {cs = cs} (is_left (is_such d c)) e) = is_such d refl
-  down n {k = k} {ls = ls} {rest = rest} lx (is_such {l = l} {cs = cs} (is_right d) e) = absurd ((fails_alt {X = plain full} (fails_at a {X = plain full} (unary_part f) unary_kinds refl (no_unary f.await_ p.token.kind n).0) (no_await a (no_unary f.await_ p.token.kind n).1)).no (tree l cs end) end k ls rest lx d (refl, refl))
+  down n {k = k} {ls = ls} {rest = rest} lx (is_such {l = l} {cs = cs} (is_right d) e) = absurd ((fails_alt {X = plain full} (fails_at a {X = plain full} (unary_part f) unary_kinds refl (no_unary f.awaits p.token.kind n).0) (no_await a (no_unary f.awaits p.token.kind n).1)).no (tree l cs end) end k ls rest lx d (refl, refl))
 
-  as_update : {q : Parser} {id : NodeId} → begins_by_unary f.await_ p.token.kind ≡ false → Numbered text f (at Unary f) p q id → Numbered text f (at Update f) p q id
+  as_update : {q : Parser} {id : NodeId} → begins_by_unary f.awaits p.token.kind ≡ false → Numbered text f (at Unary f) p q id → Numbered text f (at Update f) p q id
   as_update {q} n x = record {
     answer = record {
       at = x.answer.at;
@@ -205,13 +210,13 @@ module _ {text : List ℕ} {f : Flags} {p : Parser} (a : At text f p) where
   }
 
   -- where one stands, none is derived
-  no_update : begins_by_unary f.await_ p.token.kind ≡ true → Underived text (at Update f) p.prev_token_end
+  no_update : begins_by_unary f.awaits p.token.kind ≡ true → Underived text (at Update f) p.prev_token_end
   unfolding apart
   no_update h = go (one_of_kinds unary_kinds p.token.kind) refl h
     where
-      go : (b : Bool) → one_of_kinds unary_kinds p.token.kind ≡ b → (b || (same_kind Await p.token.kind && f.await_)) ≡ true → Underived text (at Update f) p.prev_token_end
+      go : (b : Bool) → one_of_kinds unary_kinds p.token.kind ≡ b → (b || (same_kind Await p.token.kind && f.awaits)) ≡ true → Underived text (at Update f) p.prev_token_end
       go true e i = fails_here firsts (λ y l s. not_both (starts first (symbol Update f) (widest Update)) (λ k w e. one_of_kinds unary_kinds k) refl y.kind y.newline y.escaped s (subst (λ (v : Kind). one_of_kinds unary_kinds v ≡ true) (sym (kind_here a refl (not_angle p.token.kind e) y l)) e))
-      go false e i = let z = and_parts (same_kind Await p.token.kind) f.await_ i in fails_at_await a f {X = after (at Update f)} (λ g. symbol Update g) refl refl (sym (kind_of_same Await p.token.kind z.0)) z.1
+      go false e i = let z = and_parts (same_kind Await p.token.kind) f.awaits i in fails_at_await a f {X = after (at Update f)} (λ g. symbol Update g) refl refl (sym (kind_of_same Await p.token.kind z.0)) (no_name_awaits a z.1)
 
 pub longer : {K : Type 0} {p q : List K} → Grown p q → length p ≡ length q → ⊥
 longer {p = p} g e = none g.more g.some (let i = length-append p g.more in let j = ap length g.kept in omega arith)
@@ -273,13 +278,13 @@ module _ {text : List ℕ} {f : Flags} {p q : Parser} {id : NodeId} (a : At text
       let e : q.token.escaped ≡ false = plain_sign Star2 x.answer.at k refl refl refl in
       (z.0, (z.1, read_of z.0 (sym z.2.kind ∙ k) (sym z.2.escaped ∙ e) refl), sym z.2.kind ∙ k)
 
-  base_node : begins_by_unary f.await_ p.token.kind ≡ true → {l : Label} {cs : Slots} {ls : Lexemes} → Lexes (Lex text) p.prev_token_end ls → Takes rule (rule (at Unary f)) end (tree l cs end) p.prev_token_end ls end q.prev_token_end (last star.0) → (l.kind ≡ unary_expression) ⊎ (l.kind ≡ await_expression)
+  base_node : begins_by_unary f.awaits p.token.kind ≡ true → {l : Label} {cs : Slots} {ls : Lexemes} → Lexes (Lex text) p.prev_token_end ls → Takes rule (rule (at Unary f)) end (tree l cs end) p.prev_token_end ls end q.prev_token_end (last star.0) → (l.kind ≡ unary_expression) ⊎ (l.kind ≡ await_expression)
   unfolding rule rule_of apart
   base_node h {l} {cs} {ls} lx (is_left d) = absurd ((no_update a h).no (tree l cs end) end q.prev_token_end ls (last star.0) lx d (star_behind f (tree l cs end) star.0 (star_here x.answer.at k star.0 star.1)))
   base_node h {l} {cs} {ls} lx (is_right (is_left d)) = inl (operator_node f d)
   base_node h {l} {cs} {ls} lx (is_right (is_right (is_when q (is_node d)))) = inr refl
 
-  base_stands : begins_by_unary f.await_ p.token.kind ≡ true → Stretch text (after (at Unary f)) (such (at Unary f) always) p.prev_token_end nothing q.prev_token_end (tree x.answer.label x.answer.slots) x.answer.pass → StandsAt UnaryExponentiationLeftOperand (goal q) q.text (record { start = p.token.span.start; end = q.prev_token_end }) None None
+  base_stands : begins_by_unary f.awaits p.token.kind ≡ true → Stretch text (after (at Unary f)) (such (at Unary f) always) p.prev_token_end nothing q.prev_token_end (tree x.answer.label x.answer.slots) x.answer.pass → StandsAt UnaryExponentiationLeftOperand (goal q) q.text (record { start = p.token.span.start; end = q.prev_token_end }) None None
   base_stands h y =
       let ls = x.answer.pass (last star.0) in
       let lx : Lexes (Lex text) q.prev_token_end (last star.0) = star.1 in
@@ -292,7 +297,7 @@ module _ {text : List ℕ} {f : Flags} {p q : Parser} {id : NodeId} (a : At text
       derived_of : {ls : Lexemes} → Takes rule (such (at Unary f) always) end (tree x.answer.label x.answer.slots end) p.prev_token_end ls end q.prev_token_end (last star.0) → Takes rule (rule (at Unary f)) end (tree x.answer.label x.answer.slots end) p.prev_token_end ls end q.prev_token_end (last star.0)
       derived_of (is_such d c) = d
 
-  pub base_marked : begins_by_unary f.await_ p.token.kind ≡ true → length p.errors ≡ length q.errors → Mark (goal q) q.text (unary_base p.token.span.start q.prev_token_end)
+  pub base_marked : begins_by_unary f.awaits p.token.kind ≡ true → length p.errors ≡ length q.errors → Mark (goal q) q.text (unary_base p.token.span.start q.prev_token_end)
   base_marked h e = record {
     ordered = let i = x.answer.further in omega arith;
     within = x.answer.at.at.between.0;
@@ -306,14 +311,14 @@ module _ {text : List ℕ} {f : Flags} {p q : Parser} {id : NodeId} (a : At text
       by (unclean g m) = absurd (longer g e)
 
   -- it begins with a unary operator, and diagnostics were kept
-  broken : begins_by_unary f.await_ p.token.kind ≡ true → Grown p.errors q.errors → Numbered text f (at Update f) p q id
+  broken : begins_by_unary f.awaits p.token.kind ≡ true → Grown p.errors q.errors → Numbered text f (at Update f) p q id
   broken h g = record {
     answer = record { at = x.answer.at; same = x.answer.same; further = x.answer.further; label = x.answer.label; slots = x.answer.slots; stops = x.answer.stops; row = x.answer.row; pass = x.answer.pass; walked = x.answer.walked; verdict = unclean g (no_update a h) };
     holds = x.holds;
     keeps = x.keeps;
   }
 
-  told : {d : Diagnostic} {r : Parser} → begins_by_unary f.await_ p.token.kind ≡ true → KeepsOne d q r → IsEarly d → Numbered text f (at Update f) p r id
+  told : {d : Diagnostic} {r : Parser} → begins_by_unary f.awaits p.token.kind ≡ true → KeepsOne d q r → IsEarly d → Numbered text f (at Update f) p r id
   told {d} {r} h c y = subst (λ (z : Parser). Numbered text f (at Update f) p z id) (sym c.is) (record {
     answer = record {
       at = beside_errors x.answer.at (subst IsAt c.is c.at);
@@ -332,7 +337,7 @@ module _ {text : List ℕ} {f : Flags} {p q : Parser} {id : NodeId} (a : At text
   })
 
   -- the base was checked: it is an UpdateExpression, or none is derived
-  pub base_checked : {r : Parser} {is_unary : Bool} {n start : ℕ} → is_unary ≡ begins_by_unary f.await_ p.token.kind → n ≡ length p.errors → ChecksBase start is_unary n q r → Numbered text f (at Update f) p r id
+  pub base_checked : {r : Parser} {is_unary : Bool} {n start : ℕ} → is_unary ≡ begins_by_unary f.awaits p.token.kind → n ≡ length p.errors → ChecksBase start is_unary n q r → Numbered text f (at Update f) p r id
   base_checked {r} {is_unary = true} {n} e i (inl c) = told (sym e) c.1 refl
   base_checked {r} {is_unary = true} {n} e i (inr c) = subst (λ (z : Parser). Numbered text f (at Update f) p z id) (sym c.0) (broken (sym e) (by x.answer.verdict))
     where

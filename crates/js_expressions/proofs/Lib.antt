@@ -1,13 +1,16 @@
 pub mod ArrayAnswers
 pub mod ArraysAssigned
+pub mod AsyncHeads
 pub mod Arrows
 pub mod Assignments
 pub mod Closings
+pub mod CalledFronts
 pub mod CoalesceOperands
 pub mod Coalescing
 pub mod Conditionals
 pub mod Exponents
-pub mod FreeOfContext
+pub mod FreeOfAwait
+pub mod HeadContexts
 pub mod HeadOperands
 pub mod HeadsAsArguments
 pub mod Lookaheads

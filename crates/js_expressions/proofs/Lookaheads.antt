@@ -1,5 +1,5 @@
 -- What the lexeme behind an opening parenthesis says of the head of an arrow function (ECMA-262, 15.3).
-use Rattle.std.proofs.Common.{ℕ, ◌≡◌, ◌⊎◌, List, Bool, true, false, IsTrue, None, refl, sym, ap, subst, arith, ◌∙◌, inl, inr}
+use Rattle.std.proofs.Common.{ℕ, ◌≡◌, ◌⊎◌, List, Bool, true, false, IsTrue, None, refl, sym, ap, subst, arith, ◌∙◌, inl, inr, Option}
 use Rattle.std.specs.Prelude.{Ok}
 use Rattle.std.proofs.lemmas.Bool.{false≢true}
 use Rattle.js_base.specs.declared.diagnostic.DiagnosticKind.TheVariants.{ExpectToken}
@@ -43,12 +43,12 @@ use Rattle.js_parsing.proofs.Phrases.{no_operator, lift_fails}
 use Rattle.js_parsing.proofs.Verdicts.{after as grown_behind}
 use Rattle.js_patterns.specs.Parameters.{parameters_left}
 use Rattle.js_patterns.proofs.ParameterLists.{no_params}
-use Rattle.js_expressions.specs.Arrows.{IsHeadHere, NoArrowHere, NoAssignment, Unmoved, NoOperandHere}
-use Rattle.js_expressions.specs.Lookaheads.{begins_operand, LooksAhead}
+use Rattle.js_expressions.specs.Arrows.{AttemptsHead, IsHeadHere, NoLineHere, NoAssignment, Unmoved, NoOperandHere}
+use Rattle.js_expressions.specs.Lookaheads.{begins_operand, LooksAhead, NoHeadThere}
 use Rattle.js_expressions.specs.declared.lookahead.HeadLookahead.{HeadLookahead}
 use Rattle.js_expressions.specs.declared.lookahead.HeadLookahead.TheVariants as lookahead
 use Rattle.js_expressions.specs.Rests.{update_kinds}
-use Rattle.js_expressions.proofs.Arrows.{certain_head, given_behind, no_head_no_arrow, no_parameters, unarrowed, unassigned, unmoved}
+use Rattle.js_expressions.proofs.Arrows.{certain_head, given_behind, no_head_no_line, no_parameters, unarrowed, unassigned, unmoved}
 use Rattle.js_expressions.proofs.Coalescing.{no_short}
 use Rattle.js_expressions.proofs.Exponents.{power_none}
 use Rattle.js_expressions.proofs.Operations.{fails_at_level}
@@ -148,16 +148,16 @@ not_angle SlashEq h = absurd (false≢true h)
 not_angle RCurly h = absurd (false≢true h)
 not_angle _ h = refl
 
-pub no_head_begins : {text : List ℕ} {f : Flags} {p : Parser} {t : Token} → At text f p → p.token.kind ≡ LParen → Peeks p t → begins_operand t.kind ≡ true → Underived text (at Params f) p.prev_token_end
-no_head_begins {text} {f} {p} {t} a k h o = no_params f (behind_paren a k (λ y l s. not_both (starts first (parameters_left f) (plain full).base) is_operand (no_parameter f) y.kind y.newline y.escaped s (ap begins_operand (peeked_kind a h (not_angle t.kind o) y l) ∙ o)))
+pub no_head_begins : {text : List ℕ} {f : Flags} (g : Flags) {p : Parser} {t : Token} → At text f p → p.token.kind ≡ LParen → Peeks p t → begins_operand t.kind ≡ true → Underived text (at Params g) p.prev_token_end
+no_head_begins {text} {f} g {p} {t} a k h o = no_params g (behind_paren a k (λ y l s. not_both (starts first (parameters_left g) (plain full).base) is_operand (no_parameter g) y.kind y.newline y.escaped s (ap begins_operand (peeked_kind a h (not_angle t.kind o) y l) ∙ o)))
 
 -- ---- what is answered
 
 pub looks_head : {p : Parser} {t : Token} → Peeks p t → p.token.kind ≡ LParen → t.kind ≡ Dot3 → NoOperandHere p
 looks_head {p} {t} h k d = λ text f a. no_operand_begins a k (λ y l. peeked_kind a h (ap (one_of_kinds unsettled) d) y l ∙ d)
 
-pub looks_none : {p : Parser} {t : Token} → Peeks p t → p.token.kind ≡ LParen → begins_operand t.kind ≡ true → NoArrowHere p
-looks_none h k o = λ text f a. no_head_no_arrow a k (no_parameters a (no_head_begins a k h o))
+pub looks_none : {p : Parser} {t : Token} → Peeks p t → p.token.kind ≡ LParen → begins_operand t.kind ≡ true → NoHeadThere p
+looks_none h k o = λ text f g a. no_parameters a (no_head_begins g a k h o)
 
 -- parameters where nothing else can stand
 module _ {p : Parser} (k : p.token.kind ≡ LParen) (n : NoOperandHere p) where
@@ -179,8 +179,20 @@ module _ {p : Parser} (k : p.token.kind ≡ LParen) (n : NoOperandHere p) where
 pub head_alone : (p q : Parser) (h : HeadLookahead) → h ≡ lookahead.Head → LooksAhead p q h → (q ≡ p) × NoOperandHere p
 head_alone p q h e x = subst (λ (v : HeadLookahead). LooksAhead p q v) e x
 
-pub none_seen : (p q : Parser) (h : HeadLookahead) → h ≡ lookahead.NoHead → LooksAhead p q h → Unmoved p q × NoArrowHere p
-none_seen p q h e x = let y : (q ≡ p) × NoArrowHere p = subst (λ (v : HeadLookahead). LooksAhead p q v) e x in (unmoved y.0, y.1)
+pub none_seen : (p q : Parser) (h : HeadLookahead) → h ≡ lookahead.NoHead → LooksAhead p q h → (q ≡ p) × NoHeadThere p
+none_seen p q h e x = subst (λ (v : HeadLookahead). LooksAhead p q v) e x
+
+-- so no head stands here
+pub none_read : {p q : Parser} → p.token.kind ≡ LParen → (q ≡ p) × NoHeadThere p → Unmoved p q × NoLineHere p
+none_read k x = (unmoved x.0, λ text f a. no_head_no_line a k (x.1 text f f a))
+
+pub maybe_seen : (p q : Parser) (h : HeadLookahead) → (h ≡ lookahead.NoHead → ⊥) → LooksAhead p q h → q ≡ p
+maybe_seen p q lookahead.Head n x = x.0
+maybe_seen p q lookahead.Maybe n x = x
+maybe_seen p q lookahead.NoHead n x = absurd (n refl)
 
 pub head_from : {p o q : Parser} (id : NodeId) → o ≡ p → IsHeadHere o q id → IsHeadHere p q id
 head_from {q = q} id e h = subst (λ (z : Parser). IsHeadHere z q id) e h
+
+pub maybe_from : (p o q : Parser) (h : HeadLookahead) (found : Option NodeId) → h ≡ lookahead.Maybe → LooksAhead p o h → AttemptsHead false o q found → AttemptsHead false p q found
+maybe_from p o q h found e x y = subst (λ (z : Parser). AttemptsHead false z q found) (subst (λ (v : HeadLookahead). LooksAhead p o v) e x) y

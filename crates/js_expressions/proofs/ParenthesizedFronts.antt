@@ -260,9 +260,9 @@ same_one (and_more {b = b} {s = s} {ls = ls} p o) (and_more {b = c} {s = t} {res
     let z : c ∷ t ≡ b ∷ s = cc in
     same_one o (subst (λ (n : List ℕ). One n ls e' r') z o')
 
-front_one : (f : Flags) {ks ts us : Slots} {i j : ℕ} {ls rest : Lexemes} → Takes rule (args f) ks ts i ls us j rest → (e : ℕ) × One [] ls e rest
+pub args_one : (f : Flags) {ks ts us : Slots} {i j : ℕ} {ls rest : Lexemes} → Takes rule (args f) ks ts i ls us j rest → (e : ℕ) × One [] ls e rest
 unfolding rule rule_of covers
-front_one f {i = i} (is_seq (is_lexeme q) d) = in_one {i = i} (is_seq (is_lexeme {p = is LParen} q) d) refl
+args_one f {i = i} (is_seq (is_lexeme q) d) = in_one {i = i} (is_seq (is_lexeme {p = is LParen} q) d) refl
 
 short_flagged : (f : Flags) → Flagged f (such (at Short f) always)
 short_flagged f = refl
@@ -272,7 +272,7 @@ pub parenthesized_front : (f : Flags) → {ks ts us : Slots} {i j : ℕ} {ls res
 parenthesized_front f {ls = ls} {rest = rest} d q =
     let z = front f d refl (short_flagged f) q in
     let y = operand_taken (at Short f) refl d (or_right (may_bind (here ls).kind) _ q) in
-    let w : y.1 ≡ z.2 = same_one y.2 (front_one f z.3).1 in
+    let w : y.1 ≡ z.2 = same_one y.2 (args_one f z.3).1 in
     (z.0, z.1, z.2, z.3, subst (λ (v : Lexemes). (rest ≡ v) ⊎ (same_kind Arrow (here v).kind ≡ false)) w y.3)
 
 -- ---- no operand

@@ -2,7 +2,7 @@
 use Rattle.std.specs.Prelude.{ℕ, ◌≡◌, ◌⊎◌, ◌&&◌, ◌||◌, Bool, true, None, length}
 use Rattle.js_base.specs.declared.kind.Kind.{Kind}
 use Rattle.js_base.specs.declared.kind.Kind.TheVariants.{Await}
-use Rattle.js_base.specs.Contexts.{has_flag, await_flag}
+use Rattle.js_base.specs.Contexts.{reads_await}
 use Rattle.js_base.specs.Kinds.{one_of_kinds, same_kind}
 use Rattle.js_base.specs.declared.diagnostic.Diagnostic.{Diagnostic}
 use Rattle.js_base.specs.declared.diagnostic.DiagnosticKind.TheVariants.{UnaryExponentiationLeftOperand}
@@ -14,12 +14,12 @@ use Rattle.js_parsing.specs.Operators.{unary_kinds}
 abbrev pub unary_base : ℕ → ℕ → Diagnostic
 unary_base from to = record { kind = UnaryExponentiationLeftOperand; span = record { start = from; end = to }; first = None; second = None }
 
--- `await` stands here, under Await
+-- `await` stands here, where it is an operator
 pub record AwaitsHere (p : Parser) : Type 0 where
   pub kind : p.token.kind ≡ Await
-  pub awaits : has_flag await_flag p.ctx ≡ true
+  pub awaits : reads_await p.ctx ≡ true
 
--- what begins a UnaryExpression and no UpdateExpression: a unary operator, and `await` under Await
+-- what begins a UnaryExpression and no UpdateExpression: a unary operator, and `await` where it is one
 abbrev pub begins_by_unary : Bool → Kind → Bool
 begins_by_unary awaits k = one_of_kinds unary_kinds k || (same_kind Await k && awaits)
 

@@ -1,14 +1,19 @@
 -- What the head of a `for` asks of its first expression: whether it may be a target before `in` or `of` (ECMA-262, 14.7.5). It is asked where `in` is no operator.
-use Rattle.std.specs.Prelude.{ℕ, ◌≡◌, ◌⊎◌, false, List, None, Result, Ok, Err}
-use Rattle.js_base.specs.declared.kind.Kind.TheVariants.{Question}
-use Rattle.js_grammar.specs.Trees.{Label, Slots}
-use Rattle.js_grammar.specs.Productions.{Flags, at, Short}
+use Rattle.std.specs.Prelude.{ℕ, ◌≡◌, ◌⊎◌, false, List, [], ◌∷◌, None, Result, Ok, Err}
+use Rattle.js_base.specs.declared.kind.Kind.TheVariants.{Arrow, Async, In, Of, Question}
+use Rattle.js_base.specs.Kinds.{same_kind}
+use Rattle.js_grammar.specs.Trees.{Label, Slots, end as no_slots}
+use Rattle.js_grammar.specs.Grammar.{◌▸◌}
+use Rattle.js_grammar.specs.Parsing.{plain, Fails}
+use Rattle.js_grammar.specs.Productions.{Flags, at, sym, any_of, other, Short, Target}
+use Rattle.js_grammar.specs.Table.{rule}
 use Rattle.js_tree.specs.declared.id.NodeId.{NodeId}
 use Rattle.js_tree.specs.Holding.{Holds}
 use Rattle.js_cursor.specs.Parsers.{Parser}
 use Rattle.js_cursor.specs.declared.stop.Stop.{Stop}
 use Rattle.js_cursor.specs.declared.stop.Stop.TheVariants.{Fatal, NoMemory}
 use Rattle.js_parsing.specs.Answers.{Numbered}
+use Rattle.js_parsing.specs.Lexemes.{Lex}
 use Rattle.js_parsing.specs.States.{At}
 use Rattle.js_targets.specs.Taken.{NoTargetFrom}
 use Rattle.js_targets.specs.Targets.{is_literal, target_of}
@@ -17,14 +22,22 @@ use Rattle.js_targets.specs.Targets.{is_literal, target_of}
 abbrev pub IsNoTarget : Parser → NodeId → Type 0
 IsNoTarget p id = (lo hi : ℕ) (l : Label) (cs : Slots) → Holds p.nodes lo hi id.0 l cs → (is_literal l.kind ≡ false) × (target_of l cs ≡ None)
 
+-- No target before `in` or `of` is derived from the place, with something else than `=>` behind that word: `async of =>` begins an arrow function.
+abbrev pub NoTargetPart : List ℕ → Flags → ℕ → Type 0
+NoTargetPart text f s = Fails rule (Lex text) (plain (other (λ k w e. same_kind Arrow k))) no_slots (sym Target f ▸ any_of (In ∷ Of ∷ [])) s
+
+-- No target before these is derived from here; where `async` stands here, none with something else than `=>` behind them.
+abbrev pub NoTargetSeen : List ℕ → Flags → Parser → Type 0
+NoTargetSeen text f p = NoTargetFrom text f p.prev_token_end ⊎ ((p.token.kind ≡ Async) × NoTargetPart text f p.prev_token_end)
+
 -- An operand alone was read, a ShortCircuitExpression; or something else was, and no target before `in` or `of` is derived from there.
 pub data HeadOperand (text : List ℕ) (f : Flags) (p q : Parser) (id : NodeId) : Type 0 where
   operand : Numbered text f (at Short f) p q id → HeadOperand text f p q id
-  no_target : IsNoTarget q id → NoTargetFrom text f p.prev_token_end → HeadOperand text f p q id
+  no_target : IsNoTarget q id → NoTargetSeen text f p → HeadOperand text f p q id
 
 abbrev pub OperandOutcome : List ℕ → Flags → Parser → Parser → Result NodeId Stop → Type 0
 OperandOutcome text f p q (Ok id) = HeadOperand text f p q id
-OperandOutcome text f p q (Err Fatal) = NoTargetFrom text f p.prev_token_end
+OperandOutcome text f p q (Err Fatal) = NoTargetSeen text f p
 OperandOutcome text f p q (Err NoMemory) = Unit {0}
 
 abbrev pub TellsOperand : Parser → Parser → Result NodeId Stop → Type 0

@@ -1,44 +1,94 @@
-//! Arrow functions (ECMA-262, section 15.3).
+//! Arrow functions (ECMA-262, sections 15.3 and 15.9).
 
-ghost use Rattle.std.specs.Prelude.{true, ◌≡◌, ◌≤◌, ◌+◌, length, MatchResult, IfOk, IsCharBoundary};
+ghost use Rattle.std.specs.Prelude.{true, false, ◌≡◌, ◌≤◌, ◌+◌, [], ◌∷◌, Some, length, MatchResult, IfOk, IsCharBoundary};
 ghost use Rattle.js_base.specs.declared.kind.Kind.TheVariants.{Arrow, LParen};
 ghost use Rattle.js_cursor.specs.Moves.{OnlyMemory};
 ghost use Rattle.js_grammar.specs.Productions.{at, Params};
 ghost use Rattle.js_parsing.specs.Answers.{Answers};
-ghost use Rattle.js_expressions.specs.Arrows.{ArgumentsTold, ArrowBehind, AttemptsHead, ChecksLine, FindsHead, IsHead, LooksForHead, NoOperandHere, OperandExcluded, ReadsArrowBody, ReadsBody, ReadsHead, SearchesHead, Single, SlashFound};
+ghost use Rattle.js_expressions.specs.Arrows.{ArgumentsTold, ArrowBehind, AsyncHeadBegins, AttemptsHead, ChecksLine, EntersHead, FindsAsyncHead, FindsHead, HeadBehindAsync, IsHead, IsPlainHead, LooksForHead, NamesHead, NoHeadHere, NoOperandHere, OperandExcluded, ReadsArrowBody, ReadsBody, ReadsHead, SearchesHead, SearchesPlainHead, Single, SlashFound, TriesHead, TriesParameters, Unmoved, arrow_label};
 ghost use Rattle.js_expressions.specs.HeadOperands.{IsNoTarget};
+ghost use Rattle.js_base.specs.Kinds.{one_of_kinds};
 ghost use Rattle.js_parsing.specs.Lexemes.{name_kinds};
+ghost use Rattle.js_parsing.specs.Moves.{MadeHere};
 ghost use Rattle.js_parsing.specs.Nesting.{CanNest, room};
-ghost use Rattle.js_parsing.specs.Stands.{NameHere};
+ghost use Rattle.js_parsing.specs.Stands.{NameHere, StandsHere};
 ghost use Rattle.js_parsing.specs.States.{Standing};
 
 use crate::closing::is_arrow_behind_one;
 use crate::lookahead::{HeadLookahead, is_parenthesized_head};
-use js_base::{DiagnosticKind, Kind, NoMemory};
+use js_base::{Context, DiagnosticKind, Kind, NoMemory, Span};
 use js_cursor::{ParserImpl, Stop};
 use js_lex::ParserConfig;
 use js_operands::arguments::parse_call_arguments;
+use js_operands::function::function_flags;
 use js_operands::primary::parse_leaf;
-use js_parsing::context::{assignment_in_arrow, body_in_arrow};
+use js_parsing::context::{
+    assignment_in_arrow, body_in_arrow, context, in_async_head, set_context,
+};
 use js_parsing::diagnostics::{diagnostic_at, kept_so_far};
-use js_parsing::lexemes::{advance, name_stands, stands};
+use js_parsing::lexemes::{advance, is_name, name_stands, stands};
 use js_parsing::nested::Nested;
-use js_parsing::nodes::{make_one, make_two, make_with_optional};
+use js_parsing::nodes::{make_one, make_with_optional};
 use js_patterns::parameters::parse_formal_parameters;
 use js_tree::{NodeId, NodeKind, Op};
 
-/// The parameters of an arrow function, where they stand here with `=>` behind them: a name, or a list in parentheses.
-/// None where no arrow function stands, and the parser is then where it was. `Fatal` where nothing but one can stand.
+/// What stands before the `=>` of an arrow function.
+#[derive(Clone, Copy)]
+pub(crate) struct ArrowHead {
+    /// Whether `async` stands before its parameters.
+    pub is_async: bool,
+    /// Its FormalParameters.
+    pub parameters: NodeId,
+}
+
+/// The head of an arrow function, where it stands here with `=>` behind it: a name, or a list in parentheses, and `async`
+/// before either. None where no arrow function stands, and the parser is then where it was. `Fatal` where nothing but one
+/// can stand.
 pub(crate) fn parse_arrow_head<C: ParserConfig, N: Nested<C>>(
+    p: &mut ParserImpl<'_, C>,
+    nested: &N,
+) -> Result<Option<ArrowHead>, Stop>
+    requires at { Standing p.old }
+    requires nests { CanNest (N.can nested.now) (room p.old) }
+    ensures { SearchesHead p.old p.new result }
+{
+    if let Some(parameters) = parse_async_head(p, nested)? {
+        return Ok(Some(ArrowHead {
+            is_async: true,
+            parameters,
+        }));
+    }
+    let found = parse_plain_head(p, nested)?;
+    Ok(plain_head(found))
+}
+
+/// These parameters as a head without `async`.
+fn plain_head(found: Option<NodeId>) -> Option<ArrowHead>
+    ensures { IsPlainHead found result }
+{
+    match found {
+        Some(parameters) => {
+            Some(ArrowHead {
+                is_async: false,
+                parameters,
+            })
+        }
+        None => None,
+    }
+}
+
+/// The parameters of an arrow function without `async`, where they stand here with `=>` behind them.
+fn parse_plain_head<C: ParserConfig, N: Nested<C>>(
     p: &mut ParserImpl<'_, C>,
     nested: &N,
 ) -> Result<Option<NodeId>, Stop>
     requires at { Standing p.old }
     requires nests { CanNest (N.can nested.now) (room p.old) }
-    ensures { SearchesHead p.old p.new result }
+    ensures { SearchesPlainHead p.old p.new result }
 {
     if name_stands(p) {
-        return parse_name_head(p);
+        let found = parse_name_head(p)?;
+        return Ok(found);
     }
     if stands(p, Kind::LParen) {
         return parse_head_at_parenthesis(p, nested);
@@ -46,11 +96,97 @@ pub(crate) fn parse_arrow_head<C: ParserConfig, N: Nested<C>>(
     Ok(None)
 }
 
+/// The parameters of an asynchronous arrow function, where `async` stands here, they on its line, and `=>` behind them
+/// (ECMA-262, section 15.9): an attempt, which is taken back where it fails.
+fn parse_async_head<C: ParserConfig, N: Nested<C>>(
+    p: &mut ParserImpl<'_, C>,
+    nested: &N,
+) -> Result<Option<NodeId>, Stop>
+    requires at { Standing p.old }
+    requires nests { CanNest (N.can nested.now) (room p.old) }
+    ensures { MatchResult result (λ found. FindsAsyncHead p.old p.new found) OnlyMemory }
+{
+    if !begins_async_head(p)? {
+        return Ok(None);
+    }
+    let here = p.checkpoint()?;
+    advance(p)?;
+    if let Some(parameters) = parse_head_behind_async(p, nested)? {
+        return Ok(Some(parameters));
+    }
+    p.rewind(here);
+    Ok(None)
+}
+
+/// Whether `async` stands here, and a name or `(` behind it on its line.
+fn begins_async_head<C: ParserConfig>(p: &mut ParserImpl<'_, C>) -> Result<bool, Stop>
+    requires { Standing p.old }
+    ensures { MatchResult result (λ found. AsyncHeadBegins p.old p.new found) OnlyMemory }
+{
+    if !stands(p, Kind::Async) {
+        return Ok(false);
+    }
+    let next = p.peek_token()?;
+    if next.is_on_new_line() {
+        return Ok(false);
+    }
+    Ok(begins_parameters(next.kind()))
+}
+
+/// Whether it is a name or `(`.
+fn begins_parameters(kind: Kind) -> bool
+    ensures { result ≡ one_of_kinds (LParen ∷ name_kinds) kind }
+{
+    match kind {
+        Kind::LParen => true,
+        _ => is_name(kind),
+    }
+}
+
+/// The parameters of an asynchronous arrow function, behind its `async`. None: no asynchronous arrow function begins with
+/// the word, and the parser is somewhere behind. What begins with a parenthesis may be the arguments of a call too, also
+/// where `...` stands behind it.
+fn parse_head_behind_async<C: ParserConfig, N: Nested<C>>(
+    p: &mut ParserImpl<'_, C>,
+    nested: &N,
+) -> Result<Option<NodeId>, Stop>
+    requires at { Standing p.old }
+    requires nests { CanNest (N.can nested.now) (room p.old) }
+    ensures { MatchResult result (λ found. HeadBehindAsync p.old p.new found) OnlyMemory }
+{
+    if !stands(p, Kind::LParen) {
+        return parse_name_behind_async(p);
+    }
+    match is_parenthesized_head(p)? {
+        HeadLookahead::NoHead => Ok(None),
+        _ => attempt_head(p, nested, true),
+    }
+}
+
+/// A name as the only parameter of an asynchronous arrow function, where it stands here and `=>` behind it.
+fn parse_name_behind_async<C: ParserConfig>(
+    p: &mut ParserImpl<'_, C>,
+) -> Result<Option<NodeId>, Stop>
+    requires at { Standing p.old }
+    requires no_list { StandsHere p.old LParen false }
+    ensures { MatchResult result (λ found. HeadBehindAsync p.old p.new found) OnlyMemory }
+{
+    let outer = context(p);
+    set_context(p, in_async_head(outer));
+    if !name_stands(p) {
+        set_context(p, outer);
+        return Ok(None);
+    }
+    let found = parse_name_head(p)?;
+    set_context(p, outer);
+    Ok(found)
+}
+
 /// A name as the only parameter of an arrow function, where `=>` stands behind it.
 fn parse_name_head<C: ParserConfig>(p: &mut ParserImpl<'_, C>) -> Result<Option<NodeId>, Stop>
     requires at { Standing p.old }
     requires name { NameHere p.old true }
-    ensures { MatchResult result (λ found. FindsHead p.old p.new found) OnlyMemory }
+    ensures { MatchResult result (λ found. NamesHead p.old p.new found) OnlyMemory }
 {
     if !is_arrow_behind(p)? {
         return Ok(None);
@@ -90,14 +226,17 @@ fn parse_head_at_parenthesis<C: ParserConfig, N: Nested<C>>(
     requires at { Standing p.old }
     requires nests { CanNest (N.can nested.now) (room p.old) }
     requires open { p.old.token.kind ≡ LParen }
-    ensures { SearchesHead p.old p.new result }
+    ensures { SearchesPlainHead p.old p.new result }
 {
     match is_parenthesized_head(p)? {
         HeadLookahead::Head => {
             let parameters = parse_certain_head(p, nested)?;
             Ok(Some(parameters))
         }
-        HeadLookahead::Maybe => try_parse_parenthesized_head(p, nested),
+        HeadLookahead::Maybe => {
+            let found = attempt_head(p, nested, false)?;
+            Ok(found)
+        }
         HeadLookahead::NoHead => Ok(None),
     }
 }
@@ -122,51 +261,81 @@ fn parse_certain_head<C: ParserConfig, N: Nested<C>>(
     Ok(parameters)
 }
 
-/// FormalParameters in parentheses, where `=>` stands behind them: an attempt. Where it fails, that is noted, and not tried
-/// again.
+/// FormalParameters in parentheses, behind `async` or not, where `=>` stands behind them and no operand stands: an attempt.
 #[inline(never)]
-fn try_parse_parenthesized_head<C: ParserConfig, N: Nested<C>>(
+fn attempt_head<C: ParserConfig, N: Nested<C>>(
+    p: &mut ParserImpl<'_, C>,
+    nested: &N,
+    is_async: bool,
+) -> Result<Option<NodeId>, Stop>
+    requires at { Standing p.old }
+    requires nests { CanNest (N.can nested.now) (room p.old) }
+    requires open { p.old.token.kind ≡ LParen }
+    ensures { MatchResult result (λ found. AttemptsHead is_async p.old p.new found) OnlyMemory }
+{
+    let place = p.prev_token_end();
+    let kept = kept_so_far(p);
+    let here = p.checkpoint()?;
+    if let Some(parameters) = try_parse_head(p, nested, is_async)? {
+        if excludes_operand(p, place, kept) {
+            return Ok(Some(parameters));
+        }
+        p.rewind(here);
+        return attempt_head_again(p, nested, is_async);
+    }
+    Ok(None)
+}
+
+/// FormalParameters in parentheses, behind `async` or not, where `=>` stands behind them, whatever else may stand there.
+#[inline(always)]
+fn try_parse_head<C: ParserConfig, N: Nested<C>>(
+    p: &mut ParserImpl<'_, C>,
+    nested: &N,
+    is_async: bool,
+) -> Result<Option<NodeId>, Stop>
+    requires at { Standing p.old }
+    requires nests { CanNest (N.can nested.now) (room p.old) }
+    requires open { p.old.token.kind ≡ LParen }
+    ensures { MatchResult result (λ found. TriesHead is_async p.old p.new found) OnlyMemory }
+{
+    let outer = context(p);
+    set_context(p, in_head(outer, is_async));
+    let found = try_parse_parameters(p, nested)?;
+    set_context(p, outer);
+    Ok(found)
+}
+
+/// What is in force in the parameters of an arrow function, behind `async` or not.
+fn in_head(outer: Context, is_async: bool) -> Context
+    ensures { EntersHead is_async outer result }
+{
+    if is_async {
+        return in_async_head(outer);
+    }
+    outer
+}
+
+/// FormalParameters in parentheses, where `=>` stands behind them. Where they don't, that is noted, and not tried again.
+#[inline(always)]
+fn try_parse_parameters<C: ParserConfig, N: Nested<C>>(
     p: &mut ParserImpl<'_, C>,
     nested: &N,
 ) -> Result<Option<NodeId>, Stop>
     requires at { Standing p.old }
     requires nests { CanNest (N.can nested.now) (room p.old) }
     requires open { p.old.token.kind ≡ LParen }
-    ensures { MatchResult result (λ found. FindsHead p.old p.new found) OnlyMemory }
+    ensures { MatchResult result (λ found. TriesParameters p.old p.new found) OnlyMemory }
 {
     let place = p.prev_token_end();
     if p.arrow_failed(place) {
         return Ok(None);
     }
-    if let Some(parameters) = attempt_head(p, nested)? {
-        return Ok(Some(parameters));
-    }
-    p.note_arrow_failed(place)?;
-    Ok(None)
-}
-
-/// The same attempt, which is taken back where it fails.
-#[inline(always)]
-fn attempt_head<C: ParserConfig, N: Nested<C>>(
-    p: &mut ParserImpl<'_, C>,
-    nested: &N,
-) -> Result<Option<NodeId>, Stop>
-    requires at { Standing p.old }
-    requires nests { CanNest (N.can nested.now) (room p.old) }
-    requires open { p.old.token.kind ≡ LParen }
-    ensures { MatchResult result (λ found. AttemptsHead p.old p.new found) OnlyMemory }
-{
-    let place = p.prev_token_end();
-    let kept = kept_so_far(p);
     let here = p.checkpoint()?;
     if let Some(parameters) = parse_parenthesized_head(p, nested)? {
-        if excludes_operand(p, place, kept) {
-            return Ok(Some(parameters));
-        }
-        p.rewind(here);
-        return attempt_head_again(p, nested);
+        return Ok(Some(parameters));
     }
     p.rewind(here);
+    p.note_arrow_failed(place)?;
     Ok(None)
 }
 
@@ -203,29 +372,50 @@ fn has_slash(text: &str, start: u32, end: u32) -> bool
 
 /// FormalParameters in parentheses, where a slash stands in them: what stands here is read as arguments first. Those are
 /// read over one list of lexemes alone, and a head or an operand here begins with such; so if `=>` stands behind them, no
-/// operand stands here, which is noted.
+/// operand stands here, which is noted, and else no head.
 #[inline(never)]
 fn attempt_head_again<C: ParserConfig, N: Nested<C>>(
     p: &mut ParserImpl<'_, C>,
     nested: &N,
+    is_async: bool,
 ) -> Result<Option<NodeId>, Stop>
     requires at { Standing p.old }
     requires nests { CanNest (N.can nested.now) (room p.old) }
     requires open { p.old.token.kind ≡ LParen }
-    ensures { MatchResult result (λ found. AttemptsHead p.old p.new found) OnlyMemory }
+    ensures { MatchResult result (λ found. AttemptsHead is_async p.old p.new found) OnlyMemory }
 {
     let place = p.prev_token_end();
     let here = p.checkpoint()?;
     let found = is_arrow_behind_arguments(p, nested)?;
     p.rewind(here);
     if !found {
+        note_no_head(p, place, is_async)?;
         return Ok(None);
     }
     p.note_operand_failed(place)?;
-    attempt_noted_head(p, nested)
+    try_parse_head(p, nested, is_async)
 }
 
-/// Whether `=>` stands behind what can be read as arguments. If not, no parameters stand here with `=>` behind them.
+/// Notes that no parameters stand here with `=>` behind them, behind `async` or not.
+fn note_no_head<C: ParserConfig>(
+    p: &mut ParserImpl<'_, C>,
+    place: u32,
+    is_async: bool,
+) -> Result<(), NoMemory>
+    requires at { Standing p.old }
+    requires place { place ≡ p.old.prev_token_end }
+    requires none { NoHeadHere is_async p.old }
+    ensures { IfOk result (λ _. Unmoved p.old p.new) }
+{
+    let outer = context(p);
+    set_context(p, in_head(outer, is_async));
+    p.note_arrow_failed(place)?;
+    set_context(p, outer);
+    Ok(())
+}
+
+/// Whether `=>` stands behind what can be read as arguments. If not, no parameters stand here with `=>` behind them,
+/// behind `async` or not.
 fn is_arrow_behind_arguments<C: ParserConfig, N: Nested<C>>(
     p: &mut ParserImpl<'_, C>,
     nested: &N,
@@ -241,25 +431,6 @@ fn is_arrow_behind_arguments<C: ParserConfig, N: Nested<C>>(
         Err(Stop::Fatal) => Ok(false),
         Err(Stop::NoMemory) => Err(Stop::NoMemory),
     }
-}
-
-/// FormalParameters in parentheses, where `=>` stands behind them and no operand stands here.
-fn attempt_noted_head<C: ParserConfig, N: Nested<C>>(
-    p: &mut ParserImpl<'_, C>,
-    nested: &N,
-) -> Result<Option<NodeId>, Stop>
-    requires at { Standing p.old }
-    requires nests { CanNest (N.can nested.now) (room p.old) }
-    requires open { p.old.token.kind ≡ LParen }
-    requires noted { NoOperandHere p.old }
-    ensures { MatchResult result (λ found. AttemptsHead p.old p.new found) OnlyMemory }
-{
-    let here = p.checkpoint()?;
-    if let Some(parameters) = parse_parenthesized_head(p, nested)? {
-        return Ok(Some(parameters));
-    }
-    p.rewind(here);
-    Ok(None)
 }
 
 /// FormalParameters in parentheses, where they can be read and `=>` stands behind them, also where something is told of
@@ -309,44 +480,60 @@ fn is_head<C: ParserConfig>(
     is_arrow_behind_one(p, start)
 }
 
-/// An arrow function, whose parameters were read from a place on (ECMA-262, section 15.3), or parentheses in their place,
+/// An arrow function, whose head was read from a place on (ECMA-262, sections 15.3 and 15.9), or parentheses in its place,
 /// of which something was told.
 #[inline(never)]
 pub(crate) fn parse_arrow_function_expression<C: ParserConfig, N: Nested<C>>(
     p: &mut ParserImpl<'_, C>,
     nested: &N,
     start: u32,
-    parameters: NodeId,
+    head: ArrowHead,
 ) -> Result<NodeId, Stop>
     requires at { Standing p.old }
     requires nests { CanNest (N.can nested.now) (room p.old) }
     requires start { start ≤ p.old.prev_token_end }
     requires arrow { p.old.token.kind ≡ Arrow }
-    ensures answers { ReadsBody start parameters p.old p.new result }
+    ensures answers { ReadsBody start head p.old p.new result }
     ensures node { IfOk result (λ id. IsNoTarget p.new id) }
 {
     check_line(p)?;
     advance(p)?;
-    let body = parse_arrow_body(p, nested)?;
+    let body = parse_arrow_body(p, nested, head.is_async)?;
     let span = p.end_span(start);
-    let kind = NodeKind::ArrowFunctionExpression;
-    let node = make_two(p, kind, Op::None, span, parameters, body)?;
+    let node = make_arrow_function(p, span, head, body)?;
     Ok(node)
 }
 
-/// The body of an arrow function (ECMA-262, section 15.3): in braces, or an expression.
+/// The node of an arrow function.
+fn make_arrow_function<C: ParserConfig>(
+    p: &mut ParserImpl<'_, C>,
+    span: Span,
+    head: ArrowHead,
+    body: NodeId,
+) -> Result<NodeId, NoMemory>
+    ensures { IfOk result (λ id. MadeHere (arrow_label head.is_async span) (Some head.parameters ∷ Some body ∷ []) p.old p.new id) }
+{
+    let kind = NodeKind::ArrowFunctionExpression;
+    let flags = function_flags(head.is_async, false);
+    let parameters = Some(head.parameters);
+    p.ast
+        .node_of_two(kind, span, Op::None, flags, parameters, Some(body))
+}
+
+/// The body of an arrow function (ECMA-262, sections 15.3 and 15.9): in braces, or an expression.
 fn parse_arrow_body<C: ParserConfig, N: Nested<C>>(
     p: &mut ParserImpl<'_, C>,
     nested: &N,
+    is_async: bool,
 ) -> Result<NodeId, Stop>
     requires at { Standing p.old }
     requires nests { CanNest (N.can nested.now) (room p.old + 1) }
-    ensures { ReadsArrowBody p.old p.new result }
+    ensures { ReadsArrowBody is_async p.old p.new result }
 {
     if p.at(Kind::LCurly) {
-        return body_in_arrow(p, nested);
+        return body_in_arrow(p, nested, is_async);
     }
-    assignment_in_arrow(p, nested)
+    assignment_in_arrow(p, nested, is_async)
 }
 
 /// Tells of `=>` on a new line.

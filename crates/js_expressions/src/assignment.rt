@@ -16,7 +16,7 @@ ghost use Rattle.js_expressions.specs.Rests.{AssignsLiteral, Asked, OnlyOperandH
 ghost use Rattle.js_parsing.specs.Moves.{Passes};
 ghost use Rattle.js_parsing.specs.States.{Standing};
 
-use crate::arrow::{parse_arrow_function_expression, parse_arrow_head};
+use crate::arrow::{ArrowHead, parse_arrow_function_expression, parse_arrow_head};
 use crate::operators::parse_binary_expression_or_higher;
 use crate::yield_expression::{begins_yield, parse_yield_expression};
 use js_base::{
@@ -47,15 +47,19 @@ pub fn parse_assignment_expression<C: ParserConfig, N: Nested<C>>(
         return parse_yield_expression(p, nested);
     }
     let start = p.cur_start();
-    if let Some(parameters) = parse_arrow_head(p, nested)? {
-        return parse_arrow_function_expression(p, nested, start, parameters);
+    if let Some(head) = parse_arrow_head(p, nested)? {
+        return parse_arrow_function_expression(p, nested, start, head);
     }
     let kept = kept_so_far(p);
     let operand = parse_assignment_without_arrow(p, nested)?;
     if !is_refused_head(p, operand, kept) {
         return Ok(operand);
     }
-    parse_arrow_function_expression(p, nested, start, operand)
+    let head = ArrowHead {
+        is_async: false,
+        parameters: operand,
+    };
+    parse_arrow_function_expression(p, nested, start, head)
 }
 
 /// Whether `=>` stands behind parentheses in which something was told, since there were so many diagnostics.

@@ -1,7 +1,7 @@
 //! Operators between two operands (ECMA-262, sections 13.6 to 13.13).
 
 ghost use Rattle.std.specs.Prelude.{ℕ, ◌≡◌, ◌≤◌, ◌-◌, ◌∷◌, [], length, true, Some, IfOk};
-ghost use Rattle.js_base.specs.Contexts.{has_flag, await_flag};
+ghost use Rattle.js_base.specs.Contexts.{reads_await};
 ghost use Rattle.js_base.specs.declared.kind.Kind.TheVariants.{Question2};
 ghost use Rattle.js_grammar.specs.Grammar.{Lexeme};
 ghost use Rattle.js_grammar.specs.Trees.{Label, Slots, logical_expression, of};
@@ -190,7 +190,7 @@ pub fn parse_exponentiation_expression<C: ParserConfig, N: Nested<C>>(
 /// Whether a unary operator or `await` stands here, before which no UpdateExpression begins.
 #[inline(always)]
 fn begins_unary<C: ParserConfig>(p: &ParserImpl<'_, C>) -> bool
-    ensures { result ≡ begins_by_unary (has_flag await_flag p.now.ctx) p.now.token.kind }
+    ensures { result ≡ begins_by_unary (reads_await p.now.ctx) p.now.token.kind }
 {
     p.cur_kind().is_unary_operator() || begins_await(p)
 }

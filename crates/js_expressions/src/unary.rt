@@ -40,12 +40,13 @@ pub fn parse_unary_expression_or_higher<C: ParserConfig, N: Nested<C>>(
     parse_update_expression(p, nested)
 }
 
-/// Whether an AwaitExpression begins here: `await` is no name where the parameter Await is on (ECMA-262, section 15.8).
+/// Whether an AwaitExpression begins here: `await` is an operator where the parameter Await is on, but for the parameters of
+/// an asynchronous arrow function (ECMA-262, sections 15.8 and 15.9).
 #[inline(always)]
 pub(crate) fn begins_await<C: ParserConfig>(p: &ParserImpl<'_, C>) -> bool
     ensures { IsTrue result ↔ AwaitsHere p.now }
 {
-    p.at(Kind::Await) && p.ctx.has_await()
+    p.at(Kind::Await) && p.ctx.reads_await()
 }
 
 /// An AwaitExpression (ECMA-262, section 15.8): `await`, and what it stands before.

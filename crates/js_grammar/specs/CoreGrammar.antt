@@ -81,7 +81,7 @@ core_of Binding f = sym BindingIdentifier f ◇ sym Pattern f
 core_of BElement f = sym Binding f ◇ mk assignment_pattern (sym Binding f ▸ tok Eq ▸ sym Assignment (plus_in f))
 core_of Pattern f = mk array_pattern (tok LBrack ▸ (many (empty_slot ▸ tok Comma ◇ sym BElement f ▸ tok Comma) ▸ (sym BElement f ◇ sym BindingRest f ◇ nothing)) ▸ tok RBrack)
 core_of Arrow' f = mk arrow_function_expression ((mk formal_parameters (mk formal_parameter (sym BindingIdentifier (record f { await_ = f.await_ || false }) ▸ empty_slot)) ◇ sym Params (record f { await_ = f.await_ || false }))
-    ▸ no_newline ▸ tok Arrow ▸ sym Assignment (record f { yield_ = false; await_ = false }))
+    ▸ no_newline ▸ tok Arrow ▸ sym Assignment (record f { yield_ = false; await_ = false; awaits = false }))
 core_of Expression f = sym Assignment f ◇ mk sequence_expression (sym Assignment f ▸ tok Comma ▸ commas false (sym Assignment f))
 core_of Assignment f = sym Conditional f ◇ sym Arrow' f ◇ branches (Eq ∷ PlusEq ∷ MinusEq ∷ StarEq ∷ PercentEq ∷ ShiftLeftEq ∷ ShiftRightEq ∷ ShiftRight3Eq ∷ PipeEq ∷ CaretEq ∷ AmpEq ∷ Amp2Eq ∷ Pipe2Eq ∷ Question2Eq ∷ Star2Eq ∷ []) (λ o. op assignment_expression o (sym SimpleTarget f ▸ tok o ▸ sym Assignment f))
     ◇ op assignment_expression Eq (sym ArrayTarget f ▸ tok Eq ▸ sym Assignment f)

@@ -24,4 +24,4 @@ is_commonjs _ = false
 
 -- Script (16.1) has no Await; Module (16.2) has it. A CommonJS text is the body of a function: `return` and `new.target` may stand in it.
 abbrev pub program_flags : Goal → Options → Flags
-program_flags goal o = record { in_ = true; yield_ = false; await_ = is_module goal; return_ = is_commonjs goal || o.allow_return; new_target = is_commonjs goal; module_goal = is_module goal; v8 = o.allow_v8; cover = false; wide = false }
+program_flags goal o = record { in_ = true; yield_ = false; await_ = is_module goal; awaits = is_module goal; return_ = is_commonjs goal || o.allow_return; new_target = is_commonjs goal; module_goal = is_module goal; v8 = o.allow_v8; cover = false; wide = false }

@@ -13,6 +13,8 @@ pub record Flags : Type 0 where
   pub in_ : Bool
   pub yield_ : Bool
   pub await_ : Bool
+  -- Under Await `await` is no name, which `await_` says, and it is an operator, which `awaits` says. In the parameters of an asynchronous arrow function that stands where Await is off it is neither: as arguments they are read without Await, and as parameters with it (15.9).
+  pub awaits : Bool
   pub return_ : Bool
   -- within a function, a method, a field or a static block (13.3.12)
   pub new_target : Bool
@@ -198,13 +200,13 @@ abbrev pub minus_in : Flags → Flags
 minus_in f = record f { in_ = false }
 
 abbrev pub params_of : Bool → Bool → Flags → Flags
-params_of async star f = record f { in_ = true; new_target = true; yield_ = star; await_ = async }
+params_of async star f = record f { in_ = true; new_target = true; yield_ = star; await_ = async; awaits = async }
 
 abbrev pub body_of : Bool → Bool → Flags → Flags
-body_of async star f = record f { in_ = true; new_target = true; yield_ = star; await_ = async; return_ = true }
+body_of async star f = record f { in_ = true; new_target = true; yield_ = star; await_ = async; awaits = async; return_ = true }
 
 abbrev pub field_of : Flags → Flags
-field_of f = record f { in_ = true; new_target = true; yield_ = false; await_ = false }
+field_of f = record f { in_ = true; new_target = true; yield_ = false; await_ = false; awaits = false }
 
 abbrev pub static_of : Flags → Flags
-static_of f = record f { in_ = true; await_ = true; new_target = true; yield_ = false; return_ = false }
+static_of f = record f { in_ = true; await_ = true; awaits = true; new_target = true; yield_ = false; return_ = false }

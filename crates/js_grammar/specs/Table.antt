@@ -189,7 +189,7 @@ rule_of ForInit f = not_then (is 'let') (word_or (LBrack ∷ LCurly ∷ [])) ▸
 rule_of ForIn f = mk for_in_statement (tok 'for' ▸ parens ((not_then (is 'let') (word_or (LBrack ∷ LCurly ∷ [])) ▸ sym Target f ◇ for_binding f
     ◇ op variable_declaration 'var' (tok 'var' ▸ mk variable_declarator (sym BindingIdentifier f ▸ sym Init (minus_in f)))) ▸ tok 'in' ▸ sym Expression f) ▸ sym Sub f)
 -- ForInOfStatement with `of` (14.7.5)
-rule_of ForOf f = each (λ a. when (not a || f.await_) (make for_of_statement no_op (flag a await_flag) (tok 'for' ▸ only a (tok 'await')
+rule_of ForOf f = each (λ a. when (not a || f.awaits) (make for_of_statement no_op (flag a await_flag) (tok 'for' ▸ only a (tok 'await')
     ▸ parens ((if_next (other (is 'let')) ▸ cond a nothing (not_then (is 'async') (is 'of')) ▸ sym Target f ◇ for_binding f) ▸ tok 'of' ▸ sym Assignment f) ▸ sym Sub f)))
 -- ContinueStatement (14.8)
 rule_of Continue f = mk continue_statement (ended by_edge (tok 'continue' ▸ slot (no_newline ▸ sym LabelIdentifier f)))
@@ -224,8 +224,8 @@ rule_of Param f = mk formal_parameter (sym Binding f ▸ slot (sym Init (plus_in
 rule_of Rest f = mk formal_parameter_rest (sym BindingRest f)
 -- FunctionBody (15.2)
 rule_of Body f = mk function_body (braces (directives_then ListItem f))
--- ArrowFunction (15.3), AsyncArrowFunction (15.9)
-rule_of Arrow' f = each (λ a. let p = record f { await_ = f.await_ || a } in let b = record f { yield_ = false; await_ = a } in
+-- ArrowFunction (15.3), AsyncArrowFunction (15.9); in the parameters of an asynchronous one `await` is no name, and an operator only where it is one around
+rule_of Arrow' f = each (λ a. let p = record f { await_ = f.await_ || a } in let b = record f { yield_ = false; await_ = a; awaits = a } in
     make arrow_function_expression no_op (flag a async_flag) (only a (tok 'async' ▸ no_newline)
     ▸ (mk formal_parameters (mk formal_parameter (sym BindingIdentifier p ▸ empty_slot)) ◇ sym Params p) ▸ no_newline ▸ tok Arrow
     ▸ (sym Body (record b { in_ = true; return_ = true }) ◇ if_next (other (is LCurly)) ▸ sym Assignment b)))
@@ -293,7 +293,7 @@ rule_of Multiply f = level Multiply Exponent (Star ∷ Slash ∷ Percent ∷ [])
 -- ExponentiationExpression (13.6)
 rule_of Exponent f = sym Unary f ◇ op binary_expression Star2 (sym Update f ▸ tok Star2 ▸ sym Exponent f)
 -- UnaryExpression (13.5), AwaitExpression (15.8)
-rule_of Unary f = sym Update f ◇ branches (Minus ∷ Plus ∷ Bang ∷ Tilde ∷ 'typeof' ∷ 'void' ∷ 'delete' ∷ []) (λ o. op unary_expression o (tok o ▸ sym Unary f)) ◇ when f.await_ (mk await_expression (tok 'await' ▸ sym Unary f))
+rule_of Unary f = sym Update f ◇ branches (Minus ∷ Plus ∷ Bang ∷ Tilde ∷ 'typeof' ∷ 'void' ∷ 'delete' ∷ []) (λ o. op unary_expression o (tok o ▸ sym Unary f)) ◇ when f.awaits (mk await_expression (tok 'await' ▸ sym Unary f))
 -- UpdateExpression (13.4)
 rule_of Update f = sym LeftHandSide f ◇ branches (Plus2 ∷ Minus2 ∷ []) (λ o. op update_expression o (sym SimpleTarget f ▸ no_newline ▸ tok o) ◇ make update_expression (of o) prefix_flag (tok o ▸ sym SimpleTarget f))
 -- LeftHandSideExpression (13.3)

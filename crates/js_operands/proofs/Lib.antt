@@ -1,11 +1,14 @@
 pub mod ArgumentLists
 pub mod Arrays
+mod AsyncMethods
+pub mod AsyncWords
 mod FlagFaults
 pub mod Functions
 pub mod Intrinsics
 pub mod Links
 pub mod Marking
 pub mod Members
+pub mod NewTargets
 pub mod Methods
 pub mod Operands
 pub mod Parentheses

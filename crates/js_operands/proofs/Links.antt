@@ -6,8 +6,8 @@ use Rattle.js_base.specs.declared.kind.Kind.{Kind}
 use Rattle.js_base.specs.declared.kind.Kind.TheVariants.{Dot, QuestionDot, New, LParen, LBrack, NoSubstitutionTemplate, TemplateHead, Function}
 use Rattle.js_base.specs.Kinds.{same_kind, one_of_kinds}
 use Rattle.js_base.proofs.KindLemmas.{kind_of_same}
-use Rattle.js_grammar.specs.Trees.{Slots, end, tree, Label, no_op, call_expression, new_expression, tagged_template_expression}
-use Rattle.js_grammar.specs.Grammar.{Lexeme, Lexemes, Look, here, is, seen, such, alt, never, node, seq, nothing}
+use Rattle.js_grammar.specs.Trees.{Slots, end, tree, Label, no_op, call_expression, new_expression, new_target_expression, tagged_template_expression}
+use Rattle.js_grammar.specs.Grammar.{Lexeme, Lexemes, Look, here, is, seen, such, alt, never, node, seq, nothing, when}
 use Rattle.js_grammar.specs.Parsing.{Test, plain, full, always, still, joined, Goes, Reads, Fails, Admits}
 use Rattle.js_grammar.specs.Productions.{G, Flags, Symbol, at, tok, optional_flag, Primary, Member, Call, Chain, Links, Super, LeftHandSide, Template}
 use Rattle.js_grammar.specs.Productions.{New as new_symbol}
@@ -15,7 +15,7 @@ use Rattle.js_grammar.specs.Table.{rule, rule_of, args}
 use Rattle.js_grammar.specs.Insertion.{after_expression}
 use Rattle.js_grammar.specs.Follow.{Edge, edge_of, follow_of, after}
 use Rattle.js_grammar.proofs.Looks.{covers, covered, apart}
-use Rattle.js_grammar.proofs.Calculus.{Heads, on_itself, here_at, ◌▹◌, ◌▹✗◌, left, right, then_by, makes_by, inside_full, by_plain, by_rule, fails_node, fails_alt, fails_never, part_fails, weaken, weaken_fails, weaken_on, weaken_fails_on}
+use Rattle.js_grammar.proofs.Calculus.{Heads, on_itself, here_at, ◌▹◌, ◌▹✗◌, left, right, then_by, makes_by, inside_full, by_plain, by_rule, fails_node, fails_alt, fails_never, fails_under, where_true, part_fails, weaken, weaken_fails, weaken_on, weaken_fails_on}
 use Rattle.js_grammar.proofs.FirstClaims.{firsts}
 use Rattle.js_grammar.proofs.FirstRules.{by_first, fails_here}
 use Rattle.js_grammar.proofs.FollowLaws.{admits, fails_by, same_read}
@@ -31,6 +31,7 @@ use Rattle.js_operands.specs.Members.{Looped, NoBareNew, NoMember, without_argum
 use Rattle.js_operands.specs.declared.left_hand_side.LinkBase.TheVariants.{Member as OfMember'}
 use Rattle.js_parsing.proofs.Dead.{dead, fails_dead, live, lives}
 use Rattle.js_parsing.proofs.Paths.{reads}
+use Rattle.js_operands.specs.NewTargets.{target_slots}
 
 abbrev no_function : Look
 no_function k w e = not (not w && (same_kind Function k && not e))
@@ -69,8 +70,15 @@ module _ (f : Flags) where
   abbrev new_with : G
   new_with = node (make_of new_expression no_op 0) with_arguments
 
+  -- `new.target`, where it may stand
+  abbrev pub new_target : G
+  new_target = when f.new_target (node (make_of new_target_expression no_op 0) target_slots)
+
   -- what a member begins with
-  member_left : live (base_of is_member Member f) ≡ alt (such (at Primary f) always) new_with
+  abbrev member_feet : G
+  member_feet = alt (such (at Primary f) always) (alt new_with new_target)
+
+  member_left : live (base_of is_member Member f) ≡ member_feet
   unfolding rule_of apart
   member_left = refl
 
@@ -148,29 +156,37 @@ template_apart f k l cs w h = first_or (λ (v : Kind). follow_of Links f.in_ (ed
 module _ {text : List ℕ} (f : Flags) where
   -- ---- members
 
-  member_foot : {X : Test} {s : ℕ} → Goes rule (Lex text) X end (base_of is_member Member f) s (alt (such (at Primary f) always) (new_with f)) s (λ us. us) (still 0)
+  member_foot : {X : Test} {s : ℕ} → Goes rule (Lex text) X end (base_of is_member Member f) s (member_feet f) s (λ us. us) (still 0)
   member_foot {X} {s} = subst (λ (g : G). Goes rule (Lex text) X end (base_of is_member Member f) s g s (λ us. us) (still 0)) (member_left f) (lives (base_of is_member Member f))
 
   no_with : {X : Test} {s : ℕ} → NoneIs text s New → Fails rule (Lex text) X end (new_with f) s
   no_with n = fails_here firsts (λ y l h. no_kind n y l h)
 
+  no_target : {X : Test} {s : ℕ} → NoneIs text s New → Fails rule (Lex text) X end (new_target f) s
+  no_target n = fails_under (fails_here firsts (λ y l h. no_kind n y l h))
+
   -- a primary expression was read
   pub member_start : {s s' from : ℕ} {l : Label} {cs : Slots} {pass : Lexemes → Lexemes} → NoneIs text s New → Stretch text (after (at Primary f)) (such (at Primary f) always) s nothing s' (tree l cs) pass → ((y : Lexeme) → Lex text s y → y.from ≡ from) → Looped text (members f) (after (at Member f)) s from l cs pass s'
   unfolding member_links rule_of covers
-  member_start n x b = record { reach = max 0 (max 0 x.reach); near = let i = x.near in omega arith; around = chain_start firsts (climbs is_member Member f) (member_links f) {F' = no_function} (member_foot ▹ (left (no_with n) ▹ weaken x.goes (λ ts y e. admits (at Primary f) ts y e.0))) refl refl b }
+  member_start n x b = record { reach = max 0 (max 0 x.reach); near = let i = x.near in omega arith; around = chain_start firsts (climbs is_member Member f) (member_links f) {F' = no_function} (member_foot ▹ (left (fails_alt (no_with n) (no_target n)) ▹ weaken x.goes (λ ts y e. admits (at Primary f) ts y e.0))) refl refl b }
 
   pub no_member : {s : ℕ} → NoneIs text s New → Underived text (at Primary f) s → Underived text (at Member f) s
   unfolding member_links rule_of covers
-  no_member n x = chain_start_fails firsts (climbs is_member Member f) (member_links f) {F' = no_function} (member_foot ▹✗ fails_alt (weaken_fails x (λ ts y e. admits (at Primary f) ts y e.0)) (no_with n)) refl refl
+  no_member n x = chain_start_fails firsts (climbs is_member Member f) (member_links f) {F' = no_function} (member_foot ▹✗ fails_alt (weaken_fails x (λ ts y e. admits (at Primary f) ts y e.0)) (fails_alt (no_with n) (no_target n))) refl refl
 
   -- `new` with arguments was read
-  pub member_new : {s s' from : ℕ} {h : Slots → Slots} {pass : Lexemes → Lexemes} → Underived text (at Primary f) s → Stretch text (plain full) (with_arguments f) s nothing s' h pass → ((y : Lexeme) → Lex text s y → y.from ≡ from) → Looped text (members f) (after (at Member f)) s from (linked_label (link new_expression no_op 0 (with_arguments f)) from s') (h end) pass s'
+  pub member_new : {s s' from : ℕ} {h : Slots → Slots} {pass : Lexemes → Lexemes} → Underived text (at Primary f) s → Fails rule (Lex text) (plain full) end target_slots s → Stretch text (plain full) (with_arguments f) s nothing s' h pass → ((y : Lexeme) → Lex text s y → y.from ≡ from) → Looped text (members f) (after (at Member f)) s from (linked_label (link new_expression no_op 0 (with_arguments f)) from s') (h end) pass s'
   unfolding member_links rule_of covers
-  member_new {s' = s'} {from} x y b = record { reach = max 0 (max 0 y.reach); near = let i = y.near in omega arith; around = chain_start firsts (climbs is_member Member f) (member_links f) {F' = no_function} (member_foot ▹ (right (weaken_fails x (λ ts y e. admits (at Primary f) ts y e.0)) ▹ makes_by (linked_label (link new_expression no_op 0 (with_arguments f)) from s') inside_full y.goes (λ ls ls' i j. ap (λ v. linked_label (link new_expression no_op 0 (with_arguments f)) v s') (b (here ls) (here_at (Lex text) ls i))))) refl refl b }
+  member_new {s' = s'} {from} x n y b = record { reach = max 0 (max 0 (max 0 y.reach)); near = let i = y.near in omega arith; around = chain_start firsts (climbs is_member Member f) (member_links f) {F' = no_function} (member_foot ▹ (right (weaken_fails x (λ ts y e. admits (at Primary f) ts y e.0)) ▹ (left (fails_under (fails_node inside_full n)) ▹ makes_by (linked_label (link new_expression no_op 0 (with_arguments f)) from s') inside_full y.goes (λ ls ls' i j. ap (λ v. linked_label (link new_expression no_op 0 (with_arguments f)) v s') (b (here ls) (here_at (Lex text) ls i)))))) refl refl b }
 
-  pub no_member_new : {s : ℕ} → Underived text (at Primary f) s → Fails rule (Lex text) (plain full) end (with_arguments f) s → Underived text (at Member f) s
+  pub no_member_new : {s : ℕ} → Underived text (at Primary f) s → Fails rule (Lex text) (plain full) end (with_arguments f) s → ((X : Test) → Fails rule (Lex text) X end (new_target f) s) → Underived text (at Member f) s
   unfolding member_links rule_of covers
-  no_member_new x n = chain_start_fails firsts (climbs is_member Member f) (member_links f) {F' = no_function} (member_foot ▹✗ fails_alt (weaken_fails x (λ ts y e. admits (at Primary f) ts y e.0)) (fails_node inside_full n)) refl refl
+  no_member_new x n t = chain_start_fails firsts (climbs is_member Member f) (member_links f) {F' = no_function} (member_foot ▹✗ fails_alt (weaken_fails x (λ ts y e. admits (at Primary f) ts y e.0)) (fails_alt (fails_node inside_full n) (t _))) refl refl
+
+  -- `new.target` was read
+  pub member_target : {s s' from : ℕ} {h : Slots → Slots} {pass : Lexemes → Lexemes} → f.new_target ≡ true → Underived text (at Primary f) s → Fails rule (Lex text) (plain full) end (with_arguments f) s → Stretch text (plain full) target_slots s nothing s' h pass → ((y : Lexeme) → Lex text s y → y.from ≡ from) → Looped text (members f) (after (at Member f)) s from (linked_label (link new_target_expression no_op 0 target_slots) from s') (h end) pass s'
+  unfolding member_links rule_of covers
+  member_target {s' = s'} {from} c x n y b = record { reach = max 0 (max 0 (max 0 (max 0 y.reach))); near = let i = y.near in omega arith; around = chain_start firsts (climbs is_member Member f) (member_links f) {F' = no_function} (member_foot ▹ (right (weaken_fails x (λ ts y e. admits (at Primary f) ts y e.0)) ▹ (right (fails_node inside_full n) ▹ (where_true c ▹ makes_by (linked_label (link new_target_expression no_op 0 target_slots) from s') inside_full y.goes (λ ls ls' i j. ap (λ v. linked_label (link new_target_expression no_op 0 target_slots) v s') (b (here ls) (here_at (Lex text) ls i))))))) refl refl b }
 
   -- a name or an expression in brackets behind it
   pub member_step : {s s' s'' from : ℕ} {l : Label} {cs : Slots} {pass more : Lexemes → Lexemes} {h : Slots → Slots} (c : LinkForm) → admits_link OfMember' c false ≡ true → Looped text (members f) (after (at Member f)) s from l cs pass s' → AllAre text s' (sign_of c false) → s' ≤ s'' → Stretch text (plain full) (chained f c false).part s' nothing s'' h more

@@ -19,7 +19,7 @@ use Rattle.js_grammar.specs.Productions.{New as new_symbol, sym as symbol}
 use Rattle.js_grammar.specs.Table.{rule, rule_of, args}
 use Rattle.js_grammar.specs.Follow.{Edge, row_of, edge_of, follow, follow_of, after, tight}
 use Rattle.js_grammar.proofs.Looks.{covers, covered, apart, not_both}
-use Rattle.js_grammar.proofs.Calculus.{Inside, inside_full, weaken, ◌▹◌, ◌▹✗◌, then_by, part_fails, fails_node, fails_lexeme, weaken_fails}
+use Rattle.js_grammar.proofs.Calculus.{Inside, inside_full, weaken, ◌▹◌, ◌▹✗◌, then_by, part_fails, fails_node, fails_under, fails_lexeme, weaken_fails}
 use Rattle.js_grammar.proofs.FirstClaims.{firsts}
 use Rattle.js_grammar.proofs.FirstRules.{by_first, fails_here}
 use Rattle.js_grammar.proofs.FollowLaws.{fails_by, surely}
@@ -69,6 +69,7 @@ use Rattle.js_parsing.proofs.Giving.{gives_up}
 use Rattle.js_parsing.proofs.Signs.{AllAre, NoneIs}
 use Rattle.js_operands.proofs.Links.{call_kinds, call_template, call_template_fails, chain_template_fails, member_template, member_template_fails, NotCall, bases, before_chain, with_arguments, member_start, no_member, member_new, no_member_new, member_step, member_step_fails, member_end, no_new_before, new_unfollowed, no_new, new_member, new_bare, member_before_chain, no_call_at_all, no_call_behind, call_begin, call_step, call_step_fails, call_ends, base_member, base_call, base_none, chain_begin, no_first, chain_step, chain_step_fails, chain_ends, no_lhs, lhs_new, lhs_call, lhs_chain, call_unfollowed, member_before, member_alone, call_alone, no_lhs_here, call_heads, chain_heads}
 use Rattle.js_operands.proofs.Links.{no_link as no_chain_link}
+use Rattle.js_operands.specs.NewTargets.{target_slots}
 use Rattle.js_parsing.proofs.Stretches.{stretches}
 use Rattle.js_parsing.proofs.Parts.{part_path, part_path_fails, parts, part_sign, part_last, part_called}
 use Rattle.js_parsing.proofs.Signs.{plain_sign, other_kind}
@@ -411,7 +412,7 @@ headed_new f (a_new n s z) = s
 taken_path : {text : List ℕ} {f : Flags} {n : Symbol} {p q : Parser} {id : NodeId} (x : Taken text f p q id (λ l cs pass s'. Stretch text (after n) (such n always) p.prev_token_end nothing s' (tree l cs) pass) (Underived text n p.prev_token_end)) → Path text f (after n) (such n always) p nothing q (tree x.label x.slots)
 taken_path x = record { at = x.at; further = x.further; pass = x.pass; walked = x.walked; verdict = x.verdict }
 
-abbrev called_member : Flags → G
+abbrev pub called_member : Flags → G
 called_member f = seq (such (at Member f) always) (args f)
 
 -- a member and its arguments
@@ -432,20 +433,25 @@ pub no_arguments_here : {text : List ℕ} (f : Flags) {s : ℕ} → NoneIs text 
 no_arguments_here f n = fails_here firsts (λ y l h. n y l (sym (kind_of_same LParen y.kind (and_parts _ _ h).0)))
 
 module _ {text : List ℕ} {f : Flags} {p q : Parser} (a : At text f p) (k : p.token.kind ≡ New) (n : p.token.escaped ≡ false) (m : Moved text f p q) where
-  no_primary : Underived text (at Primary f) p.prev_token_end
+  pub no_primary : Underived text (at Primary f) p.prev_token_end
   no_primary = primary_fails a (no_listed_name f.yield_ f.await_ p.token.kind (subst (λ v. one_of_kinds name_kinds v ≡ false) (sym k) refl)) (subst (λ v. one_of_kinds primary_kinds v ≡ false) (sym k) refl)
 
-  bare_fails : Underived text (at new_symbol f) q.prev_token_end → NoBareNew text f p.prev_token_end
+  pub bare_fails : Underived text (at new_symbol f) q.prev_token_end → NoBareNew text f p.prev_token_end
   bare_fails z = fails_node (new_edge f p.prev_token_end) (token New a k n refl m ⟶✗ z)
 
-  new_skips : Stretch text (plain full) (with_arguments f) p.prev_token_end (called_member f) q.prev_token_end (λ us. us) (λ ls. next m.lexeme ls)
+  pub new_skips : Stretch text (plain full) (with_arguments f) p.prev_token_end (called_member f) q.prev_token_end (λ us. us) (λ ls. next m.lexeme ls)
   new_skips = record { reach = 0; near = omega arith; goes = skips a New k n refl m }
 
+-- another lexeme than a dot stands behind `new`
+module _ {text : List ℕ} {f : Flags} {p q : Parser} (a : At text f p) (k : p.token.kind ≡ New) (n : p.token.escaped ≡ false) (m : Moved text f p q) (t : StandsHere q Dot false) where
+  no_target_here : Fails rule (Lex text) (plain full) end target_slots p.prev_token_end
+  no_target_here = skips a New k n refl m ▹✗ fails_here firsts (λ y l h. stands_not m.at refl t y l (sym (kind_of_same Dot y.kind (and_parts _ _ h).0)))
+
   none_called : Fails rule (Lex text) (plain full) end (called_member f) q.prev_token_end → Underived text (at Member f) p.prev_token_end
-  none_called z = no_member_new f no_primary (new_skips.goes ▹✗ z)
+  none_called z = no_member_new f (no_primary a k n m) ((new_skips a k n m).goes ▹✗ z) (λ X. fails_under (fails_node inside_full no_target_here))
 
   pub new_fails : NoMember text f q.prev_token_end → NoMember text f p.prev_token_end
-  new_fails z = (none_called (member_lacks f z.0), bare_fails (no_new f z))
+  new_fails z = (none_called (member_lacks f z.0), bare_fails a k n m (no_new f z))
 
   module _ {levels : ℕ} {e r w : Parser} {callee : NodeId} (h : Enters levels q e) (l : Leaves levels r w) (x : HeadOutcome text f e r (Ok callee)) where
     same_place : e.prev_token_end ≡ q.prev_token_end
@@ -474,7 +480,7 @@ module _ {text : List ℕ} {f : Flags} {p q : Parser} (a : At text f p) (k : p.t
 
     -- `?.` stands behind the callee
     pub new_refused : StandsHere w QuestionDot true → NoMember text f p.prev_token_end
-    new_refused s = either_way callee_taken.verdict (λ c. (none_called (no_called f c (no_arguments_here f (λ y l e. let z = (stands_there callee_taken.at s.0 refl) y l in (let u : QuestionDot ≡ LParen = sym z.0 ∙ e in cc)))), bare_fails (refused c))) (λ z. new_fails z)
+    new_refused s = either_way callee_taken.verdict (λ c. (none_called (no_called f c (no_arguments_here f (λ y l e. let z = (stands_there callee_taken.at s.0 refl) y l in (let u : QuestionDot ≡ LParen = sym z.0 ∙ e in cc)))), bare_fails a k n m (refused c))) (λ z. new_fails z)
       where
         refused : {l : Label} {cs : Slots} {pass : Lexemes → Lexemes} → Headed text f q.prev_token_end l cs pass w.prev_token_end → Underived text (at new_symbol f) q.prev_token_end
         refused (a_member c b) = no_new_before f QuestionDot (λ d v. refl) c b (stands_there callee_taken.at s.0 refl)
@@ -518,7 +524,7 @@ module _ {text : List ℕ} {f : Flags} {p q : Parser} (a : At text f p) (k : p.t
     -- arguments stand there
     module _ (s : StandsHere w LParen true) where
       bare_none : {l : Label} {cs : Slots} {pass : Lexemes → Lexemes} → Headed text f q.prev_token_end l cs pass w.prev_token_end → NoBareNew text f p.prev_token_end
-      bare_none (a_member c b) = bare_fails (no_new_before f LParen (λ d v. refl) c b (stands_there callee_taken.at s.0 refl))
+      bare_none (a_member c b) = bare_fails a k n m (no_new_before f LParen (λ d v. refl) c b (stands_there callee_taken.at s.0 refl))
       bare_none (a_new z c b) = let y = lexeme_there callee_taken.at s refl refl refl in absurd (false≢true (sym (b y.0 y.1) ∙ subst (λ (v : Kind). one_of_kinds link_kinds v ≡ true) (sym y.2) refl))
 
       pub new_arguments_stop : (v : Parser) (i : Stop) → Stops w v i (Fails rule (Lex text) (plain full) end (args f) w.prev_token_end) → Stops p v i (NoMember text f p.prev_token_end)
@@ -543,7 +549,7 @@ module _ {text : List ℕ} {f : Flags} {p q : Parser} (a : At text f p) (k : p.t
           })
         where
           whole : {l : Label} {cs : Slots} {pass more : Lexemes → Lexemes} {h : Slots → Slots} {s'' : ℕ} → Headed text f q.prev_token_end l cs pass w.prev_token_end → Stretch text (plain full) (args f) w.prev_token_end nothing s'' h more → w.prev_token_end ≤ s'' → MemberSoFar text f p.prev_token_end p.token.span.start (record { kind = new_expression; op = no_op; flags = 0; span = record { from = p.token.span.start; to = s'' } }) (tree l cs (h end)) (λ ls. next m.lexeme (pass (more ls))) s''
-          whole (a_member c b) z i = (member_new f no_primary (stretches new_skips (stretches (member_then f c) z i) (let d = m.at.behind in let e = callee_taken.further in omega arith)) (begins_here a), bare_none (a_member c b))
+          whole (a_member c b) z i = (member_new f (no_primary a k n m) no_target_here (stretches (new_skips a k n m) (stretches (member_then f c) z i) (let d = m.at.behind in let e = callee_taken.further in omega arith)) (begins_here a), bare_none (a_member c b))
           whole (a_new z c b) u i = absurd (let y = lexeme_there callee_taken.at s refl refl refl in false≢true (sym (b y.0 y.1) ∙ subst (λ (v : Kind). one_of_kinds link_kinds v ≡ true) (sym y.2) refl))
 
 -- ---- tagged templates
@@ -1129,8 +1135,8 @@ optional_index_outcome start left q (Ok id) a s m t y = optional_index a s m t y
 optional_index_outcome {text} {f} start left q (Err e) a s m t y = no_optional_index a s m t q e (y text f m.at)
 
 -- what was said one level deeper
-pub entered_stops : {k : ℕ} {text : List ℕ} {f : Flags} {p q e : Parser} (r : Parser) (i : Stop) → (a : At text f p) → p.token.kind ≡ New → p.token.escaped ≡ false → (m : Moved text f p q) → Enters k q e → Stops e r i (NoMember text f e.prev_token_end) → Stops p r i (NoMember text f p.prev_token_end)
-entered_stops {text = text} {f = f} {p = p} {q = q} {e = e} r i a k n m h s = stops_behind r i m.same (λ g. grown_then m.kept g) (λ z. new_fails a k n m z) (stops_in r i m.at.at h (λ z. subst (λ (v : ℕ). NoMember text f v) (ap (λ (z : Parser). z.prev_token_end) h.is) z) s)
+pub entered_stops : {k : ℕ} {text : List ℕ} {f : Flags} {p q e : Parser} (r : Parser) (i : Stop) → (a : At text f p) → p.token.kind ≡ New → p.token.escaped ≡ false → (m : Moved text f p q) → StandsHere q Dot false → Enters k q e → Stops e r i (NoMember text f e.prev_token_end) → Stops p r i (NoMember text f p.prev_token_end)
+entered_stops {text = text} {f = f} {p = p} {q = q} {e = e} r i a k n m t h s = stops_behind r i m.same (λ g. grown_then m.kept g) (λ z. new_fails a k n m t z) (stops_in r i m.at.at h (λ z. subst (λ (v : ℕ). NoMember text f v) (ap (λ (z : Parser). z.prev_token_end) h.is) z) s)
 
 -- whether a link stands here, by the signs
 pub name_here : {p : Parser} (b : LinkBase) → StandsHere p Dot true → LinkHere p b true

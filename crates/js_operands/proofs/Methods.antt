@@ -42,29 +42,29 @@ use Rattle.js_operands.proofs.Wholes.{part_answers, part_under, whole_answers, w
 
 -- ---- the function
 
-abbrev pub params : MethodForm → Bool → Flags → G
-params form s f = parameters_of form (params_of false s f)
+abbrev pub params : MethodForm → Bool → Bool → Flags → G
+params form b s f = parameters_of form (params_of b s f)
 
 -- anything may follow the first part
 pub no_first : {text : List ℕ} {a b : G} {s : ℕ} → Fails rule (Lex text) (plain full) end a s → Fails rule (Lex text) (plain full) end (a ▸ b) s
 no_first n = part_fails {X' = plain full} n (record { admits = λ ts us vs j k ls mid rest d d' e. (refl, refl) })
 
 -- without parameters
-pub no_params : {text : List ℕ} (f : Flags) (form : MethodForm) (s : Bool) {o : ℕ} → Fails rule (Lex text) (plain full) end (params form s f) o → Fails rule (Lex text) (plain full) end (method_left form s f) o
-no_params f form s n = fails_node inside_full (then_by {X = plain full} {X' = plain full} reads_empty_slot (record { admits = λ ts us vs j k ls mid rest d d' e. (refl, refl) }) ▹✗ no_first n)
+pub no_params : {text : List ℕ} (f : Flags) (form : MethodForm) (b s : Bool) {o : ℕ} → Fails rule (Lex text) (plain full) end (params form b s f) o → Fails rule (Lex text) (plain full) end (method_left form b s f) o
+no_params f form b s n = fails_node inside_full (then_by {X = plain full} {X' = plain full} reads_empty_slot (record { admits = λ ts us vs j k ls mid rest d d' e. (refl, refl) }) ▹✗ no_first n)
 
-module _ {text : List ℕ} {f : Flags} (form : MethodForm) (s : Bool) {p q : Parser} {params_id : NodeId} (x : WholeTaken text f (params form s f) p q params_id) where
-  pub body_stops : (w : Parser) (e : Stop) → Stops q w e (Underived text (at Body (body_of false s f)) q.prev_token_end) → Stops p w e (Fails rule (Lex text) (plain full) end (method_left form s f) p.prev_token_end)
+module _ {text : List ℕ} {f : Flags} (form : MethodForm) (b s : Bool) {p q : Parser} {params_id : NodeId} (x : WholeTaken text f (params form b s f) p q params_id) where
+  pub body_stops : (w : Parser) (e : Stop) → Stops q w e (Underived text (at Body (body_of b s f)) q.prev_token_end) → Stops p w e (Fails rule (Lex text) (plain full) end (method_left form b s f) p.prev_token_end)
   body_stops w e z = stops_behind w e x.same (λ g. grown_behind x.verdict g) (λ n. fails_node inside_full (part_path_fails (whole_behind_hole x) (weaken_fails_on n (record { admits = λ ts vs k ls rest d e. (refl, refl) })))) z
 
-  module _ (a : At text f p) {r w : Parser} {body id : NodeId} {start : ℕ} (y : Numbered text f (at Body (body_of false s f)) q r body) (h : start ≡ p.token.span.start) (n : MadeHere (function_label s start r.prev_token_end) (None ∷ Some params_id ∷ Some body ∷ []) r w id) where
-    whole : Partway text f (empty_slot ▸ (params form s f ▸ symbol Body (body_of false s f))) nothing p r [] (None ∷ Some params_id ∷ Some body ∷ [])
+  module _ (a : At text f p) {r w : Parser} {body id : NodeId} {start : ℕ} (y : Numbered text f (at Body (body_of b s f)) q r body) (h : start ≡ p.token.span.start) (n : MadeHere (function_label b s start r.prev_token_end) (None ∷ Some params_id ∷ Some body ∷ []) r w id) where
+    whole : Partway text f (empty_slot ▸ (params form b s f ▸ symbol Body (body_of b s f))) nothing p r [] (None ∷ Some params_id ∷ Some body ∷ [])
     whole = parts (whole_behind_hole x) (whole_last (whole_of y (record { admits = λ ts vs k ls rest d e. (refl, refl) })) (None ∷ Some params_id ∷ []))
 
-    made : MadeHere (flagged_here function_expression no_op (flag false async_flag + flag s generator_flag) p r) (None ∷ Some params_id ∷ Some body ∷ []) r w id
-    made = subst (λ (v : Label). MadeHere v (None ∷ Some params_id ∷ Some body ∷ []) r w id) (rw (h, zero-add (flag s generator_flag)) refl) n
+    made : MadeHere (flagged_here function_expression no_op (flag b async_flag + flag s generator_flag) p r) (None ∷ Some params_id ∷ Some body ∷ []) r w id
+    made = subst (λ (v : Label). MadeHere v (None ∷ Some params_id ∷ Some body ∷ []) r w id) (rw h refl) n
 
-    pub function_taken : WholeTaken text f (method_left form s f) p w id
+    pub function_taken : WholeTaken text f (method_left form b s f) p w id
     function_taken = whole_answers whole.same made.stays (node_held made (whole.holds (length p.nodes) end (HoldsAll-none p.nodes (length p.nodes) (length p.nodes) (omega arith)))) (Keeps-trans whole.keeps (Keeps-made made.made)) refl (one_lies made) (flagged_by a inside_full (part_path whole))
 
 -- ---- the property

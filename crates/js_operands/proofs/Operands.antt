@@ -18,7 +18,7 @@ use Rattle.js_grammar.specs.Table.{rule, rule_of}
 use Rattle.js_grammar.specs.Follow.{edge_of, row_of, follow, follow_of, after, widest, first_edge}
 use Rattle.js_grammar.specs.Insertion.{after_expression}
 use Rattle.js_grammar.proofs.Looks.{covers, covered, apart}
-use Rattle.js_grammar.proofs.Calculus.{Inside, on_itself, ◌▹✗◌, fails_node}
+use Rattle.js_grammar.proofs.Calculus.{Inside, on_itself, ◌▹✗◌, fails_node, left, right}
 use Rattle.js_grammar.proofs.RightEdges.{may_end, same_row}
 use Rattle.js_grammar.proofs.FollowLaws.{fails_by}
 use Rattle.js_grammar.proofs.Lexemes.{first_or}
@@ -40,7 +40,9 @@ use Rattle.js_parsing.specs.Lexemes.{Plain, is_read, may_name, name_kinds, read_
 use Rattle.js_parsing.specs.States.{At, Same, NodesLie}
 use Rattle.js_parsing.specs.Moves.{Moved, MadeHere, LeafTaken, TakesLeaf, plain_label}
 use Rattle.js_parsing.specs.Answers.{Underived, Answer, Numbered, Outcome, beside}
+use Rattle.js_operands.specs.Functions.{NoFunctionHere}
 use Rattle.js_operands.specs.Numbers.{node_of_number, op_of_number}
+use Rattle.js_operands.proofs.AsyncWords.{no_expression}
 use Rattle.js_parsing.specs.Operators.{unary_kinds}
 use Rattle.js_parsing.proofs.Moving.{same_both, same_with, beside_nodes}
 use Rattle.js_parsing.proofs.Dead.{live, lives}
@@ -190,11 +192,11 @@ name_signless k h = name_apart signs refl k h
 pub name_leaf : {text : List ℕ} {f : Flags} {X : Test} {p q : Parser} → At text f p → may_name f.yield_ f.await_ p.token.kind ≡ true → p.token.escaped ≡ false → Moved text f p q → Path text f X (lexeme (name_test f)) p nothing q (λ us. us)
 name_leaf {f = f} {p = p} a h n s = one_path (name_test f) a (name_signless p.token.kind (listed_name f.yield_ f.await_ p.token.kind h)) s (plain_leaf p.token.kind refl n (name_read p.token.kind (listed_name f.yield_ f.await_ p.token.kind h)) s) (name_passes f s.lexeme (subst (λ (k : Kind). may_name f.yield_ f.await_ k ≡ true) s.tells.kind h))
 
-pub name_path : (text : List ℕ) (f : Flags) (k : Kind) → may_name f.yield_ f.await_ k ≡ true → LeafUnder text f identifier_reference no_op k
+pub name_path : {text : List ℕ} {f : Flags} {p q : Parser} → At text f p → may_name f.yield_ f.await_ p.token.kind ≡ true → p.token.escaped ≡ false → NoFunctionHere p → Moved text f p q → Path text f (after (at Primary f)) (rule (at Primary f)) p nothing q (tree (label_here identifier_reference no_op p q) end)
 unfolding rule rule_of covers
-name_path text f k h p q a e n s =
-    let i : may_name f.yield_ f.await_ p.token.kind ≡ true = ap (may_name f.yield_ f.await_) e ∙ h in
-    at_name a (listed_name f.yield_ f.await_ p.token.kind i) ⟼ by_symbol_as {X' = plain full} (λ l cs vs y d. (refl, refl)) (noded a (name_leaf a i n s))
+name_path {f = f} {p = p} a i n z s =
+    let k = listed_name f.yield_ f.await_ p.token.kind i in
+    at_name a k ⟼ (left (no_expression a z.1 n s k) ⟼ by_symbol_as {X' = plain full} (λ l cs vs y d. (refl, refl)) (noded a (name_leaf a i n s)))
 
 -- behind a primary expression whatever may stand that is read
 abbrev no_function : Look
@@ -205,11 +207,14 @@ unfolding covers
 behind_primary b l cs text s y h = covered plain_reads (λ k w e. no_function k w e || beside k w e) refl y.kind y.newline y.escaped h.1
 
 -- a node of one lexeme, read so
-pub leaf_answers : {text : List ℕ} {f : Flags} {p q : Parser} {id : NodeId} {nk : NodeKindMade} {no : OpMade} (k : Kind) → same_row after_expression (row_of (plain_label nk no p.token.span) end) ≡ true → LeafUnder text f (kind_of nk) (op_of no) k → At text f p → p.token.kind ≡ k → p.token.escaped ≡ false → LeafTaken nk no text f p q id → Numbered text f (at Primary f) p q id
-leaf_answers {text} {f} {p} {q} {id} {nk} {no} k r path a e n t =
+pub leaf_made : {text : List ℕ} {f : Flags} {p q : Parser} {id : NodeId} {nk : NodeKindMade} {no : OpMade} → same_row after_expression (row_of (plain_label nk no p.token.span) end) ≡ true → ((q : Parser) → Moved text f p q → Path text f (after (at Primary f)) (rule (at Primary f)) p nothing q (tree (label_here (kind_of nk) (op_of no) p q) end)) → LeafTaken nk no text f p q id → Numbered text f (at Primary f) p q id
+leaf_made {text} {f} {p} {q} {id} {nk} {no} r path t =
     let l : plain_label nk no p.token.span ≡ label_here (kind_of nk) (op_of no) p t.mid = ap (λ (v : ℕ). record { kind = kind_of nk; op = op_of no; flags = 0; span = record { from = p.token.span.start; to = v } }) (t.moved.tells.end ∙ t.moved.ends) in
     let ks : Keeps p.nodes t.mid.nodes = subst (λ (ns : List Node). Keeps p.nodes ns) (sym t.moved.nodes) (Keeps-refl p.nodes) in
-    by_path (subst (λ (v : Label). Path text f (after (at Primary f)) (rule (at Primary f)) p nothing t.mid (tree v end)) (sym l) (path p t.mid a e n t.moved)) t.moved.same t.made.stays (behind_primary f.in_ (plain_label nk no p.token.span) end text t.mid.prev_token_end) r (leaf_held t.made ks) (Keeps-trans ks (Keeps-made t.made.made)) (ap (λ (v : Label). v.span) l) (one_lies t.made)
+    by_path (subst (λ (v : Label). Path text f (after (at Primary f)) (rule (at Primary f)) p nothing t.mid (tree v end)) (sym l) (path t.mid t.moved)) t.moved.same t.made.stays (behind_primary f.in_ (plain_label nk no p.token.span) end text t.mid.prev_token_end) r (leaf_held t.made ks) (Keeps-trans ks (Keeps-made t.made.made)) (ap (λ (v : Label). v.span) l) (one_lies t.made)
+
+pub leaf_answers : {text : List ℕ} {f : Flags} {p q : Parser} {id : NodeId} {nk : NodeKindMade} {no : OpMade} (k : Kind) → same_row after_expression (row_of (plain_label nk no p.token.span) end) ≡ true → LeafUnder text f (kind_of nk) (op_of no) k → At text f p → p.token.kind ≡ k → p.token.escaped ≡ false → LeafTaken nk no text f p q id → Numbered text f (at Primary f) p q id
+leaf_answers {p = p} k r path a e n t = leaf_made r (λ q m. path p q a e n m) t
 
 -- a unary operation
 pub unary_answers : {text : List ℕ} {f : Flags} {p q r w : Parser} {id arg : NodeId} (k : Kind) (o : UnaryOperator) (s : Span) → one_of_kinds unary_kinds k ≡ true → unary_kind o ≡ k → At text f p → p.token.kind ≡ k → p.token.escaped ≡ false → (m : Moved text f p q) → (x : Numbered text f (at Unary f) q r arg) → s.start ≡ p.token.span.start → s.end ≡ r.prev_token_end → MadeHere (plain_label node.UnaryExpression (op.Unary o) s) (Some arg ∷ []) r w id → Numbered text f (at Unary f) p w id
@@ -231,6 +236,12 @@ pub leaf_under : (text : List ℕ) (f : Flags) (p q : Parser) (nk : NodeKindMade
 leaf_under text f p q nk o k (Ok id) r path a e n m = leaf_answers k r path a e n (m text f a)
 leaf_under text f p q nk o k (Err Fatal) r path a e n m = absurd m
 leaf_under text f p q nk o k (Err NoMemory) r path a e n m = tt
+
+-- a name
+pub name_outcome : {text : List ℕ} {f : Flags} {p : Parser} (q : Parser) (r : Result NodeId Stop) → At text f p → may_name f.yield_ f.await_ p.token.kind ≡ true → p.token.escaped ≡ false → NoFunctionHere p → MatchResult r (λ id. TakesLeaf node.IdentifierReference op.None p q id) OnlyMemory → Outcome text f (at Primary f) p q r
+name_outcome {text} {f} q (Ok id) a h n z m = leaf_made refl (λ q s. name_path a h n z s) (m text f a)
+name_outcome q (Err Fatal) a h n z m = absurd m
+name_outcome q (Err NoMemory) a h n z m = tt
 
 pub leaf_outcome : (text : List ℕ) (f : Flags) (p q : Parser) (nk : NodeKindMade) (o : OpMade) (k : Kind) (r : Result NodeId Stop) → same_row after_expression (row_of (plain_label nk o p.token.span) end) ≡ true → Leaf (kind_of nk) (op_of o) k → At text f p → p.token.kind ≡ k → p.token.escaped ≡ false → MatchResult r (λ id. TakesLeaf nk o p q id) OnlyMemory → Outcome text f (at Primary f) p q r
 leaf_outcome text f p q nk o k r e path = leaf_under text f p q nk o k r e (path text f)

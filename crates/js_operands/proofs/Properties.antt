@@ -14,7 +14,7 @@ use Rattle.js_grammar.proofs.Looks.{covers, apart, not_both}
 use Rattle.js_grammar.proofs.Calculus.{◌▹◌, ◌▹✗◌, both, done, fails_alt, fails_node, inside_full, left, right, stay}
 use Rattle.js_tree.specs.declared.id.NodeId.{NodeId}
 use Rattle.js_cursor.specs.Parsers.{Parser}
-use Rattle.js_operands.specs.Objects.{accessors, getter_of, method_left, named, setter_of, shorthand, value_left, with_method, with_value}
+use Rattle.js_operands.specs.Objects.{NoAsyncMethod, accessors, getter_of, method_left, methods, named, setter_of, shorthand, value_left, with_method, with_value}
 use Rattle.js_operands.specs.PropertyNames.{NameRead, NoName}
 use Rattle.js_operands.specs.Spreads.{spread}
 use Rattle.js_parsing.specs.declared.nested.MethodForm.TheVariants.{Method, Getter, Setter}
@@ -23,7 +23,6 @@ use Rattle.js_parsing.specs.Lexemes.{Lex, may_name, name_kinds, read_word}
 use Rattle.js_parsing.proofs.NamedFirsts.{fails_unnamed}
 use Rattle.js_parsing.specs.Methods.{WholeTaken}
 use Rattle.js_parsing.specs.States.{At}
-use Rattle.js_parsing.proofs.Dead.{fails_dead}
 use Rattle.js_parsing.proofs.Parts.{part_from}
 use Rattle.js_parsing.proofs.Paths.{◌⟶✗◌, fails_at}
 use Rattle.js_operands.proofs.Methods.{no_first}
@@ -72,6 +71,13 @@ module _ {text : List ℕ} (f : Flags) {X : Test} {s : ℕ} where
     where
       so : (c : Bool) → Goes rule (Lex text) X end (forms c f) s (setter_of c f) s (λ us. us) (still 0)
       so c = right (v c) ▹ (right (w c) ▹ right (t c))
+
+  -- a method that is no accessor
+  pub only_methods : No text X s (shorthand f) → No text X s (spread f) → ((c : Bool) → No text X s (with_value c f)) → ((c : Bool) → No text X s (getter_of c f)) → ((c : Bool) → No text X s (setter_of c f)) → Goes rule (Lex text) X end (rule (at Property f)) s (methods f) s (λ us. us) (still 0)
+  only_methods n m v g t = only_forms n m ▹ both (so false) (so true)
+    where
+      so : (c : Bool) → Goes rule (Lex text) X end (forms c f) s (with_method c f) s (λ us. us) (still 0)
+      so c = right (v c) ▹ left (fails_alt (g c) (t c))
 
   only_method_so : (c : Bool) → No text X s (with_value c f) → No text X s (getter_of c f) → No text X s (setter_of c f) → Goes rule (Lex text) X end (forms c f) s (with_method c f) s (λ us. us) (still 0)
   only_method_so c v g t = right v ▹ left (fails_alt g t)
@@ -156,24 +162,28 @@ module _ {text : List ℕ} {f : Flags} {p : Parser} (a : At text f p) where
   -- a method, with its `*` or without one
   module _ (c : Bool) where
     abbrev unstarred : G
-    unstarred = nothing ▸ nothing ▸ nothing ▸ name c false f ▸ method_left Method false f
+    unstarred = nothing ▸ nothing ▸ nothing ▸ name c false f ▸ method_left Method false false f
 
     abbrev starred : G
-    starred = nothing ▸ tok Star ▸ nothing ▸ name c false f ▸ method_left Method true f
+    starred = nothing ▸ tok Star ▸ nothing ▸ name c false f ▸ method_left Method false true f
 
-    pub without_star : one_of_kinds (Star ∷ []) p.token.kind ≡ false → Goes rule (Lex text) (plain full) end (plain_method nothing c false f) p.prev_token_end (name c false f ▸ method_left Method false f) p.prev_token_end (λ us. us) (still 0)
+    pub no_async_line : one_of_kinds (Async ∷ []) p.token.kind ≡ false → NoAsyncMethod text c f p.prev_token_end
     unfolding covers apart
-    without_star n = left (fails_dead _ refl) ▹ (left (fails_at a starred (Star ∷ []) refl n) ▹ (done ▹ (done ▹ done)))
+    no_async_line n s = no_first (no_first (fails_at a (tok Async) (Async ∷ []) refl n))
 
-    pub with_star : p.token.kind ≡ Star → Goes rule (Lex text) (plain full) end (plain_method nothing c false f) p.prev_token_end (tok Star ▸ nothing ▸ name c false f ▸ method_left Method true f) p.prev_token_end (λ us. us) (still 0)
+    pub without_star : one_of_kinds (Star ∷ []) p.token.kind ≡ false → NoAsyncMethod text c f p.prev_token_end → Goes rule (Lex text) (plain full) end (plain_method nothing c false f) p.prev_token_end (name c false f ▸ method_left Method false false f) p.prev_token_end (λ us. us) (still 0)
     unfolding covers apart
-    with_star k = left (fails_dead _ refl) ▹ (right ((done ▹ (done ▹ done)) ▹✗ no_first (no_name_begins c (ap (one_of_kinds property_name_kinds) k))) ▹ done)
+    without_star n k = left (fails_alt (k false) (k true)) ▹ (left (fails_at a starred (Star ∷ []) refl n) ▹ (done ▹ (done ▹ done)))
+
+    pub with_star : p.token.kind ≡ Star → Goes rule (Lex text) (plain full) end (plain_method nothing c false f) p.prev_token_end (tok Star ▸ nothing ▸ name c false f ▸ method_left Method false true f) p.prev_token_end (λ us. us) (still 0)
+    unfolding covers apart
+    with_star k = left (fails_alt (no_async_line (ap (one_of_kinds (Async ∷ [])) k) false) (no_async_line (ap (one_of_kinds (Async ∷ [])) k) true)) ▹ (right ((done ▹ (done ▹ done)) ▹✗ no_first (no_name_begins c (ap (one_of_kinds property_name_kinds) k))) ▹ done)
 
     pub no_value : NoName text c f p.prev_token_end → Fails rule (Lex text) behind_item end (with_value c f) p.prev_token_end
     no_value n = fails_node inside_full (no_first n)
 
-    pub no_method : one_of_kinds (Star ∷ []) p.token.kind ≡ false → NoName text c f p.prev_token_end → Fails rule (Lex text) behind_item end (with_method c f) p.prev_token_end
-    no_method i n = fails_node inside_full (without_star i ▹✗ no_first n)
+    pub no_method : one_of_kinds (Star ∷ []) p.token.kind ≡ false → NoAsyncMethod text c f p.prev_token_end → NoName text c f p.prev_token_end → Fails rule (Lex text) behind_item end (with_method c f) p.prev_token_end
+    no_method i k n = fails_node inside_full (without_star i k ▹✗ no_first n)
 
   -- ---- behind its name
 
@@ -188,9 +198,9 @@ module _ {text : List ℕ} {f : Flags} {p : Parser} (a : At text f p) where
     unfolding covers apart
     no_value_behind n = fails_node inside_full (part_under name_part ⟶✗ fails_at x.at (value_left f) (Colon ∷ []) refl n)
 
-    pub no_method_behind : one_of_kinds (Star ∷ []) p.token.kind ≡ false → one_of_kinds (LParen ∷ []) q.token.kind ≡ false → Fails rule (Lex text) behind_item end (with_method c f) p.prev_token_end
+    pub no_method_behind : one_of_kinds (Star ∷ []) p.token.kind ≡ false → NoAsyncMethod text c f p.prev_token_end → one_of_kinds (LParen ∷ []) q.token.kind ≡ false → Fails rule (Lex text) behind_item end (with_method c f) p.prev_token_end
     unfolding covers apart
-    no_method_behind i n = fails_node inside_full (without_star c i ▹✗ (part_under name_part ⟶✗ fails_at x.at (method_left Method false f) (LParen ∷ []) refl n))
+    no_method_behind i k n = fails_node inside_full (without_star c i k ▹✗ (part_under name_part ⟶✗ fails_at x.at (method_left Method false false f) (LParen ∷ []) refl n))
 
-    pub method_part : one_of_kinds (Star ∷ []) p.token.kind ≡ false → Partway text f (plain_method nothing c false f) (method_left Method false f) p q [] (Some id ∷ [])
-    method_part i = part_from (without_star c i) name_part
+    pub method_part : one_of_kinds (Star ∷ []) p.token.kind ≡ false → NoAsyncMethod text c f p.prev_token_end → Partway text f (plain_method nothing c false f) (method_left Method false false f) p q [] (Some id ∷ [])
+    method_part i k = part_from (without_star c i k) name_part

@@ -5,7 +5,7 @@ use Rattle.std.proofs.lemmas.Bool.{false≢true}
 use Rattle.js_base.specs.Kinds.{same_kind, one_of_kinds}
 use Rattle.js_base.specs.Texts.{words}
 use Rattle.js_base.specs.declared.kind.Kind.{Kind}
-use Rattle.js_base.specs.declared.kind.Kind.TheVariants.{Colon, Dot3, Get, LBrack, LParen, PrivateIdentifier, Set, Star}
+use Rattle.js_base.specs.declared.kind.Kind.TheVariants.{Async, Colon, Dot3, Get, LBrack, LParen, PrivateIdentifier, Set, Star}
 use Rattle.js_grammar.specs.Lexemes.{is_word}
 use Rattle.js_grammar.specs.Grammar.{Look, nothing}
 use Rattle.js_grammar.specs.Parsing.{still, Goes, Fails}
@@ -16,7 +16,7 @@ use Rattle.js_grammar.proofs.Looks.{covers, covered, apart}
 use Rattle.js_grammar.proofs.Calculus.{◌▹✗◌, done, fails_alt, fails_node, fails_rule, inside_full, left, right}
 use Rattle.js_tree.specs.declared.id.NodeId.{NodeId}
 use Rattle.js_cursor.specs.Parsers.{Parser}
-use Rattle.js_operands.specs.Objects.{Begins, accessors, ReadsMethod, ends_name_kinds, form_of, getter_of, method_left, named, setter_of, shorthand, with_method}
+use Rattle.js_operands.specs.Objects.{Begins, NoAsyncMethod, ReadsAsyncMethod, accessors, begins_async, methods, ReadsMethod, ends_name_kinds, form_of, getter_of, method_left, named, setter_of, shorthand, with_method}
 use Rattle.js_operands.specs.PropertyNames.{NameRead, NoName, NoNames}
 use Rattle.js_cursor.specs.declared.stop.Stop.{Stop}
 use Rattle.js_operands.specs.declared.property_name.PropertyName.{PropertyName}
@@ -38,8 +38,8 @@ use Rattle.js_parsing.proofs.Moving.{beside_nodes, neither}
 use Rattle.js_parsing.proofs.Parts.{part_from, part_sign, parts}
 use Rattle.js_parsing.proofs.Paths.{◌⟶✗◌, token}
 use Rattle.js_operands.proofs.Methods.{no_first}
-use Rattle.js_operands.proofs.Properties.{behind_shorthand, forms, kinds_apart, name_part, no_forms, no_getter, no_method, no_name_begins, no_setter, no_named_shorthand, no_shorthand, no_spread, no_value, only_getters, only_method, only_named, only_setters, only_shorthand, only_spread, property_name_kinds, none_of_line, with_star, word_apart}
-use Rattle.js_operands.proofs.WordProperties.{no_accessor, no_dots, no_methods, no_star, no_values, not_alone, one_begins}
+use Rattle.js_operands.proofs.Properties.{behind_shorthand, forms, kinds_apart, name_part, no_async_line, no_forms, no_getter, no_method, no_name_begins, no_setter, no_named_shorthand, no_shorthand, no_spread, no_value, only_getters, only_method, only_methods, only_named, only_setters, only_shorthand, only_spread, property_name_kinds, none_of_line, with_star, word_apart}
+use Rattle.js_operands.proofs.WordProperties.{name_async, no_accessor, no_dots, no_methods, no_star, no_values, not_alone, one_begins}
 
 abbrev read_words : Look
 read_words k w e = read_word k
@@ -60,7 +60,7 @@ no_word_of ls d k h = go (one_of_kinds ls k) refl
 no_sign_of : (a b k : Kind) → one_of_kinds (a ∷ b ∷ []) k ≡ false → (one_of_kinds (a ∷ []) k ≡ false) × (one_of_kinds (b ∷ []) k ≡ false)
 no_sign_of a b k h = let z = neither (same_kind a k) (same_kind b k || false) h in (ap (λ (x : Bool). x || false) z.0, z.1)
 
-no_kind_of : (a b k : Kind) (ks : List Kind) → one_of_kinds (a ∷ b ∷ ks) k ≡ false → (one_of_kinds (a ∷ []) k ≡ false) × (one_of_kinds (b ∷ []) k ≡ false) × (one_of_kinds ks k ≡ false)
+pub no_kind_of : (a b k : Kind) (ks : List Kind) → one_of_kinds (a ∷ b ∷ ks) k ≡ false → (one_of_kinds (a ∷ []) k ≡ false) × (one_of_kinds (b ∷ []) k ≡ false) × (one_of_kinds ks k ≡ false)
 no_kind_of a b k ks h = let z = neither (same_kind a k) _ h in let y = neither (same_kind b k) _ z.1 in (ap (λ (x : Bool). x || false) z.0, ap (λ (x : Bool). x || false) y.0, y.1)
 
 module _ {text : List ℕ} {f : Flags} {p : Parser} (a : At text f p) where
@@ -69,7 +69,7 @@ module _ {text : List ℕ} {f : Flags} {p : Parser} (a : At text f p) where
   dots_only k =
       let i = ap (one_of_kinds property_name_kinds) k in
       let s = ap (one_of_kinds (Star ∷ [])) k in
-      only_spread f (no_shorthand a (ap (one_of_kinds name_kinds) k)) (λ c. no_forms f c (no_value a c (no_name_begins a c i)) (no_method a c s (no_name_begins a c i)) (no_getter a c (ap (one_of_kinds (Get ∷ [])) k)) (no_setter a c (ap (one_of_kinds (Set ∷ [])) k)))
+      only_spread f (no_shorthand a (ap (one_of_kinds name_kinds) k)) (λ c. no_forms f c (no_value a c (no_name_begins a c i)) (no_method a c s (no_async_line a c (ap (one_of_kinds (Async ∷ [])) k)) (no_name_begins a c i)) (no_getter a c (ap (one_of_kinds (Get ∷ [])) k)) (no_setter a c (ap (one_of_kinds (Set ∷ [])) k)))
 
   -- a name that is no word
   module _ (w : read_word p.token.kind ≡ false) (h : one_of_kinds (Dot3 ∷ Star ∷ []) p.token.kind ≡ false) where
@@ -88,11 +88,15 @@ module _ {text : List ℕ} {f : Flags} {p : Parser} (a : At text f p) where
     pub other_star : one_of_kinds (Star ∷ []) p.token.kind ≡ false
     other_star = (no_sign_of Dot3 Star p.token.kind h).1
 
+    pub other_async : (c : Bool) → NoAsyncMethod text c f p.prev_token_end
+    unfolding covers
+    other_async c = no_async_line a c (no_word_of (Async ∷ []) refl p.token.kind w)
+
     other_dots : one_of_kinds (Dot3 ∷ []) p.token.kind ≡ false
     other_dots = (no_sign_of Dot3 Star p.token.kind h).0
 
     no_other : (c : Bool) → NoName text c f p.prev_token_end → Fails rule (Lex text) behind_item end (forms c f) p.prev_token_end
-    no_other c n = no_forms f c (no_value a c n) (no_method a c other_star n) (no_getter a c no_get) (no_setter a c no_set)
+    no_other c n = no_forms f c (no_value a c n) (no_method a c other_star (other_async c) n) (no_getter a c no_get) (no_setter a c no_set)
 
     pub other_named : {q : Parser} {id : NodeId} (c : Bool) → NameRead text f c p q id → Goes rule (Lex text) behind_item end (rule (at Property f)) p.prev_token_end (named c f) p.prev_token_end (λ us. us) (still 0)
     other_named c x = only_named f c (no_shorthand a no_reference) (no_spread a other_dots) (no_getter a c no_get) (no_setter a c no_set) (no_other (not c) x.other)
@@ -108,7 +112,7 @@ module _ {text : List ℕ} {f : Flags} {p : Parser} (a : At text f p) where
     no_first_name : (c : Bool) → NoName text c f p.prev_token_end
     no_first_name c = no_name_begins a c (ap (one_of_kinds property_name_kinds) k)
 
-    pub starred_part : {r : Parser} {id : NodeId} (c : Bool) → NameRead text f c q r id → Partway text f (plain_method nothing c false f) (method_left Method true f) p r [] (Some id ∷ [])
+    pub starred_part : {r : Parser} {id : NodeId} (c : Bool) → NameRead text f c q r id → Partway text f (plain_method nothing c false f) (method_left Method false true f) p r [] (Some id ∷ [])
     starred_part c x = part_from (with_star a c k) (parts (part_sign Star a k e refl m) (part_from done (name_part m.at c x)))
 
     pub starred_only : {r : Parser} {id : NodeId} (c : Bool) → NameRead text f c q r id → Goes rule (Lex text) behind_item end (rule (at Property f)) p.prev_token_end (with_method c f) p.prev_token_end (λ us. us) (still 0)
@@ -132,23 +136,29 @@ module _ {text : List ℕ} {f : Flags} {p : Parser} (a : At text f p) where
     accessor_only Method z = absurd z.0
     accessor_only Getter z =
         let h = no_kind_of Colon LParen q.token.kind behind_shorthand z.1 in
-        only_getters f (no_shorthand_so h.2) (no_spread a (no_dots a r e m)) (no_values a r e m h.0) (no_methods a r e m h.1) (λ c. no_setter a c (ap (one_of_kinds (Set ∷ [])) z.0))
+        only_getters f (no_shorthand_so h.2) (no_spread a (no_dots a r e m)) (no_values a r e m h.0) (no_methods a r e m (λ c. no_async_line a c (ap (one_of_kinds (Async ∷ [])) z.0)) h.1) (λ c. no_setter a c (ap (one_of_kinds (Set ∷ [])) z.0))
     accessor_only Setter z =
         let h = no_kind_of Colon LParen q.token.kind behind_shorthand z.1 in
-        only_setters f (no_shorthand_so h.2) (no_spread a (no_dots a r e m)) (no_values a r e m h.0) (no_methods a r e m h.1) (λ c. no_getter a c (ap (one_of_kinds (Get ∷ [])) z.0))
+        only_setters f (no_shorthand_so h.2) (no_spread a (no_dots a r e m)) (no_values a r e m h.0) (no_methods a r e m (λ c. no_async_line a c (ap (one_of_kinds (Async ∷ [])) z.0)) h.1) (λ c. no_getter a c (ap (one_of_kinds (Get ∷ [])) z.0))
+
+    -- the `async` of a method
+    pub async_only : p.token.kind ≡ Async → one_of_kinds ends_name_kinds q.token.kind ≡ false → Goes rule (Lex text) behind_item end (rule (at Property f)) p.prev_token_end (methods f) p.prev_token_end (λ us. us) (still 0)
+    async_only k z =
+        let h = no_kind_of Colon LParen q.token.kind behind_shorthand z in
+        only_methods f (no_shorthand_so h.2) (no_spread a (no_dots a r e m)) (no_values a r e m h.0) (λ c. no_getter a c (ap (one_of_kinds (Get ∷ [])) k)) (λ c. no_setter a c (ap (one_of_kinds (Set ∷ [])) k))
 
     -- its name alone
-    pub shorthand_only : form_of p.token.kind q.token.kind ≡ None → one_of_kinds (Colon ∷ LParen ∷ []) q.token.kind ≡ false → Goes rule (Lex text) behind_item end (rule (at Property f)) p.prev_token_end (shorthand f) p.prev_token_end (λ us. us) (still 0)
-    shorthand_only n h =
+    pub shorthand_only : form_of p.token.kind q.token.kind ≡ None → begins_async p.token.kind q.token.kind q.token.is_on_new_line ≡ false → one_of_kinds (Colon ∷ LParen ∷ []) q.token.kind ≡ false → Goes rule (Lex text) behind_item end (rule (at Property f)) p.prev_token_end (shorthand f) p.prev_token_end (λ us. us) (still 0)
+    shorthand_only n j h =
         let z = no_sign_of Colon LParen q.token.kind h in
-        only_shorthand f (λ c. let y = no_accessor a r e m n c in no_forms f c (no_values a r e m z.0 c) (no_methods a r e m z.1 c) y.0 y.1) (no_spread a (no_dots a r e m))
+        only_shorthand f (λ c. let y = no_accessor a r e m n c in no_forms f c (no_values a r e m z.0 c) (no_methods a r e m (name_async a r e m j) z.1 c) y.0 y.1) (no_spread a (no_dots a r e m))
 
     -- its name with something behind it
-    pub word_only : form_of p.token.kind q.token.kind ≡ None → (may_name f.yield_ f.await_ p.token.kind && not (one_of_kinds (Colon ∷ LParen ∷ []) q.token.kind)) ≡ false → NoName text true f p.prev_token_end → Goes rule (Lex text) behind_item end (rule (at Property f)) p.prev_token_end (named false f) p.prev_token_end (λ us. us) (still 0)
+    pub word_only : form_of p.token.kind q.token.kind ≡ None → begins_async p.token.kind q.token.kind q.token.is_on_new_line ≡ false → (may_name f.yield_ f.await_ p.token.kind && not (one_of_kinds (Colon ∷ LParen ∷ []) q.token.kind)) ≡ false → NoName text true f p.prev_token_end → Goes rule (Lex text) behind_item end (rule (at Property f)) p.prev_token_end (named false f) p.prev_token_end (λ us. us) (still 0)
     unfolding apart
-    word_only n h o =
+    word_only n j h o =
         let y = no_accessor a r e m n in
-        only_named f false no_short (no_spread a (no_dots a r e m)) (y false).0 (y false).1 (no_forms f true (no_value a true o) (no_method a true (no_star a r e m) o) (y true).0 (y true).1)
+        only_named f false no_short (no_spread a (no_dots a r e m)) (y false).0 (y false).1 (no_forms f true (no_value a true o) (no_method a true (no_star a r e m) (name_async a r e m j true) o) (y true).0 (y true).1)
       where
         go : (b c : Bool) → may_name f.yield_ f.await_ p.token.kind ≡ b → one_of_kinds (Colon ∷ LParen ∷ []) q.token.kind ≡ c → (b && not c) ≡ false → Fails rule (Lex text) behind_item end (shorthand f) p.prev_token_end
         go true true i j z = not_alone a i e m (kinds_apart (Colon ∷ LParen ∷ []) behind_shorthand refl q.token.kind j)
@@ -161,10 +171,10 @@ module _ {text : List ℕ} {f : Flags} {p : Parser} (a : At text f p) where
 -- ---- an accessor, from its name on
 
 module _ {text : List ℕ} {f : Flags} {p q : Parser} (a : At text f p) (e : p.token.escaped ≡ false) (m : Moved text f p q) where
-  get_part : {r : Parser} {id : NodeId} → p.token.kind ≡ Get → (c : Bool) → NameRead text f c q r id → Partway text f (getter c false f) (method_left Getter false f) p r [] (Some id ∷ [])
+  get_part : {r : Parser} {id : NodeId} → p.token.kind ≡ Get → (c : Bool) → NameRead text f c q r id → Partway text f (getter c false f) (method_left Getter false false f) p r [] (Some id ∷ [])
   get_part k c x = parts (part_sign Get a k e refl m) (name_part m.at c x)
 
-  set_part : {r : Parser} {id : NodeId} → p.token.kind ≡ Set → (c : Bool) → NameRead text f c q r id → Partway text f (setter c false f) (method_left Setter false f) p r [] (Some id ∷ [])
+  set_part : {r : Parser} {id : NodeId} → p.token.kind ≡ Set → (c : Bool) → NameRead text f c q r id → Partway text f (setter c false f) (method_left Setter false false f) p r [] (Some id ∷ [])
   set_part k c x = parts (part_sign Set a k e refl m) (name_part m.at c x)
 
   no_get_named : p.token.kind ≡ Get → (c : Bool) → NoName text c f q.prev_token_end → Fails rule (Lex text) behind_item end (getter_of c f) p.prev_token_end
@@ -187,7 +197,7 @@ module _ {text : List ℕ} {f : Flags} {p q : Parser} (a : At text f p) (e : p.t
   set_only k false n = left (no_set_named k true n)
   set_only k true n = right (no_set_named k false n)
 
-  pub accessor_read : {r : Parser} {start : ℕ} (w : Parser) (v : Result NodeId Stop) (form : MethodForm) (n : PropertyName) → start ≡ p.token.span.start → Begins form p.token.kind → NameRead text f n.computed q r n.key → ReadsMethod start n form false r w v → PartOutcome text f (accessors form f) p w v
+  pub accessor_read : {r : Parser} {start : ℕ} (w : Parser) (v : Result NodeId Stop) (form : MethodForm) (n : PropertyName) → start ≡ p.token.span.start → Begins form p.token.kind → NameRead text f n.computed q r n.key → ReadsMethod start n form false false r w v → PartOutcome text f (accessors form f) p w v
   accessor_read w v Method n s k x y = absurd k
   accessor_read w v Getter n s k x y = part_by text f p w v (get_only k n.computed x.other) (y text f p _ a s (get_part k n.computed x))
   accessor_read w v Setter n s k x y = part_by text f p w v (set_only k n.computed x.other) (y text f p _ a s (set_part k n.computed x))

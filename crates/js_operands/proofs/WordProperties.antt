@@ -5,7 +5,7 @@ use Rattle.std.proofs.lemmas.Bool.{false≢true, and_parts, or_left}
 use Rattle.js_base.specs.Kinds.{same_kind, one_of_kinds}
 use Rattle.js_base.specs.Texts.{words}
 use Rattle.js_base.specs.declared.kind.Kind.{Kind}
-use Rattle.js_base.specs.declared.kind.Kind.TheVariants.{Colon, Comma, Dot3, Eof, Eq, Get, LBrack, LParen, PrivateIdentifier, RBrack, RCurly, RParen, Set, Star}
+use Rattle.js_base.specs.declared.kind.Kind.TheVariants.{Async, Colon, Comma, Dot3, Eof, Eq, Get, LBrack, LParen, PrivateIdentifier, RBrack, RCurly, RParen, Set, Star}
 use Rattle.js_base.specs.declared.span.Span.{Span}
 use Rattle.js_base.proofs.KindLemmas.{kind_of_same}
 use Rattle.js_grammar.specs.Insertion.{is_word}
@@ -14,12 +14,12 @@ use Rattle.js_grammar.specs.Trees.{Label, Slots, end, tree, no_op, init, identif
 use Rattle.js_grammar.specs.Grammar.{Lexeme, Lexemes, last, next, here, Look, ahead, never, nothing, Takes, is_nothing, ◌▸◌, ◌◇◌}
 use Rattle.js_grammar.specs.Lexed.{Lexes}
 use Rattle.js_grammar.specs.Parsing.{Test, plain, full, still, passing, Reaches, Goes, Reads, Fails}
-use Rattle.js_grammar.specs.Productions.{G, Flags, at, plus_in, shorthand_flag, Assignment, IdentifierName, IdentifierReference, Init}
+use Rattle.js_grammar.specs.Productions.{G, Flags, at, no_newline, only, plus_in, shorthand_flag, tok, Assignment, IdentifierName, IdentifierReference, Init}
 use Rattle.js_grammar.specs.Productions.{sym as symbol}
 use Rattle.js_grammar.specs.Table.{rule, rule_of, name, string, number}
 use Rattle.js_grammar.specs.Follow.{after}
 use Rattle.js_grammar.proofs.Looks.{covers, covered, apart}
-use Rattle.js_grammar.proofs.Calculus.{◌▹◌, ◌▹✗◌, aheads, by_rule, ends, fails_node, fails_nothing, fails_rule, fails_under, here_at, inside_full, inside_plain, left, makes_by, reaches_less, right, then_by, part_fails, weaken_fails, where_true}
+use Rattle.js_grammar.proofs.Calculus.{◌▹◌, ◌▹✗◌, done, aheads, by_rule, ends, fails_node, fails_nothing, fails_rule, fails_under, here_at, inside_full, inside_plain, left, makes_by, reaches_less, right, then_by, part_fails, weaken_fails, where_true}
 use Rattle.js_tree.specs.declared.id.NodeId.{NodeId}
 use Rattle.js_tree.specs.declared.kind.NodeKind.TheVariants as node
 use Rattle.js_tree.specs.declared.op.Op.TheVariants as op_made
@@ -30,7 +30,7 @@ use Rattle.js_cursor.specs.Parsers.{Parser}
 use Rattle.js_cursor.specs.declared.stop.Stop.{Stop}
 use Rattle.js_tree.specs.declared.op.PropertyKind.TheVariants as property
 use Rattle.js_parsing.specs.Nesting.{room}
-use Rattle.js_operands.specs.Objects.{Begins, ends_name_kinds, form_of, getter_of, method_left, property_label, setter_of, shorthand, value_left, with_method, with_value}
+use Rattle.js_operands.specs.Objects.{Begins, NoAsyncMethod, async_line, begins_async, ends_name_kinds, form_of, getter_of, method_left, property_label, setter_of, shorthand, value_left, with_method, with_value}
 use Rattle.js_operands.specs.PropertyNames.{NoName}
 use Rattle.js_parsing.specs.declared.nested.MethodForm.{MethodForm}
 use Rattle.js_parsing.specs.declared.nested.MethodForm.TheVariants.{Method, Getter, Setter}
@@ -47,10 +47,12 @@ use Rattle.js_parsing.proofs.Moving.{beside_nodes, same_both, same_with, stops_b
 use Rattle.js_parsing.proofs.Paths.{Path, ◌⟼◌, ◌⟶◌, ◌⟶✗◌, by_symbol_as, fails_at, flagged_by, flagged_here, label_here, last_called, noded, one_read, passes_test, read_of, token}
 use Rattle.js_parsing.proofs.Signs.{other_kind, plain_sign}
 use Rattle.js_parsing.proofs.Verdicts.{grown_then, verdict_of}
-use Rattle.js_operands.proofs.Members.{name_of, word_signless}
+use Rattle.js_operands.proofs.Members.{name_of, word_signless, word_signless}
+use Rattle.js_parsing.proofs.Parts.{part_path_fails, part_sign}
+use Rattle.js_operands.proofs.AsyncWords.{no_same_line, part_within, same_line}
 use Rattle.js_operands.proofs.Methods.{no_first}
 use Rattle.js_operands.proofs.Operands.{name_leaf}
-use Rattle.js_operands.proofs.Properties.{behind_shorthand, initialiser, kinds_apart, no_getter, no_method, no_name_begins, no_setter, no_value, property_name_kinds, without_star, word_apart}
+use Rattle.js_operands.proofs.Properties.{behind_shorthand, initialiser, kinds_apart, no_async_line, no_getter, no_method, no_name_begins, no_setter, no_value, property_name_kinds, without_star, word_apart}
 use Rattle.js_operands.proofs.PropertyNames.{literal_kinds}
 use Rattle.js_operands.proofs.Spreads.{ends_there}
 use Rattle.js_operands.proofs.Wholes.{part_answers}
@@ -158,10 +160,34 @@ module _ {text : List ℕ} {f : Flags} {p q : Parser} (a : At text f p) (r : rea
   no_values h true = no_value a true no_bracket
   no_values h false = fails_node inside_full (word_path ⟶✗ fails_at m.at (value_left f) (Colon ∷ []) refl h)
 
-  pub no_methods : one_of_kinds (LParen ∷ []) q.token.kind ≡ false → (c : Bool) → Fails rule (Lex text) behind_item end (with_method c f) p.prev_token_end
+  -- `async` is no method's, where a name ends behind it, or its line
+  pub name_async : begins_async p.token.kind q.token.kind q.token.is_on_new_line ≡ false → (c : Bool) → NoAsyncMethod text c f p.prev_token_end
   unfolding covers apart
-  no_methods h true = no_method a true no_star no_bracket
-  no_methods h false = fails_node inside_full (without_star a false no_star ▹✗ (word_path ⟶✗ fails_at m.at (method_left Method false f) (LParen ∷ []) refl h))
+  name_async h c b = go (same_kind Async p.token.kind) (one_of_kinds ends_name_kinds q.token.kind) q.token.is_on_new_line refl refl refl h
+    where
+      behind : (b : Bool) → one_of_kinds ends_name_kinds q.token.kind ≡ true → Fails rule (Lex text) (plain full) end (only b (tok Star) ▸ nothing ▸ name c false f ▸ method_left Method true b f) q.prev_token_end
+      behind true e = no_first (fails_at m.at (tok Star) (Star ∷ []) refl (kinds_apart ends_name_kinds (Star ∷ []) refl q.token.kind e))
+      behind false e = done ▹✗ (done ▹✗ no_first (no_name_begins m.at c (kinds_apart ends_name_kinds property_name_kinds refl q.token.kind e)))
+
+      at_async : same_kind Async p.token.kind ≡ true → Fails rule (Lex text) (plain full) end (no_newline ▸ only b (tok Star) ▸ nothing ▸ name c false f ▸ method_left Method true b f) q.prev_token_end → Fails rule (Lex text) (plain full) end (async_line c b f) p.prev_token_end
+      at_async k i = part_path_fails {ids = []} {js = []} (part_within (part_sign Async a (sym (kind_of_same Async p.token.kind k)) n refl m)) i
+
+      go : (x y z : Bool) → same_kind Async p.token.kind ≡ x → one_of_kinds ends_name_kinds q.token.kind ≡ y → q.token.is_on_new_line ≡ z → (if y || z then false else x) ≡ false → Fails rule (Lex text) (plain full) end (async_line c b f) p.prev_token_end
+      go false y z k e w h = no_async_line a c (ap (λ (x : Bool). x || false) k) b
+      go true y true k e w h = at_async k (no_same_line m.at w)
+      go true true false k e w h = at_async k (same_line m.at w ▹✗ behind b e)
+      go true false false k e w h = absurd (false≢true (sym h))
+
+  -- nor one without `async`
+  pub no_plain : one_of_kinds (LParen ∷ []) q.token.kind ≡ false → (c : Bool) → Fails rule (Lex text) (plain full) end (name c false f ▸ method_left Method false false f) p.prev_token_end
+  unfolding covers apart
+  no_plain h true = no_first no_bracket
+  no_plain h false = word_path ⟶✗ fails_at m.at (method_left Method false false f) (LParen ∷ []) refl h
+
+  pub no_methods : ((c : Bool) → NoAsyncMethod text c f p.prev_token_end) → one_of_kinds (LParen ∷ []) q.token.kind ≡ false → (c : Bool) → Fails rule (Lex text) behind_item end (with_method c f) p.prev_token_end
+  unfolding covers apart
+  no_methods k h true = no_method a true no_star (k true) no_bracket
+  no_methods k h false = fails_node inside_full (without_star a false no_star (k false) ▹✗ no_plain h false)
 
   -- no accessor, where a name ends behind `get` and `set`
   no_getter_behind : one_of_kinds ends_name_kinds q.token.kind ≡ true → (c : Bool) → Fails rule (Lex text) behind_item end (getter_of c f) p.prev_token_end

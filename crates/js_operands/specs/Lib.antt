@@ -2,6 +2,7 @@ pub mod Arrays
 pub mod Functions
 pub mod Marked
 pub mod Members
+pub mod NewTargets
 pub mod Numbers
 pub mod Objects
 pub mod PropertyNames

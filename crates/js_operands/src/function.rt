@@ -1,16 +1,15 @@
-//! Functions and generators (ECMA-262, sections 15.2 and 15.5).
+//! Functions and generators, asynchronous or not (ECMA-262, sections 15.2, 15.5, 15.6 and 15.8).
 
-ghost use Rattle.std.specs.Prelude.{◌≡◌, ◌∷◌, [], IfOk, Some, true};
-ghost use Rattle.js_base.specs.declared.kind.Kind.TheVariants.{Function};
-ghost use Rattle.js_grammar.specs.Productions.{at, flag, generator_flag, Primary};
+ghost use Rattle.std.specs.Prelude.{◌≡◌, ◌+◌, ◌∷◌, [], IfOk, MatchResult, Some, true};
+ghost use Rattle.js_cursor.specs.Moves.{OnlyMemory};
+ghost use Rattle.js_grammar.specs.Productions.{at, async_flag, flag, generator_flag, Primary};
 ghost use Rattle.js_parsing.specs.Answers.{Answers};
 ghost use Rattle.js_parsing.specs.Moves.{MadeHere, plain_label};
 ghost use Rattle.js_parsing.specs.Nesting.{CanNest, room};
-ghost use Rattle.js_parsing.specs.Stands.{StandsHere};
 ghost use Rattle.js_parsing.specs.States.{Standing};
 ghost use Rattle.js_tree.specs.declared.op.Op.TheVariants as op;
 ghost use Rattle.js_tree.specs.Labels.{number_of};
-ghost use Rattle.js_operands.specs.Functions.{NamesFunction, TakesName, TakesParts};
+ghost use Rattle.js_operands.specs.Functions.{BeginsFunction, FunctionBehind, FunctionHere, NamesFunction, TakesName, TakesParts};
 
 use crate::primary::parse_leaf;
 use js_base::{DiagnosticKind, Kind, NoMemory, Span};
@@ -18,22 +17,24 @@ use js_cursor::{ParserImpl, Stop};
 use js_lex::ParserConfig;
 use js_parsing::context::{body_of_function, parameters_of_function};
 use js_parsing::diagnostics::diagnostic_at;
-use js_parsing::lexemes::{advance, name_stands, name_stands_under};
+use js_parsing::lexemes::{advance, name_stands, name_stands_under, stands};
 use js_parsing::nested::Nested;
 use js_tree::{NodeFlags, NodeId, NodeKind, Op};
 
 /// Where a function stands.
 #[derive(Clone, Copy)]
 pub enum FunctionForm {
-    /// A FunctionDeclaration or a GeneratorDeclaration, which has a name.
+    /// A FunctionDeclaration or its kin, which has a name.
     Declaration,
-    /// A FunctionExpression or a GeneratorExpression.
+    /// A FunctionExpression or its kin.
     Expression,
 }
 
 /// What a function is made of.
 #[derive(Clone, Copy)]
 pub struct FunctionParts {
+    /// Whether it is asynchronous.
+    pub is_async: bool,
     /// Whether it is a generator.
     pub is_generator: bool,
     /// Its name, if it has one.
@@ -46,7 +47,36 @@ pub struct FunctionParts {
     pub head_end: u32,
 }
 
-/// A FunctionExpression or a GeneratorExpression (ECMA-262, sections 15.2 and 15.5).
+/// Whether a function begins here: `function`, or `async` with `function` behind it on its line.
+pub fn function_stands<C: ParserConfig>(p: &mut ParserImpl<'_, C>) -> Result<bool, Stop>
+    requires { Standing p.old }
+    ensures { MatchResult result (λ found. FunctionHere p.old p.new found) OnlyMemory }
+{
+    if stands(p, Kind::Function) {
+        return Ok(true);
+    }
+    if !stands(p, Kind::Async) {
+        return Ok(false);
+    }
+    is_function_behind(p)
+}
+
+/// Whether `function` stands behind the current lexeme, on its line.
+fn is_function_behind<C: ParserConfig>(p: &mut ParserImpl<'_, C>) -> Result<bool, Stop>
+    requires { Standing p.old }
+    ensures { MatchResult result (λ found. FunctionBehind p.old p.new found) OnlyMemory }
+{
+    let next = p.peek_token()?;
+    if next.is_on_new_line() {
+        return Ok(false);
+    }
+    if next.escaped() {
+        return Ok(false);
+    }
+    Ok(matches!(next.kind(), Kind::Function))
+}
+
+/// A FunctionExpression or its kin (ECMA-262, sections 15.2, 15.5, 15.6 and 15.8).
 #[inline(never)]
 pub fn parse_function_expression<C: ParserConfig, N: Nested<C>>(
     p: &mut ParserImpl<'_, C>,
@@ -54,7 +84,7 @@ pub fn parse_function_expression<C: ParserConfig, N: Nested<C>>(
 ) -> Result<NodeId, Stop>
     requires at { Standing p.old }
     requires nests { CanNest (N.can nested.now) (room p.old) }
-    requires word { StandsHere p.old Function true }
+    requires word { BeginsFunction p.old }
     ensures { Answers (at Primary) p.old p.new result }
 {
     let start = p.cur_start();
@@ -64,7 +94,7 @@ pub fn parse_function_expression<C: ParserConfig, N: Nested<C>>(
     Ok(node)
 }
 
-/// The parts of a function or a generator from `function` on (ECMA-262, sections 15.2 and 15.5).
+/// The parts of a function from its first word on (ECMA-262, sections 15.2, 15.5, 15.6 and 15.8).
 #[inline(never)]
 pub fn parse_function_parts<C: ParserConfig, N: Nested<C>>(
     p: &mut ParserImpl<'_, C>,
@@ -73,16 +103,18 @@ pub fn parse_function_parts<C: ParserConfig, N: Nested<C>>(
 ) -> Result<FunctionParts, Stop>
     requires at { Standing p.old }
     requires nests { CanNest (N.can nested.now) (room p.old) }
-    requires word { StandsHere p.old Function true }
+    requires word { BeginsFunction p.old }
     ensures { TakesParts form p.old p.new result }
 {
+    let is_async = p.eat(Kind::Async)?;
     advance(p)?;
     let is_generator = p.eat(Kind::Star)?;
-    let name = parse_function_name(p, form, is_generator)?;
-    let parameters = parameters_of_function(p, nested, is_generator)?;
+    let name = parse_function_name(p, form, is_async, is_generator)?;
+    let parameters = parameters_of_function(p, nested, is_async, is_generator)?;
     let head_end = p.prev_token_end();
-    let body = body_of_function(p, nested, is_generator)?;
+    let body = body_of_function(p, nested, is_async, is_generator)?;
     Ok(FunctionParts {
+        is_async,
         is_generator,
         name,
         parameters,
@@ -92,17 +124,18 @@ pub fn parse_function_parts<C: ParserConfig, N: Nested<C>>(
 }
 
 /// Whether the name of a function stands here: that of an expression is a name by the parameters of the function itself
-/// (ECMA-262, sections 15.2 and 15.5).
+/// (ECMA-262, sections 15.2, 15.5, 15.6 and 15.8).
 fn function_name_stands<C: ParserConfig>(
     p: &ParserImpl<'_, C>,
     form: FunctionForm,
+    is_async: bool,
     is_generator: bool,
 ) -> bool
-    ensures { NamesFunction form is_generator p.now result }
+    ensures { NamesFunction form is_async is_generator p.now result }
 {
     match form {
         FunctionForm::Declaration => name_stands(p),
-        FunctionForm::Expression => name_stands_under(p, is_generator, false),
+        FunctionForm::Expression => name_stands_under(p, is_generator, is_async),
     }
 }
 
@@ -110,12 +143,13 @@ fn function_name_stands<C: ParserConfig>(
 fn parse_function_name<C: ParserConfig>(
     p: &mut ParserImpl<'_, C>,
     form: FunctionForm,
+    is_async: bool,
     is_generator: bool,
 ) -> Result<Option<NodeId>, Stop>
     requires { Standing p.old }
-    ensures { TakesName form is_generator p.old p.new result }
+    ensures { TakesName form is_async is_generator p.old p.new result }
 {
-    if function_name_stands(p, form, is_generator) {
+    if function_name_stands(p, form, is_async, is_generator) {
         let name = parse_leaf(p, NodeKind::BindingIdentifier, Op::None)?;
         return Ok(Some(name));
     }
@@ -137,18 +171,20 @@ pub fn make_function<C: ParserConfig>(
     span: Span,
     parts: FunctionParts,
 ) -> Result<NodeId, NoMemory>
-    ensures { IfOk result (λ id. MadeHere (record (plain_label kind op.None span) { flags = flag parts.is_generator generator_flag }) (parts.name ∷ Some parts.parameters ∷ Some parts.body ∷ []) p.old p.new id) }
+    ensures { IfOk result (λ id. MadeHere (record (plain_label kind op.None span) { flags = flag parts.is_async async_flag + flag parts.is_generator generator_flag }) (parts.name ∷ Some parts.parameters ∷ Some parts.body ∷ []) p.old p.new id) }
 {
-    let flags = function_flags(parts.is_generator);
+    let flags = function_flags(parts.is_async, parts.is_generator);
     let children = [parts.name, Some(parts.parameters), Some(parts.body)];
     p.ast.node_of_three(kind, span, Op::None, flags, children)
 }
 
-/// The flags of a function, or of a generator.
-fn function_flags(is_generator: bool) -> NodeFlags
-    ensures { number_of result ≡ flag is_generator generator_flag }
+/// The flags of a function, which is asynchronous or not, and a generator or not.
+pub fn function_flags(is_async: bool, is_generator: bool) -> NodeFlags
+    ensures { number_of result ≡ flag is_async async_flag + flag is_generator generator_flag }
 {
-    let mut flags = NodeFlags::default();
-    flags.generator = is_generator;
-    flags
+    NodeFlags {
+        is_async,
+        generator: is_generator,
+        ..NodeFlags::default()
+    }
 }

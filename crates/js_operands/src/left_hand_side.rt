@@ -19,6 +19,7 @@ ghost use Rattle.js_parsing.specs.States.{Standing};
 ghost use Rattle.js_operands.specs.declared.left_hand_side.LinkBase.TheVariants as base;
 
 use crate::arguments::parse_call_arguments;
+use crate::new_target::parse_new_target;
 use crate::primary::{parse_leaf, parse_primary_expression};
 use crate::template::{begins_template, parse_chained_template, parse_tagged_template};
 use js_base::{DiagnosticKind, Kind, NoMemory, Span};
@@ -69,6 +70,10 @@ fn parse_member_expression_or_higher<C: ParserConfig, N: Nested<C>>(
     let start = p.cur_start();
     if stands(p, Kind::New) {
         advance(p)?;
+        if stands(p, Kind::Dot) {
+            let target = parse_new_target(p, start)?;
+            return parse_member_expression_rest(p, nested, start, target);
+        }
         p.enter(1)?;
         let callee = parse_member_expression_or_higher(p, nested)?;
         p.leave(1);

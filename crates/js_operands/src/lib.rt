@@ -6,6 +6,7 @@ pub mod arguments;
 pub mod array;
 pub mod function;
 pub mod left_hand_side;
+pub mod new_target;
 pub mod object;
 pub mod primary;
 pub mod property_name;

@@ -8,7 +8,7 @@ ghost use Rattle.js_cursor.specs.Moves.{Opened};
 ghost use Rattle.js_grammar.specs.Productions.{at, body_of, computed_flag, flag, generator_flag, method_flag, params_of, shorthand_flag, Primary, Property};
 ghost use Rattle.js_tree.specs.Labels.{number_of};
 ghost use Rattle.js_tree.specs.declared.op.PropertyKind.TheVariants.{Init};
-ghost use Rattle.js_operands.specs.Objects.{NoProperties, Properties, ReadsAccessor, ReadsBehindName, ReadsMethod, ReadsShorthand, ReadsValue, TakesProperty, ends_name_kinds, flags_of_form, form_of, function_label, kind_of_form, method_left, property_label};
+ghost use Rattle.js_operands.specs.Objects.{NoProperties, Properties, ReadsAccessor, ReadsAsyncMethod, ReadsBehindName, begins_async, ReadsMethod, ReadsShorthand, ReadsValue, TakesProperty, ends_name_kinds, flags_of_form, form_of, function_label, kind_of_form, method_left, property_label};
 ghost use Rattle.js_parsing.specs.Answers.{Answers};
 ghost use Rattle.js_parsing.specs.Lexemes.{may_name, read_word};
 ghost use Rattle.js_parsing.specs.Lists.{ReadsItem};
@@ -19,8 +19,9 @@ ghost use Rattle.js_parsing.specs.Stands.{StandsHere};
 ghost use Rattle.js_parsing.specs.States.{Standing};
 
 use crate::arguments::parse_spread_element;
+use crate::function::function_flags;
 use crate::property_name::{PropertyName, parse_property_name};
-use js_base::{Kind, NoMemory, Span};
+use js_base::{Kind, NoMemory, Span, Token};
 use js_cursor::{ParserImpl, Stop};
 use js_lex::ParserConfig;
 use js_parsing::context::{assignment_with_in, body_of_function, parameters_in_method};
@@ -136,10 +137,29 @@ fn parse_generator_method<C: ParserConfig, N: Nested<C>>(
     let start = p.cur_start();
     advance(p)?;
     let name = parse_property_name(p, nested)?;
-    parse_method(p, nested, start, name, MethodForm::Method, true)
+    parse_method(p, nested, start, name, MethodForm::Method, false, true)
 }
 
-/// A property that begins with a word: which is its name, or the `get` or `set` before the name of an accessor.
+/// An asynchronous method, from what stands behind its `async` on (ECMA-262, sections 15.6 and 15.8); the word began at a
+/// place.
+fn parse_async_method<C: ParserConfig, N: Nested<C>>(
+    p: &mut ParserImpl<'_, C>,
+    nested: &N,
+    start: u32,
+) -> Result<NodeId, Stop>
+    requires at { Standing p.old }
+    requires nests { CanNest (N.can nested.now) (room p.old + 1) }
+    requires before { start ≤ p.old.prev_token_end }
+    requires line { p.old.token.is_on_new_line ≡ false }
+    ensures { ReadsAsyncMethod start p.old p.new result }
+{
+    let generator = p.eat(Kind::Star)?;
+    let name = parse_property_name(p, nested)?;
+    parse_method(p, nested, start, name, MethodForm::Method, true, generator)
+}
+
+/// A property that begins with a word: which is its name, the `get` or `set` before the name of an accessor, or the
+/// `async` of a method.
 fn parse_word_property<C: ParserConfig, N: Nested<C>>(
     p: &mut ParserImpl<'_, C>,
     nested: &N,
@@ -156,6 +176,9 @@ fn parse_word_property<C: ParserConfig, N: Nested<C>>(
     if let Some(form) = accessor_form(word.kind(), p.cur_kind()) {
         return parse_accessor(p, nested, span.start, form);
     }
+    if begins_async_method(word.kind(), p.cur_token()) {
+        return parse_async_method(p, nested, span.start);
+    }
     if is_shorthand(p, word.kind(), p.cur_kind()) {
         return parse_shorthand(p, nested, span);
     }
@@ -167,7 +190,7 @@ fn parse_word_property<C: ParserConfig, N: Nested<C>>(
     parse_behind_name(p, nested, span.start, name)
 }
 
-/// Whether `get` or `set` before such a lexeme is the name of a property, and not the beginning of an accessor.
+/// Whether `get`, `set` or `async` before such a lexeme is the name of a property, and not the beginning of a method.
 fn ends_name(kind: Kind) -> bool
     ensures { result ≡ one_of_kinds ends_name_kinds kind }
 {
@@ -197,6 +220,16 @@ fn accessor_form(word: Kind, behind: Kind) -> Option<MethodForm>
     }
 }
 
+/// Whether a word is the `async` of a method before such a lexeme (ECMA-262, sections 15.6 and 15.8).
+fn begins_async_method(word: Kind, behind: Token) -> bool
+    ensures { result ≡ begins_async word behind.kind behind.is_on_new_line }
+{
+    if ends_name(behind.kind()) || behind.is_on_new_line() {
+        return false;
+    }
+    matches!(word, Kind::Async)
+}
+
 /// Whether a word before such a lexeme is a name alone: neither a value nor a method stands behind it.
 fn is_shorthand<C: ParserConfig>(p: &ParserImpl<'_, C>, word: Kind, behind: Kind) -> bool
     ensures { result ≡ (may_name (has_flag yield_flag p.now.ctx) (has_flag await_flag p.now.ctx) word && not (one_of_kinds (Colon ∷ LParen ∷ []) behind)) }
@@ -217,7 +250,7 @@ fn parse_accessor<C: ParserConfig, N: Nested<C>>(
     ensures { ReadsAccessor start form p.old p.new result }
 {
     let name = parse_property_name(p, nested)?;
-    parse_method(p, nested, start, name, form, false)
+    parse_method(p, nested, start, name, form, false, false)
 }
 
 /// A name alone, which was passed, or with its initialiser: a CoverInitializedName (ECMA-262, section 13.2.5).
@@ -287,7 +320,7 @@ fn parse_behind_name<C: ParserConfig, N: Nested<C>>(
 {
     match p.cur_kind() {
         Kind::Colon => parse_value(p, nested, start, name),
-        Kind::LParen => parse_method(p, nested, start, name, MethodForm::Method, false),
+        Kind::LParen => { parse_method(p, nested, start, name, MethodForm::Method, false, false) }
         _ => Err(p.set_unexpected()),
     }
 }
@@ -312,22 +345,23 @@ fn parse_value<C: ParserConfig, N: Nested<C>>(
     Ok(node)
 }
 
-/// The parameters and the body of a method, which is a generator or not, behind its name; the property began at a place
-/// (ECMA-262, sections 15.4 and 15.5).
+/// The parameters and the body of a method, which is asynchronous or not, and a generator or not, behind its name; the
+/// property began at a place (ECMA-262, sections 15.4, 15.5, 15.6 and 15.8).
 fn parse_method<C: ParserConfig, N: Nested<C>>(
     p: &mut ParserImpl<'_, C>,
     nested: &N,
     start: u32,
     name: PropertyName,
     form: MethodForm,
+    is_async: bool,
     generator: bool,
 ) -> Result<NodeId, Stop>
     requires at { Standing p.old }
     requires nests { CanNest (N.can nested.now) (room p.old + 1) }
     requires before { start ≤ p.old.prev_token_end }
-    ensures { ReadsMethod start name form generator p.old p.new result }
+    ensures { ReadsMethod start name form is_async generator p.old p.new result }
 {
-    let function = parse_method_function(p, nested, form, generator)?;
+    let function = parse_method_function(p, nested, form, is_async, generator)?;
     let flags = method_flags(form, name.computed);
     let node = make_property(p, start, property_kind(form), flags, name.key, function)?;
     Ok(node)
@@ -389,22 +423,23 @@ fn make_property<C: ParserConfig>(
     )
 }
 
-/// The function of a method: its parameters in their parentheses, and its body in its braces (ECMA-262, sections 15.4 and
-/// 15.5).
+/// The function of a method: its parameters in their parentheses, and its body in its braces (ECMA-262, sections 15.4,
+/// 15.5, 15.6 and 15.8).
 fn parse_method_function<C: ParserConfig, N: Nested<C>>(
     p: &mut ParserImpl<'_, C>,
     nested: &N,
     form: MethodForm,
+    is_async: bool,
     generator: bool,
 ) -> Result<NodeId, Stop>
     requires at { Standing p.old }
     requires nests { CanNest (N.can nested.now) (room p.old + 1) }
-    ensures { ReadsWhole (λ f. method_left form generator f) p.old p.new result }
+    ensures { ReadsWhole (λ f. method_left form is_async generator f) p.old p.new result }
 {
     let start = p.cur_start();
-    let parameters = parameters_in_method(p, nested, form, generator)?;
-    let body = body_of_function(p, nested, generator)?;
-    let node = make_function(p, start, generator, parameters, body)?;
+    let parameters = parameters_in_method(p, nested, form, is_async, generator)?;
+    let body = body_of_function(p, nested, is_async, generator)?;
+    let node = make_function(p, start, is_async, generator, parameters, body)?;
     Ok(node)
 }
 
@@ -412,26 +447,17 @@ fn parse_method_function<C: ParserConfig, N: Nested<C>>(
 fn make_function<C: ParserConfig>(
     p: &mut ParserImpl<'_, C>,
     start: u32,
+    is_async: bool,
     generator: bool,
     parameters: NodeId,
     body: NodeId,
 ) -> Result<NodeId, NoMemory>
     requires before { start ≤ p.old.prev_token_end }
-    ensures { IfOk result (λ id. MadeHere (function_label generator start p.old.prev_token_end) (None ∷ Some parameters ∷ Some body ∷ []) p.old p.new id) }
+    ensures { IfOk result (λ id. MadeHere (function_label is_async generator start p.old.prev_token_end) (None ∷ Some parameters ∷ Some body ∷ []) p.old p.new id) }
 {
     let span = p.end_span(start);
-    let flags = function_flags(generator);
+    let flags = function_flags(is_async, generator);
     let kind = NodeKind::FunctionExpression;
     let children = [None, Some(parameters), Some(body)];
     p.ast.node_of_three(kind, span, Op::None, flags, children)
-}
-
-/// The flags of a function that is a generator or not.
-fn function_flags(generator: bool) -> NodeFlags
-    ensures { number_of result ≡ flag generator generator_flag }
-{
-    NodeFlags {
-        generator,
-        ..NodeFlags::default()
-    }
 }

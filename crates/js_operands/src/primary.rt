@@ -15,10 +15,11 @@ ghost use Rattle.js_parsing.specs.Lexemes.{slashes};
 ghost use Rattle.js_parsing.specs.Nesting.{CanNest, room};
 ghost use Rattle.js_operands.specs.Numbers.{node_of_number, op_of_number};
 ghost use Rattle.js_parsing.specs.Moves.{Passes};
+ghost use Rattle.js_parsing.specs.Stands.{NameHere};
 ghost use Rattle.js_parsing.specs.States.{Standing};
 
 use crate::array::parse_array_expression;
-use crate::function::parse_function_expression;
+use crate::function::{function_stands, parse_function_expression};
 use crate::left_hand_side::{parse_identifier_name, parse_with_arguments};
 use crate::object::parse_object_expression;
 use crate::template::parse_template;
@@ -45,7 +46,7 @@ pub fn parse_primary_expression<C: ParserConfig, N: Nested<C>>(
         return Err(p.set_unexpected());
     }
     if name_stands(p) {
-        return parse_leaf(p, NodeKind::IdentifierReference, Op::None);
+        return parse_name_or_function(p, nested);
     }
     if p.cur_kind().is_number() {
         return parse_number(p);
@@ -64,6 +65,23 @@ pub fn parse_primary_expression<C: ParserConfig, N: Nested<C>>(
         Kind::Percent => parse_v8_intrinsic_expression(p, nested),
         _ => Err(p.set_unexpected()),
     }
+}
+
+/// A name; where it is `async` with `function` behind it on its line, an asynchronous function (ECMA-262, sections 15.6
+/// and 15.8).
+fn parse_name_or_function<C: ParserConfig, N: Nested<C>>(
+    p: &mut ParserImpl<'_, C>,
+    nested: &N,
+) -> Result<NodeId, Stop>
+    requires at { Standing p.old }
+    requires nests { CanNest (N.can nested.now) (room p.old) }
+    requires name { NameHere p.old true }
+    ensures { Answers (at Primary) p.old p.new result }
+{
+    if function_stands(p)? {
+        return parse_function_expression(p, nested);
+    }
+    parse_leaf(p, NodeKind::IdentifierReference, Op::None)
 }
 
 /// A NumericLiteral (ECMA-262, section 12.9.3), or one of a BigInt, which has a node of its own.

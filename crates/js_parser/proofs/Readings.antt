@@ -46,7 +46,7 @@ use Rattle.js_tree.specs.Nodes.{Node, empty_program}
 use Rattle.js_tree.proofs.HoldingLemmas.{HoldsAll-wider, HoldsAll-append, HoldsAll-one, Holds-kept, Holds-wider, Keeps-refl}
 use Rattle.std.specs.Prelude.{Result, Ok, Err, MatchResult}
 use Rattle.std.specs.Prelude.{Some}
-use Rattle.js_base.specs.Contexts.{has_flag, in_flag, yield_flag, await_flag, return_flag, new_target_flag}
+use Rattle.js_base.specs.Contexts.{has_flag, reads_await, in_flag, yield_flag, await_flag, return_flag, new_target_flag}
 use Rattle.js_cursor.specs.Moves.{Passed}
 use Rattle.js_parsing.specs.Moves.{MadeHere, plain_label}
 use Rattle.js_tree.specs.declared.kind.NodeKind.TheVariants.{Hashbang}
@@ -362,8 +362,12 @@ commonjs_is s = go s.goal
     go source.CommonJs = refl
     go source.Unambiguous = refl
 
+both_same : (b : Bool) → (b && b) ≡ b
+both_same true = refl
+both_same false = refl
+
 at_start : {text : List ℕ} {b : Bool} {p : Parser} → Starts text p.source_type p.options b p → flags_of p ≡ covering (goal_of p.source_type) (options_of p.options)
-at_start {p = p} s = let c = s.ctx in let m = module_goal_is p.source_type in let j = commonjs_is p.source_type in λ i. record { in_ = c.in_ i; yield_ = c.yield i; await_ = (c.await ∙ m) i; return_ = (c.return ∙ ap (λ (v : Bool). v || p.options.allow_return_outside_function) j) i; new_target = (c.new_target ∙ j) i; module_goal = m i; v8 = p.options.allow_v8_intrinsics; cover = true; wide = false }
+at_start {p = p} s = let c = s.ctx in let m = module_goal_is p.source_type in let j = commonjs_is p.source_type in let e = (λ i. c.await i && c.await_expression i) ∙ (both_same (is_module p.source_type) ∙ m) in λ i. record { in_ = c.in_ i; yield_ = c.yield i; await_ = (c.await ∙ m) i; awaits = e i; return_ = (c.return ∙ ap (λ (v : Bool). v || p.options.allow_return_outside_function) j) i; new_target = (c.new_target ∙ j) i; module_goal = m i; v8 = p.options.allow_v8_intrinsics; cover = true; wide = false }
 
 -- what a lexer that has kept nothing keeps with a token
 module _ {old new : State} {t : Token} (g : GivesNext division old new t) (z : IsEmpty old.kept) {text : List ℕ} {source : Goal} {i : ℕ} (reads : old.text ≡ text) (reads_for : old.goal ≡ source) (place : old.place ≡ i) where
@@ -515,6 +519,7 @@ module _ {b : Bool} {p : Parser} (s : Starts p.text p.source_type p.options b p)
       in_ = has_flag in_flag (d.stays.ctx i);
       yield_ = has_flag yield_flag (d.stays.ctx i);
       await_ = has_flag await_flag (d.stays.ctx i);
+      awaits = reads_await (d.stays.ctx i);
       return_ = has_flag return_flag (d.stays.ctx i);
       new_target = has_flag new_target_flag (d.stays.ctx i);
       module_goal = is_module (d.stays.source_type i);

@@ -32,6 +32,7 @@ parameters goal o = record {
   in_ = true;
   yield_ = false;
   await_ = is_module goal;
+  awaits = is_module goal;
   return_ = is_commonjs goal || o.allow_return;
   new_target = is_commonjs goal;
   module_goal = is_module goal;

@@ -18,7 +18,7 @@ use Rattle.js_cursor.specs.Places.{IsAt, goal}
 use Rattle.js_cursor.specs.Tokens.{IsToken, whole as whole_token, sign as sign_token, nothing as no_token}
 use Rattle.js_cursor.specs.Moves.{Passed, Completed, MovesOn, is_last}
 use Rattle.js_parsing.specs.States.{IsPlain, Standing}
-use Rattle.js_cursor.specs.Notes.{HasNone, Notes}
+use Rattle.js_cursor.specs.Notes.{HasNone, Notes, is_noted}
 use Rattle.js_parsing.specs.Heads.{NotedHeads}
 use Rattle.js_parsing.specs.Lexemes.{KeptLast}
 use Rattle.js_parsing.proofs.KeptTokens.{no_plain_hashbang, next_kept_last}
@@ -29,7 +29,7 @@ hashbang_kind x = x.tells.kind ∙ hashbang_is x.stands.lex.word x.lexeme.kind (
 
 -- nothing is noted where a text begins
 pub none_noted : (p : Parser) → HasNone p.state → NotedHeads p
-none_noted p n = (λ f s k. absurd (false≢true (sym (n.failed f.await_ f.yield_ s) ∙ k)), λ f s k. absurd (false≢true (sym (n.operands f.await_ f.yield_ s) ∙ k)))
+none_noted p n = (λ c s b k. absurd (false≢true (sym (ap (λ (v : List ℕ). is_noted v c s) n.failed) ∙ k)), λ c s b k. absurd (false≢true (sym (ap (λ (v : List ℕ). is_noted v c s) n.operands) ∙ k)))
 
 -- Behind a lexeme of whichever goal the plain goal gives the next token.
 pub behind_first : {p q : Parser} → IsAt p → NotedHeads p → Passed p q → Standing q

@@ -1,7 +1,7 @@
 -- What is read under other parameters, and those from before again.
-use Rattle.std.proofs.Common.{ℕ, ◌≡◌, Bool, true, false, List, refl, sym, ap, subst, ◌∙◌}
+use Rattle.std.proofs.Common.{ℕ, ◌≡◌, ◌||◌, Bool, true, false, List, refl, sym, ap, subst, ◌∙◌}
 use Rattle.js_base.specs.declared.context.Context.{Context}
-use Rattle.js_base.specs.Contexts.{SetsFlag, in_flag, yield_flag, await_flag, return_flag, new_target_flag}
+use Rattle.js_base.specs.Contexts.{SetsFlag, in_flag, yield_flag, await_flag, await_expression_flag, return_flag, new_target_flag}
 use Rattle.js_grammar.specs.Productions.{G, Flags, Symbol, body_of, minus_in, params_of, plus_in}
 use Rattle.js_tree.specs.declared.id.NodeId.{NodeId}
 use Rattle.js_cursor.specs.Parsers.{Parser}
@@ -13,11 +13,15 @@ use Rattle.js_parsing.specs.Answers.{Numbered, Stops, Underived}
 use Rattle.js_grammar.specs.Parsing.{plain, full, Fails}
 use Rattle.js_grammar.specs.Table.{rule}
 use Rattle.js_grammar.specs.Trees.{end}
-use Rattle.js_parsing.specs.Contexts.{EntersMethod, arrow_body, braced_body}
+use Rattle.js_parsing.specs.Contexts.{EntersAsyncHead, EntersMethod, SetsAwait, arrow_body, arrow_head, braced_body}
 use Rattle.js_parsing.specs.Lexemes.{Lex}
 use Rattle.js_parsing.specs.Methods.{WholeTaken}
 use Rattle.js_parsing.specs.States.{At, IsPlain, whole, sign, nothing, flags_of}
 use Rattle.js_parsing.proofs.Moving.{flags_same, stops_later}
+
+either_way : (b : Bool) → true ≡ (b || true)
+either_way true = refl
+either_way false = refl
 
 module _ {text : List ℕ} where
   plain_under : {p : Parser} (c : Context) → IsPlain text p → IsPlain text (record p { ctx = c })
@@ -30,52 +34,59 @@ module _ {text : List ℕ} where
 
   -- with In
   with_in : {f : Flags} {p : Parser} {c : Context} → At text f p → SetsFlag in_flag true p.ctx c → flags_of (record p { ctx = c }) ≡ plus_in f
-  with_in {f} {p} {c} a s = rw (s.flag, s.others yield_flag (λ e. cc), s.others await_flag (λ e. cc), s.others return_flag (λ e. cc), s.others new_target_flag (λ e. cc)) (ap plus_in a.flags_are)
+  with_in {f} {p} {c} a s = rw (s.flag, s.others yield_flag (λ e. cc), s.others await_flag (λ e. cc), s.others await_expression_flag (λ e. cc), s.others return_flag (λ e. cc), s.others new_target_flag (λ e. cc)) (ap plus_in a.flags_are)
 
   pub in_at : {f : Flags} {p q : Parser} {c d : Context} → At text f p → d ≡ p.ctx → SetsFlag in_flag true d c → q ≡ record p { ctx = c } → At text (plus_in f) q
   in_at {f} {p} {q} {c} {d} a e s h = subst (At text (plus_in f)) (sym h) (at_under c (with_in a (subst (λ (v : Context). SetsFlag in_flag true v c) e s)) a)
 
   -- without In
   without_in : {f : Flags} {p : Parser} {c : Context} → At text f p → SetsFlag in_flag false p.ctx c → flags_of (record p { ctx = c }) ≡ minus_in f
-  without_in {f} {p} {c} a s = rw (s.flag, s.others yield_flag (λ e. cc), s.others await_flag (λ e. cc), s.others return_flag (λ e. cc), s.others new_target_flag (λ e. cc)) (ap minus_in a.flags_are)
+  without_in {f} {p} {c} a s = rw (s.flag, s.others yield_flag (λ e. cc), s.others await_flag (λ e. cc), s.others await_expression_flag (λ e. cc), s.others return_flag (λ e. cc), s.others new_target_flag (λ e. cc)) (ap minus_in a.flags_are)
 
   pub no_in_at : {f : Flags} {p q : Parser} {c d : Context} → At text f p → d ≡ p.ctx → SetsFlag in_flag false d c → q ≡ record p { ctx = c } → At text (minus_in f) q
   no_in_at {f} {p} {q} {c} {d} a e s h = subst (At text (minus_in f)) (sym h) (at_under c (without_in a (subst (λ (v : Context). SetsFlag in_flag false v c) e s)) a)
 
-  -- without Yield and Await
-  in_arrow : {f : Flags} {p : Parser} {c d : Context} → At text f p → SetsFlag yield_flag false p.ctx c → SetsFlag await_flag false c d → flags_of (record p { ctx = d }) ≡ arrow_body f
-  in_arrow {f} {p} {c} {d} a s t = rw (t.others in_flag (λ e. cc), s.others in_flag (λ e. cc), t.others yield_flag (λ e. cc), s.flag, t.flag, t.others return_flag (λ e. cc), s.others return_flag (λ e. cc), t.others new_target_flag (λ e. cc), s.others new_target_flag (λ e. cc)) (ap arrow_body a.flags_are)
+  -- the parameters of an asynchronous arrow function
+  in_head : {f : Flags} {p : Parser} {c : Context} → At text f p → EntersAsyncHead p.ctx c → flags_of (record p { ctx = c }) ≡ record f { await_ = true }
+  in_head {f} {p} {c} a s = rw (s.others in_flag (λ e. cc) (λ e. cc), s.others yield_flag (λ e. cc) (λ e. cc), s.reads, s.flag, s.others return_flag (λ e. cc) (λ e. cc), s.others new_target_flag (λ e. cc) (λ e. cc)) (ap (λ (g : Flags). record g { await_ = true }) a.flags_are)
 
-  pub arrow_at : {f : Flags} {p q : Parser} {b c d : Context} → At text f p → b ≡ p.ctx → SetsFlag yield_flag false b c → SetsFlag await_flag false c d → q ≡ record p { ctx = d } → At text (arrow_body f) q
-  arrow_at {f} {p} {q} {b} {c} {d} a e s t h = subst (At text (arrow_body f)) (sym h) (at_under d (in_arrow a (subst (λ (v : Context). SetsFlag yield_flag false v c) e s) t) a)
+  pub async_head_at : {f : Flags} {p q : Parser} {c d : Context} → At text f p → d ≡ p.ctx → EntersAsyncHead d c → q ≡ record p { ctx = c } → At text (arrow_head true f) q
+  async_head_at {f} {p} {q} {c} {d} a e s h = subst (λ (b : Bool). At text (record f { await_ = b }) q) (either_way f.await_) (subst (At text (record f { await_ = true })) (sym h) (at_under c (in_head a (subst (λ (v : Context). EntersAsyncHead v c) e s)) a))
+
+  -- without Yield, and under Await in an asynchronous one
+  in_arrow : {m : Bool} {f : Flags} {p : Parser} {c d : Context} → At text f p → SetsFlag yield_flag false p.ctx c → SetsAwait m c d → flags_of (record p { ctx = d }) ≡ arrow_body m f
+  in_arrow {m} {f} {p} {c} {d} a s t = rw (t.others in_flag (λ e. cc) (λ e. cc), s.others in_flag (λ e. cc), t.others yield_flag (λ e. cc) (λ e. cc), s.flag, t.reads, t.flag, t.others return_flag (λ e. cc) (λ e. cc), s.others return_flag (λ e. cc), t.others new_target_flag (λ e. cc) (λ e. cc), s.others new_target_flag (λ e. cc)) (ap (arrow_body m) a.flags_are)
+
+  pub arrow_at : {m : Bool} {f : Flags} {p q : Parser} {b c d : Context} → At text f p → b ≡ p.ctx → SetsFlag yield_flag false b c → SetsAwait m c d → q ≡ record p { ctx = d } → At text (arrow_body m f) q
+  arrow_at {m} {f} {p} {q} {b} {c} {d} a e s t h = subst (At text (arrow_body m f)) (sym h) (at_under d (in_arrow a (subst (λ (v : Context). SetsFlag yield_flag false v c) e s) t) a)
 
   -- and with In and Return
-  in_braces : {f : Flags} {p : Parser} {c d e g : Context} → At text f p → SetsFlag yield_flag false p.ctx c → SetsFlag await_flag false c d → SetsFlag in_flag true d e → SetsFlag return_flag true e g → flags_of (record p { ctx = g }) ≡ braced_body f
-  in_braces {f} {p} {c} {d} {e} {g} a s t u v = rw (v.others in_flag (λ e. cc), u.flag, v.others yield_flag (λ e. cc), u.others yield_flag (λ e. cc), t.others yield_flag (λ e. cc), s.flag, v.others await_flag (λ e. cc), u.others await_flag (λ e. cc), t.flag, v.flag, v.others new_target_flag (λ e. cc), u.others new_target_flag (λ e. cc), t.others new_target_flag (λ e. cc), s.others new_target_flag (λ e. cc)) (ap braced_body a.flags_are)
+  in_braces : {m : Bool} {f : Flags} {p : Parser} {c d e g : Context} → At text f p → SetsFlag yield_flag false p.ctx c → SetsAwait m c d → SetsFlag in_flag true d e → SetsFlag return_flag true e g → flags_of (record p { ctx = g }) ≡ braced_body m f
+  in_braces {m} {f} {p} {c} {d} {e} {g} a s t u v = rw (v.others in_flag (λ e. cc), u.flag, v.others yield_flag (λ e. cc), u.others yield_flag (λ e. cc), t.others yield_flag (λ e. cc) (λ e. cc), s.flag, v.others await_flag (λ e. cc), u.others await_flag (λ e. cc), v.others await_expression_flag (λ e. cc), u.others await_expression_flag (λ e. cc), t.reads, t.flag, v.flag, v.others new_target_flag (λ e. cc), u.others new_target_flag (λ e. cc), t.others new_target_flag (λ e. cc) (λ e. cc), s.others new_target_flag (λ e. cc)) (ap (braced_body m) a.flags_are)
 
-  pub braces_at : {f : Flags} {p q : Parser} {b c d e g : Context} → At text f p → b ≡ p.ctx → SetsFlag yield_flag false b c → SetsFlag await_flag false c d → SetsFlag in_flag true d e → SetsFlag return_flag true e g → q ≡ record p { ctx = g } → At text (braced_body f) q
-  braces_at {f} {p} {q} {b} {c} {d} {e} {g} a i s t u v h = subst (At text (braced_body f)) (sym h) (at_under g (in_braces a (subst (λ (w : Context). SetsFlag yield_flag false w c) i s) t u v) a)
+  pub braces_at : {m : Bool} {f : Flags} {p q : Parser} {b c d e g : Context} → At text f p → b ≡ p.ctx → SetsFlag yield_flag false b c → SetsAwait m c d → SetsFlag in_flag true d e → SetsFlag return_flag true e g → q ≡ record p { ctx = g } → At text (braced_body m f) q
+  braces_at {m} {f} {p} {q} {b} {c} {d} {e} {g} a i s t u v h = subst (At text (braced_body m f)) (sym h) (at_under g (in_braces a (subst (λ (w : Context). SetsFlag yield_flag false w c) i s) t u v) a)
 
-  -- the parameters of a function or a generator
-  in_function : {f : Flags} {p : Parser} {b : Bool} {c d e g : Context} → At text f p → SetsFlag in_flag true p.ctx c → SetsFlag yield_flag b c d → SetsFlag await_flag false d e → SetsFlag new_target_flag true e g → flags_of (record p { ctx = g }) ≡ params_of false b f
-  in_function {f} {p} {b} {c} {d} {e} {g} a s t u v = rw (v.others in_flag (λ e. cc), u.others in_flag (λ e. cc), t.others in_flag (λ e. cc), s.flag, v.others yield_flag (λ e. cc), u.others yield_flag (λ e. cc), t.flag, v.others await_flag (λ e. cc), u.flag, v.others return_flag (λ e. cc), u.others return_flag (λ e. cc), t.others return_flag (λ e. cc), s.others return_flag (λ e. cc), v.flag) (ap (params_of false b) a.flags_are)
+  -- the parameters of a function
+  in_function : {f : Flags} {p : Parser} {m b : Bool} {c d e g : Context} → At text f p → SetsFlag in_flag true p.ctx c → SetsFlag yield_flag b c d → SetsAwait m d e → SetsFlag new_target_flag true e g → flags_of (record p { ctx = g }) ≡ params_of m b f
+  in_function {f} {p} {m} {b} {c} {d} {e} {g} a s t u v = rw (v.others in_flag (λ e. cc), u.others in_flag (λ e. cc) (λ e. cc), t.others in_flag (λ e. cc), s.flag, v.others yield_flag (λ e. cc), u.others yield_flag (λ e. cc) (λ e. cc), t.flag, v.others await_flag (λ e. cc), v.others await_expression_flag (λ e. cc), u.reads, u.flag, v.others return_flag (λ e. cc), u.others return_flag (λ e. cc) (λ e. cc), t.others return_flag (λ e. cc), s.others return_flag (λ e. cc), v.flag) (ap (params_of m b) a.flags_are)
 
-  pub parameters_at : {f : Flags} {p q : Parser} {b : Bool} {o c d e g : Context} → At text f p → o ≡ p.ctx → SetsFlag in_flag true o c → SetsFlag yield_flag b c d → SetsFlag await_flag false d e → SetsFlag new_target_flag true e g → q ≡ record p { ctx = g } → At text (params_of false b f) q
-  parameters_at {f} {p} {q} {b} {o} {c} {d} {e} {g} a i s t u v h = subst (At text (params_of false b f)) (sym h) (at_under g (in_function a (subst (λ (w : Context). SetsFlag in_flag true w c) i s) t u v) a)
+  pub parameters_at : {f : Flags} {p q : Parser} {m b : Bool} {o c d e g : Context} → At text f p → o ≡ p.ctx → SetsFlag in_flag true o c → SetsFlag yield_flag b c d → SetsAwait m d e → SetsFlag new_target_flag true e g → q ≡ record p { ctx = g } → At text (params_of m b f) q
+  parameters_at {f} {p} {q} {m} {b} {o} {c} {d} {e} {g} a i s t u v h = subst (At text (params_of m b f)) (sym h) (at_under g (in_function a (subst (λ (w : Context). SetsFlag in_flag true w c) i s) t u v) a)
 
   -- and its body
-  in_function_body : {f : Flags} {p : Parser} {b : Bool} {c d e g h : Context} → At text f p → SetsFlag in_flag true p.ctx c → SetsFlag yield_flag b c d → SetsFlag await_flag false d e → SetsFlag new_target_flag true e g → SetsFlag return_flag true g h → flags_of (record p { ctx = h }) ≡ body_of false b f
-  in_function_body {f} {p} {b} {c} {d} {e} {g} {h} a s t u v w = rw (w.others in_flag (λ e. cc), v.others in_flag (λ e. cc), u.others in_flag (λ e. cc), t.others in_flag (λ e. cc), s.flag, w.others yield_flag (λ e. cc), v.others yield_flag (λ e. cc), u.others yield_flag (λ e. cc), t.flag, w.others await_flag (λ e. cc), v.others await_flag (λ e. cc), u.flag, w.flag, w.others new_target_flag (λ e. cc), v.flag) (ap (body_of false b) a.flags_are)
+  in_function_body : {f : Flags} {p : Parser} {m b : Bool} {c d e g h : Context} → At text f p → SetsFlag in_flag true p.ctx c → SetsFlag yield_flag b c d → SetsAwait m d e → SetsFlag new_target_flag true e g → SetsFlag return_flag true g h → flags_of (record p { ctx = h }) ≡ body_of m b f
+  in_function_body {f} {p} {m} {b} {c} {d} {e} {g} {h} a s t u v w = rw (w.others in_flag (λ e. cc), v.others in_flag (λ e. cc), u.others in_flag (λ e. cc) (λ e. cc), t.others in_flag (λ e. cc), s.flag, w.others yield_flag (λ e. cc), v.others yield_flag (λ e. cc), u.others yield_flag (λ e. cc) (λ e. cc), t.flag, w.others await_flag (λ e. cc), v.others await_flag (λ e. cc), w.others await_expression_flag (λ e. cc), v.others await_expression_flag (λ e. cc), u.reads, u.flag, w.flag, w.others new_target_flag (λ e. cc), v.flag) (ap (body_of m b) a.flags_are)
 
-  pub function_body_at : {f : Flags} {p q : Parser} {b : Bool} {o c d e g h : Context} → At text f p → o ≡ p.ctx → SetsFlag in_flag true o c → SetsFlag yield_flag b c d → SetsFlag await_flag false d e → SetsFlag new_target_flag true e g → SetsFlag return_flag true g h → q ≡ record p { ctx = h } → At text (body_of false b f) q
-  function_body_at {f} {p} {q} {b} {o} {c} {d} {e} {g} {h} a i s t u v w j = subst (At text (body_of false b f)) (sym j) (at_under h (in_function_body a (subst (λ (x : Context). SetsFlag in_flag true x c) i s) t u v w) a)
+  pub function_body_at : {f : Flags} {p q : Parser} {m b : Bool} {o c d e g h : Context} → At text f p → o ≡ p.ctx → SetsFlag in_flag true o c → SetsFlag yield_flag b c d → SetsAwait m d e → SetsFlag new_target_flag true e g → SetsFlag return_flag true g h → q ≡ record p { ctx = h } → At text (body_of m b f) q
+  function_body_at {f} {p} {q} {m} {b} {o} {c} {d} {e} {g} {h} a i s t u v w j = subst (At text (body_of m b f)) (sym j) (at_under h (in_function_body a (subst (λ (x : Context). SetsFlag in_flag true x c) i s) t u v w) a)
 
   -- the parameters of a method
-  in_params : {b : Bool} {f : Flags} {p : Parser} {c : Context} → At text f p → EntersMethod b p.ctx c → flags_of (record p { ctx = c }) ≡ params_of false b f
-  in_params {b} a s = rw (s.allows_in, s.allows_yield, s.no_await, s.allows_new_target, s.returns_same) (ap (λ (g : Flags). params_of false b g) a.flags_are)
+  in_params : {m b : Bool} {f : Flags} {p : Parser} {c : Context} → At text f p → EntersMethod m b p.ctx c → flags_of (record p { ctx = c }) ≡ params_of m b f
+  in_params {m} {b} a s = rw (s.allows_in, s.allows_yield, s.awaits, s.allows_await, s.allows_new_target, s.returns_same) (ap (λ (g : Flags). params_of m b g) a.flags_are)
 
-  pub params_at : {b : Bool} {f : Flags} {p q : Parser} {c d : Context} → At text f p → d ≡ p.ctx → EntersMethod b d c → q ≡ record p { ctx = c } → At text (params_of false b f) q
-  params_at {b} {f} {p} {q} {c} {d} a e s h = subst (At text (params_of false b f)) (sym h) (at_under c (in_params a (subst (λ (v : Context). EntersMethod b v c) e s)) a)
+  pub params_at : {m b : Bool} {f : Flags} {p q : Parser} {c d : Context} → At text f p → d ≡ p.ctx → EntersMethod m b d c → q ≡ record p { ctx = c } → At text (params_of m b f) q
+  params_at {m} {b} {f} {p} {q} {c} {d} a e s h = subst (At text (params_of m b f)) (sym h) (at_under c (in_params a (subst (λ (v : Context). EntersMethod m b v c) e s)) a)
 
   -- and back
   out_of : {f g : Flags} {n : Symbol} {p q : Parser} {c : Context} {id : NodeId} → At text f p → Numbered text g n (record p { ctx = c }) q id → Numbered text f n p (record q { ctx = p.ctx }) id

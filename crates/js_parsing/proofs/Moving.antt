@@ -33,9 +33,10 @@ use Rattle.js_cursor.proofs.Later.{passed_follows, read_again_follows, follows_i
 use Rattle.js_cursor.proofs.Changing.{fields_at, fields_set, entered_on}
 use Rattle.js_base.specs.declared.options.ParseOptions.{ParseOptions}
 use Rattle.js_base.specs.declared.source_type.SourceType.{SourceType}
-use Rattle.js_cursor.specs.Notes.{NotedAt, Notes, is_noted}
+use Rattle.js_base.specs.declared.context.Context.{Context}
+use Rattle.js_cursor.specs.Notes.{Notes, is_noted}
 use Rattle.js_cursor.specs.Starts.{is_module}
-use Rattle.js_parsing.specs.Heads.{NoHead, NotedHeads, OnlyArrow, throughout}
+use Rattle.js_parsing.specs.Heads.{NoHead, NotedHeads, OnlyArrow, flags_in}
 use Rattle.js_parsing.specs.Lexemes.{KeptFor, NoneToEnd, TriviaKept, News, other_goals, read_kinds}
 use Rattle.js_parsing.proofs.KeptTokens.{counts_here, completed_counts, before_next, next_kept_last, again_before, again_last, trivia_kept}
 use Rattle.js_parsing.specs.States.{At, Standing, IsPlain, whole, sign, nothing, Same, flags_of, NodesLie, SpansLie}
@@ -80,13 +81,10 @@ flags_same p q c s o = rw (c, s, o) refl
 
 -- what is noted of heads stays right where the text and what is noted stay
 pub heads_kept : (p q : Parser) → q.text ≡ p.text → q.source_type ≡ p.source_type → q.options ≡ p.options → q.state.failed ≡ p.state.failed → q.state.operands ≡ p.state.operands → NotedHeads p → NotedHeads q
-heads_kept p q t s o h g n = (λ f x k. stays NoHead f x (n.0 f x (subst (λ (v : NotedAt). is_noted v f.await_ f.yield_ x ≡ true) h k)), λ f x k. stays OnlyArrow f x (n.1 f x (subst (λ (v : NotedAt). is_noted v f.await_ f.yield_ x ≡ true) g k)))
+heads_kept p q t s o h g n = (λ c x b k. stays NoHead c x (n.0 c x b (subst (λ (v : List ℕ). is_noted v c x ≡ true) h k)), λ c x b k. stays OnlyArrow c x (n.1 c x b (subst (λ (v : List ℕ). is_noted v c x ≡ true) g k)))
   where
-    stays : (P : List ℕ → Flags → ℕ → Type 0) → (f : Flags) (x : ℕ) → P p.text (throughout p f) x → P q.text (throughout q f) x
-    stays P f x z =
-        subst (λ (v : List ℕ). P v (throughout q f) x) (sym t)
-        (subst (λ (v : SourceType). P p.text (record f { module_goal = is_module v; v8 = q.options.allow_v8_intrinsics; cover = true; wide = false }) x) (sym s)
-        (subst (λ (v : ParseOptions). P p.text (record f { module_goal = is_module p.source_type; v8 = v.allow_v8_intrinsics; cover = true; wide = false }) x) (sym o) z))
+    stays : (P : List ℕ → Flags → ℕ → Type 0) → (c : Context) (x : ℕ) → P p.text (flags_in p c) x → P q.text (flags_in q c) x
+    stays P c x z = subst (λ (v : List ℕ). P v (flags_in q c) x) (sym t) (subst (λ (f : Flags). P p.text f x) (λ i. record (flags_in q c) { module_goal = is_module (sym s i); v8 = (sym o i).allow_v8_intrinsics }) z)
 
 pub same_itself : {p : Parser} → Same p p
 same_itself {p} = record { follows = follows_itself p; options = refl; ctx = refl; depth = refl; visits = refl; early = λ h. h; lies = λ h. h; meets = λ h. h }

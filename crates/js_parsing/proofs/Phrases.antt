@@ -123,7 +123,7 @@ abbrev pub unary_part : Flags → G
 unary_part f = branches (Minus ∷ Plus ∷ Bang ∷ Tilde ∷ Typeof ∷ Void ∷ Delete ∷ []) (λ o. op unary_expression o (tok o ▸ symbol Unary f))
 
 abbrev pub await_part : Flags → G
-await_part f = when f.await_ (mk await_expression (tok Await ▸ symbol Unary f))
+await_part f = when f.awaits (mk await_expression (tok Await ▸ symbol Unary f))
 
 unary_left : (f : Flags) → live (rule (at Unary f)) ≡ alt (such (at Update f) always) (alt (unary_part f) (await_part f))
 unfolding rule rule_of apart
@@ -133,7 +133,7 @@ pub unary_choice : {text : List ℕ} (f : Flags) (s : ℕ) → Goes rule (Lex te
 unary_choice {text} f s = subst (λ (g : G). Goes rule (Lex text) (after (at Unary f)) end (rule (at Unary f)) s g s (λ us. us) (still 0)) (unary_left f) (lives (rule (at Unary f)))
 
 -- no AwaitExpression, where no `await` stands, or it is a name
-pub no_await : {text : List ℕ} {f : Flags} {p : Parser} {X : Test} → At text f p → (p.token.kind ≡ Await → f.await_ ≡ false) → Fails rule (Lex text) X end (await_part f) p.prev_token_end
+pub no_await : {text : List ℕ} {f : Flags} {p : Parser} {X : Test} → At text f p → (p.token.kind ≡ Await → f.awaits ≡ false) → Fails rule (Lex text) X end (await_part f) p.prev_token_end
 unfolding covers apart
 no_await {text} {f} {p} {X} a n = go (same_kind Await p.token.kind) refl
   where
@@ -144,10 +144,10 @@ no_await {text} {f} {p} {X} a n = go (same_kind Await p.token.kind) refl
 -- Answers of a symbol of which only another one is left.
 
 -- where no unary operator stands, and no `await` of an AwaitExpression
-pub no_operator : {text : List ℕ} {f : Flags} {p : Parser} → At text f p → one_of_kinds unary_kinds p.token.kind ≡ false → (p.token.kind ≡ Await → f.await_ ≡ false) → Goes rule (Lex text) (after (at Unary f)) end (rule (at Unary f)) p.prev_token_end (such (at Update f) always) p.prev_token_end (λ us. us) (still 0)
+pub no_operator : {text : List ℕ} {f : Flags} {p : Parser} → At text f p → one_of_kinds unary_kinds p.token.kind ≡ false → (p.token.kind ≡ Await → f.awaits ≡ false) → Goes rule (Lex text) (after (at Unary f)) end (rule (at Unary f)) p.prev_token_end (such (at Update f) always) p.prev_token_end (λ us. us) (still 0)
 unfolding covers apart
 no_operator {text} {f} {p} a n m = unary_choice f p.prev_token_end ▹ left (fails_alt (fails_at a {X = after (at Unary f)} (unary_part f) unary_kinds refl n) (no_await a m))
 
-pub unary_result : {text : List ℕ} {f : Flags} {p : Parser} (q : Parser) (r : Result NodeId Stop) → At text f p → one_of_kinds unary_kinds p.token.kind ≡ false → (p.token.kind ≡ Await → f.await_ ≡ false) → Outcome text f (at Update f) p q r → Outcome text f (at Unary f) p q r
+pub unary_result : {text : List ℕ} {f : Flags} {p : Parser} (q : Parser) (r : Result NodeId Stop) → At text f p → one_of_kinds unary_kinds p.token.kind ≡ false → (p.token.kind ≡ Await → f.awaits ≡ false) → Outcome text f (at Update f) p q r → Outcome text f (at Unary f) p q r
 unfolding covers
 unary_result {text} {f} {p} q r a n m x = lift_result (at Unary f) (at Update f) refl refl text f p q r (no_operator a n m) (λ i y. y.answer.row) (λ i y z l. y.answer.stops z l) x

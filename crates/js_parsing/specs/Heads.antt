@@ -1,5 +1,7 @@
 -- Where no head of an arrow function was found, and where nothing but such a head (ECMA-262, 15.3).
-use Rattle.std.specs.Prelude.{ℕ, ◌≡◌, true, false, List}
+use Rattle.std.specs.Prelude.{ℕ, ◌≡◌, ◌<◌, true, false, List}
+use Rattle.js_base.specs.declared.context.Context.{Context}
+use Rattle.js_base.specs.Contexts.{bits_of, has_flag, reads_await, in_flag, yield_flag, await_flag, return_flag, new_target_flag}
 use Rattle.js_base.specs.declared.kind.Kind.TheVariants.{Arrow}
 use Rattle.js_base.specs.Kinds.{same_kind}
 use Rattle.js_grammar.specs.Trees.{end as no_slots}
@@ -16,14 +18,25 @@ use Rattle.js_parsing.specs.Lexemes.{Lex}
 abbrev pub NoHead : List ℕ → Flags → ℕ → Type 0
 NoHead text f s = Fails rule (Lex text) (plain full) no_slots (sym Params f ▸ tok Arrow) s
 
--- with the goal and the options of a parser, which stay throughout a text
-abbrev pub throughout : Parser → Flags → Flags
-throughout p f = record f { module_goal = is_module p.source_type; v8 = p.options.allow_v8_intrinsics; cover = true; wide = false }
+-- The parameters of productions (ECMA-262, 5.1.5) that a set stands for, with the goal and the options of a parser, which stay throughout a text. Expressions are read as a cover grammar: an object literal may have a shorthand with an initialiser (13.2.5).
+abbrev pub flags_in : Parser → Context → Flags
+flags_in p c = record {
+  in_ = has_flag in_flag c;
+  yield_ = has_flag yield_flag c;
+  await_ = has_flag await_flag c;
+  awaits = reads_await c;
+  return_ = has_flag return_flag c;
+  new_target = has_flag new_target_flag c;
+  module_goal = is_module p.source_type;
+  v8 = p.options.allow_v8_intrinsics;
+  cover = true;
+  wide = false;
+}
 
 -- Behind arguments that are derived from the place `=>` stands: no parentheses there are an operand (CoverParenthesizedExpressionAndArrowParameterList, 13.2).
 abbrev pub OnlyArrow : List ℕ → Flags → ℕ → Type 0
 OnlyArrow text f s = Fails rule (Lex text) (plain (other (λ k w e. same_kind Arrow k))) no_slots (args f) s
 
--- Whatever is noted is so: no head is derived from the place, or no operand, under the parameters Await and Yield by which it is noted, whatever the others are that a production may set.
+-- Whatever is noted is so: no head is derived from the place, or no operand, under the parameters by which it is noted.
 abbrev pub NotedHeads : Parser → Type 0
-NotedHeads p = ((f : Flags) (s : ℕ) → is_noted p.state.failed f.await_ f.yield_ s ≡ true → NoHead p.text (throughout p f) s) × ((f : Flags) (s : ℕ) → is_noted p.state.operands f.await_ f.yield_ s ≡ true → OnlyArrow p.text (throughout p f) s)
+NotedHeads p = ((c : Context) (s : ℕ) → bits_of c < 65536 → is_noted p.state.failed c s ≡ true → NoHead p.text (flags_in p c) s) × ((c : Context) (s : ℕ) → bits_of c < 65536 → is_noted p.state.operands c s ≡ true → OnlyArrow p.text (flags_in p c) s)

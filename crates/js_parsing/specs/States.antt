@@ -1,7 +1,6 @@
 -- The state of a parser at the beginning of a production: the grammar parameters in force, and what stands at its place.
 use Rattle.std.specs.Prelude.{ℕ, ◌≡◌, ◌≤◌, true, false, List, IsCharBoundary}
 use Rattle.js_base.specs.declared.kind.Kind.TheVariants.{RAngle, Undetermined}
-use Rattle.js_base.specs.Contexts.{has_flag, in_flag, yield_flag, await_flag, return_flag, new_target_flag}
 use Rattle.js_grammar.specs.Grammar.{Lexeme}
 use Rattle.js_grammar.specs.Lexemes.{division}
 use Rattle.js_grammar.specs.Productions.{Flags}
@@ -9,27 +8,16 @@ use Rattle.js_lex.specs.Reading.{cut, GivesLexeme, LexemeBehind}
 use Rattle.js_cursor.specs.Checkpoints.{Follows}
 use Rattle.js_cursor.specs.Parsers.{Parser}
 use Rattle.js_cursor.specs.Places.{IsAt}
-use Rattle.js_cursor.specs.Starts.{is_module}
-use Rattle.js_parsing.specs.Heads.{NotedHeads}
+use Rattle.js_parsing.specs.Heads.{NotedHeads, flags_in}
 use Rattle.js_parsing.specs.Lexemes.{KeptLast, NoneToEnd}
 use Rattle.js_parsing.specs.Classes.{IsEarly}
 use Rattle.std.specs.List.{All}
 use Rattle.js_base.specs.Spans.{LiesIn}
 use Rattle.js_tree.specs.Nodes.{Node}
 
--- The parameters of productions (ECMA-262, 5.1.5). Expressions are read as a cover grammar: an object literal may have a shorthand with an initialiser (13.2.5).
+-- the parameters that are in force
 abbrev pub flags_of : Parser → Flags
-flags_of p = record {
-  in_ = has_flag in_flag p.ctx;
-  yield_ = has_flag yield_flag p.ctx;
-  await_ = has_flag await_flag p.ctx;
-  return_ = has_flag return_flag p.ctx;
-  new_target = has_flag new_target_flag p.ctx;
-  module_goal = is_module p.source_type;
-  v8 = p.options.allow_v8_intrinsics;
-  cover = true;
-  wide = false;
-}
+flags_of p = flags_in p p.ctx
 
 -- The current token is what the plain lexical goal gives behind the lexeme before it: the whole of a lexeme; of a punctuator that begins with `>` this sign alone; or none stands there.
 pub data IsPlain (text : List ℕ) (p : Parser) : Type 0 where

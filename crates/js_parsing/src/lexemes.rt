@@ -100,6 +100,8 @@ pub fn is_name(kind: Kind) -> bool
             | Kind::Satisfies
             | Kind::Constructor
             | Kind::TypeWord
+            | Kind::Target
+            | Kind::Async
             | Kind::Yield
             | Kind::Await
     )

@@ -1,11 +1,12 @@
 -- The first part of the head of a `for`, read where `in` is no operator, as it stands where it is one (ECMA-262, 14.7.4, 14.7.5).
-use Rattle.std.proofs.Common.{ℕ, ◌≡◌, max, List, Option, refl, sym, ap, subst, rules, arith, ◌∙◌}
+use Rattle.std.proofs.Common.{ℕ, ◌≡◌, Bool, true, false, max, List, Option, refl, sym, ap, subst, rules, arith, ◌∙◌}
 use Rattle.js_base.specs.declared.context.Context.{Context}
 use Rattle.js_grammar.specs.Trees.{end}
-use Rattle.js_grammar.specs.Parsing.{Test, still, Goes}
+use Rattle.js_grammar.specs.Grammar.{is}
+use Rattle.js_grammar.specs.Parsing.{Test, plain, still, Goes}
 use Rattle.js_grammar.specs.Productions.{Flags, minus_in}
 use Rattle.js_grammar.specs.Table.{rule}
-use Rattle.js_grammar.proofs.Calculus.{same, ◌▹◌, ◌▹✗◌}
+use Rattle.js_grammar.proofs.Calculus.{part_by, same, ◌▹◌, ◌▹✗◌}
 use Rattle.js_tree.specs.declared.id.NodeId.{NodeId}
 use Rattle.js_cursor.specs.Parsers.{Parser}
 use Rattle.js_cursor.specs.Places.{IsAt}
@@ -20,27 +21,30 @@ use Rattle.js_parsing.proofs.Related.{Like}
 use Rattle.js_parsing.proofs.Verdicts.{verdict_of}
 use Rattle.js_statements.specs.declared.for_statement.Ending.{Ending}
 use Rattle.js_statements.specs.declared.for_statement.Ending.TheVariants as ending
-use Rattle.js_statements.specs.ForHeads.{FirstTaken, NoFirst, first_part}
+use Rattle.js_statements.specs.ForHeads.{FirstTaken, NoFirstPart, end_kind, first_part}
+use Rattle.js_statements.proofs.ForHeads.{last_between}
 use Rattle.js_statements.proofs.BindingsFreeOfIn.{ButIn, any_in_like}
 
 -- ---- the parts
 
-first_inside : (e : Ending) (f : Flags) → Like ButIn (first_part e f) (first_part e (minus_in f))
-first_inside ending.Semicolon f = search rules
-first_inside ending.In f = search rules
-first_inside ending.Of f = search rules
+first_inside : (w : Bool) (e : Ending) (f : Flags) → Like ButIn (first_part w e f) (first_part w e (minus_in f))
+first_inside w ending.Semicolon f = search rules
+first_inside w ending.In f = search rules
+first_inside true ending.Of f = search rules
+first_inside false ending.Of f = search rules
 
-first_back : (e : Ending) (f : Flags) → Like ButIn (first_part e (minus_in f)) (first_part e f)
-first_back ending.Semicolon f = search rules
-first_back ending.In f = search rules
-first_back ending.Of f = search rules
+first_back : (w : Bool) (e : Ending) (f : Flags) → Like ButIn (first_part w e (minus_in f)) (first_part w e f)
+first_back w ending.Semicolon f = search rules
+first_back w ending.In f = search rules
+first_back true ending.Of f = search rules
+first_back false ending.Of f = search rules
 
-module _ {text : List ℕ} (e : Ending) (f : Flags) where
-  inside : {X : Test} {s : ℕ} → Goes rule (Lex text) X end (first_part e f) s (first_part e (minus_in f)) s (λ us. us) (still 0)
-  inside = same (λ ts us i j ls rest d. any_in_like (first_part e f) (first_part e (minus_in f)) (first_inside e f) d) (λ ts us i j ls rest d. any_in_like (first_part e (minus_in f)) (first_part e f) (first_back e f) d)
+module _ {text : List ℕ} (w : Bool) (e : Ending) (f : Flags) where
+  inside : {X : Test} {s : ℕ} → Goes rule (Lex text) X end (first_part w e f) s (first_part w e (minus_in f)) s (λ us. us) (still 0)
+  inside = same (λ ts us i j ls rest d. any_in_like (first_part w e f) (first_part w e (minus_in f)) (first_inside w e f) d) (λ ts us i j ls rest d. any_in_like (first_part w e (minus_in f)) (first_part w e f) (first_back w e f) d)
 
-  pub none_outside : {s : ℕ} → NoFirst text e (minus_in f) s → NoFirst text e f s
-  none_outside n = inside ▹✗ n
+  pub none_outside : {s : ℕ} → NoFirstPart text w e (minus_in f) s → NoFirstPart text w e f s
+  none_outside {s} n = part_by (inside {X = plain (is (end_kind e))}) (last_between (end_kind e) _ (first_part w e f) s) ▹✗ n
 
 -- ---- the states
 
@@ -53,8 +57,8 @@ module _ {text : List ℕ} where
   at_under : {f g : Flags} {p : Parser} (c : Context) → flags_of (record p { ctx = c }) ≡ g → At text f p → At text g (record p { ctx = c })
   at_under c e a = record { text_is = a.text_is; flags_are = e; at = (ctx_set c a.at).1; plain = plain_under c a.plain; behind = a.behind; heads = a.heads; kept_last = a.kept_last }
 
-  out_of : {f : Flags} {p q : Parser} {c : Context} {first : Option NodeId} → At text f p → FirstTaken text (minus_in f) (record p { ctx = c }) q first → FirstTaken text f p (record q { ctx = p.ctx }) first
-  out_of {f} {p} {q} {c} a x = record {
+  out_of : {f : Flags} {w : Bool} {p q : Parser} {c : Context} {first : Option NodeId} → At text f p → FirstTaken text (minus_in f) w (record p { ctx = c }) q first → FirstTaken text f w p (record q { ctx = p.ctx }) first
+  out_of {f} {w} {p} {q} {c} a x = record {
     at = at_under p.ctx (flags_same p (record q { ctx = p.ctx }) refl x.same.follows.source_type x.same.options ∙ a.flags_are) x.at;
     same = record { follows = follows_on (ctx_set c a.at).0 (follows_on x.same.follows (ctx_set p.ctx x.at.at).0); options = x.same.options; ctx = refl; depth = x.same.depth; visits = x.same.visits; early = x.same.early; lies = x.same.lies; meets = x.same.meets };
     forward = x.forward;
@@ -64,15 +68,15 @@ module _ {text : List ℕ} where
     strips = x.strips;
     pass = x.pass;
     walked = x.walked;
-    read = λ e s. verdict_of (x.read e s) (λ y. record { reach = max 0 y.reach; near = let i = y.near in omega arith; goes = inside e f ▹ y.goes }) (λ n. none_outside e f n);
-    none = λ e s. none_outside e f (x.none e s);
+    read = λ e s. verdict_of (x.read e s) (λ y. record { reach = max 0 y.reach; near = let i = y.near in omega arith; goes = inside w e f ▹ y.goes }) (λ n. none_outside w e f n);
+    none = λ e s. none_outside w e f (x.none e s);
     kept = x.kept;
     held = x.held;
     keeps = x.keeps;
   }
 
-  pub first_outside : {f : Flags} {p o q w : Parser} {c d : Context} {first : Option NodeId} → At text f p → d ≡ p.ctx → o ≡ record p { ctx = c } → FirstTaken text (minus_in f) o q first → w ≡ record q { ctx = d } → FirstTaken text f p w first
-  first_outside {f} {p} {o} {q} {w} {c} {d} {first} a i h x j = subst (λ (r : Parser). FirstTaken text f p r first) (sym (j ∙ ap (λ (v : Context). record q { ctx = v }) i)) (out_of a (subst (λ (r : Parser). FirstTaken text (minus_in f) r q first) h x))
+  pub first_outside : {f : Flags} {w : Bool} {p o q v : Parser} {c d : Context} {first : Option NodeId} → At text f p → d ≡ p.ctx → o ≡ record p { ctx = c } → FirstTaken text (minus_in f) w o q first → v ≡ record q { ctx = d } → FirstTaken text f w p v first
+  first_outside {f} {w} {p} {o} {q} {v} {c} {d} {first} a i h x j = subst (λ (r : Parser). FirstTaken text f w p r first) (sym (j ∙ ap (λ (u : Context). record q { ctx = u }) i)) (out_of a (subst (λ (r : Parser). FirstTaken text (minus_in f) w r q first) h x))
 
-pub first_stops_outside : (text : List ℕ) (f : Flags) (p o q : Parser) (c : Context) (x : Stop) → IsAt p → o ≡ record p { ctx = c } → Stops o q x ((e : Ending) → NoFirst text e (minus_in f) o.prev_token_end) → Stops p q x ((e : Ending) → NoFirst text e f p.prev_token_end)
-first_stops_outside text f p o q c x a h z = stops_later q x (ctx_set c a).0 (λ w. w) (λ w. w) (λ n. n) (λ g. g) (λ n e. none_outside e f (n e)) (subst (λ (r : Parser). Stops r q x ((e : Ending) → NoFirst text e (minus_in f) r.prev_token_end)) h z)
+pub first_stops_outside : (text : List ℕ) (f : Flags) (w : Bool) (p o q : Parser) (c : Context) (x : Stop) → IsAt p → o ≡ record p { ctx = c } → Stops o q x ((e : Ending) → NoFirstPart text w e (minus_in f) o.prev_token_end) → Stops p q x ((e : Ending) → NoFirstPart text w e f p.prev_token_end)
+first_stops_outside text f w p o q c x a h z = stops_later q x (ctx_set c a).0 (λ w. w) (λ w. w) (λ n. n) (λ g. g) (λ n e. none_outside w e f (n e)) (subst (λ (r : Parser). Stops r q x ((e : Ending) → NoFirstPart text w e (minus_in f) r.prev_token_end)) h z)

@@ -54,7 +54,7 @@ use Rattle.js_declarations.proofs.HeadDeclarators.{list_alone}
 use Rattle.js_declarations.proofs.SpansMarked.{span_marked}
 use Rattle.js_statements.specs.declared.for_statement.Ending.{Ending}
 use Rattle.js_statements.specs.declared.for_statement.Ending.TheVariants as ending
-use Rattle.js_statements.specs.ForHeads.{FirstTaken, NoFirst, end_kind, first_part}
+use Rattle.js_statements.specs.ForHeads.{FirstTaken, NoFirst, NoFirstPart, end_kind, first_part}
 use Rattle.js_statements.specs.ForParts.{BeginsHead, FaultOf, HeadFault, TellsHead, is_var, may_be, may_not, may_stand, none_stands, through_kind}
 use Rattle.js_statements.specs.LetStatements.{behind_let, LetHere}
 use Rattle.js_parsing.proofs.Giving.{kept_one}
@@ -67,9 +67,9 @@ use Rattle.js_parsing.proofs.Told.{told_at, told_same}
 use Rattle.js_parsing.proofs.Verdicts.{behind_none, either_way, grown_both, grown_then, verdict_of}
 use Rattle.js_parsing.proofs.Verdicts.{after as grown_behind}
 use Rattle.js_statements.proofs.CompoundStatements.{no_token}
-use Rattle.js_statements.proofs.ForHeads.{no_empty}
+use Rattle.js_statements.proofs.ForHeads.{no_empty, no_first_part}
 use Rattle.js_statements.proofs.ForParts.{look_in, path_not, stretch_not, verdict_not, without}
-use Rattle.js_statements.proofs.LetLookaheads.{followed, is_let}
+use Rattle.js_statements.proofs.WordLookaheads.{followed, is_word, let_word}
 
 -- ---- the word, and what it leaves of the three lines
 
@@ -115,7 +115,7 @@ let_goes_on = refl
 
 module _ {text : List ℕ} {f : Flags} {s : Parser} (a : At text f s) where
   declared_by_let : {X : Test} {g : G} → LetHere true s → Fails rule (Lex text) X end (not_then (is kind.Let) (word_or (kind.LBrack ∷ kind.LCurly ∷ [])) ▸ g) s.prev_token_end
-  declared_by_let h = followed a (word_or (kind.LBrack ∷ kind.LCurly ∷ [])) h.here (λ z l. covered (λ k w e. behind_let true k) (word_or (kind.LBrack ∷ kind.LCurly ∷ [])) let_goes_on z.kind z.newline z.escaped (ap (behind_let true) (h.behind text f a z l) ∙ h.goes_on))
+  declared_by_let h = followed a let_word (word_or (kind.LBrack ∷ kind.LCurly ∷ [])) h.here (λ z l. covered (λ k w e. behind_let true k) (word_or (kind.LBrack ∷ kind.LCurly ∷ [])) let_goes_on z.kind z.newline z.escaped (ap (behind_let true) (h.behind text f a z l) ∙ h.goes_on))
 
   other_word : {X : Test} {g : G} (w v : Kind) → (is_right_angle w || one_of_kinds other_goals w) ≡ false → (v ≡ w → ⊥) → StandsHere s v true → Fails rule (Lex text) X end (op variable_declaration w (tok w ▸ g)) s.prev_token_end
   other_word w v r n h = fails_node inside_full (no_token a w r (λ i j. n (sym h.0 ∙ i)))
@@ -134,27 +134,29 @@ module _ {text : List ℕ} {f : Flags} {s : Parser} (a : At text f s) where
   init_word declared.Let h = at_kind a kind.Let h.here.0 refl ▹ right (declared_by_let h)
 
   -- before `in`
-  in_bound : (k : DeclarationKind) → BeginsHead k s → {X : Test} → Fails rule (Lex text) X end (value_node f) s.prev_token_end → Goes rule (Lex text) X end (first_part ending.In f) s.prev_token_end (bound_node (declaration_kind k) f) s.prev_token_end (λ us. us) (still 0)
+  in_bound : (is_await : Bool) (k : DeclarationKind) → BeginsHead k s → {X : Test} → Fails rule (Lex text) X end (value_node f) s.prev_token_end → Goes rule (Lex text) X end (first_part is_await ending.In f) s.prev_token_end (bound_node (declaration_kind k) f) s.prev_token_end (λ us. us) (still 0)
   unfolding covers apart
-  in_bound declared.Var h n = at_kind a kind.Var h.0 refl ▹ left n
-  in_bound declared.Const h n = at_kind a kind.Const h.0 refl
-  in_bound declared.Let h n = right (declared_by_let h) ▹ (left n ▹ to_bound declared.Let h.here)
+  in_bound is_await declared.Var h n = at_kind a kind.Var h.0 refl ▹ left n
+  in_bound is_await declared.Const h n = at_kind a kind.Const h.0 refl
+  in_bound is_await declared.Let h n = right (declared_by_let h) ▹ (left n ▹ to_bound declared.Let h.here)
 
-  in_value : (k : DeclarationKind) → BeginsHead k s → is_var k ≡ true → {X : Test} → Fails rule (Lex text) X end (bound_node (declaration_kind k) f) s.prev_token_end → Goes rule (Lex text) X end (first_part ending.In f) s.prev_token_end (value_node f) s.prev_token_end (λ us. us) (still 0)
+  in_value : (is_await : Bool) (k : DeclarationKind) → BeginsHead k s → is_var k ≡ true → {X : Test} → Fails rule (Lex text) X end (bound_node (declaration_kind k) f) s.prev_token_end → Goes rule (Lex text) X end (first_part is_await ending.In f) s.prev_token_end (value_node f) s.prev_token_end (λ us. us) (still 0)
   unfolding covers apart
-  in_value declared.Var h e n = at_kind a kind.Var h.0 refl ▹ right n
-  in_value declared.Const h e n = absurd (false≢true e)
-  in_value declared.Let h e n = absurd (false≢true e)
+  in_value is_await declared.Var h e n = at_kind a kind.Var h.0 refl ▹ right n
+  in_value is_await declared.Const h e n = absurd (false≢true e)
+  in_value is_await declared.Let h e n = absurd (false≢true e)
 
-  in_none : (k : DeclarationKind) → BeginsHead k s → {X : Test} → Fails rule (Lex text) X end (bound_node (declaration_kind k) f) s.prev_token_end → Fails rule (Lex text) X end (value_node f) s.prev_token_end → Fails rule (Lex text) X end (first_part ending.In f) s.prev_token_end
-  in_none k h n v = in_bound k h v ▹✗ n
+  in_none : (is_await : Bool) (k : DeclarationKind) → BeginsHead k s → {X : Test} → Fails rule (Lex text) X end (bound_node (declaration_kind k) f) s.prev_token_end → Fails rule (Lex text) X end (value_node f) s.prev_token_end → Fails rule (Lex text) X end (first_part is_await ending.In f) s.prev_token_end
+  in_none is_await k h n v = in_bound is_await k h v ▹✗ n
 
   -- before `of`
-  of_bound : (k : DeclarationKind) → BeginsHead k s → {X : Test} → Goes rule (Lex text) X end (first_part ending.Of f) s.prev_token_end (bound_node (declaration_kind k) f) s.prev_token_end (λ us. us) (still 0)
+  of_bound : (is_await : Bool) (k : DeclarationKind) → BeginsHead k s → {X : Test} → Goes rule (Lex text) X end (first_part is_await ending.Of f) s.prev_token_end (bound_node (declaration_kind k) f) s.prev_token_end (λ us. us) (still 0)
   unfolding covers apart
-  of_bound declared.Var h = at_kind a kind.Var h.0 refl
-  of_bound declared.Const h = at_kind a kind.Const h.0 refl
-  of_bound declared.Let h = right (part_fails {X' = plain full} (fails_look (other (is kind.Let)) (λ y l q. false≢true (sym (ap not (is_let a h.here y l)) ∙ q))) (record { admits = λ ts us vs j k ls mid rest d d' e. (refl, refl) })) ▹ to_bound declared.Let h.here
+  of_bound true declared.Var h = at_kind a kind.Var h.0 refl
+  of_bound false declared.Var h = at_kind a kind.Var h.0 refl
+  of_bound true declared.Const h = at_kind a kind.Const h.0 refl
+  of_bound false declared.Const h = at_kind a kind.Const h.0 refl
+  of_bound is_await declared.Let h = right (part_fails {X' = plain full} (fails_look (other (is kind.Let)) (λ y l q. false≢true (sym (ap not (is_word a let_word h.here y l)) ∙ q))) (record { admits = λ ts us vs j k ls mid rest d d' e. (refl, refl) })) ▹ to_bound declared.Let h.here
 
 -- ---- the node of a list
 
@@ -216,22 +218,22 @@ pub record ReadTo (text : List ℕ) (f : Flags) (p q : Parser) : Type 0 where
   pub walked : Walked text (spot p) (spot q) pass
 
 -- as the first part of a head, with these slots
-record FirstRead (text : List ℕ) (f : Flags) (p q : Parser) (us : Slots) (l : Label) (pass : Lexemes → Lexemes) : Type 0 where
+record FirstRead (text : List ℕ) (f : Flags) (is_await : Bool) (p q : Parser) (us : Slots) (l : Label) (pass : Lexemes → Lexemes) : Type 0 where
   at : At text f q
   same : Same p q
   further : p.token.span.start < q.prev_token_end
   walked : Walked text (spot p) (spot q) pass
-  read : (e : Ending) → StandsHere q (end_kind e) true → Verdict p.errors q.errors (Stretch text (plain (is (end_kind e))) (first_part e f) p.prev_token_end nothing q.prev_token_end (tree l us) pass) (NoFirst text e f p.prev_token_end)
-  none : (e : Ending) → StandsHere q (end_kind e) false → NoFirst text e f p.prev_token_end
+  read : (e : Ending) → StandsHere q (end_kind e) true → Verdict p.errors q.errors (Stretch text (plain (is (end_kind e))) (first_part is_await e f) p.prev_token_end nothing q.prev_token_end (tree l us) pass) (NoFirst text is_await e f p.prev_token_end)
+  none : (e : Ending) → StandsHere q (end_kind e) false → NoFirst text is_await e f p.prev_token_end
   kept : (ds : List Diagnostic) → Grown q.errors ds → Grown p.errors ds
 
-module _ {text : List ℕ} {f : Flags} {p : Parser} (a : At text f p) where
+module _ {text : List ℕ} {f : Flags} (is_await : Bool) {p : Parser} (a : At text f p) where
   -- and its node was made
-  first_made : {q w : Parser} {l : Label} {us : Slots} {pass : Lexemes → Lexemes} {ids : List (Option NodeId)} {id : NodeId} → FirstRead text f p q us l pass → HoldsAll q.nodes (length p.nodes) (length q.nodes) ids us → Keeps p.nodes q.nodes → l.span ≡ record { from = p.token.span.start; to = q.prev_token_end } → MadeHere l ids q w id → FirstTaken text f p w (Some id)
+  first_made : {q w : Parser} {l : Label} {us : Slots} {pass : Lexemes → Lexemes} {ids : List (Option NodeId)} {id : NodeId} → FirstRead text f is_await p q us l pass → HoldsAll q.nodes (length p.nodes) (length q.nodes) ids us → Keeps p.nodes q.nodes → l.span ≡ record { from = p.token.span.start; to = q.prev_token_end } → MadeHere l ids q w id → FirstTaken text f is_await p w (Some id)
   first_made {q} {w} {l} {us} {pass} {ids} {id} x h k e n = go w.nodes n.stays (node_held n h) (Keeps-trans k (Keeps-made n.made)) (made_lies x.same x.at.at (let i = x.further in omega arith) n e)
     where
-      go : (ns : List Node) → w ≡ record q { nodes = ns } → Holds w.nodes (length p.nodes) (length w.nodes) id.0 l us → Keeps p.nodes w.nodes → (IsCharBoundary p.text p.token.span.start → NodesLie q.text q.nodes → NodesLie q.text w.nodes) → FirstTaken text f p w (Some id)
-      go ns m g k' i = subst (λ (z : Parser). FirstTaken text f p z (Some id)) (sym m) (record {
+      go : (ns : List Node) → w ≡ record q { nodes = ns } → Holds w.nodes (length p.nodes) (length w.nodes) id.0 l us → Keeps p.nodes w.nodes → (IsCharBoundary p.text p.token.span.start → NodesLie q.text q.nodes → NodesLie q.text w.nodes) → FirstTaken text f is_await p w (Some id)
+      go ns m g k' i = subst (λ (z : Parser). FirstTaken text f is_await p z (Some id)) (sym m) (record {
         at = beside_nodes ns x.at;
         same = same_with ns x.same (subst (λ (z : Parser). Keeps p.nodes z.nodes) m k') (λ b z. subst (λ (v : Parser). NodesLie q.text v.nodes) m (i b z));
         forward = let j = x.further in let o = a.behind in omega arith;
@@ -241,15 +243,15 @@ module _ {text : List ℕ} {f : Flags} {p : Parser} (a : At text f p) where
         strips = λ vs. refl;
         pass = pass;
         walked = x.walked;
-        read = λ e s. x.read e s;
-        none = λ e s. x.none e s;
+        read = λ e s. verdict_of (x.read e s) (λ y. y) (λ n. no_first_part f is_await e n);
+        none = λ e s. no_first_part f is_await e (x.none e s);
         kept = λ ds d. x.kept ds d;
         held = HoldsAll-one id (subst (λ (z : Parser). Holds z.nodes (length p.nodes) (length z.nodes) id.0 l us) m g);
         keeps = subst (λ (z : Parser). Keeps p.nodes z.nodes) m k';
       })
 
   -- that none is derived was told
-  told_read : {q r : Parser} {us : Slots} {l : Label} {pass : Lexemes → Lexemes} {d : Diagnostic} → At text f q → Same p q → p.token.span.start < q.prev_token_end → Walked text (spot p) (spot q) pass → ((ds : List Diagnostic) → Grown q.errors ds → Grown p.errors ds) → ((e : Ending) → NoFirst text e f p.prev_token_end) → IsEarly d → KeepsOne d q r → FirstRead text f p r us l pass
+  told_read : {q r : Parser} {us : Slots} {l : Label} {pass : Lexemes → Lexemes} {d : Diagnostic} → At text f q → Same p q → p.token.span.start < q.prev_token_end → Walked text (spot p) (spot q) pass → ((ds : List Diagnostic) → Grown q.errors ds → Grown p.errors ds) → ((e : Ending) → NoFirst text is_await e f p.prev_token_end) → IsEarly d → KeepsOne d q r → FirstRead text f is_await p r us l pass
   told_read b s j w g n y u = record {
     at = told_at u b;
     same = same_both s (told_same u y);
@@ -263,6 +265,44 @@ module _ {text : List ℕ} {f : Flags} {p : Parser} (a : At text f p) where
 -- ---- behind the word
 
 module _ {text : List ℕ} {f : Flags} {p q : Parser} (k : DeclarationKind) (a : At text f p) (b : BeginsHead k p) (i : f.in_ ≡ false) (m : Moved text f p q) where
+  -- ---- of several declarators
+  module _ (r : Parser) (j : r.token.kind ≡ kind.Comma) where
+    not_through : {first : NodeId} (g : HeadForm) → HeadRead g text f (is_constant k) q r (record { node = first; form = g }) → BesideThrough text f (is_constant k) g q r first
+    not_through form.Through x = absurd (by x.here)
+      where
+        by : ThroughHere r true → ⊥
+        by (inl h) = let z : kind.Comma ≡ kind.In = sym j ∙ h.0 in cc
+        by (inr h) = let z : kind.Comma ≡ kind.Of = sym j ∙ h.0 in cc
+    not_through form.Bare x = x
+    not_through form.InitialisedName x = x
+    not_through form.InitialisedPattern x = x
+
+    pub first_of_several : (first : NodeId) (g : HeadForm) → HeadRead g text f (is_constant k) q r (record { node = first; form = g }) → {u : Parser} {ids : List (Option NodeId)} → DeclaratorsBehind (is_constant k) first r u ids → HeadList text f (is_constant k) q u ids
+    first_of_several first g x y = y.1 text f q m.at (not_through g x).read
+
+  -- ---- marks
+
+  pub list_reached : {v : Parser} {ids : List (Option NodeId)} → HeadList text f (is_constant k) q v ids → ReadTo text f p v
+  list_reached y = record { at = y.at; same = same_both m.same y.same; further = let j = m.further in let o = m.at.behind in let d = y.further in omega arith; pass = λ ls. next m.lexeme (y.pass ls); walked = walked_both (walked_one m) y.walked }
+
+  pub one_reached : (g : HeadForm) (r : Parser) (first : NodeId) → HeadRead g text f (is_constant k) q r (record { node = first; form = g }) → ReadTo text f p r
+  one_reached form.Through r first x = record { at = x.at; same = same_both m.same x.same; further = let j = m.further in let o = m.at.behind in let d = x.further in omega arith; pass = λ ls. next m.lexeme (x.pass ls); walked = walked_both (walked_one m) x.walked }
+  one_reached form.Bare r first x = record { at = x.read.at; same = same_both m.same x.read.same; further = let j = m.further in let o = m.at.behind in let d = x.read.further in omega arith; pass = λ ls. next m.lexeme (x.read.pass ls); walked = walked_both (walked_one m) x.read.walked }
+  one_reached form.InitialisedName r first x = record { at = x.read.at; same = same_both m.same x.read.same; further = let j = m.further in let o = m.at.behind in let d = x.read.further in omega arith; pass = λ ls. next m.lexeme (x.read.pass ls); walked = walked_both (walked_one m) x.read.walked }
+  one_reached form.InitialisedPattern r first x = record { at = x.read.at; same = same_both m.same x.read.same; further = let j = m.further in let o = m.at.behind in let d = x.read.further in omega arith; pass = λ ls. next m.lexeme (x.read.pass ls); walked = walked_both (walked_one m) x.read.walked }
+
+  pub fault_marked : {r : Parser} → ReadTo text f p r → (s : Span) → s.start ≡ p.token.span.start → s.end ≡ r.prev_token_end → (d : DiagnosticKind) → HeadFault d → Mark (goal r) r.text (unrelated_at d s)
+  fault_marked {r} x s c e d h = by h
+    where
+      marked : (d : DiagnosticKind) → Mark (goal r) r.text (unrelated_at d s) → (v : DiagnosticKind) → v ≡ d → Mark (goal r) r.text (unrelated_at v s)
+      marked d m v e = subst (λ (z : DiagnosticKind). Mark (goal r) r.text (unrelated_at z s)) (sym e) m
+
+      by : HeadFault d → Mark (goal r) r.text (unrelated_at d s)
+      by (inl q) = marked fault.MultipleDeclarationsInForLoopHead (span_marked a (a_lexeme_stands k p (word_stands k p b)) x.at x.same x.walked x.further fault.MultipleDeclarationsInForLoopHead s refl (λ s i j. ((i, j), (refl, refl))) c e) d q
+      by (inr (inl q)) = marked fault.InitializerInForInLexicalDeclaration (span_marked a (a_lexeme_stands k p (word_stands k p b)) x.at x.same x.walked x.further fault.InitializerInForInLexicalDeclaration s refl (λ s i j. ((i, j), (refl, refl))) c e) d q
+      by (inr (inr q)) = marked fault.InitializerInForHead (span_marked a (a_lexeme_stands k p (word_stands k p b)) x.at x.same x.walked x.further fault.InitializerInForHead s refl (λ s i j. ((i, j), (refl, refl))) c e) d q
+
+module _ {text : List ℕ} {f : Flags} (is_await : Bool) {p q : Parser} (k : DeclarationKind) (a : At text f p) (b : BeginsHead k p) (i : f.in_ ≡ false) (m : Moved text f p q) where
   abbrev word : Kind
   word = declaration_kind k
 
@@ -272,7 +312,7 @@ module _ {text : List ℕ} {f : Flags} {p q : Parser} (k : DeclarationKind) (a :
   behind_word : {X : Test} {g : G} → Goes rule (Lex text) X end (tok (declaration_kind k) ▸ g) p.prev_token_end g q.prev_token_end (λ us. us) (passing m.lexeme)
   behind_word = skips a (declaration_kind k) here_word.0 here_word.1 (word_read k) m
 
-  no_init_node : Fails rule (Lex text) (plain (is kind.Semicolon)) end (op variable_declaration (declaration_kind k) (declarators (declaration_kind k) f)) p.prev_token_end → NoFirst text ending.Semicolon f p.prev_token_end
+  no_init_node : Fails rule (Lex text) (plain (is kind.Semicolon)) end (op variable_declaration (declaration_kind k) (declarators (declaration_kind k) f)) p.prev_token_end → NoFirst text is_await ending.Semicolon f p.prev_token_end
   no_init_node n = fails_alt (fails_rule {X' = plain (is kind.Semicolon)} (λ l cs vs y e. e) (init_word a k b ▹✗ subst (λ (g : Flags). Fails rule (Lex text) (plain (is kind.Semicolon)) end (op variable_declaration (declaration_kind k) (declarators (declaration_kind k) g)) p.prev_token_end) (sym (without i)) n)) (no_empty a kind.Semicolon (inl refl) (not_semicolon k p here_word))
 
   no_value_node : Fails rule (Lex text) (plain (is kind.In)) end (named_value f) q.prev_token_end → Fails rule (Lex text) (plain (is kind.In)) end (value_node f) p.prev_token_end
@@ -286,24 +326,24 @@ module _ {text : List ℕ} {f : Flags} {p q : Parser} (k : DeclarationKind) (a :
   no_bound_node : {T : Look} → Fails rule (Lex text) (plain T) end (bound_alone f) q.prev_token_end → Fails rule (Lex text) (plain T) end (bound_node (declaration_kind k) f) p.prev_token_end
   no_bound_node {T} n = fails_node {X' = plain T} (record { ends = λ s cs vs j ls mid d e. e }) (behind_word ▹✗ n)
 
-  no_list : NoneOf text (list_of (is_constant k) f) q.prev_token_end → NoFirst text ending.Semicolon f p.prev_token_end
+  no_list : NoneOf text (list_of (is_constant k) f) q.prev_token_end → NoFirst text is_await ending.Semicolon f p.prev_token_end
   no_list n = no_init_node (no_list_node a (declaration_kind k) (none_behind behind_word n))
 
   -- neither is what is bound alone
   module _ (n : Fails rule (Lex text) (plain ends_head) end (bound_alone f) q.prev_token_end) where
-    no_of : NoFirst text ending.Of f p.prev_token_end
-    no_of = of_bound a k b ▹✗ no_bound_node (before_of n)
+    no_of : NoFirst text is_await ending.Of f p.prev_token_end
+    no_of = of_bound a is_await k b ▹✗ no_bound_node (before_of n)
 
-    no_in : Fails rule (Lex text) (plain (is kind.In)) end (value_node f) p.prev_token_end → NoFirst text ending.In f p.prev_token_end
-    no_in v = in_none a k b (no_bound_node (before_in n)) v
+    no_in : Fails rule (Lex text) (plain (is kind.In)) end (value_node f) p.prev_token_end → NoFirst text is_await ending.In f p.prev_token_end
+    no_in v = in_none a is_await k b (no_bound_node (before_in n)) v
 
-  pub head_none : NoHeadDeclarator text f (is_constant k) q.prev_token_end → (e : Ending) → NoFirst text e f p.prev_token_end
+  pub head_none : NoHeadDeclarator text f (is_constant k) q.prev_token_end → (e : Ending) → NoFirst text is_await e f p.prev_token_end
   head_none n ending.Semicolon = no_list (no_first (is_constant k) n.no_one)
   head_none n ending.In = no_in n.not_alone (no_value_node (n.no_value i))
   head_none n ending.Of = no_of n.not_alone
 
-  pub head_stops : (v : Parser) (e : Stop) → Stops q v e (NoHeadDeclarator text f (is_constant k) q.prev_token_end) → Stops p v e ((e : Ending) → NoFirst text e f p.prev_token_end)
-  head_stops v e s = stops_behind v e m.same (λ g. grown_then m.kept g) (λ n. head_none n) s
+  pub head_stops : (v : Parser) (e : Stop) → Stops q v e (NoHeadDeclarator text f (is_constant k) q.prev_token_end) → Stops p v e ((e : Ending) → NoFirstPart text is_await e f p.prev_token_end)
+  head_stops v e s = stops_behind v e m.same (λ g. grown_then m.kept g) (λ n d. no_first_part f is_await d (head_none n d)) s
 
   -- ---- before `in` or `of` what is bound alone
   module _ {r : Parser} {first : NodeId} (x : BoundThrough text f (is_constant k) q r first) where
@@ -313,28 +353,28 @@ module _ {text : List ℕ} {f : Flags} {p q : Parser} (k : DeclarationKind) (a :
     abbrev bound_pass : Lexemes → Lexemes
     bound_pass ls = next m.lexeme (x.pass ls)
 
-    bound_verdict : (e : Ending) → Goes rule (Lex text) (plain (is (end_kind e))) end (first_part e f) p.prev_token_end (bound_node (declaration_kind k) f) p.prev_token_end (λ us. us) (still 0) → Verdict p.errors r.errors (Stretch text (plain (is (end_kind e))) (first_part e f) p.prev_token_end nothing r.prev_token_end (tree (label_here variable_declaration (of (declaration_kind k)) p r) bound_slots) bound_pass) (NoFirst text e f p.prev_token_end)
+    bound_verdict : (e : Ending) → Goes rule (Lex text) (plain (is (end_kind e))) end (first_part is_await e f) p.prev_token_end (bound_node (declaration_kind k) f) p.prev_token_end (λ us. us) (still 0) → Verdict p.errors r.errors (Stretch text (plain (is (end_kind e))) (first_part is_await e f) p.prev_token_end nothing r.prev_token_end (tree (label_here variable_declaration (of (declaration_kind k)) p r) bound_slots) bound_pass) (NoFirst text is_await e f p.prev_token_end)
     bound_verdict e l = behind_none m.kept (verdict_of x.verdict (λ y. made y) (λ n. l ▹✗ fails_node inside_full (behind_word ▹✗ n)))
       where
-        made : Stretch text (plain full) (bound_alone f) q.prev_token_end nothing r.prev_token_end (tree x.label x.slots) x.pass → Stretch text (plain (is (end_kind e))) (first_part e f) p.prev_token_end nothing r.prev_token_end (tree (label_here variable_declaration (of (declaration_kind k)) p r) bound_slots) bound_pass
+        made : Stretch text (plain full) (bound_alone f) q.prev_token_end nothing r.prev_token_end (tree x.label x.slots) x.pass → Stretch text (plain (is (end_kind e))) (first_part is_await e f) p.prev_token_end nothing r.prev_token_end (tree (label_here variable_declaration (of (declaration_kind k)) p r) bound_slots) bound_pass
         made y =
             let z = noding {X = plain (is (end_kind e))} {X' = plain full} {k = variable_declaration} {o = of (declaration_kind k)} {pass = bound_pass} r a inside_full (record { reach = max 0 y.reach; near = let i = y.near in omega arith; goes = behind_word ▹ y.goes }) in
             record { reach = max 0 z.reach; near = let i = z.near in omega arith; goes = l ▹ z.goes }
 
-    bound_in : Verdict p.errors r.errors (Stretch text (plain (is kind.In)) (first_part ending.In f) p.prev_token_end nothing r.prev_token_end (tree (label_here variable_declaration (of (declaration_kind k)) p r) bound_slots) bound_pass) (NoFirst text ending.In f p.prev_token_end)
-    bound_in = bound_verdict ending.In (in_bound a k b (no_value_node x.no_value))
+    bound_in : Verdict p.errors r.errors (Stretch text (plain (is kind.In)) (first_part is_await ending.In f) p.prev_token_end nothing r.prev_token_end (tree (label_here variable_declaration (of (declaration_kind k)) p r) bound_slots) bound_pass) (NoFirst text is_await ending.In f p.prev_token_end)
+    bound_in = bound_verdict ending.In (in_bound a is_await k b (no_value_node x.no_value))
 
-    bound_of : Verdict p.errors r.errors (Stretch text (plain (is kind.Of)) (first_part ending.Of f) p.prev_token_end nothing r.prev_token_end (tree (label_here variable_declaration (of (declaration_kind k)) p r) bound_slots) bound_pass) (NoFirst text ending.Of f p.prev_token_end)
-    bound_of = bound_verdict ending.Of (of_bound a k b)
+    bound_of : Verdict p.errors r.errors (Stretch text (plain (is kind.Of)) (first_part is_await ending.Of f) p.prev_token_end nothing r.prev_token_end (tree (label_here variable_declaration (of (declaration_kind k)) p r) bound_slots) bound_pass) (NoFirst text is_await ending.Of f p.prev_token_end)
+    bound_of = bound_verdict ending.Of (of_bound a is_await k b)
 
-    no_list_there : NoFirst text ending.Semicolon f p.prev_token_end
+    no_list_there : NoFirst text is_await ending.Semicolon f p.prev_token_end
     no_list_there = no_init_node (fails_node {X' = plain (is kind.Semicolon)} (record { ends = λ s cs vs j ls mid d e. e }) (behind_word ▹✗ x.no_list))
 
     none_ends : ThroughHere r true → StandsHere r kind.Semicolon true → ⊥
     none_ends (inl h) s = let z : kind.In ≡ kind.Semicolon = sym h.0 ∙ s.0 in cc
     none_ends (inr h) s = let z : kind.Of ≡ kind.Semicolon = sym h.0 ∙ s.0 in cc
 
-    bound_read : FirstRead text f p r bound_slots (label_here variable_declaration (of (declaration_kind k)) p r) (λ ls. next m.lexeme (x.pass ls))
+    bound_read : FirstRead text f is_await p r bound_slots (label_here variable_declaration (of (declaration_kind k)) p r) (λ ls. next m.lexeme (x.pass ls))
     bound_read = record {
       at = x.at;
       same = same_both m.same x.same;
@@ -345,12 +385,12 @@ module _ {text : List ℕ} {f : Flags} {p q : Parser} (k : DeclarationKind) (a :
       kept = λ ds g. grown_then m.kept (grown_behind x.verdict g);
     }
       where
-        reads : (e : Ending) → StandsHere r (end_kind e) true → Verdict p.errors r.errors (Stretch text (plain (is (end_kind e))) (first_part e f) p.prev_token_end nothing r.prev_token_end (tree (label_here variable_declaration (of (declaration_kind k)) p r) bound_slots) (λ ls. next m.lexeme (x.pass ls))) (NoFirst text e f p.prev_token_end)
+        reads : (e : Ending) → StandsHere r (end_kind e) true → Verdict p.errors r.errors (Stretch text (plain (is (end_kind e))) (first_part is_await e f) p.prev_token_end nothing r.prev_token_end (tree (label_here variable_declaration (of (declaration_kind k)) p r) bound_slots) (λ ls. next m.lexeme (x.pass ls))) (NoFirst text is_await e f p.prev_token_end)
         reads ending.Semicolon s = absurd (none_ends x.here s)
         reads ending.In s = bound_in
         reads ending.Of s = bound_of
 
-        fails : (e : Ending) → StandsHere r (end_kind e) false → NoFirst text e f p.prev_token_end
+        fails : (e : Ending) → StandsHere r (end_kind e) false → NoFirst text is_await e f p.prev_token_end
         fails ending.Semicolon s = no_list_there
         fails ending.In s = verdict_not ending.In bound_in x.at s
         fails ending.Of s = verdict_not ending.Of bound_of x.at s
@@ -366,7 +406,7 @@ module _ {text : List ℕ} {f : Flags} {p q : Parser} (k : DeclarationKind) (a :
       verdict = behind_none m.kept (verdict_of y.verdict (λ z. list_noded a (declaration_kind k) v (all_behind behind_word z (let d = y.further in omega arith))) (λ n. no_list_node a (declaration_kind k) (none_behind behind_word n)));
     }
 
-    init_path : Path text f (plain (is kind.Semicolon)) (first_part ending.Semicolon f) p nothing v (tree (label_here variable_declaration (of (declaration_kind k)) p v) y.slots)
+    init_path : Path text f (plain (is kind.Semicolon)) (first_part is_await ending.Semicolon f) p nothing v (tree (label_here variable_declaration (of (declaration_kind k)) p v) y.slots)
     init_path = left (no_empty a kind.Semicolon (inl refl) (not_semicolon k p here_word)) ⟼ by_symbol_as {X' = plain (is kind.Semicolon)} (λ l cs vs y e. e) (init_word a k b ⟼ subst (λ (h : Flags). Path text f (plain (is kind.Semicolon)) (op variable_declaration (declaration_kind k) (declarators (declaration_kind k) h)) p nothing v (tree (label_here variable_declaration (of (declaration_kind k)) p v) y.slots)) (sym (without i)) list_path)
 
     list_grown : {ds : List Diagnostic} → Grown v.errors ds → Grown p.errors ds
@@ -379,7 +419,7 @@ module _ {text : List ℕ} {f : Flags} {p q : Parser} (k : DeclarationKind) (a :
     list_further = let j = m.further in let o = m.at.behind in let d = y.further in omega arith
 
     -- before neither `in` nor `of`
-    list_read : ThroughHere v false → NoFirst text ending.In f p.prev_token_end → FirstRead text f p v y.slots (label_here variable_declaration (of (declaration_kind k)) p v) init_path.pass
+    list_read : ThroughHere v false → NoFirst text is_await ending.In f p.prev_token_end → FirstRead text f is_await p v y.slots (label_here variable_declaration (of (declaration_kind k)) p v) init_path.pass
     list_read u n = record {
       at = y.at;
       same = list_same;
@@ -390,12 +430,12 @@ module _ {text : List ℕ} {f : Flags} {p q : Parser} (k : DeclarationKind) (a :
       kept = λ ds g. list_grown g;
     }
       where
-        reads : (e : Ending) → StandsHere v (end_kind e) true → Verdict p.errors v.errors (Stretch text (plain (is (end_kind e))) (first_part e f) p.prev_token_end nothing v.prev_token_end (tree (label_here variable_declaration (of (declaration_kind k)) p v) y.slots) init_path.pass) (NoFirst text e f p.prev_token_end)
+        reads : (e : Ending) → StandsHere v (end_kind e) true → Verdict p.errors v.errors (Stretch text (plain (is (end_kind e))) (first_part is_await e f) p.prev_token_end nothing v.prev_token_end (tree (label_here variable_declaration (of (declaration_kind k)) p v) y.slots) init_path.pass) (NoFirst text is_await e f p.prev_token_end)
         reads ending.Semicolon s = init_path.verdict
         reads ending.In s = absurd (u.0 s.0 s.1)
         reads ending.Of s = absurd (u.1 s.0 s.1)
 
-        fails : (e : Ending) → StandsHere v (end_kind e) false → NoFirst text e f p.prev_token_end
+        fails : (e : Ending) → StandsHere v (end_kind e) false → NoFirst text is_await e f p.prev_token_end
         fails ending.Semicolon s = path_not ending.Semicolon init_path y.at s
         fails ending.In s = n
         fails ending.Of s = no_of x.not_alone
@@ -405,13 +445,13 @@ module _ {text : List ℕ} {f : Flags} {p q : Parser} (k : DeclarationKind) (a :
     no_semicolon_there false h = λ i j. let z : kind.Of ≡ kind.Semicolon = sym h.0 ∙ i in cc
 
     -- before one of them, where that was told
-    list_nones : (c : Bool) → StandsHere v (through_kind c) true → NoFirst text ending.In f p.prev_token_end → (e : Ending) → NoFirst text e f p.prev_token_end
+    list_nones : (c : Bool) → StandsHere v (through_kind c) true → NoFirst text is_await ending.In f p.prev_token_end → (e : Ending) → NoFirst text is_await e f p.prev_token_end
     list_nones c h n ending.Semicolon = path_not ending.Semicolon init_path y.at (no_semicolon_there c h)
     list_nones c h n ending.In = n
     list_nones c h n ending.Of = no_of x.not_alone
 
-    list_told : {u : Parser} {d : Diagnostic} (c : Bool) → StandsHere v (through_kind c) true → NoFirst text ending.In f p.prev_token_end → IsEarly d → KeepsOne d v u → FirstRead text f p u y.slots (label_here variable_declaration (of (declaration_kind k)) p v) init_path.pass
-    list_told c h n e z = told_read a y.at list_same list_further init_path.walked (λ ds g. list_grown g) (λ d. list_nones c h n d) e z
+    list_told : {u : Parser} {d : Diagnostic} (c : Bool) → StandsHere v (through_kind c) true → NoFirst text is_await ending.In f p.prev_token_end → IsEarly d → KeepsOne d v u → FirstRead text f is_await p u y.slots (label_here variable_declaration (of (declaration_kind k)) p v) init_path.pass
+    list_told c h n e z = told_read is_await a y.at list_same list_further init_path.walked (λ ds g. list_grown g) (λ d. list_nones c h n d) e z
 
     -- a name with an initialiser isn't derived before `in` where that doesn't stand behind the first one, nor another one
     no_value_there : StandsHere r kind.In false → Fails rule (Lex text) (plain (is kind.In)) end (named_value f) q.prev_token_end
@@ -423,11 +463,11 @@ module _ {text : List ℕ} {f : Flags} {p q : Parser} (k : DeclarationKind) (a :
         by form.Bare z = z
         by form.InitialisedPattern z = z
 
-    no_in_there : StandsHere r kind.In false → NoFirst text ending.In f p.prev_token_end
+    no_in_there : StandsHere r kind.In false → NoFirst text is_await ending.In f p.prev_token_end
     no_in_there n = no_in x.not_alone (no_value_node (no_value_there n))
 
     -- nor one that may not stand there
-    no_in_told : may_stand k g true true ≡ false → NoFirst text ending.In f p.prev_token_end
+    no_in_told : may_stand k g true true ≡ false → NoFirst text is_await ending.In f p.prev_token_end
     no_in_told e = no_in x.not_alone (by g e (x.value i))
       where
         lexical : (k : DeclarationKind) → BeginsHead k p → (is_var k && true) ≡ false → Fails rule (Lex text) (plain (is kind.In)) end (value_node f) p.prev_token_end
@@ -449,12 +489,12 @@ module _ {text : List ℕ} {f : Flags} {p q : Parser} (k : DeclarationKind) (a :
     behind_var : {X : Test} {w : G} → Path text f X (tok kind.Var ▸ w) p w q (λ us. us)
     behind_var = let z = var_stands k p b v in token kind.Var a z.0 z.1 refl m
 
-    value_path : Path text f (plain (is kind.In)) (first_part ending.In f) p nothing r (tree (label_here variable_declaration (of kind.Var) p r) (tree value.label value.slots end))
-    value_path = in_value a k b v (no_bound_node (before_in x.not_alone)) ⟼ subst (λ (g : Flags). Path text f (plain (is kind.In)) (op variable_declaration kind.Var (tok kind.Var ▸ mk variable_declarator (symbol BindingIdentifier f ▸ symbol Init g))) p nothing r (tree (label_here variable_declaration (of kind.Var) p r) (tree value.label value.slots end))) (sym (without i))
+    value_path : Path text f (plain (is kind.In)) (first_part is_await ending.In f) p nothing r (tree (label_here variable_declaration (of kind.Var) p r) (tree value.label value.slots end))
+    value_path = in_value a is_await k b v (no_bound_node (before_in x.not_alone)) ⟼ subst (λ (g : Flags). Path text f (plain (is kind.In)) (op variable_declaration kind.Var (tok kind.Var ▸ mk variable_declarator (symbol BindingIdentifier f ▸ symbol Init g))) p nothing r (tree (label_here variable_declaration (of kind.Var) p r) (tree value.label value.slots end))) (sym (without i))
         (noded_by {X' = plain (is kind.In)} a (record { ends = λ s cs vs j ls mid d e. e }) (behind_var ⟶ record { at = x.read.at; further = x.read.further; pass = value.pass; walked = value.walked; verdict = value.verdict }))
 
-    value_read : FirstRead text f p r (tree value.label value.slots end) (label_here variable_declaration (of (declaration_kind k)) p r) value_path.pass
-    value_read = subst (λ (w : Kind). FirstRead text f p r (tree value.label value.slots end) (label_here variable_declaration (of w) p r) value_path.pass) (var_kind k v) (record {
+    value_read : FirstRead text f is_await p r (tree value.label value.slots end) (label_here variable_declaration (of (declaration_kind k)) p r) value_path.pass
+    value_read = subst (λ (w : Kind). FirstRead text f is_await p r (tree value.label value.slots end) (label_here variable_declaration (of w) p r) value_path.pass) (var_kind k v) (record {
       at = x.read.at;
       same = list_same x y;
       further = list_further x y;
@@ -464,34 +504,34 @@ module _ {text : List ℕ} {f : Flags} {p q : Parser} (k : DeclarationKind) (a :
       kept = λ ds g. list_grown x y g;
     })
       where
-        reads : (e : Ending) → StandsHere r (end_kind e) true → Verdict p.errors r.errors (Stretch text (plain (is (end_kind e))) (first_part e f) p.prev_token_end nothing r.prev_token_end (tree (label_here variable_declaration (of kind.Var) p r) (tree value.label value.slots end)) value_path.pass) (NoFirst text e f p.prev_token_end)
+        reads : (e : Ending) → StandsHere r (end_kind e) true → Verdict p.errors r.errors (Stretch text (plain (is (end_kind e))) (first_part is_await e f) p.prev_token_end nothing r.prev_token_end (tree (label_here variable_declaration (of kind.Var) p r) (tree value.label value.slots end)) value_path.pass) (NoFirst text is_await e f p.prev_token_end)
         reads ending.Semicolon s = absurd (no_semicolon_there x y true h s.0 s.1)
         reads ending.In s = value_path.verdict
         reads ending.Of s = absurd (let z : kind.In ≡ kind.Of = sym h.0 ∙ s.0 in cc)
 
-        fails : (e : Ending) → StandsHere r (end_kind e) false → NoFirst text e f p.prev_token_end
+        fails : (e : Ending) → StandsHere r (end_kind e) false → NoFirst text is_await e f p.prev_token_end
         fails ending.Semicolon s = path_not ending.Semicolon (init_path x y) y.at s
         fails ending.In s = absurd (s h.0 h.1)
         fails ending.Of s = no_of x.not_alone
 
   -- ---- what the call answers
 
-  made_of : (r : Parser) {v w : Parser} {us : Slots} {pass : Lexemes → Lexemes} {ids : List (Option NodeId)} {id : NodeId} (s : Span) → s.start ≡ p.token.span.start → s.end ≡ r.prev_token_end → v.nodes ≡ r.nodes → v.prev_token_end ≡ r.prev_token_end → FirstRead text f p v us (label_here variable_declaration (of (declaration_kind k)) p r) pass → HoldsAll r.nodes (length q.nodes) (length r.nodes) ids us → Keeps q.nodes r.nodes → MadeHere (plain_label node.VariableDeclaration (made_op.Declaration k) s) ids v w id → FirstTaken text f p w (Some id)
+  made_of : (r : Parser) {v w : Parser} {us : Slots} {pass : Lexemes → Lexemes} {ids : List (Option NodeId)} {id : NodeId} (s : Span) → s.start ≡ p.token.span.start → s.end ≡ r.prev_token_end → v.nodes ≡ r.nodes → v.prev_token_end ≡ r.prev_token_end → FirstRead text f is_await p v us (label_here variable_declaration (of (declaration_kind k)) p r) pass → HoldsAll r.nodes (length q.nodes) (length r.nodes) ids us → Keeps q.nodes r.nodes → MadeHere (plain_label node.VariableDeclaration (made_op.Declaration k) s) ids v w id → FirstTaken text f is_await p w (Some id)
   made_of r {v} {w} {us} {pass} {ids} {id} s c d e o x h z n =
       let l : plain_label node.VariableDeclaration (made_op.Declaration k) s ≡ label_here variable_declaration (of (declaration_kind k)) p r = rw (c, d) refl in
       let hp : HoldsAll r.nodes (length p.nodes) (length r.nodes) ids us = subst (λ (ns : List Node). HoldsAll r.nodes (length ns) (length r.nodes) ids us) m.nodes h in
       let kp : Keeps p.nodes r.nodes = subst (λ (ns : List Node). Keeps ns r.nodes) m.nodes z in
-      first_made a x (subst (λ (ns : List Node). HoldsAll ns (length p.nodes) (length ns) ids us) (sym e) hp) (subst (λ (ns : List Node). Keeps p.nodes ns) (sym e) kp) (ap (λ (j : ℕ). record { from = p.token.span.start; to = j }) (sym o)) (subst (λ (u : Label). MadeHere u ids v w id) l n)
+      first_made is_await a x (subst (λ (ns : List Node). HoldsAll ns (length p.nodes) (length ns) ids us) (sym e) hp) (subst (λ (ns : List Node). Keeps p.nodes ns) (sym e) kp) (ap (λ (j : ℕ). record { from = p.token.span.start; to = j }) (sym o)) (subst (λ (u : Label). MadeHere u ids v w id) l n)
 
   -- of one declarator
   module _ (r : Parser) {v w : Parser} {first id : NodeId} (j : r.token.kind ≡ kind.Comma → ⊥) (s : Span) (c : s.start ≡ p.token.span.start) (d : s.end ≡ r.prev_token_end) (n : MadeHere (plain_label node.VariableDeclaration (made_op.Declaration k) s) (Some first ∷ []) v w id) where
-    bound_answers : BoundThrough text f (is_constant k) q r first → TellsHead k form.Through true r v → FirstTaken text f p w (Some id)
+    bound_answers : BoundThrough text f (is_constant k) q r first → TellsHead k form.Through true r v → FirstTaken text f is_await p w (Some id)
     bound_answers x t = by t
       where
-        stays : v ≡ r → FirstTaken text f p w (Some id)
-        stays e = made_of r s c d (ap (λ (z : Parser). z.nodes) e) (ap (λ (z : Parser). z.prev_token_end) e) (subst (λ (z : Parser). FirstRead text f p z (bound_slots x) (label_here variable_declaration (of (declaration_kind k)) p r) (λ ls. next m.lexeme (x.pass ls))) (sym e) (bound_read x)) (HoldsAll-one first x.holds) x.keeps n
+        stays : v ≡ r → FirstTaken text f is_await p w (Some id)
+        stays e = made_of r s c d (ap (λ (z : Parser). z.nodes) e) (ap (λ (z : Parser). z.prev_token_end) e) (subst (λ (z : Parser). FirstRead text f is_await p z (bound_slots x) (label_here variable_declaration (of (declaration_kind k)) p r) (λ ls. next m.lexeme (x.pass ls))) (sym e) (bound_read x)) (HoldsAll-one first x.holds) x.keeps n
 
-        by : TellsHead k form.Through true r v → FirstTaken text f p w (Some id)
+        by : TellsHead k form.Through true r v → FirstTaken text f is_await p w (Some id)
         by (none_stands h e) = stays e
         by (may_be h u o e) = stays e
         by (may_not h u o d y z) = absurd (false≢true (sym o))
@@ -500,11 +540,11 @@ module _ {text : List ℕ} {f : Flags} {p q : Parser} (k : DeclarationKind) (a :
       alone : HeadList text f (is_constant k) q r (Some first ∷ [])
       alone = (list_alone refl refl j).1 text f q m.at x.read
 
-      one_answers : TellsHead k g true r v → FirstTaken text f p w (Some id)
-      one_answers (none_stands h e) = made_of r s c d (ap (λ (z : Parser). z.nodes) e) (ap (λ (z : Parser). z.prev_token_end) e) (subst (λ (z : Parser). FirstRead text f p z alone.slots (label_here variable_declaration (of (declaration_kind k)) p r) (init_path x alone).pass) (sym e) (list_read x alone h (no_in_there x alone h.0))) alone.holds alone.keeps n
+      one_answers : TellsHead k g true r v → FirstTaken text f is_await p w (Some id)
+      one_answers (none_stands h e) = made_of r s c d (ap (λ (z : Parser). z.nodes) e) (ap (λ (z : Parser). z.prev_token_end) e) (subst (λ (z : Parser). FirstRead text f is_await p z alone.slots (label_here variable_declaration (of (declaration_kind k)) p r) (init_path x alone).pass) (sym e) (list_read x alone h (no_in_there x alone h.0))) alone.holds alone.keeps n
       one_answers (may_be h u o e) = by g l x h u o
         where
-          by : (g : HeadForm) → (g ≡ form.Through → ⊥) → BesideThrough text f (is_constant k) g q r first → (h : Bool) → StandsHere r (through_kind h) true → may_stand k g true h ≡ true → FirstTaken text f p w (Some id)
+          by : (g : HeadForm) → (g ≡ form.Through → ⊥) → BesideThrough text f (is_constant k) g q r first → (h : Bool) → StandsHere r (through_kind h) true → may_stand k g true h ≡ true → FirstTaken text f is_await p w (Some id)
           by form.Through l x h u o = absurd (l refl)
           by form.Bare l x h u o = absurd (false≢true o)
           by form.InitialisedPattern l x h u o = absurd (false≢true o)
@@ -513,14 +553,14 @@ module _ {text : List ℕ} {f : Flags} {p q : Parser} (k : DeclarationKind) (a :
               let y = (list_alone refl refl j).1 text f q m.at x.read in
               let v = (and_parts (is_var k) true o).0 in
               let z = value_read x y v u in
-              made_of r s c d (ap (λ (z : Parser). z.nodes) e) (ap (λ (z : Parser). z.prev_token_end) e) (subst (λ (z : Parser). FirstRead text f p z (tree (value x y v u).label (value x y v u).slots end) (label_here variable_declaration (of (declaration_kind k)) p r) (value_path x y v u).pass) (sym e) z) (HoldsAll-one first (value x y v u).holds) x.read.keeps n
+              made_of r s c d (ap (λ (z : Parser). z.nodes) e) (ap (λ (z : Parser). z.prev_token_end) e) (subst (λ (z : Parser). FirstRead text f is_await p z (tree (value x y v u).label (value x y v u).slots end) (label_here variable_declaration (of (declaration_kind k)) p r) (value_path x y v u).pass) (sym e) z) (HoldsAll-one first (value x y v u).holds) x.read.keeps n
       one_answers (may_not h u o e y z) = made_of r s c d (ap (λ (z : Parser). z.nodes) z.is) (ap (λ (z : Parser). z.prev_token_end) z.is) (list_told x alone h u (by h u o) y z) alone.holds alone.keeps n
         where
-          by : (h : Bool) → StandsHere r (through_kind h) true → may_stand k g true h ≡ false → NoFirst text ending.In f p.prev_token_end
+          by : (h : Bool) → StandsHere r (through_kind h) true → may_stand k g true h ≡ false → NoFirst text is_await ending.In f p.prev_token_end
           by true u o = no_in_told x alone o
           by false u o = no_in_there x alone (λ i j. let z : kind.Of ≡ kind.In = sym u.0 ∙ i in cc)
 
-    pub one_first : (e : HeadForm) → HeadRead e text f (is_constant k) q r (record { node = first; form = e }) → TellsHead k e true r v → FirstTaken text f p w (Some id)
+    pub one_first : (e : HeadForm) → HeadRead e text f (is_constant k) q r (record { node = first; form = e }) → TellsHead k e true r v → FirstTaken text f is_await p w (Some id)
     one_first form.Through x t = bound_answers x t
     one_first form.Bare x t = one_answers form.Bare (λ e. cc) x t
     one_first form.InitialisedName x t = one_answers form.InitialisedName (λ e. cc) x t
@@ -531,21 +571,8 @@ module _ {text : List ℕ} {f : Flags} {p q : Parser} (k : DeclarationKind) (a :
     no_in_here : StandsHere r kind.In false
     no_in_here = not_in r kind.Comma (λ e. cc) j
 
-    not_through : {first : NodeId} (g : HeadForm) → HeadRead g text f (is_constant k) q r (record { node = first; form = g }) → BesideThrough text f (is_constant k) g q r first
-    not_through form.Through x = absurd (by x.here)
-      where
-        by : ThroughHere r true → ⊥
-        by (inl h) = let z : kind.Comma ≡ kind.In = sym j ∙ h.0 in cc
-        by (inr h) = let z : kind.Comma ≡ kind.Of = sym j ∙ h.0 in cc
-    not_through form.Bare x = x
-    not_through form.InitialisedName x = x
-    not_through form.InitialisedPattern x = x
-
-    pub first_of_several : (first : NodeId) (g : HeadForm) → HeadRead g text f (is_constant k) q r (record { node = first; form = g }) → {u : Parser} {ids : List (Option NodeId)} → DeclaratorsBehind (is_constant k) first r u ids → HeadList text f (is_constant k) q u ids
-    first_of_several first g x y = y.1 text f q m.at (not_through g x).read
-
-    pub others_stop : (first : NodeId) (g : HeadForm) → HeadRead g text f (is_constant k) q r (record { node = first; form = g }) → (u : Parser) (e : Stop) → NoneBehind (is_constant k) first r u e → Stops p u e ((e : Ending) → NoFirst text e f p.prev_token_end)
-    others_stop first g x u e y = let z = not_through g x in stops_behind u e m.same (λ g. grown_then m.kept g) (λ n d. none_first_of z n d) (y text f q m.at z.read)
+    pub others_stop : (first : NodeId) (g : HeadForm) → HeadRead g text f (is_constant k) q r (record { node = first; form = g }) → (u : Parser) (e : Stop) → NoneBehind (is_constant k) first r u e → Stops p u e ((e : Ending) → NoFirstPart text is_await e f p.prev_token_end)
+    others_stop first g x u e y = let z = not_through k a b i m r j g x in stops_behind u e m.same (λ g. grown_then m.kept g) (λ n d. no_first_part f is_await d (none_first_of z n d)) (y text f q m.at z.read)
       where
         none_value : (g : HeadForm) → BesideThrough text f (is_constant k) g q r first → ValueRead g text f q r first → Fails rule (Lex text) (plain (is kind.In)) end (named_value f) q.prev_token_end
         none_value form.InitialisedName z v = either_way v.verdict (λ w. stretch_not kind.In w (stands_not z.read.at refl no_in_here)) (λ w. w)
@@ -553,37 +580,15 @@ module _ {text : List ℕ} {f : Flags} {p q : Parser} (k : DeclarationKind) (a :
         none_value form.Bare z v = v
         none_value form.InitialisedPattern z v = v
 
-        none_first_of : BesideThrough text f (is_constant k) g q r first → NoneOf text (list_of (is_constant k) f) q.prev_token_end → (d : Ending) → NoFirst text d f p.prev_token_end
+        none_first_of : BesideThrough text f (is_constant k) g q r first → NoneOf text (list_of (is_constant k) f) q.prev_token_end → (d : Ending) → NoFirst text is_await d f p.prev_token_end
         none_first_of z n ending.Semicolon = no_list n
         none_first_of z n ending.In = no_in z.not_alone (no_value_node (none_value g z (z.value i)))
         none_first_of z n ending.Of = no_of z.not_alone
 
-    pub several_first : (first : NodeId) (g : HeadForm) → HeadRead g text f (is_constant k) q r (record { node = first; form = g }) → {u v w : Parser} {ids : List (Option NodeId)} {id : NodeId} → HeadList text f (is_constant k) q u ids → (s : Span) → s.start ≡ p.token.span.start → s.end ≡ u.prev_token_end → TellsHead k g false u v → MadeHere (plain_label node.VariableDeclaration (made_op.Declaration k) s) ids v w id → FirstTaken text f p w (Some id)
-    several_first first g t {u} {v} {w} {ids} {id} y s c d (none_stands h e) n = let x = not_through g t in made_of u s c d (ap (λ (z : Parser). z.nodes) e) (ap (λ (z : Parser). z.prev_token_end) e) (subst (λ (z : Parser). FirstRead text f p z y.slots (label_here variable_declaration (of (declaration_kind k)) p u) (init_path x y).pass) (sym e) (list_read x y h (no_in_there x y no_in_here))) y.holds y.keeps n
+    pub several_first : (first : NodeId) (g : HeadForm) → HeadRead g text f (is_constant k) q r (record { node = first; form = g }) → {u v w : Parser} {ids : List (Option NodeId)} {id : NodeId} → HeadList text f (is_constant k) q u ids → (s : Span) → s.start ≡ p.token.span.start → s.end ≡ u.prev_token_end → TellsHead k g false u v → MadeHere (plain_label node.VariableDeclaration (made_op.Declaration k) s) ids v w id → FirstTaken text f is_await p w (Some id)
+    several_first first g t {u} {v} {w} {ids} {id} y s c d (none_stands h e) n = let x = not_through k a b i m r j g t in made_of u s c d (ap (λ (z : Parser). z.nodes) e) (ap (λ (z : Parser). z.prev_token_end) e) (subst (λ (z : Parser). FirstRead text f is_await p z y.slots (label_here variable_declaration (of (declaration_kind k)) p u) (init_path x y).pass) (sym e) (list_read x y h (no_in_there x y no_in_here))) y.holds y.keeps n
     several_first first g t y s c d (may_be h u o e) n = absurd (false≢true o)
-    several_first first g t {u} y s c d (may_not h o i' e z l) n = let x = not_through g t in made_of u s c d (ap (λ (z : Parser). z.nodes) l.is) (ap (λ (z : Parser). z.prev_token_end) l.is) (list_told x y h o (no_in_there x y no_in_here) z l) y.holds y.keeps n
-
-  -- ---- marks
-
-  pub list_reached : {v : Parser} {ids : List (Option NodeId)} → HeadList text f (is_constant k) q v ids → ReadTo text f p v
-  list_reached y = record { at = y.at; same = same_both m.same y.same; further = let j = m.further in let o = m.at.behind in let d = y.further in omega arith; pass = λ ls. next m.lexeme (y.pass ls); walked = walked_both (walked_one m) y.walked }
-
-  pub one_reached : (g : HeadForm) (r : Parser) (first : NodeId) → HeadRead g text f (is_constant k) q r (record { node = first; form = g }) → ReadTo text f p r
-  one_reached form.Through r first x = record { at = x.at; same = same_both m.same x.same; further = let j = m.further in let o = m.at.behind in let d = x.further in omega arith; pass = λ ls. next m.lexeme (x.pass ls); walked = walked_both (walked_one m) x.walked }
-  one_reached form.Bare r first x = record { at = x.read.at; same = same_both m.same x.read.same; further = let j = m.further in let o = m.at.behind in let d = x.read.further in omega arith; pass = λ ls. next m.lexeme (x.read.pass ls); walked = walked_both (walked_one m) x.read.walked }
-  one_reached form.InitialisedName r first x = record { at = x.read.at; same = same_both m.same x.read.same; further = let j = m.further in let o = m.at.behind in let d = x.read.further in omega arith; pass = λ ls. next m.lexeme (x.read.pass ls); walked = walked_both (walked_one m) x.read.walked }
-  one_reached form.InitialisedPattern r first x = record { at = x.read.at; same = same_both m.same x.read.same; further = let j = m.further in let o = m.at.behind in let d = x.read.further in omega arith; pass = λ ls. next m.lexeme (x.read.pass ls); walked = walked_both (walked_one m) x.read.walked }
-
-  pub fault_marked : {r : Parser} → ReadTo text f p r → (s : Span) → s.start ≡ p.token.span.start → s.end ≡ r.prev_token_end → (d : DiagnosticKind) → HeadFault d → Mark (goal r) r.text (unrelated_at d s)
-  fault_marked {r} x s c e d h = by h
-    where
-      marked : (d : DiagnosticKind) → Mark (goal r) r.text (unrelated_at d s) → (v : DiagnosticKind) → v ≡ d → Mark (goal r) r.text (unrelated_at v s)
-      marked d m v e = subst (λ (z : DiagnosticKind). Mark (goal r) r.text (unrelated_at z s)) (sym e) m
-
-      by : HeadFault d → Mark (goal r) r.text (unrelated_at d s)
-      by (inl q) = marked fault.MultipleDeclarationsInForLoopHead (span_marked a (a_lexeme_stands k p here_word) x.at x.same x.walked x.further fault.MultipleDeclarationsInForLoopHead s refl (λ s i j. ((i, j), (refl, refl))) c e) d q
-      by (inr (inl q)) = marked fault.InitializerInForInLexicalDeclaration (span_marked a (a_lexeme_stands k p here_word) x.at x.same x.walked x.further fault.InitializerInForInLexicalDeclaration s refl (λ s i j. ((i, j), (refl, refl))) c e) d q
-      by (inr (inr q)) = marked fault.InitializerInForHead (span_marked a (a_lexeme_stands k p here_word) x.at x.same x.walked x.further fault.InitializerInForHead s refl (λ s i j. ((i, j), (refl, refl))) c e) d q
+    several_first first g t {u} y s c d (may_not h o i' e z l) n = let x = not_through k a b i m r j g t in made_of u s c d (ap (λ (z : Parser). z.nodes) l.is) (ap (λ (z : Parser). z.prev_token_end) l.is) (list_told x y h o (no_in_there x y no_in_here) z l) y.holds y.keeps n
 
 -- ---- what is told
 

@@ -12,8 +12,8 @@ use Rattle.js_base.proofs.KindLemmas.{kind_of_same}
 use Rattle.js_grammar.specs.Trees.{Slots, append, end, hole, tree}
 use Rattle.js_grammar.specs.Grammar.{Lexeme, Lexemes, next, here, seen, is, such, empty_slot, nothing, Takes, is_lexeme, is_seq, is_empty_slot, ◌▸◌}
 use Rattle.js_grammar.specs.Lexed.{Lexes}
-use Rattle.js_grammar.specs.Parsing.{Test, plain, full, always, passing, Goes, Fails}
-use Rattle.js_grammar.specs.Productions.{G, Flags, Symbol, at, parens, slot, tok, Assignment, Expression, ForInit}
+use Rattle.js_grammar.specs.Parsing.{Test, Admits, plain, full, always, passing, Goes, Fails}
+use Rattle.js_grammar.specs.Productions.{G, Flags, Symbol, at, other, parens, slot, tok, Assignment, Expression, ForInit}
 use Rattle.js_grammar.specs.Productions.{sym as symbol}
 use Rattle.js_grammar.specs.Table.{rule}
 use Rattle.js_grammar.specs.Follow.{after, surest}
@@ -21,7 +21,7 @@ use Rattle.js_grammar.proofs.Frame.{append_assoc}
 use Rattle.js_grammar.proofs.Looks.{covers, covered, apart, not_both, same_self}
 use Rattle.js_grammar.proofs.Calculus.{Between, On, ◌▹◌, ◌▹✗◌, here_at, left, right, then_by, part_fails, fails_alt, reads_empty_slot, weaken_fails_on, weaken_on}
 use Rattle.js_grammar.specs.FirstSets.{first}
-use Rattle.js_grammar.proofs.First.{starts}
+use Rattle.js_grammar.proofs.First.{starts, starting}
 use Rattle.js_grammar.proofs.FirstClaims.{firsts}
 use Rattle.js_grammar.proofs.FirstRules.{fails_here}
 use Rattle.js_parsing.proofs.Here.{kind_here}
@@ -41,7 +41,7 @@ use Rattle.js_parsing.specs.Stands.{StandsHere}
 use Rattle.js_parsing.specs.States.{At}
 use Rattle.js_statements.specs.declared.for_statement.Ending.{Ending}
 use Rattle.js_statements.specs.declared.for_statement.Ending.TheVariants as ending
-use Rattle.js_statements.specs.ForHeads.{AtEnd, EndsPart, FirstTaken, HeadTaken, NoFirst, NoHead, NoParensHead, NoPart, NoRest, ParensHeadTaken, PartTaken, RestTaken, TakesFirst, TakesHead, TakesRest, behind_head, behind_rest, behind_slot, end_kind, first_part, head_part, rest_part}
+use Rattle.js_statements.specs.ForHeads.{AtEnd, EndsPart, FirstTaken, HeadTaken, NoFirst, NoFirstPart, NoHead, NoParensHead, NoPart, NoRest, ParensHeadTaken, PartTaken, RestTaken, TakesFirst, TakesHead, TakesRest, behind_head, behind_rest, behind_slot, end_kind, first_part, head_part, rest_part}
 use Rattle.js_parsing.proofs.Moving.{same_both, same_itself, stops_behind}
 use Rattle.js_parsing.proofs.Paths.{Path, ◌⟶◌, ◌⟶✗◌, fails_at, last_called, last_token, skips, token, walked_both, walked_one}
 use Rattle.js_parsing.proofs.Signs.{plain_sign, stands_not}
@@ -86,8 +86,8 @@ which ending.Of ending.Of = inl refl
 -- ---- between the parts
 
 -- what stands behind the first part is what ends it
-pub first_between : (e : Ending) (f : Flags) (X : Test) (s : ℕ) → Between rule X (plain (is (end_kind e))) end (first_part e f) (rest_part e f) s
-first_between e f X s = record { admits = λ ts us vs j k ls mid rest d d' h. (go e d', refl) }
+pub first_between : (w : Bool) (e : Ending) (f : Flags) (X : Test) (s : ℕ) → Between rule X (plain (is (end_kind e))) end (first_part w e f) (rest_part e f) s
+first_between w e f X s = record { admits = λ ts us vs j k ls mid rest d d' h. (go e d', refl) }
   where
     go : (e : Ending) {us vs : Slots} {j k : ℕ} {mid rest : Lexemes} → Takes rule (rest_part e f) end us j mid vs k rest → IsTrue (seen (is (end_kind e)) (here mid))
     go ending.Semicolon (is_seq (is_lexeme q) d) = q
@@ -100,11 +100,39 @@ token_between k X a b s = record { admits = λ ts us vs j n ls mid rest d d' h. 
     go : {us vs : Slots} {j n : ℕ} {mid rest : Lexemes} → Takes rule (tok k ▸ b) end us j mid vs n rest → IsTrue (seen (is k) (here mid))
     go (is_seq (is_lexeme q) d) = q
 
-last_between : (k : Kind) (X : Test) (a : G) (s : ℕ) → Between rule X (plain (is k)) end a (tok k) s
+pub last_between : (k : Kind) (X : Test) (a : G) (s : ℕ) → Between rule X (plain (is k)) end a (tok k) s
 last_between k X a s = record { admits = λ ts us vs j n ls mid rest d d' h. (go d', refl) }
   where
     go : {us vs : Slots} {j n : ℕ} {mid rest : Lexemes} → Takes rule (tok k) end us j mid vs n rest → IsTrue (seen (is k) (here mid))
     go (is_lexeme q) = q
+
+-- none before that lexeme is none with it
+pub no_first_part : {text : List ℕ} {s : ℕ} (f : Flags) (w : Bool) (e : Ending) → NoFirst text w e f s → NoFirstPart text w e f s
+no_first_part {s = s} f w e n = part_fails n (last_between (end_kind e) _ (first_part w e f) s)
+
+-- `=>` doesn't begin what stands behind it
+abbrev behind_end : Ending → Flags → G
+behind_end ending.Semicolon f = slot (symbol Expression f) ▸ tok kind.Semicolon ▸ slot (symbol Expression f)
+behind_end ending.In f = symbol Expression f
+behind_end ending.Of f = symbol Assignment f
+
+no_arrow_behind : (e : Ending) (f : Flags) → covers (starts first (behind_end e f) (is kind.RParen)) (other (λ k n e. same_kind kind.Arrow k)) ≡ true
+unfolding covers
+no_arrow_behind ending.Semicolon f = refl
+no_arrow_behind ending.In f = refl
+no_arrow_behind ending.Of f = refl
+
+-- so no head is derived there
+pub no_head_from : {text : List ℕ} {s : ℕ} (f : Flags) (w : Bool) (e : Ending) → NoFirstPart text w e f s → NoHead text w e f s
+no_head_from {text} {s} f w e n = record { no = λ ts vs k ls rest l d h. go e n ts vs k ls rest l d h }
+  where
+    behind : (e : Ending) {ts vs : Slots} {j k : ℕ} {mid rest : Lexemes} → Takes rule (behind_end e f) end ts j mid vs k rest → IsTrue (seen (is kind.RParen) (here rest)) → IsTrue (seen (other (λ k n e. same_kind kind.Arrow k)) (here mid))
+    behind e {mid = mid} d h = covered (starts first (behind_end e f) (is kind.RParen)) (other (λ k n e. same_kind kind.Arrow k)) (no_arrow_behind e f) (here mid).kind (here mid).newline (here mid).escaped (starting firsts (is kind.RParen) d h)
+
+    go : (e : Ending) → NoFirstPart text w e f s → (ts vs : Slots) (k : ℕ) (ls rest : Lexemes) → Lexes (Lex text) s ls → Takes rule (head_part w e f) end ts s ls vs k rest → Admits (plain (is kind.RParen)) ts (here rest) → ⊥
+    go ending.Semicolon n ts vs k ls rest l (is_seq d (is_seq {us = us} {j = j} {mid = mid} c b)) h = n.no ts us j ls mid l (is_seq d c) (behind ending.Semicolon b h.0, refl)
+    go ending.In n ts vs k ls rest l (is_seq d (is_seq {us = us} {j = j} {mid = mid} c b)) h = n.no ts us j ls mid l (is_seq d c) (behind ending.In b h.0, refl)
+    go ending.Of n ts vs k ls rest l (is_seq d (is_seq {us = us} {j = j} {mid = mid} c b)) h = n.no ts us j ls mid l (is_seq d c) (behind ending.Of b h.0, refl)
 
 -- before these an expression ends
 paren_ends : covers (is kind.RParen) (surest Expression) ≡ true
@@ -144,13 +172,14 @@ init_begins : (f : Flags) → BeginsElse (symbol ForInit f)
 unfolding covers apart
 init_begins f = record { semicolon = refl; paren = refl }
 
-in_begins : (f : Flags) → BeginsElse (first_part ending.In f)
+in_begins : (w : Bool) (f : Flags) → BeginsElse (first_part w ending.In f)
 unfolding covers apart
-in_begins f = record { semicolon = refl; paren = refl }
+in_begins w f = record { semicolon = refl; paren = refl }
 
-of_begins : (f : Flags) → BeginsElse (first_part ending.Of f)
+of_begins : (w : Bool) (f : Flags) → BeginsElse (first_part w ending.Of f)
 unfolding covers apart
-of_begins f = record { semicolon = refl; paren = refl }
+of_begins true f = record { semicolon = refl; paren = refl }
+of_begins false f = record { semicolon = refl; paren = refl }
 
 -- none, where one of them stands
 module _ {text : List ℕ} {f : Flags} {p : Parser} (a : At text f p) where
@@ -208,9 +237,9 @@ module _ {text : List ℕ} {f : Flags} {p : Parser} (a : At text f p) where
   }
 
 -- no first part, where one of them stands
-pub none_first : {text : List ℕ} {f : Flags} {p : Parser} → At text f p → (j : Kind) → EndsPart j → p.token.kind ≡ j → FirstTaken text f p p None
+pub none_first : {text : List ℕ} {f : Flags} {p : Parser} → At text f p → (w : Bool) (j : Kind) → EndsPart j → p.token.kind ≡ j → FirstTaken text f w p p None
 unfolding words
-none_first {text} {f} {p} a j h e = record {
+none_first {text} {f} {p} a w j h e = record {
   at = a;
   same = same_itself;
   forward = omega arith;
@@ -227,23 +256,23 @@ none_first {text} {f} {p} a j h e = record {
   keeps = Keeps-refl p.nodes;
 }
   where
-    apart_from : (w : Kind) → EndsPart j → (w ≡ kind.Semicolon → ⊥) → (w ≡ kind.RParen → ⊥) → p.token.kind ≡ w → ⊥
-    apart_from w (inl i) n m k = n (sym k ∙ (e ∙ i))
-    apart_from w (inr i) n m k = m (sym k ∙ (e ∙ i))
+    apart_from : (u : Kind) → EndsPart j → (u ≡ kind.Semicolon → ⊥) → (u ≡ kind.RParen → ⊥) → p.token.kind ≡ u → ⊥
+    apart_from u (inl i) n m k = n (sym k ∙ (e ∙ i))
+    apart_from u (inr i) n m k = m (sym k ∙ (e ∙ i))
 
     plain_here : EndsPart j → p.token.escaped ≡ false
     plain_here (inl i) = plain_sign kind.Semicolon a (e ∙ i) refl refl refl
     plain_here (inr i) = plain_sign kind.RParen a (e ∙ i) refl refl refl
 
-    reads : (d : Ending) → StandsHere p (end_kind d) true → Verdict p.errors p.errors (Stretch text (plain (is (end_kind d))) (first_part d f) p.prev_token_end nothing p.prev_token_end hole (λ ls. ls)) (NoFirst text d f p.prev_token_end)
+    reads : (d : Ending) → StandsHere p (end_kind d) true → Verdict p.errors p.errors (Stretch text (plain (is (end_kind d))) (first_part w d f) p.prev_token_end nothing p.prev_token_end hole (λ ls. ls)) (NoFirstPart text w d f p.prev_token_end)
     reads ending.Semicolon s = clean refl (record { reach = max 0 0; near = omega arith; goes = right (none_at_end a (init_begins f) j h e) ▹ reads_empty_slot })
     reads ending.In s = absurd (apart_from kind.In h (λ k. cc) (λ k. cc) s.0)
     reads ending.Of s = absurd (apart_from kind.Of h (λ k. cc) (λ k. cc) s.0)
 
-    fails : (d : Ending) → StandsHere p (end_kind d) false → NoFirst text d f p.prev_token_end
-    fails ending.Semicolon s = fails_alt (none_at_end a (init_begins f) j h e) (no_empty a kind.Semicolon (inl refl) (λ k. s k (plain_here h)))
-    fails ending.In s = none_at_end a (in_begins f) j h e
-    fails ending.Of s = none_at_end a (of_begins f) j h e
+    fails : (d : Ending) → StandsHere p (end_kind d) false → NoFirstPart text w d f p.prev_token_end
+    fails ending.Semicolon s = no_first_part f w ending.Semicolon (fails_alt (none_at_end a (init_begins f) j h e) (no_empty a kind.Semicolon (inl refl) (λ k. s k (plain_here h))))
+    fails ending.In s = no_first_part f w ending.In (none_at_end a (in_begins w f) j h e)
+    fails ending.Of s = no_first_part f w ending.Of (none_at_end a (of_begins w f) j h e)
 
 pub at_end_so : (k : Kind) (p : Parser) {b r : Bool} → r ≡ b → AtEnd k p r → AtEnd k p b
 at_end_so k p e h = subst (λ (v : Bool). AtEnd k p v) e h
@@ -256,9 +285,9 @@ pub part_empty : {text : List ℕ} {f : Flags} {p : Parser} → At text f p → 
 part_empty a k h (inl e) = part_none a k k h e
 part_empty a k h (inr e) = part_none a k kind.RParen (inr refl) e
 
-pub first_empty : {text : List ℕ} {f : Flags} {p : Parser} → At text f p → AtEnd kind.Semicolon p true → FirstTaken text f p p None
-first_empty a (inl e) = none_first a kind.Semicolon (inl refl) e
-first_empty a (inr e) = none_first a kind.RParen (inr refl) e
+pub first_empty : {text : List ℕ} {f : Flags} {p : Parser} → At text f p → (w : Bool) → AtEnd kind.Semicolon p true → FirstTaken text f w p p None
+first_empty a w (inl e) = none_first a w kind.Semicolon (inl refl) e
+first_empty a w (inr e) = none_first a w kind.RParen (inr refl) e
 
 -- ---- the rest of the head
 
@@ -410,27 +439,27 @@ module _ {text : List ℕ} {f : Flags} {p : Parser} (a : At text f p) where
 
 -- ---- the whole head
 
-module _ {text : List ℕ} {f : Flags} {p q : Parser} {first : Option NodeId} (x : FirstTaken text f p q first) where
-  pub no_head : (d : Ending) → NoRest text d f q.prev_token_end → NoHead text d f p.prev_token_end
+module _ {text : List ℕ} {f : Flags} {w : Bool} {p q : Parser} {first : Option NodeId} (x : FirstTaken text f w p q first) where
+  pub no_head : (d : Ending) → NoRest text d f q.prev_token_end → NoHead text w d f p.prev_token_end
   no_head d n = elim (stands_either q (end_kind d)) [
-    | inl h ↦ either_way (x.read d h) (λ y. then_by y.goes (first_between d f _ p.prev_token_end) ▹✗ n) (λ z. part_fails z (first_between d f _ p.prev_token_end))
-    | inr h ↦ part_fails (x.none d h) (first_between d f _ p.prev_token_end)
+    | inl h ↦ either_way (x.read d h) (λ y. then_by y.goes (first_between w d f _ p.prev_token_end) ▹✗ n) (λ z. no_head_from f w d z)
+    | inr h ↦ no_head_from f w d (x.none d h)
   ]
 
-  pub rest_stops : (v : Parser) (e : Stop) → Stops q v e ((d : Ending) → NoRest text d f q.prev_token_end) → Stops p v e ((d : Ending) → NoHead text d f p.prev_token_end)
+  pub rest_stops : (v : Parser) (e : Stop) → Stops q v e ((d : Ending) → NoRest text d f q.prev_token_end) → Stops p v e ((d : Ending) → NoHead text w d f p.prev_token_end)
   rest_stops v e s = stops_behind v e x.same (λ g. x.kept _ g) (λ n d. no_head d (n d)) s
 
   module _ {v : Parser} {e : Ending} {js : List (Option NodeId)} (a : At text f p) (r : RestTaken text f e q v (first ∷ []) js) where
-    head_slots : Path text f (plain (is kind.RParen)) (head_part e f) p nothing v (λ us. x.slots (append r.slots us))
+    head_slots : Path text f (plain (is kind.RParen)) (head_part w e f) p nothing v (λ us. x.slots (append r.slots us))
     head_slots = record {
       at = r.path.at;
       further = start_before;
       pass = λ ls. x.pass (r.path.pass ls);
       walked = walked_both x.walked r.path.walked;
       verdict = and_then (x.read e r.here) r.path.verdict
-          (λ y z. record { reach = max y.reach z.reach; near = let i = y.near in let j = z.near in let k = r.path.further in let l = x.at.behind in omega arith; goes = then_by y.goes (first_between e f _ p.prev_token_end) ▹ z.goes })
-          (λ n. part_fails n (first_between e f _ p.prev_token_end))
-          (λ y n. then_by y.goes (first_between e f _ p.prev_token_end) ▹✗ n);
+          (λ y z. record { reach = max y.reach z.reach; near = let i = y.near in let j = z.near in let k = r.path.further in let l = x.at.behind in omega arith; goes = then_by y.goes (first_between w e f _ p.prev_token_end) ▹ z.goes })
+          (λ n. no_head_from f w e n)
+          (λ y n. then_by y.goes (first_between w e f _ p.prev_token_end) ▹✗ n);
     }
       where
         start_before : p.token.span.start < v.prev_token_end
@@ -447,42 +476,39 @@ module _ {text : List ℕ} {f : Flags} {p q : Parser} {first : Option NodeId} (x
     strips_there ending.In r us = ap (behind_head ending.In) (append_assoc (x.slots end) r.slots us ∙ sym (x.puts (append r.slots us))) ∙ (ap (behind_rest ending.In) (x.strips (append r.slots us)) ∙ r.strips us)
     strips_there ending.Of r us = ap (behind_head ending.Of) (append_assoc (x.slots end) r.slots us ∙ sym (x.puts (append r.slots us))) ∙ (ap (behind_rest ending.Of) (x.strips (append r.slots us)) ∙ r.strips us)
 
-    pub head_taken : HeadTaken text f e p v js
+    pub head_taken : HeadTaken text f w e p v js
     head_taken = record {
       same = same_both x.same r.same;
       slots = slots_there;
       strips = λ us. strips_there e r us;
-      path = subst (λ (h : Slots → Slots). Path text f (plain (is kind.RParen)) (head_part e f) p nothing v h) (λ i us. slots_so us i) head_slots;
+      path = subst (λ (h : Slots → Slots). Path text f (plain (is kind.RParen)) (head_part w e f) p nothing v h) (λ i us. slots_so us i) head_slots;
       others = λ d n. no_head d (rest_missing x.at d (apart_ends q e d n r.here));
       held = r.held (length p.nodes) (x.slots end) x.held;
       keeps = Keeps-trans x.keeps r.keeps;
     }
 
-pub first_stops : {text : List ℕ} (f : Flags) {s : ℕ} (d : Ending) → NoFirst text d f s → NoHead text d f s
-first_stops f {s} d n = part_fails n (first_between d f _ s)
-
-pub head_answers : {p q : Parser} (v : Parser) {first : Option NodeId} (ids js : List (Option NodeId)) (r : Result Ending Stop) → ids ≡ first ∷ [] → TakesFirst p q (Ok first) → TakesRest q v ids js r → TakesHead p v js r
+pub head_answers : {w : Bool} {p q : Parser} (v : Parser) {first : Option NodeId} (ids js : List (Option NodeId)) (r : Result Ending Stop) → ids ≡ first ∷ [] → TakesFirst w p q (Ok first) → TakesRest q v ids js r → TakesHead w p v js r
 head_answers {p} {q} v {first} ids js (Ok e) i x y = λ text f a. let z = x text f a in head_taken z a (subst (λ (is : List (Option NodeId)). RestTaken text f e q v is js) i (y text f z.at))
 head_answers {p} {q} v {first} ids js (Err s) i x y = λ text f a. let z = x text f a in rest_stops z v s (y text f z.at)
 
 -- ---- in its parentheses
 
-module _ {text : List ℕ} {f : Flags} {p : Parser} (a : At text f p) where
-  pub paren_missing : StandsHere p kind.LParen false → (d : Ending) → NoParensHead text d f p.prev_token_end
+module _ {text : List ℕ} {f : Flags} (w : Bool) {p : Parser} (a : At text f p) where
+  pub paren_missing : StandsHere p kind.LParen false → (d : Ending) → NoParensHead text w d f p.prev_token_end
   paren_missing n d = no_token a kind.LParen refl n
 
   module _ {q : Parser} (k : IsKind kind.LParen p) (m : Moved text f p q) where
-    opened : {X : Test} (d : Ending) → Path text f X (parens (head_part d f)) p (head_part d f ▸ tok kind.RParen) q (λ us. us)
+    opened : {X : Test} (d : Ending) → Path text f X (parens (head_part w d f)) p (head_part w d f ▸ tok kind.RParen) q (λ us. us)
     opened d = token kind.LParen a k.0 k.1 refl m
 
-    no_parens_head : (d : Ending) → NoHead text d f q.prev_token_end → NoParensHead text d f p.prev_token_end
+    no_parens_head : (d : Ending) → NoHead text w d f q.prev_token_end → NoParensHead text w d f p.prev_token_end
     no_parens_head d n = opened d ⟶✗ part_fails n (last_between kind.RParen _ _ q.prev_token_end)
 
-    pub head_stops : (v : Parser) (e : Stop) → Stops q v e ((d : Ending) → NoHead text d f q.prev_token_end) → Stops p v e ((d : Ending) → NoParensHead text d f p.prev_token_end)
+    pub head_stops : (v : Parser) (e : Stop) → Stops q v e ((d : Ending) → NoHead text w d f q.prev_token_end) → Stops p v e ((d : Ending) → NoParensHead text w d f p.prev_token_end)
     head_stops v e s = stops_behind v e m.same (λ g. grown_then m.kept g) (λ n d. no_parens_head d (n d)) s
 
-    module _ {r : Parser} {e : Ending} {js : List (Option NodeId)} (x : HeadTaken text f e q r js) where
-      then_closed : {X : Test} → Path text f X (head_part e f ▸ tok kind.RParen) q (tok kind.RParen) r (λ us. append x.slots us)
+    module _ {r : Parser} {e : Ending} {js : List (Option NodeId)} (x : HeadTaken text f w e q r js) where
+      then_closed : {X : Test} → Path text f X (head_part w e f ▸ tok kind.RParen) q (tok kind.RParen) r (λ us. append x.slots us)
       then_closed = record {
         at = x.path.at;
         further = x.path.further;
@@ -491,20 +517,20 @@ module _ {text : List ℕ} {f : Flags} {p : Parser} (a : At text f p) where
         verdict = verdict_of x.path.verdict (λ y. record { reach = y.reach; near = y.near; goes = then_by y.goes (last_between kind.RParen _ _ q.prev_token_end) }) (λ n. part_fails n (last_between kind.RParen _ _ q.prev_token_end));
       }
 
-      unclosed_head : one_of_kinds (kind.RParen ∷ []) r.token.kind ≡ false → NoParensHead text e f p.prev_token_end
+      unclosed_head : one_of_kinds (kind.RParen ∷ []) r.token.kind ≡ false → NoParensHead text w e f p.prev_token_end
       unfolding covers apart
       unclosed_head n = opened e ⟶✗ (then_closed ⟶✗ fails_at x.path.at {X = plain full} (tok kind.RParen) (kind.RParen ∷ []) refl n)
 
-      pub unclosed_all : one_of_kinds (kind.RParen ∷ []) r.token.kind ≡ false → (d : Ending) → NoParensHead text d f p.prev_token_end
+      pub unclosed_all : one_of_kinds (kind.RParen ∷ []) r.token.kind ≡ false → (d : Ending) → NoParensHead text w d f p.prev_token_end
       unclosed_all n d = elim (which e d) [
-        | inl i ↦ subst (λ (v : Ending). NoParensHead text v f p.prev_token_end) (sym i) (unclosed_head n)
+        | inl i ↦ subst (λ (v : Ending). NoParensHead text w v f p.prev_token_end) (sym i) (unclosed_head n)
         | inr i ↦ no_parens_head d (x.others d i)
       ]
 
       pub head_grown : {ds : List Diagnostic} → Grown r.errors ds → Grown p.errors ds
       head_grown g = grown_then m.kept (grown_behind x.path.verdict g)
 
-      pub parens_head : {u : Parser} → r.token.kind ≡ kind.RParen → Moved text f r u → ParensHeadTaken text f e p u js
+      pub parens_head : {u : Parser} → r.token.kind ≡ kind.RParen → Moved text f r u → ParensHeadTaken text f w e p u js
       unfolding words
       parens_head {u} c d = record {
         same = same_both m.same (same_both x.same d.same);

@@ -1,8 +1,8 @@
 -- The first part of the head of a `for` (ECMA-262, 14.7.4, 14.7.5).
-use Rattle.std.proofs.Common.{ℕ, ◌≡◌, ◌⊎◌, inl, inr, max, List, [], ◌∷◌, length, Option, Some, None, Bool, true, false, not, ◌||◌, IsTrue, refl, sym, ap, subst, arith, ◌∙◌}
+use Rattle.std.proofs.Common.{ℕ, ◌≡◌, ◌⊎◌, inl, inr, max, List, [], ◌∷◌, length, Option, Some, None, Bool, true, false, not, cond, ◌||◌, IsTrue, refl, sym, ap, subst, arith, ◌∙◌}
 use Rattle.std.proofs.lemmas.Bool.{false≢true, and_from, and_parts}
 use Rattle.js_base.specs.declared.diagnostic.Diagnostic.{Diagnostic}
-use Rattle.js_base.specs.declared.diagnostic.DiagnosticKind.TheVariants.{ForLoopLetReservedWord}
+use Rattle.js_base.specs.declared.diagnostic.DiagnosticKind.TheVariants.{ForLoopAsyncOf, ForLoopLetReservedWord}
 use Rattle.js_declarations.proofs.SpansMarked.{span_marked}
 use Rattle.js_parsing.specs.Told.{unrelated_at}
 use Rattle.js_base.specs.Contexts.{has_flag, in_flag}
@@ -11,10 +11,10 @@ use Rattle.js_base.specs.declared.kind.Kind.TheVariants as kind
 use Rattle.js_base.specs.Kinds.{same_kind, one_of_kinds}
 use Rattle.js_base.proofs.KindLemmas.{kind_of_same}
 use Rattle.js_grammar.specs.Trees.{Label, Slots, end, tree, variable_declaration, variable_declarator}
-use Rattle.js_grammar.specs.Grammar.{Lexeme, Lexemes, here, seen, is, such, empty_slot, nothing, commas, Takes, is_seq, is_lexeme, is_node, ◌▸◌}
+use Rattle.js_grammar.specs.Grammar.{Lexeme, Lexemes, here, seen, is, such, empty_slot, nothing, commas, Takes, is_seq, is_lexeme, is_look, is_ahead, is_left, is_right, is_nothing, is_node, ◌▸◌}
 use Rattle.js_grammar.specs.Lexed.{Lexes}
 use Rattle.js_grammar.specs.Parsing.{Test, plain, full, always, still, Admits, Goes, Fails}
-use Rattle.js_grammar.specs.Productions.{G, Flags, at, branches, minus_in, mk, not_then, op, other, tok, word_or, Binding, Expression, ForInit, Target}
+use Rattle.js_grammar.specs.Productions.{G, Flags, at, branches, if_next, minus_in, mk, not_then, op, other, tok, word_or, Binding, Expression, ForInit, Target}
 use Rattle.js_grammar.specs.Productions.{sym as symbol}
 use Rattle.js_grammar.specs.Table.{rule, rule_of, declarator, declarators, for_binding, words_of_declarations}
 use Rattle.js_grammar.specs.FirstSets.{first}
@@ -22,7 +22,7 @@ use Rattle.js_grammar.proofs.First.{starts}
 use Rattle.js_grammar.proofs.FirstClaims.{firsts}
 use Rattle.js_grammar.proofs.FirstRules.{fails_here}
 use Rattle.js_grammar.proofs.Looks.{covers, covered, apart}
-use Rattle.js_grammar.proofs.Calculus.{On, ◌▹◌, ◌▹✗◌, ends, here_at, left, looks, part_fails, fails_alt, fails_look, fails_node, fails_rule, inside_full, weaken_fails_on, weaken_on}
+use Rattle.js_grammar.proofs.Calculus.{On, ◌▹◌, ◌▹✗◌, done, ends, here_at, left, looks, part_by, same, part_fails, fails_alt, fails_look, fails_node, fails_rule, inside_full, weaken_fails_on, weaken_on}
 use Rattle.js_tree.specs.declared.op.DeclarationKind.{DeclarationKind}
 use Rattle.js_tree.specs.declared.id.NodeId.{NodeId}
 use Rattle.js_tree.specs.Holding.{Holds, Keeps}
@@ -39,10 +39,10 @@ use Rattle.js_targets.specs.Taken.{NoTargetFrom, goes_through}
 use Rattle.js_declarations.specs.HeadDeclarators.{ThroughHere}
 use Rattle.js_statements.specs.declared.for_statement.Ending.{Ending}
 use Rattle.js_statements.specs.declared.for_statement.Ending.TheVariants as ending
-use Rattle.js_statements.specs.ForHeads.{FirstTaken, NoFirst, end_kind, first_part}
-use Rattle.js_statements.specs.ForParts.{BeginsHead, ChecksLet, FindsHead, HeadExpressionRead, HeadTargetTaken, NoneBegins, TakesHeadTarget, TakesPartWithoutIn}
+use Rattle.js_statements.specs.ForHeads.{FirstTaken, NoFirst, NoFirstPart, end_kind, first_part}
+use Rattle.js_statements.specs.ForParts.{BeginsHead, ChecksAsync, ChecksLet, FindsHead, HeadExpressionRead, HeadTargetTaken, IsAsyncAlone, NoneBegins, TakesHeadTarget, TakesPartWithoutIn}
 use Rattle.js_statements.specs.LetStatements.{behind_let, LetIsName}
-use Rattle.js_parsing.proofs.Ahead.{pass_over, reads_not_then}
+use Rattle.js_parsing.proofs.Ahead.{pass_over}
 use Rattle.js_parsing.proofs.Moving.{stops_so}
 use Rattle.js_parsing.proofs.Paths.{Path, ◌⟼◌, by_symbol_as, last_called}
 use Rattle.js_parsing.proofs.Signs.{stands_not}
@@ -52,12 +52,12 @@ use Rattle.js_statements.proofs.CompoundStatements.{no_token}
 use Rattle.std.specs.Prelude.{IsCharBoundary, Result, Ok, Err}
 use Rattle.js_base.specs.declared.span.Span.{Span}
 use Rattle.js_base.specs.declared.token.Token.{Token}
-use Rattle.js_grammar.specs.Grammar.{last, is_such}
+use Rattle.js_grammar.specs.Grammar.{last, next, is_such}
 use Rattle.js_grammar.specs.Follow.{after}
 use Rattle.js_grammar.specs.Marks.{Mark}
 use Rattle.js_cursor.specs.Moves.{GivesUp, is_last}
 use Rattle.js_cursor.specs.Moves.{Keeps as KeepsOne}
-use Rattle.js_cursor.specs.Places.{goal}
+use Rattle.js_cursor.specs.Places.{IsAt, goal}
 use Rattle.js_parsing.specs.Answers.{unclean}
 use Rattle.js_parsing.specs.Classes.{EndsParse, IsEarly}
 use Rattle.js_parsing.specs.Lexemes.{read_kinds, spot}
@@ -72,12 +72,14 @@ use Rattle.js_targets.specs.Taken.{LiteralRead, TakesTarget, no_target_at}
 use Rattle.js_targets.specs.Targets.{IsTarget, is_literal, target_of}
 use Rattle.js_targets.proofs.ArraysConverted.{signs}
 use Rattle.js_targets.proofs.Covers.{lexed_there, underived_there}
-use Rattle.js_targets.proofs.HeadTargets.{before_these, goes_behind, none_before, literal_none, literal_path, simple_none, simple_path}
+use Rattle.js_targets.proofs.HeadTargets.{before_these, goes_behind, literal_none, literal_path, none_before, simple_none, simple_path}
 use Rattle.js_targets.proofs.Refused.{refused}
-use Rattle.js_expressions.specs.HeadOperands.{HeadOperand, OperandOutcome, no_target, operand}
+use Rattle.js_expressions.specs.HeadOperands.{HeadOperand, NoTargetPart, NoTargetSeen, OperandOutcome, no_target, operand}
+use Rattle.js_expressions.proofs.HeadOperands.{seen_part, target_part}
 use Rattle.js_cursor.specs.declared.stop.Stop.TheVariants.{Fatal, NoMemory}
-use Rattle.js_statements.proofs.ForHeads.{no_empty, on_semicolon}
-use Rattle.js_statements.proofs.LetLookaheads.{Leads, at_once, is_let, leads_to, no_let, not_followed, stands_let, ◌⇒◌, ◌⇒✗◌}
+use Rattle.js_statements.proofs.ForHeads.{last_between, no_empty, no_first_part, on_semicolon}
+use Rattle.js_statements.proofs.Strings.{name_look, name_target}
+use Rattle.js_statements.proofs.WordLookaheads.{IsWord, Leads, async_word, at_once, elsewhere, ends_at, followed, is_word, leads_to, let_word, no_word, not_followed, stands_word, ◌⇒◌, ◌⇒✗◌}
 
 -- ---- whatever is read before a lexeme that doesn't stand there
 
@@ -148,12 +150,41 @@ goes_on_let : covers (word_or (kind.LBrack ∷ kind.LCurly ∷ [])) (λ k w e. b
 unfolding covers
 goes_on_let = refl
 
-module _ {text : List ℕ} {f : Flags} {p : Parser} (a : At text f p) (n : NoneBegins p) where
+-- where `async` stands behind the place, no `of` stands behind it
+abbrev NoAsyncOf : List ℕ → ℕ → Type 0
+NoAsyncOf text s = (y z : Lexeme) → Lex text s y → IsTrue (seen (is kind.Async) y) → Lex text y.to z → IsTrue (seen (is kind.Of) z) → ⊥
+
+-- the lookaheads of the line with `of` pass nothing
+behind_looks : {text : List ℕ} {f : Flags} {X : Test} {s : ℕ} (is_await : Bool) → Fails rule (Lex text) X end (symbol Target f) s → Fails rule (Lex text) X end (if_next (other (is kind.Let)) ▸ cond is_await nothing (not_then (is kind.Async) (is kind.Of)) ▸ symbol Target f) s
+behind_looks {text} {f} {X} {s} true n = record { no = λ ts vs k ls rest l d e. go l d e }
+  where
+    go : {ts vs : Slots} {k : ℕ} {ls rest : Lexemes} → Lexes (Lex text) s ls → Takes rule (if_next (other (is kind.Let)) ▸ nothing ▸ symbol Target f) end ts s ls vs k rest → Admits X ts (here rest) → ⊥
+    go l (is_seq (is_look q) (is_seq is_nothing d)) e = n.no _ _ _ _ _ l d e
+behind_looks {text} {f} {X} {s} false n = record { no = λ ts vs k ls rest l d e. go l d e }
+  where
+    go : {ts vs : Slots} {k : ℕ} {ls rest : Lexemes} → Lexes (Lex text) s ls → Takes rule (if_next (other (is kind.Let)) ▸ not_then (is kind.Async) (is kind.Of) ▸ symbol Target f) end ts s ls vs k rest → Admits X ts (here rest) → ⊥
+    go l (is_seq (is_look q) (is_seq (is_left (is_look r)) d)) e = n.no _ _ _ _ _ l d e
+    go l (is_seq (is_look q) (is_seq (is_right (is_ahead (is_seq (is_lexeme r) (is_look o)))) d)) e = n.no _ _ _ _ _ l d e
+
+-- no line with `of`, where neither a target with it nor a declaration is derived
+no_of_part : {text : List ℕ} {f : Flags} {X : Test} {s : ℕ} (is_await : Bool) → Fails rule (Lex text) X end (symbol Target f ▸ tok kind.Of) s → Fails rule (Lex text) (plain full) end (for_binding f) s → Fails rule (Lex text) X end (first_part is_await ending.Of f ▸ tok kind.Of) s
+no_of_part {text} {f} {X} {s} is_await n m = record { no = λ ts vs k ls rest l d e. go is_await l d e }
+  where
+    go : (b : Bool) {ts vs : Slots} {k : ℕ} {ls rest : Lexemes} → Lexes (Lex text) s ls → Takes rule (first_part b ending.Of f ▸ tok kind.Of) end ts s ls vs k rest → Admits X ts (here rest) → ⊥
+    go true l (is_seq (is_left (is_seq (is_look q) (is_seq is_nothing d))) c) e = n.no _ _ _ _ _ l (is_seq d c) e
+    go false l (is_seq (is_left (is_seq (is_look q) (is_seq (is_left (is_look r)) d))) c) e = n.no _ _ _ _ _ l (is_seq d c) e
+    go false l (is_seq (is_left (is_seq (is_look q) (is_seq (is_right (is_ahead (is_seq (is_lexeme r) (is_look o)))) d))) c) e = n.no _ _ _ _ _ l (is_seq d c) e
+    go b l (is_seq (is_right d) c) e = m.no _ _ _ _ _ l d (refl, refl)
+
+of_word : IsWord kind.Of
+of_word = record { settled = refl; plain = refl; goes_on = refl }
+
+module _ {text : List ℕ} {f : Flags} (is_await : Bool) {p : Parser} (a : At text f p) (n : NoneBegins p) where
   name_here : LetIsName text true p.prev_token_end
   name_here = n.2 text f a
 
-  no_word : {X : Test} {g : G} (w : Kind) → (is_right_angle w || one_of_kinds other_goals w) ≡ false → StandsHere p w false → Fails rule (Lex text) X end (op variable_declaration w (tok w ▸ g)) p.prev_token_end
-  no_word w r s = fails_node inside_full (no_token a w r s)
+  no_declared : {X : Test} {g : G} (w : Kind) → (is_right_angle w || one_of_kinds other_goals w) ≡ false → StandsHere p w false → Fails rule (Lex text) X end (op variable_declaration w (tok w ▸ g)) p.prev_token_end
+  no_declared w r s = fails_node inside_full (no_token a w r s)
 
   no_let_word : {X : Test} (g : G) → covers (starts first g full) (λ k w e. behind_let true k) ≡ true → Fails rule (Lex text) X end (op variable_declaration kind.Let (tok kind.Let ▸ g)) p.prev_token_end
   no_let_word g b = record { no = λ ts vs k ls rest l d e. go l d }
@@ -164,14 +195,14 @@ module _ {text : List ℕ} {f : Flags} {p : Parser} (a : At text f p) (n : NoneB
           none.no us end _ more _ l.1 d (refl, refl)
 
   no_declarators : {X : Test} → Fails rule (Lex text) X end (branches words_of_declarations (λ w. op variable_declaration w (declarators w (minus_in f)))) p.prev_token_end
-  no_declarators = fails_alt (no_word kind.Var refl n.0) (fails_alt (no_let_word (commas false (declarator false (minus_in f))) (begins_list (minus_in f))) (no_word kind.Const refl n.1))
+  no_declarators = fails_alt (no_declared kind.Var refl n.0) (fails_alt (no_let_word (commas false (declarator false (minus_in f))) (begins_list (minus_in f))) (no_declared kind.Const refl n.1))
 
   no_binding : {X : Test} → Fails rule (Lex text) X end (for_binding f) p.prev_token_end
-  no_binding = fails_alt (no_word kind.Var refl n.0) (fails_alt (no_let_word (mk variable_declarator (symbol Binding f ▸ empty_slot)) (begins_bound f)) (no_word kind.Const refl n.1))
+  no_binding = fails_alt (no_declared kind.Var refl n.0) (fails_alt (no_let_word (mk variable_declarator (symbol Binding f ▸ empty_slot)) (begins_bound f)) (no_declared kind.Const refl n.1))
 
   -- no lexeme behind `let` makes it a declaration
   let_passes : {X : Test} {g : G} → Leads text X (not_then (is kind.Let) (word_or (kind.LBrack ∷ kind.LCurly ∷ [])) ▸ g) p.prev_token_end g
-  let_passes = not_followed a (word_or (kind.LBrack ∷ kind.LCurly ∷ [])) (λ y z l q m h. false≢true (sym (name_here y z l q m) ∙ covered (word_or (kind.LBrack ∷ kind.LCurly ∷ [])) (λ k w e. behind_let true k) goes_on_let z.kind z.newline z.escaped h))
+  let_passes = not_followed a let_word (word_or (kind.LBrack ∷ kind.LCurly ∷ [])) (λ y z l q m h. false≢true (sym (name_here y z l q m) ∙ covered (word_or (kind.LBrack ∷ kind.LCurly ∷ [])) (λ k w e. behind_let true k) goes_on_let z.kind z.newline z.escaped h))
 
   -- before a semicolon an Expression
   init_leads : {X : Test} → Leads text X (rule (at ForInit f)) p.prev_token_end (symbol Expression (minus_in f))
@@ -179,58 +210,63 @@ module _ {text : List ℕ} {f : Flags} {p : Parser} (a : At text f p) (n : NoneB
   init_leads = at_once (left no_declarators) ⇒ let_passes
 
   -- before `in` a target
-  in_leads : {X : Test} → Leads text X (first_part ending.In f) p.prev_token_end (symbol Target f)
-  in_leads = at_once (left (fails_alt no_binding (no_word kind.Var refl n.0))) ⇒ let_passes
+  in_leads : {X : Test} → Leads text X (first_part is_await ending.In f) p.prev_token_end (symbol Target f)
+  in_leads = at_once (left (fails_alt no_binding (no_declared kind.Var refl n.0))) ⇒ let_passes
 
-  -- before `of` one that doesn't begin with `let`
-  of_leads : {X : Test} → StandsHere p kind.Let false → Goes rule (Lex text) X end (first_part ending.Of f) p.prev_token_end (symbol Target f) p.prev_token_end (λ us. us) (still 0)
-  unfolding covers apart
-  of_leads s = left no_binding ▹ (pass_over (looks (other (is kind.Let)) (λ y l. not_let y l)) ▹ pass_over (reads_not_then (is kind.Async) (is kind.Of) refl))
+  not_let : StandsHere p kind.Let false → (y : Lexeme) → Lex text p.prev_token_end y → IsTrue (seen (other (is kind.Let)) y)
+  not_let s y l = by (seen (is kind.Let) y) refl
     where
-      not_let : (y : Lexeme) → Lex text p.prev_token_end y → IsTrue (seen (other (is kind.Let)) y)
-      not_let y l = by (seen (is kind.Let) y) refl
-        where
-          by : (b : Bool) → seen (is kind.Let) y ≡ b → not (seen (is kind.Let) y) ≡ true
-          by true e = absurd (no_let a s y l e)
-          by false e = ap not e
+      by : (b : Bool) → seen (is kind.Let) y ≡ b → not (seen (is kind.Let) y) ≡ true
+      by true e = absurd (no_word a let_word s y l e)
+      by false e = ap not e
 
-  no_of_let : {X : Test} → StandsHere p kind.Let true → Fails rule (Lex text) X end (first_part ending.Of f) p.prev_token_end
-  no_of_let s = fails_alt (part_fails {X' = plain full} (fails_look (other (is kind.Let)) (λ y l q. false≢true (sym (ap not (is_let a s y l)) ∙ q))) (record { admits = λ ts us vs j k ls mid rest d d' e. (refl, refl) })) no_binding
+  async_passes : (b : Bool) → (b ≡ false → NoAsyncOf text p.prev_token_end) → {X : Test} {g : G} → Leads text X (cond b nothing (not_then (is kind.Async) (is kind.Of)) ▸ g) p.prev_token_end g
+  async_passes true m = at_once done
+  async_passes false m = not_followed a async_word (is kind.Of) (m refl)
 
-  -- where no target is derived
-  through : (e : Ending) → (e ≡ ending.Semicolon → ⊥) → NoTargetFrom text f p.prev_token_end → Fails rule (Lex text) (plain (is (end_kind e))) end (symbol Target f) p.prev_token_end
-  through ending.Semicolon m z = absurd (m refl)
-  through ending.In m z = weaken_fails_on z (record { admits = λ ts vs k ls rest d e. (look_in (here rest) e.0, refl) })
-  through ending.Of m z = weaken_fails_on z (record { admits = λ ts vs k ls rest d e. (look_of (here rest) e.0, refl) })
+  -- before `of` one that doesn't begin with `let`, and isn't `async` alone
+  of_leads : {X : Test} → StandsHere p kind.Let false → (is_await ≡ false → NoAsyncOf text p.prev_token_end) → Leads text X (first_part is_await ending.Of f) p.prev_token_end (symbol Target f)
+  of_leads s m = at_once (left no_binding ▹ pass_over (looks (other (is kind.Let)) (not_let s))) ⇒ async_passes is_await m
 
-  pub no_target_part : (e : Ending) → (e ≡ ending.Semicolon → ⊥) → NoTargetFrom text f p.prev_token_end → NoFirst text e f p.prev_token_end
+  no_of_let : {X : Test} → StandsHere p kind.Let true → Fails rule (Lex text) X end (first_part is_await ending.Of f) p.prev_token_end
+  no_of_let s = fails_alt (part_fails {X' = plain full} (fails_look (other (is kind.Let)) (λ y l q. false≢true (sym (ap not (is_word a let_word s y l)) ∙ q))) (record { admits = λ ts us vs j k ls mid rest d d' e. (refl, refl) })) no_binding
+
+  no_of_async : {X : Test} → is_await ≡ false → StandsHere p kind.Async true → ((z : Lexeme) → Lex text p.token.span.end z → IsTrue (seen (is kind.Of) z)) → Fails rule (Lex text) X end (first_part is_await ending.Of f) p.prev_token_end
+  no_of_async {X} e s o = subst (λ (b : Bool). Fails rule (Lex text) X end (first_part b ending.Of f) p.prev_token_end) (sym e) (fails_alt (pass_over (looks (other (is kind.Let)) (not_let (λ k i. let z : kind.Async ≡ kind.Let = sym s.0 ∙ k in cc))) ▹✗ followed a async_word (is kind.Of) s o) no_binding)
+
+  -- where no target is derived before these
+  through : (e : Ending) → (e ≡ ending.Semicolon → ⊥) → NoTargetPart text f p.prev_token_end → Fails rule (Lex text) (plain (other (λ k w e. same_kind kind.Arrow k))) end (symbol Target f ▸ tok (end_kind e)) p.prev_token_end
+  through e m z = record { no = λ ts vs k ls rest l d h. go e m ts vs k ls rest l d h }
+    where
+      go : (e : Ending) → (e ≡ ending.Semicolon → ⊥) → (ts vs : Slots) (k : ℕ) (ls rest : Lexemes) → Lexes (Lex text) p.prev_token_end ls → Takes rule (symbol Target f ▸ tok (end_kind e)) end ts p.prev_token_end ls vs k rest → Admits (plain (other (λ k w e. same_kind kind.Arrow k))) ts (here rest) → ⊥
+      go ending.Semicolon m ts vs k ls rest l d h = absurd (m refl)
+      go ending.In m ts vs k ls rest l (is_seq {mid = mid} d (is_lexeme q)) h = z.no ts vs k ls rest l (is_seq d (is_lexeme (look_in (here mid) q))) h
+      go ending.Of m ts vs k ls rest l (is_seq {mid = mid} d (is_lexeme q)) h = z.no ts vs k ls rest l (is_seq d (is_lexeme (look_of (here mid) q))) h
+
+  pub no_target_part : (e : Ending) → (e ≡ ending.Semicolon → ⊥) → NoTargetPart text f p.prev_token_end → NoFirstPart text is_await e f p.prev_token_end
   no_target_part ending.Semicolon m z = absurd (m refl)
-  no_target_part ending.In m z = in_leads ⇒✗ through ending.In m z
-  no_target_part ending.Of m z = by (stands_let a)
-    where
-      by : (b : Bool) × StandsHere p kind.Let b → NoFirst text ending.Of f p.prev_token_end
-      by (true, s) = no_of_let s
-      by (false, s) = of_leads s ▹✗ through ending.Of m z
+  no_target_part ending.In m z = part_by (in_leads {X = plain (is kind.In)}).goes (last_between kind.In _ (first_part is_await ending.In f) p.prev_token_end) ▹✗ through ending.In m z
+  no_target_part ending.Of m z = no_of_part is_await (through ending.Of m z) no_binding
 
   -- ---- an expression
   module _ (i : f.in_ ≡ false) (o : p.token.kind ≡ kind.Semicolon → ⊥) where
     to_init : {q : Parser} (x : Answer text f (at Expression f) p q) → Path text f (plain (is kind.Semicolon)) (symbol Expression (minus_in f)) p nothing q (tree x.label x.slots)
     to_init {q} x = subst (λ (g : Flags). Path text f (plain (is kind.Semicolon)) (symbol Expression g) p nothing q (tree x.label x.slots)) (sym (without i)) (last_called x on_semicolon)
 
-    init_path : {q : Parser} (x : Answer text f (at Expression f) p q) → Path text f (plain (is kind.Semicolon)) (first_part ending.Semicolon f) p nothing q (tree x.label x.slots)
+    init_path : {q : Parser} (x : Answer text f (at Expression f) p q) → Path text f (plain (is kind.Semicolon)) (first_part is_await ending.Semicolon f) p nothing q (tree x.label x.slots)
     init_path x = left (no_empty a kind.Semicolon (inl refl) o) ⟼ by_symbol_as {X' = plain (is kind.Semicolon)} (λ l cs vs y e. e) (leads_to a init_leads (to_init x))
 
-    no_init : Underived text (at Expression f) p.prev_token_end → NoFirst text ending.Semicolon f p.prev_token_end
+    no_init : Underived text (at Expression f) p.prev_token_end → NoFirst text is_await ending.Semicolon f p.prev_token_end
     no_init n = fails_alt (fails_rule {X' = plain (is kind.Semicolon)} (λ l cs vs y e. e) (init_leads ⇒✗ subst (λ (g : Flags). Fails rule (Lex text) (plain (is kind.Semicolon)) end (symbol Expression g) p.prev_token_end) (sym (without i)) (weaken_fails_on n on_semicolon))) (no_empty a kind.Semicolon (inl refl) o)
 
     -- none can be read
-    pub nothing_first : Underived text (at Expression f) p.prev_token_end → NoTargetFrom text f p.prev_token_end → (e : Ending) → NoFirst text e f p.prev_token_end
-    nothing_first n z ending.Semicolon = no_init n
+    pub nothing_first : Underived text (at Expression f) p.prev_token_end → NoTargetPart text f p.prev_token_end → (e : Ending) → NoFirstPart text is_await e f p.prev_token_end
+    nothing_first n z ending.Semicolon = no_first_part f is_await ending.Semicolon (no_init n)
     nothing_first n z ending.In = no_target_part ending.In (λ k. cc) z
     nothing_first n z ending.Of = no_target_part ending.Of (λ k. cc) z
 
     -- one before neither `in` nor `of`
-    pub expression_first : {q : Parser} {id : NodeId} (x : Numbered text f (at Expression f) p q id) → ThroughHere q false → NoTargetFrom text f p.prev_token_end → FirstTaken text f p q (Some id)
+    pub expression_first : {q : Parser} {id : NodeId} (x : Numbered text f (at Expression f) p q id) → ThroughHere q false → NoTargetPart text f p.prev_token_end → FirstTaken text f is_await p q (Some id)
     expression_first {q} x t z = record {
       at = x.answer.at;
       same = x.answer.same;
@@ -248,41 +284,41 @@ module _ {text : List ℕ} {f : Flags} {p : Parser} (a : At text f p) (n : NoneB
       keeps = x.keeps;
     }
       where
-        reads : (e : Ending) → StandsHere q (end_kind e) true → Verdict p.errors q.errors (Stretch text (plain (is (end_kind e))) (first_part e f) p.prev_token_end nothing q.prev_token_end (tree x.answer.label x.answer.slots) (init_path x.answer).pass) (NoFirst text e f p.prev_token_end)
-        reads ending.Semicolon s = (init_path x.answer).verdict
+        reads : (e : Ending) → StandsHere q (end_kind e) true → Verdict p.errors q.errors (Stretch text (plain (is (end_kind e))) (first_part is_await e f) p.prev_token_end nothing q.prev_token_end (tree x.answer.label x.answer.slots) (init_path x.answer).pass) (NoFirstPart text is_await e f p.prev_token_end)
+        reads ending.Semicolon s = verdict_of (init_path x.answer).verdict (λ y. y) (λ n. no_first_part f is_await ending.Semicolon n)
         reads ending.In s = absurd (t.0 s.0 s.1)
         reads ending.Of s = absurd (t.1 s.0 s.1)
 
-        fails : (e : Ending) → StandsHere q (end_kind e) false → NoFirst text e f p.prev_token_end
-        fails ending.Semicolon s = path_not ending.Semicolon (init_path x.answer) x.answer.at s
+        fails : (e : Ending) → StandsHere q (end_kind e) false → NoFirstPart text is_await e f p.prev_token_end
+        fails ending.Semicolon s = no_first_part f is_await ending.Semicolon (path_not ending.Semicolon (init_path x.answer) x.answer.at s)
         fails ending.In s = no_target_part ending.In (λ k. cc) z
         fails ending.Of s = no_target_part ending.Of (λ k. cc) z
 
     -- whether it is a target or not
-    pub expression_alone : {q : Parser} {id : NodeId} (x : Numbered text f (at Expression f) p q id) → HeadOperand text f p q id → ThroughHere q false → FirstTaken text f p q (Some id)
+    pub expression_alone : {q : Parser} {id : NodeId} (x : Numbered text f (at Expression f) p q id) → HeadOperand text f p q id → ThroughHere q false → FirstTaken text f is_await p q (Some id)
     expression_alone {q} {id} x y h = expression_first x h (by y)
       where
-        by : HeadOperand text f p q id → NoTargetFrom text f p.prev_token_end
-        by (no_target m z) = z
-        by (operand y) = none_before i y.answer (through_not y.answer.at h)
+        by : HeadOperand text f p q id → NoTargetPart text f p.prev_token_end
+        by (no_target m z) = seen_part p z
+        by (operand y) = target_part (none_before i y.answer (through_not y.answer.at h))
 
     -- one before `in` or `of` is none before a semicolon
-    no_init_through : {q : Parser} {id : NodeId} (x : Numbered text f (at Expression f) p q id) → ThroughHere q true → NoFirst text ending.Semicolon f p.prev_token_end
+    no_init_through : {q : Parser} {id : NodeId} (x : Numbered text f (at Expression f) p q id) → ThroughHere q true → NoFirst text is_await ending.Semicolon f p.prev_token_end
     no_init_through {q} x h = path_not ending.Semicolon (init_path x.answer) x.answer.at (by h)
       where
         by : ThroughHere q true → StandsHere q kind.Semicolon false
         by (inl h) = λ k e. let w : kind.In ≡ kind.Semicolon = sym h.0 ∙ k in cc
         by (inr h) = λ k e. let w : kind.Of ≡ kind.Semicolon = sym h.0 ∙ k in cc
 
-    pub head_unread : (q : Parser) (x : Stop) → Stops p q x (Underived text (at Expression f) p.prev_token_end) → OperandOutcome text f p q (Err x) → Stops p q x ((e : Ending) → NoFirst text e f p.prev_token_end)
-    head_unread q Fatal s z = stops_so p q Fatal (λ n e. nothing_first n z e) s
+    pub head_unread : (q : Parser) (x : Stop) → Stops p q x (Underived text (at Expression f) p.prev_token_end) → OperandOutcome text f p q (Err x) → Stops p q x ((e : Ending) → NoFirstPart text is_await e f p.prev_token_end)
+    head_unread q Fatal s z = stops_so p q Fatal (λ n e. nothing_first n (seen_part p z) e) s
     head_unread q NoMemory s z = tt
 
-    pub target_unread : {q : Parser} {id : NodeId} (x : Numbered text f (at Expression f) p q id) → ThroughHere q true → (r : Parser) (e : Stop) → Stops p r e (NoTargetFrom text f p.prev_token_end) → Stops p r e ((d : Ending) → NoFirst text d f p.prev_token_end)
+    pub target_unread : {q : Parser} {id : NodeId} (x : Numbered text f (at Expression f) p q id) → ThroughHere q true → (r : Parser) (e : Stop) → Stops p r e (NoTargetPart text f p.prev_token_end) → Stops p r e ((d : Ending) → NoFirstPart text is_await d f p.prev_token_end)
     target_unread {q} x h r e s = stops_so p r e (λ z d. by d z) s
       where
-        by : (d : Ending) → NoTargetFrom text f p.prev_token_end → NoFirst text d f p.prev_token_end
-        by ending.Semicolon z = no_init_through x h
+        by : (d : Ending) → NoTargetPart text f p.prev_token_end → NoFirstPart text is_await d f p.prev_token_end
+        by ending.Semicolon z = no_first_part f is_await ending.Semicolon (no_init_through x h)
         by ending.In z = no_target_part ending.In (λ k. cc) z
         by ending.Of z = no_target_part ending.Of (λ k. cc) z
 
@@ -296,32 +332,44 @@ module _ {text : List ℕ} {f : Flags} {p : Parser} (a : At text f p) (n : NoneB
           on_through ending.In m = record { admits = λ ts vs k ls rest d e. (look_in (here rest) e.0, refl) }
           on_through ending.Of m = record { admits = λ ts vs k ls rest d e. (look_of (here rest) e.0, refl) }
 
-      in_verdict : Verdict p.errors r.errors (Stretch text (plain (is kind.In)) (first_part ending.In f) p.prev_token_end nothing r.prev_token_end (tree t.label t.slots) t.path.pass) (NoFirst text ending.In f p.prev_token_end)
+      in_verdict : Verdict p.errors r.errors (Stretch text (plain (is kind.In)) (first_part is_await ending.In f) p.prev_token_end nothing r.prev_token_end (tree t.label t.slots) t.path.pass) (NoFirst text is_await ending.In f p.prev_token_end)
       in_verdict = let l = in_leads {X = plain (is kind.In)} in verdict_of (target_verdict ending.In (λ k. cc)) (λ z. record { reach = max l.reach z.reach; near = let i = l.near in let j = z.near in let o = t.path.further in let u = a.behind in omega arith; goes = l.goes ▹ z.goes }) (λ z. l.goes ▹✗ z)
 
-      of_verdict : StandsHere p kind.Let false → Verdict p.errors r.errors (Stretch text (plain (is kind.Of)) (first_part ending.Of f) p.prev_token_end nothing r.prev_token_end (tree t.label t.slots) t.path.pass) (NoFirst text ending.Of f p.prev_token_end)
-      of_verdict s = verdict_of (target_verdict ending.Of (λ k. cc)) (λ z. record { reach = max 0 z.reach; near = let j = z.near in omega arith; goes = of_leads s ▹ z.goes }) (λ z. of_leads s ▹✗ z)
+      of_verdict : StandsHere p kind.Let false → (is_await ≡ false → NoAsyncOf text p.prev_token_end) → Verdict p.errors r.errors (Stretch text (plain (is kind.Of)) (first_part is_await ending.Of f) p.prev_token_end nothing r.prev_token_end (tree t.label t.slots) t.path.pass) (NoFirst text is_await ending.Of f p.prev_token_end)
+      of_verdict s m = let l = of_leads {X = plain (is kind.Of)} s m in verdict_of (target_verdict ending.Of (λ k. cc)) (λ z. record { reach = max l.reach z.reach; near = let i = l.near in let j = z.near in let o = t.path.further in let u = a.behind in omega arith; goes = l.goes ▹ z.goes }) (λ z. l.goes ▹✗ z)
+
+      -- where it is `async` with `of` behind it, it is `async` alone
+      async_alone : (y z : Lexeme) → Lex text p.prev_token_end y → IsTrue (seen (is kind.Async) y) → Lex text y.to z → IsTrue (seen (is kind.Of) z) → IsAsyncAlone p.token r
+      async_alone y z l q m o = by (stands_word p kind.Async)
+        where
+          word_passes : IsTrue (seen (name_look f) y)
+          word_passes = subst (λ (k : Kind). name_look f k y.newline y.escaped ≡ true) (kind_of_same kind.Async y.kind (and_parts (same_kind kind.Async y.kind) (not y.escaped) q).0) refl
+
+          ends_there : y.to ≡ r.prev_token_end
+          ends_there = either_way t.path.verdict
+              (λ u. let w = u.goes.only _ end y.to (next y (last z)) (last z) (l, m) (name_target word_passes) (look_of z o, refl) in sym (ends w.4).1)
+              (λ u. absurd (u.no _ end y.to (next y (last z)) (last z) (l, m) (name_target word_passes) (look_of z o, refl)))
+
+          by : (b : Bool) × StandsHere p kind.Async b → IsAsyncAlone p.token r
+          by (true, h) = (h.0, h.1, sym (ends_at a async_word h y l) ∙ ends_there)
+          by (false, h) = absurd (no_word a async_word h y l q)
 
       no_semicolon : ThroughHere r true → StandsHere r kind.Semicolon true → ⊥
       no_semicolon (inl h) s = let k : kind.In ≡ kind.Semicolon = sym h.0 ∙ s.0 in cc
       no_semicolon (inr h) s = let k : kind.Of ≡ kind.Semicolon = sym h.0 ∙ s.0 in cc
 
       -- no semicolon stands behind it
-      no_init_there : ThroughHere q true → NoFirst text ending.Semicolon f p.prev_token_end
+      no_init_there : ThroughHere q true → NoFirst text is_await ending.Semicolon f p.prev_token_end
       no_init_there h = no_init_through x h
 
-      no_of : StandsHere r kind.Of false → NoFirst text ending.Of f p.prev_token_end
-      no_of s = by (stands_let a)
-        where
-          by : (b : Bool) × StandsHere p kind.Let b → NoFirst text ending.Of f p.prev_token_end
-          by (true, l) = no_of_let l
-          by (false, l) = verdict_not ending.Of (of_verdict l) t.path.at s
+      no_of : StandsHere r kind.Of false → NoFirst text is_await ending.Of f p.prev_token_end
+      no_of s = fails_alt (behind_looks is_await (verdict_not ending.Of (target_verdict ending.Of (λ k. cc)) t.path.at s)) no_binding
 
       target_grown : {ds : List Diagnostic} → Grown r.errors ds → Grown p.errors ds
       target_grown g = grown_behind t.path.verdict g
 
-      pub target_first : ThroughHere q true → ThroughHere r true → (StandsHere p kind.Let true → StandsHere r kind.Of true → ⊥) → FirstTaken text f p r (Some target)
-      target_first hq h n = record {
+      pub target_first : ThroughHere q true → ThroughHere r true → (StandsHere p kind.Let true → StandsHere r kind.Of true → ⊥) → (is_await ≡ false → IsAsyncAlone p.token r → StandsHere r kind.Of true → ⊥) → FirstTaken text f is_await p r (Some target)
+      target_first hq h n m = record {
         at = t.path.at;
         same = t.same;
         forward = let j = t.path.further in let k = a.behind in omega arith;
@@ -331,29 +379,29 @@ module _ {text : List ℕ} {f : Flags} {p : Parser} (a : At text f p) (n : NoneB
         strips = λ us. refl;
         pass = t.path.pass;
         walked = t.path.walked;
-        read = λ e s. reads e s;
-        none = λ e s. fails e s;
+        read = λ e s. verdict_of (reads e s) (λ y. y) (λ n. no_first_part f is_await e n);
+        none = λ e s. no_first_part f is_await e (fails e s);
         kept = λ ds g. target_grown g;
         held = HoldsAll-one target t.holds;
         keeps = t.keeps;
       }
         where
-          of_read : (b : Bool) × StandsHere p kind.Let b → StandsHere r kind.Of true → Verdict p.errors r.errors (Stretch text (plain (is kind.Of)) (first_part ending.Of f) p.prev_token_end nothing r.prev_token_end (tree t.label t.slots) t.path.pass) (NoFirst text ending.Of f p.prev_token_end)
+          of_read : (b : Bool) × StandsHere p kind.Let b → StandsHere r kind.Of true → Verdict p.errors r.errors (Stretch text (plain (is kind.Of)) (first_part is_await ending.Of f) p.prev_token_end nothing r.prev_token_end (tree t.label t.slots) t.path.pass) (NoFirst text is_await ending.Of f p.prev_token_end)
           of_read (true, l) s = absurd (n l s)
-          of_read (false, l) s = of_verdict l
+          of_read (false, l) s = of_verdict l (λ e y z i q j o. m e (async_alone y z i q j o) s)
 
-          reads : (e : Ending) → StandsHere r (end_kind e) true → Verdict p.errors r.errors (Stretch text (plain (is (end_kind e))) (first_part e f) p.prev_token_end nothing r.prev_token_end (tree t.label t.slots) t.path.pass) (NoFirst text e f p.prev_token_end)
+          reads : (e : Ending) → StandsHere r (end_kind e) true → Verdict p.errors r.errors (Stretch text (plain (is (end_kind e))) (first_part is_await e f) p.prev_token_end nothing r.prev_token_end (tree t.label t.slots) t.path.pass) (NoFirst text is_await e f p.prev_token_end)
           reads ending.Semicolon s = absurd (no_semicolon h s)
           reads ending.In s = in_verdict
-          reads ending.Of s = of_read (stands_let a) s
+          reads ending.Of s = of_read (stands_word p kind.Let) s
 
-          fails : (e : Ending) → StandsHere r (end_kind e) false → NoFirst text e f p.prev_token_end
+          fails : (e : Ending) → StandsHere r (end_kind e) false → NoFirst text is_await e f p.prev_token_end
           fails ending.Semicolon s = no_init_there hq
           fails ending.In s = verdict_not ending.In in_verdict t.path.at s
           fails ending.Of s = no_of s
 
-      -- one that begins with `let` before `of`, which was told
-      pub told_first : ThroughHere q true → StandsHere p kind.Let true → StandsHere r kind.Of true → {w : Parser} {d : Diagnostic} → KeepsOne d r w → IsEarly d → FirstTaken text f p w (Some target)
+      -- one before `of` that may not stand there, which was told
+      pub told_first : ThroughHere q true → NoFirst text is_await ending.Of f p.prev_token_end → StandsHere r kind.Of true → {w : Parser} {d : Diagnostic} → KeepsOne d r w → IsEarly d → FirstTaken text f is_await p w (Some target)
       told_first hq l o {w} {d} u y =
           let nodes : w.nodes ≡ r.nodes = ap (λ (z : Parser). z.nodes) u.is in
           let place : w.prev_token_end ≡ r.prev_token_end = ap (λ (z : Parser). z.prev_token_end) u.is in
@@ -368,8 +416,8 @@ module _ {text : List ℕ} {f : Flags} {p : Parser} (a : At text f p) (n : NoneB
             strips = λ us. refl;
             pass = t.path.pass;
             walked = walked_to (sym (ap spot u.is)) t.path.walked;
-            read = λ e s. reads e (here_in token s);
-            none = λ e s. fails e (λ k i. s (ap (λ (z : Token). z.kind) token ∙ k) (ap (λ (z : Token). z.escaped) token ∙ i));
+            read = λ e s. verdict_of (reads e (here_in token s)) (λ y. y) (λ n. no_first_part f is_await e n);
+            none = λ e s. no_first_part f is_await e (fails e (λ k i. s (ap (λ (z : Token). z.kind) token ∙ k) (ap (λ (z : Token). z.escaped) token ∙ i)));
             kept = λ ds g. target_grown (grown_both (kept_one u) g);
             held = HoldsAll-one target (subst (λ (ns : List Node). Holds ns (length p.nodes) (length ns) target.0 t.label t.slots) (sym nodes) t.holds);
             keeps = subst (λ (ns : List Node). Keeps p.nodes ns) (sym nodes) t.keeps;
@@ -378,24 +426,37 @@ module _ {text : List ℕ} {f : Flags} {p : Parser} (a : At text f p) (n : NoneB
           here_in : {k : Kind} → w.token ≡ r.token → StandsHere w k true → StandsHere r k true
           here_in e s = (sym (ap (λ (z : Token). z.kind) e) ∙ s.0, sym (ap (λ (z : Token). z.escaped) e) ∙ s.1)
 
-          reads : (e : Ending) → StandsHere r (end_kind e) true → Verdict p.errors w.errors (Stretch text (plain (is (end_kind e))) (first_part e f) p.prev_token_end nothing w.prev_token_end (tree t.label t.slots) t.path.pass) (NoFirst text e f p.prev_token_end)
+          reads : (e : Ending) → StandsHere r (end_kind e) true → Verdict p.errors w.errors (Stretch text (plain (is (end_kind e))) (first_part is_await e f) p.prev_token_end nothing w.prev_token_end (tree t.label t.slots) t.path.pass) (NoFirst text is_await e f p.prev_token_end)
           reads ending.Semicolon s = absurd (no_semicolon (inr o) s)
           reads ending.In s = absurd (let k : kind.Of ≡ kind.In = sym o.0 ∙ s.0 in cc)
-          reads ending.Of s = unclean (grown_behind t.path.verdict (kept_one u)) (no_of_let l)
+          reads ending.Of s = unclean (grown_behind t.path.verdict (kept_one u)) l
 
-          fails : (e : Ending) → StandsHere r (end_kind e) false → NoFirst text e f p.prev_token_end
+          fails : (e : Ending) → StandsHere r (end_kind e) false → NoFirst text is_await e f p.prev_token_end
           fails ending.Semicolon s = no_init_there hq
           fails ending.In s = verdict_not ending.In in_verdict t.path.at s
           fails ending.Of s = absurd (s o.0 o.1)
 
       -- whether it was told or not
-      pub checked_first : ThroughHere q true → (b : Bool) → StandsHere p kind.Let b → {w : Parser} {s : Span} → ChecksLet b s r w → FirstTaken text f p w (Some target)
-      checked_first hq b l {w} {s} (inl (e, o, u)) = told_first hq (subst (λ (c : Bool). StandsHere p kind.Let c) e l) o u refl
-      checked_first hq b l {w} {s} (inr (m, e)) = subst (λ (z : Parser). FirstTaken text f p z (Some target)) (sym e) (target_first hq (through_at q r t.token hq) (λ h o. m (by b l h) o))
+      pub checked_first : ThroughHere q true → (b : Bool) → StandsHere p kind.Let b → (w : Parser) {v : Parser} {s : Span} {first : Token} → first ≡ p.token → ChecksLet b s r w → ChecksAsync is_await first w v → FirstTaken text f is_await p v (Some target)
+      checked_first hq b l w {v} {s} {first} i (inl (e, o, u)) c = by c
         where
-          by : (b : Bool) → StandsHere p kind.Let b → StandsHere p kind.Let true → b ≡ true
-          by true l h = refl
-          by false l h = absurd (l h.0 h.1)
+          let_here : StandsHere p kind.Let true
+          let_here = subst (λ (c : Bool). StandsHere p kind.Let c) e l
+
+          by : ChecksAsync is_await first w v → FirstTaken text f is_await p v (Some target)
+          by (inl (m, k, o', u')) = absurd (let z : kind.Let ≡ kind.Async = sym let_here.0 ∙ (ap (λ (t : Token). t.kind) (sym i) ∙ k.0) in cc)
+          by (inr (m, j)) = subst (λ (z : Parser). FirstTaken text f is_await p z (Some target)) (sym j) (told_first hq (no_of_let let_here) o u refl)
+      checked_first hq b l w {v} {s} {first} i (inr (m, e)) c = by (subst (λ (z : Parser). ChecksAsync is_await first z v) e c)
+        where
+          by_let : (b : Bool) → StandsHere p kind.Let b → StandsHere p kind.Let true → b ≡ true
+          by_let true l h = refl
+          by_let false l h = absurd (l h.0 h.1)
+
+          by : ChecksAsync is_await first r v → FirstTaken text f is_await p v (Some target)
+          by (inl (j, k, o, u)) =
+              let h = subst (λ (t : Token). IsAsyncAlone t r) i k in
+              told_first hq (no_of_async j (h.0, h.1) (λ z y. is_word t.path.at of_word o z (subst (λ (c : ℕ). Lex text c z) h.2 y))) o u refl
+          by (inr (j, k)) = subst (λ (z : Parser). FirstTaken text f is_await p z (Some target)) (sym k) (target_first hq (through_at q r t.token hq) (λ h o. m (by_let b l h) o) (λ y h o. j y (subst (λ (t : Token). IsAsyncAlone t r) (sym i) h) o))
 
 -- ---- the target that an expression stands for
 
@@ -429,12 +490,12 @@ module _ {text : List ℕ} {f : Flags} {p q : Parser} {id : NodeId} (a : At text
             let w = t text f p a s k y l in
             record { same = w.same; place = w.place; token = w.token; label = w.label; slots = w.slots; path = before_path i (literal_path y.answer l w); holds = w.holds; keeps = w.keeps }
 
-    pub literal_stops : (r : Parser) (e : Stop) → TakesTarget start id kept q r (Err e) → Stops p r e (NoTargetFrom text f p.prev_token_end)
+    pub literal_stops : (r : Parser) (e : Stop) → TakesTarget start id kept q r (Err e) → Stops p r e (NoTargetPart text f p.prev_token_end)
     literal_stops r e t = by o
       where
-        by : HeadOperand text f p q id → Stops p r e (NoTargetFrom text f p.prev_token_end)
+        by : HeadOperand text f p q id → Stops p r e (NoTargetPart text f p.prev_token_end)
         by (no_target n z) = absurd (false≢true (sym (n _ _ _ _ x.holds).0 ∙ h _ _ _ _ x.holds))
-        by (operand y) = let l = h _ _ _ _ y.holds in stops_so p r e (λ n. before_these i (literal_none y.answer l n)) (t text f p a s k y l)
+        by (operand y) = let l = h _ _ _ _ y.holds in stops_so p r e (λ n. target_part (before_these i (literal_none y.answer l n))) (t text f p a s k y l)
 
   -- a simple one
   pub simple_taken : {target : NodeId} → OfTree q id (λ lo hi l cs. IsTarget q.nodes lo hi l cs (Some target)) → HeadTargetTaken text f p q q target
@@ -446,19 +507,19 @@ module _ {text : List ℕ} {f : Flags} {p q : Parser} {id : NodeId} (a : At text
 
   -- or none
   module _ (h : OfTree q id (λ lo hi l cs. is_literal l.kind ≡ false)) (e : OfTree q id (λ lo hi l cs. target_of l cs ≡ None)) where
-    none_there : NoTargetFrom text f p.prev_token_end
+    none_there : NoTargetPart text f p.prev_token_end
     none_there = by o
       where
-        by : HeadOperand text f p q id → NoTargetFrom text f p.prev_token_end
-        by (no_target n z) = z
-        by (operand y) = before_these i (simple_none y.answer (h _ _ _ _ y.holds) (e _ _ _ _ y.holds))
+        by : HeadOperand text f p q id → NoTargetPart text f p.prev_token_end
+        by (no_target n z) = seen_part p z
+        by (operand y) = target_part (before_these i (simple_none y.answer (h _ _ _ _ y.holds) (e _ _ _ _ y.holds)))
 
-    pub simple_stops : (r : Parser) (s : Stop) → GivesUp EndsParse q r s → Stops p r s (NoTargetFrom text f p.prev_token_end)
+    pub simple_stops : (r : Parser) (s : Stop) → GivesUp EndsParse q r s → Stops p r s (NoTargetPart text f p.prev_token_end)
     simple_stops r s g = refused r s x.answer.at x.answer.same x.answer.verdict g none_there
 
     -- which has its mark
-    pub none_marked : ThroughHere q true → (start : ℕ) → start ≡ p.token.span.start → length q.errors ≡ length p.errors → Mark (goal q) q.text (no_target_at start q.prev_token_end)
-    none_marked t start d n = subst (λ (v : List ℕ). Mark (goal q) v (no_target_at start q.prev_token_end)) (sym x.answer.at.text_is) it
+    pub none_marked : (p.token.kind ≡ kind.Async → ⊥) → ThroughHere q true → (start : ℕ) → start ≡ p.token.span.start → length q.errors ≡ length p.errors → Mark (goal q) q.text (no_target_at start q.prev_token_end)
+    none_marked m t start d n = subst (λ (v : List ℕ). Mark (goal q) v (no_target_at start q.prev_token_end)) (sym x.answer.at.text_is) it
       where
         word : (k : Kind) → is_last k ≡ false → is_right_angle k ≡ false → one_of_kinds read_kinds k ≡ true → one_of_kinds (kind.In ∷ kind.Of ∷ []) k ≡ true → StandsHere q k true → (y : Lexeme) × Lex text q.prev_token_end y × IsTrue (seen goes_through y)
         word k l g r m h =
@@ -487,17 +548,25 @@ module _ {text : List ℕ} {f : Flags} {p q : Parser} {id : NodeId} (a : At text
         z : Stretch text (after (at Expression f)) (such (at Expression f) always) p.prev_token_end nothing q.prev_token_end (tree x.answer.label x.answer.slots) x.answer.pass
         z = none_kept x.answer.verdict n
 
+        strong : NoTargetFrom text f p.prev_token_end
+        strong = by o
+          where
+            by : HeadOperand text f p q id → NoTargetFrom text f p.prev_token_end
+            by (no_target n (inl k)) = k
+            by (no_target n (inr (k, w))) = absurd (m k)
+            by (operand u) = before_these i (simple_none u.answer (h _ _ _ _ u.holds) (e _ _ _ _ u.holds))
+
         it : Mark (goal q) text (no_target_at start q.prev_token_end)
         it = record {
           ordered = let j = x.answer.further in omega arith;
           within = (subst (λ (v : List ℕ). IsCharBoundary v q.prev_token_end) x.answer.at.text_is x.answer.at.at.between).0;
           begins_between = subst (λ (v : ℕ). IsCharBoundary text v) (sym d) (subst (λ (v : List ℕ). IsCharBoundary v p.token.span.start) a.text_is a.at.lies.starts_whole);
           ends_between = subst (λ (v : List ℕ). IsCharBoundary v q.prev_token_end) x.answer.at.text_is x.answer.at.at.between;
-          stands = (inr (underived_there x.answer a z y l f Target (record { start = start; end = q.prev_token_end }) d refl (λ u g. none_there.no (tree u.label u.slots end) end q.prev_token_end (x.answer.pass (last y)) (last y) (lexed_there x.answer a z y l) (is_such g refl) ((behind t).2, refl))), (refl, refl));
+          stands = (inr (underived_there x.answer a z y l f Target (record { start = start; end = q.prev_token_end }) d refl (λ u g. strong.no (tree u.label u.slots end) end q.prev_token_end (x.answer.pass (last y)) (last y) (lexed_there x.answer a z y l) (is_such g refl) ((behind t).2, refl))), (refl, refl));
         }
 
 -- as a call needs it
-pub literal_read : {start kept : ℕ} {id : NodeId} {q : Parser} (h : HeadExpressionRead start id kept q) → OfTree q id (λ lo hi l cs. is_literal l.kind ≡ true) → LiteralRead start id kept q
+pub literal_read : {b : Bool} {start kept : ℕ} {id : NodeId} {q : Parser} (h : HeadExpressionRead b start id kept q) → OfTree q id (λ lo hi l cs. is_literal l.kind ≡ true) → LiteralRead start id kept q
 literal_read {start} {kept} {id} {q} h t = by h.operand
   where
     by : HeadOperand h.text h.flags h.first q id → LiteralRead start id kept q
@@ -508,11 +577,23 @@ pub literal_outcome : {start kept : ℕ} {id : NodeId} {q : Parser} (w : Parser)
 literal_outcome w (Ok t) h y = λ text f p a i s k x o. literal_taken a i x o h s k y
 literal_outcome w (Err e) h y = λ text f p a i s k x o. literal_stops a i x o h s k w e y
 
--- ---- `let` before `of`
+-- ---- `let` and `async` before `of`
 
 -- what is told of it has its mark
 pub let_marked : {text : List ℕ} {f : Flags} {p q r : Parser} {target : NodeId} → At text f p → StandsHere p kind.Let true → HeadTargetTaken text f p q r target → (s : Span) {d : Diagnostic} → d ≡ unrelated_at ForLoopLetReservedWord s → s.start ≡ p.token.span.start → s.end ≡ r.prev_token_end → Mark (goal r) r.text d
 let_marked {p = p} a h t s e c d = span_marked a (λ k. let z : kind.Let ≡ kind.Undetermined = sym h.0 ∙ k in cc) t.path.at t.same t.path.walked t.path.further ForLoopLetReservedWord s e (λ s i j. ((i, j), (refl, refl))) c d
+
+pub async_marked : {text : List ℕ} {f : Flags} {p q r : Parser} {target : NodeId} → At text f p → HeadTargetTaken text f p q r target → (t : Token) → t ≡ p.token → IsAsyncAlone t r → Mark (goal r) r.text (unrelated_at ForLoopAsyncOf t.span)
+async_marked {p = p} a h t e i = span_marked a (λ k. let z : kind.Async ≡ kind.Undetermined = sym i.0 ∙ (ap (λ (t : Token). t.kind) e ∙ k) in cc) h.path.at h.same h.path.walked h.path.further ForLoopAsyncOf t.span refl (λ s i j. ((i, j), (refl, refl))) (ap (λ (t : Token). t.span.start) e) i.2
+
+-- behind the check for `let`
+pub let_checked : {b : Bool} {s : Span} {p q : Parser} → ChecksLet b s p q → IsAt p → IsAt q
+let_checked (inl (e, o, u)) a = u.at
+let_checked (inr (n, e)) a = subst (λ (z : Parser). IsAt z) (sym e) a
+
+pub marked_behind : (t : Token) (d : Diagnostic) {b : Bool} {s : Span} {p q : Parser} → ChecksLet b s p q → (IsAsyncAlone t p → Mark (goal p) p.text d) → IsAsyncAlone t q → Mark (goal q) q.text d
+marked_behind t d (inl (e, o, u)) m = subst (λ (z : Parser). IsAsyncAlone t z → Mark (goal z) z.text d) (sym u.is) m
+marked_behind t d (inr (n, e)) m = subst (λ (z : Parser). IsAsyncAlone t z → Mark (goal z) z.text d) (sym e) m
 
 pub through_uncut : {text : List ℕ} {f : Flags} {q : Parser} → At text f q → ThroughHere q true → q.cut ≡ false
 through_uncut a (inl h) = uncut a (ap (same_kind kind.RAngle) h.0)
@@ -529,11 +610,11 @@ found_head p q r k e h = subst (λ (v : Option DeclarationKind). FindsHead p q v
 pub none_in_head : (p q : Parser) (r : Option DeclarationKind) → r ≡ None → FindsHead p q r → (q ≡ p) × NoneBegins p
 none_in_head p q r e h = subst (λ (v : Option DeclarationKind). FindsHead p q v) e h
 
-pub part_from : (p q w : Parser) (r : Result NodeId Stop) → q ≡ p → TakesPartWithoutIn q w r → TakesPartWithoutIn p w r
-part_from p q w r e h = subst (λ (v : Parser). TakesPartWithoutIn v w r) e h
+pub part_from : (is_await : Bool) (p q w : Parser) (r : Result NodeId Stop) → q ≡ p → TakesPartWithoutIn is_await q w r → TakesPartWithoutIn is_await p w r
+part_from is_await p q w r e h = subst (λ (v : Parser). TakesPartWithoutIn is_await v w r) e h
 
 pub cover_is : (q : Parser) (id : NodeId) (r s : Option NodeId) → r ≡ s → OfTree q id (λ lo hi l cs. IsTarget q.nodes lo hi l cs r) → OfTree q id (λ lo hi l cs. IsTarget q.nodes lo hi l cs s)
 cover_is q id r s e h = subst (λ (v : Option NodeId). OfTree q id (λ lo hi l cs. IsTarget q.nodes lo hi l cs v)) e h
 
-pub head_marked : {start kept : ℕ} {id : NodeId} {q : Parser} → HeadExpressionRead start id kept q → OfTree q id (λ lo hi l cs. is_literal l.kind ≡ false) → OfTree q id (λ lo hi l cs. target_of l cs ≡ None) → ThroughHere q true → length q.errors ≡ kept → Mark (goal q) q.text (no_target_at start q.prev_token_end)
-head_marked r h e t n = none_marked r.begins r.no_in r.read r.operand h e t _ r.start_is (n ∙ r.kept_is)
+pub head_marked : {start kept : ℕ} {id : NodeId} {q : Parser} → HeadExpressionRead false start id kept q → OfTree q id (λ lo hi l cs. is_literal l.kind ≡ false) → OfTree q id (λ lo hi l cs. target_of l cs ≡ None) → ThroughHere q true → length q.errors ≡ kept → Mark (goal q) q.text (no_target_at start q.prev_token_end)
+head_marked r h e t n = none_marked r.begins r.no_in r.read r.operand h e (r.begins_with refl) t _ r.start_is (n ∙ r.kept_is)

@@ -21,12 +21,11 @@ use Rattle.js_tree.specs.Labels.{kind_of}
 use Rattle.js_tree.specs.Nodes.{Node}
 use Rattle.js_tree.specs.Holding.{HoldsAll, Keeps}
 use Rattle.js_tree.proofs.HoldingLemmas.{HoldsAll-next, Keeps-made, Keeps-trans}
-use Rattle.js_base.specs.Kinds.{one_of_kinds}
 use Rattle.js_cursor.specs.Moves.{GivesUp, IsUnexpected}
 use Rattle.js_cursor.specs.Parsers.{Parser}
 use Rattle.js_cursor.specs.declared.stop.Stop.{Stop}
 use Rattle.js_parsing.specs.Answers.{Grown, Stops}
-use Rattle.js_parsing.specs.Lexemes.{Lex, read_kinds}
+use Rattle.js_parsing.specs.Lexemes.{Lex}
 use Rattle.js_parsing.specs.Moves.{Moved, MadeHere}
 use Rattle.js_parsing.specs.Stands.{StandsHere}
 use Rattle.js_parsing.specs.States.{At, Same}
@@ -42,24 +41,13 @@ use Rattle.js_parsing.proofs.Moving.{same_both, stops_behind}
 use Rattle.js_parsing.proofs.Paths.{Path, ◌⟼◌, ◌⟶◌, ◌⟶✗◌, at_kind, flagged_by, flagged_here, token}
 use Rattle.js_parsing.proofs.Verdicts.{grown_then}
 use Rattle.js_parsing.proofs.Verdicts.{after as grown_behind}
-use Rattle.js_parsing.proofs.Dead.{AllRead, all_read}
 use Rattle.js_parsing.proofs.Giving.{gives_up_here}
-use Rattle.js_expressions.proofs.Awaits.{awaits_at}
 use Rattle.js_statements.proofs.CompoundStatements.{no_token, statement_read, then_fails, then_part}
 use Rattle.js_statements.proofs.ForHeads.{which}
 use Rattle.js_statements.proofs.Statements.{by_statement, no_symbol, ◌⟝◌}
 use Rattle.js_statements.proofs.WordStatements.{Alone, alone_fails, alone_path}
 
 -- ---- the lines
-
--- the first part of a head, with `await` before it or without
-abbrev first_under : Bool → Ending → Flags → G
-first_under w ending.Semicolon f = first_part ending.Semicolon f
-first_under w ending.In f = first_part ending.In f
-first_under w ending.Of f = if_next (other (is kind.Let)) ▸ cond w nothing (not_then (is kind.Async) (is kind.Of)) ▸ symbol Target f ◇ for_binding f
-
-abbrev head_under : Bool → Ending → Flags → G
-head_under w e f = first_under w e f ▸ rest_part e f
 
 -- behind the word, as the line of `of` has it: with `await` or without
 abbrev behind_word : Bool → Ending → G → G
@@ -68,31 +56,10 @@ behind_word w ending.In g = g
 behind_word w ending.Of g = only w (tok kind.Await) ▸ g
 
 abbrev for_slots : Bool → Ending → Flags → G
-for_slots w e f = tok kind.For ▸ behind_word w e (parens (head_under w e f) ▸ symbol Sub f)
+for_slots w e f = tok kind.For ▸ behind_word w e (parens (head_part w e f) ▸ symbol Sub f)
 
 abbrev for_node : Bool → Ending → Flags → G
 for_node w e f = make (kind_of (node_of e)) no_op (flag w await_flag) (for_slots w e f)
-
--- no `async` is read, so what stands behind `await` is read as without it
-read_no_async : covers (λ k w e. one_of_kinds read_kinds k && not e) (other (is kind.Async)) ≡ true
-unfolding covers
-read_no_async = refl
-
-no_async : (ls : Lexemes) → AllRead ls → IsTrue (seen (other (is kind.Async)) (here ls))
-no_async (last x) c = covered (λ k w e. one_of_kinds read_kinds k && not e) (other (is kind.Async)) read_no_async x.kind x.newline x.escaped c
-no_async (next x ls) c = covered (λ k w e. one_of_kinds read_kinds k && not e) (other (is kind.Async)) read_no_async x.kind x.newline x.escaped c.0
-
-await_head : {text : List ℕ} {f : Flags} {X : Test} {s : ℕ} → Goes rule (Lex text) X end (parens (head_under true ending.Of f) ▸ symbol Sub f) s (parens (head_part ending.Of f) ▸ symbol Sub f) s (λ us. us) (still 0)
-await_head {text} {f} {X} {s} = record { passes = passes_none; sound = λ us vs k ls rest l r d. to d; only = λ ts vs k ls rest l d e. (ts, ls, refl, l, of (all_read text s ls l) d, refl) }
-  where
-    to : {us vs : Slots} {i k : ℕ} {ls rest : Lexemes} → Takes rule (parens (head_part ending.Of f) ▸ symbol Sub f) end us i ls vs k rest → Takes rule (parens (head_under true ending.Of f) ▸ symbol Sub f) end us i ls vs k rest
-    to (is_seq (is_seq (is_lexeme c) (is_seq (is_seq (is_left (is_seq (is_look p) (is_seq (is_left (is_look q)) t))) r) z)) b) = is_seq (is_seq (is_lexeme c) (is_seq (is_seq (is_left (is_seq (is_look p) (is_seq is_nothing t))) r) z)) b
-    to (is_seq (is_seq (is_lexeme c) (is_seq (is_seq (is_left (is_seq (is_look p) (is_seq (is_right (is_ahead (is_seq (is_lexeme m) (is_look n)))) t))) r) z)) b) = is_seq (is_seq (is_lexeme c) (is_seq (is_seq (is_left (is_seq (is_look p) (is_seq is_nothing t))) r) z)) b
-    to (is_seq (is_seq (is_lexeme c) (is_seq (is_seq (is_right d) r) z)) b) = is_seq (is_seq (is_lexeme c) (is_seq (is_seq (is_right d) r) z)) b
-
-    of : {us vs : Slots} {i k : ℕ} {ls rest : Lexemes} → AllRead ls → Takes rule (parens (head_under true ending.Of f) ▸ symbol Sub f) end us i ls vs k rest → Takes rule (parens (head_part ending.Of f) ▸ symbol Sub f) end us i ls vs k rest
-    of a (is_seq (is_seq (is_lexeme {ls = more} c) (is_seq (is_seq (is_left (is_seq (is_look p) (is_seq is_nothing t))) r) z)) b) = is_seq (is_seq (is_lexeme c) (is_seq (is_seq (is_left (is_seq (is_look p) (is_seq (is_left (is_look (no_async more a.1))) t))) r) z)) b
-    of a (is_seq (is_seq (is_lexeme c) (is_seq (is_seq (is_right d) r) z)) b) = is_seq (is_seq (is_lexeme c) (is_seq (is_seq (is_right d) r) z)) b
 
 -- ---- what may stand behind the body, the last slot
 
@@ -120,7 +87,7 @@ an_expression : (f : Flags) {ks ts us : Slots} {i j : ℕ} {ls rest : Lexemes} �
 an_expression f (is_left (is_such {l = l} {cs = cs} d t)) = a_tree l cs
 an_expression f (is_right is_empty_slot) = a_hole
 
-first_slot : (w : Bool) (e : Ending) (f : Flags) {ks ts us : Slots} {i j : ℕ} {ls rest : Lexemes} → Takes rule (first_under w e f) ks ts i ls us j rest → OneSlot us ts
+first_slot : (w : Bool) (e : Ending) (f : Flags) {ks ts us : Slots} {i j : ℕ} {ls rest : Lexemes} → Takes rule (first_part w e f) ks ts i ls us j rest → OneSlot us ts
 first_slot w ending.Semicolon f (is_left (is_such {l = l} {cs = cs} d t)) = a_tree l cs
 first_slot w ending.Semicolon f (is_right is_empty_slot) = a_hole
 first_slot w ending.In f (is_left (is_seq (is_left (is_look q)) (is_such {l = l} {cs = cs} d t))) = a_tree l cs
@@ -227,7 +194,7 @@ pub record Begun (text : List ℕ) (f : Flags) (w : Bool) (p q : Parser) : Type 
   pub less : room q < room p
   pub nodes : q.nodes ≡ p.nodes
   pub kept : q.errors ≡ p.errors
-  pub opened : {X : Test} (e : Ending) → Fits w e → Path text f X (for_slots w e f) p (parens (head_part e f) ▸ symbol Sub f) q (λ us. us)
+  pub opened : {X : Test} (e : Ending) → Fits w e → Path text f X (for_slots w e f) p (parens (head_part w e f) ▸ symbol Sub f) q (λ us. us)
   pub line : {X : Test} (e : Ending) → Fits w e → Goes rule (Lex text) X end (rule (at (name_of e) f)) p.prev_token_end (for_node w e f) p.prev_token_end (λ us. us) (still 0)
   pub dead : {X : Test} (e : Ending) → (Fits w e → ⊥) → Fails rule (Lex text) X end (rule (at (name_of e) f)) p.prev_token_end
   pub at : At text f q
@@ -237,33 +204,33 @@ module _ {text : List ℕ} {f : Flags} {p o : Parser} (a : At text f p) (h : Sta
   behind_for_word = token kind.For a h.0 h.1 refl m
 
   -- without `await`
-  opens : {X : Test} (e : Ending) → Path text f X (for_slots false e f) p (parens (head_part e f) ▸ symbol Sub f) o (λ us. us)
+  opens : {X : Test} (e : Ending) → Path text f X (for_slots false e f) p (parens (head_part false e f) ▸ symbol Sub f) o (λ us. us)
   opens ending.Semicolon = behind_for_word
   opens ending.In = behind_for_word
   opens ending.Of = behind_for_word ⟝ done
 
-  no_await_line : {X : Test} → (StandsHere o kind.Await false) ⊎ (f.await_ ≡ false) → Fails rule (Lex text) X end (when f.await_ (for_node true ending.Of f)) p.prev_token_end
+  no_await_line : {X : Test} → (StandsHere o kind.Await false) ⊎ (f.awaits ≡ false) → Fails rule (Lex text) X end (when f.awaits (for_node true ending.Of f)) p.prev_token_end
   no_await_line (inl n) = fails_under (fails_node inside_full (behind_for_word ⟶✗ no_token m.at kind.Await refl n))
   no_await_line (inr e) = fails_when e
 
-  plain_line : {X : Test} (e : Ending) → (StandsHere o kind.Await false) ⊎ (f.await_ ≡ false) → Goes rule (Lex text) X end (rule (at (name_of e) f)) p.prev_token_end (for_node false e f) p.prev_token_end (λ us. us) (still 0)
+  plain_line : {X : Test} (e : Ending) → (StandsHere o kind.Await false) ⊎ (f.awaits ≡ false) → Goes rule (Lex text) X end (rule (at (name_of e) f)) p.prev_token_end (for_node false e f) p.prev_token_end (λ us. us) (still 0)
   unfolding rule rule_of
   plain_line ending.Semicolon n = stay
   plain_line ending.In n = stay
   plain_line ending.Of n = left (no_await_line n) ▹ where_true refl
 
-  begun_plain : (StandsHere o kind.Await false) ⊎ (f.await_ ≡ false) → Begun text f false p o
+  begun_plain : (StandsHere o kind.Await false) ⊎ (f.awaits ≡ false) → Begun text f false p o
   begun_plain n = record { at = m.at; same = m.same; further = m.further; less = nested_room a m; nodes = m.nodes; kept = m.kept; opened = λ e i. opens e; line = λ e i. plain_line e n; dead = λ e i. absurd (i tt) }
 
   -- with it
-  module _ (s : StandsHere o kind.Await true) (i : f.await_ ≡ true) {q : Parser} (n : Moved text f o q) where
+  module _ (s : StandsHere o kind.Await true) (i : f.awaits ≡ true) {q : Parser} (n : Moved text f o q) where
     no_paren : {X : Test} {g g' : G} → Fails rule (Lex text) X end (parens g ▸ g') o.prev_token_end
     no_paren = then_fails (no_token m.at kind.LParen refl (λ k e. let z : kind.Await ≡ kind.LParen = sym s.0 ∙ k in cc))
 
-    opens_await : {X : Test} (e : Ending) → Fits true e → Path text f X (for_slots true e f) p (parens (head_part e f) ▸ symbol Sub f) q (λ us. us)
+    opens_await : {X : Test} (e : Ending) → Fits true e → Path text f X (for_slots true e f) p (parens (head_part true e f) ▸ symbol Sub f) q (λ us. us)
     opens_await ending.Semicolon z = absurd z
     opens_await ending.In z = absurd z
-    opens_await ending.Of z = behind_for_word ⟶ (token kind.Await m.at s.0 s.1 refl n ⟝ await_head)
+    opens_await ending.Of z = behind_for_word ⟶ token kind.Await m.at s.0 s.1 refl n
 
     await_line : {X : Test} (e : Ending) → Fits true e → Goes rule (Lex text) X end (rule (at (name_of e) f)) p.prev_token_end (for_node true e f) p.prev_token_end (λ us. us) (still 0)
     unfolding rule rule_of
@@ -281,15 +248,15 @@ module _ {text : List ℕ} {f : Flags} {p o : Parser} (a : At text f p) (h : Sta
     begun_await = record { at = n.at; same = same_both m.same n.same; further = let i = m.further in let j = m.at.behind in let l = n.further in omega arith; less = let i = nested_room a m in let j = nested_room m.at n in omega arith; nodes = n.nodes ∙ m.nodes; kept = n.kept ∙ m.kept; opened = λ e z. opens_await e z; line = λ e z. await_line e z; dead = λ e z. no_other_line e z }
 
   pub begun : (w : Bool) (q : Parser) → PassesAwait o q w → Begun text f w p q
-  begun true q y = begun_await y.0 (awaits_at m.at y.1) (y.2 text f m.at)
+  begun true q y = begun_await y.0 (sym (ap (λ (g : Flags). g.awaits) m.at.flags_are) ∙ y.1) (y.2 text f m.at)
   begun false q (inl n, e) = subst (λ (z : Parser). Begun text f false p z) (sym e) (begun_plain (inl n))
-  begun false q (inr n, e) = subst (λ (z : Parser). Begun text f false p z) (sym e) (begun_plain (inr (sym (ap (λ (g : Flags). g.await_) m.at.flags_are) ∙ n)))
+  begun false q (inr n, e) = subst (λ (z : Parser). Begun text f false p z) (sym e) (begun_plain (inr (sym (ap (λ (g : Flags). g.awaits) m.at.flags_are) ∙ n)))
 
 -- ---- the statement
 
 module _ {text : List ℕ} {f : Flags} {w : Bool} {p q : Parser} (a : At text f p) (h : StandsHere p kind.For true) (m : Begun text f w p q) where
   -- where no head of the line is derived
-  no_line : {X : Test} (e : Ending) → NoParensHead text e f q.prev_token_end → Fails rule (Lex text) X end (symbol (name_of e) f) p.prev_token_end
+  no_line : {X : Test} (e : Ending) → NoParensHead text w e f q.prev_token_end → Fails rule (Lex text) X end (symbol (name_of e) f) p.prev_token_end
   no_line {X} e n = fails_rule {X' = plain full} (λ l cs vs y d. (refl, refl)) (by (fits w e))
     where
       by : (Fits w e) ⊎ (Fits w e → ⊥) → Fails rule (Lex text) (plain full) end (rule (at (name_of e) f)) p.prev_token_end
@@ -308,7 +275,7 @@ module _ {text : List ℕ} {f : Flags} {w : Bool} {p q : Parser} (a : At text f 
   none_of_three : (b : Bool) → ((X : Test) (d : Ending) → Fails rule (Lex text) X end (symbol (name_of d) f) p.prev_token_end) → NoStatement text (placed b f) p.prev_token_end
   none_of_three b n = no_symbol (listed b ▹✗ fails_rule {X' = plain full} (λ l cs vs y d. (refl, refl)) (all_three ▹✗ fails_alt (n _ ending.Semicolon) (fails_alt (n _ ending.In) (n _ ending.Of))))
 
-  pub for_stops : (b : Bool) (r : Parser) (x : Stop) → Stops q r x ((d : Ending) → NoParensHead text d f q.prev_token_end) → Stops p r x (NoStatement text (placed b f) p.prev_token_end)
+  pub for_stops : (b : Bool) (r : Parser) (x : Stop) → Stops q r x ((d : Ending) → NoParensHead text w d f q.prev_token_end) → Stops p r x (NoStatement text (placed b f) p.prev_token_end)
   for_stops b r x s = stops_behind r x m.same (λ g. grown_then m.kept g) (λ n. none_of_three b (λ X d. no_line d (n d))) s
 
   only_line : (e : Ending) → ((X : Test) (d : Ending) → (d ≡ e → ⊥) → Fails rule (Lex text) X end (symbol (name_of d) f) p.prev_token_end) → {X : Test} → Goes rule (Lex text) X end (rule (at AStatement f)) p.prev_token_end (symbol (name_of e) f) p.prev_token_end (λ us. us) (still 0)
@@ -316,7 +283,7 @@ module _ {text : List ℕ} {f : Flags} {w : Bool} {p q : Parser} (a : At text f 
   only_line ending.In n = all_three ▹ (right (n _ ending.Semicolon (λ k. cc)) ▹ left (n _ ending.Of (λ k. cc)))
   only_line ending.Of n = all_three ▹ (right (n _ ending.Semicolon (λ k. cc)) ▹ right (n _ ending.In (λ k. cc)))
 
-  module _ {r : Parser} {e : Ending} {ids : List (Option NodeId)} (x : ParensHeadTaken text f e q r ids) where
+  module _ {r : Parser} {e : Ending} {ids : List (Option NodeId)} (x : ParensHeadTaken text f w e q r ids) where
     pub head_same : Same p r
     head_same = same_both m.same x.same
 

@@ -10,7 +10,7 @@ use Rattle.js_base.specs.Kinds.{same_kind, one_of_kinds}
 use Rattle.js_grammar.specs.Trees.{Span as TreeSpan, Label, Slots, end, tree, no_op, labeled_statement, label_identifier}
 use Rattle.js_grammar.specs.Grammar.{Lexeme, Lexemes, Look, last, next, here, seen, is, exact, lexeme, seq, such, nothing, label_of, Takes, is_seq, is_lexeme, is_such, ◌▸◌}
 use Rattle.js_grammar.specs.Parsing.{Test, plain, full, always, still, passing, Admits, Goes, Reads, Fails}
-use Rattle.js_grammar.specs.Productions.{G, Flags, Symbol, at, tok, word_or, Expression, Labeled, LabelIdentifier, ListItem, Sub}
+use Rattle.js_grammar.specs.Productions.{G, Flags, Symbol, at, function_on_line, tok, word_or, Expression, Labeled, LabelIdentifier, ListItem, Sub}
 use Rattle.js_grammar.specs.Productions.{Statement as AStatement}
 use Rattle.js_grammar.specs.Productions.{sym as symbol}
 use Rattle.js_grammar.specs.Table.{rule, rule_of}
@@ -46,7 +46,7 @@ use Rattle.js_parsing.proofs.Moving.{same_both, same_itself, same_with, beside_n
 use Rattle.js_parsing.proofs.Paths.{Path, ◌⟼◌, ◌⟶◌, ◌⟶✗◌, one_read, read_of, token, noded, noded_by, by_symbol_as, label_here}
 use Rattle.js_statements.proofs.Statements.{by_statement, no_function, no_function_body, no_symbol, no_lexical, no_expression_ends, before_colon, item_left, sub_left, colon_ends}
 use Rattle.js_statements.specs.LetStatements.{behind_let, LetIsName}
-use Rattle.js_statements.proofs.LetLookaheads.{not_followed, ◌⇒✗◌}
+use Rattle.js_statements.proofs.WordLookaheads.{AsyncIsName, let_word, not_followed, ◌⇒✗◌}
 use Rattle.js_statements.proofs.Strings.{name_look, name_node, name_expression}
 use Rattle.js_parsing.proofs.Tight.{read_plain}
 use Rattle.js_parsing.proofs.Verdicts.{verdict_of, grown_then}
@@ -210,21 +210,27 @@ module _ {text : List ℕ} {f : Flags} {p q : Parser} (a : At text f p) (x : Ans
   unfolding rule rule_of covers
   to_labeled = at_name a is_listed
 
-  -- a colon stands behind `let`, where that is the label
-  label_named : (b : Bool) → LetIsName text b p.prev_token_end
-  label_named b y z l h m =
+  colon_behind : (y z : Lexeme) → Lex text p.prev_token_end y → Lex text y.to z → z.kind ≡ Colon
+  colon_behind y z l m =
       let e : y.to ≡ q.prev_token_end = ap (λ (v : Lexeme). v.to) (one_read a (name_signless p.token.kind is_listed) l name.1) ∙ name.3 in
-      no_colon_behind b (kind_here x.at i.colon refl z (subst (λ (v : ℕ). Lex text v z) e m))
+      kind_here x.at i.colon refl z (subst (λ (v : ℕ). Lex text v z) e m)
+
+  -- a colon stands behind `let` and behind `async`, where that is the label
+  label_named : (b : Bool) → LetIsName text b p.prev_token_end
+  label_named b y z l h m = no_colon_behind b (colon_behind y z l m)
     where
       no_colon_behind : (b : Bool) → z.kind ≡ Colon → behind_let b z.kind ≡ false
       no_colon_behind true k = ap (behind_let true) k
       no_colon_behind false k = ap (behind_let false) k
 
+  label_async : AsyncIsName text p.prev_token_end
+  label_async y z l h m t = false≢true (sym (ap (λ (k : Kind). function_on_line k z.newline z.escaped) (colon_behind y z l m)) ∙ t)
+
   -- it is no expression with a semicolon
   to_placed : (b : Bool) → Goes rule (Lex text) (after_statement (placed b f)) end (rule (placed b f)) p.prev_token_end (symbol AStatement f) p.prev_token_end (λ us. us) (still 0)
   unfolding apart covers
-  to_placed true = subst (λ (g : G). Goes rule (Lex text) (after_statement (at ListItem f)) end (rule (at ListItem f)) p.prev_token_end g p.prev_token_end (λ us. us) (still 0)) (item_left f) (lives (rule (at ListItem f))) ▹ left (fails_alt (not_followed a (word_or (LCurly ∷ [])) (λ y z l h m t. false≢true (sym (label_named true y z l h m) ∙ covered (word_or (LCurly ∷ [])) (λ k w e. behind_let true k) refl z.kind z.newline z.escaped t)) ⇒✗ no_expression_ends true a (name_apart (LCurly ∷ Function ∷ []) refl p.token.kind is_listed) (label_named true) x (before_colon x.at (goes_on (row_of x.label x.slots)) i.colon)) (fails_alt (no_function a (name_apart statement_kinds refl p.token.kind is_listed)) (no_lexical a (name_apart statement_kinds refl p.token.kind is_listed) (label_named true))))
-  to_placed false = subst (λ (g : G). Goes rule (Lex text) (after_statement (at Sub f)) end (rule (at Sub f)) p.prev_token_end g p.prev_token_end (λ us. us) (still 0)) (sub_left f) (lives (rule (at Sub f))) ▹ left (fails_alt (no_expression_ends false a (name_apart (LCurly ∷ Function ∷ []) refl p.token.kind is_listed) (label_named false) x (before_colon x.at (goes_on (row_of x.label x.slots)) i.colon)) (no_function_body a (name_apart statement_kinds refl p.token.kind is_listed)))
+  to_placed true = subst (λ (g : G). Goes rule (Lex text) (after_statement (at ListItem f)) end (rule (at ListItem f)) p.prev_token_end g p.prev_token_end (λ us. us) (still 0)) (item_left f) (lives (rule (at ListItem f))) ▹ left (fails_alt (not_followed a let_word (word_or (LCurly ∷ [])) (λ y z l h m t. false≢true (sym (label_named true y z l h m) ∙ covered (word_or (LCurly ∷ [])) (λ k w e. behind_let true k) refl z.kind z.newline z.escaped t)) ⇒✗ no_expression_ends true a (name_apart (LCurly ∷ Function ∷ []) refl p.token.kind is_listed) label_async (label_named true) x (before_colon x.at (goes_on (row_of x.label x.slots)) i.colon)) (fails_alt (no_function a (name_apart statement_kinds refl p.token.kind is_listed) label_async) (no_lexical a (name_apart statement_kinds refl p.token.kind is_listed) (label_named true))))
+  to_placed false = subst (λ (g : G). Goes rule (Lex text) (after_statement (at Sub f)) end (rule (at Sub f)) p.prev_token_end g p.prev_token_end (λ us. us) (still 0)) (sub_left f) (lives (rule (at Sub f))) ▹ left (fails_alt (no_expression_ends false a (name_apart (LCurly ∷ Function ∷ []) refl p.token.kind is_listed) label_async (label_named false) x (before_colon x.at (goes_on (row_of x.label x.slots)) i.colon)) (no_function_body a (name_apart statement_kinds refl p.token.kind is_listed)))
 
   -- what is in the node can't be read
   labeled_fails : (b : Bool) → Fails rule (Lex text) (behind_label f) end (labeled_slots f) p.prev_token_end → NoStatement text (placed b f) p.prev_token_end

@@ -6,11 +6,10 @@ use Rattle.js_base.specs.declared.diagnostic.Diagnostic.{Diagnostic}
 use Rattle.js_base.specs.declared.diagnostic.DiagnosticKind.TheVariants.{LexicalDeclarationSingleStatement}
 use Rattle.js_base.specs.declared.span.Span.{Span}
 use Rattle.js_base.specs.declared.kind.Kind.{Kind}
-use Rattle.js_base.specs.declared.kind.Kind.TheVariants.{Colon, Const, LBrack, LCurly, Let, Undetermined}
+use Rattle.js_base.specs.declared.kind.Kind.TheVariants.{Async, Colon, Const, LBrack, LCurly, Let, Undetermined}
 use Rattle.js_base.specs.declared.token.Token.{Token}
 use Rattle.js_base.specs.Kinds.{same_kind, one_of_kinds}
 use Rattle.js_grammar.specs.Conditions.{ends_in_sub}
-use Rattle.js_grammar.specs.Words.{'async'}
 use Rattle.js_grammar.specs.Trees.{end}
 use Rattle.js_grammar.specs.Grammar.{Lexeme, seen, is, ◌▸◌}
 use Rattle.js_grammar.specs.Parsing.{Test, plain, full, still, Goes, Fails}
@@ -36,7 +35,7 @@ use Rattle.js_parsing.specs.Lexemes.{Lex, other_goals, spot}
 use Rattle.js_parsing.specs.Stands.{StandsHere}
 use Rattle.js_parsing.specs.States.{At}
 use Rattle.js_parsing.specs.Statements.{after_statement, no_link, statement_kinds, NoStatement, Statement, StatementOutcome, TakesStatement}
-use Rattle.js_parsing.proofs.Ahead.{pass_over, reads_not_then}
+use Rattle.js_parsing.proofs.Ahead.{pass_over}
 use Rattle.js_parsing.proofs.Here.{kind_here, unsettled}
 use Rattle.js_parsing.proofs.Dead.{lives}
 use Rattle.js_parsing.proofs.Giving.{kept_one}
@@ -51,7 +50,7 @@ use Rattle.js_expressions.proofs.Lookaheads.{peeked_kind, peeked_whole}
 use Rattle.js_statements.specs.DeclarationStatements.{Declaration, ReadsDeclaration, declaration}
 use Rattle.js_statements.specs.LetStatements.{behind_let, BeginsLexical, FindsLexical, LetBegins, LetHere, NoLet, TellsLexical}
 use Rattle.js_statements.proofs.DeclarationStatements.{as_statement, const_alone, const_listed, declaration_read, no_const_body}
-use Rattle.js_statements.proofs.LetLookaheads.{ends_at, followed, not_followed, ◌⇒✗◌}
+use Rattle.js_statements.proofs.WordLookaheads.{async_word, elsewhere, ends_at, followed, let_word, no_async_here, not_followed, ◌⇒✗◌}
 use Rattle.js_statements.proofs.Statements.{item_left, labels_fail, never_open, no_expression, no_function, no_function_body, no_symbol, sub_left}
 use Rattle.js_statements.proofs.WordStatements.{unlinked}
 use Rattle.js_grammar.specs.Productions.{is_one_of, other, function_on_line}
@@ -77,8 +76,11 @@ module _ {text : List ℕ} {f : Flags} {p : Parser} (a : At text f p) {b : Bool}
   kind_behind : (z : Lexeme) → Lex text p.token.span.end z → z.kind ≡ h.kind
   kind_behind = h.behind text f a
 
+  no_async : StandsHere p Async false
+  no_async k e = let w : Let ≡ Async = sym h.here.0 ∙ k in cc
+
   let_label : (X : Test) → Fails rule (Lex text) X end (symbol Labeled f) p.prev_token_end
-  let_label X = labels_fail (λ y z rest l i t c. not_colon b z.kind (ap (behind_let b) (kind_behind z (subst (λ (v : ℕ). Lex text v z) (ends_at a h.here y l) i.0)) ∙ h.goes_on) (and_parts (same_kind Colon z.kind) (not z.escaped) c).0)
+  let_label X = labels_fail (λ y z rest l i t c. not_colon b z.kind (ap (behind_let b) (kind_behind z (subst (λ (v : ℕ). Lex text v z) (ends_at a let_word h.here y l) i.0)) ∙ h.goes_on) (and_parts (same_kind Colon z.kind) (not z.escaped) c).0)
 
   let_statement : {X : Test} → Fails rule (Lex text) X end (symbol AStatement f) p.prev_token_end
   unfolding rule rule_of covers
@@ -87,7 +89,7 @@ module _ {text : List ℕ} {f : Flags} {p : Parser} (a : At text f p) {b : Bool}
   -- before `[` no expression statement begins so
   let_expression : same_kind LBrack h.kind ≡ true → {X : Test} → Fails rule (Lex text) X end (symbol ExprStmt f) p.prev_token_end
   unfolding rule rule_of apart
-  let_expression k = fails_rule {X' = plain full} (λ l cs vs y e. (refl, refl)) (fails_node inside_full (pass_over (looks (other (is_one_of no_expression)) (λ y l. subst (λ (k : Kind). not (one_of_kinds no_expression k && not y.escaped) ≡ true) (sym (kind_here a h.here.0 refl y l)) refl)) ▹✗ (pass_over (reads_not_then (is 'async') function_on_line refl) ▹✗ followed a (is LBrack) h.here (λ z l. and_from _ _ (ap (same_kind LBrack) (kind_behind z l) ∙ k) (ap not (read_plain z l.1))))))
+  let_expression k = fails_rule {X' = plain full} (λ l cs vs y e. (refl, refl)) (fails_node inside_full (pass_over (looks (other (is_one_of no_expression)) (λ y l. subst (λ (k : Kind). not (one_of_kinds no_expression k && not y.escaped) ≡ true) (sym (kind_here a h.here.0 refl y l)) refl)) ▹✗ (elsewhere a async_word function_on_line no_async ▹✗ followed a let_word (is LBrack) h.here (λ z l. and_from _ _ (ap (same_kind LBrack) (kind_behind z l) ∙ k) (ap not (read_plain z l.1))))))
 
 -- in a list
 module _ {text : List ℕ} {f : Flags} {p : Parser} (a : At text f p) (h : LetHere true p) where
@@ -95,11 +97,11 @@ module _ {text : List ℕ} {f : Flags} {p : Parser} (a : At text f p) (h : LetHe
   no_expression_item = by (same_kind LBrack h.kind) refl
     where
       by : {X : Test} (b : Bool) → same_kind LBrack h.kind ≡ b → Fails rule (Lex text) X end (not_then (is Let) (word_or (LCurly ∷ [])) ▸ symbol ExprStmt f) p.prev_token_end
-      by true k = not_followed a (word_or (LCurly ∷ [])) (λ y z l q m t. no_bracketed_word z (ap (same_kind LBrack) (kind_behind a h z (subst (λ (v : ℕ). Lex text v z) (ends_at a h.here y l) m)) ∙ k) t) ⇒✗ let_expression a h k
-      by false k = followed a (word_or (LCurly ∷ [])) h.here (λ z l. or_word h.kind h.goes_on k z (kind_behind a h z l))
+      by true k = not_followed a let_word (word_or (LCurly ∷ [])) (λ y z l q m t. no_bracketed_word z (ap (same_kind LBrack) (kind_behind a h z (subst (λ (v : ℕ). Lex text v z) (ends_at a let_word h.here y l) m)) ∙ k) t) ⇒✗ let_expression a h k
+      by false k = followed a let_word (word_or (LCurly ∷ [])) h.here (λ z l. or_word h.kind h.goes_on k z (kind_behind a h z l))
 
   let_listed : {X : Test} → Goes rule (Lex text) X end (rule (at ListItem f)) p.prev_token_end (symbol Lexical f) p.prev_token_end (λ us. us) (still 0)
-  let_listed {X} = subst (λ (g : G). Goes rule (Lex text) X end (rule (at ListItem f)) p.prev_token_end g p.prev_token_end (λ us. us) (still 0)) (item_left f) (lives (rule (at ListItem f))) ▹ right (let_statement a h) ▹ right no_expression_item ▹ right (no_function a (ap (one_of_kinds statement_kinds) h.here.0))
+  let_listed {X} = subst (λ (g : G). Goes rule (Lex text) X end (rule (at ListItem f)) p.prev_token_end g p.prev_token_end (λ us. us) (still 0)) (item_left f) (lives (rule (at ListItem f))) ▹ right (let_statement a h) ▹ right no_expression_item ▹ right (no_function a (ap (one_of_kinds statement_kinds) h.here.0) (no_async_here a (no_async a h)))
 
   let_alone : {X : Test} → Goes rule (Lex text) X end (rule (at Lexical f)) p.prev_token_end (declaration declared.Let f) p.prev_token_end (λ us. us) (still 0)
   unfolding rule rule_of covers
@@ -211,7 +213,7 @@ not_other_goal b k h = go (one_of_kinds other_goals k) refl
     go false e = e
 
 pub let_unseen : (b : Bool) {p : Parser} {t : Token} → StandsHere p Let true → Peeks p t → behind_let b t.kind ≡ false → NoLet b p
-let_unseen b {p} {t} h k g = λ text f a y z l q m. go text f a z (subst (λ (v : ℕ). Lex text v z) (ends_at a h y l) m) (behind_let b z.kind) refl
+let_unseen b {p} {t} h k g = λ text f a y z l q m. go text f a z (subst (λ (v : ℕ). Lex text v z) (ends_at a let_word h y l) m) (behind_let b z.kind) refl
   where
     go : (text : List ℕ) (f : Flags) → At text f p → (z : Lexeme) → Lex text p.token.span.end z → (c : Bool) → behind_let b z.kind ≡ c → behind_let b z.kind ≡ false
     go text f a z m true e = absurd (false≢true (sym g ∙ (sym (ap (behind_let b) (peeked_whole a k z m (not_right_angle b z.kind e) (not_other_goal b z.kind e))) ∙ e)))

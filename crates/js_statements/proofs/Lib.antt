@@ -9,7 +9,6 @@ pub mod ForParts
 pub mod ForStatements
 pub mod FunctionStatements
 pub mod Labels
-pub mod LetLookaheads
 pub mod LetStatements
 pub mod Returns
 pub mod StatementLists
@@ -18,3 +17,4 @@ pub mod Strings
 pub mod SwitchStatements
 pub mod TryStatements
 pub mod WordStatements
+pub mod WordLookaheads

@@ -4,7 +4,7 @@ use Rattle.std.proofs.Common.{ℕ, ◌≡◌, ◌<◌, max, List, [], ◌∷◌,
 use Rattle.std.specs.Prelude.{◌↔◌}
 use Rattle.std.proofs.lemmas.Bool.{false≢true, and_parts, and_from}
 use Rattle.js_base.specs.declared.kind.Kind.{Kind}
-use Rattle.js_base.specs.declared.kind.Kind.TheVariants.{Case, Default, Eof, RCurly, Let, Str, Undetermined}
+use Rattle.js_base.specs.declared.kind.Kind.TheVariants.{Async, Case, Default, Eof, RCurly, Let, Str, Undetermined}
 use Rattle.js_base.specs.declared.span.Span.{Span}
 use Rattle.js_base.specs.Contexts.{has_flag, in_flag}
 use Rattle.js_base.specs.Kinds.{same_kind, one_of_kinds}
@@ -49,7 +49,7 @@ use Rattle.js_parsing.proofs.Dead.{fails_dead}
 use Rattle.js_parsing.proofs.MadeNodes.{one_held}
 use Rattle.js_parsing.proofs.Paths.{Path, ◌⟶✗◌, not_here, fails_at, noded_by, by_symbol_as, label_here, walked_both}
 use Rattle.js_statements.specs.LetStatements.{LetIsName}
-use Rattle.js_statements.proofs.LetLookaheads.{no_let_here}
+use Rattle.js_statements.proofs.WordLookaheads.{AsyncIsName, no_async_here, no_let_here}
 use Rattle.js_statements.proofs.Statements.{none_of_one, to_semicolon, end_path, unended, statement_path, statement_fails, statement_unended, ended_so, no_label_at}
 use Rattle.js_statements.proofs.Strings.{is_literal, string_first, string_alone, string_expression, first_is_string, stated, stating, string_statement, other_statement}
 
@@ -263,18 +263,21 @@ module _ {text : List ℕ} {f : Flags} {p : Parser} (a : At text f p) (s : p.tok
   no_let : LetIsName text true p.prev_token_end
   no_let = no_let_here a (λ k e. let q : Str ≡ Let = sym s ∙ k in absurd (cc)) true
 
+  no_async : AsyncIsName text p.prev_token_end
+  no_async = no_async_here a (λ k e. let q : Str ≡ Async = sym s ∙ k in absurd (cc))
+
   no_label : (X : Test) → Fails rule (Lex text) X end (symbol Labeled f) p.prev_token_end
   no_label X = no_label_at a (ap (one_of_kinds name_kinds) s) X
 
   -- neither an expression stands here, nor a directive
   pub no_opening : (sl : StatementList) → Underived text (at Expression f) p.prev_token_end → NoList text sl (with_directives sl f) p.prev_token_end
-  no_opening sl n = none_first a sl (not_eof sl) (no_directive (underived_string n)) (no_item sl (statement_fails a no_own_kind no_label true no_let n))
+  no_opening sl n = none_first a sl (not_eof sl) (no_directive (underived_string n)) (no_item sl (statement_fails a no_own_kind no_label no_async true no_let n))
 
   module _ {q : Parser} (x : Answer text f (at Expression f) p q) where
     -- no statement ends behind it
     pub opening_unended : (sl : StatementList) → NoEnd q → NoList text sl (with_directives sl f) p.prev_token_end
     unfolding rule rule_of covers
-    opening_unended sl m = none_first a sl (not_eof sl) (go (is_literal x.label.kind) refl) (no_item sl (statement_unended a no_own_kind no_label true no_let x m))
+    opening_unended sl m = none_first a sl (not_eof sl) (go (is_literal x.label.kind) refl) (no_item sl (statement_unended a no_own_kind no_label no_async true no_let x m))
       where
         go : (b : Bool) → is_literal x.label.kind ≡ b → Fails rule (Lex text) (plain no_link) end (directives f) p.prev_token_end
         go true t = fails_rule {X' = plain no_link} (λ l cs vs y e. (e.0, refl)) (fails_node (inside_plain refl) (to_semicolon (λ ds i j ls mid d. string_expression d) (string_path x t) ⟶✗ unended x.at (goes_on (row_of x.label x.slots)) m))
@@ -286,7 +289,7 @@ module _ {text : List ℕ} {f : Flags} {p : Parser} (a : At text f p) (s : p.tok
       directive_path t = by_symbol_as {X' = plain no_link} (λ l cs vs y d. (d.0, refl)) (noded_by a (inside_plain refl) (end_path i x e (to_semicolon (λ ds i j ls mid d. string_expression d) (string_path x t))))
 
       item_path : Path text f (after_statement (at ListItem f)) (symbol ListItem f) p nothing r (tree (label_here expression_statement no_op p r) (tree x.label x.slots end))
-      item_path = by_symbol_as {X' = after_statement (at ListItem f)} (λ l cs vs y d. d) (statement_path a no_own_kind no_label true no_let i x e)
+      item_path = by_symbol_as {X' = after_statement (at ListItem f)} (λ l cs vs y d. d) (statement_path a no_own_kind no_label no_async true no_let i x e)
 
       as_directive : (sl : StatementList) → is_literal x.label.kind ≡ true → Path text f (plain (at_end sl)) (with_directives sl f) p (with_directives sl f) r (tree (label_here directive no_op p r) (tree x.label x.slots end))
       as_directive sl t = let d = directive_path t in record {

@@ -1,7 +1,7 @@
 -- Statements, and the semicolons that end them or are left out.
-use Rattle.js_parsing.proofs.Ahead.{pass_over, reads_not_then}
+use Rattle.js_parsing.proofs.Ahead.{pass_over}
 use Rattle.js_statements.specs.LetStatements.{behind_let, LetIsName}
-use Rattle.js_statements.proofs.LetLookaheads.{Leads, at_once, ◌⇒◌, ◌⇒✗◌, leads_to, name_in_body, not_followed}
+use Rattle.js_statements.proofs.WordLookaheads.{AsyncIsName, Leads, at_once, ◌⇒◌, ◌⇒✗◌, async_word, leads_to, let_word, name_in_body, not_followed}
 use Rattle.std.proofs.Common.{ℕ, ◌≡◌, ◌≤◌, max, inl, inr, List, [], ◌∷◌, length, Bool, true, false, not, ◌&&◌, ◌||◌, IsTrue, Some, refl, sym, ap, subst, arith, ◌∙◌}
 use Rattle.std.specs.Prelude.{◌↔◌, Result, Ok, Err, MatchResult}
 use Rattle.js_base.specs.declared.token.Token.{Token}
@@ -16,7 +16,7 @@ use Rattle.js_base.proofs.KindLemmas.{kind_of_same}
 use Rattle.js_base.specs.Texts.{words}
 use Rattle.js_grammar.specs.Words.{'let', 'const', 'async', 'function', 'class'}
 use Rattle.js_grammar.specs.Trees.{Label, Slots, end, tree, no_op, function_declaration, variable_declaration, empty_statement, expression_statement, label_identifier}
-use Rattle.js_grammar.specs.Grammar.{Lexeme, Lexemes, Look, here, seen, is, may_omit, alt, such, when, ended, semicolon, nothing, next, label_of, ◌▸◌, Takes, is_seq, is_lexeme, is_such, is_node, is_ended, commas}
+use Rattle.js_grammar.specs.Grammar.{Lexeme, Lexemes, Look, here, seen, is, may_omit, alt, such, when, ended, semicolon, nothing, next, label_of, ◌▸◌, Takes, is_seq, is_lexeme, is_look, is_such, is_node, is_ended, commas}
 use Rattle.js_grammar.specs.Insertion.{Row, after_expression, may_bind, goes_on, by_edge}
 use Rattle.js_grammar.specs.Conditions.{ends_in_sub, lacks_else}
 use Rattle.js_grammar.specs.Lexed.{Lexes}
@@ -67,6 +67,9 @@ use Rattle.js_parsing.proofs.Giving.{gives_up, gives_up_here}
 use Rattle.js_parsing.proofs.Classes.{here_ends}
 use Rattle.js_base.specs.declared.diagnostic.DiagnosticKind.TheVariants.{ExpectToken}
 use Rattle.js_parsing.proofs.Slashes.{sign_there}
+use Rattle.js_operands.specs.declared.function.FunctionForm.TheVariants.{Declaration}
+use Rattle.js_operands.specs.Functions.{function_line}
+use Rattle.js_operands.proofs.Functions.{none_left}
 use Rattle.js_operands.proofs.Operands.{name_signless}
 
 -- a path, and a choice at its end
@@ -462,14 +465,31 @@ pub no_label_at : {text : List ℕ} {f : Flags} {p : Parser} → At text f p →
 unfolding covers apart
 no_label_at {f = f} a n X = fails_at a {X = X} (symbol Labeled f) name_kinds refl n
 
--- nor a declaration of a function
-pub no_function : {text : List ℕ} {f : Flags} {p : Parser} {X : Test} → At text f p → one_of_kinds statement_kinds p.token.kind ≡ false → Fails rule (Lex text) X end (symbol AFunction f) p.prev_token_end
-unfolding covers apart
-no_function {f = f} a n = weaken_fails_on (fails_at a {X = plain full} (symbol AFunction f) statement_kinds refl n) (record { admits = λ ts vs k ls rest d e. (refl, refl) })
-
+-- nor a declaration of a function, as a body
 pub no_function_body : {text : List ℕ} {f : Flags} {p : Parser} {X : Test} → At text f p → one_of_kinds statement_kinds p.token.kind ≡ false → Fails rule (Lex text) X end (function_of function_declaration (symbol BindingIdentifier f) false false f) p.prev_token_end
 unfolding covers apart
 no_function_body {f = f} a n = weaken_fails_on (fails_at a {X = plain full} (function_of function_declaration (symbol BindingIdentifier f) false false f) statement_kinds refl n) (record { admits = λ ts vs k ls rest d e. (refl, refl) })
+
+-- nor one in a list
+module _ {text : List ℕ} {f : Flags} {p : Parser} (a : At text f p) (n : one_of_kinds statement_kinds p.token.kind ≡ false) (v : AsyncIsName text p.prev_token_end) where
+  none_of_either : (s : Bool) → Fails rule (Lex text) (plain full) end (function_line Declaration false s f) p.prev_token_end
+  unfolding covers apart
+  none_of_either true = fails_at a {X = plain full} (function_line Declaration false true f) statement_kinds refl n
+  none_of_either false = no_function_body a n
+
+  no_async_line : (s : Bool) → Fails rule (Lex text) (plain full) end (function_line Declaration true s f) p.prev_token_end
+  no_async_line s = record { no = λ ts vs k ls rest l d e. go l d }
+    where
+      go : {ts vs : Slots} {k : ℕ} {ls rest : Lexemes} → Lexes (Lex text) p.prev_token_end ls → Takes rule (function_line Declaration true s f) end ts p.prev_token_end ls vs k rest → ⊥
+      go l (is_node (is_seq (is_seq (is_lexeme {x = y} q) (is_look w)) (is_seq (is_lexeme {x = z} r) d))) = v y z l.0 q l.1.0 (and_from _ _ r w)
+
+  pub no_function : {X : Test} → Fails rule (Lex text) X end (symbol AFunction f) p.prev_token_end
+  unfolding rule rule_of
+  no_function = fails_rule {X' = plain full} (λ l cs vs y e. (refl, refl)) (none_left f Declaration (λ b s. any b s))
+    where
+      any : (b s : Bool) → Fails rule (Lex text) (plain full) end (function_line Declaration b s f) p.prev_token_end
+      any true s = no_async_line s
+      any false s = none_of_either s
 
 -- no declaration stands here
 pub no_lexical : {text : List ℕ} {f : Flags} {p : Parser} {X : Test} → At text f p → one_of_kinds statement_kinds p.token.kind ≡ false → LetIsName text true p.prev_token_end → Fails rule (Lex text) X end (symbol Lexical f) p.prev_token_end
@@ -481,7 +501,7 @@ no_lexical {text} {f} {p} a n u = fails_rule {X' = plain full} (λ l cs vs y e. 
         let none : Fails rule (Lex text) (plain full) end (commas false (declarator false f)) y.to = fails_here firsts {X = plain full} (λ z m h. false≢true (sym (u y z l.0 c m) ∙ covered (starts first (commas false (declarator false f)) full) (λ k w e. behind_let true k) refl z.kind z.newline z.escaped h)) in
         none.no cs end j more mid l.1 d (refl, refl)
 
-module _ {text : List ℕ} {f : Flags} {p : Parser} (a : At text f p) (n : one_of_kinds statement_kinds p.token.kind ≡ false) (nl : (X : Test) → Fails rule (Lex text) X end (symbol Labeled f) p.prev_token_end) where
+module _ {text : List ℕ} {f : Flags} {p : Parser} (a : At text f p) (n : one_of_kinds statement_kinds p.token.kind ≡ false) (nl : (X : Test) → Fails rule (Lex text) X end (symbol Labeled f) p.prev_token_end) (v : AsyncIsName text p.prev_token_end) where
   none : (g : G) → begins_by g full statement_kinds ≡ true → Fails rule (Lex text) (plain full) end g p.prev_token_end
   none g c = fails_at a {X = plain full} g statement_kinds c n
 
@@ -494,8 +514,8 @@ module _ {text : List ℕ} {f : Flags} {p : Parser} (a : At text f p) (n : one_o
 
   pub to_statement : (b : Bool) → LetIsName text b p.prev_token_end → Leads text (after_statement (placed b f)) (rule (placed b f)) p.prev_token_end (symbol ExprStmt f)
   unfolding apart covers
-  to_statement true u = at_once (subst (λ (g : G). Goes rule (Lex text) (after_statement (at ListItem f)) end (rule (at ListItem f)) p.prev_token_end g p.prev_token_end (λ us. us) (still 0)) (item_left f) (lives (rule (at ListItem f))) ▹ right no_statement ▹ left (fails_alt (no_function a n) (no_lexical a n u)))
-      ⇒ not_followed a (word_or (LCurly ∷ [])) (λ y z l q m h. false≢true (sym (u y z l q m) ∙ covered (word_or (LCurly ∷ [])) (λ k w e. behind_let true k) refl z.kind z.newline z.escaped h))
+  to_statement true u = at_once (subst (λ (g : G). Goes rule (Lex text) (after_statement (at ListItem f)) end (rule (at ListItem f)) p.prev_token_end g p.prev_token_end (λ us. us) (still 0)) (item_left f) (lives (rule (at ListItem f))) ▹ right no_statement ▹ left (fails_alt (no_function a n v) (no_lexical a n u)))
+      ⇒ not_followed a let_word (word_or (LCurly ∷ [])) (λ y z l q m h. false≢true (sym (u y z l q m) ∙ covered (word_or (LCurly ∷ [])) (λ k w e. behind_let true k) refl z.kind z.newline z.escaped h))
   to_statement false u = at_once (subst (λ (g : G). Goes rule (Lex text) (after_statement (at Sub f)) end (rule (at Sub f)) p.prev_token_end g p.prev_token_end (λ us. us) (still 0)) (sub_left f) (lives (rule (at Sub f))) ▹ right no_statement ▹ left (no_function_body a n))
 
 -- as the body of another statement, or in a list
@@ -517,19 +537,20 @@ begins_none : covers (λ k w e. one_of_kinds no_expression k && one_of_kinds rea
 unfolding covers
 begins_none = refl
 
-to_expression : {text : List ℕ} {f : Flags} {p : Parser} → At text f p → one_of_kinds (LCurly ∷ 'function' ∷ []) p.token.kind ≡ false → LetIsName text false p.prev_token_end → Leads text (plain no_link) (if_next (other (is_one_of no_expression)) ▸ not_then (is 'async') function_on_line ▸ not_then (is 'let') (is LBrack) ▸ ended by_edge (symbol Expression f)) p.prev_token_end (ended by_edge (symbol Expression f))
+to_expression : {text : List ℕ} {f : Flags} {p : Parser} → At text f p → one_of_kinds (LCurly ∷ 'function' ∷ []) p.token.kind ≡ false → AsyncIsName text p.prev_token_end → LetIsName text false p.prev_token_end → Leads text (plain no_link) (if_next (other (is_one_of no_expression)) ▸ not_then (is 'async') function_on_line ▸ not_then (is 'let') (is LBrack) ▸ ended by_edge (symbol Expression f)) p.prev_token_end (ended by_edge (symbol Expression f))
 unfolding apart
-to_expression {text} {f} {p} a c u = at_once (pass_over (looks (other (is_one_of no_expression)) (λ y l. go y l (one_of_kinds no_expression y.kind) refl)) ▹ pass_over (reads_not_then (is 'async') function_on_line refl))
-    ⇒ not_followed a (is LBrack) (λ y z l q m h. false≢true (sym (u y z l q m) ∙ (and_parts (same_kind LBrack z.kind) (not z.escaped) h).0))
+to_expression {text} {f} {p} a c v u = at_once (pass_over (looks (other (is_one_of no_expression)) (λ y l. go y l (one_of_kinds no_expression y.kind) refl)))
+    ⇒ not_followed a async_word function_on_line v
+    ⇒ not_followed a let_word (is LBrack) (λ y z l q m h. false≢true (sym (u y z l q m) ∙ (and_parts (same_kind LBrack z.kind) (not z.escaped) h).0))
   where
     go : (y : Lexeme) → Lex text p.prev_token_end y → (b : Bool) → one_of_kinds no_expression y.kind ≡ b → seen (other (is_one_of no_expression)) y ≡ true
     go y l true e = absurd (not_here a (LCurly ∷ 'function' ∷ []) refl c y l (covered (λ k w e. one_of_kinds no_expression k && one_of_kinds read_kinds k) (λ k w e. one_of_kinds (LCurly ∷ 'function' ∷ []) k) begins_none y.kind y.newline y.escaped (and_from _ _ e (and_parts (one_of_kinds read_kinds y.kind) (not y.escaped) l.1).0)))
     go y l false e = rw e refl
 
 -- an expression that was read, where no statement ends behind it
-pub no_expression_ends : {text : List ℕ} {f : Flags} {p q : Parser} (b : Bool) → At text f p → one_of_kinds (LCurly ∷ 'function' ∷ []) p.token.kind ≡ false → LetIsName text b p.prev_token_end → (x : Answer text f (at Expression f) p q) → Fails rule (Lex text) (plain no_link) end (semicolon (goes_on (row_of x.label x.slots))) q.prev_token_end → Fails rule (Lex text) (after_statement (placed b f)) end (symbol ExprStmt f) p.prev_token_end
+pub no_expression_ends : {text : List ℕ} {f : Flags} {p q : Parser} (b : Bool) → At text f p → one_of_kinds (LCurly ∷ 'function' ∷ []) p.token.kind ≡ false → AsyncIsName text p.prev_token_end → LetIsName text b p.prev_token_end → (x : Answer text f (at Expression f) p q) → Fails rule (Lex text) (plain no_link) end (semicolon (goes_on (row_of x.label x.slots))) q.prev_token_end → Fails rule (Lex text) (after_statement (placed b f)) end (symbol ExprStmt f) p.prev_token_end
 unfolding rule rule_of covers
-no_expression_ends {f = f} {p = p} b a c u x m = fails_rule {X' = plain no_link} (λ l cs vs y e. ((and_parts _ _ e.0).0, refl)) (fails_node (inside_plain refl) (to_expression a c (named_in_body b u) ⇒✗ (to_semicolon (λ ds i j ls mid d. d) (expression_path x) ⟶✗ m)))
+no_expression_ends {f = f} {p = p} b a c v u x m = fails_rule {X' = plain no_link} (λ l cs vs y e. ((and_parts _ _ e.0).0, refl)) (fails_node (inside_plain refl) (to_expression a c v (named_in_body b u) ⇒✗ (to_semicolon (λ ds i j ls mid d. d) (expression_path x) ⟶✗ m)))
 
 -- ---- statements
 
@@ -582,10 +603,10 @@ module _ {text : List ℕ} {f : Flags} {p : Parser} (a : At text f p) where
   empty_outcome b q (Err Fatal) e m = absurd m
   empty_outcome b q (Err NoMemory) e m = tt
 
-  module _ (n : one_of_kinds statement_kinds p.token.kind ≡ false) (nl : (X : Test) → Fails rule (Lex text) X end (symbol Labeled f) p.prev_token_end) where
+  module _ (n : one_of_kinds statement_kinds p.token.kind ≡ false) (nl : (X : Test) → Fails rule (Lex text) X end (symbol Labeled f) p.prev_token_end) (v : AsyncIsName text p.prev_token_end) where
     pub statement_path : (b : Bool) {q r : Parser} → LetIsName text b p.prev_token_end → f.in_ ≡ true → (x : Answer text f (at Expression f) p q) → EndsStatement q r → Path text f (after_statement (placed b f)) (rule (placed b f)) p nothing r (tree (label_here expression_statement no_op p r) (tree x.label x.slots end))
     unfolding rule rule_of covers
-    statement_path b u i x e = leads_to a (to_statement a n nl b u) (by_symbol_as {X' = plain no_link} (λ l cs vs y d. ((and_parts _ _ d.0).0, refl)) (noded_by a (inside_plain refl) (leads_to a (to_expression a (not_braced p.token.kind n) (named_in_body b u)) (ended_path i x e))))
+    statement_path b u i x e = leads_to a (to_statement a n nl v b u) (by_symbol_as {X' = plain no_link} (λ l cs vs y d. ((and_parts _ _ d.0).0, refl)) (noded_by a (inside_plain refl) (leads_to a (to_expression a (not_braced p.token.kind n) v (named_in_body b u)) (ended_path i x e))))
 
     pub statement_answers : (b : Bool) {q r w : Parser} {child id : NodeId} (s : Span) → LetIsName text b p.prev_token_end → f.in_ ≡ true → (x : Numbered text f (at Expression f) p q child) → EndsStatement q r → s.start ≡ p.token.span.start → s.end ≡ r.prev_token_end → MadeHere (plain_label node.ExpressionStatement op.None s) (Some child ∷ []) r w id → Statement text f (placed b f) p w id
     statement_answers k {q} {r} {w} {child} {id} s u i x e b c d =
@@ -598,11 +619,11 @@ module _ {text : List ℕ} {f : Flags} {p : Parser} (a : At text f p) where
 
     pub statement_fails : (b : Bool) → LetIsName text b p.prev_token_end → Underived text (at Expression f) p.prev_token_end → NoStatement text (placed b f) p.prev_token_end
     unfolding rule rule_of covers
-    statement_fails b u x = no_symbol (to_statement a n nl b u ⇒✗ fails_rule {X' = plain no_link} (λ l cs vs y e. ((and_parts _ _ e.0).0, refl)) (fails_node (inside_plain refl) (to_expression a (not_braced p.token.kind n) (named_in_body b u) ⇒✗ fails_ended x (λ cs j ls mid l d h. expression_ended f no_link d (here ls) h))))
+    statement_fails b u x = no_symbol (to_statement a n nl v b u ⇒✗ fails_rule {X' = plain no_link} (λ l cs vs y e. ((and_parts _ _ e.0).0, refl)) (fails_node (inside_plain refl) (to_expression a (not_braced p.token.kind n) v (named_in_body b u) ⇒✗ fails_ended x (λ cs j ls mid l d h. expression_ended f no_link d (here ls) h))))
 
     pub statement_unended : (b : Bool) {q : Parser} → LetIsName text b p.prev_token_end → Answer text f (at Expression f) p q → NoEnd q → NoStatement text (placed b f) p.prev_token_end
     unfolding rule rule_of covers
-    statement_unended b u x m = no_symbol (to_statement a n nl b u ⇒✗ no_expression_ends b a (not_braced p.token.kind n) u x (unended x.at (goes_on (row_of x.label x.slots)) m))
+    statement_unended b u x m = no_symbol (to_statement a n nl v b u ⇒✗ no_expression_ends b a (not_braced p.token.kind n) v u x (unended x.at (goes_on (row_of x.label x.slots)) m))
 
 -- `in` is an operator by the parameters
 pub in_of : {text : List ℕ} {f : Flags} {p : Parser} → At text f p → has_flag in_flag p.ctx ≡ true → f.in_ ≡ true

@@ -7,7 +7,7 @@ use Rattle.js_base.specs.Kinds.{same_kind}
 use Rattle.js_grammar.specs.Insertion.{may_bind}
 use Rattle.js_grammar.specs.Trees.{Span, NodeKind, identifier_reference, string_literal, expression_statement, Op, no_op, Label, Slots, end, hole, tree, append}
 use Rattle.js_grammar.specs.Grammar.{Lexeme, Lexemes, next, Look, Make, Extent, exact, label_of, here, seen, semicolon, is, lexeme, look, ahead, seq, alt, when, such, node, ended, keep, Takes, is_lexeme, is_look, is_ahead, is_seq, is_left, is_right, is_when, is_such, is_node, is_ended, is_keep}
-use Rattle.js_grammar.specs.Productions.{G, Flags, Name, Symbol, Item, ListItem, Statement, ExprStmt, Block, Empty, Var, If, Do, While, With, For, ForIn, ForOf, Continue, Break, Return, Throw, Switch, Try, Debugger, Labeled, Function, Class, Lexical, ImportDecl, ExportDecl, Expression, Assignment, Yield, Arrow', Conditional, Short, Coalesce, Or, And, BitOr, BitXor, BitAnd, Equality, Relational, Shift, Additive, Multiply, Exponent, Unary, Update, LeftHandSide, New, Member, Call, Chain, Primary, Template, IdentifierReference, Object, FuncExpr, ClassExpr}
+use Rattle.js_grammar.specs.Productions.{G, Flags, Name, Symbol, Item, ListItem, Statement, ExprStmt, Block, Empty, Var, If, Do, While, With, For, ForIn, ForOf, Continue, Break, Return, Throw, Switch, Try, Debugger, Labeled, Function, Class, Lexical, ImportDecl, ExportDecl, Expression, Assignment, Yield, Arrow', Conditional, Short, Coalesce, Or, And, BitOr, BitXor, BitAnd, Equality, Relational, Shift, Additive, Multiply, Exponent, Unary, Update, LeftHandSide, New, Member, Call, Chain, Primary, Template, IdentifierReference, Object, FuncExpr, ClassExpr, Target}
 use Rattle.js_grammar.specs.Productions.{sym as symbol}
 use Rattle.js_grammar.specs.Table.{rule, rule_of, string}
 use Rattle.js_grammar.proofs.Looks.{covers, covered}
@@ -200,6 +200,10 @@ name_node = record { kind = identifier_reference; op = no_op; flags = 0; extent 
 pub name_expression : {f : Flags} {ks us : Slots} {i : ℕ} {y : Lexeme} {rest : Lexemes} → IsTrue (seen (name_look f) y) → Takes rule (symbol Expression f) ks (tree (label_of name_node (next y rest) y.to rest) end us) i (next y rest) us y.to rest
 unfolding rule rule_of
 name_expression {f} h = as_expression f (is_such (is_right (is_left (is_such (is_node (is_lexeme h)) refl))) refl)
+
+pub name_target : {f : Flags} {ks us : Slots} {i : ℕ} {y : Lexeme} {rest : Lexemes} → IsTrue (seen (name_look f) y) → Takes rule (symbol Target f) ks (tree (label_of name_node (next y rest) y.to rest) end us) i (next y rest) us y.to rest
+unfolding rule rule_of
+name_target h = is_such (is_left (is_such (is_left (is_such (is_node (is_lexeme h)) refl)) refl)) refl
 
 pub first_is_string : {ks ts us : Slots} {i j : ℕ} {ls rest : Lexemes} → Takes rule string ks ts i ls us j rest → string_first ts ≡ true
 first_is_string (is_node d) = refl

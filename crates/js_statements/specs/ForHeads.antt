@@ -1,8 +1,9 @@
 -- The heads of `for` statements, between their parentheses (ECMA-262, 14.7.4, 14.7.5, B.3.5).
-use Rattle.std.specs.Prelude.{ℕ, ◌≡◌, ◌≤◌, ◌⊎◌, Bool, true, false, List, [], ◌∷◌, length, Option, Result, Ok, Err}
+use Rattle.std.specs.Prelude.{ℕ, ◌≡◌, ◌≤◌, ◌⊎◌, Bool, true, false, List, [], ◌∷◌, length, Option, Result, Ok, Err, ◌<◌, Some, None, cond}
 use Rattle.js_base.specs.declared.diagnostic.Diagnostic.{Diagnostic}
 use Rattle.js_base.specs.declared.kind.Kind.{Kind}
 use Rattle.js_base.specs.declared.kind.Kind.TheVariants as kind
+use Rattle.js_base.specs.Kinds.{same_kind}
 use Rattle.js_grammar.specs.Trees.{Slots, append, hole, tree, end as no_slots, variable_declaration, variable_declarator}
 use Rattle.js_grammar.specs.Grammar.{Lexemes, is, nothing, ◌▸◌, ◌◇◌}
 use Rattle.js_grammar.specs.Parsing.{plain, full, Fails}
@@ -40,11 +41,11 @@ name_of ending.Semicolon = For
 name_of ending.In = ForIn
 name_of ending.Of = ForOf
 
--- the first part of the head, by what ends it
-abbrev pub first_part : Ending → Flags → G
-first_part ending.Semicolon f = slot (sym ForInit f)
-first_part ending.In f = not_then (is kind.Let) (word_or (kind.LBrack ∷ kind.LCurly ∷ [])) ▸ sym Target f ◇ for_binding f ◇ op variable_declaration kind.Var (tok kind.Var ▸ mk variable_declarator (sym BindingIdentifier f ▸ sym Init (minus_in f)))
-first_part ending.Of f = if_next (other (is kind.Let)) ▸ not_then (is kind.Async) (is kind.Of) ▸ sym Target f ◇ for_binding f
+-- the first part of the head, by what ends it; with w, behind `await`, which the line with `of` alone has
+abbrev pub first_part : Bool → Ending → Flags → G
+first_part w ending.Semicolon f = slot (sym ForInit f)
+first_part w ending.In f = not_then (is kind.Let) (word_or (kind.LBrack ∷ kind.LCurly ∷ [])) ▸ sym Target f ◇ for_binding f ◇ op variable_declaration kind.Var (tok kind.Var ▸ mk variable_declarator (sym BindingIdentifier f ▸ sym Init (minus_in f)))
+first_part w ending.Of f = if_next (other (is kind.Let)) ▸ cond w nothing (not_then (is kind.Async) (is kind.Of)) ▸ sym Target f ◇ for_binding f
 
 -- and the rest, from that lexeme on
 abbrev pub rest_part : Ending → Flags → G
@@ -52,8 +53,8 @@ rest_part ending.Semicolon f = tok kind.Semicolon ▸ slot (sym Expression f) �
 rest_part ending.In f = tok kind.In ▸ sym Expression f
 rest_part ending.Of f = tok kind.Of ▸ sym Assignment f
 
-abbrev pub head_part : Ending → Flags → G
-head_part e f = first_part e f ▸ rest_part e f
+abbrev pub head_part : Bool → Ending → Flags → G
+head_part w e f = first_part w e f ▸ rest_part e f
 
 -- what stands behind the first slot, behind the slots of the rest, and behind those of the head
 abbrev pub behind_slot : Slots → Slots
@@ -71,11 +72,16 @@ behind_head e ts = behind_rest e (behind_slot ts)
 
 -- ---- the first part
 
-abbrev pub NoFirst : List ℕ → Ending → Flags → ℕ → Type 0
-NoFirst text e f s = Fails rule (Lex text) (plain (is (end_kind e))) no_slots (first_part e f) s
+-- none before the lexeme that ends it
+abbrev pub NoFirst : List ℕ → Bool → Ending → Flags → ℕ → Type 0
+NoFirst text w e f s = Fails rule (Lex text) (plain (is (end_kind e))) no_slots (first_part w e f) s
+
+-- None with that lexeme, and something else than `=>` behind it: `async of =>` begins an arrow function.
+abbrev pub NoFirstPart : List ℕ → Bool → Ending → Flags → ℕ → Type 0
+NoFirstPart text w e f s = Fails rule (Lex text) (plain (other (λ k n e. same_kind kind.Arrow k))) no_slots (first_part w e f ▸ tok (end_kind e)) s
 
 -- The first part was read, one slot, which may be empty. Before the lexeme that stands here it is this, or none is derived; before the others none is.
-pub record FirstTaken (text : List ℕ) (f : Flags) (p q : Parser) (first : Option NodeId) : Type 0 where
+pub record FirstTaken (text : List ℕ) (f : Flags) (w : Bool) (p q : Parser) (first : Option NodeId) : Type 0 where
   pub at : At text f q
   pub same : Same p q
   pub forward : p.prev_token_end ≤ q.prev_token_end
@@ -85,15 +91,15 @@ pub record FirstTaken (text : List ℕ) (f : Flags) (p q : Parser) (first : Opti
   pub strips : (us : Slots) → behind_slot (slots us) ≡ us
   pub pass : Lexemes → Lexemes
   pub walked : Walked text (spot p) (spot q) pass
-  pub read : (e : Ending) → StandsHere q (end_kind e) true → Verdict p.errors q.errors (Stretch text (plain (is (end_kind e))) (first_part e f) p.prev_token_end nothing q.prev_token_end slots pass) (NoFirst text e f p.prev_token_end)
-  pub none : (e : Ending) → StandsHere q (end_kind e) false → NoFirst text e f p.prev_token_end
+  pub read : (e : Ending) → StandsHere q (end_kind e) true → Verdict p.errors q.errors (Stretch text (plain (is (end_kind e))) (first_part w e f) p.prev_token_end nothing q.prev_token_end slots pass) (NoFirstPart text w e f p.prev_token_end)
+  pub none : (e : Ending) → StandsHere q (end_kind e) false → NoFirstPart text w e f p.prev_token_end
   pub kept : (ds : List Diagnostic) → Grown q.errors ds → Grown p.errors ds
   pub held : HoldsAll q.nodes (length p.nodes) (length q.nodes) (first ∷ []) (slots no_slots)
   pub keeps : Keeps p.nodes q.nodes
 
-abbrev pub TakesFirst : Parser → Parser → Result (Option NodeId) Stop → Type 0
-TakesFirst p q (Ok first) = (text : List ℕ) (f : Flags) → At text f p → FirstTaken text f p q first
-TakesFirst p q (Err x) = (text : List ℕ) (f : Flags) → At text f p → Stops p q x ((e : Ending) → NoFirst text e f p.prev_token_end)
+abbrev pub TakesFirst : Bool → Parser → Parser → Result (Option NodeId) Stop → Type 0
+TakesFirst w p q (Ok first) = (text : List ℕ) (f : Flags) → At text f p → FirstTaken text f w p q first
+TakesFirst w p q (Err x) = (text : List ℕ) (f : Flags) → At text f p → Stops p q x ((e : Ending) → NoFirstPart text w e f p.prev_token_end)
 
 -- ---- a later part of a ForStatement's head
 
@@ -147,36 +153,36 @@ TakesRest p q ids js (Err x) = (text : List ℕ) (f : Flags) → At text f p →
 
 -- ---- the whole head
 
-abbrev pub NoHead : List ℕ → Ending → Flags → ℕ → Type 0
-NoHead text e f s = Fails rule (Lex text) (plain (is kind.RParen)) no_slots (head_part e f) s
+abbrev pub NoHead : List ℕ → Bool → Ending → Flags → ℕ → Type 0
+NoHead text w e f s = Fails rule (Lex text) (plain (is kind.RParen)) no_slots (head_part w e f) s
 
 -- It was read; no head of another line is derived.
-pub record HeadTaken (text : List ℕ) (f : Flags) (e : Ending) (p q : Parser) (ids : List (Option NodeId)) : Type 0 where
+pub record HeadTaken (text : List ℕ) (f : Flags) (w : Bool) (e : Ending) (p q : Parser) (ids : List (Option NodeId)) : Type 0 where
   pub same : Same p q
   pub slots : Slots
   pub strips : (us : Slots) → behind_head e (append slots us) ≡ us
-  pub path : Path text f (plain (is kind.RParen)) (head_part e f) p nothing q (λ us. append slots us)
-  pub others : (d : Ending) → (d ≡ e → ⊥) → NoHead text d f p.prev_token_end
+  pub path : Path text f (plain (is kind.RParen)) (head_part w e f) p nothing q (λ us. append slots us)
+  pub others : (d : Ending) → (d ≡ e → ⊥) → NoHead text w d f p.prev_token_end
   pub held : HoldsAll q.nodes (length p.nodes) (length q.nodes) ids slots
   pub keeps : Keeps p.nodes q.nodes
 
-abbrev pub TakesHead : Parser → Parser → List (Option NodeId) → Result Ending Stop → Type 0
-TakesHead p q ids (Ok e) = (text : List ℕ) (f : Flags) → At text f p → HeadTaken text f e p q ids
-TakesHead p q ids (Err x) = (text : List ℕ) (f : Flags) → At text f p → Stops p q x ((d : Ending) → NoHead text d f p.prev_token_end)
+abbrev pub TakesHead : Bool → Parser → Parser → List (Option NodeId) → Result Ending Stop → Type 0
+TakesHead w p q ids (Ok e) = (text : List ℕ) (f : Flags) → At text f p → HeadTaken text f w e p q ids
+TakesHead w p q ids (Err x) = (text : List ℕ) (f : Flags) → At text f p → Stops p q x ((d : Ending) → NoHead text w d f p.prev_token_end)
 
 -- and in its parentheses, whatever stands behind them
-abbrev pub NoParensHead : List ℕ → Ending → Flags → ℕ → Type 0
-NoParensHead text e f s = Fails rule (Lex text) (plain full) no_slots (parens (head_part e f)) s
+abbrev pub NoParensHead : List ℕ → Bool → Ending → Flags → ℕ → Type 0
+NoParensHead text w e f s = Fails rule (Lex text) (plain full) no_slots (parens (head_part w e f)) s
 
-pub record ParensHeadTaken (text : List ℕ) (f : Flags) (e : Ending) (p q : Parser) (ids : List (Option NodeId)) : Type 0 where
+pub record ParensHeadTaken (text : List ℕ) (f : Flags) (w : Bool) (e : Ending) (p q : Parser) (ids : List (Option NodeId)) : Type 0 where
   pub same : Same p q
   pub slots : Slots
   pub strips : (us : Slots) → behind_head e (append slots us) ≡ us
-  pub path : Path text f (plain full) (parens (head_part e f)) p nothing q (λ us. append slots us)
-  pub others : (d : Ending) → (d ≡ e → ⊥) → NoParensHead text d f p.prev_token_end
+  pub path : Path text f (plain full) (parens (head_part w e f)) p nothing q (λ us. append slots us)
+  pub others : (d : Ending) → (d ≡ e → ⊥) → NoParensHead text w d f p.prev_token_end
   pub held : HoldsAll q.nodes (length p.nodes) (length q.nodes) ids slots
   pub keeps : Keeps p.nodes q.nodes
 
-abbrev pub TakesParensHead : Parser → Parser → List (Option NodeId) → Result Ending Stop → Type 0
-TakesParensHead p q ids (Ok e) = (text : List ℕ) (f : Flags) → At text f p → ParensHeadTaken text f e p q ids
-TakesParensHead p q ids (Err x) = (text : List ℕ) (f : Flags) → At text f p → Stops p q x ((d : Ending) → NoParensHead text d f p.prev_token_end)
+abbrev pub TakesParensHead : Bool → Parser → Parser → List (Option NodeId) → Result Ending Stop → Type 0
+TakesParensHead w p q ids (Ok e) = (text : List ℕ) (f : Flags) → At text f p → ParensHeadTaken text f w e p q ids
+TakesParensHead w p q ids (Err x) = (text : List ℕ) (f : Flags) → At text f p → Stops p q x ((d : Ending) → NoParensHead text w d f p.prev_token_end)

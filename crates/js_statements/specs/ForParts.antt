@@ -5,6 +5,7 @@ use Rattle.js_base.specs.declared.diagnostic.DiagnosticKind.{DiagnosticKind}
 use Rattle.js_base.specs.declared.diagnostic.DiagnosticKind.TheVariants as fault
 use Rattle.js_base.specs.declared.kind.Kind.{Kind}
 use Rattle.js_base.specs.declared.span.Span.{Span}
+use Rattle.js_base.specs.declared.token.Token.{Token}
 use Rattle.js_parsing.specs.Told.{unrelated_at}
 use Rattle.js_base.specs.declared.kind.Kind.TheVariants as kind
 use Rattle.js_grammar.specs.Trees.{Label, Slots, tree}
@@ -23,13 +24,13 @@ use Rattle.js_parsing.specs.Classes.{IsEarly}
 use Rattle.js_parsing.specs.Stands.{StandsHere}
 use Rattle.js_parsing.specs.States.{At, Same}
 use Rattle.js_parsing.proofs.Paths.{Path}
-use Rattle.js_targets.specs.Taken.{NoTargetFrom, goes_through}
-use Rattle.js_expressions.specs.HeadOperands.{HeadOperand}
+use Rattle.js_targets.specs.Taken.{goes_through}
+use Rattle.js_expressions.specs.HeadOperands.{HeadOperand, NoTargetPart}
 use Rattle.js_declarations.specs.HeadDeclarators.{ThroughHere}
 use Rattle.js_declarations.specs.declared.head.HeadForm.{HeadForm}
 use Rattle.js_declarations.specs.declared.head.HeadForm.TheVariants as form
 use Rattle.js_statements.specs.declared.for_statement.Ending.{Ending}
-use Rattle.js_statements.specs.ForHeads.{FirstTaken, NoFirst}
+use Rattle.js_statements.specs.ForHeads.{FirstTaken, NoFirstPart}
 use Rattle.js_statements.specs.LetStatements.{LetHere, NoLet}
 
 -- a declaration of this kind begins here
@@ -47,9 +48,9 @@ FindsHead p q (Some k) = (q ≡ p) × BeginsHead k p
 FindsHead p q None = (q ≡ p) × NoneBegins p
 
 -- the first part was read, one that isn't empty; or none is derived, whatever ends it
-abbrev pub TakesPartWithoutIn : Parser → Parser → Result NodeId Stop → Type 0
-TakesPartWithoutIn p q (Ok id) = (text : List ℕ) (f : Flags) → At text f p → FirstTaken text f p q (Some id)
-TakesPartWithoutIn p q (Err x) = (text : List ℕ) (f : Flags) → At text f p → Stops p q x ((e : Ending) → NoFirst text e f p.prev_token_end)
+abbrev pub TakesPartWithoutIn : Bool → Parser → Parser → Result NodeId Stop → Type 0
+TakesPartWithoutIn w p q (Ok id) = (text : List ℕ) (f : Flags) → At text f p → FirstTaken text f w p q (Some id)
+TakesPartWithoutIn w p q (Err x) = (text : List ℕ) (f : Flags) → At text f p → Stops p q x ((e : Ending) → NoFirstPart text w e f p.prev_token_end)
 
 -- ---- what is told of declarators before `in` and `of`
 
@@ -91,13 +92,22 @@ pub data TellsHead (k : DeclarationKind) (g : HeadForm) (alone : Bool) (p q : Pa
 abbrev pub ChecksLet : Bool → Span → Parser → Parser → Type 0
 ChecksLet is_let s p q = ((is_let ≡ true) × StandsHere p kind.Of true × KeepsOne (unrelated_at fault.ForLoopLetReservedWord s) p q) ⊎ ((is_let ≡ true → StandsHere p kind.Of true → ⊥) × (q ≡ p))
 
--- An expression was read up to this state, by a call before which so many diagnostics were kept; `in` or `of` stands behind it.
-pub record HeadExpressionRead (start : ℕ) (id : NodeId) (kept : ℕ) (q : Parser) : Type 0 where
+-- The token that was passed last is this one, `async` without an escape.
+abbrev pub IsAsyncAlone : Token → Parser → Type 0
+IsAsyncAlone first p = (first.kind ≡ kind.Async) × (first.escaped ≡ false) × (first.span.end ≡ p.prev_token_end)
+
+-- `async` alone before `of` was told, where no `await` stands before the head; or it doesn't stand so
+abbrev pub ChecksAsync : Bool → Token → Parser → Parser → Type 0
+ChecksAsync w first p q = ((w ≡ false) × IsAsyncAlone first p × StandsHere p kind.Of true × KeepsOne (unrelated_at fault.ForLoopAsyncOf first.span) p q) ⊎ ((w ≡ false → IsAsyncAlone first p → StandsHere p kind.Of true → ⊥) × (q ≡ p))
+
+-- An expression was read up to this state, by a call before which so many diagnostics were kept; it begins with `async`, or it needn't. `in` or `of` stands behind it.
+pub record HeadExpressionRead (begins_async : Bool) (start : ℕ) (id : NodeId) (kept : ℕ) (q : Parser) : Type 0 where
   pub text : List ℕ
   pub flags : Flags
   pub first : Parser
   pub begins : At text flags first
   pub no_in : flags.in_ ≡ false
+  pub begins_with : begins_async ≡ false → first.token.kind ≡ kind.Async → ⊥
   pub start_is : start ≡ first.token.span.start
   pub kept_is : kept ≡ length first.errors
   pub read : Numbered text flags (at Expression flags) first q id
@@ -116,4 +126,4 @@ pub record HeadTargetTaken (text : List ℕ) (f : Flags) (first old new : Parser
 
 abbrev pub TakesHeadTarget : ℕ → NodeId → ℕ → Parser → Parser → Result NodeId Stop → Type 0
 TakesHeadTarget start id kept old new (Ok t) = (text : List ℕ) (f : Flags) (first : Parser) → At text f first → f.in_ ≡ false → start ≡ first.token.span.start → kept ≡ length first.errors → Numbered text f (at Expression f) first old id → HeadOperand text f first old id → HeadTargetTaken text f first old new t
-TakesHeadTarget start id kept old new (Err e) = (text : List ℕ) (f : Flags) (first : Parser) → At text f first → f.in_ ≡ false → start ≡ first.token.span.start → kept ≡ length first.errors → Numbered text f (at Expression f) first old id → HeadOperand text f first old id → Stops first new e (NoTargetFrom text f first.prev_token_end)
+TakesHeadTarget start id kept old new (Err e) = (text : List ℕ) (f : Flags) (first : Parser) → At text f first → f.in_ ≡ false → start ≡ first.token.span.start → kept ≡ length first.errors → Numbered text f (at Expression f) first old id → HeadOperand text f first old id → Stops first new e (NoTargetPart text f first.prev_token_end)

@@ -1,7 +1,6 @@
 -- The words that begin a `for` statement (ECMA-262, 14.7.5).
 use Rattle.std.specs.Prelude.{◌≡◌, ◌⊎◌, Bool, true, false}
-use Rattle.js_base.specs.Contexts.{has_flag}
-use Rattle.js_base.specs.Contexts.{await_flag as under_await}
+use Rattle.js_base.specs.Contexts.{reads_await}
 use Rattle.js_base.specs.declared.kind.Kind.TheVariants.{Await}
 use Rattle.js_base.specs.declared.span.Span.{Span}
 use Rattle.js_grammar.specs.Trees.{Label}
@@ -14,10 +13,10 @@ use Rattle.js_parsing.specs.Stands.{StandsHere}
 use Rattle.js_statements.specs.declared.for_statement.Ending.{Ending}
 use Rattle.js_statements.specs.declared.for_statement.Ending.TheVariants as ending
 
--- `await` was passed, where the parameter Await is on; or it isn't on, or no `await` stands here.
+-- `await` was passed, where it is an operator by the parameters; or it is none, or no `await` stands here.
 abbrev pub PassesAwait : Parser → Parser → Bool → Type 0
-PassesAwait p q true = StandsHere p Await true × (has_flag under_await p.ctx ≡ true) × Moves p q
-PassesAwait p q false = ((StandsHere p Await false) ⊎ (has_flag under_await p.ctx ≡ false)) × (q ≡ p)
+PassesAwait p q true = StandsHere p Await true × (reads_await p.ctx ≡ true) × Moves p q
+PassesAwait p q false = ((StandsHere p Await false) ⊎ (reads_await p.ctx ≡ false)) × (q ≡ p)
 
 abbrev pub is_of : Ending → Bool
 is_of ending.Semicolon = false

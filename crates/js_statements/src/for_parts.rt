@@ -1,9 +1,9 @@
 //! The first part of the head of a `for` (ECMA-262, sections 14.7.4, 14.7.5 and B.3.5), where `in` is no operator.
 
-ghost use Rattle.std.specs.Prelude.{◌≡◌, ◌≤◌, true, false, IfOk, MatchResult};
+ghost use Rattle.std.specs.Prelude.{Bool, ◌≡◌, ◌≤◌, ◌↔◌, true, false, IfOk, IsTrue, MatchResult};
 ghost use Rattle.js_base.specs.Contexts.{has_flag, in_flag};
 ghost use Rattle.js_base.specs.declared.diagnostic.DiagnosticKind.{DiagnosticKind};
-ghost use Rattle.js_base.specs.declared.diagnostic.DiagnosticKind.TheVariants.{ForLoopLetReservedWord};
+ghost use Rattle.js_base.specs.declared.diagnostic.DiagnosticKind.TheVariants.{ForLoopAsyncOf, ForLoopLetReservedWord};
 ghost use Rattle.js_cursor.specs.Moves.{OnlyMemory};
 ghost use Rattle.js_cursor.specs.Places.{IsAt, goal};
 ghost use Rattle.js_grammar.specs.Marks.{Mark};
@@ -13,10 +13,10 @@ ghost use Rattle.js_parsing.specs.States.{Standing};
 ghost use Rattle.js_base.specs.declared.kind.Kind.TheVariants.{Semicolon};
 ghost use Rattle.js_declarations.specs.HeadDeclarators.{ThroughHere};
 ghost use Rattle.js_targets.specs.Taken.{EndsTarget};
-ghost use Rattle.js_statements.specs.ForParts.{BeginsHead, ChecksLet, FaultOf, FindsHead, HeadExpressionRead, HeadFault, NoneBegins, TakesHeadTarget, TakesPartWithoutIn, TellsHead, is_var, may_stand};
+ghost use Rattle.js_statements.specs.ForParts.{BeginsHead, ChecksAsync, ChecksLet, FaultOf, FindsHead, HeadExpressionRead, HeadFault, IsAsyncAlone, NoneBegins, TakesHeadTarget, TakesPartWithoutIn, TellsHead, is_var, may_stand};
 
 use crate::declaration_statement::begins_let_declaration;
-use js_base::{DiagnosticKind, Kind, NoMemory, Span};
+use js_base::{DiagnosticKind, Kind, NoMemory, Span, Token};
 use js_cursor::{ParserImpl, Stop};
 use js_declarations::head::{
     HeadForm, goes_through, parse_declarators_behind, parse_head_declarator,
@@ -31,20 +31,21 @@ use js_targets::array_target::literal_target;
 use js_targets::cover::{cover, is_array_or_object, refuse_target};
 use js_tree::{DeclarationKind, NodeId, NodeKind, Op};
 
-/// The first part of the head of a `for`: a declaration or an expression.
+/// The first part of the head of a `for`, with `await` before it or without: a declaration or an expression.
 pub fn parse_part_without_in<C: ParserConfig, N: Nested<C>>(
     p: &mut ParserImpl<'_, C>,
     nested: &N,
+    is_await: bool,
 ) -> Result<NodeId, Stop>
     requires at { Standing p.old }
     requires nests { CanNest (N.can nested.now) (room p.old) }
     requires no_in { has_flag in_flag p.old.ctx ≡ false }
     requires other { p.old.token.kind ≡ Semicolon → ⊥ }
-    ensures { TakesPartWithoutIn p.old p.new result }
+    ensures { TakesPartWithoutIn is_await p.old p.new result }
 {
     match head_kind(p)? {
         Some(kind) => parse_head_declaration(p, nested, kind),
-        None => parse_head_expression(p, nested),
+        None => parse_head_expression(p, nested, is_await),
     }
 }
 
@@ -65,30 +66,64 @@ fn head_kind<C: ParserConfig>(p: &mut ParserImpl<'_, C>) -> Result<Option<Declar
     Ok(None)
 }
 
-/// An expression as the first part of a head. Before `in` and `of` it is a target, which doesn't begin with `let` before `of`
-/// (ECMA-262, section 14.7.5).
+/// An expression as the first part of a head. Before `in` and `of` it is a target; before `of` it doesn't begin with `let`, nor is
+/// it `async` alone, unless `await` stands before the head (ECMA-262, section 14.7.5).
 fn parse_head_expression<C: ParserConfig, N: Nested<C>>(
     p: &mut ParserImpl<'_, C>,
     nested: &N,
+    is_await: bool,
 ) -> Result<NodeId, Stop>
     requires at { Standing p.old }
     requires nests { CanNest (N.can nested.now) (room p.old) }
     requires no_in { has_flag in_flag p.old.ctx ≡ false }
     requires other { p.old.token.kind ≡ Semicolon → ⊥ }
     requires none { NoneBegins p.old }
-    ensures { TakesPartWithoutIn p.old p.new result }
+    ensures { TakesPartWithoutIn is_await p.old p.new result }
 {
     let start = p.cur_start();
     let kept = kept_so_far(p);
+    let first = p.cur_token();
+    let begins_async = p.at(Kind::Async);
     let is_let = stands(p, Kind::Let);
     let expression = parse_sequence_expression(p, nested)?;
     if !goes_through(p) {
         return Ok(expression);
     }
-    let target = head_target(p, start, expression, kept)?;
+    let target = head_target(p, start, expression, kept, begins_async)?;
     let span = p.end_span(start);
     check_let(p, is_let, span)?;
+    check_async(p, first, is_await)?;
     Ok(target)
+}
+
+/// Tells of `async` alone as the target before `of`, where no `await` stands before the head (ECMA-262, section 14.7.5); the
+/// target began with this token.
+fn check_async<C: ParserConfig>(
+    p: &mut ParserImpl<'_, C>,
+    first: Token,
+    is_await: bool,
+) -> Result<(), NoMemory>
+    requires at { IsAt p.old }
+    requires mark { IsAsyncAlone first p.old → Mark (goal p.old) p.old.text (unrelated_at ForLoopAsyncOf first.span) }
+    ensures { IfOk result (λ _. ChecksAsync is_await first p.old p.new) }
+{
+    if is_await {
+        return Ok(());
+    }
+    if !is_async_alone(p, first) {
+        return Ok(());
+    }
+    if stands(p, Kind::Of) {
+        p.error(diagnostic_at(DiagnosticKind::ForLoopAsyncOf, first.span()))?;
+    }
+    Ok(())
+}
+
+/// Whether this token is `async`, without an escape, and was passed last.
+fn is_async_alone<C: ParserConfig>(p: &ParserImpl<'_, C>, first: Token) -> bool
+    ensures { IsTrue result ↔ IsAsyncAlone first p.now }
+{
+    matches!(first.kind(), Kind::Async) && !first.escaped() && first.end() == p.prev_token_end()
 }
 
 /// Tells of a target before `of` that begins with `let` (ECMA-262, section 14.7.5).
@@ -111,19 +146,21 @@ fn check_let<C: ParserConfig>(
     Ok(())
 }
 
-/// The target that an expression before `in` or `of` stands for, which begins at a place, when so many diagnostics were kept.
+/// The target that an expression before `in` or `of` stands for, which begins at a place, when so many diagnostics were kept;
+/// with `async` or not. Where it is none, and begins with `async`, what stands behind it is told.
 fn head_target<C: ParserConfig>(
     p: &mut ParserImpl<'_, C>,
     start: u32,
     expression: NodeId,
     kept: usize,
+    begins_async: bool,
 ) -> Result<NodeId, Stop>
     requires at { Standing p.old }
     requires start { start ≤ p.old.prev_token_end }
     requires whole { p.old.cut ≡ false }
     requires sign { EndsTarget p.old }
     requires through { ThroughHere p.old true }
-    requires read { HeadExpressionRead start expression kept p.old }
+    requires read { HeadExpressionRead begins_async start expression kept p.old }
     ensures { TakesHeadTarget start expression kept p.old p.new result }
 {
     if is_array_or_object(p, expression) {
@@ -131,7 +168,12 @@ fn head_target<C: ParserConfig>(
     }
     match cover(p, expression) {
         Some(target) => Ok(target),
-        None => Err(refuse_target(p, start, kept)),
+        None => {
+            if begins_async {
+                return Err(p.set_unexpected());
+            }
+            Err(refuse_target(p, start, kept))
+        }
     }
 }
 
@@ -145,7 +187,7 @@ fn parse_head_declaration<C: ParserConfig, N: Nested<C>>(
     requires nests { CanNest (N.can nested.now) (room p.old) }
     requires no_in { has_flag in_flag p.old.ctx ≡ false }
     requires begins { BeginsHead kind p.old }
-    ensures { TakesPartWithoutIn p.old p.new result }
+    ensures { (is_await : Bool) → TakesPartWithoutIn is_await p.old p.new result }
 {
     let start = p.cur_start();
     advance(p)?;

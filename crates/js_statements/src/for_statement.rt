@@ -72,7 +72,7 @@ pub fn parse_for_statement<C: ParserConfig, N: Nested<C>>(
     advance(p)?;
     let is_await = pass_await(p)?;
     let mut children = Vec::new(p.alloc);
-    let ending = parse_paren_for_head(p, nested, &mut children)?;
+    let ending = parse_paren_for_head(p, nested, is_await, &mut children)?;
     if !has_its_of(is_await, ending) {
         return Err(p.set_unexpected());
     }
@@ -91,7 +91,7 @@ fn pass_await<C: ParserConfig>(p: &mut ParserImpl<'_, C>) -> Result<bool, Stop>
     if !stands(p, Kind::Await) {
         return Ok(false);
     }
-    if !context(p).has_await() {
+    if !context(p).reads_await() {
         return Ok(false);
     }
     advance(p)?;
@@ -128,22 +128,23 @@ fn await_flags(is_await: bool) -> NodeFlags
     flags
 }
 
-/// The head of a `for` in its parentheses: its parts are put behind the children. It has a frame of its own, so that statements
-/// that nest have small ones.
+/// The head of a `for` in its parentheses, with `await` before it or without: its parts are put behind the children. It has a
+/// frame of its own, so that statements that nest have small ones.
 #[inline(never)]
 fn parse_paren_for_head<C: ParserConfig, N: Nested<C>>(
     p: &mut ParserImpl<'_, C>,
     nested: &N,
+    is_await: bool,
     children: &mut Vec<Option<NodeId>>,
 ) -> Result<Ending, Stop>
     requires at { Standing p.old }
     requires nests { CanNest (N.can nested.now) (room p.old) }
     requires none { children.old.items ≡ [] }
-    ensures { TakesParensHead p.old p.new children.new.items result }
+    ensures { TakesParensHead is_await p.old p.new children.new.items result }
 {
     let opening = p.cur_token().span();
     p.expect(Kind::LParen)?;
-    let ending = parse_for_head(p, nested, children)?;
+    let ending = parse_for_head(p, nested, is_await, children)?;
     close_parentheses(p, opening)?;
     Ok(ending)
 }
@@ -152,14 +153,15 @@ fn parse_paren_for_head<C: ParserConfig, N: Nested<C>>(
 fn parse_for_head<C: ParserConfig, N: Nested<C>>(
     p: &mut ParserImpl<'_, C>,
     nested: &N,
+    is_await: bool,
     children: &mut Vec<Option<NodeId>>,
 ) -> Result<Ending, Stop>
     requires at { Standing p.old }
     requires nests { CanNest (N.can nested.now) (room p.old) }
     requires none { children.old.items ≡ [] }
-    ensures { TakesHead p.old p.new children.new.items result }
+    ensures { TakesHead is_await p.old p.new children.new.items result }
 {
-    let first = parse_first_part(p, nested)?;
+    let first = parse_first_part(p, nested, is_await)?;
     children.push(first)?;
     parse_head_rest(p, nested, children)
 }
@@ -168,17 +170,18 @@ fn parse_for_head<C: ParserConfig, N: Nested<C>>(
 fn parse_first_part<C: ParserConfig, N: Nested<C>>(
     p: &mut ParserImpl<'_, C>,
     nested: &N,
+    is_await: bool,
 ) -> Result<Option<NodeId>, Stop>
     requires at { Standing p.old }
     requires nests { CanNest (N.can nested.now) (room p.old) }
-    ensures { TakesFirst p.old p.new result }
+    ensures { TakesFirst is_await p.old p.new result }
 {
     if at_end(p, Kind::Semicolon) {
         return Ok(None);
     }
     let outer = context(p);
     set_context(p, outer.and_in(false));
-    let first = parse_part_without_in(p, nested)?;
+    let first = parse_part_without_in(p, nested, is_await)?;
     set_context(p, outer);
     Ok(Some(first))
 }

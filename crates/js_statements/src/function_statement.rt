@@ -1,16 +1,15 @@
-//! Declarations of functions and generators (ECMA-262, sections 15.2 and 15.5): items of lists; those of functions as the bodies of
-//! other statements too (B.3.1 and B.3.3).
+//! Declarations of functions (ECMA-262, sections 15.2, 15.5, 15.6 and 15.8): items of lists; those of functions that are neither
+//! asynchronous nor generators as the bodies of other statements too (B.3.1 and B.3.3).
 
-ghost use Rattle.std.specs.Prelude.{◌≡◌, true, IfOk};
-ghost use Rattle.js_base.specs.declared.kind.Kind.TheVariants.{Function};
+ghost use Rattle.std.specs.Prelude.{◌≡◌, IfOk};
 ghost use Rattle.js_grammar.specs.Marks.{Mark};
 ghost use Rattle.js_grammar.specs.Productions.{at, ListItem, Sub};
 ghost use Rattle.js_cursor.specs.Places.{IsAt, goal};
+ghost use Rattle.js_operands.specs.Functions.{BeginsFunction};
 ghost use Rattle.js_parsing.specs.Nesting.{CanNest, room};
-ghost use Rattle.js_parsing.specs.Stands.{StandsHere};
 ghost use Rattle.js_parsing.specs.States.{Standing};
 ghost use Rattle.js_parsing.specs.Statements.{TakesStatement};
-ghost use Rattle.js_statements.specs.FunctionStatements.{ChecksGenerator, generator_body};
+ghost use Rattle.js_statements.specs.FunctionStatements.{ChecksPlain, fault_of_body, told_of_body};
 
 use js_base::{DiagnosticKind, NoMemory, Span};
 use js_cursor::{ParserImpl, Stop};
@@ -20,7 +19,7 @@ use js_parsing::diagnostics::diagnostic_at;
 use js_parsing::nested::Nested;
 use js_tree::{NodeId, NodeKind};
 
-/// A FunctionDeclaration or a GeneratorDeclaration in a list of statements (ECMA-262, sections 15.2 and 15.5).
+/// A FunctionDeclaration or its kin in a list of statements (ECMA-262, sections 15.2, 15.5, 15.6 and 15.8).
 #[inline(never)]
 pub fn parse_function_declaration<C: ParserConfig, N: Nested<C>>(
     p: &mut ParserImpl<'_, C>,
@@ -28,7 +27,7 @@ pub fn parse_function_declaration<C: ParserConfig, N: Nested<C>>(
 ) -> Result<NodeId, Stop>
     requires at { Standing p.old }
     requires nests { CanNest (N.can nested.now) (room p.old) }
-    requires word { StandsHere p.old Function true }
+    requires word { BeginsFunction p.old }
     ensures { TakesStatement (at ListItem) p.old p.new result }
 {
     let start = p.cur_start();
@@ -38,8 +37,8 @@ pub fn parse_function_declaration<C: ParserConfig, N: Nested<C>>(
     Ok(node)
 }
 
-/// A FunctionDeclaration as the body of another statement (ECMA-262, sections B.3.1 and B.3.3). A generator may not stand there:
-/// that is told, and reading goes on.
+/// A FunctionDeclaration as the body of another statement (ECMA-262, sections B.3.1 and B.3.3). An asynchronous function or
+/// a generator may not stand there: that is told, and reading goes on.
 #[inline(never)]
 pub fn parse_function_as_body<C: ParserConfig, N: Nested<C>>(
     p: &mut ParserImpl<'_, C>,
@@ -47,30 +46,43 @@ pub fn parse_function_as_body<C: ParserConfig, N: Nested<C>>(
 ) -> Result<NodeId, Stop>
     requires at { Standing p.old }
     requires nests { CanNest (N.can nested.now) (room p.old) }
-    requires word { StandsHere p.old Function true }
+    requires word { BeginsFunction p.old }
     ensures { TakesStatement (at Sub) p.old p.new result }
 {
     let start = p.cur_start();
     let parts = parse_function_parts(p, nested, FunctionForm::Declaration)?;
     let head = Span::new(start, parts.head_end);
-    check_no_generator(p, parts.is_generator, head)?;
+    check_plain_function(p, parts.is_async, parts.is_generator, head)?;
     let span = p.end_span(start);
     let node = make_function(p, NodeKind::FunctionDeclaration, span, parts)?;
     Ok(node)
 }
 
-/// Tells of a generator that stands as the body of another statement, up to the end of its parameters.
-fn check_no_generator<C: ParserConfig>(
+/// Tells of an asynchronous function or a generator that stands as the body of another statement, up to the end of its
+/// parameters.
+fn check_plain_function<C: ParserConfig>(
     p: &mut ParserImpl<'_, C>,
+    is_async: bool,
     is_generator: bool,
     head: Span,
 ) -> Result<(), NoMemory>
     requires at { IsAt p.old }
-    requires mark { Mark (goal p.old) p.old.text (generator_body head) }
-    ensures { IfOk result (λ _. ChecksGenerator is_generator head p.old p.new) }
+    requires mark { Mark (goal p.old) p.old.text (told_of_body is_async head) }
+    ensures { IfOk result (λ _. ChecksPlain is_async is_generator head p.old p.new) }
 {
-    if is_generator {
-        p.error(diagnostic_at(DiagnosticKind::GeneratorFunctionDeclaration, head))?;
+    if is_async || is_generator {
+        p.error(diagnostic_at(body_fault(is_async), head))?;
     }
     Ok(())
+}
+
+/// What is told of an asynchronous function, or else of a generator.
+fn body_fault(is_async: bool) -> DiagnosticKind
+    ensures { result ≡ fault_of_body is_async }
+{
+    if is_async {
+        DiagnosticKind::AsyncFunctionDeclaration
+    } else {
+        DiagnosticKind::GeneratorFunctionDeclaration
+    }
 }

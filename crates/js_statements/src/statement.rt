@@ -3,8 +3,9 @@
 ghost use Rattle.std.specs.Prelude.{◌≡◌, ◌≤◌, ◌&&◌, ◌↔◌, IsTrue, true, false, MatchResult};
 ghost use Rattle.js_base.specs.Kinds.{one_of_kinds};
 ghost use Rattle.js_base.specs.Contexts.{has_flag, in_flag};
-ghost use Rattle.js_base.specs.declared.kind.Kind.TheVariants.{Colon, Const, Function, Semicolon};
+ghost use Rattle.js_base.specs.declared.kind.Kind.TheVariants.{Colon, Const, Semicolon};
 ghost use Rattle.js_grammar.specs.Productions.{at, ListItem, Sub};
+ghost use Rattle.js_operands.specs.Functions.{NoFunctionHere};
 ghost use Rattle.js_parsing.specs.Answers.{Stops};
 ghost use Rattle.js_parsing.specs.Nesting.{CanNest, room};
 ghost use Rattle.js_parsing.specs.Stands.{StandsHere};
@@ -31,8 +32,9 @@ use js_base::{Kind, Span, Token};
 use js_cursor::{ParserImpl, Stop};
 use js_expressions::sequence::parse_sequence_expression;
 use js_lex::ParserConfig;
+use js_operands::function::function_stands;
 use js_operands::primary::parse_leaf;
-use js_parsing::lexemes::{advance, is_name_here, stands};
+use js_parsing::lexemes::{advance, is_name_here};
 use js_parsing::nested::Nested;
 use js_parsing::nodes::{make_leaf, make_one, make_two};
 use js_tree::{NodeId, NodeKind, Op};
@@ -50,7 +52,7 @@ pub fn parse_statement_list_item<C: ParserConfig, N: Nested<C>>(
     if let Some(kind) = lexical_kind(p, true)? {
         return parse_lexical_declaration(p, nested, kind);
     }
-    if stands(p, Kind::Function) {
+    if function_stands(p)? {
         return parse_function_declaration(p, nested);
     }
     parse_any_statement(p, nested)
@@ -69,7 +71,7 @@ pub fn parse_statement<C: ParserConfig, N: Nested<C>>(
     if let Some(kind) = lexical_kind(p, false)? {
         return parse_lexical_body(p, nested, kind);
     }
-    if stands(p, Kind::Function) {
+    if function_stands(p)? {
         return parse_function_as_body(p, nested);
     }
     parse_any_statement(p, nested)
@@ -85,7 +87,7 @@ fn parse_any_statement<C: ParserConfig, N: Nested<C>>(
     requires nests { CanNest (N.can nested.now) (room p.old) }
     requires allows_in { has_flag in_flag p.old.ctx ≡ true }
     requires other { StandsHere p.old Const false }
-    requires no_function { StandsHere p.old Function false }
+    requires no_function { NoFunctionHere p.old }
     ensures { TakesUndeclared p.old p.new result }
 {
     if p.cur_token().escaped() {
@@ -130,6 +132,7 @@ fn parse_expression_or_labeled_statement<C: ParserConfig, N: Nested<C>>(
     requires nests { CanNest (N.can nested.now) (room p.old) }
     requires allows_in { has_flag in_flag p.old.ctx ≡ true }
     requires other { one_of_kinds statement_kinds p.old.token.kind ≡ false }
+    requires no_function { NoFunctionHere p.old }
     ensures { TakesUndeclared p.old p.new result }
 {
     let start = p.cur_start();

@@ -3,50 +3,44 @@ use Rattle.js_cursor.specs.Tokens.{may_be_read_again}
 use Rattle.js_cursor.proofs.Changing.{may_return}
 use Rattle.js_parsing.proofs.Moving.{standing}
 use Rattle.js_parsing.proofs.Nesting.{later_room, nests_later}
-use Rattle.js_expressions.proofs.Arrows.{none_looked, some_looked, went_back}
-use Rattle.js_expressions.proofs.SlashedHeads.{attempts_there, excluded_so, head_settled, head_stands, head_went_on}
+use Rattle.js_expressions.proofs.Arrows.{went_back}
+use Rattle.js_expressions.proofs.SlashedHeads.{attempts_there, excluded_so, head_settled, head_stands, head_went_on, none_tried, some_tried}
 use Rattle.js_expressions.proofs.arrow.attempt_head.Goals as goal
 
 pub excludes_operand-requires : goal.excludes_operand-requires
-excludes_operand-requires g c = head_stands c.requires.at (some_looked _ _ c.parse_parenthesized_head.new.p _ _ c.in_ok-here.ensures.same c.in-Some.is c.in_ok-parameters.ensures)
+excludes_operand-requires g c = head_stands c.args.is_async c.requires.at (some_tried c.args.is_async _ _ c.try_parse_head.new.p _ _ c.in_ok-here.ensures.same c.in-Some.is c.in_ok-parameters.ensures)
 
 pub returns-then-excludes_operand : goal.returns-then-excludes_operand
-returns-then-excludes_operand g c = head_settled c.requires.open _ _ c.kept_so_far-kept.ensures c.prev_token_end-place.ensures (some_looked _ _ c.parse_parenthesized_head.new.p _ _ c.in_ok-here.ensures.same c.in-Some.is c.in_ok-parameters.ensures) (excluded_so _ _ c.parse_parenthesized_head.new.p c.if-excludes_operand.true c.excludes_operand.ensures)
+returns-then-excludes_operand g c =
+    let x = some_tried c.args.is_async _ _ c.try_parse_head.new.p _ _ c.in_ok-here.ensures.same c.in-Some.is c.in_ok-parameters.ensures in
+    (x, head_settled c.args.is_async _ _ c.kept_so_far-kept.ensures c.prev_token_end-place.ensures x (excluded_so _ _ c.try_parse_head.new.p c.if-excludes_operand.true c.excludes_operand.ensures))
 
 pub rewind-requires-clause-at : goal.rewind-requires-clause-at
-rewind-requires-clause-at g c = (head_went_on c.requires.at (some_looked _ _ c.parse_parenthesized_head.new.p _ _ c.in_ok-here.ensures.same c.in-Some.is c.in_ok-parameters.ensures)).0.1
+rewind-requires-clause-at g c = (head_went_on c.args.is_async c.requires.at (some_tried c.args.is_async _ _ c.try_parse_head.new.p _ _ c.in_ok-here.ensures.same c.in-Some.is c.in_ok-parameters.ensures)).0.1
 
 pub rewind-requires-clause-may : goal.rewind-requires-clause-may
-rewind-requires-clause-may g c = may_return c.requires.at.at c.in_ok-here.ensures.remembers refl (head_went_on c.requires.at (some_looked _ _ c.parse_parenthesized_head.new.p _ _ c.in_ok-here.ensures.same c.in-Some.is c.in_ok-parameters.ensures)).0.0
+rewind-requires-clause-may g c = may_return c.requires.at.at c.in_ok-here.ensures.remembers refl (head_went_on c.args.is_async c.requires.at (some_tried c.args.is_async _ _ c.try_parse_head.new.p _ _ c.in_ok-here.ensures.same c.in-Some.is c.in_ok-parameters.ensures)).0.0
 
 pub attempt_head_again-requires-clause-at : goal.attempt_head_again-requires-clause-at
 attempt_head_again-requires-clause-at g c =
-    let x = head_went_on c.requires.at (some_looked _ _ c.parse_parenthesized_head.new.p _ _ c.in_ok-here.ensures.same c.in-Some.is c.in_ok-parameters.ensures) in
-    standing ((went_back (ap may_be_read_again c.requires.open) c.in_ok-here.ensures.remembers x.0 x.1 x.2 c.rewind.ensures).at _ _ c.requires.at)
+    let x = head_went_on c.args.is_async c.requires.at (some_tried c.args.is_async _ _ c.try_parse_head.new.p _ _ c.in_ok-here.ensures.same c.in-Some.is c.in_ok-parameters.ensures) in
+    standing ((went_back (ap may_be_read_again c.requires.open) c.in_ok-here.ensures.remembers x c.rewind.ensures).at _ _ c.requires.at)
 
 pub attempt_head_again-requires-clause-nests : goal.attempt_head_again-requires-clause-nests
 attempt_head_again-requires-clause-nests g c =
-    let x = head_went_on c.requires.at (some_looked _ _ c.parse_parenthesized_head.new.p _ _ c.in_ok-here.ensures.same c.in-Some.is c.in_ok-parameters.ensures) in
-    let w = went_back (ap may_be_read_again c.requires.open) c.in_ok-here.ensures.remembers x.0 x.1 x.2 c.rewind.ensures in
+    let x = head_went_on c.args.is_async c.requires.at (some_tried c.args.is_async _ _ c.try_parse_head.new.p _ _ c.in_ok-here.ensures.same c.in-Some.is c.in_ok-parameters.ensures) in
+    let w = went_back (ap may_be_read_again c.requires.open) c.in_ok-here.ensures.remembers x c.rewind.ensures in
     nests_later c.requires.nests (let u = w.place in later_room (omega arith) w.same)
 
 pub attempt_head_again-requires-clause-open : goal.attempt_head_again-requires-clause-open
 attempt_head_again-requires-clause-open g c =
-    let x = head_went_on c.requires.at (some_looked _ _ c.parse_parenthesized_head.new.p _ _ c.in_ok-here.ensures.same c.in-Some.is c.in_ok-parameters.ensures) in
-    (went_back (ap may_be_read_again c.requires.open) c.in_ok-here.ensures.remembers x.0 x.1 x.2 c.rewind.ensures).kind ∙ c.requires.open
+    let x = head_went_on c.args.is_async c.requires.at (some_tried c.args.is_async _ _ c.try_parse_head.new.p _ _ c.in_ok-here.ensures.same c.in-Some.is c.in_ok-parameters.ensures) in
+    (went_back (ap may_be_read_again c.requires.open) c.in_ok-here.ensures.remembers x c.rewind.ensures).kind ∙ c.requires.open
 
 pub returns-in-Some : goal.returns-in-Some
 returns-in-Some g c =
-    let x = head_went_on c.requires.at (some_looked _ _ c.parse_parenthesized_head.new.p _ _ c.in_ok-here.ensures.same c.in-Some.is c.in_ok-parameters.ensures) in
-    attempts_there c.attempt_head_again.new.p _ (went_back (ap may_be_read_again c.requires.open) c.in_ok-here.ensures.remembers x.0 x.1 x.2 c.rewind.ensures) c.attempt_head_again.ensures
-
-pub rewind-requires-2-clause-at : goal.rewind-requires-2-clause-at
-rewind-requires-2-clause-at g c = (none_looked _ _ c.parse_parenthesized_head.new.p _ c.in_ok-here.ensures.same c.in_default.is c.in_ok-parameters.ensures).0.1
-
-pub rewind-requires-2-clause-may : goal.rewind-requires-2-clause-may
-rewind-requires-2-clause-may g c = may_return c.requires.at.at c.in_ok-here.ensures.remembers refl (none_looked _ _ c.parse_parenthesized_head.new.p _ c.in_ok-here.ensures.same c.in_default.is c.in_ok-parameters.ensures).0.0
+    let x = head_went_on c.args.is_async c.requires.at (some_tried c.args.is_async _ _ c.try_parse_head.new.p _ _ c.in_ok-here.ensures.same c.in-Some.is c.in_ok-parameters.ensures) in
+    attempts_there c.args.is_async c.attempt_head_again.new.p _ (went_back (ap may_be_read_again c.requires.open) c.in_ok-here.ensures.remembers x c.rewind.ensures) c.attempt_head_again.ensures
 
 pub returns : goal.returns
-returns g c =
-    let n = none_looked _ _ c.parse_parenthesized_head.new.p _ c.in_ok-here.ensures.same c.in_default.is c.in_ok-parameters.ensures in
-    (went_back (ap may_be_read_again c.requires.open) c.in_ok-here.ensures.remembers n.0 n.1 n.3 c.rewind-2.ensures, n.2)
+returns g c = none_tried c.args.is_async _ _ c.try_parse_head.new.p _ c.in_ok-here.ensures.same c.in_default.is c.in_ok-parameters.ensures

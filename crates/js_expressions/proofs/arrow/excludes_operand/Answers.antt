@@ -5,7 +5,7 @@ use Rattle.js_expressions.proofs.SlashedHeads.{excluded_noted, excluded_unslashe
 use Rattle.js_expressions.proofs.arrow.excludes_operand.Goals as goal
 
 pub returns-then-operand_failed : goal.returns-then-operand_failed
-returns-then-operand_failed g c = excluded_noted _ _ c.args.p.now c.operand_failed.ensures c.if-operand_failed.true
+returns-then-operand_failed g c = excluded_noted _ _ c.args.p.now c.operand_failed.ensures.small c.operand_failed.ensures.found c.if-operand_failed.true
 
 pub returns : goal.returns
 returns g c = excluded_unslashed _ _ c.args.p.now _ c.cur_start.ensures (subst (λ (t : List ℕ). SlashFound t c.args.place c.cur_start.result c.has_slash.result) (ap (λ (z : Parser). z.text) c.p.view_is) c.has_slash.ensures)

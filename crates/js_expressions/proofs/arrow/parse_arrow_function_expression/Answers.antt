@@ -27,9 +27,9 @@ parse_arrow_body-requires-clause-nests g c =
 pub returns-in_err-body-clause-answers : goal.returns-in_err-body-clause-answers
 returns-in_err-body-clause-answers g c = λ text f o a e h.
     let p = err_from_is_err_and c.from_residual-in_err-body.result c.from_residual-in_err-body.ensures.1 in
-    let m = c.in_ok-advance.ensures text f (line_at (before_at h) c.in_ok-check_line.ensures) in
+    let m = c.in_ok-advance.ensures text f (line_at (before_at c.args.head.is_async h) c.in_ok-check_line.ensures) in
     let x = c.in_err-body.ensures in
-    rw (p.1, p.2) (before_stops h c.requires.arrow c.in_ok-check_line.ensures m x.0 x.1 _ _ (x.2 text f m.at))
+    rw (p.1, p.2) (before_stops c.args.head.is_async h c.requires.arrow c.in_ok-check_line.ensures m x.0 x.1 _ _ (x.2 text f m.at))
 
 pub end_span-span-requires : goal.end_span-span-requires
 end_span-span-requires g c =
@@ -40,9 +40,9 @@ end_span-span-requires g c =
 
 pub returns-clause-answers : goal.returns-clause-answers
 returns-clause-answers g c = λ text f o a e h.
-    let m = c.in_ok-advance.ensures text f (line_at (before_at h) c.in_ok-check_line.ensures) in
+    let m = c.in_ok-advance.ensures text f (line_at (before_at c.args.head.is_async h) c.in_ok-check_line.ensures) in
     let x = c.in_ok-body.ensures in
-    before_answers h c.requires.arrow c.in_ok-check_line.ensures m x.0 x.1 _ a (x.2 text f m.at) (c.end_span-span.ensures.start ∙ e) c.end_span-span.ensures.end c.in_ok-node.ensures
+    before_answers c.args.head.is_async h c.requires.arrow c.in_ok-check_line.ensures m x.0 x.1 _ a (x.2 text f m.at) (c.end_span-span.ensures.start ∙ e) c.end_span-span.ensures.end c.in_ok-node.ensures
 
 pub returns-clause-node : goal.returns-clause-node
 returns-clause-node g c = made_no_target refl (λ cs. refl) c.in_ok-node.ensures

@@ -41,7 +41,7 @@ returns-in_err-exponent t c = λ text f a.
     let p = err_from_is_err_and c.from_residual-in_err-exponent.result c.from_residual-in_err-exponent.ensures.1 in
     let x = c.in_ok-base.ensures text f a in
     let k = c.at.ensures.0 c.if-not-at.false in
-    let b = base_checked a x k (c.begins_unary-is_unary.ensures ∙ ap (λ (g : Flags). begins_by_unary g.await_ c.args.p.now.token.kind) a.flags_are) c.kept_so_far-found.ensures c.in_ok-check_base.ensures in
+    let b = base_checked a x k (c.begins_unary-is_unary.ensures ∙ ap (λ (g : Flags). begins_by_unary g.awaits c.args.p.now.token.kind) a.flags_are) c.kept_so_far-found.ensures c.in_ok-check_base.ensures in
     let m = c.in_ok-advance.ensures text f b.answer.at in
     rw (p.1, p.2) (stops_behind _ _ (same_both b.answer.same m.same) (λ g. after b.answer.verdict (grown_then m.kept g)) (λ n. exponent_fails x.answer k b.answer (still_star c.in_ok-check_base.ensures k) m n) (c.in_err-exponent.ensures text f m.at))
 
@@ -56,6 +56,6 @@ pub returns : goal.returns
 returns t c = λ text f a.
     let x = c.in_ok-base.ensures text f a in
     let k = c.at.ensures.0 c.if-not-at.false in
-    let b = base_checked a x k (c.begins_unary-is_unary.ensures ∙ ap (λ (g : Flags). begins_by_unary g.await_ c.args.p.now.token.kind) a.flags_are) c.kept_so_far-found.ensures c.in_ok-check_base.ensures in
+    let b = base_checked a x k (c.begins_unary-is_unary.ensures ∙ ap (λ (g : Flags). begins_by_unary g.awaits c.args.p.now.token.kind) a.flags_are) c.kept_so_far-found.ensures c.in_ok-check_base.ensures in
     let m = c.in_ok-advance.ensures text f b.answer.at in
     power_answers _ a x k b (still_star c.in_ok-check_base.ensures k) m (c.in_ok-exponent.ensures text f m.at) (c.end_span-span.ensures.start ∙ c.cur_start-start.ensures) c.end_span-span.ensures.end c.in_ok-node.ensures

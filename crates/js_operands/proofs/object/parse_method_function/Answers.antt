@@ -8,7 +8,7 @@ use Rattle.js_operands.proofs.object.parse_method_function.Goals as goal
 pub returns-in_err-parameters : goal.returns-in_err-parameters
 returns-in_err-parameters g c = λ text f a.
     let p = err_from_is_err_and c.from_residual.result c.from_residual.ensures.1 in
-    rw (p.1, p.2) (stops_so _ _ _ (λ n. no_params f c.args.form c.args.generator n) (c.in_err-parameters.ensures text f a))
+    rw (p.1, p.2) (stops_so _ _ _ (λ n. no_params f c.args.form c.args.is_async c.args.generator n) (c.in_err-parameters.ensures text f a))
 
 pub body_of_function-requires-clause-at : goal.body_of_function-requires-clause-at
 body_of_function-requires-clause-at g c = standing (c.in_ok-parameters.ensures _ _ c.requires.at).at
@@ -20,7 +20,7 @@ pub returns-in_err-body : goal.returns-in_err-body
 returns-in_err-body g c = λ text f a.
     let p = err_from_is_err_and c.from_residual-in_err-body.result c.from_residual-in_err-body.ensures.1 in
     let x = c.in_ok-parameters.ensures text f a in
-    rw (p.1, p.2) (body_stops c.args.form c.args.generator x _ _ (c.in_err-body.ensures text f x.at))
+    rw (p.1, p.2) (body_stops c.args.form c.args.is_async c.args.generator x _ _ (c.in_err-body.ensures text f x.at))
 
 pub make_function-requires : goal.make_function-requires
 make_function-requires g c =
@@ -32,4 +32,4 @@ pub returns : goal.returns
 returns g c = λ text f a.
     let x = c.in_ok-parameters.ensures text f a in
     let y = c.in_ok-body.ensures text f x.at in
-    function_taken c.args.form c.args.generator x a y c.cur_start-start.ensures c.in_ok-node.ensures
+    function_taken c.args.form c.args.is_async c.args.generator x a y c.cur_start-start.ensures c.in_ok-node.ensures

@@ -3,7 +3,7 @@ use Rattle.std.proofs.lemmas.Result.{err_from_is_err_and}
 use Rattle.js_grammar.specs.Productions.{at, Property}
 use Rattle.js_parsing.proofs.Moving.{standing, stops_so}
 use Rattle.js_parsing.proofs.Nesting.{later_room, nests_later}
-use Rattle.js_operands.proofs.PropertyForms.{no_other_name, other_named, other_star}
+use Rattle.js_operands.proofs.PropertyForms.{no_other_name, other_async, other_named, other_star}
 use Rattle.js_operands.proofs.Wholes.{item_by}
 use Rattle.js_operands.proofs.object.parse_other_property.Goals as goal
 
@@ -27,4 +27,4 @@ parse_behind_name-requires-clause-before g c = let x = c.in_ok-name.ensures _ _ 
 pub returns : goal.returns
 returns g c = λ text f a.
     let x = c.in_ok-name.ensures text f a in
-    item_by text f c.args.p.now (at Property f) _ c.parse_behind_name.result (other_named a c.requires.no_word c.requires.no_sign c.in_ok-name.name.computed x) (c.parse_behind_name.ensures text f c.args.p.now a c.cur_start-start.ensures (other_star a c.requires.no_word c.requires.no_sign) x)
+    item_by text f c.args.p.now (at Property f) _ c.parse_behind_name.result (other_named a c.requires.no_word c.requires.no_sign c.in_ok-name.name.computed x) (c.parse_behind_name.ensures text f c.args.p.now a c.cur_start-start.ensures (other_star a c.requires.no_word c.requires.no_sign) (other_async a c.requires.no_word c.requires.no_sign c.in_ok-name.name.computed) x)

@@ -10,11 +10,11 @@ use Rattle.js_parsing.proofs.context.body_in_arrow.Goals as goal
 
 pub body-requires : goal.body-requires
 body-requires t c =
-    let a = braces_at c.requires.at c.context-outer.ensures c.and_yield.ensures c.and_await-without.ensures c.and_in.ensures c.and_return.ensures c.set_context.ensures in
+    let a = braces_at c.requires.at c.context-outer.ensures c.and_yield.ensures c.with_await-without.ensures c.and_in.ensures c.and_return.ensures c.set_context.ensures in
     c.requires.nests _ _ (standing a, ap (λ (f : Flags). f.in_) a.flags_are) (let e = ap room c.set_context.ensures in omega arith)
 
 pub returns-in_err-body : goal.returns-in_err-body
-returns-in_err-body t c = λ text f a. let p = err_from_is_err_and c.from_residual.result c.from_residual.ensures.1 in rw (p.1, p.2) (stops_in_context text (at Body (braced_body f)) _ _ _ _ _ a.at c.set_context.ensures (c.in_err-body.ensures text _ (braces_at a c.context-outer.ensures c.and_yield.ensures c.and_await-without.ensures c.and_in.ensures c.and_return.ensures c.set_context.ensures)))
+returns-in_err-body t c = λ text f a. let p = err_from_is_err_and c.from_residual.result c.from_residual.ensures.1 in rw (p.1, p.2) (stops_in_context text (at Body (braced_body c.args.is_async f)) _ _ _ _ _ a.at c.set_context.ensures (c.in_err-body.ensures text _ (braces_at a c.context-outer.ensures c.and_yield.ensures c.with_await-without.ensures c.and_in.ensures c.and_return.ensures c.set_context.ensures)))
 
 pub returns : goal.returns
-returns t c = λ text f a. out_of_context a c.context-outer.ensures c.set_context.ensures (c.in_ok-body.ensures text _ (braces_at a c.context-outer.ensures c.and_yield.ensures c.and_await-without.ensures c.and_in.ensures c.and_return.ensures c.set_context.ensures)) c.set_context-2.ensures
+returns t c = λ text f a. out_of_context a c.context-outer.ensures c.set_context.ensures (c.in_ok-body.ensures text _ (braces_at a c.context-outer.ensures c.and_yield.ensures c.with_await-without.ensures c.and_in.ensures c.and_return.ensures c.set_context.ensures)) c.set_context-2.ensures

@@ -1,7 +1,7 @@
 use Rattle.std.proofs.Common.{refl}
 use Rattle.js_base.specs.declared.kind.Kind.TheVariants.{Let}
 use Rattle.js_operands.proofs.Members.{stands_so}
-use Rattle.js_statements.proofs.LetLookaheads.{no_let_here}
+use Rattle.js_statements.proofs.WordLookaheads.{no_let_here}
 use Rattle.js_statements.proofs.LetStatements.{let_begins}
 use Rattle.js_statements.proofs.declaration_statement.begins_let_declaration.Goals as goal
 

@@ -22,7 +22,7 @@ parse_head_declarator-requires-clause-nests g c =
 pub returns-in_err-first : goal.returns-in_err-first
 returns-in_err-first g c =
     let p = err_from_is_err_and c.from_residual-in_err-first.result c.from_residual-in_err-first.ensures.1 in
-    rw (p.1, p.2) (λ text f a. let m = c.in_ok-advance.ensures text f a in head_stops c.args.kind a c.requires.begins (without_in a c.requires.no_in) m _ _ (c.in_err-first.ensures text f m.at))
+    rw (p.1, p.2) (λ w text f a. let m = c.in_ok-advance.ensures text f a in head_stops w c.args.kind a c.requires.begins (without_in a c.requires.no_in) m _ _ (c.in_err-first.ensures text f m.at))
 
 pub end_span-span-requires : goal.end_span-span-requires
 end_span-span-requires g c =
@@ -42,9 +42,9 @@ tell_head_fault-requires-clause-mark g c =
     fault_marked c.args.kind c.requires.at c.requires.begins c.requires.no_in m x _ (c.end_span-span.ensures.start ∙ c.cur_start-start.ensures) c.end_span-span.ensures.end
 
 pub returns-then-not-at : goal.returns-then-not-at
-returns-then-not-at g c = λ text f a.
+returns-then-not-at g c = λ w text f a.
     let m = c.in_ok-advance.ensures text f a in
-    one_first c.args.kind a c.requires.begins (without_in a c.requires.no_in) m _ (λ k. false≢true (sym c.if-not-at.true ∙ c.at.ensures.1 k)) _ (c.end_span-span.ensures.start ∙ c.cur_start-start.ensures) c.end_span-span.ensures.end c.in_ok-node.ensures c.in_ok-first.first.form (c.in_ok-first.ensures text f m.at) c.in_ok-tell_head_fault.ensures
+    one_first w c.args.kind a c.requires.begins (without_in a c.requires.no_in) m _ (λ k. false≢true (sym c.if-not-at.true ∙ c.at.ensures.1 k)) _ (c.end_span-span.ensures.start ∙ c.cur_start-start.ensures) c.end_span-span.ensures.end c.in_ok-node.ensures c.in_ok-first.first.form (c.in_ok-first.ensures text f m.at) c.in_ok-tell_head_fault.ensures
 
 pub parse_declarators_behind-requires-clause-at : goal.parse_declarators_behind-requires-clause-at
 parse_declarators_behind-requires-clause-at g c =
@@ -60,7 +60,7 @@ parse_declarators_behind-requires-clause-nests g c =
 pub returns-in_err-declarators : goal.returns-in_err-declarators
 returns-in_err-declarators g c =
     let p = err_from_is_err_and c.from_residual-in_err-declarators.result c.from_residual-in_err-declarators.ensures.1 in
-    rw (p.1, p.2) (λ text f a. let m = c.in_ok-advance.ensures text f a in others_stop c.args.kind a c.requires.begins (without_in a c.requires.no_in) m _ (c.at.ensures.0 c.if-not-at.false) c.in_ok-first.first.node c.in_ok-first.first.form (c.in_ok-first.ensures text f m.at) _ _ c.in_err-declarators.ensures)
+    rw (p.1, p.2) (λ w text f a. let m = c.in_ok-advance.ensures text f a in others_stop w c.args.kind a c.requires.begins (without_in a c.requires.no_in) m _ (c.at.ensures.0 c.if-not-at.false) c.in_ok-first.first.node c.in_ok-first.first.form (c.in_ok-first.ensures text f m.at) _ _ c.in_err-declarators.ensures)
 
 pub end_span-span-requires-2 : goal.end_span-span-requires-2
 end_span-span-requires-2 g c =
@@ -80,7 +80,7 @@ tell_head_fault-requires-2-clause-mark g c =
     fault_marked c.args.kind c.requires.at c.requires.begins c.requires.no_in m (list_reached c.args.kind c.requires.at c.requires.begins c.requires.no_in m y) _ (c.end_span-span-2.ensures.start ∙ c.cur_start-start.ensures) c.end_span-span-2.ensures.end
 
 pub returns : goal.returns
-returns g c = λ text f a.
+returns g c = λ w text f a.
     let m = c.in_ok-advance.ensures text f a in
     let y = first_of_several c.args.kind a c.requires.begins (without_in a c.requires.no_in) m _ (c.at.ensures.0 c.if-not-at.false) c.in_ok-first.first.node c.in_ok-first.first.form (c.in_ok-first.ensures text f m.at) c.in_ok-declarators.ensures in
-    several_first c.args.kind a c.requires.begins (without_in a c.requires.no_in) m _ (c.at.ensures.0 c.if-not-at.false) c.in_ok-first.first.node c.in_ok-first.first.form (c.in_ok-first.ensures text f m.at) y _ (c.end_span-span-2.ensures.start ∙ c.cur_start-start.ensures) c.end_span-span-2.ensures.end c.in_ok-tell_head_fault-2.ensures c.in_ok-node-2.ensures
+    several_first w c.args.kind a c.requires.begins (without_in a c.requires.no_in) m _ (c.at.ensures.0 c.if-not-at.false) c.in_ok-first.first.node c.in_ok-first.first.form (c.in_ok-first.ensures text f m.at) y _ (c.end_span-span-2.ensures.start ∙ c.cur_start-start.ensures) c.end_span-span-2.ensures.end c.in_ok-tell_head_fault-2.ensures c.in_ok-node-2.ensures

@@ -36,7 +36,7 @@ pub parse_head_expression-requires-clause-none : goal.parse_head_expression-requ
 parse_head_expression-requires-clause-none g c = let z = none_in_head c.args.p.now c.head_kind.new.p _ c.in-None.is c.in_ok-kind.ensures in subst (λ (v : Parser). NoneBegins v) (sym z.0) z.1
 
 pub returns-in-Some : goal.returns-in-Some
-returns-in-Some g c = part_from c.args.p.now c.head_kind.new.p _ _ (found_head c.args.p.now c.head_kind.new.p _ _ c.in-Some.is c.in_ok-kind.ensures).0 c.parse_head_declaration.ensures
+returns-in-Some g c = part_from c.args.is_await c.args.p.now c.head_kind.new.p _ _ (found_head c.args.p.now c.head_kind.new.p _ _ c.in-Some.is c.in_ok-kind.ensures).0 (c.parse_head_declaration.ensures c.args.is_await)
 
 pub returns-in-None : goal.returns-in-None
-returns-in-None g c = part_from c.args.p.now c.head_kind.new.p _ _ (none_in_head c.args.p.now c.head_kind.new.p _ c.in-None.is c.in_ok-kind.ensures).0 c.parse_head_expression.ensures
+returns-in-None g c = part_from c.args.is_await c.args.p.now c.head_kind.new.p _ _ (none_in_head c.args.p.now c.head_kind.new.p _ c.in-None.is c.in_ok-kind.ensures).0 c.parse_head_expression.ensures

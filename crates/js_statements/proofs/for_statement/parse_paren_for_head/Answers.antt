@@ -16,7 +16,7 @@ use Rattle.js_statements.proofs.for_statement.parse_paren_for_head.Goals as goal
 pub returns-in_err-expect : goal.returns-in_err-expect
 returns-in_err-expect g c =
     let p = err_from_is_err_and c.from_residual.result c.from_residual.ensures.1 in
-    rw (p.1, p.2) (λ text f a. unexpected a LParen _ _ c.in_err-expect.ensures (λ n d. paren_missing a n d))
+    rw (p.1, p.2) (λ text f a. unexpected a LParen _ _ c.in_err-expect.ensures (λ n d. paren_missing c.args.is_await a n d))
 
 pub parse_for_head-requires-clause-at : goal.parse_for_head-requires-clause-at
 parse_for_head-requires-clause-at g c = let i = c.in_ok-expect.ensures in standing (expected c.requires.at LParen i.0 i.1 refl refl).at
@@ -27,7 +27,7 @@ parse_for_head-requires-clause-nests g c = let i = c.in_ok-expect.ensures in nes
 pub returns-in_err-ending : goal.returns-in_err-ending
 returns-in_err-ending g c =
     let p = err_from_is_err_and c.from_residual-in_err-ending.result c.from_residual-in_err-ending.ensures.1 in
-    rw (p.1, p.2) (λ text f a. let i = c.in_ok-expect.ensures in let m = expected a LParen i.0 i.1 refl refl in head_stops a i.0 m _ _ (c.in_err-ending.ensures text f m.at))
+    rw (p.1, p.2) (λ text f a. let i = c.in_ok-expect.ensures in let m = expected a LParen i.0 i.1 refl refl in head_stops c.args.is_await a i.0 m _ _ (c.in_err-ending.ensures text f m.at))
 
 pub close_parentheses-requires-clause-at : goal.close_parentheses-requires-clause-at
 close_parentheses-requires-clause-at g c =
@@ -48,11 +48,11 @@ returns-in_err-close_parentheses g c =
     rw (p.1, p.2) (λ text f a.
     let m = expected a LParen i.0 i.1 refl refl in
     let x = c.in_ok-ending.ensures text f m.at in
-    stops_behind _ _ (same_both m.same x.same) (λ d. head_grown a i.0 m x d) (λ n. unclosed_all a i.0 m x n) (unclosed _ _ _ x.path.at c.in_err-close_parentheses.ensures (λ n. n)))
+    stops_behind _ _ (same_both m.same x.same) (λ d. head_grown c.args.is_await a i.0 m x d) (λ n. unclosed_all c.args.is_await a i.0 m x n) (unclosed _ _ _ x.path.at c.in_err-close_parentheses.ensures (λ n. n)))
 
 pub returns : goal.returns
 returns g c = λ text f a.
     let i = c.in_ok-expect.ensures in
     let m = expected a LParen i.0 i.1 refl refl in
     let x = c.in_ok-ending.ensures text f m.at in
-    parens_head a i.0 m x c.in_ok-close_parentheses.ensures.0 (c.in_ok-close_parentheses.ensures.1 text f x.path.at)
+    parens_head c.args.is_await a i.0 m x c.in_ok-close_parentheses.ensures.0 (c.in_ok-close_parentheses.ensures.1 text f x.path.at)

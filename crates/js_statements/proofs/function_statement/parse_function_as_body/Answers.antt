@@ -1,10 +1,7 @@
-use Rattle.std.proofs.Common.{arith, ap, sym, ◌∙◌}
-use Rattle.std.proofs.lemmas.Bool.{false≢true}
+use Rattle.std.proofs.Common.{arith, ◌∙◌}
 use Rattle.std.proofs.lemmas.Result.{err_from_is_err_and}
-use Rattle.js_base.specs.Kinds.{same_kind}
-use Rattle.js_base.specs.declared.kind.Kind.TheVariants.{Function}
 use Rattle.js_parsing.proofs.Moving.{stops_so}
-use Rattle.js_statements.proofs.FunctionStatements.{body_answers, checked_place, generator_marked, no_body}
+use Rattle.js_statements.proofs.FunctionStatements.{body_answers, body_marked, checked_place, no_body}
 use Rattle.js_statements.proofs.function_statement.parse_function_as_body.Goals as goal
 
 pub returns-in_err-parts : goal.returns-in_err-parts
@@ -12,20 +9,20 @@ returns-in_err-parts g c = λ text f a.
     let p = err_from_is_err_and c.from_residual.result c.from_residual.ensures.1 in
     rw (p.1, p.2) (stops_so _ _ _ (λ n. no_body a c.requires.word n) (c.in_err-parts.ensures text f a))
 
-pub check_no_generator-requires-clause-at : goal.check_no_generator-requires-clause-at
-check_no_generator-requires-clause-at g c = (c.in_ok-parts.ensures _ _ c.requires.at).whole.at.at
+pub check_plain_function-requires-clause-at : goal.check_plain_function-requires-clause-at
+check_plain_function-requires-clause-at g c = (c.in_ok-parts.ensures _ _ c.requires.at).whole.at.at
 
-pub check_no_generator-requires-clause-mark : goal.check_no_generator-requires-clause-mark
-check_no_generator-requires-clause-mark g c = generator_marked c.requires.at c.requires.word _ (c.in_ok-parts.ensures _ _ c.requires.at) (λ e. false≢true (ap (same_kind Function) (sym e) ∙ ap (same_kind Function) c.requires.word.0)) _ (c.new-head.ensures.start ∙ c.cur_start-start.ensures) c.new-head.ensures.end
+pub check_plain_function-requires-clause-mark : goal.check_plain_function-requires-clause-mark
+check_plain_function-requires-clause-mark g c = body_marked c.requires.at c.requires.word _ (c.in_ok-parts.ensures _ _ c.requires.at) _ _ (c.new-head.ensures.start ∙ c.cur_start-start.ensures) c.new-head.ensures.end
 
 pub end_span-span-requires : goal.end_span-span-requires
 end_span-span-requires g c =
     let y = c.in_ok-parts.ensures _ _ c.requires.at in
     let i = y.whole.further in let s = c.cur_start-start.ensures in
-    let e = checked_place c.requires.at c.requires.word _ y c.in_ok-check_no_generator.ensures in omega arith
+    let e = checked_place c.requires.at c.requires.word _ y c.in_ok-check_plain_function.ensures in omega arith
 
 pub returns : goal.returns
-returns g c = λ text f a. body_answers a c.requires.word _ (c.in_ok-parts.ensures text f a) c.in_ok-check_no_generator.ensures _ (c.end_span-span.ensures.start ∙ c.cur_start-start.ensures) c.end_span-span.ensures.end c.in_ok-node.ensures
+returns g c = λ text f a. body_answers a c.requires.word _ (c.in_ok-parts.ensures text f a) c.in_ok-check_plain_function.ensures _ (c.end_span-span.ensures.start ∙ c.cur_start-start.ensures) c.end_span-span.ensures.end c.in_ok-node.ensures
 
 pub new-head-requires : goal.new-head-requires
 new-head-requires g c =

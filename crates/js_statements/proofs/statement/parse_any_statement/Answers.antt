@@ -40,7 +40,7 @@ pub parse_variable_statement-requires-clause-word : goal.parse_variable_statemen
 parse_variable_statement-requires-clause-word g c = (sym c.cur_kind.ensures ∙ c.in-Var.is, (let e : c.args.p.now.token.escaped ≡ false = search in e))
 
 pub parse_expression_or_labeled_statement-requires-clause-other : goal.parse_expression_or_labeled_statement-requires-clause-other
-parse_expression_or_labeled_statement-requires-clause-other g c = no_own_kind _ (λ e. c.in_default.not-LCurly (c.cur_kind.ensures ∙ e)) (λ e. c.in_default.not-Semicolon (c.cur_kind.ensures ∙ e)) (λ e. c.in_default.not-If (c.cur_kind.ensures ∙ e)) (λ e. c.in_default.not-Do (c.cur_kind.ensures ∙ e)) (λ e. c.in_default.not-While (c.cur_kind.ensures ∙ e)) (λ e. c.in_default.not-With (c.cur_kind.ensures ∙ e)) (λ e. c.in_default.not-Break (c.cur_kind.ensures ∙ e)) (λ e. c.in_default.not-Continue (c.cur_kind.ensures ∙ e)) (λ e. c.in_default.not-Return (c.cur_kind.ensures ∙ e)) (λ e. c.requires.no_function e (let e : c.args.p.now.token.escaped ≡ false = search in e)) (λ e. c.in_default.not-Throw (c.cur_kind.ensures ∙ e)) (λ e. c.in_default.not-Switch (c.cur_kind.ensures ∙ e)) (λ e. c.in_default.not-Try (c.cur_kind.ensures ∙ e)) (λ e. c.in_default.not-For (c.cur_kind.ensures ∙ e)) (λ e. c.in_default.not-Debugger (c.cur_kind.ensures ∙ e)) (λ e. c.in_default.not-Var (c.cur_kind.ensures ∙ e)) (λ e. c.requires.other e (let e : c.args.p.now.token.escaped ≡ false = search in e))
+parse_expression_or_labeled_statement-requires-clause-other g c = no_own_kind _ (λ e. c.in_default.not-LCurly (c.cur_kind.ensures ∙ e)) (λ e. c.in_default.not-Semicolon (c.cur_kind.ensures ∙ e)) (λ e. c.in_default.not-If (c.cur_kind.ensures ∙ e)) (λ e. c.in_default.not-Do (c.cur_kind.ensures ∙ e)) (λ e. c.in_default.not-While (c.cur_kind.ensures ∙ e)) (λ e. c.in_default.not-With (c.cur_kind.ensures ∙ e)) (λ e. c.in_default.not-Break (c.cur_kind.ensures ∙ e)) (λ e. c.in_default.not-Continue (c.cur_kind.ensures ∙ e)) (λ e. c.in_default.not-Return (c.cur_kind.ensures ∙ e)) (λ e. c.requires.no_function.0 e (let e : c.args.p.now.token.escaped ≡ false = search in e)) (λ e. c.in_default.not-Throw (c.cur_kind.ensures ∙ e)) (λ e. c.in_default.not-Switch (c.cur_kind.ensures ∙ e)) (λ e. c.in_default.not-Try (c.cur_kind.ensures ∙ e)) (λ e. c.in_default.not-For (c.cur_kind.ensures ∙ e)) (λ e. c.in_default.not-Debugger (c.cur_kind.ensures ∙ e)) (λ e. c.in_default.not-Var (c.cur_kind.ensures ∙ e)) (λ e. c.requires.other e (let e : c.args.p.now.token.escaped ≡ false = search in e))
 
 pub returns-in-If : goal.returns-in-If
 returns-in-If g c = λ b u. c.parse_if_statement.ensures b

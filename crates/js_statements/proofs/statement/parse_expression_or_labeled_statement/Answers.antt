@@ -8,10 +8,11 @@ use Rattle.js_parsing.specs.Statements.{IsLabel}
 use Rattle.js_parsing.proofs.Nesting.{nests_later, later_room}
 use Rattle.js_parsing.proofs.Verdicts.{after}
 use Rattle.js_statements.proofs.Statements.{ended_so, in_of, no_colon, no_label, no_label_here, statement_answers, statement_fails, statement_unended}
+use Rattle.js_statements.proofs.WordLookaheads.{async_named}
 use Rattle.js_statements.proofs.statement.parse_expression_or_labeled_statement.Goals as goal
 
 pub returns-in_err-expression : goal.returns-in_err-expression
-returns-in_err-expression t c = λ b u text f a. let p = err_from_is_err_and c.from_residual.result c.from_residual.ensures.1 in rw (p.1, p.2) (stops_so _ _ _ (λ z. statement_fails a c.requires.other (no_label_here z) b (u text f a) z) (c.in_err-expression.ensures.answers text f a))
+returns-in_err-expression t c = λ b u text f a. let p = err_from_is_err_and c.from_residual.result c.from_residual.ensures.1 in rw (p.1, p.2) (stops_so _ _ _ (λ z. statement_fails a c.requires.other (no_label_here z) (async_named a c.requires.no_function) b (u text f a) z) (c.in_err-expression.ensures.answers text f a))
 
 pub end_statement-requires : goal.end_statement-requires
 end_statement-requires t c = standing (c.in_ok-expression.ensures.answers _ _ c.requires.at).answer.at
@@ -20,7 +21,7 @@ pub returns-in_err-end_statement : goal.returns-in_err-end_statement
 returns-in_err-end_statement t c = λ b u text f a.
     let p = err_from_is_err_and c.from_residual-in_err-end_statement.result c.from_residual-in_err-end_statement.ensures.1 in
     let x = (c.in_ok-expression.ensures.answers text f a).answer in
-    rw (p.1, p.2) (stops_behind _ _ x.same (λ g. after x.verdict g) (λ m. statement_unended a c.requires.other (no_label a x (no_colon c.args.p.now c.parse_sequence_expression.new.p c.cur_token-first.ensures c.is_label.ensures c.if-is_label.false)) b (u text f a) x m) c.in_err-end_statement.ensures)
+    rw (p.1, p.2) (stops_behind _ _ x.same (λ g. after x.verdict g) (λ m. statement_unended a c.requires.other (no_label a x (no_colon c.args.p.now c.parse_sequence_expression.new.p c.cur_token-first.ensures c.is_label.ensures c.if-is_label.false)) (async_named a c.requires.no_function) b (u text f a) x m) c.in_err-end_statement.ensures)
 
 pub end_span-span-requires : goal.end_span-span-requires
 end_span-span-requires t c =
@@ -29,7 +30,7 @@ end_span-span-requires t c =
     let a = x.further in let b = z.further in let d = x.at.behind in let s = c.cur_start-start.ensures in omega arith
 
 pub returns : goal.returns
-returns t c = λ b u text f a. statement_answers a c.requires.other (no_label a (c.in_ok-expression.ensures.answers text f a).answer (no_colon c.args.p.now c.parse_sequence_expression.new.p c.cur_token-first.ensures c.is_label.ensures c.if-is_label.false)) b _ (u text f a) (in_of a c.requires.allows_in) (c.in_ok-expression.ensures.answers text f a) c.in_ok-end_statement.ensures (c.end_span-span.ensures.start ∙ c.cur_start-start.ensures) c.end_span-span.ensures.end c.in_ok-node.ensures
+returns t c = λ b u text f a. statement_answers a c.requires.other (no_label a (c.in_ok-expression.ensures.answers text f a).answer (no_colon c.args.p.now c.parse_sequence_expression.new.p c.cur_token-first.ensures c.is_label.ensures c.if-is_label.false)) (async_named a c.requires.no_function) b _ (u text f a) (in_of a c.requires.allows_in) (c.in_ok-expression.ensures.answers text f a) c.in_ok-end_statement.ensures (c.end_span-span.ensures.start ∙ c.cur_start-start.ensures) c.end_span-span.ensures.end c.in_ok-node.ensures
 
 pub parse_labeled_statement_rest-requires-clause-at : goal.parse_labeled_statement_rest-requires-clause-at
 parse_labeled_statement_rest-requires-clause-at t c = standing (c.in_ok-expression.ensures.answers _ _ c.requires.at).answer.at
