@@ -11,6 +11,7 @@ use js_cursor::{ParserImpl, Stop};
 use js_lex::ParserConfig;
 
 /// What may begin with an opening parenthesis.
+#[derive(Clone, Copy)]
 pub(crate) enum HeadLookahead {
     /// A head and nothing else: `...` stands behind it, with which no expression begins.
     Head,

@@ -21,7 +21,7 @@ ghost use Rattle.js_operands.specs.declared.left_hand_side.LinkBase.TheVariants 
 use crate::arguments::parse_call_arguments;
 use crate::new_target::parse_new_target;
 use crate::primary::{parse_leaf, parse_primary_expression};
-use crate::super_word::{check_new_callee, is_super, parse_super_member};
+use crate::super_word::{check_new_callee, is_super_alone, parse_super_member};
 use crate::template::{begins_template, parse_chained_template, parse_tagged_template};
 use js_base::{DiagnosticKind, Kind, NoMemory, Span};
 use js_cursor::{ParserImpl, Stop};
@@ -76,13 +76,14 @@ fn parse_member_expression_or_higher<C: ParserConfig, N: Nested<C>>(
             return parse_member_expression_rest(p, nested, start, target);
         }
         let callee_start = p.cur_start();
+        let begins_super = stands(p, Kind::Super);
         p.enter(1)?;
         let callee = parse_member_expression_or_higher(p, nested)?;
         p.leave(1);
         if stands(p, Kind::QuestionDot) {
             return Err(refuse_chain(p));
         }
-        let super_alone = is_super(p, callee);
+        let super_alone = is_super_alone(p, begins_super, callee);
         if stands(p, Kind::LParen) {
             let kind = NodeKind::NewExpression;
             let node = parse_with_arguments(p, nested, start, kind, false, callee)?;

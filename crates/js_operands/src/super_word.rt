@@ -1,6 +1,6 @@
 //! What begins with `super` (ECMA-262, section 13.3).
 
-ghost use Rattle.std.specs.Prelude.{◌≡◌, ◌<◌, ◌≤◌, IfOk, false, length, true};
+ghost use Rattle.std.specs.Prelude.{◌≡◌, ◌<◌, ◌≤◌, ◌&&◌, IfOk, false, length, true};
 ghost use Rattle.js_base.specs.declared.kind.Kind.TheVariants.{LParen, Super};
 ghost use Rattle.js_cursor.specs.Places.{IsAt, goal};
 ghost use Rattle.js_grammar.specs.Marks.{Mark};
@@ -86,12 +86,16 @@ fn parse_super_property<C: ParserConfig, N: Nested<C>>(
     parse_link(p, nested, start, word)
 }
 
-/// Whether what was read is the word `super` alone.
-pub(crate) fn is_super<C: ParserConfig>(p: &ParserImpl<'_, C>, callee: NodeId) -> bool
+/// Whether what was read is the word `super` alone, by whether this word began it.
+pub(crate) fn is_super_alone<C: ParserConfig>(
+    p: &ParserImpl<'_, C>,
+    begins: bool,
+    callee: NodeId,
+) -> bool
     requires { callee.0 < length p.now.nodes }
-    ensures { result ≡ is_super_word (kind_of (node_at p.now.nodes callee).kind) }
+    ensures { result ≡ (begins && is_super_word (kind_of (node_at p.now.nodes callee).kind)) }
 {
-    matches!(p.ast.kind(callee), NodeKind::Super)
+    begins && matches!(p.ast.kind(callee), NodeKind::Super)
 }
 
 /// Tells of a `super` that `new` stands before, which began at a place, and of its arguments.
@@ -102,7 +106,7 @@ pub(crate) fn check_new_callee<C: ParserConfig>(
 ) -> Result<(), NoMemory>
     requires at { IsAt p.old }
     requires start { start ≤ p.old.prev_token_end }
-    requires mark { Mark (goal p.old) p.old.text (callee_from start p.old.prev_token_end) }
+    requires mark { super_alone ≡ true → Mark (goal p.old) p.old.text (callee_from start p.old.prev_token_end) }
     ensures { IfOk result (λ _. ChecksCallee super_alone start p.old p.new) }
 {
     if super_alone {
