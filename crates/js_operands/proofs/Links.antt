@@ -179,11 +179,11 @@ module _ {text : List ℕ} (f : Flags) where
   no_behind_super by_call n = part_fails {X' = plain full} (fails_alt fails_never (no_super_word n)) (record { admits = λ ts us vs j k ls mid rest d d' h. (refl, refl) })
   no_behind_super by_index n = part_fails {X' = plain full} (fails_alt fails_never (no_super_word n)) (record { admits = λ ts us vs j k ls mid rest d d' h. (refl, refl) })
 
-  no_super_link : {X : Test} {s : ℕ} → ((c : LinkForm) → Fails rule (Lex text) (plain full) end (behind_super f c) s) → Fails rule (Lex text) X end (super_links f) s
-  no_super_link n = fails_alt (fails_node inside_full (n by_name)) (fails_node inside_full (n by_index))
+  no_super_link : {X : Test} {s : ℕ} → Fails rule (Lex text) (plain full) end (behind_super f by_name) s → Fails rule (Lex text) (plain full) end (behind_super f by_index) s → Fails rule (Lex text) X end (super_links f) s
+  no_super_link n i = fails_alt (fails_node inside_full n) (fails_node inside_full i)
 
   no_supers : {X : Test} {s : ℕ} → NoneIs text s super_kind → Fails rule (Lex text) X end (super_links f) s
-  no_supers n = no_super_link (λ c. no_behind_super c n)
+  no_supers n = no_super_link (no_behind_super by_name n) (no_behind_super by_index n)
 
   -- a primary expression was read
   pub member_start : {s s' from : ℕ} {l : Label} {cs : Slots} {pass : Lexemes → Lexemes} → NoneIs text s New → NoneIs text s super_kind → Stretch text (after (at Primary f)) (such (at Primary f) always) s nothing s' (tree l cs) pass → ((y : Lexeme) → Lex text s y → y.from ≡ from) → Looped text (members f) (after (at Member f)) s from l cs pass s'
@@ -237,9 +237,9 @@ module _ {text : List ℕ} (f : Flags) where
     member_super by_call q u o b y = absurd (false≢true q)
 
     -- neither stands there
-    pub no_member_super : ((c : LinkForm) → Fails rule (Lex text) (plain full) end (chained f c false).part s') → Underived text (at Member f) s
+    pub no_member_super : Fails rule (Lex text) (plain full) end (chained f by_name false).part s' → Fails rule (Lex text) (plain full) end (chained f by_index false).part s' → Underived text (at Member f) s
     unfolding member_links rule_of covers
-    no_member_super z = chain_start_fails firsts (climbs is_member Member f) (member_links f) {F' = no_function} (member_foot ▹✗ fails_alt (weaken_fails p (λ ts y e. admits (at Primary f) ts y e.0)) (fails_alt (no_with n) (fails_alt (no_super_link (λ c. super_goes c ▹✗ z c)) (no_target n)))) refl refl
+    no_member_super z i = chain_start_fails firsts (climbs is_member Member f) (member_links f) {F' = no_function} (member_foot ▹✗ fails_alt (weaken_fails p (λ ts y e. admits (at Primary f) ts y e.0)) (fails_alt (no_with n) (fails_alt (no_super_link (super_goes by_name ▹✗ z) (super_goes by_index ▹✗ i)) (no_target n)))) refl refl
 
   -- a name or an expression in brackets behind it
   pub member_step : {s s' s'' from : ℕ} {l : Label} {cs : Slots} {pass more : Lexemes → Lexemes} {h : Slots → Slots} (c : LinkForm) → admits_link OfMember' c false ≡ true → Looped text (members f) (after (at Member f)) s from l cs pass s' → AllAre text s' (sign_of c false) → s' ≤ s'' → Stretch text (plain full) (chained f c false).part s' nothing s'' h more

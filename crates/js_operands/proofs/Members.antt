@@ -96,10 +96,10 @@ none_of ks n y l = go (one_of_kinds ks y.kind) refl
 none_among : {text : List ℕ} {s : ℕ} (ks : List Kind) → ((y : Lexeme) → Lex text s y → one_of_kinds ks y.kind ≡ false) → (k : Kind) → one_of_kinds ks k ≡ true → NoneIs text s k
 none_among ks n k h y l e = false≢true (sym (n y l) ∙ subst (λ (v : Kind). one_of_kinds ks v ≡ true) (sym e) h)
 
-abbrev NoneOf : List ℕ → ℕ → List Kind → Type 0
+abbrev pub NoneOf : List ℕ → ℕ → List Kind → Type 0
 NoneOf text s ks = (y : Lexeme) → Lex text s y → one_of_kinds ks y.kind ≡ false
 
-no_access_kind : {text : List ℕ} {s : ℕ} → NoneIs text s Dot → NoneIs text s LBrack → NoneIs text s NoSubstitutionTemplate → NoneIs text s TemplateHead → NoneOf text s access_kinds
+pub no_access_kind : {text : List ℕ} {s : ℕ} → NoneIs text s Dot → NoneIs text s LBrack → NoneIs text s NoSubstitutionTemplate → NoneIs text s TemplateHead → NoneOf text s access_kinds
 no_access_kind {text} {s} a b c d = none_of access_kinds (λ k h. first_or (λ k. NoneIs text s k) Dot k _ _ refl h a (λ h. first_or (λ k. NoneIs text s k) LBrack k _ _ refl h b (λ h. first_or (λ k. NoneIs text s k) NoSubstitutionTemplate k _ _ refl h c (λ h. first_or (λ k. NoneIs text s k) TemplateHead k _ _ refl h d (λ h. absurd (false≢true h))))))
 
 no_call_kind : {text : List ℕ} {s : ℕ} → NoneOf text s access_kinds → NoneIs text s LParen → NoneOf text s call_kinds
@@ -349,7 +349,7 @@ of_call c true e = absurd (false≢true e)
 alike : (b : LinkBase) (c d : LinkForm) (o : Bool) → admits b c false ≡ true → sign_of c false ≡ sign_of d o → (admits b d false ≡ true) × (o ≡ false)
 alike b c d o h e = let z = decides c d o e in (subst (λ (v : LinkForm). admits b v false ≡ true) z.0 h, z.1)
 
-member_form : {p : Parser} (c : LinkForm) (o : Bool) → LinkHere p base.Member true → StandsHere p (sign_of c o) true → (admits base.Member c false ≡ true) × (o ≡ false)
+pub member_form : {p : Parser} (c : LinkForm) (o : Bool) → LinkHere p base.Member true → StandsHere p (sign_of c o) true → (admits base.Member c false ≡ true) × (o ≡ false)
 member_form {p} c o (a_link d e s h) z = let i = of_member d e h in alike base.Member d c o i.0 (sym (subst (λ (v : Bool). p.token.kind ≡ sign_of d v) i.1 s.0) ∙ z.0)
 
 call_form : {p : Parser} (c : LinkForm) (o : Bool) → LinkHere p base.Call true → StandsHere p (sign_of c o) true → o ≡ false
@@ -363,7 +363,7 @@ Membered text f o p id = Taken text f o p id (λ l cs pass s'. MemberSoFar text 
 abbrev pub HeadTaken : List ℕ → Flags → Parser → Parser → NodeId → Type 0
 HeadTaken text f o p id = Taken text f o p id (λ l cs pass s'. Headed text f o.prev_token_end l cs pass s') (NoMember text f o.prev_token_end)
 
-no_bare_new : {text : List ℕ} {f : Flags} {p : Parser} → At text f p → StandsHere p New false → NoBareNew text f p.prev_token_end
+pub no_bare_new : {text : List ℕ} {f : Flags} {p : Parser} → At text f p → StandsHere p New false → NoBareNew text f p.prev_token_end
 no_bare_new a s = fails_here firsts (λ y l h. stands_not a refl s y l (sym (kind_of_same New y.kind (and_parts _ _ h).0)))
 
 -- neither `new` nor `super` stands here
@@ -400,7 +400,7 @@ member_closed {text} {f} {o} {p} x (no_link g, n) =
     (retake x (λ l cs pass c. a_member (member_end f c.0 none) c.1) (λ n. n), none)
 
 -- a lexeme stands here
-lexeme_there : {text : List ℕ} {f : Flags} {p : Parser} {k : Kind} → At text f p → StandsHere p k true → same_kind RAngle k ≡ false → is_last k ≡ false → one_of_kinds read_kinds k ≡ true → (y : Lexeme) × Lex text p.prev_token_end y × (y.kind ≡ k)
+pub lexeme_there : {text : List ℕ} {f : Flags} {p : Parser} {k : Kind} → At text f p → StandsHere p k true → same_kind RAngle k ≡ false → is_last k ≡ false → one_of_kinds read_kinds k ≡ true → (y : Lexeme) × Lex text p.prev_token_end y × (y.kind ≡ k)
 lexeme_there {k = k} a s n l r =
     let z = found a (uncut a (ap (same_kind RAngle) s.0 ∙ n)) (ap is_last s.0 ∙ l) in
     (z.0, (z.1, read_of z.0 (sym z.2.kind ∙ s.0) (sym z.2.escaped ∙ s.1) r), sym z.2.kind ∙ s.0)
@@ -623,7 +623,7 @@ abbrev pub CalleeTaken : List ℕ → Flags → Parser → Parser → NodeId →
 CalleeTaken text f o p id = Taken text f o p id (λ l cs pass s'. Callee text f o.prev_token_end l cs pass s') (NoLhs text f o.prev_token_end)
 
 -- if one link can't be read, none can
-none_of_links : {text : List ℕ} {f : Flags} {s : ℕ} (c : LinkForm) (o : Bool) → OnlyLink text f s c o → NoLink text f s c o → (c' : LinkForm) (o' : Bool) → NoLink text f s c' o'
+pub none_of_links : {text : List ℕ} {f : Flags} {s : ℕ} (c : LinkForm) (o : Bool) → OnlyLink text f s c o → NoLink text f s c o → (c' : LinkForm) (o' : Bool) → NoLink text f s c' o'
 none_of_links {text} {f} {s} c o u n c' o' = go (u c' o')
   where
     go : ((c' ≡ c) × (o' ≡ o)) ⊎ NoLink text f s c' o' → NoLink text f s c' o'
@@ -816,7 +816,7 @@ chain_done {text} {f} {o} {p} {w} {left} {id} {s} a x (no_link g, m) b c d =
 -- ---- reading a link
 
 module _ {text : List ℕ} (f : Flags) where
-  not_sign : (c : LinkForm) (o : Bool) (k : Kind) {s : ℕ} → (k ≡ sign_of c o → ⊥) → AllAre text s k → NoLink text f s c o
+  pub not_sign : (c : LinkForm) (o : Bool) (k : Kind) {s : ℕ} → (k ≡ sign_of c o → ⊥) → AllAre text s k → NoLink text f s c o
   not_sign by_call true k n z = fails_here firsts (λ y l h. n (sym (z y l).0 ∙ sym (kind_of_same QuestionDot y.kind (and_parts _ _ h).0)))
   not_sign by_name true k n z = fails_here firsts (λ y l h. n (sym (z y l).0 ∙ sym (kind_of_same QuestionDot y.kind (and_parts _ _ h).0)))
   not_sign by_index true k n z = fails_here firsts (λ y l h. n (sym (z y l).0 ∙ sym (kind_of_same QuestionDot y.kind (and_parts _ _ h).0)))

@@ -2,6 +2,7 @@
 use Rattle.std.specs.Prelude.{ℕ, ◌≡◌, ◌⊎◌, Bool, true, false, List, Result, Ok, Err}
 use Rattle.js_base.specs.declared.diagnostic.Diagnostic.{Diagnostic}
 use Rattle.js_base.specs.declared.diagnostic.DiagnosticKind.TheVariants as fault
+use Rattle.js_base.specs.declared.kind.Kind.TheVariants.{Super as super_kind}
 use Rattle.js_base.specs.declared.span.Span.{Span}
 use Rattle.js_grammar.specs.Trees.{Label, Slots}
 use Rattle.js_grammar.specs.Grammar.{Lexemes}
@@ -13,6 +14,7 @@ use Rattle.js_cursor.specs.declared.stop.Stop.{Stop}
 use Rattle.js_operands.specs.Members.{LinkHere, MemberSoFar, NoMember, SuperWord, Taken}
 use Rattle.js_operands.specs.declared.left_hand_side.LinkBase.TheVariants as base
 use Rattle.js_parsing.specs.Answers.{Stops}
+use Rattle.js_parsing.specs.Stands.{StandsHere}
 use Rattle.js_parsing.specs.States.{At}
 use Rattle.js_parsing.specs.Told.{unrelated_at}
 
@@ -48,4 +50,4 @@ PropertyOutcome text f o q (Ok id) = Taken text f o q id (λ l cs pass s'. Membe
 PropertyOutcome text f o q (Err e) = Stops o q e (NoMember text f o.prev_token_end)
 
 abbrev pub GoesOnSuper : ℕ → NodeId → Parser → Parser → Result NodeId Stop → Type 0
-GoesOnSuper start word p q r = (text : List ℕ) (f : Flags) (o : Parser) → At text f o → start ≡ o.token.span.start → SuperTaken text f o p word → PropertyOutcome text f o q r
+GoesOnSuper start word p q r = (text : List ℕ) (f : Flags) (o : Parser) → At text f o → StandsHere o super_kind true → start ≡ o.token.span.start → SuperTaken text f o p word → PropertyOutcome text f o q r
