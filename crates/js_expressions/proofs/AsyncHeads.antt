@@ -344,7 +344,7 @@ module _ {p q : Parser} (k : StandsHere p Async true) (b : (text : List ℕ) (f 
       before (name_head e i h n) = led_head q passed h only
 
     async_head : IsHeadBefore true p w id
-    async_head = (x.0, (λ text f a. before a (head a)), λ text f a i. no_target_there a k.0 (b text f a) (behind_there a))
+    async_head = (x.0, (λ text f a. before a (head a)), λ text f a i. inr (k.0, no_target_there a k.0 (b text f a) (behind_there a)))
 
   -- none stands behind it, and the parser went on
   pub async_unread : {w : Parser} → Standing p → HeadBehindAsync q w None → WentOn p w × NoAsyncHere p

@@ -31,7 +31,7 @@ use Rattle.js_targets.specs.Targets.{is_literal, target_of}
 use Rattle.js_targets.proofs.ArraysBeforeSigns.{is_cover, not_wide}
 use Rattle.js_targets.proofs.HeadTargets.{before_these, none_before, none_unread}
 use Rattle.js_expressions.specs.Arrows.{NoOperandHere, Unmoved}
-use Rattle.js_expressions.specs.HeadOperands.{HeadOperand, IsNoTarget, NoTargetPart, OperandOutcome, StaysOperand, no_target, operand}
+use Rattle.js_expressions.specs.HeadOperands.{HeadOperand, IsNoTarget, NoTargetPart, NoTargetSeen, OperandOutcome, StaysOperand, no_target, operand}
 use Rattle.js_expressions.proofs.Arrows.{from_unmoved}
 
 -- ---- the node that was made
@@ -68,24 +68,28 @@ target_part {text} {f} n = part_fails {X' = plain goes_through} n (record { admi
     through : (ts : Slots) {us vs : Slots} {j k : ℕ} {mid rest : Lexemes} → Takes rule (any_of (In ∷ Of ∷ [])) end us j mid vs k rest → Admits (plain goes_through) ts (here mid)
     through ts (is_lexeme q) = (q, refl)
 
+pub seen_part : {text : List ℕ} {f : Flags} (p : Parser) → NoTargetSeen text f p → NoTargetPart text f p.prev_token_end
+seen_part p (inl n) = target_part n
+seen_part p (inr (k, n)) = n
+
 -- where no target is derived, and what was read is none
-pub told_none : {text : List ℕ} {f : Flags} (p w : Parser) (r : Result NodeId Stop) → NoTargetPart text f p.prev_token_end → IfOk r (λ id. IsNoTarget w id) → OperandOutcome text f p w r
+pub told_none : {text : List ℕ} {f : Flags} (p w : Parser) (r : Result NodeId Stop) → NoTargetSeen text f p → IfOk r (λ id. IsNoTarget w id) → OperandOutcome text f p w r
 told_none p w (Ok id) n m = no_target m n
 told_none p w (Err Fatal) n m = n
 told_none p w (Err NoMemory) n m = tt
 
 module _ {text : List ℕ} {f : Flags} {p : Parser} (i : f.in_ ≡ false) where
   -- an operand that can't be read
-  pub from_none : At text f p → Underived text (at Short f) p.prev_token_end → NoTargetPart text f p.prev_token_end
-  from_none a n = target_part (before_these i (none_unread (not_wide a) (is_cover a) n))
+  pub from_none : At text f p → Underived text (at Short f) p.prev_token_end → NoTargetSeen text f p
+  from_none a n = inl (before_these i (none_unread (not_wide a) (is_cover a) n))
 
   pub operand_unread : (q : Parser) (e : Stop) → At text f p → Stops p q e (Underived text (at Short f) p.prev_token_end) → OperandOutcome text f p q (Err e)
   operand_unread q Fatal a s = from_none a (s.none nothing_unbuilt)
   operand_unread q NoMemory a s = tt
 
   module _ {q : Parser} {left : NodeId} (x : Numbered text f (at Short f) p q left) where
-    behind_kind : one_of_kinds (In ∷ Of ∷ []) q.token.kind ≡ false → NoTargetPart text f p.prev_token_end
-    behind_kind e = target_part (none_before i x.answer (none_goes_through x.answer.at e))
+    behind_kind : one_of_kinds (In ∷ Of ∷ []) q.token.kind ≡ false → NoTargetSeen text f p
+    behind_kind e = inl (none_before i x.answer (none_goes_through x.answer.at e))
 
     -- before an assignment operator
     pub behind_assign : (w : Parser) (r : Result NodeId Stop) → one_of_kinds assign_operators q.token.kind ≡ true → IfOk r (λ id. IsNoTarget w id) → OperandOutcome text f p w r
@@ -115,8 +119,12 @@ module _ {text : List ℕ} {f : Flags} {p : Parser} (i : f.in_ ≡ false) where
   listed_operand w r (no_target n z) k m = told_none p w r z m
 
 -- where the parser is where it was
+seen_unmoved : (text : List ℕ) (f : Flags) {p q : Parser} → Unmoved p q → NoTargetSeen text f q → NoTargetSeen text f p
+seen_unmoved text f u (inl n) = inl (subst (λ (s : ℕ). NoTargetFrom text f s) u.place n)
+seen_unmoved text f u (inr (k, n)) = inr (sym u.kind ∙ k, subst (λ (s : ℕ). NoTargetPart text f s) u.place n)
+
 pub operand_unmoved : (text : List ℕ) (f : Flags) {p q : Parser} (w : Parser) (r : Result NodeId Stop) → Unmoved p q → OperandOutcome text f q w r → OperandOutcome text f p w r
 operand_unmoved text f w (Ok id) u (operand x) = operand (from_unmoved text f (at Short f) w (Ok id) u x)
-operand_unmoved text f w (Ok id) u (no_target n z) = no_target n (subst (λ (s : ℕ). NoTargetPart text f s) u.place z)
-operand_unmoved text f w (Err Fatal) u z = subst (λ (s : ℕ). NoTargetPart text f s) u.place z
+operand_unmoved text f w (Ok id) u (no_target n z) = no_target n (seen_unmoved text f u z)
+operand_unmoved text f w (Err Fatal) u z = seen_unmoved text f u z
 operand_unmoved text f w (Err NoMemory) u z = tt

@@ -32,7 +32,7 @@ use Rattle.js_parsing.specs.States.{At, Same, NodesLie, SpansLie}
 use Rattle.js_targets.specs.Others.{NoYield}
 use Rattle.js_expressions.specs.declared.arrow.ArrowHead.{ArrowHead}
 use Rattle.js_expressions.specs.Closings.{ArrowBehindOne}
-use Rattle.js_expressions.specs.HeadOperands.{NoTargetPart}
+use Rattle.js_expressions.specs.HeadOperands.{NoTargetSeen}
 
 -- what stands before `=>`: a name, or parameters in parentheses
 abbrev pub head_of : Flags → G
@@ -127,7 +127,7 @@ pub data BeforeArrow (a : Bool) (text : List ℕ) (f : Flags) (o p : Parser) (id
   told_led : ToldHead text f o p id → Underived text (at Assignment f) o.prev_token_end → BeforeArrow a text f o p id
 
 abbrev pub NoTargetHere : Parser → Type 0
-NoTargetHere p = (text : List ℕ) (f : Flags) → At text f p → f.in_ ≡ false → NoTargetPart text f p.prev_token_end
+NoTargetHere p = (text : List ℕ) (f : Flags) → At text f p → f.in_ ≡ false → NoTargetSeen text f p
 
 abbrev pub IsHeadBefore : Bool → Parser → Parser → NodeId → Type 0
 IsHeadBefore a p q id = (q.token.kind ≡ Arrow) × ((text : List ℕ) (f : Flags) → At text f p → BeforeArrow a text f p q id) × NoTargetHere p

@@ -1,6 +1,6 @@
 -- What the head of a `for` asks of its first expression: whether it may be a target before `in` or `of` (ECMA-262, 14.7.5). It is asked where `in` is no operator.
 use Rattle.std.specs.Prelude.{ℕ, ◌≡◌, ◌⊎◌, false, List, [], ◌∷◌, None, Result, Ok, Err}
-use Rattle.js_base.specs.declared.kind.Kind.TheVariants.{Arrow, In, Of, Question}
+use Rattle.js_base.specs.declared.kind.Kind.TheVariants.{Arrow, Async, In, Of, Question}
 use Rattle.js_base.specs.Kinds.{same_kind}
 use Rattle.js_grammar.specs.Trees.{Label, Slots, end as no_slots}
 use Rattle.js_grammar.specs.Grammar.{◌▸◌}
@@ -15,6 +15,7 @@ use Rattle.js_cursor.specs.declared.stop.Stop.TheVariants.{Fatal, NoMemory}
 use Rattle.js_parsing.specs.Answers.{Numbered}
 use Rattle.js_parsing.specs.Lexemes.{Lex}
 use Rattle.js_parsing.specs.States.{At}
+use Rattle.js_targets.specs.Taken.{NoTargetFrom}
 use Rattle.js_targets.specs.Targets.{is_literal, target_of}
 
 -- the node's tree is neither a literal nor a simple target, in parentheses or not
@@ -25,14 +26,18 @@ IsNoTarget p id = (lo hi : ℕ) (l : Label) (cs : Slots) → Holds p.nodes lo hi
 abbrev pub NoTargetPart : List ℕ → Flags → ℕ → Type 0
 NoTargetPart text f s = Fails rule (Lex text) (plain (other (λ k w e. same_kind Arrow k))) no_slots (sym Target f ▸ any_of (In ∷ Of ∷ [])) s
 
+-- No target before these is derived from here; where `async` stands here, none with something else than `=>` behind them.
+abbrev pub NoTargetSeen : List ℕ → Flags → Parser → Type 0
+NoTargetSeen text f p = NoTargetFrom text f p.prev_token_end ⊎ ((p.token.kind ≡ Async) × NoTargetPart text f p.prev_token_end)
+
 -- An operand alone was read, a ShortCircuitExpression; or something else was, and no target before `in` or `of` is derived from there.
 pub data HeadOperand (text : List ℕ) (f : Flags) (p q : Parser) (id : NodeId) : Type 0 where
   operand : Numbered text f (at Short f) p q id → HeadOperand text f p q id
-  no_target : IsNoTarget q id → NoTargetPart text f p.prev_token_end → HeadOperand text f p q id
+  no_target : IsNoTarget q id → NoTargetSeen text f p → HeadOperand text f p q id
 
 abbrev pub OperandOutcome : List ℕ → Flags → Parser → Parser → Result NodeId Stop → Type 0
 OperandOutcome text f p q (Ok id) = HeadOperand text f p q id
-OperandOutcome text f p q (Err Fatal) = NoTargetPart text f p.prev_token_end
+OperandOutcome text f p q (Err Fatal) = NoTargetSeen text f p
 OperandOutcome text f p q (Err NoMemory) = Unit {0}
 
 abbrev pub TellsOperand : Parser → Parser → Result NodeId Stop → Type 0

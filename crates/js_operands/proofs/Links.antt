@@ -161,7 +161,7 @@ module _ {text : List ℕ} (f : Flags) where
 
   -- the word `super`
   pub no_super_word : {X : Test} {s : ℕ} → NoneIs text s super_kind → Fails rule (Lex text) X end (such (at Super f) always) s
-  no_super_word n = fails_here firsts (λ y l h. no_kind n y l h)
+  no_super_word n = fails_here firsts (λ y l h. n y l (sym (kind_of_same super_kind y.kind h)))
 
   member_foot : {X : Test} {s : ℕ} → Goes rule (Lex text) X end (base_of is_member Member f) s (member_feet f) s (λ us. us) (still 0)
   member_foot {X} {s} = subst (λ (g : G). Goes rule (Lex text) X end (base_of is_member Member f) s g s (λ us. us) (still 0)) (member_left f) (lives (base_of is_member Member f))
@@ -199,9 +199,9 @@ module _ {text : List ℕ} (f : Flags) where
   unfolding member_links rule_of covers
   member_new {s' = s'} {from} u x n y b = record { reach = max 0 (max 0 (max 0 y.reach)); near = let i = y.near in omega arith; around = chain_start firsts (climbs is_member Member f) (member_links f) {F' = no_function} (member_foot ▹ (right (weaken_fails x (λ ts y e. admits (at Primary f) ts y e.0)) ▹ (left (fails_alt (no_supers u) (fails_under (fails_node inside_full n))) ▹ makes_by (linked_label (link new_expression no_op 0 (with_arguments f)) from s') inside_full y.goes (λ ls ls' i j. ap (λ v. linked_label (link new_expression no_op 0 (with_arguments f)) v s') (b (here ls) (here_at (Lex text) ls i)))))) refl refl b }
 
-  pub no_member_new : {s : ℕ} → NoneIs text s super_kind → Underived text (at Primary f) s → Fails rule (Lex text) (plain full) end (with_arguments f) s → ({X : Test} → Fails rule (Lex text) X end (new_target f) s) → Underived text (at Member f) s
+  pub no_member_new : {s : ℕ} → NoneIs text s super_kind → Underived text (at Primary f) s → Fails rule (Lex text) (plain full) end (with_arguments f) s → ((X : Test) → Fails rule (Lex text) X end (new_target f) s) → Underived text (at Member f) s
   unfolding member_links rule_of covers
-  no_member_new u x n t = chain_start_fails firsts (climbs is_member Member f) (member_links f) {F' = no_function} (member_foot ▹✗ fails_alt (weaken_fails x (λ ts y e. admits (at Primary f) ts y e.0)) (fails_alt (fails_node inside_full n) (fails_alt (no_supers u) t))) refl refl
+  no_member_new u x n t = chain_start_fails firsts (climbs is_member Member f) (member_links f) {F' = no_function} (member_foot ▹✗ fails_alt (weaken_fails x (λ ts y e. admits (at Primary f) ts y e.0)) (fails_alt (fails_node inside_full n) (fails_alt (no_supers u) (t _)))) refl refl
 
   -- `new.target` was read
   pub member_target : {s s' from : ℕ} {h : Slots → Slots} {pass : Lexemes → Lexemes} → NoneIs text s super_kind → f.new_target ≡ true → Underived text (at Primary f) s → Fails rule (Lex text) (plain full) end (with_arguments f) s → Stretch text (plain full) target_slots s nothing s' h pass → ((y : Lexeme) → Lex text s y → y.from ≡ from) → Looped text (members f) (after (at Member f)) s from (linked_label (link new_target_expression no_op 0 target_slots) from s') (h end) pass s'

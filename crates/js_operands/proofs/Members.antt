@@ -462,7 +462,7 @@ module _ {text : List ℕ} {f : Flags} {p q : Parser} (a : At text f p) (k : p.t
   no_target_here = skips a New k n refl m ▹✗ fails_here firsts (λ y l h. stands_not m.at refl t y l (sym (kind_of_same Dot y.kind (and_parts _ _ h).0)))
 
   none_called : Fails rule (Lex text) (plain full) end (called_member f) q.prev_token_end → Underived text (at Member f) p.prev_token_end
-  none_called z = no_member_new f (no_super_at_new a k n m) (no_primary a k n m) ((new_skips a k n m).goes ▹✗ z) (fails_under (fails_node inside_full no_target_here))
+  none_called z = no_member_new f (no_super_at_new a k n m) (no_primary a k n m) ((new_skips a k n m).goes ▹✗ z) (λ X. fails_under (fails_node inside_full no_target_here))
 
   pub new_fails_by : Underived text (at Member f) q.prev_token_end → NoBareNew text f q.prev_token_end → NoMember text f p.prev_token_end
   new_fails_by z b = (none_called (member_lacks f z), new_other a k n m (no_new_by f z b))

@@ -202,11 +202,11 @@ module _ {text : List ℕ} {f : Flags} {o p : Parser} (a : At text f o) (s : Sta
   no_bare = new_other a s.0 s.1 m (at_dot (such (at new_symbol f) always) refl)
 
   -- nothing, where it isn't
-  none_there : ({X : Test} → Fails rule (Lex text) X end (new_target f) o.prev_token_end) → NoMember text f o.prev_token_end
+  none_there : ((X : Test) → Fails rule (Lex text) X end (new_target f) o.prev_token_end) → NoMember text f o.prev_token_end
   none_there t = (no_member_new f (no_super_at_new a s.0 s.1 m) (no_primary a s.0 s.1 m) no_call t, no_bare)
 
   pub target_stops : {q : Parser} (n : Moved text f p q) → StandsHere q Target false → (w : Parser) (e : Stop) → GivesUp EndsParse q w e → Stops o w e (NoMember text f o.prev_token_end)
-  target_stops {q} n t w e g = stops_behind w e (same_both m.same n.same) (λ h. grown_then m.kept (grown_then n.kept h)) (λ z. z) (gives_up EndsParse q w e n.at g (λ d i. i) (none_there (fails_under (fails_node inside_full no_word))))
+  target_stops {q} n t w e g = stops_behind w e (same_both m.same n.same) (λ h. grown_then m.kept (grown_then n.kept h)) (λ z. z) (gives_up EndsParse q w e n.at g (λ d i. i) (none_there (λ X. fails_under (fails_node inside_full no_word))))
     where
       no_word : Fails rule (Lex text) (plain full) end target_slots o.prev_token_end
       no_word = skips a New s.0 s.1 refl m ▹✗ (skips m.at Dot d.0 d.1 refl n ▹✗ fails_here firsts (λ y l h. stands_not n.at refl t y l (sym (kind_of_same Target y.kind (and_parts _ _ h).0))))
@@ -261,9 +261,9 @@ module _ {text : List ℕ} {f : Flags} {o p : Parser} (a : At text f o) (s : Sta
           allowed i = sym (ap (λ (h : Flags). h.new_target) e.at.flags_are) ∙ i
 
           go : ChecksTarget z r g → Verdict_of g
-          go (inl (i, k)) = unclean (grown_behind target_path.verdict (kept_one k)) (none_there (fails_when (allowed i)))
+          go (inl (i, k)) = unclean (grown_behind target_path.verdict (kept_one k)) (none_there (λ X. fails_when (allowed i)))
           go (inr (i, k)) = subst (λ (v : Parser). Verdict_of v) (sym k)
-              (verdict_of target_path.verdict (λ y. (member_target f (no_super_at_new a s.0 s.1 m) (allowed i) (no_primary a s.0 s.1 m) no_call y (begins_here a), no_bare)) (λ x. none_there (fails_under (fails_node inside_full x))))
+              (verdict_of target_path.verdict (λ y. (member_target f (no_super_at_new a s.0 s.1 m) (allowed i) (no_primary a s.0 s.1 m) no_call y (begins_here a), no_bare)) (λ x. none_there (λ X. fails_under (fails_node inside_full x))))
 
       kept_nodes : Keeps o.nodes g.nodes
       kept_nodes = subst (λ (ns : List Node). Keeps o.nodes ns) (sym checked_nodes) (Keeps-refl o.nodes)

@@ -5,7 +5,7 @@ use Rattle.js_base.specs.declared.kind.Kind.TheVariants.{Super as super_kind}
 use Rattle.js_grammar.specs.Trees.{Slots, end, tree, Label}
 use Rattle.js_grammar.specs.Grammar.{Lexeme, Lexemes, last, nothing, Takes, alt, never, node, such, when, is_nothing, is_lexeme, is_look, is_text, is_ahead, is_empty_slot, is_seq, is_left, is_right, is_when, is_many, is_commas, is_such, is_marked, is_node, is_ended, is_keep, is_kept}
 use Rattle.js_grammar.specs.Follow.{after}
-use Rattle.js_grammar.specs.Parsing.{Fails, always}
+use Rattle.js_grammar.specs.Parsing.{Fails, always, full, plain}
 use Rattle.js_grammar.specs.Productions.{G, Flags, Name, Symbol, at, New, Member, Primary, IdentifierReference, Object, FuncExpr, ClassExpr, Template}
 use Rattle.js_grammar.specs.Productions.{sym as symbol}
 use Rattle.js_grammar.specs.Table.{rule, rule_of}
@@ -80,7 +80,7 @@ rooted (is_kept q) h = absurd (false≢true h)
 contrary : {b : Bool} → not b ≡ true → b ≡ true → ⊥
 contrary {b} n h = false≢true (sym (ap not h) ∙ n)
 
-as_new : {f : Flags} {ks ts us : Slots} {i j : ℕ} {ls rest : Lexemes} → Takes rule (without_arguments f) ks ts i ls us j rest → Takes rule (symbol New f) ks ts i ls us j rest
+as_new : {f : Flags} {ts us : Slots} {i j : ℕ} {ls rest : Lexemes} → Takes rule (without_arguments f) end ts i ls us j rest → Takes rule (symbol New f) end ts i ls us j rest
 unfolding rule rule_of
 as_new (is_node d) = is_such (is_right (is_node d)) refl
 
@@ -93,4 +93,4 @@ module _ {text : List ℕ} {f : Flags} {s s' : ℕ} {l : Label} {cs : Slots} {pa
 
 -- the word isn't read where another one stands
 pub no_super_there : {text : List ℕ} (f : Flags) {s s' : ℕ} {l : Label} {cs : Slots} {pass : Lexemes → Lexemes} → NoneIs text s super_kind → SuperWord text f s l cs pass s' → (y : Lexeme) → Lex text s' y → ⊥
-no_super_there f {s' = s'} n x y i = (no_super_word f n).no _ _ _ _ _ (x.word.goes.passes.lexed (last y) i) (x.word.goes.sound end end s' (last y) (last y) i (inl x.word.near) is_nothing) (refl, refl)
+no_super_there f {s' = s'} n x y i = (no_super_word f {X = plain full} n).no _ _ _ _ _ (x.word.goes.passes.lexed (last y) i) (x.word.goes.sound end end s' (last y) (last y) i (inl x.word.near) is_nothing) (refl, refl)

@@ -77,21 +77,23 @@ uncalled : {text : List ℕ} {f : Flags} {s s' : ℕ} {l : Label} {cs : Slots} {
 uncalled x n = unfollowed x.word.goes (record { admits = λ ts vs k ls rest d e. (refl, refl) }) (λ us y i e. n y i (sym (kind_of_same LParen y.kind (and_parts (same_kind LParen y.kind) _ e.0).0)))
 
 -- neither a name nor an expression in brackets does
-no_name_part : {text : List ℕ} {f : Flags} {s : ℕ} → NoneIs text s Dot → NoLink text f s by_name false
-no_name_part n = fails_here firsts (λ y l h. n y l (sym (kind_of_same Dot y.kind (and_parts _ _ h).0)))
+no_name_part : {text : List ℕ} (f : Flags) {s : ℕ} → NoneIs text s Dot → NoLink text f s by_name false
+no_name_part f n = fails_here firsts (λ y l h. n y l (sym (kind_of_same Dot y.kind (and_parts _ _ h).0)))
 
-no_index_part : {text : List ℕ} {f : Flags} {s : ℕ} → NoneIs text s LBrack → NoLink text f s by_index false
-no_index_part n = fails_here firsts (λ y l h. n y l (sym (kind_of_same LBrack y.kind (and_parts _ _ h).0)))
+no_index_part : {text : List ℕ} (f : Flags) {s : ℕ} → NoneIs text s LBrack → NoLink text f s by_index false
+no_index_part f n = fails_here firsts (λ y l h. n y l (sym (kind_of_same LBrack y.kind (and_parts _ _ h).0)))
 
 module _ {text : List ℕ} {f : Flags} {p q : Parser} (a : At text f p) (s : StandsHere p super_kind true) (m : Moved text f p q) where
   the_word : SuperWord text f p.prev_token_end (label_here super_expression no_op p q) end (λ ls. next m.lexeme ls) q.prev_token_end
   unfolding rule rule_of
-  the_word = record { word = record { reach = 0; near = omega arith; goes = by_rule {X' = plain full} (λ l cs vs y e. e) (noding {X' = plain full} q a inside_full (record { reach = 0; near = omega arith; goes = passes a super_kind s.0 s.1 refl m })).goes refl }; kind = refl }
+  the_word =
+      let y = noding {X = plain full} {X' = plain full} q a inside_full (record { reach = 0; near = omega arith; goes = passes a super_kind s.0 s.1 refl m }) in
+      record { word = record { reach = y.reach; near = y.near; goes = by_rule {X' = plain full} (λ l cs vs y e. e) y.goes refl }; kind = refl }
 
   -- none of the three stands behind it
   none_behind : LinkHere q base.Call false → NoMember text f p.prev_token_end
   none_behind (no_link g) = (
-    no_member_super f (no_new_here a s) (no_primary_here a s) the_word (no_name_part (stands_not m.at refl (g by_name false refl))) (no_index_part (stands_not m.at refl (g by_index false refl))),
+    no_member_super f (no_new_here a s) (no_primary_here a s) the_word (no_name_part f (stands_not m.at refl (g by_name false refl))) (no_index_part f (stands_not m.at refl (g by_index false refl))),
     record { bare = no_bare_here a s; uncalled = uncalled the_word (stands_not m.at refl (g by_call false refl)) },
   )
 
@@ -257,7 +259,7 @@ module _ {text : List ℕ} {f : Flags} {p q : Parser} (a : At text f p) (s : Sta
   root : kind_of (node_at w.nodes callee).kind ≡ (callee_taken a s.0 s.1 m t h l x).label.kind
   root = root_is (callee_taken a s.0 s.1 m t h l x).holds
 
-  module _ {begins word : Bool} (b : StandsHere q super_kind begins) (i : word ≡ (begins && is_super_word (kind_of (node_at w.nodes callee).kind))) where
+  module _ (begins : Bool) {word : Bool} (b : StandsHere q super_kind begins) (i : word ≡ (begins && is_super_word (kind_of (node_at w.nodes callee).kind))) where
     both : word ≡ true → (begins ≡ true) × (is_super_word (kind_of (node_at w.nodes callee).kind) ≡ true)
     both j = and_parts begins _ (sym i ∙ j)
 

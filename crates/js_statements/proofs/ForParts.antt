@@ -35,7 +35,7 @@ use Rattle.js_parsing.specs.Answers.{Answer, Grown, Numbered, Stops, Stretch, Un
 use Rattle.js_parsing.specs.Lexemes.{Lex, other_goals}
 use Rattle.js_parsing.specs.Stands.{StandsHere}
 use Rattle.js_parsing.specs.States.{At}
-use Rattle.js_targets.specs.Taken.{goes_through}
+use Rattle.js_targets.specs.Taken.{NoTargetFrom, goes_through}
 use Rattle.js_declarations.specs.HeadDeclarators.{ThroughHere}
 use Rattle.js_statements.specs.declared.for_statement.Ending.{Ending}
 use Rattle.js_statements.specs.declared.for_statement.Ending.TheVariants as ending
@@ -72,10 +72,10 @@ use Rattle.js_targets.specs.Taken.{LiteralRead, TakesTarget, no_target_at}
 use Rattle.js_targets.specs.Targets.{IsTarget, is_literal, target_of}
 use Rattle.js_targets.proofs.ArraysConverted.{signs}
 use Rattle.js_targets.proofs.Covers.{lexed_there, underived_there}
-use Rattle.js_targets.proofs.HeadTargets.{before_these, goes_behind, literal_none, literal_path, none_before, none_read_through, simple_none, simple_path}
+use Rattle.js_targets.proofs.HeadTargets.{before_these, goes_behind, literal_none, literal_path, none_before, simple_none, simple_path}
 use Rattle.js_targets.proofs.Refused.{refused}
-use Rattle.js_expressions.specs.HeadOperands.{HeadOperand, NoTargetPart, OperandOutcome, no_target, operand}
-use Rattle.js_expressions.proofs.HeadOperands.{target_part}
+use Rattle.js_expressions.specs.HeadOperands.{HeadOperand, NoTargetPart, NoTargetSeen, OperandOutcome, no_target, operand}
+use Rattle.js_expressions.proofs.HeadOperands.{seen_part, target_part}
 use Rattle.js_cursor.specs.declared.stop.Stop.TheVariants.{Fatal, NoMemory}
 use Rattle.js_statements.proofs.ForHeads.{last_between, no_empty, no_first_part, on_semicolon}
 use Rattle.js_statements.proofs.Strings.{name_look, name_target}
@@ -299,7 +299,7 @@ module _ {text : List ℕ} {f : Flags} (is_await : Bool) {p : Parser} (a : At te
     expression_alone {q} {id} x y h = expression_first x h (by y)
       where
         by : HeadOperand text f p q id → NoTargetPart text f p.prev_token_end
-        by (no_target m z) = z
+        by (no_target m z) = seen_part p z
         by (operand y) = target_part (none_before i y.answer (through_not y.answer.at h))
 
     -- one before `in` or `of` is none before a semicolon
@@ -311,7 +311,7 @@ module _ {text : List ℕ} {f : Flags} (is_await : Bool) {p : Parser} (a : At te
         by (inr h) = λ k e. let w : kind.Of ≡ kind.Semicolon = sym h.0 ∙ k in cc
 
     pub head_unread : (q : Parser) (x : Stop) → Stops p q x (Underived text (at Expression f) p.prev_token_end) → OperandOutcome text f p q (Err x) → Stops p q x ((e : Ending) → NoFirstPart text is_await e f p.prev_token_end)
-    head_unread q Fatal s z = stops_so p q Fatal (λ n e. nothing_first n z e) s
+    head_unread q Fatal s z = stops_so p q Fatal (λ n e. nothing_first n (seen_part p z) e) s
     head_unread q NoMemory s z = tt
 
     pub target_unread : {q : Parser} {id : NodeId} (x : Numbered text f (at Expression f) p q id) → ThroughHere q true → (r : Parser) (e : Stop) → Stops p r e (NoTargetPart text f p.prev_token_end) → Stops p r e ((d : Ending) → NoFirstPart text is_await d f p.prev_token_end)
@@ -511,15 +511,15 @@ module _ {text : List ℕ} {f : Flags} {p q : Parser} {id : NodeId} (a : At text
     none_there = by o
       where
         by : HeadOperand text f p q id → NoTargetPart text f p.prev_token_end
-        by (no_target n z) = z
+        by (no_target n z) = seen_part p z
         by (operand y) = target_part (before_these i (simple_none y.answer (h _ _ _ _ y.holds) (e _ _ _ _ y.holds)))
 
     pub simple_stops : (r : Parser) (s : Stop) → GivesUp EndsParse q r s → Stops p r s (NoTargetPart text f p.prev_token_end)
     simple_stops r s g = refused r s x.answer.at x.answer.same x.answer.verdict g none_there
 
     -- which has its mark
-    pub none_marked : ThroughHere q true → (start : ℕ) → start ≡ p.token.span.start → length q.errors ≡ length p.errors → Mark (goal q) q.text (no_target_at start q.prev_token_end)
-    none_marked t start d n = subst (λ (v : List ℕ). Mark (goal q) v (no_target_at start q.prev_token_end)) (sym x.answer.at.text_is) it
+    pub none_marked : (p.token.kind ≡ kind.Async → ⊥) → ThroughHere q true → (start : ℕ) → start ≡ p.token.span.start → length q.errors ≡ length p.errors → Mark (goal q) q.text (no_target_at start q.prev_token_end)
+    none_marked m t start d n = subst (λ (v : List ℕ). Mark (goal q) v (no_target_at start q.prev_token_end)) (sym x.answer.at.text_is) it
       where
         word : (k : Kind) → is_last k ≡ false → is_right_angle k ≡ false → one_of_kinds read_kinds k ≡ true → one_of_kinds (kind.In ∷ kind.Of ∷ []) k ≡ true → StandsHere q k true → (y : Lexeme) × Lex text q.prev_token_end y × IsTrue (seen goes_through y)
         word k l g r m h =
@@ -548,17 +548,25 @@ module _ {text : List ℕ} {f : Flags} {p q : Parser} {id : NodeId} (a : At text
         z : Stretch text (after (at Expression f)) (such (at Expression f) always) p.prev_token_end nothing q.prev_token_end (tree x.answer.label x.answer.slots) x.answer.pass
         z = none_kept x.answer.verdict n
 
+        strong : NoTargetFrom text f p.prev_token_end
+        strong = by o
+          where
+            by : HeadOperand text f p q id → NoTargetFrom text f p.prev_token_end
+            by (no_target n (inl k)) = k
+            by (no_target n (inr (k, w))) = absurd (m k)
+            by (operand u) = before_these i (simple_none u.answer (h _ _ _ _ u.holds) (e _ _ _ _ u.holds))
+
         it : Mark (goal q) text (no_target_at start q.prev_token_end)
         it = record {
           ordered = let j = x.answer.further in omega arith;
           within = (subst (λ (v : List ℕ). IsCharBoundary v q.prev_token_end) x.answer.at.text_is x.answer.at.at.between).0;
           begins_between = subst (λ (v : ℕ). IsCharBoundary text v) (sym d) (subst (λ (v : List ℕ). IsCharBoundary v p.token.span.start) a.text_is a.at.lies.starts_whole);
           ends_between = subst (λ (v : List ℕ). IsCharBoundary v q.prev_token_end) x.answer.at.text_is x.answer.at.at.between;
-          stands = (inr (underived_there x.answer a z y l f Target (record { start = start; end = q.prev_token_end }) d refl (λ u g. none_read_through i a x.answer z (h _ _ _ _ x.holds) (e _ _ _ _ x.holds) y l (behind t).2 u g)), (refl, refl));
+          stands = (inr (underived_there x.answer a z y l f Target (record { start = start; end = q.prev_token_end }) d refl (λ u g. strong.no (tree u.label u.slots end) end q.prev_token_end (x.answer.pass (last y)) (last y) (lexed_there x.answer a z y l) (is_such g refl) ((behind t).2, refl))), (refl, refl));
         }
 
 -- as a call needs it
-pub literal_read : {start kept : ℕ} {id : NodeId} {q : Parser} (h : HeadExpressionRead start id kept q) → OfTree q id (λ lo hi l cs. is_literal l.kind ≡ true) → LiteralRead start id kept q
+pub literal_read : {b : Bool} {start kept : ℕ} {id : NodeId} {q : Parser} (h : HeadExpressionRead b start id kept q) → OfTree q id (λ lo hi l cs. is_literal l.kind ≡ true) → LiteralRead start id kept q
 literal_read {start} {kept} {id} {q} h t = by h.operand
   where
     by : HeadOperand h.text h.flags h.first q id → LiteralRead start id kept q
@@ -608,5 +616,5 @@ part_from is_await p q w r e h = subst (λ (v : Parser). TakesPartWithoutIn is_a
 pub cover_is : (q : Parser) (id : NodeId) (r s : Option NodeId) → r ≡ s → OfTree q id (λ lo hi l cs. IsTarget q.nodes lo hi l cs r) → OfTree q id (λ lo hi l cs. IsTarget q.nodes lo hi l cs s)
 cover_is q id r s e h = subst (λ (v : Option NodeId). OfTree q id (λ lo hi l cs. IsTarget q.nodes lo hi l cs v)) e h
 
-pub head_marked : {start kept : ℕ} {id : NodeId} {q : Parser} → HeadExpressionRead start id kept q → OfTree q id (λ lo hi l cs. is_literal l.kind ≡ false) → OfTree q id (λ lo hi l cs. target_of l cs ≡ None) → ThroughHere q true → length q.errors ≡ kept → Mark (goal q) q.text (no_target_at start q.prev_token_end)
-head_marked r h e t n = none_marked r.begins r.no_in r.read r.operand h e t _ r.start_is (n ∙ r.kept_is)
+pub head_marked : {start kept : ℕ} {id : NodeId} {q : Parser} → HeadExpressionRead false start id kept q → OfTree q id (λ lo hi l cs. is_literal l.kind ≡ false) → OfTree q id (λ lo hi l cs. target_of l cs ≡ None) → ThroughHere q true → length q.errors ≡ kept → Mark (goal q) q.text (no_target_at start q.prev_token_end)
+head_marked r h e t n = none_marked r.begins r.no_in r.read r.operand h e (r.begins_with refl) t _ r.start_is (n ∙ r.kept_is)

@@ -100,13 +100,14 @@ IsAsyncAlone first p = (first.kind ≡ kind.Async) × (first.escaped ≡ false) 
 abbrev pub ChecksAsync : Bool → Token → Parser → Parser → Type 0
 ChecksAsync w first p q = ((w ≡ false) × IsAsyncAlone first p × StandsHere p kind.Of true × KeepsOne (unrelated_at fault.ForLoopAsyncOf first.span) p q) ⊎ ((w ≡ false → IsAsyncAlone first p → StandsHere p kind.Of true → ⊥) × (q ≡ p))
 
--- An expression was read up to this state, by a call before which so many diagnostics were kept; `in` or `of` stands behind it.
-pub record HeadExpressionRead (start : ℕ) (id : NodeId) (kept : ℕ) (q : Parser) : Type 0 where
+-- An expression was read up to this state, by a call before which so many diagnostics were kept; it begins with `async`, or it needn't. `in` or `of` stands behind it.
+pub record HeadExpressionRead (begins_async : Bool) (start : ℕ) (id : NodeId) (kept : ℕ) (q : Parser) : Type 0 where
   pub text : List ℕ
   pub flags : Flags
   pub first : Parser
   pub begins : At text flags first
   pub no_in : flags.in_ ≡ false
+  pub begins_with : begins_async ≡ false → first.token.kind ≡ kind.Async → ⊥
   pub start_is : start ≡ first.token.span.start
   pub kept_is : kept ≡ length first.errors
   pub read : Numbered text flags (at Expression flags) first q id

@@ -83,12 +83,13 @@ fn parse_head_expression<C: ParserConfig, N: Nested<C>>(
     let start = p.cur_start();
     let kept = kept_so_far(p);
     let first = p.cur_token();
+    let begins_async = p.at(Kind::Async);
     let is_let = stands(p, Kind::Let);
     let expression = parse_sequence_expression(p, nested)?;
     if !goes_through(p) {
         return Ok(expression);
     }
-    let target = head_target(p, start, expression, kept)?;
+    let target = head_target(p, start, expression, kept, begins_async)?;
     let span = p.end_span(start);
     check_let(p, is_let, span)?;
     check_async(p, first, is_await)?;
@@ -145,19 +146,21 @@ fn check_let<C: ParserConfig>(
     Ok(())
 }
 
-/// The target that an expression before `in` or `of` stands for, which begins at a place, when so many diagnostics were kept.
+/// The target that an expression before `in` or `of` stands for, which begins at a place, when so many diagnostics were kept;
+/// with `async` or not. Where it is none, and begins with `async`, what stands behind it is told.
 fn head_target<C: ParserConfig>(
     p: &mut ParserImpl<'_, C>,
     start: u32,
     expression: NodeId,
     kept: usize,
+    begins_async: bool,
 ) -> Result<NodeId, Stop>
     requires at { Standing p.old }
     requires start { start ≤ p.old.prev_token_end }
     requires whole { p.old.cut ≡ false }
     requires sign { EndsTarget p.old }
     requires through { ThroughHere p.old true }
-    requires read { HeadExpressionRead start expression kept p.old }
+    requires read { HeadExpressionRead begins_async start expression kept p.old }
     ensures { TakesHeadTarget start expression kept p.old p.new result }
 {
     if is_array_or_object(p, expression) {
@@ -165,7 +168,12 @@ fn head_target<C: ParserConfig>(
     }
     match cover(p, expression) {
         Some(target) => Ok(target),
-        None => Err(refuse_target(p, start, kept)),
+        None => {
+            if begins_async {
+                return Err(p.set_unexpected());
+            }
+            Err(refuse_target(p, start, kept))
+        }
     }
 }
 

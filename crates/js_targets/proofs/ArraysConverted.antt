@@ -67,7 +67,7 @@ module _ (text : List ℕ) (f : Flags) (w : f.wide ≡ false) (v : f.cover ≡ t
       }
 
 -- a literal's right edge is its own
-pub literal_row : (o : Bool) (k : NodeKind) (p : Op) (fl : ℕ) (s : TreeSpan) (cs : Slots) → k ≡ literal_kind o → row_of (record { kind = k; op = p; flags = fl; span = s }) cs ≡ after_expression
+literal_row : (o : Bool) (k : NodeKind) (p : Op) (fl : ℕ) (s : TreeSpan) (cs : Slots) → k ≡ literal_kind o → row_of (record { kind = k; op = p; flags = fl; span = s }) cs ≡ after_expression
 literal_row false k p fl s cs e = subst (λ (v : NodeKind). row_of (record { kind = v; op = p; flags = fl; span = s }) cs ≡ after_expression) (sym e) refl
 literal_row true k p fl s cs e = subst (λ (v : NodeKind). row_of (record { kind = v; op = p; flags = fl; span = s }) cs ≡ after_expression) (sym e) refl
 

@@ -2,31 +2,30 @@
 use Rattle.std.proofs.Common.{ℕ, ◌≡◌, List, Bool, true, false, not, IsTrue, Some, None, refl, sym, ap, subst, arith, ◌∙◌}
 use Rattle.std.proofs.lemmas.Bool.{false≢true}
 use Rattle.js_grammar.specs.Trees.{Label, Slots, Tree, end, tree}
-use Rattle.js_grammar.specs.Grammar.{Derives, Lexeme, Lexemes, here, last, seen, such, nothing, alt, Takes, is_such, is_left, is_right}
+use Rattle.js_grammar.specs.Grammar.{Lexeme, Lexemes, here, seen, such, nothing, alt, Takes, is_such, is_left, is_right}
 use Rattle.js_grammar.specs.Insertion.{Row, after_expression}
 use Rattle.js_grammar.specs.Lexed.{Lexes}
 use Rattle.js_grammar.specs.Parsing.{always, plain, Admits, Fails}
-use Rattle.js_grammar.specs.Productions.{Flags, at, Expression, Short, SimpleTarget, Target, ArrayTarget, ObjectTarget}
+use Rattle.js_grammar.specs.Productions.{Flags, at, Short, SimpleTarget, Target, ArrayTarget, ObjectTarget}
 use Rattle.js_grammar.specs.Productions.{sym as symbol}
 use Rattle.js_grammar.specs.Table.{rule, rule_of}
-use Rattle.js_grammar.specs.Follow.{after, looser, row_of}
-use Rattle.js_grammar.proofs.Calculus.{ends, fails_alt, fails_rule, here_at, label_is, left, right, slots_are, weaken_fails_on}
+use Rattle.js_grammar.specs.Follow.{after, looser}
+use Rattle.js_grammar.proofs.Calculus.{ends, fails_alt, fails_rule, here_at, label_is, left, right, weaken_fails_on}
 use Rattle.js_grammar.proofs.FollowLaws.{admits}
 use Rattle.js_grammar.proofs.Looks.{covers, covered}
 use Rattle.js_tree.specs.declared.id.NodeId.{NodeId}
 use Rattle.js_cursor.specs.Parsers.{Parser}
-use Rattle.js_parsing.specs.Answers.{Answer, Stretch, Underived}
+use Rattle.js_parsing.specs.Answers.{Answer, Underived}
 use Rattle.js_parsing.specs.Lexemes.{Lex}
-use Rattle.js_parsing.specs.States.{At}
 use Rattle.js_parsing.proofs.Paths.{Path, ◌⟼◌, by_symbol_as}
 use Rattle.js_parsing.proofs.Verdicts.{either_way}
 use Rattle.js_targets.specs.Taken.{NoTargetFrom, TargetTaken, behind_target, goes_through, target_name}
 use Rattle.js_targets.specs.Targets.{is_literal, is_object, target_of}
 use Rattle.js_targets.proofs.ArraysBeforeSigns.{is_cover, not_wide, target_no_literal}
-use Rattle.js_targets.proofs.ArraysConverted.{literal_row, no_other_there, no_target_unread, sign_admitted, signs, sourced, targets_follow}
-use Rattle.js_targets.proofs.Covers.{lexed_there, of_derived, row_of_target, target_fails, target_path, target_unread}
+use Rattle.js_targets.proofs.ArraysConverted.{no_other_there, no_target_unread, sign_admitted, signs, sourced, targets_follow}
+use Rattle.js_targets.proofs.Covers.{of_derived, row_of_target, target_fails, target_path, target_unread}
 use Rattle.js_targets.proofs.Refused.{literal_no_target}
-use Rattle.js_targets.proofs.Targets.{is_literal_kind, kind_of_literal, of_operand, of_short}
+use Rattle.js_targets.proofs.Targets.{is_literal_kind, kind_of_literal, of_short}
 
 -- ---- what may stand behind a target may stand behind the expression
 
@@ -66,19 +65,17 @@ record AsShort (f : Flags) (us : Slots) (i : ℕ) (ls : Lexemes) (j : ℕ) (rest
   slots : Slots
   takes : Takes rule (such (at Short f) always) end (tree label slots us) i ls us j rest
   fits : (y : Lexeme) → IsTrue (seen (behind_target f.in_) y) → Admits (after (at Short f)) (tree label slots us) y
-  row : row_of label slots ≡ after_expression
-  one : is_literal label.kind ≡ false → target_of label slots ≡ None → ⊥
 
 module _ (text : List ℕ) (f : Flags) (w : f.wide ≡ false) (v : f.cover ≡ true) where
   of_literal : (o : Bool) {us : Slots} {a : Label} {bs : Slots} {i j : ℕ} {ls rest : Lexemes} → Lexes (Lex text) i ls → Takes rule (rule (at (target_name o) f)) end (tree a bs end) i ls end j rest → AsShort f us i ls j rest
-  of_literal o {us} m d = let x = sourced text f w v o {ks = end} {us = us} m d in record { label = x.label; slots = x.slots; takes = x.takes; fits = λ y q. sign_admitted o f x.label x.slots us y x.kind q; row = literal_row o x.label.kind x.label.op x.label.flags x.label.span x.slots x.kind; one = λ n e. false≢true (sym n ∙ is_literal_kind o x.label.kind x.kind) }
+  of_literal o {us} m d = let x = sourced text f w v o {ks = end} {us = us} m d in record { label = x.label; slots = x.slots; takes = x.takes; fits = λ y q. sign_admitted o f x.label x.slots us y x.kind q }
 
   as_short : {ts us : Slots} {i j : ℕ} {ls rest : Lexemes} → Lexes (Lex text) i ls → Takes rule (such (at Target f) always) end ts i ls us j rest → AsShort f us i ls j rest
   unfolding rule rule_of
   as_short {us = us} m (is_such (is_left (is_such {l = a} {cs = bs} d h)) c) =
       let u : Tree = record { label = a; slots = bs } in
       let x = of_derived (of_short f) {ks = end} {us = us} u d in
-      record { label = x.label; slots = x.slots; takes = x.takes; fits = λ y q. target_heads f x.label x.slots us u y x.has (q, refl); row = row_of_target x.label x.slots u x.has; one = λ n e. let k : None ≡ Some u = sym e ∙ x.has in cc }
+      record { label = x.label; slots = x.slots; takes = x.takes; fits = λ y q. target_heads f x.label x.slots us u y x.has (q, refl) }
   as_short m (is_such (is_right (is_left (is_such d h))) c) = of_literal false m d
   as_short m (is_such (is_right (is_right (is_such d h))) c) = of_literal true m d
 
@@ -98,22 +95,6 @@ none_before {text} {f} {p} {q} i x n = record { no = λ ts vs k ls rest l d e. g
         either_way x.verdict
         (λ z. let y = z.goes.only (tree u.label u.slots vs) vs k ls rest l u.takes a in n (here rest) (here_at (Lex text) rest (subst (λ (v : Lexemes). Lexes (Lex text) q.prev_token_end v) (ends y.4).2 y.3)) e.0)
         (λ z. z.no (tree u.label u.slots vs) vs k ls rest l u.takes a)
-
--- ---- an Expression before them that is neither a literal nor a simple target
-
-through_expression : covers goes_through (looser 1 false after_expression) ≡ true
-unfolding covers
-through_expression = refl
-
--- its lexemes are those of no target
-pub none_read_through : {text : List ℕ} {f : Flags} {p q : Parser} → f.in_ ≡ false → At text f p → (x : Answer text f (at Expression f) p q) → Stretch text (after (at Expression f)) (such (at Expression f) always) p.prev_token_end nothing q.prev_token_end (tree x.label x.slots) x.pass → is_literal x.label.kind ≡ false → target_of x.label x.slots ≡ None
-    → (y : Lexeme) → Lex text q.prev_token_end y → IsTrue (seen goes_through y) → (t : Tree) → Derives rule (at Target f) t p.prev_token_end (x.pass (last y)) q.prev_token_end (last y) → ⊥
-none_read_through {text} {f} {p} {q} i a x z n e y l g t d =
-    let m = lexed_there x a z y l in
-    let u = as_short text f (not_wide a) (is_cover a) m (is_such d refl) in
-    let b = admits (at Expression f) (tree u.label u.slots end) y (subst (λ (r : Row). IsTrue (seen (looser 1 f.in_ r) y)) (sym u.row) (subst (λ (c : Bool). IsTrue (seen (looser 1 c after_expression) y)) (sym i) (covered goes_through (looser 1 false after_expression) through_expression y.kind y.newline y.escaped g))) in
-    let v = z.goes.only (tree u.label u.slots end) end q.prev_token_end (x.pass (last y)) (last y) m ((of_operand f).up u.takes) b in
-    u.one (ap (λ (c : Label). is_literal c.kind) (label_is v.2) ∙ n) ((λ j. target_of (label_is v.2 j) (slots_are v.2 j)) ∙ e)
 
 -- ---- what was read
 

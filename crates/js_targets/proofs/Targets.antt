@@ -252,10 +252,6 @@ module _ (f : Flags) where
   pub of_expression : Passes (at Expression f) (at LeftHandSide f)
   of_expression = passes_both expression_line of_assignment
 
-  -- an operand is an Expression
-  pub of_operand : Passes (at Expression f) (at Short f)
-  of_operand = passes_both expression_line (passes_both assignment_line conditional_line)
-
 -- ---- left-hand sides that may be targets
 
 left_hand_side_left : (f : Flags) → left_of (rule (at LeftHandSide f)) ≡ alt (such (at New f) always) (such (at Call f) always)

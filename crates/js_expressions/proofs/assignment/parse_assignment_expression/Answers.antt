@@ -1,5 +1,5 @@
-use Rattle.js_expressions.proofs.HeadOperands.{head_stopped, operand_unmoved, refused_operand, target_part, told_none}
-use Rattle.std.proofs.Common.{arith, ap, sym, ◌∙◌, length}
+use Rattle.js_expressions.proofs.HeadOperands.{head_stopped, operand_unmoved, refused_operand, told_none}
+use Rattle.std.proofs.Common.{arith, ap, inl, sym, ◌∙◌, length}
 use Rattle.std.proofs.lemmas.Bool.{false≢true}
 use Rattle.std.proofs.lemmas.Result.{err_from_is_err_and}
 use Rattle.std.specs.Prelude.{Ok, Err}
@@ -108,4 +108,4 @@ pub parse_yield_expression-requires-clause-word : goal.parse_yield_expression-re
 parse_yield_expression-requires-clause-word g c = c.begins_yield.ensures.0 c.if-begins_yield.true
 
 pub returns-then-begins_yield-clause-operand : goal.returns-then-begins_yield-clause-operand
-returns-then-begins_yield-clause-operand g c = λ text f a i. told_none _ _ _ (target_part (yield_no_target a (c.begins_yield.ensures.0 c.if-begins_yield.true))) c.parse_yield_expression.ensures.node
+returns-then-begins_yield-clause-operand g c = λ text f a i. told_none _ _ _ (inl (yield_no_target a (c.begins_yield.ensures.0 c.if-begins_yield.true))) c.parse_yield_expression.ensures.node

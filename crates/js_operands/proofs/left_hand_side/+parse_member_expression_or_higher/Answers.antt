@@ -134,33 +134,33 @@ returns-in_err-node g t c = λ text f a.
     let x = c.in_ok-callee.ensures text f (deeper m.at h) in
     rw (p.1, p.2) (new_arguments_stop a s.0 s.1 m u h c.leave.ensures x (stands_so c.leave.new.self LParen c.if-stands-4.true c.stands-then-stands-3.ensures) _ _ (c.in_err-node.ensures text f (at_callee a s.0 s.1 m u h c.leave.ensures x)))
 
-pub parse_member_expression_rest-requires-2-clause-at : goal.parse_member_expression_rest-requires-2-clause-at
-parse_member_expression_rest-requires-2-clause-at g t c =
+pub parse_member_expression_rest-requires-then-stands-4-clause-at : goal.parse_member_expression_rest-requires-then-stands-4-clause-at
+parse_member_expression_rest-requires-then-stands-4-clause-at g t c =
     let s = stands_so c.args.p.now New c.if-stands.true c.stands.ensures in
     let m = c.in_ok-advance.ensures _ _ c.requires.at in
     let u = stands_so c.advance.new.p Dot c.if-stands-2.false c.stands-then-stands.ensures in
     let h = c.in_ok-enter.ensures.ok.1 in
     let x = c.in_ok-callee.ensures _ _ (deeper m.at h) in
-    standing (arguments_checked c.requires.at s m u h c.leave.ensures x c.stands-begins_super.ensures c.is_super_alone-super_alone.ensures (stands_so c.leave.new.self LParen c.if-stands-4.true c.stands-then-stands-3.ensures) c.cur_start-start.ensures c.in_ok-node.ensures c.in_ok-check_new_callee.ensures).at
+    standing (arguments_checked c.requires.at s m u h c.leave.ensures x _ c.stands-begins_super.ensures c.is_super_alone-super_alone.ensures (stands_so c.leave.new.self LParen c.if-stands-4.true c.stands-then-stands-3.ensures) c.cur_start-start.ensures c.in_ok-node.ensures c.in_ok-check_new_callee.ensures).at
 
-pub parse_member_expression_rest-requires-2-clause-nests : goal.parse_member_expression_rest-requires-2-clause-nests
-parse_member_expression_rest-requires-2-clause-nests g t c =
+pub parse_member_expression_rest-requires-then-stands-4-clause-nests : goal.parse_member_expression_rest-requires-then-stands-4-clause-nests
+parse_member_expression_rest-requires-then-stands-4-clause-nests g t c =
     let s = stands_so c.args.p.now New c.if-stands.true c.stands.ensures in
     let m = c.in_ok-advance.ensures _ _ c.requires.at in
     let u = stands_so c.advance.new.p Dot c.if-stands-2.false c.stands-then-stands.ensures in
     let h = c.in_ok-enter.ensures.ok.1 in
     let x = c.in_ok-callee.ensures _ _ (deeper m.at h) in
-    let y = arguments_checked c.requires.at s m u h c.leave.ensures x c.stands-begins_super.ensures c.is_super_alone-super_alone.ensures (stands_so c.leave.new.self LParen c.if-stands-4.true c.stands-then-stands-3.ensures) c.cur_start-start.ensures c.in_ok-node.ensures c.in_ok-check_new_callee.ensures in
+    let y = arguments_checked c.requires.at s m u h c.leave.ensures x _ c.stands-begins_super.ensures c.is_super_alone-super_alone.ensures (stands_so c.leave.new.self LParen c.if-stands-4.true c.stands-then-stands-3.ensures) c.cur_start-start.ensures c.in_ok-node.ensures c.in_ok-check_new_callee.ensures in
     nests_later c.requires.nests (taken_room c.requires.at y)
 
-pub parse_member_expression_rest-requires-2-clause-start : goal.parse_member_expression_rest-requires-2-clause-start
-parse_member_expression_rest-requires-2-clause-start g t c =
+pub parse_member_expression_rest-requires-then-stands-4-clause-start : goal.parse_member_expression_rest-requires-then-stands-4-clause-start
+parse_member_expression_rest-requires-then-stands-4-clause-start g t c =
     let s = stands_so c.args.p.now New c.if-stands.true c.stands.ensures in
     let m = c.in_ok-advance.ensures _ _ c.requires.at in
     let u = stands_so c.advance.new.p Dot c.if-stands-2.false c.stands-then-stands.ensures in
     let h = c.in_ok-enter.ensures.ok.1 in
     let x = c.in_ok-callee.ensures _ _ (deeper m.at h) in
-    let i = (arguments_checked c.requires.at s m u h c.leave.ensures x c.stands-begins_super.ensures c.is_super_alone-super_alone.ensures (stands_so c.leave.new.self LParen c.if-stands-4.true c.stands-then-stands-3.ensures) c.cur_start-start.ensures c.in_ok-node.ensures c.in_ok-check_new_callee.ensures).further in
+    let i = (arguments_checked c.requires.at s m u h c.leave.ensures x _ c.stands-begins_super.ensures c.is_super_alone-super_alone.ensures (stands_so c.leave.new.self LParen c.if-stands-4.true c.stands-then-stands-3.ensures) c.cur_start-start.ensures c.in_ok-node.ensures c.in_ok-check_new_callee.ensures).further in
     let e = c.cur_start-start.ensures in omega arith
 
 pub returns-then-stands-4 : goal.returns-then-stands-4
@@ -170,7 +170,7 @@ returns-then-stands-4 g t c = λ text f a.
     let u = stands_so c.advance.new.p Dot c.if-stands-2.false c.stands-then-stands.ensures in
     let h = c.in_ok-enter.ensures.ok.1 in
     let x = c.in_ok-callee.ensures text f (deeper m.at h) in
-    c.parse_member_expression_rest-2.ensures text f c.args.p.now c.cur_start-start.ensures (arguments_checked a s m u h c.leave.ensures x c.stands-begins_super.ensures c.is_super_alone-super_alone.ensures (stands_so c.leave.new.self LParen c.if-stands-4.true c.stands-then-stands-3.ensures) c.cur_start-start.ensures c.in_ok-node.ensures c.in_ok-check_new_callee.ensures)
+    c.parse_member_expression_rest-then-stands-4.ensures text f c.args.p.now c.cur_start-start.ensures (arguments_checked a s m u h c.leave.ensures x _ c.stands-begins_super.ensures c.is_super_alone-super_alone.ensures (stands_so c.leave.new.self LParen c.if-stands-4.true c.stands-then-stands-3.ensures) c.cur_start-start.ensures c.in_ok-node.ensures c.in_ok-check_new_callee.ensures)
 
 pub returns-then-stands : goal.returns-then-stands
 returns-then-stands g t c = λ text f a.
@@ -180,26 +180,26 @@ returns-then-stands g t c = λ text f a.
     let h = c.in_ok-enter.ensures.ok.1 in
     let x = c.in_ok-callee.ensures text f (deeper m.at h) in
     let y = new_taken a s.0 s.1 m u h c.leave.ensures x (stands_so c.leave.new.self QuestionDot c.if-stands-3.false c.stands-then-stands-2.ensures) (stands_so c.leave.new.self LParen c.if-stands-4.false c.stands-then-stands-3.ensures) (c.end_span-span.ensures.start ∙ c.cur_start-start.ensures) c.end_span-span.ensures.end c.in_ok-node-2.ensures in
-    bare_checked a s m u h c.leave.ensures x c.stands-begins_super.ensures c.is_super_alone-super_alone.ensures y (ap (λ (z : Parser). z.prev_token_end) c.in_ok-node-2.ensures.stays) c.in_ok-check_new_callee-2.ensures
+    bare_checked a s m u h c.leave.ensures x _ c.stands-begins_super.ensures c.is_super_alone-super_alone.ensures y (ap (λ (z : Parser). z.prev_token_end) c.in_ok-node-2.ensures.stays) c.in_ok-check_new_callee-2.ensures
 
 pub returns-in_err-primary : goal.returns-in_err-primary
 returns-in_err-primary g t c = λ text f a.
     let p = err_from_is_err_and c.from_residual-in_err-primary.result c.from_residual-in_err-primary.ensures.1 in
     rw (p.1, p.2) (stops_so _ _ _ (λ n. no_head a (stands_so c.args.p.now New c.if-stands.false c.stands.ensures) (stands_so c.args.p.now Super c.if-stands-5.false c.stands-2.ensures) n) (c.in_err-primary.ensures text f a))
 
-pub parse_member_expression_rest-requires-3-clause-at : goal.parse_member_expression_rest-requires-3-clause-at
-parse_member_expression_rest-requires-3-clause-at g t c = standing (c.in_ok-primary.ensures _ _ c.requires.at).answer.at
+pub parse_member_expression_rest-requires-2-clause-at : goal.parse_member_expression_rest-requires-2-clause-at
+parse_member_expression_rest-requires-2-clause-at g t c = standing (c.in_ok-primary.ensures _ _ c.requires.at).answer.at
 
-pub parse_member_expression_rest-requires-3-clause-nests : goal.parse_member_expression_rest-requires-3-clause-nests
-parse_member_expression_rest-requires-3-clause-nests g t c =
+pub parse_member_expression_rest-requires-2-clause-nests : goal.parse_member_expression_rest-requires-2-clause-nests
+parse_member_expression_rest-requires-2-clause-nests g t c =
     let x = (c.in_ok-primary.ensures _ _ c.requires.at).answer in
     nests_later c.requires.nests (later_room (let a = x.further in let b = c.requires.at.behind in omega arith) x.same)
 
-pub parse_member_expression_rest-requires-3-clause-start : goal.parse_member_expression_rest-requires-3-clause-start
-parse_member_expression_rest-requires-3-clause-start g t c = let i = (c.in_ok-primary.ensures _ _ c.requires.at).answer.further in let s = c.cur_start-start.ensures in omega arith
+pub parse_member_expression_rest-requires-2-clause-start : goal.parse_member_expression_rest-requires-2-clause-start
+parse_member_expression_rest-requires-2-clause-start g t c = let i = (c.in_ok-primary.ensures _ _ c.requires.at).answer.further in let s = c.cur_start-start.ensures in omega arith
 
 pub returns : goal.returns
-returns g t c = λ text f a. c.parse_member_expression_rest-3.ensures text f c.args.p.now c.cur_start-start.ensures (member_init a (stands_so c.args.p.now New c.if-stands.false c.stands.ensures) (stands_so c.args.p.now Super c.if-stands-5.false c.stands-2.ensures) (c.in_ok-primary.ensures text f a))
+returns g t c = λ text f a. c.parse_member_expression_rest-2.ensures text f c.args.p.now c.cur_start-start.ensures (member_init a (stands_so c.args.p.now New c.if-stands.false c.stands.ensures) (stands_so c.args.p.now Super c.if-stands-5.false c.stands-2.ensures) (c.in_ok-primary.ensures text f a))
 
 pub refuse_chain-requires-clause-at : goal.refuse_chain-requires-clause-at
 refuse_chain-requires-clause-at g t c =
@@ -227,7 +227,7 @@ check_new_callee-requires-clause-at g t c =
     let u = stands_so c.advance.new.p Dot c.if-stands-2.false c.stands-then-stands.ensures in
     let h = c.in_ok-enter.ensures.ok.1 in
     let x = c.in_ok-callee.ensures _ _ (deeper m.at h) in
-    (arguments_at c.requires.at s m u h c.leave.ensures x c.stands-begins_super.ensures c.is_super_alone-super_alone.ensures (stands_so c.leave.new.self LParen c.if-stands-4.true c.stands-then-stands-3.ensures) c.cur_start-start.ensures c.in_ok-node.ensures).at
+    (arguments_at c.requires.at s m u h c.leave.ensures x _ c.stands-begins_super.ensures c.is_super_alone-super_alone.ensures (stands_so c.leave.new.self LParen c.if-stands-4.true c.stands-then-stands-3.ensures) c.cur_start-start.ensures c.in_ok-node.ensures).at
 
 pub check_new_callee-requires-clause-start : goal.check_new_callee-requires-clause-start
 check_new_callee-requires-clause-start g t c =
@@ -236,7 +236,7 @@ check_new_callee-requires-clause-start g t c =
     let u = stands_so c.advance.new.p Dot c.if-stands-2.false c.stands-then-stands.ensures in
     let h = c.in_ok-enter.ensures.ok.1 in
     let x = c.in_ok-callee.ensures _ _ (deeper m.at h) in
-    let i = arguments_before c.requires.at s m u h c.leave.ensures x c.stands-begins_super.ensures c.is_super_alone-super_alone.ensures (stands_so c.leave.new.self LParen c.if-stands-4.true c.stands-then-stands-3.ensures) c.cur_start-start.ensures c.in_ok-node.ensures in
+    let i = arguments_before c.requires.at s m u h c.leave.ensures x _ c.stands-begins_super.ensures c.is_super_alone-super_alone.ensures (stands_so c.leave.new.self LParen c.if-stands-4.true c.stands-then-stands-3.ensures) c.cur_start-start.ensures c.in_ok-node.ensures in
     let e = c.cur_start-callee_start.ensures in omega arith
 
 pub check_new_callee-requires-clause-mark : goal.check_new_callee-requires-clause-mark
@@ -246,7 +246,7 @@ check_new_callee-requires-clause-mark g t c = λ j.
     let u = stands_so c.advance.new.p Dot c.if-stands-2.false c.stands-then-stands.ensures in
     let h = c.in_ok-enter.ensures.ok.1 in
     let x = c.in_ok-callee.ensures _ _ (deeper m.at h) in
-    arguments_marked c.requires.at s m u h c.leave.ensures x c.stands-begins_super.ensures c.is_super_alone-super_alone.ensures (stands_so c.leave.new.self LParen c.if-stands-4.true c.stands-then-stands-3.ensures) c.cur_start-start.ensures c.in_ok-node.ensures c.cur_start-callee_start.ensures j
+    arguments_marked c.requires.at s m u h c.leave.ensures x _ c.stands-begins_super.ensures c.is_super_alone-super_alone.ensures (stands_so c.leave.new.self LParen c.if-stands-4.true c.stands-then-stands-3.ensures) c.cur_start-start.ensures c.in_ok-node.ensures c.cur_start-callee_start.ensures j
 
 pub check_new_callee-requires-2-clause-at : goal.check_new_callee-requires-2-clause-at
 check_new_callee-requires-2-clause-at g t c =
@@ -265,7 +265,7 @@ check_new_callee-requires-2-clause-start g t c =
     let h = c.in_ok-enter.ensures.ok.1 in
     let x = c.in_ok-callee.ensures _ _ (deeper m.at h) in
     let y = new_taken c.requires.at s.0 s.1 m u h c.leave.ensures x (stands_so c.leave.new.self QuestionDot c.if-stands-3.false c.stands-then-stands-2.ensures) (stands_so c.leave.new.self LParen c.if-stands-4.false c.stands-then-stands-3.ensures) (c.end_span-span.ensures.start ∙ c.cur_start-start.ensures) c.end_span-span.ensures.end c.in_ok-node-2.ensures in
-    let i = bare_before c.requires.at s m u h c.leave.ensures x c.stands-begins_super.ensures c.is_super_alone-super_alone.ensures y (ap (λ (z : Parser). z.prev_token_end) c.in_ok-node-2.ensures.stays) in
+    let i = bare_before c.requires.at s m u h c.leave.ensures x _ c.stands-begins_super.ensures c.is_super_alone-super_alone.ensures y (ap (λ (z : Parser). z.prev_token_end) c.in_ok-node-2.ensures.stays) in
     let e = c.cur_start-callee_start.ensures in omega arith
 
 pub check_new_callee-requires-2-clause-mark : goal.check_new_callee-requires-2-clause-mark
@@ -276,4 +276,4 @@ check_new_callee-requires-2-clause-mark g t c = λ j.
     let h = c.in_ok-enter.ensures.ok.1 in
     let x = c.in_ok-callee.ensures _ _ (deeper m.at h) in
     let y = new_taken c.requires.at s.0 s.1 m u h c.leave.ensures x (stands_so c.leave.new.self QuestionDot c.if-stands-3.false c.stands-then-stands-2.ensures) (stands_so c.leave.new.self LParen c.if-stands-4.false c.stands-then-stands-3.ensures) (c.end_span-span.ensures.start ∙ c.cur_start-start.ensures) c.end_span-span.ensures.end c.in_ok-node-2.ensures in
-    bare_marked c.requires.at s m u h c.leave.ensures x c.stands-begins_super.ensures c.is_super_alone-super_alone.ensures y (ap (λ (z : Parser). z.prev_token_end) c.in_ok-node-2.ensures.stays) c.cur_start-callee_start.ensures j
+    bare_marked c.requires.at s m u h c.leave.ensures x _ c.stands-begins_super.ensures c.is_super_alone-super_alone.ensures y (ap (λ (z : Parser). z.prev_token_end) c.in_ok-node-2.ensures.stays) c.cur_start-callee_start.ensures j

@@ -1,12 +1,19 @@
 use Rattle.std.proofs.Common.{ap, ◌∙◌}
+use Rattle.std.proofs.lemmas.Result.{err_from_is_err_and}
 use Rattle.js_base.specs.Kinds.{same_kind}
 use Rattle.js_base.specs.declared.kind.Kind.TheVariants.{RAngle, Target}
 use Rattle.js_parsing.specs.Moves.{unpassable}
+use Rattle.js_parsing.proofs.Giving.{memory_stops}
 use Rattle.js_parsing.proofs.Here.{uncut}
 use Rattle.js_parsing.proofs.Moving.{standing}
 use Rattle.js_operands.proofs.Members.{stands_so}
 use Rattle.js_operands.proofs.NewTargets.{behind_dot, outside_marked, start_before, target_stops, target_taken}
 use Rattle.js_operands.proofs.new_target.parse_new_target.Goals as goal
+
+pub returns-in_err-advance : goal.returns-in_err-advance
+returns-in_err-advance g c =
+    let p = err_from_is_err_and c.from_residual.result c.from_residual.ensures.1 in
+    rw (p.1, p.2) (λ text f o a s e m. memory_stops _ _ _ _ c.in_err-advance.ensures)
 
 pub advance-requires-clause-whole : goal.advance-requires-clause-whole
 advance-requires-clause-whole g c = (uncut c.requires.at (ap (same_kind RAngle) c.requires.dot.0), ap unpassable c.requires.dot.0)

@@ -1,5 +1,8 @@
-use Rattle.std.proofs.Common.{None, Some, sym, ◌∙◌}
+use Rattle.std.proofs.Common.{Bool, None, Some, subst, sym, ◌∙◌}
+use Rattle.js_parsing.proofs.Classes.{unexpected_ends}
+use Rattle.js_operands.proofs.NewTargets.{ends_so}
 use Rattle.js_expressions.proofs.Refusals.{stood}
+use Rattle.js_statements.specs.ForParts.{HeadExpressionRead}
 use Rattle.js_statements.proofs.ForParts.{cover_is, head_marked, literal_outcome, literal_read, simple_stops, simple_taken}
 use Rattle.js_statements.proofs.for_parts.head_target.Goals as goal
 
@@ -16,10 +19,13 @@ pub cover-requires : goal.cover-requires
 cover-requires g c = stood c.requires.read.read
 
 pub refuse_target-requires-clause-marked : goal.refuse_target-requires-clause-marked
-refuse_target-requires-clause-marked g c = λ n. head_marked c.requires.read (λ lo hi l cs h. sym (c.is_array_or_object.ensures lo hi l cs h) ∙ c.if-is_array_or_object.false) (cover_is c.args.p.now c.args.expression c.cover.result None c.in-None.is c.cover.ensures) c.requires.through n
+refuse_target-requires-clause-marked g c = λ n. head_marked (subst (λ (b : Bool). HeadExpressionRead b c.args.start c.args.expression c.args.kept c.args.p.now) c.if-begins_async.false c.requires.read) (λ lo hi l cs h. sym (c.is_array_or_object.ensures lo hi l cs h) ∙ c.if-is_array_or_object.false) (cover_is c.args.p.now c.args.expression c.cover.result None c.in-None.is c.cover.ensures) c.requires.through n
 
 pub returns-in-Some : goal.returns-in-Some
 returns-in-Some g c = λ text f first a i s k x o. simple_taken a i x o (cover_is c.args.p.now c.args.expression c.cover.result (Some c.in-Some.target) c.in-Some.is c.cover.ensures)
+
+pub returns-then-begins_async : goal.returns-then-begins_async
+returns-then-begins_async g c = λ text f first a i s k x o. simple_stops a i x o (λ lo hi l cs h. sym (c.is_array_or_object.ensures lo hi l cs h) ∙ c.if-is_array_or_object.false) (cover_is c.args.p.now c.args.expression c.cover.result None c.in-None.is c.cover.ensures) _ c.set_unexpected.result (ends_so _ _ _ c.set_unexpected.result (λ d e. unexpected_ends c.requires.at.at d e) c.set_unexpected.ensures)
 
 pub returns-in-None : goal.returns-in-None
 returns-in-None g c = λ text f first a i s k x o. simple_stops a i x o (λ lo hi l cs h. sym (c.is_array_or_object.ensures lo hi l cs h) ∙ c.if-is_array_or_object.false) (cover_is c.args.p.now c.args.expression c.cover.result None c.in-None.is c.cover.ensures) _ c.refuse_target.result c.refuse_target.ensures

@@ -1,4 +1,5 @@
-use Rattle.std.proofs.Common.{Bool, ap, arith, inr, refl, subst, ◌∙◌}
+use Rattle.std.proofs.Common.{Bool, ap, arith, inr, refl, subst, sym, ◌∙◌}
+use Rattle.std.proofs.lemmas.Bool.{false≢true}
 use Rattle.std.proofs.lemmas.Result.{err_from_is_err_and}
 use Rattle.js_base.specs.Contexts.{has_flag, in_flag}
 use Rattle.js_base.specs.declared.kind.Kind.TheVariants.{Let}
@@ -37,6 +38,7 @@ head_target-requires-clause-read g c = record {
   first = c.args.p.now;
   begins = c.requires.at;
   no_in = c.requires.no_in;
+  begins_with = λ e k. false≢true (sym e ∙ c.at-begins_async.ensures.1 k);
   start_is = c.cur_start-start.ensures;
   kept_is = c.kept_so_far-kept.ensures;
   read = c.in_ok-expression.ensures.answers _ _ c.requires.at;
