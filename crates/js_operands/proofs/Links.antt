@@ -161,7 +161,7 @@ module _ {text : List ℕ} (f : Flags) where
 
   -- the word `super`
   pub no_super_word : {X : Test} {s : ℕ} → NoneIs text s super_kind → Fails rule (Lex text) X end (such (at Super f) always) s
-  no_super_word n = fails_here firsts (λ y l h. n y l (sym (kind_of_same super_kind y.kind h)))
+  no_super_word n = fails_here firsts (λ y l h. n y l (sym (kind_of_same super_kind y.kind (and_parts _ _ h).0)))
 
   member_foot : {X : Test} {s : ℕ} → Goes rule (Lex text) X end (base_of is_member Member f) s (member_feet f) s (λ us. us) (still 0)
   member_foot {X} {s} = subst (λ (g : G). Goes rule (Lex text) X end (base_of is_member Member f) s g s (λ us. us) (still 0)) (member_left f) (lives (base_of is_member Member f))

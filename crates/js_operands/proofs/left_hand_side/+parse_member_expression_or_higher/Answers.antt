@@ -248,8 +248,8 @@ check_new_callee-requires-clause-mark g t c = λ j.
     let x = c.in_ok-callee.ensures _ _ (deeper m.at h) in
     arguments_marked c.requires.at s m u h c.leave.ensures x _ c.stands-begins_super.ensures c.is_super_alone-super_alone.ensures (stands_so c.leave.new.self LParen c.if-stands-4.true c.stands-then-stands-3.ensures) c.cur_start-start.ensures c.in_ok-node.ensures c.cur_start-callee_start.ensures j
 
-pub check_new_callee-requires-2-clause-at : goal.check_new_callee-requires-2-clause-at
-check_new_callee-requires-2-clause-at g t c =
+pub check_new_callee-requires-then-stands-clause-at : goal.check_new_callee-requires-then-stands-clause-at
+check_new_callee-requires-then-stands-clause-at g t c =
     let s = stands_so c.args.p.now New c.if-stands.true c.stands.ensures in
     let m = c.in_ok-advance.ensures _ _ c.requires.at in
     let u = stands_so c.advance.new.p Dot c.if-stands-2.false c.stands-then-stands.ensures in
@@ -257,8 +257,8 @@ check_new_callee-requires-2-clause-at g t c =
     let x = c.in_ok-callee.ensures _ _ (deeper m.at h) in
     (new_taken c.requires.at s.0 s.1 m u h c.leave.ensures x (stands_so c.leave.new.self QuestionDot c.if-stands-3.false c.stands-then-stands-2.ensures) (stands_so c.leave.new.self LParen c.if-stands-4.false c.stands-then-stands-3.ensures) (c.end_span-span.ensures.start ∙ c.cur_start-start.ensures) c.end_span-span.ensures.end c.in_ok-node-2.ensures).0.at.at
 
-pub check_new_callee-requires-2-clause-start : goal.check_new_callee-requires-2-clause-start
-check_new_callee-requires-2-clause-start g t c =
+pub check_new_callee-requires-then-stands-clause-start : goal.check_new_callee-requires-then-stands-clause-start
+check_new_callee-requires-then-stands-clause-start g t c =
     let s = stands_so c.args.p.now New c.if-stands.true c.stands.ensures in
     let m = c.in_ok-advance.ensures _ _ c.requires.at in
     let u = stands_so c.advance.new.p Dot c.if-stands-2.false c.stands-then-stands.ensures in
@@ -268,8 +268,8 @@ check_new_callee-requires-2-clause-start g t c =
     let i = bare_before c.requires.at s m u h c.leave.ensures x _ c.stands-begins_super.ensures c.is_super_alone-super_alone.ensures y (ap (λ (z : Parser). z.prev_token_end) c.in_ok-node-2.ensures.stays) in
     let e = c.cur_start-callee_start.ensures in omega arith
 
-pub check_new_callee-requires-2-clause-mark : goal.check_new_callee-requires-2-clause-mark
-check_new_callee-requires-2-clause-mark g t c = λ j.
+pub check_new_callee-requires-then-stands-clause-mark : goal.check_new_callee-requires-then-stands-clause-mark
+check_new_callee-requires-then-stands-clause-mark g t c = λ j.
     let s = stands_so c.args.p.now New c.if-stands.true c.stands.ensures in
     let m = c.in_ok-advance.ensures _ _ c.requires.at in
     let u = stands_so c.advance.new.p Dot c.if-stands-2.false c.stands-then-stands.ensures in

@@ -9,11 +9,11 @@ use Rattle.js_operands.proofs.super_word.parse_super_member.Goals as goal
 
 pub returns-in_err-word : goal.returns-in_err-word
 returns-in_err-word g c = λ text f a.
-    let p = err_from_is_err_and c.from_residual-in_err-word.result c.from_residual-in_err-word.ensures.1 in
+    let p = err_from_is_err_and c.from_residual.result c.from_residual.ensures.1 in
     rw (p.1, p.2) (c.in_err-word.ensures text f a)
 
 pub returns-then-stands : goal.returns-then-stands
-returns-then-stands g c = λ text f a. super_headed a c.requires.word (c.in_ok-word.ensures text f a) (stands_so c.parse_super-word.new.p LParen c.if-stands.true c.stands.ensures)
+returns-then-stands g c = λ text f a. super_headed a c.requires.word (c.in_ok-word.ensures text f a) (stands_so c.parse_super.new.p LParen c.if-stands.true c.stands.ensures)
 
 pub parse_super_property-requires-clause-at : goal.parse_super_property-requires-clause-at
 parse_super_property-requires-clause-at g c = standing (c.in_ok-word.ensures _ _ c.requires.at).at
@@ -25,7 +25,7 @@ pub parse_super_property-requires-clause-start : goal.parse_super_property-requi
 parse_super_property-requires-clause-start g c = let i = super_before c.requires.at c.requires.word (c.in_ok-word.ensures _ _ c.requires.at) in let e = c.cur_start-start.ensures in omega arith
 
 pub parse_super_property-requires-clause-uncalled : goal.parse_super_property-requires-clause-uncalled
-parse_super_property-requires-clause-uncalled g c = stands_so c.parse_super-word.new.p LParen c.if-stands.false c.stands.ensures
+parse_super_property-requires-clause-uncalled g c = stands_so c.parse_super.new.p LParen c.if-stands.false c.stands.ensures
 
 pub returns-in_err-member : goal.returns-in_err-member
 returns-in_err-member g c = λ text f a.
