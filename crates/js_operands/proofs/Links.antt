@@ -29,7 +29,7 @@ use Rattle.js_parsing.specs.Answers.{Stretch, Underived}
 use Rattle.js_operands.specs.Templates.{heads, tagged_label}
 use Rattle.js_operands.specs.Members.{Looped, NoBareNew, NoMember, NoSuperCall, SuperWord, before_call, without_arguments, access_kinds, link_kinds, LinkForm, by_name, by_call, by_index, chained, admits as admits_link, OnlyLink, sign_of, node_of, link_label}
 use Rattle.js_operands.specs.declared.left_hand_side.LinkBase.TheVariants.{Member as OfMember'}
-use Rattle.js_parsing.proofs.Dead.{dead, fails_dead, live, lives}
+use Rattle.js_parsing.proofs.Dead.{fails_dead, live, lives}
 use Rattle.js_parsing.proofs.Paths.{reads}
 use Rattle.js_operands.specs.NewTargets.{target_slots}
 

@@ -1,5 +1,5 @@
 -- `new.target` (ECMA-262, 13.3.12): what is derived of it, and what is told where it, or another word, stands behind `new` and a dot.
-use Rattle.std.proofs.Common.{ℕ, ◌≡◌, ◌≤◌, ◌<◌, ◌⊎◌, inl, inr, List, [], ◌∷◌, length, Bool, true, false, not, ◌&&◌, ◌||◌, IsTrue, IsCharBoundary, refl, sym, ap, subst, arith, ◌∙◌}
+use Rattle.std.proofs.Common.{ℕ, ◌≡◌, ◌≤◌, ◌<◌, inl, inr, List, [], ◌∷◌, Bool, true, false, not, ◌&&◌, ◌||◌, IsTrue, IsCharBoundary, refl, sym, ap, subst, arith, ◌∙◌}
 use Rattle.std.specs.Prelude.{Ok}
 use Rattle.std.proofs.lemmas.Bool.{false≢true, and_from, and_parts, or_left}
 use Rattle.js_base.specs.Kinds.{same_kind, one_of_kinds}
@@ -17,9 +17,9 @@ use Rattle.js_grammar.specs.LexicalFaults.{Reached}
 use Rattle.js_grammar.specs.Lexed.{Lex as StandsBehind, all_faults}
 use Rattle.js_grammar.specs.Marks.{Mark, a_lexeme, of_kinds, the_end, the_start}
 use Rattle.js_grammar.specs.Parsing.{Test, always, plain, full, Fails}
-use Rattle.js_grammar.specs.Productions.{G, Flags, at, Primary}
+use Rattle.js_grammar.specs.Productions.{G, Flags, at}
 use Rattle.js_grammar.specs.Productions.{New as new_symbol}
-use Rattle.js_grammar.specs.Table.{rule, rule_of}
+use Rattle.js_grammar.specs.Table.{rule}
 use Rattle.js_grammar.proofs.Looks.{covers, covered, same_self, some_at, some_of}
 use Rattle.js_grammar.proofs.Calculus.{◌▹✗◌, fails_node, fails_under, fails_when, inside_full}
 use Rattle.js_grammar.proofs.First.{starts}
@@ -41,7 +41,7 @@ use Rattle.js_operands.specs.Members.{MemberSoFar, NoMember, NoOther}
 use Rattle.js_operands.specs.NewTargets.{BehindDot, BehindNew, ChecksTarget, TargetOutcome, no_target_at, outside_at, target_slots}
 use Rattle.js_operands.proofs.Links.{member_target, new_target, no_member_new, with_arguments}
 use Rattle.js_operands.proofs.Members.{called_member, new_other, new_skips, no_primary, no_super_at_new}
-use Rattle.js_parsing.specs.Answers.{Stops, Underived, Verdict, unclean}
+use Rattle.js_parsing.specs.Answers.{Stops, Verdict, unclean}
 use Rattle.js_parsing.specs.Classes.{EndsParse, ends_parse}
 use Rattle.js_parsing.specs.Lexemes.{Lex, spot}
 use Rattle.js_parsing.specs.Moves.{MadeHere, Moved, plain_label}

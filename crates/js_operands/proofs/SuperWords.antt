@@ -1,11 +1,11 @@
 -- The word `super` is neither a MemberExpression nor a NewExpression.
-use Rattle.std.proofs.Common.{ℕ, ◌≡◌, Bool, true, false, not, ◌&&◌, IsTrue, List, inl, refl, sym, ap, subst, ◌∙◌}
+use Rattle.std.proofs.Common.{ℕ, ◌≡◌, Bool, true, false, not, ◌&&◌, List, inl, refl, sym, ap, subst, ◌∙◌}
 use Rattle.std.proofs.lemmas.Bool.{false≢true, and_parts}
 use Rattle.js_base.specs.declared.kind.Kind.TheVariants.{Super as super_kind}
 use Rattle.js_grammar.specs.Trees.{Slots, end, tree, Label}
 use Rattle.js_grammar.specs.Grammar.{Lexeme, Lexemes, last, nothing, Takes, alt, never, node, such, when, is_nothing, is_lexeme, is_look, is_text, is_ahead, is_empty_slot, is_seq, is_left, is_right, is_when, is_many, is_commas, is_such, is_marked, is_node, is_ended, is_keep, is_kept}
 use Rattle.js_grammar.specs.Follow.{after}
-use Rattle.js_grammar.specs.Parsing.{Fails, always, full, plain}
+use Rattle.js_grammar.specs.Parsing.{always, full, plain}
 use Rattle.js_grammar.specs.Productions.{G, Flags, Name, Symbol, at, New, Member, Primary, IdentifierReference, Object, FuncExpr, ClassExpr, Template}
 use Rattle.js_grammar.specs.Productions.{sym as symbol}
 use Rattle.js_grammar.specs.Table.{rule, rule_of}

@@ -1,5 +1,5 @@
 -- SuperProperty and SuperCall (ECMA-262, 13.3): what begins with `super`, and what is told of this word where it stands alone or behind `new`.
-use Rattle.std.proofs.Common.{ℕ, ◌≡◌, ◌≤◌, ◌<◌, ◌⊎◌, inl, inr, List, [], ◌∷◌, length, None, Bool, true, false, not, ◌&&◌, IsTrue, IsCharBoundary, refl, sym, ap, subst, arith, ◌∙◌}
+use Rattle.std.proofs.Common.{ℕ, ◌≡◌, ◌≤◌, ◌<◌, inl, inr, List, [], length, Bool, true, false, ◌&&◌, IsCharBoundary, refl, sym, ap, subst, arith, ◌∙◌}
 use Rattle.std.specs.Prelude.{Result, Ok, Err}
 use Rattle.std.proofs.lemmas.Bool.{false≢true, and_parts}
 use Rattle.js_base.specs.Kinds.{same_kind, one_of_kinds}
@@ -10,12 +10,12 @@ use Rattle.js_base.specs.declared.source_type.SourceType.{SourceType}
 use Rattle.js_base.specs.declared.span.Span.{Span}
 use Rattle.js_base.proofs.KindLemmas.{kind_of_same}
 use Rattle.js_grammar.specs.Trees.{Label, Slots, end, tree, no_op, super_expression}
-use Rattle.js_grammar.specs.Grammar.{Lexeme, Lexemes, next, nothing, such}
+use Rattle.js_grammar.specs.Grammar.{Lexemes, next, nothing}
 use Rattle.js_grammar.specs.LexicalFaults.{Reached}
 use Rattle.js_grammar.specs.Lexed.{Lex as StandsBehind, all_faults}
 use Rattle.js_grammar.specs.Marks.{EdgeOf, Mark, a_lexeme, the_end, the_start}
-use Rattle.js_grammar.specs.Parsing.{always, plain, full, Fails}
-use Rattle.js_grammar.specs.Productions.{Flags, at, Primary, Member, Super}
+use Rattle.js_grammar.specs.Parsing.{plain, full}
+use Rattle.js_grammar.specs.Productions.{Flags, at, Primary}
 use Rattle.js_grammar.specs.Table.{rule, rule_of}
 use Rattle.js_grammar.proofs.Calculus.{by_rule, inside_full}
 use Rattle.js_grammar.proofs.FirstClaims.{firsts}
@@ -26,22 +26,22 @@ use Rattle.js_tree.specs.declared.id.NodeId.{NodeId}
 use Rattle.js_tree.specs.declared.kind.NodeKind.TheVariants as node
 use Rattle.js_tree.specs.declared.op.Op.TheVariants as op
 use Rattle.js_tree.specs.Labels.{kind_of}
-use Rattle.js_tree.specs.Nodes.{Node, empty_program, label, node_at}
+use Rattle.js_tree.specs.Nodes.{Node, node_at}
 use Rattle.js_tree.specs.Holding.{Holds, Keeps, Stands, stands}
 use Rattle.js_tree.proofs.HoldingLemmas.{Keeps-made, Keeps-refl, Keeps-trans}
 use Rattle.js_cursor.specs.Moves.{Enters, Keeps as KeepsOne, Leaves, is_last}
 use Rattle.js_cursor.specs.Parsers.{Parser}
 use Rattle.js_cursor.specs.Places.{goal}
 use Rattle.js_cursor.specs.declared.stop.Stop.{Stop}
-use Rattle.js_operands.specs.Members.{access_kinds, HeadOutcome, LinkForm, LinkHere, LinkOutcome, Linked, MemberSoFar, NoAccess, NoBareNew, NoLink, NoMember, NoOther, NoSuperCall, OnlyLink, SuperWord, Taken, WithArguments, a_link, a_super, admits, before_call, by_call, by_index, by_name, chained, is_super_word, link_label, no_link}
+use Rattle.js_operands.specs.Members.{access_kinds, HeadOutcome, LinkForm, LinkHere, LinkOutcome, Linked, MemberSoFar, NoBareNew, NoLink, NoMember, NoOther, NoSuperCall, OnlyLink, SuperWord, Taken, WithArguments, a_link, a_super, admits, by_call, by_index, by_name, chained, is_super_word, link_label, no_link}
 use Rattle.js_operands.specs.Supers.{ChecksCallee, ChecksSuper, PropertyOutcome, SuperTaken, alone_at, callee_from}
 use Rattle.js_operands.specs.declared.left_hand_side.LinkBase.TheVariants as base
 use Rattle.js_operands.proofs.Links.{member_super, no_member_super}
-use Rattle.js_operands.proofs.Members.{Membered, NoneOf, NotSuper, UnlessSuper, at_callee, begun_at, callee_taken, lexeme_there, link_taken, member_form, no_arguments_here, new_with_arguments, no_bare_new, none_behind_new, none_of_links, not_sign, retake}
+use Rattle.js_operands.proofs.Members.{Membered, NoneOf, NotSuper, UnlessSuper, at_callee, begun_at, callee_taken, lexeme_there, link_taken, member_form, new_with_arguments, no_bare_new, none_behind_new, none_of_links, not_sign, retake}
 use Rattle.js_operands.proofs.Operands.{primary_fails, primary_kinds}
 use Rattle.js_parsing.specs.Answers.{Stops, Stretch, Underived, Verdict, clean, unclean}
 use Rattle.js_parsing.specs.Classes.{IsEarly}
-use Rattle.js_parsing.specs.Lexemes.{Lex, Walked, name_kinds, spot}
+use Rattle.js_parsing.specs.Lexemes.{Walked, name_kinds, spot}
 use Rattle.js_parsing.specs.Moves.{MadeHere, Moved, plain_label}
 use Rattle.js_parsing.specs.Stands.{StandsHere}
 use Rattle.js_parsing.specs.States.{At, Same}
@@ -52,7 +52,7 @@ use Rattle.js_parsing.proofs.MadeNodes.{leaf_held, made_lies}
 use Rattle.js_parsing.proofs.Moving.{beside_nodes, same_both, same_with, stops_behind}
 use Rattle.js_parsing.proofs.NameKinds.{no_listed_name}
 use Rattle.js_parsing.proofs.Paths.{label_here, noding, passes, walked_one, walked_to}
-use Rattle.js_parsing.proofs.Signs.{AllAre, NoneIs, stands_not, stands_there}
+use Rattle.js_parsing.proofs.Signs.{NoneIs, stands_not, stands_there}
 use Rattle.js_parsing.proofs.Told.{told_at, told_same}
 use Rattle.js_parsing.proofs.Verdicts.{either_way, grown_then, verdict_of}
 use Rattle.js_parsing.proofs.Verdicts.{after as grown_behind}
@@ -161,8 +161,7 @@ module _ {text : List ℕ} {f : Flags} {o p : Parser} {word : NodeId} (a : At te
   -- arguments
   pub super_headed : StandsHere p LParen true → HeadOutcome text f o p (Ok word)
   super_headed u =
-      let z = stands_there x.at u.0 refl in
-      (
+      let z = stands_there x.at u.0 refl in (
         retake x (λ l cs pass c. a_super (no_member_super f (no_new_here a s) (no_primary_here a s) c.0 (not_sign f by_name false LParen (λ e. cc) z) (not_sign f by_index false LParen (λ e. cc) z)) (no_bare_here a s) c.0 (lexeme_there x.at u refl refl refl)) (λ n. n),
         λ y l. ap (one_of_kinds access_kinds) (z y l).0,
       )

@@ -4,8 +4,6 @@ use Rattle.js_base.specs.declared.diagnostic.Diagnostic.{Diagnostic}
 use Rattle.js_base.specs.declared.diagnostic.DiagnosticKind.TheVariants as fault
 use Rattle.js_base.specs.declared.kind.Kind.TheVariants.{Super as super_kind}
 use Rattle.js_base.specs.declared.span.Span.{Span}
-use Rattle.js_grammar.specs.Trees.{Label, Slots}
-use Rattle.js_grammar.specs.Grammar.{Lexemes}
 use Rattle.js_grammar.specs.Productions.{Flags}
 use Rattle.js_tree.specs.declared.id.NodeId.{NodeId}
 use Rattle.js_cursor.specs.Moves.{Keeps}
