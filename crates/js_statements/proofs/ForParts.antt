@@ -154,19 +154,7 @@ goes_on_let = refl
 abbrev NoAsyncOf : List ℕ → ℕ → Type 0
 NoAsyncOf text s = (y z : Lexeme) → Lex text s y → IsTrue (seen (is kind.Async) y) → Lex text y.to z → IsTrue (seen (is kind.Of) z) → ⊥
 
--- the lookaheads of the line with `of` pass nothing
-behind_looks : {text : List ℕ} {f : Flags} {X : Test} {s : ℕ} (is_await : Bool) → Fails rule (Lex text) X end (symbol Target f) s → Fails rule (Lex text) X end (if_next (other (is kind.Let)) ▸ cond is_await nothing (not_then (is kind.Async) (is kind.Of)) ▸ symbol Target f) s
-behind_looks {text} {f} {X} {s} true n = record { no = λ ts vs k ls rest l d e. go l d e }
-  where
-    go : {ts vs : Slots} {k : ℕ} {ls rest : Lexemes} → Lexes (Lex text) s ls → Takes rule (if_next (other (is kind.Let)) ▸ nothing ▸ symbol Target f) end ts s ls vs k rest → Admits X ts (here rest) → ⊥
-    go l (is_seq (is_look q) (is_seq is_nothing d)) e = n.no _ _ _ _ _ l d e
-behind_looks {text} {f} {X} {s} false n = record { no = λ ts vs k ls rest l d e. go l d e }
-  where
-    go : {ts vs : Slots} {k : ℕ} {ls rest : Lexemes} → Lexes (Lex text) s ls → Takes rule (if_next (other (is kind.Let)) ▸ not_then (is kind.Async) (is kind.Of) ▸ symbol Target f) end ts s ls vs k rest → Admits X ts (here rest) → ⊥
-    go l (is_seq (is_look q) (is_seq (is_left (is_look r)) d)) e = n.no _ _ _ _ _ l d e
-    go l (is_seq (is_look q) (is_seq (is_right (is_ahead (is_seq (is_lexeme r) (is_look o)))) d)) e = n.no _ _ _ _ _ l d e
-
--- no line with `of`, where neither a target with it nor a declaration is derived
+-- No line with `of`, where neither a target with it nor a declaration is derived: its lookaheads pass nothing.
 no_of_part : {text : List ℕ} {f : Flags} {X : Test} {s : ℕ} (is_await : Bool) → Fails rule (Lex text) X end (symbol Target f ▸ tok kind.Of) s → Fails rule (Lex text) (plain full) end (for_binding f) s → Fails rule (Lex text) X end (first_part is_await ending.Of f ▸ tok kind.Of) s
 no_of_part {text} {f} {X} {s} is_await n m = record { no = λ ts vs k ls rest l d e. go is_await l d e }
   where
@@ -362,8 +350,8 @@ module _ {text : List ℕ} {f : Flags} (is_await : Bool) {p : Parser} (a : At te
       no_init_there : ThroughHere q true → NoFirst text is_await ending.Semicolon f p.prev_token_end
       no_init_there h = no_init_through x h
 
-      no_of : StandsHere r kind.Of false → NoFirst text is_await ending.Of f p.prev_token_end
-      no_of s = fails_alt (behind_looks is_await (verdict_not ending.Of (target_verdict ending.Of (λ k. cc)) t.path.at s)) no_binding
+      no_of : StandsHere r kind.Of false → NoFirstPart text is_await ending.Of f p.prev_token_end
+      no_of s = no_of_part is_await (part_fails (verdict_not ending.Of (target_verdict ending.Of (λ k. cc)) t.path.at s) (last_between kind.Of _ (symbol Target f) p.prev_token_end)) no_binding
 
       target_grown : {ds : List Diagnostic} → Grown r.errors ds → Grown p.errors ds
       target_grown g = grown_behind t.path.verdict g
@@ -380,7 +368,7 @@ module _ {text : List ℕ} {f : Flags} (is_await : Bool) {p : Parser} (a : At te
         pass = t.path.pass;
         walked = t.path.walked;
         read = λ e s. verdict_of (reads e s) (λ y. y) (λ n. no_first_part f is_await e n);
-        none = λ e s. no_first_part f is_await e (fails e s);
+        none = λ e s. fails e s;
         kept = λ ds g. target_grown g;
         held = HoldsAll-one target t.holds;
         keeps = t.keeps;
@@ -395,9 +383,9 @@ module _ {text : List ℕ} {f : Flags} (is_await : Bool) {p : Parser} (a : At te
           reads ending.In s = in_verdict
           reads ending.Of s = of_read (stands_word p kind.Let) s
 
-          fails : (e : Ending) → StandsHere r (end_kind e) false → NoFirst text is_await e f p.prev_token_end
-          fails ending.Semicolon s = no_init_there hq
-          fails ending.In s = verdict_not ending.In in_verdict t.path.at s
+          fails : (e : Ending) → StandsHere r (end_kind e) false → NoFirstPart text is_await e f p.prev_token_end
+          fails ending.Semicolon s = no_first_part f is_await ending.Semicolon (no_init_there hq)
+          fails ending.In s = no_first_part f is_await ending.In (verdict_not ending.In in_verdict t.path.at s)
           fails ending.Of s = no_of s
 
       -- one before `of` that may not stand there, which was told
