@@ -13,16 +13,16 @@ use Rattle.js_base.proofs.KindLemmas.{kind_of_same}
 use Rattle.js_grammar.specs.Trees.{Label, Slots, end, tree, variable_declaration, variable_declarator}
 use Rattle.js_grammar.specs.Grammar.{Lexeme, Lexemes, here, seen, is, such, empty_slot, nothing, commas, Takes, is_seq, is_lexeme, is_look, is_ahead, is_left, is_right, is_nothing, is_node, ◌▸◌}
 use Rattle.js_grammar.specs.Lexed.{Lexes}
-use Rattle.js_grammar.specs.Parsing.{Test, plain, full, always, still, Admits, Goes, Fails}
-use Rattle.js_grammar.specs.Productions.{G, Flags, at, branches, if_next, minus_in, mk, not_then, op, other, tok, word_or, Binding, Expression, ForInit, Target}
+use Rattle.js_grammar.specs.Parsing.{Test, plain, full, always, Admits, Fails}
+use Rattle.js_grammar.specs.Productions.{G, Flags, at, branches, minus_in, mk, not_then, op, other, tok, word_or, Binding, Expression, ForInit, Target}
 use Rattle.js_grammar.specs.Productions.{sym as symbol}
 use Rattle.js_grammar.specs.Table.{rule, rule_of, declarator, declarators, for_binding, words_of_declarations}
 use Rattle.js_grammar.specs.FirstSets.{first}
 use Rattle.js_grammar.proofs.First.{starts}
 use Rattle.js_grammar.proofs.FirstClaims.{firsts}
 use Rattle.js_grammar.proofs.FirstRules.{fails_here}
-use Rattle.js_grammar.proofs.Looks.{covers, covered, apart}
-use Rattle.js_grammar.proofs.Calculus.{On, ◌▹◌, ◌▹✗◌, done, ends, here_at, left, looks, part_by, same, part_fails, fails_alt, fails_look, fails_node, fails_rule, inside_full, weaken_fails_on, weaken_on}
+use Rattle.js_grammar.proofs.Looks.{covers, covered}
+use Rattle.js_grammar.proofs.Calculus.{On, ◌▹◌, ◌▹✗◌, done, ends, here_at, left, looks, part_by, part_fails, fails_alt, fails_look, fails_node, fails_rule, inside_full, weaken_fails_on, weaken_on}
 use Rattle.js_tree.specs.declared.op.DeclarationKind.{DeclarationKind}
 use Rattle.js_tree.specs.declared.id.NodeId.{NodeId}
 use Rattle.js_tree.specs.Holding.{Holds, Keeps}
@@ -74,12 +74,12 @@ use Rattle.js_targets.proofs.ArraysConverted.{signs}
 use Rattle.js_targets.proofs.Covers.{lexed_there, underived_there}
 use Rattle.js_targets.proofs.HeadTargets.{before_these, goes_behind, literal_none, literal_path, none_before, simple_none, simple_path}
 use Rattle.js_targets.proofs.Refused.{refused}
-use Rattle.js_expressions.specs.HeadOperands.{HeadOperand, NoTargetPart, NoTargetSeen, OperandOutcome, no_target, operand}
+use Rattle.js_expressions.specs.HeadOperands.{HeadOperand, NoTargetPart, OperandOutcome, no_target, operand}
 use Rattle.js_expressions.proofs.HeadOperands.{seen_part, target_part}
 use Rattle.js_cursor.specs.declared.stop.Stop.TheVariants.{Fatal, NoMemory}
 use Rattle.js_statements.proofs.ForHeads.{last_between, no_empty, no_first_part, on_semicolon}
 use Rattle.js_statements.proofs.Strings.{name_look, name_target}
-use Rattle.js_statements.proofs.WordLookaheads.{IsWord, Leads, async_word, at_once, elsewhere, ends_at, followed, is_word, leads_to, let_word, no_word, not_followed, stands_word, ◌⇒◌, ◌⇒✗◌}
+use Rattle.js_statements.proofs.WordLookaheads.{IsWord, Leads, async_word, at_once, ends_at, followed, is_word, leads_to, let_word, no_word, not_followed, stands_word, ◌⇒◌, ◌⇒✗◌}
 
 -- ---- whatever is read before a lexeme that doesn't stand there
 

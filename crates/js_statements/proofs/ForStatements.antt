@@ -1,20 +1,20 @@
 -- `for` statements, whose head was read (ECMA-262, 14.7.4, 14.7.5).
-use Rattle.std.proofs.Common.{ℕ, ◌≡◌, ◌<◌, ◌⊎◌, inl, inr, cond, List, [], ◌∷◌, ◌++◌, length, Option, Some, Bool, true, false, not, ◌&&◌, ◌||◌, IsTrue, refl, sym, ap, subst, arith, ◌∙◌}
+use Rattle.std.proofs.Common.{ℕ, ◌≡◌, ◌<◌, ◌⊎◌, inl, inr, List, [], ◌∷◌, ◌++◌, length, Option, Some, Bool, true, false, not, ◌&&◌, ◌||◌, IsTrue, refl, sym, ap, subst, arith, ◌∙◌}
 use Rattle.std.proofs.lemmas.Bool.{false≢true, and_parts}
 use Rattle.js_base.specs.declared.diagnostic.Diagnostic.{Diagnostic}
 use Rattle.js_base.specs.declared.kind.Kind.TheVariants as kind
 use Rattle.js_base.specs.declared.span.Span.{Span}
 use Rattle.js_grammar.specs.Conditions.{ends_in_sub, lacks_else}
 use Rattle.js_grammar.specs.Trees.{Span as TreeSpan, Label, Slots, append, end, hole, tree, no_op}
-use Rattle.js_grammar.specs.Grammar.{Lexeme, Lexemes, Look, next, last, here, seen, is, exact, such, nothing, alt, when, Takes, is_seq, is_lexeme, is_such, is_left, is_right, is_look, is_ahead, is_node, is_nothing, is_empty_slot, ◌▸◌, ◌◇◌}
+use Rattle.js_grammar.specs.Grammar.{Lexeme, Lexemes, Look, here, seen, exact, such, nothing, alt, when, Takes, is_seq, is_lexeme, is_such, is_left, is_right, is_look, is_ahead, is_node, is_nothing, is_empty_slot, ◌▸◌}
 use Rattle.js_grammar.specs.Parsing.{Test, plain, full, behind, always, still, Admits, Goes, Fails}
-use Rattle.js_grammar.specs.Productions.{G, Flags, at, await_flag, flag, if_next, make, not_then, only, other, parens, slot, tok, Expression, For, ForIn, ForOf, Sub, Target}
+use Rattle.js_grammar.specs.Productions.{G, Flags, at, await_flag, flag, make, only, parens, slot, tok, Expression, For, ForIn, ForOf, Sub}
 use Rattle.js_grammar.specs.Productions.{Statement as AStatement}
 use Rattle.js_grammar.specs.Productions.{sym as symbol}
-use Rattle.js_grammar.specs.Table.{rule, rule_of, for_binding}
+use Rattle.js_grammar.specs.Table.{rule, rule_of}
 use Rattle.js_grammar.specs.Follow.{behind_statement, by_tree, edge_of, widest}
-use Rattle.js_grammar.proofs.Looks.{covers, covered}
-use Rattle.js_grammar.proofs.Calculus.{Inside, On, ◌▹◌, ◌▹✗◌, done, fails_alt, fails_node, fails_rule, fails_under, fails_when, inside_full, passes_none, left, right, stay, where_true, weaken_fails_on}
+use Rattle.js_grammar.proofs.Looks.{covers}
+use Rattle.js_grammar.proofs.Calculus.{Inside, On, ◌▹◌, ◌▹✗◌, done, fails_alt, fails_node, fails_rule, fails_under, fails_when, inside_full, left, right, stay, where_true, weaken_fails_on}
 use Rattle.js_tree.specs.declared.id.NodeId.{NodeId}
 use Rattle.js_tree.specs.declared.kind.NodeKind.{NodeKind as MadeKind}
 use Rattle.js_tree.specs.Labels.{kind_of}
@@ -32,7 +32,7 @@ use Rattle.js_parsing.specs.States.{At, Same}
 use Rattle.js_parsing.specs.Statements.{placed, no_link, after_statement, NoStatement, Statement}
 use Rattle.js_statements.specs.declared.for_statement.Ending.{Ending}
 use Rattle.js_statements.specs.declared.for_statement.Ending.TheVariants as ending
-use Rattle.js_statements.specs.ForHeads.{NoParensHead, ParensHeadTaken, behind_head, first_part, head_part, name_of, node_of, rest_part}
+use Rattle.js_statements.specs.ForHeads.{NoParensHead, ParensHeadTaken, behind_head, first_part, head_part, name_of, node_of}
 use Rattle.js_statements.specs.ForWords.{PassesAwait, for_label, is_of}
 use Rattle.js_parsing.specs.Nesting.{room}
 use Rattle.js_parsing.proofs.MadeNodes.{node_held, one_lies}

@@ -11,9 +11,9 @@ use Rattle.js_base.specs.declared.span.Span.{Span}
 use Rattle.js_base.specs.Kinds.{one_of_kinds}
 use Rattle.js_grammar.specs.Marks.{Mark}
 use Rattle.js_grammar.specs.Trees.{Label, Slots, end, tree, no_op, function_declaration}
-use Rattle.js_grammar.specs.Grammar.{Lexeme, is, seen, such, nothing, ◌▸◌}
+use Rattle.js_grammar.specs.Grammar.{Lexeme, is, seen, such, nothing}
 use Rattle.js_grammar.specs.Parsing.{Test, plain, full, always, still, Goes, Fails}
-use Rattle.js_grammar.specs.Productions.{G, Flags, at, async_flag, flag, function_on_line, generator_flag, is_one_of, not_then, other, word_or, ExprStmt, Labeled, ListItem, Sub}
+use Rattle.js_grammar.specs.Productions.{G, Flags, at, async_flag, flag, function_on_line, generator_flag, is_one_of, other, word_or, ExprStmt, Labeled, ListItem, Sub}
 use Rattle.js_grammar.specs.Productions.{Function as AFunction}
 use Rattle.js_grammar.specs.Productions.{Statement as AStatement}
 use Rattle.js_grammar.specs.Productions.{sym as symbol}
