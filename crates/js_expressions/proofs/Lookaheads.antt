@@ -4,7 +4,7 @@ use Rattle.std.specs.Prelude.{Ok}
 use Rattle.std.proofs.lemmas.Bool.{false≢true}
 use Rattle.js_base.specs.declared.diagnostic.DiagnosticKind.TheVariants.{ExpectToken}
 use Rattle.js_base.specs.declared.kind.Kind.{Kind}
-use Rattle.js_base.specs.declared.kind.Kind.TheVariants.{Arrow, Dot3, LParen, New, RAngle, RCurly, RParen, Slash, SlashEq, Await}
+use Rattle.js_base.specs.declared.kind.Kind.TheVariants.{Arrow, Dot3, LParen, New, RAngle, RCurly, RParen, Slash, SlashEq, Super, Await}
 use Rattle.js_base.specs.declared.token.Token.{Token}
 use Rattle.js_base.specs.Kinds.{same_kind, one_of_kinds}
 use Rattle.js_grammar.specs.Trees.{Slots, end, parenthesized_expression}
@@ -126,7 +126,7 @@ module _ {text : List ℕ} {f : Flags} {p : Parser} (a : At text f p) (k : p.tok
     no_primary = fails_by (paren_alone ▹✗ fails_node inside_full (behind_paren a k (λ y l h. not_both (starts first (inner f ▸ tok RParen) (plain full).base) is_dots (no_dots f) y.kind y.newline y.escaped h (ap (same_kind Dot3) (n y l)))))
 
     no_update : Underived text (at Update f) p.prev_token_end
-    no_update = nothing_read a (ap (one_of_kinds update_kinds) k) (no_lhs_here f (no_head a (λ z w. let q : LParen ≡ New = sym k ∙ z in absurd (cc)) no_primary))
+    no_update = nothing_read a (ap (one_of_kinds update_kinds) k) (no_lhs_here f (no_head a (λ z w. let q : LParen ≡ New = sym k ∙ z in absurd (cc)) (λ z w. let q : LParen ≡ Super = sym k ∙ z in absurd (cc)) no_primary))
 
     pub no_operand_begins : Underived text (at Short f) p.prev_token_end
     unfolding covers

@@ -1,10 +1,9 @@
 -- Functions (ECMA-262, 15.2, 15.5, 15.6, 15.8), part by part.
-use Rattle.std.proofs.Common.{ℕ, ◌≡◌, ◌+◌, ◌<◌, max, List, [], ◌∷◌, ◌++◌, length, Option, Some, None, Bool, true, false, not, ◌||◌, refl, sym, ap, subst, arith, ◌∙◌, ◌⊎◌, inl, inr, ◌≤◌, ◌&&◌, IsTrue}
+use Rattle.std.proofs.Common.{ℕ, ◌≡◌, ◌+◌, ◌<◌, max, List, [], ◌∷◌, ◌++◌, length, Option, Some, None, Bool, true, false, not, ◌||◌, refl, sym, ap, subst, arith, ◌∙◌, inl, inr}
 use Rattle.std.specs.Prelude.{Ok, Err}
 use Rattle.std.proofs.lemmas.Bool.{or_left}
 use Rattle.js_base.specs.declared.kind.Kind.{Kind}
 use Rattle.js_base.specs.declared.kind.Kind.TheVariants.{Function, LParen, PrivateIdentifier, RAngle, Star, Async}
-use Rattle.js_base.specs.declared.source_type.SourceType.{SourceType}
 use Rattle.js_base.specs.declared.span.Span.{Span}
 use Rattle.js_base.specs.Kinds.{same_kind, one_of_kinds}
 use Rattle.js_base.specs.Texts.{words}
@@ -13,8 +12,8 @@ use Rattle.js_grammar.specs.Trees.{Slots, end, hole, tree, append, Label, no_op,
 use Rattle.js_grammar.specs.Grammar.{Look, here, nothing, such, ◌▸◌, ◌◇◌}
 use Rattle.js_grammar.specs.Lexed.{Lex as StandsBehind, all_faults}
 use Rattle.js_grammar.specs.Marks.{Mark, a_lexeme, the_start, the_end}
-use Rattle.js_grammar.specs.Parsing.{Test, plain, full, always, still, Goes, Fails, joined}
-use Rattle.js_grammar.specs.Productions.{G, Flags, Symbol, at, async_flag, flag, generator_flag, only, slot, tok, params_of, body_of, BindingIdentifier, Body, FuncExpr, Params, Primary, no_newline, IdentifierReference}
+use Rattle.js_grammar.specs.Parsing.{Test, plain, full, always, still, Goes, Fails}
+use Rattle.js_grammar.specs.Productions.{G, Flags, Symbol, at, async_flag, flag, generator_flag, only, slot, tok, params_of, body_of, BindingIdentifier, Body, FuncExpr, Params, Primary, no_newline}
 use Rattle.js_grammar.specs.Productions.{sym as symbol}
 use Rattle.js_grammar.specs.Table.{rule, rule_of}
 use Rattle.js_grammar.specs.Follow.{after, surest}
@@ -45,7 +44,7 @@ use Rattle.js_parsing.specs.States.{At, Same}
 use Rattle.js_operands.specs.declared.function.FunctionForm.{FunctionForm}
 use Rattle.js_operands.specs.declared.function.FunctionForm.TheVariants.{Declaration, Expression}
 use Rattle.js_operands.specs.declared.function.FunctionParts.{FunctionParts}
-use Rattle.js_operands.specs.Functions.{NamesFunction, NoFunction, PartsTaken, TakesName, behind_star, function_line, function_slots, nameless, BeginsFunction, FunctionNext, HeadRead, TakesParts, function_kind, name_part}
+use Rattle.js_operands.specs.Functions.{NamesFunction, NoFunction, PartsTaken, TakesName, behind_star, function_line, function_slots, nameless, BeginsFunction}
 use Rattle.js_parsing.proofs.Giving.{fails_escaped, gives_up_here, kept_one}
 use Rattle.js_parsing.proofs.Here.{found, uncut}
 use Rattle.js_parsing.proofs.MadeNodes.{leaf_held, node_held, one_lies}
@@ -56,8 +55,8 @@ use Rattle.js_parsing.proofs.Parts.{part_called, part_from, part_goes, part_path
 use Rattle.js_parsing.proofs.Paths.{Path, ◌⟼◌, at_kind, fails_at, flagged_by, flagged_here, last_called, by_symbol_as, label_here, noded, not_here, walked_to}
 use Rattle.js_parsing.proofs.Signs.{other_kind, plain_sign, whole_sign}
 use Rattle.js_parsing.proofs.Told.{told_at, told_same}
-use Rattle.js_parsing.proofs.Verdicts.{after as grown_behind, verdict_of, grown_then}
-use Rattle.js_operands.proofs.Operands.{behind_primary, by_path, one_path, plain_leaf, name_signless, by_such, name_signless}
+use Rattle.js_parsing.proofs.Verdicts.{after as grown_behind, verdict_of}
+use Rattle.js_operands.proofs.Operands.{behind_primary, by_path, one_path, plain_leaf, name_signless, name_signless}
 use Rattle.js_parsing.proofs.Tight.{read_plain}
 use Rattle.js_operands.proofs.AsyncWords.{any_between, function_here, no_reference, part_within, same_line}
 

@@ -18,6 +18,8 @@ pub mod PropertyLists
 pub mod PropertyNames
 pub mod RegularExpressions
 pub mod Spreads
+pub mod SuperWords
+pub mod Supers
 pub mod Tame
 mod PartInsides
 mod Templates

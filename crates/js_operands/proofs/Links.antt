@@ -3,7 +3,7 @@ use Rattle.js_parsing.proofs.Signs.{AllAre, NoneIs}
 use Rattle.std.proofs.Common.{ℕ, ◌≡◌, ◌≤◌, ◌⊎◌, inl, inr, max, Bool, true, false, not, ◌&&◌, IsTrue, List, [], ◌∷◌, refl, sym, ap, subst, arith, ◌∙◌}
 use Rattle.std.proofs.lemmas.Bool.{false≢true, and_parts, and_from}
 use Rattle.js_base.specs.declared.kind.Kind.{Kind}
-use Rattle.js_base.specs.declared.kind.Kind.TheVariants.{Dot, QuestionDot, New, LParen, LBrack, NoSubstitutionTemplate, TemplateHead, Function}
+use Rattle.js_base.specs.declared.kind.Kind.TheVariants.{Dot, QuestionDot, New, LParen, LBrack, NoSubstitutionTemplate, TemplateHead, Function, Super as super_kind}
 use Rattle.js_base.specs.Kinds.{same_kind, one_of_kinds}
 use Rattle.js_base.proofs.KindLemmas.{kind_of_same}
 use Rattle.js_grammar.specs.Trees.{Slots, end, tree, Label, no_op, call_expression, new_expression, new_target_expression, tagged_template_expression}
@@ -27,9 +27,9 @@ use Rattle.js_grammar.proofs.LinkLoops.{private, member_name, member_index}
 use Rattle.js_parsing.specs.Lexemes.{Lex}
 use Rattle.js_parsing.specs.Answers.{Stretch, Underived}
 use Rattle.js_operands.specs.Templates.{heads, tagged_label}
-use Rattle.js_operands.specs.Members.{Looped, NoBareNew, NoMember, without_arguments, access_kinds, link_kinds, LinkForm, by_name, by_call, by_index, chained, admits as admits_link, OnlyLink, sign_of, node_of, link_label}
+use Rattle.js_operands.specs.Members.{Looped, NoBareNew, NoMember, NoSuperCall, SuperWord, before_call, without_arguments, access_kinds, link_kinds, LinkForm, by_name, by_call, by_index, chained, admits as admits_link, OnlyLink, sign_of, node_of, link_label}
 use Rattle.js_operands.specs.declared.left_hand_side.LinkBase.TheVariants.{Member as OfMember'}
-use Rattle.js_parsing.proofs.Dead.{dead, fails_dead, live, lives}
+use Rattle.js_parsing.proofs.Dead.{fails_dead, live, lives}
 use Rattle.js_parsing.proofs.Paths.{reads}
 use Rattle.js_operands.specs.NewTargets.{target_slots}
 
@@ -42,9 +42,6 @@ behind_member k w e = not (one_of_kinds (LBrack ∷ Dot ∷ NoSubstitutionTempla
 
 abbrev pub before_chain : Test
 before_chain = plain (is QuestionDot)
-
-abbrev before_call : Test
-before_call = plain (is LParen)
 
 -- and behind a call
 abbrev behind_call : Look
@@ -74,9 +71,19 @@ module _ (f : Flags) where
   abbrev pub new_target : G
   new_target = when f.new_target (node (make_of new_target_expression no_op 0) target_slots)
 
+  -- a name or an expression in brackets behind `super`
+  abbrev pub behind_super : LinkForm → G
+  behind_super c = seq (alt never (such (at Super f) always)) (chained f c false).part
+
+  abbrev super_link : LinkForm → G
+  super_link c = node (make_of (node_of c) no_op 0) (behind_super c)
+
+  abbrev super_links : G
+  super_links = alt (super_link by_name) (super_link by_index)
+
   -- what a member begins with
   abbrev member_feet : G
-  member_feet = alt (such (at Primary f) always) (alt new_with new_target)
+  member_feet = alt (such (at Primary f) always) (alt new_with (alt super_links new_target))
 
   member_left : live (base_of is_member Member f) ≡ member_feet
   unfolding rule_of apart
@@ -109,10 +116,6 @@ module _ (f : Flags) where
   chain_left : live (base_of is_links Links f) ≡ first_links
   unfolding rule_of apart
   chain_left = refl
-
-  no_super : dead (alt (such (at Super f) always) never) ≡ true
-  unfolding apart
-  no_super = refl
 
   lhs_left : live (rule (at LeftHandSide f)) ≡ alt (such (at new_symbol f) always) (alt (such (at Call f) always) (such (at Chain f) always))
   unfolding rule rule_of apart
@@ -156,6 +159,10 @@ template_apart f k l cs w h = first_or (λ (v : Kind). follow_of Links f.in_ (ed
 module _ {text : List ℕ} (f : Flags) where
   -- ---- members
 
+  -- the word `super`
+  pub no_super_word : {X : Test} {s : ℕ} → NoneIs text s super_kind → Fails rule (Lex text) X end (such (at Super f) always) s
+  no_super_word n = fails_here firsts (λ y l h. n y l (sym (kind_of_same super_kind y.kind (and_parts _ _ h).0)))
+
   member_foot : {X : Test} {s : ℕ} → Goes rule (Lex text) X end (base_of is_member Member f) s (member_feet f) s (λ us. us) (still 0)
   member_foot {X} {s} = subst (λ (g : G). Goes rule (Lex text) X end (base_of is_member Member f) s g s (λ us. us) (still 0)) (member_left f) (lives (base_of is_member Member f))
 
@@ -165,28 +172,74 @@ module _ {text : List ℕ} (f : Flags) where
   no_target : {X : Test} {s : ℕ} → NoneIs text s New → Fails rule (Lex text) X end (new_target f) s
   no_target n = fails_under (fails_here firsts (λ y l h. no_kind n y l h))
 
-  -- a primary expression was read
-  pub member_start : {s s' from : ℕ} {l : Label} {cs : Slots} {pass : Lexemes → Lexemes} → NoneIs text s New → Stretch text (after (at Primary f)) (such (at Primary f) always) s nothing s' (tree l cs) pass → ((y : Lexeme) → Lex text s y → y.from ≡ from) → Looped text (members f) (after (at Member f)) s from l cs pass s'
-  unfolding member_links rule_of covers
-  member_start n x b = record { reach = max 0 (max 0 x.reach); near = let i = x.near in omega arith; around = chain_start firsts (climbs is_member Member f) (member_links f) {F' = no_function} (member_foot ▹ (left (fails_alt (no_with n) (no_target n)) ▹ weaken x.goes (λ ts y e. admits (at Primary f) ts y e.0))) refl refl b }
+  -- where another word stands
+  pub no_behind_super : (c : LinkForm) {s : ℕ} → NoneIs text s super_kind → Fails rule (Lex text) (plain full) end (behind_super f c) s
+  unfolding covers
+  no_behind_super by_name n = part_fails {X' = plain full} (fails_alt fails_never (no_super_word n)) (record { admits = λ ts us vs j k ls mid rest d d' h. (refl, refl) })
+  no_behind_super by_call n = part_fails {X' = plain full} (fails_alt fails_never (no_super_word n)) (record { admits = λ ts us vs j k ls mid rest d d' h. (refl, refl) })
+  no_behind_super by_index n = part_fails {X' = plain full} (fails_alt fails_never (no_super_word n)) (record { admits = λ ts us vs j k ls mid rest d d' h. (refl, refl) })
 
-  pub no_member : {s : ℕ} → NoneIs text s New → Underived text (at Primary f) s → Underived text (at Member f) s
+  no_super_link : {X : Test} {s : ℕ} → Fails rule (Lex text) (plain full) end (behind_super f by_name) s → Fails rule (Lex text) (plain full) end (behind_super f by_index) s → Fails rule (Lex text) X end (super_links f) s
+  no_super_link n i = fails_alt (fails_node inside_full n) (fails_node inside_full i)
+
+  no_supers : {X : Test} {s : ℕ} → NoneIs text s super_kind → Fails rule (Lex text) X end (super_links f) s
+  no_supers n = no_super_link (no_behind_super by_name n) (no_behind_super by_index n)
+
+  -- a primary expression was read
+  pub member_start : {s s' from : ℕ} {l : Label} {cs : Slots} {pass : Lexemes → Lexemes} → NoneIs text s New → NoneIs text s super_kind → Stretch text (after (at Primary f)) (such (at Primary f) always) s nothing s' (tree l cs) pass → ((y : Lexeme) → Lex text s y → y.from ≡ from) → Looped text (members f) (after (at Member f)) s from l cs pass s'
   unfolding member_links rule_of covers
-  no_member n x = chain_start_fails firsts (climbs is_member Member f) (member_links f) {F' = no_function} (member_foot ▹✗ fails_alt (weaken_fails x (λ ts y e. admits (at Primary f) ts y e.0)) (fails_alt (no_with n) (no_target n))) refl refl
+  member_start n u x b = record { reach = max 0 (max 0 x.reach); near = let i = x.near in omega arith; around = chain_start firsts (climbs is_member Member f) (member_links f) {F' = no_function} (member_foot ▹ (left (fails_alt (no_with n) (fails_alt (no_supers u) (no_target n))) ▹ weaken x.goes (λ ts y e. admits (at Primary f) ts y e.0))) refl refl b }
+
+  pub no_member : {s : ℕ} → NoneIs text s New → NoneIs text s super_kind → Underived text (at Primary f) s → Underived text (at Member f) s
+  unfolding member_links rule_of covers
+  no_member n u x = chain_start_fails firsts (climbs is_member Member f) (member_links f) {F' = no_function} (member_foot ▹✗ fails_alt (weaken_fails x (λ ts y e. admits (at Primary f) ts y e.0)) (fails_alt (no_with n) (fails_alt (no_supers u) (no_target n)))) refl refl
 
   -- `new` with arguments was read
-  pub member_new : {s s' from : ℕ} {h : Slots → Slots} {pass : Lexemes → Lexemes} → Underived text (at Primary f) s → Fails rule (Lex text) (plain full) end target_slots s → Stretch text (plain full) (with_arguments f) s nothing s' h pass → ((y : Lexeme) → Lex text s y → y.from ≡ from) → Looped text (members f) (after (at Member f)) s from (linked_label (link new_expression no_op 0 (with_arguments f)) from s') (h end) pass s'
+  pub member_new : {s s' from : ℕ} {h : Slots → Slots} {pass : Lexemes → Lexemes} → NoneIs text s super_kind → Underived text (at Primary f) s → Fails rule (Lex text) (plain full) end target_slots s → Stretch text (plain full) (with_arguments f) s nothing s' h pass → ((y : Lexeme) → Lex text s y → y.from ≡ from) → Looped text (members f) (after (at Member f)) s from (linked_label (link new_expression no_op 0 (with_arguments f)) from s') (h end) pass s'
   unfolding member_links rule_of covers
-  member_new {s' = s'} {from} x n y b = record { reach = max 0 (max 0 (max 0 y.reach)); near = let i = y.near in omega arith; around = chain_start firsts (climbs is_member Member f) (member_links f) {F' = no_function} (member_foot ▹ (right (weaken_fails x (λ ts y e. admits (at Primary f) ts y e.0)) ▹ (left (fails_under (fails_node inside_full n)) ▹ makes_by (linked_label (link new_expression no_op 0 (with_arguments f)) from s') inside_full y.goes (λ ls ls' i j. ap (λ v. linked_label (link new_expression no_op 0 (with_arguments f)) v s') (b (here ls) (here_at (Lex text) ls i)))))) refl refl b }
+  member_new {s' = s'} {from} u x n y b = record { reach = max 0 (max 0 (max 0 y.reach)); near = let i = y.near in omega arith; around = chain_start firsts (climbs is_member Member f) (member_links f) {F' = no_function} (member_foot ▹ (right (weaken_fails x (λ ts y e. admits (at Primary f) ts y e.0)) ▹ (left (fails_alt (no_supers u) (fails_under (fails_node inside_full n))) ▹ makes_by (linked_label (link new_expression no_op 0 (with_arguments f)) from s') inside_full y.goes (λ ls ls' i j. ap (λ v. linked_label (link new_expression no_op 0 (with_arguments f)) v s') (b (here ls) (here_at (Lex text) ls i)))))) refl refl b }
 
-  pub no_member_new : {s : ℕ} → Underived text (at Primary f) s → Fails rule (Lex text) (plain full) end (with_arguments f) s → ((X : Test) → Fails rule (Lex text) X end (new_target f) s) → Underived text (at Member f) s
+  pub no_member_new : {s : ℕ} → NoneIs text s super_kind → Underived text (at Primary f) s → Fails rule (Lex text) (plain full) end (with_arguments f) s → ((X : Test) → Fails rule (Lex text) X end (new_target f) s) → Underived text (at Member f) s
   unfolding member_links rule_of covers
-  no_member_new x n t = chain_start_fails firsts (climbs is_member Member f) (member_links f) {F' = no_function} (member_foot ▹✗ fails_alt (weaken_fails x (λ ts y e. admits (at Primary f) ts y e.0)) (fails_alt (fails_node inside_full n) (t _))) refl refl
+  no_member_new u x n t = chain_start_fails firsts (climbs is_member Member f) (member_links f) {F' = no_function} (member_foot ▹✗ fails_alt (weaken_fails x (λ ts y e. admits (at Primary f) ts y e.0)) (fails_alt (fails_node inside_full n) (fails_alt (no_supers u) (t _)))) refl refl
 
   -- `new.target` was read
-  pub member_target : {s s' from : ℕ} {h : Slots → Slots} {pass : Lexemes → Lexemes} → f.new_target ≡ true → Underived text (at Primary f) s → Fails rule (Lex text) (plain full) end (with_arguments f) s → Stretch text (plain full) target_slots s nothing s' h pass → ((y : Lexeme) → Lex text s y → y.from ≡ from) → Looped text (members f) (after (at Member f)) s from (linked_label (link new_target_expression no_op 0 target_slots) from s') (h end) pass s'
+  pub member_target : {s s' from : ℕ} {h : Slots → Slots} {pass : Lexemes → Lexemes} → NoneIs text s super_kind → f.new_target ≡ true → Underived text (at Primary f) s → Fails rule (Lex text) (plain full) end (with_arguments f) s → Stretch text (plain full) target_slots s nothing s' h pass → ((y : Lexeme) → Lex text s y → y.from ≡ from) → Looped text (members f) (after (at Member f)) s from (linked_label (link new_target_expression no_op 0 target_slots) from s') (h end) pass s'
   unfolding member_links rule_of covers
-  member_target {s' = s'} {from} c x n y b = record { reach = max 0 (max 0 (max 0 (max 0 y.reach))); near = let i = y.near in omega arith; around = chain_start firsts (climbs is_member Member f) (member_links f) {F' = no_function} (member_foot ▹ (right (weaken_fails x (λ ts y e. admits (at Primary f) ts y e.0)) ▹ (right (fails_node inside_full n) ▹ (where_true c ▹ makes_by (linked_label (link new_target_expression no_op 0 target_slots) from s') inside_full y.goes (λ ls ls' i j. ap (λ v. linked_label (link new_target_expression no_op 0 target_slots) v s') (b (here ls) (here_at (Lex text) ls i))))))) refl refl b }
+  member_target {s' = s'} {from} u c x n y b = record { reach = max 0 (max 0 (max 0 (max 0 (max 0 y.reach)))); near = let i = y.near in omega arith; around = chain_start firsts (climbs is_member Member f) (member_links f) {F' = no_function} (member_foot ▹ (right (weaken_fails x (λ ts y e. admits (at Primary f) ts y e.0)) ▹ (right (fails_node inside_full n) ▹ (right (no_supers u) ▹ (where_true c ▹ makes_by (linked_label (link new_target_expression no_op 0 target_slots) from s') inside_full y.goes (λ ls ls' i j. ap (λ v. linked_label (link new_target_expression no_op 0 target_slots) v s') (b (here ls) (here_at (Lex text) ls i)))))))) refl refl b }
+
+  -- `super` was read
+  module _ {s s' : ℕ} {l : Label} {cs : Slots} {pass : Lexemes → Lexemes} (n : NoneIs text s New) (p : Underived text (at Primary f) s) (x : SuperWord text f s l cs pass s') where
+    pub super_goes : (c : LinkForm) → Goes rule (Lex text) (plain full) end (behind_super f c) s (chained f c false).part s' (tree l cs) (joined (still 0) (record { reach = x.word.reach; pass = pass }))
+    super_goes c = then_by {X' = plain full} (right fails_never ▹ x.word.goes) (record { admits = λ ts us vs j k ls mid rest d d' h. (refl, refl) })
+
+    another_property : {X : Test} (c d : LinkForm) → (c ≡ d → ⊥) → OnlyLink text f s' d false → Fails rule (Lex text) X end (super_link f c) s
+    another_property c d h u = fails_node inside_full (super_goes c ▹✗ go (u c false))
+      where
+        go : ((c ≡ d) × (false ≡ false)) ⊎ Fails rule (Lex text) (plain full) end (chained f c false).part s' → Fails rule (Lex text) (plain full) end (chained f c false).part s'
+        go (inl z) = absurd (h z.0)
+        go (inr z) = z
+
+    -- and a name or an expression in brackets behind it
+    pub member_super : {s'' from : ℕ} {more : Lexemes → Lexemes} {h : Slots → Slots} (c : LinkForm) → admits_link OfMember' c false ≡ true → OnlyLink text f s' c false → s' ≤ s'' → ((y : Lexeme) → Lex text s y → y.from ≡ from) → Stretch text (plain full) (chained f c false).part s' nothing s'' h more
+        → Looped text (members f) (after (at Member f)) s from (link_label c false from s'') (tree l cs (h end)) (λ ls. pass (more ls)) s''
+    unfolding member_links rule_of covers
+    member_super {s''} {from} by_name q u o b y = record {
+      reach = max 0 (max 0 (max 0 (max 0 (max 0 (max (max 0 x.word.reach) y.reach)))));
+      near = let i = x.word.near in let j = y.near in omega arith;
+      around = chain_start firsts (climbs is_member Member f) (member_links f) {F' = no_function} (member_foot ▹ (right (weaken_fails p (λ ts y e. admits (at Primary f) ts y e.0)) ▹ (right (no_with n) ▹ (left (no_target n) ▹ (left (another_property by_index by_name (λ e. cc) u) ▹ makes_by (link_label by_name false from s'') inside_full (super_goes by_name ▹ y.goes) (λ ls ls' i j. ap (λ v. link_label by_name false v s'') (b (here ls) (here_at (Lex text) ls i)))))))) refl refl b;
+    }
+    member_super {s''} {from} by_index q u o b y = record {
+      reach = max 0 (max 0 (max 0 (max 0 (max 0 (max (max 0 x.word.reach) y.reach)))));
+      near = let i = x.word.near in let j = y.near in omega arith;
+      around = chain_start firsts (climbs is_member Member f) (member_links f) {F' = no_function} (member_foot ▹ (right (weaken_fails p (λ ts y e. admits (at Primary f) ts y e.0)) ▹ (right (no_with n) ▹ (left (no_target n) ▹ (right (another_property by_name by_index (λ e. cc) u) ▹ makes_by (link_label by_index false from s'') inside_full (super_goes by_index ▹ y.goes) (λ ls ls' i j. ap (λ v. link_label by_index false v s'') (b (here ls) (here_at (Lex text) ls i)))))))) refl refl b;
+    }
+    member_super by_call q u o b y = absurd (false≢true q)
+
+    -- neither stands there
+    pub no_member_super : Fails rule (Lex text) (plain full) end (chained f by_name false).part s' → Fails rule (Lex text) (plain full) end (chained f by_index false).part s' → Underived text (at Member f) s
+    unfolding member_links rule_of covers
+    no_member_super z i = chain_start_fails firsts (climbs is_member Member f) (member_links f) {F' = no_function} (member_foot ▹✗ fails_alt (weaken_fails p (λ ts y e. admits (at Primary f) ts y e.0)) (fails_alt (no_with n) (fails_alt (no_super_link (super_goes by_name ▹✗ z) (super_goes by_index ▹✗ i)) (no_target n)))) refl refl
 
   -- a name or an expression in brackets behind it
   pub member_step : {s s' s'' from : ℕ} {l : Label} {cs : Slots} {pass more : Lexemes → Lexemes} {h : Slots → Slots} (c : LinkForm) → admits_link OfMember' c false ≡ true → Looped text (members f) (after (at Member f)) s from l cs pass s' → AllAre text s' (sign_of c false) → s' ≤ s'' → Stretch text (plain full) (chained f c false).part s' nothing s'' h more
@@ -256,9 +309,12 @@ module _ {text : List ℕ} (f : Flags) where
   pub new_unfollowed : {s s' : ℕ} {l : Label} {cs : Slots} {pass : Lexemes → Lexemes} → Stretch text (after (at new_symbol f)) (such (at new_symbol f) always) s nothing s' (tree l cs) pass → AllAre text s' QuestionDot → Underived text (at new_symbol f) s
   new_unfollowed {l = l} {cs = cs} x z = unfollowed x.goes on_itself (λ us y i e. false≢true (subst (λ v. follow_of new_symbol f.in_ (edge_of l cs) QuestionDot y.newline v ≡ true) (z y i).1 (subst (λ v. follow_of new_symbol f.in_ (edge_of l cs) v y.newline y.escaped ≡ true) (z y i).0 e.1)))
 
-  pub no_new : {s : ℕ} → NoMember text f s → Underived text (at new_symbol f) s
+  pub no_new_by : {s : ℕ} → Underived text (at Member f) s → NoBareNew text f s → Underived text (at new_symbol f) s
   unfolding rule rule_of covers
-  no_new n = fails_by (fails_alt (weaken_fails_on n.0 (same_read (at new_symbol f) (at Member f) refl refl)) n.1)
+  no_new_by n b = fails_by (fails_alt (weaken_fails_on n (same_read (at new_symbol f) (at Member f) refl refl)) b)
+
+  pub no_new : {s : ℕ} → NoMember text f s → Underived text (at new_symbol f) s
+  no_new n = no_new_by n.0 n.1.bare
 
   pub new_member : {s s' : ℕ} {l : Label} {cs : Slots} {pass : Lexemes → Lexemes} → Stretch text (after (at Member f)) (such (at Member f) always) s nothing s' (tree l cs) pass → NoBareNew text f s → Stretch text (after (at new_symbol f)) (such (at new_symbol f) always) s nothing s' (tree l cs) pass
   unfolding rule rule_of covers
@@ -278,33 +334,54 @@ module _ {text : List ℕ} (f : Flags) where
   call_foot : {X : Test} {s : ℕ} → Goes rule (Lex text) X end (base_of is_call Call f) s (first_call f) s (λ us. us) (still 0)
   call_foot {X} {s} = subst (λ (g : G). Goes rule (Lex text) X end (base_of is_call Call f) s g s (λ us. us) (still 0)) (call_left f) (lives (base_of is_call Call f))
 
-  callee_goes : {s s' : ℕ} {l : Label} {cs : Slots} {pass : Lexemes → Lexemes} (x : Stretch text (after (at Member f)) (such (at Member f) always) s nothing s' (tree l cs) pass) → Goes rule (Lex text) (plain full) end (seq (callees f) (args f)) s (args f) s' (tree l cs) (joined (still 0) (record { reach = x.reach; pass = pass }))
+  callee_goes : {s s' : ℕ} {l : Label} {cs : Slots} {pass : Lexemes → Lexemes} (x : Stretch text (after (at Member f)) (such (at Member f) always) s nothing s' (tree l cs) pass) → NoSuperCall text f s → Goes rule (Lex text) (plain full) end (seq (callees f) (args f)) s (args f) s' (tree l cs) (joined (still 0) (record { reach = x.reach; pass = pass }))
   unfolding covers
-  callee_goes x = then_by {X' = before_call} (left (fails_dead (alt (such (at Super f) always) never) (no_super f)) ▹ weaken x.goes (λ ts y e. admits (at Member f) ts y (covered (is LParen) behind_member refl y.kind y.newline y.escaped e.0))) (by_first firsts (by_plain (is LParen)) refl)
+  callee_goes x u = then_by {X' = before_call} (left (fails_alt u fails_never) ▹ weaken x.goes (λ ts y e. admits (at Member f) ts y (covered (is LParen) behind_member refl y.kind y.newline y.escaped e.0))) (by_first firsts (by_plain (is LParen)) refl)
 
-  callee_fails : {s : ℕ} → Underived text (at Member f) s → Fails rule (Lex text) (plain full) end (seq (callees f) (args f)) s
+  no_member_call : {s : ℕ} → Underived text (at Member f) s → Fails rule (Lex text) before_call end (such (at Member f) always) s
   unfolding covers
-  callee_fails x = part_fails {X' = before_call} (left (fails_dead (alt (such (at Super f) always) never) (no_super f)) ▹✗ weaken_fails x (λ ts y e. admits (at Member f) ts y (covered (is LParen) behind_member refl y.kind y.newline y.escaped e.0))) (by_first firsts (by_plain (is LParen)) refl)
+  no_member_call x = weaken_fails x (λ ts y e. admits (at Member f) ts y (covered (is LParen) behind_member refl y.kind y.newline y.escaped e.0))
+
+  callee_super : {s s' : ℕ} {l : Label} {cs : Slots} {pass : Lexemes → Lexemes} → Underived text (at Member f) s → (x : SuperWord text f s l cs pass s') → Goes rule (Lex text) (plain full) end (seq (callees f) (args f)) s (args f) s' (tree l cs) (joined (still 0) (joined (still 0) (record { reach = x.word.reach; pass = pass })))
+  unfolding covers
+  callee_super n x = then_by {X' = before_call} (right (no_member_call n) ▹ (left fails_never ▹ weaken x.word.goes (λ ts y e. (refl, refl)))) (by_first firsts (by_plain (is LParen)) refl)
+
+  callee_fails : {s : ℕ} → Underived text (at Member f) s → NoSuperCall text f s → Fails rule (Lex text) (plain full) end (seq (callees f) (args f)) s
+  unfolding covers
+  callee_fails x u = part_fails {X' = before_call} (fails_alt (no_member_call x) (fails_alt u fails_never)) (by_first firsts (by_plain (is LParen)) refl)
 
   -- no call begins here
   no_call_by : {X : Test} {s : ℕ} → Fails rule (Lex text) (plain full) end (seq (callees f) (args f)) s → Fails rule (Lex text) X end (such (at Call f) always) s
   unfolding call_links rule_of covers
   no_call_by x = chain_start_fails firsts (climbs is_call Call f) (call_links f) {F' = full} (call_foot ▹✗ fails_node inside_full x) refl refl
 
-  pub no_call_at_all : {X : Test} {s : ℕ} → Underived text (at Member f) s → Fails rule (Lex text) X end (such (at Call f) always) s
-  no_call_at_all x = no_call_by (callee_fails x)
+  pub no_call_at_all : {X : Test} {s : ℕ} → Underived text (at Member f) s → NoSuperCall text f s → Fails rule (Lex text) X end (such (at Call f) always) s
+  no_call_at_all x u = no_call_by (callee_fails x u)
 
-  pub no_call_behind : {X : Test} {s s' : ℕ} {l : Label} {cs : Slots} {pass : Lexemes → Lexemes} → Stretch text (after (at Member f)) (such (at Member f) always) s nothing s' (tree l cs) pass → Fails rule (Lex text) (plain full) end (args f) s' → Fails rule (Lex text) X end (such (at Call f) always) s
-  no_call_behind x n = no_call_by (callee_goes x ▹✗ n)
+  pub no_super_call : {X : Test} {s s' : ℕ} {l : Label} {cs : Slots} {pass : Lexemes → Lexemes} → Underived text (at Member f) s → SuperWord text f s l cs pass s' → Fails rule (Lex text) (plain full) end (args f) s' → Fails rule (Lex text) X end (such (at Call f) always) s
+  no_super_call x w n = no_call_by (callee_super x w ▹✗ n)
+
+  pub no_call_behind : {X : Test} {s s' : ℕ} {l : Label} {cs : Slots} {pass : Lexemes → Lexemes} → Stretch text (after (at Member f)) (such (at Member f) always) s nothing s' (tree l cs) pass → NoSuperCall text f s → Fails rule (Lex text) (plain full) end (args f) s' → Fails rule (Lex text) X end (such (at Call f) always) s
+  no_call_behind x u n = no_call_by (callee_goes x u ▹✗ n)
 
   -- arguments were read behind a member
-  pub call_begin : {s s' s'' from : ℕ} {l : Label} {cs : Slots} {pass more : Lexemes → Lexemes} {h : Slots → Slots} → Stretch text (after (at Member f)) (such (at Member f) always) s nothing s' (tree l cs) pass → s' ≤ s'' → ((y : Lexeme) → Lex text s y → y.from ≡ from) → Stretch text (plain full) (args f) s' nothing s'' h more
+  pub call_begin : {s s' s'' from : ℕ} {l : Label} {cs : Slots} {pass more : Lexemes → Lexemes} {h : Slots → Slots} → Stretch text (after (at Member f)) (such (at Member f) always) s nothing s' (tree l cs) pass → NoSuperCall text f s → s' ≤ s'' → ((y : Lexeme) → Lex text s y → y.from ≡ from) → Stretch text (plain full) (args f) s' nothing s'' h more
       → Looped text (calls f) (after (at Call f)) s from (link_label by_call false from s'') (tree l cs (h end)) (λ ls. pass (more ls)) s''
   unfolding call_links rule_of covers
-  call_begin {s = s} {s'' = s''} {from = from} x o b y = record {
+  call_begin {s = s} {s'' = s''} {from = from} x u o b y = record {
     reach = max 0 (max (max 0 x.reach) y.reach);
     near = let i = x.near in let j = y.near in omega arith;
-    around = chain_start firsts (climbs is_call Call f) (call_links f) {F' = full} (call_foot ▹ makes_by (link_label by_call false from s'') inside_full (callee_goes x ▹ y.goes) (λ ls ls' i j. ap (λ v. link_label by_call false v s'') (b (here ls) (here_at (Lex text) ls i)))) refl refl b;
+    around = chain_start firsts (climbs is_call Call f) (call_links f) {F' = full} (call_foot ▹ makes_by (link_label by_call false from s'') inside_full (callee_goes x u ▹ y.goes) (λ ls ls' i j. ap (λ v. link_label by_call false v s'') (b (here ls) (here_at (Lex text) ls i)))) refl refl b;
+  }
+
+  -- and behind `super`
+  pub super_begin : {s s' s'' from : ℕ} {l : Label} {cs : Slots} {pass more : Lexemes → Lexemes} {h : Slots → Slots} → Underived text (at Member f) s → SuperWord text f s l cs pass s' → s' ≤ s'' → ((y : Lexeme) → Lex text s y → y.from ≡ from) → Stretch text (plain full) (args f) s' nothing s'' h more
+      → Looped text (calls f) (after (at Call f)) s from (link_label by_call false from s'') (tree l cs (h end)) (λ ls. pass (more ls)) s''
+  unfolding call_links rule_of covers
+  super_begin {s = s} {s'' = s''} {from = from} n x o b y = record {
+    reach = max 0 (max (max 0 (max 0 x.word.reach)) y.reach);
+    near = let i = x.word.near in let j = y.near in omega arith;
+    around = chain_start firsts (climbs is_call Call f) (call_links f) {F' = full} (call_foot ▹ makes_by (link_label by_call false from s'') inside_full (callee_super n x ▹ y.goes) (λ ls ls' i j. ap (λ v. link_label by_call false v s'') (b (here ls) (here_at (Lex text) ls i)))) refl refl b;
   }
 
   not_before_call : (k : Kind) {s' : ℕ} (l : Label) (cs : Slots) → ((w : Bool) → follow_of Call f.in_ (edge_of l cs) k w false ≡ false) → AllAre text s' k → (y : Lexeme) → Lex text s' y → Admits (after (at Call f)) (tree l cs end) y → ⊥
@@ -373,9 +450,9 @@ module _ {text : List ℕ} (f : Flags) where
   no_arguments_part n = fails_here firsts (λ y l h. no_kind n y l h)
 
   -- what stands before the first `?.`: a member, or a call
-  pub base_member : {s s' : ℕ} {l : Label} {cs : Slots} {pass : Lexemes → Lexemes} → Stretch text (after (at Member f)) (such (at Member f) always) s nothing s' (tree l cs) pass → AllAre text s' QuestionDot → Stretch text before_chain (bases f) s nothing s' (tree l cs) pass
+  pub base_member : {s s' : ℕ} {l : Label} {cs : Slots} {pass : Lexemes → Lexemes} → Stretch text (after (at Member f)) (such (at Member f) always) s nothing s' (tree l cs) pass → NoSuperCall text f s → AllAre text s' QuestionDot → Stretch text before_chain (bases f) s nothing s' (tree l cs) pass
   unfolding covers
-  base_member x z = record { reach = max 0 x.reach; near = let i = x.near in omega arith; goes = left (fails_alt (no_call_behind x (no_arguments_part (another z (λ e. cc)))) fails_never) ▹ weaken x.goes (λ ts y e. admits (at Member f) ts y (covered (is QuestionDot) behind_member refl y.kind y.newline y.escaped e.0)) }
+  base_member x u z = record { reach = max 0 x.reach; near = let i = x.near in omega arith; goes = left (fails_alt (no_call_behind x u (no_arguments_part (another z (λ e. cc)))) fails_never) ▹ weaken x.goes (λ ts y e. admits (at Member f) ts y (covered (is QuestionDot) behind_member refl y.kind y.newline y.escaped e.0)) }
 
   pub base_call : {s s' : ℕ} {l : Label} {cs : Slots} {pass : Lexemes → Lexemes} → Stretch text (after (at Call f)) (such (at Call f) always) s nothing s' (tree l cs) pass → Fails rule (Lex text) before_chain end (such (at Member f) always) s → Stretch text before_chain (bases f) s nothing s' (tree l cs) pass
   unfolding covers
@@ -557,7 +634,7 @@ module _ {text : List ℕ} (f : Flags) where
 
   -- where no member is, no LeftHandSideExpression is
   pub no_lhs_here : {s : ℕ} → NoMember text f s → Underived text (at LeftHandSide f) s
-  no_lhs_here n = no_lhs (no_new n) (no_call_at_all n.0) (no_first (base_none (member_before n.0) (no_call_at_all n.0)))
+  no_lhs_here n = no_lhs (no_new n) (no_call_at_all n.0 n.1.uncalled) (no_first (base_none (member_before n.0) (no_call_at_all n.0 n.1.uncalled)))
 
 pub call_heads : (f : Flags) → Heads (after (at LeftHandSide f)) (after (at Call f))
 call_heads f l cs vs y e = admits (at Call f) (tree l cs end) y (covered (lhs_follow f.in_) behind_call (below_call f.in_) y.kind y.newline y.escaped e.1)

@@ -5,7 +5,7 @@ use Rattle.std.specs.Prelude.{Result, Ok, Err, MatchResult}
 use Rattle.std.proofs.lemmas.Bool.{false≢true, and_parts, and_from}
 use Rattle.js_base.specs.declared.diagnostic.Diagnostic.{Diagnostic}
 use Rattle.js_base.specs.declared.kind.Kind.{Kind}
-use Rattle.js_base.specs.declared.kind.Kind.TheVariants.{RAngle, New, Dot, QuestionDot, LParen, LBrack, NoSubstitutionTemplate, RBrack, PrivateIdentifier, TemplateHead}
+use Rattle.js_base.specs.declared.kind.Kind.TheVariants.{RAngle, New, Dot, QuestionDot, LParen, LBrack, NoSubstitutionTemplate, RBrack, PrivateIdentifier, Super as super_kind, TemplateHead}
 use Rattle.js_base.specs.declared.span.Span.{Span}
 use Rattle.js_base.specs.Kinds.{same_kind, one_of_kinds}
 use Rattle.js_base.specs.KindSets.{identifier_name_kinds}
@@ -53,8 +53,9 @@ use Rattle.js_parsing.proofs.Nesting.{nested_room, later_room}
 use Rattle.js_parsing.specs.Moves.{Moved, MadeHere, TakesLeaf, IsWholeHere, plain_label, unpassable}
 use Rattle.js_parsing.specs.Answers.{Grown, Verdict, clean, Stretch, Underived, Numbered, Outcome, Stops, beside}
 use Rattle.js_parsing.specs.Stands.{StandsHere}
-use Rattle.js_operands.specs.Members.{access_kinds, no_link_behind, Taken, NoBareNew, NoMember, Headed, a_member, a_new, MemberSoFar, NoAccess, NoParen, NoLhs, HeadOutcome, link_kinds, LinkForm, by_name, by_call, by_index, indexed, admits, chained, sign_of, link_label, NoLink, OnlyLink, Linked, LinkHere, a_link, no_link, ReadsLink, WithArguments, MakesWithArguments, WithIndex, MakesWithIndex, LinkOutcome, Beyond, CallSoFar, ChainSoFar, Callee, a_head, a_call, CalleeOutcome, TellsChain}
+use Rattle.js_operands.specs.Members.{access_kinds, no_link_behind, Taken, NoBareNew, NoMember, NoOther, Headed, a_member, a_new, a_super, is_super_word, MemberSoFar, NoAccess, NoParen, NoLhs, HeadOutcome, link_kinds, LinkForm, by_name, by_call, by_index, indexed, admits, chained, sign_of, link_label, NoLink, OnlyLink, Linked, LinkHere, a_link, no_link, ReadsLink, WithArguments, MakesWithArguments, WithIndex, MakesWithIndex, LinkOutcome, Beyond, CallSoFar, ChainSoFar, Callee, a_head, a_call, CalleeOutcome, TellsChain}
 use Rattle.js_operands.specs.Templates.{ChainLinkOutcome, GoesOn, ReadsChainLink, ReadsTagged, Tagged, TagOutcome, TagSign, Templated, heads, tagged_label}
+use Rattle.js_operands.proofs.SuperWords.{no_super_member, no_super_new, no_super_there}
 use Rattle.js_operands.proofs.Templates.{heads_there, tag_taken}
 use Rattle.js_parsing.specs.Arguments.{Partway}
 use Rattle.js_parsing.proofs.Here.{angled, begins_here, uncut, found, told_plain}
@@ -67,7 +68,7 @@ use Rattle.js_operands.proofs.Operands.{by_path, primary_fails, primary_kinds}
 use Rattle.js_parsing.proofs.NameKinds.{no_listed_name}
 use Rattle.js_parsing.proofs.Giving.{gives_up}
 use Rattle.js_parsing.proofs.Signs.{AllAre, NoneIs}
-use Rattle.js_operands.proofs.Links.{call_kinds, call_template, call_template_fails, chain_template_fails, member_template, member_template_fails, NotCall, bases, before_chain, with_arguments, member_start, no_member, member_new, no_member_new, member_step, member_step_fails, member_end, no_new_before, new_unfollowed, no_new, new_member, new_bare, member_before_chain, no_call_at_all, no_call_behind, call_begin, call_step, call_step_fails, call_ends, base_member, base_call, base_none, chain_begin, no_first, chain_step, chain_step_fails, chain_ends, no_lhs, lhs_new, lhs_call, lhs_chain, call_unfollowed, member_before, member_alone, call_alone, no_lhs_here, call_heads, chain_heads}
+use Rattle.js_operands.proofs.Links.{call_kinds, call_template, call_template_fails, chain_template_fails, member_template, member_template_fails, NotCall, bases, before_chain, with_arguments, member_start, no_member, member_new, no_member_new, member_step, member_step_fails, member_end, no_new_before, new_unfollowed, no_new_by, no_super_call, no_super_word, super_begin, new_member, new_bare, member_before_chain, no_call_at_all, no_call_behind, call_begin, call_step, call_step_fails, call_ends, base_member, base_call, base_none, chain_begin, no_first, chain_step, chain_step_fails, chain_ends, no_lhs, lhs_new, lhs_call, lhs_chain, call_unfollowed, member_before, member_alone, call_alone, no_lhs_here, call_heads, chain_heads}
 use Rattle.js_operands.proofs.Links.{no_link as no_chain_link}
 use Rattle.js_operands.specs.NewTargets.{target_slots}
 use Rattle.js_parsing.proofs.Stretches.{stretches}
@@ -95,10 +96,10 @@ none_of ks n y l = go (one_of_kinds ks y.kind) refl
 none_among : {text : List ℕ} {s : ℕ} (ks : List Kind) → ((y : Lexeme) → Lex text s y → one_of_kinds ks y.kind ≡ false) → (k : Kind) → one_of_kinds ks k ≡ true → NoneIs text s k
 none_among ks n k h y l e = false≢true (sym (n y l) ∙ subst (λ (v : Kind). one_of_kinds ks v ≡ true) (sym e) h)
 
-abbrev NoneOf : List ℕ → ℕ → List Kind → Type 0
+abbrev pub NoneOf : List ℕ → ℕ → List Kind → Type 0
 NoneOf text s ks = (y : Lexeme) → Lex text s y → one_of_kinds ks y.kind ≡ false
 
-no_access_kind : {text : List ℕ} {s : ℕ} → NoneIs text s Dot → NoneIs text s LBrack → NoneIs text s NoSubstitutionTemplate → NoneIs text s TemplateHead → NoneOf text s access_kinds
+pub no_access_kind : {text : List ℕ} {s : ℕ} → NoneIs text s Dot → NoneIs text s LBrack → NoneIs text s NoSubstitutionTemplate → NoneIs text s TemplateHead → NoneOf text s access_kinds
 no_access_kind {text} {s} a b c d = none_of access_kinds (λ k h. first_or (λ k. NoneIs text s k) Dot k _ _ refl h a (λ h. first_or (λ k. NoneIs text s k) LBrack k _ _ refl h b (λ h. first_or (λ k. NoneIs text s k) NoSubstitutionTemplate k _ _ refl h c (λ h. first_or (λ k. NoneIs text s k) TemplateHead k _ _ refl h d (λ h. absurd (false≢true h))))))
 
 no_call_kind : {text : List ℕ} {s : ℕ} → NoneOf text s access_kinds → NoneIs text s LParen → NoneOf text s call_kinds
@@ -348,7 +349,7 @@ of_call c true e = absurd (false≢true e)
 alike : (b : LinkBase) (c d : LinkForm) (o : Bool) → admits b c false ≡ true → sign_of c false ≡ sign_of d o → (admits b d false ≡ true) × (o ≡ false)
 alike b c d o h e = let z = decides c d o e in (subst (λ (v : LinkForm). admits b v false ≡ true) z.0 h, z.1)
 
-member_form : {p : Parser} (c : LinkForm) (o : Bool) → LinkHere p base.Member true → StandsHere p (sign_of c o) true → (admits base.Member c false ≡ true) × (o ≡ false)
+pub member_form : {p : Parser} (c : LinkForm) (o : Bool) → LinkHere p base.Member true → StandsHere p (sign_of c o) true → (admits base.Member c false ≡ true) × (o ≡ false)
 member_form {p} c o (a_link d e s h) z = let i = of_member d e h in alike base.Member d c o i.0 (sym (subst (λ (v : Bool). p.token.kind ≡ sign_of d v) i.1 s.0) ∙ z.0)
 
 call_form : {p : Parser} (c : LinkForm) (o : Bool) → LinkHere p base.Call true → StandsHere p (sign_of c o) true → o ≡ false
@@ -362,14 +363,18 @@ Membered text f o p id = Taken text f o p id (λ l cs pass s'. MemberSoFar text 
 abbrev pub HeadTaken : List ℕ → Flags → Parser → Parser → NodeId → Type 0
 HeadTaken text f o p id = Taken text f o p id (λ l cs pass s'. Headed text f o.prev_token_end l cs pass s') (NoMember text f o.prev_token_end)
 
-no_bare_new : {text : List ℕ} {f : Flags} {p : Parser} → At text f p → StandsHere p New false → NoBareNew text f p.prev_token_end
+pub no_bare_new : {text : List ℕ} {f : Flags} {p : Parser} → At text f p → StandsHere p New false → NoBareNew text f p.prev_token_end
 no_bare_new a s = fails_here firsts (λ y l h. stands_not a refl s y l (sym (kind_of_same New y.kind (and_parts _ _ h).0)))
 
-pub member_init : {text : List ℕ} {f : Flags} {p q : Parser} {id : NodeId} → At text f p → StandsHere p New false → Numbered text f (at Primary f) p q id → Membered text f p q id
-member_init {f = f} a s x = retake (taken x x.answer.row) (λ l cs pass c. (member_start f (stands_not a refl s) c (begins_here a), no_bare_new a s)) (λ n. (no_member f (stands_not a refl s) n, no_bare_new a s))
+-- neither `new` nor `super` stands here
+none_other : {text : List ℕ} {f : Flags} {p : Parser} → At text f p → StandsHere p New false → StandsHere p super_kind false → NoOther text f p.prev_token_end
+none_other {f = f} a s u = record { bare = no_bare_new a s; uncalled = no_super_word f (stands_not a refl u) }
 
-pub no_head : {text : List ℕ} {f : Flags} {p : Parser} → At text f p → StandsHere p New false → Underived text (at Primary f) p.prev_token_end → NoMember text f p.prev_token_end
-no_head {f = f} a s n = (no_member f (stands_not a refl s) n, no_bare_new a s)
+pub member_init : {text : List ℕ} {f : Flags} {p q : Parser} {id : NodeId} → At text f p → StandsHere p New false → StandsHere p super_kind false → Numbered text f (at Primary f) p q id → Membered text f p q id
+member_init {f = f} a s u x = retake (taken x x.answer.row) (λ l cs pass c. (member_start f (stands_not a refl s) (stands_not a refl u) c (begins_here a), none_other a s u)) (λ n. (no_member f (stands_not a refl s) (stands_not a refl u) n, none_other a s u))
+
+pub no_head : {text : List ℕ} {f : Flags} {p : Parser} → At text f p → StandsHere p New false → StandsHere p super_kind false → Underived text (at Primary f) p.prev_token_end → NoMember text f p.prev_token_end
+no_head {f = f} a s u n = (no_member f (stands_not a refl s) (stands_not a refl u) n, none_other a s u)
 
 member_good : {text : List ℕ} {f : Flags} (o p : Parser) (c : LinkForm) (d : Bool) → (admits base.Member c false ≡ true) × (d ≡ false) → AllAre text p.prev_token_end (sign_of c d) → {l : Label} {cs : Slots} {pass more : Lexemes → Lexemes} {h : Slots → Slots} {s'' : ℕ} → MemberSoFar text f o.prev_token_end o.token.span.start l cs pass p.prev_token_end → p.prev_token_end ≤ s'' → Stretch text (plain full) (chained f c d).part p.prev_token_end nothing s'' h more → MemberSoFar text f o.prev_token_end o.token.span.start (link_label c d o.token.span.start s'') (tree l cs (h end)) (λ ls. pass (more ls)) s''
 member_good {f = f} o p c false e z u i y = (member_step f c e.0 u.0 z i y, u.1)
@@ -395,7 +400,7 @@ member_closed {text} {f} {o} {p} x (no_link g, n) =
     (retake x (λ l cs pass c. a_member (member_end f c.0 none) c.1) (λ n. n), none)
 
 -- a lexeme stands here
-lexeme_there : {text : List ℕ} {f : Flags} {p : Parser} {k : Kind} → At text f p → StandsHere p k true → same_kind RAngle k ≡ false → is_last k ≡ false → one_of_kinds read_kinds k ≡ true → (y : Lexeme) × Lex text p.prev_token_end y × (y.kind ≡ k)
+pub lexeme_there : {text : List ℕ} {f : Flags} {p : Parser} {k : Kind} → At text f p → StandsHere p k true → same_kind RAngle k ≡ false → is_last k ≡ false → one_of_kinds read_kinds k ≡ true → (y : Lexeme) × Lex text p.prev_token_end y × (y.kind ≡ k)
 lexeme_there {k = k} a s n l r =
     let z = found a (uncut a (ap (same_kind RAngle) s.0 ∙ n)) (ap is_last s.0 ∙ l) in
     (z.0, (z.1, read_of z.0 (sym z.2.kind ∙ s.0) (sym z.2.escaped ∙ s.1) r), sym z.2.kind ∙ s.0)
@@ -405,9 +410,10 @@ lexeme_there {k = k} a s n l r =
 new_edge : (f : Flags) (s : ℕ) → Inside rule (record { kind = new_expression; op = no_op; flags = 0; extent = exact }) (after (at new_symbol f)) (after (at new_symbol f)) end (tok New ▸ symbol new_symbol f) s
 new_edge f s = record { ends = λ p cs vs j ls mid d e. e }
 
-headed_new : {text : List ℕ} (f : Flags) {s s' : ℕ} {l : Label} {cs : Slots} {pass : Lexemes → Lexemes} → Headed text f s l cs pass s' → Stretch text (after (at new_symbol f)) (such (at new_symbol f) always) s nothing s' (tree l cs) pass
-headed_new f (a_member m b) = new_member f m b
-headed_new f (a_new n s z) = s
+headed_new : {text : List ℕ} (f : Flags) {s s' : ℕ} {l : Label} {cs : Slots} {pass : Lexemes → Lexemes} → NoneIs text s' LParen → Headed text f s l cs pass s' → Stretch text (after (at new_symbol f)) (such (at new_symbol f) always) s nothing s' (tree l cs) pass
+headed_new f o (a_member m b) = new_member f m b.bare
+headed_new f o (a_new n s u z) = s
+headed_new f o (a_super n b w y) = absurd (o y.0 y.1 y.2)
 
 taken_path : {text : List ℕ} {f : Flags} {n : Symbol} {p q : Parser} {id : NodeId} (x : Taken text f p q id (λ l cs pass s'. Stretch text (after n) (such n always) p.prev_token_end nothing s' (tree l cs) pass) (Underived text n p.prev_token_end)) → Path text f (after n) (such n always) p nothing q (tree x.label x.slots)
 taken_path x = record { at = x.at; further = x.further; pass = x.pass; walked = x.walked; verdict = x.verdict }
@@ -427,7 +433,8 @@ member_lacks f x = part_fails x (by_first firsts (surely (at Member f)) refl)
 -- no arguments stand behind it
 no_called : {text : List ℕ} (f : Flags) {s s' : ℕ} {l : Label} {cs : Slots} {pass : Lexemes → Lexemes} → Headed text f s l cs pass s' → Fails rule (Lex text) (plain full) end (args f) s' → Fails rule (Lex text) (plain full) end (called_member f) s
 no_called f (a_member m b) n = (member_then f m).goes ▹✗ n
-no_called f (a_new z s k) n = member_lacks f z
+no_called f (a_new z s u k) n = member_lacks f z
+no_called f (a_super z b w y) n = member_lacks f z
 
 pub no_arguments_here : {text : List ℕ} (f : Flags) {s : ℕ} → NoneIs text s LParen → Fails rule (Lex text) (plain full) end (args f) s
 no_arguments_here f n = fails_here firsts (λ y l h. n y l (sym (kind_of_same LParen y.kind (and_parts _ _ h).0)))
@@ -439,6 +446,13 @@ module _ {text : List ℕ} {f : Flags} {p q : Parser} (a : At text f p) (k : p.t
   pub bare_fails : Underived text (at new_symbol f) q.prev_token_end → NoBareNew text f p.prev_token_end
   bare_fails z = fails_node (new_edge f p.prev_token_end) (token New a k n refl m ⟶✗ z)
 
+  pub no_super_at_new : NoneIs text p.prev_token_end super_kind
+  no_super_at_new = stands_not a refl (λ e i. let u : New ≡ super_kind = sym k ∙ e in cc)
+
+  -- nothing else than a MemberExpression, where no NewExpression stands behind it
+  pub new_other : Underived text (at new_symbol f) q.prev_token_end → NoOther text f p.prev_token_end
+  new_other z = record { bare = bare_fails z; uncalled = no_super_word f no_super_at_new }
+
   pub new_skips : Stretch text (plain full) (with_arguments f) p.prev_token_end (called_member f) q.prev_token_end (λ us. us) (λ ls. next m.lexeme ls)
   new_skips = record { reach = 0; near = omega arith; goes = skips a New k n refl m }
 
@@ -448,16 +462,19 @@ module _ {text : List ℕ} {f : Flags} {p q : Parser} (a : At text f p) (k : p.t
   no_target_here = skips a New k n refl m ▹✗ fails_here firsts (λ y l h. stands_not m.at refl t y l (sym (kind_of_same Dot y.kind (and_parts _ _ h).0)))
 
   none_called : Fails rule (Lex text) (plain full) end (called_member f) q.prev_token_end → Underived text (at Member f) p.prev_token_end
-  none_called z = no_member_new f (no_primary a k n m) ((new_skips a k n m).goes ▹✗ z) (λ X. fails_under (fails_node inside_full no_target_here))
+  none_called z = no_member_new f (no_super_at_new a k n m) (no_primary a k n m) ((new_skips a k n m).goes ▹✗ z) (λ X. fails_under (fails_node inside_full no_target_here))
+
+  pub new_fails_by : Underived text (at Member f) q.prev_token_end → NoBareNew text f q.prev_token_end → NoMember text f p.prev_token_end
+  new_fails_by z b = (none_called (member_lacks f z), new_other a k n m (no_new_by f z b))
 
   pub new_fails : NoMember text f q.prev_token_end → NoMember text f p.prev_token_end
-  new_fails z = (none_called (member_lacks f z.0), bare_fails a k n m (no_new f z))
+  new_fails z = new_fails_by z.0 z.1.bare
 
   module _ {levels : ℕ} {e r w : Parser} {callee : NodeId} (h : Enters levels q e) (l : Leaves levels r w) (x : HeadOutcome text f e r (Ok callee)) where
     same_place : e.prev_token_end ≡ q.prev_token_end
     same_place = ap (λ (z : Parser). z.prev_token_end) h.is
 
-    callee_taken : HeadTaken text f q w callee
+    pub callee_taken : HeadTaken text f q w callee
     callee_taken = subst (λ (v : ℕ). Taken text f q w callee (λ l cs pass s'. Headed text f v l cs pass s') (NoMember text f v)) same_place (taken_back m.at.at h l x.0)
 
     pub start_before : p.token.span.start ≤ w.prev_token_end
@@ -480,11 +497,12 @@ module _ {text : List ℕ} {f : Flags} {p q : Parser} (a : At text f p) (k : p.t
 
     -- `?.` stands behind the callee
     pub new_refused : StandsHere w QuestionDot true → NoMember text f p.prev_token_end
-    new_refused s = either_way callee_taken.verdict (λ c. (none_called (no_called f c (no_arguments_here f (λ y l e. let z = (stands_there callee_taken.at s.0 refl) y l in (let u : QuestionDot ≡ LParen = sym z.0 ∙ e in cc)))), bare_fails a k n m (refused c))) (λ z. new_fails z)
+    new_refused s = either_way callee_taken.verdict (λ c. (none_called (no_called f c (no_arguments_here f (λ y l e. let z = (stands_there callee_taken.at s.0 refl) y l in (let u : QuestionDot ≡ LParen = sym z.0 ∙ e in cc)))), new_other a k n m (refused c))) (λ z. new_fails z)
       where
         refused : {l : Label} {cs : Slots} {pass : Lexemes → Lexemes} → Headed text f q.prev_token_end l cs pass w.prev_token_end → Underived text (at new_symbol f) q.prev_token_end
-        refused (a_member c b) = no_new_before f QuestionDot (λ d v. refl) c b (stands_there callee_taken.at s.0 refl)
-        refused (a_new z c b) = new_unfollowed f c (stands_there callee_taken.at s.0 refl)
+        refused (a_member c b) = no_new_before f QuestionDot (λ d v. refl) c b.bare (stands_there callee_taken.at s.0 refl)
+        refused (a_new z c u b) = new_unfollowed f c (stands_there callee_taken.at s.0 refl)
+        refused (a_super z b w y) = no_new_by f z b
 
     -- neither `?.` nor arguments
     pub new_taken : {v : Parser} {id : NodeId} {s : Span} → StandsHere w QuestionDot false → StandsHere w LParen false → s.start ≡ p.token.span.start → s.end ≡ w.prev_token_end → MadeHere (plain_label node.NewExpression op.None s) (Some callee ∷ []) w v id → HeadOutcome text f p v (Ok id)
@@ -518,23 +536,42 @@ module _ {text : List ℕ} {f : Flags} {p q : Parser} (a : At text f p) (k : p.t
             bare : Headed text f q.prev_token_end callee_taken.label callee_taken.slots callee_taken.pass w.prev_token_end → Headed text f p.prev_token_end (label_here new_expression no_op p w) (tree callee_taken.label callee_taken.slots end) (λ ls. next m.lexeme (callee_taken.pass ls)) w.prev_token_end
             bare c =
                 let z = none_called (no_called f c (no_arguments_here f none)) in
-                let y = headed_new f c in
-                a_new z (new_bare f z (noding w a (new_edge f p.prev_token_end) (record { reach = max 0 y.reach; near = let i = y.near in omega arith; goes = skips a New k n refl m ▹ y.goes }))) u
+                let y = headed_new f none c in
+                a_new z (new_bare f z (noding w a (new_edge f p.prev_token_end) (record { reach = max 0 y.reach; near = let i = y.near in omega arith; goes = skips a New k n refl m ▹ y.goes }))) (no_super_word f (no_super_at_new a k n m)) u
+
+    -- the callee isn't `super` alone
+    abbrev pub NotSuper : Type 0
+    NotSuper = (is_super_word callee_taken.label.kind ≡ false) ⊎ NoneIs text q.prev_token_end super_kind
+
+    -- a member, if it isn't
+    abbrev pub UnlessSuper : Parser → NodeId → Type 0
+    UnlessSuper v id = Taken text f p v id (λ l cs pass s'. NotSuper → MemberSoFar text f p.prev_token_end p.token.span.start l cs pass s') (NoMember text f p.prev_token_end)
+
+    -- nothing begins here, if it is
+    pub none_behind_new : is_super_word callee_taken.label.kind ≡ true → NoMember text f p.prev_token_end
+    none_behind_new i = either_way callee_taken.verdict (λ c. by c) (λ z. new_fails z)
+      where
+        by : Headed text f q.prev_token_end callee_taken.label callee_taken.slots callee_taken.pass w.prev_token_end → NoMember text f p.prev_token_end
+        by (a_member c b) = new_fails_by (no_super_member i c) b.bare
+        by (a_new z c u b) = new_fails_by z (no_super_new i c)
+        by (a_super z b v y) = new_fails_by z b
 
     -- arguments stand there
     module _ (s : StandsHere w LParen true) where
-      bare_none : {l : Label} {cs : Slots} {pass : Lexemes → Lexemes} → Headed text f q.prev_token_end l cs pass w.prev_token_end → NoBareNew text f p.prev_token_end
-      bare_none (a_member c b) = bare_fails a k n m (no_new_before f LParen (λ d v. refl) c b (stands_there callee_taken.at s.0 refl))
-      bare_none (a_new z c b) = let y = lexeme_there callee_taken.at s refl refl refl in absurd (false≢true (sym (b y.0 y.1) ∙ subst (λ (v : Kind). one_of_kinds link_kinds v ≡ true) (sym y.2) refl))
+      bare_none : {l : Label} {cs : Slots} {pass : Lexemes → Lexemes} → Headed text f q.prev_token_end l cs pass w.prev_token_end → NoOther text f p.prev_token_end
+      bare_none (a_member c b) = new_other a k n m (no_new_before f LParen (λ d v. refl) c b.bare (stands_there callee_taken.at s.0 refl))
+      bare_none (a_super z b w y) = new_other a k n m (no_new_by f z b)
+      bare_none (a_new z c u b) = let y = lexeme_there callee_taken.at s refl refl refl in absurd (false≢true (sym (b y.0 y.1) ∙ subst (λ (v : Kind). one_of_kinds link_kinds v ≡ true) (sym y.2) refl))
 
       pub new_arguments_stop : (v : Parser) (i : Stop) → Stops w v i (Fails rule (Lex text) (plain full) end (args f) w.prev_token_end) → Stops p v i (NoMember text f p.prev_token_end)
       new_arguments_stop v i z = stops_behind v i new_same (λ g. new_grown g) (λ n. either_way callee_taken.verdict (λ c. (none_called (no_called f c n), bare_none c)) (λ y. new_fails y)) z
 
-      pub new_with_arguments : {v : Parser} {id : NodeId} → (y : WithArguments node.NewExpression false p.token.span.start callee w v id) → Membered text f p v id
+      -- a member, unless the callee is `super`
+      pub new_with_arguments : {v : Parser} {id : NodeId} → (y : WithArguments node.NewExpression false p.token.span.start callee w v id) → UnlessSuper v id
       new_with_arguments {v} {id} y =
           let part = y.arguments text f callee_taken.at in
           let forward : w.prev_token_end ≤ y.behind.prev_token_end = (let b = callee_taken.at.behind in let c = part.further in omega arith) in
-          subst (λ (z : Parser). Membered text f p z id) (sym y.made.stays) (record {
+          subst (λ (z : Parser). UnlessSuper z id) (sym y.made.stays) (record {
             at = beside_nodes v.nodes part.at;
             same = same_with v.nodes (same_both m.same (same_both callee_taken.same part.same)) (Keeps-trans (subst (λ (ns : List Node). Keeps ns w.nodes) m.nodes callee_taken.keeps) (Keeps-trans part.keeps (Keeps-made y.made.made))) (made_lies (same_both m.same (same_both callee_taken.same part.same)) part.at.at (let b = m.further in let c = callee_taken.further in let d = m.at.behind in let g = part.further in let i = callee_taken.at.behind in omega arith) y.made refl);
             further = let b = m.further in let c = callee_taken.further in let d = m.at.behind in omega arith;
@@ -543,14 +580,16 @@ module _ {text : List ℕ} {f : Flags} {p q : Parser} (a : At text f p) (k : p.t
             row = refl;
             pass = λ ls. next m.lexeme (callee_taken.pass (part.pass ls));
             walked = walked_both (walked_one m) (walked_both callee_taken.walked part.walked);
-            verdict = behind_none m.kept (and_then callee_taken.verdict part.verdict (λ c z. whole c z forward) (λ z. new_fails z) (λ c z. (none_called (no_called f c z), bare_none c)));
+            verdict = behind_none m.kept (and_then callee_taken.verdict part.verdict (λ c z h. whole c h z forward) (λ z. new_fails z) (λ c z. (none_called (no_called f c z), bare_none c)));
             holds = node_held y.made (part.holds (length p.nodes) (tree callee_taken.label callee_taken.slots end) (HoldsAll-one callee (subst (λ (ns : List Node). Holds w.nodes (length ns) (length w.nodes) callee.0 callee_taken.label callee_taken.slots) m.nodes callee_taken.holds)));
             keeps = Keeps-trans (subst (λ (ns : List Node). Keeps ns w.nodes) m.nodes callee_taken.keeps) (Keeps-trans part.keeps (Keeps-made y.made.made));
           })
         where
-          whole : {l : Label} {cs : Slots} {pass more : Lexemes → Lexemes} {h : Slots → Slots} {s'' : ℕ} → Headed text f q.prev_token_end l cs pass w.prev_token_end → Stretch text (plain full) (args f) w.prev_token_end nothing s'' h more → w.prev_token_end ≤ s'' → MemberSoFar text f p.prev_token_end p.token.span.start (record { kind = new_expression; op = no_op; flags = 0; span = record { from = p.token.span.start; to = s'' } }) (tree l cs (h end)) (λ ls. next m.lexeme (pass (more ls))) s''
-          whole (a_member c b) z i = (member_new f (no_primary a k n m) no_target_here (stretches (new_skips a k n m) (stretches (member_then f c) z i) (let d = m.at.behind in let e = callee_taken.further in omega arith)) (begins_here a), bare_none (a_member c b))
-          whole (a_new z c b) u i = absurd (let y = lexeme_there callee_taken.at s refl refl refl in false≢true (sym (b y.0 y.1) ∙ subst (λ (v : Kind). one_of_kinds link_kinds v ≡ true) (sym y.2) refl))
+          whole : {l : Label} {cs : Slots} {pass more : Lexemes → Lexemes} {h : Slots → Slots} {s'' : ℕ} → Headed text f q.prev_token_end l cs pass w.prev_token_end → (is_super_word l.kind ≡ false) ⊎ NoneIs text q.prev_token_end super_kind → Stretch text (plain full) (args f) w.prev_token_end nothing s'' h more → w.prev_token_end ≤ s'' → MemberSoFar text f p.prev_token_end p.token.span.start (record { kind = new_expression; op = no_op; flags = 0; span = record { from = p.token.span.start; to = s'' } }) (tree l cs (h end)) (λ ls. next m.lexeme (pass (more ls))) s''
+          whole (a_member c b) o z i = (member_new f (no_super_at_new a k n m) (no_primary a k n m) no_target_here (stretches (new_skips a k n m) (stretches (member_then f c) z i) (let d = m.at.behind in let e = callee_taken.further in omega arith)) (begins_here a), bare_none (a_member c b))
+          whole (a_super c b v y) (inl o) z i = absurd (false≢true (sym o ∙ v.kind))
+          whole (a_super c b v y) (inr o) z i = absurd (no_super_there f o v y.0 y.1)
+          whole (a_new z c d b) o u i = absurd (let y = lexeme_there callee_taken.at s refl refl refl in false≢true (sym (b y.0 y.1) ∙ subst (λ (v : Kind). one_of_kinds link_kinds v ≡ true) (sym y.2) refl))
 
 -- ---- tagged templates
 
@@ -584,7 +623,7 @@ abbrev pub CalleeTaken : List ℕ → Flags → Parser → Parser → NodeId →
 CalleeTaken text f o p id = Taken text f o p id (λ l cs pass s'. Callee text f o.prev_token_end l cs pass s') (NoLhs text f o.prev_token_end)
 
 -- if one link can't be read, none can
-none_of_links : {text : List ℕ} {f : Flags} {s : ℕ} (c : LinkForm) (o : Bool) → OnlyLink text f s c o → NoLink text f s c o → (c' : LinkForm) (o' : Bool) → NoLink text f s c' o'
+pub none_of_links : {text : List ℕ} {f : Flags} {s : ℕ} (c : LinkForm) (o : Bool) → OnlyLink text f s c o → NoLink text f s c o → (c' : LinkForm) (o' : Bool) → NoLink text f s c' o'
 none_of_links {text} {f} {s} c o u n c' o' = go (u c' o')
   where
     go : ((c' ≡ c) × (o' ≡ o)) ⊎ NoLink text f s c' o' → NoLink text f s c' o'
@@ -598,22 +637,24 @@ module _ {text : List ℕ} {f : Flags} {o p : Parser} {left : NodeId} (a : At te
   parens : AllAre text p.prev_token_end LParen
   parens = stands_there x.at s.0 refl
 
-  beyond : {l : Label} {cs : Slots} {pass : Lexemes → Lexemes} → Stretch text (after (at Member f)) (such (at Member f) always) o.prev_token_end nothing p.prev_token_end (tree l cs) pass → NoBareNew text f o.prev_token_end → Beyond text f o.prev_token_end
-  beyond c b = record { no_new = no_new_before f LParen (λ d v. refl) c b parens; no_member = member_before_chain f c parens }
+  beyond : {l : Label} {cs : Slots} {pass : Lexemes → Lexemes} → Stretch text (after (at Member f)) (such (at Member f) always) o.prev_token_end nothing p.prev_token_end (tree l cs) pass → NoOther text f o.prev_token_end → Beyond text f o.prev_token_end
+  beyond c b = record { no_new = no_new_before f LParen (λ d v. refl) c b.bare parens; no_member = member_before_chain f c parens }
 
   never_new : {C : Type 0} → ((y : Lexeme) → Lex text p.prev_token_end y → one_of_kinds link_kinds y.kind ≡ false) → C
   never_new b = let y = lexeme_there x.at s refl refl refl in absurd (false≢true (sym (b y.0 y.1) ∙ subst (λ (v : Kind). one_of_kinds link_kinds v ≡ true) (sym y.2) refl))
 
   first_good : (c : LinkForm) (d : Bool) → (by_call ≡ c) × (d ≡ false) → {l : Label} {cs : Slots} {pass more : Lexemes → Lexemes} {h : Slots → Slots} {s'' : ℕ} → Headed text f o.prev_token_end l cs pass p.prev_token_end → p.prev_token_end ≤ s'' → Stretch text (plain full) (chained f c d).part p.prev_token_end nothing s'' h more → CallSoFar text f o.prev_token_end o.token.span.start (link_label c d o.token.span.start s'') (tree l cs (h end)) (λ ls. pass (more ls)) s''
-  first_good by_call false e (a_member c b) i y = (call_begin f c i (begins_here a) y, beyond c b)
-  first_good by_call false e (a_new n c b) i y = never_new b
+  first_good by_call false e (a_member c b) i y = (call_begin f c b.uncalled i (begins_here a) y, beyond c b)
+  first_good by_call false e (a_new n c u b) i y = never_new b
+  first_good by_call false e (a_super n b w z) i y = (super_begin f n w i (begins_here a) y, record { no_new = no_new_by f n b; no_member = member_before f n })
   first_good by_name d e c i y = absurd (let z : by_call ≡ by_name = e.0 in cc)
   first_good by_index d e c i y = absurd (let z : by_call ≡ by_index = e.0 in cc)
   first_good by_call true e c i y = absurd (false≢true (sym e.1))
 
   no_first_call : {l : Label} {cs : Slots} {pass : Lexemes → Lexemes} → Headed text f o.prev_token_end l cs pass p.prev_token_end → NoLink text f p.prev_token_end by_call false → NoLhs text f o.prev_token_end
-  no_first_call (a_member c b) n = no_lhs f (beyond c b).no_new (no_call_behind f c n) (no_first f (base_none f (member_before_chain f c parens) (no_call_behind f c n)))
-  no_first_call (a_new z c b) n = never_new b
+  no_first_call (a_member c b) n = no_lhs f (beyond c b).no_new (no_call_behind f c b.uncalled n) (no_first f (base_none f (member_before_chain f c parens) (no_call_behind f c b.uncalled n)))
+  no_first_call (a_super z b w y) n = no_lhs f (no_new_by f z b) (no_super_call f z w n) (no_first f (base_none f (member_before f z) (no_super_call f z w n)))
+  no_first_call (a_new z c u b) n = never_new b
 
   first_bad : (c : LinkForm) (d : Bool) → (by_call ≡ c) × (d ≡ false) → {l : Label} {cs : Slots} {pass : Lexemes → Lexemes} → Headed text f o.prev_token_end l cs pass p.prev_token_end → NoLink text f p.prev_token_end c d → NoLhs text f o.prev_token_end
   first_bad c d e u n = no_first_call u (subst (λ (v : LinkForm). NoLink text f p.prev_token_end v false) (sym e.0) (subst (λ (v : Bool). NoLink text f p.prev_token_end c v) e.1 n))
@@ -691,8 +732,9 @@ lhs_callee {text} {f} {o} {p} x n m s =
     none = stands_not x.at refl s
 
     whole : {l : Label} {cs : Slots} {pass : Lexemes → Lexemes} → Callee text f o.prev_token_end l cs pass p.prev_token_end → Stretch text (after (at LeftHandSide f)) (such (at LeftHandSide f) always) o.prev_token_end nothing p.prev_token_end (tree l cs) pass
-    whole (a_head (a_member c b)) = lhs_new f (new_member f c b) (no_call_behind f c (no_arguments_here f m)) (no_first f (base_none f (member_alone f c none) (no_call_behind f c (no_arguments_here f m))))
-    whole (a_head (a_new z c b)) = lhs_new f c (no_call_at_all f z) (no_first f (base_none f (member_before f z) (no_call_at_all f z)))
+    whole (a_head (a_member c b)) = lhs_new f (new_member f c b.bare) (no_call_behind f c b.uncalled (no_arguments_here f m)) (no_first f (base_none f (member_alone f c none) (no_call_behind f c b.uncalled (no_arguments_here f m))))
+    whole (a_head (a_new z c u b)) = lhs_new f c (no_call_at_all f z u) (no_first f (base_none f (member_before f z) (no_call_at_all f z u)))
+    whole (a_head (a_super z b w y)) = absurd (m y.0 y.1 y.2)
     whole (a_call c b) = lhs_call f b.no_new c (no_first f (base_none f b.no_member (call_alone f c none)))
 
 module _ {text : List ℕ} {f : Flags} {o p : Parser} {left : NodeId} (a : At text f o) (x : CalleeTaken text f o p left) (s : StandsHere p QuestionDot true) where
@@ -709,8 +751,9 @@ module _ {text : List ℕ} {f : Flags} {o p : Parser} {left : NodeId} (a : At te
     no_call : NotCall text f o.prev_token_end
 
   based : {l : Label} {cs : Slots} {pass : Lexemes → Lexemes} → Callee text f o.prev_token_end l cs pass p.prev_token_end → Base l cs pass
-  based (a_head (a_member c b)) = record { base = base_member f c chains_here; no_bare = no_new_before f QuestionDot (λ d v. refl) c b chains_here; no_call = no_call_behind f c (no_arguments_here f no_parens) }
-  based (a_head (a_new z c b)) = let y = lexeme_there x.at s refl refl refl in absurd (false≢true (sym (b y.0 y.1) ∙ subst (λ (v : Kind). one_of_kinds link_kinds v ≡ true) (sym y.2) refl))
+  based (a_head (a_member c b)) = record { base = base_member f c b.uncalled chains_here; no_bare = no_new_before f QuestionDot (λ d v. refl) c b.bare chains_here; no_call = no_call_behind f c b.uncalled (no_arguments_here f no_parens) }
+  based (a_head (a_super z b w y)) = absurd (no_parens y.0 y.1 y.2)
+  based (a_head (a_new z c u b)) = let y = lexeme_there x.at s refl refl refl in absurd (false≢true (sym (b y.0 y.1) ∙ subst (λ (v : Kind). one_of_kinds link_kinds v ≡ true) (sym y.2) refl))
   based (a_call c b) = record { base = base_call f c b.no_member; no_bare = b.no_new; no_call = call_unfollowed f c chains_here }
 
   chain_good : (c : LinkForm) (d : Bool) → d ≡ true → OnlyLink text f p.prev_token_end c d → {l : Label} {cs : Slots} {pass more : Lexemes → Lexemes} {h : Slots → Slots} {s'' : ℕ} → Callee text f o.prev_token_end l cs pass p.prev_token_end → p.prev_token_end ≤ s'' → Stretch text (plain full) (chained f c d).part p.prev_token_end nothing s'' h more → ChainSoFar text f o.prev_token_end o.token.span.start (link_label c d o.token.span.start s'') (tree l cs (h end)) (λ ls. pass (more ls)) s''
@@ -773,7 +816,7 @@ chain_done {text} {f} {o} {p} {w} {left} {id} {s} a x (no_link g, m) b c d =
 -- ---- reading a link
 
 module _ {text : List ℕ} (f : Flags) where
-  not_sign : (c : LinkForm) (o : Bool) (k : Kind) {s : ℕ} → (k ≡ sign_of c o → ⊥) → AllAre text s k → NoLink text f s c o
+  pub not_sign : (c : LinkForm) (o : Bool) (k : Kind) {s : ℕ} → (k ≡ sign_of c o → ⊥) → AllAre text s k → NoLink text f s c o
   not_sign by_call true k n z = fails_here firsts (λ y l h. n (sym (z y l).0 ∙ sym (kind_of_same QuestionDot y.kind (and_parts _ _ h).0)))
   not_sign by_name true k n z = fails_here firsts (λ y l h. n (sym (z y l).0 ∙ sym (kind_of_same QuestionDot y.kind (and_parts _ _ h).0)))
   not_sign by_index true k n z = fails_here firsts (λ y l h. n (sym (z y l).0 ∙ sym (kind_of_same QuestionDot y.kind (and_parts _ _ h).0)))

@@ -1,5 +1,5 @@
 -- Methods of object literals (ECMA-262, 15.4, 15.5): the function behind a name, and the property that it makes.
-use Rattle.std.proofs.Common.{ℕ, ◌≡◌, ◌+◌, zero-add, Bool, true, false, List, [], ◌∷◌, ◌||◌, length, Option, Some, None, refl, sym, ap, subst, arith, ◌∙◌}
+use Rattle.std.proofs.Common.{ℕ, ◌≡◌, ◌+◌, Bool, true, false, List, [], ◌∷◌, ◌||◌, length, Option, Some, None, refl, sym, ap, subst, arith, ◌∙◌}
 use Rattle.js_base.specs.declared.kind.Kind.TheVariants.{Colon, Comma, RParen, RBrack, RCurly, PrivateIdentifier}
 use Rattle.js_base.specs.Kinds.{same_kind, one_of_kinds}
 use Rattle.js_base.specs.Texts.{words}

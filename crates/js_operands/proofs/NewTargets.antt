@@ -1,5 +1,5 @@
 -- `new.target` (ECMA-262, 13.3.12): what is derived of it, and what is told where it, or another word, stands behind `new` and a dot.
-use Rattle.std.proofs.Common.{ℕ, ◌≡◌, ◌≤◌, ◌<◌, ◌⊎◌, inl, inr, List, [], ◌∷◌, length, Bool, true, false, not, ◌&&◌, ◌||◌, IsTrue, IsCharBoundary, refl, sym, ap, subst, arith, ◌∙◌}
+use Rattle.std.proofs.Common.{ℕ, ◌≡◌, ◌≤◌, ◌<◌, inl, inr, List, [], ◌∷◌, Bool, true, false, not, ◌&&◌, ◌||◌, IsTrue, IsCharBoundary, refl, sym, ap, subst, arith, ◌∙◌}
 use Rattle.std.specs.Prelude.{Ok}
 use Rattle.std.proofs.lemmas.Bool.{false≢true, and_from, and_parts, or_left}
 use Rattle.js_base.specs.Kinds.{same_kind, one_of_kinds}
@@ -17,9 +17,9 @@ use Rattle.js_grammar.specs.LexicalFaults.{Reached}
 use Rattle.js_grammar.specs.Lexed.{Lex as StandsBehind, all_faults}
 use Rattle.js_grammar.specs.Marks.{Mark, a_lexeme, of_kinds, the_end, the_start}
 use Rattle.js_grammar.specs.Parsing.{Test, always, plain, full, Fails}
-use Rattle.js_grammar.specs.Productions.{G, Flags, at, Primary}
+use Rattle.js_grammar.specs.Productions.{G, Flags, at}
 use Rattle.js_grammar.specs.Productions.{New as new_symbol}
-use Rattle.js_grammar.specs.Table.{rule, rule_of}
+use Rattle.js_grammar.specs.Table.{rule}
 use Rattle.js_grammar.proofs.Looks.{covers, covered, same_self, some_at, some_of}
 use Rattle.js_grammar.proofs.Calculus.{◌▹✗◌, fails_node, fails_under, fails_when, inside_full}
 use Rattle.js_grammar.proofs.First.{starts}
@@ -37,11 +37,11 @@ use Rattle.js_cursor.specs.Parsers.{Parser}
 use Rattle.js_cursor.specs.Places.{goal}
 use Rattle.js_cursor.specs.declared.stop.Stop.{Stop}
 use Rattle.js_cursor.specs.declared.stop.Stop.TheVariants.{Fatal, NoMemory}
-use Rattle.js_operands.specs.Members.{MemberSoFar, NoBareNew, NoMember}
+use Rattle.js_operands.specs.Members.{MemberSoFar, NoMember, NoOther}
 use Rattle.js_operands.specs.NewTargets.{BehindDot, BehindNew, ChecksTarget, TargetOutcome, no_target_at, outside_at, target_slots}
 use Rattle.js_operands.proofs.Links.{member_target, new_target, no_member_new, with_arguments}
-use Rattle.js_operands.proofs.Members.{bare_fails, called_member, new_skips, no_primary}
-use Rattle.js_parsing.specs.Answers.{Stops, Underived, Verdict, unclean}
+use Rattle.js_operands.proofs.Members.{called_member, new_other, new_skips, no_primary, no_super_at_new}
+use Rattle.js_parsing.specs.Answers.{Stops, Verdict, unclean}
 use Rattle.js_parsing.specs.Classes.{EndsParse, ends_parse}
 use Rattle.js_parsing.specs.Lexemes.{Lex, spot}
 use Rattle.js_parsing.specs.Moves.{MadeHere, Moved, plain_label}
@@ -197,13 +197,13 @@ module _ {text : List ℕ} {f : Flags} {o p : Parser} (a : At text f o) (s : Sta
   unfolding covers
   no_call = (new_skips a s.0 s.1 m).goes ▹✗ at_dot (called_member f) refl
 
-  no_bare : NoBareNew text f o.prev_token_end
+  no_bare : NoOther text f o.prev_token_end
   unfolding covers
-  no_bare = bare_fails a s.0 s.1 m (at_dot (such (at new_symbol f) always) refl)
+  no_bare = new_other a s.0 s.1 m (at_dot (such (at new_symbol f) always) refl)
 
   -- nothing, where it isn't
   none_there : ((X : Test) → Fails rule (Lex text) X end (new_target f) o.prev_token_end) → NoMember text f o.prev_token_end
-  none_there t = (no_member_new f (no_primary a s.0 s.1 m) no_call t, no_bare)
+  none_there t = (no_member_new f (no_super_at_new a s.0 s.1 m) (no_primary a s.0 s.1 m) no_call t, no_bare)
 
   pub target_stops : {q : Parser} (n : Moved text f p q) → StandsHere q Target false → (w : Parser) (e : Stop) → GivesUp EndsParse q w e → Stops o w e (NoMember text f o.prev_token_end)
   target_stops {q} n t w e g = stops_behind w e (same_both m.same n.same) (λ h. grown_then m.kept (grown_then n.kept h)) (λ z. z) (gives_up EndsParse q w e n.at g (λ d i. i) (none_there (λ X. fails_under (fails_node inside_full no_word))))
@@ -263,7 +263,7 @@ module _ {text : List ℕ} {f : Flags} {o p : Parser} (a : At text f o) (s : Sta
           go : ChecksTarget z r g → Verdict_of g
           go (inl (i, k)) = unclean (grown_behind target_path.verdict (kept_one k)) (none_there (λ X. fails_when (allowed i)))
           go (inr (i, k)) = subst (λ (v : Parser). Verdict_of v) (sym k)
-              (verdict_of target_path.verdict (λ y. (member_target f (allowed i) (no_primary a s.0 s.1 m) no_call y (begins_here a), no_bare)) (λ x. none_there (λ X. fails_under (fails_node inside_full x))))
+              (verdict_of target_path.verdict (λ y. (member_target f (no_super_at_new a s.0 s.1 m) (allowed i) (no_primary a s.0 s.1 m) no_call y (begins_here a), no_bare)) (λ x. none_there (λ X. fails_under (fails_node inside_full x))))
 
       kept_nodes : Keeps o.nodes g.nodes
       kept_nodes = subst (λ (ns : List Node). Keeps o.nodes ns) (sym checked_nodes) (Keeps-refl o.nodes)

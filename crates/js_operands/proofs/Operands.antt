@@ -18,7 +18,7 @@ use Rattle.js_grammar.specs.Table.{rule, rule_of}
 use Rattle.js_grammar.specs.Follow.{edge_of, row_of, follow, follow_of, after, widest, first_edge}
 use Rattle.js_grammar.specs.Insertion.{after_expression}
 use Rattle.js_grammar.proofs.Looks.{covers, covered, apart}
-use Rattle.js_grammar.proofs.Calculus.{Inside, on_itself, ◌▹✗◌, fails_node, left, right}
+use Rattle.js_grammar.proofs.Calculus.{Inside, on_itself, ◌▹✗◌, fails_node, left}
 use Rattle.js_grammar.proofs.RightEdges.{may_end, same_row}
 use Rattle.js_grammar.proofs.FollowLaws.{fails_by}
 use Rattle.js_grammar.proofs.Lexemes.{first_or}

@@ -16,7 +16,7 @@ use Rattle.js_grammar.proofs.Looks.{covers, covered, apart}
 use Rattle.js_grammar.proofs.Calculus.{◌▹✗◌, done, fails_alt, fails_node, fails_rule, inside_full, left, right}
 use Rattle.js_tree.specs.declared.id.NodeId.{NodeId}
 use Rattle.js_cursor.specs.Parsers.{Parser}
-use Rattle.js_operands.specs.Objects.{Begins, NoAsyncMethod, ReadsAsyncMethod, accessors, begins_async, methods, ReadsMethod, ends_name_kinds, form_of, getter_of, method_left, named, setter_of, shorthand, with_method}
+use Rattle.js_operands.specs.Objects.{Begins, NoAsyncMethod, accessors, begins_async, methods, ReadsMethod, ends_name_kinds, form_of, getter_of, method_left, named, setter_of, shorthand, with_method}
 use Rattle.js_operands.specs.PropertyNames.{NameRead, NoName, NoNames}
 use Rattle.js_cursor.specs.declared.stop.Stop.{Stop}
 use Rattle.js_operands.specs.declared.property_name.PropertyName.{PropertyName}

@@ -2,7 +2,7 @@
 use Rattle.std.specs.Prelude.{ℕ, ◌≡◌, ◌<◌, Bool, true, false, not, List, [], ◌∷◌, Option, Some, None, Result, Ok, Err, ◌⊎◌}
 use Rattle.js_base.specs.declared.diagnostic.Diagnostic.{Diagnostic}
 use Rattle.js_base.specs.declared.diagnostic.DiagnosticKind.TheVariants.{ExpectFunctionName}
-use Rattle.js_base.specs.declared.kind.Kind.TheVariants.{Function as a_function, Star, Async, LParen}
+use Rattle.js_base.specs.declared.kind.Kind.TheVariants.{Function as a_function, Star, Async}
 use Rattle.js_base.specs.declared.span.Span.{Span}
 use Rattle.js_grammar.specs.Trees.{NodeKind, end as no_slots, function_declaration, function_expression}
 use Rattle.js_grammar.specs.Grammar.{Lexeme, Lexemes, nothing, ◌▸◌}

@@ -7,4 +7,5 @@ pub mod Numbers
 pub mod Objects
 pub mod PropertyNames
 pub mod Spreads
+pub mod Supers
 pub mod Templates

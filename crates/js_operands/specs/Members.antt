@@ -7,12 +7,12 @@ use Rattle.js_base.specs.declared.span.Span.{Span}
 use Rattle.js_base.specs.declared.kind.Kind.{Kind}
 use Rattle.js_base.specs.declared.kind.Kind.TheVariants.{New, Dot, QuestionDot, LParen, LBrack, NoSubstitutionTemplate, RBrack, TemplateHead}
 use Rattle.js_base.specs.Kinds.{one_of_kinds}
-use Rattle.js_grammar.specs.Trees.{NodeKind as TreeKind, Slots, end, tree, Label, no_op, static_member_expression, computed_member_expression, call_expression, new_expression}
+use Rattle.js_grammar.specs.Trees.{NodeKind as TreeKind, Slots, end, tree, Label, no_op, static_member_expression, computed_member_expression, call_expression, new_expression, super_expression}
 use Rattle.js_grammar.specs.Grammar.{Lexeme, Lexemes, is, such, nothing, ◌▸◌}
 use Rattle.js_grammar.specs.Follow.{row_of, after}
 use Rattle.js_grammar.specs.Insertion.{after_expression}
 use Rattle.js_grammar.specs.Parsing.{Test, Fails, always, plain, full}
-use Rattle.js_grammar.specs.Productions.{G, Flags, Symbol, at, mk, tok, optional_flag, plus_in, Member, Call, Links, LeftHandSide, IdentifierName, Expression}
+use Rattle.js_grammar.specs.Productions.{G, Flags, Symbol, at, mk, tok, optional_flag, plus_in, Member, Call, Links, Super, LeftHandSide, IdentifierName, Expression}
 use Rattle.js_grammar.specs.Productions.{New as new_symbol, sym as symbol}
 use Rattle.js_grammar.specs.Table.{rule, args}
 use Rattle.js_grammar.proofs.Chains.{members, calls, chains}
@@ -70,9 +70,22 @@ without_arguments f = mk new_expression (tok New ▸ symbol new_symbol f)
 abbrev pub NoBareNew : List ℕ → Flags → ℕ → Type 0
 NoBareNew text f s = Fails rule (Lex text) (after (at new_symbol f)) end (without_arguments f) s
 
--- no MemberExpression and no NewExpression
+-- what arguments begin with
+abbrev pub before_call : Test
+before_call = plain (is LParen)
+
+-- no `super` before arguments
+abbrev pub NoSuperCall : List ℕ → Flags → ℕ → Type 0
+NoSuperCall text f s = Fails rule (Lex text) before_call end (such (at Super f) always) s
+
+-- Besides a MemberExpression nothing begins here: neither a NewExpression that is none, nor a SuperCall.
+pub record NoOther (text : List ℕ) (f : Flags) (s : ℕ) : Type 0 where
+  pub bare : NoBareNew text f s
+  pub uncalled : NoSuperCall text f s
+
+-- no MemberExpression, no NewExpression and no SuperCall
 abbrev pub NoMember : List ℕ → Flags → ℕ → Type 0
-NoMember text f s = Underived text (at Member f) s × NoBareNew text f s
+NoMember text f s = Underived text (at Member f) s × NoOther text f s
 
 abbrev pub link_kinds : List Kind
 link_kinds = Dot ∷ LBrack ∷ NoSubstitutionTemplate ∷ TemplateHead ∷ QuestionDot ∷ LParen ∷ []
@@ -81,14 +94,24 @@ link_kinds = Dot ∷ LBrack ∷ NoSubstitutionTemplate ∷ TemplateHead ∷ Ques
 abbrev pub access_kinds : List Kind
 access_kinds = Dot ∷ LBrack ∷ NoSubstitutionTemplate ∷ TemplateHead ∷ []
 
--- A MemberExpression; or a NewExpression that is none, behind which no link stands.
+abbrev pub is_super_word : TreeKind → Bool
+is_super_word super_expression = true
+is_super_word _ = false
+
+-- the word `super`, whatever stands behind it
+pub record SuperWord (text : List ℕ) (f : Flags) (s : ℕ) (l : Label) (cs : Slots) (pass : Lexemes → Lexemes) (s' : ℕ) : Type 0 where
+  pub word : Stretch text (plain full) (such (at Super f) always) s nothing s' (tree l cs) pass
+  pub kind : is_super_word l.kind ≡ true
+
+-- A MemberExpression; or a NewExpression that is none, behind which no link stands; or `super` before arguments.
 pub data Headed (text : List ℕ) (f : Flags) (s : ℕ) (l : Label) (cs : Slots) (pass : Lexemes → Lexemes) (s' : ℕ) : Type 0 where
-  a_member : Stretch text (after (at Member f)) (such (at Member f) always) s nothing s' (tree l cs) pass → NoBareNew text f s → Headed text f s l cs pass s'
-  a_new : Underived text (at Member f) s → Stretch text (after (at new_symbol f)) (such (at new_symbol f) always) s nothing s' (tree l cs) pass → ((y : Lexeme) → Lex text s' y → one_of_kinds link_kinds y.kind ≡ false) → Headed text f s l cs pass s'
+  a_member : Stretch text (after (at Member f)) (such (at Member f) always) s nothing s' (tree l cs) pass → NoOther text f s → Headed text f s l cs pass s'
+  a_new : Underived text (at Member f) s → Stretch text (after (at new_symbol f)) (such (at new_symbol f) always) s nothing s' (tree l cs) pass → NoSuperCall text f s → ((y : Lexeme) → Lex text s' y → one_of_kinds link_kinds y.kind ≡ false) → Headed text f s l cs pass s'
+  a_super : Underived text (at Member f) s → NoBareNew text f s → SuperWord text f s l cs pass s' → (y : Lexeme) × Lex text s' y × (y.kind ≡ LParen) → Headed text f s l cs pass s'
 
 -- a member, as far as it was read
 abbrev pub MemberSoFar : List ℕ → Flags → ℕ → ℕ → Label → Slots → (Lexemes → Lexemes) → ℕ → Type 0
-MemberSoFar text f s from l cs pass s' = Looped text (members f) (after (at Member f)) s from l cs pass s' × NoBareNew text f s
+MemberSoFar text f s from l cs pass s' = Looped text (members f) (after (at Member f)) s from l cs pass s' × NoOther text f s
 
 -- neither `.` nor `[` stands here, nor a template
 abbrev pub NoAccess : List ℕ → Parser → Type 0

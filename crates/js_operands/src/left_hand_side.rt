@@ -21,6 +21,7 @@ ghost use Rattle.js_operands.specs.declared.left_hand_side.LinkBase.TheVariants 
 use crate::arguments::parse_call_arguments;
 use crate::new_target::parse_new_target;
 use crate::primary::{parse_leaf, parse_primary_expression};
+use crate::super_word::{check_new_callee, is_super_alone, parse_super_member};
 use crate::template::{begins_template, parse_chained_template, parse_tagged_template};
 use js_base::{DiagnosticKind, Kind, NoMemory, Span};
 use js_cursor::{ParserImpl, Stop};
@@ -34,7 +35,7 @@ use js_tree::{NodeFlags, NodeId, NodeKind, Op};
 
 /// What links go on with.
 #[derive(Clone, Copy)]
-enum LinkBase {
+pub(crate) enum LinkBase {
     /// A MemberExpression: a name or an expression in brackets.
     Member,
     /// A CallExpression: these, or arguments.
@@ -74,20 +75,28 @@ fn parse_member_expression_or_higher<C: ParserConfig, N: Nested<C>>(
             let target = parse_new_target(p, start)?;
             return parse_member_expression_rest(p, nested, start, target);
         }
+        let callee_start = p.cur_start();
+        let begins_super = stands(p, Kind::Super);
         p.enter(1)?;
         let callee = parse_member_expression_or_higher(p, nested)?;
         p.leave(1);
         if stands(p, Kind::QuestionDot) {
             return Err(refuse_chain(p));
         }
+        let super_alone = is_super_alone(p, begins_super, callee);
         if stands(p, Kind::LParen) {
             let kind = NodeKind::NewExpression;
             let node = parse_with_arguments(p, nested, start, kind, false, callee)?;
+            check_new_callee(p, super_alone, callee_start)?;
             return parse_member_expression_rest(p, nested, start, node);
         }
         let span = p.end_span(start);
         let node = make_one(p, NodeKind::NewExpression, Op::None, span, callee)?;
+        check_new_callee(p, super_alone, callee_start)?;
         return Ok(node);
+    }
+    if stands(p, Kind::Super) {
+        return parse_super_member(p, nested);
     }
     let primary = parse_primary_expression(p, nested)?;
     parse_member_expression_rest(p, nested, start, primary)
@@ -105,7 +114,7 @@ fn refuse_chain<C: ParserConfig>(p: &mut ParserImpl<'_, C>) -> Stop
 }
 
 /// The names, the expressions in brackets and the templates behind a member.
-fn parse_member_expression_rest<C: ParserConfig, N: Nested<C>>(
+pub(crate) fn parse_member_expression_rest<C: ParserConfig, N: Nested<C>>(
     p: &mut ParserImpl<'_, C>,
     nested: &N,
     start: u32,
@@ -178,7 +187,7 @@ fn parse_optional_chain<C: ParserConfig, N: Nested<C>>(
 }
 
 /// Whether a link stands here that goes on with such a base.
-fn link_here<C: ParserConfig>(p: &ParserImpl<'_, C>, base: LinkBase) -> bool
+pub(crate) fn link_here<C: ParserConfig>(p: &ParserImpl<'_, C>, base: LinkBase) -> bool
     ensures { LinkHere p.now base result }
 {
     if stands(p, Kind::Dot) {
@@ -235,7 +244,7 @@ fn parse_chain_link<C: ParserConfig, N: Nested<C>>(
 
 /// The link without `?.` that stands here, behind what was read.
 #[inline(never)]
-fn parse_link<C: ParserConfig, N: Nested<C>>(
+pub(crate) fn parse_link<C: ParserConfig, N: Nested<C>>(
     p: &mut ParserImpl<'_, C>,
     nested: &N,
     start: u32,

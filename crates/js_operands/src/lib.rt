@@ -10,4 +10,5 @@ pub mod new_target;
 pub mod object;
 pub mod primary;
 pub mod property_name;
+pub mod super_word;
 pub mod template;

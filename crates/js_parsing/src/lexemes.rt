@@ -166,6 +166,7 @@ fn is_read_reserved_word(kind: Kind) -> bool
             | Kind::In
             | Kind::Instanceof
             | Kind::New
+            | Kind::Super
             | Kind::Break
             | Kind::Continue
             | Kind::Return

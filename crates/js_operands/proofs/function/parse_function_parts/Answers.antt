@@ -1,4 +1,4 @@
-use Rattle.std.proofs.Common.{arith, ap, refl, ◌∙◌}
+use Rattle.std.proofs.Common.{arith, refl}
 use Rattle.js_base.specs.declared.kind.Kind.TheVariants.{Function}
 use Rattle.js_parsing.proofs.Signs.{whole_sign}
 use Rattle.std.proofs.lemmas.Result.{err_from_is_err_and}

@@ -1,11 +1,12 @@
 use Rattle.std.proofs.Common.{◌∙◌, ap, arith}
-use Rattle.js_base.specs.declared.kind.Kind.TheVariants.{Dot, New, QuestionDot, LParen}
+use Rattle.js_base.specs.declared.kind.Kind.TheVariants.{Dot, New, QuestionDot, LParen, Super}
 use Rattle.std.proofs.lemmas.Result.{err_from_is_err_and}
 use Rattle.js_cursor.specs.Parsers.{Parser}
 use Rattle.js_parsing.specs.Nesting.{room}
 use Rattle.js_parsing.proofs.Giving.{gives_up}
-use Rattle.js_operands.proofs.Members.{at_callee, begun_at, callee_room, entered_stops, member_init, new_arguments_stop, new_same, new_grown, new_refused, new_taken, new_with_arguments, no_head, stands_so, start_before, taken_room}
+use Rattle.js_operands.proofs.Members.{at_callee, callee_room, entered_stops, member_init, new_arguments_stop, new_same, new_grown, new_refused, new_taken, no_head, stands_so, start_before, taken_room}
 use Rattle.js_operands.proofs.NewTargets.{behind_new}
+use Rattle.js_operands.proofs.Supers.{arguments_at, arguments_before, arguments_checked, arguments_marked, bare_before, bare_checked, bare_marked, callee_node}
 use Rattle.js_parsing.proofs.Moving.{deeper, left_at, standing, stops_behind, stops_so}
 use Rattle.js_parsing.proofs.Nesting.{nested_room, nests_later, later_room}
 use Rattle.js_operands.proofs.left_hand_side.+parse_member_expression_or_higher.Goals as goal
@@ -140,7 +141,7 @@ parse_member_expression_rest-requires-then-stands-4-clause-at g t c =
     let u = stands_so c.advance.new.p Dot c.if-stands-2.false c.stands-then-stands.ensures in
     let h = c.in_ok-enter.ensures.ok.1 in
     let x = c.in_ok-callee.ensures _ _ (deeper m.at h) in
-    standing (new_with_arguments c.requires.at s.0 s.1 m u h c.leave.ensures x (stands_so c.leave.new.self LParen c.if-stands-4.true c.stands-then-stands-3.ensures) (begun_at c.cur_start-start.ensures c.in_ok-node.ensures)).at
+    standing (arguments_checked c.requires.at s m u h c.leave.ensures x _ c.stands-begins_super.ensures c.is_super_alone-super_alone.ensures (stands_so c.leave.new.self LParen c.if-stands-4.true c.stands-then-stands-3.ensures) c.cur_start-start.ensures c.in_ok-node.ensures c.in_ok-check_new_callee.ensures).at
 
 pub parse_member_expression_rest-requires-then-stands-4-clause-nests : goal.parse_member_expression_rest-requires-then-stands-4-clause-nests
 parse_member_expression_rest-requires-then-stands-4-clause-nests g t c =
@@ -149,7 +150,7 @@ parse_member_expression_rest-requires-then-stands-4-clause-nests g t c =
     let u = stands_so c.advance.new.p Dot c.if-stands-2.false c.stands-then-stands.ensures in
     let h = c.in_ok-enter.ensures.ok.1 in
     let x = c.in_ok-callee.ensures _ _ (deeper m.at h) in
-    let y = new_with_arguments c.requires.at s.0 s.1 m u h c.leave.ensures x (stands_so c.leave.new.self LParen c.if-stands-4.true c.stands-then-stands-3.ensures) (begun_at c.cur_start-start.ensures c.in_ok-node.ensures) in
+    let y = arguments_checked c.requires.at s m u h c.leave.ensures x _ c.stands-begins_super.ensures c.is_super_alone-super_alone.ensures (stands_so c.leave.new.self LParen c.if-stands-4.true c.stands-then-stands-3.ensures) c.cur_start-start.ensures c.in_ok-node.ensures c.in_ok-check_new_callee.ensures in
     nests_later c.requires.nests (taken_room c.requires.at y)
 
 pub parse_member_expression_rest-requires-then-stands-4-clause-start : goal.parse_member_expression_rest-requires-then-stands-4-clause-start
@@ -159,7 +160,7 @@ parse_member_expression_rest-requires-then-stands-4-clause-start g t c =
     let u = stands_so c.advance.new.p Dot c.if-stands-2.false c.stands-then-stands.ensures in
     let h = c.in_ok-enter.ensures.ok.1 in
     let x = c.in_ok-callee.ensures _ _ (deeper m.at h) in
-    let i = (new_with_arguments c.requires.at s.0 s.1 m u h c.leave.ensures x (stands_so c.leave.new.self LParen c.if-stands-4.true c.stands-then-stands-3.ensures) (begun_at c.cur_start-start.ensures c.in_ok-node.ensures)).further in
+    let i = (arguments_checked c.requires.at s m u h c.leave.ensures x _ c.stands-begins_super.ensures c.is_super_alone-super_alone.ensures (stands_so c.leave.new.self LParen c.if-stands-4.true c.stands-then-stands-3.ensures) c.cur_start-start.ensures c.in_ok-node.ensures c.in_ok-check_new_callee.ensures).further in
     let e = c.cur_start-start.ensures in omega arith
 
 pub returns-then-stands-4 : goal.returns-then-stands-4
@@ -169,7 +170,7 @@ returns-then-stands-4 g t c = λ text f a.
     let u = stands_so c.advance.new.p Dot c.if-stands-2.false c.stands-then-stands.ensures in
     let h = c.in_ok-enter.ensures.ok.1 in
     let x = c.in_ok-callee.ensures text f (deeper m.at h) in
-    c.parse_member_expression_rest-then-stands-4.ensures text f c.args.p.now c.cur_start-start.ensures (new_with_arguments a s.0 s.1 m u h c.leave.ensures x (stands_so c.leave.new.self LParen c.if-stands-4.true c.stands-then-stands-3.ensures) (begun_at c.cur_start-start.ensures c.in_ok-node.ensures))
+    c.parse_member_expression_rest-then-stands-4.ensures text f c.args.p.now c.cur_start-start.ensures (arguments_checked a s m u h c.leave.ensures x _ c.stands-begins_super.ensures c.is_super_alone-super_alone.ensures (stands_so c.leave.new.self LParen c.if-stands-4.true c.stands-then-stands-3.ensures) c.cur_start-start.ensures c.in_ok-node.ensures c.in_ok-check_new_callee.ensures)
 
 pub returns-then-stands : goal.returns-then-stands
 returns-then-stands g t c = λ text f a.
@@ -177,12 +178,14 @@ returns-then-stands g t c = λ text f a.
     let m = c.in_ok-advance.ensures text f a in
     let u = stands_so c.advance.new.p Dot c.if-stands-2.false c.stands-then-stands.ensures in
     let h = c.in_ok-enter.ensures.ok.1 in
-    new_taken a s.0 s.1 m u h c.leave.ensures (c.in_ok-callee.ensures text f (deeper m.at h)) (stands_so c.leave.new.self QuestionDot c.if-stands-3.false c.stands-then-stands-2.ensures) (stands_so c.leave.new.self LParen c.if-stands-4.false c.stands-then-stands-3.ensures) (c.end_span-span.ensures.start ∙ c.cur_start-start.ensures) c.end_span-span.ensures.end c.in_ok-node-2.ensures
+    let x = c.in_ok-callee.ensures text f (deeper m.at h) in
+    let y = new_taken a s.0 s.1 m u h c.leave.ensures x (stands_so c.leave.new.self QuestionDot c.if-stands-3.false c.stands-then-stands-2.ensures) (stands_so c.leave.new.self LParen c.if-stands-4.false c.stands-then-stands-3.ensures) (c.end_span-span.ensures.start ∙ c.cur_start-start.ensures) c.end_span-span.ensures.end c.in_ok-node-2.ensures in
+    bare_checked a s m u h c.leave.ensures x _ c.stands-begins_super.ensures c.is_super_alone-super_alone.ensures y (ap (λ (z : Parser). z.prev_token_end) c.in_ok-node-2.ensures.stays) c.in_ok-check_new_callee-2.ensures
 
 pub returns-in_err-primary : goal.returns-in_err-primary
 returns-in_err-primary g t c = λ text f a.
     let p = err_from_is_err_and c.from_residual-in_err-primary.result c.from_residual-in_err-primary.ensures.1 in
-    rw (p.1, p.2) (stops_so _ _ _ (λ n. no_head a (stands_so c.args.p.now New c.if-stands.false c.stands.ensures) n) (c.in_err-primary.ensures text f a))
+    rw (p.1, p.2) (stops_so _ _ _ (λ n. no_head a (stands_so c.args.p.now New c.if-stands.false c.stands.ensures) (stands_so c.args.p.now Super c.if-stands-5.false c.stands-2.ensures) n) (c.in_err-primary.ensures text f a))
 
 pub parse_member_expression_rest-requires-2-clause-at : goal.parse_member_expression_rest-requires-2-clause-at
 parse_member_expression_rest-requires-2-clause-at g t c = standing (c.in_ok-primary.ensures _ _ c.requires.at).answer.at
@@ -196,7 +199,7 @@ pub parse_member_expression_rest-requires-2-clause-start : goal.parse_member_exp
 parse_member_expression_rest-requires-2-clause-start g t c = let i = (c.in_ok-primary.ensures _ _ c.requires.at).answer.further in let s = c.cur_start-start.ensures in omega arith
 
 pub returns : goal.returns
-returns g t c = λ text f a. c.parse_member_expression_rest-2.ensures text f c.args.p.now c.cur_start-start.ensures (member_init a (stands_so c.args.p.now New c.if-stands.false c.stands.ensures) (c.in_ok-primary.ensures text f a))
+returns g t c = λ text f a. c.parse_member_expression_rest-2.ensures text f c.args.p.now c.cur_start-start.ensures (member_init a (stands_so c.args.p.now New c.if-stands.false c.stands.ensures) (stands_so c.args.p.now Super c.if-stands-5.false c.stands-2.ensures) (c.in_ok-primary.ensures text f a))
 
 pub refuse_chain-requires-clause-at : goal.refuse_chain-requires-clause-at
 refuse_chain-requires-clause-at g t c =
@@ -208,3 +211,69 @@ refuse_chain-requires-clause-at g t c =
 
 pub refuse_chain-requires-clause-sign : goal.refuse_chain-requires-clause-sign
 refuse_chain-requires-clause-sign g t c = stands_so c.leave.new.self QuestionDot c.if-stands-3.true c.stands-then-stands-2.ensures
+
+pub is_super_alone-super_alone-requires : goal.is_super_alone-super_alone-requires
+is_super_alone-super_alone-requires g t c =
+    let s = stands_so c.args.p.now New c.if-stands.true c.stands.ensures in
+    let m = c.in_ok-advance.ensures _ _ c.requires.at in
+    let u = stands_so c.advance.new.p Dot c.if-stands-2.false c.stands-then-stands.ensures in
+    let h = c.in_ok-enter.ensures.ok.1 in
+    callee_node c.requires.at s m u h c.leave.ensures (c.in_ok-callee.ensures _ _ (deeper m.at h))
+
+pub check_new_callee-requires-clause-at : goal.check_new_callee-requires-clause-at
+check_new_callee-requires-clause-at g t c =
+    let s = stands_so c.args.p.now New c.if-stands.true c.stands.ensures in
+    let m = c.in_ok-advance.ensures _ _ c.requires.at in
+    let u = stands_so c.advance.new.p Dot c.if-stands-2.false c.stands-then-stands.ensures in
+    let h = c.in_ok-enter.ensures.ok.1 in
+    let x = c.in_ok-callee.ensures _ _ (deeper m.at h) in
+    (arguments_at c.requires.at s m u h c.leave.ensures x _ c.stands-begins_super.ensures c.is_super_alone-super_alone.ensures (stands_so c.leave.new.self LParen c.if-stands-4.true c.stands-then-stands-3.ensures) c.cur_start-start.ensures c.in_ok-node.ensures).at
+
+pub check_new_callee-requires-clause-start : goal.check_new_callee-requires-clause-start
+check_new_callee-requires-clause-start g t c =
+    let s = stands_so c.args.p.now New c.if-stands.true c.stands.ensures in
+    let m = c.in_ok-advance.ensures _ _ c.requires.at in
+    let u = stands_so c.advance.new.p Dot c.if-stands-2.false c.stands-then-stands.ensures in
+    let h = c.in_ok-enter.ensures.ok.1 in
+    let x = c.in_ok-callee.ensures _ _ (deeper m.at h) in
+    let i = arguments_before c.requires.at s m u h c.leave.ensures x _ c.stands-begins_super.ensures c.is_super_alone-super_alone.ensures (stands_so c.leave.new.self LParen c.if-stands-4.true c.stands-then-stands-3.ensures) c.cur_start-start.ensures c.in_ok-node.ensures in
+    let e = c.cur_start-callee_start.ensures in omega arith
+
+pub check_new_callee-requires-clause-mark : goal.check_new_callee-requires-clause-mark
+check_new_callee-requires-clause-mark g t c = λ j.
+    let s = stands_so c.args.p.now New c.if-stands.true c.stands.ensures in
+    let m = c.in_ok-advance.ensures _ _ c.requires.at in
+    let u = stands_so c.advance.new.p Dot c.if-stands-2.false c.stands-then-stands.ensures in
+    let h = c.in_ok-enter.ensures.ok.1 in
+    let x = c.in_ok-callee.ensures _ _ (deeper m.at h) in
+    arguments_marked c.requires.at s m u h c.leave.ensures x _ c.stands-begins_super.ensures c.is_super_alone-super_alone.ensures (stands_so c.leave.new.self LParen c.if-stands-4.true c.stands-then-stands-3.ensures) c.cur_start-start.ensures c.in_ok-node.ensures c.cur_start-callee_start.ensures j
+
+pub check_new_callee-requires-then-stands-clause-at : goal.check_new_callee-requires-then-stands-clause-at
+check_new_callee-requires-then-stands-clause-at g t c =
+    let s = stands_so c.args.p.now New c.if-stands.true c.stands.ensures in
+    let m = c.in_ok-advance.ensures _ _ c.requires.at in
+    let u = stands_so c.advance.new.p Dot c.if-stands-2.false c.stands-then-stands.ensures in
+    let h = c.in_ok-enter.ensures.ok.1 in
+    let x = c.in_ok-callee.ensures _ _ (deeper m.at h) in
+    (new_taken c.requires.at s.0 s.1 m u h c.leave.ensures x (stands_so c.leave.new.self QuestionDot c.if-stands-3.false c.stands-then-stands-2.ensures) (stands_so c.leave.new.self LParen c.if-stands-4.false c.stands-then-stands-3.ensures) (c.end_span-span.ensures.start ∙ c.cur_start-start.ensures) c.end_span-span.ensures.end c.in_ok-node-2.ensures).0.at.at
+
+pub check_new_callee-requires-then-stands-clause-start : goal.check_new_callee-requires-then-stands-clause-start
+check_new_callee-requires-then-stands-clause-start g t c =
+    let s = stands_so c.args.p.now New c.if-stands.true c.stands.ensures in
+    let m = c.in_ok-advance.ensures _ _ c.requires.at in
+    let u = stands_so c.advance.new.p Dot c.if-stands-2.false c.stands-then-stands.ensures in
+    let h = c.in_ok-enter.ensures.ok.1 in
+    let x = c.in_ok-callee.ensures _ _ (deeper m.at h) in
+    let y = new_taken c.requires.at s.0 s.1 m u h c.leave.ensures x (stands_so c.leave.new.self QuestionDot c.if-stands-3.false c.stands-then-stands-2.ensures) (stands_so c.leave.new.self LParen c.if-stands-4.false c.stands-then-stands-3.ensures) (c.end_span-span.ensures.start ∙ c.cur_start-start.ensures) c.end_span-span.ensures.end c.in_ok-node-2.ensures in
+    let i = bare_before c.requires.at s m u h c.leave.ensures x _ c.stands-begins_super.ensures c.is_super_alone-super_alone.ensures y (ap (λ (z : Parser). z.prev_token_end) c.in_ok-node-2.ensures.stays) in
+    let e = c.cur_start-callee_start.ensures in omega arith
+
+pub check_new_callee-requires-then-stands-clause-mark : goal.check_new_callee-requires-then-stands-clause-mark
+check_new_callee-requires-then-stands-clause-mark g t c = λ j.
+    let s = stands_so c.args.p.now New c.if-stands.true c.stands.ensures in
+    let m = c.in_ok-advance.ensures _ _ c.requires.at in
+    let u = stands_so c.advance.new.p Dot c.if-stands-2.false c.stands-then-stands.ensures in
+    let h = c.in_ok-enter.ensures.ok.1 in
+    let x = c.in_ok-callee.ensures _ _ (deeper m.at h) in
+    let y = new_taken c.requires.at s.0 s.1 m u h c.leave.ensures x (stands_so c.leave.new.self QuestionDot c.if-stands-3.false c.stands-then-stands-2.ensures) (stands_so c.leave.new.self LParen c.if-stands-4.false c.stands-then-stands-3.ensures) (c.end_span-span.ensures.start ∙ c.cur_start-start.ensures) c.end_span-span.ensures.end c.in_ok-node-2.ensures in
+    bare_marked c.requires.at s m u h c.leave.ensures x _ c.stands-begins_super.ensures c.is_super_alone-super_alone.ensures y (ap (λ (z : Parser). z.prev_token_end) c.in_ok-node-2.ensures.stays) c.cur_start-callee_start.ensures j
