@@ -1,5 +1,5 @@
 -- The walk that finds the shorthands with an initialiser.
-use Rattle.std.proofs.Common.{◌≡◌, ℕ, zero, suc, ◌+◌, ◌<◌, ltb-true, ltb-false, Bool, true, false, cond, ◌&&◌, List, [], ◌∷◌, ◌++◌, length, map, Option, Some, None, get_or, slice_get, nat_lt, refl, ap, sym, ◌∙◌, subst, arith, lt-ltb, append_assoc, append-nil}
+use Rattle.std.proofs.Common.{◌≡◌, ℕ, ◌+◌, ◌<◌, ltb-true, ltb-false, Bool, true, false, cond, ◌&&◌, List, [], ◌∷◌, ◌++◌, length, map, Option, Some, get_or, slice_get, nat_lt, refl, ap, sym, ◌∙◌, subst, arith, lt-ltb, append_assoc, append-nil}
 use Rattle.js_base.specs.declared.span.Span.{Span}
 use Rattle.js_grammar.specs.Trees.{Label, Slots, Tree, Span as TreeSpan}
 use Rattle.js_grammar.specs.CoverInitialisers.{is_shorthand, has_third, is_initialised, initialised_in}

@@ -1,5 +1,5 @@
 -- How trees that numbers stand for are put together and kept.
-use Rattle.std.proofs.Common.{◌≡◌, ℕ, zero, suc, ◌-◌, ◌<◌, ◌≤◌, List, [], ◌∷◌, ◌++◌, length, get_or, set, drop, Option, Some, None, refl, ap, sym, ◌∙◌, subst, arith, length-append, length-set, append-nil, append_assoc, get_or-set_same, get_or-set_other}
+use Rattle.std.proofs.Common.{◌≡◌, ℕ, zero, suc, ◌-◌, ◌<◌, ◌≤◌, List, [], ◌∷◌, ◌++◌, length, get_or, set, Option, Some, None, refl, ap, sym, ◌∙◌, subst, arith, length-append, length-set, append-nil, append_assoc, get_or-set_same, get_or-set_other}
 use Rattle.std.proofs.lemmas.List.{get_or_append_left, get_or_push, length_push, set-append_right}
 use Rattle.js_base.specs.declared.span.Span.{Span}
 use Rattle.js_grammar.specs.Trees.{Label, Slots, end, hole, tree, append}
@@ -18,6 +18,14 @@ AreWithin-append lo hi (r ∷ rs) ss h k = (h.0, h.1, AreWithin-append lo hi rs 
 pub AreWithin-wider : (lo hi low high : ℕ) (rs : List ℕ) → low ≤ lo → hi ≤ high → AreWithin lo hi rs → AreWithin low high rs
 AreWithin-wider lo hi low high [] p q h = tt
 AreWithin-wider lo hi low high (r ∷ rs) p q h = (let a = h.0 in omega arith, let a = h.1 in omega arith, AreWithin-wider lo hi low high rs p q h.2)
+
+pub AreWithin-left : (lo hi : ℕ) (rs ss : List ℕ) → AreWithin lo hi (rs ++ ss) → AreWithin lo hi rs
+AreWithin-left lo hi [] ss h = tt
+AreWithin-left lo hi (r ∷ rs) ss h = (h.0, h.1, AreWithin-left lo hi rs ss h.2)
+
+pub AreWithin-right : (lo hi : ℕ) (rs ss : List ℕ) → AreWithin lo hi (rs ++ ss) → AreWithin lo hi ss
+AreWithin-right lo hi [] ss h = h
+AreWithin-right lo hi (r ∷ rs) ss h = AreWithin-right lo hi rs ss h.2
 
 Lacks-append : (rs ss : List ℕ) (x : ℕ) → Lacks rs x → Lacks ss x → Lacks (rs ++ ss) x
 Lacks-append [] ss x h k = k
@@ -233,16 +241,17 @@ Keeps-flags {ns} {ms} at f k w = let n = with_flags f (node_at ms at) in record 
 
 -- ---- the whole program
 
+-- the other nodes stay
+pub behind_program : (p : Node) (ns : List Node) (i : ℕ) → 1 ≤ i → get_or (with_program p ns) i empty_program ≡ get_or ns i empty_program
+behind_program p ns zero w = absurd (omega arith)
+behind_program p [] (suc i) w = refl
+behind_program p (n ∷ ns) (suc i) w = refl
+
 agree_program : (p : Node) (ns : List Node) (hi : ℕ) (rs : List ℕ) → AreWithin 1 hi rs → AgreeOn ns (with_program p ns) rs
 agree_program p ns hi [] h = tt
-agree_program p ns hi (r ∷ rs) h = (behind ns r h.0, agree_program p ns hi rs h.2)
-  where
-    behind : (xs : List Node) (i : ℕ) → 1 ≤ i → get_or (p ∷ drop 1 xs) i empty_program ≡ get_or xs i empty_program
-    behind xs zero w = absurd (omega arith)
-    behind [] (suc i) w = refl
-    behind (x ∷ xs) (suc i) w = refl
+agree_program p ns hi (r ∷ rs) h = (behind_program p ns r h.0, agree_program p ns hi rs h.2)
 
-length-with_program : (p : Node) (ns : List Node) → 1 ≤ length ns → length (with_program p ns) ≡ length ns
+pub length-with_program : (p : Node) (ns : List Node) → 1 ≤ length ns → length (with_program p ns) ≡ length ns
 length-with_program p [] w = absurd (omega arith)
 length-with_program p (n ∷ ns) w = refl
 

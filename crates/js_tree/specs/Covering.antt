@@ -1,5 +1,5 @@
 -- Shorthands with an initialiser among nodes (CoverInitializedName, ECMA-262, 13.2.5).
-use Rattle.std.specs.Prelude.{ℕ, Bool, ◌&&◌, List, length, nat_lt}
+use Rattle.std.specs.Prelude.{Bool, ◌&&◌, length, nat_lt}
 use Rattle.js_base.specs.declared.span.Span.{Span}
 use Rattle.js_grammar.specs.Trees.{Span as TreeSpan}
 use Rattle.js_grammar.specs.CoverInitialisers.{is_shorthand}

@@ -11,7 +11,8 @@ ghost use Rattle.js_tree.specs.Sources.{text_of, name_of, IsString, units_of, ra
 ghost use Rattle.js_tree.specs.Binding.{Binds};
 ghost use Rattle.js_base.specs.Decoding.{cooked};
 
-use crate::columns::Columns;
+use crate::columns::{Columns, column_for};
+use crate::count::count_with;
 use crate::flags::NodeFlags;
 use crate::id::NodeId;
 use crate::kind::NodeKind;
@@ -29,8 +30,9 @@ const BYTES_OF_A_NODE: usize = 3;
 /// tree is finished.
 #[derive(Drop)]
 pub struct ParserAstBuilder {
-    alloc: Global,
     columns: Columns,
+    /// How many nodes are reached from each number.
+    counts: Vec<u32>,
 }
 
 impl Model for ParserAstBuilder {
@@ -40,6 +42,10 @@ impl Model for ParserAstBuilder {
     ghost Value = { List Node };
 
     ghost view = { λ t. t.columns };
+
+    ghost use Rattle.js_tree.specs.Counting.{AreCounts};
+
+    ghost invariant = { λ t. AreCounts t.columns t.counts.items };
 }
 
 impl ParserAstBuilder {
@@ -47,10 +53,7 @@ impl ParserAstBuilder {
     pub fn new(alloc: Global) -> Result<Self, NoMemory>
         ensures { IfOk result (λ ns. ns ≡ empty_program ∷ []) }
     {
-        Ok(ParserAstBuilder {
-            alloc,
-            columns: Columns::new(alloc, 0)?,
-        })
+        Self::with_room(alloc, 0)
     }
 
     /// Program's node alone, with room for the nodes of a text of so many bytes, as far as there is memory. The only error
@@ -58,10 +61,39 @@ impl ParserAstBuilder {
     pub fn for_text(alloc: Global, bytes: usize) -> Result<Self, NoMemory>
         ensures { IfOk result (λ ns. ns ≡ empty_program ∷ []) }
     {
+        Self::with_room(alloc, bytes / BYTES_OF_A_NODE)
+    }
+
+    /// Program's node alone, with room for so many nodes where there is that much memory.
+    fn with_room(alloc: Global, nodes: usize) -> Result<Self, NoMemory>
+        ensures { IfOk result (λ ns. ns ≡ empty_program ∷ []) }
+    {
+        let mut counts = column_for(alloc, nodes);
+        counts.push(1)?;
         Ok(ParserAstBuilder {
-            alloc,
-            columns: Columns::new(alloc, bytes / BYTES_OF_A_NODE)?,
+            columns: Columns::new(alloc, nodes)?,
+            counts,
         })
+    }
+
+    /// One more node. After `NoMemory` all is as before.
+    #[inline(always)]
+    fn append(
+        &mut self,
+        kind: NodeKind,
+        span: Span,
+        op: Op,
+        flags: NodeFlags,
+        name: Option<Text>,
+        children: &[Option<NodeId>],
+    ) -> Result<NodeId, NoMemory>
+        ensures { Makes (new_node kind span op flags name children.now) self.old self.new result }
+    {
+        let count = count_with(self.counts.as_slice(), children)?;
+        self.counts.reserve(1)?;
+        let id = self.columns.append(kind, span, op, flags, name, children)?;
+        self.counts.push_reserved(count);
+        Ok(id)
     }
 
     /// Makes a node, whose number is one above the last one given; all other nodes stay. A name is kept where one is given.
@@ -78,8 +110,7 @@ impl ParserAstBuilder {
     ) -> Result<NodeId, NoMemory>
         ensures { Makes (new_node kind span op flags name children.items) self.old self.new result }
     {
-        self.columns
-            .append(kind, span, op, flags, name, children.as_slice())
+        self.append(kind, span, op, flags, name, children.as_slice())
     }
 
     /// Makes a node as `node` does, without a child and without a list.
@@ -94,7 +125,7 @@ impl ParserAstBuilder {
     ) -> Result<NodeId, NoMemory>
         ensures { Makes (new_node kind span op flags name []) self.old self.new result }
     {
-        self.columns.append(kind, span, op, flags, name, &[])
+        self.append(kind, span, op, flags, name, &[])
     }
 
     /// Makes a node as `node` does, with one slot and without a list.
@@ -109,7 +140,7 @@ impl ParserAstBuilder {
     ) -> Result<NodeId, NoMemory>
         ensures { Makes (new_node kind span op flags None (child ∷ [])) self.old self.new result }
     {
-        self.columns.append(kind, span, op, flags, None, &[child])
+        self.append(kind, span, op, flags, None, &[child])
     }
 
     /// Makes a node as `node` does, with two slots and without a list.
@@ -125,8 +156,7 @@ impl ParserAstBuilder {
     ) -> Result<NodeId, NoMemory>
         ensures { Makes (new_node kind span op flags None (first ∷ second ∷ [])) self.old self.new result }
     {
-        self.columns
-            .append(kind, span, op, flags, None, &[first, second])
+        self.append(kind, span, op, flags, None, &[first, second])
     }
 
     /// Makes a node as `node` does, with three slots, given in an array and without a list.
@@ -141,7 +171,7 @@ impl ParserAstBuilder {
     ) -> Result<NodeId, NoMemory>
         ensures { Makes (new_node kind span op flags None children) self.old self.new result }
     {
-        self.columns.append(kind, span, op, flags, None, &children)
+        self.append(kind, span, op, flags, None, &children)
     }
 
     /// Gives a node these flags; all else stays.
@@ -158,10 +188,9 @@ impl ParserAstBuilder {
         ensures nodes { IfOk result (λ t. t ≡ with_program (program_node span children.items) self) }
         ensures tree { IfOk result (λ t. (cs : Slots) → HoldsAll self 1 (length self) children.items cs → IsTree t (program_tree span cs)) }
     {
-        let alloc = self.alloc;
+        let count = count_with(self.counts.as_slice(), children.as_slice())?;
         let columns = self.columns.finish(span, children.as_slice())?;
-        let node_count = columns.count_nodes(alloc)?;
-        Ok(Tree::new(columns, node_count))
+        Ok(Tree::new(columns, count as usize))
     }
 
     /// Whether the number is of this builder.

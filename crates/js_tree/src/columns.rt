@@ -80,7 +80,7 @@ impl Entry {
 }
 
 /// An empty column, with room for so many entries where there is that much memory.
-fn column_for<T>(alloc: Global, entries: usize) -> Vec<T>
+pub(crate) fn column_for<T>(alloc: Global, entries: usize) -> Vec<T>
     ensures { result.items ≡ [] }
 {
     match Vec::with_capacity(alloc, entries) {

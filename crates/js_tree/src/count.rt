@@ -1,7 +1,7 @@
 //! How many nodes a tree has.
 
-ghost use Rattle.std.specs.Prelude.{◌≡◌, ◌++◌, IfOk, OnOk};
-ghost use Rattle.js_tree.specs.Counting.{IsCount};
+ghost use Rattle.std.specs.Prelude.{◌≡◌, ◌++◌, IfOk, OnOk, length, suc};
+ghost use Rattle.js_tree.specs.Counting.{counted};
 ghost use Rattle.js_tree.specs.Nodes.{node_at};
 ghost use Rattle.js_tree.specs.Parts.{below_all};
 
@@ -9,7 +9,26 @@ use crate::bound::push_children;
 use crate::columns::Columns;
 use crate::id::NodeId;
 use js_base::NoMemory;
-use std::alloc::Global;
+
+/// How many nodes are reached from one more node with these children, its own included, by the counts of the nodes before
+/// it. More than fit 32 bits count as want of memory.
+#[inline(always)]
+pub(crate) fn count_with(counts: &[u32], children: &[Option<NodeId>]) -> Result<u32, NoMemory>
+    ensures { IfOk result (λ count. count ≡ suc (counted counts.now (length counts.now) children.now)) }
+{
+    let mut count = 1u32;
+    for i in 0..children.len() {
+        if let Some(child) = children[i] {
+            if child.0 < counts.len() {
+                let Some(more) = count.checked_add(counts[child.0]) else {
+                    return Err(NoMemory);
+                };
+                count = more;
+            }
+        }
+    }
+    Ok(count)
+}
 
 impl Columns {
     /// Puts the children of a node on the stack.
@@ -24,22 +43,5 @@ impl Columns {
             return Ok(());
         }
         push_children(stack, id.0, self.children(id))
-    }
-
-    /// How many nodes are reached from Program, its own included.
-    pub(crate) fn count_nodes(&self, alloc: Global) -> Result<usize, NoMemory>
-        ensures { IfOk result (λ count. IsCount self.now count) }
-    {
-        let mut stack = Vec::new(alloc);
-        let mut count = 1usize;
-        push_children(&mut stack, self.len(), self.children(NodeId(0)))?;
-        while let Some(id) = stack.pop() {
-            let Some(more) = count.checked_add(1) else {
-                return Err(NoMemory);
-            };
-            count = more;
-            self.push_children_of(&mut stack, id)?;
-        }
-        Ok(count)
     }
 }

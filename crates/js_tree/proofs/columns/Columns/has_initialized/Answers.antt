@@ -1,7 +1,4 @@
-use Rattle.std.proofs.Common.{◌≡◌, ◌<◌, ℕ, Bool, true, false, nat_lt, arith, refl, sym, subst, ◌∙◌, ltb-true, ltb-false}
-use Rattle.js_tree.specs.declared.id.NodeId.{NodeId}
-use Rattle.js_tree.specs.Covering.{is_covering}
-use Rattle.js_tree.specs.Nodes.{node_at}
+use Rattle.std.proofs.Common.{◌≡◌, false, sym, ◌∙◌}
 use Rattle.js_tree.proofs.CoverLemmas.{one_more}
 use Rattle.js_tree.proofs.columns.Columns.has_initialized.Goals as goal
 
