@@ -130,7 +130,6 @@ module _ {text : List ℕ} {f : Flags} {g : G} {p q : Parser} {kind : Diagnostic
         keeps = subst (λ (ns : List Node). Keeps p.nodes ns) (sym nodes) x.read.keeps;
       }
 
-
 pub told_outcome : {text : List ℕ} {g : G} {kind : DiagnosticKind} (f : Flags) (p q : Parser) (r : Result NodeId Stop) → IsTold kind → Fails rule (Lex text) (plain full) end g p.prev_token_end → ToldOutcome kind text f p q r → WholeOutcome text f g p q r
 told_outcome f p q (Ok id) t n x = told_taken t n x
 told_outcome f p q (Err e) t n x = stops_so p q e (λ z. n) x
