@@ -46,7 +46,7 @@ use Rattle.js_parsing.specs.Told.{unrelated_at}
 use Rattle.js_parsing.proofs.Told.{told_at, told_same}
 use Rattle.js_parsing.proofs.Signs.{span_is}
 use Rattle.js_parsing.proofs.Verdicts.{after as grown_behind}
-use Rattle.js_expressions.proofs.Lookaheads.{peeked_kind, peeked_whole}
+use Rattle.js_patterns.proofs.Peeks.{peeked_kind, peeked_whole}
 use Rattle.js_statements.specs.DeclarationStatements.{Declaration, ReadsDeclaration, declaration}
 use Rattle.js_statements.specs.LetStatements.{behind_let, BeginsLexical, FindsLexical, LetBegins, LetHere, NoLet, TellsLexical}
 use Rattle.js_statements.proofs.DeclarationStatements.{as_statement, const_alone, const_listed, declaration_read, no_const_body}
