@@ -496,7 +496,7 @@ name_finds p q None a n h = h
 pub parenthesized_head : {text : List ℕ} {f : Flags} {p q : Parser} {id : NodeId} → At text f p → p.token.kind ≡ LParen → Numbered text f (at Params f) p q id → length q.errors ≡ length p.errors → Head text f f p q id
 parenthesized_head {p = p} {q = q} a k x e = head_of_path q (parameters_path a k x.answer) (by x.answer.verdict) x.answer.same refl x.holds x.keeps (λ b z. z)
   where
-    by : {C B : Type 0} → Verdict p.errors q.errors C B → q.errors ≡ p.errors
+    by : {C B : Type 0} → Verdict (f.wide ≡ true) p.errors q.errors C B → q.errors ≡ p.errors
     by (clean i c) = i
     by (unclean g n) = absurd (longer g (sym e))
 
@@ -653,8 +653,8 @@ from_unmoved text f n {p} {q} w (Ok id) u x = record {
     row = x.answer.row;
     pass = x.answer.pass;
     walked = walked_from u.spot_is x.answer.walked;
-    verdict = subst (λ (s : ℕ). Verdict p.errors w.errors (Stretch text (after n) (such n always) s nothing w.prev_token_end (tree x.answer.label x.answer.slots) x.answer.pass) (Underived text n s)) u.place
-        (subst (λ (ds : List Diagnostic). Verdict ds w.errors (Stretch text (after n) (such n always) q.prev_token_end nothing w.prev_token_end (tree x.answer.label x.answer.slots) x.answer.pass) (Underived text n q.prev_token_end)) u.kept x.answer.verdict);
+    verdict = subst (λ (s : ℕ). Verdict (f.wide ≡ true) p.errors w.errors (Stretch text (after n) (such n always) s nothing w.prev_token_end (tree x.answer.label x.answer.slots) x.answer.pass) (Underived text n s)) u.place
+        (subst (λ (ds : List Diagnostic). Verdict (f.wide ≡ true) ds w.errors (Stretch text (after n) (such n always) q.prev_token_end nothing w.prev_token_end (tree x.answer.label x.answer.slots) x.answer.pass) (Underived text n q.prev_token_end)) u.kept x.answer.verdict);
   };
   holds = Holds-wider (length p.nodes) (length w.nodes) (Keeps-longer u.keeps) (omega arith) x.holds;
   keeps = Keeps-trans u.keeps x.keeps;
@@ -691,7 +691,7 @@ went_back {p} {q} {r} o m (f, n, l) g =
 -- ---- an arrow function
 
 -- what a later call says of what was kept
-behind : {K : Type 0} {p q r : List K} {C B : Type 0} → Grown p q → Verdict q r C B → Grown p r
+behind : {K : Type 0} {p q r : List K} {C B : Type 0} → Grown p q → Verdict (f.wide ≡ true) q r C B → Grown p r
 behind g (clean e c) = grown_first g e
 behind g (unclean h n) = grown_both g h
 

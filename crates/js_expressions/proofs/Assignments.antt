@@ -69,8 +69,8 @@ shifted {text} {f} {n} {p} {q} {t} {id} x o = record {
     row = x.answer.row;
     pass = x.answer.pass;
     walked = walked_to (sym o.spot_is) x.answer.walked;
-    verdict = subst (λ (v : ℕ). Verdict p.errors t.errors (Stretch text (after n) (such n always) p.prev_token_end nothing v (tree x.answer.label x.answer.slots) x.answer.pass) (Underived text n p.prev_token_end)) (sym o.place)
-        (subst (λ (ds : List Diagnostic). Verdict p.errors ds (Stretch text (after n) (such n always) p.prev_token_end nothing q.prev_token_end (tree x.answer.label x.answer.slots) x.answer.pass) (Underived text n p.prev_token_end)) (sym o.kept) x.answer.verdict);
+    verdict = subst (λ (v : ℕ). Verdict (f.wide ≡ true) p.errors t.errors (Stretch text (after n) (such n always) p.prev_token_end nothing v (tree x.answer.label x.answer.slots) x.answer.pass) (Underived text n p.prev_token_end)) (sym o.place)
+        (subst (λ (ds : List Diagnostic). Verdict (f.wide ≡ true) p.errors ds (Stretch text (after n) (such n always) p.prev_token_end nothing q.prev_token_end (tree x.answer.label x.answer.slots) x.answer.pass) (Underived text n p.prev_token_end)) (sym o.kept) x.answer.verdict);
   };
   holds = subst (λ (ns : List Node). Holds ns (length p.nodes) (length ns) id.0 x.answer.label x.answer.slots) (sym o.nodes) x.holds;
   keeps = subst (λ (ns : List Node). Keeps p.nodes ns) (sym o.nodes) x.keeps;
