@@ -617,8 +617,12 @@ neither {p} n m = λ text f a. by text f p.token.escaped refl a
 
 -- ---- where the parser is where it was
 
+-- it stood so there before
+pub before_unmoved : {text : List ℕ} {f : Flags} {p q : Parser} → Standing p → Unmoved p q → At text f q → At text f p
+before_unmoved {p = p} {q = q} a u b = standing_for a (sym u.same.follows.text ∙ b.text_is) (sym (flags_same p q u.same.ctx u.same.follows.source_type u.same.options) ∙ b.flags_are)
+
 pub unmoved_none : {p q : Parser} → Standing p → Unmoved p q → NoArrowHere p → NoArrowHere q
-unmoved_none {p} {q} a u n = λ text f b. subst (λ (s : ℕ). Underived text (at Arrow' f) s) (sym u.place) (subst (λ (g : Flags). Underived text (at Arrow' g) p.prev_token_end) (sym (flags_same p q u.same.ctx u.same.follows.source_type u.same.options) ∙ b.flags_are) (subst (λ (t : List ℕ). Underived t (at Arrow' (flags_of p)) p.prev_token_end) (sym u.same.follows.text ∙ b.text_is) (n _ _ a)))
+unmoved_none {p} {q} a u n = λ text f b. subst (λ (s : ℕ). Underived text (at Arrow' f) s) (sym u.place) (n text f (before_unmoved a u b))
 
 pub unmoved_went_on : {p q : Parser} → Standing p → Unmoved p q → WentOn p q
 unmoved_went_on a u = let b = u.at _ _ a in ((u.same.follows, b.at), b.heads, λ w. (u.same.lies w).1)
@@ -636,7 +640,7 @@ no_yield_here {text} {f} {p} a n = go p.token.escaped refl
     go false e = no_yield a (λ k. by (has_flag yield_flag p.ctx) refl k e)
 
 unmoved_yield : {p q : Parser} → Standing p → Unmoved p q → (BeginsYield p → ⊥) → (text : List ℕ) (f : Flags) → At text f q → NoYield text f q.prev_token_end
-unmoved_yield {p} {q} a u n text f b = subst (λ (s : ℕ). NoYield text f s) (sym u.place) (subst (λ (g : Flags). NoYield text g p.prev_token_end) (sym (flags_same p q u.same.ctx u.same.follows.source_type u.same.options) ∙ b.flags_are) (subst (λ (t : List ℕ). NoYield t (flags_of p) p.prev_token_end) (sym u.same.follows.text ∙ b.text_is) (no_yield_here a n)))
+unmoved_yield {p} {q} a u n text f b = subst (λ (s : ℕ). NoYield text f s) (sym u.place) (no_yield_here (before_unmoved a u b) n)
 
 pub only_operand : {p q : Parser} → Standing p → (BeginsYield p → ⊥) → Unmoved p q → NoArrowHere p → OnlyOperandHere q
 only_operand a y u n = λ text f b. (unmoved_none a u n text f b, unmoved_yield a u y text f b)
@@ -691,9 +695,8 @@ went_back {p} {q} {r} o m (f, n, l) g =
 -- ---- an arrow function
 
 -- what a later call says of what was kept
-behind : {K : Type 0} {p q r : List K} {C B : Type 0} → Grown p q → Verdict (f.wide ≡ true) q r C B → Grown p r
-behind g (clean e c) = grown_first g e
-behind g (unclean h n) = grown_both g h
+behind : {W K : Type 0} {p q r : List K} {C B : Type 0} → Grown p q → Verdict W q r C B → Grown p r
+behind g v = grown_on g v
 
 -- the body: in braces where a brace stands, else an expression
 to_body : {text : List ℕ} {f : Flags} {X : Test} {r : Parser} (m : Bool) → At text f r → (b : Bool) → same_kind LCurly r.token.kind ≡ b → Goes rule (Lex text) X end (body_slots m f) r.prev_token_end (such (body_of b m f) always) r.prev_token_end (λ us. us) (still 0)

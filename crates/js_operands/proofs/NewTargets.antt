@@ -42,7 +42,7 @@ use Rattle.js_operands.specs.Members.{MemberSoFar, NoMember, NoOther}
 use Rattle.js_operands.specs.NewTargets.{BehindDot, BehindNew, ChecksTarget, TargetOutcome, no_target_at, outside_at, target_slots}
 use Rattle.js_operands.proofs.Links.{member_target, new_target, no_member_new, with_arguments}
 use Rattle.js_operands.proofs.Members.{called_member, new_other, new_skips, no_primary, no_super_at_new}
-use Rattle.js_parsing.specs.Answers.{Stops, Stretch, Verdict, unclean}
+use Rattle.js_parsing.specs.Answers.{Grown, Stops, Stretch, Verdict, unclean}
 use Rattle.js_parsing.specs.Classes.{EndsParse, ends_parse}
 use Rattle.js_parsing.specs.Lexemes.{Lex, spot}
 use Rattle.js_parsing.specs.Moves.{MadeHere, Moved, plain_label}
@@ -261,7 +261,7 @@ module _ {text : List ℕ} {f : Flags} {o p : Parser} (a : At text f o) (s : Sta
           allowed : {b : Bool} → (flags_of r).new_target ≡ b → f.new_target ≡ (f.wide || b)
           allowed i = sym (ap (λ (h : Flags). h.new_target) e.at.flags_are) ∙ ap (λ (b : Bool). f.wide || b) i
 
-          read_here : f.new_target ≡ true → Stretch text (plain full) target_slots o.prev_token_end nothing r.prev_token_end end target_path.pass → MemberSoFar text f o.prev_token_end o.token.span.start (label_here new_target_expression no_op o r) end target_path.pass r.prev_token_end
+          read_here : f.new_target ≡ true → Stretch text (plain full) target_slots o.prev_token_end nothing r.prev_token_end (λ us. us) target_path.pass → MemberSoFar text f o.prev_token_end o.token.span.start (label_here new_target_expression no_op o r) end target_path.pass r.prev_token_end
           read_here i y = (member_target f (no_super_at_new a s.0 s.1 m) i (no_primary a s.0 s.1 m) no_call y (begins_here a), no_bare)
 
           none_here : Fails rule (Lex text) (plain full) end target_slots o.prev_token_end → NoMember text f o.prev_token_end
@@ -269,7 +269,7 @@ module _ {text : List ℕ} {f : Flags} {o p : Parser} (a : At text f o) (s : Sta
 
           told_here : (k : TellsOne (outside_at z) r g) (w : Bool) → f.wide ≡ w → f.new_target ≡ (w || false) → Verdict_of g
           told_here k false h i = unclean (grown_behind target_path.verdict (kept_one k)) (none_there (λ X. fails_when i))
-          told_here k true h i = subst (λ (v : Parser). Verdict_of v) (sym k.is) (told_wider h (kept_one k) target_path.verdict (read_here i) none_here)
+          told_here k true h i = subst (λ (v : Parser). Verdict_of v) (sym k.is) (told_wider h (subst (λ (v : Parser). Grown r.errors v.errors) k.is (kept_one k)) target_path.verdict (read_here i) none_here)
 
           go : ChecksTarget z r g → Verdict_of g
           go (inl (i, k)) = told_here k f.wide refl (allowed i)
