@@ -14,6 +14,3 @@ pub use checkpoint::ParserCheckpoint;
 pub use parser::{MAX_DEPTH, ParserImpl, ParserParts};
 pub use state::{CoverInitializer, ParserState};
 pub use stop::{ListStep, Stop};
-
-#[cfg(test)]
-mod tests;

@@ -79,6 +79,20 @@ impl<'a, C: ParserConfig> Model for ParserImpl<'a, C> {
 /// overflows the stack.
 pub const MAX_DEPTH: u32 = 16_100;
 
+/// A token, field by field: one that a call has just written is not read whole before all its parts are.
+#[inline(always)]
+fn copy_of(token: &Token) -> Token
+    ensures { result ≡ token.now }
+{
+    Token::new(
+        token.kind(),
+        token.span(),
+        token.is_on_new_line(),
+        token.escaped(),
+        token.has_separator(),
+    )
+}
+
 /// The parameters in force where a text begins.
 fn context_at_start(source_type: SourceType, options: ParseOptions) -> Context
     ensures { AtStart source_type options result }
@@ -181,7 +195,7 @@ impl<'a, C: ParserConfig> ParserImpl<'a, C> {
         let next = self.lexer.next_token()?;
         self.prev_token_end = self.token.end();
         self.cut = is_kind(next.kind(), Kind::RAngle);
-        self.token = next;
+        self.token = copy_of(&next);
         Ok(())
     }
 

@@ -65,7 +65,10 @@ fn quick_behind(text: &str, at: usize, is_on_new_line: bool) -> Option<Token>
             let shown = first_sign(at, scanned);
             Some(token_of(shown, at, is_on_new_line))
         }
-        None => other_behind(text, at, is_on_new_line),
+        None => match other_behind(text, at, is_on_new_line) {
+            Some(token) => Some(copy_of(&token)),
+            None => None,
+        },
     }
 }
 

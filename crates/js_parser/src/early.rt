@@ -101,6 +101,7 @@ fn has_suspect(alloc: Global, tree: &Tree, source: &str) -> Result<bool, NoMemor
 }
 
 /// The rule that the node breaks, standing at the position.
+#[inline(always)]
 fn broken_rule(
     alloc: Global,
     tree: &Tree,

@@ -20,6 +20,3 @@ pub use entry::{
 };
 pub use name::{ExportExportName, ExportImportName, ExportLocalName, ImportImportName, NameSpan};
 pub use record::ModuleRecord;
-
-#[cfg(test)]
-mod tests;

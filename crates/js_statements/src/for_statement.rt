@@ -1,9 +1,11 @@
 //! `for` statements (ECMA-262, sections 14.7.4 and 14.7.5).
 
-ghost use Rattle.std.specs.Prelude.{◌≡◌, ◌+◌, ◌||◌, not, true, [], IfOk, MatchResult};
+ghost use Rattle.std.specs.Prelude.{◌≡◌, ◌+◌, ◌≤◌, true, [], IfOk, MatchResult};
 ghost use Rattle.js_base.specs.Contexts.{has_flag, in_flag};
 ghost use Rattle.js_base.specs.declared.kind.Kind.TheVariants.{For};
 ghost use Rattle.js_cursor.specs.Moves.{OnlyMemory};
+ghost use Rattle.js_cursor.specs.Places.{IsAt, goal};
+ghost use Rattle.js_grammar.specs.Marks.{Mark};
 ghost use Rattle.js_grammar.specs.Productions.{await_flag, flag};
 ghost use Rattle.js_parsing.specs.Moves.{MadeHere};
 ghost use Rattle.js_parsing.specs.Nesting.{CanNest, room};
@@ -11,15 +13,16 @@ ghost use Rattle.js_parsing.specs.Stands.{StandsHere};
 ghost use Rattle.js_parsing.specs.States.{Standing};
 ghost use Rattle.js_parsing.specs.Statements.{TakesAnywhere};
 ghost use Rattle.js_statements.specs.ForHeads.{AtEnd, EndsPart, TakesFirst, TakesHead, TakesParensHead, TakesPart, TakesRest, node_of};
-ghost use Rattle.js_statements.specs.ForWords.{PassesAwait, for_label, is_of};
+ghost use Rattle.js_statements.specs.ForWords.{ChecksAwait, ChecksEnding, PassesAwait, await_at, for_label, is_of, may_end_by, no_of_from};
 ghost use Rattle.js_tree.specs.Labels.{number_of};
 
 use crate::for_parts::parse_part_without_in;
-use js_base::{Kind, NoMemory, Span};
+use js_base::{DiagnosticKind, Kind, NoMemory, Span};
 use js_cursor::{ParserImpl, Stop};
 use js_lex::ParserConfig;
 use js_operands::primary::close_parentheses;
 use js_parsing::context::{context, set_context};
+use js_parsing::diagnostics::diagnostic_at;
 use js_parsing::lexemes::{advance, stands};
 use js_parsing::nested::Nested;
 use js_tree::{NodeFlags, NodeId, NodeKind, Op};
@@ -56,7 +59,8 @@ impl Ending {
 }
 
 /// A ForStatement, or a ForInOfStatement with `in` or `of` (ECMA-262, sections 14.7.4 and 14.7.5). Which of them it is, is known
-/// behind the first part of its head. `await` behind the word stands in one with `of` alone.
+/// behind the first part of its head. `await` behind the word stands in one with `of` alone: another head is told, and
+/// reading goes on.
 #[inline(never)]
 pub fn parse_for_statement<C: ParserConfig, N: Nested<C>>(
     p: &mut ParserImpl<'_, C>,
@@ -73,9 +77,7 @@ pub fn parse_for_statement<C: ParserConfig, N: Nested<C>>(
     let is_await = pass_await(p)?;
     let mut children = Vec::new(p.alloc);
     let ending = parse_paren_for_head(p, nested, is_await, &mut children)?;
-    if !has_its_of(is_await, ending) {
-        return Err(p.set_unexpected());
-    }
+    check_ending(p, start, is_await, ending)?;
     let body = nested.statement(p)?;
     children.push(Some(body))?;
     let span = p.end_span(start);
@@ -83,7 +85,8 @@ pub fn parse_for_statement<C: ParserConfig, N: Nested<C>>(
     Ok(node)
 }
 
-/// Passes `await` behind `for`, where the parameter Await is on; whether it stood there (ECMA-262, section 14.7.5).
+/// Passes `await` behind `for`, if it stands here (ECMA-262, section 14.7.5). Where it is no operator by the parameters that
+/// is told, and reading goes on.
 fn pass_await<C: ParserConfig>(p: &mut ParserImpl<'_, C>) -> Result<bool, Stop>
     requires { Standing p.old }
     ensures { MatchResult result (λ found. PassesAwait p.old p.new found) OnlyMemory }
@@ -91,16 +94,46 @@ fn pass_await<C: ParserConfig>(p: &mut ParserImpl<'_, C>) -> Result<bool, Stop>
     if !stands(p, Kind::Await) {
         return Ok(false);
     }
-    if !context(p).reads_await() {
-        return Ok(false);
-    }
+    let word = p.cur_token().span();
+    check_await(p, word)?;
     advance(p)?;
     Ok(true)
 }
 
-/// Whether the head ends its first part by `of`, where `await` stands before it.
-fn has_its_of(is_await: bool, ending: Ending) -> bool
-    ensures { result ≡ (not is_await || is_of ending) }
+/// Tells of the word `await` at a span, where it is no operator by the parameters.
+fn check_await<C: ParserConfig>(p: &mut ParserImpl<'_, C>, word: Span) -> Result<(), NoMemory>
+    requires at { IsAt p.old }
+    requires mark { Mark (goal p.old) p.old.text (await_at word) }
+    ensures { IfOk result (λ _. ChecksAwait word p.old p.new) }
+{
+    if !context(p).reads_await() {
+        p.error(diagnostic_at(DiagnosticKind::ForAwaitStatement, word))?;
+    }
+    Ok(())
+}
+
+/// Tells of the head of a `for` that began at a place: behind `await` its first part ends otherwise than by `of`.
+fn check_ending<C: ParserConfig>(
+    p: &mut ParserImpl<'_, C>,
+    start: u32,
+    is_await: bool,
+    ending: Ending,
+) -> Result<(), NoMemory>
+    requires at { IsAt p.old }
+    requires start { start ≤ p.old.prev_token_end }
+    requires mark { Mark (goal p.old) p.old.text (no_of_from start p.old.prev_token_end) }
+    ensures { IfOk result (λ _. ChecksEnding is_await ending start p.old p.new) }
+{
+    if !may_end_by(is_await, ending) {
+        let span = p.end_span(start);
+        p.error(diagnostic_at(DiagnosticKind::ForAwait, span))?;
+    }
+    Ok(())
+}
+
+/// Whether the first part of a head may end so, with `await` before it or without.
+fn may_end_by(is_await: bool, ending: Ending) -> bool
+    ensures { result ≡ may_end_by is_await ending }
 {
     !is_await || ending.is_of()
 }

@@ -103,7 +103,7 @@ mutual
   all_count (next_child {rs = rs} {ss = ss} b h a) = let e = stands_count h in let f = all_count a in let g = length-append rs ss in omega arith
   all_count (next_hole a) = all_count a
 
-first_is : (ns : List Node) (p : Node) → slice_get ns 0 ≡ Some p → get_or ns 0 empty_program ≡ p
+pub first_is : (ns : List Node) (p : Node) → slice_get ns 0 ≡ Some p → get_or ns 0 empty_program ≡ p
 first_is [] p e = absurd (let k = e in cc)
 first_is (n ∷ ns) p e = let q : n ≡ p = cc in q
 

@@ -1,5 +1,5 @@
 -- The walk that finds the shorthands with an initialiser.
-use Rattle.std.proofs.Common.{◌≡◌, ℕ, ◌+◌, ◌<◌, ltb-true, ltb-false, Bool, true, false, cond, ◌&&◌, List, [], ◌∷◌, ◌++◌, length, map, Option, Some, get_or, slice_get, nat_lt, refl, ap, sym, ◌∙◌, subst, arith, lt-ltb, append_assoc, append-nil}
+use Rattle.std.proofs.Common.{◌≡◌, ℕ, ◌<◌, Bool, true, false, cond, ◌&&◌, List, [], ◌∷◌, ◌++◌, length, map, Option, Some, get_or, slice_get, nat_lt, refl, ap, sym, ◌∙◌, subst, arith, lt-ltb, append_assoc, append-nil}
 use Rattle.js_base.specs.declared.span.Span.{Span}
 use Rattle.js_grammar.specs.Trees.{Label, Slots, Tree, Span as TreeSpan}
 use Rattle.js_grammar.specs.CoverInitialisers.{is_shorthand, has_third, is_initialised, initialised_in}
@@ -23,7 +23,7 @@ pub record Means (ns : List Node) (id : NodeId) (v : List TreeSpan) : Type 0 whe
   pub is : v ≡ spans_of label slots
 
 -- as many slots as children
-third_is : {ns : List Node} {b : ℕ} {ids : List (Option NodeId)} {cs : Slots} {rs : List ℕ} → StandsAll ns b ids cs rs → has_third cs ≡ nat_lt 2 (length ids)
+pub third_is : {ns : List Node} {b : ℕ} {ids : List (Option NodeId)} {cs : Slots} {rs : List ℕ} → StandsAll ns b ids cs rs → has_third cs ≡ nat_lt 2 (length ids)
 third_is no_slots = refl
 third_is (next_child b h no_slots) = refl
 third_is (next_hole no_slots) = refl
@@ -103,25 +103,3 @@ Found-below ps id found whole w = let x = Stacked-pop ps id w.rest w.stacked in 
 
 pub Found-end : {ns : List Node} (found : List Span) (whole : List TreeSpan) → Found ns [] found whole → found ≡ map placed whole
 Found-end found whole w = w.is ∙ ap (map placed) (sym (append-nil w.done) ∙ ap (λ (v : List TreeSpan). w.done ++ v) (sym (Stacked-none w.stacked)) ∙ sym w.parts)
-
--- ---- where no node is one
-
-mutual
-  none_stands : {ns : List Node} → ((id : NodeId) → id.0 < length ns → is_covering (node_at ns id) ≡ false) → {id : ℕ} {l : Label} {cs : Slots} {rs : List ℕ} → Stands ns id l cs rs → spans_of l cs ≡ []
-  none_stands {ns} n (stands {cs} {rs} id h a) = rw (sym (ap (λ (v : Bool). is_shorthand (label (get_or ns id empty_program)) && v) (sym (third_is a))) ∙ n (record { 0 = id }) h) (none_all n a)
-
-  none_all : {ns : List Node} → ((id : NodeId) → id.0 < length ns → is_covering (node_at ns id) ≡ false) → {b : ℕ} {ids : List (Option NodeId)} {cs : Slots} {rs : List ℕ} → StandsAll ns b ids cs rs → initialised_in cs ≡ []
-  none_all n no_slots = refl
-  none_all n (next_child {l = l} {cs = cs} {us = us} b h a) = sym (append_assoc (cond (is_initialised l cs) (l.span ∷ []) []) (initialised_in cs) (initialised_in us)) ∙ (ap (λ (v : List TreeSpan). v ++ initialised_in us) (none_stands n h) ∙ none_all n a)
-  none_all n (next_hole a) = none_all n a
-
-pub none_in : (ns : List Node) → ((id : NodeId) → id.0 < length ns → is_covering (node_at ns id) ≡ false) → (t : Tree) → IsTree ns t → map placed (initialised_in t.slots) ≡ []
-none_in ns n t h = ap (map placed) (none_all n (h.children).stands)
-
--- none up to a number, and none at that
-pub one_more : (ns : List Node) (i : ℕ) → ((id : NodeId) → id.0 < i → is_covering (node_at ns id) ≡ false) → is_covering (node_at ns (record { 0 = i })) ≡ false → (id : NodeId) → id.0 < i + 1 → is_covering (node_at ns id) ≡ false
-one_more ns i n e id h = go (nat_lt id.0 i) refl
-  where
-    go : (b : Bool) → nat_lt id.0 i ≡ b → is_covering (node_at ns id) ≡ false
-    go true q = n id (ltb-true id.0 i q)
-    go false q = let w = ltb-false id.0 i q in let z : id.0 ≡ i = omega arith in subst (λ (m : ℕ). is_covering (node_at ns (record { 0 = m })) ≡ false) (sym z) e

@@ -12,3 +12,4 @@ pub mod BindingLemmas
 pub mod WalkLemmas
 pub mod CountLemmas
 pub mod CoverLemmas
+pub mod Coverings

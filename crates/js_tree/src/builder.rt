@@ -13,6 +13,7 @@ ghost use Rattle.js_base.specs.Decoding.{cooked};
 
 use crate::columns::{Columns, column_for};
 use crate::count::count_with;
+use crate::cover::{covers_with, may_cover};
 use crate::flags::NodeFlags;
 use crate::id::NodeId;
 use crate::kind::NodeKind;
@@ -33,6 +34,8 @@ pub struct ParserAstBuilder {
     columns: Columns,
     /// How many nodes are reached from each number.
     counts: Vec<u32>,
+    /// Whether what may be a shorthand with an initialiser is reached from each number.
+    covers: Vec<bool>,
 }
 
 impl Model for ParserAstBuilder {
@@ -44,8 +47,9 @@ impl Model for ParserAstBuilder {
     ghost view = { λ t. t.columns };
 
     ghost use Rattle.js_tree.specs.Counting.{AreCounts};
+    ghost use Rattle.js_tree.specs.Covering.{AreCovers};
 
-    ghost invariant = { λ t. AreCounts t.columns t.counts.items };
+    ghost invariant = { λ t. AreCounts t.columns t.counts.items × AreCovers t.columns t.covers.items };
 }
 
 impl ParserAstBuilder {
@@ -70,9 +74,12 @@ impl ParserAstBuilder {
     {
         let mut counts = column_for(alloc, nodes);
         counts.push(1)?;
+        let mut covers = column_for(alloc, nodes);
+        covers.push(false)?;
         Ok(ParserAstBuilder {
             columns: Columns::new(alloc, nodes)?,
             counts,
+            covers,
         })
     }
 
@@ -90,9 +97,13 @@ impl ParserAstBuilder {
         ensures { Makes (new_node kind span op flags name children.now) self.old self.new result }
     {
         let count = count_with(self.counts.as_slice(), children)?;
+        let itself = may_cover(kind, children.len());
+        let cover = covers_with(self.covers.as_slice(), itself, children);
         self.counts.reserve(1)?;
+        self.covers.reserve(1)?;
         let id = self.columns.append(kind, span, op, flags, name, children)?;
         self.counts.push_reserved(count);
+        self.covers.push_reserved(cover);
         Ok(id)
     }
 
@@ -190,7 +201,8 @@ impl ParserAstBuilder {
     {
         let count = count_with(self.counts.as_slice(), children.as_slice())?;
         let columns = self.columns.finish(span, children.as_slice())?;
-        Ok(Tree::new(columns, count as usize))
+        let covers = covers_with(self.covers.as_slice(), false, children.as_slice());
+        Ok(Tree::new(columns, count as usize, covers))
     }
 
     /// Whether the number is of this builder.

@@ -22,6 +22,3 @@ pub use kind::NodeKind;
 pub use op::{BigintBase, ClauseWord, DeclarationKind, MethodKind, NumberBase, Op, PropertyKind};
 pub use reading::without_sign;
 pub use tree::Tree;
-
-#[cfg(test)]
-mod tests;

@@ -1,11 +1,11 @@
 //! The tree of a program.
 
-ghost use Rattle.std.specs.Prelude.{◌≡◌, ◌<◌, ◌↔◌, ◌∷◌, [], length, map, is_some, slice_get, IfOk, IsTrue, Some, None, ℕ, List, chars};
+ghost use Rattle.std.specs.Prelude.{◌≡◌, ◌<◌, ◌↔◌, ◌∷◌, [], false, length, map, is_some, slice_get, IfOk, IsTrue, Some, None, ℕ, List, chars};
 ghost use Rattle.js_base.specs.Spans.{LiesIn};
 ghost use Rattle.js_grammar.specs.Trees.{Label, Slots, Tree as SeenTree};
 ghost use Rattle.js_grammar.specs.CoverInitialisers.{initialised_in};
 ghost use Rattle.js_grammar.specs.Lines.{tree_text};
-ghost use Rattle.js_tree.specs.Covering.{placed};
+ghost use Rattle.js_tree.specs.Covering.{HasNone, placed};
 ghost use Rattle.js_tree.specs.Counting.{IsCount};
 ghost use Rattle.js_tree.specs.Nodes.{node_at, new_node, empty_program, flags_set, program_node};
 ghost use Rattle.js_tree.specs.Holding.{Makes, Stands, HoldsAll, IsTree, with_program, program_tree};
@@ -29,6 +29,8 @@ use std::marker::Model;
 pub struct Tree {
     columns: Columns,
     node_count: usize,
+    /// Whether a shorthand with an initialiser may be in it.
+    may_cover: bool,
 }
 
 impl Model for Tree {
@@ -39,9 +41,11 @@ impl Model for Tree {
 
     ghost view = { λ t. t.columns };
 
+    ghost use Rattle.std.specs.Prelude.{◌≡◌, false};
     ghost use Rattle.js_tree.specs.Counting.{IsCount};
+    ghost use Rattle.js_tree.specs.Covering.{HasNone};
 
-    ghost invariant = { λ t. IsCount t.columns t.node_count };
+    ghost invariant = { λ t. IsCount t.columns t.node_count × (t.may_cover ≡ false → HasNone t.columns) };
 }
 
 impl Tree {
@@ -50,17 +54,22 @@ impl Tree {
     pub fn cover_initializers(&self, alloc: Global) -> Result<Vec<Span>, NoMemory>
         ensures { IfOk result (λ spans. (t : SeenTree) → IsTree self.now t → spans.items ≡ map placed (initialised_in t.slots)) }
     {
+        if !self.may_cover {
+            return Ok(Vec::new(alloc));
+        }
         self.columns.cover_initializers(alloc)
     }
 
     /// The tree of finished columns.
-    pub(crate) fn new(columns: Columns, node_count: usize) -> Tree
-        requires { IsCount columns node_count }
+    pub(crate) fn new(columns: Columns, node_count: usize, may_cover: bool) -> Tree
+        requires count { IsCount columns node_count }
+        requires covers { may_cover ≡ false → HasNone columns }
         ensures { result ≡ columns }
     {
         Tree {
             columns,
             node_count,
+            may_cover,
         }
     }
 

@@ -1,12 +1,9 @@
-use Rattle.std.proofs.Common.{◌≡◌, false, arith, sym, ◌∙◌}
+use Rattle.std.proofs.Common.{arith}
 use Rattle.std.proofs.lemmas.List.{nil_from_length}
 use Rattle.js_grammar.specs.CoverInitialisers.{initialised_in}
 use Rattle.js_tree.proofs.CountLemmas.{children_lighter}
-use Rattle.js_tree.proofs.CoverLemmas.{Found-start, Found-step, Found-end, none_in}
+use Rattle.js_tree.proofs.CoverLemmas.{Found-start, Found-step, Found-end}
 use Rattle.js_tree.proofs.columns.Columns.cover_initializers.Goals as goal
-
-pub returns-then-not-has_initialized : goal.returns-then-not-has_initialized
-returns-then-not-has_initialized c t h = c.new-spans.ensures.items ∙ sym (none_in c.args.self.now (c.has_initialized.ensures (let e : c.has_initialized.result ≡ false = search in e)) t h)
 
 pub nodes-init : goal.nodes-init
 nodes-init c t h = rw (c.in_ok-push_children.ensures, c.new-stack.ensures.items, c.new-spans.ensures.items, c.len.ensures.len, c.children.ensures) (Found-start c.args.self.now t h)
