@@ -4,8 +4,8 @@ use Rattle.std.proofs.lemmas.Bool.{false≢true, and_parts}
 use Rattle.js_base.specs.declared.kind.Kind.{Kind}
 use Rattle.js_base.specs.declared.kind.Kind.TheVariants.{Await, Yield, Eq, Colon, Comma, Dot3, LBrack, RBrack, LCurly, RCurly}
 use Rattle.js_base.specs.Kinds.{same_kind}
-use Rattle.js_grammar.specs.Trees.{Label, Slots, end, tree, assignment_target_rest, assignment_expression, assignment_target_with_default, elision, object_expression}
-use Rattle.js_grammar.specs.Grammar.{Lexeme, Lexemes, Look, next, seen, is, commas, is_commas, is_ahead, is_keep, seq, such, many, nothing, never, empty_slot, when, ◌▸◌, ◌◇◌, Takes, is_nothing, is_lexeme, is_empty_slot, is_seq, is_left, is_right, is_when, is_many, is_such, is_node, is_look, is_text, is_marked, is_ended, is_kept}
+use Rattle.js_grammar.specs.Trees.{Label, Slots, end, tree, of, no_op, assignment_target_rest, assignment_expression, assignment_target_with_default, elision, object_expression}
+use Rattle.js_grammar.specs.Grammar.{Lexeme, Lexemes, Look, next, here, seen, is, commas, is_commas, is_ahead, is_keep, seq, such, many, nothing, never, empty_slot, when, ◌▸◌, ◌◇◌, Takes, is_nothing, is_lexeme, is_empty_slot, is_seq, is_left, is_right, is_when, is_many, is_such, is_node, is_look, is_text, is_marked, is_ended, is_kept}
 use Rattle.js_grammar.specs.Parsing.{always}
 use Rattle.js_grammar.specs.Productions.{G, Flags, Symbol, at, tok, mk, op, opt, slot, branches, IdentifierReference, Init, Property, TargetProperty, plus_in, Argument, Assignment, LeftHandSide, Primary, SimpleTarget, Target, ArrayTarget, ObjectTarget, TargetElement}
 use Rattle.js_grammar.specs.Productions.{sym as symbol}
@@ -44,6 +44,9 @@ literal_step f = mk elision (tok Comma) ◇ symbol Argument f ▸ tok Comma
 abbrev pub literal_last : Flags → G
 literal_last f = symbol Argument f ◇ never ◇ nothing
 
+abbrev pub literal_items : Flags → G
+literal_items f = seq (many (literal_step f)) (literal_last f)
+
 such_of : {n : Symbol} {l : Label} {cs us : Slots} {i j : ℕ} {ls rest : Lexemes} → Takes rule (rule n) end (tree l cs end) i ls end j rest → Takes rule (such n always) end (tree l cs us) i ls us j rest
 such_of d = is_such d refl
 
@@ -54,7 +57,7 @@ raised f {l} {cs} d = record { label = l; slots = cs; derived = of_such ((of_ass
     of_such : {n : Symbol} {i j : ℕ} {ls rest : Lexemes} → Takes rule (such n always) end (tree l cs end) i ls end j rest → Takes rule (rule n) end (tree l cs end) i ls end j rest
     of_such (is_such d h) = d
 
-by_array : (f : Flags) {ts : Slots} {i j : ℕ} {x : Lexeme} {ls rest : Lexemes} → IsTrue (seen (is LBrack) x) → Takes rule (seq (seq (many (literal_step f)) (literal_last f)) (tok RBrack)) end ts x.to ls end j rest → Arrayed f i (next x ls) j rest
+by_array : (f : Flags) {ts : Slots} {i j : ℕ} {x : Lexeme} {ls rest : Lexemes} → IsTrue (seen (is LBrack) x) → Takes rule (seq (literal_items f) (tok RBrack)) end ts x.to ls end j rest → Arrayed f i (next x ls) j rest
 unfolding rule rule_of
 by_array f q d = record { label = _; slots = _; array = refl; derived = is_right (is_right (is_right (is_right (is_right (is_right (is_right (is_right (is_right (is_right (is_right (is_left (is_node (is_seq (is_lexeme q) d))))))))))))) }
 
@@ -84,8 +87,15 @@ pub record Objected (f : Flags) (i : ℕ) (ls : Lexemes) (j : ℕ) (rest : Lexem
 abbrev pub target_property : Flags → G
 target_property f = never ◇ symbol TargetProperty f ▸ tok Comma
 
+-- what is left of an object, a literal among it where targets are wide
+abbrev pub left_line : Flags → G
+left_line f = symbol SimpleTarget f ◇ when f.wide (symbol ArrayTarget f ◇ symbol ObjectTarget f)
+
+abbrev rest_property : Flags → G
+rest_property f = rest_of f (mk assignment_target_rest (tok Dot3 ▸ left_line f))
+
 abbrev pub last_property : Flags → G
-last_property f = symbol TargetProperty f ◇ rest_of f (mk assignment_target_rest (tok Dot3 ▸ (symbol SimpleTarget f ◇ when f.wide (symbol ArrayTarget f ◇ symbol ObjectTarget f)))) ◇ nothing
+last_property f = symbol TargetProperty f ◇ rest_property f ◇ nothing
 
 abbrev pub properties : Flags → G
 properties f = opt (commas true (symbol Property f))
@@ -142,36 +152,40 @@ spread_property : (f : Flags) {i j : ℕ} {x : Lexeme} {ls rest : Lexemes} → I
 unfolding rule rule_of
 spread_property f q e = record { label = _; slots = _; derived = is_right (is_right (is_node (is_seq (is_lexeme q) (is_such e.derived refl)))) }
 
-abbrev rest_property : Flags → G
-rest_property f = rest_of f (mk assignment_target_rest (tok Dot3 ▸ (symbol SimpleTarget f ◇ when f.wide (symbol ArrayTarget f ◇ symbol ObjectTarget f))))
-
-abbrev with_default : Flags → Kind → G
+abbrev pub with_default : Flags → Kind → G
 with_default f o = mk assignment_target_with_default (symbol SimpleTarget f ▸ tok o ▸ symbol Assignment (plus_in f))
 
-abbrev assigning : Flags → Kind → G
+abbrev pub assigning : Flags → Kind → G
 assigning f o = op assignment_expression o (symbol SimpleTarget f ▸ tok o ▸ symbol Assignment f)
 
--- a simple target with another operator than `=`, as an assignment
-record Assigning (f : Flags) (ks : List Kind) (i : ℕ) (ls : Lexemes) (j : ℕ) (rest : Lexemes) : Type 0 where
-  pub label : Label
-  pub slots : Slots
-  pub derived : Takes rule (branches ks (assigning (plus_in f))) end (tree label slots end) i ls end j rest
+abbrev pub default_label : Lexemes → ℕ → Label
+default_label ls j = record { kind = assignment_target_with_default; op = no_op; flags = 0; span = record { from = (here ls).from; to = j } }
 
-by_other : (f : Flags) {ts us : Slots} {i j : ℕ} {ls rest : Lexemes} (ks : List Kind) → Takes rule (branches ks (with_default f)) end ts i ls us j rest → Assigning f ks i ls j rest
+abbrev pub assigned_label : Kind → Lexemes → ℕ → Label
+assigned_label o ls j = record { kind = assignment_expression; op = of o; flags = 0; span = record { from = (here ls).from; to = j } }
+
+-- a simple target with another operator than `=`, as an assignment
+pub record Assigning (f : Flags) (ks : List Kind) (ts us : Slots) (i : ℕ) (ls : Lexemes) (j : ℕ) (rest : Lexemes) : Type 0 where
+  pub operator : Kind
+  pub slots : Slots
+  pub is_tree : ts ≡ tree (default_label ls j) slots us
+  pub derived : Takes rule (branches ks (assigning (plus_in f))) end (tree (assigned_label operator ls j) slots end) i ls end j rest
+
+pub by_other : (f : Flags) {ts us : Slots} {i j : ℕ} {ls rest : Lexemes} (ks : List Kind) → Takes rule (branches ks (with_default f)) end ts i ls us j rest → Assigning f ks ts us i ls j rest
 by_other f [] d = elim d [ ]
-by_other f (k ∷ []) (is_node (is_seq (is_such d h) (is_seq (is_lexeme q) (is_such e g)))) = record { label = _; slots = _; derived = is_node (is_seq (any_in SimpleTarget f (plus_in f) refl refl (is_such d refl)) (is_seq (is_lexeme q) (is_such e refl))) }
-by_other f (k ∷ j ∷ ks) (is_left (is_node (is_seq (is_such d h) (is_seq (is_lexeme q) (is_such e g))))) = record { label = _; slots = _; derived = is_left (is_node (is_seq (any_in SimpleTarget f (plus_in f) refl refl (is_such d refl)) (is_seq (is_lexeme q) (is_such e refl)))) }
-by_other f (k ∷ j ∷ ks) (is_right d) = let x = by_other f (j ∷ ks) d in record { label = x.label; slots = x.slots; derived = is_right x.derived }
+by_other f (k ∷ []) (is_node (is_seq (is_such d h) (is_seq (is_lexeme q) (is_such e g)))) = record { operator = k; slots = _; is_tree = refl; derived = is_node (is_seq (any_in SimpleTarget f (plus_in f) refl refl (is_such d refl)) (is_seq (is_lexeme q) (is_such e refl))) }
+by_other f (k ∷ j ∷ ks) (is_left (is_node (is_seq (is_such d h) (is_seq (is_lexeme q) (is_such e g))))) = record { operator = k; slots = _; is_tree = refl; derived = is_left (is_node (is_seq (any_in SimpleTarget f (plus_in f) refl refl (is_such d refl)) (is_seq (is_lexeme q) (is_such e refl)))) }
+by_other f (k ∷ j ∷ ks) (is_right d) = let x = by_other f (j ∷ ks) d in record { operator = x.operator; slots = x.slots; is_tree = x.is_tree; derived = is_right x.derived }
 
 other_one : (f : Flags) {ts us : Slots} {i j : ℕ} {ls rest : Lexemes} → Takes rule (branches other_operators (with_default f)) end ts i ls us j rest → One (at Assignment (plus_in f)) i ls j rest
 unfolding rule rule_of
-other_one f d = let x = by_other f other_operators d in record { label = x.label; slots = x.slots; derived = is_right (is_right (is_right (is_left (is_right x.derived)))) }
+other_one f {j = j} {ls = ls} d = let x = by_other f other_operators d in record { label = assigned_label x.operator ls j; slots = x.slots; derived = is_right (is_right (is_right (is_left (is_right x.derived)))) }
 
 -- items of a literal, before whatever slots stand behind them
 abbrev Items : Flags → ℕ → Lexemes → ℕ → Lexemes → Type 0
-Items f i ls j rest = (vs : Slots) → (ws : Slots) × Takes rule (seq (many (literal_step f)) (literal_last f)) end ws i ls vs j rest
+Items f i ls j rest = (vs : Slots) → (ws : Slots) × Takes rule (literal_items f) end ws i ls vs j rest
 
-more_items : (f : Flags) {ts us vs : Slots} {i j k : ℕ} {ls mid rest : Lexemes} → Takes rule (literal_step f) end ts i ls us j mid → Takes rule (seq (many (literal_step f)) (literal_last f)) end us j mid vs k rest → Takes rule (seq (many (literal_step f)) (literal_last f)) end ts i ls vs k rest
+pub more_items : (f : Flags) {ts us vs : Slots} {i j k : ℕ} {ls mid rest : Lexemes} → Takes rule (literal_step f) end ts i ls us j mid → Takes rule (literal_items f) end us j mid vs k rest → Takes rule (literal_items f) end ts i ls vs k rest
 more_items f s (is_seq m l) = is_seq (is_many (is_left (is_seq s m))) l
 
 no_more : (f : Flags) {i : ℕ} {ls : Lexemes} → Items f i ls i ls
@@ -234,8 +248,7 @@ module _ (f : Flags) (v : f.cover ≡ true) where
         let x = many_at m (omega arith) (last_at l (omega arith)) end in
         by_array f q (is_seq x.1 (is_lexeme p))
 
-    -- what is left of the properties, a literal among it where targets are wide
-    left_at : {ts us : Slots} {i j : ℕ} {ls rest : Lexemes} (d : Takes rule (symbol SimpleTarget f ◇ when f.wide (symbol ArrayTarget f ◇ symbol ObjectTarget f)) end ts i ls us j rest) → 3 + deep d < n → One (at Assignment (plus_in f)) i ls j rest
+    left_at : {ts us : Slots} {i j : ℕ} {ls rest : Lexemes} (d : Takes rule (left_line f) end ts i ls us j rest) → 3 + deep d < n → One (at Assignment (plus_in f)) i ls j rest
     unfolding rule rule_of
     left_at (is_left (is_such d h)) c = up _ _ _ _ _ _ (is_left (is_such d h)) (omega arith)
     left_at (is_right (is_when z (is_left (is_such d h)))) c = up _ _ _ _ _ _ (is_right (is_left (is_such d h))) (omega arith)
