@@ -1,5 +1,5 @@
 -- Arrow functions (ECMA-262, 15.3 and 15.9), and where none is derived.
-use Rattle.std.proofs.Common.{ℕ, ◌≡◌, ◌≤◌, ◌<◌, ◌⊎◌, inl, inr, List, [], ◌∷◌, length, Bool, true, false, not, cond, ◌&&◌, ◌||◌, IsTrue, Option, Some, None, refl, sym, ap, subst, arith, ◌∙◌, ◌+◌}
+use Rattle.std.proofs.Common.{ℕ, ◌≡◌, ◌≤◌, ◌<◌, inl, inr, List, [], ◌∷◌, length, Bool, true, false, not, cond, ◌&&◌, ◌||◌, IsTrue, Option, Some, None, refl, sym, ap, subst, arith, ◌∙◌, ◌+◌}
 use Rattle.std.specs.Prelude.{IsCharBoundary, Result, Ok, Err, nat_lt}
 use Rattle.std.proofs.lemmas.Bool.{false≢true, and_parts, or_left, or_right}
 use Rattle.js_base.specs.Contexts.{has_flag, yield_flag}
@@ -68,7 +68,7 @@ use Rattle.js_cursor.proofs.Later.{keeps_follows}
 use Rattle.js_parsing.specs.Answers.{Underived, Answer, Answers, beside, Numbered, Outcome, Refuses, Stretch, Stops, Grown, Verdict, clean, unclean}
 use Rattle.js_cursor.specs.Notes.{Notes}
 use Rattle.js_parsing.specs.Contexts.{arrow_body, braced_body, arrow_head}
-use Rattle.js_expressions.specs.Arrows.{ArrowBehind, AsyncPassed, BeforeArrow, led_head, told_led, ChecksLine, FindsAnyHead, FindsHead, Head, HeadRead, read_clean, read_unclean, IsHead, IsHeadBefore, IsHeadHere, IsRefusedHead, Leads, LooksForHead, NamesHead, NoArrowHere, NoLed, NoLine, NoLineHere, NoParametersHere, OnlyLed, ParametersRead, PlainHead, a_head, told_head, Single, ToldHead, Unmoved, WentOn, arrow_label, body_of, head_of, late_arrow, lead_of, line_of}
+use Rattle.js_expressions.specs.Arrows.{ArrowBehind, AsyncPassed, BeforeArrow, led_head, told_led, ChecksLine, FindsAnyHead, FindsHead, Head, HeadRead, read_clean, read_unclean, IsHeadBefore, IsHeadHere, IsRefusedHead, Leads, LooksForHead, NamesHead, NoArrowHere, NoLed, NoLine, NoLineHere, NoParametersHere, OnlyLed, ParametersRead, PlainHead, a_head, told_head, Single, ToldHead, Unmoved, WentOn, arrow_label, body_of, head_of, late_arrow, lead_of, line_of}
 use Rattle.js_expressions.specs.declared.arrow.ArrowHead.{ArrowHead}
 use Rattle.js_parsing.specs.Heads.{NoHead, OnlyArrow}
 use Rattle.js_expressions.specs.Rests.{OnlyOperandHere}
@@ -327,13 +327,6 @@ module _ {text : List ℕ} {f : Flags} {p : Parser} (a : At text f p) where
     unfolding covers apart
     unarrowed n = then_any parameters_alone ⟶✗ fails_at x.at {X = plain full} (tok Arrow) (Arrow ∷ []) refl (other_kind Arrow q.token.kind n)
 
-    -- something was told of them
-    unclean_head : (length q.errors ≡ length p.errors → ⊥) → NoHead text f p.prev_token_end
-    unclean_head n = elim x.verdict [
-      | clean e y ↦ absurd (n (ap length e))
-      | unclean g z ↦ no_parameters z
-    ]
-
 arrow_plain : (is_word Arrow || same_kind PrivateIdentifier Arrow) ≡ false
 unfolding words
 arrow_plain = refl
@@ -558,28 +551,23 @@ certain_head a k s x = elim x.answer.verdict [
   | unclean g z ↦ told_head (told_parameters x g) (unassigned a k (no_parameters a z) s)
 ]
 
-module _ {p q : Parser} {kept : ℕ} (a : Standing p) (k : p.token.kind ≡ LParen) (n : kept ≡ length p.errors) where
+module _ {p q : Parser} (a : Standing p) (k : p.token.kind ≡ LParen) where
   -- parameters, and whether they are a head
-  pub head_read : {id : NodeId} {start : ℕ} → start ≡ p.prev_token_end → Answers (at Params) p q (Ok id) → IsHead start kept q true → ParametersRead p q id
-  head_read {id} {start} t x h = (h.1, (λ text f a. by h.0 a (x text f a)))
+  pub head_read : {id : NodeId} → Answers (at Params) p q (Ok id) → q.token.kind ≡ Arrow → ParametersRead p q id
+  head_read {id} x h = (h, (λ text f a. by a (x text f a)))
     where
-      by : {text : List ℕ} {f : Flags} → (length q.errors ≡ kept) ⊎ ArrowBehindOne q.text start → At text f p → Numbered text f (at Params f) p q id → HeadRead text f f p q id
-      by (inl e) a y = read_clean (parenthesized_head a k y (e ∙ n))
-      by {text} {f} (inr c) a y = elim y.answer.verdict [
+      by : {text : List ℕ} {f : Flags} → At text f p → Numbered text f (at Params f) p q id → HeadRead text f f p q id
+      by a y = elim y.answer.verdict [
         | clean e z ↦ read_clean (parenthesized_head a k y (ap length e))
-        | unclean g z ↦ read_unclean (told_parameters y g) (no_parameters a z) (subst (λ (v : ℕ). ArrowBehindOne text v) t (subst (λ (v : List ℕ). ArrowBehindOne v start) y.answer.at.text_is c))
+        | unclean g z ↦ read_unclean (told_parameters y g) (no_parameters a z)
       ]
 
-  pub head_unread : {id : NodeId} → Answers (at Params) p q (Ok id) → (length q.errors ≡ kept → ⊥) ⊎ (q.token.kind ≡ Arrow → ⊥) → WentOn p q × NoParametersHere p
-  head_unread x h = let y = (x _ _ a).answer in (((y.same.follows, y.at.at), y.at.heads, λ w. (y.same.lies w).1), λ text f a. by h (x text f a).answer a)
-    where
-      by : {text : List ℕ} {f : Flags} → (length q.errors ≡ kept → ⊥) ⊎ (q.token.kind ≡ Arrow → ⊥) → Answer text f (at Params f) p q → At text f p → NoHead text f p.prev_token_end
-      by (inl m) x a = unclean_head a x (λ e. m (e ∙ sym n))
-      by (inr m) x a = unarrowed a x m
+  pub head_unread : {id : NodeId} → Answers (at Params) p q (Ok id) → (q.token.kind ≡ Arrow → ⊥) → WentOn p q × NoParametersHere p
+  head_unread x h = let y = (x _ _ a).answer in (((y.same.follows, y.at.at), y.at.heads, λ w. (y.same.lies w).1), λ text f a. unarrowed a (x text f a).answer h)
 
 -- where they began is a place between characters
-pub start_between : {p q : Parser} {id : NodeId} {start : ℕ} → Standing p → Answers (at Params) p q (Ok id) → start ≡ p.prev_token_end → IsCharBoundary q.text start
-start_between {p} {q} a x e = let y = (x _ _ a).answer in subst (λ (v : ℕ). IsCharBoundary q.text v) (sym e) (subst (λ (t : List ℕ). IsCharBoundary t p.prev_token_end) (sym y.at.text_is) a.at.between)
+pub start_between : {text : List ℕ} {f g : Flags} {p q : Parser} {start : ℕ} → At text f p → At text g q → start ≡ p.prev_token_end → IsCharBoundary q.text start
+start_between {p = p} {q} {start} a b e = subst (λ (v : ℕ). IsCharBoundary q.text v) (sym e) (subst (λ (t : List ℕ). IsCharBoundary t p.prev_token_end) (a.text_is ∙ sym b.text_is) a.at.between)
 
 -- they can't be read
 pub head_refused : {p q : Parser} (e : Stop) → Standing p → e ≡ Fatal → ((text : List ℕ) (f : Flags) → At text f p → Stops p q e (Underived text (at Params f) p.prev_token_end)) → WentOn p q × NoParametersHere p
@@ -600,9 +588,6 @@ none_looked p o q r s e h = subst (λ (z : Parser). WentOn z q × NoParametersHe
 
 pub some_looked : (p o q : Parser) (id : NodeId) (r : Option NodeId) → o ≡ p → r ≡ Some id → LooksForHead o q r → ParametersRead p q id
 some_looked p o q id r s e h = subst (λ (z : Parser). ParametersRead z q id) s (subst (LooksForHead o q) e h)
-
-pub head_so : (start kept : ℕ) (q : Parser) {b r : Bool} → r ≡ b → IsHead start kept q r → IsHead start kept q b
-head_so start kept q e h = subst (λ (v : Bool). IsHead start kept q v) e h
 
 pub refused_so : (kept : ℕ) (p : Parser) {r : Bool} → r ≡ true → IsRefusedHead kept p r → (length p.errors ≡ kept → ⊥) × (p.token.kind ≡ Arrow)
 refused_so kept p e h = subst (λ (b : Bool). IsRefusedHead kept p b) e h

@@ -340,7 +340,7 @@ module _ {p q : Parser} (k : StandsHere p Async true) (b : (text : List ℕ) (f 
 
       before : AsyncHead text f q w id → BeforeArrow true text f p w id
       before (list_head e (read_clean h) n) = led_head q passed h only
-      before (list_head e (read_unclean t h c) n) = told_led (told_before m t) (underived e h)
+      before (list_head e (read_unclean t h) n) = told_led (told_before m t) (underived e h)
       before (name_head e i h n) = led_head q passed h only
 
     async_head : IsHeadBefore true p w id

@@ -23,7 +23,6 @@ use Rattle.js_parsing.proofs.Moving.{flags_same, standing}
 use Rattle.js_parsing.proofs.NameKinds.{listed_here}
 use Rattle.js_parsing.proofs.Signs.{none_kept}
 use Rattle.js_expressions.specs.Arrows.{EntersHead, Head, HeadRead, HeadBehindAsync, name_head, NamesHead, NoHeadHere, NoLine, NoLineHere, NoParametersHere, TriesHead, TriesParameters, ToldHead, Unmoved, read_clean, read_unclean, head_of}
-use Rattle.js_expressions.specs.Closings.{ArrowBehindOne}
 use Rattle.js_expressions.proofs.Arrows.{neither, plain_head_flags, same_arrow, unmoved, unmoved_went_on}
 use Rattle.js_expressions.proofs.NotedHeads.{noted_here}
 use Rattle.js_expressions.proofs.Exponents.{longer}
@@ -82,7 +81,7 @@ module _ {text : List ℕ} {f : Flags} {p e q w : Parser} {c d : Context} (a : A
 
     read_back : HeadRead text g g e q id → HeadRead text f g p w id
     read_back (read_clean x) = read_clean (head_back x)
-    read_back (read_unclean t n k) = read_unclean (told_back t n) (subst (λ (s : ℕ). NoHead text g s) (ap (λ (z : Parser). z.prev_token_end) h) n) (subst (λ (s : ℕ). ArrowBehindOne text s) (ap (λ (z : Parser). z.prev_token_end) h) k)
+    read_back (read_unclean t n) = read_unclean (told_back t n) (subst (λ (s : ℕ). NoHead text g s) (ap (λ (z : Parser). z.prev_token_end) h) n)
 
 -- where nothing was read the parser is where it was
 pub unmoved_back : {p e q w : Parser} {c d : Context} → Standing p → ((text : List ℕ) (f : Flags) → At text f p → (g : Flags) × At text g e) → d ≡ p.ctx → e ≡ record p { ctx = c } → w ≡ record q { ctx = d } → Unmoved e q → Unmoved p w

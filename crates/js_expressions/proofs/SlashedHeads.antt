@@ -1,6 +1,6 @@
 -- Heads of arrow functions in which a slash stands (ECMA-262, 15.3): what stands there is read as arguments too, and those are read over one list of lexemes alone, or none.
-use Rattle.std.proofs.Common.{ℕ, ◌≡◌, ◌<◌, ◌⊎◌, inl, inr, List, length, Bool, true, false, not, IsTrue, Option, Some, None, refl, sym, ap, subst, arith, ◌∙◌}
-use Rattle.std.specs.Prelude.{IsCharBoundary, IsUtf8, MatchResult, Result, Ok, Err}
+use Rattle.std.proofs.Common.{ℕ, ◌≡◌, ◌<◌, inl, inr, List, length, Bool, true, false, not, IsTrue, Option, Some, None, refl, sym, ap, subst, arith, ◌∙◌}
+use Rattle.std.specs.Prelude.{IfOk, IsCharBoundary, IsUtf8, MatchResult, Result, Ok, Err}
 use Rattle.std.proofs.lemmas.Bool.{and_parts, false≢true}
 use Rattle.js_base.specs.Contexts.{bits_of}
 use Rattle.js_base.specs.Kinds.{same_kind}
@@ -35,14 +35,15 @@ use Rattle.js_parsing.proofs.Verdicts.{either_way}
 use Rattle.js_targets.specs.Others.{NoYield}
 use Rattle.js_targets.proofs.ArraysBeforeSigns.{is_cover, not_wide}
 use Rattle.js_expressions.specs.Arrows.{ArgumentsTold, AttemptsHead, FindsHead, Head, HeadRead, read_clean, read_unclean, IsHeadRead, NoHeadHere, NoLine, NoSlash, OnlyArrowHere, OperandExcluded, PlainHead, a_head, told_head, SlashFound, ToldHead, TriesHead, Unmoved, WentOn, head_of}
-use Rattle.js_expressions.proofs.Arrows.{arrow_is_here, closed_arrow, head_only_arrow, no_head_no_line, no_yield_paren, plain_head_flags, unassigned}
+use Rattle.js_expressions.proofs.Arrows.{arrow_is_here, closed_arrow, head_only_arrow, no_head_no_line, no_yield_paren, plain_head_flags, start_between, unassigned}
 use Rattle.js_expressions.proofs.HeadsAsArguments.{params_as_arguments}
 use Rattle.js_expressions.proofs.NotedHeads.{noted_operand, there_too}
 use Rattle.js_expressions.proofs.ParenthesizedFronts.{no_operand_before}
 use Rattle.js_expressions.proofs.SlashesInText.{all_calm}
 use Rattle.js_parsing.specs.Contexts.{arrow_head}
 use Rattle.js_expressions.proofs.FreeOfAwait.{params_around}
-use Rattle.js_expressions.specs.Closings.{ArrowBehindOne}
+use Rattle.js_expressions.specs.Closings.{ArrowBehindOne, ArrowFound}
+use Rattle.js_expressions.proofs.Exponents.{longer}
 
 -- ---- what was read as arguments
 
@@ -101,26 +102,36 @@ slash_so text s e i h = subst (λ (v : Bool). SlashFound text s e v) i h
 pub excluded_so : (place kept : ℕ) (q : Parser) {b r : Bool} → r ≡ b → OperandExcluded place kept q r → OperandExcluded place kept q b
 excluded_so place kept q e h = subst (λ (v : Bool). OperandExcluded place kept q v) e h
 
--- it is noted, or no slash stands between
+-- it is noted, or the parentheses close before `=>`, or no slash stands between
 pub excluded_noted : (place kept : ℕ) (q : Parser) {b : Bool} → bits_of q.ctx < 65536 → b ≡ is_noted q.state.operands q.ctx place → b ≡ true → OperandExcluded place kept q true
-excluded_noted place kept q w h e = inr (inr (w, sym h ∙ e))
+excluded_noted place kept q w h e = inl (w, sym h ∙ e)
 
-pub excluded_unslashed : (place kept : ℕ) (q : Parser) {e : ℕ} (b : Bool) → e ≡ q.token.span.start → SlashFound q.text place e b → OperandExcluded place kept q (not b)
-excluded_unslashed place kept q true i h = tt
-excluded_unslashed place kept q false i h = inr (inl (subst (λ (v : ℕ). NoSlash q.text place v) i h))
+pub excluded_closed : (place kept : ℕ) (q : Parser) {E : Type 0} (r : Result Bool E) → IfOk r (λ b. ArrowFound q.text place b) → IfOk r (λ b. OperandExcluded place kept q b)
+excluded_closed place kept q (Ok true) h = inr (inl h)
+excluded_closed place kept q (Ok false) h = tt
+excluded_closed place kept q (Err e) h = h
+
+pub excluded_unslashed : (place kept : ℕ) (q : Parser) {e : ℕ} (b : Bool) → length q.errors ≡ kept → e ≡ q.token.span.start → SlashFound q.text place e b → OperandExcluded place kept q (not b)
+excluded_unslashed place kept q true n i h = tt
+excluded_unslashed place kept q false n i h = inr (inr (n, subst (λ (v : ℕ). NoSlash q.text place v) i h))
 
 -- where no slash stands in the head
 slashless : {text : List ℕ} {f g : Flags} {p q : Parser} {id : NodeId} → At text f p → Head text f g p q id → q.token.kind ≡ Arrow → NoSlash text p.prev_token_end q.token.span.start → OnlyArrow text f p.prev_token_end
 slashless {text} {p = p} {q = q} a h r n = head_only_arrow h r (λ ls rest e l o b. all_calm text p.prev_token_end (subst (λ (t : List ℕ). IsUtf8 t) a.text_is a.at.utf8) (subst (λ (t : List ℕ). IsCharBoundary t p.prev_token_end) a.text_is a.at.between) l o (λ i c d. n i c (omega arith)))
 
+-- it stands there
+read_at : {text : List ℕ} {f g : Flags} {p q : Parser} {id : NodeId} → HeadRead text f g p q id → At text f q
+read_at (read_clean h) = h.at
+read_at (read_unclean t m) = t.at
+
 pub head_settled : {p q : Parser} {id : NodeId} (b : Bool) (place kept : ℕ) → kept ≡ length p.errors → place ≡ p.prev_token_end → IsHeadRead b p q id → OperandExcluded place kept q true → OnlyArrowHere p
 head_settled {p} {q} {id} b place kept n i x o = λ text f a. by a (x.1 text f a) o
   where
-    by : {text : List ℕ} {f : Flags} → At text f p → HeadRead text f (arrow_head b f) p q id → (length q.errors ≡ kept → ⊥) ⊎ (NoSlash q.text place q.token.span.start ⊎ ((bits_of q.ctx < 65536) × (is_noted q.state.operands q.ctx place ≡ true))) → OnlyArrow text f p.prev_token_end
-    by a (read_unclean t m c) o = closed_arrow c
-    by a (read_clean h) (inl e) = absurd (e (ap length h.kept ∙ sym n))
-    by {text} a (read_clean h) (inr (inl s)) = slashless a h x.0 (subst (λ (t : List ℕ). NoSlash t p.prev_token_end q.token.span.start) h.at.text_is (subst (λ (v : ℕ). NoSlash q.text v q.token.span.start) i s))
-    by {text} {f} a (read_clean h) (inr (inr e)) = subst (λ (v : ℕ). OnlyArrow text f v) i (noted_operand h.at e.0 e.1)
+    by : {text : List ℕ} {f : Flags} → At text f p → HeadRead text f (arrow_head b f) p q id → OperandExcluded place kept q true → OnlyArrow text f p.prev_token_end
+    by {text} {f} a h (inl e) = subst (λ (v : ℕ). OnlyArrow text f v) i (noted_operand (read_at h) e.0 e.1)
+    by {text} a h (inr (inl c)) = closed_arrow (subst (λ (v : ℕ). ArrowBehindOne text v) i (subst (λ (t : List ℕ). ArrowBehindOne t place) (read_at h).text_is c))
+    by {text} a (read_clean h) (inr (inr s)) = slashless a h x.0 (subst (λ (t : List ℕ). NoSlash t p.prev_token_end q.token.span.start) h.at.text_is (subst (λ (v : ℕ). NoSlash q.text v q.token.span.start) i s.1))
+    by a (read_unclean t m) (inr (inr s)) = absurd (longer t.grown (sym (s.0 ∙ n)))
 
 -- by arguments that stand before `=>`, no operand is derived
 only_no_operand : {text : List ℕ} {f : Flags} {p : Parser} → p.token.kind ≡ LParen → At text f p → OnlyArrow text f p.prev_token_end → Underived text (at Short f) p.prev_token_end
@@ -132,7 +143,7 @@ attempted p q (Some id) k x = (x.0.0, (λ text f a. by a (subst (λ (g : Flags).
   where
     by : {text : List ℕ} {f : Flags} → At text f p → HeadRead text f f p q id → Underived text (at Short f) p.prev_token_end → PlainHead text f p q id
     by a (read_clean h) n = a_head h (no_yield_paren a k) n
-    by a (read_unclean t m c) n = told_head t (unassigned a k m n)
+    by a (read_unclean t m) n = told_head t (unassigned a k m n)
 attempted p q None k x = (x.0, λ text f a. no_head_no_line a k (subst (λ (g : Flags). NoHead text g p.prev_token_end) (plain_head_flags f) (x.1 text f a)))
 
 -- ---- the parser goes back, and reads again
@@ -141,8 +152,11 @@ pub head_stands : {p q : Parser} {id : NodeId} (b : Bool) → Standing p → IsH
 head_stands {p} {q} {id} b a x = by (x.1 _ _ a)
   where
     by : {text : List ℕ} {f g : Flags} → HeadRead text f g p q id → Standing q
-    by (read_clean h) = standing h.at
-    by (read_unclean t m c) = standing t.at
+    by h = standing (read_at h)
+
+-- where it began is a place between characters
+pub head_between : {p q : Parser} {id : NodeId} {place : ℕ} (b : Bool) → Standing p → IsHeadRead b p q id → place ≡ p.prev_token_end → IsCharBoundary q.text place
+head_between b a x e = start_between a (read_at (x.1 _ _ a)) e
 
 -- behind a head the parser went on
 pub head_went_on : {p q : Parser} {id : NodeId} (b : Bool) → Standing p → IsHeadRead b p q id → WentOn p q
@@ -150,7 +164,7 @@ head_went_on {p} {q} {id} b a x = by (x.1 _ _ a)
   where
     by : {text : List ℕ} {f g : Flags} → HeadRead text f g p q id → WentOn p q
     by (read_clean h) = ((h.same.follows, h.at.at), h.at.heads, λ w. (h.same.lies w).1)
-    by (read_unclean t m c) = ((t.same.follows, t.at.at), t.at.heads, λ w. (t.same.lies w).1)
+    by (read_unclean t m) = ((t.same.follows, t.at.at), t.at.heads, λ w. (t.same.lies w).1)
 
 pub told_went_on : (p q : Parser) (b : Bool) → ArgumentsTold p q b → WentOn p q
 told_went_on p q true h = h.0
@@ -200,7 +214,7 @@ module _ {p r : Parser} (u : Unmoved p r) where
 
   read_from_there : {text : List ℕ} {f g : Flags} {q : Parser} {id : NodeId} → HeadRead text f g r q id → HeadRead text f g p q id
   read_from_there (read_clean h) = read_clean (head_from_there h)
-  read_from_there {text} {g = g} (read_unclean t m c) = read_unclean (told_from_there t) (subst (λ (s : ℕ). NoHead text g s) u.place m) (subst (λ (s : ℕ). ArrowBehindOne text s) u.place c)
+  read_from_there {text} {g = g} (read_unclean t m) = read_unclean (told_from_there t) (subst (λ (s : ℕ). NoHead text g s) u.place m)
 
   plain_from_there : {text : List ℕ} {f : Flags} {q : Parser} {id : NodeId} → PlainHead text f r q id → PlainHead text f p q id
   plain_from_there {text} {f} (a_head h y n) = a_head (head_from_there h) (subst (λ (s : ℕ). NoYield text f s) u.place y) (subst (λ (s : ℕ). Underived text (at Short f) s) u.place n)

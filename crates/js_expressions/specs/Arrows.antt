@@ -132,10 +132,10 @@ NoTargetHere p = (text : List ℕ) (f : Flags) → At text f p → f.in_ ≡ fal
 abbrev pub IsHeadBefore : Bool → Parser → Parser → NodeId → Type 0
 IsHeadBefore a p q id = (q.token.kind ≡ Arrow) × ((text : List ℕ) (f : Flags) → At text f p → BeforeArrow a text f p q id) × NoTargetHere p
 
--- Parameters in parentheses were read, under the parameters g, and `=>` stands behind them: whether an operand begins there too is known where something was told of them.
+-- Parameters in parentheses were read, under the parameters g, and `=>` stands behind them; or something was told of them, and no such parameters are derived there.
 pub data HeadRead (text : List ℕ) (f g : Flags) (o p : Parser) (id : NodeId) : Type 0 where
   read_clean : Head text f g o p id → HeadRead text f g o p id
-  read_unclean : ToldHead text f o p id → NoHead text g o.prev_token_end → ArrowBehindOne text o.prev_token_end → HeadRead text f g o p id
+  read_unclean : ToldHead text f o p id → NoHead text g o.prev_token_end → HeadRead text f g o p id
 
 abbrev pub IsHeadRead : Bool → Parser → Parser → NodeId → Type 0
 IsHeadRead a p q id = (q.token.kind ≡ Arrow) × ((text : List ℕ) (f : Flags) → At text f p → HeadRead text f (arrow_head a f) p q id)
@@ -148,9 +148,9 @@ abbrev pub SlashFound : List ℕ → ℕ → ℕ → Bool → Type 0
 SlashFound text s e true = Unit {0}
 SlashFound text s e false = NoSlash text s e
 
--- Something was told of the head that was read from the place on, or no slash stands in it, or it's noted that behind arguments there `=>` stands.
+-- It's noted that behind arguments there `=>` stands; or the parentheses that begin there close before `=>`; or nothing was told of the head that was read from the place on, and no slash stands in it.
 abbrev pub OperandExcluded : ℕ → ℕ → Parser → Bool → Type 0
-OperandExcluded place kept q true = (length q.errors ≡ kept → ⊥) ⊎ (NoSlash q.text place q.token.span.start ⊎ ((bits_of q.ctx < 65536) × (is_noted q.state.operands q.ctx place ≡ true)))
+OperandExcluded place kept q true = ((bits_of q.ctx < 65536) × (is_noted q.state.operands q.ctx place ≡ true)) ⊎ (ArrowBehindOne q.text place ⊎ ((length q.errors ≡ kept) × NoSlash q.text place q.token.span.start))
 OperandExcluded place kept q false = Unit {0}
 
 -- behind arguments that are derived from here `=>` stands
@@ -286,11 +286,6 @@ EntersHead false old new = new ≡ old
 -- a name was read as a head
 abbrev pub Single : Parser → Parser → NodeId → Type 0
 Single p q id = (q.prev_token_end ≡ p.token.span.end) × ((text : List ℕ) (f : Flags) → At text f p → p.token.escaped ≡ false → Head text f f p q id)
-
--- Parameters were read up to here from a place on, and `=>` stands here; where there are not so many diagnostics, the parentheses from that place on close before `=>`.
-abbrev pub IsHead : ℕ → ℕ → Parser → Bool → Type 0
-IsHead start kept q true = ((length q.errors ≡ kept) ⊎ ArrowBehindOne q.text start) × (q.token.kind ≡ Arrow)
-IsHead start kept q false = (length q.errors ≡ kept → ⊥) ⊎ (q.token.kind ≡ Arrow → ⊥)
 
 -- of `=>` on a new line this is told
 abbrev pub late_arrow : Span → Diagnostic

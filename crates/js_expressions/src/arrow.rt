@@ -5,7 +5,7 @@ ghost use Rattle.js_base.specs.declared.kind.Kind.TheVariants.{Arrow, LParen};
 ghost use Rattle.js_cursor.specs.Moves.{OnlyMemory};
 ghost use Rattle.js_grammar.specs.Productions.{at, Params};
 ghost use Rattle.js_parsing.specs.Answers.{Answers};
-ghost use Rattle.js_expressions.specs.Arrows.{ArgumentsTold, ArrowBehind, AsyncHeadBegins, AttemptsHead, ChecksLine, EntersHead, FindsAsyncHead, FindsHead, HeadBehindAsync, IsHead, IsPlainHead, LooksForHead, NamesHead, NoHeadHere, NoOperandHere, OperandExcluded, ReadsArrowBody, ReadsBody, ReadsHead, SearchesHead, SearchesPlainHead, Single, SlashFound, TriesHead, TriesParameters, Unmoved, arrow_label};
+ghost use Rattle.js_expressions.specs.Arrows.{ArgumentsTold, ArrowBehind, AsyncHeadBegins, AttemptsHead, ChecksLine, EntersHead, FindsAsyncHead, FindsHead, HeadBehindAsync, IsPlainHead, LooksForHead, NamesHead, NoHeadHere, NoOperandHere, OperandExcluded, ReadsArrowBody, ReadsBody, ReadsHead, SearchesHead, SearchesPlainHead, Single, SlashFound, TriesHead, TriesParameters, Unmoved, arrow_label};
 ghost use Rattle.js_expressions.specs.HeadOperands.{IsNoTarget};
 ghost use Rattle.js_base.specs.Kinds.{one_of_kinds};
 ghost use Rattle.js_parsing.specs.Lexemes.{name_kinds};
@@ -277,7 +277,7 @@ fn attempt_head<C: ParserConfig, N: Nested<C>>(
     let kept = kept_so_far(p);
     let here = p.checkpoint()?;
     if let Some(parameters) = try_parse_head(p, nested, is_async)? {
-        if excludes_operand(p, place, kept) {
+        if excludes_operand(p, place, kept)? {
             return Ok(Some(parameters));
         }
         p.rewind(here);
@@ -339,21 +339,26 @@ fn try_parse_parameters<C: ParserConfig, N: Nested<C>>(
     Ok(None)
 }
 
-/// Whether no operand stands where a head was read from a place on, when so many diagnostics were kept. Where something
-/// was told of the head, that is known; so it is where it was looked for before, which is asked before the text is looked
-/// through. Else lexemes might be read otherwise from that place, if a slash stands between, with which a regular
-/// expression may begin.
-fn excludes_operand<C: ParserConfig>(p: &ParserImpl<'_, C>, place: u32, kept: usize) -> bool
-    requires { Standing p.now }
-    ensures { OperandExcluded place kept p.now result }
+/// Whether no operand stands where a head was read from a place on, when so many diagnostics were kept. That is known where
+/// it was looked for before, which is asked before the text is looked through, and where the parentheses that begin there
+/// close before `=>`, which is looked up where something was told of the head. Else lexemes might be read otherwise from
+/// that place, if a slash stands between, with which a regular expression may begin.
+fn excludes_operand<C: ParserConfig>(
+    p: &ParserImpl<'_, C>,
+    place: u32,
+    kept: usize,
+) -> Result<bool, NoMemory>
+    requires at { Standing p.now }
+    requires between { IsCharBoundary p.now.text place }
+    ensures { IfOk result (λ b. OperandExcluded place kept p.now b) }
 {
-    if kept_so_far(p) != kept {
-        return true;
-    }
     if p.operand_failed(place) {
-        return true;
+        return Ok(true);
     }
-    !has_slash(p.source_text, place, p.cur_start())
+    if kept_so_far(p) != kept {
+        return is_arrow_behind_one(p, place);
+    }
+    Ok(!has_slash(p.source_text, place, p.cur_start()))
 }
 
 /// Whether a slash stands between two places.
@@ -370,7 +375,8 @@ fn has_slash(text: &str, start: u32, end: u32) -> bool
     false
 }
 
-/// FormalParameters in parentheses, where a slash stands in them: what stands here is read as arguments first. Those are
+/// FormalParameters in parentheses, where a slash stands in them, or something was told of them and their parentheses aren't
+/// seen to close before `=>`: what stands here is read as arguments first. Those are
 /// read over one list of lexemes alone, and a head or an operand here begins with such; so if `=>` stands behind them, no
 /// operand stands here, which is noted, and else no head.
 #[inline(never)]
@@ -445,11 +451,9 @@ fn parse_parenthesized_head<C: ParserConfig, N: Nested<C>>(
     requires open { p.old.token.kind ≡ LParen }
     ensures { MatchResult result (λ found. LooksForHead p.old p.new found) OnlyMemory }
 {
-    let start = p.prev_token_end();
-    let kept = kept_so_far(p);
     match parse_formal_parameters(p, nested) {
         Ok(parameters) => {
-            if is_head(p, start, kept)? {
+            if p.at(Kind::Arrow) {
                 Ok(Some(parameters))
             } else {
                 Ok(None)
@@ -458,26 +462,6 @@ fn parse_parenthesized_head<C: ParserConfig, N: Nested<C>>(
         Err(Stop::Fatal) => Ok(None),
         Err(Stop::NoMemory) => Err(Stop::NoMemory),
     }
-}
-
-/// Whether `=>` stands here behind parameters that were read from a place on. Where something was told since there were
-/// so many diagnostics, their parentheses have to close before it.
-fn is_head<C: ParserConfig>(
-    p: &ParserImpl<'_, C>,
-    start: u32,
-    kept: usize,
-) -> Result<bool, NoMemory>
-    requires at { Standing p.now }
-    requires between { IsCharBoundary p.now.text start }
-    ensures { IfOk result (λ b. IsHead start kept p.now b) }
-{
-    if !p.at(Kind::Arrow) {
-        return Ok(false);
-    }
-    if kept_so_far(p) == kept {
-        return Ok(true);
-    }
-    is_arrow_behind_one(p, start)
 }
 
 /// An arrow function, whose head was read from a place on (ECMA-262, sections 15.3 and 15.9), or parentheses in its place,

@@ -4,16 +4,19 @@ use Rattle.js_cursor.proofs.Changing.{may_return}
 use Rattle.js_parsing.proofs.Moving.{standing}
 use Rattle.js_parsing.proofs.Nesting.{later_room, nests_later}
 use Rattle.js_expressions.proofs.Arrows.{went_back}
-use Rattle.js_expressions.proofs.SlashedHeads.{attempts_there, excluded_so, head_settled, head_stands, head_went_on, none_tried, some_tried}
+use Rattle.js_expressions.proofs.SlashedHeads.{attempts_there, excluded_so, head_between, head_settled, head_stands, head_went_on, none_tried, some_tried}
 use Rattle.js_expressions.proofs.arrow.attempt_head.Goals as goal
 
-pub excludes_operand-requires : goal.excludes_operand-requires
-excludes_operand-requires g c = head_stands c.args.is_async c.requires.at (some_tried c.args.is_async _ _ c.try_parse_head.new.p _ _ c.in_ok-here.ensures.same c.in-Some.is c.in_ok-parameters.ensures)
+pub excludes_operand-requires-clause-at : goal.excludes_operand-requires-clause-at
+excludes_operand-requires-clause-at g c = head_stands c.args.is_async c.requires.at (some_tried c.args.is_async _ _ c.try_parse_head.new.p _ _ c.in_ok-here.ensures.same c.in-Some.is c.in_ok-parameters.ensures)
 
-pub returns-then-excludes_operand : goal.returns-then-excludes_operand
-returns-then-excludes_operand g c =
+pub excludes_operand-requires-clause-between : goal.excludes_operand-requires-clause-between
+excludes_operand-requires-clause-between g c = head_between c.args.is_async c.requires.at (some_tried c.args.is_async _ _ c.try_parse_head.new.p _ _ c.in_ok-here.ensures.same c.in-Some.is c.in_ok-parameters.ensures) c.prev_token_end-place.ensures
+
+pub returns-then-branch : goal.returns-then-branch
+returns-then-branch g c =
     let x = some_tried c.args.is_async _ _ c.try_parse_head.new.p _ _ c.in_ok-here.ensures.same c.in-Some.is c.in_ok-parameters.ensures in
-    (x, head_settled c.args.is_async _ _ c.kept_so_far-kept.ensures c.prev_token_end-place.ensures x (excluded_so _ _ c.try_parse_head.new.p c.if-excludes_operand.true c.excludes_operand.ensures))
+    (x, head_settled c.args.is_async _ _ c.kept_so_far-kept.ensures c.prev_token_end-place.ensures x (excluded_so _ _ c.try_parse_head.new.p c.if-branch.true c.in_ok-excludes_operand.ensures))
 
 pub rewind-requires-clause-at : goal.rewind-requires-clause-at
 rewind-requires-clause-at g c = (head_went_on c.args.is_async c.requires.at (some_tried c.args.is_async _ _ c.try_parse_head.new.p _ _ c.in_ok-here.ensures.same c.in-Some.is c.in_ok-parameters.ensures)).0.1

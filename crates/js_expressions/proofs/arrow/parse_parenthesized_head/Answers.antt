@@ -1,18 +1,13 @@
-use Rattle.js_parsing.proofs.Moving.{standing}
-use Rattle.js_expressions.proofs.Arrows.{head_read, head_refused, head_so, head_unread, start_between}
+use Rattle.std.proofs.Common.{◌∙◌, sym}
+use Rattle.std.proofs.lemmas.Bool.{false≢true}
+use Rattle.js_expressions.proofs.Arrows.{head_read, head_refused, head_unread}
 use Rattle.js_expressions.proofs.arrow.parse_parenthesized_head.Goals as goal
 
-pub is_head-requires-clause-at : goal.is_head-requires-clause-at
-is_head-requires-clause-at g c = standing (c.in-Ok.ensures _ _ c.requires.at).answer.at
+pub returns-then-at : goal.returns-then-at
+returns-then-at g c = head_read c.requires.at c.requires.open c.in-Ok.ensures (c.at.ensures.0 c.if-at.true)
 
-pub is_head-requires-clause-between : goal.is_head-requires-clause-between
-is_head-requires-clause-between g c = start_between c.requires.at c.in-Ok.ensures c.prev_token_end-start.ensures
-
-pub returns-then-branch : goal.returns-then-branch
-returns-then-branch g c = head_read c.requires.at c.requires.open c.kept_so_far-kept.ensures c.prev_token_end-start.ensures c.in-Ok.ensures (head_so _ _ c.parse_formal_parameters.new.p c.if-branch.true c.in_ok-is_head-in-Ok.ensures)
-
-pub returns-else-branch : goal.returns-else-branch
-returns-else-branch g c = head_unread c.requires.at c.requires.open c.kept_so_far-kept.ensures c.in-Ok.ensures (head_so _ _ c.parse_formal_parameters.new.p c.if-branch.false c.in_ok-is_head-in-Ok.ensures)
+pub returns-else-at : goal.returns-else-at
+returns-else-at g c = head_unread c.requires.at c.requires.open c.in-Ok.ensures (λ k. false≢true (sym c.if-at.false ∙ c.at.ensures.1 k))
 
 pub returns-in-Err-Fatal : goal.returns-in-Err-Fatal
 returns-in-Err-Fatal g c = head_refused _ c.requires.at c.in-Err-Fatal.field-0-is c.in-Err-Fatal.ensures
