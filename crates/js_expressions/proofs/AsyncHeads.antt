@@ -1,5 +1,5 @@
 -- Arrow functions behind `async` (ECMA-262, 15.9): what stands there is a head alone, or none does.
-use Rattle.std.proofs.Common.{ℕ, ◌≡◌, ◌<◌, ◌⊎◌, inl, inr, List, [], ◌∷◌, length, Bool, true, false, not, ◌&&◌, ◌||◌, IsTrue, Option, Some, None, refl, sym, ap, subst, arith, ◌∙◌}
+use Rattle.std.proofs.Common.{ℕ, ◌≡◌, inl, inr, List, [], ◌∷◌, length, Bool, true, false, not, ◌&&◌, ◌||◌, IsTrue, Option, Some, None, refl, sym, ap, subst, arith, ◌∙◌}
 use Rattle.std.specs.Prelude.{MatchResult, Result, Ok, Err}
 use Rattle.std.proofs.lemmas.Bool.{false≢true, and_parts, and_from, or_left, or_right}
 use Rattle.js_base.specs.declared.kind.Kind.{Kind}
@@ -63,7 +63,7 @@ use Rattle.js_lex.proofs.Again.{cut_same}
 use Rattle.js_expressions.specs.Lookaheads.{NoHeadThere}
 use Rattle.js_expressions.proofs.Conditionals.{conditional_none}
 use Rattle.js_expressions.proofs.HeadOperands.{from_none}
-use Rattle.js_expressions.proofs.Lookaheads.{peeked_kind}
+use Rattle.js_patterns.proofs.Peeks.{peeked_kind}
 use Rattle.js_expressions.proofs.SlashedHeads.{found_there}
 
 -- ---- the table, where `async` stands with a head behind it

@@ -1,5 +1,5 @@
 -- What the lexeme behind an opening parenthesis says of the head of an arrow function (ECMA-262, 15.3).
-use Rattle.std.proofs.Common.{ℕ, ◌≡◌, ◌⊎◌, List, Bool, true, false, IsTrue, None, refl, sym, ap, subst, arith, ◌∙◌, inl, inr, Option}
+use Rattle.std.proofs.Common.{ℕ, ◌≡◌, List, true, false, IsTrue, None, refl, sym, ap, subst, arith, ◌∙◌, Option}
 use Rattle.std.specs.Prelude.{Ok}
 use Rattle.std.proofs.lemmas.Bool.{false≢true}
 use Rattle.js_base.specs.declared.diagnostic.DiagnosticKind.TheVariants.{ExpectToken}
@@ -10,7 +10,6 @@ use Rattle.js_base.specs.Kinds.{same_kind, one_of_kinds}
 use Rattle.js_grammar.specs.Trees.{Slots, end, parenthesized_expression}
 use Rattle.js_grammar.specs.Grammar.{Lexeme, Lexemes, Look, Takes, seen, such, marked, ◌▸◌, is_lexeme, is_seq}
 use Rattle.js_grammar.specs.Lexed.{Lexes}
-use Rattle.js_grammar.specs.Lexemes.{division}
 use Rattle.js_grammar.specs.Parsing.{Test, plain, full, always, Goes, Fails, still}
 use Rattle.js_grammar.specs.Productions.{G, Flags, at, tok, mk, plus_in, with_pife, Expression, Params, Primary, Short, Unary, Update}
 use Rattle.js_grammar.specs.Table.{rule, rule_of}
@@ -22,8 +21,6 @@ use Rattle.js_grammar.proofs.FirstClaims.{firsts}
 use Rattle.js_grammar.proofs.FirstRules.{fails_here}
 use Rattle.js_grammar.proofs.FollowLaws.{fails_by}
 use Rattle.js_grammar.proofs.Looks.{covers, apart, not_both}
-use Rattle.js_lex.specs.Reading.{cut, is_right_angle, GivesLexeme}
-use Rattle.js_lex.proofs.Again.{cut_same}
 use Rattle.js_tree.specs.declared.id.NodeId.{NodeId}
 use Rattle.js_cursor.specs.Moves.{GivesUp, IsHere, Peeks}
 use Rattle.js_cursor.specs.Parsers.{Parser}
@@ -31,64 +28,29 @@ use Rattle.js_cursor.specs.declared.stop.Stop.{Stop}
 use Rattle.js_operands.proofs.Links.{no_lhs_here}
 use Rattle.js_operands.proofs.Members.{no_head}
 use Rattle.js_parsing.specs.Answers.{Answers, Stops, Underived}
-use Rattle.js_parsing.specs.Lexemes.{Lex, other_goals, signs, signs_of}
+use Rattle.js_parsing.specs.Lexemes.{Lex, signs}
 use Rattle.js_parsing.specs.Operators.{unary_kinds}
 use Rattle.js_parsing.specs.States.{At}
 use Rattle.js_parsing.proofs.Classes.{here_ends}
 use Rattle.js_parsing.proofs.Giving.{gives_up}
-use Rattle.js_parsing.proofs.Here.{signs_are, one_plain, plainly, told, uncut, unsettled, settled_kind, plain_there, plain_same, Plainly}
+use Rattle.js_parsing.proofs.Here.{told, uncut, unsettled}
 use Rattle.js_parsing.proofs.Moving.{stops_behind, stops_so}
 use Rattle.js_parsing.proofs.Paths.{at_kind}
 use Rattle.js_parsing.proofs.Phrases.{no_operator, lift_fails}
 use Rattle.js_parsing.proofs.Verdicts.{after as grown_behind}
 use Rattle.js_patterns.specs.Parameters.{parameters_left}
 use Rattle.js_patterns.proofs.ParameterLists.{no_params}
+use Rattle.js_patterns.proofs.Peeks.{peeked_kind}
 use Rattle.js_expressions.specs.Arrows.{AttemptsHead, IsHeadHere, NoLineHere, NoAssignment, Unmoved, NoOperandHere}
 use Rattle.js_expressions.specs.Lookaheads.{begins_operand, LooksAhead, NoHeadThere}
 use Rattle.js_expressions.specs.declared.lookahead.HeadLookahead.{HeadLookahead}
 use Rattle.js_expressions.specs.declared.lookahead.HeadLookahead.TheVariants as lookahead
 use Rattle.js_expressions.specs.Rests.{update_kinds}
-use Rattle.js_expressions.proofs.Arrows.{certain_head, given_behind, no_head_no_line, no_parameters, unarrowed, unassigned, unmoved}
+use Rattle.js_expressions.proofs.Arrows.{certain_head, no_head_no_line, no_parameters, unarrowed, unassigned, unmoved}
 use Rattle.js_expressions.proofs.Coalescing.{no_short}
 use Rattle.js_expressions.proofs.Exponents.{power_none}
 use Rattle.js_expressions.proofs.Operations.{fails_at_level}
 use Rattle.js_expressions.proofs.Updates.{nothing_read}
-
--- ---- the lexeme behind
-
-module _ {text : List ℕ} {f : Flags} {p : Parser} {t : Token} (a : At text f p) (h : Peeks p t) where
-  -- a token that isn't `>` tells its kind
-  pub peeked_kind : one_of_kinds unsettled t.kind ≡ false → (y : Lexeme) → Lex text p.token.span.end y → y.kind ≡ t.kind
-  peeked_kind u y l = given_behind a h
-      (λ d u n. let z = plain_there l in absurd (n.none z.lexeme z.stands))
-      (λ x. by x (is_right_angle x.lexeme.kind) refl)
-    where
-      r : same_kind RAngle t.kind ≡ false
-      r = (settled_kind t.kind u).0
-
-      -- it is of no other goal, since no sign of one stands there by the plain goal
-      of_plain : (x : GivesLexeme division cut text p.token.span.end t) → is_right_angle x.lexeme.kind ≡ false → y ≡ x.lexeme
-      of_plain x e = which z.which
-        where
-          z : Plainly text p.token.span.end y
-          z = plain_there l
-
-          same : x.lexeme ≡ z.lexeme
-          same = plain_same z x
-
-          which : (z.lexeme ≡ y) ⊎ ((one_of_kinds other_goals y.kind ≡ true) × (one_of_kinds (signs_of y.kind) z.lexeme.kind ≡ true)) → y ≡ x.lexeme
-          which (inl k) = sym (same ∙ k)
-          which (inr k) = absurd (false≢true (sym (settled_kind t.kind u).1 ∙ subst (λ (v : Kind). one_of_kinds signs v ≡ true) (ap (λ (v : Lexeme). v.kind) (sym same ∙ sym (cut_same x.lexeme e)) ∙ sym x.tells.kind) (signs_are y.kind z.lexeme.kind k.1)))
-
-      by : (x : GivesLexeme division cut text p.token.span.end t) → (b : Bool) → is_right_angle x.lexeme.kind ≡ b → y.kind ≡ t.kind
-      by x true e = absurd (false≢true (sym r ∙ (let c : (cut x.lexeme).kind ≡ RAngle = rw (e, cut) refl in ap (same_kind RAngle) (x.tells.kind ∙ c))))
-      by x false e = ap (λ (z : Lexeme). z.kind) (of_plain x e) ∙ (ap (λ (z : Lexeme). z.kind) (sym (cut_same x.lexeme e)) ∙ sym x.tells.kind)
-
-  -- a lexeme that doesn't begin with `>` is told whole
-  pub peeked_whole : (y : Lexeme) → Lex text p.token.span.end y → is_right_angle y.kind ≡ false → one_of_kinds other_goals y.kind ≡ false → y.kind ≡ t.kind
-  peeked_whole y l r n = given_behind a h
-      (λ d u i. absurd (i.none y (record { lex = l.0; of_goal = plainly l.0 l.1 n })))
-      (λ x. let e = one_plain l n x in ap (λ (z : Lexeme). z.kind) e ∙ (ap (λ (z : Lexeme). z.kind) (sym (cut_same x.lexeme (sym (ap (λ (z : Lexeme). is_right_angle z.kind) e) ∙ r))) ∙ sym x.tells.kind))
 
 -- nothing that may begin what is due behind a parenthesis stands there
 behind_paren : {text : List ℕ} {f : Flags} {p : Parser} {X : Test} {g : G} → At text f p → p.token.kind ≡ LParen → ((y : Lexeme) → Lex text p.token.span.end y → IsTrue (seen (starts first g (plain full).base) y) → ⊥) → Fails rule (Lex text) X end (tok LParen ▸ g) p.prev_token_end

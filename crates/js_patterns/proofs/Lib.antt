@@ -8,3 +8,5 @@ pub mod ParameterLists
 pub mod PatternLists
 mod RestInitialisers
 mod MethodParameters
+pub mod Peeks
+mod Accessors

@@ -1,3 +1,4 @@
+pub mod Accessors
 pub mod Bindings
 pub mod ObjectPatterns
 pub mod Parameters
