@@ -306,7 +306,7 @@ module _ {text : List ℕ} {f : Flags} {p q : Parser} {id : NodeId} (a : At text
     stands = by x.answer.verdict;
   }
     where
-      by : Verdict p.errors q.errors (Stretch text (after (at Unary f)) (such (at Unary f) always) p.prev_token_end nothing q.prev_token_end (tree x.answer.label x.answer.slots) x.answer.pass) (Underived text (at Unary f) p.prev_token_end) → StandsAt UnaryExponentiationLeftOperand (goal q) q.text (record { start = p.token.span.start; end = q.prev_token_end }) None None
+      by : Verdict (f.wide ≡ true) p.errors q.errors (Stretch text (after (at Unary f)) (such (at Unary f) always) p.prev_token_end nothing q.prev_token_end (tree x.answer.label x.answer.slots) x.answer.pass) (Underived text (at Unary f) p.prev_token_end) → StandsAt UnaryExponentiationLeftOperand (goal q) q.text (record { start = p.token.span.start; end = q.prev_token_end }) None None
       by (clean i y) = base_stands h y
       by (unclean g m) = absurd (longer g e)
 
@@ -341,7 +341,7 @@ module _ {text : List ℕ} {f : Flags} {p q : Parser} {id : NodeId} (a : At text
   base_checked {r} {is_unary = true} {n} e i (inl c) = told (sym e) c.1 refl
   base_checked {r} {is_unary = true} {n} e i (inr c) = subst (λ (z : Parser). Numbered text f (at Update f) p z id) (sym c.0) (broken (sym e) (by x.answer.verdict))
     where
-      by : Verdict p.errors q.errors (Stretch text (after (at Unary f)) (such (at Unary f) always) p.prev_token_end nothing q.prev_token_end (tree x.answer.label x.answer.slots) x.answer.pass) (Underived text (at Unary f) p.prev_token_end) → Grown p.errors q.errors
+      by : Verdict (f.wide ≡ true) p.errors q.errors (Stretch text (after (at Unary f)) (such (at Unary f) always) p.prev_token_end nothing q.prev_token_end (tree x.answer.label x.answer.slots) x.answer.pass) (Underived text (at Unary f) p.prev_token_end) → Grown p.errors q.errors
       by (clean j y) = absurd (c.1 refl (i ∙ sym (ap length j)))
       by (unclean g m) = g
   base_checked {r} {is_unary = false} {n} e i (inl c) = absurd (false≢true c.0)

@@ -75,7 +75,7 @@ module _ {text : List ℕ} {f : Flags} {p e q w : Parser} {c d : Context} (a : A
         errors : (w.errors ≡ p.errors) → q.errors ≡ e.errors
         errors k = ap (λ (z : Parser). z.errors) (sym j) ∙ (k ∙ ap (λ (z : Parser). z.errors) (sym h))
 
-        by : {A B : Type 0} (y : WholeTaken text f (symbol Params g ▸ tok Arrow) p w id) → Verdict p.errors w.errors A B → ToldHead text f p w id
+        by : {A B : Type 0} (y : WholeTaken text f (symbol Params g ▸ tok Arrow) p w id) → Verdict (f.wide ≡ true) p.errors w.errors A B → ToldHead text f p w id
         by y (clean k z) = absurd (longer x.grown (ap length (sym (errors k))))
         by y (unclean k z) = record { at = y.at; same = y.same; further = y.further; grown = k; label = y.label; slots = y.slots; pass = y.pass; walked = y.walked; holds = y.holds; keeps = y.keeps }
 

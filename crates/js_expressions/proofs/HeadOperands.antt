@@ -28,7 +28,7 @@ use Rattle.js_parsing.proofs.Paths.{not_here}
 use Rattle.js_parsing.proofs.Unbuilt.{nothing_unbuilt}
 use Rattle.js_targets.specs.Taken.{NoTargetFrom, goes_through}
 use Rattle.js_targets.specs.Targets.{is_literal, target_of}
-use Rattle.js_targets.proofs.ArraysBeforeSigns.{is_cover, not_wide}
+use Rattle.js_targets.proofs.ArraysBeforeSigns.{is_cover}
 use Rattle.js_targets.proofs.HeadTargets.{before_these, none_before, none_unread}
 use Rattle.js_expressions.specs.Arrows.{NoOperandHere, Unmoved}
 use Rattle.js_expressions.specs.HeadOperands.{HeadOperand, IsNoTarget, NoTargetPart, NoTargetSeen, OperandOutcome, StaysOperand, no_target, operand}
@@ -81,7 +81,7 @@ told_none p w (Err NoMemory) n m = tt
 module _ {text : List ℕ} {f : Flags} {p : Parser} (i : f.in_ ≡ false) where
   -- an operand that can't be read
   pub from_none : At text f p → Underived text (at Short f) p.prev_token_end → NoTargetSeen text f p
-  from_none a n = inl (before_these i (none_unread (not_wide a) (is_cover a) n))
+  from_none a n = inl (before_these i (none_unread (is_cover a) n))
 
   pub operand_unread : (q : Parser) (e : Stop) → At text f p → Stops p q e (Underived text (at Short f) p.prev_token_end) → OperandOutcome text f p q (Err e)
   operand_unread q Fatal a s = from_none a (s.none nothing_unbuilt)

@@ -217,7 +217,7 @@ module _ (f : Flags) (w : f.wide ≡ false) (v : f.cover ≡ true) where
   last_param (is_right (is_left (is_such d h))) = last_argument f (rest_argument d)
   last_param {vs = vs} (is_right (is_right is_nothing)) = (vs, is_right is_nothing)
 
-pub params_as_arguments : (f : Flags) → f.cover ≡ true → f.wide ≡ false → {ks ts us : Slots} {i j : ℕ} {ls rest : Lexemes} → Takes rule (such (at Params f) always) ks ts i ls us j rest → (vs : Slots) × Takes rule (args f) ks vs i ls us j rest
+pub params_as_arguments : (f : Flags) → f.cover ≡ true → {ks ts us : Slots} {i j : ℕ} {ls rest : Lexemes} → Takes rule (such (at Params f) always) ks ts i ls us j rest → (vs : Slots) × Takes rule (args f) ks vs i ls us j rest
 unfolding rule rule_of
 params_as_arguments f v w (is_such (is_node (is_seq (is_lexeme q) (is_seq (is_seq m l) (is_lexeme p)))) h) =
     let x = params_at f w v m (last_param f w v l) in

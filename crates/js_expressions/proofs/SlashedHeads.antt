@@ -33,7 +33,7 @@ use Rattle.js_parsing.proofs.Paths.{walked_from}
 use Rattle.js_parsing.proofs.Unbuilt.{nothing_unbuilt}
 use Rattle.js_parsing.proofs.Verdicts.{either_way}
 use Rattle.js_targets.specs.Others.{NoYield}
-use Rattle.js_targets.proofs.ArraysBeforeSigns.{is_cover, not_wide}
+use Rattle.js_targets.proofs.ArraysBeforeSigns.{is_cover}
 use Rattle.js_expressions.specs.Arrows.{ArgumentsTold, AttemptsHead, FindsHead, Head, HeadRead, read_clean, read_unclean, IsHeadRead, NoHeadHere, NoLine, NoSlash, OnlyArrowHere, OperandExcluded, PlainHead, a_head, told_head, SlashFound, ToldHead, TriesHead, Unmoved, WentOn, head_of}
 use Rattle.js_expressions.proofs.Arrows.{arrow_is_here, closed_arrow, head_only_arrow, no_head_no_line, no_yield_paren, plain_head_flags, start_between, unassigned}
 use Rattle.js_expressions.proofs.HeadsAsArguments.{params_as_arguments}
@@ -48,16 +48,16 @@ use Rattle.js_expressions.proofs.Exponents.{longer}
 -- ---- what was read as arguments
 
 -- the parameters of an arrow function, behind `async` or not, are derived as arguments around it
-head_as_arguments : (b : Bool) (f : Flags) → f.cover ≡ true → f.wide ≡ false → {ks ts us : Slots} {i j : ℕ} {ls rest : Lexemes} → Takes rule (symbol Params (arrow_head b f)) ks ts i ls us j rest → (vs : Slots) × Takes rule (args f) ks vs i ls us j rest
-head_as_arguments true f v w d = params_as_arguments f v w (params_around f d)
-head_as_arguments false f v w {ks} {ts} {us} {i} {j} {ls} {rest} d = params_as_arguments f v w (subst (λ (g : Flags). Takes rule (symbol Params g) ks ts i ls us j rest) (plain_head_flags f) d)
+head_as_arguments : (b : Bool) (f : Flags) → f.cover ≡ true → {ks ts us : Slots} {i j : ℕ} {ls rest : Lexemes} → Takes rule (symbol Params (arrow_head b f)) ks ts i ls us j rest → (vs : Slots) × Takes rule (args f) ks vs i ls us j rest
+head_as_arguments true f v d = params_as_arguments f v (params_around f d)
+head_as_arguments false f v {ks} {ts} {us} {i} {j} {ls} {rest} d = params_as_arguments f v (subst (λ (g : Flags). Takes rule (symbol Params g) ks ts i ls us j rest) (plain_head_flags f) d)
 
 module _ {text : List ℕ} {f : Flags} {p : Parser} (a : At text f p) where
   arguments_fail : Fails rule (Lex text) (plain full) end (list_of (item_of true f)) p.prev_token_end → (b : Bool) → NoHead text (arrow_head b f) p.prev_token_end
   arguments_fail n b = record { no = λ ts vs j ls rest l d e. go ts vs j ls rest l d }
     where
       go : (ts vs : Slots) (j : ℕ) (ls rest : Lexemes) → Lexes (Lex text) p.prev_token_end ls → Takes rule (symbol Params (arrow_head b f) ▸ tok Arrow) end ts p.prev_token_end ls vs j rest → ⊥
-      go ts vs j ls rest l (is_seq {us = us} {j = i} {mid = mid} d e) = let z = head_as_arguments b f (is_cover a) (not_wide a) d in n.no z.0 us i ls mid l z.1 (refl, refl)
+      go ts vs j ls rest l (is_seq {us = us} {j = i} {mid = mid} d e) = let z = head_as_arguments b f (is_cover a) d in n.no z.0 us i ls mid l z.1 (refl, refl)
 
   module _ {q : Parser} {ids js : List (Option NodeId)} (x : Partway text f (list_of (item_of true f)) nothing p q ids js) where
     -- whatever is derived as arguments from here ends where they ended
@@ -77,7 +77,7 @@ module _ {text : List ℕ} {f : Flags} {p : Parser} (a : At text f p) where
       where
         go : (ts vs : Slots) (j : ℕ) (ls rest : Lexemes) → Lexes (Lex text) p.prev_token_end ls → Takes rule (symbol Params (arrow_head b f) ▸ tok Arrow) end ts p.prev_token_end ls vs j rest → ⊥
         go ts vs j ls rest l (is_seq d (is_lexeme {x = y} c)) =
-            let z = head_as_arguments b f (is_cover a) (not_wide a) d in
+            let z = head_as_arguments b f (is_cover a) d in
             n (arrow_is_here x.at y (ends_there l z.1) (sym (kind_of_same Arrow y.kind (and_parts (same_kind Arrow y.kind) _ c).0)))
 
 -- what is told of it
@@ -188,7 +188,7 @@ module _ {p r : Parser} (u : Unmoved p r) where
     at = h.at;
     same = same_both u.same h.same;
     further = let a = h.further in let b = u.start in omega arith;
-    kept = h.kept ∙ u.kept;
+    quiet = quiet_behind {f = f} u.kept h.quiet;
     label = h.label;
     slots = h.slots;
     pass = h.pass;

@@ -69,12 +69,16 @@ NoAsyncHere p = (text : List ℕ) (f : Flags) → At text f p → NoLed true tex
 abbrev pub NoOperandHere : Parser → Type 0
 NoOperandHere p = (text : List ℕ) (f : Flags) → At text f p → Underived text (at Short f) p.prev_token_end
 
--- A head that stands under these parameters was read, under the parameters g, and nothing was told of it: a node made in the call stands for its tree.
+-- nothing was told; or, in wider forms, something was
+abbrev pub Quiet : Flags → Parser → Parser → Type 0
+Quiet f p q = (q.errors ≡ p.errors) ⊎ ((f.wide ≡ true) × Grown p.errors q.errors)
+
+-- A head that stands under these parameters was read, under the parameters g, and nothing was told of it, or no more than what a wider form lets in: a node made in the call stands for its tree.
 pub record Head (text : List ℕ) (f g : Flags) (p q : Parser) (id : NodeId) : Type 0 where
   pub at : At text f q
   pub same : Same p q
   pub further : p.token.span.start < q.prev_token_end
-  pub kept : q.errors ≡ p.errors
+  pub quiet : Quiet f p q
   pub label : Label
   pub slots : Slots
   pub pass : Lexemes → Lexemes
@@ -148,7 +152,7 @@ abbrev pub SlashFound : List ℕ → ℕ → ℕ → Bool → Type 0
 SlashFound text s e true = Unit {0}
 SlashFound text s e false = NoSlash text s e
 
--- It's noted that behind arguments there `=>` stands; or the parentheses that begin there close before `=>`; or nothing was told of the head that was read from the place on, and no slash stands in it.
+-- It's noted that behind arguments there `=>` stands; or the parentheses that begin there close before `=>`; or nothing was told since there were so many diagnostics, and no slash stands in the head that was read from the place on.
 abbrev pub OperandExcluded : ℕ → ℕ → Parser → Bool → Type 0
 OperandExcluded place kept q true = ((bits_of q.ctx < 65536) × (is_noted q.state.operands q.ctx place ≡ true)) ⊎ (ArrowBehindOne q.text place ⊎ ((length q.errors ≡ kept) × NoSlash q.text place q.token.span.start))
 OperandExcluded place kept q false = Unit {0}
@@ -294,7 +298,7 @@ late_arrow s = record { kind = LineterminatorBeforeArrow; span = s; first = None
 abbrev pub ChecksLine : Parser → Parser → Type 0
 ChecksLine p q = ((p.token.is_on_new_line ≡ true) × Keeps (late_arrow p.token.span) p q) ⊎ ((p.token.is_on_new_line ≡ false) × (q ≡ p))
 
--- `=>` stands here, behind something of which more was told than so many diagnostics
+-- `=>` stands here, behind parentheses of which more was told than so many diagnostics
 abbrev pub IsRefusedHead : ℕ → Parser → Bool → Type 0
 IsRefusedHead kept p true = (length p.errors ≡ kept → ⊥) × (p.token.kind ≡ Arrow)
 IsRefusedHead kept p false = Unit {0}

@@ -189,7 +189,7 @@ module _ {text : List ℕ} {f : Flags} {p q : Parser} (a : At text f p) (x : Ans
   clean_name : (q.errors ≡ p.errors) × ((ls : Lexemes) → x.pass ls ≡ next name.0 ls)
   clean_name = go x.verdict
     where
-      go : Verdict p.errors q.errors (Stretch text (after (at Expression f)) (such (at Expression f) always) p.prev_token_end nothing q.prev_token_end (tree x.label x.slots) x.pass) (Underived text (at Expression f) p.prev_token_end) → (q.errors ≡ p.errors) × ((ls : Lexemes) → x.pass ls ≡ next name.0 ls)
+      go : Verdict (f.wide ≡ true) p.errors q.errors (Stretch text (after (at Expression f)) (such (at Expression f) always) p.prev_token_end nothing q.prev_token_end (tree x.label x.slots) x.pass) (Underived text (at Expression f) p.prev_token_end) → (q.errors ≡ p.errors) × ((ls : Lexemes) → x.pass ls ≡ next name.0 ls)
       go (clean e c) = (e, one_lexeme x.walked name.0 colon.0 (only_name c))
       go (unclean g m) = absurd (derived m)
 

@@ -63,16 +63,16 @@ not_grown : {K : Type 0} {p q : List K} → q ≡ p → Grown p q → ⊥
 not_grown {p = p} e g = g.some (cancelled p g.more (sym e ∙ g.kept))
 
 -- what is said of a call that kept nothing, and of one that kept something
-cleanly : {K : Type 0} {p q : List K} {C B : Type 0} → q ≡ p → Verdict p q C B → C
+cleanly : {K : Type 0} {p q : List K} {C B : Type 0} → q ≡ p → Verdict (f.wide ≡ true) p q C B → C
 cleanly e (clean h c) = c
 cleanly e (unclean g n) = absurd (not_grown e g)
 
-pub uncleanly : {K : Type 0} {p q : List K} {C B : Type 0} → Grown p q → Verdict p q C B → B
+pub uncleanly : {K : Type 0} {p q : List K} {C B : Type 0} → Grown p q → Verdict (f.wide ≡ true) p q C B → B
 uncleanly g (clean h c) = absurd (not_grown h g)
 uncleanly g (unclean h n) = n
 
 -- two calls that kept the same
-both_ways : {K : Type 0} {p q : List K} {C B D E X Y : Type 0} → Verdict p q C B → Verdict p q D E → (C → D → X) → (B → E → Y) → Verdict p q X Y
+both_ways : {K : Type 0} {p q : List K} {C B D E X Y : Type 0} → Verdict (f.wide ≡ true) p q C B → Verdict (f.wide ≡ true) p q D E → (C → D → X) → (B → E → Y) → Verdict (f.wide ≡ true) p q X Y
 both_ways (clean e c) v f g = clean e (f c (cleanly e v))
 both_ways (unclean h n) v f g = unclean h (g n (uncleanly h v))
 
