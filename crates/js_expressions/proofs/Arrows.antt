@@ -68,7 +68,7 @@ use Rattle.js_cursor.proofs.Later.{keeps_follows}
 use Rattle.js_parsing.specs.Answers.{Underived, Answer, Answers, beside, Numbered, Outcome, Refuses, Stretch, Stops, Grown, Verdict, clean, unclean}
 use Rattle.js_cursor.specs.Notes.{Notes}
 use Rattle.js_parsing.specs.Contexts.{arrow_body, braced_body, arrow_head}
-use Rattle.js_expressions.specs.Arrows.{ArrowBehind, AsyncPassed, BeforeArrow, led_head, told_led, ChecksLine, FindsAnyHead, FindsHead, Head, HeadRead, read_clean, read_unclean, IsHeadBefore, IsHeadHere, IsRefusedHead, Leads, LooksForHead, NamesHead, NoArrowHere, NoLed, NoLine, NoLineHere, NoParametersHere, OnlyLed, ParametersRead, PlainHead, a_head, told_head, Single, ToldHead, Unmoved, WentOn, arrow_label, body_of, head_of, late_arrow, lead_of, line_of}
+use Rattle.js_expressions.specs.Arrows.{ArrowBehind, AsyncPassed, BeforeArrow, led_head, told_led, ChecksLine, FindsAnyHead, FindsHead, Head, HeadRead, read_clean, read_unclean, IsHeadBefore, IsHeadHere, Leads, LooksForHead, NamesHead, NoArrowHere, NoLed, NoLine, NoLineHere, NoParametersHere, OnlyLed, ParametersRead, PlainHead, a_head, told_head, Single, ToldHead, Unmoved, WentOn, arrow_label, body_of, head_of, late_arrow, lead_of, line_of}
 use Rattle.js_expressions.specs.declared.arrow.ArrowHead.{ArrowHead}
 use Rattle.js_parsing.specs.Heads.{NoHead, OnlyArrow}
 use Rattle.js_expressions.specs.Rests.{OnlyOperandHere}
@@ -599,9 +599,6 @@ none_looked p o q r s e h = subst (λ (z : Parser). WentOn z q × NoParametersHe
 pub some_looked : (p o q : Parser) (id : NodeId) (r : Option NodeId) → o ≡ p → r ≡ Some id → LooksForHead o q r → ParametersRead p q id
 some_looked p o q id r s e h = subst (λ (z : Parser). ParametersRead z q id) s (subst (LooksForHead o q) e h)
 
-pub refused_so : (kept : ℕ) (p : Parser) {r : Bool} → r ≡ true → IsRefusedHead kept p r → (length p.errors ≡ kept → ⊥) × (p.token.kind ≡ Arrow)
-refused_so kept p e h = subst (λ (b : Bool). IsRefusedHead kept p b) e h
-
 -- neither a name nor a parenthesis
 pub neither : {p : Parser} → NameHere p false → StandsHere p LParen false → NoLineHere p
 neither {p} n m = λ text f a. by text f p.token.escaped refl a
@@ -913,12 +910,6 @@ module _ {text : List ℕ} (a : Bool) {f : Flags} (o : Parser) {l p q r : Parser
 
 -- ---- and behind what was no head
 
-told_of : {text : List ℕ} {f : Flags} {o p : Parser} {id : NodeId} → Numbered text f (at Assignment f) o p id → (length p.errors ≡ length o.errors → ⊥) → Grown o.errors p.errors × Underived text (at Assignment f) o.prev_token_end
-told_of x n = elim x.answer.verdict [
-  | clean e y ↦ absurd (n (ap length e))
-  | unclean g z ↦ (g, z)
-]
-
 line_grown : {p q : Parser} {ds : List Diagnostic} → ChecksLine p q → Grown ds p.errors → Grown ds q.errors
 line_grown (inl (e, c)) g = grown_both g (kept_one c)
 line_grown (inr (e, i)) g = grown_first g (ap (λ (z : Parser). z.errors) i)
@@ -935,21 +926,6 @@ module _ {text : List ℕ} (a : Bool) {f : Flags} {o p : Parser} {id : NodeId} w
   pub before_further : BeforeArrow a text f o p id → o.token.span.start < p.prev_token_end
   before_further (led_head l d h y) = let b = lead_start text f o l a d in let c = h.further in omega arith
   before_further (told_led x n) = x.further
-
--- an AssignmentExpression of which something was told
-pub refused : {text : List ℕ} {f : Flags} {o p : Parser} {id : NodeId} → Numbered text f (at Assignment f) o p id → (length p.errors ≡ length o.errors → ⊥) → BeforeArrow false text f o p id
-refused x n = let t = told_of x n in told_led (record {
-  at = x.answer.at;
-  same = x.answer.same;
-  further = x.answer.further;
-  grown = t.0;
-  label = x.answer.label;
-  slots = x.answer.slots;
-  pass = x.answer.pass;
-  walked = x.answer.walked;
-  holds = x.holds;
-  keeps = x.keeps;
-}) t.1
 
 pub before_stops : {text : List ℕ} (a : Bool) {f : Flags} {o p q r : Parser} {id : NodeId} → BeforeArrow a text f o p id → p.token.kind ≡ Arrow → ChecksLine p q → Moved text f q r → (b : Bool) → same_kind LCurly r.token.kind ≡ b → (w : Parser) (e : Stop) → Stops r w e (Underived text (body_of b a f) r.prev_token_end) → Stops o w e (Underived text (at Assignment f) o.prev_token_end)
 before_stops a {f} {o} (led_head l d h y) k c m b i w e s = arrow_stops a o d h y k c m b i w e s

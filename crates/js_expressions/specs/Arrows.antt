@@ -8,13 +8,16 @@ use Rattle.js_base.specs.declared.kind.Kind.TheVariants.{Arrow, Async, LCurly, L
 use Rattle.js_base.specs.declared.span.Span.{Span}
 use Rattle.js_base.specs.Kinds.{same_kind, one_of_kinds}
 use Rattle.js_grammar.specs.Trees.{Label, Slots, end as no_slots, tree, no_op, formal_parameters, formal_parameter, arrow_function_expression}
-use Rattle.js_grammar.specs.Grammar.{Lexeme, Lexemes, seen, empty_slot, nothing, such, ◌▸◌, ◌◇◌}
+use Rattle.js_grammar.specs.Grammar.{Lexeme, Lexemes, Takes, here, seen, empty_slot, nothing, such, ◌▸◌, ◌◇◌}
 use Rattle.js_grammar.specs.Follow.{after}
+use Rattle.js_grammar.specs.Lexed.{Lexes}
 use Rattle.js_grammar.specs.Parsing.{plain, full, always, still, Fails, Goes}
 use Rattle.js_grammar.specs.Productions.{G, Flags, Symbol, at, sym, tok, mk, only, no_newline, flag, async_flag, generator_flag, Arrow', Assignment, BindingIdentifier, Body, Params, Short}
-use Rattle.js_grammar.specs.Table.{rule}
+use Rattle.js_grammar.specs.Table.{args, rule}
 use Rattle.js_grammar.proofs.Heads.{begins_head}
 use Rattle.js_tree.specs.declared.id.NodeId.{NodeId}
+use Rattle.js_tree.specs.declared.kind.NodeKind.TheVariants.{ParenthesizedExpression}
+use Rattle.js_tree.specs.Nodes.{node_at}
 use Rattle.js_tree.specs.Holding.{Holds, Keeps as KeepsNodes}
 use Rattle.js_cursor.specs.Checkpoints.{GoesOn}
 use Rattle.js_cursor.specs.Moves.{Keeps}
@@ -277,10 +280,28 @@ abbrev pub LooksForHead : Parser → Parser → Option NodeId → Type 0
 LooksForHead p q (Some id) = ParametersRead p q id
 LooksForHead p q None = WentOn p q × NoParametersHere p
 
--- `=>` stands behind all arguments that are derived from here; or no head stands here, behind `async` or not; and the parser went on
+-- parameters are derived from the place, and `=>` stands behind them
+pub record HeadDerived (text : List ℕ) (g : Flags) (s : ℕ) : Type 0 where
+  pub lexemes : Lexemes
+  pub lexed : Lexes (Lex text) s lexemes
+  pub slots : Slots
+  pub end : ℕ
+  pub rest : Lexemes
+  pub derived : Takes rule (sym Params g) no_slots slots s lexemes no_slots end rest
+  pub arrow : same_kind Arrow (here rest).kind ≡ true
+
+-- such are derived from here, behind `async` or not, not in wider forms alone
+abbrev pub HeadStands : Bool → Parser → Type 0
+HeadStands a p = (text : List ℕ) (f : Flags) → At text f p → f.wide ≡ false → HeadDerived text (arrow_head a f) p.prev_token_end
+
+-- behind no arguments that are derived from the place `=>` stands
+abbrev pub NeverArrow : List ℕ → Flags → ℕ → Type 0
+NeverArrow text f s = Fails rule (Lex text) (plain (λ k w e. same_kind Arrow k)) no_slots (args f) s
+
+-- `=>` stands behind all arguments that are derived from here, or behind none; and the parser went on
 abbrev pub ArgumentsTold : Parser → Parser → Bool → Type 0
 ArgumentsTold p q true = WentOn p q × OnlyArrowHere p
-ArgumentsTold p q false = WentOn p q × ((a : Bool) → NoHeadHere a p)
+ArgumentsTold p q false = WentOn p q × ((text : List ℕ) (f : Flags) → At text f p → NeverArrow text f p.prev_token_end)
 
 -- from what is in force to what is in the parameters of an arrow function, behind `async` or not
 abbrev pub EntersHead : Bool → Context → Context → Type 0
@@ -299,9 +320,9 @@ abbrev pub ChecksLine : Parser → Parser → Type 0
 ChecksLine p q = ((p.token.is_on_new_line ≡ true) × Keeps (late_arrow p.token.span) p q) ⊎ ((p.token.is_on_new_line ≡ false) × (q ≡ p))
 
 -- `=>` stands here, behind parentheses of which more was told than so many diagnostics
-abbrev pub IsRefusedHead : ℕ → Parser → Bool → Type 0
-IsRefusedHead kept p true = (length p.errors ≡ kept → ⊥) × (p.token.kind ≡ Arrow)
-IsRefusedHead kept p false = Unit {0}
+abbrev pub IsRefusedHead : NodeId → ℕ → Parser → Bool → Type 0
+IsRefusedHead id kept p true = (length p.errors ≡ kept → ⊥) × (p.token.kind ≡ Arrow) × ((node_at p.nodes id).kind ≡ ParenthesizedExpression)
+IsRefusedHead id kept p false = Unit {0}
 
 -- the nonterminal of the body, of an asynchronous arrow function or another one: in braces, or an expression
 abbrev pub body_of : Bool → Bool → Flags → Symbol
