@@ -65,7 +65,7 @@ use Rattle.js_cursor.specs.Parsers.{Parser}
 use Rattle.js_cursor.specs.Places.{IsAt}
 use Rattle.js_cursor.proofs.Changing.{came_back, back_follows}
 use Rattle.js_cursor.proofs.Later.{keeps_follows}
-use Rattle.js_parsing.specs.Answers.{Underived, Answer, Answers, beside, Numbered, Outcome, Refuses, Stretch, Stops, Grown, Verdict, clean, unclean}
+use Rattle.js_parsing.specs.Answers.{Underived, Answer, Answers, beside, Numbered, Outcome, Refuses, Stretch, Stops, Grown, Verdict, clean, unclean, wider}
 use Rattle.js_cursor.specs.Notes.{Notes}
 use Rattle.js_parsing.specs.Contexts.{arrow_body, braced_body, arrow_head}
 use Rattle.js_expressions.specs.Arrows.{ArrowBehind, AsyncPassed, BeforeArrow, led_head, told_led, ChecksLine, FindsAnyHead, FindsHead, Head, HeadRead, read_clean, read_unclean, IsHeadBefore, IsHeadHere, Leads, LooksForHead, NamesHead, NoArrowHere, NoLed, NoLine, NoLineHere, NoParametersHere, OnlyLed, ParametersRead, PlainHead, a_head, told_head, Single, ToldHead, Unmoved, WentOn, arrow_label, body_of, head_of, late_arrow, lead_of, line_of}

@@ -32,7 +32,7 @@ use Rattle.js_cursor.specs.Parsers.{Parser}
 use Rattle.js_cursor.specs.Places.{IsAt, goal}
 use Rattle.js_cursor.proofs.Later.{keeps_follows}
 use Rattle.js_cursor.specs.declared.stop.Stop.{Stop}
-use Rattle.js_parsing.specs.Answers.{Grown, Verdict, clean, unclean, Stretch, Underived, Numbered, Stops, beside}
+use Rattle.js_parsing.specs.Answers.{Grown, Verdict, clean, unclean, wider, Stretch, Underived, Numbered, Stops, beside}
 use Rattle.js_targets.specs.Targets.{Stood}
 use Rattle.js_expressions.specs.Coalescing.{is_or_and, mixed_at, ChecksMixed}
 use Rattle.js_parsing.specs.Lexemes.{Lex, Walked, spot, Plain}
@@ -227,6 +227,7 @@ module _ {text : List ℕ} {f : Flags} where
           go : Verdict (f.wide ≡ true) p.errors v.errors (LeftReads × RightReads) Nowhere → Grown p.errors v.errors
           go (clean i c) = absurd (n (e ∙ sym (ap length i)))
           go (unclean g c) = g
+          go (wider w g c) = g
 
       pub checked : {w : Parser} {mixed : Bool} {start found : ℕ} → At text f p → mixed ≡ is_mixed → found ≡ length p.errors → ChecksMixed start mixed found v w (Ok tt) → Checked text f p v w pair_label pair_slots pair_pass
       checked {w} {mixed} {start} {found} a e i (inl c) = subst (λ (z : Parser). Checked text f p v z pair_label pair_slots pair_pass) (sym c.1.is) (record {
