@@ -79,14 +79,16 @@ impl<'a, C: ParserConfig> Model for ParserImpl<'a, C> {
 /// overflows the stack.
 pub const MAX_DEPTH: u32 = 16_100;
 
-/// A token, field by field: one that a call has just written is not read whole before all its parts are.
+/// A token, field by field, and its end from elsewhere: a processor waits where it reads in one piece what a call has
+/// just written in several.
 #[inline(always)]
-fn copy_of(token: &Token) -> Token
+fn copy_of(token: &Token, end: usize) -> Token
+    requires { end ≡ token.now.span.end }
     ensures { result ≡ token.now }
 {
     Token::new(
         token.kind(),
-        token.span(),
+        Span::new(token.start(), end as u32),
         token.is_on_new_line(),
         token.escaped(),
         token.has_separator(),
@@ -195,7 +197,7 @@ impl<'a, C: ParserConfig> ParserImpl<'a, C> {
         let next = self.lexer.next_token()?;
         self.prev_token_end = self.token.end();
         self.cut = is_kind(next.kind(), Kind::RAngle);
-        self.token = copy_of(&next);
+        self.token = copy_of(&next, self.lexer.place());
         Ok(())
     }
 

@@ -97,6 +97,14 @@ impl<'a, C: LexerConfig> Lexer<'a, C> {
         Ok(copy_of(&token))
     }
 
+    /// How far the text is read, in bytes: the end of the token that was given last.
+    #[inline(always)]
+    pub fn place(&self) -> usize
+        ensures { result ≡ self.now.place }
+    {
+        self.place
+    }
+
     /// The first token: a hashbang comment where the text begins with `#!` (ECMA-262, section 12.5), else what
     /// `next_token` gives. Condition: nothing was read.
     pub fn first_token(&mut self) -> Result<Token, NoMemory>
