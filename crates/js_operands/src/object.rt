@@ -25,7 +25,7 @@ use js_base::{Kind, NoMemory, Span, Token};
 use js_cursor::{ParserImpl, Stop};
 use js_lex::ParserConfig;
 use js_parsing::context::{assignment_with_in, body_of_function, parameters_in_method};
-use js_parsing::lexemes::{advance, is_escaped_word, is_name_here, is_read_word, stands};
+use js_parsing::lexemes::{advance, escaped_word_stands, is_name_here, is_read_word, stands};
 use js_parsing::nested::{MethodForm, Nested};
 use js_parsing::nodes::{make_leaf, make_list};
 use js_tree::{NodeFlags, NodeId, NodeKind, Op, PropertyKind};
@@ -95,7 +95,7 @@ fn parse_property<C: ParserConfig, N: Nested<C>>(
     requires nests { CanNest (N.can nested.now) (room p.old + 1) }
     ensures { ReadsItem (at Property) p.old p.new result }
 {
-    if is_escaped_word(p.cur_token()) {
+    if escaped_word_stands(p) {
         return Err(p.set_unexpected());
     }
     if is_read_word(p.cur_kind()) {

@@ -75,7 +75,18 @@ pub fn stands<C: ParserConfig>(p: &ParserImpl<'_, C>, kind: Kind) -> bool
 pub fn is_escaped_word(token: Token) -> bool
     ensures { result ≡ escaped_word token.kind token.escaped }
 {
-    token.escaped() && !matches!(token.kind(), Kind::Ident)
+    match token.kind() {
+        Kind::Ident => false,
+        _ => token.escaped(),
+    }
+}
+
+/// Whether such a word stands here.
+#[inline(always)]
+pub fn escaped_word_stands<C: ParserConfig>(p: &ParserImpl<'_, C>) -> bool
+    ensures { result ≡ escaped_word p.now.token.kind p.now.token.escaped }
+{
+    is_escaped_word(p.cur_token())
 }
 
 /// Whether it is a name, or a word that may be one (ECMA-262, section 13.1).
@@ -140,7 +151,7 @@ pub fn is_name_here<C: ParserConfig>(p: &ParserImpl<'_, C>, kind: Kind) -> bool
 pub fn name_stands_under<C: ParserConfig>(p: &ParserImpl<'_, C>, yields: bool, awaits: bool) -> bool
     ensures { NameUnder yields awaits p.now result }
 {
-    is_name_under(p.cur_kind(), yields, awaits) && !is_escaped_word(p.cur_token())
+    is_name_under(p.cur_kind(), yields, awaits) && !escaped_word_stands(p)
 }
 
 /// Whether a name stands here, with no escape but in a plain name.
@@ -300,8 +311,7 @@ pub fn reads_here<C: ParserConfig>(p: &ParserImpl<'_, C>) -> bool
     requires { Standing p.now }
     ensures { ReadsHere p.now result }
 {
-    let token = p.cur_token();
-    !is_escaped_word(token) && is_read_kind(token.kind())
+    !escaped_word_stands(p) && is_read_kind(p.cur_kind())
 }
 
 /// Whether a production that isn't built yet begins with this lexeme: all that begins with the kinds that are read is built.
