@@ -55,7 +55,7 @@ signs_of k = cond (same_kind RegExp k) slashes (cond (one_of_kinds template_tail
 abbrev pub signs : List Kind
 signs = RCurly ∷ slashes
 
--- Whether a lexeme of a kind, with an escape or without, is a word with an escape that is no plain name: the rules for those are others (ECMA-262, 12.7.2).
+-- Whether a lexeme of this kind has an escape, and is no plain name: a word of the keyword table, of which the rules are others then (ECMA-262, 12.7.2).
 abbrev pub escaped_word : Kind → Bool → Bool
 escaped_word k e = e && not (same_kind Ident k)
 

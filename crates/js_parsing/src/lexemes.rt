@@ -70,7 +70,8 @@ pub fn stands<C: ParserConfig>(p: &ParserImpl<'_, C>, kind: Kind) -> bool
     p.at(kind) && !p.cur_token().escaped()
 }
 
-/// Whether it is a word with an escape that is no plain name: the rules for those are others (ECMA-262, section 12.7.2).
+/// Whether it has an escape, and is no plain name: a word of the keyword table, of which the rules are others then
+/// (ECMA-262, section 12.7.2).
 #[inline(always)]
 pub fn is_escaped_word(token: Token) -> bool
     ensures { result ≡ escaped_word token.kind token.escaped }
